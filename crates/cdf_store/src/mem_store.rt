@@ -31,7 +31,8 @@ impl MemStore {
 
     /// A store without files, of which no call fails.
     pub fn new(alloc: Global) -> Self
-        ensures disk { ⟦<MemStore as Store>⟧.disk result ≡ record { held = None; name = None; files = Some []; only = None; touched = Some []; under = tt } }
+        ensures disk { ⟦<MemStore as Store>⟧.disk result
+            ≡ record { held = None; name = None; files = Some []; only = None; touched = Some []; under = tt } }
         ensures taken { ⟦<MemStore as Store>⟧.taken result ≡ Some 0 }
         ensures read { ⟦<MemStore as Store>⟧.read_faults result ≡ 0 }
         ensures write { ⟦<MemStore as Store>⟧.write_faults result ≡ 0 }
@@ -53,7 +54,8 @@ impl MemStore {
     /// Adds a file, or replaces the one of this name.
     pub fn put_file(&mut self, name: &str, bytes: &[u8]) -> Result<(), AllocError>
         requires { (⟦<MemStore as Store>⟧.disk self.old).held ≡ None }
-        ensures ok { OnOk result (⟦<MemStore as Store>⟧.disk self.new ≡ record (⟦<MemStore as Store>⟧.disk self.old) { files = option_map (with_file name.now bytes.now) (⟦<MemStore as Store>⟧.disk self.old).files }) }
+        ensures ok { OnOk result (⟦<MemStore as Store>⟧.disk self.new ≡ record (⟦<MemStore as Store>⟧.disk self.old)
+            { files = option_map (with_file name.now bytes.now) (⟦<MemStore as Store>⟧.disk self.old).files }) }
         ensures err { OnErr result (⟦<MemStore as Store>⟧.disk self.new ≡ ⟦<MemStore as Store>⟧.disk self.old) }
         ensures taken { ⟦<MemStore as Store>⟧.taken self.new ≡ ⟦<MemStore as Store>⟧.taken self.old }
         ensures spare { ⟦<MemStore as Store>⟧.spare self.new ≡ ⟦<MemStore as Store>⟧.spare self.old }
@@ -67,7 +69,8 @@ impl MemStore {
 
     /// The bytes of the file of this name.
     pub fn file(&self, name: &str) -> Option<&[u8]>
-        ensures { IfSome (⟦<MemStore as Store>⟧.disk self.now).files (λ files. option_copied result ≡ lookup name.now files) }
+        ensures { IfSome (⟦<MemStore as Store>⟧.disk self.now).files
+            (λ files. option_copied result ≡ lookup name.now files) }
     {
         self.files.find(name)
     }
@@ -99,7 +102,14 @@ impl Store for MemStore {
 
     ghost Under = { Unit {0} };
 
-    ghost disk = { λ s. record { held = held_of s.files; name = name_of s.files; files = Some (entries_of s.files); only = None; touched = Some s.touched.items; under = tt } };
+    ghost disk = { λ s. record {
+      held = held_of s.files;
+      name = name_of s.files;
+      files = Some (entries_of s.files);
+      only = None;
+      touched = Some s.touched.items;
+      under = tt;
+    } };
 
     ghost taken = { λ s. Some s.taken };
 
@@ -111,7 +121,11 @@ impl Store for MemStore {
 
     ghost also = { CallsAsPlanned };
 
-    ghost whole = { λ s. record { named = same_is_some (file_at s.files.list.items s.files.attached); distinct = s.files.distinct; listed = s.files.listed } };
+    ghost whole = { λ s. record {
+      named = same_is_some (file_at s.files.list.items s.files.attached);
+      distinct = s.files.distinct;
+      listed = s.files.listed;
+    } };
 
     fn attach(&mut self, name: &str, make: bool) -> Result<Option<u64>, AttachError> {
         if self.plan.next_fails() {
