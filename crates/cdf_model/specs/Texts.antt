@@ -55,6 +55,7 @@ reason_text (BadLine fault) = codes "1 BadLine " ⧺ fault_text fault
 
 -- the reply to the line of a number
 abbrev pub reply_text : ℕ → Outcome → List ℕ
+reply_text n (Done replies.Plain) = decimal n ⧺ codes " ok" ⧺ newline
 reply_text n (Done (replies.Head head)) = decimal n ⧺ codes " ok " ⧺ head_text head ⧺ newline
 reply_text n (Refused reason) = decimal n ⧺ codes " refused " ⧺ reason_text reason ⧺ newline
 
