@@ -21,7 +21,7 @@ first ⧺ second = first ++ second
 abbrev pub newline : List ℕ
 newline = 10 ∷ []
 
--- none, or the numbers joined by commas
+-- `-` for no dimension, else the sizes joined by commas
 abbrev pub list_text : List ℕ → List ℕ
 list_text [] = codes "-"
 list_text (n ∷ ns) = decimal n ⧺ flat_map (λ m. 44 ∷ decimal m) ns
