@@ -4,7 +4,7 @@ use Rattle.cdf_model.specs.declared.head.Majority.{Majority}
 use Rattle.cdf_model.specs.declared.head.Majority.TheVariants.{Row, Column}
 use Rattle.cdf_model.specs.DataSet.{DataSet}
 use Rattle.cdf_format.specs.Fields.{has_bit, gdr_offset, release, encoding, flags, increment, r_variables, attributes, z_variables, r_sizes}
-use Rattle.cdf_format.specs.Sealed.{has_checksum}
+use Rattle.cdf_format.specs.Sealed.{has_checksum, image_of}
 
 abbrev pub majority_of : Bool → Majority
 majority_of true = Row
@@ -26,3 +26,7 @@ content_at b g = record {
 
 abbrev pub content : List ℕ → DataSet
 content b = content_at b (gdr_offset b)
+
+-- what a file means: its image, without the trailer
+abbrev pub data_set_of : List ℕ → DataSet
+data_set_of f = content (image_of f)
