@@ -4,8 +4,7 @@ use Rattle.std.specs.declared.option.Option.{Option}
 use Rattle.std.specs.Io.KnownBytes.{Appends}
 use Rattle.cdf_store.specs.Written.{AppendsFront}
 use Rattle.cdf_model.specs.Texts.{usage_text, no_file_text, rejected_text}
-use Rattle.cdf_format.specs.Content.{content}
-use Rattle.cdf_format.specs.Sealed.{image_of}
+use Rattle.cdf_format.specs.Content.{data_set_of}
 use Rattle.cdf_format.specs.WellFormed.{WellFormed, Breaks}
 use Rattle.cdf_tool.specs.declared.status.Status.{Status}
 use Rattle.cdf_tool.specs.declared.status.Status.TheVariants as statuses
@@ -14,7 +13,7 @@ use Rattle.cdf_tool.specs.Script.{Runs}
 -- the file is well formed, and its script was run so
 pub record Replays (file : List ℕ) (before left first now : Option (List ℕ)) (status : Status) : Type 0 where
   pub well_formed : WellFormed file
-  pub runs : Runs (content (image_of file)) before left first now status
+  pub runs : Runs (data_set_of file) before left first now status
 
 -- the file breaks this rule of the first phase that it breaks
 pub record Rejects (file : List ℕ) : Type 0 where

@@ -1,5 +1,5 @@
-pub mod Words
 pub mod Statuses
+pub mod Stops
 pub mod Script
 pub mod Replay
 pub mod Ends

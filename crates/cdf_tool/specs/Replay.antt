@@ -20,6 +20,12 @@ pub record IsAt (d : DataSet) (given : ℕ) (refused : Bool) (first now : Option
   pub refused_is : refused ≡ s.refused
   pub written : Appends first now s.text
 
+-- all lines that were ready were given
+pub record IsDrained (old new : Pending) : Type 0 where
+  pub ready : new.ready ≡ []
+  pub rest : new.rest ≡ old.rest
+  pub over : new.over ≡ old.over
+
 -- from wherever it stood, the replay goes on by these lines
 abbrev pub GoesOn : DataSet → List (Option (List ℕ)) → ℕ → Bool → Option (List ℕ) → ℕ → Bool → Option (List ℕ) → Type 0
 GoesOn d lines given refused was given' refused' now =
@@ -39,3 +45,9 @@ pub record IsAfter (d : DataSet) (before left first now : Option (List ℕ)) (li
   pub none_ready : lines.ready ≡ []
   pub not_over : lines.over ≡ false
   pub stands : IsAt d lines.given refused first now (run_lines d (whole_lines taken))
+
+-- on the way from a state to what a run is to come to: it stands at a state from which the lines that are left lead there
+pub record Reached (d : DataSet) (given : ℕ) (refused : Bool) (first now : Option (List ℕ)) (left : List (Option (List ℕ))) (whole : State) : Type 0 where
+  pub state : State
+  pub stands : IsAt d given refused first now state
+  pub leads : run_on state left ≡ whole

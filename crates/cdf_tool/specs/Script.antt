@@ -4,14 +4,11 @@ use Rattle.std.specs.declared.option.Option.{Option}
 use Rattle.std.specs.Io.KnownBytes.{Appends, Consumes, IsAtEnd}
 use Rattle.cdf_store.specs.Written.{AppendsFront}
 use Rattle.cdf_model.specs.DataSet.{DataSet}
+use Rattle.cdf_model.specs.Limits.{script_limit}
 use Rattle.cdf_model.specs.Lines.{whole_lines}
 use Rattle.cdf_model.specs.Run.{State, run_lines, run_of}
 use Rattle.cdf_tool.specs.declared.status.Status.{Status}
 use Rattle.cdf_tool.specs.declared.status.Status.TheVariants as statuses
-
--- the most bytes of a script
-abbrev pub script_limit : ℕ
-script_limit = 1073741824
 
 -- A part of the replies to the whole lines among the bytes taken. Once the end of the source was read, a last line without a newline counts too.
 abbrev pub RepliesInPart : DataSet → List ℕ → Option (List ℕ) → Option (List ℕ) → Option (List ℕ) → Type 0

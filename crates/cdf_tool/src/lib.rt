@@ -1,0 +1,10 @@
+//! The run of the program: from the words of its command line to what it writes.
+#![tactic(auto)]
+
+mod replay;
+
+mod session;
+mod status;
+mod stop;
+
+pub use status::Status;
