@@ -1,0 +1,3 @@
+/// A device failed, and counted it.
+#[derive(Clone, Copy, Debug, PartialEq, Eq)]
+pub struct Failed;

@@ -1,0 +1,25 @@
+//! The devices that a program is given: a store of named files, a source of bytes and a sink.
+#![tactic(auto)]
+
+mod copy;
+mod failed;
+mod mem_files;
+mod mem_sink;
+mod mem_source;
+mod mem_store;
+mod plan;
+mod sink;
+mod source;
+mod store;
+mod sure_source;
+mod writing;
+
+pub use failed::Failed;
+pub use mem_sink::MemSink;
+pub use mem_source::MemSource;
+pub use mem_store::MemStore;
+pub use sink::Sink;
+pub use source::Source;
+pub use store::{AttachError, Store};
+pub use sure_source::SureSource;
+pub use writing::write_all;

@@ -1,0 +1,64 @@
+ghost use Rattle.std.specs.Prelude.{◌≡◌, ◌≤◌, drop, vec_len, Some};
+
+use crate::copy::copy_front;
+use crate::plan::Plan;
+use crate::{Failed, Source};
+use std::alloc::{AllocError, Global};
+
+/// A source in memory, which tells everything. A read gives at most `most` bytes, and chosen reads fail.
+#[derive(Drop)]
+pub struct MemSource {
+    bytes: Vec<u8>,
+    place: usize,
+    most: usize,
+    plan: Plan,
+    faults: u64,
+    ghost in_range: { place ≤ vec_len bytes },
+    ghost takes_some: { 1 ≤ most },
+}
+
+impl MemSource {
+    /// A source of these bytes, of which no read fails.
+    pub fn new(alloc: Global, bytes: Vec<u8>, most: usize) -> Self
+        requires { 1 ≤ most }
+        ensures left { ⟦<MemSource as Source>⟧.left result ≡ Some bytes.items }
+        ensures faults { ⟦<MemSource as Source>⟧.faults result ≡ 0 }
+    {
+        MemSource {
+            bytes,
+            place: 0,
+            most,
+            plan: Plan::new(alloc),
+            faults: 0,
+        }
+    }
+
+    /// From now on the read of this number fails too. The first read has the number 1.
+    pub fn fail_at(&mut self, call: u64) -> Result<(), AllocError>
+        ensures left { ⟦<MemSource as Source>⟧.left self.new ≡ ⟦<MemSource as Source>⟧.left self.old }
+        ensures faults { ⟦<MemSource as Source>⟧.faults self.new ≡ ⟦<MemSource as Source>⟧.faults self.old }
+    {
+        self.plan.fail_at(call)
+    }
+
+    /// How many reads were made.
+    pub fn calls(&self) -> u64 {
+        self.plan.calls
+    }
+}
+
+impl Source for MemSource {
+    ghost left = { λ s. Some (drop s.place s.bytes.items) };
+
+    ghost faults = { λ s. s.faults };
+
+    fn read(&mut self, out: &mut [u8]) -> Result<usize, Failed> {
+        if self.plan.next_fails() {
+            self.faults = self.faults.saturating_add(1);
+            return Err(Failed);
+        }
+        let count = copy_front(&self.bytes[self.place..], self.most, out);
+        self.place += count;
+        Ok(count)
+    }
+}

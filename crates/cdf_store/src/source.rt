@@ -1,0 +1,23 @@
+ghost use Rattle.std.specs.Prelude.{ℕ, List};
+ghost use Rattle.std.specs.declared.option.Option.{Option};
+ghost use Rattle.std.specs.Io.{ReadsAtMost};
+ghost use Rattle.std.specs.Io.KnownBytes.{ReadConsumes};
+ghost use Rattle.cdf_base.specs.Causes.{HasCause};
+
+use crate::Failed;
+
+/// A device that gives bytes.
+pub trait Source {
+    /// The bytes that are left, where the device tells them.
+    ghost left: { Self → Option (List ℕ) };
+
+    /// How often the device has failed.
+    ghost faults: { Self → ℕ };
+
+    /// Reads some of the next bytes to the front of `out`, and answers how many. 0 for an `out` that is not empty is the end
+    /// of the input. A failed read gives nothing.
+    fn read(&mut self, out: &mut [u8]) -> Result<usize, Failed>
+        ensures bound { ReadsAtMost result out.new }
+        ensures bytes { ReadConsumes (left self.old) (left self.new) result out.new }
+        ensures cause { HasCause (faults self.old) (faults self.new) result };
+}

@@ -1,0 +1,116 @@
+ghost use Rattle.std.specs.Prelude.{◌≡◌, ◌≤◌, ◌+◌, ℕ, List, length, IsSome, IsTrue, OnOk, OnErr, IfOk, IfSome};
+ghost use Rattle.std.specs.Option.{option_map};
+ghost use Rattle.std.specs.declared.option.Option.{Option};
+ghost use Rattle.cdf_base.specs.Causes.{HasCause, HasCauseOf};
+ghost use Rattle.cdf_store.specs.Named.{Allows, AttachesIn, found_or_made, lookup};
+ghost use Rattle.cdf_store.specs.Reading.{ReadsAt, Counts};
+ghost use Rattle.cdf_store.specs.Disk.{Disk, IsWhole, Spare, Spent, WrittenPart, cut, file_of, written};
+
+use crate::Failed;
+use std::alloc::AllocError;
+
+/// Why no file was attached.
+#[derive(Clone, Copy, Debug, PartialEq, Eq)]
+pub enum AttachError {
+    /// The device failed, and counted it.
+    Failed,
+    /// There is no memory for the file.
+    NoMemory,
+}
+
+/// A device with named files, of which at most one is attached.
+pub trait Store {
+    /// The type of what stands beneath the device.
+    ghost Under: { Type 0 };
+
+    /// The files, and what stands beneath.
+    ghost disk: { Self → Disk Under };
+
+    /// The number of bytes that reads have given, where the device tells it. It stops at the last `u64`.
+    ghost taken: { Self → Option ℕ };
+
+    /// The writes that there is room for.
+    ghost spare: { Self → Spare };
+
+    /// How often attaching and reading have failed.
+    ghost read_faults: { Self → ℕ };
+
+    /// How often writing and cutting have failed.
+    ghost write_faults: { Self → ℕ };
+
+    /// Attaches the file of this name, and answers its length, or `None` where there is no such file. With `make` an absent
+    /// file is made, empty.
+    fn attach(&mut self, name: &str, make: bool) -> Result<Option<u64>, AttachError>
+        requires free { (disk self.old).held ≡ None }
+        requires allowed { Allows (disk self.old).only name.now }
+
+        // `None` says that no file is attached.
+        ensures length { IfOk result (λ found. found ≡ option_map length (disk self.new).held) }
+        ensures err { OnErr result ((disk self.new).held ≡ None) }
+        ensures made { IsTrue make → IfOk result (λ found. IsSome found) }
+        ensures name { (disk self.new).name ≡ option_map (λ _. name.now) (disk self.new).held }
+
+        // Over a device that tells its files the bytes are those under the name.
+        ensures known { IfOk result (λ _. IfSome (disk self.old).files (λ files. (disk self.new).held ≡ found_or_made make (lookup name.now files))) }
+        ensures files { AttachesIn make name.now (disk self.old).files (disk self.new).files result }
+
+        ensures only { (disk self.new).only ≡ (disk self.old).only }
+        ensures touched { (disk self.new).touched ≡ (disk self.old).touched }
+        ensures under { (disk self.new).under ≡ (disk self.old).under }
+        ensures taken { taken self.new ≡ taken self.old }
+        ensures spare { spare self.new ≡ spare self.old }
+        ensures cause { HasCauseOf AttachError.Failed (read_faults self.old) (read_faults self.new) result }
+        ensures write { write_faults self.new ≡ write_faults self.old };
+
+    /// Makes room for so many writes and cuts, and for writes up to this end of the file. They then take no memory.
+    fn reserve(&mut self, writes: u64, end: u64) -> Result<(), AllocError>
+        requires { IsSome (disk self.old).held }
+        ensures writes { OnOk result (writes ≤ (spare self.new).writes) }
+        ensures end { OnOk result (end ≤ (spare self.new).end) }
+        ensures err { OnErr result (spare self.new ≡ spare self.old) }
+        ensures disk { disk self.new ≡ disk self.old }
+        ensures taken { taken self.new ≡ taken self.old }
+        ensures read { read_faults self.new ≡ read_faults self.old }
+        ensures write { write_faults self.new ≡ write_faults self.old };
+
+    /// Reads bytes of the attached file from `place` on to the front of `out`, and answers how many. It takes no memory.
+    fn read_at(&mut self, place: u64, out: &mut [u8]) -> Result<usize, Failed>
+        requires { IsSome (disk self.old).held }
+        ensures bytes { ReadsAt (disk self.old).held place out.new result }
+        ensures taken { Counts (taken self.old) (taken self.new) result }
+        ensures disk { disk self.new ≡ disk self.old }
+        ensures spare { spare self.new ≡ spare self.old }
+        ensures cause { HasCause (read_faults self.old) (read_faults self.new) result }
+        ensures write { write_faults self.new ≡ write_faults self.old };
+
+    /// Writes bytes of the attached file from `place` on, for which room was made. It takes no memory. After a fault the front
+    /// of the bytes may have been written.
+    fn write_at(&mut self, place: u64, bytes: &[u8]) -> Result<(), Failed>
+        requires held { IsSome (disk self.old).held }
+        requires place { place ≤ length (file_of (disk self.old)) }
+        requires bytes { length bytes.now ≤ 65536 }
+        requires writes { 1 ≤ (spare self.old).writes }
+        requires end { place + length bytes.now ≤ (spare self.old).end }
+        ensures ok { OnOk result (disk self.new ≡ written (disk self.old) place bytes.now) }
+        ensures part { OnErr result (WrittenPart (disk self.old) place bytes.now (disk self.new)) }
+        ensures spare { Spent (spare self.old) (spare self.new) }
+        ensures taken { taken self.new ≡ taken self.old }
+        ensures cause { HasCause (write_faults self.old) (write_faults self.new) result }
+        ensures read { read_faults self.new ≡ read_faults self.old };
+
+    /// Cuts the attached file to `n` bytes. It takes no memory.
+    fn set_len(&mut self, n: u64) -> Result<(), Failed>
+        requires held { IsSome (disk self.old).held }
+        requires within { n ≤ length (file_of (disk self.old)) }
+        requires writes { 1 ≤ (spare self.old).writes }
+        ensures ok { OnOk result (disk self.new ≡ cut (disk self.old) n) }
+        ensures stays { OnErr result (disk self.new ≡ disk self.old) }
+        ensures spare { Spent (spare self.old) (spare self.new) }
+        ensures taken { taken self.new ≡ taken self.old }
+        ensures cause { HasCause (write_faults self.old) (write_faults self.new) result }
+        ensures read { read_faults self.new ≡ read_faults self.old };
+
+    /// A file is attached under a name. Where the device tells its files, no name stands twice, and the attached file is the
+    /// one of its name.
+    ghost whole: { (s : Self) → IsWhole (disk s) };
+}
