@@ -1,4 +1,5 @@
 pub mod Statuses
+pub mod Heads
 pub mod Stops
 pub mod Script
 pub mod Replay
