@@ -36,6 +36,9 @@ word_fits b start m place (suc n) bytes from to =
     let top : slice_index b place * 256 ^ n ≤ 255 * 256 ^ n = mul-le-mul_right (256 ^ n) (omega arith) in
     rw (pow-succ' 256 n) (omega arith)
 
+pub word4_fits : (b : List ℕ) (start m place : ℕ) → AreBytes b start m → start ≤ place → place + 4 ≤ start + m → word b place 4 < 2 ^ 32
+word4_fits b start m place bytes from to = word_fits b start m place 4 bytes from to
+
 -- a number that is read goes to the end of those that were read before
 pub words_more : (b found : List ℕ) (place n m : ℕ) → n ≡ suc m → (found ++ word b place 4 ∷ []) ++ words b (place + 4) m ≡ found ++ words b place n
 words_more b found place n m is =
