@@ -3,5 +3,7 @@
 
 mod read;
 mod store_area;
+#[cfg(test)]
+mod tests;
 
 pub use store_area::StoreArea;

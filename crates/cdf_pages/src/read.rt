@@ -1,4 +1,4 @@
-ghost use Rattle.std.specs.Prelude.{◌≡◌, ◌+◌, ◌≤◌, ◌<◌, ◌^◌, length, take, drop, IsSome, OnOk};
+ghost use Rattle.std.specs.Prelude.{◌≡◌, ◌+◌, ◌≤◌, ◌<◌, ◌^◌, length, take, drop, IsSome, IfErr, OnOk};
 ghost use Rattle.cdf_base.specs.Causes.{HasCause, HasCauseOf};
 ghost use Rattle.cdf_store.specs.Disk.{file_of};
 
@@ -35,6 +35,7 @@ pub fn read_into<S: Store>(
     requires there { place + length out.old ≤ size }
     ensures bytes { OnOk result (out.new ≡ take (length out.new) (drop place (take size (file_of (S.disk store.old))))) }
     ensures disk { S.disk store.new ≡ S.disk store.old }
+    ensures fault { IfErr result (λ e. e ≡ AreaError.Fault) }
     ensures cause { HasCauseOf AreaError.Fault (S.read_faults store.old) (S.read_faults store.new) result }
     ensures write { S.write_faults store.new ≡ S.write_faults store.old }
 {

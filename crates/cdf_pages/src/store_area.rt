@@ -53,10 +53,8 @@ impl<S: Store> StoreArea<S> {
     {
         self.store
     }
-}
 
-impl<S: Store> StoreArea<S> {
-    /// The image in memory, which is taken out of the area or else read from the store.
+    /// The image in memory, which is taken out of the area, or else read from the store.
     fn take_area(&mut self) -> Result<MemArea, AreaError>
         ensures image { IfOk result (λ area. ⟦<MemArea as Area>⟧.image area ≡ ⟦<StoreArea<S> as Area>⟧.image self.old) }
         ensures base { IfOk result (λ area. (⟦<MemArea as Area>⟧.frame area).base ≡ (⟦<StoreArea<S> as Area>⟧.frame self.old).base) }
@@ -95,10 +93,12 @@ fn load<S: Store>(alloc: Global, store: &mut S, size: u64, limit: u64) -> Result
 }
 
 impl<S: Store> Area for StoreArea<S> {
+    // The image in memory, or else the front of the file.
     ghost image = { λ a. option_map_or ⟦<MemArea as Area>⟧.image a.memory (take a.size (file_of (S.disk a.store))) };
 
     ghost Under = { Disk S.Under × ℕ };
 
+    // While nothing is in memory, nothing has changed since the mark.
     ghost frame = { λ a. record {
       base = option_map_or (λ area. (⟦<MemArea as Area>⟧.frame area).base) a.memory (if a.marked then Some (take a.size (file_of (S.disk a.store))) else None);
       limit = option_map_or (λ area. (⟦<MemArea as Area>⟧.frame area).limit) a.memory a.limit;
