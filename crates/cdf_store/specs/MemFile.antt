@@ -16,17 +16,27 @@ abbrev pub file_at : List MemFile → Option ℕ → Option MemFile
 file_at files None = None
 file_at files (Some i) = slice_get files i
 
--- the bytes and the name of the file at an index, and the bytes for which it has room
+-- the bytes and the name of a file, where there is one, and the bytes for which it has room
+abbrev pub bytes_in : Option MemFile → Option (List ℕ)
+bytes_in file = option_map (λ f. f.bytes.items) file
+
+abbrev pub name_in : Option MemFile → Option (List ℕ)
+name_in file = option_map (λ f. string_bytes f.name) file
+
+abbrev pub room_in : Option MemFile → ℕ
+room_in file = option_map_or (λ f. vec_capacity f.bytes) file 0
+
+-- the same of the file at an index
 abbrev pub held_at : List MemFile → Option ℕ → Option (List ℕ)
-held_at files index = option_map (λ file. file.bytes.items) (file_at files index)
+held_at files index = bytes_in (file_at files index)
 
 abbrev pub name_at : List MemFile → Option ℕ → Option (List ℕ)
-name_at files index = option_map (λ file. string_bytes file.name) (file_at files index)
+name_at files index = name_in (file_at files index)
 
 abbrev pub room_at : List MemFile → Option ℕ → ℕ
-room_at files index = option_map_or (λ file. vec_capacity file.bytes) (file_at files index) 0
+room_at files index = room_in (file_at files index)
 
 -- a file has a name and bytes, or there is none
-pub same_is_some : (file : Option MemFile) → is_some (option_map (λ f. string_bytes f.name) file) ≡ is_some (option_map (λ f. f.bytes.items) file)
+pub same_is_some : (file : Option MemFile) → is_some (name_in file) ≡ is_some (bytes_in file)
 same_is_some None = refl
 same_is_some (Some file) = refl

@@ -3,6 +3,7 @@
 
 mod copy;
 mod failed;
+mod file_store;
 mod mem_files;
 mod mem_sink;
 mod mem_source;
@@ -10,16 +11,19 @@ mod mem_store;
 mod plan;
 mod sink;
 mod source;
+mod std_streams;
 mod store;
 mod sure_source;
 mod writing;
 
 pub use failed::Failed;
+pub use file_store::FileStore;
 pub use mem_sink::MemSink;
 pub use mem_source::MemSource;
 pub use mem_store::MemStore;
 pub use sink::Sink;
 pub use source::Source;
+pub use std_streams::{StdSink, StdSource};
 pub use store::{AttachError, Store};
 pub use sure_source::SureSource;
 pub use writing::write_all;

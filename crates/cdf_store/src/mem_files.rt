@@ -211,7 +211,7 @@ pub fn reserve_to(bytes: &mut Vec<u8>, end: u64) -> Result<(), AllocError>
 {
     let have = bytes.len() as u64;
     if end > have {
-        bytes.reserve((end - have) as usize)?;
+        bytes.reserve_exact((end - have) as usize)?;
     }
     Ok(())
 }
