@@ -1,12 +1,14 @@
 -- Where the replay of a script stands between two lines.
-use Rattle.std.specs.Prelude.{◌≡◌, ℕ, List, [], length, Bool, false, Some, None}
+use Rattle.std.specs.Prelude.{◌≡◌, ℕ, List, [], length, Bool, true, false, Some, None}
 use Rattle.std.specs.declared.option.Option.{Option}
 use Rattle.std.specs.Io.KnownBytes.{Appends, Consumes}
 use Rattle.cdf_store.specs.Written.{AppendsFront}
 use Rattle.cdf_model.specs.DataSet.{DataSet}
 use Rattle.cdf_model.specs.Lines.{split, kept, whole_lines}
 use Rattle.cdf_model.specs.Run.{Turn, State, run_on, run_lines}
-use Rattle.cdf_script.specs.Pending.{Pending}
+use Rattle.cdf_script.specs.Pending.{Pending, last_of}
+use Rattle.cdf_tool.specs.declared.status.Status.{Status}
+use Rattle.cdf_tool.specs.declared.status.Status.TheVariants as statuses
 
 -- one line is answered: whether it was refused, and its reply
 pub record Turns (t : Turn) (refused : Bool) (was now : Option (List ℕ)) : Type 0 where
@@ -51,3 +53,17 @@ pub record Reached (d : DataSet) (given : ℕ) (refused : Bool) (first now : Opt
   pub state : State
   pub stands : IsAt d given refused first now state
   pub leads : run_on state left ≡ whole
+
+-- a run came to this state and wrote its text, or stopped within it
+abbrev pub EndsAt : State → Option (List ℕ) → Option (List ℕ) → Status → Type 0
+EndsAt s first now statuses.Done = (s.refused ≡ false) × Appends first now s.text
+EndsAt s first now statuses.SomeRefused = (s.refused ≡ true) × Appends first now s.text
+EndsAt s first now statuses.StoreReadFault = AppendsFront first now s.text
+EndsAt s first now statuses.OutputFault = AppendsFront first now s.text
+EndsAt s first now statuses.NoMemory = AppendsFront first now s.text
+EndsAt s first now other = ⊥
+
+-- wherever it stood, the last line is answered
+abbrev pub Finishes : DataSet → Pending → Bool → Option (List ℕ) → Option (List ℕ) → Status → Type 0
+Finishes d lines refused was now status =
+    (first : Option (List ℕ)) (s : State) → IsAt d lines.given refused first was s → EndsAt (run_on s (last_of lines.rest)) first now status

@@ -2,7 +2,7 @@
 #![tactic(auto)]
 
 mod replay;
-
+mod script;
 mod session;
 mod status;
 mod stop;
