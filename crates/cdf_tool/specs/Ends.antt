@@ -25,6 +25,18 @@ pub record Rejects (file : List ℕ) : Type 0 where
 abbrev pub rejection : {file : List ℕ} → Rejects file → List ℕ
 rejection r = rejected_text r.phase r.rule r.place
 
+-- a rule that the file breaks was written
+abbrev pub Names : Option (List ℕ) → Option (List ℕ) → Option (List ℕ) → Type 0
+Names None first now = ⊥
+Names (Some file) first now = (r : Rejects file) × Appends first now (rejection r)
+
+-- this rejection was written, or a part of it, or there was no memory to make it
+abbrev pub SaysRejected : List ℕ → Option (List ℕ) → Option (List ℕ) → Status → Type 0
+SaysRejected text first now statuses.Rejected = Appends first now text
+SaysRejected text first now statuses.OutputFault = AppendsFront first now text
+SaysRejected text first now statuses.NoMemory = now ≡ first
+SaysRejected text first now other = ⊥
+
 -- the file was read and the script was not: it was rejected, or a device failed or memory was refused before the script
 abbrev pub EndsUnread : List ℕ → Option (List ℕ) → Option (List ℕ) → Status → Type 0
 EndsUnread file first now statuses.Rejected = (r : Rejects file) × Appends first now (rejection r)
