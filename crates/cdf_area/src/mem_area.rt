@@ -119,8 +119,8 @@ impl Area for MemArea {
     }
 
     fn get(&mut self, place: u64, out: &mut [u8]) -> Result<(), AreaError>
-        requires { place + length out.old ≤ length self.old.bytes.items }
-        ensures bytes { out.new ≡ take (length out.new) (drop place self.old.bytes.items) }
+        requires { place + length out.old ≤ length (⟦<MemArea as Area>⟧.image self.old) }
+        ensures bytes { out.new ≡ take (length out.new) (drop place (⟦<MemArea as Area>⟧.image self.old)) }
         ensures ok { IsOk result }
         ensures same { self.new ≡ self.old }
     {
@@ -148,6 +148,7 @@ impl Area for MemArea {
         self.bytes.truncate(size);
     }
 
+    #[tactic(auto, using(std::proofs::lemmas::List::take_all), unfolding(crate::specs::OldBytes::back))]
     fn mark(&mut self) {
         self.marked = Some(Mark {
             size: self.bytes.len(),

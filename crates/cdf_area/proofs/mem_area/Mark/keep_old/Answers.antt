@@ -1,4 +1,4 @@
-use Rattle.std.proofs.Common.{rules, ◌≡◌, ◌∙◌, ap, sym, arith, take}
+use Rattle.std.proofs.Common.{rules, ap, arith}
 use Rattle.cdf_area.specs.OldBytes.{back}
 use Rattle.cdf_area.proofs.Backs.{back-kept, take-put_past}
 use Rattle.cdf_area.proofs.mem_area.Mark.keep_old.Goals as goal
