@@ -1,0 +1,9 @@
+pub mod Limits
+pub mod Encodings
+pub mod DataSet
+pub mod Step
+pub mod Words
+pub mod Lines
+pub mod Grammar
+pub mod Texts
+pub mod Run
