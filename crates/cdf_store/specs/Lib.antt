@@ -4,3 +4,8 @@ pub mod Reading
 pub mod Written
 pub mod MemFile
 pub mod MemFiles
+pub mod Attaching
+pub mod Plan
+pub mod MemSource
+pub mod MemSink
+pub mod MemStore

@@ -27,3 +27,6 @@ pub use std_streams::{StdSink, StdSource};
 pub use store::{AttachError, Store};
 pub use sure_source::SureSource;
 pub use writing::write_all;
+
+#[cfg(test)]
+mod tests;

@@ -1,4 +1,4 @@
-ghost use Rattle.std.specs.Prelude.{◌≡◌, ◌≤◌, [], IfOk, Some, vec_capacity};
+ghost use Rattle.std.specs.Prelude.{◌≡◌, ◌≤◌, ◌∷◌, ◌++◌, [], IfOk, OnOk, OnErr, Some, vec_len, vec_capacity};
 
 use crate::plan::Plan;
 use crate::{Failed, Sink};
@@ -12,13 +12,19 @@ pub struct MemSink {
     plan: Plan,
     faults: u64,
     ghost has_room: { room ≤ vec_capacity taken },
+    ghost within: { vec_len taken ≤ room },
 }
 
 impl MemSink {
+    ghost use Rattle.cdf_store.specs.MemSink.{calls_of, failing_of, room_of};
+
     /// An empty sink, with the memory for all that it may take, of which no write fails.
     pub fn new(alloc: Global, room: usize) -> Result<Self, AllocError>
         ensures written { IfOk result (λ sink. ⟦<MemSink as Sink>⟧.written sink ≡ Some []) }
         ensures faults { IfOk result (λ sink. ⟦<MemSink as Sink>⟧.faults sink ≡ 0) }
+        ensures calls { IfOk result (λ sink. calls_of sink ≡ 0) }
+        ensures failing { IfOk result (λ sink. failing_of sink ≡ []) }
+        ensures room { IfOk result (λ sink. room_of sink ≡ room) }
     {
         let taken = Vec::with_capacity(alloc, room)?;
         Ok(MemSink {
@@ -38,6 +44,9 @@ impl MemSink {
 
     /// From now on the write of this number fails too. The first write has the number 1.
     pub fn fail_at(&mut self, call: u64) -> Result<(), AllocError>
+        ensures ok { OnOk result (failing_of self.new ≡ failing_of self.old ++ call ∷ []) }
+        ensures err { OnErr result (failing_of self.new ≡ failing_of self.old) }
+        ensures calls { calls_of self.new ≡ calls_of self.old }
         ensures written { ⟦<MemSink as Sink>⟧.written self.new ≡ ⟦<MemSink as Sink>⟧.written self.old }
         ensures faults { ⟦<MemSink as Sink>⟧.faults self.new ≡ ⟦<MemSink as Sink>⟧.faults self.old }
     {
@@ -45,19 +54,28 @@ impl MemSink {
     }
 
     /// How many writes were made.
-    pub fn calls(&self) -> u64 {
+    pub fn calls(&self) -> u64
+        ensures { result ≡ calls_of self.now }
+    {
         self.plan.calls
     }
 }
 
 impl Sink for MemSink {
+    ghost use Rattle.cdf_store.specs.MemSink.{IsWrite};
+
     ghost written = { λ s. Some s.taken.items };
 
     ghost faults = { λ s. s.faults };
 
+    ghost also = { IsWrite };
+
     fn write(&mut self, bytes: &[u8]) -> Result<usize, Failed> {
-        let fails = self.plan.next_fails();
-        if fails || bytes.len() > self.room.saturating_sub(self.taken.len()) {
+        if self.plan.next_fails() {
+            self.faults = self.faults.saturating_add(1);
+            return Err(Failed);
+        }
+        if bytes.len() > self.room - self.taken.len() {
             self.faults = self.faults.saturating_add(1);
             return Err(Failed);
         }

@@ -1,4 +1,4 @@
-ghost use Rattle.std.specs.Prelude.{◌≡◌, ◌≤◌, drop, vec_len, Some};
+ghost use Rattle.std.specs.Prelude.{◌≡◌, ◌≤◌, ◌∷◌, ◌++◌, [], drop, vec_len, OnOk, OnErr, Some};
 
 use crate::copy::copy_front;
 use crate::plan::Plan;
@@ -18,11 +18,15 @@ pub struct MemSource {
 }
 
 impl MemSource {
+    ghost use Rattle.cdf_store.specs.MemSource.{calls_of, failing_of};
+
     /// A source of these bytes, of which no read fails.
     pub fn new(alloc: Global, bytes: Vec<u8>, most: usize) -> Self
         requires { 1 ≤ most }
         ensures left { ⟦<MemSource as Source>⟧.left result ≡ Some bytes.items }
         ensures faults { ⟦<MemSource as Source>⟧.faults result ≡ 0 }
+        ensures calls { calls_of result ≡ 0 }
+        ensures failing { failing_of result ≡ [] }
     {
         MemSource {
             bytes,
@@ -35,6 +39,9 @@ impl MemSource {
 
     /// From now on the read of this number fails too. The first read has the number 1.
     pub fn fail_at(&mut self, call: u64) -> Result<(), AllocError>
+        ensures ok { OnOk result (failing_of self.new ≡ failing_of self.old ++ call ∷ []) }
+        ensures err { OnErr result (failing_of self.new ≡ failing_of self.old) }
+        ensures calls { calls_of self.new ≡ calls_of self.old }
         ensures left { ⟦<MemSource as Source>⟧.left self.new ≡ ⟦<MemSource as Source>⟧.left self.old }
         ensures faults { ⟦<MemSource as Source>⟧.faults self.new ≡ ⟦<MemSource as Source>⟧.faults self.old }
     {
@@ -42,15 +49,21 @@ impl MemSource {
     }
 
     /// How many reads were made.
-    pub fn calls(&self) -> u64 {
+    pub fn calls(&self) -> u64
+        ensures { result ≡ calls_of self.now }
+    {
         self.plan.calls
     }
 }
 
 impl Source for MemSource {
+    ghost use Rattle.cdf_store.specs.MemSource.{IsRead};
+
     ghost left = { λ s. Some (drop s.place s.bytes.items) };
 
     ghost faults = { λ s. s.faults };
+
+    ghost also = { IsRead };
 
     fn read(&mut self, out: &mut [u8]) -> Result<usize, Failed> {
         if self.plan.next_fails() {

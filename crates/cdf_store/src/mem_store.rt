@@ -1,4 +1,4 @@
-ghost use Rattle.std.specs.Prelude.{◌≡◌, ◌+◌, ◌≤◌, [], IfSome, OnOk, OnErr, Some, None, vec_len, vec_capacity};
+ghost use Rattle.std.specs.Prelude.{◌≡◌, ◌+◌, ◌≤◌, ◌∷◌, ◌++◌, [], IfSome, OnOk, OnErr, Some, None, vec_len, vec_capacity};
 ghost use Rattle.std.specs.Option.{option_copied, option_map};
 ghost use Rattle.cdf_store.specs.Named.{lookup, with_file};
 ghost use Rattle.cdf_store.specs.Disk.{Disk};
@@ -27,12 +27,16 @@ pub struct MemStore {
 }
 
 impl MemStore {
+    ghost use Rattle.cdf_store.specs.MemStore.{calls_of, failing_of};
+
     /// A store without files, of which no call fails.
     pub fn new(alloc: Global) -> Self
         ensures disk { ⟦<MemStore as Store>⟧.disk result ≡ record { held = None; name = None; files = Some []; only = None; touched = Some []; under = tt } }
         ensures taken { ⟦<MemStore as Store>⟧.taken result ≡ Some 0 }
         ensures read { ⟦<MemStore as Store>⟧.read_faults result ≡ 0 }
         ensures write { ⟦<MemStore as Store>⟧.write_faults result ≡ 0 }
+        ensures calls { calls_of result ≡ 0 }
+        ensures failing { failing_of result ≡ [] }
     {
         MemStore {
             files: MemFiles::new(alloc),
@@ -55,6 +59,8 @@ impl MemStore {
         ensures spare { ⟦<MemStore as Store>⟧.spare self.new ≡ ⟦<MemStore as Store>⟧.spare self.old }
         ensures read { ⟦<MemStore as Store>⟧.read_faults self.new ≡ ⟦<MemStore as Store>⟧.read_faults self.old }
         ensures write { ⟦<MemStore as Store>⟧.write_faults self.new ≡ ⟦<MemStore as Store>⟧.write_faults self.old }
+        ensures calls { calls_of self.new ≡ calls_of self.old }
+        ensures failing { failing_of self.new ≡ failing_of self.old }
     {
         self.files.put(name, bytes)
     }
@@ -68,6 +74,9 @@ impl MemStore {
 
     /// From now on the call of this number fails too. The first call has the number 1, and `reserve` has none.
     pub fn fail_at(&mut self, call: u64) -> Result<(), AllocError>
+        ensures ok { OnOk result (failing_of self.new ≡ failing_of self.old ++ call ∷ []) }
+        ensures err { OnErr result (failing_of self.new ≡ failing_of self.old) }
+        ensures calls { calls_of self.new ≡ calls_of self.old }
         ensures disk { ⟦<MemStore as Store>⟧.disk self.new ≡ ⟦<MemStore as Store>⟧.disk self.old }
         ensures taken { ⟦<MemStore as Store>⟧.taken self.new ≡ ⟦<MemStore as Store>⟧.taken self.old }
         ensures spare { ⟦<MemStore as Store>⟧.spare self.new ≡ ⟦<MemStore as Store>⟧.spare self.old }
@@ -78,12 +87,16 @@ impl MemStore {
     }
 
     /// How many calls were made, without `reserve`.
-    pub fn calls(&self) -> u64 {
+    pub fn calls(&self) -> u64
+        ensures { result ≡ calls_of self.now }
+    {
         self.plan.calls
     }
 }
 
 impl Store for MemStore {
+    ghost use Rattle.cdf_store.specs.MemStore.{CallsAsPlanned};
+
     ghost Under = { Unit {0} };
 
     ghost disk = { λ s. record { held = held_of s.files; name = name_of s.files; files = Some (entries_of s.files); only = None; touched = Some s.touched.items; under = tt } };
@@ -95,6 +108,8 @@ impl Store for MemStore {
     ghost read_faults = { λ s. s.read_faults };
 
     ghost write_faults = { λ s. s.write_faults };
+
+    ghost also = { CallsAsPlanned };
 
     ghost whole = { λ s. record { named = same_is_some (file_at s.files.list.items s.files.attached); distinct = s.files.distinct; listed = s.files.listed } };
 

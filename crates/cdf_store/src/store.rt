@@ -1,7 +1,8 @@
-ghost use Rattle.std.specs.Prelude.{◌≡◌, ◌≤◌, ◌+◌, ℕ, List, length, IsSome, IsTrue, OnOk, OnErr, IfOk, IfSome};
+ghost use Rattle.std.specs.Prelude.{◌≡◌, ◌≤◌, ◌+◌, ℕ, List, Bool, length, is_err, IsSome, IsTrue, OnOk, OnErr, IfOk, IfSome};
 ghost use Rattle.std.specs.Option.{option_map};
 ghost use Rattle.std.specs.declared.option.Option.{Option};
 ghost use Rattle.cdf_base.specs.Causes.{HasCause, HasCauseOf};
+ghost use Rattle.cdf_store.specs.Attaching.{is_failed};
 ghost use Rattle.cdf_store.specs.Named.{Allows, AttachesIn, found_or_made, lookup};
 ghost use Rattle.cdf_store.specs.Reading.{ReadsAt, Counts};
 ghost use Rattle.cdf_store.specs.Disk.{Disk, IsWhole, Spare, Spent, WrittenPart, cut, file_of, written};
@@ -38,6 +39,10 @@ pub trait Store {
     /// How often writing and cutting have failed.
     ghost write_faults: { Self → ℕ };
 
+    /// What a device says of each call beyond these clauses: of itself before and after, and whether it failed, or `None` for
+    /// `reserve`, which cannot fail by a fault.
+    ghost also: { Self → Self → Option Bool → Type 0 } = { λ _ _ _. Unit {0} };
+
     /// Attaches the file of this name, and answers its length, or `None` where there is no such file. With `make` an absent
     /// file is made, empty.
     fn attach(&mut self, name: &str, make: bool) -> Result<Option<u64>, AttachError>
@@ -60,7 +65,8 @@ pub trait Store {
         ensures taken { taken self.new ≡ taken self.old }
         ensures spare { spare self.new ≡ spare self.old }
         ensures cause { HasCauseOf AttachError.Failed (read_faults self.old) (read_faults self.new) result }
-        ensures write { write_faults self.new ≡ write_faults self.old };
+        ensures write { write_faults self.new ≡ write_faults self.old }
+        ensures also { also self.old self.new (Some (is_failed result)) };
 
     /// Makes room for so many writes and cuts, and for writes up to this end of the file. They then take no memory.
     fn reserve(&mut self, writes: u64, end: u64) -> Result<(), AllocError>
@@ -71,7 +77,8 @@ pub trait Store {
         ensures disk { disk self.new ≡ disk self.old }
         ensures taken { taken self.new ≡ taken self.old }
         ensures read { read_faults self.new ≡ read_faults self.old }
-        ensures write { write_faults self.new ≡ write_faults self.old };
+        ensures write { write_faults self.new ≡ write_faults self.old }
+        ensures also { also self.old self.new None };
 
     /// Reads bytes of the attached file from `place` on to the front of `out`, and answers how many. It takes no memory.
     fn read_at(&mut self, place: u64, out: &mut [u8]) -> Result<usize, Failed>
@@ -81,7 +88,8 @@ pub trait Store {
         ensures disk { disk self.new ≡ disk self.old }
         ensures spare { spare self.new ≡ spare self.old }
         ensures cause { HasCause (read_faults self.old) (read_faults self.new) result }
-        ensures write { write_faults self.new ≡ write_faults self.old };
+        ensures write { write_faults self.new ≡ write_faults self.old }
+        ensures also { also self.old self.new (Some (is_err result)) };
 
     /// Writes bytes of the attached file from `place` on, for which room was made. It takes no memory. After a fault the front
     /// of the bytes may have been written.
@@ -96,7 +104,8 @@ pub trait Store {
         ensures spare { Spent (spare self.old) (spare self.new) }
         ensures taken { taken self.new ≡ taken self.old }
         ensures cause { HasCause (write_faults self.old) (write_faults self.new) result }
-        ensures read { read_faults self.new ≡ read_faults self.old };
+        ensures read { read_faults self.new ≡ read_faults self.old }
+        ensures also { also self.old self.new (Some (is_err result)) };
 
     /// Cuts the attached file to `n` bytes. It takes no memory.
     fn set_len(&mut self, n: u64) -> Result<(), Failed>
@@ -108,7 +117,8 @@ pub trait Store {
         ensures spare { Spent (spare self.old) (spare self.new) }
         ensures taken { taken self.new ≡ taken self.old }
         ensures cause { HasCause (write_faults self.old) (write_faults self.new) result }
-        ensures read { read_faults self.new ≡ read_faults self.old };
+        ensures read { read_faults self.new ≡ read_faults self.old }
+        ensures also { also self.old self.new (Some (is_err result)) };
 
     /// A file is attached under a name. Where the device tells its files, no name stands twice, and the attached file is the
     /// one of its name.

@@ -1,0 +1,184 @@
+mod weak_files;
+
+use crate::{
+    AttachError, Failed, FileStore, MemSink, MemSource, MemStore, Sink, Source, StdSink, StdSource,
+    Store, SureSource, write_all,
+};
+use std::fs;
+use std::test::Fail;
+use weak_files::{Stutter, WeakFiles};
+
+#[test]
+fn store_fails_at_each_planned_call(rt: HostRuntime) -> Result<(), Fail> {
+    for k in 1..=5 {
+        let mut store = MemStore::new(rt.alloc());
+        store.put_file("a", b"123")?;
+        store.fail_at(k)?;
+        let Ok(Some(length)) = store.attach("a", false) else {
+            assert_eq!(rt; k, 1);
+            continue;
+        };
+        assert_eq!(rt; length, 3);
+        store.reserve(2, 5)?;
+        let mut out = [0; 2];
+        let read = store.read_at(1, &mut out);
+        assert_eq!(rt; read, if k == 2 { Err(Failed) } else { Ok(2) }, "read, {k}");
+        assert_eq!(rt; out, if k == 2 { [0, 0] } else { *b"23" }, "out, {k}");
+        let written = store.write_at(2, b"456");
+        assert_eq!(rt;
+            written,
+            if k == 3 { Err(Failed) } else { Ok(()) },
+            "write, {k}"
+        );
+        let whole: &[u8] = if k == 3 { b"123" } else { b"12456" };
+        assert_eq!(rt; store.file("a"), Some(whole), "after the write, {k}");
+        let cut = store.set_len(0);
+        assert_eq!(rt; cut, if k == 4 { Err(Failed) } else { Ok(()) }, "cut, {k}");
+        let rest: &[u8] = if k == 4 { b"12456" } else { b"" };
+        assert_eq!(rt; store.file("a"), Some(rest), "after the cut, {k}");
+        assert_eq!(rt; store.calls(), 4, "{k}");
+    }
+    Ok(())
+}
+
+#[test]
+fn store_has_a_file_of_each_name(rt: HostRuntime) -> Result<(), Fail> {
+    let mut store = MemStore::new(rt.alloc());
+    store.put_file("a", b"1")?;
+    store.put_file("b", b"2")?;
+    store.put_file("a", b"34")?;
+    for (name, bytes) in [
+        ("a", Some(b"34".as_slice())),
+        ("b", Some(b"2".as_slice())),
+        ("c", None),
+    ] {
+        assert_eq!(rt; store.file(name), bytes, "{name}");
+    }
+    assert_eq!(rt; store.attach("c", false), Ok(None));
+    assert_eq!(rt; store.attach("c", true), Ok(Some(0)));
+    assert_eq!(rt; store.file("c"), Some(b"".as_slice()));
+    Ok(())
+}
+
+#[test]
+fn source_gives_pieces_and_fails_once(rt: HostRuntime) -> Result<(), Fail> {
+    for most in [1, 2, 3, 7] {
+        let bytes = Vec::from_slice(rt.alloc(), b"abcdefg")?;
+        let mut source = MemSource::new(rt.alloc(), bytes, most);
+        source.fail_at(2)?;
+        let mut all = Vec::new(rt.alloc());
+        for k in 1..=9u64 {
+            let mut out = [0; 4];
+            match source.read(&mut out) {
+                Ok(count) => all.extend_from_slice(&out[..count])?,
+                Err(Failed) => assert_eq!(rt; k, 2, "pieces of {most}"),
+            }
+        }
+        assert_eq!(rt; all.as_slice(), b"abcdefg".as_slice(), "pieces of {most}");
+        assert_eq!(rt; source.calls(), 9);
+    }
+    let mut source = SureSource::new(Vec::from_slice(rt.alloc(), b"abcdefg")?);
+    let mut out = [0; 4];
+    for count in [4, 3, 0] {
+        assert_eq!(rt; source.read(&mut out), Ok(count));
+    }
+    Ok(())
+}
+
+#[test]
+fn sink_fails_where_its_room_ends(rt: HostRuntime) -> Result<(), Fail> {
+    let mut sink = MemSink::new(rt.alloc(), 5)?;
+    sink.fail_at(1)?;
+    for (text, answer, written) in [
+        ("ab", Err(Failed), ""),
+        ("abc", Ok(()), "abc"),
+        ("def", Err(Failed), "abc"),
+        ("de", Ok(()), "abcde"),
+        ("f", Err(Failed), "abcde"),
+    ] {
+        assert_eq!(rt; write_all(&mut sink, text.as_bytes()), answer, "{text}");
+        assert_eq!(rt; sink.written(), written.as_bytes(), "{text}");
+    }
+    assert_eq!(rt; sink.calls(), 5);
+    Ok(())
+}
+
+#[test]
+fn streams_are_read_and_written(rt: HostRuntime) -> Result<(), Fail> {
+    let mut source = StdSource::new(Stutter::new(b"abc"));
+    let mut out = [0; 2];
+    for answer in [Ok(2), Err(Failed), Ok(1), Ok(0)] {
+        assert_eq!(rt; source.read(&mut out), answer);
+    }
+    let mut sink = StdSink::new(Stutter::new(b""));
+    for answer in [Ok(2), Err(Failed), Ok(2)] {
+        assert_eq!(rt; sink.write(b"ab"), answer);
+    }
+    Ok(())
+}
+
+const FILE: &str = "cdf_store_test_file";
+
+#[test]
+fn real_file_is_made_written_and_cut(rt: HostRuntime) -> Result<(), Fail> {
+    let _ = fs::remove_file(&rt, FILE);
+    let mut store = FileStore::new(rt, rt.alloc());
+    assert_eq!(rt; store.attach(FILE, false), Ok(None));
+    let Ok(Some(0)) = store.attach(FILE, true) else {
+        return Err(Fail::new("no file was made"));
+    };
+    store.reserve(2, 6)?;
+    assert_eq!(rt; store.write_at(0, b"abcdef"), Ok(()));
+    assert_eq!(rt; store.set_len(0), Ok(()));
+    store.reserve(1, 4)?;
+    assert_eq!(rt; store.write_at(0, b"wxyz"), Ok(()));
+
+    let mut again = FileStore::new(rt, rt.alloc());
+    let Ok(Some(4)) = again.attach(FILE, false) else {
+        return Err(Fail::new("the file has another length"));
+    };
+    let mut out = [0; 8];
+    assert_eq!(rt; again.read_at(1, &mut out), Ok(3));
+    assert_eq!(rt; &out[..3], b"xyz".as_slice());
+    fs::remove_file(&rt, FILE)?;
+    Ok(())
+}
+
+const WEAK_FILE: &str = "cdf_store_test_weak_file";
+
+#[test]
+fn weak_file_is_served_and_fails_in_its_writes(rt: HostRuntime) -> Result<(), Fail> {
+    // What the runtime lets through, and what then stands in the file of "abc" after "wxyz" was written from 1 on.
+    for (writes, answer, bytes) in [
+        (None, Err(Failed), b"abc".as_slice()),
+        (Some(0), Err(Failed), b"abc".as_slice()),
+        (Some(3), Err(Failed), b"awxy".as_slice()),
+        (Some(4), Ok(()), b"awxyz".as_slice()),
+    ] {
+        fs::write(&rt, WEAK_FILE, b"abc".as_slice())?;
+        let mut store = FileStore::new(WeakFiles { rt, writes }, rt.alloc());
+        let Ok(Some(length)) = store.attach(WEAK_FILE, true) else {
+            return Err(Fail::new("no file was attached"));
+        };
+        assert_eq!(rt; length, 3);
+        store.reserve(2, 5)?;
+        assert_eq!(rt; store.write_at(1, b"wxyz"), answer);
+        let mut out = [0; 8];
+        assert_eq!(rt; store.read_at(0, &mut out), Ok(bytes.len()));
+        assert_eq!(rt; out.starts_with(bytes), true);
+        assert_eq!(rt; fs::read(&rt, WEAK_FILE)?.as_slice(), bytes);
+    }
+    fs::remove_file(&rt, WEAK_FILE)?;
+    let mut store = FileStore::new(
+        WeakFiles {
+            rt,
+            writes: Some(9),
+        },
+        rt.alloc(),
+    );
+    assert_eq!(rt;
+        store.attach("cdf_store_test_no_folder/a", true),
+        Err(AttachError::Failed)
+    );
+    Ok(())
+}
