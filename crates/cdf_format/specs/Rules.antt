@@ -24,12 +24,12 @@ abbrev pub asked : Bool → List Row → List Row
 asked true rows = rows
 asked false rows = []
 
--- a file is judged phase by phase, and each phase is asked only where those before it hold
+-- each rule of each phase holds
 abbrev pub AllHold : List (List Row) → Type 0
 AllHold [] = Unit {0}
 AllHold (rows ∷ phases) = Hold rows × AllHold phases
 
--- in the phase of this number a rule is broken, and all phases before it hold
+-- A phase is asked only where those before it hold: in the phase of this number a rule is broken, and those before it hold.
 abbrev pub FirstBroken : List (List Row) → ℕ → ℕ → ℕ → Type 0
 FirstBroken [] phase rule place = ⊥
 FirstBroken (rows ∷ phases) zero rule place = IsBroken rows rule place

@@ -1,3 +1,5 @@
+//! What follows from the definitions, each law as the clause of a function.
+
 ghost use Rattle.std.specs.Prelude.{◌≡◌, ℕ, List, take, drop};
 ghost use Rattle.cdf_format.specs.Fields.{word};
 ghost use Rattle.cdf_format.specs.Sealed.{image_of, sealed};
@@ -9,7 +11,7 @@ pub fn word_of_piece()
 {}
 
 /// A file that breaks a rule is not well formed.
-pub fn one_verdict()
+pub fn broken_is_not_well_formed()
     ensures { (f : List ℕ) (phase rule place : ℕ) → WellFormed f → Breaks f phase rule place → ⊥ }
 {}
 

@@ -13,7 +13,11 @@ pub data Parsed : Type 0 where
   Asks : Command → Parsed
   Faulty : LineError → Parsed
 
--- The one command is `info`. A line that is too long is never blank.
+-- The one command is `info`. What is not known is said to begin at the first byte of the line.
+abbrev pub parse_words : List ℕ → Parsed
+parse_words line = if bytes_eq line (codes "info") then Asks Info else Faulty (UnknownWord 0)
+
+-- a line that is too long is never blank
 abbrev pub parse : Option (List ℕ) → Parsed
 parse None = Faulty (UnknownWord 0)
-parse (Some line) = if is_blank line then Blank else (if bytes_eq line (codes "info") then Asks Info else Faulty (UnknownWord 0))
+parse (Some line) = if is_blank line then Blank else parse_words line

@@ -1,6 +1,8 @@
+pub mod Limits
 pub mod Encodings
 pub mod DataSet
 pub mod Step
+pub mod Words
 pub mod Lines
 pub mod Grammar
 pub mod Texts

@@ -1,7 +1,8 @@
 -- The lines of a script.
 use Rattle.std.specs.List.{flat_map}
-use Rattle.std.specs.Prelude.{ℕ, List, [], ◌∷◌, ◌++◌, map, length, Bool, true, ◌||◌, ◌==◌, nat_le, if◌then◌else◌, Some, None}
+use Rattle.std.specs.Prelude.{ℕ, List, [], ◌∷◌, ◌++◌, map, length, Bool, true, false, ◌||◌, ◌==◌, nat_le, if◌then◌else◌, Some, None}
 use Rattle.std.specs.declared.option.Option.{Option}
+use Rattle.cdf_model.specs.Limits.{line_limit}
 
 -- a byte in front of lines that are ended and of one that is not
 abbrev pub in_front : ℕ → List (List ℕ) → List ℕ → List (List ℕ) × List ℕ
@@ -17,10 +18,6 @@ split (b ∷ text) = if b == 10 then ([] ∷ (split text).0, (split text).1) els
 abbrev pub last_line : List ℕ → List (List ℕ)
 last_line [] = []
 last_line (b ∷ rest) = (b ∷ rest) ∷ []
-
--- the most bytes of a line
-abbrev pub line_limit : ℕ
-line_limit = 16777216
 
 -- the bytes of a line; none of one that is too long
 abbrev pub kept : List ℕ → Option (List ℕ)
@@ -38,6 +35,11 @@ lines text = map kept ((split text).0 ++ last_line (split text).1)
 abbrev pub is_blank : List ℕ → Bool
 is_blank [] = true
 is_blank (b ∷ line) = if (b == 32) || (b == 9) then is_blank line else b == 35
+
+-- no byte is a newline
+abbrev pub is_one_line : List ℕ → Bool
+is_one_line [] = true
+is_one_line (b ∷ line) = if b == 10 then false else is_one_line line
 
 -- lines, each with its newline, and what stands after them
 abbrev pub joined : List (List ℕ) → List ℕ → List ℕ

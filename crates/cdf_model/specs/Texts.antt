@@ -21,7 +21,7 @@ first ⧺ second = first ++ second
 abbrev pub newline : List ℕ
 newline = 10 ∷ []
 
--- none, or the numbers joined by commas
+-- `-` for no dimension, else the sizes joined by commas
 abbrev pub list_text : List ℕ → List ℕ
 list_text [] = codes "-"
 list_text (n ∷ ns) = decimal n ⧺ flat_map (λ m. 44 ∷ decimal m) ns
@@ -55,6 +55,7 @@ reason_text (BadLine fault) = codes "1 BadLine " ⧺ fault_text fault
 
 -- the reply to the line of a number
 abbrev pub reply_text : ℕ → Outcome → List ℕ
+reply_text n (Done replies.Plain) = decimal n ⧺ codes " ok" ⧺ newline
 reply_text n (Done (replies.Head head)) = decimal n ⧺ codes " ok " ⧺ head_text head ⧺ newline
 reply_text n (Refused reason) = decimal n ⧺ codes " refused " ⧺ reason_text reason ⧺ newline
 

@@ -3,6 +3,9 @@ use crate::Head;
 /// What a command answers that is done.
 #[derive(Drop)]
 pub enum Reply {
+    /// Nothing but that it is done.
+    Plain,
+    /// What `info` shows.
     Head { head: Head },
 }
 

@@ -16,7 +16,7 @@ pub struct Head {
     /// The code of the encoding.
     pub encoding: u32,
     pub majority: Majority,
-    /// Whether the file ends with a checksum.
+    /// Whether a checksum is in use.
     pub md5: bool,
     /// The sizes of the dimensions that the r variables share.
     pub rdims: Nums,

@@ -1,16 +1,15 @@
-//! What a data set is, what a command asks and answers, and the texts of the answers. Nothing here knows of offsets in a file.
+//! What a data set is, what a command asks and answers, and the texts of the answers. A data set has no offset of a file in it.
 #![tactic(auto)]
 
 mod answer;
 mod command;
 mod encoding;
 mod head;
-mod laws;
+pub mod laws;
 mod list;
 
 pub use answer::{LineError, Outcome, Reason, Reply};
 pub use command::Command;
 pub use encoding::Encoding;
 pub use head::{Head, Majority};
-pub use laws::lines_are_the_text;
 pub use list::{Bytes, Nums};
