@@ -1,51 +1,56 @@
 -- What is kept leads back to the base.
-use Rattle.std.proofs.Common.{◌≡◌, ◌∙◌, ℕ, ◌+◌, ◌-◌, ◌≤◌, List, [], ◌∷◌, ◌++◌, length, take, drop, sym, refl, ap, ap₂, arith, Option, Some, None}
-use Rattle.std.proofs.lemmas.List.{take-append-le}
-use Rattle.std.proofs.lemmas.List.Elements.{All-head, All-tail}
+use Rattle.std.proofs.Common.{◌≡◌, ◌∙◌, ℕ, ◌+◌, ◌-◌, ◌≤◌, ◌<◌, List, [], ◌∷◌, ◌++◌, length, take, drop, min, sym, refl, ap, ap₂, arith, inl, inr}
+use Rattle.std.proofs.lemmas.Bool.{cases_lt}
+use Rattle.std.proofs.lemmas.List.{take-take, drop-take, length-take-le, length-drop}
 use Rattle.cdf_base.specs.Bytes.{put}
-use Rattle.cdf_area.specs.Log.{Fit, Fits_in, Within, back, base_of}
-use Rattle.cdf_area.specs.declared.log.Old.{Old}
-use Rattle.cdf_base.proofs.Puts.{length-put, put-put, put_own, put-append}
+use Rattle.cdf_base.proofs.Puts.{take-put, drop-put, put_own}
+use Rattle.cdf_area.specs.OldBytes.{Old, back}
 
-pub back_more : (log : List Old) (old : Old) (b : List ℕ) → back (log ++ old ∷ []) b ≡ back log (put b old.place old.bytes.items)
+-- what was kept last goes back first
+pub back-push : (olds : List Old) (old : Old) (bytes : List ℕ) → back (olds ++ old ∷ []) bytes ≡ back olds (put bytes old.place old.bytes)
 unfolding back
-back_more [] old b = refl
-back_more (first ∷ log) old b = ap (λ (l : List ℕ). put l first.place first.bytes.items) (back_more log old b)
+back-push [] old bytes = refl
+back-push (first ∷ olds) old bytes = ap (λ (l : List ℕ). put l first.place first.bytes) (back-push olds old bytes)
 
-pub length-back : (log : List Old) (b : List ℕ) → Fit (length b) log → length (back log b) ≡ length b
-unfolding back
-length-back [] b fit = refl
-length-back (first ∷ log) b fit =
-    let rest = length-back log b (All-tail (Fits_in (length b)) first log fit) in
-    let here : first.place + length first.bytes.items ≤ length b = All-head (Fits_in (length b)) first log fit in
-    length-put (back log b) first.place first.bytes.items (omega (arith, rest, here)) ∙ rest
+-- what a cut leaves past a place
+drop-take_past : (k m : ℕ) (bytes : List ℕ) → k ≤ m → drop k (take m bytes) ≡ take (m - k) (drop k bytes)
+drop-take_past k m bytes le =
+    let e : m ≡ k + (m - k) = omega arith in
+    ap (λ n. drop k (take n bytes)) e ∙ drop-take k (m - k) bytes
 
-pub back-append : (log : List Old) (b z : List ℕ) → Fit (length b) log → back log (b ++ z) ≡ back log b ++ z
-unfolding back
-back-append [] b z fit = refl
-back-append (first ∷ log) b z fit =
-    let less = All-tail (Fits_in (length b)) first log fit in
-    let rest = length-back log b less in
-    let here : first.place + length first.bytes.items ≤ length b = All-head (Fits_in (length b)) first log fit in
-    ap (λ (l : List ℕ). put l first.place first.bytes.items) (back-append log b z less)
-    ∙ put-append (back log b) z first.place first.bytes.items (omega (arith, rest, here))
+-- a write past the marked bytes leaves them
+pub take-put_past : (bytes : List ℕ) (place : ℕ) (xs : List ℕ) (m : ℕ) → place ≤ length bytes → m ≤ place → take m (put bytes place xs) ≡ take m bytes
+take-put_past bytes place xs m inside past = sym (take-take m place (put bytes place xs) past) ∙ ap (take m) (take-put bytes place xs inside) ∙ take-take m place bytes past
 
--- once the bytes of a range are kept, what is written over them leaves the base
-pub base_kept : (marked : Option ℕ) (log log' : List Old) (old : Old) (b xs : List ℕ) (place n : ℕ) → log' ≡ log ++ old ∷ [] → old.place ≡ place → old.bytes.items ≡ take n (drop place b)
-    → place + n ≤ length b → length xs ≡ n → length old.bytes.items ≡ n → base_of marked log' (put b place xs) ≡ base_of marked log b
-base_kept None log log' old b xs place n more at own h long same = refl
-base_kept (Some m) log log' old b xs place n more at own h long same =
-    let first : back log' (put b place xs) ≡ back log (put (put b place xs) old.place old.bytes.items) = rw more (back_more log old (put b place xs)) in
-    let twice : put (put b place xs) old.place old.bytes.items ≡ put b place old.bytes.items = rw at (put-put b place xs old.bytes.items (omega arith) (omega arith)) in
-    let was : put b place old.bytes.items ≡ b = rw own (put_own b place n h) in
-    ap (λ (l : List ℕ). Some (take m l)) (first ∙ ap (back log) (twice ∙ was))
+-- past what was kept, a write leaves the marked bytes
+rest-put : (bytes : List ℕ) (place : ℕ) (xs : List ℕ) (m k : ℕ) → place + length xs ≤ length bytes → place < m → k ≡ min m (place + length xs) → drop k (take m (put bytes place xs)) ≡ drop k (take m bytes)
+rest-put bytes place xs m k inside below e =
+    let same : take (m - k) (drop k (put bytes place xs)) ≡ take (m - k) (drop k bytes) =
+    elim (cases_lt (place + length xs) m) as (λ _. take (m - k) (drop k (put bytes place xs)) ≡ take (m - k) (drop k bytes)) [
+      | inl before ↦ let at : k ≡ place + length xs = omega arith in rw at (ap (take (m - (place + length xs))) (drop-put bytes place xs inside))
+      | inr past ↦ let none : m - k ≡ 0 = omega arith in rw none refl
+    ] in
+    drop-take_past k m (put bytes place xs) (omega arith) ∙ same ∙ sym (drop-take_past k m bytes (omega arith))
 
-pub base_longer : (marked : Option ℕ) (log : List Old) (b z : List ℕ) → Fit (length b) log → Within marked (length b) → base_of marked log (b ++ z) ≡ base_of marked log b
-base_longer None log b z fit within = refl
-base_longer (Some m) log b z fit within =
-    let low : m ≤ length b = within m refl in
-    ap Some (ap (take m) (back-append log b z fit) ∙ take-append-le m (back log b) z (omega (arith, length-back log b fit, low)))
+-- the kept bytes of a range, put back over what was written
+pub put-put_kept : (bytes : List ℕ) (place : ℕ) (xs : List ℕ) (m : ℕ) (old : List ℕ) → place + length xs ≤ length bytes → m ≤ length bytes → place < m
+    → old ≡ take (min m (place + length xs) - place) (drop place bytes) → put (take m (put bytes place xs)) place old ≡ take m bytes
+unfolding put
+put-put_kept bytes place xs m old inside low below kept =
+    let n = min m (place + length xs) - place in
+    let long : length old ≡ n = ap length kept ∙ length-take-le n (drop place bytes) (omega (arith, length-drop place bytes)) in
+    let own : take n (drop place (take m bytes)) ≡ old =
+    ap (take n) (drop-take_past place m bytes (omega arith)) ∙ take-take n (m - place) (drop place bytes) (omega arith) ∙ sym kept in
+    let front : take place (take m (put bytes place xs)) ≡ take place (take m bytes) =
+    take-take place m (put bytes place xs) (omega arith) ∙ take-put bytes place xs (omega arith) ∙ sym (take-take place m bytes (omega arith)) in
+    let rest = rest-put bytes place xs m (place + length old) inside below (omega arith) in
+    ap₂ (λ (u v : List ℕ). u ++ (old ++ v)) front rest
+    ∙ ap (put (take m bytes) place) (sym own)
+    ∙ put_own (take m bytes) place n (omega (arith, length-take-le m bytes low))
 
--- one part less is to be put back
-pub back_pop : (log less : List Old) (old : Old) (b : List ℕ) → log ≡ less ++ old ∷ [] → back less (put b old.place old.bytes.items) ≡ back log b
-back_pop log less old b e = rw e (sym (back_more less old b))
+-- once the old bytes of a range are kept, what is written over it leaves the base
+pub back-kept : (olds : List Old) (bytes : List ℕ) (place : ℕ) (xs : List ℕ) (m : ℕ) (old : List ℕ) → place + length xs ≤ length bytes → m ≤ length bytes → place < m
+    → old ≡ take (min m (place + length xs) - place) (drop place bytes)
+    → back (olds ++ record { place = place; bytes = old } ∷ []) (take m (put bytes place xs)) ≡ back olds (take m bytes)
+back-kept olds bytes place xs m old inside low below kept =
+    back-push olds (record { place = place; bytes = old }) (take m (put bytes place xs)) ∙ ap (back olds) (put-put_kept bytes place xs m old inside low below kept)

@@ -1,2 +1,3 @@
+pub mod Base
 pub mod Frame
-pub mod Log
+pub mod OldBytes

@@ -2,8 +2,8 @@
 #![tactic(auto)]
 
 mod area;
-mod log;
 mod mem_area;
+mod undo_log;
 
 pub use area::{Area, AreaError};
 pub use mem_area::MemArea;

@@ -1,101 +1,114 @@
-ghost use Rattle.std.specs.Prelude.{◌≡◌, ◌+◌, ◌-◌, ◌≤◌, ℕ, List, length, take, drop, Some, None, IsOk, [], ◌++◌, ◌<◌, ◌^◌, replicate, OnOk, OnErr};
+ghost use Rattle.std.specs.Prelude.{◌≡◌, ◌+◌, ◌-◌, ◌≤◌, ◌<◌, ◌^◌, ◌++◌, length, take, drop, replicate, IsOk, OnOk, OnErr};
 ghost use Rattle.cdf_base.specs.Bytes.{put};
+ghost use Rattle.cdf_area.specs.Base.{FitsIn, base_at, base_of};
+ghost use Rattle.cdf_area.specs.OldBytes.{AllLieBelow};
 ghost use Rattle.cdf_area.specs.Frame.{Frame};
-ghost use Rattle.cdf_area.specs.Log.{Fit, Within, back, base_of};
 
-use crate::log::Old;
+use crate::undo_log::{UndoLog, put_bytes};
 use crate::{Area, AreaError};
 use std::alloc::{AllocError, Global};
 
-/// An area in memory. While there is a mark, old bytes are kept before each write.
+/// The size at the mark, and the old bytes of what was written below it since.
+#[derive(Drop)]
+pub struct Mark {
+    pub size: usize,
+    pub log: UndoLog,
+}
+
+/// An area in memory.
+///
+/// While there is a mark, old bytes are kept before each write, each with two numbers a write; bytes that were appended
+/// since the mark are not. So to go back costs what was written, and takes no memory.
 #[derive(Drop)]
 pub struct MemArea {
     alloc: Global,
     bytes: Vec<u8>,
     limit: u64,
-    marked: Option<usize>,
-    log: Vec<Old>,
-    ghost fits: { Fit (length bytes.items) log.items },
-    ghost within: { Within marked (length bytes.items) },
+    marked: Option<Mark>,
+    ghost fits: { FitsIn (length bytes.items) marked },
 }
 
 impl MemArea {
-    /// These bytes, without a mark.
+    /// These bytes as they are, which may be more than the limit, without a mark.
     pub fn new(alloc: Global, bytes: Vec<u8>, limit: u64) -> Self
         ensures image { ⟦<MemArea as Area>⟧.image result ≡ bytes.items }
         ensures base { (⟦<MemArea as Area>⟧.frame result).base ≡ None }
         ensures limit { (⟦<MemArea as Area>⟧.frame result).limit ≡ limit }
+        // No call of such an area answers a fault.
+        ensures faultless { (area : MemArea) → ⟦<MemArea as Area>⟧.faults area ≡ 0 }
     {
         MemArea {
             alloc,
             bytes,
             limit,
             marked: None,
-            log: Vec::new(alloc),
         }
     }
 
-    /// Keeps the bytes of a range, where there is a mark. Whatever is written over them then leaves the base.
-    fn keep_old(&mut self, start: usize, end: usize) -> Result<(), AllocError>
-        requires { (start ≤ end) × (end ≤ length self.old.bytes.items) }
-        ensures bytes { self.new.bytes ≡ self.old.bytes }
-        ensures limit { self.new.limit ≡ self.old.limit }
-        ensures marked { self.new.marked ≡ self.old.marked }
-        ensures same { base_of self.new.marked self.new.log.items self.old.bytes.items ≡ base_of self.old.marked self.old.log.items self.old.bytes.items }
-        ensures base { IsOk result → (xs : List ℕ) → length xs ≡ end - start → base_of self.new.marked self.new.log.items (put self.old.bytes.items start xs) ≡ base_of self.old.marked self.old.log.items self.old.bytes.items }
+    /// The bytes of the image.
+    pub fn into_bytes(self) -> Vec<u8>
+        ensures { result.items ≡ ⟦<MemArea as Area>⟧.image self }
     {
-        if self.marked.is_some() {
-            let bytes = Vec::from_slice(self.alloc, &self.bytes[start..end])?;
-            self.log.push(Old {
-                place: start,
-                bytes,
-            })?;
+        self.bytes
+    }
+}
+
+impl Mark {
+    /// Keeps the old bytes of a range that is to be written over, as far as they are of the marked image.
+    fn keep_old(&mut self, bytes: &[u8], place: usize, written: &[u8]) -> Result<(), AllocError>
+        requires range { place + length written.now ≤ length bytes.now }
+        requires size { self.old.size ≤ length bytes.now }
+        requires below { AllLieBelow self.old.size self.old.log }
+        ensures size { self.new.size ≡ self.old.size }
+        ensures below { AllLieBelow self.new.size self.new.log }
+        ensures base { OnOk result (base_at self.new (put bytes.now place written.now) ≡ base_at self.old bytes.now) }
+        ensures stays { OnErr result (self.new ≡ self.old) }
+    {
+        if place < self.size {
+            let end = self.size.min(place + written.len());
+            self.log.push(place, &bytes[place..end])?;
         }
         Ok(())
     }
 }
 
-/// Writes bytes over those from a place on.
-#[tactic(auto, unfolding(cdf_base::specs::Bytes::put))]
-fn put_bytes(kept: &mut Vec<u8>, start: usize, bytes: &[u8])
-    requires { start + length bytes.now ≤ length kept.old.items }
-    ensures items { kept.new.items ≡ put kept.old.items start bytes.now }
-    ensures len { length kept.new.items ≡ length kept.old.items }
+/// Keeps the old bytes of a range that is to be written over, where there is a mark, so that the write leaves the base.
+fn keep_old(
+    marked: &mut Option<Mark>,
+    bytes: &[u8],
+    place: usize,
+    written: &[u8],
+) -> Result<(), AllocError>
+    requires range { place + length written.now ≤ length bytes.now }
+    requires fits { FitsIn (length bytes.now) marked.old }
+    ensures fits { FitsIn (length bytes.now) marked.new }
+    ensures base { OnOk result (base_of marked.new (put bytes.now place written.now) ≡ base_of marked.old bytes.now) }
+    ensures stays { OnErr result (marked.new ≡ marked.old) }
 {
-    let end = start + bytes.len();
-    kept[start..end].copy_from_slice(bytes);
-}
-
-/// Appends bytes that are 0.
-fn grow(kept: &mut Vec<u8>, n: usize) -> Result<(), AllocError>
-    requires { length kept.old.items + n < 2 ^ 64 }
-    ensures ok { OnOk result (kept.new.items ≡ kept.old.items ++ replicate n 0) }
-    ensures err { OnErr result (kept.new.items ≡ kept.old.items) }
-{
-    let long = kept.len() + n;
-    kept.resize(long, 0)
-}
-
-/// Puts all that is kept back, the last first.
-fn put_back(kept: &mut Vec<u8>, log: &mut Vec<Old>)
-    requires { Fit (length kept.old.items) log.old.items }
-    ensures items { kept.new.items ≡ back log.old.items kept.old.items }
-    ensures len { length kept.new.items ≡ length kept.old.items }
-    ensures log { log.new.items ≡ [] }
-{
-    while let Some(old) = log.pop() {
-        put_bytes(kept, old.place, &old.bytes);
+    match marked {
+        Some(mark) => mark.keep_old(bytes, place, written),
+        None => Ok(()),
     }
 }
 
+/// Appends bytes that are 0.
+fn grow(bytes: &mut Vec<u8>, n: usize) -> Result<(), AllocError>
+    requires { length bytes.old.items + n < 2 ^ 64 }
+    ensures ok { OnOk result (bytes.new.items ≡ bytes.old.items ++ replicate n 0) }
+    ensures err { OnErr result (bytes.new.items ≡ bytes.old.items) }
+{
+    let size = bytes.len() + n;
+    bytes.resize(size, 0)
+}
+
 impl Area for MemArea {
-    ghost image = { λ a. a.bytes.items };
+    ghost image = { λ area. area.bytes.items };
 
     ghost Under = { Unit {0} };
 
-    ghost frame = { λ a. record { base = base_of a.marked a.log.items a.bytes.items; limit = a.limit; under = tt } };
+    ghost frame = { λ area. record { base = base_of area.marked area.bytes.items; limit = area.limit; under = tt } };
 
-    ghost faults = { λ a. 0 };
+    ghost faults = { λ area. 0 };
 
     fn size(&self) -> u64 {
         self.bytes.len() as u64
@@ -111,16 +124,15 @@ impl Area for MemArea {
         ensures ok { IsOk result }
         ensures same { self.new ≡ self.old }
     {
-        let place = place as usize;
-        let end = place + out.len();
-        out.copy_from_slice(&self.bytes[place..end]);
+        let start = place as usize;
+        let end = start + out.len();
+        out.copy_from_slice(&self.bytes[start..end]);
         Ok(())
     }
 
     fn set(&mut self, place: u64, bytes: &[u8]) -> Result<(), AreaError> {
         let start = place as usize;
-        let end = start + bytes.len();
-        self.keep_old(start, end)?;
+        keep_old(&mut self.marked, &self.bytes, start, bytes)?;
         put_bytes(&mut self.bytes, start, bytes);
         Ok(())
     }
@@ -132,26 +144,25 @@ impl Area for MemArea {
     }
 
     fn shorten(&mut self, n: u64) {
-        let long = self.bytes.len() - n as usize;
-        self.log.clear();
-        self.bytes.truncate(long);
+        let size = self.bytes.len() - n as usize;
+        self.bytes.truncate(size);
     }
 
     fn mark(&mut self) {
-        self.log.clear();
-        self.marked = Some(self.bytes.len());
+        self.marked = Some(Mark {
+            size: self.bytes.len(),
+            log: UndoLog::new(self.alloc),
+        });
     }
 
     fn keep(&mut self) {
-        self.log.clear();
         self.marked = None;
     }
 
     fn undo(&mut self) {
-        put_back(&mut self.bytes, &mut self.log);
-        if let Some(long) = self.marked {
-            self.bytes.truncate(long);
-            self.marked = None;
+        if let Some(mark) = self.marked.take() {
+            self.bytes.truncate(mark.size);
+            mark.log.put_back(&mut self.bytes);
         }
     }
 }
