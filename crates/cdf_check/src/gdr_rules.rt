@@ -1,7 +1,8 @@
-ghost use Rattle.std.specs.Prelude.{◌≡◌, ◌+◌, ◌*◌, ◌≤◌, ◌==◌, ◌&&◌, length, IfOk, IsTrue};
+ghost use Rattle.std.specs.Prelude.{◌≡◌, ◌+◌, ◌≤◌, length, nat_le, IfOk, IsTrue};
 ghost use Rattle.std.specs.List.{list_all};
 ghost use Rattle.cdf_base.specs.Causes.{HasCauseOf};
-ghost use Rattle.cdf_format.specs.Fields.{r_dimensions, r_sizes, gdr_offset};
+ghost use Rattle.cdf_model.specs.Limits.{image_limit};
+ghost use Rattle.cdf_format.specs.Fields.{counted, signed8, r_sizes};
 ghost use Rattle.cdf_format.specs.Sealed.{trailer_length};
 ghost use Rattle.cdf_format.specs.WellFormed.{phase3, has_gdr, gdr_rows, is_gdr, is_size, is_bare, no_links, no_counts};
 ghost use Rattle.cdf_records.specs.Heads.{cdr_at, gdr_at};
@@ -24,7 +25,8 @@ const MOST_DIMENSIONS: u32 = 10;
 /// The greatest number of 4 bytes with a sign.
 const LARGEST_SIZE: u32 = 2_147_483_647;
 
-const LONGEST_IMAGE: u64 = 1_073_741_824;
+/// The most bytes of an image.
+const IMAGE_LIMIT: i64 = 1_073_741_824;
 /// The length of the checksum.
 const DIGEST_LENGTH: u64 = 16;
 
@@ -68,6 +70,14 @@ fn trailer_length<A: Area>(area: &A, cdr: &Cdr) -> u64
     } else {
         0
     }
+}
+
+/// Whether the image that the record tells of is not too long.
+fn is_in_limit<A: Area>(_area: &A, place: u64, gdr: &Gdr) -> bool
+    requires { gdr.now ≡ gdr_at (A.image _area.now) place }
+    ensures { result ≡ nat_le (counted (signed8 (A.image _area.now) (place + 36))) image_limit }
+{
+    gdr.eof.cast_signed() <= IMAGE_LIMIT
 }
 
 /// Whether no chain begins in the record.
@@ -158,7 +168,7 @@ fn check_at<A: Area>(
     if gdr.eof != area.size() - trailer_length(area, cdr) {
         return Ok(Some(Broken { rule: 4, place }));
     }
-    if gdr.eof > LONGEST_IMAGE {
+    if !is_in_limit(area, place, &gdr) {
         return Ok(Some(Broken { rule: 5, place }));
     }
     if !is_bare(area, cdr, place, &gdr) {
