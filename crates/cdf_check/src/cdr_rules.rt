@@ -13,11 +13,11 @@ use cdf_area::{Area, AreaError};
 use cdf_model::Encoding;
 use cdf_records::{Cdr, read_cdr};
 
-/// Where the CDF Descriptor Record stands, its type, and its size.
+/// Where the CDF Descriptor Record stands.
 pub const CDR_PLACE: u64 = 8;
-
+/// Its type.
 const CDR_TYPE: u32 = 1;
-
+/// Its bytes, with the Copyright.
 const CDR_SIZE: u64 = 312;
 
 /// Whether the record is one of its type that ends within the file.
@@ -32,7 +32,8 @@ fn is_cdr<A: Area>(area: &A, cdr: &Cdr) -> bool
     is_record(
         area,
         CDR_PLACE,
-        (record_type, cdr.record_size),
+        record_type,
+        cdr.record_size,
         CDR_TYPE,
         CDR_SIZE,
     )
