@@ -1,6 +1,7 @@
-ghost use Rattle.std.specs.Prelude.{◌≡◌, ◌+◌, ◌≤◌, ◌==◌, length, IfOk};
+ghost use Rattle.std.specs.Prelude.{◌≡◌, ◌+◌, ◌≤◌, ◌==◌, length, is_some, IfOk};
 ghost use Rattle.cdf_base.specs.Causes.{HasCauseOf};
-ghost use Rattle.cdf_format.specs.Fields.{version};
+ghost use Rattle.cdf_model.specs.Encodings.{encoding_at};
+ghost use Rattle.cdf_format.specs.Fields.{encoding, version};
 ghost use Rattle.cdf_format.specs.WellFormed.{phase2, is_record};
 ghost use Rattle.cdf_records.specs.Heads.{cdr_at};
 ghost use Rattle.cdf_records.specs.Pieces.{AreBytes};
@@ -12,11 +13,11 @@ use cdf_area::{Area, AreaError};
 use cdf_model::Encoding;
 use cdf_records::{Cdr, read_cdr};
 
-/// Where the CDF Descriptor Record stands, its type, and its size.
+/// Where the CDF Descriptor Record stands.
 pub const CDR_PLACE: u64 = 8;
-
+/// Its type.
 const CDR_TYPE: u32 = 1;
-
+/// Its bytes, with the Copyright.
 const CDR_SIZE: u64 = 312;
 
 /// Whether the record is one of its type that ends within the file.
@@ -31,7 +32,8 @@ fn is_cdr<A: Area>(area: &A, cdr: &Cdr) -> bool
     is_record(
         area,
         CDR_PLACE,
-        (record_type, cdr.record_size),
+        record_type,
+        cdr.record_size,
         CDR_TYPE,
         CDR_SIZE,
     )
@@ -45,6 +47,16 @@ fn is_version_3<A: Area>(area: &A, cdr: &Cdr) -> bool
     ensures { result ≡ (version (A.image area.now) == 3) }
 {
     unsigned(area, CDR_PLACE + 20, cdr.version) == 3
+}
+
+/// Whether the values of the file are in an encoding that is read.
+#[tactic(auto, using(cdf_records::proofs::Places::word4_fits))]
+fn has_encoding<A: Area>(_area: &A, cdr: &Cdr) -> bool
+    requires fields { cdr.now ≡ cdr_at (A.image _area.now) 8 }
+    requires bytes { AreBytes (A.image _area.now) 8 56 }
+    ensures { result ≡ is_some (encoding_at (encoding (A.image _area.now))) }
+{
+    Encoding::of_code(cdr.encoding).is_some()
 }
 
 /// The rules on the fields of the CDF Descriptor Record.
@@ -61,7 +73,7 @@ fn check_fields<A: Area>(area: &A, cdr: &Cdr) -> Option<Broken>
     if !is_version_3(area, cdr) {
         return Some(Broken { rule: 3, place });
     }
-    if Encoding::of_code(cdr.encoding).is_none() {
+    if !has_encoding(area, cdr) {
         return Some(Broken { rule: 4, place });
     }
     if !has_bit(cdr.flags, SINGLE_FILE) {

@@ -1,9 +1,10 @@
-ghost use Rattle.std.specs.Prelude.{◌≡◌, ◌+◌, ◌*◌, ◌≤◌, ◌==◌, ◌&&◌, length, IfOk, IsTrue};
+ghost use Rattle.std.specs.Prelude.{◌≡◌, ◌+◌, ◌≤◌, ◌==◌, ◌&&◌, length, nat_le, if◌then◌else◌, IfOk, IsTrue};
+ghost use Rattle.std.specs.Int.{w64, cast_signed};
 ghost use Rattle.std.specs.List.{list_all};
 ghost use Rattle.cdf_base.specs.Causes.{HasCauseOf};
-ghost use Rattle.cdf_format.specs.Fields.{r_dimensions, r_sizes, gdr_offset};
-ghost use Rattle.cdf_format.specs.Sealed.{trailer_length};
-ghost use Rattle.cdf_format.specs.WellFormed.{phase3, has_gdr, gdr_rows, is_gdr, is_size, is_bare, no_links, no_counts};
+ghost use Rattle.cdf_model.specs.Limits.{image_limit};
+ghost use Rattle.cdf_format.specs.Fields.{counted, has_bit, r_sizes};
+ghost use Rattle.cdf_format.specs.WellFormed.{phase3, has_gdr, gdr_rows, is_gdr, is_size, is_bare, no_counts};
 ghost use Rattle.cdf_records.specs.Heads.{cdr_at, gdr_at};
 ghost use Rattle.cdf_records.specs.Pieces.{AreBytes};
 ghost use Rattle.cdf_check.specs.Verdicts.{Finds};
@@ -15,17 +16,17 @@ use cdf_area::{Area, AreaError};
 use cdf_records::{Cdr, Gdr, read_cdr, read_gdr, read_nums};
 use std::alloc::Global;
 
-/// The type of the Global Descriptor Record, and its size without the sizes of the dimensions.
+/// The type of the Global Descriptor Record.
 const GDR_TYPE: u32 = 2;
-
+/// Its bytes before the sizes of the dimensions.
 const GDR_SIZE: u64 = 84;
-
+/// The most dimensions that r variables share.
 const MOST_DIMENSIONS: u32 = 10;
 /// The greatest number of 4 bytes with a sign.
 const LARGEST_SIZE: u32 = 2_147_483_647;
-
-const LONGEST_IMAGE: u64 = 1_073_741_824;
-/// The length of the checksum.
+/// The most bytes of an image.
+const IMAGE_LIMIT: i64 = 1_073_741_824;
+/// The bytes of a checksum.
 const DIGEST_LENGTH: u64 = 16;
 
 /// Whether the record is one of its type that ends within the file, with room for the sizes of its dimensions.
@@ -45,7 +46,8 @@ fn is_gdr<A: Area>(area: &A, place: u64, gdr: &Gdr) -> bool
     is_record(
         area,
         place,
-        (record_type, gdr.record_size),
+        record_type,
+        gdr.record_size,
         GDR_TYPE,
         GDR_SIZE + 4 * u64::from(dimensions),
     )
@@ -58,22 +60,27 @@ fn are_sizes(sizes: &[u32]) -> bool
     sizes.iter().all(|size| *size >= 1 && *size <= LARGEST_SIZE)
 }
 
-/// How many bytes stand after the image.
-fn trailer_length<A: Area>(area: &A, cdr: &Cdr) -> u64
-    requires { cdr.now ≡ cdr_at (A.image area.now) 8 }
-    ensures { result ≡ trailer_length (A.image area.now) }
+/// How many bytes stand after the image of a file with these Flags.
+fn trailer_length(flags: u32) -> u64
+    ensures { result ≡ (if has_bit flags 2 then 16 else 0) }
 {
-    if has_bit(cdr.flags, CHECKSUM) {
+    if has_bit(flags, CHECKSUM) {
         DIGEST_LENGTH
     } else {
         0
     }
 }
 
+/// Whether the eof of an image, which has a sign, is in the limit.
+fn is_in_limit(eof: u64) -> bool
+    ensures { result ≡ nat_le (counted (cast_signed w64 eof)) image_limit }
+{
+    eof.cast_signed() <= IMAGE_LIMIT
+}
+
 /// Whether no chain begins in the record.
-fn has_no_links<A: Area>(area: &A, place: u64, gdr: &Gdr) -> bool
-    requires { gdr.now ≡ gdr_at (A.image area.now) place }
-    ensures { result ≡ no_links (A.image area.now) place }
+fn has_no_links(gdr: &Gdr) -> bool
+    ensures { result ≡ ((gdr.now.r_vdr_head == 0) && ((gdr.now.z_vdr_head == 0) && ((gdr.now.adr_head == 0) && (gdr.now.uir_head == 0)))) }
 {
     gdr.r_vdr_head == 0 && gdr.z_vdr_head == 0 && gdr.adr_head == 0 && gdr.uir_head == 0
 }
@@ -106,7 +113,7 @@ fn is_bare<A: Area>(area: &A, cdr: &Cdr, place: u64, gdr: &Gdr) -> bool
     if cdr.record_size != before || gdr.record_size != rest {
         return false;
     }
-    if !has_no_links(area, place, gdr) {
+    if !has_no_links(gdr) {
         return false;
     }
     has_no_counts(area, place, gdr)
@@ -155,10 +162,10 @@ fn check_at<A: Area>(
     if !check_sizes(alloc, area, place, &gdr)? {
         return Ok(Some(Broken { rule: 3, place }));
     }
-    if gdr.eof != area.size() - trailer_length(area, cdr) {
+    if gdr.eof != area.size() - trailer_length(cdr.flags) {
         return Ok(Some(Broken { rule: 4, place }));
     }
-    if gdr.eof > LONGEST_IMAGE {
+    if !is_in_limit(gdr.eof) {
         return Ok(Some(Broken { rule: 5, place }));
     }
     if !is_bare(area, cdr, place, &gdr) {

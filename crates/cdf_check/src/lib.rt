@@ -10,3 +10,6 @@ mod verdict;
 
 pub use validator::check;
 pub use verdict::Verdict;
+
+#[cfg(test)]
+mod tests;

@@ -7,7 +7,7 @@ ghost use Rattle.cdf_check.specs.Verdicts.{Finds};
 use crate::verdict::Broken;
 use cdf_area::{Area, AreaError};
 
-/// The bytes of the two magic numbers.
+/// The bytes of both magic numbers.
 const MAGIC_LENGTH: u64 = 8;
 /// The longest image, and the checksum after it.
 const LONGEST_FILE: u64 = 1_073_741_824 + 16;
