@@ -1,0 +1,14 @@
+//! The lines of a script that comes in pieces, and what a line asks for.
+#![tactic(auto)]
+
+mod laws;
+mod line;
+mod lines;
+mod parse;
+mod split;
+mod text;
+
+pub use laws::{last_line_counts, pieces_join, rest_grows, whole_lines_grow};
+pub use line::Line;
+pub use lines::Lines;
+pub use parse::{ParseError, Parsed, parse_line};
