@@ -1,5 +1,5 @@
 -- A script that comes in pieces: what is known of it and was not handed on.
-use Rattle.std.specs.Prelude.{◌≡◌, ℕ, ◌+◌, List, [], ◌∷◌, ◌++◌, ◌<◌, ◌≤◌, ◌^◌, length, map, Bool, true, false, if◌then◌else◌, Some, None}
+use Rattle.std.specs.Prelude.{◌≡◌, ℕ, ◌+◌, List, [], ◌∷◌, ◌++◌, map, Bool, true, false, if◌then◌else◌, Some, None}
 use Rattle.std.specs.declared.option.Option.{Option}
 use Rattle.cdf_model.specs.Lines.{split, kept}
 use Rattle.cdf_script.specs.declared.line.Line.{Line}
@@ -61,12 +61,3 @@ pub record GivesLine (old : Pending) (line : Line) (new : Pending) : Type 0 wher
   pub number : line.number ≡ old.given + 1
   pub no_text : line.long ≡ true → line.text ≡ []
   pub counted : new ≡ record old { given = old.given + 1; ready = new.ready }
-
--- what end_lines makes: a line that goes on from the rest, and the lines of the other bytes
-abbrev pub ended : Pending → List ℕ → List ℕ → Pending
-ended p first others = record p { ready = p.ready ++ grown p.rest first ∷ map kept (split others).0; rest = kept (split others).1 }
-
--- each line that waits has a number and a place, and the one has that may end yet
-pub record HasRoom (given waiting : ℕ) (rest : Option (List ℕ)) (room : ℕ) : Type 0 where
-  pub numbers : given + waiting + length (last_of rest) < 2 ^ 64
-  pub places : waiting + length (last_of rest) ≤ room

@@ -7,6 +7,7 @@ mod lines;
 mod parse;
 mod split;
 mod text;
+mod waiting;
 
 pub use laws::{last_line_counts, pieces_join, rest_grows, whole_lines_grow};
 pub use line::Line;

@@ -12,14 +12,15 @@ pub struct Text {
 }
 
 impl Model for Text {
-    ghost use Rattle.std.specs.Prelude.{◌≡◌, ℕ, List, [], true, Some, None, if◌then◌else◌};
+    ghost use Rattle.cdf_model.specs.Lines.{line_limit};
+    ghost use Rattle.std.specs.Prelude.{◌≡◌, ◌≤◌, ℕ, List, [], length, true, Some, None, if◌then◌else◌};
     ghost use Rattle.std.specs.declared.option.Option.{Option};
 
     ghost Value = { Option (List ℕ) };
 
     ghost view = { λ text. if text.long then None else Some text.bytes.items };
 
-    ghost invariant = { λ text. text.long ≡ true → text.bytes.items ≡ [] };
+    ghost invariant = { λ text. (text.long ≡ true → text.bytes.items ≡ []) × (length text.bytes.items ≤ line_limit) };
 }
 
 impl Text {
@@ -69,11 +70,12 @@ impl Text {
         if self.long {
             return Ok(());
         }
-        if more.len() > LINE_LIMIT.saturating_sub(self.bytes.len()) {
+        if more.len() > LINE_LIMIT - self.bytes.len() {
             *self = Text::too_long(alloc);
             return Ok(());
         }
-        self.bytes.extend_from_slice(more)
+        self.bytes.extend_from_slice(more)?;
+        Ok(())
     }
 
     pub fn into_line(self, number: u64) -> Line
