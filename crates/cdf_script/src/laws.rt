@@ -1,3 +1,5 @@
+//! What follows from the definitions, each law as the clause of a function: whatever the pieces of a script, its lines are those of the bytes joined.
+
 ghost use Rattle.std.specs.Prelude.{◌≡◌, ℕ, List, ◌++◌};
 ghost use Rattle.cdf_model.specs.Lines.{kept, lines, split, whole_lines};
 ghost use Rattle.cdf_script.specs.Pending.{Pending, fed, last_of, new_lines, new_rest};

@@ -1,7 +1,7 @@
 //! The lines of a script that comes in pieces, and what a line asks for.
 #![tactic(auto)]
 
-mod laws;
+pub mod laws;
 mod line;
 mod lines;
 mod parse;
@@ -9,7 +9,9 @@ mod split;
 mod text;
 mod waiting;
 
-pub use laws::{last_line_counts, pieces_join, rest_grows, whole_lines_grow};
 pub use line::Line;
 pub use lines::Lines;
 pub use parse::{ParseError, Parsed, parse_line};
+
+#[cfg(test)]
+mod tests;

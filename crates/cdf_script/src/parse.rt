@@ -1,6 +1,6 @@
-ghost use Rattle.std.specs.Prelude.{◌≡◌, ◌↔◌, Some, IsTrue};
+ghost use Rattle.std.specs.Prelude.{◌≡◌};
 ghost use Rattle.cdf_model.specs.Grammar.{parse};
-ghost use Rattle.cdf_model.specs.Lines.{kept, is_blank as blank_line, line_limit};
+ghost use Rattle.cdf_model.specs.Lines.{kept, is_blank as blank_line};
 ghost use Rattle.cdf_script.specs.Asking.{Parses};
 
 use cdf_model::{Command, LineError};

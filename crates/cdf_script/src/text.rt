@@ -12,7 +12,7 @@ pub struct Text {
 }
 
 impl Model for Text {
-    ghost use Rattle.cdf_model.specs.Lines.{line_limit};
+    ghost use Rattle.cdf_model.specs.Limits.{line_limit};
     ghost use Rattle.std.specs.Prelude.{◌≡◌, ◌≤◌, ℕ, List, [], length, true, Some, None, if◌then◌else◌};
     ghost use Rattle.std.specs.declared.option.Option.{Option};
 
