@@ -4,13 +4,8 @@ use Rattle.std.proofs.lemmas.List.{map-append}
 use Rattle.std.proofs.lemmas.Bool.Decides.{nat_tests}
 use Rattle.std.specs.Prelude.{◌==◌, nat_le, Some, None}
 use Rattle.std.specs.declared.option.Option.{Option}
-<<<<<<< HEAD
-use Rattle.cdf_model.specs.Lines.{in_front, split, last_line, kept, whole_lines, lines}
-use Rattle.cdf_model.specs.Limits.{line_limit}
-=======
 use Rattle.cdf_model.specs.Limits.{line_limit}
 use Rattle.cdf_model.specs.Lines.{in_front, split, last_line, kept, whole_lines, lines}
->>>>>>> 08724220b02ce72a9bb5e235caf1c71b4d40cd2a
 use Rattle.cdf_script.specs.Pending.{Pending, grown, lines_ended, rest_left, new_lines, new_rest, fed, last_of}
 
 -- the parts of a text behind those of another

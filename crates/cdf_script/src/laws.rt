@@ -1,8 +1,5 @@
-<<<<<<< HEAD
-=======
 //! What follows from the definitions, each law as the clause of a function: whatever the pieces of a script, its lines are those of the bytes joined.
 
->>>>>>> 08724220b02ce72a9bb5e235caf1c71b4d40cd2a
 ghost use Rattle.std.specs.Prelude.{◌≡◌, ℕ, List, ◌++◌};
 ghost use Rattle.cdf_model.specs.Lines.{kept, lines, split, whole_lines};
 ghost use Rattle.cdf_script.specs.Pending.{Pending, fed, last_of, new_lines, new_rest};

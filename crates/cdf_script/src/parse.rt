@@ -1,13 +1,6 @@
-<<<<<<< HEAD
-ghost use Rattle.std.specs.Prelude.{◌≡◌, ◌↔◌, Some, IsTrue};
-ghost use Rattle.cdf_model.specs.Grammar.{parse};
-ghost use Rattle.cdf_model.specs.Lines.{kept, is_blank as blank_line};
-ghost use Rattle.cdf_model.specs.Limits.{line_limit};
-=======
 ghost use Rattle.std.specs.Prelude.{◌≡◌};
 ghost use Rattle.cdf_model.specs.Grammar.{parse};
 ghost use Rattle.cdf_model.specs.Lines.{kept, is_blank as blank_line};
->>>>>>> 08724220b02ce72a9bb5e235caf1c71b4d40cd2a
 ghost use Rattle.cdf_script.specs.Asking.{Parses};
 
 use cdf_model::{Command, LineError};
