@@ -5,6 +5,7 @@ use Rattle.std.specs.List.{flat_map}
 use Rattle.cdf_script.specs.declared.waiting.Waiting.{Waiting}
 use Rattle.cdf_script.specs.Pending.{last_of}
 
+-- so many empty lines
 abbrev pub empty_lines : ℕ → List (Option (List ℕ))
 empty_lines count = replicate count (Some [])
 
