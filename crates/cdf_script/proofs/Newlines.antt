@@ -1,14 +1,14 @@
 -- A text is split at its newlines.
-use Rattle.std.proofs.Common.{◌≡◌, ℕ, zero, suc, ◌+◌, ◌-◌, ◌<◌, ◌≤◌, Bool, true, false, cond, List, [], ◌∷◌, ◌++◌, length, take, drop, refl, sym, ◌∙◌, ap, arith, add-one, inl, inr}
+use Rattle.std.proofs.Common.{◌≡◌, ℕ, zero, suc, ◌+◌, ◌-◌, ◌<◌, ◌≤◌, true, false, List, [], ◌∷◌, ◌++◌, length, take, drop, refl, arith, add-one, inl, inr}
 use Rattle.std.proofs.lemmas.Bool.{cases_eq}
 use Rattle.std.proofs.lemmas.Bool.Decides.{nat_tests}
 use Rattle.std.proofs.lemmas.List.{take_all, length-drop, length-take-le}
 use Rattle.std.proofs.Math.Seq.{drop-length}
 use Rattle.std.proofs.lemmas.List.Sums.{prefix_len-le-length}
 use Rattle.std.proofs.lemmas.Grind.{common_steps}
-use Rattle.std.specs.Prelude.{◌==◌, Some, None, not, nat_lt, position, replicate}
-use Rattle.std.specs.List.{position_or_len, prefix_len}
-use Rattle.cdf_model.specs.Lines.{in_front, split}
+use Rattle.std.specs.Prelude.{◌==◌, Some, None, not, position, replicate}
+use Rattle.std.specs.List.{position_or_len}
+use Rattle.cdf_model.specs.Lines.{split}
 use Rattle.cdf_script.specs.Parts.{FirstLine, EmptyLines}
 
 -- the place of the first newline, or the length

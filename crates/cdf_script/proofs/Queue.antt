@@ -1,7 +1,7 @@
 -- The lines that a piece adds, as they wait.
 use Rattle.std.proofs.Common.{◌≡◌, ℕ, zero, suc, ◌+◌, ◌≤◌, Bool, true, false, cond, List, [], ◌∷◌, ◌++◌, map, length, length-append, append_assoc, append-nil, refl, sym, ◌∙◌, ap, arith}
 use Rattle.std.proofs.lemmas.List.{map-append, length-map, length-replicate}
-use Rattle.std.proofs.lemmas.Grind.{flat_map-append, common_steps}
+use Rattle.std.proofs.lemmas.Grind.{flat_map-append}
 use Rattle.std.specs.Prelude.{◌==◌, Some, None, replicate}
 use Rattle.std.specs.List.{flat_map}
 use Rattle.std.specs.declared.option.Option.{Option}
@@ -9,8 +9,8 @@ use Rattle.cdf_model.specs.Lines.{in_front, split, kept, whole_lines, last_line}
 use Rattle.cdf_script.proofs.Pieces.{kept-last_line}
 use Rattle.cdf_script.specs.declared.waiting.Waiting.{Waiting}
 use Rattle.cdf_script.specs.Parts.{FirstLine, EmptyLines}
-use Rattle.cdf_script.specs.Pending.{Pending, fed, grown, new_lines, new_rest, lines_ended, rest_left, last_of}
-use Rattle.cdf_script.specs.Waiting.{empty_lines, lines_of, HasRoom}
+use Rattle.cdf_script.specs.Pending.{fed, grown, new_lines, new_rest, last_of}
+use Rattle.cdf_script.specs.Waiting.{empty_lines, lines_of, ready_of, HasRoom}
 
 -- one more that waits
 pub waiting-push : (ws : List Waiting) (w : Waiting) → flat_map lines_of (ws ++ w ∷ []) ≡ flat_map lines_of ws ++ lines_of w
@@ -70,36 +70,31 @@ pub record Adds (old added new : List Waiting) (rest : Option (List ℕ)) (line 
   pub left_is : left ≡ kept (split behind).1
 
 module _ {piece line others : List ℕ} (first : FirstLine piece line others) {count : ℕ} {behind : List ℕ} (empties : EmptyLines others count behind)
-    {old added new : List Waiting} {rest left : Option (List ℕ)} (adds : Adds old added new rest line count behind left) (given next : ℕ) (over : Bool) where
-  abbrev before : Pending
-  before = record { given = given; ready = empty_lines next ++ flat_map lines_of old; rest = rest; over = over }
-
-  abbrev after : Pending
-  after = record { given = given; ready = empty_lines next ++ flat_map lines_of new; rest = left; over = over }
-
+    {old added new : List Waiting} {rest left : Option (List ℕ)} (adds : Adds old added new rest line count behind left) (next : ℕ) where
   new_lines_are : new_lines rest piece ≡ lines_of (record { text = grown rest line; empties = count }) ++ whole_lines behind
   new_lines_are = new_lines-first first empties rest
 
-  ready_is : flat_map lines_of new ≡ flat_map lines_of old ++ new_lines rest piece
-  ready_is =
+  waiting_are : flat_map lines_of new ≡ flat_map lines_of old ++ new_lines rest piece
+  waiting_are =
       rw (adds.all, flat_map-append lines_of (old ++ record { text = grown rest line; empties = count } ∷ []) added, waiting-push old (record { text = grown rest line; empties = count }), adds.others, new_lines_are)
       (append_assoc (flat_map lines_of old) (lines_of (record { text = grown rest line; empties = count })) (whole_lines behind))
 
-  pub fed_is : after ≡ fed before piece
-  fed_is = λ i. record before {
-    ready = (ap (λ (ls : List (Option (List ℕ))). empty_lines next ++ ls) ready_is ∙ sym (append_assoc (empty_lines next) (flat_map lines_of old) (new_lines rest piece))) i;
-    rest = (adds.left_is ∙ sym (new_rest-first first empties rest)) i;
-  }
+  ready_are : ready_of next new ≡ ready_of next old ++ new_lines rest piece
+  ready_are = ap (λ (ls : List (Option (List ℕ))). empty_lines next ++ ls) waiting_are ∙ sym (append_assoc (empty_lines next) (flat_map lines_of old) (new_lines rest piece))
 
-  more : length (flat_map lines_of new) ≡ length (flat_map lines_of old) + (1 + count + length (whole_lines behind))
-  more = rw (ready_is, new_lines_are) (simp (length-append, length-replicate) (omega arith))
+  left_is : left ≡ new_rest rest piece
+  left_is = adds.left_is ∙ sym (new_rest-first first empties rest)
 
-  pub room_left : (taken taken' places room : ℕ) → given + length before.ready + length (last_of rest) ≤ taken → taken' ≡ taken + length piece → places + 1 ≤ room → HasRoom after taken' places room
-  room_left taken taken' places room bytes later some =
-      let was : length before.ready ≡ next + length (flat_map lines_of old) = simp (length-append, length-replicate) in
-      let is : length after.ready ≡ next + length (flat_map lines_of new) = simp (length-append, length-replicate) in
+  pub fed_is : (given : ℕ) (over : Bool) → record { given = given; ready = ready_of next new; rest = left; over = over } ≡ fed (record { given = given; ready = ready_of next old; rest = rest; over = over }) piece
+  fed_is given over = λ i. record { given = given; ready = ready_are i; rest = left_is i; over = over }
+
+  more : length (ready_of next new) ≡ length (ready_of next old) + (1 + count + length (whole_lines behind))
+  more = rw (ready_are, new_lines_are) (simp (length-append, length-replicate) (omega arith))
+
+  pub room_left : (given taken taken' places room : ℕ) → given + length (ready_of next old) + length (last_of rest) ≤ taken → taken' ≡ taken + length piece → places + 1 ≤ room → HasRoom given (ready_of next new) left taken' places room
+  room_left given taken taken' places room bytes later some =
       let last : length (last_of left) ≡ length (last_of (kept (split behind).1)) = ap (λ (l : Option (List ℕ)). length (last_of l)) adds.left_is in
       record {
         places = omega (arith, last_of-one left);
-        bytes = omega (arith, more, was, is, last, count-lines behind, first.sizes, empties.sizes);
+        bytes = omega (arith, more, last, count-lines behind, first.sizes, empties.sizes);
       }

@@ -38,6 +38,7 @@ new_rest rest piece = rest_left rest (split piece).0 (split piece).1
 abbrev pub nothing_fed : Pending
 nothing_fed = record { given = 0; ready = []; rest = Some []; over = false }
 
+-- after a further piece
 abbrev pub fed : Pending → List ℕ → Pending
 fed p piece = record p { ready = p.ready ++ new_lines p.rest piece; rest = new_rest p.rest piece }
 
@@ -47,7 +48,7 @@ last_of None = None ∷ []
 last_of (Some []) = []
 last_of (Some (b ∷ line)) = Some (b ∷ line) ∷ []
 
--- once no piece comes any more
+-- after the last piece
 abbrev pub finished : Pending → Pending
 finished p = record p { ready = p.ready ++ last_of p.rest; rest = Some []; over = true }
 

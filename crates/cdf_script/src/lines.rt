@@ -1,3 +1,8 @@
+ghost use Rattle.std.specs.Prelude.{◌≡◌, ◌++◌, OnOk, IfOk};
+ghost use Rattle.std.specs.List.{flat_map};
+ghost use Rattle.cdf_model.specs.Lines.{kept, split, whole_lines};
+ghost use Rattle.cdf_script.specs.Waiting.{lines_of};
+
 use crate::line::Line;
 use crate::split::{empty_lines, first_line};
 use crate::text::Text;
@@ -22,17 +27,15 @@ pub struct Lines {
 }
 
 impl Model for Lines {
-    ghost use Rattle.std.specs.Prelude.{◌++◌};
-    ghost use Rattle.std.specs.List.{flat_map};
     ghost use Rattle.std.specs.VecDeque.{deque_len, deque_capacity};
     ghost use Rattle.cdf_script.specs.Pending.{Pending};
-    ghost use Rattle.cdf_script.specs.Waiting.{empty_lines, lines_of, HasRoom};
+    ghost use Rattle.cdf_script.specs.Waiting.{ready_of, HasRoom};
 
     ghost Value = { Pending };
 
-    ghost view = { λ l. record { given = l.given; ready = empty_lines l.empties ++ flat_map lines_of l.waiting.items; rest = l.rest; over = l.over } };
+    ghost view = { λ l. record { given = l.given; ready = ready_of l.empties l.waiting.items; rest = l.rest; over = l.over } };
 
-    ghost invariant = { λ l. HasRoom (record { given = l.given; ready = empty_lines l.empties ++ flat_map lines_of l.waiting.items; rest = l.rest; over = l.over }) l.taken (deque_len l.waiting) (deque_capacity l.waiting) };
+    ghost invariant = { λ l. HasRoom l.given (ready_of l.empties l.waiting.items) l.rest l.taken (deque_len l.waiting) (deque_capacity l.waiting) };
 }
 
 impl Lines {
@@ -53,7 +56,8 @@ impl Lines {
         }
     }
 
-    /// Takes the next bytes of the script.
+    /// Takes the next bytes of the script. The room of each line that has ended, and of the one that `finish` may end, is made here, so that neither
+    /// `finish` nor `next_line` takes memory.
     pub fn feed(&mut self, piece: &[u8]) -> Result<(), AllocError>
         requires { self.old.over ≡ false }
         ensures ok { OnOk result (self.new ≡ fed self.old piece.now) }
@@ -73,6 +77,7 @@ impl Lines {
         let rest = push_lines(self.alloc, &mut lines, others)?;
         self.waiting.reserve(lines.len() + 2)?;
         self.rest.append(self.alloc, line)?;
+        // Nothing fails from here on: there is room.
         let text = mem::replace(&mut self.rest, rest);
         self.waiting.push_back_reserved(Waiting { text, empties });
         self.waiting.append(&mut lines)?;
@@ -109,11 +114,6 @@ impl Lines {
         Some(waiting.text.into_line(self.given))
     }
 }
-
-ghost use Rattle.std.specs.Prelude.{◌≡◌, ◌++◌, OnOk, IfOk};
-ghost use Rattle.std.specs.List.{flat_map};
-ghost use Rattle.cdf_model.specs.Lines.{kept, split, whole_lines};
-ghost use Rattle.cdf_script.specs.Waiting.{lines_of};
 
 /// The lines of a text behind those that wait. The answer is what stands after the last newline.
 fn push_lines(

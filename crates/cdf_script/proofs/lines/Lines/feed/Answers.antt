@@ -1,4 +1,4 @@
-use Rattle.std.proofs.Common.{arith, refl, rules}
+use Rattle.std.proofs.Common.{arith, rules}
 use Rattle.cdf_script.proofs.Queue.{Adds, fed_is, room_left}
 use Rattle.cdf_script.proofs.lines.Lines.feed.Goals as goal
 
@@ -10,7 +10,7 @@ adds c = record {
 }
 
 pub invariant_of-self-2 : goal.invariant_of-self-2
-invariant_of-self-2 c = room_left c.in-Some-first_line.ensures.first c.empty_lines-empties.ensures (adds c) _ _ _ _ _ _ _ c.self.invariant.bytes
+invariant_of-self-2 c = room_left c.in-Some-first_line.ensures.first c.empty_lines-empties.ensures (adds c) _ _ _ _ _ _ c.self.invariant.bytes
     (search rules) (omega (arith, c.in_ok-append-3.ensures.len, c.in_ok-reserve-2.ensures.ok, c.in_ok-reserve-2.ensures.len))
 
 pub returns-clause-ok : goal.returns-clause-ok
