@@ -1,7 +1,7 @@
 -- What is kept leads back to the base.
 use Rattle.std.proofs.Common.{◌≡◌, ◌∙◌, ℕ, ◌+◌, ◌-◌, ◌≤◌, ◌<◌, List, [], ◌∷◌, ◌++◌, length, take, drop, min, sym, refl, ap, ap₂, arith, inl, inr}
 use Rattle.std.proofs.lemmas.Bool.{cases_lt}
-use Rattle.std.proofs.lemmas.List.{take-take, drop-take, length-take-le, length-drop}
+use Rattle.std.proofs.lemmas.List.{take-take, drop-take, length-take-le, length-drop, nil_from_length}
 use Rattle.cdf_base.specs.Bytes.{put}
 use Rattle.cdf_base.proofs.Puts.{take-put, drop-put, put_own}
 use Rattle.cdf_area.specs.OldBytes.{Old, back}
@@ -18,9 +18,13 @@ drop-take_past k m bytes le =
     let e : m ≡ k + (m - k) = omega arith in
     ap (λ n. drop k (take n bytes)) e ∙ drop-take k (m - k) bytes
 
--- a write past the marked bytes leaves them
-pub take-put_past : (bytes : List ℕ) (place : ℕ) (xs : List ℕ) (m : ℕ) → place ≤ length bytes → m ≤ place → take m (put bytes place xs) ≡ take m bytes
-take-put_past bytes place xs m inside past = sym (take-take m place (put bytes place xs) past) ∙ ap (take m) (take-put bytes place xs inside) ∙ take-take m place bytes past
+-- a write of nothing, or past the marked bytes, leaves them
+pub take-put_past : (bytes : List ℕ) (place : ℕ) (xs : List ℕ) (m : ℕ) → place + length xs ≤ length bytes → min m (place + length xs) ≤ place → take m (put bytes place xs) ≡ take m bytes
+take-put_past bytes place xs m inside past =
+    elim (cases_lt place m) as (λ _. take m (put bytes place xs) ≡ take m bytes) [
+      | inl below ↦ let none : xs ≡ [] = nil_from_length xs (omega arith) in rw none (ap (take m) (put_own bytes place 0 (omega arith)))
+      | inr past ↦ sym (take-take m place (put bytes place xs) past) ∙ ap (take m) (take-put bytes place xs (omega arith)) ∙ take-take m place bytes past
+    ]
 
 -- past what was kept, a write leaves the marked bytes
 rest-put : (bytes : List ℕ) (place : ℕ) (xs : List ℕ) (m k : ℕ) → place + length xs ≤ length bytes → place < m → k ≡ min m (place + length xs) → drop k (take m (put bytes place xs)) ≡ drop k (take m bytes)

@@ -17,8 +17,8 @@ pub struct Mark {
 
 /// An area in memory.
 ///
-/// While there is a mark, old bytes are kept before each write, each with two numbers a write; bytes that were appended
-/// since the mark are not. So to go back costs what was written, and takes no memory.
+/// While there is a mark, the old bytes of each write are kept before it, with its place and length. Bytes that were
+/// appended since the mark are not kept. So going back takes no memory, and costs in proportion to what was written.
 #[derive(Drop)]
 pub struct MemArea {
     alloc: Global,
@@ -45,7 +45,7 @@ impl MemArea {
         }
     }
 
-    /// The bytes of the image.
+    /// The bytes of the image, whether or not there is a mark.
     pub fn into_bytes(self) -> Vec<u8>
         ensures { result.items ≡ ⟦<MemArea as Area>⟧.image self }
     {
@@ -64,8 +64,8 @@ impl Mark {
         ensures base { OnOk result (base_at self.new (put bytes.now place written.now) ≡ base_at self.old bytes.now) }
         ensures stays { OnErr result (self.new ≡ self.old) }
     {
-        if place < self.size {
-            let end = self.size.min(place + written.len());
+        let end = self.size.min(place + written.len());
+        if place < end {
             self.log.push(place, &bytes[place..end])?;
         }
         Ok(())
@@ -119,8 +119,8 @@ impl Area for MemArea {
     }
 
     fn get(&mut self, place: u64, out: &mut [u8]) -> Result<(), AreaError>
-        requires { place + length out.old ≤ length self.old.bytes.items }
-        ensures bytes { out.new ≡ take (length out.new) (drop place self.old.bytes.items) }
+        requires { place + length out.old ≤ length (⟦<MemArea as Area>⟧.image self.old) }
+        ensures bytes { out.new ≡ take (length out.new) (drop place (⟦<MemArea as Area>⟧.image self.old)) }
         ensures ok { IsOk result }
         ensures same { self.new ≡ self.old }
     {
@@ -148,6 +148,7 @@ impl Area for MemArea {
         self.bytes.truncate(size);
     }
 
+    #[tactic(auto, using(std::proofs::lemmas::List::take_all), unfolding(crate::specs::OldBytes::back))]
     fn mark(&mut self) {
         self.marked = Some(Mark {
             size: self.bytes.len(),

@@ -1,4 +1,4 @@
-use Rattle.std.proofs.Common.{rules, ◌≡◌, ◌∙◌, ◌++◌, ◌∷◌, [], ap, ap₂, sym, List, ℕ, length}
+use Rattle.std.proofs.Common.{rules, ◌≡◌, ◌∙◌, ◌++◌, ◌∷◌, [], ap, ap₂, List, length}
 use Rattle.cdf_area.specs.declared.undo_log.Span.{Span}
 use Rattle.cdf_area.specs.OldBytes.{Old, olds_of}
 use Rattle.cdf_area.proofs.Olds.{olds_of-push}

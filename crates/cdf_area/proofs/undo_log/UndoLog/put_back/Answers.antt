@@ -1,6 +1,6 @@
-use Rattle.std.proofs.Common.{rules, ◌≡◌, ◌∙◌, ◌-◌, [], ap, sym, subst, length, ℕ}
-use Rattle.cdf_area.specs.OldBytes.{AllLieBelow, back, olds_of}
-use Rattle.cdf_area.proofs.Olds.{olds_of-pop, total}
+use Rattle.std.proofs.Common.{rules, ◌≡◌, ◌∙◌, ◌-◌, [], ap, sym, length}
+use Rattle.cdf_area.specs.OldBytes.{back, olds_of}
+use Rattle.cdf_area.proofs.Olds.{olds_of-pop}
 use Rattle.cdf_area.proofs.undo_log.UndoLog.put_back.Goals as goal
 
 pub put_bytes-requires : goal.put_bytes-requires
