@@ -9,3 +9,4 @@ pub mod Lines
 pub mod Grammar
 pub mod Texts
 pub mod Run
+pub mod RunLengths
