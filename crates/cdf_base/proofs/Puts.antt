@@ -25,7 +25,7 @@ pub put-put : (b : List ℕ) (place : ℕ) (xs ys : List ℕ) → place + length
 unfolding put
 put-put b place xs ys h same =
     ap₂ (λ (u v : List ℕ). u ++ (ys ++ v)) (take-put b place xs (omega arith))
-        (ap (λ n. drop (place + n) (put b place xs)) same ∙ drop-put b place xs h ∙ ap (λ n. drop (place + n) b) (sym same))
+    (ap (λ n. drop (place + n) (put b place xs)) same ∙ drop-put b place xs h ∙ ap (λ n. drop (place + n) b) (sym same))
 
 -- what stands there already
 pub put_own : (b : List ℕ) (place n : ℕ) → place + n ≤ length b → put b place (take n (drop place b)) ≡ b
@@ -77,11 +77,11 @@ put_more b xs ys place h =
     let whole : take place b ++ (xs ++ tail) ≡ head ++ tail = sym (append_assoc (take place b) xs tail) in
     let front : take (place + length xs) (take place b ++ (xs ++ tail)) ≡ head = ap (take (place + length xs)) whole ∙ take_at head tail (place + length xs) long in
     let rest : drop (place + length xs + length ys) (take place b ++ (xs ++ tail)) ≡ drop (place + length (xs ++ ys)) b =
-        sym (drop-drop (length ys) (place + length xs) (take place b ++ (xs ++ tail)))
-        ∙ ap (λ (l : List ℕ). drop (length ys) (drop (place + length xs) l)) whole
-        ∙ ap (drop (length ys)) (drop_at head tail (place + length xs) long)
-        ∙ drop-drop (length ys) (place + length xs) b
-        ∙ ap (λ n. drop n b) (omega (arith, length-append xs ys)) in
+    sym (drop-drop (length ys) (place + length xs) (take place b ++ (xs ++ tail)))
+    ∙ ap (λ (l : List ℕ). drop (length ys) (drop (place + length xs) l)) whole
+    ∙ ap (drop (length ys)) (drop_at head tail (place + length xs) long)
+    ∙ drop-drop (length ys) (place + length xs) b
+    ∙ ap (λ n. drop n b) (omega (arith, length-append xs ys)) in
     ap₂ (λ (u v : List ℕ). u ++ (ys ++ v)) front rest
     ∙ append_assoc (take place b) xs (ys ++ drop (place + length (xs ++ ys)) b)
     ∙ ap (λ (l : List ℕ). take place b ++ l) (sym (append_assoc xs ys (drop (place + length (xs ++ ys)) b)))

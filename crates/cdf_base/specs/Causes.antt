@@ -1,7 +1,7 @@
--- A device counts its faults, and answers one only where its count rose in the call.
+-- A device counts its faults in 64 bits, and answers one only where its count rose in the call, or stands at its last value.
 use Rattle.std.specs.Prelude.{ℕ, ◌+◌, ◌-◌, ◌^◌, ◌≤◌, min, Result, OnErr, IsErrOf}
 
--- The count rose. A count of 64 bits that has come to its last value stays there.
+-- the count rose, or stands at the last value of 64 bits
 abbrev pub Rose : ℕ → ℕ → Type 0
 Rose before now = min (before + 1) (2 ^ 64 - 1) ≤ now
 

@@ -1,0 +1,18 @@
+-- What a check of rules answers.
+use Rattle.std.specs.Prelude.{ℕ, List, Some, None}
+use Rattle.std.specs.declared.option.Option.{Option}
+use Rattle.cdf_format.specs.Rules.{Row, Hold, IsBroken}
+use Rattle.cdf_format.specs.WellFormed.{WellFormed, Breaks}
+use Rattle.cdf_check.specs.declared.verdict.Broken.{Broken}
+use Rattle.cdf_check.specs.declared.verdict.Verdict.{Verdict}
+use Rattle.cdf_check.specs.declared.verdict.Verdict.TheVariants.{Yes, No}
+
+-- no rule is broken, or this one is, at its place
+abbrev pub Finds : List Row → Option Broken → Type 0
+Finds rows None = Hold rows
+Finds rows (Some broken) = IsBroken rows broken.rule broken.place
+
+-- the file is well formed, or it breaks this rule of the first phase that it breaks
+abbrev pub Judges : List ℕ → Verdict → Type 0
+Judges f Yes = WellFormed f
+Judges f (No phase rule place) = Breaks f phase rule place

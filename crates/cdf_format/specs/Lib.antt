@@ -1,0 +1,5 @@
+pub mod Fields
+pub mod Rules
+pub mod Sealed
+pub mod WellFormed
+pub mod Content

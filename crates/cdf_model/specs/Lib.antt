@@ -1,0 +1,12 @@
+pub mod Limits
+pub mod Encodings
+pub mod Types
+pub mod Place
+pub mod DataSet
+pub mod Step
+pub mod Words
+pub mod Lines
+pub mod Grammar
+pub mod Texts
+pub mod Run
+pub mod RunLengths

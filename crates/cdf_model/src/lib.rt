@@ -1,0 +1,17 @@
+//! What a data set is, what a command asks and answers, and the texts of the answers. A data set has no offset of a file in it.
+#![tactic(auto)]
+
+mod answer;
+mod command;
+mod data_type;
+mod encoding;
+mod head;
+pub mod laws;
+mod list;
+
+pub use answer::{LineError, Outcome, Reason, Reply};
+pub use command::Command;
+pub use data_type::DataType;
+pub use encoding::Encoding;
+pub use head::{Head, Majority};
+pub use list::{Bytes, Nums, Varys};

@@ -1,0 +1,15 @@
+use Rattle.std.proofs.Common.{◌≡◌, ◌-◌, ◌≤◌, length, take, drop}
+use Rattle.cdf_store.specs.Disk.{file_of}
+use Rattle.cdf_pages.proofs.read.fill.Given as goal
+
+abbrev pub invariant-loop-done : goal.invariant-loop-done
+invariant-loop-done g l = record {
+  bytes : take l.done l.out ≡ take l.done (drop l.fn.place (file_of (g.S.Store.disk l.fn.store)));
+  within : l.done ≤ length l.out;
+  disk : g.S.Store.disk l.store ≡ g.S.Store.disk l.fn.store;
+  read : g.S.Store.read_faults l.fn.store ≤ g.S.Store.read_faults l.store;
+  write : g.S.Store.write_faults l.store ≡ g.S.Store.write_faults l.fn.store;
+}
+
+abbrev pub decreases-loop-done : goal.decreases-loop-done
+decreases-loop-done g l = length l.out - l.done

@@ -1,0 +1,40 @@
+ghost use Rattle.std.specs.Prelude.{◌≡◌, ◌+◌, ◌*◌, ◌≤◌, length, IfOk};
+ghost use Rattle.cdf_base.specs.Causes.{HasCauseOf};
+ghost use Rattle.cdf_format.specs.Fields.{word, words};
+
+use crate::field::{read_piece, unsigned4};
+use cdf_area::{Area, AreaError};
+use cdf_model::Nums;
+use std::alloc::Global;
+
+/// The 4 bytes at a place.
+fn read_unsigned4<A: Area>(area: &mut A, at: u64) -> Result<u32, AreaError>
+    requires { at + 4 ≤ length (A.image area.old) }
+    ensures value { IfOk result (λ number. number ≡ word (A.image area.old) at 4) }
+    ensures image { A.image area.new ≡ A.image area.old }
+    ensures frame { A.frame area.new ≡ A.frame area.old }
+    ensures cause { HasCauseOf AreaError.Fault (A.faults area.old) (A.faults area.new) result }
+{
+    let mut bytes = [0u8; 4];
+    read_piece(area, at, &mut bytes)?;
+    Ok(unsigned4(&bytes, 0))
+}
+
+/// `n` numbers of 4 bytes, one after the other from a place on.
+pub fn read_nums<A: Area>(alloc: Global, area: &mut A, at: u64, n: u32) -> Result<Nums, AreaError>
+    requires { at + 4 * n ≤ length (A.image area.old) }
+    ensures value { IfOk result (λ numbers. numbers ≡ words (A.image area.old) at n) }
+    ensures image { A.image area.new ≡ A.image area.old }
+    ensures frame { A.frame area.new ≡ A.frame area.old }
+    ensures cause { HasCauseOf AreaError.Fault (A.faults area.old) (A.faults area.new) result }
+{
+    let _size = area.size();
+    let mut numbers = Vec::new(alloc);
+    let mut place = at;
+    for _ in 0..n {
+        let number = read_unsigned4(area, place)?;
+        numbers.push(number)?;
+        place += 4;
+    }
+    Ok(Nums::new(numbers))
+}

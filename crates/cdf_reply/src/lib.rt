@@ -1,0 +1,7 @@
+//! The texts of replies.
+#![tactic(auto)]
+
+mod head;
+mod reply;
+
+pub use reply::reply_text;

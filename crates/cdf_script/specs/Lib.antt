@@ -1,0 +1,4 @@
+pub mod Pending
+pub mod Asking
+pub mod Parts
+pub mod Waiting

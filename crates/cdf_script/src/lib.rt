@@ -1,0 +1,17 @@
+//! The lines of a script that comes in pieces, and what a line asks for.
+#![tactic(auto)]
+
+pub mod laws;
+mod line;
+mod lines;
+mod parse;
+mod split;
+mod text;
+mod waiting;
+
+pub use line::Line;
+pub use lines::Lines;
+pub use parse::{ParseError, Parsed, parse_line};
+
+#[cfg(test)]
+mod tests;

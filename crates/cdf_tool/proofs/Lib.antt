@@ -1,0 +1,4 @@
+pub mod ReplayLemmas
+pub mod HeadLemmas
+pub mod ScriptLemmas
+pub mod EndLemmas

@@ -1,0 +1,90 @@
+-- How a run goes on from line to line.
+use Rattle.std.proofs.Common.{◌≡◌, ℕ, suc, ◌+◌, Bool, true, false, List, [], ◌∷◌, ◌++◌, append-nil, Option, Some, None, refl, sym, ◌∙◌, ap, subst, arith}
+use Rattle.std.proofs.KnownBytes.{Appends-nil, Appends-trans}
+use Rattle.std.specs.Prelude.{◌||◌}
+use Rattle.std.specs.Io.KnownBytes.{Appends}
+use Rattle.cdf_store.specs.Written.{IsFront, AppendsFront}
+use Rattle.cdf_store.proofs.Fronts.{IsFront-refl, IsFront-trans, front_after, front_longer}
+use Rattle.cdf_model.specs.declared.command.Command.TheVariants.{Info}
+use Rattle.cdf_model.specs.DataSet.{DataSet}
+use Rattle.cdf_model.specs.Grammar.{Parsed, Blank, Asks, Faulty, parse}
+use Rattle.cdf_model.specs.Run.{Turn, State, turn, advance, run_on}
+use Rattle.cdf_script.specs.declared.line.Line.{Line}
+use Rattle.cdf_script.specs.Pending.{Pending, GivesLine, fed, line_of, new_lines}
+use Rattle.cdf_tool.specs.Replay.{Turns, IsAt, GoesOn, StopsWithin, Reached}
+
+-- no command changes the data set so far
+turn-data_set : (d : DataSet) (n : ℕ) (p : Parsed) → (turn d n p).data_set ≡ d
+turn-data_set d n Blank = refl
+turn-data_set d n (Asks Info) = refl
+turn-data_set d n (Faulty fault) = refl
+
+-- the text of a run only grows
+pub run_on-grows : (s : State) (lines : List (Option (List ℕ))) → IsFront s.text (run_on s lines).text
+run_on-grows s [] = IsFront-refl s.text
+run_on-grows s (line ∷ lines) =
+    IsFront-trans s.text (advance s line).text (run_on s (line ∷ lines)).text
+    ((turn s.data_set (s.count + 1) (parse line)).text, refl) (run_on-grows (advance s line) lines)
+
+-- the next line has the number and the data set of the state
+same_turn : (d : DataSet) (given : ℕ) (refused : Bool) (first was : Option (List ℕ)) (s : State) (line : Option (List ℕ)) → IsAt d given refused first was s
+    → turn d (given + 1) (parse line) ≡ turn s.data_set (s.count + 1) (parse line)
+same_turn d given refused first was s line stands = λ i. turn (sym stands.data_set i) (stands.count i + 1) (parse line)
+
+module _ (d : DataSet) (given : ℕ) (refused : Bool) (first was : Option (List ℕ)) (line : Option (List ℕ)) (left : List (Option (List ℕ))) (whole : State) (r : Reached d given refused first was (line ∷ left) whole) where
+  -- a line is answered
+  pub answered : (more : Bool) (now : Option (List ℕ)) → Turns (turn d (given + 1) (parse line)) more was now → Reached d (given + 1) (refused || more) first now left whole
+  answered more now turns =
+      let same = same_turn d given refused first was r.state line r.stands in
+      record {
+        state = advance r.state line;
+        stands = record {
+          data_set = turn-data_set r.state.data_set (r.state.count + 1) (parse line) ∙ r.stands.data_set;
+          count = ap (λ (n : ℕ). n + 1) r.stands.count;
+          refused_is = (λ i. r.stands.refused_is i || turns.refused_is i) ∙ ap (λ (t : Turn). r.state.refused || t.refused) same;
+          written = Appends-trans first was now r.state.text (turn r.state.data_set (r.state.count + 1) (parse line)).text r.stands.written (subst (λ (t : Turn). Appends was now t.text) same turns.written);
+        };
+        leads = r.leads;
+      }
+
+  -- its reply was written in part
+  pub stopped : (now : Option (List ℕ)) → AppendsFront was now (turn d (given + 1) (parse line)).text → AppendsFront first now whole.text
+  stopped now part =
+      let same = same_turn d given refused first was r.state line r.stands in
+      let own = front_after first was now r.state.text (turn r.state.data_set (r.state.count + 1) (parse line)).text r.stands.written (subst (λ (t : Turn). AppendsFront was now t.text) same part) in
+      subst (λ (s : State). AppendsFront first now s.text) r.leads (front_longer first now (advance r.state line).text (run_on (advance r.state line) left).text (run_on-grows (advance r.state line) left) own)
+
+-- no line is left
+pub arrived : (d : DataSet) (given : ℕ) (refused : Bool) (first now : Option (List ℕ)) (whole : State) → Reached d given refused first now [] whole → IsAt d given refused first now whole
+arrived d given refused first now whole r = subst (λ (s : State). IsAt d given refused first now s) r.leads r.stands
+
+-- nothing is written of lines that are not answered
+pub unanswered : (d : DataSet) (given : ℕ) (refused : Bool) (first now : Option (List ℕ)) (s : State) (lines : List (Option (List ℕ))) → IsAt d given refused first now s → AppendsFront first now (run_on s lines).text
+unanswered d given refused first now s lines stands = (s.text, run_on-grows s lines, stands.written)
+
+-- the line that is given next, as the code has it
+module _ (d d' : DataSet) (refused : Bool) (first was : Option (List ℕ)) (old new : Pending) (line : Line) (whole : State) (r : Reached d old.given refused first was old.ready whole) (gives : GivesLine old line new) (same : d' ≡ d) where
+  next : Reached d old.given refused first was (line_of line ∷ new.ready) whole
+  next = subst (λ (ls : List (Option (List ℕ))). Reached d old.given refused first was ls whole) gives.first r
+
+  its_turn : turn d' line.number (parse (line_of line)) ≡ turn d (old.given + 1) (parse (line_of line))
+  its_turn = λ i. turn (same i) (gives.number i) (parse (line_of line))
+
+  pub line_answered : (refused' more : Bool) (now : Option (List ℕ)) → refused' ≡ (refused || more) → Turns (turn d' line.number (parse (line_of line))) more was now → Reached d new.given refused' first now new.ready whole
+  line_answered refused' more now is turns =
+      let goes = answered d old.given refused first was (line_of line) new.ready whole next more now (subst (λ (t : Turn). Turns t more was now) its_turn turns) in
+      let counted : new.given ≡ old.given + 1 = ap (λ (p : Pending). p.given) gives.counted in
+      subst (λ (n : ℕ). Reached d n refused' first now new.ready whole) (sym counted) (subst (λ (b : Bool). Reached d (old.given + 1) b first now new.ready whole) (sym is) goes)
+
+  pub line_stopped : (now : Option (List ℕ)) → AppendsFront was now (turn d' line.number (parse (line_of line))).text → AppendsFront first now whole.text
+  line_stopped now part = stopped d old.given refused first was (line_of line) new.ready whole next now (subst (λ (t : Turn). AppendsFront was now t.text) its_turn part)
+
+pub all_answered : (d : DataSet) (refused : Bool) (first now : Option (List ℕ)) (old new : Pending) (whole : State) → Reached d old.given refused first now old.ready whole → old.ready ≡ [] → new ≡ old → IsAt d new.given refused first now whole
+all_answered d refused first now old new whole r none same =
+    subst (λ (p : Pending). IsAt d p.given refused first now whole) (sym same)
+    (arrived d old.given refused first now whole (subst (λ (ls : List (Option (List ℕ))). Reached d old.given refused first now ls whole) none r))
+
+-- a piece is fed where no line is ready
+pub fed_ready : (p p' : Pending) (piece : List ℕ) → p.ready ≡ [] → p' ≡ fed p piece → (p'.ready ≡ new_lines p.rest piece) × (p'.given ≡ p.given)
+fed_ready p p' piece none is =
+    (ap (λ (q : Pending). q.ready) is ∙ ap (λ (ls : List (Option (List ℕ))). ls ++ new_lines p.rest piece) none, ap (λ (q : Pending). q.given) is)

@@ -1,0 +1,69 @@
+-- Where the replay of a script stands between two lines.
+use Rattle.std.specs.Prelude.{◌≡◌, ℕ, List, [], length, Bool, true, false, Some, None}
+use Rattle.std.specs.declared.option.Option.{Option}
+use Rattle.std.specs.Io.KnownBytes.{Appends, Consumes}
+use Rattle.cdf_store.specs.Written.{AppendsFront}
+use Rattle.cdf_model.specs.DataSet.{DataSet}
+use Rattle.cdf_model.specs.Lines.{split, kept, whole_lines}
+use Rattle.cdf_model.specs.Run.{Turn, State, run_on, run_lines}
+use Rattle.cdf_script.specs.Pending.{Pending, last_of}
+use Rattle.cdf_tool.specs.declared.status.Status.{Status}
+use Rattle.cdf_tool.specs.declared.status.Status.TheVariants as statuses
+
+-- one line is answered: whether it was refused, and its reply
+pub record Turns (t : Turn) (refused : Bool) (was now : Option (List ℕ)) : Type 0 where
+  pub refused_is : refused ≡ t.refused
+  pub written : Appends was now t.text
+
+-- so many lines were given, one of them refused or none, and since the sink held `first` it took the text of this state
+pub record IsAt (d : DataSet) (given : ℕ) (refused : Bool) (first now : Option (List ℕ)) (s : State) : Type 0 where
+  pub data_set : s.data_set ≡ d
+  pub count : given ≡ s.count
+  pub refused_is : refused ≡ s.refused
+  pub written : Appends first now s.text
+
+-- all lines that were ready were given
+pub record IsDrained (old new : Pending) : Type 0 where
+  pub ready : new.ready ≡ []
+  pub rest : new.rest ≡ old.rest
+  pub over : new.over ≡ old.over
+
+-- from wherever it stood, the replay goes on by these lines
+abbrev pub GoesOn : DataSet → List (Option (List ℕ)) → ℕ → Bool → Option (List ℕ) → ℕ → Bool → Option (List ℕ) → Type 0
+GoesOn d lines given refused was given' refused' now =
+    (first : Option (List ℕ)) (s : State) → IsAt d given refused first was s → IsAt d given' refused' first now (run_on s lines)
+
+-- wherever it stood, of the text of these lines a part is written
+abbrev pub StopsWithin : DataSet → List (Option (List ℕ)) → ℕ → Bool → Option (List ℕ) → Option (List ℕ) → Type 0
+StopsWithin d lines given refused was now =
+    (first : Option (List ℕ)) (s : State) → IsAt d given refused first was s → AppendsFront first now (run_on s lines).text
+
+-- the replay stands after some bytes of the script, all whole lines of which it has answered
+pub record IsAfter (d : DataSet) (before left first now : Option (List ℕ)) (lines : Pending) (refused : Bool) (total : ℕ) : Type 0 where
+  pub taken : List ℕ
+  pub consumed : Consumes before left taken
+  pub total_is : length taken ≡ total
+  pub rest : lines.rest ≡ kept (split taken).1
+  pub none_ready : lines.ready ≡ []
+  pub not_over : lines.over ≡ false
+  pub stands : IsAt d lines.given refused first now (run_lines d (whole_lines taken))
+
+-- on the way from a state to what a run is to come to: it stands at a state from which the lines that are left lead there
+pub record Reached (d : DataSet) (given : ℕ) (refused : Bool) (first now : Option (List ℕ)) (left : List (Option (List ℕ))) (whole : State) : Type 0 where
+  pub state : State
+  pub stands : IsAt d given refused first now state
+  pub leads : run_on state left ≡ whole
+
+-- a run came to this state and wrote its text, or stopped within it
+abbrev pub EndsAt : State → Option (List ℕ) → Option (List ℕ) → Status → Type 0
+EndsAt s first now statuses.Done = (s.refused ≡ false) × Appends first now s.text
+EndsAt s first now statuses.SomeRefused = (s.refused ≡ true) × Appends first now s.text
+EndsAt s first now statuses.StoreReadFault = AppendsFront first now s.text
+EndsAt s first now statuses.OutputFault = AppendsFront first now s.text
+EndsAt s first now statuses.NoMemory = AppendsFront first now s.text
+EndsAt s first now other = ⊥
+
+-- wherever it stood, the last line is answered
+abbrev pub Finishes : DataSet → Pending → Bool → Option (List ℕ) → Option (List ℕ) → Status → Type 0
+Finishes d lines refused was now status =
+    (first : Option (List ℕ)) (s : State) → IsAt d lines.given refused first was s → EndsAt (run_on s (last_of lines.rest)) first now status

@@ -1,0 +1,49 @@
+-- When each status comes.
+use Rattle.std.specs.Prelude.{◌≡◌, ◌⊎◌, ℕ, ◌<◌, ◌-◌, List, length, Bool, true, false, Some, None}
+use Rattle.std.specs.declared.option.Option.{Option}
+use Rattle.cdf_tool.specs.declared.status.Status.{Status}
+use Rattle.cdf_tool.specs.declared.status.Status.TheVariants as statuses
+
+-- the number that the program ends with
+abbrev pub number_of : Status → ℕ
+number_of statuses.Done = 0
+number_of statuses.SomeRefused = 1
+number_of statuses.Usage = 2
+number_of statuses.NoFile = 3
+number_of statuses.Rejected = 4
+number_of statuses.StoreReadFault = 5
+number_of statuses.StoreWriteFault = 6
+number_of statuses.OutputFault = 7
+number_of statuses.NoMemory = 8
+number_of statuses.ScriptFault = 9
+number_of statuses.ScriptTooLong = 10
+
+-- the status of a script that was run to its end
+abbrev pub status_of : Bool → Status
+status_of true = statuses.SomeRefused
+status_of false = statuses.Done
+
+-- everything succeeded
+abbrev pub IsDone : Status → Type 0
+IsDone statuses.Done = Unit {0}
+IsDone statuses.SomeRefused = Unit {0}
+IsDone other = ⊥
+
+-- a device failed, or memory was refused
+abbrev pub IsFailure : Status → Type 0
+IsFailure statuses.StoreReadFault = Unit {0}
+IsFailure statuses.OutputFault = Unit {0}
+IsFailure statuses.NoMemory = Unit {0}
+IsFailure statuses.ScriptFault = Unit {0}
+IsFailure other = ⊥
+
+-- A status comes only where this holds, and where it holds no other one comes, unless a device failed or memory was refused.
+pub record Exactly (due status : Status) (P : Type 0) : Type 0 where
+  pub only : status ≡ due → P
+  pub always : P → (status ≡ due) ⊎ IsFailure status
+
+-- the file that was read is the one under the name; where the store failed or memory was refused it may not have been read
+abbrev pub Looked : Option (List ℕ) → Option (List ℕ) → Status → Type 0
+Looked file under statuses.StoreReadFault = Unit {0}
+Looked file under statuses.NoMemory = Unit {0}
+Looked file under other = file ≡ under

@@ -1,0 +1,17 @@
+//! The run of the program: from the words of its command line to what it writes.
+#![tactic(auto)]
+
+mod ended;
+mod file;
+mod replay;
+mod say;
+mod script;
+mod session;
+mod status;
+mod stop;
+mod top;
+mod words;
+
+pub use ended::Ended;
+pub use status::Status;
+pub use top::run;

@@ -1,0 +1,61 @@
+ghost use Rattle.std.specs.Prelude.{◌≡◌};
+ghost use Rattle.cdf_tool.specs.Statuses.{number_of, status_of};
+
+/// How a run ended.
+#[derive(Clone, Copy, Debug, PartialEq, Eq)]
+pub enum Status {
+    /// Everything succeeded, and no line was refused.
+    Done,
+    /// Everything succeeded, and at least one line was refused.
+    SomeRefused,
+    /// The words break the rules of the command line.
+    Usage,
+    /// There is no file of the name.
+    NoFile,
+    /// The file breaks a rule.
+    Rejected,
+    /// The store failed as it was read.
+    StoreReadFault,
+    /// The store failed as it was written.
+    StoreWriteFault,
+    /// The sink failed.
+    OutputFault,
+    /// Memory was refused.
+    NoMemory,
+    /// The source failed.
+    ScriptFault,
+    /// The script has too many bytes.
+    ScriptTooLong,
+}
+
+impl Status {
+    /// The exit status of the program.
+    pub fn number(self) -> u8
+        ensures { result ≡ number_of self }
+    {
+        match self {
+            Status::Done => 0,
+            Status::SomeRefused => 1,
+            Status::Usage => 2,
+            Status::NoFile => 3,
+            Status::Rejected => 4,
+            Status::StoreReadFault => 5,
+            Status::StoreWriteFault => 6,
+            Status::OutputFault => 7,
+            Status::NoMemory => 8,
+            Status::ScriptFault => 9,
+            Status::ScriptTooLong => 10,
+        }
+    }
+}
+
+/// The status of a script that was run to its end.
+pub fn end_status(refused: bool) -> Status
+    ensures { result ≡ status_of refused }
+{
+    if refused {
+        Status::SomeRefused
+    } else {
+        Status::Done
+    }
+}
