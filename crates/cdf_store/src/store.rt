@@ -56,7 +56,7 @@ pub trait Store {
         ensures name { (disk self.new).name ≡ option_map (λ _. name.now) (disk self.new).held }
 
         // Over a device that tells its files the bytes are those under the name.
-        ensures known { OnOk result (IfSome (disk self.old).files
+        ensures known { IfOk result (λ _. IfSome (disk self.old).files
             (λ files. (disk self.new).held ≡ found_or_made make (lookup name.now files))) }
         ensures files { AttachesIn make name.now (disk self.old).files (disk self.new).files result }
 
