@@ -13,7 +13,7 @@ use Rattle.cdf_model.specs.Texts.{rejected_text}
 use Rattle.cdf_tool.specs.declared.status.Status.{Status}
 use Rattle.cdf_tool.specs.declared.status.Status.TheVariants as statuses
 use Rattle.cdf_tool.specs.Ends.{Rejects, rejection, Names, SaysRejected, EndsUnread, EndsOver, EndsWithout, EndsUnasked, EndsNamed, Ends, Replays}
-use Rattle.cdf_tool.specs.Headline.{Accepted, Headline}
+use Rattle.cdf_tool.specs.Accepts.{Accepted, Accepts}
 use Rattle.cdf_tool.specs.Script.{Answers, Runs}
 use Rattle.cdf_tool.specs.Statuses.{IsDone, IsFailure, Exactly, Looked}
 
@@ -297,8 +297,8 @@ none_accepted first now status ends is = elim (without_status first now status e
   | inr fails ↦ done_or_failed status is fails
 ]
 
-pub headline : (file before left first now : Option (List ℕ)) (status : Status) → EndsNamed file before left first now status → Headline file before left first now status
-headline None before left first now status ends = none_accepted first now status ends.1
-headline (Some bytes) None left first now status ends = tt
-headline (Some bytes) (Some script) left None now status ends = tt
-headline (Some bytes) (Some script) left (Some written) now status ends = over_accepted bytes script written left now status ends
+pub accepts : (file before left first now : Option (List ℕ)) (status : Status) → EndsNamed file before left first now status → Accepts file before left first now status
+accepts None before left first now status ends = none_accepted first now status ends.1
+accepts (Some bytes) None left first now status ends = tt
+accepts (Some bytes) (Some script) left None now status ends = tt
+accepts (Some bytes) (Some script) left (Some written) now status ends = over_accepted bytes script written left now status ends

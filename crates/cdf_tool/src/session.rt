@@ -68,6 +68,7 @@ fn read_sizes<A: Area>(
     ensures frame { A.frame area.new ≡ A.frame area.old }
     ensures cause { HasCauseOf AreaError.Fault (A.faults area.old) (A.faults area.new) result }
 {
+    // An image has fewer than 2^64 bytes, so no place in it overflows.
     let _size = area.size();
     let dimensions = gdr.r_num_dims.cast_unsigned();
     read_nums(alloc, area, place + GDR_FIXED, dimensions)

@@ -18,7 +18,7 @@ pub record Accepted (file script : List ℕ) (left : Option (List ℕ)) (written
   pub refused : (status ≡ statuses.SomeRefused) ↔ ((run_of (data_set_of file) script).refused ≡ true)
 
 -- with status 0 or 1, over a source and a sink that tell their bytes
-abbrev pub Headline : Option (List ℕ) → Option (List ℕ) → Option (List ℕ) → Option (List ℕ) → Option (List ℕ) → Status → Type 0
-Headline None before left first now status = IsDone status → ⊥
-Headline (Some file) (Some script) left (Some written) now status = IsDone status → Accepted file script left written now status
-Headline (Some file) before left first now status = Unit {0}
+abbrev pub Accepts : Option (List ℕ) → Option (List ℕ) → Option (List ℕ) → Option (List ℕ) → Option (List ℕ) → Status → Type 0
+Accepts None before left first now status = IsDone status → ⊥
+Accepts (Some file) (Some script) left (Some written) now status = IsDone status → Accepted file script left written now status
+Accepts (Some file) before left first now status = Unit {0}
