@@ -3,7 +3,7 @@ ghost use Rattle.std.specs.Option.{option_copied, option_map};
 ghost use Rattle.cdf_store.specs.Named.{lookup, with_file};
 ghost use Rattle.cdf_store.specs.Disk.{Disk};
 ghost use Rattle.cdf_store.specs.MemFile.{file_at, same_is_some};
-ghost use Rattle.cdf_store.specs.MemFiles.{entries_of, held_of, name_of, room_of};
+ghost use Rattle.cdf_store.specs.MemFiles.{held_of, name_of, room_of};
 
 use crate::copy::copy_from;
 use crate::mem_files::MemFiles;
@@ -98,16 +98,16 @@ impl MemStore {
 }
 
 impl Store for MemStore {
-    ghost use Rattle.cdf_store.specs.MemStore.{CallsAsPlanned};
+    ghost use Rattle.cdf_store.specs.MemStore.{CallsAsPlanned, files_of, read_faults_of, touched_of, write_faults_of};
 
     ghost Under = { Unit {0} };
 
     ghost disk = { λ s. record {
       held = held_of s.files;
       name = name_of s.files;
-      files = Some (entries_of s.files);
+      files = Some (files_of s);
       only = None;
-      touched = Some s.touched.items;
+      touched = Some (touched_of s);
       under = tt;
     } };
 
@@ -115,9 +115,9 @@ impl Store for MemStore {
 
     ghost spare = { λ s. record { writes = s.writes; end = s.end } };
 
-    ghost read_faults = { λ s. s.read_faults };
+    ghost read_faults = { read_faults_of };
 
-    ghost write_faults = { λ s. s.write_faults };
+    ghost write_faults = { write_faults_of };
 
     ghost also = { CallsAsPlanned };
 
