@@ -51,20 +51,24 @@ impl MemStore {
         }
     }
 
-    /// Adds a file, or replaces the one of this name.
+    /// Adds a file, or replaces the one of this name. Then no file is attached, and room for the writes of the next one is to be
+    /// made anew. After an error all stays as it was, and the attached file stays attached.
     pub fn put_file(&mut self, name: &str, bytes: &[u8]) -> Result<(), AllocError>
-        requires { (⟦<MemStore as Store>⟧.disk self.old).held ≡ None }
         ensures ok { OnOk result (⟦<MemStore as Store>⟧.disk self.new ≡ record (⟦<MemStore as Store>⟧.disk self.old)
-            { files = option_map (with_file name.now bytes.now) (⟦<MemStore as Store>⟧.disk self.old).files }) }
+            { held = None; name = None; files = option_map (with_file name.now bytes.now) (⟦<MemStore as Store>⟧.disk self.old).files }) }
         ensures err { OnErr result (⟦<MemStore as Store>⟧.disk self.new ≡ ⟦<MemStore as Store>⟧.disk self.old) }
+        ensures writes { (⟦<MemStore as Store>⟧.spare self.new).writes ≡ (⟦<MemStore as Store>⟧.spare self.old).writes }
+        ensures end { OnOk result ((⟦<MemStore as Store>⟧.spare self.new).end ≡ 0) }
+        ensures spare { OnErr result (⟦<MemStore as Store>⟧.spare self.new ≡ ⟦<MemStore as Store>⟧.spare self.old) }
         ensures taken { ⟦<MemStore as Store>⟧.taken self.new ≡ ⟦<MemStore as Store>⟧.taken self.old }
-        ensures spare { ⟦<MemStore as Store>⟧.spare self.new ≡ ⟦<MemStore as Store>⟧.spare self.old }
         ensures read { ⟦<MemStore as Store>⟧.read_faults self.new ≡ ⟦<MemStore as Store>⟧.read_faults self.old }
         ensures write { ⟦<MemStore as Store>⟧.write_faults self.new ≡ ⟦<MemStore as Store>⟧.write_faults self.old }
         ensures calls { calls_of self.new ≡ calls_of self.old }
         ensures failing { failing_of self.new ≡ failing_of self.old }
     {
-        self.files.put(name, bytes)
+        self.files.put(name, bytes)?;
+        self.end = 0;
+        Ok(())
     }
 
     /// The bytes of the file of this name.
