@@ -69,4 +69,4 @@ cut d n = holding d (take n (file_of d))
 -- at most one write is used up, and the end stays
 pub record Spent (spare spare' : Spare) : Type 0 where
   pub writes : spare.writes ≤ spare'.writes + 1
-  pub end : spare.end ≤ spare'.end
+  pub end : spare'.end ≡ spare.end

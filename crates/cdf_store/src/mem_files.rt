@@ -52,7 +52,7 @@ fn put_entry(
 ) -> Result<(), AllocError>
     requires { IsDistinct bytes_eq (names (entries files.old.items)) }
     ensures ok { OnOk result (entries files.new.items ≡ with_file name.now bytes.now (entries files.old.items)) }
-    ensures err { OnErr result (entries files.new.items ≡ entries files.old.items) }
+    ensures err { OnErr result (files.new.items ≡ files.old.items) }
 {
     let bytes = Vec::from_slice(alloc, bytes)?;
     match place_of(files, name) {
@@ -82,15 +82,16 @@ impl MemFiles {
         }
     }
 
-    /// Adds a file, or replaces the one of this name.
+    /// Adds a file, or replaces the one of this name. Then no file is attached.
     pub fn put(&mut self, name: &str, bytes: &[u8]) -> Result<(), AllocError>
-        requires { held_of self.old ≡ None }
         ensures ok { OnOk result (entries_of self.new ≡ with_file name.now bytes.now (entries_of self.old)) }
-        ensures err { OnErr result (entries_of self.new ≡ entries_of self.old) }
-        ensures attached { self.new.attached ≡ None }
+        ensures detached { OnOk result (self.new.attached ≡ None) }
+        ensures err { OnErr result (self.new.list.items ≡ self.old.list.items) }
+        ensures attached { OnErr result (self.new.attached ≡ self.old.attached) }
     {
+        put_entry(&mut self.list, self.alloc, name, bytes)?;
         self.attached = None;
-        put_entry(&mut self.list, self.alloc, name, bytes)
+        Ok(())
     }
 
     /// The bytes of the file of this name.
