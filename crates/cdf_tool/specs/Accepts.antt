@@ -1,5 +1,5 @@
 -- What a run over devices that tell their bytes comes to, where nothing failed.
-use Rattle.std.specs.Prelude.{◌≡◌, ◌↔◌, ◌≤◌, ℕ, List, [], ◌++◌, length, Bool, true, Some, None}
+use Rattle.std.specs.Prelude.{◌≡◌, ◌↔◌, ◌≤◌, ℕ, List, [], ◌++◌, length, true, Some, None}
 use Rattle.std.specs.declared.option.Option.{Option}
 use Rattle.cdf_model.specs.Limits.{script_limit}
 use Rattle.cdf_model.specs.Run.{run_of}

@@ -89,11 +89,7 @@ fn read_head<A: Area>(alloc: Global, area: &mut A) -> Result<Head, AreaError>
 }
 
 /// What a command answers over a well-formed file.
-pub fn apply<A: Area>(
-    alloc: Global,
-    area: &mut A,
-    command: &Command,
-) -> Result<Outcome, AreaError>
+pub fn apply<A: Area>(alloc: Global, area: &mut A, command: &Command) -> Result<Outcome, AreaError>
     requires { WellFormed (A.image area.old) }
     ensures outcome { IfOk result (λ o. o ≡ outcome (step (data_set_of (A.image area.old)) command.now)) }
     ensures image { A.image area.new ≡ A.image area.old }
