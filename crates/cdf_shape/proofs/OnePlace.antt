@@ -1,9 +1,7 @@
 -- Two indices of one place are the same in each dimension that varies.
-use Rattle.std.proofs.Common.{◌≡◌, ℕ, ◌+◌, ◌*◌, ◌/◌, ◌<◌, Bool, true, false, List, [], ◌∷◌, refl, sym, ◌∙◌, ap, inl, inr, Some, arith}
+use Rattle.std.proofs.Common.{◌≡◌, ℕ, ◌+◌, ◌*◌, ◌/◌, ◌<◌, Bool, true, false, List, [], ◌∷◌, sym, ◌∙◌, ap, inl, inr, Some, arith}
 use Rattle.std.proofs.Math.Nat.{mul_assoc, mul_comm}
 use Rattle.std.proofs.lemmas.Nat.{div-mul-add}
-use Rattle.std.specs.Prelude.{IsTrue}
-use Rattle.std.specs.declared.option.Option.{Option}
 use Rattle.cdf_model.specs.declared.head.Majority.{Majority}
 use Rattle.cdf_model.specs.declared.head.Majority.TheVariants.{Row, Column}
 use Rattle.cdf_model.specs.Place.{has_place, value_count, row_place, column_place, place}

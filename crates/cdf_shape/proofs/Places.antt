@@ -4,7 +4,7 @@ use Rattle.std.proofs.Math.Bool.{and-false}
 use Rattle.std.proofs.Math.Nat.{mul-le-mul_left, mul-le-mul_right}
 use Rattle.std.proofs.lemmas.Bool.Decides.{nat_tests}
 use Rattle.std.proofs.lemmas.List.{drop_more}
-use Rattle.std.specs.Prelude.{◌&&◌, nat_lt}
+use Rattle.std.specs.Prelude.{nat_lt}
 use Rattle.cdf_model.specs.Place.{has_place, value_count, row_place, column_place}
 
 pub first_below : (n i : ℕ) (dims index : List ℕ) → has_place (n ∷ dims) (i ∷ index) ≡ true → i < n
@@ -60,10 +60,7 @@ pub record RowLeft (dims : List ℕ) (varys : List Bool) (index : List ℕ) (pla
   pub has : has_place dims index ≡ true
   pub sum : place * value_count dims varys + row_place dims varys index ≡ whole
 
-pub row_start : (dims : List ℕ) (varys : List Bool) (index : List ℕ) → has_place dims index ≡ true → RowLeft dims varys index 0 (row_place dims varys index)
-row_start dims varys index has = record { has = has; sum = omega arith }
-
-pub row_limit : (dims : List ℕ) (varys : List Bool) (index : List ℕ) (place whole : ℕ) → RowLeft dims varys index place whole → place ≤ whole
+row_limit : (dims : List ℕ) (varys : List Bool) (index : List ℕ) (place whole : ℕ) → RowLeft dims varys index place whole → place ≤ whole
 row_limit dims varys index place whole left = omega (arith, mul-le-mul_left place (count_positive dims varys index left.has), left.sum)
 
 row_more : (n i place whole : ℕ) (dims : List ℕ) (varys : List Bool) (index : List ℕ) → RowLeft (n ∷ dims) (true ∷ varys) (i ∷ index) place whole → RowLeft dims varys index (place * n + i) whole
@@ -78,10 +75,7 @@ pub record ColumnLeft (dims : List ℕ) (varys : List Bool) (index : List ℕ) (
   pub size : before * value_count dims varys ≡ count
   pub sum : place + column_place before dims varys index ≡ whole
 
-pub column_start : (dims : List ℕ) (varys : List Bool) (index : List ℕ) → has_place dims index ≡ true → ColumnLeft dims varys index 0 1 (column_place 1 dims varys index) (value_count dims varys)
-column_start dims varys index has = record { has = has; size = omega arith; sum = omega arith }
-
-pub column_limit : (dims : List ℕ) (varys : List Bool) (index : List ℕ) (place before whole count : ℕ) → ColumnLeft dims varys index place before whole count → before ≤ count
+column_limit : (dims : List ℕ) (varys : List Bool) (index : List ℕ) (place before whole count : ℕ) → ColumnLeft dims varys index place before whole count → before ≤ count
 column_limit dims varys index place before whole count left = omega (arith, mul-le-mul_left before (count_positive dims varys index left.has), left.size)
 
 column_more : (n i place before whole count : ℕ) (dims : List ℕ) (varys : List Bool) (index : List ℕ) → ColumnLeft (n ∷ dims) (true ∷ varys) (i ∷ index) place before whole count → ColumnLeft dims varys index (place + i * before) (before * n) whole count

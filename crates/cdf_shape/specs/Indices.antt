@@ -1,5 +1,5 @@
 -- Two indices of a value.
-use Rattle.std.specs.Prelude.{◌≢◌, ℕ, List, [], ◌∷◌, Bool, true, false, ◌⊎◌}
+use Rattle.std.specs.Prelude.{◌≢◌, ℕ, List, ◌∷◌, Bool, true, false, ◌⊎◌}
 
 -- they differ in a dimension that varies
 abbrev pub Differ : List ℕ → List ℕ → List Bool → Type 0

@@ -7,3 +7,6 @@ mod shape;
 
 pub use place::place_of;
 pub use shape::{Shape, record_bytes};
+
+#[cfg(test)]
+mod tests;

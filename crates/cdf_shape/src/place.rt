@@ -1,4 +1,4 @@
-ghost use Rattle.std.specs.Prelude.{◌≡◌, ◌≤◌, length, true};
+ghost use Rattle.std.specs.Prelude.{◌≡◌, ◌≤◌, length, IsTrue};
 ghost use Rattle.cdf_model.specs.Place.{column_place, has_place, place, record_limit, row_place, value_count};
 
 use crate::Shape;
@@ -37,7 +37,7 @@ fn has_place(dims: &[u32], index: &[u32]) -> bool
 
 fn row_place(dims: &[u32], varys: &[bool], index: &[u32]) -> u64
     requires one_each { length varys.now ≡ length dims.now }
-    requires has { has_place dims.now index.now ≡ true }
+    requires has { IsTrue (has_place dims.now index.now) }
     requires fits { value_count dims.now varys.now ≤ record_limit }
     ensures { result ≡ row_place dims.now varys.now index.now }
 {
@@ -52,7 +52,7 @@ fn row_place(dims: &[u32], varys: &[bool], index: &[u32]) -> u64
 
 fn column_place(dims: &[u32], varys: &[bool], index: &[u32]) -> u64
     requires one_each { length varys.now ≡ length dims.now }
-    requires has { has_place dims.now index.now ≡ true }
+    requires has { IsTrue (has_place dims.now index.now) }
     requires fits { value_count dims.now varys.now ≤ record_limit }
     ensures { result ≡ column_place 1 dims.now varys.now index.now }
 {

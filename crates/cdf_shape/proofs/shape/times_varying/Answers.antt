@@ -1,4 +1,4 @@
-use Rattle.std.proofs.Common.{◌≡◌, length, false, sym, ◌∙◌, length-append, arith}
+use Rattle.std.proofs.Common.{length, false, sym, ◌∙◌, length-append, arith}
 use Rattle.std.proofs.lemmas.Slice.Zip.{zip_end, zip_turn}
 use Rattle.cdf_shape.proofs.Products.{more_values, no_more_values}
 use Rattle.cdf_shape.proofs.shape.times_varying.Goals as goal
