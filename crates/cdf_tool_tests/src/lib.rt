@@ -1,0 +1,11 @@
+//! Whole runs over devices in memory: what is written and answered for each kind of words, file and script, however the script is
+//! cut into pieces; that the store's files stay; and what is left where the store, the script or the output fails at each of its
+//! calls in turn, or the room of the output ends.
+#![tactic(auto)]
+
+#[cfg(test)]
+mod faults;
+#[cfg(test)]
+mod fixtures;
+#[cfg(test)]
+mod rows;
