@@ -1,0 +1,163 @@
+//! The cases of cdf_bench as plain loops, to which bench/run compares it: the same data, the same lines.
+//!
+//! Build it by hand, from the top of the repository: rustc -O -o bench/work/plain bench/plain.rs
+
+use std::collections::HashMap;
+use std::process::ExitCode;
+use std::time::Instant;
+
+/// How many words of 8 bytes are of one kind.
+const STRETCH: usize = 32;
+
+/// How often a name is looked up.
+const LOOKUPS: usize = 1_000_000;
+
+/// The most zeros of a pair.
+const LONGEST: usize = 256;
+
+struct Random {
+    state: u64,
+}
+
+impl Random {
+    fn next(&mut self) -> u64 {
+        self.state = self.state.wrapping_add(0x9e37_79b9_7f4a_7c15);
+        let mixed = (self.state ^ (self.state >> 30)).wrapping_mul(0xbf58_476d_1ce4_e5b9);
+        let mixed = (mixed ^ (mixed >> 27)).wrapping_mul(0x94d0_49bb_1331_11eb);
+        mixed ^ (mixed >> 31)
+    }
+}
+
+/// Zeros and data in turn, in whole words of 8 bytes.
+fn mixed(size: usize) -> Vec<u8> {
+    let mut random = Random { state: 1 };
+    let mut kind = 0;
+    let mut bytes = Vec::with_capacity(size);
+    for index in 0..size / 8 {
+        if index % STRETCH == 0 {
+            kind = random.next() % 4;
+        }
+        let number = random.next();
+        let word = match kind {
+            0 => 0,
+            1 => number,
+            _ => number * (number % 2),
+        };
+        bytes.extend_from_slice(&word.to_le_bytes());
+    }
+    bytes
+}
+
+fn sum_of(bytes: &[u8]) -> u64 {
+    bytes.iter().fold(0, |sum: u64, byte| sum.wrapping_mul(31).wrapping_add(u64::from(*byte)))
+}
+
+fn say_lap(part: &str, start: Instant) {
+    eprintln!("{part} {}", start.elapsed().as_micros());
+}
+
+fn encode(bytes: &[u8]) -> Vec<u8> {
+    let mut packed = Vec::new();
+    let mut place = 0;
+    while place < bytes.len() {
+        if bytes[place] == 0 {
+            let mut zeros = 1;
+            while zeros < LONGEST && place + zeros < bytes.len() && bytes[place + zeros] == 0 {
+                zeros += 1;
+            }
+            packed.push(0);
+            packed.push((zeros - 1) as u8);
+            place += zeros;
+        } else {
+            packed.push(bytes[place]);
+            place += 1;
+        }
+    }
+    packed
+}
+
+fn decode_into(packed: &[u8], out: &mut [u8]) {
+    let mut place = 0;
+    let mut filled = 0;
+    while place < packed.len() {
+        if packed[place] == 0 {
+            let zeros = packed[place + 1] as usize + 1;
+            out[filled..filled + zeros].fill(0);
+            filled += zeros;
+            place += 2;
+        } else {
+            out[filled] = packed[place];
+            filled += 1;
+            place += 1;
+        }
+    }
+}
+
+fn rle(size: usize) {
+    let plain = mixed(size);
+    let start = Instant::now();
+    let packed = encode(&plain);
+    say_lap("encode", start);
+    let mut out = vec![1; plain.len()];
+    let start = Instant::now();
+    decode_into(&packed, &mut out);
+    say_lap("decode", start);
+    println!("{} {:016x} {} {:016x}", packed.len(), sum_of(&packed), out.len(), sum_of(&out));
+}
+
+fn names(count: usize) {
+    let names: Vec<Vec<u8>> = (0..count).map(|index| format!("variable {index}").into_bytes()).collect();
+    let start = Instant::now();
+    let mut table = HashMap::new();
+    for name in &names {
+        let number = table.len();
+        table.entry(name.clone()).or_insert(number);
+    }
+    say_lap("add", start);
+    let start = Instant::now();
+    let mut random = Random { state: 2 };
+    let mut sum = 0;
+    for _ in 0..if names.is_empty() { 0 } else { LOOKUPS } {
+        let name = &names[random.next() as usize % names.len()];
+        sum += table.get(name).copied().unwrap_or(0);
+    }
+    say_lap("find", start);
+    println!("{} {sum}", table.len());
+}
+
+fn undo(count: usize, size: usize) {
+    let mut bytes = mixed(size);
+    let (mut places, mut saved) = (Vec::new(), Vec::new());
+    let start = Instant::now();
+    let mut random = Random { state: 3 };
+    for _ in 0..if bytes.len() < 8 { 0 } else { count } {
+        let number = random.next();
+        let place = (number % (bytes.len() as u64 - 7)) as usize;
+        let range = place..place + 8;
+        places.push(place);
+        saved.extend_from_slice(&bytes[range.clone()]);
+        bytes[range].copy_from_slice(&number.to_le_bytes());
+    }
+    say_lap("write", start);
+    let head = bytes[..bytes.len().min(4096)].to_vec();
+    let start = Instant::now();
+    while let Some(place) = places.pop() {
+        let from = saved.len() - 8;
+        bytes[place..place + 8].copy_from_slice(&saved[from..]);
+        saved.truncate(from);
+    }
+    say_lap("undo", start);
+    println!("{:016x} {:016x}", sum_of(&head), sum_of(&bytes));
+}
+
+fn main() -> ExitCode {
+    let words: Vec<String> = std::env::args().skip(1).collect();
+    let number = |place: usize| words.get(place).and_then(|word| word.parse().ok());
+    match (words.first().map(String::as_str), number(1), number(2)) {
+        (Some("rle"), Some(size), _) => rle(size),
+        (Some("names"), Some(count), _) => names(count),
+        (Some("undo"), Some(count), Some(size)) => undo(count, size),
+        _ => return ExitCode::FAILURE,
+    }
+    ExitCode::SUCCESS
+}

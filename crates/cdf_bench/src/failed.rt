@@ -1,0 +1,44 @@
+use cdf_area::AreaError;
+use cdf_rle::RleError;
+use std::alloc::AllocError;
+use std::io;
+
+/// Why a case was not done.
+#[derive(Debug, Drop)]
+pub enum Failed {
+    /// The words of the command line name no case.
+    Words,
+    /// There was no memory left.
+    NoMemory,
+    /// A file, an output or the clock failed.
+    Outside,
+    /// What was packed does not fill the bytes that it was packed from.
+    Packed,
+}
+
+impl From<AllocError> for Failed {
+    fn from(_: AllocError) -> Self {
+        Failed::NoMemory
+    }
+}
+
+impl From<io::Error> for Failed {
+    fn from(_: io::Error) -> Self {
+        Failed::Outside
+    }
+}
+
+impl From<AreaError> for Failed {
+    fn from(error: AreaError) -> Self {
+        match error {
+            AreaError::Fault => Failed::Outside,
+            AreaError::NoMemory => Failed::NoMemory,
+        }
+    }
+}
+
+impl From<RleError> for Failed {
+    fn from(_: RleError) -> Self {
+        Failed::Packed
+    }
+}

@@ -1,0 +1,59 @@
+use crate::data::Random;
+use crate::failed::Failed;
+use crate::say_lap;
+use cdf_model::Bytes;
+use cdf_names::NameTable;
+use std::alloc::{AllocError, Global};
+use std::rt::Runtime;
+use std::time::Instant;
+
+/// How often a name is looked up.
+const LOOKUPS: usize = 1_000_000;
+
+fn all_names(alloc: Global, count: usize) -> Result<Vec<Vec<u8>>, AllocError> {
+    let mut names = Vec::new(alloc);
+    for index in 0..count {
+        let name = format!(in alloc; "variable {index}")?;
+        names.push(name.as_bytes().to_vec(alloc)?)?;
+    }
+    Ok(names)
+}
+
+fn table_of(alloc: Global, names: &[Vec<u8>]) -> Result<NameTable, AllocError> {
+    let mut table = NameTable::new(alloc)?;
+    for name in names {
+        if table.find(name).is_none() && table.len() < u32::MAX {
+            table.add(Bytes::new(name.to_vec(alloc)?))?;
+        }
+    }
+    Ok(table)
+}
+
+/// The sum of the numbers of the names that are looked up, in no order.
+fn look_up(table: &NameTable, names: &[Vec<u8>]) -> u64 {
+    let mut random = Random::new(2);
+    let mut sum = 0u64;
+    if names.is_empty() {
+        return sum;
+    }
+    for _ in 0..LOOKUPS {
+        let name = &names[random.next() as usize % names.len()];
+        if let Some(number) = table.find(name) {
+            sum = sum.wrapping_add(u64::from(number));
+        }
+    }
+    sum
+}
+
+/// Looks names up among so many.
+pub fn run(rt: &(impl Runtime + AllocGlobal), count: usize) -> Result<(), Failed> {
+    let names = all_names(rt.alloc(), count)?;
+    let start = Instant::now(rt)?;
+    let table = table_of(rt.alloc(), &names)?;
+    say_lap(rt, "add", &start)?;
+    let start = Instant::now(rt)?;
+    let sum = look_up(&table, &names);
+    say_lap(rt, "find", &start)?;
+    println!(rt; "{} {sum}", table.len())?;
+    Ok(())
+}
