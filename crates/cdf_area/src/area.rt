@@ -84,7 +84,7 @@ pub trait Area {
         ensures frame { frame self.new ≡ frame self.old }
         ensures cause { HasCauseOf AreaError.Fault (faults self.old) (faults self.new) result };
 
-    /// Drops the last `n` bytes, which can not be taken back.
+    /// Drops the last `n` bytes, which cannot be taken back.
     fn shorten(&mut self, n: u64)
         requires room { n ≤ length (image self.old) }
         requires unmarked { (frame self.old).base ≡ None }

@@ -1,5 +1,7 @@
 pub mod Limits
 pub mod Encodings
+pub mod Types
+pub mod Place
 pub mod DataSet
 pub mod Step
 pub mod Words
@@ -7,3 +9,4 @@ pub mod Lines
 pub mod Grammar
 pub mod Texts
 pub mod Run
+pub mod RunLengths

@@ -3,6 +3,7 @@
 
 mod answer;
 mod command;
+mod data_type;
 mod encoding;
 mod head;
 pub mod laws;
@@ -10,6 +11,7 @@ mod list;
 
 pub use answer::{LineError, Outcome, Reason, Reply};
 pub use command::Command;
+pub use data_type::DataType;
 pub use encoding::Encoding;
 pub use head::{Head, Majority};
-pub use list::{Bytes, Nums};
+pub use list::{Bytes, Nums, Varys};

@@ -71,3 +71,39 @@ impl Nums {
         self.items
     }
 }
+
+/// Whether each dimension varies.
+#[derive(Drop)]
+pub struct Varys {
+    items: Vec<bool>,
+}
+
+impl Model for Varys {
+    ghost use Rattle.std.specs.Prelude.{Bool, List};
+
+    ghost Value = { List Bool };
+
+    ghost view = { λ varys. varys.items.items };
+}
+
+impl Varys {
+    ghost use Rattle.std.specs.Prelude.{◌≡◌};
+
+    pub fn new(items: Vec<bool>) -> Self
+        ensures { result ≡ items.items }
+    {
+        Varys { items }
+    }
+
+    pub fn as_slice(&self) -> &[bool]
+        ensures { result.now ≡ self.now }
+    {
+        &self.items
+    }
+
+    pub fn into_vec(self) -> Vec<bool>
+        ensures { result.items ≡ self }
+    {
+        self.items
+    }
+}

@@ -4,6 +4,7 @@
 use cdf_store::{FileStore, StdSink, StdSource};
 use cdf_tool::{Status, run};
 use std::env::Env;
+use std::io::ErrorKind;
 use std::process::ExitCode;
 use std::rt::Files;
 use std::{env, io};
@@ -17,11 +18,13 @@ fn read_words(rt: &(impl Env + AllocGlobal)) -> io::Result<Vec<String>> {
     Ok(words)
 }
 
-/// Runs the program to its end, and answers its exit status. Where its words cannot be read that is the status of a run without
-/// memory.
+/// Runs the program to its end, and answers its exit status. Words that are not UTF-8 name no file; where there is no memory to read
+/// the words, the status is that of a run without memory.
 pub fn start(rt: &(impl Files + Env + Input + Print + AllocGlobal)) -> ExitCode {
-    let Ok(words) = read_words(rt) else {
-        return ExitCode::from(Status::NoMemory.number());
+    let words = match read_words(rt) {
+        Ok(words) => words,
+        Err(error) if error.kind() == ErrorKind::InvalidData => Vec::new(rt.alloc()),
+        Err(_) => return ExitCode::from(Status::NoMemory.number()),
     };
     let store = FileStore::new(rt, rt.alloc());
     let mut script = StdSource::new(rt.reader());

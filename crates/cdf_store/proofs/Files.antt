@@ -1,11 +1,11 @@
 -- Named files as a list of pairs, and as a store in memory keeps them.
-use Rattle.std.proofs.Common.{◌≡◌, ℕ, zero, suc, ◌<◌, Bool, true, false, List, [], ◌∷◌, ◌++◌, length, get_or, Option, Some, None, Result, Ok, Err, refl, sym, ◌∙◌, ap, ap₂, subst, arith}
+use Rattle.std.proofs.Common.{◌≡◌, ℕ, zero, suc, ◌<◌, Bool, true, false, List, [], ◌∷◌, ◌++◌, length, get_or, Option, Some, None, refl, sym, ◌∙◌, ap, ap₂, subst, arith}
 use Rattle.std.proofs.Math.ListN.{set, length-set}
 use Rattle.std.proofs.Math.Seq.{map-set_same}
 use Rattle.std.proofs.lemmas.Slice.Eq.{bytes_eq-Decides}
 use Rattle.std.proofs.lemmas.Option.{slice_get_read}
 use Rattle.std.proofs.lemmas.List.{map-append}
-use Rattle.std.specs.Prelude.{OnOk, OnErr, bytes_eq, slice_get, string_bytes, vec_capacity, is_some, if◌then◌else◌}
+use Rattle.std.specs.Prelude.{bytes_eq, slice_get, string_bytes, vec_capacity, is_some, if◌then◌else◌}
 use Rattle.std.specs.Option.{option_map, option_map_or}
 use Rattle.std.specs.List.{IsDistinct, AllByRecursion}
 use Rattle.cdf_store.specs.declared.mem_files.MemFile.{MemFile}
@@ -189,7 +189,6 @@ pub put_new : (files : List MemFile) (file : MemFile) (name : List ℕ) → look
 put_new files file name none named =
     map-append entry files (file ∷ []) ∙ ap (λ n. entries files ++ (n, file.bytes.items) ∷ []) named ∙ sym (with_file-new name file.bytes.items (entries files) none)
 
--- names stay distinct where a file is added or replaced, or is not
-pub distinct_put : {T E : Type 0} (result : Result T E) (name bytes : List ℕ) (old new : List (List ℕ × List ℕ)) → IsDistinct bytes_eq (names old) → OnOk result (new ≡ with_file name bytes old) → OnErr result (new ≡ old) → IsDistinct bytes_eq (names new)
-distinct_put (Ok x) name bytes old new d ok err = subst (λ (l : List (List ℕ × List ℕ)). IsDistinct bytes_eq (names l)) (sym ok) (IsDistinct-with_file name bytes old d)
-distinct_put (Err e) name bytes old new d ok err = subst (λ (l : List (List ℕ × List ℕ)). IsDistinct bytes_eq (names l)) (sym err) d
+-- names stay distinct where a file is added or replaced
+pub distinct_put : (name bytes : List ℕ) (old new : List (List ℕ × List ℕ)) → IsDistinct bytes_eq (names old) → new ≡ with_file name bytes old → IsDistinct bytes_eq (names new)
+distinct_put name bytes old new d is = subst (λ (l : List (List ℕ × List ℕ)). IsDistinct bytes_eq (names l)) (sym is) (IsDistinct-with_file name bytes old d)

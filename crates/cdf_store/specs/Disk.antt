@@ -6,8 +6,13 @@ use Rattle.std.specs.Option.{option_map}
 use Rattle.cdf_base.specs.Bytes.{put}
 use Rattle.cdf_store.specs.Named.{lookup_in, names, with_file}
 
--- the attached file and its name, the files where the device tells them, the one name that can be attached where it is fixed,
--- the ranges written (place and length) where the device tells them, and what stands beneath the device
+-- The state of a device with named files, beside its counts and the room that it has:
+-- held: the bytes of the attached file, or none
+-- name: the name under which it is attached
+-- files: all files by name, where the device tells them
+-- only: the one name that can be attached, where it is fixed
+-- touched: the ranges written, each by its place and its length, where the device tells them
+-- under: what stands beneath the device
 pub record Disk (U : Type 0) : Type 0 where
   pub held : Option (List ℕ)
   pub name : Option (List ℕ)
@@ -64,4 +69,4 @@ cut d n = holding d (take n (file_of d))
 -- at most one write is used up, and the end stays
 pub record Spent (spare spare' : Spare) : Type 0 where
   pub writes : spare.writes ≤ spare'.writes + 1
-  pub end : spare.end ≤ spare'.end
+  pub end : spare'.end ≡ spare.end

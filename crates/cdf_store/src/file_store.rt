@@ -34,7 +34,8 @@ pub struct FileStore<R: Files> {
 impl<R: Files> FileStore<R> {
     /// The files that the runtime reaches, of which none is attached.
     pub fn new(rt: R, alloc: Global) -> Self
-        ensures disk { ⟦<FileStore<R> as Store>⟧.disk result ≡ record { held = None; name = None; files = None; only = None; touched = None; under = tt } }
+        ensures disk { ⟦<FileStore<R> as Store>⟧.disk result
+            ≡ record { held = None; name = None; files = None; only = None; touched = None; under = tt } }
         ensures read { ⟦<FileStore<R> as Store>⟧.read_faults result ≡ 0 }
         ensures write { ⟦<FileStore<R> as Store>⟧.write_faults result ≡ 0 }
     {
@@ -54,7 +55,14 @@ impl<R: Files> FileStore<R> {
 impl<R: Files> Store for FileStore<R> {
     ghost Under = { Unit {0} };
 
-    ghost disk = { λ s. record { held = bytes_in s.held; name = name_in s.held; files = None; only = None; touched = None; under = tt } };
+    ghost disk = { λ s. record {
+      held = bytes_in s.held;
+      name = name_in s.held;
+      files = None;
+      only = None;
+      touched = None;
+      under = tt;
+    } };
 
     ghost taken = { λ _. None };
 

@@ -25,7 +25,8 @@ pub struct MemFiles {
     pub attached: Option<usize>,
     ghost in_range: { ForSome attached (λ i. i < length list.items) },
     ghost distinct: { IsDistinct bytes_eq (names (entries list.items)) } by { Prim.hlevel props },
-    ghost listed: { held_at list.items attached ≡ lookup_in (name_at list.items attached) (entries list.items) } by { Prim.hlevel props },
+    ghost listed: { held_at list.items attached
+        ≡ lookup_in (name_at list.items attached) (entries list.items) } by { Prim.hlevel props },
 }
 
 /// Where the file of this name stands.
@@ -51,7 +52,7 @@ fn put_entry(
 ) -> Result<(), AllocError>
     requires { IsDistinct bytes_eq (names (entries files.old.items)) }
     ensures ok { OnOk result (entries files.new.items ≡ with_file name.now bytes.now (entries files.old.items)) }
-    ensures err { OnErr result (entries files.new.items ≡ entries files.old.items) }
+    ensures err { OnErr result (files.new.items ≡ files.old.items) }
 {
     let bytes = Vec::from_slice(alloc, bytes)?;
     match place_of(files, name) {
@@ -81,15 +82,16 @@ impl MemFiles {
         }
     }
 
-    /// Adds a file, or replaces the one of this name.
+    /// Adds a file, or replaces the one of this name. Then no file is attached.
     pub fn put(&mut self, name: &str, bytes: &[u8]) -> Result<(), AllocError>
-        requires { held_of self.old ≡ None }
         ensures ok { OnOk result (entries_of self.new ≡ with_file name.now bytes.now (entries_of self.old)) }
-        ensures err { OnErr result (entries_of self.new ≡ entries_of self.old) }
-        ensures attached { self.new.attached ≡ None }
+        ensures detached { OnOk result (self.new.attached ≡ None) }
+        ensures err { OnErr result (self.new.list.items ≡ self.old.list.items) }
+        ensures attached { OnErr result (self.new.attached ≡ self.old.attached) }
     {
+        put_entry(&mut self.list, self.alloc, name, bytes)?;
         self.attached = None;
-        put_entry(&mut self.list, self.alloc, name, bytes)
+        Ok(())
     }
 
     /// The bytes of the file of this name.
@@ -106,10 +108,12 @@ impl MemFiles {
     pub fn attach(&mut self, name: &str, make: bool) -> Result<Option<u64>, AllocError>
         requires { held_of self.old ≡ None }
         ensures length { IfOk result (λ found. found ≡ option_map length (held_of self.new)) }
-        ensures held { OnOk result (held_of self.new ≡ found_or_made make (lookup name.now (entries_of self.old))) }
+        ensures held { OnOk result (held_of self.new
+            ≡ found_or_made make (lookup name.now (entries_of self.old))) }
         ensures made { IsTrue make → IfOk result (λ found. IsSome found) }
         ensures name { name_of self.new ≡ option_map (λ _. name.now) (held_of self.new) }
-        ensures files { AttachesIn make name.now (Some (entries_of self.old)) (Some (entries_of self.new)) result }
+        ensures files { AttachesIn make name.now (Some (entries_of self.old)) (Some (entries_of self.new))
+            result }
         ensures err { OnErr result (held_of self.new ≡ None) }
     {
         self.make_absent(name, make)?;
@@ -119,7 +123,8 @@ impl MemFiles {
     /// Makes an empty file of this name, where it is to be and there is none.
     fn make_absent(&mut self, name: &str, make: bool) -> Result<(), AllocError>
         requires { held_of self.old ≡ None }
-        ensures files { OnOk result (entries_of self.new ≡ (if make then with_made name.now (entries_of self.old) else entries_of self.old)) }
+        ensures files { OnOk result (entries_of self.new
+            ≡ (if make then with_made name.now (entries_of self.old) else entries_of self.old)) }
         ensures err { OnErr result (entries_of self.new ≡ entries_of self.old) }
         ensures held { held_of self.new ≡ None }
     {
@@ -181,7 +186,8 @@ impl MemFiles {
         requires room { place + length bytes.now ≤ room_of self.old }
         ensures held { held_of self.new ≡ Some (put (file_in (held_of self.old)) place bytes.now) }
         ensures name { name_of self.new ≡ name_of self.old }
-        ensures files { Some (entries_of self.new) ≡ files_with (name_of self.old) (file_in (held_of self.new)) (Some (entries_of self.old)) }
+        ensures files { Some (entries_of self.new)
+            ≡ files_with (name_of self.old) (file_in (held_of self.new)) (Some (entries_of self.old)) }
         ensures room { room_of self.old ≤ room_of self.new }
     {
         if let Some(index) = self.attached {
@@ -194,7 +200,8 @@ impl MemFiles {
         requires { IsSome (held_of self.old) }
         ensures held { held_of self.new ≡ Some (take length (file_in (held_of self.old))) }
         ensures name { name_of self.new ≡ name_of self.old }
-        ensures files { Some (entries_of self.new) ≡ files_with (name_of self.old) (file_in (held_of self.new)) (Some (entries_of self.old)) }
+        ensures files { Some (entries_of self.new)
+            ≡ files_with (name_of self.old) (file_in (held_of self.new)) (Some (entries_of self.old)) }
         ensures room { room_of self.old ≤ room_of self.new }
     {
         if let Some(index) = self.attached {

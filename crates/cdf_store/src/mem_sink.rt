@@ -62,11 +62,11 @@ impl MemSink {
 }
 
 impl Sink for MemSink {
-    ghost use Rattle.cdf_store.specs.MemSink.{IsWrite};
+    ghost use Rattle.cdf_store.specs.MemSink.{IsWrite, faults_of, written_of};
 
-    ghost written = { λ s. Some s.taken.items };
+    ghost written = { λ s. Some (written_of s) };
 
-    ghost faults = { λ s. s.faults };
+    ghost faults = { faults_of };
 
     ghost also = { IsWrite };
 

@@ -1,4 +1,4 @@
-ghost use Rattle.std.specs.Prelude.{◌≡◌, ◌≤◌, ◌∷◌, ◌++◌, [], drop, vec_len, OnOk, OnErr, Some};
+ghost use Rattle.std.specs.Prelude.{◌≡◌, ◌≤◌, ◌∷◌, ◌++◌, [], vec_len, OnOk, OnErr, Some};
 
 use crate::copy::copy_front;
 use crate::plan::Plan;
@@ -18,7 +18,7 @@ pub struct MemSource {
 }
 
 impl MemSource {
-    ghost use Rattle.cdf_store.specs.MemSource.{calls_of, failing_of};
+    ghost use Rattle.cdf_store.specs.MemSource.{calls_of, failing_of, most_of};
 
     /// A source of these bytes, of which no read fails.
     pub fn new(alloc: Global, bytes: Vec<u8>, most: usize) -> Self
@@ -27,6 +27,7 @@ impl MemSource {
         ensures faults { ⟦<MemSource as Source>⟧.faults result ≡ 0 }
         ensures calls { calls_of result ≡ 0 }
         ensures failing { failing_of result ≡ [] }
+        ensures most { most_of result ≡ most }
     {
         MemSource {
             bytes,
@@ -42,6 +43,7 @@ impl MemSource {
         ensures ok { OnOk result (failing_of self.new ≡ failing_of self.old ++ call ∷ []) }
         ensures err { OnErr result (failing_of self.new ≡ failing_of self.old) }
         ensures calls { calls_of self.new ≡ calls_of self.old }
+        ensures most { most_of self.new ≡ most_of self.old }
         ensures left { ⟦<MemSource as Source>⟧.left self.new ≡ ⟦<MemSource as Source>⟧.left self.old }
         ensures faults { ⟦<MemSource as Source>⟧.faults self.new ≡ ⟦<MemSource as Source>⟧.faults self.old }
     {
@@ -57,11 +59,11 @@ impl MemSource {
 }
 
 impl Source for MemSource {
-    ghost use Rattle.cdf_store.specs.MemSource.{IsRead};
+    ghost use Rattle.cdf_store.specs.MemSource.{IsRead, faults_of, left_of};
 
-    ghost left = { λ s. Some (drop s.place s.bytes.items) };
+    ghost left = { λ s. Some (left_of s) };
 
-    ghost faults = { λ s. s.faults };
+    ghost faults = { faults_of };
 
     ghost also = { IsRead };
 

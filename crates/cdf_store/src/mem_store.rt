@@ -3,7 +3,7 @@ ghost use Rattle.std.specs.Option.{option_copied, option_map};
 ghost use Rattle.cdf_store.specs.Named.{lookup, with_file};
 ghost use Rattle.cdf_store.specs.Disk.{Disk};
 ghost use Rattle.cdf_store.specs.MemFile.{file_at, same_is_some};
-ghost use Rattle.cdf_store.specs.MemFiles.{entries_of, held_of, name_of, room_of};
+ghost use Rattle.cdf_store.specs.MemFiles.{held_of, name_of, room_of};
 
 use crate::copy::copy_from;
 use crate::mem_files::MemFiles;
@@ -31,7 +31,8 @@ impl MemStore {
 
     /// A store without files, of which no call fails.
     pub fn new(alloc: Global) -> Self
-        ensures disk { ⟦<MemStore as Store>⟧.disk result ≡ record { held = None; name = None; files = Some []; only = None; touched = Some []; under = tt } }
+        ensures disk { ⟦<MemStore as Store>⟧.disk result
+            ≡ record { held = None; name = None; files = Some []; only = None; touched = Some []; under = tt } }
         ensures taken { ⟦<MemStore as Store>⟧.taken result ≡ Some 0 }
         ensures read { ⟦<MemStore as Store>⟧.read_faults result ≡ 0 }
         ensures write { ⟦<MemStore as Store>⟧.write_faults result ≡ 0 }
@@ -50,24 +51,30 @@ impl MemStore {
         }
     }
 
-    /// Adds a file, or replaces the one of this name.
+    /// Adds a file, or replaces the one of this name. Then no file is attached, and room for the writes of the next one is to be
+    /// made anew. After an error all stays as it was, and the attached file stays attached.
     pub fn put_file(&mut self, name: &str, bytes: &[u8]) -> Result<(), AllocError>
-        requires { (⟦<MemStore as Store>⟧.disk self.old).held ≡ None }
-        ensures ok { OnOk result (⟦<MemStore as Store>⟧.disk self.new ≡ record (⟦<MemStore as Store>⟧.disk self.old) { files = option_map (with_file name.now bytes.now) (⟦<MemStore as Store>⟧.disk self.old).files }) }
+        ensures ok { OnOk result (⟦<MemStore as Store>⟧.disk self.new ≡ record (⟦<MemStore as Store>⟧.disk self.old)
+            { held = None; name = None; files = option_map (with_file name.now bytes.now) (⟦<MemStore as Store>⟧.disk self.old).files }) }
         ensures err { OnErr result (⟦<MemStore as Store>⟧.disk self.new ≡ ⟦<MemStore as Store>⟧.disk self.old) }
+        ensures writes { (⟦<MemStore as Store>⟧.spare self.new).writes ≡ (⟦<MemStore as Store>⟧.spare self.old).writes }
+        ensures end { OnOk result ((⟦<MemStore as Store>⟧.spare self.new).end ≡ 0) }
+        ensures spare { OnErr result (⟦<MemStore as Store>⟧.spare self.new ≡ ⟦<MemStore as Store>⟧.spare self.old) }
         ensures taken { ⟦<MemStore as Store>⟧.taken self.new ≡ ⟦<MemStore as Store>⟧.taken self.old }
-        ensures spare { ⟦<MemStore as Store>⟧.spare self.new ≡ ⟦<MemStore as Store>⟧.spare self.old }
         ensures read { ⟦<MemStore as Store>⟧.read_faults self.new ≡ ⟦<MemStore as Store>⟧.read_faults self.old }
         ensures write { ⟦<MemStore as Store>⟧.write_faults self.new ≡ ⟦<MemStore as Store>⟧.write_faults self.old }
         ensures calls { calls_of self.new ≡ calls_of self.old }
         ensures failing { failing_of self.new ≡ failing_of self.old }
     {
-        self.files.put(name, bytes)
+        self.files.put(name, bytes)?;
+        self.end = 0;
+        Ok(())
     }
 
     /// The bytes of the file of this name.
     pub fn file(&self, name: &str) -> Option<&[u8]>
-        ensures { IfSome (⟦<MemStore as Store>⟧.disk self.now).files (λ files. option_copied result ≡ lookup name.now files) }
+        ensures { IfSome (⟦<MemStore as Store>⟧.disk self.now).files
+            (λ files. option_copied result ≡ lookup name.now files) }
     {
         self.files.find(name)
     }
@@ -95,23 +102,34 @@ impl MemStore {
 }
 
 impl Store for MemStore {
-    ghost use Rattle.cdf_store.specs.MemStore.{CallsAsPlanned};
+    ghost use Rattle.cdf_store.specs.MemStore.{CallsAsPlanned, files_of, read_faults_of, touched_of, write_faults_of};
 
     ghost Under = { Unit {0} };
 
-    ghost disk = { λ s. record { held = held_of s.files; name = name_of s.files; files = Some (entries_of s.files); only = None; touched = Some s.touched.items; under = tt } };
+    ghost disk = { λ s. record {
+      held = held_of s.files;
+      name = name_of s.files;
+      files = Some (files_of s);
+      only = None;
+      touched = Some (touched_of s);
+      under = tt;
+    } };
 
     ghost taken = { λ s. Some s.taken };
 
     ghost spare = { λ s. record { writes = s.writes; end = s.end } };
 
-    ghost read_faults = { λ s. s.read_faults };
+    ghost read_faults = { read_faults_of };
 
-    ghost write_faults = { λ s. s.write_faults };
+    ghost write_faults = { write_faults_of };
 
     ghost also = { CallsAsPlanned };
 
-    ghost whole = { λ s. record { named = same_is_some (file_at s.files.list.items s.files.attached); distinct = s.files.distinct; listed = s.files.listed } };
+    ghost whole = { λ s. record {
+      named = same_is_some (file_at s.files.list.items s.files.attached);
+      distinct = s.files.distinct;
+      listed = s.files.listed;
+    } };
 
     fn attach(&mut self, name: &str, make: bool) -> Result<Option<u64>, AttachError> {
         if self.plan.next_fails() {

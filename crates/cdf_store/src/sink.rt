@@ -21,7 +21,7 @@ pub trait Sink {
     /// takes nothing.
     fn write(&mut self, bytes: &[u8]) -> Result<usize, Failed>
         ensures bound { WritesAtMost result bytes.now }
-        ensures some { IfOk result (λ n. n ≡ 0 → length bytes.now ≡ 0) }
+        ensures takes { IfOk result (λ n. n ≡ 0 → length bytes.now ≡ 0) }
         ensures bytes { WriteAppends (written self.old) (written self.new) result bytes.now }
         ensures cause { HasCause (faults self.old) (faults self.new) result }
         ensures also { also self.old self.new bytes.now (is_err result) };

@@ -56,7 +56,8 @@ pub trait Store {
         ensures name { (disk self.new).name ≡ option_map (λ _. name.now) (disk self.new).held }
 
         // Over a device that tells its files the bytes are those under the name.
-        ensures known { IfOk result (λ _. IfSome (disk self.old).files (λ files. (disk self.new).held ≡ found_or_made make (lookup name.now files))) }
+        ensures known { IfOk result (λ _. IfSome (disk self.old).files
+            (λ files. (disk self.new).held ≡ found_or_made make (lookup name.now files))) }
         ensures files { AttachesIn make name.now (disk self.old).files (disk self.new).files result }
 
         ensures only { (disk self.new).only ≡ (disk self.old).only }
@@ -64,7 +65,8 @@ pub trait Store {
         ensures under { (disk self.new).under ≡ (disk self.old).under }
         ensures taken { taken self.new ≡ taken self.old }
         ensures spare { spare self.new ≡ spare self.old }
-        ensures cause { HasCauseOf AttachError.Failed (read_faults self.old) (read_faults self.new) result }
+        ensures cause { HasCauseOf AttachError.Failed (read_faults self.old) (read_faults self.new)
+            result }
         ensures write { write_faults self.new ≡ write_faults self.old }
         ensures also { also self.old self.new (Some (is_failed result)) };
 

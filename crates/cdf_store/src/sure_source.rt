@@ -14,7 +14,9 @@ pub struct SureSource {
 impl SureSource {
     /// A source of these bytes.
     pub fn new(bytes: Vec<u8>) -> Self
-        ensures { ⟦<SureSource as Source>⟧.left result ≡ Some bytes.items }
+        ensures left { ⟦<SureSource as Source>⟧.left result ≡ Some bytes.items }
+        // No read of such a source fails.
+        ensures faultless { (source : SureSource) → ⟦<SureSource as Source>⟧.faults source ≡ 0 }
     {
         SureSource { bytes, place: 0 }
     }

@@ -1,20 +1,19 @@
 -- What follows from how a run ends.
-use Rattle.std.proofs.Common.{◌≡◌, ◌⊎◌, ℕ, ◌+◌, ◌-◌, ◌<◌, ◌≤◌, Bool, true, false, List, [], ◌++◌, append-nil, length, Option, Some, None, refl, sym, ◌∙◌, ap, subst, inl, inr, arith, length-append}
+use Rattle.std.proofs.Common.{◌≡◌, ◌⊎◌, ℕ, ◌+◌, ◌-◌, ◌<◌, ◌≤◌, true, false, List, [], ◌++◌, append-nil, length, Option, Some, None, refl, sym, ◌∙◌, ap, subst, inl, inr, arith, length-append}
 use Rattle.std.specs.Prelude.{◌↔◌, IfSome}
 use Rattle.std.specs.Io.KnownBytes.{Appends, Consumes, IsAtEnd}
 use Rattle.cdf_store.specs.Named.{lookup}
 use Rattle.cdf_format.specs.Content.{data_set_of}
-use Rattle.cdf_format.specs.WellFormed.{WellFormed, Breaks, phases}
+use Rattle.cdf_format.specs.WellFormed.{WellFormed, phases}
 use Rattle.cdf_format.proofs.Verdicts.{excluded}
 use Rattle.cdf_model.specs.DataSet.{DataSet}
 use Rattle.cdf_model.specs.Limits.{script_limit}
 use Rattle.cdf_model.specs.Run.{State, run_of}
-use Rattle.cdf_model.specs.Texts.{rejected_text}
 use Rattle.cdf_tool.specs.declared.status.Status.{Status}
 use Rattle.cdf_tool.specs.declared.status.Status.TheVariants as statuses
 use Rattle.cdf_tool.specs.Ends.{Rejects, rejection, Names, SaysRejected, EndsUnread, EndsOver, EndsWithout, EndsUnasked, EndsNamed, Ends, Replays}
-use Rattle.cdf_tool.specs.Headline.{Accepted, Headline}
-use Rattle.cdf_tool.specs.Script.{Answers, Runs}
+use Rattle.cdf_tool.specs.Accepts.{Accepted, Accepts}
+use Rattle.cdf_tool.specs.Script.{Answers}
 use Rattle.cdf_tool.specs.Statuses.{IsDone, IsFailure, Exactly, Looked}
 
 -- a rejection ends a run
@@ -297,8 +296,8 @@ none_accepted first now status ends is = elim (without_status first now status e
   | inr fails ↦ done_or_failed status is fails
 ]
 
-pub headline : (file before left first now : Option (List ℕ)) (status : Status) → EndsNamed file before left first now status → Headline file before left first now status
-headline None before left first now status ends = none_accepted first now status ends.1
-headline (Some bytes) None left first now status ends = tt
-headline (Some bytes) (Some script) left None now status ends = tt
-headline (Some bytes) (Some script) left (Some written) now status ends = over_accepted bytes script written left now status ends
+pub accepts : (file before left first now : Option (List ℕ)) (status : Status) → EndsNamed file before left first now status → Accepts file before left first now status
+accepts None before left first now status ends = none_accepted first now status ends.1
+accepts (Some bytes) None left first now status ends = tt
+accepts (Some bytes) (Some script) left None now status ends = tt
+accepts (Some bytes) (Some script) left (Some written) now status ends = over_accepted bytes script written left now status ends

@@ -1,20 +1,18 @@
 -- What a well-formed file has of its two records.
-use Rattle.std.proofs.Common.{◌≡◌, ℕ, ◌+◌, ◌*◌, ◌^◌, ◌<◌, ◌≤◌, ℤ, pos, Bool, true, false, List, length, refl, sym, ◌∙◌, ap, subst, arith}
+use Rattle.std.proofs.Common.{◌≡◌, ℕ, ◌+◌, ◌*◌, ◌≤◌, pos, Bool, true, false, List, length, refl, sym, ◌∙◌, ap, subst, arith}
 use Rattle.std.proofs.Math.Path.{transport}
 use Rattle.std.proofs.lemmas.Bool.Decides.{nat_tests}
 use Rattle.std.proofs.lemmas.Int.{of_z-to_z}
 use Rattle.std.specs.Prelude.{nat_le, ◌&&◌, ◌==◌}
 use Rattle.std.specs.Int.{w32, cast_signed, cast_unsigned}
 use Rattle.cdf_format.specs.Content.{content, data_set_of, majority_of}
-use Rattle.cdf_format.specs.Fields.{word, signed4, counted, has_bit, gdr_offset, version, flags, size_at, type_at, r_dimensions, r_sizes}
+use Rattle.cdf_format.specs.Fields.{word, signed4, has_bit, gdr_offset, version, flags, size_at, type_at, r_dimensions, r_sizes}
 use Rattle.cdf_format.specs.Rules.{Hold, asked}
-use Rattle.cdf_format.specs.Sealed.{image_of}
 use Rattle.cdf_format.specs.WellFormed.{WellFormed, has_gdr, is_gdr, is_record, gdr_rows}
 use Rattle.cdf_format.proofs.Images.{image_of-whole}
 use Rattle.cdf_model.specs.declared.command.Command.{Command}
 use Rattle.cdf_model.specs.declared.command.Command.TheVariants.{Info}
-use Rattle.cdf_model.specs.declared.head.Head.{Head}
-use Rattle.cdf_model.specs.DataSet.{DataSet, head_of}
+use Rattle.cdf_model.specs.DataSet.{head_of}
 use Rattle.cdf_records.specs.declared.cdr.Cdr.{Cdr}
 use Rattle.cdf_records.specs.declared.gdr.Gdr.{Gdr}
 use Rattle.cdf_records.specs.Heads.{cdr_at, gdr_at}

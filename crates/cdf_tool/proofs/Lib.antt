@@ -1,3 +1,4 @@
+pub mod Standing
 pub mod ReplayLemmas
 pub mod HeadLemmas
 pub mod ScriptLemmas

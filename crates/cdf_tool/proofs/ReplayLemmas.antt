@@ -1,6 +1,6 @@
 -- How a run goes on from line to line.
-use Rattle.std.proofs.Common.{◌≡◌, ℕ, suc, ◌+◌, Bool, true, false, List, [], ◌∷◌, ◌++◌, append-nil, Option, Some, None, refl, sym, ◌∙◌, ap, subst, arith}
-use Rattle.std.proofs.KnownBytes.{Appends-nil, Appends-trans}
+use Rattle.std.proofs.Common.{◌≡◌, ℕ, ◌+◌, Bool, List, [], ◌∷◌, ◌++◌, Option, refl, sym, ◌∙◌, ap, subst}
+use Rattle.std.proofs.KnownBytes.{Appends-trans}
 use Rattle.std.specs.Prelude.{◌||◌}
 use Rattle.std.specs.Io.KnownBytes.{Appends}
 use Rattle.cdf_store.specs.Written.{IsFront, AppendsFront}
@@ -11,7 +11,8 @@ use Rattle.cdf_model.specs.Grammar.{Parsed, Blank, Asks, Faulty, parse}
 use Rattle.cdf_model.specs.Run.{Turn, State, turn, advance, run_on}
 use Rattle.cdf_script.specs.declared.line.Line.{Line}
 use Rattle.cdf_script.specs.Pending.{Pending, GivesLine, fed, line_of, new_lines}
-use Rattle.cdf_tool.specs.Replay.{Turns, IsAt, GoesOn, StopsWithin, Reached}
+use Rattle.cdf_tool.specs.Replay.{Turns, IsAt}
+use Rattle.cdf_tool.proofs.Standing.{Reached}
 
 -- no command changes the data set so far
 turn-data_set : (d : DataSet) (n : ℕ) (p : Parsed) → (turn d n p).data_set ≡ d

@@ -2,12 +2,11 @@
 use Rattle.std.proofs.Common.{◌≡◌, ℕ, ◌+◌, ◌<◌, ◌≤◌, Bool, true, false, List, [], ◌++◌, append-nil, length, Option, refl, sym, ◌∙◌, ap, subst, inl, inr, arith, length-append}
 use Rattle.std.proofs.lemmas.List.Sums.{fold-append}
 use Rattle.std.proofs.KnownBytes.{Consumes-nil, Consumes-trans, Appends-nil}
-use Rattle.std.specs.Io.KnownBytes.{Appends, Consumes, IsAtEnd}
+use Rattle.std.specs.Io.KnownBytes.{Consumes, IsAtEnd}
 use Rattle.cdf_store.specs.Written.{IsFront, AppendsFront}
-use Rattle.cdf_store.proofs.Fronts.{front_none, front_longer}
 use Rattle.cdf_model.specs.DataSet.{DataSet}
 use Rattle.cdf_model.specs.Limits.{script_limit}
-use Rattle.cdf_model.specs.Lines.{split, kept, lines, whole_lines}
+use Rattle.cdf_model.specs.Lines.{split, kept, whole_lines}
 use Rattle.cdf_model.specs.Run.{State, start, advance, run_on, run_lines, run_of}
 use Rattle.cdf_script.specs.Pending.{Pending, last_of, new_lines, new_rest, nothing_fed, finished}
 use Rattle.cdf_script.proofs.Pieces.{whole_lines-append, rest-append, lines-split}
@@ -15,10 +14,11 @@ use Rattle.cdf_tool.specs.declared.status.Status.{Status}
 use Rattle.cdf_tool.specs.declared.status.Status.TheVariants as statuses
 use Rattle.cdf_tool.specs.declared.stop.Stop.{Stop}
 use Rattle.cdf_tool.specs.declared.stop.Stop.TheVariants as stops
-use Rattle.cdf_tool.specs.Replay.{IsAt, GoesOn, StopsWithin, EndsAt, Finishes, IsAfter}
-use Rattle.cdf_tool.specs.Script.{Answers, RepliesInPart, Runs}
+use Rattle.cdf_tool.specs.Replay.{IsAt, GoesOn, StopsWithin, EndsAt, Finishes}
+use Rattle.cdf_tool.specs.Script.{Answers, Runs}
 use Rattle.cdf_tool.specs.Statuses.{status_of}
 use Rattle.cdf_tool.specs.Stops.{status_after}
+use Rattle.cdf_tool.proofs.Standing.{IsAfter}
 use Rattle.cdf_tool.proofs.ReplayLemmas.{run_on-grows}
 
 -- a run that goes on by further lines

@@ -4,4 +4,4 @@ pub mod Stops
 pub mod Script
 pub mod Replay
 pub mod Ends
-pub mod Headline
+pub mod Accepts

@@ -1,11 +1,10 @@
 -- Where the replay of a script stands between two lines.
-use Rattle.std.specs.Prelude.{◌≡◌, ℕ, List, [], length, Bool, true, false, Some, None}
+use Rattle.std.specs.Prelude.{◌≡◌, ℕ, List, [], Bool, true, false}
 use Rattle.std.specs.declared.option.Option.{Option}
-use Rattle.std.specs.Io.KnownBytes.{Appends, Consumes}
+use Rattle.std.specs.Io.KnownBytes.{Appends}
 use Rattle.cdf_store.specs.Written.{AppendsFront}
 use Rattle.cdf_model.specs.DataSet.{DataSet}
-use Rattle.cdf_model.specs.Lines.{split, kept, whole_lines}
-use Rattle.cdf_model.specs.Run.{Turn, State, run_on, run_lines}
+use Rattle.cdf_model.specs.Run.{Turn, State, run_on}
 use Rattle.cdf_script.specs.Pending.{Pending, last_of}
 use Rattle.cdf_tool.specs.declared.status.Status.{Status}
 use Rattle.cdf_tool.specs.declared.status.Status.TheVariants as statuses
@@ -37,22 +36,6 @@ GoesOn d lines given refused was given' refused' now =
 abbrev pub StopsWithin : DataSet → List (Option (List ℕ)) → ℕ → Bool → Option (List ℕ) → Option (List ℕ) → Type 0
 StopsWithin d lines given refused was now =
     (first : Option (List ℕ)) (s : State) → IsAt d given refused first was s → AppendsFront first now (run_on s lines).text
-
--- the replay stands after some bytes of the script, all whole lines of which it has answered
-pub record IsAfter (d : DataSet) (before left first now : Option (List ℕ)) (lines : Pending) (refused : Bool) (total : ℕ) : Type 0 where
-  pub taken : List ℕ
-  pub consumed : Consumes before left taken
-  pub total_is : length taken ≡ total
-  pub rest : lines.rest ≡ kept (split taken).1
-  pub none_ready : lines.ready ≡ []
-  pub not_over : lines.over ≡ false
-  pub stands : IsAt d lines.given refused first now (run_lines d (whole_lines taken))
-
--- on the way from a state to what a run is to come to: it stands at a state from which the lines that are left lead there
-pub record Reached (d : DataSet) (given : ℕ) (refused : Bool) (first now : Option (List ℕ)) (left : List (Option (List ℕ))) (whole : State) : Type 0 where
-  pub state : State
-  pub stands : IsAt d given refused first now state
-  pub leads : run_on state left ≡ whole
 
 -- a run came to this state and wrote its text, or stopped within it
 abbrev pub EndsAt : State → Option (List ℕ) → Option (List ℕ) → Status → Type 0

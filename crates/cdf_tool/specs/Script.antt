@@ -6,7 +6,7 @@ use Rattle.cdf_store.specs.Written.{AppendsFront}
 use Rattle.cdf_model.specs.DataSet.{DataSet}
 use Rattle.cdf_model.specs.Limits.{script_limit}
 use Rattle.cdf_model.specs.Lines.{whole_lines}
-use Rattle.cdf_model.specs.Run.{State, run_lines, run_of}
+use Rattle.cdf_model.specs.Run.{run_lines, run_of}
 use Rattle.cdf_tool.specs.declared.status.Status.{Status}
 use Rattle.cdf_tool.specs.declared.status.Status.TheVariants as statuses
 

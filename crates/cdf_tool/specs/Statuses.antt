@@ -1,5 +1,5 @@
 -- When each status comes.
-use Rattle.std.specs.Prelude.{◌≡◌, ◌⊎◌, ℕ, ◌<◌, ◌-◌, List, length, Bool, true, false, Some, None}
+use Rattle.std.specs.Prelude.{◌≡◌, ◌⊎◌, ℕ, List, Bool, true, false, None}
 use Rattle.std.specs.declared.option.Option.{Option}
 use Rattle.cdf_tool.specs.declared.status.Status.{Status}
 use Rattle.cdf_tool.specs.declared.status.Status.TheVariants as statuses
@@ -42,8 +42,8 @@ pub record Exactly (due status : Status) (P : Type 0) : Type 0 where
   pub only : status ≡ due → P
   pub always : P → (status ≡ due) ⊎ IsFailure status
 
--- the file that was read is the one under the name; where the store failed or memory was refused it may not have been read
+-- the file that was read is the one under the name; where the store failed or memory was refused, none may have been read
 abbrev pub Looked : Option (List ℕ) → Option (List ℕ) → Status → Type 0
-Looked file under statuses.StoreReadFault = Unit {0}
-Looked file under statuses.NoMemory = Unit {0}
+Looked file under statuses.StoreReadFault = (file ≡ None) ⊎ (file ≡ under)
+Looked file under statuses.NoMemory = (file ≡ None) ⊎ (file ≡ under)
 Looked file under other = file ≡ under

@@ -78,6 +78,7 @@ pub fn run_file<S: Store, I: Source, O: Sink>(
     requires free { (S.disk store).held ≡ None }
     requires allowed { Allows (S.disk store).only name.now }
     ensures ends { EndsNamed (S.disk result.store).held (I.left script.old) (I.left script.new) (O.written out.old) (O.written out.new) result.status }
+    ensures named { (S.disk result.store).name ≡ option_map (λ _. name.now) (S.disk result.store).held }
     ensures looked { IfSome (S.disk store).files (λ files. Looked (S.disk result.store).held (lookup name.now files) result.status) }
     ensures files { (S.disk result.store).files ≡ (S.disk store).files }
     ensures only { (S.disk result.store).only ≡ (S.disk store).only }

@@ -49,7 +49,12 @@ fn say<O: Sink>(alloc: Global, number: u64, outcome: &Outcome, out: &mut O) -> R
 }
 
 /// Answers a line that is no command.
-fn answer_fault<O: Sink>(alloc: Global, number: u64, fault: LineError, out: &mut O) -> Result<bool, Stop>
+fn answer_fault<O: Sink>(
+    alloc: Global,
+    number: u64,
+    fault: LineError,
+    out: &mut O,
+) -> Result<bool, Stop>
     ensures ok { (d : DataSet) → IfOk result (λ refused. Turns (turn d number (Faulty fault)) refused (O.written out.old) (O.written out.new)) }
     ensures err { (d : DataSet) → OnErr result (AppendsFront (O.written out.old) (O.written out.new) (turn d number (Faulty fault)).text) }
     ensures later { O.faults out.old ≤ O.faults out.new }

@@ -68,6 +68,7 @@ fn read_sizes<A: Area>(
     ensures frame { A.frame area.new ≡ A.frame area.old }
     ensures cause { HasCauseOf AreaError.Fault (A.faults area.old) (A.faults area.new) result }
 {
+    // An image has fewer than 2^64 bytes, so no place in it overflows.
     let _size = area.size();
     let dimensions = gdr.r_num_dims.cast_unsigned();
     read_nums(alloc, area, place + GDR_FIXED, dimensions)
@@ -88,11 +89,7 @@ fn read_head<A: Area>(alloc: Global, area: &mut A) -> Result<Head, AreaError>
 }
 
 /// What a command answers over a well-formed file.
-pub fn apply<A: Area>(
-    alloc: Global,
-    area: &mut A,
-    command: &Command,
-) -> Result<Outcome, AreaError>
+pub fn apply<A: Area>(alloc: Global, area: &mut A, command: &Command) -> Result<Outcome, AreaError>
     requires { WellFormed (A.image area.old) }
     ensures outcome { IfOk result (λ o. o ≡ outcome (step (data_set_of (A.image area.old)) command.now)) }
     ensures image { A.image area.new ≡ A.image area.old }

@@ -1,12 +1,12 @@
 ghost use Rattle.std.specs.Prelude.{◌≡◌, ◌-◌, ◌<◌, ◌≤◌, length, map, string_bytes, Some, None, IfSome, ◌⊎◌};
-ghost use Rattle.std.specs.Option.{ForSome};
+ghost use Rattle.std.specs.Option.{ForSome, option_map};
 ghost use Rattle.cdf_base.specs.Causes.{Rose};
 ghost use Rattle.cdf_store.specs.Named.{Allows, lookup};
 ghost use Rattle.cdf_format.specs.WellFormed.{WellFormed};
 ghost use Rattle.cdf_model.specs.Limits.{script_limit};
 ghost use Rattle.cdf_model.specs.Words.{ask};
 ghost use Rattle.cdf_tool.specs.Ends.{Ends, Names};
-ghost use Rattle.cdf_tool.specs.Headline.{Headline};
+ghost use Rattle.cdf_tool.specs.Accepts.{Accepts};
 ghost use Rattle.cdf_tool.specs.Statuses.{Exactly, IsDone, IsFailure, Looked};
 
 use crate::Status;
@@ -31,12 +31,13 @@ pub fn run<S: Store, I: Source, O: Sink>(
 
     // Over devices that tell their bytes: with status 0 or 1 the file is well formed, the script was read to its end, and what was
     // written is the text of its run over the data set of the file, and nothing else.
-    ensures headline { Headline (S.disk result.store).held (I.left script.old) (I.left script.new) (O.written out.old) (O.written out.new) result.status }
+    ensures accepted { Accepts (S.disk result.store).held (I.left script.old) (I.left script.new) (O.written out.old) (O.written out.new) result.status }
 
     // Over any devices: what was written and what was read, status by status.
     ensures ends { Ends (ask (map string_bytes words.now)) (S.disk result.store).held (I.left script.old) (I.left script.new) (O.written out.old) (O.written out.new) result.status }
 
-    // The file that was read is the one of the name, over a store that tells its files.
+    // The file that was read is attached under the name that was asked for, and over a store that tells its files it is the one of that name.
+    ensures named { IfSome (ask (map string_bytes words.now)) (λ name. (S.disk result.store).name ≡ option_map (λ _. name) (S.disk result.store).held) }
     ensures looked { IfSome (ask (map string_bytes words.now)) (λ name. IfSome (S.disk store).files (λ files. Looked (S.disk result.store).held (lookup name files) result.status)) }
 
     // Statuses 2, 3, 4 and 10 come exactly where they are due.
@@ -56,8 +57,12 @@ pub fn run<S: Store, I: Source, O: Sink>(
     ensures output { result.status ≡ Status.OutputFault → Rose (O.faults out.old) (O.faults out.new) }
     ensures source { result.status ≡ Status.ScriptFault → Rose (I.faults script.old) (I.faults script.new) }
     ensures no_write { result.status ≡ Status.StoreWriteFault → ⊥ }
+    ensures later_store { S.read_faults store ≤ S.read_faults result.store }
+    ensures later_out { O.faults out.old ≤ O.faults out.new }
+    ensures later_script { I.faults script.old ≤ I.faults script.new }
 
-    // The store's files stay as they were.
+    // The store's files stay as they were, and where no file is named the store is not called.
+    ensures not_called { ask (map string_bytes words.now) ≡ None → S.disk result.store ≡ S.disk store }
     ensures files { (S.disk result.store).files ≡ (S.disk store).files }
     ensures only { (S.disk result.store).only ≡ (S.disk store).only }
     ensures touched { (S.disk result.store).touched ≡ (S.disk store).touched }

@@ -1,4 +1,3 @@
-use Rattle.std.proofs.Common.{◌≡◌}
 use Rattle.cdf_format.specs.Content.{data_set_of}
 use Rattle.cdf_store.proofs.Fronts.{on_err}
 use Rattle.cdf_script.specs.Pending.{new_lines}

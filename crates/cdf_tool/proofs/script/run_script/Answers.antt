@@ -1,4 +1,4 @@
-use Rattle.std.proofs.Common.{◌≡◌, ℕ, ◌+◌, ◌<◌, ◌≤◌, ◌∙◌, [], length, take, ap, refl, sym, subst, rules, arith}
+use Rattle.std.proofs.Common.{◌≡◌, ℕ, ◌+◌, ◌<◌, ◌≤◌, ◌∙◌, [], length, take, ap, sym, subst, rules, arith}
 use Rattle.std.specs.Io.KnownBytes.{IsAtEnd}
 use Rattle.cdf_format.specs.Content.{data_set_of}
 use Rattle.cdf_model.specs.DataSet.{DataSet}

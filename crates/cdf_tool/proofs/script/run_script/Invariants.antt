@@ -1,7 +1,7 @@
 use Rattle.std.proofs.Common.{◌≡◌, ◌≤◌}
 use Rattle.cdf_format.specs.Content.{data_set_of}
 use Rattle.cdf_model.specs.Limits.{script_limit}
-use Rattle.cdf_tool.specs.Replay.{IsAfter}
+use Rattle.cdf_tool.proofs.Standing.{IsAfter}
 use Rattle.cdf_tool.proofs.script.run_script.Given as goal
 
 abbrev pub invariant-loop : goal.invariant-loop

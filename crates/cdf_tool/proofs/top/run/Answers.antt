@@ -1,8 +1,8 @@
-use Rattle.cdf_tool.proofs.EndLemmas.{headline, no_file_exactly, too_long_exactly, completes}
+use Rattle.cdf_tool.proofs.EndLemmas.{accepts, no_file_exactly, too_long_exactly, completes}
 use Rattle.cdf_tool.proofs.top.run.Goals as goal
 
-pub returns-in-Some-clause-headline : goal.returns-in-Some-clause-headline
-returns-in-Some-clause-headline g c = headline _ _ _ _ _ _ c.run_file.ensures.ends
+pub returns-in-Some-clause-accepted : goal.returns-in-Some-clause-accepted
+returns-in-Some-clause-accepted g c = accepts _ _ _ _ _ _ c.run_file.ensures.ends
 
 pub returns-in-Some-clause-no_file : goal.returns-in-Some-clause-no_file
 returns-in-Some-clause-no_file g c =

@@ -1,5 +1,5 @@
 -- What a run over devices that tell their bytes comes to, where nothing failed.
-use Rattle.std.specs.Prelude.{◌≡◌, ◌↔◌, ◌≤◌, ℕ, List, [], ◌++◌, length, Bool, true, Some, None}
+use Rattle.std.specs.Prelude.{◌≡◌, ◌↔◌, ◌≤◌, ℕ, List, [], ◌++◌, length, true, Some, None}
 use Rattle.std.specs.declared.option.Option.{Option}
 use Rattle.cdf_model.specs.Limits.{script_limit}
 use Rattle.cdf_model.specs.Run.{run_of}
@@ -18,7 +18,7 @@ pub record Accepted (file script : List ℕ) (left : Option (List ℕ)) (written
   pub refused : (status ≡ statuses.SomeRefused) ↔ ((run_of (data_set_of file) script).refused ≡ true)
 
 -- with status 0 or 1, over a source and a sink that tell their bytes
-abbrev pub Headline : Option (List ℕ) → Option (List ℕ) → Option (List ℕ) → Option (List ℕ) → Option (List ℕ) → Status → Type 0
-Headline None before left first now status = IsDone status → ⊥
-Headline (Some file) (Some script) left (Some written) now status = IsDone status → Accepted file script left written now status
-Headline (Some file) before left first now status = Unit {0}
+abbrev pub Accepts : Option (List ℕ) → Option (List ℕ) → Option (List ℕ) → Option (List ℕ) → Option (List ℕ) → Status → Type 0
+Accepts None before left first now status = IsDone status → ⊥
+Accepts (Some file) (Some script) left (Some written) now status = IsDone status → Accepted file script left written now status
+Accepts (Some file) before left first now status = Unit {0}

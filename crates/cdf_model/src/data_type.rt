@@ -1,0 +1,71 @@
+ghost use Rattle.std.specs.Prelude.{◌≡◌};
+ghost use Rattle.cdf_model.specs.Types.{size_of, type_of};
+
+/// The type of the elements of a value, with the code that stands for it in a file.
+#[derive(Clone, Copy, Debug, PartialEq, Eq)]
+pub enum DataType {
+    Int1 = 1,
+    Int2 = 2,
+    Int4 = 4,
+    Int8 = 8,
+    UInt1 = 11,
+    UInt2 = 12,
+    UInt4 = 14,
+    Real4 = 21,
+    Real8 = 22,
+    Epoch = 31,
+    Epoch16 = 32,
+    TimeTt2000 = 33,
+    Byte = 41,
+    Float = 44,
+    Double = 45,
+    Char = 51,
+    UChar = 52,
+}
+
+impl DataType {
+    /// The number of bytes of an element.
+    pub fn size(&self) -> u32
+        ensures { result ≡ size_of self.now }
+    {
+        match self {
+            DataType::Int1 | DataType::UInt1 | DataType::Byte => 1,
+            DataType::Char | DataType::UChar => 1,
+            DataType::Int2 | DataType::UInt2 => 2,
+            DataType::Int4 | DataType::UInt4 => 4,
+            DataType::Real4 | DataType::Float => 4,
+            DataType::Int8 | DataType::Real8 | DataType::Double => 8,
+            DataType::Epoch | DataType::TimeTt2000 => 8,
+            DataType::Epoch16 => 16,
+        }
+    }
+
+    /// The type of a code; none where no type has the code.
+    pub fn of_code(code: i32) -> Option<DataType>
+        ensures { result ≡ type_of code }
+    {
+        let Ok(code) = u32::try_from(code) else {
+            return None;
+        };
+        match code {
+            1 => Some(DataType::Int1),
+            2 => Some(DataType::Int2),
+            4 => Some(DataType::Int4),
+            8 => Some(DataType::Int8),
+            11 => Some(DataType::UInt1),
+            12 => Some(DataType::UInt2),
+            14 => Some(DataType::UInt4),
+            21 => Some(DataType::Real4),
+            22 => Some(DataType::Real8),
+            31 => Some(DataType::Epoch),
+            32 => Some(DataType::Epoch16),
+            33 => Some(DataType::TimeTt2000),
+            41 => Some(DataType::Byte),
+            44 => Some(DataType::Float),
+            45 => Some(DataType::Double),
+            51 => Some(DataType::Char),
+            52 => Some(DataType::UChar),
+            _ => None,
+        }
+    }
+}

@@ -1,0 +1,8 @@
+//! The names of a file's attributes, or of its variables of one kind, each with its number.
+#![tactic(auto)]
+
+mod table;
+#[cfg(test)]
+mod tests;
+
+pub use table::NameTable;

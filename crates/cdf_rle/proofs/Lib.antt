@@ -1,0 +1,7 @@
+mod PackedLemmas
+mod CutLemmas
+mod DataLemmas
+mod ZeroLemmas
+mod LongestLemmas
+mod PackingLemmas
+mod ReadingLemmas
