@@ -5,3 +5,6 @@ mod head;
 mod reply;
 
 pub use reply::reply_text;
+
+#[cfg(test)]
+mod tests;
