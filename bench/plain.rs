@@ -105,7 +105,7 @@ fn rle(size: usize) {
     println!("{} {:016x} {} {:016x}", packed.len(), sum_of(&packed), out.len(), sum_of(&out));
 }
 
-fn names(count: usize) {
+fn names(count: usize, asked: usize) {
     let names: Vec<Vec<u8>> = (0..count).map(|index| format!("variable {index}").into_bytes()).collect();
     let start = Instant::now();
     let mut table = HashMap::new();
@@ -117,8 +117,8 @@ fn names(count: usize) {
     let start = Instant::now();
     let mut random = Random { state: 2 };
     let mut sum = 0;
-    for _ in 0..if names.is_empty() { 0 } else { LOOKUPS } {
-        let name = &names[random.next() as usize % names.len()];
+    for _ in 0..LOOKUPS {
+        let name = &names[random.next() as usize % asked * (count / asked)];
         sum += table.get(name).copied().unwrap_or(0);
     }
     say_lap("find", start);
@@ -155,7 +155,7 @@ fn main() -> ExitCode {
     let number = |place: usize| words.get(place).and_then(|word| word.parse().ok());
     match (words.first().map(String::as_str), number(1), number(2)) {
         (Some("rle"), Some(size), _) => rle(size),
-        (Some("names"), Some(count), _) => names(count),
+        (Some("names"), Some(count), Some(asked)) if asked > 0 => names(count, asked),
         (Some("undo"), Some(count), Some(size)) => undo(count, size),
         _ => return ExitCode::FAILURE,
     }

@@ -3,7 +3,7 @@
 //!
 //!     rle SIZE            packs so many bytes, and reads them back
 //!     digest FILE         the MD5 digest of a file that is held in memory
-//!     names COUNT         a million look-ups among so many names
+//!     names COUNT ASKED   a million look-ups of so many different ones among so many names
 //!     undo COUNT SIZE     so many writes of 8 bytes under one mark of an area of so many bytes, and back
 #![tactic(auto)]
 
@@ -56,7 +56,7 @@ fn run(rt: &(impl Runtime + AllocGlobal)) -> Result<(), Failed> {
     match text(&words, 0)? {
         "rle" => rle::run(rt, number(&words, 1)?),
         "digest" => whole::run(rt, text(&words, 1)?),
-        "names" => names::run(rt, number(&words, 1)?),
+        "names" => names::run(rt, number(&words, 1)?, number(&words, 2)?),
         "undo" => undo::run(rt, number(&words, 1)?, number(&words, 2)?),
         _ => Err(Failed::Words),
     }

@@ -29,30 +29,33 @@ fn table_of(alloc: Global, names: &[Vec<u8>]) -> Result<NameTable, AllocError> {
     Ok(table)
 }
 
-/// The sum of the numbers of the names that are looked up, in no order.
-fn look_up(table: &NameTable, names: &[Vec<u8>]) -> u64 {
+/// The sum of the numbers of the names that are looked up in no order: `asked` different ones, spread over all.
+fn look_up(table: &NameTable, names: &[Vec<u8>], asked: usize) -> u64 {
     let mut random = Random::new(2);
     let mut sum = 0u64;
-    if names.is_empty() {
+    if asked == 0 || names.len() < asked {
         return sum;
     }
+    let step = names.len() / asked;
     for _ in 0..LOOKUPS {
-        let name = &names[random.next() as usize % names.len()];
-        if let Some(number) = table.find(name) {
+        let place = random.next() as usize % asked * step;
+        if let Some(name) = names.get(place)
+            && let Some(number) = table.find(name)
+        {
             sum = sum.wrapping_add(u64::from(number));
         }
     }
     sum
 }
 
-/// Looks names up among so many.
-pub fn run(rt: &(impl Runtime + AllocGlobal), count: usize) -> Result<(), Failed> {
+/// Looks up so many different ones among so many names.
+pub fn run(rt: &(impl Runtime + AllocGlobal), count: usize, asked: usize) -> Result<(), Failed> {
     let names = all_names(rt.alloc(), count)?;
     let start = Instant::now(rt)?;
     let table = table_of(rt.alloc(), &names)?;
     say_lap(rt, "add", &start)?;
     let start = Instant::now(rt)?;
-    let sum = look_up(&table, &names);
+    let sum = look_up(&table, &names, asked);
     say_lap(rt, "find", &start)?;
     println!(rt; "{} {sum}", table.len())?;
     Ok(())
