@@ -1,4 +1,4 @@
-//! The cases of cdf_bench as plain loops, to which bench/run compares it: the same data, the same lines.
+//! The cases of cdf_bench but `digest` as plain loops, to which bench/run compares it: the same data, the same lines.
 //!
 //! Build it by hand, from the top of the repository: rustc -O -o bench/work/plain bench/plain.rs
 
