@@ -20,7 +20,7 @@ fn no(phase: u8, broken: Broken) -> Verdict
     }
 }
 
-/// Judges the file that an area holds, its checksum included. Of several rules that are broken in one phase, any may be named.
+/// Judges the file that an area holds. A file with a checksum is refused by rule 2.99. Of several rules that are broken in one phase, any may be named.
 pub fn check<A: Area>(alloc: Global, area: &mut A) -> Result<Verdict, AreaError>
     ensures verdict { IfOk result (Judges (A.image area.old)) }
     ensures image { A.image area.new ≡ A.image area.old }

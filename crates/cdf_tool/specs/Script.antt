@@ -10,7 +10,7 @@ use Rattle.cdf_model.specs.Run.{run_lines, run_of}
 use Rattle.cdf_tool.specs.declared.status.Status.{Status}
 use Rattle.cdf_tool.specs.declared.status.Status.TheVariants as statuses
 
--- A part of the replies to the whole lines among the bytes taken. Once the end of the source was read, a last line without a newline counts too.
+-- A part of the replies to the whole lines among the bytes taken. Where nothing is left of the source, a last line without a newline counts too.
 abbrev pub RepliesInPart : DataSet → List ℕ → Option (List ℕ) → Option (List ℕ) → Option (List ℕ) → Type 0
 RepliesInPart d taken left first now =
     AppendsFront first now (run_lines d (whole_lines taken)).text ⊎ (IsAtEnd left × AppendsFront first now (run_of d taken).text)
