@@ -1,6 +1,6 @@
 //! The cases of cdf_bench but `digest` as plain loops, to which bench/run compares it: the same data, the same lines.
 //!
-//! Build it by hand, from the top of the repository: rustc -O -o bench/work/plain bench/plain.rs
+//! Build it by hand, from the top of the repository: rustc -O -o bench/made/plain bench/plain.rs
 
 use std::collections::HashMap;
 use std::process::ExitCode;
