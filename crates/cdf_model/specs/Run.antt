@@ -6,7 +6,7 @@ use Rattle.cdf_model.specs.declared.answer.Outcome.{Outcome}
 use Rattle.cdf_model.specs.declared.answer.Outcome.TheVariants.{Done, Refused}
 use Rattle.cdf_model.specs.declared.answer.Reason.TheVariants.{BadLine}
 use Rattle.cdf_model.specs.DataSet.{DataSet}
-use Rattle.cdf_model.specs.Step.{Answer, step, outcome, data_after}
+use Rattle.cdf_model.specs.Step.{answer, outcome, data_after}
 use Rattle.cdf_model.specs.Lines.{lines}
 use Rattle.cdf_model.specs.Grammar.{Parsed, Blank, Asks, Faulty, parse}
 use Rattle.cdf_model.specs.Texts.{reply_text}
@@ -24,7 +24,7 @@ is_refused (Refused reason) = true
 -- the line of number n
 abbrev pub turn : DataSet → ℕ → Parsed → Turn
 turn d n Blank = record { data_set = d; text = []; refused = false }
-turn d n (Asks c) = record { data_set = data_after d (step d c); text = reply_text n (outcome (step d c)); refused = is_refused (outcome (step d c)) }
+turn d n (Asks c) = record { data_set = data_after d (answer d c); text = reply_text n (outcome (answer d c)); refused = is_refused (outcome (answer d c)) }
 turn d n (Faulty fault) = record { data_set = d; text = reply_text n (Refused (BadLine fault)); refused = true }
 
 -- a run so far: the data set, the number of lines, all text, and whether a line was refused

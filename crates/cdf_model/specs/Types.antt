@@ -1,5 +1,5 @@
 -- The types of values (CDF Internal Format Description, Variable Descriptor Records, DataType).
-use Rattle.std.specs.Prelude.{ℕ, ℤ, pos, negsuc, List, [], ◌∷◌, ◌==◌, find, None}
+use Rattle.std.specs.Prelude.{ℕ, ℤ, pos, negsuc, List, [], ◌∷◌, ◌==◌, codes, find, None}
 use Rattle.std.specs.declared.option.Option.{Option}
 use Rattle.cdf_model.specs.declared.data_type.DataType.{DataType}
 use Rattle.cdf_model.specs.declared.data_type.DataType.TheVariants.{Int1, Int2, Int4, Int8, UInt1, UInt2, UInt4, Real4, Real8, Epoch, Epoch16, TimeTt2000, Byte, Float, Double, Char, UChar}
@@ -51,3 +51,23 @@ size_of UChar = 1
 abbrev pub type_of : ℤ → Option DataType
 type_of (pos code) = find (λ t. code_of t == code) data_types
 type_of (negsuc n) = None
+
+-- the name of a type in scripts and replies
+abbrev pub name_of : DataType → List ℕ
+name_of Int1 = codes "INT1"
+name_of Int2 = codes "INT2"
+name_of Int4 = codes "INT4"
+name_of Int8 = codes "INT8"
+name_of UInt1 = codes "UINT1"
+name_of UInt2 = codes "UINT2"
+name_of UInt4 = codes "UINT4"
+name_of Real4 = codes "REAL4"
+name_of Real8 = codes "REAL8"
+name_of Epoch = codes "EPOCH"
+name_of Epoch16 = codes "EPOCH16"
+name_of TimeTt2000 = codes "TIME_TT2000"
+name_of Byte = codes "BYTE"
+name_of Float = codes "FLOAT"
+name_of Double = codes "DOUBLE"
+name_of Char = codes "CHAR"
+name_of UChar = codes "UCHAR"

@@ -1,4 +1,4 @@
-use crate::Head;
+use crate::{Bytes, DataType, Head, Items};
 
 /// What a command answers that is done.
 #[derive(Drop)]
@@ -7,18 +7,60 @@ pub enum Reply {
     Plain,
     /// What `info` shows.
     Head { head: Head },
+    /// What `list` shows.
+    Listing { items: Items },
+    /// An entry of an attribute: its value in network order.
+    Entry {
+        t: DataType,
+        elems: u32,
+        bytes: Bytes,
+    },
+    /// Values of a variable in network order, each of so many elements.
+    Values {
+        t: DataType,
+        elems: u32,
+        bytes: Bytes,
+    },
 }
 
-/// Why a line is no command, and at which byte of the line.
+/// The one fault of a line that is no command, and at which byte of the line it stands.
 #[derive(Clone, Copy, Debug, PartialEq, Eq)]
 pub enum LineError {
+    /// The line has more than 16,777,216 bytes.
+    TooLong { at: u64 },
+    /// A quote that is not closed, that stands within a word or is followed by one, or an escape that is not known.
+    BadQuote { at: u64 },
+    /// `\x` without two hexadecimal digits.
+    BadHex { at: u64 },
+    /// A word that is none of those that can stand there.
     UnknownWord { at: u64 },
+    /// A word more is wanted.
+    MissingWord { at: u64 },
+    /// There is a word too many.
+    ExtraWord { at: u64 },
+    /// A word that is no number, or a list of numbers that has one that is none.
+    BadNumber { at: u64 },
 }
 
-/// Why a command is refused.
+/// Why a command is refused. The number of a reason is its place here, counted from 1.
 #[derive(Clone, Copy, Debug, PartialEq, Eq)]
 pub enum Reason {
     BadLine { fault: LineError },
+    NoSuchAttr,
+    NoSuchVar,
+    NoSuchTap,
+    BadName,
+    NameTaken,
+    WrongScope,
+    NoSuchEntry,
+    NumberOutOfRange,
+    BadShape,
+    WrongCount { found: u64, wanted: u64 },
+    BadValue { at: u64 },
+    IndexOutOfRange,
+    RecordOutOfRange,
+    InUse,
+    TooLarge,
 }
 
 /// What a line comes to that asks for something.

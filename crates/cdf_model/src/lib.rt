@@ -6,12 +6,18 @@ mod command;
 mod data_type;
 mod encoding;
 mod head;
+mod item;
+mod kinds;
 pub mod laws;
 mod list;
+mod words;
 
 pub use answer::{LineError, Outcome, Reason, Reply};
 pub use command::Command;
 pub use data_type::DataType;
 pub use encoding::Encoding;
 pub use head::{Head, Majority};
+pub use item::{Item, Items};
+pub use kinds::{EntryKind, Kind, Scope, Sparse};
 pub use list::{Bytes, Nums, Varys};
+pub use words::{WordIter, Words};
