@@ -6,7 +6,7 @@ pub mod Pads
 pub mod Place
 pub mod DataSet
 pub mod Step
-pub mod Parts
+pub mod Gathered
 pub mod Words
 pub mod Lines
 pub mod Quoting

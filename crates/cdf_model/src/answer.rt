@@ -6,9 +6,13 @@ pub enum Reply {
     /// Nothing but that it is done.
     Plain,
     /// What `info` shows.
-    Head { head: Head },
+    Head {
+        head: Head,
+    },
     /// What `list` shows.
-    Listing { items: Items },
+    Listing {
+        items: Items,
+    },
     /// An entry of an attribute: its value in network order.
     Entry {
         t: DataType,

@@ -8,11 +8,19 @@ pub enum Command {
     /// The attributes, r variables and z variables, by number.
     List,
     /// A new last attribute.
-    Attr { name: Bytes, scope: Scope },
+    Attr {
+        name: Bytes,
+        scope: Scope,
+    },
     /// Another name for an attribute.
-    RenameAttr { from: Bytes, to: Bytes },
+    RenameAttr {
+        from: Bytes,
+        to: Bytes,
+    },
     /// An attribute goes, with its entries.
-    DelAttr { name: Bytes },
+    DelAttr {
+        name: Bytes,
+    },
     /// An entry of an attribute is made or replaced.
     PutEntry {
         attr: Bytes,
@@ -57,23 +65,51 @@ pub enum Command {
         varys: Varys,
     },
     /// Another name for a variable.
-    RenameVar { from: Bytes, to: Bytes },
+    RenameVar {
+        from: Bytes,
+        to: Bytes,
+    },
     /// A variable goes, with its records and entries.
-    DelVar { name: Bytes },
+    DelVar {
+        name: Bytes,
+    },
     /// The pad value of a variable.
-    SetPad { var: Bytes, words: Words },
+    SetPad {
+        var: Bytes,
+        words: Words,
+    },
     /// How a variable's missing records are read.
-    SetSparse { var: Bytes, rule: Sparse },
+    SetSparse {
+        var: Bytes,
+        rule: Sparse,
+    },
     /// Whether the records of a variable are packed as run lengths of zeros.
-    SetCompress { var: Bytes, rle: bool },
+    SetCompress {
+        var: Bytes,
+        rle: bool,
+    },
     /// How many records a new block of a variable has.
-    SetBlocking { var: Bytes, n: u32 },
+    SetBlocking {
+        var: Bytes,
+        n: u32,
+    },
     /// A record is written.
-    PutRec { var: Bytes, rec: u32, words: Words },
+    PutRec {
+        var: Bytes,
+        rec: u32,
+        words: Words,
+    },
     /// A record is read.
-    GetRec { var: Bytes, rec: u32 },
+    GetRec {
+        var: Bytes,
+        rec: u32,
+    },
     /// The records from the first to the last number go.
-    DelRecs { var: Bytes, first: u32, last: u32 },
+    DelRecs {
+        var: Bytes,
+        first: u32,
+        last: u32,
+    },
     /// One value of a record is written.
     PutVal {
         var: Bytes,
@@ -82,13 +118,23 @@ pub enum Command {
         words: Words,
     },
     /// One value of a record is read.
-    GetVal { var: Bytes, rec: u32, index: Nums },
+    GetVal {
+        var: Bytes,
+        rec: u32,
+        index: Nums,
+    },
     /// The index of a variable's records is made anew.
-    Reindex { var: Bytes },
+    Reindex {
+        var: Bytes,
+    },
     /// Whether the file ends with a checksum.
-    Checksum { md5: bool },
+    Checksum {
+        md5: bool,
+    },
     /// The whole content.
     Dump,
     /// What the taps of a name make of the content.
-    Report { tap: Bytes },
+    Report {
+        tap: Bytes,
+    },
 }

@@ -1,5 +1,5 @@
 ghost use Rattle.std.specs.Prelude.{◌≡◌};
-ghost use Rattle.cdf_model.specs.Types.{size_of, type_of};
+ghost use Rattle.cdf_model.specs.Types.{name_of, size_of, type_of};
 
 /// The type of the elements of a value, with the code that stands for it in a file.
 #[derive(Clone, Copy, Debug, PartialEq, Eq)]
@@ -37,6 +37,31 @@ impl DataType {
             DataType::Int8 | DataType::Real8 | DataType::Double => 8,
             DataType::Epoch | DataType::TimeTt2000 => 8,
             DataType::Epoch16 => 16,
+        }
+    }
+
+    /// The name of the type in scripts and replies.
+    pub fn name(&self) -> &'static str
+        ensures { result.now ≡ name_of self.now }
+    {
+        match self {
+            DataType::Int1 => "INT1",
+            DataType::Int2 => "INT2",
+            DataType::Int4 => "INT4",
+            DataType::Int8 => "INT8",
+            DataType::UInt1 => "UINT1",
+            DataType::UInt2 => "UINT2",
+            DataType::UInt4 => "UINT4",
+            DataType::Real4 => "REAL4",
+            DataType::Real8 => "REAL8",
+            DataType::Epoch => "EPOCH",
+            DataType::Epoch16 => "EPOCH16",
+            DataType::TimeTt2000 => "TIME_TT2000",
+            DataType::Byte => "BYTE",
+            DataType::Float => "FLOAT",
+            DataType::Double => "DOUBLE",
+            DataType::Char => "CHAR",
+            DataType::UChar => "UCHAR",
         }
     }
 

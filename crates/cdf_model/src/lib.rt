@@ -20,4 +20,4 @@ pub use head::{Head, Majority};
 pub use item::{Item, Items};
 pub use kinds::{EntryKind, Kind, Scope, Sparse};
 pub use list::{Bytes, Nums, Varys};
-pub use words::{WordIter, Words};
+pub use words::{WordIter, Words, WordsBuilder};

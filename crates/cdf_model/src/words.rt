@@ -1,26 +1,20 @@
+use crate::Bytes;
 use std::alloc::{AllocError, Global};
 use std::marker::Model;
+use std::mem;
 
-/// The most bytes that one size counts: a word that has more goes on in the next part.
-const PART: usize = 255;
-
-/// A list of words, as the values of a command: the bytes of all words joined, and their sizes, so that a word of a byte takes two.
+/// A list of words, as the values of a command.
 #[derive(Drop)]
 pub struct Words {
-    bytes: Vec<u8>,
-    sizes: Vec<u8>,
-    count: usize,
+    words: Vec<Bytes>,
 }
 
 impl Model for Words {
-    ghost use Rattle.std.specs.Prelude.{◌≡◌, ℕ, List, length};
-    ghost use Rattle.cdf_model.specs.Parts.{cut, AreWhole};
+    ghost use Rattle.std.specs.Prelude.{ℕ, List};
 
     ghost Value = { List (List ℕ) };
 
-    ghost view = { λ words. cut words.sizes.items words.bytes.items };
-
-    ghost invariant = { λ words. AreWhole words.sizes.items words.bytes.items × (words.count ≡ length (cut words.sizes.items words.bytes.items)) };
+    ghost view = { λ words. words.words.items };
 }
 
 impl Words {
@@ -30,9 +24,7 @@ impl Words {
         ensures { result ≡ [] }
     {
         Words {
-            bytes: Vec::new(alloc),
-            sizes: Vec::new(alloc),
-            count: 0,
+            words: Vec::new(alloc),
         }
     }
 
@@ -40,42 +32,35 @@ impl Words {
     pub fn len(&self) -> usize
         ensures { result ≡ length self.now }
     {
-        self.count
+        self.words.len()
     }
 
     pub fn is_empty(&self) -> bool
         ensures { IsTrue result ↔ (self.now ≡ []) }
     {
-        self.count == 0
+        self.words.is_empty()
     }
 
     /// The words from the first one on.
     pub fn iter(&self) -> WordIter<'_>
         ensures { result ≡ self.now }
     {
-        WordIter {
-            bytes: &self.bytes,
-            sizes: &self.sizes,
-        }
+        WordIter { words: &self.words }
     }
 }
 
 /// The words of a list that were not given yet.
 #[derive(Drop)]
 pub struct WordIter<'a> {
-    bytes: &'a [u8],
-    sizes: &'a [u8],
+    words: &'a [Bytes],
 }
 
 impl<'a> Model for WordIter<'a> {
     ghost use Rattle.std.specs.Prelude.{ℕ, List};
-    ghost use Rattle.cdf_model.specs.Parts.{cut, AreWhole};
 
     ghost Value = { List (List ℕ) };
 
-    ghost view = { λ words. cut words.sizes.now words.bytes.now };
-
-    ghost invariant = { λ words. AreWhole words.sizes.now words.bytes.now };
+    ghost view = { λ words. words.words.now };
 }
 
 impl<'a> WordIter<'a> {
@@ -87,16 +72,72 @@ impl<'a> WordIter<'a> {
         ensures unchanged { IfNone result (self.new ≡ self.old) }
         ensures word { IfSome result (λ word. self.old ≡ word.now ∷ self.new) }
     {
-        let mut size = 0usize;
-        for (place, part) in self.sizes.iter().enumerate() {
-            size += *part as usize;
-            if (*part as usize) < PART {
-                let (word, bytes) = self.bytes.split_at(size);
-                self.bytes = bytes;
-                self.sizes = &self.sizes[place + 1..];
-                return Some(word);
+        match self.words {
+            [] => None,
+            [word, words @ ..] => {
+                self.words = words;
+                Some(word.as_slice())
             }
         }
-        None
+    }
+}
+
+/// Words that are gathered one after the other, the last of them byte by byte.
+#[derive(Drop)]
+pub struct WordsBuilder {
+    alloc: Global,
+    words: Vec<Bytes>,
+    open: Vec<u8>,
+}
+
+impl Model for WordsBuilder {
+    ghost use Rattle.cdf_model.specs.Gathered.{Gathered};
+
+    ghost Value = { Gathered };
+
+    ghost view = { λ builder. record { words = builder.words.items; last = builder.open.items } };
+}
+
+impl WordsBuilder {
+    ghost use Rattle.std.specs.Prelude.{◌≡◌, [], OnOk, OnErr, IfOk};
+    ghost use Rattle.cdf_model.specs.Gathered.{nothing_gathered, longer, ended};
+
+    /// Makes room for words that have so many bytes in all, with one more for each word.
+    pub fn new(alloc: Global, room: usize) -> Result<Self, AllocError>
+        ensures { IfOk result (λ builder. builder ≡ nothing_gathered) }
+    {
+        let _room = room;
+        Ok(WordsBuilder {
+            alloc,
+            words: Vec::new(alloc),
+            open: Vec::new(alloc),
+        })
+    }
+
+    /// More bytes of the last word.
+    pub fn append(&mut self, bytes: &[u8]) -> Result<(), AllocError>
+        ensures ok { OnOk result (self.new ≡ longer self.old bytes.now) }
+        ensures err { OnErr result (self.new ≡ self.old) }
+    {
+        self.open.extend_from_slice(bytes)?;
+        Ok(())
+    }
+
+    /// The last word ends, and another begins.
+    pub fn end_word(&mut self) -> Result<(), AllocError>
+        ensures ok { OnOk result (self.new ≡ ended self.old) }
+        ensures err { OnErr result (self.new ≡ self.old) }
+    {
+        self.words.reserve(1)?;
+        let word = mem::replace(&mut self.open, Vec::new(self.alloc));
+        self.words.push(Bytes::new(word))?;
+        Ok(())
+    }
+
+    /// The words that have ended.
+    pub fn finish(self) -> Words
+        ensures { result ≡ self.words }
+    {
+        Words { words: self.words }
     }
 }
