@@ -5,8 +5,8 @@ use Rattle.std.specs.List.{repeat}
 use Rattle.cdf_model.specs.declared.data_type.DataType.{DataType}
 use Rattle.cdf_model.specs.declared.data_type.DataType.TheVariants.{Int1, Int2, Int4, Int8, UInt1, UInt2, UInt4, Real4, Real8, Epoch, Epoch16, TimeTt2000, Byte, Float, Double, Char, UChar}
 
--- an element in network order: the least number but one of a signed type, the greatest but one of an unsigned type, a great
--- negative number of a floating type, no date, or a blank
+-- an element in network order: the least number but one of a signed type, the greatest but one of an unsigned type, -1.0E30 of a
+-- floating type, the zero date, or a blank
 abbrev pub default_element : DataType → List ℕ
 default_element Int1 = 0x81 ∷ []
 default_element Int2 = 0x80 ∷ 0x01 ∷ []

@@ -1,10 +1,8 @@
 -- What a command does to a data set.
-use Rattle.std.specs.Prelude.{Bool, true, false, if◌then◌else◌}
-use Rattle.cdf_model.specs.declared.answer.LineError.TheVariants.{UnknownWord}
+use Rattle.std.specs.Prelude.{Bool, true, false}
 use Rattle.cdf_model.specs.declared.answer.Outcome.{Outcome}
 use Rattle.cdf_model.specs.declared.answer.Outcome.TheVariants.{Done, Refused}
 use Rattle.cdf_model.specs.declared.answer.Reason.{Reason}
-use Rattle.cdf_model.specs.declared.answer.Reason.TheVariants.{BadLine}
 use Rattle.cdf_model.specs.declared.answer.Reply.{Reply}
 use Rattle.cdf_model.specs.declared.answer.Reply.TheVariants as replies
 use Rattle.cdf_model.specs.declared.command.Command.{Command}
@@ -16,21 +14,15 @@ pub data Answer : Type 0 where
   Go : DataSet → Reply → Answer
   Refuse : Reason → Answer
 
--- the commands that there are by now; each other one is answered as a word that is not known
+-- the commands that there are by now
 abbrev pub built : Command → Bool
 built commands.Info = true
 built c = false
 
-abbrev pub not_built : Answer
-not_built = Refuse (BadLine (UnknownWord 0))
-
+-- It is asked of the commands that there are.
 abbrev pub step : DataSet → Command → Answer
 step d commands.Info = Go d (replies.Head (head_of d))
-step d c = not_built
-
--- what a command of a script is answered
-abbrev pub answer : DataSet → Command → Answer
-answer d c = if built c then step d c else not_built
+step d c = Go d replies.Plain
 
 abbrev pub outcome : Answer → Outcome
 outcome (Go d reply) = Done reply

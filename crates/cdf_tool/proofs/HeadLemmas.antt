@@ -109,5 +109,7 @@ head_is f b b' cdr gdr rdims holds same same' cdr-is gdr-is first second sizes =
     } in
     from_file ∙ own ∙ ap (λ (b : List ℕ). head_of (content b)) (sym (image_of-whole f holds))
 
-pub only_info : (c : Command) → Info ≡ c
-only_info Info = refl
+-- `info` is the one command that there is by now
+pub built-info : (c : Command) → built c ≡ true → Info ≡ c
+built-info Info is = refl
+built-info c is = absurd (sym is)

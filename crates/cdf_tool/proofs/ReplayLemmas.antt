@@ -18,6 +18,7 @@ use Rattle.cdf_tool.proofs.Standing.{Reached}
 turn-data_set : (d : DataSet) (n : ℕ) (p : Parsed) → (turn d n p).data_set ≡ d
 turn-data_set d n Blank = refl
 turn-data_set d n (Asks Info) = refl
+turn-data_set d n (Asks c) = refl
 turn-data_set d n (Faulty fault) = refl
 
 -- the text of a run only grows
