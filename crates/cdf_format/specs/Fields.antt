@@ -1,5 +1,5 @@
 -- Numbers and fields in a list of bytes: big-endian, at places (CDF Internal Format Description, "Internal Records").
-use Rattle.std.specs.Prelude.{ℕ, ℤ, pos, negsuc, zero, suc, ◌+◌, ◌^◌, ◌/◌, ◌%◌, ◌==◌, List, [], ◌∷◌, take, drop, Bool, if◌then◌else◌}
+use Rattle.std.specs.Prelude.{ℕ, ℤ, pos, negsuc, zero, suc, ◌+◌, ◌-◌, ◌^◌, ◌/◌, ◌%◌, ◌==◌, ◌≤◌, List, [], ◌∷◌, ◌++◌, length, take, drop, replicate, Bool, if◌then◌else◌}
 use Rattle.std.specs.List.{before_first}
 use Rattle.std.specs.Int.{w32, w64, cast_signed}
 use Rattle.byteorder.specs.Endian.{big_bytes, big_from}
@@ -41,9 +41,17 @@ integer4 b place f = signed4 b (place + f.place)
 abbrev pub integer8 : List ℕ → ℕ → Field → ℤ
 integer8 b place f = signed8 b (place + f.place)
 
+-- the field of the record at a place lies in the bytes
+abbrev pub LiesIn : List ℕ → ℕ → Field → Type 0
+LiesIn b place f = place + f.place + f.width ≤ length b
+
 -- the bytes with this number, which fits its width, written as a field of the record at a place
 abbrev pub with_field : List ℕ → ℕ → Field → ℕ → List ℕ
 with_field b place f n = put b (place + f.place) (big_bytes f.width n)
+
+-- the bytes with a name, which fits its width, written as a field of the record at a place: the name, then bytes 0
+abbrev pub with_name : List ℕ → ℕ → Field → List ℕ → List ℕ
+with_name b place f name = put b (place + f.place) (name ++ replicate (f.width - length name) 0)
 
 -- the Name in a field of the record at a place: it ends before its first byte 0, or where the field ends
 abbrev pub name_in : List ℕ → ℕ → Field → List ℕ
