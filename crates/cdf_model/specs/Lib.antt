@@ -26,3 +26,5 @@ pub mod Grammar
 pub mod Texts
 pub mod Run
 pub mod RunLengths
+pub mod Events
+pub mod EventTexts
