@@ -1,5 +1,5 @@
 -- The data set that an image means (CDF Internal Format Description, CDF Descriptor Record and Global Descriptor Record).
-use Rattle.std.specs.Prelude.{ℕ, ◌+◌, List, Bool, true, false}
+use Rattle.std.specs.Prelude.{ℕ, List, Bool, true, false}
 use Rattle.cdf_model.specs.declared.head.Majority.{Majority}
 use Rattle.cdf_model.specs.declared.head.Majority.TheVariants.{Row, Column}
 use Rattle.cdf_model.specs.DataSet.{DataSet}

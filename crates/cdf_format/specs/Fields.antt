@@ -1,7 +1,10 @@
--- The fields of internal records: big-endian numbers at places of a list of bytes (CDF Internal Format Description, "Internal Records").
-use Rattle.std.specs.Prelude.{ℕ, ℤ, pos, negsuc, zero, suc, ◌+◌, ◌^◌, ◌/◌, ◌%◌, ◌==◌, List, [], ◌∷◌, Bool}
+-- Numbers and fields in a list of bytes: big-endian, at places (CDF Internal Format Description, "Internal Records").
+use Rattle.std.specs.Prelude.{ℕ, ℤ, pos, negsuc, zero, suc, ◌+◌, ◌-◌, ◌^◌, ◌/◌, ◌%◌, ◌==◌, ◌≤◌, List, [], ◌∷◌, ◌++◌, length, take, drop, replicate, Bool, if◌then◌else◌}
+use Rattle.std.specs.List.{before_first}
 use Rattle.std.specs.Int.{w32, w64, cast_signed}
-use Rattle.byteorder.specs.Endian.{big_from}
+use Rattle.byteorder.specs.Endian.{big_bytes, big_from}
+use Rattle.cdf_base.specs.Bytes.{put}
+use Rattle.cdf_format.specs.Records.{Field, record_size, record_type, cdr_gdr_offset, cdr_version, cdr_release, cdr_encoding, cdr_flags, cdr_increment, gdr_r_vdr_head, gdr_z_vdr_head, gdr_adr_head, gdr_eof, gdr_nr_vars, gdr_num_attr, gdr_r_num_dims, gdr_nz_vars, gdr_uir_head, gdr_r_dim_size, adr_name, vdr_name}
 
 -- The n bytes from a place as a number without a sign. A byte outside the list counts as 0.
 abbrev pub word : List ℕ → ℕ → ℕ → ℕ
@@ -27,59 +30,93 @@ abbrev pub counted : ℤ → ℕ
 counted (pos n) = n
 counted (negsuc n) = 0
 
+-- A field of the record at a place, as a number without a sign
+abbrev pub number : List ℕ → ℕ → Field → ℕ
+number b place f = word b (place + f.place) f.width
+
+-- the same with a sign
+abbrev pub integer4 : List ℕ → ℕ → Field → ℤ
+integer4 b place f = signed4 b (place + f.place)
+
+abbrev pub integer8 : List ℕ → ℕ → Field → ℤ
+integer8 b place f = signed8 b (place + f.place)
+
+-- the field of the record at a place lies in the bytes
+abbrev pub LiesIn : List ℕ → ℕ → Field → Type 0
+LiesIn b place f = place + f.place + f.width ≤ length b
+
+-- the bytes with this number, which fits its width, written as a field of the record at a place
+abbrev pub with_field : List ℕ → ℕ → Field → ℕ → List ℕ
+with_field b place f n = put b (place + f.place) (big_bytes f.width n)
+
+-- the bytes with a name, which fits its width, written as a field of the record at a place: the name, then bytes 0
+abbrev pub with_name : List ℕ → ℕ → Field → List ℕ → List ℕ
+with_name b place f name = put b (place + f.place) (name ++ replicate (f.width - length name) 0)
+
+-- the Name in a field of the record at a place: it ends before its first byte 0, or where the field ends
+abbrev pub name_in : List ℕ → ℕ → Field → List ℕ
+name_in b place f = before_first (λ byte. byte == 0) (take f.width (drop (place + f.place) b))
+
 -- RecordSize and RecordType of the record at a place
 abbrev pub size_at : List ℕ → ℕ → ℕ
-size_at b place = word b place 8
+size_at b place = number b place record_size
 
 abbrev pub type_at : List ℕ → ℕ → ℕ
-type_at b place = word b (place + 8) 4
+type_at b place = number b place record_type
+
+-- the Name of the record at a place, an ADR where its type is 4, else a VDR
+abbrev pub name_field : ℕ → Field
+name_field type = if type == 4 then adr_name else vdr_name
+
+abbrev pub name_at : List ℕ → ℕ → List ℕ
+name_at b place = name_in b place (name_field (type_at b place))
 
 -- The CDF Descriptor Record stands at 8.
 abbrev pub gdr_offset : List ℕ → ℕ
-gdr_offset b = word b 20 8
+gdr_offset b = number b 8 cdr_gdr_offset
 
 abbrev pub version : List ℕ → ℕ
-version b = word b 28 4
+version b = number b 8 cdr_version
 
 abbrev pub release : List ℕ → ℤ
-release b = signed4 b 32
+release b = integer4 b 8 cdr_release
 
 abbrev pub encoding : List ℕ → ℕ
-encoding b = word b 36 4
+encoding b = number b 8 cdr_encoding
 
 abbrev pub flags : List ℕ → ℕ
-flags b = word b 40 4
+flags b = number b 8 cdr_flags
 
 abbrev pub increment : List ℕ → ℤ
-increment b = signed4 b 52
+increment b = integer4 b 8 cdr_increment
 
--- The Global Descriptor Record stands at a place g: rVDRhead, zVDRhead, ADRhead, eof, NrVars, NumAttr, rNumDims, NzVars, UIRhead, rDimSizes.
+-- The Global Descriptor Record stands at a place g.
 abbrev pub r_variable_head : List ℕ → ℕ → ℕ
-r_variable_head b g = word b (g + 12) 8
+r_variable_head b g = number b g gdr_r_vdr_head
 
 abbrev pub z_variable_head : List ℕ → ℕ → ℕ
-z_variable_head b g = word b (g + 20) 8
+z_variable_head b g = number b g gdr_z_vdr_head
 
 abbrev pub attribute_head : List ℕ → ℕ → ℕ
-attribute_head b g = word b (g + 28) 8
+attribute_head b g = number b g gdr_adr_head
 
 abbrev pub eof : List ℕ → ℕ → ℕ
-eof b g = word b (g + 36) 8
+eof b g = number b g gdr_eof
 
 abbrev pub r_variables : List ℕ → ℕ → ℕ
-r_variables b g = word b (g + 44) 4
+r_variables b g = number b g gdr_nr_vars
 
 abbrev pub attributes : List ℕ → ℕ → ℕ
-attributes b g = word b (g + 48) 4
+attributes b g = number b g gdr_num_attr
 
 abbrev pub r_dimensions : List ℕ → ℕ → ℕ
-r_dimensions b g = counted (signed4 b (g + 56))
+r_dimensions b g = counted (integer4 b g gdr_r_num_dims)
 
 abbrev pub z_variables : List ℕ → ℕ → ℕ
-z_variables b g = word b (g + 60) 4
+z_variables b g = number b g gdr_nz_vars
 
 abbrev pub unused_head : List ℕ → ℕ → ℕ
-unused_head b g = word b (g + 64) 8
+unused_head b g = number b g gdr_uir_head
 
 abbrev pub r_sizes : List ℕ → ℕ → List ℕ
-r_sizes b g = words b (g + 84) (r_dimensions b g)
+r_sizes b g = words b (g + (gdr_r_dim_size 0).place) (r_dimensions b g)

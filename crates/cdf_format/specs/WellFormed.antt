@@ -3,7 +3,8 @@ use Rattle.std.specs.Prelude.{ℕ, ◌+◌, ◌-◌, ◌*◌, List, [], ◌∷�
 use Rattle.std.specs.List.{list_all}
 use Rattle.cdf_model.specs.Limits.{image_limit}
 use Rattle.cdf_model.specs.Encodings.{encoding_at}
-use Rattle.cdf_format.specs.Fields.{word, signed8, counted, has_bit, size_at, type_at, gdr_offset, version, encoding, flags, r_variable_head, z_variable_head, attribute_head, eof, r_variables, attributes, r_dimensions, z_variables, unused_head, r_sizes}
+use Rattle.cdf_format.specs.Fields.{word, number, integer8, counted, has_bit, size_at, type_at, gdr_offset, version, encoding, flags, r_variable_head, z_variable_head, attribute_head, eof, r_variables, attributes, r_dimensions, z_variables, unused_head, r_sizes}
+use Rattle.cdf_format.specs.Records.{gdr_eof, gdr_r_num_dims}
 use Rattle.cdf_format.specs.Rules.{Row, row, asked, AllHold, FirstBroken}
 use Rattle.cdf_format.specs.Sealed.{has_checksum, trailer_length, sealed}
 
@@ -37,7 +38,7 @@ has_gdr f = nat_le 8 (gdr_offset f) && nat_le (gdr_offset f + 84) (length f)
 
 -- a record of this type, with at most 10 dimensions and room for their sizes
 abbrev pub is_gdr : List ℕ → ℕ → Bool
-is_gdr f g = nat_le (word f (g + 56) 4) 10 && is_record f g 2 (84 + 4 * r_dimensions f g)
+is_gdr f g = nat_le (number f g gdr_r_num_dims) 10 && is_record f g 2 (84 + 4 * r_dimensions f g)
 
 -- the size of a dimension is a positive number of 4 bytes with a sign
 abbrev pub is_size : ℕ → Bool
@@ -61,7 +62,7 @@ gdr_rows f g =
     row 2 g (is_gdr f g)
     ∷ row 3 g (list_all is_size (r_sizes f g))
     ∷ row 4 g (eof f g == length f - trailer_length f)
-    ∷ row 5 g (nat_le (counted (signed8 f (g + 36))) image_limit)
+    ∷ row 5 g (nat_le (counted (integer8 f g gdr_eof)) image_limit)
     ∷ asked (is_gdr f g) (row 99 g (is_bare f g) ∷ [])
 
 abbrev pub phase3 : List ℕ → List Row

@@ -5,6 +5,14 @@ pub mod ByteOrder
 pub mod Pads
 pub mod Place
 pub mod DataSet
+pub mod Numbered
+pub mod Answers
+pub mod Names
+pub mod Reading
+pub mod AttributeSteps
+pub mod VariableSteps
+pub mod RecordSteps
+pub mod Listing
 pub mod Step
 pub mod Gathered
 pub mod Words
@@ -18,3 +26,5 @@ pub mod Grammar
 pub mod Texts
 pub mod Run
 pub mod RunLengths
+pub mod Events
+pub mod EventTexts

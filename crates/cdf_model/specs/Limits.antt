@@ -12,3 +12,15 @@ script_limit = 1073741824
 -- the most bytes of a line of it
 abbrev pub line_limit : ℕ
 line_limit = 16777216
+
+-- the greatest number of a record, or of an entry of a global attribute
+abbrev pub record_number_limit : ℕ
+record_number_limit = 2147483646
+
+-- the greatest number of 32 bits with a sign
+abbrev pub signed_limit : ℕ
+signed_limit = 2147483647
+
+-- the most dimensions
+abbrev pub dimension_limit : ℕ
+dimension_limit = 10

@@ -8,7 +8,8 @@ use Rattle.cdf_model.specs.declared.answer.Outcome.{Outcome}
 use Rattle.cdf_model.specs.declared.answer.Outcome.TheVariants.{Done, Refused}
 use Rattle.cdf_model.specs.declared.answer.Reason.TheVariants.{BadLine}
 use Rattle.cdf_model.specs.DataSet.{DataSet}
-use Rattle.cdf_model.specs.Step.{Answer, built, step, outcome, data_after}
+use Rattle.cdf_model.specs.Answers.{Answer, outcome, data_after}
+use Rattle.cdf_model.specs.Step.{built, step}
 use Rattle.cdf_model.specs.Lines.{lines}
 use Rattle.cdf_model.specs.Grammar.{Parsed, Blank, Asks, Faulty, parse}
 use Rattle.cdf_model.specs.Texts.{reply_text}

@@ -1,7 +1,7 @@
 ghost use Rattle.std.specs.Prelude.{◌≡◌, ◌+◌, ◌≤◌, ℕ, length, OnOk};
 ghost use Rattle.cdf_base.specs.Causes.{HasCauseOf};
 ghost use Rattle.cdf_format.specs.Fields.{word};
-ghost use Rattle.cdf_records.specs.Heads.{signed};
+ghost use Rattle.std.specs.Int.{w32, w64, cast_signed};
 ghost use Rattle.cdf_records.specs.Pieces.{AreBytes, Shows};
 
 use byteorder::{BigEndian, ByteOrder};
@@ -31,7 +31,7 @@ pub fn unsigned4(bytes: &[u8], place: usize) -> u32
 /// The 4 bytes at a place, with a sign.
 pub fn signed4(bytes: &[u8], place: usize) -> i32
     requires { place + 4 ≤ length bytes.now }
-    ensures { (field : ℕ → ℕ → ℕ) (start : ℕ) → Shows bytes.now field start → result ≡ signed field (start + place) }
+    ensures { (field : ℕ → ℕ → ℕ) (start : ℕ) → Shows bytes.now field start → result ≡ cast_signed w32 (field (start + place) 4) }
 {
     unsigned4(bytes, place).cast_signed()
 }
@@ -42,4 +42,12 @@ pub fn unsigned8(bytes: &[u8], place: usize) -> u64
     ensures { (field : ℕ → ℕ → ℕ) (start : ℕ) → Shows bytes.now field start → result ≡ field (start + place) 8 }
 {
     BigEndian::read_u64(&bytes[place..])
+}
+
+/// The 8 bytes at a place, with a sign.
+pub fn signed8(bytes: &[u8], place: usize) -> i64
+    requires { place + 8 ≤ length bytes.now }
+    ensures { (field : ℕ → ℕ → ℕ) (start : ℕ) → Shows bytes.now field start → result ≡ cast_signed w64 (field (start + place) 8) }
+{
+    unsigned8(bytes, place).cast_signed()
 }

@@ -1,0 +1,30 @@
+ghost use Rattle.std.specs.Prelude.{◌≡◌, ◌+◌, ◌-◌, ◌≤◌, ◌++◌, length, replicate, OnErr, OnOk};
+ghost use Rattle.cdf_base.specs.Causes.{HasCauseOf};
+ghost use Rattle.cdf_format.specs.Fields.{LiesIn, with_name};
+ghost use Rattle.cdf_format.specs.Records.{field};
+
+use cdf_area::{Area, AreaError};
+
+/// The bytes of a name, and bytes 0 after it up to 256.
+fn padded(name: &[u8]) -> [u8; 256]
+    requires { length name.now ≤ 256 }
+    ensures { result ≡ name.now ++ replicate (256 - length name.now) 0 }
+{
+    let mut bytes = [0u8; 256];
+    bytes[..name.len()].copy_from_slice(name);
+    bytes
+}
+
+/// Writes a name at a place within the record at another place, and bytes 0 after it up to 256.
+pub fn set_name<A: Area>(area: &mut A, at: u64, place: u64, to: &[u8]) -> Result<(), AreaError>
+    requires field { LiesIn (A.image area.old) at (field place 256) }
+    requires fits { length to.now ≤ 256 }
+    ensures ok { OnOk result (A.image area.new ≡ with_name (A.image area.old) at (field place 256) to.now) }
+    ensures err { OnErr result (A.image area.new ≡ A.image area.old) }
+    ensures size { length (A.image area.new) ≡ length (A.image area.old) }
+    ensures frame { A.frame area.new ≡ A.frame area.old }
+    ensures cause { HasCauseOf AreaError.Fault (A.faults area.old) (A.faults area.new) result }
+{
+    let _size = area.size();
+    area.set(at + place, &padded(to))
+}

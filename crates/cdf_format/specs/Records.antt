@@ -1,0 +1,288 @@
+-- The table of the fields of internal records: the place of each within its record, and its width, in bytes (CDF Internal Format Description, "Internal Records"). Names are those of the format, with the record first.
+use Rattle.std.specs.Prelude.{ℕ, ◌+◌, ◌*◌}
+
+pub record Field : Type 0 where
+  pub place : ℕ
+  pub width : ℕ
+
+abbrev pub field : ℕ → ℕ → Field
+field place width = record { place = place; width = width }
+
+-- each record
+abbrev pub record_size : Field
+record_size = field 0 8
+
+abbrev pub record_type : Field
+record_type = field 8 4
+
+-- "CDF Descriptor Record", which stands at 8
+abbrev pub cdr_gdr_offset : Field
+cdr_gdr_offset = field 12 8
+
+abbrev pub cdr_version : Field
+cdr_version = field 20 4
+
+abbrev pub cdr_release : Field
+cdr_release = field 24 4
+
+abbrev pub cdr_encoding : Field
+cdr_encoding = field 28 4
+
+abbrev pub cdr_flags : Field
+cdr_flags = field 32 4
+
+abbrev pub cdr_rfu_a : Field
+cdr_rfu_a = field 36 4
+
+abbrev pub cdr_rfu_b : Field
+cdr_rfu_b = field 40 4
+
+abbrev pub cdr_increment : Field
+cdr_increment = field 44 4
+
+abbrev pub cdr_identifier : Field
+cdr_identifier = field 48 4
+
+abbrev pub cdr_rfu_e : Field
+cdr_rfu_e = field 52 4
+
+abbrev pub cdr_copyright : Field
+cdr_copyright = field 56 256
+
+-- "Global Descriptor Record"
+abbrev pub gdr_r_vdr_head : Field
+gdr_r_vdr_head = field 12 8
+
+abbrev pub gdr_z_vdr_head : Field
+gdr_z_vdr_head = field 20 8
+
+abbrev pub gdr_adr_head : Field
+gdr_adr_head = field 28 8
+
+abbrev pub gdr_eof : Field
+gdr_eof = field 36 8
+
+abbrev pub gdr_nr_vars : Field
+gdr_nr_vars = field 44 4
+
+abbrev pub gdr_num_attr : Field
+gdr_num_attr = field 48 4
+
+abbrev pub gdr_r_max_rec : Field
+gdr_r_max_rec = field 52 4
+
+abbrev pub gdr_r_num_dims : Field
+gdr_r_num_dims = field 56 4
+
+abbrev pub gdr_nz_vars : Field
+gdr_nz_vars = field 60 4
+
+abbrev pub gdr_uir_head : Field
+gdr_uir_head = field 64 8
+
+abbrev pub gdr_rfu_c : Field
+gdr_rfu_c = field 72 4
+
+abbrev pub gdr_leap_second_last_updated : Field
+gdr_leap_second_last_updated = field 76 4
+
+abbrev pub gdr_rfu_e : Field
+gdr_rfu_e = field 80 4
+
+-- the size of the dimension i that the r variables share
+abbrev pub gdr_r_dim_size : ℕ → Field
+gdr_r_dim_size i = field (84 + 4 * i) 4
+
+-- "Attribute Descriptor Record"
+abbrev pub adr_adr_next : Field
+adr_adr_next = field 12 8
+
+abbrev pub adr_agr_edr_head : Field
+adr_agr_edr_head = field 20 8
+
+abbrev pub adr_scope : Field
+adr_scope = field 28 4
+
+abbrev pub adr_num : Field
+adr_num = field 32 4
+
+abbrev pub adr_ngr_entries : Field
+adr_ngr_entries = field 36 4
+
+abbrev pub adr_max_gr_entry : Field
+adr_max_gr_entry = field 40 4
+
+abbrev pub adr_rfu_a : Field
+adr_rfu_a = field 44 4
+
+abbrev pub adr_az_edr_head : Field
+adr_az_edr_head = field 48 8
+
+abbrev pub adr_nz_entries : Field
+adr_nz_entries = field 56 4
+
+abbrev pub adr_max_z_entry : Field
+adr_max_z_entry = field 60 4
+
+abbrev pub adr_rfu_e : Field
+adr_rfu_e = field 64 4
+
+abbrev pub adr_name : Field
+adr_name = field 68 256
+
+-- "Attribute Entry Descriptor Record", of a gr or a z entry
+abbrev pub aedr_aedr_next : Field
+aedr_aedr_next = field 12 8
+
+abbrev pub aedr_attr_num : Field
+aedr_attr_num = field 20 4
+
+abbrev pub aedr_data_type : Field
+aedr_data_type = field 24 4
+
+abbrev pub aedr_num : Field
+aedr_num = field 28 4
+
+abbrev pub aedr_num_elems : Field
+aedr_num_elems = field 32 4
+
+abbrev pub aedr_num_strings : Field
+aedr_num_strings = field 36 4
+
+abbrev pub aedr_rfu_b : Field
+aedr_rfu_b = field 40 4
+
+abbrev pub aedr_rfu_c : Field
+aedr_rfu_c = field 44 4
+
+abbrev pub aedr_rfu_d : Field
+aedr_rfu_d = field 48 4
+
+abbrev pub aedr_rfu_e : Field
+aedr_rfu_e = field 52 4
+
+-- the n bytes of its value
+abbrev pub aedr_value : ℕ → Field
+aedr_value n = field 56 n
+
+-- "Variable Descriptor Record", of an r or a z variable
+abbrev pub vdr_vdr_next : Field
+vdr_vdr_next = field 12 8
+
+abbrev pub vdr_data_type : Field
+vdr_data_type = field 20 4
+
+abbrev pub vdr_max_rec : Field
+vdr_max_rec = field 24 4
+
+abbrev pub vdr_vxr_head : Field
+vdr_vxr_head = field 28 8
+
+abbrev pub vdr_vxr_tail : Field
+vdr_vxr_tail = field 36 8
+
+abbrev pub vdr_flags : Field
+vdr_flags = field 44 4
+
+abbrev pub vdr_s_records : Field
+vdr_s_records = field 48 4
+
+abbrev pub vdr_rfu_b : Field
+vdr_rfu_b = field 52 4
+
+abbrev pub vdr_rfu_c : Field
+vdr_rfu_c = field 56 4
+
+abbrev pub vdr_rfu_f : Field
+vdr_rfu_f = field 60 4
+
+abbrev pub vdr_num_elems : Field
+vdr_num_elems = field 64 4
+
+abbrev pub vdr_num : Field
+vdr_num = field 68 4
+
+abbrev pub vdr_cpr_or_spr_offset : Field
+vdr_cpr_or_spr_offset = field 72 8
+
+abbrev pub vdr_blocking_factor : Field
+vdr_blocking_factor = field 80 4
+
+abbrev pub vdr_name : Field
+vdr_name = field 84 256
+
+-- of an r variable with d dimensions: whether its records vary in the dimension i, and the n bytes of its pad value
+abbrev pub vdr_r_dim_vary : ℕ → Field
+vdr_r_dim_vary i = field (340 + 4 * i) 4
+
+abbrev pub vdr_r_pad_value : ℕ → ℕ → Field
+vdr_r_pad_value d n = field (340 + 4 * d) n
+
+-- of a z variable with d dimensions: their number, the size of the dimension i, whether its records vary in it, and the n bytes of its pad value
+abbrev pub vdr_z_num_dims : Field
+vdr_z_num_dims = field 340 4
+
+abbrev pub vdr_z_dim_size : ℕ → Field
+vdr_z_dim_size i = field (344 + 4 * i) 4
+
+abbrev pub vdr_z_dim_vary : ℕ → ℕ → Field
+vdr_z_dim_vary d i = field (344 + 4 * d + 4 * i) 4
+
+abbrev pub vdr_z_pad_value : ℕ → ℕ → Field
+vdr_z_pad_value d n = field (344 + 8 * d) n
+
+-- "Variable Index Record"
+abbrev pub vxr_vxr_next : Field
+vxr_vxr_next = field 12 8
+
+abbrev pub vxr_n_entries : Field
+vxr_n_entries = field 20 4
+
+abbrev pub vxr_n_used_entries : Field
+vxr_n_used_entries = field 24 4
+
+-- its entry i of n: First, Last, Offset
+abbrev pub vxr_first : ℕ → Field
+vxr_first i = field (28 + 4 * i) 4
+
+abbrev pub vxr_last : ℕ → ℕ → Field
+vxr_last n i = field (28 + 4 * n + 4 * i) 4
+
+abbrev pub vxr_offset : ℕ → ℕ → Field
+vxr_offset n i = field (28 + 8 * n + 8 * i) 8
+
+-- "Variable Values Record": the n bytes of its records
+abbrev pub vvr_records : ℕ → Field
+vvr_records n = field 12 n
+
+-- "Compressed Variable Values Record"
+abbrev pub cvvr_rfu_a : Field
+cvvr_rfu_a = field 12 4
+
+abbrev pub cvvr_c_size : Field
+cvvr_c_size = field 16 8
+
+-- its n packed bytes
+abbrev pub cvvr_packed : ℕ → Field
+cvvr_packed n = field 24 n
+
+-- "Compressed Parameters Record"
+abbrev pub cpr_c_type : Field
+cpr_c_type = field 12 4
+
+abbrev pub cpr_rfu_a : Field
+cpr_rfu_a = field 16 4
+
+abbrev pub cpr_p_count : Field
+cpr_p_count = field 20 4
+
+-- its parameter i
+abbrev pub cpr_parameter : ℕ → Field
+cpr_parameter i = field (24 + 4 * i) 4
+
+-- "Unused Internal Record", of at least 28 bytes
+abbrev pub uir_next_uir : Field
+uir_next_uir = field 12 8
+
+abbrev pub uir_prev_uir : Field
+uir_prev_uir = field 20 8

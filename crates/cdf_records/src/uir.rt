@@ -1,0 +1,43 @@
+ghost use Rattle.std.specs.Prelude.{◌≡◌, ◌+◌, ◌≤◌, ℕ, length, IfOk, OnOk};
+ghost use Rattle.cdf_base.specs.Causes.{HasCauseOf};
+ghost use Rattle.cdf_records.specs.Heads.{uir_at, uir_by};
+ghost use Rattle.cdf_records.specs.Pieces.{AreBytes, Shows};
+
+use crate::field::{read_piece, signed4, unsigned8};
+use cdf_area::{Area, AreaError};
+
+/// An Unused Internal Record that may be listed.
+#[derive(Clone, Copy, Debug, PartialEq, Eq)]
+pub struct Uir {
+    pub record_size: u64,
+    pub record_type: i32,
+    pub next_uir: u64,
+    pub prev_uir: u64,
+}
+
+/// The fields in the bytes of a record.
+fn uir_in(bytes: &[u8]) -> Uir
+    requires { 28 ≤ length bytes.now }
+    ensures { (field : ℕ → ℕ → ℕ) (start : ℕ) → Shows bytes.now field start → result ≡ uir_by field start }
+{
+    Uir {
+        record_size: unsigned8(bytes, 0),
+        record_type: signed4(bytes, 8),
+        next_uir: unsigned8(bytes, 12),
+        prev_uir: unsigned8(bytes, 20),
+    }
+}
+
+/// The fields of an Unused Internal Record at a place.
+pub fn read_uir<A: Area>(area: &mut A, at: u64) -> Result<Uir, AreaError>
+    requires { at + 28 ≤ length (A.image area.old) }
+    ensures value { IfOk result (λ head. head ≡ uir_at (A.image area.old) at) }
+    ensures bytes { OnOk result (AreBytes (A.image area.old) at 28) }
+    ensures image { A.image area.new ≡ A.image area.old }
+    ensures frame { A.frame area.new ≡ A.frame area.old }
+    ensures cause { HasCauseOf AreaError.Fault (A.faults area.old) (A.faults area.new) result }
+{
+    let mut bytes = [0u8; 28];
+    read_piece(area, at, &mut bytes)?;
+    Ok(uir_in(&bytes))
+}
