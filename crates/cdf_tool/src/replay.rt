@@ -11,7 +11,7 @@ ghost use Rattle.cdf_model.specs.Texts.{reply_text as text_of};
 ghost use Rattle.cdf_script.specs.Pending.{line_of, new_lines, new_rest};
 ghost use Rattle.cdf_tool.specs.Replay.{GoesOn, StopsWithin, Turns, IsDrained};
 
-use crate::session::apply;
+use crate::session::{apply, is_built};
 use crate::stop::Stop;
 use cdf_area::Area;
 use cdf_model::{Command, LineError, Outcome, Reason};
@@ -68,7 +68,7 @@ fn answer_fault<O: Sink>(
     Ok(true)
 }
 
-/// Answers a command.
+/// Answers a command; one that there is not yet is a word that is not known.
 fn answer_command<A: Area, O: Sink>(
     alloc: Global,
     area: &mut A,
@@ -86,6 +86,9 @@ fn answer_command<A: Area, O: Sink>(
     ensures fault { IsErrOf result Stop.Fault → Rose (A.faults area.old) (A.faults area.new) }
     ensures output { IsErrOf result Stop.Output → Rose (O.faults out.old) (O.faults out.new) }
 {
+    if !is_built(command) {
+        return answer_fault(alloc, number, LineError::UnknownWord { at: 0 }, out);
+    }
     let outcome = apply(alloc, area, command)?;
     let refused = is_refusal(&outcome);
     say(alloc, number, &outcome, out)?;

@@ -1,15 +1,16 @@
-ghost use Rattle.std.specs.Prelude.{◌≡◌, ◌+◌, ◌*◌, ◌≤◌, length, IfOk};
+ghost use Rattle.std.specs.Prelude.{◌≡◌, ◌+◌, ◌*◌, ◌≤◌, length, true, IfOk};
 ghost use Rattle.cdf_base.specs.Causes.{HasCauseOf};
 ghost use Rattle.cdf_format.specs.Content.{data_set_of, majority_of};
 ghost use Rattle.cdf_format.specs.Fields.{has_bit, r_dimensions, r_sizes, word};
 ghost use Rattle.cdf_format.specs.WellFormed.{WellFormed};
 ghost use Rattle.cdf_model.specs.DataSet.{head_of};
-ghost use Rattle.cdf_model.specs.Step.{answer, built, not_built, outcome};
+ghost use Rattle.cdf_model.specs.Answers.{outcome};
+ghost use Rattle.cdf_model.specs.Step.{built, step};
 ghost use Rattle.cdf_records.specs.Heads.{gdr_at};
 ghost use Rattle.cdf_tool.specs.Heads.{head_with};
 
 use cdf_area::{Area, AreaError};
-use cdf_model::{Command, Head, LineError, Majority, Nums, Outcome, Reason, Reply};
+use cdf_model::{Command, Head, Majority, Nums, Outcome, Reply};
 use cdf_records::{Cdr, Gdr, read_cdr, read_gdr, read_nums};
 use std::alloc::Global;
 
@@ -89,34 +90,22 @@ fn read_head<A: Area>(alloc: Global, area: &mut A) -> Result<Head, AreaError>
 }
 
 /// Whether there is the command by now.
-fn is_built(command: &Command) -> bool
+pub fn is_built(command: &Command) -> bool
     ensures { result ≡ built command.now }
 {
     matches!(command, Command::Info)
 }
 
-/// The answer of a command that there is not yet.
-fn unknown() -> Outcome
-    ensures { result ≡ outcome not_built }
-{
-    Outcome::Refused {
-        reason: Reason::BadLine {
-            fault: LineError::UnknownWord { at: 0 },
-        },
-    }
-}
-
 /// What a command answers over a well-formed file.
 pub fn apply<A: Area>(alloc: Global, area: &mut A, command: &Command) -> Result<Outcome, AreaError>
-    requires { WellFormed (A.image area.old) }
-    ensures outcome { IfOk result (λ o. o ≡ outcome (answer (data_set_of (A.image area.old)) command.now)) }
+    requires well_formed { WellFormed (A.image area.old) }
+    requires built { built command.now ≡ true }
+    ensures outcome { IfOk result (λ o. o ≡ outcome (step (data_set_of (A.image area.old)) command.now)) }
     ensures image { A.image area.new ≡ A.image area.old }
     ensures frame { A.frame area.new ≡ A.frame area.old }
     ensures cause { HasCauseOf AreaError.Fault (A.faults area.old) (A.faults area.new) result }
 {
-    if !is_built(command) {
-        return Ok(unknown());
-    }
+    let _command = command;
     let head = read_head(alloc, area)?;
     Ok(Outcome::Done {
         reply: Reply::Head { head },
