@@ -11,7 +11,7 @@ ghost use Rattle.cdf_model.specs.Texts.{reply_text as text_of};
 ghost use Rattle.cdf_script.specs.Pending.{line_of, new_lines, new_rest};
 ghost use Rattle.cdf_tool.specs.Replay.{GoesOn, StopsWithin, Turns, IsDrained};
 
-use crate::session::{apply, is_built};
+use crate::session::{info, is_built};
 use crate::stop::Stop;
 use cdf_area::Area;
 use cdf_model::{Command, LineError, Outcome, Reason};
@@ -89,7 +89,7 @@ fn answer_command<A: Area, O: Sink>(
     if !is_built(command) {
         return answer_fault(alloc, number, LineError::UnknownWord { at: 0 }, out);
     }
-    let outcome = apply(alloc, area, command)?;
+    let outcome = info(alloc, area)?;
     let refused = is_refusal(&outcome);
     say(alloc, number, &outcome, out)?;
     Ok(refused)
