@@ -1,1 +1,4 @@
 pub mod Places
+pub mod NameLengths
+pub mod Errors
+pub mod EntryWrites

@@ -1,14 +1,14 @@
 ghost use Rattle.std.specs.Prelude.{◌≡◌, ◌+◌, ◌*◌, ◌≤◌, length, IfOk};
 ghost use Rattle.cdf_base.specs.Causes.{HasCauseOf};
-ghost use Rattle.cdf_format.specs.Fields.{word, words};
+ghost use Rattle.cdf_format.specs.Fields.{signed4, word, words};
 
-use crate::field::{read_piece, unsigned4};
+use crate::field::{read_piece, unsigned4, unsigned8};
 use cdf_area::{Area, AreaError};
 use cdf_model::Nums;
 use std::alloc::Global;
 
-/// The 4 bytes at a place.
-fn read_unsigned4<A: Area>(area: &mut A, at: u64) -> Result<u32, AreaError>
+/// The 4 bytes at a place, without a sign.
+pub fn read_unsigned4<A: Area>(area: &mut A, at: u64) -> Result<u32, AreaError>
     requires { at + 4 ≤ length (A.image area.old) }
     ensures value { IfOk result (λ number. number ≡ word (A.image area.old) at 4) }
     ensures image { A.image area.new ≡ A.image area.old }
@@ -18,6 +18,31 @@ fn read_unsigned4<A: Area>(area: &mut A, at: u64) -> Result<u32, AreaError>
     let mut bytes = [0u8; 4];
     read_piece(area, at, &mut bytes)?;
     Ok(unsigned4(&bytes, 0))
+}
+
+/// The 4 bytes at a place, with a sign.
+pub fn read_signed4<A: Area>(area: &mut A, at: u64) -> Result<i32, AreaError>
+    requires { at + 4 ≤ length (A.image area.old) }
+    ensures value { IfOk result (λ number. number ≡ signed4 (A.image area.old) at) }
+    ensures image { A.image area.new ≡ A.image area.old }
+    ensures frame { A.frame area.new ≡ A.frame area.old }
+    ensures cause { HasCauseOf AreaError.Fault (A.faults area.old) (A.faults area.new) result }
+{
+    let number = read_unsigned4(area, at)?;
+    Ok(number.cast_signed())
+}
+
+/// The 8 bytes at a place, without a sign.
+pub fn read_unsigned8<A: Area>(area: &mut A, at: u64) -> Result<u64, AreaError>
+    requires { at + 8 ≤ length (A.image area.old) }
+    ensures value { IfOk result (λ number. number ≡ word (A.image area.old) at 8) }
+    ensures image { A.image area.new ≡ A.image area.old }
+    ensures frame { A.frame area.new ≡ A.frame area.old }
+    ensures cause { HasCauseOf AreaError.Fault (A.faults area.old) (A.faults area.new) result }
+{
+    let mut bytes = [0u8; 8];
+    read_piece(area, at, &mut bytes)?;
+    Ok(unsigned8(&bytes, 0))
 }
 
 /// `n` numbers of 4 bytes, one after the other from a place on.

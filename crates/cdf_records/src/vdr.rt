@@ -1,9 +1,12 @@
 ghost use Rattle.std.specs.Prelude.{◌≡◌, ◌+◌, ◌≤◌, ℕ, length, IfOk, OnOk};
 ghost use Rattle.cdf_base.specs.Causes.{HasCauseOf};
+ghost use Rattle.cdf_format.specs.Fields.{LiesIn, integer4};
+ghost use Rattle.cdf_format.specs.Records.{vdr_z_num_dims};
 ghost use Rattle.cdf_records.specs.Heads.{vdr_at, vdr_by};
 ghost use Rattle.cdf_records.specs.Pieces.{AreBytes, Shows};
 
 use crate::field::{read_piece, signed4, signed8, unsigned4, unsigned8};
+use crate::numbers::read_signed4;
 use cdf_area::{Area, AreaError};
 
 /// A Variable Descriptor Record, of an r or a z variable, up to its Name.
@@ -64,4 +67,16 @@ pub fn read_vdr<A: Area>(area: &mut A, at: u64) -> Result<Vdr, AreaError>
     let mut bytes = [0u8; 84];
     read_piece(area, at, &mut bytes)?;
     Ok(vdr_in(&bytes))
+}
+
+/// zNumDims of the VDR of a z variable at a place.
+pub fn read_vdr_z_num_dims<A: Area>(area: &mut A, at: u64) -> Result<i32, AreaError>
+    requires { LiesIn (A.image area.old) at vdr_z_num_dims }
+    ensures value { IfOk result (λ number. number ≡ integer4 (A.image area.old) at vdr_z_num_dims) }
+    ensures image { A.image area.new ≡ A.image area.old }
+    ensures frame { A.frame area.new ≡ A.frame area.old }
+    ensures cause { HasCauseOf AreaError.Fault (A.faults area.old) (A.faults area.new) result }
+{
+    let _size = area.size();
+    read_signed4(area, at + 340)
 }

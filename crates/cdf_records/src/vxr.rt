@@ -4,7 +4,9 @@ ghost use Rattle.cdf_records.specs.Heads.{vxr_at, vxr_by};
 ghost use Rattle.cdf_records.specs.Pieces.{AreBytes, Shows};
 
 use crate::field::{read_piece, signed4, unsigned8};
+use crate::steps::Steps;
 use cdf_area::{Area, AreaError};
+use std::sync::ledger::Ledger;
 
 /// A Variable Index Record, but for its entries.
 #[derive(Clone, Copy, Debug, PartialEq, Eq)]
@@ -30,15 +32,21 @@ fn vxr_in(bytes: &[u8]) -> Vxr
     }
 }
 
-/// The fields of a Variable Index Record at a place.
-pub fn read_vxr<A: Area>(area: &mut A, at: u64) -> Result<Vxr, AreaError>
+/// The fields of a Variable Index Record at a place. It takes one step, also where it fails.
+pub fn read_vxr<A: Area, L: Ledger>(
+    area: &mut A,
+    at: u64,
+    steps: &mut Steps<L>,
+) -> Result<Vxr, AreaError>
     requires { at + 28 ≤ length (A.image area.old) }
     ensures value { IfOk result (λ head. head ≡ vxr_at (A.image area.old) at) }
     ensures bytes { OnOk result (AreBytes (A.image area.old) at 28) }
+    ensures step { steps.new ≡ steps.old + 1 }
     ensures image { A.image area.new ≡ A.image area.old }
     ensures frame { A.frame area.new ≡ A.frame area.old }
     ensures cause { HasCauseOf AreaError.Fault (A.faults area.old) (A.faults area.new) result }
 {
+    steps.tick();
     let mut bytes = [0u8; 28];
     read_piece(area, at, &mut bytes)?;
     Ok(vxr_in(&bytes))

@@ -1,0 +1,25 @@
+//! What a write of an entry leaves of an index node, each law as the clause of a function.
+
+ghost use Rattle.std.specs.Prelude.{◌≡◌, ◌^◌, ◌<◌, ◌≢◌, ℕ, List};
+ghost use Rattle.std.specs.Int.{w32};
+ghost use Rattle.std.specs.Int.RustNames.{FitsSigned};
+ghost use Rattle.cdf_format.specs.Fields.{LiesIn};
+ghost use Rattle.cdf_format.specs.Records.{vxr_offset};
+ghost use Rattle.cdf_records.specs.Entries.{entry_of, with_entry};
+ghost use Rattle.cdf_records.specs.Heads.{vxr_at};
+ghost use Rattle.cdf_records.specs.declared.entry.VxrEntry.{VxrEntry};
+
+/// An entry that was written reads as what was written.
+pub fn entry_reads_back()
+    ensures { (b : List ℕ) (place n i : ℕ) (to : VxrEntry) → i < n → LiesIn b place (vxr_offset n i) → FitsSigned w32 to.first → FitsSigned w32 to.last → to.offset < 2 ^ 64 → entry_of (with_entry b place n i to) place n i ≡ to }
+{}
+
+/// The other entries read as before.
+pub fn other_entries_stay()
+    ensures { (b : List ℕ) (place n i : ℕ) (to : VxrEntry) → i < n → LiesIn b place (vxr_offset n i) → (j : ℕ) → j < n → i ≢ j → entry_of (with_entry b place n i to) place n j ≡ entry_of b place n j }
+{}
+
+/// The fields of the node read as before.
+pub fn node_stays()
+    ensures { (b : List ℕ) (place n i : ℕ) (to : VxrEntry) → i < n → LiesIn b place (vxr_offset n i) → vxr_at (with_entry b place n i to) place ≡ vxr_at b place }
+{}
