@@ -11,7 +11,7 @@ use Rattle.std.specs.List.{position_or_len}
 use Rattle.cdf_model.specs.Limits.{line_limit}
 use Rattle.cdf_model.specs.Lines.{split}
 use Rattle.cdf_script.proofs.Pieces.{split-append, split-whole}
-use Rattle.cdf_script.specs.Parts.{FirstLine, WholeLines}
+use Rattle.cdf_script.specs.Parts.{FirstLine, LeadingLines}
 use Rattle.cdf_script.specs.Waiting.{short_lines}
 
 -- the place of the first newline, or the length
@@ -73,7 +73,7 @@ pub ends-whole : (text : List ℕ) (n : ℕ) → n < length text → get_or text
 ends-whole text n inside last = rw (add-one, take-suc text n 0 inside, last, split-append (take n text) (10 ∷ [])) refl
 
 -- whole lines in front of a text
-pub whole_first : (text : List ℕ) (n : ℕ) → n ≤ length text → n ≤ line_limit → (split (take n text)).1 ≡ [] → WholeLines text (take n text) (drop n text)
+pub whole_first : (text : List ℕ) (n : ℕ) → n ≤ length text → n ≤ line_limit → (split (take n text)).1 ≡ [] → LeadingLines text (take n text) (drop n text)
 whole_first text n inside short ends = record {
   parts = ap split (sym (take-append-drop n text)) ∙ split-whole (take n text) (drop n text) ends;
   sizes = omega (arith, length-take-le n text inside, length-drop n text);

@@ -9,7 +9,7 @@ use Rattle.std.specs.declared.option.Option.{Option}
 use Rattle.cdf_model.specs.Limits.{line_limit}
 use Rattle.cdf_model.specs.Lines.{in_front, split, kept, whole_lines, last_line}
 use Rattle.cdf_script.proofs.Pieces.{kept-last_line}
-use Rattle.cdf_script.specs.Parts.{FirstLine, WholeLines}
+use Rattle.cdf_script.specs.Parts.{FirstLine, LeadingLines}
 use Rattle.cdf_script.specs.Pending.{fed, grown, new_lines, new_rest, last_of}
 use Rattle.cdf_script.specs.Waiting.{Standing, short_lines, lines_of, ready_of, HasRoom}
 
@@ -50,7 +50,7 @@ map-short n (l ∷ ls) le short =
 pub short-kept : (text : List ℕ) → length text ≤ line_limit → short_lines text ≡ whole_lines text
 short-kept text le = map-short (length text) (split text).0 le (AllShort-split text).0
 
-module _ {text line others : List ℕ} (first : FirstLine text line others) {whole behind : List ℕ} (more : WholeLines others whole behind) where
+module _ {text line others : List ℕ} (first : FirstLine text line others) {whole behind : List ℕ} (more : LeadingLines others whole behind) where
   -- the lines that end behind the first
   others-kept : map kept (split others).0 ≡ short_lines whole ++ whole_lines behind
   others-kept = rw more.parts (map-append kept (split whole).0 (split behind).0 ∙ ap (λ (ls : List (Option (List ℕ))). ls ++ whole_lines behind) (sym (short-kept whole more.short)))
@@ -76,7 +76,7 @@ lines-of : (block : Standing) (line : Option (List ℕ)) (whole : List ℕ) → 
 lines-of block line whole is = λ i. is.line_is i ∷ is.others_are i
 
 -- a line and the lines behind it wait now
-pub pushes : {text line others whole behind : List ℕ} (ws : List Standing) (block : Standing) (all : List (Option (List ℕ))) → FirstLine text line others → WholeLines others whole behind → IsBlock block (kept line) whole
+pub pushes : {text line others whole behind : List ℕ} (ws : List Standing) (block : Standing) (all : List (Option (List ℕ))) → FirstLine text line others → LeadingLines others whole behind → IsBlock block (kept line) whole
     → flat_map lines_of ws ++ whole_lines text ≡ all → flat_map lines_of (ws ++ block ∷ []) ++ whole_lines behind ≡ all
 pushes {line = line} {whole = whole} {behind = behind} ws block all first more is before =
     rw (waiting-push ws block, lines-of block (kept line) whole is)
@@ -112,7 +112,7 @@ pub record Adds (old added new : List Standing) (block : Standing) (rest : Optio
   pub others : flat_map lines_of added ≡ whole_lines behind
   pub left_is : left ≡ kept (split behind).1
 
-module _ {piece line others : List ℕ} (first : FirstLine piece line others) {whole behind : List ℕ} (parts : WholeLines others whole behind)
+module _ {piece line others : List ℕ} (first : FirstLine piece line others) {whole behind : List ℕ} (parts : LeadingLines others whole behind)
     {old added new : List Standing} {block : Standing} {rest left : Option (List ℕ)} (adds : Adds old added new block rest line whole behind left) (now : Standing) where
   new_lines_are : new_lines rest piece ≡ (grown rest line ∷ short_lines whole) ++ whole_lines behind
   new_lines_are = new_lines-first first parts rest

@@ -9,7 +9,7 @@ pub record FirstLine (text line others : List ℕ) : Type 0 where
   pub sizes : length line + 1 + length others ≡ length text
 
 -- whole lines, each with its newline, and then other bytes
-pub record WholeLines (text whole others : List ℕ) : Type 0 where
+pub record LeadingLines (text whole others : List ℕ) : Type 0 where
   pub parts : split text ≡ ((split whole).0 ++ (split others).0, (split others).1)
   pub sizes : length whole + length others ≡ length text
   pub short : length whole ≤ line_limit

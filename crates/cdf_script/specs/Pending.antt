@@ -7,7 +7,7 @@ use Rattle.cdf_script.specs.declared.line.Line.{Line}
 -- the lines that have ended and were not given yet, and the line that has not ended
 pub record Pending : Type 0 where
   pub given : ℕ  -- how many lines were given
-  pub line : Option (List ℕ)  -- the line given last; none for one that is too long
+  pub line : Option (List ℕ)  -- the line given last, empty before the first; none for one that is too long
   pub ready : List (Option (List ℕ))  -- lines in order; none for one that is too long
   pub rest : Option (List ℕ)  -- the line that has not ended; none once it is too long
   pub over : Bool  -- the script has ended

@@ -5,7 +5,7 @@ ghost use Rattle.cdf_script.specs.Waiting.{lines_of};
 
 use crate::block::Block;
 use crate::line::Line;
-use crate::split::{first_line, whole_lines};
+use crate::split::{first_line, leading_lines};
 use crate::text::Text;
 use std::alloc::{AllocError, Global};
 use std::collections::VecDeque;
@@ -72,7 +72,7 @@ impl Lines {
             self.taken = taken;
             return Ok(());
         };
-        let (whole, others) = whole_lines(others);
+        let (whole, others) = leading_lines(others);
         let behind = Vec::from_slice(self.alloc, whole)?;
         let mut lines = VecDeque::new(self.alloc);
         let rest = push_lines(self.alloc, &mut lines, others)?;
@@ -131,7 +131,7 @@ fn push_lines(alloc: Global, waiting: &mut VecDeque<Block>, text: &[u8]) -> Resu
 {
     let mut left = text;
     while let Some((line, others)) = first_line(left) {
-        let (whole, others) = whole_lines(others);
+        let (whole, others) = leading_lines(others);
         let text = Text::from_slice(alloc, line)?;
         let behind = Vec::from_slice(alloc, whole)?;
         waiting.push_back(Block::new(text, behind))?;

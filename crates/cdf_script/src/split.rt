@@ -1,6 +1,6 @@
 ghost use Rattle.std.specs.Prelude.{◌≡◌, ◌==◌, ◌≤◌, [], length, take, position, IfNone, IfSome};
 ghost use Rattle.cdf_model.specs.Lines.{split};
-ghost use Rattle.cdf_script.specs.Parts.{FirstLine, WholeLines};
+ghost use Rattle.cdf_script.specs.Parts.{FirstLine, LeadingLines};
 
 use crate::parse::LINE_LIMIT;
 
@@ -23,8 +23,8 @@ pub fn newline_in(text: &[u8]) -> Option<usize>
 }
 
 /// Whole lines that a text begins with, 16,777,216 bytes of them at most, and the bytes after them.
-pub fn whole_lines(text: &[u8]) -> (&[u8], &[u8])
-    ensures { WholeLines text.now result.0.now result.1.now }
+pub fn leading_lines(text: &[u8]) -> (&[u8], &[u8])
+    ensures { LeadingLines text.now result.0.now result.1.now }
 {
     let size = size_of_lines(&text[..text.len().min(LINE_LIMIT)]);
     (&text[..size], &text[size..])

@@ -2,7 +2,7 @@ use Rattle.std.proofs.Common.{◌≡◌, ◌≤◌, [], length, take, arith}
 use Rattle.std.proofs.lemmas.List.{take-take, length-take-le}
 use Rattle.cdf_model.specs.Lines.{split}
 use Rattle.cdf_script.proofs.Newlines.{rest_is, whole_first}
-use Rattle.cdf_script.proofs.split.whole_lines.Goals as goal
+use Rattle.cdf_script.proofs.split.leading_lines.Goals as goal
 
 pub returns : goal.returns
 returns c =
