@@ -1,15 +1,18 @@
 -- A text is split at its newlines.
-use Rattle.std.proofs.Common.{◌≡◌, ℕ, zero, suc, ◌+◌, ◌-◌, ◌<◌, ◌≤◌, true, false, List, [], ◌∷◌, ◌++◌, length, take, drop, refl, arith, add-one, inl, inr}
+use Rattle.std.proofs.Common.{◌≡◌, ℕ, zero, suc, ◌+◌, ◌-◌, ◌<◌, ◌≤◌, true, false, List, [], ◌∷◌, map, length, get_or, take, drop, refl, sym, ◌∙◌, ap, arith, add_assoc, add-one, inl, inr}
 use Rattle.std.proofs.lemmas.Bool.{cases_eq}
 use Rattle.std.proofs.lemmas.Bool.Decides.{nat_tests}
-use Rattle.std.proofs.lemmas.List.{take_all, length-drop, length-take-le}
-use Rattle.std.proofs.Math.Seq.{drop-length}
-use Rattle.std.proofs.lemmas.List.Sums.{prefix_len-le-length}
+use Rattle.std.proofs.lemmas.List.{take_all, take-append-drop, length-drop, length-take-le}
+use Rattle.std.proofs.Math.Seq.{take-suc}
+use lib.Seq.{drop-drop}
 use Rattle.std.proofs.lemmas.Grind.{common_steps}
-use Rattle.std.specs.Prelude.{◌==◌, Some, None, not, position, replicate}
+use Rattle.std.specs.Prelude.{◌==◌, Some, None, position}
 use Rattle.std.specs.List.{position_or_len}
+use Rattle.cdf_model.specs.Limits.{line_limit}
 use Rattle.cdf_model.specs.Lines.{split}
-use Rattle.cdf_script.specs.Parts.{FirstLine, EmptyLines}
+use Rattle.cdf_script.proofs.Pieces.{split-append, split-whole}
+use Rattle.cdf_script.specs.Parts.{FirstLine, LeadingLines}
+use Rattle.cdf_script.specs.Waiting.{short_lines}
 
 -- the place of the first newline, or the length
 abbrev place : List ℕ → ℕ
@@ -50,26 +53,7 @@ split-none (b ∷ text) outside = elim (cases_eq b 10) [
       rw (test, split-none text (omega arith)) refl
 ]
 
--- so many newlines come first
-abbrev newlines : List ℕ → ℕ
-newlines text = position_or_len (λ b. not (b == 10)) text
-
-split-newlines : (text : List ℕ) (n : ℕ) → newlines text ≡ n → split text ≡ (replicate n [] ++ (split (drop n text)).0, (split (drop n text)).1)
-split-newlines [] zero here = refl
-split-newlines [] (suc n) here = absurd (omega arith)
-split-newlines (b ∷ text) zero here = refl
-split-newlines (b ∷ text) (suc n) here = elim (cases_eq b 10) [
-  | inl newline ↦
-      let test : (b == 10) ≡ true = grind (arith, nat_tests) in
-      let behind : 1 + newlines text ≡ suc n = rw test at here in
-      rw (test, split-newlines text n (omega arith)) refl
-  | inr other ↦
-      let test : (b == 10) ≡ false = grind (arith, nat_tests) in
-      let nothing : 0 ≡ suc n = rw test at here in
-      absurd (omega arith)
-]
-
-rest_is : (text : List ℕ) (n : ℕ) → take (length text - n) (drop n text) ≡ drop n text
+pub rest_is : (text : List ℕ) (n : ℕ) → take (length text - n) (drop n text) ≡ drop n text
 rest_is text n = take_all (length text - n) (drop n text) (simp length-drop (omega arith))
 
 pub no_line : (text : List ℕ) → None ≡ position (λ b. b == 10) text → split text ≡ ([], text)
@@ -84,20 +68,25 @@ line_at text n found =
       sizes = omega (arith, length-take-le n text (omega arith), length-drop (n + 1) text);
     })
 
-pub newlines_alone : (text : List ℕ) → None ≡ position (λ b. not (b == 10)) text → EmptyLines text (length text) []
-newlines_alone text found =
-    let most : newlines text ≤ length text = prefix_len-le-length (λ b. not (not (b == 10))) text in
-    let all : newlines text ≡ length text = grind (arith, nat_tests, common_steps) in
-    record {
-      parts = rw (split-newlines text (length text) all, drop-length text) refl;
-      sizes = omega arith;
-    }
+-- a text that a newline ends has only whole lines
+pub ends-whole : (text : List ℕ) (n : ℕ) → n < length text → get_or text n 0 ≡ 10 → (split (take (n + 1) text)).1 ≡ []
+ends-whole text n inside last = rw (add-one, take-suc text n 0 inside, last, split-append (take n text) (10 ∷ [])) refl
 
-pub newlines_first : (text : List ℕ) (n : ℕ) → Some n ≡ position (λ b. not (b == 10)) text → EmptyLines text n (take (length text - n) (drop n text))
-newlines_first text n found =
-    let here : newlines text ≡ n = grind (arith, nat_tests, common_steps) in
-    let inside : n < length text = grind (arith, nat_tests, common_steps) in
-    rw (rest_is text n) (record {
-      parts = split-newlines text n here;
-      sizes = omega (arith, length-drop n text);
-    })
+-- whole lines in front of a text
+pub whole_first : (text : List ℕ) (n : ℕ) → n ≤ length text → n ≤ line_limit → (split (take n text)).1 ≡ [] → LeadingLines text (take n text) (drop n text)
+whole_first text n inside short ends = record {
+  parts = ap split (sym (take-append-drop n text)) ∙ split-whole (take n text) (drop n text) ends;
+  sizes = omega (arith, length-take-le n text inside, length-drop n text);
+  short = omega (arith, length-take-le n text inside);
+}
+
+-- the next line of a block, where its newline is found
+pub next_line : (behind : List ℕ) (start n : ℕ) → start ≤ length behind → Some n ≡ position (λ b. b == 10) (take (length behind - start) (drop start behind))
+    → short_lines (drop start behind) ≡ Some (take n (drop start behind)) ∷ short_lines (drop (start + n + 1) behind)
+next_line behind start n inside found =
+    let first = line_at (drop start behind) n (found ∙ ap (position (λ b. b == 10)) (rest_is behind start)) in
+    ap (λ (parts : List (List ℕ) × List ℕ). map Some parts.0) first.parts ∙ ap (λ (text : List ℕ). Some (take n (drop start behind)) ∷ short_lines text) (rest_is (drop start behind) (n + 1) ∙ drop-drop (n + 1) start behind ∙ ap (λ (k : ℕ). drop k behind) (sym (add_assoc start n 1)))
+
+-- no line is left where no newline is found
+pub no_next_line : (behind : List ℕ) (start : ℕ) → None ≡ position (λ b. b == 10) (take (length behind - start) (drop start behind)) → short_lines (drop start behind) ≡ []
+no_next_line behind start found = ap (λ (parts : List (List ℕ) × List ℕ). map Some parts.0) (no_line (drop start behind) (found ∙ ap (position (λ b. b == 10)) (rest_is behind start)))

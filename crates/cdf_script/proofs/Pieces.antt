@@ -27,13 +27,21 @@ behind-in_front b [] rest (m ∷ ms) more = refl
 behind-in_front b (l ∷ ls) rest [] more = refl
 behind-in_front b (l ∷ ls) rest (m ∷ ms) more = refl
 
-split-append : (a b : List ℕ) → split (a ++ b) ≡ behind (split a).0 (split a).1 (split b).0 (split b).1
+pub split-append : (a b : List ℕ) → split (a ++ b) ≡ behind (split a).0 (split a).1 (split b).0 (split b).1
 split-append [] b = behind-nothing (split b).0 (split b).1
 split-append (x ∷ a) b =
     rw (split-append a b) (elim (x == 10) as (λ t. cond t ([] ∷ (behind (split a).0 (split a).1 (split b).0 (split b).1).0, (behind (split a).0 (split a).1 (split b).0 (split b).1).1) (in_front x (behind (split a).0 (split a).1 (split b).0 (split b).1).0 (behind (split a).0 (split a).1 (split b).0 (split b).1).1) ≡ behind (cond t ([] ∷ (split a).0, (split a).1) (in_front x (split a).0 (split a).1)).0 (cond t ([] ∷ (split a).0, (split a).1) (in_front x (split a).0 (split a).1)).1 (split b).0 (split b).1) [
       | true ↦ behind-newline (split a).0 (split a).1 (split b).0 (split b).1
       | false ↦ behind-in_front x (split a).0 (split a).1 (split b).0 (split b).1
     ])
+
+behind-whole : (ls ms : List (List ℕ)) (more : List ℕ) → behind ls [] ms more ≡ (ls ++ ms, more)
+behind-whole ls [] more = λ i. (sym (append-nil ls) i, more)
+behind-whole ls (m ∷ ms) more = refl
+
+-- the parts of a text behind whole lines
+pub split-whole : (a b : List ℕ) → (split a).1 ≡ [] → split (a ++ b) ≡ ((split a).0 ++ (split b).0, (split b).1)
+split-whole a b ends = split-append a b ∙ ap (λ (rest : List ℕ). behind (split a).0 rest (split b).0 (split b).1) ends ∙ behind-whole (split a).0 (split b).0 (split b).1
 
 -- a line that is too long stays so
 grown-kept : (line more : List ℕ) → grown (kept line) more ≡ kept (line ++ more)

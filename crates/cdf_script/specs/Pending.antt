@@ -7,6 +7,7 @@ use Rattle.cdf_script.specs.declared.line.Line.{Line}
 -- the lines that have ended and were not given yet, and the line that has not ended
 pub record Pending : Type 0 where
   pub given : ℕ  -- how many lines were given
+  pub line : Option (List ℕ)  -- the line given last, empty before the first; none for one that is too long
   pub ready : List (Option (List ℕ))  -- lines in order; none for one that is too long
   pub rest : Option (List ℕ)  -- the line that has not ended; none once it is too long
   pub over : Bool  -- the script has ended
@@ -36,7 +37,7 @@ new_rest rest piece = rest_left rest (split piece).0 (split piece).1
 
 -- before the first piece
 abbrev pub nothing_fed : Pending
-nothing_fed = record { given = 0; ready = []; rest = Some []; over = false }
+nothing_fed = record { given = 0; line = Some []; ready = []; rest = Some []; over = false }
 
 -- after a further piece
 abbrev pub fed : Pending → List ℕ → Pending
@@ -54,11 +55,9 @@ finished p = record p { ready = p.ready ++ last_of p.rest; rest = Some []; over 
 
 -- the bytes of a line; none of one that is too long
 abbrev pub line_of : Line → Option (List ℕ)
-line_of line = if line.long then None else Some line.text
+line_of line = if line.long then None else Some line.text.now
 
--- the first line that is ready is given, with its number
-pub record GivesLine (old : Pending) (line : Line) (new : Pending) : Type 0 where
-  pub first : old.ready ≡ line_of line ∷ new.ready
-  pub number : line.number ≡ old.given + 1
-  pub no_text : line.long ≡ true → line.text ≡ []
-  pub counted : new ≡ record old { given = old.given + 1; ready = new.ready }
+-- the first line that is ready is given
+pub record GivesLine (old new : Pending) : Type 0 where
+  pub first : old.ready ≡ new.line ∷ new.ready
+  pub counted : new ≡ record old { given = old.given + 1; line = new.line; ready = new.ready }

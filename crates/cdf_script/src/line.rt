@@ -1,19 +1,18 @@
 use crate::parse::{ParseError, Parsed, parse_text, too_long};
-use cdf_model::Bytes;
 use std::alloc::Global;
 
 /// A line of a script, without its newline.
-#[derive(Drop)]
-pub struct Line {
+#[derive(Clone, Copy)]
+pub struct Line<'a> {
     /// Counted from 1.
     pub number: u64,
     /// The bytes; none of a line that is too long.
-    pub text: Bytes,
+    pub text: &'a [u8],
     /// The line has more than 16,777,216 bytes.
     pub long: bool,
 }
 
-impl Line {
+impl Line<'_> {
     ghost use Rattle.cdf_model.specs.Grammar.{parse};
     ghost use Rattle.cdf_script.specs.Asking.{Parses};
     ghost use Rattle.cdf_script.specs.Pending.{line_of};
@@ -25,7 +24,7 @@ impl Line {
         if self.long {
             too_long()
         } else {
-            parse_text(alloc, self.text.as_slice())
+            parse_text(alloc, self.text)
         }
     }
 }

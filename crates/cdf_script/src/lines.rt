@@ -3,10 +3,10 @@ ghost use Rattle.std.specs.List.{flat_map};
 ghost use Rattle.cdf_model.specs.Lines.{kept, split, whole_lines};
 ghost use Rattle.cdf_script.specs.Waiting.{lines_of};
 
+use crate::block::Block;
 use crate::line::Line;
-use crate::split::{empty_lines, first_line};
+use crate::split::{first_line, leading_lines};
 use crate::text::Text;
-use crate::waiting::Waiting;
 use std::alloc::{AllocError, Global};
 use std::collections::VecDeque;
 use std::marker::Model;
@@ -16,9 +16,9 @@ use std::mem;
 #[derive(Drop)]
 pub struct Lines {
     alloc: Global,
-    /// Empty lines that are to be given next.
-    empties: usize,
-    waiting: VecDeque<Waiting>,
+    /// At the line given last.
+    block: Block,
+    waiting: VecDeque<Block>,
     rest: Text,
     given: u64,
     /// How many bytes were fed.
@@ -33,21 +33,21 @@ impl Model for Lines {
 
     ghost Value = { Pending };
 
-    ghost view = { λ l. record { given = l.given; ready = ready_of l.empties l.waiting.items; rest = l.rest; over = l.over } };
+    ghost view = { λ l. record { given = l.given; line = l.block.line; ready = ready_of l.block l.waiting.items; rest = l.rest; over = l.over } };
 
-    ghost invariant = { λ l. HasRoom l.given (ready_of l.empties l.waiting.items) l.rest l.taken (deque_len l.waiting) (deque_capacity l.waiting) };
+    ghost invariant = { λ l. HasRoom l.given (ready_of l.block l.waiting.items) l.rest l.taken (deque_len l.waiting) (deque_capacity l.waiting) };
 }
 
 impl Lines {
-    ghost use Rattle.std.specs.Prelude.{◌≡◌, ◌↔◌, [], false, IsNone, IfNone, IfSome, OnOk, OnErr};
-    ghost use Rattle.cdf_script.specs.Pending.{nothing_fed, fed, finished, GivesLine};
+    ghost use Rattle.std.specs.Prelude.{◌≡◌, ◌↔◌, [], true, false, IsTrue, OnOk, OnErr};
+    ghost use Rattle.cdf_script.specs.Pending.{nothing_fed, fed, finished, line_of, GivesLine};
 
     pub fn new(alloc: Global) -> Self
         ensures { result ≡ nothing_fed }
     {
         Lines {
             alloc,
-            empties: 0,
+            block: Block::new(Text::new(alloc), Vec::new(alloc)),
             waiting: VecDeque::new(alloc),
             rest: Text::new(alloc),
             given: 0,
@@ -72,14 +72,15 @@ impl Lines {
             self.taken = taken;
             return Ok(());
         };
-        let (empties, others) = empty_lines(others);
+        let (whole, others) = leading_lines(others);
+        let behind = Vec::from_slice(self.alloc, whole)?;
         let mut lines = VecDeque::new(self.alloc);
         let rest = push_lines(self.alloc, &mut lines, others)?;
         self.waiting.reserve(lines.len() + 2)?;
         self.rest.append(self.alloc, line)?;
         // Nothing fails from here on: there is room.
         let text = mem::replace(&mut self.rest, rest);
-        self.waiting.push_back_reserved(Waiting { text, empties });
+        self.waiting.push_back_reserved(Block::new(text, behind));
         self.waiting.append(&mut lines)?;
         self.taken = taken;
         Ok(())
@@ -92,43 +93,48 @@ impl Lines {
         if !self.rest.is_empty() {
             let text = mem::replace(&mut self.rest, Text::new(self.alloc));
             self.waiting
-                .push_back_reserved(Waiting { text, empties: 0 });
+                .push_back_reserved(Block::new(text, Vec::new(self.alloc)));
         }
         self.over = true;
     }
 
-    /// The next line that has ended.
-    pub fn next_line(&mut self) -> Option<Line>
-        ensures none { IsNone result ↔ (self.old.ready ≡ []) }
-        ensures unchanged { IfNone result (self.new ≡ self.old) }
-        ensures line { IfSome result (λ line. GivesLine self.old line self.new) }
+    /// Goes on to the next line that has ended, and says whether there is one.
+    pub fn next_line(&mut self) -> bool
+        ensures none { result ≡ false ↔ (self.old.ready ≡ []) }
+        ensures unchanged { result ≡ false → self.new ≡ self.old }
+        ensures line { IsTrue result → GivesLine self.old self.new }
     {
-        if self.empties > 0 {
-            self.empties -= 1;
-            self.given += 1;
-            return Some(Text::new(self.alloc).into_line(self.given));
+        if !self.block.advance() {
+            let Some(block) = self.waiting.pop_front() else {
+                return false;
+            };
+            self.block = block;
         }
-        let waiting = self.waiting.pop_front()?;
-        self.empties = waiting.empties;
         self.given += 1;
-        Some(waiting.text.into_line(self.given))
+        true
+    }
+
+    /// The line given last, with its number. Before the first one it is an empty line with the number 0.
+    pub fn line(&self) -> Line<'_>
+        ensures text { line_of result ≡ self.now.line }
+        ensures number { result.number ≡ self.now.given }
+        ensures no_text { result.long ≡ true → result.text.now ≡ [] }
+    {
+        self.block.line(self.given)
     }
 }
 
 /// The lines of a text behind those that wait. The answer is what stands after the last newline.
-fn push_lines(
-    alloc: Global,
-    waiting: &mut VecDeque<Waiting>,
-    text: &[u8],
-) -> Result<Text, AllocError>
+fn push_lines(alloc: Global, waiting: &mut VecDeque<Block>, text: &[u8]) -> Result<Text, AllocError>
     ensures lines { OnOk result (flat_map lines_of waiting.new.items ≡ flat_map lines_of waiting.old.items ++ whole_lines text.now) }
     ensures rest { IfOk result (λ rest. rest ≡ kept (split text.now).1) }
 {
     let mut left = text;
     while let Some((line, others)) = first_line(left) {
-        let (empties, others) = empty_lines(others);
+        let (whole, others) = leading_lines(others);
         let text = Text::from_slice(alloc, line)?;
-        waiting.push_back(Waiting { text, empties })?;
+        let behind = Vec::from_slice(alloc, whole)?;
+        waiting.push_back(Block::new(text, behind))?;
         left = others;
     }
     Text::from_slice(alloc, left)

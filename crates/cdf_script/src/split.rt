@@ -1,6 +1,8 @@
-ghost use Rattle.std.specs.Prelude.{◌≡◌, ◌==◌, [], not, position, IfNone, IfSome};
+ghost use Rattle.std.specs.Prelude.{◌≡◌, ◌==◌, ◌≤◌, [], length, take, position, IfNone, IfSome};
 ghost use Rattle.cdf_model.specs.Lines.{split};
-ghost use Rattle.cdf_script.specs.Parts.{FirstLine, EmptyLines};
+ghost use Rattle.cdf_script.specs.Parts.{FirstLine, LeadingLines};
+
+use crate::parse::LINE_LIMIT;
 
 /// The first line that a newline ends, and the bytes after that newline.
 pub fn first_line(text: &[u8]) -> Option<(&[u8], &[u8])>
@@ -14,25 +16,28 @@ pub fn first_line(text: &[u8]) -> Option<(&[u8], &[u8])>
 }
 
 /// Where the first newline stands.
-fn newline_in(text: &[u8]) -> Option<usize>
+pub fn newline_in(text: &[u8]) -> Option<usize>
     ensures { result ≡ position (λ b. b == 10) text.now }
 {
     text.iter().position(|b| *b == b'\n')
 }
 
-/// How many empty lines come first, and the bytes after them.
-pub fn empty_lines(text: &[u8]) -> (usize, &[u8])
-    ensures { EmptyLines text.now result.0 result.1.now }
+/// Whole lines that a text begins with, 16,777,216 bytes of them at most, and the bytes after them.
+pub fn leading_lines(text: &[u8]) -> (&[u8], &[u8])
+    ensures { LeadingLines text.now result.0.now result.1.now }
 {
-    match other_byte_in(text) {
-        None => (text.len(), &[]),
-        Some(count) => (count, &text[count..]),
-    }
+    let size = size_of_lines(&text[..text.len().min(LINE_LIMIT)]);
+    (&text[..size], &text[size..])
 }
 
-/// Where the first byte stands that is no newline.
-fn other_byte_in(text: &[u8]) -> Option<usize>
-    ensures { result ≡ position (λ b. not (b == 10)) text.now }
+/// How many bytes the whole lines of a text have.
+fn size_of_lines(text: &[u8]) -> usize
+    ensures inside { result ≤ length text.now }
+    ensures whole { (split (take result text.now)).1 ≡ [] }
 {
-    text.iter().position(|b| *b != b'\n')
+    let mut size = text.len();
+    while size > 0 && text[size - 1] != b'\n' {
+        size -= 1;
+    }
+    size
 }

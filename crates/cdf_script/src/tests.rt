@@ -42,12 +42,13 @@ fn lines_do_not_hang_on_the_pieces(rt: HostRuntime) -> Result<(), Fail> {
             b"last",
         ] {
             number = number.wrapping_add(1);
-            let line = lines.next_line().ok_or("a line is missing")?;
+            assert!(rt; lines.next_line(), "line {number} is missing");
+            let line = lines.line();
             assert_eq!(rt; line.number, number, "in pieces of {size}");
-            assert_eq!(rt; line.text.as_slice(), text, "in pieces of {size}");
+            assert_eq!(rt; line.text, text, "in pieces of {size}");
             assert!(rt; !line.long);
         }
-        assert!(rt; lines.next_line().is_none());
+        assert!(rt; !lines.next_line());
     }
     Ok(())
 }
@@ -72,13 +73,14 @@ fn a_line_has_at_most_16777216_bytes(rt: HostRuntime) -> Result<(), Fail> {
         (2, true, 0, UNKNOWN),
         (3, false, 4, INFO),
     ] {
-        let line = lines.next_line().ok_or("a line is missing")?;
+        assert!(rt; lines.next_line(), "line {number} is missing");
+        let line = lines.line();
         assert_eq!(rt; line.number, number);
         assert_eq!(rt; line.long, long, "line {number}");
-        assert_eq!(rt; line.text.as_slice().len(), size, "line {number}");
+        assert_eq!(rt; line.text.len(), size, "line {number}");
         assert_eq!(rt; line.parse(alloc), asked, "line {number}");
     }
-    assert!(rt; lines.next_line().is_none());
+    assert!(rt; !lines.next_line());
     Ok(())
 }
 

@@ -1,6 +1,5 @@
 use crate::line::Line;
 use crate::parse::LINE_LIMIT;
-use cdf_model::Bytes;
 use std::alloc::{AllocError, Global};
 use std::marker::Model;
 
@@ -78,14 +77,14 @@ impl Text {
         Ok(())
     }
 
-    pub fn into_line(self, number: u64) -> Line
-        ensures text { line_of result ≡ self }
+    pub fn line(&self, number: u64) -> Line<'_>
+        ensures text { line_of result ≡ self.now }
         ensures number { result.number ≡ number }
-        ensures no_text { result.long ≡ true → result.text ≡ [] }
+        ensures no_text { result.long ≡ true → result.text.now ≡ [] }
     {
         Line {
             number,
-            text: Bytes::new(self.bytes),
+            text: &self.bytes,
             long: self.long,
         }
     }

@@ -65,17 +65,19 @@ pub unanswered : (d : DataSet) (given : ℕ) (refused : Bool) (first now : Optio
 unanswered d given refused first now s lines stands = (s.text, run_on-grows s lines, stands.written)
 
 -- the line that is given next, as the code has it
-module _ (d d' : DataSet) (refused : Bool) (first was : Option (List ℕ)) (old new : Pending) (line : Line) (whole : State) (r : Reached d old.given refused first was old.ready whole) (gives : GivesLine old line new) (same : d' ≡ d) where
+module _ (d d' : DataSet) (refused : Bool) (first was : Option (List ℕ)) (old new : Pending) (line : Line) (whole : State) (r : Reached d old.given refused first was old.ready whole) (gives : GivesLine old new) (text : line_of line ≡ new.line) (number : line.number ≡ new.given) (same : d' ≡ d) where
+  counted : new.given ≡ old.given + 1
+  counted = ap (λ (p : Pending). p.given) gives.counted
+
   next : Reached d old.given refused first was (line_of line ∷ new.ready) whole
-  next = subst (λ (ls : List (Option (List ℕ))). Reached d old.given refused first was ls whole) gives.first r
+  next = subst (λ (ls : List (Option (List ℕ))). Reached d old.given refused first was ls whole) (gives.first ∙ ap (λ (l : Option (List ℕ)). l ∷ new.ready) (sym text)) r
 
   its_turn : turn d' line.number (parse (line_of line)) ≡ turn d (old.given + 1) (parse (line_of line))
-  its_turn = λ i. turn (same i) (gives.number i) (parse (line_of line))
+  its_turn = λ i. turn (same i) ((number ∙ counted) i) (parse (line_of line))
 
   pub line_answered : (refused' more : Bool) (now : Option (List ℕ)) → refused' ≡ (refused || more) → Turns (turn d' line.number (parse (line_of line))) more was now → Reached d new.given refused' first now new.ready whole
   line_answered refused' more now is turns =
       let goes = answered d old.given refused first was (line_of line) new.ready whole next more now (subst (λ (t : Turn). Turns t more was now) its_turn turns) in
-      let counted : new.given ≡ old.given + 1 = ap (λ (p : Pending). p.given) gives.counted in
       subst (λ (n : ℕ). Reached d n refused' first now new.ready whole) (sym counted) (subst (λ (b : Bool). Reached d (old.given + 1) b first now new.ready whole) (sym is) goes)
 
   pub line_stopped : (now : Option (List ℕ)) → AppendsFront was now (turn d' line.number (parse (line_of line))).text → AppendsFront first now whole.text

@@ -140,7 +140,8 @@ pub fn answer_lines<A: Area, O: Sink>(
     ensures output { IsErrOf result Stop.Output → Rose (O.faults out.old) (O.faults out.new) }
 {
     let mut refused = refused;
-    while let Some(line) = lines.next_line() {
+    'ready: while lines.next_line() {
+        let line = lines.line();
         let more = answer_line(alloc, area, &line, out)?;
         refused = either(refused, more);
     }

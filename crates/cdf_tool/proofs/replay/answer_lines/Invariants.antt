@@ -5,8 +5,8 @@ use Rattle.cdf_tool.specs.Replay.{IsAt}
 use Rattle.cdf_tool.proofs.Standing.{Reached}
 use Rattle.cdf_tool.proofs.replay.answer_lines.Given as goal
 
-abbrev pub invariant-loop-line : goal.invariant-loop-line
-invariant-loop-line g l = record {
+abbrev pub invariant-ready : goal.invariant-ready
+invariant-ready g l = record {
   reaches : (first : Option (List ℕ)) (s : State) → IsAt (data_set_of (g.A.Area.image l.fn.area)) l.fn.lines.given l.fn.refused first (g.O.Sink.written l.fn.out) s
       → Reached (data_set_of (g.A.Area.image l.fn.area)) l.lines.given l.refused first (g.O.Sink.written l.out) l.lines.ready (run_on s l.fn.lines.ready);
   rest : l.lines.rest ≡ l.fn.lines.rest;
@@ -17,5 +17,5 @@ invariant-loop-line g l = record {
   later_out : g.O.Sink.faults l.fn.out ≤ g.O.Sink.faults l.out;
 }
 
-abbrev pub decreases-loop-line : goal.decreases-loop-line
-decreases-loop-line g l = length l.lines.ready
+abbrev pub decreases-ready : goal.decreases-ready
+decreases-ready g l = length l.lines.ready
