@@ -7,6 +7,7 @@ pub mod Place
 pub mod DataSet
 pub mod Step
 pub mod Gathered
+pub mod Parts
 pub mod Words
 pub mod Lines
 pub mod Quoting
