@@ -15,6 +15,7 @@ pub mod RecordSteps
 pub mod Listing
 pub mod Step
 pub mod Gathered
+pub mod Parts
 pub mod Words
 pub mod Lines
 pub mod Quoting

@@ -1,4 +1,5 @@
 ghost use Rattle.std.specs.Prelude.{◌≡◌};
+ghost use Rattle.cdf_model.specs.Arguments.{type_in};
 ghost use Rattle.cdf_model.specs.Types.{name_of, size_of, type_of};
 
 /// The type of the elements of a value, with the code that stands for it in a file.
@@ -22,6 +23,27 @@ pub enum DataType {
     Char = 51,
     UChar = 52,
 }
+
+/// All types.
+const DATA_TYPES: [DataType; 17] = [
+    DataType::Int1,
+    DataType::Int2,
+    DataType::Int4,
+    DataType::Int8,
+    DataType::UInt1,
+    DataType::UInt2,
+    DataType::UInt4,
+    DataType::Real4,
+    DataType::Real8,
+    DataType::Epoch,
+    DataType::Epoch16,
+    DataType::TimeTt2000,
+    DataType::Byte,
+    DataType::Float,
+    DataType::Double,
+    DataType::Char,
+    DataType::UChar,
+];
 
 impl DataType {
     /// The number of bytes of an element.
@@ -63,6 +85,16 @@ impl DataType {
             DataType::Char => "CHAR",
             DataType::UChar => "UCHAR",
         }
+    }
+
+    /// The type of a name; none where no type has the name.
+    pub fn of_name(name: &[u8]) -> Option<DataType>
+        ensures { result ≡ type_in name.now }
+    {
+        DATA_TYPES
+            .iter()
+            .find(|t| t.name().as_bytes() == name)
+            .copied()
     }
 
     /// The type of a code; none where no type has the code.

@@ -11,6 +11,8 @@ mod item;
 mod kinds;
 pub mod laws;
 mod list;
+#[cfg(test)]
+mod tests;
 mod words;
 
 pub use answer::{LineError, Outcome, Reason, Reply};
