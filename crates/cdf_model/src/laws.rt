@@ -1,12 +1,34 @@
 //! What follows from the definitions, each law as the clause of a function.
 
-ghost use Rattle.std.specs.Prelude.{◌≡◌, ℕ, List, true, false};
-ghost use Rattle.std.specs.List.{list_all};
+ghost use Rattle.std.specs.Prelude.{◌≡◌, ◌^◌, ◌<◌, ℕ, List, ◌∷◌, ◌++◌, length, map, true, false, Some, Ok, IsOkAnd};
+ghost use Rattle.std.specs.Fmt.{decimal};
+ghost use Rattle.std.specs.List.{All, flat_map, join_with_byte, list_all};
+ghost use Rattle.cdf_model.specs.Arguments.{number_in};
 ghost use Rattle.cdf_model.specs.Lines.{joined, split, is_one_line};
+ghost use Rattle.cdf_model.specs.Quoting.{AWord, quote, at_end, before_quote, meaning, first_word, words};
+ghost use Rattle.cdf_model.specs.Values.{quoted, quoted_byte};
 
 /// The lines of a text, each with its newline, and the bytes after the last newline are the text, and none of them has a newline in it.
 pub fn lines_are_the_text()
     ensures text { (text : List ℕ) → joined (split text).0 (split text).1 ≡ text }
     ensures lines { (text : List ℕ) → list_all is_one_line (split text).0 ≡ true }
     ensures rest { (text : List ℕ) → is_one_line (split text).1 ≡ true }
+{}
+
+/// Bytes that are written between quotes mean themselves, and the quote behind them is the closing one. So a word between quotes that
+/// ends its text, or has a separator behind it, is read as its bytes.
+pub fn quoted_word_is_read_as_itself()
+    ensures meaning { (place : ℕ) (bytes : List ℕ) → All (λ b. b < 256) bytes → meaning place (flat_map quoted_byte bytes) ≡ Ok bytes }
+    ensures closed { (bytes text : List ℕ) → All (λ b. b < 256) bytes → before_quote (flat_map quoted_byte bytes ++ quote ∷ text) ≡ Some (length (flat_map quoted_byte bytes)) }
+    ensures word { (place : ℕ) (bytes text : List ℕ) → All (λ b. b < 256) bytes → at_end text ≡ true → first_word place (quoted bytes ++ text) ≡ AWord (record { place = place; bytes = bytes }) (length (quoted bytes)) }
+{}
+
+/// Words that are written between quotes and joined by one blank each are read as these words, in their order.
+pub fn quoted_words_are_read_as_themselves()
+    ensures { (ws : List (List ℕ)) → All (λ word. All (λ b. b < 256) word) ws → IsOkAnd (words (join_with_byte 32 (map quoted ws))) (λ read. map (λ word. word.bytes) read ≡ ws) }
+{}
+
+/// The decimal text of a number of at most 32 bits is read as the number.
+pub fn decimal_is_read_as_its_number()
+    ensures { (n : ℕ) → n < 2 ^ 32 → number_in (decimal n) ≡ Some n }
 {}
