@@ -7,6 +7,7 @@ ghost use Rattle.cdf_model.specs.Arguments.{number_in};
 ghost use Rattle.cdf_model.specs.Lines.{joined, split, is_one_line};
 ghost use Rattle.cdf_model.specs.Quoting.{AWord, quote, at_end, before_quote, meaning, first_word, words};
 ghost use Rattle.cdf_model.specs.Values.{quoted, quoted_byte};
+ghost use Rattle.cdf_model.specs.Written.{WritesLine};
 
 /// The lines of a text, each with its newline, and the bytes after the last newline are the text, and none of them has a newline in it.
 pub fn lines_are_the_text()
@@ -21,6 +22,11 @@ pub fn quoted_word_is_read_as_itself()
     ensures meaning { (place : ℕ) (bytes : List ℕ) → All (λ b. b < 256) bytes → meaning place (flat_map quoted_byte bytes) ≡ Ok bytes }
     ensures closed { (bytes text : List ℕ) → All (λ b. b < 256) bytes → before_quote (flat_map quoted_byte bytes ++ quote ∷ text) ≡ Some (length (flat_map quoted_byte bytes)) }
     ensures word { (place : ℕ) (bytes text : List ℕ) → All (λ b. b < 256) bytes → at_end text ≡ true → first_word place (quoted bytes ++ text) ≡ AWord (record { place = place; bytes = bytes }) (length (quoted bytes)) }
+{}
+
+/// The words that are written on a line are read, in their order.
+pub fn written_words_are_read()
+    ensures { (line : List ℕ) (ws : List (List ℕ)) → WritesLine line ws → IsOkAnd (words line) (λ read. map (λ word. word.bytes) read ≡ ws) }
 {}
 
 /// Words that are written between quotes and joined by one blank each are read as these words, in their order.
