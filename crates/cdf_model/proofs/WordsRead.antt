@@ -1,5 +1,5 @@
 -- The words that are written on a line are read.
-use Rattle.std.proofs.Common.{◌≡◌, ℕ, zero, suc, ◌+◌, ◌*◌, ◌<◌, ◌≤◌, Bool, true, false, not, ◌&&◌, ◌||◌, cond, List, [], ◌∷◌, ◌++◌, length, take, drop, map, Option, Some, None, Result, Ok, Err, IsOkAnd, refl, sym, ◌∙◌, ap, ap₂, subst, append_assoc, append-nil, arith}
+use Rattle.std.proofs.Common.{◌≡◌, ℕ, zero, suc, ◌+◌, ◌≤◌, true, false, ◌||◌, cond, List, [], ◌∷◌, ◌++◌, length, drop, map, Some, Result, Ok, Err, IsOkAnd, refl, sym, ◌∙◌, ap, ap₂, subst, append_assoc, append-nil, arith}
 use Rattle.std.proofs.Math.Seq.{take-append_seam, drop-append_seam, drop-append-add}
 use Rattle.std.proofs.lemmas.Bool.{ne_eqb, false≢true, and_parts, or_parts, not-true}
 use Rattle.std.proofs.lemmas.List.{length-append, drop_all}
@@ -8,7 +8,7 @@ use Rattle.std.specs.List.{list_all, position_or_len}
 use Rattle.std.specs.Prelude.{◌==◌}
 use Rattle.cdf_model.specs.declared.answer.LineError.TheVariants.{BadQuote}
 use Rattle.cdf_model.specs.declared.answer.LineError.{LineError}
-use Rattle.cdf_model.specs.Quoting.{Word, First, NoWord, AWord, Fault, quote, is_separator, at_end, hex_value, before_quote, meaning, first_word, word_here, bare_word, closed_word, quoted_word, behind, separators, with_word, words_from, words}
+use Rattle.cdf_model.specs.Quoting.{Word, First, NoWord, AWord, Fault, quote, is_separator, at_end, before_quote, meaning, first_word, word_here, bare_word, closed_word, quoted_word, behind, separators, with_word, words_from, words}
 use Rattle.cdf_model.specs.Written.{WritesByte, Itself, AQuote, ABackslash, Digits, WritesBytes, is_bare, WritesWord, Bare, Quoted, WritesLine}
 
 -- a byte between quotes has its meaning
@@ -24,7 +24,7 @@ meaning-written (b ∷ bytes) text written place =
     ap (meaning place) written.2 ∙ meaning-byte written.0 written.1 b bytes written.3 (meaning-written bytes written.1 written.4) place
 
 -- a hexadecimal digit is neither a quote nor a backslash
-no_digit : (b other : ℕ) → is_ascii_hexdigit b ≡ true → is_ascii_hexdigit other ≡ false → (b == other) ≡ false
+pub no_digit : (b other : ℕ) → is_ascii_hexdigit b ≡ true → is_ascii_hexdigit other ≡ false → (b == other) ≡ false
 no_digit b other digit none = ne_eqb b other (λ same. false≢true (sym none ∙ ap is_ascii_hexdigit (sym same) ∙ digit))
 
 -- a byte between quotes stands before the closing one
@@ -96,7 +96,7 @@ separators-word : (text word rest : List ℕ) → WritesWord text word → separ
 separators-word text word rest (Bare b more bare) = let apart = bare-apart b more bare in rw apart.0 refl
 separators-word text word rest (Quoted between _ written) = refl
 
-some-word : (text word : List ℕ) → WritesWord text word → 1 ≤ length text
+pub some-word : (text word : List ℕ) → WritesWord text word → 1 ≤ length text
 some-word text word (Bare b more bare) = omega arith
 some-word text word (Quoted between _ written) = omega arith
 
@@ -116,7 +116,7 @@ first-none place line gaps =
     ∙ ap (λ l. behind n (word_here (place + n) l)) (drop_all n line (omega arith))
 
 -- the words that are read have these bytes
-abbrev Reads : List (List ℕ) → Result (List Word) LineError → Type 0
+abbrev pub Reads : List (List ℕ) → Result (List Word) LineError → Type 0
 Reads ws r = IsOkAnd r (λ read. map (λ word. word.bytes) read ≡ ws)
 
 Reads-with_word : (word : Word) (ws : List (List ℕ)) (r : Result (List Word) LineError) → Reads ws r → Reads (word.bytes ∷ ws) (with_word word r)
@@ -124,7 +124,7 @@ Reads-with_word word ws (Ok read) reads = ap (λ l. word.bytes ∷ l) reads
 Reads-with_word word ws (Err fault) reads = absurd reads
 
 -- what is read, by what stands first
-abbrev go_on : ℕ → ℕ → List ℕ → First → Result (List Word) LineError
+abbrev pub go_on : ℕ → ℕ → List ℕ → First → Result (List Word) LineError
 go_on most place text first = elim first [
   | NoWord ↦ Ok []
   | AWord word used ↦ with_word word (words_from most (place + used) (drop used text))

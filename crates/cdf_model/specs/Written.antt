@@ -1,4 +1,4 @@
--- How the words of a line may be written. Reading a line is said otherwise, in Quoting; a law says that it finds the words that are written.
+-- How the words of a line may be written. Quoting says how a line is read; by a law the words that are read are those that are written.
 use Rattle.std.specs.Prelude.{◌≡◌, ℕ, ◌+◌, ◌*◌, List, [], ◌∷◌, ◌++◌, Bool, true, false, not, ◌||◌, ◌==◌}
 use Rattle.std.specs.Char.{is_ascii_hexdigit}
 use Rattle.std.specs.List.{list_all}

@@ -1,6 +1,6 @@
 //! What follows from the definitions, each law as the clause of a function.
 
-ghost use Rattle.std.specs.Prelude.{◌≡◌, ◌^◌, ◌<◌, ℕ, List, ◌∷◌, ◌++◌, length, map, true, false, Some, Ok, IsOkAnd};
+ghost use Rattle.std.specs.Prelude.{◌≡◌, ◌↔◌, ◌^◌, ◌<◌, ℕ, List, ◌∷◌, ◌++◌, length, map, true, false, Some, Ok, IsOkAnd};
 ghost use Rattle.std.specs.Fmt.{decimal};
 ghost use Rattle.std.specs.List.{All, flat_map, join_with_byte, list_all};
 ghost use Rattle.cdf_model.specs.Arguments.{number_in};
@@ -24,9 +24,9 @@ pub fn quoted_word_is_read_as_itself()
     ensures word { (place : ℕ) (bytes text : List ℕ) → All (λ b. b < 256) bytes → at_end text ≡ true → first_word place (quoted bytes ++ text) ≡ AWord (record { place = place; bytes = bytes }) (length (quoted bytes)) }
 {}
 
-/// The words that are written on a line are read, in their order.
-pub fn written_words_are_read()
-    ensures { (line : List ℕ) (ws : List (List ℕ)) → WritesLine line ws → IsOkAnd (words line) (λ read. map (λ word. word.bytes) read ≡ ws) }
+/// The words that are read on a line are those that are written on it, in their order.
+pub fn words_are_read_as_written()
+    ensures { (line : List ℕ) (ws : List (List ℕ)) → WritesLine line ws ↔ IsOkAnd (words line) (λ read. map (λ word. word.bytes) read ≡ ws) }
 {}
 
 /// Words that are written between quotes and joined by one blank each are read as these words, in their order.
