@@ -19,6 +19,7 @@ pub mod Parts
 pub mod Words
 pub mod Lines
 pub mod Quoting
+pub mod Written
 pub mod Arguments
 pub mod Forms
 pub mod Values

@@ -1,12 +1,13 @@
 //! What follows from the definitions, each law as the clause of a function.
 
-ghost use Rattle.std.specs.Prelude.{◌≡◌, ◌^◌, ◌<◌, ℕ, List, ◌∷◌, ◌++◌, length, map, true, false, Some, Ok, IsOkAnd};
+ghost use Rattle.std.specs.Prelude.{◌≡◌, ◌↔◌, ◌^◌, ◌<◌, ℕ, List, ◌∷◌, ◌++◌, length, map, true, false, Some, Ok, IsOkAnd};
 ghost use Rattle.std.specs.Fmt.{decimal};
 ghost use Rattle.std.specs.List.{All, flat_map, join_with_byte, list_all};
 ghost use Rattle.cdf_model.specs.Arguments.{number_in};
 ghost use Rattle.cdf_model.specs.Lines.{joined, split, is_one_line};
 ghost use Rattle.cdf_model.specs.Quoting.{AWord, quote, at_end, before_quote, meaning, first_word, words};
 ghost use Rattle.cdf_model.specs.Values.{quoted, quoted_byte};
+ghost use Rattle.cdf_model.specs.Written.{WritesLine};
 
 /// The lines of a text, each with its newline, and the bytes after the last newline are the text, and none of them has a newline in it.
 pub fn lines_are_the_text()
@@ -21,6 +22,11 @@ pub fn quoted_word_is_read_as_itself()
     ensures meaning { (place : ℕ) (bytes : List ℕ) → All (λ b. b < 256) bytes → meaning place (flat_map quoted_byte bytes) ≡ Ok bytes }
     ensures closed { (bytes text : List ℕ) → All (λ b. b < 256) bytes → before_quote (flat_map quoted_byte bytes ++ quote ∷ text) ≡ Some (length (flat_map quoted_byte bytes)) }
     ensures word { (place : ℕ) (bytes text : List ℕ) → All (λ b. b < 256) bytes → at_end text ≡ true → first_word place (quoted bytes ++ text) ≡ AWord (record { place = place; bytes = bytes }) (length (quoted bytes)) }
+{}
+
+/// The words that are read on a line are those that are written on it, in their order.
+pub fn words_are_read_as_written()
+    ensures { (line : List ℕ) (ws : List (List ℕ)) → WritesLine line ws ↔ IsOkAnd (words line) (λ read. map (λ word. word.bytes) read ≡ ws) }
 {}
 
 /// Words that are written between quotes and joined by one blank each are read as these words, in their order.

@@ -2,4 +2,4 @@ use Rattle.cdf_model.proofs.QuotedText.{meaning-quoted, before-quoted, first-quo
 use Rattle.cdf_model.proofs.laws.quoted_word_is_read_as_itself.Goals as goal
 
 pub returns : goal.returns
-returns c = record { meaning = λ place bytes small. meaning-quoted bytes small place; closed = before-quoted; word = first-quoted }
+returns c = record { meaning = meaning-quoted; closed = before-quoted; word = first-quoted }
