@@ -3,5 +3,7 @@ pub mod HexLemmas
 pub mod ListLemmas
 pub mod NumberLemmas
 pub mod RangeLemmas
+pub mod ReadBackLemmas
 pub mod ReadLemmas
+pub mod TurnedLemmas
 pub mod WriteLemmas

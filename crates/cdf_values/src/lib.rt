@@ -2,6 +2,7 @@
 #![tactic(auto)]
 
 mod hex;
+pub mod laws;
 mod number;
 mod order;
 mod quoted;
@@ -12,3 +13,6 @@ pub use order::{from_network, to_network};
 pub use quoted::quoted_text;
 pub use read::{ValueError, read_values};
 pub use write::write_values;
+
+#[cfg(test)]
+mod tests;
