@@ -1,6 +1,7 @@
 pub mod ByteLemmas
 pub mod HexLemmas
 pub mod ListLemmas
+pub mod NotationLemmas
 pub mod NumberLemmas
 pub mod RangeLemmas
 pub mod ReadBackLemmas

@@ -3,6 +3,7 @@
 
 mod hex;
 pub mod laws;
+mod notation;
 mod number;
 mod order;
 mod quoted;
