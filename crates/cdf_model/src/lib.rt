@@ -12,6 +12,7 @@ mod kinds;
 pub mod laws;
 mod list;
 #[cfg(test)]
+mod pad;
 mod tests;
 mod words;
 
@@ -24,4 +25,5 @@ pub use head::{Head, Majority};
 pub use item::{Item, Items};
 pub use kinds::{EntryKind, Kind, Scope, Sparse};
 pub use list::{Bytes, Nums, Varys};
+pub use pad::default_pad;
 pub use words::{WordIter, Words, WordsBuilder};
