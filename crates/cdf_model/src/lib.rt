@@ -10,6 +10,7 @@ mod item;
 mod kinds;
 pub mod laws;
 mod list;
+mod pad;
 mod words;
 
 pub use answer::{LineError, Outcome, Reason, Reply};
@@ -20,4 +21,5 @@ pub use head::{Head, Majority};
 pub use item::{Item, Items};
 pub use kinds::{EntryKind, Kind, Scope, Sparse};
 pub use list::{Bytes, Nums, Varys};
+pub use pad::default_pad;
 pub use words::{WordIter, Words, WordsBuilder};

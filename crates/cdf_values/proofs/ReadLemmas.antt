@@ -1,0 +1,85 @@
+-- Reading words one by one.
+use Rattle.std.proofs.Common.{◌≡◌, ℕ, suc, ◌+◌, Bool, true, false, cond, List, [], ◌∷◌, ◌++◌, length, refl, sym, ap, ◌∙◌, append_assoc, arith}
+use Rattle.std.proofs.lemmas.Bool.{false≢true}
+use Rattle.std.proofs.lemmas.Bool.Decides.{nat_tests}
+use Rattle.std.proofs.lemmas.List.{append-nil}
+use Rattle.std.specs.Prelude.{Option, Some, None, Result, Ok, Err, position, nat_lt, ◌==◌}
+use Rattle.std.specs.List.{flat_map, position_or_len}
+use Rattle.std.specs.Option.{is_none, option_to_list}
+use Rattle.cdf_model.specs.declared.answer.Reason.{Reason}
+use Rattle.cdf_model.specs.declared.answer.Reason.TheVariants.{BadValue}
+use Rattle.cdf_model.specs.declared.data_type.DataType.{DataType}
+use Rattle.cdf_model.specs.Values.{bytes_in, bytes_of_words, values_in}
+use Rattle.cdf_values.specs.Reading.{IsRead}
+
+-- the bytes, or the place of a bad word
+abbrev pub outcome : Option ℕ → ℕ → List ℕ → Result (List ℕ) Reason
+outcome None at bytes = Ok bytes
+outcome (Some i) at bytes = Err (BadValue (at + i))
+
+-- the bytes so far and those of the words that are left, the first of which has the number `at`
+abbrev pub onto : (List ℕ → Option (List ℕ)) → ℕ → List ℕ → List (List ℕ) → Result (List ℕ) Reason
+onto f at done words = outcome (position (λ word. is_none (f word)) words) at (done ++ flat_map (λ word. flat_map (λ bytes. bytes) (option_to_list (f word))) words)
+
+abbrev pub words_onto : DataType → ℕ → ℕ → List ℕ → List (List ℕ) → Result (List ℕ) Reason
+words_onto t elems at done words = onto (bytes_in t elems) at done words
+
+at_first : (place : Option ℕ) (bytes : List ℕ) → outcome place 0 bytes ≡ elim place [ None ↦ Ok bytes | Some i ↦ Err (BadValue i) ]
+at_first None bytes = refl
+at_first (Some i) bytes = let e : 0 + i ≡ i = omega arith in ap (λ n. Err (BadValue n)) e
+
+-- before the first word
+pub from_first : (t : DataType) (elems : ℕ) (words : List (List ℕ)) → words_onto t elems 0 [] words ≡ bytes_of_words t elems words
+from_first t elems words = at_first (position (λ word. is_none (bytes_in t elems word)) words) (flat_map (λ word. flat_map (λ bytes. bytes) (option_to_list (bytes_in t elems word))) words)
+
+shifted : (b c : Bool) (p at : ℕ) (xs ys : List ℕ) → b ≡ c → xs ≡ ys → outcome (cond b (Some (1 + p)) None) at xs ≡ outcome (cond c (Some p) None) (at + 1) ys
+shifted true true p at xs ys e f = let n : at + (1 + p) ≡ (at + 1) + p = omega arith in ap (λ n. Err (BadValue n)) n
+shifted true false p at xs ys e f = cc
+shifted false true p at xs ys e f = cc
+shifted false false p at xs ys e f = ap (λ bytes. Ok bytes) f
+
+one_less : (p n : ℕ) → nat_lt (1 + p) (suc n) ≡ nat_lt p n
+one_less p n = grind (arith, nat_tests)
+
+-- one word more
+pub takes_word : (f : List ℕ → Option (List ℕ)) (at : ℕ) (done bytes word : List ℕ) (words : List (List ℕ)) → f word ≡ Some bytes → onto f at done (word ∷ words) ≡ onto f (at + 1) (done ++ bytes) words
+takes_word f at done bytes word words e =
+    rw e (shifted (nat_lt (1 + position_or_len (λ word. is_none (f word)) words) (suc (length words))) (nat_lt (position_or_len (λ word. is_none (f word)) words) (length words)) (position_or_len (λ word. is_none (f word)) words) at _ _ (one_less (position_or_len (λ word. is_none (f word)) words) (length words))
+    (ap (λ l. done ++ (l ++ flat_map (λ word. flat_map (λ bytes. bytes) (option_to_list (f word))) words)) (append-nil bytes) ∙ sym (append_assoc done bytes (flat_map (λ word. flat_map (λ bytes. bytes) (option_to_list (f word))) words))))
+
+some_left : (n : ℕ) → nat_lt 0 (suc n) ≡ true
+some_left n = grind (arith, nat_tests)
+
+pub stops_at_word : (f : List ℕ → Option (List ℕ)) (at : ℕ) (done word : List ℕ) (words : List (List ℕ)) → f word ≡ None → onto f at done (word ∷ words) ≡ Err (BadValue at)
+stops_at_word f at done word words e =
+    let here : at + 0 ≡ at = omega arith in
+    rw (e, some_left (length words)) (ap (λ n. Err (BadValue n)) here)
+
+pub not_read : (meaning : Option (List ℕ)) (old new : List ℕ) → IsRead meaning old new false → meaning ≡ None
+not_read None old new h = refl
+not_read (Some bytes) old new h = absurd (false≢true h.0)
+
+-- what is appended where a word is read
+pub appended : (meaning : Option (List ℕ)) (old new : List ℕ) → IsRead meaning old new true → (bytes : List ℕ) × (meaning ≡ Some bytes) × (new ≡ old ++ bytes)
+appended None old new h = absurd (false≢true (sym h))
+appended (Some bytes) old new h = (bytes, refl, h.1)
+
+counted_by : (count : Bool) (meaning other : Result (List ℕ) Reason) → count ≡ true → cond count meaning other ≡ meaning
+counted_by true meaning other e = refl
+counted_by false meaning other e = absurd (false≢true e)
+
+same_count : (a b : ℕ) → a ≡ b → (a == b) ≡ true
+same_count a b e = grind (arith, nat_tests)
+
+pub counted : (t : DataType) (elems wanted : ℕ) (words : List (List ℕ)) → length words ≡ wanted → values_in t elems wanted words ≡ bytes_of_words t elems words
+counted t elems wanted words e = counted_by (length words == wanted) (bytes_of_words t elems words) _ (same_count (length words) wanted e)
+
+-- a word more, as the loop reads it
+pub goes_on : (t : DataType) (elems at : ℕ) (old new word : List ℕ) (words more : List (List ℕ)) → words ≡ word ∷ more → IsRead (bytes_in t elems word) old new true → words_onto t elems at old words ≡ words_onto t elems (at + 1) new more
+goes_on t elems at old new word words more e h =
+    let read = appended (bytes_in t elems word) old new h in
+    ap (words_onto t elems at old) e ∙ takes_word (bytes_in t elems) at old read.0 word more read.1 ∙ ap (λ l. words_onto t elems (at + 1) l more) (sym read.2)
+
+pub stops : (t : DataType) (elems at : ℕ) (old new word : List ℕ) (words more : List (List ℕ)) → words ≡ word ∷ more → IsRead (bytes_in t elems word) old new false → words_onto t elems at old words ≡ Err (BadValue at)
+stops t elems at old new word words more e h =
+    ap (words_onto t elems at old) e ∙ stops_at_word (bytes_in t elems) at old word more (not_read (bytes_in t elems word) old new h)

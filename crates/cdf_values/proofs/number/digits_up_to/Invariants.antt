@@ -1,0 +1,9 @@
+use Rattle.std.proofs.Common.{◌≡◌, ◌≤◌, drop}
+use Rattle.cdf_values.specs.Numbers.{digits_from}
+use Rattle.cdf_values.proofs.number.digits_up_to.Given as goal
+
+abbrev pub invariant-loop-byte : goal.invariant-loop-byte
+invariant-loop-byte l = record {
+  fits : l.number ≤ l.most;
+  same : digits_from l.most l.number (drop l.byte-index l.word) ≡ digits_from l.most 0 l.word;
+}

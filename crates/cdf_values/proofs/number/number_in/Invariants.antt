@@ -1,0 +1,9 @@
+use Rattle.std.proofs.Common.{◌≡◌, ◌<◌, ◌^◌, take}
+use Rattle.cdf_model.specs.Values.{number_of}
+use Rattle.cdf_values.proofs.number.number_in.Given as goal
+
+abbrev pub invariant-loop-byte : goal.invariant-loop-byte
+invariant-loop-byte l = record {
+  value : l.number ≡ number_of (take l.byte-index l.bytes);
+  fits : l.number < 256 ^ l.byte-index;
+}

@@ -1,0 +1,7 @@
+use Rattle.std.proofs.Common.{length}
+use Rattle.cdf_values.proofs.ListLemmas.{turned_more, has_part}
+use Rattle.cdf_values.proofs.order.reverse_parts.Goals as goal
+
+pub loop-i-preserved : goal.loop-i-preserved
+loop-i-preserved c =
+    turned_more c.args.size c.loop-i.i c.args.bytes.now c.loop-i.bytes c.reverse.new.self (has_part c.args.size c.loop-i.i (length c.args.bytes.now) c.loop-i-test.true) c.loop-i.invariant c.reverse.ensures.after

@@ -1,0 +1,21 @@
+use Rattle.std.proofs.Common.{◌≡◌, length, sym, ap, ◌∙◌, arith}
+use Rattle.cdf_values.proofs.ReadLemmas.{counted, goes_on, stops}
+use Rattle.cdf_values.proofs.read.read_values.Goals as goal
+
+pub returns-then-not-is_read-clause-err : goal.returns-then-not-is_read-clause-err
+returns-then-not-is_read-clause-err c =
+    let t = c.args.t in
+    let words = c.args.words.now in
+    let refused = rw c.if-not-is_read.true at c.in_ok-is_read.ensures in
+    let right : length words ≡ c.args.wanted = omega arith in
+    counted t c.args.elems c.args.wanted words right ∙ sym c.loop-word.invariant.same
+    ∙ stops t c.args.elems c.loop-word.at c.loop-word.bytes.items c.read_value.new.bytes.items c.in-Some.word.now c.loop-word.rest c.next_word.new.self c.in-Some.ensures.word refused
+
+pub loop-word-preserved : goal.loop-word-preserved
+loop-word-preserved c =
+    let read = rw c.if-not-is_read.false at c.in_ok-is_read.ensures in
+    record {
+      count = omega (arith, ap length c.in-Some.ensures.word);
+      same = sym (goes_on c.args.t c.args.elems c.loop-word.at c.loop-word.bytes.items c.read_value.new.bytes.items c.in-Some.word.now c.loop-word.rest c.next_word.new.self c.in-Some.ensures.word read)
+          ∙ c.loop-word.invariant.same;
+    }

@@ -1,0 +1,13 @@
+use Rattle.std.proofs.Common.{◌≡◌, ◌%◌, ◌++◌, length}
+use Rattle.cdf_model.specs.Values.{values_text}
+use Rattle.cdf_values.proofs.WriteLemmas.{led}
+use Rattle.cdf_values.proofs.write.write_values.Given as goal
+
+abbrev pub invariant-loop-rest : goal.invariant-loop-rest
+invariant-loop-rest l = record {
+  whole : length l.rest % l.size ≡ 0;
+  same : l.text.items ++ led l.t l.size l.rest ≡ values_text l.t l.elems l.fn.bytes;
+}
+
+abbrev pub decreases-loop-rest : goal.decreases-loop-rest
+decreases-loop-rest l = length l.rest
