@@ -1,7 +1,10 @@
 pub mod ByteLemmas
 pub mod HexLemmas
 pub mod ListLemmas
+pub mod NotationLemmas
 pub mod NumberLemmas
 pub mod RangeLemmas
+pub mod ReadBackLemmas
 pub mod ReadLemmas
+pub mod TurnedLemmas
 pub mod WriteLemmas

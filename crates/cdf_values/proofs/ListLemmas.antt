@@ -55,3 +55,13 @@ turned_more n i old now ys room before e =
 -- the part of a number below the quotient is there
 pub has_part : (n i len : ℕ) → i < len / n → (i + 1) * n ≤ len
 has_part n i len h = omega (arith, mul-le (i + 1) n (len / n) n (omega arith) (omega arith), div-mul-le_self len n)
+
+-- a part of one byte is turned round already
+single_bytes : (xs : List ℕ) → flat_map reverse (parts 1 (length xs) xs) ≡ xs
+single_bytes [] = refl
+single_bytes (x ∷ xs) = ap (λ l. x ∷ l) (single_bytes xs)
+
+pub turned_singly : (n : ℕ) (xs : List ℕ) → n ≡ 1 → xs ≡ flat_map reverse (parts n (length xs / n) xs)
+turned_singly n xs e =
+    let count : length xs / 1 ≡ length xs = omega arith in
+    sym (ap (λ m. flat_map reverse (parts m (length xs / m) xs)) e ∙ ap (λ k. flat_map reverse (parts 1 k xs)) count ∙ single_bytes xs)

@@ -9,7 +9,7 @@ use Rattle.std.specs.Option.{is_none, option_to_list}
 use Rattle.cdf_model.specs.declared.answer.Reason.{Reason}
 use Rattle.cdf_model.specs.declared.answer.Reason.TheVariants.{BadValue}
 use Rattle.cdf_model.specs.declared.data_type.DataType.{DataType}
-use Rattle.cdf_model.specs.Values.{bytes_in, bytes_of_words, values_in}
+use Rattle.cdf_model.specs.Values.{Notation, bytes_by, bytes_in, bytes_of_words, notation_of, text_size, values_in}
 use Rattle.cdf_values.specs.Reading.{IsRead}
 
 -- the bytes, or the place of a bad word
@@ -74,12 +74,17 @@ same_count a b e = grind (arith, nat_tests)
 pub counted : (t : DataType) (elems wanted : ℕ) (words : List (List ℕ)) → length words ≡ wanted → values_in t elems wanted words ≡ bytes_of_words t elems words
 counted t elems wanted words e = counted_by (length words == wanted) (bytes_of_words t elems words) _ (same_count (length words) wanted e)
 
--- a word more, as the loop reads it
-pub goes_on : (t : DataType) (elems at : ℕ) (old new word : List ℕ) (words more : List (List ℕ)) → words ≡ word ∷ more → IsRead (bytes_in t elems word) old new true → words_onto t elems at old words ≡ words_onto t elems (at + 1) new more
-goes_on t elems at old new word words more e h =
-    let read = appended (bytes_in t elems word) old new h in
-    ap (words_onto t elems at old) e ∙ takes_word (bytes_in t elems) at old read.0 word more read.1 ∙ ap (λ l. words_onto t elems (at + 1) l more) (sym read.2)
+meaning_of : (t : DataType) (elems size : ℕ) (notation : Notation) (old new word : List ℕ) (is_read : Bool) → notation ≡ notation_of t → size ≡ text_size t elems → IsRead (bytes_by notation size word) old new is_read → IsRead (bytes_in t elems word) old new is_read
+meaning_of t elems size notation old new word is_read e f h = rw (sym e, sym f) h
 
-pub stops : (t : DataType) (elems at : ℕ) (old new word : List ℕ) (words more : List (List ℕ)) → words ≡ word ∷ more → IsRead (bytes_in t elems word) old new false → words_onto t elems at old words ≡ Err (BadValue at)
-stops t elems at old new word words more e h =
-    ap (words_onto t elems at old) e ∙ stops_at_word (bytes_in t elems) at old word more (not_read (bytes_in t elems word) old new h)
+-- a word more, as the loop reads it
+pub goes_on : (t : DataType) (elems size at : ℕ) (notation : Notation) (old new word : List ℕ) (words more : List (List ℕ)) → notation ≡ notation_of t → size ≡ text_size t elems → words ≡ word ∷ more → IsRead (bytes_by notation size word) old new true
+    → words_onto t elems at old words ≡ words_onto t elems (at + 1) new more
+goes_on t elems size at notation old new word words more e f g h =
+    let read = appended (bytes_in t elems word) old new (meaning_of t elems size notation old new word true e f h) in
+    ap (words_onto t elems at old) g ∙ takes_word (bytes_in t elems) at old read.0 word more read.1 ∙ ap (λ l. words_onto t elems (at + 1) l more) (sym read.2)
+
+pub stops : (t : DataType) (elems size at : ℕ) (notation : Notation) (old new word : List ℕ) (words more : List (List ℕ)) → notation ≡ notation_of t → size ≡ text_size t elems → words ≡ word ∷ more → IsRead (bytes_by notation size word) old new false
+    → words_onto t elems at old words ≡ Err (BadValue at)
+stops t elems size at notation old new word words more e f g h =
+    ap (words_onto t elems at old) g ∙ stops_at_word (bytes_in t elems) at old word more (not_read (bytes_in t elems word) old new (meaning_of t elems size notation old new word false e f h))

@@ -40,7 +40,7 @@ pub ends : (t : DataType) (size : ℕ) (done xs : List ℕ) → 0 < size → len
 ends t size done [] some e = rw zero-div (append-nil done)
 ends t size done (x ∷ xs) some e = absurd (omega arith)
 
-whole_by : (s e len : ℕ) → len % (s * e) ≡ 0 → len % s ≡ 0
+pub whole_by : (s e len : ℕ) → len % (s * e) ≡ 0 → len % s ≡ 0
 whole_by s e len h =
     let split : len ≡ s * (e * (len / (s * e))) = omega (arith, div-add-mod len (s * e)) in
     ap (λ n. n % s) split ∙ mul-mod_right s (e * (len / (s * e)))

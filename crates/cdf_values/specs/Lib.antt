@@ -1,2 +1,3 @@
+pub mod Notations
 pub mod Numbers
 pub mod Reading

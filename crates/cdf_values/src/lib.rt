@@ -2,6 +2,8 @@
 #![tactic(auto)]
 
 mod hex;
+pub mod laws;
+mod notation;
 mod number;
 mod order;
 mod quoted;
@@ -12,3 +14,6 @@ pub use order::{from_network, to_network};
 pub use quoted::quoted_text;
 pub use read::{ValueError, read_values};
 pub use write::write_values;
+
+#[cfg(test)]
+mod tests;

@@ -22,9 +22,8 @@ pub fn from_network(t: DataType, enc: Encoding, bytes: &mut [u8])
     requires { length bytes.old % size_of t ≡ 0 }
     ensures { bytes.new ≡ turned t enc.little bytes.old }
 {
-    if enc.little {
-        reverse_parts(unit_size(t), bytes);
-    }
+    // An element is turned round in either direction.
+    to_network(t, enc, bytes);
 }
 
 /// How many bytes are turned round together: those of an element, but each half of an EPOCH16 by itself.
@@ -43,6 +42,9 @@ fn reverse_parts(size: usize, bytes: &mut [u8])
     requires whole { length bytes.old % size ≡ 0 }
     ensures { bytes.new ≡ flat_map reverse (parts size (length bytes.old / size) bytes.old) }
 {
+    if size == 1 {
+        return;
+    }
     for i in 0..bytes.len() / size {
         bytes[i * size..(i + 1) * size].reverse();
     }

@@ -3,10 +3,12 @@
 ghost use Rattle.std.specs.Prelude.{◌≡◌, ◌≤◌, IfOk, IfErr};
 ghost use Rattle.std.specs.Int.{bytes_high_first};
 ghost use Rattle.std.specs.Option.{option_map};
-ghost use Rattle.cdf_model.specs.Values.{bytes_in, letters_in, values_in};
+ghost use Rattle.cdf_model.specs.Values.{bytes_by, letters_in, values_in};
+ghost use Rattle.cdf_values.specs.Notations.{HasSize, meant};
 ghost use Rattle.cdf_values.specs.Reading.{Explains, IsRead};
 
 use crate::hex::read_hex;
+use crate::notation::{Notation, notation_of, text_size};
 use crate::number::{append_bytes, read_signed, read_unsigned};
 use cdf_model::{DataType, Words};
 use std::alloc::{AllocError, Global};
@@ -47,12 +49,14 @@ pub fn read_values(
     if found != wanted {
         return Err(ValueError::WrongCount { found, wanted });
     }
+    let notation = notation_of(t);
+    let size = text_size(t, elems);
     let room = words.len().saturating_mul(t.size() as usize);
     let mut bytes = Vec::with_capacity(alloc, room)?;
     let mut rest = words.iter();
     let mut at = 0;
     while let Some(word) = rest.next_word() {
-        let is_read = read_value(t, elems, word, &mut bytes)?;
+        let is_read = read_word(notation, size, word, &mut bytes)?;
         if !is_read {
             return Err(ValueError::BadValue { at });
         }
@@ -61,30 +65,21 @@ pub fn read_values(
     Ok(bytes)
 }
 
-/// Appends the bytes that a word writes; false where it breaks the notation of the type.
-fn read_value(t: DataType, elems: u32, word: &[u8], bytes: &mut Vec<u8>) -> Result<bool, AllocError>
-    ensures { IfOk result (λ is_read. IsRead (bytes_in t elems word.now) bytes.old.items bytes.new.items is_read) }
+/// Appends the bytes, `size` of them, that a word writes; false where it breaks the notation.
+fn read_word(
+    notation: Notation,
+    size: usize,
+    word: &[u8],
+    bytes: &mut Vec<u8>,
+) -> Result<bool, AllocError>
+    requires { HasSize (meant notation) size }
+    ensures { IfOk result (λ is_read. IsRead (bytes_by (meant notation) size word.now) bytes.old.items bytes.new.items is_read) }
 {
-    let size = t.size() as usize;
-    match t {
-        DataType::Int1
-        | DataType::Int2
-        | DataType::Int4
-        | DataType::Int8
-        | DataType::TimeTt2000
-        | DataType::Byte => { append_number(read_signed(size, word), size, bytes) }
-        DataType::UInt1 | DataType::UInt2 | DataType::UInt4 => append_number(
-            read_unsigned(size, word),
-            size,
-            bytes,
-        ),
-        DataType::Real4
-        | DataType::Real8
-        | DataType::Epoch
-        | DataType::Epoch16
-        | DataType::Float
-        | DataType::Double => { read_hex(size, word, bytes) }
-        DataType::Char | DataType::UChar => append_letters(elems, word, bytes),
+    match notation {
+        Notation::Signed => append_number(read_signed(size, word), size, bytes),
+        Notation::Unsigned => append_number(read_unsigned(size, word), size, bytes),
+        Notation::Digits => read_hex(size, word, bytes),
+        Notation::Letters => append_letters(size, word, bytes),
     }
 }
 
@@ -100,11 +95,11 @@ fn append_number(number: Option<u64>, size: usize, bytes: &mut Vec<u8>) -> Resul
     Ok(true)
 }
 
-/// Appends a word of so many letters; false where it has another number of bytes.
-fn append_letters(elems: u32, word: &[u8], bytes: &mut Vec<u8>) -> Result<bool, AllocError>
-    ensures { IfOk result (λ is_read. IsRead (letters_in elems word.now) bytes.old.items bytes.new.items is_read) }
+/// Appends a word of `size` letters; false where it has another number of bytes.
+fn append_letters(size: usize, word: &[u8], bytes: &mut Vec<u8>) -> Result<bool, AllocError>
+    ensures { IfOk result (λ is_read. IsRead (letters_in size word.now) bytes.old.items bytes.new.items is_read) }
 {
-    if word.len() != elems as usize {
+    if word.len() != size {
         return Ok(false);
     }
     bytes.extend_from_slice(word)?;
