@@ -26,6 +26,7 @@ pub mod Values
 pub mod Sayable
 pub mod Grammar
 pub mod Texts
+pub mod Whole
 pub mod Run
 pub mod RunLengths
 pub mod Events
