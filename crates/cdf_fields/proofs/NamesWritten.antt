@@ -29,6 +29,7 @@ before_zeros : (name : List ℕ) (k : ℕ) → All (λ (byte : ℕ). byte ≢ 0)
 before_zeros name k all = ap (λ (n : ℕ). take n (name ++ replicate k 0)) (stops name k all) ∙ take-append_seam name (replicate k 0)
 
 pub name_reads : (b : List ℕ) (place : ℕ) (f : Field) (name : List ℕ) → LiesIn b place f → length name ≤ f.width → All (λ (byte : ℕ). byte ≢ 0) name → name_in (with_name b place f name) place f ≡ name
+unfolding with_name
 name_reads b place f name lies fits all =
     let xs = name ++ replicate (f.width - length name) 0 in
     let there = place + f.place in

@@ -45,14 +45,17 @@ word-put_number b place width n room fits =
     ∙ big_number-reads_back width n rest fits
 
 pub field_reads : (b : List ℕ) (place : ℕ) (f : Field) (n : ℕ) → LiesIn b place f → n < 256 ^ f.width → number (with_field b place f n) place f ≡ n
+unfolding with_field
 field_reads b place f n lies fits = word-put_number b (place + f.place) f.width n (omega arith) fits
 
 pub other_words : (b : List ℕ) (place : ℕ) (f : Field) (m other n : ℕ) → LiesIn b place f → (other + n ≤ place + f.place) ⊎ (place + f.place + f.width ≤ other) → word (with_field b place f m) other n ≡ word b other n
+unfolding with_field
 other_words b place f m other n lies apart =
     let long = length-bytes_high_first f.width m in
     word-put_outside b (big_bytes f.width m) (place + f.place) other n (rw long lies) (rw long apart)
 
 pub length-with_field : (b : List ℕ) (place : ℕ) (f : Field) (n : ℕ) → LiesIn b place f → length (with_field b place f n) ≡ length b
+unfolding with_field
 length-with_field b place f n lies = length-put b (place + f.place) (big_bytes f.width n) (rw (length-bytes_high_first f.width n) lies)
 
 small4 : (z : ℤ) → FitsSigned w32 z → cast_unsigned w32 z < 256 ^ 4

@@ -10,6 +10,8 @@ mod cvvr;
 mod gdr;
 pub mod laws;
 mod name;
+#[cfg(test)]
+mod tests;
 mod uir;
 mod vdr;
 mod vxr;

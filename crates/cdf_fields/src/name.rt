@@ -16,6 +16,7 @@ fn padded(name: &[u8]) -> [u8; 256]
 }
 
 /// Writes a name at a place within the record at another place, and bytes 0 after it up to 256.
+#[tactic(auto, unfolding(cdf_format::specs::Fields::with_name))]
 pub fn set_name<A: Area>(area: &mut A, at: u64, place: u64, to: &[u8]) -> Result<(), AreaError>
     requires field { LiesIn (A.image area.old) at (field place 256) }
     requires fits { length to.now ≤ 256 }

@@ -7,6 +7,7 @@ ghost use Rattle.cdf_format.specs.Records.{field};
 use cdf_area::{Area, AreaError};
 
 /// Writes the 4 bytes of a field at a place within the record at another place, without a sign.
+#[tactic(auto, unfolding(cdf_format::specs::Fields::with_field))]
 pub fn set_unsigned4<A: Area>(area: &mut A, at: u64, place: u64, to: u32) -> Result<(), AreaError>
     requires { LiesIn (A.image area.old) at (field place 4) }
     ensures ok { OnOk result (A.image area.new ≡ with_field (A.image area.old) at (field place 4) to) }
@@ -32,6 +33,7 @@ pub fn set_signed4<A: Area>(area: &mut A, at: u64, place: u64, to: i32) -> Resul
 }
 
 /// Writes the 8 bytes of a field at a place within the record at another place, without a sign.
+#[tactic(auto, unfolding(cdf_format::specs::Fields::with_field))]
 pub fn set_unsigned8<A: Area>(area: &mut A, at: u64, place: u64, to: u64) -> Result<(), AreaError>
     requires { LiesIn (A.image area.old) at (field place 8) }
     ensures ok { OnOk result (A.image area.new ≡ with_field (A.image area.old) at (field place 8) to) }

@@ -46,11 +46,11 @@ abbrev pub LiesIn : List ℕ → ℕ → Field → Type 0
 LiesIn b place f = place + f.place + f.width ≤ length b
 
 -- the bytes with this number, which fits its width, written as a field of the record at a place
-abbrev pub with_field : List ℕ → ℕ → Field → ℕ → List ℕ
+unfoldable pub with_field : List ℕ → ℕ → Field → ℕ → List ℕ
 with_field b place f n = put b (place + f.place) (big_bytes f.width n)
 
 -- the bytes with a name, which fits its width, written as a field of the record at a place: the name, then bytes 0
-abbrev pub with_name : List ℕ → ℕ → Field → List ℕ → List ℕ
+unfoldable pub with_name : List ℕ → ℕ → Field → List ℕ → List ℕ
 with_name b place f name = put b (place + f.place) (name ++ replicate (f.width - length name) 0)
 
 -- the Name in a field of the record at a place: it ends before its first byte 0, or where the field ends

@@ -11,8 +11,8 @@ mod item;
 mod kinds;
 pub mod laws;
 mod list;
-#[cfg(test)]
 mod pad;
+#[cfg(test)]
 mod tests;
 mod words;
 

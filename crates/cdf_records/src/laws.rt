@@ -1,4 +1,4 @@
-//! What a write of an entry leaves of an index node, each law as the clause of a function.
+//! What a write of a field or of an entry leaves, each law as the clause of a function.
 
 ghost use Rattle.std.specs.Prelude.{◌≡◌, ◌^◌, ◌<◌, ◌≢◌, ℕ, List};
 ghost use Rattle.std.specs.Int.{w32};
@@ -8,6 +8,11 @@ ghost use Rattle.cdf_format.specs.Records.{vxr_offset};
 ghost use Rattle.cdf_records.specs.Entries.{entry_of, with_entry};
 ghost use Rattle.cdf_records.specs.Heads.{vxr_at};
 ghost use Rattle.cdf_records.specs.declared.entry.VxrEntry.{VxrEntry};
+
+pub use cdf_fields::laws::{
+    field_reads_back, length_stays, name_reads_back, other_words_stay, signed4_reads_back,
+    signed8_reads_back, words_outside_stay,
+};
 
 /// An entry that was written reads as what was written.
 pub fn entry_reads_back()
