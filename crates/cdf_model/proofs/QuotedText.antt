@@ -123,7 +123,7 @@ Reads-with_word word ws (Ok read) reads = ap (λ l. word.bytes ∷ l) reads
 Reads-with_word word ws (Err fault) reads = absurd reads
 
 -- the words behind the first one
-abbrev go_on : ℕ → ℕ → List ℕ → First → Result (List Word) LineError
+abbrev pub go_on : ℕ → ℕ → List ℕ → First → Result (List Word) LineError
 go_on most place text first = elim first [
   | NoWord ↦ Ok []
   | AWord word used ↦ with_word word (words_from most (place + used) (drop used text))
