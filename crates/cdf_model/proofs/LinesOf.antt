@@ -1,9 +1,9 @@
 -- The lines of a text, each with its newline, are the text.
-use Rattle.std.proofs.Common.{◌≡◌, ℕ, Bool, true, false, cond, List, [], ◌∷◌, ◌++◌, refl, sym, ◌∙◌, ap, inl, inr, arith}
+use Rattle.std.proofs.Common.{◌≡◌, ℕ, true, false, List, [], ◌∷◌, refl, sym, ◌∙◌, ap, inl, inr, arith}
 use Rattle.std.proofs.lemmas.Bool.{cases_eq}
 use Rattle.std.proofs.lemmas.Bool.Decides.{nat_tests}
 use Rattle.std.specs.Prelude.{◌==◌}
-use Rattle.std.specs.List.{flat_map, list_all}
+use Rattle.std.specs.List.{list_all}
 use Rattle.cdf_model.specs.Lines.{in_front, split, joined, is_one_line}
 
 joined-in_front : (b : ℕ) (ls : List (List ℕ)) (rest : List ℕ) → joined (in_front b ls rest).0 (in_front b ls rest).1 ≡ b ∷ joined ls rest

@@ -1,9 +1,7 @@
 -- What the commands on attributes and their entries do (CDF User's Guide, Attributes).
-use Rattle.std.specs.Prelude.{ℕ, ◌+◌, List, [], ◌∷◌, ◌++◌, length, slice_set, Bool, true, false, not, ◌&&◌, ◌||◌, ◌==◌, nat_lt, nat_le, if◌then◌else◌, is_some, Ok, Err}
-use Rattle.std.specs.declared.option.Option.{Option}
+use Rattle.std.specs.Prelude.{ℕ, List, [], ◌∷◌, ◌++◌, length, slice_set, Bool, true, false, not, ◌==◌, nat_lt, nat_le, if◌then◌else◌, Ok, Err}
 use Rattle.std.specs.declared.result.Result.{Result}
 use Rattle.std.specs.List.{remove}
-use Rattle.std.specs.Option.{is_none}
 use Rattle.cdf_model.specs.declared.answer.Reason.{Reason}
 use Rattle.cdf_model.specs.declared.answer.Reason.TheVariants as reasons
 use Rattle.cdf_model.specs.declared.answer.Reply.TheVariants as replies
@@ -17,7 +15,7 @@ use Rattle.cdf_model.specs.DataSet.{Attribute, DataSet, Entry}
 use Rattle.cdf_model.specs.Limits.{record_number_limit}
 use Rattle.cdf_model.specs.Names.{is_bad_name, is_among, attribute_names, attribute_named}
 use Rattle.cdf_model.specs.Numbered.{item_at, with_item, without}
-use Rattle.cdf_model.specs.Values.{Notation, Letters, notation_of, bytes_of_words}
+use Rattle.cdf_model.specs.Values.{Notation, Characters, notation_of, bytes_of_words}
 
 abbrev pub new_attribute : List ℕ → Scope → Attribute
 new_attribute name scope = record { name = name; scope = scope; g = []; z = [] }
@@ -80,7 +78,7 @@ number_entry t words = elim (bytes_of_words t 1 words) [
 ]
 
 abbrev pub entry_by : Notation → DataType → List (List ℕ) → Result Entry Reason
-entry_by Letters t words = text_entry t words
+entry_by Characters t words = text_entry t words
 entry_by other t words = number_entry t words
 
 abbrev pub put_entry : DataSet → ℕ → Attribute → EntryKind → ℕ → Result Entry Reason → Answer

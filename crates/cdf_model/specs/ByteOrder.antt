@@ -15,6 +15,6 @@ abbrev pub unit_of : DataType → ℕ
 unit_of Epoch16 = 8
 unit_of t = size_of t
 
--- elements of an encoding with the least byte first or not, in network order; and the other way round
+-- Elements turned between the byte order of an encoding and network order: where the least byte stands first, each unit is reversed.
 abbrev pub turned : DataType → Bool → List ℕ → List ℕ
 turned t little bytes = if little then flat_map reverse (parts (unit_of t) (length bytes / unit_of t) bytes) else bytes

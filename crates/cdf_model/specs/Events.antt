@@ -1,6 +1,6 @@
 -- The content of a data set as a list of events: the head; each attribute with its entries; each variable with its stored records; the counts.
 use Rattle.std.specs.Prelude.{ℕ, ◌+◌, List, [], ◌∷◌, ◌++◌, map, length, if◌then◌else◌}
-use Rattle.std.specs.List.{flat_map, sum}
+use Rattle.std.specs.List.{sum}
 use Rattle.std.specs.Option.{is_some, unwrap_or}
 use Rattle.cdf_model.specs.declared.event.Event.{Event}
 use Rattle.cdf_model.specs.declared.event.Event.TheVariants as events

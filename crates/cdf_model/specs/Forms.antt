@@ -30,7 +30,7 @@ pub data Form : Type 0 where
   AChoice : List ℕ → List ℕ → (Bool → Form) → Form  -- the first of two words, or the second
   Values : (List (List ℕ) → Command) → Form  -- a word or more, to the end of the line
 
--- how many words there have to be; it hangs on none of them
+-- how many words there have to be; it does not depend on what the words are
 abbrev pub wanted : Form → ℕ
 wanted (Makes c) = 0
 wanted (AText f) = 1 + wanted (f [])
@@ -68,8 +68,8 @@ pub record CommandRow : Type 0 where
 abbrev pub row : List ℕ → Form → CommandRow
 row name form = record { name = name; form = form }
 
-abbrev pub vary : (Bool → Form) → Form
-vary f = AChoice (codes "novary") (codes "vary") f
+abbrev pub records_vary_or_not : (Bool → Form) → Form
+records_vary_or_not f = AChoice (codes "novary") (codes "vary") f
 
 abbrev pub file_rows : List CommandRow
 file_rows =
@@ -93,8 +93,8 @@ attribute_rows =
 
 abbrev pub variable_rows : List CommandRow
 variable_rows =
-    row (codes "rvar") (AText (λ name. AType (λ t. ANumber (λ elems. vary (λ changes. Varies (λ varys. Makes (commands.RVar name t elems changes varys)))))))
-    ∷ row (codes "zvar") (AText (λ name. AType (λ t. ANumber (λ elems. vary (λ changes. Numbers (λ dims. Varies (λ varys. Makes (commands.ZVar name t elems changes dims varys))))))))
+    row (codes "rvar") (AText (λ name. AType (λ t. ANumber (λ elems. records_vary_or_not (λ records_vary. Varies (λ varys. Makes (commands.RVar name t elems records_vary varys)))))))
+    ∷ row (codes "zvar") (AText (λ name. AType (λ t. ANumber (λ elems. records_vary_or_not (λ records_vary. Numbers (λ dims. Varies (λ varys. Makes (commands.ZVar name t elems records_vary dims varys))))))))
     ∷ row (codes "rename-var") (AText (λ from. AText (λ to. Makes (commands.RenameVar from to))))
     ∷ row (codes "del-var") (AText (λ name. Makes (commands.DelVar name)))
     ∷ row (codes "set-pad") (AText (λ var. AText (λ word. Makes (commands.SetPad var (word ∷ [])))))

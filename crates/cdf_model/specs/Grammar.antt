@@ -1,7 +1,6 @@
 -- What a line of a script asks for.
-use Rattle.std.specs.Prelude.{ℕ, List, [], ◌∷◌, map, length, drop, Bool, ◌&&◌, not, nat_lt, if◌then◌else◌, Some, None, Ok, Err}
+use Rattle.std.specs.Prelude.{ℕ, List, [], ◌∷◌, map, length, drop, nat_lt, if◌then◌else◌, Some, None, Ok, Err}
 use Rattle.std.specs.declared.option.Option.{Option}
-use Rattle.std.specs.declared.result.Result.{Result}
 use Rattle.cdf_model.specs.declared.answer.LineError.{LineError}
 use Rattle.cdf_model.specs.declared.answer.LineError.TheVariants.{TooLong, UnknownWord, MissingWord, ExtraWord, BadNumber}
 use Rattle.cdf_model.specs.declared.command.Command.{Command}

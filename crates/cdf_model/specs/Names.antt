@@ -1,5 +1,5 @@
 -- The names of attributes and variables. They are compared byte by byte, so blanks at the end count.
-use Rattle.std.specs.Prelude.{ℕ, List, [], ◌∷◌, ◌++◌, map, length, Bool, ◌||◌, ◌==◌, nat_lt, bytes_eq, position, get_or, Some, None}
+use Rattle.std.specs.Prelude.{ℕ, List, ◌++◌, map, length, Bool, ◌||◌, ◌==◌, nat_lt, bytes_eq, position}
 use Rattle.std.specs.declared.option.Option.{Option}
 use Rattle.std.specs.List.{list_any, slice_get}
 use Rattle.std.specs.Option.{option_and_then, option_map, option_or}

@@ -1,6 +1,5 @@
 -- The value that stands where none was written (CDF User's Guide, Variables: default pad values).
 use Rattle.std.specs.Prelude.{ℕ, List, ◌∷◌, [], replicate}
-use Rattle.std.specs.Int.{bytes_high_first}
 use Rattle.std.specs.List.{repeat}
 use Rattle.cdf_model.specs.declared.data_type.DataType.{DataType}
 use Rattle.cdf_model.specs.declared.data_type.DataType.TheVariants.{Int1, Int2, Int4, Int8, UInt1, UInt2, UInt4, Real4, Real8, Epoch, Epoch16, TimeTt2000, Byte, Float, Double, Char, UChar}

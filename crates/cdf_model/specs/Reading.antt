@@ -1,10 +1,9 @@
 -- What a record reads as (CDF User's Guide, Variables: pad values, sparse records).
-use Rattle.std.specs.Prelude.{ℕ, List, Bool, nat_lt, if◌then◌else◌, Some, None}
-use Rattle.std.specs.declared.option.Option.{Option}
+use Rattle.std.specs.Prelude.{ℕ, List, nat_lt, if◌then◌else◌}
 use Rattle.std.specs.List.{repeat}
 use Rattle.std.specs.Option.{unwrap_or}
 use Rattle.cdf_model.specs.declared.kinds.Sparse.{Sparse}
-use Rattle.cdf_model.specs.declared.kinds.Sparse.TheVariants.{NoRule, Pad, Previous}
+use Rattle.cdf_model.specs.declared.kinds.Sparse.TheVariants.{Previous}
 use Rattle.cdf_model.specs.DataSet.{Variable, extent}
 use Rattle.cdf_model.specs.Numbered.{item_at, item_before}
 use Rattle.cdf_model.specs.Pads.{default_value}

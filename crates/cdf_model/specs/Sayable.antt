@@ -1,5 +1,5 @@
--- The commands that a line can say.
-use Rattle.std.specs.Prelude.{ℕ, ◌+◌, ◌≡◌, ◌≤◌, ⊤, List, map, length, true, false, not}
+-- What holds of every command that a line gives.
+use Rattle.std.specs.Prelude.{ℕ, ◌+◌, ◌≡◌, ◌≤◌, ⊤, List, map, length}
 use Rattle.std.specs.List.{sum}
 use Rattle.cdf_model.specs.declared.command.Command.{Command}
 use Rattle.cdf_model.specs.declared.command.Command.TheVariants as commands
@@ -17,7 +17,7 @@ CanBeGiven Variable = ⊤
 CanBeGiven GlobalAssumed = ⊥
 CanBeGiven VariableAssumed = ⊥
 
--- an attribute gets no assumed scope, and there are as many values as the command takes
+-- an attribute gets no assumed scope, and there are as many values as the command takes, which fit on a line
 abbrev pub Sayable : Command → Type 0
 Sayable (commands.Attr name scope) = CanBeGiven scope
 Sayable (commands.PutEntry attr kind num t words) = (1 ≤ length words) × Fit words

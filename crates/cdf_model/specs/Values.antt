@@ -1,5 +1,5 @@
 -- How values are written in scripts and replies. The bytes of a value are in network order.
-use Rattle.std.specs.Prelude.{ℕ, ℤ, pos, negsuc, ◌+◌, ◌-◌, ◌-ℤ◌, ◌*◌, ◌^◌, ◌/◌, ◌%◌, List, [], ◌∷◌, ◌++◌, map, length, Bool, true, false, not, ◌&&◌, ◌||◌, ◌==◌, nat_lt, nat_le, if◌then◌else◌, position, Some, None, Ok, Err}
+use Rattle.std.specs.Prelude.{ℕ, ℤ, pos, ◌+◌, ◌-◌, ◌-ℤ◌, ◌*◌, ◌^◌, ◌/◌, ◌%◌, List, [], ◌∷◌, ◌++◌, map, length, not, ◌&&◌, ◌||◌, ◌==◌, nat_lt, nat_le, if◌then◌else◌, position, Some, None, Ok, Err}
 use Rattle.std.specs.declared.option.Option.{Option}
 use Rattle.std.specs.declared.result.Result.{Result}
 use Rattle.std.specs.Char.{is_ascii_hexdigit}
@@ -16,12 +16,12 @@ use Rattle.cdf_model.specs.ByteOrder.{parts}
 use Rattle.cdf_model.specs.Quoting.{quote, backslash, hex_value}
 use Rattle.cdf_model.specs.Types.{size_of}
 
--- how the elements of a type are written: as a decimal number with or without a sign, as hexadecimal digits, or as letters
+-- how the elements of a type are written: as a decimal number with or without a sign, as hexadecimal digits, or as characters
 pub data Notation : Type 0 where
   Signed : Notation
   Unsigned : Notation
-  Digits : Notation
-  Letters : Notation
+  Hexadecimal : Notation
+  Characters : Notation
 
 abbrev pub notation_of : DataType → Notation
 notation_of Int1 = Signed
@@ -33,16 +33,16 @@ notation_of Byte = Signed
 notation_of UInt1 = Unsigned
 notation_of UInt2 = Unsigned
 notation_of UInt4 = Unsigned
-notation_of Real4 = Digits
-notation_of Real8 = Digits
-notation_of Epoch = Digits
-notation_of Epoch16 = Digits
-notation_of Float = Digits
-notation_of Double = Digits
-notation_of Char = Letters
-notation_of UChar = Letters
+notation_of Real4 = Hexadecimal
+notation_of Real8 = Hexadecimal
+notation_of Epoch = Hexadecimal
+notation_of Epoch16 = Hexadecimal
+notation_of Float = Hexadecimal
+notation_of Double = Hexadecimal
+notation_of Char = Characters
+notation_of UChar = Characters
 
--- how many bytes a text of its own is written for: an element, or all elements of a value of letters
+-- how many bytes one printed value has: those of an element, or all of a CHAR or UCHAR value
 abbrev pub text_size : DataType → ℕ → ℕ
 text_size Char elems = elems
 text_size UChar elems = elems
@@ -72,14 +72,14 @@ quoted bytes = quote ∷ flat_map quoted_byte bytes ++ quote ∷ []
 abbrev pub text_by : Notation → List ℕ → List ℕ
 text_by Signed bytes = signed_decimal (signed_of bytes)
 text_by Unsigned bytes = decimal (number_of bytes)
-text_by Digits bytes = hex_text bytes
-text_by Letters bytes = quoted bytes
+text_by Hexadecimal bytes = hex_text bytes
+text_by Characters bytes = quoted bytes
 
 -- the texts of values of so many elements each, joined by one space
 abbrev pub values_text : DataType → ℕ → List ℕ → List ℕ
 values_text t elems bytes = join_with_byte 32 (map (text_by (notation_of t)) (parts (text_size t elems) (length bytes / text_size t elems) bytes))
 
--- a decimal number, with `-` where negative
+-- a decimal number
 abbrev pub unsigned_in : ℕ → List ℕ → Option (List ℕ)
 unsigned_in n word = if is_plain_number word && nat_lt (value word) (2 ^ (8 * n)) then Some (bytes_high_first n (value word)) else None
 
@@ -89,6 +89,7 @@ positive_in n word = if is_plain_number word && nat_lt (value word) (2 ^ (8 * n 
 abbrev pub negative_in : ℕ → List ℕ → Option (List ℕ)
 negative_in n word = if (is_plain_number word && not (value word == 0)) && nat_le (value word) (2 ^ (8 * n - 1)) then Some (bytes_high_first n (2 ^ (8 * n) - value word)) else None
 
+-- a decimal number, with `-` where negative
 abbrev pub signed_in : ℕ → List ℕ → Option (List ℕ)
 signed_in n [] = None
 signed_in n (b ∷ word) = if b == 45 then negative_in n word else positive_in n (b ∷ word)
@@ -102,14 +103,14 @@ hex_bytes word = []
 abbrev pub digits_in : ℕ → List ℕ → Option (List ℕ)
 digits_in n word = if (length word == 2 * n) && list_all is_ascii_hexdigit word then Some (hex_bytes word) else None
 
-abbrev pub letters_in : ℕ → List ℕ → Option (List ℕ)
-letters_in n word = if length word == n then Some word else None
+abbrev pub characters_in : ℕ → List ℕ → Option (List ℕ)
+characters_in n word = if length word == n then Some word else None
 
 abbrev pub bytes_by : Notation → ℕ → List ℕ → Option (List ℕ)
 bytes_by Signed n word = signed_in n word
 bytes_by Unsigned n word = unsigned_in n word
-bytes_by Digits n word = digits_in n word
-bytes_by Letters n word = letters_in n word
+bytes_by Hexadecimal n word = digits_in n word
+bytes_by Characters n word = characters_in n word
 
 -- the bytes that a word writes, and none where it breaks the type's notation
 abbrev pub bytes_in : DataType → ℕ → List ℕ → Option (List ℕ)

@@ -1,6 +1,5 @@
 -- What the commands on variables do (CDF User's Guide, Variables).
-use Rattle.std.specs.Prelude.{ℕ, ℤ, pos, negsuc, ◌+◌, List, [], ◌∷◌, ◌++◌, length, map, slice_set, Bool, true, false, not, ◌&&◌, ◌||◌, ◌==◌, nat_lt, nat_le, if◌then◌else◌, Some, None, Ok, Err}
-use Rattle.std.specs.declared.option.Option.{Option}
+use Rattle.std.specs.Prelude.{ℕ, pos, negsuc, List, [], ◌∷◌, ◌++◌, length, map, slice_set, Bool, true, false, not, ◌&&◌, ◌||◌, ◌==◌, nat_lt, if◌then◌else◌, Some, None, Ok, Err}
 use Rattle.std.specs.declared.result.Result.{Result}
 use Rattle.std.specs.List.{remove, list_any}
 use Rattle.std.specs.Option.{is_none}
@@ -15,13 +14,13 @@ use Rattle.cdf_model.specs.declared.kinds.Sparse.{Sparse}
 use Rattle.cdf_model.specs.declared.kinds.Sparse.TheVariants.{NoRule}
 use Rattle.cdf_model.specs.Answers.{Answer, Go, Refuse, unless, given}
 use Rattle.cdf_model.specs.AttributeSteps.{is_global}
-use Rattle.cdf_model.specs.DataSet.{Attribute, DataSet, Entry, Variable, extent}
+use Rattle.cdf_model.specs.DataSet.{Attribute, DataSet, Variable, extent}
 use Rattle.cdf_model.specs.Encodings.{encoding_at}
 use Rattle.cdf_model.specs.Limits.{dimension_limit, signed_limit}
 use Rattle.cdf_model.specs.Names.{Found, is_bad_name, is_among, variable_names, variables_of, with_variables, variable_named}
 use Rattle.cdf_model.specs.Numbered.{closed_up}
 use Rattle.cdf_model.specs.Place.{record_limit, record_size}
-use Rattle.cdf_model.specs.Values.{Notation, Letters, notation_of, values_in}
+use Rattle.cdf_model.specs.Values.{Notation, Characters, notation_of, values_in}
 
 -- too many dimensions, or one of no size or of one past 31 bits
 abbrev pub are_bad_sizes : List ℕ → Bool
@@ -35,14 +34,14 @@ setup_step d encoding majority dims =
     unless ((is_none (encoding_at encoding), reasons.NumberOutOfRange) ∷ (are_bad_sizes dims, reasons.BadShape) ∷ (not (is_empty_set d), reasons.InUse) ∷ [])
     (Go (record d { encoding = encoding; majority = majority; rdims = dims }) replies.Plain)
 
-abbrev pub is_letters : Notation → Bool
-is_letters Letters = true
-is_letters other = false
+abbrev pub is_characters : Notation → Bool
+is_characters Characters = true
+is_characters other = false
 
 -- no element, several elements of a number, bad sizes, not one variance for each dimension, or records that are too large
 abbrev pub is_bad_shape : DataType → ℕ → List ℕ → List Bool → Bool
 is_bad_shape t elems dims varys =
-    (((elems == 0) || (not (elems == 1) && not (is_letters (notation_of t)))) || (are_bad_sizes dims || not (length varys == length dims)))
+    (((elems == 0) || (not (elems == 1) && not (is_characters (notation_of t)))) || (are_bad_sizes dims || not (length varys == length dims)))
     || nat_lt record_limit (record_size t elems dims varys)
 
 abbrev pub new_variable : List ℕ → DataType → ℕ → List ℕ → List Bool → Bool → Variable

@@ -32,7 +32,7 @@ pub enum Reply {
 pub enum LineError {
     /// The line has more than 16,777,216 bytes.
     TooLong { at: u64 },
-    /// A quote that is not closed, that stands within a word or is followed by one, or an escape that is not known.
+    /// A quoted word that is not closed, a quote within a bare word, a byte directly after a closing quote, or an escape that is not known.
     BadQuote { at: u64 },
     /// `\x` without two hexadecimal digits.
     BadHex { at: u64 },

@@ -133,7 +133,7 @@ pub enum Command {
     },
     /// The whole content.
     Dump,
-    /// What the taps of a name make of the content.
+    /// What the taps of a name make of the content: a tap is shown the content part by part, and makes a text of it.
     Report {
         tap: Bytes,
     },

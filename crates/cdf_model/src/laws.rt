@@ -1,11 +1,15 @@
 //! What follows from the definitions, each law as the clause of a function.
 
-ghost use Rattle.std.specs.Prelude.{◌≡◌, ◌↔◌, ◌^◌, ◌<◌, ℕ, List, ◌∷◌, ◌++◌, length, map, true, false, Some, Ok, IsOkAnd};
+ghost use Rattle.std.specs.Prelude.{◌≡◌, ◌↔◌, ◌^◌, ◌<◌, ◌≤◌, ℕ, List, ◌∷◌, ◌++◌, length, map, true, false, Some, Ok, IsOkAnd};
 ghost use Rattle.std.specs.Fmt.{decimal};
 ghost use Rattle.std.specs.List.{All, flat_map, join_with_byte, list_all};
 ghost use Rattle.cdf_model.specs.Arguments.{number_in};
-ghost use Rattle.cdf_model.specs.Lines.{joined, split, is_one_line};
+ghost use Rattle.cdf_model.specs.declared.command.Command.{Command};
+ghost use Rattle.cdf_model.specs.Grammar.{parse, Asks, Blank};
+ghost use Rattle.cdf_model.specs.Limits.{line_limit};
+ghost use Rattle.cdf_model.specs.Lines.{joined, kept, split, is_blank, is_one_line};
 ghost use Rattle.cdf_model.specs.Quoting.{AWord, quote, at_end, before_quote, meaning, first_word, words};
+ghost use Rattle.cdf_model.specs.Sayable.{Sayable};
 ghost use Rattle.cdf_model.specs.Values.{quoted, quoted_byte};
 ghost use Rattle.cdf_model.specs.Written.{WritesLine};
 
@@ -37,4 +41,15 @@ pub fn quoted_words_are_read_as_themselves()
 /// The decimal text of a number of at most 32 bits is read as the number.
 pub fn decimal_is_read_as_its_number()
     ensures { (n : ℕ) → n < 2 ^ 32 → number_in (decimal n) ≡ Some n }
+{}
+
+/// A line gives nothing exactly where it is blank: each other line is a command or a fault.
+pub fn a_line_is_blank()
+    ensures { (line : List ℕ) → (parse (Some line) ≡ Blank) ↔ (is_blank line ≡ true) }
+{}
+
+/// A line that is not too long gives a command with no assumed scope, and with as many values as it takes, which fit on a line.
+pub fn a_command_is_sayable()
+    ensures line { (line : List ℕ) (c : Command) → length line ≤ line_limit → parse (Some line) ≡ Asks c → Sayable c }
+    ensures kept { (line : List ℕ) (c : Command) → parse (kept line) ≡ Asks c → Sayable c }
 {}

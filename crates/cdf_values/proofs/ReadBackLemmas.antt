@@ -17,7 +17,7 @@ use Rattle.cdf_model.specs.declared.data_type.DataType.TheVariants.{Int1, Int2, 
 use Rattle.cdf_model.specs.Arguments.{is_plain_number, value}
 use Rattle.cdf_model.specs.Quoting.{hex_value}
 use Rattle.cdf_model.specs.Types.{size_of}
-use Rattle.cdf_model.specs.Values.{Letters, notation_of, number_of, signed_of, hex_digit, hex_text, hex_bytes, text_by, unsigned_in, positive_in, negative_in, signed_in, digits_in, bytes_in}
+use Rattle.cdf_model.specs.Values.{Characters, notation_of, number_of, signed_of, hex_digit, hex_text, hex_bytes, text_by, unsigned_in, positive_in, negative_in, signed_in, digits_in, bytes_in}
 use Rattle.cdf_values.proofs.ByteLemmas.{bytes_as_bits, two_halves, negative_text}
 
 -- each element is below 256
@@ -229,7 +229,7 @@ signed_by n bytes e some few h (inr high) =
 signed_at : (n : ℕ) (bytes : List ℕ) → length bytes ≡ n → 0 < n → n ≤ 8 → AreBytes bytes → signed_in n (signed_decimal (signed_of bytes)) ≡ Some bytes
 signed_at n bytes e some few h = signed_by n bytes e some few h (cases_lt (number_of bytes) (2 ^ (8 * n - 1)))
 
-by_type : (t : DataType) (elems : ℕ) (bytes : List ℕ) → notation_of t ≢ Letters → length bytes ≡ size_of t → AreBytes bytes → bytes_in t elems (text_by (notation_of t) bytes) ≡ Some bytes
+by_type : (t : DataType) (elems : ℕ) (bytes : List ℕ) → notation_of t ≢ Characters → length bytes ≡ size_of t → AreBytes bytes → bytes_in t elems (text_by (notation_of t) bytes) ≡ Some bytes
 by_type Int1 elems bytes other e h = signed_at 1 bytes e (omega arith) (omega arith) h
 by_type Int2 elems bytes other e h = signed_at 2 bytes e (omega arith) (omega arith) h
 by_type Int4 elems bytes other e h = signed_at 4 bytes e (omega arith) (omega arith) h
@@ -248,5 +248,5 @@ by_type Double elems bytes other e h = digits_at 8 bytes e h
 by_type Char elems bytes other e h = absurd (other refl)
 by_type UChar elems bytes other e h = absurd (other refl)
 
-pub read_back : (t : DataType) (elems : ℕ) (bytes : List ℕ) → notation_of t ≢ Letters → length bytes ≡ size_of t → All (λ b. b < 256) bytes → bytes_in t elems (text_by (notation_of t) bytes) ≡ Some bytes
+pub read_back : (t : DataType) (elems : ℕ) (bytes : List ℕ) → notation_of t ≢ Characters → length bytes ≡ size_of t → All (λ b. b < 256) bytes → bytes_in t elems (text_by (notation_of t) bytes) ≡ Some bytes
 read_back t elems bytes other e h = by_type t elems bytes other e (recursion_from_All (λ b. b < 256) bytes h)

@@ -5,7 +5,7 @@ ghost use Rattle.std.specs.List.{All};
 ghost use Rattle.cdf_model.specs.declared.data_type.DataType.{DataType};
 ghost use Rattle.cdf_model.specs.ByteOrder.{turned};
 ghost use Rattle.cdf_model.specs.Types.{size_of};
-ghost use Rattle.cdf_model.specs.Values.{Letters, bytes_in, notation_of, text_by};
+ghost use Rattle.cdf_model.specs.Values.{Characters, bytes_in, notation_of, text_by};
 
 /// Elements that are turned into network order and back, or the other way round, are what they were; turned, they are as
 /// many bytes.
@@ -17,6 +17,6 @@ pub fn turned_back()
 /// The text of an element that is a number or digits is read as the bytes of the element.
 pub fn read_back()
     ensures { (t : DataType) (elems : ℕ) (bytes : List ℕ)
-        → notation_of t ≢ Letters → length bytes ≡ size_of t → All (λ b. b < 256) bytes
+        → notation_of t ≢ Characters → length bytes ≡ size_of t → All (λ b. b < 256) bytes
         → bytes_in t elems (text_by (notation_of t) bytes) ≡ Some bytes }
 {}

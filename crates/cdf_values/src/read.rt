@@ -3,7 +3,7 @@
 ghost use Rattle.std.specs.Prelude.{◌≡◌, ◌≤◌, IfOk, IfErr};
 ghost use Rattle.std.specs.Int.{bytes_high_first};
 ghost use Rattle.std.specs.Option.{option_map};
-ghost use Rattle.cdf_model.specs.Values.{bytes_by, letters_in, values_in};
+ghost use Rattle.cdf_model.specs.Values.{bytes_by, characters_in, values_in};
 ghost use Rattle.cdf_values.specs.Notations.{HasSize, meant};
 ghost use Rattle.cdf_values.specs.Reading.{Explains, IsRead};
 
@@ -78,8 +78,8 @@ fn read_word(
     match notation {
         Notation::Signed => append_number(read_signed(size, word), size, bytes),
         Notation::Unsigned => append_number(read_unsigned(size, word), size, bytes),
-        Notation::Digits => read_hex(size, word, bytes),
-        Notation::Letters => append_letters(size, word, bytes),
+        Notation::Hexadecimal => read_hex(size, word, bytes),
+        Notation::Characters => append_characters(size, word, bytes),
     }
 }
 
@@ -96,8 +96,8 @@ fn append_number(number: Option<u64>, size: usize, bytes: &mut Vec<u8>) -> Resul
 }
 
 /// Appends a word of `size` letters; false where it has another number of bytes.
-fn append_letters(size: usize, word: &[u8], bytes: &mut Vec<u8>) -> Result<bool, AllocError>
-    ensures { IfOk result (λ is_read. IsRead (letters_in size word.now) bytes.old.items bytes.new.items is_read) }
+fn append_characters(size: usize, word: &[u8], bytes: &mut Vec<u8>) -> Result<bool, AllocError>
+    ensures { IfOk result (λ is_read. IsRead (characters_in size word.now) bytes.old.items bytes.new.items is_read) }
 {
     if word.len() != size {
         return Ok(false);

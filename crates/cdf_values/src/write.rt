@@ -48,7 +48,7 @@ fn append_text(notation: Notation, bytes: &[u8], text: &mut Vec<u8>) -> Result<(
     match notation {
         Notation::Signed => append_signed(bytes, text),
         Notation::Unsigned => append_unsigned(bytes, text),
-        Notation::Digits => append_hex(bytes, text),
-        Notation::Letters => append_quoted(bytes, text),
+        Notation::Hexadecimal => append_hex(bytes, text),
+        Notation::Characters => append_quoted(bytes, text),
     }
 }
