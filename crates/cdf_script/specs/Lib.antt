@@ -2,3 +2,12 @@ pub mod Pending
 pub mod Asking
 pub mod Parts
 pub mod Waiting
+pub mod Raw
+pub mod Scanned
+pub mod Left
+pub mod Faults
+pub mod Reading
+pub mod Words
+pub mod Verbs
+pub mod Commas
+pub mod Counting

@@ -1,8 +1,11 @@
 ghost use Rattle.std.specs.Prelude.{◌≡◌};
-ghost use Rattle.cdf_model.specs.Grammar.{parse};
+ghost use Rattle.cdf_model.specs.Grammar.{parse, parse_words as words_ask_for};
 ghost use Rattle.cdf_model.specs.Lines.{kept, is_blank as blank_line};
 ghost use Rattle.cdf_script.specs.Asking.{Parses};
 
+use crate::arguments::Arguments;
+use crate::command::read_command;
+pub use crate::fault::ParseError;
 use cdf_model::{Command, LineError};
 use std::alloc::Global;
 
@@ -10,18 +13,11 @@ use std::alloc::Global;
 pub const LINE_LIMIT: usize = 16_777_216;
 
 /// What a line asks for.
-#[derive(Clone, Copy, Debug, PartialEq, Eq)]
+#[derive(Drop)]
 pub enum Parsed {
     /// Nothing: the line is blank.
     Blank,
     Cmd { c: Command },
-}
-
-/// Why a line was not read.
-#[derive(Clone, Copy, Debug, PartialEq, Eq)]
-pub enum ParseError {
-    Bad { fault: LineError },
-    NoMemory,
 }
 
 /// What a line asks for, which comes without its newline.
@@ -36,18 +32,26 @@ pub fn parse_line(alloc: Global, line: &[u8]) -> Result<Parsed, ParseError>
 }
 
 /// What a line asks for that is not too long.
-pub fn parse_text(_alloc: Global, line: &[u8]) -> Result<Parsed, ParseError>
+pub fn parse_text(alloc: Global, line: &[u8]) -> Result<Parsed, ParseError>
     ensures { Parses (parse (Some line.now)) result }
 {
     if is_blank(line) {
         return Ok(Parsed::Blank);
     }
-    if line == b"info".as_slice() {
-        return Ok(Parsed::Cmd { c: Command::Info });
-    }
-    Err(ParseError::Bad {
-        fault: LineError::UnknownWord { at: 0 },
-    })
+    let mut arguments = Arguments::of(alloc, line)?;
+    parse_words(&mut arguments, line.len())
+}
+
+/// What the words of a line ask for that has so many bytes.
+fn parse_words(arguments: &mut Arguments<'_>, line_length: usize) -> Result<Parsed, ParseError>
+    ensures { Parses (words_ask_for line_length arguments.old) result }
+{
+    let Some(verb) = arguments.verb()? else {
+        return Ok(Parsed::Blank);
+    };
+    arguments.check_count(verb, line_length)?;
+    let command = read_command(verb, arguments)?;
+    Ok(Parsed::Cmd { c: command })
 }
 
 /// The fault of a line that is too long.
@@ -55,7 +59,9 @@ pub fn too_long() -> Result<Parsed, ParseError>
     ensures { Parses (parse None) result }
 {
     Err(ParseError::Bad {
-        fault: LineError::UnknownWord { at: 0 },
+        fault: LineError::TooLong {
+            at: LINE_LIMIT as u64,
+        },
     })
 }
 

@@ -1,17 +1,8 @@
 ghost use Rattle.std.specs.Prelude.{◌<◌};
 
-use crate::{Lines, ParseError, Parsed, parse_line};
-use cdf_model::{Command, LineError};
+use crate::Lines;
 use std::alloc::{AllocError, Global};
 use std::test::Fail;
-
-const INFO: Result<Parsed, ParseError> = Ok(Parsed::Cmd { c: Command::Info });
-
-const BLANK: Result<Parsed, ParseError> = Ok(Parsed::Blank);
-
-const UNKNOWN: Result<Parsed, ParseError> = Err(ParseError::Bad {
-    fault: LineError::UnknownWord { at: 0 },
-});
 
 /// The script fed in pieces of so many bytes.
 fn fed_by(alloc: Global, script: &[u8], size: usize) -> Result<Lines, AllocError>
@@ -68,35 +59,13 @@ fn a_line_has_at_most_16777216_bytes(rt: HostRuntime) -> Result<(), Fail> {
     let alloc = rt.alloc();
     let script = long_lines(alloc, 16_777_216)?;
     let mut lines = fed_by(alloc, &script, 8_000_000)?;
-    for (number, long, size, asked) in [
-        (1, false, 16_777_216, BLANK),
-        (2, true, 0, UNKNOWN),
-        (3, false, 4, INFO),
-    ] {
+    for (number, long, size) in [(1, false, 16_777_216), (2, true, 0), (3, false, 4)] {
         assert!(rt; lines.next_line(), "line {number} is missing");
         let line = lines.line();
         assert_eq!(rt; line.number, number);
         assert_eq!(rt; line.long, long, "line {number}");
         assert_eq!(rt; line.text.len(), size, "line {number}");
-        assert_eq!(rt; line.parse(alloc), asked, "line {number}");
     }
     assert!(rt; !lines.next_line());
     Ok(())
-}
-
-#[test]
-fn a_line_asks_for_info_or_nothing(rt: HostRuntime) {
-    for (line, asked) in [
-        (b"info".as_slice(), INFO),
-        (b" info", UNKNOWN),
-        (b"inf", UNKNOWN),
-        (b"info\r", UNKNOWN),
-        (b"", BLANK),
-        (b" \t ", BLANK),
-        (b" \t# x", BLANK),
-        (b"#x", BLANK),
-        (b" \rx#", UNKNOWN),
-    ] {
-        assert_eq!(rt; parse_line(rt.alloc(), line), asked, "of {line:?}");
-    }
 }
