@@ -1,12 +1,13 @@
 //! What follows from the definitions, each law as the clause of a function.
 
-ghost use Rattle.std.specs.Prelude.{◌≡◌, ◌↔◌, ◌^◌, ◌<◌, ℕ, List, ◌∷◌, ◌++◌, length, map, true, false, Some, Ok, IsOkAnd};
+ghost use Rattle.std.specs.Prelude.{◌≡◌, ◌↔◌, ◌*◌, ◌^◌, ◌<◌, ℕ, List, ◌∷◌, ◌++◌, length, map, true, false, Some, Ok, IsOkAnd};
 ghost use Rattle.std.specs.Fmt.{decimal};
 ghost use Rattle.std.specs.List.{All, flat_map, join_with_byte, list_all};
+ghost use Rattle.cdf_model.specs.declared.data_type.DataType.{DataType};
 ghost use Rattle.cdf_model.specs.Arguments.{number_in};
 ghost use Rattle.cdf_model.specs.Lines.{joined, split, is_one_line};
 ghost use Rattle.cdf_model.specs.Quoting.{AWord, quote, at_end, before_quote, meaning, first_word, words};
-ghost use Rattle.cdf_model.specs.Values.{quoted, quoted_byte};
+ghost use Rattle.cdf_model.specs.Values.{quoted, quoted_byte, text_size, values_in, values_text};
 ghost use Rattle.cdf_model.specs.Written.{WritesLine};
 
 /// The lines of a text, each with its newline, and the bytes after the last newline are the text, and none of them has a newline in it.
@@ -37,4 +38,9 @@ pub fn quoted_words_are_read_as_themselves()
 /// The decimal text of a number of at most 32 bits is read as the number.
 pub fn decimal_is_read_as_its_number()
     ensures { (n : ℕ) → n < 2 ^ 32 → number_in (decimal n) ≡ Some n }
+{}
+
+/// The values that a reply shows are words, and as the values of a command they are read as the same bytes.
+pub fn shown_values_are_read_back()
+    ensures { (t : DataType) (elems count : ℕ) (bytes : List ℕ) → 0 < text_size t elems → length bytes ≡ count * text_size t elems → All (λ b. b < 256) bytes → IsOkAnd (words (values_text t elems bytes)) (λ read. values_in t elems count (map (λ word. word.bytes) read) ≡ Ok bytes) }
 {}
