@@ -21,17 +21,23 @@ plain (b ∷ c ∷ ds) digits some first =
     let other : (b == 48) ≡ false = grind (arith, nat_tests) in
     rw (digits, other) refl
 
-is_plain-decimal : (n : ℕ) → n < 2 ^ 32 → is_plain_number (decimal n) ≡ true
+pub digits-decimal : (n : ℕ) → n < 2 ^ 64 → list_all is_ascii_digit (decimal n) ≡ true
+digits-decimal n small = digits_decimal own n small
+
+pub value-decimal : (n : ℕ) → n < 2 ^ 64 → value (decimal n) ≡ n
+value-decimal n small = digits_value-decimal own n small
+
+pub is_plain-decimal : (n : ℕ) → n < 2 ^ 64 → is_plain_number (decimal n) ≡ true
 is_plain-decimal n small = elim (cases_lt n 10) [
   | inl one ↦
       let digit : is_ascii_digit (48 + n) ≡ true = grind (arith, nat_tests) in
       ap is_plain_number (decimal_digit n one) ∙ digit
-  | inr more ↦ plain (decimal n) (digits_decimal own n (omega arith)) (decimal_nonempty n (omega arith)) (first_decimal n (omega arith) (omega arith))
+  | inr more ↦ plain (decimal n) (digits-decimal n small) (decimal_nonempty n small) (first_decimal n (omega arith) small)
 ]
 
 pub number_in-decimal : (n : ℕ) → n < 2 ^ 32 → number_in (decimal n) ≡ Some n
 number_in-decimal n small =
-    let digits = is_plain-decimal n small in
-    let same : value (decimal n) ≡ n = digits_value-decimal own n (omega arith) in
+    let digits = is_plain-decimal n (omega arith) in
+    let same = value-decimal n (omega arith) in
     let fits : nat_lt n (2 ^ 32) ≡ true = lt-ltb n (2 ^ 32) small in
     rw (digits, same, fits) refl

@@ -1,6 +1,7 @@
 -- A word that is written between quotes is read as itself.
-use Rattle.std.proofs.Common.{◌≡◌, ℕ, ◌+◌, ◌*◌, ◌/◌, ◌%◌, ◌<◌, true, false, ◌&&◌, List, [], ◌∷◌, ◌++◌, length, map, Some, Ok, IsOkAnd, refl, sym, ◌∙◌, ap, ap₂, subst, inl, inr, append-nil, arith}
+use Rattle.std.proofs.Common.{◌≡◌, ℕ, ◌+◌, ◌*◌, ◌/◌, ◌%◌, ◌<◌, true, false, ◌&&◌, List, [], ◌∷◌, ◌++◌, length, map, Some, Ok, IsOkAnd, refl, sym, ◌∙◌, ap₂, subst, inl, inr, arith}
 use Rattle.std.proofs.lemmas.Bool.{cases_eq, cases_Bool, agree_below_at, eqb-true, ne_eqb}
+use Rattle.std.proofs.lemmas.List.{map-id}
 use Rattle.std.proofs.lemmas.List.Elements.{All-head, All-tail}
 use Rattle.std.specs.Char.{is_ascii_hexdigit}
 use Rattle.std.specs.List.{All, flat_map, join_with_byte}
@@ -8,13 +9,14 @@ use Rattle.std.specs.Prelude.{◌==◌, nat_lt, nat_le}
 use Rattle.cdf_model.specs.Quoting.{AWord, quote, at_end, hex_value, before_quote, meaning, first_word, words}
 use Rattle.cdf_model.specs.Values.{hex_digit, quoted_byte, quoted}
 use Rattle.cdf_model.specs.Written.{WritesByte, Itself, AQuote, ABackslash, Digits, WritesBytes, WritesWord, Quoted, WritesLine}
+use Rattle.cdf_model.proofs.JoinedWords.{writes-joined}
 use Rattle.cdf_model.proofs.WordsRead.{meaning-written, before-written, first-written, Reads-written}
 
 -- a hexadecimal digit is read as its value
-digit-test : (d : ℕ) → d < 16 → is_ascii_hexdigit (hex_digit d) ≡ true
+pub digit-test : (d : ℕ) → d < 16 → is_ascii_hexdigit (hex_digit d) ≡ true
 digit-test d small = agree_below_at (λ d. is_ascii_hexdigit (hex_digit d)) (λ d. true) 16 d refl small
 
-digit-value : (d : ℕ) → d < 16 → hex_value (hex_digit d) ≡ d
+pub digit-value : (d : ℕ) → d < 16 → hex_value (hex_digit d) ≡ d
 digit-value d small = eqb-true _ d (agree_below_at (λ d. hex_value (hex_digit d) == d) (λ d. true) 16 d refl small)
 
 in_digits : (b : ℕ) → b < 256 → WritesByte (92 ∷ 120 ∷ hex_digit (b / 16) ∷ hex_digit (b % 16) ∷ []) b
@@ -44,7 +46,7 @@ writes-bytes : (bytes : List ℕ) → All (λ b. b < 256) bytes → WritesBytes 
 writes-bytes [] small = refl
 writes-bytes (b ∷ bytes) small = (quoted_byte b, flat_map quoted_byte bytes, refl, writes-byte b (All-head (λ b. b < 256) b bytes small), writes-bytes bytes (All-tail (λ b. b < 256) b bytes small))
 
-writes-word : (word : List ℕ) → All (λ b. b < 256) word → WritesWord (quoted word) word
+pub writes-word : (word : List ℕ) → All (λ b. b < 256) word → WritesWord (quoted word) word
 writes-word word small = Quoted (flat_map quoted_byte word) word (writes-bytes word small)
 
 pub meaning-quoted : (place : ℕ) (bytes : List ℕ) → All (λ b. b < 256) bytes → meaning place (flat_map quoted_byte bytes) ≡ Ok bytes
@@ -58,28 +60,8 @@ first-quoted place bytes text small ends =
     first-written place [] (quoted bytes) bytes text refl (writes-word bytes small) ends
     ∙ ap₂ (λ p n. AWord (record { place = p; bytes = bytes }) n) (omega arith) (omega arith)
 
--- words between quotes, each behind a blank
-abbrev behind_blanks : List (List ℕ) → List ℕ
-behind_blanks ws = flat_map (λ word. 32 ∷ quoted word) ws
-
-at_end-behind_blanks : (ws : List (List ℕ)) → at_end (behind_blanks ws) ≡ true
-at_end-behind_blanks [] = refl
-at_end-behind_blanks (word ∷ ws) = refl
-
-writes-behind_blanks : (ws : List (List ℕ)) → All (λ word. All (λ b. b < 256) word) ws → WritesLine (behind_blanks ws) ws
-writes-behind_blanks [] small = refl
-writes-behind_blanks (word ∷ ws) small =
-    (32 ∷ [], quoted word, behind_blanks ws, refl, refl, writes-word word (All-head (λ word. All (λ b. b < 256) word) word ws small), at_end-behind_blanks ws, writes-behind_blanks ws (All-tail (λ word. All (λ b. b < 256) word) word ws small))
-
-join-quoted : (word : List ℕ) (ws : List (List ℕ)) → join_with_byte 32 (map quoted (word ∷ ws)) ≡ quoted word ++ behind_blanks ws
-join-quoted word [] = sym (append-nil (quoted word))
-join-quoted word (next ∷ ws) = ap (λ l. quoted word ++ 32 ∷ l) (join-quoted next ws)
-
-writes-line : (ws : List (List ℕ)) → All (λ word. All (λ b. b < 256) word) ws → WritesLine (join_with_byte 32 (map quoted ws)) ws
-writes-line [] small = refl
-writes-line (word ∷ ws) small =
-    ([], quoted word, behind_blanks ws, join-quoted word ws, refl, writes-word word (All-head (λ word. All (λ b. b < 256) word) word ws small), at_end-behind_blanks ws, writes-behind_blanks ws (All-tail (λ word. All (λ b. b < 256) word) word ws small))
-
 -- words that are written between quotes and joined by blanks are read as these words
 pub Reads-quoted : (ws : List (List ℕ)) → All (λ word. All (λ b. b < 256) word) ws → IsOkAnd (words (join_with_byte 32 (map quoted ws))) (λ read. map (λ word. word.bytes) read ≡ ws)
-Reads-quoted ws small = Reads-written (join_with_byte 32 (map quoted ws)) ws (writes-line ws small)
+Reads-quoted ws small =
+    let written = writes-joined (λ word. All (λ b. b < 256) word) quoted (λ word. word) ws writes-word small in
+    Reads-written (join_with_byte 32 (map quoted ws)) ws (subst (λ (l : List (List ℕ)). WritesLine (join_with_byte 32 (map quoted ws)) l) (map-id ws) written)

@@ -1,8 +1,9 @@
 //! What follows from the definitions, each law as the clause of a function.
 
-ghost use Rattle.std.specs.Prelude.{◌≡◌, ◌↔◌, ◌^◌, ◌<◌, ◌≤◌, ℕ, List, ◌∷◌, ◌++◌, length, map, true, false, Some, Ok, IsOkAnd};
+ghost use Rattle.std.specs.Prelude.{◌≡◌, ◌↔◌, ◌*◌, ◌^◌, ◌<◌, ◌≤◌, ℕ, List, ◌∷◌, ◌++◌, length, map, true, false, Some, Ok, IsOkAnd};
 ghost use Rattle.std.specs.Fmt.{decimal};
 ghost use Rattle.std.specs.List.{All, flat_map, join_with_byte, list_all};
+ghost use Rattle.cdf_model.specs.declared.data_type.DataType.{DataType};
 ghost use Rattle.cdf_model.specs.Arguments.{number_in};
 ghost use Rattle.cdf_model.specs.declared.command.Command.{Command};
 ghost use Rattle.cdf_model.specs.Grammar.{parse, Asks, Blank};
@@ -10,7 +11,7 @@ ghost use Rattle.cdf_model.specs.Limits.{line_limit};
 ghost use Rattle.cdf_model.specs.Lines.{joined, kept, split, is_blank, is_one_line};
 ghost use Rattle.cdf_model.specs.Quoting.{AWord, quote, at_end, before_quote, meaning, first_word, words};
 ghost use Rattle.cdf_model.specs.Sayable.{Sayable};
-ghost use Rattle.cdf_model.specs.Values.{quoted, quoted_byte};
+ghost use Rattle.cdf_model.specs.Values.{quoted, quoted_byte, text_size, values_in, values_text};
 ghost use Rattle.cdf_model.specs.Written.{WritesLine};
 
 /// The lines of a text, each with its newline, and the bytes after the last newline are the text, and none of them has a newline in it.
@@ -52,4 +53,9 @@ pub fn a_line_is_blank()
 pub fn a_command_is_sayable()
     ensures line { (line : List ℕ) (c : Command) → length line ≤ line_limit → parse (Some line) ≡ Asks c → Sayable c }
     ensures kept { (line : List ℕ) (c : Command) → parse (kept line) ≡ Asks c → Sayable c }
+{}
+
+/// The values that a reply shows are words, and as the values of a command they are read as the same bytes.
+pub fn shown_values_are_read_back()
+    ensures { (t : DataType) (elems count : ℕ) (bytes : List ℕ) → 0 < text_size t elems → length bytes ≡ count * text_size t elems → All (λ b. b < 256) bytes → IsOkAnd (words (values_text t elems bytes)) (λ read. values_in t elems count (map (λ word. word.bytes) read) ≡ Ok bytes) }
 {}
