@@ -1,6 +1,3 @@
-pub mod Pieces
-pub mod Newlines
-pub mod Queue
 pub mod Escapes
 pub mod Words
 pub mod Numbers

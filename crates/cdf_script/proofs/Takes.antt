@@ -6,7 +6,7 @@ use Rattle.cdf_model.specs.declared.command.Command.{Command}
 use Rattle.cdf_model.specs.Forms.{Form, AText, Makes, Values}
 use Rattle.cdf_model.specs.Grammar.{Asks}
 use Rattle.cdf_model.specs.Grammar.{Parsed as Asked}
-use Rattle.cdf_script.specs.declared.parse.Parsed.{Parsed}
+use Rattle.cdf_script.specs.declared.parsing.Parsed.{Parsed}
 use Rattle.cdf_script.specs.Asking.{Parses}
 use Rattle.cdf_script.specs.Faults.{Fails}
 use Rattle.cdf_model.specs.Quoting.{Word}

@@ -1,7 +1,4 @@
-pub mod Pending
 pub mod Asking
-pub mod Parts
-pub mod Waiting
 pub mod Raw
 pub mod Scanned
 pub mod Left

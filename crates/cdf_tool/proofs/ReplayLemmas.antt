@@ -9,8 +9,8 @@ use Rattle.cdf_model.specs.declared.command.Command.TheVariants.{Info}
 use Rattle.cdf_model.specs.DataSet.{DataSet}
 use Rattle.cdf_model.specs.Grammar.{Parsed, Blank, Asks, Faulty, parse}
 use Rattle.cdf_model.specs.Run.{Turn, State, turn, advance, run_on}
-use Rattle.cdf_script.specs.declared.line.Line.{Line}
-use Rattle.cdf_script.specs.Pending.{Pending, GivesLine, fed, line_of, new_lines}
+use Rattle.cdf_lines.specs.declared.line.Line.{Line}
+use Rattle.cdf_lines.specs.Pending.{Pending, GivesLine, fed, line_of, new_lines}
 use Rattle.cdf_tool.specs.Replay.{Turns, IsAt}
 use Rattle.cdf_tool.proofs.Standing.{Reached}
 

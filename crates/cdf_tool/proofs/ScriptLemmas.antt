@@ -8,8 +8,8 @@ use Rattle.cdf_model.specs.DataSet.{DataSet}
 use Rattle.cdf_model.specs.Limits.{script_limit}
 use Rattle.cdf_model.specs.Lines.{split, kept, whole_lines}
 use Rattle.cdf_model.specs.Run.{State, start, advance, run_on, run_lines, run_of}
-use Rattle.cdf_script.specs.Pending.{Pending, last_of, new_lines, new_rest, nothing_fed, finished}
-use Rattle.cdf_script.proofs.Pieces.{whole_lines-append, rest-append, lines-split}
+use Rattle.cdf_lines.specs.Pending.{Pending, last_of, new_lines, new_rest, nothing_fed, finished}
+use Rattle.cdf_lines.proofs.Pieces.{whole_lines-append, rest-append, lines-split}
 use Rattle.cdf_tool.specs.declared.status.Status.{Status}
 use Rattle.cdf_tool.specs.declared.status.Status.TheVariants as statuses
 use Rattle.cdf_tool.specs.declared.stop.Stop.{Stop}

@@ -4,7 +4,7 @@ use Rattle.std.specs.Io.KnownBytes.{Consumes}
 use Rattle.cdf_model.specs.DataSet.{DataSet}
 use Rattle.cdf_model.specs.Lines.{split, kept, whole_lines}
 use Rattle.cdf_model.specs.Run.{State, run_on, run_lines}
-use Rattle.cdf_script.specs.Pending.{Pending}
+use Rattle.cdf_lines.specs.Pending.{Pending}
 use Rattle.cdf_tool.specs.Replay.{IsAt}
 
 -- the replay stands after some bytes of the script, all whole lines of which it has answered

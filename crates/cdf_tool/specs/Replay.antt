@@ -5,7 +5,7 @@ use Rattle.std.specs.Io.KnownBytes.{Appends}
 use Rattle.cdf_store.specs.Written.{AppendsFront}
 use Rattle.cdf_model.specs.DataSet.{DataSet}
 use Rattle.cdf_model.specs.Run.{Turn, State, run_on}
-use Rattle.cdf_script.specs.Pending.{Pending, last_of}
+use Rattle.cdf_lines.specs.Pending.{Pending, last_of}
 use Rattle.cdf_tool.specs.declared.status.Status.{Status}
 use Rattle.cdf_tool.specs.declared.status.Status.TheVariants as statuses
 

@@ -5,10 +5,10 @@ ghost use Rattle.cdf_store.specs.Written.{AppendsFront};
 ghost use Rattle.cdf_format.specs.Content.{data_set_of};
 ghost use Rattle.cdf_format.specs.WellFormed.{WellFormed};
 ghost use Rattle.cdf_model.specs.DataSet.{DataSet};
-ghost use Rattle.cdf_model.specs.Grammar.{Asks, Faulty, parse};
+ghost use Rattle.cdf_model.specs.Grammar.{Asks, Faulty, parse as asked_for};
 ghost use Rattle.cdf_model.specs.Run.{is_refused, turn};
 ghost use Rattle.cdf_model.specs.Texts.{reply_text as text_of};
-ghost use Rattle.cdf_script.specs.Pending.{line_of, new_lines, new_rest};
+ghost use Rattle.cdf_lines.specs.Pending.{line_of, new_lines, new_rest};
 ghost use Rattle.cdf_tool.specs.Replay.{GoesOn, StopsWithin, Turns, IsDrained};
 
 use crate::session::{info, is_built};
@@ -16,7 +16,8 @@ use crate::stop::Stop;
 use cdf_area::Area;
 use cdf_model::{Command, LineError, Outcome, Reason};
 use cdf_reply::reply_text;
-use cdf_script::{Line, Lines, ParseError, Parsed};
+use cdf_lines::{Line, Lines};
+use cdf_script::{ParseError, Parsed, parse};
 use cdf_store::{Sink, write_all};
 use std::alloc::Global;
 
@@ -103,8 +104,8 @@ fn answer_line<A: Area, O: Sink>(
     out: &mut O,
 ) -> Result<bool, Stop>
     requires { WellFormed (A.image area.old) }
-    ensures ok { IfOk result (λ refused. Turns (turn (data_set_of (A.image area.old)) line.now.number (parse (line_of line.now))) refused (O.written out.old) (O.written out.new)) }
-    ensures err { OnErr result (AppendsFront (O.written out.old) (O.written out.new) (turn (data_set_of (A.image area.old)) line.now.number (parse (line_of line.now))).text) }
+    ensures ok { IfOk result (λ refused. Turns (turn (data_set_of (A.image area.old)) line.now.number (asked_for (line_of line.now))) refused (O.written out.old) (O.written out.new)) }
+    ensures err { OnErr result (AppendsFront (O.written out.old) (O.written out.new) (turn (data_set_of (A.image area.old)) line.now.number (asked_for (line_of line.now))).text) }
     ensures image { A.image area.new ≡ A.image area.old }
     ensures frame { A.frame area.new ≡ A.frame area.old }
     ensures later_area { A.faults area.old ≤ A.faults area.new }
@@ -112,7 +113,7 @@ fn answer_line<A: Area, O: Sink>(
     ensures fault { IsErrOf result Stop.Fault → Rose (A.faults area.old) (A.faults area.new) }
     ensures output { IsErrOf result Stop.Output → Rose (O.faults out.old) (O.faults out.new) }
 {
-    match line.parse(alloc) {
+    match parse(alloc, line) {
         Ok(Parsed::Blank) => Ok(false),
         Ok(Parsed::Cmd { c }) => answer_command(alloc, area, line.number, &c, out),
         Err(ParseError::Bad { fault }) => answer_fault(alloc, line.number, fault, out),

@@ -10,7 +10,7 @@ use crate::replay::{answer_lines, answer_piece};
 use crate::status::end_status;
 use crate::stop::stop_status;
 use cdf_area::Area;
-use cdf_script::Lines;
+use cdf_lines::Lines;
 use cdf_store::{Failed, Sink, Source};
 use std::alloc::Global;
 

@@ -2,7 +2,7 @@ use Rattle.std.proofs.Common.{◌∙◌, ap, arith}
 use Rattle.cdf_format.specs.Content.{data_set_of}
 use Rattle.cdf_store.proofs.Fronts.{on_err}
 use Rattle.cdf_model.specs.Run.{run_on}
-use Rattle.cdf_script.specs.Pending.{Pending, GivesLine}
+use Rattle.cdf_lines.specs.Pending.{Pending, GivesLine}
 use Rattle.cdf_tool.specs.Replay.{StopsWithin}
 use Rattle.cdf_tool.proofs.ReplayLemmas.{line_answered, line_stopped, all_answered}
 use Rattle.cdf_tool.proofs.replay.answer_lines.Goals as goal

@@ -1,6 +1,6 @@
 use Rattle.cdf_format.specs.Content.{data_set_of}
 use Rattle.cdf_store.proofs.Fronts.{on_err}
-use Rattle.cdf_script.specs.Pending.{new_lines}
+use Rattle.cdf_lines.specs.Pending.{new_lines}
 use Rattle.cdf_tool.specs.Replay.{StopsWithin}
 use Rattle.cdf_tool.proofs.ReplayLemmas.{fed_ready, unanswered}
 use Rattle.cdf_tool.proofs.replay.answer_piece.Goals as goal

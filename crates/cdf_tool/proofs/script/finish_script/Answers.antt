@@ -2,7 +2,7 @@ use Rattle.std.proofs.Common.{sym, subst}
 use Rattle.std.proofs.Math.Path.{transport}
 use Rattle.cdf_format.specs.Content.{data_set_of}
 use Rattle.cdf_model.specs.Run.{run_on}
-use Rattle.cdf_script.specs.Pending.{last_of}
+use Rattle.cdf_lines.specs.Pending.{last_of}
 use Rattle.cdf_tool.specs.declared.status.Status.{Status}
 use Rattle.cdf_tool.specs.Replay.{GoesOn, StopsWithin, EndsAt}
 use Rattle.cdf_tool.proofs.ScriptLemmas.{ends_done, ends_stopped, finished_ready}

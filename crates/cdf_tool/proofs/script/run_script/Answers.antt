@@ -3,7 +3,7 @@ use Rattle.std.specs.Io.KnownBytes.{IsAtEnd}
 use Rattle.cdf_format.specs.Content.{data_set_of}
 use Rattle.cdf_model.specs.DataSet.{DataSet}
 use Rattle.cdf_model.specs.Limits.{script_limit}
-use Rattle.cdf_script.specs.Pending.{new_lines}
+use Rattle.cdf_lines.specs.Pending.{new_lines}
 use Rattle.cdf_tool.specs.declared.status.Status.{Status}
 use Rattle.cdf_tool.specs.Replay.{GoesOn, StopsWithin, Finishes}
 use Rattle.cdf_tool.specs.Script.{Runs}
