@@ -1,14 +1,14 @@
 -- A name that was written is read as it was.
-use Rattle.std.proofs.Common.{◌≡◌, ◌≢◌, ℕ, zero, suc, ◌+◌, ◌-◌, ◌≤◌, false, List, [], ◌∷◌, ◌++◌, length, take, drop, replicate, refl, ◌∙◌, ap, arith, length-append}
+use Rattle.std.proofs.Common.{◌≡◌, ◌≢◌, ◌⊎◌, ℕ, zero, suc, ◌+◌, ◌-◌, ◌≤◌, false, List, [], ◌∷◌, ◌++◌, length, take, drop, replicate, refl, ◌∙◌, ap, arith, length-append}
 use Rattle.std.proofs.Math.Seq.{take-append_seam}
 use Rattle.std.proofs.lemmas.Bool.Decides.{nat_tests}
 use Rattle.std.proofs.lemmas.List.{take_at, drop-replicate, length-replicate}
 use Rattle.std.proofs.lemmas.List.Elements.{All-head, All-tail}
 use Rattle.std.specs.Prelude.{◌==◌}
 use Rattle.std.specs.List.{All, before_first, position_or_len}
-use Rattle.cdf_format.specs.Fields.{LiesIn, name_in, with_name}
+use Rattle.cdf_format.specs.Fields.{LiesIn, name_in, with_name, word}
 use Rattle.cdf_format.specs.Records.{Field}
-use Rattle.cdf_fields.proofs.Writes.{drop-put_there}
+use Rattle.cdf_fields.proofs.Writes.{drop-put_there, word-put_outside}
 
 -- a name over the front of bytes 0
 pub padded_is : (xs name : List ℕ) → xs ≡ name → xs ++ drop (length name) (replicate 256 0) ≡ name ++ replicate (256 - length name) 0
@@ -36,3 +36,10 @@ name_reads b place f name lies fits all =
     let long : length xs ≡ f.width = omega (arith, length-append name (replicate (f.width - length name) 0), length-replicate {A = ℕ} (f.width - length name) 0) in
     let whole : take f.width (drop there (with_name b place f name)) ≡ xs = ap (take f.width) (drop-put_there b xs there (omega arith)) ∙ take_at xs (drop (there + length xs) b) f.width long in
     ap (λ (l : List ℕ). before_first (λ (byte : ℕ). byte == 0) l) whole ∙ before_zeros name (f.width - length name) all
+
+pub words_beside : (b : List ℕ) (place : ℕ) (f : Field) (name : List ℕ) (other n : ℕ) → LiesIn b place f → length name ≤ f.width → (other + n ≤ place + f.place) ⊎ (place + f.place + f.width ≤ other) → word (with_name b place f name) other n ≡ word b other n
+unfolding with_name
+words_beside b place f name other n lies fits apart =
+    let xs = name ++ replicate (f.width - length name) 0 in
+    let long : length xs ≡ f.width = omega (arith, length-append name (replicate (f.width - length name) 0), length-replicate {A = ℕ} (f.width - length name) 0) in
+    word-put_outside b xs (place + f.place) other n (rw long lies) (rw long apart)

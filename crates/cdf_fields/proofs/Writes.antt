@@ -1,5 +1,5 @@
 -- What a write of bytes leaves of the numbers in a list.
-use Rattle.std.proofs.Common.{◌≡◌, ◌⊎◌, ℕ, ℤ, zero, suc, ◌+◌, ◌^◌, ◌<◌, ◌≤◌, inl, inr, pos, negsuc, List, ◌++◌, length, take, drop, refl, sym, ◌∙◌, ap, arith}
+use Rattle.std.proofs.Common.{◌≡◌, ◌⊎◌, ℕ, ℤ, zero, suc, ◌+◌, ◌^◌, ◌<◌, ◌≤◌, inl, inr, pos, negsuc, List, ◌++◌, length, take, drop, slice_index, refl, sym, ◌∙◌, ap, arith}
 use Rattle.std.proofs.lemmas.List.{drop_at, length-take-le}
 use Rattle.std.proofs.lemmas.Int.{to_z-of_z}
 use Rattle.std.specs.Int.{w32, w64, cast_signed, cast_unsigned}
@@ -53,6 +53,11 @@ unfolding with_field
 other_words b place f m other n lies apart =
     let long = length-bytes_high_first f.width m in
     word-put_outside b (big_bytes f.width m) (place + f.place) other n (rw long lies) (rw long apart)
+
+pub other_bytes : (b : List ℕ) (place : ℕ) (f : Field) (n i : ℕ) → LiesIn b place f → (i < place + f.place) ⊎ (place + f.place + f.width ≤ i) → slice_index (with_field b place f n) i ≡ slice_index b i
+unfolding with_field
+other_bytes b place f n i lies (inl before) = byte-put_before b (place + f.place) (big_bytes f.width n) i (omega arith) before
+other_bytes b place f n i lies (inr after) = byte-put_after b (place + f.place) (big_bytes f.width n) i (omega arith) (rw (length-bytes_high_first f.width n) after)
 
 pub length-with_field : (b : List ℕ) (place : ℕ) (f : Field) (n : ℕ) → LiesIn b place f → length (with_field b place f n) ≡ length b
 unfolding with_field

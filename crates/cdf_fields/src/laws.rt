@@ -1,6 +1,6 @@
 //! What a write of a field leaves, each law as the clause of a function.
 
-ghost use Rattle.std.specs.Prelude.{◌≡◌, ◌⊎◌, ◌+◌, ◌^◌, ◌<◌, ◌≤◌, ◌≢◌, ℕ, ℤ, List, length};
+ghost use Rattle.std.specs.Prelude.{◌≡◌, ◌⊎◌, ◌+◌, ◌^◌, ◌<◌, ◌≤◌, ◌≢◌, ℕ, ℤ, List, length, slice_index};
 ghost use Rattle.std.specs.Int.{w32, w64, cast_unsigned};
 ghost use Rattle.std.specs.Int.RustNames.{FitsSigned};
 ghost use Rattle.std.specs.List.{All};
@@ -31,6 +31,16 @@ pub fn name_reads_back()
 /// A number that does not overlap a field that was written reads as before.
 pub fn other_words_stay()
     ensures { (b : List ℕ) (place : ℕ) (f : Field) (m other n : ℕ) → LiesIn b place f → (other + n ≤ place + f.place) ⊎ (place + f.place + f.width ≤ other) → word (with_field b place f m) other n ≡ word b other n }
+{}
+
+/// The same of a name that was written.
+pub fn words_beside_a_name_stay()
+    ensures { (b : List ℕ) (place : ℕ) (f : Field) (name : List ℕ) (other n : ℕ) → LiesIn b place f → length name ≤ f.width → (other + n ≤ place + f.place) ⊎ (place + f.place + f.width ≤ other) → word (with_name b place f name) other n ≡ word b other n }
+{}
+
+/// The bytes outside a field that was written stay.
+pub fn other_bytes_stay()
+    ensures { (b : List ℕ) (place : ℕ) (f : Field) (n i : ℕ) → LiesIn b place f → (i < place + f.place) ⊎ (place + f.place + f.width ≤ i) → slice_index (with_field b place f n) i ≡ slice_index b i }
 {}
 
 /// A number that does not overlap bytes that were written reads as before.

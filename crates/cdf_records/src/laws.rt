@@ -10,8 +10,8 @@ ghost use Rattle.cdf_records.specs.Heads.{vxr_at};
 ghost use Rattle.cdf_records.specs.declared.entry.VxrEntry.{VxrEntry};
 
 pub use cdf_fields::laws::{
-    field_reads_back, length_stays, name_reads_back, other_words_stay, signed4_reads_back,
-    signed8_reads_back, words_outside_stay,
+    field_reads_back, length_stays, name_reads_back, other_bytes_stay, other_words_stay,
+    signed4_reads_back, signed8_reads_back, words_beside_a_name_stay, words_outside_stay,
 };
 
 /// An entry that was written reads as what was written.

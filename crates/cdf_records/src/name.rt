@@ -2,7 +2,6 @@ ghost use Rattle.std.specs.Prelude.{◌≡◌, ◌+◌, ◌≤◌, ◌==◌, len
 ghost use Rattle.std.specs.List.{before_first, position, position_or_len};
 ghost use Rattle.cdf_base.specs.Causes.{HasCauseOf};
 ghost use Rattle.cdf_format.specs.Fields.{LiesIn, name_at, name_field, type_at};
-ghost use Rattle.cdf_format.specs.Records.{record_type};
 
 use crate::numbers::read_unsigned4;
 use cdf_area::{Area, AreaError};
@@ -35,9 +34,9 @@ fn name_length(bytes: &[u8]) -> usize
 }
 
 /// The Name of the record at a place, an ADR where its type is 4, else a VDR.
+#[tactic(auto, using(crate::proofs::NameLengths::past_the_type))]
 pub fn read_name<A: Area>(alloc: Global, area: &mut A, at: u64) -> Result<Bytes, AreaError>
-    requires record_type { LiesIn (A.image area.old) at record_type }
-    requires name { LiesIn (A.image area.old) at (name_field (type_at (A.image area.old) at)) }
+    requires { LiesIn (A.image area.old) at (name_field (type_at (A.image area.old) at)) }
     ensures value { IfOk result (λ name. name ≡ name_at (A.image area.old) at) }
     ensures image { A.image area.new ≡ A.image area.old }
     ensures frame { A.frame area.new ≡ A.frame area.old }
