@@ -1,5 +1,5 @@
 -- Reading pairs of hexadecimal digits.
-use Rattle.std.proofs.Common.{◌≡◌, ℕ, ◌+◌, ◌*◌, ◌≤◌, Bool, true, false, cond, List, [], ◌∷◌, ◌++◌, length, get_or, arith, refl, sym, ap, ◌∙◌, append_assoc}
+use Rattle.std.proofs.Common.{◌≡◌, ℕ, ◌+◌, ◌*◌, ◌≤◌, Bool, true, false, cond, List, [], ◌∷◌, ◌++◌, length, get_or, arith, refl}
 use Rattle.std.specs.Prelude.{Option, Some, None, ◌&&◌, ◌==◌, if◌then◌else◌}
 use Rattle.std.specs.Char.{is_ascii_hexdigit}
 use Rattle.std.specs.List.{list_all}
@@ -10,17 +10,6 @@ use Rattle.cdf_values.specs.Reading.{IsRead, pair_byte}
 -- the bytes so far and those of the digits that are left
 abbrev pub pairs_onto : List ℕ → List ℕ → Option (List ℕ)
 pairs_onto done rest = if list_all is_ascii_hexdigit rest then Some (done ++ hex_bytes rest) else None
-
-takes_by : (p q : Bool) (byte n : ℕ) (done rest : List ℕ) → cond (p && q) (Some byte) None ≡ Some n → cond (p && (q && list_all is_ascii_hexdigit rest)) (Some (done ++ (byte ∷ hex_bytes rest))) None ≡ pairs_onto (done ++ (n ∷ [])) rest
-takes_by true true byte n done rest e =
-    let same : byte ≡ n = cc in
-    ap (λ bytes. cond (list_all is_ascii_hexdigit rest) (Some bytes) None) (ap (λ m. done ++ (m ∷ hex_bytes rest)) same ∙ sym (append_assoc done (n ∷ []) (hex_bytes rest)))
-takes_by true false byte n done rest e = cc
-takes_by false q byte n done rest e = cc
-
--- one pair more
-pub takes_pair : (b c n : ℕ) (done rest : List ℕ) → pair_byte b c ≡ Some n → pairs_onto done (b ∷ c ∷ rest) ≡ pairs_onto (done ++ (n ∷ [])) rest
-takes_pair b c n done rest e = takes_by (is_ascii_hexdigit b) (is_ascii_hexdigit c) (16 * hex_value b + hex_value c) n done rest e
 
 stops_by : (p q all : Bool) (byte : ℕ) (bytes : List ℕ) → cond (p && q) (Some byte) None ≡ None → cond (p && (q && all)) (Some bytes) None ≡ None
 stops_by true true all byte bytes e = cc

@@ -4,7 +4,6 @@ pub mod ListLemmas
 pub mod NotationLemmas
 pub mod NumberLemmas
 pub mod RangeLemmas
-pub mod ReadBackLemmas
 pub mod ReadLemmas
 pub mod TurnedLemmas
 pub mod WriteLemmas

@@ -1,6 +1,6 @@
 -- Lists that are gone through element by element, or part by part.
-use Rattle.std.proofs.Common.{◌≡◌, ℕ, zero, suc, ◌+◌, ◌-◌, ◌*◌, ◌/◌, ◌<◌, ◌≤◌, List, [], ◌∷◌, ◌++◌, length, take, drop, reverse, get_or, refl, sym, ap, ◌∙◌, append_assoc, length-append, length-take, length-drop, add-one, arith}
-use Rattle.std.proofs.lemmas.List.{append-nil, drop-drop, drop_at, take_more, length-reverse}
+use Rattle.std.proofs.Common.{◌≡◌, ℕ, zero, suc, ◌+◌, ◌-◌, ◌*◌, ◌/◌, ◌<◌, ◌≤◌, List, [], ◌∷◌, ◌++◌, length, take, drop, reverse, refl, sym, ap, ◌∙◌, append_assoc, length-append, length-take, length-drop, add-one, arith}
+use Rattle.std.proofs.lemmas.List.{append-nil, drop-drop, drop_at, length-reverse}
 use Rattle.cdf_model.proofs.Filled.{filled_more}
 use borrow.Rule.Slice.PartMut.{put_mid}
 use Rattle.std.proofs.Math.Nat.{div-mul-le_self}
@@ -11,11 +11,6 @@ use Rattle.cdf_model.specs.ByteOrder.{parts}
 pub flat_map-append : {A B : Type 0} (f : A → List B) (xs ys : List A) → flat_map f (xs ++ ys) ≡ flat_map f xs ++ flat_map f ys
 flat_map-append f [] ys = refl
 flat_map-append f (x ∷ xs) ys = ap (λ l. f x ++ l) (flat_map-append f xs ys) ∙ sym (append_assoc (f x) (flat_map f xs) (flat_map f ys))
-
--- one more element
-pub flat_map-more : {A B : Type 0} (f : A → List B) (xs : List A) (i : ℕ) (x : A) → i < length xs → flat_map f (take (i + 1) xs) ≡ flat_map f (take i xs) ++ f (get_or xs i x)
-flat_map-more f xs i x h =
-    ap (flat_map f) (take_more xs i x h) ∙ flat_map-append f (take i xs) (get_or xs i x ∷ []) ∙ ap (λ l. flat_map f (take i xs) ++ l) (append-nil (f (get_or xs i x)))
 
 parts_suc : (n k : ℕ) (xs : List ℕ) → parts n (suc k) xs ≡ parts n k xs ++ (take n (drop (k * n) xs) ∷ [])
 parts_suc n zero xs = ap (λ m. take n (drop m xs) ∷ []) (let e : 0 ≡ 0 * n = omega arith in e)

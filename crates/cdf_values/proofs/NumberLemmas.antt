@@ -1,5 +1,5 @@
 -- Reading decimal digits up to a greatest number.
-use Rattle.std.proofs.Common.{◌≡◌, ℕ, ◌+◌, ◌-◌, ◌*◌, ◌≤◌, Bool, true, false, cond, List, [], ◌∷◌, refl, ap, arith}
+use Rattle.std.proofs.Common.{◌≡◌, ℕ, ◌+◌, ◌-◌, ◌*◌, ◌≤◌, Bool, true, false, cond, List, [], ◌∷◌, refl, arith}
 use Rattle.std.specs.Prelude.{Some, None, ◌&&◌, nat_le}
 use Rattle.std.proofs.lemmas.Bool.Decides.{nat_tests}
 use Rattle.std.specs.Char.{is_ascii_digit}
@@ -13,11 +13,6 @@ grows n (b ∷ word) = let e = grows (10 * n + (b - 48)) word in omega arith
 still_past : (most s big : ℕ) → s ≤ big → nat_le s most ≡ false → nat_le big most ≡ false
 still_past most s big h e = grind (arith, nat_tests)
 
-takes_by : (is_digit fits : Bool) (most s m : ℕ) (word : List ℕ) → cond (is_digit && fits) (Some s) None ≡ Some m → cond ((is_digit && list_all is_ascii_digit word) && nat_le (fold (λ n b. 10 * n + (b - 48)) s word) most) (Some (fold (λ n b. 10 * n + (b - 48)) s word)) None ≡ digits_from most m word
-takes_by true true most s m word e = let same : s ≡ m = cc in ap (λ n. digits_from most n word) same
-takes_by true false most s m word e = cc
-takes_by false fits most s m word e = cc
-
 past_by : (all fits : Bool) (big : ℕ) → fits ≡ false → cond (all && fits) (Some big) None ≡ None
 past_by true fits big h = rw h refl
 past_by false fits big h = refl
@@ -28,20 +23,5 @@ stops_by true false most s word h e =
     past_by (list_all is_ascii_digit word) _ (fold (λ n b. 10 * n + (b - 48)) s word) (still_past most s (fold (λ n b. 10 * n + (b - 48)) s word) (grows s word) h)
 stops_by false fits most s word h e = refl
 
-fits_by : (is_digit fits : Bool) (most s m : ℕ) → (fits ≡ true → s ≤ most) → cond (is_digit && fits) (Some s) None ≡ Some m → m ≤ most
-fits_by true true most s m h e = let same : s ≡ m = cc in omega (arith, h refl)
-fits_by true false most s m h e = cc
-fits_by false fits most s m h e = cc
-
--- one digit more
-pub takes_digit : (most n b m : ℕ) (word : List ℕ) → with_digit most n b ≡ Some m → digits_from most n (b ∷ word) ≡ digits_from most m word
-takes_digit most n b m word e = takes_by (is_ascii_digit b) (nat_le (10 * n + (b - 48)) most) most (10 * n + (b - 48)) m word e
-
 pub stops_at : (most n b : ℕ) (word : List ℕ) → with_digit most n b ≡ None → digits_from most n (b ∷ word) ≡ None
 stops_at most n b word e = stops_by (is_ascii_digit b) (nat_le (10 * n + (b - 48)) most) most (10 * n + (b - 48)) word refl e
-
-below : (a b : ℕ) → nat_le a b ≡ true → a ≤ b
-below a b h = grind (arith, nat_tests)
-
-pub fits_digit : (most n b m : ℕ) → with_digit most n b ≡ Some m → m ≤ most
-fits_digit most n b m e = fits_by (is_ascii_digit b) (nat_le (10 * n + (b - 48)) most) most (10 * n + (b - 48)) m (below (10 * n + (b - 48)) most) e

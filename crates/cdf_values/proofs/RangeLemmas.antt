@@ -1,13 +1,13 @@
 -- Numbers that are read within the range of so many bytes.
-use Rattle.std.proofs.Common.{◌≡◌, ℕ, ◌+◌, ◌-◌, ◌*◌, ◌^◌, ◌<◌, ◌≤◌, Bool, true, false, cond, List, ◌∷◌, length, refl, arith}
+use Rattle.std.proofs.Common.{◌≡◌, ℕ, ◌+◌, ◌-◌, ◌*◌, ◌^◌, ◌<◌, ◌≤◌, Bool, true, false, cond, List, ◌∷◌, length, refl, ap, arith}
 use Rattle.std.proofs.lemmas.Bool.Decides.{nat_tests}
 use Rattle.std.proofs.lemmas.Nat.{pow_pos}
-use Rattle.std.specs.Prelude.{Some, None, ◌&&◌, nat_le, nat_lt}
+use Rattle.std.specs.Prelude.{Some, None, not, ◌==◌, ◌&&◌, nat_le, nat_lt}
 use Rattle.std.specs.Fmt.{decimal, signed_decimal}
 use Rattle.std.specs.Int.{bytes_high_first}
 use Rattle.std.specs.Option.{option_map}
 use Rattle.cdf_model.specs.Arguments.{is_plain_number, value}
-use Rattle.cdf_model.specs.Values.{number_of, signed_of, unsigned_in, positive_in}
+use Rattle.cdf_model.specs.Values.{number_of, signed_of, negative_in, unsigned_in}
 use Rattle.cdf_values.specs.Numbers.{plain_up_to}
 use Rattle.cdf_values.proofs.ByteLemmas.{two_halves, bytes_as_bits, negative_text}
 
@@ -26,13 +26,14 @@ unsigned_up_to size half word some e =
     mapped (is_plain_number word) (nat_le (value word) (half - 1 + half)) (nat_lt (value word) (2 ^ (8 * size))) size (value word)
     (same_test (value word) (half - 1 + half) (2 ^ (8 * size)) (omega (arith, two_halves size some, pow_pos (8 * size - 1))))
 
-pub positive_up_to : (size half : ℕ) (word : List ℕ) → half ≡ 2 ^ (8 * size - 1) → option_map (λ n. bytes_high_first size n) (plain_up_to (half - 1) word) ≡ positive_in size word
-positive_up_to size half word e =
-    mapped (is_plain_number word) (nat_le (value word) (half - 1)) (nat_lt (value word) (2 ^ (8 * size - 1))) size (value word)
-    (same_test (value word) (half - 1) (2 ^ (8 * size - 1)) (omega (arith, pow_pos (8 * size - 1))))
-
 not_below : (a b : ℕ) → b ≤ a → nat_lt a b ≡ false
 not_below a b h = grind (arith, nat_tests)
+
+is_not_none : (n : ℕ) → 0 < n → (n == 0) ≡ false
+is_not_none n h = grind (arith, nat_tests)
+
+up_to : (a b : ℕ) → nat_le a b ≡ true → a ≤ b
+up_to a b h = grind (arith, nat_tests)
 
 -- a number of the upper half of the range is negative
 pub negative : (bytes : List ℕ) (half n : ℕ) → 0 < length bytes → half ≡ 2 ^ (8 * length bytes - 1) → n ≡ number_of bytes → half ≤ n → n < 256 ^ length bytes → signed_decimal (signed_of bytes) ≡ 45 ∷ decimal (half - (n - half))
@@ -44,3 +45,18 @@ negative bytes half n some e f low high =
 -- half the range lies between half of it and its end
 pub within_range : (size half n : ℕ) → 0 < size → half ≡ 2 ^ (8 * size - 1) → n < 256 ^ size → n - half ≤ half
 within_range size half n some e h = omega (arith, bytes_as_bits size, two_halves size some)
+
+negative_by : (plain fits : Bool) (size half v n w : ℕ) → w ≡ half + half → 0 < n → (fits ≡ true → v ≤ half) → cond (plain && fits) (Some v) None ≡ Some n → Some (bytes_high_first size (half - n + half)) ≡ cond ((plain && not (v == 0)) && fits) (Some (bytes_high_first size (w - v))) None
+negative_by true true size half v n w e some low h =
+    let same : v ≡ n = cc in
+    let there : (v == 0) ≡ false = is_not_none v (omega arith) in
+    let number : half - n + half ≡ w - v = omega (arith, low refl) in
+    rw there (ap (λ m. Some (bytes_high_first size m)) number)
+negative_by true false size half v n w e some low h = cc
+negative_by false fits size half v n w e some low h = cc
+
+-- a number that is not 0 and no more than half the range is the distance of a negative one from 0
+pub negative_up_to : (size half n : ℕ) (word : List ℕ) → 0 < size → half ≡ 2 ^ (8 * size - 1) → 0 < n → plain_up_to half word ≡ Some n → Some (bytes_high_first size (half - n + half)) ≡ negative_in size word
+negative_up_to size half n word some e there h =
+    let number = negative_by (is_plain_number word) (nat_le (value word) half) size half (value word) n (2 ^ (8 * size)) (omega (arith, two_halves size some)) there (up_to (value word) half) h in
+    rw (← e) number

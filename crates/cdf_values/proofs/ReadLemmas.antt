@@ -1,5 +1,5 @@
 -- Reading words one by one.
-use Rattle.std.proofs.Common.{◌≡◌, ℕ, suc, ◌+◌, Bool, true, false, cond, List, [], ◌∷◌, ◌++◌, length, refl, sym, ap, ◌∙◌, append_assoc, arith}
+use Rattle.std.proofs.Common.{◌≡◌, ℕ, suc, ◌+◌, Bool, true, false, cond, List, ◌∷◌, ◌++◌, length, refl, sym, ap, ◌∙◌, append_assoc, arith}
 use Rattle.std.proofs.lemmas.Bool.{false≢true}
 use Rattle.std.proofs.lemmas.Bool.Decides.{nat_tests}
 use Rattle.std.proofs.lemmas.List.{append-nil}
@@ -23,14 +23,6 @@ onto f at done words = outcome (position (λ word. is_none (f word)) words) at (
 
 abbrev pub words_onto : DataType → ℕ → ℕ → List ℕ → List (List ℕ) → Result (List ℕ) Reason
 words_onto t elems at done words = onto (bytes_in t elems) at done words
-
-at_first : (place : Option ℕ) (bytes : List ℕ) → outcome place 0 bytes ≡ elim place [ None ↦ Ok bytes | Some i ↦ Err (BadValue i) ]
-at_first None bytes = refl
-at_first (Some i) bytes = let e : 0 + i ≡ i = omega arith in ap (λ n. Err (BadValue n)) e
-
--- before the first word
-pub from_first : (t : DataType) (elems : ℕ) (words : List (List ℕ)) → words_onto t elems 0 [] words ≡ bytes_of_words t elems words
-from_first t elems words = at_first (position (λ word. is_none (bytes_in t elems word)) words) (flat_map (λ word. flat_map (λ bytes. bytes) (option_to_list (bytes_in t elems word))) words)
 
 shifted : (b c : Bool) (p at : ℕ) (xs ys : List ℕ) → b ≡ c → xs ≡ ys → outcome (cond b (Some (1 + p)) None) at xs ≡ outcome (cond c (Some p) None) (at + 1) ys
 shifted true true p at xs ys e f = let n : at + (1 + p) ≡ (at + 1) + p = omega arith in ap (λ n. Err (BadValue n)) n

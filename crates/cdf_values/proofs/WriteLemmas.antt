@@ -3,7 +3,7 @@ use Rattle.std.proofs.Common.{◌≡◌, ℕ, suc, ◌+◌, ◌-◌, ◌*◌, �
 use Rattle.std.proofs.lemmas.Bool.{cases_lt}
 use Rattle.std.proofs.lemmas.Bool.Decides.{nat_tests}
 use Rattle.std.specs.Prelude.{false, ◌==◌}
-use Rattle.std.proofs.Math.Nat.{div-eq-sub-div, zero-div, mul-mod_right, div-add-mod, mod-eq_of_lt, add-mod_right}
+use Rattle.std.proofs.Math.Nat.{div-eq-sub-div, mul-mod_right, div-add-mod, mod-eq_of_lt, add-mod_right}
 use Rattle.std.proofs.lemmas.List.{append-nil}
 use Rattle.std.specs.List.{flat_map, join_with_byte}
 use Rattle.cdf_model.specs.declared.data_type.DataType.{DataType}
@@ -35,10 +35,6 @@ pub goes_on : (t : DataType) (size : ℕ) (done xs : List ℕ) → 0 < size → 
 goes_on t size done xs some long =
     ap (λ ps. done ++ flat_map (λ part. 32 ∷ text_by (notation_of t) part) ps) (first_part size xs some long)
     ∙ sym (append_assoc (done ++ (32 ∷ [])) (text_by (notation_of t) (take size xs)) (led t size (drop size xs)) ∙ append_assoc done (32 ∷ []) (text_by (notation_of t) (take size xs) ++ led t size (drop size xs)))
-
-pub ends : (t : DataType) (size : ℕ) (done xs : List ℕ) → 0 < size → length xs ≡ 0 → done ++ led t size xs ≡ done
-ends t size done [] some e = rw zero-div (append-nil done)
-ends t size done (x ∷ xs) some e = absurd (omega arith)
 
 pub whole_by : (s e len : ℕ) → len % (s * e) ≡ 0 → len % s ≡ 0
 whole_by s e len h =

@@ -25,7 +25,8 @@ pub fn append_hex(bytes: &[u8], text: &mut Vec<u8>) -> Result<(), AllocError>
     ensures { OnOk result (text.new.items ≡ text.old.items ++ hex_text bytes.now) }
 {
     for byte in bytes {
-        text.extend_from_slice(&[hex_digit(byte / 16), hex_digit(byte % 16)])?;
+        text.push(hex_digit(byte / 16))?;
+        text.push(hex_digit(byte % 16))?;
     }
     Ok(())
 }

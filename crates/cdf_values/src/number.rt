@@ -4,7 +4,7 @@ ghost use Rattle.std.specs.Prelude.{◌≡◌, ◌+◌, ◌-◌, ◌*◌, ◌^�
 ghost use Rattle.std.specs.Fmt.{signed_decimal};
 ghost use Rattle.std.specs.Int.{bytes_high_first};
 ghost use Rattle.std.specs.Option.{option_map};
-ghost use Rattle.cdf_model.specs.Values.{number_of, signed_of, signed_in, unsigned_in};
+ghost use Rattle.cdf_model.specs.Values.{negative_in, number_of, signed_of, signed_in, unsigned_in};
 ghost use Rattle.cdf_values.specs.Numbers.{digits_from, plain_up_to, with_digit};
 
 use itoa::Buffer;
@@ -62,22 +62,29 @@ pub fn read_unsigned(size: usize, word: &[u8]) -> Option<u64>
     plain_number(half - 1 + half, word)
 }
 
+/// The number whose lowest bytes, `size` of them, are those of the negative one with these digits.
+fn read_negative(size: usize, digits: &[u8]) -> Option<u64>
+    requires some { 0 < size }
+    requires fits { size ≤ 8 }
+    ensures { option_map (λ n. bytes_high_first size n) result ≡ negative_in size digits.now }
+{
+    let half = half_range(size);
+    let number = plain_number(half, digits)?;
+    if number == 0 {
+        return None;
+    }
+    Some(half - number + half)
+}
+
 /// The number whose lowest bytes, `size` of them, are those of a word that may have a sign.
 pub fn read_signed(size: usize, word: &[u8]) -> Option<u64>
     requires some { 0 < size }
     requires fits { size ≤ 8 }
     ensures { option_map (λ n. bytes_high_first size n) result ≡ signed_in size word.now }
 {
-    let half = half_range(size);
     match word {
-        [b'-', digits @ ..] => {
-            let number = plain_number(half, digits)?;
-            if number == 0 {
-                return None;
-            }
-            Some(half - number + half)
-        }
-        _ => plain_number(half - 1, word),
+        [b'-', digits @ ..] => read_negative(size, digits),
+        _ => plain_number(half_range(size) - 1, word),
     }
 }
 

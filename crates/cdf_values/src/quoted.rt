@@ -32,7 +32,7 @@ fn append_quoted_byte(byte: u8, text: &mut Vec<u8>) -> Result<(), AllocError>
 {
     match byte {
         b'"' | b'\\' => text.extend_from_slice(&[b'\\', byte]),
-        b' '..=b'~' => text.extend_from_slice(&[byte]),
+        b' '..=b'~' => Ok(text.push(byte)?),
         _ => text.extend_from_slice(&[b'\\', b'x', hex_digit(byte / 16), hex_digit(byte % 16)]),
     }
 }

@@ -186,10 +186,10 @@ fn words_that_break_the_notation_are_refused(rt: HostRuntime) -> Result<(), Fail
     Ok(())
 }
 
-/// Asserts that three values of INT1 are wanted, and why a text has none.
+/// Asserts why a text has no three values of INT4.
 fn check_why(rt: &impl Abort, alloc: Global, text: &[u8], want: ValueError) -> Result<(), Fail> {
     let words = words_of(alloc, text)?;
-    match read_values(alloc, DataType::Int1, 1, 3, &words) {
+    match read_values(alloc, DataType::Int4, 1, 3, &words) {
         Ok(_) => panic!(rt; "{text:?} is read"),
         Err(error) => assert_eq!(rt; error, want, "{text:?}"),
     }
@@ -203,7 +203,7 @@ fn the_count_is_told_before_the_first_bad_word(rt: HostRuntime) -> Result<(), Fa
         wanted: 3,
     };
     check_why(&rt, rt.alloc(), b"1,2", few)?;
-    check_why(&rt, rt.alloc(), b"x,2", few)?;
+    check_why(&rt, rt.alloc(), b"x,y", few)?;
     let many = ValueError::WrongCount {
         found: 4,
         wanted: 3,
