@@ -1,3 +1,5 @@
+//! What one word is read as.
+
 ghost use Rattle.std.specs.Prelude.{◌≡◌, ◌==◌, ◌+◌, ◌-◌, ◌*◌, ◌^◌, ◌<◌, position, IfOk, SomeIff};
 ghost use Rattle.std.specs.Char.{is_ascii_digit};
 ghost use Rattle.std.specs.List.{list_all};
@@ -85,13 +87,14 @@ pub fn read_choice(first: &[u8], second: &[u8], word: &[u8]) -> Option<bool>
     }
 }
 
-/// The type of a name.
+/// The type that has the name.
 pub fn read_type(word: &[u8]) -> Option<DataType>
     ensures { result ≡ type_in word.now }
 {
     TYPES.iter().copied().find(|t| t.name().as_bytes() == word)
 }
 
+/// `global` or `variable`.
 pub fn read_scope(word: &[u8]) -> Option<Scope>
     ensures { result ≡ scope_in word.now }
 {
@@ -104,6 +107,7 @@ pub fn read_scope(word: &[u8]) -> Option<Scope>
     }
 }
 
+/// `row` or `column`.
 pub fn read_majority(word: &[u8]) -> Option<Majority>
     ensures { result ≡ majority_in word.now }
 {
@@ -116,6 +120,7 @@ pub fn read_majority(word: &[u8]) -> Option<Majority>
     }
 }
 
+/// `g`, `r` or `z`.
 pub fn read_kind(word: &[u8]) -> Option<EntryKind>
     ensures { result ≡ entry_kind_in word.now }
 {
@@ -130,6 +135,7 @@ pub fn read_kind(word: &[u8]) -> Option<EntryKind>
     }
 }
 
+/// `none`, `pad` or `previous`.
 pub fn read_rule(word: &[u8]) -> Option<Sparse>
     ensures { result ≡ rule_in word.now }
 {
@@ -148,11 +154,11 @@ pub fn read_rule(word: &[u8]) -> Option<Sparse>
 pub fn read_numbers(alloc: Global, word: &[u8]) -> Result<Option<Nums>, AllocError>
     ensures { IfOk result (λ numbers. numbers ≡ numbers_in word.now) }
 {
-    let mut numbers = Vec::new(alloc);
     if word == b"-".as_slice() {
-        return Ok(Some(Nums::new(numbers)));
+        return Ok(Some(Nums::new(Vec::new(alloc))));
     }
-    numbers.reserve(commas(word))?;
+    // A number takes a digit, and there is a comma between two of them.
+    let mut numbers = Vec::with_capacity(alloc, word.len() / 2 + 1)?;
     let mut left = word;
     loop {
         let (part, behind) = first_part(left);
@@ -203,9 +209,4 @@ pub fn read_varys(alloc: Global, word: &[u8]) -> Result<Option<Varys>, AllocErro
         }
     }
     Ok(Some(Varys::new(varys)))
-}
-
-/// How many commas there are.
-fn commas(word: &[u8]) -> usize {
-    word.iter().filter(|byte| **byte == b',').count()
 }

@@ -1,3 +1,5 @@
+//! The words of a line, read one after the other.
+
 ghost use Rattle.std.specs.Prelude.{◌≡◌};
 ghost use Rattle.cdf_model.specs.declared.answer.LineError.TheVariants.{BadNumber, UnknownWord};
 ghost use Rattle.cdf_script.specs.declared.fault.ParseError.TheVariants.{Bad};
@@ -18,13 +20,14 @@ use cdf_model::{
 use std::alloc::{AllocError, Global};
 use std::marker::Model;
 
-/// The words of a line that were not read yet.
+/// The words of a line that were not read yet. Its quotes have no fault.
 #[derive(Drop)]
 pub struct Arguments<'a> {
     alloc: Global,
     /// Where the rest of the line stands.
     place: usize,
     rest: &'a [u8],
+    /// How many words are left.
     count: usize,
 }
 
@@ -62,13 +65,6 @@ impl<'a> Arguments<'a> {
         })
     }
 
-    /// How many words are left.
-    pub fn len(&self) -> usize
-        ensures { result ≡ length self.now }
-    {
-        self.count
-    }
-
     /// The next word.
     fn next_word(&mut self) -> Option<RawWord<'a>>
         ensures none { IfNone result (self.old ≡ []) }
@@ -86,6 +82,7 @@ impl<'a> Arguments<'a> {
             Err(_) => unreachable!(),
         }
     }
+
     /// The verb that the next word names; none where no word is left.
     pub fn verb(&mut self) -> Result<Option<Verb>, ParseError>
         ensures { Begins self.old self.new result }

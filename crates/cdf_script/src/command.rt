@@ -1,3 +1,5 @@
+//! The commands, each from its words.
+
 ghost use Rattle.std.specs.Prelude.{◌≡◌, ◌≤◌, false, length};
 ghost use Rattle.cdf_model.specs.Forms.{is_open, wanted};
 ghost use Rattle.cdf_script.specs.Reading.{Reads};

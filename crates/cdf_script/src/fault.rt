@@ -1,3 +1,5 @@
+//! Why a line is no command.
+
 use cdf_model::LineError;
 use std::alloc::AllocError;
 

@@ -15,4 +15,4 @@ mod word_text;
 pub use parsing::{ParseError, Parsed, parse, parse_line};
 
 #[cfg(test)]
-mod parse_tests;
+mod tests;

@@ -1,3 +1,5 @@
+//! What stands between quotes.
+
 ghost use Rattle.std.specs.Prelude.{◌≡◌, ℕ, ◌+◌, ◌<◌, ◌≤◌, ◌^◌, ◌++◌, ◌==◌, length, drop, is_ok, true, Some, None, Ok, Err, if◌then◌else◌, IfOk, IfNone, IfErr, IfSome, OnOk, OnSome};
 ghost use Rattle.std.specs.Char.{is_ascii_hexdigit};
 ghost use Rattle.std.specs.List.{list_any};

@@ -1,3 +1,5 @@
+//! A word as it stands in the line.
+
 use crate::meaning::{decode, has_escape};
 use crate::word_text::WordText;
 use std::alloc::{AllocError, Global};

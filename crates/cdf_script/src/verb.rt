@@ -1,3 +1,5 @@
+//! The names of the commands.
+
 /// The name of a command.
 #[derive(Clone, Copy)]
 pub enum Verb {

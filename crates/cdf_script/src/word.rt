@@ -1,3 +1,5 @@
+//! The words of a text, and the faults of their quotes.
+
 ghost use Rattle.std.specs.Prelude.{◌≡◌, ◌+◌, ◌<◌, ◌≤◌, ◌^◌, ◌||◌, ◌==◌, length, IfOk, IfSome};
 ghost use Rattle.std.specs.List.{position_or_len};
 ghost use Rattle.cdf_model.specs.Quoting.{at_end as ends, first_word as first_of, word_here as first_here, quoted_word as first_quoted, bare_word as first_bare, before_quote as bytes_before_quote, is_separator as separates, separators as count_separators, words};

@@ -1,3 +1,5 @@
+//! Words that were read.
+
 use cdf_model::Bytes;
 use std::alloc::{AllocError, Global};
 

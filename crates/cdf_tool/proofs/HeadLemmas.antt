@@ -139,4 +139,4 @@ head_is f b b' cdr gdr rdims holds same same' cdr-is gdr-is first second sizes =
 -- `info` is the one command that there is by now
 pub built-info : (c : Command) → built c ≡ true → Info ≡ c
 built-info Info is = refl
-built-info c is = absurd (sym is)
+built-info c is = cc is

@@ -1,5 +1,5 @@
 -- How a run goes on from line to line.
-use Rattle.std.proofs.Common.{◌≡◌, ℕ, ◌+◌, Bool, List, [], ◌∷◌, ◌++◌, Option, refl, sym, ◌∙◌, ap, subst}
+use Rattle.std.proofs.Common.{◌≡◌, ℕ, ◌+◌, Bool, true, false, List, [], ◌∷◌, ◌++◌, Option, refl, sym, ◌∙◌, ap, subst}
 use Rattle.std.proofs.KnownBytes.{Appends-trans}
 use Rattle.std.specs.Prelude.{◌||◌}
 use Rattle.std.specs.Io.KnownBytes.{Appends}
@@ -8,7 +8,12 @@ use Rattle.cdf_store.proofs.Fronts.{IsFront-refl, IsFront-trans, front_after, fr
 use Rattle.cdf_model.specs.declared.command.Command.TheVariants.{Info}
 use Rattle.cdf_model.specs.DataSet.{DataSet}
 use Rattle.cdf_model.specs.Grammar.{Parsed, Blank, Asks, Faulty, parse}
-use Rattle.cdf_model.specs.Run.{Turn, State, turn, advance, run_on}
+use Rattle.cdf_model.specs.Run.{Turn, State, turn, faulty, advance, run_on}
+use Rattle.cdf_model.specs.Run.{answered as answered_by}
+use Rattle.cdf_model.specs.Step.{built, step}
+use Rattle.cdf_model.specs.declared.answer.LineError.TheVariants.{UnknownWord}
+use Rattle.cdf_model.specs.declared.command.Command.{Command}
+use Rattle.cdf_tool.proofs.HeadLemmas.{built-info}
 use Rattle.cdf_lines.specs.declared.line.Line.{Line}
 use Rattle.cdf_lines.specs.Pending.{Pending, GivesLine, fed, line_of, new_lines}
 use Rattle.cdf_tool.specs.Replay.{Turns, IsAt}
@@ -20,6 +25,13 @@ turn-data_set d n Blank = refl
 turn-data_set d n (Asks Info) = refl
 turn-data_set d n (Asks c) = refl
 turn-data_set d n (Faulty fault) = refl
+
+-- a command that there is by now, and one that there is not
+pub turn-built : (d : DataSet) (n : ℕ) (c : Command) → built c ≡ true → turn d n (Asks c) ≡ answered_by d n (step d Info)
+turn-built d n c is = rw is (ap (λ (k : Command). answered_by d n (step d k)) (sym (built-info c is)))
+
+pub turn-not_built : (d : DataSet) (n : ℕ) (c : Command) → built c ≡ false → turn d n (Asks c) ≡ faulty d n (UnknownWord 0)
+turn-not_built d n c is = rw is refl
 
 -- the text of a run only grows
 pub run_on-grows : (s : State) (lines : List (Option (List ℕ))) → IsFront s.text (run_on s lines).text

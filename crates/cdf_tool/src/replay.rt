@@ -8,6 +8,7 @@ ghost use Rattle.cdf_model.specs.DataSet.{DataSet};
 ghost use Rattle.cdf_model.specs.Grammar.{Asks, Faulty, parse as asked_for};
 ghost use Rattle.cdf_model.specs.Run.{is_refused, turn};
 ghost use Rattle.cdf_model.specs.Texts.{reply_text as text_of};
+ghost use Rattle.cdf_model.specs.Whole.{CanBeWritten};
 ghost use Rattle.cdf_lines.specs.Pending.{line_of, new_lines, new_rest};
 ghost use Rattle.cdf_tool.specs.Replay.{GoesOn, StopsWithin, Turns, IsDrained};
 
@@ -38,6 +39,7 @@ fn either(one: bool, other: bool) -> bool
 
 /// Writes a reply.
 fn say<O: Sink>(alloc: Global, number: u64, outcome: &Outcome, out: &mut O) -> Result<(), Stop>
+    requires { CanBeWritten outcome.now }
     ensures ok { OnOk result (Appends (O.written out.old) (O.written out.new) (text_of number outcome.now)) }
     ensures err { OnErr result (AppendsFront (O.written out.old) (O.written out.new) (text_of number outcome.now)) }
     ensures later { O.faults out.old ≤ O.faults out.new }
