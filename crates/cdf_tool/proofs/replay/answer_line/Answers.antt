@@ -17,3 +17,13 @@ pub returns-in-Err-Bad-clause-err : goal.returns-in-Err-Bad-clause-err
 returns-in-Err-Bad-clause-err g c =
     let asked = rw c.in-Err-Bad.field-0-is at c.in-Err-Bad.ensures in
     rw asked (c.answer_fault.ensures.err (data_set_of (g.A.Area.image c.args.area.now)))
+
+pub returns-in-Ok-Cmd-clause-ok : goal.returns-in-Ok-Cmd-clause-ok
+returns-in-Ok-Cmd-clause-ok g c =
+    let asked = rw c.in-Ok-Cmd.field-0-is at c.in-Ok-Cmd.ensures in
+    rw asked c.answer_command.ensures.ok
+
+pub returns-in-Ok-Cmd-clause-err : goal.returns-in-Ok-Cmd-clause-err
+returns-in-Ok-Cmd-clause-err g c =
+    let asked = rw c.in-Ok-Cmd.field-0-is at c.in-Ok-Cmd.ensures in
+    rw asked c.answer_command.ensures.err
