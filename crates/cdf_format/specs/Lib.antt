@@ -1,5 +1,9 @@
 pub mod Records
+pub mod RecordTypes
 pub mod Fields
+pub mod Walks
+pub mod Tiles
+pub mod Chains
 pub mod Rules
 pub mod Sealed
 pub mod WellFormed
