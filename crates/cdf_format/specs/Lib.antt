@@ -4,6 +4,13 @@ pub mod Fields
 pub mod Walks
 pub mod Tiles
 pub mod Chains
+pub mod Index
+pub mod IndexOf
+pub mod IndexWalk
+pub mod Shape
+pub mod Owners
+pub mod Stored
+pub mod VariableFields
 pub mod Rules
 pub mod Sealed
 pub mod WellFormed
