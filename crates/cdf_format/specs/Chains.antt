@@ -1,5 +1,5 @@
 -- Records that are linked by their next fields (CDF Internal Format Description: ADRnext, VDRnext, AEDRnext, VXRnext, NextUIR). A link of 0 ends a chain.
-use Rattle.std.specs.Prelude.{◌≡◌, ◌≤◌, ℕ, zero, suc, ◌+◌, List, [], ◌∷◌, ◌++◌, length, Bool, true, false, not, ◌&&◌, ◌||◌, ◌==◌, nat_le, if◌then◌else◌}
+use Rattle.std.specs.Prelude.{◌≡◌, ℕ, zero, suc, List, [], ◌∷◌, ◌++◌, length, Bool, true, false, not, ◌&&◌, ◌||◌, ◌==◌, nat_le, if◌then◌else◌}
 use Rattle.cdf_format.specs.Fields.{number, size_at, type_at}
 use Rattle.cdf_format.specs.Records.{Field, uir_next_uir}
 use Rattle.cdf_format.specs.Tiles.{In, Distinct}

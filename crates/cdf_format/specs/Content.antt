@@ -10,7 +10,7 @@ use Rattle.cdf_model.specs.DataSet.{Attribute, DataSet, Entry, Variable, extent}
 use Rattle.cdf_model.specs.Numbered.{with_item}
 use Rattle.cdf_model.specs.RunLengths.{plain_of}
 use Rattle.cdf_model.specs.Types.{size_of}
-use Rattle.cdf_format.specs.Fields.{number, integer4, has_bit, name_in, gdr_offset, release, encoding, flags, increment, r_sizes}
+use Rattle.cdf_format.specs.Fields.{number, integer4, has_bit, name_in, release, encoding, flags, increment, r_sizes}
 use Rattle.cdf_format.specs.Records.{adr_name, adr_scope, aedr_data_type, aedr_num, aedr_num_elems, aedr_value, vdr_blocking_factor, vdr_name, vdr_num_elems, vvr_records, cvvr_c_size, cvvr_packed}
 use Rattle.cdf_format.specs.Sealed.{has_checksum, image_of}
 use Rattle.cdf_format.specs.Stored.{field_bytes, is_little, data_type_in, network_bytes}

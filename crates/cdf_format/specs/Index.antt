@@ -1,6 +1,6 @@
 -- The index of a variable, a tree of VXRs (CDF Internal Format Description, "Variable Index Record").
-use Rattle.std.specs.Prelude.{◌≡◌, ℕ, zero, suc, ◌+◌, ◌-◌, ◌*◌, ◌/◌, min, List, [], ◌∷◌, ◌++◌, Bool, ◌==◌}
-use Rattle.cdf_format.specs.Fields.{counted, number, integer4, size_at, type_at}
+use Rattle.std.specs.Prelude.{ℕ, suc, ◌-◌, ◌/◌, min, List, [], ◌∷◌, ◌++◌, Bool}
+use Rattle.cdf_format.specs.Fields.{counted, number, integer4, size_at}
 use Rattle.cdf_format.specs.Records.{vxr_n_entries, vxr_n_used_entries, vxr_first, vxr_last, vxr_offset}
 
 mutual

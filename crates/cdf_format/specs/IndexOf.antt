@@ -1,5 +1,5 @@
 -- The index that an image has, as a relation: each link of it leads to a VXR, none is met twice, and there are at most 8 levels (CDF Internal Format Description, "Variable Index Record": VXRnext, Offset).
-use Rattle.std.specs.Prelude.{◌≡◌, ℕ, zero, suc, List, Bool, true, false, ◌==◌}
+use Rattle.std.specs.Prelude.{◌≡◌, ℕ, zero, suc, List, true, false, ◌==◌}
 use Rattle.cdf_format.specs.Fields.{type_at}
 use Rattle.cdf_format.specs.RecordTypes.{vxr_type, cvvr_type}
 use Rattle.cdf_format.specs.Tiles.{Distinct}

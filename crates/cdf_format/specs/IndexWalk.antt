@@ -1,5 +1,5 @@
 -- The index of an image, computed: a walk along its links.
-use Rattle.std.specs.Prelude.{ℕ, zero, suc, List, [], ◌∷◌, ◌++◌, length, Bool, not, ◌&&◌, ◌==◌, if◌then◌else◌}
+use Rattle.std.specs.Prelude.{ℕ, zero, suc, List, [], ◌∷◌, ◌++◌, length, not, ◌&&◌, ◌==◌, if◌then◌else◌}
 use Rattle.cdf_format.specs.Fields.{number, type_at}
 use Rattle.cdf_format.specs.Records.{Field}
 use Rattle.cdf_format.specs.RecordTypes.{vxr_type, cvvr_type}

@@ -13,5 +13,12 @@ pub mod Stored
 pub mod VariableFields
 pub mod Rules
 pub mod Sealed
+pub mod NotRead
 pub mod WellFormed
+pub mod RecordRules
+pub mod ChainRules
+pub mod AttributeRules
+pub mod VariableRules
+pub mod IndexRules
+pub mod Phases
 pub mod Content

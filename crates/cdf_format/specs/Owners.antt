@@ -1,5 +1,5 @@
 -- Whom the records of an image serve: each serves one owner.
-use Rattle.std.specs.Prelude.{◌≡◌, ℕ, suc, ◌+◌, List, [], ◌∷◌, ◌++◌, length, map, Bool, not, ◌==◌, if◌then◌else◌}
+use Rattle.std.specs.Prelude.{◌≡◌, ℕ, suc, ◌+◌, List, [], ◌∷◌, ◌++◌, length, map, not, ◌==◌, if◌then◌else◌}
 use Rattle.std.specs.List.{filter, sum}
 use Rattle.cdf_model.specs.declared.kinds.Kind.{Kind}
 use Rattle.cdf_model.specs.declared.kinds.Kind.TheVariants.{R, Z}
@@ -57,9 +57,9 @@ times n (m ∷ more) = (if n == m then 1 else 0) + times n more
 abbrev pub owned_records : List ℕ → Shape → List ℕ
 owned_records b s = map (λ pair. pair.0) (owned b s)
 
--- each record has one owner, and each owned record is one of the image
+-- each record of the image stands exactly once in the list
 abbrev pub OwnedOnce : List ℕ → Shape → Type 0
-OwnedOnce b s = (place : ℕ) → times place (owned_records b s) ≡ times place s.records
+OwnedOnce b s = (place : ℕ) → In place s.records → times place (owned_records b s) ≡ 1
 
 -- the bytes of records
 abbrev pub bytes_in : List ℕ → List ℕ → ℕ

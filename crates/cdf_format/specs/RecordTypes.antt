@@ -1,5 +1,5 @@
 -- The types of internal records (CDF Internal Format Description, "Internal Records", RecordType), as numbers without a sign.
-use Rattle.std.specs.Prelude.{ℕ, List, [], ◌∷◌, slice_index, Bool, ◌&&◌, ◌||◌, ◌==◌, nat_le}
+use Rattle.std.specs.Prelude.{ℕ, [], ◌∷◌, slice_index, Bool, ◌&&◌, ◌||◌, ◌==◌, nat_le}
 
 abbrev pub cdr_type : ℕ
 cdr_type = 1

@@ -3,12 +3,12 @@ use Rattle.std.specs.Prelude.{◌≡◌, ◌≤◌, ℕ, List, [], ◌∷◌, �
 use Rattle.cdf_format.specs.Fields.{number, has_bit, size_at, type_at, gdr_offset}
 use Rattle.cdf_format.specs.Records.{gdr_r_vdr_head, gdr_z_vdr_head, gdr_adr_head, gdr_uir_head, adr_agr_edr_head, adr_az_edr_head, vdr_vxr_head, vdr_flags, vdr_cpr_or_spr_offset}
 use Rattle.cdf_format.specs.RecordTypes.{cdr_type, gdr_type, adr_type, agr_edr_type, az_edr_type, r_vdr_type, z_vdr_type, uir_type, is_record_type, fixed_size}
-use Rattle.cdf_format.specs.Walks.{records_of}
+use Rattle.cdf_format.specs.Walks.{Walk, records_of}
 use Rattle.cdf_format.specs.Tiles.{In, AreTiles, tiles}
 use Rattle.cdf_format.specs.Chains.{IsChain, is_a, chain}
 use Rattle.cdf_format.specs.Index.{Nodes}
 use Rattle.cdf_format.specs.IndexOf.{IsIndex}
-use Rattle.cdf_format.specs.IndexWalk.{index_walk, nodes_met}
+use Rattle.cdf_format.specs.IndexWalk.{Met, index_walk, nodes_met}
 
 -- an ADR and its entries
 pub record AttributeShape : Type 0 where
@@ -78,25 +78,43 @@ pub record HasShape (b : List ℕ) (s : Shape) : Type 0 where
 
 -- ---- computed, for an image that has a shape
 
+-- the chains that begin in the GDR and in an ADR
+abbrev pub adr_chain : List ℕ → List ℕ → Walk
+adr_chain b records = chain b records adr_type (gdr_offset b) gdr_adr_head
+
+abbrev pub r_vdr_chain : List ℕ → List ℕ → Walk
+r_vdr_chain b records = chain b records r_vdr_type (gdr_offset b) gdr_r_vdr_head
+
+abbrev pub z_vdr_chain : List ℕ → List ℕ → Walk
+z_vdr_chain b records = chain b records z_vdr_type (gdr_offset b) gdr_z_vdr_head
+
+abbrev pub uir_chain : List ℕ → List ℕ → Walk
+uir_chain b records = chain b records uir_type (gdr_offset b) gdr_uir_head
+
+abbrev pub gr_entry_chain : List ℕ → List ℕ → ℕ → Walk
+gr_entry_chain b records adr = chain b records agr_edr_type adr adr_agr_edr_head
+
+abbrev pub z_entry_chain : List ℕ → List ℕ → ℕ → Walk
+z_entry_chain b records adr = chain b records az_edr_type adr adr_az_edr_head
+
+abbrev pub index_of : List ℕ → List ℕ → ℕ → Met Nodes
+index_of b records vdr = index_walk b records vdr vdr_vxr_head
+
 abbrev pub attribute_shape : List ℕ → List ℕ → ℕ → AttributeShape
-attribute_shape b records adr = record {
-  adr = adr;
-  gr_entries = records_of (chain b records agr_edr_type adr adr_agr_edr_head);
-  z_entries = records_of (chain b records az_edr_type adr adr_az_edr_head);
-}
+attribute_shape b records adr = record { adr = adr; gr_entries = records_of (gr_entry_chain b records adr); z_entries = records_of (z_entry_chain b records adr) }
 
 abbrev pub variable_shape : List ℕ → List ℕ → ℕ → VariableShape
-variable_shape b records vdr = record { vdr = vdr; index = nodes_met (index_walk b records vdr vdr_vxr_head); cpr = cpr_of b vdr }
+variable_shape b records vdr = record { vdr = vdr; index = nodes_met (index_of b records vdr); cpr = cpr_of b vdr }
 
 -- with these records
 abbrev pub shape_in : List ℕ → List ℕ → Shape
 shape_in b records = record {
   records = records;
   gdr = gdr_offset b;
-  attributes = map (attribute_shape b records) (records_of (chain b records adr_type (gdr_offset b) gdr_adr_head));
-  r_variables = map (variable_shape b records) (records_of (chain b records r_vdr_type (gdr_offset b) gdr_r_vdr_head));
-  z_variables = map (variable_shape b records) (records_of (chain b records z_vdr_type (gdr_offset b) gdr_z_vdr_head));
-  unused = records_of (chain b records uir_type (gdr_offset b) gdr_uir_head);
+  attributes = map (attribute_shape b records) (records_of (adr_chain b records));
+  r_variables = map (variable_shape b records) (records_of (r_vdr_chain b records));
+  z_variables = map (variable_shape b records) (records_of (z_vdr_chain b records));
+  unused = records_of (uir_chain b records);
 }
 
 unfoldable pub shape : List ℕ → Shape

@@ -1,5 +1,5 @@
 -- Values as they are stored, in the byte order of the file's encoding (CDF Internal Format Description, CDF Descriptor Record, Encoding).
-use Rattle.std.specs.Prelude.{ℕ, ◌+◌, List, take, drop, Bool, true, false, Some, None}
+use Rattle.std.specs.Prelude.{ℕ, ◌+◌, List, take, drop, Bool, false, Some, None}
 use Rattle.std.specs.declared.option.Option.{Option}
 use Rattle.std.specs.Option.{unwrap_or}
 use Rattle.cdf_model.specs.declared.data_type.DataType.{DataType}

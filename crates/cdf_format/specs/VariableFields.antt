@@ -6,7 +6,7 @@ use Rattle.cdf_model.specs.declared.kinds.Sparse.{Sparse}
 use Rattle.cdf_model.specs.declared.kinds.Sparse.TheVariants.{NoRule, Pad, Previous}
 use Rattle.cdf_model.specs.Place.{record_size}
 use Rattle.cdf_model.specs.Types.{size_of}
-use Rattle.cdf_format.specs.Fields.{word, words, counted, number, integer4, has_bit, type_at, gdr_offset, r_dimensions, r_sizes}
+use Rattle.cdf_format.specs.Fields.{words, counted, number, integer4, has_bit, type_at, gdr_offset, r_dimensions, r_sizes}
 use Rattle.cdf_format.specs.Records.{Field, vdr_data_type, vdr_max_rec, vdr_flags, vdr_s_records, vdr_num_elems, vdr_r_dim_vary, vdr_r_pad_value, vdr_z_num_dims, vdr_z_dim_size, vdr_z_dim_vary, vdr_z_pad_value}
 use Rattle.cdf_format.specs.RecordTypes.{z_vdr_type}
 use Rattle.cdf_format.specs.Index.{Leaf}

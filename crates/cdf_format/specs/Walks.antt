@@ -1,5 +1,5 @@
 -- A walk from record to record.
-use Rattle.std.specs.Prelude.{ℕ, List, [], ◌∷◌, ◌++◌}
+use Rattle.std.specs.Prelude.{ℕ, List, [], ◌∷◌}
 
 -- the records that it met; or where it leads wrong, those that it met before and the place
 pub data Walk : Type 0 where
