@@ -22,3 +22,7 @@ pub mod VariableRules
 pub mod IndexRules
 pub mod Phases
 pub mod Content
+pub mod Changed
+pub mod Placement
+pub mod Blocks
+pub mod Room
