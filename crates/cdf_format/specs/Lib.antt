@@ -26,3 +26,6 @@ pub mod Changed
 pub mod Placement
 pub mod Blocks
 pub mod Room
+pub mod Allowances
+pub mod VariableAllowances
+pub mod Locality

@@ -13,8 +13,8 @@ use Rattle.cdf_format.specs.Shape.{AttributeShape, VariableShape, Shape}
 -- an attribute and a variable by their numbers
 pub data Owner : Type 0 where
   File : Owner
-  Attribute : ℕ → Owner
-  Variable : Kind → ℕ → Owner
+  OneAttribute : ℕ → Owner
+  OneVariable : Kind → ℕ → Owner
   Unused : Owner
 
 -- the records of an attribute: its ADR and its entries
@@ -34,11 +34,11 @@ owned_by owner places = map (λ place. (place, owner)) places
 
 abbrev pub owned_by_attributes : ℕ → List AttributeShape → List (ℕ × Owner)
 owned_by_attributes n [] = []
-owned_by_attributes n (a ∷ more) = owned_by (Attribute n) (attribute_records a) ++ owned_by_attributes (suc n) more
+owned_by_attributes n (a ∷ more) = owned_by (OneAttribute n) (attribute_records a) ++ owned_by_attributes (suc n) more
 
 abbrev pub owned_by_variables : Kind → ℕ → List VariableShape → List (ℕ × Owner)
 owned_by_variables kind n [] = []
-owned_by_variables kind n (v ∷ more) = owned_by (Variable kind n) (variable_records v) ++ owned_by_variables kind (suc n) more
+owned_by_variables kind n (v ∷ more) = owned_by (OneVariable kind n) (variable_records v) ++ owned_by_variables kind (suc n) more
 
 -- each owned record, with its owner
 abbrev pub owned : List ℕ → Shape → List (ℕ × Owner)
