@@ -3,3 +3,5 @@ pub mod Verdicts
 pub mod Images
 pub mod Members
 pub mod TilesLemmas
+pub mod ChainsLemmas
+pub mod IndexLemmas
