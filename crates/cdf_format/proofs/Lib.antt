@@ -5,3 +5,5 @@ pub mod Members
 pub mod TilesLemmas
 pub mod ChainsLemmas
 pub mod IndexLemmas
+pub mod RowLemmas
+pub mod ShapeLemmas

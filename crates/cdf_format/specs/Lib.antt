@@ -29,3 +29,4 @@ pub mod Room
 pub mod Allowances
 pub mod VariableAllowances
 pub mod Locality
+pub mod GoodImage
