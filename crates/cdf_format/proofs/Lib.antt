@@ -7,3 +7,4 @@ pub mod ChainsLemmas
 pub mod IndexLemmas
 pub mod RowLemmas
 pub mod ShapeLemmas
+pub mod GoodImageLemmas
