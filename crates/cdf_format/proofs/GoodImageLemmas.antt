@@ -1,5 +1,5 @@
 -- The rules of phases 4 to 9 hold exactly where an image is good by its shape.
-use Rattle.std.proofs.Common.{◌≡◌, ℕ, ◌<◌, ◌≤◌, List, [], ◌∷◌, ◌++◌, length, map, true, eq-eqb, refl, sym, ap, ap₂, subst, ◌∙◌, arith, inl}
+use Rattle.std.proofs.Common.{◌≡◌, ℕ, ◌<◌, List, [], ◌∷◌, ◌++◌, length, map, true, eq-eqb, refl, sym, ap, ap₂, subst, ◌∙◌, arith, inl}
 use Rattle.std.proofs.lemmas.Bool.{eqb-true, leb-true, le-leb}
 use Rattle.std.specs.List.{flat_map}
 use Rattle.cdf_format.specs.Fields.{type_at, gdr_offset}

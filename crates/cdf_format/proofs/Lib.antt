@@ -8,3 +8,5 @@ pub mod IndexLemmas
 pub mod RowLemmas
 pub mod ShapeLemmas
 pub mod GoodImageLemmas
+pub mod Tests
+pub mod BareFile
