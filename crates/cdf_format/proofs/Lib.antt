@@ -10,3 +10,4 @@ pub mod ShapeLemmas
 pub mod GoodImageLemmas
 pub mod Tests
 pub mod BareFile
+pub mod Owning

@@ -1,5 +1,5 @@
 -- Whom the records of an image serve: each serves one owner.
-use Rattle.std.specs.Prelude.{◌≡◌, ℕ, suc, ◌+◌, List, [], ◌∷◌, ◌++◌, length, map, not, ◌==◌, if◌then◌else◌}
+use Rattle.std.specs.Prelude.{◌≡◌, ℕ, suc, List, [], ◌∷◌, ◌++◌, length, map, not, ◌==◌, if◌then◌else◌}
 use Rattle.std.specs.List.{filter, sum}
 use Rattle.cdf_model.specs.declared.kinds.Kind.{Kind}
 use Rattle.cdf_model.specs.declared.kinds.Kind.TheVariants.{R, Z}
@@ -52,7 +52,7 @@ owned b s =
 -- how often it stands in the list
 abbrev pub times : ℕ → List ℕ → ℕ
 times n [] = 0
-times n (m ∷ more) = (if n == m then 1 else 0) + times n more
+times n (m ∷ more) = if n == m then suc (times n more) else times n more
 
 abbrev pub owned_records : List ℕ → Shape → List ℕ
 owned_records b s = map (λ pair. pair.0) (owned b s)
