@@ -11,3 +11,4 @@ pub mod GoodImageLemmas
 pub mod Tests
 pub mod BareFile
 pub mod Owning
+pub mod ImageOf
