@@ -12,3 +12,5 @@ pub mod Tests
 pub mod BareFile
 pub mod Owning
 pub mod ImageOf
+pub mod BytesLemmas
+pub mod ChangedLemmas
