@@ -14,3 +14,4 @@ pub mod Owning
 pub mod ImageOf
 pub mod BytesLemmas
 pub mod ChangedLemmas
+pub mod Kept

@@ -30,3 +30,4 @@ pub mod Allowances
 pub mod VariableAllowances
 pub mod Locality
 pub mod GoodImage
+pub mod Alone
