@@ -15,3 +15,4 @@ pub mod ImageOf
 pub mod BytesLemmas
 pub mod ChangedLemmas
 pub mod Kept
+pub mod LinksKept
