@@ -16,3 +16,4 @@ pub mod BytesLemmas
 pub mod ChangedLemmas
 pub mod Kept
 pub mod LinksKept
+pub mod AloneLemmas

@@ -96,7 +96,7 @@ filter-in p (y ∷ ys) x i = elim (either (p y)) [
   | inr e ↦ let j : In x (filter p ys) = rw e at i in inr (filter-in p ys x j)
 ]
 
-block_in : (b ts : List ℕ) (place : ℕ) → is_block b ts place ≡ true → In place ts
+pub block_in : (b ts : List ℕ) (place : ℕ) → is_block b ts place ≡ true → In place ts
 block_in b ts place e = elim (or_cases (is_a b ts vvr_type place) (is_a b ts cvvr_type place) e) [ inl p ↦ is_a-in b ts vvr_type place p | inr p ↦ is_a-in b ts cvvr_type place p ]
   where
     or_cases : (p q : Bool) → (p || q) ≡ true → (p ≡ true) ⊎ (q ≡ true)

@@ -11,7 +11,7 @@ use Rattle.cdf_format.specs.Owners.{times, owned_records}
 use Rattle.cdf_format.specs.Records.{Field, cdr_gdr_offset, cdr_encoding, gdr_r_vdr_head, gdr_z_vdr_head, gdr_adr_head, gdr_r_num_dims, gdr_uir_head, cvvr_c_size}
 use Rattle.cdf_format.specs.RecordTypes.{adr_type, agr_edr_type, az_edr_type, r_vdr_type, z_vdr_type, vxr_type, uir_type}
 use Rattle.cdf_format.specs.Shape.{AttributeShape, VariableShape, Shape, adrs, vdrs, variables, Each, HasEntries, HasVariable, HasShape}
-use Rattle.cdf_format.specs.Tiles.{In}
+use Rattle.cdf_format.specs.Tiles.{In, AreTiles}
 use Rattle.cdf_format.specs.VariableFields.{plain_size}
 use Rattle.cdf_format.specs.VariableRules.{vdr_end}
 
@@ -106,3 +106,10 @@ pub record LeavesFinding (b : List ℕ) (s : Shape) (touches : List Touch) : Typ
   pub unused_head : MissesField touches s.gdr gdr_uir_head
   pub dimensions_stay : MissesField touches s.gdr gdr_r_num_dims
   pub sizes_stay : Misses touches s.gdr 84 (84 + 4 * r_dimensions b s.gdr)
+
+-- the tiling, the chains, and these attributes and variables stay
+pub record Leaves (b now : List ℕ) (s : Shape) (attributes : List AttributeShape) (others : List VariableShape) : Type 0 where
+  pub tiled : AreTiles now 8 (length now) s.records
+  pub chains_stay : ChainsStay b now s
+  pub attributes_stay : Each (AttributeStays b now s) attributes
+  pub variables_stay : Each (VariableStays b now s) others
