@@ -28,7 +28,7 @@ Each-in P [] h m i = absurd i
 Each-in P (x ∷ xs) h m (inl e) = subst P (sym e) h.0
 Each-in P (x ∷ xs) h m (inr i) = Each-in P xs h.1 m i
 
-blocks_stand : (b records : List ℕ) (vdr : ℕ) (leaves : List Leaf) → Each (LeafFits b records vdr) leaves → (m : ℕ) → In m (map (λ (leaf : Leaf). leaf.place) leaves) → In m records
+pub blocks_stand : (b records : List ℕ) (vdr : ℕ) (leaves : List Leaf) → Each (LeafFits b records vdr) leaves → (m : ℕ) → In m (map (λ (leaf : Leaf). leaf.place) leaves) → In m records
 blocks_stand b records vdr [] h m i = absurd i
 blocks_stand b records vdr (leaf ∷ more) h m (inl e) = subst (λ (x : ℕ). In x records) (sym e) (block_in b records leaf.place h.0.0)
 blocks_stand b records vdr (leaf ∷ more) h m (inr i) = blocks_stand b records vdr more h.1 m i
@@ -76,7 +76,7 @@ module _ (b now own : List ℕ) (s : Shape) (h : HasShape b s) (change : Changed
   placed : Placed b s.records (length b) change.touches
   placed = placed_all change.touches change.within
 
-  part : (m lo hi : ℕ) → In m s.records → hi ≤ size_at b m → Misses change.touches m lo hi → Same b now (m + lo) (m + hi)
+  pub part : (m lo hi : ℕ) → In m s.records → hi ≤ size_at b m → Misses change.touches m lo hi → Same b now (m + lo) (m + hi)
   part m lo hi i fits miss = changed_part b now s.records (length b) h.tiled (omega arith) change.touches change.changed placed m lo hi i fits miss
 
   -- the sizes and types of all records
@@ -123,11 +123,11 @@ module _ (b now own : List ℕ) (s : Shape) (h : HasShape b s) (change : Changed
         attribute_kept b now file a adr long gr z fits,
       )
 
-  pub attributes_stay : FileSame b now → (as_ : List AttributeShape) → ((m : ℕ) → In m (map (λ (a : AttributeShape). a.adr) as_) → is_linkable b s.records adr_type m ≡ true) → Each (HasEntries b s.records) as_ → Each (AttributeFits b) as_ → ((m : ℕ) → In m (flat_map attribute_records as_) → In m own → ⊥) → Each (AttributeStays b now s) as_
+  pub attributes_stay : FileSame b now → (as_ : List AttributeShape) → Each (λ (a : AttributeShape). is_linkable b s.records adr_type a.adr ≡ true) as_ → Each (HasEntries b s.records) as_ → Each (AttributeFits b) as_ → ((m : ℕ) → In m (flat_map attribute_records as_) → In m own → ⊥) → Each (AttributeStays b now s) as_
   attributes_stay file [] ok has fits out = tt
   attributes_stay file (a ∷ more) ok has fits out = (
-    attribute_stays file a (ok a.adr (inl refl)) has.0 fits.0 (λ m i. out m (In-append_left m (attribute_records a) (flat_map attribute_records more) i)),
-    attributes_stay file more (λ m i. ok m (inr i)) has.1 fits.1 (λ m i. out m (In-append_right m (attribute_records a) (flat_map attribute_records more) i)),
+    attribute_stays file a ok.0 has.0 fits.0 (λ m i. out m (In-append_left m (attribute_records a) (flat_map attribute_records more) i)),
+    attributes_stay file more ok.1 has.1 fits.1 (λ m i. out m (In-append_right m (attribute_records a) (flat_map attribute_records more) i)),
   )
 
   pub variable_stays : FileSame b now → (v : VariableShape) → In v.vdr s.records → HasVariable b s.records v → VariableFits b s.records v → ((m : ℕ) → In m (variable_records v) → In m own → ⊥) → VariableStays b now s v
@@ -148,11 +148,11 @@ module _ (b now own : List ℕ) (s : Shape) (h : HasShape b s) (change : Changed
         variable_kept b now file v.vdr vdr fits.0 v s.records refl block fits.2,
       )
 
-  pub variables_stay : FileSame b now → (vs : List VariableShape) → ((m : ℕ) → In m (vdrs vs) → In m s.records) → Each (HasVariable b s.records) vs → Each (VariableFits b s.records) vs → ((m : ℕ) → In m (flat_map variable_records vs) → In m own → ⊥) → Each (VariableStays b now s) vs
+  pub variables_stay : FileSame b now → (vs : List VariableShape) → Each (λ (v : VariableShape). In v.vdr s.records) vs → Each (HasVariable b s.records) vs → Each (VariableFits b s.records) vs → ((m : ℕ) → In m (flat_map variable_records vs) → In m own → ⊥) → Each (VariableStays b now s) vs
   variables_stay file [] tile has fits out = tt
   variables_stay file (v ∷ more) tile has fits out = (
-    variable_stays file v (tile v.vdr (inl refl)) has.0 fits.0 (λ m i. out m (In-append_left m (variable_records v) (flat_map variable_records more) i)),
-    variables_stay file more (λ m i. tile m (inr i)) has.1 fits.1 (λ m i. out m (In-append_right m (variable_records v) (flat_map variable_records more) i)),
+    variable_stays file v tile.0 has.0 fits.0 (λ m i. out m (In-append_left m (variable_records v) (flat_map variable_records more) i)),
+    variables_stay file more tile.1 has.1 fits.1 (λ m i. out m (In-append_right m (variable_records v) (flat_map variable_records more) i)),
   )
 
   -- ---- the CDR and the GDR

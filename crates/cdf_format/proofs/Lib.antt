@@ -17,3 +17,4 @@ pub mod ChangedLemmas
 pub mod Kept
 pub mod LinksKept
 pub mod AloneLemmas
+pub mod OwnersApart

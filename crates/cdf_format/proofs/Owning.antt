@@ -89,7 +89,7 @@ owned_is b s =
 
 -- ---- each is a record of the image
 
-filter-in : (p : ℕ → Bool) (xs : List ℕ) (x : ℕ) → In x (filter p xs) → In x xs
+pub filter-in : (p : ℕ → Bool) (xs : List ℕ) (x : ℕ) → In x (filter p xs) → In x xs
 filter-in p [] x i = absurd i
 filter-in p (y ∷ ys) x i = elim (either (p y)) [
   | inl e ↦ let j : In x (y ∷ filter p ys) = rw e at i in elim j [ inl h ↦ inl h | inr h ↦ inr (filter-in p ys x h) ]
