@@ -1,19 +1,25 @@
 -- Owners share no record, so a change within the records of one leaves those of every other.
-use Rattle.std.proofs.Common.{◌≡◌, ℕ, suc, ◌+◌, ◌≤◌, List, [], ◌∷◌, ◌++◌, map, Bool, true, false, eqb, eq-eqb, refl, sym, ap, subst, ◌∙◌, append_assoc, arith, inl, inr}
+use Rattle.std.proofs.Common.{◌≡◌, ℕ, suc, ◌+◌, ◌*◌, ◌≤◌, List, [], ◌∷◌, ◌++◌, map, Bool, true, false, eqb, eq-eqb, refl, sym, ap, subst, ◌∙◌, append_assoc, arith, inl, inr}
 use Rattle.std.specs.List.{flat_map}
-use Rattle.cdf_format.specs.RecordTypes.{cdr_type, gdr_type, adr_type, agr_edr_type, az_edr_type, r_vdr_type, z_vdr_type}
+use Rattle.std.specs.Int.{w32, cast_signed}
+use Rattle.cdf_format.specs.RecordTypes.{cdr_type, gdr_type, adr_type, agr_edr_type, az_edr_type, r_vdr_type, z_vdr_type, cpr_type, vxr_type, uir_type}
 use Rattle.cdf_format.specs.Tiles.{In}
-use Rattle.cdf_format.specs.Chains.{is_linkable}
+use Rattle.cdf_format.specs.Chains.{is_linkable, is_a}
 use Rattle.cdf_format.specs.Shape.{AttributeShape, VariableShape, Shape, vdrs, variables, Each, HasEntries, HasVariable, HasShape}
 use Rattle.cdf_format.specs.Owners.{attribute_records, variable_records, unused_records, times, owned_records}
-use Rattle.cdf_format.specs.Alone.{AttributeFits, VariableFits, IsSound, ChangedWithin, FileStays, Leaves}
+use Rattle.cdf_format.specs.Alone.{AttributeFits, VariableFits, IsSound, ChangedWithin, FileStays, Leaves, LeavesFinding}
 use Rattle.cdf_format.proofs.Members.{either, In-append}
 use Rattle.cdf_format.proofs.ChainsLemmas.{is_a-in, linkable-in}
 use Rattle.cdf_format.proofs.ShapeLemmas.{Each-split, Each-append}
 use Rattle.cdf_format.proofs.GoodImageLemmas.{vdrs_append}
-use Rattle.cdf_format.proofs.Owning.{owned_is}
+use Rattle.cdf_format.proofs.Owning.{owned_is, filter-in}
 use Rattle.cdf_format.proofs.Kept.{Kept}
-use Rattle.cdf_format.proofs.AloneLemmas.{stays, tiling_stays, attributes_stay, variables_stay, file_same, chains_stay, file_stays}
+use Rattle.cdf_format.proofs.AloneLemmas.{stays, tiling_stays, attributes_stay, variables_stay, file_same, chains_stay, file_stays, Each-in, blocks_stand, part, cdr_long, gdr_long, chains_by_links, file_same_by}
+use Rattle.cdf_format.specs.Fields.{counted, number, type_at, r_dimensions, words}
+use Rattle.cdf_format.specs.Index.{Leaf, nodes_of, leaves_of}
+use Rattle.cdf_format.proofs.IndexLemmas.{nodes_stand}
+use Rattle.cdf_format.proofs.BytesLemmas.{word_kept, words_kept}
+use Rattle.cdf_format.specs.Records.{gdr_r_num_dims}
 
 -- ---- counts of parts
 
@@ -181,3 +187,124 @@ module _ (b : List ℕ) (s : Shape) (sound : IsSound b s) where
               vdrs_stand h.have_variables sound.variables_fit from_variables,
           file_is now mine change inside from_file,
         )
+
+  -- ---- a variable
+
+  module _ (before : List VariableShape) (own : VariableShape) (after : List VariableShape) (all : variables s ≡ before ++ own ∷ after) where
+    v_parts : (m : ℕ) → times m (all_variable_records s) ≡ times m (flat_map variable_records before) + (times m (variable_records own) + times m (flat_map variable_records after))
+    v_parts m = ap (λ (x : List VariableShape). times m (flat_map variable_records x)) all ∙ times-parts variable_records m before own after
+
+    file_not : (mine f a v u x y : ℕ) → f + (a + (v + u)) ≤ 1 → v ≡ x + (mine + y) → 1 ≤ mine → 1 ≤ f → ⊥
+    file_not mine f a v u x y l e o p = omega arith
+
+    attribute_not : (mine f a v u x y : ℕ) → f + (a + (v + u)) ≤ 1 → v ≡ x + (mine + y) → 1 ≤ mine → 1 ≤ a → ⊥
+    attribute_not mine f a v u x y l e o p = omega arith
+
+    other_not : (mine f a v u x y : ℕ) → f + (a + (v + u)) ≤ 1 → v ≡ x + (mine + y) → 1 ≤ mine → 1 ≤ x + y → ⊥
+    other_not mine f a v u x y l e o p = omega arith
+
+    some_variable : (m : ℕ) → In m (flat_map variable_records (before ++ after)) → 1 ≤ times m (flat_map variable_records before) + times m (flat_map variable_records after)
+    some_variable m i =
+        let t = times-in m (flat_map variable_records (before ++ after)) i in
+        let e : times m (flat_map variable_records (before ++ after)) ≡ times m (flat_map variable_records before) + times m (flat_map variable_records after) = ap (times m) (flat-append variable_records before after) ∙ times-append m (flat_map variable_records before) (flat_map variable_records after) in
+        subst (λ (n : ℕ). 1 ≤ n) e t
+
+    pub variable_alone : (now : List ℕ) → ChangedWithin b now (variable_records own) → Leaves b now s s.attributes (before ++ after) × FileStays b now s
+    variable_alone now change =
+        let mine = variable_records own in
+        let has = the_one (HasVariable b s.records) (variables s) before own after all h.have_variables in
+        let fits = the_one (VariableFits b s.records) (variables s) before own after all sound.variables_fit in
+        let nodes = nodes_of own.index in
+        let blocks = map (λ (leaf : Leaf). leaf.place) (leaves_of own.index) in
+        let inside : (m : ℕ) → In m mine → In m s.records = λ m i. elim i [
+          | inl e ↦ subst (λ (x : ℕ). In x s.records) (sym e) (the_one (λ (v : VariableShape). In v.vdr s.records) (variables s) before own after all vdrs_stand)
+          | inr j ↦ elim (In-append m (nodes ++ blocks) own.cpr j) [
+            | inr k ↦ is_a-in b s.records cpr_type m (Each-in (λ x. is_a b s.records cpr_type x ≡ true) own.cpr fits.3 m k)
+            | inl k ↦ elim (In-append m nodes blocks k) [
+              | inl n ↦ linkable-in b s.records vxr_type m (nodes_stand b s.records 8 own.index has.indexed.has_nodes m n)
+              | inr n ↦ blocks_stand b s.records own.vdr (leaves_of own.index) fits.2 m n
+            ]
+          ]
+        ] in
+        let from_file : Apart mine (file_records s) = λ m i j. file_not (times m mine) _ _ _ _ _ _ (limit m) (v_parts m) (times-in m mine j) (times-in m (file_records s) i) in
+        let from_attributes : Apart mine (all_attribute_records s) = λ m i j. attribute_not (times m mine) _ _ _ _ _ _ (limit m) (v_parts m) (times-in m mine j) (times-in m (all_attribute_records s) i) in
+        let from_others : Apart mine (flat_map variable_records (before ++ after)) = λ m i j. other_not (times m mine) _ _ _ _ _ _ (limit m) (v_parts m) (times-in m mine j) (some_variable m i) in (
+          leaves now mine change inside from_file s.attributes (before ++ after) adrs_linked h.entry_chains sound.attributes_fit from_attributes
+              (without_one (λ (v : VariableShape). In v.vdr s.records) (variables s) before own after all vdrs_stand)
+              (without_one (HasVariable b s.records) (variables s) before own after all h.have_variables)
+              (without_one (VariableFits b s.records) (variables s) before own after all sound.variables_fit) from_others,
+          file_is now mine change inside from_file,
+        )
+
+  -- ---- unused records
+
+  not_unused : (f a v u : ℕ) → f + (a + (v + u)) ≤ 1 → 1 ≤ u → 1 ≤ f + (a + v) → ⊥
+  not_unused f a v u l o p = omega arith
+
+  unused_apart : (others : List ℕ) → ((m : ℕ) → times m others ≤ times m (file_records s) + (times m (all_attribute_records s) + times m (all_variable_records s))) → Apart (unused_records b s) others
+  unused_apart others le m i j = not_unused _ _ _ _ (limit m) (times-in m (unused_records b s) j) (up (times m others) _ (times-in m others i) (le m))
+    where
+      up : (n k : ℕ) → 1 ≤ n → n ≤ k → 1 ≤ k
+      up n k p q = omega arith
+
+  pub unused_are_alone : (now : List ℕ) → ChangedWithin b now (unused_records b s) → Leaves b now s s.attributes (variables s) × FileStays b now s
+  unused_are_alone now change =
+      let mine = unused_records b s in
+      let inside : (m : ℕ) → In m mine → In m s.records = λ m i. filter-in (λ place. eqb (type_at b place) uir_type) s.records m i in
+      let from_file : Apart mine (file_records s) = unused_apart (file_records s) (λ m. first (times m (file_records s)) _ _) in
+      let from_attributes : Apart mine (all_attribute_records s) = unused_apart (all_attribute_records s) (λ m. second _ (times m (all_attribute_records s)) _) in
+      let from_variables : Apart mine (all_variable_records s) = unused_apart (all_variable_records s) (λ m. third _ _ (times m (all_variable_records s))) in (
+        leaves now mine change inside from_file s.attributes (variables s) adrs_linked h.entry_chains sound.attributes_fit from_attributes vdrs_stand h.have_variables sound.variables_fit from_variables,
+        file_is now mine change inside from_file,
+      )
+    where
+      first : (f a v : ℕ) → f ≤ f + (a + v)
+      first f a v = omega arith
+
+      second : (f a v : ℕ) → a ≤ f + (a + v)
+      second f a v = omega arith
+
+      third : (f a v : ℕ) → v ≤ f + (a + v)
+      third f a v = omega arith
+
+  -- ---- the CDR and the GDR
+
+  not_file : (f a v u n : ℕ) → f + (a + (v + u)) ≤ 1 → 1 ≤ f → 1 ≤ n → n ≤ a + v → ⊥
+  not_file f a v u n l o p q = omega arith
+
+  pub file_is_alone : (now : List ℕ) (change : ChangedWithin b now (file_records s)) → LeavesFinding b s change.touches → Leaves b now s s.attributes (variables s)
+  file_is_alone now change leaves_it =
+      let mine = file_records s in
+      let inside : (m : ℕ) → In m mine → In m s.records = λ m i. elim i [ inl e ↦ subst (λ (x : ℕ). In x s.records) (sym e) cdr_in | inr j ↦ elim j [ inl e ↦ subst (λ (x : ℕ). In x s.records) (sym e) gdr_in | inr none ↦ absurd none ] ] in
+      let from_attributes : Apart mine (all_attribute_records s) = λ m i j. not_file _ _ _ _ (times m (all_attribute_records s)) (limit m) (times-in m mine j) (times-in m (all_attribute_records s) i) (left (times m (all_attribute_records s)) (times m (all_variable_records s))) in
+      let from_variables : Apart mine (all_variable_records s) = λ m i j. not_file _ _ _ _ (times m (all_variable_records s)) (limit m) (times-in m mine j) (times-in m (all_variable_records s) i) (right (times m (all_attribute_records s)) (times m (all_variable_records s))) in
+      let long = cdr_long b now mine s h change inside in
+      let long' = gdr_long b now mine s h change inside in
+      let cdr_part = part b now mine s h change inside 8 in
+      let gdr_part = part b now mine s h change inside s.gdr in
+      let offset = word_kept b now (8 + 12) (8 + 20) (cdr_part 12 20 cdr_in (omega arith) leaves_it.gdr_offset_stays) (8 + 12) 8 (omega arith) (omega arith) in
+      let code = word_kept b now (8 + 28) (8 + 32) (cdr_part 28 32 cdr_in (omega arith) leaves_it.encoding_stays) (8 + 28) 4 (omega arith) (omega arith) in
+      let adr = word_kept b now (s.gdr + 28) (s.gdr + 36) (gdr_part 28 36 gdr_in (omega arith) leaves_it.attribute_head) (s.gdr + 28) 8 (omega arith) (omega arith) in
+      let r = word_kept b now (s.gdr + 12) (s.gdr + 20) (gdr_part 12 20 gdr_in (omega arith) leaves_it.r_head) (s.gdr + 12) 8 (omega arith) (omega arith) in
+      let z = word_kept b now (s.gdr + 20) (s.gdr + 28) (gdr_part 20 28 gdr_in (omega arith) leaves_it.z_head) (s.gdr + 20) 8 (omega arith) (omega arith) in
+      let u = word_kept b now (s.gdr + 64) (s.gdr + 72) (gdr_part 64 72 gdr_in (omega arith) leaves_it.unused_head) (s.gdr + 64) 8 (omega arith) (omega arith) in
+      let dims : number now s.gdr gdr_r_num_dims ≡ number b s.gdr gdr_r_num_dims = word_kept b now (s.gdr + 56) (s.gdr + 60) (gdr_part 56 60 gdr_in (omega arith) leaves_it.dimensions_stay) (s.gdr + 56) 4 (omega arith) (omega arith) in
+      let count : r_dimensions now s.gdr ≡ r_dimensions b s.gdr = ap (λ (n : ℕ). counted (cast_signed w32 n)) dims in
+      let d = r_dimensions b s.gdr in
+      let sizes = ap (words now (s.gdr + 84)) count ∙ words_kept b now (s.gdr + 84) (s.gdr + (84 + 4 * d)) (gdr_part 84 (84 + 4 * d) gdr_in sound.gdr_fits leaves_it.sizes_stay) (s.gdr + 84) d (omega arith) (room s.gdr d) in
+      let file = file_same_by b now mine s h change inside offset code count sizes in
+      record {
+        tiled = tiling_stays b now mine s h change inside;
+        chains_stay = chains_by_links b now mine s h change inside offset adr r z u;
+        attributes_stay = attributes_stay b now mine s h change inside file s.attributes adrs_linked h.entry_chains sound.attributes_fit from_attributes;
+        variables_stay = variables_stay b now mine s h change inside file (variables s) vdrs_stand h.have_variables sound.variables_fit from_variables;
+      }
+    where
+      left : (a v : ℕ) → a ≤ a + v
+      left a v = omega arith
+
+      right : (a v : ℕ) → v ≤ a + v
+      right a v = omega arith
+
+      room : (g d : ℕ) → g + 84 + 4 * d ≤ g + (84 + 4 * d)
+      room g d = omega arith

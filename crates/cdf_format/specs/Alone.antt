@@ -2,14 +2,14 @@
 use Rattle.std.specs.Prelude.{◌≡◌, ◌≤◌, ℕ, ◌+◌, ◌*◌, List, [], ◌∷◌, length, Bool, true, false, if◌then◌else◌}
 use Rattle.cdf_format.specs.AttributeRules.{entry_bytes}
 use Rattle.cdf_format.specs.Changed.{Touch, Changed, Misses}
-use Rattle.cdf_format.specs.Chains.{is_in, IsChain}
+use Rattle.cdf_format.specs.Chains.{is_in, is_a, IsChain}
 use Rattle.cdf_format.specs.Content.{attribute_of, variable_of}
 use Rattle.cdf_format.specs.Fields.{number, size_at, type_at, gdr_offset, release, encoding, flags, increment, r_dimensions, r_sizes}
 use Rattle.cdf_format.specs.Index.{Leaf, nodes_of, leaves_of, room_at, used_count}
 use Rattle.cdf_format.specs.IndexRules.{is_block}
 use Rattle.cdf_format.specs.Owners.{times, owned_records}
 use Rattle.cdf_format.specs.Records.{Field, cdr_gdr_offset, cdr_encoding, gdr_r_vdr_head, gdr_z_vdr_head, gdr_adr_head, gdr_r_num_dims, gdr_uir_head, cvvr_c_size}
-use Rattle.cdf_format.specs.RecordTypes.{adr_type, agr_edr_type, az_edr_type, r_vdr_type, z_vdr_type, vxr_type, uir_type}
+use Rattle.cdf_format.specs.RecordTypes.{adr_type, agr_edr_type, az_edr_type, cpr_type, r_vdr_type, z_vdr_type, vxr_type, uir_type}
 use Rattle.cdf_format.specs.Shape.{AttributeShape, VariableShape, Shape, adrs, vdrs, variables, Each, HasEntries, HasVariable, HasShape}
 use Rattle.cdf_format.specs.Tiles.{In, AreTiles}
 use Rattle.cdf_format.specs.VariableFields.{plain_size}
@@ -35,7 +35,8 @@ abbrev pub LeafFits : List ℕ → List ℕ → ℕ → Leaf → Type 0
 LeafFits b records vdr leaf = (is_block b records leaf.place ≡ true) × BlockFits b vdr leaf leaf.packed
 
 abbrev pub VariableFits : List ℕ → List ℕ → VariableShape → Type 0
-VariableFits b records v = (vdr_end b v.vdr ≤ size_at b v.vdr) × Each (NodeFits b) (nodes_of v.index) × Each (LeafFits b records v.vdr) (leaves_of v.index)
+VariableFits b records v =
+    (vdr_end b v.vdr ≤ size_at b v.vdr) × Each (NodeFits b) (nodes_of v.index) × Each (LeafFits b records v.vdr) (leaves_of v.index) × Each (λ cpr. is_a b records cpr_type cpr ≡ true) v.cpr
 
 -- It has a shape, its records are long enough, and none is owned twice. Counts and numbers may be wrong, and records may be owned by nobody.
 pub record IsSound (b : List ℕ) (s : Shape) : Type 0 where

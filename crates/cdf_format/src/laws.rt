@@ -1,6 +1,7 @@
 //! What follows from the definitions, each law as the clause of a function.
 
-ghost use Rattle.std.specs.Prelude.{◌≡◌, ◌≢◌, ◌⊎◌, ◌≤◌, ◌<◌, ◌+◌, ℕ, List, length, take, drop};
+ghost use Rattle.std.specs.Prelude.{◌≡◌, ◌≢◌, ◌⊎◌, ◌≤◌, ◌<◌, ◌+◌, ℕ, List, [], ◌∷◌, ◌++◌, length, take, drop};
+ghost use Rattle.cdf_format.specs.Alone.{IsSound, ChangedWithin, LeavesFinding, FileStays, Leaves};
 ghost use Rattle.cdf_format.specs.Chains.{IsChain, chain};
 ghost use Rattle.cdf_format.specs.Content.{content, content_of};
 ghost use Rattle.cdf_format.specs.Fields.{word, number, size_at, type_at};
@@ -8,13 +9,13 @@ ghost use Rattle.cdf_format.specs.GoodImage.{IsGoodImage};
 ghost use Rattle.cdf_format.specs.Index.{Nodes, nodes_of};
 ghost use Rattle.cdf_format.specs.IndexOf.{IsIndex};
 ghost use Rattle.cdf_format.specs.IndexWalk.{met, index_walk};
-ghost use Rattle.cdf_format.specs.Owners.{times, owned_records};
+ghost use Rattle.cdf_format.specs.Owners.{times, owned_records, attribute_records, variable_records, unused_records};
 ghost use Rattle.cdf_format.specs.Phases.{image_phases, KeepsAllRules};
 ghost use Rattle.cdf_format.specs.Records.{Field};
 ghost use Rattle.cdf_format.specs.RecordTypes.{cdr_type};
 ghost use Rattle.cdf_format.specs.Rules.{AllHold};
 ghost use Rattle.cdf_format.specs.Sealed.{image_of, sealed};
-ghost use Rattle.cdf_format.specs.Shape.{Shape, HasShape, shape};
+ghost use Rattle.cdf_format.specs.Shape.{AttributeShape, VariableShape, Shape, HasShape, variables, shape};
 ghost use Rattle.cdf_format.specs.Tiles.{In, AreTiles, tiling};
 ghost use Rattle.cdf_format.specs.Walks.{whole};
 ghost use Rattle.cdf_format.specs.WellFormed.{WellFormed, Breaks};
@@ -89,4 +90,24 @@ pub fn owned_once()
 /// A file that keeps the rules asked so far keeps all rules, since nothing stands in it beside two records.
 pub fn keeps_all_rules()
     ensures { (f : List ℕ) → WellFormed f → KeepsAllRules f }
+{}
+
+/// A change within the records of one attribute leaves the tiling, the chains of the file, every other attribute, all variables, and what the file says.
+pub fn attr_alone()
+    ensures { (b now : List ℕ) (s : Shape) (before : List AttributeShape) (own : AttributeShape) (after : List AttributeShape) → IsSound b s → s.attributes ≡ before ++ own ∷ after → ChangedWithin b now (attribute_records own) → Leaves b now s (before ++ after) (variables s) × FileStays b now s }
+{}
+
+/// A change within the records of one variable leaves the tiling, the chains of the file, all attributes, every other variable, and what the file says.
+pub fn var_alone()
+    ensures { (b now : List ℕ) (s : Shape) (before : List VariableShape) (own : VariableShape) (after : List VariableShape) → IsSound b s → variables s ≡ before ++ own ∷ after → ChangedWithin b now (variable_records own) → Leaves b now s s.attributes (before ++ after) × FileStays b now s }
+{}
+
+/// A change within the CDR and the GDR, but for the fields that others are found and read by, leaves the tiling, the chains, all attributes and all variables.
+pub fn file_alone()
+    ensures { (b now : List ℕ) (s : Shape) (change : ChangedWithin b now (8 ∷ s.gdr ∷ [])) → IsSound b s → LeavesFinding b s change.touches → Leaves b now s s.attributes (variables s) }
+{}
+
+/// A change within unused records leaves the tiling, the chains, all attributes, all variables, and what the file says.
+pub fn unused_alone()
+    ensures { (b now : List ℕ) (s : Shape) → IsSound b s → ChangedWithin b now (unused_records b s) → Leaves b now s s.attributes (variables s) × FileStays b now s }
 {}
