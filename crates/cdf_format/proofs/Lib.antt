@@ -18,3 +18,4 @@ pub mod Kept
 pub mod LinksKept
 pub mod AloneLemmas
 pub mod OwnersApart
+pub mod LinksLemmas

@@ -31,3 +31,4 @@ pub mod VariableAllowances
 pub mod Locality
 pub mod GoodImage
 pub mod Alone
+pub mod Links
