@@ -19,3 +19,4 @@ pub mod LinksKept
 pub mod AloneLemmas
 pub mod OwnersApart
 pub mod LinksLemmas
+pub mod SoundLemmas

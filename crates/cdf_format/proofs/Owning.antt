@@ -11,7 +11,7 @@ use Rattle.cdf_format.specs.Rules.{Row, Hold}
 use Rattle.cdf_format.specs.Tiles.{In, Distinct, AreTiles}
 use Rattle.cdf_format.specs.Chains.{is_a, is_in}
 use Rattle.cdf_format.specs.Index.{Nodes, no_node, node, Entries, no_entry, block, lower, Leaf, nodes_of, leaves_of, entry_leaves}
-use Rattle.cdf_format.specs.IndexRules.{is_block, end_of, nodes_rows, entries_rows, leaf_rows, index_rows}
+use Rattle.cdf_format.specs.IndexRules.{is_block, end_of, nodes_rows, used_rows, leaf_rows, index_rows}
 use Rattle.cdf_format.specs.VariableRules.{cpr_link, is_cpr, variable_rows}
 use Rattle.cdf_format.specs.Shape.{AttributeShape, VariableShape, Shape, vdrs, variables, is_compressed, cpr_of, Each, HasEntries, HasVariable}
 use Rattle.cdf_format.specs.Owners.{Owner, File, OneAttribute, OneVariable, Unused, attribute_records, variable_records, unused_records, owned_by, owned_by_attributes, owned_by_variables, times, owned_records}
@@ -105,23 +105,23 @@ block_in b ts place e = elim (or_cases (is_a b ts vvr_type place) (is_a b ts cvv
 
 module _ (b ts : List ℕ) where
   mutual
-    unfolding nodes_rows entries_rows leaves_of entry_leaves
+    unfolding nodes_rows used_rows leaves_of entry_leaves
 
     pub blocks_in : (low high : ℕ) (nodes : Nodes) → Hold (nodes_rows b ts low high nodes) → (m : ℕ) → In m (map (λ (leaf : Leaf). leaf.place) (leaves_of nodes)) → is_block b ts m ≡ true
     blocks_in low high no_node h m i = absurd i
     blocks_in low high (node place room entries more) h m i =
-        let p = Hold-split (entries_rows b ts place low high entries) (nodes_rows b ts (end_of low entries) high more) h.1 in
+        let p = Hold-split (used_rows b ts place low high entries) (nodes_rows b ts (end_of low entries) high more) h.1 in
         elim (In-append m (map (λ (leaf : Leaf). leaf.place) (entry_leaves entries)) (map (λ (leaf : Leaf). leaf.place) (leaves_of more)) (subst (λ (x : List ℕ). In m x) (map-append (λ (leaf : Leaf). leaf.place) (entry_leaves entries) (leaves_of more)) i)) [
           | inl j ↦ entry_blocks_in place low high entries p.0 m j
           | inr j ↦ blocks_in (end_of low entries) high more p.1 m j
         ]
 
-    pub entry_blocks_in : (vxr low high : ℕ) (entries : Entries) → Hold (entries_rows b ts vxr low high entries) → (m : ℕ) → In m (map (λ (leaf : Leaf). leaf.place) (entry_leaves entries)) → is_block b ts m ≡ true
+    pub entry_blocks_in : (vxr low high : ℕ) (entries : Entries) → Hold (used_rows b ts vxr low high entries) → (m : ℕ) → In m (map (λ (leaf : Leaf). leaf.place) (entry_leaves entries)) → is_block b ts m ≡ true
     entry_blocks_in vxr low high no_entry h m i = absurd i
     entry_blocks_in vxr low high (block first last place packed entries) h m (inl e) = ap (is_block b ts) e ∙ h.0
     entry_blocks_in vxr low high (block first last place packed entries) h m (inr i) = entry_blocks_in vxr (suc last) high entries h.1.1 m i
     entry_blocks_in vxr low high (lower first last nodes entries) h m i =
-        let p = Hold-split (nodes_rows b ts first last nodes) (entries_rows b ts vxr (suc last) high entries) h.1.1 in
+        let p = Hold-split (nodes_rows b ts first last nodes) (used_rows b ts vxr (suc last) high entries) h.1.1 in
         elim (In-append m (map (λ (leaf : Leaf). leaf.place) (leaves_of nodes)) (map (λ (leaf : Leaf). leaf.place) (entry_leaves entries)) (subst (λ (x : List ℕ). In m x) (map-append (λ (leaf : Leaf). leaf.place) (leaves_of nodes) (entry_leaves entries)) i)) [
           | inl j ↦ blocks_in first last nodes p.0 m j
           | inr j ↦ entry_blocks_in vxr (suc last) high entries p.1 m j

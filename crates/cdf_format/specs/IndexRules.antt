@@ -39,14 +39,14 @@ unfoldable mutual
   -- Entries are in ascending order, along a chain too, and those of a lower chain lie within the entry that names it.
   pub nodes_rows : List ℕ → List ℕ → ℕ → ℕ → Nodes → List Row
   nodes_rows b records low high no_node = []
-  nodes_rows b records low high (node place room entries more) = row 2 place (has_room b place) ∷ entries_rows b records place low high entries ++ nodes_rows b records (end_of low entries) high more
+  nodes_rows b records low high (node place room entries more) = row 2 place (has_room b place) ∷ used_rows b records place low high entries ++ nodes_rows b records (end_of low entries) high more
 
-  pub entries_rows : List ℕ → List ℕ → ℕ → ℕ → ℕ → Entries → List Row
-  entries_rows b records vxr low high no_entry = []
-  entries_rows b records vxr low high (block first last place packed entries) =
-      row 3 vxr (is_block b records place) ∷ row 4 vxr (is_between low high first last) ∷ entries_rows b records vxr (suc last) high entries
-  entries_rows b records vxr low high (lower first last nodes entries) =
-      row 4 vxr (is_between low high first last) ∷ unread_lower vxr ++ nodes_rows b records first last nodes ++ entries_rows b records vxr (suc last) high entries
+  pub used_rows : List ℕ → List ℕ → ℕ → ℕ → ℕ → Entries → List Row
+  used_rows b records vxr low high no_entry = []
+  used_rows b records vxr low high (block first last place packed entries) =
+      row 3 vxr (is_block b records place) ∷ row 4 vxr (is_between low high first last) ∷ used_rows b records vxr (suc last) high entries
+  used_rows b records vxr low high (lower first last nodes entries) =
+      row 4 vxr (is_between low high first last) ∷ unread_lower vxr ++ nodes_rows b records first last nodes ++ used_rows b records vxr (suc last) high entries
 
 abbrev pub packed_bytes : List ℕ → ℕ → List ℕ
 packed_bytes b cvvr = field_bytes b cvvr (cvvr_packed (number b cvvr cvvr_c_size))
@@ -60,14 +60,18 @@ abbrev pub holds_packed : List ℕ → ℕ → Bool
 holds_packed b cvvr = nat_le (number b cvvr cvvr_c_size) 0x7fffffffffffffff && nat_le (24 + number b cvvr cvvr_c_size) (size_at b cvvr)
 
 -- the block of a leaf
-abbrev pub leaf_rows : List ℕ → List ℕ → ℕ → Leaf → List Row
-leaf_rows b records vdr leaf =
-    asked (is_a b records vvr_type leaf.place) (row 5 leaf.place (nat_le (12 + plain_size b vdr leaf) (size_at b leaf.place)) ∷ [])
-    ++ asked (is_a b records cvvr_type leaf.place) (
+abbrev pub vvr_rows : List ℕ → ℕ → Leaf → List Row
+vvr_rows b vdr leaf = row 5 leaf.place (nat_le (12 + plain_size b vdr leaf) (size_at b leaf.place)) ∷ []
+
+abbrev pub cvvr_rows : List ℕ → ℕ → Leaf → List Row
+cvvr_rows b vdr leaf =
     row 6 leaf.place (is_compressed b vdr && holds_packed b leaf.place)
     ∷ row 7 leaf.place (nat_le (plain_size b vdr leaf) record_limit)
     ∷ row 8 leaf.place (unpacks_to (packed_bytes b leaf.place) (plain_size b vdr leaf))
-    ∷ [])
+    ∷ []
+
+abbrev pub leaf_rows : List ℕ → List ℕ → ℕ → Leaf → List Row
+leaf_rows b records vdr leaf = asked (is_a b records vvr_type leaf.place) (vvr_rows b vdr leaf) ++ asked (is_a b records cvvr_type leaf.place) (cvvr_rows b vdr leaf)
 
 -- an index that is one
 abbrev pub index_rows : List ℕ → List ℕ → ℕ → Nodes → List Row
