@@ -11,7 +11,6 @@ pub mod GoodImageLemmas
 pub mod Tests
 pub mod BareFile
 pub mod Owning
-pub mod ImageOf
 pub mod BytesLemmas
 pub mod ChangedLemmas
 pub mod Kept
@@ -20,3 +19,4 @@ pub mod AloneLemmas
 pub mod OwnersApart
 pub mod LinksLemmas
 pub mod SoundLemmas
+pub mod ImageOf

@@ -1,14 +1,16 @@
 //! What follows from the definitions, each law as the clause of a function.
 
-ghost use Rattle.std.specs.Prelude.{◌≡◌, ◌≢◌, ◌⊎◌, ◌≤◌, ◌<◌, ◌+◌, ℕ, List, [], ◌∷◌, ◌++◌, length, take, drop};
+ghost use Rattle.std.specs.Prelude.{◌≡◌, ◌≢◌, ◌⊎◌, ◌≤◌, ◌<◌, ◌+◌, ℕ, List, [], ◌∷◌, ◌++◌, true, length, take, drop};
 ghost use Rattle.cdf_format.specs.Alone.{IsSound, ChangedWithin, LeavesFinding, FileStays, Leaves};
-ghost use Rattle.cdf_format.specs.Chains.{IsChain, chain};
+ghost use Rattle.cdf_format.specs.Changed.{Touch, touch, Changed, Placed};
+ghost use Rattle.cdf_format.specs.Chains.{IsChain, Leads, is_linkable, chain};
 ghost use Rattle.cdf_format.specs.Content.{content, content_of};
 ghost use Rattle.cdf_format.specs.Fields.{word, number, size_at, type_at};
 ghost use Rattle.cdf_format.specs.GoodImage.{IsGoodImage};
 ghost use Rattle.cdf_format.specs.Index.{Nodes, nodes_of};
 ghost use Rattle.cdf_format.specs.IndexOf.{IsIndex};
 ghost use Rattle.cdf_format.specs.IndexWalk.{met, index_walk};
+ghost use Rattle.cdf_format.specs.Links.{ChainHead, with_members, IsHead, AllSpare, IsLinkAfter, IsOther};
 ghost use Rattle.cdf_format.specs.Owners.{times, owned_records, attribute_records, variable_records, unused_records};
 ghost use Rattle.cdf_format.specs.Phases.{image_phases, KeepsAllRules};
 ghost use Rattle.cdf_format.specs.Records.{Field};
@@ -16,7 +18,7 @@ ghost use Rattle.cdf_format.specs.RecordTypes.{cdr_type};
 ghost use Rattle.cdf_format.specs.Rules.{AllHold};
 ghost use Rattle.cdf_format.specs.Sealed.{image_of, sealed};
 ghost use Rattle.cdf_format.specs.Shape.{AttributeShape, VariableShape, Shape, HasShape, variables, shape};
-ghost use Rattle.cdf_format.specs.Tiles.{In, AreTiles, tiling};
+ghost use Rattle.cdf_format.specs.Tiles.{In, Distinct, AreTiles, tiling};
 ghost use Rattle.cdf_format.specs.Walks.{whole};
 ghost use Rattle.cdf_format.specs.WellFormed.{WellFormed, Breaks};
 
@@ -110,4 +112,15 @@ pub fn file_alone()
 /// A change within unused records leaves the tiling, the chains, all attributes, all variables, and what the file says.
 pub fn unused_alone()
     ensures { (b now : List ℕ) (s : Shape) → IsSound b s → ChangedWithin b now (unused_records b s) → Leaves b now s s.attributes (variables s) × FileStays b now s }
+{}
+
+/// A link that is written changes the chain that it is behind a front part of, which goes on with the records that the link then leads through; every other chain stays. More may be touched that meets no link.
+pub fn link_alone()
+    ensures own { (b now records all : List ℕ) (upto holder place : ℕ) (more : List Touch) (c : ChainHead) (front rest tail : List ℕ) → AreTiles b 8 upto records → upto ≤ length b → ((member : ℕ) → In member records → In member all) → Changed b now (touch holder place 8 ∷ more) → Placed b records upto (touch holder place 8 ∷ more) → IsHead b records (with_members c (front ++ rest)) → IsLinkAfter c front holder place → AllSpare more (with_members c front) → Leads now (word now (holder + place) 8) tail 0 → ((member : ℕ) → In member tail → is_linkable now all c.type member ≡ true) → Distinct (front ++ tail) → IsHead now all (with_members c (front ++ tail)) }
+    ensures others { (b now records all : List ℕ) (upto holder place : ℕ) (more : List Touch) (c : ChainHead) (front rest : List ℕ) (other : ChainHead) → AreTiles b 8 upto records → upto ≤ length b → ((member : ℕ) → In member records → In member all) → Changed b now (touch holder place 8 ∷ more) → Placed b records upto (touch holder place 8 ∷ more) → IsHead b records (with_members c (front ++ rest)) → IsLinkAfter c front holder place → IsHead b records other → IsOther c front other → AllSpare more other → IsHead now all other }
+{}
+
+/// The image of a file that keeps all rules has records that are long enough for what is read of them, and none is owned twice.
+pub fn kept_rules_are_sound()
+    ensures { (f : List ℕ) → KeepsAllRules f → IsSound (image_of f) (shape (image_of f)) }
 {}
