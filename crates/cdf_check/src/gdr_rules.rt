@@ -5,7 +5,7 @@ ghost use Rattle.cdf_base.specs.Causes.{HasCauseOf};
 ghost use Rattle.cdf_model.specs.Limits.{image_limit};
 ghost use Rattle.cdf_format.specs.Fields.{counted, has_bit, r_sizes};
 ghost use Rattle.cdf_format.specs.NotRead.{is_bare, no_counts};
-ghost use Rattle.cdf_format.specs.WellFormed.{phase3, has_gdr, gdr_rows, is_gdr, is_size};
+ghost use Rattle.cdf_format.specs.FileRules.{phase3, has_gdr, gdr_rows, is_gdr, is_size};
 ghost use Rattle.cdf_records.specs.Heads.{cdr_at, gdr_at};
 ghost use Rattle.cdf_records.specs.Pieces.{AreBytes};
 ghost use Rattle.cdf_check.specs.Verdicts.{Finds};

@@ -8,7 +8,8 @@ use Rattle.cdf_format.specs.RecordTypes.{cdr_type, gdr_type, adr_type, r_vdr_typ
 use Rattle.cdf_format.specs.Rules.{Hold, asked, AllHold}
 use Rattle.cdf_format.specs.Sealed.{has_checksum, image_of}
 use Rattle.cdf_format.specs.NotRead.{is_bare, no_links, no_counts, unread_records}
-use Rattle.cdf_format.specs.WellFormed.{WellFormed, is_record, gdr_rows}
+use Rattle.cdf_format.specs.WellFormed.{WellFormed}
+use Rattle.cdf_format.specs.FileRules.{is_record, gdr_rows}
 use Rattle.cdf_format.specs.Tiles.{In}
 use Rattle.cdf_format.specs.Chains.{IsChain}
 use Rattle.cdf_format.specs.Shape.{Shape, HasShape}

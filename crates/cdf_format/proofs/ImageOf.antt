@@ -16,7 +16,7 @@ use Rattle.cdf_format.specs.Alone.{IsSound}
 use Rattle.cdf_format.specs.Records.{gdr_r_num_dims}
 use Rattle.cdf_format.specs.RecordTypes.{gdr_type, fixed_size}
 use Rattle.cdf_format.specs.Rules.{Hold, asked}
-use Rattle.cdf_format.specs.WellFormed.{gdr_rows, is_record}
+use Rattle.cdf_format.specs.FileRules.{gdr_rows, is_record}
 use Rattle.cdf_format.proofs.SoundLemmas.{sound_of_good}
 use Rattle.cdf_format.proofs.ChainsLemmas.{is_a-in, is_a-type}
 use Rattle.cdf_format.proofs.TilesLemmas.{tile_lies}

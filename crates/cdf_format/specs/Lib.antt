@@ -14,13 +14,14 @@ pub mod VariableFields
 pub mod Rules
 pub mod Sealed
 pub mod NotRead
-pub mod WellFormed
+pub mod FileRules
 pub mod RecordRules
 pub mod ChainRules
 pub mod AttributeRules
 pub mod VariableRules
 pub mod IndexRules
 pub mod Phases
+pub mod WellFormed
 pub mod Content
 pub mod Changed
 pub mod Placement

@@ -89,7 +89,7 @@ BlocksFollow b now c = Unit {0}
 
 -- ---- a command
 
--- A command that goes makes of one good image another. It takes records at these places, of so many bytes.
+-- A command that goes makes of one good image another. It takes records at these places, of so many bytes, 28 at least, no more in all than it has room for.
 pub record Follows (b : List ℕ) (c : Command) (now : List ℕ) : Type 0 where
   pub reply : Reply
   pub goes : step (content b) c ≡ Go (content now) reply
@@ -98,6 +98,7 @@ pub record Follows (b : List ℕ) (c : Command) (now : List ℕ) : Type 0 where
   pub within : length now ≤ length b + room b c
   pub reads : only_reads c ≡ true → now ≡ b
   pub takes : List (ℕ × ℕ)
+  pub takes_enough : Each (λ take. 28 ≤ take.1) takes
   pub takes_within : sum (map (λ take. take.1) takes) ≤ room b c
   pub keeps : AllKeep b now c takes (owned b (shape b))
   pub blocks : BlocksFollow b now c

@@ -7,7 +7,7 @@ use Rattle.cdf_format.specs.Sealed.{has_checksum, image_of}
 use Rattle.cdf_format.specs.Tiles.{tiles}
 use Rattle.cdf_format.specs.Owners.{times, owned_records}
 use Rattle.cdf_format.specs.Shape.{shape}
-use Rattle.cdf_format.specs.WellFormed.{phase0, phase1, phase2, phase3}
+use Rattle.cdf_format.specs.FileRules.{phase0, phase1, phase2, phase3}
 use Rattle.cdf_format.specs.RecordRules.{phase4}
 use Rattle.cdf_format.specs.ChainRules.{phase5}
 use Rattle.cdf_format.specs.AttributeRules.{phase6}
@@ -29,8 +29,12 @@ phase10 f = asked (has_checksum f) (row 1 (length (image_of f)) (bytes_eq (drop 
 abbrev pub image_phases : List ℕ → List (List Row)
 image_phases b = phase4 b ∷ phase5 b ∷ phase6 b ∷ phase7 b ∷ phase8 b ∷ phase9 b ∷ []
 
+-- the rules on the file as far as its two first records
+abbrev pub first_phases : List ℕ → List (List Row)
+first_phases f = phase0 f ∷ phase1 f ∷ phase2 f ∷ phase3 f ∷ []
+
 abbrev pub all_phases : List ℕ → List (List Row)
-all_phases f = phase0 f ∷ phase1 f ∷ phase2 f ∷ phase3 f ∷ image_phases (image_of f) ++ phase10 f ∷ []
+all_phases f = first_phases f ++ image_phases (image_of f) ++ phase10 f ∷ []
 
 -- each rule of all phases holds
 abbrev pub KeepsAllRules : List ℕ → Type 0

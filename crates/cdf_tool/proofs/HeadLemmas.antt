@@ -8,7 +8,8 @@ use Rattle.std.specs.Int.{w32, cast_signed, cast_unsigned}
 use Rattle.cdf_format.specs.Content.{content, data_set_of, majority_of}
 use Rattle.cdf_format.specs.Fields.{word, signed4, has_bit, gdr_offset, version, flags, size_at, type_at, r_dimensions, r_sizes}
 use Rattle.cdf_format.specs.Rules.{Hold, asked}
-use Rattle.cdf_format.specs.WellFormed.{WellFormed, has_gdr, is_gdr, is_record, gdr_rows}
+use Rattle.cdf_format.specs.WellFormed.{WellFormed}
+use Rattle.cdf_format.specs.FileRules.{has_gdr, is_gdr, is_record, gdr_rows}
 use Rattle.cdf_format.proofs.Images.{image_of-whole}
 use Rattle.cdf_model.specs.declared.command.Command.{Command}
 use Rattle.cdf_model.specs.declared.command.Command.TheVariants.{Info}
