@@ -23,6 +23,7 @@ use Rattle.cdf_format.proofs.Members.{either}
 use Rattle.cdf_format.proofs.ChainsLemmas.{is_a-from}
 use Rattle.cdf_format.proofs.ShapeLemmas.{content_is}
 use Rattle.cdf_format.proofs.GoodImageLemmas.{rules_by_good}
+use Rattle.cdf_model.specs.declared.head.Head.{Head}
 
 -- a record and its size
 pub record HasRecord (f : List ℕ) (place type least : ℕ) : Type 0 where
@@ -90,6 +91,21 @@ bare_of f holds =
       a_count = c'.0;
       z_count = c'.1;
     }
+
+-- a head by the fields of the two records
+abbrev pub head_by_fields : List ℕ → Head
+head_by_fields f = record {
+  version = pos 3;
+  release = release f;
+  increment = increment f;
+  encoding = encoding f;
+  majority = majority_of (has_bit (flags f) 0);
+  md5 = has_checksum f;
+  rdims = r_sizes f (gdr_offset f);
+  attrs = attributes f (gdr_offset f);
+  rvars = r_variables f (gdr_offset f);
+  zvars = z_variables f (gdr_offset f);
+}
 
 abbrev pub bare_shape : ℕ → Shape
 bare_shape g = record { records = 8 ∷ g ∷ []; gdr = g; attributes = []; r_variables = []; z_variables = []; unused = [] }
@@ -175,19 +191,8 @@ module _ (f : List ℕ) (holds : WellFormed f) where
       let last : Hold (phase10 f) = rw none tt in
       (holds.0, (holds.1.0, (holds.1.1.0, (holds.1.1.1.0, (image.0, (image.1.0, (image.1.1.0, (image.1.1.1.0, (image.1.1.1.1.0, (image.1.1.1.1.1.0, (last, tt)))))))))))
 
-  -- the head of its content, by its fields
-  pub head_is_fields : head_of (content f) ≡ record {
-    version = pos 3;
-    release = release f;
-    increment = increment f;
-    encoding = encoding f;
-    majority = majority_of (has_bit (flags f) 0);
-    md5 = has_checksum f;
-    rdims = r_sizes f (gdr_offset f);
-    attrs = attributes f (gdr_offset f);
-    rvars = r_variables f (gdr_offset f);
-    zvars = z_variables f (gdr_offset f);
-  }
+  -- the head of its content
+  pub head_is_fields : head_of (content f) ≡ head_by_fields f
   head_is_fields =
       let r = bare_of f holds in
       let a : 0 ≡ attributes f (gdr_offset f) = sym (eq_of _ _ r.a_count) in

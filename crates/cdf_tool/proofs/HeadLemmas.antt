@@ -10,6 +10,7 @@ use Rattle.cdf_format.specs.Fields.{word, signed4, has_bit, gdr_offset, version,
 use Rattle.cdf_format.specs.Rules.{Hold, asked}
 use Rattle.cdf_format.specs.WellFormed.{WellFormed}
 use Rattle.cdf_format.specs.FileRules.{has_gdr, is_gdr, is_record, gdr_rows}
+use Rattle.cdf_format.proofs.BareFile.{head_by_fields, head_is_fields}
 use Rattle.cdf_format.proofs.Images.{image_of-whole}
 use Rattle.cdf_model.specs.declared.command.Command.{Command}
 use Rattle.cdf_model.specs.declared.command.Command.TheVariants.{Info}
@@ -96,7 +97,7 @@ head_is f b b' cdr gdr rdims holds same same' cdr-is gdr-is first second sizes =
     let attributes = unsigned_is f g 84 (g + 48) bytes (omega arith) (omega arith) in
     let r_variables = unsigned_is f g 84 (g + 44) bytes (omega arith) (omega arith) in
     let z_variables = unsigned_is f g 84 (g + 60) bytes (omega arith) (omega arith) in
-    let own : head_with (cdr_at f 8) (gdr_at f g) (r_sizes f g) ≡ head_of (content f) = λ i. record {
+    let own : head_with (cdr_at f 8) (gdr_at f g) (r_sizes f g) ≡ head_by_fields f = λ i. record {
       version = version i;
       release = signed4 f 32;
       increment = signed4 f 52;
@@ -108,7 +109,7 @@ head_is f b b' cdr gdr rdims holds same same' cdr-is gdr-is first second sizes =
       rvars = r_variables i;
       zvars = z_variables i;
     } in
-    from_file ∙ own ∙ ap (λ (b : List ℕ). head_of (content b)) (sym (image_of-whole f holds))
+    from_file ∙ own ∙ sym (head_is_fields f holds) ∙ ap (λ (b : List ℕ). head_of (content b)) (sym (image_of-whole f holds))
 
 pub only_info : (c : Command) → Info ≡ c
 only_info Info = refl
