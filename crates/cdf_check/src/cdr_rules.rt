@@ -2,7 +2,7 @@ ghost use Rattle.std.specs.Prelude.{◌≡◌, ◌+◌, ◌≤◌, ◌==◌, len
 ghost use Rattle.cdf_base.specs.Causes.{HasCauseOf};
 ghost use Rattle.cdf_model.specs.Encodings.{encoding_at};
 ghost use Rattle.cdf_format.specs.Fields.{encoding, version};
-ghost use Rattle.cdf_format.specs.WellFormed.{phase2, is_record};
+ghost use Rattle.cdf_format.specs.FileRules.{phase2, is_record};
 ghost use Rattle.cdf_records.specs.Heads.{cdr_at};
 ghost use Rattle.cdf_records.specs.Pieces.{AreBytes};
 ghost use Rattle.cdf_check.specs.Verdicts.{Finds};

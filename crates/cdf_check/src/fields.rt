@@ -1,6 +1,6 @@
 ghost use Rattle.std.specs.Prelude.{◌≡◌, ◌+◌, ◌^◌, ◌<◌, ◌≤◌, length};
 ghost use Rattle.cdf_format.specs.Fields.{has_bit, signed4, size_at, type_at, word};
-ghost use Rattle.cdf_format.specs.WellFormed.{is_record};
+ghost use Rattle.cdf_format.specs.FileRules.{is_record};
 
 use cdf_area::Area;
 

@@ -1,7 +1,7 @@
 ghost use Rattle.std.specs.Prelude.{◌≡◌, ◌+◌, ◌≤◌, length, IfOk};
 ghost use Rattle.cdf_base.specs.Causes.{HasCauseOf};
 ghost use Rattle.cdf_format.specs.Fields.{word};
-ghost use Rattle.cdf_format.specs.WellFormed.{phase0, phase1};
+ghost use Rattle.cdf_format.specs.FileRules.{phase0, phase1};
 ghost use Rattle.cdf_check.specs.Verdicts.{Finds};
 
 use crate::verdict::Broken;

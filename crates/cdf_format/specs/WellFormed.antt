@@ -1,75 +1,12 @@
--- The rules of a well-formed file, phase by phase: its length, its magic numbers, and the two records that each file has. A rule 99 refuses what is not read so far.
-use Rattle.std.specs.Prelude.{ℕ, ◌+◌, ◌-◌, ◌*◌, List, [], ◌∷◌, length, Bool, not, is_some, ◌&&◌, ◌||◌, ◌==◌, nat_le}
-use Rattle.std.specs.List.{list_all}
-use Rattle.cdf_model.specs.Limits.{image_limit}
-use Rattle.cdf_model.specs.Encodings.{encoding_at}
-use Rattle.cdf_format.specs.Fields.{word, number, integer8, counted, has_bit, size_at, type_at, gdr_offset, version, encoding, flags, r_variable_head, z_variable_head, attribute_head, eof, r_variables, attributes, r_dimensions, z_variables, unused_head, r_sizes}
-use Rattle.cdf_format.specs.Records.{gdr_eof, gdr_r_num_dims}
-use Rattle.cdf_format.specs.Rules.{Row, row, asked, AllHold, FirstBroken}
-use Rattle.cdf_format.specs.Sealed.{has_checksum, trailer_length, sealed}
+-- A well-formed file: the rules of each phase that is asked hold.
+use Rattle.std.specs.Prelude.{ℕ, List}
+use Rattle.cdf_format.specs.Phases.{first_phases}
+use Rattle.cdf_format.specs.Rules.{Row, AllHold, FirstBroken}
+use Rattle.cdf_format.specs.Sealed.{sealed}
 
--- the length of the file: the bytes of the magic numbers, and the longest image with its trailer
-abbrev pub phase0 : List ℕ → List Row
-phase0 f = row 1 0 (nat_le 8 (length f)) ∷ row 2 0 (nat_le (length f) (image_limit + 16)) ∷ []
-
--- the magic numbers: version 3, not compressed as a whole
-abbrev pub phase1 : List ℕ → List Row
-phase1 f = row 1 0 (word f 0 4 == 0xcdf30001) ∷ row 2 4 (word f 4 4 == 0x0000ffff) ∷ []
-
--- the record at a place has this type, at least this size, and ends within the file
-abbrev pub is_record : List ℕ → ℕ → ℕ → ℕ → Bool
-is_record f place type size = (type_at f place == type) && (nat_le size (size_at f place) && nat_le (place + size_at f place) (length f))
-
--- the CDF Descriptor Record: version 3, an encoding that is read, single-file, and if a checksum is in use, it is MD5; files with one are not read so far
-abbrev pub phase2 : List ℕ → List Row
-phase2 f =
-    row 1 8 (nat_le 320 (length f))
-    ∷ row 2 8 (is_record f 8 1 312)
-    ∷ row 3 8 (version f == 3)
-    ∷ row 4 8 (is_some (encoding_at (encoding f)))
-    ∷ row 5 8 (has_bit (flags f) 1)
-    ∷ row 6 8 (not (has_checksum f) || has_bit (flags f) 3)
-    ∷ row 99 8 (not (has_checksum f))
-    ∷ []
-
--- GDRoffset leaves room for the fixed part of a record
-abbrev pub has_gdr : List ℕ → Bool
-has_gdr f = nat_le 8 (gdr_offset f) && nat_le (gdr_offset f + 84) (length f)
-
--- a record of this type, with at most 10 dimensions and room for their sizes
-abbrev pub is_gdr : List ℕ → ℕ → Bool
-is_gdr f g = nat_le (number f g gdr_r_num_dims) 10 && is_record f g 2 (84 + 4 * r_dimensions f g)
-
--- the size of a dimension is a positive number of 4 bytes with a sign
-abbrev pub is_size : ℕ → Bool
-is_size n = nat_le 1 n && nat_le n 2147483647
-
--- no chain begins in it
-abbrev pub no_links : List ℕ → ℕ → Bool
-no_links f g = (r_variable_head f g == 0) && ((z_variable_head f g == 0) && ((attribute_head f g == 0) && (unused_head f g == 0)))
-
--- it counts no variable and no attribute
-abbrev pub no_counts : List ℕ → ℕ → Bool
-no_counts f g = (r_variables f g == 0) && ((attributes f g == 0) && (z_variables f g == 0))
-
--- it follows the first record and ends the file, and there is nothing else
-abbrev pub is_bare : List ℕ → ℕ → Bool
-is_bare f g = (g == 8 + size_at f 8) && ((g + size_at f g == length f) && (no_links f g && no_counts f g))
-
--- the Global Descriptor Record at a place
-abbrev pub gdr_rows : List ℕ → ℕ → List Row
-gdr_rows f g =
-    row 2 g (is_gdr f g)
-    ∷ row 3 g (list_all is_size (r_sizes f g))
-    ∷ row 4 g (eof f g == length f - trailer_length f)
-    ∷ row 5 g (nat_le (counted (integer8 f g gdr_eof)) image_limit)
-    ∷ asked (is_gdr f g) (row 99 g (is_bare f g) ∷ [])
-
-abbrev pub phase3 : List ℕ → List Row
-phase3 f = row 1 8 (has_gdr f) ∷ asked (has_gdr f) (gdr_rows f (gdr_offset f))
-
+-- The phases that are asked so far, in place of `all_phases`: a file that keeps rule 3.99 keeps the others too.
 abbrev pub phases : List ℕ → List (List Row)
-phases f = phase0 f ∷ phase1 f ∷ phase2 f ∷ phase3 f ∷ []
+phases f = first_phases f
 
 abbrev pub WellFormed : List ℕ → Type 0
 WellFormed f = AllHold (phases f)

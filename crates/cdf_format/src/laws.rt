@@ -1,8 +1,25 @@
 //! What follows from the definitions, each law as the clause of a function.
 
-ghost use Rattle.std.specs.Prelude.{◌≡◌, ℕ, List, take, drop};
-ghost use Rattle.cdf_format.specs.Fields.{word};
+ghost use Rattle.std.specs.Prelude.{◌≡◌, ◌≢◌, ◌⊎◌, ◌≤◌, ◌<◌, ◌+◌, ℕ, List, [], ◌∷◌, ◌++◌, true, length, take, drop};
+ghost use Rattle.cdf_format.specs.Alone.{IsSound, ChangedWithin, LeavesFinding, FileStays, Leaves};
+ghost use Rattle.cdf_format.specs.Changed.{Touch, touch, Changed, Placed};
+ghost use Rattle.cdf_format.specs.Chains.{IsChain, Leads, is_linkable, chain};
+ghost use Rattle.cdf_format.specs.Content.{content, content_of};
+ghost use Rattle.cdf_format.specs.Fields.{word, number, size_at, type_at};
+ghost use Rattle.cdf_format.specs.GoodImage.{IsGoodImage};
+ghost use Rattle.cdf_format.specs.Index.{Nodes, nodes_of};
+ghost use Rattle.cdf_format.specs.IndexOf.{IsIndex};
+ghost use Rattle.cdf_format.specs.IndexWalk.{met, index_walk};
+ghost use Rattle.cdf_format.specs.Links.{ChainHead, with_members, IsHead, AllSpare, IsLinkAfter, IsOther};
+ghost use Rattle.cdf_format.specs.Owners.{times, owned_records, attribute_records, variable_records, unused_records};
+ghost use Rattle.cdf_format.specs.Phases.{image_phases, KeepsAllRules};
+ghost use Rattle.cdf_format.specs.Records.{Field};
+ghost use Rattle.cdf_format.specs.RecordTypes.{cdr_type};
+ghost use Rattle.cdf_format.specs.Rules.{AllHold};
 ghost use Rattle.cdf_format.specs.Sealed.{image_of, sealed};
+ghost use Rattle.cdf_format.specs.Shape.{AttributeShape, VariableShape, Shape, HasShape, variables, shape};
+ghost use Rattle.cdf_format.specs.Tiles.{In, Distinct, AreTiles, tiling};
+ghost use Rattle.cdf_format.specs.Walks.{whole};
 ghost use Rattle.cdf_format.specs.WellFormed.{WellFormed, Breaks};
 
 /// A field that is read from a piece of the bytes is the field of the bytes.
@@ -18,4 +35,92 @@ pub fn broken_is_not_well_formed()
 /// A well-formed file is its image, sealed.
 pub fn image_is_sealed()
     ensures { (f : List ℕ) → WellFormed f → sealed (image_of f) ≡ f }
+{}
+
+/// Two different records of an image share no byte.
+pub fn tiles_apart()
+    ensures { (b : List ℕ) (from upto : ℕ) (tiles : List ℕ) (one other : ℕ) → AreTiles b from upto tiles → In one tiles → In other tiles → one ≢ other → (one + size_at b one ≤ other) ⊎ (other + size_at b other ≤ one) }
+{}
+
+/// An image has at most one tiling, which is the one that is computed.
+pub fn tiling_is_computed()
+    ensures sound { (b tiles : List ℕ) → tiling b ≡ whole tiles → AreTiles b 8 (length b) tiles }
+    ensures complete { (b tiles : List ℕ) → AreTiles b 8 (length b) tiles → tiling b ≡ whole tiles }
+{}
+
+/// From a link of an image with a tiling begins at most one chain, which is the one that is computed.
+pub fn chain_is_computed()
+    ensures sound { (b tiles : List ℕ) (type holder : ℕ) (head : Field) (members : List ℕ) → chain b tiles type holder head ≡ whole members → IsChain b tiles type (number b holder head) members }
+    ensures complete { (b tiles : List ℕ) (upto type holder : ℕ) (head : Field) (members : List ℕ) → AreTiles b 8 upto tiles → IsChain b tiles type (number b holder head) members → chain b tiles type holder head ≡ whole members }
+{}
+
+/// From a link of an image with a tiling begins at most one index, which is the one that is computed.
+pub fn index_is_computed()
+    ensures sound { (b tiles : List ℕ) (upto holder : ℕ) (head : Field) (seen : List ℕ) (nodes : Nodes) → AreTiles b 8 upto tiles → index_walk b tiles holder head ≡ met seen nodes → IsIndex b tiles (number b holder head) nodes }
+    ensures complete { (b tiles : List ℕ) (upto holder : ℕ) (head : Field) (nodes : Nodes) → AreTiles b 8 upto tiles → IsIndex b tiles (number b holder head) nodes → index_walk b tiles holder head ≡ met (nodes_of nodes) nodes }
+{}
+
+/// An image has at most one shape, which is the one that is computed.
+pub fn shape_unique()
+    ensures unique { (b : List ℕ) (s other : Shape) → HasShape b s → HasShape b other → s ≡ other }
+    ensures computed { (b : List ℕ) (s : Shape) → HasShape b s → shape b ≡ s }
+{}
+
+/// An image with a shape means one data set.
+pub fn content_unique()
+    ensures unique { (b : List ℕ) (s other : Shape) → HasShape b s → HasShape b other → content_of b s ≡ content_of b other }
+    ensures computed { (b : List ℕ) (s : Shape) → HasShape b s → content b ≡ content_of b s }
+{}
+
+/// The rules of phases 4 to 9 hold exactly where an image is good by its shape.
+pub fn good_by_shape()
+    ensures from_rules { (b : List ℕ) → 8 < length b → type_at b 8 ≡ cdr_type → AllHold (image_phases b) → IsGoodImage b (shape b) }
+    ensures to_rules { (b : List ℕ) (s : Shape) → IsGoodImage b s → AllHold (image_phases b) }
+{}
+
+/// In the image of a file that keeps all rules, each link that is followed leads to a record of the image; so do the entries of indexes and the links to parameters.
+pub fn tile_of()
+    ensures shaped { (f : List ℕ) → KeepsAllRules f → HasShape (image_of f) (shape (image_of f)) }
+    ensures owned { (f : List ℕ) (place : ℕ) → KeepsAllRules f → In place (owned_records (image_of f) (shape (image_of f))) → In place (shape (image_of f)).records }
+{}
+
+/// In a good image each record, and nothing else, stands exactly once among the owned ones.
+pub fn owned_once()
+    ensures { (b : List ℕ) (s : Shape) (place : ℕ) → IsGoodImage b s → times place (owned_records b s) ≡ times place s.records }
+{}
+
+/// A file that keeps the rules asked so far keeps all rules, since nothing stands in it beside two records.
+pub fn keeps_all_rules()
+    ensures { (f : List ℕ) → WellFormed f → KeepsAllRules f }
+{}
+
+/// A change within the records of one attribute leaves the tiling, the chains of the file, every other attribute, all variables, and what the file says.
+pub fn attr_alone()
+    ensures { (b now : List ℕ) (s : Shape) (before : List AttributeShape) (own : AttributeShape) (after : List AttributeShape) → IsSound b s → s.attributes ≡ before ++ own ∷ after → ChangedWithin b now (attribute_records own) → Leaves b now s (before ++ after) (variables s) × FileStays b now s }
+{}
+
+/// A change within the records of one variable leaves the tiling, the chains of the file, all attributes, every other variable, and what the file says.
+pub fn var_alone()
+    ensures { (b now : List ℕ) (s : Shape) (before : List VariableShape) (own : VariableShape) (after : List VariableShape) → IsSound b s → variables s ≡ before ++ own ∷ after → ChangedWithin b now (variable_records own) → Leaves b now s s.attributes (before ++ after) × FileStays b now s }
+{}
+
+/// A change within the CDR and the GDR, but for the fields that others are found and read by, leaves the tiling, the chains, all attributes and all variables.
+pub fn file_alone()
+    ensures { (b now : List ℕ) (s : Shape) (change : ChangedWithin b now (8 ∷ s.gdr ∷ [])) → IsSound b s → LeavesFinding b s change.touches → Leaves b now s s.attributes (variables s) }
+{}
+
+/// A change within unused records leaves the tiling, the chains, all attributes, all variables, and what the file says.
+pub fn unused_alone()
+    ensures { (b now : List ℕ) (s : Shape) → IsSound b s → ChangedWithin b now (unused_records b s) → Leaves b now s s.attributes (variables s) × FileStays b now s }
+{}
+
+/// A link that is written changes the chain that it is behind a front part of, which goes on with the records that the link then leads through; every other chain stays. More may be touched that meets no link.
+pub fn link_alone()
+    ensures own { (b now records all : List ℕ) (upto holder place : ℕ) (more : List Touch) (c : ChainHead) (front rest tail : List ℕ) → AreTiles b 8 upto records → upto ≤ length b → ((member : ℕ) → In member records → In member all) → Changed b now (touch holder place 8 ∷ more) → Placed b records upto (touch holder place 8 ∷ more) → IsHead b records (with_members c (front ++ rest)) → IsLinkAfter c front holder place → AllSpare more (with_members c front) → Leads now (word now (holder + place) 8) tail 0 → ((member : ℕ) → In member tail → is_linkable now all c.type member ≡ true) → Distinct (front ++ tail) → IsHead now all (with_members c (front ++ tail)) }
+    ensures others { (b now records all : List ℕ) (upto holder place : ℕ) (more : List Touch) (c : ChainHead) (front rest : List ℕ) (other : ChainHead) → AreTiles b 8 upto records → upto ≤ length b → ((member : ℕ) → In member records → In member all) → Changed b now (touch holder place 8 ∷ more) → Placed b records upto (touch holder place 8 ∷ more) → IsHead b records (with_members c (front ++ rest)) → IsLinkAfter c front holder place → IsHead b records other → IsOther c front other → AllSpare more other → IsHead now all other }
+{}
+
+/// The image of a file that keeps all rules has records that are long enough for what is read of them, and none is owned twice.
+pub fn kept_rules_are_sound()
+    ensures { (f : List ℕ) → KeepsAllRules f → IsSound (image_of f) (shape (image_of f)) }
 {}

@@ -6,9 +6,11 @@ use Rattle.std.proofs.lemmas.Int.{of_z-to_z}
 use Rattle.std.specs.Prelude.{nat_le, ◌&&◌, ◌==◌}
 use Rattle.std.specs.Int.{w32, cast_signed, cast_unsigned}
 use Rattle.cdf_format.specs.Content.{content, data_set_of, majority_of}
-use Rattle.cdf_format.specs.Fields.{word, signed4, has_bit, gdr_offset, version, flags, size_at, type_at, attributes, r_variables, z_variables, r_dimensions, r_sizes}
-use Rattle.cdf_format.specs.Rules.{Hold, asked, row}
-use Rattle.cdf_format.specs.WellFormed.{WellFormed, has_gdr, is_gdr, is_record, is_bare, no_links, no_counts, gdr_rows}
+use Rattle.cdf_format.specs.Fields.{word, signed4, has_bit, gdr_offset, version, flags, size_at, type_at, r_dimensions, r_sizes}
+use Rattle.cdf_format.specs.Rules.{Hold, asked}
+use Rattle.cdf_format.specs.WellFormed.{WellFormed}
+use Rattle.cdf_format.specs.FileRules.{has_gdr, is_gdr, is_record, gdr_rows}
+use Rattle.cdf_format.proofs.BareFile.{head_by_fields, head_is_fields}
 use Rattle.cdf_format.proofs.Images.{image_of-whole}
 use Rattle.cdf_model.specs.declared.command.Command.{Command}
 use Rattle.cdf_model.specs.declared.command.Command.TheVariants.{Info}
@@ -42,32 +44,6 @@ gdr_holds f holds =
     let has : has_gdr f ≡ true = holds.1.1.1.0.0 in
     let rows : Hold (gdr_rows f (gdr_offset f)) = subst (λ (t : Bool). Hold (asked t (gdr_rows f (gdr_offset f)))) has holds.1.1.1.0.1 in
     rows.0
-
--- it has neither attributes nor variables
-no_counts_in : (f : List ℕ) → WellFormed f → no_counts f (gdr_offset f) ≡ true
-no_counts_in f holds =
-    let g = gdr_offset f in
-    let has : has_gdr f ≡ true = holds.1.1.1.0.0 in
-    let rows : Hold (gdr_rows f g) = subst (λ (t : Bool). Hold (asked t (gdr_rows f g))) has holds.1.1.1.0.1 in
-    let last : Hold (row 99 g (is_bare f g) ∷ []) = subst (λ (t : Bool). Hold (asked t (row 99 g (is_bare f g) ∷ []))) rows.0 rows.1.1.1.1 in
-    let ends = both (g == 8 + size_at f 8) ((g + size_at f g == length f) && (no_links f g && no_counts f g)) last.0 in
-    let bare = both (g + size_at f g == length f) (no_links f g && no_counts f g) ends.1 in
-    (both (no_links f g) (no_counts f g) bare.1).1
-
-no_attributes : (f : List ℕ) → WellFormed f → attributes f (gdr_offset f) ≡ 0
-no_attributes f holds =
-    let g = gdr_offset f in
-    eq_of (attributes f g) 0 (both (attributes f g == 0) (z_variables f g == 0) (both (r_variables f g == 0) ((attributes f g == 0) && (z_variables f g == 0)) (no_counts_in f holds)).1).0
-
-no_r_variables : (f : List ℕ) → WellFormed f → r_variables f (gdr_offset f) ≡ 0
-no_r_variables f holds =
-    let g = gdr_offset f in
-    eq_of (r_variables f g) 0 (both (r_variables f g == 0) ((attributes f g == 0) && (z_variables f g == 0)) (no_counts_in f holds)).0
-
-no_z_variables : (f : List ℕ) → WellFormed f → z_variables f (gdr_offset f) ≡ 0
-no_z_variables f holds =
-    let g = gdr_offset f in
-    eq_of (z_variables f g) 0 (both (attributes f g == 0) (z_variables f g == 0) (both (r_variables f g == 0) ((attributes f g == 0) && (z_variables f g == 0)) (no_counts_in f holds)).1).1
 
 -- it has few dimensions
 pub few_dimensions : (f : List ℕ) → WellFormed f → word f (gdr_offset f + 56) 4 ≤ 10
@@ -119,10 +95,10 @@ head_is f b b' cdr gdr rdims holds same same' cdr-is gdr-is first second sizes =
     λ i. head_with (cdr-is i) ((gdr-is ∙ (λ j. gdr_at (same j) (there j))) i) ((sizes ∙ (λ j. r_sizes (same' j) (there j))) i) in
     let version : signed4 f 28 ≡ pos 3 = ap (cast_signed w32) (version_is f holds) in
     let encoding = unsigned_is f 8 56 36 first (omega arith) (omega arith) in
-    let attributes = unsigned_is f g 84 (g + 48) bytes (omega arith) (omega arith) ∙ no_attributes f holds in
-    let r_variables = unsigned_is f g 84 (g + 44) bytes (omega arith) (omega arith) ∙ no_r_variables f holds in
-    let z_variables = unsigned_is f g 84 (g + 60) bytes (omega arith) (omega arith) ∙ no_z_variables f holds in
-    let own : head_with (cdr_at f 8) (gdr_at f g) (r_sizes f g) ≡ head_of (content f) = λ i. record {
+    let attributes = unsigned_is f g 84 (g + 48) bytes (omega arith) (omega arith) in
+    let r_variables = unsigned_is f g 84 (g + 44) bytes (omega arith) (omega arith) in
+    let z_variables = unsigned_is f g 84 (g + 60) bytes (omega arith) (omega arith) in
+    let own : head_with (cdr_at f 8) (gdr_at f g) (r_sizes f g) ≡ head_by_fields f = λ i. record {
       version = version i;
       release = signed4 f 32;
       increment = signed4 f 52;
@@ -134,7 +110,7 @@ head_is f b b' cdr gdr rdims holds same same' cdr-is gdr-is first second sizes =
       rvars = r_variables i;
       zvars = z_variables i;
     } in
-    from_file ∙ own ∙ ap (λ (b : List ℕ). head_of (content b)) (sym (image_of-whole f holds))
+    from_file ∙ own ∙ sym (head_is_fields f holds) ∙ ap (λ (b : List ℕ). head_of (content b)) (sym (image_of-whole f holds))
 
 -- `info` is the one command that there is by now
 pub built-info : (c : Command) → built c ≡ true → Info ≡ c

@@ -1,4 +1,4 @@
-use Rattle.cdf_format.specs.WellFormed.{phase0, phase1, phase2, phase3}
+use Rattle.cdf_format.specs.FileRules.{phase0, phase1, phase2, phase3}
 use Rattle.cdf_check.proofs.Findings.{none_found, one_found}
 use Rattle.cdf_check.proofs.validator.check.Goals as goal
 

@@ -1,0 +1,78 @@
+-- The image of a file that keeps all rules is good.
+use Rattle.std.proofs.Common.{◌≡◌, ℕ, ◌+◌, ◌-◌, ◌≤◌, ◌<◌, List, length, ◌∙◌, arith, inl, inr, ◌*◌, subst, sym, ap, take, Bool}
+use Rattle.std.proofs.lemmas.List.{length-take}
+use Rattle.std.specs.Prelude.{nat_le}
+use Rattle.cdf_format.specs.Fields.{type_at, gdr_offset, counted, number, r_dimensions, word, size_at}
+use Rattle.cdf_format.specs.Sealed.{has_checksum, trailer_length, image_of}
+use Rattle.cdf_format.specs.Phases.{KeepsAllRules}
+use Rattle.cdf_format.specs.GoodImage.{IsGoodImage}
+use Rattle.cdf_format.specs.Shape.{shape}
+use Rattle.cdf_format.proofs.Pieces.{word-piece}
+use Rattle.cdf_format.proofs.Tests.{both, le_of}
+use Rattle.cdf_format.proofs.Members.{either}
+use Rattle.cdf_format.proofs.BareFile.{record-of}
+use Rattle.cdf_format.proofs.GoodImageLemmas.{good_by_rules}
+use Rattle.cdf_format.specs.Alone.{IsSound}
+use Rattle.cdf_format.specs.Records.{gdr_r_num_dims}
+use Rattle.cdf_format.specs.RecordTypes.{gdr_type, fixed_size}
+use Rattle.cdf_format.specs.Rules.{Hold, asked}
+use Rattle.cdf_format.specs.FileRules.{gdr_rows, is_record}
+use Rattle.cdf_format.proofs.SoundLemmas.{sound_of_good}
+use Rattle.cdf_format.proofs.ChainsLemmas.{is_a-in, is_a-type}
+use Rattle.cdf_format.proofs.TilesLemmas.{tile_lies}
+use Rattle.std.specs.Int.{w32, cast_signed}
+
+short_trailer : (f : List ℕ) → trailer_length f ≤ 16
+short_trailer f = elim (either (has_checksum f)) [ inl e ↦ rw e (omega arith) | inr e ↦ rw e (omega arith) ]
+
+pub good_image_of : (f : List ℕ) → KeepsAllRules f → IsGoodImage (image_of f) (shape (image_of f))
+good_image_of f rules =
+    let room = both (nat_le 8 (gdr_offset f)) (nat_le (gdr_offset f + 84) (length f)) rules.1.1.1.0.0 in
+    let long : 92 ≤ length f = let p = le_of 8 (gdr_offset f) room.0 in let q = le_of (gdr_offset f + 84) (length f) room.1 in omega arith in
+    let t = short_trailer f in
+    let n = length f - trailer_length f in
+    let enough : 20 ≤ n = omega arith in
+    let as_long : 8 < length (image_of f) = omega (arith, length-take n f) in
+    let first : type_at (image_of f) 8 ≡ type_at f 8 = word-piece f 0 16 4 n (omega arith) in
+    good_by_rules (image_of f) as_long (first ∙ (record-of f 8 1 312 rules.1.1.0.1.0).type_is)
+    (rules.1.1.1.1.0, (rules.1.1.1.1.1.0, (rules.1.1.1.1.1.1.0, (rules.1.1.1.1.1.1.1.0, (rules.1.1.1.1.1.1.1.1.0, (rules.1.1.1.1.1.1.1.1.1.0, tt))))))
+
+-- a field of a front part
+word_of_front : (n : ℕ) (f : List ℕ) (place k : ℕ) → place + k ≤ n → word (take n f) place k ≡ word f place k
+word_of_front n f place k le =
+    let e : 0 + place ≡ place = omega arith in
+    word-piece f 0 place k n le ∙ ap (λ (x : ℕ). word f x k) e
+
+pub sound_image_of : (f : List ℕ) → KeepsAllRules f → IsSound (image_of f) (shape (image_of f))
+sound_image_of f rules =
+    let good = good_image_of f rules in
+    let h = good.has_shape in
+    let b = image_of f in
+    let n = length f - trailer_length f in
+    let room = both (nat_le 8 (gdr_offset f)) (nat_le (gdr_offset f + 84) (length f)) rules.1.1.1.0.0 in
+    let enough : 28 ≤ n = let p = le_of 8 (gdr_offset f) room.0 in let q = le_of (gdr_offset f + 84) (length f) room.1 in let t = short_trailer f in omega arith in
+    let g_is : gdr_offset b ≡ gdr_offset f = word_of_front n f 20 8 enough in
+    let rows : Hold (gdr_rows f (gdr_offset f)) = subst (λ (t : Bool). Hold (asked t (gdr_rows f (gdr_offset f)))) rules.1.1.1.0.0 rules.1.1.1.0.1 in
+    let least = 84 + 4 * r_dimensions f (gdr_offset f) in
+    let r = record-of f (gdr_offset f) 2 least (both (nat_le (number f (gdr_offset f) gdr_r_num_dims) 10) (is_record f (gdr_offset f) 2 least) rows.0).1 in
+    let g = (shape b).gdr in
+    let g_same : g ≡ gdr_offset f = sym h.gdr_is ∙ g_is in
+    let tile = is_a-in b (shape b).records gdr_type g h.gdr_stands in
+    let long : 84 ≤ size_at b g = subst (λ (t : ℕ). fixed_size t ≤ size_at b g) (is_a-type b (shape b).records gdr_type g h.gdr_stands) (h.fixed g tile) in
+    let high = (tile_lies b 8 (length b) (shape b).records g h.tiled tile).high in
+    let short : length b ≤ n = front_short n f in
+    let ends : g + 84 ≤ n = within g (size_at b g) (length b) n long high short in
+    let size_is : size_at b g ≡ size_at f g = word_of_front n f (g + 0) 8 (part g 0 8 n ends (omega arith)) in
+    let dims_is : r_dimensions b g ≡ r_dimensions f g = ap (λ (x : ℕ). counted (cast_signed w32 x)) (word_of_front n f (g + 56) 4 (part g 56 4 n ends (omega arith))) in
+    let in_file : 84 + 4 * r_dimensions f g ≤ size_at f g = subst (λ (x : ℕ). 84 + 4 * r_dimensions f x ≤ size_at f x) (sym g_same) r.long in
+    let in_image : 84 + 4 * r_dimensions b g ≤ size_at b g = subst (λ (x : ℕ). 84 + 4 * r_dimensions b g ≤ x) (sym size_is) (subst (λ (x : ℕ). 84 + 4 * x ≤ size_at f g) (sym dims_is) in_file) in
+    sound_of_good b (shape b) good in_image
+  where
+    front_short : (n : ℕ) (f : List ℕ) → length (take n f) ≤ n
+    front_short n f = omega (arith, length-take n f)
+
+    within : (g s l n : ℕ) → 84 ≤ s → g + s ≤ l → l ≤ n → g + 84 ≤ n
+    within g s l n a b c = omega arith
+
+    part : (g o k n : ℕ) → g + 84 ≤ n → o + k ≤ 84 → g + o + k ≤ n
+    part g o k n a b = omega arith

@@ -1,0 +1,21 @@
+-- Tests of numbers, taken apart.
+use Rattle.std.proofs.Common.{◌≡◌, ℕ, ◌≤◌, Bool, true, false, refl, arith, ◌&&◌, not}
+use Rattle.std.proofs.lemmas.Bool.Decides.{nat_tests}
+use Rattle.std.specs.Prelude.{nat_le, ◌==◌}
+
+pub both : (p q : Bool) → (p && q) ≡ true → (p ≡ true) × (q ≡ true)
+both true q e = (refl, e)
+both false q e = cc e
+
+pub le_of : (m n : ℕ) → nat_le m n ≡ true → m ≤ n
+le_of m n e = grind (arith, nat_tests)
+
+pub of_le : (m n : ℕ) → m ≤ n → nat_le m n ≡ true
+of_le m n e = grind (arith, nat_tests)
+
+pub eq_of : (m n : ℕ) → (m == n) ≡ true → m ≡ n
+eq_of m n e = grind (arith, nat_tests)
+
+pub not_false : (p : Bool) → not p ≡ true → p ≡ false
+not_false true e = cc e
+not_false false e = refl

@@ -1,0 +1,143 @@
+-- How a command changes an image: its content as the data set says, and no record that it does not concern.
+use Rattle.std.specs.Prelude.{◌≡◌, ◌⊎◌, ◌≤◌, ℕ, ◌+◌, ◌-◌, ◌*◌, max, List, [], ◌∷◌, length, map, Bool, true, false, not, ◌&&◌, ◌==◌, nat_lt, nat_le, if◌then◌else◌, Some}
+use Rattle.std.specs.declared.option.Option.{Option}
+use Rattle.std.specs.List.{slice_get, sum}
+use Rattle.cdf_model.specs.declared.answer.Reply.{Reply}
+use Rattle.cdf_model.specs.declared.command.Command.{Command}
+use Rattle.cdf_model.specs.declared.command.Command.TheVariants as commands
+use Rattle.cdf_model.specs.Answers.{Answer, Go, Refuse}
+use Rattle.cdf_model.specs.DataSet.{Variable}
+use Rattle.cdf_model.specs.Grammar.{Parsed, Blank, Asks, Faulty, parse}
+use Rattle.cdf_model.specs.Limits.{image_limit}
+use Rattle.cdf_model.specs.Lines.{lines}
+use Rattle.cdf_model.specs.Names.{Found, variable_named}
+use Rattle.cdf_model.specs.Place.{record_limit}
+use Rattle.cdf_model.specs.RunLengths.{Packs, IsLongest}
+use Rattle.cdf_model.specs.Step.{step, answer}
+use Rattle.cdf_format.specs.VariableAllowances.{AllKeep}
+use Rattle.cdf_format.specs.Blocks.{range, ranges_of, shared, first_written, is_cut_first, record_length, ranges_after_put, ranges_after_cut}
+use Rattle.cdf_format.specs.Changed.{Touch, touch, touched_field, Changed, Same}
+use Rattle.cdf_format.specs.Content.{content, plain_bytes}
+use Rattle.cdf_format.specs.Fields.{size_at}
+use Rattle.cdf_format.specs.Index.{Leaf, leaves_of}
+use Rattle.cdf_format.specs.IndexRules.{packed_bytes}
+use Rattle.cdf_format.specs.Owners.{owned}
+use Rattle.cdf_format.specs.Records.{gdr_r_max_rec, vdr_max_rec}
+use Rattle.cdf_format.specs.Room.{room, uncovered, shapes_of}
+use Rattle.cdf_format.specs.Shape.{VariableShape, Each, shape}
+use Rattle.cdf_format.specs.Tiles.{In}
+use Rattle.cdf_format.specs.WellFormed.{Good}
+
+abbrev pub only_reads : Command → Bool
+only_reads commands.Info = true
+only_reads commands.List = true
+only_reads (commands.GetEntry attr kind num) = true
+only_reads (commands.GetRec var rec) = true
+only_reads (commands.GetVal var rec index) = true
+only_reads c = false
+
+-- ---- records that are put or deleted
+
+-- the variable of a name, and its records before and after
+pub record IsVariable (b now : List ℕ) (name : List ℕ) (found : Found) (v v' : VariableShape) : Type 0 where
+  pub named : variable_named (content b) name ≡ Some found
+  pub before : slice_get (shapes_of (shape b) found.kind) found.number ≡ Some v
+  pub after : slice_get (shapes_of (shape now) found.kind) found.number ≡ Some v'
+
+-- the bytes of these records in their blocks
+abbrev pub written_in : Variable → ℕ → ℕ → List Leaf → List Touch
+written_in v first last leaves = map (λ leaf. touch leaf.place (12 + (max first leaf.first - leaf.first) * record_length v) (shared first last (range leaf.first leaf.last) * record_length v)) leaves
+
+-- all records that are written have blocks, which are not packed, and nothing is cut
+abbrev pub stays_in_place : Variable → VariableShape → ℕ → Bool
+stays_in_place v shape n = (uncovered v shape.index n == 0) && (not v.rle && not (is_cut_first v n))
+
+-- a block is packed where that makes its record shorter
+abbrev pub is_worth_packing : List ℕ → List ℕ → Bool
+is_worth_packing plain packed = nat_le (length plain) record_limit && nat_lt (24 + length packed) (12 + length plain)
+
+-- packed as it should be, in the longest runs
+pub record WellPacked (now : List ℕ) (vdr : ℕ) (leaf : Leaf) : Type 0 where
+  pub chosen : (packed : List ℕ) → Packs packed (plain_bytes now vdr leaf) → IsLongest packed → leaf.packed ≡ is_worth_packing (plain_bytes now vdr leaf) packed
+  pub longest : leaf.packed ≡ true → IsLongest (packed_bytes now leaf.place)
+
+-- a block stays, or it is packed as it should be
+abbrev pub StaysOrPacked : List ℕ → List ℕ → ℕ → List ℕ → Leaf → Type 0
+StaysOrPacked b now vdr before leaf = (In leaf.place before × Same b now leaf.place (leaf.place + size_at b leaf.place)) ⊎ WellPacked now vdr leaf
+
+abbrev pub AllPacked : List ℕ → List ℕ → Variable → VariableShape → VariableShape → Type 0
+AllPacked b now v before after = v.rle ≡ true → Each (StaysOrPacked b now after.vdr (map (λ leaf. leaf.place) (leaves_of before.index))) (leaves_of after.index)
+
+-- a record is put
+pub record Puts (b now : List ℕ) (v : Variable) (n : ℕ) (before after : VariableShape) : Type 0 where
+  pub ranges : ranges_of after.index ≡ ranges_after_put v before.index n
+  pub in_place : stays_in_place v before n ≡ true
+      → (length now ≡ length b) × Changed b now (touched_field (shape b).gdr gdr_r_max_rec ∷ touched_field before.vdr vdr_max_rec ∷ written_in v (first_written v n) n (leaves_of before.index))
+  pub packed : AllPacked b now v before after
+
+-- records are deleted
+pub record Deletes (b now : List ℕ) (v : Variable) (first last : ℕ) (before after : VariableShape) : Type 0 where
+  pub ranges : ranges_of after.index ≡ ranges_after_cut v before.index first last
+  pub packed : AllPacked b now v before after
+
+abbrev pub BlocksFollow : List ℕ → List ℕ → Command → Type 0
+BlocksFollow b now (commands.PutRec var rec words) = (found : Found) (v v' : VariableShape) → IsVariable b now var found v v' → Puts b now found.variable rec v v'
+BlocksFollow b now (commands.PutVal var rec index words) = (found : Found) (v v' : VariableShape) → IsVariable b now var found v v' → Puts b now found.variable rec v v'
+BlocksFollow b now (commands.DelRecs var first last) = (found : Found) (v v' : VariableShape) → IsVariable b now var found v v' → Deletes b now found.variable first last v v'
+BlocksFollow b now (commands.Reindex var) = (found : Found) (v v' : VariableShape) → IsVariable b now var found v v' → leaves_of v'.index ≡ leaves_of v.index
+BlocksFollow b now c = Unit {0}
+
+-- ---- a command
+
+-- A command that goes makes of one good image another. It takes records at these places, of so many bytes, 28 at least, no more in all than it has room for.
+pub record Follows (b : List ℕ) (c : Command) (now : List ℕ) : Type 0 where
+  pub reply : Reply
+  pub goes : step (content b) c ≡ Go (content now) reply
+  pub good : Good now
+  pub longer : length b ≤ length now
+  pub within : length now ≤ length b + room b c
+  pub reads : only_reads c ≡ true → now ≡ b
+  pub takes : List (ℕ × ℕ)
+  pub takes_enough : Each (λ take. 28 ≤ take.1) takes
+  pub takes_within : sum (map (λ take. take.1) takes) ≤ room b c
+  pub keeps : AllKeep b now c takes (owned b (shape b))
+  pub blocks : BlocksFollow b now c
+
+-- ---- a script
+
+abbrev pub leaves_image : Command → Bool
+leaves_image commands.Dump = true
+leaves_image (commands.Report tap) = true
+leaves_image c = false
+
+abbrev pub is_too_large : List ℕ → Command → Bool
+is_too_large b c = nat_lt image_limit (length b + room b c)
+
+-- a command that goes makes its image unless that would be too large
+abbrev pub Applied : List ℕ → Command → List ℕ → Bool → Type 0
+Applied b c now true = (is_too_large b c ≡ true) × (now ≡ b)
+Applied b c now false = (is_too_large b c ≡ false) × Follows b c now
+
+abbrev pub AppliedUnless : Bool → List ℕ → Command → List ℕ → Bool → Type 0
+AppliedUnless true b c now full = (now ≡ b) × (full ≡ false)
+AppliedUnless false b c now full = Applied b c now full
+
+abbrev pub Answered : List ℕ → Command → Answer → List ℕ → Bool → Type 0
+Answered b c (Refuse reason) now full = (now ≡ b) × (full ≡ false)
+Answered b c (Go d reply) now full = AppliedUnless (leaves_image c) b c now full
+
+-- a line, and whether its command would have made the image too large
+abbrev pub LineLeads : List ℕ → Parsed → List ℕ → Bool → Type 0
+LineLeads b Blank now full = (now ≡ b) × (full ≡ false)
+LineLeads b (Faulty fault) now full = (now ≡ b) × (full ≡ false)
+LineLeads b (Asks c) now full = Answered b c (answer (content b) c) now full
+
+-- From one image the lines, numbered from n on, lead to another; the commands of these lines alone would have made an image too large.
+abbrev pub LinesLead : List ℕ → ℕ → List (Option (List ℕ)) → List ℕ → List ℕ → Type 0
+LinesLead b n [] full end = (full ≡ []) × (end ≡ b)
+LinesLead b n (line ∷ more) full end =
+    (now : List ℕ) × (is_full : Bool) × (rest : List ℕ) × LineLeads b (parse line) now is_full × (full ≡ (if is_full then n ∷ rest else rest)) × LinesLead now (n + 1) more rest end
+
+-- a script leads from one image to another
+abbrev pub History : List ℕ → List ℕ → List ℕ → List ℕ → Type 0
+History b script full end = LinesLead b 1 (lines script) full end

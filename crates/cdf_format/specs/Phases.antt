@@ -1,0 +1,41 @@
+-- All rules of a well-formed file. Phases 0 to 3 and 10 speak of the file, the others of its image.
+use Rattle.std.specs.Prelude.{ℕ, List, [], ◌∷◌, ◌++◌, length, drop, bytes_eq, ◌==◌}
+use Rattle.std.specs.List.{flat_map}
+use Rattle.md5.specs.Md5.{md5}
+use Rattle.cdf_format.specs.Rules.{Row, row, asked, AllHold}
+use Rattle.cdf_format.specs.Sealed.{has_checksum, image_of}
+use Rattle.cdf_format.specs.Tiles.{tiles}
+use Rattle.cdf_format.specs.Owners.{times, owned_records}
+use Rattle.cdf_format.specs.Shape.{shape}
+use Rattle.cdf_format.specs.FileRules.{phase0, phase1, phase2, phase3}
+use Rattle.cdf_format.specs.RecordRules.{phase4}
+use Rattle.cdf_format.specs.ChainRules.{phase5}
+use Rattle.cdf_format.specs.AttributeRules.{phase6}
+use Rattle.cdf_format.specs.VariableRules.{phase7}
+use Rattle.cdf_format.specs.IndexRules.{phase8}
+
+-- a record has one owner
+abbrev pub owner_rows : List ℕ → ℕ → List Row
+owner_rows owned place = row 1 place (times place owned == 1) ∷ []
+
+abbrev pub phase9 : List ℕ → List Row
+phase9 b = flat_map (owner_rows (owned_records b (shape b))) (tiles b)
+
+-- the checksum that is in use is that of the image
+abbrev pub phase10 : List ℕ → List Row
+phase10 f = asked (has_checksum f) (row 1 (length (image_of f)) (bytes_eq (drop (length (image_of f)) f) (md5 (image_of f))) ∷ [])
+
+-- the rules on records, chains, attributes, variables, indexes and owners
+abbrev pub image_phases : List ℕ → List (List Row)
+image_phases b = phase4 b ∷ phase5 b ∷ phase6 b ∷ phase7 b ∷ phase8 b ∷ phase9 b ∷ []
+
+-- the rules on the file as far as its two first records
+abbrev pub first_phases : List ℕ → List (List Row)
+first_phases f = phase0 f ∷ phase1 f ∷ phase2 f ∷ phase3 f ∷ []
+
+abbrev pub all_phases : List ℕ → List (List Row)
+all_phases f = first_phases f ++ image_phases (image_of f) ++ phase10 f ∷ []
+
+-- each rule of all phases holds
+abbrev pub KeepsAllRules : List ℕ → Type 0
+KeepsAllRules f = AllHold (all_phases f)
