@@ -13,7 +13,7 @@ use Rattle.cdf_model.specs.Lines.{lines}
 use Rattle.cdf_model.specs.Names.{Found, variable_named}
 use Rattle.cdf_model.specs.Place.{record_limit}
 use Rattle.cdf_model.specs.RunLengths.{Packs, IsLongest}
-use Rattle.cdf_model.specs.Step.{step, answer}
+use Rattle.cdf_model.specs.Step.{built, step}
 use Rattle.cdf_format.specs.VariableAllowances.{AllKeep}
 use Rattle.cdf_format.specs.Blocks.{range, ranges_of, shared, first_written, is_cut_first, record_length, ranges_after_put, ranges_after_cut}
 use Rattle.cdf_format.specs.Changed.{Touch, touch, touched_field, Changed, Same}
@@ -126,11 +126,16 @@ abbrev pub Answered : List ℕ → Command → Answer → List ℕ → Bool → 
 Answered b c (Refuse reason) now full = (now ≡ b) × (full ≡ false)
 Answered b c (Go d reply) now full = AppliedUnless (leaves_image c) b c now full
 
+-- a command that there is not yet leaves the image
+abbrev pub AnsweredIf : Bool → List ℕ → Command → List ℕ → Bool → Type 0
+AnsweredIf true b c now full = Answered b c (step (content b) c) now full
+AnsweredIf false b c now full = (now ≡ b) × (full ≡ false)
+
 -- a line, and whether its command would have made the image too large
 abbrev pub LineLeads : List ℕ → Parsed → List ℕ → Bool → Type 0
 LineLeads b Blank now full = (now ≡ b) × (full ≡ false)
 LineLeads b (Faulty fault) now full = (now ≡ b) × (full ≡ false)
-LineLeads b (Asks c) now full = Answered b c (answer (content b) c) now full
+LineLeads b (Asks c) now full = AnsweredIf (built c) b c now full
 
 -- From one image the lines, numbered from n on, lead to another; the commands of these lines alone would have made an image too large.
 abbrev pub LinesLead : List ℕ → ℕ → List (Option (List ℕ)) → List ℕ → List ℕ → Type 0

@@ -4,7 +4,7 @@ use Rattle.std.specs.List.{flat_map, list_all}
 use Rattle.cdf_model.specs.Limits.{dimension_limit, record_number_limit}
 use Rattle.cdf_model.specs.Place.{record_limit}
 use Rattle.cdf_model.specs.Values.{notation_of}
-use Rattle.cdf_model.specs.VariableSteps.{is_letters}
+use Rattle.cdf_model.specs.VariableSteps.{is_characters}
 use Rattle.cdf_format.specs.Fields.{number, size_at}
 use Rattle.cdf_format.specs.Records.{vdr_data_type, vdr_max_rec, vdr_s_records, vdr_num_elems, vdr_cpr_or_spr_offset, vdr_name, vdr_z_num_dims, vdr_z_dim_size, cpr_c_type, cpr_p_count, cpr_parameter}
 use Rattle.cdf_format.specs.RecordTypes.{cpr_type}
@@ -20,7 +20,7 @@ use Rattle.cdf_format.specs.VariableFields.{is_z, dims_at, type_of_variable, val
 
 -- a value has an element, and several only where they are letters
 abbrev pub has_elements : List ℕ → ℕ → Bool
-has_elements b vdr = is_positive (number b vdr vdr_num_elems) && ((number b vdr vdr_num_elems == 1) || is_letters (notation_of (type_of_variable b vdr)))
+has_elements b vdr = is_positive (number b vdr vdr_num_elems) && ((number b vdr vdr_num_elems == 1) || is_characters (notation_of (type_of_variable b vdr)))
 
 -- a z variable has at most 10 dimensions, and room for their sizes, which are positive
 abbrev pub has_dimensions : List ℕ → ℕ → Bool
