@@ -83,7 +83,7 @@ sound_image_of f rules =
 
 -- ---- a sealed image
 
-flags_of_front : (b rest : List ℕ) → 44 ≤ length b → has_checksum (b ++ rest) ≡ has_checksum b
+pub flags_of_front : (b rest : List ℕ) → 44 ≤ length b → has_checksum (b ++ rest) ≡ has_checksum b
 flags_of_front b rest long =
     let same : Same b (b ++ rest) 40 44 = record { each = λ i l h. get_or_append_left b rest 0 i (before i (length b) h long) } in
     ap (λ (n : ℕ). has_bit n 2) (word-same b (b ++ rest) 40 4 same)

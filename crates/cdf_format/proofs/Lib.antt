@@ -21,3 +21,4 @@ pub mod LinksLemmas
 pub mod SoundLemmas
 pub mod ImageOf
 pub mod SpaceLemmas
+pub mod SealedRules
