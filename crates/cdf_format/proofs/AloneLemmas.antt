@@ -58,16 +58,16 @@ le_through x y z p q = omega arith
 module _ (b now own : List ℕ) (s : Shape) (h : HasShape b s) (change : ChangedWithin b now own) (own_in : (m : ℕ) → In m own → In m s.records) where
   placed_all : (ts : List Touch) → Each (LeavesLinks b own) ts → Placed b s.records (length b) ts
   placed_all [] w = tt
-  placed_all (t ∷ ts) w = (inl (own_in t.record_ w.0.inside, w.0.fits), placed_all ts w.1)
+  placed_all (t ∷ ts) w = (inl (own_in t.tile w.0.inside, w.0.fits), placed_all ts w.1)
 
   misses_low : (ts : List Touch) (m : ℕ) → Each (LeavesLinks b own) ts → Misses ts m 0 12
   misses_low [] m w = tt
-  misses_low (t ∷ ts) m w = ((λ e. inl (le_through 12 (after_links b t.record_) t.place (after_12 b t.record_) w.0.later)), misses_low ts m w.1)
+  misses_low (t ∷ ts) m w = ((λ e. inl (le_through 12 (after_links b t.tile) t.place (after_12 b t.tile) w.0.later)), misses_low ts m w.1)
 
   misses_next : (ts : List Touch) (m : ℕ) → Each (LeavesLinks b own) ts → is_in (type_at b m) linked_types ≡ true → Misses ts m 12 20
   misses_next [] m w l = tt
   misses_next (t ∷ ts) m w l =
-      ((λ e. inl (le_through 20 (after_links b t.record_) t.place (after_20 b t.record_ (subst (λ (x : ℕ). is_in (type_at b x) linked_types ≡ true) e l)) w.0.later)), misses_next ts m w.1 l)
+      ((λ e. inl (le_through 20 (after_links b t.tile) t.place (after_20 b t.tile (subst (λ (x : ℕ). is_in (type_at b x) linked_types ≡ true) e l)) w.0.later)), misses_next ts m w.1 l)
 
   touches_none : (ts : List Touch) (m : ℕ) → Each (LeavesLinks b own) ts → (In m own → ⊥) → TouchesNone ts (m ∷ [])
   touches_none [] m w out = tt

@@ -36,10 +36,10 @@ module _ (b now : List ℕ) (records : List ℕ) (upto : ℕ) (tiled : AreTiles 
   missed (t ∷ ts) m lo hi i p j fits miss l h =
       let lies = tile_lies b 8 upto records m tiled j in
       let high = lies.high in
-      let here : (i < t.record_ + t.place) ⊎ (t.record_ + t.place + t.width ≤ i) = elim p.0 [
-        | inl q ↦ elim (cases_eq m t.record_) [
+      let here : (i < t.tile + t.place) ⊎ (t.tile + t.place + t.width ≤ i) = elim p.0 [
+        | inl q ↦ elim (cases_eq m t.tile) [
           | inl e ↦ elim (miss.0 e) [ inl x ↦ inl (omega arith) | inr x ↦ inr (omega arith) ]
-          | inr ne ↦ elim (tiles_lie_apart b 8 upto records m t.record_ tiled j q.0 ne) [ inl x ↦ inl (omega arith) | inr x ↦ inr (omega (arith, q.1)) ]
+          | inr ne ↦ elim (tiles_lie_apart b 8 upto records m t.tile tiled j q.0 ne) [ inl x ↦ inl (omega arith) | inr x ↦ inr (omega (arith, q.1)) ]
         ]
         | inr q ↦ inl (omega arith)
       ] in

@@ -1,9 +1,9 @@
 -- The image of a file that keeps all rules is good.
-use Rattle.std.proofs.Common.{◌≡◌, ℕ, ◌+◌, ◌-◌, ◌≤◌, ◌<◌, List, length, ◌∙◌, arith, inl, inr, ◌*◌, subst, sym, ap, take, Bool}
-use Rattle.std.proofs.lemmas.List.{length-take}
-use Rattle.std.specs.Prelude.{nat_le}
-use Rattle.cdf_format.specs.Fields.{type_at, gdr_offset, counted, number, r_dimensions, word, size_at}
-use Rattle.cdf_format.specs.Sealed.{has_checksum, trailer_length, image_of}
+use Rattle.std.proofs.Common.{◌≡◌, ℕ, ◌+◌, ◌-◌, ◌≤◌, ◌<◌, List, length, ◌∙◌, arith, inl, inr, ◌*◌, subst, sym, ap, take, Bool, [], ◌∷◌, ◌++◌, false, refl, true}
+use Rattle.std.proofs.lemmas.List.{length-take, length-append, get_or_append_left}
+use Rattle.std.specs.Prelude.{nat_le, if◌then◌else◌}
+use Rattle.cdf_format.specs.Fields.{type_at, gdr_offset, counted, number, r_dimensions, word, size_at, has_bit}
+use Rattle.cdf_format.specs.Sealed.{has_checksum, trailer_length, image_of, trailer, sealed}
 use Rattle.cdf_format.specs.Phases.{KeepsAllRules}
 use Rattle.cdf_format.specs.GoodImage.{IsGoodImage}
 use Rattle.cdf_format.specs.Shape.{shape}
@@ -21,6 +21,10 @@ use Rattle.cdf_format.proofs.SoundLemmas.{sound_of_good}
 use Rattle.cdf_format.proofs.ChainsLemmas.{is_a-in, is_a-type}
 use Rattle.cdf_format.proofs.TilesLemmas.{tile_lies}
 use Rattle.std.specs.Int.{w32, cast_signed}
+use Rattle.cdf_format.specs.Changed.{Same}
+use Rattle.cdf_format.proofs.BytesLemmas.{word-same}
+use Rattle.md5.specs.Md5.{md5}
+use Rattle.md5.proofs.StandardFacts.{length-md5}
 
 short_trailer : (f : List ℕ) → trailer_length f ≤ 16
 short_trailer f = elim (either (has_checksum f)) [ inl e ↦ rw e (omega arith) | inr e ↦ rw e (omega arith) ]
@@ -76,3 +80,34 @@ sound_image_of f rules =
 
     part : (g o k n : ℕ) → g + 84 ≤ n → o + k ≤ 84 → g + o + k ≤ n
     part g o k n a b = omega arith
+
+-- ---- a sealed image
+
+pub flags_of_front : (b rest : List ℕ) → 44 ≤ length b → has_checksum (b ++ rest) ≡ has_checksum b
+flags_of_front b rest long =
+    let same : Same b (b ++ rest) 40 44 = record { each = λ i l h. get_or_append_left b rest 0 i (before i (length b) h long) } in
+    ap (λ (n : ℕ). has_bit n 2) (word-same b (b ++ rest) 40 4 same)
+  where
+    before : (i n : ℕ) → i < 44 → 44 ≤ n → i < n
+    before i n h l = omega arith
+
+trailer_is : (b : List ℕ) → length (trailer b) ≡ trailer_length b
+trailer_is b = cases (has_checksum b)
+  where
+    cases : (p : Bool) → length (if p then md5 b else []) ≡ (if p then 16 else 0)
+    cases true = length-md5 b
+    cases false = refl
+
+-- the image of a sealed image is itself
+pub image_of-sealed : (b : List ℕ) → 44 ≤ length b → image_of (sealed b) ≡ b
+image_of-sealed b long =
+    let same : trailer_length (sealed b) ≡ trailer_length b = ap (λ (p : Bool). if p then 16 else 0) (flags_of_front b (trailer b) long) in
+    let n : length (sealed b) - trailer_length (sealed b) ≡ length b = count (length (sealed b)) (length b) (length (trailer b)) (trailer_length b) (trailer_length (sealed b)) (length-append b (trailer b)) (trailer_is b) same in
+    ap (λ (k : ℕ). take k (sealed b)) n ∙ take-front b (trailer b)
+  where
+    count : (s l t u v : ℕ) → s ≡ l + t → t ≡ u → v ≡ u → s - v ≡ l
+    count s l t u v p q r = omega arith
+
+    take-front : (xs ys : List ℕ) → take (length xs) (xs ++ ys) ≡ xs
+    take-front [] ys = refl
+    take-front (x ∷ xs) ys = ap (λ (r : List ℕ). x ∷ r) (take-front xs ys)

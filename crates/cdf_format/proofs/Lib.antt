@@ -20,3 +20,5 @@ pub mod OwnersApart
 pub mod LinksLemmas
 pub mod SoundLemmas
 pub mod ImageOf
+pub mod SpaceLemmas
+pub mod SealedRules

@@ -58,9 +58,9 @@ after_links b place = if is_in (type_at b place) linked_types then 20 else 12
 
 -- a touch within one of these records that leaves its size, its type and its next field
 pub record LeavesLinks (b own : List ℕ) (t : Touch) : Type 0 where
-  pub inside : In t.record_ own
-  pub fits : t.place + t.width ≤ size_at b t.record_
-  pub later : after_links b t.record_ ≤ t.place
+  pub inside : In t.tile own
+  pub fits : t.place + t.width ≤ size_at b t.tile
+  pub later : after_links b t.tile ≤ t.place
 
 -- an image of the same length that differs within these records alone, and in none of their sizes, types and next fields
 pub record ChangedWithin (b now own : List ℕ) : Type 0 where

@@ -27,7 +27,7 @@ is_linkable b tiles type place = is_a b tiles type place && nat_le 28 (size_at b
 -- from a link the next fields lead through these records to another link
 abbrev pub Leads : List ℕ → ℕ → List ℕ → ℕ → Type 0
 Leads b link [] end = link ≡ end
-Leads b link (record_ ∷ more) end = (link ≡ record_) × Leads b (next_of b record_) more end
+Leads b link (member ∷ more) end = (link ≡ member) × Leads b (next_of b member) more end
 
 -- the chain from a link: tiles of one type, none twice, up to a link of 0
 pub record IsChain (b tiles : List ℕ) (type link : ℕ) (members : List ℕ) : Type 0 where

@@ -32,9 +32,9 @@ pub record IsHead (b records : List ℕ) (c : ChainHead) : Type 0 where
 
 -- a touch meets no link of a chain, and no size or type of its records
 pub record Spares (t : Touch) (c : ChainHead) : Type 0 where
-  pub holder : c.holder ≡ t.record_ → 12 ≤ t.place
-  pub head : c.holder ≡ t.record_ → (c.place + 8 ≤ t.place) ⊎ (t.place + t.width ≤ c.place)
-  pub member : In t.record_ c.members → 20 ≤ t.place
+  pub holder : c.holder ≡ t.tile → 12 ≤ t.place
+  pub head : c.holder ≡ t.tile → (c.place + 8 ≤ t.place) ⊎ (t.place + t.width ≤ c.place)
+  pub member : In t.tile c.members → 20 ≤ t.place
 
 abbrev pub AllSpare : List Touch → ChainHead → Type 0
 AllSpare [] c = Unit {0}

@@ -1,6 +1,6 @@
 -- Whom the records of an image serve: each serves one owner.
-use Rattle.std.specs.Prelude.{◌≡◌, ℕ, suc, List, [], ◌∷◌, ◌++◌, length, map, not, ◌==◌, if◌then◌else◌}
-use Rattle.std.specs.List.{filter, sum}
+use Rattle.std.specs.Prelude.{◌≡◌, ℕ, suc, List, [], ◌∷◌, ◌++◌, length, map, not, ◌==◌, if◌then◌else◌, ◌+◌}
+use Rattle.std.specs.List.{filter}
 use Rattle.cdf_model.specs.declared.kinds.Kind.{Kind}
 use Rattle.cdf_model.specs.declared.kinds.Kind.TheVariants.{R, Z}
 use Rattle.cdf_format.specs.Fields.{size_at, type_at}
@@ -63,7 +63,8 @@ OwnedOnce b s = (place : ℕ) → In place s.records → times place (owned_reco
 
 -- the bytes of records
 abbrev pub bytes_in : List ℕ → List ℕ → ℕ
-bytes_in b places = sum (map (size_at b) places)
+bytes_in b [] = 0
+bytes_in b (place ∷ more) = size_at b place + bytes_in b more
 
 -- what the records of an image take: of those that are used, of the unused list, and of unused records that are on no list
 pub record Space : Type 0 where

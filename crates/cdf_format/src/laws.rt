@@ -11,8 +11,8 @@ ghost use Rattle.cdf_format.specs.Index.{Nodes, nodes_of};
 ghost use Rattle.cdf_format.specs.IndexOf.{IsIndex};
 ghost use Rattle.cdf_format.specs.IndexWalk.{met, index_walk};
 ghost use Rattle.cdf_format.specs.Links.{ChainHead, with_members, IsHead, AllSpare, IsLinkAfter, IsOther};
-ghost use Rattle.cdf_format.specs.Owners.{times, owned_records, attribute_records, variable_records, unused_records};
-ghost use Rattle.cdf_format.specs.Phases.{image_phases, KeepsAllRules};
+ghost use Rattle.cdf_format.specs.Owners.{space_of, times, owned_records, attribute_records, variable_records, unused_records};
+ghost use Rattle.cdf_format.specs.Phases.{first_phases, image_phases, KeepsAllRules};
 ghost use Rattle.cdf_format.specs.Records.{Field};
 ghost use Rattle.cdf_format.specs.RecordTypes.{cdr_type};
 ghost use Rattle.cdf_format.specs.Rules.{AllHold};
@@ -123,4 +123,20 @@ pub fn link_alone()
 /// The image of a file that keeps all rules has records that are long enough for what is read of them, and none is owned twice.
 pub fn kept_rules_are_sound()
     ensures { (f : List ℕ) → KeepsAllRules f → IsSound (image_of f) (shape (image_of f)) }
+{}
+
+/// The image of a sealed image is itself.
+pub fn image_of_sealed()
+    ensures { (b : List ℕ) → 44 ≤ length b → image_of (sealed b) ≡ b }
+{}
+
+/// A sealed image keeps all rules exactly where it keeps those on its two first records, and is good by its shape.
+pub fn sealed_keeps_all_rules()
+    ensures from_shape { (b : List ℕ) (s : Shape) → AllHold (first_phases (sealed b)) → IsGoodImage b s → KeepsAllRules (sealed b) }
+    ensures to_shape { (b : List ℕ) → 44 ≤ length b → KeepsAllRules (sealed b) → AllHold (first_phases (sealed b)) × IsGoodImage b (shape b) }
+{}
+
+/// What the records of an image take, and the 8 bytes before them, add up to the image.
+pub fn space_adds_up()
+    ensures { (b : List ℕ) (s : Shape) → HasShape b s → (space_of b s).used + (space_of b s).listed_bytes + (space_of b s).unlisted_bytes + 8 ≡ length b }
 {}
