@@ -19,19 +19,19 @@ fn three_calls(store: &mut MemStore) -> [bool; 3]
     requires end { 5 ≤ (⟦<MemStore as Store>⟧.spare store.old).end }
 {
     let read = store.read_at(1, &mut [0; 2]);
-    let written = store.write_at(2, b"456");
-    let cut = store.set_len(0);
-    [read.is_ok(), written.is_ok(), cut.is_ok()]
+    let cut = store.set_len(2);
+    let written = store.write_at(0, b"4567");
+    [read.is_ok(), cut.is_ok(), written.is_ok()]
 }
 
 #[test]
 fn store_fails_at_each_planned_call(rt: HostRuntime) -> Result<(), Fail> {
     for (planned, answers, left) in [
-        (1, [false, false, false], 3),
-        (2, [false, true, true], 0),
-        (3, [true, false, true], 0),
-        (4, [true, true, false], 5),
-        (5, [true, true, true], 0),
+        (1, [false, false, false], b"123".as_slice()),
+        (2, [false, true, true], b"4567"),
+        (3, [true, false, true], b"4567"),
+        (4, [true, true, false], b"12"),
+        (5, [true, true, true], b"4567"),
     ] {
         let mut store = MemStore::new(rt.alloc());
         store.put_file("a", b"123")?;
@@ -44,11 +44,7 @@ fn store_fails_at_each_planned_call(rt: HostRuntime) -> Result<(), Fail> {
         } else {
             assert_eq!(rt; planned, 1);
         }
-        assert_eq!(rt;
-            store.file("a").map_or(9, |bytes| bytes.len()),
-            left,
-            "{planned}"
-        );
+        assert_eq!(rt; store.file("a").unwrap_or(b"none"), left, "{planned}");
     }
     Ok(())
 }
@@ -139,19 +135,23 @@ fn real_file_is_made_written_and_cut(rt: HostRuntime) -> Result<(), Fail> {
     let Ok(Some(0)) = store.attach(FILE, true) else {
         return Err(Fail::new("no file was made"));
     };
-    store.reserve(2, 6)?;
+    store.reserve(1, 6)?;
     assert_eq!(rt; store.write_at(0, b"abcdef"), Ok(()));
-    assert_eq!(rt; store.set_len(0), Ok(()));
-    store.reserve(1, 4)?;
-    assert_eq!(rt; store.write_at(0, b"wxyz"), Ok(()));
+
+    let mut cutter = FileStore::new(rt, rt.alloc());
+    let Ok(Some(6)) = cutter.attach(FILE, false) else {
+        return Err(Fail::new("the file is not as long as was written"));
+    };
+    cutter.reserve(1, 0)?;
+    assert_eq!(rt; cutter.set_len(4), Ok(()));
 
     let mut again = FileStore::new(rt, rt.alloc());
     let Ok(Some(4)) = again.attach(FILE, false) else {
-        return Err(Fail::new("the file has another length"));
+        return Err(Fail::new("the file is not as long as it was cut to"));
     };
     let mut out = [0; 8];
     assert_eq!(rt; again.read_at(1, &mut out), Ok(3));
-    assert_eq!(rt; &out[..3], b"xyz".as_slice());
+    assert_eq!(rt; &out[..3], b"bcd".as_slice());
     fs::remove_file(&rt, FILE)?;
     Ok(())
 }
