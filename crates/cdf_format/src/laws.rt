@@ -1,10 +1,11 @@
 //! What follows from the definitions, each law as the clause of a function.
 
 ghost use Rattle.std.specs.Prelude.{◌≡◌, ◌≢◌, ◌⊎◌, ◌≤◌, ◌<◌, ◌+◌, ℕ, List, [], ◌∷◌, ◌++◌, true, length, take, drop};
+ghost use Rattle.cdf_model.specs.DataSet.{head_of};
 ghost use Rattle.cdf_format.specs.Alone.{IsSound, ChangedWithin, LeavesFinding, FileStays, Leaves};
 ghost use Rattle.cdf_format.specs.Changed.{Touch, touch, Changed, Placed};
 ghost use Rattle.cdf_format.specs.Chains.{IsChain, Leads, is_linkable, chain};
-ghost use Rattle.cdf_format.specs.Content.{content, content_of};
+ghost use Rattle.cdf_format.specs.Content.{content, content_of, head_by_fields};
 ghost use Rattle.cdf_format.specs.Fields.{word, number, size_at, type_at};
 ghost use Rattle.cdf_format.specs.GoodImage.{IsGoodImage};
 ghost use Rattle.cdf_format.specs.Index.{Nodes, nodes_of};
@@ -139,4 +140,9 @@ pub fn sealed_keeps_all_rules()
 /// What the records of an image take, and the 8 bytes before them, add up to the image.
 pub fn space_adds_up()
     ensures { (b : List ℕ) (s : Shape) → HasShape b s → (space_of b s).used + (space_of b s).listed_bytes + (space_of b s).unlisted_bytes + 8 ≡ length b }
+{}
+
+/// The head of a good image's content is what the fields of its two first records say.
+pub fn head_is_fields()
+    ensures { (b : List ℕ) (s : Shape) → IsGoodImage b s → head_of (content b) ≡ head_by_fields b }
 {}
