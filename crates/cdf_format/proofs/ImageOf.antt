@@ -10,7 +10,7 @@ use Rattle.cdf_format.specs.Shape.{shape}
 use Rattle.cdf_format.proofs.Pieces.{word-piece}
 use Rattle.cdf_format.proofs.Tests.{both, le_of}
 use Rattle.cdf_format.proofs.Members.{either}
-use Rattle.cdf_format.proofs.BareFile.{record-of}
+use Rattle.cdf_format.proofs.FileRecords.{record-of}
 use Rattle.cdf_format.proofs.GoodImageLemmas.{good_by_rules}
 use Rattle.cdf_format.specs.Alone.{IsSound}
 use Rattle.cdf_format.specs.Records.{gdr_r_num_dims}

@@ -9,6 +9,7 @@ pub mod RowLemmas
 pub mod ShapeLemmas
 pub mod GoodImageLemmas
 pub mod Tests
+pub mod FileRecords
 pub mod HeadOf
 pub mod BareFile
 pub mod Owning
