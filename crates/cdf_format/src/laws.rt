@@ -146,3 +146,8 @@ pub fn space_adds_up()
 pub fn head_is_fields()
     ensures { (b : List ℕ) (s : Shape) → IsGoodImage b s → head_of (content b) ≡ head_by_fields b }
 {}
+
+/// A file that keeps all rules is its image, sealed.
+pub fn kept_rules_are_sealed()
+    ensures { (f : List ℕ) → KeepsAllRules f → sealed (image_of f) ≡ f }
+{}
