@@ -95,24 +95,24 @@ pub fn keeps_all_rules()
     ensures { (f : List ℕ) → WellFormed f → KeepsAllRules f }
 {}
 
-/// A change within the records of one attribute leaves the tiling, the chains of the file, every other attribute, all variables, and what the file says.
+/// A change within the records of one attribute leaves the tiling up to the old end, the chains of the file, every other attribute, all variables, and what the file says.
 pub fn attr_alone()
-    ensures { (b now : List ℕ) (s : Shape) (before : List AttributeShape) (own : AttributeShape) (after : List AttributeShape) → IsSound b s → s.attributes ≡ before ++ own ∷ after → ChangedWithin b now (attribute_records own) → Leaves b now s (before ++ after) (variables s) × FileStays b now s }
+    ensures { (b now records : List ℕ) (s : Shape) (before : List AttributeShape) (own : AttributeShape) (after : List AttributeShape) → IsSound b s → ((member : ℕ) → In member s.records → In member records) → s.attributes ≡ before ++ own ∷ after → ChangedWithin b now (attribute_records own) → Leaves b now s records (before ++ after) (variables s) × FileStays b now s }
 {}
 
-/// A change within the records of one variable leaves the tiling, the chains of the file, all attributes, every other variable, and what the file says.
+/// A change within the records of one variable leaves the tiling up to the old end, the chains of the file, all attributes, every other variable, and what the file says.
 pub fn var_alone()
-    ensures { (b now : List ℕ) (s : Shape) (before : List VariableShape) (own : VariableShape) (after : List VariableShape) → IsSound b s → variables s ≡ before ++ own ∷ after → ChangedWithin b now (variable_records own) → Leaves b now s s.attributes (before ++ after) × FileStays b now s }
+    ensures { (b now records : List ℕ) (s : Shape) (before : List VariableShape) (own : VariableShape) (after : List VariableShape) → IsSound b s → ((member : ℕ) → In member s.records → In member records) → variables s ≡ before ++ own ∷ after → ChangedWithin b now (variable_records own) → Leaves b now s records s.attributes (before ++ after) × FileStays b now s }
 {}
 
-/// A change within the CDR and the GDR, but for the fields that others are found and read by, leaves the tiling, the chains, all attributes and all variables.
+/// A change within the CDR and the GDR, but for the fields that others are found and read by, leaves the tiling up to the old end, the chains, all attributes and all variables.
 pub fn file_alone()
-    ensures { (b now : List ℕ) (s : Shape) (change : ChangedWithin b now (8 ∷ s.gdr ∷ [])) → IsSound b s → LeavesFinding b s change.touches → Leaves b now s s.attributes (variables s) }
+    ensures { (b now records : List ℕ) (s : Shape) (change : ChangedWithin b now (8 ∷ s.gdr ∷ [])) → IsSound b s → ((member : ℕ) → In member s.records → In member records) → LeavesFinding b s change.touches → Leaves b now s records s.attributes (variables s) }
 {}
 
-/// A change within unused records leaves the tiling, the chains, all attributes, all variables, and what the file says.
+/// A change within unused records leaves the tiling up to the old end, the chains, all attributes, all variables, and what the file says.
 pub fn unused_alone()
-    ensures { (b now : List ℕ) (s : Shape) → IsSound b s → ChangedWithin b now (unused_records b s) → Leaves b now s s.attributes (variables s) × FileStays b now s }
+    ensures { (b now records : List ℕ) (s : Shape) → IsSound b s → ((member : ℕ) → In member s.records → In member records) → ChangedWithin b now (unused_records b s) → Leaves b now s records s.attributes (variables s) × FileStays b now s }
 {}
 
 /// A link that is written changes the chain that it is behind a front part of, which goes on with the records that the link then leads through; every other chain stays. More may be touched that meets no link.
