@@ -24,3 +24,4 @@ pub mod SoundLemmas
 pub mod ImageOf
 pub mod SpaceLemmas
 pub mod SealedRules
+pub mod TilesGrow

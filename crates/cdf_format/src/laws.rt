@@ -151,3 +151,13 @@ pub fn head_is_fields()
 pub fn kept_rules_are_sealed()
     ensures { (f : List ℕ) → KeepsAllRules f → sealed (image_of f) ≡ f }
 {}
+
+/// The records of an image, one more record behind them.
+pub fn tile_appended()
+    ensures { (b : List ℕ) (from upto n : ℕ) (tiles : List ℕ) → AreTiles b from upto tiles → size_at b upto ≡ n → 12 ≤ n → AreTiles b from (upto + n) (tiles ++ upto ∷ []) }
+{}
+
+/// The records of an image of which one is split into two.
+pub fn tile_split()
+    ensures { (b now : List ℕ) (from upto tile n : ℕ) (before after : List ℕ) → AreTiles b from upto (before ++ tile ∷ after) → ((other : ℕ) → In other (before ++ after) → size_at now other ≡ size_at b other) → size_at now tile ≡ n → size_at now (tile + n) + n ≡ size_at b tile → 12 ≤ n → 12 ≤ size_at now (tile + n) → AreTiles now from upto (before ++ tile ∷ (tile + n) ∷ after) }
+{}
