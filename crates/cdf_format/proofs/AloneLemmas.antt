@@ -55,7 +55,7 @@ le_through x y z p q = omega arith
 
 -- ---- the frame
 
-module _ (b now own : List ℕ) (s : Shape) (h : HasShape b s) (change : ChangedWithin b now own) (own_in : (m : ℕ) → In m own → In m s.records) where
+module _ (b now own : List ℕ) (s : Shape) (h : HasShape b s) (change : ChangedWithin b now own) (own_in : (m : ℕ) → In m own → In m s.records) (records : List ℕ) (sub : (m : ℕ) → In m s.records → In m records) where
   placed_all : (ts : List Touch) → Each (LeavesLinks b own) ts → Placed b s.records (length b) ts
   placed_all [] w = tt
   placed_all (t ∷ ts) w = (inl (own_in t.tile w.0.inside, w.0.fits), placed_all ts w.1)
@@ -80,13 +80,13 @@ module _ (b now own : List ℕ) (s : Shape) (h : HasShape b s) (change : Changed
   part m lo hi i fits miss = changed_part b now s.records (length b) h.tiled (omega arith) change.touches change.changed placed m lo hi i fits miss
 
   -- the sizes and types of all records
-  pub heads : SameHeads b now s.records s.records
+  pub heads : SameHeads b now s.records records
   heads = record {
     sizes = λ m i. let l = (tile_lies b 8 (length b) s.records m h.tiled i).long in
         word_kept b now (m + 0) (m + 12) (part m 0 12 i l (misses_low change.touches m change.within)) (m + 0) 8 (omega arith) (omega arith);
     types = λ m i. let l = (tile_lies b 8 (length b) s.records m h.tiled i).long in
         word_kept b now (m + 0) (m + 12) (part m 0 12 i l (misses_low change.touches m change.within)) (m + 8) 4 (omega arith) (omega arith);
-    sub = λ m i. i;
+    sub = sub;
   }
 
   -- the next fields of records that have one
@@ -101,15 +101,15 @@ module _ (b now own : List ℕ) (s : Shape) (h : HasShape b s) (change : Changed
     long = l.long;
   }
 
-  pub tiling_stays : AreTiles now 8 (length now) s.records
-  tiling_stays = subst (λ (n : ℕ). AreTiles now 8 n s.records) (sym change.as_long) (tiles_same b now 8 (length b) s.records h.tiled heads.sizes)
+  pub tiling_stays : AreTiles now 8 (length b) s.records
+  tiling_stays = tiles_same b now 8 (length b) s.records h.tiled heads.sizes
 
-  pub chain_stays : (type link link' : ℕ) (ms : List ℕ) → is_in type linked_types ≡ true → IsChain b s.records type link ms → link' ≡ link → IsChain now s.records type link' ms
-  chain_stays type link link' ms linked c e = chain_kept b now s.records s.records heads type link link' ms c e (λ m i.
+  pub chain_stays : (type link link' : ℕ) (ms : List ℕ) → is_in type linked_types ≡ true → IsChain b s.records type link ms → link' ≡ link → IsChain now records type link' ms
+  chain_stays type link link' ms linked c e = chain_kept b now s.records records heads type link link' ms c e (λ m i.
       let ok = c.linkable m i in
       next_stays m (linkable-in b s.records type m ok) (let l = linkable-long b s.records type m ok in omega arith) (subst (λ (t : ℕ). is_in t linked_types ≡ true) (sym (linkable-type b s.records type m ok)) linked))
 
-  pub attribute_stays : FileSame b now → (a : AttributeShape) → is_linkable b s.records adr_type a.adr ≡ true → HasEntries b s.records a → AttributeFits b a → ((m : ℕ) → In m (attribute_records a) → In m own → ⊥) → AttributeStays b now s a
+  pub attribute_stays : FileSame b now → (a : AttributeShape) → is_linkable b s.records adr_type a.adr ≡ true → HasEntries b s.records a → AttributeFits b a → ((m : ℕ) → In m (attribute_records a) → In m own → ⊥) → AttributeStays b now records a
   attribute_stays file a ok has fits out =
       let tile = linkable-in b s.records adr_type a.adr ok in
       let long : 324 ≤ size_at b a.adr = subst (λ (t : ℕ). fixed_size t ≤ size_at b a.adr) (linkable-type b s.records adr_type a.adr ok) (h.fixed a.adr tile) in
@@ -123,14 +123,14 @@ module _ (b now own : List ℕ) (s : Shape) (h : HasShape b s) (change : Changed
         attribute_kept b now file a adr long gr z fits,
       )
 
-  pub attributes_stay : FileSame b now → (as_ : List AttributeShape) → Each (λ (a : AttributeShape). is_linkable b s.records adr_type a.adr ≡ true) as_ → Each (HasEntries b s.records) as_ → Each (AttributeFits b) as_ → ((m : ℕ) → In m (flat_map attribute_records as_) → In m own → ⊥) → Each (AttributeStays b now s) as_
+  pub attributes_stay : FileSame b now → (as_ : List AttributeShape) → Each (λ (a : AttributeShape). is_linkable b s.records adr_type a.adr ≡ true) as_ → Each (HasEntries b s.records) as_ → Each (AttributeFits b) as_ → ((m : ℕ) → In m (flat_map attribute_records as_) → In m own → ⊥) → Each (AttributeStays b now records) as_
   attributes_stay file [] ok has fits out = tt
   attributes_stay file (a ∷ more) ok has fits out = (
     attribute_stays file a ok.0 has.0 fits.0 (λ m i. out m (In-append_left m (attribute_records a) (flat_map attribute_records more) i)),
     attributes_stay file more ok.1 has.1 fits.1 (λ m i. out m (In-append_right m (attribute_records a) (flat_map attribute_records more) i)),
   )
 
-  pub variable_stays : FileSame b now → (v : VariableShape) → In v.vdr s.records → HasVariable b s.records v → VariableFits b s.records v → ((m : ℕ) → In m (variable_records v) → In m own → ⊥) → VariableStays b now s v
+  pub variable_stays : FileSame b now → (v : VariableShape) → In v.vdr s.records → HasVariable b s.records v → VariableFits b s.records v → ((m : ℕ) → In m (variable_records v) → In m own → ⊥) → VariableStays b now records v
   variable_stays file v tile has fits out =
       let nodes = nodes_of v.index in
       let blocks = map (λ (leaf : Leaf). leaf.place) (leaves_of v.index) in
@@ -142,13 +142,13 @@ module _ (b now own : List ℕ) (s : Shape) (h : HasShape b s) (change : Changed
       let link = cpr_link_same b now file v.vdr vdr fits.0 in
       let cpr : cpr_of now v.vdr ≡ cpr_of b v.vdr = λ i. if compressed i then link i ∷ [] else [] in (
         record {
-          indexed = index_kept b now s.records s.records heads (number b v.vdr vdr_vxr_head) (number now v.vdr vdr_vxr_head) v.index has.indexed (index_link_same b now file v.vdr vdr fits.0) node (Each-in (NodeFits b) nodes fits.1) stand;
+          indexed = index_kept b now s.records records heads (number b v.vdr vdr_vxr_head) (number now v.vdr vdr_vxr_head) v.index has.indexed (index_link_same b now file v.vdr vdr fits.0) node (Each-in (NodeFits b) nodes fits.1) stand;
           packed_by = cpr ∙ has.packed_by;
         },
         variable_kept b now file v.vdr vdr fits.0 v s.records refl block fits.2,
       )
 
-  pub variables_stay : FileSame b now → (vs : List VariableShape) → Each (λ (v : VariableShape). In v.vdr s.records) vs → Each (HasVariable b s.records) vs → Each (VariableFits b s.records) vs → ((m : ℕ) → In m (flat_map variable_records vs) → In m own → ⊥) → Each (VariableStays b now s) vs
+  pub variables_stay : FileSame b now → (vs : List VariableShape) → Each (λ (v : VariableShape). In v.vdr s.records) vs → Each (HasVariable b s.records) vs → Each (VariableFits b s.records) vs → ((m : ℕ) → In m (flat_map variable_records vs) → In m own → ⊥) → Each (VariableStays b now records) vs
   variables_stay file [] tile has fits out = tt
   variables_stay file (v ∷ more) tile has fits out = (
     variable_stays file v tile.0 has.0 fits.0 (λ m i. out m (In-append_left m (variable_records v) (flat_map variable_records more) i)),
@@ -164,7 +164,7 @@ module _ (b now own : List ℕ) (s : Shape) (h : HasShape b s) (change : Changed
   gdr_long = subst (λ (t : ℕ). fixed_size t ≤ size_at b s.gdr) (is_a-type b s.records gdr_type s.gdr h.gdr_stands) (h.fixed s.gdr (is_a-in b s.records gdr_type s.gdr h.gdr_stands))
 
   pub chains_by_links : gdr_offset now ≡ gdr_offset b → number now s.gdr gdr_adr_head ≡ number b s.gdr gdr_adr_head → number now s.gdr gdr_r_vdr_head ≡ number b s.gdr gdr_r_vdr_head
-      → number now s.gdr gdr_z_vdr_head ≡ number b s.gdr gdr_z_vdr_head → number now s.gdr gdr_uir_head ≡ number b s.gdr gdr_uir_head → ChainsStay b now s
+      → number now s.gdr gdr_z_vdr_head ≡ number b s.gdr gdr_z_vdr_head → number now s.gdr gdr_uir_head ≡ number b s.gdr gdr_uir_head → ChainsStay now records s
   chains_by_links g a r z u = record {
     gdr_is = g ∙ h.gdr_is;
     attribute_chain = chain_stays adr_type _ _ (adrs s) refl h.attribute_chain a;
@@ -199,7 +199,7 @@ module _ (b now own : List ℕ) (s : Shape) (h : HasShape b s) (change : Changed
     pub file_same : FileSame b now
     file_same = file_same_by offset_same (number_kept b now 8 cdr.same cdr_encoding (let l = cdr_long in omega arith)) dimensions_same sizes_same
 
-    pub chains_stay : ChainsStay b now s
+    pub chains_stay : ChainsStay now records s
     chains_stay =
         let head = λ (f : Field) (fits : f.place + f.width ≤ 84). number_kept b now s.gdr gdr.same f (le_through (f.place + f.width) 84 (size_at b s.gdr) fits gdr_long) in
         chains_by_links offset_same (head gdr_adr_head (omega arith)) (head gdr_r_vdr_head (omega arith)) (head gdr_z_vdr_head (omega arith)) (head gdr_uir_head (omega arith))

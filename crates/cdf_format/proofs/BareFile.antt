@@ -1,55 +1,27 @@
 -- A file that holds nothing beside the CDR and the GDR keeps all rules, and its content is what these two records say.
-use Rattle.std.proofs.Common.{◌≡◌, ℕ, pos, ◌+◌, ◌*◌, ◌≤◌, List, [], ◌∷◌, length, Bool, true, false, ◌&&◌, eqb, eq-eqb, refl, sym, ap, subst, ◌∙◌, arith, inl, inr}
-use Rattle.std.specs.Prelude.{nat_le, ◌==◌}
+use Rattle.std.proofs.Common.{◌≡◌, ℕ, ◌+◌, ◌≤◌, List, [], ◌∷◌, length, Bool, true, false, ◌&&◌, eqb, eq-eqb, refl, sym, ap, subst, ◌∙◌, arith, inl, inr}
+use Rattle.std.specs.Prelude.{◌==◌}
 use Rattle.cdf_model.specs.DataSet.{head_of}
-use Rattle.cdf_format.specs.Fields.{number, has_bit, size_at, type_at, gdr_offset, release, encoding, flags, increment, r_dimensions, r_sizes, r_variables, attributes, z_variables, r_variable_head, z_variable_head, attribute_head, unused_head}
-use Rattle.cdf_format.specs.Records.{gdr_r_num_dims}
+use Rattle.cdf_format.specs.Fields.{size_at, type_at, gdr_offset, r_variables, attributes, z_variables, r_variable_head, z_variable_head, attribute_head, unused_head}
 use Rattle.cdf_format.specs.RecordTypes.{cdr_type, gdr_type, adr_type, r_vdr_type, z_vdr_type, uir_type, is_record_type, fixed_size}
 use Rattle.cdf_format.specs.Rules.{Hold, asked, AllHold}
 use Rattle.cdf_format.specs.Sealed.{has_checksum, image_of}
 use Rattle.cdf_format.specs.NotRead.{is_bare, no_links, no_counts, unread_records}
 use Rattle.cdf_format.specs.WellFormed.{WellFormed}
-use Rattle.cdf_format.specs.FileRules.{is_record, gdr_rows}
 use Rattle.cdf_format.specs.Tiles.{In}
 use Rattle.cdf_format.specs.Chains.{IsChain}
 use Rattle.cdf_format.specs.Shape.{Shape, HasShape}
 use Rattle.cdf_format.specs.Owners.{times, owned_records}
 use Rattle.cdf_format.specs.Phases.{image_phases, phase10, KeepsAllRules}
 use Rattle.cdf_format.specs.GoodImage.{IsGoodImage}
-use Rattle.cdf_format.specs.Content.{content, majority_of}
-use Rattle.cdf_format.proofs.Tests.{both, le_of, eq_of, not_false}
+use Rattle.cdf_format.specs.Content.{content, head_by_fields}
+use Rattle.cdf_format.proofs.FileRecords.{cdr_record, gdr_holds, gdr_record}
+use Rattle.cdf_format.proofs.HeadOf.{head_of_good}
+use Rattle.cdf_format.proofs.Tests.{both, eq_of, not_false}
 use Rattle.cdf_format.proofs.Images.{image_of-whole}
 use Rattle.cdf_format.proofs.Members.{either}
 use Rattle.cdf_format.proofs.ChainsLemmas.{is_a-from}
-use Rattle.cdf_format.proofs.ShapeLemmas.{content_is}
 use Rattle.cdf_format.proofs.GoodImageLemmas.{rules_by_good}
-use Rattle.cdf_model.specs.declared.head.Head.{Head}
-
--- a record and its size
-pub record HasRecord (f : List ℕ) (place type least : ℕ) : Type 0 where
-  pub type_is : type_at f place ≡ type
-  pub long : least ≤ size_at f place
-  pub ends : place + size_at f place ≤ length f
-
-pub record-of : (f : List ℕ) (place type least : ℕ) → is_record f place type least ≡ true → HasRecord f place type least
-record-of f place type least e =
-    let p = both (type_at f place == type) (nat_le least (size_at f place) && nat_le (place + size_at f place) (length f)) e in
-    let q = both (nat_le least (size_at f place)) (nat_le (place + size_at f place) (length f)) p.1 in
-    record { type_is = eq_of _ _ p.0; long = le_of _ _ q.0; ends = le_of _ _ q.1 }
-
-pub cdr_record : (f : List ℕ) → WellFormed f → HasRecord f 8 1 312
-cdr_record f holds = record-of f 8 1 312 holds.1.1.0.1.0
-
-gdr_holds : (f : List ℕ) → WellFormed f → Hold (gdr_rows f (gdr_offset f))
-gdr_holds f holds = subst (λ (t : Bool). Hold (asked t (gdr_rows f (gdr_offset f)))) holds.1.1.1.0.0 holds.1.1.1.0.1
-
-pub gdr_record : (f : List ℕ) → WellFormed f → HasRecord f (gdr_offset f) 2 84
-gdr_record f holds =
-    let g = gdr_offset f in
-    let least = 84 + 4 * r_dimensions f g in
-    let r = record-of f g 2 least (both (nat_le (number f g gdr_r_num_dims) 10) (is_record f g 2 least) (gdr_holds f holds).0).1 in
-    let long : least ≤ size_at f g = r.long in
-    record { type_is = r.type_is; long = omega arith; ends = r.ends }
 
 bare_holds : (f : List ℕ) → WellFormed f → is_bare f (gdr_offset f) ≡ true
 bare_holds f holds =
@@ -91,21 +63,6 @@ bare_of f holds =
       a_count = c'.0;
       z_count = c'.1;
     }
-
--- a head by the fields of the two records
-abbrev pub head_by_fields : List ℕ → Head
-head_by_fields f = record {
-  version = pos 3;
-  release = release f;
-  increment = increment f;
-  encoding = encoding f;
-  majority = majority_of (has_bit (flags f) 0);
-  md5 = has_checksum f;
-  rdims = r_sizes f (gdr_offset f);
-  attrs = attributes f (gdr_offset f);
-  rvars = r_variables f (gdr_offset f);
-  zvars = z_variables f (gdr_offset f);
-}
 
 abbrev pub bare_shape : ℕ → Shape
 bare_shape g = record { records = 8 ∷ g ∷ []; gdr = g; attributes = []; r_variables = []; z_variables = []; unused = [] }
@@ -193,20 +150,4 @@ module _ (f : List ℕ) (holds : WellFormed f) where
 
   -- the head of its content
   pub head_is_fields : head_of (content f) ≡ head_by_fields f
-  head_is_fields =
-      let r = bare_of f holds in
-      let a : 0 ≡ attributes f (gdr_offset f) = sym (eq_of _ _ r.a_count) in
-      let v : 0 ≡ r_variables f (gdr_offset f) = sym (eq_of _ _ r.r_count) in
-      let z : 0 ≡ z_variables f (gdr_offset f) = sym (eq_of _ _ r.z_count) in
-      ap head_of (content_is f (bare_shape (gdr_offset f)) bare_has_shape) ∙ (λ i. record {
-        version = pos 3;
-        release = release f;
-        increment = increment f;
-        encoding = encoding f;
-        majority = majority_of (has_bit (flags f) 0);
-        md5 = has_checksum f;
-        rdims = r_sizes f (gdr_offset f);
-        attrs = a i;
-        rvars = v i;
-        zvars = z i;
-      })
+  head_is_fields = head_of_good f (bare_shape (gdr_offset f)) bare_good

@@ -1,16 +1,16 @@
 -- The image of a file that keeps all rules is good.
-use Rattle.std.proofs.Common.{◌≡◌, ℕ, ◌+◌, ◌-◌, ◌≤◌, ◌<◌, List, length, ◌∙◌, arith, inl, inr, ◌*◌, subst, sym, ap, take, Bool, [], ◌∷◌, ◌++◌, false, refl, true}
-use Rattle.std.proofs.lemmas.List.{length-take, length-append, get_or_append_left}
-use Rattle.std.specs.Prelude.{nat_le, if◌then◌else◌}
+use Rattle.std.proofs.Common.{◌≡◌, ℕ, ◌+◌, ◌-◌, ◌≤◌, ◌<◌, List, length, ◌∙◌, arith, inl, inr, ◌*◌, subst, sym, ap, take, Bool, [], ◌∷◌, ◌++◌, false, refl, true, append-nil, drop}
+use Rattle.std.proofs.lemmas.List.{length-take, length-append, get_or_append_left, take-append-drop, take_all}
+use Rattle.std.specs.Prelude.{nat_le, if◌then◌else◌, bytes_eq}
 use Rattle.cdf_format.specs.Fields.{type_at, gdr_offset, counted, number, r_dimensions, word, size_at, has_bit}
 use Rattle.cdf_format.specs.Sealed.{has_checksum, trailer_length, image_of, trailer, sealed}
-use Rattle.cdf_format.specs.Phases.{KeepsAllRules}
+use Rattle.cdf_format.specs.Phases.{KeepsAllRules, phase10}
 use Rattle.cdf_format.specs.GoodImage.{IsGoodImage}
 use Rattle.cdf_format.specs.Shape.{shape}
 use Rattle.cdf_format.proofs.Pieces.{word-piece}
-use Rattle.cdf_format.proofs.Tests.{both, le_of}
+use Rattle.cdf_format.proofs.Tests.{both, le_of, same_of_bytes_eq}
 use Rattle.cdf_format.proofs.Members.{either}
-use Rattle.cdf_format.proofs.BareFile.{record-of}
+use Rattle.cdf_format.proofs.FileRecords.{record-of}
 use Rattle.cdf_format.proofs.GoodImageLemmas.{good_by_rules}
 use Rattle.cdf_format.specs.Alone.{IsSound}
 use Rattle.cdf_format.specs.Records.{gdr_r_num_dims}
@@ -25,6 +25,7 @@ use Rattle.cdf_format.specs.Changed.{Same}
 use Rattle.cdf_format.proofs.BytesLemmas.{word-same}
 use Rattle.md5.specs.Md5.{md5}
 use Rattle.md5.proofs.StandardFacts.{length-md5}
+use Rattle.cdf_format.proofs.RowLemmas.{Hold-asked}
 
 short_trailer : (f : List ℕ) → trailer_length f ≤ 16
 short_trailer f = elim (either (has_checksum f)) [ inl e ↦ rw e (omega arith) | inr e ↦ rw e (omega arith) ]
@@ -111,3 +112,27 @@ image_of-sealed b long =
     take-front : (xs ys : List ℕ) → take (length xs) (xs ++ ys) ≡ xs
     take-front [] ys = refl
     take-front (x ∷ xs) ys = ap (λ (r : List ℕ). x ∷ r) (take-front xs ys)
+
+-- a file that keeps all rules is its image, sealed
+pub sealed_is_file : (f : List ℕ) → KeepsAllRules f → sealed (image_of f) ≡ f
+sealed_is_file f rules =
+    let n = length f - trailer_length f in
+    let room = both (nat_le 8 (gdr_offset f)) (nat_le (gdr_offset f + 84) (length f)) rules.1.1.1.0.0 in
+    let enough : 44 ≤ n = let p = le_of 8 (gdr_offset f) room.0 in let q = le_of (gdr_offset f + 84) (length f) room.1 in let t = short_trailer f in omega arith in
+    let flags_same : has_checksum (image_of f) ≡ has_checksum f = ap (λ (x : ℕ). has_bit x 2) (word_of_front n f 40 4 enough) in
+    let rule : Hold (phase10 f) = rules.1.1.1.1.1.1.1.1.1.1.0 in
+    elim (either (has_checksum f)) [
+      | inl e ↦
+          let row : bytes_eq (drop (length (image_of f)) f) (md5 (image_of f)) ≡ true = (Hold-asked (has_checksum f) _ rule e).0 in
+          let rest : drop (length (image_of f)) f ≡ md5 (image_of f) = same_of_bytes_eq (drop (length (image_of f)) f) (md5 (image_of f)) row in
+          let long : length (image_of f) ≡ n = all_taken n f (omega arith) in
+          let end : trailer (image_of f) ≡ drop n f = ap (λ (p : Bool). if p then md5 (image_of f) else []) (flags_same ∙ e) ∙ sym rest ∙ ap (λ (k : ℕ). drop k f) long in
+          ap (λ (x : List ℕ). image_of f ++ x) end ∙ take-append-drop n f
+      | inr e ↦
+          let none : trailer (image_of f) ≡ [] = ap (λ (p : Bool). if p then md5 (image_of f) else []) (flags_same ∙ e) in
+          let all : length f ≤ n = let z : trailer_length f ≡ 0 = ap (λ (p : Bool). if p then 16 else 0) e in omega arith in
+          ap (λ (x : List ℕ). image_of f ++ x) none ∙ append-nil (image_of f) ∙ take_all n f all
+    ]
+  where
+    all_taken : (n : ℕ) (f : List ℕ) → n ≤ length f → length (take n f) ≡ n
+    all_taken n f le = omega (arith, length-take n f)

@@ -9,6 +9,8 @@ pub mod RowLemmas
 pub mod ShapeLemmas
 pub mod GoodImageLemmas
 pub mod Tests
+pub mod FileRecords
+pub mod HeadOf
 pub mod BareFile
 pub mod Owning
 pub mod BytesLemmas
@@ -22,3 +24,4 @@ pub mod SoundLemmas
 pub mod ImageOf
 pub mod SpaceLemmas
 pub mod SealedRules
+pub mod TilesGrow

@@ -131,25 +131,25 @@ module _ (b : List ℕ) (s : Shape) (sound : IsSound b s) where
   too_many : (own f a v u : ℕ) → f + (a + (v + u)) ≤ 1 → 1 ≤ own → own ≤ a → 1 ≤ f → ⊥
   too_many own f a v u l o i p = omega arith
 
-  module _ (now own : List ℕ) (change : ChangedWithin b now own) (own_in : (m : ℕ) → In m own → In m s.records) (file_apart : Apart own (file_records s)) where
+  module _ (now own : List ℕ) (change : ChangedWithin b now own) (own_in : (m : ℕ) → In m own → In m s.records) (file_apart : Apart own (file_records s)) (records : List ℕ) (sub : (m : ℕ) → In m s.records → In m records) where
     cdr_kept : Kept b now 8
-    cdr_kept = stays b now own s h change own_in 8 cdr_in (file_apart 8 (inl refl))
+    cdr_kept = stays b now own s h change own_in records sub 8 cdr_in (file_apart 8 (inl refl))
 
     gdr_kept : Kept b now s.gdr
-    gdr_kept = stays b now own s h change own_in s.gdr gdr_in (file_apart s.gdr (inr (inl refl)))
+    gdr_kept = stays b now own s h change own_in records sub s.gdr gdr_in (file_apart s.gdr (inr (inl refl)))
 
     pub file_is : FileStays b now s
-    file_is = file_stays b now own s h change own_in cdr_kept gdr_kept sound.gdr_fits
+    file_is = file_stays b now own s h change own_in records sub cdr_kept gdr_kept sound.gdr_fits
 
     pub leaves : (attributes : List AttributeShape) (others : List VariableShape) → Each (λ (a : AttributeShape). is_linkable b s.records adr_type a.adr ≡ true) attributes → Each (HasEntries b s.records) attributes → Each (AttributeFits b) attributes → Apart own (flat_map attribute_records attributes)
-        → Each (λ (v : VariableShape). In v.vdr s.records) others → Each (HasVariable b s.records) others → Each (VariableFits b s.records) others → Apart own (flat_map variable_records others) → Leaves b now s attributes others
+        → Each (λ (v : VariableShape). In v.vdr s.records) others → Each (HasVariable b s.records) others → Each (VariableFits b s.records) others → Apart own (flat_map variable_records others) → Leaves b now s records attributes others
     leaves attributes others linked has fits apart stand has' fits' apart' =
-        let file = file_same b now own s h change own_in cdr_kept gdr_kept sound.gdr_fits in
+        let file = file_same b now own s h change own_in records sub cdr_kept gdr_kept sound.gdr_fits in
         record {
-          tiled = tiling_stays b now own s h change own_in;
-          chains_stay = chains_stay b now own s h change own_in cdr_kept gdr_kept sound.gdr_fits;
-          attributes_stay = attributes_stay b now own s h change own_in file attributes linked has fits apart;
-          variables_stay = variables_stay b now own s h change own_in file others stand has' fits' apart';
+          tiled = tiling_stays b now own s h change own_in records sub;
+          chains_stay = chains_stay b now own s h change own_in records sub cdr_kept gdr_kept sound.gdr_fits;
+          attributes_stay = attributes_stay b now own s h change own_in records sub file attributes linked has fits apart;
+          variables_stay = variables_stay b now own s h change own_in records sub file others stand has' fits' apart';
         }
 
   -- ---- an attribute
@@ -173,19 +173,19 @@ module _ (b : List ℕ) (s : Shape) (sound : IsSound b s) where
         let e : times m (flat_map attribute_records (before ++ after)) ≡ times m (flat_map attribute_records before) + times m (flat_map attribute_records after) = ap (times m) (flat-append attribute_records before after) ∙ times-append m (flat_map attribute_records before) (flat_map attribute_records after) in
         subst (λ (n : ℕ). 1 ≤ n) e t
 
-    pub attribute_alone : (now : List ℕ) → ChangedWithin b now (attribute_records own) → Leaves b now s (before ++ after) (variables s) × FileStays b now s
-    attribute_alone now change =
+    pub attribute_alone : (now records : List ℕ) → ((m : ℕ) → In m s.records → In m records) → ChangedWithin b now (attribute_records own) → Leaves b now s records (before ++ after) (variables s) × FileStays b now s
+    attribute_alone now records sub change =
         let mine = attribute_records own in
         let inside = attribute_in own (the_one (λ (a : AttributeShape). is_linkable b s.records adr_type a.adr ≡ true) s.attributes before own after all adrs_linked) (the_one (HasEntries b s.records) s.attributes before own after all h.entry_chains) in
         let from_file : Apart mine (file_records s) = λ m i j. no_file (times m mine) _ _ _ _ _ _ (limit m) (a_parts m) (times-in m mine j) (times-in m (file_records s) i) in
         let from_variables : Apart mine (all_variable_records s) = λ m i j. no_variable (times m mine) _ _ _ _ _ _ (limit m) (a_parts m) (times-in m mine j) (times-in m (all_variable_records s) i) in
         let from_others : Apart mine (flat_map attribute_records (before ++ after)) = λ m i j. no_other (times m mine) _ _ _ _ _ _ (limit m) (a_parts m) (times-in m mine j) (some_part m i) in (
-          leaves now mine change inside from_file (before ++ after) (variables s)
+          leaves now mine change inside from_file records sub (before ++ after) (variables s)
               (without_one (λ (a : AttributeShape). is_linkable b s.records adr_type a.adr ≡ true) s.attributes before own after all adrs_linked)
               (without_one (HasEntries b s.records) s.attributes before own after all h.entry_chains)
               (without_one (AttributeFits b) s.attributes before own after all sound.attributes_fit) from_others
               vdrs_stand h.have_variables sound.variables_fit from_variables,
-          file_is now mine change inside from_file,
+          file_is now mine change inside from_file records sub,
         )
 
   -- ---- a variable
@@ -209,8 +209,8 @@ module _ (b : List ℕ) (s : Shape) (sound : IsSound b s) where
         let e : times m (flat_map variable_records (before ++ after)) ≡ times m (flat_map variable_records before) + times m (flat_map variable_records after) = ap (times m) (flat-append variable_records before after) ∙ times-append m (flat_map variable_records before) (flat_map variable_records after) in
         subst (λ (n : ℕ). 1 ≤ n) e t
 
-    pub variable_alone : (now : List ℕ) → ChangedWithin b now (variable_records own) → Leaves b now s s.attributes (before ++ after) × FileStays b now s
-    variable_alone now change =
+    pub variable_alone : (now records : List ℕ) → ((m : ℕ) → In m s.records → In m records) → ChangedWithin b now (variable_records own) → Leaves b now s records s.attributes (before ++ after) × FileStays b now s
+    variable_alone now records sub change =
         let mine = variable_records own in
         let has = the_one (HasVariable b s.records) (variables s) before own after all h.have_variables in
         let fits = the_one (VariableFits b s.records) (variables s) before own after all sound.variables_fit in
@@ -229,11 +229,11 @@ module _ (b : List ℕ) (s : Shape) (sound : IsSound b s) where
         let from_file : Apart mine (file_records s) = λ m i j. file_not (times m mine) _ _ _ _ _ _ (limit m) (v_parts m) (times-in m mine j) (times-in m (file_records s) i) in
         let from_attributes : Apart mine (all_attribute_records s) = λ m i j. attribute_not (times m mine) _ _ _ _ _ _ (limit m) (v_parts m) (times-in m mine j) (times-in m (all_attribute_records s) i) in
         let from_others : Apart mine (flat_map variable_records (before ++ after)) = λ m i j. other_not (times m mine) _ _ _ _ _ _ (limit m) (v_parts m) (times-in m mine j) (some_variable m i) in (
-          leaves now mine change inside from_file s.attributes (before ++ after) adrs_linked h.entry_chains sound.attributes_fit from_attributes
+          leaves now mine change inside from_file records sub s.attributes (before ++ after) adrs_linked h.entry_chains sound.attributes_fit from_attributes
               (without_one (λ (v : VariableShape). In v.vdr s.records) (variables s) before own after all vdrs_stand)
               (without_one (HasVariable b s.records) (variables s) before own after all h.have_variables)
               (without_one (VariableFits b s.records) (variables s) before own after all sound.variables_fit) from_others,
-          file_is now mine change inside from_file,
+          file_is now mine change inside from_file records sub,
         )
 
   -- ---- unused records
@@ -247,15 +247,15 @@ module _ (b : List ℕ) (s : Shape) (sound : IsSound b s) where
       up : (n k : ℕ) → 1 ≤ n → n ≤ k → 1 ≤ k
       up n k p q = omega arith
 
-  pub unused_are_alone : (now : List ℕ) → ChangedWithin b now (unused_records b s) → Leaves b now s s.attributes (variables s) × FileStays b now s
-  unused_are_alone now change =
+  pub unused_are_alone : (now records : List ℕ) → ((m : ℕ) → In m s.records → In m records) → ChangedWithin b now (unused_records b s) → Leaves b now s records s.attributes (variables s) × FileStays b now s
+  unused_are_alone now records sub change =
       let mine = unused_records b s in
       let inside : (m : ℕ) → In m mine → In m s.records = λ m i. filter-in (λ place. eqb (type_at b place) uir_type) s.records m i in
       let from_file : Apart mine (file_records s) = unused_apart (file_records s) (λ m. first (times m (file_records s)) _ _) in
       let from_attributes : Apart mine (all_attribute_records s) = unused_apart (all_attribute_records s) (λ m. second _ (times m (all_attribute_records s)) _) in
       let from_variables : Apart mine (all_variable_records s) = unused_apart (all_variable_records s) (λ m. third _ _ (times m (all_variable_records s))) in (
-        leaves now mine change inside from_file s.attributes (variables s) adrs_linked h.entry_chains sound.attributes_fit from_attributes vdrs_stand h.have_variables sound.variables_fit from_variables,
-        file_is now mine change inside from_file,
+        leaves now mine change inside from_file records sub s.attributes (variables s) adrs_linked h.entry_chains sound.attributes_fit from_attributes vdrs_stand h.have_variables sound.variables_fit from_variables,
+        file_is now mine change inside from_file records sub,
       )
     where
       first : (f a v : ℕ) → f ≤ f + (a + v)
@@ -272,16 +272,16 @@ module _ (b : List ℕ) (s : Shape) (sound : IsSound b s) where
   not_file : (f a v u n : ℕ) → f + (a + (v + u)) ≤ 1 → 1 ≤ f → 1 ≤ n → n ≤ a + v → ⊥
   not_file f a v u n l o p q = omega arith
 
-  pub file_is_alone : (now : List ℕ) (change : ChangedWithin b now (file_records s)) → LeavesFinding b s change.touches → Leaves b now s s.attributes (variables s)
-  file_is_alone now change leaves_it =
+  pub file_is_alone : (now records : List ℕ) → ((m : ℕ) → In m s.records → In m records) → (change : ChangedWithin b now (file_records s)) → LeavesFinding b s change.touches → Leaves b now s records s.attributes (variables s)
+  file_is_alone now records sub change leaves_it =
       let mine = file_records s in
       let inside : (m : ℕ) → In m mine → In m s.records = λ m i. elim i [ inl e ↦ subst (λ (x : ℕ). In x s.records) (sym e) cdr_in | inr j ↦ elim j [ inl e ↦ subst (λ (x : ℕ). In x s.records) (sym e) gdr_in | inr none ↦ absurd none ] ] in
       let from_attributes : Apart mine (all_attribute_records s) = λ m i j. not_file _ _ _ _ (times m (all_attribute_records s)) (limit m) (times-in m mine j) (times-in m (all_attribute_records s) i) (left (times m (all_attribute_records s)) (times m (all_variable_records s))) in
       let from_variables : Apart mine (all_variable_records s) = λ m i j. not_file _ _ _ _ (times m (all_variable_records s)) (limit m) (times-in m mine j) (times-in m (all_variable_records s) i) (right (times m (all_attribute_records s)) (times m (all_variable_records s))) in
-      let long = cdr_long b now mine s h change inside in
-      let long' = gdr_long b now mine s h change inside in
-      let cdr_part = part b now mine s h change inside 8 in
-      let gdr_part = part b now mine s h change inside s.gdr in
+      let long = cdr_long b now mine s h change inside records sub in
+      let long' = gdr_long b now mine s h change inside records sub in
+      let cdr_part = part b now mine s h change inside records sub 8 in
+      let gdr_part = part b now mine s h change inside records sub s.gdr in
       let offset = word_kept b now (8 + 12) (8 + 20) (cdr_part 12 20 cdr_in (omega arith) leaves_it.gdr_offset_stays) (8 + 12) 8 (omega arith) (omega arith) in
       let code = word_kept b now (8 + 28) (8 + 32) (cdr_part 28 32 cdr_in (omega arith) leaves_it.encoding_stays) (8 + 28) 4 (omega arith) (omega arith) in
       let adr = word_kept b now (s.gdr + 28) (s.gdr + 36) (gdr_part 28 36 gdr_in (omega arith) leaves_it.attribute_head) (s.gdr + 28) 8 (omega arith) (omega arith) in
@@ -292,12 +292,12 @@ module _ (b : List ℕ) (s : Shape) (sound : IsSound b s) where
       let count : r_dimensions now s.gdr ≡ r_dimensions b s.gdr = ap (λ (n : ℕ). counted (cast_signed w32 n)) dims in
       let d = r_dimensions b s.gdr in
       let sizes = ap (words now (s.gdr + 84)) count ∙ words_kept b now (s.gdr + 84) (s.gdr + (84 + 4 * d)) (gdr_part 84 (84 + 4 * d) gdr_in sound.gdr_fits leaves_it.sizes_stay) (s.gdr + 84) d (omega arith) (room s.gdr d) in
-      let file = file_same_by b now mine s h change inside offset code count sizes in
+      let file = file_same_by b now mine s h change inside records sub offset code count sizes in
       record {
-        tiled = tiling_stays b now mine s h change inside;
-        chains_stay = chains_by_links b now mine s h change inside offset adr r z u;
-        attributes_stay = attributes_stay b now mine s h change inside file s.attributes adrs_linked h.entry_chains sound.attributes_fit from_attributes;
-        variables_stay = variables_stay b now mine s h change inside file (variables s) vdrs_stand h.have_variables sound.variables_fit from_variables;
+        tiled = tiling_stays b now mine s h change inside records sub;
+        chains_stay = chains_by_links b now mine s h change inside records sub offset adr r z u;
+        attributes_stay = attributes_stay b now mine s h change inside records sub file s.attributes adrs_linked h.entry_chains sound.attributes_fit from_attributes;
+        variables_stay = variables_stay b now mine s h change inside records sub file (variables s) vdrs_stand h.have_variables sound.variables_fit from_variables;
       }
     where
       left : (a v : ℕ) → a ≤ a + v

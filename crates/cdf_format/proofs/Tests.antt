@@ -1,7 +1,8 @@
 -- Tests of numbers, taken apart.
-use Rattle.std.proofs.Common.{◌≡◌, ℕ, ◌≤◌, Bool, true, false, refl, arith, ◌&&◌, not}
+use Rattle.std.proofs.Common.{◌≡◌, ℕ, ◌≤◌, Bool, true, false, refl, arith, ◌&&◌, not, List, [], ◌∷◌, eqb, ap₂}
 use Rattle.std.proofs.lemmas.Bool.Decides.{nat_tests}
-use Rattle.std.specs.Prelude.{nat_le, ◌==◌}
+use Rattle.std.specs.Prelude.{nat_le, ◌==◌, bytes_eq}
+use Rattle.std.proofs.lemmas.Bool.{eqb-true}
 
 pub both : (p q : Bool) → (p && q) ≡ true → (p ≡ true) × (q ≡ true)
 both true q e = (refl, e)
@@ -19,3 +20,11 @@ eq_of m n e = grind (arith, nat_tests)
 pub not_false : (p : Bool) → not p ≡ true → p ≡ false
 not_false true e = cc e
 not_false false e = refl
+
+pub same_of_bytes_eq : (xs ys : List ℕ) → bytes_eq xs ys ≡ true → xs ≡ ys
+same_of_bytes_eq [] [] e = refl
+same_of_bytes_eq [] (y ∷ ys) e = cc e
+same_of_bytes_eq (x ∷ xs) [] e = cc e
+same_of_bytes_eq (x ∷ xs) (y ∷ ys) e =
+    let p = both (eqb x y) (bytes_eq xs ys) e in
+    ap₂ (λ (m : ℕ) (ms : List ℕ). m ∷ ms) (eqb-true x y p.0) (same_of_bytes_eq xs ys p.1)

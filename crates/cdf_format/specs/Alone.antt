@@ -62,22 +62,21 @@ pub record LeavesLinks (b own : List ℕ) (t : Touch) : Type 0 where
   pub fits : t.place + t.width ≤ size_at b t.tile
   pub later : after_links b t.tile ≤ t.place
 
--- an image of the same length that differs within these records alone, and in none of their sizes, types and next fields
+-- an image that differs within these records alone, and in none of their sizes, types and next fields; it may go on behind the old end
 pub record ChangedWithin (b now own : List ℕ) : Type 0 where
   pub touches : List Touch
   pub changed : Changed b now touches
-  pub as_long : length now ≡ length b
   pub within : Each (LeavesLinks b own) touches
 
 -- ---- what it leaves
 
--- the chains that begin in the GDR
-pub record ChainsStay (b now : List ℕ) (s : Shape) : Type 0 where
+-- the chains that begin in the GDR, in an image that may have more records by now
+pub record ChainsStay (now records : List ℕ) (s : Shape) : Type 0 where
   pub gdr_is : gdr_offset now ≡ s.gdr
-  pub attribute_chain : IsChain now s.records adr_type (number now s.gdr gdr_adr_head) (adrs s)
-  pub r_chain : IsChain now s.records r_vdr_type (number now s.gdr gdr_r_vdr_head) (vdrs s.r_variables)
-  pub z_chain : IsChain now s.records z_vdr_type (number now s.gdr gdr_z_vdr_head) (vdrs s.z_variables)
-  pub unused_chain : IsChain now s.records uir_type (number now s.gdr gdr_uir_head) s.unused
+  pub attribute_chain : IsChain now records adr_type (number now s.gdr gdr_adr_head) (adrs s)
+  pub r_chain : IsChain now records r_vdr_type (number now s.gdr gdr_r_vdr_head) (vdrs s.r_variables)
+  pub z_chain : IsChain now records z_vdr_type (number now s.gdr gdr_z_vdr_head) (vdrs s.z_variables)
+  pub unused_chain : IsChain now records uir_type (number now s.gdr gdr_uir_head) s.unused
 
 -- what the CDR and the GDR say of the data set
 pub record FileStays (b now : List ℕ) (s : Shape) : Type 0 where
@@ -87,11 +86,11 @@ pub record FileStays (b now : List ℕ) (s : Shape) : Type 0 where
   pub flags_are : flags now ≡ flags b
   pub sizes_are : r_sizes now s.gdr ≡ r_sizes b s.gdr
 
-abbrev pub AttributeStays : List ℕ → List ℕ → Shape → AttributeShape → Type 0
-AttributeStays b now s a = HasEntries now s.records a × (attribute_of now a ≡ attribute_of b a)
+abbrev pub AttributeStays : List ℕ → List ℕ → List ℕ → AttributeShape → Type 0
+AttributeStays b now records a = HasEntries now records a × (attribute_of now a ≡ attribute_of b a)
 
-abbrev pub VariableStays : List ℕ → List ℕ → Shape → VariableShape → Type 0
-VariableStays b now s v = HasVariable now s.records v × (variable_of now v ≡ variable_of b v)
+abbrev pub VariableStays : List ℕ → List ℕ → List ℕ → VariableShape → Type 0
+VariableStays b now records v = HasVariable now records v × (variable_of now v ≡ variable_of b v)
 
 -- for the CDR and the GDR: a touch misses this field
 abbrev pub MissesField : List Touch → ℕ → Field → Type 0
@@ -108,9 +107,9 @@ pub record LeavesFinding (b : List ℕ) (s : Shape) (touches : List Touch) : Typ
   pub dimensions_stay : MissesField touches s.gdr gdr_r_num_dims
   pub sizes_stay : Misses touches s.gdr 84 (84 + 4 * r_dimensions b s.gdr)
 
--- the tiling, the chains, and these attributes and variables stay
-pub record Leaves (b now : List ℕ) (s : Shape) (attributes : List AttributeShape) (others : List VariableShape) : Type 0 where
-  pub tiled : AreTiles now 8 (length now) s.records
-  pub chains_stay : ChainsStay b now s
-  pub attributes_stay : Each (AttributeStays b now s) attributes
-  pub variables_stay : Each (VariableStays b now s) others
+-- the tiling up to the old end, the chains, and these attributes and variables stay
+pub record Leaves (b now : List ℕ) (s : Shape) (records : List ℕ) (attributes : List AttributeShape) (others : List VariableShape) : Type 0 where
+  pub tiled : AreTiles now 8 (length b) s.records
+  pub chains_stay : ChainsStay now records s
+  pub attributes_stay : Each (AttributeStays b now records) attributes
+  pub variables_stay : Each (VariableStays b now records) others

@@ -33,7 +33,7 @@ covered first last ranges = sum (map (shared first last) ranges)
 
 -- ---- new blocks
 
--- the records of a new block: BlockingFactor, or 64; no more than 1,048,576 bytes hold, one at least, and one where records do not vary
+-- BlockingFactor, and 64 where that is not positive
 abbrev pub wanted_count : ℤ → ℕ
 wanted_count (pos zero) = 64
 wanted_count (pos (suc n)) = suc n
@@ -42,6 +42,7 @@ wanted_count (negsuc n) = 64
 abbrev pub record_length : Variable → ℕ
 record_length v = record_size v.type v.elems v.dims v.varys
 
+-- how many records a new block holds: no more than 1,048,576 bytes do, but one at least, and one where records do not vary
 abbrev pub block_count : Variable → ℕ
 block_count v = if v.vary then max 1 (min (wanted_count v.blocking) (1048576 / record_length v)) else 1
 

@@ -1,5 +1,5 @@
 -- The data set that an image means (CDF Internal Format Description, "Internal Records").
-use Rattle.std.specs.Prelude.{ℕ, suc, ◌*◌, List, [], ◌∷◌, map, Bool, true, false, nat_lt, ◌==◌, if◌then◌else◌}
+use Rattle.std.specs.Prelude.{ℕ, suc, ◌*◌, List, [], ◌∷◌, map, Bool, true, false, nat_lt, ◌==◌, if◌then◌else◌, pos}
 use Rattle.std.specs.List.{filter, flat_map}
 use Rattle.cdf_model.specs.declared.head.Majority.{Majority}
 use Rattle.cdf_model.specs.declared.head.Majority.TheVariants.{Row, Column}
@@ -10,13 +10,14 @@ use Rattle.cdf_model.specs.DataSet.{Attribute, DataSet, Entry, Variable, extent}
 use Rattle.cdf_model.specs.Numbered.{with_item}
 use Rattle.cdf_model.specs.RunLengths.{plain_of}
 use Rattle.cdf_model.specs.Types.{size_of}
-use Rattle.cdf_format.specs.Fields.{number, integer4, has_bit, name_in, release, encoding, flags, increment, r_sizes}
+use Rattle.cdf_format.specs.Fields.{number, integer4, has_bit, name_in, release, encoding, flags, increment, r_sizes, attributes, r_variables, z_variables, gdr_offset}
 use Rattle.cdf_format.specs.Records.{adr_name, adr_scope, aedr_data_type, aedr_num, aedr_num_elems, aedr_value, vdr_blocking_factor, vdr_name, vdr_num_elems, vvr_records, cvvr_c_size, cvvr_packed}
 use Rattle.cdf_format.specs.Sealed.{has_checksum, image_of}
 use Rattle.cdf_format.specs.Stored.{field_bytes, is_little, data_type_in, network_bytes}
 use Rattle.cdf_format.specs.Index.{Leaf, leaves_of}
 use Rattle.cdf_format.specs.Shape.{AttributeShape, VariableShape, Shape, is_compressed, shape}
 use Rattle.cdf_format.specs.VariableFields.{dims_at, varys_at, type_of_variable, record_bytes, records_vary, pad_at, sparse_at, max_rec_at, records_of_leaf, plain_size}
+use Rattle.cdf_model.specs.declared.head.Head.{Head}
 
 abbrev pub majority_of : Bool → Majority
 majority_of true = Row
@@ -100,6 +101,21 @@ content_of b s = record {
 
 unfoldable pub content : List ℕ → DataSet
 content b = content_of b (shape b)
+
+-- its head by the fields of the CDR and the GDR
+abbrev pub head_by_fields : List ℕ → Head
+head_by_fields b = record {
+  version = pos 3;
+  release = release b;
+  increment = increment b;
+  encoding = encoding b;
+  majority = majority_of (has_bit (flags b) 0);
+  md5 = has_checksum b;
+  rdims = r_sizes b (gdr_offset b);
+  attrs = attributes b (gdr_offset b);
+  rvars = r_variables b (gdr_offset b);
+  zvars = z_variables b (gdr_offset b);
+}
 
 -- what a file means: its image, without the trailer
 abbrev pub data_set_of : List ℕ → DataSet

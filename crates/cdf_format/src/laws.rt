@@ -1,10 +1,11 @@
 //! What follows from the definitions, each law as the clause of a function.
 
 ghost use Rattle.std.specs.Prelude.{◌≡◌, ◌≢◌, ◌⊎◌, ◌≤◌, ◌<◌, ◌+◌, ℕ, List, [], ◌∷◌, ◌++◌, true, length, take, drop};
+ghost use Rattle.cdf_model.specs.DataSet.{head_of};
 ghost use Rattle.cdf_format.specs.Alone.{IsSound, ChangedWithin, LeavesFinding, FileStays, Leaves};
 ghost use Rattle.cdf_format.specs.Changed.{Touch, touch, Changed, Placed};
 ghost use Rattle.cdf_format.specs.Chains.{IsChain, Leads, is_linkable, chain};
-ghost use Rattle.cdf_format.specs.Content.{content, content_of};
+ghost use Rattle.cdf_format.specs.Content.{content, content_of, head_by_fields};
 ghost use Rattle.cdf_format.specs.Fields.{word, number, size_at, type_at};
 ghost use Rattle.cdf_format.specs.GoodImage.{IsGoodImage};
 ghost use Rattle.cdf_format.specs.Index.{Nodes, nodes_of};
@@ -94,24 +95,24 @@ pub fn keeps_all_rules()
     ensures { (f : List ℕ) → WellFormed f → KeepsAllRules f }
 {}
 
-/// A change within the records of one attribute leaves the tiling, the chains of the file, every other attribute, all variables, and what the file says.
+/// A change within the records of one attribute leaves the tiling up to the old end, the chains of the file, every other attribute, all variables, and what the file says.
 pub fn attr_alone()
-    ensures { (b now : List ℕ) (s : Shape) (before : List AttributeShape) (own : AttributeShape) (after : List AttributeShape) → IsSound b s → s.attributes ≡ before ++ own ∷ after → ChangedWithin b now (attribute_records own) → Leaves b now s (before ++ after) (variables s) × FileStays b now s }
+    ensures { (b now records : List ℕ) (s : Shape) (before : List AttributeShape) (own : AttributeShape) (after : List AttributeShape) → IsSound b s → ((member : ℕ) → In member s.records → In member records) → s.attributes ≡ before ++ own ∷ after → ChangedWithin b now (attribute_records own) → Leaves b now s records (before ++ after) (variables s) × FileStays b now s }
 {}
 
-/// A change within the records of one variable leaves the tiling, the chains of the file, all attributes, every other variable, and what the file says.
+/// A change within the records of one variable leaves the tiling up to the old end, the chains of the file, all attributes, every other variable, and what the file says.
 pub fn var_alone()
-    ensures { (b now : List ℕ) (s : Shape) (before : List VariableShape) (own : VariableShape) (after : List VariableShape) → IsSound b s → variables s ≡ before ++ own ∷ after → ChangedWithin b now (variable_records own) → Leaves b now s s.attributes (before ++ after) × FileStays b now s }
+    ensures { (b now records : List ℕ) (s : Shape) (before : List VariableShape) (own : VariableShape) (after : List VariableShape) → IsSound b s → ((member : ℕ) → In member s.records → In member records) → variables s ≡ before ++ own ∷ after → ChangedWithin b now (variable_records own) → Leaves b now s records s.attributes (before ++ after) × FileStays b now s }
 {}
 
-/// A change within the CDR and the GDR, but for the fields that others are found and read by, leaves the tiling, the chains, all attributes and all variables.
+/// A change within the CDR and the GDR, but for the fields that others are found and read by, leaves the tiling up to the old end, the chains, all attributes and all variables.
 pub fn file_alone()
-    ensures { (b now : List ℕ) (s : Shape) (change : ChangedWithin b now (8 ∷ s.gdr ∷ [])) → IsSound b s → LeavesFinding b s change.touches → Leaves b now s s.attributes (variables s) }
+    ensures { (b now records : List ℕ) (s : Shape) (change : ChangedWithin b now (8 ∷ s.gdr ∷ [])) → IsSound b s → ((member : ℕ) → In member s.records → In member records) → LeavesFinding b s change.touches → Leaves b now s records s.attributes (variables s) }
 {}
 
-/// A change within unused records leaves the tiling, the chains, all attributes, all variables, and what the file says.
+/// A change within unused records leaves the tiling up to the old end, the chains, all attributes, all variables, and what the file says.
 pub fn unused_alone()
-    ensures { (b now : List ℕ) (s : Shape) → IsSound b s → ChangedWithin b now (unused_records b s) → Leaves b now s s.attributes (variables s) × FileStays b now s }
+    ensures { (b now records : List ℕ) (s : Shape) → IsSound b s → ((member : ℕ) → In member s.records → In member records) → ChangedWithin b now (unused_records b s) → Leaves b now s records s.attributes (variables s) × FileStays b now s }
 {}
 
 /// A link that is written changes the chain that it is behind a front part of, which goes on with the records that the link then leads through; every other chain stays. More may be touched that meets no link.
@@ -139,4 +140,24 @@ pub fn sealed_keeps_all_rules()
 /// What the records of an image take, and the 8 bytes before them, add up to the image.
 pub fn space_adds_up()
     ensures { (b : List ℕ) (s : Shape) → HasShape b s → (space_of b s).used + (space_of b s).listed_bytes + (space_of b s).unlisted_bytes + 8 ≡ length b }
+{}
+
+/// The head of a good image's content is what the fields of its two first records say.
+pub fn head_is_fields()
+    ensures { (b : List ℕ) (s : Shape) → IsGoodImage b s → head_of (content b) ≡ head_by_fields b }
+{}
+
+/// A file that keeps all rules is its image, sealed.
+pub fn kept_rules_are_sealed()
+    ensures { (f : List ℕ) → KeepsAllRules f → sealed (image_of f) ≡ f }
+{}
+
+/// The records of an image, one more record behind them.
+pub fn tile_appended()
+    ensures { (b : List ℕ) (from upto n : ℕ) (tiles : List ℕ) → AreTiles b from upto tiles → size_at b upto ≡ n → 12 ≤ n → AreTiles b from (upto + n) (tiles ++ upto ∷ []) }
+{}
+
+/// The records of an image of which one is split into two.
+pub fn tile_split()
+    ensures { (b now : List ℕ) (from upto tile n : ℕ) (before after : List ℕ) → AreTiles b from upto (before ++ tile ∷ after) → ((other : ℕ) → In other (before ++ after) → size_at now other ≡ size_at b other) → size_at now tile ≡ n → size_at now (tile + n) + n ≡ size_at b tile → 12 ≤ n → 12 ≤ size_at now (tile + n) → AreTiles now from upto (before ++ tile ∷ (tile + n) ∷ after) }
 {}

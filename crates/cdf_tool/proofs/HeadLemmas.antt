@@ -5,12 +5,12 @@ use Rattle.std.proofs.lemmas.Bool.Decides.{nat_tests}
 use Rattle.std.proofs.lemmas.Int.{of_z-to_z}
 use Rattle.std.specs.Prelude.{nat_le, ◌&&◌, ◌==◌}
 use Rattle.std.specs.Int.{w32, cast_signed, cast_unsigned}
-use Rattle.cdf_format.specs.Content.{content, data_set_of, majority_of}
+use Rattle.cdf_format.specs.Content.{content, data_set_of, head_by_fields, majority_of}
 use Rattle.cdf_format.specs.Fields.{word, signed4, has_bit, gdr_offset, version, flags, size_at, type_at, r_dimensions, r_sizes}
 use Rattle.cdf_format.specs.Rules.{Hold, asked}
 use Rattle.cdf_format.specs.WellFormed.{WellFormed}
 use Rattle.cdf_format.specs.FileRules.{has_gdr, is_gdr, is_record, gdr_rows}
-use Rattle.cdf_format.proofs.BareFile.{head_by_fields, head_is_fields}
+use Rattle.cdf_format.proofs.BareFile.{head_is_fields}
 use Rattle.cdf_format.proofs.Images.{image_of-whole}
 use Rattle.cdf_model.specs.declared.command.Command.{Command}
 use Rattle.cdf_model.specs.declared.command.Command.TheVariants.{Info}
