@@ -30,16 +30,6 @@ fn a_script_is_answered_in_pieces_of_any_size(rt: HostRuntime) -> Result<(), Fai
         ("\t\t \t\n", "", 0),
         ("\n\n#", "", 0),
         ("\nINFO", "2 refused 1 BadLine UnknownWord 0\n", 1),
-        (
-            " \"info\" \nlist\n list x\nattr X\nattr \"X global\nget-rec T 01",
-            "1 ok version 3.9.0 encoding 6 majority row checksum none rdims - attributes 0 rvars 0 zvars 0\n\
-             2 refused 1 BadLine UnknownWord 0\n\
-             3 refused 1 BadLine ExtraWord 6\n\
-             4 refused 1 BadLine MissingWord 6\n\
-             5 refused 1 BadLine BadQuote 5\n\
-             6 refused 1 BadLine BadNumber 10\n",
-            1,
-        ),
     ] {
         for most in [1, 2, 3, 7, 65536] {
             let devices = Devices { most, ..SOUND };
@@ -154,6 +144,26 @@ fn a_line_that_is_too_long_is_refused(rt: HostRuntime) -> Result<(), Fail> {
         ran.text.as_slice(),
         b"1 refused 1 BadLine TooLong 16777216\n\
           2 ok version 3.9.0 encoding 6 majority row checksum none rdims - attributes 0 rvars 0 zvars 0\n"
+            .as_slice()
+    );
+    assert_eq!(rt; ran.status, 1);
+    Ok(())
+}
+
+#[test]
+fn a_fault_is_told_with_its_place(rt: HostRuntime) -> Result<(), Fail> {
+    let alloc = rt.alloc();
+    let file = changed_file(alloc, 404, &[])?;
+    let script = b" \"info\" \nlist\n list x\nattr X\nattr \"X global\nget-rec T 01";
+    let ran = run_over(alloc, &["a.cdf"], &file, script, &SOUND)?;
+    assert_eq!(rt;
+        ran.text.as_slice(),
+        b"1 ok version 3.9.0 encoding 6 majority row checksum none rdims - attributes 0 rvars 0 zvars 0\n\
+          2 refused 1 BadLine UnknownWord 0\n\
+          3 refused 1 BadLine ExtraWord 6\n\
+          4 refused 1 BadLine MissingWord 6\n\
+          5 refused 1 BadLine BadQuote 5\n\
+          6 refused 1 BadLine BadNumber 10\n"
             .as_slice()
     );
     assert_eq!(rt; ran.status, 1);
