@@ -58,14 +58,20 @@ fn long_lines(alloc: Global, count: usize) -> Result<Vec<u8>, AllocError> {
 fn a_line_has_at_most_16777216_bytes(rt: HostRuntime) -> Result<(), Fail> {
     let alloc = rt.alloc();
     let script = long_lines(alloc, 16_777_216)?;
-    let mut lines = fed_by(alloc, &script, 8_000_000)?;
-    for (number, long, size) in [(1, false, 16_777_216), (2, true, 0), (3, false, 4)] {
-        assert!(rt; lines.next_line(), "line {number} is missing");
-        let line = lines.line();
-        assert_eq!(rt; line.number, number);
-        assert_eq!(rt; line.long, long, "line {number}");
-        assert_eq!(rt; line.text.len(), size, "line {number}");
+    for size in [1, 65_536, 8_000_000] {
+        let mut lines = fed_by(alloc, &script, size)?;
+        for (number, long, length) in [(1, false, 16_777_216), (2, true, 0), (3, false, 4)] {
+            assert!(rt; lines.next_line(), "line {number} is missing");
+            let line = lines.line();
+            assert_eq!(rt; line.number, number);
+            assert_eq!(rt; line.long, long, "line {number}, in pieces of {size}");
+            assert_eq!(rt;
+                line.text.len(),
+                length,
+                "line {number}, in pieces of {size}"
+            );
+        }
+        assert!(rt; !lines.next_line());
     }
-    assert!(rt; !lines.next_line());
     Ok(())
 }
