@@ -25,3 +25,4 @@ pub mod ImageOf
 pub mod SpaceLemmas
 pub mod SealedRules
 pub mod TilesGrow
+pub mod Assembled

@@ -247,6 +247,9 @@ module _ (b : List ℕ) (s : Shape) (sound : IsSound b s) where
       up : (n k : ℕ) → 1 ≤ n → n ≤ k → 1 ≤ k
       up n k p q = omega arith
 
+  pub unused_in : (m : ℕ) → In m (unused_records b s) → In m s.records
+  unused_in m i = filter-in (λ place. eqb (type_at b place) uir_type) s.records m i
+
   pub unused_are_alone : (now records : List ℕ) → ((m : ℕ) → In m s.records → In m records) → ChangedWithin b now (unused_records b s) → Leaves b now s records s.attributes (variables s) × FileStays b now s
   unused_are_alone now records sub change =
       let mine = unused_records b s in
