@@ -26,3 +26,4 @@ pub mod SpaceLemmas
 pub mod SealedRules
 pub mod TilesGrow
 pub mod Assembled
+pub mod SoundKept
