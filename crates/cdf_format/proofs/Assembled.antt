@@ -77,7 +77,7 @@ module _ (b now : List ℕ) (s : Shape) (records : List ℕ) (stay : Leaves b no
       }
 
 -- a record of the old image in the new one
-is_a_kept : (b now records records' : List ℕ) (type place : ℕ) → SameHeads b now records records' → is_a b records type place ≡ true → is_a now records' type place ≡ true
+pub is_a_kept : (b now records records' : List ℕ) (type place : ℕ) → SameHeads b now records records' → is_a b records type place ≡ true → is_a now records' type place ≡ true
 is_a_kept b now records records' type place same e =
     let i = is_a-in b records type place e in
     is_a-from now records' type place (same.sub place i) (same.types place i ∙ is_a-type b records type place e)

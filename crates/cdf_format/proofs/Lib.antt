@@ -27,3 +27,4 @@ pub mod SealedRules
 pub mod TilesGrow
 pub mod Assembled
 pub mod SoundKept
+pub mod StaysSound

@@ -161,3 +161,13 @@ pub fn tile_appended()
 pub fn tile_split()
     ensures { (b now : List ℕ) (from upto tile n : ℕ) (before after : List ℕ) → AreTiles b from upto (before ++ tile ∷ after) → ((other : ℕ) → In other (before ++ after) → size_at now other ≡ size_at b other) → size_at now tile ≡ n → size_at now (tile + n) + n ≡ size_at b tile → 12 ≤ n → 12 ≤ size_at now (tile + n) → AreTiles now from upto (before ++ tile ∷ (tile + n) ∷ after) }
 {}
+
+/// A change within unused records that keeps the length leaves a sound image sound, with its content.
+pub fn unused_stay_sound()
+    ensures { (b now : List ℕ) (s : Shape) → IsSound b s → length now ≡ length b → ChangedWithin b now (unused_records b s) → IsSound now s × (content now ≡ content b) }
+{}
+
+/// A change within the CDR and the GDR that keeps the length, but for the fields that others are found and read by, leaves a sound image sound.
+pub fn file_stays_sound()
+    ensures { (b now : List ℕ) (s : Shape) (change : ChangedWithin b now (8 ∷ s.gdr ∷ [])) → IsSound b s → length now ≡ length b → LeavesFinding b s change.touches → IsSound now s }
+{}
