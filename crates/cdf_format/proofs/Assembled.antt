@@ -5,7 +5,7 @@ use Rattle.cdf_format.specs.Fields.{has_bit, size_at, type_at}
 use Rattle.cdf_format.specs.RecordTypes.{cdr_type, gdr_type, is_record_type, fixed_size}
 use Rattle.cdf_format.specs.Tiles.{In, AreTiles}
 use Rattle.cdf_format.specs.Chains.{is_a}
-use Rattle.cdf_format.specs.Shape.{AttributeShape, VariableShape, Shape, variables, Each, HasEntries, HasVariable, HasShape}
+use Rattle.cdf_format.specs.Shape.{AttributeShape, VariableShape, Shape, variables, with_records, Each, HasEntries, HasVariable, HasShape}
 use Rattle.cdf_format.specs.Owners.{unused_records}
 use Rattle.cdf_format.specs.Content.{content_of, content, attribute_of, variable_of, majority_of}
 use Rattle.cdf_format.specs.Alone.{IsSound, ChangedWithin, FileStays, AttributeStays, VariableStays, Leaves}
@@ -30,10 +30,6 @@ has_variables b now records (v ∷ more) h = (h.0.0, has_variables b now records
 same_variables : (b now records : List ℕ) (vs : List VariableShape) → Each (VariableStays b now records) vs → map (variable_of now) vs ≡ map (variable_of b) vs
 same_variables b now records [] h = refl
 same_variables b now records (v ∷ more) h = ap₂ (λ (x : Variable) (xs : List Variable). x ∷ xs) h.0.1 (same_variables b now records more h.1)
-
--- with other records
-abbrev pub with_records : Shape → List ℕ → Shape
-with_records s records = record s { records = records }
 
 module _ (b now : List ℕ) (s : Shape) (records : List ℕ) (stay : Leaves b now s records s.attributes (variables s)) where
   pub shape_stays : AreTiles now 8 (length now) records → ((m : ℕ) → In m records → is_record_type (type_at now m) ≡ true) → ((m : ℕ) → In m records → fixed_size (type_at now m) ≤ size_at now m)

@@ -28,3 +28,4 @@ pub mod TilesGrow
 pub mod Assembled
 pub mod SoundKept
 pub mod StaysSound
+pub mod Appended

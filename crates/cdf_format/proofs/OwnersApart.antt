@@ -55,13 +55,13 @@ flat-append f (x ∷ xs) ys = ap (λ (r : List ℕ). f x ++ r) (flat-append f xs
 times-parts : {A : Type 0} (f : A → List ℕ) (m : ℕ) (xs : List A) (x : A) (ys : List A) → times m (flat_map f (xs ++ x ∷ ys)) ≡ times m (flat_map f xs) + (times m (f x) + times m (flat_map f ys))
 times-parts f m xs x ys = ap (times m) (flat-append f xs (x ∷ ys)) ∙ times-append m (flat_map f xs) (f x ++ flat_map f ys) ∙ ap (λ (n : ℕ). times m (flat_map f xs) + n) (times-append m (f x) (flat_map f ys))
 
-abbrev file_records : Shape → List ℕ
+abbrev pub file_records : Shape → List ℕ
 file_records s = 8 ∷ s.gdr ∷ []
 
-abbrev all_attribute_records : Shape → List ℕ
+abbrev pub all_attribute_records : Shape → List ℕ
 all_attribute_records s = flat_map attribute_records s.attributes
 
-abbrev all_variable_records : Shape → List ℕ
+abbrev pub all_variable_records : Shape → List ℕ
 all_variable_records s = flat_map variable_records (variables s)
 
 sum_up : (f a r z v u n1 n2 n3 n4 : ℕ) → n1 ≡ f + a → n2 ≡ n1 + r → n3 ≡ n2 + z → n4 ≡ n3 + u → v ≡ r + z → n4 ≡ f + (a + (v + u))

@@ -21,7 +21,7 @@ use Rattle.cdf_format.proofs.Assembled.{shape_stays, typed_kept, fixed_kept, is_
 use Rattle.cdf_format.specs.Content.{content}
 
 -- the records of variables are records of the image
-variables_stand : (b records : List ℕ) (vs : List VariableShape) → Each (λ (v : VariableShape). In v.vdr records) vs → Each (HasVariable b records) vs → Each (VariableFits b records) vs → (m : ℕ) → In m (flat_map variable_records vs) → In m records
+pub variables_stand : (b records : List ℕ) (vs : List VariableShape) → Each (λ (v : VariableShape). In v.vdr records) vs → Each (HasVariable b records) vs → Each (VariableFits b records) vs → (m : ℕ) → In m (flat_map variable_records vs) → In m records
 variables_stand b records [] tile has fits m i = absurd i
 variables_stand b records (v ∷ more) tile has fits m i =
     let nodes = nodes_of v.index in

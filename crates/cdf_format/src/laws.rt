@@ -15,10 +15,10 @@ ghost use Rattle.cdf_format.specs.Links.{ChainHead, with_members, IsHead, AllSpa
 ghost use Rattle.cdf_format.specs.Owners.{space_of, times, owned_records, attribute_records, variable_records, unused_records};
 ghost use Rattle.cdf_format.specs.Phases.{first_phases, image_phases, KeepsAllRules};
 ghost use Rattle.cdf_format.specs.Records.{Field};
-ghost use Rattle.cdf_format.specs.RecordTypes.{cdr_type};
+ghost use Rattle.cdf_format.specs.RecordTypes.{cdr_type, uir_type};
 ghost use Rattle.cdf_format.specs.Rules.{AllHold};
 ghost use Rattle.cdf_format.specs.Sealed.{image_of, sealed};
-ghost use Rattle.cdf_format.specs.Shape.{AttributeShape, VariableShape, Shape, HasShape, variables, shape};
+ghost use Rattle.cdf_format.specs.Shape.{AttributeShape, VariableShape, Shape, HasShape, variables, with_records, shape};
 ghost use Rattle.cdf_format.specs.Tiles.{In, Distinct, AreTiles, tiling};
 ghost use Rattle.cdf_format.specs.Walks.{whole};
 ghost use Rattle.cdf_format.specs.WellFormed.{WellFormed, Breaks};
@@ -170,4 +170,9 @@ pub fn unused_stay_sound()
 /// A change within the CDR and the GDR that keeps the length, but for the fields that others are found and read by, leaves a sound image sound.
 pub fn file_stays_sound()
     ensures { (b now : List ℕ) (s : Shape) (change : ChangedWithin b now (8 ∷ s.gdr ∷ [])) → IsSound b s → length now ≡ length b → LeavesFinding b s change.touches → IsSound now s }
+{}
+
+/// An unused record behind the last one, on no list, leaves a sound image sound; the CDR and the GDR may change beside, but for the fields that others are found and read by.
+pub fn appended_stays_sound()
+    ensures { (b now : List ℕ) (s : Shape) (n : ℕ) (change : ChangedWithin b now (8 ∷ s.gdr ∷ [])) → IsSound b s → LeavesFinding b s change.touches → length now ≡ length b + n → size_at now (length b) ≡ n → type_at now (length b) ≡ uir_type → 12 ≤ n → IsSound now (with_records s (s.records ++ length b ∷ [])) }
 {}
