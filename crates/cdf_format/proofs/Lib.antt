@@ -29,3 +29,4 @@ pub mod Assembled
 pub mod SoundKept
 pub mod StaysSound
 pub mod Appended
+pub mod GoodLemmas
