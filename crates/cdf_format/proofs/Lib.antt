@@ -30,3 +30,4 @@ pub mod SoundKept
 pub mod StaysSound
 pub mod Appended
 pub mod GoodLemmas
+pub mod IndexRedone
