@@ -27,7 +27,7 @@ use Rattle.md5.specs.Md5.{md5}
 use Rattle.md5.proofs.StandardFacts.{length-md5}
 use Rattle.cdf_format.proofs.RowLemmas.{Hold-asked}
 
-short_trailer : (f : List ℕ) → trailer_length f ≤ 16
+pub short_trailer : (f : List ℕ) → trailer_length f ≤ 16
 short_trailer f = elim (either (has_checksum f)) [ inl e ↦ rw e (omega arith) | inr e ↦ rw e (omega arith) ]
 
 pub good_image_of : (f : List ℕ) → KeepsAllRules f → IsGoodImage (image_of f) (shape (image_of f))
@@ -92,7 +92,7 @@ flags_of_front b rest long =
     before : (i n : ℕ) → i < 44 → 44 ≤ n → i < n
     before i n h l = omega arith
 
-trailer_is : (b : List ℕ) → length (trailer b) ≡ trailer_length b
+pub trailer_is : (b : List ℕ) → length (trailer b) ≡ trailer_length b
 trailer_is b = cases (has_checksum b)
   where
     cases : (p : Bool) → length (if p then md5 b else []) ≡ (if p then 16 else 0)

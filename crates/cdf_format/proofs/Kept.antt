@@ -25,7 +25,7 @@ use Rattle.cdf_format.specs.VariableRules.{vdr_end}
 use Rattle.cdf_format.specs.AttributeRules.{entry_bytes}
 use Rattle.cdf_format.specs.Content.{scope_of, entry_of, entries_of, attribute_of, plain_bytes, numbered_from, leaf_records, records_in, variable_of}
 use Rattle.cdf_format.specs.Alone.{EntryFits, AttributeFits, BlockFits, LeafFits}
-use Rattle.cdf_format.proofs.BytesLemmas.{number_kept, integer_kept, type_kept, bytes_kept, name_kept, words_kept}
+use Rattle.cdf_format.proofs.BytesLemmas.{number_kept, integer_kept, type_kept, bytes_kept, name_kept, words_kept, size_kept}
 
 -- what the CDR and the GDR say of other records
 pub record FileSame (b now : List ℕ) : Type 0 where
@@ -66,6 +66,15 @@ module _ (b now : List ℕ) (file : FileSame b now) where
       let first : entry_of now e ≡ entry_from (data_type_in b e aedr_data_type) (number b e aedr_num_elems) (is_little b) (field_bytes now e (aedr_value (entry_bytes b e))) =
       λ i. entry_from (t i) (n i) (file.little i) (field_bytes now e (aedr_value (size_of (t i) * n i))) in
       first ∙ ap (entry_from (data_type_in b e aedr_data_type) (number b e aedr_num_elems) (is_little b)) raw
+
+  pub entry_fits_kept : (e : ℕ) → Kept b now e → EntryFits b e → EntryFits now e
+  entry_fits_kept e k fits =
+      let long : 56 ≤ size_at b e = less 56 (entry_bytes b e) (size_at b e) fits in
+      let t : data_type_in now e aedr_data_type ≡ data_type_in b e aedr_data_type = ap (λ (z : ℤ). unwrap_or (type_of z) Byte) (integer_kept b now e k.same aedr_data_type (omega arith)) in
+      let n : number now e aedr_num_elems ≡ number b e aedr_num_elems = number_kept b now e k.same aedr_num_elems (omega arith) in
+      let bytes : entry_bytes now e ≡ entry_bytes b e = λ i. size_of (t i) * n i in
+      let size = size_kept b now e k.same (omega arith) in
+      subst (λ (x : ℕ). 56 + entry_bytes now e ≤ x) (sym size) (subst (λ (x : ℕ). 56 + x ≤ size_at b e) (sym bytes) fits)
 
   pub entries_kept : (es : List ℕ) → ((m : ℕ) → In m es → Kept b now m) → Each (EntryFits b) es → entries_of now es ≡ entries_of b es
   entries_kept [] k fits = refl
@@ -232,6 +241,24 @@ module _ (b now : List ℕ) (file : FileSame b now) (v : ℕ) (k : Kept b now v)
 
   pub index_link_same : number now v vdr_vxr_head ≡ number b v vdr_vxr_head
   index_link_same = field_same vdr_vxr_head (omega arith)
+
+  pub end_kept : vdr_end now v ≤ size_at now v
+  end_kept =
+      let f = pad_field_same in
+      let w = value_same in
+      let p = flags_same in
+      let size = size_kept b now v k.same (let l = long in omega arith) in
+      let end : vdr_end now v ≡ vdr_end b v = λ i. (f i).place + (if has_bit (p i) 1 then w i else 0) in
+      subst (λ (x : ℕ). vdr_end now v ≤ x) (sym size) (subst (λ (x : ℕ). x ≤ size_at b v) (sym end) fits)
+
+  pub block_fits_kept : (leaf : Leaf) (packed : Bool) → Kept b now leaf.place → BlockFits b v leaf packed → BlockFits now v leaf packed
+  block_fits_kept leaf true kept room =
+      let c = number_kept b now leaf.place kept.same cvvr_c_size (less 24 (number b leaf.place cvvr_c_size) (size_at b leaf.place) room) in
+      let size = size_kept b now leaf.place kept.same (let l = kept.long in omega arith) in
+      subst (λ (x : ℕ). 24 + number now leaf.place cvvr_c_size ≤ x) (sym size) (subst (λ (x : ℕ). 24 + x ≤ size_at b leaf.place) (sym c) room)
+  block_fits_kept leaf false kept room =
+      let size = size_kept b now leaf.place kept.same (let l = kept.long in omega arith) in
+      subst (λ (x : ℕ). 12 + plain_size now v leaf ≤ x) (sym size) (subst (λ (x : ℕ). 12 + x ≤ size_at b leaf.place) (sym (plain_same leaf)) room)
 
   pub records_same : (leaves : List Leaf) (records : List ℕ) → ((m : ℕ) → In m (map (λ (leaf : Leaf). leaf.place) leaves) → Kept b now m) → Each (LeafFits b records v) leaves → records_in now v leaves ≡ records_in b v leaves
   records_same leaves records kept room =

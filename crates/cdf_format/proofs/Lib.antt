@@ -25,3 +25,9 @@ pub mod ImageOf
 pub mod SpaceLemmas
 pub mod SealedRules
 pub mod TilesGrow
+pub mod Assembled
+pub mod SoundKept
+pub mod StaysSound
+pub mod Appended
+pub mod GoodLemmas
+pub mod IndexRedone

@@ -103,6 +103,15 @@ module _ (b now records records' : List ℕ) (heads : SameHeads b now records re
     entries_same i (lower first last nodes entries) l s =
         (entry_same i first last (link_to nodes) (below i (entry_count entries) (room_at b place) l) s.0, entries_same (suc i) entries (later i (entry_count entries) (room_at b place) l) s.1)
 
+    pub node_fits_kept : NodeFits now place
+    node_fits_kept =
+        let size = size_kept b now place k.same (let l = long in omega arith) in
+        let r = room_same in
+        let u = used_same in (
+          subst (λ (x : ℕ). 28 + 16 * room_at now place ≤ x) (sym size) (subst (λ (x : ℕ). 28 + 16 * x ≤ size_at b place) (sym r) fits.0),
+          subst (λ (x : ℕ). used_count now place ≤ x) (sym r) (subst (λ (x : ℕ). x ≤ room_at b place) (sym u) fits.1),
+        )
+
     pub node_kept : (room : ℕ) (entries : Entries) (more : Nodes) → SaysNode b records place room entries more → SaysNode now records' place room entries more
     node_kept room entries more h =
         let count : entry_count entries ≤ room_at b place = subst (λ (x : ℕ). x ≤ room_at b place) h.used_is fits.1 in

@@ -13,13 +13,14 @@ use Rattle.cdf_format.proofs.ChainsLemmas.{is_a-in, linkable-in}
 use Rattle.cdf_format.proofs.ShapeLemmas.{Each-split, Each-append}
 use Rattle.cdf_format.proofs.GoodImageLemmas.{vdrs_append}
 use Rattle.cdf_format.proofs.Owning.{owned_is, filter-in}
-use Rattle.cdf_format.proofs.Kept.{Kept}
+use Rattle.cdf_format.proofs.Kept.{Kept, FileSame}
 use Rattle.cdf_format.proofs.AloneLemmas.{stays, tiling_stays, attributes_stay, variables_stay, file_same, chains_stay, file_stays, Each-in, blocks_stand, part, cdr_long, gdr_long, chains_by_links, file_same_by}
-use Rattle.cdf_format.specs.Fields.{counted, number, type_at, r_dimensions, words}
+use Rattle.cdf_format.specs.Fields.{counted, number, type_at, r_dimensions, words, gdr_offset, encoding, r_sizes, size_at}
 use Rattle.cdf_format.specs.Index.{Leaf, nodes_of, leaves_of}
 use Rattle.cdf_format.proofs.IndexLemmas.{nodes_stand}
-use Rattle.cdf_format.proofs.BytesLemmas.{word_kept, words_kept}
+use Rattle.cdf_format.proofs.BytesLemmas.{word_kept, words_kept, size_kept, integer_kept}
 use Rattle.cdf_format.specs.Records.{gdr_r_num_dims}
+use Rattle.cdf_format.specs.Changed.{Same, Misses}
 
 -- ---- counts of parts
 
@@ -54,13 +55,13 @@ flat-append f (x ∷ xs) ys = ap (λ (r : List ℕ). f x ++ r) (flat-append f xs
 times-parts : {A : Type 0} (f : A → List ℕ) (m : ℕ) (xs : List A) (x : A) (ys : List A) → times m (flat_map f (xs ++ x ∷ ys)) ≡ times m (flat_map f xs) + (times m (f x) + times m (flat_map f ys))
 times-parts f m xs x ys = ap (times m) (flat-append f xs (x ∷ ys)) ∙ times-append m (flat_map f xs) (f x ++ flat_map f ys) ∙ ap (λ (n : ℕ). times m (flat_map f xs) + n) (times-append m (f x) (flat_map f ys))
 
-abbrev file_records : Shape → List ℕ
+abbrev pub file_records : Shape → List ℕ
 file_records s = 8 ∷ s.gdr ∷ []
 
-abbrev all_attribute_records : Shape → List ℕ
+abbrev pub all_attribute_records : Shape → List ℕ
 all_attribute_records s = flat_map attribute_records s.attributes
 
-abbrev all_variable_records : Shape → List ℕ
+abbrev pub all_variable_records : Shape → List ℕ
 all_variable_records s = flat_map variable_records (variables s)
 
 sum_up : (f a r z v u n1 n2 n3 n4 : ℕ) → n1 ≡ f + a → n2 ≡ n1 + r → n3 ≡ n2 + z → n4 ≡ n3 + u → v ≡ r + z → n4 ≡ f + (a + (v + u))
@@ -106,7 +107,7 @@ module _ (b : List ℕ) (s : Shape) (sound : IsSound b s) where
   adrs_linked : Each (λ (a : AttributeShape). is_linkable b s.records adr_type a.adr ≡ true) s.attributes
   adrs_linked = each_adr (λ m. is_linkable b s.records adr_type m ≡ true) s.attributes h.attribute_chain.linkable
 
-  vdrs_stand : Each (λ (v : VariableShape). In v.vdr s.records) (variables s)
+  pub vdrs_stand : Each (λ (v : VariableShape). In v.vdr s.records) (variables s)
   vdrs_stand = each_vdr (λ m. In m s.records) (variables s) (λ m i. elim (In-append m (vdrs s.r_variables) (vdrs s.z_variables) (subst (λ (x : List ℕ). In m x) (vdrs_append s.r_variables s.z_variables) i)) [
     | inl j ↦ linkable-in b s.records r_vdr_type m (h.r_chain.linkable m j)
     | inr j ↦ linkable-in b s.records z_vdr_type m (h.z_chain.linkable m j)
@@ -137,6 +138,16 @@ module _ (b : List ℕ) (s : Shape) (sound : IsSound b s) where
 
     gdr_kept : Kept b now s.gdr
     gdr_kept = stays b now own s h change own_in records sub s.gdr gdr_in (file_apart s.gdr (inr (inl refl)))
+
+    pub file_same_is : FileSame b now
+    file_same_is = file_same b now own s h change own_in records sub cdr_kept gdr_kept sound.gdr_fits
+
+    pub gdr_room : 84 + 4 * r_dimensions now s.gdr ≤ size_at now s.gdr
+    gdr_room =
+        let long = gdr_long b now own s h change own_in records sub in
+        let size = size_kept b now s.gdr gdr_kept.same (omega arith) in
+        let dims : r_dimensions now s.gdr ≡ r_dimensions b s.gdr = ap counted (integer_kept b now s.gdr gdr_kept.same gdr_r_num_dims (omega arith)) in
+        subst (λ (x : ℕ). 84 + 4 * r_dimensions now s.gdr ≤ x) (sym size) (subst (λ (x : ℕ). 84 + 4 * x ≤ size_at b s.gdr) (sym dims) sound.gdr_fits)
 
     pub file_is : FileStays b now s
     file_is = file_stays b now own s h change own_in records sub cdr_kept gdr_kept sound.gdr_fits
@@ -247,64 +258,99 @@ module _ (b : List ℕ) (s : Shape) (sound : IsSound b s) where
       up : (n k : ℕ) → 1 ≤ n → n ≤ k → 1 ≤ k
       up n k p q = omega arith
 
+  pub unused_in : (m : ℕ) → In m (unused_records b s) → In m s.records
+  unused_in m i = filter-in (λ place. eqb (type_at b place) uir_type) s.records m i
+
+  first_of : (f a v : ℕ) → f ≤ f + (a + v)
+  first_of f a v = omega arith
+
+  second_of : (f a v : ℕ) → a ≤ f + (a + v)
+  second_of f a v = omega arith
+
+  third_of : (f a v : ℕ) → v ≤ f + (a + v)
+  third_of f a v = omega arith
+
+  pub unused_from_file : Apart (unused_records b s) (file_records s)
+  unused_from_file = unused_apart (file_records s) (λ m. first_of (times m (file_records s)) _ _)
+
+  pub unused_from_attributes : Apart (unused_records b s) (all_attribute_records s)
+  unused_from_attributes = unused_apart (all_attribute_records s) (λ m. second_of _ (times m (all_attribute_records s)) _)
+
+  pub unused_from_variables : Apart (unused_records b s) (all_variable_records s)
+  unused_from_variables = unused_apart (all_variable_records s) (λ m. third_of _ _ (times m (all_variable_records s)))
+
   pub unused_are_alone : (now records : List ℕ) → ((m : ℕ) → In m s.records → In m records) → ChangedWithin b now (unused_records b s) → Leaves b now s records s.attributes (variables s) × FileStays b now s
   unused_are_alone now records sub change =
-      let mine = unused_records b s in
-      let inside : (m : ℕ) → In m mine → In m s.records = λ m i. filter-in (λ place. eqb (type_at b place) uir_type) s.records m i in
-      let from_file : Apart mine (file_records s) = unused_apart (file_records s) (λ m. first (times m (file_records s)) _ _) in
-      let from_attributes : Apart mine (all_attribute_records s) = unused_apart (all_attribute_records s) (λ m. second _ (times m (all_attribute_records s)) _) in
-      let from_variables : Apart mine (all_variable_records s) = unused_apart (all_variable_records s) (λ m. third _ _ (times m (all_variable_records s))) in (
-        leaves now mine change inside from_file records sub s.attributes (variables s) adrs_linked h.entry_chains sound.attributes_fit from_attributes vdrs_stand h.have_variables sound.variables_fit from_variables,
-        file_is now mine change inside from_file records sub,
+      let mine = unused_records b s in (
+        leaves now mine change unused_in unused_from_file records sub s.attributes (variables s) adrs_linked h.entry_chains sound.attributes_fit unused_from_attributes vdrs_stand h.have_variables sound.variables_fit unused_from_variables,
+        file_is now mine change unused_in unused_from_file records sub,
       )
-    where
-      first : (f a v : ℕ) → f ≤ f + (a + v)
-      first f a v = omega arith
-
-      second : (f a v : ℕ) → a ≤ f + (a + v)
-      second f a v = omega arith
-
-      third : (f a v : ℕ) → v ≤ f + (a + v)
-      third f a v = omega arith
 
   -- ---- the CDR and the GDR
 
   not_file : (f a v u n : ℕ) → f + (a + (v + u)) ≤ 1 → 1 ≤ f → 1 ≤ n → n ≤ a + v → ⊥
   not_file f a v u n l o p q = omega arith
 
-  pub file_is_alone : (now records : List ℕ) → ((m : ℕ) → In m s.records → In m records) → (change : ChangedWithin b now (file_records s)) → LeavesFinding b s change.touches → Leaves b now s records s.attributes (variables s)
-  file_is_alone now records sub change leaves_it =
-      let mine = file_records s in
-      let inside : (m : ℕ) → In m mine → In m s.records = λ m i. elim i [ inl e ↦ subst (λ (x : ℕ). In x s.records) (sym e) cdr_in | inr j ↦ elim j [ inl e ↦ subst (λ (x : ℕ). In x s.records) (sym e) gdr_in | inr none ↦ absurd none ] ] in
-      let from_attributes : Apart mine (all_attribute_records s) = λ m i j. not_file _ _ _ _ (times m (all_attribute_records s)) (limit m) (times-in m mine j) (times-in m (all_attribute_records s) i) (left (times m (all_attribute_records s)) (times m (all_variable_records s))) in
-      let from_variables : Apart mine (all_variable_records s) = λ m i j. not_file _ _ _ _ (times m (all_variable_records s)) (limit m) (times-in m mine j) (times-in m (all_variable_records s) i) (right (times m (all_attribute_records s)) (times m (all_variable_records s))) in
-      let long = cdr_long b now mine s h change inside records sub in
-      let long' = gdr_long b now mine s h change inside records sub in
-      let cdr_part = part b now mine s h change inside records sub 8 in
-      let gdr_part = part b now mine s h change inside records sub s.gdr in
-      let offset = word_kept b now (8 + 12) (8 + 20) (cdr_part 12 20 cdr_in (omega arith) leaves_it.gdr_offset_stays) (8 + 12) 8 (omega arith) (omega arith) in
-      let code = word_kept b now (8 + 28) (8 + 32) (cdr_part 28 32 cdr_in (omega arith) leaves_it.encoding_stays) (8 + 28) 4 (omega arith) (omega arith) in
-      let adr = word_kept b now (s.gdr + 28) (s.gdr + 36) (gdr_part 28 36 gdr_in (omega arith) leaves_it.attribute_head) (s.gdr + 28) 8 (omega arith) (omega arith) in
-      let r = word_kept b now (s.gdr + 12) (s.gdr + 20) (gdr_part 12 20 gdr_in (omega arith) leaves_it.r_head) (s.gdr + 12) 8 (omega arith) (omega arith) in
-      let z = word_kept b now (s.gdr + 20) (s.gdr + 28) (gdr_part 20 28 gdr_in (omega arith) leaves_it.z_head) (s.gdr + 20) 8 (omega arith) (omega arith) in
-      let u = word_kept b now (s.gdr + 64) (s.gdr + 72) (gdr_part 64 72 gdr_in (omega arith) leaves_it.unused_head) (s.gdr + 64) 8 (omega arith) (omega arith) in
-      let dims : number now s.gdr gdr_r_num_dims ≡ number b s.gdr gdr_r_num_dims = word_kept b now (s.gdr + 56) (s.gdr + 60) (gdr_part 56 60 gdr_in (omega arith) leaves_it.dimensions_stay) (s.gdr + 56) 4 (omega arith) (omega arith) in
-      let count : r_dimensions now s.gdr ≡ r_dimensions b s.gdr = ap (λ (n : ℕ). counted (cast_signed w32 n)) dims in
-      let d = r_dimensions b s.gdr in
-      let sizes = ap (words now (s.gdr + 84)) count ∙ words_kept b now (s.gdr + 84) (s.gdr + (84 + 4 * d)) (gdr_part 84 (84 + 4 * d) gdr_in sound.gdr_fits leaves_it.sizes_stay) (s.gdr + 84) d (omega arith) (room s.gdr d) in
-      let file = file_same_by b now mine s h change inside records sub offset code count sizes in
-      record {
-        tiled = tiling_stays b now mine s h change inside records sub;
-        chains_stay = chains_by_links b now mine s h change inside records sub offset adr r z u;
-        attributes_stay = attributes_stay b now mine s h change inside records sub file s.attributes adrs_linked h.entry_chains sound.attributes_fit from_attributes;
-        variables_stay = variables_stay b now mine s h change inside records sub file (variables s) vdrs_stand h.have_variables sound.variables_fit from_variables;
-      }
-    where
-      left : (a v : ℕ) → a ≤ a + v
-      left a v = omega arith
+  pub file_in : (m : ℕ) → In m (file_records s) → In m s.records
+  file_in m i = elim i [ inl e ↦ subst (λ (x : ℕ). In x s.records) (sym e) cdr_in | inr j ↦ elim j [ inl e ↦ subst (λ (x : ℕ). In x s.records) (sym e) gdr_in | inr none ↦ absurd none ] ]
 
-      right : (a v : ℕ) → v ≤ a + v
-      right a v = omega arith
+  left_part : (a v : ℕ) → a ≤ a + v
+  left_part a v = omega arith
 
-      room : (g d : ℕ) → g + 84 + 4 * d ≤ g + (84 + 4 * d)
-      room g d = omega arith
+  right_part : (a v : ℕ) → v ≤ a + v
+  right_part a v = omega arith
+
+  pub file_from_attributes : Apart (file_records s) (all_attribute_records s)
+  file_from_attributes m i j = not_file _ _ _ _ (times m (all_attribute_records s)) (limit m) (times-in m (file_records s) j) (times-in m (all_attribute_records s) i) (left_part (times m (all_attribute_records s)) (times m (all_variable_records s)))
+
+  pub file_from_variables : Apart (file_records s) (all_variable_records s)
+  file_from_variables m i j = not_file _ _ _ _ (times m (all_variable_records s)) (limit m) (times-in m (file_records s) j) (times-in m (all_variable_records s) i) (right_part (times m (all_attribute_records s)) (times m (all_variable_records s)))
+
+  sizes_room : (g d : ℕ) → g + 84 + 4 * d ≤ g + (84 + 4 * d)
+  sizes_room g d = omega arith
+
+  module _ (now records : List ℕ) (sub : (m : ℕ) → In m s.records → In m records) (change : ChangedWithin b now (file_records s)) (leaves_it : LeavesFinding b s change.touches) where
+    cdr_part : (lo hi : ℕ) → hi ≤ size_at b 8 → Misses change.touches 8 lo hi → Same b now (8 + lo) (8 + hi)
+    cdr_part lo hi fits miss = part b now (file_records s) s h change file_in records sub 8 lo hi cdr_in fits miss
+
+    gdr_part : (lo hi : ℕ) → hi ≤ size_at b s.gdr → Misses change.touches s.gdr lo hi → Same b now (s.gdr + lo) (s.gdr + hi)
+    gdr_part lo hi fits miss = part b now (file_records s) s h change file_in records sub s.gdr lo hi gdr_in fits miss
+
+    cdr_size : 312 ≤ size_at b 8
+    cdr_size = cdr_long b now (file_records s) s h change file_in records sub
+
+    gdr_size : 84 ≤ size_at b s.gdr
+    gdr_size = gdr_long b now (file_records s) s h change file_in records sub
+
+    offset_found : gdr_offset now ≡ gdr_offset b
+    offset_found = word_kept b now (8 + 12) (8 + 20) (cdr_part 12 20 (let l = cdr_size in omega arith) leaves_it.gdr_offset_stays) (8 + 12) 8 (omega arith) (omega arith)
+
+    code_found : encoding now ≡ encoding b
+    code_found = word_kept b now (8 + 28) (8 + 32) (cdr_part 28 32 (let l = cdr_size in omega arith) leaves_it.encoding_stays) (8 + 28) 4 (omega arith) (omega arith)
+
+    pub dimensions_found : r_dimensions now s.gdr ≡ r_dimensions b s.gdr
+    dimensions_found =
+        let dims : number now s.gdr gdr_r_num_dims ≡ number b s.gdr gdr_r_num_dims = word_kept b now (s.gdr + 56) (s.gdr + 60) (gdr_part 56 60 (let l = gdr_size in omega arith) leaves_it.dimensions_stay) (s.gdr + 56) 4 (omega arith) (omega arith) in
+        ap (λ (n : ℕ). counted (cast_signed w32 n)) dims
+
+    sizes_found : r_sizes now s.gdr ≡ r_sizes b s.gdr
+    sizes_found =
+        let d = r_dimensions b s.gdr in
+        ap (words now (s.gdr + 84)) dimensions_found ∙ words_kept b now (s.gdr + 84) (s.gdr + (84 + 4 * d)) (gdr_part 84 (84 + 4 * d) sound.gdr_fits leaves_it.sizes_stay) (s.gdr + 84) d (omega arith) (sizes_room s.gdr d)
+
+    pub file_found : FileSame b now
+    file_found = file_same_by b now (file_records s) s h change file_in records sub offset_found code_found dimensions_found sizes_found
+
+    pub file_is_alone : Leaves b now s records s.attributes (variables s)
+    file_is_alone =
+        let l = gdr_size in
+        let adr = word_kept b now (s.gdr + 28) (s.gdr + 36) (gdr_part 28 36 (omega arith) leaves_it.attribute_head) (s.gdr + 28) 8 (omega arith) (omega arith) in
+        let r = word_kept b now (s.gdr + 12) (s.gdr + 20) (gdr_part 12 20 (omega arith) leaves_it.r_head) (s.gdr + 12) 8 (omega arith) (omega arith) in
+        let z = word_kept b now (s.gdr + 20) (s.gdr + 28) (gdr_part 20 28 (omega arith) leaves_it.z_head) (s.gdr + 20) 8 (omega arith) (omega arith) in
+        let u = word_kept b now (s.gdr + 64) (s.gdr + 72) (gdr_part 64 72 (omega arith) leaves_it.unused_head) (s.gdr + 64) 8 (omega arith) (omega arith) in
+        record {
+          tiled = tiling_stays b now (file_records s) s h change file_in records sub;
+          chains_stay = chains_by_links b now (file_records s) s h change file_in records sub offset_found adr r z u;
+          attributes_stay = attributes_stay b now (file_records s) s h change file_in records sub file_found s.attributes adrs_linked h.entry_chains sound.attributes_fit file_from_attributes;
+          variables_stay = variables_stay b now (file_records s) s h change file_in records sub file_found (variables s) vdrs_stand h.have_variables sound.variables_fit file_from_variables;
+        }

@@ -139,7 +139,7 @@ cpr_in b ts vdr row m i = elim (either (is_compressed b vdr)) [
   | inr e ↦ let j : In m [] = rw e at i in absurd j
 ]
 
-attributes_in : (b ts : List ℕ) (as_ : List AttributeShape) → Each (HasEntries b ts) as_ → ((m : ℕ) → In m (map (λ (a : AttributeShape). a.adr) as_) → In m ts) → (m : ℕ) → In m (flat_map attribute_records as_) → In m ts
+pub attributes_in : (b ts : List ℕ) (as_ : List AttributeShape) → Each (HasEntries b ts) as_ → ((m : ℕ) → In m (map (λ (a : AttributeShape). a.adr) as_) → In m ts) → (m : ℕ) → In m (flat_map attribute_records as_) → In m ts
 attributes_in b ts [] h adr m i = absurd i
 attributes_in b ts (a ∷ more) h adr m i = elim (In-append m (attribute_records a) (flat_map attribute_records more) i) [
   | inl j ↦ elim j [

@@ -39,6 +39,10 @@ vdrs vs = map (λ v. v.vdr) vs
 abbrev pub variables : Shape → List VariableShape
 variables s = s.r_variables ++ s.z_variables
 
+-- the same with other records
+abbrev pub with_records : Shape → List ℕ → Shape
+with_records s records = record s { records = records }
+
 -- Flags bit 2 of a VDR
 abbrev pub is_compressed : List ℕ → ℕ → Bool
 is_compressed b vdr = has_bit (number b vdr vdr_flags) 2

@@ -1,7 +1,11 @@
 //! What follows from the definitions, each law as the clause of a function.
 
 ghost use Rattle.std.specs.Prelude.{◌≡◌, ◌≢◌, ◌⊎◌, ◌≤◌, ◌<◌, ◌+◌, ℕ, List, [], ◌∷◌, ◌++◌, true, length, take, drop};
+ghost use Rattle.cdf_model.specs.declared.answer.Reply.{Reply};
+ghost use Rattle.cdf_model.specs.declared.command.Command.{Command};
+ghost use Rattle.cdf_model.specs.Answers.{Go};
 ghost use Rattle.cdf_model.specs.DataSet.{head_of};
+ghost use Rattle.cdf_model.specs.Step.{step};
 ghost use Rattle.cdf_format.specs.Alone.{IsSound, ChangedWithin, LeavesFinding, FileStays, Leaves};
 ghost use Rattle.cdf_format.specs.Changed.{Touch, touch, Changed, Placed};
 ghost use Rattle.cdf_format.specs.Chains.{IsChain, Leads, is_linkable, chain};
@@ -12,16 +16,17 @@ ghost use Rattle.cdf_format.specs.Index.{Nodes, nodes_of};
 ghost use Rattle.cdf_format.specs.IndexOf.{IsIndex};
 ghost use Rattle.cdf_format.specs.IndexWalk.{met, index_walk};
 ghost use Rattle.cdf_format.specs.Links.{ChainHead, with_members, IsHead, AllSpare, IsLinkAfter, IsOther};
+ghost use Rattle.cdf_format.specs.Locality.{only_reads, Follows};
 ghost use Rattle.cdf_format.specs.Owners.{space_of, times, owned_records, attribute_records, variable_records, unused_records};
 ghost use Rattle.cdf_format.specs.Phases.{first_phases, image_phases, KeepsAllRules};
 ghost use Rattle.cdf_format.specs.Records.{Field};
-ghost use Rattle.cdf_format.specs.RecordTypes.{cdr_type};
+ghost use Rattle.cdf_format.specs.RecordTypes.{cdr_type, uir_type};
 ghost use Rattle.cdf_format.specs.Rules.{AllHold};
 ghost use Rattle.cdf_format.specs.Sealed.{image_of, sealed};
-ghost use Rattle.cdf_format.specs.Shape.{AttributeShape, VariableShape, Shape, HasShape, variables, shape};
+ghost use Rattle.cdf_format.specs.Shape.{AttributeShape, VariableShape, Shape, HasShape, variables, with_records, shape};
 ghost use Rattle.cdf_format.specs.Tiles.{In, Distinct, AreTiles, tiling};
 ghost use Rattle.cdf_format.specs.Walks.{whole};
-ghost use Rattle.cdf_format.specs.WellFormed.{WellFormed, Breaks};
+ghost use Rattle.cdf_format.specs.WellFormed.{WellFormed, Breaks, Good};
 
 /// A field that is read from a piece of the bytes is the field of the bytes.
 pub fn word_of_piece()
@@ -160,4 +165,30 @@ pub fn tile_appended()
 /// The records of an image of which one is split into two.
 pub fn tile_split()
     ensures { (b now : List ℕ) (from upto tile n : ℕ) (before after : List ℕ) → AreTiles b from upto (before ++ tile ∷ after) → ((other : ℕ) → In other (before ++ after) → size_at now other ≡ size_at b other) → size_at now tile ≡ n → size_at now (tile + n) + n ≡ size_at b tile → 12 ≤ n → 12 ≤ size_at now (tile + n) → AreTiles now from upto (before ++ tile ∷ (tile + n) ∷ after) }
+{}
+
+/// A change within unused records that keeps the length leaves a sound image sound, with its content.
+pub fn unused_stay_sound()
+    ensures { (b now : List ℕ) (s : Shape) → IsSound b s → length now ≡ length b → ChangedWithin b now (unused_records b s) → IsSound now s × (content now ≡ content b) }
+{}
+
+/// A change within the CDR and the GDR that keeps the length, but for the fields that others are found and read by, leaves a sound image sound.
+pub fn file_stays_sound()
+    ensures { (b now : List ℕ) (s : Shape) (change : ChangedWithin b now (8 ∷ s.gdr ∷ [])) → IsSound b s → length now ≡ length b → LeavesFinding b s change.touches → IsSound now s }
+{}
+
+/// An unused record behind the last one, on no list, leaves a sound image sound; the CDR and the GDR may change beside, but for the fields that others are found and read by.
+pub fn appended_stays_sound()
+    ensures { (b now : List ℕ) (s : Shape) (n : ℕ) (change : ChangedWithin b now (8 ∷ s.gdr ∷ [])) → IsSound b s → LeavesFinding b s change.touches → length now ≡ length b + n → size_at now (length b) ≡ n → type_at now (length b) ≡ uir_type → 12 ≤ n → IsSound now (with_records s (s.records ++ length b ∷ [])) }
+{}
+
+/// A good image is good by its shape, and sound.
+pub fn good_has_shape()
+    ensures good { (b : List ℕ) → Good b → IsGoodImage b (shape b) }
+    ensures sound { (b : List ℕ) → Good b → IsSound b (shape b) }
+{}
+
+/// A command that only reads follows by leaving the image as it is.
+pub fn reading_follows()
+    ensures { (b : List ℕ) (c : Command) (reply : Reply) → only_reads c ≡ true → step (content b) c ≡ Go (content b) reply → Good b → Follows b c b }
 {}

@@ -1,0 +1,75 @@
+-- A good image is good by its shape, and a command that only reads leaves it.
+use Rattle.std.proofs.Common.{◌≡◌, ℕ, ◌+◌, ◌≤◌, List, [], ◌∷◌, length, map, true, refl, subst, arith, inl, inr}
+use Rattle.std.proofs.lemmas.List.{length-append}
+use Rattle.cdf_model.specs.declared.answer.Reply.{Reply}
+use Rattle.cdf_model.specs.declared.command.Command.{Command}
+use Rattle.cdf_model.specs.declared.command.Command.TheVariants as commands
+use Rattle.cdf_model.specs.Answers.{Go}
+use Rattle.cdf_model.specs.Step.{step}
+use Rattle.cdf_format.specs.Allowances.{Allowance, Anything, Only, Keeps}
+use Rattle.cdf_format.specs.VariableAllowances.{allowance, AllKeep}
+use Rattle.cdf_format.specs.Alone.{IsSound}
+use Rattle.cdf_format.specs.Content.{content}
+use Rattle.cdf_format.specs.GoodImage.{IsGoodImage}
+use Rattle.cdf_format.specs.Locality.{only_reads, BlocksFollow, Follows}
+use Rattle.cdf_format.specs.Owners.{Owner, owned}
+use Rattle.cdf_format.specs.Phases.{KeepsAllRules}
+use Rattle.cdf_format.specs.Sealed.{trailer, trailer_length, sealed}
+use Rattle.cdf_format.specs.Shape.{shape}
+use Rattle.cdf_format.specs.Tiles.{In}
+use Rattle.cdf_format.specs.WellFormed.{Good}
+use Rattle.cdf_format.proofs.Tests.{le_of}
+use Rattle.cdf_format.proofs.BareFile.{keeps_all}
+use Rattle.cdf_format.proofs.ImageOf.{short_trailer, trailer_is, sound_image_of, image_of-sealed}
+use Rattle.cdf_format.proofs.Owning.{owned_stand}
+use Rattle.cdf_format.proofs.SealedRules.{sealed_kept}
+
+-- a good image keeps all rules once it is sealed
+pub rules_of_good : (b : List ℕ) → Good b → KeepsAllRules (sealed b)
+rules_of_good b good = keeps_all (sealed b) good
+
+good_is_long : (b : List ℕ) → Good b → 44 ≤ length b
+good_is_long b good =
+    let long : 320 ≤ length (sealed b) = le_of 320 (length (sealed b)) (rules_of_good b good).1.1.0.0 in
+    fit (length (sealed b)) (length b) (length (trailer b)) (trailer_length b) long (length-append b (trailer b)) (trailer_is b) (short_trailer b)
+  where
+    fit : (n l t u : ℕ) → 320 ≤ n → n ≡ l + t → t ≡ u → u ≤ 16 → 44 ≤ l
+    fit n l t u p q r s = omega arith
+
+pub good_by_its_shape : (b : List ℕ) → Good b → IsGoodImage b (shape b)
+good_by_its_shape b good = (sealed_kept b (good_is_long b good) (rules_of_good b good)).1
+
+pub good_is_sound : (b : List ℕ) → Good b → IsSound b (shape b)
+good_is_sound b good = subst (λ (x : List ℕ). IsSound x (shape x)) (image_of-sealed b (good_is_long b good)) (sound_image_of (sealed b) (rules_of_good b good))
+
+-- a record keeps itself, whatever may change
+keeps_itself : (b : List ℕ) (place : ℕ) (a : Allowance) → In place (shape b).records → Keeps b b place a
+keeps_itself b place Anything i = tt
+keeps_itself b place (Only fields) i = record { stands = i; size_is = refl; same = λ n lt out. refl }
+
+all_keep : (b : List ℕ) (c : Command) (takes : List (ℕ × ℕ)) (list : List (ℕ × Owner)) → ((m : ℕ) → In m (map (λ (p : ℕ × Owner). p.0) list) → In m (shape b).records) → AllKeep b b c takes list
+all_keep b c takes [] h = tt
+all_keep b c takes ((place, owner) ∷ more) h = (keeps_itself b place (allowance b (content b) (shape b) c takes place owner) (h place (inl refl)), all_keep b c takes more (λ m i. h m (inr i)))
+
+no_blocks : (b : List ℕ) (c : Command) → only_reads c ≡ true → BlocksFollow b b c
+no_blocks b commands.Info e = tt
+no_blocks b commands.List e = tt
+no_blocks b (commands.GetEntry attr kind num) e = tt
+no_blocks b (commands.GetRec var rec) e = tt
+no_blocks b (commands.GetVal var rec index) e = tt
+no_blocks b c e = absurd cc
+
+pub reading_follows : (b : List ℕ) (c : Command) (reply : Reply) → only_reads c ≡ true → step (content b) c ≡ Go (content b) reply → Good b → Follows b c b
+reading_follows b c reply reads goes good = record {
+  reply = reply;
+  goes = goes;
+  good = good;
+  longer = omega arith;
+  within = omega arith;
+  reads = λ e. refl;
+  takes = [];
+  takes_enough = tt;
+  takes_within = omega arith;
+  keeps = all_keep b c [] (owned b (shape b)) (owned_stand b (shape b) (good_by_its_shape b good));
+  blocks = no_blocks b c reads;
+}

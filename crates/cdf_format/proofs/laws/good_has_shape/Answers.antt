@@ -1,0 +1,8 @@
+use Rattle.cdf_format.proofs.GoodLemmas.{good_by_its_shape, good_is_sound}
+use Rattle.cdf_format.proofs.laws.good_has_shape.Goals as goal
+
+pub returns-clause-good : goal.returns-clause-good
+returns-clause-good c = good_by_its_shape
+
+pub returns-clause-sound : goal.returns-clause-sound
+returns-clause-sound c = good_is_sound
