@@ -15,7 +15,7 @@ use Rattle.cdf_model.specs.Place.{record_limit}
 use Rattle.cdf_model.specs.RunLengths.{Packs, IsLongest}
 use Rattle.cdf_model.specs.Step.{built, step}
 use Rattle.cdf_format.specs.VariableAllowances.{AllKeep}
-use Rattle.cdf_format.specs.Blocks.{range, ranges_of, shared, first_written, is_cut_first, record_length, ranges_after_put, ranges_after_cut}
+use Rattle.cdf_format.specs.Blocks.{range, ranges_of, shared, fallen, is_sparse, first_written, is_cut_first, record_length, ranges_after_put, ranges_after_cut}
 use Rattle.cdf_format.specs.Changed.{Touch, touch, touched_field, Changed, Same}
 use Rattle.cdf_format.specs.Content.{content, plain_bytes}
 use Rattle.cdf_format.specs.Fields.{size_at}
@@ -25,7 +25,7 @@ use Rattle.cdf_format.specs.Owners.{owned}
 use Rattle.cdf_format.specs.Records.{gdr_r_max_rec, vdr_max_rec}
 use Rattle.cdf_format.specs.Room.{room, uncovered, shapes_of}
 use Rattle.cdf_format.specs.Shape.{VariableShape, Each, shape}
-use Rattle.cdf_format.specs.Tiles.{In}
+use Rattle.cdf_format.specs.VariableFields.{records_of_leaf}
 use Rattle.cdf_format.specs.WellFormed.{Good}
 
 abbrev pub only_reads : Command → Bool
@@ -61,24 +61,43 @@ pub record WellPacked (now : List ℕ) (vdr : ℕ) (leaf : Leaf) : Type 0 where
   pub chosen : (packed : List ℕ) → Packs packed (plain_bytes now vdr leaf) → IsLongest packed → leaf.packed ≡ is_worth_packing (plain_bytes now vdr leaf) packed
   pub longest : leaf.packed ≡ true → IsLongest (packed_bytes now leaf.place)
 
--- a block stays, or it is packed as it should be
-abbrev pub StaysOrPacked : List ℕ → List ℕ → ℕ → List ℕ → Leaf → Type 0
-StaysOrPacked b now vdr before leaf = (In leaf.place before × Same b now leaf.place (leaf.place + size_at b leaf.place)) ⊎ WellPacked now vdr leaf
+-- it holds of one of them
+abbrev pub AnyOf : {A : Type 0} → (A → Type 0) → List A → Type 0
+AnyOf P [] = ⊥
+AnyOf P (a ∷ more) = P a ⊎ AnyOf P more
 
-abbrev pub AllPacked : List ℕ → List ℕ → Variable → VariableShape → VariableShape → Type 0
-AllPacked b now v before after = v.rle ≡ true → Each (StaysOrPacked b now after.vdr (map (λ leaf. leaf.place) (leaves_of before.index))) (leaves_of after.index)
+-- A leaf has the block that a leaf before had, with its bytes and its records, whose numbers may be others by now.
+pub record SameBlock (b now : List ℕ) (renumbered : ℕ → ℕ) (leaf before : Leaf) : Type 0 where
+  pub place_stays : leaf.place ≡ before.place
+  pub first_is : leaf.first ≡ renumbered before.first
+  pub count_stays : records_of_leaf leaf ≡ records_of_leaf before
+  pub same : Same b now leaf.place (leaf.place + size_at b leaf.place)
+
+-- a block stays, or it is packed as it should be
+abbrev pub StaysOrPacked : List ℕ → List ℕ → ℕ → (ℕ → ℕ) → List Leaf → Leaf → Type 0
+StaysOrPacked b now vdr renumbered before leaf = AnyOf (SameBlock b now renumbered leaf) before ⊎ WellPacked now vdr leaf
+
+abbrev pub AllPacked : List ℕ → List ℕ → Variable → (ℕ → ℕ) → VariableShape → VariableShape → Type 0
+AllPacked b now v renumbered before after = v.rle ≡ true → Each (StaysOrPacked b now after.vdr renumbered (leaves_of before.index)) (leaves_of after.index)
+
+-- the number of a record once records are put, and once some are deleted
+abbrev pub unmoved : ℕ → ℕ
+unmoved n = n
+
+abbrev pub number_after_cut : Variable → ℕ → ℕ → ℕ → ℕ
+number_after_cut v first last n = if is_sparse v.sparse then n else fallen first last n
 
 -- a record is put
 pub record Puts (b now : List ℕ) (v : Variable) (n : ℕ) (before after : VariableShape) : Type 0 where
   pub ranges : ranges_of after.index ≡ ranges_after_put v before.index n
   pub in_place : stays_in_place v before n ≡ true
       → (length now ≡ length b) × Changed b now (touched_field (shape b).gdr gdr_r_max_rec ∷ touched_field before.vdr vdr_max_rec ∷ written_in v (first_written v n) n (leaves_of before.index))
-  pub packed : AllPacked b now v before after
+  pub packed : AllPacked b now v unmoved before after
 
 -- records are deleted
 pub record Deletes (b now : List ℕ) (v : Variable) (first last : ℕ) (before after : VariableShape) : Type 0 where
   pub ranges : ranges_of after.index ≡ ranges_after_cut v before.index first last
-  pub packed : AllPacked b now v before after
+  pub packed : AllPacked b now v (number_after_cut v first last) before after
 
 abbrev pub BlocksFollow : List ℕ → List ℕ → Command → Type 0
 BlocksFollow b now (commands.PutRec var rec words) = (found : Found) (v v' : VariableShape) → IsVariable b now var found v v' → Puts b now found.variable rec v v'
