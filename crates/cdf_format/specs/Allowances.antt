@@ -1,5 +1,5 @@
 -- What a command may change of each record that an image has: of records that it does not concern, links and numbers that follow from what it adds or takes away.
-use Rattle.std.specs.Prelude.{◌≡◌, ◌⊎◌, ◌<◌, ◌≤◌, ℕ, ◌+◌, List, [], ◌∷◌, Bool, false, ◌==◌, if◌then◌else◌, Some, None}
+use Rattle.std.specs.Prelude.{◌≡◌, ◌⊎◌, ◌<◌, ◌≤◌, ℕ, ◌+◌, List, [], ◌∷◌, Bool, true, false, ◌==◌, if◌then◌else◌, Some, None}
 use Rattle.std.specs.List.{slice_get}
 use Rattle.cdf_model.specs.declared.command.Command.{Command}
 use Rattle.cdf_model.specs.declared.command.Command.TheVariants as commands
@@ -48,9 +48,34 @@ cdr_allowance (commands.Setup encoding majority dims) = Only (cdr_encoding ∷ c
 cdr_allowance (commands.Checksum md5) = Only (cdr_flags ∷ [])
 cdr_allowance c = Only []
 
-abbrev pub gdr_allowance : Command → Allowance
-gdr_allowance (commands.Setup encoding majority dims) = Anything
-gdr_allowance c = Only (gdr_r_vdr_head ∷ gdr_z_vdr_head ∷ gdr_adr_head ∷ gdr_uir_head ∷ gdr_eof ∷ gdr_nr_vars ∷ gdr_num_attr ∷ gdr_nz_vars ∷ gdr_r_max_rec ∷ [])
+-- a command that gives another name
+abbrev pub is_renaming : Command → Bool
+is_renaming (commands.RenameAttr from to) = true
+is_renaming (commands.RenameVar from to) = true
+is_renaming c = false
+
+abbrev pub is_of_r : Kind → Bool
+is_of_r kinds.R = true
+is_of_r kinds.Z = false
+
+abbrev pub is_r_variable : DataSet → List ℕ → Bool
+is_r_variable d name = elim (variable_named d name) [ None ↦ false | Some found ↦ is_of_r found.kind ]
+
+-- a command after which an r variable may have another MaxRec, or is gone
+abbrev pub may_change_r_max_rec : DataSet → Command → Bool
+may_change_r_max_rec d (commands.PutRec var rec words) = is_r_variable d var
+may_change_r_max_rec d (commands.PutVal var rec index words) = is_r_variable d var
+may_change_r_max_rec d (commands.DelRecs var first last) = is_r_variable d var
+may_change_r_max_rec d (commands.DelVar name) = is_r_variable d name
+may_change_r_max_rec d c = false
+
+-- heads, counts and eof; a renaming changes none of them
+abbrev pub gdr_fields : List Field
+gdr_fields = gdr_r_vdr_head ∷ gdr_z_vdr_head ∷ gdr_adr_head ∷ gdr_uir_head ∷ gdr_eof ∷ gdr_nr_vars ∷ gdr_num_attr ∷ gdr_nz_vars ∷ []
+
+abbrev pub gdr_allowance : DataSet → Command → Allowance
+gdr_allowance d (commands.Setup encoding majority dims) = Anything
+gdr_allowance d c = if is_renaming c then Only [] else (if may_change_r_max_rec d c then Only (gdr_r_max_rec ∷ gdr_fields) else Only gdr_fields)
 
 -- ---- attributes
 

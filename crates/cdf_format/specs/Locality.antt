@@ -1,10 +1,12 @@
 -- How a command changes an image: its content as the data set says, and no record that it does not concern.
-use Rattle.std.specs.Prelude.{◌≡◌, ◌⊎◌, ◌≤◌, ℕ, ◌+◌, ◌-◌, ◌*◌, max, List, [], ◌∷◌, length, map, Bool, true, false, not, ◌&&◌, ◌==◌, nat_lt, nat_le, if◌then◌else◌, Some}
+use Rattle.std.specs.Prelude.{◌≡◌, ◌⊎◌, ◌≤◌, ℕ, ◌+◌, ◌-◌, ◌*◌, max, List, [], ◌∷◌, ◌++◌, length, map, Bool, true, false, not, ◌&&◌, ◌==◌, nat_lt, nat_le, if◌then◌else◌, Some}
 use Rattle.std.specs.declared.option.Option.{Option}
 use Rattle.std.specs.List.{slice_get, sum}
 use Rattle.cdf_model.specs.declared.answer.Reply.{Reply}
 use Rattle.cdf_model.specs.declared.command.Command.{Command}
 use Rattle.cdf_model.specs.declared.command.Command.TheVariants as commands
+use Rattle.cdf_model.specs.declared.kinds.Kind.{Kind}
+use Rattle.cdf_model.specs.declared.kinds.Kind.TheVariants.{R, Z}
 use Rattle.cdf_model.specs.Answers.{Answer, Go, Refuse}
 use Rattle.cdf_model.specs.DataSet.{Variable}
 use Rattle.cdf_model.specs.Grammar.{Parsed, Blank, Asks, Faulty, parse}
@@ -87,11 +89,16 @@ unmoved n = n
 abbrev pub number_after_cut : Variable → ℕ → ℕ → ℕ → ℕ
 number_after_cut v first last n = if is_sparse v.sparse then n else fallen first last n
 
+-- of an r variable MaxRec counts for rMaxRec too
+abbrev pub max_rec_touches : List ℕ → Kind → ℕ → List Touch
+max_rec_touches b R vdr = touched_field (shape b).gdr gdr_r_max_rec ∷ touched_field vdr vdr_max_rec ∷ []
+max_rec_touches b Z vdr = touched_field vdr vdr_max_rec ∷ []
+
 -- a record is put
-pub record Puts (b now : List ℕ) (v : Variable) (n : ℕ) (before after : VariableShape) : Type 0 where
+pub record Puts (b now : List ℕ) (kind : Kind) (v : Variable) (n : ℕ) (before after : VariableShape) : Type 0 where
   pub ranges : ranges_of after.index ≡ ranges_after_put v before.index n
   pub in_place : stays_in_place v before n ≡ true
-      → (length now ≡ length b) × Changed b now (touched_field (shape b).gdr gdr_r_max_rec ∷ touched_field before.vdr vdr_max_rec ∷ written_in v (first_written v n) n (leaves_of before.index))
+      → (length now ≡ length b) × Changed b now (max_rec_touches b kind before.vdr ++ written_in v (first_written v n) n (leaves_of before.index))
   pub packed : AllPacked b now v unmoved before after
 
 -- records are deleted
@@ -100,8 +107,8 @@ pub record Deletes (b now : List ℕ) (v : Variable) (first last : ℕ) (before 
   pub packed : AllPacked b now v (number_after_cut v first last) before after
 
 abbrev pub BlocksFollow : List ℕ → List ℕ → Command → Type 0
-BlocksFollow b now (commands.PutRec var rec words) = (found : Found) (v v' : VariableShape) → IsVariable b now var found v v' → Puts b now found.variable rec v v'
-BlocksFollow b now (commands.PutVal var rec index words) = (found : Found) (v v' : VariableShape) → IsVariable b now var found v v' → Puts b now found.variable rec v v'
+BlocksFollow b now (commands.PutRec var rec words) = (found : Found) (v v' : VariableShape) → IsVariable b now var found v v' → Puts b now found.kind found.variable rec v v'
+BlocksFollow b now (commands.PutVal var rec index words) = (found : Found) (v v' : VariableShape) → IsVariable b now var found v v' → Puts b now found.kind found.variable rec v v'
 BlocksFollow b now (commands.DelRecs var first last) = (found : Found) (v v' : VariableShape) → IsVariable b now var found v v' → Deletes b now found.variable first last v v'
 BlocksFollow b now (commands.Reindex var) = (found : Found) (v v' : VariableShape) → IsVariable b now var found v v' → leaves_of v'.index ≡ leaves_of v.index
 BlocksFollow b now c = Unit {0}

@@ -9,7 +9,7 @@ use Rattle.cdf_model.specs.declared.kinds.Kind.TheVariants as kinds
 use Rattle.cdf_model.specs.DataSet.{DataSet, Variable}
 use Rattle.cdf_model.specs.Limits.{record_number_limit}
 use Rattle.cdf_model.specs.Names.{Found, variable_named}
-use Rattle.cdf_format.specs.Allowances.{Allowance, Anything, Only, Keeps, cdr_allowance, gdr_allowance, attribute_allowance}
+use Rattle.cdf_format.specs.Allowances.{Allowance, Anything, Only, Keeps, is_renaming, cdr_allowance, gdr_allowance, attribute_allowance}
 use Rattle.cdf_format.specs.Blocks.{Range, range, shared, is_sparse, extent_after}
 use Rattle.cdf_format.specs.Chains.{is_in, next_field}
 use Rattle.cdf_format.specs.Content.{content}
@@ -125,15 +125,18 @@ variable_allowance b d s c kind place n = elim (named_by c) [
 abbrev pub is_taken : List ℕ → List (ℕ × ℕ) → ℕ → Bool
 is_taken b takes place = list_any (λ take. nat_le place take.0 && nat_lt take.0 (place + size_at b place)) takes
 
--- A listed record that was not taken changes at most its links, and an unlisted one stays.
-abbrev pub unused_allowance : List ℕ → Shape → List (ℕ × ℕ) → ℕ → Allowance
-unused_allowance b s takes place = if is_in place s.unused then (if is_taken b takes place then Anything else Only (uir_next_uir ∷ uir_prev_uir ∷ [])) else Only []
+-- A listed record that was not taken changes at most its links, and an unlisted one stays. A renaming changes none.
+abbrev pub listed_allowance : List ℕ → Command → List (ℕ × ℕ) → ℕ → Allowance
+listed_allowance b c takes place = if is_renaming c then Only [] else (if is_taken b takes place then Anything else Only (uir_next_uir ∷ uir_prev_uir ∷ []))
+
+abbrev pub unused_allowance : List ℕ → Shape → Command → List (ℕ × ℕ) → ℕ → Allowance
+unused_allowance b s c takes place = if is_in place s.unused then listed_allowance b c takes place else Only []
 
 abbrev pub allowance : List ℕ → DataSet → Shape → Command → List (ℕ × ℕ) → ℕ → Owner → Allowance
-allowance b d s c takes place File = if place == 8 then cdr_allowance c else gdr_allowance c
+allowance b d s c takes place File = if place == 8 then cdr_allowance c else gdr_allowance d c
 allowance b d s c takes place (OneAttribute n) = attribute_allowance b d c place n
 allowance b d s c takes place (OneVariable kind n) = variable_allowance b d s c kind place n
-allowance b d s c takes place Unused = unused_allowance b s takes place
+allowance b d s c takes place Unused = unused_allowance b s c takes place
 
 abbrev pub AllKeep : List ℕ → List ℕ → Command → List (ℕ × ℕ) → List (ℕ × Owner) → Type 0
 AllKeep b now c takes [] = Unit {0}
