@@ -69,6 +69,7 @@ reading_follows b c reply reads goes good = record {
   reads = λ e. refl;
   takes = [];
   takes_enough = tt;
+  takes_stand = tt;
   takes_within = omega arith;
   keeps = all_keep b c [] (owned b (shape b)) (owned_stand b (shape b) (good_by_its_shape b good));
   blocks = no_blocks b c reads;

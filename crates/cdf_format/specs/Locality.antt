@@ -20,13 +20,15 @@ use Rattle.cdf_format.specs.VariableAllowances.{AllKeep}
 use Rattle.cdf_format.specs.Blocks.{range, ranges_of, shared, fallen, is_sparse, first_written, is_cut_first, record_length, ranges_after_put, ranges_after_cut}
 use Rattle.cdf_format.specs.Changed.{Touch, touch, touched_field, Changed, Same}
 use Rattle.cdf_format.specs.Content.{content, plain_bytes}
-use Rattle.cdf_format.specs.Fields.{size_at}
+use Rattle.cdf_format.specs.Fields.{size_at, type_at}
 use Rattle.cdf_format.specs.Index.{Leaf, leaves_of}
 use Rattle.cdf_format.specs.IndexRules.{packed_bytes}
 use Rattle.cdf_format.specs.Owners.{owned}
 use Rattle.cdf_format.specs.Records.{gdr_r_max_rec, vdr_max_rec}
+use Rattle.cdf_format.specs.RecordTypes.{uir_type}
 use Rattle.cdf_format.specs.Room.{room, uncovered, shapes_of}
 use Rattle.cdf_format.specs.Shape.{VariableShape, Each, shape}
+use Rattle.cdf_format.specs.Tiles.{In}
 use Rattle.cdf_format.specs.VariableFields.{records_of_leaf}
 use Rattle.cdf_format.specs.WellFormed.{Good}
 
@@ -115,6 +117,11 @@ BlocksFollow b now c = Unit {0}
 
 -- ---- a command
 
+-- A record that was taken stands in use, with the size that was asked for. Only `del-recs` may free again what it took, since under a sparse rule it cuts twice.
+abbrev pub TakenStands : List ℕ → Command → ℕ × ℕ → Type 0
+TakenStands now (commands.DelRecs var first last) take = Unit {0}
+TakenStands now c take = In take.0 (shape now).records × (size_at now take.0 ≡ take.1) × ((type_at now take.0 == uir_type) ≡ false)
+
 -- A command that goes makes of one good image another. It takes records at these places, of so many bytes, 28 at least, no more in all than it has room for.
 pub record Follows (b : List ℕ) (c : Command) (now : List ℕ) : Type 0 where
   pub reply : Reply
@@ -125,6 +132,7 @@ pub record Follows (b : List ℕ) (c : Command) (now : List ℕ) : Type 0 where
   pub reads : only_reads c ≡ true → now ≡ b
   pub takes : List (ℕ × ℕ)
   pub takes_enough : Each (λ take. 28 ≤ take.1) takes
+  pub takes_stand : Each (TakenStands now c) takes
   pub takes_within : sum (map (λ take. take.1) takes) ≤ room b c
   pub keeps : AllKeep b now c takes (owned b (shape b))
   pub blocks : BlocksFollow b now c
