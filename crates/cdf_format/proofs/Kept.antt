@@ -20,7 +20,7 @@ use Rattle.cdf_format.specs.Tiles.{In}
 use Rattle.cdf_format.specs.Stored.{field_bytes, is_little, data_type_in, network_bytes}
 use Rattle.cdf_format.specs.Index.{Leaf, leaves_of}
 use Rattle.cdf_format.specs.Shape.{AttributeShape, VariableShape, Each, is_compressed}
-use Rattle.cdf_format.specs.VariableFields.{is_z, dimensions_at, dims_at, vary_field, varys_at, type_of_variable, value_bytes, record_bytes, has_pad, pad_field, pad_at, sparse_at, max_rec_at, records_of_leaf, plain_size}
+use Rattle.cdf_format.specs.VariableFields.{is_z, counted4, dimensions_at, dims_at, elems_at, vary_field, varys_at, type_of_variable, value_bytes, record_bytes, has_pad, pad_field, pad_at, sparse_at, max_rec_at, records_of_leaf, plain_size}
 use Rattle.cdf_format.specs.VariableRules.{vdr_end}
 use Rattle.cdf_format.specs.AttributeRules.{entry_bytes}
 use Rattle.cdf_format.specs.Content.{scope_of, entry_of, entries_of, attribute_of, plain_bytes, numbered_from, leaf_records, records_in, variable_of}
@@ -149,7 +149,7 @@ module _ (b now : List ℕ) (file : FileSame b now) (v : ℕ) (k : Kept b now v)
 
   dims_same : dims_at now v ≡ dims_at b v
   dims_same = if_same (is_z now v) (is_z b v) _ _ _ _ z_same
-      (λ e. ap (words now (v + 344)) dimensions_same ∙ words_kept b now v (v + size_at b v) k.same (v + 344) (dimensions_at b v) (omega arith) (let l = long_z e in room v (dimensions_at b v) (size_at b v) l))
+      (λ e. ap (map counted4) (ap (words now (v + 344)) dimensions_same ∙ words_kept b now v (v + size_at b v) k.same (v + 344) (dimensions_at b v) (omega arith) (let l = long_z e in room v (dimensions_at b v) (size_at b v) l)))
       (λ e. file.sizes)
     where
       room : (v d s : ℕ) → 344 + 8 * d ≤ s → v + 344 + 4 * d ≤ v + s
@@ -173,8 +173,8 @@ module _ (b now : List ℕ) (file : FileSame b now) (v : ℕ) (k : Kept b now v)
   type_same : type_of_variable now v ≡ type_of_variable b v
   type_same = ap (λ (z : ℤ). unwrap_or (type_of z) Byte) (signed_same vdr_data_type (omega arith))
 
-  elems_same : number now v vdr_num_elems ≡ number b v vdr_num_elems
-  elems_same = field_same vdr_num_elems (omega arith)
+  elems_same : elems_at now v ≡ elems_at b v
+  elems_same = ap counted (signed_same vdr_num_elems (omega arith))
 
   value_same : value_bytes now v ≡ value_bytes b v
   value_same = let t = type_same in let n = elems_same in λ i. size_of (t i) * n i

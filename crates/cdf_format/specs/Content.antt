@@ -11,12 +11,12 @@ use Rattle.cdf_model.specs.Numbered.{with_item}
 use Rattle.cdf_model.specs.RunLengths.{plain_of}
 use Rattle.cdf_model.specs.Types.{size_of}
 use Rattle.cdf_format.specs.Fields.{number, integer4, has_bit, name_in, release, encoding, flags, increment, r_sizes, attributes, r_variables, z_variables, gdr_offset}
-use Rattle.cdf_format.specs.Records.{adr_name, adr_scope, aedr_data_type, aedr_num, aedr_num_elems, aedr_value, vdr_blocking_factor, vdr_name, vdr_num_elems, vvr_records, cvvr_c_size, cvvr_packed}
+use Rattle.cdf_format.specs.Records.{adr_name, adr_scope, aedr_data_type, aedr_num, aedr_num_elems, aedr_value, vdr_blocking_factor, vdr_name, vvr_records, cvvr_c_size, cvvr_packed}
 use Rattle.cdf_format.specs.Sealed.{has_checksum, image_of}
 use Rattle.cdf_format.specs.Stored.{field_bytes, is_little, data_type_in, network_bytes}
 use Rattle.cdf_format.specs.Index.{Leaf, leaves_of}
 use Rattle.cdf_format.specs.Shape.{AttributeShape, VariableShape, Shape, is_compressed, shape}
-use Rattle.cdf_format.specs.VariableFields.{dims_at, varys_at, type_of_variable, record_bytes, records_vary, pad_at, sparse_at, max_rec_at, records_of_leaf, plain_size}
+use Rattle.cdf_format.specs.VariableFields.{dims_at, varys_at, type_of_variable, elems_at, record_bytes, records_vary, pad_at, sparse_at, max_rec_at, records_of_leaf, plain_size}
 use Rattle.cdf_model.specs.declared.head.Head.{Head}
 
 abbrev pub majority_of : Bool → Majority
@@ -71,7 +71,7 @@ abbrev pub variable_of : List ℕ → VariableShape → Variable
 variable_of b v = record {
   name = name_in b v.vdr vdr_name;
   type = type_of_variable b v.vdr;
-  elems = number b v.vdr vdr_num_elems;
+  elems = elems_at b v.vdr;
   dims = dims_at b v.vdr;
   varys = varys_at b v.vdr;
   vary = records_vary b v.vdr;

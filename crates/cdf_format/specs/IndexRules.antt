@@ -1,10 +1,10 @@
 -- The rules of an image on indexes and blocks, phase 8 (CDF Internal Format Description, "Variable Index Record", "Variable Values Record", "Compressed Variable Values Record").
-use Rattle.std.specs.Prelude.{ℕ, suc, ◌+◌, ◌*◌, List, [], ◌∷◌, ◌++◌, length, Bool, false, ◌&&◌, ◌||◌, ◌==◌, nat_le, Some, None}
+use Rattle.std.specs.Prelude.{ℕ, suc, ◌+◌, ◌-◌, ◌*◌, List, [], ◌∷◌, ◌++◌, length, take, drop, replicate, Bool, false, ◌&&◌, ◌||◌, ◌==◌, nat_le, Some, None}
 use Rattle.std.specs.List.{flat_map}
 use Rattle.cdf_model.specs.Limits.{record_number_limit, signed_limit}
 use Rattle.cdf_model.specs.Place.{record_limit}
 use Rattle.cdf_model.specs.RunLengths.{unpacked}
-use Rattle.cdf_format.specs.Fields.{number, size_at}
+use Rattle.cdf_format.specs.Fields.{counted, number, integer8, size_at}
 use Rattle.cdf_format.specs.Records.{vxr_n_used_entries, cvvr_c_size, cvvr_packed}
 use Rattle.cdf_format.specs.RecordTypes.{vvr_type, cvvr_type}
 use Rattle.cdf_format.specs.NotRead.{unread_lower}
@@ -14,7 +14,6 @@ use Rattle.cdf_format.specs.Chains.{is_a}
 use Rattle.cdf_format.specs.Index.{Nodes, no_node, node, Entries, no_entry, block, lower, Leaf, leaves_of, room_at}
 use Rattle.cdf_format.specs.IndexWalk.{Met, met, lost}
 use Rattle.cdf_format.specs.Shape.{is_compressed, index_of}
-use Rattle.cdf_format.specs.Stored.{field_bytes}
 use Rattle.cdf_format.specs.VariableFields.{plain_size}
 use Rattle.cdf_format.specs.VariableRules.{all_vdrs}
 
@@ -48,8 +47,13 @@ unfoldable mutual
   used_rows b records vxr low high (lower first last nodes entries) =
       row 4 vxr (is_between low high first last) ∷ unread_lower vxr ++ nodes_rows b records first last nodes ++ used_rows b records vxr (suc last) high entries
 
+-- so many bytes from a place on; a byte past the image counts as 0
+abbrev pub bytes_from : List ℕ → ℕ → ℕ → List ℕ
+bytes_from b place n = take n (drop place b) ++ replicate (n - length (drop place b)) 0
+
+-- the packed bytes, cSize of them; below 0 there are none
 abbrev pub packed_bytes : List ℕ → ℕ → List ℕ
-packed_bytes b cvvr = field_bytes b cvvr (cvvr_packed (number b cvvr cvvr_c_size))
+packed_bytes b cvvr = bytes_from b (cvvr + (cvvr_packed 0).place) (counted (integer8 b cvvr cvvr_c_size))
 
 -- packed bytes stand for just so many
 abbrev pub unpacks_to : List ℕ → ℕ → Bool

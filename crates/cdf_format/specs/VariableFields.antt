@@ -1,6 +1,7 @@
 -- What a VDR says of its variable (CDF Internal Format Description, "Variable Descriptor Records").
 use Rattle.std.specs.Prelude.{ℕ, ℤ, ◌+◌, ◌-◌, ◌*◌, List, map, Bool, not, ◌==◌, if◌then◌else◌, Some, None}
 use Rattle.std.specs.declared.option.Option.{Option}
+use Rattle.std.specs.Int.{w32, cast_signed}
 use Rattle.cdf_model.specs.declared.data_type.DataType.{DataType}
 use Rattle.cdf_model.specs.declared.kinds.Sparse.{Sparse}
 use Rattle.cdf_model.specs.declared.kinds.Sparse.TheVariants.{NoRule, Pad, Previous}
@@ -15,12 +16,16 @@ use Rattle.cdf_format.specs.Stored.{data_type_in, network_bytes}
 abbrev pub is_z : List ℕ → ℕ → Bool
 is_z b vdr = type_at b vdr == z_vdr_type
 
--- r variables share the dimensions of the GDR
+-- 4 bytes that were read without a sign, as a number with a sign, below 0 taken as 0
+abbrev pub counted4 : ℕ → ℕ
+counted4 n = counted (cast_signed w32 n)
+
+-- r variables share the dimensions of the GDR, whose sizes are positive (rule 3.3); a size below 0 counts as 0
 abbrev pub dimensions_at : List ℕ → ℕ → ℕ
 dimensions_at b vdr = if is_z b vdr then counted (integer4 b vdr vdr_z_num_dims) else r_dimensions b (gdr_offset b)
 
 abbrev pub dims_at : List ℕ → ℕ → List ℕ
-dims_at b vdr = if is_z b vdr then words b (vdr + (vdr_z_dim_size 0).place) (dimensions_at b vdr) else r_sizes b (gdr_offset b)
+dims_at b vdr = if is_z b vdr then map counted4 (words b (vdr + (vdr_z_dim_size 0).place) (dimensions_at b vdr)) else r_sizes b (gdr_offset b)
 
 -- DimVarys, of so many dimensions
 abbrev pub vary_field : List ℕ → ℕ → Field
@@ -32,12 +37,16 @@ varys_at b vdr = map (λ n. not (n == 0)) (words b (vdr + (vary_field b vdr).pla
 abbrev pub type_of_variable : List ℕ → ℕ → DataType
 type_of_variable b vdr = data_type_in b vdr vdr_data_type
 
+-- NumElems; below 0 there are none
+abbrev pub elems_at : List ℕ → ℕ → ℕ
+elems_at b vdr = counted (integer4 b vdr vdr_num_elems)
+
 -- the bytes of a value, and of a record
 abbrev pub value_bytes : List ℕ → ℕ → ℕ
-value_bytes b vdr = size_of (type_of_variable b vdr) * number b vdr vdr_num_elems
+value_bytes b vdr = size_of (type_of_variable b vdr) * elems_at b vdr
 
 abbrev pub record_bytes : List ℕ → ℕ → ℕ
-record_bytes b vdr = record_size (type_of_variable b vdr) (number b vdr vdr_num_elems) (dims_at b vdr) (varys_at b vdr)
+record_bytes b vdr = record_size (type_of_variable b vdr) (elems_at b vdr) (dims_at b vdr) (varys_at b vdr)
 
 -- Flags bit 0: records vary; bit 1: there is a pad value
 abbrev pub records_vary : List ℕ → ℕ → Bool
