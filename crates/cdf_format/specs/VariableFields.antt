@@ -20,10 +20,11 @@ is_z b vdr = type_at b vdr == z_vdr_type
 abbrev pub counted4 : ℕ → ℕ
 counted4 n = counted (cast_signed w32 n)
 
--- r variables share the dimensions of the GDR, whose sizes are positive (rule 3.3); a size below 0 counts as 0
+-- r variables share the dimensions of the GDR
 abbrev pub dimensions_at : List ℕ → ℕ → ℕ
 dimensions_at b vdr = if is_z b vdr then counted (integer4 b vdr vdr_z_num_dims) else r_dimensions b (gdr_offset b)
 
+-- Their sizes. Of a z variable one below 0 counts as 0; those of the GDR are positive, by rule 3.3.
 abbrev pub dims_at : List ℕ → ℕ → List ℕ
 dims_at b vdr = if is_z b vdr then map counted4 (words b (vdr + (vdr_z_dim_size 0).place) (dimensions_at b vdr)) else r_sizes b (gdr_offset b)
 
