@@ -11,7 +11,7 @@ use Rattle.cdf_format.specs.VariableAllowances.{allowance, AllKeep}
 use Rattle.cdf_format.specs.Alone.{IsSound}
 use Rattle.cdf_format.specs.Content.{content}
 use Rattle.cdf_format.specs.GoodImage.{IsGoodImage}
-use Rattle.cdf_format.specs.Locality.{only_reads, BlocksFollow, Follows}
+use Rattle.cdf_format.specs.Locality.{only_reads, BlocksFollow, ReservedStay, Follows}
 use Rattle.cdf_format.specs.Owners.{Owner, owned}
 use Rattle.cdf_format.specs.Phases.{KeepsAllRules}
 use Rattle.cdf_format.specs.Sealed.{trailer, trailer_length, sealed}
@@ -59,6 +59,14 @@ no_blocks b (commands.GetRec var rec) e = tt
 no_blocks b (commands.GetVal var rec index) e = tt
 no_blocks b c e = absurd cc
 
+no_descriptor : (b : List ℕ) (c : Command) → only_reads c ≡ true → ReservedStay b b c
+no_descriptor b commands.Info e = tt
+no_descriptor b commands.List e = tt
+no_descriptor b (commands.GetEntry attr kind num) e = tt
+no_descriptor b (commands.GetRec var rec) e = tt
+no_descriptor b (commands.GetVal var rec index) e = tt
+no_descriptor b c e = absurd cc
+
 pub reading_follows : (b : List ℕ) (c : Command) (reply : Reply) → only_reads c ≡ true → step (content b) c ≡ Go (content b) reply → Good b → Follows b c b
 reading_follows b c reply reads goes good = record {
   reply = reply;
@@ -73,4 +81,5 @@ reading_follows b c reply reads goes good = record {
   takes_within = omega arith;
   keeps = all_keep b c [] (owned b (shape b)) (owned_stand b (shape b) (good_by_its_shape b good));
   blocks = no_blocks b c reads;
+  reserved = no_descriptor b c reads;
 }

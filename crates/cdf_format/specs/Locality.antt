@@ -1,7 +1,7 @@
 -- How a command changes an image: its content as the data set says, and no record that it does not concern.
-use Rattle.std.specs.Prelude.{◌≡◌, ◌⊎◌, ◌≤◌, ℕ, ◌+◌, ◌-◌, ◌*◌, max, List, [], ◌∷◌, ◌++◌, length, map, Bool, true, false, not, ◌&&◌, ◌==◌, nat_lt, nat_le, if◌then◌else◌, Some}
+use Rattle.std.specs.Prelude.{◌≡◌, ◌⊎◌, ◌≤◌, ◌<◌, ℕ, ◌+◌, ◌-◌, ◌*◌, max, List, [], ◌∷◌, ◌++◌, length, map, Bool, true, false, not, ◌&&◌, ◌==◌, nat_lt, nat_le, if◌then◌else◌, Some}
 use Rattle.std.specs.declared.option.Option.{Option}
-use Rattle.std.specs.List.{slice_get, sum}
+use Rattle.std.specs.List.{All, slice_get, sum}
 use Rattle.cdf_model.specs.declared.answer.Reply.{Reply}
 use Rattle.cdf_model.specs.declared.command.Command.{Command}
 use Rattle.cdf_model.specs.declared.command.Command.TheVariants as commands
@@ -20,11 +20,11 @@ use Rattle.cdf_format.specs.VariableAllowances.{AllKeep}
 use Rattle.cdf_format.specs.Blocks.{range, ranges_of, shared, fallen, is_sparse, first_written, is_cut_first, record_length, ranges_after_put, ranges_after_cut}
 use Rattle.cdf_format.specs.Changed.{Touch, touch, touched_field, Changed, Same}
 use Rattle.cdf_format.specs.Content.{content, plain_bytes}
-use Rattle.cdf_format.specs.Fields.{size_at, type_at}
+use Rattle.cdf_format.specs.Fields.{gdr_offset, number, size_at, type_at}
 use Rattle.cdf_format.specs.Index.{Leaf, leaves_of}
 use Rattle.cdf_format.specs.IndexRules.{packed_bytes}
 use Rattle.cdf_format.specs.Owners.{owned}
-use Rattle.cdf_format.specs.Records.{gdr_r_max_rec, vdr_max_rec}
+use Rattle.cdf_format.specs.Records.{Field, gdr_r_max_rec, gdr_rfu_c, gdr_leap_second_last_updated, gdr_rfu_e, vdr_max_rec, vdr_vxr_head, vdr_vxr_tail, vdr_rfu_b, vdr_rfu_c, vdr_rfu_f, vdr_cpr_or_spr_offset}
 use Rattle.cdf_format.specs.RecordTypes.{uir_type}
 use Rattle.cdf_format.specs.Room.{room, uncovered, shapes_of}
 use Rattle.cdf_format.specs.Shape.{VariableShape, Each, shape}
@@ -62,7 +62,7 @@ is_worth_packing plain packed = nat_le (length plain) record_limit && nat_lt (24
 
 -- packed as it should be, in the longest runs
 pub record WellPacked (now : List ℕ) (vdr : ℕ) (leaf : Leaf) : Type 0 where
-  pub chosen : (packed : List ℕ) → Packs packed (plain_bytes now vdr leaf) → IsLongest packed → leaf.packed ≡ is_worth_packing (plain_bytes now vdr leaf) packed
+  pub chosen : (packed : List ℕ) → All (λ byte. byte < 256) packed → Packs packed (plain_bytes now vdr leaf) → IsLongest packed → leaf.packed ≡ is_worth_packing (plain_bytes now vdr leaf) packed
   pub longest : leaf.packed ≡ true → IsLongest (packed_bytes now leaf.place)
 
 -- it holds of one of them
@@ -117,6 +117,18 @@ BlocksFollow b now c = Unit {0}
 
 -- ---- a command
 
+-- these fields of two records are the same
+abbrev pub AreSameFields : List ℕ → ℕ → List ℕ → ℕ → List Field → Type 0
+AreSameFields b place now place' fields = Each (λ f. number now place' f ≡ number b place f) fields
+
+-- A descriptor that may move keeps the fields that no command knows, and its links to its index and its packing.
+abbrev pub ReservedStay : List ℕ → List ℕ → Command → Type 0
+ReservedStay b now (commands.Setup encoding majority dims) =
+    AreSameFields b (gdr_offset b) now (gdr_offset now) (gdr_r_max_rec ∷ gdr_rfu_c ∷ gdr_leap_second_last_updated ∷ gdr_rfu_e ∷ [])
+ReservedStay b now (commands.SetPad var words) = (found : Found) (v v' : VariableShape) → IsVariable b now var found v v'
+    → AreSameFields b v.vdr now v'.vdr (vdr_vxr_head ∷ vdr_vxr_tail ∷ vdr_rfu_b ∷ vdr_rfu_c ∷ vdr_rfu_f ∷ vdr_cpr_or_spr_offset ∷ [])
+ReservedStay b now c = Unit {0}
+
 -- A record that was taken stands in use, with the size that was asked for. Only `del-recs` may free again what it took, since under a sparse rule it cuts twice.
 abbrev pub TakenStands : List ℕ → Command → ℕ × ℕ → Type 0
 TakenStands now (commands.DelRecs var first last) take = Unit {0}
@@ -136,6 +148,7 @@ pub record Follows (b : List ℕ) (c : Command) (now : List ℕ) : Type 0 where
   pub takes_within : sum (map (λ take. take.1) takes) ≤ room b c
   pub keeps : AllKeep b now c takes (owned b (shape b))
   pub blocks : BlocksFollow b now c
+  pub reserved : ReservedStay b now c
 
 -- ---- a script
 
