@@ -1,7 +1,9 @@
 -- How a run goes on from line to line.
-use Rattle.std.proofs.Common.{◌≡◌, ℕ, ◌+◌, Bool, true, false, List, [], ◌∷◌, ◌++◌, Option, refl, sym, ◌∙◌, ap, subst}
-use Rattle.std.proofs.KnownBytes.{Appends-trans}
-use Rattle.std.specs.Prelude.{◌||◌}
+use Rattle.std.proofs.Common.{◌≡◌, ℕ, ◌+◌, Bool, true, false, List, [], ◌∷◌, ◌++◌, append_assoc, append-nil, Option, refl, sym, ◌∙◌, ap, subst}
+use Rattle.std.proofs.KnownBytes.{Appends-trans, Appends-nil}
+use Rattle.std.specs.Prelude.{◌||◌, Some, Ok, Err, IfOk, OnErr}
+use Rattle.std.specs.declared.result.Result.{Result}
+use Rattle.cdf_tool.specs.declared.stop.Stop.{Stop}
 use Rattle.std.specs.Io.KnownBytes.{Appends}
 use Rattle.cdf_store.specs.Written.{IsFront, AppendsFront}
 use Rattle.cdf_store.proofs.Fronts.{IsFront-refl, IsFront-trans, front_after, front_longer}
@@ -16,7 +18,7 @@ use Rattle.cdf_model.specs.declared.command.Command.{Command}
 use Rattle.cdf_tool.proofs.HeadLemmas.{built-info}
 use Rattle.cdf_lines.specs.declared.line.Line.{Line}
 use Rattle.cdf_lines.specs.Pending.{Pending, GivesLine, fed, line_of, new_lines}
-use Rattle.cdf_tool.specs.Replay.{Turns, IsAt}
+use Rattle.cdf_tool.specs.Replay.{Turns, IsAt, GoesOn, StopsWithin}
 use Rattle.cdf_tool.proofs.Standing.{Reached}
 
 -- no command changes the data set so far
@@ -104,3 +106,72 @@ all_answered d refused first now old new whole r none same =
 pub fed_ready : (p p' : Pending) (piece : List ℕ) → p.ready ≡ [] → p' ≡ fed p piece → (p'.ready ≡ new_lines p.rest piece) × (p'.given ≡ p.given)
 fed_ready p p' piece none is =
     (ap (λ (q : Pending). q.ready) is ∙ ap (λ (ls : List (Option (List ℕ))). ls ++ new_lines p.rest piece) none, ap (λ (q : Pending). q.given) is)
+
+-- a state whose text has another in front, and one without its text
+abbrev behind_text : List ℕ → State → State
+behind_text front s = record s { text = front ++ s.text }
+
+abbrev fresh : State → State
+fresh s = record s { text = [] }
+
+run_behind : (front : List ℕ) (s : State) (lines : List (Option (List ℕ))) → run_on (behind_text front s) lines ≡ behind_text front (run_on s lines)
+run_behind front s [] = refl
+run_behind front s (line ∷ lines) =
+    ap (λ (text : List ℕ). run_on (record (advance s line) { text = text }) lines) (append_assoc front s.text (turn s.data_set (s.count + 1) (parse line)).text)
+    ∙ run_behind front (advance s line) lines
+
+run_fresh : (s : State) (lines : List (Option (List ℕ))) → run_on s lines ≡ behind_text s.text (run_on (fresh s) lines)
+run_fresh s lines = ap (λ (text : List ℕ). run_on (record s { text = text }) lines) (sym (append-nil s.text)) ∙ run_behind s.text (fresh s) lines
+
+stands_fresh : (d : DataSet) (given : ℕ) (refused : Bool) (first was : Option (List ℕ)) (s : State) → IsAt d given refused first was s → IsAt d given refused (Some []) (Some []) (fresh s)
+stands_fresh d given refused first was s stands = record {
+  data_set = stands.data_set;
+  count = stands.count;
+  refused_is = stands.refused_is;
+  written = Appends-nil (Some []);
+}
+
+front_of_known : (text whole : List ℕ) → AppendsFront (Some []) (Some text) whole → IsFront text whole
+front_of_known text whole part = subst (λ (t : List ℕ). IsFront t whole) (sym part.2) part.1
+
+-- replies that were gathered, from none on, and written together
+module _ (d : DataSet) (lines : List (Option (List ℕ))) (given : ℕ) (refused : Bool) (none some : Option (List ℕ)) (text : List ℕ) (was now : Option (List ℕ)) (none_is : none ≡ Some []) (some_is : some ≡ Some text) where
+  pub goes_together : (given' : ℕ) (r : Bool) → GoesOn d lines given refused none given' r some → Appends was now text → GoesOn d lines given refused was given' r now
+  goes_together given' r goes writes = λ first s stands.
+      let from_none : GoesOn d lines given refused (Some []) given' r (Some text) =
+      subst (λ (n : Option (List ℕ)). GoesOn d lines given refused n given' r (Some text)) none_is (subst (λ (n : Option (List ℕ)). GoesOn d lines given refused none given' r n) some_is goes) in
+      let there = from_none (Some []) (fresh s) (stands_fresh d given refused first was s stands) in
+      let text_is : text ≡ (run_on (fresh s) lines).text = there.written in
+      subst (λ (whole : State). IsAt d given' r first now whole) (sym (run_fresh s lines)) (record {
+        data_set = there.data_set;
+        count = there.count;
+        refused_is = there.refused_is;
+        written = Appends-trans first was now s.text (run_on (fresh s) lines).text stands.written (subst (λ (t : List ℕ). Appends was now t) text_is writes);
+      })
+
+  -- what was gathered is a part of the text of these lines
+  abbrev IsPart : Type 0
+  IsPart = (s : State) → IsAt d given refused (Some []) (Some []) s → IsFront text (run_on s lines).text
+
+  part_of_goes : (given' : ℕ) (r : Bool) → GoesOn d lines given refused none given' r some → IsPart
+  part_of_goes given' r goes = λ s stands.
+      let from_none : GoesOn d lines given refused (Some []) given' r (Some text) =
+      subst (λ (n : Option (List ℕ)). GoesOn d lines given refused n given' r (Some text)) none_is (subst (λ (n : Option (List ℕ)). GoesOn d lines given refused none given' r n) some_is goes) in
+      let text_is : text ≡ (run_on s lines).text = (from_none (Some []) s stands).written in
+      subst (λ (t : List ℕ). IsFront text t) text_is (IsFront-refl text)
+
+  part_of_stops : StopsWithin d lines given refused none some → IsPart
+  part_of_stops stops = λ s stands.
+      let from_none : StopsWithin d lines given refused (Some []) (Some text) =
+      subst (λ (n : Option (List ℕ)). StopsWithin d lines given refused n (Some text)) none_is (subst (λ (n : Option (List ℕ)). StopsWithin d lines given refused none n) some_is stops) in
+      front_of_known text (run_on s lines).text (from_none (Some []) s stands)
+
+  pub part_of : (given' : ℕ) (answer : Result Bool Stop) → IfOk answer (λ r. GoesOn d lines given refused none given' r some) → OnErr answer (StopsWithin d lines given refused none some) → IsPart
+  part_of given' (Ok r) goes stops = part_of_goes given' r goes
+  part_of given' (Err stop) goes stops = part_of_stops stops
+
+  pub stops_together : IsPart → AppendsFront was now text → StopsWithin d lines given refused was now
+  stops_together part writes = λ first s stands.
+      let within = part (fresh s) (stands_fresh d given refused first was s stands) in
+      subst (λ (whole : State). AppendsFront first now whole.text) (sym (run_fresh s lines))
+      (front_after first was now s.text (run_on (fresh s) lines).text stands.written (front_longer was now text (run_on (fresh s) lines).text within writes))

@@ -4,6 +4,7 @@
 mod ended;
 mod file;
 mod replay;
+mod replies;
 mod say;
 mod script;
 mod session;

@@ -12,6 +12,7 @@ ghost use Rattle.cdf_model.specs.Whole.{CanBeWritten};
 ghost use Rattle.cdf_lines.specs.Pending.{line_of, new_lines, new_rest};
 ghost use Rattle.cdf_tool.specs.Replay.{GoesOn, StopsWithin, Turns, IsDrained};
 
+use crate::replies::Replies;
 use crate::session::{info, is_built};
 use crate::stop::Stop;
 use cdf_area::Area;
@@ -151,6 +152,45 @@ pub fn answer_lines<A: Area, O: Sink>(
     Ok(refused)
 }
 
+/// Why a replay stopped that gathered its replies: what could not be gathered had no memory.
+fn without_output(stop: Stop) -> Stop
+    ensures fault { result ≡ Stop.Fault → stop ≡ Stop.Fault }
+    ensures output { result ≡ Stop.Output → ⊥ }
+{
+    match stop {
+        Stop::Fault => Stop::Fault,
+        Stop::Output | Stop::NoMemory => Stop::NoMemory,
+    }
+}
+
+/// Answers the lines that are ready, and writes their replies together.
+fn answer_together<A: Area, O: Sink>(
+    alloc: Global,
+    area: &mut A,
+    lines: &mut Lines,
+    refused: bool,
+    out: &mut O,
+) -> Result<bool, Stop>
+    requires { WellFormed (A.image area.old) }
+    ensures ok { IfOk result (λ r. GoesOn (data_set_of (A.image area.old)) lines.old.ready lines.old.given refused (O.written out.old) lines.new.given r (O.written out.new)) }
+    ensures drained { OnOk result (IsDrained lines.old lines.new) }
+    ensures err { OnErr result (StopsWithin (data_set_of (A.image area.old)) lines.old.ready lines.old.given refused (O.written out.old) (O.written out.new)) }
+    ensures image { A.image area.new ≡ A.image area.old }
+    ensures frame { A.frame area.new ≡ A.frame area.old }
+    ensures later_area { A.faults area.old ≤ A.faults area.new }
+    ensures later_out { O.faults out.old ≤ O.faults out.new }
+    ensures fault { IsErrOf result Stop.Fault → Rose (A.faults area.old) (A.faults area.new) }
+    ensures output { IsErrOf result Stop.Output → Rose (O.faults out.old) (O.faults out.new) }
+{
+    let mut replies = Replies::new(alloc);
+    let answered = answer_lines(alloc, area, lines, refused, &mut replies);
+    write_all(out, replies.text())?;
+    match answered {
+        Ok(refused) => Ok(refused),
+        Err(stop) => Err(without_output(stop)),
+    }
+}
+
 /// Answers the lines that a piece of the script ends.
 pub fn answer_piece<A: Area, O: Sink>(
     alloc: Global,
@@ -176,5 +216,5 @@ pub fn answer_piece<A: Area, O: Sink>(
     ensures output { IsErrOf result Stop.Output → Rose (O.faults out.old) (O.faults out.new) }
 {
     lines.feed(piece)?;
-    answer_lines(alloc, area, lines, refused, out)
+    answer_together(alloc, area, lines, refused, out)
 }

@@ -46,7 +46,7 @@ fn finish_script<A: Area, O: Sink>(
     }
 }
 
-/// Runs a script over a well-formed file, line by line, each reply written as it comes.
+/// Runs a script over a well-formed file, line by line. The replies to the lines of a piece are written before the next is read.
 pub fn run_script<A: Area, I: Source, O: Sink>(
     alloc: Global,
     area: &mut A,

@@ -76,7 +76,12 @@ fn the_room_of_the_output_ends(rt: HostRuntime) -> Result<(), Fail> {
     ];
     for (words, length, room, written) in table {
         let file = changed_file(alloc, length, &[])?;
-        let devices = Devices { room, ..SOUND };
+        // In pieces of 4 bytes each line ends in a piece of its own, and its reply is written by itself.
+        let devices = Devices {
+            most: 4,
+            room,
+            ..SOUND
+        };
         let ran = run_over(alloc, words, &file, SCRIPT, &devices)?;
         assert_eq!(rt; ran.status, 7, "{words:?}, {room}");
         assert!(rt; ran.kept, "{words:?}, {room}");

@@ -16,9 +16,9 @@ returns-in_err-feed-clause-err g c =
 pub returns-clause-ok : goal.returns-clause-ok
 returns-clause-ok g c =
     let fed = fed_ready c.args.lines.now c.feed.new.self c.args.piece.now c.requires.ready c.in_ok-feed.ensures.ok in
-    rw (← fed.0, ← fed.1) c.answer_lines.ensures.ok
+    rw (← fed.0, ← fed.1) c.answer_together.ensures.ok
 
 pub returns-clause-err : goal.returns-clause-err
 returns-clause-err g c =
     let fed = fed_ready c.args.lines.now c.feed.new.self c.args.piece.now c.requires.ready c.in_ok-feed.ensures.ok in
-    rw (← fed.0, ← fed.1) c.answer_lines.ensures.err
+    rw (← fed.0, ← fed.1) c.answer_together.ensures.err
