@@ -125,7 +125,7 @@ fn answer_line<A: Area, O: Sink>(
 }
 
 /// Answers the lines that are ready, and says whether one of them or an earlier one was refused.
-pub fn answer_lines<A: Area, O: Sink>(
+fn answer_lines<A: Area, O: Sink>(
     alloc: Global,
     area: &mut A,
     lines: &mut Lines,
@@ -164,7 +164,7 @@ fn without_output(stop: Stop) -> Stop
 }
 
 /// Answers the lines that are ready, and writes their replies together.
-fn answer_together<A: Area, O: Sink>(
+pub fn answer_together<A: Area, O: Sink>(
     alloc: Global,
     area: &mut A,
     lines: &mut Lines,

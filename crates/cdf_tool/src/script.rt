@@ -6,7 +6,7 @@ ghost use Rattle.cdf_tool.specs.Replay.{Finishes};
 ghost use Rattle.cdf_tool.specs.Script.{Runs};
 
 use crate::Status;
-use crate::replay::{answer_lines, answer_piece};
+use crate::replay::{answer_piece, answer_together};
 use crate::status::end_status;
 use crate::stop::stop_status;
 use cdf_area::Area;
@@ -40,7 +40,7 @@ fn finish_script<A: Area, O: Sink>(
     ensures source { result ≡ Status.ScriptFault → ⊥ }
 {
     lines.finish();
-    match answer_lines(alloc, area, lines, refused, out) {
+    match answer_together(alloc, area, lines, refused, out) {
         Ok(refused) => end_status(refused),
         Err(stop) => stop_status(stop),
     }
