@@ -1,9 +1,10 @@
 -- What a command comes to: it makes a data set, with a reply, or is refused for a reason.
-use Rattle.std.specs.Prelude.{List, [], ◌∷◌, Bool, if◌then◌else◌, Some, None}
+use Rattle.std.specs.Prelude.{List, [], ◌∷◌, Bool, true, false, not, if◌then◌else◌, Some, None}
 use Rattle.std.specs.declared.option.Option.{Option}
 use Rattle.cdf_model.specs.declared.answer.Outcome.{Outcome}
 use Rattle.cdf_model.specs.declared.answer.Outcome.TheVariants.{Done, Refused}
 use Rattle.cdf_model.specs.declared.answer.Reason.{Reason}
+use Rattle.cdf_model.specs.declared.answer.Reason.TheVariants.{TooLarge}
 use Rattle.cdf_model.specs.declared.answer.Reply.{Reply}
 use Rattle.cdf_model.specs.DataSet.{DataSet}
 
@@ -11,14 +12,21 @@ pub data Answer : Type 0 where
   Go : DataSet → Reply → Answer
   Refuse : Reason → Answer
 
-abbrev pub outcome : Answer → Outcome
-outcome (Go d reply) = Done reply
-outcome (Refuse reason) = Refused reason
+-- A command that the data set lets go is refused all the same where the file has no room for it: `full` says so.
+abbrev pub is_accepted : Answer → Bool → Bool
+is_accepted (Go d reply) full = not full
+is_accepted (Refuse reason) full = false
+
+abbrev pub outcome : Answer → Bool → Outcome
+outcome (Go d reply) true = Refused TooLarge
+outcome (Go d reply) false = Done reply
+outcome (Refuse reason) full = Refused reason
 
 -- a refused command leaves the data set
-abbrev pub data_after : DataSet → Answer → DataSet
-data_after d (Go made reply) = made
-data_after d (Refuse reason) = d
+abbrev pub data_after : DataSet → Answer → Bool → DataSet
+data_after d (Go made reply) true = d
+data_after d (Go made reply) false = made
+data_after d (Refuse reason) full = d
 
 -- the first reason whose condition holds, else the answer
 abbrev pub unless : List (Bool × Reason) → Answer → Answer

@@ -43,17 +43,17 @@ pad_text false t elems pad = codes "-"
 pad_text true t elems pad = values_text t elems pad
 
 abbrev pub event_text : Event → List ℕ
-event_text (events.Head head) = head_text head ⧺ newline
-event_text (events.Attr num name scope) = codes "attribute " ⧺ decimal num ⧺ codes " " ⧺ quoted name ⧺ codes " " ⧺ scope_text scope ⧺ newline
+event_text (events.Head head) = head_text head
+event_text (events.Attr num name scope) = codes "attribute " ⧺ decimal num ⧺ codes " " ⧺ quoted name ⧺ codes " " ⧺ scope_text scope
 event_text (events.Entry kind num t elems bytes) =
-    codes "entry " ⧺ entry_kind_text kind ⧺ codes " " ⧺ decimal num ⧺ codes " " ⧺ name_of t ⧺ codes " " ⧺ decimal elems ⧺ codes " " ⧺ values_text t elems bytes ⧺ newline
+    codes "entry " ⧺ entry_kind_text kind ⧺ codes " " ⧺ decimal num ⧺ codes " " ⧺ name_of t ⧺ codes " " ⧺ decimal elems ⧺ codes " " ⧺ values_text t elems bytes
 event_text (events.Var kind num name t elems vary dims varys sparse rle blocking max_rec has_pad pad) =
     kind_text kind ⧺ codes " " ⧺ decimal num ⧺ codes " " ⧺ quoted name ⧺ codes " " ⧺ name_of t ⧺ codes " " ⧺ decimal elems
     ⧺ codes " " ⧺ vary_text vary ⧺ codes " " ⧺ list_text dims ⧺ codes " " ⧺ varys_text varys
     ⧺ codes " sparse " ⧺ sparse_text sparse ⧺ codes " compress " ⧺ compress_text rle
-    ⧺ codes " blocking " ⧺ signed_decimal blocking ⧺ codes " maxrec " ⧺ signed_decimal max_rec ⧺ codes " pad " ⧺ pad_text has_pad t elems pad ⧺ newline
-event_text (events.Rec num t elems bytes) = codes "record " ⧺ decimal num ⧺ codes " " ⧺ values_text t elems bytes ⧺ newline
-event_text (events.End attrs vars recs) = codes "end attributes " ⧺ decimal attrs ⧺ codes " variables " ⧺ decimal vars ⧺ codes " records " ⧺ decimal recs ⧺ newline
+    ⧺ codes " blocking " ⧺ signed_decimal blocking ⧺ codes " maxrec " ⧺ signed_decimal max_rec ⧺ codes " pad " ⧺ pad_text has_pad t elems pad
+event_text (events.Rec num t elems bytes) = codes "record " ⧺ decimal num ⧺ codes " " ⧺ values_text t elems bytes
+event_text (events.End attrs vars recs) = codes "end attributes " ⧺ decimal attrs ⧺ codes " variables " ⧺ decimal vars ⧺ codes " records " ⧺ decimal recs
 
 abbrev pub dump_text : DataSet → List ℕ
-dump_text d = flat_map event_text (events_of d)
+dump_text d = flat_map (λ event. event_text event ⧺ newline) (events_of d)

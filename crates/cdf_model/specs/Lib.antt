@@ -27,7 +27,8 @@ pub mod Sayable
 pub mod Grammar
 pub mod Texts
 pub mod Whole
-pub mod Run
-pub mod RunLengths
 pub mod Events
 pub mod EventTexts
+pub mod Taps
+pub mod Run
+pub mod RunLengths

@@ -1,5 +1,5 @@
 -- What each command does to a data set. Where several reasons hold, the one with the least number is given.
-use Rattle.std.specs.Prelude.{Bool, true, false}
+use Rattle.std.specs.Prelude.{ℕ, List, Bool, true, false}
 use Rattle.cdf_model.specs.declared.answer.Reply.TheVariants as replies
 use Rattle.cdf_model.specs.declared.command.Command.{Command}
 use Rattle.cdf_model.specs.declared.command.Command.TheVariants as commands
@@ -44,3 +44,14 @@ step d (commands.Report tap) = Go d replies.Plain
 abbrev pub built : Command → Bool
 built commands.Info = true
 built c = false
+
+-- how a command is answered: by its step, by the whole content of the data set, or by the taps of a name
+pub data Route : Type 0 where
+  ByStep : Route
+  ByContent : Route
+  ByTaps : List ℕ → Route
+
+abbrev pub route_of : Command → Route
+route_of commands.Dump = ByContent
+route_of (commands.Report tap) = ByTaps tap
+route_of c = ByStep

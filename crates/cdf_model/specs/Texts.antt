@@ -101,11 +101,15 @@ item_text (Var kind num name) = kind_text kind ⧺ codes " " ⧺ decimal num ⧺
 abbrev pub end_text : ℕ → List ℕ
 end_text n = decimal n ⧺ codes " end" ⧺ newline
 
+-- a text of several lines that answers a line
+abbrev pub framed : ℕ → List ℕ → List ℕ
+framed n text = decimal n ⧺ codes " ok" ⧺ newline ⧺ text ⧺ end_text n
+
 -- the reply of a command that is done
 abbrev pub done_text : ℕ → Reply → List ℕ
 done_text n replies.Plain = decimal n ⧺ codes " ok" ⧺ newline
 done_text n (replies.Head head) = decimal n ⧺ codes " ok " ⧺ head_text head ⧺ newline
-done_text n (replies.Listing items) = decimal n ⧺ codes " ok" ⧺ newline ⧺ flat_map item_text items ⧺ end_text n
+done_text n (replies.Listing items) = framed n (flat_map item_text items)
 done_text n (replies.Entry t elems bytes) = decimal n ⧺ codes " ok " ⧺ name_of t ⧺ codes " " ⧺ decimal elems ⧺ codes " " ⧺ values_text t elems bytes ⧺ newline
 done_text n (replies.Values t elems bytes) = decimal n ⧺ codes " ok " ⧺ values_text t elems bytes ⧺ newline
 
