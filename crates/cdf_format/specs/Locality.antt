@@ -1,21 +1,20 @@
 -- How a command changes an image: its content as the data set says, and no record that it does not concern.
 use Rattle.std.specs.Prelude.{◌≡◌, ◌⊎◌, ◌≤◌, ◌<◌, ℕ, ◌+◌, ◌-◌, ◌*◌, max, List, [], ◌∷◌, ◌++◌, length, map, Bool, true, false, not, ◌&&◌, ◌==◌, nat_lt, nat_le, if◌then◌else◌, Some}
 use Rattle.std.specs.declared.option.Option.{Option}
-use Rattle.std.specs.List.{All, slice_get, sum}
+use Rattle.std.specs.List.{All, fold, slice_get, sum}
 use Rattle.cdf_model.specs.declared.answer.Reply.{Reply}
 use Rattle.cdf_model.specs.declared.command.Command.{Command}
 use Rattle.cdf_model.specs.declared.command.Command.TheVariants as commands
 use Rattle.cdf_model.specs.declared.kinds.Kind.{Kind}
 use Rattle.cdf_model.specs.declared.kinds.Kind.TheVariants.{R, Z}
-use Rattle.cdf_model.specs.Answers.{Answer, Go, Refuse}
+use Rattle.cdf_model.specs.Answers.{Go, is_accepted}
 use Rattle.cdf_model.specs.DataSet.{Variable}
 use Rattle.cdf_model.specs.Grammar.{Parsed, Blank, Asks, Faulty, parse}
-use Rattle.cdf_model.specs.Limits.{image_limit}
 use Rattle.cdf_model.specs.Lines.{lines}
 use Rattle.cdf_model.specs.Names.{Found, variable_named}
 use Rattle.cdf_model.specs.Place.{record_limit}
 use Rattle.cdf_model.specs.RunLengths.{Packs, IsLongest}
-use Rattle.cdf_model.specs.Step.{built, step}
+use Rattle.cdf_model.specs.Step.{Route, ByStep, built, route_of, step}
 use Rattle.cdf_format.specs.VariableAllowances.{AllKeep}
 use Rattle.cdf_format.specs.Blocks.{range, ranges_of, shared, fallen, is_sparse, first_written, is_cut_first, record_length, ranges_after_put, ranges_after_cut}
 use Rattle.cdf_format.specs.Changed.{Touch, touch, touched_field, Changed, Same}
@@ -152,44 +151,57 @@ pub record Follows (b : List ℕ) (c : Command) (now : List ℕ) : Type 0 where
 
 -- ---- a script
 
-abbrev pub leaves_image : Command → Bool
-leaves_image commands.Dump = true
-leaves_image (commands.Report tap) = true
-leaves_image c = false
+-- a command goes and would make an image of more than so many bytes
+abbrev pub is_full : ℕ → List ℕ → Command → Bool
+is_full limit b c = is_accepted (step (content b) c) false && nat_lt limit (length b + room b c)
 
-abbrev pub is_too_large : List ℕ → Command → Bool
-is_too_large b c = nat_lt image_limit (length b + room b c)
+-- what becomes of the image: a command that is accepted makes its own, and each other leaves it
+abbrev pub MovesIf : Bool → List ℕ → Command → List ℕ → Type 0
+MovesIf true b c now = Follows b c now
+MovesIf false b c now = now ≡ b
 
--- a command that goes makes its image unless that would be too large
-abbrev pub Applied : List ℕ → Command → List ℕ → Bool → Type 0
-Applied b c now true = (is_too_large b c ≡ true) × (now ≡ b)
-Applied b c now false = (is_too_large b c ≡ false) × Follows b c now
+abbrev pub Moves : List ℕ → Command → Bool → List ℕ → Type 0
+Moves b c full now = MovesIf (is_accepted (step (content b) c) full) b c now
 
-abbrev pub AppliedUnless : Bool → List ℕ → Command → List ℕ → Bool → Type 0
-AppliedUnless true b c now full = (now ≡ b) × (full ≡ false)
-AppliedUnless false b c now full = Applied b c now full
+-- How a command that its step answers leads from one image to another, under a limit on the bytes of an image. The flag says whether the image would be too large.
+abbrev pub StepLeads : ℕ → List ℕ → Command → Bool → List ℕ → Type 0
+StepLeads limit b c full now = (full ≡ is_full limit b c) × Moves b c full now
 
-abbrev pub Answered : List ℕ → Command → Answer → List ℕ → Bool → Type 0
-Answered b c (Refuse reason) now full = (now ≡ b) × (full ≡ false)
-Answered b c (Go d reply) now full = AppliedUnless (leaves_image c) b c now full
+abbrev pub Unmoved : List ℕ → Bool → List ℕ → Type 0
+Unmoved b full now = (full ≡ false) × (now ≡ b)
+
+abbrev pub RouteLeads : Route → ℕ → List ℕ → Command → Bool → List ℕ → Type 0
+RouteLeads ByStep limit b c full now = StepLeads limit b c full now
+RouteLeads other limit b c full now = Unmoved b full now
 
 -- a command that there is not yet leaves the image
-abbrev pub AnsweredIf : Bool → List ℕ → Command → List ℕ → Bool → Type 0
-AnsweredIf true b c now full = Answered b c (step (content b) c) now full
-AnsweredIf false b c now full = (now ≡ b) × (full ≡ false)
+abbrev pub CommandLeads : Bool → ℕ → List ℕ → Command → Bool → List ℕ → Type 0
+CommandLeads true limit b c full now = RouteLeads (route_of c) limit b c full now
+CommandLeads false limit b c full now = Unmoved b full now
 
--- a line, and whether its command would have made the image too large
-abbrev pub LineLeads : List ℕ → Parsed → List ℕ → Bool → Type 0
-LineLeads b Blank now full = (now ≡ b) × (full ≡ false)
-LineLeads b (Faulty fault) now full = (now ≡ b) × (full ≡ false)
-LineLeads b (Asks c) now full = AnsweredIf (built c) b c now full
+abbrev pub LineLeads : ℕ → List ℕ → Parsed → Bool → List ℕ → Type 0
+LineLeads limit b Blank full now = Unmoved b full now
+LineLeads limit b (Asks c) full now = CommandLeads (built c) limit b c full now
+LineLeads limit b (Faulty fault) full now = Unmoved b full now
 
--- From one image the lines, numbered from n on, lead to another; the commands of these lines alone would have made an image too large.
-abbrev pub LinesLead : List ℕ → ℕ → List (Option (List ℕ)) → List ℕ → List ℕ → Type 0
-LinesLead b n [] full end = (full ≡ []) × (end ≡ b)
-LinesLead b n (line ∷ more) full end =
-    (now : List ℕ) × (is_full : Bool) × (rest : List ℕ) × LineLeads b (parse line) now is_full × (full ≡ (if is_full then n ∷ rest else rest)) × LinesLead now (n + 1) more rest end
+-- a line of a script, whether the file was full for its command, and the image after it
+pub record Moment : Type 0 where
+  pub line : Option (List ℕ)
+  pub full : Bool
+  pub image : List ℕ
 
--- a script leads from one image to another
-abbrev pub History : List ℕ → List ℕ → List ℕ → List ℕ → Type 0
-History b script full end = LinesLead b 1 (lines script) full end
+-- these moments follow from an image one after the other
+abbrev pub LinesLead : ℕ → List ℕ → List Moment → Type 0
+LinesLead limit b [] = Unit {0}
+LinesLead limit b (m ∷ more) = LineLeads limit b (parse m.line) m.full m.image × LinesLead limit m.image more
+
+abbrev pub last_image : List ℕ → List Moment → List ℕ
+last_image b moments = fold (λ before m. m.image) b moments
+
+-- A script leads from one image to another; the flags say for each line whether the file was full for its command.
+pub record History (limit : ℕ) (b script : List ℕ) (full : List Bool) (end : List ℕ) : Type 0 where
+  pub moments : List Moment
+  pub lines_are : map (λ m. m.line) moments ≡ lines script
+  pub flags_are : map (λ m. m.full) moments ≡ full
+  pub steps : LinesLead limit b moments
+  pub end_is : last_image b moments ≡ end

@@ -244,28 +244,28 @@ appended written text None grew = absurd grew
 appended written text (Some after) grew = ap (λ (l : List ℕ). Some l) grew
 
 -- a run that was done is accepted
-module _ (bytes script written : List ℕ) (left now : Option (List ℕ)) (taken : List ℕ) (holds : WellFormed bytes) (took : Consumes (Some script) left taken) (le : length taken ≤ script_limit) (end : IsAtEnd left) (grew : Appends (Some written) now (run_of (data_set_of bytes) taken).text) where
+module _ (bytes script written : List ℕ) (left now : Option (List ℕ)) (taken : List ℕ) (holds : WellFormed bytes) (took : Consumes (Some script) left taken) (le : length taken ≤ script_limit) (end : IsAtEnd left) (grew : Appends (Some written) now (run_of (data_set_of bytes) [] taken []).text) where
   all : (left ≡ Some []) × (taken ≡ script)
   all = all_taken script taken left took end
 
-  run : run_of (data_set_of bytes) taken ≡ run_of (data_set_of bytes) script
-  run = ap (λ (t : List ℕ). run_of (data_set_of bytes) t) all.1
+  run : run_of (data_set_of bytes) [] taken [] ≡ run_of (data_set_of bytes) [] script []
+  run = ap (λ (t : List ℕ). run_of (data_set_of bytes) [] t []) all.1
 
-  accepted : (status : Status) → (status ≡ statuses.SomeRefused) ↔ ((run_of (data_set_of bytes) script).refused ≡ true) → Accepted bytes script left written now status
+  accepted : (status : Status) → (status ≡ statuses.SomeRefused) ↔ ((run_of (data_set_of bytes) [] script []).refused ≡ true) → Accepted bytes script left written now status
   accepted status refused = record {
     well_formed = holds;
     limit = subst (λ (t : List ℕ). length t ≤ script_limit) all.1 le;
     read = all.0;
-    replies = appended written (run_of (data_set_of bytes) taken).text now grew ∙ ap (λ (s : State). Some (written ++ s.text)) run;
+    replies = appended written (run_of (data_set_of bytes) [] taken []).text now grew ∙ ap (λ (s : State). Some (written ++ s.text)) run;
     refused = refused;
   }
 
-  pub accepted_done : (run_of (data_set_of bytes) taken).refused ≡ false → Accepted bytes script left written now statuses.Done
+  pub accepted_done : (run_of (data_set_of bytes) [] taken []).refused ≡ false → Accepted bytes script left written now statuses.Done
   accepted_done none =
-      let refused : (run_of (data_set_of bytes) script).refused ≡ false = sym (ap (λ (s : State). s.refused) run) ∙ none in
+      let refused : (run_of (data_set_of bytes) [] script []).refused ≡ false = sym (ap (λ (s : State). s.refused) run) ∙ none in
       accepted statuses.Done (λ is. absurd (cc is), λ is. absurd (cc (is, refused)))
 
-  pub accepted_some : (run_of (data_set_of bytes) taken).refused ≡ true → Accepted bytes script left written now statuses.SomeRefused
+  pub accepted_some : (run_of (data_set_of bytes) [] taken []).refused ≡ true → Accepted bytes script left written now statuses.SomeRefused
   accepted_some some = accepted statuses.SomeRefused (λ is. sym (ap (λ (s : State). s.refused) run) ∙ some, λ is. refl)
 
 replays_accepted : (bytes script written : List ℕ) (left now : Option (List ℕ)) (status : Status) → Replays bytes (Some script) left (Some written) now status → IsDone status → Accepted bytes script left written now status

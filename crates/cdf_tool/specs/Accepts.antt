@@ -14,8 +14,8 @@ pub record Accepted (file script : List ℕ) (left : Option (List ℕ)) (written
   pub well_formed : WellFormed file
   pub limit : length script ≤ script_limit
   pub read : left ≡ Some []
-  pub replies : now ≡ Some (written ++ (run_of (data_set_of file) script).text)
-  pub refused : (status ≡ statuses.SomeRefused) ↔ ((run_of (data_set_of file) script).refused ≡ true)
+  pub replies : now ≡ Some (written ++ (run_of (data_set_of file) [] script []).text)
+  pub refused : (status ≡ statuses.SomeRefused) ↔ ((run_of (data_set_of file) [] script []).refused ≡ true)
 
 -- with status 0 or 1, over a source and a sink that tell their bytes
 abbrev pub Accepts : Option (List ℕ) → Option (List ℕ) → Option (List ℕ) → Option (List ℕ) → Option (List ℕ) → Status → Type 0

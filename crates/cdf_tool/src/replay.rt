@@ -6,11 +6,11 @@ ghost use Rattle.cdf_format.specs.Content.{data_set_of};
 ghost use Rattle.cdf_format.specs.WellFormed.{WellFormed};
 ghost use Rattle.cdf_model.specs.DataSet.{DataSet};
 ghost use Rattle.cdf_model.specs.Grammar.{Asks, Faulty, parse as asked_for};
-ghost use Rattle.cdf_model.specs.Run.{is_refused, turn};
+ghost use Rattle.cdf_model.specs.Run.{is_refused};
 ghost use Rattle.cdf_model.specs.Texts.{reply_text as text_of};
 ghost use Rattle.cdf_model.specs.Whole.{CanBeWritten};
 ghost use Rattle.cdf_lines.specs.Pending.{line_of, new_lines, new_rest};
-ghost use Rattle.cdf_tool.specs.Replay.{GoesOn, StopsWithin, Turns, IsDrained};
+ghost use Rattle.cdf_tool.specs.Replay.{GoesOn, StopsWithin, Turns, IsDrained, plain_turn};
 
 use crate::replies::Replies;
 use crate::session::{info, is_built};
@@ -59,8 +59,8 @@ fn answer_fault<O: Sink>(
     fault: LineError,
     out: &mut O,
 ) -> Result<bool, Stop>
-    ensures ok { (d : DataSet) → IfOk result (λ refused. Turns (turn d number (Faulty fault)) refused (O.written out.old) (O.written out.new)) }
-    ensures err { (d : DataSet) → OnErr result (AppendsFront (O.written out.old) (O.written out.new) (turn d number (Faulty fault)).text) }
+    ensures ok { (d : DataSet) → IfOk result (λ refused. Turns (plain_turn d number (Faulty fault)) refused (O.written out.old) (O.written out.new)) }
+    ensures err { (d : DataSet) → OnErr result (AppendsFront (O.written out.old) (O.written out.new) (plain_turn d number (Faulty fault)).text) }
     ensures later { O.faults out.old ≤ O.faults out.new }
     ensures cause { IsErrOf result Stop.Output → Rose (O.faults out.old) (O.faults out.new) }
     ensures area { IsErrOf result Stop.Fault → ⊥ }
@@ -81,8 +81,8 @@ fn answer_command<A: Area, O: Sink>(
     out: &mut O,
 ) -> Result<bool, Stop>
     requires { WellFormed (A.image area.old) }
-    ensures ok { IfOk result (λ refused. Turns (turn (data_set_of (A.image area.old)) number (Asks command.now)) refused (O.written out.old) (O.written out.new)) }
-    ensures err { OnErr result (AppendsFront (O.written out.old) (O.written out.new) (turn (data_set_of (A.image area.old)) number (Asks command.now)).text) }
+    ensures ok { IfOk result (λ refused. Turns (plain_turn (data_set_of (A.image area.old)) number (Asks command.now)) refused (O.written out.old) (O.written out.new)) }
+    ensures err { OnErr result (AppendsFront (O.written out.old) (O.written out.new) (plain_turn (data_set_of (A.image area.old)) number (Asks command.now)).text) }
     ensures image { A.image area.new ≡ A.image area.old }
     ensures frame { A.frame area.new ≡ A.frame area.old }
     ensures later_area { A.faults area.old ≤ A.faults area.new }
@@ -107,8 +107,8 @@ fn answer_line<A: Area, O: Sink>(
     out: &mut O,
 ) -> Result<bool, Stop>
     requires { WellFormed (A.image area.old) }
-    ensures ok { IfOk result (λ refused. Turns (turn (data_set_of (A.image area.old)) line.now.number (asked_for (line_of line.now))) refused (O.written out.old) (O.written out.new)) }
-    ensures err { OnErr result (AppendsFront (O.written out.old) (O.written out.new) (turn (data_set_of (A.image area.old)) line.now.number (asked_for (line_of line.now))).text) }
+    ensures ok { IfOk result (λ refused. Turns (plain_turn (data_set_of (A.image area.old)) line.now.number (asked_for (line_of line.now))) refused (O.written out.old) (O.written out.new)) }
+    ensures err { OnErr result (AppendsFront (O.written out.old) (O.written out.new) (plain_turn (data_set_of (A.image area.old)) line.now.number (asked_for (line_of line.now))).text) }
     ensures image { A.image area.new ≡ A.image area.old }
     ensures frame { A.frame area.new ≡ A.frame area.old }
     ensures later_area { A.faults area.old ≤ A.faults area.new }

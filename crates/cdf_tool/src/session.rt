@@ -1,4 +1,4 @@
-ghost use Rattle.std.specs.Prelude.{◌≡◌, ◌+◌, ◌*◌, ◌≤◌, length, IfOk};
+ghost use Rattle.std.specs.Prelude.{◌≡◌, ◌+◌, ◌*◌, ◌≤◌, length, false, IfOk};
 ghost use Rattle.cdf_base.specs.Causes.{HasCauseOf};
 ghost use Rattle.cdf_format.specs.Content.{data_set_of, majority_of};
 ghost use Rattle.cdf_format.specs.Fields.{has_bit, r_dimensions, r_sizes, word};
@@ -99,7 +99,7 @@ pub fn is_built(command: &Command) -> bool
 /// What `info` answers over a well-formed file.
 pub fn info<A: Area>(alloc: Global, area: &mut A) -> Result<Outcome, AreaError>
     requires { WellFormed (A.image area.old) }
-    ensures outcome { IfOk result (λ o. o ≡ outcome (step (data_set_of (A.image area.old)) Command.Info)) }
+    ensures outcome { IfOk result (λ o. o ≡ outcome (step (data_set_of (A.image area.old)) Command.Info) false) }
     ensures image { A.image area.new ≡ A.image area.old }
     ensures frame { A.frame area.new ≡ A.frame area.old }
     ensures cause { HasCauseOf AreaError.Fault (A.faults area.old) (A.faults area.new) result }

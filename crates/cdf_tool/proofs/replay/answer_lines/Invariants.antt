@@ -1,14 +1,14 @@
 use Rattle.std.proofs.Common.{◌≡◌, ◌≤◌, ℕ, List, Option, length}
 use Rattle.cdf_format.specs.Content.{data_set_of}
-use Rattle.cdf_model.specs.Run.{State, run_on}
-use Rattle.cdf_tool.specs.Replay.{IsAt}
+use Rattle.cdf_model.specs.Run.{State}
+use Rattle.cdf_tool.specs.Replay.{IsAt, go_on}
 use Rattle.cdf_tool.proofs.Standing.{Reached}
 use Rattle.cdf_tool.proofs.replay.answer_lines.Given as goal
 
 abbrev pub invariant-ready : goal.invariant-ready
 invariant-ready g l = record {
   reaches : (first : Option (List ℕ)) (s : State) → IsAt (data_set_of (g.A.Area.image l.fn.area)) l.fn.lines.given l.fn.refused first (g.O.Sink.written l.fn.out) s
-      → Reached (data_set_of (g.A.Area.image l.fn.area)) l.lines.given l.refused first (g.O.Sink.written l.out) l.lines.ready (run_on s l.fn.lines.ready);
+      → Reached (data_set_of (g.A.Area.image l.fn.area)) l.lines.given l.refused first (g.O.Sink.written l.out) l.lines.ready (go_on s l.fn.lines.ready);
   rest : l.lines.rest ≡ l.fn.lines.rest;
   over : l.lines.over ≡ l.fn.lines.over;
   image : g.A.Area.image l.area ≡ g.A.Area.image l.fn.area;
