@@ -19,14 +19,13 @@ use Rattle.cdf_format.specs.Shape.{shape}
 use Rattle.cdf_format.specs.Tiles.{In}
 use Rattle.cdf_format.specs.WellFormed.{Good}
 use Rattle.cdf_format.proofs.Tests.{le_of}
-use Rattle.cdf_format.proofs.BareFile.{keeps_all}
 use Rattle.cdf_format.proofs.ImageOf.{short_trailer, trailer_is, sound_image_of, image_of-sealed}
 use Rattle.cdf_format.proofs.Owning.{owned_stand}
 use Rattle.cdf_format.proofs.SealedRules.{sealed_kept}
 
 -- a good image keeps all rules once it is sealed
 pub rules_of_good : (b : List ℕ) → Good b → KeepsAllRules (sealed b)
-rules_of_good b good = keeps_all (sealed b) good
+rules_of_good b good = good
 
 good_is_long : (b : List ℕ) → Good b → 44 ≤ length b
 good_is_long b good =

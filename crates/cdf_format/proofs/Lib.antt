@@ -11,7 +11,6 @@ pub mod GoodImageLemmas
 pub mod Tests
 pub mod FileRecords
 pub mod HeadOf
-pub mod BareFile
 pub mod Owning
 pub mod BytesLemmas
 pub mod ChangedLemmas

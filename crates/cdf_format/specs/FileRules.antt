@@ -5,7 +5,7 @@ use Rattle.cdf_model.specs.Limits.{image_limit}
 use Rattle.cdf_model.specs.Encodings.{encoding_at}
 use Rattle.cdf_format.specs.Fields.{word, number, integer8, counted, has_bit, size_at, type_at, gdr_offset, version, encoding, flags, eof, r_dimensions, r_sizes}
 use Rattle.cdf_format.specs.Records.{gdr_eof, gdr_r_num_dims}
-use Rattle.cdf_format.specs.NotRead.{unread_checksum, unread_records}
+use Rattle.cdf_format.specs.NotRead.{unread_checksum}
 use Rattle.cdf_format.specs.Rules.{Row, row, asked}
 use Rattle.cdf_format.specs.Sealed.{has_checksum, trailer_length}
 
@@ -51,7 +51,7 @@ gdr_rows f g =
     ∷ row 3 g (list_all is_size (r_sizes f g))
     ∷ row 4 g (eof f g == length f - trailer_length f)
     ∷ row 5 g (nat_le (counted (integer8 f g gdr_eof)) image_limit)
-    ∷ asked (is_gdr f g) (unread_records f g)
+    ∷ []
 
 abbrev pub phase3 : List ℕ → List Row
 phase3 f = row 1 8 (has_gdr f) ∷ asked (has_gdr f) (gdr_rows f (gdr_offset f))

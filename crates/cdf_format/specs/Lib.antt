@@ -33,3 +33,4 @@ pub mod Locality
 pub mod GoodImage
 pub mod Alone
 pub mod Links
+pub mod NewFile

@@ -2,12 +2,13 @@
 use Rattle.std.specs.Prelude.{◌≡◌, ◌⊎◌, ◌≤◌, ◌<◌, ℕ, ◌+◌, ◌-◌, ◌*◌, max, List, [], ◌∷◌, ◌++◌, length, map, Bool, true, false, not, ◌&&◌, ◌==◌, nat_lt, nat_le, if◌then◌else◌, Some}
 use Rattle.std.specs.declared.option.Option.{Option}
 use Rattle.std.specs.List.{All, fold, slice_get, sum}
+use Rattle.cdf_model.specs.declared.answer.Outcome.{Outcome}
 use Rattle.cdf_model.specs.declared.answer.Reply.{Reply}
 use Rattle.cdf_model.specs.declared.command.Command.{Command}
 use Rattle.cdf_model.specs.declared.command.Command.TheVariants as commands
 use Rattle.cdf_model.specs.declared.kinds.Kind.{Kind}
 use Rattle.cdf_model.specs.declared.kinds.Kind.TheVariants.{R, Z}
-use Rattle.cdf_model.specs.Answers.{Go, is_accepted}
+use Rattle.cdf_model.specs.Answers.{Go, is_accepted, outcome}
 use Rattle.cdf_model.specs.DataSet.{Variable}
 use Rattle.cdf_model.specs.Grammar.{Parsed, Blank, Asks, Faulty, parse}
 use Rattle.cdf_model.specs.Lines.{lines}
@@ -166,6 +167,11 @@ Moves b c full now = MovesIf (is_accepted (step (content b) c) full) b c now
 -- How a command that its step answers leads from one image to another, under a limit on the bytes of an image. The flag says whether the image would be too large.
 abbrev pub StepLeads : ℕ → List ℕ → Command → Bool → List ℕ → Type 0
 StepLeads limit b c full now = (full ≡ is_full limit b c) × Moves b c full now
+
+-- What a call answers that carries out a command under such a limit: the outcome of its step, and the image that it leads to.
+pub record Answers (limit : ℕ) (b : List ℕ) (c : Command) (o : Outcome) (now : List ℕ) : Type 0 where
+  pub answer : o ≡ outcome (step (content b) c) (is_full limit b c)
+  pub moves : Moves b c (is_full limit b c) now
 
 abbrev pub Unmoved : List ℕ → Bool → List ℕ → Type 0
 Unmoved b full now = (full ≡ false) × (now ≡ b)

@@ -1,6 +1,6 @@
 -- What is not read so far. Each of these rules, numbered 99, goes once what it refuses is read; so does each type that is listed as unread.
-use Rattle.std.specs.Prelude.{ℕ, ◌+◌, List, [], ◌∷◌, length, Bool, false, not, ◌&&◌, ◌==◌}
-use Rattle.cdf_format.specs.Fields.{number, size_at, type_at, r_variable_head, z_variable_head, attribute_head, r_variables, attributes, z_variables, unused_head}
+use Rattle.std.specs.Prelude.{ℕ, List, [], ◌∷◌, false, not, ◌==◌}
+use Rattle.cdf_format.specs.Fields.{number, type_at}
 use Rattle.cdf_format.specs.Records.{vdr_s_records}
 use Rattle.cdf_format.specs.RecordTypes.{cdr_type, gdr_type, adr_type}
 use Rattle.cdf_format.specs.Chains.{is_in}
@@ -10,22 +10,6 @@ use Rattle.cdf_format.specs.Sealed.{has_checksum}
 -- 2.99: files with a checksum
 abbrev pub unread_checksum : List ℕ → List Row
 unread_checksum f = row 99 8 (not (has_checksum f)) ∷ []
-
--- no chain begins in it
-abbrev pub no_links : List ℕ → ℕ → Bool
-no_links f g = (r_variable_head f g == 0) && ((z_variable_head f g == 0) && ((attribute_head f g == 0) && (unused_head f g == 0)))
-
--- it counts no variable and no attribute
-abbrev pub no_counts : List ℕ → ℕ → Bool
-no_counts f g = (r_variables f g == 0) && ((attributes f g == 0) && (z_variables f g == 0))
-
--- it follows the first record and ends the file, and there is nothing else
-abbrev pub is_bare : List ℕ → ℕ → Bool
-is_bare f g = (g == 8 + size_at f 8) && ((g + size_at f g == length f) && (no_links f g && no_counts f g))
-
--- 3.99: records beside these two
-abbrev pub unread_records : List ℕ → ℕ → List Row
-unread_records f g = row 99 g (is_bare f g) ∷ []
 
 -- 4.99: records of other types
 abbrev pub read_types : List ℕ

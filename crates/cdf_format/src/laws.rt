@@ -95,11 +95,6 @@ pub fn owned_once()
     ensures { (b : List ℕ) (s : Shape) (place : ℕ) → IsGoodImage b s → times place (owned_records b s) ≡ times place s.records }
 {}
 
-/// A file that keeps the rules asked so far keeps all rules, since nothing stands in it beside two records.
-pub fn keeps_all_rules()
-    ensures { (f : List ℕ) → WellFormed f → KeepsAllRules f }
-{}
-
 /// A change within the records of one attribute leaves the tiling up to the old end, the chains of the file, every other attribute, all variables, and what the file says.
 pub fn attr_alone()
     ensures { (b now records : List ℕ) (s : Shape) (before : List AttributeShape) (own : AttributeShape) (after : List AttributeShape) → IsSound b s → ((member : ℕ) → In member s.records → In member records) → s.attributes ≡ before ++ own ∷ after → ChangedWithin b now (attribute_records own) → Leaves b now s records (before ++ after) (variables s) × FileStays b now s }

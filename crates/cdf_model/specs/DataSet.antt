@@ -1,9 +1,10 @@
 -- A data set: what a file means, without any offset (CDF User's Guide, Concepts: CDFs, attributes, variables).
-use Rattle.std.specs.Prelude.{ℕ, ℤ, pos, negsuc, ◌+◌, List, length, Bool}
+use Rattle.std.specs.Prelude.{ℕ, ℤ, pos, negsuc, ◌+◌, List, [], length, Bool, false}
 use Rattle.std.specs.declared.option.Option.{Option}
 use Rattle.cdf_model.specs.declared.data_type.DataType.{DataType}
 use Rattle.cdf_model.specs.declared.head.Head.{Head}
 use Rattle.cdf_model.specs.declared.head.Majority.{Majority}
+use Rattle.cdf_model.specs.declared.head.Majority.TheVariants.{Row}
 use Rattle.cdf_model.specs.declared.kinds.Scope.{Scope}
 use Rattle.cdf_model.specs.declared.kinds.Sparse.{Sparse}
 
@@ -47,6 +48,10 @@ pub record DataSet : Type 0 where
   pub attributes : List Attribute
   pub r_variables : List Variable
   pub z_variables : List Variable
+
+-- the data set of a new file
+abbrev pub new_data_set : DataSet
+new_data_set = record { release = pos 9; increment = pos 0; encoding = 6; majority = Row; md5 = false; rdims = []; attributes = []; r_variables = []; z_variables = [] }
 
 -- how many record numbers there are up to the greatest
 abbrev pub extent : ℤ → ℕ

@@ -43,6 +43,9 @@ step d (commands.Report tap) = Go d replies.Plain
 -- the commands that there are by now
 abbrev pub built : Command → Bool
 built commands.Info = true
+built commands.List = true
+built (commands.Attr name scope) = true
+built (commands.RenameAttr from to) = true
 built c = false
 
 -- how a command is answered: by its step, by the whole content of the data set, or by the taps of a name

@@ -1,0 +1,8 @@
+//! One file under edit: it is taken up or made, commands are carried out on it, and it is given back.
+#![tactic(auto)]
+
+mod refusal;
+mod session;
+
+pub use refusal::{AdoptError, Broken, Refusal};
+pub use session::Session;
