@@ -1,4 +1,4 @@
--- The words of the command line.
+-- The words of the command line (own).
 use Rattle.std.specs.Prelude.{ℕ, List, [], ◌∷◌, Bool, false, ◌==◌, if◌then◌else◌, Some, None}
 use Rattle.std.specs.declared.option.Option.{Option}
 
