@@ -1,4 +1,4 @@
--- What a command may change of each record that an image has: of records that it does not concern, links and numbers that follow from what it adds or takes away.
+-- What a command may change of each record that an image has: of records that it does not concern, links and numbers that follow from what it adds or takes away (own).
 use Rattle.std.specs.Prelude.{◌≡◌, ◌⊎◌, ◌<◌, ◌≤◌, ℕ, ◌+◌, List, [], ◌∷◌, Bool, true, false, ◌==◌, if◌then◌else◌, Some, None}
 use Rattle.std.specs.List.{slice_get}
 use Rattle.cdf_model.specs.declared.command.Command.{Command}
@@ -106,6 +106,7 @@ is_attribute d name n = elim (attribute_named d name) [ None ↦ false | Some fo
 abbrev pub is_global_attribute : DataSet → ℕ → Bool
 is_global_attribute d n = elim (slice_get d.attributes n) [ None ↦ false | Some a ↦ is_global a.scope ]
 
+-- of the record at a place, which the attribute of number n has; of the ADR the head, the count and the greatest number of a chain whose entries change
 abbrev pub attribute_allowance : List ℕ → DataSet → Command → ℕ → ℕ → Allowance
 attribute_allowance b d (commands.Attr name scope) place n = only_of b place adr_type (next_field ∷ [])
 attribute_allowance b d (commands.RenameAttr from to) place n = if is_attribute d from n then only_of b place adr_type (adr_name ∷ []) else Only []

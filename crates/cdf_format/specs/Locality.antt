@@ -1,4 +1,4 @@
--- How a command changes an image: its content as the data set says, and no record that it does not concern.
+-- How a command changes an image: its content as the data set says, and no record that it does not concern (own).
 use Rattle.std.specs.Prelude.{◌≡◌, ◌⊎◌, ◌≤◌, ◌<◌, ℕ, ◌+◌, ◌-◌, ◌*◌, max, List, [], ◌∷◌, ◌++◌, length, map, Bool, true, false, not, ◌&&◌, ◌==◌, nat_lt, nat_le, if◌then◌else◌, Some}
 use Rattle.std.specs.declared.option.Option.{Option}
 use Rattle.std.specs.List.{All, fold, slice_get, sum}
@@ -56,11 +56,11 @@ written_in v first last leaves = map (λ leaf. touch leaf.place (12 + (max first
 abbrev pub stays_in_place : Variable → VariableShape → ℕ → Bool
 stays_in_place v shape n = (uncovered v shape.index n == 0) && (not v.rle && not (is_cut_first v n))
 
--- a block is packed where that makes its record shorter
+-- a block of at most 67,108,864 plain bytes is packed where that makes its record shorter; a longer one never (rule 8.7)
 abbrev pub is_worth_packing : List ℕ → List ℕ → Bool
 is_worth_packing plain packed = nat_le (length plain) record_limit && nat_lt (24 + length packed) (12 + length plain)
 
--- packed as it should be, in the longest runs
+-- packed exactly where its bytes in the longest runs are worth it, and if it is packed, then in these
 pub record WellPacked (now : List ℕ) (vdr : ℕ) (leaf : Leaf) : Type 0 where
   pub chosen : (packed : List ℕ) → All (λ byte. byte < 256) packed → Packs packed (plain_bytes now vdr leaf) → IsLongest packed → leaf.packed ≡ is_worth_packing (plain_bytes now vdr leaf) packed
   pub longest : leaf.packed ≡ true → IsLongest (packed_bytes now leaf.place)
