@@ -1,12 +1,5 @@
-<<<<<<< HEAD
--- What is not read so far. Each of these rules, numbered 99, goes once what it refuses is read; so does each type that is listed as unread.
+-- What is not read so far (own). Each of these rules, numbered 99, goes once what it refuses is read, and a type joins `read_types` once its records are read.
 use Rattle.std.specs.Prelude.{ℕ, List, [], ◌∷◌, false, not, ◌==◌}
-use Rattle.cdf_format.specs.Fields.{number, type_at}
-=======
--- What is not read so far. Each of these rules, numbered 99, goes once what it refuses is read, and a type joins `read_types` once its records are read (own).
-use Rattle.std.specs.Prelude.{ℕ, ◌+◌, List, [], ◌∷◌, length, Bool, false, not, ◌&&◌, ◌==◌}
-use Rattle.cdf_format.specs.Fields.{number, size_at, type_at, r_variable_head, z_variable_head, attribute_head, r_variables, attributes, z_variables, unused_head}
->>>>>>> b399b229f9c0f388edf9666485d7450c248404db
 use Rattle.cdf_format.specs.Records.{vdr_s_records}
 use Rattle.cdf_format.specs.RecordTypes.{cdr_type, gdr_type, adr_type}
 use Rattle.cdf_format.specs.Chains.{is_in}
