@@ -2,8 +2,11 @@
 #![tactic(auto)]
 
 mod read;
+mod saving;
 mod store_area;
+mod writing;
 #[cfg(test)]
 mod tests;
 
+pub use saving::SaveError;
 pub use store_area::StoreArea;
