@@ -1,5 +1,5 @@
 -- What a save leaves of the disk: bytes behind the front of a file, a tail behind them, and the cut.
-use Rattle.std.proofs.Common.{◌≡◌, ℕ, ◌+◌, ◌≤◌, List, ◌++◌, length, take, Some, refl, sym, ◌∙◌, ap, subst, arith, length-append}
+use Rattle.std.proofs.Common.{◌≡◌, ℕ, ◌+◌, ◌≤◌, max, inl, inr, List, ◌++◌, length, take, Some, refl, sym, ◌∙◌, ap, subst, arith, length-append}
 use Rattle.std.proofs.Math.Seq.{take-append-add, take-length}
 use Rattle.std.proofs.lemmas.List.{length-take-le, take-append-le, take_at}
 use Rattle.cdf_base.specs.Bytes.{put}
@@ -84,3 +84,18 @@ module _ {U : Type 0} (d now : Disk U) (start : ℕ) (xs : List ℕ) (le : start
         long = omega (arith, length-append (take start (file_of d)) xs, length-take-le start (file_of d) le);
         same = take_at (take start (file_of d)) xs start (length-take-le start (file_of d) le);
       })
+
+-- ---- how long the file is at most
+
+pub new_is_bound : {U : Type 0} (d now : Disk U) (start most : ℕ) (bytes tail : List ℕ) → start ≤ length (file_of d) → Holds d (behind_front (file_of d) start (bytes ++ tail)) now → length (file_of now) ≤ max most (start + length bytes + length tail)
+new_is_bound d now start most bytes tail le h =
+    let is : length (file_of now) ≡ length (behind_front (file_of d) start (bytes ++ tail)) = ap length (file_held d now (behind_front (file_of d) start (bytes ++ tail)) h) in
+    omega (arith, is, length-append (take start (file_of d)) (bytes ++ tail), length-append bytes tail, length-take-le start (file_of d) le)
+
+pub between_is_bound : {U : Type 0} (d now : Disk U) (start most : ℕ) (bytes tail : List ℕ) → start ≤ length (file_of d) → length (file_of d) ≤ most → HoldsBetween d (behind_front (file_of d) start (bytes ++ tail)) now → length (file_of now) ≤ max most (start + length bytes + length tail)
+between_is_bound d now start most bytes tail le bound h =
+    let is : length (file_of now) ≡ length h.bytes = ap length (file_held d now h.bytes h.holds) in
+    elim h.between.short [
+      | inl s ↦ omega (arith, is)
+      | inr s ↦ omega (arith, is, length-append (take start (file_of d)) (bytes ++ tail), length-append bytes tail, length-take-le start (file_of d) le)
+    ]

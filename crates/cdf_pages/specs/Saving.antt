@@ -1,5 +1,6 @@
 -- What writes leave of the attached file, and of the disk.
-use Rattle.std.specs.Prelude.{◌≡◌, ◌⊎◌, ◌≤◌, ◌<◌, ℕ, List, ◌++◌, length, take, slice_index, Some}
+use Rattle.std.specs.Prelude.{◌≡◌, ◌⊎◌, ◌≤◌, ◌<◌, ℕ, List, [], ◌++◌, length, take, slice_index, Some, None}
+use Rattle.std.specs.declared.option.Option.{Option}
 use Rattle.cdf_base.specs.Bytes.{put}
 use Rattle.cdf_store.specs.Disk.{Disk, file_of, files_with}
 
@@ -37,3 +38,8 @@ pub record HoldsBetween {U : Type 0} (d : Disk U) (new : List ℕ) (now : Disk U
   pub bytes : List ℕ
   pub between : IsBetween (file_of d) new bytes
   pub holds : Holds d bytes now
+
+-- the bytes of a tail, if there is one
+abbrev pub tail_bytes : Option (List ℕ) → List ℕ
+tail_bytes None = []
+tail_bytes (Some bytes) = bytes

@@ -4,9 +4,9 @@
 mod read;
 mod saving;
 mod store_area;
-mod writing;
 #[cfg(test)]
 mod tests;
+mod writing;
 
 pub use saving::SaveError;
 pub use store_area::StoreArea;

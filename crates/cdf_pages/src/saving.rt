@@ -1,4 +1,4 @@
-ghost use Rattle.std.specs.Prelude.{◌≡◌, ◌+◌, ◌/◌, ◌≤◌, ◌<◌, ◌^◌, ◌++◌, length, IsSome, IsErrOf, OnOk, OnErr};
+ghost use Rattle.std.specs.Prelude.{◌≡◌, ◌+◌, ◌/◌, ◌≤◌, ◌<◌, ◌^◌, ◌++◌, length, max, IsSome, IsErrOf, OnOk, OnErr};
 ghost use Rattle.cdf_base.specs.Causes.{HasCause, HasCauseOf};
 ghost use Rattle.cdf_store.specs.Disk.{file_of};
 ghost use Rattle.cdf_pages.specs.Saving.{Holds, HoldsBetween, FrontStays, behind_front};
@@ -78,6 +78,7 @@ pub fn save_behind<S: Store>(
     ensures failed { IsErrOf result SaveError.Failed → HoldsBetween (S.disk store.old) (behind_front (file_of (S.disk store.old)) start (bytes.now ++ tail.now)) (S.disk store.new) }
     ensures no_memory { IsErrOf result SaveError.NoMemory → S.disk store.new ≡ S.disk store.old }
     ensures front { FrontStays (file_of (S.disk store.old)) start (file_of (S.disk store.new)) }
+    ensures bound { length (file_of (S.disk store.new)) ≤ max most (start + length bytes.now + length tail.now) }
     ensures cause { HasCauseOf SaveError.Failed (S.write_faults store.old) (S.write_faults store.new) result }
     ensures read { S.read_faults store.new ≡ S.read_faults store.old }
 {
