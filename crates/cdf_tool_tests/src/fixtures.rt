@@ -36,6 +36,21 @@ fn write_words(file: &mut Vec<u8>, words: &[(usize, u32)]) {
     }
 }
 
+/// What makes of a new file the one that `attr Project global` leaves.
+pub const WITH_ATTRIBUTE: &[(usize, u32)] = &[
+    (352, 404),
+    (360, 728),
+    (368, 1),
+    (408, 324),
+    (412, 4),
+    (432, 1),
+    (444, u32::MAX),
+    (464, u32::MAX),
+    (468, u32::MAX),
+    (472, 0x5072_6f6a),
+    (476, 0x6563_7400),
+];
+
 /// A new file with other words, cut or filled up with bytes that are 0.
 pub fn changed_file(
     alloc: Global,
@@ -75,6 +90,8 @@ pub struct Ran {
     pub text: Vec<u8>,
     /// How often the store, the script and the output were called.
     pub calls: [u64; 3],
+    /// The bytes under `a.cdf`.
+    pub file: Vec<u8>,
     /// Whether the store has the two files as they were.
     pub kept: bool,
 }
@@ -110,10 +127,13 @@ pub fn run_over(
     let ended = run(alloc, &words, store, &mut source, &mut sink);
     let text = Vec::from_slice(alloc, sink.written())?;
     let store = ended.store;
+    let kept = store.file("a.cdf") == Some(file) && store.file("-") == Some(file);
+    let file = Vec::from_slice(alloc, store.file("a.cdf").unwrap_or(&[]))?;
     Ok(Ran {
         status: ended.status.number(),
         text,
         calls: [store.calls(), source.calls(), sink.calls()],
-        kept: store.file("a.cdf") == Some(file) && store.file("-") == Some(file),
+        file,
+        kept,
     })
 }

@@ -1,8 +1,10 @@
 //! Whole runs over devices in memory: what is written and answered for each kind of words, file and script, however the script is
-//! cut into pieces; that the store's files stay; and what is left where the store, the script or the output fails at each of its
+//! cut into pieces; which files are made and changed, and how; and what is left where the store, the script or the output fails at each of its
 //! calls in turn, or the room of the output ends.
 #![tactic(auto)]
 
+#[cfg(test)]
+mod edits;
 #[cfg(test)]
 mod faults;
 #[cfg(test)]

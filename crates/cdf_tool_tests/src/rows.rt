@@ -1,6 +1,6 @@
 //! What whole runs write and answer.
 
-use crate::fixtures::{Devices, SOUND, changed_file, run_over};
+use crate::fixtures::{Devices, SOUND, WITH_ATTRIBUTE, changed_file, run_over};
 use std::test::Fail;
 
 #[test]
@@ -46,21 +46,6 @@ fn a_script_is_answered_in_pieces_of_any_size(rt: HostRuntime) -> Result<(), Fai
     Ok(())
 }
 
-/// What makes of a new file the one that `attr Project global` leaves.
-const WITH_ATTRIBUTE: &[(usize, u32)] = &[
-    (352, 404),
-    (360, 728),
-    (368, 1),
-    (408, 324),
-    (412, 4),
-    (432, 1),
-    (444, u32::MAX),
-    (464, u32::MAX),
-    (468, u32::MAX),
-    (472, 0x5072_6f6a),
-    (476, 0x6563_7400),
-];
-
 /// What makes of a new file a big-endian one of column majority, with two dimensions.
 const WITH_DIMENSIONS: &[(usize, u32)] = &[
     (36, 1),
@@ -72,6 +57,67 @@ const WITH_DIMENSIONS: &[(usize, u32)] = &[
     (408, 3),
 ];
 
+/// Attributes at 404 and 728, of which the second leads back to the first.
+const CIRCLE: &[(usize, u32)] = &[
+    (352, 404),
+    (360, 1052),
+    (368, 2),
+    (408, 324),
+    (412, 4),
+    (420, 728),
+    (432, 1),
+    (444, u32::MAX),
+    (464, u32::MAX),
+    (468, u32::MAX),
+    (472, 0x4100_0000),
+    (732, 324),
+    (736, 4),
+    (744, 404),
+    (756, 1),
+    (760, 1),
+    (768, u32::MAX),
+    (788, u32::MAX),
+    (792, u32::MAX),
+    (796, 0x4200_0000),
+];
+
+/// One attribute where two are counted.
+const WRONG_COUNT: &[(usize, u32)] = &[
+    (352, 404),
+    (360, 728),
+    (368, 2),
+    (408, 324),
+    (412, 4),
+    (432, 1),
+    (472, 0x4100_0000),
+];
+
+/// The first attribute has the number 1.
+const WRONG_NUMBER: &[(usize, u32)] = &[
+    (352, 404),
+    (360, 728),
+    (368, 1),
+    (408, 324),
+    (412, 4),
+    (432, 1),
+    (436, 1),
+    (472, 0x4100_0000),
+];
+
+/// A record that goes on behind the end of the file.
+const OVERLAP: &[(usize, u32)] = &[
+    (352, 404),
+    (360, 728),
+    (368, 1),
+    (408, 328),
+    (412, 4),
+    (432, 1),
+    (472, 0x4100_0000),
+];
+
+const ONE_ATTRIBUTE: &str =
+    "1 ok version 3.9.0 encoding 6 majority row checksum none rdims - attributes 1 rvars 0 zvars 0\n";
+
 const USAGE: &str = "usage: cdfedit [--new] [--check] [--no-save] [--space] [--make N] FILE\n";
 
 const NEW_HEAD: &str =
@@ -80,11 +126,15 @@ const NEW_HEAD: &str =
 #[test]
 fn words_and_files_are_judged(rt: HostRuntime) -> Result<(), Fail> {
     let alloc = rt.alloc();
-    let table: [(&[&str], usize, &[(usize, u32)], &str, u8); 14] = [
+    let table: [(&[&str], usize, &[(usize, u32)], &str, u8); 22] = [
         (&[], 404, &[], USAGE, 2),
         (&["a.cdf", "a.cdf"], 404, &[], USAGE, 2),
         (&["-x"], 404, &[], USAGE, 2),
         (&["--new"], 404, &[], USAGE, 2),
+        (&["--check", "a.cdf"], 404, &[], USAGE, 2),
+        (&["--new", "--new", "a.cdf"], 404, &[], USAGE, 2),
+        (&["--no-save", "--", "--new"], 404, &[], "no file\n", 3),
+        (&["--no-save", "a.cdf"], 404, &[], NEW_HEAD, 0),
         (&["-"], 404, &[], NEW_HEAD, 0),
         (&[""], 404, &[], "no file\n", 3),
         (&["b.cdf"], 404, &[], "no file\n", 3),
@@ -93,7 +143,11 @@ fn words_and_files_are_judged(rt: HostRuntime) -> Result<(), Fail> {
         (&["a.cdf"], 404, &[(4, 0xcccc_0001)], "rejected 1 2 4\n", 4),
         (&["a.cdf"], 404, &[(40, 1)], "rejected 2 5 8\n", 4),
         (&["a.cdf"], 404, &[(360, 403)], "rejected 3 4 320\n", 4),
-        (&["a.cdf"], 728, WITH_ATTRIBUTE, "rejected 3 99 320\n", 4),
+        (&["a.cdf"], 728, WITH_ATTRIBUTE, ONE_ATTRIBUTE, 0),
+        (&["a.cdf"], 1052, CIRCLE, "rejected 5 2 728\n", 4),
+        (&["a.cdf"], 728, WRONG_COUNT, "rejected 5 3 320\n", 4),
+        (&["a.cdf"], 728, WRONG_NUMBER, "rejected 5 4 404\n", 4),
+        (&["a.cdf"], 728, OVERLAP, "rejected 4 1 404\n", 4),
         (
             &["a.cdf"],
             412,
@@ -154,7 +208,7 @@ fn a_line_that_is_too_long_is_refused(rt: HostRuntime) -> Result<(), Fail> {
 fn a_fault_is_told_with_its_place(rt: HostRuntime) -> Result<(), Fail> {
     let alloc = rt.alloc();
     let file = changed_file(alloc, 404, &[])?;
-    let script = b" \"info\" \nlist\n list x\nattr X\nattr \"X global\nget-rec T 01";
+    let script = b" \"info\" \ndump\n list x\nattr X\nattr \"X global\nget-rec T 01";
     let ran = run_over(alloc, &["a.cdf"], &file, script, &SOUND)?;
     assert_eq!(rt;
         ran.text.as_slice(),

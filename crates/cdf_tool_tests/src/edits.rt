@@ -1,0 +1,136 @@
+//! Files that are made and changed.
+
+use crate::fixtures::{Devices, Ran, SOUND, WITH_ATTRIBUTE, changed_file, run_over};
+use std::alloc::Global;
+use std::test::Fail;
+
+#[test]
+fn a_new_file_is_made_and_saved(rt: HostRuntime) -> Result<(), Fail> {
+    let alloc = rt.alloc();
+    let old = changed_file(alloc, 7, &[])?;
+    let new = changed_file(alloc, 404, &[])?;
+    let ran = run_over(alloc, &["--new", "a.cdf"], &old, b"", &SOUND)?;
+    assert_eq!(rt; (ran.status, ran.text.len()), (0, 0));
+    assert_eq!(rt; ran.file.as_slice(), new.as_slice());
+
+    let ran = run_over(
+        alloc,
+        &["--no-save", "--new", "b.cdf"],
+        &old,
+        b"info",
+        &SOUND,
+    )?;
+    assert_eq!(rt; (ran.status, ran.calls[0]), (0, 0));
+    assert!(rt; ran.kept);
+    Ok(())
+}
+
+#[test]
+fn an_attribute_is_made_once(rt: HostRuntime) -> Result<(), Fail> {
+    let alloc = rt.alloc();
+    let new = changed_file(alloc, 404, &[])?;
+    let changed = changed_file(alloc, 728, WITH_ATTRIBUTE)?;
+    let script = b"attr Project global\nattr Project global\n";
+    for words in [&["a.cdf"].as_slice(), &["--new", "a.cdf"]] {
+        let ran = run_over(alloc, words, &new, script, &SOUND)?;
+        assert_eq!(rt;
+            ran.text.as_slice(),
+            b"1 ok\n2 refused 6 NameTaken\n".as_slice()
+        );
+        assert_eq!(rt; ran.status, 1);
+        assert_eq!(rt; ran.file.as_slice(), changed.as_slice());
+    }
+    let ran = run_over(alloc, &["a.cdf", "--no-save"], &new, script, &SOUND)?;
+    assert_eq!(rt; ran.status, 1);
+    assert!(rt; ran.kept);
+    Ok(())
+}
+
+#[test]
+fn attributes_are_listed_and_renamed(rt: HostRuntime) -> Result<(), Fail> {
+    let alloc = rt.alloc();
+    let new = changed_file(alloc, 404, &[])?;
+    let table = [
+        (
+            "attr Project global\nlist\nrename-attr Project Project\n",
+            "1 ok\n2 ok\nattribute 0 \"Project\" global\n2 end\n3 refused 6 NameTaken\n",
+        ),
+        (
+            "attr A global\nattr \"A \" variable\nrename-attr A C\nlist\nattr A variable\nrename-attr X Y\nlist\n",
+            "1 ok\n2 ok\n3 ok\n4 ok\nattribute 0 \"C\" global\nattribute 1 \"A \" variable\n4 end\n5 ok\n6 refused 2 NoSuchAttr\n\
+             7 ok\nattribute 0 \"C\" global\nattribute 1 \"A \" variable\nattribute 2 \"A\" variable\n7 end\n",
+        ),
+        (
+            "list\nattr \"\" global\nattr \"a\\x00\" global\nrename-attr A \"\"\n",
+            "1 ok\n1 end\n2 refused 5 BadName\n3 refused 5 BadName\n4 refused 2 NoSuchAttr\n",
+        ),
+    ];
+    for (script, text) in table {
+        let ran = run_over(alloc, &["a.cdf"], &new, script.as_bytes(), &SOUND)?;
+        assert_eq!(rt; ran.text.as_slice(), text.as_bytes(), "{script:?}");
+    }
+    Ok(())
+}
+
+/// A run that makes an attribute whose name is so many letters.
+fn name_of(alloc: Global, letters: usize) -> Result<Ran, Fail> {
+    let new = changed_file(alloc, 404, &[])?;
+    let mut script = Vec::from_slice(alloc, b"attr ")?;
+    script.resize(5 + letters, b'n')?;
+    script.extend_from_slice(b" global")?;
+    Ok(run_over(alloc, &["a.cdf"], &new, &script, &SOUND)?)
+}
+
+#[test]
+fn a_name_has_256_bytes_at_most(rt: HostRuntime) -> Result<(), Fail> {
+    let alloc = rt.alloc();
+    let ran = name_of(alloc, 256)?;
+    assert_eq!(rt; ran.text.as_slice(), b"1 ok\n".as_slice());
+    assert_eq!(rt; ran.file.get(472..728), Some([b'n'; 256].as_slice()));
+    let ran = name_of(alloc, 257)?;
+    assert_eq!(rt; ran.text.as_slice(), b"1 refused 5 BadName\n".as_slice());
+    assert!(rt; ran.kept);
+    Ok(())
+}
+
+#[test]
+fn a_second_run_edits_in_place(rt: HostRuntime) -> Result<(), Fail> {
+    let alloc = rt.alloc();
+    let file = changed_file(alloc, 728, WITH_ATTRIBUTE)?;
+    let script = b"rename-attr Project Mission\nattr Project variable\n";
+    let ran = run_over(alloc, &["a.cdf"], &file, script, &SOUND)?;
+    assert_eq!(rt; ran.text.as_slice(), b"1 ok\n2 ok\n".as_slice());
+    assert_eq!(rt; ran.file.len(), 1052);
+    for (place, byte) in file.iter().enumerate() {
+        // eof and NumAttr of the GDR, and of the attribute its next field and its Name
+        let may_differ = [356..364, 368..372, 416..424, 472..728]
+            .iter()
+            .any(|range| range.contains(&place));
+        assert!(rt; may_differ || ran.file.get(place) == Some(byte), "{place}");
+    }
+    assert_eq!(rt; ran.file.get(472..480), Some(b"Mission\0".as_slice()));
+    assert_eq!(rt; ran.file.get(796..804), Some(b"Project\0".as_slice()));
+    Ok(())
+}
+
+#[test]
+fn a_store_that_fails_leaves_old_or_new_bytes(rt: HostRuntime) -> Result<(), Fail> {
+    let alloc = rt.alloc();
+    let old = changed_file(alloc, 404, &[])?;
+    let new = changed_file(alloc, 728, WITH_ATTRIBUTE)?;
+    let script = b"attr Project global\n";
+    let whole = run_over(alloc, &["a.cdf"], &old, script, &SOUND)?;
+    assert_eq!(rt; whole.file.as_slice(), new.as_slice());
+    for call in 1..whole.calls[0] + 1 {
+        let devices = Devices {
+            failing: [call, 0, 0],
+            ..SOUND
+        };
+        let ran = run_over(alloc, &["a.cdf"], &old, script, &devices)?;
+        let last = call == whole.calls[0];
+        assert_eq!(rt; ran.status, if last { 6 } else { 5 }, "{call}");
+        assert!(rt; ran.kept, "{call}");
+        assert!(rt; b"1 ok\n".starts_with(&ran.text), "{call}");
+    }
+    Ok(())
+}
