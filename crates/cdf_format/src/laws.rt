@@ -4,7 +4,8 @@ ghost use Rattle.std.specs.Prelude.{◌≡◌, ◌≢◌, ◌⊎◌, ◌≤◌, 
 ghost use Rattle.cdf_model.specs.declared.answer.Reply.{Reply};
 ghost use Rattle.cdf_model.specs.declared.command.Command.{Command};
 ghost use Rattle.cdf_model.specs.Answers.{Go};
-ghost use Rattle.cdf_model.specs.DataSet.{head_of};
+ghost use Rattle.cdf_model.specs.DataSet.{head_of, new_data_set};
+ghost use Rattle.cdf_model.specs.Limits.{image_limit};
 ghost use Rattle.cdf_model.specs.Step.{step};
 ghost use Rattle.cdf_format.specs.Alone.{IsSound, ChangedWithin, LeavesFinding, FileStays, Leaves};
 ghost use Rattle.cdf_format.specs.Changed.{Touch, touch, Changed, Placed};
@@ -17,6 +18,7 @@ ghost use Rattle.cdf_format.specs.IndexOf.{IsIndex};
 ghost use Rattle.cdf_format.specs.IndexWalk.{met, index_walk};
 ghost use Rattle.cdf_format.specs.Links.{ChainHead, with_members, IsHead, AllSpare, IsLinkAfter, IsOther};
 ghost use Rattle.cdf_format.specs.Locality.{only_reads, Follows};
+ghost use Rattle.cdf_format.specs.NewFile.{new_image};
 ghost use Rattle.cdf_format.specs.Owners.{space_of, times, owned_records, attribute_records, variable_records, unused_records};
 ghost use Rattle.cdf_format.specs.Phases.{first_phases, image_phases, KeepsAllRules};
 ghost use Rattle.cdf_format.specs.Records.{Field};
@@ -186,4 +188,17 @@ pub fn good_has_shape()
 /// A command that only reads follows by leaving the image as it is.
 pub fn reading_follows()
     ensures { (b : List ℕ) (c : Command) (reply : Reply) → only_reads c ≡ true → step (content b) c ≡ Go (content b) reply → Good b → Follows b c b }
+{}
+
+/// The new file is good, and its data set is the new one.
+pub fn new_file_is_good()
+    ensures good { Good new_image }
+    ensures content { content new_image ≡ new_data_set }
+    ensures length { length new_image ≡ 404 }
+{}
+
+/// The image of a well-formed file is good, and it is not too long.
+pub fn image_is_good()
+    ensures good { (f : List ℕ) → WellFormed f → Good (image_of f) }
+    ensures fits { (f : List ℕ) → WellFormed f → length (image_of f) ≤ image_limit }
 {}

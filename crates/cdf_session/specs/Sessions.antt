@@ -1,8 +1,6 @@
 -- What a session holds, and how it begins.
 use Rattle.std.specs.Prelude.{◌≡◌, ◌≤◌, ℕ, List, length, None}
 use Rattle.cdf_area.specs.Frame.{Frame}
-use Rattle.cdf_check.specs.declared.verdict.Verdict.{Verdict}
-use Rattle.cdf_check.specs.Verdicts.{Judges}
 use Rattle.cdf_check.specs.declared.verdict.Verdict.TheVariants.{Yes, No}
 use Rattle.cdf_format.specs.Content.{content}
 use Rattle.cdf_format.specs.Sealed.{image_of}
@@ -31,3 +29,8 @@ abbrev pub Rejects : List ℕ → AdoptError → Type 0
 Rejects f (errors.Rejected (No phase rule place)) = Breaks f phase rule place
 Rejects f (errors.Rejected Yes) = ⊥
 Rejects f other = Unit {0}
+
+-- no rule was named
+abbrev pub IsNoVerdict : AdoptError → Type 0
+IsNoVerdict (errors.Rejected verdict) = ⊥
+IsNoVerdict other = Unit {0}

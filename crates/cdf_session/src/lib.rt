@@ -1,6 +1,9 @@
 //! One file under edit: it is taken up or made, commands are carried out on it, and it is given back.
 #![tactic(auto)]
 
+mod adopting;
+mod new_file;
+mod reading;
 mod refusal;
 mod session;
 

@@ -1,16 +1,22 @@
-ghost use Rattle.std.specs.Prelude.{◌≡◌, ◌≤◌, [], true, IfOk, IfErr, OnErr, None};
+ghost use Rattle.std.specs.Prelude.{◌≡◌, ◌≤◌, [], length, true, IsSome, IfOk, IfErr, OnOk, OnErr, Some, None};
+ghost use Rattle.cdf_area.specs.Frame.{with_base};
 ghost use Rattle.cdf_base.specs.Causes.{HasCauseOf, Rose};
 ghost use Rattle.cdf_format.specs.Locality.{Answers};
 ghost use Rattle.cdf_format.specs.NewFile.{new_image};
+ghost use Rattle.cdf_format.specs.WellFormed.{Good, WellFormed};
 ghost use Rattle.cdf_model.specs.Limits.{image_limit};
-ghost use Rattle.cdf_model.specs.Sayable.{Sayable};
+ghost use Rattle.cdf_model.specs.Sayable.{CanBeGiven, Sayable};
 ghost use Rattle.cdf_model.specs.Step.{built};
-ghost use Rattle.cdf_session.specs.Sessions.{Adopts, IsOpen, Rejects};
+ghost use Rattle.cdf_session.specs.Sessions.{Adopts, IsOpen, IsNoVerdict, Rejects};
 
+use crate::adopting::take_up;
+use crate::new_file::write_new;
+use crate::reading::{read_head, read_items};
 use crate::refusal::{AdoptError, Broken, Refusal};
-use cdf_area::Area;
+use cdf_area::{Area, AreaError};
 use cdf_attrs::Attrs;
-use cdf_model::{Command, Outcome};
+use cdf_check::{Verdict, check};
+use cdf_model::{Command, Outcome, Reply, Scope};
 use std::alloc::Global;
 use std::marker::Model;
 
@@ -30,6 +36,22 @@ impl<A: Area> Model for Session<A> {
     ghost invariant = { λ session. IsOpen (A.image session.area) (A.frame session.area) session.attrs };
 }
 
+/// Ends what began at the mark: a command that was carried out is kept, and after an error all is taken back.
+fn settle<A: Area>(area: &mut A, done: Result<Outcome, AreaError>) -> Result<Outcome, AreaError>
+    requires marked { IsSome (A.frame area.old).base }
+    ensures same { result ≡ done }
+    ensures kept { OnOk done (A.image area.new ≡ A.image area.old) }
+    ensures undone { OnErr done ((A.frame area.old).base ≡ Some (A.image area.new)) }
+    ensures frame { A.frame area.new ≡ with_base (A.frame area.old) None }
+    ensures faults { A.faults area.new ≡ A.faults area.old }
+{
+    match &done {
+        Ok(_) => area.keep(),
+        Err(_) => area.undo(),
+    }
+    done
+}
+
 impl<A: Area> Session<A> {
     /// Takes up the file that an area holds, with its trailer, which is dropped.
     pub fn adopt(alloc: Global, area: A) -> Result<Session<A>, Refusal<A>>
@@ -44,11 +66,42 @@ impl<A: Area> Session<A> {
         ensures later_back { IfErr result (λ r. A.faults area ≤ A.faults r.area) }
         ensures cause { IfErr result (λ r. r.why ≡ AdoptError.Fault → Rose (A.faults area) (A.faults r.area)) }
     {
-        let _ = alloc;
-        Err(Refusal {
-            area,
-            why: AdoptError::NoMemory,
-        })
+        let mut area = area;
+        match check(alloc, &mut area) {
+            Ok(Verdict::Yes) => Session::open(alloc, area),
+            Ok(verdict) => Err(Refusal {
+                area,
+                why: AdoptError::Rejected { verdict },
+            }),
+            Err(error) => Err(Refusal {
+                area,
+                why: AdoptError::from(error),
+            }),
+        }
+    }
+
+    /// Takes up a well-formed file.
+    fn open(alloc: Global, area: A) -> Result<Session<A>, Refusal<A>>
+        requires well_formed { WellFormed (A.image area) }
+        requires unmarked { (A.frame area).base ≡ None }
+        requires limit { (A.frame area).limit ≡ image_limit }
+        ensures adopted { IfOk result (λ session. Adopts (A.image area) (A.image session)) }
+        ensures frame { IfOk result (λ session. A.frame session ≡ A.frame area) }
+        ensures later { IfOk result (λ session. A.faults area ≤ A.faults session) }
+        ensures not_rejected { IfErr result (λ r. IsNoVerdict r.why) }
+        ensures image { IfErr result (λ r. A.image r.area ≡ A.image area) }
+        ensures frame_back { IfErr result (λ r. A.frame r.area ≡ A.frame area) }
+        ensures later_back { IfErr result (λ r. A.faults area ≤ A.faults r.area) }
+        ensures cause { IfErr result (λ r. r.why ≡ AdoptError.Fault → Rose (A.faults area) (A.faults r.area)) }
+    {
+        let mut area = area;
+        match take_up(alloc, &mut area) {
+            Ok(attrs) => Ok(Session { alloc, area, attrs }),
+            Err(error) => Err(Refusal {
+                area,
+                why: AdoptError::from(error),
+            }),
+        }
     }
 
     /// Makes a new file in an empty area.
@@ -60,17 +113,27 @@ impl<A: Area> Session<A> {
         ensures created { IfOk result (λ session. A.image session ≡ new_image) }
         ensures frame { IfOk result (λ session. A.frame session ≡ A.frame area) }
         ensures later { IfOk result (λ session. A.faults area ≤ A.faults session) }
-        ensures not_rejected { IfErr result (λ r. Rejects [] r.why) }
+        ensures not_rejected { IfErr result (λ r. IsNoVerdict r.why) }
         ensures image { IfErr result (λ r. A.image r.area ≡ A.image area) }
         ensures frame_back { IfErr result (λ r. A.frame r.area ≡ A.frame area) }
         ensures later_back { IfErr result (λ r. A.faults area ≤ A.faults r.area) }
         ensures cause { IfErr result (λ r. r.why ≡ AdoptError.Fault → Rose (A.faults area) (A.faults r.area)) }
     {
-        let _ = alloc;
-        Err(Refusal {
-            area,
-            why: AdoptError::NoMemory,
-        })
+        let mut area = area;
+        area.mark();
+        match write_new(alloc, &mut area) {
+            Ok(attrs) => {
+                area.keep();
+                Ok(Session { alloc, area, attrs })
+            }
+            Err(error) => {
+                area.undo();
+                Err(Refusal {
+                    area,
+                    why: AdoptError::from(error),
+                })
+            }
+        }
     }
 
     /// Carries out a command. After a refusal and after an error the image is as before.
@@ -82,13 +145,83 @@ impl<A: Area> Session<A> {
         ensures frame { A.frame self.new ≡ A.frame self.old }
         ensures cause { HasCauseOf Broken.Fault (A.faults self.old) (A.faults self.new) result }
     {
-        let _ = command;
-        Err(Broken::NoMemory)
+        Ok(self.carry_out(command)?)
+    }
+
+    /// Carries out a command.
+    fn carry_out(&mut self, command: &Command) -> Result<Outcome, AreaError>
+        requires built { built command.now ≡ true }
+        requires sayable { Sayable command.now }
+        ensures answers { IfOk result (λ o. Answers (A.frame self.old).limit (A.image self.old) command.now o (A.image self.new)) }
+        ensures stays { OnErr result (A.image self.new ≡ A.image self.old) }
+        ensures frame { A.frame self.new ≡ A.frame self.old }
+        ensures cause { HasCauseOf AreaError.Fault (A.faults self.old) (A.faults self.new) result }
+    {
+        match command {
+            Command::Info => self.info(),
+            Command::List => self.list(),
+            Command::Attr { name, scope } => self.attr(name.as_slice(), *scope),
+            Command::RenameAttr { from, to } => self.rename_attr(from.as_slice(), to.as_slice()),
+            _ => unreachable!(),
+        }
+    }
+
+    /// The command `info`.
+    fn info(&mut self) -> Result<Outcome, AreaError>
+        ensures answers { IfOk result (λ o. Answers (A.frame self.old).limit (A.image self.old) Command.Info o (A.image self.new)) }
+        ensures stays { A.image self.new ≡ A.image self.old }
+        ensures frame { A.frame self.new ≡ A.frame self.old }
+        ensures cause { HasCauseOf AreaError.Fault (A.faults self.old) (A.faults self.new) result }
+    {
+        let head = read_head(self.alloc, &mut self.area)?;
+        Ok(Outcome::Done {
+            reply: Reply::Head { head },
+        })
+    }
+
+    /// The command `list`.
+    fn list(&mut self) -> Result<Outcome, AreaError>
+        ensures answers { IfOk result (λ o. Answers (A.frame self.old).limit (A.image self.old) Command.List o (A.image self.new)) }
+        ensures stays { A.image self.new ≡ A.image self.old }
+        ensures frame { A.frame self.new ≡ A.frame self.old }
+        ensures cause { HasCauseOf AreaError.Fault (A.faults self.old) (A.faults self.new) result }
+    {
+        let items = read_items(&self.attrs, &mut self.area)?;
+        Ok(Outcome::Done {
+            reply: Reply::Listing { items },
+        })
+    }
+
+    /// The command `attr`.
+    fn attr(&mut self, name: &[u8], scope: Scope) -> Result<Outcome, AreaError>
+        requires scope { CanBeGiven scope }
+        ensures answers { IfOk result (λ o. Answers (A.frame self.old).limit (A.image self.old) (Command.Attr name.now scope) o (A.image self.new)) }
+        ensures stays { OnErr result (A.image self.new ≡ A.image self.old) }
+        ensures frame { A.frame self.new ≡ A.frame self.old }
+        ensures cause { HasCauseOf AreaError.Fault (A.faults self.old) (A.faults self.new) result }
+    {
+        self.area.mark();
+        let done = self.attrs.create(&mut self.area, name, scope);
+        settle(&mut self.area, done)
+    }
+
+    /// The command `rename-attr`.
+    fn rename_attr(&mut self, from: &[u8], to: &[u8]) -> Result<Outcome, AreaError>
+        ensures answers { IfOk result (λ o. Answers (A.frame self.old).limit (A.image self.old) (Command.RenameAttr from.now to.now) o (A.image self.new)) }
+        ensures stays { OnErr result (A.image self.new ≡ A.image self.old) }
+        ensures frame { A.frame self.new ≡ A.frame self.old }
+        ensures cause { HasCauseOf AreaError.Fault (A.faults self.old) (A.faults self.new) result }
+    {
+        self.area.mark();
+        let done = self.attrs.rename(&mut self.area, from, to);
+        settle(&mut self.area, done)
     }
 
     /// The area with the image as it is.
     pub fn into_area(self) -> A
-        ensures { result ≡ self }
+        ensures area { result ≡ self }
+        ensures good { Good (A.image result) }
+        ensures fits { length (A.image result) ≤ image_limit }
     {
         self.area
     }

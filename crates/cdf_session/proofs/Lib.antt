@@ -1,0 +1,5 @@
+pub mod HeadLemmas
+pub mod ListLemmas
+pub mod OpenLemmas
+pub mod AdoptLemmas
+pub mod NewFileLemmas

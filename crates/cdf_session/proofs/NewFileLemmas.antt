@@ -1,0 +1,59 @@
+-- The new file is written.
+use Rattle.std.proofs.Common.{◌≡◌, ℕ, ◌+◌, ◌≤◌, List, [], ◌++◌, append_assoc, length, None, Some, Result, Ok, Err, refl, sym, ap, subst, ◌∙◌, arith}
+use Rattle.std.proofs.Math.Path.{transport}
+use Rattle.std.specs.Prelude.{replicate, OnOk}
+use Rattle.cdf_area.specs.Frame.{Frame, with_base}
+use Rattle.cdf_base.specs.Bytes.{put}
+use Rattle.cdf_format.specs.Content.{content}
+use Rattle.cdf_format.specs.NewFile.{new_image}
+use Rattle.cdf_format.specs.WellFormed.{Good}
+use Rattle.cdf_format.proofs.NewFileRules.{new_is_good, new_content, new_length}
+use Rattle.cdf_model.specs.DataSet.{new_data_set}
+use Rattle.cdf_model.specs.Limits.{image_limit}
+use Rattle.cdf_model.specs.Names.{attribute_names}
+use Rattle.cdf_session.specs.Sessions.{IsOpen}
+use Rattle.cdf_session.proofs.OpenLemmas.{frame_back}
+
+-- bytes that are appended in two parts
+pub in_two : (old between now front back whole : List ℕ) → front ++ back ≡ whole → between ≡ old ++ front → now ≡ between ++ back → now ≡ old ++ whole
+in_two old between now front back whole is first second = second ∙ ap (λ (b : List ℕ). b ++ back) first ∙ append_assoc old front back ∙ ap (λ (b : List ℕ). old ++ b) is
+
+-- and after bytes that are known
+pub appended : (b now known more : List ℕ) → b ≡ known → now ≡ b ++ more → now ≡ known ++ more
+appended b now known more is added = added ∙ ap (λ (x : List ℕ). x ++ more) is
+
+zeros : (old extended : List ℕ) → old ≡ [] → extended ≡ old ++ replicate 404 0 → extended ≡ replicate 404 0
+zeros old extended empty longer = longer ∙ ap (λ (b : List ℕ). b ++ replicate 404 0) empty
+
+over_zeros : put (replicate 404 0) 0 new_image ≡ new_image
+unfolding put new_image
+over_zeros = refl
+
+pub written_new : (old extended given now : List ℕ) → old ≡ [] → extended ≡ old ++ replicate 404 0 → given ≡ new_image → now ≡ put extended 0 given → now ≡ new_image
+written_new old extended given now empty longer is written = written ∙ (λ i. put (zeros old extended empty longer i) 0 (is i)) ∙ over_zeros
+
+pub new_fits : (old extended given : List ℕ) → old ≡ [] → extended ≡ old ++ replicate 404 0 → given ≡ new_image → 0 + length given ≤ length extended
+new_fits old extended given empty longer is =
+    let n : length given ≡ 404 = ap (λ (b : List ℕ). length b) is ∙ new_length in
+    let m : length extended ≡ 404 = ap (λ (b : List ℕ). length b) (zeros old extended empty longer) in
+    omega arith
+
+pub good_new : (now : List ℕ) → now ≡ new_image → Good now
+good_new now is = subst Good (sym is) new_is_good
+
+pub names_new : (now : List ℕ) → now ≡ new_image → attribute_names (content now) ≡ attribute_names new_data_set
+names_new now is = ap (λ (b : List ℕ). attribute_names (content b)) is ∙ ap attribute_names new_content
+
+pub on_ok : {T E : Type 0} {P : Type 0} (r : Result T E) → P → OnOk r P
+on_ok (Ok x) p = p
+on_ok (Err e) p = tt
+
+pub new_open : {U : Type 0} (start now kept : List ℕ) (frame marked between end : Frame U) (names : List (List ℕ))
+    → frame.base ≡ None → 404 ≤ frame.limit → frame.limit ≤ image_limit → marked ≡ with_base frame (Some start) → between ≡ marked → end ≡ with_base between None
+    → now ≡ new_image → kept ≡ now → names ≡ attribute_names new_data_set → IsOpen kept end names
+new_open start now kept frame marked between end names unmarked room limit is same ends new stays named =
+    let f : end ≡ frame = frame_back frame between end start unmarked (same ∙ is) ends in
+    let there : kept ≡ new_image = stays ∙ new in
+    let fits : length kept ≤ frame.limit = let n : length kept ≡ 404 = ap (λ (b : List ℕ). length b) there ∙ new_length in omega arith in
+    let open_there : IsOpen kept frame names = record { good = good_new kept there; fits = fits; limited = limit; unmarked = unmarked; names_are = named ∙ sym (names_new kept there) } in
+    transport (λ i. IsOpen kept (sym f i) names) open_there

@@ -1,0 +1,6 @@
+use Rattle.std.proofs.Common.{◌≡◌, ◌++◌, take}
+use Rattle.cdf_format.specs.NewFile.{of_8_bytes}
+use Rattle.cdf_session.proofs.new_file.push_8_bytes.Given as goal
+
+abbrev pub invariant-loop-number : goal.invariant-loop-number
+invariant-loop-number l = l.bytes.items ≡ l.fn.bytes.items ++ of_8_bytes (take l.number-index l.numbers)

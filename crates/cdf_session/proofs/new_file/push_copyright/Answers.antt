@@ -1,0 +1,7 @@
+use Rattle.std.proofs.Common.{refl}
+use Rattle.cdf_format.specs.NewFile.{copyright}
+use Rattle.cdf_session.proofs.NewFileLemmas.{in_two}
+use Rattle.cdf_session.proofs.new_file.push_copyright.Goals as goal
+
+pub returns : goal.returns
+returns c = in_two c.args.bytes.now.items c.extend_from_slice.new.self.items c.extend_from_slice-2.new.self.items _ _ copyright refl c.in_ok-extend_from_slice.ensures.items c.in_ok-extend_from_slice-2.ensures.items

@@ -1,0 +1,81 @@
+//! The file of a new data set, which has two records.
+
+ghost use Rattle.std.specs.Prelude.{◌≡◌, ◌≤◌, ◌++◌, [], length, IfOk, OnOk};
+ghost use Rattle.cdf_base.specs.Causes.{HasCauseOf};
+ghost use Rattle.cdf_format.specs.NewFile.{copyright, new_image, of_4_bytes, of_8_bytes};
+ghost use Rattle.cdf_model.specs.DataSet.{new_data_set};
+ghost use Rattle.cdf_model.specs.Names.{attribute_names};
+
+use cdf_area::{Area, AreaError};
+use cdf_attrs::Attrs;
+use std::alloc::{AllocError, Global};
+
+/// The bytes of the new file.
+const NEW_SIZE: u64 = 404;
+
+/// The number -1 in 4 bytes.
+const MINUS_ONE: u32 = 0xffff_ffff;
+
+/// Appends numbers of 4 bytes each.
+fn push_4_bytes(bytes: &mut Vec<u8>, numbers: &[u32]) -> Result<(), AllocError>
+    ensures { OnOk result (bytes.new.items ≡ bytes.old.items ++ of_4_bytes numbers.now) }
+{
+    for number in numbers {
+        bytes.extend_from_slice(&number.to_be_bytes())?;
+    }
+    Ok(())
+}
+
+/// Appends numbers of 8 bytes each.
+fn push_8_bytes(bytes: &mut Vec<u8>, numbers: &[u64]) -> Result<(), AllocError>
+    ensures { OnOk result (bytes.new.items ≡ bytes.old.items ++ of_8_bytes numbers.now) }
+{
+    for number in numbers {
+        bytes.extend_from_slice(&number.to_be_bytes())?;
+    }
+    Ok(())
+}
+
+/// Appends the Copyright.
+fn push_copyright(bytes: &mut Vec<u8>) -> Result<(), AllocError>
+    ensures { OnOk result (bytes.new.items ≡ bytes.old.items ++ copyright) }
+{
+    bytes.extend_from_slice(b"\nCommon Data Format (CDF)\n")?;
+    bytes.extend_from_slice(&[0; 230])?;
+    Ok(())
+}
+
+/// The new file: the magic numbers, the CDF Descriptor Record and the Global Descriptor Record.
+fn new_bytes(alloc: Global) -> Result<Vec<u8>, AllocError>
+    ensures { IfOk result (λ bytes. bytes.items ≡ new_image) }
+{
+    let mut bytes = Vec::new(alloc);
+    push_4_bytes(&mut bytes, &[0xcdf3_0001, 0x0000_ffff])?;
+    push_8_bytes(&mut bytes, &[312])?;
+    push_4_bytes(&mut bytes, &[1])?;
+    push_8_bytes(&mut bytes, &[320])?;
+    push_4_bytes(&mut bytes, &[3, 9, 6, 3, 0, 0, 0, 2, MINUS_ONE])?;
+    push_copyright(&mut bytes)?;
+    push_8_bytes(&mut bytes, &[84])?;
+    push_4_bytes(&mut bytes, &[2])?;
+    push_8_bytes(&mut bytes, &[0, 0, 0, 404])?;
+    push_4_bytes(&mut bytes, &[0, 0, MINUS_ONE, 0, 0])?;
+    push_8_bytes(&mut bytes, &[0])?;
+    push_4_bytes(&mut bytes, &[0, MINUS_ONE, MINUS_ONE])?;
+    Ok(bytes)
+}
+
+/// Writes the new file into an empty area, and takes up its attributes, of which there are none. After an error a part of this may have been done in the area.
+pub fn write_new<A: Area>(alloc: Global, area: &mut A) -> Result<Attrs, AreaError>
+    requires empty { A.image area.old ≡ [] }
+    requires room { 404 ≤ (A.frame area.old).limit }
+    ensures image { OnOk result (A.image area.new ≡ new_image) }
+    ensures names { IfOk result (λ attrs. attrs ≡ attribute_names new_data_set) }
+    ensures frame { A.frame area.new ≡ A.frame area.old }
+    ensures cause { HasCauseOf AreaError.Fault (A.faults area.old) (A.faults area.new) result }
+{
+    let bytes = new_bytes(alloc)?;
+    area.extend(NEW_SIZE)?;
+    area.set(0, &bytes)?;
+    Attrs::load(alloc, area)
+}

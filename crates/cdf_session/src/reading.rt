@@ -1,0 +1,104 @@
+//! What the commands show that only read: the head of the data set, and the list of its attributes and variables.
+
+ghost use Rattle.std.specs.Prelude.{◌≡◌, ◌+◌, ◌*◌, ◌≤◌, length, IfOk};
+ghost use Rattle.cdf_base.specs.Causes.{HasCauseOf};
+ghost use Rattle.cdf_format.specs.Content.{content, majority_of};
+ghost use Rattle.cdf_format.specs.Fields.{has_bit, r_dimensions, r_sizes, word};
+ghost use Rattle.cdf_format.specs.WellFormed.{Good};
+ghost use Rattle.cdf_model.specs.DataSet.{head_of};
+ghost use Rattle.cdf_model.specs.Listing.{items_of};
+ghost use Rattle.cdf_records.specs.Heads.{gdr_at};
+ghost use Rattle.cdf_session.specs.Heads.{head_with};
+
+use cdf_area::{Area, AreaError};
+use cdf_attrs::Attrs;
+use cdf_model::{Head, Items, Majority, Nums};
+use cdf_records::{Cdr, Gdr, read_cdr, read_gdr, read_nums};
+use std::alloc::Global;
+
+/// Where the CDF Descriptor Record stands.
+pub const CDR: u64 = 8;
+
+/// The bytes of a Global Descriptor Record before the sizes of its dimensions.
+const GDR_FIXED: u64 = 84;
+
+fn majority_in(flags: u32) -> Majority
+    ensures { result ≡ majority_of (has_bit flags 0) }
+{
+    if flags % 2 == 1 {
+        Majority::Row
+    } else {
+        Majority::Column
+    }
+}
+
+/// Whether a checksum is in use.
+pub fn has_checksum(flags: u32) -> bool
+    ensures { result ≡ has_bit flags 2 }
+{
+    flags / 4 % 2 == 1
+}
+
+/// The head that the two records and the sizes of the dimensions give.
+fn head_from(cdr: &Cdr, gdr: &Gdr, rdims: Nums) -> Head
+    ensures { result ≡ head_with cdr.now gdr.now rdims }
+{
+    Head {
+        version: cdr.version,
+        release: cdr.release,
+        increment: cdr.increment,
+        encoding: cdr.encoding.cast_unsigned(),
+        majority: majority_in(cdr.flags),
+        md5: has_checksum(cdr.flags),
+        rdims,
+        attrs: gdr.num_attr.cast_unsigned(),
+        rvars: gdr.nr_vars.cast_unsigned(),
+        zvars: gdr.nz_vars.cast_unsigned(),
+    }
+}
+
+/// The sizes of the dimensions, where the Global Descriptor Record stands at a place.
+fn read_sizes<A: Area>(
+    alloc: Global,
+    area: &mut A,
+    gdr: &Gdr,
+    place: u64,
+) -> Result<Nums, AreaError>
+    requires gdr { gdr.now ≡ gdr_at (A.image area.old) place }
+    requires few { word (A.image area.old) (place + 56) 4 ≤ 10 }
+    requires fits { place + 84 + 4 * r_dimensions (A.image area.old) place ≤ length (A.image area.old) }
+    ensures sizes { IfOk result (λ sizes. sizes ≡ r_sizes (A.image area.old) place) }
+    ensures image { A.image area.new ≡ A.image area.old }
+    ensures frame { A.frame area.new ≡ A.frame area.old }
+    ensures cause { HasCauseOf AreaError.Fault (A.faults area.old) (A.faults area.new) result }
+{
+    // An image has fewer than 2^64 bytes, so no place in it overflows.
+    let _size = area.size();
+    let dimensions = gdr.r_num_dims.cast_unsigned();
+    read_nums(alloc, area, place + GDR_FIXED, dimensions)
+}
+
+/// The head of the data set of a good image, as `info` shows it.
+pub fn read_head<A: Area>(alloc: Global, area: &mut A) -> Result<Head, AreaError>
+    requires { Good (A.image area.old) }
+    ensures head { IfOk result (λ head. head ≡ head_of (content (A.image area.old))) }
+    ensures image { A.image area.new ≡ A.image area.old }
+    ensures frame { A.frame area.new ≡ A.frame area.old }
+    ensures cause { HasCauseOf AreaError.Fault (A.faults area.old) (A.faults area.new) result }
+{
+    let cdr = read_cdr(area, CDR)?;
+    let gdr = read_gdr(area, cdr.gdr_offset)?;
+    let rdims = read_sizes(alloc, area, &gdr, cdr.gdr_offset)?;
+    Ok(head_from(&cdr, &gdr, rdims))
+}
+
+/// What `list` shows of a good image. So far there are no variables.
+pub fn read_items<A: Area>(attrs: &Attrs, area: &mut A) -> Result<Items, AreaError>
+    requires { Good (A.image area.old) }
+    ensures items { IfOk result (λ items. items ≡ items_of (content (A.image area.old))) }
+    ensures image { A.image area.new ≡ A.image area.old }
+    ensures frame { A.frame area.new ≡ A.frame area.old }
+    ensures cause { HasCauseOf AreaError.Fault (A.faults area.old) (A.faults area.new) result }
+{
+    Ok(Items::new(attrs.items(area)?))
+}
