@@ -30,3 +30,6 @@ pub mod StaysSound
 pub mod Appended
 pub mod GoodLemmas
 pub mod IndexRedone
+pub mod UsedRecords
+pub mod SpaceKept
+pub mod Filled
