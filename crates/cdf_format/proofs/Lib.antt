@@ -33,3 +33,6 @@ pub mod IndexRedone
 pub mod UsedRecords
 pub mod SpaceKept
 pub mod Filled
+pub mod UnusedLists
+pub mod TakenListed
+pub mod TakenWays
