@@ -33,3 +33,9 @@ pub mod IndexRedone
 pub mod NewFileRules
 pub mod GoodHead
 pub mod ReadSoFar
+pub mod UsedRecords
+pub mod SpaceKept
+pub mod Filled
+pub mod UnusedLists
+pub mod TakenListed
+pub mod TakenWays
