@@ -28,5 +28,6 @@ pub mod Assembled
 pub mod SoundKept
 pub mod StaysSound
 pub mod Appended
+pub mod ListStays
 pub mod GoodLemmas
 pub mod IndexRedone
