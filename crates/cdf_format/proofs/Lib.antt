@@ -29,5 +29,7 @@ pub mod SoundKept
 pub mod StaysSound
 pub mod Appended
 pub mod ListStays
+pub mod TakenList
 pub mod GoodLemmas
+pub mod NewFields
 pub mod IndexRedone
