@@ -83,7 +83,7 @@ own_node_allowance c = Anything
 -- its CPR
 abbrev pub own_cpr_allowance : Command → Allowance
 own_cpr_allowance (commands.DelVar name) = Anything
-own_cpr_allowance (commands.SetCompress var rle) = Anything
+own_cpr_allowance (commands.SetCompress var rle) = if rle then Only [] else Anything
 own_cpr_allowance c = Only []
 
 -- the records that a block of the variable has, if it is one
