@@ -1,0 +1,5 @@
+pub mod Asked
+pub mod Scripts
+pub mod Building
+pub mod NewFile
+pub mod Attributes

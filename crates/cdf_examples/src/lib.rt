@@ -1,0 +1,5 @@
+//! Worked examples: what the definitions of images and data sets come to on files that are written out byte by byte.
+#![tactic(auto)]
+
+pub mod attributes;
+pub mod new_files;
