@@ -1,7 +1,17 @@
 -- Rules that are computed: as truth values, and what follows of them.
-use Rattle.std.proofs.Common.{◌≡◌, ℕ, Bool, true, false, ◌&&◌, List, [], ◌∷◌, refl}
-use Rattle.cdf_format.specs.Rules.{Row, Hold, AllHold}
-use Rattle.cdf_examples.specs.Asked.{lasting_phases, KeepsRules}
+use Rattle.std.proofs.Common.{◌≡◌, ◌⊎◌, ℕ, zero, suc, Bool, true, false, not, ◌&&◌, ◌||◌, ◌==◌, List, [], ◌∷◌, map, refl, inl, inr}
+use Rattle.std.proofs.lemmas.Bool.{eqb-true}
+use Rattle.cdf_format.specs.AttributeRules.{phase6}
+use Rattle.cdf_format.specs.ChainRules.{phase5}
+use Rattle.cdf_format.specs.FileRules.{phase0, phase1, phase2, phase3}
+use Rattle.cdf_format.specs.IndexRules.{phase8}
+use Rattle.cdf_format.specs.Phases.{phase9, phase10}
+use Rattle.cdf_format.specs.RecordRules.{phase4}
+use Rattle.cdf_format.specs.Rules.{Row, Hold, IsBroken, AllHold, FirstBroken}
+use Rattle.cdf_format.specs.Sealed.{image_of}
+use Rattle.cdf_format.specs.VariableRules.{phase7}
+use Rattle.cdf_examples.specs.Asked.{lasting, lasting_phases, KeepsRules, BreaksFirst}
+use Rattle.cdf_examples.specs.Damage.{Change, Verdict, changed, EachBreaks}
 
 abbrev pub hold : List Row → Bool
 hold [] = true
@@ -25,3 +35,61 @@ AllHold-by (rows ∷ phases) e = let two = both (hold rows) (all_hold phases) e 
 
 pub keeps_rules : (f : List ℕ) → all_hold (lasting_phases f) ≡ true → KeepsRules f
 keeps_rules f e = AllHold-by (lasting_phases f) e
+
+-- ---- a rule that is the first broken
+
+abbrev pub broken : List Row → ℕ → ℕ → Bool
+broken [] rule place = false
+broken (r ∷ rows) rule place = ((r.rule == rule) && ((r.place == place) && not r.holds)) || broken rows rule place
+
+either : (p q : Bool) → (p || q) ≡ true → (p ≡ true) ⊎ (q ≡ true)
+either true q e = inl refl
+either false q e = inr e
+
+not_false : (p : Bool) → not p ≡ true → p ≡ false
+not_false true e = absurd cc
+not_false false e = refl
+
+pub IsBroken-by : (rows : List Row) (rule place : ℕ) → broken rows rule place ≡ true → IsBroken rows rule place
+IsBroken-by [] rule place e = absurd cc
+IsBroken-by (r ∷ rows) rule place e = elim (either ((r.rule == rule) && ((r.place == place) && not r.holds)) (broken rows rule place) e) [
+  | inl h ↦
+      let outer = both (r.rule == rule) ((r.place == place) && not r.holds) h in
+      let inner = both (r.place == place) (not r.holds) outer.1 in
+      inl (eqb-true r.rule rule outer.0, eqb-true r.place place inner.0, not_false r.holds inner.1)
+  | inr h ↦ inr (IsBroken-by rows rule place h)
+]
+
+-- The phases as functions of the file: those behind the one that is broken are not computed.
+abbrev pub phases_to_ask : List (List ℕ → List Row)
+phases_to_ask =
+    phase0 ∷ phase1 ∷ phase2 ∷ phase3
+    ∷ (λ f. phase4 (image_of f)) ∷ (λ f. phase5 (image_of f)) ∷ (λ f. phase6 (image_of f)) ∷ (λ f. phase7 (image_of f)) ∷ (λ f. phase8 (image_of f)) ∷ (λ f. phase9 (image_of f))
+    ∷ phase10 ∷ []
+
+abbrev pub first_broken : List (List ℕ → List Row) → List ℕ → ℕ → ℕ → ℕ → Bool
+first_broken [] f phase rule place = false
+first_broken (rows ∷ phases) f zero rule place = broken (lasting (rows f)) rule place
+first_broken (rows ∷ phases) f (suc phase) rule place = hold (lasting (rows f)) && first_broken phases f phase rule place
+
+FirstBroken-by : (phases : List (List ℕ → List Row)) (f : List ℕ) (phase rule place : ℕ) → first_broken phases f phase rule place ≡ true → FirstBroken (map (λ rows. lasting (rows f)) phases) phase rule place
+FirstBroken-by [] f phase rule place e = absurd cc
+FirstBroken-by (rows ∷ phases) f zero rule place e = IsBroken-by (lasting (rows f)) rule place e
+FirstBroken-by (rows ∷ phases) f (suc phase) rule place e =
+    let two = both (hold (lasting (rows f))) (first_broken phases f phase rule place) e in
+    (Hold-by (lasting (rows f)) two.0, FirstBroken-by phases f phase rule place two.1)
+
+pub breaks_first : (f : List ℕ) (phase rule place : ℕ) → first_broken phases_to_ask f phase rule place ≡ true → BreaksFirst f phase rule place
+breaks_first f phase rule place e = FirstBroken-by phases_to_ask f phase rule place e
+
+-- ---- tables of changes
+
+abbrev pub each_breaks : List ℕ → List (Change × Verdict) → Bool
+each_breaks f [] = true
+each_breaks f ((change, v) ∷ table) = first_broken phases_to_ask (changed f change) v.phase v.rule v.place && each_breaks f table
+
+pub EachBreaks-by : (f : List ℕ) (table : List (Change × Verdict)) → each_breaks f table ≡ true → EachBreaks f table
+EachBreaks-by f [] e = tt
+EachBreaks-by f ((change, v) ∷ table) e =
+    let two = both (first_broken phases_to_ask (changed f change) v.phase v.rule v.place) (each_breaks f table) e in
+    (breaks_first (changed f change) v.phase v.rule v.place two.0, EachBreaks-by f table two.1)

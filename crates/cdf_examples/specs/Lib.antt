@@ -3,3 +3,7 @@ pub mod Scripts
 pub mod Building
 pub mod NewFile
 pub mod Attributes
+pub mod Usual
+pub mod Damage
+pub mod DamagedUsual
+pub mod UsualData

@@ -2,4 +2,6 @@
 #![tactic(auto)]
 
 pub mod attributes;
+pub mod damaged;
 pub mod new_files;
+pub mod usual;
