@@ -60,36 +60,40 @@ IsBroken-by (r ∷ rows) rule place e = elim (either ((r.rule == rule) && ((r.pl
   | inr h ↦ inr (IsBroken-by rows rule place h)
 ]
 
--- The phases as functions of the file: those behind the one that is broken are not computed.
-abbrev pub phases_to_ask : List (List ℕ → List Row)
+-- The phases as functions of the file and its image: those behind the one that is broken are not computed.
+abbrev pub phases_to_ask : List (List ℕ → List ℕ → List Row)
 phases_to_ask =
-    phase0 ∷ phase1 ∷ phase2 ∷ phase3
-    ∷ (λ f. phase4 (image_of f)) ∷ (λ f. phase5 (image_of f)) ∷ (λ f. phase6 (image_of f)) ∷ (λ f. phase7 (image_of f)) ∷ (λ f. phase8 (image_of f)) ∷ (λ f. phase9 (image_of f))
-    ∷ phase10 ∷ []
+    (λ f b. phase0 f) ∷ (λ f b. phase1 f) ∷ (λ f b. phase2 f) ∷ (λ f b. phase3 f)
+    ∷ (λ f b. phase4 b) ∷ (λ f b. phase5 b) ∷ (λ f b. phase6 b) ∷ (λ f b. phase7 b) ∷ (λ f b. phase8 b) ∷ (λ f b. phase9 b)
+    ∷ (λ f b. phase10 f) ∷ []
 
-abbrev pub first_broken : List (List ℕ → List Row) → List ℕ → ℕ → ℕ → ℕ → Bool
-first_broken [] f phase rule place = false
-first_broken (rows ∷ phases) f zero rule place = broken (lasting (rows f)) rule place
-first_broken (rows ∷ phases) f (suc phase) rule place = hold (lasting (rows f)) && first_broken phases f phase rule place
+abbrev pub first_broken : List (List ℕ → List ℕ → List Row) → List ℕ → List ℕ → ℕ → ℕ → ℕ → Bool
+first_broken [] f b phase rule place = false
+first_broken (rows ∷ phases) f b zero rule place = broken (lasting (rows f b)) rule place
+first_broken (rows ∷ phases) f b (suc phase) rule place = hold (lasting (rows f b)) && first_broken phases f b phase rule place
 
-FirstBroken-by : (phases : List (List ℕ → List Row)) (f : List ℕ) (phase rule place : ℕ) → first_broken phases f phase rule place ≡ true → FirstBroken (map (λ rows. lasting (rows f)) phases) phase rule place
-FirstBroken-by [] f phase rule place e = absurd cc
-FirstBroken-by (rows ∷ phases) f zero rule place e = IsBroken-by (lasting (rows f)) rule place e
-FirstBroken-by (rows ∷ phases) f (suc phase) rule place e =
-    let two = both (hold (lasting (rows f))) (first_broken phases f phase rule place) e in
-    (Hold-by (lasting (rows f)) two.0, FirstBroken-by phases f phase rule place two.1)
+FirstBroken-by : (phases : List (List ℕ → List ℕ → List Row)) (f b : List ℕ) (phase rule place : ℕ) → first_broken phases f b phase rule place ≡ true
+    → FirstBroken (map (λ rows. lasting (rows f b)) phases) phase rule place
+FirstBroken-by [] f b phase rule place e = absurd cc
+FirstBroken-by (rows ∷ phases) f b zero rule place e = IsBroken-by (lasting (rows f b)) rule place e
+FirstBroken-by (rows ∷ phases) f b (suc phase) rule place e =
+    let two = both (hold (lasting (rows f b))) (first_broken phases f b phase rule place) e in
+    (Hold-by (lasting (rows f b)) two.0, FirstBroken-by phases f b phase rule place two.1)
 
-pub breaks_first : (f : List ℕ) (phase rule place : ℕ) → first_broken phases_to_ask f phase rule place ≡ true → BreaksFirst f phase rule place
-breaks_first f phase rule place e = FirstBroken-by phases_to_ask f phase rule place e
+abbrev pub breaks : List ℕ → ℕ → ℕ → ℕ → Bool
+breaks f phase rule place = first_broken phases_to_ask f (image_of f) phase rule place
+
+pub breaks_first : (f : List ℕ) (phase rule place : ℕ) → breaks f phase rule place ≡ true → BreaksFirst f phase rule place
+breaks_first f phase rule place e = FirstBroken-by phases_to_ask f (image_of f) phase rule place e
 
 -- ---- tables of changes
 
 abbrev pub each_breaks : List ℕ → List (Change × Verdict) → Bool
 each_breaks f [] = true
-each_breaks f ((change, v) ∷ table) = first_broken phases_to_ask (changed f change) v.phase v.rule v.place && each_breaks f table
+each_breaks f ((change, v) ∷ table) = breaks (changed f change) v.phase v.rule v.place && each_breaks f table
 
 pub EachBreaks-by : (f : List ℕ) (table : List (Change × Verdict)) → each_breaks f table ≡ true → EachBreaks f table
 EachBreaks-by f [] e = tt
 EachBreaks-by f ((change, v) ∷ table) e =
-    let two = both (first_broken phases_to_ask (changed f change) v.phase v.rule v.place) (each_breaks f table) e in
+    let two = both (breaks (changed f change) v.phase v.rule v.place) (each_breaks f table) e in
     (breaks_first (changed f change) v.phase v.rule v.place two.0, EachBreaks-by f table two.1)

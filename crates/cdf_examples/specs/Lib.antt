@@ -3,6 +3,8 @@ pub mod Scripts
 pub mod Building
 pub mod NewFile
 pub mod Attributes
+pub mod OneVariable
+pub mod RecordFiles
 pub mod Usual
 pub mod Damage
 pub mod DamagedUsual

@@ -1,5 +1,5 @@
 -- What a script makes of a data set where all commands are there.
-use Rattle.std.specs.Prelude.{ℕ, ◌+◌, List, [], ◌∷◌, ◌++◌, false, Some}
+use Rattle.std.specs.Prelude.{ℕ, ◌+◌, List, [], ◌∷◌, ◌++◌, Bool, false, Some}
 use Rattle.std.specs.List.{flat_map, fold}
 use Rattle.std.specs.declared.option.Option.{Option}
 use Rattle.cdf_model.specs.DataSet.{DataSet}
@@ -7,6 +7,7 @@ use Rattle.cdf_model.specs.Grammar.{Parsed, Blank, Asks, Faulty, parse}
 use Rattle.cdf_model.specs.Lines.{lines}
 use Rattle.cdf_model.specs.Run.{Turn, answered, faulty, State, start, after}
 use Rattle.cdf_model.specs.Step.{step}
+use Rattle.cdf_format.specs.Locality.{is_too_large}
 use Rattle.cdf_format.specs.Room.{room}
 
 -- texts, each with a newline
@@ -36,3 +37,7 @@ made_by d script = (run_script d script).data_set
 -- by how many bytes the command of a line may raise eof at most
 abbrev pub room_for : List ℕ → List ℕ → ℕ
 room_for b line = elim (parse (Some line)) [ Blank ↦ 0 | Asks c ↦ room b c | Faulty fault ↦ 0 ]
+
+-- that command would make the image too large
+abbrev pub makes_too_large : List ℕ → List ℕ → Bool
+makes_too_large b line = elim (parse (Some line)) [ Blank ↦ false | Asks c ↦ is_too_large b c | Faulty fault ↦ false ]

@@ -4,4 +4,5 @@
 pub mod attributes;
 pub mod damaged;
 pub mod new_files;
+pub mod records;
 pub mod usual;
