@@ -5,7 +5,10 @@ pub mod NewFile
 pub mod Attributes
 pub mod OneVariable
 pub mod RecordFiles
+pub mod SparseFiles
 pub mod Usual
 pub mod Damage
+pub mod PackedFiles
+pub mod DeepFiles
 pub mod DamagedUsual
 pub mod UsualData

@@ -4,5 +4,7 @@
 pub mod attributes;
 pub mod damaged;
 pub mod new_files;
+pub mod packed;
 pub mod records;
+pub mod sparse_records;
 pub mod usual;
