@@ -6,6 +6,8 @@ pub mod Attributes
 pub mod OneVariable
 pub mod RecordFiles
 pub mod SparseFiles
+pub mod DeletedVariable
+pub mod Moved
 pub mod Usual
 pub mod Damage
 pub mod PackedFiles

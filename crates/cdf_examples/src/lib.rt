@@ -8,3 +8,4 @@ pub mod packed;
 pub mod records;
 pub mod sparse_records;
 pub mod usual;
+pub mod variables;
