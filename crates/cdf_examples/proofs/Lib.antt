@@ -1,3 +1,2 @@
 pub mod Tests
-pub mod Trailers
-pub mod UsualSealed
+pub mod Digests

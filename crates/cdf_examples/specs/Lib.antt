@@ -2,6 +2,7 @@ pub mod Asked
 pub mod Scripts
 pub mod Building
 pub mod NewFile
+pub mod ChecksumFile
 pub mod Attributes
 pub mod OneVariable
 pub mod RecordFiles
@@ -12,5 +13,6 @@ pub mod Usual
 pub mod Damage
 pub mod PackedFiles
 pub mod DeepFiles
+pub mod DamagedNew
 pub mod DamagedUsual
 pub mod UsualData

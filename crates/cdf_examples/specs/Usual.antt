@@ -56,3 +56,7 @@ usual_image =
     ⧺ z_vdr b_gse ⧺ vxr (covering 0 3 1828 ∷ []) ⧺ b_gse_block
     ⧺ z_vdr label ⧺ vxr (covering 0 0 2380 ∷ []) ⧺ vvr (codes "Bx  By  Bz  ")
     ⧺ adr units ⧺ z_entry units_entry
+
+-- the MD5 of its 2786 bytes
+abbrev pub usual_digest : List ℕ
+usual_digest = 0xfe ∷ 0x0f ∷ 0x8f ∷ 0xab ∷ 0x2a ∷ 0x9b ∷ 0x97 ∷ 0xe4 ∷ 0xc6 ∷ 0x5f ∷ 0xb4 ∷ 0xa7 ∷ 0xc8 ∷ 0x0c ∷ 0xc6 ∷ 0x71 ∷ []

@@ -1,19 +1,41 @@
 //! Files with one change, and the rule that each breaks first.
 
-ghost use Rattle.std.specs.Prelude.{take};
+ghost use Rattle.std.specs.Prelude.{◌≢◌, ℕ, [], ◌∷◌, take};
+ghost use Rattle.cdf_base.specs.Bytes.{put};
 ghost use Rattle.cdf_format.specs.Sealed.{sealed};
 ghost use Rattle.cdf_format.specs.Records.{uir_next_uir};
 ghost use Rattle.cdf_examples.specs.Asked.{KeepsRules, BreaksFirst};
 ghost use Rattle.cdf_examples.specs.Attributes.{moved_file};
+ghost use Rattle.cdf_examples.specs.ChecksumFile.{checksum_image};
 ghost use Rattle.cdf_examples.specs.Damage.{EachBreaks, Number, changed};
+ghost use Rattle.cdf_examples.specs.DamagedNew.{damaged_new, not_owned_file, circle_file};
 ghost use Rattle.cdf_examples.specs.DamagedUsual.{damaged_heads, damaged_chains, damaged_attributes, damaged_variables, damaged_indexes, damaged_owners};
 ghost use Rattle.cdf_examples.specs.DeepFiles.{eight_levels, nine_levels};
+ghost use Rattle.cdf_examples.specs.NewFile.{new_file};
 ghost use Rattle.cdf_examples.specs.PackedFiles.{packed_file, damaged_packing, not_compressed_file};
 ghost use Rattle.cdf_examples.specs.Usual.{usual_image};
 
-/// The usual file, cut to 7 bytes.
+/// The usual file, cut to 7 bytes, and one without any.
 pub fn cut()
     ensures verdict { BreaksFirst (take 7 (sealed usual_image)) 0 1 0 }
+    ensures empty { BreaksFirst [] 0 1 0 }
+{}
+
+/// The new file: the second magic number, the Flags and eof are changed, or a block stands behind that nobody owns.
+pub fn new_file_changed()
+    ensures verdicts { EachBreaks new_file damaged_new }
+    ensures not_owned { BreaksFirst not_owned_file 9 1 404 }
+{}
+
+/// Two attributes, the second of which leads back to the first.
+pub fn attribute_circle()
+    ensures verdict { BreaksFirst circle_file 5 2 728 }
+{}
+
+/// Another byte in the digest, and another bit in the Copyright of an image with a digest.
+pub fn digests()
+    ensures digest { (byte : ℕ) → byte ≢ 0x2a → BreaksFirst (put (sealed usual_image) 2790 (byte ∷ [])) 10 1 2786 }
+    ensures copyright { BreaksFirst (put (sealed checksum_image) 64 (0x0b ∷ [])) 10 1 404 }
 {}
 
 /// The usual file: a magic number, the CDR or the GDR is changed.

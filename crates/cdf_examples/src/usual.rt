@@ -1,6 +1,7 @@
 //! A file with what files in use have.
 
 ghost use Rattle.std.specs.Prelude.{◌≡◌, [], ◌∷◌, length, take, drop, codes};
+ghost use Rattle.md5.specs.Md5.{md5};
 ghost use Rattle.cdf_base.specs.Bytes.{put};
 ghost use Rattle.cdf_format.specs.Content.{content};
 ghost use Rattle.cdf_format.specs.Owners.{owned, space_of};
@@ -10,7 +11,7 @@ ghost use Rattle.cdf_model.specs.EventTexts.{dump_text};
 ghost use Rattle.cdf_model.specs.Events.{events_of};
 ghost use Rattle.cdf_examples.specs.Asked.{KeepsRules};
 ghost use Rattle.cdf_examples.specs.Scripts.{text_lines, made_by, room_for};
-ghost use Rattle.cdf_examples.specs.Usual.{usual_image};
+ghost use Rattle.cdf_examples.specs.Usual.{usual_image, usual_digest};
 ghost use Rattle.cdf_examples.specs.UsualData.{usual_shape, usual_owned, usual_space, usual_data_set, usual_events, usual_dump, data_set_after};
 
 /// Its records and their owners.
@@ -29,6 +30,7 @@ pub fn meaning()
 
 /// With its checksum it breaks no rule.
 pub fn keeps_rules()
+    ensures digest { md5 usual_image ≡ usual_digest }
     ensures rules { KeepsRules (sealed usual_image) }
 {}
 

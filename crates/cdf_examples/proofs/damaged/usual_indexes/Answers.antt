@@ -1,4 +1,4 @@
-use Rattle.std.proofs.Common.{◌≡◌, ℕ, true, [], ◌∷◌, ◌++◌, refl}
+use Rattle.std.proofs.Common.{◌≡◌, true, ◌++◌, refl}
 use Rattle.cdf_base.specs.Bytes.{put}
 use Rattle.cdf_format.specs.Chains.{chain_on}
 use Rattle.cdf_format.specs.Fields.{with_field, with_name}
@@ -8,14 +8,14 @@ use Rattle.cdf_format.specs.IndexWalk.{entries_on, nodes_on, levels_on}
 use Rattle.cdf_format.specs.Shape.{shape}
 use Rattle.cdf_format.specs.Tiles.{tiles_from}
 use Rattle.cdf_examples.specs.DamagedUsual.{damaged_indexes}
-use Rattle.cdf_examples.specs.Usual.{usual_image}
+use Rattle.cdf_examples.specs.Usual.{usual_image, usual_digest}
+use Rattle.cdf_examples.proofs.Digests.{usual_breaks}
 use Rattle.cdf_examples.proofs.Tests.{each_breaks}
-use Rattle.cdf_examples.proofs.UsualSealed.{usual_breaks}
 use Rattle.cdf_examples.proofs.damaged.usual_indexes.Goals as goal
 
-computed : (a b c d e f g h i j k l m n o p : ℕ) → each_breaks (usual_image ++ a ∷ b ∷ c ∷ d ∷ e ∷ f ∷ g ∷ h ∷ i ∷ j ∷ k ∷ l ∷ m ∷ n ∷ o ∷ p ∷ []) damaged_indexes ≡ true
+computed : each_breaks (usual_image ++ usual_digest) damaged_indexes ≡ true
 unfolding usual_image with_field with_name put tiles_from chain_on shape nodes_of lower_nodes leaves_of entry_leaves entries_on nodes_on levels_on nodes_rows used_rows
-computed a b c d e f g h i j k l m n o p = refl
+computed = refl
 
 pub returns : goal.returns
 returns c = record { verdicts = usual_breaks damaged_indexes computed }
