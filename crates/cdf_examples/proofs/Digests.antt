@@ -30,8 +30,8 @@ pub usual_sealed : sealed usual_image ≡ usual_image ++ usual_digest
 usual_sealed = usual_used ∙ ap (λ (t : List ℕ). usual_image ++ t) usual_digest_is
 
 -- changes of the usual file
-pub usual_breaks : (table : List (Change × Verdict)) → each_breaks (usual_image ++ usual_digest) table ≡ true → EachBreaks (sealed usual_image) table
-usual_breaks table computed = subst (λ (f : List ℕ). EachBreaks f table) (sym usual_sealed) (EachBreaks-by (usual_image ++ usual_digest) table computed)
+pub usual_breaks : (table : List (Change × Verdict)) → each_breaks (usual_image ++ usual_digest) usual_image table ≡ true → EachBreaks (sealed usual_image) table
+usual_breaks table computed = subst (λ (f : List ℕ). EachBreaks f table) (sym usual_sealed) (EachBreaks-by (usual_image ++ usual_digest) usual_image table computed)
 
 pub checksum_length : length (sealed checksum_image) ≡ 420
 unfolding checksum_image

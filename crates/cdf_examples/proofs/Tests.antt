@@ -1,6 +1,7 @@
 -- Rules that are computed: as truth values, and what follows of them.
-use Rattle.std.proofs.Common.{◌≡◌, ◌⊎◌, ℕ, zero, suc, Bool, true, false, not, ◌&&◌, ◌||◌, ◌==◌, List, [], ◌∷◌, map, refl, inl, inr}
+use Rattle.std.proofs.Common.{◌≡◌, ◌⊎◌, ℕ, zero, suc, Bool, true, false, not, ◌&&◌, ◌||◌, ◌==◌, List, [], ◌∷◌, map, refl, inl, inr, bytes_eq, subst, sym}
 use Rattle.std.proofs.lemmas.Bool.{eqb-true}
+use Rattle.cdf_format.proofs.Tests.{same_of_bytes_eq}
 use Rattle.cdf_format.specs.AttributeRules.{phase6}
 use Rattle.cdf_format.specs.ChainRules.{phase5}
 use Rattle.cdf_format.specs.FileRules.{phase0, phase1, phase2, phase3}
@@ -80,20 +81,25 @@ FirstBroken-by (rows ∷ phases) f b (suc phase) rule place e =
     let two = both (hold (lasting (rows f b))) (first_broken phases f b phase rule place) e in
     (Hold-by (lasting (rows f b)) two.0, FirstBroken-by phases f b phase rule place two.1)
 
-abbrev pub breaks : List ℕ → ℕ → ℕ → ℕ → Bool
-breaks f phase rule place = first_broken phases_to_ask f (image_of f) phase rule place
+-- The image is given beside the file, since it computes faster than when it is taken from it.
+abbrev pub breaks : List ℕ → List ℕ → ℕ → ℕ → ℕ → Bool
+breaks f b phase rule place = bytes_eq (image_of f) b && first_broken phases_to_ask f b phase rule place
 
-pub breaks_first : (f : List ℕ) (phase rule place : ℕ) → breaks f phase rule place ≡ true → BreaksFirst f phase rule place
-breaks_first f phase rule place e = FirstBroken-by phases_to_ask f (image_of f) phase rule place e
+pub breaks_first : (f b : List ℕ) (phase rule place : ℕ) → breaks f b phase rule place ≡ true → BreaksFirst f phase rule place
+breaks_first f b phase rule place e =
+    let two = both (bytes_eq (image_of f) b) (first_broken phases_to_ask f b phase rule place) e in
+    subst (λ (b : List ℕ). FirstBroken (map (λ rows. lasting (rows f b)) phases_to_ask) phase rule place) (sym (same_of_bytes_eq (image_of f) b two.0))
+    (FirstBroken-by phases_to_ask f b phase rule place two.1)
 
 -- ---- tables of changes
 
-abbrev pub each_breaks : List ℕ → List (Change × Verdict) → Bool
-each_breaks f [] = true
-each_breaks f ((change, v) ∷ table) = breaks (changed f change) v.phase v.rule v.place && each_breaks f table
+-- of a file and its image
+abbrev pub each_breaks : List ℕ → List ℕ → List (Change × Verdict) → Bool
+each_breaks f b [] = true
+each_breaks f b ((change, v) ∷ table) = breaks (changed f change) (changed b change) v.phase v.rule v.place && each_breaks f b table
 
-pub EachBreaks-by : (f : List ℕ) (table : List (Change × Verdict)) → each_breaks f table ≡ true → EachBreaks f table
-EachBreaks-by f [] e = tt
-EachBreaks-by f ((change, v) ∷ table) e =
-    let two = both (breaks (changed f change) v.phase v.rule v.place) (each_breaks f table) e in
-    (breaks_first (changed f change) v.phase v.rule v.place two.0, EachBreaks-by f table two.1)
+pub EachBreaks-by : (f b : List ℕ) (table : List (Change × Verdict)) → each_breaks f b table ≡ true → EachBreaks f table
+EachBreaks-by f b [] e = tt
+EachBreaks-by f b ((change, v) ∷ table) e =
+    let two = both (breaks (changed f change) (changed b change) v.phase v.rule v.place) (each_breaks f b table) e in
+    (breaks_first (changed f change) (changed b change) v.phase v.rule v.place two.0, EachBreaks-by f b table two.1)

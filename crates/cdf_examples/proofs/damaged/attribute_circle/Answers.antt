@@ -11,4 +11,4 @@ use Rattle.cdf_examples.proofs.damaged.attribute_circle.Goals as goal
 
 pub returns : goal.returns
 unfolding circle_file shape tiles_from chain_on nodes_of lower_nodes leaves_of entry_leaves entries_on nodes_on levels_on nodes_rows used_rows
-returns c = record { verdict = breaks_first circle_file 5 2 728 refl }
+returns c = record { verdict = breaks_first circle_file circle_file 5 2 728 refl }

@@ -15,4 +15,4 @@ use Rattle.cdf_examples.proofs.damaged.unused_circle.Goals as goal
 
 pub returns : goal.returns
 unfolding moved_file shape tiles_from chain_on nodes_of lower_nodes leaves_of entry_leaves entries_on nodes_on levels_on nodes_rows used_rows with_field put
-returns c = record { verdict = breaks_first (changed moved_file (Number 728 uir_next_uir 728)) 5 11 728 refl }
+returns c = record { verdict = breaks_first (changed moved_file (Number 728 uir_next_uir 728)) (changed moved_file (Number 728 uir_next_uir 728)) 5 11 728 refl }

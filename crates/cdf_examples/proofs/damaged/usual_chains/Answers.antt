@@ -13,7 +13,7 @@ use Rattle.cdf_examples.proofs.Digests.{usual_breaks}
 use Rattle.cdf_examples.proofs.Tests.{each_breaks}
 use Rattle.cdf_examples.proofs.damaged.usual_chains.Goals as goal
 
-computed : each_breaks (usual_image ++ usual_digest) damaged_chains ≡ true
+computed : each_breaks (usual_image ++ usual_digest) usual_image damaged_chains ≡ true
 unfolding usual_image with_field with_name put tiles_from chain_on shape nodes_of lower_nodes leaves_of entry_leaves entries_on nodes_on levels_on nodes_rows used_rows
 computed = refl
 
