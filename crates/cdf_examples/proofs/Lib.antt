@@ -1,2 +1,3 @@
 pub mod Tests
 pub mod Digests
+pub mod BytesKept

@@ -8,6 +8,7 @@ pub mod OneVariable
 pub mod RecordFiles
 pub mod SparseFiles
 pub mod DeletedVariable
+pub mod Spaces
 pub mod Moved
 pub mod Usual
 pub mod Damage

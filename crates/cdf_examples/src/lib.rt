@@ -6,6 +6,7 @@ pub mod damaged;
 pub mod new_files;
 pub mod packed;
 pub mod records;
+pub mod spaces;
 pub mod sparse_records;
 pub mod usual;
 pub mod variables;
