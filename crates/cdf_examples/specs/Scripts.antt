@@ -41,3 +41,7 @@ room_for b line = elim (parse (Some line)) [ Blank ↦ 0 | Asks c ↦ room b c |
 -- that command would make the image too large
 abbrev pub makes_too_large : List ℕ → List ℕ → Bool
 makes_too_large b line = elim (parse (Some line)) [ Blank ↦ false | Asks c ↦ is_too_large b c | Faulty fault ↦ false ]
+
+-- at least one line is refused
+abbrev pub is_refused : DataSet → List (List ℕ) → Bool
+is_refused d script = (run_script d script).refused

@@ -3,9 +3,11 @@
 
 pub mod attributes;
 pub mod damaged;
+pub mod layout;
 pub mod new_files;
 pub mod packed;
 pub mod records;
+pub mod scripts;
 pub mod spaces;
 pub mod sparse_records;
 pub mod usual;
