@@ -1,0 +1,3 @@
+pub mod Tests
+pub mod Digests
+pub mod BytesKept

@@ -1,0 +1,42 @@
+use Rattle.std.proofs.Common.{◌≡◌, ◌≢◌, ℕ, Bool, true, false, not, ◌&&◌, ◌||◌, ◌==◌, List, [], ◌∷◌, ◌++◌, refl, sym, ◌∙◌, ap, subst, inl, inr}
+use Rattle.std.proofs.lemmas.Bool.Decides.{eqb_tells}
+use Rattle.md5.specs.Md5.{md5, digest_bytes, hash_after, compress, rounds, block_words}
+use Rattle.cdf_base.specs.Bytes.{put}
+use Rattle.cdf_format.specs.Chains.{chain_on}
+use Rattle.cdf_format.specs.Index.{nodes_of, lower_nodes, leaves_of, entry_leaves}
+use Rattle.cdf_format.specs.IndexRules.{nodes_rows, used_rows}
+use Rattle.cdf_format.specs.IndexWalk.{entries_on, nodes_on, levels_on}
+use Rattle.cdf_format.specs.Sealed.{sealed}
+use Rattle.cdf_format.specs.Shape.{shape}
+use Rattle.cdf_format.specs.Tiles.{tiles_from}
+use Rattle.cdf_examples.specs.Asked.{BreaksFirst}
+use Rattle.cdf_examples.specs.ChecksumFile.{checksum_image, checksum_digest}
+use Rattle.cdf_examples.specs.Usual.{usual_image, usual_digest}
+use Rattle.cdf_examples.proofs.Digests.{checksum_sealed, usual_sealed}
+use Rattle.cdf_examples.proofs.Tests.{breaks, breaks_first}
+use Rattle.cdf_examples.proofs.damaged.digests.Goals as goal
+
+-- the verdict is right exactly where the byte is another
+told : (byte : ℕ) → breaks (put (usual_image ++ usual_digest) 2790 (byte ∷ [])) usual_image 10 1 2786 ≡ (not ((byte == 0x2a) && true) || false)
+unfolding usual_image put tiles_from chain_on shape nodes_of lower_nodes leaves_of entry_leaves entries_on nodes_on levels_on nodes_rows used_rows md5 digest_bytes hash_after compress rounds block_words
+told byte = refl
+
+other : (byte : ℕ) → byte ≢ 0x2a → (byte == 0x2a) ≡ false
+other byte differs = elim (eqb_tells byte 0x2a) [
+  | inl same ↦ absurd (differs same.1)
+  | inr apart ↦ apart.0
+]
+
+digest : (byte : ℕ) → byte ≢ 0x2a → BreaksFirst (put (sealed usual_image) 2790 (byte ∷ [])) 10 1 2786
+digest byte differs = subst (λ (f : List ℕ). BreaksFirst (put f 2790 (byte ∷ [])) 10 1 2786) (sym usual_sealed)
+    (breaks_first (put (usual_image ++ usual_digest) 2790 (byte ∷ [])) usual_image 10 1 2786 (told byte ∙ ap (λ (p : Bool). not (p && true) || false) (other byte differs)))
+
+bit : breaks (put (checksum_image ++ checksum_digest) 64 (0x0b ∷ [])) (put checksum_image 64 (0x0b ∷ [])) 10 1 404 ≡ true
+unfolding checksum_image put tiles_from chain_on shape nodes_of lower_nodes leaves_of entry_leaves entries_on nodes_on levels_on nodes_rows used_rows md5 digest_bytes hash_after compress rounds block_words
+bit = refl
+
+copyright : BreaksFirst (put (sealed checksum_image) 64 (0x0b ∷ [])) 10 1 404
+copyright = subst (λ (f : List ℕ). BreaksFirst (put f 64 (0x0b ∷ [])) 10 1 404) (sym checksum_sealed) (breaks_first (put (checksum_image ++ checksum_digest) 64 (0x0b ∷ [])) (put checksum_image 64 (0x0b ∷ [])) 10 1 404 bit)
+
+pub returns : goal.returns
+returns c = record { digest = digest; copyright = copyright }

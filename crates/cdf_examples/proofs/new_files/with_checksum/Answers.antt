@@ -1,0 +1,43 @@
+use Rattle.std.proofs.Common.{◌≡◌, true, ◌++◌, refl, sym, subst}
+use Rattle.md5.specs.Md5.{md5, digest_bytes, hash_after, compress, rounds, block_words}
+use Rattle.cdf_format.specs.Chains.{chain_on}
+use Rattle.std.specs.Fmt.{digits}
+use Rattle.cdf_format.specs.Content.{content}
+use Rattle.cdf_examples.specs.NewFile.{new_file}
+use Rattle.cdf_examples.specs.Scripts.{run_script}
+use Rattle.cdf_format.specs.Shape.{shape}
+use Rattle.cdf_format.specs.Tiles.{tiles_from}
+use Rattle.cdf_examples.specs.Asked.{lasting_phases, KeepsRules}
+use Rattle.cdf_examples.specs.ChecksumFile.{checksum_image, checksum_digest}
+use Rattle.cdf_examples.proofs.Digests.{checksum_sealed, checksum_digest_is, checksum_length}
+use Rattle.cdf_examples.proofs.Tests.{all_hold, keeps_rules}
+use Rattle.cdf_examples.proofs.new_files.with_checksum.Goals as goal
+
+kept : all_hold (lasting_phases (checksum_image ++ checksum_digest)) ≡ true
+unfolding checksum_image tiles_from chain_on shape md5 digest_bytes hash_after compress rounds block_words
+kept = refl
+
+pub returns-clause-digest : goal.returns-clause-digest
+returns-clause-digest c = checksum_digest_is
+
+pub returns-clause-length : goal.returns-clause-length
+returns-clause-length c = checksum_length
+
+pub returns-clause-content : goal.returns-clause-content
+unfolding checksum_image content shape tiles_from chain_on
+returns-clause-content c = refl
+
+pub returns-clause-rules : goal.returns-clause-rules
+returns-clause-rules c = subst KeepsRules (sym checksum_sealed) (keeps_rules (checksum_image ++ checksum_digest) kept)
+
+pub returns-clause-made : goal.returns-clause-made
+unfolding run_script
+returns-clause-made c = refl
+
+pub returns-clause-replies : goal.returns-clause-replies
+unfolding run_script digits
+returns-clause-replies c = refl
+
+pub returns-clause-room : goal.returns-clause-room
+unfolding new_file content shape tiles_from chain_on
+returns-clause-room c = refl

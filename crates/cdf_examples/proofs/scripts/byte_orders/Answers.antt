@@ -1,0 +1,8 @@
+use Rattle.std.proofs.Common.{refl}
+use Rattle.std.specs.Fmt.{digits}
+use Rattle.cdf_examples.specs.Scripts.{run_script}
+use Rattle.cdf_examples.proofs.scripts.byte_orders.Goals as goal
+
+pub returns : goal.returns
+unfolding run_script digits
+returns c = record { date = refl; real = refl; replies = refl }

@@ -1,0 +1,8 @@
+use Rattle.std.proofs.Common.{refl}
+use Rattle.std.specs.Fmt.{digits}
+use Rattle.cdf_examples.specs.Scripts.{run_script}
+use Rattle.cdf_examples.proofs.scripts.faults.Goals as goal
+
+pub returns : goal.returns
+unfolding run_script digits
+returns c = record { replies = refl; refused = refl }

@@ -1,0 +1,13 @@
+use Rattle.std.proofs.Common.{refl}
+use Rattle.cdf_format.specs.Chains.{chain_on}
+use Rattle.cdf_format.specs.Index.{nodes_of, lower_nodes, leaves_of, entry_leaves}
+use Rattle.cdf_format.specs.IndexRules.{nodes_rows, used_rows}
+use Rattle.cdf_format.specs.IndexWalk.{entries_on, nodes_on, levels_on}
+use Rattle.cdf_format.specs.Shape.{shape}
+use Rattle.cdf_format.specs.Tiles.{tiles_from}
+use Rattle.cdf_examples.specs.Usual.{usual_image}
+use Rattle.cdf_examples.proofs.usual.records.Goals as goal
+
+pub returns : goal.returns
+unfolding usual_image shape tiles_from chain_on nodes_of lower_nodes leaves_of entry_leaves entries_on nodes_on levels_on nodes_rows used_rows
+returns c = record { length = refl; eof = refl; shape = refl; owned = refl; space = refl }

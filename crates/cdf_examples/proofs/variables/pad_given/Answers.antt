@@ -1,0 +1,29 @@
+use Rattle.std.proofs.Common.{refl}
+use Rattle.cdf_format.specs.Blocks.{firsts_of, entry_firsts, cover}
+use Rattle.cdf_format.specs.Chains.{chain_on}
+use Rattle.cdf_format.specs.Content.{content}
+use Rattle.cdf_format.specs.Index.{nodes_of, lower_nodes, leaves_of, entry_leaves}
+use Rattle.cdf_format.specs.IndexRules.{nodes_rows, used_rows}
+use Rattle.cdf_format.specs.IndexWalk.{entries_on, nodes_on, levels_on}
+use Rattle.cdf_format.specs.Room.{entries_in, entries_below, widest, widest_below, nodes_above}
+use Rattle.cdf_format.specs.Shape.{shape}
+use Rattle.cdf_format.specs.Tiles.{tiles_from}
+use Rattle.cdf_examples.specs.Moved.{without_pad, with_pad}
+use Rattle.cdf_examples.specs.Scripts.{run_script}
+use Rattle.cdf_examples.proofs.Tests.{keeps_rules}
+use Rattle.cdf_examples.proofs.variables.pad_given.Goals as goal
+
+pub returns : goal.returns
+unfolding without_pad with_pad shape tiles_from chain_on content nodes_of lower_nodes leaves_of entry_leaves entries_on nodes_on levels_on nodes_rows used_rows run_script entries_in entries_below widest widest_below nodes_above firsts_of entry_firsts cover
+returns c = record {
+  before = refl;
+  rules_before = keeps_rules without_pad refl;
+  length = refl;
+  shape = refl;
+  space = refl;
+  content = refl;
+  rules = keeps_rules with_pad refl;
+  variables = refl;
+  made = refl;
+  room = refl;
+}

@@ -1,0 +1,47 @@
+-- What a script makes of a data set where all commands are there.
+use Rattle.std.specs.Prelude.{ℕ, ◌+◌, List, [], ◌∷◌, ◌++◌, Bool, false, Some}
+use Rattle.std.specs.List.{flat_map, fold}
+use Rattle.std.specs.declared.option.Option.{Option}
+use Rattle.cdf_model.specs.DataSet.{DataSet}
+use Rattle.cdf_model.specs.Grammar.{Parsed, Blank, Asks, Faulty, parse}
+use Rattle.cdf_model.specs.Lines.{lines}
+use Rattle.cdf_model.specs.Run.{Turn, answered, faulty, State, start, after}
+use Rattle.cdf_model.specs.Step.{step}
+use Rattle.cdf_format.specs.Locality.{is_too_large}
+use Rattle.cdf_format.specs.Room.{room}
+
+-- texts, each with a newline
+abbrev pub text_lines : List (List ℕ) → List ℕ
+text_lines texts = flat_map (λ text. text ++ 10 ∷ []) texts
+
+-- the line of number n
+abbrev pub full_turn : DataSet → ℕ → Parsed → Turn
+full_turn d n Blank = record { data_set = d; text = []; refused = false }
+full_turn d n (Asks c) = answered d n (step d c)
+full_turn d n (Faulty fault) = faulty d n fault
+
+abbrev pub full_advance : State → Option (List ℕ) → State
+full_advance s line = after s (full_turn s.data_set (s.count + 1) (parse line))
+
+-- the run of a script of these lines
+unfoldable pub run_script : DataSet → List (List ℕ) → State
+run_script d script = fold full_advance (start d) (lines (text_lines script))
+
+-- all replies, and the data set that is left
+abbrev pub replies : DataSet → List (List ℕ) → List ℕ
+replies d script = (run_script d script).text
+
+abbrev pub made_by : DataSet → List (List ℕ) → DataSet
+made_by d script = (run_script d script).data_set
+
+-- by how many bytes the command of a line may raise eof at most
+abbrev pub room_for : List ℕ → List ℕ → ℕ
+room_for b line = elim (parse (Some line)) [ Blank ↦ 0 | Asks c ↦ room b c | Faulty fault ↦ 0 ]
+
+-- that command would make the image too large
+abbrev pub makes_too_large : List ℕ → List ℕ → Bool
+makes_too_large b line = elim (parse (Some line)) [ Blank ↦ false | Asks c ↦ is_too_large b c | Faulty fault ↦ false ]
+
+-- at least one line is refused
+abbrev pub is_refused : DataSet → List (List ℕ) → Bool
+is_refused d script = (run_script d script).refused
