@@ -5,7 +5,7 @@ use Rattle.cdf_model.specs.declared.kinds.Sparse.TheVariants.{NoRule}
 use Rattle.cdf_model.specs.DataSet.{Variable}
 use Rattle.cdf_format.specs.Index.{Nodes, no_entry, block}
 use Rattle.cdf_format.specs.Owners.{Space}
-use Rattle.cdf_format.specs.Shape.{Shape}
+use Rattle.cdf_format.specs.Shape.{VariableShape, Shape}
 use Rattle.cdf_examples.specs.Building.{◌⧺◌, VdrFields, new_vdr, z_vdr, covering, vxr, vxr_of, vvr, uir}
 use Rattle.cdf_examples.specs.OneVariable.{heads, variable_shape, one_node}
 
@@ -73,6 +73,17 @@ records_data = t_data (pos 3) ((0, high_first 7) ∷ (1, pad_high_first) ∷ (2,
 abbrev pub records_space : Space
 records_space = record { eof = 916; used = 908; listed = 0; listed_bytes = 0; unlisted = 0; unlisted_bytes = 0 }
 
+-- ---- then `put-rec T 1 8`, which the block has room for
+
+unfoldable pub in_place_file : List ℕ
+in_place_file = heads 916 0 ⧺ z_vdr (t_with 3 776) ⧺ vvr (low_first 7 ⧺ low_first 8 ⧺ pad_low_first ⧺ low_first 9) ⧺ vxr (covering 0 3 748 ∷ [])
+
+abbrev pub in_place_data : Variable
+in_place_data = t_data (pos 3) ((0, high_first 7) ∷ (1, high_first 8) ∷ (2, pad_high_first) ∷ (3, high_first 9) ∷ [])
+
+abbrev pub t_shape : Nodes → VariableShape
+t_shape index = record { vdr = 404; index = index; cpr = [] }
+
 -- ---- the records put as 1 to 4, then `del-recs T 1 2`
 
 unfoldable pub full_file : List ℕ
@@ -101,3 +112,6 @@ reindexed_shape = variable_shape (8 ∷ 320 ∷ 404 ∷ 748 ∷ 776 ∷ 916 ∷ 
 
 abbrev pub reindexed_space : Space
 reindexed_space = record { eof = 1968; used = 1820; listed = 1; listed_bytes = 140; unlisted = 0; unlisted_bytes = 0 }
+
+abbrev pub deleted_index : Nodes
+deleted_index = one_node 776 7 (block 0 1 748 false no_entry)

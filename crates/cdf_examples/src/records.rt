@@ -4,12 +4,14 @@ ghost use Rattle.std.specs.Prelude.{◌≡◌, [], ◌∷◌, ◌++◌, length, 
 ghost use Rattle.cdf_format.specs.Blocks.{range, ranges_after_put, ranges_after_cut};
 ghost use Rattle.cdf_format.specs.Content.{content};
 ghost use Rattle.cdf_format.specs.Index.{no_node};
+ghost use Rattle.cdf_format.specs.Locality.{stays_in_place, Puts, Deletes};
 ghost use Rattle.cdf_format.specs.Owners.{owned, space_of};
 ghost use Rattle.cdf_format.specs.Shape.{shape};
+ghost use Rattle.cdf_model.specs.declared.kinds.Kind.TheVariants as kinds;
 ghost use Rattle.cdf_examples.specs.Asked.{KeepsRules};
 ghost use Rattle.cdf_examples.specs.NewFile.{new_file, new_data_set};
 ghost use Rattle.cdf_examples.specs.OneVariable.{variable_shape, owned_by_file, of_variable, of_none, with_variable};
-ghost use Rattle.cdf_examples.specs.RecordFiles.{unblocked_file, variable_file, t_data, records_file, records_block, records_index, records_shape, records_data, records_space, full_file, full_data, deleted_file, deleted_data, reindexed_file, reindexed_shape, reindexed_space};
+ghost use Rattle.cdf_examples.specs.RecordFiles.{unblocked_file, variable_file, t_data, records_file, records_block, records_index, records_shape, records_data, records_space, in_place_file, in_place_data, t_shape, full_file, full_data, deleted_file, deleted_data, deleted_index, reindexed_file, reindexed_shape, reindexed_space};
 ghost use Rattle.cdf_examples.specs.Scripts.{text_lines, replies, made_by, room_for, makes_too_large};
 
 /// A variable is made: its VDR has 344 bytes. A record far behind would make the file too large.
@@ -40,6 +42,14 @@ pub fn put_and_read()
     ensures room_in_place { room_for records_file (codes "put-rec T 1 8") ≡ 0 }
 {}
 
+/// A record is put where its block has room: nothing changes but MaxRec and its bytes.
+pub fn put_in_place()
+    ensures content { content in_place_file ≡ with_variable in_place_data }
+    ensures made { made_by (with_variable records_data) (codes "put-rec T 1 8" ∷ []) ≡ with_variable in_place_data }
+    ensures in_place { stays_in_place records_data (t_shape records_index) 1 ≡ true }
+    ensures puts { Puts records_file in_place_file kinds.Z records_data 1 (t_shape records_index) (t_shape records_index) }
+{}
+
 /// Two records in the middle go, and the last one follows the first.
 pub fn deleted()
     ensures full { content full_file ≡ with_variable full_data }
@@ -52,6 +62,7 @@ pub fn deleted()
     ensures put { made_by (content records_file) (codes "put-rec T 0 1" ∷ codes "put-rec T 1 2" ∷ codes "put-rec T 2 3" ∷ codes "put-rec T 3 4" ∷ []) ≡ with_variable full_data }
     ensures made { made_by (content full_file) (codes "del-recs T 1 2" ∷ []) ≡ with_variable deleted_data }
     ensures blocks { ranges_after_cut full_data records_index 1 2 ≡ range 0 1 ∷ [] }
+    ensures deletes { Deletes full_file deleted_file full_data 1 2 (t_shape records_index) (t_shape deleted_index) }
     ensures room { room_for full_file (codes "del-recs T 1 2") ≡ 256 }
 {}
 

@@ -26,5 +26,6 @@ returns c = record {
   put = refl;
   made = refl;
   blocks = refl;
+  deletes = record { ranges = refl; packed = λ packed. absurd cc };
   room = refl;
 }
