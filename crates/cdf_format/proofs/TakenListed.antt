@@ -46,7 +46,7 @@ distinct_apart [] rest m d i j = i
 distinct_apart (x ∷ front) rest m d (inl e) j = d.0 (subst (λ (y : ℕ). In y (front ++ rest)) e (In-append_right m front rest j))
 distinct_apart (x ∷ front) rest m d (inr i) j = distinct_apart front rest m d.1 i j
 
-leads_rest : (b : List ℕ) (link : ℕ) (front : List ℕ) (a : ℕ) (more : List ℕ) → Leads b link (front ++ a ∷ more) 0 → Leads b (next_of b a) more 0
+pub leads_rest : (b : List ℕ) (link : ℕ) (front : List ℕ) (a : ℕ) (more : List ℕ) → Leads b link (front ++ a ∷ more) 0 → Leads b (next_of b a) more 0
 leads_rest b link [] a more l = l.1
 leads_rest b link (m ∷ front) a more l = leads_rest b (next_of b m) front a more l.1
 

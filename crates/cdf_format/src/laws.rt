@@ -11,7 +11,7 @@ ghost use Rattle.cdf_format.specs.Alone.{IsSound, ChangedWithin, LeavesFinding, 
 ghost use Rattle.cdf_format.specs.Changed.{Touch, touch, Changed, Placed};
 ghost use Rattle.cdf_format.specs.Chains.{IsChain, Leads, is_a, is_in, is_linkable, next_of, chain};
 ghost use Rattle.cdf_format.specs.Content.{content, content_of, head_by_fields};
-ghost use Rattle.cdf_format.specs.Fields.{word, number, size_at, type_at, eof};
+ghost use Rattle.cdf_format.specs.Fields.{word, number, size_at, type_at, eof, gdr_offset};
 ghost use Rattle.cdf_format.specs.GoodImage.{IsGoodImage};
 ghost use Rattle.cdf_format.specs.Index.{Nodes, nodes_of};
 ghost use Rattle.cdf_format.specs.IndexOf.{IsIndex};
@@ -193,10 +193,11 @@ pub fn taken_stays_sound()
     ensures at_end { (b now : List ℕ) (s : Shape) (need : ℕ) → IsSound b s → NoneFit b need s.unused → 12 ≤ need → EndBytes b now s.gdr need → IsTaken b now s (with_space s (s.records ++ length b ∷ []) s.unused) need (length b) }
 {}
 
-/// A good image is good by its shape, and sound.
+/// A good image is good by its shape, and sound, and its eof is its length.
 pub fn good_has_shape()
     ensures good { (b : List ℕ) → Good b → IsGoodImage b (shape b) }
     ensures sound { (b : List ℕ) → Good b → IsSound b (shape b) }
+    ensures eof { (b : List ℕ) → Good b → eof b (gdr_offset b) ≡ length b }
 {}
 
 /// A command that only reads follows by leaving the image as it is.
