@@ -30,3 +30,4 @@ pub mod StaysSound
 pub mod Appended
 pub mod GoodLemmas
 pub mod IndexRedone
+pub mod NameRules
