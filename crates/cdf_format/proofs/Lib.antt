@@ -31,3 +31,4 @@ pub mod Appended
 pub mod GoodLemmas
 pub mod IndexRedone
 pub mod NameRules
+pub mod FirstRules
