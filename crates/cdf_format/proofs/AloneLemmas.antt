@@ -47,7 +47,7 @@ after_20 b place e = cases (is_in (type_at b place) linked_types) e
     cases true h = omega arith
     cases false h = absurd cc
 
-abbrev little_code : ℕ → Bool
+abbrev pub little_code : ℕ → Bool
 little_code code = elim (encoding_at code) [ None ↦ false | Some e ↦ e.little ]
 
 le_through : (x y z : ℕ) → x ≤ y → y ≤ z → x ≤ z

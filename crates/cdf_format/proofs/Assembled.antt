@@ -15,7 +15,7 @@ use Rattle.cdf_format.proofs.ShapeLemmas.{Each-split, content_is}
 use Rattle.cdf_format.proofs.AloneLemmas.{heads}
 use Rattle.cdf_format.proofs.OwnersApart.{unused_are_alone, unused_in}
 
-has_entries : (b now records : List ℕ) (as_ : List AttributeShape) → Each (AttributeStays b now records) as_ → Each (HasEntries now records) as_
+pub has_entries : (b now records : List ℕ) (as_ : List AttributeShape) → Each (AttributeStays b now records) as_ → Each (HasEntries now records) as_
 has_entries b now records [] h = tt
 has_entries b now records (a ∷ more) h = (h.0.0, has_entries b now records more h.1)
 
@@ -23,13 +23,36 @@ same_attributes : (b now records : List ℕ) (as_ : List AttributeShape) → Eac
 same_attributes b now records [] h = refl
 same_attributes b now records (a ∷ more) h = ap₂ (λ (x : Attribute) (xs : List Attribute). x ∷ xs) h.0.1 (same_attributes b now records more h.1)
 
-has_variables : (b now records : List ℕ) (vs : List VariableShape) → Each (VariableStays b now records) vs → Each (HasVariable now records) vs
+pub has_variables : (b now records : List ℕ) (vs : List VariableShape) → Each (VariableStays b now records) vs → Each (HasVariable now records) vs
 has_variables b now records [] h = tt
 has_variables b now records (v ∷ more) h = (h.0.0, has_variables b now records more h.1)
 
 same_variables : (b now records : List ℕ) (vs : List VariableShape) → Each (VariableStays b now records) vs → map (variable_of now) vs ≡ map (variable_of b) vs
 same_variables b now records [] h = refl
 same_variables b now records (v ∷ more) h = ap₂ (λ (x : Variable) (xs : List Variable). x ∷ xs) h.0.1 (same_variables b now records more h.1)
+
+pub content_by : (b now : List ℕ) (s : Shape) (records : List ℕ) → Each (AttributeStays b now records) s.attributes → Each (VariableStays b now records) (variables s) → FileStays b now s → content_of now s ≡ content_of b s
+content_by b now s records attributes of_variables file =
+    let parts = Each-split (VariableStays b now records) s.r_variables s.z_variables of_variables in
+    let a = same_attributes b now records s.attributes attributes in
+    let r = same_variables b now records s.r_variables parts.0 in
+    let z = same_variables b now records s.z_variables parts.1 in
+    let release = file.release_is in
+    let increment = file.increment_is in
+    let encoding = file.encoding_is in
+    let flags = file.flags_are in
+    let sizes = file.sizes_are in
+    λ i. record {
+      release = release i;
+      increment = increment i;
+      encoding = encoding i;
+      majority = majority_of (has_bit (flags i) 0);
+      md5 = has_bit (flags i) 2;
+      rdims = sizes i;
+      attributes = a i;
+      r_variables = r i;
+      z_variables = z i;
+    }
 
 module _ (b now : List ℕ) (s : Shape) (records : List ℕ) (stay : Leaves b now s records s.attributes (variables s)) where
   pub shape_stays : AreTiles now 8 (length now) records → ((m : ℕ) → In m records → is_record_type (type_at now m) ≡ true) → ((m : ℕ) → In m records → fixed_size (type_at now m) ≤ size_at now m)
@@ -50,27 +73,7 @@ module _ (b now : List ℕ) (s : Shape) (records : List ℕ) (stay : Leaves b no
   }
 
   pub content_stays : FileStays b now s → content_of now (with_records s records) ≡ content_of b s
-  content_stays file =
-      let parts = Each-split (VariableStays b now records) s.r_variables s.z_variables stay.variables_stay in
-      let a = same_attributes b now records s.attributes stay.attributes_stay in
-      let r = same_variables b now records s.r_variables parts.0 in
-      let z = same_variables b now records s.z_variables parts.1 in
-      let release = file.release_is in
-      let increment = file.increment_is in
-      let encoding = file.encoding_is in
-      let flags = file.flags_are in
-      let sizes = file.sizes_are in
-      λ i. record {
-        release = release i;
-        increment = increment i;
-        encoding = encoding i;
-        majority = majority_of (has_bit (flags i) 0);
-        md5 = has_bit (flags i) 2;
-        rdims = sizes i;
-        attributes = a i;
-        r_variables = r i;
-        z_variables = z i;
-      }
+  content_stays file = content_by b now s records stay.attributes_stay stay.variables_stay file
 
 -- a record of the old image in the new one
 pub is_a_kept : (b now records records' : List ℕ) (type place : ℕ) → SameHeads b now records records' → is_a b records type place ≡ true → is_a now records' type place ≡ true

@@ -32,3 +32,6 @@ pub mod GoodLemmas
 pub mod IndexRedone
 pub mod NameRules
 pub mod FirstRules
+pub mod UsedRecords
+pub mod SpaceKept
+pub mod Filled

@@ -104,7 +104,7 @@ module _ (b : List ℕ) (s : Shape) (sound : IsSound b s) where
   limit : (m : ℕ) → times m (file_records s) + (times m (all_attribute_records s) + (times m (all_variable_records s) + times m (unused_records b s))) ≤ 1
   limit m = subst (λ (n : ℕ). n ≤ 1) (owned-times b s m) (sound.not_twice m)
 
-  adrs_linked : Each (λ (a : AttributeShape). is_linkable b s.records adr_type a.adr ≡ true) s.attributes
+  pub adrs_linked : Each (λ (a : AttributeShape). is_linkable b s.records adr_type a.adr ≡ true) s.attributes
   adrs_linked = each_adr (λ m. is_linkable b s.records adr_type m ≡ true) s.attributes h.attribute_chain.linkable
 
   pub vdrs_stand : Each (λ (v : VariableShape). In v.vdr s.records) (variables s)

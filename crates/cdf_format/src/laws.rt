@@ -1,6 +1,6 @@
 //! What follows from the definitions, each law as the clause of a function.
 
-ghost use Rattle.std.specs.Prelude.{◌≡◌, ◌≢◌, ◌⊎◌, ◌≤◌, ◌<◌, ◌+◌, ℕ, List, [], ◌∷◌, ◌++◌, true, length, take, drop};
+ghost use Rattle.std.specs.Prelude.{◌≡◌, ◌≢◌, ◌⊎◌, ◌≤◌, ◌<◌, ◌+◌, ◌-◌, ℕ, List, [], ◌∷◌, ◌++◌, true, false, length, take, drop};
 ghost use Rattle.cdf_model.specs.declared.answer.Reply.{Reply};
 ghost use Rattle.cdf_model.specs.declared.command.Command.{Command};
 ghost use Rattle.cdf_model.specs.Answers.{Go};
@@ -8,7 +8,7 @@ ghost use Rattle.cdf_model.specs.DataSet.{head_of};
 ghost use Rattle.cdf_model.specs.Step.{step};
 ghost use Rattle.cdf_format.specs.Alone.{IsSound, ChangedWithin, LeavesFinding, FileStays, Leaves};
 ghost use Rattle.cdf_format.specs.Changed.{Touch, touch, Changed, Placed};
-ghost use Rattle.cdf_format.specs.Chains.{IsChain, Leads, is_linkable, chain};
+ghost use Rattle.cdf_format.specs.Chains.{IsChain, Leads, is_a, is_in, is_linkable, chain};
 ghost use Rattle.cdf_format.specs.Content.{content, content_of, head_by_fields};
 ghost use Rattle.cdf_format.specs.Fields.{word, number, size_at, type_at};
 ghost use Rattle.cdf_format.specs.GoodImage.{IsGoodImage};
@@ -20,7 +20,7 @@ ghost use Rattle.cdf_format.specs.Locality.{only_reads, Follows};
 ghost use Rattle.cdf_format.specs.Owners.{space_of, times, owned_records, attribute_records, variable_records, unused_records};
 ghost use Rattle.cdf_format.specs.Phases.{first_phases, image_phases, KeepsAllRules};
 ghost use Rattle.cdf_format.specs.Records.{Field};
-ghost use Rattle.cdf_format.specs.RecordTypes.{cdr_type, uir_type};
+ghost use Rattle.cdf_format.specs.RecordTypes.{cdr_type, uir_type, is_record_type, fixed_size};
 ghost use Rattle.cdf_format.specs.Rules.{AllHold};
 ghost use Rattle.cdf_format.specs.Sealed.{image_of, sealed};
 ghost use Rattle.cdf_format.specs.Shape.{AttributeShape, VariableShape, Shape, HasShape, variables, with_records, shape};
@@ -175,6 +175,11 @@ pub fn file_stays_sound()
 /// An unused record behind the last one, on no list, leaves a sound image sound; the CDR and the GDR may change beside, but for the fields that others are found and read by.
 pub fn appended_stays_sound()
     ensures { (b now : List ℕ) (s : Shape) (n : ℕ) (change : ChangedWithin b now (8 ∷ s.gdr ∷ [])) → IsSound b s → LeavesFinding b s change.touches → length now ≡ length b + n → size_at now (length b) ≡ n → type_at now (length b) ≡ uir_type → 12 ≤ n → IsSound now (with_records s (s.records ++ length b ∷ [])) }
+{}
+
+/// An unused record that is on no list is filled anew from its type on, with a type whose fixed part it has. A sound image stays sound then, with its shape and its content.
+pub fn filled_stays_sound()
+    ensures { (b now : List ℕ) (s : Shape) (place : ℕ) → IsSound b s → is_a b s.records uir_type place ≡ true → is_in place s.unused ≡ false → length now ≡ length b → Changed b now (touch place 8 (size_at b place - 8) ∷ []) → is_record_type (type_at now place) ≡ true → fixed_size (type_at now place) ≤ size_at b place → IsSound now s × (content now ≡ content b) }
 {}
 
 /// A good image is good by its shape, and sound.
