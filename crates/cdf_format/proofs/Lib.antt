@@ -35,3 +35,7 @@ pub mod FirstRules
 pub mod UsedRecords
 pub mod SpaceKept
 pub mod Filled
+pub mod AttributeRulesKept
+pub mod VariableRulesKept
+pub mod IndexRulesKept
+pub mod RulesKept
