@@ -39,3 +39,5 @@ pub mod AttributeRulesKept
 pub mod VariableRulesKept
 pub mod IndexRulesKept
 pub mod RulesKept
+pub mod Answering
+pub mod Keeping
