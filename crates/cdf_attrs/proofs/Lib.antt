@@ -1,0 +1,3 @@
+pub mod RenamedImage
+pub mod RenamedRules
+pub mod RenamedFollows
