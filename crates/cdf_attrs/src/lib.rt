@@ -2,5 +2,7 @@
 #![tactic(auto)]
 
 mod attrs;
+mod name;
+mod renaming;
 
 pub use attrs::Attrs;
