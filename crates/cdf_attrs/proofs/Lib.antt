@@ -4,3 +4,6 @@ pub mod RenamedFollows
 pub mod NamesChanged
 pub mod AttributeChain
 pub mod RenamingSteps
+pub mod AttributeWalk
+pub mod Causes
+pub mod ListedNames

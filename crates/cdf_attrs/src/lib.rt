@@ -2,6 +2,7 @@
 #![tactic(auto)]
 
 mod attrs;
+mod listing;
 mod name;
 mod renaming;
 
