@@ -35,3 +35,9 @@ pub mod FirstRules
 pub mod UsedRecords
 pub mod SpaceKept
 pub mod Filled
+pub mod AttributeRulesKept
+pub mod VariableRulesKept
+pub mod IndexRulesKept
+pub mod RulesKept
+pub mod Answering
+pub mod Keeping
