@@ -6,3 +6,8 @@ pub mod CreatingFollows
 pub mod RenamedImage
 pub mod RenamedRules
 pub mod RenamedFollows
+pub mod CreatingBody
+pub mod CreatingPlaced
+pub mod CreatingSteps
+pub mod CreatingRun
+pub mod CreatingAnswers

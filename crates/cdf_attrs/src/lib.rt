@@ -2,5 +2,7 @@
 #![tactic(auto)]
 
 mod attrs;
+mod creating;
+mod name;
 
 pub use attrs::Attrs;
