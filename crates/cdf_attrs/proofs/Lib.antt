@@ -11,3 +11,6 @@ pub mod CreatingPlaced
 pub mod CreatingSteps
 pub mod CreatingRun
 pub mod CreatingAnswers
+pub mod NamesChanged
+pub mod AttributeChain
+pub mod RenamingSteps

@@ -9,6 +9,7 @@ ghost use Rattle.cdf_model.specs.Names.{attribute_names};
 ghost use Rattle.cdf_model.specs.Sayable.{CanBeGiven};
 
 use crate::creating::create;
+use crate::renaming::rename;
 use cdf_area::{Area, AreaError};
 use cdf_model::{Command, Item, Outcome, Scope};
 use cdf_names::NameTable;
@@ -80,10 +81,7 @@ impl Attrs {
         ensures frame { A.frame area.new ≡ A.frame area.old }
         ensures cause { HasCauseOf AreaError.Fault (A.faults area.old) (A.faults area.new) result }
     {
-        let _ = area;
-        let _ = from;
-        let _ = to;
-        Err(AreaError::NoMemory)
+        rename(self.alloc, &mut self.names, area, from, to)
     }
 
     /// The attributes as `list` shows them, each with its number, its name and its scope.

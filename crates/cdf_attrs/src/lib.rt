@@ -4,5 +4,6 @@
 mod attrs;
 mod creating;
 mod name;
+mod renaming;
 
 pub use attrs::Attrs;
