@@ -1,6 +1,16 @@
+pub mod CreatingLink
+pub mod CreatingRules
+pub mod CreatingStart
+pub mod CreatingGood
+pub mod CreatingFollows
 pub mod RenamedImage
 pub mod RenamedRules
 pub mod RenamedFollows
+pub mod CreatingBody
+pub mod CreatingPlaced
+pub mod CreatingSteps
+pub mod CreatingRun
+pub mod CreatingAnswers
 pub mod NamesChanged
 pub mod AttributeChain
 pub mod RenamingSteps

@@ -8,6 +8,7 @@ ghost use Rattle.cdf_model.specs.Listing.{attribute_items};
 ghost use Rattle.cdf_model.specs.Names.{attribute_names};
 ghost use Rattle.cdf_model.specs.Sayable.{CanBeGiven};
 
+use crate::creating::create;
 use crate::listing::{names_of, read_items};
 use crate::renaming::rename;
 use cdf_area::{Area, AreaError};
@@ -61,10 +62,7 @@ impl Attrs {
         ensures frame { A.frame area.new ≡ A.frame area.old }
         ensures cause { HasCauseOf AreaError.Fault (A.faults area.old) (A.faults area.new) result }
     {
-        let _ = area;
-        let _ = name;
-        let _ = scope;
-        Err(AreaError::NoMemory)
+        create(self.alloc, &mut self.names, area, name, scope)
     }
 
     /// Gives an attribute another name: the command `rename-attr`. After an error a part of this may have been done in the area.

@@ -2,6 +2,7 @@
 #![tactic(auto)]
 
 mod attrs;
+mod creating;
 mod listing;
 mod name;
 mod renaming;

@@ -1,1 +1,2 @@
 pub mod ChainCalls
+pub mod Steps
