@@ -2,5 +2,9 @@
 #![tactic(auto)]
 
 mod attrs;
+mod creating;
+mod listing;
+mod name;
+mod renaming;
 
 pub use attrs::Attrs;

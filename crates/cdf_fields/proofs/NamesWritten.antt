@@ -25,7 +25,7 @@ stops (x ∷ name) k all =
     let rest = stops name k (All-tail (λ (byte : ℕ). byte ≢ 0) x name all) in
     rw (here, rest) (omega arith)
 
-before_zeros : (name : List ℕ) (k : ℕ) → All (λ (byte : ℕ). byte ≢ 0) name → before_first (λ (byte : ℕ). byte == 0) (name ++ replicate k 0) ≡ name
+pub before_zeros : (name : List ℕ) (k : ℕ) → All (λ (byte : ℕ). byte ≢ 0) name → before_first (λ (byte : ℕ). byte == 0) (name ++ replicate k 0) ≡ name
 before_zeros name k all = ap (λ (n : ℕ). take n (name ++ replicate k 0)) (stops name k all) ∙ take-append_seam name (replicate k 0)
 
 pub name_reads : (b : List ℕ) (place : ℕ) (f : Field) (name : List ℕ) → LiesIn b place f → length name ≤ f.width → All (λ (byte : ℕ). byte ≢ 0) name → name_in (with_name b place f name) place f ≡ name

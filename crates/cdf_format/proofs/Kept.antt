@@ -123,22 +123,22 @@ module _ (b now : List ℕ) (file : FileSame b now) (v : ℕ) (k : Kept b now v)
   place_fits : (pad_field b v).place ≤ size_at b v
   place_fits = less (pad_field b v).place (if has_pad b v then value_bytes b v else 0) (size_at b v) fits
 
-  long : 340 ≤ size_at b v
+  pub long : 340 ≤ size_at b v
   long = let p = pad_long (is_z b v) (dimensions_at b v) (value_bytes b v) in let q = place_fits in chain_le 340 (pad_field b v).place (size_at b v) p q
     where
       chain_le : (x y z : ℕ) → x ≤ y → y ≤ z → x ≤ z
       chain_le x y z p q = omega arith
 
-  long_z : is_z b v ≡ true → 344 + 8 * dimensions_at b v ≤ size_at b v
+  pub long_z : is_z b v ≡ true → 344 + 8 * dimensions_at b v ≤ size_at b v
   long_z e = subst (λ (x : ℕ). x ≤ size_at b v) (pad_place (is_z b v) (dimensions_at b v) (value_bytes b v) e) place_fits
 
-  z_same : is_z now v ≡ is_z b v
+  pub z_same : is_z now v ≡ is_z b v
   z_same = ap (λ (t : ℕ). t == z_vdr_type) (type_kept b now v k.same (let l = long in omega arith))
 
-  field_same : (f : Field) → f.place + f.width ≤ 340 → number now v f ≡ number b v f
+  pub field_same : (f : Field) → f.place + f.width ≤ 340 → number now v f ≡ number b v f
   field_same f h = number_kept b now v k.same f (let l = long in omega arith)
 
-  signed_same : (f : Field) → f.place + 4 ≤ 340 → integer4 now v f ≡ integer4 b v f
+  pub signed_same : (f : Field) → f.place + 4 ≤ 340 → integer4 now v f ≡ integer4 b v f
   signed_same f h = integer_kept b now v k.same f (let l = long in omega arith)
 
   dimensions_same : dimensions_at now v ≡ dimensions_at b v
@@ -147,7 +147,7 @@ module _ (b now : List ℕ) (file : FileSame b now) (v : ℕ) (k : Kept b now v)
       few : (d s : ℕ) → 344 + 8 * d ≤ s → 344 ≤ s
       few d s h = omega arith
 
-  dims_same : dims_at now v ≡ dims_at b v
+  pub dims_same : dims_at now v ≡ dims_at b v
   dims_same = if_same (is_z now v) (is_z b v) _ _ _ _ z_same
       (λ e. ap (map counted4) (ap (words now (v + 344)) dimensions_same ∙ words_kept b now v (v + size_at b v) k.same (v + 344) (dimensions_at b v) (omega arith) (let l = long_z e in room v (dimensions_at b v) (size_at b v) l)))
       (λ e. file.sizes)
@@ -170,22 +170,22 @@ module _ (b now : List ℕ) (file : FileSame b now) (v : ℕ) (k : Kept b now v)
       within : (v p d q s : ℕ) → p + 4 * d ≤ q → q ≤ s → v + p + 4 * d ≤ v + s
       within v p d q s h l = omega arith
 
-  type_same : type_of_variable now v ≡ type_of_variable b v
+  pub type_same : type_of_variable now v ≡ type_of_variable b v
   type_same = ap (λ (z : ℤ). unwrap_or (type_of z) Byte) (signed_same vdr_data_type (omega arith))
 
-  elems_same : elems_at now v ≡ elems_at b v
+  pub elems_same : elems_at now v ≡ elems_at b v
   elems_same = ap counted (signed_same vdr_num_elems (omega arith))
 
-  value_same : value_bytes now v ≡ value_bytes b v
+  pub value_same : value_bytes now v ≡ value_bytes b v
   value_same = let t = type_same in let n = elems_same in λ i. size_of (t i) * n i
 
-  record_same : record_bytes now v ≡ record_bytes b v
+  pub record_same : record_bytes now v ≡ record_bytes b v
   record_same = let t = type_same in let n = elems_same in let d = dims_same in let w = varys_same in λ i. record_size (t i) (n i) (d i) (w i)
 
-  flags_same : number now v vdr_flags ≡ number b v vdr_flags
+  pub flags_same : number now v vdr_flags ≡ number b v vdr_flags
   flags_same = field_same vdr_flags (omega arith)
 
-  pad_field_same : pad_field now v ≡ pad_field b v
+  pub pad_field_same : pad_field now v ≡ pad_field b v
   pad_field_same = let z = z_same in let d = dimensions_same in let w = value_same in λ i. if z i then vdr_z_pad_value (d i) (w i) else vdr_r_pad_value (d i) (w i)
 
   pad_same : pad_at now v ≡ pad_at b v
@@ -203,7 +203,7 @@ module _ (b now : List ℕ) (file : FileSame b now) (v : ℕ) (k : Kept b now v)
   sparse_same : sparse_at now v ≡ sparse_at b v
   sparse_same = let s = field_same vdr_s_records (omega arith) in λ i. if s i == 0 then NoRule else (if s i == 1 then Pad else Previous)
 
-  plain_same : (leaf : Leaf) → plain_size now v leaf ≡ plain_size b v leaf
+  pub plain_same : (leaf : Leaf) → plain_size now v leaf ≡ plain_size b v leaf
   plain_same leaf = let r = record_same in λ i. records_of_leaf leaf * r i
 
   bytes_same : (leaf : Leaf) → Kept b now leaf.place → BlockFits b v leaf leaf.packed → plain_bytes now v leaf ≡ plain_bytes b v leaf

@@ -42,3 +42,11 @@ pub mod Filled
 pub mod UnusedLists
 pub mod TakenListed
 pub mod TakenWays
+pub mod NameRules
+pub mod FirstRules
+pub mod AttributeRulesKept
+pub mod VariableRulesKept
+pub mod IndexRulesKept
+pub mod RulesKept
+pub mod Answering
+pub mod Keeping

@@ -1,0 +1,59 @@
+-- The chain of the attributes, as an image with a shape has it.
+use Rattle.std.proofs.Common.{◌≡◌, ℕ, zero, suc, ◌+◌, ◌≤◌, List, [], ◌∷◌, length, Option, Some, None, sym, ap, subst, ◌∙◌, arith, inl, inr}
+use Rattle.std.proofs.lemmas.List.{length-map}
+use Rattle.std.specs.List.{slice_get}
+use Rattle.cdf_model.specs.Names.{attribute_names}
+use Rattle.cdf_format.specs.Fields.{number, size_at, gdr_offset, LiesIn}
+use Rattle.cdf_format.specs.Records.{gdr_adr_head, adr_name}
+use Rattle.cdf_format.specs.RecordTypes.{adr_type, fixed_size}
+use Rattle.cdf_format.specs.Tiles.{In, tiles}
+use Rattle.cdf_format.specs.Walks.{records_of}
+use Rattle.cdf_format.specs.Chains.{IsChain, chain}
+use Rattle.cdf_format.specs.Content.{content}
+use Rattle.cdf_format.specs.Shape.{Shape, adrs, HasShape}
+use Rattle.cdf_format.proofs.Members.{length-le_from_distinct}
+use Rattle.cdf_format.proofs.TilesLemmas.{tile_lies, length_tiles}
+use Rattle.cdf_format.proofs.ChainsLemmas.{linkable-in, linkable-type}
+use Rattle.cdf_format.proofs.ShapeLemmas.{tiles_are, adr_chain_is}
+use Rattle.cdf_format.proofs.NameRules.{attribute_names_are}
+use Rattle.cdf_space.specs.ChainCalls.{HasChain, members_of}
+use Rattle.cdf_space.specs.declared.chain.Chain.TheVariants.{Attrs}
+
+module _ (b : List ℕ) (s : Shape) (h : HasShape b s) where
+  pub attribute_members : members_of b Attrs ≡ adrs s
+  attribute_members = ap (λ (ts : List ℕ). records_of (chain b ts adr_type (gdr_offset b) gdr_adr_head)) (tiles_are b s h) ∙ ap records_of (adr_chain_is b s h)
+
+  pub has_attribute_chain : HasChain b Attrs
+  has_attribute_chain =
+      let own : IsChain b s.records adr_type (number b s.gdr gdr_adr_head) (adrs s) = h.attribute_chain in
+      let at : IsChain b s.records adr_type (number b (gdr_offset b) gdr_adr_head) (adrs s) = subst (λ (g : ℕ). IsChain b s.records adr_type (number b g gdr_adr_head) (adrs s)) (sym h.gdr_is) own in
+      let tiled : IsChain b (tiles b) adr_type (number b (gdr_offset b) gdr_adr_head) (adrs s) = subst (λ (ts : List ℕ). IsChain b ts adr_type (number b (gdr_offset b) gdr_adr_head) (adrs s)) (sym (tiles_are b s h)) at in
+      subst (IsChain b (tiles b) adr_type (number b (gdr_offset b) gdr_adr_head)) (sym attribute_members) tiled
+
+  -- an ADR has room for its Name, and its bytes lie in the image
+  pub adr_inside : (m : ℕ) → In m (adrs s) → m + 324 ≤ length b
+  adr_inside m i =
+      let ok = h.attribute_chain.linkable m i in
+      let tile = linkable-in b s.records adr_type m ok in
+      let long : 324 ≤ size_at b m = subst (λ (t : ℕ). fixed_size t ≤ size_at b m) (linkable-type b s.records adr_type m ok) (h.fixed m tile) in
+      let high = (tile_lies b 8 (length b) s.records m h.tiled tile).high in
+      omega arith
+
+  -- so does its Name in an image that is the same
+  pub name_lies : (now : List ℕ) (m : ℕ) → In m (adrs s) → now ≡ b → LiesIn now m adr_name
+  name_lies now m i e = let l = adr_inside m i in let n : length now ≡ length b = ap length e in omega arith
+
+  -- there are fewer attributes than bytes
+  pub few_attributes : length (adrs s) + 8 ≤ length b
+  few_attributes =
+      let l = length-le_from_distinct (adrs s) s.records h.attribute_chain.once (λ m i. linkable-in b s.records adr_type m (h.attribute_chain.linkable m i)) in
+      let t = length_tiles b 8 (length b) s.records h.tiled in
+      omega arith
+
+  pub names_count : (names : List (List ℕ)) → names ≡ attribute_names (content b) → length names ≡ length (adrs s)
+  names_count names e = ap length (e ∙ attribute_names_are b s h) ∙ length-map (adrs s) _
+
+pub got-in : (xs : List ℕ) (n x : ℕ) → slice_get xs n ≡ Some x → In x xs
+got-in [] n x e = absurd cc
+got-in (y ∷ xs) zero x e = inl (sym (ap (λ (o : Option ℕ). elim o [ None ↦ x | Some z ↦ z ]) e))
+got-in (y ∷ xs) (suc n) x e = inr (got-in xs n x e)

@@ -1,0 +1,116 @@
+-- What the calls of a renaming come to.
+use Rattle.std.proofs.Common.{◌≡◌, ℕ, ◌+◌, ◌-◌, ◌<◌, ◌≤◌, List, [], ◌∷◌, ◌++◌, length, map, replicate, true, false, Option, Some, None, Result, Ok, Err, sym, ap, ap₂, subst, ◌∙◌, arith}
+use Rattle.std.proofs.lemmas.List.{length-append, length-replicate, length-map}
+use Rattle.std.specs.Prelude.{OnOk, slice_set}
+use Rattle.std.specs.List.{slice_get}
+use Rattle.cdf_model.specs.declared.answer.Outcome.TheVariants.{Done, Refused}
+use Rattle.cdf_model.specs.declared.answer.Reason.TheVariants as reasons
+use Rattle.cdf_model.specs.declared.answer.Reply.TheVariants as replies
+use Rattle.cdf_model.specs.declared.command.Command.TheVariants as commands
+use Rattle.cdf_model.specs.AttributeSteps.{with_attribute}
+use Rattle.cdf_model.specs.DataSet.{DataSet}
+use Rattle.cdf_model.specs.Limits.{image_limit}
+use Rattle.cdf_model.specs.Names.{is_bad_name, attribute_names, attribute_named}
+use Rattle.cdf_names.specs.Names.{has_name, number_of, last_to}
+use Rattle.cdf_format.specs.Fields.{LiesIn, with_name}
+use Rattle.cdf_format.specs.Records.{adr_name}
+use Rattle.cdf_format.specs.Content.{content, attribute_of}
+use Rattle.cdf_format.specs.Locality.{Answers}
+use Rattle.cdf_format.specs.Shape.{AttributeShape, adrs, shape}
+use Rattle.cdf_format.specs.WellFormed.{Good}
+use Rattle.cdf_format.proofs.BytesLemmas.{length-put}
+use Rattle.cdf_format.proofs.ChangedLemmas.{changed_put}
+use Rattle.cdf_format.proofs.GoodLemmas.{good_is_sound}
+use Rattle.cdf_format.proofs.ShapeLemmas.{content_is}
+use Rattle.cdf_format.proofs.Answering.{refused, gone}
+use Rattle.cdf_fields.proofs.NamesWritten.{name_reads}
+use Rattle.cdf_attrs.specs.Renaming.{Renamed}
+use Rattle.cdf_attrs.proofs.NamesChanged.{fine_is_short, fine_has_no_zeros, Cut, cut, got-middle, got-map, none_named, number_within, named_there, some_named, last_moved, renamed_names}
+use Rattle.cdf_attrs.proofs.AttributeChain.{few_attributes, names_count}
+use Rattle.cdf_attrs.proofs.RenamedImage.{content_now}
+use Rattle.cdf_attrs.proofs.RenamedFollows.{rename_missing, rename_bad, rename_taken, rename_goes, rename_follows}
+
+-- ---- the Name
+
+pub name_written : (b : List ℕ) (place : ℕ) (to : List ℕ) → LiesIn b place adr_name → is_bad_name to ≡ false → Renamed b (with_name b place adr_name to) place to
+unfolding with_name
+name_written b place to lies fine =
+    let short = fine_is_short to fine in
+    let xs = to ++ replicate (256 - length to) 0 in
+    let long : length xs ≡ 256 = omega (arith, length-append to (replicate (256 - length to) 0), length-replicate {A = ℕ} (256 - length to) 0) in
+    record {
+      name_is = name_reads b place adr_name to lies short (fine_has_no_zeros to fine);
+      length_stays = length-put b (place + 68) xs (omega arith);
+      changed = changed_put b place 68 256 xs long lies;
+    }
+
+-- the call that writes it
+pub written_renamed : {E : Type 0} (result : Result (Unit {0}) E) (b mid now : List ℕ) (places : List ℕ) (n place : ℕ) (to : List ℕ) → mid ≡ b → slice_get places n ≡ Some place → LiesIn b place adr_name → is_bad_name to ≡ false
+    → OnOk result (now ≡ with_name mid place adr_name to) → OnOk result ((adr : ℕ) → slice_get places n ≡ Some adr → Renamed b now adr to)
+written_renamed (Err e) b mid now places n place to same there lies fine w = tt
+written_renamed (Ok u) b mid now places n place to same there lies fine w =
+    let made : Renamed b now place to = subst (λ (x : List ℕ). Renamed b x place to) (sym (w ∙ ap (λ (x : List ℕ). with_name x place adr_name to) same)) (name_written b place to lies fine) in
+    λ adr found. subst (λ (x : ℕ). Renamed b now x to) (ap (λ (o : Option ℕ). elim o [ None ↦ place | Some z ↦ z ]) (sym there ∙ found)) made
+
+-- ---- the reasons
+
+module _ (b : List ℕ) (limit : ℕ) (names : List (List ℕ)) (from to : List ℕ) (names_are : names ≡ attribute_names (content b)) where
+  pub answers_missing : number_of names from ≡ None → Answers limit b (commands.RenameAttr from to) (Refused reasons.NoSuchAttr) b
+  answers_missing none = refused limit b (commands.RenameAttr from to) reasons.NoSuchAttr (rename_missing (content b) from to (none_named (content b) names from names_are none))
+
+  pub answers_bad : (n : ℕ) → number_of names from ≡ Some n → is_bad_name to ≡ true → Answers limit b (commands.RenameAttr from to) (Refused reasons.BadName) b
+  answers_bad n found bad = let a = some_named (content b) names from n names_are found in refused limit b (commands.RenameAttr from to) reasons.BadName (rename_bad (content b) from to n a.0 a.1 bad)
+
+  pub answers_taken : (n : ℕ) → number_of names from ≡ Some n → is_bad_name to ≡ false → has_name names to ≡ true → Answers limit b (commands.RenameAttr from to) (Refused reasons.NameTaken) b
+  answers_taken n found fine taken =
+      let a = some_named (content b) names from n names_are found in
+      refused limit b (commands.RenameAttr from to) reasons.NameTaken (rename_taken (content b) from to n a.0 a.1 fine (ap (λ (xs : List (List ℕ)). has_name xs to) (sym names_are) ∙ taken))
+
+  -- ---- a renaming that is done
+
+  -- the attribute that has a number
+  pub number_is_adr : Good b → (n : ℕ) → n < length names → n < length (adrs (shape b))
+  number_is_adr good n lt = let e = names_count b (shape b) (good_is_sound b good).has_shape names names_are in omega arith
+
+  -- there is room for one name more
+  pub few_names : Good b → length b ≤ limit → limit ≤ image_limit → length names < 4294967295
+  few_names good fits limited =
+      let h = (good_is_sound b good).has_shape in
+      let e = names_count b (shape b) h names names_are in
+      let few = few_attributes b (shape b) h in
+      omega arith
+
+  module _ (n : ℕ) (now : List ℕ) (good : Good b) (fits : length b ≤ limit) (short : length b ≤ image_limit) (found : number_of names from ≡ Some n) (fine : is_bad_name to ≡ false) (absent : has_name names to ≡ false)
+      (renamed : (adr : ℕ) → slice_get (adrs (shape b)) n ≡ Some adr → Renamed b now adr to) where
+    within : n < length names
+    within = number_within names from n found
+
+    parts : Cut (shape b).attributes n
+    parts = cut (shape b).attributes n (let l = number_is_adr good n within in omega (arith, length-map (shape b).attributes (λ (a : AttributeShape). a.adr)))
+
+    this : Renamed b now parts.own.adr to
+    this = renamed parts.own.adr (ap₂ (λ (as_ : List AttributeShape) (k : ℕ). slice_get (map (λ (a : AttributeShape). a.adr) as_) k) parts.is (sym parts.count) ∙ got-map (λ (a : AttributeShape). a.adr) (parts.before ++ parts.own ∷ parts.after) (length parts.before) parts.own (got-middle parts.before parts.own parts.after))
+
+    named : attribute_named (content b) from ≡ Some (length parts.before, attribute_of b parts.own)
+    named =
+        let there : slice_get (map (attribute_of b) (shape b).attributes) n ≡ Some (attribute_of b parts.own) =
+        ap₂ (λ (as_ : List AttributeShape) (k : ℕ). slice_get (map (attribute_of b) as_) k) parts.is (sym parts.count) ∙ got-map (attribute_of b) (parts.before ++ parts.own ∷ parts.after) (length parts.before) parts.own (got-middle parts.before parts.own parts.after) in
+        let whole : slice_get (content b).attributes n ≡ Some (attribute_of b parts.own) = ap (λ (d : DataSet). slice_get d.attributes n) (content_is b (shape b) (good_is_sound b good).has_shape) ∙ there in
+        named_there (content b) names from n (attribute_of b parts.own) names_are found whole ∙ ap (λ (k : ℕ). Some (k, attribute_of b parts.own)) (sym parts.count)
+
+    free : has_name (attribute_names (content b)) to ≡ false
+    free = ap (λ (xs : List (List ℕ)). has_name xs to) (sym names_are) ∙ absent
+
+    pub answers_done : Answers limit b (commands.RenameAttr from to) (Done replies.Plain) now
+    answers_done =
+        let d = with_attribute (content b) (length parts.before) (record (attribute_of b parts.own) { name = to }) in
+        gone limit b (commands.RenameAttr from to) d replies.Plain now (rename_goes (content b) from to (length parts.before) (attribute_of b parts.own) named fine free) (omega arith)
+        (rename_follows b now from to good parts.before parts.own parts.after parts.is this short named fine free)
+
+    pub names_done : last_to (names ++ to ∷ []) n ≡ attribute_names (content now)
+    names_done =
+        let made = content_now b now (shape b) (good_is_sound b good) parts.before parts.own parts.after parts.is to this in
+        last_moved names to n within
+        ∙ ap₂ (λ (xs : List (List ℕ)) (k : ℕ). slice_set xs k to) names_are (sym parts.count)
+        ∙ sym (renamed_names (content b) (length parts.before) (attribute_of b parts.own) to)
+        ∙ ap attribute_names (sym made)

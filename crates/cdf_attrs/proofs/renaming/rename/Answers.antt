@@ -1,0 +1,52 @@
+use Rattle.std.proofs.Common.{◌≡◌, ◌∙◌, ℕ, List, ◌++◌, ◌∷◌, [], ◌+◌, ap, sym, length, arith, length-append}
+use Rattle.std.specs.List.{remove}
+use Rattle.cdf_names.specs.Names.{last_to}
+use Rattle.cdf_attrs.proofs.NamesChanged.{number_within, last_removed}
+use Rattle.cdf_attrs.proofs.RenamingSteps.{answers_missing, answers_bad, answers_taken, number_is_adr, few_names, answers_done, names_done}
+use Rattle.cdf_attrs.proofs.renaming.rename.Goals as goal
+
+pub returns-in_default-clause-answers : goal.returns-in_default-clause-answers
+returns-in_default-clause-answers g c = answers_missing _ _ c.args.names.now c.args.from.now c.args.to.now c.requires.names (sym c.find.ensures.number ∙ c.in_default.is)
+
+pub returns-then-is_bad_name-clause-answers : goal.returns-then-is_bad_name-clause-answers
+returns-then-is_bad_name-clause-answers g c = answers_bad _ _ c.args.names.now c.args.from.now c.args.to.now c.requires.names c.in-Some.number (sym c.in-Some.ensures.number) (sym c.is_bad_name.ensures ∙ c.if-is_bad_name.true)
+
+pub returns-then-is_some-clause-answers : goal.returns-then-is_some-clause-answers
+returns-then-is_some-clause-answers g c =
+    answers_taken _ _ c.args.names.now c.args.from.now c.args.to.now c.requires.names c.in-Some.number (sym c.in-Some.ensures.number)
+    (sym c.is_bad_name.ensures ∙ c.if-is_bad_name.false)
+    (sym c.find-2.ensures.exact ∙ sym c.is_some.ensures ∙ c.if-is_some.true)
+
+pub add-requires-clause-few : goal.add-requires-clause-few
+add-requires-clause-few g c = few_names (g.A.Area.image c.args.area.now) _ c.args.names.now c.args.from.now c.args.to.now c.requires.names c.requires.good c.requires.fits c.requires.limit
+
+pub write_name-requires-clause-number : goal.write_name-requires-clause-number
+write_name-requires-clause-number g c =
+    number_is_adr (g.A.Area.image c.args.area.now) 0 c.args.names.now c.args.from.now c.args.to.now c.requires.names c.requires.good c.in-Some.number (number_within c.args.names.now c.args.from.now c.in-Some.number (sym c.in-Some.ensures.number))
+
+pub last_to-requires : goal.last_to-requires
+last_to-requires g c =
+    let lt = number_within c.args.names.now c.args.from.now c.in-Some.number (sym c.in-Some.ensures.number) in
+    let long : length c.add.new.self ≡ length c.args.names.now + 1 = ap length c.in_ok-add.ensures.added ∙ length-append c.args.names.now (c.new.result ∷ []) in
+    omega arith
+
+pub returns-in-Ok-clause-answers : goal.returns-in-Ok-clause-answers
+returns-in-Ok-clause-answers g c =
+    answers_done (g.A.Area.image c.args.area.now) _ c.args.names.now c.args.from.now c.args.to.now c.requires.names c.in-Some.number _ c.requires.good c.requires.fits (omega (arith, c.requires.fits, c.requires.limit)) (sym c.in-Some.ensures.number)
+    (sym c.is_bad_name.ensures ∙ c.if-is_bad_name.false)
+    (sym c.find-2.ensures.exact ∙ sym c.is_some.ensures ∙ c.if-is_some.false)
+    c.in-Ok.ensures.renamed
+
+pub returns-in-Ok-clause-names : goal.returns-in-Ok-clause-names
+returns-in-Ok-clause-names g c =
+    let name : c.new.result ≡ c.args.to.now = c.new.ensures ∙ c.in_ok-to_vec.ensures.items_if_clones_equal (λ x y e. e) in
+    c.last_to.ensures
+    ∙ ap (λ (xs : List (List ℕ)). last_to xs c.in-Some.number) (c.in_ok-add.ensures.added ∙ ap (λ (x : List ℕ). c.args.names.now ++ x ∷ []) name)
+    ∙ names_done (g.A.Area.image c.args.area.now) _ c.args.names.now c.args.from.now c.args.to.now c.requires.names c.in-Some.number _ c.requires.good c.requires.fits (omega (arith, c.requires.fits, c.requires.limit)) (sym c.in-Some.ensures.number)
+    (sym c.is_bad_name.ensures ∙ c.if-is_bad_name.false)
+    (sym c.find-2.ensures.exact ∙ sym c.is_some.ensures ∙ c.if-is_some.false)
+    c.in-Ok.ensures.renamed
+
+pub returns-in-Err-clause-stays : goal.returns-in-Err-clause-stays
+returns-in-Err-clause-stays g c =
+    c.remove.ensures ∙ ap (λ (xs : List (List ℕ)). remove xs c.len-last.result) c.in_ok-add.ensures.added ∙ last_removed c.args.names.now c.new.result c.len-last.result c.len-last.ensures.count
