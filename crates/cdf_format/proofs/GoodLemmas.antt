@@ -1,9 +1,12 @@
 -- A good image is good by its shape, and a command that only reads leaves it.
-use Rattle.std.proofs.Common.{◌≡◌, ℕ, ◌+◌, ◌≤◌, List, [], ◌∷◌, length, map, true, refl, subst, arith, inl, inr}
+use Rattle.std.proofs.Common.{◌≡◌, ℕ, ◌+◌, ◌≤◌, List, [], ◌∷◌, length, map, true, Option, Some, refl, sym, ap, subst, ◌∙◌, arith, inl, inr}
 use Rattle.std.proofs.lemmas.List.{length-append}
+use Rattle.std.specs.List.{slice_get}
+use Rattle.std.specs.Option.{unwrap_or}
 use Rattle.cdf_model.specs.declared.answer.Reply.{Reply}
 use Rattle.cdf_model.specs.declared.command.Command.{Command}
 use Rattle.cdf_model.specs.declared.command.Command.TheVariants as commands
+use Rattle.cdf_model.specs.declared.kinds.EntryKind.{EntryKind}
 use Rattle.cdf_model.specs.Answers.{Go}
 use Rattle.cdf_model.specs.Step.{step}
 use Rattle.cdf_format.specs.Allowances.{Allowance, Anything, Only, Keeps}
@@ -11,13 +14,20 @@ use Rattle.cdf_format.specs.VariableAllowances.{allowance, AllKeep}
 use Rattle.cdf_format.specs.Alone.{IsSound}
 use Rattle.cdf_format.specs.Content.{content}
 use Rattle.cdf_format.specs.GoodImage.{IsGoodImage}
-use Rattle.cdf_format.specs.Locality.{only_reads, BlocksFollow, ReservedStay, Follows}
+use Rattle.cdf_format.specs.BlocksFollow.{BlocksFollow}
+use Rattle.cdf_format.specs.Fields.{integer4}
+use Rattle.cdf_format.specs.FieldsFollow.{max_field, FieldsFollow}
+use Rattle.cdf_format.specs.Locality.{only_reads, Follows}
+use Rattle.cdf_format.specs.NodesFollow.{NodesFollow}
 use Rattle.cdf_format.specs.Owners.{Owner, owned}
 use Rattle.cdf_format.specs.Phases.{KeepsAllRules}
+use Rattle.cdf_format.specs.RecordsFollow.{RecordsFollow}
 use Rattle.cdf_format.specs.Sealed.{trailer, trailer_length, sealed}
-use Rattle.cdf_format.specs.Shape.{shape}
+use Rattle.cdf_format.specs.Shape.{AttributeShape, shape}
+use Rattle.cdf_format.specs.SpaceFollows.{SpaceLeft, space_before, HasLeft, SpaceFollows}
 use Rattle.cdf_format.specs.Tiles.{In}
 use Rattle.cdf_format.specs.WellFormed.{Good}
+use Rattle.cdf_format.proofs.ListStays.{back_links_stay}
 use Rattle.cdf_format.proofs.Tests.{le_of}
 use Rattle.cdf_format.proofs.ImageOf.{short_trailer, trailer_is, sound_image_of, image_of-sealed}
 use Rattle.cdf_format.proofs.Owning.{owned_stand}
@@ -50,6 +60,8 @@ all_keep : (b : List ℕ) (c : Command) (takes : List (ℕ × ℕ)) (list : List
 all_keep b c takes [] h = tt
 all_keep b c takes ((place, owner) ∷ more) h = (keeps_itself b place (allowance b (content b) (shape b) c takes place owner) (h place (inl refl)), all_keep b c takes more (λ m i. h m (inr i)))
 
+-- ---- what a command that only reads leaves
+
 no_blocks : (b : List ℕ) (c : Command) → only_reads c ≡ true → BlocksFollow b b c
 no_blocks b commands.Info e = tt
 no_blocks b commands.List e = tt
@@ -58,13 +70,48 @@ no_blocks b (commands.GetRec var rec) e = tt
 no_blocks b (commands.GetVal var rec index) e = tt
 no_blocks b c e = absurd cc
 
-no_descriptor : (b : List ℕ) (c : Command) → only_reads c ≡ true → ReservedStay b b c
-no_descriptor b commands.Info e = tt
-no_descriptor b commands.List e = tt
-no_descriptor b (commands.GetEntry attr kind num) e = tt
-no_descriptor b (commands.GetRec var rec) e = tt
-no_descriptor b (commands.GetVal var rec index) e = tt
-no_descriptor b c e = absurd cc
+no_nodes : (b : List ℕ) (c : Command) → only_reads c ≡ true → NodesFollow b b c
+no_nodes b commands.Info e = tt
+no_nodes b commands.List e = tt
+no_nodes b (commands.GetEntry attr kind num) e = tt
+no_nodes b (commands.GetRec var rec) e = tt
+no_nodes b (commands.GetVal var rec index) e = tt
+no_nodes b c e = absurd cc
+
+no_records : (b : List ℕ) (c : Command) → only_reads c ≡ true → RecordsFollow b b c
+no_records b commands.Info e = record { new = tt; named = tt; moved = tt; no_strings = tt }
+no_records b commands.List e = record { new = tt; named = tt; moved = tt; no_strings = tt }
+no_records b (commands.GetEntry attr kind num) e = record { new = tt; named = tt; moved = tt; no_strings = tt }
+no_records b (commands.GetRec var rec) e = record { new = tt; named = tt; moved = tt; no_strings = tt }
+no_records b (commands.GetVal var rec index) e = record { new = tt; named = tt; moved = tt; no_strings = tt }
+no_records b c e = absurd cc
+
+-- two that one place of a list has are one
+one_shape : (as_ : List AttributeShape) (n : ℕ) (a a' : AttributeShape) → slice_get as_ n ≡ Some a → slice_get as_ n ≡ Some a' → a ≡ a'
+one_shape as_ n a a' e e' = ap (λ (o : Option AttributeShape). unwrap_or o a) (sym e ∙ e')
+
+module _ (b : List ℕ) where
+  same_greatest : (n : ℕ) (a a' : AttributeShape) (kind : EntryKind) → slice_get (shape b).attributes n ≡ Some a → slice_get (shape b).attributes n ≡ Some a' → integer4 b a'.adr (max_field kind) ≡ integer4 b a.adr (max_field kind)
+  same_greatest n a a' kind e e' = ap (λ (x : AttributeShape). integer4 b x.adr (max_field kind)) (sym (one_shape (shape b).attributes n a a' e e'))
+
+  no_fields : (c : Command) → only_reads c ≡ true → FieldsFollow b b c
+  no_fields commands.Info e = record { flags_are = refl; r_max_rec_is = refl; greatest_are = same_greatest; numbers_fall = tt; descriptor = λ name found v v' kept var. absurd cc }
+  no_fields commands.List e = record { flags_are = refl; r_max_rec_is = refl; greatest_are = same_greatest; numbers_fall = tt; descriptor = λ name found v v' kept var. absurd cc }
+  no_fields (commands.GetEntry attr kind num) e = record { flags_are = refl; r_max_rec_is = refl; greatest_are = same_greatest; numbers_fall = tt; descriptor = λ name found v v' kept var. absurd cc }
+  no_fields (commands.GetRec var rec) e = record { flags_are = refl; r_max_rec_is = refl; greatest_are = same_greatest; numbers_fall = tt; descriptor = λ name found v v' kept var. absurd cc }
+  no_fields (commands.GetVal var rec index) e = record { flags_are = refl; r_max_rec_is = refl; greatest_are = same_greatest; numbers_fall = tt; descriptor = λ name found v v' kept var. absurd cc }
+  no_fields c e = absurd cc
+
+  has_before : (left : SpaceLeft) → Some (space_before b) ≡ Some left → HasLeft b left
+  has_before left e = subst (HasLeft b) (ap (λ (o : Option SpaceLeft). unwrap_or o (space_before b)) e) (record { list_is = refl; end_is = refl })
+
+  no_space : (c : Command) → only_reads c ≡ true → SpaceFollows b b c
+  no_space commands.Info e = has_before
+  no_space commands.List e = has_before
+  no_space (commands.GetEntry attr kind num) e = has_before
+  no_space (commands.GetRec var rec) e = has_before
+  no_space (commands.GetVal var rec index) e = has_before
+  no_space c e = absurd cc
 
 pub reading_follows : (b : List ℕ) (c : Command) (reply : Reply) → only_reads c ≡ true → step (content b) c ≡ Go (content b) reply → Good b → Follows b c b
 reading_follows b c reply reads goes good = record {
@@ -80,5 +127,9 @@ reading_follows b c reply reads goes good = record {
   takes_within = omega arith;
   keeps = all_keep b c [] (owned b (shape b)) (owned_stand b (shape b) (good_by_its_shape b good));
   blocks = no_blocks b c reads;
-  reserved = no_descriptor b c reads;
+  nodes = no_nodes b c reads;
+  fields = no_fields b c reads;
+  records = no_records b c reads;
+  list = record { left_stay = refl; back = back_links_stay b b (shape b).unused (λ uir i. refl) };
+  space = no_space b c reads;
 }

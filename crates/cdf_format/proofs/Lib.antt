@@ -28,7 +28,10 @@ pub mod Assembled
 pub mod SoundKept
 pub mod StaysSound
 pub mod Appended
+pub mod ListStays
+pub mod TakenList
 pub mod GoodLemmas
+pub mod NewFields
 pub mod IndexRedone
 pub mod NameRules
 pub mod FirstRules

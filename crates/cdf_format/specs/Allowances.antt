@@ -1,5 +1,5 @@
--- What a command may change of each record that an image has: of records that it does not concern, links and numbers that follow from what it adds or takes away.
-use Rattle.std.specs.Prelude.{◌≡◌, ◌⊎◌, ◌<◌, ◌≤◌, ℕ, ◌+◌, List, [], ◌∷◌, Bool, true, false, ◌==◌, if◌then◌else◌, Some, None}
+-- What a command may change of each record that an image has: of records that it does not concern, links and numbers that follow from what it adds or takes away (own).
+use Rattle.std.specs.Prelude.{◌≡◌, ◌⊎◌, ◌<◌, ◌≤◌, ℕ, ◌+◌, List, [], ◌∷◌, ◌++◌, Bool, true, false, not, ◌&&◌, ◌==◌, nat_lt, if◌then◌else◌, Some, None}
 use Rattle.std.specs.List.{slice_get}
 use Rattle.cdf_model.specs.declared.command.Command.{Command}
 use Rattle.cdf_model.specs.declared.command.Command.TheVariants as commands
@@ -11,7 +11,7 @@ use Rattle.cdf_model.specs.AttributeSteps.{is_global}
 use Rattle.cdf_model.specs.DataSet.{DataSet}
 use Rattle.cdf_model.specs.Names.{attribute_named, variable_named}
 use Rattle.cdf_format.specs.Changed.{byte}
-use Rattle.cdf_format.specs.Chains.{next_field}
+use Rattle.cdf_format.specs.Chains.{next_field, next_of}
 use Rattle.cdf_format.specs.Fields.{number, size_at, type_at}
 use Rattle.cdf_format.specs.Records.{Field, cdr_gdr_offset, cdr_encoding, cdr_flags, gdr_r_vdr_head, gdr_z_vdr_head, gdr_adr_head, gdr_eof, gdr_nr_vars, gdr_num_attr, gdr_r_max_rec, gdr_nz_vars, gdr_uir_head, adr_agr_edr_head, adr_num, adr_ngr_entries, adr_max_gr_entry, adr_az_edr_head, adr_nz_entries, adr_max_z_entry, adr_name, aedr_attr_num, aedr_num}
 use Rattle.cdf_format.specs.RecordTypes.{adr_type, agr_edr_type, az_edr_type}
@@ -106,6 +106,13 @@ is_attribute d name n = elim (attribute_named d name) [ None ↦ false | Some fo
 abbrev pub is_global_attribute : DataSet → ℕ → Bool
 is_global_attribute d n = elim (slice_get d.attributes n) [ None ↦ false | Some a ↦ is_global a.scope ]
 
+-- of an entry that stays where the one of a number goes: its next field if it stands before that one, and its number if that is greater
+abbrev pub fields_beside : List ℕ → ℕ → ℕ → List Field
+fields_beside b place num =
+    (if not (next_of b place == 0) && (number b (next_of b place) aedr_num == num) then next_field ∷ [] else [])
+    ++ (if nat_lt num (number b place aedr_num) then aedr_num ∷ [] else [])
+
+-- of the record at a place, which the attribute of number n has; of the ADR the head, the count and the greatest number of a chain whose entries change
 abbrev pub attribute_allowance : List ℕ → DataSet → Command → ℕ → ℕ → Allowance
 attribute_allowance b d (commands.Attr name scope) place n = only_of b place adr_type (next_field ∷ [])
 attribute_allowance b d (commands.RenameAttr from to) place n = if is_attribute d from n then only_of b place adr_type (adr_name ∷ []) else Only []
@@ -114,6 +121,6 @@ attribute_allowance b d (commands.PutEntry attr kind num t words) place n = if i
 attribute_allowance b d (commands.DelEntry attr kind num) place n = if is_attribute d attr n then entry_allowance b place kind num (next_field ∷ []) else Only []
 attribute_allowance b d (commands.DelVar name) place n = elim (variable_named d name) [
   | None ↦ Only []
-  | Some found ↦ if is_global_attribute d n then Only [] else entry_allowance b place (kind_of_entries found.kind) found.number (next_field ∷ aedr_num ∷ [])
+  | Some found ↦ if is_global_attribute d n then Only [] else entry_allowance b place (kind_of_entries found.kind) found.number (fields_beside b place found.number)
 ]
 attribute_allowance b d c place n = Only []

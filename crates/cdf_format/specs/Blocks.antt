@@ -1,4 +1,4 @@
--- Which records the blocks of a variable hold, before and after a command (CDF Internal Format Description, "Variable Index Record"; CDF User's Guide, Variables: blocking factor).
+-- Which records the blocks of a variable hold, before and after a command (CDF Internal Format Description, "Variable Index Record"; CDF User's Guide, Variables: blocking factor; own: 64 records where it is not positive, 1,048,576 bytes at most).
 use Rattle.std.specs.Prelude.{ℕ, ℤ, pos, negsuc, zero, suc, ◌+◌, ◌-◌, ◌/◌, min, max, List, [], ◌∷◌, ◌++◌, map, Bool, true, false, ◌&&◌, nat_lt, nat_le, find, if◌then◌else◌, Some, None}
 use Rattle.std.specs.List.{filter, flat_map, fold, sum}
 use Rattle.cdf_model.specs.declared.kinds.Sparse.{Sparse}
@@ -61,7 +61,7 @@ unfoldable mutual
 abbrev pub next_first : ℕ → List ℕ → ℕ
 next_first n firsts = fold min (record_number_limit + 1) (filter (nat_lt n) firsts)
 
--- A block that is made for record n: up to MaxRec it holds this one alone; past it a block count, but none from the next First on.
+-- A block that is made for record n: up to MaxRec it holds this one alone; past MaxRec it holds as many as `block_count` says, but ends before the next First of any entry.
 abbrev pub new_range : Variable → List ℕ → ℕ → Range
 new_range v firsts n = if nat_lt n (extent v.max_rec) then range n n else range n (min (n + block_count v) (next_first n firsts) - 1)
 
@@ -90,7 +90,7 @@ left_of first last r =
 abbrev pub cut_open : ℕ → ℕ → List Range → List Range
 cut_open first last ranges = flat_map (left_of first last) ranges
 
--- they go, and later numbers fall by as many as they were
+-- They go, and later numbers fall by as many numbers as stand from the first to the last; one that goes counts as the first.
 abbrev pub fallen : ℕ → ℕ → ℕ → ℕ
 fallen first last n = if nat_lt n first then n else (if nat_le n last then first else n - (last + 1 - first))
 
@@ -108,7 +108,7 @@ is_sparse rule = true
 abbrev pub first_written : Variable → ℕ → ℕ
 first_written v n = if is_sparse v.sparse then n else min n (extent v.max_rec)
 
--- under a rule, a record past MaxRec + 1 first cuts what is past MaxRec
+-- Under a rule, a record past MaxRec + 1 first cuts what is past MaxRec: else records that a block covers past MaxRec would become stored.
 abbrev pub is_cut_first : Variable → ℕ → Bool
 is_cut_first v n = is_sparse v.sparse && nat_lt (extent v.max_rec) n
 

@@ -1,4 +1,4 @@
--- Which bytes a step may have changed.
+-- Which bytes a step may have changed (own).
 use Rattle.std.specs.Prelude.{◌≡◌, ◌⊎◌, ◌<◌, ◌≤◌, ℕ, ◌+◌, List, [], ◌∷◌, length, slice_index}
 use Rattle.cdf_format.specs.Fields.{size_at}
 use Rattle.cdf_format.specs.Records.{Field}
@@ -23,7 +23,7 @@ touch tile place width = record { tile = tile; place = place; width = width }
 abbrev pub touched_field : ℕ → Field → Touch
 touched_field tile f = touch tile f.place f.width
 
--- a byte is none of these
+-- no touch has the byte at this place
 abbrev pub Outside : List Touch → ℕ → Type 0
 Outside [] place = Unit {0}
 Outside (t ∷ more) place = ((place < t.tile + t.place) ⊎ (t.tile + t.place + t.width ≤ place)) × Outside more place

@@ -23,7 +23,7 @@ abbrev pub majority_of : Bool → Majority
 majority_of true = Row
 majority_of false = Column
 
--- Scope, 1 to 4
+-- Scope: 1 global, 2 variable, 3 global assumed, 4 variable assumed; rule 6.3 refuses each other number, which counts as 4 here
 abbrev pub scope_of : ℕ → Scope
 scope_of n = if n == 1 then scopes.Global else (if n == 2 then scopes.Variable else (if n == 3 then scopes.GlobalAssumed else scopes.VariableAssumed))
 

@@ -1,4 +1,4 @@
--- What the rules of phases 4 to 9 come to for an image with a shape: the links are those of the shape, and each rule that follows no link holds of its records.
+-- What the rules of phases 4 to 9 come to for an image with a shape: the links are those of the shape, and each rule that follows no link holds of its records (own).
 use Rattle.std.specs.Prelude.{ℕ, List, [], ◌++◌}
 use Rattle.std.specs.List.{flat_map}
 use Rattle.cdf_format.specs.NotRead.{unread_type}

@@ -1,4 +1,4 @@
--- The index that an image has, as a relation: each link of it leads to a VXR, none is met twice, and there are at most 8 levels (CDF Internal Format Description, "Variable Index Record": VXRnext, Offset).
+-- The index that an image has, as a relation: each link of it leads to a VXR, none is met twice (CDF Internal Format Description, "Variable Index Record": VXRnext, Offset; own: at most 8 levels).
 use Rattle.std.specs.Prelude.{◌≡◌, ℕ, zero, suc, List, true, false, ◌==◌}
 use Rattle.cdf_format.specs.Fields.{type_at}
 use Rattle.cdf_format.specs.RecordTypes.{vxr_type, cvvr_type}

@@ -1,4 +1,4 @@
--- The index of an image, computed: a walk along its links.
+-- The index of an image, computed: a walk along its links (CDF Internal Format Description, "Variable Index Record").
 use Rattle.std.specs.Prelude.{ℕ, zero, suc, List, [], ◌∷◌, ◌++◌, length, not, ◌&&◌, ◌==◌, if◌then◌else◌}
 use Rattle.cdf_format.specs.Fields.{number, type_at}
 use Rattle.cdf_format.specs.Records.{Field}
@@ -15,7 +15,7 @@ abbrev pub and_then : {A B : Type 0} → Met A → (List ℕ → A → Met B) �
 and_then (met seen a) more = more seen a
 and_then (lost place) more = lost place
 
--- the used entries of a node from number i on, so many of them; those that name a VXR lead on
+-- the used entries of a node from number i on, so many of them; those that name a VXR lead on, and `below` walks the lower chain, one level down
 unfoldable pub entries_on : (List ℕ → ℕ → ℕ → Met Nodes) → List ℕ → List ℕ → ℕ → ℕ → ℕ → List ℕ → Met Entries
 entries_on below b tiles place i zero seen = met seen no_entry
 entries_on below b tiles place i (suc left) seen =
@@ -23,7 +23,7 @@ entries_on below b tiles place i (suc left) seen =
     then and_then (below seen place (offset_at b place i)) (λ seen nodes. and_then (entries_on below b tiles place (suc i) left seen) (λ seen entries. met seen (lower (first_at b place i) (last_at b place i) nodes entries)))
     else and_then (entries_on below b tiles place (suc i) left seen) (λ seen entries. met seen (block (first_at b place i) (last_at b place i) (offset_at b place i) (type_at b (offset_at b place i) == cvvr_type) entries))
 
--- the nodes of a chain from a link in the record `holder`, at most so many; each link is 0 or leads to a VXR that was not met before
+-- the nodes of a chain from a link in the record `holder`, at most so many, with `below` for the lower chains; each link is 0 or leads to a VXR that was not met before
 unfoldable pub nodes_on : (List ℕ → ℕ → ℕ → Met Nodes) → ℕ → List ℕ → List ℕ → List ℕ → ℕ → ℕ → Met Nodes
 nodes_on below zero b tiles seen holder link = if link == 0 then met seen no_node else lost holder
 nodes_on below (suc most) b tiles seen holder link =

@@ -29,6 +29,13 @@ pub mod Blocks
 pub mod Room
 pub mod Allowances
 pub mod VariableAllowances
+pub mod Named
+pub mod FieldsFollow
+pub mod ListFollows
+pub mod SpaceFollows
+pub mod RecordsFollow
+pub mod BlocksFollow
+pub mod NodesFollow
 pub mod Locality
 pub mod GoodImage
 pub mod Alone

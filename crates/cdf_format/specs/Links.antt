@@ -1,4 +1,4 @@
--- Chains by the fields that lead to them, and how a written link changes one of them: what the law on links speaks of.
+-- Chains by the fields that lead to them, and how a written link changes one of them: what the law on links speaks of (own).
 use Rattle.std.specs.Prelude.{◌≡◌, ◌⊎◌, ◌≤◌, ℕ, ◌+◌, List, [], ◌∷◌, true, false}
 use Rattle.cdf_format.specs.Alone.{linked_types}
 use Rattle.cdf_format.specs.Changed.{Touch}

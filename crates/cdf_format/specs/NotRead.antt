@@ -1,4 +1,4 @@
--- What is not read so far. Each of these rules, numbered 99, goes once what it refuses is read; so does each type that is listed as unread.
+-- What is not read so far (own). Each of these rules, numbered 99, goes once what it refuses is read, and a type joins `read_types` once its records are read.
 use Rattle.std.specs.Prelude.{ℕ, List, [], ◌∷◌, false, not, ◌==◌}
 use Rattle.cdf_format.specs.Fields.{number, type_at}
 use Rattle.cdf_format.specs.Records.{vdr_s_records}

@@ -1,4 +1,4 @@
--- Whom the records of an image serve: each serves one owner.
+-- Whom the records of an image serve: each serves one owner (CDF Internal Format Description, "Internal Records"; own: that each has an owner).
 use Rattle.std.specs.Prelude.{◌≡◌, ℕ, suc, List, [], ◌∷◌, ◌++◌, length, map, not, ◌==◌, if◌then◌else◌, ◌+◌}
 use Rattle.std.specs.List.{filter}
 use Rattle.cdf_model.specs.declared.kinds.Kind.{Kind}

@@ -1,4 +1,4 @@
--- All rules of a well-formed file. Phases 0 to 3 and 10 speak of the file, the others of its image.
+-- All rules of a well-formed file. Phases 0 to 3 and 10 speak of the file, the others of its image (own).
 use Rattle.std.specs.Prelude.{ℕ, List, [], ◌∷◌, ◌++◌, length, drop, bytes_eq, ◌==◌}
 use Rattle.std.specs.List.{flat_map}
 use Rattle.md5.specs.Md5.{md5}

@@ -1,4 +1,4 @@
--- Where a record is placed, and what becomes of one that is freed (CDF Internal Format Description, "Unused Internal Records").
+-- Where a record is placed, and what becomes of one that is freed (CDF Internal Format Description, "Unused Internal Records"; own: the first record that fits is taken, a larger one is split, a freed one becomes the head of the list).
 use Rattle.std.specs.Prelude.{◌≡◌, ◌≤◌, ◌<◌, ℕ, ◌+◌, ◌-◌, List, [], ◌∷◌, length, map, Bool, true, false, ◌&&◌, ◌||◌, ◌==◌, nat_le, if◌then◌else◌}
 use Rattle.cdf_format.specs.Changed.{byte, Touch, touch, touched_field, Changed}
 use Rattle.cdf_format.specs.Chains.{is_a, is_in, IsChain}
@@ -41,7 +41,7 @@ pub record HasSpace (now : List ℕ) (s s' : Shape) : Type 0 where
   pub tiled : AreTiles now 8 (length now) s'.records
   pub unused_chain : IsChain now s'.records uir_type (number now s'.gdr gdr_uir_head) s'.unused
 
--- in a list a record stands directly behind another, or first where that is 0
+-- in a list `uir` stands directly behind `other`; `before` is the record before the list, 0 where there is none
 abbrev pub stands_behind : ℕ → List ℕ → ℕ → ℕ → Bool
 stands_behind before [] other uir = false
 stands_behind before (first ∷ more) other uir = ((before == other) && (first == uir)) || stands_behind first more other uir

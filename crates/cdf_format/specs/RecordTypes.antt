@@ -41,6 +41,7 @@ uir_type = 0xffffffff
 abbrev pub is_record_type : ℕ → Bool
 is_record_type type = (nat_le 1 type && nat_le type 13) || (type == uir_type)
 
--- the bytes of the fixed part of a record of a type, 12 at least
+-- The bytes of the fixed part of a record of a type, by the number of the type from 0 on: CDR, GDR, rVDR, ADR, AgrEDR, VXR, VVR, zVDR, AzEDR, CCR, CPR, SPR, CVVR.
+-- A CCR and an SPR count as 12: no owner has such a record, so rule 9.1 refuses it. Of a UIR, too, the 12 bytes suffice that each record has by rule 4.1.
 abbrev pub fixed_size : ℕ → ℕ
-fixed_size type = slice_index (12 ∷ 312 ∷ 84 ∷ 340 ∷ 324 ∷ 56 ∷ 28 ∷ 12 ∷ 344 ∷ 56 ∷ 12 ∷ 24 ∷ 12 ∷ 24 ∷ []) type
+fixed_size type = slice_index (0 ∷ 312 ∷ 84 ∷ 340 ∷ 324 ∷ 56 ∷ 28 ∷ 12 ∷ 344 ∷ 56 ∷ 12 ∷ 24 ∷ 12 ∷ 24 ∷ []) type

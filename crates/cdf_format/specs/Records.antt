@@ -211,14 +211,14 @@ vdr_blocking_factor = field 80 4
 abbrev pub vdr_name : Field
 vdr_name = field 84 256
 
--- of an r variable with d dimensions: whether its records vary in the dimension i, and the n bytes of its pad value
+-- of an r variable with d dimensions: whether its values vary along the dimension i, and the n bytes of its pad value
 abbrev pub vdr_r_dim_vary : ℕ → Field
 vdr_r_dim_vary i = field (340 + 4 * i) 4
 
 abbrev pub vdr_r_pad_value : ℕ → ℕ → Field
 vdr_r_pad_value d n = field (340 + 4 * d) n
 
--- of a z variable with d dimensions: their number, the size of the dimension i, whether its records vary in it, and the n bytes of its pad value
+-- of a z variable with d dimensions: their number, the size of the dimension i, whether its values vary along it, and the n bytes of its pad value
 abbrev pub vdr_z_num_dims : Field
 vdr_z_num_dims = field 340 4
 

@@ -1,4 +1,4 @@
--- By how many bytes a command may raise eof at most.
+-- By how many bytes a command may raise eof at most (own).
 use Rattle.std.specs.Prelude.{ℕ, zero, suc, ◌+◌, ◌-◌, ◌*◌, ◌/◌, max, List, length, map, Bool, ◌&&◌, ◌||◌, ◌==◌, nat_lt, if◌then◌else◌, Some, None, Ok, Err}
 use Rattle.std.specs.declared.result.Result.{Result}
 use Rattle.std.specs.List.{filter, slice_get, sum}
@@ -59,6 +59,7 @@ range_bytes v r = (r.last + 1 - r.first) * record_length v
 abbrev pub uncovered : Variable → Nodes → ℕ → ℕ
 uncovered v nodes n = (n + 1 - first_written v n) - covered (first_written v n) n (ranges_before_put v nodes n)
 
+-- u + 1 records get new blocks: their bytes, the last block filled up; and for each new block, of which there are at most one more than the quotient and one before each used entry of the index, 28 bytes more than a VXR as wide as the widest
 abbrev pub blocks_room : Variable → Nodes → ℕ → ℕ
 blocks_room v nodes zero = 0
 blocks_room v nodes (suc u) = (u + block_count v) * record_length v + (quotient_up (suc u) (block_count v) + entries_in nodes + 1) * (28 + vxr_bytes (widest nodes))
@@ -67,6 +68,7 @@ blocks_room v nodes (suc u) = (u + block_count v) * record_length v + (quotient_
 abbrev pub is_rewritten : Variable → ℕ → Range → Bool
 is_rewritten v n r = nat_lt 0 (shared (first_written v n) n r) || (is_cut_first v n && nat_lt 0 (shared (extent v.max_rec) record_number_limit r))
 
+-- of each block that is rewritten or cut: 28 bytes and its plain bytes
 abbrev pub packed_room : Variable → Nodes → ℕ → ℕ
 packed_room v nodes n = if v.rle then sum (map (λ r. 28 + range_bytes v r) (filter (is_rewritten v n) (ranges_of nodes))) else 0
 
@@ -80,6 +82,7 @@ is_cut_partly first last r = nat_lt 0 (shared first last r) && nat_lt (shared fi
 abbrev pub is_partly_cut : Variable → ℕ → ℕ → Range → Bool
 is_partly_cut v first last r = is_cut_partly first last r || (is_sparse v.sparse && is_cut_partly (extent_after v first last) record_number_limit r)
 
+-- of each range that a cut takes in part: 84 bytes, which are three records of 28, and its bytes twice; and one VXR as wide as the widest
 abbrev pub cut_room : Variable → Nodes → ℕ → ℕ → ℕ
 cut_room v nodes first last = vxr_bytes (widest nodes) + sum (map (λ r. 84 + 2 * range_bytes v r) (filter (is_partly_cut v first last) (ranges_of nodes)))
 

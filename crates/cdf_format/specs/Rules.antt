@@ -1,4 +1,4 @@
--- Rules as rows of a table: a number, the place that a verdict gives, and whether the rule holds.
+-- Rules as rows of a table: a number, the place that a verdict gives, and whether the rule holds (own).
 use Rattle.std.specs.Prelude.{◌≡◌, ◌⊎◌, ℕ, zero, suc, List, [], ◌∷◌, Bool, true, false}
 
 pub record Row : Type 0 where

@@ -21,7 +21,7 @@ is_little b = elim (encoding_at (encoding b)) [ None ↦ false | Some e ↦ e.li
 abbrev pub known_type : List ℕ → ℕ → Field → Option DataType
 known_type b place f = type_of (integer4 b place f)
 
--- a well-formed file has known types alone
+-- a code that is not known counts as BYTE: rules 6.8 and 7.3 refuse it
 abbrev pub data_type_in : List ℕ → ℕ → Field → DataType
 data_type_in b place f = unwrap_or (known_type b place f) Byte
 

@@ -1,4 +1,4 @@
--- What a command may change of the records of each variable, and of each record that the image has.
+-- What a command may change of the records of each variable, and of each record that the image has (own).
 use Rattle.std.specs.Prelude.{ℕ, ◌+◌, List, [], ◌∷◌, Bool, true, false, ◌&&◌, ◌||◌, ◌==◌, nat_lt, nat_le, find, if◌then◌else◌, Some, None}
 use Rattle.std.specs.declared.option.Option.{Option}
 use Rattle.std.specs.List.{list_any, slice_get}
@@ -83,7 +83,7 @@ own_node_allowance c = Anything
 -- its CPR
 abbrev pub own_cpr_allowance : Command → Allowance
 own_cpr_allowance (commands.DelVar name) = Anything
-own_cpr_allowance (commands.SetCompress var rle) = Anything
+own_cpr_allowance (commands.SetCompress var rle) = if rle then Only [] else Anything
 own_cpr_allowance c = Only []
 
 -- the records that a block of the variable has, if it is one
@@ -132,6 +132,7 @@ listed_allowance b c takes place = if is_renaming c then Only [] else (if is_tak
 abbrev pub unused_allowance : List ℕ → Shape → Command → List (ℕ × ℕ) → ℕ → Allowance
 unused_allowance b s c takes place = if is_in place s.unused then listed_allowance b c takes place else Only []
 
+-- what a command may change of the record at a place, which this owner has; `takes` are the records that it took, each by its place and size
 abbrev pub allowance : List ℕ → DataSet → Shape → Command → List (ℕ × ℕ) → ℕ → Owner → Allowance
 allowance b d s c takes place File = if place == 8 then cdr_allowance c else gdr_allowance d c
 allowance b d s c takes place (OneAttribute n) = attribute_allowance b d c place n

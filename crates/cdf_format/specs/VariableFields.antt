@@ -28,7 +28,7 @@ dimensions_at b vdr = if is_z b vdr then counted (integer4 b vdr vdr_z_num_dims)
 abbrev pub dims_at : List ℕ → ℕ → List ℕ
 dims_at b vdr = if is_z b vdr then map counted4 (words b (vdr + (vdr_z_dim_size 0).place) (dimensions_at b vdr)) else r_sizes b (gdr_offset b)
 
--- DimVarys, of so many dimensions
+-- DimVarys, of so many dimensions: 0 does not vary, and each other number does (own; -1 in the format)
 abbrev pub vary_field : List ℕ → ℕ → Field
 vary_field b vdr = if is_z b vdr then vdr_z_dim_vary (dimensions_at b vdr) 0 else vdr_r_dim_vary 0
 
@@ -62,7 +62,7 @@ pad_field b vdr = if is_z b vdr then vdr_z_pad_value (dimensions_at b vdr) (valu
 abbrev pub pad_at : List ℕ → ℕ → Option (List ℕ)
 pad_at b vdr = if has_pad b vdr then Some (network_bytes b vdr (pad_field b vdr) (type_of_variable b vdr)) else None
 
--- SRecords
+-- SRecords: 0 no rule, 1 the pad value, 2 the previous record; rule 7.9 refuses each other number, which counts as 2 here
 abbrev pub sparse_at : List ℕ → ℕ → Sparse
 sparse_at b vdr = if number b vdr vdr_s_records == 0 then NoRule else (if number b vdr vdr_s_records == 1 then Pad else Previous)
 

@@ -1,4 +1,4 @@
--- A walk from record to record.
+-- A walk from record to record (own).
 use Rattle.std.specs.Prelude.{ℕ, List, [], ◌∷◌}
 
 -- the records that it met; or where it leads wrong, those that it met before and the place

@@ -1,4 +1,4 @@
--- A well-formed file: the rules of each phase that is asked hold.
+-- A well-formed file: the rules of each phase that is asked hold (own).
 use Rattle.std.specs.Prelude.{ℕ, List}
 use Rattle.cdf_format.specs.Phases.{all_phases}
 use Rattle.cdf_format.specs.Rules.{AllHold, FirstBroken}

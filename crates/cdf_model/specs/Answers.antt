@@ -1,4 +1,4 @@
--- What a command comes to: it makes a data set, with a reply, or is refused for a reason.
+-- What a command comes to: it makes a data set, with a reply, or is refused for a reason (own).
 use Rattle.std.specs.Prelude.{List, [], ◌∷◌, Bool, true, false, not, if◌then◌else◌, Some, None}
 use Rattle.std.specs.declared.option.Option.{Option}
 use Rattle.cdf_model.specs.declared.answer.Outcome.{Outcome}

@@ -1,4 +1,4 @@
--- What the commands on attributes and their entries do (CDF User's Guide, Attributes).
+-- What the commands on attributes and their entries do (CDF User's Guide, Attributes; own: the reasons and their order, and that a new name must differ from the attribute's own).
 use Rattle.std.specs.Prelude.{ℕ, List, [], ◌∷◌, ◌++◌, length, slice_set, Bool, true, false, not, ◌==◌, nat_lt, nat_le, if◌then◌else◌, Ok, Err}
 use Rattle.std.specs.declared.result.Result.{Result}
 use Rattle.std.specs.List.{remove}

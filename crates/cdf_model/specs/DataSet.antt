@@ -15,7 +15,7 @@ pub record Entry : Type 0 where
   pub bytes : List ℕ
 
 -- The entries of a global attribute are numbered freely; those of an attribute of variables have the number of their variable,
--- an r variable's in `g` and a z variable's in `z`.
+-- an r variable's in `g` and a z variable's in `z`. No rule asks that there is such a variable, nor that `z` of a global attribute is empty.
 pub record Attribute : Type 0 where
   pub name : List ℕ
   pub scope : Scope

@@ -1,4 +1,4 @@
--- How events are written by `dump`, each on a line of its own.
+-- How events are written by `dump`, each on a line of its own (own).
 use Rattle.std.specs.Prelude.{ℕ, List, [], ◌∷◌, map, Bool, true, false, codes, if◌then◌else◌}
 use Rattle.std.specs.Fmt.{decimal, signed_decimal}
 use Rattle.std.specs.List.{flat_map}
@@ -42,6 +42,7 @@ abbrev pub pad_text : Bool → DataType → ℕ → List ℕ → List ℕ
 pad_text false t elems pad = codes "-"
 pad_text true t elems pad = values_text t elems pad
 
+-- each event as a line, without its newline; a variable: kind, number, name, type, NumElems, record variance, dimensions, dimension variances, sparse rule, compression, blocking, MaxRec, pad value
 abbrev pub event_text : Event → List ℕ
 event_text (events.Head head) = head_text head
 event_text (events.Attr num name scope) = codes "attribute " ⧺ decimal num ⧺ codes " " ⧺ quoted name ⧺ codes " " ⧺ scope_text scope

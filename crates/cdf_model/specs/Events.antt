@@ -1,4 +1,4 @@
--- The content of a data set as a list of events: the head; each attribute with its entries; each variable with its stored records; the counts.
+-- The content of a data set as a list of events: the head; each attribute with its entries; each variable with its stored records; the counts (own).
 use Rattle.std.specs.Prelude.{ℕ, ◌+◌, List, [], ◌∷◌, ◌++◌, map, length, if◌then◌else◌}
 use Rattle.std.specs.List.{sum}
 use Rattle.std.specs.Option.{is_some, unwrap_or}

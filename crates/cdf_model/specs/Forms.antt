@@ -1,4 +1,4 @@
--- The commands of a script, each with the words that follow its name.
+-- The commands of a script, each with the words that follow its name (own).
 use Rattle.std.specs.Prelude.{ℕ, ◌+◌, List, [], ◌∷◌, ◌++◌, Bool, true, false, bytes_eq, codes, find}
 use Rattle.std.specs.declared.option.Option.{Option}
 use Rattle.std.specs.Option.{option_map}

@@ -1,4 +1,4 @@
--- Words that are being gathered.
+-- Words that are being gathered (own).
 use Rattle.std.specs.Prelude.{ℕ, List, [], ◌∷◌, ◌++◌}
 
 -- the words that have ended, and the bytes of the last one, which has not

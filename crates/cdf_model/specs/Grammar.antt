@@ -1,4 +1,4 @@
--- What a line of a script asks for.
+-- What a line of a script asks for (own).
 use Rattle.std.specs.Prelude.{ℕ, List, [], ◌∷◌, map, length, drop, nat_lt, if◌then◌else◌, Some, None, Ok, Err}
 use Rattle.std.specs.declared.option.Option.{Option}
 use Rattle.cdf_model.specs.declared.answer.LineError.{LineError}

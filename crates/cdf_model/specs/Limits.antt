@@ -1,4 +1,4 @@
--- The limits of what is read and written.
+-- The limits of what is read and written (own, but for the 10 dimensions and the numbers of 4 bytes of the CDF Internal Format Description).
 use Rattle.std.specs.Prelude.{ℕ}
 
 -- the most bytes of an image

@@ -1,4 +1,4 @@
--- What `list` shows: the attributes, the r variables and the z variables, each by its number.
+-- What `list` shows: the attributes, the r variables and the z variables, each by its number (own).
 use Rattle.std.specs.Prelude.{ℕ, ◌+◌, List, [], ◌∷◌, ◌++◌}
 use Rattle.cdf_model.specs.declared.item.Item.{Item}
 use Rattle.cdf_model.specs.declared.item.Item.TheVariants.{Attr, Var}

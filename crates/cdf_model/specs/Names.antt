@@ -1,4 +1,4 @@
--- The names of attributes and variables. They are compared byte by byte, so blanks at the end count.
+-- The names of attributes and variables (CDF User's Guide, Attributes and Variables; own: compared byte by byte, so blanks at the end count, and no byte 0).
 use Rattle.std.specs.Prelude.{ℕ, List, ◌++◌, map, length, Bool, ◌||◌, ◌==◌, nat_lt, bytes_eq, position}
 use Rattle.std.specs.declared.option.Option.{Option}
 use Rattle.std.specs.List.{list_any, slice_get}

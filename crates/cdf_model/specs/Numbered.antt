@@ -1,4 +1,4 @@
--- Finite maps from numbers, as lists of pairs whose numbers rise: so two maps that have the same items are one list.
+-- Finite maps from numbers, as lists of pairs whose numbers rise: so two maps that have the same items are one list (own).
 use Rattle.std.specs.Prelude.{ℕ, zero, suc, ◌+◌, ◌-◌, List, [], ◌∷◌, map, not, ◌&&◌, ◌==◌, nat_lt, nat_le, find, if◌then◌else◌, None}
 use Rattle.std.specs.declared.option.Option.{Option}
 use Rattle.std.specs.List.{filter, last_or}

@@ -1,4 +1,4 @@
--- Words that are held as their bytes, joined, and the sizes of their parts.
+-- Words that are held as their bytes, joined, and the sizes of their parts (own).
 use Rattle.std.specs.Prelude.{◌≡◌, ℕ, ◌/◌, ◌%◌, List, [], ◌∷◌, ◌++◌, length, take, drop, replicate, ◌==◌, if◌then◌else◌}
 use Rattle.std.specs.List.{concat, flat_map}
 

@@ -7,7 +7,7 @@ use Rattle.cdf_model.specs.declared.head.Majority.{Majority}
 use Rattle.cdf_model.specs.declared.head.Majority.TheVariants.{Row, Column}
 use Rattle.cdf_model.specs.Types.{size_of}
 
--- the most bytes of a record
+-- own: the most bytes of a record of a variable, of a block and of an entry
 abbrev pub record_limit : ℕ
 record_limit = 67108864
 

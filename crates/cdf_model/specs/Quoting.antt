@@ -1,4 +1,4 @@
--- The words of a line of a script. Words are separated by spaces and tabs, and a word may stand between quotes, so that it can have any bytes.
+-- The words of a line of a script. Words are separated by spaces and tabs, and a word may stand between quotes, so that it can have any bytes (own).
 use Rattle.std.specs.Prelude.{ℕ, zero, suc, ◌+◌, ◌-◌, ◌*◌, List, [], ◌∷◌, length, take, drop, Bool, true, not, ◌&&◌, ◌||◌, ◌==◌, nat_lt, if◌then◌else◌, Some, None, Ok, Err}
 use Rattle.std.specs.declared.option.Option.{Option}
 use Rattle.std.specs.declared.result.Result.{Result}

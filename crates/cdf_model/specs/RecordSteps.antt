@@ -1,4 +1,4 @@
--- What the commands on records and values do (CDF User's Guide, Variables: records, sparse records).
+-- What the commands on records and values do (CDF User's Guide, Variables: records, sparse records; own: the reasons and their order, and that one value of a missing record is put into the record as it reads).
 use Rattle.std.specs.Prelude.{ℕ, ℤ, zero, suc, pos, negsuc, ◌+◌, ◌-◌, ◌*◌, List, [], ◌∷◌, ◌++◌, take, drop, Bool, not, ◌&&◌, ◌||◌, ◌==◌, nat_lt, nat_le, if◌then◌else◌, Some, None, Ok, Err}
 use Rattle.std.specs.declared.option.Option.{Option}
 use Rattle.std.specs.declared.result.Result.{Result}

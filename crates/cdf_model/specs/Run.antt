@@ -1,4 +1,4 @@
--- A script is run line by line, each line on the data set that the lines before it made, and with the taps that they left.
+-- A script is run line by line, each line on the data set that the lines before it made, and with the taps that they left (own).
 use Rattle.std.specs.Prelude.{ℕ, ◌+◌, List, [], ◌∷◌, ◌++◌, Bool, true, false, ◌||◌, if◌then◌else◌}
 use Rattle.std.specs.List.{fold}
 use Rattle.std.specs.declared.option.Option.{Option}

@@ -1,4 +1,4 @@
--- Run-length encoding of zeros (CDF Internal Format Description, Compression, cType 1).
+-- Run-length encoding of zeros (CDF Internal Format Description, "Compressed Parameters Record", cType 1).
 -- Packed bytes are items: a byte other than 0, which stands for itself, or a pair of 0 and a count n, which stands for n + 1 zeros.
 use Rattle.std.specs.Prelude.{ℕ, zero, suc, ◌<◌, ◌≡◌, List, [], ◌∷◌, ◌++◌, replicate, Bool, true, false, if◌then◌else◌, Some, None}
 use Rattle.std.specs.declared.option.Option.{Option}

@@ -1,4 +1,4 @@
--- What holds of every command that a line gives.
+-- What holds of every command that a line gives (own).
 use Rattle.std.specs.Prelude.{ℕ, ◌+◌, ◌≡◌, ◌≤◌, ⊤, List, map, length}
 use Rattle.std.specs.List.{sum}
 use Rattle.cdf_model.specs.declared.command.Command.{Command}

@@ -1,4 +1,4 @@
--- What each command does to a data set. Where several reasons hold, the one with the least number is given.
+-- What each command does to a data set. Where several reasons hold, the one with the least number is given (own).
 use Rattle.std.specs.Prelude.{ℕ, List, Bool, true, false}
 use Rattle.cdf_model.specs.declared.answer.Reply.TheVariants as replies
 use Rattle.cdf_model.specs.declared.command.Command.{Command}

@@ -1,4 +1,4 @@
--- Taps: at a report each tap of a name is shown the events of the data set, and says a text of them. This is not of the standard.
+-- Taps: at a report each tap of a name is shown the events of the data set, and says a text of them (own).
 use Rattle.std.specs.Prelude.{ℕ, List, [], ◌∷◌, Bool, not, ◌&&◌, bytes_eq, if◌then◌else◌}
 use Rattle.std.specs.List.{filter, flat_map, list_any}
 use Rattle.cdf_model.specs.declared.event.Event.{Event}

@@ -1,4 +1,4 @@
--- What the commands on variables do (CDF User's Guide, Variables).
+-- What the commands on variables do (CDF User's Guide, Variables; own: the reasons and their order, and that the sparse rule and the compression are set before records are written).
 use Rattle.std.specs.Prelude.{ℕ, pos, negsuc, List, [], ◌∷◌, ◌++◌, length, map, slice_set, Bool, true, false, not, ◌&&◌, ◌||◌, ◌==◌, nat_lt, if◌then◌else◌, Some, None, Ok, Err}
 use Rattle.std.specs.declared.result.Result.{Result}
 use Rattle.std.specs.List.{remove, list_any}

@@ -1,4 +1,4 @@
--- The words of the command line.
+-- The words of the command line (own).
 use Rattle.std.specs.Prelude.{ℕ, List, [], ◌∷◌, Bool, true, false, ◌==◌, bytes_eq, codes, is_some, if◌then◌else◌, Some, None}
 use Rattle.std.specs.List.{fold}
 use Rattle.std.specs.Option.{option_and_then}

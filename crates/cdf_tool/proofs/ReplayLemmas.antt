@@ -36,7 +36,7 @@ turn-taps d n (Faulty fault) = refl
 
 -- a command that there is by now, and one that there is not
 pub turn-built : (d : DataSet) (n : ℕ) (c : Command) → built c ≡ true → plain_turn d n (Asks c) ≡ answered_by d [] n (step d Info) false
-turn-built d n c is = ap (λ (k : Command). plain_turn d n (Asks k)) (built-info c is)
+turn-built d n c is = sym (ap (λ (k : Command). plain_turn d n (Asks k)) (built-info c is))
 
 pub turn-not_built : (d : DataSet) (n : ℕ) (c : Command) → built c ≡ false → plain_turn d n (Asks c) ≡ faulty d [] n (UnknownWord 0)
 turn-not_built d n c is = rw is refl
