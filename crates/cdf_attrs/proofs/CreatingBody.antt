@@ -9,6 +9,7 @@ use Rattle.cdf_base.specs.Bytes.{put}
 use Rattle.cdf_model.specs.Names.{is_bad_name}
 use Rattle.cdf_format.specs.Fields.{word, name_in, type_at}
 use Rattle.cdf_format.specs.Records.{adr_name}
+use Rattle.cdf_format.specs.RecordsFollow.{IsFilled}
 use Rattle.cdf_format.proofs.BytesLemmas.{byte-put_inside}
 use Rattle.cdf_fields.proofs.NamesWritten.{before_zeros}
 use Rattle.cdf_fields.proofs.Writes.{drop-put_there}
@@ -60,6 +61,22 @@ module _ (scope num : ℕ) (name : List ℕ) (fits : length name ≤ 256) where
   unfolding adr_body
   z_count_in_body = refl
 
+  rfu_a_in_body : word (adr_body scope num name) 36 4 ≡ 0
+  unfolding adr_body
+  rfu_a_in_body = refl
+
+  max_gr_in_body : word (adr_body scope num name) 32 4 ≡ 0xffffffff
+  unfolding adr_body
+  max_gr_in_body = refl
+
+  max_z_in_body : word (adr_body scope num name) 52 4 ≡ 0xffffffff
+  unfolding adr_body
+  max_z_in_body = refl
+
+  rfu_e_in_body : word (adr_body scope num name) 56 4 ≡ 0xffffffff
+  unfolding adr_body
+  rfu_e_in_body = refl
+
   name_in_body : drop 60 (adr_body scope num name) ≡ name ++ replicate (256 - length name) 0
   unfolding adr_body
   name_in_body = refl
@@ -105,19 +122,21 @@ module _ (b : List ℕ) (place scope num : ℕ) (name : List ℕ) (named : IsNam
   pub type_written : type_at now place ≡ 4
   type_written = at_body 0 4 (omega arith) ∙ type_in_body scope num name named.short
 
-  name_written : name_in now place adr_name ≡ name
-  name_written =
+  name_filled : IsFilled now place adr_name name
+  name_filled =
       let padded = name ++ replicate (256 - length name) 0 in
       let rest = drop (place + 8 + length body) b in
       let there : drop (place + 68) now ≡ drop 60 (body ++ rest) =
       ap (λ (x : ℕ). drop x now) (move place) ∙ sym (drop-drop 60 (place + 8) now) ∙ ap (drop 60) (drop-put_there b body (place + 8) (omega arith)) in
       let long = length-body scope num name named.short in
       let front : drop 60 (body ++ rest) ≡ padded ++ rest = drop-append-le 60 body rest (omega arith) ∙ ap (λ (x : List ℕ). x ++ rest) (name_in_body scope num name named.short) in
-      let field : take 256 (drop (place + 68) now) ≡ padded = ap (take 256) (there ∙ front) ∙ take_at padded rest 256 (length-padded scope num name named.short) in
-      ap (before_first (λ (x : ℕ). x == 0)) field ∙ before_zeros name (256 - length name) named.no_zero
+      ap (take 256) (there ∙ front) ∙ take_at padded rest 256 (length-padded scope num name named.short)
     where
       move : (x : ℕ) → x + 68 ≡ x + 8 + 60
       move x = omega arith
+
+  name_written : name_in now place adr_name ≡ name
+  name_written = ap (before_first (λ (x : ℕ). x == 0)) name_filled ∙ before_zeros name (256 - length name) named.no_zero
 
   pub adr_written : IsNewAdr now place scope num name
   adr_written = record {
@@ -128,4 +147,12 @@ module _ (b : List ℕ) (place scope num : ℕ) (name : List ℕ) (named : IsNam
     gr_count = at_body 28 4 (omega arith) ∙ gr_count_in_body scope num name named.short;
     z_count = at_body 48 4 (omega arith) ∙ z_count_in_body scope num name named.short;
     name_is = name_written;
+    filled = name_filled;
+    says = (
+      at_body 36 4 (omega arith) ∙ rfu_a_in_body scope num name named.short,
+      (
+        at_body 32 4 (omega arith) ∙ max_gr_in_body scope num name named.short,
+        (at_body 52 4 (omega arith) ∙ max_z_in_body scope num name named.short, (at_body 56 4 (omega arith) ∙ rfu_e_in_body scope num name named.short, tt)),
+      ),
+    );
   }

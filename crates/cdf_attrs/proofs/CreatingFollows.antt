@@ -19,30 +19,34 @@ use Rattle.cdf_format.specs.Alone.{IsSound}
 use Rattle.cdf_format.specs.Changed.{byte}
 use Rattle.cdf_format.specs.Chains.{next_field, is_a, is_linkable}
 use Rattle.cdf_format.specs.Content.{content, scope_of, attribute_of}
-use Rattle.cdf_format.specs.Fields.{number, size_at, type_at}
+use Rattle.cdf_format.specs.Fields.{number, flags, gdr_offset, size_at, type_at}
 use Rattle.cdf_format.specs.GoodImage.{IsGoodImage}
 use Rattle.cdf_format.specs.Locality.{Follows}
 use Rattle.cdf_format.specs.Owners.{Owner, File, OneAttribute, Unused, attribute_records, owned_by, owned_by_attributes, owned_by_variables, unused_records, owned}
-use Rattle.cdf_format.specs.Records.{adr_scope}
-use Rattle.cdf_format.specs.RecordTypes.{cdr_type, gdr_type, adr_type, agr_edr_type, az_edr_type, uir_type}
-use Rattle.cdf_format.specs.Shape.{AttributeShape, VariableShape, Shape, Each, HasEntries, HasShape, shape}
+use Rattle.cdf_format.specs.Placement.{unused, place_for, taken_from, eof_after, back_links, BackLinksFollow}
+use Rattle.cdf_format.specs.Records.{Field, cdr_gdr_offset, cdr_flags, gdr_r_max_rec, adr_scope, adr_max_gr_entry, adr_max_z_entry, uir_prev_uir}
+use Rattle.cdf_format.specs.RecordTypes.{cdr_type, gdr_type, adr_type, agr_edr_type, az_edr_type, uir_type, fixed_size}
+use Rattle.cdf_format.specs.Shape.{AttributeShape, VariableShape, Shape, adrs, Each, HasEntries, HasShape, shape}
 use Rattle.cdf_format.specs.Tiles.{In}
 use Rattle.cdf_format.specs.VariableAllowances.{allowance, AllKeep}
 use Rattle.cdf_format.specs.WellFormed.{Good}
+use Rattle.cdf_format.proofs.BytesLemmas.{word_kept, number_kept}
 use Rattle.cdf_format.proofs.ChainsLemmas.{linkable-is_a, is_a-in, is_a-type, linkable-in, linkable-type}
 use Rattle.cdf_format.proofs.FirstRules.{first_phases_stay}
 use Rattle.cdf_format.proofs.GoodLemmas.{rules_of_good}
 use Rattle.cdf_format.proofs.Kept.{Kept}
 use Rattle.cdf_format.proofs.Members.{either, In-append, In-append_left}
 use Rattle.cdf_format.proofs.NameRules.{attribute_names_are}
+use Rattle.cdf_format.proofs.NewFields.{AddsAttribute, attr_fields}
 use Rattle.cdf_format.proofs.Owning.{filter-in}
 use Rattle.cdf_format.proofs.SealedRules.{good_long, sealed_keeps, sealed_kept}
 use Rattle.cdf_format.proofs.ShapeLemmas.{shape_is}
+use Rattle.cdf_format.proofs.TakenList.{sized}
 use Rattle.cdf_format.proofs.UsedRecords.{apart, filter-says}
 use Rattle.cdf_attrs.specs.Creating.{scope_code, bare_attribute, with_attribute}
-use Rattle.cdf_attrs.proofs.CreatingGood.{IsMade, shape_made, size_made, kept_made, start_made, adr_made, gdr_made, cdr_made, new_adr, new_stands, good_made, first_made, length_made, content_made, gdr_in}
+use Rattle.cdf_attrs.proofs.CreatingGood.{IsMade, shape_made, size_made, kept_made, start_made, adr_made, gdr_made, cdr_made, new_adr, new_stands, good_made, first_made, length_made, content_made, gdr_in, gdr_long}
 use Rattle.cdf_attrs.proofs.CreatingLink.{with_last}
-use Rattle.cdf_attrs.proofs.CreatingStart.{with_record, no_r_variables, no_z_variables}
+use Rattle.cdf_attrs.proofs.CreatingStart.{with_record, no_r_variables, no_z_variables, no_unused}
 
 -- ---- lists of owned records
 
@@ -155,6 +159,59 @@ module _ (b mid now : List ℕ) (scope : Scope) (name : List ℕ) (good : IsGood
       (keep-append b now c takes (f ++ a ++ r) z (keep-append b now c takes (f ++ a) r (keep-append b now c takes f a keep_file (keep_attributes 0 s.attributes h.attribute_chain.linkable h.entry_chains)) no_r) no_z)
       keep_unused
 
+  -- ---- fields that no rule reads, and the unused list
+
+  now_is : shape now ≡ made_shape
+  now_is = shape_is now made_shape (shape_made b mid now s code name good sound made)
+
+  no_list : s.unused ≡ []
+  no_list = no_unused b s good
+
+  empty : unused b s ≡ []
+  empty = ap (sized b) no_list
+
+  adr_field : (f : Field) → 20 ≤ f.place → f.place + f.width ≤ 324 → (adr : ℕ) → In adr (adrs s) → number now adr f ≡ number b adr f
+  adr_field f low high adr i =
+      let ok = h.attribute_chain.linkable adr i in
+      let size : 324 ≤ size_at b adr = subst (λ (t : ℕ). fixed_size t ≤ size_at b adr) (linkable-type b s.records adr_type adr ok) (h.fixed adr (linkable-in b s.records adr_type adr ok)) in
+      word_kept b now (adr + f.place) (adr + (f.place + f.width)) (adr_made b mid now s code name good sound made adr f.place (f.place + f.width) (linkable-is_a b s.records adr_type adr ok) low (omega arith)) (adr + f.place) f.width (omega arith) (omega arith)
+
+  gdr_stays : gdr_offset now ≡ gdr_offset b
+  gdr_stays =
+      let cdr = cdr_made b mid now s code name good sound made in
+      let size : 312 ≤ size_at b 8 = subst (λ (t : ℕ). fixed_size t ≤ size_at b 8) (is_a-type b s.records cdr_type 8 h.cdr_stands) (h.fixed 8 (is_a-in b s.records cdr_type 8 h.cdr_stands)) in
+      number_kept b now 8 cdr.same cdr_gdr_offset (omega arith)
+
+  flags_stay : flags now ≡ flags b
+  flags_stay =
+      let cdr = cdr_made b mid now s code name good sound made in
+      let size : 312 ≤ size_at b 8 = subst (λ (t : ℕ). fixed_size t ≤ size_at b 8) (is_a-type b s.records cdr_type 8 h.cdr_stands) (h.fixed 8 (is_a-in b s.records cdr_type 8 h.cdr_stands)) in
+      number_kept b now 8 cdr.same cdr_flags (omega arith)
+
+  r_max_rec_stays : number now (gdr_offset now) gdr_r_max_rec ≡ number b (gdr_offset b) gdr_r_max_rec
+  r_max_rec_stays =
+      let long = gdr_long b mid now s code name good sound made in
+      let same = gdr_made b mid now s code name good sound made 52 56 (inr (omega arith)) (inr (omega arith)) (inr (omega arith)) (omega arith) in
+      ap (λ (g : ℕ). number now g gdr_r_max_rec) (gdr_stays ∙ h.gdr_is) ∙ word_kept b now (s.gdr + 52) (s.gdr + 56) same (s.gdr + 52) 4 (omega arith) (omega arith) ∙ sym (ap (λ (g : ℕ). number b g gdr_r_max_rec) h.gdr_is)
+
+  end_rises : (end : ℕ) → eof_after [] end 324 ≡ end + 324
+  end_rises end = rw (eq-eqb end end refl) refl
+
+  adds : AddsAttribute b now name (bare_attribute (length b)) (length b)
+  adds = record {
+    attributes_are = ap (λ (x : Shape). x.attributes) now_is;
+    flags_stay = flags_stay;
+    r_max_rec_stays = r_max_rec_stays;
+    gr_stay = adr_field adr_max_gr_entry (omega arith) (omega arith);
+    z_stay = adr_field adr_max_z_entry (omega arith) (omega arith);
+    says = (new_adr b mid now s code name good sound made).says;
+    filled = (new_adr b mid now s code name good sound made).filled;
+    place_is = sym (ap (λ (x : List (ℕ × ℕ)). place_for x (length b) 324) empty);
+    list_is = ap (λ (x : Shape). unused now x) now_is ∙ ap (sized now) no_list ∙ sym (ap (λ (x : List (ℕ × ℕ)). taken_from x 324) empty);
+    length_is = length_made b mid now s code name good sound made ∙ sym (ap (λ (x : List (ℕ × ℕ)). eof_after x (length b) 324) empty ∙ end_rises (length b));
+    back = subst (λ (x : Shape). BackLinksFollow b now s x) (sym now_is) (subst (λ (us : List ℕ). map (λ uir. number now uir uir_prev_uir) us ≡ back_links b us 0 us) (sym no_list) refl);
+  }
+
   -- ---- the command
 
   scope_back : (x : Scope) → scope_of (scope_code x) ≡ x
@@ -205,6 +262,7 @@ module _ (b mid now : List ℕ) (scope : Scope) (name : List ℕ) (good : IsGood
         let l = length_made b mid now s code name good sound made in
         let stand = new_stands b mid now s code name good sound made in
         let now_is = shape_is now made_shape (shape_made b mid now s code name good sound made) in
+        let new = attr_fields b now name scope (bare_attribute (length b)) (length b) h adds in
         record {
           reply = Plain;
           goes = goes;
@@ -217,6 +275,10 @@ module _ (b mid now : List ℕ) (scope : Scope) (name : List ℕ) (good : IsGood
           takes_stand = ((subst (λ (x : Shape). In (length b) x.records) (sym now_is) stand.0, stand.1, stand.2), tt);
           takes_within = omega arith;
           keeps = all_keep;
-          blocks = tt;
-          reserved = tt;
+          blocks = new.blocks;
+          nodes = new.nodes;
+          fields = new.fields;
+          records = new.records;
+          list = new.list;
+          space = new.space;
         }

@@ -17,7 +17,7 @@ use Rattle.cdf_format.specs.GoodImage.{attribute_shape_rows, counting_rows, IsGo
 use Rattle.cdf_format.specs.IndexRules.{index_rows}
 use Rattle.cdf_format.specs.NotRead.{read_types, unread_type}
 use Rattle.cdf_format.specs.Owners.{attribute_records, unused_records, times, owned_records, OwnedOnce}
-use Rattle.cdf_format.specs.Records.{Field, gdr_eof, gdr_num_attr, gdr_nr_vars, gdr_nz_vars, adr_agr_edr_head, adr_az_edr_head, adr_name, adr_scope, adr_num, adr_ngr_entries, adr_nz_entries, vdr_num}
+use Rattle.cdf_format.specs.Records.{Field, gdr_eof, gdr_num_attr, gdr_nr_vars, gdr_nz_vars, adr_agr_edr_head, adr_az_edr_head, adr_name, adr_scope, adr_num, adr_ngr_entries, adr_max_gr_entry, adr_rfu_a, adr_nz_entries, adr_max_z_entry, adr_rfu_e, vdr_num}
 use Rattle.cdf_format.specs.RecordTypes.{cdr_type, gdr_type, adr_type, agr_edr_type, az_edr_type, r_vdr_type, z_vdr_type, uir_type, fixed_size}
 use Rattle.cdf_format.specs.Rules.{Hold}
 use Rattle.cdf_format.specs.Shape.{AttributeShape, VariableShape, Shape, adrs, vdrs, variables, Each, HasEntries, HasShape}
@@ -191,6 +191,7 @@ module _ (b mid now : List ℕ) (s : Shape) (scope : ℕ) (name : List ℕ) (goo
       let n = made.new in
       let size = made.started.size_is in
       let named = adr_part mid now grown new mid_sound made.linked.written new 68 324 made.linked.written.stands (omega arith) (omega arith) in
+      let kept = piece_kept mid now (new + 68) (new + 324) named (new + 68) 256 (omega arith) (omega arith) (omega (arith, made.started.length_is)) (omega (arith, made.linked.written.length_stays)) in
       record {
         no_gr = new_field adr_agr_edr_head (omega arith) (omega arith) ∙ n.no_gr;
         no_z = new_field adr_az_edr_head (omega arith) (omega arith) ∙ n.no_z;
@@ -198,7 +199,15 @@ module _ (b mid now : List ℕ) (s : Shape) (scope : ℕ) (name : List ℕ) (goo
         num_is = new_field adr_num (omega arith) (omega arith) ∙ n.num_is;
         gr_count = new_field adr_ngr_entries (omega arith) (omega arith) ∙ n.gr_count;
         z_count = new_field adr_nz_entries (omega arith) (omega arith) ∙ n.z_count;
-        name_is = ap (before_first (λ (x : ℕ). x == 0)) (piece_kept mid now (new + 68) (new + 324) named (new + 68) 256 (omega arith) (omega arith) (omega (arith, made.started.length_is)) (omega (arith, made.linked.written.length_stays))) ∙ n.name_is;
+        name_is = ap (before_first (λ (x : ℕ). x == 0)) kept ∙ n.name_is;
+        filled = kept ∙ n.filled;
+        says = (
+          new_field adr_rfu_a (omega arith) (omega arith) ∙ n.says.0,
+          (
+            new_field adr_max_gr_entry (omega arith) (omega arith) ∙ n.says.1.0,
+            (new_field adr_max_z_entry (omega arith) (omega arith) ∙ n.says.1.1.0, (new_field adr_rfu_e (omega arith) (omega arith) ∙ n.says.1.1.1.0, tt)),
+          ),
+        );
       }
 
   -- ---- the GDR

@@ -13,6 +13,7 @@ use Rattle.cdf_format.specs.ChainRules.{number_rows, count_rows, differ_rows}
 use Rattle.cdf_format.specs.Fields.{number, name_in, size_at}
 use Rattle.cdf_format.specs.GoodImage.{attribute_shape_rows, attributes_shape_rows}
 use Rattle.cdf_format.specs.Records.{Field, adr_agr_edr_head, adr_name, adr_scope, adr_num, adr_ngr_entries, adr_az_edr_head, adr_nz_entries, aedr_attr_num, aedr_data_type, aedr_num, aedr_num_elems}
+use Rattle.cdf_format.specs.RecordsFollow.{Says, new_adr, IsFilled}
 use Rattle.cdf_format.specs.Rules.{Hold}
 use Rattle.cdf_format.specs.Shape.{AttributeShape, Shape, adrs, Each}
 use Rattle.cdf_format.specs.Stored.{known_type}
@@ -153,6 +154,8 @@ pub record IsNewAdr (b : List ℕ) (place scope num : ℕ) (name : List ℕ) : T
   pub gr_count : number b place adr_ngr_entries ≡ 0
   pub z_count : number b place adr_nz_entries ≡ 0
   pub name_is : name_in b place adr_name ≡ name
+  pub filled : IsFilled b place adr_name name
+  pub says : Says b place new_adr
 
 pub new_rows : (b : List ℕ) (place scope num : ℕ) (name : List ℕ) → IsNewAdr b place scope num name → (length name == 0) ≡ false → 1 ≤ scope → scope ≤ 4 → Hold (attribute_shape_rows b (bare_attribute place))
 new_rows b place scope num name new some low high = (

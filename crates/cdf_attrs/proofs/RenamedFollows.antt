@@ -1,7 +1,7 @@
 -- A renaming leads from a good image to one in which one attribute has another name.
 use Rattle.std.proofs.Common.{◌≡◌, ℕ, suc, ◌+◌, ◌≤◌, List, [], ◌∷◌, ◌++◌, length, Bool, true, false, ◌||◌, Option, Some, None, eq-eqb, refl, sym, ap, subst, ◌∙◌, add-zero, arith, inl, inr}
 use Rattle.std.specs.Prelude.{◌==◌, nat_lt, if◌then◌else◌}
-use Rattle.std.specs.List.{flat_map, list_any}
+use Rattle.std.specs.List.{flat_map, list_any, slice_get}
 use Rattle.cdf_model.specs.declared.answer.Reason.TheVariants as reasons
 use Rattle.cdf_model.specs.declared.answer.Reply.TheVariants as replies
 use Rattle.cdf_model.specs.declared.command.Command.{Command}
@@ -32,6 +32,7 @@ use Rattle.cdf_format.proofs.TilesLemmas.{tile_lies}
 use Rattle.cdf_format.proofs.ShapeLemmas.{shape_is}
 use Rattle.cdf_format.proofs.Kept.{Kept}
 use Rattle.cdf_format.proofs.NameRules.{stands_in, names_at, attribute_names_are}
+use Rattle.cdf_format.proofs.NewFields.{stands_behind_list, rename_attr_fields}
 use Rattle.cdf_format.proofs.OwnersApart.{vdrs_stand, file_in, unused_in, all_variable_records}
 use Rattle.cdf_format.proofs.Owning.{attributes_in}
 use Rattle.cdf_format.proofs.StaysSound.{variables_stand}
@@ -174,6 +175,14 @@ module _ (b now : List ℕ) (from to : List ℕ) (good : Good b) (before : List 
       let content_is_now = content_now b now s sound before own after all to r in
       let goes : step (content b) c ≡ Go (with_attribute (content b) (length before) (record (attribute_of b own) { name = to })) replies.Plain = rename_goes (content b) from to (length before) (attribute_of b own) found fine absent in
       let long = r.length_stays in
+      let left = rename_attr_fields b now from to (length before) (attribute_of b own) own sound.has_shape (record {
+        named = found;
+        stands = ap (λ (as_ : List AttributeShape). slice_get as_ (length before)) all ∙ stands_behind_list before own after;
+        shape_stays = same_shape;
+        length_stays = r.length_stays;
+        changed = r.changed;
+        filled = r.filled;
+      }) in
       record {
         reply = replies.Plain;
         goes = goes ∙ ap (λ (d : DataSet). Go d replies.Plain) (sym content_is_now);
@@ -186,6 +195,10 @@ module _ (b now : List ℕ) (from to : List ℕ) (good : Good b) (before : List 
         takes_stand = tt;
         takes_within = omega arith;
         keeps = keeps named;
-        blocks = tt;
-        reserved = tt;
+        blocks = left.blocks;
+        nodes = left.nodes;
+        fields = left.fields;
+        records = left.records;
+        list = left.list;
+        space = left.space;
       }

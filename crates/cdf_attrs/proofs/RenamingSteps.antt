@@ -1,6 +1,6 @@
 -- What the calls of a renaming come to.
-use Rattle.std.proofs.Common.{◌≡◌, ℕ, ◌+◌, ◌-◌, ◌<◌, ◌≤◌, List, [], ◌∷◌, ◌++◌, length, map, replicate, true, false, Option, Some, None, Result, Ok, Err, sym, ap, ap₂, subst, ◌∙◌, arith}
-use Rattle.std.proofs.lemmas.List.{length-append, length-replicate, length-map}
+use Rattle.std.proofs.Common.{◌≡◌, ℕ, ◌+◌, ◌-◌, ◌<◌, ◌≤◌, List, [], ◌∷◌, ◌++◌, length, map, take, drop, replicate, true, false, Option, Some, None, Result, Ok, Err, sym, ap, ap₂, subst, ◌∙◌, arith}
+use Rattle.std.proofs.lemmas.List.{length-append, length-replicate, length-map, take_at}
 use Rattle.std.specs.Prelude.{OnOk, slice_set}
 use Rattle.std.specs.List.{slice_get}
 use Rattle.cdf_model.specs.declared.answer.Outcome.TheVariants.{Done, Refused}
@@ -14,6 +14,7 @@ use Rattle.cdf_model.specs.Names.{is_bad_name, attribute_names, attribute_named}
 use Rattle.cdf_names.specs.Names.{has_name, number_of, last_to}
 use Rattle.cdf_format.specs.Fields.{LiesIn, with_name}
 use Rattle.cdf_format.specs.Records.{adr_name}
+use Rattle.cdf_format.specs.RecordsFollow.{IsFilled}
 use Rattle.cdf_format.specs.Content.{content, attribute_of}
 use Rattle.cdf_format.specs.Locality.{Answers}
 use Rattle.cdf_format.specs.Shape.{AttributeShape, adrs, shape}
@@ -24,6 +25,7 @@ use Rattle.cdf_format.proofs.GoodLemmas.{good_is_sound}
 use Rattle.cdf_format.proofs.ShapeLemmas.{content_is}
 use Rattle.cdf_format.proofs.Answering.{refused, gone}
 use Rattle.cdf_fields.proofs.NamesWritten.{name_reads}
+use Rattle.cdf_fields.proofs.Writes.{drop-put_there}
 use Rattle.cdf_attrs.specs.Renaming.{Renamed}
 use Rattle.cdf_attrs.proofs.NamesChanged.{fine_is_short, fine_has_no_zeros, Cut, cut, got-middle, got-map, none_named, number_within, named_there, some_named, last_moved, renamed_names}
 use Rattle.cdf_attrs.proofs.AttributeChain.{few_attributes, names_count}
@@ -31,6 +33,13 @@ use Rattle.cdf_attrs.proofs.RenamedImage.{content_now}
 use Rattle.cdf_attrs.proofs.RenamedFollows.{rename_missing, rename_bad, rename_taken, rename_goes, rename_follows}
 
 -- ---- the Name
+
+name_fills : (b : List ℕ) (place : ℕ) (to : List ℕ) → LiesIn b place adr_name → length to ≤ 256 → IsFilled (with_name b place adr_name to) place adr_name to
+unfolding with_name
+name_fills b place to lies short =
+    let xs = to ++ replicate (256 - length to) 0 in
+    let long : length xs ≡ 256 = omega (arith, length-append to (replicate (256 - length to) 0), length-replicate {A = ℕ} (256 - length to) 0) in
+    ap (take 256) (drop-put_there b xs (place + 68) (omega arith)) ∙ take_at xs (drop (place + 68 + length xs) b) 256 long
 
 pub name_written : (b : List ℕ) (place : ℕ) (to : List ℕ) → LiesIn b place adr_name → is_bad_name to ≡ false → Renamed b (with_name b place adr_name to) place to
 unfolding with_name
@@ -40,6 +49,7 @@ name_written b place to lies fine =
     let long : length xs ≡ 256 = omega (arith, length-append to (replicate (256 - length to) 0), length-replicate {A = ℕ} (256 - length to) 0) in
     record {
       name_is = name_reads b place adr_name to lies short (fine_has_no_zeros to fine);
+      filled = name_fills b place to lies short;
       length_stays = length-put b (place + 68) xs (omega arith);
       changed = changed_put b place 68 256 xs long lies;
     }
