@@ -3,3 +3,8 @@ pub mod Findings
 pub mod Readings
 pub mod TileSteps
 pub mod Rows
+pub mod Sets
+pub mod Searches
+pub mod ChainSteps
+pub mod ChainLists
+pub mod NumberSteps

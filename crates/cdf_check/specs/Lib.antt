@@ -1,2 +1,4 @@
 pub mod Verdicts
 pub mod Walked
+pub mod Met
+pub mod FileChains

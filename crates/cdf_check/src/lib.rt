@@ -2,9 +2,13 @@
 #![tactic(auto)]
 
 mod cdr_rules;
+mod chains;
 mod fields;
+mod file_chains;
 mod gdr_rules;
+mod links;
 mod magic_rules;
+mod met;
 mod record_types;
 mod tiles;
 mod validator;
