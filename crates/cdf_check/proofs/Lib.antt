@@ -8,3 +8,6 @@ pub mod Searches
 pub mod ChainSteps
 pub mod ChainLists
 pub mod NumberSteps
+pub mod DifferSteps
+pub mod EntryRows
+pub mod AttributeSteps

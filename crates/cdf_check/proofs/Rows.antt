@@ -43,3 +43,17 @@ module _ (one two : ℕ → List Row) (members : List ℕ) (i : ℕ) (lt : i < l
       let b = Hold-split (flat_map one (take i members)) (flat_map two (take i members)) before in
       let h = Hold-split (one (get_or members i 0)) (two (get_or members i 0)) here in
       Hold-append (flat_map one (take (suc i) members)) (flat_map two (take (suc i) members)) (holds_more one members i 0 lt b.0 h.0) (holds_more two members i 0 lt b.1 h.1)
+
+-- three lists of rules
+module _ (one two three : List Row) where
+  pub all_of_three : Hold one → Hold two → Hold three → Hold (one ++ two ++ three)
+  all_of_three p q r = Hold-append (one ++ two) three (Hold-append one two p q) r
+
+  pub first_of_three : (rule place : ℕ) → IsBroken one rule place → IsBroken (one ++ two ++ three) rule place
+  first_of_three rule place p = IsBroken-before (one ++ two) three rule place (IsBroken-before one two rule place p)
+
+  pub second_of_three : (rule place : ℕ) → IsBroken two rule place → IsBroken (one ++ two ++ three) rule place
+  second_of_three rule place p = IsBroken-before (one ++ two) three rule place (IsBroken-after one two rule place p)
+
+  pub third_of_three : (rule place : ℕ) → IsBroken three rule place → IsBroken (one ++ two ++ three) rule place
+  third_of_three rule place p = IsBroken-after (one ++ two) three rule place p

@@ -2,3 +2,4 @@ pub mod Verdicts
 pub mod Walked
 pub mod Met
 pub mod FileChains
+pub mod Entries

@@ -1,8 +1,10 @@
 //! Whether a file is well formed, rule by rule.
 #![tactic(auto)]
 
+mod attributes;
 mod cdr_rules;
 mod chains;
+mod entries;
 mod fields;
 mod file_chains;
 mod gdr_rules;
