@@ -11,3 +11,5 @@ pub mod NumberSteps
 pub mod DifferSteps
 pub mod EntryRows
 pub mod AttributeSteps
+pub mod Tallies
+pub mod OwnedRows

@@ -11,6 +11,7 @@ mod gdr_rules;
 mod links;
 mod magic_rules;
 mod met;
+mod owners;
 mod record_types;
 mod tiles;
 mod validator;
