@@ -1,23 +1,23 @@
 -- The attributes of an image, one after the other.
-use Rattle.std.proofs.Common.{◌≡◌, ℕ, zero, suc, ◌+◌, ◌<◌, ◌≤◌, List, [], ◌∷◌, ◌++◌, length, map, take, get_or, refl, sym, ap, ap₂, ◌∙◌, subst, arith, append_assoc, append-nil}
+use Rattle.std.proofs.Common.{◌≡◌, ℕ, ◌+◌, ◌<◌, ◌≤◌, List, [], ◌∷◌, ◌++◌, length, map, take, get_or, refl, sym, ap, ◌∙◌, subst, arith, append_assoc, append-nil}
 use Rattle.std.proofs.lemmas.List.{take_more, map-append}
 use Rattle.std.specs.List.{flat_map}
-use Rattle.cdf_format.specs.AttributeRules.{attribute_rows, same_name, phase6}
+use Rattle.cdf_format.specs.AttributeRules.{same_name, phase6}
 use Rattle.cdf_format.specs.ChainRules.{differ_rows}
-use Rattle.cdf_format.specs.Fields.{LiesIn, name_at, name_field, name_in, size_at, type_at}
+use Rattle.cdf_format.specs.Fields.{LiesIn, name_at, name_field, name_in, type_at}
 use Rattle.cdf_format.specs.Owners.{attribute_records}
 use Rattle.cdf_format.specs.Records.{adr_name, gdr_adr_head}
 use Rattle.cdf_format.specs.RecordTypes.{adr_type}
 use Rattle.cdf_format.specs.Rules.{Row, Hold, IsBroken}
 use Rattle.cdf_format.specs.Shape.{AttributeShape, adr_chain, attribute_shape}
 use Rattle.cdf_format.specs.Fields.{gdr_offset}
-use Rattle.cdf_format.specs.Tiles.{In, AreTiles, tiling}
+use Rattle.cdf_format.specs.Tiles.{AreTiles, tiling}
 use Rattle.cdf_format.specs.Walks.{Walk, whole, records_of}
 use Rattle.cdf_format.proofs.ChainsLemmas.{chain_sound, linkable-in, linkable-type}
 use Rattle.cdf_format.proofs.Members.{length-le_from_distinct}
 use Rattle.cdf_format.proofs.RowLemmas.{Hold-append, IsBroken-before, IsBroken-after}
-use Rattle.cdf_format.proofs.TilesLemmas.{tile_lies, length_tiles, tiling_sound}
-use Rattle.cdf_check.specs.Entries.{IsAttribute, AreAttributes, AreEntries, attribute_rows_in}
+use Rattle.cdf_format.proofs.TilesLemmas.{tile_lies, length_tiles}
+use Rattle.cdf_check.specs.Entries.{IsAttribute, AreAttributes, attribute_rows_in}
 use Rattle.cdf_check.specs.FileChains.{AreLong}
 
 -- ---- the Name of an attribute

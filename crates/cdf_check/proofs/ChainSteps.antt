@@ -1,8 +1,7 @@
 -- Steps of a walk along links.
-use Rattle.std.proofs.Common.{◌≡◌, ℕ, zero, suc, ◌+◌, ◌<◌, ◌≤◌, List, [], ◌∷◌, ◌++◌, length, true, false, not, ◌&&◌, eqb, refl, sym, ap, ◌∙◌, arith}
+use Rattle.std.proofs.Common.{◌≡◌, ℕ, zero, suc, ◌+◌, ◌<◌, ◌≤◌, List, [], ◌∷◌, ◌++◌, true, false, not, ◌&&◌, eqb, refl, sym, ◌∙◌, arith}
 use Rattle.std.proofs.lemmas.Bool.{and_parts}
 use Rattle.std.proofs.lemmas.Bool.Decides.{nat_tests}
-use Rattle.cdf_format.specs.Fields.{size_at}
 use Rattle.cdf_format.specs.Tiles.{AreTiles}
 use Rattle.cdf_format.specs.Walks.{Walk, whole, stuck}
 use Rattle.cdf_format.specs.Chains.{is_in, is_linkable, next_of, chain_on}

@@ -1,11 +1,9 @@
 -- No member of a list is like one before it.
-use Rattle.std.proofs.Common.{◌≡◌, ℕ, zero, suc, ◌+◌, ◌<◌, ◌≤◌, List, [], ◌∷◌, ◌++◌, length, map, take, drop, get_or, Bool, true, false, not, ◌||◌, eqb, refl, sym, ap, ◌∙◌, arith, inl, inr, Option, Some, None, add-one, bytes_eq}
+use Rattle.std.proofs.Common.{◌≡◌, ℕ, ◌+◌, ◌<◌, List, [], ◌∷◌, ◌++◌, length, map, take, drop, get_or, Bool, true, false, not, ◌||◌, eqb, refl, sym, ap, ◌∙◌, inl, inr, Option, Some, None, add-one}
 use Rattle.std.proofs.lemmas.List.{take_more, map-append}
 use Rattle.std.specs.List.{list_any}
-use Rattle.cdf_format.specs.Fields.{number, name_in}
-use Rattle.cdf_format.specs.Records.{Field}
 use Rattle.cdf_format.specs.Chains.{is_in}
-use Rattle.cdf_format.specs.Rules.{Row, row, Hold, IsBroken}
+use Rattle.cdf_format.specs.Rules.{Row, IsBroken}
 use Rattle.cdf_format.specs.ChainRules.{differ_rows}
 use Rattle.cdf_check.specs.declared.verdict.Broken.{Broken}
 use Rattle.cdf_check.specs.Verdicts.{Finds}

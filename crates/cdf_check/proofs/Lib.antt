@@ -13,3 +13,5 @@ pub mod EntryRows
 pub mod AttributeSteps
 pub mod Tallies
 pub mod OwnedRows
+pub mod ImageSteps
+pub mod PhaseSteps

@@ -1,10 +1,10 @@
 -- The numbers of the members of a chain, one after the other.
-use Rattle.std.proofs.Common.{◌≡◌, ◌≢◌, ℕ, zero, suc, ◌+◌, ◌<◌, ◌≤◌, List, [], ◌∷◌, length, drop, get_or, eq-eqb, refl, sym, ap, ◌∙◌, arith, inl, inr, Option, Some, None}
-use Rattle.cdf_format.specs.Fields.{size_at, type_at, word, number}
+use Rattle.std.proofs.Common.{◌≡◌, ◌≢◌, ℕ, zero, suc, ◌+◌, ◌<◌, ◌≤◌, List, [], ◌∷◌, length, drop, get_or, eq-eqb, refl, arith, inl, inr, Option, Some, None}
+use Rattle.cdf_format.specs.Fields.{number}
 use Rattle.cdf_format.specs.Records.{Field}
 use Rattle.cdf_format.specs.RecordTypes.{fixed_size}
 use Rattle.cdf_format.specs.Tiles.{In, AreTiles}
-use Rattle.cdf_format.specs.Rules.{Hold, IsBroken}
+use Rattle.cdf_format.specs.Rules.{IsBroken}
 use Rattle.cdf_format.specs.Walks.{whole}
 use Rattle.cdf_format.specs.Chains.{chain}
 use Rattle.cdf_format.specs.ChainRules.{number_rows}

@@ -9,7 +9,7 @@ use Rattle.cdf_format.specs.RecordTypes.{uir_type}
 use Rattle.cdf_format.specs.Rules.{Row}
 use Rattle.cdf_format.specs.Shape.{shape}
 use Rattle.cdf_format.specs.Tiles.{tiles, tiling}
-use Rattle.cdf_format.specs.Walks.{Walk, whole, records_of}
+use Rattle.cdf_format.specs.Walks.{whole, records_of}
 use Rattle.cdf_check.specs.declared.verdict.Broken.{Broken}
 use Rattle.cdf_check.specs.Verdicts.{Finds}
 

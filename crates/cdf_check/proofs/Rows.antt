@@ -1,8 +1,7 @@
 -- The rules of each member of a list, one after the other.
-use Rattle.std.proofs.Common.{◌≡◌, ℕ, zero, suc, ◌+◌, ◌<◌, List, [], ◌∷◌, ◌++◌, length, take, drop, get_or, refl, sym, ◌∙◌, ap, subst, inl, inr, ◌⊎◌, arith}
-use Rattle.std.proofs.lemmas.List.{take_more}
+use Rattle.std.proofs.Common.{ℕ, zero, suc, ◌<◌, List, [], ◌∷◌, ◌++◌, length, take, get_or, refl, inl, inr, ◌⊎◌, arith}
 use Rattle.std.specs.List.{flat_map}
-use Rattle.cdf_format.specs.Rules.{Row, row, Hold, IsBroken}
+use Rattle.cdf_format.specs.Rules.{Row, Hold, IsBroken}
 use Rattle.cdf_format.specs.Tiles.{In}
 use Rattle.cdf_format.proofs.RowLemmas.{Hold-append, Hold-split, IsBroken-before, IsBroken-after}
 

@@ -1,5 +1,5 @@
 -- How often records stand in a list.
-use Rattle.std.proofs.Common.{◌≡◌, ◌≢◌, ℕ, zero, suc, ◌+◌, ◌-◌, ◌<◌, ◌≤◌, List, [], ◌∷◌, ◌++◌, length, get_or, take, set, Bool, true, false, cond, eqb, eq-eqb, refl, true≢false, length-set, sym, ap, ◌∙◌, subst, arith, inl, inr, ◌⊎◌, get_or-set_same, get_or-set_other, Option, Some, None}
+use Rattle.std.proofs.Common.{◌≡◌, ◌≢◌, ℕ, zero, suc, ◌+◌, ◌<◌, ◌≤◌, List, [], ◌∷◌, ◌++◌, length, get_or, take, set, cond, eqb, eq-eqb, refl, true≢false, length-set, sym, ap, ◌∙◌, arith, inl, inr, get_or-set_same, get_or-set_other, None}
 use Rattle.std.proofs.lemmas.Bool.{eqb-true, cases_lt}
 use Rattle.std.proofs.lemmas.List.{take_more}
 use Rattle.cdf_format.specs.Fields.{size_at}

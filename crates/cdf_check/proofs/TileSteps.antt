@@ -1,10 +1,10 @@
 -- Steps of the walk over the records of an image.
-use Rattle.std.proofs.Common.{◌≡◌, ◌≢◌, ℕ, zero, suc, ◌+◌, ◌≤◌, List, [], ◌∷◌, ◌++◌, length, true, false, eqb, leb, eq-eqb, refl, sym, ap, ◌∙◌, arith, inl, inr, append_assoc, append-nil}
+use Rattle.std.proofs.Common.{◌≡◌, ◌≢◌, ℕ, zero, suc, ◌+◌, ◌≤◌, List, [], ◌∷◌, ◌++◌, length, true, false, eqb, leb, eq-eqb, refl, sym, ap, ◌∙◌, inl, inr, append_assoc, append-nil}
 use Rattle.std.proofs.lemmas.Bool.{eqb-true, and_parts, leb-true}
 use Rattle.cdf_format.specs.Fields.{size_at}
 use Rattle.cdf_format.specs.Walks.{Walk, whole, stuck, after_first}
 use Rattle.cdf_format.specs.Tiles.{is_tile, tiles_from}
-use Rattle.cdf_format.specs.Rules.{Hold, IsBroken}
+use Rattle.cdf_format.specs.Rules.{IsBroken}
 use Rattle.cdf_format.specs.Tiles.{tiling}
 use Rattle.cdf_format.specs.NotRead.{unread_type}
 use Rattle.cdf_format.specs.RecordRules.{record_rows, phase4}

@@ -1,12 +1,12 @@
 -- The chains that begin in the Global Descriptor Record.
-use Rattle.std.specs.Prelude.{◌≡◌, ◌≤◌, ℕ, ◌+◌, List, [], ◌∷◌, ◌++◌}
-use Rattle.cdf_format.specs.Fields.{gdr_offset, size_at, type_at}
+use Rattle.std.specs.Prelude.{◌≡◌, ◌≤◌, ℕ, ◌+◌, List, [], ◌++◌}
+use Rattle.cdf_format.specs.Fields.{size_at, type_at}
 use Rattle.cdf_format.specs.Records.{field}
-use Rattle.cdf_format.specs.RecordTypes.{gdr_type, fixed_size}
-use Rattle.cdf_format.specs.Rules.{Row, row}
+use Rattle.cdf_format.specs.RecordTypes.{fixed_size}
+use Rattle.cdf_format.specs.Rules.{Row}
 use Rattle.cdf_format.specs.Tiles.{In}
 use Rattle.cdf_format.specs.Walks.{Walk, whole}
-use Rattle.cdf_format.specs.Chains.{is_a, chain}
+use Rattle.cdf_format.specs.Chains.{chain}
 use Rattle.cdf_format.specs.ChainRules.{chain_rows, count_rows, number_rows, adrs_rows, r_vdrs_rows, z_vdrs_rows}
 use Rattle.cdf_format.specs.Shape.{adr_chain, r_vdr_chain, z_vdr_chain, uir_chain}
 use Rattle.cdf_check.specs.declared.chains.Numbered.{Numbered}

@@ -8,6 +8,7 @@ mod entries;
 mod fields;
 mod file_chains;
 mod gdr_rules;
+mod image_rules;
 mod links;
 mod magic_rules;
 mod met;
@@ -19,3 +20,6 @@ mod verdict;
 
 pub use validator::check;
 pub use verdict::Verdict;
+
+#[cfg(test)]
+mod tests;

@@ -1,6 +1,5 @@
-use Rattle.std.proofs.Common.{◌≡◌, ◌+◌, ◌≤◌, length, arith}
+use Rattle.std.proofs.Common.{◌≡◌, ◌+◌, length, arith}
 use Rattle.cdf_format.specs.Records.{field}
-use Rattle.cdf_format.specs.Tiles.{In}
 use Rattle.cdf_format.specs.Walks.{whole}
 use Rattle.cdf_check.specs.FileChains.{walk_of}
 use Rattle.cdf_check.proofs.NumberSteps.{member_fields}

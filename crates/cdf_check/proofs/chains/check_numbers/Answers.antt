@@ -1,4 +1,4 @@
-use Rattle.std.proofs.Common.{◌≡◌, ◌+◌, ◌≤◌, length, get_or, arith}
+use Rattle.std.proofs.Common.{get_or, arith}
 use Rattle.cdf_check.proofs.Rows.{In-get_or}
 use Rattle.cdf_check.proofs.chains.check_numbers.Goals as goal
 

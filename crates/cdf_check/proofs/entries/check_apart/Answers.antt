@@ -1,9 +1,8 @@
-use Rattle.std.proofs.Common.{◌≡◌, ℕ, List, ◌+◌, ◌≤◌, length, get_or, map, take, eqb, true, false, sym, ap, ◌∙◌, arith, Some, Option}
+use Rattle.std.proofs.Common.{◌≡◌, ℕ, get_or, eqb, true, false, sym, ap, ◌∙◌, arith, Some}
 use Rattle.std.specs.List.{list_any}
 use Rattle.cdf_format.specs.Chains.{is_in}
 use Rattle.cdf_format.specs.Fields.{number}
 use Rattle.cdf_format.specs.Records.{aedr_num}
-use Rattle.cdf_check.specs.declared.verdict.Broken.{Broken}
 use Rattle.cdf_check.proofs.Rows.{In-get_or}
 use Rattle.cdf_check.proofs.DifferSteps.{key_met, key_new, keys_more, is_in-any}
 use Rattle.cdf_check.proofs.entries.check_apart.Goals as goal

@@ -1,4 +1,4 @@
-use Rattle.std.proofs.Common.{◌≡◌, ◌+◌, ◌≤◌, ◌∙◌, get_or, length, arith, add-one, Some, None}
+use Rattle.std.proofs.Common.{◌∙◌, get_or, arith, add-one, Some, None}
 use Rattle.cdf_format.specs.AttributeRules.{entry_rows}
 use Rattle.cdf_check.specs.Verdicts.{Finds}
 use Rattle.cdf_check.proofs.Rows.{In-get_or, broken_member, holds_more}

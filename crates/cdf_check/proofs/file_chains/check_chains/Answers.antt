@@ -1,4 +1,3 @@
-use Rattle.std.proofs.Common.{◌≡◌, length}
 use Rattle.cdf_format.proofs.TilesLemmas.{tiling_sound}
 use Rattle.cdf_check.proofs.file_chains.check_chains.Goals as goal
 

@@ -1,4 +1,4 @@
-use Rattle.std.proofs.Common.{◌≡◌, ◌+◌, ◌≤◌, length, sym, ◌∙◌, arith}
+use Rattle.std.proofs.Common.{sym, ◌∙◌, arith}
 use Rattle.cdf_format.proofs.Members.{true-is_in}
 use Rattle.cdf_format.proofs.TilesLemmas.{tile_lies}
 use Rattle.cdf_check.proofs.Searches.{tiles_ascend}

@@ -1,4 +1,4 @@
-use Rattle.std.proofs.Common.{◌≡◌, sym, Ok, Err}
+use Rattle.std.proofs.Common.{sym, Ok, Err}
 use Rattle.std.proofs.lemmas.List.Sorted.{searched}
 use Rattle.cdf_check.proofs.Searches.{found_in, not_found_in}
 use Rattle.cdf_check.proofs.links.stands_in.Goals as goal

@@ -1,4 +1,4 @@
-use Rattle.std.proofs.Common.{◌≡◌, suc, ◌+◌, ◌-◌, ◌<◌, ◌≤◌, length, true, false, not, ◌&&◌, sym, ap, ◌∙◌, arith}
+use Rattle.std.proofs.Common.{◌≡◌, suc, ◌+◌, ◌-◌, length, true, false, not, ◌&&◌, sym, ◌∙◌, arith}
 use Rattle.cdf_format.specs.Chains.{is_in, is_linkable, chain}
 use Rattle.cdf_format.specs.Records.{field}
 use Rattle.cdf_check.proofs.ChainSteps.{chain_ends, chain_stops, chain_spent, chain_more, next_lies}

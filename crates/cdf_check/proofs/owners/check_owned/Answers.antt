@@ -1,4 +1,4 @@
-use Rattle.std.proofs.Common.{◌≡◌, ℕ, ◌<◌, ◌+◌, length, get_or, take, ap, ◌∙◌, refl, arith, add-one, inl, inr, eq-eqb}
+use Rattle.std.proofs.Common.{get_or, refl, arith, add-one, inl, eq-eqb}
 use Rattle.cdf_format.specs.Phases.{owner_rows}
 use Rattle.cdf_check.proofs.Rows.{broken_member, holds_more}
 use Rattle.cdf_check.proofs.Tallies.{at_default}

@@ -1,4 +1,4 @@
-use Rattle.std.proofs.Common.{◌≡◌, ℕ, ◌<◌, ◌+◌, length, get_or, take, set, sym, ◌∙◌, arith, subst}
+use Rattle.std.proofs.Common.{ℕ, ◌+◌, take, set, sym, ◌∙◌, arith, subst}
 use Rattle.cdf_check.specs.Walked.{Counts}
 use Rattle.cdf_check.proofs.Tallies.{counts_small, counts_hit, counts_miss, at_default}
 use Rattle.cdf_check.proofs.owners.count_owned.Goals.{in-Some, in_default}

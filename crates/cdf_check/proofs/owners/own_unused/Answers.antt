@@ -1,4 +1,4 @@
-use Rattle.std.proofs.Common.{◌≡◌, ◌+◌, ◌≤◌, get_or, length, arith}
+use Rattle.std.proofs.Common.{get_or, length, arith}
 use Rattle.cdf_format.proofs.TilesLemmas.{tile_lies}
 use Rattle.cdf_check.proofs.Rows.{In-get_or}
 use Rattle.cdf_check.proofs.owners.own_unused.Goals as goal

@@ -1,4 +1,4 @@
-use Rattle.std.proofs.Common.{◌≡◌, ℕ, ◌<◌, length, get_or, Ok, Err, arith, inl, inr}
+use Rattle.std.proofs.Common.{Ok, Err, arith, inl, inr}
 use Rattle.std.proofs.lemmas.Bool.{cases_lt}
 use Rattle.std.proofs.lemmas.List.Sorted.{searched}
 use Rattle.cdf_check.proofs.Tallies.{climbs_ascends}

@@ -1,4 +1,4 @@
-use Rattle.std.proofs.Common.{◌≡◌, length}
+use Rattle.std.proofs.Common.{◌≡◌}
 use Rattle.cdf_format.specs.Tiles.{tiling}
 use Rattle.cdf_format.specs.Walks.{whole}
 use Rattle.cdf_format.proofs.TilesLemmas.{tiling_sound}

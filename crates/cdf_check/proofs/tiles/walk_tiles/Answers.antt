@@ -1,10 +1,7 @@
-use Rattle.std.proofs.Common.{◌≡◌, ◌≢◌, ℕ, List, suc, ◌+◌, ◌-◌, ◌≤◌, length, true, false, sym, ap, ◌∙◌, subst, arith, Some, None}
-use Rattle.std.proofs.lemmas.Bool.{and_parts, leb-true}
-use Rattle.std.specs.Prelude.{nat_le}
-use Rattle.cdf_format.specs.Fields.{size_at}
-use Rattle.cdf_format.specs.Tiles.{tiles_from, tiling}
+use Rattle.std.proofs.Common.{◌≡◌, ◌≢◌, suc, ◌+◌, ◌-◌, length, ◌∙◌, arith, Some, None}
+use Rattle.cdf_format.specs.Tiles.{tiling}
 use Rattle.cdf_check.specs.Walked.{SizesTile}
-use Rattle.cdf_check.proofs.TileSteps.{behind, tiles_end, tiles_stop, tiles_spent, tiles_more, tile_ends}
+use Rattle.cdf_check.proofs.TileSteps.{tiles_end, tiles_stop, tiles_spent, tiles_more, tile_ends}
 use Rattle.cdf_check.proofs.tiles.walk_tiles.Goals as goal
 
 pub returns-then-place-eof-clause-walk : goal.returns-then-place-eof-clause-walk

@@ -1,4 +1,4 @@
-use Rattle.std.proofs.Common.{◌≡◌, ◌++◌, ◌∷◌, [], ◌∙◌}
+use Rattle.std.proofs.Common.{◌∙◌}
 use Rattle.cdf_check.proofs.Sets.{agrees_more}
 use Rattle.cdf_check.proofs.met.Met.add.Goals as goal
 
