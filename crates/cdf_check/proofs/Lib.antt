@@ -1,0 +1,17 @@
+pub mod Codes
+pub mod Findings
+pub mod Readings
+pub mod TileSteps
+pub mod Rows
+pub mod Sets
+pub mod Searches
+pub mod ChainSteps
+pub mod ChainLists
+pub mod NumberSteps
+pub mod DifferSteps
+pub mod EntryRows
+pub mod AttributeSteps
+pub mod Tallies
+pub mod OwnedRows
+pub mod ImageSteps
+pub mod PhaseSteps

@@ -1,1 +1,5 @@
 pub mod Verdicts
+pub mod Walked
+pub mod Met
+pub mod FileChains
+pub mod Entries

@@ -1,8 +1,25 @@
 //! Whether a file is well formed, rule by rule.
 #![tactic(auto)]
 
+mod attributes;
+mod cdr_rules;
+mod chains;
+mod entries;
+mod fields;
+mod file_chains;
+mod gdr_rules;
+mod image_rules;
+mod links;
+mod magic_rules;
+mod met;
+mod owners;
+mod record_types;
+mod tiles;
 mod validator;
 mod verdict;
 
 pub use validator::check;
 pub use verdict::Verdict;
+
+#[cfg(test)]
+mod tests;

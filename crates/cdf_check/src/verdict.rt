@@ -1,3 +1,5 @@
+ghost use Rattle.std.specs.Prelude.{◌≡◌};
+
 /// What a check of a whole file finds.
 #[derive(Clone, Copy, Debug, PartialEq, Eq)]
 pub enum Verdict {
@@ -12,4 +14,15 @@ pub enum Verdict {
 pub struct Broken {
     pub rule: u8,
     pub place: u64,
+}
+
+/// The verdict on a file that breaks a rule of this phase.
+pub fn no(phase: u8, broken: Broken) -> Verdict
+    ensures { result ≡ Verdict.No phase broken.rule broken.place }
+{
+    Verdict::No {
+        phase,
+        rule: broken.rule,
+        at: broken.place,
+    }
 }

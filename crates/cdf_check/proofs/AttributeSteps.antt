@@ -1,0 +1,80 @@
+-- The attributes of an image, one after the other.
+use Rattle.std.proofs.Common.{◌≡◌, ℕ, ◌+◌, ◌<◌, ◌≤◌, List, [], ◌∷◌, ◌++◌, length, map, take, get_or, refl, sym, ap, ◌∙◌, subst, arith, append_assoc, append-nil}
+use Rattle.std.proofs.lemmas.List.{take_more, map-append}
+use Rattle.std.specs.List.{flat_map}
+use Rattle.cdf_format.specs.AttributeRules.{same_name, phase6}
+use Rattle.cdf_format.specs.ChainRules.{differ_rows}
+use Rattle.cdf_format.specs.Fields.{LiesIn, name_at, name_field, name_in, type_at}
+use Rattle.cdf_format.specs.Owners.{attribute_records}
+use Rattle.cdf_format.specs.Records.{adr_name, gdr_adr_head}
+use Rattle.cdf_format.specs.RecordTypes.{adr_type}
+use Rattle.cdf_format.specs.Rules.{Row, Hold, IsBroken}
+use Rattle.cdf_format.specs.Shape.{AttributeShape, adr_chain, attribute_shape}
+use Rattle.cdf_format.specs.Fields.{gdr_offset}
+use Rattle.cdf_format.specs.Tiles.{AreTiles, tiling}
+use Rattle.cdf_format.specs.Walks.{Walk, whole, records_of}
+use Rattle.cdf_format.proofs.ChainsLemmas.{chain_sound, linkable-in, linkable-type}
+use Rattle.cdf_format.proofs.Members.{length-le_from_distinct}
+use Rattle.cdf_format.proofs.RowLemmas.{Hold-append, IsBroken-before, IsBroken-after}
+use Rattle.cdf_format.proofs.TilesLemmas.{tile_lies, length_tiles}
+use Rattle.cdf_check.specs.Entries.{IsAttribute, AreAttributes, attribute_rows_in}
+use Rattle.cdf_check.specs.FileChains.{AreLong}
+
+-- ---- the Name of an attribute
+
+pub name_lies : (b : List ℕ) (adr : ℕ) → IsAttribute b adr → LiesIn b adr (name_field (type_at b adr))
+name_lies b adr is = rw is.type_is (omega (arith, is.fits))
+
+pub name_is : (b : List ℕ) (adr : ℕ) → IsAttribute b adr → name_at b adr ≡ name_in b adr adr_name
+name_is b adr is = rw is.type_is refl
+
+-- ---- the records of attributes
+
+pub pushed : (owned : List ℕ) (adr : ℕ) (gr z : List ℕ) → ((owned ++ adr ∷ []) ++ gr) ++ z ≡ owned ++ (adr ∷ gr ++ z)
+pushed owned adr gr z = ap (λ (xs : List ℕ). xs ++ z) (append_assoc owned (adr ∷ []) gr) ∙ append_assoc owned (adr ∷ gr) z
+
+flat_one : (xs : List AttributeShape) (a : AttributeShape) → flat_map attribute_records (xs ++ a ∷ []) ≡ flat_map attribute_records xs ++ attribute_records a
+flat_one [] a = append-nil (attribute_records a)
+flat_one (x ∷ xs) a = ap (λ (r : List ℕ). attribute_records x ++ r) (flat_one xs a) ∙ sym (append_assoc (attribute_records x) (flat_map attribute_records xs) (attribute_records a))
+
+module _ (b ts adrs : List ℕ) (i : ℕ) (lt : i < length adrs) where
+  pub owned_more : (gr z : List ℕ) → attribute_records (attribute_shape b ts (get_or adrs i 0)) ≡ get_or adrs i 0 ∷ gr ++ z
+      → flat_map attribute_records (map (attribute_shape b ts) (take (i + 1) adrs)) ≡ flat_map attribute_records (map (attribute_shape b ts) (take i adrs)) ++ (get_or adrs i 0 ∷ gr ++ z)
+  owned_more gr z is =
+      let one : map (attribute_shape b ts) (take (i + 1) adrs) ≡ map (attribute_shape b ts) (take i adrs) ++ attribute_shape b ts (get_or adrs i 0) ∷ [] = ap (map (attribute_shape b ts)) (take_more adrs i 0 lt) ∙ map-append (attribute_shape b ts) (take i adrs) (get_or adrs i 0 ∷ []) in
+      ap (flat_map attribute_records) one ∙ flat_one (map (attribute_shape b ts) (take i adrs)) (attribute_shape b ts (get_or adrs i 0)) ∙ ap (λ (r : List ℕ). flat_map attribute_records (map (attribute_shape b ts) (take i adrs)) ++ r) is
+
+-- ---- the attributes of a file
+
+pub chain_attributes : (b ts : List ℕ) (adrs : List ℕ) → AreTiles b 8 (length b) ts → AreLong b ts → adr_chain b ts ≡ whole adrs → AreAttributes b adrs
+chain_attributes b ts adrs tiled long is adr i =
+    let linkable = (chain_sound b ts adr_type (gdr_offset b) gdr_adr_head adrs is).linkable adr i in
+    let inside = linkable-in b ts adr_type adr linkable in
+    let type = linkable-type b ts adr_type adr linkable in
+    let enough = rw type at (long adr inside) in
+    let lies = tile_lies b 8 (length b) ts adr tiled inside in
+    record { type_is = type; fits = omega (arith, enough, lies.high) }
+
+pub chain_few : (b ts : List ℕ) (adrs : List ℕ) → AreTiles b 8 (length b) ts → adr_chain b ts ≡ whole adrs → length adrs ≤ length b
+chain_few b ts adrs tiled is =
+    let c = chain_sound b ts adr_type (gdr_offset b) gdr_adr_head adrs is in
+    let less = length-le_from_distinct adrs ts c.once (λ m i. linkable-in b ts adr_type m (c.linkable m i)) in
+    omega (arith, less, length_tiles b 8 (length b) ts tiled)
+
+-- ---- the rules of the phase
+
+module _ (b ts adrs : List ℕ) (tiles_are : tiling b ≡ whole ts) (chain_is : adr_chain b ts ≡ whole adrs) where
+  abbrev of_chain : List ℕ → List ℕ → List Row
+  of_chain records members = flat_map (attribute_rows_in b records) members ++ differ_rows 2 (same_name b adr_name) [] members
+
+  rows_are : phase6 b ≡ of_chain ts adrs
+  rows_are = ap (λ (w : Walk). of_chain (records_of w) (records_of (adr_chain b (records_of w)))) tiles_are ∙ ap (λ (w : Walk). of_chain ts (records_of w)) chain_is
+
+  pub phase6_holds : Hold (flat_map (attribute_rows_in b ts) adrs) → Hold (differ_rows 2 (same_name b adr_name) [] adrs) → Hold (phase6 b)
+  phase6_holds p q = subst Hold (sym rows_are) (Hold-append (flat_map (attribute_rows_in b ts) adrs) (differ_rows 2 (same_name b adr_name) [] adrs) p q)
+
+  pub attributes_break : (rule place : ℕ) → IsBroken (flat_map (attribute_rows_in b ts) adrs) rule place → IsBroken (phase6 b) rule place
+  attributes_break rule place p = subst (λ (rows : List Row). IsBroken rows rule place) (sym rows_are) (IsBroken-before (flat_map (attribute_rows_in b ts) adrs) (differ_rows 2 (same_name b adr_name) [] adrs) rule place p)
+
+  pub names_break : (rule place : ℕ) → IsBroken (differ_rows 2 (same_name b adr_name) [] adrs) rule place → IsBroken (phase6 b) rule place
+  names_break rule place p = subst (λ (rows : List Row). IsBroken rows rule place) (sym rows_are) (IsBroken-after (flat_map (attribute_rows_in b ts) adrs) (differ_rows 2 (same_name b adr_name) [] adrs) rule place p)

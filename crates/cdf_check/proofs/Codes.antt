@@ -1,0 +1,25 @@
+-- The code of an encoding is small, so it is the same with a sign and without one.
+use Rattle.std.proofs.Common.{◌≡◌, ℕ, ◌-◌, ◌^◌, ◌<◌, ◌≤◌, suc, ℤ, false, inl, inr, sym, ◌∙◌, ap, arith}
+use Rattle.std.proofs.lemmas.Bool.{cases_lt}
+use Rattle.std.proofs.lemmas.Bool.Decides.{nat_tests}
+use Rattle.std.proofs.lemmas.Int.{to_z_pos, of_z-to_z}
+use Rattle.std.proofs.Math.Facts.{to_z-neg}
+use Rattle.std.specs.Prelude.{is_some}
+use Rattle.std.specs.Int.{w32, cast_signed, cast_unsigned}
+use Rattle.cdf_model.specs.Encodings.{encoding_of, encoding_at}
+
+large_is_unknown : (code : ℕ) → 2 ^ 31 ≤ code → is_some (encoding_at code) ≡ false
+large_is_unknown code large = grind (arith, nat_tests)
+
+same_code : (code : ℕ) → code < 2 ^ 32 → is_some (encoding_of (cast_signed w32 code)) ≡ is_some (encoding_at code)
+same_code code fits =
+    elim (cases_lt code (2 ^ 31)) [
+      | inl small ↦ ap (λ (z : ℤ). is_some (encoding_of z)) (to_z_pos w32 code small)
+      | inr large ↦
+          let back : 2 ^ 32 - suc (2 ^ 32 - suc code) ≡ code = omega arith in
+          let negative = rw back at (to_z-neg w32 (2 ^ 32 - suc code) (omega arith)) in
+          ap (λ (z : ℤ). is_some (encoding_of z)) negative ∙ sym (large_is_unknown code large)
+    ]
+
+pub known_code : (read : ℤ) (code : ℕ) → read ≡ cast_signed w32 code → code < 2 ^ 32 → is_some (encoding_of (cast_signed w32 (cast_unsigned w32 read))) ≡ is_some (encoding_at code)
+known_code read code is fits = rw (is, of_z-to_z w32 code fits) (same_code code fits)

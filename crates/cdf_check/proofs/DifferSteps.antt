@@ -1,0 +1,36 @@
+-- No member of a list is like one before it.
+use Rattle.std.proofs.Common.{◌≡◌, ℕ, ◌+◌, ◌<◌, List, [], ◌∷◌, ◌++◌, length, map, take, drop, get_or, Bool, true, false, not, ◌||◌, eqb, refl, sym, ap, ◌∙◌, inl, inr, Option, Some, None, add-one}
+use Rattle.std.proofs.lemmas.List.{take_more, map-append}
+use Rattle.std.specs.List.{list_any}
+use Rattle.cdf_format.specs.Chains.{is_in}
+use Rattle.cdf_format.specs.Rules.{Row, IsBroken}
+use Rattle.cdf_format.specs.ChainRules.{differ_rows}
+use Rattle.cdf_check.specs.declared.verdict.Broken.{Broken}
+use Rattle.cdf_check.specs.Verdicts.{Finds}
+use Rattle.cdf_check.proofs.NumberSteps.{drop_at}
+
+-- what a member is compared by
+module _ {X : Type 0} (key : ℕ → X) (same : X → X → Bool) (rule : ℕ) (ms : List ℕ) (i : ℕ) (lt : i < length ms) (keys : List X) (are : keys ≡ map key (take i ms)) where
+  rows : List ℕ → List ℕ → List Row
+  rows before rest = differ_rows rule (λ m other. same (key m) (key other)) before rest
+
+  any-map : (x : X) (xs : List ℕ) → list_any (same x) (map key xs) ≡ list_any (λ m. same x (key m)) xs
+  any-map x [] = refl
+  any-map x (m ∷ xs) = ap (λ (p : Bool). same x (key m) || p) (any-map x xs)
+
+  test_is : list_any (same (key (get_or ms i 0))) keys ≡ list_any (λ m. same (key (get_or ms i 0)) (key m)) (take i ms)
+  test_is = rw are (any-map (key (get_or ms i 0)) (take i ms))
+
+  pub key_met : list_any (same (key (get_or ms i 0))) keys ≡ true → IsBroken (differ_rows rule (λ m other. same (key m) (key other)) (take i ms) (drop i ms)) rule (get_or ms i 0)
+  key_met old = rw (drop_at ms i lt) (inl (refl, refl, ap not (sym test_is ∙ old)))
+
+  pub key_new : list_any (same (key (get_or ms i 0))) keys ≡ false → (found : Option Broken) → Finds (differ_rows rule (λ m other. same (key m) (key other)) (take (i + 1) ms) (drop (i + 1) ms)) found → Finds (differ_rows rule (λ m other. same (key m) (key other)) (take i ms) (drop i ms)) found
+  key_new new None rest = rw (drop_at ms i lt) (ap not (sym test_is ∙ new), rw (take_more ms i 0 lt, add-one) at rest)
+  key_new new (Some f) rest = rw (drop_at ms i lt) (inr (rw (take_more ms i 0 lt, add-one) at rest))
+
+  pub keys_more : keys ++ key (get_or ms i 0) ∷ [] ≡ map key (take (i + 1) ms)
+  keys_more = rw (are, take_more ms i 0 lt) (sym (map-append key (take i ms) (get_or ms i 0 ∷ [])))
+
+pub is_in-any : (n : ℕ) (ns : List ℕ) → is_in n ns ≡ list_any (eqb n) ns
+is_in-any n [] = refl
+is_in-any n (m ∷ ns) = ap (λ (p : Bool). eqb n m || p) (is_in-any n ns)

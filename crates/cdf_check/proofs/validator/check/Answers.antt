@@ -1,0 +1,39 @@
+use Rattle.std.proofs.Common.{refl, IfOk}
+use Rattle.cdf_check.specs.declared.verdict.Verdict.TheVariants.{Yes}
+use Rattle.cdf_check.specs.Verdicts.{JudgesStart, JudgesImage}
+use Rattle.cdf_check.proofs.PhaseSteps.{start_long, start_small, start_room, start_head, result_judged}
+use Rattle.cdf_check.proofs.validator.check.Goals as goal
+
+pub read_unsigned8-requires : goal.read_unsigned8-requires
+read_unsigned8-requires g c =
+    let f = g.A.Area.image c.args.area.now in
+    let start : JudgesStart f Yes = rw c.in-Yes.is at c.in_ok-check_start.ensures.verdict in
+    rw c.check_start.ensures.image (start_head f start)
+
+pub check_image-requires-clause-some : goal.check_image-requires-clause-some
+check_image-requires-clause-some g c =
+    let f = g.A.Area.image c.args.area.now in
+    let start : JudgesStart f Yes = rw c.in-Yes.is at c.in_ok-check_start.ensures.verdict in
+    rw (c.read_unsigned8.ensures.image, c.check_start.ensures.image) (start_long f start)
+
+pub check_image-requires-clause-small : goal.check_image-requires-clause-small
+check_image-requires-clause-small g c =
+    let f = g.A.Area.image c.args.area.now in
+    let start : JudgesStart f Yes = rw c.in-Yes.is at c.in_ok-check_start.ensures.verdict in
+    rw (c.read_unsigned8.ensures.image, c.check_start.ensures.image) (start_small f start)
+
+pub check_image-requires-clause-gdr : goal.check_image-requires-clause-gdr
+check_image-requires-clause-gdr g c = rw (c.in_ok-gdr-in-Yes.ensures.value, c.read_unsigned8.ensures.image) refl
+
+pub check_image-requires-clause-room : goal.check_image-requires-clause-room
+check_image-requires-clause-room g c =
+    let f = g.A.Area.image c.args.area.now in
+    let start : JudgesStart f Yes = rw c.in-Yes.is at c.in_ok-check_start.ensures.verdict in
+    rw (c.in_ok-gdr-in-Yes.ensures.value, c.read_unsigned8.ensures.image, c.check_start.ensures.image) (start_room f start)
+
+pub returns-in_ok-gdr-in-Yes-clause-verdict : goal.returns-in_ok-gdr-in-Yes-clause-verdict
+returns-in_ok-gdr-in-Yes-clause-verdict g c =
+    let f = g.A.Area.image c.args.area.now in
+    let start : JudgesStart f Yes = rw c.in-Yes.is at c.in_ok-check_start.ensures.verdict in
+    let judged : IfOk c.check_image.result (JudgesImage f) = rw (c.read_unsigned8.ensures.image, c.check_start.ensures.image) at c.check_image.ensures.verdict in
+    result_judged f start c.check_image.result judged

@@ -1,0 +1,106 @@
+ghost use Rattle.std.specs.Prelude.{◌≡◌, ◌+◌, ◌≤◌, ◌==◌, length, is_some, IfOk};
+ghost use Rattle.cdf_base.specs.Causes.{HasCauseOf};
+ghost use Rattle.cdf_model.specs.Encodings.{encoding_at};
+ghost use Rattle.cdf_format.specs.Fields.{encoding, version};
+ghost use Rattle.cdf_format.specs.FileRules.{phase2, is_record};
+ghost use Rattle.cdf_records.specs.Heads.{cdr_at};
+ghost use Rattle.cdf_records.specs.Pieces.{AreBytes};
+ghost use Rattle.cdf_check.specs.Verdicts.{Finds};
+
+use crate::fields::{CHECKSUM, MD5, SINGLE_FILE, has_bit, is_record, unsigned};
+use crate::verdict::Broken;
+use cdf_area::{Area, AreaError};
+use cdf_model::Encoding;
+use cdf_records::{Cdr, read_cdr};
+
+/// Where the CDF Descriptor Record stands.
+pub const CDR_PLACE: u64 = 8;
+/// Its type.
+const CDR_TYPE: u32 = 1;
+/// Its bytes, with the Copyright.
+const CDR_SIZE: u64 = 312;
+
+/// Whether the record is one of its type that ends within the file.
+#[tactic(auto, using(cdf_records::proofs::Places::word4_fits))]
+fn is_cdr<A: Area>(area: &A, cdr: &Cdr) -> bool
+    requires room { 320 ≤ length (A.image area.now) }
+    requires fields { cdr.now ≡ cdr_at (A.image area.now) 8 }
+    requires bytes { AreBytes (A.image area.now) 8 56 }
+    ensures { result ≡ is_record (A.image area.now) 8 1 312 }
+{
+    let record_type = unsigned(area, CDR_PLACE + 8, cdr.record_type);
+    is_record(
+        area,
+        CDR_PLACE,
+        record_type,
+        cdr.record_size,
+        CDR_TYPE,
+        CDR_SIZE,
+    )
+}
+
+/// Whether the file has version 3.
+#[tactic(auto, using(cdf_records::proofs::Places::word4_fits))]
+fn is_version_3<A: Area>(area: &A, cdr: &Cdr) -> bool
+    requires fields { cdr.now ≡ cdr_at (A.image area.now) 8 }
+    requires bytes { AreBytes (A.image area.now) 8 56 }
+    ensures { result ≡ (version (A.image area.now) == 3) }
+{
+    unsigned(area, CDR_PLACE + 20, cdr.version) == 3
+}
+
+/// Whether the values of the file are in an encoding that is read.
+#[tactic(auto, using(cdf_records::proofs::Places::word4_fits))]
+fn has_encoding<A: Area>(_area: &A, cdr: &Cdr) -> bool
+    requires fields { cdr.now ≡ cdr_at (A.image _area.now) 8 }
+    requires bytes { AreBytes (A.image _area.now) 8 56 }
+    ensures { result ≡ is_some (encoding_at (encoding (A.image _area.now))) }
+{
+    Encoding::of_code(cdr.encoding).is_some()
+}
+
+/// The rules on the fields of the CDF Descriptor Record.
+fn check_fields<A: Area>(area: &A, cdr: &Cdr) -> Option<Broken>
+    requires room { 320 ≤ length (A.image area.now) }
+    requires fields { cdr.now ≡ cdr_at (A.image area.now) 8 }
+    requires bytes { AreBytes (A.image area.now) 8 56 }
+    ensures { Finds (phase2 (A.image area.now)) result }
+{
+    let place = CDR_PLACE;
+    if !is_cdr(area, cdr) {
+        return Some(Broken { rule: 2, place });
+    }
+    if !is_version_3(area, cdr) {
+        return Some(Broken { rule: 3, place });
+    }
+    if !has_encoding(area, cdr) {
+        return Some(Broken { rule: 4, place });
+    }
+    if !has_bit(cdr.flags, SINGLE_FILE) {
+        return Some(Broken { rule: 5, place });
+    }
+    if has_bit(cdr.flags, CHECKSUM) && !has_bit(cdr.flags, MD5) {
+        return Some(Broken { rule: 6, place });
+    }
+    if has_bit(cdr.flags, CHECKSUM) {
+        return Some(Broken { rule: 99, place });
+    }
+    None
+}
+
+/// The rules on the CDF Descriptor Record.
+pub fn check_cdr<A: Area>(area: &mut A) -> Result<Option<Broken>, AreaError>
+    ensures found { IfOk result (Finds (phase2 (A.image area.old))) }
+    ensures image { A.image area.new ≡ A.image area.old }
+    ensures frame { A.frame area.new ≡ A.frame area.old }
+    ensures cause { HasCauseOf AreaError.Fault (A.faults area.old) (A.faults area.new) result }
+{
+    if area.size() < CDR_PLACE + CDR_SIZE {
+        return Ok(Some(Broken {
+            rule: 1,
+            place: CDR_PLACE,
+        }));
+    }
+    let cdr = read_cdr(area, CDR_PLACE)?;
+    Ok(check_fields(area, &cdr))
+}

@@ -1,0 +1,175 @@
+ghost use Rattle.std.specs.Prelude.{◌≡◌, ◌+◌, ◌≤◌, [], ℕ, length, IfOk};
+ghost use Rattle.std.specs.List.{flat_map};
+ghost use Rattle.cdf_base.specs.Causes.{HasCauseOf};
+ghost use Rattle.cdf_format.specs.AttributeRules.{has_value, entry_rows, same_number};
+ghost use Rattle.cdf_format.specs.ChainRules.{differ_rows};
+ghost use Rattle.cdf_format.specs.RecordTypes.{fixed_size};
+ghost use Rattle.cdf_format.specs.Tiles.{In, AreTiles};
+ghost use Rattle.cdf_format.specs.Walks.{whole};
+ghost use Rattle.cdf_check.specs.Entries.{entry_walk, entry_chain_rows};
+ghost use Rattle.cdf_check.specs.FileChains.{AreLong};
+ghost use Rattle.cdf_check.specs.Verdicts.{Finds, Yields};
+
+use crate::chains::check_count;
+use crate::fields::read_size;
+use crate::links::walk_chain;
+use crate::met::Met;
+use crate::verdict::Broken;
+use cdf_area::{Area, AreaError};
+use cdf_model::DataType;
+use cdf_records::{read_signed4, read_unsigned4};
+use std::alloc::Global;
+
+/// Where the AttrNum stands in an entry, the DataType, the Num and the NumElems.
+const ATTR_NUM: u64 = 20;
+
+const DATA_TYPE: u64 = 24;
+
+const NUM: u64 = 28;
+
+const NUM_ELEMS: u64 = 32;
+/// The bytes of an entry before its value.
+const HEAD_SIZE: u64 = 56;
+/// Where the Num stands in an attribute.
+const ADR_NUM: u64 = 32;
+/// The greatest number of an entry.
+const LARGEST_NUMBER: u32 = 2_147_483_646;
+/// The most elements of a value.
+const MOST_ELEMENTS: u32 = 2_147_483_647;
+/// The most bytes of a value.
+const LONGEST_VALUE: u64 = 67_108_864;
+
+/// A kind of chain of entries: the type of its members, and the places of its head and its count in an attribute.
+#[derive(Clone, Copy, Debug)]
+pub struct EntryChain {
+    pub record_type: u32,
+    pub head: u64,
+    pub count: u64,
+}
+
+/// Whether an entry has a value of a known type.
+fn has_value<A: Area>(area: &mut A, place: u64) -> Result<bool, AreaError>
+    requires { place + 56 ≤ length (A.image area.old) }
+    ensures value { IfOk result (λ has. has ≡ has_value (A.image area.old) place) }
+    ensures image { A.image area.new ≡ A.image area.old }
+    ensures frame { A.frame area.new ≡ A.frame area.old }
+    ensures cause { HasCauseOf AreaError.Fault (A.faults area.old) (A.faults area.new) result }
+{
+    let _size = area.size();
+    let code = read_signed4(area, place + DATA_TYPE)?;
+    let elements = read_unsigned4(area, place + NUM_ELEMS)?;
+    let size = read_size(area, place)?;
+    let Some(data_type) = DataType::of_code(code) else {
+        return Ok(false);
+    };
+    if elements < 1 || elements > MOST_ELEMENTS {
+        return Ok(false);
+    }
+    let bytes = u64::from(data_type.size()) * u64::from(elements);
+    Ok(bytes <= LONGEST_VALUE && HEAD_SIZE + bytes <= size)
+}
+
+/// The rules on an entry of an attribute.
+fn check_entry<A: Area>(area: &mut A, adr: u64, place: u64) -> Result<Option<Broken>, AreaError>
+    requires adr { adr + 68 ≤ length (A.image area.old) }
+    requires entry { place + 56 ≤ length (A.image area.old) }
+    ensures found { IfOk result (Finds (entry_rows (A.image area.old) adr place)) }
+    ensures image { A.image area.new ≡ A.image area.old }
+    ensures frame { A.frame area.new ≡ A.frame area.old }
+    ensures cause { HasCauseOf AreaError.Fault (A.faults area.old) (A.faults area.new) result }
+{
+    let _size = area.size();
+    let own = read_unsigned4(area, adr + ADR_NUM)?;
+    let named = read_unsigned4(area, place + ATTR_NUM)?;
+    if named != own {
+        return Ok(Some(Broken { rule: 6, place }));
+    }
+    let number = read_unsigned4(area, place + NUM)?;
+    if number > LARGEST_NUMBER {
+        return Ok(Some(Broken { rule: 7, place }));
+    }
+    if !has_value(area, place)? {
+        return Ok(Some(Broken { rule: 8, place }));
+    }
+    Ok(None)
+}
+
+/// The rules on each entry.
+fn check_each<A: Area>(area: &mut A, adr: u64, entries: &[u64]) -> Result<Option<Broken>, AreaError>
+    requires adr { adr + 68 ≤ length (A.image area.old) }
+    requires entries { (entry : ℕ) → In entry entries.now → entry + 56 ≤ length (A.image area.old) }
+    ensures found { IfOk result (Finds (flat_map (entry_rows (A.image area.old) adr) entries.now)) }
+    ensures image { A.image area.new ≡ A.image area.old }
+    ensures frame { A.frame area.new ≡ A.frame area.old }
+    ensures cause { HasCauseOf AreaError.Fault (A.faults area.old) (A.faults area.new) result }
+{
+    for entry in entries {
+        if let Some(broken) = check_entry(area, adr, *entry)? {
+            return Ok(Some(broken));
+        }
+    }
+    Ok(None)
+}
+
+/// That no two entries have one number.
+fn check_apart<A: Area>(
+    alloc: Global,
+    area: &mut A,
+    entries: &[u64],
+) -> Result<Option<Broken>, AreaError>
+    requires entries { (entry : ℕ) → In entry entries.now → entry + 56 ≤ length (A.image area.old) }
+    ensures found { IfOk result (Finds (differ_rows 7 (same_number (A.image area.old)) [] entries.now)) }
+    ensures image { A.image area.new ≡ A.image area.old }
+    ensures frame { A.frame area.new ≡ A.frame area.old }
+    ensures cause { HasCauseOf AreaError.Fault (A.faults area.old) (A.faults area.new) result }
+{
+    let _size = area.size();
+    let mut numbers = Met::new(alloc);
+    for entry in entries {
+        let place = *entry;
+        let number = u64::from(read_unsigned4(area, place + NUM)?);
+        if numbers.has(number) {
+            return Ok(Some(Broken { rule: 7, place }));
+        }
+        numbers.add(number)?;
+    }
+    Ok(None)
+}
+
+/// The entries of one kind of an attribute, or a rule on them that is broken.
+#[tactic(auto, using(crate::proofs::EntryRows::entries_hold, crate::proofs::EntryRows::each_breaks, crate::proofs::EntryRows::apart_breaks))]
+pub fn check_entries<A: Area>(
+    alloc: Global,
+    area: &mut A,
+    tiles: &[u64],
+    kind: EntryChain,
+    adr: u64,
+) -> Result<Result<Vec<u64>, Broken>, AreaError>
+    requires tiled { AreTiles (A.image area.old) 8 (length (A.image area.old)) tiles.now }
+    requires long { AreLong (A.image area.old) tiles.now }
+    requires adr { adr + 68 ≤ length (A.image area.old) }
+    requires head { kind.head + 8 ≤ 68 }
+    requires count { kind.count + 4 ≤ 68 }
+    requires entry { 56 ≤ fixed_size kind.record_type }
+    ensures found { IfOk result (Yields (entry_chain_rows (A.image area.old) tiles.now kind adr) (λ entries. entry_walk (A.image area.old) tiles.now kind adr ≡ whole entries.items)) }
+    ensures image { A.image area.new ≡ A.image area.old }
+    ensures frame { A.frame area.new ≡ A.frame area.old }
+    ensures cause { HasCauseOf AreaError.Fault (A.faults area.old) (A.faults area.new) result }
+{
+    let _size = area.size();
+    let walked = walk_chain(alloc, area, tiles, kind.record_type, adr, kind.head)?;
+    let entries = match walked {
+        Ok(entries) => entries,
+        Err(place) => return Ok(Err(Broken { rule: 4, place })),
+    };
+    if let Some(broken) = check_count(area, 5, adr, kind.count, &entries)? {
+        return Ok(Err(broken));
+    }
+    if let Some(broken) = check_each(area, adr, &entries)? {
+        return Ok(Err(broken));
+    }
+    if let Some(broken) = check_apart(alloc, area, &entries)? {
+        return Ok(Err(broken));
+    }
+    Ok(Ok(entries))
+}

@@ -1,0 +1,63 @@
+ghost use Rattle.std.specs.Prelude.{◌≡◌, ◌+◌, ◌≤◌, length, IfOk};
+ghost use Rattle.cdf_base.specs.Causes.{HasCauseOf};
+ghost use Rattle.cdf_format.specs.Fields.{word};
+ghost use Rattle.cdf_format.specs.FileRules.{phase0, phase1};
+ghost use Rattle.cdf_check.specs.Verdicts.{Finds};
+
+use crate::verdict::Broken;
+use cdf_area::{Area, AreaError};
+
+/// The bytes of both magic numbers.
+const MAGIC_LENGTH: u64 = 8;
+/// The longest image, and the checksum after it.
+const LONGEST_FILE: u64 = 1_073_741_824 + 16;
+/// The first magic number of version 3.
+const VERSION_3: u32 = 0xcdf3_0001;
+/// The second magic number of a file that is not compressed as a whole.
+const UNCOMPRESSED: u32 = 0x0000_ffff;
+
+/// The rules on the length of a file.
+pub fn check_length<A: Area>(area: &A) -> Option<Broken>
+    ensures { Finds (phase0 (A.image area.now)) result }
+{
+    let size = area.size();
+    if size < MAGIC_LENGTH {
+        return Some(Broken { rule: 1, place: 0 });
+    }
+    if size > LONGEST_FILE {
+        return Some(Broken { rule: 2, place: 0 });
+    }
+    None
+}
+
+/// The number of 4 bytes at a place.
+fn read_magic<A: Area>(area: &mut A, place: u64) -> Result<u32, AreaError>
+    requires { place + 4 ≤ length (A.image area.old) }
+    ensures value { IfOk result (λ number. number ≡ word (A.image area.old) place 4) }
+    ensures image { A.image area.new ≡ A.image area.old }
+    ensures frame { A.frame area.new ≡ A.frame area.old }
+    ensures cause { HasCauseOf AreaError.Fault (A.faults area.old) (A.faults area.new) result }
+{
+    let mut bytes = [0u8; 4];
+    area.get(place, &mut bytes)?;
+    Ok(u32::from_be_bytes(bytes))
+}
+
+/// The rules on the magic numbers.
+pub fn check_magic<A: Area>(area: &mut A) -> Result<Option<Broken>, AreaError>
+    requires { 8 ≤ length (A.image area.old) }
+    ensures found { IfOk result (Finds (phase1 (A.image area.old))) }
+    ensures image { A.image area.new ≡ A.image area.old }
+    ensures frame { A.frame area.new ≡ A.frame area.old }
+    ensures cause { HasCauseOf AreaError.Fault (A.faults area.old) (A.faults area.new) result }
+{
+    let first = read_magic(area, 0)?;
+    let second = read_magic(area, 4)?;
+    if first != VERSION_3 {
+        return Ok(Some(Broken { rule: 1, place: 0 }));
+    }
+    if second != UNCOMPRESSED {
+        return Ok(Some(Broken { rule: 2, place: 4 }));
+    }
+    Ok(None)
+}

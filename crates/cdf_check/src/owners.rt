@@ -1,0 +1,102 @@
+ghost use Rattle.std.specs.Prelude.{◌≡◌, ◌==◌, ◌++◌, ◌∷◌, ◌≤◌, [], length, IfOk, OnOk};
+ghost use Rattle.std.specs.List.{filter, flat_map};
+ghost use Rattle.cdf_base.specs.Causes.{HasCauseOf};
+ghost use Rattle.cdf_format.specs.Fields.{type_at};
+ghost use Rattle.cdf_format.specs.Owners.{owned_records, unused_records};
+ghost use Rattle.cdf_format.specs.Phases.{phase9, owner_rows};
+ghost use Rattle.cdf_format.specs.RecordTypes.{uir_type};
+ghost use Rattle.cdf_format.specs.Shape.{shape};
+ghost use Rattle.cdf_format.specs.Tiles.{AreTiles, tiling};
+ghost use Rattle.cdf_format.specs.Walks.{whole};
+ghost use Rattle.cdf_check.specs.Verdicts.{Finds};
+ghost use Rattle.cdf_check.specs.Walked.{Climbs, StandsAt, Counts};
+
+use crate::cdr_rules::CDR_PLACE;
+use crate::fields::read_type;
+use crate::record_types::UIR;
+use crate::verdict::Broken;
+use cdf_area::{Area, AreaError};
+use std::alloc::{AllocError, Global};
+
+/// Where a place stands among those of the records.
+fn place_in(tiles: &[u64], place: u64) -> Option<usize>
+    requires climbs { Climbs tiles.now }
+    ensures { StandsAt tiles.now place result }
+{
+    match tiles.binary_search(&place) {
+        Ok(i) => Some(i),
+        Err(_) => None,
+    }
+}
+
+/// How often each record stands in a list.
+fn count_owned(alloc: Global, tiles: &[u64], owned: &[u64]) -> Result<Vec<u64>, AllocError>
+    requires climbs { Climbs tiles.now }
+    ensures counts { IfOk result (λ counts. Counts tiles.now owned.now counts.items) }
+{
+    let mut counts = vec![in alloc; 0u64; tiles.len()]?;
+    for place in owned {
+        let stands = place_in(tiles, *place);
+        if let Some(i) = stands {
+            counts[i] += 1;
+        }
+    }
+    Ok(counts)
+}
+
+/// That each record stands once in a list.
+fn check_owned(alloc: Global, tiles: &[u64], owned: &[u64]) -> Result<Option<Broken>, AllocError>
+    requires climbs { Climbs tiles.now }
+    ensures found { IfOk result (Finds (flat_map (owner_rows owned.now) tiles.now)) }
+{
+    let counts = count_owned(alloc, tiles, owned)?;
+    for i in 0..tiles.len() {
+        if counts[i] != 1 {
+            return Ok(Some(Broken {
+                rule: 1,
+                place: tiles[i],
+            }));
+        }
+    }
+    Ok(None)
+}
+
+/// Puts the unused records last.
+fn own_unused<A: Area>(area: &mut A, tiles: &[u64], owned: &mut Vec<u64>) -> Result<(), AreaError>
+    requires tiled { AreTiles (A.image area.old) 8 (length (A.image area.old)) tiles.now }
+    ensures owned { OnOk result (owned.new.items ≡ owned.old.items ++ filter (λ place. type_at (A.image area.old) place == uir_type) tiles.now) }
+    ensures image { A.image area.new ≡ A.image area.old }
+    ensures frame { A.frame area.new ≡ A.frame area.old }
+    ensures cause { HasCauseOf AreaError.Fault (A.faults area.old) (A.faults area.new) result }
+{
+    for place in tiles {
+        let record_type = read_type(area, *place)?;
+        if record_type == UIR {
+            owned.push(*place)?;
+        }
+    }
+    Ok(())
+}
+
+/// That each record of an image has one owner: the file, an attribute or a variable, whose records `members` lists, or it is unused.
+pub fn check_owners<A: Area>(
+    alloc: Global,
+    area: &mut A,
+    tiles: &[u64],
+    gdr: u64,
+    members: &[u64],
+) -> Result<Option<Broken>, AreaError>
+    requires tiling { tiling (A.image area.old) ≡ whole tiles.now }
+    requires owned { owned_records (A.image area.old) (shape (A.image area.old)) ≡ (8 ∷ gdr ∷ members.now) ++ unused_records (A.image area.old) (shape (A.image area.old)) }
+    ensures found { IfOk result (Finds (phase9 (A.image area.old))) }
+    ensures image { A.image area.new ≡ A.image area.old }
+    ensures frame { A.frame area.new ≡ A.frame area.old }
+    ensures cause { HasCauseOf AreaError.Fault (A.faults area.old) (A.faults area.new) result }
+{
+    let mut owned = Vec::new(alloc);
+    owned.push(CDR_PLACE)?;
+    owned.push(gdr)?;
+    owned.extend_from_slice(members)?;
+    own_unused(area, tiles, &mut owned)?;
+    Ok(check_owned(alloc, tiles, &owned)?)
+}
