@@ -1,1 +1,4 @@
 pub mod Filling
+pub mod PiecesWritten
+pub mod Between
+pub mod Saved

@@ -2,8 +2,11 @@
 #![tactic(auto)]
 
 mod read;
+mod saving;
 mod store_area;
 #[cfg(test)]
 mod tests;
+mod writing;
 
+pub use saving::SaveError;
 pub use store_area::StoreArea;

@@ -1,21 +1,26 @@
-ghost use Rattle.std.specs.Prelude.{◌≡◌, ◌≤◌, ℕ, length, take, if◌then◌else◌, IsSome, OnOk, OnErr, IfOk, Some, None};
+ghost use Rattle.std.specs.Prelude.{◌≡◌, ◌≤◌, ◌<◌, ◌+◌, ◌^◌, ◌++◌, ℕ, [], length, take, if◌then◌else◌, IsSome, IsErrOf, OnOk, OnErr, IfOk, Some, None};
 ghost use Rattle.std.specs.Option.{option_map, option_map_or};
 ghost use Rattle.cdf_area.specs.Frame.{Frame};
 ghost use Rattle.cdf_base.specs.Causes.{HasCauseOf};
 ghost use Rattle.cdf_store.specs.Disk.{Disk, file_of};
+ghost use Rattle.cdf_pages.specs.Saving.{Holds, HoldsBetween, tail_bytes};
 
 use crate::read::read_into;
+use crate::saving::{SaveError, save_behind};
 use cdf_area::{Area, AreaError, MemArea};
 use cdf_store::Store;
 use std::alloc::Global;
 
 /// An area over the file that is attached to a store.
 ///
-/// It reads through the store until the first write, which moves the image into memory. Nothing is written to the store.
+/// It reads through the store until the first write, which moves the image into memory. Nothing is written to the store but by
+/// `save`.
 #[derive(Drop)]
 pub struct StoreArea<S: Store> {
     alloc: Global,
     store: S,
+    /// The file has at most so many bytes.
+    most: u64,
     /// How many bytes of the file are the image, while nothing is in memory.
     size: u64,
     limit: u64,
@@ -25,6 +30,7 @@ pub struct StoreArea<S: Store> {
     memory: Option<MemArea>,
     ghost held: { IsSome (S.disk store).held },
     ghost within: { size ≤ length (file_of (S.disk store)) },
+    ghost bounded: { length (file_of (S.disk store)) ≤ most },
 }
 
 impl<S: Store> StoreArea<S> {
@@ -38,11 +44,62 @@ impl<S: Store> StoreArea<S> {
         StoreArea {
             alloc,
             store,
+            most: size,
             size,
             limit,
             marked: false,
             memory: None,
         }
+    }
+
+    /// An empty image over the store, whatever stands in the file that is attached, which has so many bytes, without a mark.
+    pub fn fresh(alloc: Global, store: S, size: u64, limit: u64) -> Self
+        requires { Some size ≡ option_map length (S.disk store).held }
+        ensures image { ⟦<StoreArea<S> as Area>⟧.image result ≡ [] }
+        ensures frame { ⟦<StoreArea<S> as Area>⟧.frame result ≡ record { base = None; limit = limit; under = (S.disk store, S.write_faults store) } }
+        ensures faults { ⟦<StoreArea<S> as Area>⟧.faults result ≡ S.read_faults store }
+    {
+        StoreArea {
+            alloc,
+            store,
+            most: size,
+            size: 0,
+            limit,
+            marked: false,
+            memory: Some(MemArea::new(alloc, Vec::new(alloc), limit)),
+        }
+    }
+
+    /// Makes the attached file the image and a tail behind it, and cuts it where it is longer. Of an image that is still the front
+    /// of the file nothing is written anew. Room for all writes is made first, which is the one want of memory.
+    pub fn save(&mut self, tail: Option<[u8; 16]>) -> Result<(), SaveError>
+        requires unmarked { (⟦<StoreArea<S> as Area>⟧.frame self.old).base ≡ None }
+        requires fits { length (⟦<StoreArea<S> as Area>⟧.image self.old) + 16 < 2 ^ 64 }
+        ensures saved { OnOk result (Holds (⟦<StoreArea<S> as Area>⟧.frame self.old).under.0 (⟦<StoreArea<S> as Area>⟧.image self.old ++ tail_bytes tail) (⟦<StoreArea<S> as Area>⟧.frame self.new).under.0) }
+        ensures failed { IsErrOf result SaveError.Failed → HoldsBetween (⟦<StoreArea<S> as Area>⟧.frame self.old).under.0 (⟦<StoreArea<S> as Area>⟧.image self.old ++ tail_bytes tail) (⟦<StoreArea<S> as Area>⟧.frame self.new).under.0 }
+        ensures no_memory { IsErrOf result SaveError.NoMemory → (⟦<StoreArea<S> as Area>⟧.frame self.new).under.0 ≡ (⟦<StoreArea<S> as Area>⟧.frame self.old).under.0 }
+        ensures image { ⟦<StoreArea<S> as Area>⟧.image self.new ≡ ⟦<StoreArea<S> as Area>⟧.image self.old }
+        ensures base { (⟦<StoreArea<S> as Area>⟧.frame self.new).base ≡ None }
+        ensures limit { (⟦<StoreArea<S> as Area>⟧.frame self.new).limit ≡ (⟦<StoreArea<S> as Area>⟧.frame self.old).limit }
+        ensures faults { ⟦<StoreArea<S> as Area>⟧.faults self.new ≡ ⟦<StoreArea<S> as Area>⟧.faults self.old }
+        ensures cause { HasCauseOf SaveError.Failed (⟦<StoreArea<S> as Area>⟧.frame self.old).under.1 (⟦<StoreArea<S> as Area>⟧.frame self.new).under.1 result }
+    {
+        let tail: &[u8] = match &tail {
+            Some(bytes) => bytes,
+            None => &[],
+        };
+        let size = self.size();
+        let most = self.most;
+        self.most = most.max(size + tail.len() as u64);
+        let Some(area) = self.memory.take() else {
+            return save_behind(&mut self.store, most, size, &[], tail);
+        };
+        let limit = area.limit();
+        let bytes = area.into_bytes();
+        self.size = 0;
+        let saved = save_behind(&mut self.store, most, 0, &bytes, tail);
+        self.memory = Some(MemArea::new(self.alloc, bytes, limit));
+        saved
     }
 
     /// The store beneath. What was changed is let go.

@@ -1,6 +1,6 @@
 ghost use Rattle.std.specs.Prelude.{◌≡◌, length, IfOk, OnOk, None};
 
-use crate::StoreArea;
+use crate::{SaveError, StoreArea};
 use cdf_area::{Area, AreaError};
 use cdf_store::{MemStore, Store};
 use std::alloc::Global;
@@ -8,6 +8,8 @@ use std::process::Abort;
 use std::test::Fail;
 
 const DIGITS: &[u8] = b"0123456789";
+
+const TAIL: [u8; 16] = *b"sixteen more ..!";
 
 /// An area over a file of ten digits, which may grow to twelve bytes. One call of its store fails: the first attaches the
 /// file, and the others read.
@@ -96,5 +98,57 @@ fn a_failed_read_leaves_the_bytes(rt: HostRuntime) -> Result<(), Fail> {
     area.set(9, b"z")?;
     area.undo();
     expect_bytes(&rt, &mut area, DIGITS)?;
+    Ok(())
+}
+
+/// Saves an image of two letters over a file of digits, with a tail or none, where one call of the store fails.
+fn save_letters(
+    alloc: Global,
+    failing_call: u64,
+    tail: Option<[u8; 16]>,
+) -> Result<(MemStore, Result<(), SaveError>), Fail> {
+    let mut store = MemStore::new(alloc);
+    store.put_file("digits", DIGITS)?;
+    store.fail_at(failing_call)?;
+    let size = store.attach("digits", false)?.ok_or("no file")?;
+    let mut area = StoreArea::fresh(alloc, store, size, 12);
+    area.extend(2)?;
+    area.set(0, b"ab")?;
+    let saved = area.save(tail);
+    Ok((area.into_store(), saved))
+}
+
+#[test]
+fn an_image_is_saved(rt: HostRuntime) -> Result<(), Fail> {
+    let (store, saved) = save_letters(rt.alloc(), 9, None)?;
+    assert_eq!(rt; saved, Ok(()));
+    assert_eq!(rt; store.file("digits"), Some(&b"ab"[..]));
+    let (store, saved) = save_letters(rt.alloc(), 9, Some(TAIL))?;
+    assert_eq!(rt; saved, Ok(()));
+    assert_eq!(rt; store.file("digits"), Some(&b"absixteen more ..!"[..]));
+    Ok(())
+}
+
+// The first call attaches the file, the second writes the image, and the third cuts.
+#[test]
+fn a_save_that_fails_leaves_old_or_new_bytes(rt: HostRuntime) -> Result<(), Fail> {
+    let (store, saved) = save_letters(rt.alloc(), 2, None)?;
+    assert_eq!(rt; saved, Err(SaveError::Failed));
+    assert_eq!(rt; store.file("digits"), Some(DIGITS));
+    let (store, saved) = save_letters(rt.alloc(), 3, None)?;
+    assert_eq!(rt; saved, Err(SaveError::Failed));
+    assert_eq!(rt; store.file("digits"), Some(&b"ab23456789"[..]));
+    Ok(())
+}
+
+#[test]
+fn a_front_of_the_file_is_not_written_anew(rt: HostRuntime) -> Result<(), Fail> {
+    let mut area = digits(rt.alloc(), 9)?;
+    expect_bytes(&rt, &mut area, DIGITS)?;
+    area.shorten(4);
+    assert_eq!(rt; area.save(None), Ok(()));
+    let store = area.into_store();
+    assert_eq!(rt; store.calls(), 3);
+    assert_eq!(rt; store.file("digits"), Some(&b"012345"[..]));
     Ok(())
 }
