@@ -1,9 +1,9 @@
-ghost use Rattle.std.specs.Prelude.{◌≡◌, ◌≤◌, [], true, IsSome, IfOk, IfErr, OnOk, OnErr, Some, None};
+ghost use Rattle.std.specs.Prelude.{◌≡◌, ◌≤◌, [], length, true, IsSome, IfOk, IfErr, OnOk, OnErr, Some, None};
 ghost use Rattle.cdf_area.specs.Frame.{with_base};
 ghost use Rattle.cdf_base.specs.Causes.{HasCauseOf, Rose};
 ghost use Rattle.cdf_format.specs.Locality.{Answers};
 ghost use Rattle.cdf_format.specs.NewFile.{new_image};
-ghost use Rattle.cdf_format.specs.WellFormed.{WellFormed};
+ghost use Rattle.cdf_format.specs.WellFormed.{Good, WellFormed};
 ghost use Rattle.cdf_model.specs.Limits.{image_limit};
 ghost use Rattle.cdf_model.specs.Sayable.{CanBeGiven, Sayable};
 ghost use Rattle.cdf_model.specs.Step.{built};
@@ -220,7 +220,9 @@ impl<A: Area> Session<A> {
 
     /// The area with the image as it is.
     pub fn into_area(self) -> A
-        ensures { result ≡ self }
+        ensures area { result ≡ self }
+        ensures good { Good (A.image result) }
+        ensures fits { length (A.image result) ≤ image_limit }
     {
         self.area
     }
