@@ -77,6 +77,7 @@ pub fn save_behind<S: Store>(
     ensures ok { OnOk result (Holds (S.disk store.old) (behind_front (file_of (S.disk store.old)) start (bytes.now ++ tail.now)) (S.disk store.new)) }
     ensures failed { IsErrOf result SaveError.Failed → HoldsBetween (S.disk store.old) (behind_front (file_of (S.disk store.old)) start (bytes.now ++ tail.now)) (S.disk store.new) }
     ensures no_memory { IsErrOf result SaveError.NoMemory → S.disk store.new ≡ S.disk store.old }
+    ensures unfailed { IsErrOf result SaveError.NoMemory → S.write_faults store.new ≡ S.write_faults store.old }
     ensures front { FrontStays (file_of (S.disk store.old)) start (file_of (S.disk store.new)) }
     ensures bound { length (file_of (S.disk store.new)) ≤ max most (start + length bytes.now + length tail.now) }
     ensures cause { HasCauseOf SaveError.Failed (S.write_faults store.old) (S.write_faults store.new) result }

@@ -77,7 +77,7 @@ impl<S: Store> StoreArea<S> {
         requires fits { length (⟦<StoreArea<S> as Area>⟧.image self.old) + 16 < 2 ^ 64 }
         ensures saved { OnOk result (Holds (⟦<StoreArea<S> as Area>⟧.frame self.old).under.0 (⟦<StoreArea<S> as Area>⟧.image self.old ++ tail_bytes tail) (⟦<StoreArea<S> as Area>⟧.frame self.new).under.0) }
         ensures failed { IsErrOf result SaveError.Failed → HoldsBetween (⟦<StoreArea<S> as Area>⟧.frame self.old).under.0 (⟦<StoreArea<S> as Area>⟧.image self.old ++ tail_bytes tail) (⟦<StoreArea<S> as Area>⟧.frame self.new).under.0 }
-        ensures no_memory { IsErrOf result SaveError.NoMemory → (⟦<StoreArea<S> as Area>⟧.frame self.new).under.0 ≡ (⟦<StoreArea<S> as Area>⟧.frame self.old).under.0 }
+        ensures no_memory { IsErrOf result SaveError.NoMemory → (⟦<StoreArea<S> as Area>⟧.frame self.new).under ≡ (⟦<StoreArea<S> as Area>⟧.frame self.old).under }
         ensures image { ⟦<StoreArea<S> as Area>⟧.image self.new ≡ ⟦<StoreArea<S> as Area>⟧.image self.old }
         ensures base { (⟦<StoreArea<S> as Area>⟧.frame self.new).base ≡ None }
         ensures limit { (⟦<StoreArea<S> as Area>⟧.frame self.new).limit ≡ (⟦<StoreArea<S> as Area>⟧.frame self.old).limit }

@@ -1,5 +1,11 @@
 pub mod Standing
-pub mod ReplayLemmas
-pub mod HeadLemmas
+pub mod Moments
+pub mod Commands
+pub mod Lines
 pub mod ScriptLemmas
+pub mod AreaLemmas
+pub mod StoredLemmas
 pub mod EndLemmas
+pub mod WordLemmas
+pub mod RunStore
+pub mod RunLemmas

@@ -1,24 +1,34 @@
 -- What a run over devices that tell their bytes comes to, where nothing failed.
-use Rattle.std.specs.Prelude.{◌≡◌, ◌↔◌, ◌≤◌, ℕ, List, [], ◌++◌, length, true, Some, None}
+use Rattle.std.specs.Prelude.{◌≡◌, ◌↔◌, ◌≤◌, ℕ, List, [], ◌++◌, length, Bool, true, Some, None}
 use Rattle.std.specs.declared.option.Option.{Option}
-use Rattle.cdf_model.specs.Limits.{script_limit}
+use Rattle.cdf_store.specs.Disk.{Disk}
+use Rattle.cdf_format.specs.Content.{content}
+use Rattle.cdf_format.specs.Locality.{History}
+use Rattle.cdf_model.specs.Limits.{image_limit, script_limit}
 use Rattle.cdf_model.specs.Run.{run_of}
-use Rattle.cdf_format.specs.Content.{data_set_of}
-use Rattle.cdf_format.specs.WellFormed.{WellFormed}
+use Rattle.cdf_model.specs.Words.{Asked}
 use Rattle.cdf_tool.specs.declared.status.Status.{Status}
 use Rattle.cdf_tool.specs.declared.status.Status.TheVariants as statuses
+use Rattle.cdf_tool.specs.Ends.{Opens}
 use Rattle.cdf_tool.specs.Statuses.{IsDone}
+use Rattle.cdf_tool.specs.Stored.{Stored}
 
--- The file is well formed, the script was read to its end, and the replies that the data set of the file gives for it were written, and nothing else.
-pub record Accepted (file script : List ℕ) (left : Option (List ℕ)) (written : List ℕ) (now : Option (List ℕ)) (status : Status) : Type 0 where
-  pub well_formed : WellFormed file
+-- The file was opened, or a new one made. From its image the script led to another one, which was stored, and the text of the run over the data set was written, and nothing else.
+pub record Accepted {U : Type 0} (a : Asked) (d d' : Disk U) (script : List ℕ) (left : Option (List ℕ)) (written : List ℕ) (now : Option (List ℕ)) (status : Status) : Type 0 where
+  pub file : List ℕ
+  pub image : List ℕ
+  pub end : List ℕ
+  pub full : List Bool
+  pub opens : Opens a.new file image
+  pub history : History image_limit image script full end
   pub limit : length script ≤ script_limit
   pub read : left ≡ Some []
-  pub replies : now ≡ Some (written ++ (run_of (data_set_of file) [] script []).text)
-  pub refused : (status ≡ statuses.SomeRefused) ↔ ((run_of (data_set_of file) [] script []).refused ≡ true)
+  pub replies : now ≡ Some (written ++ (run_of (content image) [] script full).text)
+  pub refused : (status ≡ statuses.SomeRefused) ↔ ((run_of (content image) [] script full).refused ≡ true)
+  pub stored : Stored a file end d d'
 
 -- with status 0 or 1, over a source and a sink that tell their bytes
-abbrev pub Accepts : Option (List ℕ) → Option (List ℕ) → Option (List ℕ) → Option (List ℕ) → Option (List ℕ) → Status → Type 0
-Accepts None before left first now status = IsDone status → ⊥
-Accepts (Some file) (Some script) left (Some written) now status = IsDone status → Accepted file script left written now status
-Accepts (Some file) before left first now status = Unit {0}
+abbrev pub Accepts : {U : Type 0} → Option Asked → Disk U → Disk U → Option (List ℕ) → Option (List ℕ) → Option (List ℕ) → Option (List ℕ) → Status → Type 0
+Accepts None d d' before left first now status = IsDone status → ⊥
+Accepts (Some a) d d' (Some script) left (Some written) now status = IsDone status → Accepted a d d' script left written now status
+Accepts (Some a) d d' before left first now status = Unit {0}

@@ -1,19 +1,53 @@
--- What a run leaves, by its status.
-use Rattle.std.specs.Prelude.{◌≡◌, ◌⊎◌, ℕ, List, Some, None}
+-- What a run leaves, by its status. `d` is the store as it came, and `d'` as it is handed back.
+use Rattle.std.specs.Prelude.{◌≡◌, ◌⊎◌, ℕ, List, Bool, true, false, IfSome, Some, None}
 use Rattle.std.specs.declared.option.Option.{Option}
 use Rattle.std.specs.Io.KnownBytes.{Appends}
+use Rattle.cdf_store.specs.Disk.{Disk}
+use Rattle.cdf_store.specs.Named.{lookup}
 use Rattle.cdf_store.specs.Written.{AppendsFront}
-use Rattle.cdf_model.specs.Texts.{usage_text, no_file_text, rejected_text}
-use Rattle.cdf_format.specs.Content.{data_set_of}
+use Rattle.cdf_format.specs.NewFile.{new_image}
+use Rattle.cdf_format.specs.Sealed.{image_of}
 use Rattle.cdf_format.specs.WellFormed.{WellFormed, Breaks}
+use Rattle.cdf_model.specs.Limits.{image_limit}
+use Rattle.cdf_model.specs.Texts.{usage_text, no_file_text, rejected_text}
+use Rattle.cdf_model.specs.Words.{Asked}
 use Rattle.cdf_tool.specs.declared.status.Status.{Status}
 use Rattle.cdf_tool.specs.declared.status.Status.TheVariants as statuses
-use Rattle.cdf_tool.specs.Script.{Runs}
+use Rattle.cdf_tool.specs.Script.{Finishes, Halts}
+use Rattle.cdf_tool.specs.Stored.{Unattached, Kept, Stored, Spoiled}
 
--- the file is well formed, and its script was run so
-pub record Replays (file : List ℕ) (before left first now : Option (List ℕ)) (status : Status) : Type 0 where
-  pub well_formed : WellFormed file
-  pub runs : Runs (data_set_of file) before left first now status
+-- ---- over a file
+
+-- The image that a run begins with: with `--new` the new one, whatever the file, else that of the file, which is well formed.
+abbrev pub Opens : Bool → List ℕ → List ℕ → Type 0
+Opens true file image = image ≡ new_image
+Opens false file image = WellFormed file × (image ≡ image_of file)
+
+-- the script was run to its end, and the image that it led to was stored
+pub record Completes {U : Type 0} (a : Asked) (file image : List ℕ) (d d' : Disk U) (before left first now : Option (List ℕ)) (refused : Bool) : Type 0 where
+  pub end : List ℕ
+  pub finishes : Finishes image_limit image before left first end refused now
+  pub stored : Stored a file end d d'
+
+-- it was run to its end, and the saving failed
+pub record Spoils {U : Type 0} (a : Asked) (file image : List ℕ) (d d' : Disk U) (before left first now : Option (List ℕ)) : Type 0 where
+  pub end : List ℕ
+  pub refused : Bool
+  pub finishes : Finishes image_limit image before left first end refused now
+  pub spoiled : Spoiled a file end d d'
+
+-- the script was run over this image
+abbrev pub Runs : {U : Type 0} → Asked → List ℕ → List ℕ → Disk U → Disk U → Option (List ℕ) → Option (List ℕ) → Option (List ℕ) → Option (List ℕ) → Status → Type 0
+Runs a file image d d' before left first now statuses.Done = Completes a file image d d' before left first now false
+Runs a file image d d' before left first now statuses.SomeRefused = Completes a file image d d' before left first now true
+Runs a file image d d' before left first now statuses.StoreWriteFault = Spoils a file image d d' before left first now
+Runs a file image d d' before left first now other = Kept a file d d' × Halts image_limit image before left first now other
+
+pub record Replays {U : Type 0} (a : Asked) (d d' : Disk U) (before left first now : Option (List ℕ)) (status : Status) : Type 0 where
+  pub file : List ℕ
+  pub image : List ℕ
+  pub opens : Opens a.new file image
+  pub runs : Runs a file image d d' before left first now status
 
 -- the file breaks this rule of the first phase that it breaks
 pub record Rejects (file : List ℕ) : Type 0 where
@@ -37,25 +71,40 @@ SaysRejected text first now statuses.OutputFault = AppendsFront first now text
 SaysRejected text first now statuses.NoMemory = now ≡ first
 SaysRejected text first now other = ⊥
 
--- the file was read and the script was not: it was rejected, or a device failed or memory was refused before the script
-abbrev pub EndsUnread : List ℕ → Option (List ℕ) → Option (List ℕ) → Status → Type 0
-EndsUnread file first now statuses.Rejected = (r : Rejects file) × Appends first now (rejection r)
-EndsUnread file first now statuses.OutputFault = (r : Rejects file) × AppendsFront first now (rejection r)
-EndsUnread file first now statuses.StoreReadFault = now ≡ first
-EndsUnread file first now statuses.NoMemory = now ≡ first
-EndsUnread file first now other = ⊥
+-- nothing of the script was read: the file was rejected, which no new one is, or a device failed or memory was refused before
+abbrev pub EndsUnread : Bool → List ℕ → Option (List ℕ) → Option (List ℕ) → Status → Type 0
+EndsUnread new file first now statuses.Rejected = (new ≡ false) × ((r : Rejects file) × Appends first now (rejection r))
+EndsUnread new file first now statuses.OutputFault = (new ≡ false) × ((r : Rejects file) × AppendsFront first now (rejection r))
+EndsUnread new file first now statuses.StoreReadFault = now ≡ first
+EndsUnread new file first now statuses.NoMemory = now ≡ first
+EndsUnread new file first now other = ⊥
 
--- a run over a file that was read ended so
-abbrev pub EndsOver : List ℕ → Option (List ℕ) → Option (List ℕ) → Option (List ℕ) → Option (List ℕ) → Status → Type 0
-EndsOver file before left first now status = ((left ≡ before) × EndsUnread file first now status) ⊎ Replays file before left first now status
+pub record Unread {U : Type 0} (a : Asked) (d d' : Disk U) (before left first now : Option (List ℕ)) (status : Status) : Type 0 where
+  pub file : List ℕ
+  pub kept : Kept a file d d'
+  pub none_read : left ≡ before
+  pub ends : EndsUnread a.new file first now status
 
--- no file was read: there is none, or a device failed or memory was refused
-abbrev pub EndsWithout : Option (List ℕ) → Option (List ℕ) → Status → Type 0
-EndsWithout first now statuses.NoFile = Appends first now no_file_text
-EndsWithout first now statuses.OutputFault = AppendsFront first now no_file_text
-EndsWithout first now statuses.StoreReadFault = now ≡ first
-EndsWithout first now statuses.NoMemory = now ≡ first
-EndsWithout first now other = ⊥
+-- ---- over no file
+
+-- no file was attached: there is none, which no new one lacks, or a device failed or memory was refused
+abbrev pub EndsWithout : Asked → Option (List (List ℕ × List ℕ)) → Option (List ℕ) → Option (List ℕ) → Status → Type 0
+EndsWithout a files first now statuses.NoFile = (a.new ≡ false) × IfSome files (λ fs. lookup a.name fs ≡ None) × Appends first now no_file_text
+EndsWithout a files first now statuses.OutputFault = (a.new ≡ false) × IfSome files (λ fs. lookup a.name fs ≡ None) × AppendsFront first now no_file_text
+EndsWithout a files first now statuses.StoreReadFault = now ≡ first
+EndsWithout a files first now statuses.NoMemory = now ≡ first
+EndsWithout a files first now other = ⊥
+
+-- that there is no file was written, or a part of it
+abbrev pub SaysNoFile : Option (List ℕ) → Option (List ℕ) → Status → Type 0
+SaysNoFile first now statuses.NoFile = Appends first now no_file_text
+SaysNoFile first now statuses.OutputFault = AppendsFront first now no_file_text
+SaysNoFile first now other = ⊥
+
+pub record Without {U : Type 0} (a : Asked) (d d' : Disk U) (before left first now : Option (List ℕ)) (status : Status) : Type 0 where
+  pub unattached : Unattached a d d'
+  pub none_read : left ≡ before
+  pub ends : EndsWithout a d.files first now status
 
 -- no file was named
 abbrev pub EndsUnasked : Option (List ℕ) → Option (List ℕ) → Status → Type 0
@@ -63,12 +112,13 @@ EndsUnasked first now statuses.Usage = Appends first now usage_text
 EndsUnasked first now statuses.OutputFault = AppendsFront first now usage_text
 EndsUnasked first now other = ⊥
 
--- The run of a named file ended so, where this is the file that was read.
-abbrev pub EndsNamed : Option (List ℕ) → Option (List ℕ) → Option (List ℕ) → Option (List ℕ) → Option (List ℕ) → Status → Type 0
-EndsNamed None before left first now status = (left ≡ before) × EndsWithout first now status
-EndsNamed (Some file) before left first now status = EndsOver file before left first now status
+-- ---- a whole run
 
--- A run ended so, by the file that its words name and the file that was read.
-abbrev pub Ends : Option (List ℕ) → Option (List ℕ) → Option (List ℕ) → Option (List ℕ) → Option (List ℕ) → Option (List ℕ) → Status → Type 0
-Ends None file before left first now status = (left ≡ before) × EndsUnasked first now status
-Ends (Some name) file before left first now status = EndsNamed file before left first now status
+-- A run ended so that was asked for this.
+abbrev pub EndsNamed : {U : Type 0} → Asked → Disk U → Disk U → Option (List ℕ) → Option (List ℕ) → Option (List ℕ) → Option (List ℕ) → Status → Type 0
+EndsNamed a d d' before left first now status = Without a d d' before left first now status ⊎ (Unread a d d' before left first now status ⊎ Replays a d d' before left first now status)
+
+-- A run ended so, by what its words ask for.
+abbrev pub Ends : {U : Type 0} → Option Asked → Disk U → Disk U → Option (List ℕ) → Option (List ℕ) → Option (List ℕ) → Option (List ℕ) → Status → Type 0
+Ends None d d' before left first now status = (d' ≡ d) × (left ≡ before) × EndsUnasked first now status
+Ends (Some a) d d' before left first now status = EndsNamed a d d' before left first now status

@@ -1,7 +1,10 @@
 pub mod Statuses
-pub mod Heads
 pub mod Stops
-pub mod Script
 pub mod Replay
+pub mod Script
+pub mod Stored
 pub mod Ends
+pub mod Areas
+pub mod Asking
 pub mod Accepts
+pub mod Due

@@ -1,41 +1,42 @@
--- What the run of a script leaves. `first` is what the sink held as it began and `now` what it holds, `left` what the source has left.
-use Rattle.std.specs.Prelude.{◌≡◌, ◌⊎◌, ℕ, ◌<◌, ◌≤◌, List, [], length, true, false}
+-- What the run of a script over an image leaves. `first` is what the sink held as it began and `now` what it holds, `left` what the source has left.
+use Rattle.std.specs.Prelude.{◌⊎◌, ℕ, ◌<◌, ◌≤◌, List, Bool, length}
 use Rattle.std.specs.declared.option.Option.{Option}
-use Rattle.std.specs.Io.KnownBytes.{Appends, Consumes, IsAtEnd}
-use Rattle.cdf_store.specs.Written.{AppendsFront}
-use Rattle.cdf_model.specs.DataSet.{DataSet}
+use Rattle.std.specs.Io.KnownBytes.{Consumes, IsAtEnd}
 use Rattle.cdf_model.specs.Limits.{script_limit}
-use Rattle.cdf_model.specs.Lines.{whole_lines}
-use Rattle.cdf_model.specs.Run.{State, flagged, run_lines, run_of}
+use Rattle.cdf_model.specs.Lines.{lines, whole_lines}
 use Rattle.cdf_tool.specs.declared.status.Status.{Status}
 use Rattle.cdf_tool.specs.declared.status.Status.TheVariants as statuses
+use Rattle.cdf_tool.specs.Replay.{Goes, Stops}
 
--- the run of the whole lines among these bytes
-abbrev pub run_whole : DataSet → List ℕ → State
-run_whole d taken = run_lines d [] (flagged (whole_lines taken) [])
-
--- A part of the replies to the whole lines among the bytes taken. Where nothing is left of the source, a last line without a newline counts too.
-abbrev pub RepliesInPart : DataSet → List ℕ → Option (List ℕ) → Option (List ℕ) → Option (List ℕ) → Type 0
-RepliesInPart d taken left first now =
-    AppendsFront first now (run_whole d taken).text ⊎ (IsAtEnd left × AppendsFront first now (run_of d [] taken []).text)
-
--- the script was read to its end, and all its replies were written
-abbrev pub Replies : DataSet → List ℕ → Option (List ℕ) → Option (List ℕ) → Option (List ℕ) → Type 0
-Replies d taken left first now = IsAtEnd left × Appends first now (run_of d [] taken []).text
-
--- what each status says, where these bytes of the script were taken
-abbrev pub Answers : DataSet → List ℕ → Option (List ℕ) → Option (List ℕ) → Option (List ℕ) → Status → Type 0
-Answers d taken left first now statuses.Done = (length taken ≤ script_limit) × Replies d taken left first now × ((run_of d [] taken []).refused ≡ false)
-Answers d taken left first now statuses.SomeRefused = (length taken ≤ script_limit) × Replies d taken left first now × ((run_of d [] taken []).refused ≡ true)
-Answers d taken left first now statuses.StoreReadFault = (length taken ≤ script_limit) × RepliesInPart d taken left first now
-Answers d taken left first now statuses.OutputFault = (length taken ≤ script_limit) × RepliesInPart d taken left first now
-Answers d taken left first now statuses.NoMemory = (length taken ≤ script_limit) × RepliesInPart d taken left first now
-Answers d taken left first now statuses.ScriptFault = (length taken ≤ script_limit) × Appends first now (run_whole d taken).text
-Answers d taken left first now statuses.ScriptTooLong = (script_limit < length taken) × AppendsFront first now (run_whole d taken).text
-Answers d taken left first now other = ⊥
-
--- some bytes were taken of the script, and were answered so
-pub record Runs (d : DataSet) (before left first now : Option (List ℕ)) (status : Status) : Type 0 where
+-- the script was read to its end, each of its lines was answered, and all replies were written
+pub record Finishes (limit : ℕ) (b : List ℕ) (before left first : Option (List ℕ)) (end : List ℕ) (refused : Bool) (now : Option (List ℕ)) : Type 0 where
   pub taken : List ℕ
   pub consumed : Consumes before left taken
-  pub answers : Answers d taken left first now status
+  pub short : length taken ≤ script_limit
+  pub over : IsAtEnd left
+  pub goes : Goes limit b 0 (lines taken) end refused first now
+
+-- A part of the replies to the whole lines among the bytes taken. Where nothing is left of the source, a last line without a newline counts too.
+abbrev pub RepliesInPart : ℕ → List ℕ → List ℕ → Option (List ℕ) → Option (List ℕ) → Option (List ℕ) → Type 0
+RepliesInPart limit b taken left first now = Stops limit b 0 (whole_lines taken) first now ⊎ (IsAtEnd left × Stops limit b 0 (lines taken) first now)
+
+-- all replies to these lines
+pub record Replies (limit : ℕ) (b : List ℕ) (lines : List (Option (List ℕ))) (first now : Option (List ℕ)) : Type 0 where
+  pub end : List ℕ
+  pub refused : Bool
+  pub goes : Goes limit b 0 lines end refused first now
+
+-- what each status says of a run that stopped, where these bytes of the script were taken
+abbrev pub HaltsAfter : ℕ → List ℕ → List ℕ → Option (List ℕ) → Option (List ℕ) → Option (List ℕ) → Status → Type 0
+HaltsAfter limit b taken left first now statuses.StoreReadFault = (length taken ≤ script_limit) × RepliesInPart limit b taken left first now
+HaltsAfter limit b taken left first now statuses.OutputFault = (length taken ≤ script_limit) × RepliesInPart limit b taken left first now
+HaltsAfter limit b taken left first now statuses.NoMemory = (length taken ≤ script_limit) × RepliesInPart limit b taken left first now
+HaltsAfter limit b taken left first now statuses.ScriptFault = (length taken ≤ script_limit) × Replies limit b (whole_lines taken) first now
+HaltsAfter limit b taken left first now statuses.ScriptTooLong = (script_limit < length taken) × Stops limit b 0 (whole_lines taken) first now
+HaltsAfter limit b taken left first now other = ⊥
+
+-- some bytes were taken of the script, and then the run stopped so
+pub record Halts (limit : ℕ) (b : List ℕ) (before left first now : Option (List ℕ)) (status : Status) : Type 0 where
+  pub taken : List ℕ
+  pub consumed : Consumes before left taken
+  pub how : HaltsAfter limit b taken left first now status

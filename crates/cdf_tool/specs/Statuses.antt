@@ -1,6 +1,5 @@
 -- When each status comes.
-use Rattle.std.specs.Prelude.{◌≡◌, ◌⊎◌, ℕ, List, Bool, true, false, None}
-use Rattle.std.specs.declared.option.Option.{Option}
+use Rattle.std.specs.Prelude.{◌≡◌, ◌⊎◌, ℕ, Bool, true, false}
 use Rattle.cdf_tool.specs.declared.status.Status.{Status}
 use Rattle.cdf_tool.specs.declared.status.Status.TheVariants as statuses
 
@@ -29,21 +28,31 @@ IsDone statuses.Done = Unit {0}
 IsDone statuses.SomeRefused = Unit {0}
 IsDone other = ⊥
 
+-- the area failed, or the sink, or memory was refused
+abbrev pub IsStop : Status → Type 0
+IsStop statuses.StoreReadFault = Unit {0}
+IsStop statuses.OutputFault = Unit {0}
+IsStop statuses.NoMemory = Unit {0}
+IsStop other = ⊥
+
 -- a device failed, or memory was refused
 abbrev pub IsFailure : Status → Type 0
 IsFailure statuses.StoreReadFault = Unit {0}
+IsFailure statuses.StoreWriteFault = Unit {0}
 IsFailure statuses.OutputFault = Unit {0}
 IsFailure statuses.NoMemory = Unit {0}
 IsFailure statuses.ScriptFault = Unit {0}
 IsFailure other = ⊥
 
+-- such a run saves nothing: that was asked for, or it did not come so far
+abbrev pub IsUnsaved : Bool → Status → Type 0
+IsUnsaved true status = Unit {0}
+IsUnsaved false statuses.Done = ⊥
+IsUnsaved false statuses.SomeRefused = ⊥
+IsUnsaved false statuses.StoreWriteFault = ⊥
+IsUnsaved false other = Unit {0}
+
 -- A status comes only where this holds, and where it holds no other one comes, unless a device failed or memory was refused.
 pub record Exactly (due status : Status) (P : Type 0) : Type 0 where
   pub only : status ≡ due → P
   pub always : P → (status ≡ due) ⊎ IsFailure status
-
--- the file that was read is the one under the name; where the store failed or memory was refused, none may have been read
-abbrev pub Looked : Option (List ℕ) → Option (List ℕ) → Status → Type 0
-Looked file under statuses.StoreReadFault = (file ≡ None) ⊎ (file ≡ under)
-Looked file under statuses.NoMemory = (file ≡ None) ⊎ (file ≡ under)
-Looked file under other = file ≡ under

@@ -1,16 +1,23 @@
-ghost use Rattle.std.specs.Prelude.{◌≡◌, ◌≤◌, length, Some, None, IfSome};
+ghost use Rattle.std.specs.Prelude.{◌≡◌, ◌≤◌, [], true, false, length, Some, None};
 ghost use Rattle.std.specs.Option.{option_map};
+ghost use Rattle.cdf_area.specs.Frame.{Frame};
 ghost use Rattle.cdf_base.specs.Causes.{Rose};
-ghost use Rattle.cdf_store.specs.Named.{Allows, lookup};
-ghost use Rattle.cdf_tool.specs.Ends.{EndsNamed, EndsOver};
-ghost use Rattle.cdf_tool.specs.Statuses.{Looked};
+ghost use Rattle.cdf_store.specs.Disk.{file_of};
+ghost use Rattle.cdf_store.specs.Named.{Allows};
+ghost use Rattle.cdf_model.specs.Limits.{image_limit};
+ghost use Rattle.cdf_tool.specs.Areas.{EndsAttached, EndsInMemory};
+ghost use Rattle.cdf_tool.specs.Ends.{EndsNamed};
+ghost use Rattle.cdf_tool.specs.Statuses.{IsUnsaved};
+ghost use Rattle.cdf_tool.specs.Asking.{asked_for};
 
 use crate::Status;
 use crate::ended::Ended;
-use crate::say::{say_no_file, say_rejected};
-use crate::script::run_script;
-use cdf_area::{Area, AreaError};
-use cdf_check::{Verdict, check};
+use crate::opened::run_area;
+use crate::saving::finish;
+use crate::say::say_no_file;
+use crate::status::end_status;
+use crate::words::Asked;
+use cdf_area::{Area, MemArea};
 use cdf_pages::StoreArea;
 use cdf_store::{AttachError, Sink, Source, Store};
 use std::alloc::Global;
@@ -18,83 +25,93 @@ use std::alloc::Global;
 /// The most bytes of an image.
 const IMAGE_LIMIT: u64 = 1_073_741_824;
 
-/// Judges the file in an area, and runs the script over it.
-fn run_area<A: Area, I: Source, O: Sink>(
-    alloc: Global,
-    area: &mut A,
-    script: &mut I,
-    out: &mut O,
-) -> Status
-    ensures ends { EndsOver (A.image area.old) (I.left script.old) (I.left script.new) (O.written out.old) (O.written out.new) result }
-    ensures frame { A.frame area.new ≡ A.frame area.old }
-    ensures later_area { A.faults area.old ≤ A.faults area.new }
-    ensures later_out { O.faults out.old ≤ O.faults out.new }
-    ensures later_script { I.faults script.old ≤ I.faults script.new }
-    ensures fault { result ≡ Status.StoreReadFault → Rose (A.faults area.old) (A.faults area.new) }
-    ensures output { result ≡ Status.OutputFault → Rose (O.faults out.old) (O.faults out.new) }
-    ensures source { result ≡ Status.ScriptFault → Rose (I.faults script.old) (I.faults script.new) }
+/// An area over the file that is attached, which has so many bytes: over its image, or over an empty one.
+fn area_over<S: Store>(alloc: Global, new: bool, store: S, size: u64) -> StoreArea<S>
+    requires { Some size ≡ option_map length (S.disk store).held }
+    ensures image { new ≡ false → ⟦<StoreArea<S> as Area>⟧.image result ≡ file_of (S.disk store) }
+    ensures empty { new ≡ true → ⟦<StoreArea<S> as Area>⟧.image result ≡ [] }
+    ensures frame { ⟦<StoreArea<S> as Area>⟧.frame result ≡ record { base = None; limit = image_limit; under = (S.disk store, S.write_faults store) } }
+    ensures faults { ⟦<StoreArea<S> as Area>⟧.faults result ≡ S.read_faults store }
 {
-    match check(alloc, area) {
-        Ok(Verdict::Yes) => run_script(alloc, area, script, out),
-        Ok(Verdict::No { phase, rule, at }) => say_rejected(alloc, phase, rule, at, out),
-        Err(AreaError::Fault) => Status::StoreReadFault,
-        Err(AreaError::NoMemory) => Status::NoMemory,
+    if new {
+        StoreArea::fresh(alloc, store, size, IMAGE_LIMIT)
+    } else {
+        StoreArea::over(alloc, store, size, IMAGE_LIMIT)
     }
 }
 
-/// Runs the script over the file that is attached, which has so many bytes.
+/// Runs the script over the file that is attached, which has so many bytes, or over a new one in its place.
 fn run_attached<S: Store, I: Source, O: Sink>(
     alloc: Global,
+    new: bool,
+    no_save: bool,
     store: S,
     size: u64,
     script: &mut I,
     out: &mut O,
 ) -> Ended<S>
     requires { Some size ≡ option_map length (S.disk store).held }
-    ensures ends { EndsNamed (S.disk store).held (I.left script.old) (I.left script.new) (O.written out.old) (O.written out.new) result.status }
-    ensures disk { S.disk result.store ≡ S.disk store }
-    ensures write { S.write_faults result.store ≡ S.write_faults store }
+    ensures ends { EndsAttached new no_save (file_of (S.disk store)) (S.disk store) (S.disk result.store) (I.left script.old) (I.left script.new) (O.written out.old) (O.written out.new) result.status }
     ensures later_store { S.read_faults store ≤ S.read_faults result.store }
+    ensures later_write { S.write_faults store ≤ S.write_faults result.store }
     ensures later_out { O.faults out.old ≤ O.faults out.new }
     ensures later_script { I.faults script.old ≤ I.faults script.new }
+    ensures unwritten { IsUnsaved no_save result.status → S.write_faults result.store ≡ S.write_faults store }
     ensures fault { result.status ≡ Status.StoreReadFault → Rose (S.read_faults store) (S.read_faults result.store) }
+    ensures write { result.status ≡ Status.StoreWriteFault → Rose (S.write_faults store) (S.write_faults result.store) }
     ensures output { result.status ≡ Status.OutputFault → Rose (O.faults out.old) (O.faults out.new) }
     ensures source { result.status ≡ Status.ScriptFault → Rose (I.faults script.old) (I.faults script.new) }
 {
-    let mut area = StoreArea::over(alloc, store, size, IMAGE_LIMIT);
-    let status = run_area(alloc, &mut area, script, out);
-    let store = area.into_store();
-    Ended { status, store }
+    let area = area_over(alloc, new, store, size);
+    let ran = run_area(alloc, new, area, script, out);
+    finish(no_save, ran)
 }
 
-/// Attaches the file of a name, and runs the script over it.
-pub fn run_file<S: Store, I: Source, O: Sink>(
+/// Runs the script over a new file in memory, which is not saved.
+fn run_in_memory<I: Source, O: Sink>(alloc: Global, script: &mut I, out: &mut O) -> Status
+    ensures ends { EndsInMemory (I.left script.old) (I.left script.new) (O.written out.old) (O.written out.new) result }
+    ensures later_out { O.faults out.old ≤ O.faults out.new }
+    ensures later_script { I.faults script.old ≤ I.faults script.new }
+    ensures fault { result ≡ Status.StoreReadFault → ⊥ }
+    ensures write { result ≡ Status.StoreWriteFault → ⊥ }
+    ensures output { result ≡ Status.OutputFault → Rose (O.faults out.old) (O.faults out.new) }
+    ensures source { result ≡ Status.ScriptFault → Rose (I.faults script.old) (I.faults script.new) }
+{
+    let area = MemArea::new(alloc, Vec::new(alloc), IMAGE_LIMIT);
+    let ran = run_area(alloc, true, area, script, out);
+    match ran.outcome {
+        Ok(refused) => end_status(refused),
+        Err(status) => status,
+    }
+}
+
+/// Attaches the file that is asked for, and runs the script over it.
+fn run_stored<S: Store, I: Source, O: Sink>(
     alloc: Global,
-    name: &str,
+    asked: &Asked<'_>,
     store: S,
     script: &mut I,
     out: &mut O,
 ) -> Ended<S>
     requires free { (S.disk store).held ≡ None }
-    requires allowed { Allows (S.disk store).only name.now }
-    ensures ends { EndsNamed (S.disk result.store).held (I.left script.old) (I.left script.new) (O.written out.old) (O.written out.new) result.status }
-    ensures named { (S.disk result.store).name ≡ option_map (λ _. name.now) (S.disk result.store).held }
-    ensures looked { IfSome (S.disk store).files (λ files. Looked (S.disk result.store).held (lookup name.now files) result.status) }
-    ensures files { (S.disk result.store).files ≡ (S.disk store).files }
-    ensures only { (S.disk result.store).only ≡ (S.disk store).only }
-    ensures touched { (S.disk result.store).touched ≡ (S.disk store).touched }
-    ensures under { (S.disk result.store).under ≡ (S.disk store).under }
-    ensures write { S.write_faults result.store ≡ S.write_faults store }
+    requires allowed { Allows (S.disk store).only asked.now.name.now }
+    requires saves { asked.now.new ≡ true → asked.now.no_save ≡ false }
+    ensures ends { EndsNamed (asked_for asked.now) (S.disk store) (S.disk result.store) (I.left script.old) (I.left script.new) (O.written out.old) (O.written out.new) result.status }
     ensures later_store { S.read_faults store ≤ S.read_faults result.store }
+    ensures later_write { S.write_faults store ≤ S.write_faults result.store }
     ensures later_out { O.faults out.old ≤ O.faults out.new }
     ensures later_script { I.faults script.old ≤ I.faults script.new }
+    ensures unwritten { IsUnsaved asked.now.no_save result.status → S.write_faults result.store ≡ S.write_faults store }
     ensures fault { result.status ≡ Status.StoreReadFault → Rose (S.read_faults store) (S.read_faults result.store) }
+    ensures write { result.status ≡ Status.StoreWriteFault → Rose (S.write_faults store) (S.write_faults result.store) }
     ensures output { result.status ≡ Status.OutputFault → Rose (O.faults out.old) (O.faults out.new) }
     ensures source { result.status ≡ Status.ScriptFault → Rose (I.faults script.old) (I.faults script.new) }
 {
     let mut store = store;
-    match store.attach(name, false) {
-        Ok(Some(size)) => run_attached(alloc, store, size, script, out),
+    match store.attach(asked.name, asked.new) {
+        Ok(Some(size)) => {
+            run_attached(alloc, asked.new, asked.no_save, store, size, script, out)
+        }
         Ok(None) => {
             let status = say_no_file(out);
             Ended { status, store }
@@ -108,4 +125,33 @@ pub fn run_file<S: Store, I: Source, O: Sink>(
             store,
         },
     }
+}
+
+/// Runs the script over the file that is asked for. For a new one that is not saved the store is not called.
+pub fn run_file<S: Store, I: Source, O: Sink>(
+    alloc: Global,
+    asked: &Asked<'_>,
+    store: S,
+    script: &mut I,
+    out: &mut O,
+) -> Ended<S>
+    requires free { (S.disk store).held ≡ None }
+    requires allowed { Allows (S.disk store).only asked.now.name.now }
+    ensures ends { EndsNamed (asked_for asked.now) (S.disk store) (S.disk result.store) (I.left script.old) (I.left script.new) (O.written out.old) (O.written out.new) result.status }
+    ensures later_store { S.read_faults store ≤ S.read_faults result.store }
+    ensures later_write { S.write_faults store ≤ S.write_faults result.store }
+    ensures later_out { O.faults out.old ≤ O.faults out.new }
+    ensures later_script { I.faults script.old ≤ I.faults script.new }
+    ensures unwritten { IsUnsaved asked.now.no_save result.status → S.write_faults result.store ≡ S.write_faults store }
+    ensures not_called { asked.now.new ≡ true → asked.now.no_save ≡ true → result.store ≡ store }
+    ensures fault { result.status ≡ Status.StoreReadFault → Rose (S.read_faults store) (S.read_faults result.store) }
+    ensures write { result.status ≡ Status.StoreWriteFault → Rose (S.write_faults store) (S.write_faults result.store) }
+    ensures output { result.status ≡ Status.OutputFault → Rose (O.faults out.old) (O.faults out.new) }
+    ensures source { result.status ≡ Status.ScriptFault → Rose (I.faults script.old) (I.faults script.new) }
+{
+    if asked.new && asked.no_save {
+        let status = run_in_memory(alloc, script, out);
+        return Ended { status, store };
+    }
+    run_stored(alloc, asked, store, script, out)
 }

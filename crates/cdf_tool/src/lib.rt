@@ -3,11 +3,12 @@
 
 mod ended;
 mod file;
+mod opened;
 mod replay;
 mod replies;
+mod saving;
 mod say;
 mod script;
-mod session;
 mod status;
 mod stop;
 mod top;

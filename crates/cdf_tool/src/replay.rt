@@ -1,27 +1,36 @@
-ghost use Rattle.std.specs.Prelude.{◌≡◌, ◌+◌, ◌≤◌, ◌||◌, [], false, IfOk, OnOk, OnErr, IsErrOf};
+ghost use Rattle.std.specs.Prelude.{◌≡◌, ◌+◌, ◌≤◌, ◌||◌, ℕ, List, [], false, length, true, IfOk, OnOk, OnErr, IsErrOf};
 ghost use Rattle.std.specs.Io.KnownBytes.{Appends};
 ghost use Rattle.cdf_base.specs.Causes.{Rose};
 ghost use Rattle.cdf_store.specs.Written.{AppendsFront};
-ghost use Rattle.cdf_format.specs.Content.{data_set_of};
-ghost use Rattle.cdf_format.specs.WellFormed.{WellFormed};
-ghost use Rattle.cdf_model.specs.DataSet.{DataSet};
 ghost use Rattle.cdf_model.specs.Grammar.{Asks, Faulty, parse as asked_for};
 ghost use Rattle.cdf_model.specs.Run.{is_refused};
+ghost use Rattle.cdf_model.specs.Sayable.{Sayable};
+ghost use Rattle.cdf_model.specs.Step.{built};
 ghost use Rattle.cdf_model.specs.Texts.{reply_text as text_of};
 ghost use Rattle.cdf_model.specs.Whole.{CanBeWritten};
 ghost use Rattle.cdf_lines.specs.Pending.{line_of, new_lines, new_rest};
-ghost use Rattle.cdf_tool.specs.Replay.{GoesOn, StopsWithin, Turns, IsDrained, plain_turn};
+ghost use Rattle.cdf_tool.specs.Replay.{AreShort, Fails, Goes, IsDrained, IsShort, Stops, Turns};
 
 use crate::replies::Replies;
-use crate::session::{info, is_built};
 use crate::stop::Stop;
 use cdf_area::Area;
 use cdf_lines::{Line, Lines};
 use cdf_model::{Command, LineError, Outcome, Reason};
 use cdf_reply::reply_text;
 use cdf_script::{ParseError, Parsed, parse};
+use cdf_session::Session;
 use cdf_store::{Sink, write_all};
 use std::alloc::Global;
+
+/// Whether there is the command by now.
+fn is_built(command: &Command) -> bool
+    ensures { result ≡ built command.now }
+{
+    matches!(
+        command,
+        Command::Info | Command::List | Command::Attr { .. } | Command::RenameAttr { .. }
+    )
+}
 
 fn is_refusal(outcome: &Outcome) -> bool
     ensures { result ≡ is_refused outcome.now }
@@ -32,7 +41,7 @@ fn is_refusal(outcome: &Outcome) -> bool
     }
 }
 
-fn either(one: bool, other: bool) -> bool
+pub fn either(one: bool, other: bool) -> bool
     ensures { result ≡ (one || other) }
 {
     one || other
@@ -52,15 +61,15 @@ fn say<O: Sink>(alloc: Global, number: u64, outcome: &Outcome, out: &mut O) -> R
     Ok(())
 }
 
-/// Answers a line that is no command.
+/// Answers a line that is no command, over any image.
 fn answer_fault<O: Sink>(
     alloc: Global,
     number: u64,
     fault: LineError,
     out: &mut O,
 ) -> Result<bool, Stop>
-    ensures ok { (d : DataSet) → IfOk result (λ refused. Turns (plain_turn d number (Faulty fault)) refused (O.written out.old) (O.written out.new)) }
-    ensures err { (d : DataSet) → OnErr result (AppendsFront (O.written out.old) (O.written out.new) (plain_turn d number (Faulty fault)).text) }
+    ensures ok { (limit : ℕ) (b : List ℕ) → IfOk result (λ refused. Turns limit b number (Faulty fault) b refused (O.written out.old) (O.written out.new)) }
+    ensures err { (limit : ℕ) (b : List ℕ) → OnErr result (Fails limit b number (Faulty fault) (O.written out.old) (O.written out.new)) }
     ensures later { O.faults out.old ≤ O.faults out.new }
     ensures cause { IsErrOf result Stop.Output → Rose (O.faults out.old) (O.faults out.new) }
     ensures area { IsErrOf result Stop.Fault → ⊥ }
@@ -72,81 +81,98 @@ fn answer_fault<O: Sink>(
     Ok(true)
 }
 
-/// Answers a command; one that there is not yet is a word that is not known.
-fn answer_command<A: Area, O: Sink>(
+/// Carries out a command that there is, and writes its reply.
+fn answer_built<A: Area, O: Sink>(
     alloc: Global,
-    area: &mut A,
+    session: &mut Session<A>,
     number: u64,
     command: &Command,
     out: &mut O,
 ) -> Result<bool, Stop>
-    requires { WellFormed (A.image area.old) }
-    ensures ok { IfOk result (λ refused. Turns (plain_turn (data_set_of (A.image area.old)) number (Asks command.now)) refused (O.written out.old) (O.written out.new)) }
-    ensures err { OnErr result (AppendsFront (O.written out.old) (O.written out.new) (plain_turn (data_set_of (A.image area.old)) number (Asks command.now)).text) }
-    ensures image { A.image area.new ≡ A.image area.old }
-    ensures frame { A.frame area.new ≡ A.frame area.old }
-    ensures later_area { A.faults area.old ≤ A.faults area.new }
+    requires built { built command.now ≡ true }
+    requires sayable { Sayable command.now }
+    ensures ok { IfOk result (λ refused. Turns (A.frame session.old).limit (A.image session.old) number (Asks command.now) (A.image session.new) refused (O.written out.old) (O.written out.new)) }
+    ensures err { OnErr result (Fails (A.frame session.old).limit (A.image session.old) number (Asks command.now) (O.written out.old) (O.written out.new)) }
+    ensures frame { A.frame session.new ≡ A.frame session.old }
+    ensures later_area { A.faults session.old ≤ A.faults session.new }
     ensures later_out { O.faults out.old ≤ O.faults out.new }
-    ensures fault { IsErrOf result Stop.Fault → Rose (A.faults area.old) (A.faults area.new) }
+    ensures fault { IsErrOf result Stop.Fault → Rose (A.faults session.old) (A.faults session.new) }
     ensures output { IsErrOf result Stop.Output → Rose (O.faults out.old) (O.faults out.new) }
 {
-    if !is_built(command) {
-        return answer_fault(alloc, number, LineError::UnknownWord { at: 0 }, out);
-    }
-    let outcome = info(alloc, area)?;
+    let outcome = session.apply(command)?;
     let refused = is_refusal(&outcome);
     say(alloc, number, &outcome, out)?;
     Ok(refused)
 }
 
+/// Answers a command; one that there is not yet is a word that is not known.
+fn answer_command<A: Area, O: Sink>(
+    alloc: Global,
+    session: &mut Session<A>,
+    number: u64,
+    command: &Command,
+    out: &mut O,
+) -> Result<bool, Stop>
+    requires { Sayable command.now }
+    ensures ok { IfOk result (λ refused. Turns (A.frame session.old).limit (A.image session.old) number (Asks command.now) (A.image session.new) refused (O.written out.old) (O.written out.new)) }
+    ensures err { OnErr result (Fails (A.frame session.old).limit (A.image session.old) number (Asks command.now) (O.written out.old) (O.written out.new)) }
+    ensures frame { A.frame session.new ≡ A.frame session.old }
+    ensures later_area { A.faults session.old ≤ A.faults session.new }
+    ensures later_out { O.faults out.old ≤ O.faults out.new }
+    ensures fault { IsErrOf result Stop.Fault → Rose (A.faults session.old) (A.faults session.new) }
+    ensures output { IsErrOf result Stop.Output → Rose (O.faults out.old) (O.faults out.new) }
+{
+    if !is_built(command) {
+        return answer_fault(alloc, number, LineError::UnknownWord { at: 0 }, out);
+    }
+    answer_built(alloc, session, number, command, out)
+}
+
 /// Answers a line, and says whether it was refused.
 fn answer_line<A: Area, O: Sink>(
     alloc: Global,
-    area: &mut A,
+    session: &mut Session<A>,
     line: &Line,
     out: &mut O,
 ) -> Result<bool, Stop>
-    requires { WellFormed (A.image area.old) }
-    ensures ok { IfOk result (λ refused. Turns (plain_turn (data_set_of (A.image area.old)) line.now.number (asked_for (line_of line.now))) refused (O.written out.old) (O.written out.new)) }
-    ensures err { OnErr result (AppendsFront (O.written out.old) (O.written out.new) (plain_turn (data_set_of (A.image area.old)) line.now.number (asked_for (line_of line.now))).text) }
-    ensures image { A.image area.new ≡ A.image area.old }
-    ensures frame { A.frame area.new ≡ A.frame area.old }
-    ensures later_area { A.faults area.old ≤ A.faults area.new }
+    requires { IsShort (line_of line.now) }
+    ensures ok { IfOk result (λ refused. Turns (A.frame session.old).limit (A.image session.old) line.now.number (asked_for (line_of line.now)) (A.image session.new) refused (O.written out.old) (O.written out.new)) }
+    ensures err { OnErr result (Fails (A.frame session.old).limit (A.image session.old) line.now.number (asked_for (line_of line.now)) (O.written out.old) (O.written out.new)) }
+    ensures frame { A.frame session.new ≡ A.frame session.old }
+    ensures later_area { A.faults session.old ≤ A.faults session.new }
     ensures later_out { O.faults out.old ≤ O.faults out.new }
-    ensures fault { IsErrOf result Stop.Fault → Rose (A.faults area.old) (A.faults area.new) }
+    ensures fault { IsErrOf result Stop.Fault → Rose (A.faults session.old) (A.faults session.new) }
     ensures output { IsErrOf result Stop.Output → Rose (O.faults out.old) (O.faults out.new) }
 {
     match parse(alloc, line) {
         Ok(Parsed::Blank) => Ok(false),
-        Ok(Parsed::Cmd { c }) => answer_command(alloc, area, line.number, &c, out),
+        Ok(Parsed::Cmd { c }) => answer_command(alloc, session, line.number, &c, out),
         Err(ParseError::Bad { fault }) => answer_fault(alloc, line.number, fault, out),
         Err(ParseError::NoMemory) => Err(Stop::NoMemory),
     }
 }
 
-/// Answers the lines that are ready, and says whether one of them or an earlier one was refused.
+/// Answers the lines that are ready, and says whether one of them was refused.
 fn answer_lines<A: Area, O: Sink>(
     alloc: Global,
-    area: &mut A,
+    session: &mut Session<A>,
     lines: &mut Lines,
-    refused: bool,
     out: &mut O,
 ) -> Result<bool, Stop>
-    requires { WellFormed (A.image area.old) }
-    ensures ok { IfOk result (λ r. GoesOn (data_set_of (A.image area.old)) lines.old.ready lines.old.given refused (O.written out.old) lines.new.given r (O.written out.new)) }
+    requires { AreShort lines.old.ready }
+    ensures ok { IfOk result (λ refused. Goes (A.frame session.old).limit (A.image session.old) lines.old.given lines.old.ready (A.image session.new) refused (O.written out.old) (O.written out.new)) }
     ensures drained { OnOk result (IsDrained lines.old lines.new) }
-    ensures err { OnErr result (StopsWithin (data_set_of (A.image area.old)) lines.old.ready lines.old.given refused (O.written out.old) (O.written out.new)) }
-    ensures image { A.image area.new ≡ A.image area.old }
-    ensures frame { A.frame area.new ≡ A.frame area.old }
-    ensures later_area { A.faults area.old ≤ A.faults area.new }
+    ensures err { OnErr result (Stops (A.frame session.old).limit (A.image session.old) lines.old.given lines.old.ready (O.written out.old) (O.written out.new)) }
+    ensures frame { A.frame session.new ≡ A.frame session.old }
+    ensures later_area { A.faults session.old ≤ A.faults session.new }
     ensures later_out { O.faults out.old ≤ O.faults out.new }
-    ensures fault { IsErrOf result Stop.Fault → Rose (A.faults area.old) (A.faults area.new) }
+    ensures fault { IsErrOf result Stop.Fault → Rose (A.faults session.old) (A.faults session.new) }
     ensures output { IsErrOf result Stop.Output → Rose (O.faults out.old) (O.faults out.new) }
 {
-    let mut refused = refused;
+    let mut refused = false;
     'ready: while lines.next_line() {
         let line = lines.line();
-        let more = answer_line(alloc, area, &line, out)?;
+        let more = answer_line(alloc, session, &line, out)?;
         refused = either(refused, more);
     }
     Ok(refused)
@@ -166,24 +192,22 @@ fn without_output(stop: Stop) -> Stop
 /// Answers the lines that are ready, and writes their replies together.
 pub fn answer_together<A: Area, O: Sink>(
     alloc: Global,
-    area: &mut A,
+    session: &mut Session<A>,
     lines: &mut Lines,
-    refused: bool,
     out: &mut O,
 ) -> Result<bool, Stop>
-    requires { WellFormed (A.image area.old) }
-    ensures ok { IfOk result (λ r. GoesOn (data_set_of (A.image area.old)) lines.old.ready lines.old.given refused (O.written out.old) lines.new.given r (O.written out.new)) }
+    requires { AreShort lines.old.ready }
+    ensures ok { IfOk result (λ refused. Goes (A.frame session.old).limit (A.image session.old) lines.old.given lines.old.ready (A.image session.new) refused (O.written out.old) (O.written out.new)) }
     ensures drained { OnOk result (IsDrained lines.old lines.new) }
-    ensures err { OnErr result (StopsWithin (data_set_of (A.image area.old)) lines.old.ready lines.old.given refused (O.written out.old) (O.written out.new)) }
-    ensures image { A.image area.new ≡ A.image area.old }
-    ensures frame { A.frame area.new ≡ A.frame area.old }
-    ensures later_area { A.faults area.old ≤ A.faults area.new }
+    ensures err { OnErr result (Stops (A.frame session.old).limit (A.image session.old) lines.old.given lines.old.ready (O.written out.old) (O.written out.new)) }
+    ensures frame { A.frame session.new ≡ A.frame session.old }
+    ensures later_area { A.faults session.old ≤ A.faults session.new }
     ensures later_out { O.faults out.old ≤ O.faults out.new }
-    ensures fault { IsErrOf result Stop.Fault → Rose (A.faults area.old) (A.faults area.new) }
+    ensures fault { IsErrOf result Stop.Fault → Rose (A.faults session.old) (A.faults session.new) }
     ensures output { IsErrOf result Stop.Output → Rose (O.faults out.old) (O.faults out.new) }
 {
     let mut replies = Replies::new(alloc);
-    let answered = answer_lines(alloc, area, lines, refused, &mut replies);
+    let answered = answer_lines(alloc, session, lines, &mut replies);
     write_all(out, replies.text())?;
     match answered {
         Ok(refused) => Ok(refused),
@@ -194,27 +218,25 @@ pub fn answer_together<A: Area, O: Sink>(
 /// Answers the lines that a piece of the script ends.
 pub fn answer_piece<A: Area, O: Sink>(
     alloc: Global,
-    area: &mut A,
+    session: &mut Session<A>,
     lines: &mut Lines,
-    refused: bool,
     piece: &[u8],
     out: &mut O,
 ) -> Result<bool, Stop>
-    requires well_formed { WellFormed (A.image area.old) }
     requires ready { lines.old.ready ≡ [] }
     requires over { lines.old.over ≡ false }
-    ensures ok { IfOk result (λ r. GoesOn (data_set_of (A.image area.old)) (new_lines lines.old.rest piece.now) lines.old.given refused (O.written out.old) lines.new.given r (O.written out.new)) }
+    ensures ok { IfOk result (λ refused. Goes (A.frame session.old).limit (A.image session.old) lines.old.given (new_lines lines.old.rest piece.now) (A.image session.new) refused (O.written out.old) (O.written out.new)) }
     ensures ready { OnOk result (lines.new.ready ≡ []) }
     ensures over { OnOk result (lines.new.over ≡ false) }
     ensures rest { OnOk result (lines.new.rest ≡ new_rest lines.old.rest piece.now) }
-    ensures err { OnErr result (StopsWithin (data_set_of (A.image area.old)) (new_lines lines.old.rest piece.now) lines.old.given refused (O.written out.old) (O.written out.new)) }
-    ensures image { A.image area.new ≡ A.image area.old }
-    ensures frame { A.frame area.new ≡ A.frame area.old }
-    ensures later_area { A.faults area.old ≤ A.faults area.new }
+    ensures given { OnOk result (lines.new.given ≡ lines.old.given + length (new_lines lines.old.rest piece.now)) }
+    ensures err { OnErr result (Stops (A.frame session.old).limit (A.image session.old) lines.old.given (new_lines lines.old.rest piece.now) (O.written out.old) (O.written out.new)) }
+    ensures frame { A.frame session.new ≡ A.frame session.old }
+    ensures later_area { A.faults session.old ≤ A.faults session.new }
     ensures later_out { O.faults out.old ≤ O.faults out.new }
-    ensures fault { IsErrOf result Stop.Fault → Rose (A.faults area.old) (A.faults area.new) }
+    ensures fault { IsErrOf result Stop.Fault → Rose (A.faults session.old) (A.faults session.new) }
     ensures output { IsErrOf result Stop.Output → Rose (O.faults out.old) (O.faults out.new) }
 {
     lines.feed(piece)?;
-    answer_together(alloc, area, lines, refused, out)
+    answer_together(alloc, session, lines, out)
 }

@@ -1,7 +1,7 @@
 ghost use Rattle.std.specs.Prelude.{◌≡◌, ◌≤◌, IfOk, string_bytes};
 ghost use Rattle.cdf_base.specs.Causes.{Rose};
 ghost use Rattle.cdf_model.specs.Texts.{rejected_text};
-ghost use Rattle.cdf_tool.specs.Ends.{EndsWithout, EndsUnasked, SaysRejected};
+ghost use Rattle.cdf_tool.specs.Ends.{EndsUnasked, SaysNoFile, SaysRejected};
 
 use crate::Status;
 use cdf_store::{Failed, Sink, write_all};
@@ -24,9 +24,8 @@ pub fn say_usage<O: Sink>(out: &mut O) -> Status
 
 /// Says that there is no such file.
 pub fn say_no_file<O: Sink>(out: &mut O) -> Status
-    ensures text { EndsWithout (O.written out.old) (O.written out.new) result }
+    ensures text { SaysNoFile (O.written out.old) (O.written out.new) result }
     ensures later { O.faults out.old ≤ O.faults out.new }
-    ensures fault { result ≡ Status.StoreReadFault → ⊥ }
     ensures output { result ≡ Status.OutputFault → Rose (O.faults out.old) (O.faults out.new) }
 {
     match write_all(out, b"no file\n") {

@@ -2,29 +2,29 @@ ghost use Rattle.std.specs.Prelude.{◌≡◌};
 ghost use Rattle.cdf_tool.specs.Stops.{status_after};
 
 use crate::Status;
-use cdf_area::AreaError;
+use cdf_session::Broken;
 use cdf_store::Failed;
 use std::alloc::AllocError;
 
 /// Why a replay stopped.
 #[derive(Clone, Copy, Debug, PartialEq, Eq)]
 pub enum Stop {
-    /// The area could not be read.
+    /// The area failed.
     Fault,
     /// The sink failed.
     Output,
     NoMemory,
 }
 
-impl From<AreaError> for Stop {
+impl From<Broken> for Stop {
     ghost use Rattle.cdf_tool.specs.Stops.{stop_of};
 
     ghost from_gives = { λ error stop. stop ≡ stop_of error };
 
-    fn from(error: AreaError) -> Self {
+    fn from(error: Broken) -> Self {
         match error {
-            AreaError::Fault => Stop::Fault,
-            AreaError::NoMemory => Stop::NoMemory,
+            Broken::Fault => Stop::Fault,
+            Broken::NoMemory => Stop::NoMemory,
         }
     }
 }

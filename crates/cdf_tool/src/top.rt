@@ -1,19 +1,20 @@
-ghost use Rattle.std.specs.Prelude.{◌≡◌, ◌-◌, ◌<◌, ◌≤◌, length, map, string_bytes, Some, None, IfSome, ◌⊎◌};
+ghost use Rattle.std.specs.Prelude.{◌≡◌, ◌-◌, ◌<◌, ◌≤◌, length, map, string_bytes, false, Some, None, IfSome, ◌⊎◌};
 ghost use Rattle.std.specs.Option.{ForSome, option_map};
 ghost use Rattle.cdf_base.specs.Causes.{Rose};
 ghost use Rattle.cdf_store.specs.Named.{Allows, lookup};
 ghost use Rattle.cdf_format.specs.WellFormed.{WellFormed};
 ghost use Rattle.cdf_model.specs.Limits.{script_limit};
 ghost use Rattle.cdf_model.specs.Words.{ask};
-ghost use Rattle.cdf_tool.specs.Ends.{Ends, Names};
 ghost use Rattle.cdf_tool.specs.Accepts.{Accepts};
-ghost use Rattle.cdf_tool.specs.Statuses.{Exactly, IsDone, IsFailure, Looked};
+ghost use Rattle.cdf_tool.specs.Due.{CanBegin, Looked, Untouched, calls_store};
+ghost use Rattle.cdf_tool.specs.Ends.{Ends, Names};
+ghost use Rattle.cdf_tool.specs.Statuses.{Exactly, IsDone, IsFailure, IsUnsaved};
 
 use crate::Status;
 use crate::ended::Ended;
 use crate::file::run_file;
 use crate::say::say_usage;
-use crate::words::file_of;
+use crate::words::read_words;
 use cdf_store::{Sink, Source, Store};
 use std::alloc::Global;
 
@@ -27,50 +28,54 @@ pub fn run<S: Store, I: Source, O: Sink>(
     out: &mut O,
 ) -> Ended<S>
     requires free { (S.disk store).held ≡ None }
-    requires allowed { ForSome (ask (map string_bytes words.now)) (λ name. Allows (S.disk store).only name) }
+    requires allowed { ForSome (ask (map string_bytes words.now)) (λ asked. Allows (S.disk store).only asked.name) }
 
-    // Over devices that tell their bytes: with status 0 or 1 the file is well formed, the script was read to its end, and what was
-    // written is the text of its run over the data set of the file, and nothing else.
-    ensures accepted { Accepts (S.disk result.store).held (I.left script.old) (I.left script.new) (O.written out.old) (O.written out.new) result.status }
+    // Over devices that tell their bytes: with status 0 or 1 the file is well formed, or a new one was made, and there are a last image
+    // and a flag for each line, so that the script leads from the first image to the last one, what was written is the text of the run
+    // over the data set of the first, and nothing else, the last image is stored, the script was read to its end, and the status is 1
+    // exactly where that run refuses a line.
+    ensures accepted { Accepts (ask (map string_bytes words.now)) (S.disk store) (S.disk result.store) (I.left script.old) (I.left script.new) (O.written out.old) (O.written out.new) result.status }
 
-    // Over any devices: what was written and what was read, status by status.
-    ensures ends { Ends (ask (map string_bytes words.now)) (S.disk result.store).held (I.left script.old) (I.left script.new) (O.written out.old) (O.written out.new) result.status }
+    // Over any devices: what was written, what was read and what became of the store, status by status.
+    ensures ends { Ends (ask (map string_bytes words.now)) (S.disk store) (S.disk result.store) (I.left script.old) (I.left script.new) (O.written out.old) (O.written out.new) result.status }
 
-    // The file that was read is attached under the name that was asked for, and over a store that tells its files it is the one of that name.
-    ensures named { IfSome (ask (map string_bytes words.now)) (λ name. (S.disk result.store).name ≡ option_map (λ _. name) (S.disk result.store).held) }
-    ensures looked { IfSome (ask (map string_bytes words.now)) (λ name. IfSome (S.disk store).files (λ files. Looked (S.disk result.store).held (lookup name files) result.status)) }
+    // The file that is attached has the name that was asked for. Unless it is new or was saved, it is the one of that name over a store that tells its files.
+    ensures named { IfSome (ask (map string_bytes words.now)) (λ asked. (S.disk result.store).name ≡ option_map (λ _. asked.name) (S.disk result.store).held) }
+    ensures looked { IfSome (ask (map string_bytes words.now)) (λ asked. asked.new ≡ false → IsUnsaved asked.no_save result.status →
+        IfSome (S.disk store).files (λ files. Looked (S.disk result.store).held (lookup asked.name files) result.status)) }
 
     // Statuses 2, 3, 4 and 10 come exactly where they are due.
     ensures usage { Exactly Status.Usage result.status (ask (map string_bytes words.now) ≡ None) }
-    ensures no_file { IfSome (ask (map string_bytes words.now)) (λ name. IfSome (S.disk store).files (λ files. Exactly Status.NoFile result.status (lookup name files ≡ None))) }
+    ensures no_file { IfSome (ask (map string_bytes words.now)) (λ asked. IfSome (S.disk store).files (λ files. Exactly Status.NoFile result.status ((asked.new ≡ false) × (lookup asked.name files ≡ None)))) }
     ensures no_file_read { result.status ≡ Status.NoFile → (S.disk result.store).held ≡ None }
-    ensures rejected { IfSome (S.disk result.store).held (λ file. Exactly Status.Rejected result.status (WellFormed file → ⊥)) }
+    ensures rejected { IfSome (ask (map string_bytes words.now)) (λ asked. IfSome (S.disk result.store).held (λ file. Exactly Status.Rejected result.status ((asked.new ≡ false) × (WellFormed file → ⊥)))) }
     ensures verdict { result.status ≡ Status.Rejected → Names (S.disk result.store).held (O.written out.old) (O.written out.new) }
     ensures too_long { IfSome (I.left script.old) (λ before. IfSome (I.left script.new) (λ left. Exactly Status.ScriptTooLong result.status (script_limit < length before - length left))) }
 
-    // A well-formed file and a script that is not too long end with status 0 or 1, unless a device failed or memory was refused.
-    ensures complete { IfSome (ask (map string_bytes words.now)) (λ name. IfSome (S.disk store).files (λ files. IfSome (lookup name files) (λ file. WellFormed file →
-        IfSome (I.left script.old) (λ before. length before ≤ script_limit → IsDone result.status ⊎ IsFailure result.status)))) }
+    // A well-formed file or a new one, and a script that is not too long, end with status 0 or 1, unless a device failed or memory was refused.
+    ensures complete { IfSome (ask (map string_bytes words.now)) (λ asked. CanBegin asked.new asked.name (S.disk store).files →
+        IfSome (I.left script.old) (λ before. length before ≤ script_limit → IsDone result.status ⊎ IsFailure result.status)) }
 
     // A device is blamed only where its count of faults rose.
     ensures fault { result.status ≡ Status.StoreReadFault → Rose (S.read_faults store) (S.read_faults result.store) }
+    ensures write { result.status ≡ Status.StoreWriteFault → Rose (S.write_faults store) (S.write_faults result.store) }
     ensures output { result.status ≡ Status.OutputFault → Rose (O.faults out.old) (O.faults out.new) }
     ensures source { result.status ≡ Status.ScriptFault → Rose (I.faults script.old) (I.faults script.new) }
-    ensures no_write { result.status ≡ Status.StoreWriteFault → ⊥ }
     ensures later_store { S.read_faults store ≤ S.read_faults result.store }
+    ensures later_write { S.write_faults store ≤ S.write_faults result.store }
     ensures later_out { O.faults out.old ≤ O.faults out.new }
     ensures later_script { I.faults script.old ≤ I.faults script.new }
 
-    // The store's files stay as they were, and where no file is named the store is not called.
-    ensures not_called { ask (map string_bytes words.now) ≡ None → S.disk result.store ≡ S.disk store }
-    ensures files { (S.disk result.store).files ≡ (S.disk store).files }
+    // Where nothing is saved the store's files stay as they were, but that an empty one may have been made for a new file. Where no file
+    // is named, and for a new one that is not saved, the store is not called.
+    ensures not_called { calls_store (ask (map string_bytes words.now)) ≡ false → result.store ≡ store }
+    ensures untouched { IfSome (ask (map string_bytes words.now)) (λ asked. IsUnsaved asked.no_save result.status → Untouched asked (S.disk store) (S.disk result.store)) }
+    ensures unwritten { IfSome (ask (map string_bytes words.now)) (λ asked. IsUnsaved asked.no_save result.status → S.write_faults result.store ≡ S.write_faults store) }
     ensures only { (S.disk result.store).only ≡ (S.disk store).only }
-    ensures touched { (S.disk result.store).touched ≡ (S.disk store).touched }
     ensures under { (S.disk result.store).under ≡ (S.disk store).under }
-    ensures write { S.write_faults result.store ≡ S.write_faults store }
 {
-    match file_of(words) {
-        Some(name) => run_file(alloc, name, store, script, out),
+    match read_words(words) {
+        Some(asked) => run_file(alloc, &asked, store, script, out),
         None => {
             let status = say_usage(out);
             Ended { status, store }

@@ -1,6 +1,26 @@
 ghost use Rattle.std.specs.Prelude.{◌≡◌, map, string_bytes};
 ghost use Rattle.std.specs.Option.{option_map};
-ghost use Rattle.cdf_model.specs.Words.{ask, is_flag as flag};
+ghost use Rattle.cdf_model.specs.Words.{ask, is_flag as flag, with_flag as asking_flag, with_name as asking_name, with_word as asking_word};
+ghost use Rattle.cdf_tool.specs.Asking.{asked_for, asking_of};
+
+/// What a run is asked for.
+#[derive(Clone, Copy)]
+pub struct Asked<'a> {
+    /// Begin with a new file.
+    pub new: bool,
+    /// Do not save.
+    pub no_save: bool,
+    pub name: &'a str,
+}
+
+/// What the words read so far ask for. Behind `--` each word is a file.
+#[derive(Clone, Copy)]
+pub struct Asking<'a> {
+    new: bool,
+    no_save: bool,
+    only_files: bool,
+    name: Option<&'a str>,
+}
 
 fn is_flag(word: &[u8]) -> bool
     ensures { result ≡ flag word.now }
@@ -11,18 +31,85 @@ fn is_flag(word: &[u8]) -> bool
     }
 }
 
-/// The file that the words name.
-pub fn file_of(words: &[String]) -> Option<&str>
-    ensures { option_map (λ name. name.now) result ≡ ask (map string_bytes words.now) }
+/// One more word, which is a file.
+fn with_name<'a>(asking: Asking<'a>, word: &'a str) -> Option<Asking<'a>>
+    ensures { option_map asking_of result ≡ asking_name (asking_of asking.entry) word.now }
 {
-    match words {
-        [word] => {
-            if is_flag(word.as_bytes()) {
-                None
-            } else {
-                Some(word.as_str())
-            }
+    match asking.name {
+        Some(_) => None,
+        None => Some(Asking {
+            name: Some(word),
+            ..asking
+        }),
+    }
+}
+
+/// One more word, which is a flag.
+fn with_flag<'a>(asking: Asking<'a>, word: &str) -> Option<Asking<'a>>
+    ensures { option_map asking_of result ≡ asking_flag (asking_of asking.entry) word.now }
+{
+    if word == "--" {
+        return Some(Asking {
+            only_files: true,
+            ..asking
+        });
+    }
+    if word == "--new" {
+        if asking.new {
+            return None;
         }
-        _ => None,
+        return Some(Asking {
+            new: true,
+            ..asking
+        });
+    }
+    if word == "--no-save" {
+        if asking.no_save {
+            return None;
+        }
+        return Some(Asking {
+            no_save: true,
+            ..asking
+        });
+    }
+    None
+}
+
+/// One more word.
+fn with_word<'a>(asking: Asking<'a>, word: &'a str) -> Option<Asking<'a>>
+    ensures { option_map asking_of result ≡ asking_word (asking_of asking.entry) word.now }
+{
+    if asking.only_files {
+        return with_name(asking, word);
+    }
+    if is_flag(word.as_bytes()) {
+        return with_flag(asking, word);
+    }
+    with_name(asking, word)
+}
+
+/// What the words ask for, if they are such words.
+pub fn read_words(words: &[String]) -> Option<Asked<'_>>
+    ensures { option_map asked_for result ≡ ask (map string_bytes words.now) }
+{
+    let mut asking = Asking {
+        new: false,
+        no_save: false,
+        only_files: false,
+        name: None,
+    };
+    for word in words {
+        match with_word(asking, word.as_str()) {
+            Some(more) => asking = more,
+            None => return None,
+        }
+    }
+    match asking.name {
+        Some(name) => Some(Asked {
+            new: asking.new,
+            no_save: asking.no_save,
+            name,
+        }),
+        None => None,
     }
 }

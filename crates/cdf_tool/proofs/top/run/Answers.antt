@@ -1,24 +1,32 @@
-use Rattle.cdf_tool.proofs.EndLemmas.{accepts, no_file_exactly, too_long_exactly, completes}
+use Rattle.std.proofs.Common.{sym}
+use Rattle.cdf_tool.specs.Asking.{asked_for}
+use Rattle.cdf_tool.proofs.RunLemmas.{came, accepts, no_file_exactly, rejected_exactly, too_long_exactly, completes}
 use Rattle.cdf_tool.proofs.top.run.Goals as goal
 
+pub run_file-requires-clause-allowed : goal.run_file-requires-clause-allowed
+run_file-requires-clause-allowed g c = c.requires.allowed (asked_for c.in-Some.asked) (sym c.in-Some.ensures)
+
 pub returns-in-Some-clause-accepted : goal.returns-in-Some-clause-accepted
-returns-in-Some-clause-accepted g c = accepts _ _ _ _ _ _ c.run_file.ensures.ends
+returns-in-Some-clause-accepted g c =
+    rw (← c.in-Some.ensures)
+    (accepts (asked_for c.in-Some.asked) (g.S.Store.disk c.args.store) (g.S.Store.disk c.run_file.result.store) (g.I.Source.left c.args.script.now) (g.I.Source.left c.run_file.new.script) (g.O.Sink.written c.args.out.now) (g.O.Sink.written c.run_file.new.out) c.run_file.result.status c.run_file.ensures.ends)
 
 pub returns-in-Some-clause-no_file : goal.returns-in-Some-clause-no_file
 returns-in-Some-clause-no_file g c =
-    let d = g.S.Store.disk c.args.store in
-    let d' = g.S.Store.disk c.run_file.result.store in
-    rw (← c.in-Some.ensures)
-    (no_file_exactly c.in-Some.name.now d.files d'.held (g.I.Source.left c.args.script.now) (g.I.Source.left c.run_file.new.script) (g.O.Sink.written c.args.out.now) (g.O.Sink.written c.run_file.new.out) c.run_file.result.status c.run_file.ensures.looked c.run_file.ensures.ends)
+    let there = came (asked_for c.in-Some.asked) (g.S.Store.disk c.args.store) (g.S.Store.disk c.run_file.result.store) (g.I.Source.left c.args.script.now) (g.I.Source.left c.run_file.new.script) (g.O.Sink.written c.args.out.now) (g.O.Sink.written c.run_file.new.out) c.run_file.result.status c.run_file.ensures.ends in
+    rw (← c.in-Some.ensures) (no_file_exactly _ _ _ _ _ _ _ _ there)
+
+pub returns-in-Some-clause-rejected : goal.returns-in-Some-clause-rejected
+returns-in-Some-clause-rejected g c =
+    let there = came (asked_for c.in-Some.asked) (g.S.Store.disk c.args.store) (g.S.Store.disk c.run_file.result.store) (g.I.Source.left c.args.script.now) (g.I.Source.left c.run_file.new.script) (g.O.Sink.written c.args.out.now) (g.O.Sink.written c.run_file.new.out) c.run_file.result.status c.run_file.ensures.ends in
+    rw (← c.in-Some.ensures) (rejected_exactly _ _ _ _ _ _ _ _ there)
 
 pub returns-in-Some-clause-too_long : goal.returns-in-Some-clause-too_long
 returns-in-Some-clause-too_long g c =
-    let d' = g.S.Store.disk c.run_file.result.store in
-    too_long_exactly c.in-Some.name.now d'.held (g.I.Source.left c.args.script.now) (g.I.Source.left c.run_file.new.script) (g.O.Sink.written c.args.out.now) (g.O.Sink.written c.run_file.new.out) c.run_file.result.status c.run_file.ensures.ends
+    let there = came (asked_for c.in-Some.asked) (g.S.Store.disk c.args.store) (g.S.Store.disk c.run_file.result.store) (g.I.Source.left c.args.script.now) (g.I.Source.left c.run_file.new.script) (g.O.Sink.written c.args.out.now) (g.O.Sink.written c.run_file.new.out) c.run_file.result.status c.run_file.ensures.ends in
+    too_long_exactly (asked_for c.in-Some.asked) (g.S.Store.disk c.args.store) (g.S.Store.disk c.run_file.result.store) (g.I.Source.left c.args.script.now) (g.I.Source.left c.run_file.new.script) (g.O.Sink.written c.args.out.now) (g.O.Sink.written c.run_file.new.out) c.run_file.result.status there
 
 pub returns-in-Some-clause-complete : goal.returns-in-Some-clause-complete
 returns-in-Some-clause-complete g c =
-    let d = g.S.Store.disk c.args.store in
-    let d' = g.S.Store.disk c.run_file.result.store in
-    rw (← c.in-Some.ensures)
-    (completes c.in-Some.name.now d.files d'.held (g.I.Source.left c.args.script.now) (g.I.Source.left c.run_file.new.script) (g.O.Sink.written c.args.out.now) (g.O.Sink.written c.run_file.new.out) c.run_file.result.status c.run_file.ensures.looked c.run_file.ensures.ends)
+    let there = came (asked_for c.in-Some.asked) (g.S.Store.disk c.args.store) (g.S.Store.disk c.run_file.result.store) (g.I.Source.left c.args.script.now) (g.I.Source.left c.run_file.new.script) (g.O.Sink.written c.args.out.now) (g.O.Sink.written c.run_file.new.out) c.run_file.result.status c.run_file.ensures.ends in
+    rw (← c.in-Some.ensures) (completes (asked_for c.in-Some.asked) (g.S.Store.disk c.args.store) (g.S.Store.disk c.run_file.result.store) (g.I.Source.left c.args.script.now) (g.I.Source.left c.run_file.new.script) (g.O.Sink.written c.args.out.now) (g.O.Sink.written c.run_file.new.out) c.run_file.result.status there)

@@ -1,0 +1,62 @@
+-- How a run over an area ends.
+use Rattle.std.proofs.Common.{◌≡◌, ℕ, Bool, true, false, List, Option, Result, Ok, Err, refl, subst, inl, inr}
+use Rattle.cdf_check.specs.declared.verdict.Verdict.TheVariants.{No}
+use Rattle.cdf_model.specs.Texts.{rejected_text}
+use Rattle.cdf_session.specs.declared.refusal.AdoptError.{AdoptError}
+use Rattle.cdf_session.specs.declared.refusal.AdoptError.TheVariants as errors
+use Rattle.cdf_tool.specs.declared.status.Status.{Status}
+use Rattle.cdf_tool.specs.declared.status.Status.TheVariants as statuses
+use Rattle.cdf_tool.specs.Areas.{Refuses, EndsOver}
+use Rattle.cdf_tool.specs.Ends.{Rejects, rejection, SaysRejected, EndsUnread}
+
+-- a rejection ends a run
+rejected_ends : (file : List ℕ) (first now : Option (List ℕ)) (r : Rejects file) (status : Status) → SaysRejected (rejection r) first now status → EndsUnread false file first now status
+rejected_ends file first now r statuses.Rejected says = (refl, (r, says))
+rejected_ends file first now r statuses.OutputFault says = (refl, (r, says))
+rejected_ends file first now r statuses.NoMemory says = says
+rejected_ends file first now r statuses.Done says = says
+rejected_ends file first now r statuses.SomeRefused says = says
+rejected_ends file first now r statuses.Usage says = says
+rejected_ends file first now r statuses.NoFile says = says
+rejected_ends file first now r statuses.StoreReadFault says = absurd says
+rejected_ends file first now r statuses.StoreWriteFault says = says
+rejected_ends file first now r statuses.ScriptFault says = says
+rejected_ends file first now r statuses.ScriptTooLong says = says
+
+refused_by : (new : Bool) (file : List ℕ) (phase rule place : ℕ) (first now : Option (List ℕ)) (status : Status) → Refuses new file (errors.Rejected (No phase rule place)) → SaysRejected (rejected_text phase rule place) first now status → EndsUnread new file first now status
+refused_by true file phase rule place first now status refuses says = absurd refuses
+refused_by false file phase rule place first now status refuses says =
+    rejected_ends file first now (record { phase = phase; rule = rule; place = place; broken = refuses }) status says
+
+pub refused_ends : (new : Bool) (file : List ℕ) (phase rule place : ℕ) (first now : Option (List ℕ)) (status : Status) (why : AdoptError) → why ≡ errors.Rejected (No phase rule place) → Refuses new file why → SaysRejected (rejected_text phase rule place) first now status → EndsUnread new file first now status
+refused_ends new file phase rule place first now status why is refuses says =
+    refused_by new file phase rule place first now status (subst (λ (w : AdoptError). Refuses new file w) is refuses) says
+
+-- no session is begun over a new file for a reason of the file
+unread_new : (file other : List ℕ) (first now : Option (List ℕ)) (status : Status) → EndsUnread true file first now status → EndsUnread true other first now status
+unread_new file other first now statuses.Rejected ends = absurd (cc ends.0)
+unread_new file other first now statuses.OutputFault ends = absurd (cc ends.0)
+unread_new file other first now statuses.StoreReadFault ends = ends
+unread_new file other first now statuses.NoMemory ends = ends
+unread_new file other first now statuses.Done ends = ends
+unread_new file other first now statuses.SomeRefused ends = ends
+unread_new file other first now statuses.Usage ends = ends
+unread_new file other first now statuses.NoFile ends = ends
+unread_new file other first now statuses.StoreWriteFault ends = ends
+unread_new file other first now statuses.ScriptFault ends = ends
+unread_new file other first now statuses.ScriptTooLong ends = ends
+
+module _ (before left first now : Option (List ℕ)) (end : List ℕ) where
+  over_new : (file other : List ℕ) (outcome : Result Bool Status) → EndsOver true file before left first now end outcome → EndsOver true other before left first now end outcome
+  over_new file other (Ok refused) f = record { image = f.image; opens = f.opens; finishes = f.finishes }
+  over_new file other (Err status) (inl (same, ends)) = inl (same, unread_new file other first now status ends)
+  over_new file other (Err status) (inr h) = inr (record { image = h.image; opens = h.opens; halts = h.halts })
+
+  -- what the area held is the file, or does not count
+  pub over_file : (new : Bool) (held file : List ℕ) (outcome : Result Bool Status) → (new ≡ false → held ≡ file) → EndsOver new held before left first now end outcome → EndsOver new file before left first now end outcome
+  over_file true held file outcome same ends = over_new held file outcome ends
+  over_file false held file outcome same ends = subst (λ (f : List ℕ). EndsOver false f before left first now end outcome) (same refl) ends
+
+-- a run that stops does not say that a write failed
+unread_writes_not : (new : Bool) (file : List ℕ) (first now : Option (List ℕ)) (status : Status) → EndsUnread new file first now status → status ≡ statuses.StoreWriteFault → ⊥
+unread_writes_not new file first now status ends is = subst (λ (s : Status). EndsUnread new file first now s) is ends

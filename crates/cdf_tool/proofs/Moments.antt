@@ -1,0 +1,237 @@
+-- Moments one after the other, and the run that they tell.
+use Rattle.std.proofs.Common.{◌≡◌, ℕ, ◌+◌, Bool, true, false, List, [], ◌∷◌, ◌++◌, map, append_assoc, append-nil, length, Option, Some, inl, inr, refl, sym, ◌∙◌, ap, subst, arith}
+use Rattle.std.proofs.KnownBytes.{Appends-trans, Appends-nil}
+use Rattle.std.specs.Prelude.{◌||◌, if◌then◌else◌}
+use Rattle.std.specs.Io.KnownBytes.{Appends}
+use Rattle.std.proofs.lemmas.List.{map-append, length-map}
+use Rattle.cdf_store.specs.Written.{IsFront, AppendsFront}
+use Rattle.cdf_store.proofs.Fronts.{IsFront-refl, front_after, front_none, front_longer}
+use Rattle.cdf_model.specs.declared.answer.LineError.TheVariants.{UnknownWord}
+use Rattle.cdf_model.specs.declared.command.Command.{Command}
+use Rattle.cdf_model.specs.Answers.{Answer, Go, Refuse, data_after, is_accepted}
+use Rattle.cdf_model.specs.DataSet.{DataSet}
+use Rattle.cdf_model.specs.Grammar.{Parsed, Blank, Asks, Faulty, parse}
+use Rattle.cdf_model.specs.Run.{Turn, State, turn, asked, faulty, advance, run_on}
+use Rattle.cdf_model.specs.Step.{Route, ByStep, ByContent, ByTaps, built, route_of, step}
+use Rattle.cdf_format.specs.Content.{content}
+use Rattle.cdf_format.specs.Locality.{Moves, MovesIf, RouteLeads, CommandLeads, LineLeads, Moment, LinesLead, last_image}
+use Rattle.cdf_tool.specs.Replay.{turn_over, line_of_moment, flagged_line, begun, tale, Turns, Fails, Goes, Stops}
+
+-- ---- the content of the image follows the data set
+
+goes_on : (d made : DataSet) (answer : Answer) (full : Bool) (r : _) → answer ≡ Go made r → is_accepted answer full ≡ true → made ≡ data_after d answer full
+goes_on d made answer false r goes is = rw goes refl
+goes_on d made answer true r goes is = let full = rw goes at is in absurd (cc full)
+
+stays_so : (d : DataSet) (answer : Answer) (full : Bool) → is_accepted answer full ≡ false → d ≡ data_after d answer full
+stays_so d (Go made r) true is = refl
+stays_so d (Go made r) false is = absurd (cc is)
+stays_so d (Refuse reason) full is = refl
+
+moves_if : (b : List ℕ) (c : Command) (full : Bool) (now : List ℕ) (accepted : Bool) → is_accepted (step (content b) c) full ≡ accepted → MovesIf accepted b c now → content now ≡ data_after (content b) (step (content b) c) full
+moves_if b c full now true is f = goes_on (content b) (content now) (step (content b) c) full f.reply f.goes is
+moves_if b c full now false is same = ap content same ∙ stays_so (content b) (step (content b) c) full is
+
+-- the image that a command leads to means the data set after it
+pub content_moves : (b : List ℕ) (c : Command) (full : Bool) (now : List ℕ) → Moves b c full now → content now ≡ data_after (content b) (step (content b) c) full
+content_moves b c full now moves = moves_if b c full now (is_accepted (step (content b) c) full) refl moves
+
+-- and there are no taps
+record Stands (b : List ℕ) (t : Turn) : Type 0 where
+  pub data_set : t.data_set ≡ content b
+  pub no_taps : t.taps ≡ []
+
+route_stands : (limit : ℕ) (b : List ℕ) (n : ℕ) (c : Command) (full : Bool) (now : List ℕ) (route : Route) → RouteLeads route limit b c full now → Stands now (asked (content b) [] n c route full)
+route_stands limit b n c full now ByStep leads = record { data_set = sym (content_moves b c full now leads.1); no_taps = refl }
+route_stands limit b n c full now ByContent leads = record { data_set = ap content (sym leads.1); no_taps = refl }
+route_stands limit b n c full now (ByTaps name) leads = record { data_set = ap content (sym leads.1); no_taps = refl }
+
+command_stands : (limit : ℕ) (b : List ℕ) (n : ℕ) (c : Command) (full : Bool) (now : List ℕ) (is_built : Bool) → CommandLeads is_built limit b c full now
+    → Stands now (if is_built then asked (content b) [] n c (route_of c) full else faulty (content b) [] n (UnknownWord 0))
+command_stands limit b n c full now true leads = route_stands limit b n c full now (route_of c) leads
+command_stands limit b n c full now false leads = record { data_set = ap content (sym leads.1); no_taps = refl }
+
+line_stands : (limit : ℕ) (b : List ℕ) (n : ℕ) (parsed : Parsed) (full : Bool) (now : List ℕ) → LineLeads limit b parsed full now → Stands now (turn_over b n parsed full)
+line_stands limit b n Blank full now leads = record { data_set = ap content (sym leads.1); no_taps = refl }
+line_stands limit b n (Asks c) full now leads = command_stands limit b n c full now (built c) leads
+line_stands limit b n (Faulty fault) full now leads = record { data_set = ap content (sym leads.1); no_taps = refl }
+
+-- ---- a run of moments
+
+-- the state of a run from another image on, once so much text and a refusal or none came before
+abbrev joined : State → State → State
+joined s t = record { data_set = t.data_set; taps = t.taps; count = t.count; text = s.text ++ t.text; refused = s.refused || t.refused }
+
+abbrev fresh : State → State
+fresh s = record s { text = []; refused = false }
+
+or-assoc : (a b c : Bool) → ((a || b) || c) ≡ (a || (b || c))
+or-assoc true b c = refl
+or-assoc false b c = refl
+
+or-false : (a : Bool) → (a || false) ≡ a
+or-false true = refl
+or-false false = refl
+
+run_joined : (ls : List (Option (List ℕ) × Bool)) (s : State) → run_on s ls ≡ joined s (run_on (fresh s) ls)
+run_joined [] s = λ i. record { data_set = s.data_set; taps = s.taps; count = s.count; text = sym (append-nil s.text) i; refused = sym (or-false s.refused) i }
+run_joined (l ∷ ls) s =
+    let rest = run_on (fresh (advance s l)) ls in
+    let t = turn s.data_set s.taps (s.count + 1) (parse l.0) l.1 in
+    run_joined ls (advance s l)
+    ∙ (λ i. record { data_set = rest.data_set; taps = rest.taps; count = rest.count; text = append_assoc s.text t.text rest.text i; refused = or-assoc s.refused t.refused rest.refused i })
+    ∙ sym (ap (joined s) (run_joined ls (advance (fresh s) l)))
+
+run_more : (s : State) (first more : List (Option (List ℕ) × Bool)) → run_on s (first ++ more) ≡ run_on (run_on s first) more
+run_more s [] more = refl
+run_more s (l ∷ first) more = run_more (advance s l) first more
+
+-- where a run stands over its image
+record Standing (b : List ℕ) (given : ℕ) (s : State) : Type 0 where
+  pub data_set : s.data_set ≡ content b
+  pub no_taps : s.taps ≡ []
+  pub count : s.count ≡ given
+
+run_stands : (limit : ℕ) (ms : List Moment) (b : List ℕ) (given : ℕ) (s : State) → Standing b given s → LinesLead limit b ms → Standing (last_image b ms) (given + length ms) (run_on s (map flagged_line ms))
+run_stands limit [] b given s stands leads = record { data_set = stands.data_set; no_taps = stands.no_taps; count = stands.count ∙ omega arith }
+run_stands limit (m ∷ ms) b given s stands leads =
+    let same : turn s.data_set s.taps (s.count + 1) (parse m.line) m.full ≡ turn_over b (s.count + 1) (parse m.line) m.full = λ i. turn (stands.data_set i) (stands.no_taps i) (s.count + 1) (parse m.line) m.full in
+    let there = line_stands limit b (s.count + 1) (parse m.line) m.full m.image leads.0 in
+    let next : Standing m.image (given + 1) (advance s (flagged_line m)) = record {
+      data_set = ap (λ (t : Turn). t.data_set) same ∙ there.data_set;
+      no_taps = ap (λ (t : Turn). t.taps) same ∙ there.no_taps;
+      count = ap (λ (n : ℕ). n + 1) stands.count;
+    } in
+    let onward = run_stands limit ms m.image (given + 1) (advance s (flagged_line m)) next leads.1 in
+    record { data_set = onward.data_set; no_taps = onward.no_taps; count = onward.count ∙ omega arith }
+
+tale_stands : (limit : ℕ) (b : List ℕ) (given : ℕ) (ms : List Moment) → LinesLead limit b ms → Standing (last_image b ms) (given + length ms) (tale b given ms)
+tale_stands limit b given ms leads = run_stands limit ms b given (begun b given) (record { data_set = refl; no_taps = refl; count = refl }) leads
+
+-- what is told of more moments is told after what was told before
+pub tale_more : (limit : ℕ) (b : List ℕ) (given : ℕ) (ms more : List Moment) → LinesLead limit b ms → tale b given (ms ++ more) ≡ joined (tale b given ms) (tale (last_image b ms) (given + length ms) more)
+tale_more limit b given ms more leads =
+    let s = tale b given ms in
+    let stands = tale_stands limit b given ms leads in
+    let same : fresh s ≡ begun (last_image b ms) (given + length ms) = λ i. record { data_set = stands.data_set i; taps = stands.no_taps i; count = stands.count i; text = []; refused = false } in
+    ap (λ ls. run_on (begun b given) ls) (map-append flagged_line ms more)
+    ∙ run_more (begun b given) (map flagged_line ms) (map flagged_line more)
+    ∙ run_joined (map flagged_line more) s
+    ∙ ap (λ (t : State). joined s (run_on t (map flagged_line more))) same
+
+leads_more : (limit : ℕ) (b : List ℕ) (ms more : List Moment) → LinesLead limit b ms → LinesLead limit (last_image b ms) more → LinesLead limit b (ms ++ more)
+leads_more limit b [] more first second = second
+leads_more limit b (m ∷ ms) more first second = (first.0, leads_more limit m.image ms more first.1 second)
+
+last_more : (b : List ℕ) (ms more : List Moment) → last_image b (ms ++ more) ≡ last_image (last_image b ms) more
+last_more b [] more = refl
+last_more b (m ∷ ms) more = last_more m.image ms more
+
+-- ---- lines that were answered
+
+count_of : {A B : Type 0} (f : A → B) (xs : List A) (ys : List B) → map f xs ≡ ys → length xs ≡ length ys
+count_of f xs ys is = sym (length-map xs f) ∙ ap (λ l. length l) is
+
+pub goes_nowhere : (limit : ℕ) (b : List ℕ) (given : ℕ) (was : Option (List ℕ)) → Goes limit b given [] b false was was
+goes_nowhere limit b given was = record { moments = []; lines_are = refl; steps = tt; end_is = refl; refused_is = refl; written = Appends-nil was }
+
+pub goes_one : (limit : ℕ) (b : List ℕ) (given n : ℕ) (line : Option (List ℕ)) (end : List ℕ) (refused : Bool) (was now : Option (List ℕ)) → n ≡ given + 1 → Turns limit b n (parse line) end refused was now → Goes limit b given (line ∷ []) end refused was now
+goes_one limit b given n line end refused was now is t = record {
+  moments = record { line = line; full = t.full; image = end } ∷ [];
+  lines_are = refl;
+  steps = (t.leads, tt);
+  end_is = refl;
+  refused_is = t.refused_is ∙ ap (λ (k : ℕ). (turn_over b k (parse line) t.full).refused) is;
+  written = subst (λ (k : ℕ). Appends was now (turn_over b k (parse line) t.full).text) is t.written;
+}
+
+module _ (limit : ℕ) (b : List ℕ) (given : ℕ) (these : List (Option (List ℕ))) (mid : List ℕ) (refused : Bool) (was half : Option (List ℕ)) (first : Goes limit b given these mid refused was half) where
+  told : (more : List Moment) → tale b given (first.moments ++ more) ≡ joined (tale b given first.moments) (tale mid (given + length these) more)
+  told more =
+      tale_more limit b given first.moments more first.steps
+      ∙ (λ i. joined (tale b given first.moments) (tale (sym first.end_is i) (given + count_of line_of_moment first.moments these first.lines_are i) more))
+
+  pub goes_more : (next : ℕ) (those : List (Option (List ℕ))) (end : List ℕ) (more : Bool) (now : Option (List ℕ)) → next ≡ given + length these → Goes limit mid next those end more half now → Goes limit b given (these ++ those) end (refused || more) was now
+  goes_more next those end more now is second =
+      let own : Goes limit mid (given + length these) those end more half now = subst (λ (k : ℕ). Goes limit mid k those end more half now) is second in
+      record {
+        moments = first.moments ++ own.moments;
+        lines_are = map-append line_of_moment first.moments own.moments ∙ (λ i. first.lines_are i ++ own.lines_are i);
+        steps = leads_more limit b first.moments own.moments first.steps (subst (λ (x : List ℕ). LinesLead limit x own.moments) first.end_is own.steps);
+        end_is = own.end_is ∙ ap (λ (x : List ℕ). last_image x own.moments) first.end_is ∙ sym (last_more b first.moments own.moments);
+        refused_is = (λ i. first.refused_is i || own.refused_is i) ∙ ap (λ (s : State). s.refused) (sym (told own.moments));
+        written = subst (λ (s : State). Appends was now s.text) (sym (told own.moments)) (Appends-trans was half now (tale b given first.moments).text (tale mid (given + length these) own.moments).text first.written own.written);
+      }
+
+  pub stops_after : (next : ℕ) (those : List (Option (List ℕ))) (now : Option (List ℕ)) → next ≡ given + length these → Stops limit mid next those half now → Stops limit b given (these ++ those) was now
+  stops_after next those now is second =
+      let own : Stops limit mid (given + length these) those half now = subst (λ (k : ℕ). Stops limit mid k those half now) is second in
+      record {
+        moments = first.moments ++ own.moments;
+        first = (own.first.0, ap (λ l. l ++ own.first.0) (map-append line_of_moment first.moments own.moments ∙ ap (λ l. l ++ map line_of_moment own.moments) first.lines_are) ∙ append_assoc these (map line_of_moment own.moments) own.first.0 ∙ ap (λ l. these ++ l) own.first.1);
+        steps = leads_more limit b first.moments own.moments first.steps (subst (λ (x : List ℕ). LinesLead limit x own.moments) first.end_is own.steps);
+        written = subst (λ (s : State). AppendsFront was now s.text) (sym (told own.moments)) (front_after was half now (tale b given first.moments).text (tale mid (given + length these) own.moments).text first.written own.written);
+      }
+
+-- ---- lines of which some were answered
+
+pub stops_nowhere : (limit : ℕ) (b : List ℕ) (given : ℕ) (lines : List (Option (List ℕ))) (was : Option (List ℕ)) → Stops limit b given lines was was
+stops_nowhere limit b given lines was = record { moments = []; first = (lines, refl); steps = tt; written = front_none was [] }
+
+stops_one : (limit : ℕ) (b : List ℕ) (given : ℕ) (line : Option (List ℕ)) (was now : Option (List ℕ)) → Fails limit b (given + 1) (parse line) was now → Stops limit b given (line ∷ []) was now
+stops_one limit b given line was now (inl same) = subst (λ (o : Option (List ℕ)). Stops limit b given (line ∷ []) was o) (sym same) (stops_nowhere limit b given (line ∷ []) was)
+stops_one limit b given line was now (inr t) = record {
+  moments = record { line = line; full = t.full; image = t.end } ∷ [];
+  first = ([], refl);
+  steps = (t.leads, tt);
+  written = t.written;
+}
+
+pub stops_longer : (limit : ℕ) (b : List ℕ) (given : ℕ) (lines more : List (Option (List ℕ))) (was now : Option (List ℕ)) → Stops limit b given lines was now → Stops limit b given (lines ++ more) was now
+stops_longer limit b given lines more was now s = record {
+  moments = s.moments;
+  first = (s.first.0 ++ more, sym (append_assoc (map line_of_moment s.moments) s.first.0 more) ∙ ap (λ l. l ++ more) s.first.1);
+  steps = s.steps;
+  written = s.written;
+}
+
+pub stops_at : (limit : ℕ) (b : List ℕ) (given n : ℕ) (line : Option (List ℕ)) (more : List (Option (List ℕ))) (was now : Option (List ℕ)) → n ≡ given + 1 → Fails limit b n (parse line) was now → Stops limit b given (line ∷ more) was now
+stops_at limit b given n line more was now is fails =
+    stops_longer limit b given (line ∷ []) more was now (stops_one limit b given line was now (subst (λ (k : ℕ). Fails limit b k (parse line) was now) is fails))
+
+-- lines that were answered, of whose replies a part was written
+pub goes_in_part : (limit : ℕ) (b : List ℕ) (given : ℕ) (lines : List (Option (List ℕ))) (end : List ℕ) (refused : Bool) (text : List ℕ) (was now : Option (List ℕ)) → Goes limit b given lines end refused (Some []) (Some text) → AppendsFront was now text → Stops limit b given lines was now
+goes_in_part limit b given lines end refused text was now g part = record {
+  moments = g.moments;
+  first = ([], append-nil (map line_of_moment g.moments) ∙ g.lines_are);
+  steps = g.steps;
+  written = subst (λ (t : List ℕ). AppendsFront was now t) g.written part;
+}
+
+pub goes_written : (limit : ℕ) (b : List ℕ) (given : ℕ) (lines : List (Option (List ℕ))) (end : List ℕ) (refused : Bool) (text : List ℕ) (was now : Option (List ℕ)) → Goes limit b given lines end refused (Some []) (Some text) → Appends was now text → Goes limit b given lines end refused was now
+goes_written limit b given lines end refused text was now g writes = record {
+  moments = g.moments;
+  lines_are = g.lines_are;
+  steps = g.steps;
+  end_is = g.end_is;
+  refused_is = g.refused_is;
+  written = subst (λ (t : List ℕ). Appends was now t) g.written writes;
+}
+
+pub stops_written : (limit : ℕ) (b : List ℕ) (given : ℕ) (lines : List (Option (List ℕ))) (text : List ℕ) (was now : Option (List ℕ)) → Stops limit b given lines (Some []) (Some text) → AppendsFront was now text → Stops limit b given lines was now
+stops_written limit b given lines text was now s part = record {
+  moments = s.moments;
+  first = s.first;
+  steps = s.steps;
+  written =
+      let front : IsFront text (tale b given s.moments).text = subst (λ (t : List ℕ). IsFront t (tale b given s.moments).text) (sym s.written.2) s.written.1 in
+      front_longer was now text (tale b given s.moments).text front part;
+}
+
+pub goes_stops : (limit : ℕ) (b : List ℕ) (given : ℕ) (lines : List (Option (List ℕ))) (end : List ℕ) (refused : Bool) (was now : Option (List ℕ)) → Goes limit b given lines end refused was now → Stops limit b given lines was now
+goes_stops limit b given lines end refused was now g = record {
+  moments = g.moments;
+  first = ([], append-nil (map line_of_moment g.moments) ∙ g.lines_are);
+  steps = g.steps;
+  written = ((tale b given g.moments).text, IsFront-refl (tale b given g.moments).text, g.written);
+}
