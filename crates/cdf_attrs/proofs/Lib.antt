@@ -14,3 +14,6 @@ pub mod CreatingAnswers
 pub mod NamesChanged
 pub mod AttributeChain
 pub mod RenamingSteps
+pub mod AttributeWalk
+pub mod Causes
+pub mod ListedNames

@@ -9,6 +9,7 @@ ghost use Rattle.cdf_model.specs.Names.{attribute_names};
 ghost use Rattle.cdf_model.specs.Sayable.{CanBeGiven};
 
 use crate::creating::create;
+use crate::listing::{names_of, read_items};
 use crate::renaming::rename;
 use cdf_area::{Area, AreaError};
 use cdf_model::{Command, Item, Outcome, Scope};
@@ -38,9 +39,9 @@ impl Attrs {
         ensures frame { A.frame area.new ≡ A.frame area.old }
         ensures cause { HasCauseOf AreaError.Fault (A.faults area.old) (A.faults area.new) result }
     {
-        let _ = alloc;
-        let _ = area;
-        Err(AreaError::NoMemory)
+        let items = read_items(alloc, area)?;
+        let names = names_of(alloc, items)?;
+        Ok(Attrs { alloc, names })
     }
 
     /// Makes a last attribute without entries: the command `attr`. After an error a part of this may have been done in the area.
@@ -92,7 +93,6 @@ impl Attrs {
         ensures frame { A.frame area.new ≡ A.frame area.old }
         ensures cause { HasCauseOf AreaError.Fault (A.faults area.old) (A.faults area.new) result }
     {
-        let _ = area;
-        Err(AreaError::NoMemory)
+        read_items(self.alloc, area)
     }
 }

@@ -3,6 +3,7 @@
 
 mod attrs;
 mod creating;
+mod listing;
 mod name;
 mod renaming;
 
