@@ -41,3 +41,6 @@ pub mod IndexRulesKept
 pub mod RulesKept
 pub mod Answering
 pub mod Keeping
+pub mod UnusedLists
+pub mod TakenListed
+pub mod TakenWays

@@ -34,3 +34,4 @@ pub mod GoodImage
 pub mod Alone
 pub mod Links
 pub mod NewFile
+pub mod Taking

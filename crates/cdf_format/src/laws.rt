@@ -8,9 +8,9 @@ ghost use Rattle.cdf_model.specs.DataSet.{head_of};
 ghost use Rattle.cdf_model.specs.Step.{step};
 ghost use Rattle.cdf_format.specs.Alone.{IsSound, ChangedWithin, LeavesFinding, FileStays, Leaves};
 ghost use Rattle.cdf_format.specs.Changed.{Touch, touch, Changed, Placed};
-ghost use Rattle.cdf_format.specs.Chains.{IsChain, Leads, is_a, is_in, is_linkable, chain};
+ghost use Rattle.cdf_format.specs.Chains.{IsChain, Leads, is_a, is_in, is_linkable, next_of, chain};
 ghost use Rattle.cdf_format.specs.Content.{content, content_of, head_by_fields};
-ghost use Rattle.cdf_format.specs.Fields.{word, number, size_at, type_at};
+ghost use Rattle.cdf_format.specs.Fields.{word, number, size_at, type_at, eof, gdr_offset};
 ghost use Rattle.cdf_format.specs.GoodImage.{IsGoodImage};
 ghost use Rattle.cdf_format.specs.Index.{Nodes, nodes_of};
 ghost use Rattle.cdf_format.specs.IndexOf.{IsIndex};
@@ -19,11 +19,13 @@ ghost use Rattle.cdf_format.specs.Links.{ChainHead, with_members, IsHead, AllSpa
 ghost use Rattle.cdf_format.specs.Locality.{only_reads, Follows};
 ghost use Rattle.cdf_format.specs.Owners.{space_of, times, owned_records, attribute_records, variable_records, unused_records};
 ghost use Rattle.cdf_format.specs.Phases.{first_phases, image_phases, KeepsAllRules};
+ghost use Rattle.cdf_format.specs.Placement.{with_space};
 ghost use Rattle.cdf_format.specs.Records.{Field};
 ghost use Rattle.cdf_format.specs.RecordTypes.{cdr_type, uir_type, is_record_type, fixed_size};
 ghost use Rattle.cdf_format.specs.Rules.{AllHold};
 ghost use Rattle.cdf_format.specs.Sealed.{image_of, sealed};
 ghost use Rattle.cdf_format.specs.Shape.{AttributeShape, VariableShape, Shape, HasShape, variables, with_records, shape};
+ghost use Rattle.cdf_format.specs.Taking.{NoneFit, last_of, FirstBack, TakenBytes, RestBytes, EndBytes, IsTaken};
 ghost use Rattle.cdf_format.specs.Tiles.{In, Distinct, AreTiles, tiling};
 ghost use Rattle.cdf_format.specs.Walks.{whole};
 ghost use Rattle.cdf_format.specs.WellFormed.{WellFormed, Breaks, Good};
@@ -182,10 +184,18 @@ pub fn filled_stays_sound()
     ensures { (b now : List ℕ) (s : Shape) (place : ℕ) → IsSound b s → is_a b s.records uir_type place ≡ true → is_in place s.unused ≡ false → length now ≡ length b → Changed b now (touch place 8 (size_at b place - 8) ∷ []) → is_record_type (type_at now place) ≡ true → fixed_size (type_at now place) ≤ size_at b place → IsSound now s × (content now ≡ content b) }
 {}
 
-/// A good image is good by its shape, and sound.
+/// Where a record of the unused list is taken whole, or split, or a record is placed at the end, the image stays sound, with its content, and the list is as first fit says.
+pub fn taken_stays_sound()
+    ensures whole { (b now : List ℕ) (s : Shape) (front : List ℕ) (a : ℕ) (more : List ℕ) (need : ℕ) → IsSound b s → s.unused ≡ front ++ a ∷ more → NoneFit b need front → eof b s.gdr ≡ length b → size_at b a ≡ need → TakenBytes b now s.gdr front a more need need (next_of b a) → FirstBack now (last_of 0 front) more → IsTaken b now s (with_space s s.records (front ++ more)) need a }
+    ensures split { (b now : List ℕ) (s : Shape) (front : List ℕ) (a : ℕ) (more : List ℕ) (need : ℕ) → IsSound b s → s.unused ≡ front ++ a ∷ more → NoneFit b need front → eof b s.gdr ≡ length b → 12 ≤ need → need + 28 ≤ size_at b a → TakenBytes b now s.gdr front a more need (need + 28) (a + need) → RestBytes b now a need (last_of 0 front) → FirstBack now (a + need) more → (before after : List ℕ) → s.records ≡ before ++ a ∷ after → IsTaken b now s (with_space s (before ++ a ∷ (a + need) ∷ after) (front ++ (a + need) ∷ more)) need a }
+    ensures at_end { (b now : List ℕ) (s : Shape) (need : ℕ) → IsSound b s → NoneFit b need s.unused → 12 ≤ need → EndBytes b now s.gdr need → IsTaken b now s (with_space s (s.records ++ length b ∷ []) s.unused) need (length b) }
+{}
+
+/// A good image is good by its shape, and sound, and its eof is its length.
 pub fn good_has_shape()
     ensures good { (b : List ℕ) → Good b → IsGoodImage b (shape b) }
     ensures sound { (b : List ℕ) → Good b → IsSound b (shape b) }
+    ensures eof { (b : List ℕ) → Good b → eof b (gdr_offset b) ≡ length b }
 {}
 
 /// A command that only reads follows by leaving the image as it is.

@@ -19,17 +19,15 @@ use Rattle.cdf_format.proofs.ChangedLemmas.{changed_then, changed_part}
 use Rattle.cdf_format.proofs.LinksKept.{tiles_same}
 use Rattle.cdf_format.proofs.LinksLemmas.{one_chain}
 use Rattle.cdf_format.proofs.UsedRecords.{apart}
-use Rattle.cdf_fields.proofs.Writes.{field_reads, other_words, other_bytes, length-with_field}
+use Rattle.cdf_fields.proofs.Writes.{field_reads, other_words, length-with_field}
 use Rattle.cdf_space.specs.ChainCalls.{holder_of, head_of, type_in, HolderStands, HasChain, members_of, MayJoin, link_behind, Appended}
 use Rattle.cdf_space.specs.Steps.{head_link, IsLinkBehind}
 use Rattle.cdf_space.specs.declared.chain.Chain.{Chain}
 use Rattle.cdf_space.specs.declared.chain.Chain.TheVariants.{Attrs, RVars, ZVars, GrEntries, ZEntries}
+use Rattle.cdf_space.proofs.Writing.{changed_field}
 use Rattle.cdf_space.proofs.Walking.{width_is, tiled, long_of, cdr_stands, gdr_stands}
 
--- ---- what a write of a field leaves
-
-pub changed_field : (b : List ℕ) (place : ℕ) (f : Field) (n : ℕ) → LiesIn b place f → Changed b (with_field b place f n) (touched_field place f ∷ [])
-changed_field b place f n lies = record { longer = omega (arith, length-with_field b place f n lies); same = λ i lt o. other_bytes b place f n i lies o.0 }
+-- ---- what the writes touch
 
 -- The order of two touches does not matter, nor the record from which their places are counted.
 changed_placed : (b now : List ℕ) (u : Touch) (end tile place : ℕ) → Changed b now (u ∷ touch end 0 8 ∷ []) → end ≡ tile + place → Changed b now (touch tile place 8 ∷ u ∷ [])
@@ -249,8 +247,8 @@ module _ (b now : List ℕ) (c : Chain) (place : ℕ) (sound : IsSound b (shape 
       let long1 : length b1 ≡ length b = ap length first ∙ length-with_field b place uir_next_uir 0 lies in
       let inside : LiesIn b1 end (field 0 8) = let r = l.inside in omega arith in
       let long2 : length now ≡ length b = ap length second ∙ length-with_field b1 end (field 0 8) place inside ∙ long1 in
-      let c1 : Changed b b1 (touched_field place uir_next_uir ∷ []) = subst (λ (x : List ℕ). Changed b x (touched_field place uir_next_uir ∷ [])) (sym first) (changed_field b place uir_next_uir 0 lies) in
-      let c2 : Changed b1 now (touched_field end (field 0 8) ∷ []) = subst (λ (x : List ℕ). Changed b1 x (touched_field end (field 0 8) ∷ [])) (sym second) (changed_field b1 end (field 0 8) place inside) in
+      let c1 = changed_field b b1 place uir_next_uir 0 lies first in
+      let c2 = changed_field b1 now end (field 0 8) place inside second in
       let both = changed_then b b1 now (touched_field place uir_next_uir ∷ []) (touched_field end (field 0 8) ∷ []) c1 c2 in
       let apart_by : (place + 12 + 8 ≤ end + 0) ⊎ (end + 0 + 8 ≤ place + 12) = between last.tile last.place end (size_at b place) (size_at b last.tile) at (linkable-long b (tiles b) (type_in c) place joins.linkable) last_placed.1 (tiles_lie_apart b 8 (length b) (tiles b) place last.tile (tiled b sound) place_in last_placed.0 (λ e. last_other (sym e))) in
       let link : word now (last.tile + last.place) 8 ≡ place = ap₂ (λ (x : List ℕ) (p : ℕ). word x p 8) second (same_place (last.tile + last.place) end (sym at)) ∙ field_reads b1 end (field 0 8) place inside (omega arith) in

@@ -1,2 +1,5 @@
 pub mod Walking
+pub mod Writing
+pub mod FirstFit
+pub mod Taking
 pub mod Appending

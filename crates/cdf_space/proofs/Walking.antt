@@ -83,7 +83,7 @@ module _ (b : List ℕ) (sound : IsSound b (shape b)) where
   pub cdr_room : 320 ≤ length b
   cdr_room = let l : 312 ≤ size_at b 8 = long_of cdr_type 8 cdr_stands in let r = end_of cdr_type 8 cdr_stands in omega arith
 
-  gdr_field : (place : ℕ) → place + 8 ≤ 84 → gdr_offset b + place + 8 ≤ length b
+  pub gdr_field : (place : ℕ) → place + 8 ≤ 84 → gdr_offset b + place + 8 ≤ length b
   gdr_field place fits = let l : 84 ≤ size_at b (gdr_offset b) = long_of gdr_type (gdr_offset b) gdr_stands in room (gdr_offset b) place (size_at b (gdr_offset b)) l (end_of gdr_type (gdr_offset b) gdr_stands) fits
     where
       room : (g p n : ℕ) → 84 ≤ n → g + n ≤ length b → p + 8 ≤ 84 → g + p + 8 ≤ length b

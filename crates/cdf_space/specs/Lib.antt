@@ -1,2 +1,3 @@
 pub mod ChainCalls
 pub mod Steps
+pub mod Fits

@@ -1,4 +1,4 @@
-ghost use Rattle.std.specs.Prelude.{◌≡◌, ◌<◌, ◌≤◌, ◌+◌, ◌^◌, length, slice_get, true, IfOk, OnOk};
+ghost use Rattle.std.specs.Prelude.{◌≡◌, ◌≤◌, length, slice_get, IfOk, OnOk};
 ghost use Rattle.cdf_base.specs.Causes.{HasCauseOf};
 ghost use Rattle.cdf_format.specs.Alone.{IsSound};
 ghost use Rattle.cdf_format.specs.Shape.{shape};
@@ -11,7 +11,7 @@ use cdf_area::{Area, AreaError};
 use cdf_records::{read_unsigned8, set_uir_next_uir, set_unsigned8};
 
 /// A link of a chain: where it stands, and the place that it leads to, 0 at the end.
-#[derive(Clone, Copy, Debug, PartialEq, Eq)]
+#[derive(Clone, Copy)]
 struct Link {
     place: u64,
     to: u64,

@@ -1,17 +1,218 @@
-ghost use Rattle.std.specs.Prelude.{◌≡◌, ◌≤◌, ◌+◌, length, IfOk, OnOk};
+ghost use Rattle.std.specs.Prelude.{◌≡◌, ◌≢◌, ◌⊎◌, ◌<◌, ◌≤◌, ◌+◌, ◌^◌, length, replicate, IfOk, OnOk, MatchOption};
+ghost use Rattle.cdf_base.specs.Bytes.{put};
 ghost use Rattle.cdf_base.specs.Causes.{HasCauseOf};
 ghost use Rattle.cdf_format.specs.Alone.{IsSound};
 ghost use Rattle.cdf_format.specs.Content.{content};
-ghost use Rattle.cdf_format.specs.Placement.{Takes};
+ghost use Rattle.cdf_format.specs.Fields.{eof, gdr_offset};
+ghost use Rattle.cdf_format.specs.Placement.{Takes, fits};
 ghost use Rattle.cdf_format.specs.Shape.{shape};
+ghost use Rattle.cdf_format.specs.Taking.{EndBytes, IsTaken, NoneFit};
 ghost use Rattle.cdf_model.specs.Limits.{image_limit};
+ghost use Rattle.cdf_space.specs.Fits.{Cleared, IsFirstFit, Listed, Relinked};
 
 use cdf_area::{Area, AreaError};
+use cdf_records::{
+    read_uir, read_unsigned8, set_gdr_eof, set_record_size, set_record_type, set_uir_next_uir,
+    set_uir_prev_uir, set_unsigned8,
+};
+
+/// How many bytes are cleared at once.
+const PIECE: usize = 4096;
+
+/// An unused record of the list: where the link stands that leads to it, the record before it, 0 where there is none, and what it says.
+#[derive(Clone, Copy)]
+struct Fit {
+    link: u64,
+    before: u64,
+    place: u64,
+    size: u64,
+    next: u64,
+}
+
+/// A record of this size is taken whole, or so that the rest is a record of the unused list.
+fn is_fit(need: u64, size: u64) -> bool
+    requires { need + 28 < 2 ^ 64 }
+    ensures { result ≡ fits need size }
+{
+    size == need || need + 28 <= size
+}
+
+/// The first record of the unused list that fits.
+fn first_fit<A: Area>(area: &mut A, gdr: u64, need: u64) -> Result<Option<Fit>, AreaError>
+    requires sound { IsSound (A.image area.old) (shape (A.image area.old)) }
+    requires gdr { gdr ≡ gdr_offset (A.image area.old) }
+    requires short { length (A.image area.old) ≤ image_limit }
+    requires need { need ≤ image_limit }
+    ensures found { IfOk result (λ found. MatchOption found (NoneFit (A.image area.old) need (shape (A.image area.old)).unused) (IsFirstFit (A.image area.old) (shape (A.image area.old)) need)) }
+    ensures image { A.image area.new ≡ A.image area.old }
+    ensures frame { A.frame area.new ≡ A.frame area.old }
+    ensures cause { HasCauseOf AreaError.Fault (A.faults area.old) (A.faults area.new) result }
+{
+    let mut link = gdr + 64;
+    let mut before = 0;
+    let mut place = read_unsigned8(area, link)?;
+    for _ in 0..u32::MAX {
+        if place == 0 {
+            return Ok(None);
+        }
+        let uir = read_uir(area, place)?;
+        if is_fit(need, uir.record_size) {
+            let fit = Fit {
+                link,
+                before,
+                place,
+                size: uir.record_size,
+                next: uir.next_uir,
+            };
+            return Ok(Some(fit));
+        }
+        before = place;
+        link = place + 12;
+        place = uir.next_uir;
+    }
+    Ok(None)
+}
+
+/// Writes `count` bytes 0, a piece at most.
+fn set_zeros<A: Area>(area: &mut A, from: u64, count: usize) -> Result<(), AreaError>
+    requires piece { count ≤ 4096 }
+    requires room { from + count ≤ length (A.image area.old) }
+    ensures written { OnOk result (A.image area.new ≡ put (A.image area.old) from (replicate count 0)) }
+    ensures frame { A.frame area.new ≡ A.frame area.old }
+    ensures cause { HasCauseOf AreaError.Fault (A.faults area.old) (A.faults area.new) result }
+{
+    let zeros = [0u8; PIECE];
+    area.set(from, &zeros[..count])
+}
+
+/// Makes so many bytes from a place on 0.
+fn clear<A: Area>(area: &mut A, from: u64, n: u64) -> Result<(), AreaError>
+    requires { from + n ≤ length (A.image area.old) }
+    ensures cleared { OnOk result (Cleared (A.image area.old) (A.image area.new) from n) }
+    ensures frame { A.frame area.new ≡ A.frame area.old }
+    ensures cause { HasCauseOf AreaError.Fault (A.faults area.old) (A.faults area.new) result }
+{
+    let _size = area.size();
+    let mut done = 0u64;
+    while done < n {
+        let count = (n - done).min(PIECE as u64) as usize;
+        set_zeros(area, from + done, count)?;
+        done += count as u64;
+    }
+    Ok(())
+}
+
+/// Writes size, type and links of an unused record.
+fn list<A: Area>(
+    area: &mut A,
+    place: u64,
+    size: u64,
+    next: u64,
+    before: u64,
+) -> Result<(), AreaError>
+    requires { place + 28 ≤ length (A.image area.old) }
+    ensures listed { OnOk result (Listed (A.image area.old) (A.image area.new) place size next before) }
+    ensures frame { A.frame area.new ≡ A.frame area.old }
+    ensures cause { HasCauseOf AreaError.Fault (A.faults area.old) (A.faults area.new) result }
+{
+    set_record_size(area, place, size)?;
+    set_record_type(area, place, -1)?;
+    set_uir_next_uir(area, place, next)?;
+    set_uir_prev_uir(area, place, before)
+}
+
+/// Leads the link to a record of the list past it, and the link back of the next record too.
+fn relink<A: Area>(area: &mut A, fit: Fit, to: u64, back: u64) -> Result<(), AreaError>
+    requires link { fit.link + 8 ≤ length (A.image area.old) }
+    requires next { fit.next ≢ 0 → fit.next + 28 ≤ length (A.image area.old) }
+    requires apart { fit.next ≢ 0 → (fit.link + 8 ≤ fit.next + 20) ⊎ (fit.next + 28 ≤ fit.link) }
+    ensures relinked { OnOk result (Relinked (A.image area.old) (A.image area.new) fit to back) }
+    ensures frame { A.frame area.new ≡ A.frame area.old }
+    ensures cause { HasCauseOf AreaError.Fault (A.faults area.old) (A.faults area.new) result }
+{
+    set_unsigned8(area, fit.link, 0, to)?;
+    if fit.next == 0 {
+        return Ok(());
+    }
+    set_uir_prev_uir(area, fit.next, back)
+}
+
+/// Takes a record of the list whole.
+fn take_whole<A: Area>(area: &mut A, fit: Fit, need: u64) -> Result<(), AreaError>
+    requires sound { IsSound (A.image area.old) (shape (A.image area.old)) }
+    requires fit { IsFirstFit (A.image area.old) (shape (A.image area.old)) need fit }
+    requires size { fit.size ≡ need }
+    requires need { 28 ≤ need }
+    requires short { length (A.image area.old) ≤ image_limit }
+    requires eof { eof (A.image area.old) (gdr_offset (A.image area.old)) ≡ length (A.image area.old) }
+    ensures taken { OnOk result (IsTaken (A.image area.old) (A.image area.new) (shape (A.image area.old)) (shape (A.image area.new)) need fit.place) }
+    ensures frame { A.frame area.new ≡ A.frame area.old }
+    ensures cause { HasCauseOf AreaError.Fault (A.faults area.old) (A.faults area.new) result }
+{
+    relink(area, fit, fit.next, fit.before)?;
+    clear(area, fit.place + 12, need - 12)
+}
+
+/// Takes a record of the list in part: the rest stays at its higher end, in its place of the list.
+fn take_part<A: Area>(area: &mut A, fit: Fit, need: u64) -> Result<(), AreaError>
+    requires sound { IsSound (A.image area.old) (shape (A.image area.old)) }
+    requires fit { IsFirstFit (A.image area.old) (shape (A.image area.old)) need fit }
+    requires size { fit.size ≢ need }
+    requires need { 28 ≤ need }
+    requires short { length (A.image area.old) ≤ image_limit }
+    requires eof { eof (A.image area.old) (gdr_offset (A.image area.old)) ≡ length (A.image area.old) }
+    ensures taken { OnOk result (IsTaken (A.image area.old) (A.image area.new) (shape (A.image area.old)) (shape (A.image area.new)) need fit.place) }
+    ensures frame { A.frame area.new ≡ A.frame area.old }
+    ensures cause { HasCauseOf AreaError.Fault (A.faults area.old) (A.faults area.new) result }
+{
+    let rest = fit.place + need;
+    list(area, rest, fit.size - need, fit.next, fit.before)?;
+    relink(area, fit, rest, rest)?;
+    set_record_size(area, fit.place, need)?;
+    clear(area, fit.place + 12, need - 12)
+}
+
+/// Takes a record of the list, whole or in part.
+fn take_listed<A: Area>(area: &mut A, fit: Fit, need: u64) -> Result<(), AreaError>
+    requires sound { IsSound (A.image area.old) (shape (A.image area.old)) }
+    requires fit { IsFirstFit (A.image area.old) (shape (A.image area.old)) need fit }
+    requires need { 28 ≤ need }
+    requires short { length (A.image area.old) ≤ image_limit }
+    requires eof { eof (A.image area.old) (gdr_offset (A.image area.old)) ≡ length (A.image area.old) }
+    ensures taken { OnOk result (IsTaken (A.image area.old) (A.image area.new) (shape (A.image area.old)) (shape (A.image area.new)) need fit.place) }
+    ensures frame { A.frame area.new ≡ A.frame area.old }
+    ensures cause { HasCauseOf AreaError.Fault (A.faults area.old) (A.faults area.new) result }
+{
+    if fit.size == need {
+        return take_whole(area, fit, need);
+    }
+    take_part(area, fit, need)
+}
+
+/// Takes a record at the end of the image.
+fn take_end<A: Area>(area: &mut A, gdr: u64, need: u64) -> Result<u64, AreaError>
+    requires gdr { gdr + 44 ≤ length (A.image area.old) }
+    requires need { 28 ≤ need }
+    requires room { length (A.image area.old) + need ≤ (A.frame area.old).limit }
+    requires limit { (A.frame area.old).limit ≤ image_limit }
+    ensures place { IfOk result (λ place. place ≡ length (A.image area.old)) }
+    ensures taken { OnOk result (EndBytes (A.image area.old) (A.image area.new) gdr need) }
+    ensures frame { A.frame area.new ≡ A.frame area.old }
+    ensures cause { HasCauseOf AreaError.Fault (A.faults area.old) (A.faults area.new) result }
+{
+    let place = area.size();
+    area.extend(need)?;
+    set_record_size(area, place, need)?;
+    set_record_type(area, place, -1)?;
+    set_gdr_eof(area, gdr, place + need)?;
+    Ok(place)
+}
 
 /// Takes a record of so many bytes, and gives its place: the first unused record of the list that fits, else the end of the image.
 /// It then stands there with type UIR, on no list, its bytes after the type 0. After an error a part of this may have been done.
 pub fn alloc_record<A: Area>(area: &mut A, need: u64) -> Result<u64, AreaError>
     requires sound { IsSound (A.image area.old) (shape (A.image area.old)) }
+    requires eof { eof (A.image area.old) (gdr_offset (A.image area.old)) ≡ length (A.image area.old) }
     requires need { 28 ≤ need }
     requires room { length (A.image area.old) + need ≤ (A.frame area.old).limit }
     requires limit { (A.frame area.old).limit ≤ image_limit }
@@ -21,7 +222,10 @@ pub fn alloc_record<A: Area>(area: &mut A, need: u64) -> Result<u64, AreaError>
     ensures frame { A.frame area.new ≡ A.frame area.old }
     ensures cause { HasCauseOf AreaError.Fault (A.faults area.old) (A.faults area.new) result }
 {
-    let _ = area;
-    let _ = need;
-    Err(AreaError::NoMemory)
+    let gdr = read_unsigned8(area, 20)?;
+    let Some(fit) = first_fit(area, gdr, need)? else {
+        return take_end(area, gdr, need);
+    };
+    take_listed(area, fit, need)?;
+    Ok(fit.place)
 }

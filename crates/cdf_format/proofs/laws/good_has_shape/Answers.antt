@@ -1,4 +1,4 @@
-use Rattle.cdf_format.proofs.GoodLemmas.{good_by_its_shape, good_is_sound}
+use Rattle.cdf_format.proofs.GoodLemmas.{good_by_its_shape, good_is_sound, good_eof}
 use Rattle.cdf_format.proofs.laws.good_has_shape.Goals as goal
 
 pub returns-clause-good : goal.returns-clause-good
@@ -6,3 +6,6 @@ returns-clause-good c = good_by_its_shape
 
 pub returns-clause-sound : goal.returns-clause-sound
 returns-clause-sound c = good_is_sound
+
+pub returns-clause-eof : goal.returns-clause-eof
+returns-clause-eof c = good_eof

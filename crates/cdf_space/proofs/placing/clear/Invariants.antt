@@ -1,0 +1,14 @@
+use Rattle.std.proofs.Common.{◌≡◌, ◌≤◌, ◌-◌}
+use Rattle.cdf_space.specs.Fits.{Cleared}
+use Rattle.cdf_space.proofs.placing.clear.Given as goal
+
+abbrev pub invariant-loop-done : goal.invariant-loop-done
+invariant-loop-done g l = record {
+  cleared : Cleared (g.A.Area.image l.fn.area) (g.A.Area.image l.area) l.fn.from l.done;
+  within : l.done ≤ l.fn.n;
+  frame : g.A.Area.frame l.area ≡ g.A.Area.frame l.fn.area;
+  later : g.A.Area.faults l.fn.area ≤ g.A.Area.faults l.area;
+}
+
+abbrev pub decreases-loop-done : goal.decreases-loop-done
+decreases-loop-done g l = l.fn.n - l.done

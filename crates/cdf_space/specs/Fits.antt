@@ -1,0 +1,50 @@
+-- What is found on the unused list, and what single writes leave of an image.
+use Rattle.std.specs.Prelude.{◌≡◌, ◌≢◌, ℕ, ◌+◌, ◌<◌, List, [], ◌∷◌, ◌++◌, true, if◌then◌else◌, ◌==◌, length}
+use Rattle.cdf_format.specs.Changed.{byte, Touch, touch, touched_field, Changed}
+use Rattle.cdf_format.specs.Chains.{next_of}
+use Rattle.cdf_format.specs.Fields.{word, size_at, type_at}
+use Rattle.cdf_format.specs.Links.{end_place}
+use Rattle.cdf_format.specs.Placement.{fits}
+use Rattle.cdf_format.specs.Records.{uir_prev_uir}
+use Rattle.cdf_format.specs.RecordTypes.{uir_type}
+use Rattle.cdf_format.specs.Shape.{Shape}
+use Rattle.cdf_format.specs.Taking.{NoneFit, last_of, prev_of}
+use Rattle.cdf_space.specs.declared.placing.Fit.{Fit}
+
+-- the first record of the unused list that fits
+pub record IsFirstFit (b : List ℕ) (s : Shape) (need : ℕ) (fit : Fit) : Type 0 where
+  pub front : List ℕ
+  pub more : List ℕ
+  pub list_is : s.unused ≡ front ++ fit.place ∷ more
+  pub none_before : NoneFit b need front
+  pub it_fits : fits need (size_at b fit.place) ≡ true
+  pub link_is : fit.link ≡ end_place (s.gdr + 64) front
+  pub before_is : fit.before ≡ last_of 0 front
+  pub size_is : fit.size ≡ size_at b fit.place
+  pub next_is : fit.next ≡ next_of b fit.place
+
+-- the link back of a record, where there is one
+abbrev pub back_link : ℕ → List Touch
+back_link uir = if uir == 0 then [] else touched_field uir uir_prev_uir ∷ []
+
+-- The link that leads to a record of the list leads past it, and the link back of the next record too.
+pub record Relinked (b now : List ℕ) (fit : Fit) (to back : ℕ) : Type 0 where
+  pub length_stays : length now ≡ length b
+  pub changed : Changed b now (touch fit.link 0 8 ∷ back_link fit.next)
+  pub link_is : word now fit.link 8 ≡ to
+  pub back_is : fit.next ≢ 0 → prev_of now fit.next ≡ back
+
+-- the first 28 bytes of an unused record
+pub record Listed (b now : List ℕ) (place size next before : ℕ) : Type 0 where
+  pub length_stays : length now ≡ length b
+  pub changed : Changed b now (touch place 0 28 ∷ [])
+  pub size_is : size_at now place ≡ size
+  pub type_is : type_at now place ≡ uir_type
+  pub next_is : next_of now place ≡ next
+  pub prev_is : prev_of now place ≡ before
+
+-- so many bytes from a place on became 0
+pub record Cleared (b now : List ℕ) (from n : ℕ) : Type 0 where
+  pub length_stays : length now ≡ length b
+  pub changed : Changed b now (touch from 0 n ∷ [])
+  pub zero : (i : ℕ) → i < n → byte now (from + i) ≡ 0
