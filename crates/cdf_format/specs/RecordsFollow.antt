@@ -65,12 +65,13 @@ NameFollows b now c = Unit {0}
 
 -- ---- records that may move
 
--- A record whose fields end there now stays in its place where it has room for them, with its size and with what stands behind them.
+-- a record whose fields end there now stays in its place, with its size and with what stands behind them
 pub record HasRoom (b now : List ℕ) (place place' end : ℕ) : Type 0 where
   pub place_stays : place' ≡ place
   pub size_stays : size_at now place ≡ size_at b place
   pub rest_stays : Same b now (place + end) (place + size_at b place)
 
+-- it moves only where it has no room for them
 abbrev pub MovesForRoom : List ℕ → List ℕ → ℕ → ℕ → ℕ → Type 0
 MovesForRoom b now place place' end = end ≤ size_at b place → HasRoom b now place place' end
 
