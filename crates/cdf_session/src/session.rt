@@ -45,10 +45,9 @@ fn settle<A: Area>(area: &mut A, done: Result<Outcome, AreaError>) -> Result<Out
     ensures frame { A.frame area.new ≡ with_base (A.frame area.old) None }
     ensures faults { A.faults area.new ≡ A.faults area.old }
 {
-    if done.is_ok() {
-        area.keep();
-    } else {
-        area.undo();
+    match &done {
+        Ok(_) => area.keep(),
+        Err(_) => area.undo(),
     }
     done
 }
