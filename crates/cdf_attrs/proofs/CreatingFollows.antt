@@ -34,6 +34,7 @@ use Rattle.cdf_format.proofs.BytesLemmas.{word_kept, number_kept}
 use Rattle.cdf_format.proofs.ChainsLemmas.{linkable-is_a, is_a-in, is_a-type, linkable-in, linkable-type}
 use Rattle.cdf_format.proofs.FirstRules.{first_phases_stay}
 use Rattle.cdf_format.proofs.GoodLemmas.{rules_of_good}
+use Rattle.cdf_format.proofs.Keeping.{AllKeep-append}
 use Rattle.cdf_format.proofs.Kept.{Kept}
 use Rattle.cdf_format.proofs.Members.{either, In-append, In-append_left}
 use Rattle.cdf_format.proofs.NameRules.{attribute_names_are}
@@ -51,10 +52,6 @@ use Rattle.cdf_attrs.proofs.CreatingStart.{with_record, no_r_variables, no_z_var
 -- ---- lists of owned records
 
 module _ (b now : List ℕ) (c : Command) (takes : List (ℕ × ℕ)) where
-  keep-append : (xs ys : List (ℕ × Owner)) → AllKeep b now c takes xs → AllKeep b now c takes ys → AllKeep b now c takes (xs ++ ys)
-  keep-append [] ys p q = q
-  keep-append ((place, owner) ∷ xs) ys p q = (p.0, keep-append xs ys p.1 q)
-
   keep-owned : (owner : Owner) (places : List ℕ) → ((m : ℕ) → In m places → Keeps b now m (allowance b (content b) (shape b) c takes m owner)) → AllKeep b now c takes (owned_by owner places)
   keep-owned owner [] h = tt
   keep-owned owner (m ∷ more) h = (h m (inl refl), keep-owned owner more (λ x i. h x (inr i)))
@@ -137,7 +134,7 @@ module _ (b mid now : List ℕ) (scope : Scope) (name : List ℕ) (good : IsGood
   keep_attributes : (n : ℕ) (as_ : List AttributeShape) → ((m : ℕ) → In m (map (λ (a : AttributeShape). a.adr) as_) → is_linkable b s.records adr_type m ≡ true) → Each (HasEntries b s.records) as_ → AllKeep b now c takes (owned_by_attributes n as_)
   keep_attributes n [] ok has = tt
   keep_attributes n (a ∷ more) ok has =
-      keep-append b now c takes (owned_by (OneAttribute n) (attribute_records a)) (owned_by_attributes (suc n) more)
+      AllKeep-append b now c takes (owned_by (OneAttribute n) (attribute_records a)) (owned_by_attributes (suc n) more)
       (keep-owned b now c takes (OneAttribute n) (attribute_records a) (keep_attribute n a (ok a.adr (inl refl)) has.0)) (keep_attributes (suc n) more (λ m i. ok m (inr i)) has.1)
 
   keep_unused : AllKeep b now c takes (owned_by Unused (unused_records b s))
@@ -155,8 +152,8 @@ module _ (b mid now : List ℕ) (scope : Scope) (name : List ℕ) (good : IsGood
       let u = owned_by Unused (unused_records b s) in
       let no_r : AllKeep b now c takes r = subst (λ (vs : List VariableShape). AllKeep b now c takes (owned_by_variables R 0 vs)) (sym (no_r_variables b s good)) tt in
       let no_z : AllKeep b now c takes z = subst (λ (vs : List VariableShape). AllKeep b now c takes (owned_by_variables Z 0 vs)) (sym (no_z_variables b s good)) tt in
-      keep-append b now c takes (f ++ a ++ r ++ z) u
-      (keep-append b now c takes (f ++ a ++ r) z (keep-append b now c takes (f ++ a) r (keep-append b now c takes f a keep_file (keep_attributes 0 s.attributes h.attribute_chain.linkable h.entry_chains)) no_r) no_z)
+      AllKeep-append b now c takes (f ++ a ++ r ++ z) u
+      (AllKeep-append b now c takes (f ++ a ++ r) z (AllKeep-append b now c takes (f ++ a) r (AllKeep-append b now c takes f a keep_file (keep_attributes 0 s.attributes h.attribute_chain.linkable h.entry_chains)) no_r) no_z)
       keep_unused
 
   -- ---- fields that no rule reads, and the unused list

@@ -98,6 +98,15 @@ module _ (b now : List ℕ) (s : Shape) (sound : IsSound b s) (same : SameHeads 
     pub indexes_rules_kept : Hold (indexes_shape_rows b s) → Hold (indexes_shape_rows now s)
     indexes_rules_kept rules = index_rows_of (variables s) sound.variables_fit kept rules
 
+-- an image ends where its trailer begins
+image_end : (b : List ℕ) → 44 ≤ length b → length (sealed b) - trailer_length (sealed b) ≡ length b
+image_end b long =
+    let t : trailer_length (sealed b) ≡ length (trailer b) = ap (λ (p : Bool). if p then 16 else 0) (flags_of_front b (trailer b) long) ∙ sym (trailer_is b) in
+    less (length (sealed b)) (length b) (length (trailer b)) (trailer_length (sealed b)) (length-append b (trailer b)) t
+  where
+    less : (x l t u : ℕ) → x ≡ l + t → u ≡ t → x - u ≡ l
+    less x l t u p q = omega arith
+
 -- the end of the image that the GDR has is where it ends
 pub eof_by_rules : (b : List ℕ) (s : Shape) → IsSound b s → AllHold (first_phases (sealed b)) → eof b s.gdr ≡ length b
 eof_by_rules b s sound rules =
@@ -113,8 +122,7 @@ eof_by_rules b s sound rules =
     let rows : Hold (gdr_rows f (gdr_offset f)) = subst (λ (t : Bool). Hold (asked t (gdr_rows f (gdr_offset f)))) rules.1.1.1.0.0 rules.1.1.1.0.1 in
     let end : eof f s.gdr ≡ length f - trailer_length f = subst (λ (x : ℕ). eof f x ≡ length f - trailer_length f) place_is (eq_of _ _ rows.1.1.0) in
     let same : eof f s.gdr ≡ eof b s.gdr = word_kept b f 0 (length b) itself (s.gdr + 36) 8 (omega arith) (omega (arith, gdr.high)) in
-    let t : trailer_length f ≡ length (trailer b) = ap (λ (p : Bool). if p then 16 else 0) (flags_of_front b (trailer b) long) ∙ sym (trailer_is b) in
-    sym same ∙ end ∙ less (length f) (length b) (length (trailer b)) (trailer_length f) (length-append b (trailer b)) t
+    join (eof b s.gdr) (eof f s.gdr) (length f - trailer_length f) (length b) same end (image_end b long)
   where
-    less : (x l t u : ℕ) → x ≡ l + t → u ≡ t → x - u ≡ l
-    less x l t u p q = omega arith
+    join : (x y z l : ℕ) → y ≡ x → y ≡ z → z ≡ l → x ≡ l
+    join x y z l p q r = sym p ∙ q ∙ r

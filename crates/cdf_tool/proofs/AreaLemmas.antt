@@ -7,7 +7,8 @@ use Rattle.cdf_session.specs.declared.refusal.AdoptError.TheVariants as errors
 use Rattle.cdf_tool.specs.declared.status.Status.{Status}
 use Rattle.cdf_tool.specs.declared.status.Status.TheVariants as statuses
 use Rattle.cdf_tool.specs.Areas.{Refuses, EndsOver}
-use Rattle.cdf_tool.specs.Ends.{Rejects, rejection, SaysRejected, EndsUnread}
+use Rattle.cdf_tool.specs.Ends.{EndsUnread}
+use Rattle.cdf_tool.specs.Says.{Rejects, rejection, SaysRejected}
 
 -- a rejection ends a run
 rejected_ends : (file : List ℕ) (first now : Option (List ℕ)) (r : Rejects file) (status : Status) → SaysRejected (rejection r) first now status → EndsUnread false file first now status

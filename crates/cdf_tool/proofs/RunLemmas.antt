@@ -17,7 +17,8 @@ use Rattle.cdf_tool.specs.declared.status.Status.{Status}
 use Rattle.cdf_tool.specs.declared.status.Status.TheVariants as statuses
 use Rattle.cdf_tool.specs.Accepts.{Accepted, Accepts}
 use Rattle.cdf_tool.specs.Due.{CanBegin, IsGood}
-use Rattle.cdf_tool.specs.Ends.{Opens, Completes, Runs, Rejects, Names, EndsUnread, EndsWithout, Without, EndsUnasked, EndsNamed}
+use Rattle.cdf_tool.specs.Ends.{Opens, Completes, Runs, EndsUnread, EndsWithout, Without, EndsNamed}
+use Rattle.cdf_tool.specs.Says.{Rejects, Names, SaysUsage}
 use Rattle.cdf_tool.specs.Replay.{Goes, line_of_moment, flagged_line, tale}
 use Rattle.cdf_tool.specs.Script.{Finishes}
 use Rattle.cdf_tool.specs.Statuses.{IsDone, IsFailure, Exactly}
@@ -39,7 +40,7 @@ done_or_failed statuses.NoMemory is fails = is
 done_or_failed statuses.ScriptFault is fails = is
 done_or_failed statuses.ScriptTooLong is fails = is
 
-unasked_status : (first now : Option (List ℕ)) (status : Status) → EndsUnasked first now status → (status ≡ statuses.Usage) ⊎ IsFailure status
+unasked_status : (first now : Option (List ℕ)) (status : Status) → SaysUsage first now status → (status ≡ statuses.Usage) ⊎ IsFailure status
 unasked_status first now statuses.Usage ends = inl refl
 unasked_status first now statuses.OutputFault ends = inr tt
 unasked_status first now statuses.Done ends = absurd ends

@@ -7,12 +7,13 @@ use Rattle.cdf_store.specs.Named.{lookup}
 use Rattle.cdf_store.specs.Written.{AppendsFront}
 use Rattle.cdf_format.specs.NewFile.{new_image}
 use Rattle.cdf_format.specs.Sealed.{image_of}
-use Rattle.cdf_format.specs.WellFormed.{WellFormed, Breaks}
+use Rattle.cdf_format.specs.WellFormed.{WellFormed}
 use Rattle.cdf_model.specs.Limits.{image_limit}
-use Rattle.cdf_model.specs.Texts.{usage_text, no_file_text, rejected_text}
+use Rattle.cdf_model.specs.Texts.{no_file_text}
 use Rattle.cdf_model.specs.Words.{Asked}
 use Rattle.cdf_tool.specs.declared.status.Status.{Status}
 use Rattle.cdf_tool.specs.declared.status.Status.TheVariants as statuses
+use Rattle.cdf_tool.specs.Says.{Rejects, rejection, SaysUsage}
 use Rattle.cdf_tool.specs.Script.{Finishes, Halts}
 use Rattle.cdf_tool.specs.Stored.{Unattached, Kept, Stored, Spoiled}
 
@@ -49,28 +50,6 @@ pub record Replays {U : Type 0} (a : Asked) (d d' : Disk U) (before left first n
   pub opens : Opens a.new file image
   pub runs : Runs a file image d d' before left first now status
 
--- the file breaks this rule of the first phase that it breaks
-pub record Rejects (file : List ℕ) : Type 0 where
-  pub phase : ℕ
-  pub rule : ℕ
-  pub place : ℕ
-  pub broken : Breaks file phase rule place
-
-abbrev pub rejection : {file : List ℕ} → Rejects file → List ℕ
-rejection r = rejected_text r.phase r.rule r.place
-
--- a rule that the file breaks was written
-abbrev pub Names : Option (List ℕ) → Option (List ℕ) → Option (List ℕ) → Type 0
-Names None first now = ⊥
-Names (Some file) first now = (r : Rejects file) × Appends first now (rejection r)
-
--- this rejection was written, or a part of it, or there was no memory to make it
-abbrev pub SaysRejected : List ℕ → Option (List ℕ) → Option (List ℕ) → Status → Type 0
-SaysRejected text first now statuses.Rejected = Appends first now text
-SaysRejected text first now statuses.OutputFault = AppendsFront first now text
-SaysRejected text first now statuses.NoMemory = now ≡ first
-SaysRejected text first now other = ⊥
-
 -- nothing of the script was read: the file was rejected, which no new one is, or a device failed or memory was refused before
 abbrev pub EndsUnread : Bool → List ℕ → Option (List ℕ) → Option (List ℕ) → Status → Type 0
 EndsUnread new file first now statuses.Rejected = (new ≡ false) × ((r : Rejects file) × Appends first now (rejection r))
@@ -95,22 +74,10 @@ EndsWithout a files first now statuses.StoreReadFault = now ≡ first
 EndsWithout a files first now statuses.NoMemory = now ≡ first
 EndsWithout a files first now other = ⊥
 
--- that there is no file was written, or a part of it
-abbrev pub SaysNoFile : Option (List ℕ) → Option (List ℕ) → Status → Type 0
-SaysNoFile first now statuses.NoFile = Appends first now no_file_text
-SaysNoFile first now statuses.OutputFault = AppendsFront first now no_file_text
-SaysNoFile first now other = ⊥
-
 pub record Without {U : Type 0} (a : Asked) (d d' : Disk U) (before left first now : Option (List ℕ)) (status : Status) : Type 0 where
   pub unattached : Unattached a d d'
   pub none_read : left ≡ before
   pub ends : EndsWithout a d.files first now status
-
--- no file was named
-abbrev pub EndsUnasked : Option (List ℕ) → Option (List ℕ) → Status → Type 0
-EndsUnasked first now statuses.Usage = Appends first now usage_text
-EndsUnasked first now statuses.OutputFault = AppendsFront first now usage_text
-EndsUnasked first now other = ⊥
 
 -- ---- a whole run
 
@@ -120,5 +87,5 @@ EndsNamed a d d' before left first now status = Without a d d' before left first
 
 -- A run ended so, by what its words ask for.
 abbrev pub Ends : {U : Type 0} → Option Asked → Disk U → Disk U → Option (List ℕ) → Option (List ℕ) → Option (List ℕ) → Option (List ℕ) → Status → Type 0
-Ends None d d' before left first now status = (d' ≡ d) × (left ≡ before) × EndsUnasked first now status
+Ends None d d' before left first now status = (d' ≡ d) × (left ≡ before) × SaysUsage first now status
 Ends (Some a) d d' before left first now status = EndsNamed a d d' before left first now status

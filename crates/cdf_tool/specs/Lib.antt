@@ -3,6 +3,7 @@ pub mod Stops
 pub mod Replay
 pub mod Script
 pub mod Stored
+pub mod Says
 pub mod Ends
 pub mod Areas
 pub mod Asking

@@ -1,7 +1,7 @@
 ghost use Rattle.std.specs.Prelude.{◌≡◌, ◌≤◌, IfOk, string_bytes};
 ghost use Rattle.cdf_base.specs.Causes.{Rose};
 ghost use Rattle.cdf_model.specs.Texts.{rejected_text};
-ghost use Rattle.cdf_tool.specs.Ends.{EndsUnasked, SaysNoFile, SaysRejected};
+ghost use Rattle.cdf_tool.specs.Says.{SaysUsage, SaysNoFile, SaysRejected};
 
 use crate::Status;
 use cdf_store::{Failed, Sink, write_all};
@@ -12,7 +12,7 @@ const USAGE: &[u8] = b"usage: cdfedit [--new] [--check] [--no-save] [--space] [-
 
 /// Says how the program is called.
 pub fn say_usage<O: Sink>(out: &mut O) -> Status
-    ensures text { EndsUnasked (O.written out.old) (O.written out.new) result }
+    ensures text { SaysUsage (O.written out.old) (O.written out.new) result }
     ensures later { O.faults out.old ≤ O.faults out.new }
     ensures output { result ≡ Status.OutputFault → Rose (O.faults out.old) (O.faults out.new) }
 {

@@ -7,7 +7,8 @@ ghost use Rattle.cdf_model.specs.Limits.{script_limit};
 ghost use Rattle.cdf_model.specs.Words.{ask};
 ghost use Rattle.cdf_tool.specs.Accepts.{Accepts};
 ghost use Rattle.cdf_tool.specs.Due.{CanBegin, Looked, Untouched, calls_store};
-ghost use Rattle.cdf_tool.specs.Ends.{Ends, Names};
+ghost use Rattle.cdf_tool.specs.Ends.{Ends};
+ghost use Rattle.cdf_tool.specs.Says.{Names};
 ghost use Rattle.cdf_tool.specs.Statuses.{Exactly, IsDone, IsFailure, IsUnsaved};
 
 use crate::Status;

@@ -1,11 +1,14 @@
 use Rattle.std.proofs.Common.{List, ℕ, ap, ◌+◌, length, arith}
-use Rattle.cdf_format.proofs.GoodLemmas.{good_is_sound}
+use Rattle.cdf_format.proofs.GoodLemmas.{good_is_sound, good_eof}
 use Rattle.cdf_attrs.specs.Creating.{scope_code, adr_body}
 use Rattle.cdf_attrs.proofs.CreatingRun.{MayMake, HasTaken, bytes_are, filled_by, raised_by, few, at_end, taken_long, body_long, filled_long, gdr_found, count_fits, raised_is_sound, raised_has_chain, raised_joins, raised_long, run_follows, run_names}
 use Rattle.cdf_attrs.proofs.creating.make.Goals as goal
 
 pub alloc_record-requires-clause-sound : goal.alloc_record-requires-clause-sound
 alloc_record-requires-clause-sound g c = good_is_sound _ c.requires.good
+
+pub alloc_record-requires-clause-eof : goal.alloc_record-requires-clause-eof
+alloc_record-requires-clause-eof g c = good_eof _ c.requires.good
 
 pub overflow_add-place : goal.overflow_add-place
 overflow_add-place g c =
