@@ -1,5 +1,5 @@
 -- What becomes of the blocks of a variable where records are put or cut (CDF Internal Format Description, "Variable Values Record", "Compressed Variable Values Record"; own: which blocks stay, which bytes change, and when a block is packed).
-use Rattle.std.specs.Prelude.{◌≡◌, ◌⊎◌, ◌<◌, ℕ, ◌+◌, ◌-◌, ◌*◌, max, List, [], ◌∷◌, ◌++◌, length, map, drop, Bool, true, false, not, ◌&&◌, ◌==◌, nat_lt, nat_le, if◌then◌else◌}
+use Rattle.std.specs.Prelude.{◌≡◌, ◌⊎◌, ◌≤◌, ◌<◌, ℕ, ◌+◌, ◌-◌, ◌*◌, max, List, [], ◌∷◌, ◌++◌, length, map, drop, Bool, true, false, not, ◌&&◌, ◌==◌, nat_lt, nat_le, if◌then◌else◌}
 use Rattle.std.specs.List.{All, list_any, repeat}
 use Rattle.cdf_model.specs.declared.command.Command.{Command}
 use Rattle.cdf_model.specs.declared.command.Command.TheVariants as commands
@@ -12,17 +12,18 @@ use Rattle.cdf_model.specs.Place.{record_limit}
 use Rattle.cdf_model.specs.Reading.{pad_record}
 use Rattle.cdf_model.specs.RunLengths.{Packs, IsLongest}
 use Rattle.cdf_format.specs.Blocks.{Range, range, covers, ranges_of, shared, fallen, is_sparse, first_written, is_cut_first, record_length, ranges_before_put, ranges_after_put, ranges_after_cut}
-use Rattle.cdf_format.specs.Changed.{Touch, touch, touched_field, Changed, Same}
+use Rattle.cdf_format.specs.Changed.{byte, Touch, touch, touched_field, Changed, Same}
+use Rattle.cdf_format.specs.Chains.{is_in}
 use Rattle.cdf_format.specs.Content.{plain_bytes}
 use Rattle.cdf_format.specs.Fields.{number, size_at}
 use Rattle.cdf_format.specs.Index.{no_node, Leaf, leaves_of}
 use Rattle.cdf_format.specs.IndexRules.{packed_bytes}
 use Rattle.cdf_format.specs.Named.{IsVariable}
-use Rattle.cdf_format.specs.Records.{gdr_r_max_rec, vdr_max_rec, cvvr_rfu_a}
+use Rattle.cdf_format.specs.Records.{gdr_r_max_rec, vdr_max_rec, cvvr_rfu_a, cvvr_c_size}
 use Rattle.cdf_format.specs.Room.{uncovered, is_rewritten}
 use Rattle.cdf_format.specs.Shape.{VariableShape, Each, shape}
 use Rattle.cdf_format.specs.Stored.{is_little}
-use Rattle.cdf_format.specs.VariableFields.{records_of_leaf}
+use Rattle.cdf_format.specs.VariableFields.{records_of_leaf, plain_size}
 
 -- it holds of one of them
 abbrev pub AnyOf : {A : Type 0} → (A → Type 0) → List A → Type 0
@@ -98,12 +99,21 @@ abbrev pub HoldsPads : List ℕ → Variable → ℕ → ℕ → List Range → 
 HoldsPads now v vdr n before leaf = list_any (covers leaf.first) before ≡ false
     → drop (stored_in v n leaf * record_length v) (plain_bytes now vdr leaf) ≡ repeat (records_of_leaf leaf - stored_in v n leaf) (turned v.type (is_little now) (pad_record v))
 
+-- where the bytes of a block end
+abbrev pub block_end : List ℕ → ℕ → Leaf → ℕ
+block_end b vdr leaf = if leaf.packed then 24 + number b leaf.place cvvr_c_size else 12 + plain_size b vdr leaf
+
+-- behind that there are bytes 0, where no block stood before
+abbrev pub HasZeros : List ℕ → ℕ → List ℕ → Leaf → Type 0
+HasZeros now vdr places leaf = is_in leaf.place places ≡ false → (i : ℕ) → block_end now vdr leaf ≤ i → i < size_at now leaf.place → byte now (leaf.place + i) ≡ 0
+
 pub record Puts (b now : List ℕ) (kind : Kind) (v : Variable) (n : ℕ) (before after : VariableShape) : Type 0 where
   pub ranges : ranges_of after.index ≡ ranges_after_put v before.index n
   pub in_place : stays_in_place v before n ≡ true
       → (length now ≡ length b) × Changed b now (max_rec_touches b kind before.vdr ++ written_in v (first_written v n) n (leaves_of before.index))
   pub others_stay : Each (StaysUnwritten v n (leaves_of after.index)) (leaves_of before.index)
   pub padded : Each (HoldsPads now v after.vdr n (ranges_before_put v before.index n)) (leaves_of after.index)
+  pub spare : Each (HasZeros now after.vdr (map (λ leaf. leaf.place) (leaves_of before.index))) (leaves_of after.index)
   pub packed : AllPacked b now v unmoved before after
   pub reserved : HaveReserved b now (leaves_of before.index) (leaves_of after.index)
 
