@@ -16,6 +16,7 @@ impl Place {
     ghost use Rattle.cdf_lines.specs.Waiting.{next_of};
 
     /// Where the line behind begins.
+    #[inline(always)]
     fn next(self) -> usize
         requires { next_of self < 2 ^ 64 }
         ensures { result ≡ next_of self }
@@ -65,6 +66,7 @@ impl Block {
     }
 
     /// Goes on to the next line, if there is one.
+    #[inline(always)]
     pub fn advance(&mut self) -> bool
         ensures none { result ≡ false ↔ (self.old.others ≡ []) }
         ensures unchanged { result ≡ false → self.new ≡ self.old }
@@ -82,6 +84,7 @@ impl Block {
     }
 
     /// The line that it is at.
+    #[inline(always)]
     pub fn line(&self, number: u64) -> Line<'_>
         ensures text { line_of result ≡ self.now.line }
         ensures number { result.number ≡ number }

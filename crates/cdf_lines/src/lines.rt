@@ -99,6 +99,7 @@ impl Lines {
     }
 
     /// Goes on to the next line that has ended, and says whether there is one.
+    #[inline(always)]
     pub fn next_line(&mut self) -> bool
         ensures none { result ≡ false ↔ (self.old.ready ≡ []) }
         ensures unchanged { result ≡ false → self.new ≡ self.old }
@@ -115,6 +116,7 @@ impl Lines {
     }
 
     /// The line given last, with its number. Before the first one it is an empty line with the number 0.
+    #[inline(always)]
     pub fn line(&self) -> Line<'_>
         ensures text { line_of result ≡ self.now.line }
         ensures number { result.number ≡ self.now.given }

@@ -16,6 +16,7 @@ pub fn first_line(text: &[u8]) -> Option<(&[u8], &[u8])>
 }
 
 /// Where the first newline stands.
+#[inline(always)]
 pub fn newline_in(text: &[u8]) -> Option<usize>
     ensures { result ≡ position (λ b. b == 10) text.now }
 {

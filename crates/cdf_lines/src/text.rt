@@ -76,6 +76,7 @@ impl Text {
         Ok(())
     }
 
+    #[inline(always)]
     pub fn line(&self, number: u64) -> Line<'_>
         ensures text { line_of result ≡ self.now }
         ensures number { result.number ≡ number }

@@ -20,6 +20,7 @@ pub enum Parsed {
 }
 
 /// What a line of a script asks for.
+#[inline(always)]
 pub fn parse(alloc: Global, line: &Line<'_>) -> Result<Parsed, ParseError>
     ensures { Parses (asked_for (line_of line.now)) result }
 {
@@ -42,6 +43,7 @@ pub fn parse_line(alloc: Global, line: &[u8]) -> Result<Parsed, ParseError>
 }
 
 /// What a line asks for that is not too long.
+#[inline(always)]
 fn parse_text(alloc: Global, line: &[u8]) -> Result<Parsed, ParseError>
     ensures { Parses (asked_for (Some line.now)) result }
 {
@@ -75,6 +77,7 @@ fn too_long() -> Result<Parsed, ParseError>
     })
 }
 
+#[inline(always)]
 fn is_blank(line: &[u8]) -> bool
     ensures { result ≡ blank_line line.now }
 {

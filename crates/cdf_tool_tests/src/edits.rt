@@ -31,7 +31,7 @@ fn an_attribute_is_made_once(rt: HostRuntime) -> Result<(), Fail> {
     let new = changed_file(alloc, 404, &[])?;
     let changed = changed_file(alloc, 728, WITH_ATTRIBUTE)?;
     let script = b"attr Project global\nattr Project global\n";
-    for words in [&["a.cdf"].as_slice(), &["--new", "a.cdf"]] {
+    for words in [["a.cdf"].as_slice(), &["--new", "a.cdf"]] {
         let ran = run_over(alloc, words, &new, script, &SOUND)?;
         assert_eq!(rt;
             ran.text.as_slice(),
