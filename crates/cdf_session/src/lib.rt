@@ -6,6 +6,8 @@ mod new_file;
 mod reading;
 mod refusal;
 mod session;
+#[cfg(test)]
+mod tests;
 
 pub use refusal::{AdoptError, Broken, Refusal};
 pub use session::Session;

@@ -1,7 +1,10 @@
 //! Files that are made and changed.
 
 use crate::fixtures::{Devices, Ran, SOUND, WITH_ATTRIBUTE, changed_file, run_over};
+use cdf_store::{FileStore, MemSink, MemSource};
+use cdf_tool::run;
 use std::alloc::Global;
+use std::fs;
 use std::test::Fail;
 
 #[test]
@@ -132,5 +135,49 @@ fn a_store_that_fails_leaves_old_or_new_bytes(rt: HostRuntime) -> Result<(), Fai
         assert!(rt; ran.kept, "{call}");
         assert!(rt; b"1 ok\n".starts_with(&ran.text), "{call}");
     }
+    Ok(())
+}
+
+const REAL_FILE: &str = "cdf_tool_tests_real_file";
+
+/// A run over the real file, with flags before its name and a script.
+fn run_really(rt: HostRuntime, flags: &[&str], script: &[u8]) -> Result<(u8, Vec<u8>), Fail> {
+    let alloc = rt.alloc();
+    let mut words = Vec::new(alloc);
+    for word in flags.iter().chain([&REAL_FILE]) {
+        words.push(String::from_str(alloc, word)?)?;
+    }
+    let store = FileStore::new(rt, alloc);
+    let mut source = MemSource::new(alloc, Vec::from_slice(alloc, script)?, 16);
+    let mut sink = MemSink::new(alloc, 1000)?;
+    let ended = run(alloc, &words, store, &mut source, &mut sink);
+    Ok((
+        ended.status.number(),
+        Vec::from_slice(alloc, sink.written())?,
+    ))
+}
+
+#[test]
+fn a_real_file_is_made_and_edited(rt: HostRuntime) -> Result<(), Fail> {
+    let alloc = rt.alloc();
+    let _ = fs::remove_file(&rt, REAL_FILE);
+    let (status, text) = run_really(rt, &["--new"], b"attr Project global\n")?;
+    assert_eq!(rt; (status, text.as_slice()), (0, b"1 ok\n".as_slice()));
+    assert_eq!(rt;
+        fs::read(&rt, REAL_FILE)?.as_slice(),
+        changed_file(alloc, 728, WITH_ATTRIBUTE)?.as_slice()
+    );
+
+    let (status, text) = run_really(rt, &[], b"rename-attr Project Mission\nlist\n")?;
+    let listed = b"1 ok\n2 ok\nattribute 0 \"Mission\" global\n2 end\n";
+    assert_eq!(rt; (status, text.as_slice()), (0, listed.as_slice()));
+    let renamed = [(472, 0x4d69_7373), (476, 0x696f_6e00)];
+    let mut words = Vec::from_slice(alloc, WITH_ATTRIBUTE)?;
+    words.extend_from_slice(&renamed)?;
+    assert_eq!(rt;
+        fs::read(&rt, REAL_FILE)?.as_slice(),
+        changed_file(alloc, 728, &words)?.as_slice()
+    );
+    fs::remove_file(&rt, REAL_FILE)?;
     Ok(())
 }
