@@ -23,7 +23,7 @@ pub const UIR: u32 = u32::MAX;
 /// The greatest type but for that of unused records.
 const LAST_TYPE: u32 = 13;
 /// The bytes of the fixed part of a record of each type from 0 on; no record has type 0.
-const FIXED_SIZES: [u64; 14] = [12, 312, 84, 340, 324, 56, 28, 12, 344, 56, 12, 24, 12, 24];
+const FIXED_SIZES: [u64; 14] = [0, 312, 84, 340, 324, 56, 28, 12, 344, 56, 12, 24, 12, 24];
 
 /// Whether records have this type.
 pub fn is_record_type(record_type: u32) -> bool
