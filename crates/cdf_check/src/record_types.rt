@@ -52,4 +52,5 @@ pub fn is_read(record_type: u32) -> bool
         || record_type == ADR
         || record_type == AGR_EDR
         || record_type == AZ_EDR
+        || record_type == UIR
 }
