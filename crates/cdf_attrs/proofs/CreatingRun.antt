@@ -10,28 +10,28 @@ use Rattle.cdf_model.specs.Limits.{image_limit}
 use Rattle.cdf_model.specs.Names.{is_bad_name, is_among, attribute_names}
 use Rattle.cdf_format.specs.Alone.{IsSound}
 use Rattle.cdf_format.specs.Content.{content}
-use Rattle.cdf_format.specs.Fields.{gdr_offset, with_field}
+use Rattle.cdf_format.specs.Fields.{size_at, gdr_offset, with_field}
 use Rattle.cdf_format.specs.GoodImage.{IsGoodImage}
 use Rattle.cdf_format.specs.Locality.{Follows}
-use Rattle.cdf_format.specs.Placement.{Takes}
+use Rattle.cdf_format.specs.Placement.{with_space, Takes}
 use Rattle.cdf_format.specs.Records.{gdr_num_attr}
-use Rattle.cdf_format.specs.RecordTypes.{adr_type}
+use Rattle.cdf_format.specs.RecordTypes.{adr_type, uir_type}
 use Rattle.cdf_format.specs.Shape.{AttributeShape, Shape, adrs, shape}
 use Rattle.cdf_format.specs.WellFormed.{Good}
-use Rattle.cdf_format.proofs.ChainsLemmas.{linkable-in}
+use Rattle.cdf_format.proofs.ChainsLemmas.{is_a-in, linkable-in}
 use Rattle.cdf_format.proofs.GoodLemmas.{good_by_its_shape, good_is_sound}
 use Rattle.cdf_format.proofs.Members.{length-le_from_distinct}
 use Rattle.cdf_format.proofs.NameRules.{attribute_names_are}
 use Rattle.cdf_format.proofs.ShapeLemmas.{shape_is}
-use Rattle.cdf_format.proofs.TilesLemmas.{length_tiles}
+use Rattle.cdf_format.proofs.TilesLemmas.{tile_lies, length_tiles}
+use Rattle.cdf_format.proofs.TakesKept.{takes_longest}
 use Rattle.cdf_space.specs.declared.chain.Chain.TheVariants.{Attrs}
 use Rattle.cdf_space.specs.ChainCalls.{HasChain, MayJoin, Appended}
 use Rattle.cdf_attrs.specs.Creating.{scope_code, adr_body}
 use Rattle.cdf_attrs.proofs.CreatingBody.{IsName, is_name, length-body}
 use Rattle.cdf_attrs.proofs.CreatingFollows.{follows, content_is_made}
-use Rattle.cdf_attrs.proofs.CreatingGood.{IsMade, length_made}
-use Rattle.cdf_attrs.proofs.CreatingPlaced.{IsPlaced, place_is, is_placed}
-use Rattle.cdf_attrs.proofs.CreatingStart.{with_record}
+use Rattle.cdf_attrs.proofs.CreatingGood.{IsMade, shorter_made}
+use Rattle.cdf_attrs.proofs.CreatingStart.{IsPlaced}
 use Rattle.cdf_attrs.proofs.CreatingSteps.{IsFilled, is_filled, count_inside, length_counted, raised_sound, has_chain, joins, is_made}
 
 -- a name that may be given to a new attribute, of this number, in an image that has room for it
@@ -101,31 +101,50 @@ module _ (b taken : List ℕ) (place num : ℕ) (scope : Scope) (name : List ℕ
   pub few : num + 1 < 2 ^ 32
   few = omega (arith, may.num_is, attributes_few b may.image, may.short)
 
-  pub at_end : place ≡ length b
-  at_end = place_is b taken place good has.takes
+  abbrev records : List ℕ
+  records = (shape taken).records
 
-  placed : IsPlaced b taken s
-  placed = is_placed b taken place good has.takes has.sound has.content_stays
+  abbrev list : List ℕ
+  list = (shape taken).unused
 
-  pub taken_long : length taken ≡ length b + 324
-  taken_long = placed.length_is
+  rest_stays : shape taken ≡ with_space s records list
+  rest_stays = has.takes.space.rest_stays
+
+  placed : IsPlaced b taken s records list place
+  placed = record {
+    takes = subst (λ (x : Shape). Takes b taken s x 324 place) rest_stays has.takes;
+    sound = subst (IsSound taken) rest_stays has.sound;
+    content_stays = has.content_stays;
+  }
+
+  pub taken_short : length taken ≤ length b + 324
+  taken_short = takes_longest b taken s (with_space s records list) 324 place sound (omega arith) placed.takes
+
+  pub place_fits : place + 324 ≤ length taken
+  place_fits =
+      let h = placed.sound.has_shape in
+      let l = tile_lies taken 8 (length taken) records place h.tiled (is_a-in taken records uir_type place placed.takes.stands) in
+      at (size_at taken place) placed.takes.size_is l.high
+    where
+      at : (n : ℕ) → n ≡ 324 → place + n ≤ length taken → place + 324 ≤ length taken
+      at n e l = omega arith
 
   pub body_long : length (adr_body code num name) ≡ 316
   body_long = length-body code num name named.short
 
   module _ (filled : List ℕ) (filled_is : filled ≡ put taken (place + 8) (adr_body code num name)) where
-    full : IsFilled b filled s code name
-    full = subst (λ (x : List ℕ). IsFilled b x s code name) (sym (filled_is ∙ (λ i. put taken (at_end i + 8) (adr_body code (count_is i) name))))
-        (is_filled b taken s code name sound placed named (small_code scope) (omega (arith, count_is, few)))
+    filled_as : put taken (place + 8) (adr_body code (length s.attributes) name) ≡ filled
+    filled_as = sym (filled_is ∙ (λ i. put taken (place + 8) (adr_body code (count_is i) name)))
 
-    pub filled_long : length filled ≡ length b + 324
-    filled_long = full.started.length_is
+    full : IsFilled b filled s records list place code name
+    full = subst (λ (x : List ℕ). IsFilled b x s records list place code name) filled_as
+        (is_filled b taken s records list place code name sound placed named (small_code scope) (omega (arith, count_is, few)))
 
     pub gdr_found : gdr_offset filled ≡ s.gdr
     gdr_found = full.started.sound.has_shape.gdr_is
 
     pub count_fits : s.gdr + 52 ≤ length filled
-    count_fits = count_inside filled (with_record s (length b)) full.started.sound 0
+    count_fits = count_inside filled (with_space s records list) full.started.sound 0
 
     module _ (gdr : ℕ) (gdr_is : gdr ≡ gdr_offset filled) (raised : List ℕ) (raised_is : raised ≡ with_field filled gdr gdr_num_attr (num + 1)) where
       raised_as : raised ≡ with_field filled s.gdr gdr_num_attr (length s.attributes + 1)
@@ -134,27 +153,29 @@ module _ (b taken : List ℕ) (place num : ℕ) (scope : Scope) (name : List ℕ
       small : length s.attributes + 1 < 2 ^ 32
       small = omega (arith, count_is, few)
 
-      sound_then : IsSound raised (with_record s (length b))
-      sound_then = subst (λ (x : List ℕ). IsSound x (with_record s (length b))) (sym raised_as) (raised_sound b filled filled s code name sound full small)
+      sound_then : IsSound raised (with_space s records list)
+      sound_then = subst (λ (x : List ℕ). IsSound x (with_space s records list)) (sym raised_as) (raised_sound b filled filled s records list place code name sound full small)
 
       pub raised_is_sound : IsSound raised (shape raised)
-      raised_is_sound = subst (IsSound raised) (sym (shape_is raised (with_record s (length b)) sound_then.has_shape)) sound_then
+      raised_is_sound = subst (IsSound raised) (sym (shape_is raised (with_space s records list) sound_then.has_shape)) sound_then
 
       pub raised_has_chain : HasChain raised Attrs
-      raised_has_chain = has_chain raised (with_record s (length b)) sound_then.has_shape
+      raised_has_chain = has_chain raised (with_space s records list) sound_then.has_shape
 
       pub raised_joins : MayJoin raised Attrs place
-      raised_joins = subst (λ (p : ℕ). MayJoin raised Attrs p) (sym at_end) (subst (λ (x : List ℕ). MayJoin x Attrs (length b)) (sym raised_as) (joins b filled filled s code name sound full small))
+      raised_joins = subst (λ (x : List ℕ). MayJoin x Attrs place) (sym raised_as) (joins b filled filled s records list place code name sound full small)
 
-      pub raised_long : length raised ≡ length b + 324
-      raised_long = ap (λ (x : List ℕ). length x) raised_as ∙ length_counted filled (with_record s (length b)) full.started.sound (length s.attributes + 1) ∙ filled_long
+      pub raised_short : length raised ≤ length b + 324
+      raised_short =
+          let same : length raised ≡ length filled = ap (λ (x : List ℕ). length x) raised_as ∙ length_counted filled (with_space s records list) full.started.sound (length s.attributes + 1) in
+          omega (arith, full.started.shorter)
 
       module _ (now : List ℕ) (appended : Appended raised now Attrs place) where
-        made : IsMade b filled now s code name
-        made = is_made b filled now s code name sound full small (subst (λ (p : ℕ). Appended (with_field filled s.gdr gdr_num_attr (length s.attributes + 1)) now Attrs p) at_end (subst (λ (x : List ℕ). Appended x now Attrs place) raised_as appended))
+        made : IsMade b filled now s records list place code name
+        made = is_made b filled now s records list place code name sound full small (subst (λ (x : List ℕ). Appended x now Attrs place) raised_as appended)
 
         pub run_follows : Follows b (Attr name scope) now
-        run_follows = follows b filled now scope name good sound made may.named may.free may.image (omega (arith, length_made b filled now s code name good sound made, may.short))
+        run_follows = follows b filled now records list place scope name good sound made may.named may.free may.image (omega (arith, shorter_made b filled now s records list place code name good sound made, may.short))
 
         pub run_names : attribute_names (content now) ≡ attribute_names (content b) ++ name ∷ []
-        run_names = ap attribute_names (content_is_made b filled now scope name good sound made) ∙ map-append (λ (a : Attribute). a.name) (content b).attributes _
+        run_names = ap attribute_names (content_is_made b filled now records list place scope name good sound made) ∙ map-append (λ (a : Attribute). a.name) (content b).attributes _

@@ -1,95 +1,187 @@
--- An ADR that stands behind the old end of an image, on no list.
-use Rattle.std.proofs.Common.{◌≡◌, ◌≢◌, ◌⊎◌, ℕ, ◌+◌, ◌≤◌, List, [], ◌∷◌, ◌++◌, length, true, false, refl, true≢false, sym, ap, ap₂, subst, ◌∙◌, arith, inl, inr}
+-- An ADR that stands where a record was taken, on no list.
+use Rattle.std.proofs.Common.{◌≡◌, ◌≢◌, ℕ, ◌+◌, ◌<◌, ◌≤◌, List, [], ◌∷◌, ◌++◌, length, map, true, false, refl, true≢false, sym, ap, ap₂, subst, ◌∙◌, arith, inl, inr}
+use Rattle.std.proofs.lemmas.Bool.{cases_eq}
 use Rattle.cdf_format.specs.Alone.{IsSound}
-use Rattle.cdf_format.specs.Changed.{Same, Touch, touch, touched_field, Changed, Placed, Misses}
+use Rattle.cdf_format.specs.Changed.{byte, Same, Touch, touch, Changed, Placed}
 use Rattle.cdf_format.specs.Chains.{is_in, is_linkable}
 use Rattle.cdf_format.specs.Content.{content}
-use Rattle.cdf_format.specs.Fields.{size_at, type_at, eof}
+use Rattle.cdf_format.specs.Fields.{number, size_at, type_at, eof}
 use Rattle.cdf_format.specs.GoodImage.{IsGoodImage}
 use Rattle.cdf_format.specs.NotRead.{read_types, unread_type}
-use Rattle.cdf_format.specs.Records.{gdr_eof}
-use Rattle.cdf_format.specs.RecordTypes.{gdr_type, adr_type, r_vdr_type, z_vdr_type, uir_type, fixed_size}
-use Rattle.cdf_format.specs.Shape.{VariableShape, Shape, vdrs, variables, with_records, HasShape}
+use Rattle.cdf_format.specs.Placement.{unused, place_for, taken_from, eof_after, with_space, back_links, Takes}
+use Rattle.cdf_format.specs.Records.{uir_prev_uir}
+use Rattle.cdf_format.specs.RecordTypes.{gdr_type, adr_type, r_vdr_type, z_vdr_type, uir_type}
+use Rattle.cdf_format.specs.Shape.{VariableShape, Shape, vdrs, variables, HasShape}
 use Rattle.cdf_format.specs.Tiles.{In}
 use Rattle.cdf_format.proofs.BytesLemmas.{Same-part, word_kept}
-use Rattle.cdf_format.proofs.ChainsLemmas.{is_a-in, is_a-type, linkable-in, linkable-type}
+use Rattle.cdf_format.proofs.ChainsLemmas.{is_a-in, is_a-type, linkable-in, linkable-type, linkable-long}
 use Rattle.cdf_format.proofs.ChangedLemmas.{changed_part}
 use Rattle.cdf_format.proofs.Kept.{Kept}
 use Rattle.cdf_format.proofs.RowLemmas.{Hold-member}
+use Rattle.cdf_format.proofs.Members.{false-is_in}
+use Rattle.cdf_format.proofs.TakenList.{sized}
+use Rattle.cdf_format.proofs.TakesKept.{KeepsTaken}
 use Rattle.cdf_format.proofs.TilesLemmas.{tile_lies}
+use Rattle.cdf_format.proofs.UsedRecords.{apart}
 
--- the shape with one more record
-abbrev pub with_record : Shape → ℕ → Shape
-with_record s place = with_records s (s.records ++ place ∷ [])
+-- an image in which a record of 324 bytes was taken at this place; its records and its unused list by now
+pub record IsPlaced (b now : List ℕ) (s : Shape) (records list : List ℕ) (place : ℕ) : Type 0 where
+  pub takes : Takes b now s (with_space s records list) 324 place
+  pub sound : IsSound now (with_space s records list)
+  pub content_stays : content now ≡ content b
 
--- what is touched where an ADR is placed behind the end and filled
-abbrev pub starting : Shape → ℕ → List Touch
-starting s end = touched_field s.gdr gdr_eof ∷ touch end 8 316 ∷ []
+-- where the record was taken, and what is on the list by now
+pub record IsListed (b now : List ℕ) (s : Shape) (list : List ℕ) (place : ℕ) : Type 0 where
+  pub place_is : place ≡ place_for (unused b s) (length b) 324
+  pub length_is : length now ≡ eof_after (unused b s) (length b) 324
+  pub list_is : sized now list ≡ taken_from (unused b s) 324
+  pub back : map (λ uir. number now uir uir_prev_uir) list ≡ back_links b s.unused 0 list
 
-pub record IsStarted (b now : List ℕ) (s : Shape) : Type 0 where
-  pub changed : Changed b now (starting s (length b))
-  pub length_is : length now ≡ length b + 324
-  pub sound : IsSound now (with_record s (length b))
+pub record IsStarted (b now : List ℕ) (s : Shape) (records list : List ℕ) (place : ℕ) : Type 0 where
+  pub keeps : KeepsTaken b now s records place
+  pub listed : IsListed b now s list place
+  pub shorter : length now ≤ length b + 324
+  pub sound : IsSound now (with_space s records list)
   pub content_stays : content now ≡ content b
   pub eof_is : eof now s.gdr ≡ length now
-  pub type_is : type_at now (length b) ≡ adr_type
-  pub size_is : size_at now (length b) ≡ 324
+  pub stands : In place records
+  pub type_is : type_at now place ≡ adr_type
+  pub size_is : size_at now place ≡ 324
 
--- ---- what the bytes before the old end keep
+-- the same from one image to the next, and on
+pub same-then : (b mid now : List ℕ) (lo hi : ℕ) → Same b mid lo hi → Same mid now lo hi → Same b now lo hi
+same-then b mid now lo hi p q = record { each = λ i l u. q.each i l u ∙ p.each i l u }
 
-module _ (b now : List ℕ) (s : Shape) (sound : IsSound b s) (started : IsStarted b now s) where
+-- ---- a list whose records keep their sizes and links back
+
+-- size and link back
+pub record KeepsLinks (b now : List ℕ) (m : ℕ) : Type 0 where
+  pub size : size_at now m ≡ size_at b m
+  pub prev : number now m uir_prev_uir ≡ number b m uir_prev_uir
+
+sized_same : (b now list : List ℕ) → ((m : ℕ) → In m list → KeepsLinks b now m) → sized now list ≡ sized b list
+sized_same b now [] same = refl
+sized_same b now (m ∷ more) same = ap₂ (λ (n : ℕ) (rest : List (ℕ × ℕ)). (m, n) ∷ rest) (same m (inl refl)).size (sized_same b now more (λ x i. same x (inr i)))
+
+backs_same : (b now list : List ℕ) → ((m : ℕ) → In m list → KeepsLinks b now m) → map (λ uir. number now uir uir_prev_uir) list ≡ map (λ uir. number b uir uir_prev_uir) list
+backs_same b now [] same = refl
+backs_same b now (m ∷ more) same = ap₂ (λ (n : ℕ) (rest : List ℕ). n ∷ rest) (same m (inl refl)).prev (backs_same b now more (λ x i. same x (inr i)))
+
+pub listed_stay : (b mid now : List ℕ) (s : Shape) (list : List ℕ) (place : ℕ) → IsListed b mid s list place → length now ≡ length mid → ((m : ℕ) → In m list → KeepsLinks mid now m) → IsListed b now s list place
+listed_stay b mid now s list place listed long same = record {
+  place_is = listed.place_is;
+  length_is = long ∙ listed.length_is;
+  list_is = sized_same mid now list same ∙ listed.list_is;
+  back = backs_same mid now list same ∙ listed.back;
+}
+
+-- ---- what the old records keep
+
+module _ (b now : List ℕ) (s : Shape) (records : List ℕ) (place : ℕ) (sound : IsSound b s) (keeps : KeepsTaken b now s records place) where
   h : HasShape b s
   h = sound.has_shape
-
-  abbrev touches : List Touch
-  touches = starting s (length b)
 
   gdr_in : In s.gdr s.records
   gdr_in = is_a-in b s.records gdr_type s.gdr h.gdr_stands
 
-  gdr_long : 84 ≤ size_at b s.gdr
-  gdr_long = subst (λ (t : ℕ). fixed_size t ≤ size_at b s.gdr) (is_a-type b s.records gdr_type s.gdr h.gdr_stands) (h.fixed s.gdr gdr_in)
+  -- a record in use is not on the list
+  pub not_listed : (m : ℕ) → type_at b m ≢ uir_type → In m s.unused → ⊥
+  not_listed m used i = used (linkable-type b s.records uir_type m (h.unused_chain.linkable m i))
 
-  placed : Placed b s.records (length b) touches
-  placed = (inl (gdr_in, let l = gdr_long in omega arith), (inr (omega arith), tt))
+  pub used_apart : (m : ℕ) → In m s.records → type_at b m ≢ uir_type → m ≢ place
+  used_apart m i used = keeps.unlisted_apart m i (not_listed m used)
 
-  part : (m lo hi : ℕ) → In m s.records → hi ≤ size_at b m → Misses touches m lo hi → Same b now (m + lo) (m + hi)
-  part m lo hi i fits miss = changed_part b now s.records (length b) h.tiled (omega arith) touches started.changed placed m lo hi i fits miss
+  pub gdr_used : type_at b s.gdr ≢ uir_type
+  gdr_used e = apart gdr_type uir_type refl (sym (is_a-type b s.records gdr_type s.gdr h.gdr_stands) ∙ e)
 
-  -- no record of the old image is the new one
-  pub before_end : (m : ℕ) → In m s.records → m ≢ length b
-  before_end m i e = let l = tile_lies b 8 (length b) s.records m h.tiled i in past m (size_at b m) (length b) l.high l.long e
+  pub gdr_apart : s.gdr ≢ place
+  gdr_apart = used_apart s.gdr gdr_in gdr_used
+
+  pub start_started : (m : ℕ) → In m s.records → m ≢ place → Same b now (m + 0) (m + 12)
+  start_started m i other =
+      let long = (tile_lies b 8 (length b) s.records m h.tiled i).long in
+      elim (cases_eq m s.gdr) [
+        | inl e ↦ subst (λ (x : ℕ). Same b now (x + 0) (x + 12)) (sym e) (keeps.gdr_part 0 12 (inl (omega arith)) (inl (omega arith)) (subst (λ (x : ℕ). 12 ≤ size_at b x) e long))
+        | inr ne ↦ keeps.listed_part m 0 12 i other ne (inl (omega arith)) long
+      ]
+
+  pub size_started : (m : ℕ) → In m s.records → m ≢ place → size_at now m ≡ size_at b m
+  size_started m i other = word_kept b now (m + 0) (m + 12) (start_started m i other) (m + 0) 8 (omega arith) (omega arith)
+
+  pub type_started : (m : ℕ) → In m s.records → m ≢ place → type_at now m ≡ type_at b m
+  type_started m i other = word_kept b now (m + 0) (m + 12) (start_started m i other) (m + 8) 4 (omega arith) (omega arith)
+
+  pub unlisted_started : (m : ℕ) → In m s.records → (In m s.unused → ⊥) → m ≢ s.gdr → Kept b now m
+  unlisted_started m i out no_gdr = let l = tile_lies b 8 (length b) s.records m h.tiled i in record { same = keeps.unlisted_kept m i out no_gdr; inside = l.high; long = l.long }
+
+  pub kept_started : (m : ℕ) → In m s.records → type_at b m ≢ uir_type → m ≢ s.gdr → Kept b now m
+  kept_started m i used no_gdr = unlisted_started m i (not_listed m used) no_gdr
+
+-- ---- the taken record is filled
+
+module _ (b mid now : List ℕ) (s : Shape) (records list : List ℕ) (place : ℕ) (sound : IsSound b s) (keeps : KeepsTaken b mid s records place) (placed : IsPlaced b mid s records list place) (change : Changed mid now (touch place 8 316 ∷ [])) where
+  of : HasShape mid (with_space s records list)
+  of = placed.sound.has_shape
+
+  abbrev filling : List Touch
+  filling = touch place 8 316 ∷ []
+
+  pub taken_in : In place records
+  taken_in = is_a-in mid records uir_type place placed.takes.stands
+
+  filling_placed : Placed mid records (length mid) filling
+  filling_placed = (inl (taken_in, subst (λ (n : ℕ). 324 ≤ n) (sym placed.takes.size_is) (omega arith)), tt)
+
+  -- all but the record
+  beside : (m lo hi : ℕ) → In m records → m ≢ place → hi ≤ size_at mid m → Same mid now (m + lo) (m + hi)
+  beside m lo hi i other fits = changed_part mid now records (length mid) of.tiled (omega arith) filling change filling_placed m lo hi i fits ((λ e. absurd (other e)), tt)
+
+  pub old_beside : (m lo hi : ℕ) → In m s.records → m ≢ place → hi ≤ size_at b m → Same mid now (m + lo) (m + hi)
+  old_beside m lo hi i other fits = beside m lo hi (keeps.sub m i) other (subst (λ (n : ℕ). hi ≤ n) (sym (size_started b mid s records place sound keeps m i other)) fits)
+
+  start_beside : (m : ℕ) → In m records → m ≢ place → Same mid now (m + 0) (m + 12)
+  start_beside m i other = beside m 0 12 i other (tile_lies mid 8 (length mid) records m of.tiled i).long
+
+  pub filled_keeps : KeepsTaken b now s records place
+  filled_keeps = record {
+    longer = omega (arith, keeps.longer, change.longer);
+    unlisted_kept = λ m i out no_gdr.
+        let other = keeps.unlisted_apart m i out in
+        same-then b mid now m (m + size_at b m) (keeps.unlisted_kept m i out no_gdr) (Same-part mid now (m + 0) (m + size_at b m) m (m + size_at b m) (old_beside m 0 (size_at b m) i other (omega arith)) (omega arith) (omega arith));
+    listed_part = λ m lo hi i other no_gdr outside fits. same-then b mid now (m + lo) (m + hi) (keeps.listed_part m lo hi i other no_gdr outside fits) (old_beside m lo hi i other fits);
+    gdr_part = λ lo hi end head fits. same-then b mid now (s.gdr + lo) (s.gdr + hi) (keeps.gdr_part lo hi end head fits) (old_beside s.gdr lo hi (gdr_in b mid s records place sound keeps) (gdr_apart b mid s records place sound keeps) fits);
+    front = same-then b mid now 0 8 keeps.front (record { each = λ i from upto. early i upto });
+    unlisted_apart = keeps.unlisted_apart;
+    sub = keeps.sub;
+    new = λ m i. elim (keeps.new m i) [
+      | inl j ↦ inl j
+      | inr j ↦ elim (cases_eq m place) [
+        | inl e ↦ inr (inl e)
+        | inr ne ↦ elim j [ inl e ↦ inr (inl e) | inr t ↦ inr (inr (word_kept mid now (m + 0) (m + 12) (start_beside m i ne) (m + 8) 4 (omega arith) (omega arith) ∙ t)) ]
+      ]
+    ];
+  }
     where
-      past : (x k l : ℕ) → x + k ≤ l → 12 ≤ k → x ≡ l → ⊥
-      past x k l p q r = absurd (omega arith)
+      early : (i : ℕ) → i < 8 → byte now i ≡ byte mid i
+      early i upto =
+          let l = tile_lies mid 8 (length mid) records place of.tiled taken_in in
+          change.same i (omega (arith, l.low, l.high)) (inl (omega (arith, l.low)), tt)
 
-  pub start_started : (m : ℕ) → In m s.records → Same b now (m + 0) (m + 12)
-  start_started m i = part m 0 12 i (tile_lies b 8 (length b) s.records m h.tiled i).long ((λ e. inl (omega arith)), ((λ e. absurd (before_end m i e)), tt))
+  unlisted : (m : ℕ) → In m list → m ≢ place
+  unlisted m i e = false-is_in place list placed.takes.unlisted (subst (λ (x : ℕ). In x list) e i)
 
-  pub size_started : (m : ℕ) → In m s.records → size_at now m ≡ size_at b m
-  size_started m i = word_kept b now (m + 0) (m + 12) (start_started m i) (m + 0) 8 (omega arith) (omega arith)
+  pub filled_listed : length now ≡ length mid → IsListed b now s list place
+  filled_listed long =
+      listed_stay b mid now s list place (record { place_is = placed.takes.place_is; length_is = placed.takes.length_is; list_is = placed.takes.list_is; back = placed.takes.back }) long (λ m i.
+      let ok = of.unused_chain.linkable m i in
+      let tile = linkable-in mid records uir_type m ok in
+      let wide = linkable-long mid records uir_type m ok in
+      record {
+        size = word_kept mid now (m + 0) (m + 12) (start_beside m tile (unlisted m i)) (m + 0) 8 (omega arith) (omega arith);
+        prev = word_kept mid now (m + 20) (m + 28) (beside m 20 28 tile (unlisted m i) wide) (m + 20) 8 (omega arith) (omega arith);
+      })
 
-  pub type_started : (m : ℕ) → In m s.records → type_at now m ≡ type_at b m
-  type_started m i = word_kept b now (m + 0) (m + 12) (start_started m i) (m + 8) 4 (omega arith) (omega arith)
-
-  pub kept_started : (m : ℕ) → In m s.records → m ≢ s.gdr → Kept b now m
-  kept_started m i no_gdr =
-      let l = tile_lies b 8 (length b) s.records m h.tiled i in
-      let same = part m 0 (size_at b m) i (omega arith) ((λ e. absurd (no_gdr e)), ((λ e. absurd (before_end m i e)), tt)) in
-      record { same = Same-part b now (m + 0) (m + size_at b m) m (m + size_at b m) same (omega arith) (omega arith); inside = l.high; long = l.long }
-
-  pub gdr_started : (lo hi : ℕ) → (hi ≤ 36) ⊎ (44 ≤ lo) → hi ≤ size_at b s.gdr → Same b now (s.gdr + lo) (s.gdr + hi)
-  gdr_started lo hi beside fits = part s.gdr lo hi gdr_in fits ((λ e. beside), ((λ e. absurd (before_end s.gdr gdr_in e)), tt))
-
-  -- the bytes before the first record
-  pub front_started : Same b now 0 8
-  front_started =
-      let low = (tile_lies b 8 (length b) s.records s.gdr h.tiled gdr_in).low in
-      let l = gdr_long in
-      let high = (tile_lies b 8 (length b) s.records s.gdr h.tiled gdr_in).high in
-      record { each = λ i from upto. started.changed.same i (omega arith) (inl (omega arith), (inl (omega arith), tt)) }
-
--- ---- so long as no other records are read
+-- ---- so long as no variables are read
 
 module _ (b : List ℕ) (s : Shape) (good : IsGoodImage b s) where
   no_record : (type m : ℕ) → is_in type read_types ≡ false → is_linkable b s.records type m ≡ true → ⊥
@@ -101,10 +193,6 @@ module _ (b : List ℕ) (s : Shape) (good : IsGoodImage b s) where
   no_variable [] none = refl
   no_variable (v ∷ more) none = absurd (none v.vdr (inl refl))
 
-  no_member : (ms : List ℕ) → ((m : ℕ) → In m ms → ⊥) → ms ≡ []
-  no_member [] none = refl
-  no_member (m ∷ more) none = absurd (none m (inl refl))
-
   pub no_r_variables : s.r_variables ≡ []
   no_r_variables = no_variable s.r_variables (λ m i. no_record r_vdr_type m refl (good.has_shape.r_chain.linkable m i))
 
@@ -113,6 +201,3 @@ module _ (b : List ℕ) (s : Shape) (good : IsGoodImage b s) where
 
   pub no_variables : variables s ≡ []
   no_variables = ap₂ (λ (x y : List VariableShape). x ++ y) no_r_variables no_z_variables
-
-  pub no_unused : s.unused ≡ []
-  no_unused = no_member s.unused (λ m i. no_record uir_type m refl (good.has_shape.unused_chain.linkable m i))

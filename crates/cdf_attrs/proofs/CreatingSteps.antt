@@ -3,12 +3,13 @@ use Rattle.std.proofs.Common.{◌≡◌, ◌≢◌, ◌⊎◌, ℕ, ◌+◌, ◌
 use Rattle.std.specs.Prelude.{if◌then◌else◌}
 use Rattle.cdf_base.specs.Bytes.{put}
 use Rattle.cdf_format.specs.Alone.{linked_types, IsSound, ChangedWithin}
-use Rattle.cdf_format.specs.Changed.{Touch, touch, touched_field, Changed, Placed}
+use Rattle.cdf_format.specs.Changed.{Same, Touch, touch, touched_field, Changed, Placed}
 use Rattle.cdf_format.specs.Chains.{next_field, is_a, is_in, is_linkable, IsChain}
 use Rattle.cdf_format.specs.Content.{content}
 use Rattle.cdf_format.specs.Fields.{number, size_at, type_at, gdr_offset, with_field}
+use Rattle.cdf_format.specs.Placement.{with_space}
 use Rattle.cdf_format.specs.Records.{Field, gdr_adr_head, gdr_eof, gdr_num_attr}
-use Rattle.cdf_format.specs.RecordTypes.{gdr_type, adr_type, is_record_type, fixed_size}
+use Rattle.cdf_format.specs.RecordTypes.{gdr_type, adr_type, uir_type, is_record_type, fixed_size}
 use Rattle.cdf_format.specs.Shape.{Shape, adrs, HasShape, adr_chain}
 use Rattle.cdf_format.specs.Tiles.{In, AreTiles, tiles}
 use Rattle.cdf_format.specs.Walks.{records_of}
@@ -17,84 +18,93 @@ use Rattle.cdf_format.proofs.ChainsLemmas.{is_a-in, is_a-type, is_a-from, linkab
 use Rattle.cdf_format.proofs.ChangedLemmas.{changed_put, changed_then, changed_part}
 use Rattle.cdf_format.proofs.Filled.{filled_stays_sound}
 use Rattle.cdf_format.proofs.LinksKept.{tiles_same}
-use Rattle.cdf_format.proofs.Members.{In-append_right, is_in-false}
+use Rattle.cdf_format.proofs.Members.{is_in-false}
 use Rattle.cdf_format.proofs.ShapeLemmas.{tiles_are, adr_chain_is}
 use Rattle.cdf_format.proofs.StaysSound.{file_stays_sound}
+use Rattle.cdf_format.proofs.TakesKept.{KeepsTaken, takes_keep, takes_longest}
 use Rattle.cdf_format.proofs.TilesLemmas.{tile_lies, tiling_complete}
 use Rattle.cdf_format.proofs.UsedRecords.{apart}
-use Rattle.cdf_fields.proofs.Writes.{field_reads, length-with_field, other_bytes, other_words, word-put_outside}
+use Rattle.cdf_fields.proofs.Writes.{field_reads, length-with_field, other_bytes, word-put_outside}
 use Rattle.cdf_space.specs.declared.chain.Chain.TheVariants.{Attrs}
 use Rattle.cdf_space.specs.ChainCalls.{HasChain, MayJoin, members_of, link_behind, Appended}
 use Rattle.cdf_attrs.specs.Creating.{adr_body}
 use Rattle.cdf_attrs.proofs.CreatingBody.{IsName, length-body, type_written, adr_written}
 use Rattle.cdf_attrs.proofs.CreatingGood.{IsMade}
 use Rattle.cdf_attrs.proofs.CreatingLink.{IsLast, IsWritten, heads_same, offset_same}
-use Rattle.cdf_attrs.proofs.CreatingPlaced.{IsPlaced}
 use Rattle.cdf_attrs.proofs.CreatingRules.{IsNewAdr}
-use Rattle.cdf_attrs.proofs.CreatingStart.{with_record, IsStarted, before_end}
+use Rattle.cdf_attrs.proofs.CreatingStart.{IsPlaced, IsStarted, used_apart, gdr_apart, old_beside, filled_keeps, filled_listed}
 
 -- ---- the record is filled
 
 -- an ADR that is not yet linked
-pub record IsFilled (b now : List ℕ) (s : Shape) (scope : ℕ) (name : List ℕ) : Type 0 where
-  pub started : IsStarted b now s
-  pub new : IsNewAdr now (length b) scope (length s.attributes) name
+pub record IsFilled (b now : List ℕ) (s : Shape) (records list : List ℕ) (place : ℕ) (scope : ℕ) (name : List ℕ) : Type 0 where
+  pub started : IsStarted b now s records list place
+  pub new : IsNewAdr now place scope (length s.attributes) name
 
-module _ (b mid : List ℕ) (s : Shape) (scope : ℕ) (name : List ℕ) (sound : IsSound b s) (placed : IsPlaced b mid s) (named : IsName name) (small_scope : scope < 2 ^ 32) (small_num : length s.attributes < 2 ^ 32) where
+module _ (b mid : List ℕ) (s : Shape) (records list : List ℕ) (place : ℕ) (scope : ℕ) (name : List ℕ) (sound : IsSound b s) (placed : IsPlaced b mid s records list place) (named : IsName name) (small_scope : scope < 2 ^ 32) (small_num : length s.attributes < 2 ^ 32) where
   abbrev body : List ℕ
   body = adr_body scope (length s.attributes) name
 
   abbrev filled : List ℕ
-  filled = put mid (length b + 8) body
+  filled = put mid (place + 8) body
+
+  abbrev grown_by : Shape
+  grown_by = with_space s records list
+
+  keeps : KeepsTaken b mid s records place
+  keeps = takes_keep b mid s grown_by 324 place sound (omega arith) placed.takes
 
   long_body : length body ≡ 316
   long_body = length-body scope (length s.attributes) name named.short
 
-  room : length b + 324 ≤ length mid
-  room = omega (arith, placed.length_is)
+  room : place + 324 ≤ length mid
+  room =
+      let h = placed.sound.has_shape in
+      let l = tile_lies mid 8 (length mid) records place h.tiled (is_a-in mid records uir_type place placed.takes.stands) in
+      at (size_at mid place) placed.takes.size_is l.high
+    where
+      at : (n : ℕ) → n ≡ 324 → place + n ≤ length mid → place + 324 ≤ length mid
+      at n e l = omega arith
 
   as_long : length filled ≡ length mid
-  as_long = let l = placed.length_is in length-put mid (length b + 8) body (omega (arith, long_body))
+  as_long = let l = room in length-put mid (place + 8) body (omega (arith, long_body))
 
-  change : Changed mid filled (touch (length b) 8 316 ∷ [])
-  change = changed_put mid (length b) 8 316 body long_body (omega (arith, placed.length_is))
+  change : Changed mid filled (touch place 8 316 ∷ [])
+  change = let l = room in changed_put mid place 8 316 body long_body (omega arith)
 
-  type_is : type_at filled (length b) ≡ adr_type
-  type_is = type_written mid (length b) scope (length s.attributes) name named small_scope small_num room
+  type_is : type_at filled place ≡ adr_type
+  type_is = type_written mid place scope (length s.attributes) name named small_scope small_num room
 
-  pub sound_filled : IsSound filled (with_record s (length b)) × (content filled ≡ content mid)
-  sound_filled = filled_stays_sound mid filled (with_record s (length b)) (length b) placed.sound placed.stands placed.unlisted as_long
-      (subst (λ (n : ℕ). Changed mid filled (touch (length b) 8 (n - 8) ∷ [])) (sym placed.size_is) change)
+  sound_filled : IsSound filled grown_by × (content filled ≡ content mid)
+  sound_filled = filled_stays_sound mid filled grown_by place placed.sound placed.takes.stands placed.takes.unlisted as_long
+      (subst (λ (n : ℕ). Changed mid filled (touch place 8 (n - 8) ∷ [])) (sym placed.takes.size_is) change)
       (subst (λ (t : ℕ). is_record_type t ≡ true) (sym type_is) refl)
-      (subst (λ (t : ℕ). fixed_size t ≤ size_at mid (length b)) (sym type_is) (subst (λ (n : ℕ). 324 ≤ n) (sym placed.size_is) (omega arith)))
+      (subst (λ (t : ℕ). fixed_size t ≤ size_at mid place) (sym type_is) (subst (λ (n : ℕ). 324 ≤ n) (sym placed.takes.size_is) (omega arith)))
 
-  gdr_before : s.gdr + 84 ≤ length b
-  gdr_before =
+  gdr_end : number filled s.gdr gdr_eof ≡ number mid s.gdr gdr_eof
+  gdr_end =
       let h = sound.has_shape in
       let i = is_a-in b s.records gdr_type s.gdr h.gdr_stands in
       let l = subst (λ (t : ℕ). fixed_size t ≤ size_at b s.gdr) (is_a-type b s.records gdr_type s.gdr h.gdr_stands) (h.fixed s.gdr i) in
-      let high = (tile_lies b 8 (length b) s.records s.gdr h.tiled i).high in
-      reach s.gdr (size_at b s.gdr) (length b) l high
-    where
-      reach : (x k l : ℕ) → 84 ≤ k → x + k ≤ l → x + 84 ≤ l
-      reach x k l p q = omega arith
+      word_kept mid filled (s.gdr + 36) (s.gdr + 44) (old_beside b mid filled s records list place sound keeps placed change s.gdr 36 44 i (gdr_apart b mid s records place sound keeps) (omega arith)) (s.gdr + 36) 8 (omega arith) (omega arith)
 
-  pub is_filled : IsFilled b filled s scope name
+  pub is_filled : IsFilled b filled s records list place scope name
   is_filled =
-      let g = gdr_before in
-      let l = placed.length_is in
+      let r = room in
       let all = long_body in
       record {
         started = record {
-          changed = changed_then b mid filled (touched_field s.gdr gdr_eof ∷ []) (touch (length b) 8 316 ∷ []) placed.changed change;
-          length_is = as_long ∙ placed.length_is;
+          keeps = filled_keeps b mid filled s records list place sound keeps placed change;
+          listed = filled_listed b mid filled s records list place sound keeps placed change as_long;
+          shorter = omega (arith, as_long, takes_longest b mid s grown_by 324 place sound (omega arith) placed.takes);
           sound = sound_filled.0;
           content_stays = sound_filled.1 ∙ placed.content_stays;
-          eof_is = word-put_outside mid body (length b + 8) (s.gdr + 36) 8 (omega arith) (inl (omega arith)) ∙ placed.eof_is ∙ sym as_long;
+          eof_is = gdr_end ∙ placed.takes.eof_is ∙ sym as_long;
+          stands = is_a-in mid records uir_type place placed.takes.stands;
           type_is = type_is;
-          size_is = word-put_outside mid body (length b + 8) (length b + 0) 8 (omega arith) (inl (omega arith)) ∙ placed.size_is;
+          size_is = word-put_outside mid body (place + 8) (place + 0) 8 (omega arith) (inl (omega arith)) ∙ placed.takes.size_is;
         };
-        new = adr_written mid (length b) scope (length s.attributes) name named small_scope small_num room;
+        new = adr_written mid place scope (length s.attributes) name named small_scope small_num room;
       }
 
 -- ---- the count rises
@@ -125,6 +135,12 @@ module _ (mid : List ℕ) (s : Shape) (sound : IsSound mid s) (count : ℕ) wher
     longer = omega (arith, length_counted);
     same = λ i lt out. other_bytes mid s.gdr gdr_num_attr count i (let l = count_inside in omega arith) out.0;
   }
+
+  pub start_counted : (m : ℕ) → In m s.records → Same mid counted (m + 0) (m + 12)
+  start_counted m i =
+      let l = gdr_long in
+      let h = sound.has_shape in
+      changed_part mid counted s.records (length mid) h.tiled (omega arith) (touched_field s.gdr gdr_num_attr ∷ []) change_counted (inl (gdr_in, omega arith), tt) m 0 12 i (tile_lies mid 8 (length mid) s.records m h.tiled i).long ((λ e. inl (omega arith)), tt)
 
   pub count_reads : count < 2 ^ 32 → number counted s.gdr gdr_num_attr ≡ count
   count_reads small = field_reads mid s.gdr gdr_num_attr count (let l = count_inside in omega arith) small
@@ -179,12 +195,9 @@ last_link s ms sub = elim (behind s.gdr gdr_adr_head ms) [ inl e ↦ inl e | inr
     behind holder f [] = inl refl
     behind holder f (m ∷ more) = elim (behind m next_field more) [ inl e ↦ inr (m, inl refl, e) | inr g ↦ inr (g.0, inr g.1, g.2) ]
 
-module _ (b mid now : List ℕ) (s : Shape) (scope : ℕ) (name : List ℕ) (sound : IsSound b s) (filled : IsFilled b mid s scope name) (small_num : length s.attributes + 1 < 2 ^ 32) where
-  abbrev place : ℕ
-  place = length b
-
+module _ (b mid now : List ℕ) (s : Shape) (records list : List ℕ) (place : ℕ) (scope : ℕ) (name : List ℕ) (sound : IsSound b s) (filled : IsFilled b mid s records list place scope name) (small_num : length s.attributes + 1 < 2 ^ 32) where
   abbrev grown : Shape
-  grown = with_record s place
+  grown = with_space s records list
 
   mid_sound : IsSound mid grown
   mid_sound = filled.started.sound
@@ -195,30 +208,28 @@ module _ (b mid now : List ℕ) (s : Shape) (scope : ℕ) (name : List ℕ) (sou
   pub raised_sound : IsSound raised grown
   raised_sound = sound_counted mid grown mid_sound (length s.attributes + 1)
 
-  stands : is_a mid grown.records adr_type place ≡ true
-  stands = is_a-from mid grown.records adr_type place (In-append_right place s.records (place ∷ []) (inl refl)) filled.started.type_is
+  in_grown : In place records
+  in_grown = filled.started.stands
 
-  gdr_before_end : s.gdr + 84 ≤ place
-  gdr_before_end =
-      let h = sound.has_shape in
-      let i = is_a-in b s.records gdr_type s.gdr h.gdr_stands in
-      let l = subst (λ (t : ℕ). fixed_size t ≤ size_at b s.gdr) (is_a-type b s.records gdr_type s.gdr h.gdr_stands) (h.fixed s.gdr i) in
-      let high = (tile_lies b 8 (length b) s.records s.gdr h.tiled i).high in
-      reach s.gdr (size_at b s.gdr) (length b) l high
-    where
-      reach : (x k l : ℕ) → 84 ≤ k → x + k ≤ l → x + 84 ≤ l
-      reach x k l p q = omega arith
+  stands : is_a mid grown.records adr_type place ≡ true
+  stands = is_a-from mid grown.records adr_type place in_grown filled.started.type_is
+
+  raised_start : Same mid raised (place + 0) (place + 12)
+  raised_start = start_counted mid grown mid_sound (length s.attributes + 1) place in_grown
 
   raised_size : size_at raised place ≡ 324
-  raised_size = other_words mid s.gdr gdr_num_attr (length s.attributes + 1) (place + 0) 8 (let l = count_inside mid grown mid_sound (length s.attributes + 1) in omega arith) (inr (let g = gdr_before_end in omega arith)) ∙ filled.started.size_is
+  raised_size = word_kept mid raised (place + 0) (place + 12) raised_start (place + 0) 8 (omega arith) (omega arith) ∙ filled.started.size_is
 
   raised_stands : is_a raised grown.records adr_type place ≡ true
-  raised_stands =
-      let same = other_words mid s.gdr gdr_num_attr (length s.attributes + 1) (place + 8) 4 (let l = count_inside mid grown mid_sound (length s.attributes + 1) in omega arith) (inr (let g = gdr_before_end in omega arith)) in
-      is_a-from raised grown.records adr_type place (In-append_right place s.records (place ∷ []) (inl refl)) (same ∙ filled.started.type_is)
+  raised_stands = is_a-from raised grown.records adr_type place in_grown (word_kept mid raised (place + 0) (place + 12) raised_start (place + 8) 4 (omega arith) (omega arith) ∙ filled.started.type_is)
+
+  not_linked : In place (adrs s) → ⊥
+  not_linked i =
+      let ok = sound.has_shape.attribute_chain.linkable place i in
+      used_apart b mid s records place sound filled.started.keeps place (linkable-in b s.records adr_type place ok) (λ u. apart adr_type uir_type refl (sym (linkable-type b s.records adr_type place ok) ∙ u)) refl
 
   pub joins : MayJoin raised Attrs place
-  joins = may_join raised grown raised_sound.has_shape place raised_stands (subst (λ (n : ℕ). 28 ≤ n) (sym raised_size) (omega arith)) (λ i. before_end b mid s sound filled.started place (linkable-in b s.records adr_type place (sound.has_shape.attribute_chain.linkable place i)) refl)
+  joins = may_join raised grown raised_sound.has_shape place raised_stands (subst (λ (n : ℕ). 28 ≤ n) (sym raised_size) (omega arith)) not_linked
 
   module _ (appended : Appended raised now Attrs place) where
     abbrev link : Touch
@@ -292,10 +303,10 @@ module _ (b mid now : List ℕ) (s : Shape) (scope : ℕ) (name : List ℕ) (sou
         ) in
         word_kept raised now (s.gdr + 48) (s.gdr + 52) same (s.gdr + 48) 4 (omega arith) (omega arith) ∙ count_reads mid grown mid_sound (length s.attributes + 1) small_num
 
-    pub is_made : IsMade b mid now s scope name
+    pub is_made : IsMade b mid now s records list place scope name
     is_made = record {
       started = filled.started;
       linked = record { written = written; chain = chain; no_gr = filled.new.no_gr; no_z = filled.new.no_z };
-      new = filled.new;
+      says = filled.new;
       count_is = count_now;
     }

@@ -7,7 +7,6 @@ pub mod RenamedImage
 pub mod RenamedRules
 pub mod RenamedFollows
 pub mod CreatingBody
-pub mod CreatingPlaced
 pub mod CreatingSteps
 pub mod CreatingRun
 pub mod CreatingAnswers

@@ -47,5 +47,10 @@ pub fn fixed_size(record_type: u32) -> u64
 pub fn is_read(record_type: u32) -> bool
     ensures { result ≡ is_in record_type read_types }
 {
-    record_type == CDR || record_type == GDR || record_type == ADR
+    record_type == CDR
+        || record_type == GDR
+        || record_type == ADR
+        || record_type == AGR_EDR
+        || record_type == AZ_EDR
+        || record_type == UIR
 }

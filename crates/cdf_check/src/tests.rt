@@ -71,7 +71,7 @@ fn no(phase: u8, rule: u8, at: u64) -> Verdict {
 #[test]
 fn judges_each_change(rt: HostRuntime) -> Result<(), Fail> {
     let alloc = rt.alloc();
-    let table: [(&str, usize, &[(usize, u32)], Verdict); 30] = [
+    let table: [(&str, usize, &[(usize, u32)], Verdict); 33] = [
         ("a new file", 404, &[], Verdict::Yes),
         ("cut in the magic numbers", 7, &[], no(0, 1, 0)),
         (
@@ -134,6 +134,30 @@ fn judges_each_change(rt: HostRuntime) -> Result<(), Fail> {
             416,
             &[(360, 416), (408, 12), (412, 7)],
             no(4, 99, 404),
+        ),
+        (
+            "an unused record of 12 bytes",
+            416,
+            &[(360, 416), (408, 12), (412, u32::MAX)],
+            Verdict::Yes,
+        ),
+        (
+            "an unused record on the list",
+            432,
+            &[(360, 432), (388, 404), (408, 28), (412, u32::MAX)],
+            Verdict::Yes,
+        ),
+        (
+            "NextUIR 320",
+            432,
+            &[
+                (360, 432),
+                (388, 404),
+                (408, 28),
+                (412, u32::MAX),
+                (420, 320),
+            ],
+            no(5, 11, 404),
         ),
         (
             "a third record of 11 bytes",

@@ -42,6 +42,7 @@ pub mod Filled
 pub mod UnusedLists
 pub mod TakenListed
 pub mod TakenWays
+pub mod TakesKept
 pub mod NameRules
 pub mod FirstRules
 pub mod AttributeRulesKept
