@@ -75,6 +75,52 @@ fn attributes_are_listed_and_renamed(rt: HostRuntime) -> Result<(), Fail> {
     Ok(())
 }
 
+/// An unused record on the list, of so many bytes, that ends the file.
+const fn unused(size: u32) -> [(usize, u32); 4] {
+    [(360, 404 + size), (388, 404), (408, size), (412, u32::MAX)]
+}
+
+/// The attribute behind an unused record of 330 bytes, which is too short for it and a rest.
+const BEHIND: &[(usize, u32)] = &[
+    (352, 734),
+    (360, 1058),
+    (368, 1),
+    (388, 404),
+    (408, 330),
+    (412, u32::MAX),
+    (738, 324),
+    (742, 4),
+    (762, 1),
+    (774, u32::MAX),
+    (794, u32::MAX),
+    (798, u32::MAX),
+    (802, 0x5072_6f6a),
+    (806, 0x6563_7400),
+];
+
+#[test]
+fn an_attribute_takes_an_unused_record(rt: HostRuntime) -> Result<(), Fail> {
+    let alloc = rt.alloc();
+    let mut split = Vec::from_slice(alloc, WITH_ATTRIBUTE)?;
+    split.extend_from_slice(&[(360, 756), (388, 728), (732, 28), (736, u32::MAX)])?;
+    let table = [
+        (324, 728, WITH_ATTRIBUTE),
+        (352, 756, &split),
+        (330, 1058, BEHIND),
+    ];
+    for (size, length, changes) in table {
+        let old = changed_file(alloc, 404 + size as usize, &unused(size))?;
+        let ran = run_over(alloc, &["a.cdf"], &old, b"attr Project global\n", &SOUND)?;
+        assert_eq!(rt; ran.text.as_slice(), b"1 ok\n".as_slice(), "{size}");
+        assert_eq!(rt;
+            ran.file.as_slice(),
+            changed_file(alloc, length, changes)?.as_slice(),
+            "{size}"
+        );
+    }
+    Ok(())
+}
+
 /// A run that makes an attribute whose name is so many letters.
 fn name_of(alloc: Global, letters: usize) -> Result<Ran, Fail> {
     let new = changed_file(alloc, 404, &[])?;
