@@ -1,13 +1,14 @@
--- What a script makes of a data set where all commands are there.
+-- What a script makes of a data set where all commands are there, and no file is full.
 use Rattle.std.specs.Prelude.{ℕ, ◌+◌, List, [], ◌∷◌, ◌++◌, Bool, false, Some}
 use Rattle.std.specs.List.{flat_map, fold}
 use Rattle.std.specs.declared.option.Option.{Option}
 use Rattle.cdf_model.specs.DataSet.{DataSet}
 use Rattle.cdf_model.specs.Grammar.{Parsed, Blank, Asks, Faulty, parse}
 use Rattle.cdf_model.specs.Lines.{lines}
-use Rattle.cdf_model.specs.Run.{Turn, answered, faulty, State, start, after}
-use Rattle.cdf_model.specs.Step.{step}
-use Rattle.cdf_format.specs.Locality.{is_too_large}
+use Rattle.cdf_model.specs.Limits.{image_limit}
+use Rattle.cdf_model.specs.Run.{Turn, asked, faulty, State, start, after}
+use Rattle.cdf_model.specs.Step.{route_of}
+use Rattle.cdf_format.specs.Locality.{is_full}
 use Rattle.cdf_format.specs.Room.{room}
 
 -- texts, each with a newline
@@ -16,16 +17,16 @@ text_lines texts = flat_map (λ text. text ++ 10 ∷ []) texts
 
 -- the line of number n
 abbrev pub full_turn : DataSet → ℕ → Parsed → Turn
-full_turn d n Blank = record { data_set = d; text = []; refused = false }
-full_turn d n (Asks c) = answered d n (step d c)
-full_turn d n (Faulty fault) = faulty d n fault
+full_turn d n Blank = record { data_set = d; taps = []; text = []; refused = false }
+full_turn d n (Asks c) = asked d [] n c (route_of c) false
+full_turn d n (Faulty fault) = faulty d [] n fault
 
 abbrev pub full_advance : State → Option (List ℕ) → State
 full_advance s line = after s (full_turn s.data_set (s.count + 1) (parse line))
 
 -- the run of a script of these lines
 unfoldable pub run_script : DataSet → List (List ℕ) → State
-run_script d script = fold full_advance (start d) (lines (text_lines script))
+run_script d script = fold full_advance (start d []) (lines (text_lines script))
 
 -- all replies, and the data set that is left
 abbrev pub replies : DataSet → List (List ℕ) → List ℕ
@@ -40,7 +41,7 @@ room_for b line = elim (parse (Some line)) [ Blank ↦ 0 | Asks c ↦ room b c |
 
 -- that command would make the image too large
 abbrev pub makes_too_large : List ℕ → List ℕ → Bool
-makes_too_large b line = elim (parse (Some line)) [ Blank ↦ false | Asks c ↦ is_too_large b c | Faulty fault ↦ false ]
+makes_too_large b line = elim (parse (Some line)) [ Blank ↦ false | Asks c ↦ is_full image_limit b c | Faulty fault ↦ false ]
 
 -- at least one line is refused
 abbrev pub is_refused : DataSet → List (List ℕ) → Bool

@@ -4,7 +4,6 @@ ghost use Rattle.std.specs.Prelude.{◌≡◌, [], ◌∷◌, length, take, drop
 ghost use Rattle.md5.specs.Md5.{md5};
 ghost use Rattle.cdf_format.specs.Content.{content};
 ghost use Rattle.cdf_format.specs.Owners.{owned, space_of};
-ghost use Rattle.cdf_format.specs.Phases.{KeepsAllRules};
 ghost use Rattle.cdf_format.specs.Sealed.{sealed};
 ghost use Rattle.cdf_format.specs.Shape.{shape};
 ghost use Rattle.cdf_format.specs.WellFormed.{WellFormed};
@@ -27,7 +26,6 @@ pub fn two_records()
     ensures owned { owned new_file new_shape ≡ new_owned }
     ensures space { space_of new_file new_shape ≡ new_space }
     ensures content { content new_file ≡ new_data_set }
-    ensures rules { KeepsAllRules new_file }
     ensures well_formed { WellFormed new_file }
 {}
 

@@ -4,7 +4,7 @@ ghost use Rattle.std.specs.Prelude.{◌≡◌, [], ◌∷◌, ◌++◌, length, 
 ghost use Rattle.cdf_format.specs.Blocks.{range, ranges_after_put, ranges_after_cut};
 ghost use Rattle.cdf_format.specs.Content.{content};
 ghost use Rattle.cdf_format.specs.Index.{no_node};
-ghost use Rattle.cdf_format.specs.Locality.{stays_in_place, Puts, Deletes};
+ghost use Rattle.cdf_format.specs.BlocksFollow.{stays_in_place, Puts, Deletes};
 ghost use Rattle.cdf_format.specs.Owners.{owned, space_of};
 ghost use Rattle.cdf_format.specs.Shape.{shape};
 ghost use Rattle.cdf_model.specs.declared.kinds.Kind.TheVariants as kinds;

@@ -23,13 +23,12 @@ use Rattle.cdf_format.specs.FieldsFollow.{max_field, FieldsFollow}
 use Rattle.cdf_format.specs.Locality.{only_reads, Follows}
 use Rattle.cdf_format.specs.NodesFollow.{NodesFollow}
 use Rattle.cdf_format.specs.Owners.{Owner, owned}
-use Rattle.cdf_format.specs.Phases.{KeepsAllRules}
 use Rattle.cdf_format.specs.RecordsFollow.{RecordsFollow}
 use Rattle.cdf_format.specs.Sealed.{trailer, trailer_length, sealed}
 use Rattle.cdf_format.specs.Shape.{AttributeShape, shape}
 use Rattle.cdf_format.specs.SpaceFollows.{SpaceLeft, space_before, HasLeft, SpaceFollows}
 use Rattle.cdf_format.specs.Tiles.{In}
-use Rattle.cdf_format.specs.WellFormed.{Good}
+use Rattle.cdf_format.specs.WellFormed.{WellFormed, Good}
 use Rattle.cdf_format.proofs.ListStays.{back_links_stay}
 use Rattle.cdf_format.proofs.Tests.{le_of}
 use Rattle.cdf_format.proofs.TilesLemmas.{tile_lies}
@@ -42,7 +41,7 @@ use Rattle.cdf_format.proofs.Owning.{owned_stand}
 use Rattle.cdf_format.proofs.SealedRules.{sealed_kept}
 
 -- a good image keeps all rules once it is sealed
-pub rules_of_good : (b : List ℕ) → Good b → KeepsAllRules (sealed b)
+pub rules_of_good : (b : List ℕ) → Good b → WellFormed (sealed b)
 rules_of_good b good = good
 
 good_is_long : (b : List ℕ) → Good b → 44 ≤ length b

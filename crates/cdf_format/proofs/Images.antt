@@ -13,8 +13,3 @@ pub image_of-whole : (f : List ℕ) → WellFormed f → image_of f ≡ f
 image_of-whole f holds =
     let none : has_checksum f ≡ false = no_checksum (has_checksum f) holds.1.1.0.1.1.1.1.1.1.0 in
     rw none (take_all (length f - 0) f (omega arith))
-
-pub sealed-image_of : (f : List ℕ) → WellFormed f → sealed (image_of f) ≡ f
-sealed-image_of f holds =
-    let none : has_checksum f ≡ false = no_checksum (has_checksum f) holds.1.1.0.1.1.1.1.1.1.0 in
-    ap sealed (image_of-whole f holds) ∙ rw none (append-nil f)

@@ -6,7 +6,8 @@ use Rattle.std.specs.Prelude.{bytes_eq, if◌then◌else◌}
 use Rattle.md5.specs.Md5.{md5}
 use Rattle.cdf_format.specs.Rules.{row, Hold, asked, AllHold}
 use Rattle.cdf_format.specs.Sealed.{has_checksum, trailer, image_of, sealed}
-use Rattle.cdf_format.specs.Phases.{phase10, first_phases, image_phases, KeepsAllRules}
+use Rattle.cdf_format.specs.Phases.{phase10, first_phases, image_phases}
+use Rattle.cdf_format.specs.WellFormed.{WellFormed}
 use Rattle.cdf_format.specs.GoodImage.{IsGoodImage}
 use Rattle.cdf_format.specs.Shape.{Shape, shape}
 use Rattle.cdf_format.proofs.Members.{either}
@@ -43,14 +44,14 @@ trailer_rule b long =
       | inr e ↦ subst (λ (p : Bool). Hold (asked p (row 1 (length (image_of (sealed b))) (bytes_eq (drop (length (image_of (sealed b))) (sealed b)) (md5 (image_of (sealed b)))) ∷ []))) (sym (flags ∙ e)) tt
     ]
 
-pub sealed_keeps : (b : List ℕ) (s : Shape) → AllHold (first_phases (sealed b)) → IsGoodImage b s → KeepsAllRules (sealed b)
+pub sealed_keeps : (b : List ℕ) (s : Shape) → AllHold (first_phases (sealed b)) → IsGoodImage b s → WellFormed (sealed b)
 sealed_keeps b s first g =
     let long = good_long b s g in
     let image : AllHold (image_phases (image_of (sealed b))) = subst (λ (x : List ℕ). AllHold (image_phases x)) (sym (image_of-sealed b long)) (rules_by_good b s g) in
     let last = trailer_rule b long in
     (first.0, (first.1.0, (first.1.1.0, (first.1.1.1.0, (image.0, (image.1.0, (image.1.1.0, (image.1.1.1.0, (image.1.1.1.1.0, (image.1.1.1.1.1.0, (last, tt)))))))))))
 
-pub sealed_kept : (b : List ℕ) → 44 ≤ length b → KeepsAllRules (sealed b) → AllHold (first_phases (sealed b)) × IsGoodImage b (shape b)
+pub sealed_kept : (b : List ℕ) → 44 ≤ length b → WellFormed (sealed b) → AllHold (first_phases (sealed b)) × IsGoodImage b (shape b)
 sealed_kept b long rules = (
   (rules.0, (rules.1.0, (rules.1.1.0, (rules.1.1.1.0, tt)))),
   subst (λ (x : List ℕ). IsGoodImage x (shape x)) (image_of-sealed b long) (good_image_of (sealed b) rules),

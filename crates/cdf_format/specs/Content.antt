@@ -12,7 +12,7 @@ use Rattle.cdf_model.specs.RunLengths.{plain_of}
 use Rattle.cdf_model.specs.Types.{size_of}
 use Rattle.cdf_format.specs.Fields.{number, integer4, has_bit, name_in, release, encoding, flags, increment, r_sizes, attributes, r_variables, z_variables, gdr_offset}
 use Rattle.cdf_format.specs.Records.{adr_name, adr_scope, aedr_data_type, aedr_num, aedr_num_elems, aedr_value, vdr_blocking_factor, vdr_name, vvr_records, cvvr_c_size, cvvr_packed}
-use Rattle.cdf_format.specs.Sealed.{has_checksum, image_of}
+use Rattle.cdf_format.specs.Sealed.{has_checksum}
 use Rattle.cdf_format.specs.Stored.{field_bytes, is_little, data_type_in, network_bytes}
 use Rattle.cdf_format.specs.Index.{Leaf, leaves_of}
 use Rattle.cdf_format.specs.Shape.{AttributeShape, VariableShape, Shape, is_compressed, shape}
@@ -116,7 +116,3 @@ head_by_fields b = record {
   rvars = r_variables b (gdr_offset b);
   zvars = z_variables b (gdr_offset b);
 }
-
--- what a file means: its image, without the trailer
-abbrev pub data_set_of : List ℕ → DataSet
-data_set_of f = content (image_of f)

@@ -91,12 +91,6 @@ abbrev pub increment : List ℕ → ℤ
 increment b = integer4 b 8 cdr_increment
 
 -- The Global Descriptor Record stands at a place g.
-abbrev pub r_variable_head : List ℕ → ℕ → ℕ
-r_variable_head b g = number b g gdr_r_vdr_head
-
-abbrev pub z_variable_head : List ℕ → ℕ → ℕ
-z_variable_head b g = number b g gdr_z_vdr_head
-
 abbrev pub attribute_head : List ℕ → ℕ → ℕ
 attribute_head b g = number b g gdr_adr_head
 

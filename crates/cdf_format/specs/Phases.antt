@@ -2,7 +2,7 @@
 use Rattle.std.specs.Prelude.{ℕ, List, [], ◌∷◌, ◌++◌, length, drop, bytes_eq, ◌==◌}
 use Rattle.std.specs.List.{flat_map}
 use Rattle.md5.specs.Md5.{md5}
-use Rattle.cdf_format.specs.Rules.{Row, row, asked, AllHold}
+use Rattle.cdf_format.specs.Rules.{Row, row, asked}
 use Rattle.cdf_format.specs.Sealed.{has_checksum, image_of}
 use Rattle.cdf_format.specs.Tiles.{tiles}
 use Rattle.cdf_format.specs.Owners.{times, owned_records}
@@ -35,7 +35,3 @@ first_phases f = phase0 f ∷ phase1 f ∷ phase2 f ∷ phase3 f ∷ []
 
 abbrev pub all_phases : List ℕ → List (List Row)
 all_phases f = first_phases f ++ image_phases (image_of f) ++ phase10 f ∷ []
-
--- each rule of all phases holds
-abbrev pub KeepsAllRules : List ℕ → Type 0
-KeepsAllRules f = AllHold (all_phases f)

@@ -20,7 +20,7 @@ ghost use Rattle.cdf_format.specs.Links.{ChainHead, with_members, IsHead, AllSpa
 ghost use Rattle.cdf_format.specs.Locality.{only_reads, Follows};
 ghost use Rattle.cdf_format.specs.NewFile.{new_image};
 ghost use Rattle.cdf_format.specs.Owners.{space_of, times, owned_records, attribute_records, variable_records, unused_records};
-ghost use Rattle.cdf_format.specs.Phases.{first_phases, image_phases, KeepsAllRules};
+ghost use Rattle.cdf_format.specs.Phases.{first_phases, image_phases};
 ghost use Rattle.cdf_format.specs.Placement.{with_space};
 ghost use Rattle.cdf_format.specs.Records.{Field};
 ghost use Rattle.cdf_format.specs.RecordTypes.{cdr_type, uir_type, is_record_type, fixed_size};
@@ -88,10 +88,10 @@ pub fn good_by_shape()
     ensures to_rules { (b : List ℕ) (s : Shape) → IsGoodImage b s → AllHold (image_phases b) }
 {}
 
-/// In the image of a file that keeps all rules, each link that is followed leads to a record of the image; so do the entries of indexes and the links to parameters.
+/// In the image of a well-formed file, each link that is followed leads to a record of the image; so do the entries of indexes and the links to parameters.
 pub fn tile_of()
-    ensures shaped { (f : List ℕ) → KeepsAllRules f → HasShape (image_of f) (shape (image_of f)) }
-    ensures owned { (f : List ℕ) (place : ℕ) → KeepsAllRules f → In place (owned_records (image_of f) (shape (image_of f))) → In place (shape (image_of f)).records }
+    ensures shaped { (f : List ℕ) → WellFormed f → HasShape (image_of f) (shape (image_of f)) }
+    ensures owned { (f : List ℕ) (place : ℕ) → WellFormed f → In place (owned_records (image_of f) (shape (image_of f))) → In place (shape (image_of f)).records }
 {}
 
 /// In a good image each record, and nothing else, stands exactly once among the owned ones.
@@ -125,9 +125,9 @@ pub fn link_alone()
     ensures others { (b now records all : List ℕ) (upto holder place : ℕ) (more : List Touch) (c : ChainHead) (front rest : List ℕ) (other : ChainHead) → AreTiles b 8 upto records → upto ≤ length b → ((member : ℕ) → In member records → In member all) → Changed b now (touch holder place 8 ∷ more) → Placed b records upto (touch holder place 8 ∷ more) → IsHead b records (with_members c (front ++ rest)) → IsLinkAfter c front holder place → IsHead b records other → IsOther c front other → AllSpare more other → IsHead now all other }
 {}
 
-/// The image of a file that keeps all rules has records that are long enough for what is read of them, and none is owned twice.
+/// The image of a well-formed file has records that are long enough for what is read of them, and none is owned twice.
 pub fn kept_rules_are_sound()
-    ensures { (f : List ℕ) → KeepsAllRules f → IsSound (image_of f) (shape (image_of f)) }
+    ensures { (f : List ℕ) → WellFormed f → IsSound (image_of f) (shape (image_of f)) }
 {}
 
 /// The image of a sealed image is itself.
@@ -135,10 +135,10 @@ pub fn image_of_sealed()
     ensures { (b : List ℕ) → 44 ≤ length b → image_of (sealed b) ≡ b }
 {}
 
-/// A sealed image keeps all rules exactly where it keeps those on its two first records, and is good by its shape.
+/// A sealed image is well formed exactly where it keeps those on its two first records, and is good by its shape.
 pub fn sealed_keeps_all_rules()
-    ensures from_shape { (b : List ℕ) (s : Shape) → AllHold (first_phases (sealed b)) → IsGoodImage b s → KeepsAllRules (sealed b) }
-    ensures to_shape { (b : List ℕ) → 44 ≤ length b → KeepsAllRules (sealed b) → AllHold (first_phases (sealed b)) × IsGoodImage b (shape b) }
+    ensures from_shape { (b : List ℕ) (s : Shape) → AllHold (first_phases (sealed b)) → IsGoodImage b s → WellFormed (sealed b) }
+    ensures to_shape { (b : List ℕ) → 44 ≤ length b → WellFormed (sealed b) → AllHold (first_phases (sealed b)) × IsGoodImage b (shape b) }
 {}
 
 /// What the records of an image take, and the 8 bytes before them, add up to the image.
@@ -149,11 +149,6 @@ pub fn space_adds_up()
 /// The head of a good image's content is what the fields of its two first records say.
 pub fn head_is_fields()
     ensures { (b : List ℕ) (s : Shape) → IsGoodImage b s → head_of (content b) ≡ head_by_fields b }
-{}
-
-/// A file that keeps all rules is its image, sealed.
-pub fn kept_rules_are_sealed()
-    ensures { (f : List ℕ) → KeepsAllRules f → sealed (image_of f) ≡ f }
 {}
 
 /// The records of an image, one more record behind them.

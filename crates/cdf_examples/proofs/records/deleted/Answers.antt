@@ -26,6 +26,6 @@ returns c = record {
   put = refl;
   made = refl;
   blocks = refl;
-  deletes = record { ranges = refl; packed = λ packed. absurd cc };
+  deletes = record { ranges = refl; packed = λ packed. absurd cc; reserved = (λ packed. absurd cc, tt) };
   room = refl;
 }

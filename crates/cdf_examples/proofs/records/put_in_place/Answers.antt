@@ -4,7 +4,7 @@ use Rattle.cdf_format.specs.Chains.{chain_on}
 use Rattle.cdf_format.specs.Content.{content}
 use Rattle.cdf_format.specs.Index.{nodes_of, lower_nodes, leaves_of, entry_leaves}
 use Rattle.cdf_format.specs.IndexWalk.{entries_on, nodes_on, levels_on}
-use Rattle.cdf_format.specs.Locality.{max_rec_touches, written_in}
+use Rattle.cdf_format.specs.BlocksFollow.{max_rec_touches, written_in}
 use Rattle.cdf_format.specs.Room.{entries_in, entries_below, widest, widest_below}
 use Rattle.cdf_format.specs.Shape.{shape}
 use Rattle.cdf_format.specs.Tiles.{tiles_from}
@@ -23,6 +23,10 @@ returns c = record {
   puts = record {
     ranges = refl;
     in_place = λ stays. (refl, changed_by records_file in_place_file (max_rec_touches records_file kinds.Z 404 ++ written_in records_data (first_written records_data 1) 1 (leaves_of records_index)) (omega arith) refl);
+    others_stay = (λ unwritten. absurd cc, tt);
+    padded = (λ is_new. absurd cc, tt);
+    spare = (λ is_new. absurd cc, tt);
     packed = λ packed. absurd cc;
+    reserved = (λ packed. absurd cc, tt);
   };
 }

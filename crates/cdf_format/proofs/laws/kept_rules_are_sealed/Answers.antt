@@ -1,5 +1,0 @@
-use Rattle.cdf_format.proofs.ImageOf.{sealed_is_file}
-use Rattle.cdf_format.proofs.laws.kept_rules_are_sealed.Goals as goal
-
-pub returns : goal.returns
-returns c = sealed_is_file
