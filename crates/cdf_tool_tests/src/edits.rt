@@ -162,24 +162,45 @@ fn a_second_run_edits_in_place(rt: HostRuntime) -> Result<(), Fail> {
     Ok(())
 }
 
+/// The statuses where each call of a device fails in turn: of the store first those that read, and last the one that writes.
+fn statuses_of(device: usize, call: u64, calls: u64) -> u8 {
+    match device {
+        0 if call == calls => 6,
+        0 => 5,
+        1 => 9,
+        _ => 7,
+    }
+}
+
 #[test]
-fn a_store_that_fails_leaves_old_or_new_bytes(rt: HostRuntime) -> Result<(), Fail> {
+fn a_device_that_fails_leaves_the_old_file(rt: HostRuntime) -> Result<(), Fail> {
     let alloc = rt.alloc();
     let old = changed_file(alloc, 404, &[])?;
     let new = changed_file(alloc, 728, WITH_ATTRIBUTE)?;
-    let script = b"attr Project global\n";
-    let whole = run_over(alloc, &["a.cdf"], &old, script, &SOUND)?;
+    let script = b"attr Project global\nlist\n";
+    let text = b"1 ok\n2 ok\nattribute 0 \"Project\" global\n2 end\n";
+    let sound = Devices { most: 8, ..SOUND };
+    let whole = run_over(alloc, &["a.cdf"], &old, script, &sound)?;
+    assert_eq!(rt; whole.text.as_slice(), text.as_slice());
     assert_eq!(rt; whole.file.as_slice(), new.as_slice());
-    for call in 1..whole.calls[0] + 1 {
-        let devices = Devices {
-            failing: [call, 0, 0],
-            ..SOUND
-        };
-        let ran = run_over(alloc, &["a.cdf"], &old, script, &devices)?;
-        let last = call == whole.calls[0];
-        assert_eq!(rt; ran.status, if last { 6 } else { 5 }, "{call}");
-        assert!(rt; ran.kept, "{call}");
-        assert!(rt; b"1 ok\n".starts_with(&ran.text), "{call}");
+    for (device, calls) in whole.calls.iter().enumerate() {
+        for call in 1..*calls + 1 {
+            let mut failing = [0; 3];
+            failing[device] = call;
+            let devices = Devices {
+                most: 8,
+                failing,
+                ..SOUND
+            };
+            let ran = run_over(alloc, &["a.cdf"], &old, script, &devices)?;
+            assert_eq!(rt;
+                ran.status,
+                statuses_of(device, call, *calls),
+                "{device} {call}"
+            );
+            assert!(rt; ran.kept, "{device} {call}");
+            assert!(rt; text.starts_with(&ran.text), "{device} {call}");
+        }
     }
     Ok(())
 }
