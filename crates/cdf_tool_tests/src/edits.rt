@@ -75,10 +75,12 @@ fn attributes_are_listed_and_renamed(rt: HostRuntime) -> Result<(), Fail> {
     Ok(())
 }
 
-/// An unused record on the list, of so many bytes, that ends the file.
-const fn unused(size: u32) -> [(usize, u32); 4] {
-    [(360, 404 + size), (388, 404), (408, size), (412, u32::MAX)]
-}
+/// A file that ends with the one unused record on its list, of 324 bytes, of 352 and of 330.
+const UNUSED_324: &[(usize, u32)] = &[(360, 728), (388, 404), (408, 324), (412, u32::MAX)];
+
+const UNUSED_352: &[(usize, u32)] = &[(360, 756), (388, 404), (408, 352), (412, u32::MAX)];
+
+const UNUSED_330: &[(usize, u32)] = &[(360, 734), (388, 404), (408, 330), (412, u32::MAX)];
 
 /// The attribute behind an unused record of 330 bytes, which is too short for it and a rest.
 const BEHIND: &[(usize, u32)] = &[
@@ -104,18 +106,18 @@ fn an_attribute_takes_an_unused_record(rt: HostRuntime) -> Result<(), Fail> {
     let mut split = Vec::from_slice(alloc, WITH_ATTRIBUTE)?;
     split.extend_from_slice(&[(360, 756), (388, 728), (732, 28), (736, u32::MAX)])?;
     let table = [
-        (324, 728, WITH_ATTRIBUTE),
-        (352, 756, &split),
-        (330, 1058, BEHIND),
+        (728, UNUSED_324, 728, WITH_ATTRIBUTE),
+        (756, UNUSED_352, 756, &split),
+        (734, UNUSED_330, 1058, BEHIND),
     ];
-    for (size, length, changes) in table {
-        let old = changed_file(alloc, 404 + size as usize, &unused(size))?;
+    for (before, unused, after, changes) in table {
+        let old = changed_file(alloc, before, unused)?;
         let ran = run_over(alloc, &["a.cdf"], &old, b"attr Project global\n", &SOUND)?;
-        assert_eq!(rt; ran.text.as_slice(), b"1 ok\n".as_slice(), "{size}");
+        assert_eq!(rt; ran.text.as_slice(), b"1 ok\n".as_slice(), "{before}");
         assert_eq!(rt;
             ran.file.as_slice(),
-            changed_file(alloc, length, changes)?.as_slice(),
-            "{size}"
+            changed_file(alloc, after, changes)?.as_slice(),
+            "{before}"
         );
     }
     Ok(())
@@ -125,7 +127,9 @@ fn an_attribute_takes_an_unused_record(rt: HostRuntime) -> Result<(), Fail> {
 fn name_of(alloc: Global, letters: usize) -> Result<Ran, Fail> {
     let new = changed_file(alloc, 404, &[])?;
     let mut script = Vec::from_slice(alloc, b"attr ")?;
-    script.resize(5 + letters, b'n')?;
+    let mut name = Vec::new(alloc);
+    name.resize(letters, b'n')?;
+    script.extend_from_slice(&name)?;
     script.extend_from_slice(b" global")?;
     Ok(run_over(alloc, &["a.cdf"], &new, &script, &SOUND)?)
 }
@@ -162,10 +166,10 @@ fn a_second_run_edits_in_place(rt: HostRuntime) -> Result<(), Fail> {
     Ok(())
 }
 
-/// The statuses where each call of a device fails in turn: of the store first those that read, and last the one that writes.
-fn statuses_of(device: usize, call: u64, calls: u64) -> u8 {
+/// The status where a call of a device fails after so many: of the store all but the last read, and the last writes.
+fn status_after(device: usize, before: u64, calls: u64) -> u8 {
     match device {
-        0 if call == calls => 6,
+        0 if before < calls && calls - before == 1 => 6,
         0 => 5,
         1 => 9,
         _ => 7,
@@ -184,9 +188,9 @@ fn a_device_that_fails_leaves_the_old_file(rt: HostRuntime) -> Result<(), Fail> 
     assert_eq!(rt; whole.text.as_slice(), text.as_slice());
     assert_eq!(rt; whole.file.as_slice(), new.as_slice());
     for (device, calls) in whole.calls.iter().enumerate() {
-        for call in 1..*calls + 1 {
+        for before in 0..*calls {
             let mut failing = [0; 3];
-            failing[device] = call;
+            failing[device] = before + 1;
             let devices = Devices {
                 most: 8,
                 failing,
@@ -195,11 +199,14 @@ fn a_device_that_fails_leaves_the_old_file(rt: HostRuntime) -> Result<(), Fail> 
             let ran = run_over(alloc, &["a.cdf"], &old, script, &devices)?;
             assert_eq!(rt;
                 ran.status,
-                statuses_of(device, call, *calls),
-                "{device} {call}"
+                status_after(device, before, *calls),
+                "{device} fails after {before}"
             );
-            assert!(rt; ran.kept, "{device} {call}");
-            assert!(rt; text.starts_with(&ran.text), "{device} {call}");
+            assert!(rt; ran.kept, "{device} fails after {before}");
+            assert!(rt;
+                text.starts_with(&ran.text),
+                "{device} fails after {before}"
+            );
         }
     }
     Ok(())
@@ -211,9 +218,10 @@ const REAL_FILE: &str = "cdf_tool_tests_real_file";
 fn run_really(rt: HostRuntime, flags: &[&str], script: &[u8]) -> Result<(u8, Vec<u8>), Fail> {
     let alloc = rt.alloc();
     let mut words = Vec::new(alloc);
-    for word in flags.iter().chain([&REAL_FILE]) {
-        words.push(String::from_str(alloc, word)?)?;
+    for flag in flags {
+        words.push(String::from_str(alloc, flag)?)?;
     }
+    words.push(String::from_str(alloc, REAL_FILE)?)?;
     let store = FileStore::new(rt, alloc);
     let mut source = MemSource::new(alloc, Vec::from_slice(alloc, script)?, 16);
     let mut sink = MemSink::new(alloc, 1000)?;
