@@ -1,3 +1,4 @@
 pub mod Base
 pub mod Frame
 pub mod OldBytes
+pub mod Calls

@@ -1,6 +1,8 @@
-ghost use Rattle.std.specs.Prelude.{◌≡◌, ◌+◌, ◌-◌, ◌≤◌, ◌++◌, ℕ, List, length, take, drop, replicate, OnOk, OnErr, IsSome, Some, None};
+//! What an area is: the bytes of one file, and why a call of it may fail.
+
+ghost use Rattle.std.specs.Prelude.{◌≡◌, ◌+◌, ◌-◌, ◌≤◌, ◌++◌, ℕ, Bool, List, length, take, drop, replicate, OnOk, OnErr, IsSome, Some, None};
 ghost use Rattle.cdf_base.specs.Bytes.{put};
-ghost use Rattle.cdf_base.specs.Causes.{HasCauseOf};
+ghost use Rattle.cdf_area.specs.Calls.{Edits, Overwrites, Reads};
 ghost use Rattle.cdf_area.specs.Frame.{Frame, with_base};
 
 use std::alloc::{AllocError, AllocFailed};
@@ -36,8 +38,8 @@ impl<T: Drop> From<AllocFailed<T>> for AreaError {
 
 /// The bytes of one file, read and written in place, with one mark to which all changes can be taken back.
 ///
-/// The meanings are the image, which is all the bytes; the frame, which no reading, writing or growing changes; and the
-/// number of faults. Places and numbers of bytes are counted from the start of the image.
+/// The meanings are the image, which is all the bytes; the frame, which no reading, writing or growing changes; the number of
+/// faults; and whether it was edited. Places and numbers of bytes are counted from the start of the image.
 pub trait Area {
     /// All the bytes.
     ghost image: { Self → List ℕ };
@@ -51,6 +53,9 @@ pub trait Area {
     /// How often what stands beneath has failed.
     ghost faults: { Self → ℕ };
 
+    /// Whether a write or a growth may have been made. Only these calls change it.
+    ghost edited: { Self → Bool };
+
     /// The number of bytes.
     fn size(&self) -> u64
         ensures { result ≡ length (image self.now) };
@@ -63,26 +68,20 @@ pub trait Area {
     fn get(&mut self, place: u64, out: &mut [u8]) -> Result<(), AreaError>
         requires { place + length out.old ≤ length (image self.old) }
         ensures bytes { OnOk result (out.new ≡ take (length out.new) (drop place (image self.old))) }
-        ensures image { image self.new ≡ image self.old }
-        ensures frame { frame self.new ≡ frame self.old }
-        ensures cause { HasCauseOf AreaError.Fault (faults self.old) (faults self.new) result };
+        ensures area { Reads image frame faults edited self.old self.new result };
 
     /// Writes `bytes` over those from `place` on.
     fn set(&mut self, place: u64, bytes: &[u8]) -> Result<(), AreaError>
         requires { place + length bytes.now ≤ length (image self.old) }
         ensures written { OnOk result (image self.new ≡ put (image self.old) place bytes.now) }
-        ensures stays { OnErr result (image self.new ≡ image self.old) }
-        ensures size { length (image self.new) ≡ length (image self.old) }
-        ensures frame { frame self.new ≡ frame self.old }
-        ensures cause { HasCauseOf AreaError.Fault (faults self.old) (faults self.new) result };
+        ensures area { Overwrites image frame faults self.old self.new result };
 
     /// Appends `n` bytes that are 0.
     fn extend(&mut self, n: u64) -> Result<(), AreaError>
         requires { length (image self.old) + n ≤ (frame self.old).limit }
         ensures longer { OnOk result (image self.new ≡ image self.old ++ replicate n 0) }
         ensures stays { OnErr result (image self.new ≡ image self.old) }
-        ensures frame { frame self.new ≡ frame self.old }
-        ensures cause { HasCauseOf AreaError.Fault (faults self.old) (faults self.new) result };
+        ensures area { Edits frame faults self.old self.new result };
 
     /// Drops the last `n` bytes, which cannot be taken back.
     fn shorten(&mut self, n: u64)
@@ -90,12 +89,14 @@ pub trait Area {
         requires unmarked { (frame self.old).base ≡ None }
         ensures shorter { image self.new ≡ take (length (image self.old) - n) (image self.old) }
         ensures frame { frame self.new ≡ frame self.old }
+        ensures edited { edited self.new ≡ edited self.old }
         ensures faults { faults self.new ≡ faults self.old };
 
     /// Marks the image as it is: from now on `undo` leads back to it. An earlier mark is forgotten.
     fn mark(&mut self)
         ensures image { image self.new ≡ image self.old }
         ensures frame { frame self.new ≡ with_base (frame self.old) (Some (image self.old)) }
+        ensures edited { edited self.new ≡ edited self.old }
         ensures faults { faults self.new ≡ faults self.old };
 
     /// Forgets the mark, and keeps what was changed since.
@@ -103,6 +104,7 @@ pub trait Area {
         requires { IsSome (frame self.old).base }
         ensures image { image self.new ≡ image self.old }
         ensures frame { frame self.new ≡ with_base (frame self.old) None }
+        ensures edited { edited self.new ≡ edited self.old }
         ensures faults { faults self.new ≡ faults self.old };
 
     /// Goes back to the marked image, and forgets the mark. It takes no memory.
@@ -110,5 +112,6 @@ pub trait Area {
         requires { IsSome (frame self.old).base }
         ensures image { (frame self.old).base ≡ Some (image self.new) }
         ensures frame { frame self.new ≡ with_base (frame self.old) None }
+        ensures edited { edited self.new ≡ edited self.old }
         ensures faults { faults self.new ≡ faults self.old };
 }

@@ -1,4 +1,6 @@
-ghost use Rattle.std.specs.Prelude.{◌≡◌, ◌+◌, ◌-◌, ◌≤◌, ◌<◌, ◌^◌, ◌++◌, length, take, drop, replicate, IsOk, OnOk, OnErr};
+//! An area in memory.
+
+ghost use Rattle.std.specs.Prelude.{◌≡◌, ◌+◌, ◌-◌, ◌≤◌, ◌<◌, ◌^◌, ◌++◌, length, take, drop, replicate, true, IsOk, OnOk, OnErr};
 ghost use Rattle.cdf_base.specs.Bytes.{put};
 ghost use Rattle.cdf_area.specs.Base.{FitsIn, base_at, base_of};
 ghost use Rattle.cdf_area.specs.OldBytes.{AllLieBelow};
@@ -109,6 +111,9 @@ impl Area for MemArea {
     ghost frame = { λ area. record { base = base_of area.marked area.bytes.items; limit = area.limit; under = tt } };
 
     ghost faults = { λ area. 0 };
+
+    // It is not kept.
+    ghost edited = { λ area. true };
 
     fn size(&self) -> u64 {
         self.bytes.len() as u64

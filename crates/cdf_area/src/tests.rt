@@ -1,3 +1,5 @@
+//! Areas in memory: writes, growth, cuts and what `undo` gives back.
+
 ghost use Rattle.std.specs.Prelude.{◌≡◌, OnOk, length};
 
 use crate::{Area, AreaError, MemArea};

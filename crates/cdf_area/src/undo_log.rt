@@ -1,3 +1,5 @@
+//! The old bytes of what was written since a mark, from which the image of the mark is made again.
+
 ghost use Rattle.std.specs.Prelude.{◌≡◌, ◌+◌, ◌≤◌, [], ◌∷◌, ◌++◌, length, OnOk, OnErr};
 ghost use Rattle.cdf_base.specs.Bytes.{put};
 ghost use Rattle.cdf_area.specs.OldBytes.{AllLieBelow, back};

@@ -2,7 +2,7 @@
 use Rattle.std.proofs.Common.{◌≡◌, ℕ, zero, suc, ◌+◌, ◌-◌, ◌*◌, ◌/◌, ◌≤◌, ◌<◌, min, List, [], ◌∷◌, ◌++◌, length, take, drop, Bool, true, false, Option, refl, sym, ◌∙◌, ap, subst, arith, eq-eqb, append_assoc, length-append, inl, inr}
 use Rattle.std.proofs.lemmas.Bool.{cases_Bool}
 use Rattle.std.proofs.Math.Seq.{take-append_seam, drop-append-add, take-add}
-use Rattle.std.proofs.lemmas.List.{length-take-le, drop-drop, take-append-drop}
+use Rattle.std.proofs.lemmas.List.{append-nil, length-take-le, drop-drop, take-append-drop, take_all}
 use Rattle.std.specs.Prelude.{bytes_eq, IsSome, Some, None, IfSome}
 use Rattle.cdf_base.specs.Bytes.{put}
 use Rattle.cdf_store.specs.Disk.{Disk, IsWhole, file_in, file_of, files_with, written, WrittenPart}
@@ -103,6 +103,12 @@ holds_at_first d place xs whole is =
       only_stays = refl;
       under_stays = refl;
     })
+
+-- nothing is to be written: the file is the image
+pub holds_whole : {U : Type 0} (d : Disk U) (size : ℕ) → IsWhole d → IsSome d.held → length (file_of d) ≤ size → Holds d (take size (file_of d) ++ []) d
+holds_whole d size whole is short =
+    let same : put (file_of d) 0 (take 0 []) ≡ take size (file_of d) ++ [] = put-nothing (file_of d) 0 ∙ sym (append-nil (take size (file_of d)) ∙ take_all size (file_of d) short) in
+    subst (λ (bytes : List ℕ). Holds d bytes d) same (holds_at_first d 0 [] whole is)
 
 -- one more write
 pub holds_next : {U : Type 0} (d now next : Disk U) (bytes : List ℕ) (place : ℕ) (xs : List ℕ) → Holds d bytes now → next ≡ written now place xs → Holds d (put bytes place xs) next

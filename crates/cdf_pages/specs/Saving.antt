@@ -1,5 +1,5 @@
 -- What writes leave of the attached file, and of the disk.
-use Rattle.std.specs.Prelude.{◌≡◌, ◌⊎◌, ◌≤◌, ◌<◌, ℕ, List, [], ◌++◌, length, take, slice_index, Some, None}
+use Rattle.std.specs.Prelude.{◌≡◌, ◌⊎◌, ◌≤◌, ◌<◌, ◌==◌, ◌||◌, ℕ, Bool, false, not, List, [], ◌++◌, length, take, slice_index, Some, None}
 use Rattle.std.specs.declared.option.Option.{Option}
 use Rattle.cdf_base.specs.Bytes.{put}
 use Rattle.cdf_store.specs.Disk.{Disk, file_of, files_with}
@@ -38,6 +38,16 @@ pub record HoldsBetween {U : Type 0} (d : Disk U) (new : List ℕ) (now : Disk U
   pub bytes : List ℕ
   pub between : IsBetween (file_of d) new bytes
   pub holds : Holds d bytes now
+
+-- an image may be other than the file's front: it was moved into memory, or the file has fewer bytes than it is taken to have
+abbrev pub is_edited : Bool → ℕ → List ℕ → Bool
+is_edited moved most file = moved || not (most == length file)
+
+-- the file is the image, which was not edited, and no tail is to stand behind it
+pub record IsSavedAlready (edited : Bool) (file image : List ℕ) (tail : Option (List ℕ)) : Type 0 where
+  pub unedited : edited ≡ false
+  pub short : length file ≤ length image
+  pub no_tail : tail ≡ None
 
 -- the bytes of a tail, if there is one
 abbrev pub tail_bytes : Option (List ℕ) → List ℕ

@@ -8,5 +8,4 @@ mod store_area;
 mod tests;
 mod writing;
 
-pub use saving::SaveError;
 pub use store_area::StoreArea;

@@ -1,3 +1,5 @@
+//! Reading the bytes of an image from the attached file.
+
 ghost use Rattle.std.specs.Prelude.{◌≡◌, ◌+◌, ◌≤◌, ◌<◌, ◌^◌, length, take, drop, IsSome, IfErr, OnOk};
 ghost use Rattle.cdf_base.specs.Causes.{HasCause, HasCauseOf};
 ghost use Rattle.cdf_store.specs.Disk.{file_of};

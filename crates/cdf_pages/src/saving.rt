@@ -1,30 +1,13 @@
+//! Writing an image to the attached file, and the tail behind it.
+
 ghost use Rattle.std.specs.Prelude.{◌≡◌, ◌+◌, ◌/◌, ◌≤◌, ◌<◌, ◌^◌, ◌++◌, length, max, IsSome, IsErrOf, OnOk, OnErr};
 ghost use Rattle.cdf_base.specs.Causes.{HasCause, HasCauseOf};
 ghost use Rattle.cdf_store.specs.Disk.{file_of};
 ghost use Rattle.cdf_pages.specs.Saving.{Holds, HoldsBetween, FrontStays, behind_front};
 
 use crate::writing::{PIECE, write_pieces};
+use cdf_area::AreaError;
 use cdf_store::{Failed, Store};
-use std::alloc::AllocError;
-
-/// Why a file was not saved.
-#[derive(Clone, Copy, Debug, PartialEq, Eq)]
-pub enum SaveError {
-    /// The store failed. The file is between the old one and the new one.
-    Failed,
-    /// There was no memory for the writes. The file is as before.
-    NoMemory,
-}
-
-impl From<AllocError> for SaveError {
-    ghost use Rattle.cdf_pages.specs.declared.saving.SaveError.TheVariants.{NoMemory};
-
-    ghost from_gives = { λ _ e. e ≡ NoMemory };
-
-    fn from(_: AllocError) -> Self {
-        SaveError::NoMemory
-    }
-}
 
 /// How many writes so many bytes may take.
 fn writes_of(bytes: usize) -> u64
@@ -62,25 +45,26 @@ fn write_behind<S: Store>(
     Ok(())
 }
 
-/// The same, with the room for it made first, which is the one want of memory.
+/// The same, with the room for it made first, which is the one want of memory: then the file is as before. After a fault it is
+/// between the old one and the new one.
 pub fn save_behind<S: Store>(
     store: &mut S,
     most: u64,
     start: u64,
     bytes: &[u8],
     tail: &[u8],
-) -> Result<(), SaveError>
+) -> Result<(), AreaError>
     requires held { IsSome (S.disk store.old).held }
     requires start { start ≤ length (file_of (S.disk store.old)) }
     requires most { length (file_of (S.disk store.old)) ≤ most }
     requires fits { start + length bytes.now + length tail.now < 2 ^ 64 }
     ensures ok { OnOk result (Holds (S.disk store.old) (behind_front (file_of (S.disk store.old)) start (bytes.now ++ tail.now)) (S.disk store.new)) }
-    ensures failed { IsErrOf result SaveError.Failed → HoldsBetween (S.disk store.old) (behind_front (file_of (S.disk store.old)) start (bytes.now ++ tail.now)) (S.disk store.new) }
-    ensures no_memory { IsErrOf result SaveError.NoMemory → S.disk store.new ≡ S.disk store.old }
-    ensures unfailed { IsErrOf result SaveError.NoMemory → S.write_faults store.new ≡ S.write_faults store.old }
+    ensures failed { IsErrOf result AreaError.Fault → HoldsBetween (S.disk store.old) (behind_front (file_of (S.disk store.old)) start (bytes.now ++ tail.now)) (S.disk store.new) }
+    ensures no_memory { IsErrOf result AreaError.NoMemory → S.disk store.new ≡ S.disk store.old }
+    ensures unfailed { IsErrOf result AreaError.NoMemory → S.write_faults store.new ≡ S.write_faults store.old }
     ensures front { FrontStays (file_of (S.disk store.old)) start (file_of (S.disk store.new)) }
     ensures bound { length (file_of (S.disk store.new)) ≤ max most (start + length bytes.now + length tail.now) }
-    ensures cause { HasCauseOf SaveError.Failed (S.write_faults store.old) (S.write_faults store.new) result }
+    ensures cause { HasCauseOf AreaError.Fault (S.write_faults store.old) (S.write_faults store.new) result }
     ensures read { S.read_faults store.new ≡ S.read_faults store.old }
 {
     let writes = writes_of(bytes.len()) + writes_of(tail.len()) + 1;
@@ -88,6 +72,6 @@ pub fn save_behind<S: Store>(
     store.reserve(writes, end)?;
     match write_behind(store, most, start, bytes, tail) {
         Ok(()) => Ok(()),
-        Err(Failed) => Err(SaveError::Failed),
+        Err(Failed) => Err(AreaError::Fault),
     }
 }

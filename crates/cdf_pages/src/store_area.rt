@@ -1,12 +1,14 @@
-ghost use Rattle.std.specs.Prelude.{◌≡◌, ◌≤◌, ◌<◌, ◌+◌, ◌^◌, ◌++◌, ℕ, [], length, take, if◌then◌else◌, IsSome, IsErrOf, OnOk, OnErr, IfOk, Some, None};
+//! An area over the attached file of a store.
+
+ghost use Rattle.std.specs.Prelude.{◌≡◌, ◌≤◌, ◌<◌, ◌+◌, ◌^◌, ◌++◌, ℕ, [], length, take, if◌then◌else◌, false, is_some, IsSome, IsErrOf, IsOk, OnOk, OnErr, IfOk, Some, None};
 ghost use Rattle.std.specs.Option.{option_map, option_map_or};
 ghost use Rattle.cdf_area.specs.Frame.{Frame};
 ghost use Rattle.cdf_base.specs.Causes.{HasCauseOf};
 ghost use Rattle.cdf_store.specs.Disk.{Disk, file_of};
-ghost use Rattle.cdf_pages.specs.Saving.{Holds, HoldsBetween, tail_bytes};
+ghost use Rattle.cdf_pages.specs.Saving.{Holds, HoldsBetween, IsSavedAlready, is_edited, tail_bytes};
 
 use crate::read::read_into;
-use crate::saving::{SaveError, save_behind};
+use crate::saving::save_behind;
 use cdf_area::{Area, AreaError, MemArea};
 use cdf_store::Store;
 use std::alloc::Global;
@@ -40,6 +42,7 @@ impl<S: Store> StoreArea<S> {
         ensures image { Some (⟦<StoreArea<S> as Area>⟧.image result) ≡ (S.disk store).held }
         ensures frame { ⟦<StoreArea<S> as Area>⟧.frame result ≡ record { base = None; limit = limit; under = (S.disk store, S.write_faults store) } }
         ensures faults { ⟦<StoreArea<S> as Area>⟧.faults result ≡ S.read_faults store }
+        ensures edited { ⟦<StoreArea<S> as Area>⟧.edited result ≡ false }
     {
         StoreArea {
             alloc,
@@ -58,6 +61,7 @@ impl<S: Store> StoreArea<S> {
         ensures image { ⟦<StoreArea<S> as Area>⟧.image result ≡ [] }
         ensures frame { ⟦<StoreArea<S> as Area>⟧.frame result ≡ record { base = None; limit = limit; under = (S.disk store, S.write_faults store) } }
         ensures faults { ⟦<StoreArea<S> as Area>⟧.faults result ≡ S.read_faults store }
+        ensures edited { ⟦<StoreArea<S> as Area>⟧.edited result ≡ false }
     {
         StoreArea {
             alloc,
@@ -66,24 +70,30 @@ impl<S: Store> StoreArea<S> {
             size: 0,
             limit,
             marked: false,
-            memory: Some(MemArea::new(alloc, Vec::new(alloc), limit)),
+            memory: None,
         }
     }
 
-    /// Makes the attached file the image and a tail behind it, and cuts it where it is longer. Of an image that is still the front
-    /// of the file nothing is written anew. Room for all writes is made first, which is the one want of memory.
-    pub fn save(&mut self, tail: Option<[u8; 16]>) -> Result<(), SaveError>
+    /// Makes the attached file the image and a tail behind it, and cuts it where it is longer. Of an image that was not edited
+    /// nothing is written anew. Room for all writes is made first, which is the one want of memory.
+    pub fn save(&mut self, tail: Option<[u8; 16]>) -> Result<(), AreaError>
         requires unmarked { (⟦<StoreArea<S> as Area>⟧.frame self.old).base ≡ None }
         requires fits { length (⟦<StoreArea<S> as Area>⟧.image self.old) + 16 < 2 ^ 64 }
         ensures saved { OnOk result (Holds (⟦<StoreArea<S> as Area>⟧.frame self.old).under.0 (⟦<StoreArea<S> as Area>⟧.image self.old ++ tail_bytes tail) (⟦<StoreArea<S> as Area>⟧.frame self.new).under.0) }
-        ensures failed { IsErrOf result SaveError.Failed → HoldsBetween (⟦<StoreArea<S> as Area>⟧.frame self.old).under.0 (⟦<StoreArea<S> as Area>⟧.image self.old ++ tail_bytes tail) (⟦<StoreArea<S> as Area>⟧.frame self.new).under.0 }
-        ensures no_memory { IsErrOf result SaveError.NoMemory → (⟦<StoreArea<S> as Area>⟧.frame self.new).under ≡ (⟦<StoreArea<S> as Area>⟧.frame self.old).under }
+        ensures failed { IsErrOf result AreaError.Fault → HoldsBetween (⟦<StoreArea<S> as Area>⟧.frame self.old).under.0 (⟦<StoreArea<S> as Area>⟧.image self.old ++ tail_bytes tail) (⟦<StoreArea<S> as Area>⟧.frame self.new).under.0 }
+        ensures no_memory { IsErrOf result AreaError.NoMemory → (⟦<StoreArea<S> as Area>⟧.frame self.new).under ≡ (⟦<StoreArea<S> as Area>⟧.frame self.old).under }
         ensures image { ⟦<StoreArea<S> as Area>⟧.image self.new ≡ ⟦<StoreArea<S> as Area>⟧.image self.old }
         ensures base { (⟦<StoreArea<S> as Area>⟧.frame self.new).base ≡ None }
         ensures limit { (⟦<StoreArea<S> as Area>⟧.frame self.new).limit ≡ (⟦<StoreArea<S> as Area>⟧.frame self.old).limit }
         ensures faults { ⟦<StoreArea<S> as Area>⟧.faults self.new ≡ ⟦<StoreArea<S> as Area>⟧.faults self.old }
-        ensures cause { HasCauseOf SaveError.Failed (⟦<StoreArea<S> as Area>⟧.frame self.old).under.1 (⟦<StoreArea<S> as Area>⟧.frame self.new).under.1 result }
+        ensures cause { HasCauseOf AreaError.Fault (⟦<StoreArea<S> as Area>⟧.frame self.old).under.1 (⟦<StoreArea<S> as Area>⟧.frame self.new).under.1 result }
+        // A file that is the image as it stands is not touched.
+        ensures untouched { IsSavedAlready (⟦<StoreArea<S> as Area>⟧.edited self.old) (file_of (⟦<StoreArea<S> as Area>⟧.frame self.old).under.0) (⟦<StoreArea<S> as Area>⟧.image self.old) tail → (⟦<StoreArea<S> as Area>⟧.frame self.new).under ≡ (⟦<StoreArea<S> as Area>⟧.frame self.old).under }
+        ensures unfailed { IsSavedAlready (⟦<StoreArea<S> as Area>⟧.edited self.old) (file_of (⟦<StoreArea<S> as Area>⟧.frame self.old).under.0) (⟦<StoreArea<S> as Area>⟧.image self.old) tail → IsOk result }
     {
+        if self.memory.is_none() && tail.is_none() && self.most <= self.size {
+            return Ok(());
+        }
         let tail: &[u8] = match &tail {
             Some(bytes) => bytes,
             None => &[],
@@ -163,6 +173,8 @@ impl<S: Store> Area for StoreArea<S> {
     } };
 
     ghost faults = { λ a. S.read_faults a.store };
+
+    ghost edited = { λ a. is_edited (is_some a.memory) a.most (file_of (S.disk a.store)) };
 
     fn size(&self) -> u64 {
         match &self.memory {

@@ -1,3 +1,5 @@
+//! Writing many bytes by writes that a store allows.
+
 ghost use Rattle.std.specs.Prelude.{◌≡◌, ◌+◌, ◌/◌, ◌≤◌, ◌<◌, ◌^◌, length, IsSome, OnOk, OnErr};
 ghost use Rattle.cdf_base.specs.Bytes.{put};
 ghost use Rattle.cdf_base.specs.Causes.{HasCause};

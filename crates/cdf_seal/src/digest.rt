@@ -1,5 +1,7 @@
+//! The digest of the front of an area.
+
 ghost use Rattle.std.specs.Prelude.{◌≡◌, ◌≤◌, length, take, IfOk};
-ghost use Rattle.cdf_base.specs.Causes.{HasCauseOf};
+ghost use Rattle.cdf_area.specs.Calls.{Reads};
 ghost use Rattle.md5.specs.Md5.{md5};
 
 use cdf_area::{Area, AreaError};
@@ -12,9 +14,7 @@ const PIECE: usize = 4096;
 pub fn digest_of<A: Area>(area: &mut A, upto: u64) -> Result<[u8; 16], AreaError>
     requires { upto ≤ length (A.image area.old) }
     ensures digest { IfOk result (λ digest. digest ≡ md5 (take upto (A.image area.old))) }
-    ensures image { A.image area.new ≡ A.image area.old }
-    ensures frame { A.frame area.new ≡ A.frame area.old }
-    ensures cause { HasCauseOf AreaError.Fault (A.faults area.old) (A.faults area.new) result }
+    ensures area { Reads A.image A.frame A.faults A.edited area.old area.new result }
 {
     let mut hasher = Md5::new();
     let mut piece = [0u8; PIECE];

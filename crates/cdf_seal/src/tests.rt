@@ -1,3 +1,5 @@
+//! The digests of texts that RFC 1321 gives.
+
 use crate::digest_of;
 use cdf_area::{Area, MemArea};
 use std::test::Fail;

@@ -1,3 +1,5 @@
+//! Copying a piece of bytes.
+
 ghost use Rattle.std.specs.Prelude.{◌≡◌, ◌+◌, ◌≤◌, length, min, take, vec_len, vec_capacity};
 ghost use Rattle.cdf_base.specs.Bytes.{put};
 ghost use Rattle.cdf_store.specs.Reading.{ReadsPiece};

@@ -1,4 +1,7 @@
-ghost use Rattle.std.specs.Prelude.{◌≡◌, ◌≤◌, length, string_bytes, IsTrue, IsSome, IfOk, IfSome, None};
+//! The files of the system as a store.
+
+ghost use Rattle.std.specs.Prelude.{◌≡◌, ◌≢◌, ◌≤◌, ◌+◌, ◌-◌, ◌^◌, ◌↔◌, if◌then◌else◌, length, min, string_bytes, IsTrue, IsFalse, IsSome, IfOk, IfSome, None};
+ghost use Rattle.cdf_store.specs.Attaching.{is_failed};
 ghost use Rattle.cdf_store.specs.Disk.{Disk};
 ghost use Rattle.cdf_store.specs.MemFile.{bytes_in, name_in, room_in, same_is_some};
 
@@ -6,10 +9,10 @@ use crate::copy::{copy_from, put_in};
 use crate::mem_files::{MemFile, reserve_to};
 use crate::{AttachError, Failed, Store};
 use std::alloc::{AllocError, Global};
+use std::fs;
 use std::fs::{OpenFile, OpenOptions};
 use std::io::{ErrorKind, Read, Seek, SeekFrom, Write};
 use std::rt::Files;
-use std::{fs, io};
 
 /// How many bytes of a file are read at once.
 const PIECE: usize = 65536;
@@ -75,20 +78,15 @@ impl<R: Files> Store for FileStore<R> {
     ghost whole = { λ s. record { named = same_is_some s.held; distinct = tt; listed = tt } };
 
     fn attach(&mut self, name: &str, make: bool) -> Result<Option<u64>, AttachError> {
-        match open_whole(&self.rt, self.alloc, name, make) {
-            Ok(None) => Ok(None),
-            Ok(Some((held, file))) => {
-                let length = held.bytes.len() as u64;
-                self.held = Some(held);
-                self.file = file;
-                Ok(Some(length))
-            }
-            Err(AttachError::NoMemory) => Err(AttachError::NoMemory),
-            Err(AttachError::Failed) => {
-                self.read_faults = self.read_faults.saturating_add(1);
-                Err(AttachError::Failed)
-            }
-        }
+        let opened = open_whole(&self.rt, self.alloc, name, make);
+        count_fault(&opened, &mut self.read_faults);
+        let Some((held, file)) = opened? else {
+            return Ok(None);
+        };
+        let length = held.bytes.len() as u64;
+        self.held = Some(held);
+        self.file = file;
+        Ok(Some(length))
     }
 
     fn reserve(&mut self, writes: u64, end: u64) -> Result<(), AllocError> {
@@ -145,12 +143,32 @@ fn cuts<F: OpenFile>(file: &Option<F>, n: u64) -> bool {
     }
 }
 
+/// Counts the fault of an attaching that failed. Want of memory is none.
+fn count_fault<T>(opened: &Result<T, AttachError>, faults: &mut u64)
+    ensures count { faults.new ≡ (if is_failed opened.now then min (faults.old + 1) (2 ^ 64 - 1) else faults.old) }
+    ensures later { faults.old ≤ faults.new }
+{
+    if let Err(AttachError::Failed) = opened {
+        *faults = faults.saturating_add(1);
+    }
+}
+
 /// Why a file was not attached, by the error of the system.
-fn attach_error(error: &io::Error) -> AttachError {
-    match error.kind() {
+fn attach_error(kind: ErrorKind) -> AttachError
+    ensures memory { kind ≡ ErrorKind.OutOfMemory → result ≡ AttachError.NoMemory }
+    ensures fault { kind ≢ ErrorKind.OutOfMemory → result ≡ AttachError.Failed }
+{
+    match kind {
         ErrorKind::OutOfMemory => AttachError::NoMemory,
         _ => AttachError::Failed,
     }
+}
+
+/// Whether there is no file, where one could not be opened for reading and writing. Else it may be one that is only read.
+fn is_absent(kind: ErrorKind, make: bool) -> bool
+    ensures { IsTrue result ↔ ((kind ≡ ErrorKind.NotFound) × IsFalse make) }
+{
+    kind == ErrorKind::NotFound && !make
 }
 
 /// Opens a file and reads it whole. The file itself is handed out where it can be written.
@@ -170,13 +188,13 @@ fn open_whole<R: Files>(
             let held = read_held(alloc, name, &mut file)?;
             Ok(Some((held, Some(file))))
         }
-        Err(error) if error.kind() == ErrorKind::NotFound && !make => Ok(None),
+        Err(error) if is_absent(error.kind(), make) => Ok(None),
         Err(_) => match fs::open(rt, name) {
             Ok(mut file) => {
                 let held = read_held(alloc, name, &mut file)?;
                 Ok(Some((held, None)))
             }
-            Err(error) => Err(attach_error(&error)),
+            Err(error) => Err(attach_error(error.kind())),
         },
     }
 }
@@ -194,7 +212,7 @@ fn read_held<F: Read + OpenFile>(
     };
     let length = match file.metadata() {
         Ok(metadata) => metadata.len(),
-        Err(error) => return Err(attach_error(&error)),
+        Err(error) => return Err(attach_error(error.kind())),
     };
     let mut bytes = Vec::new(alloc);
     if bytes.reserve_exact(length as usize).is_err() {
@@ -216,7 +234,7 @@ fn read_to_end<F: Read>(file: &mut F, bytes: &mut Vec<u8>) -> Result<(), AttachE
                 }
             }
             Err(error) if error.kind() == ErrorKind::Interrupted => {}
-            Err(error) => return Err(attach_error(&error)),
+            Err(error) => return Err(attach_error(error.kind())),
         }
     }
     Err(AttachError::Failed)

@@ -1,3 +1,5 @@
+//! Files in memory, by their names.
+
 ghost use Rattle.std.specs.Prelude.{◌≡◌, ◌+◌, ◌≤◌, ◌<◌, [], if◌then◌else◌, length, take, IsSome, IsTrue, IfOk, IfSome, IfNone, OnOk, OnErr, Some, None, bytes_eq, vec_len, vec_capacity};
 ghost use Rattle.std.specs.Option.{ForSome, option_copied, option_map};
 ghost use Rattle.std.specs.List.{IsDistinct};

@@ -1,3 +1,5 @@
+//! Which calls of a device in memory are to fail.
+
 ghost use Rattle.std.specs.Prelude.{◌≡◌, ◌+◌, ◌-◌, ◌^◌, ◌↔◌, min, IsTrue, OnOk, OnErr, Contains, ◌++◌, [], ◌∷◌};
 
 use std::alloc::{AllocError, Global};

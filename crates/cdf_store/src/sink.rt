@@ -1,3 +1,5 @@
+//! What a sink is.
+
 ghost use Rattle.std.specs.Prelude.{◌≡◌, ℕ, List, Bool, length, is_err, IfOk};
 ghost use Rattle.std.specs.declared.option.Option.{Option};
 ghost use Rattle.std.specs.Io.{WritesAtMost};

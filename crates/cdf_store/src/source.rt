@@ -1,3 +1,5 @@
+//! What a source is.
+
 ghost use Rattle.std.specs.Prelude.{ℕ, List, Bool, is_err};
 ghost use Rattle.std.specs.declared.option.Option.{Option};
 ghost use Rattle.std.specs.Io.{ReadsAtMost};

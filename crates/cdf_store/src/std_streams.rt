@@ -1,3 +1,5 @@
+//! Streams of the system as a source and a sink.
+
 ghost use Rattle.std.specs.Prelude.{◌≡◌};
 
 use crate::{Failed, Sink, Source};

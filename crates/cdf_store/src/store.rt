@@ -1,3 +1,5 @@
+//! What a store is.
+
 ghost use Rattle.std.specs.Prelude.{◌≡◌, ◌≤◌, ◌+◌, ℕ, List, Bool, length, is_err, IsSome, IsTrue, OnOk, OnErr, IfOk, IfSome};
 ghost use Rattle.std.specs.Option.{option_map};
 ghost use Rattle.std.specs.declared.option.Option.{Option};

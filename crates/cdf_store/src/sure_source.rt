@@ -1,3 +1,5 @@
+//! A source in memory that never fails.
+
 ghost use Rattle.std.specs.Prelude.{◌≡◌, ◌≤◌, drop, vec_len, Some};
 
 use crate::copy::copy_front;

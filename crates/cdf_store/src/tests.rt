@@ -1,3 +1,5 @@
+//! Devices that fail at a planned call, and real files and streams.
+
 ghost use Rattle.std.specs.Prelude.{◌≤◌, length, IsSome};
 ghost use Rattle.cdf_store.specs.Disk.{file_of};
 
@@ -46,25 +48,6 @@ fn store_fails_at_each_planned_call(rt: HostRuntime) -> Result<(), Fail> {
         }
         assert_eq!(rt; store.file("a").unwrap_or(b"none"), left, "{planned}");
     }
-    Ok(())
-}
-
-#[test]
-fn store_has_a_file_of_each_name(rt: HostRuntime) -> Result<(), Fail> {
-    let mut store = MemStore::new(rt.alloc());
-    store.put_file("a", b"1")?;
-    store.put_file("b", b"2")?;
-    store.put_file("a", b"34")?;
-    for (name, bytes) in [
-        ("a", Some(b"34".as_slice())),
-        ("b", Some(b"2".as_slice())),
-        ("c", None),
-    ] {
-        assert_eq!(rt; store.file(name), bytes, "{name}");
-    }
-    assert_eq!(rt; store.attach("c", false), Ok(None));
-    assert_eq!(rt; store.attach("c", true), Ok(Some(0)));
-    assert_eq!(rt; store.file("c"), Some(b"".as_slice()));
     Ok(())
 }
 
@@ -161,15 +144,16 @@ const WEAK_FILE: &str = "cdf_store_test_weak_file";
 #[test]
 fn weak_file_is_served_and_fails_in_its_writes(rt: HostRuntime) -> Result<(), Fail> {
     // What the runtime lets through, and what then stands in the file of "abc" after "wxyz" was written from 1 on.
-    for (writes, answer, bytes) in [
-        (None, Err(Failed), b"abc".as_slice()),
-        (Some(0), Err(Failed), b"abc".as_slice()),
-        (Some(3), Err(Failed), b"awxy".as_slice()),
-        (Some(4), Ok(()), b"awxyz".as_slice()),
+    for (writes, make, answer, bytes) in [
+        (None, true, Err(Failed), b"abc".as_slice()),
+        (None, false, Err(Failed), b"abc".as_slice()),
+        (Some(0), true, Err(Failed), b"abc".as_slice()),
+        (Some(3), true, Err(Failed), b"awxy".as_slice()),
+        (Some(4), false, Ok(()), b"awxyz".as_slice()),
     ] {
         fs::write(&rt, WEAK_FILE, b"abc".as_slice())?;
         let mut store = FileStore::new(WeakFiles { rt, writes }, rt.alloc());
-        let Ok(Some(length)) = store.attach(WEAK_FILE, true) else {
+        let Ok(Some(length)) = store.attach(WEAK_FILE, make) else {
             return Err(Fail::new("no file was attached"));
         };
         assert_eq!(rt; length, 3);

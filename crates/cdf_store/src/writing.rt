@@ -1,3 +1,5 @@
+//! Writing a whole text to a sink.
+
 ghost use Rattle.std.specs.Prelude.{OnOk, OnErr};
 ghost use Rattle.std.specs.Io.KnownBytes.{Appends};
 ghost use Rattle.cdf_base.specs.Causes.{HasCause};

@@ -19,6 +19,6 @@ loop-done-preserved g c =
       bytes = filled c.loop-done.out c.read_at.new.out (drop c.args.place file) done count (length c.loop-done.out - done) before.within piece.fits before.bytes here;
       within = (let fits = piece.fits in search rules);
       disk = c.in_ok-count.ensures.disk ∙ before.disk;
-      read = omega (arith, c.in_ok-count.ensures.cause.later);
+      read = c.in_ok-count.ensures.cause.done ∙ before.read;
       write = c.in_ok-count.ensures.write ∙ before.write;
     }

@@ -7,7 +7,7 @@ invariant-loop-done g l = record {
   bytes : take l.done l.out ≡ take l.done (drop l.fn.place (file_of (g.S.Store.disk l.fn.store)));
   within : l.done ≤ length l.out;
   disk : g.S.Store.disk l.store ≡ g.S.Store.disk l.fn.store;
-  read : g.S.Store.read_faults l.fn.store ≤ g.S.Store.read_faults l.store;
+  read : g.S.Store.read_faults l.store ≡ g.S.Store.read_faults l.fn.store;
   write : g.S.Store.write_faults l.store ≡ g.S.Store.write_faults l.fn.store;
 }
 

@@ -12,7 +12,7 @@ loop-done-init g c = record {
   pieces = covers (length c.args.bytes.now);
   spent = omega arith;
   end = refl;
-  write = omega arith;
+  write = refl;
   read = refl;
 }
 
@@ -35,6 +35,6 @@ loop-done-preserved g c =
       pieces = omega (arith, c.min-count.ensures);
       spent = omega (arith, c.in_ok-write_at.ensures.spare.writes);
       end = c.in_ok-write_at.ensures.spare.end ∙ i.end;
-      write = omega (arith, c.in_ok-write_at.ensures.cause.later);
+      write = c.in_ok-write_at.ensures.cause.done ∙ i.write;
       read = c.in_ok-write_at.ensures.read ∙ i.read;
     }

@@ -11,7 +11,7 @@ invariant-loop-done g l = record {
   pieces : length l.fn.bytes ≤ l.done + l.left * 65536;
   spent : (g.S.Store.spare l.fn.store).writes + l.left ≤ (g.S.Store.spare l.store).writes + (length l.fn.bytes / 65536 + 1);
   end : (g.S.Store.spare l.store).end ≡ (g.S.Store.spare l.fn.store).end;
-  write : g.S.Store.write_faults l.fn.store ≤ g.S.Store.write_faults l.store;
+  write : g.S.Store.write_faults l.store ≡ g.S.Store.write_faults l.fn.store;
   read : g.S.Store.read_faults l.store ≡ g.S.Store.read_faults l.fn.store;
 }
 

@@ -1,4 +1,5 @@
-use Rattle.std.proofs.Common.{◌-◌, ◌≡◌, ◌≤◌, take}
+use Rattle.std.proofs.Common.{◌-◌, ◌≤◌, take}
+use Rattle.cdf_area.specs.Calls.{Stays}
 use Rattle.md5.specs.Md5.{Holds}
 use Rattle.cdf_seal.proofs.digest.digest_of.Given as goal
 
@@ -6,9 +7,7 @@ abbrev pub invariant-loop-place : goal.invariant-loop-place
 invariant-loop-place g l = record {
   held : Holds l.hasher (take l.place (g.A.Area.image l.fn.area));
   within : l.place ≤ l.upto;
-  image : g.A.Area.image l.area ≡ g.A.Area.image l.fn.area;
-  frame : g.A.Area.frame l.area ≡ g.A.Area.frame l.fn.area;
-  later : g.A.Area.faults l.fn.area ≤ g.A.Area.faults l.area;
+  area : Stays g.A.Area.image g.A.Area.frame g.A.Area.faults g.A.Area.edited l.fn.area l.area;
 }
 
 abbrev pub decreases-loop-place : goal.decreases-loop-place

@@ -1,4 +1,4 @@
-use Rattle.std.proofs.Common.{arith}
+use Rattle.std.proofs.Common.{arith, rules}
 use Rattle.std.proofs.KnownBytes.{Appends-kept}
 use Rattle.cdf_store.proofs.Fronts.{rest_of, written_more, front_of, on_err}
 use Rattle.cdf_store.proofs.writing.write_all.Goals as goal
@@ -16,5 +16,5 @@ loop-done-preserved g c =
     record {
       written = written_more (W c.args.out.now) (W c.loop-done.out) (W c.write.new.self) c.args.text.now c.loop-done.done c.in_ok-count.count c.loop-done.invariant.written took;
       within = search arith;
-      later = search arith;
+      faults = search rules;
     }
