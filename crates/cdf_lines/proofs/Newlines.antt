@@ -8,6 +8,7 @@ use lib.Seq.{drop-drop}
 use Rattle.std.proofs.lemmas.Grind.{common_steps}
 use Rattle.std.specs.Prelude.{◌==◌, Some, None, position}
 use Rattle.std.specs.List.{position_or_len}
+use Rattle.cdf_model.proofs.LinesOf.{split-cons}
 use Rattle.cdf_model.specs.Limits.{line_limit}
 use Rattle.cdf_model.specs.Lines.{split}
 use Rattle.cdf_lines.proofs.Pieces.{split-append, split-whole}
@@ -22,7 +23,7 @@ place text = position_or_len (λ b. b == 10) text
 split-at : (text : List ℕ) (n : ℕ) → place text ≡ n → n < length text → split text ≡ (take n text ∷ (split (drop (suc n) text)).0, (split (drop (suc n) text)).1)
 split-at [] n here inside = absurd (omega arith)
 split-at (b ∷ text) zero here inside = elim (cases_eq b 10) [
-  | inl newline ↦ let test : (b == 10) ≡ true = grind (arith, nat_tests) in rw test refl
+  | inl newline ↦ let test : (b == 10) ≡ true = grind (arith, nat_tests) in split-cons b text ∙ rw test refl
   | inr other ↦
       let test : (b == 10) ≡ false = grind (arith, nat_tests) in
       let behind : 1 + place text ≡ 0 = rw test at here in
@@ -36,7 +37,7 @@ split-at (b ∷ text) (suc n) here inside = elim (cases_eq b 10) [
   | inr other ↦
       let test : (b == 10) ≡ false = grind (arith, nat_tests) in
       let behind : 1 + place text ≡ suc n = rw test at here in
-      rw (test, split-at text n (omega arith) (omega arith)) refl
+      split-cons b text ∙ rw (test, split-at text n (omega arith) (omega arith)) refl
 ]
 
 -- a text without a newline has no line that has ended
@@ -50,7 +51,7 @@ split-none (b ∷ text) outside = elim (cases_eq b 10) [
   | inr other ↦
       let test : (b == 10) ≡ false = grind (arith, nat_tests) in
       let behind : length (b ∷ text) ≤ 1 + place text = rw test at outside in
-      rw (test, split-none text (omega arith)) refl
+      split-cons b text ∙ rw (test, split-none text (omega arith)) refl
 ]
 
 pub rest_is : (text : List ℕ) (n : ℕ) → take (length text - n) (drop n text) ≡ drop n text

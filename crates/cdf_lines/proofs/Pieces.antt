@@ -5,7 +5,8 @@ use Rattle.std.proofs.lemmas.Bool.Decides.{nat_tests}
 use Rattle.std.specs.Prelude.{◌==◌, nat_le, Some, None}
 use Rattle.std.specs.declared.option.Option.{Option}
 use Rattle.cdf_model.specs.Limits.{line_limit}
-use Rattle.cdf_model.specs.Lines.{in_front, split, last_line, kept, whole_lines, lines}
+use Rattle.cdf_model.proofs.LinesOf.{in_front, split-cons}
+use Rattle.cdf_model.specs.Lines.{split, last_line, kept, whole_lines, lines}
 use Rattle.cdf_lines.specs.Pending.{Pending, grown, lines_ended, rest_left, new_lines, new_rest, fed, last_of}
 
 -- the parts of a text behind those of another
@@ -30,10 +31,12 @@ behind-in_front b (l ∷ ls) rest (m ∷ ms) more = refl
 pub split-append : (a b : List ℕ) → split (a ++ b) ≡ behind (split a).0 (split a).1 (split b).0 (split b).1
 split-append [] b = behind-nothing (split b).0 (split b).1
 split-append (x ∷ a) b =
-    rw (split-append a b) (elim (x == 10) as (λ t. cond t ([] ∷ (behind (split a).0 (split a).1 (split b).0 (split b).1).0, (behind (split a).0 (split a).1 (split b).0 (split b).1).1) (in_front x (behind (split a).0 (split a).1 (split b).0 (split b).1).0 (behind (split a).0 (split a).1 (split b).0 (split b).1).1) ≡ behind (cond t ([] ∷ (split a).0, (split a).1) (in_front x (split a).0 (split a).1)).0 (cond t ([] ∷ (split a).0, (split a).1) (in_front x (split a).0 (split a).1)).1 (split b).0 (split b).1) [
+    split-cons x (a ++ b)
+    ∙ rw (split-append a b) (elim (x == 10) as (λ t. cond t ([] ∷ (behind (split a).0 (split a).1 (split b).0 (split b).1).0, (behind (split a).0 (split a).1 (split b).0 (split b).1).1) (in_front x (behind (split a).0 (split a).1 (split b).0 (split b).1).0 (behind (split a).0 (split a).1 (split b).0 (split b).1).1) ≡ behind (cond t ([] ∷ (split a).0, (split a).1) (in_front x (split a).0 (split a).1)).0 (cond t ([] ∷ (split a).0, (split a).1) (in_front x (split a).0 (split a).1)).1 (split b).0 (split b).1) [
       | true ↦ behind-newline (split a).0 (split a).1 (split b).0 (split b).1
       | false ↦ behind-in_front x (split a).0 (split a).1 (split b).0 (split b).1
     ])
+    ∙ sym (ap (λ (parts : List (List ℕ) × List ℕ). behind parts.0 parts.1 (split b).0 (split b).1) (split-cons x a))
 
 behind-whole : (ls ms : List (List ℕ)) (more : List ℕ) → behind ls [] ms more ≡ (ls ++ ms, more)
 behind-whole ls [] more = λ i. (sym (append-nil ls) i, more)

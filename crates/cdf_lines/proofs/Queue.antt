@@ -1,5 +1,6 @@
 -- The lines that a piece adds, as they wait.
-use Rattle.std.proofs.Common.{◌≡◌, ℕ, suc, ◌+◌, ◌≤◌, Bool, true, false, cond, List, [], ◌∷◌, ◌++◌, map, length, length-append, append_assoc, append-nil, refl, sym, ◌∙◌, ap, arith}
+use Rattle.std.proofs.Common.{◌≡◌, ℕ, suc, ◌+◌, ◌≤◌, Bool, true, List, [], ◌∷◌, ◌++◌, map, length, length-append, append_assoc, append-nil, refl, sym, ◌∙◌, ap, subst, arith}
+use Rattle.std.proofs.lemmas.Bool.{cond_both}
 use Rattle.std.proofs.lemmas.List.{map-append, length-map}
 use Rattle.std.proofs.lemmas.Bool.Decides.{nat_tests}
 use Rattle.std.proofs.lemmas.Grind.{flat_map-append}
@@ -7,7 +8,8 @@ use Rattle.std.specs.Prelude.{◌==◌, nat_le, Some, None}
 use Rattle.std.specs.List.{flat_map}
 use Rattle.std.specs.declared.option.Option.{Option}
 use Rattle.cdf_model.specs.Limits.{line_limit}
-use Rattle.cdf_model.specs.Lines.{in_front, split, kept, whole_lines, last_line}
+use Rattle.cdf_model.proofs.LinesOf.{in_front, split-cons}
+use Rattle.cdf_model.specs.Lines.{split, kept, whole_lines, last_line}
 use Rattle.cdf_lines.proofs.Pieces.{kept-last_line}
 use Rattle.cdf_lines.specs.Parts.{FirstLine, LeadingLines}
 use Rattle.cdf_lines.specs.Pending.{fed, grown, new_lines, new_rest, last_of}
@@ -34,10 +36,10 @@ AllShort-split : (text : List ℕ) → AllShort (length text) (split text).0 × 
 AllShort-split [] = (tt, omega arith)
 AllShort-split (b ∷ text) =
     let rest = AllShort-split text in
-    elim (b == 10) as (λ t. AllShort (suc (length text)) (cond t ([] ∷ (split text).0, (split text).1) (in_front b (split text).0 (split text).1)).0 × (length (cond t ([] ∷ (split text).0, (split text).1) (in_front b (split text).0 (split text).1)).1 ≤ suc (length text))) [
-      | true ↦ ((omega arith, AllShort-more (length text) (split text).0 rest.0), omega arith)
-      | false ↦ AllShort-in_front (length text) b (split text).0 (split text).1 rest.0 rest.1
-    ]
+    subst (λ (parts : List (List ℕ) × List ℕ). AllShort (suc (length text)) parts.0 × (length parts.1 ≤ suc (length text))) (sym (split-cons b text))
+    (cond_both (b == 10) _ _ (λ (parts : List (List ℕ) × List ℕ). AllShort (suc (length text)) parts.0 × (length parts.1 ≤ suc (length text)))
+    (λ newline. ((omega arith, AllShort-more (length text) (split text).0 rest.0), omega arith))
+    (λ other. AllShort-in_front (length text) b (split text).0 (split text).1 rest.0 rest.1))
 
 map-short : (n : ℕ) (ls : List (List ℕ)) → n ≤ line_limit → AllShort n ls → map Some ls ≡ map kept ls
 map-short n [] le short = refl
@@ -89,10 +91,11 @@ count-in_front b (l ∷ ls) rest n few = omega arith
 -- each line has a byte of the text
 count-split : (text : List ℕ) → length (split text).0 + length (last_line (split text).1) ≤ length text
 count-split [] = omega arith
-count-split (b ∷ text) = elim (b == 10) as (λ t. length (cond t ([] ∷ (split text).0, (split text).1) (in_front b (split text).0 (split text).1)).0 + length (last_line (cond t ([] ∷ (split text).0, (split text).1) (in_front b (split text).0 (split text).1)).1) ≤ suc (length text)) [
-  | true ↦ omega (arith, count-split text)
-  | false ↦ count-in_front b (split text).0 (split text).1 (length text) (count-split text)
-]
+count-split (b ∷ text) =
+    subst (λ (parts : List (List ℕ) × List ℕ). length parts.0 + length (last_line parts.1) ≤ suc (length text)) (sym (split-cons b text))
+    (cond_both (b == 10) _ _ (λ (parts : List (List ℕ) × List ℕ). length parts.0 + length (last_line parts.1) ≤ suc (length text))
+    (λ newline. omega (arith, count-split text))
+    (λ other. count-in_front b (split text).0 (split text).1 (length text) (count-split text)))
 
 pub count-lines : (text : List ℕ) → length (whole_lines text) + length (last_of (kept (split text).1)) ≤ length text
 count-lines text = simp (← kept-last_line (split text).1, length-map) (count-split text)

@@ -1,3 +1,5 @@
+//! Lines that wait to be given, one behind the other.
+
 use crate::line::Line;
 use crate::split::newline_in;
 use crate::text::Text;

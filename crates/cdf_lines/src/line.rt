@@ -1,3 +1,5 @@
+//! A line of a script.
+
 /// The most bytes of a line.
 pub const LINE_LIMIT: usize = 16_777_216;
 

@@ -1,3 +1,5 @@
+//! The lines of a script that comes in pieces.
+
 ghost use Rattle.std.specs.Prelude.{◌≡◌, ◌++◌, OnOk, IfOk};
 ghost use Rattle.std.specs.List.{flat_map};
 ghost use Rattle.cdf_model.specs.Lines.{kept, split, whole_lines};

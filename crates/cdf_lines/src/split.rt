@@ -1,3 +1,5 @@
+//! Where a piece of a script is split.
+
 ghost use Rattle.std.specs.Prelude.{◌≡◌, ◌==◌, ◌≤◌, [], length, take, position, IfNone, IfSome};
 ghost use Rattle.cdf_model.specs.Lines.{split};
 ghost use Rattle.cdf_lines.specs.Parts.{FirstLine, LeadingLines};

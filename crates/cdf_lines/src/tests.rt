@@ -1,3 +1,5 @@
+//! Lines that come in pieces, and allocations that fail.
+
 ghost use Rattle.std.specs.Prelude.{◌<◌};
 
 use crate::Lines;

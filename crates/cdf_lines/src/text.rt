@@ -1,3 +1,5 @@
+//! The bytes of a line that has not ended, as long as it is not too long.
+
 use crate::line::{LINE_LIMIT, Line};
 use std::alloc::{AllocError, Global};
 use std::marker::Model;

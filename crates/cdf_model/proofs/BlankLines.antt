@@ -1,16 +1,14 @@
 -- A line gives nothing only where it is blank.
-use Rattle.std.proofs.Common.{◌≡◌, ℕ, ◌+◌, ◌≤◌, true, false, List, [], ◌∷◌, length, take, drop, Some, None, Option, Result, Ok, Err, IfOk, refl, subst, inl, inr, true≢false, arith, one-add}
+use Rattle.std.proofs.Common.{◌≡◌, ℕ, ◌+◌, ◌≤◌, Bool, true, false, List, [], ◌∷◌, length, take, drop, Some, None, Option, Result, Ok, Err, IfOk, refl, subst, inl, inr, true≢false, arith, one-add}
 use Rattle.std.proofs.lemmas.Bool.{cond_both, cases_Bool}
 use Rattle.std.specs.Prelude.{⊤, ◌==◌}
 use Rattle.cdf_model.specs.declared.answer.LineError.{LineError}
-use Rattle.cdf_model.specs.Arguments.{number_in, numbers_in, varys_in, choice_in, type_in, scope_in, majority_in, entry_kind_in, rule_in}
-use Rattle.cdf_model.specs.Forms.{Form, Makes, AText, ANumber, Numbers, Varies, AType, AScope, AKind, AMajority, ARule, AChoice, Values, wanted}
+use Rattle.cdf_model.specs.Forms.{Slot, Makes}
 use Rattle.cdf_model.specs.Grammar.{Parsed, Blank, Asks, Faulty, read, parse_words, parse_text, parse}
 use Rattle.cdf_model.specs.Lines.{is_blank}
 use Rattle.cdf_model.specs.Quoting.{Word, First, NoWord, AWord, Fault, is_separator, quote, at_end, before_quote, meaning, bare_word, closed_word, quoted_word, word_here, behind, separators, first_word, with_word, words_from, words}
-use Rattle.cdf_model.proofs.Parsing.{by_any, by_name, by_words}
+use Rattle.cdf_model.proofs.Parsing.{by_word, by_any_name, by_words}
 use Rattle.cdf_model.proofs.WordsRead.{go_on}
-use Rattle.cdf_model.proofs.SteadyForms.{IsSteady, each-steady}
 
 -- it is a command or a fault
 abbrev IsAnswer : Parsed → Type 0
@@ -19,20 +17,12 @@ IsAnswer (Asks c) = ⊤
 IsAnswer (Faulty fault) = ⊤
 
 -- words that are enough are read to the end
-IsAnswer-read : (form : Form) (words : List Word) → IsSteady form → wanted form ≤ length words → IsAnswer (read form words)
-IsAnswer-read (Makes c) words steady enough = tt
-IsAnswer-read (Values f) words steady enough = tt
-IsAnswer-read form [] steady enough = absurd (omega arith)
-IsAnswer-read (AText f) (word ∷ words) steady enough = let s = steady word.bytes in IsAnswer-read (f word.bytes) words s.1 (omega arith)
-IsAnswer-read (ANumber f) (word ∷ words) steady enough = by_any IsAnswer (λ fault. tt) _ (number_in word.bytes) _ (λ n. let s = steady n in IsAnswer-read (f n) words s.1 (omega arith))
-IsAnswer-read (Numbers f) (word ∷ words) steady enough = by_any IsAnswer (λ fault. tt) _ (numbers_in word.bytes) _ (λ ns. let s = steady ns in IsAnswer-read (f ns) words s.1 (omega arith))
-IsAnswer-read (Varies f) (word ∷ words) steady enough = by_any IsAnswer (λ fault. tt) _ (varys_in word.bytes) _ (λ varys. let s = steady varys in IsAnswer-read (f varys) words s.1 (omega arith))
-IsAnswer-read (AType f) (word ∷ words) steady enough = by_any IsAnswer (λ fault. tt) _ (type_in word.bytes) _ (λ t. let s = steady t in IsAnswer-read (f t) words s.1 (omega arith))
-IsAnswer-read (AScope f) (word ∷ words) steady enough = by_any IsAnswer (λ fault. tt) _ (scope_in word.bytes) _ (λ scope. let s = steady scope in IsAnswer-read (f scope) words s.1 (omega arith))
-IsAnswer-read (AKind f) (word ∷ words) steady enough = by_any IsAnswer (λ fault. tt) _ (entry_kind_in word.bytes) _ (λ kind. let s = steady kind in IsAnswer-read (f kind) words s.1 (omega arith))
-IsAnswer-read (AMajority f) (word ∷ words) steady enough = by_any IsAnswer (λ fault. tt) _ (majority_in word.bytes) _ (λ majority. let s = steady majority in IsAnswer-read (f majority) words s.1 (omega arith))
-IsAnswer-read (ARule f) (word ∷ words) steady enough = by_any IsAnswer (λ fault. tt) _ (rule_in word.bytes) _ (λ rule. let s = steady rule in IsAnswer-read (f rule) words s.1 (omega arith))
-IsAnswer-read (AChoice first second f) (word ∷ words) steady enough = by_any IsAnswer (λ fault. tt) _ (choice_in first second word.bytes) _ (λ chosen. let s = steady chosen in IsAnswer-read (f chosen) words s.1 (omega arith))
+IsAnswer-read : (slots : List Slot) (many : Bool) (makes : Makes slots many) (words : List Word) → length slots ≤ length words → IsAnswer (read slots many makes words)
+IsAnswer-read [] false makes words enough = tt
+IsAnswer-read [] true makes words enough = tt
+IsAnswer-read (slot ∷ slots) many makes [] enough = absurd (omega arith)
+IsAnswer-read (slot ∷ slots) many makes (word ∷ words) enough =
+    by_word IsAnswer (λ fault. tt) slot word (λ meaning. read slots many (makes meaning) words) (λ meaning. IsAnswer-read slots many (makes meaning) words (omega arith))
 
 -- a word or a fault
 abbrev Begins : First → Type 0
@@ -92,7 +82,7 @@ AreSome-words (b ∷ line) filled = AreSome-go_on (length line) 0 (b ∷ line) (
 
 IsAnswer-words : (n : ℕ) (ws : List Word) → AreSome ws → IsAnswer (parse_words n ws)
 IsAnswer-words n [] some = absurd some
-IsAnswer-words n (name ∷ ws) some = by_name IsAnswer (λ fault. tt) IsSteady each-steady n name ws (λ form steady enough. IsAnswer-read form ws steady enough)
+IsAnswer-words n (name ∷ ws) some = by_any_name IsAnswer (λ fault. tt) n name ws (λ r enough. IsAnswer-read r.slots r.is_open r.makes ws (omega arith))
 
 IsAnswer-text : (line : List ℕ) → is_blank line ≡ false → IsAnswer (parse_text line)
 IsAnswer-text line filled = by_words IsAnswer (λ fault. tt) AreSome (length line) (words line) (AreSome-words line filled) (IsAnswer-words (length line))

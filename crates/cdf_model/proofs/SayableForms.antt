@@ -1,43 +1,39 @@
 -- A line that is not too long gives commands that a line can say.
-use Rattle.std.proofs.Common.{◌≡◌, ℕ, ◌+◌, ◌≤◌, Bool, true, false, List, [], ◌∷◌, length, Some, None, Option, option_map, Result, Ok, Err, IfOk, IfSome, if◌then◌else◌, nat_le, subst, arith, leb-true}
+use Rattle.std.proofs.Common.{◌≡◌, ℕ, ◌+◌, ◌≤◌, Bool, true, false, List, [], ◌∷◌, length, Some, None, Option, option_map, Result, Ok, Err, IfOk, IfSome, bytes_eq, find, if◌then◌else◌, nat_le, refl, subst, arith, leb-true}
 use Rattle.std.proofs.lemmas.Bool.{cond_both}
 use Rattle.std.proofs.lemmas.List.{length-map}
 use Rattle.std.specs.Prelude.{⊤, codes}
 use Rattle.cdf_model.specs.declared.answer.LineError.{LineError}
+use Rattle.cdf_model.specs.declared.answer.LineError.TheVariants.{UnknownWord}
 use Rattle.cdf_model.specs.declared.command.Command.{Command}
-use Rattle.cdf_model.specs.declared.data_type.DataType.{DataType}
-use Rattle.cdf_model.specs.declared.head.Majority.{Majority}
-use Rattle.cdf_model.specs.declared.kinds.EntryKind.{EntryKind}
 use Rattle.cdf_model.specs.declared.kinds.Scope.{Scope}
 use Rattle.cdf_model.specs.declared.kinds.Scope.TheVariants.{Global, Variable}
-use Rattle.cdf_model.specs.declared.kinds.Sparse.{Sparse}
-use Rattle.cdf_model.specs.Arguments.{number_in, numbers_in, varys_in, choice_in, type_in, scope_in, majority_in, entry_kind_in, rule_in}
-use Rattle.cdf_model.specs.Forms.{Form, CommandRow, Makes, AText, ANumber, Numbers, Varies, AType, AScope, AKind, AMajority, ARule, AChoice, Values, wanted, rows}
-use Rattle.cdf_model.specs.Grammar.{Parsed, Blank, Asks, Faulty, read, parse_words, parse_text, parse}
+use Rattle.cdf_model.specs.Arguments.{scope_in}
+use Rattle.cdf_model.specs.Forms.{Slot, AScope, AValue, Meaning, Makes, CommandRow, rows}
+use Rattle.cdf_model.specs.Grammar.{Parsed, Blank, Asks, Faulty, read_word, read, parse_words, parse_text, parse}
 use Rattle.cdf_model.specs.Limits.{line_limit}
 use Rattle.cdf_model.specs.Lines.{is_blank, kept}
 use Rattle.cdf_model.specs.Quoting.{Word, words}
 use Rattle.cdf_model.specs.Sayable.{Fit, CanBeGiven, Sayable}
-use Rattle.cdf_model.proofs.Parsing.{EachForm, by_any, by_option, by_name, by_words}
-use Rattle.cdf_model.proofs.SteadyForms.{IsSteady, each-steady}
+use Rattle.cdf_model.proofs.Parsing.{OfEach, of_found, by_word, by_option, by_name, by_words}
 use Rattle.cdf_model.proofs.WordSizes.{size, size-cons, bytes_of, words-fit}
 
--- of words that fit on a line it makes a command that a line can say
-abbrev IsFair : Form → Type 0
-IsFair (Makes c) = Sayable c
-IsFair (AText f) = (word : List ℕ) → Fit (word ∷ []) → IsFair (f word)
-IsFair (ANumber f) = (n : ℕ) → IsFair (f n)
-IsFair (Numbers f) = (ns : List ℕ) → IsFair (f ns)
-IsFair (Varies f) = (varys : List Bool) → IsFair (f varys)
-IsFair (AType f) = (t : DataType) → IsFair (f t)
-IsFair (AScope f) = (scope : Scope) → CanBeGiven scope → IsFair (f scope)
-IsFair (AKind f) = (kind : EntryKind) → IsFair (f kind)
-IsFair (AMajority f) = (majority : Majority) → IsFair (f majority)
-IsFair (ARule f) = (rule : Sparse) → IsFair (f rule)
-IsFair (AChoice first second f) = (chosen : Bool) → IsFair (f chosen)
-IsFair (Values f) = (words : List (List ℕ)) → 1 ≤ length words → Fit words → Sayable (f words)
+-- what holds of what a word is read as that fits on a line
+abbrev Fair : (slot : Slot) → Meaning slot → Type 0
+Fair AScope scope = CanBeGiven scope
+Fair AValue words = (length words ≡ 1) × Fit words
+Fair slot meaning = ⊤
 
-each-fair : EachForm IsFair rows
+-- of words that fit on a line these make a command that a line can say
+abbrev IsFair : (slots : List Slot) (many : Bool) → Makes slots many → Type 0
+IsFair [] false command = Sayable command
+IsFair [] true makes = (words : List (List ℕ)) → 1 ≤ length words → Fit words → Sayable (makes words)
+IsFair (slot ∷ slots) many makes = (meaning : Meaning slot) → Fair slot meaning → IsFair slots many (makes meaning)
+
+abbrev IsFairRow : CommandRow → Type 0
+IsFairRow r = IsFair r.slots r.is_open r.makes
+
+each-fair : OfEach IsFairRow rows
 each-fair = search depth 60 fits 5000
 
 -- a command that it gives can be said
@@ -47,10 +43,15 @@ Says (Asks c) = Sayable c
 Says (Faulty fault) = ⊤
 
 -- the scope that a word names is no assumed one
-can_be_given : (o : Option Bool) → IfSome (option_map (λ variable. if variable then Variable else Global) o) CanBeGiven
-can_be_given None = tt
-can_be_given (Some true) = tt
-can_be_given (Some false) = tt
+can_be_given : (word : List ℕ) → IfSome (scope_in word) CanBeGiven
+can_be_given word =
+    given (find (λ choice. bytes_eq word choice.0) scopes) (of_found (λ choice. CanBeGiven choice.1) (λ choice. bytes_eq word choice.0) scopes (tt, (tt, tt))) where
+      scopes : List (List ℕ × Scope)
+      scopes = (codes "global", Global) ∷ (codes "variable", Variable) ∷ []
+
+      given : (o : Option (List ℕ × Scope)) → IfSome o (λ choice. CanBeGiven choice.1) → IfSome (option_map (λ choice. choice.1) o) CanBeGiven
+      given None fact = tt
+      given (Some choice) fact = fact
 
 -- words fit on a line by parts
 Fit-head : (word : Word) (words : List Word) → Fit (bytes_of (word ∷ words)) → Fit (word.bytes ∷ [])
@@ -59,32 +60,18 @@ Fit-head word words fit = omega (arith, size-cons word.bytes (bytes_of words), s
 Fit-tail : (word : Word) (words : List Word) → Fit (bytes_of (word ∷ words)) → Fit (bytes_of words)
 Fit-tail word words fit = omega (arith, size-cons word.bytes (bytes_of words))
 
-Says-read : (form : Form) (words : List Word) → IsSteady form → IsFair form → wanted form ≤ length words → Fit (bytes_of words) → Says (read form words)
-Says-read (Makes c) words steady fair enough fit = fair
-Says-read (Values f) words steady fair enough fit = fair (bytes_of words) (omega (arith, length-map words (λ word. word.bytes))) fit
-Says-read form [] steady fair enough fit = tt
-Says-read (AText f) (word ∷ words) steady fair enough fit =
-    let s = steady word.bytes in
-    Says-read (f word.bytes) words s.1 (fair word.bytes (Fit-head word words fit)) (omega arith) (Fit-tail word words fit)
-Says-read (ANumber f) (word ∷ words) steady fair enough fit = by_any Says (λ fault. tt) _ (number_in word.bytes) _ (λ n. let s = steady n in Says-read (f n) words s.1 (fair n) (omega arith) (Fit-tail word words fit))
-Says-read (Numbers f) (word ∷ words) steady fair enough fit = by_any Says (λ fault. tt) _ (numbers_in word.bytes) _ (λ ns. let s = steady ns in Says-read (f ns) words s.1 (fair ns) (omega arith) (Fit-tail word words fit))
-Says-read (Varies f) (word ∷ words) steady fair enough fit = by_any Says (λ fault. tt) _ (varys_in word.bytes) _ (λ varys. let s = steady varys in Says-read (f varys) words s.1 (fair varys) (omega arith) (Fit-tail word words fit))
-Says-read (AType f) (word ∷ words) steady fair enough fit = by_any Says (λ fault. tt) _ (type_in word.bytes) _ (λ t. let s = steady t in Says-read (f t) words s.1 (fair t) (omega arith) (Fit-tail word words fit))
-Says-read (AScope f) (word ∷ words) steady fair enough fit =
-    by_option Says (λ fault. tt) CanBeGiven _ (scope_in word.bytes) _ (can_be_given (choice_in (codes "global") (codes "variable") word.bytes))
-    (λ scope given. let s = steady scope in Says-read (f scope) words s.1 (fair scope given) (omega arith) (Fit-tail word words fit))
-Says-read (AKind f) (word ∷ words) steady fair enough fit = by_any Says (λ fault. tt) _ (entry_kind_in word.bytes) _ (λ kind. let s = steady kind in Says-read (f kind) words s.1 (fair kind) (omega arith) (Fit-tail word words fit))
-Says-read (AMajority f) (word ∷ words) steady fair enough fit = by_any Says (λ fault. tt) _ (majority_in word.bytes) _ (λ majority. let s = steady majority in Says-read (f majority) words s.1 (fair majority) (omega arith) (Fit-tail word words fit))
-Says-read (ARule f) (word ∷ words) steady fair enough fit = by_any Says (λ fault. tt) _ (rule_in word.bytes) _ (λ rule. let s = steady rule in Says-read (f rule) words s.1 (fair rule) (omega arith) (Fit-tail word words fit))
-Says-read (AChoice first second f) (word ∷ words) steady fair enough fit = by_any Says (λ fault. tt) _ (choice_in first second word.bytes) _ (λ chosen. let s = steady chosen in Says-read (f chosen) words s.1 (fair chosen) (omega arith) (Fit-tail word words fit))
+Says-word : (slot : Slot) (word : Word) (more : Meaning slot → Parsed) → Fit (word.bytes ∷ []) → ((meaning : Meaning slot) → Fair slot meaning → Says (more meaning)) → Says (read_word slot word more)
+Says-word AScope word more fit given = by_option Says (λ fault. tt) CanBeGiven (UnknownWord word.place) (scope_in word.bytes) more (can_be_given word.bytes) given
+Says-word AValue word more fit given = given (word.bytes ∷ []) (refl, fit)
+Says-word slot word more fit given = by_word Says (λ fault. tt) slot word more (λ meaning. given meaning tt)
 
--- both, for the form that a name finds
-abbrev IsSound : Form → Type 0
-IsSound form = IsSteady form × IsFair form
-
-each-both : (rs : List CommandRow) → EachForm IsSteady rs → EachForm IsFair rs → EachForm IsSound rs
-each-both [] steady fair = tt
-each-both (r ∷ rs) steady fair = ((steady.0, fair.0), each-both rs steady.1 fair.1)
+Says-read : (slots : List Slot) (many : Bool) (makes : Makes slots many) (words : List Word) → IsFair slots many makes → length slots + (if many then 1 else 0) ≤ length words → Fit (bytes_of words) → Says (read slots many makes words)
+Says-read [] false makes words fair enough fit = fair
+Says-read [] true makes words fair enough fit = fair (bytes_of words) (omega (arith, length-map words (λ word. word.bytes))) fit
+Says-read (slot ∷ slots) many makes [] fair enough fit = tt
+Says-read (slot ∷ slots) many makes (word ∷ words) fair enough fit =
+    Says-word slot word (λ meaning. read slots many (makes meaning) words) (Fit-head word words fit)
+    (λ meaning fact. Says-read slots many (makes meaning) words (fair meaning fact) (omega arith) (Fit-tail word words fit))
 
 -- the words of a line that is not too long: those behind a command's name fit on a line
 abbrev FitBehind : List Word → Type 0
@@ -94,8 +81,8 @@ Says-words : (n : ℕ) (ws : List Word) → FitBehind ws → Says (parse_words n
 Says-words n [] fit = tt
 Says-words n (name ∷ ws) fit =
     let behind : Fit (bytes_of ws) = omega (arith, size-cons name.bytes (bytes_of ws)) in
-    by_name Says (λ fault. tt) IsSound (each-both rows each-steady each-fair) n name ws
-    (λ form sound enough. Says-read form ws sound.0 sound.1 enough behind)
+    by_name Says (λ fault. tt) IsFairRow each-fair n name ws
+    (λ r fair enough. Says-read r.slots r.is_open r.makes ws fair enough behind)
 
 FitBehind-words : (n : ℕ) (r : Result (List Word) LineError) → n ≤ line_limit → IfOk r (λ ws. size (bytes_of ws) ≤ n + 1) → IfOk r FitBehind
 FitBehind-words n (Ok ws) short fit = omega arith

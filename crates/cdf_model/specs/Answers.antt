@@ -1,6 +1,7 @@
 -- What a command comes to: it makes a data set, with a reply, or is refused for a reason (own).
-use Rattle.std.specs.Prelude.{List, [], ◌∷◌, Bool, true, false, not, if◌then◌else◌, Some, None}
+use Rattle.std.specs.Prelude.{List, [], ◌∷◌, Bool, true, false, not, if◌then◌else◌, Some, None, Ok, Err}
 use Rattle.std.specs.declared.option.Option.{Option}
+use Rattle.std.specs.declared.result.Result.{Result}
 use Rattle.cdf_model.specs.declared.answer.Outcome.{Outcome}
 use Rattle.cdf_model.specs.declared.answer.Outcome.TheVariants.{Done, Refused}
 use Rattle.cdf_model.specs.declared.answer.Reason.{Reason}
@@ -37,3 +38,8 @@ unless ((holds, reason) ∷ more) answer = if holds then Refuse reason else unle
 abbrev pub given : {A : Type 0} → Reason → Option A → (A → Answer) → Answer
 given reason None answer = Refuse reason
 given reason (Some a) answer = answer a
+
+-- the reason why there is no value, else the answer that hangs on it
+abbrev pub valued : {A : Type 0} → Result A Reason → (A → Answer) → Answer
+valued (Err reason) answer = Refuse reason
+valued (Ok a) answer = answer a

@@ -49,21 +49,25 @@ abbrev pub varys_in : List ℕ → Option (List Bool)
 varys_in [] = None
 varys_in word = if bytes_eq word (codes "-") then Some [] else letters_in word
 
+-- what the word stands for, of these words
+abbrev pub one_of : {A : Type 0} → List (List ℕ × A) → List ℕ → Option A
+one_of choices word = option_map (λ choice. choice.1) (find (λ choice. bytes_eq word choice.0) choices)
+
 -- the first of two words, or the second
 abbrev pub choice_in : List ℕ → List ℕ → List ℕ → Option Bool
-choice_in first second word = if bytes_eq word first then Some false else (if bytes_eq word second then Some true else None)
+choice_in first second word = one_of ((first, false) ∷ (second, true) ∷ []) word
 
 abbrev pub type_in : List ℕ → Option DataType
 type_in word = find (λ t. bytes_eq (name_of t) word) data_types
 
 abbrev pub scope_in : List ℕ → Option Scope
-scope_in word = option_map (λ variable. if variable then Variable else Global) (choice_in (codes "global") (codes "variable") word)
+scope_in word = one_of ((codes "global", Global) ∷ (codes "variable", Variable) ∷ []) word
 
 abbrev pub majority_in : List ℕ → Option Majority
-majority_in word = option_map (λ column. if column then Column else Row) (choice_in (codes "row") (codes "column") word)
+majority_in word = one_of ((codes "row", Row) ∷ (codes "column", Column) ∷ []) word
 
 abbrev pub entry_kind_in : List ℕ → Option EntryKind
-entry_kind_in word = if bytes_eq word (codes "g") then Some G else (if bytes_eq word (codes "r") then Some R else (if bytes_eq word (codes "z") then Some Z else None))
+entry_kind_in word = one_of ((codes "g", G) ∷ (codes "r", R) ∷ (codes "z", Z) ∷ []) word
 
 abbrev pub rule_in : List ℕ → Option Sparse
-rule_in word = if bytes_eq word (codes "none") then Some NoRule else (if bytes_eq word (codes "pad") then Some Pad else (if bytes_eq word (codes "previous") then Some Previous else None))
+rule_in word = one_of ((codes "none", NoRule) ∷ (codes "pad", Pad) ∷ (codes "previous", Previous) ∷ []) word

@@ -10,7 +10,7 @@ use Rattle.cdf_model.specs.declared.kinds.EntryKind.{EntryKind}
 use Rattle.cdf_model.specs.declared.kinds.EntryKind.TheVariants as entries
 use Rattle.cdf_model.specs.declared.kinds.Scope.{Scope}
 use Rattle.cdf_model.specs.declared.kinds.Scope.TheVariants as scopes
-use Rattle.cdf_model.specs.Answers.{Answer, Go, Refuse, unless, given}
+use Rattle.cdf_model.specs.Answers.{Answer, Go, unless, given, valued}
 use Rattle.cdf_model.specs.DataSet.{Attribute, DataSet, Entry}
 use Rattle.cdf_model.specs.Limits.{record_number_limit}
 use Rattle.cdf_model.specs.Names.{is_bad_name, is_among, attribute_names, attribute_named}
@@ -81,14 +81,10 @@ abbrev pub entry_by : Notation → DataType → List (List ℕ) → Result Entry
 entry_by Characters t words = text_entry t words
 entry_by other t words = number_entry t words
 
-abbrev pub put_entry : DataSet → ℕ → Attribute → EntryKind → ℕ → Result Entry Reason → Answer
-put_entry d i a kind num (Err reason) = Refuse reason
-put_entry d i a kind num (Ok entry) = Go (with_attribute d i (with_entries a kind (with_item num entry (entries_of a kind)))) replies.Plain
-
 abbrev pub put_entry_step : DataSet → List ℕ → EntryKind → ℕ → DataType → List (List ℕ) → Answer
 put_entry_step d name kind num t words = given reasons.NoSuchAttr (attribute_named d name) (λ found.
     unless ((is_wrong_scope kind found.1.scope, reasons.WrongScope) ∷ (is_out_of_range d kind num, reasons.NumberOutOfRange) ∷ [])
-    (put_entry d found.0 found.1 kind num (entry_by (notation_of t) t words)))
+    (valued (entry_by (notation_of t) t words) (λ entry. Go (with_attribute d found.0 (with_entries found.1 kind (with_item num entry (entries_of found.1 kind)))) replies.Plain)))
 
 -- the entry of an attribute that is there
 abbrev pub on_entry : DataSet → List ℕ → EntryKind → ℕ → (ℕ → Attribute → Entry → Answer) → Answer

@@ -15,7 +15,7 @@ pub record Entry : Type 0 where
   pub bytes : List ℕ
 
 -- The entries of a global attribute are numbered freely; those of an attribute of variables have the number of their variable,
--- an r variable's in `g` and a z variable's in `z`. No rule asks that there is such a variable, nor that `z` of a global attribute is empty.
+-- an r variable's in `g` and a z variable's in `z`. There need be no such variable, and `z` of a global attribute need not be empty.
 pub record Attribute : Type 0 where
   pub name : List ℕ
   pub scope : Scope
@@ -35,7 +35,7 @@ pub record Variable : Type 0 where
   pub blocking : ℤ
   pub max_rec : ℤ  -- the greatest record number, and -1 without records
   pub pad : Option (List ℕ)  -- the bytes of a value
-  pub recs : List (ℕ × List ℕ)  -- the records that are stored
+  pub recs : List (ℕ × List ℕ)  -- the records that are stored, also those past max_rec
 
 -- the version is always 3
 pub record DataSet : Type 0 where

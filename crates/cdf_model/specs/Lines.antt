@@ -1,18 +1,18 @@
 -- The lines of a script (own).
-use Rattle.std.specs.List.{flat_map}
+use Rattle.std.specs.List.{flat_map, slice_split}
 use Rattle.std.specs.Prelude.{ℕ, List, [], ◌∷◌, ◌++◌, map, length, Bool, true, false, ◌||◌, ◌==◌, nat_le, if◌then◌else◌, Some, None}
 use Rattle.std.specs.declared.option.Option.{Option}
 use Rattle.cdf_model.specs.Limits.{line_limit}
 
--- a byte in front of lines that are ended and of one that is not
-abbrev pub in_front : ℕ → List (List ℕ) → List ℕ → List (List ℕ) × List ℕ
-in_front b [] rest = ([], b ∷ rest)
-in_front b (line ∷ lines) rest = ((b ∷ line) ∷ lines, rest)
+-- all but the last, and the last
+abbrev pub parted : List (List ℕ) → List (List ℕ) × List ℕ
+parted [] = ([], [])
+parted (piece ∷ []) = ([], piece)
+parted (piece ∷ more) = (piece ∷ (parted more).0, (parted more).1)
 
 -- the lines that a newline ends, and the bytes after the last newline
 abbrev pub split : List ℕ → List (List ℕ) × List ℕ
-split [] = ([], [])
-split (b ∷ text) = if b == 10 then ([] ∷ (split text).0, (split text).1) else in_front b (split text).0 (split text).1
+split text = parted (slice_split (λ b. b == 10) text)
 
 -- bytes after the last newline are a line if there are any
 abbrev pub last_line : List ℕ → List (List ℕ)

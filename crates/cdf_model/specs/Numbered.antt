@@ -1,4 +1,4 @@
--- Finite maps from numbers, as lists of pairs whose numbers rise: so two maps that have the same items are one list (own).
+-- Finite maps from numbers, as lists of pairs (own). Each that is made here of one whose numbers rise has rising numbers again.
 use Rattle.std.specs.Prelude.{ℕ, zero, suc, ◌+◌, ◌-◌, List, [], ◌∷◌, map, not, ◌&&◌, ◌==◌, nat_lt, nat_le, find, if◌then◌else◌, None}
 use Rattle.std.specs.declared.option.Option.{Option}
 use Rattle.std.specs.List.{filter, last_or}

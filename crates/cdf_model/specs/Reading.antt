@@ -21,7 +21,7 @@ abbrev pub missing : Sparse → Variable → ℕ → List ℕ
 missing Previous v r = unwrap_or (item_before r v.recs) (pad_record v)
 missing rule v r = pad_record v
 
--- where records do not vary there is one, of number 0
+-- where records do not vary, the record of number 0 is read for each
 abbrev pub number_read : Variable → ℕ → ℕ
 number_read v r = if v.vary then r else 0
 

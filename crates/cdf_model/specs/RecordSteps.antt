@@ -1,13 +1,11 @@
 -- What the commands on records and values do (CDF User's Guide, Variables: records, sparse records; own: the reasons and their order, and that one value of a missing record is put into the record as it reads).
-use Rattle.std.specs.Prelude.{ℕ, ℤ, zero, suc, pos, negsuc, ◌+◌, ◌-◌, ◌*◌, List, [], ◌∷◌, ◌++◌, take, drop, Bool, not, ◌&&◌, ◌||◌, ◌==◌, nat_lt, nat_le, if◌then◌else◌, Some, None, Ok, Err}
+use Rattle.std.specs.Prelude.{ℕ, ℤ, zero, suc, pos, negsuc, ◌+◌, ◌-◌, ◌*◌, List, [], ◌∷◌, ◌++◌, take, drop, Bool, not, ◌&&◌, ◌||◌, ◌==◌, nat_lt, nat_le, if◌then◌else◌, Some, None}
 use Rattle.std.specs.declared.option.Option.{Option}
-use Rattle.std.specs.declared.result.Result.{Result}
-use Rattle.cdf_model.specs.declared.answer.Reason.{Reason}
 use Rattle.cdf_model.specs.declared.answer.Reason.TheVariants as reasons
 use Rattle.cdf_model.specs.declared.answer.Reply.TheVariants as replies
 use Rattle.cdf_model.specs.declared.kinds.Sparse.{Sparse}
 use Rattle.cdf_model.specs.declared.kinds.Sparse.TheVariants.{NoRule}
-use Rattle.cdf_model.specs.Answers.{Answer, Go, Refuse, unless, given}
+use Rattle.cdf_model.specs.Answers.{Answer, Go, unless, given, valued}
 use Rattle.cdf_model.specs.DataSet.{DataSet, Variable, extent}
 use Rattle.cdf_model.specs.Limits.{record_number_limit}
 use Rattle.cdf_model.specs.Names.{Found, variable_named}
@@ -38,13 +36,12 @@ with_record v r bytes = record v { recs = with_item r bytes (filled v.sparse v r
 abbrev pub cannot_be_put : Variable → ℕ → Bool
 cannot_be_put v r = nat_lt record_number_limit r || (not v.vary && not (r == 0))
 
-abbrev pub put_record : DataSet → Found → ℕ → Result (List ℕ) Reason → Answer
-put_record d found r (Err reason) = Refuse reason
-put_record d found r (Ok bytes) = unless ((cannot_be_put found.variable r, reasons.RecordOutOfRange) ∷ []) (Go (with_variable d found (with_record found.variable r bytes)) replies.Plain)
+abbrev pub put_record : DataSet → Found → ℕ → List ℕ → Answer
+put_record d found r bytes = unless ((cannot_be_put found.variable r, reasons.RecordOutOfRange) ∷ []) (Go (with_variable d found (with_record found.variable r bytes)) replies.Plain)
 
 abbrev pub put_rec_step : DataSet → List ℕ → ℕ → List (List ℕ) → Answer
 put_rec_step d name r words = given reasons.NoSuchVar (variable_named d name) (λ found.
-    put_record d found r (values_in found.variable.type found.variable.elems (value_count found.variable.dims found.variable.varys) words))
+    valued (values_in found.variable.type found.variable.elems (value_count found.variable.dims found.variable.varys) words) (put_record d found r))
 
 abbrev pub get_rec_step : DataSet → List ℕ → ℕ → Answer
 get_rec_step d name r = given reasons.NoSuchVar (variable_named d name) (λ found.
@@ -72,14 +69,11 @@ place_in_record d v index = place d.majority v.dims v.varys index
 abbrev pub with_value : Variable → List ℕ → ℕ → List ℕ → List ℕ
 with_value v bytes n value = take (n * value_size v) bytes ++ value ++ drop ((n + 1) * value_size v) bytes
 
-abbrev pub put_value : DataSet → Found → ℕ → List ℕ → Result (List ℕ) Reason → Answer
-put_value d found r index (Err reason) = Refuse reason
-put_value d found r index (Ok value) = given reasons.IndexOutOfRange (place_in_record d found.variable index) (λ n.
-    put_record d found r (Ok (with_value found.variable (read found.variable r) n value)))
-
 abbrev pub put_val_step : DataSet → List ℕ → ℕ → List ℕ → List (List ℕ) → Answer
 put_val_step d name r index words = given reasons.NoSuchVar (variable_named d name) (λ found.
-    put_value d found r index (values_in found.variable.type found.variable.elems 1 words))
+    valued (values_in found.variable.type found.variable.elems 1 words) (λ value.
+    given reasons.IndexOutOfRange (place_in_record d found.variable index) (λ n.
+    put_record d found r (with_value found.variable (read found.variable r) n value))))
 
 abbrev pub get_val_step : DataSet → List ℕ → ℕ → List ℕ → Answer
 get_val_step d name r index = given reasons.NoSuchVar (variable_named d name) (λ found.

@@ -7,13 +7,12 @@ use Rattle.cdf_model.specs.declared.answer.LineError.TheVariants.{UnknownWord}
 use Rattle.cdf_model.specs.declared.answer.Outcome.{Outcome}
 use Rattle.cdf_model.specs.declared.answer.Outcome.TheVariants.{Done, Refused}
 use Rattle.cdf_model.specs.declared.answer.Reason.TheVariants.{BadLine, NoSuchTap}
-use Rattle.cdf_model.specs.declared.command.Command.{Command}
 use Rattle.cdf_model.specs.Answers.{Answer, outcome, data_after}
 use Rattle.cdf_model.specs.DataSet.{DataSet}
 use Rattle.cdf_model.specs.EventTexts.{dump_text}
 use Rattle.cdf_model.specs.Grammar.{Parsed, Blank, Asks, Faulty, parse}
 use Rattle.cdf_model.specs.Lines.{lines}
-use Rattle.cdf_model.specs.Step.{Route, ByStep, ByContent, ByTaps, built, route_of, step}
+use Rattle.cdf_model.specs.Step.{Route, ByStep, ByContent, ByTaps, built, step}
 use Rattle.cdf_model.specs.Taps.{Tap, has_tap, left_after, told}
 use Rattle.cdf_model.specs.Texts.{framed, reply_text}
 
@@ -46,15 +45,15 @@ reported d taps n name =
     if has_tap taps name then record { data_set = d; taps = left_after taps name d; text = framed n (told taps name d); refused = false }
     else replied d taps n (Refused NoSuchTap)
 
-abbrev pub asked : DataSet → List Tap → ℕ → Command → Route → Bool → Turn
-asked d taps n c ByStep full = answered d taps n (step d c) full
-asked d taps n c ByContent full = record { data_set = d; taps = taps; text = framed n (dump_text d); refused = false }
-asked d taps n c (ByTaps name) full = reported d taps n name
+abbrev pub asked : DataSet → List Tap → ℕ → Route → Bool → Turn
+asked d taps n (ByStep answer) full = answered d taps n answer full
+asked d taps n ByContent full = record { data_set = d; taps = taps; text = framed n (dump_text d); refused = false }
+asked d taps n (ByTaps name) full = reported d taps n name
 
 -- The line of a number, whose command may find the file full. A command that there is not yet is a word that is not known.
 abbrev pub turn : DataSet → List Tap → ℕ → Parsed → Bool → Turn
 turn d taps n Blank full = record { data_set = d; taps = taps; text = []; refused = false }
-turn d taps n (Asks c) full = if built c then asked d taps n c (route_of c) full else faulty d taps n (UnknownWord 0)
+turn d taps n (Asks c) full = if built c then asked d taps n (step d c) full else faulty d taps n (UnknownWord 0)
 turn d taps n (Faulty fault) full = faulty d taps n fault
 
 -- a run so far: the data set, the taps that are left, the number of lines, all text, and whether a line was refused

@@ -1,9 +1,7 @@
 -- What the commands on variables do (CDF User's Guide, Variables; own: the reasons and their order, and that the sparse rule and the compression are set before records are written).
-use Rattle.std.specs.Prelude.{ℕ, pos, negsuc, List, [], ◌∷◌, ◌++◌, length, map, slice_set, Bool, true, false, not, ◌&&◌, ◌||◌, ◌==◌, nat_lt, if◌then◌else◌, Some, None, Ok, Err}
-use Rattle.std.specs.declared.result.Result.{Result}
+use Rattle.std.specs.Prelude.{ℕ, pos, negsuc, List, [], ◌∷◌, ◌++◌, length, map, slice_set, Bool, true, false, not, ◌&&◌, ◌||◌, ◌==◌, nat_lt, if◌then◌else◌, Some, None}
 use Rattle.std.specs.List.{remove, list_any}
 use Rattle.std.specs.Option.{is_none}
-use Rattle.cdf_model.specs.declared.answer.Reason.{Reason}
 use Rattle.cdf_model.specs.declared.answer.Reason.TheVariants as reasons
 use Rattle.cdf_model.specs.declared.answer.Reply.TheVariants as replies
 use Rattle.cdf_model.specs.declared.data_type.DataType.{DataType}
@@ -12,7 +10,7 @@ use Rattle.cdf_model.specs.declared.kinds.Kind.{Kind}
 use Rattle.cdf_model.specs.declared.kinds.Kind.TheVariants as kinds
 use Rattle.cdf_model.specs.declared.kinds.Sparse.{Sparse}
 use Rattle.cdf_model.specs.declared.kinds.Sparse.TheVariants.{NoRule}
-use Rattle.cdf_model.specs.Answers.{Answer, Go, Refuse, unless, given}
+use Rattle.cdf_model.specs.Answers.{Answer, Go, unless, given, valued}
 use Rattle.cdf_model.specs.AttributeSteps.{is_global}
 use Rattle.cdf_model.specs.DataSet.{Attribute, DataSet, Variable, extent}
 use Rattle.cdf_model.specs.Encodings.{encoding_at}
@@ -88,12 +86,9 @@ without_variable d found = with_variables (record d { attributes = map (attribut
 abbrev pub del_var_step : DataSet → List ℕ → Answer
 del_var_step d name = given reasons.NoSuchVar (variable_named d name) (λ found. Go (without_variable d found) replies.Plain)
 
-abbrev pub set_pad : DataSet → Found → Result (List ℕ) Reason → Answer
-set_pad d found (Err reason) = Refuse reason
-set_pad d found (Ok bytes) = Go (with_variable d found (record found.variable { pad = Some bytes })) replies.Plain
-
 abbrev pub set_pad_step : DataSet → List ℕ → List (List ℕ) → Answer
-set_pad_step d name words = given reasons.NoSuchVar (variable_named d name) (λ found. set_pad d found (values_in found.variable.type found.variable.elems 1 words))
+set_pad_step d name words = given reasons.NoSuchVar (variable_named d name) (λ found.
+    valued (values_in found.variable.type found.variable.elems 1 words) (λ bytes. Go (with_variable d found (record found.variable { pad = Some bytes })) replies.Plain))
 
 abbrev pub has_records : Variable → Bool
 has_records v = not (extent v.max_rec == 0)

@@ -1,3 +1,5 @@
+//! What a command answers, and why it is refused.
+
 use crate::{Bytes, DataType, Head, Items};
 
 /// What a command answers that is done.

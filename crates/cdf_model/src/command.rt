@@ -1,3 +1,5 @@
+//! The commands of a script.
+
 use crate::{Bytes, DataType, EntryKind, Majority, Nums, Scope, Sparse, Varys, Words};
 
 /// A command of a script. Names, values and texts are bytes.

@@ -1,3 +1,5 @@
+//! The types of values, with their codes, names and sizes.
+
 ghost use Rattle.std.specs.Prelude.{◌≡◌};
 ghost use Rattle.cdf_model.specs.Arguments.{type_in};
 ghost use Rattle.cdf_model.specs.Types.{name_of, size_of, type_of};

@@ -1,3 +1,5 @@
+//! The encodings of values, by their codes.
+
 ghost use Rattle.std.specs.Prelude.{◌≡◌};
 ghost use Rattle.cdf_model.specs.Encodings.{encoding_of};
 

@@ -1,3 +1,5 @@
+//! The parts of the content of a data set, as they are shown.
+
 use crate::{Bytes, DataType, EntryKind, Head, Kind, Nums, Scope, Sparse, Varys};
 
 /// A part of the content of a data set, as it is shown one after the other. All bytes are in network order.

@@ -1,3 +1,5 @@
+//! The head of a data set.
+
 use crate::Nums;
 
 /// Which index moves fastest through the values of a record: the last one in row majority, the first one in column majority.

@@ -1,3 +1,5 @@
+//! The lines of a listing.
+
 use crate::{Bytes, Kind, Scope};
 use std::marker::Model;
 

@@ -1,4 +1,6 @@
-/// What an attribute describes: the file, or each variable by itself. A file may also have the scope as an assumed one.
+//! The kinds of attributes, entries, variables and missing records.
+
+/// What an attribute describes: the file, or each variable by itself. An assumed scope counts as the one that it names.
 #[derive(Clone, Copy, Debug, PartialEq, Eq)]
 pub enum Scope {
     Global,
@@ -22,7 +24,7 @@ pub enum EntryKind {
     Z,
 }
 
-/// How the records that a variable lacks are read: with no rule there are none, else as the pad value or as the record before.
+/// How a record is read that a variable lacks up to its greatest number: as the pad value, without a rule too, or as the stored record before.
 #[derive(Clone, Copy, Debug, PartialEq, Eq)]
 pub enum Sparse {
     NoRule,

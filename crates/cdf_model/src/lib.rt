@@ -10,6 +10,7 @@ mod head;
 mod item;
 mod kinds;
 pub mod laws;
+pub mod limits;
 mod list;
 mod pad;
 #[cfg(test)]

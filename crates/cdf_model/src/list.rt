@@ -1,3 +1,5 @@
+//! Lists of bytes, numbers and variances that contracts see as lists.
+
 use std::marker::Model;
 
 /// A list of bytes, as a name, a line or a value.

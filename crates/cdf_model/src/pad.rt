@@ -1,3 +1,5 @@
+//! The value that stands where none was written.
+
 ghost use Rattle.std.specs.Prelude.{◌≡◌, ◌*◌, length};
 ghost use Rattle.cdf_model.specs.Pads.{default_element, default_value};
 ghost use Rattle.cdf_model.specs.Types.{size_of};

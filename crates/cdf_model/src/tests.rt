@@ -1,3 +1,5 @@
+//! Lists of words on both sides of the size of a part.
+
 use crate::{WordIter, Words, WordsBuilder};
 use std::process::Abort;
 use std::test::Fail;

@@ -1,3 +1,5 @@
+//! Lists of words, held as their bytes.
+
 ghost use Rattle.std.specs.Prelude.{◌≡◌, ◌++◌, OnErr, OnOk, nat_lt, position};
 ghost use Rattle.cdf_model.specs.Parts.{parts_of};
 

@@ -1,3 +1,5 @@
+//! The table of names.
+
 ghost use Rattle.std.specs.Prelude.{◌≡◌, ◌<◌, ◌+◌, ◌^◌, ◌++◌, ◌∷◌, [], ℕ, List, length, map, is_some, bytes_eq, slice_get, remove, false, Some, IfOk, IfSome, OnOk, OnErr};
 ghost use Rattle.std.specs.List.{IsDistinct};
 ghost use Rattle.cdf_names.specs.Names.{has_name, number_of, last_to};

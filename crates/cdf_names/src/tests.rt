@@ -1,3 +1,5 @@
+//! The calls of a table, and allocations that fail.
+
 use crate::NameTable;
 use cdf_model::Bytes;
 use std::alloc::Global;

@@ -1,3 +1,5 @@
+//! The text of the fault of a line.
+
 ghost use Rattle.std.specs.Prelude.{◌≡◌, ◌++◌, OnOk, string_bytes};
 ghost use Rattle.cdf_model.specs.Texts.{fault_text};
 

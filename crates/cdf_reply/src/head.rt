@@ -1,3 +1,5 @@
+//! The text of the head of a data set.
+
 ghost use Rattle.std.specs.Prelude.{◌≡◌, ◌++◌, OnOk, string_bytes};
 ghost use Rattle.cdf_model.specs.Texts.{list_text, head_text, version_text, form_text, counts_text, majority_text, checksum_text};
 

@@ -1,3 +1,5 @@
+//! The lines of a listing, as texts.
+
 ghost use Rattle.std.specs.Prelude.{◌≡◌, IfOk, codes};
 ghost use Rattle.std.specs.Fmt.{decimal};
 ghost use Rattle.cdf_model.specs.Texts.{◌⧺◌, item_text, kind_text, scope_text};

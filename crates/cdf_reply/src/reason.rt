@@ -1,3 +1,5 @@
+//! The text of a reason.
+
 ghost use Rattle.std.specs.Prelude.{◌≡◌, ◌++◌, OnOk, string_bytes};
 ghost use Rattle.cdf_model.specs.Texts.{reason_text};
 

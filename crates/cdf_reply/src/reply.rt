@@ -1,3 +1,5 @@
+//! The reply to a line.
+
 ghost use Rattle.std.specs.Prelude.{◌≡◌, ◌++◌, IfOk, OnOk};
 ghost use Rattle.cdf_model.specs.Texts.{newline, reply_text as text_of};
 ghost use Rattle.cdf_model.specs.Whole.{CanBeWritten, HasWholeValues, IsWhole};

@@ -1,3 +1,5 @@
+//! Replies, each with its text.
+
 ghost use Rattle.std.specs.Prelude.{◌≡◌, IfOk};
 ghost use Rattle.cdf_model.specs.Whole.{IsWhole};
 

@@ -1,3 +1,5 @@
+//! Packs bytes.
+
 ghost use Rattle.std.specs.Prelude.{IfOk};
 ghost use Rattle.cdf_model.specs.RunLengths.{IsLongest, Packs};
 

@@ -1,3 +1,5 @@
+//! Reads packed bytes.
+
 ghost use Rattle.std.specs.Prelude.{◌≡◌, ◌↔◌, ℕ, false, length, IsOk, IsTrue, MatchResult, OnOk};
 ghost use Rattle.cdf_model.specs.RunLengths.{Packs, is_cut, plain_of};
 ghost use Rattle.cdf_rle.specs.Filling.{Fills, IsMisfit, PassesEnd, StopsShort};

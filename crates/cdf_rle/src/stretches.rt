@@ -1,3 +1,5 @@
+//! Stretches of zeros and of other bytes.
+
 ghost use Rattle.std.specs.Prelude.{◌≡◌, ◌+◌, ◌≤◌, ◌<◌, length, drop, min, slice_index};
 ghost use Rattle.cdf_rle.specs.Stretches.{data_length, zero_length};
 

@@ -1,3 +1,5 @@
+//! Bytes, with their packed forms.
+
 use crate::{RleError, decode_into, encode};
 use std::test::Fail;
 

@@ -1,7 +1,7 @@
 -- The names of commands.
 use Rattle.std.specs.Prelude.{◌≡◌, ℕ, List, [], ◌∷◌, map, refl, bytes_eq, find, slice_index_or}
 use Rattle.std.specs.declared.option.Option.{Option}
-use Rattle.cdf_model.specs.Forms.{CommandRow, Form, Makes, row, rows}
+use Rattle.cdf_model.specs.Forms.{CommandRow, row, rows}
 use Rattle.cdf_model.specs.declared.command.Command.TheVariants as commands
 use Rattle.cdf_script.specs.declared.verb.Verb.{Verb}
 use Rattle.cdf_script.specs.declared.verb.Verb.TheVariants as verb
@@ -45,13 +45,10 @@ place_of verb.GetVal = 24
 place_of verb.Reindex = 25
 
 abbrev pub row_of : Verb → CommandRow
-row_of v = slice_index_or rows (place_of v) (row [] (Makes commands.Info))
+row_of v = slice_index_or rows (place_of v) (row [] [] commands.Info)
 
 abbrev pub name_of : Verb → List ℕ
 name_of v = (row_of v).name
-
-abbrev pub form_at : Verb → Form
-form_at v = (row_of v).form
 
 -- the verb that has the name
 abbrev pub verb_in : List ℕ → Option Verb

@@ -10,26 +10,6 @@ ghost use Rattle.cdf_script.specs.Commas.{SplitsFirst};
 use cdf_model::{DataType, EntryKind, Majority, Nums, Scope, Sparse, Varys};
 use std::alloc::{AllocError, Global};
 
-static TYPES: [DataType; 17] = [
-    DataType::Int1,
-    DataType::Int2,
-    DataType::Int4,
-    DataType::Int8,
-    DataType::UInt1,
-    DataType::UInt2,
-    DataType::UInt4,
-    DataType::Real4,
-    DataType::Real8,
-    DataType::Epoch,
-    DataType::Epoch16,
-    DataType::TimeTt2000,
-    DataType::Byte,
-    DataType::Float,
-    DataType::Double,
-    DataType::Char,
-    DataType::UChar,
-];
-
 /// A decimal number of at most 32 bits without leading zeros.
 pub fn read_number(word: &[u8]) -> Option<u32>
     ensures { result ≡ number_in word.now }
@@ -91,7 +71,7 @@ pub fn read_choice(first: &[u8], second: &[u8], word: &[u8]) -> Option<bool>
 pub fn read_type(word: &[u8]) -> Option<DataType>
     ensures { result ≡ type_in word.now }
 {
-    TYPES.iter().copied().find(|t| t.name().as_bytes() == word)
+    DataType::of_name(word)
 }
 
 /// `global` or `variable`.

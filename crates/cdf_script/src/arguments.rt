@@ -45,11 +45,11 @@ impl<'a> Model for Arguments<'a> {
 
 impl<'a> Arguments<'a> {
     ghost use Rattle.std.specs.Prelude.{◌≡◌, ◌∷◌, [], ◌<◌, ◌≤◌, ◌+◌, length, map, drop, false, Ok, Err, MatchResult, IfOk, IfSome, IfNone, OnOk};
-    ghost use Rattle.cdf_model.specs.Forms.{is_open, wanted, AText, ANumber, Numbers, Varies, AType, AScope, AKind, AMajority, ARule, AChoice};
+    ghost use Rattle.cdf_model.specs.Forms.{wanted, AText, ANumber, Numbers, Varies, AType, AScope, AKind, AMajority, ARule, AChoice, AValue};
     ghost use Rattle.cdf_model.specs.Quoting.{words};
     ghost use Rattle.cdf_script.specs.Counting.{Begins, BeginsAt, Counts};
     ghost use Rattle.cdf_script.specs.Reading.{Takes};
-    ghost use Rattle.cdf_script.specs.Verbs.{form_at};
+    ghost use Rattle.cdf_script.specs.Verbs.{row_of};
     ghost use Rattle.cdf_script.specs.Words.{word_of};
 
     /// All words of a line, or the leftmost fault of its quotes.
@@ -99,9 +99,9 @@ impl<'a> Arguments<'a> {
 
     /// Whether there are as many words as a verb wants, on a line of so many bytes.
     pub fn check_count(&self, verb: Verb, line_length: usize) -> Result<(), LineError>
-        ensures enough { OnOk result (wanted (form_at verb) ≤ length self.now) }
-        ensures exact { OnOk result (is_open (form_at verb) ≡ false → length self.now ≡ wanted (form_at verb)) }
-        ensures counts { Counts line_length (form_at verb) self.now result }
+        ensures enough { OnOk result (wanted (row_of verb) ≤ length self.now) }
+        ensures exact { OnOk result ((row_of verb).is_open ≡ false → length self.now ≡ wanted (row_of verb)) }
+        ensures counts { Counts line_length (row_of verb) self.now result }
     {
         let wanted = verb.wanted();
         if self.count < wanted {

@@ -1,9 +1,9 @@
 //! The commands, each from its words.
 
 ghost use Rattle.std.specs.Prelude.{◌≡◌, ◌≤◌, false, length};
-ghost use Rattle.cdf_model.specs.Forms.{is_open, wanted};
-ghost use Rattle.cdf_script.specs.Reading.{Reads};
-ghost use Rattle.cdf_script.specs.Verbs.{form_at};
+ghost use Rattle.cdf_model.specs.Forms.{wanted};
+ghost use Rattle.cdf_script.specs.Reading.{ReadsRow};
+ghost use Rattle.cdf_script.specs.Verbs.{row_of};
 
 use crate::arguments::Arguments;
 use crate::fault::ParseError;
@@ -12,9 +12,9 @@ use cdf_model::Command;
 
 /// The command of a verb, with the words that it wants.
 pub fn read_command(verb: Verb, arguments: &mut Arguments<'_>) -> Result<Command, ParseError>
-    requires enough { wanted (form_at verb) ≤ length arguments.old }
-    requires exact { is_open (form_at verb) ≡ false → length arguments.old ≡ wanted (form_at verb) }
-    ensures { Reads (form_at verb) arguments.old result }
+    requires enough { wanted (row_of verb) ≤ length arguments.old }
+    requires exact { (row_of verb).is_open ≡ false → length arguments.old ≡ wanted (row_of verb) }
+    ensures { ReadsRow (row_of verb) arguments.old result }
 {
     match verb {
         Verb::Info => Ok(Command::Info),
@@ -48,7 +48,7 @@ pub fn read_command(verb: Verb, arguments: &mut Arguments<'_>) -> Result<Command
 
 fn read_setup(arguments: &mut Arguments<'_>) -> Result<Command, ParseError>
     requires { 3 ≤ length arguments.old }
-    ensures { Reads (form_at Verb.Setup) arguments.old result }
+    ensures { ReadsRow (row_of Verb.Setup) arguments.old result }
 {
     let encoding = arguments.number()?;
     let majority = arguments.majority()?;
@@ -62,7 +62,7 @@ fn read_setup(arguments: &mut Arguments<'_>) -> Result<Command, ParseError>
 
 fn read_checksum(arguments: &mut Arguments<'_>) -> Result<Command, ParseError>
     requires { 1 ≤ length arguments.old }
-    ensures { Reads (form_at Verb.Checksum) arguments.old result }
+    ensures { ReadsRow (row_of Verb.Checksum) arguments.old result }
 {
     let md5 = arguments.choice(b"none", b"md5")?;
     Ok(Command::Checksum { md5 })
@@ -70,7 +70,7 @@ fn read_checksum(arguments: &mut Arguments<'_>) -> Result<Command, ParseError>
 
 fn read_report(arguments: &mut Arguments<'_>) -> Result<Command, ParseError>
     requires { 1 ≤ length arguments.old }
-    ensures { Reads (form_at Verb.Report) arguments.old result }
+    ensures { ReadsRow (row_of Verb.Report) arguments.old result }
 {
     let tap = arguments.text()?;
     Ok(Command::Report { tap })
@@ -78,7 +78,7 @@ fn read_report(arguments: &mut Arguments<'_>) -> Result<Command, ParseError>
 
 fn read_attr(arguments: &mut Arguments<'_>) -> Result<Command, ParseError>
     requires { 2 ≤ length arguments.old }
-    ensures { Reads (form_at Verb.Attr) arguments.old result }
+    ensures { ReadsRow (row_of Verb.Attr) arguments.old result }
 {
     let name = arguments.text()?;
     let scope = arguments.scope()?;
@@ -87,7 +87,7 @@ fn read_attr(arguments: &mut Arguments<'_>) -> Result<Command, ParseError>
 
 fn read_rename_attr(arguments: &mut Arguments<'_>) -> Result<Command, ParseError>
     requires { 2 ≤ length arguments.old }
-    ensures { Reads (form_at Verb.RenameAttr) arguments.old result }
+    ensures { ReadsRow (row_of Verb.RenameAttr) arguments.old result }
 {
     let from = arguments.text()?;
     let to = arguments.text()?;
@@ -96,7 +96,7 @@ fn read_rename_attr(arguments: &mut Arguments<'_>) -> Result<Command, ParseError
 
 fn read_del_attr(arguments: &mut Arguments<'_>) -> Result<Command, ParseError>
     requires { 1 ≤ length arguments.old }
-    ensures { Reads (form_at Verb.DelAttr) arguments.old result }
+    ensures { ReadsRow (row_of Verb.DelAttr) arguments.old result }
 {
     let name = arguments.text()?;
     Ok(Command::DelAttr { name })
@@ -104,7 +104,7 @@ fn read_del_attr(arguments: &mut Arguments<'_>) -> Result<Command, ParseError>
 
 fn read_put_entry(arguments: &mut Arguments<'_>) -> Result<Command, ParseError>
     requires { 5 ≤ length arguments.old }
-    ensures { Reads (form_at Verb.PutEntry) arguments.old result }
+    ensures { ReadsRow (row_of Verb.PutEntry) arguments.old result }
 {
     let attr = arguments.text()?;
     let kind = arguments.kind()?;
@@ -122,7 +122,7 @@ fn read_put_entry(arguments: &mut Arguments<'_>) -> Result<Command, ParseError>
 
 fn read_get_entry(arguments: &mut Arguments<'_>) -> Result<Command, ParseError>
     requires { 3 ≤ length arguments.old }
-    ensures { Reads (form_at Verb.GetEntry) arguments.old result }
+    ensures { ReadsRow (row_of Verb.GetEntry) arguments.old result }
 {
     let attr = arguments.text()?;
     let kind = arguments.kind()?;
@@ -132,7 +132,7 @@ fn read_get_entry(arguments: &mut Arguments<'_>) -> Result<Command, ParseError>
 
 fn read_del_entry(arguments: &mut Arguments<'_>) -> Result<Command, ParseError>
     requires { 3 ≤ length arguments.old }
-    ensures { Reads (form_at Verb.DelEntry) arguments.old result }
+    ensures { ReadsRow (row_of Verb.DelEntry) arguments.old result }
 {
     let attr = arguments.text()?;
     let kind = arguments.kind()?;
@@ -142,7 +142,7 @@ fn read_del_entry(arguments: &mut Arguments<'_>) -> Result<Command, ParseError>
 
 fn read_rvar(arguments: &mut Arguments<'_>) -> Result<Command, ParseError>
     requires { 5 ≤ length arguments.old }
-    ensures { Reads (form_at Verb.RVar) arguments.old result }
+    ensures { ReadsRow (row_of Verb.RVar) arguments.old result }
 {
     let name = arguments.text()?;
     let t = arguments.data_type()?;
@@ -160,7 +160,7 @@ fn read_rvar(arguments: &mut Arguments<'_>) -> Result<Command, ParseError>
 
 fn read_zvar(arguments: &mut Arguments<'_>) -> Result<Command, ParseError>
     requires { 6 ≤ length arguments.old }
-    ensures { Reads (form_at Verb.ZVar) arguments.old result }
+    ensures { ReadsRow (row_of Verb.ZVar) arguments.old result }
 {
     let name = arguments.text()?;
     let t = arguments.data_type()?;
@@ -180,7 +180,7 @@ fn read_zvar(arguments: &mut Arguments<'_>) -> Result<Command, ParseError>
 
 fn read_rename_var(arguments: &mut Arguments<'_>) -> Result<Command, ParseError>
     requires { 2 ≤ length arguments.old }
-    ensures { Reads (form_at Verb.RenameVar) arguments.old result }
+    ensures { ReadsRow (row_of Verb.RenameVar) arguments.old result }
 {
     let from = arguments.text()?;
     let to = arguments.text()?;
@@ -189,7 +189,7 @@ fn read_rename_var(arguments: &mut Arguments<'_>) -> Result<Command, ParseError>
 
 fn read_del_var(arguments: &mut Arguments<'_>) -> Result<Command, ParseError>
     requires { 1 ≤ length arguments.old }
-    ensures { Reads (form_at Verb.DelVar) arguments.old result }
+    ensures { ReadsRow (row_of Verb.DelVar) arguments.old result }
 {
     let name = arguments.text()?;
     Ok(Command::DelVar { name })
@@ -197,7 +197,7 @@ fn read_del_var(arguments: &mut Arguments<'_>) -> Result<Command, ParseError>
 
 fn read_set_pad(arguments: &mut Arguments<'_>) -> Result<Command, ParseError>
     requires { length arguments.old ≡ 2 }
-    ensures { Reads (form_at Verb.SetPad) arguments.old result }
+    ensures { ReadsRow (row_of Verb.SetPad) arguments.old result }
 {
     let var = arguments.text()?;
     let words = arguments.values()?;
@@ -206,7 +206,7 @@ fn read_set_pad(arguments: &mut Arguments<'_>) -> Result<Command, ParseError>
 
 fn read_set_sparse(arguments: &mut Arguments<'_>) -> Result<Command, ParseError>
     requires { 2 ≤ length arguments.old }
-    ensures { Reads (form_at Verb.SetSparse) arguments.old result }
+    ensures { ReadsRow (row_of Verb.SetSparse) arguments.old result }
 {
     let var = arguments.text()?;
     let rule = arguments.rule()?;
@@ -215,7 +215,7 @@ fn read_set_sparse(arguments: &mut Arguments<'_>) -> Result<Command, ParseError>
 
 fn read_set_compress(arguments: &mut Arguments<'_>) -> Result<Command, ParseError>
     requires { 2 ≤ length arguments.old }
-    ensures { Reads (form_at Verb.SetCompress) arguments.old result }
+    ensures { ReadsRow (row_of Verb.SetCompress) arguments.old result }
 {
     let var = arguments.text()?;
     let rle = arguments.choice(b"none", b"rle")?;
@@ -224,7 +224,7 @@ fn read_set_compress(arguments: &mut Arguments<'_>) -> Result<Command, ParseErro
 
 fn read_set_blocking(arguments: &mut Arguments<'_>) -> Result<Command, ParseError>
     requires { 2 ≤ length arguments.old }
-    ensures { Reads (form_at Verb.SetBlocking) arguments.old result }
+    ensures { ReadsRow (row_of Verb.SetBlocking) arguments.old result }
 {
     let var = arguments.text()?;
     let n = arguments.number()?;
@@ -233,7 +233,7 @@ fn read_set_blocking(arguments: &mut Arguments<'_>) -> Result<Command, ParseErro
 
 fn read_put_rec(arguments: &mut Arguments<'_>) -> Result<Command, ParseError>
     requires { 3 ≤ length arguments.old }
-    ensures { Reads (form_at Verb.PutRec) arguments.old result }
+    ensures { ReadsRow (row_of Verb.PutRec) arguments.old result }
 {
     let var = arguments.text()?;
     let rec = arguments.number()?;
@@ -243,7 +243,7 @@ fn read_put_rec(arguments: &mut Arguments<'_>) -> Result<Command, ParseError>
 
 fn read_get_rec(arguments: &mut Arguments<'_>) -> Result<Command, ParseError>
     requires { 2 ≤ length arguments.old }
-    ensures { Reads (form_at Verb.GetRec) arguments.old result }
+    ensures { ReadsRow (row_of Verb.GetRec) arguments.old result }
 {
     let var = arguments.text()?;
     let rec = arguments.number()?;
@@ -252,7 +252,7 @@ fn read_get_rec(arguments: &mut Arguments<'_>) -> Result<Command, ParseError>
 
 fn read_del_recs(arguments: &mut Arguments<'_>) -> Result<Command, ParseError>
     requires { 3 ≤ length arguments.old }
-    ensures { Reads (form_at Verb.DelRecs) arguments.old result }
+    ensures { ReadsRow (row_of Verb.DelRecs) arguments.old result }
 {
     let var = arguments.text()?;
     let first = arguments.number()?;
@@ -262,7 +262,7 @@ fn read_del_recs(arguments: &mut Arguments<'_>) -> Result<Command, ParseError>
 
 fn read_put_val(arguments: &mut Arguments<'_>) -> Result<Command, ParseError>
     requires { length arguments.old ≡ 4 }
-    ensures { Reads (form_at Verb.PutVal) arguments.old result }
+    ensures { ReadsRow (row_of Verb.PutVal) arguments.old result }
 {
     let var = arguments.text()?;
     let rec = arguments.number()?;
@@ -278,7 +278,7 @@ fn read_put_val(arguments: &mut Arguments<'_>) -> Result<Command, ParseError>
 
 fn read_get_val(arguments: &mut Arguments<'_>) -> Result<Command, ParseError>
     requires { 3 ≤ length arguments.old }
-    ensures { Reads (form_at Verb.GetVal) arguments.old result }
+    ensures { ReadsRow (row_of Verb.GetVal) arguments.old result }
 {
     let var = arguments.text()?;
     let rec = arguments.number()?;
@@ -288,7 +288,7 @@ fn read_get_val(arguments: &mut Arguments<'_>) -> Result<Command, ParseError>
 
 fn read_reindex(arguments: &mut Arguments<'_>) -> Result<Command, ParseError>
     requires { 1 ≤ length arguments.old }
-    ensures { Reads (form_at Verb.Reindex) arguments.old result }
+    ensures { ReadsRow (row_of Verb.Reindex) arguments.old result }
 {
     let var = arguments.text()?;
     Ok(Command::Reindex { var })

@@ -12,7 +12,7 @@ mod verb;
 mod word;
 mod word_text;
 
-pub use parsing::{ParseError, Parsed, parse, parse_line};
+pub use parsing::{ParseError, Parsed, is_blank_line, parse, parse_line};
 
 #[cfg(test)]
 mod tests;

@@ -1,6 +1,8 @@
-ghost use Rattle.std.specs.Prelude.{◌≡◌};
+//! What a line asks for: the calls of the crate.
+
+ghost use Rattle.std.specs.Prelude.{◌≡◌, true};
 ghost use Rattle.cdf_lines.specs.Pending.{line_of};
-ghost use Rattle.cdf_model.specs.Grammar.{parse as asked_for, parse_words as words_ask_for};
+ghost use Rattle.cdf_model.specs.Grammar.{Blank as Nothing, parse as asked_for, parse_words as words_ask_for};
 ghost use Rattle.cdf_model.specs.Lines.{kept, is_blank as blank_line};
 ghost use Rattle.cdf_script.specs.Asking.{Parses};
 
@@ -75,6 +77,14 @@ fn too_long() -> Result<Parsed, ParseError>
             at: LINE_LIMIT as u64,
         },
     })
+}
+
+/// Whether a line has no bytes but blanks, or is a comment. It costs less than `parse`.
+#[inline(always)]
+pub fn is_blank_line(line: &Line<'_>) -> bool
+    ensures { result ≡ true → asked_for (line_of line.now) ≡ Nothing }
+{
+    !line.long && is_blank(line.text)
 }
 
 #[inline(always)]

@@ -1,3 +1,5 @@
+//! Lines, with what they ask for.
+
 use crate::{ParseError, Parsed, parse_line};
 use cdf_model::{
     Bytes, Command, EntryKind, LineError, Majority, Nums, Scope, Sparse, Varys, Words,

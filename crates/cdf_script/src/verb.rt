@@ -62,8 +62,8 @@ static VERBS: [Verb; 26] = [
 
 impl Verb {
     ghost use Rattle.std.specs.Prelude.{◌≡◌, Some, find, bytes_eq};
-    ghost use Rattle.cdf_model.specs.Forms.{is_open as open_form, wanted as wanted_by};
-    ghost use Rattle.cdf_script.specs.Verbs.{form_at, name_of, verb_in};
+    ghost use Rattle.cdf_model.specs.Forms.{wanted as wanted_by};
+    ghost use Rattle.cdf_script.specs.Verbs.{name_of, row_of, verb_in};
 
     /// The verb of a name.
     pub fn of_name(name: &[u8]) -> Option<Verb>
@@ -107,7 +107,7 @@ impl Verb {
 
     /// How many words the command wants at least.
     pub fn wanted(&self) -> usize
-        ensures { result ≡ wanted_by (form_at self.now) }
+        ensures { result ≡ wanted_by (row_of self.now) }
     {
         match self {
             Verb::Info | Verb::List | Verb::Dump => 0,
@@ -126,7 +126,7 @@ impl Verb {
 
     /// Whether the command takes more words than it wants.
     pub fn is_open(&self) -> bool
-        ensures { result ≡ open_form (form_at self.now) }
+        ensures { result ≡ (row_of self.now).is_open }
     {
         match self {
             Verb::PutEntry | Verb::PutRec => true,

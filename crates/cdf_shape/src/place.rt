@@ -1,3 +1,5 @@
+//! The place of a value in a record.
+
 ghost use Rattle.std.specs.Prelude.{◌≡◌, ◌≤◌, length, IsTrue};
 ghost use Rattle.cdf_model.specs.Place.{column_place, has_place, place, record_limit, row_place, value_count};
 

@@ -1,3 +1,5 @@
+//! The shape of a record, and its size.
+
 ghost use Rattle.std.specs.Prelude.{◌≡◌, ◌≤◌, ◌*◌, ◌-◌, ◌^◌, length, min};
 ghost use Rattle.std.specs.Option.{SomeIff};
 ghost use Rattle.cdf_model.specs.Place.{record_limit, record_size, value_count};

@@ -1,3 +1,5 @@
+//! Places and sizes of records.
+
 ghost use Rattle.std.specs.Prelude.{◌≡◌, IfOk, length};
 
 use crate::{Shape, place_of, record_bytes};

@@ -1,3 +1,5 @@
+//! Values of each type, read and written.
+
 use crate::{ValueError, from_network, quoted_text, read_values, to_network, write_values};
 use cdf_model::{DataType, Encoding, Words, WordsBuilder, default_pad};
 use std::alloc::{AllocError, Global};

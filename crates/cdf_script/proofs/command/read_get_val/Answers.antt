@@ -2,13 +2,13 @@ use Rattle.cdf_script.proofs.Takes.{hands_on, made}
 use Rattle.cdf_script.proofs.command.read_get_val.Goals as goal
 
 pub returns-in_err-var : goal.returns-in_err-var
-returns-in_err-var c = hands_on c.from_residual.ensures.1 (c.in_err-var.ensures.takes _)
+returns-in_err-var c = hands_on c.from_residual.ensures.1 (c.in_err-var.ensures.takes _ _ _)
 
 pub returns-in_err-rec : goal.returns-in_err-rec
-returns-in_err-rec c = hands_on c.from_residual-in_err-rec.ensures.1 (c.in_ok-var.ensures.takes _ _ (c.in_err-rec.ensures.takes _))
+returns-in_err-rec c = hands_on c.from_residual-in_err-rec.ensures.1 (c.in_ok-var.ensures.takes _ _ _ _ (c.in_err-rec.ensures.takes _ _ _))
 
 pub returns-in_err-index : goal.returns-in_err-index
-returns-in_err-index c = hands_on c.from_residual-in_err-index.ensures.1 (c.in_ok-var.ensures.takes _ _ (c.in_ok-rec.ensures.takes _ _ (c.in_err-index.ensures.takes _)))
+returns-in_err-index c = hands_on c.from_residual-in_err-index.ensures.1 (c.in_ok-var.ensures.takes _ _ _ _ (c.in_ok-rec.ensures.takes _ _ _ _ (c.in_err-index.ensures.takes _ _ _)))
 
 pub returns : goal.returns
-returns c = c.in_ok-var.ensures.takes _ _ (c.in_ok-rec.ensures.takes _ _ (c.in_ok-index.ensures.takes _ _ (made _ _)))
+returns c = c.in_ok-var.ensures.takes _ _ _ _ (c.in_ok-rec.ensures.takes _ _ _ _ (c.in_ok-index.ensures.takes _ _ _ _ (made _ _)))

@@ -2,7 +2,7 @@ use Rattle.cdf_script.proofs.Takes.{hands_on, made}
 use Rattle.cdf_script.proofs.command.read_reindex.Goals as goal
 
 pub returns-in_err-var : goal.returns-in_err-var
-returns-in_err-var c = hands_on c.from_residual.ensures.1 (c.in_err-var.ensures.takes _)
+returns-in_err-var c = hands_on c.from_residual.ensures.1 (c.in_err-var.ensures.takes _ _ _)
 
 pub returns : goal.returns
-returns c = c.in_ok-var.ensures.takes _ _ (made _ _)
+returns c = c.in_ok-var.ensures.takes _ _ _ _ (made _ _)

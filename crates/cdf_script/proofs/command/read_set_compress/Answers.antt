@@ -2,10 +2,10 @@ use Rattle.cdf_script.proofs.Takes.{hands_on, made}
 use Rattle.cdf_script.proofs.command.read_set_compress.Goals as goal
 
 pub returns-in_err-var : goal.returns-in_err-var
-returns-in_err-var c = hands_on c.from_residual.ensures.1 (c.in_err-var.ensures.takes _)
+returns-in_err-var c = hands_on c.from_residual.ensures.1 (c.in_err-var.ensures.takes _ _ _)
 
 pub returns-in_err-rle : goal.returns-in_err-rle
-returns-in_err-rle c = hands_on c.from_residual-in_err-rle.ensures.1 (c.in_ok-var.ensures.takes _ _ (c.in_err-rle.ensures.takes _))
+returns-in_err-rle c = hands_on c.from_residual-in_err-rle.ensures.1 (c.in_ok-var.ensures.takes _ _ _ _ (c.in_err-rle.ensures.takes _ _ _))
 
 pub returns : goal.returns
-returns c = c.in_ok-var.ensures.takes _ _ (c.in_ok-rle.ensures.takes _ _ (made _ _))
+returns c = c.in_ok-var.ensures.takes _ _ _ _ (c.in_ok-rle.ensures.takes _ _ _ _ (made _ _))

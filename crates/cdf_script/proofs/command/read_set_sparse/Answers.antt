@@ -2,10 +2,10 @@ use Rattle.cdf_script.proofs.Takes.{hands_on, made}
 use Rattle.cdf_script.proofs.command.read_set_sparse.Goals as goal
 
 pub returns-in_err-var : goal.returns-in_err-var
-returns-in_err-var c = hands_on c.from_residual.ensures.1 (c.in_err-var.ensures.takes _)
+returns-in_err-var c = hands_on c.from_residual.ensures.1 (c.in_err-var.ensures.takes _ _ _)
 
 pub returns-in_err-rule : goal.returns-in_err-rule
-returns-in_err-rule c = hands_on c.from_residual-in_err-rule.ensures.1 (c.in_ok-var.ensures.takes _ _ (c.in_err-rule.ensures.takes _))
+returns-in_err-rule c = hands_on c.from_residual-in_err-rule.ensures.1 (c.in_ok-var.ensures.takes _ _ _ _ (c.in_err-rule.ensures.takes _ _ _))
 
 pub returns : goal.returns
-returns c = c.in_ok-var.ensures.takes _ _ (c.in_ok-rule.ensures.takes _ _ (made _ _))
+returns c = c.in_ok-var.ensures.takes _ _ _ _ (c.in_ok-rule.ensures.takes _ _ _ _ (made _ _))
