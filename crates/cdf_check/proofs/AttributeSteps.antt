@@ -2,22 +2,22 @@
 use Rattle.std.proofs.Common.{◌≡◌, ℕ, ◌+◌, ◌<◌, ◌≤◌, List, [], ◌∷◌, ◌++◌, length, map, take, get_or, refl, sym, ap, ◌∙◌, subst, arith, append_assoc, append-nil}
 use Rattle.std.proofs.lemmas.List.{take_more, map-append}
 use Rattle.std.specs.List.{flat_map}
-use Rattle.cdf_format.specs.AttributeRules.{same_name, phase6}
+use Rattle.cdf_format.specs.AttributeRules.{same_name, attribute_rows, phase6}
 use Rattle.cdf_format.specs.ChainRules.{differ_rows}
 use Rattle.cdf_format.specs.Fields.{LiesIn, name_at, name_field, name_in, type_at}
 use Rattle.cdf_format.specs.Owners.{attribute_records}
 use Rattle.cdf_format.specs.Records.{adr_name, gdr_adr_head}
 use Rattle.cdf_format.specs.RecordTypes.{adr_type}
-use Rattle.cdf_format.specs.Rules.{Row, Hold, IsBroken}
+use Rattle.cdf_format.specs.Rules.{Hold, IsBroken}
 use Rattle.cdf_format.specs.Shape.{AttributeShape, adr_chain, attribute_shape}
 use Rattle.cdf_format.specs.Fields.{gdr_offset}
-use Rattle.cdf_format.specs.Tiles.{AreTiles, tiling}
-use Rattle.cdf_format.specs.Walks.{Walk, whole, records_of}
+use Rattle.cdf_format.specs.Tiles.{AreTiles}
+use Rattle.cdf_format.specs.Walks.{whole}
 use Rattle.cdf_format.proofs.ChainsLemmas.{chain_sound, linkable-in, linkable-type}
 use Rattle.cdf_format.proofs.Members.{length-le_from_distinct}
 use Rattle.cdf_format.proofs.RowLemmas.{Hold-append, IsBroken-before, IsBroken-after}
 use Rattle.cdf_format.proofs.TilesLemmas.{tile_lies, length_tiles}
-use Rattle.cdf_check.specs.Entries.{IsAttribute, AreAttributes, attribute_rows_in}
+use Rattle.cdf_check.specs.Entries.{IsAttribute, AreAttributes}
 use Rattle.cdf_check.specs.FileChains.{AreLong}
 
 -- ---- the Name of an attribute
@@ -63,18 +63,12 @@ chain_few b ts adrs tiled is =
 
 -- ---- the rules of the phase
 
-module _ (b ts adrs : List ℕ) (tiles_are : tiling b ≡ whole ts) (chain_is : adr_chain b ts ≡ whole adrs) where
-  abbrev of_chain : List ℕ → List ℕ → List Row
-  of_chain records members = flat_map (attribute_rows_in b records) members ++ differ_rows 2 (same_name b adr_name) [] members
+module _ (b ts adrs : List ℕ) where
+  pub phase6_holds : Hold (flat_map (attribute_rows b ts) adrs) → Hold (differ_rows 2 (same_name b adr_name) [] adrs) → Hold (phase6 b ts adrs)
+  phase6_holds p q = Hold-append (flat_map (attribute_rows b ts) adrs) (differ_rows 2 (same_name b adr_name) [] adrs) p q
 
-  rows_are : phase6 b ≡ of_chain ts adrs
-  rows_are = ap (λ (w : Walk). of_chain (records_of w) (records_of (adr_chain b (records_of w)))) tiles_are ∙ ap (λ (w : Walk). of_chain ts (records_of w)) chain_is
+  pub attributes_break : (rule place : ℕ) → IsBroken (flat_map (attribute_rows b ts) adrs) rule place → IsBroken (phase6 b ts adrs) rule place
+  attributes_break rule place p = IsBroken-before (flat_map (attribute_rows b ts) adrs) (differ_rows 2 (same_name b adr_name) [] adrs) rule place p
 
-  pub phase6_holds : Hold (flat_map (attribute_rows_in b ts) adrs) → Hold (differ_rows 2 (same_name b adr_name) [] adrs) → Hold (phase6 b)
-  phase6_holds p q = subst Hold (sym rows_are) (Hold-append (flat_map (attribute_rows_in b ts) adrs) (differ_rows 2 (same_name b adr_name) [] adrs) p q)
-
-  pub attributes_break : (rule place : ℕ) → IsBroken (flat_map (attribute_rows_in b ts) adrs) rule place → IsBroken (phase6 b) rule place
-  attributes_break rule place p = subst (λ (rows : List Row). IsBroken rows rule place) (sym rows_are) (IsBroken-before (flat_map (attribute_rows_in b ts) adrs) (differ_rows 2 (same_name b adr_name) [] adrs) rule place p)
-
-  pub names_break : (rule place : ℕ) → IsBroken (differ_rows 2 (same_name b adr_name) [] adrs) rule place → IsBroken (phase6 b) rule place
-  names_break rule place p = subst (λ (rows : List Row). IsBroken rows rule place) (sym rows_are) (IsBroken-after (flat_map (attribute_rows_in b ts) adrs) (differ_rows 2 (same_name b adr_name) [] adrs) rule place p)
+  pub names_break : (rule place : ℕ) → IsBroken (differ_rows 2 (same_name b adr_name) [] adrs) rule place → IsBroken (phase6 b ts adrs) rule place
+  names_break rule place p = IsBroken-after (flat_map (attribute_rows b ts) adrs) (differ_rows 2 (same_name b adr_name) [] adrs) rule place p

@@ -5,7 +5,7 @@ use Rattle.std.specs.List.{list_any}
 use Rattle.cdf_format.specs.Chains.{is_in}
 use Rattle.cdf_format.specs.Rules.{Row, IsBroken}
 use Rattle.cdf_format.specs.ChainRules.{differ_rows}
-use Rattle.cdf_check.specs.declared.verdict.Broken.{Broken}
+use Rattle.cdf_check.specs.declared.verdict.Finding.{Finding}
 use Rattle.cdf_check.specs.Verdicts.{Finds}
 use Rattle.cdf_check.proofs.NumberSteps.{drop_at}
 
@@ -24,7 +24,7 @@ module _ {X : Type 0} (key : ℕ → X) (same : X → X → Bool) (rule : ℕ) (
   pub key_met : list_any (same (key (get_or ms i 0))) keys ≡ true → IsBroken (differ_rows rule (λ m other. same (key m) (key other)) (take i ms) (drop i ms)) rule (get_or ms i 0)
   key_met old = rw (drop_at ms i lt) (inl (refl, refl, ap not (sym test_is ∙ old)))
 
-  pub key_new : list_any (same (key (get_or ms i 0))) keys ≡ false → (found : Option Broken) → Finds (differ_rows rule (λ m other. same (key m) (key other)) (take (i + 1) ms) (drop (i + 1) ms)) found → Finds (differ_rows rule (λ m other. same (key m) (key other)) (take i ms) (drop i ms)) found
+  pub key_new : list_any (same (key (get_or ms i 0))) keys ≡ false → (found : Option Finding) → Finds (differ_rows rule (λ m other. same (key m) (key other)) (take (i + 1) ms) (drop (i + 1) ms)) found → Finds (differ_rows rule (λ m other. same (key m) (key other)) (take i ms) (drop i ms)) found
   key_new new None rest = rw (drop_at ms i lt) (ap not (sym test_is ∙ new), rw (take_more ms i 0 lt, add-one) at rest)
   key_new new (Some f) rest = rw (drop_at ms i lt) (inr (rw (take_more ms i 0 lt, add-one) at rest))
 

@@ -12,6 +12,5 @@ pub mod DifferSteps
 pub mod EntryRows
 pub mod AttributeSteps
 pub mod Tallies
-pub mod OwnedRows
 pub mod ImageSteps
 pub mod PhaseSteps

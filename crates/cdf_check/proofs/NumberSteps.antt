@@ -10,7 +10,7 @@ use Rattle.cdf_format.specs.Chains.{chain}
 use Rattle.cdf_format.specs.ChainRules.{number_rows}
 use Rattle.cdf_format.proofs.ChainsLemmas.{chain_sound, linkable-in, linkable-type}
 use Rattle.cdf_format.proofs.TilesLemmas.{tile_lies}
-use Rattle.cdf_check.specs.declared.verdict.Broken.{Broken}
+use Rattle.cdf_check.specs.declared.verdict.Finding.{Finding}
 use Rattle.cdf_check.specs.FileChains.{AreLong}
 use Rattle.cdf_check.specs.Verdicts.{Finds}
 use Rattle.cdf_check.proofs.TileSteps.{other}
@@ -24,7 +24,7 @@ module _ (rule : ℕ) (b : List ℕ) (num : Field) (ms : List ℕ) (i : ℕ) (lt
   pub number_wrong : number b (get_or ms i 0) num ≢ i → IsBroken (number_rows rule b num i (drop i ms)) rule (get_or ms i 0)
   number_wrong ne = rw (drop_at ms i lt) (inl (refl, refl, other (number b (get_or ms i 0) num) i ne))
 
-  pub number_right : number b (get_or ms i 0) num ≡ i → (found : Option Broken) → Finds (number_rows rule b num (suc i) (drop (suc i) ms)) found → Finds (number_rows rule b num i (drop i ms)) found
+  pub number_right : number b (get_or ms i 0) num ≡ i → (found : Option Finding) → Finds (number_rows rule b num (suc i) (drop (suc i) ms)) found → Finds (number_rows rule b num i (drop i ms)) found
   number_right e None rest = rw (drop_at ms i lt) (eq-eqb (number b (get_or ms i 0) num) i e, rest)
   number_right e (Some f) rest = rw (drop_at ms i lt) (inr rest)
 

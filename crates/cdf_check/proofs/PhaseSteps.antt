@@ -1,7 +1,8 @@
 -- The phases of a file, put together.
 use Rattle.std.proofs.Common.{◌≡◌, ℕ, zero, suc, ◌+◌, ◌-◌, ◌<◌, ◌≤◌, ◌^◌, List, [], ◌∷◌, ◌++◌, length, take, Bool, true, false, sym, ap, ◌∙◌, subst, arith}
 use Rattle.std.proofs.lemmas.List.{take_all}
-use Rattle.std.specs.Prelude.{if◌then◌else◌, nat_le, Ok, Err, IfOk}
+use Rattle.std.specs.Prelude.{if◌then◌else◌, nat_le, Some, None, Ok, Err, IfOk}
+use Rattle.std.specs.declared.option.Option.{Option}
 use Rattle.std.specs.declared.result.Result.{Result}
 use Rattle.cdf_area.specs.declared.area.AreaError.{AreaError}
 use Rattle.cdf_model.specs.Limits.{image_limit}
@@ -11,8 +12,7 @@ use Rattle.cdf_format.specs.Rules.{Row, asked, Hold, AllHold, FirstBroken}
 use Rattle.cdf_format.specs.Sealed.{has_checksum, image_of}
 use Rattle.cdf_format.specs.WellFormed.{WellFormed, Breaks}
 use Rattle.cdf_format.proofs.Tests.{both, le_of, not_false}
-use Rattle.cdf_check.specs.declared.verdict.Verdict.{Verdict}
-use Rattle.cdf_check.specs.declared.verdict.Verdict.TheVariants.{Yes, No}
+use Rattle.cdf_check.specs.declared.verdict.Broken.{Broken}
 use Rattle.cdf_check.specs.Verdicts.{Judges, JudgesImage}
 
 -- ---- phases before others
@@ -73,10 +73,10 @@ module _ (f : List ℕ) (start : AllHold (first_phases f)) where
   pub start_head : 28 ≤ length f
   start_head = let enough = le_of 320 (length f) start.1.1.0.0 in omega arith
 
-  image_judged : (verdict : Verdict) → JudgesImage f verdict → Judges f verdict
-  image_judged Yes holds = all_judged holds
-  image_judged (No phase rule place) broken = image_broken broken.0 phase rule place broken.1 broken.2
+  image_judged : (found : Option Broken) → JudgesImage f found → Judges f found
+  image_judged None holds = all_judged holds
+  image_judged (Some broken) breaks = image_broken breaks.0 broken.phase broken.rule broken.at breaks.1 breaks.2
 
-  pub result_judged : (result : Result Verdict AreaError) → IfOk result (JudgesImage f) → IfOk result (Judges f)
-  result_judged (Ok verdict) judged = image_judged verdict judged
+  pub result_judged : (result : Result (Option Broken) AreaError) → IfOk result (JudgesImage f) → IfOk result (Judges f)
+  result_judged (Ok found) judged = image_judged found judged
   result_judged (Err error) judged = tt

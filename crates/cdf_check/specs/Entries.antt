@@ -1,12 +1,12 @@
 -- The entries of an attribute, in an image with these records.
 use Rattle.std.specs.Prelude.{◌≡◌, ◌≤◌, ℕ, ◌+◌, List, ◌++◌, length}
-use Rattle.cdf_format.specs.AttributeRules.{adr_rows, entries_rows}
+use Rattle.cdf_format.specs.AttributeRules.{entries_rows}
 use Rattle.cdf_format.specs.ChainRules.{chain_rows}
 use Rattle.cdf_format.specs.Chains.{chain}
 use Rattle.cdf_format.specs.Fields.{type_at}
 use Rattle.cdf_format.specs.RecordTypes.{adr_type}
 use Rattle.cdf_format.specs.Tiles.{In}
-use Rattle.cdf_format.specs.Records.{field, adr_ngr_entries, adr_nz_entries}
+use Rattle.cdf_format.specs.Records.{field}
 use Rattle.cdf_format.specs.Rules.{Row}
 use Rattle.cdf_format.specs.Shape.{gr_entry_chain, z_entry_chain}
 use Rattle.cdf_format.specs.Walks.{Walk, whole}
@@ -20,13 +20,6 @@ entry_walk b records kind adr = chain b records kind.record_type adr (field kind
 -- the rules on its links, its count, and its entries
 abbrev pub entry_chain_rows : List ℕ → List ℕ → EntryChain → ℕ → List Row
 entry_chain_rows b records kind adr = chain_rows 4 (entry_walk b records kind adr) (entries_rows b adr (field kind.count 4))
-
--- the rules on an attribute and its entries
-abbrev pub attribute_rows_in : List ℕ → List ℕ → ℕ → List Row
-attribute_rows_in b records adr =
-    adr_rows b adr
-    ++ chain_rows 4 (gr_entry_chain b records adr) (entries_rows b adr adr_ngr_entries)
-    ++ chain_rows 4 (z_entry_chain b records adr) (entries_rows b adr adr_nz_entries)
 
 pub record AreEntries (b records : List ℕ) (adr : ℕ) (lists : EntryLists) : Type 0 where
   pub gr : gr_entry_chain b records adr ≡ whole lists.gr.items

@@ -7,8 +7,8 @@ use Rattle.cdf_format.specs.Rules.{Row}
 use Rattle.cdf_format.specs.Tiles.{In}
 use Rattle.cdf_format.specs.Walks.{Walk, whole}
 use Rattle.cdf_format.specs.Chains.{chain}
-use Rattle.cdf_format.specs.ChainRules.{chain_rows, count_rows, number_rows, adrs_rows, r_vdrs_rows, z_vdrs_rows}
-use Rattle.cdf_format.specs.Shape.{adr_chain, r_vdr_chain, z_vdr_chain, uir_chain}
+use Rattle.cdf_format.specs.ChainRules.{chain_rows, count_rows, number_rows}
+use Rattle.cdf_format.specs.Shape.{adr_chain, r_vdr_chain, z_vdr_chain}
 use Rattle.cdf_check.specs.declared.chains.Numbered.{Numbered}
 use Rattle.cdf_check.specs.declared.file_chains.Chains.{Chains}
 
@@ -24,14 +24,6 @@ walk_of b records kind holder = chain b records kind.record_type holder (field k
 abbrev pub numbered_rows : List ℕ → List ℕ → Numbered → ℕ → List Row
 numbered_rows b records kind holder =
     chain_rows kind.rule (walk_of b records kind holder) (λ members. count_rows (kind.rule + 1) b holder (field kind.count 4) members ++ number_rows (kind.rule + 2) b (field kind.number 4) 0 members)
-
--- the rules on the chains of an image with these records
-abbrev pub link_rows : List ℕ → List ℕ → List Row
-link_rows b records =
-    chain_rows 2 (adr_chain b records) (adrs_rows b)
-    ++ chain_rows 5 (r_vdr_chain b records) (r_vdrs_rows b)
-    ++ chain_rows 8 (z_vdr_chain b records) (z_vdrs_rows b)
-    ++ chain_rows 11 (uir_chain b records) (λ members. [])
 
 pub record AreChains (b records : List ℕ) (c : Chains) : Type 0 where
   pub attributes : adr_chain b records ≡ whole c.attributes.items

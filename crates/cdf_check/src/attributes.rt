@@ -1,22 +1,27 @@
-ghost use Rattle.std.specs.Prelude.{◌≡◌, ◌+◌, ◌++◌, ◌∷◌, ◌≤◌, ◌<◌, ◌^◌, [], ℕ, length, map, IfOk, OnOk, MatchResult};
+//! The rules on attributes.
+
+ghost use Rattle.std.specs.Prelude.{◌≡◌, ◌+◌, ◌++◌, ◌∷◌, ◌<◌, ◌^◌, [], length, map, IfOk, OnOk, MatchResult};
 ghost use Rattle.std.specs.List.{flat_map};
-ghost use Rattle.cdf_base.specs.Causes.{HasCauseOf};
-ghost use Rattle.cdf_format.specs.AttributeRules.{has_name, same_name, adr_rows, phase6};
+ghost use Rattle.cdf_area.specs.Calls.{Reads};
+ghost use Rattle.cdf_format.specs.AttributeRules.{has_name, same_name, adr_rows, attribute_rows, phase6};
 ghost use Rattle.cdf_format.specs.ChainRules.{differ_rows};
 ghost use Rattle.cdf_format.specs.Fields.{name_in};
 ghost use Rattle.cdf_format.specs.Owners.{attribute_records};
 ghost use Rattle.cdf_format.specs.Records.{adr_name};
 ghost use Rattle.cdf_format.specs.Shape.{adr_chain, attribute_shape};
-ghost use Rattle.cdf_format.specs.Tiles.{In, AreTiles, tiling};
+ghost use Rattle.cdf_format.specs.Tiles.{In, AreTiles};
 ghost use Rattle.cdf_format.specs.Walks.{whole};
-ghost use Rattle.cdf_check.specs.Entries.{IsAttribute, AreAttributes, AreEntries, attribute_rows_in};
+ghost use Rattle.cdf_check.specs.Entries.{IsAttribute, AreAttributes, AreEntries};
 ghost use Rattle.cdf_check.specs.FileChains.{AreLong};
 ghost use Rattle.cdf_check.specs.Verdicts.{Finds, Yields};
 
 use crate::entries::{EntryChain, check_entries};
-use crate::record_types::{AGR_EDR, AZ_EDR};
-use crate::verdict::Broken;
+use crate::verdict::Finding;
 use cdf_area::{Area, AreaError};
+use cdf_format::fields::{
+    ADR_AGR_EDR_HEAD, ADR_AZ_EDR_HEAD, ADR_NGR_ENTRIES, ADR_NZ_ENTRIES, ADR_SCOPE, AGR_EDR_TYPE,
+    AZ_EDR_TYPE,
+};
 use cdf_model::Bytes;
 use cdf_names::NameTable;
 use cdf_records::{read_name, read_unsigned4};
@@ -24,18 +29,16 @@ use std::alloc::Global;
 
 /// The chain of an attribute's gr entries.
 const GR_ENTRIES: EntryChain = EntryChain {
-    record_type: AGR_EDR,
-    head: 20,
-    count: 36,
+    record_type: AGR_EDR_TYPE,
+    head: ADR_AGR_EDR_HEAD,
+    count: ADR_NGR_ENTRIES,
 };
 /// The chain of its z entries.
 const Z_ENTRIES: EntryChain = EntryChain {
-    record_type: AZ_EDR,
-    head: 48,
-    count: 56,
+    record_type: AZ_EDR_TYPE,
+    head: ADR_AZ_EDR_HEAD,
+    count: ADR_NZ_ENTRIES,
 };
-/// Where the Scope stands in an attribute.
-const SCOPE: u64 = 28;
 /// The greatest code of a scope.
 const LAST_SCOPE: u32 = 4;
 
@@ -51,9 +54,7 @@ pub struct EntryLists {
 fn read_attribute_name<A: Area>(alloc: Global, area: &mut A, adr: u64) -> Result<Bytes, AreaError>
     requires { IsAttribute (A.image area.old) adr }
     ensures value { IfOk result (λ name. name ≡ name_in (A.image area.old) adr adr_name) }
-    ensures image { A.image area.new ≡ A.image area.old }
-    ensures frame { A.frame area.new ≡ A.frame area.old }
-    ensures cause { HasCauseOf AreaError.Fault (A.faults area.old) (A.faults area.new) result }
+    ensures area { Reads A.image A.frame A.faults A.edited area.old area.new result }
 {
     read_name(alloc, area, adr)
 }
@@ -62,32 +63,34 @@ fn read_attribute_name<A: Area>(alloc: Global, area: &mut A, adr: u64) -> Result
 fn has_name<A: Area>(alloc: Global, area: &mut A, adr: u64) -> Result<bool, AreaError>
     requires { IsAttribute (A.image area.old) adr }
     ensures value { IfOk result (λ has. has ≡ has_name (A.image area.old) adr adr_name) }
-    ensures image { A.image area.new ≡ A.image area.old }
-    ensures frame { A.frame area.new ≡ A.frame area.old }
-    ensures cause { HasCauseOf AreaError.Fault (A.faults area.old) (A.faults area.new) result }
+    ensures area { Reads A.image A.frame A.faults A.edited area.old area.new result }
 {
     let name = read_attribute_name(alloc, area, adr)?;
     Ok(!name.as_slice().is_empty())
 }
 
 /// The rules on the fields of an attribute.
-fn check_fields<A: Area>(alloc: Global, area: &mut A, adr: u64) -> Result<Option<Broken>, AreaError>
+fn check_fields<A: Area>(
+    alloc: Global,
+    area: &mut A,
+    adr: u64,
+) -> Result<Option<Finding>, AreaError>
     requires { IsAttribute (A.image area.old) adr }
     ensures found { IfOk result (Finds (adr_rows (A.image area.old) adr)) }
-    ensures image { A.image area.new ≡ A.image area.old }
-    ensures frame { A.frame area.new ≡ A.frame area.old }
-    ensures cause { HasCauseOf AreaError.Fault (A.faults area.old) (A.faults area.new) result }
+    ensures area { Reads A.image A.frame A.faults A.edited area.old area.new result }
 {
     let _size = area.size();
     if !has_name(alloc, area, adr)? {
-        return Ok(Some(Broken {
+        // 6.1
+        return Ok(Some(Finding {
             rule: 1,
             place: adr,
         }));
     }
-    let scope = read_unsigned4(area, adr + SCOPE)?;
+    let scope = read_unsigned4(area, adr + ADR_SCOPE)?;
     if scope < 1 || scope > LAST_SCOPE {
-        return Ok(Some(Broken {
+        // 6.3
+        return Ok(Some(Finding {
             rule: 3,
             place: adr,
         }));
@@ -102,14 +105,12 @@ fn check_attribute<A: Area>(
     area: &mut A,
     tiles: &[u64],
     adr: u64,
-) -> Result<Result<EntryLists, Broken>, AreaError>
+) -> Result<Result<EntryLists, Finding>, AreaError>
     requires tiled { AreTiles (A.image area.old) 8 (length (A.image area.old)) tiles.now }
     requires long { AreLong (A.image area.old) tiles.now }
     requires attribute { IsAttribute (A.image area.old) adr }
-    ensures found { IfOk result (Yields (attribute_rows_in (A.image area.old) tiles.now adr) (AreEntries (A.image area.old) tiles.now adr)) }
-    ensures image { A.image area.new ≡ A.image area.old }
-    ensures frame { A.frame area.new ≡ A.frame area.old }
-    ensures cause { HasCauseOf AreaError.Fault (A.faults area.old) (A.faults area.new) result }
+    ensures found { IfOk result (Yields (attribute_rows (A.image area.old) tiles.now adr) (AreEntries (A.image area.old) tiles.now adr)) }
+    ensures area { Reads A.image A.frame A.faults A.edited area.old area.new result }
 {
     if let Some(broken) = check_fields(alloc, area, adr)? {
         return Ok(Err(broken));
@@ -143,14 +144,12 @@ fn check_each<A: Area>(
     area: &mut A,
     tiles: &[u64],
     adrs: &[u64],
-) -> Result<Result<Vec<u64>, Broken>, AreaError>
+) -> Result<Result<Vec<u64>, Finding>, AreaError>
     requires tiled { AreTiles (A.image area.old) 8 (length (A.image area.old)) tiles.now }
     requires long { AreLong (A.image area.old) tiles.now }
     requires attributes { AreAttributes (A.image area.old) adrs.now }
-    ensures found { IfOk result (Yields (flat_map (attribute_rows_in (A.image area.old) tiles.now) adrs.now) (λ owned. owned.items ≡ flat_map attribute_records (map (attribute_shape (A.image area.old) tiles.now) adrs.now))) }
-    ensures image { A.image area.new ≡ A.image area.old }
-    ensures frame { A.frame area.new ≡ A.frame area.old }
-    ensures cause { HasCauseOf AreaError.Fault (A.faults area.old) (A.faults area.new) result }
+    ensures found { IfOk result (Yields (flat_map (attribute_rows (A.image area.old) tiles.now) adrs.now) (λ owned. owned.items ≡ flat_map attribute_records (map (attribute_shape (A.image area.old) tiles.now) adrs.now))) }
+    ensures area { Reads A.image A.frame A.faults A.edited area.old area.new result }
 {
     let mut owned = Vec::new(alloc);
     for adr in adrs {
@@ -167,20 +166,19 @@ fn check_names<A: Area>(
     alloc: Global,
     area: &mut A,
     adrs: &[u64],
-) -> Result<Option<Broken>, AreaError>
+) -> Result<Option<Finding>, AreaError>
     requires attributes { AreAttributes (A.image area.old) adrs.now }
     requires few { length adrs.now < 2 ^ 31 }
     ensures found { IfOk result (Finds (differ_rows 2 (same_name (A.image area.old) adr_name) [] adrs.now)) }
-    ensures image { A.image area.new ≡ A.image area.old }
-    ensures frame { A.frame area.new ≡ A.frame area.old }
-    ensures cause { HasCauseOf AreaError.Fault (A.faults area.old) (A.faults area.new) result }
+    ensures area { Reads A.image A.frame A.faults A.edited area.old area.new result }
 {
     let mut names = NameTable::new(alloc)?;
     for adr in adrs {
         let place = *adr;
         let name = read_attribute_name(alloc, area, place)?;
         if names.find(name.as_slice()).is_some() {
-            return Ok(Some(Broken { rule: 2, place }));
+            // 6.2
+            return Ok(Some(Finding { rule: 2, place }));
         }
         names.add(name)?;
     }
@@ -194,15 +192,13 @@ pub fn check_attributes<A: Area>(
     area: &mut A,
     tiles: &[u64],
     adrs: &[u64],
-) -> Result<Result<Vec<u64>, Broken>, AreaError>
-    requires tiling { tiling (A.image area.old) ≡ whole tiles.now }
+) -> Result<Result<Vec<u64>, Finding>, AreaError>
+    requires tiled { AreTiles (A.image area.old) 8 (length (A.image area.old)) tiles.now }
     requires long { AreLong (A.image area.old) tiles.now }
     requires chain { adr_chain (A.image area.old) tiles.now ≡ whole adrs.now }
     requires small { length (A.image area.old) < 2 ^ 31 }
-    ensures found { IfOk result (Yields (phase6 (A.image area.old)) (λ owned. owned.items ≡ flat_map attribute_records (map (attribute_shape (A.image area.old) tiles.now) adrs.now))) }
-    ensures image { A.image area.new ≡ A.image area.old }
-    ensures frame { A.frame area.new ≡ A.frame area.old }
-    ensures cause { HasCauseOf AreaError.Fault (A.faults area.old) (A.faults area.new) result }
+    ensures found { IfOk result (Yields (phase6 (A.image area.old) tiles.now adrs.now) (λ owned. owned.items ≡ flat_map attribute_records (map (attribute_shape (A.image area.old) tiles.now) adrs.now))) }
+    ensures area { Reads A.image A.frame A.faults A.edited area.old area.new result }
 {
     let owned = match check_each(alloc, area, tiles, adrs)? {
         Ok(owned) => owned,

@@ -1,5 +1,7 @@
+//! The rules on the CDF Descriptor Record.
+
 ghost use Rattle.std.specs.Prelude.{◌≡◌, ◌+◌, ◌≤◌, ◌==◌, length, is_some, IfOk};
-ghost use Rattle.cdf_base.specs.Causes.{HasCauseOf};
+ghost use Rattle.cdf_area.specs.Calls.{Reads};
 ghost use Rattle.cdf_model.specs.Encodings.{encoding_at};
 ghost use Rattle.cdf_format.specs.Fields.{encoding, version};
 ghost use Rattle.cdf_format.specs.FileRules.{phase2, is_record};
@@ -8,17 +10,11 @@ ghost use Rattle.cdf_records.specs.Pieces.{AreBytes};
 ghost use Rattle.cdf_check.specs.Verdicts.{Finds};
 
 use crate::fields::{CHECKSUM, MD5, SINGLE_FILE, has_bit, is_record, unsigned};
-use crate::verdict::Broken;
+use crate::verdict::Finding;
 use cdf_area::{Area, AreaError};
+use cdf_format::fields::{CDR_PLACE, CDR_SIZE, CDR_TYPE, CDR_VERSION, RECORD_TYPE};
 use cdf_model::Encoding;
 use cdf_records::{Cdr, read_cdr};
-
-/// Where the CDF Descriptor Record stands.
-pub const CDR_PLACE: u64 = 8;
-/// Its type.
-const CDR_TYPE: u32 = 1;
-/// Its bytes, with the Copyright.
-const CDR_SIZE: u64 = 312;
 
 /// Whether the record is one of its type that ends within the file.
 #[tactic(auto, using(cdf_records::proofs::Places::word4_fits))]
@@ -28,7 +24,7 @@ fn is_cdr<A: Area>(area: &A, cdr: &Cdr) -> bool
     requires bytes { AreBytes (A.image area.now) 8 56 }
     ensures { result ≡ is_record (A.image area.now) 8 1 312 }
 {
-    let record_type = unsigned(area, CDR_PLACE + 8, cdr.record_type);
+    let record_type = unsigned(area, CDR_PLACE + RECORD_TYPE, cdr.record_type);
     is_record(
         area,
         CDR_PLACE,
@@ -46,7 +42,7 @@ fn is_version_3<A: Area>(area: &A, cdr: &Cdr) -> bool
     requires bytes { AreBytes (A.image area.now) 8 56 }
     ensures { result ≡ (version (A.image area.now) == 3) }
 {
-    unsigned(area, CDR_PLACE + 20, cdr.version) == 3
+    unsigned(area, CDR_PLACE + CDR_VERSION, cdr.version) == 3
 }
 
 /// Whether the values of the file are in an encoding that is read.
@@ -60,7 +56,7 @@ fn has_encoding<A: Area>(_area: &A, cdr: &Cdr) -> bool
 }
 
 /// The rules on the fields of the CDF Descriptor Record.
-fn check_fields<A: Area>(area: &A, cdr: &Cdr) -> Option<Broken>
+fn check_fields<A: Area>(area: &A, cdr: &Cdr) -> Option<Finding>
     requires room { 320 ≤ length (A.image area.now) }
     requires fields { cdr.now ≡ cdr_at (A.image area.now) 8 }
     requires bytes { AreBytes (A.image area.now) 8 56 }
@@ -68,35 +64,40 @@ fn check_fields<A: Area>(area: &A, cdr: &Cdr) -> Option<Broken>
 {
     let place = CDR_PLACE;
     if !is_cdr(area, cdr) {
-        return Some(Broken { rule: 2, place });
+        // 2.2
+        return Some(Finding { rule: 2, place });
     }
     if !is_version_3(area, cdr) {
-        return Some(Broken { rule: 3, place });
+        // 2.3
+        return Some(Finding { rule: 3, place });
     }
     if !has_encoding(area, cdr) {
-        return Some(Broken { rule: 4, place });
+        // 2.4
+        return Some(Finding { rule: 4, place });
     }
     if !has_bit(cdr.flags, SINGLE_FILE) {
-        return Some(Broken { rule: 5, place });
+        // 2.5
+        return Some(Finding { rule: 5, place });
     }
     if has_bit(cdr.flags, CHECKSUM) && !has_bit(cdr.flags, MD5) {
-        return Some(Broken { rule: 6, place });
+        // 2.6
+        return Some(Finding { rule: 6, place });
     }
     if has_bit(cdr.flags, CHECKSUM) {
-        return Some(Broken { rule: 99, place });
+        // 2.99
+        return Some(Finding { rule: 99, place });
     }
     None
 }
 
 /// The rules on the CDF Descriptor Record.
-pub fn check_cdr<A: Area>(area: &mut A) -> Result<Option<Broken>, AreaError>
+pub fn check_cdr<A: Area>(area: &mut A) -> Result<Option<Finding>, AreaError>
     ensures found { IfOk result (Finds (phase2 (A.image area.old))) }
-    ensures image { A.image area.new ≡ A.image area.old }
-    ensures frame { A.frame area.new ≡ A.frame area.old }
-    ensures cause { HasCauseOf AreaError.Fault (A.faults area.old) (A.faults area.new) result }
+    ensures area { Reads A.image A.frame A.faults A.edited area.old area.new result }
 {
     if area.size() < CDR_PLACE + CDR_SIZE {
-        return Ok(Some(Broken {
+        // 2.1
+        return Ok(Some(Finding {
             rule: 1,
             place: CDR_PLACE,
         }));

@@ -1,5 +1,7 @@
+//! The rules on a chain whose members are counted and numbered.
+
 ghost use Rattle.std.specs.Prelude.{◌≡◌, ◌+◌, ◌≤◌, ◌<◌, ℕ, length, IfOk};
-ghost use Rattle.cdf_base.specs.Causes.{HasCauseOf};
+ghost use Rattle.cdf_area.specs.Calls.{Reads};
 ghost use Rattle.cdf_format.specs.ChainRules.{count_rows, number_rows};
 ghost use Rattle.cdf_format.specs.Records.{field};
 ghost use Rattle.cdf_format.specs.RecordTypes.{fixed_size};
@@ -9,7 +11,7 @@ ghost use Rattle.cdf_check.specs.FileChains.{AreLong, walk_of, numbered_rows};
 ghost use Rattle.cdf_check.specs.Verdicts.{Finds, Yields};
 
 use crate::links::walk_chain;
-use crate::verdict::Broken;
+use crate::verdict::Finding;
 use cdf_area::{Area, AreaError};
 use cdf_records::read_unsigned4;
 use std::alloc::Global;
@@ -32,17 +34,15 @@ pub fn check_count<A: Area>(
     place: u64,
     count: u64,
     members: &[u64],
-) -> Result<Option<Broken>, AreaError>
+) -> Result<Option<Finding>, AreaError>
     requires field { place + count + 4 ≤ length (A.image area.old) }
     ensures found { IfOk result (Finds (count_rows rule (A.image area.old) place (field count 4) members.now)) }
-    ensures image { A.image area.new ≡ A.image area.old }
-    ensures frame { A.frame area.new ≡ A.frame area.old }
-    ensures cause { HasCauseOf AreaError.Fault (A.faults area.old) (A.faults area.new) result }
+    ensures area { Reads A.image A.frame A.faults A.edited area.old area.new result }
 {
     let _size = area.size();
     let counted = read_unsigned4(area, place + count)?;
     if u64::from(counted) != members.len() as u64 {
-        return Ok(Some(Broken { rule, place }));
+        return Ok(Some(Finding { rule, place }));
     }
     Ok(None)
 }
@@ -53,19 +53,17 @@ fn check_numbers<A: Area>(
     rule: u8,
     number: u64,
     members: &[u64],
-) -> Result<Option<Broken>, AreaError>
+) -> Result<Option<Finding>, AreaError>
     requires fields { (member : ℕ) → In member members.now → member + number + 4 ≤ length (A.image area.old) }
     ensures found { IfOk result (Finds (number_rows rule (A.image area.old) (field number 4) 0 members.now)) }
-    ensures image { A.image area.new ≡ A.image area.old }
-    ensures frame { A.frame area.new ≡ A.frame area.old }
-    ensures cause { HasCauseOf AreaError.Fault (A.faults area.old) (A.faults area.new) result }
+    ensures area { Reads A.image A.frame A.faults A.edited area.old area.new result }
 {
     let _size = area.size();
     for i in 0..members.len() {
         let place = members[i];
         let found = read_unsigned4(area, place + number)?;
         if u64::from(found) != i as u64 {
-            return Ok(Some(Broken { rule, place }));
+            return Ok(Some(Finding { rule, place }));
         }
     }
     Ok(None)
@@ -78,7 +76,7 @@ pub fn check_numbered<A: Area>(
     tiles: &[u64],
     kind: Numbered,
     holder: u64,
-) -> Result<Result<Vec<u64>, Broken>, AreaError>
+) -> Result<Result<Vec<u64>, Finding>, AreaError>
     requires tiled { AreTiles (A.image area.old) 8 (length (A.image area.old)) tiles.now }
     requires long { AreLong (A.image area.old) tiles.now }
     requires head { holder + kind.head + 8 ≤ length (A.image area.old) }
@@ -86,21 +84,22 @@ pub fn check_numbered<A: Area>(
     requires number { kind.number + 4 ≤ fixed_size kind.record_type }
     requires rule { kind.rule < 100 }
     ensures found { IfOk result (Yields (numbered_rows (A.image area.old) tiles.now kind holder) (λ members. walk_of (A.image area.old) tiles.now kind holder ≡ whole members.items)) }
-    ensures image { A.image area.new ≡ A.image area.old }
-    ensures frame { A.frame area.new ≡ A.frame area.old }
-    ensures cause { HasCauseOf AreaError.Fault (A.faults area.old) (A.faults area.new) result }
+    ensures area { Reads A.image A.frame A.faults A.edited area.old area.new result }
 {
     let walked = walk_chain(alloc, area, tiles, kind.record_type, holder, kind.head)?;
     let members = match walked {
         Ok(members) => members,
-        Err(place) => return Ok(Err(Broken {
+        // 5.2, 5.5, 5.8
+        Err(place) => return Ok(Err(Finding {
             rule: kind.rule,
             place,
         })),
     };
+    // 5.3, 5.6, 5.9
     if let Some(broken) = check_count(area, kind.rule + 1, holder, kind.count, &members)? {
         return Ok(Err(broken));
     }
+    // 5.4, 5.7, 5.10
     if let Some(broken) = check_numbers(area, kind.rule + 2, kind.number, &members)? {
         return Ok(Err(broken));
     }

@@ -1,6 +1,8 @@
+//! The rules on the entries of an attribute.
+
 ghost use Rattle.std.specs.Prelude.{◌≡◌, ◌+◌, ◌≤◌, [], ℕ, length, IfOk};
 ghost use Rattle.std.specs.List.{flat_map};
-ghost use Rattle.cdf_base.specs.Causes.{HasCauseOf};
+ghost use Rattle.cdf_area.specs.Calls.{Reads};
 ghost use Rattle.cdf_format.specs.AttributeRules.{has_value, entry_rows, same_number};
 ghost use Rattle.cdf_format.specs.ChainRules.{differ_rows};
 ghost use Rattle.cdf_format.specs.RecordTypes.{fixed_size};
@@ -14,30 +16,15 @@ use crate::chains::check_count;
 use crate::fields::read_size;
 use crate::links::walk_chain;
 use crate::met::Met;
-use crate::verdict::Broken;
+use crate::verdict::Finding;
 use cdf_area::{Area, AreaError};
+use cdf_format::fields::{
+    ADR_NUM, AEDR_ATTR_NUM, AEDR_DATA_TYPE, AEDR_NUM, AEDR_NUM_ELEMS, AEDR_VALUE,
+};
 use cdf_model::DataType;
+use cdf_model::limits::{RECORD_LIMIT, RECORD_NUMBER_LIMIT, SIGNED_LIMIT};
 use cdf_records::{read_signed4, read_unsigned4};
 use std::alloc::Global;
-
-/// Where the AttrNum stands in an entry, the DataType, the Num and the NumElems.
-const ATTR_NUM: u64 = 20;
-
-const DATA_TYPE: u64 = 24;
-
-const NUM: u64 = 28;
-
-const NUM_ELEMS: u64 = 32;
-/// The bytes of an entry before its value.
-const HEAD_SIZE: u64 = 56;
-/// Where the Num stands in an attribute.
-const ADR_NUM: u64 = 32;
-/// The greatest number of an entry.
-const LARGEST_NUMBER: u32 = 2_147_483_646;
-/// The most elements of a value.
-const MOST_ELEMENTS: u32 = 2_147_483_647;
-/// The most bytes of a value.
-const LONGEST_VALUE: u64 = 67_108_864;
 
 /// A kind of chain of entries: the type of its members, and the places of its head and its count in an attribute.
 #[derive(Clone, Copy, Debug)]
@@ -51,57 +38,58 @@ pub struct EntryChain {
 fn has_value<A: Area>(area: &mut A, place: u64) -> Result<bool, AreaError>
     requires { place + 56 ≤ length (A.image area.old) }
     ensures value { IfOk result (λ has. has ≡ has_value (A.image area.old) place) }
-    ensures image { A.image area.new ≡ A.image area.old }
-    ensures frame { A.frame area.new ≡ A.frame area.old }
-    ensures cause { HasCauseOf AreaError.Fault (A.faults area.old) (A.faults area.new) result }
+    ensures area { Reads A.image A.frame A.faults A.edited area.old area.new result }
 {
     let _size = area.size();
-    let code = read_signed4(area, place + DATA_TYPE)?;
-    let elements = read_unsigned4(area, place + NUM_ELEMS)?;
+    let code = read_signed4(area, place + AEDR_DATA_TYPE)?;
+    let elements = read_unsigned4(area, place + AEDR_NUM_ELEMS)?;
     let size = read_size(area, place)?;
     let Some(data_type) = DataType::of_code(code) else {
         return Ok(false);
     };
-    if elements < 1 || elements > MOST_ELEMENTS {
+    if elements < 1 || elements > SIGNED_LIMIT {
         return Ok(false);
     }
     let bytes = u64::from(data_type.size()) * u64::from(elements);
-    Ok(bytes <= LONGEST_VALUE && HEAD_SIZE + bytes <= size)
+    Ok(bytes <= RECORD_LIMIT && AEDR_VALUE + bytes <= size)
 }
 
 /// The rules on an entry of an attribute.
-fn check_entry<A: Area>(area: &mut A, adr: u64, place: u64) -> Result<Option<Broken>, AreaError>
+fn check_entry<A: Area>(area: &mut A, adr: u64, place: u64) -> Result<Option<Finding>, AreaError>
     requires adr { adr + 68 ≤ length (A.image area.old) }
     requires entry { place + 56 ≤ length (A.image area.old) }
     ensures found { IfOk result (Finds (entry_rows (A.image area.old) adr place)) }
-    ensures image { A.image area.new ≡ A.image area.old }
-    ensures frame { A.frame area.new ≡ A.frame area.old }
-    ensures cause { HasCauseOf AreaError.Fault (A.faults area.old) (A.faults area.new) result }
+    ensures area { Reads A.image A.frame A.faults A.edited area.old area.new result }
 {
     let _size = area.size();
     let own = read_unsigned4(area, adr + ADR_NUM)?;
-    let named = read_unsigned4(area, place + ATTR_NUM)?;
+    let named = read_unsigned4(area, place + AEDR_ATTR_NUM)?;
     if named != own {
-        return Ok(Some(Broken { rule: 6, place }));
+        // 6.6
+        return Ok(Some(Finding { rule: 6, place }));
     }
-    let number = read_unsigned4(area, place + NUM)?;
-    if number > LARGEST_NUMBER {
-        return Ok(Some(Broken { rule: 7, place }));
+    let number = read_unsigned4(area, place + AEDR_NUM)?;
+    if number > RECORD_NUMBER_LIMIT {
+        // 6.7
+        return Ok(Some(Finding { rule: 7, place }));
     }
     if !has_value(area, place)? {
-        return Ok(Some(Broken { rule: 8, place }));
+        // 6.8
+        return Ok(Some(Finding { rule: 8, place }));
     }
     Ok(None)
 }
 
 /// The rules on each entry.
-fn check_each<A: Area>(area: &mut A, adr: u64, entries: &[u64]) -> Result<Option<Broken>, AreaError>
+fn check_each<A: Area>(
+    area: &mut A,
+    adr: u64,
+    entries: &[u64],
+) -> Result<Option<Finding>, AreaError>
     requires adr { adr + 68 ≤ length (A.image area.old) }
     requires entries { (entry : ℕ) → In entry entries.now → entry + 56 ≤ length (A.image area.old) }
     ensures found { IfOk result (Finds (flat_map (entry_rows (A.image area.old) adr) entries.now)) }
-    ensures image { A.image area.new ≡ A.image area.old }
-    ensures frame { A.frame area.new ≡ A.frame area.old }
-    ensures cause { HasCauseOf AreaError.Fault (A.faults area.old) (A.faults area.new) result }
+    ensures area { Reads A.image A.frame A.faults A.edited area.old area.new result }
 {
     for entry in entries {
         if let Some(broken) = check_entry(area, adr, *entry)? {
@@ -116,20 +104,19 @@ fn check_apart<A: Area>(
     alloc: Global,
     area: &mut A,
     entries: &[u64],
-) -> Result<Option<Broken>, AreaError>
+) -> Result<Option<Finding>, AreaError>
     requires entries { (entry : ℕ) → In entry entries.now → entry + 56 ≤ length (A.image area.old) }
     ensures found { IfOk result (Finds (differ_rows 7 (same_number (A.image area.old)) [] entries.now)) }
-    ensures image { A.image area.new ≡ A.image area.old }
-    ensures frame { A.frame area.new ≡ A.frame area.old }
-    ensures cause { HasCauseOf AreaError.Fault (A.faults area.old) (A.faults area.new) result }
+    ensures area { Reads A.image A.frame A.faults A.edited area.old area.new result }
 {
     let _size = area.size();
     let mut numbers = Met::new(alloc);
     for entry in entries {
         let place = *entry;
-        let number = u64::from(read_unsigned4(area, place + NUM)?);
+        let number = u64::from(read_unsigned4(area, place + AEDR_NUM)?);
         if numbers.has(number) {
-            return Ok(Some(Broken { rule: 7, place }));
+            // 6.7
+            return Ok(Some(Finding { rule: 7, place }));
         }
         numbers.add(number)?;
     }
@@ -144,7 +131,7 @@ pub fn check_entries<A: Area>(
     tiles: &[u64],
     kind: EntryChain,
     adr: u64,
-) -> Result<Result<Vec<u64>, Broken>, AreaError>
+) -> Result<Result<Vec<u64>, Finding>, AreaError>
     requires tiled { AreTiles (A.image area.old) 8 (length (A.image area.old)) tiles.now }
     requires long { AreLong (A.image area.old) tiles.now }
     requires adr { adr + 68 ≤ length (A.image area.old) }
@@ -152,16 +139,16 @@ pub fn check_entries<A: Area>(
     requires count { kind.count + 4 ≤ 68 }
     requires entry { 56 ≤ fixed_size kind.record_type }
     ensures found { IfOk result (Yields (entry_chain_rows (A.image area.old) tiles.now kind adr) (λ entries. entry_walk (A.image area.old) tiles.now kind adr ≡ whole entries.items)) }
-    ensures image { A.image area.new ≡ A.image area.old }
-    ensures frame { A.frame area.new ≡ A.frame area.old }
-    ensures cause { HasCauseOf AreaError.Fault (A.faults area.old) (A.faults area.new) result }
+    ensures area { Reads A.image A.frame A.faults A.edited area.old area.new result }
 {
     let _size = area.size();
     let walked = walk_chain(alloc, area, tiles, kind.record_type, adr, kind.head)?;
     let entries = match walked {
         Ok(entries) => entries,
-        Err(place) => return Ok(Err(Broken { rule: 4, place })),
+        // 6.4
+        Err(place) => return Ok(Err(Finding { rule: 4, place })),
     };
+    // 6.5
     if let Some(broken) = check_count(area, 5, adr, kind.count, &entries)? {
         return Ok(Err(broken));
     }

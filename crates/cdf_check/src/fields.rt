@@ -1,9 +1,12 @@
+//! Fields that several rules read.
+
 ghost use Rattle.std.specs.Prelude.{◌≡◌, ◌+◌, ◌^◌, ◌<◌, ◌≤◌, length, IfOk};
-ghost use Rattle.cdf_base.specs.Causes.{HasCauseOf};
+ghost use Rattle.cdf_area.specs.Calls.{Reads};
 ghost use Rattle.cdf_format.specs.Fields.{has_bit, signed4, size_at, type_at, word};
 ghost use Rattle.cdf_format.specs.FileRules.{is_record};
 
 use cdf_area::{Area, AreaError};
+use cdf_format::fields::RECORD_TYPE;
 use cdf_records::{read_unsigned4, read_unsigned8};
 
 /// The bit of the Flags that says that the file is a whole data set.
@@ -53,9 +56,7 @@ pub fn is_record<A: Area>(
 pub fn read_size<A: Area>(area: &mut A, place: u64) -> Result<u64, AreaError>
     requires { place + 8 ≤ length (A.image area.old) }
     ensures value { IfOk result (λ size. size ≡ size_at (A.image area.old) place) }
-    ensures image { A.image area.new ≡ A.image area.old }
-    ensures frame { A.frame area.new ≡ A.frame area.old }
-    ensures cause { HasCauseOf AreaError.Fault (A.faults area.old) (A.faults area.new) result }
+    ensures area { Reads A.image A.frame A.faults A.edited area.old area.new result }
 {
     read_unsigned8(area, place)
 }
@@ -64,10 +65,8 @@ pub fn read_size<A: Area>(area: &mut A, place: u64) -> Result<u64, AreaError>
 pub fn read_type<A: Area>(area: &mut A, place: u64) -> Result<u32, AreaError>
     requires { place + 12 ≤ length (A.image area.old) }
     ensures value { IfOk result (λ record_type. record_type ≡ type_at (A.image area.old) place) }
-    ensures image { A.image area.new ≡ A.image area.old }
-    ensures frame { A.frame area.new ≡ A.frame area.old }
-    ensures cause { HasCauseOf AreaError.Fault (A.faults area.old) (A.faults area.new) result }
+    ensures area { Reads A.image A.frame A.faults A.edited area.old area.new result }
 {
     let _size = area.size();
-    read_unsigned4(area, place + 8)
+    read_unsigned4(area, place + RECORD_TYPE)
 }

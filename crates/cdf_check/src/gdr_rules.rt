@@ -1,31 +1,26 @@
-ghost use Rattle.std.specs.Prelude.{◌≡◌, ◌+◌, ◌≤◌, ◌==◌, ◌&&◌, length, nat_le, if◌then◌else◌, IfOk, IsTrue};
+//! The rules on the Global Descriptor Record.
+
+ghost use Rattle.std.specs.Prelude.{◌≡◌, ◌+◌, ◌≤◌, ◌&&◌, length, nat_le, if◌then◌else◌, IfOk, IsTrue};
 ghost use Rattle.std.specs.Int.{w64, cast_signed};
 ghost use Rattle.std.specs.List.{list_all};
-ghost use Rattle.cdf_base.specs.Causes.{HasCauseOf};
+ghost use Rattle.cdf_area.specs.Calls.{Reads};
 ghost use Rattle.cdf_model.specs.Limits.{image_limit};
-ghost use Rattle.cdf_format.specs.Fields.{counted, has_bit, r_sizes};
-ghost use Rattle.cdf_format.specs.FileRules.{phase3, has_gdr, gdr_rows, is_gdr, is_size};
+ghost use Rattle.cdf_format.specs.Fields.{counted, has_bit, is_positive, r_sizes};
+ghost use Rattle.cdf_format.specs.FileRules.{phase3, has_gdr, gdr_rows, is_gdr};
 ghost use Rattle.cdf_records.specs.Heads.{cdr_at, gdr_at};
 ghost use Rattle.cdf_records.specs.Pieces.{AreBytes};
 ghost use Rattle.cdf_check.specs.Verdicts.{Finds};
 
-use crate::cdr_rules::CDR_PLACE;
 use crate::fields::{CHECKSUM, has_bit, is_record, unsigned};
-use crate::verdict::Broken;
+use crate::verdict::Finding;
 use cdf_area::{Area, AreaError};
+use cdf_format::fields::{
+    CDR_PLACE, GDR_R_DIM_SIZE, GDR_R_NUM_DIMS, GDR_SIZE, GDR_TYPE, RECORD_TYPE,
+};
+use cdf_model::limits::{DIMENSION_LIMIT, IMAGE_LIMIT, SIGNED_LIMIT};
 use cdf_records::{Cdr, Gdr, read_cdr, read_gdr, read_nums};
 use std::alloc::Global;
 
-/// The type of the Global Descriptor Record.
-const GDR_TYPE: u32 = 2;
-/// Its bytes before the sizes of the dimensions.
-const GDR_SIZE: u64 = 84;
-/// The most dimensions that r variables share.
-const MOST_DIMENSIONS: u32 = 10;
-/// The greatest number of 4 bytes with a sign.
-const LARGEST_SIZE: u32 = 2_147_483_647;
-/// The most bytes of an image.
-const IMAGE_LIMIT: i64 = 1_073_741_824;
 /// The bytes of a checksum.
 const DIGEST_LENGTH: u64 = 16;
 
@@ -38,9 +33,9 @@ fn is_gdr<A: Area>(area: &A, place: u64, gdr: &Gdr) -> bool
     ensures { result ≡ is_gdr (A.image area.now) place }
 {
     let _size = area.size();
-    let dimensions = unsigned(area, place + 56, gdr.r_num_dims);
-    let record_type = unsigned(area, place + 8, gdr.record_type);
-    if dimensions > MOST_DIMENSIONS {
+    let dimensions = unsigned(area, place + GDR_R_NUM_DIMS, gdr.r_num_dims);
+    let record_type = unsigned(area, place + RECORD_TYPE, gdr.record_type);
+    if dimensions > DIMENSION_LIMIT {
         return false;
     }
     is_record(
@@ -55,9 +50,9 @@ fn is_gdr<A: Area>(area: &A, place: u64, gdr: &Gdr) -> bool
 
 /// Whether each size of a dimension is a positive number of 4 bytes with a sign.
 fn are_sizes(sizes: &[u32]) -> bool
-    ensures { result ≡ list_all is_size sizes.now }
+    ensures { result ≡ list_all is_positive sizes.now }
 {
-    sizes.iter().all(|size| *size >= 1 && *size <= LARGEST_SIZE)
+    sizes.iter().all(|size| *size >= 1 && *size <= SIGNED_LIMIT)
 }
 
 /// How many bytes stand after the image of a file with these Flags.
@@ -75,7 +70,7 @@ fn trailer_length(flags: u32) -> u64
 fn is_in_limit(eof: u64) -> bool
     ensures { result ≡ nat_le (counted (cast_signed w64 eof)) image_limit }
 {
-    eof.cast_signed() <= IMAGE_LIMIT
+    eof.cast_signed() <= IMAGE_LIMIT.cast_signed()
 }
 
 /// The sizes of the dimensions.
@@ -88,14 +83,12 @@ fn check_sizes<A: Area>(
     requires fields { gdr.now ≡ gdr_at (A.image area.old) place }
     requires bytes { AreBytes (A.image area.old) place 84 }
     requires is { IsTrue (is_gdr (A.image area.old) place) }
-    ensures value { IfOk result (λ b. b ≡ list_all is_size (r_sizes (A.image area.old) place)) }
-    ensures image { A.image area.new ≡ A.image area.old }
-    ensures frame { A.frame area.new ≡ A.frame area.old }
-    ensures cause { HasCauseOf AreaError.Fault (A.faults area.old) (A.faults area.new) result }
+    ensures value { IfOk result (λ b. b ≡ list_all is_positive (r_sizes (A.image area.old) place)) }
+    ensures area { Reads A.image A.frame A.faults A.edited area.old area.new result }
 {
     let _size = area.size();
-    let dimensions = unsigned(area, place + 56, gdr.r_num_dims);
-    let sizes = read_nums(alloc, area, place + GDR_SIZE, dimensions)?;
+    let dimensions = unsigned(area, place + GDR_R_NUM_DIMS, gdr.r_num_dims);
+    let sizes = read_nums(alloc, area, place + GDR_R_DIM_SIZE, dimensions)?;
     Ok(are_sizes(sizes.as_slice()))
 }
 
@@ -105,27 +98,29 @@ fn check_at<A: Area>(
     area: &mut A,
     cdr: &Cdr,
     place: u64,
-) -> Result<Option<Broken>, AreaError>
+) -> Result<Option<Finding>, AreaError>
     requires length { 320 ≤ length (A.image area.old) }
     requires room { (8 ≤ place) × (place + 84 ≤ length (A.image area.old)) }
     requires cdr { cdr.now ≡ cdr_at (A.image area.old) 8 }
     ensures found { IfOk result (Finds (gdr_rows (A.image area.old) place)) }
-    ensures image { A.image area.new ≡ A.image area.old }
-    ensures frame { A.frame area.new ≡ A.frame area.old }
-    ensures cause { HasCauseOf AreaError.Fault (A.faults area.old) (A.faults area.new) result }
+    ensures area { Reads A.image A.frame A.faults A.edited area.old area.new result }
 {
     let gdr = read_gdr(area, place)?;
     if !is_gdr(area, place, &gdr) {
-        return Ok(Some(Broken { rule: 2, place }));
+        // 3.2
+        return Ok(Some(Finding { rule: 2, place }));
     }
     if !check_sizes(alloc, area, place, &gdr)? {
-        return Ok(Some(Broken { rule: 3, place }));
+        // 3.3
+        return Ok(Some(Finding { rule: 3, place }));
     }
     if gdr.eof != area.size() - trailer_length(cdr.flags) {
-        return Ok(Some(Broken { rule: 4, place }));
+        // 3.4
+        return Ok(Some(Finding { rule: 4, place }));
     }
     if !is_in_limit(gdr.eof) {
-        return Ok(Some(Broken { rule: 5, place }));
+        // 3.5
+        return Ok(Some(Finding { rule: 5, place }));
     }
     Ok(None)
 }
@@ -141,16 +136,15 @@ fn has_gdr<A: Area>(area: &A, cdr: &Cdr) -> bool
 }
 
 /// The rules on the Global Descriptor Record.
-pub fn check_gdr<A: Area>(alloc: Global, area: &mut A) -> Result<Option<Broken>, AreaError>
+pub fn check_gdr<A: Area>(alloc: Global, area: &mut A) -> Result<Option<Finding>, AreaError>
     requires { 320 ≤ length (A.image area.old) }
     ensures found { IfOk result (Finds (phase3 (A.image area.old))) }
-    ensures image { A.image area.new ≡ A.image area.old }
-    ensures frame { A.frame area.new ≡ A.frame area.old }
-    ensures cause { HasCauseOf AreaError.Fault (A.faults area.old) (A.faults area.new) result }
+    ensures area { Reads A.image A.frame A.faults A.edited area.old area.new result }
 {
     let cdr = read_cdr(area, CDR_PLACE)?;
     if !has_gdr(area, &cdr) {
-        return Ok(Some(Broken {
+        // 3.1
+        return Ok(Some(Finding {
             rule: 1,
             place: CDR_PLACE,
         }));

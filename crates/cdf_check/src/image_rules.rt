@@ -1,41 +1,89 @@
+//! The rules on an image, phases 4 to 9.
+
 ghost use Rattle.std.specs.Prelude.{◌≡◌, ◌+◌, ◌≤◌, ◌<◌, ◌^◌, length, IfOk};
-ghost use Rattle.cdf_base.specs.Causes.{HasCauseOf};
+ghost use Rattle.cdf_area.specs.Calls.{Reads};
+ghost use Rattle.cdf_format.specs.ChainRules.{phase5};
 ghost use Rattle.cdf_format.specs.Fields.{gdr_offset};
+ghost use Rattle.cdf_format.specs.RecordRules.{phase4};
+ghost use Rattle.cdf_format.specs.Rules.{Hold};
+ghost use Rattle.cdf_format.specs.Tiles.{tiling};
+ghost use Rattle.cdf_format.specs.Walks.{whole};
+ghost use Rattle.cdf_check.specs.FileChains.{AreChains};
 ghost use Rattle.cdf_check.specs.Verdicts.{JudgesImage};
 
 use crate::attributes::check_attributes;
-use crate::file_chains::check_chains;
+use crate::file_chains::{Chains, check_chains};
 use crate::owners::check_owners;
 use crate::tiles::check_tiles;
-use crate::verdict::{Verdict, no};
+use crate::verdict::{Broken, in_phase};
 use cdf_area::{Area, AreaError};
 use std::alloc::Global;
 
-/// Judges an image by the rules on its records, with its Global Descriptor Record at a place. No variable is read, so no rule on variables is broken.
-pub fn check_image<A: Area>(alloc: Global, area: &mut A, gdr: u64) -> Result<Verdict, AreaError>
+/// A rule on attributes or owners that an image breaks, of which the records and the chains keep their rules. No variable is read, so no rule on variables is broken.
+fn check_members<A: Area>(
+    alloc: Global,
+    area: &mut A,
+    tiles: &[u64],
+    chains: &Chains,
+    gdr: u64,
+) -> Result<Option<Broken>, AreaError>
+    requires tiling { tiling (A.image area.old) ≡ whole tiles.now }
+    requires records { Hold (phase4 (A.image area.old)) }
+    requires chains { AreChains (A.image area.old) tiles.now chains.now }
+    requires linked { Hold (phase5 (A.image area.old) tiles.now) }
+    requires small { length (A.image area.old) < 2 ^ 31 }
+    requires gdr { gdr ≡ gdr_offset (A.image area.old) }
+    ensures verdict { IfOk result (JudgesImage (A.image area.old)) }
+    ensures area { Reads A.image A.frame A.faults A.edited area.old area.new result }
+{
+    let members = match check_attributes(alloc, area, tiles, &chains.attributes)? {
+        Ok(members) => members,
+        Err(finding) => return Ok(Some(in_phase(6, finding))),
+    };
+    if let Some(finding) = check_owners(alloc, area, tiles, gdr, &members)? {
+        return Ok(Some(in_phase(9, finding)));
+    }
+    Ok(None)
+}
+
+/// A rule that an image breaks, of which the records keep their rules.
+fn check_linked<A: Area>(
+    alloc: Global,
+    area: &mut A,
+    tiles: &[u64],
+    gdr: u64,
+) -> Result<Option<Broken>, AreaError>
+    requires tiling { tiling (A.image area.old) ≡ whole tiles.now }
+    requires records { Hold (phase4 (A.image area.old)) }
+    requires small { length (A.image area.old) < 2 ^ 31 }
+    requires gdr { gdr ≡ gdr_offset (A.image area.old) }
+    requires room { gdr + 84 ≤ length (A.image area.old) }
+    ensures verdict { IfOk result (JudgesImage (A.image area.old)) }
+    ensures area { Reads A.image A.frame A.faults A.edited area.old area.new result }
+{
+    let chains = match check_chains(alloc, area, tiles, gdr)? {
+        Ok(chains) => chains,
+        Err(finding) => return Ok(Some(in_phase(5, finding))),
+    };
+    check_members(alloc, area, tiles, &chains, gdr)
+}
+
+/// A rule on its records that an image breaks, with its Global Descriptor Record at a place.
+pub fn check_image<A: Area>(
+    alloc: Global,
+    area: &mut A,
+    gdr: u64,
+) -> Result<Option<Broken>, AreaError>
     requires some { 8 ≤ length (A.image area.old) }
     requires small { length (A.image area.old) < 2 ^ 31 }
     requires gdr { gdr ≡ gdr_offset (A.image area.old) }
     requires room { gdr + 84 ≤ length (A.image area.old) }
     ensures verdict { IfOk result (JudgesImage (A.image area.old)) }
-    ensures image { A.image area.new ≡ A.image area.old }
-    ensures frame { A.frame area.new ≡ A.frame area.old }
-    ensures cause { HasCauseOf AreaError.Fault (A.faults area.old) (A.faults area.new) result }
+    ensures area { Reads A.image A.frame A.faults A.edited area.old area.new result }
 {
     let tiles = match check_tiles(alloc, area)? {
         Ok(tiles) => tiles,
-        Err(broken) => return Ok(no(4, broken)),
+        Err(finding) => return Ok(Some(in_phase(4, finding))),
     };
-    let chains = match check_chains(alloc, area, &tiles, gdr)? {
-        Ok(chains) => chains,
-        Err(broken) => return Ok(no(5, broken)),
-    };
-    let members = match check_attributes(alloc, area, &tiles, &chains.attributes)? {
-        Ok(members) => members,
-        Err(broken) => return Ok(no(6, broken)),
-    };
-    if let Some(broken) = check_owners(alloc, area, &tiles, gdr, &members)? {
-        return Ok(no(9, broken));
-    }
-    Ok(Verdict::Yes)
+    check_linked(alloc, area, &tiles, gdr)
 }

@@ -19,7 +19,7 @@ mod validator;
 mod verdict;
 
 pub use validator::check;
-pub use verdict::Verdict;
+pub use verdict::Broken;
 
 #[cfg(test)]
 mod tests;

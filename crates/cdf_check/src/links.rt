@@ -1,5 +1,7 @@
+//! Chains of records, walked link by link.
+
 ghost use Rattle.std.specs.Prelude.{◌≡◌, ◌+◌, ◌≤◌, ◌&&◌, not, length, IfOk};
-ghost use Rattle.cdf_base.specs.Causes.{HasCauseOf};
+ghost use Rattle.cdf_area.specs.Calls.{Reads};
 ghost use Rattle.cdf_format.specs.Chains.{is_in, is_a, is_linkable, chain};
 ghost use Rattle.cdf_format.specs.Records.{field};
 ghost use Rattle.cdf_format.specs.Tiles.{AreTiles};
@@ -9,13 +11,9 @@ ghost use Rattle.cdf_check.specs.Walked.{Ascends, Walks};
 use crate::fields::{read_size, read_type};
 use crate::met::Met;
 use cdf_area::{Area, AreaError};
+use cdf_format::fields::{LINKED_SIZE, UIR_NEXT_UIR};
 use cdf_records::read_unsigned8;
 use std::alloc::Global;
-
-/// The bytes of the least record with a link to the next one.
-const LINKED_SIZE: u64 = 28;
-/// Where that link stands in the record.
-const NEXT: u64 = 12;
 
 /// Whether a number stands in the ascending list.
 fn stands_in(tiles: &[u64], place: u64) -> bool
@@ -37,9 +35,7 @@ pub fn is_a<A: Area>(
 ) -> Result<bool, AreaError>
     requires tiled { AreTiles (A.image area.old) 8 (length (A.image area.old)) tiles.now }
     ensures value { IfOk result (λ is. is ≡ is_a (A.image area.old) tiles.now record_type place) }
-    ensures image { A.image area.new ≡ A.image area.old }
-    ensures frame { A.frame area.new ≡ A.frame area.old }
-    ensures cause { HasCauseOf AreaError.Fault (A.faults area.old) (A.faults area.new) result }
+    ensures area { Reads A.image A.frame A.faults A.edited area.old area.new result }
 {
     if !stands_in(tiles, place) {
         return Ok(false);
@@ -57,9 +53,7 @@ fn is_linkable<A: Area>(
 ) -> Result<bool, AreaError>
     requires tiled { AreTiles (A.image area.old) 8 (length (A.image area.old)) tiles.now }
     ensures value { IfOk result (λ is. is ≡ is_linkable (A.image area.old) tiles.now record_type place) }
-    ensures image { A.image area.new ≡ A.image area.old }
-    ensures frame { A.frame area.new ≡ A.frame area.old }
-    ensures cause { HasCauseOf AreaError.Fault (A.faults area.old) (A.faults area.new) result }
+    ensures area { Reads A.image A.frame A.faults A.edited area.old area.new result }
 {
     if !is_a(area, tiles, record_type, place)? {
         return Ok(false);
@@ -79,9 +73,7 @@ fn goes_on<A: Area>(
     requires tiled { AreTiles (A.image area.old) 8 (length (A.image area.old)) tiles.now }
     requires agrees { Agrees met.now }
     ensures value { IfOk result (λ goes. goes ≡ (is_linkable (A.image area.old) tiles.now record_type place && not (is_in place met.now.list.items))) }
-    ensures image { A.image area.new ≡ A.image area.old }
-    ensures frame { A.frame area.new ≡ A.frame area.old }
-    ensures cause { HasCauseOf AreaError.Fault (A.faults area.old) (A.faults area.new) result }
+    ensures area { Reads A.image A.frame A.faults A.edited area.old area.new result }
 {
     if met.has(place) {
         return Ok(false);
@@ -101,9 +93,7 @@ pub fn walk_chain<A: Area>(
     requires tiled { AreTiles (A.image area.old) 8 (length (A.image area.old)) tiles.now }
     requires head { holder + head + 8 ≤ length (A.image area.old) }
     ensures walk { IfOk result (Walks (chain (A.image area.old) tiles.now record_type holder (field head 8))) }
-    ensures image { A.image area.new ≡ A.image area.old }
-    ensures frame { A.frame area.new ≡ A.frame area.old }
-    ensures cause { HasCauseOf AreaError.Fault (A.faults area.old) (A.faults area.new) result }
+    ensures area { Reads A.image A.frame A.faults A.edited area.old area.new result }
 {
     let _size = area.size();
     let mut met = Met::new(alloc);
@@ -118,7 +108,7 @@ pub fn walk_chain<A: Area>(
         }
         met.add(link)?;
         last = link;
-        link = read_unsigned8(area, link + NEXT)?;
+        link = read_unsigned8(area, link + UIR_NEXT_UIR)?;
     }
     if link == 0 {
         Ok(Ok(met.list))

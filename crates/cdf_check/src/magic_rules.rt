@@ -1,31 +1,36 @@
+//! The rules on the length of a file and on its magic numbers.
+
 ghost use Rattle.std.specs.Prelude.{◌≡◌, ◌+◌, ◌≤◌, length, IfOk};
-ghost use Rattle.cdf_base.specs.Causes.{HasCauseOf};
+ghost use Rattle.cdf_area.specs.Calls.{Reads};
 ghost use Rattle.cdf_format.specs.Fields.{word};
 ghost use Rattle.cdf_format.specs.FileRules.{phase0, phase1};
 ghost use Rattle.cdf_check.specs.Verdicts.{Finds};
 
-use crate::verdict::Broken;
+use crate::verdict::Finding;
 use cdf_area::{Area, AreaError};
+use cdf_model::limits::IMAGE_LIMIT;
 
 /// The bytes of both magic numbers.
 const MAGIC_LENGTH: u64 = 8;
 /// The longest image, and the checksum after it.
-const LONGEST_FILE: u64 = 1_073_741_824 + 16;
+const LONGEST_FILE: u64 = IMAGE_LIMIT + 16;
 /// The first magic number of version 3.
 const VERSION_3: u32 = 0xcdf3_0001;
 /// The second magic number of a file that is not compressed as a whole.
 const UNCOMPRESSED: u32 = 0x0000_ffff;
 
 /// The rules on the length of a file.
-pub fn check_length<A: Area>(area: &A) -> Option<Broken>
+pub fn check_length<A: Area>(area: &A) -> Option<Finding>
     ensures { Finds (phase0 (A.image area.now)) result }
 {
     let size = area.size();
     if size < MAGIC_LENGTH {
-        return Some(Broken { rule: 1, place: 0 });
+        // 0.1
+        return Some(Finding { rule: 1, place: 0 });
     }
     if size > LONGEST_FILE {
-        return Some(Broken { rule: 2, place: 0 });
+        // 0.2
+        return Some(Finding { rule: 2, place: 0 });
     }
     None
 }
@@ -34,9 +39,7 @@ pub fn check_length<A: Area>(area: &A) -> Option<Broken>
 fn read_magic<A: Area>(area: &mut A, place: u64) -> Result<u32, AreaError>
     requires { place + 4 ≤ length (A.image area.old) }
     ensures value { IfOk result (λ number. number ≡ word (A.image area.old) place 4) }
-    ensures image { A.image area.new ≡ A.image area.old }
-    ensures frame { A.frame area.new ≡ A.frame area.old }
-    ensures cause { HasCauseOf AreaError.Fault (A.faults area.old) (A.faults area.new) result }
+    ensures area { Reads A.image A.frame A.faults A.edited area.old area.new result }
 {
     let mut bytes = [0u8; 4];
     area.get(place, &mut bytes)?;
@@ -44,20 +47,20 @@ fn read_magic<A: Area>(area: &mut A, place: u64) -> Result<u32, AreaError>
 }
 
 /// The rules on the magic numbers.
-pub fn check_magic<A: Area>(area: &mut A) -> Result<Option<Broken>, AreaError>
+pub fn check_magic<A: Area>(area: &mut A) -> Result<Option<Finding>, AreaError>
     requires { 8 ≤ length (A.image area.old) }
     ensures found { IfOk result (Finds (phase1 (A.image area.old))) }
-    ensures image { A.image area.new ≡ A.image area.old }
-    ensures frame { A.frame area.new ≡ A.frame area.old }
-    ensures cause { HasCauseOf AreaError.Fault (A.faults area.old) (A.faults area.new) result }
+    ensures area { Reads A.image A.frame A.faults A.edited area.old area.new result }
 {
     let first = read_magic(area, 0)?;
     let second = read_magic(area, 4)?;
     if first != VERSION_3 {
-        return Ok(Some(Broken { rule: 1, place: 0 }));
+        // 1.1
+        return Ok(Some(Finding { rule: 1, place: 0 }));
     }
     if second != UNCOMPRESSED {
-        return Ok(Some(Broken { rule: 2, place: 4 }));
+        // 1.2
+        return Ok(Some(Finding { rule: 2, place: 4 }));
     }
     Ok(None)
 }

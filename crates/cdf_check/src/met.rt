@@ -1,3 +1,5 @@
+//! Numbers that were met before.
+
 ghost use Rattle.std.specs.Prelude.{◌≡◌, ◌++◌, [], ◌∷◌, OnOk, MatchResult};
 ghost use Rattle.cdf_format.specs.Chains.{is_in};
 ghost use Rattle.cdf_check.specs.Met.{Agrees};

@@ -1,21 +1,19 @@
-ghost use Rattle.std.specs.Prelude.{◌≡◌, ◌==◌, ◌++◌, ◌∷◌, ◌≤◌, [], length, IfOk, OnOk};
-ghost use Rattle.std.specs.List.{filter, flat_map};
-ghost use Rattle.cdf_base.specs.Causes.{HasCauseOf};
+//! The rule that each record of an image has one owner.
+
+ghost use Rattle.std.specs.Prelude.{◌≡◌, ◌==◌, ◌++◌, ◌∷◌, length, IfOk, OnOk};
+ghost use Rattle.std.specs.List.{filter};
+ghost use Rattle.cdf_area.specs.Calls.{Reads};
 ghost use Rattle.cdf_format.specs.Fields.{type_at};
-ghost use Rattle.cdf_format.specs.Owners.{owned_records, unused_records};
-ghost use Rattle.cdf_format.specs.Phases.{phase9, owner_rows};
+ghost use Rattle.cdf_format.specs.Phases.{phase9};
 ghost use Rattle.cdf_format.specs.RecordTypes.{uir_type};
-ghost use Rattle.cdf_format.specs.Shape.{shape};
-ghost use Rattle.cdf_format.specs.Tiles.{AreTiles, tiling};
-ghost use Rattle.cdf_format.specs.Walks.{whole};
+ghost use Rattle.cdf_format.specs.Tiles.{AreTiles};
 ghost use Rattle.cdf_check.specs.Verdicts.{Finds};
 ghost use Rattle.cdf_check.specs.Walked.{Climbs, StandsAt, Counts};
 
-use crate::cdr_rules::CDR_PLACE;
 use crate::fields::read_type;
-use crate::record_types::UIR;
-use crate::verdict::Broken;
+use crate::verdict::Finding;
 use cdf_area::{Area, AreaError};
+use cdf_format::fields::{CDR_PLACE, UIR_TYPE};
 use std::alloc::{AllocError, Global};
 
 /// Where a place stands among those of the records.
@@ -45,14 +43,15 @@ fn count_owned(alloc: Global, tiles: &[u64], owned: &[u64]) -> Result<Vec<u64>, 
 }
 
 /// That each record stands once in a list.
-fn check_owned(alloc: Global, tiles: &[u64], owned: &[u64]) -> Result<Option<Broken>, AllocError>
+fn check_owned(alloc: Global, tiles: &[u64], owned: &[u64]) -> Result<Option<Finding>, AllocError>
     requires climbs { Climbs tiles.now }
-    ensures found { IfOk result (Finds (flat_map (owner_rows owned.now) tiles.now)) }
+    ensures found { IfOk result (Finds (phase9 tiles.now owned.now)) }
 {
     let counts = count_owned(alloc, tiles, owned)?;
     for i in 0..tiles.len() {
         if counts[i] != 1 {
-            return Ok(Some(Broken {
+            // 9.1
+            return Ok(Some(Finding {
                 rule: 1,
                 place: tiles[i],
             }));
@@ -65,13 +64,11 @@ fn check_owned(alloc: Global, tiles: &[u64], owned: &[u64]) -> Result<Option<Bro
 fn own_unused<A: Area>(area: &mut A, tiles: &[u64], owned: &mut Vec<u64>) -> Result<(), AreaError>
     requires tiled { AreTiles (A.image area.old) 8 (length (A.image area.old)) tiles.now }
     ensures owned { OnOk result (owned.new.items ≡ owned.old.items ++ filter (λ place. type_at (A.image area.old) place == uir_type) tiles.now) }
-    ensures image { A.image area.new ≡ A.image area.old }
-    ensures frame { A.frame area.new ≡ A.frame area.old }
-    ensures cause { HasCauseOf AreaError.Fault (A.faults area.old) (A.faults area.new) result }
+    ensures area { Reads A.image A.frame A.faults A.edited area.old area.new result }
 {
     for place in tiles {
         let record_type = read_type(area, *place)?;
-        if record_type == UIR {
+        if record_type == UIR_TYPE {
             owned.push(*place)?;
         }
     }
@@ -85,13 +82,10 @@ pub fn check_owners<A: Area>(
     tiles: &[u64],
     gdr: u64,
     members: &[u64],
-) -> Result<Option<Broken>, AreaError>
-    requires tiling { tiling (A.image area.old) ≡ whole tiles.now }
-    requires owned { owned_records (A.image area.old) (shape (A.image area.old)) ≡ (8 ∷ gdr ∷ members.now) ++ unused_records (A.image area.old) (shape (A.image area.old)) }
-    ensures found { IfOk result (Finds (phase9 (A.image area.old))) }
-    ensures image { A.image area.new ≡ A.image area.old }
-    ensures frame { A.frame area.new ≡ A.frame area.old }
-    ensures cause { HasCauseOf AreaError.Fault (A.faults area.old) (A.faults area.new) result }
+) -> Result<Option<Finding>, AreaError>
+    requires tiled { AreTiles (A.image area.old) 8 (length (A.image area.old)) tiles.now }
+    ensures found { IfOk result (Finds (phase9 tiles.now ((8 ∷ gdr ∷ members.now) ++ filter (λ place. type_at (A.image area.old) place == uir_type) tiles.now))) }
+    ensures area { Reads A.image A.frame A.faults A.edited area.old area.new result }
 {
     let mut owned = Vec::new(alloc);
     owned.push(CDR_PLACE)?;

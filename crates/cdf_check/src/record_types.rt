@@ -1,56 +1,54 @@
+//! What is known of the types of records.
+
 ghost use Rattle.std.specs.Prelude.{◌≡◌};
 ghost use Rattle.cdf_format.specs.Chains.{is_in};
 ghost use Rattle.cdf_format.specs.NotRead.{read_types};
 ghost use Rattle.cdf_format.specs.RecordTypes.{is_record_type, fixed_size};
 
-/// The types of records by name, without a sign.
-pub const CDR: u32 = 1;
-
-pub const GDR: u32 = 2;
-
-pub const R_VDR: u32 = 3;
-
-pub const ADR: u32 = 4;
-
-pub const AGR_EDR: u32 = 5;
-
-pub const Z_VDR: u32 = 8;
-
-pub const AZ_EDR: u32 = 9;
-
-pub const UIR: u32 = u32::MAX;
-
-/// The greatest type but for that of unused records.
-const LAST_TYPE: u32 = 13;
-/// The bytes of the fixed part of a record of each type from 0 on; no record has type 0.
-const FIXED_SIZES: [u64; 14] = [0, 312, 84, 340, 324, 56, 28, 12, 344, 56, 12, 24, 12, 24];
+use cdf_format::fields::{
+    ADR_SIZE, ADR_TYPE, AEDR_SIZE, AGR_EDR_TYPE, AZ_EDR_TYPE, CCR_SIZE, CCR_TYPE, CDR_SIZE,
+    CDR_TYPE, CPR_SIZE, CPR_TYPE, CVVR_SIZE, CVVR_TYPE, GDR_SIZE, GDR_TYPE, R_VDR_SIZE, R_VDR_TYPE,
+    SPR_SIZE, SPR_TYPE, UIR_SIZE, UIR_TYPE, VVR_SIZE, VVR_TYPE, VXR_SIZE, VXR_TYPE, Z_VDR_SIZE,
+    Z_VDR_TYPE,
+};
 
 /// Whether records have this type.
 pub fn is_record_type(record_type: u32) -> bool
     ensures { result ≡ is_record_type record_type }
 {
-    (record_type >= CDR && record_type <= LAST_TYPE) || record_type == UIR
+    (record_type >= CDR_TYPE && record_type <= CVVR_TYPE) || record_type == UIR_TYPE
 }
 
-/// The least size of a record of a type; of a record that is unused there is none.
+/// The least size of a record of a type; of no type there is none.
 pub fn fixed_size(record_type: u32) -> u64
     ensures { result ≡ fixed_size record_type }
 {
-    let sizes = FIXED_SIZES;
-    if record_type > LAST_TYPE {
-        return 0;
+    match record_type {
+        CDR_TYPE => CDR_SIZE,
+        GDR_TYPE => GDR_SIZE,
+        R_VDR_TYPE => R_VDR_SIZE,
+        ADR_TYPE => ADR_SIZE,
+        AGR_EDR_TYPE | AZ_EDR_TYPE => AEDR_SIZE,
+        VXR_TYPE => VXR_SIZE,
+        VVR_TYPE => VVR_SIZE,
+        Z_VDR_TYPE => Z_VDR_SIZE,
+        CCR_TYPE => CCR_SIZE,
+        CPR_TYPE => CPR_SIZE,
+        SPR_TYPE => SPR_SIZE,
+        CVVR_TYPE => CVVR_SIZE,
+        UIR_TYPE => UIR_SIZE,
+        _ => 0,
     }
-    sizes[record_type as usize]
 }
 
 /// Whether records of this type are read.
 pub fn is_read(record_type: u32) -> bool
     ensures { result ≡ is_in record_type read_types }
 {
-    record_type == CDR
-        || record_type == GDR
-        || record_type == ADR
-        || record_type == AGR_EDR
-        || record_type == AZ_EDR
-        || record_type == UIR
+    record_type == CDR_TYPE
+        || record_type == GDR_TYPE
+        || record_type == ADR_TYPE
+        || record_type == AGR_EDR_TYPE
+        || record_type == AZ_EDR_TYPE
+        || record_type == UIR_TYPE
 }

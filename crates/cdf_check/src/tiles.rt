@@ -1,6 +1,8 @@
+//! The rules on the records of an image: that they fill it, and their types and sizes.
+
 ghost use Rattle.std.specs.Prelude.{◌≡◌, ◌+◌, ◌++◌, ◌≤◌, length, IfOk};
 ghost use Rattle.std.specs.List.{flat_map};
-ghost use Rattle.cdf_base.specs.Causes.{HasCauseOf};
+ghost use Rattle.cdf_area.specs.Calls.{Reads};
 ghost use Rattle.cdf_format.specs.NotRead.{unread_type};
 ghost use Rattle.cdf_format.specs.RecordRules.{record_rows, phase4};
 ghost use Rattle.cdf_format.specs.Tiles.{AreTiles, tiling};
@@ -10,22 +12,16 @@ ghost use Rattle.cdf_check.specs.Walked.{SizesTile, Walks};
 
 use crate::fields::{read_size, read_type};
 use crate::record_types::{fixed_size, is_read, is_record_type};
-use crate::verdict::Broken;
+use crate::verdict::Finding;
 use cdf_area::{Area, AreaError};
+use cdf_format::fields::{CDR_PLACE, LEAST_SIZE};
 use std::alloc::Global;
-
-/// Where the first record stands.
-const FIRST_PLACE: u64 = 8;
-/// The bytes of the size and the type of a record.
-const LEAST_SIZE: u64 = 12;
 
 /// The size of the record at a place, if one stands there.
 fn tile_size<A: Area>(area: &mut A, place: u64) -> Result<Option<u64>, AreaError>
     requires within { place ≤ length (A.image area.old) }
     ensures size { IfOk result (SizesTile (A.image area.old) place) }
-    ensures image { A.image area.new ≡ A.image area.old }
-    ensures frame { A.frame area.new ≡ A.frame area.old }
-    ensures cause { HasCauseOf AreaError.Fault (A.faults area.old) (A.faults area.new) result }
+    ensures area { Reads A.image A.frame A.faults A.edited area.old area.new result }
 {
     let rest = area.size() - place;
     if rest < LEAST_SIZE {
@@ -42,13 +38,11 @@ fn tile_size<A: Area>(area: &mut A, place: u64) -> Result<Option<u64>, AreaError
 fn walk_tiles<A: Area>(alloc: Global, area: &mut A) -> Result<Result<Vec<u64>, u64>, AreaError>
     requires { 8 ≤ length (A.image area.old) }
     ensures walk { IfOk result (Walks (tiling (A.image area.old))) }
-    ensures image { A.image area.new ≡ A.image area.old }
-    ensures frame { A.frame area.new ≡ A.frame area.old }
-    ensures cause { HasCauseOf AreaError.Fault (A.faults area.old) (A.faults area.new) result }
+    ensures area { Reads A.image A.frame A.faults A.edited area.old area.new result }
 {
     let eof = area.size();
     let mut records = Vec::new(alloc);
-    let mut place = FIRST_PLACE;
+    let mut place = CDR_PLACE;
     for turn in 0..eof {
         if place == eof {
             return Ok(Ok(records));
@@ -69,34 +63,33 @@ fn walk_tiles<A: Area>(alloc: Global, area: &mut A) -> Result<Result<Vec<u64>, u
 }
 
 /// The rules on the type and the size of a record.
-fn check_record<A: Area>(area: &mut A, place: u64) -> Result<Option<Broken>, AreaError>
+fn check_record<A: Area>(area: &mut A, place: u64) -> Result<Option<Finding>, AreaError>
     requires { place + 12 ≤ length (A.image area.old) }
     ensures found { IfOk result (Finds (record_rows (A.image area.old) place ++ unread_type (A.image area.old) place)) }
-    ensures image { A.image area.new ≡ A.image area.old }
-    ensures frame { A.frame area.new ≡ A.frame area.old }
-    ensures cause { HasCauseOf AreaError.Fault (A.faults area.old) (A.faults area.new) result }
+    ensures area { Reads A.image A.frame A.faults A.edited area.old area.new result }
 {
     let record_type = read_type(area, place)?;
     let size = read_size(area, place)?;
     if !is_record_type(record_type) {
-        return Ok(Some(Broken { rule: 2, place }));
+        // 4.2
+        return Ok(Some(Finding { rule: 2, place }));
     }
     if size < fixed_size(record_type) {
-        return Ok(Some(Broken { rule: 3, place }));
+        // 4.3
+        return Ok(Some(Finding { rule: 3, place }));
     }
     if !is_read(record_type) {
-        return Ok(Some(Broken { rule: 99, place }));
+        // 4.99
+        return Ok(Some(Finding { rule: 99, place }));
     }
     Ok(None)
 }
 
 /// The rules on the type and the size of each record.
-fn check_records<A: Area>(area: &mut A, records: &[u64]) -> Result<Option<Broken>, AreaError>
+fn check_records<A: Area>(area: &mut A, records: &[u64]) -> Result<Option<Finding>, AreaError>
     requires { AreTiles (A.image area.old) 8 (length (A.image area.old)) records.now }
     ensures found { IfOk result (Finds (flat_map (record_rows (A.image area.old)) records.now ++ flat_map (unread_type (A.image area.old)) records.now)) }
-    ensures image { A.image area.new ≡ A.image area.old }
-    ensures frame { A.frame area.new ≡ A.frame area.old }
-    ensures cause { HasCauseOf AreaError.Fault (A.faults area.old) (A.faults area.new) result }
+    ensures area { Reads A.image A.frame A.faults A.edited area.old area.new result }
 {
     for place in records {
         if let Some(broken) = check_record(area, *place)? {
@@ -111,16 +104,15 @@ fn check_records<A: Area>(area: &mut A, records: &[u64]) -> Result<Option<Broken
 pub fn check_tiles<A: Area>(
     alloc: Global,
     area: &mut A,
-) -> Result<Result<Vec<u64>, Broken>, AreaError>
+) -> Result<Result<Vec<u64>, Finding>, AreaError>
     requires { 8 ≤ length (A.image area.old) }
     ensures found { IfOk result (Yields (phase4 (A.image area.old)) (λ records. tiling (A.image area.old) ≡ whole records.items)) }
-    ensures image { A.image area.new ≡ A.image area.old }
-    ensures frame { A.frame area.new ≡ A.frame area.old }
-    ensures cause { HasCauseOf AreaError.Fault (A.faults area.old) (A.faults area.new) result }
+    ensures area { Reads A.image A.frame A.faults A.edited area.old area.new result }
 {
     let records = match walk_tiles(alloc, area)? {
         Ok(records) => records,
-        Err(place) => return Ok(Err(Broken { rule: 1, place })),
+        // 4.1
+        Err(place) => return Ok(Err(Finding { rule: 1, place })),
     };
     match check_records(area, &records)? {
         Some(broken) => Ok(Err(broken)),

@@ -1,28 +1,29 @@
+//! What a check answers.
+
 ghost use Rattle.std.specs.Prelude.{◌≡◌};
 
-/// What a check of a whole file finds.
+/// A rule that a file breaks: the first phase of which a rule is broken, the number of the rule in it, and the place in the file.
 #[derive(Clone, Copy, Debug, PartialEq, Eq)]
-pub enum Verdict {
-    /// The file is well formed.
-    Yes,
-    /// A rule of the first phase that is broken, and the place in the file where it is broken.
-    No { phase: u8, rule: u8, at: u64 },
+pub struct Broken {
+    pub phase: u8,
+    pub rule: u8,
+    pub at: u64,
 }
 
 /// A rule of one phase that is broken, and where.
 #[derive(Clone, Copy, Debug, PartialEq, Eq)]
-pub struct Broken {
+pub struct Finding {
     pub rule: u8,
     pub place: u64,
 }
 
-/// The verdict on a file that breaks a rule of this phase.
-pub fn no(phase: u8, broken: Broken) -> Verdict
-    ensures { result ≡ Verdict.No phase broken.rule broken.place }
+/// What was found in this phase, none before it being broken.
+pub fn in_phase(phase: u8, finding: Finding) -> Broken
+    ensures { result ≡ record { phase = phase; rule = finding.rule; at = finding.place } }
 {
-    Verdict::No {
+    Broken {
         phase,
-        rule: broken.rule,
-        at: broken.place,
+        rule: finding.rule,
+        at: finding.place,
     }
 }

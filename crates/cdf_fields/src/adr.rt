@@ -1,131 +1,89 @@
-ghost use Rattle.std.specs.Prelude.{◌≡◌, ◌+◌, ◌≤◌, length, OnErr, OnOk};
+//! Fields of an Attribute Descriptor Record, written.
+
+ghost use Rattle.std.specs.Prelude.{◌≡◌, ◌≤◌, length, OnOk};
 ghost use Rattle.std.specs.Int.{w32, cast_unsigned};
-ghost use Rattle.cdf_base.specs.Causes.{HasCauseOf};
+ghost use Rattle.cdf_area.specs.Calls.{Overwrites};
 ghost use Rattle.cdf_format.specs.Fields.{LiesIn, with_field, with_name};
-ghost use Rattle.cdf_format.specs.Records.{adr_adr_next, adr_agr_edr_head, adr_scope, adr_num, adr_ngr_entries, adr_max_gr_entry, adr_az_edr_head, adr_nz_entries, adr_max_z_entry, adr_rfu_e, adr_name};
+ghost use Rattle.cdf_format.specs.Records.{adr_adr_next, adr_agr_edr_head, adr_num, adr_ngr_entries, adr_max_gr_entry, adr_az_edr_head, adr_nz_entries, adr_max_z_entry, adr_name};
 
 use crate::name::set_name;
 use crate::width::{set_signed4, set_unsigned8};
 use cdf_area::{Area, AreaError};
+use cdf_format::fields::{
+    ADR_ADR_NEXT, ADR_AGR_EDR_HEAD, ADR_AZ_EDR_HEAD, ADR_MAX_GR_ENTRY, ADR_MAX_Z_ENTRY, ADR_NAME,
+    ADR_NGR_ENTRIES, ADR_NUM, ADR_NZ_ENTRIES,
+};
 
 /// ADRnext: the place of the next attribute, 0 for none.
 pub fn set_adr_adr_next<A: Area>(area: &mut A, at: u64, to: u64) -> Result<(), AreaError>
     requires { LiesIn (A.image area.old) at adr_adr_next }
     ensures ok { OnOk result (A.image area.new ≡ with_field (A.image area.old) at adr_adr_next to) }
-    ensures err { OnErr result (A.image area.new ≡ A.image area.old) }
-    ensures size { length (A.image area.new) ≡ length (A.image area.old) }
-    ensures frame { A.frame area.new ≡ A.frame area.old }
-    ensures cause { HasCauseOf AreaError.Fault (A.faults area.old) (A.faults area.new) result }
+    ensures area { Overwrites A.image A.frame A.faults area.old area.new result }
 {
-    set_unsigned8(area, at, 12, to)
+    set_unsigned8(area, at, ADR_ADR_NEXT, to)
 }
 
 /// AgrEDRhead: the place of the first gr entry, 0 for none.
 pub fn set_adr_agr_edr_head<A: Area>(area: &mut A, at: u64, to: u64) -> Result<(), AreaError>
     requires { LiesIn (A.image area.old) at adr_agr_edr_head }
     ensures ok { OnOk result (A.image area.new ≡ with_field (A.image area.old) at adr_agr_edr_head to) }
-    ensures err { OnErr result (A.image area.new ≡ A.image area.old) }
-    ensures size { length (A.image area.new) ≡ length (A.image area.old) }
-    ensures frame { A.frame area.new ≡ A.frame area.old }
-    ensures cause { HasCauseOf AreaError.Fault (A.faults area.old) (A.faults area.new) result }
+    ensures area { Overwrites A.image A.frame A.faults area.old area.new result }
 {
-    set_unsigned8(area, at, 20, to)
-}
-
-/// Scope: the code of the scope.
-pub fn set_adr_scope<A: Area>(area: &mut A, at: u64, to: i32) -> Result<(), AreaError>
-    requires { LiesIn (A.image area.old) at adr_scope }
-    ensures ok { OnOk result (A.image area.new ≡ with_field (A.image area.old) at adr_scope (cast_unsigned w32 to)) }
-    ensures err { OnErr result (A.image area.new ≡ A.image area.old) }
-    ensures size { length (A.image area.new) ≡ length (A.image area.old) }
-    ensures frame { A.frame area.new ≡ A.frame area.old }
-    ensures cause { HasCauseOf AreaError.Fault (A.faults area.old) (A.faults area.new) result }
-{
-    set_signed4(area, at, 28, to)
+    set_unsigned8(area, at, ADR_AGR_EDR_HEAD, to)
 }
 
 /// Num: the number of the attribute.
 pub fn set_adr_num<A: Area>(area: &mut A, at: u64, to: i32) -> Result<(), AreaError>
     requires { LiesIn (A.image area.old) at adr_num }
     ensures ok { OnOk result (A.image area.new ≡ with_field (A.image area.old) at adr_num (cast_unsigned w32 to)) }
-    ensures err { OnErr result (A.image area.new ≡ A.image area.old) }
-    ensures size { length (A.image area.new) ≡ length (A.image area.old) }
-    ensures frame { A.frame area.new ≡ A.frame area.old }
-    ensures cause { HasCauseOf AreaError.Fault (A.faults area.old) (A.faults area.new) result }
+    ensures area { Overwrites A.image A.frame A.faults area.old area.new result }
 {
-    set_signed4(area, at, 32, to)
+    set_signed4(area, at, ADR_NUM, to)
 }
 
 /// NgrEntries: the number of gr entries.
 pub fn set_adr_ngr_entries<A: Area>(area: &mut A, at: u64, to: i32) -> Result<(), AreaError>
     requires { LiesIn (A.image area.old) at adr_ngr_entries }
     ensures ok { OnOk result (A.image area.new ≡ with_field (A.image area.old) at adr_ngr_entries (cast_unsigned w32 to)) }
-    ensures err { OnErr result (A.image area.new ≡ A.image area.old) }
-    ensures size { length (A.image area.new) ≡ length (A.image area.old) }
-    ensures frame { A.frame area.new ≡ A.frame area.old }
-    ensures cause { HasCauseOf AreaError.Fault (A.faults area.old) (A.faults area.new) result }
+    ensures area { Overwrites A.image A.frame A.faults area.old area.new result }
 {
-    set_signed4(area, at, 36, to)
+    set_signed4(area, at, ADR_NGR_ENTRIES, to)
 }
 
 /// MAXgrEntry: the greatest number of a gr entry, -1 for none.
 pub fn set_adr_max_gr_entry<A: Area>(area: &mut A, at: u64, to: i32) -> Result<(), AreaError>
     requires { LiesIn (A.image area.old) at adr_max_gr_entry }
     ensures ok { OnOk result (A.image area.new ≡ with_field (A.image area.old) at adr_max_gr_entry (cast_unsigned w32 to)) }
-    ensures err { OnErr result (A.image area.new ≡ A.image area.old) }
-    ensures size { length (A.image area.new) ≡ length (A.image area.old) }
-    ensures frame { A.frame area.new ≡ A.frame area.old }
-    ensures cause { HasCauseOf AreaError.Fault (A.faults area.old) (A.faults area.new) result }
+    ensures area { Overwrites A.image A.frame A.faults area.old area.new result }
 {
-    set_signed4(area, at, 40, to)
+    set_signed4(area, at, ADR_MAX_GR_ENTRY, to)
 }
 
 /// AzEDRhead: the place of the first z entry, 0 for none.
 pub fn set_adr_az_edr_head<A: Area>(area: &mut A, at: u64, to: u64) -> Result<(), AreaError>
     requires { LiesIn (A.image area.old) at adr_az_edr_head }
     ensures ok { OnOk result (A.image area.new ≡ with_field (A.image area.old) at adr_az_edr_head to) }
-    ensures err { OnErr result (A.image area.new ≡ A.image area.old) }
-    ensures size { length (A.image area.new) ≡ length (A.image area.old) }
-    ensures frame { A.frame area.new ≡ A.frame area.old }
-    ensures cause { HasCauseOf AreaError.Fault (A.faults area.old) (A.faults area.new) result }
+    ensures area { Overwrites A.image A.frame A.faults area.old area.new result }
 {
-    set_unsigned8(area, at, 48, to)
+    set_unsigned8(area, at, ADR_AZ_EDR_HEAD, to)
 }
 
 /// NzEntries: the number of z entries.
 pub fn set_adr_nz_entries<A: Area>(area: &mut A, at: u64, to: i32) -> Result<(), AreaError>
     requires { LiesIn (A.image area.old) at adr_nz_entries }
     ensures ok { OnOk result (A.image area.new ≡ with_field (A.image area.old) at adr_nz_entries (cast_unsigned w32 to)) }
-    ensures err { OnErr result (A.image area.new ≡ A.image area.old) }
-    ensures size { length (A.image area.new) ≡ length (A.image area.old) }
-    ensures frame { A.frame area.new ≡ A.frame area.old }
-    ensures cause { HasCauseOf AreaError.Fault (A.faults area.old) (A.faults area.new) result }
+    ensures area { Overwrites A.image A.frame A.faults area.old area.new result }
 {
-    set_signed4(area, at, 56, to)
+    set_signed4(area, at, ADR_NZ_ENTRIES, to)
 }
 
 /// MAXzEntry: the greatest number of a z entry, -1 for none.
 pub fn set_adr_max_z_entry<A: Area>(area: &mut A, at: u64, to: i32) -> Result<(), AreaError>
     requires { LiesIn (A.image area.old) at adr_max_z_entry }
     ensures ok { OnOk result (A.image area.new ≡ with_field (A.image area.old) at adr_max_z_entry (cast_unsigned w32 to)) }
-    ensures err { OnErr result (A.image area.new ≡ A.image area.old) }
-    ensures size { length (A.image area.new) ≡ length (A.image area.old) }
-    ensures frame { A.frame area.new ≡ A.frame area.old }
-    ensures cause { HasCauseOf AreaError.Fault (A.faults area.old) (A.faults area.new) result }
+    ensures area { Overwrites A.image A.frame A.faults area.old area.new result }
 {
-    set_signed4(area, at, 60, to)
-}
-
-/// rfuE.
-pub fn set_adr_rfu_e<A: Area>(area: &mut A, at: u64, to: i32) -> Result<(), AreaError>
-    requires { LiesIn (A.image area.old) at adr_rfu_e }
-    ensures ok { OnOk result (A.image area.new ≡ with_field (A.image area.old) at adr_rfu_e (cast_unsigned w32 to)) }
-    ensures err { OnErr result (A.image area.new ≡ A.image area.old) }
-    ensures size { length (A.image area.new) ≡ length (A.image area.old) }
-    ensures frame { A.frame area.new ≡ A.frame area.old }
-    ensures cause { HasCauseOf AreaError.Fault (A.faults area.old) (A.faults area.new) result }
-{
-    set_signed4(area, at, 64, to)
+    set_signed4(area, at, ADR_MAX_Z_ENTRY, to)
 }
 
 /// The Name: these bytes, then bytes 0.
@@ -133,10 +91,7 @@ pub fn set_adr_name<A: Area>(area: &mut A, at: u64, to: &[u8]) -> Result<(), Are
     requires field { LiesIn (A.image area.old) at adr_name }
     requires fits { length to.now ≤ 256 }
     ensures ok { OnOk result (A.image area.new ≡ with_name (A.image area.old) at adr_name to.now) }
-    ensures err { OnErr result (A.image area.new ≡ A.image area.old) }
-    ensures size { length (A.image area.new) ≡ length (A.image area.old) }
-    ensures frame { A.frame area.new ≡ A.frame area.old }
-    ensures cause { HasCauseOf AreaError.Fault (A.faults area.old) (A.faults area.new) result }
+    ensures area { Overwrites A.image A.frame A.faults area.old area.new result }
 {
-    set_name(area, at, 68, to)
+    set_name(area, at, ADR_NAME, to)
 }

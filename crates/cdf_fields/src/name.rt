@@ -1,5 +1,7 @@
-ghost use Rattle.std.specs.Prelude.{◌≡◌, ◌+◌, ◌-◌, ◌≤◌, ◌++◌, length, replicate, OnErr, OnOk};
-ghost use Rattle.cdf_base.specs.Causes.{HasCauseOf};
+//! Names, written with the bytes 0 after them.
+
+ghost use Rattle.std.specs.Prelude.{◌≡◌, ◌+◌, ◌-◌, ◌≤◌, ◌++◌, length, replicate, OnOk};
+ghost use Rattle.cdf_area.specs.Calls.{Overwrites};
 ghost use Rattle.cdf_format.specs.Fields.{LiesIn, with_name};
 ghost use Rattle.cdf_format.specs.Records.{field};
 
@@ -21,10 +23,7 @@ pub fn set_name<A: Area>(area: &mut A, at: u64, place: u64, to: &[u8]) -> Result
     requires field { LiesIn (A.image area.old) at (field place 256) }
     requires fits { length to.now ≤ 256 }
     ensures ok { OnOk result (A.image area.new ≡ with_name (A.image area.old) at (field place 256) to.now) }
-    ensures err { OnErr result (A.image area.new ≡ A.image area.old) }
-    ensures size { length (A.image area.new) ≡ length (A.image area.old) }
-    ensures frame { A.frame area.new ≡ A.frame area.old }
-    ensures cause { HasCauseOf AreaError.Fault (A.faults area.old) (A.faults area.new) result }
+    ensures area { Overwrites A.image A.frame A.faults area.old area.new result }
 {
     let _size = area.size();
     area.set(at + place, &padded(to))

@@ -1,6 +1,8 @@
-ghost use Rattle.std.specs.Prelude.{◌≡◌, ◌+◌, ◌≤◌, length, OnErr, OnOk};
+//! Numbers of 4 and 8 bytes, written.
+
+ghost use Rattle.std.specs.Prelude.{◌≡◌, ◌+◌, OnOk};
 ghost use Rattle.std.specs.Int.{w32, w64, cast_unsigned};
-ghost use Rattle.cdf_base.specs.Causes.{HasCauseOf};
+ghost use Rattle.cdf_area.specs.Calls.{Overwrites};
 ghost use Rattle.cdf_format.specs.Fields.{LiesIn, with_field};
 ghost use Rattle.cdf_format.specs.Records.{field};
 
@@ -11,10 +13,7 @@ use cdf_area::{Area, AreaError};
 pub fn set_unsigned4<A: Area>(area: &mut A, at: u64, place: u64, to: u32) -> Result<(), AreaError>
     requires { LiesIn (A.image area.old) at (field place 4) }
     ensures ok { OnOk result (A.image area.new ≡ with_field (A.image area.old) at (field place 4) to) }
-    ensures err { OnErr result (A.image area.new ≡ A.image area.old) }
-    ensures size { length (A.image area.new) ≡ length (A.image area.old) }
-    ensures frame { A.frame area.new ≡ A.frame area.old }
-    ensures cause { HasCauseOf AreaError.Fault (A.faults area.old) (A.faults area.new) result }
+    ensures area { Overwrites A.image A.frame A.faults area.old area.new result }
 {
     let _size = area.size();
     area.set(at + place, &to.to_be_bytes())
@@ -24,10 +23,7 @@ pub fn set_unsigned4<A: Area>(area: &mut A, at: u64, place: u64, to: u32) -> Res
 pub fn set_signed4<A: Area>(area: &mut A, at: u64, place: u64, to: i32) -> Result<(), AreaError>
     requires { LiesIn (A.image area.old) at (field place 4) }
     ensures ok { OnOk result (A.image area.new ≡ with_field (A.image area.old) at (field place 4) (cast_unsigned w32 to)) }
-    ensures err { OnErr result (A.image area.new ≡ A.image area.old) }
-    ensures size { length (A.image area.new) ≡ length (A.image area.old) }
-    ensures frame { A.frame area.new ≡ A.frame area.old }
-    ensures cause { HasCauseOf AreaError.Fault (A.faults area.old) (A.faults area.new) result }
+    ensures area { Overwrites A.image A.frame A.faults area.old area.new result }
 {
     set_unsigned4(area, at, place, to.cast_unsigned())
 }
@@ -37,10 +33,7 @@ pub fn set_signed4<A: Area>(area: &mut A, at: u64, place: u64, to: i32) -> Resul
 pub fn set_unsigned8<A: Area>(area: &mut A, at: u64, place: u64, to: u64) -> Result<(), AreaError>
     requires { LiesIn (A.image area.old) at (field place 8) }
     ensures ok { OnOk result (A.image area.new ≡ with_field (A.image area.old) at (field place 8) to) }
-    ensures err { OnErr result (A.image area.new ≡ A.image area.old) }
-    ensures size { length (A.image area.new) ≡ length (A.image area.old) }
-    ensures frame { A.frame area.new ≡ A.frame area.old }
-    ensures cause { HasCauseOf AreaError.Fault (A.faults area.old) (A.faults area.new) result }
+    ensures area { Overwrites A.image A.frame A.faults area.old area.new result }
 {
     let _size = area.size();
     area.set(at + place, &to.to_be_bytes())
@@ -50,10 +43,7 @@ pub fn set_unsigned8<A: Area>(area: &mut A, at: u64, place: u64, to: u64) -> Res
 pub fn set_signed8<A: Area>(area: &mut A, at: u64, place: u64, to: i64) -> Result<(), AreaError>
     requires { LiesIn (A.image area.old) at (field place 8) }
     ensures ok { OnOk result (A.image area.new ≡ with_field (A.image area.old) at (field place 8) (cast_unsigned w64 to)) }
-    ensures err { OnErr result (A.image area.new ≡ A.image area.old) }
-    ensures size { length (A.image area.new) ≡ length (A.image area.old) }
-    ensures frame { A.frame area.new ≡ A.frame area.old }
-    ensures cause { HasCauseOf AreaError.Fault (A.faults area.old) (A.faults area.new) result }
+    ensures area { Overwrites A.image A.frame A.faults area.old area.new result }
 {
     set_unsigned8(area, at, place, to.cast_unsigned())
 }

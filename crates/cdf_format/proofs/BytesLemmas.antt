@@ -7,7 +7,7 @@ use Rattle.std.specs.List.{before_first}
 use Rattle.cdf_base.specs.Bytes.{put}
 use Rattle.cdf_format.specs.Records.{Field}
 use Rattle.cdf_format.specs.Fields.{word, words, number, integer4, name_in, size_at, type_at}
-use Rattle.cdf_format.specs.Changed.{byte, Same}
+use Rattle.cdf_format.specs.Bytes.{byte, Same}
 use Rattle.cdf_format.specs.Chains.{next_of}
 use Rattle.cdf_format.specs.Stored.{field_bytes}
 

@@ -1,7 +1,7 @@
 -- The two records that each well-formed file has.
 use Rattle.std.proofs.Common.{◌≡◌, ℕ, ◌+◌, ◌*◌, ◌≤◌, List, length, Bool, true, ◌&&◌, subst, arith}
 use Rattle.std.specs.Prelude.{nat_le, ◌==◌}
-use Rattle.cdf_format.specs.Fields.{number, size_at, type_at, gdr_offset, r_dimensions}
+use Rattle.cdf_format.specs.Fields.{number, size_at, type_at, gdr_offset, r_num_dims}
 use Rattle.cdf_format.specs.Records.{gdr_r_num_dims}
 use Rattle.cdf_format.specs.Rules.{Hold, asked}
 use Rattle.cdf_format.specs.WellFormed.{WellFormed}
@@ -29,7 +29,7 @@ gdr_holds f holds = subst (λ (t : Bool). Hold (asked t (gdr_rows f (gdr_offset 
 pub gdr_record : (f : List ℕ) → WellFormed f → HasRecord f (gdr_offset f) 2 84
 gdr_record f holds =
     let g = gdr_offset f in
-    let least = 84 + 4 * r_dimensions f g in
+    let least = 84 + 4 * r_num_dims f g in
     let r = record-of f g 2 least (both (nat_le (number f g gdr_r_num_dims) 10) (is_record f g 2 least) (gdr_holds f holds).0).1 in
     let long : least ≤ size_at f g = r.long in
     record { type_is = r.type_is; long = omega arith; ends = r.ends }

@@ -5,8 +5,8 @@ use Rattle.std.proofs.lemmas.List.{length-take, get_or_append_left}
 use Rattle.std.specs.Int.{w64}
 use Rattle.std.specs.Prelude.{nat_le}
 use Rattle.cdf_model.specs.Limits.{image_limit}
-use Rattle.cdf_format.specs.Alone.{IsSound}
-use Rattle.cdf_format.specs.Fields.{word, number, size_at, gdr_offset, version, eof, r_dimensions, integer8, counted}
+use Rattle.cdf_format.specs.Sound.{IsSound}
+use Rattle.cdf_format.specs.Fields.{word, number, size_at, gdr_offset, version, eof, r_num_dims, integer8, counted}
 use Rattle.cdf_format.specs.FileRules.{is_record}
 use Rattle.cdf_format.specs.Records.{gdr_eof, gdr_r_num_dims}
 use Rattle.cdf_format.specs.RecordTypes.{cdr_type, gdr_type, fixed_size}
@@ -16,7 +16,7 @@ use Rattle.cdf_format.specs.WellFormed.{WellFormed, Good}
 use Rattle.cdf_format.proofs.BytesLemmas.{word-same}
 use Rattle.cdf_format.proofs.ChainsLemmas.{is_a-in, is_a-type}
 use Rattle.cdf_format.proofs.FileRecords.{gdr_holds}
-use Rattle.cdf_format.proofs.GoodLemmas.{good_is_sound}
+use Rattle.cdf_format.proofs.GoodSound.{good_is_sound}
 use Rattle.cdf_format.proofs.ImageOf.{short_trailer, sealed_is_file}
 use Rattle.cdf_format.proofs.Tests.{both, le_of, eq_of}
 use Rattle.cdf_format.proofs.TilesLemmas.{tile_lies}
@@ -45,18 +45,18 @@ module _ (b : List ℕ) (good : Good b) where
       let h = sound.has_shape in
       (tile_lies b 8 (length b) (shape b).records (shape b).gdr h.tiled (is_a-in b (shape b).records gdr_type (shape b).gdr h.gdr_stands)).high
 
-  sizes_fit_shape : (shape b).gdr + 84 + 4 * r_dimensions b (shape b).gdr ≤ length b
-  sizes_fit_shape = fit (shape b).gdr (4 * r_dimensions b (shape b).gdr) (size_at b (shape b).gdr) (length b) sound.gdr_fits gdr_high
+  sizes_fit_shape : (shape b).gdr + 84 + 4 * r_num_dims b (shape b).gdr ≤ length b
+  sizes_fit_shape = fit (shape b).gdr (4 * r_num_dims b (shape b).gdr) (size_at b (shape b).gdr) (length b) sound.gdr_fits gdr_high
     where
       fit : (g d s n : ℕ) → 84 + d ≤ s → g + s ≤ n → g + 84 + d ≤ n
       fit g d s n p q = omega arith
 
   -- there is room for the sizes of the dimensions
-  pub sizes_fit : gdr_offset b + 84 + 4 * r_dimensions b (gdr_offset b) ≤ length b
-  sizes_fit = subst (λ (g : ℕ). g + 84 + 4 * r_dimensions b g ≤ length b) (sym sound.has_shape.gdr_is) sizes_fit_shape
+  pub sizes_fit : gdr_offset b + 84 + 4 * r_num_dims b (gdr_offset b) ≤ length b
+  sizes_fit = subst (λ (g : ℕ). g + 84 + 4 * r_num_dims b g ≤ length b) (sym sound.has_shape.gdr_is) sizes_fit_shape
 
   pub gdr_fits : gdr_offset b + 84 ≤ length b
-  gdr_fits = fit (gdr_offset b) (4 * r_dimensions b (gdr_offset b)) (length b) sizes_fit
+  gdr_fits = fit (gdr_offset b) (4 * r_num_dims b (gdr_offset b)) (length b) sizes_fit
     where
       fit : (g d n : ℕ) → g + 84 + d ≤ n → g + 84 ≤ n
       fit g d n p = omega arith
@@ -70,7 +70,7 @@ module _ (b : List ℕ) (good : Good b) where
       let f = sealed b in
       let long = cdr_fits in
       let g : gdr_offset f ≡ gdr_offset b = word_of_sealed b 20 8 (omega arith) in
-      let least = 84 + 4 * r_dimensions f (gdr_offset f) in
+      let least = 84 + 4 * r_num_dims f (gdr_offset f) in
       let few : number f (gdr_offset f) gdr_r_num_dims ≤ 10 = le_of (number f (gdr_offset f) gdr_r_num_dims) 10 (both (nat_le (number f (gdr_offset f) gdr_r_num_dims) 10) (is_record f (gdr_offset f) 2 least) (gdr_holds f good).0).0 in
       let here : number f (gdr_offset b) gdr_r_num_dims ≤ 10 = subst (λ (p : ℕ). number f p gdr_r_num_dims ≤ 10) g few in
       subst (λ (n : ℕ). n ≤ 10) (word_of_sealed b (gdr_offset b + 56) 4 (inside (gdr_offset b) (length b) gdr_fits)) here

@@ -15,17 +15,17 @@ use Rattle.cdf_format.specs.IndexWalk.{Met, met, lost, nodes_met}
 use Rattle.cdf_format.specs.Shape.{AttributeShape, VariableShape, Shape, adrs, vdrs, variables, Each, HasEntries, HasVariable, adr_chain, r_vdr_chain, z_vdr_chain, uir_chain, gr_entry_chain, z_entry_chain, index_of, attribute_shape, variable_shape, shape}
 use Rattle.cdf_format.specs.Owners.{owned_records}
 use Rattle.cdf_format.specs.RecordRules.{tiling_rows, record_rows}
-use Rattle.cdf_format.specs.ChainRules.{chain_rows, adrs_rows, r_vdrs_rows, z_vdrs_rows, differ_rows}
-use Rattle.cdf_format.specs.AttributeRules.{same_name, adr_rows, entries_rows, attribute_rows}
+use Rattle.cdf_format.specs.ChainRules.{chain_rows, adrs_rows, r_vdrs_rows, z_vdrs_rows, differ_rows, phase5}
+use Rattle.cdf_format.specs.AttributeRules.{same_name, adr_rows, entries_rows, attribute_rows, phase6}
 use Rattle.cdf_format.specs.VariableRules.{variable_rows}
-use Rattle.cdf_format.specs.IndexRules.{index_rows, met_rows}
-use Rattle.cdf_format.specs.Phases.{owner_rows, image_phases}
+use Rattle.cdf_format.specs.IndexRules.{index_rows, met_rows, phase8}
+use Rattle.cdf_format.specs.Phases.{owner_rows, phase9, phases_of, image_phases}
 use Rattle.cdf_format.specs.GoodImage.{attribute_shape_rows, IsGoodImage}
 use Rattle.cdf_format.proofs.TilesLemmas.{tiling_sound, tiling_complete}
 use Rattle.cdf_format.proofs.ChainsLemmas.{chain_sound, chain_complete, is_a-from}
 use Rattle.cdf_format.proofs.IndexLemmas.{index_sound, index_complete}
 use Rattle.cdf_format.proofs.RowLemmas.{Hold-append, Hold-split, Hold-member, Hold-members, chain_rows-hold, Hold-chain_rows}
-use Rattle.cdf_format.proofs.ShapeLemmas.{tiles_are, adr_chain_is, r_vdr_chain_is, z_vdr_chain_is, uir_chain_is, shape_is}
+use Rattle.cdf_format.proofs.ShapeLemmas.{adr_chain_is, r_vdr_chain_is, z_vdr_chain_is, uir_chain_is, shape_is}
 
 first_tile : (b : List ℕ) (from upto : ℕ) (ts : List ℕ) → AreTiles b from upto ts → from < upto → In from ts
 first_tile b from upto [] t lt = let e : from ≡ upto = t in absurd (omega arith)
@@ -44,7 +44,7 @@ met_rows-hold : (b ts : List ℕ) (vdr : ℕ) (w : Met Nodes) → Hold (met_rows
 met_rows-hold b ts vdr (met seen nodes) h = record { seen = seen; is = refl; rows = h }
 met_rows-hold b ts vdr (lost place) h = absurd cc
 
-map_adrs : (b ts ms : List ℕ) → map (λ (a : AttributeShape). a.adr) (map (attribute_shape b ts) ms) ≡ ms
+pub map_adrs : (b ts ms : List ℕ) → map (λ (a : AttributeShape). a.adr) (map (attribute_shape b ts) ms) ≡ ms
 map_adrs b ts [] = refl
 map_adrs b ts (m ∷ ms) = ap (λ (r : List ℕ). m ∷ r) (map_adrs b ts ms)
 
@@ -63,10 +63,10 @@ vdrs_append (v ∷ vs) ws = ap (λ (r : List ℕ). v.vdr ∷ r) (vdrs_append vs 
 -- ---- from the rules to the shape
 
 module _ (b : List ℕ) (tiled : AreTiles b 8 (length b) (tiles b)) where
-  attributes_have : (ms : List ℕ) → Hold (flat_map (attribute_rows b) ms) → Each (HasEntries b (tiles b)) (map (attribute_shape b (tiles b)) ms) × Hold (flat_map (attribute_shape_rows b) (map (attribute_shape b (tiles b)) ms))
+  attributes_have : (ms : List ℕ) → Hold (flat_map (attribute_rows b (tiles b)) ms) → Each (HasEntries b (tiles b)) (map (attribute_shape b (tiles b)) ms) × Hold (flat_map (attribute_shape_rows b) (map (attribute_shape b (tiles b)) ms))
   attributes_have [] h = (tt, tt)
   attributes_have (m ∷ ms) h =
-      let parts = Hold-split (attribute_rows b m) (flat_map (attribute_rows b) ms) h in
+      let parts = Hold-split (attribute_rows b (tiles b) m) (flat_map (attribute_rows b (tiles b)) ms) h in
       let gr_rows = chain_rows 4 (gr_entry_chain b (tiles b) m) (entries_rows b m adr_ngr_entries) in
       let z_rows = chain_rows 4 (z_entry_chain b (tiles b) m) (entries_rows b m adr_nz_entries) in
       let p = Hold-split (adr_rows b m ++ gr_rows) z_rows parts.0 in
@@ -118,14 +118,16 @@ good_by_rules b long first rules =
     let as_ = records_of (adr_chain b ts) in
     let rs = records_of (r_vdr_chain b ts) in
     let zs = records_of (z_vdr_chain b ts) in
-    let p6 = Hold-split (flat_map (attribute_rows b) as_) (differ_rows 2 (same_name b adr_name) [] as_) rules.1.1.0 in
-    let e6 = attributes_have b tiled as_ p6.0 in
-    let e8 = variables_have b tiled (rs ++ zs) rules.1.1.1.1.0 in
     let adrs_are : map (λ (x : AttributeShape). x.adr) (map (attribute_shape b ts) as_) ≡ as_ = map_adrs b ts as_ in
     let r_are : vdrs (map (variable_shape b ts) rs) ≡ rs = map_vdrs b ts rs in
     let z_are : vdrs (map (variable_shape b ts) zs) ≡ zs = map_vdrs b ts zs in
     let vs_are : map (variable_shape b ts) (rs ++ zs) ≡ map (variable_shape b ts) rs ++ map (variable_shape b ts) zs = map_split b ts rs zs in
     let all_are : vdrs (map (variable_shape b ts) rs ++ map (variable_shape b ts) zs) ≡ rs ++ zs = ap vdrs (sym vs_are) ∙ map_vdrs b ts (rs ++ zs) in
+    let sixth : Hold (phase6 b ts as_) = subst (λ (ms : List ℕ). Hold (phase6 b ts ms)) adrs_are rules.1.1.0 in
+    let eighth : Hold (phase8 b ts (rs ++ zs)) = subst (λ (ms : List ℕ). Hold (phase8 b ts ms)) all_are rules.1.1.1.1.0 in
+    let p6 = Hold-split (flat_map (attribute_rows b ts) as_) (differ_rows 2 (same_name b adr_name) [] as_) sixth in
+    let e6 = attributes_have b tiled as_ p6.0 in
+    let e8 = variables_have b tiled (rs ++ zs) eighth in
     record {
       has_shape = record {
         tiled = tiled;
@@ -144,7 +146,7 @@ good_by_rules b long first rules =
       read_types = read;
       counting = rw (adrs_are, r_are, z_are) (Hold-append (adrs_rows b as_ ++ r_vdrs_rows b rs) (z_vdrs_rows b zs) (Hold-append (adrs_rows b as_) (r_vdrs_rows b rs) a.rows r.rows) z.rows);
       attributes = rw adrs_are (Hold-append (flat_map (attribute_shape_rows b) (map (attribute_shape b ts) as_)) (differ_rows 2 (same_name b adr_name) [] as_) e6.1 p6.1);
-      of_variables = rw all_are rules.1.1.1.0;
+      of_variables = rules.1.1.1.0;
       indexes = subst (λ (vs : List VariableShape). Hold (flat_map (λ (v : VariableShape). index_rows b ts v.vdr v.index) vs)) vs_are e8.1;
       owned_once = λ place i. eqb-true _ _ (Hold-member (owner_rows (owned_records b (shape b))) ts place rules.1.1.1.1.1.0 i).0;
     }
@@ -153,7 +155,7 @@ good_by_rules b long first rules =
 
 module _ (b : List ℕ) (records : List ℕ) (tiled : AreTiles b 8 (length b) records) where
   attributes_rows : (as_ : List AttributeShape) → Each (HasEntries b records) as_ → Hold (flat_map (attribute_shape_rows b) as_)
-      → Hold (flat_map (λ adr. adr_rows b adr ++ chain_rows 4 (gr_entry_chain b records adr) (entries_rows b adr adr_ngr_entries) ++ chain_rows 4 (z_entry_chain b records adr) (entries_rows b adr adr_nz_entries)) (map (λ (a : AttributeShape). a.adr) as_))
+      → Hold (flat_map (attribute_rows b records) (map (λ (a : AttributeShape). a.adr) as_))
   attributes_rows [] have h = tt
   attributes_rows (a ∷ more) have h =
       let parts = Hold-split (attribute_shape_rows b a) (flat_map (attribute_shape_rows b) more) h in
@@ -172,36 +174,12 @@ module _ (b : List ℕ) (records : List ℕ) (tiled : AreTiles b 8 (length b) re
       let met_is : index_of b records v.vdr ≡ met (nodes_of v.index) v.index = index_complete b records (length b) v.vdr vdr_vxr_head v.index tiled have.0.indexed in
       Hold-append (met_rows b records v.vdr (index_of b records v.vdr)) (flat_map (λ vdr. met_rows b records vdr (index_of b records vdr)) (vdrs more)) (rw met_is parts.0) (indexes_rows more have.1 parts.1)
 
--- the phases over any list of records
-abbrev phase5_in : List ℕ → List ℕ → List Row
-phase5_in b ts =
-    row 1 8 (is_a b ts gdr_type (gdr_offset b))
-    ∷ chain_rows 2 (adr_chain b ts) (adrs_rows b)
-    ++ chain_rows 5 (r_vdr_chain b ts) (r_vdrs_rows b)
-    ++ chain_rows 8 (z_vdr_chain b ts) (z_vdrs_rows b)
-    ++ chain_rows 11 (uir_chain b ts) (λ members. [])
-
-abbrev phase6_in : List ℕ → List ℕ → List ℕ → List Row
-phase6_in b ts ms =
-    flat_map (λ adr. adr_rows b adr ++ chain_rows 4 (gr_entry_chain b ts adr) (entries_rows b adr adr_ngr_entries) ++ chain_rows 4 (z_entry_chain b ts adr) (entries_rows b adr adr_nz_entries)) ms
-    ++ differ_rows 2 (same_name b adr_name) [] ms
-
-abbrev vdrs_in : List ℕ → List ℕ → List ℕ
-vdrs_in b ts = records_of (r_vdr_chain b ts) ++ records_of (z_vdr_chain b ts)
-
-abbrev phase7_in : List ℕ → List ℕ → List ℕ → List Row
-phase7_in b ts ms = flat_map (variable_rows b ts ms) ms
-
-abbrev phase8_in : List ℕ → List ℕ → List ℕ → List Row
-phase8_in b ts ms = flat_map (λ vdr. met_rows b ts vdr (index_of b ts vdr)) ms
-
 pub rules_by_good : (b : List ℕ) (s : Shape) → IsGoodImage b s → AllHold (image_phases b)
 rules_by_good b s g =
     let h = g.has_shape in
     let ts = s.records in
     let all : tiling b ≡ whole ts = tiling_complete b ts h.tiled in
     let each : Hold (flat_map (record_rows b) ts) = Hold-members (record_rows b) ts (λ m i. (h.typed m i, (le-leb _ _ (h.fixed m i), tt))) in
-    let tiles_is : tiles b ≡ ts = tiles_are b s h in
     let a = adr_chain_is b s h in
     let r = r_vdr_chain_is b s h in
     let z = z_vdr_chain_is b s h in
@@ -216,27 +194,10 @@ rules_by_good b s g =
     (Hold-append (ar ++ rr) zr (Hold-append ar rr (Hold-chain_rows 2 (adr_chain b ts) (adrs_rows b) (adrs s) a c'.0) (Hold-chain_rows 5 (r_vdr_chain b ts) (r_vdrs_rows b) (vdrs s.r_variables) r c'.1)) (Hold-chain_rows 8 (z_vdr_chain b ts) (z_vdrs_rows b) (vdrs s.z_variables) z c.1))
     (Hold-chain_rows 11 (uir_chain b ts) (λ (members : List ℕ). []) s.unused (uir_chain_is b s h) tt) in
     let gdr_here : is_a b ts gdr_type (gdr_offset b) ≡ true = subst (λ (x : ℕ). is_a b ts gdr_type x ≡ true) (sym h.gdr_is) h.gdr_stands in
-    let fifth : Hold (phase5_in b ts) = (gdr_here, chains) in
+    let fifth : Hold (phase5 b ts) = (gdr_here, chains) in
     let d = Hold-split (flat_map (attribute_shape_rows b) s.attributes) (differ_rows 2 (same_name b adr_name) [] (adrs s)) g.attributes in
-    let sixth : Hold (phase6_in b ts (adrs s)) = Hold-append _ (differ_rows 2 (same_name b adr_name) [] (adrs s)) (attributes_rows b ts h.tiled s.attributes h.entry_chains d.0) d.1 in
-    let eighth : Hold (phase8_in b ts (vdrs (variables s))) = indexes_rows b ts h.tiled (variables s) h.have_variables g.indexes in
-    let adrs_is : records_of (adr_chain b ts) ≡ adrs s = ap records_of a in
-    let vdrs_is : records_of (r_vdr_chain b ts) ++ records_of (z_vdr_chain b ts) ≡ vdrs (variables s) = ap₂ (λ (x y : List ℕ). x ++ y) (ap records_of r) (ap records_of z) ∙ sym (vdrs_append s.r_variables s.z_variables) in
-    let sixth' : Hold (phase6_in b ts (records_of (adr_chain b ts))) = subst (λ (x : List ℕ). Hold (phase6_in b ts x)) (sym adrs_is) sixth in
-    let seventh' : Hold (phase7_in b ts (vdrs_in b ts)) = subst (λ (x : List ℕ). Hold (phase7_in b ts x)) (sym vdrs_is) g.of_variables in
-    let eighth' : Hold (phase8_in b ts (vdrs_in b ts)) = subst (λ (x : List ℕ). Hold (phase8_in b ts x)) (sym vdrs_is) eighth in
-    let ninth : Hold (flat_map (owner_rows (owned_records b s)) ts) = Hold-members (owner_rows (owned_records b s)) ts (λ m i. (eq-eqb _ _ (g.owned_once m i), tt)) in
-    let ninth' : Hold (flat_map (owner_rows (owned_records b (shape b))) ts) = subst (λ (x : Shape). Hold (flat_map (owner_rows (owned_records b x)) ts)) (sym (shape_is b s h)) ninth in
-    let back = sym tiles_is in (
-      rw all (Hold-append (flat_map (record_rows b) ts) (flat_map (unread_type b) ts) each g.read_types),
-      (
-        subst (λ (x : List ℕ). Hold (phase5_in b x)) back fifth,
-        (
-          subst (λ (x : List ℕ). Hold (phase6_in b x (records_of (adr_chain b x)))) back sixth',
-          (
-            subst (λ (x : List ℕ). Hold (phase7_in b x (vdrs_in b x))) back seventh',
-            (subst (λ (x : List ℕ). Hold (phase8_in b x (vdrs_in b x))) back eighth', (subst (λ (x : List ℕ). Hold (flat_map (owner_rows (owned_records b (shape b))) x)) back ninth', tt)),
-          ),
-        ),
-      ),
-    )
+    let sixth : Hold (phase6 b ts (adrs s)) = Hold-append _ (differ_rows 2 (same_name b adr_name) [] (adrs s)) (attributes_rows b ts h.tiled s.attributes h.entry_chains d.0) d.1 in
+    let eighth : Hold (phase8 b ts (vdrs (variables s))) = indexes_rows b ts h.tiled (variables s) h.have_variables g.indexes in
+    let ninth : Hold (phase9 ts (owned_records b s)) = Hold-members (owner_rows (owned_records b s)) ts (λ m i. (eq-eqb _ _ (g.owned_once m i), tt)) in
+    let of_shape : AllHold (phases_of b s) = (fifth, (sixth, (g.of_variables, (eighth, (ninth, tt))))) in
+    (rw all (Hold-append (flat_map (record_rows b) ts) (flat_map (unread_type b) ts) each g.read_types), subst (λ (x : Shape). AllHold (phases_of b x)) (sym (shape_is b s h)) of_shape)

@@ -1,7 +1,7 @@
 -- The head of a good image's content is what its fields say.
 use Rattle.std.proofs.Common.{◌≡◌, ℕ, suc, pos, List, [], ◌∷◌, ◌++◌, length, map, refl, sym, ap, ◌∙◌}
 use Rattle.cdf_model.specs.DataSet.{head_of}
-use Rattle.cdf_format.specs.Fields.{has_bit, gdr_offset, release, encoding, flags, increment, r_sizes, attributes, r_variables, z_variables}
+use Rattle.cdf_format.specs.Fields.{has_bit, gdr_offset, release, encoding, flags, increment, r_sizes, num_attr, nr_vars, nz_vars}
 use Rattle.cdf_format.specs.Sealed.{has_checksum}
 use Rattle.cdf_format.specs.ChainRules.{adrs_rows, r_vdrs_rows, z_vdrs_rows}
 use Rattle.cdf_format.specs.Content.{content, majority_of, attribute_of, variable_of, head_by_fields}
@@ -19,9 +19,9 @@ pub head_of_good : (b : List ℕ) (s : Shape) → IsGoodImage b s → head_of (c
 head_of_good b s g =
     let p = Hold-split (adrs_rows b (adrs s) ++ r_vdrs_rows b (vdrs s.r_variables)) (z_vdrs_rows b (vdrs s.z_variables)) g.counting in
     let q = Hold-split (adrs_rows b (adrs s)) (r_vdrs_rows b (vdrs s.r_variables)) p.0 in
-    let a : length (map (attribute_of b) s.attributes) ≡ attributes b (gdr_offset b) = length-map (attribute_of b) s.attributes ∙ sym (length-map (λ (x : AttributeShape). x.adr) s.attributes) ∙ sym (eq_of _ _ q.0.0) in
-    let r : length (map (variable_of b) s.r_variables) ≡ r_variables b (gdr_offset b) = length-map (variable_of b) s.r_variables ∙ sym (length-map (λ (x : VariableShape). x.vdr) s.r_variables) ∙ sym (eq_of _ _ q.1.0) in
-    let z : length (map (variable_of b) s.z_variables) ≡ z_variables b (gdr_offset b) = length-map (variable_of b) s.z_variables ∙ sym (length-map (λ (x : VariableShape). x.vdr) s.z_variables) ∙ sym (eq_of _ _ p.1.0) in
+    let a : length (map (attribute_of b) s.attributes) ≡ num_attr b (gdr_offset b) = length-map (attribute_of b) s.attributes ∙ sym (length-map (λ (x : AttributeShape). x.adr) s.attributes) ∙ sym (eq_of _ _ q.0.0) in
+    let r : length (map (variable_of b) s.r_variables) ≡ nr_vars b (gdr_offset b) = length-map (variable_of b) s.r_variables ∙ sym (length-map (λ (x : VariableShape). x.vdr) s.r_variables) ∙ sym (eq_of _ _ q.1.0) in
+    let z : length (map (variable_of b) s.z_variables) ≡ nz_vars b (gdr_offset b) = length-map (variable_of b) s.z_variables ∙ sym (length-map (λ (x : VariableShape). x.vdr) s.z_variables) ∙ sym (eq_of _ _ p.1.0) in
     let gdr : r_sizes b s.gdr ≡ r_sizes b (gdr_offset b) = ap (r_sizes b) (sym g.has_shape.gdr_is) in
     ap head_of (content_is b s g.has_shape) ∙ (λ i. record {
       version = pos 3;

@@ -2,7 +2,7 @@
 use Rattle.std.proofs.Common.{◌≡◌, ℕ, ◌+◌, ◌-◌, ◌≤◌, ◌<◌, List, length, ◌∙◌, arith, inl, inr, ◌*◌, subst, sym, ap, take, Bool, [], ◌∷◌, ◌++◌, false, refl, true, append-nil, drop}
 use Rattle.std.proofs.lemmas.List.{length-take, length-append, get_or_append_left, take-append-drop, take_all}
 use Rattle.std.specs.Prelude.{nat_le, if◌then◌else◌, bytes_eq}
-use Rattle.cdf_format.specs.Fields.{type_at, gdr_offset, counted, number, r_dimensions, word, size_at, has_bit}
+use Rattle.cdf_format.specs.Fields.{type_at, gdr_offset, counted, number, r_num_dims, word, size_at, has_bit}
 use Rattle.cdf_format.specs.Sealed.{has_checksum, trailer_length, image_of, trailer, sealed}
 use Rattle.cdf_format.specs.Phases.{phase10}
 use Rattle.cdf_format.specs.WellFormed.{WellFormed}
@@ -13,7 +13,7 @@ use Rattle.cdf_format.proofs.Tests.{both, le_of, same_of_bytes_eq}
 use Rattle.cdf_format.proofs.Members.{either}
 use Rattle.cdf_format.proofs.FileRecords.{record-of}
 use Rattle.cdf_format.proofs.GoodImageLemmas.{good_by_rules}
-use Rattle.cdf_format.specs.Alone.{IsSound}
+use Rattle.cdf_format.specs.Sound.{IsSound}
 use Rattle.cdf_format.specs.Records.{gdr_r_num_dims}
 use Rattle.cdf_format.specs.RecordTypes.{gdr_type, fixed_size}
 use Rattle.cdf_format.specs.Rules.{Hold, asked}
@@ -22,7 +22,7 @@ use Rattle.cdf_format.proofs.SoundLemmas.{sound_of_good}
 use Rattle.cdf_format.proofs.ChainsLemmas.{is_a-in, is_a-type}
 use Rattle.cdf_format.proofs.TilesLemmas.{tile_lies}
 use Rattle.std.specs.Int.{w32, cast_signed}
-use Rattle.cdf_format.specs.Changed.{Same}
+use Rattle.cdf_format.specs.Bytes.{Same}
 use Rattle.cdf_format.proofs.BytesLemmas.{word-same}
 use Rattle.md5.specs.Md5.{md5}
 use Rattle.md5.proofs.StandardFacts.{length-md5}
@@ -59,7 +59,7 @@ sound_image_of f rules =
     let enough : 28 ≤ n = let p = le_of 8 (gdr_offset f) room.0 in let q = le_of (gdr_offset f + 84) (length f) room.1 in let t = short_trailer f in omega arith in
     let g_is : gdr_offset b ≡ gdr_offset f = word_of_front n f 20 8 enough in
     let rows : Hold (gdr_rows f (gdr_offset f)) = subst (λ (t : Bool). Hold (asked t (gdr_rows f (gdr_offset f)))) rules.1.1.1.0.0 rules.1.1.1.0.1 in
-    let least = 84 + 4 * r_dimensions f (gdr_offset f) in
+    let least = 84 + 4 * r_num_dims f (gdr_offset f) in
     let r = record-of f (gdr_offset f) 2 least (both (nat_le (number f (gdr_offset f) gdr_r_num_dims) 10) (is_record f (gdr_offset f) 2 least) rows.0).1 in
     let g = (shape b).gdr in
     let g_same : g ≡ gdr_offset f = sym h.gdr_is ∙ g_is in
@@ -69,9 +69,9 @@ sound_image_of f rules =
     let short : length b ≤ n = front_short n f in
     let ends : g + 84 ≤ n = within g (size_at b g) (length b) n long high short in
     let size_is : size_at b g ≡ size_at f g = word_of_front n f (g + 0) 8 (part g 0 8 n ends (omega arith)) in
-    let dims_is : r_dimensions b g ≡ r_dimensions f g = ap (λ (x : ℕ). counted (cast_signed w32 x)) (word_of_front n f (g + 56) 4 (part g 56 4 n ends (omega arith))) in
-    let in_file : 84 + 4 * r_dimensions f g ≤ size_at f g = subst (λ (x : ℕ). 84 + 4 * r_dimensions f x ≤ size_at f x) (sym g_same) r.long in
-    let in_image : 84 + 4 * r_dimensions b g ≤ size_at b g = subst (λ (x : ℕ). 84 + 4 * r_dimensions b g ≤ x) (sym size_is) (subst (λ (x : ℕ). 84 + 4 * x ≤ size_at f g) (sym dims_is) in_file) in
+    let dims_is : r_num_dims b g ≡ r_num_dims f g = ap (λ (x : ℕ). counted (cast_signed w32 x)) (word_of_front n f (g + 56) 4 (part g 56 4 n ends (omega arith))) in
+    let in_file : 84 + 4 * r_num_dims f g ≤ size_at f g = subst (λ (x : ℕ). 84 + 4 * r_num_dims f x ≤ size_at f x) (sym g_same) r.long in
+    let in_image : 84 + 4 * r_num_dims b g ≤ size_at b g = subst (λ (x : ℕ). 84 + 4 * r_num_dims b g ≤ x) (sym size_is) (subst (λ (x : ℕ). 84 + 4 * x ≤ size_at f g) (sym dims_is) in_file) in
     sound_of_good b (shape b) good in_image
   where
     front_short : (n : ℕ) (f : List ℕ) → length (take n f) ≤ n

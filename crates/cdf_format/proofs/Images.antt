@@ -1,7 +1,7 @@
 -- The image of a well-formed file, so long as no checksum is read.
-use Rattle.std.proofs.Common.{◌≡◌, ℕ, ◌-◌, Bool, true, false, List, append-nil, length, not, refl, ◌∙◌, ap, arith}
+use Rattle.std.proofs.Common.{◌≡◌, ℕ, ◌-◌, Bool, true, false, List, length, not, refl, arith}
 use Rattle.std.proofs.lemmas.List.{take_all}
-use Rattle.cdf_format.specs.Sealed.{has_checksum, image_of, sealed}
+use Rattle.cdf_format.specs.Sealed.{has_checksum, image_of}
 use Rattle.cdf_format.specs.WellFormed.{WellFormed}
 
 no_checksum : (t : Bool) → not t ≡ true → t ≡ false

@@ -1,11 +1,12 @@
 -- The records that an image owns are its records, each once.
-use Rattle.std.proofs.Common.{◌≡◌, ◌⊎◌, ℕ, suc, ◌+◌, ◌≤◌, List, [], ◌∷◌, ◌++◌, length, map, Bool, true, false, not, ◌||◌, eqb, eq-eqb, refl, sym, ap, ap₂, subst, ◌∙◌, arith, inl, inr}
+use Rattle.std.proofs.Common.{◌≡◌, ◌⊎◌, ℕ, ℤ, negsuc, suc, ◌+◌, ◌≤◌, List, [], ◌∷◌, ◌++◌, length, map, Bool, true, false, not, ◌||◌, eqb, eq-eqb, refl, sym, ap, ap₂, subst, ◌∙◌, arith, inl, inr}
 use Rattle.std.proofs.lemmas.Bool.{eqb-true}
 use Rattle.std.proofs.lemmas.List.{map-append}
 use Rattle.std.specs.List.{flat_map, filter}
 use Rattle.cdf_model.specs.declared.kinds.Kind.{Kind}
 use Rattle.cdf_model.specs.declared.kinds.Kind.TheVariants.{R, Z}
-use Rattle.cdf_format.specs.Fields.{size_at, type_at}
+use Rattle.cdf_format.specs.Fields.{size_at, type_at, with_sign}
+use Rattle.cdf_format.specs.VariableFields.{number_before}
 use Rattle.cdf_format.specs.RecordTypes.{vxr_type, vvr_type, cvvr_type, cpr_type, uir_type, adr_type, agr_edr_type, az_edr_type, r_vdr_type, z_vdr_type, cdr_type, gdr_type}
 use Rattle.cdf_format.specs.Rules.{Row, Hold}
 use Rattle.cdf_format.specs.Tiles.{In, Distinct, AreTiles}
@@ -108,7 +109,7 @@ module _ (b ts : List ℕ) where
   mutual
     unfolding nodes_rows used_rows leaves_of entry_leaves
 
-    pub blocks_in : (low high : ℕ) (nodes : Nodes) → Hold (nodes_rows b ts low high nodes) → (m : ℕ) → In m (map (λ (leaf : Leaf). leaf.place) (leaves_of nodes)) → is_block b ts m ≡ true
+    pub blocks_in : (low high : ℤ) (nodes : Nodes) → Hold (nodes_rows b ts low high nodes) → (m : ℕ) → In m (map (λ (leaf : Leaf). leaf.place) (leaves_of nodes)) → is_block b ts m ≡ true
     blocks_in low high no_node h m i = absurd i
     blocks_in low high (node place room entries more) h m i =
         let p = Hold-split (used_rows b ts place low high entries) (nodes_rows b ts (end_of low entries) high more) h.1 in
@@ -117,16 +118,16 @@ module _ (b ts : List ℕ) where
           | inr j ↦ blocks_in (end_of low entries) high more p.1 m j
         ]
 
-    pub entry_blocks_in : (vxr low high : ℕ) (entries : Entries) → Hold (used_rows b ts vxr low high entries) → (m : ℕ) → In m (map (λ (leaf : Leaf). leaf.place) (entry_leaves entries)) → is_block b ts m ≡ true
+    pub entry_blocks_in : (vxr : ℕ) (low high : ℤ) (entries : Entries) → Hold (used_rows b ts vxr low high entries) → (m : ℕ) → In m (map (λ (leaf : Leaf). leaf.place) (entry_leaves entries)) → is_block b ts m ≡ true
     entry_blocks_in vxr low high no_entry h m i = absurd i
     entry_blocks_in vxr low high (block first last place packed entries) h m (inl e) = ap (is_block b ts) e ∙ h.0
-    entry_blocks_in vxr low high (block first last place packed entries) h m (inr i) = entry_blocks_in vxr (suc last) high entries h.1.1 m i
+    entry_blocks_in vxr low high (block first last place packed entries) h m (inr i) = entry_blocks_in vxr (with_sign last) high entries h.1.1 m i
     entry_blocks_in vxr low high (lower first last nodes entries) h m i =
-        let p = Hold-split (unread_lower vxr ++ nodes_rows b ts first last nodes) (used_rows b ts vxr (suc last) high entries) h.1 in
-        let q = Hold-split (unread_lower vxr) (nodes_rows b ts first last nodes) p.0 in
+        let p = Hold-split (unread_lower vxr ++ nodes_rows b ts (number_before first) (with_sign last) nodes) (used_rows b ts vxr (with_sign last) high entries) h.1 in
+        let q = Hold-split (unread_lower vxr) (nodes_rows b ts (number_before first) (with_sign last) nodes) p.0 in
         elim (In-append m (map (λ (leaf : Leaf). leaf.place) (leaves_of nodes)) (map (λ (leaf : Leaf). leaf.place) (entry_leaves entries)) (subst (λ (x : List ℕ). In m x) (map-append (λ (leaf : Leaf). leaf.place) (leaves_of nodes) (entry_leaves entries)) i)) [
-          | inl j ↦ blocks_in first last nodes q.1 m j
-          | inr j ↦ entry_blocks_in vxr (suc last) high entries p.1 m j
+          | inl j ↦ blocks_in (number_before first) (with_sign last) nodes q.1 m j
+          | inr j ↦ entry_blocks_in vxr (with_sign last) high entries p.1 m j
         ]
 
 cpr_in : (b ts : List ℕ) (vdr : ℕ) → (not (is_compressed b vdr) || is_cpr b ts (cpr_link b vdr)) ≡ true → (m : ℕ) → In m (cpr_of b vdr) → In m ts
@@ -157,7 +158,7 @@ variables_in b ts ids [] h vdr rules7 rules8 m i = absurd i
 variables_in b ts ids (v ∷ more) h vdr rules7 rules8 m i =
     let p7 = Hold-split (variable_rows b ts ids v.vdr) (flat_map (variable_rows b ts ids) (vdrs more)) rules7 in
     let p8 = Hold-split (index_rows b ts v.vdr v.index) (flat_map (λ (v : VariableShape). index_rows b ts v.vdr v.index) more) rules8 in
-    let q8 = Hold-split (nodes_rows b ts 0 _ v.index) (flat_map (leaf_rows b ts v.vdr) (leaves_of v.index)) p8.0 in
+    let q8 = Hold-split (nodes_rows b ts (negsuc 0) _ v.index) (flat_map (leaf_rows b ts v.vdr) (leaves_of v.index)) p8.0 in
     let nodes = nodes_of v.index in
     let blocks = map (λ (leaf : Leaf). leaf.place) (leaves_of v.index) in
     elim (In-append m (variable_records v) (flat_map variable_records more) i) [
@@ -166,7 +167,7 @@ variables_in b ts ids (v ∷ more) h vdr rules7 rules8 m i =
         | inr k ↦ elim (In-append m (nodes ++ blocks) v.cpr k) [
           | inl x ↦ elim (In-append m nodes blocks x) [
             | inl y ↦ linkable-in b ts vxr_type m (nodes_stand b ts 8 v.index h.0.indexed.has_nodes m y)
-            | inr y ↦ block_in b ts m (blocks_in b ts 0 _ v.index q8.0 m y)
+            | inr y ↦ block_in b ts m (blocks_in b ts (negsuc 0) _ v.index q8.0 m y)
           ]
           | inr x ↦ cpr_in b ts v.vdr p7.0.1.1.1.1.1.1.1.1.1.1.0 m (subst (λ (z : List ℕ). In m z) (sym h.0.packed_by) x)
         ]

@@ -10,7 +10,7 @@ use Rattle.cdf_format.specs.Rules.{Hold}
 use Rattle.cdf_format.specs.Shape.{VariableShape, shape, vdrs}
 use Rattle.cdf_format.specs.WellFormed.{Good}
 use Rattle.cdf_format.proofs.ChainsLemmas.{linkable-in, linkable-type}
-use Rattle.cdf_format.proofs.GoodLemmas.{good_by_its_shape}
+use Rattle.cdf_format.proofs.GoodSound.{good_by_its_shape}
 use Rattle.cdf_format.proofs.RowLemmas.{Hold-member}
 use Rattle.cdf_format.proofs.ShapeLemmas.{content_is}
 

@@ -1,9 +1,9 @@
 -- A good image is sound: its records are long enough for what is read of them, and none is owned twice.
-use Rattle.std.proofs.Common.{◌≡◌, ℕ, zero, suc, ◌+◌, ◌*◌, ◌≤◌, List, [], ◌∷◌, ◌++◌, length, map, Bool, true, false, not, ◌&&◌, ◌||◌, refl, true≢false, sym, subst, ◌∙◌, arith, inl, inr}
+use Rattle.std.proofs.Common.{◌≡◌, ℕ, ℤ, negsuc, zero, suc, ◌+◌, ◌*◌, ◌≤◌, List, [], ◌∷◌, ◌++◌, length, map, Bool, true, false, not, ◌&&◌, ◌||◌, refl, true≢false, sym, subst, ◌∙◌, arith, inl, inr}
 use Rattle.std.specs.Prelude.{nat_le, ◌==◌, min, is_some, if◌then◌else◌}
 use Rattle.std.specs.List.{flat_map}
 use Rattle.std.specs.Int.{w32, cast_signed}
-use Rattle.cdf_format.specs.Fields.{counted, number, size_at, type_at, r_dimensions}
+use Rattle.cdf_format.specs.Fields.{is_positive, counted, with_sign, number, size_at, type_at, r_num_dims}
 use Rattle.cdf_format.specs.Records.{Field, adr_name, adr_ngr_entries, adr_nz_entries, aedr_num_elems, vxr_n_used_entries, cvvr_c_size}
 use Rattle.cdf_format.specs.RecordTypes.{vvr_type, cvvr_type, cpr_type}
 use Rattle.cdf_format.specs.Rules.{Row, row, Hold, asked}
@@ -13,12 +13,12 @@ use Rattle.cdf_format.specs.Index.{Nodes, no_node, node, Entries, no_entry, bloc
 use Rattle.cdf_format.specs.IndexOf.{HasNodes, Names}
 use Rattle.cdf_format.specs.Shape.{AttributeShape, VariableShape, Shape, adrs, vdrs, variables, is_compressed, cpr_of, Each, HasVariable}
 use Rattle.cdf_format.specs.ChainRules.{count_rows, differ_rows}
-use Rattle.cdf_format.specs.AttributeRules.{entry_bytes, has_value, entry_rows, same_number, same_name, adr_rows, entries_rows, is_positive}
+use Rattle.cdf_format.specs.AttributeRules.{entry_bytes, has_value, entry_rows, same_number, same_name, adr_rows, entries_rows}
 use Rattle.cdf_format.specs.VariableRules.{cpr_link, is_cpr, variable_rows}
-use Rattle.cdf_format.specs.VariableFields.{plain_size}
+use Rattle.cdf_format.specs.VariableFields.{number_before, plain_size}
 use Rattle.cdf_format.specs.IndexRules.{has_room, is_block, holds_packed, vvr_rows, cvvr_rows, leaf_rows, nodes_rows, used_rows, end_of, index_rows}
 use Rattle.cdf_format.specs.GoodImage.{attribute_shape_rows, IsGoodImage}
-use Rattle.cdf_format.specs.Alone.{EntryFits, AttributeFits, NodeFits, BlockFits, LeafFits, VariableFits, IsSound}
+use Rattle.cdf_format.specs.Sound.{EntryFits, AttributeFits, NodeFits, BlockFits, LeafFits, VariableFits, IsSound}
 use Rattle.cdf_format.proofs.Members.{either, is_in-true, true-is_in, false-is_in}
 use Rattle.cdf_format.proofs.Tests.{both, le_of}
 use Rattle.cdf_format.proofs.RowLemmas.{Hold-split}
@@ -68,19 +68,19 @@ module _ (b records : List ℕ) where
   mutual
     unfolding nodes_rows used_rows nodes_of lower_nodes
 
-    nodes_fit : (low high : ℕ) (nodes : Nodes) → Hold (nodes_rows b records low high nodes) → Each (NodeFits b) (nodes_of nodes)
+    nodes_fit : (low high : ℤ) (nodes : Nodes) → Hold (nodes_rows b records low high nodes) → Each (NodeFits b) (nodes_of nodes)
     nodes_fit low high no_node h = tt
     nodes_fit low high (node place room entries more) h =
         let p = Hold-split (used_rows b records place low high entries) (nodes_rows b records (end_of low entries) high more) h.1 in
         (node_fits b place h.0, Each-append (NodeFits b) (lower_nodes entries) (nodes_of more) (lower_fit place low high entries p.0) (nodes_fit (end_of low entries) high more p.1))
 
-    lower_fit : (vxr low high : ℕ) (entries : Entries) → Hold (used_rows b records vxr low high entries) → Each (NodeFits b) (lower_nodes entries)
+    lower_fit : (vxr : ℕ) (low high : ℤ) (entries : Entries) → Hold (used_rows b records vxr low high entries) → Each (NodeFits b) (lower_nodes entries)
     lower_fit vxr low high no_entry h = tt
-    lower_fit vxr low high (block first last place packed entries) h = lower_fit vxr (suc last) high entries h.1.1
+    lower_fit vxr low high (block first last place packed entries) h = lower_fit vxr (with_sign last) high entries h.1.1
     lower_fit vxr low high (lower first last nodes entries) h =
-        let p = Hold-split (unread_lower vxr ++ nodes_rows b records first last nodes) (used_rows b records vxr (suc last) high entries) h.1 in
-        let q = Hold-split (unread_lower vxr) (nodes_rows b records first last nodes) p.0 in
-        Each-append (NodeFits b) (nodes_of nodes) (lower_nodes entries) (nodes_fit first last nodes q.1) (lower_fit vxr (suc last) high entries p.1)
+        let p = Hold-split (unread_lower vxr ++ nodes_rows b records (number_before first) (with_sign last) nodes) (used_rows b records vxr (with_sign last) high entries) h.1 in
+        let q = Hold-split (unread_lower vxr) (nodes_rows b records (number_before first) (with_sign last) nodes) p.0 in
+        Each-append (NodeFits b) (nodes_of nodes) (lower_nodes entries) (nodes_fit (number_before first) (with_sign last) nodes q.1) (lower_fit vxr (with_sign last) high entries p.1)
 
   abbrev IsPackedAs : Leaf → Type 0
   IsPackedAs leaf = (type_at b leaf.place == cvvr_type) ≡ leaf.packed
@@ -144,17 +144,17 @@ module _ (b records : List ℕ) where
   variables_fit ids (v ∷ more) has rules7 rules8 =
       let p7 = Hold-split (variable_rows b records ids v.vdr) (flat_map (variable_rows b records ids) (vdrs more)) rules7 in
       let p8 = Hold-split (index_rows b records v.vdr v.index) (flat_map (λ (v : VariableShape). index_rows b records v.vdr v.index) more) rules8 in
-      let q8 = Hold-split (nodes_rows b records 0 _ v.index) (flat_map (leaf_rows b records v.vdr) (leaves_of v.index)) p8.0 in (
+      let q8 = Hold-split (nodes_rows b records (negsuc 0) _ v.index) (flat_map (leaf_rows b records v.vdr) (leaves_of v.index)) p8.0 in (
         (
           le_of _ _ p7.0.1.1.1.1.1.0,
-          nodes_fit 0 _ v.index q8.0,
-          leaves_fit v.vdr (leaves_of v.index) (blocks_in b records 0 _ v.index q8.0) (leaves_packed 8 v.index has.0.indexed.has_nodes) q8.1,
+          nodes_fit (negsuc 0) _ v.index q8.0,
+          leaves_fit v.vdr (leaves_of v.index) (blocks_in b records (negsuc 0) _ v.index q8.0) (leaves_packed 8 v.index has.0.indexed.has_nodes) q8.1,
           subst (Each (λ cpr. is_a b records cpr_type cpr ≡ true)) has.0.packed_by (cpr_stands v.vdr p7.0.1.1.1.1.1.1.1.1.1.1.0),
         ),
         variables_fit ids more has.1 p7.1 p8.1,
       )
 
-pub sound_of_good : (b : List ℕ) (s : Shape) → IsGoodImage b s → 84 + 4 * r_dimensions b s.gdr ≤ size_at b s.gdr → IsSound b s
+pub sound_of_good : (b : List ℕ) (s : Shape) → IsGoodImage b s → 84 + 4 * r_num_dims b s.gdr ≤ size_at b s.gdr → IsSound b s
 sound_of_good b s g room = record {
   has_shape = g.has_shape;
   gdr_fits = room;

@@ -74,7 +74,7 @@ members_bytes b [] xs d e sub = no_members xs
     no_members (x ∷ xs) = no_members xs
 members_bytes b (u ∷ us) xs d e sub = one_more b u us xs e (sub u (inl refl)) d.0 ∙ ap (λ (n : ℕ). size_at b u + n) (members_bytes b us xs d.1 e (λ m i. sub m (inr i)))
 
-in-filter : (p : ℕ → Bool) (xs : List ℕ) (x : ℕ) → In x xs → p x ≡ true → In x (filter p xs)
+pub in-filter : (p : ℕ → Bool) (xs : List ℕ) (x : ℕ) → In x xs → p x ≡ true → In x (filter p xs)
 in-filter p [] x i e = absurd i
 in-filter p (y ∷ ys) x (inl h) e = let here : p y ≡ true = ap p (sym h) ∙ e in rw here (inl h)
 in-filter p (y ∷ ys) x (inr i) e = let rest = in-filter p ys x i e in elim (either (p y)) [ inl t ↦ rw t (inr rest) | inr t ↦ rw t rest ]

@@ -5,7 +5,6 @@ use Rattle.cdf_format.specs.Fields.{number, gdr_offset}
 use Rattle.cdf_format.specs.Records.{Field, gdr_nr_vars, gdr_num_attr, gdr_nz_vars, adr_num, vdr_num}
 use Rattle.cdf_format.specs.RecordTypes.{gdr_type}
 use Rattle.cdf_format.specs.Rules.{Row, row}
-use Rattle.cdf_format.specs.Tiles.{tiles}
 use Rattle.cdf_format.specs.Chains.{is_a}
 use Rattle.cdf_format.specs.Shape.{adr_chain, r_vdr_chain, z_vdr_chain, uir_chain}
 use Rattle.cdf_format.specs.Walks.{Walk, whole, stuck}
@@ -39,10 +38,13 @@ r_vdrs_rows b members = count_rows 6 b (gdr_offset b) gdr_nr_vars members ++ num
 abbrev pub z_vdrs_rows : List ℕ → List ℕ → List Row
 z_vdrs_rows b members = count_rows 9 b (gdr_offset b) gdr_nz_vars members ++ number_rows 10 b vdr_num 0 members
 
-abbrev pub phase5 : List ℕ → List Row
-phase5 b =
-    row 1 8 (is_a b (tiles b) gdr_type (gdr_offset b))
-    ∷ chain_rows 2 (adr_chain b (tiles b)) (adrs_rows b)
-    ++ chain_rows 5 (r_vdr_chain b (tiles b)) (r_vdrs_rows b)
-    ++ chain_rows 8 (z_vdr_chain b (tiles b)) (z_vdrs_rows b)
-    ++ chain_rows 11 (uir_chain b (tiles b)) (λ members. [])
+-- the chains that begin in the GDR, in an image with these records
+abbrev pub link_rows : List ℕ → List ℕ → List Row
+link_rows b records =
+    chain_rows 2 (adr_chain b records) (adrs_rows b)
+    ++ chain_rows 5 (r_vdr_chain b records) (r_vdrs_rows b)
+    ++ chain_rows 8 (z_vdr_chain b records) (z_vdrs_rows b)
+    ++ chain_rows 11 (uir_chain b records) (λ members. [])
+
+abbrev pub phase5 : List ℕ → List ℕ → List Row
+phase5 b records = row 1 8 (is_a b records gdr_type (gdr_offset b)) ∷ link_rows b records

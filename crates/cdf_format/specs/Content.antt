@@ -10,13 +10,13 @@ use Rattle.cdf_model.specs.DataSet.{Attribute, DataSet, Entry, Variable, extent}
 use Rattle.cdf_model.specs.Numbered.{with_item}
 use Rattle.cdf_model.specs.RunLengths.{plain_of}
 use Rattle.cdf_model.specs.Types.{size_of}
-use Rattle.cdf_format.specs.Fields.{number, integer4, has_bit, name_in, release, encoding, flags, increment, r_sizes, attributes, r_variables, z_variables, gdr_offset}
-use Rattle.cdf_format.specs.Records.{adr_name, adr_scope, aedr_data_type, aedr_num, aedr_num_elems, aedr_value, vdr_blocking_factor, vdr_name, vvr_records, cvvr_c_size, cvvr_packed}
+use Rattle.cdf_format.specs.Fields.{number, integer4, has_bit, name_in, release, encoding, flags, increment, r_sizes, num_attr, nr_vars, nz_vars, gdr_offset}
+use Rattle.cdf_format.specs.Records.{adr_name, adr_scope, aedr_data_type, aedr_num, aedr_num_elems, aedr_value, vdr_blocking_factor, vdr_name, vvr_records}
 use Rattle.cdf_format.specs.Sealed.{has_checksum}
-use Rattle.cdf_format.specs.Stored.{field_bytes, is_little, data_type_in, network_bytes}
+use Rattle.cdf_format.specs.Stored.{field_bytes, packed_bytes, is_little, data_type_in, network_bytes}
 use Rattle.cdf_format.specs.Index.{Leaf, leaves_of}
 use Rattle.cdf_format.specs.Shape.{AttributeShape, VariableShape, Shape, is_compressed, shape}
-use Rattle.cdf_format.specs.VariableFields.{dims_at, varys_at, type_of_variable, elems_at, record_bytes, records_vary, pad_at, sparse_at, max_rec_at, records_of_leaf, plain_size}
+use Rattle.cdf_format.specs.VariableFields.{counted4, dims_at, varys_at, type_of_variable, elems_at, record_bytes, records_vary, pad_at, sparse_at, max_rec_at, records_of_leaf, plain_size}
 use Rattle.cdf_model.specs.declared.head.Head.{Head}
 
 abbrev pub majority_of : Bool → Majority
@@ -53,7 +53,7 @@ attribute_of b a = record {
 
 -- the records of a block, unpacked
 abbrev pub plain_bytes : List ℕ → ℕ → Leaf → List ℕ
-plain_bytes b vdr leaf = if leaf.packed then plain_of (field_bytes b leaf.place (cvvr_packed (number b leaf.place cvvr_c_size))) else field_bytes b leaf.place (vvr_records (plain_size b vdr leaf))
+plain_bytes b vdr leaf = if leaf.packed then plain_of (packed_bytes b leaf.place) else field_bytes b leaf.place (vvr_records (plain_size b vdr leaf))
 
 abbrev pub numbered_from : {A : Type 0} → ℕ → List A → List (ℕ × A)
 numbered_from n [] = []
@@ -61,7 +61,7 @@ numbered_from n (a ∷ more) = (n, a) ∷ numbered_from (suc n) more
 
 -- each record of a leaf, by its number
 abbrev pub leaf_records : List ℕ → ℕ → Leaf → List (ℕ × List ℕ)
-leaf_records b vdr leaf = numbered_from leaf.first (map (turned (type_of_variable b vdr) (is_little b)) (parts (record_bytes b vdr) (records_of_leaf leaf) (plain_bytes b vdr leaf)))
+leaf_records b vdr leaf = numbered_from (counted4 leaf.first) (map (turned (type_of_variable b vdr) (is_little b)) (parts (record_bytes b vdr) (records_of_leaf leaf) (plain_bytes b vdr leaf)))
 
 -- A leaf may cover records past MaxRec, which are not written.
 abbrev pub records_in : List ℕ → ℕ → List Leaf → List (ℕ × List ℕ)
@@ -112,7 +112,7 @@ head_by_fields b = record {
   majority = majority_of (has_bit (flags b) 0);
   md5 = has_checksum b;
   rdims = r_sizes b (gdr_offset b);
-  attrs = attributes b (gdr_offset b);
-  rvars = r_variables b (gdr_offset b);
-  zvars = z_variables b (gdr_offset b);
+  attrs = num_attr b (gdr_offset b);
+  rvars = nr_vars b (gdr_offset b);
+  zvars = nz_vars b (gdr_offset b);
 }

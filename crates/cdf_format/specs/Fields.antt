@@ -1,10 +1,11 @@
 -- Numbers and fields in a list of bytes: big-endian, at places (CDF Internal Format Description, "Internal Records").
-use Rattle.std.specs.Prelude.{ℕ, ℤ, pos, negsuc, zero, suc, ◌+◌, ◌-◌, ◌^◌, ◌/◌, ◌%◌, ◌==◌, ◌≤◌, List, [], ◌∷◌, ◌++◌, length, take, drop, replicate, Bool, if◌then◌else◌}
+use Rattle.std.specs.Prelude.{ℕ, ℤ, pos, negsuc, zero, suc, ◌+◌, ◌-◌, ◌^◌, ◌/◌, ◌%◌, ◌==◌, ◌≤◌, List, [], ◌∷◌, ◌++◌, length, take, drop, replicate, Bool, ◌&&◌, nat_le, if◌then◌else◌}
 use Rattle.std.specs.List.{before_first}
 use Rattle.std.specs.Int.{w32, w64, cast_signed}
 use Rattle.byteorder.specs.Endian.{big_bytes, big_from}
 use Rattle.cdf_base.specs.Bytes.{put}
-use Rattle.cdf_format.specs.Records.{Field, record_size, record_type, cdr_gdr_offset, cdr_version, cdr_release, cdr_encoding, cdr_flags, cdr_increment, gdr_r_vdr_head, gdr_z_vdr_head, gdr_adr_head, gdr_eof, gdr_nr_vars, gdr_num_attr, gdr_r_num_dims, gdr_nz_vars, gdr_uir_head, gdr_r_dim_size, adr_name, vdr_name}
+use Rattle.cdf_model.specs.Limits.{signed_limit}
+use Rattle.cdf_format.specs.Records.{Field, past, record_size, record_type, cdr_gdr_offset, cdr_version, cdr_release, cdr_encoding, cdr_flags, cdr_increment, gdr_eof, gdr_nr_vars, gdr_num_attr, gdr_r_num_dims, gdr_nz_vars, gdr_r_dim_size, adr_name, vdr_name}
 
 -- The n bytes from a place as a number without a sign. A byte outside the list counts as 0.
 abbrev pub word : List ℕ → ℕ → ℕ → ℕ
@@ -29,6 +30,14 @@ has_bit n k = n / 2 ^ k % 2 == 1
 abbrev pub counted : ℤ → ℕ
 counted (pos n) = n
 counted (negsuc n) = 0
+
+-- a positive number of 4 bytes with a sign
+abbrev pub is_positive : ℕ → Bool
+is_positive n = nat_le 1 n && nat_le n signed_limit
+
+-- 4 bytes that were read without a sign, with their sign
+abbrev pub with_sign : ℕ → ℤ
+with_sign n = cast_signed w32 n
 
 -- A field of the record at a place, as a number without a sign
 abbrev pub number : List ℕ → ℕ → Field → ℕ
@@ -64,6 +73,13 @@ size_at b place = number b place record_size
 abbrev pub type_at : List ℕ → ℕ → ℕ
 type_at b place = number b place record_type
 
+-- the record at a place has room for a field
+abbrev pub holds : List ℕ → ℕ → Field → Bool
+holds b place f = nat_le (past f) (size_at b place)
+
+abbrev pub Holds : List ℕ → ℕ → Field → Type 0
+Holds b place f = past f ≤ size_at b place
+
 -- the Name of the record at a place, an ADR where its type is 4, else a VDR
 abbrev pub name_field : ℕ → Field
 name_field type = if type == 4 then adr_name else vdr_name
@@ -91,26 +107,20 @@ abbrev pub increment : List ℕ → ℤ
 increment b = integer4 b 8 cdr_increment
 
 -- The Global Descriptor Record stands at a place g.
-abbrev pub attribute_head : List ℕ → ℕ → ℕ
-attribute_head b g = number b g gdr_adr_head
-
 abbrev pub eof : List ℕ → ℕ → ℕ
 eof b g = number b g gdr_eof
 
-abbrev pub r_variables : List ℕ → ℕ → ℕ
-r_variables b g = number b g gdr_nr_vars
+abbrev pub nr_vars : List ℕ → ℕ → ℕ
+nr_vars b g = number b g gdr_nr_vars
 
-abbrev pub attributes : List ℕ → ℕ → ℕ
-attributes b g = number b g gdr_num_attr
+abbrev pub num_attr : List ℕ → ℕ → ℕ
+num_attr b g = number b g gdr_num_attr
 
-abbrev pub r_dimensions : List ℕ → ℕ → ℕ
-r_dimensions b g = counted (integer4 b g gdr_r_num_dims)
+abbrev pub r_num_dims : List ℕ → ℕ → ℕ
+r_num_dims b g = counted (integer4 b g gdr_r_num_dims)
 
-abbrev pub z_variables : List ℕ → ℕ → ℕ
-z_variables b g = number b g gdr_nz_vars
-
-abbrev pub unused_head : List ℕ → ℕ → ℕ
-unused_head b g = number b g gdr_uir_head
+abbrev pub nz_vars : List ℕ → ℕ → ℕ
+nz_vars b g = number b g gdr_nz_vars
 
 abbrev pub r_sizes : List ℕ → ℕ → List ℕ
-r_sizes b g = words b (g + (gdr_r_dim_size 0).place) (r_dimensions b g)
+r_sizes b g = words b (g + (gdr_r_dim_size 0).place) (r_num_dims b g)

@@ -1,10 +1,11 @@
 -- The rules of a file on its length, its magic numbers, and the two records that each file has, phases 0 to 3 (CDF Internal Format Description, Magic Numbers, CDF Descriptor Record, Global Descriptor Record).
-use Rattle.std.specs.Prelude.{ℕ, ◌+◌, ◌-◌, ◌*◌, List, [], ◌∷◌, length, Bool, not, is_some, ◌&&◌, ◌||◌, ◌==◌, nat_le}
+use Rattle.std.specs.Prelude.{ℕ, ◌+◌, ◌-◌, List, [], ◌∷◌, length, Bool, not, is_some, ◌&&◌, ◌||◌, ◌==◌, nat_le}
 use Rattle.std.specs.List.{list_all}
-use Rattle.cdf_model.specs.Limits.{image_limit}
+use Rattle.cdf_model.specs.Limits.{dimension_limit, image_limit}
 use Rattle.cdf_model.specs.Encodings.{encoding_at}
-use Rattle.cdf_format.specs.Fields.{word, number, integer8, counted, has_bit, size_at, type_at, gdr_offset, version, encoding, flags, eof, r_dimensions, r_sizes}
-use Rattle.cdf_format.specs.Records.{gdr_eof, gdr_r_num_dims}
+use Rattle.cdf_format.specs.Fields.{word, number, integer8, counted, is_positive, has_bit, size_at, type_at, gdr_offset, version, encoding, flags, eof, r_num_dims, r_sizes}
+use Rattle.cdf_format.specs.Records.{past, gdr_eof, gdr_r_num_dims, gdr_r_dim_sizes}
+use Rattle.cdf_format.specs.RecordTypes.{cdr_type, gdr_type, fixed_size}
 use Rattle.cdf_format.specs.NotRead.{unread_checksum}
 use Rattle.cdf_format.specs.Rules.{Row, row, asked}
 use Rattle.cdf_format.specs.Sealed.{has_checksum, trailer_length}
@@ -25,7 +26,7 @@ is_record f place type size = (type_at f place == type) && (nat_le size (size_at
 abbrev pub phase2 : List ℕ → List Row
 phase2 f =
     row 1 8 (nat_le 320 (length f))
-    ∷ row 2 8 (is_record f 8 1 312)
+    ∷ row 2 8 (is_record f 8 cdr_type (fixed_size cdr_type))
     ∷ row 3 8 (version f == 3)
     ∷ row 4 8 (is_some (encoding_at (encoding f)))
     ∷ row 5 8 (has_bit (flags f) 1)
@@ -34,21 +35,17 @@ phase2 f =
 
 -- GDRoffset leaves room for the fixed part of a record
 abbrev pub has_gdr : List ℕ → Bool
-has_gdr f = nat_le 8 (gdr_offset f) && nat_le (gdr_offset f + 84) (length f)
+has_gdr f = nat_le 8 (gdr_offset f) && nat_le (gdr_offset f + fixed_size gdr_type) (length f)
 
 -- a record of this type, with at most 10 dimensions and room for their sizes
 abbrev pub is_gdr : List ℕ → ℕ → Bool
-is_gdr f g = nat_le (number f g gdr_r_num_dims) 10 && is_record f g 2 (84 + 4 * r_dimensions f g)
-
--- the size of a dimension is a positive number of 4 bytes with a sign
-abbrev pub is_size : ℕ → Bool
-is_size n = nat_le 1 n && nat_le n 2147483647
+is_gdr f g = nat_le (number f g gdr_r_num_dims) dimension_limit && is_record f g gdr_type (past (gdr_r_dim_sizes (r_num_dims f g)))
 
 -- the Global Descriptor Record at a place
 abbrev pub gdr_rows : List ℕ → ℕ → List Row
 gdr_rows f g =
     row 2 g (is_gdr f g)
-    ∷ row 3 g (list_all is_size (r_sizes f g))
+    ∷ row 3 g (list_all is_positive (r_sizes f g))
     ∷ row 4 g (eof f g == length f - trailer_length f)
     ∷ row 5 g (nat_le (counted (integer8 f g gdr_eof)) image_limit)
     ∷ []

@@ -9,13 +9,13 @@ mutual
     no_node : Nodes
     node : ℕ → ℕ → Entries → Nodes → Nodes
 
-  -- used entries. One names the records from a first to a last, and a block, whether it is packed, or a lower chain; then come the others.
+  -- used entries. One names the records from a first to a last, and a block, whether it is packed, or a lower chain; then come the others. First and Last stand in it without their sign.
   pub data Entries : Type 0 where
     no_entry : Entries
     block : ℕ → ℕ → ℕ → Bool → Entries → Entries
     lower : ℕ → ℕ → Nodes → Entries → Entries
 
--- the records from a first to a last, and where their block stands
+-- the records from a first to a last, both without their sign, and where their block stands
 pub record Leaf : Type 0 where
   pub first : ℕ
   pub last : ℕ
@@ -66,7 +66,7 @@ room_at b place = number b place vxr_n_entries
 abbrev pub used_count : List ℕ → ℕ → ℕ
 used_count b place = min (counted (integer4 b place vxr_n_used_entries)) (min (counted (integer4 b place vxr_n_entries)) ((size_at b place - 28) / 16))
 
--- First, Last and Offset of the entry with number i
+-- First, Last and Offset of the entry with number i, as numbers without a sign
 abbrev pub first_at : List ℕ → ℕ → ℕ → ℕ
 first_at b place i = number b place (vxr_first i)
 

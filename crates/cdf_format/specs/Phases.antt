@@ -4,9 +4,8 @@ use Rattle.std.specs.List.{flat_map}
 use Rattle.md5.specs.Md5.{md5}
 use Rattle.cdf_format.specs.Rules.{Row, row, asked}
 use Rattle.cdf_format.specs.Sealed.{has_checksum, image_of}
-use Rattle.cdf_format.specs.Tiles.{tiles}
 use Rattle.cdf_format.specs.Owners.{times, owned_records}
-use Rattle.cdf_format.specs.Shape.{shape}
+use Rattle.cdf_format.specs.Shape.{Shape, adrs, vdrs, variables, shape}
 use Rattle.cdf_format.specs.FileRules.{phase0, phase1, phase2, phase3}
 use Rattle.cdf_format.specs.RecordRules.{phase4}
 use Rattle.cdf_format.specs.ChainRules.{phase5}
@@ -18,16 +17,27 @@ use Rattle.cdf_format.specs.IndexRules.{phase8}
 abbrev pub owner_rows : List ℕ → ℕ → List Row
 owner_rows owned place = row 1 place (times place owned == 1) ∷ []
 
-abbrev pub phase9 : List ℕ → List Row
-phase9 b = flat_map (owner_rows (owned_records b (shape b))) (tiles b)
+-- these records, of which these are owned
+abbrev pub phase9 : List ℕ → List ℕ → List Row
+phase9 records owned = flat_map (owner_rows owned) records
 
 -- the checksum that is in use is that of the image
 abbrev pub phase10 : List ℕ → List Row
 phase10 f = asked (has_checksum f) (row 1 (length (image_of f)) (bytes_eq (drop (length (image_of f)) f) (md5 (image_of f))) ∷ [])
 
--- the rules on records, chains, attributes, variables, indexes and owners
+-- the rules on chains, attributes, variables, indexes and owners, for an image with this shape
+abbrev pub phases_of : List ℕ → Shape → List (List Row)
+phases_of b s =
+    phase5 b s.records
+    ∷ phase6 b s.records (adrs s)
+    ∷ phase7 b s.records (vdrs (variables s))
+    ∷ phase8 b s.records (vdrs (variables s))
+    ∷ phase9 s.records (owned_records b s)
+    ∷ []
+
+-- the rules on records, and these
 abbrev pub image_phases : List ℕ → List (List Row)
-image_phases b = phase4 b ∷ phase5 b ∷ phase6 b ∷ phase7 b ∷ phase8 b ∷ phase9 b ∷ []
+image_phases b = phase4 b ∷ phases_of b (shape b)
 
 -- the rules on the file as far as its two first records
 abbrev pub first_phases : List ℕ → List (List Row)

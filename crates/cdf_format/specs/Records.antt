@@ -1,5 +1,5 @@
 -- The table of the fields of internal records: the place of each within its record, and its width, in bytes (CDF Internal Format Description, "Internal Records"). Names are those of the format, with the record first.
-use Rattle.std.specs.Prelude.{ℕ, ◌+◌, ◌*◌}
+use Rattle.std.specs.Prelude.{ℕ, ◌+◌, ◌*◌, List, map}
 
 pub record Field : Type 0 where
   pub place : ℕ
@@ -7,6 +7,14 @@ pub record Field : Type 0 where
 
 abbrev pub field : ℕ → ℕ → Field
 field place width = record { place = place; width = width }
+
+-- where fields stand
+abbrev pub places : List Field → List ℕ
+places fields = map (λ f. f.place) fields
+
+-- where a field ends in its record
+abbrev pub past : Field → ℕ
+past f = f.place + f.width
 
 -- each record
 abbrev pub record_size : Field
@@ -89,9 +97,12 @@ gdr_leap_second_last_updated = field 76 4
 abbrev pub gdr_rfu_e : Field
 gdr_rfu_e = field 80 4
 
--- the size of the dimension i that the r variables share
+-- the size of the dimension i that the r variables share, and the sizes of all n
 abbrev pub gdr_r_dim_size : ℕ → Field
 gdr_r_dim_size i = field (84 + 4 * i) 4
+
+abbrev pub gdr_r_dim_sizes : ℕ → Field
+gdr_r_dim_sizes n = field 84 (4 * n)
 
 -- "Attribute Descriptor Record"
 abbrev pub adr_adr_next : Field
@@ -225,6 +236,9 @@ vdr_z_num_dims = field 340 4
 abbrev pub vdr_z_dim_size : ℕ → Field
 vdr_z_dim_size i = field (344 + 4 * i) 4
 
+abbrev pub vdr_z_dim_sizes : ℕ → Field
+vdr_z_dim_sizes d = field 344 (4 * d)
+
 abbrev pub vdr_z_dim_vary : ℕ → ℕ → Field
 vdr_z_dim_vary d i = field (344 + 4 * d + 4 * i) 4
 
@@ -251,6 +265,10 @@ vxr_last n i = field (28 + 4 * n + 4 * i) 4
 abbrev pub vxr_offset : ℕ → ℕ → Field
 vxr_offset n i = field (28 + 8 * n + 8 * i) 8
 
+-- all n entries
+abbrev pub vxr_entries : ℕ → Field
+vxr_entries n = field 28 (16 * n)
+
 -- "Variable Values Record": the n bytes of its records
 abbrev pub vvr_records : ℕ → Field
 vvr_records n = field 12 n
@@ -276,11 +294,14 @@ cpr_rfu_a = field 16 4
 abbrev pub cpr_p_count : Field
 cpr_p_count = field 20 4
 
--- its parameter i
+-- its parameter i, and all n
 abbrev pub cpr_parameter : ℕ → Field
 cpr_parameter i = field (24 + 4 * i) 4
 
--- "Unused Internal Record", of at least 28 bytes
+abbrev pub cpr_parameters : ℕ → Field
+cpr_parameters n = field 24 (4 * n)
+
+-- "Unused Internal Record", where it is listed
 abbrev pub uir_next_uir : Field
 uir_next_uir = field 12 8
 

@@ -7,8 +7,8 @@ use Rattle.cdf_model.specs.declared.data_type.DataType.TheVariants.{Byte}
 use Rattle.cdf_model.specs.ByteOrder.{turned}
 use Rattle.cdf_model.specs.Encodings.{encoding_at}
 use Rattle.cdf_model.specs.Types.{type_of}
-use Rattle.cdf_format.specs.Fields.{integer4, encoding}
-use Rattle.cdf_format.specs.Records.{Field}
+use Rattle.cdf_format.specs.Fields.{counted, integer4, integer8, encoding}
+use Rattle.cdf_format.specs.Records.{Field, cvvr_c_size, cvvr_packed}
 
 -- the bytes of a field of the record at a place
 abbrev pub field_bytes : List ℕ → ℕ → Field → List ℕ
@@ -28,3 +28,7 @@ data_type_in b place f = unwrap_or (known_type b place f) Byte
 -- values of a field, in network order
 abbrev pub network_bytes : List ℕ → ℕ → Field → DataType → List ℕ
 network_bytes b place f t = turned t (is_little b) (field_bytes b place f)
+
+-- the packed bytes of a CVVR, cSize of them; below 0 there are none
+abbrev pub packed_bytes : List ℕ → ℕ → List ℕ
+packed_bytes b cvvr = field_bytes b cvvr (cvvr_packed (counted (integer8 b cvvr cvvr_c_size)))

@@ -1,13 +1,12 @@
 -- What a VDR says of its variable (CDF Internal Format Description, "Variable Descriptor Records").
-use Rattle.std.specs.Prelude.{ℕ, ℤ, ◌+◌, ◌-◌, ◌*◌, List, map, Bool, not, ◌==◌, if◌then◌else◌, Some, None}
+use Rattle.std.specs.Prelude.{ℕ, ℤ, pos, ◌-ℤ◌, ◌+◌, ◌*◌, List, map, Bool, not, ◌==◌, if◌then◌else◌, Some, None}
 use Rattle.std.specs.declared.option.Option.{Option}
-use Rattle.std.specs.Int.{w32, cast_signed}
 use Rattle.cdf_model.specs.declared.data_type.DataType.{DataType}
 use Rattle.cdf_model.specs.declared.kinds.Sparse.{Sparse}
 use Rattle.cdf_model.specs.declared.kinds.Sparse.TheVariants.{NoRule, Pad, Previous}
 use Rattle.cdf_model.specs.Place.{record_size}
 use Rattle.cdf_model.specs.Types.{size_of}
-use Rattle.cdf_format.specs.Fields.{words, counted, number, integer4, has_bit, type_at, gdr_offset, r_dimensions, r_sizes}
+use Rattle.cdf_format.specs.Fields.{words, counted, with_sign, number, integer4, has_bit, type_at, gdr_offset, r_num_dims, r_sizes}
 use Rattle.cdf_format.specs.Records.{Field, vdr_data_type, vdr_max_rec, vdr_flags, vdr_s_records, vdr_num_elems, vdr_r_dim_vary, vdr_r_pad_value, vdr_z_num_dims, vdr_z_dim_size, vdr_z_dim_vary, vdr_z_pad_value}
 use Rattle.cdf_format.specs.RecordTypes.{z_vdr_type}
 use Rattle.cdf_format.specs.Index.{Leaf}
@@ -16,13 +15,13 @@ use Rattle.cdf_format.specs.Stored.{data_type_in, network_bytes}
 abbrev pub is_z : List ℕ → ℕ → Bool
 is_z b vdr = type_at b vdr == z_vdr_type
 
--- 4 bytes that were read without a sign, as a number with a sign, below 0 taken as 0
+-- 4 bytes that were read without a sign, with their sign, below 0 taken as 0
 abbrev pub counted4 : ℕ → ℕ
-counted4 n = counted (cast_signed w32 n)
+counted4 n = counted (with_sign n)
 
 -- r variables share the dimensions of the GDR
 abbrev pub dimensions_at : List ℕ → ℕ → ℕ
-dimensions_at b vdr = if is_z b vdr then counted (integer4 b vdr vdr_z_num_dims) else r_dimensions b (gdr_offset b)
+dimensions_at b vdr = if is_z b vdr then counted (integer4 b vdr vdr_z_num_dims) else r_num_dims b (gdr_offset b)
 
 -- Their sizes. Of a z variable one below 0 counts as 0; those of the GDR are positive, by rule 3.3.
 abbrev pub dims_at : List ℕ → ℕ → List ℕ
@@ -69,9 +68,13 @@ sparse_at b vdr = if number b vdr vdr_s_records == 0 then NoRule else (if number
 abbrev pub max_rec_at : List ℕ → ℕ → ℤ
 max_rec_at b vdr = integer4 b vdr vdr_max_rec
 
--- the number of records of a leaf, and their plain bytes
+-- the number before First of an entry, with its sign
+abbrev pub number_before : ℕ → ℤ
+number_before first = with_sign first -ℤ pos 1
+
+-- the number of records of a leaf, from First to Last with their sign, and their plain bytes
 abbrev pub records_of_leaf : Leaf → ℕ
-records_of_leaf leaf = leaf.last + 1 - leaf.first
+records_of_leaf leaf = counted (with_sign leaf.last -ℤ number_before leaf.first)
 
 abbrev pub plain_size : List ℕ → ℕ → Leaf → ℕ
 plain_size b vdr leaf = records_of_leaf leaf * record_bytes b vdr

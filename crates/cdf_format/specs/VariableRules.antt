@@ -1,20 +1,18 @@
 -- The rules of an image on its variables, phase 7 (CDF Internal Format Description, "Variable Descriptor Records", "Compressed Parameters Record").
-use Rattle.std.specs.Prelude.{ℕ, ◌+◌, ◌*◌, List, [], ◌∷◌, ◌++◌, Bool, not, is_some, ◌&&◌, ◌||◌, ◌==◌, nat_le, if◌then◌else◌}
+use Rattle.std.specs.Prelude.{ℕ, ◌+◌, List, [], ◌∷◌, ◌++◌, Bool, not, is_some, ◌&&◌, ◌||◌, ◌==◌, nat_le, if◌then◌else◌}
 use Rattle.std.specs.List.{flat_map, list_all}
 use Rattle.cdf_model.specs.Limits.{dimension_limit, record_number_limit}
 use Rattle.cdf_model.specs.Place.{record_limit}
 use Rattle.cdf_model.specs.Values.{notation_of}
 use Rattle.cdf_model.specs.VariableSteps.{is_characters}
-use Rattle.cdf_format.specs.Fields.{number, size_at}
-use Rattle.cdf_format.specs.Records.{vdr_data_type, vdr_max_rec, vdr_s_records, vdr_num_elems, vdr_cpr_or_spr_offset, vdr_name, vdr_z_num_dims, vdr_z_dim_size, cpr_c_type, cpr_p_count, cpr_parameter}
+use Rattle.cdf_format.specs.Fields.{number, is_positive, size_at, holds}
+use Rattle.cdf_format.specs.Records.{vdr_data_type, vdr_max_rec, vdr_s_records, vdr_num_elems, vdr_cpr_or_spr_offset, vdr_name, vdr_z_num_dims, vdr_z_dim_sizes, cpr_c_type, cpr_p_count, cpr_parameter, cpr_parameters}
 use Rattle.cdf_format.specs.RecordTypes.{cpr_type}
 use Rattle.cdf_format.specs.NotRead.{unread_sparse}
 use Rattle.cdf_format.specs.Rules.{Row, row, asked}
-use Rattle.cdf_format.specs.Tiles.{tiles}
 use Rattle.cdf_format.specs.Chains.{is_a}
-use Rattle.cdf_format.specs.Walks.{records_of}
-use Rattle.cdf_format.specs.AttributeRules.{has_name, same_name, is_positive}
-use Rattle.cdf_format.specs.Shape.{is_compressed, r_vdr_chain, z_vdr_chain}
+use Rattle.cdf_format.specs.AttributeRules.{has_name, same_name}
+use Rattle.cdf_format.specs.Shape.{is_compressed}
 use Rattle.cdf_format.specs.Stored.{known_type}
 use Rattle.cdf_format.specs.VariableFields.{is_z, dims_at, type_of_variable, value_bytes, record_bytes, has_pad, pad_field}
 
@@ -26,7 +24,7 @@ has_elements b vdr = is_positive (number b vdr vdr_num_elems) && ((number b vdr 
 abbrev pub has_dimensions : List ℕ → ℕ → Bool
 has_dimensions b vdr =
     nat_le (number b vdr vdr_z_num_dims) dimension_limit
-    && (nat_le (vdr_z_dim_size (number b vdr vdr_z_num_dims)).place (size_at b vdr) && list_all is_positive (dims_at b vdr))
+    && (holds b vdr (vdr_z_dim_sizes (number b vdr vdr_z_num_dims)) && list_all is_positive (dims_at b vdr))
 
 -- where the fields of a VDR end, its pad value included
 abbrev pub vdr_end : List ℕ → ℕ → ℕ
@@ -44,7 +42,7 @@ is_no_link link = (link == 0xffffffffffffffff) || (link == 0)
 
 -- a CPR with a parameter or more, and room for them
 abbrev pub is_cpr : List ℕ → List ℕ → ℕ → Bool
-is_cpr b records place = is_a b records cpr_type place && (is_positive (number b place cpr_p_count) && nat_le (24 + 4 * number b place cpr_p_count) (size_at b place))
+is_cpr b records place = is_a b records cpr_type place && (is_positive (number b place cpr_p_count) && holds b place (cpr_parameters (number b place cpr_p_count)))
 
 -- run lengths of zeros
 abbrev pub is_known_packing : List ℕ → ℕ → Bool
@@ -74,9 +72,6 @@ variable_rows b records vdrs vdr =
     ∷ asked (is_compressed b vdr) (cpr_rows b records (cpr_link b vdr))
     ++ unread_sparse b vdr
 
--- the VDRs of the r variables, then those of the z variables
-abbrev pub all_vdrs : List ℕ → List ℕ
-all_vdrs b = records_of (r_vdr_chain b (tiles b)) ++ records_of (z_vdr_chain b (tiles b))
-
-abbrev pub phase7 : List ℕ → List Row
-phase7 b = flat_map (variable_rows b (tiles b) (all_vdrs b)) (all_vdrs b)
+-- these variables, in an image with these records
+abbrev pub phase7 : List ℕ → List ℕ → List ℕ → List Row
+phase7 b records vdrs = flat_map (variable_rows b records vdrs) vdrs

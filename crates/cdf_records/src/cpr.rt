@@ -1,10 +1,18 @@
+//! Compressed Parameters Records, read.
+
 ghost use Rattle.std.specs.Prelude.{◌≡◌, ◌+◌, ◌≤◌, ℕ, length, IfOk, OnOk};
-ghost use Rattle.cdf_base.specs.Causes.{HasCauseOf};
+ghost use Rattle.cdf_area.specs.Calls.{Reads};
 ghost use Rattle.cdf_records.specs.Heads.{cpr_at, cpr_by};
 ghost use Rattle.cdf_records.specs.Pieces.{AreBytes, Shows};
 
 use crate::field::{read_piece, signed4, unsigned8};
 use cdf_area::{Area, AreaError};
+use cdf_format::fields::{
+    CPR_C_TYPE, CPR_P_COUNT, CPR_PARAMETER, CPR_RFU_A, RECORD_SIZE, RECORD_TYPE,
+};
+
+/// The bytes of the fields that are read.
+const HEAD_SIZE: usize = CPR_PARAMETER as usize;
 
 /// A Compressed Parameters Record, but for its parameters.
 #[derive(Clone, Copy, Debug, PartialEq, Eq)]
@@ -22,11 +30,11 @@ fn cpr_in(bytes: &[u8]) -> Cpr
     ensures { (field : ℕ → ℕ → ℕ) (start : ℕ) → Shows bytes.now field start → result ≡ cpr_by field start }
 {
     Cpr {
-        record_size: unsigned8(bytes, 0),
-        record_type: signed4(bytes, 8),
-        c_type: signed4(bytes, 12),
-        rfu_a: signed4(bytes, 16),
-        p_count: signed4(bytes, 20),
+        record_size: unsigned8(bytes, RECORD_SIZE),
+        record_type: signed4(bytes, RECORD_TYPE),
+        c_type: signed4(bytes, CPR_C_TYPE),
+        rfu_a: signed4(bytes, CPR_RFU_A),
+        p_count: signed4(bytes, CPR_P_COUNT),
     }
 }
 
@@ -35,11 +43,9 @@ pub fn read_cpr<A: Area>(area: &mut A, at: u64) -> Result<Cpr, AreaError>
     requires { at + 24 ≤ length (A.image area.old) }
     ensures value { IfOk result (λ head. head ≡ cpr_at (A.image area.old) at) }
     ensures bytes { OnOk result (AreBytes (A.image area.old) at 24) }
-    ensures image { A.image area.new ≡ A.image area.old }
-    ensures frame { A.frame area.new ≡ A.frame area.old }
-    ensures cause { HasCauseOf AreaError.Fault (A.faults area.old) (A.faults area.new) result }
+    ensures area { Reads A.image A.frame A.faults A.edited area.old area.new result }
 {
-    let mut bytes = [0u8; 24];
+    let mut bytes = [0u8; HEAD_SIZE];
     read_piece(area, at, &mut bytes)?;
     Ok(cpr_in(&bytes))
 }

@@ -1,10 +1,16 @@
+//! Compressed Variable Values Records, read.
+
 ghost use Rattle.std.specs.Prelude.{◌≡◌, ◌+◌, ◌≤◌, ℕ, length, IfOk, OnOk};
-ghost use Rattle.cdf_base.specs.Causes.{HasCauseOf};
+ghost use Rattle.cdf_area.specs.Calls.{Reads};
 ghost use Rattle.cdf_records.specs.Heads.{cvvr_at, cvvr_by};
 ghost use Rattle.cdf_records.specs.Pieces.{AreBytes, Shows};
 
 use crate::field::{read_piece, signed4, signed8, unsigned8};
 use cdf_area::{Area, AreaError};
+use cdf_format::fields::{CVVR_C_SIZE, CVVR_PACKED, CVVR_RFU_A, RECORD_SIZE, RECORD_TYPE};
+
+/// The bytes of the fields that are read.
+const HEAD_SIZE: usize = CVVR_PACKED as usize;
 
 /// A Compressed Variable Values Record, but for its packed bytes.
 #[derive(Clone, Copy, Debug, PartialEq, Eq)]
@@ -21,10 +27,10 @@ fn cvvr_in(bytes: &[u8]) -> Cvvr
     ensures { (field : ℕ → ℕ → ℕ) (start : ℕ) → Shows bytes.now field start → result ≡ cvvr_by field start }
 {
     Cvvr {
-        record_size: unsigned8(bytes, 0),
-        record_type: signed4(bytes, 8),
-        rfu_a: signed4(bytes, 12),
-        c_size: signed8(bytes, 16),
+        record_size: unsigned8(bytes, RECORD_SIZE),
+        record_type: signed4(bytes, RECORD_TYPE),
+        rfu_a: signed4(bytes, CVVR_RFU_A),
+        c_size: signed8(bytes, CVVR_C_SIZE),
     }
 }
 
@@ -33,11 +39,9 @@ pub fn read_cvvr<A: Area>(area: &mut A, at: u64) -> Result<Cvvr, AreaError>
     requires { at + 24 ≤ length (A.image area.old) }
     ensures value { IfOk result (λ head. head ≡ cvvr_at (A.image area.old) at) }
     ensures bytes { OnOk result (AreBytes (A.image area.old) at 24) }
-    ensures image { A.image area.new ≡ A.image area.old }
-    ensures frame { A.frame area.new ≡ A.frame area.old }
-    ensures cause { HasCauseOf AreaError.Fault (A.faults area.old) (A.faults area.new) result }
+    ensures area { Reads A.image A.frame A.faults A.edited area.old area.new result }
 {
-    let mut bytes = [0u8; 24];
+    let mut bytes = [0u8; HEAD_SIZE];
     read_piece(area, at, &mut bytes)?;
     Ok(cvvr_in(&bytes))
 }

@@ -1,5 +1,7 @@
-ghost use Rattle.std.specs.Prelude.{◌≡◌, ◌+◌, ◌<◌, ◌≤◌, length, IfOk, OnErr, OnOk};
-ghost use Rattle.cdf_base.specs.Causes.{HasCauseOf};
+//! The entries of index nodes, read and written.
+
+ghost use Rattle.std.specs.Prelude.{◌≡◌, ◌+◌, ◌<◌, length, IfOk, OnErr, OnOk};
+ghost use Rattle.cdf_area.specs.Calls.{Edits, Reads};
 ghost use Rattle.cdf_format.specs.Fields.{LiesIn, counted};
 ghost use Rattle.cdf_format.specs.Records.{vxr_offset};
 ghost use Rattle.cdf_records.specs.Entries.{IsPartOf, entries_at, entry_at, with_entry};
@@ -9,6 +11,7 @@ use crate::numbers::{read_signed4, read_unsigned8};
 use crate::vxr::Vxr;
 use cdf_area::{Area, AreaError};
 use cdf_fields::{set_signed4, set_unsigned8};
+use cdf_format::fields::VXR_FIRST;
 
 /// An entry of an index node: its first and last record, and the place of the block or the lower node.
 #[derive(Clone, Copy, Debug, PartialEq, Eq)]
@@ -31,16 +34,14 @@ pub fn vxr_entry<A: Area>(area: &mut A, at: u64, node: &Vxr, i: u32) -> Result<V
     requires below { i < entries_at (A.image area.old) at }
     requires entry { LiesIn (A.image area.old) at (vxr_offset (entries_at (A.image area.old) at) i) }
     ensures value { IfOk result (λ entry. entry ≡ entry_at (A.image area.old) at i) }
-    ensures image { A.image area.new ≡ A.image area.old }
-    ensures frame { A.frame area.new ≡ A.frame area.old }
-    ensures cause { HasCauseOf AreaError.Fault (A.faults area.old) (A.faults area.new) result }
+    ensures area { Reads A.image A.frame A.faults A.edited area.old area.new result }
 {
     let _size = area.size();
     let n = count_of(node.n_entries);
     let i = u64::from(i);
-    let first = read_signed4(area, at + (28 + 4 * i))?;
-    let last = read_signed4(area, at + (28 + 4 * n + 4 * i))?;
-    let offset = read_unsigned8(area, at + (28 + 8 * n + 8 * i))?;
+    let first = read_signed4(area, at + (VXR_FIRST + 4 * i))?;
+    let last = read_signed4(area, at + (VXR_FIRST + 4 * n + 4 * i))?;
+    let offset = read_unsigned8(area, at + (VXR_FIRST + 8 * n + 8 * i))?;
     Ok(VxrEntry {
         first,
         last,
@@ -62,13 +63,12 @@ pub fn set_vxr_entry<A: Area>(
     ensures ok { OnOk result (A.image area.new ≡ with_entry (A.image area.old) at (entries_at (A.image area.old) at) i to) }
     ensures part { OnErr result (IsPartOf (A.image area.old) at (entries_at (A.image area.old) at) i to (A.image area.new)) }
     ensures size { length (A.image area.new) ≡ length (A.image area.old) }
-    ensures frame { A.frame area.new ≡ A.frame area.old }
-    ensures cause { HasCauseOf AreaError.Fault (A.faults area.old) (A.faults area.new) result }
+    ensures area { Edits A.frame A.faults area.old area.new result }
 {
     let n = count_of(node.n_entries);
     let i = u64::from(i);
-    set_signed4(area, at, 28 + 4 * i, to.first)?;
-    set_signed4(area, at, 28 + 4 * n + 4 * i, to.last)?;
-    set_unsigned8(area, at, 28 + 8 * n + 8 * i, to.offset)?;
+    set_signed4(area, at, VXR_FIRST + 4 * i, to.first)?;
+    set_signed4(area, at, VXR_FIRST + 4 * n + 4 * i, to.last)?;
+    set_unsigned8(area, at, VXR_FIRST + 8 * n + 8 * i, to.offset)?;
     Ok(())
 }

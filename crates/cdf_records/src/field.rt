@@ -1,7 +1,9 @@
+//! Fields in the bytes of a record.
+
 ghost use Rattle.std.specs.Prelude.{◌≡◌, ◌+◌, ◌≤◌, ℕ, length, OnOk};
-ghost use Rattle.cdf_base.specs.Causes.{HasCauseOf};
 ghost use Rattle.cdf_format.specs.Fields.{word};
 ghost use Rattle.std.specs.Int.{w32, w64, cast_signed};
+ghost use Rattle.cdf_area.specs.Calls.{Reads};
 ghost use Rattle.cdf_records.specs.Pieces.{AreBytes, Shows};
 
 use byteorder::{BigEndian, ByteOrder};
@@ -12,24 +14,22 @@ pub fn read_piece<A: Area>(area: &mut A, at: u64, bytes: &mut [u8]) -> Result<()
     requires { at + length bytes.old ≤ length (A.image area.old) }
     ensures fields { OnOk result (Shows bytes.new (word (A.image area.old)) at) }
     ensures bytes { OnOk result (AreBytes (A.image area.old) at (length bytes.new)) }
-    ensures image { A.image area.new ≡ A.image area.old }
-    ensures frame { A.frame area.new ≡ A.frame area.old }
-    ensures cause { HasCauseOf AreaError.Fault (A.faults area.old) (A.faults area.new) result }
+    ensures area { Reads A.image A.frame A.faults A.edited area.old area.new result }
 {
     area.get(at, bytes)?;
     Ok(())
 }
 
 /// The 4 bytes at a place, without a sign.
-pub fn unsigned4(bytes: &[u8], place: usize) -> u32
+pub fn unsigned4(bytes: &[u8], place: u64) -> u32
     requires { place + 4 ≤ length bytes.now }
     ensures { (field : ℕ → ℕ → ℕ) (start : ℕ) → Shows bytes.now field start → result ≡ field (start + place) 4 }
 {
-    BigEndian::read_u32(&bytes[place..])
+    BigEndian::read_u32(&bytes[place as usize..])
 }
 
 /// The 4 bytes at a place, with a sign.
-pub fn signed4(bytes: &[u8], place: usize) -> i32
+pub fn signed4(bytes: &[u8], place: u64) -> i32
     requires { place + 4 ≤ length bytes.now }
     ensures { (field : ℕ → ℕ → ℕ) (start : ℕ) → Shows bytes.now field start → result ≡ cast_signed w32 (field (start + place) 4) }
 {
@@ -37,15 +37,15 @@ pub fn signed4(bytes: &[u8], place: usize) -> i32
 }
 
 /// The 8 bytes at a place, without a sign.
-pub fn unsigned8(bytes: &[u8], place: usize) -> u64
+pub fn unsigned8(bytes: &[u8], place: u64) -> u64
     requires { place + 8 ≤ length bytes.now }
     ensures { (field : ℕ → ℕ → ℕ) (start : ℕ) → Shows bytes.now field start → result ≡ field (start + place) 8 }
 {
-    BigEndian::read_u64(&bytes[place..])
+    BigEndian::read_u64(&bytes[place as usize..])
 }
 
 /// The 8 bytes at a place, with a sign.
-pub fn signed8(bytes: &[u8], place: usize) -> i64
+pub fn signed8(bytes: &[u8], place: u64) -> i64
     requires { place + 8 ≤ length bytes.now }
     ensures { (field : ℕ → ℕ → ℕ) (start : ℕ) → Shows bytes.now field start → result ≡ cast_signed w64 (field (start + place) 8) }
 {

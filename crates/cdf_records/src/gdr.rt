@@ -1,10 +1,20 @@
+//! The Global Descriptor Record, read.
+
 ghost use Rattle.std.specs.Prelude.{◌≡◌, ◌+◌, ◌≤◌, ℕ, length, IfOk, OnOk};
-ghost use Rattle.cdf_base.specs.Causes.{HasCauseOf};
+ghost use Rattle.cdf_area.specs.Calls.{Reads};
 ghost use Rattle.cdf_records.specs.Heads.{gdr_at, gdr_by};
 ghost use Rattle.cdf_records.specs.Pieces.{AreBytes, Shows};
 
 use crate::field::{read_piece, signed4, unsigned8};
 use cdf_area::{Area, AreaError};
+use cdf_format::fields::{
+    GDR_ADR_HEAD, GDR_EOF, GDR_LEAP_SECOND_LAST_UPDATED, GDR_NR_VARS, GDR_NUM_ATTR, GDR_NZ_VARS,
+    GDR_R_DIM_SIZE, GDR_R_MAX_REC, GDR_R_NUM_DIMS, GDR_R_VDR_HEAD, GDR_RFU_C, GDR_RFU_E,
+    GDR_UIR_HEAD, GDR_Z_VDR_HEAD, RECORD_SIZE, RECORD_TYPE,
+};
+
+/// The bytes of the fields that are read.
+const HEAD_SIZE: usize = GDR_R_DIM_SIZE as usize;
 
 /// The Global Descriptor Record, but for the sizes of its dimensions.
 #[derive(Clone, Copy, Debug, PartialEq, Eq)]
@@ -32,21 +42,21 @@ fn gdr_in(bytes: &[u8]) -> Gdr
     ensures { (field : ℕ → ℕ → ℕ) (start : ℕ) → Shows bytes.now field start → result ≡ gdr_by field start }
 {
     Gdr {
-        record_size: unsigned8(bytes, 0),
-        record_type: signed4(bytes, 8),
-        r_vdr_head: unsigned8(bytes, 12),
-        z_vdr_head: unsigned8(bytes, 20),
-        adr_head: unsigned8(bytes, 28),
-        eof: unsigned8(bytes, 36),
-        nr_vars: signed4(bytes, 44),
-        num_attr: signed4(bytes, 48),
-        r_max_rec: signed4(bytes, 52),
-        r_num_dims: signed4(bytes, 56),
-        nz_vars: signed4(bytes, 60),
-        uir_head: unsigned8(bytes, 64),
-        rfu_c: signed4(bytes, 72),
-        leap_second_last_updated: signed4(bytes, 76),
-        rfu_e: signed4(bytes, 80),
+        record_size: unsigned8(bytes, RECORD_SIZE),
+        record_type: signed4(bytes, RECORD_TYPE),
+        r_vdr_head: unsigned8(bytes, GDR_R_VDR_HEAD),
+        z_vdr_head: unsigned8(bytes, GDR_Z_VDR_HEAD),
+        adr_head: unsigned8(bytes, GDR_ADR_HEAD),
+        eof: unsigned8(bytes, GDR_EOF),
+        nr_vars: signed4(bytes, GDR_NR_VARS),
+        num_attr: signed4(bytes, GDR_NUM_ATTR),
+        r_max_rec: signed4(bytes, GDR_R_MAX_REC),
+        r_num_dims: signed4(bytes, GDR_R_NUM_DIMS),
+        nz_vars: signed4(bytes, GDR_NZ_VARS),
+        uir_head: unsigned8(bytes, GDR_UIR_HEAD),
+        rfu_c: signed4(bytes, GDR_RFU_C),
+        leap_second_last_updated: signed4(bytes, GDR_LEAP_SECOND_LAST_UPDATED),
+        rfu_e: signed4(bytes, GDR_RFU_E),
     }
 }
 
@@ -55,11 +65,9 @@ pub fn read_gdr<A: Area>(area: &mut A, at: u64) -> Result<Gdr, AreaError>
     requires { at + 84 ≤ length (A.image area.old) }
     ensures value { IfOk result (λ head. head ≡ gdr_at (A.image area.old) at) }
     ensures bytes { OnOk result (AreBytes (A.image area.old) at 84) }
-    ensures image { A.image area.new ≡ A.image area.old }
-    ensures frame { A.frame area.new ≡ A.frame area.old }
-    ensures cause { HasCauseOf AreaError.Fault (A.faults area.old) (A.faults area.new) result }
+    ensures area { Reads A.image A.frame A.faults A.edited area.old area.new result }
 {
-    let mut bytes = [0u8; 84];
+    let mut bytes = [0u8; HEAD_SIZE];
     read_piece(area, at, &mut bytes)?;
     Ok(gdr_in(&bytes))
 }

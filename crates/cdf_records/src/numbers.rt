@@ -1,5 +1,7 @@
+//! Single numbers of an image, read.
+
 ghost use Rattle.std.specs.Prelude.{◌≡◌, ◌+◌, ◌*◌, ◌≤◌, length, IfOk};
-ghost use Rattle.cdf_base.specs.Causes.{HasCauseOf};
+ghost use Rattle.cdf_area.specs.Calls.{Reads};
 ghost use Rattle.cdf_format.specs.Fields.{signed4, word, words};
 
 use crate::field::{read_piece, unsigned4, unsigned8};
@@ -11,9 +13,7 @@ use std::alloc::Global;
 pub fn read_unsigned4<A: Area>(area: &mut A, at: u64) -> Result<u32, AreaError>
     requires { at + 4 ≤ length (A.image area.old) }
     ensures value { IfOk result (λ number. number ≡ word (A.image area.old) at 4) }
-    ensures image { A.image area.new ≡ A.image area.old }
-    ensures frame { A.frame area.new ≡ A.frame area.old }
-    ensures cause { HasCauseOf AreaError.Fault (A.faults area.old) (A.faults area.new) result }
+    ensures area { Reads A.image A.frame A.faults A.edited area.old area.new result }
 {
     let mut bytes = [0u8; 4];
     read_piece(area, at, &mut bytes)?;
@@ -24,9 +24,7 @@ pub fn read_unsigned4<A: Area>(area: &mut A, at: u64) -> Result<u32, AreaError>
 pub fn read_signed4<A: Area>(area: &mut A, at: u64) -> Result<i32, AreaError>
     requires { at + 4 ≤ length (A.image area.old) }
     ensures value { IfOk result (λ number. number ≡ signed4 (A.image area.old) at) }
-    ensures image { A.image area.new ≡ A.image area.old }
-    ensures frame { A.frame area.new ≡ A.frame area.old }
-    ensures cause { HasCauseOf AreaError.Fault (A.faults area.old) (A.faults area.new) result }
+    ensures area { Reads A.image A.frame A.faults A.edited area.old area.new result }
 {
     let number = read_unsigned4(area, at)?;
     Ok(number.cast_signed())
@@ -36,9 +34,7 @@ pub fn read_signed4<A: Area>(area: &mut A, at: u64) -> Result<i32, AreaError>
 pub fn read_unsigned8<A: Area>(area: &mut A, at: u64) -> Result<u64, AreaError>
     requires { at + 8 ≤ length (A.image area.old) }
     ensures value { IfOk result (λ number. number ≡ word (A.image area.old) at 8) }
-    ensures image { A.image area.new ≡ A.image area.old }
-    ensures frame { A.frame area.new ≡ A.frame area.old }
-    ensures cause { HasCauseOf AreaError.Fault (A.faults area.old) (A.faults area.new) result }
+    ensures area { Reads A.image A.frame A.faults A.edited area.old area.new result }
 {
     let mut bytes = [0u8; 8];
     read_piece(area, at, &mut bytes)?;
@@ -49,9 +45,7 @@ pub fn read_unsigned8<A: Area>(area: &mut A, at: u64) -> Result<u64, AreaError>
 pub fn read_nums<A: Area>(alloc: Global, area: &mut A, at: u64, n: u32) -> Result<Nums, AreaError>
     requires { at + 4 * n ≤ length (A.image area.old) }
     ensures value { IfOk result (λ numbers. numbers ≡ words (A.image area.old) at n) }
-    ensures image { A.image area.new ≡ A.image area.old }
-    ensures frame { A.frame area.new ≡ A.frame area.old }
-    ensures cause { HasCauseOf AreaError.Fault (A.faults area.old) (A.faults area.new) result }
+    ensures area { Reads A.image A.frame A.faults A.edited area.old area.new result }
 {
     let _size = area.size();
     let mut numbers = Vec::new(alloc);

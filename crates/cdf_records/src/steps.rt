@@ -1,3 +1,5 @@
+//! A count of the index nodes that were read.
+
 ghost use Rattle.std.specs.Prelude.{◌≡◌, ◌+◌, ◌<◌};
 
 use std::marker::Model;

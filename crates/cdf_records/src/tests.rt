@@ -1,3 +1,5 @@
+//! Records written out byte by byte, against the fields that are read.
+
 ghost use Rattle.std.specs.Prelude.{◌≡◌, ◌+◌, ◌<◌, ◌≤◌, length, IfOk};
 ghost use Rattle.cdf_records.specs.Heads.{vxr_at};
 
@@ -220,6 +222,8 @@ fn reads_a_gdr(rt: HostRuntime) -> Result<(), Fail> {
         rfu_e: -27,
     };
     assert_eq!(rt; read_gdr(&mut area, START)?, want);
+    let sizes = read_nums(rt.alloc(), &mut area, START + 84, 2)?;
+    assert!(rt; sizes.as_slice() == [7, 0xffff_fff9].as_slice());
     Ok(())
 }
 
@@ -288,25 +292,16 @@ fn reads_a_vdr(rt: HostRuntime) -> Result<(), Fail> {
         blocking_factor: 0x0102_0344,
     };
     assert_eq!(rt; read_vdr(&mut area, START)?, want);
+
+    let mut record = [0; 344];
+    record[340..].copy_from_slice(&[0xff, 0xff, 0xff, 0x07]);
+    let mut area = area_of(rt.alloc(), &record)?;
+    assert_eq!(rt; read_vdr_z_num_dims(&mut area, START)?, -249);
     Ok(())
 }
 
 #[test]
-fn reads_a_vxr(rt: HostRuntime) -> Result<(), Fail> {
-    let mut area = area_of(rt.alloc(), &VXR)?;
-    let want = Vxr {
-        record_size: 60,
-        record_type: 6,
-        vxr_next: 0x0102_0304_0506_0747,
-        n_entries: 2,
-        n_used_entries: -73,
-    };
-    assert_eq!(rt; read_uncounted(&mut area, START)?, want);
-    Ok(())
-}
-
-#[test]
-fn reads_a_cpr(rt: HostRuntime) -> Result<(), Fail> {
+fn reads_a_cpr_a_cvvr_and_a_uir(rt: HostRuntime) -> Result<(), Fail> {
     let mut area = area_of(rt.alloc(), &CPR)?;
     let want = Cpr {
         record_size: 28,
@@ -316,11 +311,7 @@ fn reads_a_cpr(rt: HostRuntime) -> Result<(), Fail> {
         p_count: 0x0102_034e,
     };
     assert_eq!(rt; read_cpr(&mut area, START)?, want);
-    Ok(())
-}
 
-#[test]
-fn reads_a_cvvr(rt: HostRuntime) -> Result<(), Fail> {
     let mut area = area_of(rt.alloc(), &CVVR)?;
     let want = Cvvr {
         record_size: 26,
@@ -329,11 +320,7 @@ fn reads_a_cvvr(rt: HostRuntime) -> Result<(), Fail> {
         c_size: -82,
     };
     assert_eq!(rt; read_cvvr(&mut area, START)?, want);
-    Ok(())
-}
 
-#[test]
-fn reads_a_uir(rt: HostRuntime) -> Result<(), Fail> {
     let mut area = area_of(rt.alloc(), &UIR)?;
     let want = Uir {
         record_size: 28,
@@ -342,23 +329,6 @@ fn reads_a_uir(rt: HostRuntime) -> Result<(), Fail> {
         prev_uir: 0x0102_0304_0506_0756,
     };
     assert_eq!(rt; read_uir(&mut area, START)?, want);
-    Ok(())
-}
-
-#[test]
-fn reads_the_number_of_dimensions_of_a_z_variable(rt: HostRuntime) -> Result<(), Fail> {
-    let mut record = [0; 344];
-    record[340..].copy_from_slice(&[0xff, 0xff, 0xff, 0x07]);
-    let mut area = area_of(rt.alloc(), &record)?;
-    assert_eq!(rt; read_vdr_z_num_dims(&mut area, START)?, -249);
-    Ok(())
-}
-
-#[test]
-fn reads_numbers(rt: HostRuntime) -> Result<(), Fail> {
-    let mut area = area_of(rt.alloc(), &GDR)?;
-    let sizes = read_nums(rt.alloc(), &mut area, START + 84, 2)?;
-    assert!(rt; sizes.as_slice() == [7, 0xffff_fff9].as_slice());
     Ok(())
 }
 
@@ -410,9 +380,17 @@ const VXR_AFTER: [u8; 60] = [
 ];
 
 #[test]
-fn reads_entries(rt: HostRuntime) -> Result<(), Fail> {
+fn a_vxr_is_read_and_its_entries_are_written(rt: HostRuntime) -> Result<(), Fail> {
     let mut area = area_of(rt.alloc(), &VXR)?;
     let node = read_uncounted(&mut area, START)?;
+    let want = Vxr {
+        record_size: 60,
+        record_type: 6,
+        vxr_next: 0x0102_0304_0506_0747,
+        n_entries: 2,
+        n_used_entries: -73,
+    };
+    assert_eq!(rt; node, want);
     assert!(rt; node.n_entries == 2);
     let want = VxrEntry {
         first: 1,
@@ -426,14 +404,6 @@ fn reads_entries(rt: HostRuntime) -> Result<(), Fail> {
         offset: 0xf1f2_f3f4_f5f6_f7f8,
     };
     assert_eq!(rt; vxr_entry(&mut area, START, &node, 1)?, want);
-    Ok(())
-}
-
-#[test]
-fn writes_an_entry(rt: HostRuntime) -> Result<(), Fail> {
-    let mut area = area_of(rt.alloc(), &VXR)?;
-    let node = read_uncounted(&mut area, START)?;
-    assert!(rt; node.n_entries == 2);
     let to = VxrEntry {
         first: -3,
         last: 0x0708_090a,

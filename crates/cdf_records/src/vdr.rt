@@ -1,5 +1,7 @@
+//! Variable Descriptor Records, read.
+
 ghost use Rattle.std.specs.Prelude.{◌≡◌, ◌+◌, ◌≤◌, ℕ, length, IfOk, OnOk};
-ghost use Rattle.cdf_base.specs.Causes.{HasCauseOf};
+ghost use Rattle.cdf_area.specs.Calls.{Reads};
 ghost use Rattle.cdf_format.specs.Fields.{LiesIn, integer4};
 ghost use Rattle.cdf_format.specs.Records.{vdr_z_num_dims};
 ghost use Rattle.cdf_records.specs.Heads.{vdr_at, vdr_by};
@@ -8,6 +10,14 @@ ghost use Rattle.cdf_records.specs.Pieces.{AreBytes, Shows};
 use crate::field::{read_piece, signed4, signed8, unsigned4, unsigned8};
 use crate::numbers::read_signed4;
 use cdf_area::{Area, AreaError};
+use cdf_format::fields::{
+    RECORD_SIZE, RECORD_TYPE, VDR_BLOCKING_FACTOR, VDR_CPR_OR_SPR_OFFSET, VDR_DATA_TYPE, VDR_FLAGS,
+    VDR_MAX_REC, VDR_NAME, VDR_NUM, VDR_NUM_ELEMS, VDR_RFU_B, VDR_RFU_C, VDR_RFU_F, VDR_S_RECORDS,
+    VDR_VDR_NEXT, VDR_VXR_HEAD, VDR_VXR_TAIL, VDR_Z_NUM_DIMS,
+};
+
+/// The bytes of the fields that are read.
+const HEAD_SIZE: usize = VDR_NAME as usize;
 
 /// A Variable Descriptor Record, of an r or a z variable, up to its Name.
 #[derive(Clone, Copy, Debug, PartialEq, Eq)]
@@ -36,22 +46,22 @@ fn vdr_in(bytes: &[u8]) -> Vdr
     ensures { (field : ℕ → ℕ → ℕ) (start : ℕ) → Shows bytes.now field start → result ≡ vdr_by field start }
 {
     Vdr {
-        record_size: unsigned8(bytes, 0),
-        record_type: signed4(bytes, 8),
-        vdr_next: unsigned8(bytes, 12),
-        data_type: signed4(bytes, 20),
-        max_rec: signed4(bytes, 24),
-        vxr_head: unsigned8(bytes, 28),
-        vxr_tail: unsigned8(bytes, 36),
-        flags: unsigned4(bytes, 44),
-        s_records: signed4(bytes, 48),
-        rfu_b: signed4(bytes, 52),
-        rfu_c: signed4(bytes, 56),
-        rfu_f: signed4(bytes, 60),
-        num_elems: signed4(bytes, 64),
-        num: signed4(bytes, 68),
-        cpr_or_spr_offset: signed8(bytes, 72),
-        blocking_factor: signed4(bytes, 80),
+        record_size: unsigned8(bytes, RECORD_SIZE),
+        record_type: signed4(bytes, RECORD_TYPE),
+        vdr_next: unsigned8(bytes, VDR_VDR_NEXT),
+        data_type: signed4(bytes, VDR_DATA_TYPE),
+        max_rec: signed4(bytes, VDR_MAX_REC),
+        vxr_head: unsigned8(bytes, VDR_VXR_HEAD),
+        vxr_tail: unsigned8(bytes, VDR_VXR_TAIL),
+        flags: unsigned4(bytes, VDR_FLAGS),
+        s_records: signed4(bytes, VDR_S_RECORDS),
+        rfu_b: signed4(bytes, VDR_RFU_B),
+        rfu_c: signed4(bytes, VDR_RFU_C),
+        rfu_f: signed4(bytes, VDR_RFU_F),
+        num_elems: signed4(bytes, VDR_NUM_ELEMS),
+        num: signed4(bytes, VDR_NUM),
+        cpr_or_spr_offset: signed8(bytes, VDR_CPR_OR_SPR_OFFSET),
+        blocking_factor: signed4(bytes, VDR_BLOCKING_FACTOR),
     }
 }
 
@@ -60,11 +70,9 @@ pub fn read_vdr<A: Area>(area: &mut A, at: u64) -> Result<Vdr, AreaError>
     requires { at + 84 ≤ length (A.image area.old) }
     ensures value { IfOk result (λ head. head ≡ vdr_at (A.image area.old) at) }
     ensures bytes { OnOk result (AreBytes (A.image area.old) at 84) }
-    ensures image { A.image area.new ≡ A.image area.old }
-    ensures frame { A.frame area.new ≡ A.frame area.old }
-    ensures cause { HasCauseOf AreaError.Fault (A.faults area.old) (A.faults area.new) result }
+    ensures area { Reads A.image A.frame A.faults A.edited area.old area.new result }
 {
-    let mut bytes = [0u8; 84];
+    let mut bytes = [0u8; HEAD_SIZE];
     read_piece(area, at, &mut bytes)?;
     Ok(vdr_in(&bytes))
 }
@@ -73,10 +81,8 @@ pub fn read_vdr<A: Area>(area: &mut A, at: u64) -> Result<Vdr, AreaError>
 pub fn read_vdr_z_num_dims<A: Area>(area: &mut A, at: u64) -> Result<i32, AreaError>
     requires { LiesIn (A.image area.old) at vdr_z_num_dims }
     ensures value { IfOk result (λ number. number ≡ integer4 (A.image area.old) at vdr_z_num_dims) }
-    ensures image { A.image area.new ≡ A.image area.old }
-    ensures frame { A.frame area.new ≡ A.frame area.old }
-    ensures cause { HasCauseOf AreaError.Fault (A.faults area.old) (A.faults area.new) result }
+    ensures area { Reads A.image A.frame A.faults A.edited area.old area.new result }
 {
     let _size = area.size();
-    read_signed4(area, at + 340)
+    read_signed4(area, at + VDR_Z_NUM_DIMS)
 }

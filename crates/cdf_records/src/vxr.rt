@@ -1,12 +1,20 @@
+//! Variable Index Records, read.
+
 ghost use Rattle.std.specs.Prelude.{◌≡◌, ◌+◌, ◌≤◌, ℕ, length, IfOk, OnOk};
-ghost use Rattle.cdf_base.specs.Causes.{HasCauseOf};
+ghost use Rattle.cdf_area.specs.Calls.{Reads};
 ghost use Rattle.cdf_records.specs.Heads.{vxr_at, vxr_by};
 ghost use Rattle.cdf_records.specs.Pieces.{AreBytes, Shows};
 
 use crate::field::{read_piece, signed4, unsigned8};
 use crate::steps::Steps;
 use cdf_area::{Area, AreaError};
+use cdf_format::fields::{
+    RECORD_SIZE, RECORD_TYPE, VXR_FIRST, VXR_N_ENTRIES, VXR_N_USED_ENTRIES, VXR_VXR_NEXT,
+};
 use std::sync::ledger::Ledger;
+
+/// The bytes of the fields that are read.
+const HEAD_SIZE: usize = VXR_FIRST as usize;
 
 /// A Variable Index Record, but for its entries.
 #[derive(Clone, Copy, Debug, PartialEq, Eq)]
@@ -24,11 +32,11 @@ fn vxr_in(bytes: &[u8]) -> Vxr
     ensures { (field : ℕ → ℕ → ℕ) (start : ℕ) → Shows bytes.now field start → result ≡ vxr_by field start }
 {
     Vxr {
-        record_size: unsigned8(bytes, 0),
-        record_type: signed4(bytes, 8),
-        vxr_next: unsigned8(bytes, 12),
-        n_entries: signed4(bytes, 20),
-        n_used_entries: signed4(bytes, 24),
+        record_size: unsigned8(bytes, RECORD_SIZE),
+        record_type: signed4(bytes, RECORD_TYPE),
+        vxr_next: unsigned8(bytes, VXR_VXR_NEXT),
+        n_entries: signed4(bytes, VXR_N_ENTRIES),
+        n_used_entries: signed4(bytes, VXR_N_USED_ENTRIES),
     }
 }
 
@@ -42,12 +50,10 @@ pub fn read_vxr<A: Area, L: Ledger>(
     ensures value { IfOk result (λ head. head ≡ vxr_at (A.image area.old) at) }
     ensures bytes { OnOk result (AreBytes (A.image area.old) at 28) }
     ensures step { steps.new ≡ steps.old + 1 }
-    ensures image { A.image area.new ≡ A.image area.old }
-    ensures frame { A.frame area.new ≡ A.frame area.old }
-    ensures cause { HasCauseOf AreaError.Fault (A.faults area.old) (A.faults area.new) result }
+    ensures area { Reads A.image A.frame A.faults A.edited area.old area.new result }
 {
     steps.tick();
-    let mut bytes = [0u8; 28];
+    let mut bytes = [0u8; HEAD_SIZE];
     read_piece(area, at, &mut bytes)?;
     Ok(vxr_in(&bytes))
 }

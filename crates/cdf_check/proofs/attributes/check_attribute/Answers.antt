@@ -23,7 +23,7 @@ returns-in-Err-clause-found g c =
     let b = g.A.Area.image c.args.area.now in
     let ts = c.args.tiles.now in
     let adr = c.args.adr in
-    let gr : Yields (gr_rows b ts adr) (λ (e : Vec ℕ Global). gr_entry_chain b ts adr ≡ whole e.items) (Err c.in-Err.broken) = rw (c.in-Err.is, c.check_fields.ensures.image) at c.in_ok-entries.ensures.found in
+    let gr : Yields (gr_rows b ts adr) (λ (e : Vec ℕ Global). gr_entry_chain b ts adr ≡ whole e.items) (Err c.in-Err.broken) = rw (c.in-Err.is, c.check_fields.ensures.area.image) at c.in_ok-entries.ensures.found in
     second_of_three (adr_rows b adr) (gr_rows b ts adr) (z_rows b ts adr) c.in-Err.broken.rule c.in-Err.broken.place gr
 
 pub returns-clause-found : goal.returns-clause-found
@@ -33,6 +33,6 @@ returns-clause-found g c =
     let ts = c.args.tiles.now in
     let adr = c.args.adr in
     let fields : Hold (adr_rows b adr) = rw c.in_default.is at c.in_ok-broken.ensures.found in
-    let gr : Yields (gr_rows b ts adr) (λ (e : Vec ℕ Global). gr_entry_chain b ts adr ≡ whole e.items) (Ok c.in-Ok.entries) = rw (c.in-Ok.is, c.check_fields.ensures.image) at c.in_ok-entries.ensures.found in
-    let z : Yields (z_rows b ts adr) (λ (e : Vec ℕ Global). z_entry_chain b ts adr ≡ whole e.items) (Ok c.in-Ok-2.entries) = rw (c.in-Ok-2.is, c.check_entries.ensures.image, c.check_fields.ensures.image) at c.in_ok-entries-2.ensures.found in
+    let gr : Yields (gr_rows b ts adr) (λ (e : Vec ℕ Global). gr_entry_chain b ts adr ≡ whole e.items) (Ok c.in-Ok.entries) = rw (c.in-Ok.is, c.check_fields.ensures.area.image) at c.in_ok-entries.ensures.found in
+    let z : Yields (z_rows b ts adr) (λ (e : Vec ℕ Global). z_entry_chain b ts adr ≡ whole e.items) (Ok c.in-Ok-2.entries) = rw (c.in-Ok-2.is, c.check_entries.ensures.area.image, c.check_fields.ensures.area.image) at c.in_ok-entries-2.ensures.found in
     (all_of_three (adr_rows b adr) (gr_rows b ts adr) (z_rows b ts adr) fields gr.0 z.0, record { gr = gr.1; z = z.1 })

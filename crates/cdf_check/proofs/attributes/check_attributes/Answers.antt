@@ -1,22 +1,18 @@
 use Rattle.std.proofs.Common.{arith}
-use Rattle.cdf_format.proofs.TilesLemmas.{tiling_sound}
 use Rattle.cdf_check.proofs.AttributeSteps.{chain_attributes, chain_few}
 use Rattle.cdf_check.proofs.attributes.check_attributes.Goals as goal
-
-pub check_each-requires-clause-tiled : goal.check_each-requires-clause-tiled
-check_each-requires-clause-tiled g c = tiling_sound (g.A.Area.image c.args.area.now) c.args.tiles.now c.requires.tiling
 
 pub check_each-requires-clause-attributes : goal.check_each-requires-clause-attributes
 check_each-requires-clause-attributes g c =
     let b = g.A.Area.image c.args.area.now in
-    chain_attributes b c.args.tiles.now c.args.adrs.now (tiling_sound b c.args.tiles.now c.requires.tiling) c.requires.long c.requires.chain
+    chain_attributes b c.args.tiles.now c.args.adrs.now c.requires.tiled c.requires.long c.requires.chain
 
 pub check_names-requires-clause-attributes : goal.check_names-requires-clause-attributes
 check_names-requires-clause-attributes g c =
     let b = g.A.Area.image c.args.area.now in
-    rw c.check_each.ensures.image (chain_attributes b c.args.tiles.now c.args.adrs.now (tiling_sound b c.args.tiles.now c.requires.tiling) c.requires.long c.requires.chain)
+    rw c.check_each.ensures.area.image (chain_attributes b c.args.tiles.now c.args.adrs.now c.requires.tiled c.requires.long c.requires.chain)
 
 pub check_names-requires-clause-few : goal.check_names-requires-clause-few
 check_names-requires-clause-few g c =
     let b = g.A.Area.image c.args.area.now in
-    omega (arith, chain_few b c.args.tiles.now c.args.adrs.now (tiling_sound b c.args.tiles.now c.requires.tiling) c.requires.chain, c.requires.small)
+    omega (arith, chain_few b c.args.tiles.now c.args.adrs.now c.requires.tiled c.requires.chain, c.requires.small)

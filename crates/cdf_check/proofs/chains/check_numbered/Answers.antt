@@ -13,5 +13,5 @@ check_numbers-requires g c =
     record {
       fields = λ m i.
           let inside = member_fields b c.args.tiles.now (length b) kind.record_type c.args.holder (field kind.head 8) (kind.number + 4) c.in-Ok.members.items c.requires.tiled c.requires.long c.requires.number is m (rw c.deref-2.ensures.value at i) in
-          rw (c.check_count.ensures.image, c.walk_chain.ensures.image) (omega (arith, inside));
+          rw (c.check_count.ensures.area.image, c.walk_chain.ensures.area.image) (omega (arith, inside));
     }

@@ -12,4 +12,4 @@ pub read_unsigned4-requires : goal.read_unsigned4-requires
 read_unsigned4-requires g c =
     let i = c.loop-i.i in
     let inside = c.requires.fields (get_or c.args.members.now i 0) (In-get_or c.args.members.now i c.loop-i-test.true) in
-    rw c.loop-i.invariant.image (omega (arith, inside))
+    rw c.loop-i.invariant.area.image (omega (arith, inside))

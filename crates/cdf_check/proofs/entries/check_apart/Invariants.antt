@@ -1,19 +1,18 @@
 use Rattle.std.proofs.Common.{◌≡◌, ◌≤◌, [], map, take, drop, Option}
+use Rattle.cdf_area.specs.Calls.{Stays}
 use Rattle.cdf_format.specs.AttributeRules.{same_number}
 use Rattle.cdf_format.specs.ChainRules.{differ_rows}
 use Rattle.cdf_format.specs.Fields.{number}
 use Rattle.cdf_format.specs.Records.{aedr_num}
 use Rattle.cdf_check.specs.Met.{Agrees}
 use Rattle.cdf_check.specs.Verdicts.{Finds}
-use Rattle.cdf_check.specs.declared.verdict.Broken.{Broken}
+use Rattle.cdf_check.specs.declared.verdict.Finding.{Finding}
 use Rattle.cdf_check.proofs.entries.check_apart.Given as goal
 
 abbrev pub invariant-loop-entry : goal.invariant-loop-entry
 invariant-loop-entry g l = record {
-  image : g.A.Area.image l.area ≡ g.A.Area.image l.fn.area;
-  frame : g.A.Area.frame l.area ≡ g.A.Area.frame l.fn.area;
-  later : g.A.Area.faults l.fn.area ≤ g.A.Area.faults l.area;
+  area : Stays g.A.Area.image g.A.Area.frame g.A.Area.faults g.A.Area.edited l.fn.area l.area;
   agrees : Agrees l.numbers;
   numbers : l.numbers.list.items ≡ map (λ m. number (g.A.Area.image l.fn.area) m aedr_num) (take l.entry-index l.entries);
-  goes : (found : Option Broken) → Finds (differ_rows 7 (same_number (g.A.Area.image l.fn.area)) (take l.entry-index l.entries) (drop l.entry-index l.entries)) found → Finds (differ_rows 7 (same_number (g.A.Area.image l.fn.area)) [] l.entries) found;
+  goes : (found : Option Finding) → Finds (differ_rows 7 (same_number (g.A.Area.image l.fn.area)) (take l.entry-index l.entries) (drop l.entry-index l.entries)) found → Finds (differ_rows 7 (same_number (g.A.Area.image l.fn.area)) [] l.entries) found;
 }

@@ -1,6 +1,7 @@
 use Rattle.std.proofs.Common.{◌∙◌, get_or, arith, add-one, Some, None}
 use Rattle.cdf_format.specs.AttributeRules.{entry_rows}
 use Rattle.cdf_check.specs.Verdicts.{Finds}
+use Rattle.cdf_area.proofs.Calls.{read_more}
 use Rattle.cdf_check.proofs.Rows.{In-get_or, broken_member, holds_more}
 use Rattle.cdf_check.proofs.entries.check_each.Goals as goal
 
@@ -8,14 +9,14 @@ pub check_entry-requires-clause-entry : goal.check_entry-requires-clause-entry
 check_entry-requires-clause-entry g c =
     let l = c.loop-entry in
     let m = get_or c.args.entries.now l.entry-index 0 in
-    rw l.invariant.image (c.requires.entries m (In-get_or c.args.entries.now l.entry-index c.loop-entry-test.true))
+    rw l.invariant.area.image (c.requires.entries m (In-get_or c.args.entries.now l.entry-index c.loop-entry-test.true))
 
 pub returns-in-Some-clause-found : goal.returns-in-Some-clause-found
 returns-in-Some-clause-found g c =
     let l = c.loop-entry in
     let b = g.A.Area.image c.args.area.now in
     let m = get_or c.args.entries.now l.entry-index 0 in
-    let here : Finds (entry_rows b c.args.adr m) (Some c.in-Some.broken) = rw (c.in-Some.is, l.invariant.image) at c.in_ok-broken.ensures.found in
+    let here : Finds (entry_rows b c.args.adr m) (Some c.in-Some.broken) = rw (c.in-Some.is, l.invariant.area.image) at c.in_ok-broken.ensures.found in
     broken_member (entry_rows b c.args.adr) c.args.entries.now l.entry-index 0 c.in-Some.broken.rule c.in-Some.broken.place c.loop-entry-test.true here
 
 pub loop-entry-preserved : goal.loop-entry-preserved
@@ -23,10 +24,8 @@ loop-entry-preserved g c =
     let l = c.loop-entry in
     let b = g.A.Area.image c.args.area.now in
     let m = get_or c.args.entries.now l.entry-index 0 in
-    let here : Finds (entry_rows b c.args.adr m) None = rw (c.in_default.is, l.invariant.image) at c.in_ok-broken.ensures.found in
+    let here : Finds (entry_rows b c.args.adr m) None = rw (c.in_default.is, l.invariant.area.image) at c.in_ok-broken.ensures.found in
     record {
-      image = c.check_entry.ensures.image ∙ l.invariant.image;
-      frame = c.check_entry.ensures.frame ∙ l.invariant.frame;
-      later = omega (arith, c.check_entry.ensures.cause.later, l.invariant.later);
+      area = read_more l.invariant.area c.in_ok-broken.ensures.area;
       rows = rw add-one (holds_more (entry_rows b c.args.adr) c.args.entries.now l.entry-index 0 c.loop-entry-test.true l.invariant.rows here);
     }

@@ -12,7 +12,7 @@ check_each-requires-clause-entries g c =
     let is : entry_walk b c.args.tiles.now kind c.args.adr ≡ whole c.in-Ok.entries.items = rw c.in-Ok.is at c.in_ok-walked.ensures.walk in
     λ m i.
     let inside = member_fields b c.args.tiles.now (length b) kind.record_type c.args.adr (field kind.head 8) 56 c.in-Ok.entries.items c.requires.tiled c.requires.long c.requires.entry is m (rw c.deref-2.ensures.value at i) in
-    rw (c.check_count.ensures.image, c.walk_chain.ensures.image) inside
+    rw (c.check_count.ensures.area.image, c.walk_chain.ensures.area.image) inside
 
 pub check_apart-requires : goal.check_apart-requires
 check_apart-requires g c =
@@ -22,5 +22,5 @@ check_apart-requires g c =
     record {
       entries = λ m i.
           let inside = member_fields b c.args.tiles.now (length b) kind.record_type c.args.adr (field kind.head 8) 56 c.in-Ok.entries.items c.requires.tiled c.requires.long c.requires.entry is m (rw c.deref-3.ensures.value at i) in
-          rw (c.check_each.ensures.image, c.check_count.ensures.image, c.walk_chain.ensures.image) inside;
+          rw (c.check_each.ensures.area.image, c.check_count.ensures.area.image, c.walk_chain.ensures.area.image) inside;
     }

@@ -8,4 +8,4 @@ read_type-requires g c =
     let l = c.loop-place in
     let b = g.A.Area.image c.args.area.now in
     let lies = tile_lies b 8 (length b) c.args.tiles.now (get_or c.args.tiles.now l.place-index 0) c.requires.tiled (In-get_or c.args.tiles.now l.place-index c.loop-place-test.true) in
-    rw l.invariant.image (omega (arith, lies.high, lies.long))
+    rw l.invariant.area.image (omega (arith, lies.high, lies.long))

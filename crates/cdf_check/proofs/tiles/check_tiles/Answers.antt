@@ -8,4 +8,4 @@ pub check_records-requires : goal.check_records-requires
 check_records-requires g c =
     let b = g.A.Area.image c.args.area.now in
     let is : tiling b ≡ whole c.in-Ok.records.items = rw c.in-Ok.is at c.in_ok-records.ensures.walk in
-    rw (c.walk_tiles.ensures.image, c.deref.ensures.value) (tiling_sound b c.in-Ok.records.items is)
+    rw (c.walk_tiles.ensures.area.image, c.deref.ensures.value) (tiling_sound b c.in-Ok.records.items is)

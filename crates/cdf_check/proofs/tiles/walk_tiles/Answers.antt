@@ -1,6 +1,7 @@
 use Rattle.std.proofs.Common.{◌≡◌, ◌≢◌, suc, ◌+◌, ◌-◌, length, ◌∙◌, arith, Some, None}
 use Rattle.cdf_format.specs.Tiles.{tiling}
 use Rattle.cdf_check.specs.Walked.{SizesTile}
+use Rattle.cdf_area.proofs.Calls.{read_more}
 use Rattle.cdf_check.proofs.TileSteps.{tiles_end, tiles_stop, tiles_spent, tiles_more, tile_ends}
 use Rattle.cdf_check.proofs.tiles.walk_tiles.Goals as goal
 
@@ -16,7 +17,7 @@ returns-in-None-clause-walk g c =
     let l = c.loop-turn in
     let eof = c.size-eof.ensures in
     let ne : l.place ≢ length b = λ e. absurd (omega (arith, e, eof, c.if-place-eof.false)) in
-    let none : SizesTile b l.place None = rw (c.in-None.is, l.invariant.image) at c.in_ok-size.ensures.size in
+    let none : SizesTile b l.place None = rw (c.in-None.is, l.invariant.area.image) at c.in_ok-size.ensures.size in
     tiles_stop b l.place l.records.items (length b - l.turn) (tiling b) l.invariant.goes ne none
 
 pub loop-turn-preserved : goal.loop-turn-preserved
@@ -25,13 +26,11 @@ loop-turn-preserved g c =
     let l = c.loop-turn in
     let eof = c.size-eof.ensures in
     let ne : l.place ≢ length b = λ e. absurd (omega (arith, e, eof, c.if-place-eof.false)) in
-    let some : SizesTile b l.place (Some c.in-Some.size) = rw (c.in-Some.is, l.invariant.image) at c.in_ok-size.ensures.size in
+    let some : SizesTile b l.place (Some c.in-Some.size) = rw (c.in-Some.is, l.invariant.area.image) at c.in_ok-size.ensures.size in
     let left : length b - l.turn ≡ suc (length b - (l.turn + 1)) = omega (arith, eof, c.loop-turn-test.true) in
     let fits = tile_ends b l.place some.0 in
     record {
-      image = c.tile_size.ensures.image ∙ l.invariant.image;
-      frame = c.tile_size.ensures.frame ∙ l.invariant.frame;
-      later = omega (arith, c.tile_size.ensures.cause.later, l.invariant.later);
+      area = read_more l.invariant.area c.in_ok-size.ensures.area;
       within = omega (arith, fits, some.1);
       goes = rw (c.in_ok-push-in-Some.ensures.items, some.1) (tiles_more b l.place l.records.items (length b - l.turn) (tiling b) l.invariant.goes (length b - (l.turn + 1)) left ne some.0);
     }

@@ -1,4 +1,4 @@
-use Rattle.cdf_format.proofs.GoodLemmas.{good_by_its_shape, good_is_sound, good_eof}
+use Rattle.cdf_format.proofs.GoodSound.{good_by_its_shape, good_is_sound, good_eof}
 use Rattle.cdf_format.proofs.laws.good_has_shape.Goals as goal
 
 pub returns-clause-good : goal.returns-clause-good

@@ -1,5 +1,0 @@
-use Rattle.cdf_format.proofs.OwnersApart.{unused_are_alone}
-use Rattle.cdf_format.proofs.laws.unused_alone.Goals as goal
-
-pub returns : goal.returns
-returns c = λ b now records s sound sub change. unused_are_alone b s sound now records sub change

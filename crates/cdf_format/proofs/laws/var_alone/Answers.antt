@@ -1,5 +1,0 @@
-use Rattle.cdf_format.proofs.OwnersApart.{variable_alone}
-use Rattle.cdf_format.proofs.laws.var_alone.Goals as goal
-
-pub returns : goal.returns
-returns c = λ b now records s before own after sound sub all change. variable_alone b s sound before own after all now records sub change
