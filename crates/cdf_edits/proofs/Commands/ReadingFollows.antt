@@ -1,0 +1,54 @@
+-- A good image is good by its shape, and a command that only reads leaves it.
+use Rattle.std.proofs.Common.{◌≡◌, ℕ, List, [], ◌∷◌, map, true, refl, arith, inl, inr}
+use Rattle.cdf_model.specs.declared.answer.Reply.{Reply}
+use Rattle.cdf_model.specs.declared.command.Command.{Command}
+use Rattle.cdf_model.specs.declared.command.Command.TheVariants as commands
+use Rattle.cdf_model.specs.Answers.{Go}
+use Rattle.cdf_model.specs.Step.{ByStep, step}
+use Rattle.cdf_edits.specs.Commands.Allowances.{Allowance, Anything, Only, Keeps, Allowances, allowance, AllKeep}
+use Rattle.cdf_format.specs.Content.{content}
+use Rattle.cdf_edits.specs.Commands.Does.{Does}
+use Rattle.cdf_edits.specs.Commands.Keeps.{allowances}
+use Rattle.cdf_edits.specs.Space.Acts.{Act}
+use Rattle.cdf_edits.specs.Follows.{only_reads, Follows}
+use Rattle.cdf_format.specs.Owners.{Owner, owned}
+use Rattle.cdf_format.specs.Shape.{shape}
+use Rattle.cdf_format.specs.Tiles.{In}
+use Rattle.cdf_format.specs.WellFormed.{Good}
+use Rattle.cdf_edits.proofs.Space.ActsLeave.{no_acts}
+use Rattle.cdf_format.proofs.Owning.{owned_stand}
+use Rattle.cdf_format.proofs.GoodSound.{good_by_its_shape, good_is_sound}
+
+-- a record keeps itself, whatever may change
+keeps_itself : (b : List ℕ) (place : ℕ) (a : Allowance) → In place (shape b).records → Keeps b b place a
+keeps_itself b place Anything i = tt
+keeps_itself b place (Only fields) i = record { stands = i; size_is = refl; same = λ n lt out. refl }
+
+all_keep : (b : List ℕ) (may : Allowances) (acts : List Act) (list : List (ℕ × Owner)) → ((m : ℕ) → In m (map (λ (p : ℕ × Owner). p.0) list) → In m (shape b).records) → AllKeep b b may acts list
+all_keep b may acts [] h = tt
+all_keep b may acts ((place, owner) ∷ more) h = (keeps_itself b place (allowance b (shape b) may acts place owner) (h place (inl refl)), all_keep b may acts more (λ m i. h m (inr i)))
+
+-- ---- what a command that only reads leaves
+
+does_nothing : (b : List ℕ) (c : Command) → only_reads c ≡ true → Does b c b []
+does_nothing b commands.Info e = refl
+does_nothing b commands.List e = refl
+does_nothing b (commands.GetEntry attr kind num) e = refl
+does_nothing b (commands.GetRec var rec) e = refl
+does_nothing b (commands.GetVal var rec index) e = refl
+does_nothing b c e = absurd cc
+
+pub reading_follows : (b : List ℕ) (c : Command) (reply : Reply) → only_reads c ≡ true → step (content b) c ≡ ByStep (Go (content b) reply) → Good b → Follows b c b
+reading_follows b c reply reads goes good = record {
+  reply = reply;
+  goes = goes;
+  good = good;
+  longer = omega arith;
+  within = omega arith;
+  reads = λ e. refl;
+  acts = [];
+  takes_within = omega arith;
+  acts_follow = no_acts b b (good_is_sound b good).has_shape (record { records = refl; list = refl; long = refl; size = λ m i. refl; type = λ m i. refl; back = λ m i. refl });
+  keeps = all_keep b (allowances b (content b) (shape b) c) [] (owned b (shape b)) (owned_stand b (shape b) (good_by_its_shape b good));
+  does = does_nothing b c reads;
+}

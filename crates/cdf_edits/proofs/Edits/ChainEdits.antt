@@ -1,0 +1,60 @@
+-- What a call leaves that links a record behind a chain, takes a member out of it or puts another in its place: each is an edit.
+use Rattle.std.proofs.Common.{◌≡◌, ℕ, ◌+◌, ◌≤◌, List, [], true, sym, ap, subst, arith}
+use Rattle.cdf_format.specs.Chains.{IsChain}
+use Rattle.cdf_format.specs.Fields.{number, size_at, type_at}
+use Rattle.cdf_format.specs.RecordTypes.{fixed_size}
+use Rattle.cdf_format.specs.Shape.{Shape, HasShape, shape}
+use Rattle.cdf_format.specs.Sound.{IsSound}
+use Rattle.cdf_format.specs.Tiles.{In, tiles}
+use Rattle.cdf_format.proofs.ChainsLemmas.{is_a-in, is_a-type, linkable-in, linkable-type, linkable-long}
+use Rattle.cdf_format.proofs.ShapeLemmas.{tiles_are}
+use Rattle.cdf_edits.specs.declared.chain.Chain.{Chain}
+use Rattle.cdf_edits.specs.Edits.Edit.{Edit}
+use Rattle.cdf_edits.specs.Edits.Marks.{append_marks, removing_marks, replacing_marks}
+use Rattle.cdf_edits.specs.Space.Chains.{holder_of, head_of, holder_type, type_in, members_of, HolderStands, HasChain, MayJoin, Appended, Removed, Replaced}
+use Rattle.cdf_edits.proofs.Edits.StepEdits.{Linked, Joins, append_edit, remove_edit, replace_edit}
+use Rattle.cdf_edits.proofs.Space.ChainHeads.{long_of, holder_stands, head_fits, head_width}
+
+module _ (b : List ℕ) (c : Chain) (sound : IsSound b (shape b)) (stands : HolderStands b c) (has : HasChain b c) where
+  abbrev s : Shape
+  s = shape b
+
+  h : HasShape b s
+  h = sound.has_shape
+
+  abbrev holder : ℕ
+  holder = holder_of b c
+
+  at_tiles : tiles b ≡ s.records
+  at_tiles = tiles_are b s h
+
+  linked : Linked b s (holder_type c) holder (head_of c) (type_in c) (number b holder (head_of c)) (members_of b c)
+  linked =
+      let is = holder_stands b sound c stands in
+      record {
+        holder_in = subst (In holder) at_tiles (is_a-in b (tiles b) (holder_type c) holder is);
+        holder_typed = is_a-type b (tiles b) (holder_type c) holder is;
+        head_fits = wide (head_of c).width (fixed_size (holder_type c)) (size_at b holder) (head_width c) (head_fits b sound c).1 (long_of b sound (holder_type c) holder is);
+        head_later = (head_fits b sound c).0;
+        chain = subst (λ (ts : List ℕ). IsChain b ts (type_in c) (number b holder (head_of c)) (members_of b c)) at_tiles has;
+      }
+    where
+      wide : (w f n : ℕ) → w ≡ 8 → (head_of c).place + 8 ≤ f → f ≤ n → (head_of c).place + w ≤ n
+      wide w f n p q r = omega arith
+
+  joins : (place : ℕ) → MayJoin b c place → Joins b s (holder_type c) holder (head_of c) (type_in c) (number b holder (head_of c)) (members_of b c) place
+  joins place may = record {
+    place_in = subst (In place) at_tiles (linkable-in b (tiles b) (type_in c) place may.linkable);
+    place_typed = linkable-type b (tiles b) (type_in c) place may.linkable;
+    place_long = let l = linkable-long b (tiles b) (type_in c) place may.linkable in omega arith;
+  }
+
+  module _ {now : List ℕ} {place : ℕ} where
+    pub appended_edit : MayJoin b c place → Appended b now c place → Edit b now s.records s.records (append_marks (holder_type c) holder (head_of c) (type_in c) place (members_of b c)) []
+    appended_edit may a = append_edit b s (holder_type c) holder (head_of c) (type_in c) _ (members_of b c) now h linked a.length_stays place (joins place may) a.changed
+
+    pub removed_edit : Removed b now c place → Edit b now s.records s.records (removing_marks (holder_type c) holder (head_of c) (type_in c) (members_of b c)) []
+    removed_edit r = remove_edit b s (holder_type c) holder (head_of c) (type_in c) _ (members_of b c) now h linked r.length_stays place r.changed
+
+    pub replaced_edit : {by : ℕ} → MayJoin b c by → Replaced b now c place by → Edit b now s.records s.records (replacing_marks (holder_type c) holder (head_of c) (type_in c) by (members_of b c)) []
+    replaced_edit {by = by} may r = replace_edit b s (holder_type c) holder (head_of c) (type_in c) _ (members_of b c) now h linked r.length_stays place by (joins by may) r.changed

@@ -1,0 +1,79 @@
+-- The chains of an image with a shape as calls speak of them; a record that joined one, one that went, and one that took the place of another.
+use Rattle.std.proofs.Common.{◌≡◌, ℕ, ◌≤◌, List, [], ◌∷◌, ◌++◌, length, true, false, sym, ap, subst, ◌∙◌}
+use Rattle.cdf_edits.specs.Frame.Changed.{Touch, touched_field, Changed}
+use Rattle.cdf_format.specs.Chains.{next_field, is_in, is_linkable, IsChain, chain}
+use Rattle.cdf_format.specs.Fields.{number, size_at, type_at}
+use Rattle.cdf_format.specs.Shape.{Shape, HasShape}
+use Rattle.cdf_format.specs.Tiles.{In, AreTiles, tiles}
+use Rattle.cdf_format.specs.Walks.{records_of}
+use Rattle.cdf_format.proofs.ChainsLemmas.{linkable-from, chain_complete}
+use Rattle.cdf_format.proofs.Members.{is_in-false, is_in-true}
+use Rattle.cdf_format.proofs.ShapeLemmas.{tiles_are}
+use Rattle.cdf_format.proofs.TilesLemmas.{tiling_complete}
+use Rattle.cdf_edits.specs.declared.chain.Chain.{Chain}
+use Rattle.cdf_edits.specs.Space.Chains.{holder_of, head_of, type_in, members_of, HasChain, MayJoin, link_behind, before, without, with_in_place, Appended, Removed, Replaced}
+
+-- a chain of the image: where the record stands that has its head, and its members
+pub record IsOf (b : List ℕ) (s : Shape) (c : Chain) (holder : ℕ) (ms : List ℕ) : Type 0 where
+  pub holder_is : holder_of b c ≡ holder
+  pub chain : IsChain b s.records (type_in c) (number b holder (head_of c)) ms
+
+module _ {b : List ℕ} {s : Shape} (h : HasShape b s) {c : Chain} {holder : ℕ} {ms : List ℕ} (is : IsOf b s c holder ms) where
+  at_holder : IsChain b s.records (type_in c) (number b (holder_of b c) (head_of c)) ms
+  at_holder = subst (λ (g : ℕ). IsChain b s.records (type_in c) (number b g (head_of c)) ms) (sym is.holder_is) is.chain
+
+  pub members_are : members_of b c ≡ ms
+  members_are = ap (λ (ts : List ℕ). records_of (chain b ts (type_in c) (holder_of b c) (head_of c))) (tiles_are b s h) ∙ ap records_of (chain_complete b s.records (length b) (type_in c) (holder_of b c) (head_of c) ms h.tiled at_holder)
+
+  pub has_chain : HasChain b c
+  has_chain = subst (IsChain b (tiles b) (type_in c) (number b (holder_of b c) (head_of c))) (sym members_are) (subst (λ (ts : List ℕ). IsChain b ts (type_in c) (number b (holder_of b c) (head_of c)) ms) (sym (tiles_are b s h)) at_holder)
+
+  pub may_join : (place : ℕ) → In place s.records → type_at b place ≡ type_in c → 28 ≤ size_at b place → (In place ms → ⊥) → MayJoin b c place
+  may_join place i t long out = record {
+    linkable = subst (λ (ts : List ℕ). is_linkable b ts (type_in c) place ≡ true) (sym (tiles_are b s h)) (linkable-from b s.records (type_in c) place i t long);
+    outside = subst (λ (x : List ℕ). is_in place x ≡ false) (sym members_are) (is_in-false place ms out);
+  }
+
+  pub is_member : (place : ℕ) → In place ms → is_in place (members_of b c) ≡ true
+  is_member place i = subst (λ (x : List ℕ). is_in place x ≡ true) (sym members_are) (is_in-true place ms i)
+
+  -- the chain that it is now
+  chain_of : (now new : List ℕ) → members_of now c ≡ new → HasChain now c → AreTiles now 8 (length now) s.records → holder_of now c ≡ holder → IsChain now s.records (type_in c) (number now holder (head_of c)) new
+  chain_of now new members has tiled same =
+      let now_tiles : tiles now ≡ s.records = ap records_of (tiling_complete now s.records tiled) in
+      subst (IsChain now s.records (type_in c) (number now holder (head_of c))) members
+      (subst (λ (g : ℕ). IsChain now s.records (type_in c) (number now g (head_of c)) (members_of now c)) same
+      (subst (λ (ts : List ℕ). IsChain now ts (type_in c) (number now (holder_of now c) (head_of c)) (members_of now c)) now_tiles has))
+
+  -- it joined
+  module _ {now : List ℕ} {place : ℕ} (appended : Appended b now c place) where
+    pub append_changed : Changed b now (link_behind holder (head_of c) ms ∷ touched_field place next_field ∷ [])
+    append_changed =
+        let g = is.holder_is in
+        let m = members_are in
+        subst (λ (t : Touch). Changed b now (t ∷ touched_field place next_field ∷ [])) (λ i. link_behind (g i) (head_of c) (m i)) appended.changed
+
+    pub joined_chain : AreTiles now 8 (length now) s.records → holder_of now c ≡ holder → IsChain now s.records (type_in c) (number now holder (head_of c)) (ms ++ place ∷ [])
+    joined_chain tiled same = chain_of now (ms ++ place ∷ []) (appended.members_are ∙ ap (λ (x : List ℕ). x ++ place ∷ []) members_are) appended.has_chain tiled same
+
+  -- it went
+  module _ {now : List ℕ} {place : ℕ} (removed : Removed b now c place) where
+    pub remove_changed : Changed b now (link_behind holder (head_of c) (before place ms) ∷ [])
+    remove_changed =
+        let g = is.holder_is in
+        let m = members_are in
+        subst (λ (t : Touch). Changed b now (t ∷ [])) (λ i. link_behind (g i) (head_of c) (before place (m i))) removed.changed
+
+    pub left_chain : AreTiles now 8 (length now) s.records → holder_of now c ≡ holder → IsChain now s.records (type_in c) (number now holder (head_of c)) (without place ms)
+    left_chain tiled same = chain_of now (without place ms) (removed.members_are ∙ ap (without place) members_are) removed.has_chain tiled same
+
+  -- another took its place
+  module _ {now : List ℕ} {place by : ℕ} (replaced : Replaced b now c place by) where
+    pub replace_changed : Changed b now (link_behind holder (head_of c) (before place ms) ∷ touched_field by next_field ∷ [])
+    replace_changed =
+        let g = is.holder_is in
+        let m = members_are in
+        subst (λ (t : Touch). Changed b now (t ∷ touched_field by next_field ∷ [])) (λ i. link_behind (g i) (head_of c) (before place (m i))) replaced.changed
+
+    pub replaced_chain : AreTiles now 8 (length now) s.records → holder_of now c ≡ holder → IsChain now s.records (type_in c) (number now holder (head_of c)) (with_in_place place by ms)
+    replaced_chain tiled same = chain_of now (with_in_place place by ms) (replaced.members_are ∙ ap (with_in_place place by) members_are) replaced.has_chain tiled same

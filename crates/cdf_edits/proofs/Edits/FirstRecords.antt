@@ -1,0 +1,91 @@
+-- What every edit leaves that keeps the CDR and the GDR: the types of all records, and the rules on the file.
+use Rattle.std.proofs.Common.{◌≡◌, ℕ, ◌+◌, ◌*◌, ◌≤◌, List, length, true, refl, sym, subst, ◌∙◌, arith, inl, inr}
+use Rattle.std.proofs.lemmas.Bool.{cases_eq, cases_lt}
+use Rattle.std.specs.List.{flat_map}
+use Rattle.cdf_model.specs.Limits.{image_limit}
+use Rattle.cdf_format.specs.Sound.{IsSound}
+use Rattle.cdf_format.specs.Chains.{is_in}
+use Rattle.cdf_format.specs.Fields.{size_at, type_at, eof, r_num_dims}
+use Rattle.cdf_format.specs.NotRead.{read_types, unread_type}
+use Rattle.cdf_format.specs.RecordTypes.{cdr_type, gdr_type, uir_type, is_record_type, fixed_size}
+use Rattle.cdf_format.specs.Rules.{Hold}
+use Rattle.cdf_format.specs.Shape.{Shape, HasShape}
+use Rattle.cdf_format.specs.Tiles.{In}
+use Rattle.cdf_format.proofs.BytesLemmas.{Same-part, type_kept}
+use Rattle.cdf_format.proofs.ChainsLemmas.{is_a-type}
+use Rattle.cdf_format.proofs.TilesLemmas.{tile_lies}
+use Rattle.cdf_edits.proofs.Rules.FirstRules.{FirstStay}
+use Rattle.cdf_format.proofs.Members.{either, true-is_in, false-is_in}
+use Rattle.cdf_format.proofs.RowLemmas.{Hold-member, Hold-members}
+use Rattle.cdf_format.proofs.TilesLemmas.{tile_lies}
+use Rattle.cdf_edits.specs.Edits.Marks.{Mark, keeps_file}
+use Rattle.cdf_edits.specs.Edits.Edit.{Edit}
+use Rattle.cdf_edits.proofs.Edits.RecordFrame.{cdr_kept, cdr_long, gdr_start, gdr_part, gdr_dimensions, dimensions_same, gdr_sizes}
+use Rattle.cdf_edits.proofs.Edits.StepEdits.{gdr_typed, gdr_long}
+use Rattle.cdf_edits.proofs.Edits.Composing.{head_size, head_type}
+
+module _ {b now : List ℕ} {s : Shape} {new : List ℕ} {marks : List Mark} {reborn : List ℕ} (sound : IsSound b s) (e : Edit b now s.records new marks reborn) (clear : keeps_file marks ≡ true) (typed : (m : ℕ) → In m reborn → (is_record_type (type_at now m) ≡ true) × (fixed_size (type_at now m) ≤ size_at now m)) where
+  h : HasShape b s
+  h = sound.has_shape
+
+  pub gdr_still : type_at now s.gdr ≡ gdr_type
+  gdr_still = head_type b now s.gdr (gdr_part sound e clear 0 12 (gdr_start sound e clear) (let l = gdr_long b s h in omega arith)) ∙ gdr_typed b s h
+
+  pub cdr_still : type_at now 8 ≡ cdr_type
+  cdr_still = let k = cdr_kept sound e clear in type_kept b now 8 k.same k.long ∙ is_a-type b s.records cdr_type 8 h.cdr_stands
+
+  of_type : (P : ℕ → Type 0) (m type : ℕ) → type_at now m ≡ type → P type → P (type_at now m)
+  of_type P m type is p = subst P (sym is) p
+
+  pub typed_now : (m : ℕ) → In m new → is_record_type (type_at now m) ≡ true
+  typed_now m i = elim (e.kind m i) [
+    | inl j ↦ of_type (λ t. is_record_type t ≡ true) m (type_at b m) j.1 (h.typed m j.0)
+    | inr j ↦ elim j [ inl u ↦ of_type (λ t. is_record_type t ≡ true) m uir_type u.1 refl | inr r ↦ (typed m r).0 ]
+  ]
+
+  unused_fixed : (m : ℕ) → In m new → fixed_size uir_type ≤ size_at now m
+  unused_fixed m i = (tile_lies now 8 (length now) new m e.tiled_now i).long
+
+  pub fixed_now : (m : ℕ) → In m new → fixed_size (type_at now m) ≤ size_at now m
+  fixed_now m i = elim (either (is_in m reborn)) [
+    | inl x ↦ (typed m (true-is_in m reborn x)).1
+    | inr x ↦
+        let out = false-is_in m reborn x in
+        elim (e.kind m i) [
+          | inl j ↦ elim (cases_eq (type_at b m) uir_type) [
+            | inl u ↦ of_type (λ t. fixed_size t ≤ size_at now m) m uir_type (j.1 ∙ u) (unused_fixed m i)
+            | inr used ↦ of_type (λ t. fixed_size t ≤ size_at now m) m (type_at b m) j.1 (subst (λ (n : ℕ). fixed_size (type_at b m) ≤ n) (sym (head_size b now m (e.head m j.0 used out))) (h.fixed m j.0))
+          ]
+          | inr j ↦ elim j [ inl u ↦ of_type (λ t. fixed_size t ≤ size_at now m) m uir_type u.1 (unused_fixed m i) | inr r ↦ (typed m r).1 ]
+        ]
+  ]
+
+  pub gdr_room : 84 + 4 * r_num_dims now s.gdr ≤ size_at now s.gdr
+  gdr_room =
+      let size = head_size b now s.gdr (gdr_part sound e clear 0 12 (gdr_start sound e clear) (let l = gdr_long b s h in omega arith)) in
+      let dims = dimensions_same sound e clear in
+      subst (λ (x : ℕ). 84 + 4 * r_num_dims now s.gdr ≤ x) (sym size) (subst (λ (x : ℕ). 84 + 4 * x ≤ size_at b s.gdr) (sym dims) sound.gdr_fits)
+
+  pub read_now : Hold (flat_map (unread_type b) s.records) → ((m : ℕ) → In m reborn → is_in (type_at now m) read_types ≡ true) → Hold (flat_map (unread_type now) new)
+  read_now rules own = Hold-members (unread_type now) new (λ m i. (
+    elim (e.kind m i) [
+      | inl j ↦ of_type (λ t. is_in t read_types ≡ true) m (type_at b m) j.1 (Hold-member (unread_type b) s.records m rules j.0).0
+      | inr j ↦ elim j [ inl u ↦ of_type (λ t. is_in t read_types ≡ true) m uir_type u.1 refl | inr r ↦ own m r ]
+    ],
+    tt,
+  ))
+
+  pub first_stay : eof now s.gdr ≡ length now → length now ≤ image_limit → FirstStay b now s.gdr
+  first_stay eof_is short =
+      let cdr = cdr_kept sound e clear in
+      let long = cdr_long sound e clear in
+      let start = gdr_part sound e clear 0 12 (gdr_start sound e clear) (let l = gdr_long b s h in omega arith) in
+      record {
+        start = record { each = λ i from upto. elim (cases_lt i 8) [ inl first ↦ e.front.each i from first | inr later ↦ cdr.same.each i later (omega arith) ] };
+        head = Same-part b now (s.gdr + 0) (s.gdr + 12) s.gdr (s.gdr + 12) start (omega arith) (omega arith);
+        dimensions = gdr_dimensions sound e clear;
+        sizes = gdr_sizes sound e clear;
+        eof_is = eof_is;
+        longer = e.longer;
+        short = short;
+      }

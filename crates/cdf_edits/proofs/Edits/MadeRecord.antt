@@ -1,0 +1,297 @@
+-- A record is taken and written anew, and then it is linked and counted: what every command has that makes a record.
+use Rattle.std.proofs.Common.{◌≡◌, ◌≢◌, ◌⊎◌, ℕ, ◌+◌, ◌-◌, ◌<◌, ◌≤◌, List, [], ◌∷◌, ◌++◌, length, map, true, false, refl, sym, ap₂, subst, ◌∙◌, arith, inl, inr}
+use Rattle.std.specs.Prelude.{◌&&◌}
+use Rattle.cdf_edits.specs.Space.Acts.{Took, sized}
+use Rattle.cdf_format.specs.Sound.{IsSound}
+use Rattle.cdf_edits.specs.Commands.Allowances.{Allowances, is_taken, AllKeep}
+use Rattle.cdf_format.specs.Bytes.{Same}
+use Rattle.cdf_edits.specs.Frame.Changed.{touch, Changed}
+use Rattle.cdf_format.specs.Chains.{is_in, IsChain}
+use Rattle.cdf_format.specs.Content.{content}
+use Rattle.cdf_format.specs.Fields.{number, size_at, type_at, eof}
+use Rattle.cdf_format.specs.Owners.{Unused, owned_by, unused_records}
+use Rattle.cdf_edits.specs.Space.Placement.{unused, place_for, taken_from, eof_after, with_space, back_links}
+use Rattle.cdf_format.specs.Records.{Field, record_size, gdr_eof, gdr_uir_head, uir_next_uir, uir_prev_uir}
+use Rattle.cdf_format.specs.RecordTypes.{gdr_type, uir_type, is_record_type, fixed_size}
+use Rattle.cdf_format.specs.Shape.{Shape, HasShape, shape}
+use Rattle.cdf_format.specs.Tiles.{In}
+use Rattle.cdf_format.proofs.BytesLemmas.{word_kept}
+use Rattle.cdf_format.proofs.ChainsLemmas.{is_a-in, is_a-type, linkable-in, linkable-type, linkable-long}
+use Rattle.cdf_edits.proofs.Space.RecordFilled.{filled_stays_sound}
+use Rattle.cdf_format.proofs.Members.{either, true-is_in, false-is_in}
+use Rattle.cdf_edits.proofs.Space.TakenLeaves.{KeepsTaken, IsRest, takes_keep, takes_new, takes_longest}
+use Rattle.cdf_format.proofs.Tests.{both}
+use Rattle.cdf_format.proofs.TilesLemmas.{tile_lies}
+use Rattle.cdf_edits.proofs.Space.UsedRecords.{apart}
+use Rattle.cdf_edits.specs.Space.Placing.{Fills}
+use Rattle.cdf_edits.specs.Edits.Marks.{Mark, whole, Avoids, Away, Within, avoided, unmarked, taking_marks, making_marks, is_late}
+use Rattle.cdf_edits.specs.Edits.Edit.{Edit}
+use Rattle.cdf_edits.proofs.Edits.Composing.{head_size, head_type, edit_then}
+use Rattle.cdf_edits.proofs.Edits.RecordFrame.{kept, part_clear, field_avoids, field_clear, chain_stays}
+use Rattle.cdf_edits.proofs.Edits.OwnersKept.{keep_unused, taken_is_taken}
+use Rattle.cdf_edits.proofs.Edits.MarkLemmas.{unmarked-away, away-avoids, away-within, Avoids-append, Within-append, Away-append}
+use Rattle.cdf_edits.proofs.Edits.OwnedOnce.{used_times, fresh_unowned}
+use Rattle.cdf_edits.proofs.Edits.StepEdits.{gdr_in, gdr_typed, gdr_long, takes_edit, fill_edit}
+
+-- ---- the marks of a record that was taken, seen from the unused list
+
+no_gdr : (type : ℕ) → type ≡ uir_type → type ≡ gdr_type → ⊥
+no_gdr type u g = apart uir_type gdr_type refl (sym u ∙ g)
+
+other_one : (place m : ℕ) → m ≢ place → In m (place ∷ []) → ⊥
+other_one place m ne (inl e) = ne e
+other_one place m ne (inr none) = none
+
+pub taking_avoids : (list : List ℕ) (place need m lo hi : ℕ) → m ≢ place → (hi ≤ 12) ⊎ (28 ≤ lo) → Avoids (taking_marks list place need) uir_type m lo hi
+taking_avoids list place need m lo hi ne beside = (
+  (λ same lies. absurd (no_gdr uir_type refl same)),
+  (
+    (λ same lies. absurd (no_gdr uir_type refl same)),
+    (
+      (λ same lies. elim beside [ inl x ↦ inl x | inr x ↦ inr (omega arith) ]),
+      ((λ same lies. elim beside [ inl x ↦ inl (omega arith) | inr x ↦ inr x ]), ((λ same lies. absurd (other_one place m ne lies)), tt)),
+    ),
+  ),
+)
+
+pub taking_within : (list : List ℕ) (place need m : ℕ) → m ≢ place → Within (taking_marks list place need) uir_type m (uir_next_uir ∷ uir_prev_uir ∷ [])
+taking_within list place need m ne =
+    ((λ same lies. absurd (no_gdr uir_type refl same)), ((λ same lies. absurd (no_gdr uir_type refl same)), ((λ same lies. refl), ((λ same lies. refl), ((λ same lies. absurd (other_one place m ne lies)), tt)))))
+
+pub taking_away : (list : List ℕ) (place need m : ℕ) → m ≢ place → (In m list → ⊥) → Away (taking_marks list place need) uir_type m
+taking_away list place need m ne out =
+    ((λ same lies. absurd (no_gdr uir_type refl same)), ((λ same lies. absurd (no_gdr uir_type refl same)), ((λ same lies. out lies), ((λ same lies. out lies), ((λ same lies. absurd (other_one place m ne lies)), tt)))))
+
+whole_away : (place need m : ℕ) → m ≢ place → Away (whole uir_type place need ∷ []) uir_type m
+whole_away place need m ne = ((λ same lies. absurd (other_one place m ne lies)), tt)
+
+-- ---- lists that keep their sizes and links back
+
+sized_same : (b now list : List ℕ) → ((m : ℕ) → In m list → size_at now m ≡ size_at b m) → sized now list ≡ sized b list
+sized_same b now [] same = refl
+sized_same b now (m ∷ more) same = ap₂ (λ (n : ℕ) (rest : List (ℕ × ℕ)). (m, n) ∷ rest) (same m (inl refl)) (sized_same b now more (λ x i. same x (inr i)))
+
+backs_same : (b now list : List ℕ) → ((m : ℕ) → In m list → number now m uir_prev_uir ≡ number b m uir_prev_uir) → map (λ uir. number now uir uir_prev_uir) list ≡ map (λ uir. number b uir uir_prev_uir) list
+backs_same b now [] same = refl
+backs_same b now (m ∷ more) same = ap₂ (λ (n : ℕ) (rest : List ℕ). n ∷ rest) (same m (inl refl)) (backs_same b now more (λ x i. same x (inr i)))
+
+-- where the record was taken, and what is on the list by now
+pub record IsListed (b now : List ℕ) (s : Shape) (list : List ℕ) (need place : ℕ) : Type 0 where
+  pub place_is : place ≡ place_for (unused b s) (length b) need
+  pub length_is : length now ≡ eof_after (unused b s) (length b) need
+  pub list_is : sized now list ≡ taken_from (unused b s) need
+  pub back : map (λ uir. number now uir uir_prev_uir) list ≡ back_links b s.unused 0 list
+
+-- ---- the record is taken and written
+
+module _ {b taken filled : List ℕ} {s : Shape} {records list : List ℕ} {need place type : ℕ} (sound : IsSound b s) (fills : Fills b taken filled s records list need place type) where
+  abbrev grown : Shape
+  grown = with_space s records list
+
+  some : 12 ≤ need
+  some = let l = fills.enough in omega arith
+
+  of_taken : HasShape taken grown
+  of_taken = fills.sound.has_shape
+
+  keeps : KeepsTaken b taken s records place
+  keeps = takes_keep b taken s grown need place sound some fills.takes
+
+  pub place_in : In place records
+  place_in = is_a-in taken records uir_type place fills.takes.stands
+
+  first : Edit b taken s.records records (taking_marks s.unused place need) []
+  first = takes_edit sound some fills.takes
+
+  second : Edit taken filled records records (whole uir_type place need ∷ []) (place ∷ [])
+  second =
+      let size = fills.takes.size_is in
+      subst (λ (n : ℕ). Edit taken filled records records (whole uir_type place n ∷ []) (place ∷ [])) size
+      (fill_edit taken filled grown of_taken place uir_type place_in (is_a-type taken records uir_type place fills.takes.stands) (subst (λ (n : ℕ). Changed taken filled (touch place 8 (n - 8) ∷ [])) (sym size) fills.fill) fills.long)
+
+  -- until it is written
+  abbrev filling_marks : List Mark
+  filling_marks = taking_marks s.unused place need ++ whole uir_type place need ∷ []
+
+  pub filled_edit : Edit b filled s.records records filling_marks (place ∷ [])
+  filled_edit = edit_then first second
+
+  filled_both : IsSound filled grown × (content filled ≡ content taken)
+  filled_both = filled_stays_sound taken filled grown place fills.sound fills.takes.stands fills.takes.unlisted fills.long
+      (subst (λ (n : ℕ). Changed taken filled (touch place 8 (n - 8) ∷ [])) (sym fills.takes.size_is) fills.fill)
+      (subst (λ (t : ℕ). is_record_type t ≡ true) (sym fills.typed) fills.real)
+      (subst (λ (t : ℕ). fixed_size t ≤ size_at taken place) (sym fills.typed) (subst (λ (n : ℕ). fixed_size type ≤ n) (sym fills.takes.size_is) fills.fixed))
+
+  pub filled_sound : IsSound filled grown
+  filled_sound = filled_both.0
+
+  pub filled_content : content filled ≡ content b
+  filled_content = filled_both.1 ∙ fills.content_stays
+
+  pub filled_size : size_at filled place ≡ need
+  filled_size = changed_size ∙ fills.takes.size_is
+    where
+      changed_size : size_at filled place ≡ size_at taken place
+      changed_size = word_kept taken filled (place + 0) (place + 8) (record { each = λ i l u. fills.fill.same i (inside i u) (inl u, tt) }) (place + 0) 8 (omega arith) (omega arith)
+        where
+          inside : (i : ℕ) → i < place + 8 → i < length taken
+          inside i u = let t = tile_lies taken 8 (length taken) records place of_taken.tiled place_in in below i place (size_at taken place) (length taken) u t.long t.high
+            where
+              below : (i p n l : ℕ) → i < p + 8 → 12 ≤ n → p + n ≤ l → i < l
+              below i p n l x y z = omega arith
+
+  -- the record was unused, or none
+  pub fresh : In place s.records → type_at b place ≡ uir_type
+  fresh i = elim (either (is_in place s.unused)) [
+    | inl x ↦ linkable-type b s.records uir_type place (sound.has_shape.unused_chain.linkable place (true-is_in place s.unused x))
+    | inr x ↦ absurd (keeps.unlisted_apart place i (false-is_in place s.unused x) refl)
+  ]
+
+  pub unowned : used_times s place ≡ 0
+  unowned = fresh_unowned sound place fresh
+
+  -- ---- and then come steps that leave it, the list and the end of the image
+
+  module _ {now : List ℕ} {late : List Mark} (later : Edit filled now records records late []) (as_long : length now ≡ length filled) (lately : is_late late type ≡ true) where
+    abbrev marks : List Mark
+    marks = making_marks s.unused place need late
+
+    pub made_edit : Edit b now s.records records marks (place ∷ [])
+    made_edit = edit_then filled_edit later
+
+    clear : ((unmarked late uir_type && avoided late type 0 12) ≡ true) × ((avoided late gdr_type 0 12 && (avoided late gdr_type 36 44 && avoided late gdr_type 64 72)) ≡ true)
+    clear = both (unmarked late uir_type && avoided late type 0 12) (avoided late gdr_type 0 12 && (avoided late gdr_type 36 44 && avoided late gdr_type 64 72)) lately
+
+    clear_own : (unmarked late uir_type ≡ true) × (avoided late type 0 12 ≡ true)
+    clear_own = both (unmarked late uir_type) (avoided late type 0 12) clear.0
+
+    clear_gdr : (avoided late gdr_type 0 12 ≡ true) × ((avoided late gdr_type 36 44 && avoided late gdr_type 64 72) ≡ true)
+    clear_gdr = both (avoided late gdr_type 0 12) (avoided late gdr_type 36 44 && avoided late gdr_type 64 72) clear.1
+
+    clear_end : (avoided late gdr_type 36 44 ≡ true) × (avoided late gdr_type 64 72 ≡ true)
+    clear_end = both (avoided late gdr_type 36 44) (avoided late gdr_type 64 72) clear_gdr.1
+
+    -- a part of the new record
+    pub made_part : (lo hi : ℕ) → avoided late type lo hi ≡ true → hi ≤ need → Same filled now (place + lo) (place + hi)
+    made_part lo hi a fits = part_clear later place type lo hi place_in fills.typed clear_own.1 a (subst (λ (n : ℕ). hi ≤ n) (sym filled_size) fits)
+
+    pub made_field : (f : Field) → avoided late type f.place (f.place + f.width) ≡ true → f.place + f.width ≤ need → number now place f ≡ number filled place f
+    made_field f a fits = word_kept filled now (place + f.place) (place + (f.place + f.width)) (made_part f.place (f.place + f.width) a fits) (place + f.place) f.width (omega arith) (omega arith)
+
+    made_head : Same filled now (place + 0) (place + 12)
+    made_head = made_part 0 12 clear_own.1 some
+
+    pub made_type : type_at now place ≡ type
+    made_type = head_type filled now place made_head ∙ fills.typed
+
+    pub made_size : size_at now place ≡ need
+    made_size = head_size filled now place made_head ∙ filled_size
+
+    pub shorter : length now ≤ length b + need
+    shorter = let l = takes_longest b taken s grown need place sound some fills.takes in let m = fills.long in omega arith
+
+    pub end_now : eof now s.gdr ≡ length now
+    end_now =
+        let g = gdr_long taken grown of_taken in
+        let g' = gdr_long filled grown filled_sound.has_shape in
+        field_clear later s.gdr gdr_type gdr_eof (gdr_in filled grown filled_sound.has_shape) (gdr_typed filled grown filled_sound.has_shape) clear_gdr.0 clear_end.0 (omega arith)
+        ∙ field_clear second s.gdr gdr_type gdr_eof (gdr_in taken grown of_taken) (gdr_typed taken grown of_taken) refl refl (omega arith)
+        ∙ fills.takes.eof_is ∙ sym (as_long ∙ fills.long)
+
+    -- ---- the unused list
+
+    unlisted : (m : ℕ) → In m list → m ≢ place
+    unlisted m i e = false-is_in place list fills.takes.unlisted (subst (λ (x : ℕ). In x list) e i)
+
+    -- a record of it, from when the record was taken
+    listed_field : (f : Field) → f.place + f.width ≤ 28 → (m : ℕ) → In m list → number now m f ≡ number taken m f
+    listed_field f fits m i =
+        let ok = of_taken.unused_chain.linkable m i in
+        let ok' = filled_sound.has_shape.unused_chain.linkable m i in
+        let away = whole_away place need m (unlisted m i) in
+        let away' = unmarked-away late uir_type m clear_own.0 in
+        field_avoids later m uir_type f (linkable-in filled records uir_type m ok') (linkable-type filled records uir_type m ok') (away-avoids late uir_type m 0 12 away') (away-avoids late uir_type m f.place (f.place + f.width) away')
+        (let l = linkable-long filled records uir_type m ok' in omega arith)
+        ∙ field_avoids second m uir_type f (linkable-in taken records uir_type m ok) (linkable-type taken records uir_type m ok) (away-avoids (whole uir_type place need ∷ []) uir_type m 0 12 away) (away-avoids (whole uir_type place need ∷ []) uir_type m f.place (f.place + f.width) away)
+        (let l = linkable-long taken records uir_type m ok in omega arith)
+
+    pub listed : IsListed b now s list need place
+    listed = record {
+      place_is = fills.takes.place_is;
+      length_is = as_long ∙ fills.long ∙ fills.takes.length_is;
+      list_is = sized_same taken now list (listed_field record_size (omega arith)) ∙ fills.takes.list_is;
+      back = backs_same taken now list (listed_field uir_prev_uir (omega arith)) ∙ fills.takes.back;
+    }
+
+    pub list_chain : IsChain now records uir_type (number now s.gdr gdr_uir_head) list
+    list_chain =
+        let g = gdr_long filled grown filled_sound.has_shape in
+        chain_stays later uir_type _ _ list filled_sound.has_shape.unused_chain
+        (field_clear later s.gdr gdr_type gdr_uir_head (gdr_in filled grown filled_sound.has_shape) (gdr_typed filled grown filled_sound.has_shape) clear_gdr.0 clear_end.1 (omega arith))
+        (λ m i. away-avoids late uir_type m 0 20 (unmarked-away late uir_type m clear_own.0))
+
+    -- ---- records that were there, and the rest of one that was split
+
+    pub loose_away : (m : ℕ) → In m s.records → (In m s.unused → ⊥) → Away marks uir_type m
+    loose_away m tile out =
+        let ne = keeps.unlisted_apart m tile out in
+        let taking = taking_marks s.unused place need in
+        let one = whole uir_type place need ∷ [] in
+        Away-append (taking ++ one) late uir_type m (Away-append taking one uir_type m (taking_away s.unused place need m ne out) (whole_away place need m ne)) (unmarked-away late uir_type m clear_own.0)
+
+    rest_here : (m : ℕ) → In m records → IsRest b taken s grown need place m → Same filled now m (m + size_at filled m) × (size_at filled m ≡ size_at taken m)
+    rest_here m i rest =
+        let behind : place + need ≤ m = let l = rest.stands in omega arith in
+        let long = (tile_lies taken 8 (length taken) records m of_taken.tiled i).high in
+        let wide = (tile_lies taken 8 (length taken) records m of_taken.tiled i).long in
+        let head : Same taken filled m (m + 12) = record { each = λ n l u. fills.fill.same n (below n m (size_at taken m) (length taken) u wide long) (inr (let l' = fills.enough in past n m l behind l'), tt) } in
+        let typed : type_at filled m ≡ uir_type = word_kept taken filled m (m + 12) head (m + 8) 4 (omega arith) (omega arith) ∙ rest.typed in
+        ((kept later m uir_type i typed clear_own.0).same, word_kept taken filled m (m + 12) head (m + 0) 8 (omega arith) (omega arith))
+      where
+        below : (n m k l : ℕ) → n < m + 12 → 12 ≤ k → m + k ≤ l → n < l
+        below n m k l p q r = omega arith
+
+        past : (n m : ℕ) → m ≤ n → place + need ≤ m → 28 ≤ need → place + 8 + (need - 8) ≤ n
+        past n m p q r = omega arith
+
+    pub made_new : (m : ℕ) → In m records → In m s.records ⊎ ((m ≡ place) ⊎ IsRest b taken s grown need place m)
+    made_new m i = takes_new b taken s grown need place sound some fills.takes m i
+
+    -- behind its links the rest of a split stays
+    pub rest_stays : (m : ℕ) → In m records → IsRest b taken s grown need place m → Same b now (m + 28) (m + size_at now m)
+    rest_stays m i rest =
+        let here = rest_here m i rest in
+        let wide = (tile_lies taken 8 (length taken) records m of_taken.tiled i).long in
+        let high = (tile_lies taken 8 (length taken) records m of_taken.tiled i).high in
+        let size : size_at now m ≡ size_at taken m = word_kept filled now m (m + size_at filled m) here.0 (m + 0) 8 (omega arith) (let e = here.1 in omega arith) ∙ here.1 in
+        record {
+          each = λ n l u.
+              here.0.each n (omega arith) (let e = here.1 in omega arith)
+              ∙ fills.fill.same n (let e = size in omega arith) (inr (let e = rest.stands in let f = fills.enough in omega arith), tt)
+              ∙ rest.far.each n l (let e = size in let f = rest.size_is in let g = rest.stands in let r = rest.room in omega arith);
+        }
+    -- ---- what the command may change of unused records
+
+module _ {b taken filled now records list : List ℕ} {need place type : ℕ} (sound : IsSound b (shape b)) (fills : Fills b taken filled (shape b) records list need place type) {late : List Mark} (later : Edit filled now records records late []) (as_long : length now ≡ length filled) (lately : is_late late type ≡ true) (records_are : (shape now).records ≡ records) where
+  abbrev before_shape : Shape
+  before_shape = shape b
+
+  pub made_keeps_unused : (may : Allowances) → AllKeep b now may (Took place need ∷ []) (owned_by Unused (unused_records b before_shape))
+  made_keeps_unused may =
+      let e = made_edit sound fills later as_long lately in
+      let marks = making_marks before_shape.unused place need late in
+      let none = (clear_own sound fills later as_long lately).0 in
+      let h = sound.has_shape in
+      keep_unused sound e records_are may (Took place need ∷ [])
+      (λ m i free.
+      let tile = linkable-in b before_shape.records uir_type m (h.unused_chain.linkable m i) in
+      let ne : m ≢ place = λ q. taken_is_taken b place need [] (subst (λ (x : ℕ). 12 ≤ size_at b x) q (tile_lies b 8 (length b) before_shape.records m h.tiled tile).long) (subst (λ (x : ℕ). is_taken b (Took place need ∷ []) x ≡ false) q free) in
+      let away = whole_away place need m ne in
+      let away' = unmarked-away late uir_type m none in
+      let taking = taking_marks before_shape.unused place need in
+      let links : List Field = uir_next_uir ∷ uir_prev_uir ∷ [] in
+      let one = whole uir_type place need ∷ [] in (
+        Avoids-append (taking ++ one) late uir_type m 0 12 (Avoids-append taking one uir_type m 0 12 (taking_avoids before_shape.unused place need m 0 12 ne (inl (omega arith))) (away-avoids one uir_type m 0 12 away)) (away-avoids late uir_type m 0 12 away'),
+        Within-append (taking ++ one) late uir_type m links (Within-append taking one uir_type m links (taking_within before_shape.unused place need m ne) (away-within one uir_type m links away)) (away-within late uir_type m links away'),
+      ))
+      (λ m tile out. loose_away sound fills later as_long lately m tile out)

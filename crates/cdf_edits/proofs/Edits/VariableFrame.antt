@@ -1,0 +1,282 @@
+-- Variables whose records an edit leaves stay, and keep their rules, whatever records an image has beside.
+use Rattle.std.proofs.Common.{◌≡◌, ◌⊎◌, ℕ, ◌≤◌, List, [], ◌∷◌, ◌++◌, Bool, true, refl, sym, ap, subst, ◌∙◌, arith, inl, inr}
+use Rattle.std.specs.List.{flat_map}
+use Rattle.std.specs.Prelude.{◌==◌, ◌&&◌, if◌then◌else◌}
+use Rattle.cdf_format.specs.Sound.{NodeFits, VariableFits, IsSound}
+use Rattle.cdf_edits.specs.Frame.Leaves.{VariableStays}
+use Rattle.cdf_format.specs.Chains.{is_a, is_in, is_linkable}
+use Rattle.cdf_format.specs.Fields.{number, name_in, size_at, type_at}
+use Rattle.cdf_format.specs.GoodImage.{variables_shape_rows, indexes_shape_rows}
+use Rattle.cdf_format.specs.Index.{Leaf, nodes_of, leaves_of}
+use Rattle.cdf_format.specs.IndexRules.{is_block, index_rows}
+use Rattle.cdf_format.specs.Owners.{variable_records}
+use Rattle.cdf_format.specs.Records.{vdr_num, vdr_name}
+use Rattle.cdf_format.specs.RecordTypes.{r_vdr_type, z_vdr_type, vxr_type, vvr_type, cvvr_type, cpr_type, fixed_size}
+use Rattle.cdf_format.specs.Rules.{Hold}
+use Rattle.cdf_format.specs.Shape.{VariableShape, Shape, vdrs, variables, is_compressed, Each, HasVariable, HasShape}
+use Rattle.cdf_format.specs.Tiles.{In}
+use Rattle.cdf_format.specs.VariableRules.{cpr_link, variable_rows}
+use Rattle.cdf_format.specs.Sound.{LeafFits}
+use Rattle.cdf_edits.proofs.Frame.OwnerAlone.{Each-in}
+use Rattle.cdf_format.proofs.ChainsLemmas.{is_a-in, is_a-type, linkable-in, linkable-type}
+use Rattle.cdf_format.proofs.GoodImageLemmas.{vdrs_append}
+use Rattle.cdf_format.proofs.IndexLemmas.{nodes_stand}
+use Rattle.cdf_edits.proofs.Rules.OfIndexes.{index_rules_kept}
+use Rattle.cdf_edits.proofs.Frame.Meaning.{FileSame, Kept, KeptButLink, but_link, late_number, late_name, compressed_same, cpr_link_same, end_kept}
+use Rattle.cdf_format.proofs.Members.{either, In-append, In-append_left, In-append_right}
+use Rattle.cdf_edits.proofs.Frame.OwnersApart.{all_variable_records, vdrs_stand}
+use Rattle.cdf_edits.proofs.Frame.LinksStay.{SameHeads}
+use Rattle.cdf_format.proofs.Tests.{both}
+use Rattle.cdf_edits.proofs.Space.UsedRecords.{apart}
+use Rattle.cdf_format.proofs.RowLemmas.{Hold-append, Hold-split}
+use Rattle.cdf_edits.proofs.Frame.SoundStays.{nodes_fit_kept, leaves_fit_kept, cprs_kept}
+use Rattle.cdf_edits.proofs.Frame.FileSound.{variables_stand}
+use Rattle.cdf_edits.proofs.Rules.OfVariables.{variable_rows_same}
+use Rattle.cdf_edits.specs.Edits.Marks.{Mark, avoided, ended, all_unmarked, variable_types, index_types, keeps_index_records}
+use Rattle.cdf_edits.specs.Edits.Edit.{Edit}
+use Rattle.cdf_edits.proofs.Edits.RecordFrame.{VariableLives, index_records, kept_away, kept_but_link, own_heads, node_own, block_own, variable_stays}
+use Rattle.cdf_edits.proofs.Edits.InRecords.{places_of, variable_rows_both, index_rows_both, leaves_fit_both, cprs_both}
+use Rattle.cdf_edits.proofs.Edits.MarkLemmas.{or_cases, avoided-avoids, ended-avoids, all_unmarked-away}
+use Rattle.cdf_edits.proofs.Edits.StepEdits.{fixed_long}
+
+-- ---- the types of the records of variables
+
+is_typed : (b types : List ℕ) (m type : ℕ) → type_at b m ≡ type → is_in type types ≡ true → is_in (type_at b m) types ≡ true
+is_typed b types m type e i = ap (λ (t : ℕ). is_in t types) e ∙ i
+
+blocks_typed : (b records : List ℕ) (vdr : ℕ) (leaves : List Leaf) → Each (LeafFits b records vdr) leaves → (m : ℕ) → In m (places_of leaves) → is_block b records m ≡ true
+blocks_typed b records vdr [] f m i = absurd i
+blocks_typed b records vdr (leaf ∷ more) f m (inl e) = subst (λ (x : ℕ). is_block b records x ≡ true) (sym e) f.0.0
+blocks_typed b records vdr (leaf ∷ more) f m (inr i) = blocks_typed b records vdr more f.1 m i
+
+vdr_of_type : (b : List ℕ) (s : Shape) → IsSound b s → (m : ℕ) → In m (vdrs (variables s)) → (type_at b m ≡ r_vdr_type) ⊎ (type_at b m ≡ z_vdr_type)
+vdr_of_type b s sound m i = elim (In-append m (vdrs s.r_variables) (vdrs s.z_variables) (subst (λ (x : List ℕ). In m x) (vdrs_append s.r_variables s.z_variables) i)) [
+  | inl j ↦ inl (linkable-type b s.records r_vdr_type m (sound.has_shape.r_chain.linkable m j))
+  | inr j ↦ inr (linkable-type b s.records z_vdr_type m (sound.has_shape.z_chain.linkable m j))
+]
+
+-- nodes, blocks and parameters
+pub index_typed : (b : List ℕ) (s : Shape) (v : VariableShape) → HasVariable b s.records v → VariableFits b s.records v → (m : ℕ) → In m (index_records v) → is_in (type_at b m) index_types ≡ true
+index_typed b s v has fits m k = elim (In-append m (nodes_of v.index ++ places_of (leaves_of v.index)) v.cpr k) [
+  | inr l ↦ is_typed b index_types m cpr_type (is_a-type b s.records cpr_type m (Each-in (λ x. is_a b s.records cpr_type x ≡ true) v.cpr fits.3 m l)) refl
+  | inl l ↦ elim (In-append m (nodes_of v.index) (places_of (leaves_of v.index)) l) [
+    | inl n ↦ is_typed b index_types m vxr_type (linkable-type b s.records vxr_type m (nodes_stand b s.records 8 v.index has.indexed.has_nodes m n)) refl
+    | inr n ↦ elim (or_cases (is_a b s.records vvr_type m) (is_a b s.records cvvr_type m) (blocks_typed b s.records v.vdr (leaves_of v.index) fits.2 m n)) [
+      | inl p ↦ is_typed b index_types m vvr_type (is_a-type b s.records vvr_type m p) refl
+      | inr p ↦ is_typed b index_types m cvvr_type (is_a-type b s.records cvvr_type m p) refl
+    ]
+  ]
+]
+
+is_vdr : (b : List ℕ) (m : ℕ) → (type_at b m ≡ r_vdr_type) ⊎ (type_at b m ≡ z_vdr_type) → is_in (type_at b m) variable_types ≡ true
+is_vdr b m (inl r) = is_typed b variable_types m r_vdr_type r refl
+is_vdr b m (inr z) = is_typed b variable_types m z_vdr_type z refl
+
+index_type_more : (type : ℕ) → is_in type index_types ≡ true → is_in type variable_types ≡ true
+index_type_more type i = elim (either (type == r_vdr_type)) [
+  | inl x ↦ rw x refl
+  | inr x ↦ elim (either (type == z_vdr_type)) [ inl y ↦ rw (x, y) refl | inr y ↦ rw (x, y) i ]
+]
+
+pub variable_typed : (b : List ℕ) (s : Shape) → IsSound b s → (m : ℕ) → In m (all_variable_records s) → is_in (type_at b m) variable_types ≡ true
+variable_typed b s sound = each (variables s) (vdr_of_type b s sound) sound.has_shape.have_variables sound.variables_fit
+  where
+    each : (vs : List VariableShape) → ((m : ℕ) → In m (vdrs vs) → (type_at b m ≡ r_vdr_type) ⊎ (type_at b m ≡ z_vdr_type)) → Each (HasVariable b s.records) vs → Each (VariableFits b s.records) vs → (m : ℕ) → In m (flat_map variable_records vs) → is_in (type_at b m) variable_types ≡ true
+    each [] vdr has fits m i = absurd i
+    each (v ∷ more) vdr has fits m i = elim (In-append m (variable_records v) (flat_map variable_records more) i) [
+      | inr j ↦ each more (λ x k. vdr x (inr k)) has.1 fits.1 m j
+      | inl j ↦ elim j [ inl e ↦ is_vdr b m (vdr m (inl e)) | inr k ↦ index_type_more (type_at b m) (index_typed b s v has.0 fits.0 m k) ]
+    ]
+
+pub variables_in : (b : List ℕ) (s : Shape) → IsSound b s → (m : ℕ) → In m (all_variable_records s) → In m s.records
+variables_in b s sound = variables_stand b s.records (variables s) (vdrs_stand b s sound) sound.has_shape.have_variables sound.variables_fit
+
+-- ---- variables with all their records
+
+module _ {b now : List ℕ} {s : Shape} {new : List ℕ} {marks : List Mark} {reborn : List ℕ} (sound : IsSound b s) (e : Edit b now s.records new marks reborn) where
+  h : HasShape b s
+  h = sound.has_shape
+
+  -- no mark is of a type of theirs
+  pub all_variables_kept : all_unmarked marks variable_types ≡ true → (m : ℕ) → In m (all_variable_records s) → Kept b now m
+  all_variables_kept clear m i = kept_away e m (type_at b m) (variables_in b s sound m i) refl (all_unmarked-away marks variable_types (type_at b m) m clear (variable_typed b s sound m i))
+
+  live_from : (vs : List VariableShape) → ((m : ℕ) → In m (flat_map variable_records vs) → Kept b now m) → Each (VariableLives b now) vs
+  live_from [] k = tt
+  live_from (v ∷ more) k = (
+    record { vdr = but_link b now v.vdr (k v.vdr (In-append_left v.vdr (variable_records v) (flat_map variable_records more) (inl refl))); behind = λ m i. k m (In-append_left m (variable_records v) (flat_map variable_records more) (inr i)) },
+    live_from more (λ m i. k m (In-append_right m (variable_records v) (flat_map variable_records more) i)),
+  )
+
+  pub kept_live : ((m : ℕ) → In m (all_variable_records s) → Kept b now m) → Each (VariableLives b now) (variables s)
+  kept_live k = live_from (variables s) k
+
+  -- no mark but in the links from one to the next
+  pub clear_live : keeps_index_records marks ≡ true → Each (VariableLives b now) (variables s)
+  clear_live clear = each (variables s) (λ m i. i) vdr h.have_variables sound.variables_fit
+    where
+      parts : (all_unmarked marks index_types ≡ true) × (((avoided marks r_vdr_type 0 12 && ended marks r_vdr_type 20) && (avoided marks z_vdr_type 0 12 && ended marks z_vdr_type 20)) ≡ true)
+      parts = both (all_unmarked marks index_types) ((avoided marks r_vdr_type 0 12 && ended marks r_vdr_type 20) && (avoided marks z_vdr_type 0 12 && ended marks z_vdr_type 20)) clear
+
+      of_type : (type m : ℕ) → (avoided marks type 0 12 && ended marks type 20) ≡ true → is_linkable b s.records type m ≡ true → KeptButLink b now m
+      of_type type m c ok =
+          let p = both (avoided marks type 0 12) (ended marks type 20) c in
+          kept_but_link e m type (linkable-in b s.records type m ok) (linkable-type b s.records type m ok) (avoided-avoids marks type m 0 12 p.0) (ended-avoids marks type m 20 (size_at b m) p.1)
+
+      vdr : (m : ℕ) → In m (vdrs (variables s)) → KeptButLink b now m
+      vdr m i =
+          let q = both (avoided marks r_vdr_type 0 12 && ended marks r_vdr_type 20) (avoided marks z_vdr_type 0 12 && ended marks z_vdr_type 20) parts.1 in
+          elim (In-append m (vdrs s.r_variables) (vdrs s.z_variables) (subst (λ (x : List ℕ). In m x) (vdrs_append s.r_variables s.z_variables) i)) [
+            | inl j ↦ of_type r_vdr_type m q.0 (h.r_chain.linkable m j)
+            | inr j ↦ of_type z_vdr_type m q.1 (h.z_chain.linkable m j)
+          ]
+
+      each : (vs : List VariableShape) → ((m : ℕ) → In m (flat_map variable_records vs) → In m (all_variable_records s)) → ((m : ℕ) → In m (vdrs vs) → KeptButLink b now m) → Each (HasVariable b s.records) vs → Each (VariableFits b s.records) vs → Each (VariableLives b now) vs
+      each [] sub k has fits = tt
+      each (v ∷ more) sub k has fits = (
+        record {
+          vdr = k v.vdr (inl refl);
+          behind = λ m i. kept_away e m (type_at b m) (variables_in b s sound m (sub m (In-append_left m (variable_records v) (flat_map variable_records more) (inr i)))) refl (all_unmarked-away marks index_types (type_at b m) m parts.0 (index_typed b s v has.0 fits.0 m i));
+        },
+        each more (λ m i. sub m (In-append_right m (variable_records v) (flat_map variable_records more) i)) (λ m i. k m (inr i)) has.1 fits.1,
+      )
+
+  module _ (file : FileSame b now) (lives : Each (VariableLives b now) (variables s)) where
+    vdr_long : (m : ℕ) → In m (vdrs (variables s)) → 340 ≤ size_at b m
+    vdr_long m i = elim (In-append m (vdrs s.r_variables) (vdrs s.z_variables) (subst (λ (x : List ℕ). In m x) (vdrs_append s.r_variables s.z_variables) i)) [
+      | inl j ↦ let ok = h.r_chain.linkable m j in fixed_long b s h r_vdr_type m (linkable-in b s.records r_vdr_type m ok) (linkable-type b s.records r_vdr_type m ok)
+      | inr j ↦ let ok = h.z_chain.linkable m j in let l = fixed_long b s h z_vdr_type m (linkable-in b s.records z_vdr_type m ok) (linkable-type b s.records z_vdr_type m ok) in omega arith
+    ]
+
+    vdr_lives : (vs : List VariableShape) → Each (VariableLives b now) vs → (m : ℕ) → In m (vdrs vs) → KeptButLink b now m
+    vdr_lives [] l m i = absurd i
+    vdr_lives (v ∷ more) l m (inl q) = subst (KeptButLink b now) (sym q) l.0.vdr
+    vdr_lives (v ∷ more) l m (inr i) = vdr_lives more l.1 m i
+
+    pub vdr_names_kept : (m : ℕ) → In m (vdrs (variables s)) → name_in now m vdr_name ≡ name_in b m vdr_name
+    vdr_names_kept m i = late_name b now m (vdr_lives (variables s) lives m i) vdr_name (omega arith) (let l = vdr_long m i in omega arith) file.longer
+
+    pub nums_kept : (m : ℕ) → In m (vdrs (variables s)) → number now m vdr_num ≡ number b m vdr_num
+    nums_kept m i = late_number b now m (vdr_lives (variables s) lives m i) vdr_num (omega arith) (let l = vdr_long m i in omega arith)
+
+    module _ (v : VariableShape) (has : HasVariable b s.records v) (fits : VariableFits b s.records v) (live : VariableLives b now v) (sub : (m : ℕ) → In m (variable_records v) → In m (all_variable_records s)) (kind : (type_at b v.vdr ≡ r_vdr_type) ⊎ (type_at b v.vdr ≡ z_vdr_type)) where
+      stand : (m : ℕ) → In m (variable_records v) → In m s.records
+      stand m i = variables_in b s sound m (sub m i)
+
+      fixed_own : (m : ℕ) → In m (variable_records v) → fixed_size (type_at b m) ≤ size_at b m
+      fixed_own m i = h.fixed m (stand m i)
+
+      cpr_own : is_compressed b v.vdr ≡ true → In (cpr_link b v.vdr) (variable_records v)
+      cpr_own c =
+          let there : v.cpr ≡ cpr_link b v.vdr ∷ [] = sym has.packed_by ∙ ap (λ (p : Bool). if p then cpr_link b v.vdr ∷ [] else []) c in
+          inr (In-append_right (cpr_link b v.vdr) (nodes_of v.index ++ places_of (leaves_of v.index)) v.cpr (subst (λ (x : List ℕ). In (cpr_link b v.vdr) x) (sym there) (inl refl)))
+
+      cpr_own_now : is_compressed now v.vdr ≡ true → In (cpr_link now v.vdr) (variable_records v)
+      cpr_own_now c = subst (λ (x : ℕ). In x (variable_records v)) (sym (cpr_link_same b now file v.vdr live.vdr fits.0)) (cpr_own (sym (compressed_same b now file v.vdr live.vdr fits.0) ∙ c))
+
+      -- the VDR itself is no CPR
+      cpr_kept : (m : ℕ) → is_a b (variable_records v) cpr_type m ≡ true → Kept b now m
+      cpr_kept m p = elim (is_a-in b (variable_records v) cpr_type m p) [
+        | inl q ↦ absurd (vdr_no_cpr (sym (ap (type_at b) q) ∙ is_a-type b (variable_records v) cpr_type m p))
+        | inr j ↦ live.behind m j
+      ]
+        where
+          vdr_no_cpr : type_at b v.vdr ≡ cpr_type → ⊥
+          vdr_no_cpr t = elim kind [ inl r ↦ apart r_vdr_type cpr_type refl (sym r ∙ t) | inr z ↦ apart z_vdr_type cpr_type refl (sym z ∙ t) ]
+
+      block : (m : ℕ) → In m (places_of (leaves_of v.index)) → In m (variable_records v)
+      block m i = inr (block_own sound e v file has fits stand live m i)
+
+      heads : (records : List ℕ) → ((m : ℕ) → In m (variable_records v) → In m records) → SameHeads b now (variable_records v) records
+      heads = own_heads sound e v file has fits stand live
+
+      one_stays : VariableStays b now new v
+      one_stays = variable_stays sound e v file has fits stand live
+
+      one_rules : variable_rows now new (vdrs (variables s)) v.vdr ≡ variable_rows b s.records (vdrs (variables s)) v.vdr
+      one_rules =
+          let ids = vdrs (variables s) in
+          let own = variable_records v in
+          variable_rows_both now own new ids v.vdr (λ c. (cpr_own_now c, e.sub _ (stand _ (cpr_own_now c))))
+          ∙ variable_rows_same b now own (heads own (λ m i. i)) file fixed_own cpr_kept v.vdr live.vdr fits.0 ids vdr_names_kept
+          ∙ variable_rows_both b s.records own ids v.vdr (λ c. (stand _ (cpr_own c), cpr_own c))
+
+      one_index : Hold (index_rows b s.records v.vdr v.index) → Hold (index_rows now new v.vdr v.index)
+      one_index rules =
+          let own = variable_records v in
+          let node = node_own sound e v file has fits stand live in
+          let there : Hold (index_rows b own v.vdr v.index) = subst Hold (sym (index_rows_both b s.records own v.vdr v.index (λ m i. (stand m (block m i), block m i)))) rules in
+          subst Hold (sym (index_rows_both now own new v.vdr v.index (λ m i. (block m i, e.sub m (stand m (block m i))))))
+          (index_rules_kept b now own (heads own (λ m i. i)) file fixed_own v.vdr live.vdr fits.0 v.index (λ m i. live.behind m (node m i)) (Each-in (NodeFits b) (nodes_of v.index) fits.1)
+          (λ m i. live.behind m (block_own sound e v file has fits stand live m i)) there)
+
+      one_fits : VariableFits now new v
+      one_fits =
+          let own = variable_records v in
+          let same = heads new (λ m i. e.sub m (stand m i)) in
+          let cpr = λ (m : ℕ) (i : In m v.cpr). In-append_right m (nodes_of v.index ++ places_of (leaves_of v.index)) v.cpr i in (
+            end_kept b now file v.vdr live.vdr fits.0,
+            nodes_fit_kept b now own new file same (nodes_of v.index) (λ m i. live.behind m (node_own sound e v file has fits stand live m i)) fits.1,
+            leaves_fit_kept b now own new file same v.vdr live.vdr fits.0 (leaves_of v.index) (λ m i. live.behind m (block_own sound e v file has fits stand live m i)) (leaves_fit_both b s.records own v.vdr (leaves_of v.index) (λ m i. (stand m (block m i), block m i)) fits.2),
+            cprs_kept b now own new file same v.cpr (cprs_both b s.records own v.cpr (λ m i. (stand m (inr (cpr m i)), inr (cpr m i))) fits.3),
+          )
+
+    -- variables of the image
+    record AreOurs (vs : List VariableShape) : Type 0 where
+      has : Each (HasVariable b s.records) vs
+      fits : Each (VariableFits b s.records) vs
+      live : Each (VariableLives b now) vs
+      sub : (m : ℕ) → In m (flat_map variable_records vs) → In m (all_variable_records s)
+      kinds : (m : ℕ) → In m (vdrs vs) → (type_at b m ≡ r_vdr_type) ⊎ (type_at b m ≡ z_vdr_type)
+
+    first_sub : (v : VariableShape) (more : List VariableShape) → AreOurs (v ∷ more) → (m : ℕ) → In m (variable_records v) → In m (all_variable_records s)
+    first_sub v more ours m i = ours.sub m (In-append_left m (variable_records v) (flat_map variable_records more) i)
+
+    rest_ours : (v : VariableShape) (more : List VariableShape) → AreOurs (v ∷ more) → AreOurs more
+    rest_ours v more ours = record { has = ours.has.1; fits = ours.fits.1; live = ours.live.1; sub = λ m i. ours.sub m (In-append_right m (variable_records v) (flat_map variable_records more) i); kinds = λ m i. ours.kinds m (inr i) }
+
+    all_ours : AreOurs (variables s)
+    all_ours = record { has = h.have_variables; fits = sound.variables_fit; live = lives; sub = λ m i. i; kinds = vdr_of_type b s sound }
+
+    fit_from : (vs : List VariableShape) → AreOurs vs → Each (VariableFits now new) vs
+    fit_from [] ours = tt
+    fit_from (v ∷ more) ours = (
+      one_fits v ours.has.0 ours.fits.0 ours.live.0 (first_sub v more ours) (ours.kinds v.vdr (inl refl)),
+      fit_from more (rest_ours v more ours),
+    )
+
+    pub variables_fit : Each (VariableFits now new) (variables s)
+    variables_fit = fit_from (variables s) all_ours
+
+    stay_from : (vs : List VariableShape) → AreOurs vs → Each (VariableStays b now new) vs
+    stay_from [] ours = tt
+    stay_from (v ∷ more) ours = (
+      one_stays v ours.has.0 ours.fits.0 ours.live.0 (first_sub v more ours) (ours.kinds v.vdr (inl refl)),
+      stay_from more (rest_ours v more ours),
+    )
+
+    pub variables_stay : Each (VariableStays b now new) (variables s)
+    variables_stay = stay_from (variables s) all_ours
+
+    rules_from : (vs : List VariableShape) → AreOurs vs
+        → flat_map (variable_rows now new (vdrs (variables s))) (vdrs vs) ≡ flat_map (variable_rows b s.records (vdrs (variables s))) (vdrs vs)
+    rules_from [] ours = refl
+    rules_from (v ∷ more) ours =
+        let here = one_rules v ours.has.0 ours.fits.0 ours.live.0 (first_sub v more ours) (ours.kinds v.vdr (inl refl)) in
+        let rest = rules_from more (rest_ours v more ours) in
+        λ i. here i ++ rest i
+
+    pub variables_rules : Hold (variables_shape_rows b s) → Hold (flat_map (variable_rows now new (vdrs (variables s))) (vdrs (variables s)))
+    variables_rules rules = subst Hold (sym (rules_from (variables s) all_ours)) rules
+
+    index_from : (vs : List VariableShape) → AreOurs vs
+        → Hold (flat_map (λ (v : VariableShape). index_rows b s.records v.vdr v.index) vs) → Hold (flat_map (λ (v : VariableShape). index_rows now new v.vdr v.index) vs)
+    index_from [] ours rules = tt
+    index_from (v ∷ more) ours rules =
+        let parts = Hold-split (index_rows b s.records v.vdr v.index) (flat_map (λ (v : VariableShape). index_rows b s.records v.vdr v.index) more) rules in
+        Hold-append (index_rows now new v.vdr v.index) (flat_map (λ (v : VariableShape). index_rows now new v.vdr v.index) more)
+        (one_index v ours.has.0 ours.fits.0 ours.live.0 (first_sub v more ours) (ours.kinds v.vdr (inl refl)) parts.0)
+        (index_from more (rest_ours v more ours) parts.1)
+
+    pub indexes_rules : Hold (indexes_shape_rows b s) → Hold (flat_map (λ (v : VariableShape). index_rows now new v.vdr v.index) (variables s))
+    indexes_rules rules = index_from (variables s) all_ours rules

@@ -1,0 +1,10 @@
+pub mod ChangedBytes
+pub mod FileSound
+pub mod LinkWritten
+pub mod LinksStay
+pub mod Meaning
+pub mod OwnerAlone
+pub mod OwnersApart
+pub mod SameShape
+pub mod SoundStays
+pub mod TilesGrow

@@ -1,0 +1,5 @@
+pub mod FirstRules
+pub mod OfAttributes
+pub mod OfIndexes
+pub mod OfVariables
+pub mod WithoutLinks

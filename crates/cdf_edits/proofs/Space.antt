@@ -1,0 +1,12 @@
+pub mod ActsLeave
+pub mod ChainHeads
+pub mod EndAppended
+pub mod LaidOut
+pub mod RecordFilled
+pub mod RecordFreed
+pub mod SpaceSound
+pub mod TakenFromList
+pub mod TakenLeaves
+pub mod TakenWays
+pub mod UnusedLists
+pub mod UsedRecords

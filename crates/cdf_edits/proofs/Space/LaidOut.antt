@@ -1,0 +1,75 @@
+-- Fields that are written one behind the other read back.
+use Rattle.std.proofs.Common.{◌≡◌, ℕ, ◌+◌, ◌^◌, ◌<◌, ◌≤◌, List, [], ◌∷◌, ◌++◌, length, drop, Bool, true, sym, ap, ◌∙◌, append_assoc, arith}
+use Rattle.std.proofs.lemmas.Bool.{eqb-true}
+use Rattle.std.proofs.lemmas.List.{drop-drop}
+use Rattle.std.proofs.Math.Seq.{drop-append_seam}
+use Rattle.std.specs.Prelude.{◌==◌, ◌&&◌}
+use Rattle.byteorder.specs.Endian.{big_bytes, big_from}
+use Rattle.byteorder.specs.Numbers.{big_number-reads_back, big_from-take, length-bytes_high_first}
+use Rattle.cdf_format.specs.Bytes.{Same}
+use Rattle.cdf_format.specs.Fields.{word}
+use Rattle.cdf_format.specs.Records.{Field}
+use Rattle.cdf_format.proofs.BytesLemmas.{word_kept}
+use Rattle.cdf_format.proofs.Pieces.{word_of_piece_lem}
+use Rattle.cdf_format.proofs.Tests.{both}
+use Rattle.cdf_fields.proofs.Writes.{drop-put_there}
+use Rattle.cdf_edits.specs.Commands.NewRecords.{Says}
+use Rattle.cdf_edits.specs.Space.Placing.{Placed, laid_out}
+
+-- each stands where the one before it ends
+abbrev pub are_in_order : ℕ → List (Field × ℕ) → Bool
+are_in_order at [] = true
+are_in_order at ((f, n) ∷ more) = (f.place == at) && are_in_order (at + f.width) more
+
+-- each number fits its field
+abbrev pub AllFit : List (Field × ℕ) → Type 0
+AllFit [] = Unit {0}
+AllFit ((f, n) ∷ more) = (n < 256 ^ f.width) × AllFit more
+
+abbrev pub end_of : ℕ → List (Field × ℕ) → ℕ
+end_of at [] = at
+end_of at ((f, n) ∷ more) = end_of (at + f.width) more
+
+word_there : (b : List ℕ) (place width n : ℕ) (rest : List ℕ) → drop place b ≡ big_bytes width n ++ rest → n < 256 ^ width → word b place width ≡ n
+word_there b place width n rest e fits =
+    sym (word_of_piece_lem b place width) ∙ big_from-take 0 width width (drop place b) (omega arith) ∙ ap (λ (l : List ℕ). big_from 0 width l) e ∙ big_number-reads_back width n rest fits
+
+-- they say it, and what stands behind them comes next
+pub says_laid_out : (b : List ℕ) (place at : ℕ) (fields : List (Field × ℕ)) (rest : List ℕ) → drop (place + at) b ≡ laid_out fields ++ rest → are_in_order at fields ≡ true → AllFit fields → Says b place fields × (drop (place + end_of at fields) b ≡ rest)
+says_laid_out b place at [] rest e o fit = (tt, e)
+says_laid_out b place at ((f, n) ∷ more) rest e o fit =
+    let p = both (f.place == at) (are_in_order (at + f.width) more) o in
+    let xs = big_bytes f.width n in
+    let next = laid_out more ++ rest in
+    let split : drop (place + at) b ≡ xs ++ next = e ∙ append_assoc xs (laid_out more) rest in
+    let long : length xs ≡ f.width = length-bytes_high_first f.width n in
+    let after : drop (place + (at + f.width)) b ≡ next = ap (λ (x : ℕ). drop x b) (move place at f.width) ∙ sym (drop-drop f.width (place + at) b) ∙ ap (drop f.width) split ∙ ap (λ (k : ℕ). drop k (xs ++ next)) (sym long) ∙ drop-append_seam xs next in
+    let others = says_laid_out b place (at + f.width) more rest after p.1 fit.1 in
+    ((ap (λ (x : ℕ). word b (place + x) f.width) (eqb-true f.place at p.0) ∙ word_there b (place + at) f.width n next split fit.0, others.0), others.1)
+  where
+    move : (p a w : ℕ) → p + (a + w) ≡ p + a + w
+    move p a w = omega arith
+
+-- in a record that was placed
+pub placed_says : {b filled body : List ℕ} {place : ℕ} (fields : List (Field × ℕ)) (rest : List ℕ) → Placed b filled body place → body ≡ laid_out fields ++ rest → are_in_order 8 fields ≡ true → AllFit fields → Says filled place fields × ((more : List ℕ) × (drop (place + end_of 8 fields) filled ≡ rest ++ more))
+placed_says {filled = filled} {body = body} {place = place} fields rest placed is o fit =
+    let more = drop (place + 8 + length body) placed.taken in
+    let there : drop (place + 8) filled ≡ laid_out fields ++ (rest ++ more) =
+    ap (drop (place + 8)) placed.written ∙ drop-put_there placed.taken body (place + 8) (let i = placed.inside in omega arith) ∙ ap (λ (x : List ℕ). x ++ more) is ∙ append_assoc (laid_out fields) rest more in
+    let r = says_laid_out filled place 8 fields (rest ++ more) there o fit in
+    (r.0, (more, r.1))
+
+-- and after steps that leave them
+pub says_kept : (b now : List ℕ) (place lo hi at : ℕ) (fields : List (Field × ℕ)) → Same b now (place + lo) (place + hi) → lo ≤ at → end_of at fields ≤ hi → are_in_order at fields ≡ true → Says b place fields → Says now place fields
+says_kept b now place lo hi at [] same low high o says = tt
+says_kept b now place lo hi at ((f, n) ∷ more) same low high o says =
+    let p = both (f.place == at) (are_in_order (at + f.width) more) o in
+    let here = eqb-true f.place at p.0 in
+    let upto = grows (at + f.width) more in (
+      word_kept b now (place + lo) (place + hi) same (place + f.place) f.width (omega arith) (omega arith) ∙ says.0,
+      says_kept b now place lo hi (at + f.width) more same (omega arith) high p.1 says.1,
+    )
+  where
+    grows : (at : ℕ) (fields : List (Field × ℕ)) → at ≤ end_of at fields
+    grows at [] = omega arith
+    grows at ((f, n) ∷ more) = let r = grows (at + f.width) more in omega arith

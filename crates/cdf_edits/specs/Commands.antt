@@ -1,0 +1,15 @@
+pub mod Allowances
+pub mod Attributes
+pub mod Cuts
+pub mod Does
+pub mod Entries
+pub mod EntryChains
+pub mod GreatestRecord
+pub mod Keeps
+pub mod Named
+pub mod NewRecords
+pub mod Puts
+pub mod Reindex
+pub mod Room
+pub mod Setup
+pub mod Variables

@@ -1,0 +1,4 @@
+pub mod Blocks
+pub mod Cut
+pub mod Grown
+pub mod Written

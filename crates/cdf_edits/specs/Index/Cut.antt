@@ -1,0 +1,82 @@
+-- What a cut takes and frees, and where the blocks stand that it leaves (CDF Internal Format Description, "Variable Index Record"; own: a block stays in its record where it can). The order in which a cut takes and frees is free.
+use Rattle.std.specs.Prelude.{◌≡◌, ◌⊎◌, ◌≤◌, ℕ, ◌+◌, max, List, [], ◌∷◌, ◌++◌, map, Bool, true, false, not, ◌||◌, ◌==◌}
+use Rattle.std.specs.List.{filter}
+use Rattle.cdf_model.specs.DataSet.{Variable}
+use Rattle.cdf_edits.specs.Commands.Allowances.{FreedStay, no_fields}
+use Rattle.cdf_edits.specs.Commands.Room.{vxr_bytes, range_bytes}
+use Rattle.cdf_edits.specs.Index.Blocks.{Range, range}
+use Rattle.cdf_edits.specs.Index.Grown.{outline}
+use Rattle.cdf_edits.specs.Index.Written.{AnyOf, block_need, is_given_at, stays_put}
+use Rattle.cdf_edits.specs.Space.Acts.{Act, Took, Gave, taken, none_twice, Among}
+use Rattle.cdf_format.specs.Fields.{type_at}
+use Rattle.cdf_format.specs.Index.{Nodes, no_node, node, Entries, no_entry, block, lower, Leaf, leaves_of, nodes_of}
+use Rattle.cdf_format.specs.RecordTypes.{vxr_type}
+use Rattle.cdf_format.specs.Shape.{Each}
+use Rattle.cdf_format.specs.VariableFields.{records_of_leaf}
+
+-- what of a range stays, or what of it gets a new block: one range, or none
+abbrev pub Part : Type 0
+Part = Range → List Range
+
+abbrev pub IsPart : Part → Leaf → Leaf → Type 0
+IsPart part old new = part (range old.first old.last) ≡ range new.first new.last ∷ []
+
+abbrev pub is_whole : Leaf → Leaf → Bool
+is_whole old new = records_of_leaf new == records_of_leaf old
+
+-- ---- records of an index
+
+unfoldable mutual
+  -- its nodes, each with the size of one that is taken
+  pub sized_nodes : Nodes → List (ℕ × ℕ)
+  sized_nodes no_node = []
+  sized_nodes (node place room entries more) = (place, vxr_bytes room) ∷ sized_nodes_below entries ++ sized_nodes more
+
+  pub sized_nodes_below : Entries → List (ℕ × ℕ)
+  sized_nodes_below no_entry = []
+  sized_nodes_below (block first last place packed entries) = sized_nodes_below entries
+  sized_nodes_below (lower first last nodes entries) = sized_nodes nodes ++ sized_nodes_below entries
+
+-- and its blocks, each with the size that it has unless it is packed
+abbrev pub sized_blocks : Variable → Nodes → List (ℕ × ℕ)
+sized_blocks v nodes = map (λ leaf. (leaf.place, max 28 (12 + range_bytes v (range leaf.first leaf.last)))) (leaves_of nodes)
+
+-- a record is taken for a node of it, or for a block
+abbrev pub IsNeeded : Variable → Nodes → ℕ × ℕ → Type 0
+IsNeeded v nodes take = Among take (sized_nodes nodes) ⊎ AnyOf (λ block. (take.0 ≡ block.0) × ((take.1 ≤ block.1) × (v.rle ≡ false → take.1 ≡ block.1))) (sized_blocks v nodes)
+
+-- ---- a cut
+
+-- a block of which no record goes stays where it was, and so does one that is not packed; it is not freed
+abbrev pub StaysWhole : Variable → Part → List Act → Leaf → Leaf → Type 0
+StaysWhole v kept acts old new = IsPart kept old new → (is_whole old new || not v.rle) ≡ true → (new.place ≡ old.place) × (new.packed ≡ old.packed) × (is_given_at acts old.place ≡ false)
+
+-- From one index to another, which is this one but for the places of what is new; new nodes stand at 0 in it, and its others are not freed. Each leaf keeps a part of its records.
+pub record CutsIndex (v : Variable) (kept : Part) (before wanted after : Nodes) (acts : List Act) : Type 0 where
+  pub index_is : outline (map (λ take. take.0) (taken acts)) after ≡ outline (map (λ take. take.0) (taken acts)) wanted
+  pub once : none_twice [] acts ≡ true
+  pub takes : Each (IsNeeded v after) (taken acts)
+  pub stand : Each (λ vxr. is_given_at acts vxr ≡ false) (nodes_of wanted)
+  pub stay : Each (λ old. Each (StaysWhole v kept acts old) (leaves_of after)) (leaves_of before)
+
+-- A block that is made shorter stays in its record where it can; else it is placed anew.
+abbrev pub BlockPlaced : List ℕ → ℕ → List Act → Leaf → Leaf → Bool → Type 0
+BlockPlaced now vdr acts old new true = (new.place ≡ old.place) × (is_given_at acts old.place ≡ false)
+BlockPlaced now vdr acts old new false = Among (new.place, block_need now vdr new) (taken acts)
+
+abbrev pub IsPlaced : List ℕ → List ℕ → Variable → ℕ → Part → List Act → Leaf → Leaf → Type 0
+IsPlaced b now v vdr kept acts old new = IsPart kept old new → BlockPlaced now vdr acts old new (is_whole old new || stays_put b now v.rle vdr old new)
+
+-- ---- what is freed
+
+-- a node may be emptied before it is freed, and so may these blocks be written, which the first of two cuts makes shorter
+abbrev pub is_written_before : List ℕ → (ℕ → Bool) → Act → Bool
+is_written_before b written (Took place need) = false
+is_written_before b written (Gave place size) = (type_at b place == vxr_type) || written place
+
+-- any other record that is freed keeps its bytes
+abbrev pub BlocksFreedStay : List ℕ → List ℕ → (ℕ → Bool) → List Act → Type 0
+BlocksFreedStay b now written acts = FreedStay b now no_fields (filter (λ act. not (is_written_before b written act)) acts)
+
+abbrev pub none_written : ℕ → Bool
+none_written place = false

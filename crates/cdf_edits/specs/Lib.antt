@@ -1,0 +1,8 @@
+pub mod Answers
+pub mod Commands
+pub mod Edits
+pub mod Follows
+pub mod Frame
+pub mod History
+pub mod Index
+pub mod Space

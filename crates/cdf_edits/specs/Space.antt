@@ -1,0 +1,7 @@
+pub mod Acts
+pub mod Adding
+pub mod Chains
+pub mod Giving
+pub mod Placement
+pub mod Placing
+pub mod Taking
