@@ -1,7 +1,7 @@
 -- The chain of the attributes, as an image with a shape has it.
-use Rattle.std.proofs.Common.{◌≡◌, ℕ, zero, suc, ◌+◌, ◌≤◌, List, [], ◌∷◌, length, Option, Some, None, sym, ap, subst, ◌∙◌, arith, inl, inr}
+use Rattle.std.proofs.Common.{◌≡◌, ℕ, zero, suc, ◌+◌, ◌-◌, ◌<◌, ◌≤◌, List, [], ◌∷◌, length, slice_index, Some, None, refl, sym, ap, subst, ◌∙◌, arith, inl, inr}
 use Rattle.std.proofs.lemmas.List.{length-map}
-use Rattle.std.specs.List.{slice_get}
+use Rattle.std.specs.List.{last_or, slice_get}
 use Rattle.cdf_model.specs.Names.{attribute_names}
 use Rattle.cdf_format.specs.Fields.{number, size_at, gdr_offset, LiesIn}
 use Rattle.cdf_format.specs.Records.{gdr_adr_head, adr_name}
@@ -16,8 +16,8 @@ use Rattle.cdf_format.proofs.TilesLemmas.{tile_lies, length_tiles}
 use Rattle.cdf_format.proofs.ChainsLemmas.{linkable-in, linkable-type}
 use Rattle.cdf_format.proofs.ShapeLemmas.{tiles_are, adr_chain_is}
 use Rattle.cdf_format.proofs.NameRules.{attribute_names_are}
-use Rattle.cdf_space.specs.ChainCalls.{HasChain, members_of}
-use Rattle.cdf_space.specs.declared.chain.Chain.TheVariants.{Attrs}
+use Rattle.cdf_edits.specs.Space.Chains.{HasChain, members_of}
+use Rattle.cdf_edits.specs.declared.chain.Chain.TheVariants.{Attrs}
 
 module _ (b : List ℕ) (s : Shape) (h : HasShape b s) where
   pub attribute_members : members_of b Attrs ≡ adrs s
@@ -53,7 +53,17 @@ module _ (b : List ℕ) (s : Shape) (h : HasShape b s) where
   pub names_count : (names : List (List ℕ)) → names ≡ attribute_names (content b) → length names ≡ length (adrs s)
   names_count names e = ap length (e ∙ attribute_names_are b s h) ∙ length-map (adrs s) _
 
-pub got-in : (xs : List ℕ) (n x : ℕ) → slice_get xs n ≡ Some x → In x xs
-got-in [] n x e = absurd cc
-got-in (y ∷ xs) zero x e = inl (sym (ap (λ (o : Option ℕ). elim o [ None ↦ x | Some z ↦ z ]) e))
-got-in (y ∷ xs) (suc n) x e = inr (got-in xs n x e)
+-- the one at a number of a list
+pub index_in : (xs : List ℕ) (n : ℕ) → n < length xs → In (slice_index xs n) xs
+index_in [] n lt = absurd (omega arith)
+index_in (x ∷ xs) zero lt = inl refl
+index_in (x ∷ xs) (suc n) lt = inr (index_in xs n (omega arith))
+
+-- the last one
+pub last_got : (xs : List ℕ) → slice_get xs (length xs - 1) ≡ last_or None xs
+last_got [] = refl
+last_got (x ∷ xs) = let e : length (x ∷ xs) - 1 ≡ length xs = omega arith in ap (slice_get (x ∷ xs)) e ∙ from x xs
+  where
+    from : (x : ℕ) (xs : List ℕ) → slice_get (x ∷ xs) (length xs) ≡ last_or (Some x) xs
+    from x [] = refl
+    from x (y ∷ xs) = from y xs

@@ -23,12 +23,15 @@ use Rattle.cdf_format.specs.AttributeRules.{same_name}
 use Rattle.cdf_format.specs.ChainRules.{adrs_rows, r_vdrs_rows, z_vdrs_rows, differ_rows}
 use Rattle.cdf_format.specs.GoodImage.{attribute_shape_rows, IsGoodImage}
 use Rattle.cdf_format.specs.WellFormed.{Good}
+use Rattle.cdf_format.proofs.Members.{In-append_right}
 use Rattle.cdf_format.proofs.Tests.{both, le_of, eq_of}
 use Rattle.cdf_format.proofs.RowLemmas.{Hold-split}
 use Rattle.cdf_format.proofs.TilesLemmas.{tile_lies}
 use Rattle.cdf_format.proofs.ChainsLemmas.{is_a-in, is_a-type, linkable-type}
 use Rattle.cdf_format.proofs.ShapeLemmas.{content_is}
-use Rattle.cdf_format.proofs.GoodLemmas.{good_by_its_shape, rules_of_good}
+use Rattle.cdf_format.proofs.GoodSound.{good_by_its_shape, rules_of_good}
+use Rattle.cdf_edits.specs.declared.chain.Chain.TheVariants.{Attrs}
+use Rattle.cdf_edits.specs.Space.Chains.{counted_in}
 use Rattle.cdf_records.specs.Heads.{adr_at, gdr_at}
 use Rattle.cdf_records.specs.declared.gdr.Gdr.{Gdr}
 use Rattle.cdf_records.specs.declared.adr.Adr.{Adr}
@@ -51,14 +54,17 @@ scopes_by_rules b (a ∷ more) rules =
 
 -- ---- the walk
 
--- From a place the links lead through the attributes that are left, and the listing so far is that of those before.
-pub record OnTheWay (b : List ℕ) (place num : ℕ) (items : List Item) : Type 0 where
+abbrev pub places_of : List AttributeShape → List ℕ
+places_of as_ = map (λ (a : AttributeShape). a.adr) as_
+
+-- From a place the links lead through the attributes that are left; the listing and the places so far are those of the attributes before.
+pub record OnTheWay (b : List ℕ) (place num : ℕ) (items : List Item) (places : List ℕ) : Type 0 where
   left : List AttributeShape
   count : num + length left ≡ number b (shape b).gdr gdr_num_attr
-  leads : Leads b place (map (λ (a : AttributeShape). a.adr) left) 0
-  stand : (m : ℕ) → In m (map (λ (a : AttributeShape). a.adr) left) → In m (adrs (shape b))
+  leads : Leads b place (places_of left) 0
   scopes : Each (λ a. number b a.adr adr_scope ≤ 4) left
   items_are : items ++ attribute_items num (map (attribute_of b) left) ≡ attribute_items 0 (content b).attributes
+  places_are : places ++ places_of left ≡ adrs (shape b)
 
 module _ (b : List ℕ) (good : Good b) where
   abbrev s : Shape
@@ -95,6 +101,10 @@ module _ (b : List ℕ) (good : Good b) where
       let l = length-map s.attributes (λ (a : AttributeShape). a.adr) in
       omega arith
 
+  -- the count that the chain has
+  pub counted_is : counted_in b Attrs ≡ length (adrs s)
+  counted_is = ap (λ (g : ℕ). number b g gdr_num_attr) h.gdr_is ∙ count_by_rules b s isgood ∙ sym (length-map s.attributes (λ (a : AttributeShape). a.adr))
+
   pub short_image : length b ≤ 1073741840
   short_image =
       let f : length (sealed b) ≤ 1073741840 = le_of (length (sealed b)) 1073741840 (rules_of_good b good).0.1.0 in
@@ -111,79 +121,72 @@ module _ (b : List ℕ) (good : Good b) where
       let read : gdr.num_attr ≡ cast_signed w32 n = ap (λ (x : Gdr). x.num_attr) value ∙ ap (cast_signed w32) (same_number mid place gdr_num_attr same e) in
       counted ∙ ap (λ z. cast_unsigned w32 (cast_signed w32 (cast_unsigned w32 z))) read ∙ ap (λ (m : ℕ). cast_unsigned w32 (cast_signed w32 m)) (of_z-to_z w32 n small) ∙ of_z-to_z w32 n small
 
-  pub on_start : (mid : List ℕ) (place : ℕ) (gdr : Gdr) (items : List Item) → mid ≡ b → place ≡ gdr_offset b → gdr ≡ gdr_at mid place → items ≡ [] → OnTheWay b gdr.adr_head 0 items
-  on_start mid place gdr items same e value none =
+  pub on_start : (mid : List ℕ) (place : ℕ) (gdr : Gdr) (items : List Item) (places : List ℕ) → mid ≡ b → place ≡ gdr_offset b → gdr ≡ gdr_at mid place → items ≡ [] → places ≡ [] → OnTheWay b gdr.adr_head 0 items places
+  on_start mid place gdr items places same e value none nowhere =
       let rows = Hold-split (flat_map (attribute_shape_rows b) s.attributes) (differ_rows 2 (same_name b adr_name) [] (adrs s)) isgood.attributes in
       let head : gdr.adr_head ≡ number b s.gdr gdr_adr_head = ap (λ (x : Gdr). x.adr_head) value ∙ same_number mid place gdr_adr_head same e in
       record {
         left = s.attributes;
         count = let c = count_by_rules b s isgood in omega arith;
         leads = subst (λ (x : ℕ). Leads b x (adrs s) 0) (sym head) h.attribute_chain.leads;
-        stand = λ m i. i;
         scopes = scopes_by_rules b s.attributes rows.0;
         items_are = ap (λ (xs : List Item). xs ++ attribute_items 0 (map (attribute_of b) s.attributes)) none ∙ ap (λ (d : DataSet). attribute_items 0 d.attributes) (sym (content_is b s h));
+        places_are = ap (λ (xs : List ℕ). xs ++ adrs s) nowhere;
       }
 
-  step : (place num : ℕ) (items : List Item) (left : List AttributeShape) → num + length left ≡ number b s.gdr gdr_num_attr → Leads b place (map (λ (a : AttributeShape). a.adr) left) 0
-      → ((m : ℕ) → In m (map (λ (a : AttributeShape). a.adr) left) → In m (adrs s)) → Each (λ a. number b a.adr adr_scope ≤ 4) left
-      → items ++ attribute_items num (map (attribute_of b) left) ≡ attribute_items 0 (content b).attributes → num < number b s.gdr gdr_num_attr
-      → (adr : Adr) (name : List ℕ) (code : ℕ) → adr ≡ adr_at b place → name ≡ name_at b place → code ≡ cast_unsigned w32 (cast_signed w32 (cast_unsigned w32 adr.scope)) → OnTheWay b adr.adr_next (num + 1) (items ++ Attr num name (scope_of code) ∷ [])
-  step place num items [] count leads stand scopes are lt adr name code ea en es = absurd (omega arith)
-  step place num items (a ∷ more) count leads stand scopes are lt adr name code ea en es =
-      let here : place ≡ a.adr = leads.0 in
-      let ok = h.attribute_chain.linkable a.adr (stand a.adr (inl refl)) in
-      let field : name_field (type_at b a.adr) ≡ adr_name = ap name_field (linkable-type b s.records adr_type a.adr ok) in
-      let name_is : name ≡ name_in b a.adr adr_name = en ∙ ap (name_at b) here ∙ ap (name_in b a.adr) field in
-      let adr_is : adr ≡ adr_at b a.adr = ea ∙ ap (adr_at b) here in
-      let n = number b a.adr adr_scope in
-      let back = of_z-to_z w32 n (small n scopes.0) in
-      let scope_is : scope_of code ≡ scope_of n = ap scope_of (es ∙ ap (λ (x : Adr). cast_unsigned w32 (cast_signed w32 (cast_unsigned w32 x.scope))) adr_is ∙ ap (λ (m : ℕ). cast_unsigned w32 (cast_signed w32 m)) back ∙ back) in
-      let next : adr.adr_next ≡ next_of b a.adr = ap (λ (x : Adr). x.adr_next) adr_is in
-      let item : Attr num name (scope_of code) ∷ [] ≡ Attr num (name_in b a.adr adr_name) (scope_of (number b a.adr adr_scope)) ∷ [] = λ i. Attr num (name_is i) (scope_is i) ∷ [] in
-      record {
-        left = more;
-        count = omega arith;
-        leads = subst (λ (x : ℕ). Leads b x (map (λ (a : AttributeShape). a.adr) more) 0) (sym next) leads.1;
-        stand = λ m i. stand m (inr i);
-        scopes = scopes.1;
-        items_are = ap (λ (x : List Item). (items ++ x) ++ attribute_items (num + 1) (map (attribute_of b) more)) item
-            ∙ append_assoc items (Attr num (name_in b a.adr adr_name) (scope_of (number b a.adr adr_scope)) ∷ []) (attribute_items (num + 1) (map (attribute_of b) more)) ∙ are;
-      }
-    where
-      small : (n : ℕ) → n ≤ 4 → n < 2 ^ 32
-      small n le = omega arith
+  module _ (place num count : ℕ) (items : List Item) (places : List ℕ) (way : OnTheWay b place num items places) (counted : count ≡ number b s.gdr gdr_num_attr) where
+    at_adr : (left : List AttributeShape) → num + length left ≡ number b s.gdr gdr_num_attr → Leads b place (places_of left) 0 → places ++ places_of left ≡ adrs s → num < count → In place (adrs s)
+    at_adr [] c leads are lt = absurd (omega arith)
+    at_adr (a ∷ more) c leads are lt = subst (λ (x : ℕ). In x (adrs s)) (sym leads.0) (subst (In a.adr) are (In-append_right a.adr places (a.adr ∷ places_of more) (inl refl)))
 
-  pub on_step : (place num count : ℕ) (items : List Item) → OnTheWay b place num items → count ≡ number b s.gdr gdr_num_attr → num < count
-      → (adr : Adr) (name : List ℕ) (code : ℕ) → adr ≡ adr_at b place → name ≡ name_at b place → code ≡ cast_unsigned w32 (cast_signed w32 (cast_unsigned w32 adr.scope)) → OnTheWay b adr.adr_next (num + 1) (items ++ Attr num name (scope_of code) ∷ [])
-  on_step place num count items way e lt adr name code ea en es = step place num items way.left way.count way.leads way.stand way.scopes way.items_are (omega arith) adr name code ea en es
+    here : num < count → In place (adrs s)
+    here lt = at_adr way.left way.count way.leads way.places_are lt
 
-  room : (place num : ℕ) (left : List AttributeShape) → num + length left ≡ number b s.gdr gdr_num_attr → Leads b place (map (λ (a : AttributeShape). a.adr) left) 0
-      → ((m : ℕ) → In m (map (λ (a : AttributeShape). a.adr) left) → In m (adrs s)) → num < number b s.gdr gdr_num_attr → In place (adrs s)
-  room place num [] count leads stand lt = absurd (omega arith)
-  room place num (a ∷ more) count leads stand lt = subst (λ (x : ℕ). In x (adrs s)) (sym leads.0) (stand a.adr (inl refl))
+    pub adr_read : num < count → place + 324 ≤ length b
+    adr_read lt = adr_inside b s h place (here lt)
 
-  at_adr : (place num count : ℕ) (items : List Item) → OnTheWay b place num items → count ≡ number b s.gdr gdr_num_attr → num < count → In place (adrs s)
-  at_adr place num count items way e lt = room place num way.left way.count way.leads way.stand (omega arith)
+    field_is : num < count → name_field (type_at b place) ≡ adr_name
+    field_is lt = ap name_field (linkable-type b s.records adr_type place (h.attribute_chain.linkable place (here lt)))
 
-  pub adr_read : (place num count : ℕ) (items : List Item) → OnTheWay b place num items → count ≡ number b s.gdr gdr_num_attr → num < count → place + 324 ≤ length b
-  adr_read place num count items way e lt = adr_inside b s h place (at_adr place num count items way e lt)
+    pub name_read : (now : List ℕ) → num < count → now ≡ b → LiesIn now place (name_field (type_at now place))
+    name_read now lt same =
+        let long = adr_read lt in
+        let lies : LiesIn b place adr_name = omega arith in
+        subst (λ (x : List ℕ). LiesIn x place (name_field (type_at x place))) (sym same) (subst (LiesIn b place) (sym (field_is lt)) lies)
 
-  pub name_read : (now : List ℕ) (place num count : ℕ) (items : List Item) → OnTheWay b place num items → count ≡ number b s.gdr gdr_num_attr → num < count → now ≡ b → LiesIn now place (name_field (type_at now place))
-  name_read now place num count items way e lt same =
-      let i = at_adr place num count items way e lt in
-      let ok = h.attribute_chain.linkable place i in
-      let field : name_field (type_at b place) ≡ adr_name = ap name_field (linkable-type b s.records adr_type place ok) in
-      let long = adr_inside b s h place i in
-      let lies : LiesIn b place adr_name = omega arith in
-      subst (λ (x : List ℕ). LiesIn x place (name_field (type_at x place))) (sym same) (subst (LiesIn b place) (sym field) lies)
+    -- an attribute further
+    pub on_step : num < count → (adr : Adr) (name : List ℕ) (code : ℕ) (scope : Scope) → adr ≡ adr_at b place → name ≡ name_at b place → code ≡ cast_unsigned w32 (cast_signed w32 (cast_unsigned w32 adr.scope)) → scope ≡ scope_of code
+        → (items' : List Item) → items' ≡ items ++ Attr num name scope ∷ [] → (places' : List ℕ) → places' ≡ places ++ place ∷ [] → OnTheWay b adr.adr_next (num + 1) items' places'
+    on_step lt adr name code scope ea en es ec items' made places' placed = go way.left way.count way.leads way.scopes way.items_are way.places_are
+      where
+        go : (left : List AttributeShape) → num + length left ≡ number b s.gdr gdr_num_attr → Leads b place (places_of left) 0 → Each (λ a. number b a.adr adr_scope ≤ 4) left
+            → items ++ attribute_items num (map (attribute_of b) left) ≡ attribute_items 0 (content b).attributes → places ++ places_of left ≡ adrs s → OnTheWay b adr.adr_next (num + 1) items' places'
+        go [] c leads scopes items_are places_are = absurd (omega arith)
+        go (a ∷ more) c leads scopes items_are places_are =
+            let at : place ≡ a.adr = leads.0 in
+            let name_is : name ≡ name_in b a.adr adr_name = en ∙ ap (name_in b place) (field_is lt) ∙ ap (λ (x : ℕ). name_in b x adr_name) at in
+            let adr_is : adr ≡ adr_at b a.adr = ea ∙ ap (adr_at b) at in
+            let n = number b a.adr adr_scope in
+            let back = of_z-to_z w32 n (small n scopes.0) in
+            let scope_is : scope ≡ scope_of n = ec ∙ ap scope_of (es ∙ ap (λ (x : Adr). cast_unsigned w32 (cast_signed w32 (cast_unsigned w32 x.scope))) adr_is ∙ ap (λ (m : ℕ). cast_unsigned w32 (cast_signed w32 m)) back ∙ back) in
+            let item : Attr num name scope ∷ [] ≡ Attr num (name_in b a.adr adr_name) (scope_of n) ∷ [] = λ i. Attr num (name_is i) (scope_is i) ∷ [] in
+            record {
+              left = more;
+              count = omega arith;
+              leads = subst (λ (x : ℕ). Leads b x (places_of more) 0) (sym (ap (λ (x : Adr). x.adr_next) adr_is)) leads.1;
+              scopes = scopes.1;
+              items_are = ap (λ (x : List Item). x ++ attribute_items (num + 1) (map (attribute_of b) more)) (made ∙ ap (λ (x : List Item). items ++ x) item)
+                  ∙ append_assoc items (Attr num (name_in b a.adr adr_name) (scope_of n) ∷ []) (attribute_items (num + 1) (map (attribute_of b) more)) ∙ items_are;
+              places_are = ap (λ (x : List ℕ). x ++ places_of more) (placed ∙ ap (λ (x : ℕ). places ++ x ∷ []) at) ∙ append_assoc places (a.adr ∷ []) (places_of more) ∙ places_are;
+            }
+          where
+            small : (n : ℕ) → n ≤ 4 → n < 2 ^ 32
+            small n le = omega arith
 
-  ended : (num : ℕ) (items : List Item) (left : List AttributeShape) → num + length left ≡ num → items ++ attribute_items num (map (attribute_of b) left) ≡ attribute_items 0 (content b).attributes → items ≡ attribute_items 0 (content b).attributes
-  ended num items [] count are = sym (append-nil items) ∙ are
-  ended num items (a ∷ more) count are = absurd (omega arith)
-
-  pub on_end : (place num count : ℕ) (items : List Item) → OnTheWay b place num items → count ≡ number b s.gdr gdr_num_attr → num ≡ count → items ≡ attribute_items 0 (content b).attributes
-  on_end place num count items way e last = ended num items way.left (let c = way.count in omega arith) way.items_are
-
--- an item that was pushed with its scope
-pub pushed : (b : List ℕ) (place num : ℕ) (items made : List Item) (n : ℕ) (name : List ℕ) (scope : Scope) (code : ℕ) → made ≡ items ++ Attr n name scope ∷ [] → scope ≡ scope_of code → OnTheWay b place num (items ++ Attr n name (scope_of code) ∷ []) → OnTheWay b place num made
-pushed b place num items made n name scope code e f way = subst (OnTheWay b place num) (sym (e ∙ ap (λ (x : Scope). items ++ Attr n name x ∷ []) f)) way
+    -- the last one was passed
+    pub on_end : num ≡ count → (items ≡ attribute_items 0 (content b).attributes) × (places ≡ adrs s)
+    on_end last = ended way.left (let c = way.count in omega arith) way.items_are way.places_are
+      where
+        ended : (left : List AttributeShape) → num + length left ≡ num → items ++ attribute_items num (map (attribute_of b) left) ≡ attribute_items 0 (content b).attributes → places ++ places_of left ≡ adrs s → (items ≡ attribute_items 0 (content b).attributes) × (places ≡ adrs s)
+        ended [] c items_are places_are = (sym (append-nil items) ∙ items_are, sym (append-nil places) ∙ places_are)
+        ended (a ∷ more) c items_are places_are = absurd (omega arith)

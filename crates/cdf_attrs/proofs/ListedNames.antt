@@ -16,7 +16,7 @@ use Rattle.cdf_format.specs.Shape.{adrs, shape}
 use Rattle.cdf_format.specs.WellFormed.{Good}
 use Rattle.cdf_format.proofs.RowLemmas.{Hold-split}
 use Rattle.cdf_format.proofs.NameRules.{AreNew, absent-split, differ-turned, names_differ, attribute_names_are}
-use Rattle.cdf_format.proofs.GoodLemmas.{good_by_its_shape}
+use Rattle.cdf_format.proofs.GoodSound.{good_by_its_shape}
 use Rattle.cdf_attrs.specs.Listing.{name_in, names_in}
 use Rattle.cdf_attrs.proofs.AttributeChain.{few_attributes, names_count}
 use Rattle.cdf_attrs.proofs.AttributeWalk.{short_image}

@@ -19,6 +19,9 @@ or_false : (p q : Bool) → (p || q) ≡ false → (p ≡ false) × (q ≡ false
 or_false true q e = absurd cc
 or_false false q e = (refl, e)
 
+pub fine_is_some : (name : List ℕ) → is_bad_name name ≡ false → (length name == 0) ≡ false
+fine_is_some name e = (or_false (length name == 0) (nat_lt name_limit (length name)) (or_false ((length name == 0) || nat_lt name_limit (length name)) (list_any (λ b. b == 0) name) e).0).0
+
 pub fine_is_short : (name : List ℕ) → is_bad_name name ≡ false → length name ≤ 256
 fine_is_short name e =
     let p = or_false ((length name == 0) || nat_lt name_limit (length name)) (list_any (λ b. b == 0) name) e in

@@ -1,7 +1,8 @@
 -- What the calls of a renaming come to.
-use Rattle.std.proofs.Common.{◌≡◌, ℕ, ◌+◌, ◌-◌, ◌<◌, ◌≤◌, List, [], ◌∷◌, ◌++◌, length, map, take, drop, replicate, true, false, Option, Some, None, Result, Ok, Err, sym, ap, ap₂, subst, ◌∙◌, arith}
-use Rattle.std.proofs.lemmas.List.{length-append, length-replicate, length-map, take_at}
-use Rattle.std.specs.Prelude.{OnOk, slice_set}
+use Rattle.std.proofs.Common.{◌≡◌, ℕ, ◌+◌, ◌-◌, ◌<◌, ◌≤◌, List, [], ◌∷◌, ◌++◌, length, map, take, drop, replicate, true, false, Option, Some, None, refl, sym, ap, ap₂, subst, ◌∙◌, arith, inl, inr}
+use Rattle.std.proofs.lemmas.List.{length-append, length-replicate, length-map, map-append, take_at}
+use Rattle.std.proofs.Math.Seq.{get_or-append_seam}
+use Rattle.std.specs.Prelude.{slice_index, slice_set}
 use Rattle.std.specs.List.{slice_get}
 use Rattle.cdf_model.specs.declared.answer.Outcome.TheVariants.{Done, Refused}
 use Rattle.cdf_model.specs.declared.answer.Reason.TheVariants as reasons
@@ -11,26 +12,27 @@ use Rattle.cdf_model.specs.AttributeSteps.{with_attribute}
 use Rattle.cdf_model.specs.DataSet.{DataSet}
 use Rattle.cdf_model.specs.Limits.{image_limit}
 use Rattle.cdf_model.specs.Names.{is_bad_name, attribute_names, attribute_named}
+use Rattle.cdf_model.specs.Step.{ByStep}
 use Rattle.cdf_names.specs.Names.{has_name, number_of, last_to}
 use Rattle.cdf_format.specs.Fields.{LiesIn, with_name}
 use Rattle.cdf_format.specs.Records.{adr_name}
-use Rattle.cdf_format.specs.RecordsFollow.{IsFilled}
+use Rattle.cdf_edits.specs.Commands.NewRecords.{IsFilled}
 use Rattle.cdf_format.specs.Content.{content, attribute_of}
-use Rattle.cdf_format.specs.Locality.{Answers}
+use Rattle.cdf_edits.specs.Answers.{Answers}
 use Rattle.cdf_format.specs.Shape.{AttributeShape, adrs, shape}
+use Rattle.cdf_format.specs.Tiles.{In}
 use Rattle.cdf_format.specs.WellFormed.{Good}
 use Rattle.cdf_format.proofs.BytesLemmas.{length-put}
-use Rattle.cdf_format.proofs.ChangedLemmas.{changed_put}
-use Rattle.cdf_format.proofs.GoodLemmas.{good_is_sound}
+use Rattle.cdf_edits.proofs.Frame.ChangedBytes.{changed_put}
+use Rattle.cdf_format.proofs.GoodSound.{good_is_sound}
 use Rattle.cdf_format.proofs.ShapeLemmas.{content_is}
-use Rattle.cdf_format.proofs.Answering.{refused, gone}
+use Rattle.cdf_edits.proofs.Commands.Answered.{refused, gone}
 use Rattle.cdf_fields.proofs.NamesWritten.{name_reads}
 use Rattle.cdf_fields.proofs.Writes.{drop-put_there}
 use Rattle.cdf_attrs.specs.Renaming.{Renamed}
 use Rattle.cdf_attrs.proofs.NamesChanged.{fine_is_short, fine_has_no_zeros, Cut, cut, got-middle, got-map, none_named, number_within, named_there, some_named, last_moved, renamed_names}
-use Rattle.cdf_attrs.proofs.AttributeChain.{few_attributes, names_count}
-use Rattle.cdf_attrs.proofs.RenamedImage.{content_now}
-use Rattle.cdf_attrs.proofs.RenamedFollows.{rename_missing, rename_bad, rename_taken, rename_goes, rename_follows}
+use Rattle.cdf_attrs.proofs.AttributeChain.{name_lies, few_attributes, names_count}
+use Rattle.cdf_attrs.proofs.Renamed.{same_shape, content_now, rename_missing, rename_bad, rename_taken, rename_goes, rename_follows}
 
 -- ---- the Name
 
@@ -54,27 +56,19 @@ name_written b place to lies fine =
       changed = changed_put b place 68 256 xs long lies;
     }
 
--- the call that writes it
-pub written_renamed : {E : Type 0} (result : Result (Unit {0}) E) (b mid now : List ℕ) (places : List ℕ) (n place : ℕ) (to : List ℕ) → mid ≡ b → slice_get places n ≡ Some place → LiesIn b place adr_name → is_bad_name to ≡ false
-    → OnOk result (now ≡ with_name mid place adr_name to) → OnOk result ((adr : ℕ) → slice_get places n ≡ Some adr → Renamed b now adr to)
-written_renamed (Err e) b mid now places n place to same there lies fine w = tt
-written_renamed (Ok u) b mid now places n place to same there lies fine w =
-    let made : Renamed b now place to = subst (λ (x : List ℕ). Renamed b x place to) (sym (w ∙ ap (λ (x : List ℕ). with_name x place adr_name to) same)) (name_written b place to lies fine) in
-    λ adr found. subst (λ (x : ℕ). Renamed b now x to) (ap (λ (o : Option ℕ). elim o [ None ↦ place | Some z ↦ z ]) (sym there ∙ found)) made
-
 -- ---- the reasons
 
 module _ (b : List ℕ) (limit : ℕ) (names : List (List ℕ)) (from to : List ℕ) (names_are : names ≡ attribute_names (content b)) where
   pub answers_missing : number_of names from ≡ None → Answers limit b (commands.RenameAttr from to) (Refused reasons.NoSuchAttr) b
-  answers_missing none = refused limit b (commands.RenameAttr from to) reasons.NoSuchAttr (rename_missing (content b) from to (none_named (content b) names from names_are none))
+  answers_missing none = refused limit b (commands.RenameAttr from to) reasons.NoSuchAttr (ap ByStep (rename_missing (content b) from to (none_named (content b) names from names_are none)))
 
   pub answers_bad : (n : ℕ) → number_of names from ≡ Some n → is_bad_name to ≡ true → Answers limit b (commands.RenameAttr from to) (Refused reasons.BadName) b
-  answers_bad n found bad = let a = some_named (content b) names from n names_are found in refused limit b (commands.RenameAttr from to) reasons.BadName (rename_bad (content b) from to n a.0 a.1 bad)
+  answers_bad n found bad = let a = some_named (content b) names from n names_are found in refused limit b (commands.RenameAttr from to) reasons.BadName (ap ByStep (rename_bad (content b) from to n a.0 a.1 bad))
 
   pub answers_taken : (n : ℕ) → number_of names from ≡ Some n → is_bad_name to ≡ false → has_name names to ≡ true → Answers limit b (commands.RenameAttr from to) (Refused reasons.NameTaken) b
   answers_taken n found fine taken =
       let a = some_named (content b) names from n names_are found in
-      refused limit b (commands.RenameAttr from to) reasons.NameTaken (rename_taken (content b) from to n a.0 a.1 fine (ap (λ (xs : List (List ℕ)). has_name xs to) (sym names_are) ∙ taken))
+      refused limit b (commands.RenameAttr from to) reasons.NameTaken (ap ByStep (rename_taken (content b) from to n a.0 a.1 fine (ap (λ (xs : List (List ℕ)). has_name xs to) (sym names_are) ∙ taken)))
 
   -- ---- a renaming that is done
 
@@ -91,15 +85,27 @@ module _ (b : List ℕ) (limit : ℕ) (names : List (List ℕ)) (from to : List 
       omega arith
 
   module _ (n : ℕ) (now : List ℕ) (good : Good b) (fits : length b ≤ limit) (short : length b ≤ image_limit) (found : number_of names from ≡ Some n) (fine : is_bad_name to ≡ false) (absent : has_name names to ≡ false)
-      (renamed : (adr : ℕ) → slice_get (adrs (shape b)) n ≡ Some adr → Renamed b now adr to) where
+      (place : ℕ) (placed : place ≡ slice_index (adrs (shape b)) n) (written : now ≡ with_name b place adr_name to) where
     within : n < length names
     within = number_within names from n found
 
     parts : Cut (shape b).attributes n
     parts = cut (shape b).attributes n (let l = number_is_adr good n within in omega (arith, length-map (shape b).attributes (λ (a : AttributeShape). a.adr)))
 
+    here : place ≡ parts.own.adr
+    here =
+        let adr = λ (a : AttributeShape). a.adr in
+        placed ∙ ap₂ (λ (as_ : List AttributeShape) (k : ℕ). slice_index (map adr as_) k) parts.is (sym parts.count ∙ sym (length-map parts.before adr))
+        ∙ ap (λ (xs : List ℕ). slice_index xs (length (map adr parts.before))) (map-append adr parts.before (parts.own ∷ parts.after)) ∙ get_or-append_seam (map adr parts.before) parts.own.adr (map adr parts.after) 0
+
     this : Renamed b now parts.own.adr to
-    this = renamed parts.own.adr (ap₂ (λ (as_ : List AttributeShape) (k : ℕ). slice_get (map (λ (a : AttributeShape). a.adr) as_) k) parts.is (sym parts.count) ∙ got-map (λ (a : AttributeShape). a.adr) (parts.before ++ parts.own ∷ parts.after) (length parts.before) parts.own (got-middle parts.before parts.own parts.after))
+    this =
+        let lies = name_lies b (shape b) (good_is_sound b good).has_shape b parts.own.adr (subst (λ (as_ : List AttributeShape). In parts.own.adr (map (λ (a : AttributeShape). a.adr) as_)) (sym parts.is) (in_middle parts.before parts.own parts.after)) refl in
+        subst (λ (x : List ℕ). Renamed b x parts.own.adr to) (sym (written ∙ ap (λ (x : ℕ). with_name b x adr_name to) here)) (name_written b parts.own.adr to lies fine)
+      where
+        in_middle : (xs : List AttributeShape) (a : AttributeShape) (ys : List AttributeShape) → In a.adr (map (λ (a : AttributeShape). a.adr) (xs ++ a ∷ ys))
+        in_middle [] a ys = inl refl
+        in_middle (x ∷ xs) a ys = inr (in_middle xs a ys)
 
     named : attribute_named (content b) from ≡ Some (length parts.before, attribute_of b parts.own)
     named =
@@ -114,13 +120,16 @@ module _ (b : List ℕ) (limit : ℕ) (names : List (List ℕ)) (from to : List 
     pub answers_done : Answers limit b (commands.RenameAttr from to) (Done replies.Plain) now
     answers_done =
         let d = with_attribute (content b) (length parts.before) (record (attribute_of b parts.own) { name = to }) in
-        gone limit b (commands.RenameAttr from to) d replies.Plain now (rename_goes (content b) from to (length parts.before) (attribute_of b parts.own) named fine free) (omega arith)
+        gone limit b (commands.RenameAttr from to) d replies.Plain now (ap ByStep (rename_goes (content b) from to (length parts.before) (attribute_of b parts.own) named fine free)) (omega arith)
         (rename_follows b now from to good parts.before parts.own parts.after parts.is this short named fine free)
 
     pub names_done : last_to (names ++ to ∷ []) n ≡ attribute_names (content now)
     names_done =
-        let made = content_now b now (shape b) (good_is_sound b good) parts.before parts.own parts.after parts.is to this in
+        let made = content_now b now from to good parts.before parts.own parts.after parts.is this in
         last_moved names to n within
         ∙ ap₂ (λ (xs : List (List ℕ)) (k : ℕ). slice_set xs k to) names_are (sym parts.count)
         ∙ sym (renamed_names (content b) (length parts.before) (attribute_of b parts.own) to)
         ∙ ap attribute_names (sym made)
+
+    pub places_done : adrs (shape b) ≡ adrs (shape now)
+    places_done = ap adrs (sym (same_shape b now from to good parts.before parts.own parts.after parts.is this))

@@ -1,9 +1,9 @@
--- A new attribute: its descriptor, and the shape of the image that has it.
+-- A new attribute: its descriptor (CDF Internal Format Description, "Attribute Descriptor Record").
 use Rattle.std.specs.Prelude.{ℕ, ◌-◌, List, [], ◌∷◌, ◌++◌, length, replicate}
-use Rattle.byteorder.specs.Endian.{big_bytes}
 use Rattle.cdf_model.specs.declared.kinds.Scope.{Scope}
 use Rattle.cdf_model.specs.declared.kinds.Scope.TheVariants.{Global, Variable, GlobalAssumed, VariableAssumed}
-use Rattle.cdf_format.specs.Shape.{AttributeShape, Shape}
+use Rattle.cdf_format.specs.Records.{Field, record_type, adr_adr_next, adr_agr_edr_head, adr_scope, adr_num, adr_ngr_entries, adr_max_gr_entry, adr_rfu_a, adr_az_edr_head, adr_nz_entries, adr_max_z_entry, adr_rfu_e}
+use Rattle.cdf_edits.specs.Space.Placing.{laid_out}
 
 -- Scope, as it is stored
 abbrev pub scope_code : Scope → ℕ
@@ -12,16 +12,21 @@ scope_code Variable = 2
 scope_code GlobalAssumed = 3
 scope_code VariableAssumed = 4
 
--- What follows the size of a new ADR: its type, no next one, no gr entries, Scope, Num, no number of a gr entry, no z entries, no number of one, rfuE, and the Name, filled with bytes 0.
+-- what the fields say that follow the link to the next one: no entries, Scope, Num, and -1 where there is no number of an entry
+abbrev pub adr_fields : ℕ → ℕ → List (Field × ℕ)
+adr_fields scope num =
+    (adr_agr_edr_head, 0)
+    ∷ (adr_scope, scope)
+    ∷ (adr_num, num)
+    ∷ (adr_ngr_entries, 0)
+    ∷ (adr_max_gr_entry, 0xffffffff)
+    ∷ (adr_rfu_a, 0)
+    ∷ (adr_az_edr_head, 0)
+    ∷ (adr_nz_entries, 0)
+    ∷ (adr_max_z_entry, 0xffffffff)
+    ∷ (adr_rfu_e, 0xffffffff)
+    ∷ []
+
+-- what follows the size of a new ADR, which is the last one; the Name is filled with bytes 0
 unfoldable pub adr_body : ℕ → ℕ → List ℕ → List ℕ
-adr_body scope num name =
-    big_bytes 4 4 ++ replicate 16 0 ++ big_bytes 4 scope ++ big_bytes 4 num ++ replicate 4 0 ++ replicate 4 255 ++ replicate 16 0 ++ replicate 8 255
-    ++ (name ++ replicate (256 - length name) 0)
-
--- an attribute without entries
-abbrev pub bare_attribute : ℕ → AttributeShape
-bare_attribute place = record { adr = place; gr_entries = []; z_entries = [] }
-
--- a last attribute without entries
-abbrev pub with_attribute : Shape → ℕ → Shape
-with_attribute s place = record s { attributes = s.attributes ++ bare_attribute place ∷ [] }
+adr_body scope num name = laid_out ((record_type, 4) ∷ (adr_adr_next, 0) ∷ adr_fields scope num) ++ (name ++ replicate (256 - length name) 0)

@@ -1,3 +1,5 @@
+//! Which names an attribute may not have.
+
 ghost use Rattle.std.specs.Prelude.{◌≡◌, ◌==◌};
 ghost use Rattle.std.specs.List.{list_any};
 ghost use Rattle.cdf_model.specs.Names.{is_bad_name};

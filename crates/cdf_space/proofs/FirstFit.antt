@@ -5,16 +5,16 @@ use Rattle.cdf_format.specs.Fields.{number, size_at}
 use Rattle.cdf_format.specs.Records.{gdr_uir_head}
 use Rattle.cdf_format.specs.RecordTypes.{uir_type}
 use Rattle.cdf_format.specs.Chains.{next_of, Leads}
-use Rattle.cdf_format.specs.Links.{end_place}
-use Rattle.cdf_format.specs.Placement.{fits}
+use Rattle.cdf_edits.specs.Frame.Links.{end_place}
+use Rattle.cdf_edits.specs.Space.Placement.{fits}
 use Rattle.cdf_format.specs.Shape.{Shape, HasShape}
-use Rattle.cdf_format.specs.Taking.{NoneFit, last_of}
+use Rattle.cdf_edits.specs.Space.Taking.{NoneFit, last_of}
 use Rattle.cdf_format.specs.Tiles.{In}
-use Rattle.cdf_format.specs.Alone.{IsSound}
+use Rattle.cdf_format.specs.Sound.{IsSound}
 use Rattle.cdf_format.proofs.Members.{In-append_right, length-le_from_distinct}
 use Rattle.cdf_format.proofs.TilesLemmas.{tile_lies, length_tiles}
 use Rattle.cdf_format.proofs.ChainsLemmas.{linkable-in, linkable-long, some_place}
-use Rattle.cdf_format.proofs.UnusedLists.{last_push}
+use Rattle.cdf_edits.proofs.Space.UnusedLists.{last_push}
 use Rattle.cdf_space.specs.Fits.{IsFirstFit}
 
 -- the records of a front part do not fit, and the list goes on behind them

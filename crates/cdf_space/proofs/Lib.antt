@@ -1,5 +1,7 @@
-pub mod Walking
 pub mod Writing
 pub mod FirstFit
 pub mod Taking
-pub mod Appending
+pub mod Freeing
+pub mod Filling
+pub mod Linking
+pub mod AddedRecord

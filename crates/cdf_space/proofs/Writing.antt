@@ -7,10 +7,11 @@ use Rattle.cdf_base.specs.Bytes.{put}
 use Rattle.cdf_format.specs.Fields.{LiesIn, word, number, with_field, size_at, type_at}
 use Rattle.cdf_format.specs.Records.{Field, field, record_size, record_type, gdr_eof, uir_next_uir, uir_prev_uir}
 use Rattle.cdf_format.specs.RecordTypes.{uir_type}
-use Rattle.cdf_format.specs.Changed.{byte, Touch, touch, touched_field, Outside, Changed}
-use Rattle.cdf_format.specs.Taking.{EndBytes}
+use Rattle.cdf_format.specs.Bytes.{byte}
+use Rattle.cdf_edits.specs.Frame.Changed.{Touch, touch, touched_field, Outside, Changed}
+use Rattle.cdf_edits.specs.Space.Taking.{EndBytes}
 use Rattle.cdf_format.proofs.BytesLemmas.{word-same, length-put, byte-put_inside}
-use Rattle.cdf_format.proofs.ChangedLemmas.{changed_put, changed_more, changed_then}
+use Rattle.cdf_edits.proofs.Frame.ChangedBytes.{changed_put, changed_more, changed_then}
 use Rattle.cdf_fields.proofs.Writes.{field_reads, other_bytes, length-with_field}
 use Rattle.cdf_space.specs.Fits.{Listed, Cleared, back_link, Relinked}
 use Rattle.cdf_space.specs.declared.placing.Fit.{Fit}

@@ -1,14 +1,15 @@
 -- What is found on the unused list, and what single writes leave of an image.
 use Rattle.std.specs.Prelude.{◌≡◌, ◌≢◌, ℕ, ◌+◌, ◌<◌, List, [], ◌∷◌, ◌++◌, true, if◌then◌else◌, ◌==◌, length}
-use Rattle.cdf_format.specs.Changed.{byte, Touch, touch, touched_field, Changed}
+use Rattle.cdf_format.specs.Bytes.{byte}
+use Rattle.cdf_edits.specs.Frame.Changed.{Touch, touch, touched_field, Changed}
 use Rattle.cdf_format.specs.Chains.{next_of}
 use Rattle.cdf_format.specs.Fields.{word, size_at, type_at}
-use Rattle.cdf_format.specs.Links.{end_place}
-use Rattle.cdf_format.specs.Placement.{fits}
+use Rattle.cdf_edits.specs.Frame.Links.{end_place}
+use Rattle.cdf_edits.specs.Space.Placement.{fits}
 use Rattle.cdf_format.specs.Records.{uir_prev_uir}
 use Rattle.cdf_format.specs.RecordTypes.{uir_type}
 use Rattle.cdf_format.specs.Shape.{Shape}
-use Rattle.cdf_format.specs.Taking.{NoneFit, last_of, prev_of}
+use Rattle.cdf_edits.specs.Space.Taking.{NoneFit, last_of, prev_of}
 use Rattle.cdf_space.specs.declared.placing.Fit.{Fit}
 
 -- the first record of the unused list that fits

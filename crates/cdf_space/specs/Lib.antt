@@ -1,3 +1,2 @@
-pub mod ChainCalls
 pub mod Steps
 pub mod Fits

@@ -1,16 +1,10 @@
--- How a chain is walked: from link to link.
-use Rattle.std.specs.Prelude.{◌≡◌, ◌≤◌, ℕ, ◌+◌, List, take, drop, length}
-use Rattle.cdf_format.specs.Chains.{Leads}
-use Rattle.cdf_format.specs.Links.{end_place}
-use Rattle.cdf_space.specs.ChainCalls.{holder_of, head_of, members_of}
-use Rattle.cdf_space.specs.declared.chain.Chain.{Chain}
+-- Where the links of a chain stand (CDF Internal Format Description, "Attribute Descriptor Record" and the others: the field of the next record).
+use Rattle.std.specs.Prelude.{ℕ, ◌+◌, List, Some, None}
+use Rattle.std.specs.declared.option.Option.{Option}
+use Rattle.cdf_edits.specs.Space.Chains.{holder_of, head_of}
+use Rattle.cdf_edits.specs.declared.chain.Chain.{Chain}
 
--- where the link stands that leads to the first record of a chain
-abbrev pub head_link : List ℕ → Chain → ℕ
-head_link b c = holder_of b c + (head_of c).place
-
--- the link behind the first so many records of a chain, or behind them all where there are fewer: where it stands, and where it leads
-pub record IsLinkBehind (b : List ℕ) (c : Chain) (most place to : ℕ) : Type 0 where
-  pub place_is : place ≡ end_place (head_link b c) (take most (members_of b c))
-  pub rest : Leads b to (drop most (members_of b c)) 0
-  pub inside : place + 8 ≤ length b
+-- the next field of a record of the chain, or the head where there is none
+abbrev pub link_place : List ℕ → Chain → Option ℕ → ℕ
+link_place b c None = holder_of b c + (head_of c).place
+link_place b c (Some member) = member + 12

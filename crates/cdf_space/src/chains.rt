@@ -1,32 +1,48 @@
-ghost use Rattle.std.specs.Prelude.{◌≡◌, ◌≤◌, length, slice_get, IfOk, OnOk};
-ghost use Rattle.cdf_base.specs.Causes.{HasCauseOf};
-ghost use Rattle.cdf_format.specs.Alone.{IsSound};
+//! Chains of records: members added, taken out and replaced.
+
+ghost use Rattle.std.specs.Prelude.{◌≡◌, ◌+◌, ◌^◌, ◌<◌, ◌≤◌, true, length, None, IfOk, OnOk};
+ghost use Rattle.std.specs.List.{last_or};
+ghost use Rattle.cdf_area.specs.Calls.{Edits, Reads};
+ghost use Rattle.cdf_format.specs.Sound.{IsSound};
+ghost use Rattle.cdf_format.specs.Chains.{is_in};
+ghost use Rattle.cdf_format.specs.Fields.{with_field};
 ghost use Rattle.cdf_format.specs.Shape.{shape};
 ghost use Rattle.cdf_model.specs.Limits.{image_limit};
-ghost use Rattle.cdf_space.specs.ChainCalls.{Appended, HasChain, HolderStands, MayJoin, head_of, holder_of, members_of};
-ghost use Rattle.cdf_space.specs.Steps.{IsLinkBehind};
+ghost use Rattle.cdf_edits.specs.Space.Chains.{Appended, HasChain, HolderStands, MayJoin, Removed, Replaced, before, count_of, counted_in, head_of, holder_of, members_of};
+ghost use Rattle.cdf_space.specs.Steps.{link_place};
 
 use crate::Chain;
 use cdf_area::{Area, AreaError};
-use cdf_records::{read_unsigned8, set_uir_next_uir, set_unsigned8};
-
-/// A link of a chain: where it stands, and the place that it leads to, 0 at the end.
-#[derive(Clone, Copy)]
-struct Link {
-    place: u64,
-    to: u64,
-}
+use cdf_format::fields::{
+    ADR_ADR_NEXT, ADR_AGR_EDR_HEAD, ADR_AZ_EDR_HEAD, ADR_NGR_ENTRIES, ADR_NZ_ENTRIES,
+    CDR_GDR_OFFSET, CDR_PLACE, GDR_ADR_HEAD, GDR_NR_VARS, GDR_NUM_ATTR, GDR_NZ_VARS,
+    GDR_R_VDR_HEAD, GDR_Z_VDR_HEAD,
+};
+use cdf_records::{read_unsigned4, read_unsigned8, set_uir_next_uir, set_unsigned4, set_unsigned8};
 
 /// Where the link to a chain stands in the record that has it.
 fn head_place(chain: Chain) -> u64
     ensures { result ≡ (head_of chain).place }
 {
     match chain {
-        Chain::Attrs => 28,
-        Chain::RVars => 12,
-        Chain::ZVars => 20,
-        Chain::GrEntries { adr: _ } => 20,
-        Chain::ZEntries { adr: _ } => 48,
+        Chain::Attrs => GDR_ADR_HEAD,
+        Chain::RVars => GDR_R_VDR_HEAD,
+        Chain::ZVars => GDR_Z_VDR_HEAD,
+        Chain::GrEntries { adr: _ } => ADR_AGR_EDR_HEAD,
+        Chain::ZEntries { adr: _ } => ADR_AZ_EDR_HEAD,
+    }
+}
+
+/// Where the count of a chain stands beside it.
+fn count_place(chain: Chain) -> u64
+    ensures { result ≡ (count_of chain).place }
+{
+    match chain {
+        Chain::Attrs => GDR_NUM_ATTR,
+        Chain::RVars => GDR_NR_VARS,
+        Chain::ZVars => GDR_NZ_VARS,
+        Chain::GrEntries { adr: _ } => ADR_NGR_ENTRIES,
+        Chain::ZEntries { adr: _ } => ADR_NZ_ENTRIES,
     }
 }
 
@@ -34,66 +50,113 @@ fn head_place(chain: Chain) -> u64
 fn holder<A: Area>(area: &mut A, chain: Chain) -> Result<u64, AreaError>
     requires cdr { 28 ≤ length (A.image area.old) }
     ensures holder { IfOk result (λ holder. holder ≡ holder_of (A.image area.old) chain) }
-    ensures image { A.image area.new ≡ A.image area.old }
-    ensures frame { A.frame area.new ≡ A.frame area.old }
-    ensures cause { HasCauseOf AreaError.Fault (A.faults area.old) (A.faults area.new) result }
+    ensures area { Reads A.image A.frame A.faults A.edited area.old area.new result }
 {
     match chain {
-        Chain::Attrs | Chain::RVars | Chain::ZVars => read_unsigned8(area, 20),
+        Chain::Attrs | Chain::RVars | Chain::ZVars => read_unsigned8(
+            area,
+            CDR_PLACE + CDR_GDR_OFFSET,
+        ),
         Chain::GrEntries { adr } | Chain::ZEntries { adr } => Ok(adr),
     }
 }
 
-/// The link behind the first `most` records of a chain, or behind them all where there are fewer.
-fn link_behind<A: Area>(area: &mut A, chain: Chain, most: u32) -> Result<Link, AreaError>
-    requires sound { IsSound (A.image area.old) (shape (A.image area.old)) }
-    requires holder { HolderStands (A.image area.old) chain }
-    requires chain { HasChain (A.image area.old) chain }
-    requires short { length (A.image area.old) ≤ image_limit }
-    ensures link { IfOk result (λ link. IsLinkBehind (A.image area.old) chain most link.place link.to) }
-    ensures image { A.image area.new ≡ A.image area.old }
-    ensures frame { A.frame area.new ≡ A.frame area.old }
-    ensures cause { HasCauseOf AreaError.Fault (A.faults area.old) (A.faults area.new) result }
+/// Where the link stands behind a member of a chain, or the link to its first one where none is given.
+fn link_behind<A: Area>(area: &mut A, chain: Chain, member: Option<u64>) -> Result<u64, AreaError>
+    requires cdr { 28 ≤ length (A.image area.old) }
+    requires inside { link_place (A.image area.old) chain member + 8 ≤ length (A.image area.old) }
+    ensures place { IfOk result (λ place. place ≡ link_place (A.image area.old) chain member) }
+    ensures area { Reads A.image A.frame A.faults A.edited area.old area.new result }
 {
-    let mut place = holder(area, chain)? + head_place(chain);
-    let mut to = read_unsigned8(area, place)?;
-    for _ in 0..most {
-        if to == 0 {
-            return Ok(Link { place, to });
-        }
-        place = to + 12;
-        to = read_unsigned8(area, place)?;
+    // An image has fewer than 2^64 bytes, so no place in it overflows.
+    let _size = area.size();
+    match member {
+        Some(place) => Ok(place + ADR_ADR_NEXT),
+        None => Ok(holder(area, chain)? + head_place(chain)),
     }
-    Ok(Link { place, to })
 }
 
-/// The place of the record with this number in a chain, none where the chain has no more records than that.
-pub fn chain_at<A: Area>(area: &mut A, chain: Chain, number: u32) -> Result<Option<u64>, AreaError>
+/// Makes a record the last one of a chain, behind the one that was the last, none where the chain was empty.
+/// After an error a part of this may have been done.
+pub fn chain_append<A: Area>(
+    area: &mut A,
+    chain: Chain,
+    last: Option<u64>,
+    place: u64,
+) -> Result<(), AreaError>
     requires sound { IsSound (A.image area.old) (shape (A.image area.old)) }
     requires holder { HolderStands (A.image area.old) chain }
     requires chain { HasChain (A.image area.old) chain }
-    requires short { length (A.image area.old) ≤ image_limit }
-    ensures value { IfOk result (λ found. found ≡ slice_get (members_of (A.image area.old) chain) number) }
-    ensures image { A.image area.new ≡ A.image area.old }
-    ensures frame { A.frame area.new ≡ A.frame area.old }
-    ensures cause { HasCauseOf AreaError.Fault (A.faults area.old) (A.faults area.new) result }
-{
-    let link = link_behind(area, chain, number)?;
-    Ok(if link.to == 0 { None } else { Some(link.to) })
-}
-
-/// Makes a record the last one of a chain. After an error a part of this may have been done.
-pub fn chain_append<A: Area>(area: &mut A, chain: Chain, place: u64) -> Result<(), AreaError>
-    requires sound { IsSound (A.image area.old) (shape (A.image area.old)) }
-    requires holder { HolderStands (A.image area.old) chain }
-    requires chain { HasChain (A.image area.old) chain }
+    requires last { last ≡ last_or None (members_of (A.image area.old) chain) }
     requires joins { MayJoin (A.image area.old) chain place }
     requires short { length (A.image area.old) ≤ image_limit }
     ensures appended { OnOk result (Appended (A.image area.old) (A.image area.new) chain place) }
-    ensures frame { A.frame area.new ≡ A.frame area.old }
-    ensures cause { HasCauseOf AreaError.Fault (A.faults area.old) (A.faults area.new) result }
+    ensures area { Edits A.frame A.faults area.old area.new result }
 {
-    let end = link_behind(area, chain, u32::MAX)?;
+    let link = link_behind(area, chain, last)?;
     set_uir_next_uir(area, place, 0)?;
-    set_unsigned8(area, end.place, 0, place)
+    set_unsigned8(area, link, 0, place)
+}
+
+/// Takes a member out of a chain, which stands behind another one, or is the first where none is given.
+/// After an error nothing has changed.
+pub fn chain_remove<A: Area>(
+    area: &mut A,
+    chain: Chain,
+    behind: Option<u64>,
+    place: u64,
+) -> Result<(), AreaError>
+    requires sound { IsSound (A.image area.old) (shape (A.image area.old)) }
+    requires holder { HolderStands (A.image area.old) chain }
+    requires chain { HasChain (A.image area.old) chain }
+    requires member { is_in place (members_of (A.image area.old) chain) ≡ true }
+    requires behind { behind ≡ last_or None (before place (members_of (A.image area.old) chain)) }
+    requires short { length (A.image area.old) ≤ image_limit }
+    ensures removed { OnOk result (Removed (A.image area.old) (A.image area.new) chain place) }
+    ensures area { Edits A.frame A.faults area.old area.new result }
+{
+    let link = link_behind(area, chain, behind)?;
+    let next = read_unsigned8(area, place + ADR_ADR_NEXT)?;
+    set_unsigned8(area, link, 0, next)
+}
+
+/// Puts another record into the place of a member of a chain, which stands behind another one, or is the first where none is given.
+/// After an error a part of this may have been done.
+pub fn chain_replace<A: Area>(
+    area: &mut A,
+    chain: Chain,
+    behind: Option<u64>,
+    place: u64,
+    by: u64,
+) -> Result<(), AreaError>
+    requires sound { IsSound (A.image area.old) (shape (A.image area.old)) }
+    requires holder { HolderStands (A.image area.old) chain }
+    requires chain { HasChain (A.image area.old) chain }
+    requires member { is_in place (members_of (A.image area.old) chain) ≡ true }
+    requires behind { behind ≡ last_or None (before place (members_of (A.image area.old) chain)) }
+    requires joins { MayJoin (A.image area.old) chain by }
+    requires short { length (A.image area.old) ≤ image_limit }
+    ensures replaced { OnOk result (Replaced (A.image area.old) (A.image area.new) chain place by) }
+    ensures area { Edits A.frame A.faults area.old area.new result }
+{
+    let link = link_behind(area, chain, behind)?;
+    let next = read_unsigned8(area, place + ADR_ADR_NEXT)?;
+    set_uir_next_uir(area, by, next)?;
+    set_unsigned8(area, link, 0, by)
+}
+
+/// Counts one record more in a chain. After an error nothing has changed.
+pub fn count_up<A: Area>(area: &mut A, chain: Chain) -> Result<(), AreaError>
+    requires cdr { 28 ≤ length (A.image area.old) }
+    requires inside { holder_of (A.image area.old) chain + (count_of chain).place + 4 ≤ length (A.image area.old) }
+    requires few { counted_in (A.image area.old) chain + 1 < 2 ^ 32 }
+    ensures counted { OnOk result (A.image area.new ≡ with_field (A.image area.old) (holder_of (A.image area.old) chain) (count_of chain) (counted_in (A.image area.old) chain + 1)) }
+    ensures area { Edits A.frame A.faults area.old area.new result }
+{
+    // An image has fewer than 2^64 bytes, so no place in it overflows.
+    let _size = area.size();
+    let at = holder(area, chain)?;
+    let place = count_place(chain);
+    let count = read_unsigned4(area, at + place)?;
+    set_unsigned4(area, at, place, count + 1)
 }

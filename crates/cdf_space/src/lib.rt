@@ -1,10 +1,11 @@
 //! Records taken and freed, and chains of records, by the bytes of an area.
 #![tactic(auto)]
 
-mod chain;
+mod adding;
 mod chains;
 mod placing;
 
-pub use chain::Chain;
-pub use chains::{chain_append, chain_at};
-pub use placing::alloc_record;
+pub use adding::append_record;
+pub use cdf_edits::Chain;
+pub use chains::{chain_append, chain_remove, chain_replace, count_up};
+pub use placing::{alloc_record, free_record, place_record};

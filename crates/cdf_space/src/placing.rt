@@ -1,14 +1,19 @@
+//! Records taken from the unused list or at the end of the image, and freed.
+
 ghost use Rattle.std.specs.Prelude.{◌≡◌, ◌≢◌, ◌⊎◌, ◌<◌, ◌≤◌, ◌+◌, ◌^◌, length, replicate, IfOk, OnOk, MatchOption};
 ghost use Rattle.cdf_base.specs.Bytes.{put};
-ghost use Rattle.cdf_base.specs.Causes.{HasCauseOf};
-ghost use Rattle.cdf_format.specs.Alone.{IsSound};
+ghost use Rattle.cdf_area.specs.Calls.{Edits, Reads};
+ghost use Rattle.cdf_format.specs.Sound.{IsSound};
 ghost use Rattle.cdf_format.specs.Content.{content};
 ghost use Rattle.cdf_format.specs.Fields.{eof, gdr_offset};
-ghost use Rattle.cdf_format.specs.Placement.{Takes, fits};
+ghost use Rattle.cdf_format.specs.Owners.{owned_records, times};
+ghost use Rattle.cdf_edits.specs.Space.Placement.{Gives, Takes, fits};
 ghost use Rattle.cdf_format.specs.Shape.{shape};
-ghost use Rattle.cdf_format.specs.Taking.{EndBytes, IsTaken, NoneFit};
+ghost use Rattle.cdf_edits.specs.Space.Taking.{EndBytes, IsTaken, NoneFit};
+ghost use Rattle.cdf_format.specs.Tiles.{In};
 ghost use Rattle.cdf_model.specs.Limits.{image_limit};
 ghost use Rattle.cdf_space.specs.Fits.{Cleared, IsFirstFit, Listed, Relinked};
+ghost use Rattle.cdf_edits.specs.Space.Placing.{IsBody, Placed};
 
 use cdf_area::{Area, AreaError};
 use cdf_records::{
@@ -44,9 +49,7 @@ fn first_fit<A: Area>(area: &mut A, gdr: u64, need: u64) -> Result<Option<Fit>, 
     requires short { length (A.image area.old) ≤ image_limit }
     requires need { need ≤ image_limit }
     ensures found { IfOk result (λ found. MatchOption found (NoneFit (A.image area.old) need (shape (A.image area.old)).unused) (IsFirstFit (A.image area.old) (shape (A.image area.old)) need)) }
-    ensures image { A.image area.new ≡ A.image area.old }
-    ensures frame { A.frame area.new ≡ A.frame area.old }
-    ensures cause { HasCauseOf AreaError.Fault (A.faults area.old) (A.faults area.new) result }
+    ensures area { Reads A.image A.frame A.faults A.edited area.old area.new result }
 {
     let mut link = gdr + 64;
     let mut before = 0;
@@ -78,8 +81,7 @@ fn set_zeros<A: Area>(area: &mut A, from: u64, count: usize) -> Result<(), AreaE
     requires piece { count ≤ 4096 }
     requires room { from + count ≤ length (A.image area.old) }
     ensures written { OnOk result (A.image area.new ≡ put (A.image area.old) from (replicate count 0)) }
-    ensures frame { A.frame area.new ≡ A.frame area.old }
-    ensures cause { HasCauseOf AreaError.Fault (A.faults area.old) (A.faults area.new) result }
+    ensures area { Edits A.frame A.faults area.old area.new result }
 {
     let zeros = [0u8; PIECE];
     area.set(from, &zeros[..count])
@@ -89,8 +91,7 @@ fn set_zeros<A: Area>(area: &mut A, from: u64, count: usize) -> Result<(), AreaE
 fn clear<A: Area>(area: &mut A, from: u64, n: u64) -> Result<(), AreaError>
     requires { from + n ≤ length (A.image area.old) }
     ensures cleared { OnOk result (Cleared (A.image area.old) (A.image area.new) from n) }
-    ensures frame { A.frame area.new ≡ A.frame area.old }
-    ensures cause { HasCauseOf AreaError.Fault (A.faults area.old) (A.faults area.new) result }
+    ensures area { Edits A.frame A.faults area.old area.new result }
 {
     let _size = area.size();
     let mut done = 0u64;
@@ -112,8 +113,7 @@ fn list<A: Area>(
 ) -> Result<(), AreaError>
     requires { place + 28 ≤ length (A.image area.old) }
     ensures listed { OnOk result (Listed (A.image area.old) (A.image area.new) place size next before) }
-    ensures frame { A.frame area.new ≡ A.frame area.old }
-    ensures cause { HasCauseOf AreaError.Fault (A.faults area.old) (A.faults area.new) result }
+    ensures area { Edits A.frame A.faults area.old area.new result }
 {
     set_record_size(area, place, size)?;
     set_record_type(area, place, -1)?;
@@ -127,8 +127,7 @@ fn relink<A: Area>(area: &mut A, fit: Fit, to: u64, back: u64) -> Result<(), Are
     requires next { fit.next ≢ 0 → fit.next + 28 ≤ length (A.image area.old) }
     requires apart { fit.next ≢ 0 → (fit.link + 8 ≤ fit.next + 20) ⊎ (fit.next + 28 ≤ fit.link) }
     ensures relinked { OnOk result (Relinked (A.image area.old) (A.image area.new) fit to back) }
-    ensures frame { A.frame area.new ≡ A.frame area.old }
-    ensures cause { HasCauseOf AreaError.Fault (A.faults area.old) (A.faults area.new) result }
+    ensures area { Edits A.frame A.faults area.old area.new result }
 {
     set_unsigned8(area, fit.link, 0, to)?;
     if fit.next == 0 {
@@ -146,8 +145,7 @@ fn take_whole<A: Area>(area: &mut A, fit: Fit, need: u64) -> Result<(), AreaErro
     requires short { length (A.image area.old) ≤ image_limit }
     requires eof { eof (A.image area.old) (gdr_offset (A.image area.old)) ≡ length (A.image area.old) }
     ensures taken { OnOk result (IsTaken (A.image area.old) (A.image area.new) (shape (A.image area.old)) (shape (A.image area.new)) need fit.place) }
-    ensures frame { A.frame area.new ≡ A.frame area.old }
-    ensures cause { HasCauseOf AreaError.Fault (A.faults area.old) (A.faults area.new) result }
+    ensures area { Edits A.frame A.faults area.old area.new result }
 {
     relink(area, fit, fit.next, fit.before)?;
     clear(area, fit.place + 12, need - 12)
@@ -162,8 +160,7 @@ fn take_part<A: Area>(area: &mut A, fit: Fit, need: u64) -> Result<(), AreaError
     requires short { length (A.image area.old) ≤ image_limit }
     requires eof { eof (A.image area.old) (gdr_offset (A.image area.old)) ≡ length (A.image area.old) }
     ensures taken { OnOk result (IsTaken (A.image area.old) (A.image area.new) (shape (A.image area.old)) (shape (A.image area.new)) need fit.place) }
-    ensures frame { A.frame area.new ≡ A.frame area.old }
-    ensures cause { HasCauseOf AreaError.Fault (A.faults area.old) (A.faults area.new) result }
+    ensures area { Edits A.frame A.faults area.old area.new result }
 {
     let rest = fit.place + need;
     list(area, rest, fit.size - need, fit.next, fit.before)?;
@@ -180,8 +177,7 @@ fn take_listed<A: Area>(area: &mut A, fit: Fit, need: u64) -> Result<(), AreaErr
     requires short { length (A.image area.old) ≤ image_limit }
     requires eof { eof (A.image area.old) (gdr_offset (A.image area.old)) ≡ length (A.image area.old) }
     ensures taken { OnOk result (IsTaken (A.image area.old) (A.image area.new) (shape (A.image area.old)) (shape (A.image area.new)) need fit.place) }
-    ensures frame { A.frame area.new ≡ A.frame area.old }
-    ensures cause { HasCauseOf AreaError.Fault (A.faults area.old) (A.faults area.new) result }
+    ensures area { Edits A.frame A.faults area.old area.new result }
 {
     if fit.size == need {
         return take_whole(area, fit, need);
@@ -197,8 +193,7 @@ fn take_end<A: Area>(area: &mut A, gdr: u64, need: u64) -> Result<u64, AreaError
     requires limit { (A.frame area.old).limit ≤ image_limit }
     ensures place { IfOk result (λ place. place ≡ length (A.image area.old)) }
     ensures taken { OnOk result (EndBytes (A.image area.old) (A.image area.new) gdr need) }
-    ensures frame { A.frame area.new ≡ A.frame area.old }
-    ensures cause { HasCauseOf AreaError.Fault (A.faults area.old) (A.faults area.new) result }
+    ensures area { Edits A.frame A.faults area.old area.new result }
 {
     let place = area.size();
     area.extend(need)?;
@@ -219,8 +214,7 @@ pub fn alloc_record<A: Area>(area: &mut A, need: u64) -> Result<u64, AreaError>
     ensures takes { IfOk result (λ place. Takes (A.image area.old) (A.image area.new) (shape (A.image area.old)) (shape (A.image area.new)) need place) }
     ensures sound { OnOk result (IsSound (A.image area.new) (shape (A.image area.new))) }
     ensures content { OnOk result (content (A.image area.new) ≡ content (A.image area.old)) }
-    ensures frame { A.frame area.new ≡ A.frame area.old }
-    ensures cause { HasCauseOf AreaError.Fault (A.faults area.old) (A.faults area.new) result }
+    ensures area { Edits A.frame A.faults area.old area.new result }
 {
     let gdr = read_unsigned8(area, 20)?;
     let Some(fit) = first_fit(area, gdr, need)? else {
@@ -228,4 +222,54 @@ pub fn alloc_record<A: Area>(area: &mut A, need: u64) -> Result<u64, AreaError>
     };
     take_listed(area, fit, need)?;
     Ok(fit.place)
+}
+
+/// Takes a record and writes it: its size and these bytes, which begin with its type. Gives its place, that of `alloc_record`.
+/// After an error a part of this may have been done.
+pub fn place_record<A: Area>(area: &mut A, bytes: &[u8]) -> Result<u64, AreaError>
+    requires sound { IsSound (A.image area.old) (shape (A.image area.old)) }
+    requires eof { eof (A.image area.old) (gdr_offset (A.image area.old)) ≡ length (A.image area.old) }
+    requires body { IsBody bytes.now }
+    requires room { length (A.image area.old) + (8 + length bytes.now) ≤ (A.frame area.old).limit }
+    requires limit { (A.frame area.old).limit ≤ image_limit }
+    ensures placed { IfOk result (λ place. Placed (A.image area.old) (A.image area.new) bytes.now place) }
+    ensures sound { OnOk result (IsSound (A.image area.new) (shape (A.image area.new))) }
+    ensures content { OnOk result (content (A.image area.new) ≡ content (A.image area.old)) }
+    ensures area { Edits A.frame A.faults area.old area.new result }
+{
+    let need = 8 + bytes.len() as u64;
+    let place = alloc_record(area, need)?;
+    area.set(place + 8, bytes)?;
+    Ok(place)
+}
+
+/// Frees a record that nothing leads to any more: it gets the type UIR, and with at least 28 bytes it becomes the head of the unused list.
+/// After an error a part of this may have been done.
+pub fn free_record<A: Area>(area: &mut A, place: u64) -> Result<(), AreaError>
+    requires sound { IsSound (A.image area.old) (shape (A.image area.old)) }
+    requires stands { In place (shape (A.image area.old)).records }
+    requires free { times place (owned_records (A.image area.old) (shape (A.image area.old))) ≡ 0 }
+    ensures gives { OnOk result (Gives (A.image area.old) (A.image area.new) (shape (A.image area.old)) (shape (A.image area.new)) place) }
+    ensures sound { OnOk result (IsSound (A.image area.new) (shape (A.image area.new))) }
+    ensures content { OnOk result (content (A.image area.new) ≡ content (A.image area.old)) }
+    ensures area { Edits A.frame A.faults area.old area.new result }
+{
+    let _length = area.size();
+    let size = read_unsigned8(area, place)?;
+    let gdr = read_unsigned8(area, 20)?;
+    let next = read_unsigned8(area, gdr + 64)?;
+    set_record_type(area, place, -1)?;
+    if size < 28 {
+        return Ok(());
+    }
+    set_uir_next_uir(area, place, next)?;
+    set_uir_prev_uir(area, place, 0)?;
+    let head = Fit {
+        link: gdr + 64,
+        before: 0,
+        place,
+        size,
+        next,
+    };
+    relink(area, head, place, place)
 }

@@ -1,145 +1,89 @@
-use Rattle.std.proofs.Common.{List, ℕ, ap, ◌+◌, length, arith}
-use Rattle.cdf_format.proofs.GoodLemmas.{good_is_sound, good_eof}
+use Rattle.std.proofs.Common.{◌≡◌, ◌+◌, ◌^◌, ◌<◌, ℕ, List, ◌++◌, ◌∷◌, [], length, None, ap, ap₂, sym, subst, ◌∙◌, arith}
+use Rattle.std.specs.List.{last_or}
+use Rattle.cdf_format.proofs.GoodSound.{good_is_sound, good_eof}
+use Rattle.cdf_format.specs.Shape.{adrs, shape}
+use Rattle.cdf_edits.specs.Space.Adding.{Added}
+use Rattle.cdf_edits.specs.Space.Placing.{IsBody, type_of_body}
+use Rattle.cdf_edits.specs.declared.chain.Chain.TheVariants.{Attrs}
 use Rattle.cdf_attrs.specs.Creating.{scope_code, adr_body}
-use Rattle.cdf_attrs.proofs.CreatingRun.{MayMake, HasTaken, bytes_are, filled_by, raised_by, few, place_fits, taken_short, body_long, gdr_found, count_fits, raised_is_sound, raised_has_chain, raised_joins, raised_short, run_follows, run_names}
+use Rattle.cdf_attrs.proofs.AttributeChain.{attribute_members, has_attribute_chain, few_attributes, last_got}
+use Rattle.cdf_attrs.proofs.AttributeWalk.{counted_is}
+use Rattle.cdf_attrs.proofs.Created.{follows, names_now, places_now}
+use Rattle.cdf_attrs.proofs.NamesChanged.{fine_is_short, fine_has_no_zeros}
+use Rattle.cdf_attrs.proofs.NewAdr.{length-body, type_in_body, adr_is_body}
 use Rattle.cdf_attrs.proofs.creating.make.Goals as goal
 
-pub alloc_record-requires-clause-sound : goal.alloc_record-requires-clause-sound
-alloc_record-requires-clause-sound g c = good_is_sound _ c.requires.good
-
-pub alloc_record-requires-clause-eof : goal.alloc_record-requires-clause-eof
-alloc_record-requires-clause-eof g c = good_eof _ c.requires.good
-
-pub overflow_add-place : goal.overflow_add-place
-overflow_add-place g c =
+pub overflow_cast-num : goal.overflow_cast-num
+overflow_cast-num g c =
     let b = g.A.Area.image c.args.area.now in
-    let taken = g.A.Area.image c.alloc_record.new.area in
-    let may : MayMake b c.args.num c.args.name.now = record { image = c.requires.good; named = c.requires.named; free = c.requires.free; num_is = c.requires.number; short = omega (arith, c.requires.room, c.requires.limit) } in
-    let has : HasTaken b taken c.in_ok-place.place = record { takes = c.in_ok-place.ensures.takes; sound = c.in_ok-place.ensures.sound; content_stays = c.in_ok-place.ensures.content } in
-    omega (arith, place_fits b taken c.in_ok-place.place c.args.num c.args.scope c.args.name.now may has, taken_short b taken c.in_ok-place.place c.args.num c.args.scope c.args.name.now may has, c.requires.room, c.requires.limit)
+    let few = few_attributes b (shape b) (good_is_sound b c.requires.good).has_shape in
+    let count : c.len-num.result ≡ length (adrs (shape b)) = omega (arith, c.len-num.ensures, ap length c.requires.places, c.args.places.now.ok.0) in
+    omega (arith, count, few, c.requires.room, c.requires.limit)
 
-pub set-requires : goal.set-requires
-set-requires g c =
-    let b = g.A.Area.image c.args.area.now in
-    let taken = g.A.Area.image c.alloc_record.new.area in
-    let may : MayMake b c.args.num c.args.name.now = record { image = c.requires.good; named = c.requires.named; free = c.requires.free; num_is = c.requires.number; short = omega (arith, c.requires.room, c.requires.limit) } in
-    let has : HasTaken b taken c.in_ok-place.place = record { takes = c.in_ok-place.ensures.takes; sound = c.in_ok-place.ensures.sound; content_stays = c.in_ok-place.ensures.content } in
-    let body = adr_body (scope_code c.args.scope) c.args.num c.args.name.now in
-    let body_is = bytes_are c.deref.result.now c.in_ok-bytes.bytes.items c.code_of.result (scope_code c.args.scope) c.args.num c.args.name.now c.deref.ensures.value c.in_ok-bytes.ensures c.code_of.ensures in
-    omega (arith, place_fits b taken c.in_ok-place.place c.args.num c.args.scope c.args.name.now may has, ap (λ (x : List ℕ). length x) body_is, body_long b taken c.in_ok-place.place c.args.num c.args.scope c.args.name.now may has)
+pub append_record-requires-clause-sound : goal.append_record-requires-clause-sound
+append_record-requires-clause-sound g c = good_is_sound _ c.requires.good
 
-pub read_unsigned8-requires : goal.read_unsigned8-requires
-read_unsigned8-requires g c =
-    let b = g.A.Area.image c.args.area.now in
-    let taken = g.A.Area.image c.alloc_record.new.area in
-    let may : MayMake b c.args.num c.args.name.now = record { image = c.requires.good; named = c.requires.named; free = c.requires.free; num_is = c.requires.number; short = omega (arith, c.requires.room, c.requires.limit) } in
-    let has : HasTaken b taken c.in_ok-place.place = record { takes = c.in_ok-place.ensures.takes; sound = c.in_ok-place.ensures.sound; content_stays = c.in_ok-place.ensures.content } in
-    let body = adr_body (scope_code c.args.scope) c.args.num c.args.name.now in
-    let body_is = bytes_are c.deref.result.now c.in_ok-bytes.bytes.items c.code_of.result (scope_code c.args.scope) c.args.num c.args.name.now c.deref.ensures.value c.in_ok-bytes.ensures c.code_of.ensures in
-    let filled = g.A.Area.image c.set.new.self in
-    let filled_is = filled_by taken filled (c.in_ok-place.place + 8) c.deref.result.now body c.in_ok-set.ensures.written body_is in
-    omega (arith, count_fits b taken c.in_ok-place.place c.args.num c.args.scope c.args.name.now may has filled filled_is)
+pub append_record-requires-clause-eof : goal.append_record-requires-clause-eof
+append_record-requires-clause-eof g c = good_eof _ c.requires.good
 
-pub overflow_add-num : goal.overflow_add-num
-overflow_add-num g c =
-    let b = g.A.Area.image c.args.area.now in
-    let taken = g.A.Area.image c.alloc_record.new.area in
-    let may : MayMake b c.args.num c.args.name.now = record { image = c.requires.good; named = c.requires.named; free = c.requires.free; num_is = c.requires.number; short = omega (arith, c.requires.room, c.requires.limit) } in
-    let has : HasTaken b taken c.in_ok-place.place = record { takes = c.in_ok-place.ensures.takes; sound = c.in_ok-place.ensures.sound; content_stays = c.in_ok-place.ensures.content } in
-    omega (arith, few b taken c.in_ok-place.place c.args.num c.args.scope c.args.name.now may has)
+pub append_record-requires-clause-chain : goal.append_record-requires-clause-chain
+append_record-requires-clause-chain g c = has_attribute_chain _ _ (good_is_sound (g.A.Area.image c.args.area.now) c.requires.good).has_shape
 
-pub set_unsigned4-requires : goal.set_unsigned4-requires
-set_unsigned4-requires g c =
+pub append_record-requires-clause-last : goal.append_record-requires-clause-last
+append_record-requires-clause-last g c =
     let b = g.A.Area.image c.args.area.now in
-    let taken = g.A.Area.image c.alloc_record.new.area in
-    let may : MayMake b c.args.num c.args.name.now = record { image = c.requires.good; named = c.requires.named; free = c.requires.free; num_is = c.requires.number; short = omega (arith, c.requires.room, c.requires.limit) } in
-    let has : HasTaken b taken c.in_ok-place.place = record { takes = c.in_ok-place.ensures.takes; sound = c.in_ok-place.ensures.sound; content_stays = c.in_ok-place.ensures.content } in
-    let body = adr_body (scope_code c.args.scope) c.args.num c.args.name.now in
-    let body_is = bytes_are c.deref.result.now c.in_ok-bytes.bytes.items c.code_of.result (scope_code c.args.scope) c.args.num c.args.name.now c.deref.ensures.value c.in_ok-bytes.ensures c.code_of.ensures in
-    let filled = g.A.Area.image c.set.new.self in
-    let filled_is = filled_by taken filled (c.in_ok-place.place + 8) c.deref.result.now body c.in_ok-set.ensures.written body_is in
-    omega (arith, count_fits b taken c.in_ok-place.place c.args.num c.args.scope c.args.name.now may has filled filled_is, gdr_found b taken c.in_ok-place.place c.args.num c.args.scope c.args.name.now may has filled filled_is, c.in_ok-gdr.ensures.value, ap (λ (x : List ℕ). length x) c.in_ok-gdr.ensures.image)
+    c.copied-last.ensures ∙ c.last.ensures.value ∙ last_got c.deref.result.now ∙ ap (last_or None) (c.deref.ensures.value ∙ c.requires.places ∙ sym (attribute_members b (shape b) (good_is_sound b c.requires.good).has_shape))
 
-pub chain_append-requires-clause-sound : goal.chain_append-requires-clause-sound
-chain_append-requires-clause-sound g c =
+pub append_record-requires-clause-body : goal.append_record-requires-clause-body
+append_record-requires-clause-body g c =
     let b = g.A.Area.image c.args.area.now in
-    let taken = g.A.Area.image c.alloc_record.new.area in
-    let may : MayMake b c.args.num c.args.name.now = record { image = c.requires.good; named = c.requires.named; free = c.requires.free; num_is = c.requires.number; short = omega (arith, c.requires.room, c.requires.limit) } in
-    let has : HasTaken b taken c.in_ok-place.place = record { takes = c.in_ok-place.ensures.takes; sound = c.in_ok-place.ensures.sound; content_stays = c.in_ok-place.ensures.content } in
-    let body = adr_body (scope_code c.args.scope) c.args.num c.args.name.now in
-    let body_is = bytes_are c.deref.result.now c.in_ok-bytes.bytes.items c.code_of.result (scope_code c.args.scope) c.args.num c.args.name.now c.deref.ensures.value c.in_ok-bytes.ensures c.code_of.ensures in
-    let filled = g.A.Area.image c.set.new.self in
-    let filled_is = filled_by taken filled (c.in_ok-place.place + 8) c.deref.result.now body c.in_ok-set.ensures.written body_is in
-    let raised = g.A.Area.image c.set_unsigned4.new.area in
-    let raised_is = raised_by filled (g.A.Area.image c.read_unsigned8.new.area) raised c.in_ok-gdr.gdr (c.args.num + 1) c.in_ok-set_unsigned4.ensures.ok c.in_ok-gdr.ensures.image in
-    raised_is_sound b taken c.in_ok-place.place c.args.num c.args.scope c.args.name.now may has filled filled_is c.in_ok-gdr.gdr c.in_ok-gdr.ensures.value raised raised_is
+    let count : c.len-num.result ≡ length (adrs (shape b)) = omega (arith, c.len-num.ensures, ap length c.requires.places, c.args.places.now.ok.0) in
+    let bytes : c.deref-2.result.now ≡ adr_body (scope_code c.args.scope) (length (adrs (shape b))) c.args.name.now = c.deref-2.ensures.value ∙ c.in_ok-bytes.ensures ∙ ap₂ (λ (x n : ℕ). adr_body x n c.args.name.now) c.code_of.ensures count in
+    subst IsBody (sym bytes) (adr_is_body (scope_code c.args.scope) (length (adrs (shape b))) c.args.name.now (fine_is_short c.args.name.now c.requires.named))
 
-pub chain_append-requires-clause-chain : goal.chain_append-requires-clause-chain
-chain_append-requires-clause-chain g c =
+pub append_record-requires-clause-kind : goal.append_record-requires-clause-kind
+append_record-requires-clause-kind g c =
     let b = g.A.Area.image c.args.area.now in
-    let taken = g.A.Area.image c.alloc_record.new.area in
-    let may : MayMake b c.args.num c.args.name.now = record { image = c.requires.good; named = c.requires.named; free = c.requires.free; num_is = c.requires.number; short = omega (arith, c.requires.room, c.requires.limit) } in
-    let has : HasTaken b taken c.in_ok-place.place = record { takes = c.in_ok-place.ensures.takes; sound = c.in_ok-place.ensures.sound; content_stays = c.in_ok-place.ensures.content } in
-    let body = adr_body (scope_code c.args.scope) c.args.num c.args.name.now in
-    let body_is = bytes_are c.deref.result.now c.in_ok-bytes.bytes.items c.code_of.result (scope_code c.args.scope) c.args.num c.args.name.now c.deref.ensures.value c.in_ok-bytes.ensures c.code_of.ensures in
-    let filled = g.A.Area.image c.set.new.self in
-    let filled_is = filled_by taken filled (c.in_ok-place.place + 8) c.deref.result.now body c.in_ok-set.ensures.written body_is in
-    let raised = g.A.Area.image c.set_unsigned4.new.area in
-    let raised_is = raised_by filled (g.A.Area.image c.read_unsigned8.new.area) raised c.in_ok-gdr.gdr (c.args.num + 1) c.in_ok-set_unsigned4.ensures.ok c.in_ok-gdr.ensures.image in
-    raised_has_chain b taken c.in_ok-place.place c.args.num c.args.scope c.args.name.now may has filled filled_is c.in_ok-gdr.gdr c.in_ok-gdr.ensures.value raised raised_is
+    let count : c.len-num.result ≡ length (adrs (shape b)) = omega (arith, c.len-num.ensures, ap length c.requires.places, c.args.places.now.ok.0) in
+    let bytes : c.deref-2.result.now ≡ adr_body (scope_code c.args.scope) (length (adrs (shape b))) c.args.name.now = c.deref-2.ensures.value ∙ c.in_ok-bytes.ensures ∙ ap₂ (λ (x n : ℕ). adr_body x n c.args.name.now) c.code_of.ensures count in
+    ap type_of_body bytes ∙ type_in_body (scope_code c.args.scope) (length (adrs (shape b))) c.args.name.now (fine_is_short c.args.name.now c.requires.named)
 
-pub chain_append-requires-clause-joins : goal.chain_append-requires-clause-joins
-chain_append-requires-clause-joins g c =
+pub append_record-requires-clause-few : goal.append_record-requires-clause-few
+append_record-requires-clause-few g c =
     let b = g.A.Area.image c.args.area.now in
-    let taken = g.A.Area.image c.alloc_record.new.area in
-    let may : MayMake b c.args.num c.args.name.now = record { image = c.requires.good; named = c.requires.named; free = c.requires.free; num_is = c.requires.number; short = omega (arith, c.requires.room, c.requires.limit) } in
-    let has : HasTaken b taken c.in_ok-place.place = record { takes = c.in_ok-place.ensures.takes; sound = c.in_ok-place.ensures.sound; content_stays = c.in_ok-place.ensures.content } in
-    let body = adr_body (scope_code c.args.scope) c.args.num c.args.name.now in
-    let body_is = bytes_are c.deref.result.now c.in_ok-bytes.bytes.items c.code_of.result (scope_code c.args.scope) c.args.num c.args.name.now c.deref.ensures.value c.in_ok-bytes.ensures c.code_of.ensures in
-    let filled = g.A.Area.image c.set.new.self in
-    let filled_is = filled_by taken filled (c.in_ok-place.place + 8) c.deref.result.now body c.in_ok-set.ensures.written body_is in
-    let raised = g.A.Area.image c.set_unsigned4.new.area in
-    let raised_is = raised_by filled (g.A.Area.image c.read_unsigned8.new.area) raised c.in_ok-gdr.gdr (c.args.num + 1) c.in_ok-set_unsigned4.ensures.ok c.in_ok-gdr.ensures.image in
-    raised_joins b taken c.in_ok-place.place c.args.num c.args.scope c.args.name.now may has filled filled_is c.in_ok-gdr.gdr c.in_ok-gdr.ensures.value raised raised_is
+    let few = few_attributes b (shape b) (good_is_sound b c.requires.good).has_shape in
+    omega (arith, counted_is b c.requires.good, few, c.requires.room, c.requires.limit)
 
-pub chain_append-requires-clause-short : goal.chain_append-requires-clause-short
-chain_append-requires-clause-short g c =
+pub append_record-requires-clause-room : goal.append_record-requires-clause-room
+append_record-requires-clause-room g c =
     let b = g.A.Area.image c.args.area.now in
-    let taken = g.A.Area.image c.alloc_record.new.area in
-    let may : MayMake b c.args.num c.args.name.now = record { image = c.requires.good; named = c.requires.named; free = c.requires.free; num_is = c.requires.number; short = omega (arith, c.requires.room, c.requires.limit) } in
-    let has : HasTaken b taken c.in_ok-place.place = record { takes = c.in_ok-place.ensures.takes; sound = c.in_ok-place.ensures.sound; content_stays = c.in_ok-place.ensures.content } in
-    let body = adr_body (scope_code c.args.scope) c.args.num c.args.name.now in
-    let body_is = bytes_are c.deref.result.now c.in_ok-bytes.bytes.items c.code_of.result (scope_code c.args.scope) c.args.num c.args.name.now c.deref.ensures.value c.in_ok-bytes.ensures c.code_of.ensures in
-    let filled = g.A.Area.image c.set.new.self in
-    let filled_is = filled_by taken filled (c.in_ok-place.place + 8) c.deref.result.now body c.in_ok-set.ensures.written body_is in
-    let raised = g.A.Area.image c.set_unsigned4.new.area in
-    let raised_is = raised_by filled (g.A.Area.image c.read_unsigned8.new.area) raised c.in_ok-gdr.gdr (c.args.num + 1) c.in_ok-set_unsigned4.ensures.ok c.in_ok-gdr.ensures.image in
-    omega (arith, raised_short b taken c.in_ok-place.place c.args.num c.args.scope c.args.name.now may has filled filled_is c.in_ok-gdr.gdr c.in_ok-gdr.ensures.value raised raised_is, c.requires.room, c.requires.limit)
+    let count : c.len-num.result ≡ length (adrs (shape b)) = omega (arith, c.len-num.ensures, ap length c.requires.places, c.args.places.now.ok.0) in
+    let bytes : c.deref-2.result.now ≡ adr_body (scope_code c.args.scope) (length (adrs (shape b))) c.args.name.now = c.deref-2.ensures.value ∙ c.in_ok-bytes.ensures ∙ ap₂ (λ (x n : ℕ). adr_body x n c.args.name.now) c.code_of.ensures count in
+    omega (arith, ap length bytes, length-body (scope_code c.args.scope) (length (adrs (shape b))) c.args.name.now (fine_is_short c.args.name.now c.requires.named), c.requires.room)
 
 pub returns-clause-follows : goal.returns-clause-follows
 returns-clause-follows g c =
     let b = g.A.Area.image c.args.area.now in
-    let taken = g.A.Area.image c.alloc_record.new.area in
-    let may : MayMake b c.args.num c.args.name.now = record { image = c.requires.good; named = c.requires.named; free = c.requires.free; num_is = c.requires.number; short = omega (arith, c.requires.room, c.requires.limit) } in
-    let has : HasTaken b taken c.in_ok-place.place = record { takes = c.in_ok-place.ensures.takes; sound = c.in_ok-place.ensures.sound; content_stays = c.in_ok-place.ensures.content } in
-    let body = adr_body (scope_code c.args.scope) c.args.num c.args.name.now in
-    let body_is = bytes_are c.deref.result.now c.in_ok-bytes.bytes.items c.code_of.result (scope_code c.args.scope) c.args.num c.args.name.now c.deref.ensures.value c.in_ok-bytes.ensures c.code_of.ensures in
-    let filled = g.A.Area.image c.set.new.self in
-    let filled_is = filled_by taken filled (c.in_ok-place.place + 8) c.deref.result.now body c.in_ok-set.ensures.written body_is in
-    let raised = g.A.Area.image c.set_unsigned4.new.area in
-    let raised_is = raised_by filled (g.A.Area.image c.read_unsigned8.new.area) raised c.in_ok-gdr.gdr (c.args.num + 1) c.in_ok-set_unsigned4.ensures.ok c.in_ok-gdr.ensures.image in
-    run_follows b taken c.in_ok-place.place c.args.num c.args.scope c.args.name.now may has filled filled_is c.in_ok-gdr.gdr c.in_ok-gdr.ensures.value raised raised_is _ c.in_ok-chain_append.ensures.appended
+    let few = few_attributes b (shape b) (good_is_sound b c.requires.good).has_shape in
+    let count : c.len-num.result ≡ length (adrs (shape b)) = omega (arith, c.len-num.ensures, ap length c.requires.places, c.args.places.now.ok.0) in
+    let bytes : c.deref-2.result.now ≡ adr_body (scope_code c.args.scope) (length (adrs (shape b))) c.args.name.now = c.deref-2.ensures.value ∙ c.in_ok-bytes.ensures ∙ ap₂ (λ (x n : ℕ). adr_body x n c.args.name.now) c.code_of.ensures count in
+    let added = subst (λ (x : List ℕ). Added b (g.A.Area.image c.append_record.new.area) Attrs x c.in_ok-place.place) bytes c.in_ok-place.ensures.added in
+    follows c.args.name.now c.args.scope c.requires.good (fine_is_short c.args.name.now c.requires.named) (fine_has_no_zeros c.args.name.now c.requires.named) (omega (arith, few, c.requires.room, c.requires.limit)) added c.requires.named c.requires.free (omega (arith, c.requires.room, c.requires.limit))
 
 pub returns-clause-names : goal.returns-clause-names
 returns-clause-names g c =
     let b = g.A.Area.image c.args.area.now in
-    let taken = g.A.Area.image c.alloc_record.new.area in
-    let may : MayMake b c.args.num c.args.name.now = record { image = c.requires.good; named = c.requires.named; free = c.requires.free; num_is = c.requires.number; short = omega (arith, c.requires.room, c.requires.limit) } in
-    let has : HasTaken b taken c.in_ok-place.place = record { takes = c.in_ok-place.ensures.takes; sound = c.in_ok-place.ensures.sound; content_stays = c.in_ok-place.ensures.content } in
-    let body = adr_body (scope_code c.args.scope) c.args.num c.args.name.now in
-    let body_is = bytes_are c.deref.result.now c.in_ok-bytes.bytes.items c.code_of.result (scope_code c.args.scope) c.args.num c.args.name.now c.deref.ensures.value c.in_ok-bytes.ensures c.code_of.ensures in
-    let filled = g.A.Area.image c.set.new.self in
-    let filled_is = filled_by taken filled (c.in_ok-place.place + 8) c.deref.result.now body c.in_ok-set.ensures.written body_is in
-    let raised = g.A.Area.image c.set_unsigned4.new.area in
-    let raised_is = raised_by filled (g.A.Area.image c.read_unsigned8.new.area) raised c.in_ok-gdr.gdr (c.args.num + 1) c.in_ok-set_unsigned4.ensures.ok c.in_ok-gdr.ensures.image in
-    run_names b taken c.in_ok-place.place c.args.num c.args.scope c.args.name.now may has filled filled_is c.in_ok-gdr.gdr c.in_ok-gdr.ensures.value raised raised_is _ c.in_ok-chain_append.ensures.appended
+    let few = few_attributes b (shape b) (good_is_sound b c.requires.good).has_shape in
+    let count : c.len-num.result ≡ length (adrs (shape b)) = omega (arith, c.len-num.ensures, ap length c.requires.places, c.args.places.now.ok.0) in
+    let bytes : c.deref-2.result.now ≡ adr_body (scope_code c.args.scope) (length (adrs (shape b))) c.args.name.now = c.deref-2.ensures.value ∙ c.in_ok-bytes.ensures ∙ ap₂ (λ (x n : ℕ). adr_body x n c.args.name.now) c.code_of.ensures count in
+    let added = subst (λ (x : List ℕ). Added b (g.A.Area.image c.append_record.new.area) Attrs x c.in_ok-place.place) bytes c.in_ok-place.ensures.added in
+    names_now c.args.name.now c.args.scope c.requires.good (fine_is_short c.args.name.now c.requires.named) (fine_has_no_zeros c.args.name.now c.requires.named) (omega (arith, few, c.requires.room, c.requires.limit)) added
+
+pub returns-clause-places : goal.returns-clause-places
+returns-clause-places g c =
+    let b = g.A.Area.image c.args.area.now in
+    let few = few_attributes b (shape b) (good_is_sound b c.requires.good).has_shape in
+    let count : c.len-num.result ≡ length (adrs (shape b)) = omega (arith, c.len-num.ensures, ap length c.requires.places, c.args.places.now.ok.0) in
+    let bytes : c.deref-2.result.now ≡ adr_body (scope_code c.args.scope) (length (adrs (shape b))) c.args.name.now = c.deref-2.ensures.value ∙ c.in_ok-bytes.ensures ∙ ap₂ (λ (x n : ℕ). adr_body x n c.args.name.now) c.code_of.ensures count in
+    let added = subst (λ (x : List ℕ). Added b (g.A.Area.image c.append_record.new.area) Attrs x c.in_ok-place.place) bytes c.in_ok-place.ensures.added in
+    c.in_ok-push.ensures.items ∙ ap (λ (xs : List ℕ). xs ++ c.in_ok-place.place ∷ []) c.requires.places ∙ sym (places_now c.args.name.now c.args.scope c.requires.good (fine_is_short c.args.name.now c.requires.named) (fine_has_no_zeros c.args.name.now c.requires.named) (omega (arith, few, c.requires.room, c.requires.limit)) added)

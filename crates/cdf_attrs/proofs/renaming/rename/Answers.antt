@@ -1,8 +1,13 @@
-use Rattle.std.proofs.Common.{◌≡◌, ◌∙◌, ℕ, List, ◌++◌, ◌∷◌, [], ◌+◌, ap, sym, length, arith, length-append}
+use Rattle.std.proofs.Common.{◌≡◌, ◌∙◌, ℕ, List, ◌++◌, ◌∷◌, [], ◌+◌, ◌<◌, refl, ap, sym, subst, length, arith, length-append}
 use Rattle.std.specs.List.{remove}
+use Rattle.std.specs.Prelude.{slice_index}
 use Rattle.cdf_names.specs.Names.{last_to}
+use Rattle.cdf_format.specs.Shape.{shape}
+use Rattle.cdf_format.specs.Tiles.{In}
+use Rattle.cdf_format.proofs.GoodSound.{good_is_sound}
+use Rattle.cdf_attrs.proofs.AttributeChain.{name_lies, index_in}
 use Rattle.cdf_attrs.proofs.NamesChanged.{number_within, last_removed}
-use Rattle.cdf_attrs.proofs.RenamingSteps.{answers_missing, answers_bad, answers_taken, number_is_adr, few_names, answers_done, names_done}
+use Rattle.cdf_attrs.proofs.RenamingSteps.{answers_missing, answers_bad, answers_taken, number_is_adr, few_names, answers_done, names_done, places_done}
 use Rattle.cdf_attrs.proofs.renaming.rename.Goals as goal
 
 pub returns-in_default-clause-answers : goal.returns-in_default-clause-answers
@@ -20,9 +25,16 @@ returns-then-is_some-clause-answers g c =
 pub add-requires-clause-few : goal.add-requires-clause-few
 add-requires-clause-few g c = few_names (g.A.Area.image c.args.area.now) _ c.args.names.now c.args.from.now c.args.to.now c.requires.names c.requires.good c.requires.fits c.requires.limit
 
-pub write_name-requires-clause-number : goal.write_name-requires-clause-number
-write_name-requires-clause-number g c =
-    number_is_adr (g.A.Area.image c.args.area.now) 0 c.args.names.now c.args.from.now c.args.to.now c.requires.names c.requires.good c.in-Some.number (number_within c.args.names.now c.args.from.now c.in-Some.number (sym c.in-Some.ensures.number))
+pub bounds-places-number : goal.bounds-places-number
+bounds-places-number g c =
+    let b = g.A.Area.image c.args.area.now in
+    omega (arith, number_is_adr b 0 c.args.names.now c.args.from.now c.args.to.now c.requires.names c.requires.good c.in-Some.number (number_within c.args.names.now c.args.from.now c.in-Some.number (sym c.in-Some.ensures.number)), ap length c.requires.places)
+
+pub set_adr_name-requires-clause-field : goal.set_adr_name-requires-clause-field
+set_adr_name-requires-clause-field g c =
+    let b = g.A.Area.image c.args.area.now in
+    let there : c.in-Some.number < length c.args.places.now = omega (arith, number_is_adr b 0 c.args.names.now c.args.from.now c.args.to.now c.requires.names c.requires.good c.in-Some.number (number_within c.args.names.now c.args.from.now c.in-Some.number (sym c.in-Some.ensures.number)), ap length c.requires.places) in
+    name_lies b (shape b) (good_is_sound b c.requires.good).has_shape b _ (subst (In (slice_index c.args.places.now c.in-Some.number)) c.requires.places (index_in c.args.places.now c.in-Some.number there)) refl
 
 pub last_to-requires : goal.last_to-requires
 last_to-requires g c =
@@ -35,7 +47,7 @@ returns-in-Ok-clause-answers g c =
     answers_done (g.A.Area.image c.args.area.now) _ c.args.names.now c.args.from.now c.args.to.now c.requires.names c.in-Some.number _ c.requires.good c.requires.fits (omega (arith, c.requires.fits, c.requires.limit)) (sym c.in-Some.ensures.number)
     (sym c.is_bad_name.ensures ∙ c.if-is_bad_name.false)
     (sym c.find-2.ensures.exact ∙ sym c.is_some.ensures ∙ c.if-is_some.false)
-    c.in-Ok.ensures.renamed
+    _ (ap (λ (xs : List ℕ). slice_index xs c.in-Some.number) c.requires.places) c.in-Ok.ensures.ok
 
 pub returns-in-Ok-clause-names : goal.returns-in-Ok-clause-names
 returns-in-Ok-clause-names g c =
@@ -45,8 +57,15 @@ returns-in-Ok-clause-names g c =
     ∙ names_done (g.A.Area.image c.args.area.now) _ c.args.names.now c.args.from.now c.args.to.now c.requires.names c.in-Some.number _ c.requires.good c.requires.fits (omega (arith, c.requires.fits, c.requires.limit)) (sym c.in-Some.ensures.number)
     (sym c.is_bad_name.ensures ∙ c.if-is_bad_name.false)
     (sym c.find-2.ensures.exact ∙ sym c.is_some.ensures ∙ c.if-is_some.false)
-    c.in-Ok.ensures.renamed
+    _ (ap (λ (xs : List ℕ). slice_index xs c.in-Some.number) c.requires.places) c.in-Ok.ensures.ok
 
 pub returns-in-Err-clause-stays : goal.returns-in-Err-clause-stays
 returns-in-Err-clause-stays g c =
     c.remove.ensures ∙ ap (λ (xs : List (List ℕ)). remove xs c.len-last.result) c.in_ok-add.ensures.added ∙ last_removed c.args.names.now c.new.result c.len-last.result c.len-last.ensures.count
+
+pub returns-in-Ok-clause-places : goal.returns-in-Ok-clause-places
+returns-in-Ok-clause-places g c =
+    c.requires.places ∙ places_done (g.A.Area.image c.args.area.now) _ c.args.names.now c.args.from.now c.args.to.now c.requires.names c.in-Some.number _ c.requires.good c.requires.fits (omega (arith, c.requires.fits, c.requires.limit)) (sym c.in-Some.ensures.number)
+    (sym c.is_bad_name.ensures ∙ c.if-is_bad_name.false)
+    (sym c.find-2.ensures.exact ∙ sym c.is_some.ensures ∙ c.if-is_some.false)
+    _ (ap (λ (xs : List ℕ). slice_index xs c.in-Some.number) c.requires.places) c.in-Ok.ensures.ok

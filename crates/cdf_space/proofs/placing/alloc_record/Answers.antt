@@ -1,9 +1,9 @@
 use Rattle.std.proofs.Common.{length, arith, sym, ◌∙◌, ap, ℕ, subst}
 use Rattle.std.proofs.lemmas.Result.{on_ok_weaker}
-use Rattle.cdf_format.specs.Placement.{Takes}
+use Rattle.cdf_edits.specs.Space.Placement.{Takes}
 use Rattle.cdf_format.specs.Shape.{shape}
-use Rattle.cdf_format.specs.Taking.{EndBytes, IsTaken}
-use Rattle.cdf_space.proofs.Walking.{cdr_room, gdr_field}
+use Rattle.cdf_edits.specs.Space.Taking.{EndBytes, IsTaken}
+use Rattle.cdf_edits.proofs.Space.ChainHeads.{cdr_room, gdr_field}
 use Rattle.cdf_space.proofs.Taking.{taken_end, none_found, if_both}
 use Rattle.cdf_space.proofs.placing.alloc_record.Goals as goal
 
@@ -14,7 +14,7 @@ pub take_end-requires-clause-gdr : goal.take_end-requires-clause-gdr
 take_end-requires-clause-gdr g c =
     let b = g.A.Area.image c.args.area.now in
     let room = gdr_field b c.requires.sound 36 (omega arith) in
-    let same = ap length (c.in_ok-fit.ensures.image ∙ c.in_ok-gdr.ensures.image) in
+    let same = ap length (c.in_ok-fit.ensures.area.image ∙ c.in_ok-gdr.ensures.area.image) in
     let at = c.in_ok-gdr.ensures.value in
     omega arith
 
@@ -22,14 +22,14 @@ at_end : (g : _) (c : goal.After-take_end g) → EndBytes (g.A.Area.image c.firs
     → IsTaken (g.A.Area.image c.args.area.now) (g.A.Area.image c.take_end.new.area) (shape (g.A.Area.image c.args.area.now)) (shape (g.A.Area.image c.take_end.new.area)) c.args.need (length (g.A.Area.image c.args.area.now))
 at_end g c bytes =
     let b = g.A.Area.image c.args.area.now in
-    let none = none_found b (g.A.Area.image c.read_unsigned8.new.area) c.args.need c.in_ok-fit.field-0 c.in_default.is c.in_ok-gdr.ensures.image c.in_ok-fit.ensures.found in
-    taken_end b (g.A.Area.image c.first_fit.new.area) (g.A.Area.image c.take_end.new.area) c.in_ok-gdr.gdr c.args.need c.requires.sound none c.requires.need (c.in_ok-fit.ensures.image ∙ c.in_ok-gdr.ensures.image) c.in_ok-gdr.ensures.value bytes
+    let none = none_found b (g.A.Area.image c.read_unsigned8.new.area) c.args.need c.in_ok-fit.field-0 c.in_default.is c.in_ok-gdr.ensures.area.image c.in_ok-fit.ensures.found in
+    taken_end b (g.A.Area.image c.first_fit.new.area) (g.A.Area.image c.take_end.new.area) c.in_ok-gdr.gdr c.args.need c.requires.sound none c.requires.need (c.in_ok-fit.ensures.area.image ∙ c.in_ok-gdr.ensures.area.image) c.in_ok-gdr.ensures.value bytes
 
 pub returns-in_default-clause-takes : goal.returns-in_default-clause-takes
 returns-in_default-clause-takes g c =
     let b = g.A.Area.image c.args.area.now in
     let now = g.A.Area.image c.take_end.new.area in
-    let long = ap length (c.in_ok-fit.ensures.image ∙ c.in_ok-gdr.ensures.image) in
+    let long = ap length (c.in_ok-fit.ensures.area.image ∙ c.in_ok-gdr.ensures.area.image) in
     if_both c.take_end.result c.take_end.ensures.place c.take_end.ensures.taken (λ place at bytes. subst (λ (p : ℕ). Takes b now (shape b) (shape now) c.args.need p) (sym (at ∙ long)) (at_end g c bytes).0)
 
 pub returns-in_default-clause-sound : goal.returns-in_default-clause-sound

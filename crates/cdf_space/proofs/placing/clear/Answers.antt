@@ -1,10 +1,11 @@
 use Rattle.std.proofs.Common.{arith, ◌∙◌, ℕ, rules, replicate, refl}
 use Rattle.std.proofs.lemmas.List.{length-replicate, get_or-replicate}
+use Rattle.cdf_area.proofs.Calls.{edit_more}
 use Rattle.cdf_space.proofs.Writing.{cleared_more, cleared_none}
 use Rattle.cdf_space.proofs.placing.clear.Goals as goal
 
 pub loop-done-init : goal.loop-done-init
-loop-done-init g c = record { cleared = cleared_none _ c.args.from; within = omega arith; frame = refl; later = omega arith }
+loop-done-init g c = record { cleared = cleared_none _ c.args.from; within = omega arith; area = record { frame = refl; faults = refl } }
 
 pub loop-done-preserved : goal.loop-done-preserved
 loop-done-preserved g c =
@@ -13,6 +14,5 @@ loop-done-preserved g c =
     record {
       cleared = cleared_more _ _ _ c.args.from c.loop-done.done count (replicate count 0) i.cleared c.in_ok-set_zeros.ensures.written (length-replicate {A = ℕ} count 0) (λ k lt. get_or-replicate {A = ℕ} count k 0 0 lt) (let r = c.requires in let w = i.within in search rules);
       within = search rules;
-      frame = c.set_zeros.ensures.frame ∙ i.frame;
-      later = omega (arith, c.set_zeros.ensures.cause.later, i.later);
+      area = edit_more i.area c.in_ok-set_zeros.ensures.area;
     }

@@ -1,4 +1,5 @@
 use Rattle.std.proofs.Common.{◌≡◌, ◌≤◌, ◌-◌}
+use Rattle.cdf_area.specs.Calls.{Keeps}
 use Rattle.cdf_space.specs.Fits.{Cleared}
 use Rattle.cdf_space.proofs.placing.clear.Given as goal
 
@@ -6,8 +7,7 @@ abbrev pub invariant-loop-done : goal.invariant-loop-done
 invariant-loop-done g l = record {
   cleared : Cleared (g.A.Area.image l.fn.area) (g.A.Area.image l.area) l.fn.from l.done;
   within : l.done ≤ l.fn.n;
-  frame : g.A.Area.frame l.area ≡ g.A.Area.frame l.fn.area;
-  later : g.A.Area.faults l.fn.area ≤ g.A.Area.faults l.area;
+  area : Keeps g.A.Area.frame g.A.Area.faults l.fn.area l.area;
 }
 
 abbrev pub decreases-loop-done : goal.decreases-loop-done

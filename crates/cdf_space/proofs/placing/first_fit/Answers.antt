@@ -1,11 +1,12 @@
 use Rattle.std.proofs.Common.{◌≡◌, ◌≤◌, ◌+◌, length, arith, subst, sym, ◌∙◌, ap, List, ℕ, true, false}
+use Rattle.cdf_area.proofs.Calls.{read_more, read_once}
 use Rattle.cdf_format.specs.Chains.{next_of}
 use Rattle.cdf_format.specs.Fields.{number, size_at}
-use Rattle.cdf_format.specs.Placement.{fits}
+use Rattle.cdf_edits.specs.Space.Placement.{fits}
 use Rattle.cdf_format.specs.Records.{gdr_uir_head}
 use Rattle.cdf_format.specs.Shape.{shape}
 use Rattle.cdf_space.proofs.FirstFit.{IsOnTheList, list_start, listed_lies, place_listed, list_on, list_found, list_ends, list_short}
-use Rattle.cdf_space.proofs.Walking.{gdr_field}
+use Rattle.cdf_edits.proofs.Space.ChainHeads.{gdr_field}
 use Rattle.cdf_space.proofs.placing.first_fit.Goals as goal
 
 pub read_unsigned8-requires : goal.read_unsigned8-requires
@@ -21,9 +22,7 @@ loop-init g c =
     let place : c.in_ok-place.place ≡ number b s.gdr gdr_uir_head = c.in_ok-place.ensures.value ∙ ap (λ (x : ℕ). number b x gdr_uir_head) at in
     record {
       walked = subst (λ (x : ℕ). IsOnTheList b s c.args.need (x + 64) 0 c.in_ok-place.place 0) (sym at) (subst (λ (p : ℕ). IsOnTheList b s c.args.need (s.gdr + 64) 0 p 0) (sym place) (list_start b s c.args.need c.requires.sound));
-      image = c.in_ok-place.ensures.image;
-      frame = c.in_ok-place.ensures.frame;
-      later = c.read_unsigned8.ensures.cause.later;
+      area = read_once c.in_ok-place.ensures.area;
     }
 
 pub returns-then-place-eq0-clause-found : goal.returns-then-place-eq0-clause-found
@@ -35,14 +34,14 @@ pub read_uir-requires : goal.read_uir-requires
 read_uir-requires g c =
     let b = g.A.Area.image c.args.area.now in
     let i = place_listed b (shape b) c.args.need c.requires.sound c.loop.link c.loop.before c.loop.place c.loop.counter c.loop.invariant.walked c.if-place-eq0.false in
-    subst (λ (x : List ℕ). c.loop.place + 28 ≤ length x) (sym c.loop.invariant.image) (listed_lies b (shape b) c.args.need c.requires.sound c.loop.place i)
+    subst (λ (x : List ℕ). c.loop.place + 28 ≤ length x) (sym c.loop.invariant.area.image) (listed_lies b (shape b) c.args.need c.requires.sound c.loop.place i)
 
 pub returns-then-is_fit-clause-found : goal.returns-then-is_fit-clause-found
 returns-then-is_fit-clause-found g c =
     let b = g.A.Area.image c.args.area.now in
     let uir = c.in_ok-uir.uir in
-    let size : uir.record_size ≡ size_at b c.loop.place = ap (λ u. u.record_size) c.in_ok-uir.ensures.value ∙ ap (λ (x : List ℕ). size_at x c.loop.place) c.loop.invariant.image in
-    let next : uir.next_uir ≡ next_of b c.loop.place = ap (λ u. u.next_uir) c.in_ok-uir.ensures.value ∙ ap (λ (x : List ℕ). next_of x c.loop.place) c.loop.invariant.image in
+    let size : uir.record_size ≡ size_at b c.loop.place = ap (λ u. u.record_size) c.in_ok-uir.ensures.value ∙ ap (λ (x : List ℕ). size_at x c.loop.place) c.loop.invariant.area.image in
+    let next : uir.next_uir ≡ next_of b c.loop.place = ap (λ u. u.next_uir) c.in_ok-uir.ensures.value ∙ ap (λ (x : List ℕ). next_of x c.loop.place) c.loop.invariant.area.image in
     let fit : fits c.args.need (size_at b c.loop.place) ≡ true = ap (fits c.args.need) (sym size) ∙ sym c.is_fit.ensures ∙ c.if-is_fit.true in
     list_found b (shape b) c.args.need c.requires.sound c.loop.link c.loop.before c.loop.place c.loop.counter uir.record_size uir.next_uir c.loop.invariant.walked c.if-place-eq0.false fit size next
 
@@ -59,15 +58,13 @@ loop-preserved g c =
     let b = g.A.Area.image c.args.area.now in
     let uir = c.in_ok-uir.uir in
     let i = c.loop.invariant in
-    let size : uir.record_size ≡ size_at b c.loop.place = ap (λ u. u.record_size) c.in_ok-uir.ensures.value ∙ ap (λ (x : List ℕ). size_at x c.loop.place) i.image in
-    let next : uir.next_uir ≡ next_of b c.loop.place = ap (λ u. u.next_uir) c.in_ok-uir.ensures.value ∙ ap (λ (x : List ℕ). next_of x c.loop.place) i.image in
+    let size : uir.record_size ≡ size_at b c.loop.place = ap (λ u. u.record_size) c.in_ok-uir.ensures.value ∙ ap (λ (x : List ℕ). size_at x c.loop.place) i.area.image in
+    let next : uir.next_uir ≡ next_of b c.loop.place = ap (λ u. u.next_uir) c.in_ok-uir.ensures.value ∙ ap (λ (x : List ℕ). next_of x c.loop.place) i.area.image in
     let unfit : fits c.args.need (size_at b c.loop.place) ≡ false = ap (fits c.args.need) (sym size) ∙ sym c.is_fit.ensures ∙ c.if-is_fit.false in
     record {
       walked = subst (λ (x : ℕ). IsOnTheList b (shape b) c.args.need (c.loop.place + 12) c.loop.place x (c.loop.counter + 1)) (sym next)
           (list_on b (shape b) c.args.need c.requires.sound c.loop.link c.loop.before c.loop.place c.loop.counter i.walked c.if-place-eq0.false unfit);
-      image = c.in_ok-uir.ensures.image ∙ i.image;
-      frame = c.in_ok-uir.ensures.frame ∙ i.frame;
-      later = let p = i.later in let q = c.read_uir.ensures.cause.later in omega arith;
+      area = read_more i.area c.in_ok-uir.ensures.area;
     }
 
 pub returns-clause-found : goal.returns-clause-found

@@ -58,7 +58,7 @@ clear-requires g c =
     let some = c.requires.need in
     let long1 = c.in_ok-list.ensures.listed.length_stays in
     let long2 = c.in_ok-relink.ensures.relinked.length_stays in
-    let long3 = c.in_ok-set_record_size.ensures.size in
+    let long3 = c.in_ok-set_record_size.ensures.area.size in
     omega arith
 
 pub returns-clause-taken : goal.returns-clause-taken

@@ -1,0 +1,354 @@
+-- The making of an attribute, as an edit, leads from a good image to the one that follows.
+use Rattle.std.proofs.Common.{◌≡◌, ◌≢◌, ℕ, suc, ◌+◌, ◌^◌, ◌-◌, ◌<◌, ◌≤◌, List, [], ◌∷◌, ◌++◌, length, map, Bool, true, false, not, ◌||◌, eqb, eq-eqb, Option, Some, refl, sym, ap, subst, ◌∙◌, append-nil, arith, inl, inr}
+use Rattle.std.proofs.lemmas.Bool.{and_from, eqb-true}
+use Rattle.std.proofs.lemmas.List.{length-append, length-map, map-append}
+use Rattle.std.specs.List.{All, flat_map, before_first, slice_get}
+use Rattle.std.specs.Prelude.{◌==◌, ◌&&◌, nat_le, nat_lt, if◌then◌else◌}
+use Rattle.cdf_model.specs.declared.answer.Reply.TheVariants.{Plain}
+use Rattle.cdf_model.specs.declared.command.Command.{Command}
+use Rattle.cdf_model.specs.declared.command.Command.TheVariants.{Attr}
+use Rattle.cdf_model.specs.declared.kinds.Scope.{Scope}
+use Rattle.cdf_model.specs.declared.kinds.Scope.TheVariants.{Global, Variable, GlobalAssumed, VariableAssumed}
+use Rattle.cdf_model.specs.Answers.{Go}
+use Rattle.cdf_model.specs.AttributeSteps.{new_attribute}
+use Rattle.cdf_model.specs.DataSet.{Attribute, DataSet}
+use Rattle.cdf_model.specs.Limits.{image_limit}
+use Rattle.cdf_model.specs.Names.{is_bad_name, is_among, attribute_names}
+use Rattle.cdf_model.specs.Step.{ByStep}
+use Rattle.cdf_format.specs.Sound.{IsSound}
+use Rattle.cdf_edits.specs.Commands.Allowances.{AllKeep, Allowances, Only, Keeps, only_of}
+use Rattle.cdf_format.specs.AttributeRules.{same_name}
+use Rattle.cdf_format.specs.ChainRules.{number_rows, adrs_rows, differ_rows, r_vdrs_rows, z_vdrs_rows}
+use Rattle.cdf_format.specs.Chains.{next_field, is_in, IsChain}
+use Rattle.cdf_format.specs.Content.{content, scope_of, attribute_of}
+use Rattle.cdf_format.specs.Fields.{number, name_in, size_at, type_at, gdr_offset}
+use Rattle.cdf_format.specs.GoodImage.{IsGoodImage, attribute_shape_rows}
+use Rattle.cdf_edits.specs.Follows.{Follows}
+use Rattle.cdf_edits.specs.Space.Acts.{Act, Took}
+use Rattle.cdf_edits.specs.Commands.Attributes.{MakesAttribute, attr_changes, attributes_gdr_fields}
+use Rattle.cdf_format.specs.Owners.{OneAttribute, attribute_records, owned_by, owned_by_attributes, times, owned}
+use Rattle.cdf_edits.specs.Space.Placement.{with_space}
+use Rattle.cdf_format.specs.Records.{Field, record_size, record_type, gdr_adr_head, gdr_num_attr, adr_agr_edr_head, adr_az_edr_head, adr_name, adr_scope, adr_num, adr_ngr_entries, adr_max_gr_entry, adr_rfu_a, adr_nz_entries, adr_max_z_entry, adr_rfu_e}
+use Rattle.cdf_format.specs.RecordTypes.{cdr_type, gdr_type, adr_type, agr_edr_type, az_edr_type, uir_type, is_record_type, fixed_size}
+use Rattle.cdf_format.specs.NotRead.{read_types}
+use Rattle.cdf_format.specs.Rules.{Hold}
+use Rattle.cdf_format.specs.Shape.{AttributeShape, Shape, adrs, vdrs, HasShape, shape}
+use Rattle.cdf_format.specs.Tiles.{In}
+use Rattle.cdf_format.specs.WellFormed.{Good}
+use Rattle.cdf_format.proofs.ChainsLemmas.{is_a-in, is_a-type, linkable-in, linkable-type}
+use Rattle.cdf_format.proofs.GoodSound.{good_by_its_shape, good_is_sound, rules_of_good}
+use Rattle.cdf_edits.proofs.Commands.KeptRecords.{AllKeep-append}
+use Rattle.cdf_format.proofs.Members.{either}
+use Rattle.cdf_format.proofs.NameRules.{stands_in, AreNew, names_at, names_differ, differ_by_names, new_pushed, attribute_names_are}
+use Rattle.cdf_edits.proofs.Frame.OwnersApart.{adrs_linked}
+use Rattle.cdf_format.proofs.RowLemmas.{Hold-append, Hold-split}
+use Rattle.cdf_edits.proofs.Rules.WithoutLinks.{number_rows_kept}
+use Rattle.cdf_format.proofs.SealedRules.{good_long, sealed_kept}
+use Rattle.cdf_format.proofs.ShapeLemmas.{content_is, shape_is}
+use Rattle.cdf_format.proofs.Tests.{of_le}
+use Rattle.cdf_format.proofs.TilesLemmas.{tile_lies}
+use Rattle.cdf_edits.proofs.Space.UsedRecords.{apart}
+use Rattle.cdf_edits.specs.declared.chain.Chain.TheVariants.{Attrs}
+use Rattle.cdf_edits.specs.Edits.Marks.{Mark, making_marks}
+use Rattle.cdf_edits.specs.Edits.Edit.{Edit}
+use Rattle.cdf_edits.proofs.Edits.AttributeFrame.{AreThere, entry, lives_clear, names_stay, nums_stay, more_there}
+use Rattle.cdf_edits.proofs.Edits.EditActs.{acts_took}
+use Rattle.cdf_edits.proofs.Edits.RecordFrame.{gdr_place}
+use Rattle.cdf_edits.proofs.Edits.OwnersKept.{stood, keeps_fields, keeps_away, keep_file, keep_places, all_keep}
+use Rattle.cdf_edits.specs.Space.Placing.{Fills}
+use Rattle.cdf_edits.proofs.Edits.MadeRecord.{place_in, filled_sound, filled_size, unowned, made_edit, made_part, made_type, made_size, shorter, end_now, list_chain, made_keeps_unused}
+use Rattle.cdf_edits.proofs.Edits.MarkLemmas.{unmarked-away, all_unmarked-away}
+use Rattle.cdf_edits.proofs.Edits.OwnedOnce.{used_times, IsSorted, spliced_times, owned_once_if}
+use Rattle.cdf_edits.proofs.Edits.Splice.{spliced, Splices, shape_now, content_now, OwnRules, good_image_if, file, variables_kept}
+use Rattle.cdf_edits.proofs.Edits.StepEdits.{gdr_in, gdr_typed}
+use Rattle.cdf_edits.proofs.Edits.VariableFrame.{variables_in}
+use Rattle.cdf_edits.specs.Space.Adding.{Added, adding_marks}
+use Rattle.cdf_attrs.specs.Creating.{scope_code, adr_body}
+use Rattle.cdf_attrs.proofs.AttributeChain.{attribute_members}
+use Rattle.cdf_attrs.proofs.AttributeWalk.{counted_is}
+use Rattle.cdf_attrs.proofs.NamesChanged.{fine_is_some, got-middle}
+use Rattle.cdf_attrs.proofs.NewAdr.{IsNewAdr, length-body, type_in_body, adr_written}
+use Rattle.cdf_fields.proofs.NamesWritten.{before_zeros}
+use Rattle.cdf_attrs.proofs.CreatingAnswers.{with_last}
+
+-- ---- numbers, scopes and the rules of a new ADR
+
+number_rows-push : (rule : ℕ) (b : List ℕ) (num : Field) (n : ℕ) (ms : List ℕ) (m : ℕ) → number b m num ≡ n + length ms → Hold (number_rows rule b num n ms) → Hold (number_rows rule b num n (ms ++ m ∷ []))
+number_rows-push rule b num n [] m is h = (eq-eqb _ _ (is ∙ none n), tt)
+  where
+    none : (x : ℕ) → x + 0 ≡ x
+    none x = omega arith
+number_rows-push rule b num n (x ∷ ms) m is h = (h.0, number_rows-push rule b num (suc n) ms m (is ∙ next n (length ms)) h.1)
+  where
+    next : (x y : ℕ) → x + suc y ≡ suc x + y
+    next x y = omega arith
+
+-- an attribute without entries
+abbrev bare_attribute : ℕ → AttributeShape
+bare_attribute place = record { adr = place; gr_entries = []; z_entries = [] }
+
+new_rows : (b : List ℕ) (place scope num : ℕ) (name : List ℕ) → IsNewAdr b place scope num name → name_in b place adr_name ≡ name → (length name == 0) ≡ false → 1 ≤ scope → scope ≤ 4 → Hold (attribute_shape_rows b (bare_attribute place))
+new_rows b place scope num name new named some low high = (
+  ap (λ (x : List ℕ). not (length x == 0)) named ∙ ap not some,
+  (ap (λ (x : ℕ). nat_le 1 x && nat_le x 4) new.scope_is ∙ and_from _ _ (of_le 1 scope low) (of_le scope 4 high), (eq-eqb _ _ new.gr_count, (eq-eqb _ _ new.z_count, tt))),
+)
+
+scope_back : (x : Scope) → scope_of (scope_code x) ≡ x
+scope_back Global = refl
+scope_back Variable = refl
+scope_back GlobalAssumed = refl
+scope_back VariableAssumed = refl
+
+low_code : (x : Scope) → 1 ≤ scope_code x
+low_code Global = omega arith
+low_code Variable = omega arith
+low_code GlobalAssumed = omega arith
+low_code VariableAssumed = omega arith
+
+high_code : (x : Scope) → scope_code x ≤ 4
+high_code Global = omega arith
+high_code Variable = omega arith
+high_code GlobalAssumed = omega arith
+high_code VariableAssumed = omega arith
+
+small_code : (x : Scope) → scope_code x < 2 ^ 32
+small_code x = let h = high_code x in omega arith
+
+-- ---- the record is taken, written, linked and counted
+
+module _ {b now : List ℕ} {place : ℕ} (name : List ℕ) (scope : Scope) (image : Good b) (short : length name ≤ 256) (no_zero : All (λ (byte : ℕ). byte ≢ 0) name) (few : length (adrs (shape b)) < 2 ^ 32) (added : Added b now Attrs (adr_body (scope_code scope) (length (adrs (shape b))) name) place) where
+  abbrev s : Shape
+  s = shape b
+
+  abbrev num : ℕ
+  num = length (adrs s)
+
+  abbrev code : ℕ
+  code = scope_code scope
+
+  good : IsGoodImage b s
+  good = good_by_its_shape b image
+
+  sound : IsSound b s
+  sound = good_is_sound b image
+
+  h : HasShape b s
+  h = sound.has_shape
+
+  abbrev records : List ℕ
+  records = (shape added.filled).records
+
+  abbrev list : List ℕ
+  list = (shape added.filled).unused
+
+  fills : Fills b added.placed.taken added.filled s records list 324 place adr_type
+  fills =
+      let body = adr_body code num name in
+      let size : 8 + length body ≡ 324 = omega (arith, length-body code num name short) in
+      subst (λ (n : ℕ). Fills b added.placed.taken added.filled s records list n place adr_type) size
+      (subst (λ (t : ℕ). Fills b added.placed.taken added.filled s records list (8 + length body) place t) (type_in_body code num name short) added.placed.fills)
+
+  abbrev late : List Mark
+  late = adding_marks b Attrs place
+
+  later : Edit added.filled now records records late []
+  later = added.linked
+
+  as_long : length now ≡ length added.filled
+  as_long = added.as_long
+
+  chain : IsChain now records adr_type (number now s.gdr gdr_adr_head) (adrs s ++ place ∷ [])
+  chain = subst (λ (g : ℕ). IsChain now records adr_type (number now g gdr_adr_head) (adrs s ++ place ∷ [])) h.gdr_is (subst (λ (ms : List ℕ). IsChain now records adr_type (number now (gdr_offset b) gdr_adr_head) (ms ++ place ∷ [])) (attribute_members b s h) added.chain)
+
+  abbrev marks : List Mark
+  marks = making_marks s.unused place 324 late
+
+  e : Edit b now s.records records marks (place ∷ [])
+  e = made_edit sound fills later as_long refl
+
+  there : AreThere b s.records s.attributes
+  there = record { linked = adrs_linked b s sound; have = h.entry_chains; fit = sound.attributes_fit }
+
+  abbrev attributes' : List AttributeShape
+  attributes' = s.attributes ++ bare_attribute place ∷ []
+
+  abbrev made : Shape
+  made = spliced s records list attributes'
+
+  new_type : type_at now place ≡ adr_type
+  new_type = made_type sound fills later as_long refl
+
+  pub new_size : size_at now place ≡ 324
+  new_size = made_size sound fills later as_long refl
+
+  -- ---- the new ADR
+
+  new : IsNewAdr now place code num name
+  new =
+      let lies = tile_lies added.filled 8 (length added.filled) records place (filled_sound sound fills).has_shape.tiled (place_in sound fills) in
+      adr_written code num name short added.placed (small_code scope) (omega arith) (made_part sound fills later as_long refl 20 324 refl (omega arith))
+      (subst (λ (n : ℕ). place + n ≤ length added.filled) (filled_size sound fills) lies.high) (omega (arith, as_long))
+
+  name_now : name_in now place adr_name ≡ name
+  name_now = ap (before_first (λ (x : ℕ). x == 0)) new.filled ∙ before_zeros name (256 - length name) no_zero
+
+  no_chain : (type link : ℕ) → link ≡ 0 → IsChain now records type link []
+  no_chain type link none = record { leads = none; linkable = λ m i. absurd i; once = tt }
+
+  adrs_are : adrs made ≡ adrs s ++ place ∷ []
+  adrs_are = map-append (λ (a : AttributeShape). a.adr) s.attributes (bare_attribute place ∷ [])
+
+  splices : Splices b now s records list marks (place ∷ []) s.attributes [] (bare_attribute place ∷ []) []
+  splices = record {
+    edit = e;
+    was = sym (append-nil s.attributes);
+    file_clear = refl;
+    variables_clear = refl;
+    before_live = lives_clear sound e s.attributes there refl;
+    after_live = tt;
+    typed = λ m i. subst (λ (x : ℕ). (is_record_type (type_at now x) ≡ true) × (fixed_size (type_at now x) ≤ size_at now x)) (sym (only_one place m i))
+        (subst (λ (t : ℕ). (is_record_type t ≡ true) × (fixed_size t ≤ size_at now place)) (sym new_type) (refl, subst (λ (n : ℕ). 324 ≤ n) (sym new_size) (omega arith)));
+    attribute_chain = subst (IsChain now records adr_type (number now s.gdr gdr_adr_head)) (sym adrs_are) chain;
+    unused_chain = list_chain sound fills later as_long refl;
+    own_entries = (record { gr_chain = no_chain agr_edr_type _ new.no_gr; z_chain = no_chain az_edr_type _ new.no_z }, tt);
+  }
+    where
+      only_one : (place m : ℕ) → In m (place ∷ []) → m ≡ place
+      only_one place m (inl q) = q
+      only_one place m (inr none) = absurd none
+
+  pub now_is : shape now ≡ made
+  now_is = shape_is now made (shape_now sound splices)
+
+  pub content_is_made : content now ≡ with_last (content b) (new_attribute name scope)
+  content_is_made =
+      let name_is = name_now in
+      let scope_is : scope_of (number now place adr_scope) ≡ scope = ap scope_of new.scope_is ∙ scope_back scope in
+      let here : attribute_of now (bare_attribute place) ≡ new_attribute name scope = λ i. record { name = name_is i; scope = scope_is i; g = []; z = [] } in
+      let old : map (attribute_of b) s.attributes ≡ (content b).attributes = sym (ap (λ (d : DataSet). d.attributes) (content_is b s h)) in
+      content_now sound splices ∙ (λ i. record (content b) { attributes = old i ++ here i ∷ [] })
+
+  -- ---- the rules
+
+  count_now : number now s.gdr gdr_num_attr ≡ num + 1
+  count_now = ap (λ (g : ℕ). number now g gdr_num_attr) (sym h.gdr_is) ∙ added.counted ∙ ap (λ (n : ℕ). n + 1) (counted_is b image)
+
+  sorted : (m : ℕ) → In m (place ∷ []) → IsSorted now made m
+  sorted m (inl q) = subst (IsSorted now made) (sym q) (inl (
+    (λ u. apart adr_type uir_type refl (sym new_type ∙ u)),
+    once (used_times made place) (used_times s place) (times place (place ∷ [])) (spliced_times s records list s.attributes [] (bare_attribute place ∷ []) [] (sym (append-nil s.attributes)) place (times place (place ∷ [])) 0 (swap (times place (place ∷ []))))
+        (unowned sound fills) (rw (eq-eqb place place refl) refl),
+  ))
+    where
+      once : (x y n : ℕ) → x + 0 ≡ y + n → y ≡ 0 → n ≡ 1 → x ≡ 1
+      once x y n p q r = omega arith
+
+      swap : (n : ℕ) → n + 0 ≡ 0 + n
+      swap n = omega arith
+  sorted m (inr none) = absurd none
+
+  beside : (m : ℕ) → (In m (place ∷ []) → ⊥) → used_times made m ≡ used_times s m
+  beside m out =
+      let other : eqb m place ≡ false = elim (either (eqb m place)) [ inl q ↦ absurd (out (inl (eqb-true m place q))) | inr q ↦ q ] in
+      same (used_times made m) (used_times s m) (times m (place ∷ [])) (spliced_times s records list s.attributes [] (bare_attribute place ∷ []) [] (sym (append-nil s.attributes)) m (times m (place ∷ [])) 0 (swap (times m (place ∷ [])))) (rw other refl)
+    where
+      same : (x y n : ℕ) → x + 0 ≡ y + n → n ≡ 0 → x ≡ y
+      same x y n p q = omega arith
+
+      swap : (n : ℕ) → n + 0 ≡ 0 + n
+      swap n = omega arith
+
+  own_rules : (length name == 0) ≡ false → stands_in name (names_at b adr_name (adrs s)) ≡ false → OwnRules sound splices
+  own_rules some absent =
+      let same_file = file sound splices in
+      let c = Hold-split (adrs_rows b (adrs s) ++ r_vdrs_rows b (vdrs s.r_variables)) (z_vdrs_rows b (vdrs s.z_variables)) good.counting in
+      let d = (Hold-split (adrs_rows b (adrs s)) (r_vdrs_rows b (vdrs s.r_variables)) c.0).0 in
+      let p = Hold-split (flat_map (attribute_shape_rows b) s.attributes) (differ_rows 2 (same_name b adr_name) [] (adrs s)) good.attributes in
+      let counted = ap (λ (g : ℕ). number now g gdr_num_attr) (gdr_place sound e refl) ∙ count_now ∙ sym (length-append (adrs s) (place ∷ [])) in
+      let nums = subst Hold (sym (number_rows_kept 4 b now adr_num 0 (adrs s) (nums_stay sound e same_file s.attributes there splices.before_live))) d.1 in
+      let numbered = number_rows-push 4 now adr_num 0 (adrs s) place (new.num_is ∙ zero_first (length (adrs s))) nums in
+      let names = names_stay sound e same_file s.attributes there splices.before_live in
+      let all : names_at b adr_name (adrs s) ++ name ∷ [] ≡ names_at now adr_name (adrs s ++ place ∷ []) = (λ i. sym names i ++ sym name_now i ∷ []) ∙ sym (map-append (λ (m : ℕ). name_in now m adr_name) (adrs s) (place ∷ [])) in
+      record {
+        counted = subst (λ (ms : List ℕ). Hold (adrs_rows now ms)) (sym adrs_are) (eq-eqb _ _ counted, numbered);
+        own_rules = Hold-append (attribute_shape_rows now (bare_attribute place)) [] (new_rows now place code num name new name_now some (low_code scope) (high_code scope)) tt;
+        differ = subst (λ (ms : List ℕ). Hold (differ_rows 2 (same_name now adr_name) [] ms)) (sym adrs_are) (differ_by_names 2 now adr_name (adrs s ++ place ∷ []) (subst (AreNew []) all (new_pushed [] (names_at b adr_name (adrs s)) name (names_differ 2 b adr_name (adrs s) p.1) absent)));
+        read = λ m i. elim i [ inl q ↦ ap (λ (t : ℕ). is_in t read_types) (ap (type_at now) q ∙ new_type) | inr none ↦ absurd none ];
+        owned = owned_once_if b now s made marks (place ∷ []) sound good.owned_once e beside sorted;
+      }
+    where
+      zero_first : (n : ℕ) → n ≡ 0 + n
+      zero_first n = omega arith
+
+  -- ---- what stays
+
+  abbrev c : Command
+  c = Attr name scope
+
+  abbrev may : Allowances
+  may = attr_changes b
+
+  abbrev acts : List Act
+  acts = Took place 324 ∷ []
+
+  records_are : (shape now).records ≡ records
+  records_are = ap (λ (x : Shape). x.records) now_is
+
+  keep_attributes : (n : ℕ) (as_ : List AttributeShape) → AreThere b s.records as_ → AllKeep b now may acts (owned_by_attributes n as_)
+  keep_attributes n [] t = tt
+  keep_attributes n (a ∷ more) t =
+      AllKeep-append b now may acts (owned_by (OneAttribute n) (attribute_records a)) (owned_by_attributes (suc n) more)
+      (keep_places b now may acts (OneAttribute n) (attribute_records a) (λ m i. elim i [ inl q ↦ subst (λ (x : ℕ). Keeps b now x (only_of b x adr_type (next_field ∷ []))) (sym q) adr | inr j ↦ of_entry m j ])) (keep_attributes (suc n) more (more_there b s.records a more t))
+    where
+      adr : Keeps b now a.adr (only_of b a.adr adr_type (next_field ∷ []))
+      adr =
+          let is = linkable-type b s.records adr_type a.adr t.linked.0 in
+          subst (λ (p : Bool). Keeps b now a.adr (if p then Only (next_field ∷ []) else Only [])) (sym (eq-eqb _ _ is)) (keeps_fields sound e records_are a.adr adr_type (next_field ∷ []) (linkable-in b s.records adr_type a.adr t.linked.0) is refl refl)
+
+      of_entry : (m : ℕ) → In m (a.gr_entries ++ a.z_entries) → Keeps b now m (only_of b m adr_type (next_field ∷ []))
+      of_entry m j =
+          let x = entry sound e a t.have.0 m j in
+          keeps_away sound e records_are m (type_at b m) _ x.0 refl (all_unmarked-away marks (agr_edr_type ∷ az_edr_type ∷ []) (type_at b m) m refl x.1)
+
+  keeps : AllKeep b now may acts (owned b s)
+  keeps =
+      let cdr = keeps_away sound e records_are 8 cdr_type (Only []) (is_a-in b s.records cdr_type 8 h.cdr_stands) (is_a-type b s.records cdr_type 8 h.cdr_stands) (unmarked-away marks cdr_type 8 refl) in
+      let gdr = keeps_fields sound e records_are s.gdr gdr_type attributes_gdr_fields (gdr_in b s h) (gdr_typed b s h) refl refl in
+      all_keep b now may acts (keep_file b now may acts sound cdr gdr) (keep_attributes 0 s.attributes there)
+      (λ m i. stood sound e records_are m (variables_in b s sound m i) (variables_kept sound splices m i))
+      (made_keeps_unused sound fills later as_long refl records_are may)
+
+  -- ---- what it makes
+
+  makes : MakesAttribute b now name acts
+  makes = record {
+    made = bare_attribute place;
+    made_last = subst (λ (x : Shape). slice_get x.attributes (length s.attributes) ≡ Some (bare_attribute place)) (sym now_is) (got-middle s.attributes (bare_attribute place) []);
+    acts_are = refl;
+    says = new.says;
+    named = new.filled;
+  }
+
+  pub follows : is_bad_name name ≡ false → is_among name (attribute_names (content b)) ≡ false → length b + 324 ≤ image_limit → Follows b c now
+  follows well_named free limited =
+      let rules = own_rules (fine_is_some name well_named) (ap (is_among name) (sym (attribute_names_are b s h)) ∙ free) in
+      let longest = shorter sound fills later as_long refl in
+      record {
+        reply = Plain;
+        goes = rw (well_named, free) (ap (λ (d : DataSet). ByStep (Go d Plain)) (sym content_is_made));
+        good = good_image_if sound splices (sealed_kept b (good_long b s good) (rules_of_good b image)).0 good rules (end_now sound fills later as_long refl) (omega arith);
+        longer = e.longer;
+        within = longest;
+        reads = λ q. absurd cc;
+        acts = acts;
+        takes_within = omega arith;
+        acts_follow = acts_took sound fills later as_long refl records_are (ap (λ (x : Shape). x.unused) now_is);
+        keeps = keeps;
+        does = makes;
+      }
+
+  pub names_now : attribute_names (content now) ≡ attribute_names (content b) ++ name ∷ []
+  names_now = ap attribute_names content_is_made ∙ map-append (λ (a : Attribute). a.name) (content b).attributes _
+
+  pub places_now : adrs (shape now) ≡ adrs s ++ place ∷ []
+  places_now = ap adrs now_is ∙ adrs_are

@@ -1,0 +1,64 @@
+-- A new ADR: what was written of it reads back.
+use Rattle.std.proofs.Common.{◌≡◌, ◌≢◌, ℕ, ◌+◌, ◌-◌, ◌^◌, ◌<◌, ◌≤◌, List, [], ◌∷◌, ◌++◌, length, drop, take, replicate, refl, ap, ◌∙◌, arith, lit<}
+use Rattle.std.proofs.lemmas.List.{length-append, length-replicate, take_at}
+use Rattle.cdf_format.specs.Bytes.{Same}
+use Rattle.cdf_format.specs.Fields.{word, number}
+use Rattle.cdf_format.specs.Records.{record_type, adr_adr_next, adr_agr_edr_head, adr_scope, adr_num, adr_ngr_entries, adr_az_edr_head, adr_nz_entries, adr_name}
+use Rattle.cdf_format.specs.RecordTypes.{uir_type}
+use Rattle.cdf_format.proofs.BytesLemmas.{piece_kept}
+use Rattle.cdf_edits.specs.Commands.Attributes.{new_adr}
+use Rattle.cdf_edits.specs.Commands.NewRecords.{Says, IsFilled}
+use Rattle.cdf_edits.specs.Space.Placing.{IsBody, Placed}
+use Rattle.cdf_edits.proofs.Space.LaidOut.{placed_says, says_kept}
+use Rattle.cdf_edits.proofs.Space.UsedRecords.{apart}
+use Rattle.cdf_attrs.specs.Creating.{adr_fields, adr_body}
+
+-- what the fields of a new ADR say
+pub record IsNewAdr (b : List ℕ) (place scope num : ℕ) (name : List ℕ) : Type 0 where
+  pub no_gr : number b place adr_agr_edr_head ≡ 0
+  pub no_z : number b place adr_az_edr_head ≡ 0
+  pub scope_is : number b place adr_scope ≡ scope
+  pub num_is : number b place adr_num ≡ num
+  pub gr_count : number b place adr_ngr_entries ≡ 0
+  pub z_count : number b place adr_nz_entries ≡ 0
+  pub says : Says b place new_adr
+  pub filled : IsFilled b place adr_name name
+
+is_new : (b : List ℕ) (place scope num : ℕ) (name : List ℕ) → Says b place (adr_fields scope num) → IsFilled b place adr_name name → IsNewAdr b place scope num name
+is_new b place scope num name (gr, (scope_is, (num_is, (ngr, (max_gr, (rfu_a, (z, (nz, (max_z, (rfu_e, end)))))))))) filled = record {
+  no_gr = gr;
+  no_z = z;
+  scope_is = scope_is;
+  num_is = num_is;
+  gr_count = ngr;
+  z_count = nz;
+  says = (rfu_a, (max_gr, (max_z, (rfu_e, tt))));
+  filled = filled;
+}
+
+module _ (scope num : ℕ) (name : List ℕ) (short : length name ≤ 256) where
+  length-padded : length (name ++ replicate (256 - length name) 0) ≡ 256
+  length-padded = omega (arith, length-append name (replicate (256 - length name) 0), length-replicate {A = ℕ} (256 - length name) 0)
+
+  pub length-body : length (adr_body scope num name) ≡ 316
+  unfolding adr_body
+  length-body = omega (arith, length-padded)
+
+  pub type_in_body : word (adr_body scope num name) 0 4 ≡ 4
+  unfolding adr_body
+  type_in_body = refl
+
+  pub adr_is_body : IsBody (adr_body scope num name)
+  adr_is_body = let long = length-body in record { enough = omega arith; real = rw type_in_body refl; in_use = rw type_in_body (apart 4 uir_type refl); fixed = rw type_in_body (omega arith) }
+
+  -- in an image in which it was placed, and after steps that leave what follows its link
+  pub adr_written : {b filled now : List ℕ} {place : ℕ} → Placed b filled (adr_body scope num name) place → scope < 2 ^ 32 → num < 2 ^ 32 → Same filled now (place + 20) (place + 324) → place + 324 ≤ length filled → length filled ≤ length now → IsNewAdr now place scope num name
+  unfolding adr_body
+  adr_written {filled = filled} {now = now} {place = place} placed small_scope small_num same inside longer =
+      let padded = name ++ replicate (256 - length name) 0 in
+      let w = placed_says ((record_type, 4) ∷ (adr_adr_next, 0) ∷ adr_fields scope num) padded placed refl refl
+      (lit< tt, (lit< tt, (lit< tt, (small_scope, (small_num, (lit< tt, (lit< tt, (lit< tt, (lit< tt, (lit< tt, (lit< tt, (lit< tt, tt)))))))))))) in
+      let there = ap (take 256) w.1.1 ∙ take_at padded w.1.0 256 length-padded in
+      is_new now place scope num name
+      (says_kept filled now place 20 324 20 (adr_fields scope num) same (omega arith) (omega arith) refl w.0.1.1)
+      (piece_kept filled now (place + 20) (place + 324) same (place + 68) 256 (omega arith) (omega arith) inside longer ∙ there)
