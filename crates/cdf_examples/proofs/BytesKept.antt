@@ -1,7 +1,8 @@
 -- Places of bytes that are compared one by one, computed.
 use Rattle.std.proofs.Common.{◌≡◌, ◌≤◌, ◌<◌, ◌⊎◌, ℕ, zero, suc, ◌+◌, Bool, true, false, ◌&&◌, ◌||◌, ◌==◌, nat_le, nat_lt, List, [], ◌∷◌, length, refl, inl, inr, subst, arith}
 use Rattle.std.proofs.lemmas.Bool.{eqb-true, leb-true, cases_lt}
-use Rattle.cdf_format.specs.Changed.{byte, Touch, Outside, Changed}
+use Rattle.cdf_format.specs.Bytes.{byte}
+use Rattle.cdf_edits.specs.Frame.Changed.{Touch, Outside, Changed}
 
 -- it holds of each number below n
 abbrev pub all_below : (ℕ → Bool) → ℕ → Bool

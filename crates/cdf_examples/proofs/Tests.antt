@@ -6,10 +6,12 @@ use Rattle.cdf_format.specs.AttributeRules.{phase6}
 use Rattle.cdf_format.specs.ChainRules.{phase5}
 use Rattle.cdf_format.specs.FileRules.{phase0, phase1, phase2, phase3}
 use Rattle.cdf_format.specs.IndexRules.{phase8}
+use Rattle.cdf_format.specs.Owners.{owned_records}
 use Rattle.cdf_format.specs.Phases.{phase9, phase10}
 use Rattle.cdf_format.specs.RecordRules.{phase4}
 use Rattle.cdf_format.specs.Rules.{Row, Hold, IsBroken, AllHold, FirstBroken}
 use Rattle.cdf_format.specs.Sealed.{image_of}
+use Rattle.cdf_format.specs.Shape.{adrs, vdrs, variables, shape}
 use Rattle.cdf_format.specs.VariableRules.{phase7}
 use Rattle.cdf_examples.specs.Asked.{lasting, lasting_phases, KeepsRules, BreaksFirst}
 use Rattle.cdf_examples.specs.Damage.{Change, Verdict, changed, EachBreaks}
@@ -65,7 +67,12 @@ IsBroken-by (r ∷ rows) rule place e = elim (either ((r.rule == rule) && ((r.pl
 abbrev pub phases_to_ask : List (List ℕ → List ℕ → List Row)
 phases_to_ask =
     (λ f b. phase0 f) ∷ (λ f b. phase1 f) ∷ (λ f b. phase2 f) ∷ (λ f b. phase3 f)
-    ∷ (λ f b. phase4 b) ∷ (λ f b. phase5 b) ∷ (λ f b. phase6 b) ∷ (λ f b. phase7 b) ∷ (λ f b. phase8 b) ∷ (λ f b. phase9 b)
+    ∷ (λ f b. phase4 b)
+    ∷ (λ f b. phase5 b (shape b).records)
+    ∷ (λ f b. phase6 b (shape b).records (adrs (shape b)))
+    ∷ (λ f b. phase7 b (shape b).records (vdrs (variables (shape b))))
+    ∷ (λ f b. phase8 b (shape b).records (vdrs (variables (shape b))))
+    ∷ (λ f b. phase9 (shape b).records (owned_records b (shape b)))
     ∷ (λ f b. phase10 f) ∷ []
 
 abbrev pub first_broken : List (List ℕ → List ℕ → List Row) → List ℕ → List ℕ → ℕ → ℕ → ℕ → Bool

@@ -18,3 +18,8 @@ pub mod DeepFiles
 pub mod DamagedNew
 pub mod DamagedUsual
 pub mod UsualData
+pub mod Claimed
+pub mod WrongPuts
+pub mod WrongCuts
+pub mod WrongEntries
+pub mod Signs

@@ -2,14 +2,16 @@
 use Rattle.std.specs.Prelude.{ℕ, ◌+◌, List, [], ◌∷◌, ◌++◌, Bool, false, Some}
 use Rattle.std.specs.List.{flat_map, fold}
 use Rattle.std.specs.declared.option.Option.{Option}
+use Rattle.cdf_model.specs.declared.command.Command.{Command}
 use Rattle.cdf_model.specs.DataSet.{DataSet}
 use Rattle.cdf_model.specs.Grammar.{Parsed, Blank, Asks, Faulty, parse}
 use Rattle.cdf_model.specs.Lines.{lines}
 use Rattle.cdf_model.specs.Limits.{image_limit}
 use Rattle.cdf_model.specs.Run.{Turn, asked, faulty, State, start, after}
-use Rattle.cdf_model.specs.Step.{route_of}
-use Rattle.cdf_format.specs.Locality.{is_full}
-use Rattle.cdf_format.specs.Room.{room}
+use Rattle.cdf_model.specs.Step.{Route, ByStep, step}
+use Rattle.cdf_edits.specs.Answers.{is_full}
+use Rattle.cdf_edits.specs.Commands.Room.{room}
+use Rattle.cdf_format.specs.Content.{content}
 
 -- texts, each with a newline
 abbrev pub text_lines : List (List ℕ) → List ℕ
@@ -18,7 +20,7 @@ text_lines texts = flat_map (λ text. text ++ 10 ∷ []) texts
 -- the line of number n
 abbrev pub full_turn : DataSet → ℕ → Parsed → Turn
 full_turn d n Blank = record { data_set = d; taps = []; text = []; refused = false }
-full_turn d n (Asks c) = asked d [] n c (route_of c) false
+full_turn d n (Asks c) = asked d [] n (step d c) false
 full_turn d n (Faulty fault) = faulty d [] n fault
 
 abbrev pub full_advance : State → Option (List ℕ) → State
@@ -39,9 +41,13 @@ made_by d script = (run_script d script).data_set
 abbrev pub room_for : List ℕ → List ℕ → ℕ
 room_for b line = elim (parse (Some line)) [ Blank ↦ 0 | Asks c ↦ room b c | Faulty fault ↦ 0 ]
 
--- that command would make the image too large
+-- a command whose step has an answer would make the image too large
+abbrev pub is_full_by : List ℕ → Command → Route → Bool
+is_full_by b c (ByStep answer) = is_full image_limit b c answer
+is_full_by b c other = false
+
 abbrev pub makes_too_large : List ℕ → List ℕ → Bool
-makes_too_large b line = elim (parse (Some line)) [ Blank ↦ false | Asks c ↦ is_full image_limit b c | Faulty fault ↦ false ]
+makes_too_large b line = elim (parse (Some line)) [ Blank ↦ false | Asks c ↦ is_full_by b c (step (content b) c) | Faulty fault ↦ false ]
 
 -- at least one line is refused
 abbrev pub is_refused : DataSet → List (List ℕ) → Bool

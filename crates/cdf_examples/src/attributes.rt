@@ -3,7 +3,7 @@
 ghost use Rattle.std.specs.Prelude.{◌≡◌, [], ◌∷◌, length, take, drop, codes};
 ghost use Rattle.cdf_format.specs.Content.{content};
 ghost use Rattle.cdf_format.specs.Owners.{owned, space_of};
-ghost use Rattle.cdf_format.specs.Placement.{unused, place_for, taken_from, eof_after, given_to};
+ghost use Rattle.cdf_edits.specs.Space.Placement.{unused, place_for, taken_from, eof_after, given_to};
 ghost use Rattle.cdf_format.specs.Shape.{shape};
 ghost use Rattle.cdf_examples.specs.Asked.{KeepsRules};
 ghost use Rattle.cdf_examples.specs.Attributes.{attribute_file, with_project, shape_with, entry_file, entry_as_written, text_item, entry_owned, replaced_file, moved_file, moved_owned, moved_space, freed_file, again_file, again_space, text24, text16, freed100_file, behind_file, behind_space, split_file, split_space};

@@ -1,16 +1,19 @@
 //! Records of a variable: they are put, read and deleted, and their index is made anew.
 
-ghost use Rattle.std.specs.Prelude.{◌≡◌, [], ◌∷◌, ◌++◌, length, take, drop, codes, true, negsuc};
-ghost use Rattle.cdf_format.specs.Blocks.{range, ranges_after_put, ranges_after_cut};
+ghost use Rattle.std.specs.Prelude.{◌≡◌, [], ◌∷◌, ◌++◌, length, take, drop, codes, true, false, negsuc};
+ghost use Rattle.cdf_edits.specs.Space.Acts.{Took, Gave};
+ghost use Rattle.cdf_edits.specs.Index.Blocks.{range, ranges_after_put, ranges_after_cut};
 ghost use Rattle.cdf_format.specs.Content.{content};
-ghost use Rattle.cdf_format.specs.Index.{no_node};
-ghost use Rattle.cdf_format.specs.BlocksFollow.{stays_in_place, Puts, Deletes};
+ghost use Rattle.cdf_format.specs.Index.{no_node, no_entry, block, leaves_of};
+ghost use Rattle.cdf_edits.specs.Index.Grown.{index_cut_closed, outline};
+ghost use Rattle.cdf_edits.specs.Commands.Puts.{stays_in_place, PutsBytes, PutsLeaves};
+ghost use Rattle.cdf_edits.specs.Commands.Reindex.{made_acts};
 ghost use Rattle.cdf_format.specs.Owners.{owned, space_of};
 ghost use Rattle.cdf_format.specs.Shape.{shape};
 ghost use Rattle.cdf_model.specs.declared.kinds.Kind.TheVariants as kinds;
 ghost use Rattle.cdf_examples.specs.Asked.{KeepsRules};
 ghost use Rattle.cdf_examples.specs.NewFile.{new_file, new_data_set};
-ghost use Rattle.cdf_examples.specs.OneVariable.{variable_shape, owned_by_file, of_variable, of_none, with_variable};
+ghost use Rattle.cdf_examples.specs.OneVariable.{one_node, variable_shape, owned_by_file, of_variable, of_none, with_variable};
 ghost use Rattle.cdf_examples.specs.RecordFiles.{unblocked_file, variable_file, t_data, records_file, records_block, records_index, records_shape, records_data, records_space, in_place_file, in_place_data, t_shape, full_file, full_data, deleted_file, deleted_data, deleted_index, reindexed_file, reindexed_shape, reindexed_space};
 ghost use Rattle.cdf_examples.specs.Scripts.{text_lines, replies, made_by, room_for, makes_too_large};
 
@@ -38,6 +41,7 @@ pub fn put_and_read()
         ≡ text_lines (codes "1 ok" ∷ codes "2 ok" ∷ codes "3 ok" ∷ codes "4 ok" ∷ codes "5 ok -2147483647" ∷ codes "6 ok 9" ∷ codes "7 ok -2147483647" ∷ []) }
     ensures made { made_by (content variable_file) (codes "put-rec T 0 7" ∷ codes "put-rec T 3 9" ∷ []) ≡ with_variable records_data }
     ensures blocks { ranges_after_put (t_data (negsuc 0) []) no_node 0 ≡ range 0 3 ∷ [] }
+    ensures acts { PutsLeaves variable_file records_file false 404 (leaves_of records_index) no_node (Took 748 28 ∷ Took 776 140 ∷ []) records_index }
     ensures room { room_for variable_file (codes "put-rec T 0 7") ≡ 352 }
     ensures room_in_place { room_for records_file (codes "put-rec T 1 8") ≡ 0 }
 {}
@@ -47,7 +51,8 @@ pub fn put_in_place()
     ensures content { content in_place_file ≡ with_variable in_place_data }
     ensures made { made_by (with_variable records_data) (codes "put-rec T 1 8" ∷ []) ≡ with_variable in_place_data }
     ensures in_place { stays_in_place records_data (t_shape records_index) 1 ≡ true }
-    ensures puts { Puts records_file in_place_file kinds.Z records_data 1 (t_shape records_index) (t_shape records_index) }
+    ensures acts { PutsLeaves records_file in_place_file false 404 (leaves_of records_index) records_index [] records_index }
+    ensures puts { PutsBytes records_file in_place_file kinds.Z records_data 1 (t_shape records_index) (t_shape records_index) [] }
 {}
 
 /// Two records in the middle go, and the last one follows the first.
@@ -62,7 +67,7 @@ pub fn deleted()
     ensures put { made_by (content records_file) (codes "put-rec T 0 1" ∷ codes "put-rec T 1 2" ∷ codes "put-rec T 2 3" ∷ codes "put-rec T 3 4" ∷ []) ≡ with_variable full_data }
     ensures made { made_by (content full_file) (codes "del-recs T 1 2" ∷ []) ≡ with_variable deleted_data }
     ensures blocks { ranges_after_cut full_data records_index 1 2 ≡ range 0 1 ∷ [] }
-    ensures deletes { Deletes full_file deleted_file full_data 1 2 (t_shape records_index) (t_shape deleted_index) }
+    ensures index { outline [] deleted_index ≡ outline [] (index_cut_closed 1 2 records_index) }
     ensures room { room_for full_file (codes "del-recs T 1 2") ≡ 256 }
 {}
 
@@ -75,5 +80,6 @@ pub fn index_made_anew()
     ensures content { content reindexed_file ≡ with_variable records_data }
     ensures rules { KeepsRules reindexed_file }
     ensures made { made_by (content records_file) (codes "reindex T" ∷ []) ≡ with_variable records_data }
+    ensures acts { made_acts records_file records_index (one_node 916 64 (block 0 3 748 false no_entry)) ≡ Took 916 1052 ∷ Gave 776 140 ∷ [] }
     ensures room { room_for records_file (codes "reindex T") ≡ 1052 }
 {}

@@ -1,6 +1,6 @@
 //! Records that are taken and freed.
 
-ghost use Rattle.cdf_format.specs.Placement.{Takes, Gives};
+ghost use Rattle.cdf_edits.specs.Space.Placement.{Takes, Gives};
 ghost use Rattle.cdf_format.specs.Shape.{shape};
 ghost use Rattle.cdf_examples.specs.Attributes.{freed100_file};
 ghost use Rattle.cdf_examples.specs.DeletedVariable.{two_variables};

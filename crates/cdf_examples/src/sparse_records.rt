@@ -1,13 +1,17 @@
 //! Sparse records, under both rules.
 
-ghost use Rattle.std.specs.Prelude.{◌≡◌, [], ◌∷◌, ◌++◌, length, codes, negsuc, pos};
-ghost use Rattle.cdf_format.specs.Blocks.{range, ranges_after_put, ranges_after_cut};
+ghost use Rattle.std.specs.Prelude.{◌≡◌, [], ◌∷◌, ◌++◌, length, codes, false, negsuc, pos};
+ghost use Rattle.cdf_model.specs.Limits.{record_number_limit};
+ghost use Rattle.cdf_edits.specs.Space.Acts.{Took};
+ghost use Rattle.cdf_edits.specs.Index.Blocks.{range, ranges_after_put, ranges_after_cut};
 ghost use Rattle.cdf_format.specs.Content.{content};
-ghost use Rattle.cdf_format.specs.Index.{no_node};
+ghost use Rattle.cdf_format.specs.Index.{no_node, no_entry, block, leaf};
+ghost use Rattle.cdf_edits.specs.Index.Grown.{cut_nodes, kept_open, index_cut_open, outline};
+ghost use Rattle.cdf_edits.specs.Commands.Puts.{PutsLeaves};
 ghost use Rattle.cdf_format.specs.Shape.{shape};
 ghost use Rattle.cdf_examples.specs.Asked.{KeepsRules};
 ghost use Rattle.cdf_examples.specs.NewFile.{new_data_set};
-ghost use Rattle.cdf_examples.specs.OneVariable.{variable_shape, with_variable};
+ghost use Rattle.cdf_examples.specs.OneVariable.{one_node, variable_shape, with_variable};
 ghost use Rattle.cdf_examples.specs.Scripts.{text_lines, replies, made_by, room_for};
 ghost use Rattle.cdf_examples.specs.SparseFiles.{s_data, first_sparse_file, first_sparse_index, first_sparse_data, sparse_file, sparse_index, both_sparse_data, foreign_file, foreign_index, foreign_data, foreign_file_after, foreign_data_after, whole_block_file, whole_block_index, whole_block_data, cut_block_file, cut_block_data};
 
@@ -31,6 +35,8 @@ pub fn blocks_cut()
     ensures first_rules { KeepsRules first_sparse_file }
     ensures first_blocks { ranges_after_put (s_data (negsuc 0) []) no_node 2 ≡ range 2 65 ∷ [] }
     ensures blocks { ranges_after_put first_sparse_data first_sparse_index 5 ≡ range 2 2 ∷ range 5 68 ∷ [] }
+    ensures cut { cut_nodes false (kept_open 3 record_number_limit) first_sparse_index ≡ one_node 888 7 (block 2 2 748 false no_entry) }
+    ensures acts { PutsLeaves first_sparse_file sparse_file false 404 (leaf 5 68 1028 false ∷ []) (one_node 888 7 (block 2 2 748 false no_entry)) (Took 1028 140 ∷ []) sparse_index }
     ensures room { room_for first_sparse_file (codes "put-rec S 5 50") ≡ 632 }
 {}
 
@@ -54,6 +60,7 @@ pub fn block_split()
     ensures content { content cut_block_file ≡ with_variable cut_block_data }
     ensures rules { KeepsRules cut_block_file }
     ensures blocks { ranges_after_cut whole_block_data whole_block_index 1 2 ≡ range 0 0 ∷ range 3 3 ∷ [] }
+    ensures index { outline (916 ∷ []) (one_node 776 7 (block 0 0 748 false (block 3 3 916 false no_entry))) ≡ outline (916 ∷ []) (index_cut_open 1 2 whole_block_index) }
     ensures room { room_for whole_block_file (codes "del-recs T 1 2") ≡ 256 }
     ensures made { made_by new_data_set (codes "zvar T INT4 1 vary - -" ∷ codes "set-sparse T pad" ∷ codes "set-blocking T 4"
         ∷ codes "put-rec T 0 1" ∷ codes "put-rec T 1 2" ∷ codes "put-rec T 2 3" ∷ codes "put-rec T 3 4" ∷ codes "del-recs T 1 2" ∷ [])

@@ -3,7 +3,7 @@ use Rattle.cdf_format.proofs.ChainsLemmas.{chain_sound}
 use Rattle.cdf_format.proofs.TilesLemmas.{tiling_sound}
 use Rattle.cdf_format.specs.Chains.{chain_on}
 use Rattle.cdf_format.specs.IndexWalk.{entries_on, nodes_on, levels_on}
-use Rattle.cdf_format.specs.Placement.{giving}
+use Rattle.cdf_edits.specs.Space.Placement.{giving}
 use Rattle.cdf_format.specs.Records.{gdr_uir_head}
 use Rattle.cdf_format.specs.RecordTypes.{uir_type}
 use Rattle.cdf_format.specs.Shape.{shape}

@@ -2,7 +2,7 @@ use Rattle.std.proofs.Common.{[], ◌∷◌, refl, arith}
 use Rattle.cdf_format.proofs.ChainsLemmas.{chain_sound}
 use Rattle.cdf_format.proofs.TilesLemmas.{tiling_sound}
 use Rattle.cdf_format.specs.Chains.{chain_on}
-use Rattle.cdf_format.specs.Placement.{taking}
+use Rattle.cdf_edits.specs.Space.Placement.{taking}
 use Rattle.cdf_format.specs.Records.{gdr_uir_head}
 use Rattle.cdf_format.specs.RecordTypes.{uir_type}
 use Rattle.cdf_format.specs.Shape.{shape}

@@ -1,0 +1,321 @@
+-- What acts leave and what records keep, computed as truth values over the bytes of two images.
+use Rattle.std.proofs.Common.{◌≡◌, ◌⊎◌, ◌<◌, ◌≤◌, ℕ, zero, suc, ◌+◌, ◌-◌, ◌*◌, Bool, true, false, not, ◌&&◌, ◌||◌, ◌==◌, List, [], ◌∷◌, length, refl, inl, inr, subst, sym, ap, ap₂, ◌∙◌, arith}
+use Rattle.std.proofs.lemmas.Bool.{eqb-true, leb-true, lt-ltb}
+use Rattle.std.specs.Prelude.{nat_le, nat_lt, Some, None}
+use Rattle.std.specs.declared.option.Option.{Option}
+use Rattle.std.specs.List.{fold, slice_get}
+use Rattle.cdf_edits.specs.Commands.Allowances.{FreedStay, FreedStays, shapes_of, Allowance, Anything, Only, OutsideFields, Keeps, Allowances, allowance, AllKeep}
+use Rattle.cdf_edits.specs.Space.Acts.{Act, Took, Gave, SpaceLeft, Among, AreActs, ActsFollow, RestStays, after_act, used_records, loose_records, space_before, back_of, links_end}
+use Rattle.cdf_edits.specs.Space.Placement.{place_for, unused}
+use Rattle.cdf_model.specs.DataSet.{Attribute}
+use Rattle.cdf_model.specs.Names.{Found, attribute_named, variable_named}
+use Rattle.cdf_edits.specs.Commands.Named.{OfAttribute, OfVariable}
+use Rattle.cdf_edits.specs.Commands.Variables.{DeletesVariable, DeletesNamed}
+use Rattle.cdf_edits.specs.Index.Written.{EntryIs, UnusedEntries, NodeSpareStays, NodesFollow, was_unused, is_taken_at}
+use Rattle.cdf_format.specs.Bytes.{byte, Same}
+use Rattle.cdf_format.specs.Content.{content}
+use Rattle.cdf_format.specs.Index.{used_count, room_at, first_at, last_at, offset_at}
+use Rattle.cdf_format.specs.IndexOf.{SaysEntry}
+use Rattle.cdf_format.specs.Chains.{is_in}
+use Rattle.cdf_format.specs.Fields.{size_at, type_at}
+use Rattle.cdf_format.specs.Owners.{Owner, unused_records}
+use Rattle.cdf_format.specs.Records.{Field}
+use Rattle.cdf_format.specs.Shape.{AttributeShape, VariableShape, Each, shape}
+use Rattle.cdf_format.proofs.Members.{true-is_in}
+use Rattle.cdf_examples.proofs.BytesKept.{all_below, below}
+use Rattle.cdf_examples.proofs.Refusing.{has}
+
+both : (p q : Bool) → (p && q) ≡ true → (p ≡ true) × (q ≡ true)
+both true q e = (refl, e)
+both false q e = absurd cc
+
+-- ---- lists
+
+abbrev pub each_by : {A : Type 0} → (A → Bool) → List A → Bool
+each_by test [] = true
+each_by test (a ∷ more) = test a && each_by test more
+
+pub each_if : {A : Type 0} (P : A → Type 0) (test : A → Bool) → ((a : A) → test a ≡ true → P a) → (list : List A) → each_by test list ≡ true → Each P list
+each_if P test one [] e = tt
+each_if P test one (a ∷ more) e = let two = both (test a) (each_by test more) e in (one a two.0, each_if P test one more two.1)
+
+pub has-among : (pair : ℕ × ℕ) (list : List (ℕ × ℕ)) → has pair list ≡ true → Among pair list
+has-among pair [] e = absurd cc
+has-among pair (other ∷ more) e = choose ((pair.0 == other.0) && (pair.1 == other.1)) refl e (has-among pair more)
+  where
+    choose : (p : Bool) → ((pair.0 == other.0) && (pair.1 == other.1)) ≡ p → (p || has pair more) ≡ true → (has pair more ≡ true → Among pair more) → Among pair (other ∷ more)
+    choose true is e later = let two = both (pair.0 == other.0) (pair.1 == other.1) is in inl (ap₂ (λ (x y : ℕ). (x, y)) (eqb-true pair.0 other.0 two.0) (eqb-true pair.1 other.1 two.1))
+    choose false is e later = inr (later e)
+
+-- ---- what a record keeps
+
+abbrev pub in_fields : List Field → ℕ → Bool
+in_fields [] i = false
+in_fields (f ∷ more) i = (nat_le f.place i && nat_lt i (f.place + f.width)) || in_fields more i
+
+apart : (from upto place : ℕ) → (place < from) ⊎ (upto ≤ place) → (nat_le from place && nat_lt place upto) ≡ true → ⊥
+apart from upto place outside e =
+    let two = both (nat_le from place) (nat_lt place upto) e in
+    let after : from ≤ place = leb-true from place two.0 in
+    let before : place < upto = leb-true (suc place) upto two.1 in
+    elim outside [ inl low ↦ omega (arith, low, after) | inr high ↦ omega (arith, high, before) ]
+
+outside-fields : (fields : List Field) (i : ℕ) (q : Bool) → OutsideFields fields i → (in_fields fields i || q) ≡ true → q ≡ true
+outside-fields [] i q out e = e
+outside-fields (f ∷ more) i q out e = choose (nat_le f.place i && nat_lt i (f.place + f.width)) refl e (outside-fields more i q out.1)
+  where
+    choose : (p : Bool) → (nat_le f.place i && nat_lt i (f.place + f.width)) ≡ p → ((p || in_fields more i) || q) ≡ true → ((in_fields more i || q) ≡ true → q ≡ true) → q ≡ true
+    choose true is e later = absurd (apart f.place (f.place + f.width) i out.0 is)
+    choose false is e later = later e
+
+abbrev pub same_by : List ℕ → List ℕ → ℕ → List Field → Bool
+same_by b now place fields = all_below (λ i. in_fields fields i || (byte now (place + i) == byte b (place + i))) (size_at b place)
+
+abbrev pub keeps_by : List ℕ → List ℕ → List ℕ → ℕ → Allowance → Bool
+keeps_by b now records place Anything = true
+keeps_by b now records place (Only fields) = is_in place records && ((size_at now place == size_at b place) && same_by b now place fields)
+
+keeps_if : (b now : List ℕ) (place : ℕ) (a : Allowance) → keeps_by b now (shape now).records place a ≡ true → Keeps b now place a
+keeps_if b now place Anything e = tt
+keeps_if b now place (Only fields) e =
+    let two = both (is_in place (shape now).records) ((size_at now place == size_at b place) && same_by b now place fields) e in
+    let more = both (size_at now place == size_at b place) (same_by b now place fields) two.1 in
+    record {
+      stands = true-is_in place (shape now).records two.0;
+      size_is = eqb-true (size_at now place) (size_at b place) more.0;
+      same = λ i less out. eqb-true (byte now (place + i)) (byte b (place + i))
+          (outside-fields fields i (byte now (place + i) == byte b (place + i)) out (below (λ i. in_fields fields i || (byte now (place + i) == byte b (place + i))) (size_at b place) more.1 i less));
+    }
+
+abbrev pub all_keep_by : List ℕ → List ℕ → List ℕ → Allowances → List Act → List (ℕ × Owner) → Bool
+all_keep_by b now records may acts [] = true
+all_keep_by b now records may acts ((place, owner) ∷ more) = keeps_by b now records place (allowance b (shape b) may acts place owner) && all_keep_by b now records may acts more
+
+pub all_keep_if : (b now : List ℕ) (may : Allowances) (acts : List Act) (list : List (ℕ × Owner)) → all_keep_by b now (shape now).records may acts list ≡ true → AllKeep b now may acts list
+all_keep_if b now may acts [] e = tt
+all_keep_if b now may acts ((place, owner) ∷ more) e =
+    let two = both (keeps_by b now (shape now).records place (allowance b (shape b) may acts place owner)) (all_keep_by b now (shape now).records may acts more) e in
+    (keeps_if b now place (allowance b (shape b) may acts place owner) two.0, all_keep_if b now may acts more two.1)
+
+-- ---- what acts leave
+
+abbrev pub happens_by : SpaceLeft → Act → Bool
+happens_by left (Took place need) = nat_le 28 need && (place == place_for left.listed left.end need)
+happens_by left (Gave place size) = has (place, size) left.used
+
+abbrev pub are_by : SpaceLeft → List Act → Bool
+are_by left [] = true
+are_by left (act ∷ more) = happens_by left act && are_by (after_act left act) more
+
+are_if : (left : SpaceLeft) (acts : List Act) → are_by left acts ≡ true → AreActs left acts
+are_if left [] e = tt
+are_if left (Took place need ∷ more) e =
+    let two = both (happens_by left (Took place need)) (are_by (after_act left (Took place need)) more) e in
+    let here = both (nat_le 28 need) (place == place_for left.listed left.end need) two.0 in
+    ((leb-true 28 need here.0, eqb-true place (place_for left.listed left.end need) here.1), are_if (after_act left (Took place need)) more two.1)
+are_if left (Gave place size ∷ more) e =
+    let two = both (happens_by left (Gave place size)) (are_by (after_act left (Gave place size)) more) e in
+    (has-among (place, size) left.used two.0, are_if (after_act left (Gave place size)) more two.1)
+
+abbrev pub left_by : List ℕ → List ℕ → List (ℕ × ℕ) → Bool
+left_by now places list = each_by (λ place. has (place, size_at now place) list) places
+
+left_if : (now places : List ℕ) (list : List (ℕ × ℕ)) → left_by now places list ≡ true → Each (λ place. Among (place, size_at now place) list) places
+left_if now places list e = each_if (λ place. Among (place, size_at now place) list) (λ place. has (place, size_at now place) list) (λ place h. has-among (place, size_at now place) list h) places e
+
+abbrev pub rest_by : List ℕ → List ℕ → ℕ → ℕ → Bool
+rest_by b now split rest = not (nat_lt split rest && nat_lt rest (split + size_at b split)) || all_below (λ i. nat_lt i 28 || (byte now (rest + i) == byte b (rest + i))) (size_at now rest)
+
+rest_if : (b now : List ℕ) (split rest : ℕ) → rest_by b now split rest ≡ true → RestStays b now split rest
+rest_if b now split rest e low high = record { each = λ i from upto. one i from upto (below (λ i. nat_lt i 28 || (byte now (rest + i) == byte b (rest + i))) (size_at now rest) (tests (nat_lt split rest) (nat_lt rest (split + size_at b split)) _ (lt-ltb split rest low) (lt-ltb rest (split + size_at b split) high) e)) }
+  where
+    tests : (p q r : Bool) → p ≡ true → q ≡ true → (not (p && q) || r) ≡ true → r ≡ true
+    tests true true r x y f = f
+    tests true false r x y f = absurd cc
+    tests false q r x y f = absurd cc
+
+    later : (k : ℕ) → 28 ≤ k → (p : Bool) → nat_lt k 28 ≡ p → (p || (byte now (rest + k) == byte b (rest + k))) ≡ true → (byte now (rest + k) == byte b (rest + k)) ≡ true
+    later k long true is e = let low : k < 28 = leb-true (suc k) 28 is in absurd (omega (arith, low, long))
+    later k long false is e = e
+
+    one : (i : ℕ) → rest + 28 ≤ i → i < rest + size_at now rest → ((k : ℕ) → k < size_at now rest → (nat_lt k 28 || (byte now (rest + k) == byte b (rest + k))) ≡ true) → byte now i ≡ byte b i
+    one i from upto all =
+        let k = i - rest in
+        let at : rest + k ≡ i = omega arith in
+        let here = all k (omega arith) in
+        subst (λ (n : ℕ). byte now n ≡ byte b n) at (eqb-true (byte now (rest + k)) (byte b (rest + k)) (later k (omega arith) (nat_lt k 28) refl here))
+
+pub acts_follow_if : (b now : List ℕ) (acts : List Act) → are_by (space_before b) acts ≡ true → left_by now (used_records now) (fold after_act (space_before b) acts).used ≡ true → unused now (shape now) ≡ (fold after_act (space_before b) acts).listed
+    → back_of now ≡ (fold after_act (space_before b) acts).back → left_by now (loose_records now) (fold after_act (space_before b) acts).loose ≡ true → length now ≡ (fold after_act (space_before b) acts).end
+    → each_by (λ split. each_by (rest_by b now split) (shape now).unused) (shape b).unused ≡ true → ActsFollow b now acts
+acts_follow_if b now acts are used listed back loose end rests = record {
+  are = are_if (space_before b) acts are;
+  left = record {
+    used_are = left_if now (used_records now) (fold after_act (space_before b) acts).used used;
+    list_is = listed;
+    back_is = back;
+    loose_are = left_if now (loose_records now) (fold after_act (space_before b) acts).loose loose;
+    end_is = end;
+  };
+  rests = λ once. each_if (λ split. Each (RestStays b now split) (shape now).unused) (λ split. each_by (rest_by b now split) (shape now).unused)
+      (λ split e. each_if (RestStays b now split) (rest_by b now split) (λ rest h. rest_if b now split rest h) (shape now).unused e) (shape b).unused rests;
+}
+
+-- ---- nodes
+
+abbrev pub entry_by : List ℕ → List ℕ → ℕ → ℕ → Bool → Bool
+entry_by b now vxr i true = (first_at now vxr i == first_at b vxr i) && ((last_at now vxr i == last_at b vxr i) && (offset_at now vxr i == offset_at b vxr i))
+entry_by b now vxr i false = (first_at now vxr i == 0xffffffff) && ((last_at now vxr i == 0xffffffff) && (offset_at now vxr i == 0xffffffffffffffff))
+
+says_if : (now : List ℕ) (vxr i first last offset : ℕ) → ((first_at now vxr i == first) && ((last_at now vxr i == last) && (offset_at now vxr i == offset))) ≡ true → SaysEntry now vxr i first last offset
+says_if now vxr i first last offset e =
+    let two = both (first_at now vxr i == first) ((last_at now vxr i == last) && (offset_at now vxr i == offset)) e in
+    let more = both (last_at now vxr i == last) (offset_at now vxr i == offset) two.1 in
+    record { first_is = eqb-true (first_at now vxr i) first two.0; last_is = eqb-true (last_at now vxr i) last more.0; offset_is = eqb-true (offset_at now vxr i) offset more.1 }
+
+entry_if : (b now : List ℕ) (vxr i : ℕ) (was : Bool) → entry_by b now vxr i was ≡ true → EntryIs b now vxr i was
+entry_if b now vxr i true e = says_if now vxr i (first_at b vxr i) (last_at b vxr i) (offset_at b vxr i) e
+entry_if b now vxr i false e = says_if now vxr i 0xffffffff 0xffffffff 0xffffffffffffffff e
+
+abbrev pub node_by : List ℕ → List ℕ → List ℕ → List Act → ℕ → Bool
+node_by b now before acts vxr =
+    all_below (λ i. nat_lt i (used_count now vxr) || entry_by b now vxr i (was_unused b before acts vxr i)) (room_at now vxr)
+    && (is_taken_at acts vxr || nat_le (size_at b vxr) (28 + 16 * room_at now vxr))
+
+unused_if : (b now : List ℕ) (twice : Bool) (before : List ℕ) (acts : List Act) (vxr : ℕ) → all_below (λ i. nat_lt i (used_count now vxr) || entry_by b now vxr i (was_unused b before acts vxr i)) (room_at now vxr) ≡ true → UnusedEntries b now twice before acts vxr
+unused_if b now twice before acts vxr e i from upto =
+    inl (entry_if b now vxr i (was_unused b before acts vxr i) (past (nat_lt i (used_count now vxr)) refl (below (λ i. nat_lt i (used_count now vxr) || entry_by b now vxr i (was_unused b before acts vxr i)) (room_at now vxr) e i upto)))
+  where
+    past : (p : Bool) → nat_lt i (used_count now vxr) ≡ p → (p || entry_by b now vxr i (was_unused b before acts vxr i)) ≡ true → entry_by b now vxr i (was_unused b before acts vxr i) ≡ true
+    past true is e = let low : i < used_count now vxr = leb-true (suc i) (used_count now vxr) is in absurd (omega (arith, low, from))
+    past false is e = e
+
+spare_if : (b now : List ℕ) (acts : List Act) (vxr : ℕ) → (is_taken_at acts vxr || nat_le (size_at b vxr) (28 + 16 * room_at now vxr)) ≡ true → NodeSpareStays b now acts vxr
+spare_if b now acts vxr e free = choose (is_taken_at acts vxr) e free
+  where
+    choose : (p : Bool) → (p || nat_le (size_at b vxr) (28 + 16 * room_at now vxr)) ≡ true → p ≡ false → Same b now (vxr + (28 + 16 * room_at now vxr)) (vxr + size_at b vxr)
+    choose true e f = absurd cc
+    choose false e f = let short : size_at b vxr ≤ 28 + 16 * room_at now vxr = leb-true (size_at b vxr) (28 + 16 * room_at now vxr) e in record { each = λ i low high. absurd (none (28 + 16 * room_at now vxr) (size_at b vxr) i short low high) }
+      where
+        none : (end size i : ℕ) → size ≤ end → vxr + end ≤ i → i < vxr + size → ⊥
+        none end size i short low high = omega (arith, short, low, high)
+
+pub nodes_if : (b now : List ℕ) (twice : Bool) (before after : List ℕ) (acts : List Act) → each_by (node_by b now before acts) after ≡ true → NodesFollow b now twice before after acts
+nodes_if b now twice before after acts e = record {
+  unused = each_if (UnusedEntries b now twice before acts) (node_by b now before acts) (λ vxr h. unused_if b now twice before acts vxr (both (all_below (λ i. nat_lt i (used_count now vxr) || entry_by b now vxr i (was_unused b before acts vxr i)) (room_at now vxr)) (is_taken_at acts vxr || nat_le (size_at b vxr) (28 + 16 * room_at now vxr)) h).0) after e;
+  spare = each_if (NodeSpareStays b now acts) (node_by b now before acts) (λ vxr h. spare_if b now acts vxr (both (all_below (λ i. nat_lt i (used_count now vxr) || entry_by b now vxr i (was_unused b before acts vxr i)) (room_at now vxr)) (is_taken_at acts vxr || nat_le (size_at b vxr) (28 + 16 * room_at now vxr)) h).1) after e;
+}
+
+-- ---- records that are freed
+
+abbrev pub freed_by : List ℕ → List ℕ → ℕ → ℕ → List Field → ℕ → Bool
+freed_by b now place size fields uir =
+    all_below (λ i. nat_lt (place + i) (uir + links_end (size_at now uir)) || (nat_le (uir + size_at now uir) (place + i) || (in_fields fields i || (byte now (place + i) == byte b (place + i))))) size
+
+freed_one : (b now : List ℕ) (place size : ℕ) (fields : List Field) (uir : ℕ) → freed_by b now place size fields uir ≡ true → FreedStays b now place size fields uir
+freed_one b now place size fields uir e i less from upto out =
+    eqb-true (byte now (place + i)) (byte b (place + i)) (outside-fields fields i (byte now (place + i) == byte b (place + i)) out
+    (before_end (nat_le (uir + size_at now uir) (place + i)) refl (behind_links (nat_lt (place + i) (uir + links_end (size_at now uir))) refl
+    (below (λ i. nat_lt (place + i) (uir + links_end (size_at now uir)) || (nat_le (uir + size_at now uir) (place + i) || (in_fields fields i || (byte now (place + i) == byte b (place + i))))) size e i less))))
+  where
+    behind_links : (p : Bool) → nat_lt (place + i) (uir + links_end (size_at now uir)) ≡ p → {q : Bool} → (p || q) ≡ true → q ≡ true
+    behind_links true is e = let low : place + i < uir + links_end (size_at now uir) = leb-true (suc (place + i)) (uir + links_end (size_at now uir)) is in absurd (omega (arith, low, from))
+    behind_links false is e = e
+
+    before_end : (p : Bool) → nat_le (uir + size_at now uir) (place + i) ≡ p → {q : Bool} → (p || q) ≡ true → q ≡ true
+    before_end true is e = let high : uir + size_at now uir ≤ place + i = leb-true (uir + size_at now uir) (place + i) is in absurd (omega (arith, high, upto))
+    before_end false is e = e
+
+abbrev pub freed_stay_by : List ℕ → List ℕ → List ℕ → (ℕ → List Field) → List Act → Bool
+freed_stay_by b now uirs but [] = true
+freed_stay_by b now uirs but (Took place need ∷ more) = freed_stay_by b now uirs but more
+freed_stay_by b now uirs but (Gave place size ∷ more) = each_by (freed_by b now place size (but (type_at b place))) uirs && freed_stay_by b now uirs but more
+
+pub freed_if : (b now : List ℕ) (but : ℕ → List Field) (acts : List Act) → freed_stay_by b now (unused_records now (shape now)) but acts ≡ true → FreedStay b now but acts
+freed_if b now but [] e = tt
+freed_if b now but (Took place need ∷ more) e = freed_if b now but more e
+freed_if b now but (Gave place size ∷ more) e =
+    let two = both (each_by (freed_by b now place size (but (type_at b place))) (unused_records now (shape now))) (freed_stay_by b now (unused_records now (shape now)) but more) e in
+    (each_if (FreedStays b now place size (but (type_at b place))) (freed_by b now place size (but (type_at b place))) (λ uir h. freed_one b now place size (but (type_at b place)) uir h) (unused_records now (shape now)) two.0, freed_if b now but more two.1)
+
+-- ---- what a command names
+
+abbrev pub or_else : {A : Type 0} → A → Option A → A
+or_else x None = x
+or_else x (Some y) = y
+
+pub of_variable : (b now name : List ℕ) (F : Found → VariableShape → VariableShape → Type 0) (found : Found) (v v' : VariableShape) → variable_named (content b) name ≡ Some found
+    → slice_get (shapes_of (shape b) found.kind) found.number ≡ Some v → slice_get (shapes_of (shape now) found.kind) found.number ≡ Some v' → F found v v' → OfVariable b now name F
+of_variable b now name F found v v' named before after f other w w' is =
+    let same : found ≡ other = ap (or_else found) (sym named ∙ is.named) in
+    let before_is = subst (λ (x : Found). slice_get (shapes_of (shape b) x.kind) x.number ≡ Some w) (sym same) is.before in
+    let after_is = subst (λ (x : Found). slice_get (shapes_of (shape now) x.kind) x.number ≡ Some w') (sym same) is.after in
+    let first : v ≡ w = ap (or_else v) (sym before ∙ before_is) in
+    let last : v' ≡ w' = ap (or_else v') (sym after ∙ after_is) in
+    subst (λ (x : VariableShape). F other x w') first (subst (λ (x : VariableShape). F other v x) last (subst (λ (x : Found). F x v v') same f))
+
+pub deleted_named : (b now name : List ℕ) (acts : List Act) (found : Found) (v : VariableShape) → variable_named (content b) name ≡ Some found
+    → slice_get (shapes_of (shape b) found.kind) found.number ≡ Some v → DeletesVariable b now found v acts → DeletesNamed b now name acts
+deleted_named b now name acts found v named before d other w is before_other =
+    let same : found ≡ other = ap (or_else found) (sym named ∙ is) in
+    let before_is = subst (λ (x : Found). slice_get (shapes_of (shape b) x.kind) x.number ≡ Some w) (sym same) before_other in
+    let first : v ≡ w = ap (or_else v) (sym before ∙ before_is) in
+    subst (λ (x : VariableShape). DeletesVariable b now other x acts) first (subst (λ (x : Found). DeletesVariable b now x v acts) same d)
+
+pub of_attribute : (b now name : List ℕ) (F : AttributeShape → AttributeShape → Type 0) (pair : ℕ × Attribute) (a a' : AttributeShape) → attribute_named (content b) name ≡ Some pair
+    → slice_get (shape b).attributes pair.0 ≡ Some a → slice_get (shape now).attributes pair.0 ≡ Some a' → F a a' → OfAttribute b now name F
+of_attribute b now name F pair a a' named before after f n w w' is =
+    let said : elim (Some pair) [ None ↦ false | Some found ↦ found.0 == n ] ≡ true = subst (λ (x : Option (ℕ × Attribute)). elim x [ None ↦ false | Some found ↦ found.0 == n ] ≡ true) named is.named in
+    let same : pair.0 ≡ n = eqb-true pair.0 n said in
+    let first : a ≡ w = ap (or_else a) (sym before ∙ subst (λ (k : ℕ). slice_get (shape b).attributes k ≡ Some w) (sym same) is.before_is) in
+    let last : a' ≡ w' = ap (or_else a') (sym after ∙ subst (λ (k : ℕ). slice_get (shape now).attributes k ≡ Some w') (sym same) is.after_is) in
+    subst (λ (x : AttributeShape). F x w') first (subst (λ (x : AttributeShape). F a x) last f)
+
+-- ---- records, one after the other
+
+pub same_if : (b now : List ℕ) (from upto : ℕ) → all_below (λ i. nat_lt i from || (byte now i == byte b i)) upto ≡ true → Same b now from upto
+same_if b now from upto e = record { each = λ i low high. eqb-true (byte now i) (byte b i) (past i low (nat_lt i from) refl (below (λ i. nat_lt i from || (byte now i == byte b i)) upto e i high)) }
+  where
+    past : (i : ℕ) → from ≤ i → (p : Bool) → nat_lt i from ≡ p → (p || (byte now i == byte b i)) ≡ true → (byte now i == byte b i) ≡ true
+    past i low true is e = let less : i < from = leb-true (suc i) from is in absurd (omega (arith, less, low))
+    past i low false is e = e
+
+-- of a number that a range of one, or of four, covers
+covered_last : (k last : ℕ) → ((nat_le 0 k && nat_le k last) || false) ≡ true → k ≤ last
+covered_last k last covered = leb-true k last (second (nat_le 0 k) (nat_le k last) covered)
+  where
+    second : (p q : Bool) → ((p && q) || false) ≡ true → q ≡ true
+    second true true e = refl
+    second true false e = absurd cc
+    second false q e = absurd cc
+
+pub of_one : (P : ℕ → Type 0) → P 0 → (k : ℕ) → ((nat_le 0 k && nat_le k 0) || false) ≡ true → P k
+of_one P p0 zero covered = p0
+of_one P p0 (suc k) covered = let last = covered_last (suc k) 0 covered in absurd (omega (arith, last))
+
+pub of_four : (P : ℕ → Type 0) → P 0 → P 1 → P 2 → P 3 → (k : ℕ) → ((nat_le 0 k && nat_le k 3) || false) ≡ true → P k
+of_four P p0 p1 p2 p3 zero covered = p0
+of_four P p0 p1 p2 p3 (suc zero) covered = p1
+of_four P p0 p1 p2 p3 (suc (suc zero)) covered = p2
+of_four P p0 p1 p2 p3 (suc (suc (suc zero))) covered = p3
+of_four P p0 p1 p2 p3 (suc (suc (suc (suc k)))) covered = let last = covered_last (suc (suc (suc (suc k)))) 3 covered in absurd (omega (arith, last))
+
+-- covered by a first range of four or by a second one
+pub first_or_second : (P : ℕ → Type 0) (k : ℕ) (second : Bool) → ((nat_le 0 k && nat_le k 3) || (second || false)) ≡ true → P 0 → P 1 → P 2 → P 3 → (second ≡ true → P k) → P k
+first_or_second P k second covered p0 p1 p2 p3 other = choose (nat_le 0 k && nat_le k 3) refl covered
+  where
+    last : (second : Bool) → (second || false) ≡ true → second ≡ true
+    last true e = refl
+    last false e = absurd cc
+
+    with_false : (p : Bool) → p ≡ true → (p || false) ≡ true
+    with_false true e = refl
+    with_false false e = absurd cc
+
+    choose : (p : Bool) → (nat_le 0 k && nat_le k 3) ≡ p → (p || (second || false)) ≡ true → P k
+    choose true is e = of_four P p0 p1 p2 p3 k (with_false (nat_le 0 k && nat_le k 3) is)
+    choose false is e = other (last second e)
+
+pub not_kept : (p : Bool) → p ≡ true → (p || false) ≡ false → ⊥
+not_kept true e f = absurd cc
+not_kept false e f = absurd cc

@@ -1,0 +1,84 @@
+use Rattle.std.proofs.Common.{refl, inl, inr, sym, subst, ◌≡◌, ◌⊎◌, ℕ, [], ◌∷◌, codes, pos, false, true, arith, replicate}
+use Rattle.cdf_edits.specs.Index.Blocks.{firsts_of, entry_firsts, cover}
+use Rattle.cdf_edits.specs.Index.Grown.{new_room, with_leaf, new_room_below, with_lower, cut_nodes, cut_entries, outline, entries_outline, with_place, with_place_in}
+use Rattle.cdf_edits.specs.Index.Cut.{sized_nodes, sized_nodes_below}
+use Rattle.cdf_edits.specs.Space.Acts.{Took, Gave}
+use Rattle.cdf_format.specs.Chains.{chain_on}
+use Rattle.cdf_format.specs.Content.{content}
+use Rattle.cdf_format.specs.Index.{nodes_of, lower_nodes, leaves_of, entry_leaves, block, no_entry}
+use Rattle.cdf_format.specs.IndexRules.{nodes_rows, used_rows}
+use Rattle.cdf_format.specs.IndexWalk.{entries_on, nodes_on, levels_on}
+use Rattle.cdf_format.specs.Shape.{shape, VariableShape}
+use Rattle.cdf_format.specs.Tiles.{tiles_from}
+use Rattle.cdf_examples.specs.OneVariable.{one_node}
+use Rattle.cdf_examples.specs.PackedFiles.{packed_file, plain_file, r_data}
+use Rattle.cdf_examples.specs.WrongPuts.{put_r, found_z}
+use Rattle.cdf_examples.proofs.Tests.{keeps_rules}
+use Rattle.std.specs.Prelude.{nat_le, nat_lt}
+use Rattle.std.specs.Prelude.{◌&&◌}
+use Rattle.cdf_examples.proofs.Deciding.{acts_follow_if, all_keep_if}
+use Rattle.cdf_edits.specs.Commands.Keeps.{allowances}
+use Rattle.cdf_format.specs.Owners.{owned}
+use Rattle.cdf_edits.specs.Commands.Room.{entries_in, entries_below, widest, widest_below, nodes_above}
+use Rattle.cdf_examples.specs.Scripts.{run_script}
+use Rattle.std.specs.Fmt.{digits}
+use Rattle.cdf_edits.specs.Commands.Does.{Does}
+use Rattle.cdf_examples.proofs.Deciding.{of_variable, nodes_if, freed_if}
+use Rattle.cdf_edits.specs.Commands.Puts.{PutsRecord}
+use Rattle.cdf_edits.specs.Commands.Allowances.{no_fields}
+use Rattle.cdf_edits.specs.Index.Blocks.{record_length}
+use Rattle.cdf_edits.specs.Index.Written.{stored_bytes}
+use Rattle.std.proofs.Common.{◌<◌}
+use Rattle.cdf_examples.proofs.Deciding.{of_one}
+use Rattle.cdf_examples.proofs.Packing.{ones_packed}
+use Rattle.std.proofs.Common.{◌+◌}
+use Rattle.cdf_edits.specs.Space.Acts.{ActsFollow}
+use Rattle.cdf_edits.specs.Commands.Allowances.{AllKeep}
+use Rattle.cdf_examples.proofs.admitted.block_replaced.Goals as goal
+
+follow : ActsFollow packed_file plain_file (Took 952 52 ∷ Gave 784 28 ∷ [])
+unfolding packed_file plain_file shape content tiles_from chain_on nodes_of lower_nodes leaves_of entry_leaves entries_on nodes_on levels_on
+follow = acts_follow_if packed_file plain_file (Took 952 52 ∷ Gave 784 28 ∷ []) refl refl refl refl refl refl refl
+
+keep : AllKeep packed_file plain_file (allowances packed_file (content packed_file) (shape packed_file) (put_r (codes "1"))) (Took 952 52 ∷ Gave 784 28 ∷ []) (owned packed_file (shape packed_file))
+unfolding packed_file plain_file shape content tiles_from chain_on nodes_of lower_nodes leaves_of entry_leaves entries_on nodes_on levels_on
+keep = all_keep_if packed_file plain_file (allowances packed_file (content packed_file) (shape packed_file) (put_r (codes "1"))) (Took 952 52 ∷ Gave 784 28 ∷ []) (owned packed_file (shape packed_file)) refl
+
+does : Does packed_file (put_r (codes "1")) plain_file (Took 952 52 ∷ Gave 784 28 ∷ [])
+unfolding packed_file plain_file shape content tiles_from chain_on nodes_of lower_nodes leaves_of entry_leaves entries_on nodes_on levels_on entries_in entries_below widest widest_below nodes_above firsts_of entry_firsts cover new_room with_leaf new_room_below with_lower cut_nodes cut_entries outline entries_outline sized_nodes sized_nodes_below with_place with_place_in
+does = of_variable packed_file plain_file (codes "R") (λ found v v'. PutsRecord packed_file plain_file found.kind found.variable 0 v v' (Took 952 52 ∷ Gave 784 28 ∷ [])) (found_z (r_data (pos 0) ((0, replicate 40 0) ∷ []))) before after refl refl refl (record {
+  index = record {
+    ranges = refl;
+    middle = before.index;
+    cut = [];
+    put = Took 952 52 ∷ Gave 784 28 ∷ [];
+    acts_are = refl;
+    cuts = (refl, refl);
+    puts = (refl, (refl, (refl, refl, (refl, refl))));
+    tail = refl;
+    nodes = nodes_if packed_file plain_file _ (nodes_of before.index) (nodes_of after.index) (Took 952 52 ∷ Gave 784 28 ∷ []) refl;
+    freed = freed_if packed_file plain_file no_fields (Took 952 52 ∷ Gave 784 28 ∷ []) refl;
+  };
+  bytes = record {
+    in_place = λ stays. absurd cc;
+    others_stay = (λ unwritten. absurd cc, tt);
+    unwritten_stay = λ k covered. of_one (λ k. (k < 0) ⊎ (0 < k) → stored_bytes plain_file 404 (record_length (r_data (pos 0) ((0, replicate 40 0) ∷ []))) (leaves_of (one_node 812 7 (block 0 0 952 false no_entry))) k ≡ stored_bytes packed_file 404 (record_length (r_data (pos 0) ((0, replicate 40 0) ∷ []))) (leaves_of (one_node 812 7 (block 0 0 784 true no_entry))) k) (λ out. elim out [ inl low ↦ absurd (omega (arith, low)) | inr high ↦ absurd (omega (arith, high)) ]) k covered;
+    padded = (λ is_new. absurd cc, tt);
+    blocks = (λ changed. record { packed = λ rle. record { chosen = λ packed bytes packs longest. subst (λ (n : ℕ). false ≡ (nat_le 40 67108864 && nat_lt (24 + n) 52)) (sym (ones_packed 40 packed packs)) refl; longest = λ e. absurd cc }; spare = λ i low high. absurd (omega arith); reserved = λ packed. absurd cc }, tt);
+  };
+  r_max_rec = refl;
+})
+  where
+    before : VariableShape
+    before = record { vdr = 404; index = one_node 812 7 (block 0 0 784 true no_entry); cpr = 756 ∷ [] }
+
+    after : VariableShape
+    after = record { vdr = 404; index = one_node 812 7 (block 0 0 952 false no_entry); cpr = 756 ∷ [] }
+
+pub returns : goal.returns
+unfolding packed_file plain_file shape content tiles_from chain_on nodes_of lower_nodes leaves_of entry_leaves entries_on nodes_on levels_on nodes_rows used_rows run_script digits entries_in entries_below widest widest_below nodes_above firsts_of entry_firsts cover
+returns c = record {
+  rules = keeps_rules plain_file refl;
+  made = refl;
+  follows = record { within = omega arith; acts_follow = follow; keeps = keep; does = does };
+}

@@ -1,0 +1,74 @@
+use Rattle.std.proofs.Common.{refl, [], ◌∷◌, codes, negsuc, arith}
+use Rattle.cdf_edits.specs.Index.Blocks.{firsts_of, entry_firsts, cover}
+use Rattle.cdf_edits.specs.Index.Grown.{new_room, with_leaf, new_room_below, with_lower, cut_nodes, cut_entries, outline, entries_outline}
+use Rattle.cdf_edits.specs.Index.Cut.{sized_nodes, sized_nodes_below}
+use Rattle.cdf_edits.specs.Space.Acts.{Took}
+use Rattle.cdf_format.specs.Chains.{chain_on}
+use Rattle.cdf_format.specs.Content.{content}
+use Rattle.cdf_format.specs.Index.{nodes_of, lower_nodes, leaves_of, entry_leaves, no_node}
+use Rattle.cdf_format.specs.IndexRules.{nodes_rows, used_rows}
+use Rattle.cdf_format.specs.IndexWalk.{entries_on, nodes_on, levels_on}
+use Rattle.cdf_format.specs.Shape.{shape, VariableShape}
+use Rattle.cdf_format.specs.Tiles.{tiles_from}
+use Rattle.cdf_examples.specs.RecordFiles.{variable_file, t_data, t_shape, records_index}
+use Rattle.cdf_examples.specs.WrongPuts.{put_t, found_z, first_put_file}
+use Rattle.cdf_examples.proofs.Tests.{keeps_rules}
+use Rattle.cdf_examples.proofs.Deciding.{acts_follow_if, all_keep_if}
+use Rattle.cdf_edits.specs.Commands.Keeps.{allowances}
+use Rattle.cdf_format.specs.Owners.{owned}
+use Rattle.cdf_edits.specs.Commands.Room.{entries_in, entries_below, widest, widest_below, nodes_above}
+use Rattle.cdf_examples.specs.Scripts.{run_script}
+use Rattle.std.specs.Fmt.{digits}
+use Rattle.cdf_edits.specs.Commands.Does.{Does}
+use Rattle.cdf_examples.proofs.Deciding.{of_variable, nodes_if}
+use Rattle.cdf_edits.specs.Commands.Puts.{PutsRecord}
+use Rattle.cdf_edits.specs.Space.Acts.{ActsFollow}
+use Rattle.cdf_edits.specs.Commands.Allowances.{AllKeep}
+use Rattle.cdf_examples.proofs.admitted.first_record_put.Goals as goal
+
+follow : ActsFollow variable_file first_put_file (Took 748 28 ∷ Took 776 140 ∷ [])
+unfolding variable_file first_put_file shape content tiles_from chain_on nodes_of lower_nodes leaves_of entry_leaves entries_on nodes_on levels_on
+follow = acts_follow_if variable_file first_put_file (Took 748 28 ∷ Took 776 140 ∷ []) refl refl refl refl refl refl refl
+
+keep : AllKeep variable_file first_put_file (allowances variable_file (content variable_file) (shape variable_file) (put_t 0 (codes "7"))) (Took 748 28 ∷ Took 776 140 ∷ []) (owned variable_file (shape variable_file))
+unfolding variable_file first_put_file shape content tiles_from chain_on nodes_of lower_nodes leaves_of entry_leaves entries_on nodes_on levels_on
+keep = all_keep_if variable_file first_put_file (allowances variable_file (content variable_file) (shape variable_file) (put_t 0 (codes "7"))) (Took 748 28 ∷ Took 776 140 ∷ []) (owned variable_file (shape variable_file)) refl
+
+does : Does variable_file (put_t 0 (codes "7")) first_put_file (Took 748 28 ∷ Took 776 140 ∷ [])
+unfolding variable_file first_put_file shape content tiles_from chain_on nodes_of lower_nodes leaves_of entry_leaves entries_on nodes_on levels_on entries_in entries_below widest widest_below nodes_above firsts_of entry_firsts cover new_room with_leaf new_room_below with_lower cut_nodes cut_entries outline entries_outline sized_nodes sized_nodes_below
+does = of_variable variable_file first_put_file (codes "T") (λ found v v'. PutsRecord variable_file first_put_file found.kind found.variable 0 v v' (Took 748 28 ∷ Took 776 140 ∷ [])) (found_z (t_data (negsuc 0) [])) before after refl refl refl (record {
+  index = record {
+    ranges = refl;
+    middle = before.index;
+    cut = [];
+    put = Took 748 28 ∷ Took 776 140 ∷ [];
+    acts_are = refl;
+    cuts = (refl, refl);
+    puts = (refl, (refl, (refl, (refl, refl))));
+    tail = refl;
+    nodes = nodes_if variable_file first_put_file _ (nodes_of before.index) (nodes_of after.index) (Took 748 28 ∷ Took 776 140 ∷ []) refl;
+    freed = tt;
+  };
+  bytes = record {
+    in_place = λ stays. absurd cc;
+    others_stay = tt;
+    unwritten_stay = λ k covered. absurd cc;
+    padded = ((λ is_new. refl), tt);
+    blocks = (λ changed. record { packed = λ rle. absurd cc; spare = λ i low high. absurd (omega arith); reserved = λ packed. absurd cc }, tt);
+  };
+  r_max_rec = refl;
+})
+  where
+    before : VariableShape
+    before = t_shape no_node
+
+    after : VariableShape
+    after = t_shape records_index
+
+pub returns : goal.returns
+unfolding variable_file first_put_file shape content tiles_from chain_on nodes_of lower_nodes leaves_of entry_leaves entries_on nodes_on levels_on nodes_rows used_rows run_script digits entries_in entries_below widest widest_below nodes_above firsts_of entry_firsts cover
+returns c = record {
+  rules = keeps_rules first_put_file refl;
+  made = refl;
+  follows = record { within = omega arith; acts_follow = follow; keeps = keep; does = does };
+}

@@ -1,0 +1,80 @@
+use Rattle.std.proofs.Common.{refl, ◌≡◌, [], codes, false, true, Bool, arith, inl}
+use Rattle.cdf_edits.specs.Index.Blocks.{firsts_of, entry_firsts, cover}
+use Rattle.cdf_edits.specs.Index.Grown.{new_room, with_leaf, new_room_below, with_lower, cut_nodes, cut_entries, outline, entries_outline}
+use Rattle.cdf_edits.specs.Index.Cut.{sized_nodes, sized_nodes_below}
+use Rattle.cdf_format.specs.Chains.{chain_on}
+use Rattle.cdf_format.specs.Content.{content}
+use Rattle.cdf_format.specs.Index.{nodes_of, lower_nodes, leaves_of, entry_leaves, block, no_entry}
+use Rattle.cdf_format.specs.IndexRules.{nodes_rows, used_rows}
+use Rattle.cdf_format.specs.IndexWalk.{entries_on, nodes_on, levels_on}
+use Rattle.cdf_format.specs.Shape.{shape, VariableShape}
+use Rattle.cdf_format.specs.Tiles.{tiles_from}
+use Rattle.cdf_format.specs.Fields.{size_at}
+use Rattle.cdf_examples.specs.OneVariable.{one_node}
+use Rattle.cdf_examples.specs.RecordFiles.{records_file, t_shape, records_index, records_data}
+use Rattle.cdf_examples.specs.WrongPuts.{found_z}
+use Rattle.cdf_examples.proofs.Tests.{keeps_rules}
+use Rattle.cdf_examples.specs.WrongCuts.{delete_t, last_deleted_file}
+use Rattle.cdf_examples.proofs.Deciding.{acts_follow_if, all_keep_if}
+use Rattle.cdf_edits.specs.Commands.Keeps.{allowances}
+use Rattle.cdf_format.specs.Owners.{owned}
+use Rattle.cdf_edits.specs.Commands.Room.{entries_in, entries_below, widest, widest_below, nodes_above}
+use Rattle.cdf_examples.specs.Scripts.{run_script}
+use Rattle.std.specs.Fmt.{digits}
+use Rattle.cdf_edits.specs.Commands.Does.{Does}
+use Rattle.cdf_examples.proofs.Deciding.{of_variable, nodes_if, each_if}
+use Rattle.cdf_edits.specs.Commands.Cuts.{DeletesRecords}
+use Rattle.cdf_edits.specs.Index.Written.{is_taken_at}
+use Rattle.std.proofs.Common.{not}
+use Rattle.cdf_examples.proofs.Deciding.{same_if, of_four}
+use Rattle.cdf_edits.specs.Index.Blocks.{record_length}
+use Rattle.cdf_edits.specs.Index.Written.{stored_bytes}
+use Rattle.cdf_edits.specs.Commands.Cuts.{is_deleted, number_after_cut}
+use Rattle.cdf_edits.specs.Commands.Room.{vxr_bytes}
+use Rattle.cdf_format.specs.Index.{room_at}
+use Rattle.cdf_edits.specs.Space.Acts.{ActsFollow}
+use Rattle.cdf_edits.specs.Commands.Allowances.{AllKeep}
+use Rattle.cdf_examples.proofs.admitted.last_deleted.Goals as goal
+
+follow : ActsFollow records_file last_deleted_file ([])
+unfolding records_file last_deleted_file shape content tiles_from chain_on nodes_of lower_nodes leaves_of entry_leaves entries_on nodes_on levels_on
+follow = acts_follow_if records_file last_deleted_file ([]) refl refl refl refl refl refl refl
+
+keep : AllKeep records_file last_deleted_file (allowances records_file (content records_file) (shape records_file) (delete_t 3 3)) ([]) (owned records_file (shape records_file))
+unfolding records_file last_deleted_file shape content tiles_from chain_on nodes_of lower_nodes leaves_of entry_leaves entries_on nodes_on levels_on
+keep = all_keep_if records_file last_deleted_file (allowances records_file (content records_file) (shape records_file) (delete_t 3 3)) ([]) (owned records_file (shape records_file)) refl
+
+does : Does records_file (delete_t 3 3) last_deleted_file ([])
+unfolding records_file last_deleted_file shape content tiles_from chain_on nodes_of lower_nodes leaves_of entry_leaves entries_on nodes_on levels_on entries_in entries_below widest widest_below nodes_above firsts_of entry_firsts cover new_room with_leaf new_room_below with_lower cut_nodes cut_entries outline entries_outline sized_nodes sized_nodes_below
+does = of_variable records_file last_deleted_file (codes "T") (λ found v v'. DeletesRecords records_file last_deleted_file found.variable 3 3 v v' ([])) (found_z records_data) before after refl refl refl (record {
+  middle = after.index;
+  cut = [];
+  again = [];
+  acts_are = refl;
+  cuts = (record { index_is = refl; once = refl; takes = tt; stand = (refl, tt); stay = ((λ part whole. (refl, refl, refl), tt), tt) }, refl, refl);
+  blocks = ((record { kept = λ part. record { packed = λ whole rle. absurd cc; placed = λ settled. (refl, refl); stands = inl refl; bytes = λ settled whole. record { packed = λ rle. absurd cc; spare = same_if records_file last_deleted_file 772 776 refl; reserved = λ packed. absurd cc }; rest = λ settled. absurd cc }; split = λ part. absurd cc }, tt), tt);
+  others_stay = λ k covered. of_four (λ k. is_deleted records_data 3 3 k ≡ false → stored_bytes last_deleted_file 404 (record_length records_data) (leaves_of (t_shape (one_node 776 7 (block 0 2 748 false no_entry))).index) (number_after_cut records_data 3 3 k) ≡ stored_bytes records_file 404 (record_length records_data) (leaves_of (t_shape records_index).index) k) (λ kept. refl) (λ kept. refl) (λ kept. refl) (λ kept. absurd cc) k covered;
+  new_nodes = each_if (λ vxr. is_taken_at ([]) vxr ≡ true → size_at last_deleted_file vxr ≡ vxr_bytes (room_at last_deleted_file vxr)) (λ vxr. not (is_taken_at ([]) vxr)) (λ vxr h e. absurd (clash (is_taken_at ([]) vxr) h e)) (nodes_of after.index) refl;
+  nodes = nodes_if records_file last_deleted_file _ (nodes_of before.index) (nodes_of after.index) ([]) refl;
+  tail = refl;
+  freed = λ once. tt;
+  r_max_rec = refl;
+})
+  where
+    before : VariableShape
+    before = t_shape records_index
+
+    after : VariableShape
+    after = t_shape (one_node 776 7 (block 0 2 748 false no_entry))
+
+    clash : (p : Bool) → not p ≡ true → p ≡ true → ⊥
+    clash true e f = absurd cc
+    clash false e f = absurd cc
+
+pub returns : goal.returns
+unfolding records_file last_deleted_file shape content tiles_from chain_on nodes_of lower_nodes leaves_of entry_leaves entries_on nodes_on levels_on nodes_rows used_rows run_script digits entries_in entries_below widest widest_below nodes_above firsts_of entry_firsts cover
+returns c = record {
+  rules = keeps_rules last_deleted_file refl;
+  made = refl;
+  follows = record { within = omega arith; acts_follow = follow; keeps = keep; does = does };
+}

@@ -1,0 +1,84 @@
+use Rattle.std.proofs.Common.{refl, ◌≡◌, [], ◌∷◌, codes, pos, false, true, Bool, arith, inl}
+use Rattle.cdf_edits.specs.Index.Blocks.{firsts_of, entry_firsts, cover}
+use Rattle.cdf_edits.specs.Index.Grown.{new_room, with_leaf, new_room_below, with_lower, cut_nodes, cut_entries, outline, entries_outline}
+use Rattle.cdf_edits.specs.Index.Cut.{sized_nodes, sized_nodes_below}
+use Rattle.cdf_edits.specs.Space.Acts.{Gave}
+use Rattle.cdf_format.specs.Chains.{chain_on}
+use Rattle.cdf_format.specs.Content.{content}
+use Rattle.cdf_format.specs.Index.{nodes_of, lower_nodes, leaves_of, entry_leaves, node, block, no_entry}
+use Rattle.cdf_format.specs.IndexRules.{nodes_rows, used_rows}
+use Rattle.cdf_format.specs.IndexWalk.{entries_on, nodes_on, levels_on}
+use Rattle.cdf_format.specs.Shape.{shape, VariableShape}
+use Rattle.cdf_format.specs.Tiles.{tiles_from}
+use Rattle.cdf_format.specs.Fields.{size_at}
+use Rattle.cdf_examples.specs.OneVariable.{one_node}
+use Rattle.cdf_examples.specs.RecordFiles.{t_data, t_shape, records_index, high_first, pad_high_first}
+use Rattle.cdf_examples.specs.WrongPuts.{found_z}
+use Rattle.cdf_examples.proofs.Tests.{keeps_rules}
+use Rattle.cdf_examples.specs.WrongCuts.{delete_t, two_nodes_file, node_freed_file}
+use Rattle.std.specs.Prelude.{nat_le}
+use Rattle.std.specs.Prelude.{◌&&◌}
+use Rattle.cdf_examples.proofs.Deciding.{acts_follow_if, all_keep_if}
+use Rattle.cdf_edits.specs.Commands.Keeps.{allowances}
+use Rattle.cdf_format.specs.Owners.{owned}
+use Rattle.cdf_edits.specs.Commands.Room.{entries_in, entries_below, widest, widest_below, nodes_above}
+use Rattle.cdf_examples.specs.Scripts.{run_script}
+use Rattle.std.specs.Fmt.{digits}
+use Rattle.cdf_edits.specs.Commands.Does.{Does}
+use Rattle.cdf_examples.proofs.Deciding.{of_variable, nodes_if, freed_if, each_if}
+use Rattle.cdf_edits.specs.Commands.Cuts.{DeletesRecords}
+use Rattle.cdf_edits.specs.Commands.Allowances.{no_fields}
+use Rattle.cdf_edits.specs.Index.Written.{is_taken_at}
+use Rattle.std.proofs.Common.{not}
+use Rattle.cdf_edits.specs.Index.Blocks.{record_length}
+use Rattle.cdf_edits.specs.Index.Written.{stored_bytes}
+use Rattle.cdf_edits.specs.Commands.Cuts.{is_deleted, number_after_cut}
+use Rattle.cdf_edits.specs.Commands.Room.{vxr_bytes}
+use Rattle.cdf_format.specs.Index.{room_at}
+use Rattle.cdf_examples.proofs.Deciding.{first_or_second, not_kept}
+use Rattle.cdf_edits.specs.Space.Acts.{ActsFollow}
+use Rattle.cdf_edits.specs.Commands.Allowances.{AllKeep}
+use Rattle.cdf_examples.proofs.admitted.node_freed.Goals as goal
+
+follow : ActsFollow two_nodes_file node_freed_file (Gave 916 28 ∷ Gave 944 140 ∷ [])
+unfolding two_nodes_file node_freed_file shape content tiles_from chain_on nodes_of lower_nodes leaves_of entry_leaves entries_on nodes_on levels_on
+follow = acts_follow_if two_nodes_file node_freed_file (Gave 916 28 ∷ Gave 944 140 ∷ []) refl refl refl refl refl refl refl
+
+keep : AllKeep two_nodes_file node_freed_file (allowances two_nodes_file (content two_nodes_file) (shape two_nodes_file) (delete_t 4 7)) (Gave 916 28 ∷ Gave 944 140 ∷ []) (owned two_nodes_file (shape two_nodes_file))
+unfolding two_nodes_file node_freed_file shape content tiles_from chain_on nodes_of lower_nodes leaves_of entry_leaves entries_on nodes_on levels_on
+keep = all_keep_if two_nodes_file node_freed_file (allowances two_nodes_file (content two_nodes_file) (shape two_nodes_file) (delete_t 4 7)) (Gave 916 28 ∷ Gave 944 140 ∷ []) (owned two_nodes_file (shape two_nodes_file)) refl
+
+does : Does two_nodes_file (delete_t 4 7) node_freed_file (Gave 916 28 ∷ Gave 944 140 ∷ [])
+unfolding two_nodes_file node_freed_file shape content tiles_from chain_on nodes_of lower_nodes leaves_of entry_leaves entries_on nodes_on levels_on entries_in entries_below widest widest_below nodes_above firsts_of entry_firsts cover new_room with_leaf new_room_below with_lower cut_nodes cut_entries outline entries_outline sized_nodes sized_nodes_below
+does = of_variable two_nodes_file node_freed_file (codes "T") (λ found v v'. DeletesRecords two_nodes_file node_freed_file found.variable 4 7 v v' (Gave 916 28 ∷ Gave 944 140 ∷ [])) (found_z (t_data (pos 7) ((0, high_first 7) ∷ (1, pad_high_first) ∷ (2, pad_high_first) ∷ (3, high_first 9) ∷ (4, high_first 7) ∷ (5, pad_high_first) ∷ (6, pad_high_first) ∷ (7, high_first 9) ∷ []))) before after refl refl refl (record {
+  middle = after.index;
+  cut = Gave 916 28 ∷ Gave 944 140 ∷ [];
+  again = [];
+  acts_are = refl;
+  cuts = (record { index_is = refl; once = refl; takes = tt; stand = (refl, tt); stay = ((λ part whole. (refl, refl, refl), tt), ((λ part. absurd cc, tt), tt)) }, refl, refl);
+  blocks = ((record { kept = λ part. record { packed = λ whole. absurd cc; placed = λ settled. (refl, refl); stands = inl refl; bytes = λ settled whole. absurd cc; rest = λ settled. absurd cc }; split = λ part. absurd cc }, tt), ((record { kept = λ part. absurd cc; split = λ part. absurd cc }, tt), tt));
+  others_stay = λ k covered. first_or_second (λ k. is_deleted (t_data (pos 7) ((0, high_first 7) ∷ (1, pad_high_first) ∷ (2, pad_high_first) ∷ (3, high_first 9) ∷ (4, high_first 7) ∷ (5, pad_high_first) ∷ (6, pad_high_first) ∷ (7, high_first 9) ∷ [])) 4 7 k ≡ false → stored_bytes node_freed_file 404 (record_length (t_data (pos 7) ((0, high_first 7) ∷ (1, pad_high_first) ∷ (2, pad_high_first) ∷ (3, high_first 9) ∷ (4, high_first 7) ∷ (5, pad_high_first) ∷ (6, pad_high_first) ∷ (7, high_first 9) ∷ []))) (leaves_of records_index) (number_after_cut (t_data (pos 7) ((0, high_first 7) ∷ (1, pad_high_first) ∷ (2, pad_high_first) ∷ (3, high_first 9) ∷ (4, high_first 7) ∷ (5, pad_high_first) ∷ (6, pad_high_first) ∷ (7, high_first 9) ∷ [])) 4 7 k) ≡ stored_bytes two_nodes_file 404 (record_length (t_data (pos 7) ((0, high_first 7) ∷ (1, pad_high_first) ∷ (2, pad_high_first) ∷ (3, high_first 9) ∷ (4, high_first 7) ∷ (5, pad_high_first) ∷ (6, pad_high_first) ∷ (7, high_first 9) ∷ []))) (leaves_of (node 776 7 (block 0 3 748 false no_entry) (one_node 944 7 (block 4 7 916 false no_entry)))) k) k (nat_le 4 k && nat_le k 7) covered (λ kept. refl) (λ kept. refl) (λ kept. refl) (λ kept. refl) (λ second kept. absurd (not_kept (nat_le 4 k && nat_le k 7) second kept));
+  new_nodes = each_if (λ vxr. is_taken_at (Gave 916 28 ∷ Gave 944 140 ∷ []) vxr ≡ true → size_at node_freed_file vxr ≡ vxr_bytes (room_at node_freed_file vxr)) (λ vxr. not (is_taken_at (Gave 916 28 ∷ Gave 944 140 ∷ []) vxr)) (λ vxr h e. absurd (clash (is_taken_at (Gave 916 28 ∷ Gave 944 140 ∷ []) vxr) h e)) (nodes_of after.index) refl;
+  nodes = nodes_if two_nodes_file node_freed_file _ (nodes_of before.index) (nodes_of after.index) (Gave 916 28 ∷ Gave 944 140 ∷ []) refl;
+  tail = refl;
+  freed = λ once. freed_if two_nodes_file node_freed_file no_fields (Gave 916 28 ∷ []) refl;
+  r_max_rec = refl;
+})
+  where
+    before : VariableShape
+    before = t_shape (node 776 7 (block 0 3 748 false no_entry) (one_node 944 7 (block 4 7 916 false no_entry)))
+
+    after : VariableShape
+    after = t_shape records_index
+
+    clash : (p : Bool) → not p ≡ true → p ≡ true → ⊥
+    clash true e f = absurd cc
+    clash false e f = absurd cc
+
+pub returns : goal.returns
+unfolding two_nodes_file node_freed_file shape content tiles_from chain_on nodes_of lower_nodes leaves_of entry_leaves entries_on nodes_on levels_on nodes_rows used_rows run_script digits entries_in entries_below widest widest_below nodes_above firsts_of entry_firsts cover
+returns c = record {
+  rules = keeps_rules node_freed_file refl;
+  made = refl;
+  follows = record { within = omega arith; acts_follow = follow; keeps = keep; does = does };
+}

@@ -1,0 +1,80 @@
+use Rattle.std.proofs.Common.{refl, inl, inr, ◌≡◌, ◌++◌, ◌⊎◌, [], ◌∷◌, codes, pos, arith}
+use Rattle.cdf_edits.specs.Index.Blocks.{firsts_of, entry_firsts, cover}
+use Rattle.cdf_edits.specs.Index.Grown.{new_room, with_leaf, new_room_below, with_lower, cut_nodes, cut_entries, outline, entries_outline}
+use Rattle.cdf_edits.specs.Index.Cut.{sized_nodes, sized_nodes_below}
+use Rattle.cdf_format.specs.Chains.{chain_on}
+use Rattle.cdf_format.specs.Content.{content}
+use Rattle.cdf_format.specs.Index.{nodes_of, lower_nodes, leaves_of, entry_leaves}
+use Rattle.cdf_format.specs.IndexRules.{nodes_rows, used_rows}
+use Rattle.cdf_format.specs.IndexWalk.{entries_on, nodes_on, levels_on}
+use Rattle.cdf_format.specs.Shape.{shape, VariableShape}
+use Rattle.cdf_format.specs.Tiles.{tiles_from}
+use Rattle.cdf_examples.specs.RecordFiles.{t_data, t_shape, records_index, high_first}
+use Rattle.cdf_examples.specs.WrongPuts.{put_t, found_z, first_put_file, put_again_file}
+use Rattle.cdf_examples.proofs.Tests.{keeps_rules}
+use Rattle.cdf_examples.proofs.Deciding.{acts_follow_if, all_keep_if}
+use Rattle.cdf_edits.specs.Commands.Keeps.{allowances}
+use Rattle.cdf_format.specs.Owners.{owned}
+use Rattle.cdf_edits.specs.Commands.Room.{entries_in, entries_below, widest, widest_below, nodes_above}
+use Rattle.cdf_examples.specs.Scripts.{run_script}
+use Rattle.std.specs.Fmt.{digits}
+use Rattle.cdf_edits.specs.Commands.Does.{Does}
+use Rattle.cdf_examples.proofs.Deciding.{of_variable, nodes_if}
+use Rattle.cdf_edits.specs.Commands.Puts.{PutsRecord}
+use Rattle.cdf_examples.proofs.Deciding.{of_four}
+use Rattle.cdf_examples.proofs.BytesKept.{changed_by}
+use Rattle.cdf_edits.specs.Commands.Puts.{max_rec_touches, written_in}
+use Rattle.cdf_edits.specs.Index.Blocks.{first_written, record_length}
+use Rattle.cdf_edits.specs.Index.Written.{stored_bytes}
+use Rattle.std.proofs.Common.{◌<◌}
+use Rattle.cdf_edits.specs.Space.Acts.{ActsFollow}
+use Rattle.cdf_edits.specs.Commands.Allowances.{AllKeep}
+use Rattle.cdf_model.specs.declared.kinds.Kind.TheVariants as kinds
+use Rattle.cdf_examples.proofs.admitted.record_put_again.Goals as goal
+
+follow : ActsFollow first_put_file put_again_file ([])
+unfolding first_put_file put_again_file shape content tiles_from chain_on nodes_of lower_nodes leaves_of entry_leaves entries_on nodes_on levels_on
+follow = acts_follow_if first_put_file put_again_file ([]) refl refl refl refl refl refl refl
+
+keep : AllKeep first_put_file put_again_file (allowances first_put_file (content first_put_file) (shape first_put_file) (put_t 0 (codes "8"))) ([]) (owned first_put_file (shape first_put_file))
+unfolding first_put_file put_again_file shape content tiles_from chain_on nodes_of lower_nodes leaves_of entry_leaves entries_on nodes_on levels_on
+keep = all_keep_if first_put_file put_again_file (allowances first_put_file (content first_put_file) (shape first_put_file) (put_t 0 (codes "8"))) ([]) (owned first_put_file (shape first_put_file)) refl
+
+does : Does first_put_file (put_t 0 (codes "8")) put_again_file ([])
+unfolding first_put_file put_again_file shape content tiles_from chain_on nodes_of lower_nodes leaves_of entry_leaves entries_on nodes_on levels_on entries_in entries_below widest widest_below nodes_above firsts_of entry_firsts cover new_room with_leaf new_room_below with_lower cut_nodes cut_entries outline entries_outline sized_nodes sized_nodes_below
+does = of_variable first_put_file put_again_file (codes "T") (λ found v v'. PutsRecord first_put_file put_again_file found.kind found.variable 0 v v' ([])) (found_z (t_data (pos 0) ((0, high_first 7) ∷ []))) before after refl refl refl (record {
+  index = record {
+    ranges = refl;
+    middle = before.index;
+    cut = [];
+    put = [];
+    acts_are = refl;
+    cuts = (refl, refl);
+    puts = (refl, (refl, refl));
+    tail = refl;
+    nodes = nodes_if first_put_file put_again_file _ (nodes_of before.index) (nodes_of after.index) ([]) refl;
+    freed = tt;
+  };
+  bytes = record {
+    in_place = λ stays. changed_by first_put_file put_again_file (max_rec_touches first_put_file kinds.Z 404 ++ written_in (t_data (pos 0) ((0, high_first 7) ∷ [])) (first_written (t_data (pos 0) ((0, high_first 7) ∷ [])) 0) 0 (leaves_of records_index)) (omega arith) refl;
+    others_stay = (λ unwritten. absurd cc, tt);
+    unwritten_stay = λ k covered. of_four (λ k. (k < first_written (t_data (pos 0) ((0, high_first 7) ∷ [])) 0) ⊎ (0 < k) → stored_bytes put_again_file 404 (record_length (t_data (pos 0) ((0, high_first 7) ∷ []))) (leaves_of (t_shape records_index).index) k ≡ stored_bytes first_put_file 404 (record_length (t_data (pos 0) ((0, high_first 7) ∷ []))) (leaves_of (t_shape records_index).index) k) (λ out. elim out [ inl low ↦ absurd (omega (arith, low)) | inr high ↦ absurd (omega (arith, high)) ]) (λ out. refl) (λ out. refl) (λ out. refl) k covered;
+    padded = (λ is_new. absurd cc, tt);
+    blocks = (λ changed. record { packed = λ rle. absurd cc; spare = record { each = λ i low high. absurd (omega arith) }; reserved = λ packed. absurd cc }, tt);
+  };
+  r_max_rec = refl;
+})
+  where
+    before : VariableShape
+    before = t_shape records_index
+
+    after : VariableShape
+    after = t_shape records_index
+
+pub returns : goal.returns
+unfolding first_put_file put_again_file shape content tiles_from chain_on nodes_of lower_nodes leaves_of entry_leaves entries_on nodes_on levels_on nodes_rows used_rows run_script digits entries_in entries_below widest widest_below nodes_above firsts_of entry_firsts cover
+returns c = record {
+  rules = keeps_rules put_again_file refl;
+  made = refl;
+  follows = record { within = omega arith; acts_follow = follow; keeps = keep; does = does };
+}

@@ -1,0 +1,79 @@
+use Rattle.std.proofs.Common.{refl, inl, ◌≡◌, ◌⊎◌, [], ◌∷◌, codes, false, arith}
+use Rattle.cdf_edits.specs.Index.Blocks.{firsts_of, entry_firsts, cover}
+use Rattle.cdf_edits.specs.Index.Grown.{new_room, with_leaf, new_room_below, with_lower, cut_nodes, cut_entries, outline, entries_outline}
+use Rattle.cdf_edits.specs.Index.Cut.{sized_nodes, sized_nodes_below}
+use Rattle.cdf_edits.specs.Space.Acts.{Took}
+use Rattle.cdf_format.specs.Chains.{chain_on}
+use Rattle.cdf_format.specs.Content.{content}
+use Rattle.cdf_format.specs.Index.{nodes_of, lower_nodes, leaves_of, entry_leaves, block, no_entry}
+use Rattle.cdf_format.specs.IndexRules.{nodes_rows, used_rows}
+use Rattle.cdf_format.specs.IndexWalk.{entries_on, nodes_on, levels_on}
+use Rattle.cdf_format.specs.Shape.{shape, VariableShape}
+use Rattle.cdf_format.specs.Tiles.{tiles_from}
+use Rattle.cdf_examples.specs.OneVariable.{one_node}
+use Rattle.cdf_examples.specs.RecordFiles.{records_file, t_shape, records_index, records_data}
+use Rattle.cdf_examples.specs.WrongPuts.{put_t, found_z, second_block_file}
+use Rattle.cdf_examples.proofs.Tests.{keeps_rules}
+use Rattle.cdf_examples.proofs.Deciding.{acts_follow_if, all_keep_if}
+use Rattle.cdf_edits.specs.Commands.Keeps.{allowances}
+use Rattle.cdf_format.specs.Owners.{owned}
+use Rattle.cdf_edits.specs.Commands.Room.{entries_in, entries_below, widest, widest_below, nodes_above}
+use Rattle.cdf_examples.specs.Scripts.{run_script}
+use Rattle.std.specs.Fmt.{digits}
+use Rattle.cdf_edits.specs.Commands.Does.{Does}
+use Rattle.cdf_examples.proofs.Deciding.{of_variable, nodes_if}
+use Rattle.cdf_edits.specs.Commands.Puts.{PutsRecord}
+use Rattle.cdf_examples.proofs.Deciding.{of_four}
+use Rattle.cdf_edits.specs.Index.Blocks.{first_written, record_length}
+use Rattle.cdf_edits.specs.Index.Written.{stored_bytes}
+use Rattle.std.proofs.Common.{◌<◌}
+use Rattle.cdf_edits.specs.Space.Acts.{ActsFollow}
+use Rattle.cdf_edits.specs.Commands.Allowances.{AllKeep}
+use Rattle.cdf_examples.proofs.admitted.second_block.Goals as goal
+
+follow : ActsFollow records_file second_block_file (Took 916 28 ∷ [])
+unfolding records_file second_block_file shape content tiles_from chain_on nodes_of lower_nodes leaves_of entry_leaves entries_on nodes_on levels_on
+follow = acts_follow_if records_file second_block_file (Took 916 28 ∷ []) refl refl refl refl refl refl refl
+
+keep : AllKeep records_file second_block_file (allowances records_file (content records_file) (shape records_file) (put_t 4 (codes "5"))) (Took 916 28 ∷ []) (owned records_file (shape records_file))
+unfolding records_file second_block_file shape content tiles_from chain_on nodes_of lower_nodes leaves_of entry_leaves entries_on nodes_on levels_on
+keep = all_keep_if records_file second_block_file (allowances records_file (content records_file) (shape records_file) (put_t 4 (codes "5"))) (Took 916 28 ∷ []) (owned records_file (shape records_file)) refl
+
+does : Does records_file (put_t 4 (codes "5")) second_block_file (Took 916 28 ∷ [])
+unfolding records_file second_block_file shape content tiles_from chain_on nodes_of lower_nodes leaves_of entry_leaves entries_on nodes_on levels_on entries_in entries_below widest widest_below nodes_above firsts_of entry_firsts cover new_room with_leaf new_room_below with_lower cut_nodes cut_entries outline entries_outline sized_nodes sized_nodes_below
+does = of_variable records_file second_block_file (codes "T") (λ found v v'. PutsRecord records_file second_block_file found.kind found.variable 4 v v' (Took 916 28 ∷ [])) (found_z records_data) before after refl refl refl (record {
+  index = record {
+    ranges = refl;
+    middle = before.index;
+    cut = [];
+    put = Took 916 28 ∷ [];
+    acts_are = refl;
+    cuts = (refl, refl);
+    puts = (refl, (refl, (refl, refl)));
+    tail = refl;
+    nodes = nodes_if records_file second_block_file _ (nodes_of before.index) (nodes_of after.index) (Took 916 28 ∷ []) refl;
+    freed = tt;
+  };
+  bytes = record {
+    in_place = λ stays. absurd cc;
+    others_stay = (λ unwritten. inl refl, tt);
+    unwritten_stay = λ k covered. of_four (λ k. (k < first_written records_data 4) ⊎ (4 < k) → stored_bytes second_block_file 404 (record_length records_data) (leaves_of (t_shape (one_node 776 7 (block 0 3 748 false (block 4 7 916 false no_entry)))).index) k ≡ stored_bytes records_file 404 (record_length records_data) (leaves_of (t_shape records_index).index) k) (λ out. refl) (λ out. refl) (λ out. refl) (λ out. refl) k covered;
+    padded = (λ is_new. absurd cc, (λ is_new. refl, tt));
+    blocks = (λ changed. absurd cc, (λ changed. record { packed = λ rle. absurd cc; spare = λ i low high. absurd (omega arith); reserved = λ packed. absurd cc }, tt));
+  };
+  r_max_rec = refl;
+})
+  where
+    before : VariableShape
+    before = t_shape records_index
+
+    after : VariableShape
+    after = t_shape (one_node 776 7 (block 0 3 748 false (block 4 7 916 false no_entry)))
+
+pub returns : goal.returns
+unfolding records_file second_block_file shape content tiles_from chain_on nodes_of lower_nodes leaves_of entry_leaves entries_on nodes_on levels_on nodes_rows used_rows run_script digits entries_in entries_below widest widest_below nodes_above firsts_of entry_firsts cover
+returns c = record {
+  rules = keeps_rules second_block_file refl;
+  made = refl;
+  follows = record { within = omega arith; acts_follow = follow; keeps = keep; does = does };
+}

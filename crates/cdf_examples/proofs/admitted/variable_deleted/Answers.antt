@@ -1,0 +1,55 @@
+use Rattle.std.proofs.Common.{refl, [], ◌∷◌, codes, pos, false, arith}
+use Rattle.cdf_edits.specs.Index.Blocks.{firsts_of, entry_firsts, cover}
+use Rattle.cdf_edits.specs.Index.Grown.{new_room, with_leaf, new_room_below, with_lower, cut_nodes, cut_entries, outline, entries_outline}
+use Rattle.cdf_edits.specs.Index.Cut.{sized_nodes, sized_nodes_below}
+use Rattle.cdf_edits.specs.Space.Acts.{Gave}
+use Rattle.cdf_format.specs.Chains.{chain_on}
+use Rattle.cdf_format.specs.Content.{content}
+use Rattle.cdf_format.specs.Index.{nodes_of, lower_nodes, leaves_of, entry_leaves, block, no_entry}
+use Rattle.cdf_format.specs.IndexRules.{nodes_rows, used_rows}
+use Rattle.cdf_format.specs.IndexWalk.{entries_on, nodes_on, levels_on}
+use Rattle.cdf_format.specs.Shape.{shape}
+use Rattle.cdf_format.specs.Tiles.{tiles_from}
+use Rattle.cdf_examples.specs.OneVariable.{one_node}
+use Rattle.cdf_examples.specs.RecordFiles.{t_data, t_shape, high_first}
+use Rattle.cdf_examples.specs.WrongPuts.{found_z}
+use Rattle.cdf_examples.proofs.Tests.{keeps_rules}
+use Rattle.cdf_examples.specs.WrongCuts.{small_block_file, delete_var_t, var_deleted_file}
+use Rattle.cdf_examples.proofs.Deciding.{acts_follow_if, all_keep_if}
+use Rattle.cdf_edits.specs.Commands.Keeps.{allowances}
+use Rattle.cdf_format.specs.Owners.{owned}
+use Rattle.cdf_edits.specs.Commands.Room.{entries_in, entries_below, widest, widest_below, nodes_above}
+use Rattle.cdf_examples.specs.Scripts.{run_script}
+use Rattle.std.specs.Fmt.{digits}
+use Rattle.cdf_edits.specs.Commands.Does.{Does}
+use Rattle.cdf_examples.proofs.Deciding.{deleted_named, freed_if}
+use Rattle.cdf_edits.specs.Commands.Variables.{index_of}
+use Rattle.cdf_edits.specs.Space.Acts.{ActsFollow}
+use Rattle.cdf_edits.specs.Commands.Allowances.{AllKeep}
+use Rattle.cdf_model.specs.declared.kinds.Kind.TheVariants as kinds
+use Rattle.cdf_examples.proofs.admitted.variable_deleted.Goals as goal
+
+follow : ActsFollow small_block_file var_deleted_file (Gave 748 24 ∷ Gave 772 140 ∷ Gave 404 344 ∷ [])
+unfolding small_block_file var_deleted_file shape content tiles_from chain_on nodes_of lower_nodes leaves_of entry_leaves entries_on nodes_on levels_on
+follow = acts_follow_if small_block_file var_deleted_file (Gave 748 24 ∷ Gave 772 140 ∷ Gave 404 344 ∷ []) refl refl refl refl refl refl refl
+
+keep : AllKeep small_block_file var_deleted_file (allowances small_block_file (content small_block_file) (shape small_block_file) delete_var_t) (Gave 748 24 ∷ Gave 772 140 ∷ Gave 404 344 ∷ []) (owned small_block_file (shape small_block_file))
+unfolding small_block_file var_deleted_file shape content tiles_from chain_on nodes_of lower_nodes leaves_of entry_leaves entries_on nodes_on levels_on
+keep = all_keep_if small_block_file var_deleted_file (allowances small_block_file (content small_block_file) (shape small_block_file) delete_var_t) (Gave 748 24 ∷ Gave 772 140 ∷ Gave 404 344 ∷ []) (owned small_block_file (shape small_block_file)) refl
+
+does : Does small_block_file delete_var_t var_deleted_file (Gave 748 24 ∷ Gave 772 140 ∷ Gave 404 344 ∷ [])
+unfolding small_block_file var_deleted_file shape content tiles_from chain_on nodes_of lower_nodes leaves_of entry_leaves entries_on nodes_on levels_on entries_in entries_below widest widest_below nodes_above firsts_of entry_firsts cover new_room with_leaf new_room_below with_lower cut_nodes cut_entries outline entries_outline sized_nodes sized_nodes_below
+does = deleted_named small_block_file var_deleted_file (codes "T") (Gave 748 24 ∷ Gave 772 140 ∷ Gave 404 344 ∷ []) (found_z (t_data (pos 2) ((0, high_first 1) ∷ (1, high_first 2) ∷ (2, high_first 3) ∷ []))) (t_shape (one_node 772 7 (block 0 2 748 false no_entry))) refl refl (record {
+  acts_are = refl;
+  attributes = λ n a a' was is. absurd cc;
+  r_max_rec_is = refl;
+  freed = freed_if small_block_file var_deleted_file (index_of kinds.Z) (Gave 748 24 ∷ Gave 772 140 ∷ Gave 404 344 ∷ []) refl;
+})
+
+pub returns : goal.returns
+unfolding small_block_file var_deleted_file shape content tiles_from chain_on nodes_of lower_nodes leaves_of entry_leaves entries_on nodes_on levels_on nodes_rows used_rows run_script digits entries_in entries_below widest widest_below nodes_above firsts_of entry_firsts cover
+returns c = record {
+  rules = keeps_rules var_deleted_file refl;
+  made = refl;
+  follows = record { within = omega arith; acts_follow = follow; keeps = keep; does = does };
+}

@@ -1,0 +1,38 @@
+use Rattle.std.proofs.Common.{refl, inl, subst, List, [], ◌∷◌, pos, false}
+use Rattle.cdf_edits.specs.Index.Grown.{cut_nodes, cut_entries, outline, entries_outline}
+use Rattle.cdf_edits.specs.Index.Cut.{sized_nodes, sized_nodes_below}
+use Rattle.cdf_edits.specs.Space.Acts.{Act, Gave, Among, space_before, loose_records, after_act}
+use Rattle.cdf_format.specs.Chains.{chain_on}
+use Rattle.cdf_format.specs.Content.{content}
+use Rattle.cdf_format.specs.Index.{nodes_of, lower_nodes, leaves_of, entry_leaves, block, no_entry}
+use Rattle.cdf_format.specs.IndexRules.{nodes_rows, used_rows}
+use Rattle.cdf_format.specs.IndexWalk.{entries_on, nodes_on, levels_on}
+use Rattle.cdf_format.specs.Shape.{shape}
+use Rattle.cdf_format.specs.Tiles.{tiles_from}
+use Rattle.cdf_format.specs.Fields.{size_at}
+use Rattle.cdf_examples.specs.Claimed.{Refused}
+use Rattle.cdf_examples.specs.OneVariable.{one_node}
+use Rattle.cdf_examples.specs.RecordFiles.{t_data, t_shape, high_first}
+use Rattle.cdf_examples.specs.WrongPuts.{found_z}
+use Rattle.cdf_examples.proofs.Tests.{keeps_rules}
+use Rattle.cdf_examples.proofs.Refusing.{not_among}
+use Rattle.cdf_examples.specs.WrongCuts.{small_block_file, delete_var_t, var_deleted_file, two_pieces_file}
+use Rattle.cdf_examples.proofs.Refusing.{each_in}
+use Rattle.std.specs.List.{fold}
+use Rattle.cdf_examples.proofs.refused_cuts.freed_in_pieces.Goals as goal
+
+refused : Refused small_block_file delete_var_t two_pieces_file
+unfolding small_block_file two_pieces_file shape content tiles_from chain_on nodes_of lower_nodes leaves_of entry_leaves entries_on nodes_on levels_on cut_nodes cut_entries outline entries_outline sized_nodes sized_nodes_below
+refused acts claim =
+    let p = claim.does (found_z (t_data (pos 2) ((0, high_first 1) ∷ (1, high_first 2) ∷ (2, high_first 3) ∷ []))) (t_shape (one_node 772 7 (block 0 2 748 false no_entry))) refl refl in
+    not_among (748, 12) (fold after_act (space_before small_block_file) (Gave 748 24 ∷ Gave 772 140 ∷ Gave 404 344 ∷ [])).loose refl
+    (subst (λ (list : List Act). Among (748, 12) (fold after_act (space_before small_block_file) list).loose) p.acts_are
+    (each_in (λ m. Among (m, size_at two_pieces_file m) (fold after_act (space_before small_block_file) acts).loose) (loose_records two_pieces_file) 748 claim.acts_follow.left.loose_are (inl refl)))
+
+pub returns : goal.returns
+unfolding two_pieces_file var_deleted_file shape content tiles_from chain_on nodes_of lower_nodes leaves_of entry_leaves entries_on nodes_on levels_on nodes_rows used_rows
+returns c = record {
+  rules = keeps_rules two_pieces_file refl;
+  content = refl;
+  refused = refused;
+}

@@ -1,0 +1,47 @@
+use Rattle.std.proofs.Common.{refl, inr, sym, subst, ◌≡◌, List, [], ◌∷◌, false, Bool, arith}
+use Rattle.cdf_edits.specs.Index.Grown.{cut_nodes, cut_entries, outline, entries_outline}
+use Rattle.cdf_edits.specs.Index.Cut.{sized_nodes, sized_nodes_below}
+use Rattle.cdf_edits.specs.Space.Acts.{Act, taken}
+use Rattle.cdf_format.specs.Chains.{chain_on}
+use Rattle.cdf_format.specs.Content.{content}
+use Rattle.cdf_format.specs.Index.{nodes_of, lower_nodes, leaves_of, entry_leaves, Nodes, block, no_entry}
+use Rattle.cdf_format.specs.IndexRules.{nodes_rows, used_rows}
+use Rattle.cdf_format.specs.IndexWalk.{entries_on, nodes_on, levels_on}
+use Rattle.cdf_format.specs.Shape.{shape, VariableShape}
+use Rattle.cdf_format.specs.Tiles.{tiles_from}
+use Rattle.cdf_examples.specs.Claimed.{Refused}
+use Rattle.cdf_examples.specs.OneVariable.{one_node}
+use Rattle.cdf_examples.specs.RecordFiles.{t_shape, records_index, records_data}
+use Rattle.cdf_examples.specs.WrongPuts.{found_z}
+use Rattle.cdf_examples.proofs.Tests.{keeps_rules}
+use Rattle.cdf_examples.proofs.Refusing.{unequal}
+use Rattle.cdf_examples.specs.WrongCuts.{delete_t, spare_behind_file, spare_stays_file, spare_overwritten_file}
+use Rattle.cdf_examples.proofs.CutLemmas.{only_cut, none_taken}
+use Rattle.cdf_format.specs.Shape.{Each}
+use Rattle.cdf_edits.specs.Index.Cut.{IsNeeded}
+use Rattle.cdf_edits.specs.Commands.Allowances.{is_taken}
+use Rattle.std.specs.Prelude.{nat_le, nat_lt}
+use Rattle.std.specs.Prelude.{◌&&◌, if◌then◌else◌}
+use Rattle.cdf_edits.specs.Commands.Allowances.{Keeps, Anything, Only}
+use Rattle.cdf_format.specs.Records.{uir_next_uir, uir_prev_uir}
+use Rattle.cdf_examples.proofs.refused_cuts.listed_overwritten.Goals as goal
+
+refused : Refused spare_behind_file (delete_t 3 3) spare_overwritten_file
+unfolding spare_behind_file spare_overwritten_file shape content tiles_from chain_on nodes_of lower_nodes leaves_of entry_leaves entries_on nodes_on levels_on cut_nodes cut_entries outline entries_outline sized_nodes sized_nodes_below
+refused acts claim =
+    let before : VariableShape = t_shape records_index in
+    let after : VariableShape = t_shape (one_node 776 7 (block 0 2 748 false no_entry)) in
+    let p = claim.does (found_z records_data) before after (record { named = refl; before = refl; after = refl }) in
+    let all : acts ≡ p.cut = only_cut acts p.cut p.again p.acts_are p.cuts.2 in
+    let takes : Each (IsNeeded records_data after.index) (taken p.cut) = subst (λ (index : Nodes). Each (IsNeeded records_data index) (taken p.cut)) p.cuts.1 p.cuts.0.takes in
+    let free : is_taken spare_behind_file acts 916 ≡ false = subst (λ (list : List Act). is_taken spare_behind_file list 916 ≡ false) (sym all) (none_taken records_data after.index (taken p.cut) (λ place. nat_le 916 place && nat_lt place 956) takes refl refl) in
+    let kept = subst (λ (q : Bool). Keeps spare_behind_file spare_overwritten_file 916 (if q then Anything else Only (uir_next_uir ∷ uir_prev_uir ∷ []))) free claim.keeps.1.1.1.1.1.0 in
+    unequal 7 0 refl (kept.same 28 (omega arith) (inr (omega arith), (inr (omega arith), tt)))
+
+pub returns : goal.returns
+unfolding spare_overwritten_file spare_stays_file shape content tiles_from chain_on nodes_of lower_nodes leaves_of entry_leaves entries_on nodes_on levels_on nodes_rows used_rows
+returns c = record {
+  rules = keeps_rules spare_overwritten_file refl;
+  content = refl;
+  refused = refused;
+}

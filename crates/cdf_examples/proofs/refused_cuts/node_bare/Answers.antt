@@ -1,0 +1,37 @@
+use Rattle.std.proofs.Common.{refl, sym, ap, ◌∙◌, [], ◌∷◌, pos, false}
+use Rattle.cdf_edits.specs.Index.Grown.{cut_nodes, cut_entries, outline, entries_outline}
+use Rattle.cdf_edits.specs.Index.Cut.{sized_nodes, sized_nodes_below}
+use Rattle.cdf_edits.specs.Space.Acts.{taken}
+use Rattle.cdf_format.specs.Chains.{chain_on}
+use Rattle.cdf_format.specs.Content.{content}
+use Rattle.cdf_format.specs.Index.{nodes_of, lower_nodes, leaves_of, entry_leaves, node, Nodes, block, no_entry}
+use Rattle.cdf_format.specs.IndexRules.{nodes_rows, used_rows}
+use Rattle.cdf_format.specs.IndexWalk.{entries_on, nodes_on, levels_on}
+use Rattle.cdf_format.specs.Shape.{shape, VariableShape}
+use Rattle.cdf_format.specs.Tiles.{tiles_from}
+use Rattle.cdf_examples.specs.Claimed.{Refused}
+use Rattle.cdf_examples.specs.OneVariable.{one_node}
+use Rattle.cdf_examples.specs.RecordFiles.{t_data, t_shape, high_first, pad_high_first}
+use Rattle.cdf_examples.specs.WrongPuts.{found_z}
+use Rattle.cdf_examples.proofs.Tests.{keeps_rules}
+use Rattle.cdf_examples.proofs.Refusing.{unequal}
+use Rattle.cdf_examples.specs.WrongCuts.{delete_t, two_nodes_file, node_freed_file, bare_node_file}
+use Rattle.cdf_examples.proofs.Refusing.{chain_count}
+use Rattle.std.specs.Prelude.{map}
+use Rattle.cdf_examples.proofs.refused_cuts.node_bare.Goals as goal
+
+refused : Refused two_nodes_file (delete_t 4 7) bare_node_file
+unfolding two_nodes_file bare_node_file shape content tiles_from chain_on nodes_of lower_nodes leaves_of entry_leaves entries_on nodes_on levels_on cut_nodes cut_entries outline entries_outline sized_nodes sized_nodes_below
+refused acts claim =
+    let before : VariableShape = t_shape (node 776 7 (block 0 3 748 false no_entry) (one_node 944 7 (block 4 7 916 false no_entry))) in
+    let after : VariableShape = t_shape (node 776 7 (block 0 3 748 false no_entry) (one_node 944 7 no_entry)) in
+    let p = claim.does (found_z (t_data (pos 7) ((0, high_first 7) ∷ (1, pad_high_first) ∷ (2, pad_high_first) ∷ (3, high_first 9) ∷ (4, high_first 7) ∷ (5, pad_high_first) ∷ (6, pad_high_first) ∷ (7, high_first 9) ∷ []))) before after (record { named = refl; before = refl; after = refl }) in
+    unequal 2 1 refl (ap chain_count (ap (λ (index : Nodes). outline (map (λ take. take.0) (taken p.cut)) index) (sym p.cuts.1) ∙ p.cuts.0.index_is))
+
+pub returns : goal.returns
+unfolding bare_node_file node_freed_file shape content tiles_from chain_on nodes_of lower_nodes leaves_of entry_leaves entries_on nodes_on levels_on nodes_rows used_rows
+returns c = record {
+  rules = keeps_rules bare_node_file refl;
+  content = refl;
+  refused = refused;
+}

@@ -1,0 +1,41 @@
+use Rattle.std.proofs.Common.{refl, inl, inr, subst, ◌≡◌, List, false}
+use Rattle.cdf_edits.specs.Index.Grown.{cut_nodes, cut_entries, outline, entries_outline}
+use Rattle.cdf_edits.specs.Index.Cut.{sized_nodes, sized_nodes_below}
+use Rattle.cdf_edits.specs.Space.Acts.{Act, Among, taken}
+use Rattle.cdf_format.specs.Chains.{chain_on}
+use Rattle.cdf_format.specs.Content.{content}
+use Rattle.cdf_format.specs.Index.{nodes_of, lower_nodes, leaves_of, entry_leaves, Nodes, block, no_entry}
+use Rattle.cdf_format.specs.IndexRules.{nodes_rows, used_rows}
+use Rattle.cdf_format.specs.IndexWalk.{entries_on, nodes_on, levels_on}
+use Rattle.cdf_format.specs.Shape.{shape, VariableShape}
+use Rattle.cdf_format.specs.Tiles.{tiles_from}
+use Rattle.cdf_examples.specs.Claimed.{Refused}
+use Rattle.cdf_examples.specs.OneVariable.{one_node}
+use Rattle.cdf_examples.specs.RecordFiles.{records_file, t_shape, records_index, records_data}
+use Rattle.cdf_examples.specs.WrongPuts.{found_z}
+use Rattle.cdf_examples.proofs.Tests.{keeps_rules}
+use Rattle.cdf_examples.proofs.Refusing.{is_taken_if}
+use Rattle.cdf_examples.specs.WrongCuts.{delete_t, last_deleted_file, longer_node_file}
+use Rattle.cdf_examples.proofs.CutLemmas.{only_cut, each_needed, not_needed}
+use Rattle.cdf_format.specs.Shape.{Each}
+use Rattle.cdf_edits.specs.Index.Cut.{IsNeeded}
+use Rattle.cdf_examples.proofs.refused_cuts.node_longer.Goals as goal
+
+refused : Refused records_file (delete_t 3 3) longer_node_file
+unfolding records_file longer_node_file shape content tiles_from chain_on nodes_of lower_nodes leaves_of entry_leaves entries_on nodes_on levels_on cut_nodes cut_entries outline entries_outline sized_nodes sized_nodes_below
+refused acts claim =
+    let before : VariableShape = t_shape records_index in
+    let after : VariableShape = t_shape (one_node 776 7 (block 0 2 748 false no_entry)) in
+    let p = claim.does (found_z records_data) before after (record { named = refl; before = refl; after = refl }) in
+    let all : acts ≡ p.cut = only_cut acts p.cut p.again p.acts_are p.cuts.2 in
+    let took : Among (776, 156) (taken p.cut) = subst (λ (list : List Act). Among (776, 156) (taken list)) all (is_taken_if claim.acts_follow 776 (inr (inr (inr (inr (inl refl))))) refl) in
+    let takes : Each (IsNeeded records_data after.index) (taken p.cut) = subst (λ (index : Nodes). Each (IsNeeded records_data index) (taken p.cut)) p.cuts.1 p.cuts.0.takes in
+    not_needed records_data after.index (776, 156) refl refl (each_needed records_data after.index (taken p.cut) (776, 156) takes took)
+
+pub returns : goal.returns
+unfolding longer_node_file last_deleted_file shape content tiles_from chain_on nodes_of lower_nodes leaves_of entry_leaves entries_on nodes_on levels_on nodes_rows used_rows
+returns c = record {
+  rules = keeps_rules longer_node_file refl;
+  content = refl;
+  refused = refused;
+}

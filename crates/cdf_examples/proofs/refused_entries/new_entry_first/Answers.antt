@@ -1,0 +1,31 @@
+use Rattle.std.proofs.Common.{refl, ap, [], ◌∷◌}
+use Rattle.cdf_format.specs.Chains.{chain_on}
+use Rattle.cdf_format.specs.Content.{content}
+use Rattle.cdf_format.specs.Index.{nodes_of, lower_nodes, leaves_of, entry_leaves}
+use Rattle.cdf_format.specs.IndexRules.{nodes_rows, used_rows}
+use Rattle.cdf_format.specs.IndexWalk.{entries_on, nodes_on, levels_on}
+use Rattle.cdf_format.specs.Shape.{shape}
+use Rattle.cdf_format.specs.Tiles.{tiles_from}
+use Rattle.cdf_examples.specs.Claimed.{Refused}
+use Rattle.cdf_examples.proofs.Tests.{keeps_rules}
+use Rattle.cdf_examples.proofs.Refusing.{unequal}
+use Rattle.cdf_examples.proofs.Refusing.{first_number}
+use Rattle.cdf_examples.specs.WrongEntries.{one_entry_file, put_second, entry_last_file, entry_first_file}
+use Rattle.cdf_format.specs.Shape.{AttributeShape}
+use Rattle.cdf_examples.proofs.refused_entries.new_entry_first.Goals as goal
+
+refused : Refused one_entry_file put_second entry_first_file
+unfolding one_entry_file entry_first_file shape content tiles_from chain_on nodes_of lower_nodes leaves_of entry_leaves entries_on nodes_on levels_on
+refused acts claim =
+    let before : AttributeShape = record { adr = 404; gr_entries = 728 ∷ []; z_entries = [] } in
+    let after : AttributeShape = record { adr = 404; gr_entries = 785 ∷ 728 ∷ []; z_entries = [] } in
+    let p = claim.does 0 before after (record { named = refl; before_is = refl; after_is = refl }) in
+    unequal 785 728 refl (ap first_number p.chain.chain_is)
+
+pub returns : goal.returns
+unfolding entry_first_file entry_last_file shape content tiles_from chain_on nodes_of lower_nodes leaves_of entry_leaves entries_on nodes_on levels_on nodes_rows used_rows
+returns c = record {
+  rules = keeps_rules entry_first_file refl;
+  right_rules = keeps_rules entry_last_file refl;
+  refused = refused;
+}

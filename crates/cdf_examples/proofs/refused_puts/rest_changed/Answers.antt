@@ -1,0 +1,40 @@
+use Rattle.std.proofs.Common.{refl, sym, subst, ap, ◌∙◌, ◌≡◌, List, [], ◌∷◌, codes, negsuc, false, true, arith}
+use Rattle.cdf_edits.specs.Index.Grown.{new_room, with_leaf}
+use Rattle.cdf_edits.specs.Space.Acts.{Act, Took, none_twice}
+use Rattle.cdf_format.specs.Chains.{chain_on}
+use Rattle.cdf_format.specs.Content.{content}
+use Rattle.cdf_format.specs.Index.{nodes_of, lower_nodes, leaves_of, entry_leaves, no_node, block, no_entry}
+use Rattle.cdf_format.specs.IndexRules.{nodes_rows, used_rows}
+use Rattle.cdf_format.specs.IndexWalk.{entries_on, nodes_on, levels_on}
+use Rattle.cdf_format.specs.Shape.{shape, VariableShape}
+use Rattle.cdf_format.specs.Tiles.{tiles_from}
+use Rattle.cdf_examples.specs.Claimed.{Refused}
+use Rattle.cdf_examples.specs.OneVariable.{one_node}
+use Rattle.cdf_examples.specs.RecordFiles.{t_data, t_shape}
+use Rattle.cdf_examples.specs.WrongPuts.{put_t, found_z, spare_file, rest_listed_file, rest_changed_file}
+use Rattle.cdf_examples.proofs.Tests.{keeps_rules}
+use Rattle.cdf_examples.proofs.Refusing.{unequal}
+use Rattle.cdf_examples.proofs.PutLemmas.{first_take, puts_only}
+use Rattle.cdf_examples.proofs.refused_puts.rest_changed.Goals as goal
+
+refused : Refused spare_file (put_t 0 (codes "7")) rest_changed_file
+unfolding spare_file rest_changed_file shape content tiles_from chain_on nodes_of lower_nodes leaves_of entry_leaves entries_on nodes_on levels_on new_room with_leaf
+refused acts claim =
+    let before : VariableShape = t_shape no_node in
+    let after : VariableShape = t_shape (one_node 848 7 (block 0 3 748 false no_entry)) in
+    let p = claim.does (found_z (t_data (negsuc 0) [])) before after (record { named = refl; before = refl; after = refl }) in
+    let puts = puts_only spare_file rest_changed_file (t_data (negsuc 0) []) 0 before after acts p.index refl in
+    let block_take = first_take 28 _ acts puts in
+    let node_take = first_take 140 _ block_take.more block_take.rest.1 in
+    let all : acts ≡ Took block_take.place 28 ∷ Took node_take.place 140 ∷ [] = block_take.acts_are ∙ ap (λ (more : List Act). Took block_take.place 28 ∷ more) (node_take.acts_are ∙ ap (λ (more : List Act). Took node_take.place 140 ∷ more) node_take.rest.0) in
+    let once = subst (λ (list : List Act). none_twice [] list ≡ true) (sym all) refl in
+    let stays = (claim.acts_follow.rests once).0.0 (omega arith) (omega arith) in
+    unequal 1 0 refl (stays.each 804 (omega arith) (omega arith))
+
+pub returns : goal.returns
+unfolding rest_changed_file rest_listed_file shape content tiles_from chain_on nodes_of lower_nodes leaves_of entry_leaves entries_on nodes_on levels_on nodes_rows used_rows
+returns c = record {
+  rules = keeps_rules rest_changed_file refl;
+  content = refl;
+  refused = refused;
+}
