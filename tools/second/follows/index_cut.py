@@ -1,0 +1,80 @@
+"""Index/Cut: what a cut takes and frees, and where the blocks stand that it leaves."""
+from layout import VXR
+
+from .allowances import freed_stay, no_fields
+from .index_grown import outline
+from .index_written import block_need, stays_put
+from .room import range_bytes, vxr_bytes
+from .shape import Lower, leaves_of, nodes_of, records_of_leaf
+from .space_acts import none_twice, taken
+
+
+def is_part(part, old, new):
+    return part((old.first, old.last)) == [(new.first, new.last)]
+
+
+def is_whole(old, new):
+    return records_of_leaf(new) == records_of_leaf(old)
+
+
+def sized_nodes(nodes):
+    found = []
+    for node in nodes:
+        found.append((node.place, vxr_bytes(node.room)))
+        for entry in node.entries:
+            if isinstance(entry, Lower):
+                found += sized_nodes(entry.nodes)
+    return found
+
+
+def sized_blocks(v, nodes):
+    return [(leaf.place, max(28, 12 + range_bytes(v, (leaf.first, leaf.last)))) for leaf in leaves_of(nodes)]
+
+
+def is_needed(v, nodes, take):
+    return take in sized_nodes(nodes) or any(
+        take[0] == place and take[1] <= size and (v.rle or take[1] == size) for place, size in sized_blocks(v, nodes))
+
+
+def is_given_at(acts, place):
+    return any(kind == 'give' and at == place for kind, at, _ in acts)
+
+
+def stays_whole(v, kept, acts, old, new):
+    if not is_part(kept, old, new) or not (is_whole(old, new) or not v.rle):
+        return True
+    return new.place == old.place and new.packed == old.packed and not is_given_at(acts, old.place)
+
+
+def cuts_index(v, kept, before, wanted, after, acts):
+    """CutsIndex."""
+    news = {place for place, _ in taken(acts)}
+    yield 'index_is', outline(news, after) == outline(news, wanted)
+    yield 'once', none_twice(acts)
+    yield 'kept_stand', not any(is_given_at(acts, vxr) for vxr in nodes_of(wanted))
+    yield 'takes', all(is_needed(v, after, take) for take in taken(acts))
+    yield 'stay', all(stays_whole(v, kept, acts, old, new) for old in leaves_of(before) for new in leaves_of(after))
+
+
+def block_placed(now, vdr, acts, old, new, stays):
+    if stays:
+        return new.place == old.place and not is_given_at(acts, old.place)
+    return (new.place, block_need(now, vdr, new)) in taken(acts)
+
+
+def is_placed(m, v, vdr, kept, acts, old, new):
+    """IsPlaced."""
+    if not is_part(kept, old, new):
+        return True
+    return block_placed(m.now, vdr, acts, old, new,
+                        is_whole(old, new) or stays_put(m.b, m.now, v.rle, vdr, old, new))
+
+
+def none_written(place):
+    return False
+
+
+def blocks_freed_stay(b, now, written, acts):
+    """BlocksFreedStay: a node may be emptied before it is freed, and these blocks may be written."""
+    return freed_stay(b, now, no_fields, [act for act in acts if act[0] == 'take' or not (
+        b.type_at(act[1]) == VXR or written(act[1]))])

@@ -1,0 +1,38 @@
+"""Runs the port of Follows on what the editor makes: python3 runfollows.py FILES COMMANDS [SEED] [SORT]."""
+import sys
+from collections import Counter
+
+from follows.follows import why_refused
+from scripts import CUTS, KINDS
+from selfcheck import run
+
+SORTS = {'': KINDS, 'even': KINDS, 'setup': ('setup', 'checksum', 'list', 'info'),
+         'cuts': CUTS + ('put-rec', 'put-val', 'set-blocking', 'zvar', 'rvar'),
+         'sparse': ('del-recs', 'del-recs', 'put-rec', 'put-val'),
+         'wide': CUTS + ('put-rec', 'put-val', 'reindex', 'set-blocking')}
+
+
+def main():
+    files, commands = int(sys.argv[1]), int(sys.argv[2])
+    start = int(sys.argv[3]) if len(sys.argv) > 3 else 0
+    sort = sys.argv[4] if len(sys.argv) > 4 else ''
+    kinds = SORTS[sort]
+    tried, failed = Counter(), Counter()
+    for seed in range(start, start + files):
+        def each(before, data_set, c, edited, after, reply):
+            tried[c.kind, 'new' if sort == 'wide' or (seed % 2 and sort not in ('sparse', 'setup')) else 'foreign'] += 1
+            why = why_refused(before, c, edited.data, edited.acts, data_set)
+            if why:
+                key = (c.kind, tuple(sorted(set(why)))[:3])
+                failed[key] += 1
+                if failed[key] <= 2:
+                    print('REFUSED seed', seed, c, edited.acts, why[:6], flush=True)
+        run(seed, commands, each, kinds, sort)
+        if (seed - start) % 50 == 49:
+            print(seed, sum(tried.values()), 'tried', dict(tried), 'refused', dict(failed), flush=True)
+    print('tried', dict(tried))
+    print('refused', dict(failed))
+
+
+if __name__ == '__main__':
+    main()

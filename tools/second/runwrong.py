@@ -1,0 +1,70 @@
+"""Tries the wrong editors beside the right one: python3 runwrong.py FILES COMMANDS [SEED] [NAME].
+
+An image that a wrong editor makes counts where it is good, has the right content and is not the right image.
+"""
+import sys
+from collections import Counter
+
+from content import content
+from editor import apply
+from follows.search import refused_whatever
+from model import READERS
+from selfcheck import run
+from validator import broken, sealed
+from wrong import WRONG
+
+# How often a wrong editor is tried on one command
+MOST = 12
+
+
+def made_by(cls, before, c, after):
+    """The image and acts of a wrong editor, or None where it fails or makes no good image."""
+    image = cls(before)
+    image.c = c
+    do = getattr(image, 'do_' + c.kind.replace('-', '_'))
+    try:
+        do(c, after) if c.kind in ('put-rec', 'put-val') else do(c)
+        image.finish(c)
+        if broken(sealed(image.data)) or content(image) != after:
+            return None
+    except (AssertionError, KeyError, IndexError, ValueError, OverflowError, RecursionError):
+        return None
+    return image
+
+
+def main():
+    files, commands = int(sys.argv[1]), int(sys.argv[2])
+    start = int(sys.argv[3]) if len(sys.argv) > 3 else 0
+    editors = [cls for cls in WRONG if len(sys.argv) < 5 or cls.__name__ == sys.argv[4]]
+    tried, admitted, reasons = Counter(), Counter(), {}
+
+    def each(before, data_set, c, edited, after, reply):
+        if c.kind in READERS:
+            return
+        right = apply(before, c, before=data_set)[0].data
+        for cls in editors:
+            if (cls.commands is not None and c.kind not in cls.commands) or tried[cls.__name__, c.kind] >= MOST:
+                continue
+            image = made_by(cls, before, c, after)
+            if image is None or image.data in (right, edited.data):
+                continue
+            tried[cls.__name__, c.kind] += 1
+            why = refused_whatever(before, c, image.data, [image.acts], data_set)
+            if why:
+                reasons.setdefault(cls.__name__, Counter())[why[0]] += 1
+                continue
+            admitted[cls.__name__, c.kind] += 1
+            if admitted[cls.__name__, c.kind] <= 2:
+                print('ADMITTED', cls.__name__, 'seed', seed, c, edited.acts, image.acts, flush=True)
+
+    for seed in range(start, start + files):
+        run(seed, commands, each)
+    for cls in editors:
+        name = cls.__name__
+        of_tried, of_admitted = ({kind: n for (other, kind), n in tally.items() if other == name}
+                                 for tally in (tried, admitted))
+        print(name, of_tried, 'admitted', of_admitted, dict(reasons.get(name, Counter()).most_common(3)), flush=True)
+
+
+if __name__ == '__main__':
+    main()
