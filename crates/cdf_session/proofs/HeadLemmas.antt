@@ -4,11 +4,11 @@ use Rattle.std.proofs.Math.Path.{transport}
 use Rattle.std.proofs.lemmas.Int.{of_z-to_z}
 use Rattle.std.specs.Int.{w32, cast_signed, cast_unsigned}
 use Rattle.cdf_format.specs.Content.{content, head_by_fields, majority_of}
-use Rattle.cdf_format.specs.Fields.{word, signed4, has_bit, gdr_offset, flags, r_dimensions, r_sizes}
+use Rattle.cdf_format.specs.Fields.{word, signed4, has_bit, gdr_offset, flags, r_num_dims, r_sizes}
 use Rattle.cdf_format.specs.Shape.{shape}
 use Rattle.cdf_format.specs.WellFormed.{Good}
 use Rattle.cdf_format.proofs.GoodHead.{gdr_fits, few_dimensions, sizes_fit, version_is}
-use Rattle.cdf_format.proofs.GoodLemmas.{good_by_its_shape}
+use Rattle.cdf_format.proofs.GoodSound.{good_by_its_shape}
 use Rattle.cdf_format.proofs.HeadOf.{head_of_good}
 use Rattle.cdf_model.specs.DataSet.{head_of}
 use Rattle.cdf_records.specs.declared.cdr.Cdr.{Cdr}
@@ -29,8 +29,8 @@ module _ (was b : List ℕ) (cdr : Cdr) (good : Good was) (same : b ≡ was) (fi
   pub few_dimensions_at : word b (cdr.gdr_offset + 56) 4 ≤ 10
   few_dimensions_at = transport (λ i. word (sym same i) (there i + 56) 4 ≤ 10) (few_dimensions was good)
 
-  pub sizes_fit_at : cdr.gdr_offset + 84 + 4 * r_dimensions b cdr.gdr_offset ≤ length b
-  sizes_fit_at = transport (λ i. there i + 84 + 4 * r_dimensions (sym same i) (there i) ≤ length (sym same i)) (sizes_fit was good)
+  pub sizes_fit_at : cdr.gdr_offset + 84 + 4 * r_num_dims b cdr.gdr_offset ≤ length b
+  sizes_fit_at = transport (λ i. there i + 84 + 4 * r_num_dims (sym same i) (there i) ≤ length (sym same i)) (sizes_fit was good)
 
 -- 4 bytes are the same number with and without a sign
 unsigned_is : (b : List ℕ) (start m place : ℕ) → AreBytes b start m → start ≤ place → place + 4 ≤ start + m → cast_unsigned w32 (signed4 b place) ≡ word b place 4

@@ -3,3 +3,4 @@ pub mod ListLemmas
 pub mod OpenLemmas
 pub mod AdoptLemmas
 pub mod NewFileLemmas
+pub mod Explained

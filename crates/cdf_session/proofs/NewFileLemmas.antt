@@ -3,14 +3,12 @@ use Rattle.std.proofs.Common.{◌≡◌, ℕ, ◌+◌, ◌≤◌, List, [], ◌+
 use Rattle.std.proofs.Math.Path.{transport}
 use Rattle.std.specs.Prelude.{replicate, OnOk}
 use Rattle.cdf_area.specs.Frame.{Frame, with_base}
+use Rattle.cdf_attrs.specs.Known.{Known, known_of}
 use Rattle.cdf_base.specs.Bytes.{put}
-use Rattle.cdf_format.specs.Content.{content}
 use Rattle.cdf_format.specs.NewFile.{new_image}
 use Rattle.cdf_format.specs.WellFormed.{Good}
-use Rattle.cdf_format.proofs.NewFileRules.{new_is_good, new_content, new_length}
-use Rattle.cdf_model.specs.DataSet.{new_data_set}
+use Rattle.cdf_format.proofs.NewFileRules.{new_is_good, new_length}
 use Rattle.cdf_model.specs.Limits.{image_limit}
-use Rattle.cdf_model.specs.Names.{attribute_names}
 use Rattle.cdf_session.specs.Sessions.{IsOpen}
 use Rattle.cdf_session.proofs.OpenLemmas.{frame_back}
 
@@ -41,19 +39,16 @@ new_fits old extended given empty longer is =
 pub good_new : (now : List ℕ) → now ≡ new_image → Good now
 good_new now is = subst Good (sym is) new_is_good
 
-pub names_new : (now : List ℕ) → now ≡ new_image → attribute_names (content now) ≡ attribute_names new_data_set
-names_new now is = ap (λ (b : List ℕ). attribute_names (content b)) is ∙ ap attribute_names new_content
-
 pub on_ok : {T E : Type 0} {P : Type 0} (r : Result T E) → P → OnOk r P
 on_ok (Ok x) p = p
 on_ok (Err e) p = tt
 
-pub new_open : {U : Type 0} (start now kept : List ℕ) (frame marked between end : Frame U) (names : List (List ℕ))
+pub new_open : {U : Type 0} (start now kept : List ℕ) (frame marked between end : Frame U) (known : Known)
     → frame.base ≡ None → 404 ≤ frame.limit → frame.limit ≤ image_limit → marked ≡ with_base frame (Some start) → between ≡ marked → end ≡ with_base between None
-    → now ≡ new_image → kept ≡ now → names ≡ attribute_names new_data_set → IsOpen kept end names
-new_open start now kept frame marked between end names unmarked room limit is same ends new stays named =
+    → now ≡ new_image → kept ≡ now → known ≡ known_of new_image → IsOpen kept end known
+new_open start now kept frame marked between end known unmarked room limit is same ends new stays named =
     let f : end ≡ frame = frame_back frame between end start unmarked (same ∙ is) ends in
     let there : kept ≡ new_image = stays ∙ new in
     let fits : length kept ≤ frame.limit = let n : length kept ≡ 404 = ap (λ (b : List ℕ). length b) there ∙ new_length in omega arith in
-    let open_there : IsOpen kept frame names = record { good = good_new kept there; fits = fits; limited = limit; unmarked = unmarked; names_are = named ∙ sym (names_new kept there) } in
-    transport (λ i. IsOpen kept (sym f i) names) open_there
+    let open_there : IsOpen kept frame known = record { good = good_new kept there; fits = fits; limited = limit; unmarked = unmarked; known_is = named ∙ ap known_of (sym there) } in
+    transport (λ i. IsOpen kept (sym f i) known) open_there

@@ -4,11 +4,13 @@ use Rattle.std.proofs.Math.Path.{transport}
 use Rattle.std.specs.Prelude.{nat_lt, IfOk, OnOk, OnErr}
 use Rattle.cdf_area.specs.declared.area.AreaError.{AreaError}
 use Rattle.cdf_area.specs.Frame.{Frame, with_base}
+use Rattle.cdf_attrs.specs.Known.{Known, known_of}
 use Rattle.cdf_format.specs.Content.{content}
-use Rattle.cdf_format.specs.Locality.{is_full, MovesIf, Follows, Answers}
-use Rattle.cdf_format.specs.Room.{room}
+use Rattle.cdf_edits.specs.Answers.{is_full, MovesIf, Answers}
+use Rattle.cdf_edits.specs.Follows.{Follows}
+use Rattle.cdf_edits.specs.Commands.Room.{room}
 use Rattle.cdf_format.specs.WellFormed.{Good}
-use Rattle.cdf_format.proofs.GoodLemmas.{reading_follows}
+use Rattle.cdf_edits.proofs.Commands.ReadingFollows.{reading_follows}
 use Rattle.cdf_format.proofs.Members.{either}
 use Rattle.cdf_model.specs.declared.answer.Outcome.{Outcome}
 use Rattle.cdf_model.specs.declared.answer.Outcome.TheVariants.{Done}
@@ -20,14 +22,12 @@ use Rattle.cdf_model.specs.declared.item.Item.{Item}
 use Rattle.cdf_model.specs.Answers.{Answer, Go, Refuse, is_accepted}
 use Rattle.cdf_model.specs.DataSet.{head_of}
 use Rattle.cdf_model.specs.Listing.{items_of}
-use Rattle.cdf_model.specs.Names.{attribute_names}
-use Rattle.cdf_model.specs.Step.{step}
 use Rattle.cdf_session.specs.Sessions.{IsOpen}
 
 -- ---- the image stays
 
-pub stays_open : {U : Type 0} (b now : List ℕ) (frame after : Frame U) (names : List (List ℕ)) → IsOpen b frame names → now ≡ b → after ≡ frame → IsOpen now after names
-stays_open b now frame after names was same kept = transport (λ i. IsOpen (sym same i) (sym kept i) names) was
+pub stays_open : {U : Type 0} (b now : List ℕ) (frame after : Frame U) (known : Known) → IsOpen b frame known → now ≡ b → after ≡ frame → IsOpen now after known
+stays_open b now frame after known was same kept = transport (λ i. IsOpen (sym same i) (sym kept i) known) was
 
 pub good_stays : (b now : List ℕ) → Good b → now ≡ b → Good now
 good_stays b now good same = subst Good (sym same) good
@@ -36,13 +36,13 @@ pub info_answers : (limit : ℕ) (b now : List ℕ) (head : Head) → Good b →
 info_answers limit b now head good fits same is =
     let room_left : nat_lt limit (length b + 0) ≡ false = search (arith, fits) in
     let follows : Follows b commands.Info now = subst (Follows b commands.Info) (sym same) (reading_follows b commands.Info (replies.Head (head_of (content b))) refl refl good) in
-    record { answer = rw room_left (ap (λ (h : Head). Done (replies.Head h)) is); moves = rw room_left follows }
+    record { answer = Go (content b) (replies.Head (head_of (content b))); step_is = refl; outcome_is = rw room_left (ap (λ (h : Head). Done (replies.Head h)) is); moves = rw room_left follows }
 
 pub list_answers : (limit : ℕ) (b now : List ℕ) (items : List Item) → Good b → length b ≤ limit → now ≡ b → items ≡ items_of (content b) → Answers limit b commands.List (Done (replies.Listing items)) now
 list_answers limit b now items good fits same is =
     let room_left : nat_lt limit (length b + 0) ≡ false = search (arith, fits) in
     let follows : Follows b commands.List now = subst (Follows b commands.List) (sym same) (reading_follows b commands.List (replies.Listing (items_of (content b))) refl refl good) in
-    record { answer = rw room_left (ap (λ (shown : List Item). Done (replies.Listing shown)) is); moves = rw room_left follows }
+    record { answer = Go (content b) (replies.Listing (items_of (content b))); step_is = refl; outcome_is = rw room_left (ap (λ (shown : List Item). Done (replies.Listing shown)) is); moves = rw room_left follows }
 
 -- ---- a command that changes, between a mark and its end
 
@@ -53,10 +53,10 @@ accepted_fits (Go d reply) false e = refl
 accepted_fits (Refuse reason) long e = absurd cc
 
 pub answered_good : (limit : ℕ) (b now : List ℕ) (c : Command) (o : Outcome) → Answers limit b c o now → Good b → length b ≤ limit → Good now × (length now ≤ limit)
-answered_good limit b now c o a good fits = elim (either (is_accepted (step (content b) c) (is_full limit b c))) [
+answered_good limit b now c o a good fits = elim (either (is_accepted a.answer (is_full limit b c a.answer))) [
   | inl e ↦
       let follows : Follows b c now = subst (λ (p : Bool). MovesIf p b c now) e a.moves in
-      let short : nat_lt limit (length b + room b c) ≡ false = accepted_fits (step (content b) c) (nat_lt limit (length b + room b c)) e in
+      let short : nat_lt limit (length b + room b c) ≡ false = accepted_fits a.answer (nat_lt limit (length b + room b c)) e in
       (follows.good, short_enough (length now) (length b + room b c) follows.within short)
   | inr e ↦
       let same : now ≡ b = subst (λ (p : Bool). MovesIf p b c now) e a.moves in
@@ -74,17 +74,17 @@ some_same : (b now : List ℕ) → Some b ≡ Some now → now ≡ b
 some_same b now e = cc e
 
 -- It was carried out and kept, or it was not and all was taken back. The facts are those that the calls between give.
-pub ends_open : {U : Type 0} (b start made now : List ℕ) (frame first marked end : Frame U) (names after : List (List ℕ)) (c : Command) (done : Result Outcome AreaError)
-    → IsOpen b frame names → start ≡ b → first ≡ with_base frame (Some b) → marked ≡ first → end ≡ with_base marked None
-    → IfOk done (λ o. Answers first.limit start c o made) → OnOk done (after ≡ attribute_names (content made)) → OnErr done (after ≡ names)
+pub ends_open : {U : Type 0} (b start made now : List ℕ) (frame first marked end : Frame U) (known after : Known) (c : Command) (done : Result Outcome AreaError)
+    → IsOpen b frame known → start ≡ b → first ≡ with_base frame (Some b) → marked ≡ first → end ≡ with_base marked None
+    → IfOk done (λ o. Answers first.limit start c o made) → OnOk done (after ≡ known_of made) → OnErr done (after ≡ known)
     → OnOk done (now ≡ made) → OnErr done (marked.base ≡ Some now) → IsOpen now end after
-ends_open b start made now frame first marked end names after c (Ok o) was begins is stays ends answers names_are stay kept undone =
+ends_open b start made now frame first marked end known after c (Ok o) was begins is stays ends answers known_is stay kept undone =
     let f = frame_back frame marked end b was.unmarked (stays ∙ is) ends in
     let limit : first.limit ≡ frame.limit = ap (λ (m : Frame _). m.limit) is in
     let good = answered_good frame.limit b made c o (transport (λ i. Answers (limit i) (begins i) c o made) answers) was.good was.fits in
-    let there : IsOpen made frame after = record { good = good.0; fits = good.1; limited = was.limited; unmarked = was.unmarked; names_are = names_are } in
+    let there : IsOpen made frame after = record { good = good.0; fits = good.1; limited = was.limited; unmarked = was.unmarked; known_is = known_is } in
     transport (λ i. IsOpen (sym kept i) (sym f i) after) there
-ends_open b start made now frame first marked end names after c (Err error) was begins is stays ends answers names_are stay kept undone =
+ends_open b start made now frame first marked end known after c (Err error) was begins is stays ends answers known_is stay kept undone =
     let f = frame_back frame marked end b was.unmarked (stays ∙ is) ends in
     let back : now ≡ b = some_same b now (sym (ap (λ (m : Frame _). m.base) (stays ∙ is)) ∙ undone) in
     transport (λ i. IsOpen (sym back i) (sym f i) (sym stay i)) was

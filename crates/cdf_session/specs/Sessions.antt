@@ -1,22 +1,28 @@
--- What a session holds, and how it begins.
-use Rattle.std.specs.Prelude.{◌≡◌, ◌≤◌, ℕ, List, length, None}
+-- What a session holds, how it begins, and what it answers (own).
+use Rattle.std.specs.Prelude.{◌≡◌, ◌≤◌, ℕ, List, length, Bool, true, false, None}
+use Rattle.cdf_area.specs.declared.area.AreaError.TheVariants as areas
 use Rattle.cdf_area.specs.Frame.{Frame}
-use Rattle.cdf_check.specs.declared.verdict.Verdict.TheVariants.{Yes, No}
-use Rattle.cdf_format.specs.Content.{content}
+use Rattle.cdf_base.specs.Causes.{Rose}
+use Rattle.cdf_attrs.specs.Known.{Known, known_of}
+use Rattle.cdf_edits.specs.Answers.{Answers}
 use Rattle.cdf_format.specs.Sealed.{image_of}
 use Rattle.cdf_format.specs.WellFormed.{Good, WellFormed, Breaks}
+use Rattle.cdf_model.specs.declared.answer.LineError.TheVariants.{UnknownWord}
+use Rattle.cdf_model.specs.declared.answer.Outcome.{Outcome}
+use Rattle.cdf_model.specs.declared.answer.Outcome.TheVariants.{Refused}
+use Rattle.cdf_model.specs.declared.answer.Reason.TheVariants.{BadLine}
+use Rattle.cdf_model.specs.declared.command.Command.{Command}
 use Rattle.cdf_model.specs.Limits.{image_limit}
-use Rattle.cdf_model.specs.Names.{attribute_names}
 use Rattle.cdf_session.specs.declared.refusal.AdoptError.{AdoptError}
 use Rattle.cdf_session.specs.declared.refusal.AdoptError.TheVariants as errors
 
--- between two commands: a good image within the limit, no mark, and the names of its attributes
-pub record IsOpen {U : Type 0} (b : List ℕ) (frame : Frame U) (names : List (List ℕ)) : Type 0 where
+-- between two commands: a good image within the limit, no mark, and what is known of its attributes
+pub record IsOpen {U : Type 0} (b : List ℕ) (frame : Frame U) (known : Known) : Type 0 where
   pub good : Good b
   pub fits : length b ≤ frame.limit
   pub limited : frame.limit ≤ image_limit
   pub unmarked : frame.base ≡ None
-  pub names_are : names ≡ attribute_names (content b)
+  pub known_is : known ≡ known_of b
 
 -- a well-formed file was taken up, without its trailer
 pub record Adopts (f b : List ℕ) : Type 0 where
@@ -26,11 +32,20 @@ pub record Adopts (f b : List ℕ) : Type 0 where
 
 -- the file breaks the rule that was named
 abbrev pub Rejects : List ℕ → AdoptError → Type 0
-Rejects f (errors.Rejected (No phase rule place)) = Breaks f phase rule place
-Rejects f (errors.Rejected Yes) = ⊥
+Rejects f (errors.Rejected broken) = Breaks f broken.phase broken.rule broken.at
 Rejects f other = Unit {0}
 
 -- no rule was named
 abbrev pub IsNoVerdict : AdoptError → Type 0
-IsNoVerdict (errors.Rejected verdict) = ⊥
+IsNoVerdict (errors.Rejected broken) = ⊥
 IsNoVerdict other = Unit {0}
+
+-- the count of the faults of an area over which no session began rose where the area is blamed, and else it stays
+abbrev pub Explains : AdoptError → ℕ → ℕ → Type 0
+Explains (errors.Failed areas.Fault) before now = Rose before now
+Explains other before now = now ≡ before
+
+-- A command that there is by now is answered by its step. One that there is not yet is a word that is not known, and leaves the image.
+abbrev pub AnswersBuilt : Bool → ℕ → List ℕ → Command → Outcome → List ℕ → Type 0
+AnswersBuilt true limit b c o now = Answers limit b c o now
+AnswersBuilt false limit b c o now = (o ≡ Refused (BadLine (UnknownWord 0))) × (now ≡ b)

@@ -1,11 +1,10 @@
 //! A file that was found well formed is taken up: its trailer is dropped, and its attributes are read.
 
 ghost use Rattle.std.specs.Prelude.{◌≡◌, IfOk, OnOk, OnErr, None};
-ghost use Rattle.cdf_base.specs.Causes.{HasCauseOf};
-ghost use Rattle.cdf_format.specs.Content.{content};
+ghost use Rattle.cdf_area.specs.Calls.{Edits, Reads};
+ghost use Rattle.cdf_attrs.specs.Known.{known_of};
 ghost use Rattle.cdf_format.specs.Sealed.{image_of, trailer_length};
 ghost use Rattle.cdf_format.specs.WellFormed.{WellFormed};
-ghost use Rattle.cdf_model.specs.Names.{attribute_names};
 
 use crate::reading::{CDR, has_checksum};
 use cdf_area::{Area, AreaError};
@@ -20,9 +19,7 @@ const CHECKSUM: u64 = 16;
 fn trailer_size<A: Area>(area: &mut A) -> Result<u64, AreaError>
     requires { WellFormed (A.image area.old) }
     ensures size { IfOk result (λ size. size ≡ trailer_length (A.image area.old)) }
-    ensures image { A.image area.new ≡ A.image area.old }
-    ensures frame { A.frame area.new ≡ A.frame area.old }
-    ensures cause { HasCauseOf AreaError.Fault (A.faults area.old) (A.faults area.new) result }
+    ensures area { Reads A.image A.frame A.faults A.edited area.old area.new result }
 {
     let cdr = read_cdr(area, CDR)?;
     if has_checksum(cdr.flags) {
@@ -37,10 +34,10 @@ pub fn take_up<A: Area>(alloc: Global, area: &mut A) -> Result<Attrs, AreaError>
     requires well_formed { WellFormed (A.image area.old) }
     requires unmarked { (A.frame area.old).base ≡ None }
     ensures image { OnOk result (A.image area.new ≡ image_of (A.image area.old)) }
-    ensures names { IfOk result (λ attrs. attrs ≡ attribute_names (content (A.image area.new))) }
+    ensures known { IfOk result (λ attrs. attrs ≡ known_of (A.image area.new)) }
+    ensures unedited { A.edited area.new ≡ A.edited area.old }
     ensures stays { OnErr result (A.image area.new ≡ A.image area.old) }
-    ensures frame { A.frame area.new ≡ A.frame area.old }
-    ensures cause { HasCauseOf AreaError.Fault (A.faults area.old) (A.faults area.new) result }
+    ensures area { Edits A.frame A.faults area.old area.new result }
 {
     let trailer = trailer_size(area)?;
     area.shorten(trailer);

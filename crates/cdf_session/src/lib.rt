@@ -9,5 +9,5 @@ mod session;
 #[cfg(test)]
 mod tests;
 
-pub use refusal::{AdoptError, Broken, Refusal};
+pub use refusal::{AdoptError, Refusal};
 pub use session::Session;

@@ -1,10 +1,9 @@
 //! The file of a new data set, which has two records.
 
-ghost use Rattle.std.specs.Prelude.{◌≡◌, ◌≤◌, ◌++◌, [], length, IfOk, OnOk};
-ghost use Rattle.cdf_base.specs.Causes.{HasCauseOf};
+ghost use Rattle.std.specs.Prelude.{◌≡◌, ◌≤◌, ◌++◌, [], IfOk, OnOk};
+ghost use Rattle.cdf_area.specs.Calls.{Edits};
+ghost use Rattle.cdf_attrs.specs.Known.{known_of};
 ghost use Rattle.cdf_format.specs.NewFile.{copyright, new_image, of_4_bytes, of_8_bytes};
-ghost use Rattle.cdf_model.specs.DataSet.{new_data_set};
-ghost use Rattle.cdf_model.specs.Names.{attribute_names};
 
 use cdf_area::{Area, AreaError};
 use cdf_attrs::Attrs;
@@ -70,9 +69,8 @@ pub fn write_new<A: Area>(alloc: Global, area: &mut A) -> Result<Attrs, AreaErro
     requires empty { A.image area.old ≡ [] }
     requires room { 404 ≤ (A.frame area.old).limit }
     ensures image { OnOk result (A.image area.new ≡ new_image) }
-    ensures names { IfOk result (λ attrs. attrs ≡ attribute_names new_data_set) }
-    ensures frame { A.frame area.new ≡ A.frame area.old }
-    ensures cause { HasCauseOf AreaError.Fault (A.faults area.old) (A.faults area.new) result }
+    ensures known { IfOk result (λ attrs. attrs ≡ known_of new_image) }
+    ensures area { Edits A.frame A.faults area.old area.new result }
 {
     let bytes = new_bytes(alloc)?;
     area.extend(NEW_SIZE)?;

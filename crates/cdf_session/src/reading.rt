@@ -1,9 +1,9 @@
 //! What the commands show that only read: the head of the data set, and the list of its attributes and variables.
 
 ghost use Rattle.std.specs.Prelude.{◌≡◌, ◌+◌, ◌*◌, ◌≤◌, length, IfOk};
-ghost use Rattle.cdf_base.specs.Causes.{HasCauseOf};
+ghost use Rattle.cdf_area.specs.Calls.{Reads};
 ghost use Rattle.cdf_format.specs.Content.{content, majority_of};
-ghost use Rattle.cdf_format.specs.Fields.{has_bit, r_dimensions, r_sizes, word};
+ghost use Rattle.cdf_format.specs.Fields.{has_bit, r_num_dims, r_sizes, word};
 ghost use Rattle.cdf_format.specs.WellFormed.{Good};
 ghost use Rattle.cdf_model.specs.DataSet.{head_of};
 ghost use Rattle.cdf_model.specs.Listing.{items_of};
@@ -66,11 +66,9 @@ fn read_sizes<A: Area>(
 ) -> Result<Nums, AreaError>
     requires gdr { gdr.now ≡ gdr_at (A.image area.old) place }
     requires few { word (A.image area.old) (place + 56) 4 ≤ 10 }
-    requires fits { place + 84 + 4 * r_dimensions (A.image area.old) place ≤ length (A.image area.old) }
+    requires fits { place + 84 + 4 * r_num_dims (A.image area.old) place ≤ length (A.image area.old) }
     ensures sizes { IfOk result (λ sizes. sizes ≡ r_sizes (A.image area.old) place) }
-    ensures image { A.image area.new ≡ A.image area.old }
-    ensures frame { A.frame area.new ≡ A.frame area.old }
-    ensures cause { HasCauseOf AreaError.Fault (A.faults area.old) (A.faults area.new) result }
+    ensures area { Reads A.image A.frame A.faults A.edited area.old area.new result }
 {
     // An image has fewer than 2^64 bytes, so no place in it overflows.
     let _size = area.size();
@@ -82,9 +80,7 @@ fn read_sizes<A: Area>(
 pub fn read_head<A: Area>(alloc: Global, area: &mut A) -> Result<Head, AreaError>
     requires { Good (A.image area.old) }
     ensures head { IfOk result (λ head. head ≡ head_of (content (A.image area.old))) }
-    ensures image { A.image area.new ≡ A.image area.old }
-    ensures frame { A.frame area.new ≡ A.frame area.old }
-    ensures cause { HasCauseOf AreaError.Fault (A.faults area.old) (A.faults area.new) result }
+    ensures area { Reads A.image A.frame A.faults A.edited area.old area.new result }
 {
     let cdr = read_cdr(area, CDR)?;
     let gdr = read_gdr(area, cdr.gdr_offset)?;
@@ -96,9 +92,7 @@ pub fn read_head<A: Area>(alloc: Global, area: &mut A) -> Result<Head, AreaError
 pub fn read_items<A: Area>(attrs: &Attrs, area: &mut A) -> Result<Items, AreaError>
     requires { Good (A.image area.old) }
     ensures items { IfOk result (λ items. items ≡ items_of (content (A.image area.old))) }
-    ensures image { A.image area.new ≡ A.image area.old }
-    ensures frame { A.frame area.new ≡ A.frame area.old }
-    ensures cause { HasCauseOf AreaError.Fault (A.faults area.old) (A.faults area.new) result }
+    ensures area { Reads A.image A.frame A.faults A.edited area.old area.new result }
 {
     Ok(Items::new(attrs.items(area)?))
 }

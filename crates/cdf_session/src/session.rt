@@ -1,22 +1,25 @@
+//! A file under edit, and the commands that are carried out on it.
+
 ghost use Rattle.std.specs.Prelude.{◌≡◌, ◌≤◌, [], length, true, IsSome, IfOk, IfErr, OnOk, OnErr, Some, None};
+ghost use Rattle.cdf_area.specs.Calls.{Edits, Reads};
 ghost use Rattle.cdf_area.specs.Frame.{with_base};
-ghost use Rattle.cdf_base.specs.Causes.{HasCauseOf, Rose};
-ghost use Rattle.cdf_format.specs.Locality.{Answers};
+ghost use Rattle.cdf_edits.specs.Answers.{Answers};
+ghost use Rattle.cdf_edits.specs.Follows.{only_reads};
 ghost use Rattle.cdf_format.specs.NewFile.{new_image};
 ghost use Rattle.cdf_format.specs.WellFormed.{Good, WellFormed};
 ghost use Rattle.cdf_model.specs.Limits.{image_limit};
 ghost use Rattle.cdf_model.specs.Sayable.{CanBeGiven, Sayable};
 ghost use Rattle.cdf_model.specs.Step.{built};
-ghost use Rattle.cdf_session.specs.Sessions.{Adopts, IsOpen, IsNoVerdict, Rejects};
+ghost use Rattle.cdf_session.specs.Sessions.{Adopts, AnswersBuilt, Explains, IsOpen, IsNoVerdict, Rejects};
 
 use crate::adopting::take_up;
 use crate::new_file::write_new;
 use crate::reading::{read_head, read_items};
-use crate::refusal::{AdoptError, Broken, Refusal};
+use crate::refusal::{AdoptError, Refusal};
 use cdf_area::{Area, AreaError};
 use cdf_attrs::Attrs;
-use cdf_check::{Verdict, check};
-use cdf_model::{Command, Outcome, Reply, Scope};
+use cdf_check::check;
+use cdf_model::{Command, LineError, Outcome, Reason, Reply, Scope};
 use std::alloc::Global;
 use std::marker::Model;
 
@@ -59,23 +62,23 @@ impl<A: Area> Session<A> {
         requires limit { (A.frame area).limit ≡ image_limit }
         ensures adopted { IfOk result (λ session. Adopts (A.image area) (A.image session)) }
         ensures frame { IfOk result (λ session. A.frame session ≡ A.frame area) }
-        ensures later { IfOk result (λ session. A.faults area ≤ A.faults session) }
+        ensures counted { IfOk result (λ session. A.faults session ≡ A.faults area) }
+        ensures unedited { IfOk result (λ session. A.edited session ≡ A.edited area) }
         ensures rejected { IfErr result (λ r. Rejects (A.image area) r.why) }
         ensures image { IfErr result (λ r. A.image r.area ≡ A.image area) }
         ensures frame_back { IfErr result (λ r. A.frame r.area ≡ A.frame area) }
-        ensures later_back { IfErr result (λ r. A.faults area ≤ A.faults r.area) }
-        ensures cause { IfErr result (λ r. r.why ≡ AdoptError.Fault → Rose (A.faults area) (A.faults r.area)) }
+        ensures cause { IfErr result (λ r. Explains r.why (A.faults area) (A.faults r.area)) }
     {
         let mut area = area;
         match check(alloc, &mut area) {
-            Ok(Verdict::Yes) => Session::open(alloc, area),
-            Ok(verdict) => Err(Refusal {
+            Ok(None) => Session::open(alloc, area),
+            Ok(Some(broken)) => Err(Refusal {
                 area,
-                why: AdoptError::Rejected { verdict },
+                why: AdoptError::Rejected { broken },
             }),
             Err(error) => Err(Refusal {
                 area,
-                why: AdoptError::from(error),
+                why: AdoptError::Failed { error },
             }),
         }
     }
@@ -87,19 +90,19 @@ impl<A: Area> Session<A> {
         requires limit { (A.frame area).limit ≡ image_limit }
         ensures adopted { IfOk result (λ session. Adopts (A.image area) (A.image session)) }
         ensures frame { IfOk result (λ session. A.frame session ≡ A.frame area) }
-        ensures later { IfOk result (λ session. A.faults area ≤ A.faults session) }
+        ensures counted { IfOk result (λ session. A.faults session ≡ A.faults area) }
+        ensures unedited { IfOk result (λ session. A.edited session ≡ A.edited area) }
         ensures not_rejected { IfErr result (λ r. IsNoVerdict r.why) }
         ensures image { IfErr result (λ r. A.image r.area ≡ A.image area) }
         ensures frame_back { IfErr result (λ r. A.frame r.area ≡ A.frame area) }
-        ensures later_back { IfErr result (λ r. A.faults area ≤ A.faults r.area) }
-        ensures cause { IfErr result (λ r. r.why ≡ AdoptError.Fault → Rose (A.faults area) (A.faults r.area)) }
+        ensures cause { IfErr result (λ r. Explains r.why (A.faults area) (A.faults r.area)) }
     {
         let mut area = area;
         match take_up(alloc, &mut area) {
             Ok(attrs) => Ok(Session { alloc, area, attrs }),
             Err(error) => Err(Refusal {
                 area,
-                why: AdoptError::from(error),
+                why: AdoptError::Failed { error },
             }),
         }
     }
@@ -112,12 +115,11 @@ impl<A: Area> Session<A> {
         requires limit { (A.frame area).limit ≤ image_limit }
         ensures created { IfOk result (λ session. A.image session ≡ new_image) }
         ensures frame { IfOk result (λ session. A.frame session ≡ A.frame area) }
-        ensures later { IfOk result (λ session. A.faults area ≤ A.faults session) }
+        ensures counted { IfOk result (λ session. A.faults session ≡ A.faults area) }
         ensures not_rejected { IfErr result (λ r. IsNoVerdict r.why) }
         ensures image { IfErr result (λ r. A.image r.area ≡ A.image area) }
         ensures frame_back { IfErr result (λ r. A.frame r.area ≡ A.frame area) }
-        ensures later_back { IfErr result (λ r. A.faults area ≤ A.faults r.area) }
-        ensures cause { IfErr result (λ r. r.why ≡ AdoptError.Fault → Rose (A.faults area) (A.faults r.area)) }
+        ensures cause { IfErr result (λ r. Explains r.why (A.faults area) (A.faults r.area)) }
     {
         let mut area = area;
         area.mark();
@@ -130,48 +132,37 @@ impl<A: Area> Session<A> {
                 area.undo();
                 Err(Refusal {
                     area,
-                    why: AdoptError::from(error),
+                    why: AdoptError::Failed { error },
                 })
             }
         }
     }
 
-    /// Carries out a command. After a refusal and after an error the image is as before.
-    pub fn apply(&mut self, command: &Command) -> Result<Outcome, Broken>
-        requires built { built command.now ≡ true }
-        requires sayable { Sayable command.now }
-        ensures answers { IfOk result (λ o. Answers (A.frame self.old).limit (A.image self.old) command.now o (A.image self.new)) }
+    /// Carries out a command. One that there is not yet is a word that is not known. After a refusal and after an error the image is as before.
+    pub fn apply(&mut self, command: &Command) -> Result<Outcome, AreaError>
+        requires { Sayable command.now }
+        ensures answers { IfOk result (λ o. AnswersBuilt (built command.now) (A.frame self.old).limit (A.image self.old) command.now o (A.image self.new)) }
         ensures stays { OnErr result (A.image self.new ≡ A.image self.old) }
-        ensures frame { A.frame self.new ≡ A.frame self.old }
-        ensures cause { HasCauseOf Broken.Fault (A.faults self.old) (A.faults self.new) result }
-    {
-        Ok(self.carry_out(command)?)
-    }
-
-    /// Carries out a command.
-    fn carry_out(&mut self, command: &Command) -> Result<Outcome, AreaError>
-        requires built { built command.now ≡ true }
-        requires sayable { Sayable command.now }
-        ensures answers { IfOk result (λ o. Answers (A.frame self.old).limit (A.image self.old) command.now o (A.image self.new)) }
-        ensures stays { OnErr result (A.image self.new ≡ A.image self.old) }
-        ensures frame { A.frame self.new ≡ A.frame self.old }
-        ensures cause { HasCauseOf AreaError.Fault (A.faults self.old) (A.faults self.new) result }
+        ensures unedited { only_reads command.now ≡ true → A.edited self.new ≡ A.edited self.old }
+        ensures area { Edits A.frame A.faults self.old self.new result }
     {
         match command {
             Command::Info => self.info(),
             Command::List => self.list(),
             Command::Attr { name, scope } => self.attr(name.as_slice(), *scope),
             Command::RenameAttr { from, to } => self.rename_attr(from.as_slice(), to.as_slice()),
-            _ => unreachable!(),
+            _ => Ok(Outcome::Refused {
+                reason: Reason::BadLine {
+                    fault: LineError::UnknownWord { at: 0 },
+                },
+            }),
         }
     }
 
     /// The command `info`.
     fn info(&mut self) -> Result<Outcome, AreaError>
         ensures answers { IfOk result (λ o. Answers (A.frame self.old).limit (A.image self.old) Command.Info o (A.image self.new)) }
-        ensures stays { A.image self.new ≡ A.image self.old }
-        ensures frame { A.frame self.new ≡ A.frame self.old }
-        ensures cause { HasCauseOf AreaError.Fault (A.faults self.old) (A.faults self.new) result }
+        ensures area { Reads A.image A.frame A.faults A.edited self.old self.new result }
     {
         let head = read_head(self.alloc, &mut self.area)?;
         Ok(Outcome::Done {
@@ -182,9 +173,7 @@ impl<A: Area> Session<A> {
     /// The command `list`.
     fn list(&mut self) -> Result<Outcome, AreaError>
         ensures answers { IfOk result (λ o. Answers (A.frame self.old).limit (A.image self.old) Command.List o (A.image self.new)) }
-        ensures stays { A.image self.new ≡ A.image self.old }
-        ensures frame { A.frame self.new ≡ A.frame self.old }
-        ensures cause { HasCauseOf AreaError.Fault (A.faults self.old) (A.faults self.new) result }
+        ensures area { Reads A.image A.frame A.faults A.edited self.old self.new result }
     {
         let items = read_items(&self.attrs, &mut self.area)?;
         Ok(Outcome::Done {
@@ -197,8 +186,7 @@ impl<A: Area> Session<A> {
         requires scope { CanBeGiven scope }
         ensures answers { IfOk result (λ o. Answers (A.frame self.old).limit (A.image self.old) (Command.Attr name.now scope) o (A.image self.new)) }
         ensures stays { OnErr result (A.image self.new ≡ A.image self.old) }
-        ensures frame { A.frame self.new ≡ A.frame self.old }
-        ensures cause { HasCauseOf AreaError.Fault (A.faults self.old) (A.faults self.new) result }
+        ensures area { Edits A.frame A.faults self.old self.new result }
     {
         self.area.mark();
         let done = self.attrs.create(&mut self.area, name, scope);
@@ -209,8 +197,7 @@ impl<A: Area> Session<A> {
     fn rename_attr(&mut self, from: &[u8], to: &[u8]) -> Result<Outcome, AreaError>
         ensures answers { IfOk result (λ o. Answers (A.frame self.old).limit (A.image self.old) (Command.RenameAttr from.now to.now) o (A.image self.new)) }
         ensures stays { OnErr result (A.image self.new ≡ A.image self.old) }
-        ensures frame { A.frame self.new ≡ A.frame self.old }
-        ensures cause { HasCauseOf AreaError.Fault (A.faults self.old) (A.faults self.new) result }
+        ensures area { Edits A.frame A.faults self.old self.new result }
     {
         self.area.mark();
         let done = self.attrs.rename(&mut self.area, from, to);

@@ -1,9 +1,11 @@
+//! A session within its limit, and one over an image that was saved.
+
 ghost use Rattle.std.specs.Prelude.{◌≡◌, ◌≤◌, None};
 ghost use Rattle.cdf_model.specs.Limits.{image_limit};
 
 use crate::{AdoptError, Refusal, Session};
 use cdf_area::{Area, MemArea};
-use cdf_check::Verdict;
+use cdf_check::Broken;
 use cdf_model::{Bytes, Command, Outcome, Reason, Reply, Scope};
 use std::alloc::Global;
 use std::process::Abort;
@@ -74,12 +76,12 @@ fn a_saved_image_is_taken_up_again(rt: HostRuntime) -> Result<(), Fail> {
     match Session::adopt(alloc, MemArea::new(alloc, bytes, IMAGE_LIMIT)) {
         Ok(_) => Err(Fail::new("a byte after eof was let through")),
         Err(Refusal { area, why }) => {
-            let verdict = Verdict::No {
+            let broken = Broken {
                 phase: 3,
                 rule: 4,
                 at: 320,
             };
-            assert_eq!(rt; why, AdoptError::Rejected { verdict });
+            assert_eq!(rt; why, AdoptError::Rejected { broken });
             assert_eq!(rt; area.size(), 729);
             Ok(())
         }

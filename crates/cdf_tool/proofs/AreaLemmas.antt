@@ -1,6 +1,8 @@
 -- How a run over an area ends.
-use Rattle.std.proofs.Common.{◌≡◌, ℕ, Bool, true, false, List, Option, Result, Ok, Err, refl, subst, inl, inr}
-use Rattle.cdf_check.specs.declared.verdict.Verdict.TheVariants.{No}
+use Rattle.std.proofs.Common.{◌≡◌, ℕ, Bool, true, false, List, Option, Result, Ok, Err, refl, sym, subst, inl, inr}
+use Rattle.cdf_area.specs.declared.area.AreaError.{AreaError}
+use Rattle.cdf_area.specs.declared.area.AreaError.TheVariants as areas
+use Rattle.cdf_check.specs.declared.verdict.Broken.{Broken}
 use Rattle.cdf_model.specs.Texts.{rejected_text}
 use Rattle.cdf_session.specs.declared.refusal.AdoptError.{AdoptError}
 use Rattle.cdf_session.specs.declared.refusal.AdoptError.TheVariants as errors
@@ -9,6 +11,7 @@ use Rattle.cdf_tool.specs.declared.status.Status.TheVariants as statuses
 use Rattle.cdf_tool.specs.Areas.{Refuses, EndsOver}
 use Rattle.cdf_tool.specs.Ends.{EndsUnread}
 use Rattle.cdf_tool.specs.Says.{Rejects, rejection, SaysRejected}
+use Rattle.cdf_tool.specs.Statuses.{status_of_area}
 
 -- a rejection ends a run
 rejected_ends : (file : List ℕ) (first now : Option (List ℕ)) (r : Rejects file) (status : Status) → SaysRejected (rejection r) first now status → EndsUnread false file first now status
@@ -24,14 +27,22 @@ rejected_ends file first now r statuses.StoreWriteFault says = says
 rejected_ends file first now r statuses.ScriptFault says = says
 rejected_ends file first now r statuses.ScriptTooLong says = says
 
-refused_by : (new : Bool) (file : List ℕ) (phase rule place : ℕ) (first now : Option (List ℕ)) (status : Status) → Refuses new file (errors.Rejected (No phase rule place)) → SaysRejected (rejected_text phase rule place) first now status → EndsUnread new file first now status
-refused_by true file phase rule place first now status refuses says = absurd refuses
-refused_by false file phase rule place first now status refuses says =
-    rejected_ends file first now (record { phase = phase; rule = rule; place = place; broken = refuses }) status says
+refused_by : (new : Bool) (file : List ℕ) (broken : Broken) (first now : Option (List ℕ)) (status : Status) → Refuses new file (errors.Rejected broken) → SaysRejected (rejected_text broken.phase broken.rule broken.at) first now status → EndsUnread new file first now status
+refused_by true file broken first now status refuses says = absurd refuses
+refused_by false file broken first now status refuses says =
+    rejected_ends file first now (record { phase = broken.phase; rule = broken.rule; place = broken.at; broken = refuses }) status says
 
-pub refused_ends : (new : Bool) (file : List ℕ) (phase rule place : ℕ) (first now : Option (List ℕ)) (status : Status) (why : AdoptError) → why ≡ errors.Rejected (No phase rule place) → Refuses new file why → SaysRejected (rejected_text phase rule place) first now status → EndsUnread new file first now status
-refused_ends new file phase rule place first now status why is refuses says =
-    refused_by new file phase rule place first now status (subst (λ (w : AdoptError). Refuses new file w) is refuses) says
+pub refused_ends : (new : Bool) (file : List ℕ) (broken : Broken) (first now : Option (List ℕ)) (status : Status) (why : AdoptError) → why ≡ errors.Rejected broken → Refuses new file why → SaysRejected (rejected_text broken.phase broken.rule broken.at) first now status → EndsUnread new file first now status
+refused_ends new file broken first now status why is refuses says =
+    refused_by new file broken first now status (subst (λ (w : AdoptError). Refuses new file w) is refuses) says
+
+-- an area failed, or there was no memory
+failed_by : (new : Bool) (file : List ℕ) (now : Option (List ℕ)) (error : AreaError) → EndsUnread new file now now (status_of_area error)
+failed_by new file now areas.Fault = refl
+failed_by new file now areas.NoMemory = refl
+
+pub failed_ends : (new : Bool) (file : List ℕ) (now : Option (List ℕ)) (error : AreaError) (status : Status) → status ≡ status_of_area error → EndsUnread new file now now status
+failed_ends new file now error status is = subst (λ (s : Status). EndsUnread new file now now s) (sym is) (failed_by new file now error)
 
 -- no session is begun over a new file for a reason of the file
 unread_new : (file other : List ℕ) (first now : Option (List ℕ)) (status : Status) → EndsUnread true file first now status → EndsUnread true other first now status
@@ -57,7 +68,3 @@ module _ (before left first now : Option (List ℕ)) (end : List ℕ) where
   pub over_file : (new : Bool) (held file : List ℕ) (outcome : Result Bool Status) → (new ≡ false → held ≡ file) → EndsOver new held before left first now end outcome → EndsOver new file before left first now end outcome
   over_file true held file outcome same ends = over_new held file outcome ends
   over_file false held file outcome same ends = subst (λ (f : List ℕ). EndsOver false f before left first now end outcome) (same refl) ends
-
--- a run that stops does not say that a write failed
-unread_writes_not : (new : Bool) (file : List ℕ) (first now : Option (List ℕ)) (status : Status) → EndsUnread new file first now status → status ≡ statuses.StoreWriteFault → ⊥
-unread_writes_not new file first now status ends is = subst (λ (s : Status). EndsUnread new file first now s) is ends

@@ -5,7 +5,6 @@ use Rattle.std.specs.Prelude.{IfOk}
 use Rattle.cdf_store.specs.Disk.{Disk}
 use Rattle.cdf_format.specs.WellFormed.{Good}
 use Rattle.cdf_model.specs.Limits.{image_limit}
-use Rattle.cdf_model.specs.Lines.{lines}
 use Rattle.cdf_model.specs.Words.{Asked}
 use Rattle.cdf_tool.specs.declared.status.Status.{Status}
 use Rattle.cdf_tool.specs.declared.status.Status.TheVariants as statuses
@@ -15,7 +14,6 @@ use Rattle.cdf_tool.specs.Script.{Finishes, Halts}
 use Rattle.cdf_tool.specs.Statuses.{status_of}
 use Rattle.cdf_tool.specs.Stored.{Attached, Kept, StoredBy}
 use Rattle.cdf_tool.proofs.AreaLemmas.{over_file}
-use Rattle.cdf_tool.proofs.Moments.{goes_stops}
 use Rattle.cdf_tool.proofs.StoredLemmas.{kept, replaced, spoiled}
 
 module _ {U : Type 0} (new no_save : Bool) (name file : List ℕ) (d d' : Disk U) (before left first now : Option (List ℕ)) where
@@ -31,7 +29,7 @@ module _ {U : Type 0} (new no_save : Bool) (name file : List ℕ) (d d' : Disk U
   halted_runs image statuses.Rejected same h = (same, h)
   halted_runs image statuses.StoreReadFault same h = (same, h)
   halted_runs image statuses.OutputFault same h = (same, h)
-  halted_runs image statuses.NoMemory same h = (same, h)
+  halted_runs image statuses.NoMemory same h = (same, inl h)
   halted_runs image statuses.ScriptFault same h = (same, h)
   halted_runs image statuses.ScriptTooLong same h = (same, h)
 
@@ -39,14 +37,6 @@ module _ {U : Type 0} (new no_save : Bool) (name file : List ℕ) (d d' : Disk U
   stopped_ends : (end : List ℕ) (status : Status) → Kept asked file d d' → EndsOver new file before left first now end (Err status) → EndsNamed asked d d' before left first now status
   stopped_ends end status same (inl (none, ends)) = inr (inl (record { file = file; kept = same; none_read = none; ends = ends }))
   stopped_ends end status same (inr h) = inr (inr (record { file = file; image = h.image; opens = h.opens; runs = halted_runs h.image status same h.halts }))
-
-  -- a script that was answered, without memory to save the image
-  finished_halts : (image end : List ℕ) (refused : Bool) → Finishes image_limit image before left first end refused now → Halts image_limit image before left first now statuses.NoMemory
-  finished_halts image end refused f = record {
-    taken = f.taken;
-    consumed = f.consumed;
-    how = (f.short, inr (f.over, goes_stops image_limit image 0 (lines f.taken) end refused first now f.goes));
-  }
 
   completed_runs : (image end : List ℕ) (refused : Bool) → Finishes image_limit image before left first end refused now → StoredBy no_save asked file end d d' → Runs asked file image d d' before left first now (status_of refused)
   completed_runs image end true f stored = record { end = end; finishes = f; stored = stored }
@@ -65,7 +55,7 @@ module _ {U : Type 0} (new no_save : Bool) (name file : List ℕ) (d d' : Disk U
         record { end = end; finishes = subst (λ (r : Bool). Finishes image_limit image before left first end r now) is f; stored = subst (λ (s : Bool). StoredBy s asked file end d d') (sym asks) (good, replaced new no_save name file d at d' _ attached holds) }
     saved_runs image end refused statuses.StoreWriteFault asks good f holds =
         record { end = end; refused = refused; finishes = f; spoiled = spoiled new no_save name file d at d' end asks attached holds }
-    saved_runs image end refused statuses.NoMemory asks good f same = (kept new no_save name file d at d' saves attached same, finished_halts image end refused f)
+    saved_runs image end refused statuses.NoMemory asks good f same = (kept new no_save name file d at d' saves attached same, inr (record { end = end; refused = refused; finishes = f }))
     saved_runs image end refused statuses.Usage asks good f ends = absurd ends
     saved_runs image end refused statuses.NoFile asks good f ends = absurd ends
     saved_runs image end refused statuses.Rejected asks good f ends = absurd ends

@@ -1,11 +1,15 @@
+pub mod Gathered
 pub mod Standing
 pub mod Moments
 pub mod Commands
+pub mod Whole
 pub mod Lines
 pub mod ScriptLemmas
 pub mod AreaLemmas
 pub mod StoredLemmas
 pub mod EndLemmas
 pub mod WordLemmas
+pub mod AskedWords
 pub mod RunStore
+pub mod CountLemmas
 pub mod RunLemmas

@@ -4,18 +4,18 @@ use Rattle.std.proofs.KnownBytes.{Appends-trans, Appends-nil}
 use Rattle.std.specs.Prelude.{◌||◌, if◌then◌else◌}
 use Rattle.std.specs.Io.KnownBytes.{Appends}
 use Rattle.std.proofs.lemmas.List.{map-append, length-map}
-use Rattle.cdf_store.specs.Written.{IsFront, AppendsFront}
-use Rattle.cdf_store.proofs.Fronts.{IsFront-refl, front_after, front_none, front_longer}
 use Rattle.cdf_model.specs.declared.answer.LineError.TheVariants.{UnknownWord}
 use Rattle.cdf_model.specs.declared.command.Command.{Command}
 use Rattle.cdf_model.specs.Answers.{Answer, Go, Refuse, data_after, is_accepted}
 use Rattle.cdf_model.specs.DataSet.{DataSet}
 use Rattle.cdf_model.specs.Grammar.{Parsed, Blank, Asks, Faulty, parse}
 use Rattle.cdf_model.specs.Run.{Turn, State, turn, asked, faulty, advance, run_on}
-use Rattle.cdf_model.specs.Step.{Route, ByStep, ByContent, ByTaps, built, route_of, step}
+use Rattle.cdf_model.specs.Step.{Route, ByStep, ByContent, ByTaps, built, step}
 use Rattle.cdf_format.specs.Content.{content}
-use Rattle.cdf_format.specs.Locality.{Moves, MovesIf, RouteLeads, CommandLeads, LineLeads, Moment, LinesLead, last_image}
-use Rattle.cdf_tool.specs.Replay.{turn_over, line_of_moment, flagged_line, begun, tale, Turns, Fails, Goes, Stops}
+use Rattle.cdf_edits.specs.Answers.{Moves, MovesIf}
+use Rattle.cdf_edits.specs.History.{RouteLeads, CommandLeads, LineLeads, Moment, LinesLead, last_image}
+use Rattle.cdf_tool.specs.declared.status.Status.TheVariants.{NoMemory}
+use Rattle.cdf_tool.specs.Replay.{turn_over, line_of_moment, flagged_line, begun, tale, Turns, Goes, Replies, Stops}
 
 -- ---- the content of the image follows the data set
 
@@ -28,27 +28,30 @@ stays_so d (Go made r) true is = refl
 stays_so d (Go made r) false is = absurd (cc is)
 stays_so d (Refuse reason) full is = refl
 
-moves_if : (b : List ℕ) (c : Command) (full : Bool) (now : List ℕ) (accepted : Bool) → is_accepted (step (content b) c) full ≡ accepted → MovesIf accepted b c now → content now ≡ data_after (content b) (step (content b) c) full
-moves_if b c full now true is f = goes_on (content b) (content now) (step (content b) c) full f.reply f.goes is
-moves_if b c full now false is same = ap content same ∙ stays_so (content b) (step (content b) c) full is
+same_answer : (answer other : Answer) → ByStep answer ≡ ByStep other → answer ≡ other
+same_answer answer other e = cc e
+
+moves_if : (b : List ℕ) (c : Command) (answer : Answer) (full : Bool) (now : List ℕ) (accepted : Bool) → step (content b) c ≡ ByStep answer → is_accepted answer full ≡ accepted → MovesIf accepted b c now → content now ≡ data_after (content b) answer full
+moves_if b c answer full now true step_is is f = goes_on (content b) (content now) answer full f.reply (same_answer answer (Go (content now) f.reply) (sym step_is ∙ f.goes)) is
+moves_if b c answer full now false step_is is same = ap content same ∙ stays_so (content b) answer full is
 
 -- the image that a command leads to means the data set after it
-pub content_moves : (b : List ℕ) (c : Command) (full : Bool) (now : List ℕ) → Moves b c full now → content now ≡ data_after (content b) (step (content b) c) full
-content_moves b c full now moves = moves_if b c full now (is_accepted (step (content b) c) full) refl moves
+pub content_moves : (b : List ℕ) (c : Command) (answer : Answer) (full : Bool) (now : List ℕ) → step (content b) c ≡ ByStep answer → Moves b c answer full now → content now ≡ data_after (content b) answer full
+content_moves b c answer full now step_is moves = moves_if b c answer full now (is_accepted answer full) step_is refl moves
 
 -- and there are no taps
 record Stands (b : List ℕ) (t : Turn) : Type 0 where
   pub data_set : t.data_set ≡ content b
   pub no_taps : t.taps ≡ []
 
-route_stands : (limit : ℕ) (b : List ℕ) (n : ℕ) (c : Command) (full : Bool) (now : List ℕ) (route : Route) → RouteLeads route limit b c full now → Stands now (asked (content b) [] n c route full)
-route_stands limit b n c full now ByStep leads = record { data_set = sym (content_moves b c full now leads.1); no_taps = refl }
-route_stands limit b n c full now ByContent leads = record { data_set = ap content (sym leads.1); no_taps = refl }
-route_stands limit b n c full now (ByTaps name) leads = record { data_set = ap content (sym leads.1); no_taps = refl }
+route_stands : (limit : ℕ) (b : List ℕ) (n : ℕ) (c : Command) (full : Bool) (now : List ℕ) (route : Route) → step (content b) c ≡ route → RouteLeads route limit b c full now → Stands now (asked (content b) [] n route full)
+route_stands limit b n c full now (ByStep answer) is leads = record { data_set = sym (content_moves b c answer full now is leads.1); no_taps = refl }
+route_stands limit b n c full now ByContent is leads = record { data_set = ap content (sym leads.1); no_taps = refl }
+route_stands limit b n c full now (ByTaps name) is leads = record { data_set = ap content (sym leads.1); no_taps = refl }
 
 command_stands : (limit : ℕ) (b : List ℕ) (n : ℕ) (c : Command) (full : Bool) (now : List ℕ) (is_built : Bool) → CommandLeads is_built limit b c full now
-    → Stands now (if is_built then asked (content b) [] n c (route_of c) full else faulty (content b) [] n (UnknownWord 0))
-command_stands limit b n c full now true leads = route_stands limit b n c full now (route_of c) leads
+    → Stands now (if is_built then asked (content b) [] n (step (content b) c) full else faulty (content b) [] n (UnknownWord 0))
+command_stands limit b n c full now true leads = route_stands limit b n c full now (step (content b) c) refl leads
 command_stands limit b n c full now false leads = record { data_set = ap content (sym leads.1); no_taps = refl }
 
 line_stands : (limit : ℕ) (b : List ℕ) (n : ℕ) (parsed : Parsed) (full : Bool) (now : List ℕ) → LineLeads limit b parsed full now → Stands now (turn_over b n parsed full)
@@ -132,106 +135,51 @@ last_more b (m ∷ ms) more = last_more m.image ms more
 count_of : {A B : Type 0} (f : A → B) (xs : List A) (ys : List B) → map f xs ≡ ys → length xs ≡ length ys
 count_of f xs ys is = sym (length-map xs f) ∙ ap (λ l. length l) is
 
-pub goes_nowhere : (limit : ℕ) (b : List ℕ) (given : ℕ) (was : Option (List ℕ)) → Goes limit b given [] b false was was
-goes_nowhere limit b given was = record { moments = []; lines_are = refl; steps = tt; end_is = refl; refused_is = refl; written = Appends-nil was }
+pub goes_nowhere : (limit : ℕ) (b : List ℕ) (given : ℕ) → Goes limit b given [] b false []
+goes_nowhere limit b given = record { moments = []; lines_are = refl; steps = tt; end_is = refl; refused_is = refl; text_is = refl }
 
-pub goes_one : (limit : ℕ) (b : List ℕ) (given n : ℕ) (line : Option (List ℕ)) (end : List ℕ) (refused : Bool) (was now : Option (List ℕ)) → n ≡ given + 1 → Turns limit b n (parse line) end refused was now → Goes limit b given (line ∷ []) end refused was now
-goes_one limit b given n line end refused was now is t = record {
+pub goes_one : (limit : ℕ) (b : List ℕ) (given n : ℕ) (line : Option (List ℕ)) (end : List ℕ) (refused : Bool) (reply : List ℕ) → n ≡ given + 1 → Turns limit b n (parse line) end refused reply → Goes limit b given (line ∷ []) end refused reply
+goes_one limit b given n line end refused reply is t = record {
   moments = record { line = line; full = t.full; image = end } ∷ [];
   lines_are = refl;
   steps = (t.leads, tt);
   end_is = refl;
   refused_is = t.refused_is ∙ ap (λ (k : ℕ). (turn_over b k (parse line) t.full).refused) is;
-  written = subst (λ (k : ℕ). Appends was now (turn_over b k (parse line) t.full).text) is t.written;
+  text_is = t.reply_is ∙ ap (λ (k : ℕ). (turn_over b k (parse line) t.full).text) is;
 }
 
-module _ (limit : ℕ) (b : List ℕ) (given : ℕ) (these : List (Option (List ℕ))) (mid : List ℕ) (refused : Bool) (was half : Option (List ℕ)) (first : Goes limit b given these mid refused was half) where
+module _ (limit : ℕ) (b : List ℕ) (given : ℕ) (these : List (Option (List ℕ))) (mid : List ℕ) (refused : Bool) (text : List ℕ) (first : Goes limit b given these mid refused text) where
   told : (more : List Moment) → tale b given (first.moments ++ more) ≡ joined (tale b given first.moments) (tale mid (given + length these) more)
   told more =
       tale_more limit b given first.moments more first.steps
       ∙ (λ i. joined (tale b given first.moments) (tale (sym first.end_is i) (given + count_of line_of_moment first.moments these first.lines_are i) more))
 
-  pub goes_more : (next : ℕ) (those : List (Option (List ℕ))) (end : List ℕ) (more : Bool) (now : Option (List ℕ)) → next ≡ given + length these → Goes limit mid next those end more half now → Goes limit b given (these ++ those) end (refused || more) was now
-  goes_more next those end more now is second =
-      let own : Goes limit mid (given + length these) those end more half now = subst (λ (k : ℕ). Goes limit mid k those end more half now) is second in
+  -- and then others
+  pub goes_more : (next : ℕ) (those : List (Option (List ℕ))) (end : List ℕ) (more : Bool) (reply : List ℕ) → next ≡ given + length these → Goes limit mid next those end more reply → Goes limit b given (these ++ those) end (refused || more) (text ++ reply)
+  goes_more next those end more reply is second =
+      let own : Goes limit mid (given + length these) those end more reply = subst (λ (k : ℕ). Goes limit mid k those end more reply) is second in
       record {
         moments = first.moments ++ own.moments;
         lines_are = map-append line_of_moment first.moments own.moments ∙ (λ i. first.lines_are i ++ own.lines_are i);
         steps = leads_more limit b first.moments own.moments first.steps (subst (λ (x : List ℕ). LinesLead limit x own.moments) first.end_is own.steps);
         end_is = own.end_is ∙ ap (λ (x : List ℕ). last_image x own.moments) first.end_is ∙ sym (last_more b first.moments own.moments);
         refused_is = (λ i. first.refused_is i || own.refused_is i) ∙ ap (λ (s : State). s.refused) (sym (told own.moments));
-        written = subst (λ (s : State). Appends was now s.text) (sym (told own.moments)) (Appends-trans was half now (tale b given first.moments).text (tale mid (given + length these) own.moments).text first.written own.written);
+        text_is = (λ i. first.text_is i ++ own.text_is i) ∙ ap (λ (s : State). s.text) (sym (told own.moments));
       }
 
-  pub stops_after : (next : ℕ) (those : List (Option (List ℕ))) (now : Option (List ℕ)) → next ≡ given + length these → Stops limit mid next those half now → Stops limit b given (these ++ those) was now
-  stops_after next those now is second =
-      let own : Stops limit mid (given + length these) those half now = subst (λ (k : ℕ). Stops limit mid k those half now) is second in
-      record {
-        moments = first.moments ++ own.moments;
-        first = (own.first.0, ap (λ l. l ++ own.first.0) (map-append line_of_moment first.moments own.moments ∙ ap (λ l. l ++ map line_of_moment own.moments) first.lines_are) ∙ append_assoc these (map line_of_moment own.moments) own.first.0 ∙ ap (λ l. these ++ l) own.first.1);
-        steps = leads_more limit b first.moments own.moments first.steps (subst (λ (x : List ℕ). LinesLead limit x own.moments) first.end_is own.steps);
-        written = subst (λ (s : State). AppendsFront was now s.text) (sym (told own.moments)) (front_after was half now (tale b given first.moments).text (tale mid (given + length these) own.moments).text first.written own.written);
-      }
+-- nothing was written yet
+pub no_replies : (limit : ℕ) (b : List ℕ) (given : ℕ) (was : Option (List ℕ)) → Replies limit b given [] b false was was
+no_replies limit b given was = record { text = []; goes = goes_nowhere limit b given; written = Appends-nil was }
 
--- ---- lines of which some were answered
-
-pub stops_nowhere : (limit : ℕ) (b : List ℕ) (given : ℕ) (lines : List (Option (List ℕ))) (was : Option (List ℕ)) → Stops limit b given lines was was
-stops_nowhere limit b given lines was = record { moments = []; first = (lines, refl); steps = tt; written = front_none was [] }
-
-stops_one : (limit : ℕ) (b : List ℕ) (given : ℕ) (line : Option (List ℕ)) (was now : Option (List ℕ)) → Fails limit b (given + 1) (parse line) was now → Stops limit b given (line ∷ []) was now
-stops_one limit b given line was now (inl same) = subst (λ (o : Option (List ℕ)). Stops limit b given (line ∷ []) was o) (sym same) (stops_nowhere limit b given (line ∷ []) was)
-stops_one limit b given line was now (inr t) = record {
-  moments = record { line = line; full = t.full; image = t.end } ∷ [];
-  first = ([], refl);
-  steps = (t.leads, tt);
-  written = t.written;
+-- replies, and then others
+pub more_replies : (limit : ℕ) (b : List ℕ) (given : ℕ) (these : List (Option (List ℕ))) (mid : List ℕ) (refused : Bool) (was half : Option (List ℕ)) (next : ℕ) (those : List (Option (List ℕ))) (end : List ℕ) (more : Bool) (now : Option (List ℕ))
+    → next ≡ given + length these → Replies limit b given these mid refused was half → Replies limit mid next those end more half now → Replies limit b given (these ++ those) end (refused || more) was now
+more_replies limit b given these mid refused was half next those end more now is first second = record {
+  text = first.text ++ second.text;
+  goes = goes_more limit b given these mid refused first.text first.goes next those end more second.text is second.goes;
+  written = Appends-trans was half now first.text second.text first.written second.written;
 }
 
-pub stops_longer : (limit : ℕ) (b : List ℕ) (given : ℕ) (lines more : List (Option (List ℕ))) (was now : Option (List ℕ)) → Stops limit b given lines was now → Stops limit b given (lines ++ more) was now
-stops_longer limit b given lines more was now s = record {
-  moments = s.moments;
-  first = (s.first.0 ++ more, sym (append_assoc (map line_of_moment s.moments) s.first.0 more) ∙ ap (λ l. l ++ more) s.first.1);
-  steps = s.steps;
-  written = s.written;
-}
-
-pub stops_at : (limit : ℕ) (b : List ℕ) (given n : ℕ) (line : Option (List ℕ)) (more : List (Option (List ℕ))) (was now : Option (List ℕ)) → n ≡ given + 1 → Fails limit b n (parse line) was now → Stops limit b given (line ∷ more) was now
-stops_at limit b given n line more was now is fails =
-    stops_longer limit b given (line ∷ []) more was now (stops_one limit b given line was now (subst (λ (k : ℕ). Fails limit b k (parse line) was now) is fails))
-
--- lines that were answered, of whose replies a part was written
-pub goes_in_part : (limit : ℕ) (b : List ℕ) (given : ℕ) (lines : List (Option (List ℕ))) (end : List ℕ) (refused : Bool) (text : List ℕ) (was now : Option (List ℕ)) → Goes limit b given lines end refused (Some []) (Some text) → AppendsFront was now text → Stops limit b given lines was now
-goes_in_part limit b given lines end refused text was now g part = record {
-  moments = g.moments;
-  first = ([], append-nil (map line_of_moment g.moments) ∙ g.lines_are);
-  steps = g.steps;
-  written = subst (λ (t : List ℕ). AppendsFront was now t) g.written part;
-}
-
-pub goes_written : (limit : ℕ) (b : List ℕ) (given : ℕ) (lines : List (Option (List ℕ))) (end : List ℕ) (refused : Bool) (text : List ℕ) (was now : Option (List ℕ)) → Goes limit b given lines end refused (Some []) (Some text) → Appends was now text → Goes limit b given lines end refused was now
-goes_written limit b given lines end refused text was now g writes = record {
-  moments = g.moments;
-  lines_are = g.lines_are;
-  steps = g.steps;
-  end_is = g.end_is;
-  refused_is = g.refused_is;
-  written = subst (λ (t : List ℕ). Appends was now t) g.written writes;
-}
-
-pub stops_written : (limit : ℕ) (b : List ℕ) (given : ℕ) (lines : List (Option (List ℕ))) (text : List ℕ) (was now : Option (List ℕ)) → Stops limit b given lines (Some []) (Some text) → AppendsFront was now text → Stops limit b given lines was now
-stops_written limit b given lines text was now s part = record {
-  moments = s.moments;
-  first = s.first;
-  steps = s.steps;
-  written =
-      let front : IsFront text (tale b given s.moments).text = subst (λ (t : List ℕ). IsFront t (tale b given s.moments).text) (sym s.written.2) s.written.1 in
-      front_longer was now text (tale b given s.moments).text front part;
-}
-
-pub goes_stops : (limit : ℕ) (b : List ℕ) (given : ℕ) (lines : List (Option (List ℕ))) (end : List ℕ) (refused : Bool) (was now : Option (List ℕ)) → Goes limit b given lines end refused was now → Stops limit b given lines was now
-goes_stops limit b given lines end refused was now g = record {
-  moments = g.moments;
-  first = ([], append-nil (map line_of_moment g.moments) ∙ g.lines_are);
-  steps = g.steps;
-  written = ((tale b given g.moments).text, IsFront-refl (tale b given g.moments).text, g.written);
-}
+-- no line was answered
+pub stops_nowhere : (limit : ℕ) (b : List ℕ) (given : ℕ) (lines : List (Option (List ℕ))) (was : Option (List ℕ)) → Stops limit b given lines was was NoMemory
+stops_nowhere limit b given lines was = record { done = []; first = (lines, refl); end = b; refused = false; text = []; goes = goes_nowhere limit b given; wrote = Appends-nil was }

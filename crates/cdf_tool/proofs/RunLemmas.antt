@@ -5,7 +5,7 @@ use Rattle.std.specs.Io.KnownBytes.{Appends, Consumes, IsAtEnd}
 use Rattle.cdf_store.specs.Disk.{Disk}
 use Rattle.cdf_store.specs.Named.{lookup}
 use Rattle.cdf_format.specs.Content.{content}
-use Rattle.cdf_format.specs.Locality.{Moment}
+use Rattle.cdf_edits.specs.History.{Moment}
 use Rattle.cdf_format.specs.WellFormed.{WellFormed}
 use Rattle.cdf_format.specs.Phases.{all_phases}
 use Rattle.cdf_format.proofs.Verdicts.{excluded}
@@ -132,9 +132,10 @@ module _ {U : Type 0} (a : Asked) (d d' : Disk U) (before left first now : Optio
   runs_came file image statuses.StoreWriteFault opens r = failed tt (inr (r.finishes.taken, r.finishes.consumed, r.finishes.short))
   runs_came file image statuses.StoreReadFault opens r = failed tt (inr (r.1.taken, r.1.consumed, r.1.how.0))
   runs_came file image statuses.OutputFault opens r = failed tt (inr (r.1.taken, r.1.consumed, r.1.how.0))
-  runs_came file image statuses.NoMemory opens r = failed tt (inr (r.1.taken, r.1.consumed, r.1.how.0))
+  runs_came file image statuses.NoMemory opens (k, inl h) = failed tt (inr (h.taken, h.consumed, h.how.0))
+  runs_came file image statuses.NoMemory opens (k, inr u) = failed tt (inr (u.finishes.taken, u.finishes.consumed, u.finishes.short))
   runs_came file image statuses.ScriptFault opens r = failed tt (inr (r.1.taken, r.1.consumed, r.1.how.0))
-  runs_came file image statuses.ScriptTooLong opens r = ran file r.1.taken (kept_ran file image opens r.0) (kept_well file image opens r.0) r.1.consumed (inr (r.1.how.0, refl))
+  runs_came file image statuses.ScriptTooLong opens r = ran file r.1.taken (kept_ran file image opens r.0) (kept_well file image opens r.0) r.1.consumed (inr (r.1.how.long, refl))
   runs_came file image statuses.Usage opens r = absurd r.1.how
   runs_came file image statuses.NoFile opens r = absurd r.1.how
   runs_came file image statuses.Rejected opens r = absurd r.1.how
@@ -291,8 +292,8 @@ module _ {U : Type 0} (a : Asked) (file image : List ℕ) (d d' : Disk U) (scrip
   abbrev f : Finishes image_limit image (Some script) left (Some written) c.end refused now
   f = c.finishes
 
-  abbrev g : Goes image_limit image 0 (lines f.taken) c.end refused (Some written) now
-  g = f.goes
+  abbrev g : Goes image_limit image 0 (lines f.taken) c.end refused f.replies.text
+  g = f.replies.goes
 
   all : (left ≡ Some []) × (f.taken ≡ script)
   all = all_taken script f.taken left f.consumed f.over
@@ -319,7 +320,7 @@ module _ {U : Type 0} (a : Asked) (file image : List ℕ) (d d' : Disk U) (scrip
     history = record { moments = g.moments; lines_are = these; flags_are = refl; steps = g.steps; end_is = sym g.end_is };
     limit = subst (λ (t : List ℕ). length t ≤ script_limit) all.1 f.short;
     read = all.0;
-    replies = appended written (tale image 0 g.moments).text now g.written ∙ ap (λ (s : State). Some (written ++ s.text)) (sym run);
+    replies = appended written f.replies.text now f.replies.written ∙ ap (λ (t : List ℕ). Some (written ++ t)) (g.text_is ∙ ap (λ (s : State). s.text) (sym run));
     refused = so;
     stored = c.stored;
   }

@@ -1,7 +1,7 @@
 -- What the run of a script leaves, at each of its ends.
-use Rattle.std.proofs.Common.{◌≡◌, ℕ, ◌+◌, ◌<◌, ◌≤◌, Bool, false, List, [], ◌++◌, append-nil, length, Option, Result, Ok, Err, refl, sym, ◌∙◌, ap, subst, inl, inr, arith, length-append}
+use Rattle.std.proofs.Common.{◌≡◌, ℕ, ◌+◌, ◌<◌, ◌≤◌, Bool, false, List, [], ◌++◌, append-nil, length, Option, refl, sym, ◌∙◌, ap, subst, inl, inr, arith, length-append}
 use Rattle.std.proofs.KnownBytes.{Consumes-nil, Consumes-trans}
-use Rattle.std.specs.Prelude.{◌||◌, IfOk, IfErr}
+use Rattle.std.specs.Prelude.{◌||◌}
 use Rattle.std.specs.Io.KnownBytes.{Consumes, IsAtEnd}
 use Rattle.cdf_model.specs.Limits.{script_limit}
 use Rattle.cdf_model.specs.Lines.{lines, whole_lines}
@@ -9,13 +9,9 @@ use Rattle.cdf_lines.specs.Pending.{Pending, last_of, new_lines, new_rest, nothi
 use Rattle.cdf_lines.proofs.Pieces.{whole_lines-append, rest-append, lines-split}
 use Rattle.cdf_tool.specs.declared.status.Status.{Status}
 use Rattle.cdf_tool.specs.declared.status.Status.TheVariants as statuses
-use Rattle.cdf_tool.specs.declared.stop.Stop.{Stop}
-use Rattle.cdf_tool.specs.declared.stop.Stop.TheVariants as stops
-use Rattle.cdf_tool.specs.Replay.{Goes, Stops}
-use Rattle.cdf_tool.specs.Script.{Finishes, RepliesInPart, Halts, HaltsAfter}
-use Rattle.cdf_tool.specs.Statuses.{IsStop}
-use Rattle.cdf_tool.specs.Stops.{status_after}
-use Rattle.cdf_tool.proofs.Moments.{goes_nowhere, goes_more, goes_stops, stops_after, stops_longer}
+use Rattle.cdf_tool.specs.Replay.{Replies, Stops}
+use Rattle.cdf_tool.specs.Script.{Finishes, Halts, HaltsAfter, Pieces, StopsIn, piece_limit}
+use Rattle.cdf_tool.proofs.Moments.{more_replies, no_replies}
 use Rattle.cdf_tool.proofs.Standing.{IsAfter}
 
 -- the lines that are ready once no piece comes
@@ -23,24 +19,18 @@ pub finished_ready : (p p' : Pending) → p.ready ≡ [] → p' ≡ finished p �
 finished_ready p p' none is =
     (ap (λ (q : Pending). q.ready) is ∙ ap (λ (ls : List (Option (List ℕ))). ls ++ last_of p.rest) none, ap (λ (q : Pending). q.given) is)
 
--- a stop is one of three failures
-pub is_stop : (stop : Stop) → IsStop (status_after stop)
-is_stop stops.Fault = tt
-is_stop stops.Output = tt
-is_stop stops.NoMemory = tt
-
-pub halts_in_part : (limit : ℕ) (b taken : List ℕ) (left first now : Option (List ℕ)) (status : Status) → length taken ≤ script_limit → IsStop status → RepliesInPart limit b taken left first now → HaltsAfter limit b taken left first now status
-halts_in_part limit b taken left first now statuses.StoreReadFault le is part = (le, part)
-halts_in_part limit b taken left first now statuses.OutputFault le is part = (le, part)
-halts_in_part limit b taken left first now statuses.NoMemory le is part = (le, part)
-halts_in_part limit b taken left first now statuses.Done le is part = is
-halts_in_part limit b taken left first now statuses.SomeRefused le is part = is
-halts_in_part limit b taken left first now statuses.Usage le is part = is
-halts_in_part limit b taken left first now statuses.NoFile le is part = is
-halts_in_part limit b taken left first now statuses.Rejected le is part = is
-halts_in_part limit b taken left first now statuses.StoreWriteFault le is part = is
-halts_in_part limit b taken left first now statuses.ScriptFault le is part = absurd is
-halts_in_part limit b taken left first now statuses.ScriptTooLong le is part = absurd is
+halts_in : (limit : ℕ) (b taken : List ℕ) (left first now : Option (List ℕ)) (status : Status) → length taken ≤ script_limit → StopsIn limit b taken left first now status → HaltsAfter limit b taken left first now status
+halts_in limit b taken left first now statuses.StoreReadFault le s = (le, s)
+halts_in limit b taken left first now statuses.OutputFault le s = (le, s)
+halts_in limit b taken left first now statuses.NoMemory le s = (le, s)
+halts_in limit b taken left first now statuses.Done le s = s.stops.wrote
+halts_in limit b taken left first now statuses.SomeRefused le s = s.stops.wrote
+halts_in limit b taken left first now statuses.Usage le s = s.stops.wrote
+halts_in limit b taken left first now statuses.NoFile le s = s.stops.wrote
+halts_in limit b taken left first now statuses.Rejected le s = s.stops.wrote
+halts_in limit b taken left first now statuses.StoreWriteFault le s = s.stops.wrote
+halts_in limit b taken left first now statuses.ScriptFault le s = absurd s.stops.wrote
+halts_in limit b taken left first now statuses.ScriptTooLong le s = absurd s.stops.wrote
 
 -- before the first piece
 pub at_start : (limit : ℕ) (b : List ℕ) (before first : Option (List ℕ)) (p : Pending) → p ≡ nothing_fed → IsAfter limit b before before first p b false first 0
@@ -52,7 +42,7 @@ at_start limit b before first p is = record {
   none_ready = ap (λ (q : Pending). q.ready) is;
   not_over = ap (λ (q : Pending). q.over) is;
   given = ap (λ (q : Pending). q.given) is;
-  goes = goes_nowhere limit b 0 first;
+  replies = no_replies limit b 0 first;
 }
 
 module _ (limit : ℕ) (b : List ℕ) (before left first : Option (List ℕ)) (p : Pending) (image : List ℕ) (refused : Bool) (was : Option (List ℕ)) (total : ℕ) (so_far : IsAfter limit b before left first p image refused was total) where
@@ -67,7 +57,7 @@ module _ (limit : ℕ) (b : List ℕ) (before left first : Option (List ℕ)) (p
   at_fault now le took = record {
     taken = so_far.taken;
     consumed = subst (λ (t : List ℕ). Consumes before now t) (append-nil so_far.taken) (Consumes-trans before left now so_far.taken [] so_far.consumed took);
-    how = (omega (arith, so_far.total_is), record { end = image; refused = refused; goes = so_far.goes });
+    how = (omega (arith, so_far.total_is), record { end = image; refused = refused; replies = so_far.replies });
   }
 
   -- it is at its end
@@ -77,21 +67,33 @@ module _ (limit : ℕ) (b : List ℕ) (before left first : Option (List ℕ)) (p
   same_taken : (now : Option (List ℕ)) (piece : List ℕ) → Consumes left now piece → piece ≡ [] → Consumes before now so_far.taken
   same_taken now piece took none = subst (λ (t : List ℕ). Consumes before now t) (ap (λ (l : List ℕ). so_far.taken ++ l) none ∙ append-nil so_far.taken) (Consumes-trans before left now so_far.taken piece so_far.consumed took)
 
-  pub at_end : (now after : Option (List ℕ)) (piece end : List ℕ) (more : Bool) → total ≤ script_limit → Consumes left now piece → piece ≡ [] → IsAtEnd now → Goes limit image p.given (last_of p.rest) end more was after → Finishes limit b before now first end (refused || more) after
-  at_end now after piece end more le took none over goes = record {
+  pub at_end : (now after : Option (List ℕ)) (piece end : List ℕ) (more : Bool) → total ≤ script_limit → Consumes left now piece → piece ≡ [] → IsAtEnd now → Replies limit image p.given (last_of p.rest) end more was after → Finishes limit b before now first end (refused || more) after
+  at_end now after piece end more le took none over replies = record {
     taken = so_far.taken;
     consumed = same_taken now piece took none;
     short = omega (arith, so_far.total_is);
     over = over;
-    goes = subst (λ l. Goes limit b 0 l end (refused || more) first after) all_lines (goes_more limit b 0 whole image refused first was so_far.goes p.given (last_of p.rest) end more after counted goes);
+    replies = subst (λ l. Replies limit b 0 l end (refused || more) first after) all_lines (more_replies limit b 0 whole image refused first was p.given (last_of p.rest) end more after counted so_far.replies replies);
   }
 
-  pub at_end_stopped : (now after : Option (List ℕ)) (piece : List ℕ) (status : Status) → total ≤ script_limit → Consumes left now piece → piece ≡ [] → IsAtEnd now → IsStop status → Stops limit image p.given (last_of p.rest) was after → Halts limit b before now first after status
-  at_end_stopped now after piece status le took none over is stops = record {
+  -- its lines were not all answered
+  stops_here : (more : List (Option (List ℕ))) (after : Option (List ℕ)) (status : Status) → Stops limit image p.given more was after status → Stops limit image (length whole) more was after status
+  stops_here more after status stops = subst (λ (k : ℕ). Stops limit image k more was after status) so_far.given stops
+
+  pub at_end_stopped : (now after : Option (List ℕ)) (piece : List ℕ) (status : Status) → total ≤ script_limit → Consumes left now piece → piece ≡ [] → IsAtEnd now → Stops limit image p.given (last_of p.rest) was after status → Halts limit b before now first after status
+  at_end_stopped now after piece status le took none over stops = record {
     taken = so_far.taken;
     consumed = same_taken now piece took none;
-    how = halts_in_part limit b so_far.taken now first after status (omega (arith, so_far.total_is)) is
-        (inr (over, subst (λ l. Stops limit b 0 l first after) all_lines (stops_after limit b 0 whole image refused first was so_far.goes p.given (last_of p.rest) after counted stops)));
+    how = halts_in limit b so_far.taken now first after status (omega (arith, so_far.total_is)) (record {
+      pieces = record { earlier = so_far.taken; last = []; are = append-nil so_far.taken; short = omega arith };
+      image = image;
+      refused = refused;
+      then = was;
+      replies = so_far.replies;
+      more = last_of p.rest;
+      follow = inr (over, all_lines);
+      stops = stops_here (last_of p.rest) after status stops;
+    });
   }
 
   -- one more piece was taken
@@ -101,27 +103,38 @@ module _ (limit : ℕ) (b : List ℕ) (before left first : Option (List ℕ)) (p
   lines_are : (piece : List ℕ) → whole ++ new_lines p.rest piece ≡ whole_lines (so_far.taken ++ piece)
   lines_are piece = ap (λ (r : Option (List ℕ)). whole ++ new_lines r piece) so_far.rest ∙ sym (whole_lines-append so_far.taken piece)
 
+  abbrev pieces_of : (piece : List ℕ) → length piece ≤ piece_limit → Pieces (so_far.taken ++ piece)
+  pieces_of piece fits = record { earlier = so_far.taken; last = piece; are = refl; short = fits }
+
   -- it is too much
-  pub at_limit : (now : Option (List ℕ)) (piece : List ℕ) → script_limit < total + length piece → Consumes left now piece → Halts limit b before now first was statuses.ScriptTooLong
-  at_limit now piece long took = record {
+  pub at_limit : (now : Option (List ℕ)) (piece : List ℕ) → length piece ≤ piece_limit → script_limit < total + length piece → Consumes left now piece → Halts limit b before now first was statuses.ScriptTooLong
+  at_limit now piece fits long took = record {
     taken = so_far.taken ++ piece;
     consumed = Consumes-trans before left now so_far.taken piece so_far.consumed took;
-    how = (omega (arith, taken_is piece), subst (λ l. Stops limit b 0 l first was) (lines_are piece) (stops_longer limit b 0 whole (new_lines p.rest piece) first was (goes_stops limit b 0 whole image refused first was so_far.goes)));
+    how = record { pieces = pieces_of piece fits; long = omega (arith, taken_is piece); answered = record { end = image; refused = refused; replies = so_far.replies } };
   }
 
   -- its lines were not all answered
-  pub at_stop : (now after : Option (List ℕ)) (piece : List ℕ) (status : Status) → total + length piece ≤ script_limit → Consumes left now piece → IsStop status → Stops limit image p.given (new_lines p.rest piece) was after → Halts limit b before now first after status
-  at_stop now after piece status le took is stops = record {
+  pub at_stop : (now after : Option (List ℕ)) (piece : List ℕ) (status : Status) → length piece ≤ piece_limit → total + length piece ≤ script_limit → Consumes left now piece → Stops limit image p.given (new_lines p.rest piece) was after status → Halts limit b before now first after status
+  at_stop now after piece status fits le took stops = record {
     taken = so_far.taken ++ piece;
     consumed = Consumes-trans before left now so_far.taken piece so_far.consumed took;
-    how = halts_in_part limit b (so_far.taken ++ piece) now first after status (omega (arith, taken_is piece)) is
-        (inl (subst (λ l. Stops limit b 0 l first after) (lines_are piece) (stops_after limit b 0 whole image refused first was so_far.goes p.given (new_lines p.rest piece) after counted stops)));
+    how = halts_in limit b (so_far.taken ++ piece) now first after status (omega (arith, taken_is piece)) (record {
+      pieces = pieces_of piece fits;
+      image = image;
+      refused = refused;
+      then = was;
+      replies = so_far.replies;
+      more = new_lines p.rest piece;
+      follow = inl (lines_are piece);
+      stops = stops_here (new_lines p.rest piece) after status stops;
+    });
   }
 
   -- they were
   pub goes_on : (now after : Option (List ℕ)) (piece end : List ℕ) (p' : Pending) (more either : Bool) (total' : ℕ) → total' ≡ total + length piece → Consumes left now piece → p'.ready ≡ [] → p'.over ≡ false → p'.rest ≡ new_rest p.rest piece
-      → p'.given ≡ p.given + length (new_lines p.rest piece) → either ≡ (refused || more) → Goes limit image p.given (new_lines p.rest piece) end more was after → IsAfter limit b before now first p' end either after total'
-  goes_on now after piece end p' more either total' sum took none open_still rest given is goes = record {
+      → p'.given ≡ p.given + length (new_lines p.rest piece) → either ≡ (refused || more) → Replies limit image p.given (new_lines p.rest piece) end more was after → IsAfter limit b before now first p' end either after total'
+  goes_on now after piece end p' more either total' sum took none open_still rest given is replies = record {
     taken = so_far.taken ++ piece;
     consumed = Consumes-trans before left now so_far.taken piece so_far.consumed took;
     total_is = taken_is piece ∙ sym sum;
@@ -129,21 +142,6 @@ module _ (limit : ℕ) (b : List ℕ) (before left first : Option (List ℕ)) (p
     none_ready = none;
     not_over = open_still;
     given = omega (arith, given, so_far.given, length-append whole (new_lines p.rest piece), ap (λ l. length l) (lines_are piece));
-    goes = subst (λ (t : Bool). Goes limit b 0 (whole_lines (so_far.taken ++ piece)) end t first after) (sym is)
-        (subst (λ l. Goes limit b 0 l end (refused || more) first after) (lines_are piece) (goes_more limit b 0 whole image refused first was so_far.goes p.given (new_lines p.rest piece) end more after counted goes));
+    replies = subst (λ (t : Bool). Replies limit b 0 (whole_lines (so_far.taken ++ piece)) end t first after) (sym is)
+        (subst (λ l. Replies limit b 0 l end (refused || more) first after) (lines_are piece) (more_replies limit b 0 whole image refused first was p.given (new_lines p.rest piece) end more after counted so_far.replies replies));
   }
-
-  -- both, where the call says it of its own limit
-  pub at_end_if : (now after : Option (List ℕ)) (piece end : List ℕ) (limit' : ℕ) → limit' ≡ limit → total ≤ script_limit → Consumes left now piece → piece ≡ [] → IsAtEnd now → (r : Result Bool Status)
-      → IfOk r (λ either. (more : Bool) × (either ≡ (refused || more)) × Goes limit' image p.given (last_of p.rest) end more was after)
-      → IfOk r (λ either. Finishes limit b before now first end either after)
-  at_end_if now after piece end limit' same le took none over (Ok either) (more, is, goes) =
-      subst (λ (t : Bool). Finishes limit b before now first end t after) (sym is) (at_end now after piece end more le took none over (subst (λ (k : ℕ). Goes k image p.given (last_of p.rest) end more was after) same goes))
-  at_end_if now after piece end limit' same le took none over (Err status) ends = tt
-
-  pub at_end_stopped_if : (now after : Option (List ℕ)) (piece : List ℕ) (limit' : ℕ) → limit' ≡ limit → total ≤ script_limit → Consumes left now piece → piece ≡ [] → IsAtEnd now → (r : Result Bool Status)
-      → IfErr r (λ status. IsStop status × Stops limit' image p.given (last_of p.rest) was after)
-      → IfErr r (λ status. Halts limit b before now first after status)
-  at_end_stopped_if now after piece limit' same le took none over (Ok either) ends = tt
-  at_end_stopped_if now after piece limit' same le took none over (Err status) (is, stops) =
-      at_end_stopped now after piece status le took none over is (subst (λ (k : ℕ). Stops k image p.given (last_of p.rest) was after) same stops)

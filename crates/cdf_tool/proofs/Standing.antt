@@ -3,14 +3,17 @@ use Rattle.std.proofs.Common.{◌≡◌, ℕ, ◌+◌, List, [], ◌++◌, lengt
 use Rattle.std.specs.Io.KnownBytes.{Consumes}
 use Rattle.cdf_model.specs.Lines.{split, kept, whole_lines}
 use Rattle.cdf_lines.specs.Pending.{Pending}
-use Rattle.cdf_tool.specs.Replay.{Goes}
+use Rattle.cdf_tool.specs.Gathering.{Gathers}
+use Rattle.cdf_tool.specs.Replay.{Goes, Replies}
 
 -- on the way through these lines: some are answered, and these are left
-pub record Reached (limit : ℕ) (b : List ℕ) (given : ℕ) (lines : List (Option (List ℕ))) (was : Option (List ℕ)) (given' : ℕ) (ready : List (Option (List ℕ))) (image : List ℕ) (refused : Bool) (now : Option (List ℕ)) : Type 0 where
+pub record Reached (limit : ℕ) (b : List ℕ) (given : ℕ) (lines : List (Option (List ℕ))) (was : Option (List ℕ)) (given' : ℕ) (ready : List (Option (List ℕ))) (image : List ℕ) (refused : Bool) (now : Option (List ℕ)) (gathered : List ℕ) : Type 0 where
   pub done : List (Option (List ℕ))
   pub left : done ++ ready ≡ lines
-  pub goes : Goes limit b given done image refused was now
+  pub text : List ℕ
+  pub goes : Goes limit b given done image refused text
   pub counted : given' ≡ given + length done
+  pub gathers : Gathers was text now gathered
 
 -- the replay stands after some bytes of the script, all whole lines of which it has answered
 pub record IsAfter (limit : ℕ) (b : List ℕ) (before left first : Option (List ℕ)) (lines : Pending) (image : List ℕ) (refused : Bool) (now : Option (List ℕ)) (total : ℕ) : Type 0 where
@@ -21,4 +24,4 @@ pub record IsAfter (limit : ℕ) (b : List ℕ) (before left first : Option (Lis
   pub none_ready : lines.ready ≡ []
   pub not_over : lines.over ≡ false
   pub given : lines.given ≡ length (whole_lines taken)
-  pub goes : Goes limit b 0 (whole_lines taken) image refused first now
+  pub replies : Replies limit b 0 (whole_lines taken) image refused first now

@@ -1,6 +1,6 @@
 -- What becomes of the store.
 use Rattle.std.proofs.Common.{◌≡◌, ℕ, Bool, true, false, List, [], ◌∷◌, ◌++◌, ◌+◌, ◌≤◌, append-nil, length, length-append, arith, Option, Some, None, refl, sym, ◌∙◌, ap, subst}
-use Rattle.std.specs.Prelude.{bytes_eq, is_some, nat_le, if◌then◌else◌, IfSome}
+use Rattle.std.specs.Prelude.{◌&&◌, bytes_eq, is_some, nat_le, if◌then◌else◌, IfSome}
 use Rattle.std.specs.Option.{option_map}
 use Rattle.std.proofs.lemmas.Slice.Eq.{bytes_eq-Decides}
 use Rattle.cdf_store.specs.Disk.{Disk, file_in, files_with}
@@ -115,3 +115,14 @@ module _ {U : Type 0} (end : List ℕ) (d d' now : Disk U) (good : Good end) (sa
 
   pub saved_in_part : HoldsBetween d (end ++ []) now → HoldsBetween d (sealed end) d'
   saved_in_part holds = transport (λ i. HoldsBetween d (bytes_are i) (sym same i)) holds
+
+-- ---- what is asked for
+
+pub both_are : (new no_save : Bool) → (new && no_save) ≡ true → (new ≡ true) × (no_save ≡ true)
+both_are true true is = (refl, refl)
+both_are true false is = absurd (cc is)
+both_are false no_save is = absurd (cc is)
+
+pub saves : (new no_save : Bool) → (new && no_save) ≡ false → new ≡ true → no_save ≡ false
+saves true no_save is asks = is
+saves false no_save is asks = absurd (cc asks)

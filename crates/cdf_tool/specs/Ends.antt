@@ -1,4 +1,4 @@
--- What a run leaves, by its status. `d` is the store as it came, and `d'` as it is handed back.
+-- What a run leaves, by its status (own). `d` is the store as it came, and `d'` as it is handed back.
 use Rattle.std.specs.Prelude.{◌≡◌, ◌⊎◌, ℕ, List, Bool, true, false, IfSome, Some, None}
 use Rattle.std.specs.declared.option.Option.{Option}
 use Rattle.std.specs.Io.KnownBytes.{Appends}
@@ -37,11 +37,18 @@ pub record Spoils {U : Type 0} (a : Asked) (file image : List ℕ) (d d' : Disk 
   pub finishes : Finishes image_limit image before left first end refused now
   pub spoiled : Spoiled a file end d d'
 
+-- it was run to its end, and there was no memory to save the image
+pub record Unsaved (image : List ℕ) (before left first now : Option (List ℕ)) : Type 0 where
+  pub end : List ℕ
+  pub refused : Bool
+  pub finishes : Finishes image_limit image before left first end refused now
+
 -- the script was run over this image
 abbrev pub Runs : {U : Type 0} → Asked → List ℕ → List ℕ → Disk U → Disk U → Option (List ℕ) → Option (List ℕ) → Option (List ℕ) → Option (List ℕ) → Status → Type 0
 Runs a file image d d' before left first now statuses.Done = Completes a file image d d' before left first now false
 Runs a file image d d' before left first now statuses.SomeRefused = Completes a file image d d' before left first now true
 Runs a file image d d' before left first now statuses.StoreWriteFault = Spoils a file image d d' before left first now
+Runs a file image d d' before left first now statuses.NoMemory = Kept a file d d' × (Halts image_limit image before left first now statuses.NoMemory ⊎ Unsaved image before left first now)
 Runs a file image d d' before left first now other = Kept a file d d' × Halts image_limit image before left first now other
 
 pub record Replays {U : Type 0} (a : Asked) (d d' : Disk U) (before left first now : Option (List ℕ)) (status : Status) : Type 0 where

@@ -1,5 +1,6 @@
 pub mod Statuses
-pub mod Stops
+pub mod Counts
+pub mod Gathering
 pub mod Replay
 pub mod Script
 pub mod Stored

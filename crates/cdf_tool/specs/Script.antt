@@ -1,12 +1,16 @@
--- What the run of a script over an image leaves. `first` is what the sink held as it began and `now` what it holds, `left` what the source has left.
-use Rattle.std.specs.Prelude.{◌⊎◌, ℕ, ◌<◌, ◌≤◌, List, Bool, length}
+-- What the run of a script over an image leaves (own). `first` is what the sink held as it began and `now` what it holds, `left` what the source has left.
+use Rattle.std.specs.Prelude.{◌≡◌, ◌⊎◌, ℕ, ◌<◌, ◌≤◌, List, ◌++◌, Bool, length}
 use Rattle.std.specs.declared.option.Option.{Option}
 use Rattle.std.specs.Io.KnownBytes.{Consumes, IsAtEnd}
 use Rattle.cdf_model.specs.Limits.{script_limit}
 use Rattle.cdf_model.specs.Lines.{lines, whole_lines}
 use Rattle.cdf_tool.specs.declared.status.Status.{Status}
 use Rattle.cdf_tool.specs.declared.status.Status.TheVariants as statuses
-use Rattle.cdf_tool.specs.Replay.{Goes, Stops}
+use Rattle.cdf_tool.specs.Replay.{Replies, Stops}
+
+-- the most bytes of a script that are taken before they are answered
+abbrev pub piece_limit : ℕ
+piece_limit = 65536
 
 -- the script was read to its end, each of its lines was answered, and all replies were written
 pub record Finishes (limit : ℕ) (b : List ℕ) (before left first : Option (List ℕ)) (end : List ℕ) (refused : Bool) (now : Option (List ℕ)) : Type 0 where
@@ -14,25 +18,49 @@ pub record Finishes (limit : ℕ) (b : List ℕ) (before left first : Option (Li
   pub consumed : Consumes before left taken
   pub short : length taken ≤ script_limit
   pub over : IsAtEnd left
-  pub goes : Goes limit b 0 (lines taken) end refused first now
+  pub replies : Replies limit b 0 (lines taken) end refused first now
 
--- A part of the replies to the whole lines among the bytes taken. Where nothing is left of the source, a last line without a newline counts too.
-abbrev pub RepliesInPart : ℕ → List ℕ → List ℕ → Option (List ℕ) → Option (List ℕ) → Option (List ℕ) → Type 0
-RepliesInPart limit b taken left first now = Stops limit b 0 (whole_lines taken) first now ⊎ (IsAtEnd left × Stops limit b 0 (lines taken) first now)
-
--- all replies to these lines
-pub record Replies (limit : ℕ) (b : List ℕ) (lines : List (Option (List ℕ))) (first now : Option (List ℕ)) : Type 0 where
+-- all replies to the whole lines of these bytes
+pub record Answered (limit : ℕ) (b bytes : List ℕ) (first now : Option (List ℕ)) : Type 0 where
   pub end : List ℕ
   pub refused : Bool
-  pub goes : Goes limit b 0 lines end refused first now
+  pub replies : Replies limit b 0 (whole_lines bytes) end refused first now
+
+-- the bytes taken are those of earlier pieces, and a last piece
+pub record Pieces (taken : List ℕ) : Type 0 where
+  pub earlier : List ℕ
+  pub last : List ℕ
+  pub are : earlier ++ last ≡ taken
+  pub short : length last ≤ piece_limit
+
+-- these lines follow the whole ones of the earlier pieces; a last line without a newline counts where nothing is left of the source
+abbrev pub Follow : List (Option (List ℕ)) → List ℕ → List ℕ → Option (List ℕ) → Type 0
+Follow more earlier taken left = (whole_lines earlier ++ more ≡ whole_lines taken) ⊎ (IsAtEnd left × (whole_lines earlier ++ more ≡ lines taken))
+
+-- All replies to the whole lines of the earlier pieces were written, and replies to lines of the last one.
+pub record StopsIn (limit : ℕ) (b taken : List ℕ) (left first now : Option (List ℕ)) (status : Status) : Type 0 where
+  pub pieces : Pieces taken
+  pub image : List ℕ
+  pub refused : Bool
+  pub then : Option (List ℕ)
+  pub replies : Replies limit b 0 (whole_lines pieces.earlier) image refused first then
+  pub more : List (Option (List ℕ))
+  pub follow : Follow more pieces.earlier taken left
+  pub stops : Stops limit image (length (whole_lines pieces.earlier)) more then now status
+
+-- the piece that passed the limit of a script was not answered, and the whole lines before it were
+pub record TooLong (limit : ℕ) (b taken : List ℕ) (first now : Option (List ℕ)) : Type 0 where
+  pub pieces : Pieces taken
+  pub long : script_limit < length taken
+  pub answered : Answered limit b pieces.earlier first now
 
 -- what each status says of a run that stopped, where these bytes of the script were taken
 abbrev pub HaltsAfter : ℕ → List ℕ → List ℕ → Option (List ℕ) → Option (List ℕ) → Option (List ℕ) → Status → Type 0
-HaltsAfter limit b taken left first now statuses.StoreReadFault = (length taken ≤ script_limit) × RepliesInPart limit b taken left first now
-HaltsAfter limit b taken left first now statuses.OutputFault = (length taken ≤ script_limit) × RepliesInPart limit b taken left first now
-HaltsAfter limit b taken left first now statuses.NoMemory = (length taken ≤ script_limit) × RepliesInPart limit b taken left first now
-HaltsAfter limit b taken left first now statuses.ScriptFault = (length taken ≤ script_limit) × Replies limit b (whole_lines taken) first now
-HaltsAfter limit b taken left first now statuses.ScriptTooLong = (script_limit < length taken) × Stops limit b 0 (whole_lines taken) first now
+HaltsAfter limit b taken left first now statuses.StoreReadFault = (length taken ≤ script_limit) × StopsIn limit b taken left first now statuses.StoreReadFault
+HaltsAfter limit b taken left first now statuses.OutputFault = (length taken ≤ script_limit) × StopsIn limit b taken left first now statuses.OutputFault
+HaltsAfter limit b taken left first now statuses.NoMemory = (length taken ≤ script_limit) × StopsIn limit b taken left first now statuses.NoMemory
+HaltsAfter limit b taken left first now statuses.ScriptFault = (length taken ≤ script_limit) × Answered limit b taken first now
+HaltsAfter limit b taken left first now statuses.ScriptTooLong = TooLong limit b taken first now
 HaltsAfter limit b taken left first now other = ⊥
 
 -- some bytes were taken of the script, and then the run stopped so

@@ -1,5 +1,7 @@
--- When each status comes.
+-- When each status comes (own).
 use Rattle.std.specs.Prelude.{◌≡◌, ◌⊎◌, ℕ, Bool, true, false}
+use Rattle.cdf_area.specs.declared.area.AreaError.{AreaError}
+use Rattle.cdf_area.specs.declared.area.AreaError.TheVariants as areas
 use Rattle.cdf_tool.specs.declared.status.Status.{Status}
 use Rattle.cdf_tool.specs.declared.status.Status.TheVariants as statuses
 
@@ -22,18 +24,16 @@ abbrev pub status_of : Bool → Status
 status_of true = statuses.SomeRefused
 status_of false = statuses.Done
 
+-- the status of a run whose area failed, or that had no memory
+abbrev pub status_of_area : AreaError → Status
+status_of_area areas.Fault = statuses.StoreReadFault
+status_of_area areas.NoMemory = statuses.NoMemory
+
 -- everything succeeded
 abbrev pub IsDone : Status → Type 0
 IsDone statuses.Done = Unit {0}
 IsDone statuses.SomeRefused = Unit {0}
 IsDone other = ⊥
-
--- the area failed, or the sink, or memory was refused
-abbrev pub IsStop : Status → Type 0
-IsStop statuses.StoreReadFault = Unit {0}
-IsStop statuses.OutputFault = Unit {0}
-IsStop statuses.NoMemory = Unit {0}
-IsStop other = ⊥
 
 -- a device failed, or memory was refused
 abbrev pub IsFailure : Status → Type 0

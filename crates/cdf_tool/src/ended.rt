@@ -1,3 +1,5 @@
+//! How a run ended.
+
 use crate::Status;
 
 /// How a run ended, and the store that was lent to it.

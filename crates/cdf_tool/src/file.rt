@@ -1,14 +1,15 @@
-ghost use Rattle.std.specs.Prelude.{◌≡◌, ◌≤◌, [], true, false, length, Some, None};
+//! The file that is asked for is attached, and the script is run over it.
+
+ghost use Rattle.std.specs.Prelude.{◌≡◌, ◌&&◌, ℕ, [], true, false, length, Some, None};
 ghost use Rattle.std.specs.Option.{option_map};
 ghost use Rattle.cdf_area.specs.Frame.{Frame};
-ghost use Rattle.cdf_base.specs.Causes.{Rose};
 ghost use Rattle.cdf_store.specs.Disk.{file_of};
 ghost use Rattle.cdf_store.specs.Named.{Allows};
 ghost use Rattle.cdf_model.specs.Limits.{image_limit};
 ghost use Rattle.cdf_tool.specs.Areas.{EndsAttached, EndsInMemory};
-ghost use Rattle.cdf_tool.specs.Ends.{EndsNamed};
-ghost use Rattle.cdf_tool.specs.Statuses.{IsUnsaved};
 ghost use Rattle.cdf_tool.specs.Asking.{asked_for};
+ghost use Rattle.cdf_tool.specs.Counts.{Counted, counts};
+ghost use Rattle.cdf_tool.specs.Ends.{EndsNamed};
 
 use crate::Status;
 use crate::ended::Ended;
@@ -18,12 +19,10 @@ use crate::say::say_no_file;
 use crate::status::end_status;
 use crate::words::Asked;
 use cdf_area::{Area, MemArea};
+use cdf_model::limits::IMAGE_LIMIT;
 use cdf_pages::StoreArea;
 use cdf_store::{AttachError, Sink, Source, Store};
 use std::alloc::Global;
-
-/// The most bytes of an image.
-const IMAGE_LIMIT: u64 = 1_073_741_824;
 
 /// An area over the file that is attached, which has so many bytes: over its image, or over an empty one.
 fn area_over<S: Store>(alloc: Global, new: bool, store: S, size: u64) -> StoreArea<S>
@@ -52,15 +51,7 @@ fn run_attached<S: Store, I: Source, O: Sink>(
 ) -> Ended<S>
     requires { Some size ≡ option_map length (S.disk store).held }
     ensures ends { EndsAttached new no_save (file_of (S.disk store)) (S.disk store) (S.disk result.store) (I.left script.old) (I.left script.new) (O.written out.old) (O.written out.new) result.status }
-    ensures later_store { S.read_faults store ≤ S.read_faults result.store }
-    ensures later_write { S.write_faults store ≤ S.write_faults result.store }
-    ensures later_out { O.faults out.old ≤ O.faults out.new }
-    ensures later_script { I.faults script.old ≤ I.faults script.new }
-    ensures unwritten { IsUnsaved no_save result.status → S.write_faults result.store ≡ S.write_faults store }
-    ensures fault { result.status ≡ Status.StoreReadFault → Rose (S.read_faults store) (S.read_faults result.store) }
-    ensures write { result.status ≡ Status.StoreWriteFault → Rose (S.write_faults store) (S.write_faults result.store) }
-    ensures output { result.status ≡ Status.OutputFault → Rose (O.faults out.old) (O.faults out.new) }
-    ensures source { result.status ≡ Status.ScriptFault → Rose (I.faults script.old) (I.faults script.new) }
+    ensures counted { Counted (counts (S.read_faults store) (S.write_faults store) (O.faults out.old) (I.faults script.old)) (counts (S.read_faults result.store) (S.write_faults result.store) (O.faults out.new) (I.faults script.new)) result.status }
 {
     let area = area_over(alloc, new, store, size);
     let ran = run_area(alloc, new, area, script, out);
@@ -70,12 +61,7 @@ fn run_attached<S: Store, I: Source, O: Sink>(
 /// Runs the script over a new file in memory, which is not saved.
 fn run_in_memory<I: Source, O: Sink>(alloc: Global, script: &mut I, out: &mut O) -> Status
     ensures ends { EndsInMemory (I.left script.old) (I.left script.new) (O.written out.old) (O.written out.new) result }
-    ensures later_out { O.faults out.old ≤ O.faults out.new }
-    ensures later_script { I.faults script.old ≤ I.faults script.new }
-    ensures fault { result ≡ Status.StoreReadFault → ⊥ }
-    ensures write { result ≡ Status.StoreWriteFault → ⊥ }
-    ensures output { result ≡ Status.OutputFault → Rose (O.faults out.old) (O.faults out.new) }
-    ensures source { result ≡ Status.ScriptFault → Rose (I.faults script.old) (I.faults script.new) }
+    ensures counted { (reads writes : ℕ) → Counted (counts reads writes (O.faults out.old) (I.faults script.old)) (counts reads writes (O.faults out.new) (I.faults script.new)) result }
 {
     let area = MemArea::new(alloc, Vec::new(alloc), IMAGE_LIMIT);
     let ran = run_area(alloc, true, area, script, out);
@@ -85,8 +71,15 @@ fn run_in_memory<I: Source, O: Sink>(alloc: Global, script: &mut I, out: &mut O)
     }
 }
 
+/// Whether the run goes over a new file that is not saved, for which the store is not called.
+fn is_in_memory(asked: &Asked<'_>) -> bool
+    ensures { result ≡ (asked.now.new && asked.now.no_save) }
+{
+    asked.new && asked.no_save
+}
+
 /// Attaches the file that is asked for, and runs the script over it.
-fn run_stored<S: Store, I: Source, O: Sink>(
+pub fn run_file<S: Store, I: Source, O: Sink>(
     alloc: Global,
     asked: &Asked<'_>,
     store: S,
@@ -95,18 +88,14 @@ fn run_stored<S: Store, I: Source, O: Sink>(
 ) -> Ended<S>
     requires free { (S.disk store).held ≡ None }
     requires allowed { Allows (S.disk store).only asked.now.name.now }
-    requires saves { asked.now.new ≡ true → asked.now.no_save ≡ false }
     ensures ends { EndsNamed (asked_for asked.now) (S.disk store) (S.disk result.store) (I.left script.old) (I.left script.new) (O.written out.old) (O.written out.new) result.status }
-    ensures later_store { S.read_faults store ≤ S.read_faults result.store }
-    ensures later_write { S.write_faults store ≤ S.write_faults result.store }
-    ensures later_out { O.faults out.old ≤ O.faults out.new }
-    ensures later_script { I.faults script.old ≤ I.faults script.new }
-    ensures unwritten { IsUnsaved asked.now.no_save result.status → S.write_faults result.store ≡ S.write_faults store }
-    ensures fault { result.status ≡ Status.StoreReadFault → Rose (S.read_faults store) (S.read_faults result.store) }
-    ensures write { result.status ≡ Status.StoreWriteFault → Rose (S.write_faults store) (S.write_faults result.store) }
-    ensures output { result.status ≡ Status.OutputFault → Rose (O.faults out.old) (O.faults out.new) }
-    ensures source { result.status ≡ Status.ScriptFault → Rose (I.faults script.old) (I.faults script.new) }
+    ensures counted { Counted (counts (S.read_faults store) (S.write_faults store) (O.faults out.old) (I.faults script.old)) (counts (S.read_faults result.store) (S.write_faults result.store) (O.faults out.new) (I.faults script.new)) result.status }
+    ensures not_called { (asked.now.new && asked.now.no_save) ≡ true → result.store ≡ store }
 {
+    if is_in_memory(asked) {
+        let status = run_in_memory(alloc, script, out);
+        return Ended { status, store };
+    }
     let mut store = store;
     match store.attach(asked.name, asked.new) {
         Ok(Some(size)) => {
@@ -125,33 +114,4 @@ fn run_stored<S: Store, I: Source, O: Sink>(
             store,
         },
     }
-}
-
-/// Runs the script over the file that is asked for. For a new one that is not saved the store is not called.
-pub fn run_file<S: Store, I: Source, O: Sink>(
-    alloc: Global,
-    asked: &Asked<'_>,
-    store: S,
-    script: &mut I,
-    out: &mut O,
-) -> Ended<S>
-    requires free { (S.disk store).held ≡ None }
-    requires allowed { Allows (S.disk store).only asked.now.name.now }
-    ensures ends { EndsNamed (asked_for asked.now) (S.disk store) (S.disk result.store) (I.left script.old) (I.left script.new) (O.written out.old) (O.written out.new) result.status }
-    ensures later_store { S.read_faults store ≤ S.read_faults result.store }
-    ensures later_write { S.write_faults store ≤ S.write_faults result.store }
-    ensures later_out { O.faults out.old ≤ O.faults out.new }
-    ensures later_script { I.faults script.old ≤ I.faults script.new }
-    ensures unwritten { IsUnsaved asked.now.no_save result.status → S.write_faults result.store ≡ S.write_faults store }
-    ensures not_called { asked.now.new ≡ true → asked.now.no_save ≡ true → result.store ≡ store }
-    ensures fault { result.status ≡ Status.StoreReadFault → Rose (S.read_faults store) (S.read_faults result.store) }
-    ensures write { result.status ≡ Status.StoreWriteFault → Rose (S.write_faults store) (S.write_faults result.store) }
-    ensures output { result.status ≡ Status.OutputFault → Rose (O.faults out.old) (O.faults out.new) }
-    ensures source { result.status ≡ Status.ScriptFault → Rose (I.faults script.old) (I.faults script.new) }
-{
-    if asked.new && asked.no_save {
-        let status = run_in_memory(alloc, script, out);
-        return Ended { status, store };
-    }
-    run_stored(alloc, asked, store, script, out)
 }

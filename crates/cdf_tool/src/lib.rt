@@ -10,7 +10,6 @@ mod saving;
 mod say;
 mod script;
 mod status;
-mod stop;
 mod top;
 mod words;
 

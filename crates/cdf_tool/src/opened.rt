@@ -1,16 +1,18 @@
-ghost use Rattle.std.specs.Prelude.{◌≡◌, ◌≤◌, ℕ, List, [], Bool, length, true, IfOk, IfErr, IsErrOf, None};
-ghost use Rattle.cdf_base.specs.Causes.{Rose};
+//! The file in an area is opened, and the script is run over it.
+
+ghost use Rattle.std.specs.Prelude.{◌≡◌, ◌≤◌, ℕ, List, [], Bool, length, true, IfOk, IfErr, None};
 ghost use Rattle.cdf_format.specs.WellFormed.{Good};
 ghost use Rattle.cdf_model.specs.Limits.{image_limit};
+ghost use Rattle.cdf_session.specs.Sessions.{Explains};
 ghost use Rattle.cdf_tool.specs.Areas.{EndsOver, Refuses};
+ghost use Rattle.cdf_tool.specs.Counts.{Counted, CountedIn, counts};
 ghost use Rattle.cdf_tool.specs.Ends.{EndsUnread, Opens};
-ghost use Rattle.cdf_tool.specs.Script.{Finishes, Halts};
 
 use crate::Status;
 use crate::say::say_rejected;
 use crate::script::run_script;
+use crate::status::area_status;
 use cdf_area::Area;
-use cdf_check::Verdict;
 use cdf_session::{AdoptError, Refusal, Session};
 use cdf_store::{Sink, Source};
 use std::alloc::Global;
@@ -29,11 +31,10 @@ fn open<A: Area>(alloc: Global, new: bool, area: A) -> Result<Session<A>, Refusa
     requires limit { (A.frame area).limit ≡ image_limit }
     ensures opens { IfOk result (λ session. Opens new (A.image area) (A.image session)) }
     ensures frame { IfOk result (λ session. A.frame session ≡ A.frame area) }
-    ensures later { IfOk result (λ session. A.faults area ≤ A.faults session) }
+    ensures counted { IfOk result (λ session. A.faults session ≡ A.faults area) }
     ensures refused { IfErr result (λ r. Refuses new (A.image area) r.why) }
     ensures frame_back { IfErr result (λ r. A.frame r.area ≡ A.frame area) }
-    ensures later_back { IfErr result (λ r. A.faults area ≤ A.faults r.area) }
-    ensures cause { IfErr result (λ r. r.why ≡ AdoptError.Fault → Rose (A.faults area) (A.faults r.area)) }
+    ensures cause { IfErr result (λ r. Explains r.why (A.faults area) (A.faults r.area)) }
 {
     if new {
         Session::create(alloc, area)
@@ -42,58 +43,15 @@ fn open<A: Area>(alloc: Global, new: bool, area: A) -> Result<Session<A>, Refusa
     }
 }
 
-/// Says which rule the file breaks.
-fn say_verdict<O: Sink>(alloc: Global, verdict: Verdict, out: &mut O) -> Status
-    ensures ends { (new : Bool) (file : List ℕ) → Refuses new file (AdoptError.Rejected verdict) → EndsUnread new file (O.written out.old) (O.written out.new) result }
-    ensures later { O.faults out.old ≤ O.faults out.new }
-    ensures fault { result ≡ Status.StoreReadFault → ⊥ }
-    ensures output { result ≡ Status.OutputFault → Rose (O.faults out.old) (O.faults out.new) }
-    ensures source { result ≡ Status.ScriptFault → ⊥ }
-{
-    match verdict {
-        Verdict::No { phase, rule, at } => say_rejected(alloc, phase, rule, at, out),
-        Verdict::Yes => Status::NoMemory,
-    }
-}
-
 /// Says why no session began.
 fn refuse<O: Sink>(alloc: Global, why: AdoptError, out: &mut O) -> Status
     ensures ends { (new : Bool) (file : List ℕ) → Refuses new file why → EndsUnread new file (O.written out.old) (O.written out.new) result }
-    ensures later { O.faults out.old ≤ O.faults out.new }
-    ensures fault { result ≡ Status.StoreReadFault → why ≡ AdoptError.Fault }
-    ensures output { result ≡ Status.OutputFault → Rose (O.faults out.old) (O.faults out.new) }
-    ensures source { result ≡ Status.ScriptFault → ⊥ }
+    ensures counted { (before now source : ℕ) → Explains why before now → Counted (counts before 0 (O.faults out.old) source) (counts now 0 (O.faults out.new) source) result }
 {
     match why {
-        AdoptError::Rejected { verdict } => say_verdict(alloc, verdict, out),
-        AdoptError::Fault => Status::StoreReadFault,
-        AdoptError::NoMemory => Status::NoMemory,
+        AdoptError::Rejected { broken } => say_rejected(alloc, broken, out),
+        AdoptError::Failed { error } => area_status(error),
     }
-}
-
-/// Runs the script over an open file.
-fn run_session<A: Area, I: Source, O: Sink>(
-    alloc: Global,
-    session: Session<A>,
-    script: &mut I,
-    out: &mut O,
-) -> Ran<A>
-    ensures ok { IfOk result.outcome (λ refused. Finishes (A.frame session).limit (A.image session) (I.left script.old) (I.left script.new) (O.written out.old) (A.image result.area) refused (O.written out.new)) }
-    ensures err { IfErr result.outcome (λ status. Halts (A.frame session).limit (A.image session) (I.left script.old) (I.left script.new) (O.written out.old) (O.written out.new) status) }
-    ensures good { Good (A.image result.area) }
-    ensures fits { length (A.image result.area) ≤ image_limit }
-    ensures frame { A.frame result.area ≡ A.frame session }
-    ensures later_area { A.faults session ≤ A.faults result.area }
-    ensures later_out { O.faults out.old ≤ O.faults out.new }
-    ensures later_script { I.faults script.old ≤ I.faults script.new }
-    ensures fault { IsErrOf result.outcome Status.StoreReadFault → Rose (A.faults session) (A.faults result.area) }
-    ensures output { IsErrOf result.outcome Status.OutputFault → Rose (O.faults out.old) (O.faults out.new) }
-    ensures source { IsErrOf result.outcome Status.ScriptFault → Rose (I.faults script.old) (I.faults script.new) }
-{
-    let mut session = session;
-    let outcome = run_script(alloc, &mut session, script, out);
-    let area = session.into_area();
-    Ran { area, outcome }
 }
 
 /// Opens the file in an area, or makes a new one, and runs the script over it.
@@ -111,16 +69,15 @@ pub fn run_area<A: Area, I: Source, O: Sink>(
     ensures good { IfOk result.outcome (λ _. Good (A.image result.area)) }
     ensures fits { IfOk result.outcome (λ _. length (A.image result.area) ≤ image_limit) }
     ensures frame { A.frame result.area ≡ A.frame area }
-    ensures later_area { A.faults area ≤ A.faults result.area }
-    ensures later_out { O.faults out.old ≤ O.faults out.new }
-    ensures later_script { I.faults script.old ≤ I.faults script.new }
-    ensures fault { IsErrOf result.outcome Status.StoreReadFault → Rose (A.faults area) (A.faults result.area) }
-    ensures output { IsErrOf result.outcome Status.OutputFault → Rose (O.faults out.old) (O.faults out.new) }
-    ensures source { IsErrOf result.outcome Status.ScriptFault → Rose (I.faults script.old) (I.faults script.new) }
-    ensures no_write { IsErrOf result.outcome Status.StoreWriteFault → ⊥ }
+    ensures counted { CountedIn (counts (A.faults area) 0 (O.faults out.old) (I.faults script.old)) (counts (A.faults result.area) 0 (O.faults out.new) (I.faults script.new)) result.outcome }
 {
     match open(alloc, new, area) {
-        Ok(session) => run_session(alloc, session, script, out),
+        Ok(session) => {
+            let mut session = session;
+            let outcome = run_script(alloc, &mut session, script, out);
+            let area = session.into_area();
+            Ran { area, outcome }
+        }
         Err(Refusal { area, why }) => {
             let status = refuse(alloc, why, out);
             Ran {

@@ -1,47 +1,80 @@
-ghost use Rattle.std.specs.Prelude.{◌≡◌, Some};
+//! Replies are gathered, and written some at a time.
 
-use cdf_store::{Failed, Sink};
+use cdf_store::{Failed, Sink, write_all};
 use std::alloc::Global;
+use std::marker::Model;
 
-/// Replies that are gathered in memory. A write fails where there is no memory.
+/// The most bytes of replies that are gathered.
+const MOST: usize = 65_536;
+
+/// Replies that are gathered and not yet written, 65,536 bytes of them at most.
 #[derive(Drop)]
 pub struct Replies {
     text: Vec<u8>,
-    faults: u64,
+}
+
+impl Model for Replies {
+    ghost use Rattle.std.specs.Prelude.{◌≤◌, ℕ, List, length};
+
+    ghost Value = { List ℕ };
+
+    ghost view = { λ replies. replies.text.items };
+
+    ghost invariant = { λ replies. length replies.text.items ≤ 65536 };
 }
 
 impl Replies {
-    ghost use Rattle.std.specs.Prelude.{◌≡◌, [], Some};
+    ghost use Rattle.std.specs.Prelude.{◌≡◌, ◌++◌, [], true, false, OnOk, OnErr};
+    ghost use Rattle.std.specs.Io.KnownBytes.{Appends};
+    ghost use Rattle.cdf_base.specs.Causes.{HasCause};
+    ghost use Rattle.cdf_store.specs.Written.{AppendsFront};
+    ghost use Rattle.cdf_tool.specs.Gathering.{Gathers};
 
     pub fn new(alloc: Global) -> Self
-        ensures { ⟦<Replies as Sink>⟧.written result ≡ Some [] }
+        ensures { result ≡ [] }
     {
         Replies {
             text: Vec::new(alloc),
-            faults: 0,
         }
     }
 
-    /// All that was gathered.
-    pub fn text(&self) -> &[u8]
-        ensures { ⟦<Replies as Sink>⟧.written self.now ≡ Some result.now }
+    /// Writes what was gathered.
+    pub fn write<O: Sink>(&mut self, out: &mut O) -> Result<(), Failed>
+        ensures all { OnOk result (Appends (O.written out.old) (O.written out.new) self.old) }
+        ensures none_left { OnOk result (self.new ≡ []) }
+        ensures part { OnErr result (AppendsFront (O.written out.old) (O.written out.new) self.old) }
+        ensures cause { HasCause (O.faults out.old) (O.faults out.new) result }
     {
-        &self.text
+        write_all(out, &self.text)?;
+        self.text.clear();
+        Ok(())
     }
-}
 
-impl Sink for Replies {
-    ghost use Rattle.std.specs.Prelude.{Some};
-
-    ghost written = { λ replies. Some replies.text.items };
-
-    ghost faults = { λ replies. replies.faults };
-
-    fn write(&mut self, bytes: &[u8]) -> Result<usize, Failed> {
-        if self.text.extend_from_slice(bytes).is_err() {
-            self.faults = self.faults.saturating_add(1);
-            return Err(Failed);
+    /// Gathers a reply where there is room and memory for it, and says whether it was gathered.
+    fn gather(&mut self, reply: &[u8]) -> bool
+        ensures gathered { result ≡ true → self.new ≡ self.old ++ reply.now }
+        ensures stays { result ≡ false → self.new ≡ self.old }
+    {
+        if reply.len() > MOST - self.text.len() {
+            return false;
         }
-        Ok(bytes.len())
+        self.text.extend_from_slice(reply).is_ok()
+    }
+
+    /// Takes a reply. What was gathered is written before it passes 65,536 bytes; a reply that is longer by itself, or for which there is
+    /// no memory, is written and not gathered.
+    pub fn add<O: Sink>(&mut self, reply: &[u8], out: &mut O) -> Result<(), Failed>
+        ensures all { OnOk result (Gathers (O.written out.old) (self.old ++ reply.now) (O.written out.new) self.new) }
+        ensures part { OnErr result (AppendsFront (O.written out.old) (O.written out.new) (self.old ++ reply.now)) }
+        ensures cause { HasCause (O.faults out.old) (O.faults out.new) result }
+    {
+        if self.gather(reply) {
+            return Ok(());
+        }
+        self.write(out)?;
+        if self.gather(reply) {
+            return Ok(());
+        }
+        write_all(out, reply)
     }
 }

@@ -1,16 +1,17 @@
-ghost use Rattle.std.specs.Prelude.{◌≡◌, ◌≤◌, length, false, IfOk, IsErrOf, None};
-ghost use Rattle.cdf_base.specs.Causes.{Rose};
+//! A run over the file that is attached ends, and its image is saved.
+
+ghost use Rattle.std.specs.Prelude.{◌≡◌, ◌≤◌, length, IfOk, IsErrOf, None};
 ghost use Rattle.cdf_format.specs.WellFormed.{Good};
 ghost use Rattle.cdf_model.specs.Limits.{image_limit};
 ghost use Rattle.cdf_tool.specs.Areas.{EndsSaving, EndsStored};
-ghost use Rattle.cdf_tool.specs.Statuses.{IsUnsaved};
+ghost use Rattle.cdf_tool.specs.Counts.{WritesCounted};
 
 use crate::Status;
 use crate::ended::Ended;
 use crate::opened::Ran;
 use crate::status::end_status;
-use cdf_area::Area;
-use cdf_pages::{SaveError, StoreArea};
+use cdf_area::{Area, AreaError};
+use cdf_pages::StoreArea;
 use cdf_store::Store;
 
 /// Saves the image to the file that is attached. No image has a checksum so far, so nothing stands behind it.
@@ -19,10 +20,8 @@ fn save<S: Store>(refused: bool, area: StoreArea<S>) -> Ended<S>
     requires fits { length (⟦<StoreArea<S> as Area>⟧.image area) ≤ image_limit }
     requires unmarked { (⟦<StoreArea<S> as Area>⟧.frame area).base ≡ None }
     ensures ends { EndsSaving refused (⟦<StoreArea<S> as Area>⟧.image area) (⟦<StoreArea<S> as Area>⟧.frame area).under.0 (S.disk result.store) result.status }
-    ensures later { ⟦<StoreArea<S> as Area>⟧.faults area ≤ S.read_faults result.store }
-    ensures later_write { (⟦<StoreArea<S> as Area>⟧.frame area).under.1 ≤ S.write_faults result.store }
-    ensures unwritten { IsUnsaved false result.status → S.write_faults result.store ≡ (⟦<StoreArea<S> as Area>⟧.frame area).under.1 }
-    ensures cause { result.status ≡ Status.StoreWriteFault → Rose (⟦<StoreArea<S> as Area>⟧.frame area).under.1 (S.write_faults result.store) }
+    ensures reads { S.read_faults result.store ≡ ⟦<StoreArea<S> as Area>⟧.faults area }
+    ensures writes { WritesCounted (⟦<StoreArea<S> as Area>⟧.frame area).under.1 (S.write_faults result.store) result.status }
 {
     let mut area = area;
     match area.save(None) {
@@ -30,11 +29,11 @@ fn save<S: Store>(refused: bool, area: StoreArea<S>) -> Ended<S>
             status: end_status(refused),
             store: area.into_store(),
         },
-        Err(SaveError::Failed) => Ended {
+        Err(AreaError::Fault) => Ended {
             status: Status::StoreWriteFault,
             store: area.into_store(),
         },
-        Err(SaveError::NoMemory) => Ended {
+        Err(AreaError::NoMemory) => Ended {
             status: Status::NoMemory,
             store: area.into_store(),
         },
@@ -48,13 +47,8 @@ pub fn finish<S: Store>(no_save: bool, ran: Ran<StoreArea<S>>) -> Ended<S>
     requires unmarked { (⟦<StoreArea<S> as Area>⟧.frame ran.area).base ≡ None }
     requires no_write { IsErrOf ran.outcome Status.StoreWriteFault → ⊥ }
     ensures ends { EndsStored no_save (⟦<StoreArea<S> as Area>⟧.image ran.area) (⟦<StoreArea<S> as Area>⟧.frame ran.area).under.0 (S.disk result.store) ran.outcome result.status }
-    ensures later { ⟦<StoreArea<S> as Area>⟧.faults ran.area ≤ S.read_faults result.store }
-    ensures later_write { (⟦<StoreArea<S> as Area>⟧.frame ran.area).under.1 ≤ S.write_faults result.store }
-    ensures unwritten { IsUnsaved no_save result.status → S.write_faults result.store ≡ (⟦<StoreArea<S> as Area>⟧.frame ran.area).under.1 }
-    ensures fault { result.status ≡ Status.StoreReadFault → IsErrOf ran.outcome Status.StoreReadFault }
-    ensures output { result.status ≡ Status.OutputFault → IsErrOf ran.outcome Status.OutputFault }
-    ensures source { result.status ≡ Status.ScriptFault → IsErrOf ran.outcome Status.ScriptFault }
-    ensures cause { result.status ≡ Status.StoreWriteFault → Rose (⟦<StoreArea<S> as Area>⟧.frame ran.area).under.1 (S.write_faults result.store) }
+    ensures reads { S.read_faults result.store ≡ ⟦<StoreArea<S> as Area>⟧.faults ran.area }
+    ensures writes { WritesCounted (⟦<StoreArea<S> as Area>⟧.frame ran.area).under.1 (S.write_faults result.store) result.status }
 {
     let Ran { area, outcome } = ran;
     match outcome {

@@ -1,9 +1,12 @@
-ghost use Rattle.std.specs.Prelude.{◌≡◌, ◌≤◌, IfOk, string_bytes};
-ghost use Rattle.cdf_base.specs.Causes.{Rose};
+//! What a run writes that does not come to its script.
+
+ghost use Rattle.std.specs.Prelude.{◌≡◌, ℕ, IfOk, string_bytes};
 ghost use Rattle.cdf_model.specs.Texts.{rejected_text};
+ghost use Rattle.cdf_tool.specs.Counts.{Counted, counts};
 ghost use Rattle.cdf_tool.specs.Says.{SaysUsage, SaysNoFile, SaysRejected};
 
 use crate::Status;
+use cdf_check::Broken;
 use cdf_store::{Failed, Sink, write_all};
 use std::alloc::{AllocError, Global};
 
@@ -13,8 +16,7 @@ const USAGE: &[u8] = b"usage: cdfedit [--new] [--check] [--no-save] [--space] [-
 /// Says how the program is called.
 pub fn say_usage<O: Sink>(out: &mut O) -> Status
     ensures text { SaysUsage (O.written out.old) (O.written out.new) result }
-    ensures later { O.faults out.old ≤ O.faults out.new }
-    ensures output { result ≡ Status.OutputFault → Rose (O.faults out.old) (O.faults out.new) }
+    ensures counted { (reads writes source : ℕ) → Counted (counts reads writes (O.faults out.old) source) (counts reads writes (O.faults out.new) source) result }
 {
     match write_all(out, USAGE) {
         Ok(()) => Status::Usage,
@@ -25,8 +27,7 @@ pub fn say_usage<O: Sink>(out: &mut O) -> Status
 /// Says that there is no such file.
 pub fn say_no_file<O: Sink>(out: &mut O) -> Status
     ensures text { SaysNoFile (O.written out.old) (O.written out.new) result }
-    ensures later { O.faults out.old ≤ O.faults out.new }
-    ensures output { result ≡ Status.OutputFault → Rose (O.faults out.old) (O.faults out.new) }
+    ensures counted { (reads writes source : ℕ) → Counted (counts reads writes (O.faults out.old) source) (counts reads writes (O.faults out.new) source) result }
 {
     match write_all(out, b"no file\n") {
         Ok(()) => Status::NoFile,
@@ -34,19 +35,19 @@ pub fn say_no_file<O: Sink>(out: &mut O) -> Status
     }
 }
 
-fn rejection(alloc: Global, phase: u8, rule: u8, place: u64) -> Result<String, AllocError>
-    ensures { IfOk result (λ t. string_bytes t ≡ rejected_text phase rule place) }
+fn rejection(alloc: Global, broken: Broken) -> Result<String, AllocError>
+    ensures { IfOk result (λ t. string_bytes t ≡ rejected_text broken.phase broken.rule broken.at) }
 {
-    format!(in alloc; "rejected {phase} {rule} {place}\n")
+    let Broken { phase, rule, at } = broken;
+    format!(in alloc; "rejected {phase} {rule} {at}\n")
 }
 
 /// Says which rule the file breaks, and where.
-pub fn say_rejected<O: Sink>(alloc: Global, phase: u8, rule: u8, place: u64, out: &mut O) -> Status
-    ensures text { SaysRejected (rejected_text phase rule place) (O.written out.old) (O.written out.new) result }
-    ensures later { O.faults out.old ≤ O.faults out.new }
-    ensures output { result ≡ Status.OutputFault → Rose (O.faults out.old) (O.faults out.new) }
+pub fn say_rejected<O: Sink>(alloc: Global, broken: Broken, out: &mut O) -> Status
+    ensures text { SaysRejected (rejected_text broken.phase broken.rule broken.at) (O.written out.old) (O.written out.new) result }
+    ensures counted { (reads writes source : ℕ) → Counted (counts reads writes (O.faults out.old) source) (counts reads writes (O.faults out.new) source) result }
 {
-    let Ok(text) = rejection(alloc, phase, rule, place) else {
+    let Ok(text) = rejection(alloc, broken) else {
         return Status::NoMemory;
     };
     match write_all(out, text.as_bytes()) {

@@ -1,47 +1,73 @@
-ghost use Rattle.std.specs.Prelude.{◌≡◌, ◌≤◌, ◌||◌, [], Bool, IfOk, IfErr, IsErrOf};
-ghost use Rattle.cdf_base.specs.Causes.{Rose};
-ghost use Rattle.cdf_tool.specs.Replay.{Goes, IsShort, Stops};
+//! A script is run line by line.
+
+ghost use Rattle.std.specs.Prelude.{◌≡◌, ◌||◌, [], IfOk, IfErr, OnOk};
+ghost use Rattle.cdf_tool.specs.Counts.{CountedIn, counts};
+ghost use Rattle.cdf_tool.specs.Replay.{AreShort, IsDrained, Replies as AllReplies, Stops};
 ghost use Rattle.cdf_tool.specs.Script.{Finishes, Halts};
-ghost use Rattle.cdf_tool.specs.Statuses.{IsStop};
-ghost use Rattle.cdf_lines.specs.Pending.{last_of};
 
 use crate::Status;
-use crate::replay::{answer_piece, answer_together, either};
-use crate::stop::stop_status;
+use crate::replay::answer_line;
+use crate::replies::Replies;
+use crate::status::area_status;
 use cdf_area::Area;
 use cdf_lines::Lines;
+use cdf_model::limits::SCRIPT_LIMIT;
+use cdf_script::is_blank_line;
 use cdf_session::Session;
 use cdf_store::{Failed, Sink, Source};
-use std::alloc::Global;
-
-/// The most bytes of a script.
-const SCRIPT_LIMIT: u64 = 1_073_741_824;
+use std::alloc::{AllocError, Global};
 
 /// The most bytes that are taken of the source at a time.
 const PIECE: usize = 65_536;
 
-/// Answers a last line that no newline ends, and says whether it or an earlier one was refused.
-fn finish_script<A: Area, O: Sink>(
+fn either(one: bool, other: bool) -> bool
+    ensures { result ≡ (one || other) }
+{
+    one || other
+}
+
+/// Answers the lines that are ready, and says whether one of them was refused. Their replies are written before it ends, unless the sink fails.
+fn answer_lines<A: Area, O: Sink>(
     alloc: Global,
     session: &mut Session<A>,
     lines: &mut Lines,
-    refused: bool,
+    replies: &mut Replies,
     out: &mut O,
 ) -> Result<bool, Status>
-    requires ready { lines.old.ready ≡ [] }
-    requires short { IsShort lines.old.rest }
-    ensures ok { IfOk result (λ r. (more : Bool) × (r ≡ (refused || more)) × Goes (A.frame session.old).limit (A.image session.old) lines.old.given (last_of lines.old.rest) (A.image session.new) more (O.written out.old) (O.written out.new)) }
-    ensures err { IfErr result (λ status. IsStop status × Stops (A.frame session.old).limit (A.image session.old) lines.old.given (last_of lines.old.rest) (O.written out.old) (O.written out.new)) }
+    requires short { AreShort lines.old.ready }
+    requires none_left { replies.old ≡ [] }
+    ensures ok { IfOk result (λ refused. AllReplies (A.frame session.old).limit (A.image session.old) lines.old.given lines.old.ready (A.image session.new) refused (O.written out.old) (O.written out.new)) }
+    ensures drained { OnOk result (IsDrained lines.old lines.new) }
+    ensures none_left { OnOk result (replies.new ≡ []) }
+    ensures stops { IfErr result (λ status. Stops (A.frame session.old).limit (A.image session.old) lines.old.given lines.old.ready (O.written out.old) (O.written out.new) status) }
     ensures frame { A.frame session.new ≡ A.frame session.old }
-    ensures later_area { A.faults session.old ≤ A.faults session.new }
-    ensures later_out { O.faults out.old ≤ O.faults out.new }
-    ensures fault { IsErrOf result Status.StoreReadFault → Rose (A.faults session.old) (A.faults session.new) }
-    ensures output { IsErrOf result Status.OutputFault → Rose (O.faults out.old) (O.faults out.new) }
+    ensures counted { CountedIn (counts (A.faults session.old) 0 (O.faults out.old) 0) (counts (A.faults session.new) 0 (O.faults out.new) 0) result }
 {
-    lines.finish();
-    match answer_together(alloc, session, lines, out) {
-        Ok(more) => Ok(either(refused, more)),
-        Err(stop) => Err(stop_status(stop)),
+    let mut refused = false;
+    'ready: while lines.next_line() {
+        let line = lines.line();
+        // A blank line costs as little as can be.
+        if is_blank_line(&line) {
+            continue;
+        }
+        match answer_line(alloc, session, &line) {
+            Ok(answer) => {
+                if let Err(Failed) = replies.add(&answer.text, out) {
+                    return Err(Status::OutputFault);
+                }
+                refused = either(refused, answer.refused);
+            }
+            Err(error) => {
+                if let Err(Failed) = replies.write(out) {
+                    return Err(Status::OutputFault);
+                }
+                return Err(area_status(error));
+            }
+        }
+    }
+    match replies.write(out) {
+        Ok(()) => Ok(refused),
+        Err(Failed) => Err(Status::OutputFault),
     }
 }
 
@@ -55,14 +81,10 @@ pub fn run_script<A: Area, I: Source, O: Sink>(
     ensures ok { IfOk result (λ refused. Finishes (A.frame session.old).limit (A.image session.old) (I.left script.old) (I.left script.new) (O.written out.old) (A.image session.new) refused (O.written out.new)) }
     ensures err { IfErr result (λ status. Halts (A.frame session.old).limit (A.image session.old) (I.left script.old) (I.left script.new) (O.written out.old) (O.written out.new) status) }
     ensures frame { A.frame session.new ≡ A.frame session.old }
-    ensures later_area { A.faults session.old ≤ A.faults session.new }
-    ensures later_out { O.faults out.old ≤ O.faults out.new }
-    ensures later_script { I.faults script.old ≤ I.faults script.new }
-    ensures fault { IsErrOf result Status.StoreReadFault → Rose (A.faults session.old) (A.faults session.new) }
-    ensures output { IsErrOf result Status.OutputFault → Rose (O.faults out.old) (O.faults out.new) }
-    ensures source { IsErrOf result Status.ScriptFault → Rose (I.faults script.old) (I.faults script.new) }
+    ensures counted { CountedIn (counts (A.faults session.old) 0 (O.faults out.old) (I.faults script.old)) (counts (A.faults session.new) 0 (O.faults out.new) (I.faults script.new)) result }
 {
     let mut lines = Lines::new(alloc);
+    let mut replies = Replies::new(alloc);
     let mut refused = false;
     let mut piece = [0u8; PIECE];
     let mut total = 0u64;
@@ -72,15 +94,22 @@ pub fn run_script<A: Area, I: Source, O: Sink>(
             Err(Failed) => return Err(Status::ScriptFault),
         };
         if count == 0 {
-            return finish_script(alloc, session, &mut lines, refused, out);
+            lines.finish();
+            match answer_lines(alloc, session, &mut lines, &mut replies, out) {
+                Ok(more) => return Ok(either(refused, more)),
+                Err(status) => return Err(status),
+            }
         }
         total += count as u64;
         if total > SCRIPT_LIMIT {
             return Err(Status::ScriptTooLong);
         }
-        match answer_piece(alloc, session, &mut lines, &piece[..count], out) {
+        if let Err(AllocError) = lines.feed(&piece[..count]) {
+            return Err(Status::NoMemory);
+        }
+        match answer_lines(alloc, session, &mut lines, &mut replies, out) {
             Ok(more) => refused = either(refused, more),
-            Err(stop) => return Err(stop_status(stop)),
+            Err(status) => return Err(status),
         }
     }
     Err(Status::ScriptTooLong)

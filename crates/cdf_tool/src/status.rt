@@ -1,5 +1,9 @@
+//! The statuses of a run, and their numbers.
+
 ghost use Rattle.std.specs.Prelude.{◌≡◌};
-ghost use Rattle.cdf_tool.specs.Statuses.{number_of, status_of};
+ghost use Rattle.cdf_tool.specs.Statuses.{number_of, status_of, status_of_area};
+
+use cdf_area::AreaError;
 
 /// How a run ended.
 #[derive(Clone, Copy, Debug, PartialEq, Eq)]
@@ -57,5 +61,15 @@ pub fn end_status(refused: bool) -> Status
         Status::SomeRefused
     } else {
         Status::Done
+    }
+}
+
+/// The status of a run whose area failed, or that had no memory.
+pub fn area_status(error: AreaError) -> Status
+    ensures { result ≡ status_of_area error }
+{
+    match error {
+        AreaError::Fault => Status::StoreReadFault,
+        AreaError::NoMemory => Status::NoMemory,
     }
 }

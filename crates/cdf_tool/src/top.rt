@@ -1,11 +1,13 @@
+//! The top call: `run`.
+
 ghost use Rattle.std.specs.Prelude.{◌≡◌, ◌-◌, ◌<◌, ◌≤◌, length, map, string_bytes, false, Some, None, IfSome, ◌⊎◌};
 ghost use Rattle.std.specs.Option.{ForSome, option_map};
-ghost use Rattle.cdf_base.specs.Causes.{Rose};
 ghost use Rattle.cdf_store.specs.Named.{Allows, lookup};
 ghost use Rattle.cdf_format.specs.WellFormed.{WellFormed};
 ghost use Rattle.cdf_model.specs.Limits.{script_limit};
 ghost use Rattle.cdf_model.specs.Words.{ask};
 ghost use Rattle.cdf_tool.specs.Accepts.{Accepts};
+ghost use Rattle.cdf_tool.specs.Counts.{Counted, counts};
 ghost use Rattle.cdf_tool.specs.Due.{CanBegin, Looked, Untouched, calls_store};
 ghost use Rattle.cdf_tool.specs.Ends.{Ends};
 ghost use Rattle.cdf_tool.specs.Says.{Names};
@@ -57,15 +59,8 @@ pub fn run<S: Store, I: Source, O: Sink>(
     ensures complete { IfSome (ask (map string_bytes words.now)) (λ asked. CanBegin asked.new asked.name (S.disk store).files →
         IfSome (I.left script.old) (λ before. length before ≤ script_limit → IsDone result.status ⊎ IsFailure result.status)) }
 
-    // A device is blamed only where its count of faults rose.
-    ensures fault { result.status ≡ Status.StoreReadFault → Rose (S.read_faults store) (S.read_faults result.store) }
-    ensures write { result.status ≡ Status.StoreWriteFault → Rose (S.write_faults store) (S.write_faults result.store) }
-    ensures output { result.status ≡ Status.OutputFault → Rose (O.faults out.old) (O.faults out.new) }
-    ensures source { result.status ≡ Status.ScriptFault → Rose (I.faults script.old) (I.faults script.new) }
-    ensures later_store { S.read_faults store ≤ S.read_faults result.store }
-    ensures later_write { S.write_faults store ≤ S.write_faults result.store }
-    ensures later_out { O.faults out.old ≤ O.faults out.new }
-    ensures later_script { I.faults script.old ≤ I.faults script.new }
+    // By the status: a device is blamed only where its count of faults rose, and where a count rose a device is blamed.
+    ensures counted { Counted (counts (S.read_faults store) (S.write_faults store) (O.faults out.old) (I.faults script.old)) (counts (S.read_faults result.store) (S.write_faults result.store) (O.faults out.new) (I.faults script.new)) result.status }
 
     // Where nothing is saved the store's files stay as they were, but that an empty one may have been made for a new file. Where no file
     // is named, and for a new one that is not saved, the store is not called.

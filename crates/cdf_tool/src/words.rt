@@ -1,7 +1,9 @@
+//! The words of the command line are read.
+
 ghost use Rattle.std.specs.Prelude.{◌≡◌, map, string_bytes};
 ghost use Rattle.std.specs.Option.{option_map};
-ghost use Rattle.cdf_model.specs.Words.{ask, is_flag as flag, with_flag as asking_flag, with_name as asking_name, with_word as asking_word};
-ghost use Rattle.cdf_tool.specs.Asking.{asked_for, asking_of};
+ghost use Rattle.cdf_model.specs.Words.{ask, is_flag as flag};
+ghost use Rattle.cdf_tool.specs.Asking.{asked_for, asking_of, with_flag as asking_flag, with_name as asking_name, with_word as asking_word};
 
 /// What a run is asked for.
 #[derive(Clone, Copy)]

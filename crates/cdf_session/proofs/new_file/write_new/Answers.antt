@@ -1,6 +1,7 @@
 use Rattle.std.proofs.Common.{◌≡◌, ◌∙◌, List, ℕ, subst}
 use Rattle.std.specs.Prelude.{IfOk}
-use Rattle.cdf_session.proofs.NewFileLemmas.{new_fits, written_new, good_new, names_new, on_ok}
+use Rattle.cdf_attrs.specs.Known.{known_of}
+use Rattle.cdf_session.proofs.NewFileLemmas.{new_fits, written_new, good_new, on_ok}
 use Rattle.cdf_session.proofs.new_file.write_new.Goals as goal
 
 pub set-requires : goal.set-requires
@@ -14,9 +15,9 @@ load-requires g c =
 pub returns-clause-image : goal.returns-clause-image
 returns-clause-image g c =
     let written = written_new (g.A.Area.image c.args.area.now) (g.A.Area.image c.extend.new.self) c.deref.result.now (g.A.Area.image c.set.new.self) c.requires.empty c.in_ok-extend.ensures.longer (c.deref.ensures.value ∙ c.in_ok-bytes.ensures) c.in_ok-set.ensures.written in
-    on_ok c.load.result (c.load.ensures.image ∙ written)
+    on_ok c.load.result (c.load.ensures.area.image ∙ written)
 
-pub returns-clause-names : goal.returns-clause-names
-returns-clause-names g c =
+pub returns-clause-known : goal.returns-clause-known
+returns-clause-known g c =
     let written = written_new (g.A.Area.image c.args.area.now) (g.A.Area.image c.extend.new.self) c.deref.result.now (g.A.Area.image c.set.new.self) c.requires.empty c.in_ok-extend.ensures.longer (c.deref.ensures.value ∙ c.in_ok-bytes.ensures) c.in_ok-set.ensures.written in
-    subst (λ (names : List (List ℕ)). IfOk c.load.result (λ attrs. attrs ≡ names)) (names_new (g.A.Area.image c.set.new.self) written) c.load.ensures.names
+    subst (λ (b : List ℕ). IfOk c.load.result (λ attrs. attrs ≡ known_of b)) written c.load.ensures.known

@@ -1,8 +1,49 @@
-use Rattle.cdf_tool.proofs.EndLemmas.{in_memory_ends}
+use Rattle.std.proofs.Common.{◌≡◌, ◌∙◌, ap, sym, refl, Some, true, false, Bool}
+use Rattle.std.specs.Option.{option_map}
+use Rattle.cdf_store.specs.Disk.{file_of}
+use Rattle.cdf_tool.specs.Asking.{asked_for}
+use Rattle.cdf_tool.specs.Counts.{counts}
+use Rattle.cdf_tool.specs.Stored.{Attached}
+use Rattle.cdf_tool.proofs.CountLemmas.{counted_from}
+use Rattle.cdf_tool.proofs.EndLemmas.{attached_ends, in_memory_ends}
+use Rattle.cdf_tool.proofs.StoredLemmas.{both_are, held_file, found_file, saves}
 use Rattle.cdf_tool.proofs.file.run_file.Goals as goal
 
-pub returns-then-asked-2-clause-ends : goal.returns-then-asked-2-clause-ends
-returns-then-asked-2-clause-ends g c =
+pub returns-then-is_in_memory-clause-ends : goal.returns-then-is_in_memory-clause-ends
+returns-then-is_in_memory-clause-ends g c =
     let asked = c.args.asked.now in
+    let both = both_are asked.new asked.no_save (sym c.is_in_memory.ensures ∙ c.if-is_in_memory.true) in
     in_memory_ends asked.new asked.no_save asked.name.now (g.S.Store.disk c.args.store) (g.I.Source.left c.args.script.now) (g.I.Source.left c.run_in_memory-status.new.script) (g.O.Sink.written c.args.out.now) (g.O.Sink.written c.run_in_memory-status.new.out)
-    c.run_in_memory-status.result c.if-asked.true c.if-asked-2.true c.run_in_memory-status.ensures.ends
+    c.run_in_memory-status.result both.0 both.1 c.run_in_memory-status.ensures.ends
+
+pub returns-in-Ok-Some-clause-ends : goal.returns-in-Ok-Some-clause-ends
+returns-in-Ok-Some-clause-ends g c =
+    let asked = c.args.asked.now in
+    let d = g.S.Store.disk c.args.store in
+    let at = g.S.Store.disk c.attach.new.self in
+    let e = c.in-Ok-Some.ensures in
+    let held : at.held ≡ Some (file_of at) = held_file at.held c.in-Ok-Some.size c.in-Ok-Some.field-0 c.in-Ok-Some.field-0-is e.length in
+    let attached : Attached (asked_for asked) (file_of at) d at = record {
+      found = found_file asked.new asked.name.now at.held (file_of at) d.files held e.known;
+      held = held;
+      name = e.name ∙ ap (λ o. option_map (λ _. asked.name.now) o) held;
+      files = e.files;
+      touched = e.touched;
+      only = e.only;
+      under = e.under;
+    } in
+    attached_ends asked.new asked.no_save asked.name.now (file_of at) d (g.S.Store.disk c.run_attached.result.store) (g.I.Source.left c.args.script.now) (g.I.Source.left c.run_attached.new.script) (g.O.Sink.written c.args.out.now) (g.O.Sink.written c.run_attached.new.out)
+    at attached (saves asked.new asked.no_save (sym c.is_in_memory.ensures ∙ c.if-is_in_memory.false)) c.run_attached.result.status c.run_attached.ensures.ends
+
+pub returns-in-Ok-Some-clause-counted : goal.returns-in-Ok-Some-clause-counted
+returns-in-Ok-Some-clause-counted g c =
+    counted_from (g.S.Store.read_faults c.args.store) (g.S.Store.write_faults c.args.store) (g.O.Sink.faults c.args.out.now) (g.I.Source.faults c.args.script.now) _ (g.S.Store.read_faults c.attach.new.self) (g.S.Store.write_faults c.attach.new.self) c.run_attached.result.status
+    c.in-Ok-Some.ensures.cause.done c.attach.ensures.write c.run_attached.ensures.counted
+
+pub returns-in-Ok-None-clause-counted : goal.returns-in-Ok-None-clause-counted
+returns-in-Ok-None-clause-counted g c =
+    counted_from (g.S.Store.read_faults c.args.store) (g.S.Store.write_faults c.args.store) (g.O.Sink.faults c.args.out.now) (g.I.Source.faults c.args.script.now) _ (g.S.Store.read_faults c.attach.new.self) (g.S.Store.write_faults c.attach.new.self) c.say_no_file-status.result
+    c.in-Ok-None.ensures.cause.done c.attach.ensures.write (c.say_no_file-status.ensures.counted _ _ _)
+
+pub returns-then-is_in_memory-clause-counted : goal.returns-then-is_in_memory-clause-counted
+returns-then-is_in_memory-clause-counted g c = c.run_in_memory-status.ensures.counted (g.S.Store.read_faults c.args.store) (g.S.Store.write_faults c.args.store)

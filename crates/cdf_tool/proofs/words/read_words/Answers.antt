@@ -1,10 +1,13 @@
-use Rattle.std.proofs.Common.{◌≡◌, ◌∙◌, None, ap, sym}
+use Rattle.std.proofs.Common.{◌≡◌, ◌∙◌, map, None, ap, sym}
 use Rattle.std.specs.Option.{option_map}
 use Rattle.std.specs.Prelude.{string_bytes}
-use Rattle.cdf_model.specs.Words.{with_word}
-use Rattle.cdf_tool.specs.Asking.{asking_of}
+use Rattle.cdf_tool.specs.Asking.{asking_of, with_word}
+use Rattle.cdf_tool.proofs.AskedWords.{asks_as_read}
 use Rattle.cdf_tool.proofs.WordLemmas.{stops_at_word}
 use Rattle.cdf_tool.proofs.words.read_words.Goals as goal
+
+pub loop-word-init : goal.loop-word-init
+loop-word-init c = asks_as_read (map string_bytes c.args.words.now)
 
 pub returns-in-None : goal.returns-in-None
 returns-in-None c =

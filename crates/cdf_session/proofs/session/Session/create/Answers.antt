@@ -1,9 +1,19 @@
 use Rattle.cdf_session.proofs.NewFileLemmas.{new_open}
+use Rattle.std.proofs.Common.{◌∙◌}
+use Rattle.std.proofs.Math.Path.{transport}
+use Rattle.cdf_session.proofs.Explained.{explained}
+use Rattle.cdf_session.specs.Sessions.{Explains}
+use Rattle.cdf_session.specs.declared.refusal.AdoptError.TheVariants as errors
 use Rattle.cdf_session.proofs.session.Session.create.Goals as goal
 
 pub invariant_of-result : goal.invariant_of-result
 invariant_of-result g c =
     new_open (g.A.Area.image c.args.area) (g.A.Area.image c.write_new.new.area) (g.A.Area.image c.keep.new.self)
     (g.A.Area.frame c.args.area) (g.A.Area.frame c.mark.new.self) (g.A.Area.frame c.write_new.new.area) (g.A.Area.frame c.keep.new.self) c.in-Ok.attrs
-    c.requires.unmarked c.requires.room c.requires.limit c.mark.ensures.frame c.write_new.ensures.frame c.keep.ensures.frame
-    c.in-Ok.ensures.image c.keep.ensures.image c.in-Ok.ensures.names
+    c.requires.unmarked c.requires.room c.requires.limit c.mark.ensures.frame c.write_new.ensures.area.frame c.keep.ensures.frame
+    c.in-Ok.ensures.image c.keep.ensures.image c.in-Ok.ensures.known
+
+pub returns-in-Err-clause-cause : goal.returns-in-Err-clause-cause
+returns-in-Err-clause-cause g c =
+    let why = explained c.in-Err.error _ _ c.in-Err.ensures.area.cause in
+    rw (c.undo.ensures.faults, ← c.mark.ensures.faults) why

@@ -1,0 +1,204 @@
+-- What the counts of faults say of the status.
+use Rattle.std.proofs.Common.{◌≡◌, ℕ, ◌≤◌, ◌<◌, Bool, true, false, List, Option, Result, Ok, Err, inl, inr, refl, ap, ◌∙◌, subst, sym, arith}
+use Rattle.std.specs.Prelude.{not}
+use Rattle.std.proofs.Math.Path.{transport}
+use Rattle.cdf_area.specs.declared.area.AreaError.{AreaError}
+use Rattle.cdf_area.specs.declared.area.AreaError.TheVariants as areas
+use Rattle.cdf_base.specs.Causes.{HasCauseOf, Rose}
+use Rattle.cdf_check.specs.declared.verdict.Broken.{Broken}
+use Rattle.cdf_session.specs.declared.refusal.AdoptError.{AdoptError}
+use Rattle.cdf_session.specs.declared.refusal.AdoptError.TheVariants as errors
+use Rattle.cdf_model.specs.Words.{Asked}
+use Rattle.cdf_session.specs.Sessions.{Explains}
+use Rattle.cdf_store.specs.Disk.{Disk}
+use Rattle.cdf_tool.specs.Areas.{EndsSaving, EndsStored}
+use Rattle.cdf_tool.specs.declared.status.Status.{Status}
+use Rattle.cdf_tool.specs.declared.status.Status.TheVariants as statuses
+use Rattle.cdf_tool.specs.Counts.{Counts, Counted, CountedIn, WritesCounted, counts}
+use Rattle.cdf_tool.specs.Ends.{EndsNamed}
+use Rattle.cdf_tool.specs.Statuses.{IsUnsaved, status_of, status_of_area}
+
+-- no count rose
+pub counts_stay : (r w o s r' w' o' s' : ℕ) → r' ≡ r → w' ≡ w → o' ≡ o → s' ≡ s → counts r' w' o' s' ≡ counts r w o s
+counts_stay r w o s r' w' o' s' reads writes output source = λ i. counts (reads i) (writes i) (output i) (source i)
+
+-- no status but 6 blames a write of an area
+pub never_writes : (r o s r' o' s' : ℕ) → Counted (counts r 0 o s) (counts r' 0 o' s') statuses.StoreWriteFault → ⊥
+never_writes r o s r' o' s' (same, rose) = omega (arith, rose)
+
+-- the sink failed, and the area may have failed before
+pub output_counted : (r w o s r' w' o' s' : ℕ) → r ≤ r' → w' ≡ w → s' ≡ s → Rose o o' → Counted (counts r w o s) (counts r' w' o' s') statuses.OutputFault
+output_counted r w o s r' w' o' s' later writes source rose = (λ i. counts r' (writes i) o' (source i), later, rose)
+
+-- the source failed
+pub source_counted : (r w o s r' w' o' s' : ℕ) → r' ≡ r → w' ≡ w → o' ≡ o → Rose s s' → Counted (counts r w o s) (counts r' w' o' s') statuses.ScriptFault
+source_counted r w o s r' w' o' s' reads writes output rose = (λ i. counts (reads i) (writes i) (output i) s', rose)
+
+-- the area failed, or there was no memory
+by_error : {T : Type 0} (error : AreaError) (r w o s r' w' o' s' : ℕ) → HasCauseOf {T = T} areas.Fault r r' (Err error) → w' ≡ w → o' ≡ o → s' ≡ s → Counted (counts r w o s) (counts r' w' o' s') (status_of_area error)
+by_error areas.Fault r w o s r' w' o' s' cause writes output source = (λ i. counts r' (writes i) (output i) (source i), cause.failed refl)
+by_error areas.NoMemory r w o s r' w' o' s' cause writes output source =
+    let later : r ≤ r' = cause.later in
+    let not_less : r < r' → ⊥ = λ less. cc (cause.counted less) in
+    counts_stay r w o s r' w' o' s' (omega (arith, later, not_less)) writes output source
+
+pub area_counted : {T : Type 0} (error : AreaError) (status : Status) (r w o s r' w' o' s' : ℕ) → status ≡ status_of_area error → HasCauseOf {T = T} areas.Fault r r' (Err error) → w' ≡ w → o' ≡ o → s' ≡ s → Counted (counts r w o s) (counts r' w' o' s') status
+area_counted error status r w o s r' w' o' s' is cause writes output source =
+    subst (λ (x : Status). Counted (counts r w o s) (counts r' w' o' s') x) (sym is) (by_error error r w o s r' w' o' s' cause writes output source)
+
+-- no session began
+by_reason : (error : AreaError) (r o s r' : ℕ) → Explains (errors.Failed error) r r' → Counted (counts r 0 o s) (counts r' 0 o s) (status_of_area error)
+by_reason areas.Fault r o s r' rose = (refl, rose)
+by_reason areas.NoMemory r o s r' same = counts_stay r 0 o s r' 0 o s same refl refl refl
+
+pub refused_counted : (error : AreaError) (why : AdoptError) (status : Status) (r o s r' : ℕ) → why ≡ errors.Failed error → status ≡ status_of_area error → Explains why r r' → Counted (counts r 0 o s) (counts r' 0 o s) status
+refused_counted error why status r o s r' reason is explains =
+    subst (λ (x : Status). Counted (counts r 0 o s) (counts r' 0 o s) x) (sym is) (by_reason error r o s r' (subst (λ (w : AdoptError). Explains w r r') reason explains))
+
+pub rejected_counted : (broken : Broken) (why : AdoptError) (status : Status) (r o s r' o' : ℕ) → why ≡ errors.Rejected broken → Explains why r r' → Counted (counts r 0 o s) (counts r 0 o' s) status → Counted (counts r 0 o s) (counts r' 0 o' s) status
+rejected_counted broken why status r o s r' o' reason explains counted =
+    let same : r' ≡ r = subst (λ (w : AdoptError). Explains w r r') reason explains in
+    subst (λ (n : ℕ). Counted (counts r 0 o s) (counts n 0 o' s) status) (sym same) counted
+
+-- beside a source of which no read failed
+pub with_source : (status : Status) (r o r' o' before now : ℕ) → now ≡ before → Counted (counts r 0 o 0) (counts r' 0 o' 0) status → Counted (counts r 0 o before) (counts r' 0 o' now) status
+with_source statuses.StoreReadFault r o r' o' before now source (same, rose) = (λ i. record (same i) { source = source i }, rose)
+with_source statuses.OutputFault r o r' o' before now source (same, later, rose) = (λ i. record (same i) { source = source i }, later, rose)
+with_source statuses.ScriptFault r o r' o' before now source (same, rose) = absurd (omega (arith, rose))
+with_source statuses.StoreWriteFault r o r' o' before now source (same, rose) = absurd (omega (arith, rose))
+with_source statuses.Done r o r' o' before now source same = λ i. record (same i) { source = source i }
+with_source statuses.SomeRefused r o r' o' before now source same = λ i. record (same i) { source = source i }
+with_source statuses.Usage r o r' o' before now source same = λ i. record (same i) { source = source i }
+with_source statuses.NoFile r o r' o' before now source same = λ i. record (same i) { source = source i }
+with_source statuses.Rejected r o r' o' before now source same = λ i. record (same i) { source = source i }
+with_source statuses.NoMemory r o r' o' before now source same = λ i. record (same i) { source = source i }
+with_source statuses.ScriptTooLong r o r' o' before now source same = λ i. record (same i) { source = source i }
+
+-- no fault was seen before
+pub counted_after : (status : Status) (r o r' o' r'' o'' before now : ℕ) → r' ≡ r → o' ≡ o → now ≡ before → Counted (counts r' 0 o' 0) (counts r'' 0 o'' 0) status → Counted (counts r 0 o before) (counts r'' 0 o'' now) status
+counted_after status r o r' o' r'' o'' before now reads output source counted =
+    with_source status r o r'' o'' before now source (transport (λ i. Counted (counts (reads i) 0 (output i) 0) (counts r'' 0 o'' 0) status) counted)
+
+-- ---- with the writes of a store
+
+counts_reads : (r w o s r' w' o' s' : ℕ) → counts r' w' o' s' ≡ counts r w o s → r' ≡ r
+counts_reads r w o s r' w' o' s' same = ap (λ (c : Counts). c.reads) same
+
+-- a run over an area that stopped, and wrote nothing to the store
+stopped_counted : (status : Status) (r w o s r' w' o' s' : ℕ) → Counted (counts r 0 o s) (counts r' 0 o' s') status → w' ≡ w → Counted (counts r w o s) (counts r' w' o' s') status
+stopped_counted statuses.StoreReadFault r w o s r' w' o' s' (same, rose) writes = (λ i. counts r' (writes i) (same i).output (same i).source, rose)
+stopped_counted statuses.OutputFault r w o s r' w' o' s' (same, later, rose) writes = (λ i. counts r' (writes i) o' (same i).source, later, rose)
+stopped_counted statuses.ScriptFault r w o s r' w' o' s' (same, rose) writes = (λ i. counts (same i).reads (writes i) (same i).output s', rose)
+stopped_counted statuses.StoreWriteFault r w o s r' w' o' s' (same, rose) writes = absurd (omega (arith, rose))
+stopped_counted statuses.Done r w o s r' w' o' s' same writes = λ i. record (same i) { writes = writes i }
+stopped_counted statuses.SomeRefused r w o s r' w' o' s' same writes = λ i. record (same i) { writes = writes i }
+stopped_counted statuses.Usage r w o s r' w' o' s' same writes = λ i. record (same i) { writes = writes i }
+stopped_counted statuses.NoFile r w o s r' w' o' s' same writes = λ i. record (same i) { writes = writes i }
+stopped_counted statuses.Rejected r w o s r' w' o' s' same writes = λ i. record (same i) { writes = writes i }
+stopped_counted statuses.NoMemory r w o s r' w' o' s' same writes = λ i. record (same i) { writes = writes i }
+stopped_counted statuses.ScriptTooLong r w o s r' w' o' s' same writes = λ i. record (same i) { writes = writes i }
+
+-- a run whose script was answered, and what was saved
+saved_counted : {U : Type 0} (refused : Bool) (end : List ℕ) (d d' : Disk U) (status : Status) (r w o s r' w' o' s' : ℕ) → EndsSaving refused end d d' status → counts r' 0 o' s' ≡ counts r 0 o s → WritesCounted w w' status → Counted (counts r w o s) (counts r' w' o' s') status
+saved_counted refused end d d' statuses.Done r w o s r' w' o' s' ends same writes = λ i. record (same i) { writes = writes i }
+saved_counted refused end d d' statuses.SomeRefused r w o s r' w' o' s' ends same writes = λ i. record (same i) { writes = writes i }
+saved_counted refused end d d' statuses.NoMemory r w o s r' w' o' s' ends same writes = λ i. record (same i) { writes = writes i }
+saved_counted refused end d d' statuses.StoreWriteFault r w o s r' w' o' s' ends same rose = (λ i. record (same i) { writes = w' }, rose)
+saved_counted refused end d d' statuses.Usage r w o s r' w' o' s' ends same writes = absurd ends
+saved_counted refused end d d' statuses.NoFile r w o s r' w' o' s' ends same writes = absurd ends
+saved_counted refused end d d' statuses.Rejected r w o s r' w' o' s' ends same writes = absurd ends
+saved_counted refused end d d' statuses.StoreReadFault r w o s r' w' o' s' ends same writes = absurd ends
+saved_counted refused end d d' statuses.OutputFault r w o s r' w' o' s' ends same writes = absurd ends
+saved_counted refused end d d' statuses.ScriptFault r w o s r' w' o' s' ends same writes = absurd ends
+saved_counted refused end d d' statuses.ScriptTooLong r w o s r' w' o' s' ends same writes = absurd ends
+
+writes_of : (status : Status) (w w' : ℕ) → (status ≡ statuses.StoreWriteFault → ⊥) → WritesCounted w w' status → w' ≡ w
+writes_of statuses.StoreWriteFault w w' not_so writes = absurd (not_so refl)
+writes_of statuses.Done w w' not_so writes = writes
+writes_of statuses.SomeRefused w w' not_so writes = writes
+writes_of statuses.Usage w w' not_so writes = writes
+writes_of statuses.NoFile w w' not_so writes = writes
+writes_of statuses.Rejected w w' not_so writes = writes
+writes_of statuses.StoreReadFault w w' not_so writes = writes
+writes_of statuses.OutputFault w w' not_so writes = writes
+writes_of statuses.NoMemory w w' not_so writes = writes
+writes_of statuses.ScriptFault w w' not_so writes = writes
+writes_of statuses.ScriptTooLong w w' not_so writes = writes
+
+done_writes_not : (refused : Bool) → status_of refused ≡ statuses.StoreWriteFault → ⊥
+done_writes_not true is = cc
+done_writes_not false is = cc
+
+unsaved_counted : (refused : Bool) (r w o s r' w' o' s' : ℕ) → counts r' 0 o' s' ≡ counts r 0 o s → w' ≡ w → Counted (counts r w o s) (counts r' w' o' s') (status_of refused)
+unsaved_counted true r w o s r' w' o' s' same writes = λ i. record (same i) { writes = writes i }
+unsaved_counted false r w o s r' w' o' s' same writes = λ i. record (same i) { writes = writes i }
+
+-- a run over the file that is attached
+pub attached_counted : {U : Type 0} (no_save : Bool) (end : List ℕ) (d d' : Disk U) (outcome : Result Bool Status) (status : Status) (r w o s r' w' o' s' : ℕ) → EndsStored no_save end d d' outcome status → CountedIn (counts r 0 o s) (counts r' 0 o' s') outcome → WritesCounted w w' status
+    → Counted (counts r w o s) (counts r' w' o' s') status
+attached_counted no_save end d d' (Err stopped) status r w o s r' w' o' s' (is, same) counted writes =
+    let here : Counted (counts r 0 o s) (counts r' 0 o' s') status = subst (λ (x : Status). Counted (counts r 0 o s) (counts r' 0 o' s') x) (sym is) counted in
+    let not_so : status ≡ statuses.StoreWriteFault → ⊥ = λ so. never_writes r o s r' o' s' (subst (λ (x : Status). Counted (counts r 0 o s) (counts r' 0 o' s') x) so here) in
+    stopped_counted status r w o s r' w' o' s' here (writes_of status w w' not_so writes)
+attached_counted true end d d' (Ok refused) status r w o s r' w' o' s' (is, same) counted writes =
+    let not_so : status ≡ statuses.StoreWriteFault → ⊥ = λ so. done_writes_not refused (sym is ∙ so) in
+    subst (λ (x : Status). Counted (counts r w o s) (counts r' w' o' s') x) (sym is) (unsaved_counted refused r w o s r' w' o' s' counted (writes_of status w w' not_so writes))
+attached_counted false end d d' (Ok refused) status r w o s r' w' o' s' ends counted writes = saved_counted refused end d d' status r w o s r' w' o' s' ends counted writes
+
+-- a run over a new file in memory
+pub in_memory_counted : (refused : Bool) (status : Status) (c now : Counts) → status ≡ status_of refused → now ≡ c → Counted c now status
+in_memory_counted refused status c now is same = subst (λ (x : Status). Counted c now x) (sym is) (by_refused refused)
+  where
+    by_refused : (r : Bool) → Counted c now (status_of r)
+    by_refused true = same
+    by_refused false = same
+
+-- the same, where the counts of the area are those of the store
+pub counted_attached : {U : Type 0} (no_save : Bool) (end : List ℕ) (d d' : Disk U) (outcome : Result Bool Status) (status : Status) (r w o s r' w' o' s' before now writes : ℕ) → before ≡ r → r' ≡ now → writes ≡ w → EndsStored no_save end d d' outcome status
+    → CountedIn (counts before 0 o s) (counts now 0 o' s') outcome → WritesCounted writes w' status → Counted (counts r w o s) (counts r' w' o' s') status
+counted_attached no_save end d d' outcome status r w o s r' w' o' s' before now writes first last same ends counted wrote =
+    attached_counted no_save end d d' outcome status r w o s r' w' o' s' ends
+    (transport (λ i. CountedIn (counts (first i) 0 o s) (counts (sym last i) 0 o' s') outcome) counted)
+    (subst (λ (n : ℕ). WritesCounted n w' status) same wrote)
+
+-- a run over the file that was attached without a fault
+pub counted_from : (r w o s : ℕ) (now : Counts) (before writes : ℕ) (status : Status) → before ≡ r → writes ≡ w → Counted (counts before writes o s) now status → Counted (counts r w o s) now status
+counted_from r w o s now before writes status first same counted = transport (λ i. Counted (counts (first i) (same i) o s) now status) counted
+
+-- no run over an area blames a write
+pub no_write : (c now : ℕ) (o s o' s' : ℕ) (outcome : Result Bool Status) → CountedIn (counts c 0 o s) (counts now 0 o' s') outcome → outcome ≡ Err statuses.StoreWriteFault → ⊥
+no_write c now o s o' s' outcome counted is = never_writes c o s now o' s' (subst (λ (r : Result Bool Status). CountedIn (counts c 0 o s) (counts now 0 o' s') r) is counted)
+
+-- ---- a whole run
+
+-- only a saving that fails counts a write
+writes_stay : (status : Status) (c now : Counts) → (status ≡ statuses.StoreWriteFault → ⊥) → Counted c now status → now.writes ≡ c.writes
+writes_stay statuses.StoreWriteFault c now not_so counted = absurd (not_so refl)
+writes_stay statuses.StoreReadFault c now not_so counted = ap (λ (k : Counts). k.writes) counted.0
+writes_stay statuses.OutputFault c now not_so counted = ap (λ (k : Counts). k.writes) counted.0
+writes_stay statuses.ScriptFault c now not_so counted = ap (λ (k : Counts). k.writes) counted.0
+writes_stay statuses.Done c now not_so counted = ap (λ (k : Counts). k.writes) counted
+writes_stay statuses.SomeRefused c now not_so counted = ap (λ (k : Counts). k.writes) counted
+writes_stay statuses.Usage c now not_so counted = ap (λ (k : Counts). k.writes) counted
+writes_stay statuses.NoFile c now not_so counted = ap (λ (k : Counts). k.writes) counted
+writes_stay statuses.Rejected c now not_so counted = ap (λ (k : Counts). k.writes) counted
+writes_stay statuses.NoMemory c now not_so counted = ap (λ (k : Counts). k.writes) counted
+writes_stay statuses.ScriptTooLong c now not_so counted = ap (λ (k : Counts). k.writes) counted
+
+six_saves : {U : Type 0} (a : Asked) (d d' : Disk U) (before left first now : Option (List ℕ)) → EndsNamed a d d' before left first now statuses.StoreWriteFault → a.no_save ≡ false
+six_saves a d d' before left first now (inl w) = absurd w.ends
+six_saves a d d' before left first now (inr (inl u)) = absurd u.ends
+six_saves a d d' before left first now (inr (inr r)) = r.runs.spoiled.saves
+
+not_unsaved : (no_save : Bool) → IsUnsaved no_save statuses.StoreWriteFault → no_save ≡ false → ⊥
+not_unsaved true unsaved is = cc
+not_unsaved false unsaved is = unsaved
+
+-- what is not saved counts no write
+pub unwritten : {U : Type 0} (a : Asked) (d d' : Disk U) (before left first now : Option (List ℕ)) (status : Status) (c c' : Counts) → EndsNamed a d d' before left first now status → Counted c c' status → IsUnsaved a.no_save status → c'.writes ≡ c.writes
+unwritten a d d' before left first now status c c' ends counted unsaved =
+    writes_stay status c c' (λ so. not_unsaved a.no_save (subst (λ (s : Status). IsUnsaved a.no_save s) so unsaved) (six_saves a d d' before left first now (subst (λ (s : Status). EndsNamed a d d' before left first now s) so ends))) counted
+
+pub not_false : (b : Bool) → not b ≡ false → b ≡ true
+not_false true is = refl
+not_false false is = absurd (cc is)

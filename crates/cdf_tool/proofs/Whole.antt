@@ -1,0 +1,63 @@
+-- What a session answers can be written.
+use Rattle.std.proofs.Common.{◌≡◌, ℕ, Bool, true, false, List, [], ◌∷◌, ◌++◌, Option, Some, None, refl, sym, ◌∙◌, subst}
+use Rattle.std.specs.Prelude.{if◌then◌else◌}
+use Rattle.cdf_edits.specs.Answers.{Answers, is_full}
+use Rattle.cdf_format.specs.Content.{content}
+use Rattle.cdf_model.specs.declared.answer.Outcome.{Outcome}
+use Rattle.cdf_model.specs.declared.answer.Reason.{Reason}
+use Rattle.cdf_model.specs.declared.answer.Reason.TheVariants as reasons
+use Rattle.cdf_model.specs.declared.answer.Reply.TheVariants as replies
+use Rattle.cdf_model.specs.declared.command.Command.{Command}
+use Rattle.cdf_model.specs.declared.command.Command.TheVariants.{Info, List as Lists, Attr, RenameAttr}
+use Rattle.cdf_model.specs.declared.kinds.Scope.{Scope}
+use Rattle.cdf_model.specs.AttributeSteps.{attr_step, rename_attr_step, new_attribute, with_attribute}
+use Rattle.cdf_model.specs.Answers.{Answer, Go, Refuse, outcome, unless, given}
+use Rattle.cdf_model.specs.DataSet.{Attribute, DataSet}
+use Rattle.cdf_model.specs.Names.{is_bad_name, is_among, attribute_names, attribute_named}
+use Rattle.cdf_model.specs.Step.{Route, ByStep, built, step}
+use Rattle.cdf_model.specs.Whole.{CanBeWritten, HasWholeValues}
+use Rattle.cdf_session.specs.Sessions.{AnswersBuilt}
+
+-- if it goes, its reply has only whole values
+abbrev IsWholeAnswer : Answer → Type 0
+IsWholeAnswer (Go d reply) = HasWholeValues reply
+IsWholeAnswer (Refuse reason) = Unit {0}
+
+outcome_whole : (answer : Answer) (full : Bool) → IsWholeAnswer answer → CanBeWritten (outcome answer full)
+outcome_whole (Go d reply) true whole = tt
+outcome_whole (Go d reply) false whole = whole
+outcome_whole (Refuse reason) full whole = tt
+
+unless_whole : (checks : List (Bool × Reason)) (answer : Answer) → IsWholeAnswer answer → IsWholeAnswer (unless checks answer)
+unless_whole [] answer whole = whole
+unless_whole ((holds, reason) ∷ more) answer whole =
+    elim holds as (λ b. IsWholeAnswer (if b then Refuse reason else unless more answer)) [ true ↦ tt | false ↦ unless_whole more answer whole ]
+
+given_whole : {A : Type 0} (reason : Reason) (found : Option A) (answer : A → Answer) → ((a : A) → IsWholeAnswer (answer a)) → IsWholeAnswer (given reason found answer)
+given_whole reason None answer whole = tt
+given_whole reason (Some a) answer whole = whole a
+
+attr_whole : (d : DataSet) (name : List ℕ) (scope : Scope) → IsWholeAnswer (attr_step d name scope)
+attr_whole d name scope =
+    unless_whole ((is_bad_name name, reasons.BadName) ∷ (is_among name (attribute_names d), reasons.NameTaken) ∷ []) (Go (record d { attributes = d.attributes ++ new_attribute name scope ∷ [] }) replies.Plain) tt
+
+rename_attr_whole : (d : DataSet) (from to : List ℕ) → IsWholeAnswer (rename_attr_step d from to)
+rename_attr_whole d from to =
+    let answer = λ (found : ℕ × Attribute). unless ((is_bad_name to, reasons.BadName) ∷ (is_among to (attribute_names d), reasons.NameTaken) ∷ []) (Go (with_attribute d found.0 (record found.1 { name = to })) replies.Plain) in
+    given_whole {A = ℕ × Attribute} reasons.NoSuchAttr (attribute_named d from) answer
+    (λ found. unless_whole ((is_bad_name to, reasons.BadName) ∷ (is_among to (attribute_names d), reasons.NameTaken) ∷ []) (Go (with_attribute d found.0 (record found.1 { name = to })) replies.Plain) tt)
+
+by_step : (x y : Answer) → ByStep x ≡ ByStep y → x ≡ y
+by_step x y same = cc
+
+from_answers : (limit : ℕ) (b : List ℕ) (c : Command) (o : Outcome) (now : List ℕ) (answer : Answer) → step (content b) c ≡ ByStep answer → IsWholeAnswer answer → Answers limit b c o now → CanBeWritten o
+from_answers limit b c o now answer is whole a =
+    let same : answer ≡ a.answer = by_step answer a.answer (sym is ∙ a.step_is) in
+    subst CanBeWritten (sym a.outcome_is) (outcome_whole a.answer (is_full limit b c a.answer) (subst IsWholeAnswer same whole))
+
+pub can_be_written : (limit : ℕ) (b : List ℕ) (c : Command) (o : Outcome) (now : List ℕ) → AnswersBuilt (built c) limit b c o now → CanBeWritten o
+can_be_written limit b Info o now a = from_answers limit b Info o now _ refl tt a
+can_be_written limit b Lists o now a = from_answers limit b Lists o now _ refl tt a
+can_be_written limit b (Attr name scope) o now a = from_answers limit b (Attr name scope) o now (attr_step (content b) name scope) refl (attr_whole (content b) name scope) a
+can_be_written limit b (RenameAttr from to) o now a = from_answers limit b (RenameAttr from to) o now (rename_attr_step (content b) from to) refl (rename_attr_whole (content b) from to) a
+can_be_written limit b c o now a = subst CanBeWritten (sym a.0) tt

@@ -1,0 +1,18 @@
+use Rattle.std.proofs.Common.{◌≡◌, length}
+use Rattle.cdf_tool.specs.Replay.{AreShort}
+use Rattle.cdf_tool.proofs.Standing.{Reached}
+use Rattle.cdf_tool.proofs.script.answer_lines.Given as goal
+
+abbrev pub invariant-ready : goal.invariant-ready
+invariant-ready g l = record {
+  reached : Reached (g.A.Area.frame l.fn.session).limit (g.A.Area.image l.fn.session) l.fn.lines.given l.fn.lines.ready (g.O.Sink.written l.fn.out) l.lines.given l.lines.ready (g.A.Area.image l.session) l.refused (g.O.Sink.written l.out) l.replies;
+  short : AreShort l.lines.ready;
+  rest : l.lines.rest ≡ l.fn.lines.rest;
+  over : l.lines.over ≡ l.fn.lines.over;
+  frame : g.A.Area.frame l.session ≡ g.A.Area.frame l.fn.session;
+  faults : g.A.Area.faults l.session ≡ g.A.Area.faults l.fn.session;
+  out_faults : g.O.Sink.faults l.out ≡ g.O.Sink.faults l.fn.out;
+}
+
+abbrev pub decreases-ready : goal.decreases-ready
+decreases-ready g l = length l.lines.ready
