@@ -1,13 +1,7 @@
-//! Whole runs over devices in memory, and over a real file: what is written and answered for each kind of words, file and script, however the script is
-//! cut into pieces; which files are made and changed, and how; and what is left where the store, the script or the output fails at each of its
-//! calls in turn, or the room of the output ends.
+//! Runs of which a row of a table cannot say what they come to: over a real file, and over an output that fails.
 #![tactic(auto)]
 
 #[cfg(test)]
-mod edits;
+mod output;
 #[cfg(test)]
-mod faults;
-#[cfg(test)]
-mod fixtures;
-#[cfg(test)]
-mod rows;
+mod real_file;

@@ -1,0 +1,84 @@
+//! A row: what a run is given, and what it has to write, to answer and to leave.
+
+use crate::bytes::{bytes_in, number_in};
+use anyhow::{Result, bail};
+use std::alloc::Global;
+
+/// One row of a table. A file is named as in the table; `none` is no file.
+#[derive(Drop)]
+pub struct Row {
+    pub title: String,
+    /// The words of the command line.
+    pub words: Vec<String>,
+    /// The file `a.cdf` before the run.
+    pub before: String,
+    pub script: Vec<u8>,
+    /// What has to be written.
+    pub text: Vec<u8>,
+    pub status: usize,
+    /// The file `a.cdf` after the run; the one before it, if none is said.
+    pub after: Option<String>,
+}
+
+/// Appends a line and its newline.
+fn push_line(bytes: &mut Vec<u8>, line: &str) -> Result<()> {
+    bytes.extend_from_slice(line.as_bytes())?;
+    bytes.push(b'\n')?;
+    Ok(())
+}
+
+impl Row {
+    /// A row that asks for `a.cdf`, which is the file `new` of the table, without a script.
+    pub fn new(alloc: Global, title: &str) -> Result<Row> {
+        let mut words = Vec::new(alloc);
+        words.push(String::from_str(alloc, "a.cdf")?)?;
+        Ok(Row {
+            title: String::from_str(alloc, title)?,
+            words,
+            before: String::from_str(alloc, "new")?,
+            script: Vec::new(alloc),
+            text: Vec::new(alloc),
+            status: 0,
+            after: None,
+        })
+    }
+
+    /// The words of the command line; `""` is the empty one.
+    fn take_words(&mut self, alloc: Global, text: &str) -> Result<()> {
+        self.words.clear();
+        for word in text.split_whitespace() {
+            let word = if word == "\"\"" { "" } else { word };
+            self.words.push(String::from_str(alloc, word)?)?;
+        }
+        Ok(())
+    }
+
+    /// Bytes of the script that stand so often one behind the other.
+    fn take_repeated(&mut self, alloc: Global, text: &str) -> Result<()> {
+        let Some((count, digits)) = text.split_once(' ') else {
+            bail!("what is repeated?");
+        };
+        let bytes = bytes_in(alloc, digits)?;
+        for _ in 0..number_in(count)? {
+            self.script.extend_from_slice(&bytes)?;
+        }
+        Ok(())
+    }
+
+    /// Takes a part of the row.
+    pub fn take(&mut self, alloc: Global, key: &str, text: &str) -> Result<()> {
+        match key {
+            "words" => self.take_words(alloc, text)?,
+            "before" => self.before = String::from_str(alloc, text)?,
+            "script" => push_line(&mut self.script, text)?,
+            "last" => self.script.extend_from_slice(text.as_bytes())?,
+            "bytes" => self.script.extend_from_slice(&bytes_in(alloc, text)?)?,
+            "repeat" => self.take_repeated(alloc, text)?,
+            "text" => push_line(&mut self.text, text)?,
+            "status" => self.status = number_in(text)?,
+            "after" => self.after = Some(String::from_str(alloc, text)?),
+            _ => bail!("{key} is no part of a row"),
+        }
+        Ok(())
+    }
+}

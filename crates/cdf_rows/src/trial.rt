@@ -1,0 +1,132 @@
+//! A row is tried: in pieces of several sizes, and with each device failing at each of its calls in turn.
+
+use crate::devices::{Devices, Ran, run_row};
+use crate::row::Row;
+use crate::table::Table;
+use anyhow::Result;
+use std::alloc::Global;
+
+/// The sizes of the pieces in which a script is given.
+const PIECES: [usize; 5] = [1, 2, 3, 7, 65_536];
+
+/// The most bytes of a script that is tried in all of them, and over failing devices.
+const SHORT: usize = 10_000;
+
+/// What a row is tried with.
+#[derive(Drop)]
+pub struct Trial<'a> {
+    alloc: Global,
+    row: &'a Row,
+    before: Option<&'a [u8]>,
+    after: Option<&'a [u8]>,
+}
+
+/// The file of a name, or none.
+fn file_named<'a>(table: &'a Table, name: &str) -> Result<Option<&'a [u8]>> {
+    if name == "none" {
+        return Ok(None);
+    }
+    Ok(Some(table.file(name)?))
+}
+
+/// What is wrong with a run, if anything is.
+fn wrong_if(faults: &[(bool, &'static str)]) -> Option<&'static str> {
+    for (is_wrong, fault) in faults {
+        if *is_wrong {
+            return Some(fault);
+        }
+    }
+    None
+}
+
+impl<'a> Trial<'a> {
+    /// A row of a table, with the files that it names.
+    pub fn new(alloc: Global, table: &'a Table, row: &'a Row) -> Result<Trial<'a>> {
+        let before = file_named(table, row.before.as_str())?;
+        let after = match &row.after {
+            Some(name) => file_named(table, name.as_str())?,
+            None => before,
+        };
+        Ok(Trial {
+            alloc,
+            row,
+            before,
+            after,
+        })
+    }
+
+    fn run(&self, devices: &Devices) -> Result<Ran> {
+        run_row(self.alloc, self.row, self.before, devices)
+    }
+
+    /// What is wrong with a run over sound devices.
+    fn fault_of_sound(&self, ran: &Ran) -> Option<&'static str> {
+        wrong_if(&[
+            (ran.status != self.row.status, "the status"),
+            (ran.text.as_slice() != self.row.text.as_slice(), "the text"),
+            (ran.file.as_deref() != self.after, "the file"),
+            (!ran.is_other_kept, "another file"),
+        ])
+    }
+
+    /// There was no file, and an empty one was made.
+    fn is_made(&self, ran: &Ran) -> bool {
+        let is_empty = matches!(&ran.file, Some(bytes) if bytes.is_empty());
+        self.before.is_none() && is_empty
+    }
+
+    /// What is wrong with a run over a device that fails.
+    fn fault_of_failing(&self, device: usize, ran: &Ran) -> Option<&'static str> {
+        let is_blamed = match device {
+            // a file that is to stay as it is is not written
+            0 => ran.status == 5 || (ran.status == 6 && self.after != self.before),
+            1 => ran.status == 9,
+            _ => ran.status == 7,
+        };
+        let is_kept = ran.status == 6 || ran.file.as_deref() == self.before || self.is_made(ran);
+        wrong_if(&[
+            (!is_blamed, "the status after a failing call"),
+            (
+                !self.row.text.starts_with(&ran.text),
+                "the text after a failing call",
+            ),
+            (!is_kept, "the file after a failing call"),
+            (!ran.is_other_kept, "another file after a failing call"),
+        ])
+    }
+
+    /// Tries each call of each device, of which there are so many.
+    fn try_failing(&self, most: usize, calls: &[u64; 3]) -> Result<Option<&'static str>> {
+        for (device, count) in calls.iter().enumerate() {
+            for call in 0..*count {
+                let devices = Devices::failing(most, device, call.saturating_add(1));
+                let fault = self.fault_of_failing(device, &self.run(&devices)?);
+                if fault.is_some() {
+                    return Ok(fault);
+                }
+            }
+        }
+        Ok(None)
+    }
+
+    /// What is wrong with the row, if anything is.
+    pub fn fault(&self) -> Result<Option<&'static str>> {
+        let is_short = self.row.script.len() <= SHORT;
+        for most in PIECES {
+            if is_short || most > SHORT {
+                let ran = self.run(&Devices::sound(most))?;
+                let fault = self.fault_of_sound(&ran);
+                if fault.is_some() {
+                    return Ok(fault);
+                }
+                if is_short && most > 3 {
+                    let fault = self.try_failing(most, &ran.calls)?;
+                    if fault.is_some() {
+                        return Ok(fault);
+                    }
+                }
+            }
+        }
+        Ok(None)
+    }
+}
