@@ -1,3 +1,5 @@
+//! Bytes and numbers to measure with.
+
 use std::alloc::{AllocError, Global};
 
 /// How many words of 8 bytes are of one kind.

@@ -1,3 +1,5 @@
+//! Why a case could not be measured.
+
 use cdf_area::AreaError;
 use cdf_rle::RleError;
 use std::alloc::AllocError;

@@ -1,3 +1,5 @@
+//! How long names take to be looked up.
+
 use crate::data::Random;
 use crate::failed::Failed;
 use crate::say_lap;

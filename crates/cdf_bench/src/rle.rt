@@ -1,3 +1,5 @@
+//! How long packing and unpacking take.
+
 use crate::data::{mixed, sum_of};
 use crate::failed::Failed;
 use crate::say_lap;

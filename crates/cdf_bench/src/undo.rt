@@ -1,3 +1,5 @@
+//! How long writes take that are then taken back.
+
 ghost use Rattle.std.specs.Prelude.{◌≡◌};
 
 use crate::data::{Random, mixed, sum_of};

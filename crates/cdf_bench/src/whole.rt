@@ -1,3 +1,5 @@
+//! How long the digest of a whole file takes.
+
 use crate::failed::Failed;
 use crate::say_lap;
 use cdf_area::{Area, MemArea};
