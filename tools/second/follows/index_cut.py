@@ -51,7 +51,7 @@ def cuts_index(v, kept, before, wanted, after, acts):
     news = {place for place, _ in taken(acts)}
     yield 'index_is', outline(news, after) == outline(news, wanted)
     yield 'once', none_twice(acts)
-    yield 'kept_stand', not any(is_given_at(acts, vxr) for vxr in nodes_of(wanted))
+    yield 'stand', not any(is_given_at(acts, vxr) for vxr in nodes_of(wanted))
     yield 'takes', all(is_needed(v, after, take) for take in taken(acts))
     yield 'stay', all(stays_whole(v, kept, acts, old, new) for old in leaves_of(before) for new in leaves_of(after))
 
