@@ -21,7 +21,7 @@ use Rattle.cdf_format.specs.Content.{content, attribute_of, scope_of}
 use Rattle.cdf_format.specs.Shape.{AttributeShape, Shape, adrs, vdrs, shape, Each, HasShape}
 use Rattle.cdf_format.specs.AttributeRules.{same_name}
 use Rattle.cdf_format.specs.ChainRules.{adrs_rows, r_vdrs_rows, z_vdrs_rows, differ_rows}
-use Rattle.cdf_format.specs.GoodImage.{attribute_shape_rows, IsGoodImage}
+use Rattle.cdf_format.proofs.GoodByShape.{attribute_shape_rows, IsGoodByShape}
 use Rattle.cdf_format.specs.WellFormed.{Good}
 use Rattle.cdf_format.proofs.Members.{In-append_right}
 use Rattle.cdf_format.proofs.Tests.{both, le_of, eq_of}
@@ -39,7 +39,7 @@ use Rattle.cdf_attrs.proofs.AttributeChain.{adr_inside, few_attributes}
 
 -- ---- what the rules say of counts and scopes
 
-count_by_rules : (b : List ℕ) (s : Shape) → IsGoodImage b s → number b s.gdr gdr_num_attr ≡ length s.attributes
+count_by_rules : (b : List ℕ) (s : Shape) → IsGoodByShape b s → number b s.gdr gdr_num_attr ≡ length s.attributes
 count_by_rules b s good =
     let p = Hold-split (adrs_rows b (adrs s) ++ r_vdrs_rows b (vdrs s.r_variables)) (z_vdrs_rows b (vdrs s.z_variables)) good.counting in
     let q = Hold-split (adrs_rows b (adrs s)) (r_vdrs_rows b (vdrs s.r_variables)) p.0 in
@@ -70,7 +70,7 @@ module _ (b : List ℕ) (good : Good b) where
   abbrev s : Shape
   s = shape b
 
-  isgood : IsGoodImage b s
+  isgood : IsGoodByShape b s
   isgood = good_by_its_shape b good
 
   h : HasShape b s

@@ -22,7 +22,7 @@ use Rattle.cdf_format.specs.ChainRules.{number_rows, adrs_rows, differ_rows, r_v
 use Rattle.cdf_format.specs.Chains.{next_field, is_in, IsChain}
 use Rattle.cdf_format.specs.Content.{content, scope_of, attribute_of}
 use Rattle.cdf_format.specs.Fields.{number, name_in, size_at, type_at, gdr_offset}
-use Rattle.cdf_format.specs.GoodImage.{IsGoodImage, attribute_shape_rows}
+use Rattle.cdf_format.proofs.GoodByShape.{IsGoodByShape, attribute_shape_rows}
 use Rattle.cdf_edits.specs.Follows.{Follows}
 use Rattle.cdf_edits.specs.Space.Acts.{Act, Took}
 use Rattle.cdf_edits.specs.Commands.Attributes.{MakesAttribute, attr_changes, attributes_gdr_fields}
@@ -126,7 +126,7 @@ module _ {b now : List ℕ} {place : ℕ} (name : List ℕ) (scope : Scope) (ima
   abbrev code : ℕ
   code = scope_code scope
 
-  good : IsGoodImage b s
+  good : IsGoodByShape b s
   good = good_by_its_shape b image
 
   sound : IsSound b s

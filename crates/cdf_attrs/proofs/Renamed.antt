@@ -16,7 +16,7 @@ use Rattle.cdf_edits.specs.Commands.Allowances.{AllKeep, Allowances, Only, Keeps
 use Rattle.cdf_edits.specs.Commands.Attributes.{rename_attr_changes}
 use Rattle.cdf_format.specs.AttributeRules.{has_name, same_name}
 use Rattle.cdf_format.specs.ChainRules.{differ_rows}
-use Rattle.cdf_format.specs.GoodImage.{IsGoodImage, attribute_shape_rows}
+use Rattle.cdf_format.proofs.GoodByShape.{IsGoodByShape, attribute_shape_rows}
 use Rattle.cdf_format.specs.Rules.{Hold}
 use Rattle.cdf_format.specs.Chains.{IsChain}
 use Rattle.cdf_format.specs.Content.{content, attribute_of, scope_of}
@@ -181,7 +181,7 @@ module _ (b now : List ℕ) (from to : List ℕ) (good : Good b) (before : List 
   none_reborn : (m : ℕ) → In m [] → IsSorted now made m
   none_reborn m i = absurd i
 
-  own_rules : IsGoodImage b s → (length to == 0) ≡ false → stands_in to (names_at b adr_name (adrs s)) ≡ false → OwnRules sound splices
+  own_rules : IsGoodByShape b s → (length to == 0) ≡ false → stands_in to (names_at b adr_name (adrs s)) ≡ false → OwnRules sound splices
   own_rules image some absent =
       let p = Hold-split (flat_map (attribute_shape_rows b) s.attributes) (differ_rows 2 (same_name b adr_name) [] (adrs s)) image.attributes in
       let q = (Hold-split (flat_map (attribute_shape_rows b) before) (flat_map (attribute_shape_rows b) (own ∷ after)) (subst Hold (flat_map-append (attribute_shape_rows b) before (own ∷ after)) (subst (λ (as_ : List AttributeShape). Hold (flat_map (attribute_shape_rows b) as_)) was p.0))).1 in

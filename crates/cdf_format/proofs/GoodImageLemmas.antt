@@ -1,12 +1,12 @@
 -- The rules of phases 4 to 9 hold exactly where an image is good by its shape.
-use Rattle.std.proofs.Common.{◌≡◌, ℕ, ◌<◌, List, [], ◌∷◌, ◌++◌, length, map, true, eq-eqb, refl, sym, ap, ap₂, subst, ◌∙◌, arith, inl}
+use Rattle.std.proofs.Common.{◌≡◌, ℕ, ◌<◌, List, [], ◌∷◌, ◌++◌, length, map, true, eq-eqb, refl, sym, ap, subst, ◌∙◌, arith, inl}
 use Rattle.std.proofs.lemmas.Bool.{eqb-true, leb-true, le-leb}
 use Rattle.std.specs.List.{flat_map}
 use Rattle.cdf_format.specs.Fields.{type_at, gdr_offset}
 use Rattle.cdf_format.specs.Records.{gdr_r_vdr_head, gdr_z_vdr_head, gdr_adr_head, gdr_uir_head, adr_agr_edr_head, adr_az_edr_head, adr_name, adr_ngr_entries, adr_nz_entries, vdr_vxr_head}
 use Rattle.cdf_format.specs.RecordTypes.{cdr_type, gdr_type, adr_type, agr_edr_type, az_edr_type, r_vdr_type, z_vdr_type, uir_type}
 use Rattle.cdf_format.specs.NotRead.{unread_type}
-use Rattle.cdf_format.specs.Rules.{Row, row, Hold, AllHold}
+use Rattle.cdf_format.specs.Rules.{Hold, AllHold}
 use Rattle.cdf_format.specs.Walks.{Walk, whole, stuck, met_by, records_of}
 use Rattle.cdf_format.specs.Tiles.{In, AreTiles, tiling, tiles}
 use Rattle.cdf_format.specs.Chains.{is_a}
@@ -17,12 +17,12 @@ use Rattle.cdf_format.specs.Owners.{owned_records}
 use Rattle.cdf_format.specs.RecordRules.{tiling_rows, record_rows}
 use Rattle.cdf_format.specs.ChainRules.{chain_rows, adrs_rows, r_vdrs_rows, z_vdrs_rows, differ_rows, phase5}
 use Rattle.cdf_format.specs.AttributeRules.{same_name, adr_rows, entries_rows, attribute_rows, phase6}
-use Rattle.cdf_format.specs.VariableRules.{variable_rows}
 use Rattle.cdf_format.specs.IndexRules.{index_rows, met_rows, phase8}
 use Rattle.cdf_format.specs.Phases.{owner_rows, phase9, phases_of, image_phases}
-use Rattle.cdf_format.specs.GoodImage.{attribute_shape_rows, IsGoodImage}
-use Rattle.cdf_format.proofs.TilesLemmas.{tiling_sound, tiling_complete}
-use Rattle.cdf_format.proofs.ChainsLemmas.{chain_sound, chain_complete, is_a-from}
+use Rattle.cdf_format.specs.GoodImage.{IsGoodImage}
+use Rattle.cdf_format.proofs.GoodByShape.{attribute_shape_rows, IsGoodByShape}
+use Rattle.cdf_format.proofs.TilesLemmas.{tiling_sound, tiling_complete, tile_lies}
+use Rattle.cdf_format.proofs.ChainsLemmas.{chain_sound, chain_complete, is_a-from, is_a-in, is_a-type}
 use Rattle.cdf_format.proofs.IndexLemmas.{index_sound, index_complete}
 use Rattle.cdf_format.proofs.RowLemmas.{Hold-append, Hold-split, Hold-member, Hold-members, chain_rows-hold, Hold-chain_rows}
 use Rattle.cdf_format.proofs.ShapeLemmas.{adr_chain_is, r_vdr_chain_is, z_vdr_chain_is, uir_chain_is, shape_is}
@@ -93,7 +93,7 @@ module _ (b : List ℕ) (tiled : AreTiles b 8 (length b) (tiles b)) where
         Hold-append (index_rows b (tiles b) m nodes) (flat_map (λ (v : VariableShape). index_rows b (tiles b) v.vdr v.index) (map (variable_shape b (tiles b)) ms)) i.rows rest.1,
       )
 
-pub good_by_rules : (b : List ℕ) → 8 < length b → type_at b 8 ≡ cdr_type → AllHold (image_phases b) → IsGoodImage b (shape b)
+pub good_by_rules : (b : List ℕ) → 8 < length b → type_at b 8 ≡ cdr_type → AllHold (image_phases b) → IsGoodByShape b (shape b)
 unfolding shape
 good_by_rules b long first rules =
     let ts = tiles b in
@@ -174,12 +174,11 @@ module _ (b : List ℕ) (records : List ℕ) (tiled : AreTiles b 8 (length b) re
       let met_is : index_of b records v.vdr ≡ met (nodes_of v.index) v.index = index_complete b records (length b) v.vdr vdr_vxr_head v.index tiled have.0.indexed in
       Hold-append (met_rows b records v.vdr (index_of b records v.vdr)) (flat_map (λ vdr. met_rows b records vdr (index_of b records vdr)) (vdrs more)) (rw met_is parts.0) (indexes_rows more have.1 parts.1)
 
-pub rules_by_good : (b : List ℕ) (s : Shape) → IsGoodImage b s → AllHold (image_phases b)
-rules_by_good b s g =
+-- the rules on chains, attributes, variables, indexes and owners
+pub phases_by_shape : (b : List ℕ) (s : Shape) → IsGoodByShape b s → AllHold (phases_of b s)
+phases_by_shape b s g =
     let h = g.has_shape in
     let ts = s.records in
-    let all : tiling b ≡ whole ts = tiling_complete b ts h.tiled in
-    let each : Hold (flat_map (record_rows b) ts) = Hold-members (record_rows b) ts (λ m i. (h.typed m i, (le-leb _ _ (h.fixed m i), tt))) in
     let a = adr_chain_is b s h in
     let r = r_vdr_chain_is b s h in
     let z = z_vdr_chain_is b s h in
@@ -199,5 +198,25 @@ rules_by_good b s g =
     let sixth : Hold (phase6 b ts (adrs s)) = Hold-append _ (differ_rows 2 (same_name b adr_name) [] (adrs s)) (attributes_rows b ts h.tiled s.attributes h.entry_chains d.0) d.1 in
     let eighth : Hold (phase8 b ts (vdrs (variables s))) = indexes_rows b ts h.tiled (variables s) h.have_variables g.indexes in
     let ninth : Hold (phase9 ts (owned_records b s)) = Hold-members (owner_rows (owned_records b s)) ts (λ m i. (eq-eqb _ _ (g.owned_once m i), tt)) in
-    let of_shape : AllHold (phases_of b s) = (fifth, (sixth, (g.of_variables, (eighth, (ninth, tt))))) in
-    (rw all (Hold-append (flat_map (record_rows b) ts) (flat_map (unread_type b) ts) each g.read_types), subst (λ (x : Shape). AllHold (phases_of b x)) (sym (shape_is b s h)) of_shape)
+    (fifth, (sixth, (g.of_variables, (eighth, (ninth, tt)))))
+
+-- ---- the two ways to say it
+
+pub good_image : (b : List ℕ) (s : Shape) → IsGoodByShape b s → IsGoodImage b s
+good_image b s g = record { has_shape = g.has_shape; read_types = g.read_types; phases = phases_by_shape b s g }
+
+pub rules_by_good : (b : List ℕ) (s : Shape) → IsGoodImage b s → AllHold (image_phases b)
+rules_by_good b s g =
+    let h = g.has_shape in
+    let ts = s.records in
+    let all : tiling b ≡ whole ts = tiling_complete b ts h.tiled in
+    let each : Hold (flat_map (record_rows b) ts) = Hold-members (record_rows b) ts (λ m i. (h.typed m i, (le-leb _ _ (h.fixed m i), tt))) in
+    (rw all (Hold-append (flat_map (record_rows b) ts) (flat_map (unread_type b) ts) each g.read_types), subst (λ (x : Shape). AllHold (phases_of b x)) (sym (shape_is b s h)) g.phases)
+
+pub by_shape : (b : List ℕ) (s : Shape) → IsGoodImage b s → IsGoodByShape b s
+by_shape b s g =
+    let h = g.has_shape in
+    let tile = is_a-in b s.records cdr_type 8 h.cdr_stands in
+    let high = (tile_lies b 8 (length b) s.records 8 h.tiled tile).high in
+    let long = (tile_lies b 8 (length b) s.records 8 h.tiled tile).long in
+    subst (IsGoodByShape b) (shape_is b s h) (good_by_rules b (omega arith) (is_a-type b s.records cdr_type 8 h.cdr_stands) (rules_by_good b s g))

@@ -6,7 +6,7 @@ use Rattle.cdf_format.specs.Sound.{IsSound}
 use Rattle.cdf_format.specs.Bytes.{Same}
 use Rattle.cdf_format.specs.Fields.{size_at, eof, gdr_offset}
 use Rattle.cdf_format.specs.RecordTypes.{gdr_type, fixed_size}
-use Rattle.cdf_format.specs.GoodImage.{IsGoodImage}
+use Rattle.cdf_format.proofs.GoodByShape.{IsGoodByShape}
 use Rattle.cdf_format.specs.Sealed.{trailer, trailer_length, sealed}
 use Rattle.cdf_format.specs.Shape.{shape}
 use Rattle.cdf_format.specs.WellFormed.{WellFormed, Good}
@@ -30,7 +30,7 @@ good_is_long b good =
     fit : (n l t u : ℕ) → 320 ≤ n → n ≡ l + t → t ≡ u → u ≤ 16 → 44 ≤ l
     fit n l t u p q r s = omega arith
 
-pub good_by_its_shape : (b : List ℕ) → Good b → IsGoodImage b (shape b)
+pub good_by_its_shape : (b : List ℕ) → Good b → IsGoodByShape b (shape b)
 good_by_its_shape b good = (sealed_kept b (good_is_long b good) (rules_of_good b good)).1
 
 pub good_is_sound : (b : List ℕ) → Good b → IsSound b (shape b)

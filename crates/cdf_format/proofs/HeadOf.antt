@@ -5,7 +5,7 @@ use Rattle.cdf_format.specs.Fields.{has_bit, gdr_offset, release, encoding, flag
 use Rattle.cdf_format.specs.Sealed.{has_checksum}
 use Rattle.cdf_format.specs.ChainRules.{adrs_rows, r_vdrs_rows, z_vdrs_rows}
 use Rattle.cdf_format.specs.Content.{content, majority_of, attribute_of, variable_of, head_by_fields}
-use Rattle.cdf_format.specs.GoodImage.{IsGoodImage}
+use Rattle.cdf_format.proofs.GoodByShape.{IsGoodByShape}
 use Rattle.cdf_format.specs.Shape.{AttributeShape, VariableShape, Shape, adrs, vdrs}
 use Rattle.cdf_format.proofs.Tests.{eq_of}
 use Rattle.cdf_format.proofs.RowLemmas.{Hold-split}
@@ -15,7 +15,7 @@ length-map : {A B : Type 0} (f : A → B) (xs : List A) → length (map f xs) �
 length-map f [] = refl
 length-map f (x ∷ xs) = ap suc (length-map f xs)
 
-pub head_of_good : (b : List ℕ) (s : Shape) → IsGoodImage b s → head_of (content b) ≡ head_by_fields b
+pub head_of_good : (b : List ℕ) (s : Shape) → IsGoodByShape b s → head_of (content b) ≡ head_by_fields b
 head_of_good b s g =
     let p = Hold-split (adrs_rows b (adrs s) ++ r_vdrs_rows b (vdrs s.r_variables)) (z_vdrs_rows b (vdrs s.z_variables)) g.counting in
     let q = Hold-split (adrs_rows b (adrs s)) (r_vdrs_rows b (vdrs s.r_variables)) p.0 in

@@ -6,7 +6,7 @@ use Rattle.cdf_format.specs.Fields.{type_at, gdr_offset, counted, number, r_num_
 use Rattle.cdf_format.specs.Sealed.{has_checksum, trailer_length, image_of, trailer, sealed}
 use Rattle.cdf_format.specs.Phases.{phase10}
 use Rattle.cdf_format.specs.WellFormed.{WellFormed}
-use Rattle.cdf_format.specs.GoodImage.{IsGoodImage}
+use Rattle.cdf_format.proofs.GoodByShape.{IsGoodByShape}
 use Rattle.cdf_format.specs.Shape.{shape}
 use Rattle.cdf_format.proofs.Pieces.{word-piece}
 use Rattle.cdf_format.proofs.Tests.{both, le_of, same_of_bytes_eq}
@@ -31,7 +31,7 @@ use Rattle.cdf_format.proofs.RowLemmas.{Hold-asked}
 pub short_trailer : (f : List ℕ) → trailer_length f ≤ 16
 short_trailer f = elim (either (has_checksum f)) [ inl e ↦ rw e (omega arith) | inr e ↦ rw e (omega arith) ]
 
-pub good_image_of : (f : List ℕ) → WellFormed f → IsGoodImage (image_of f) (shape (image_of f))
+pub good_image_of : (f : List ℕ) → WellFormed f → IsGoodByShape (image_of f) (shape (image_of f))
 good_image_of f rules =
     let room = both (nat_le 8 (gdr_offset f)) (nat_le (gdr_offset f + 84) (length f)) rules.1.1.1.0.0 in
     let long : 92 ≤ length f = let p = le_of 8 (gdr_offset f) room.0 in let q = le_of (gdr_offset f + 84) (length f) room.1 in omega arith in

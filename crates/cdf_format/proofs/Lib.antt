@@ -7,6 +7,7 @@ pub mod ChainsLemmas
 pub mod IndexLemmas
 pub mod RowLemmas
 pub mod ShapeLemmas
+pub mod GoodByShape
 pub mod GoodImageLemmas
 pub mod Tests
 pub mod FileRecords

@@ -16,7 +16,7 @@ use Rattle.cdf_format.specs.IndexRules.{is_block, end_of, nodes_rows, used_rows,
 use Rattle.cdf_format.specs.VariableRules.{cpr_link, is_cpr, variable_rows}
 use Rattle.cdf_format.specs.Shape.{AttributeShape, VariableShape, Shape, vdrs, variables, is_compressed, cpr_of, Each, HasEntries, HasVariable}
 use Rattle.cdf_format.specs.Owners.{Owner, File, OneAttribute, OneVariable, Unused, attribute_records, variable_records, unused_records, owned_by, owned_by_attributes, owned_by_variables, times, owned_records}
-use Rattle.cdf_format.specs.GoodImage.{IsGoodImage}
+use Rattle.cdf_format.proofs.GoodByShape.{IsGoodByShape}
 use Rattle.cdf_format.proofs.Members.{either, In-append, true-is_in, false-is_in}
 use Rattle.cdf_format.proofs.TilesLemmas.{tile_lies}
 use Rattle.cdf_format.proofs.ChainsLemmas.{is_a-in, linkable-in}
@@ -175,7 +175,7 @@ variables_in b ts ids (v ∷ more) h vdr rules7 rules8 m i =
       | inr j ↦ variables_in b ts ids more h.1 (λ x y. vdr x (inr y)) p7.1 p8.1 m j
     ]
 
-pub owned_stand : (b : List ℕ) (s : Shape) → IsGoodImage b s → (m : ℕ) → In m (owned_records b s) → In m s.records
+pub owned_stand : (b : List ℕ) (s : Shape) → IsGoodByShape b s → (m : ℕ) → In m (owned_records b s) → In m s.records
 owned_stand b s g m i =
     let h = g.has_shape in
     let ts = s.records in
@@ -225,7 +225,7 @@ owned_stand b s g m i =
         join (x ∷ xs) ys p q = (p.0, join xs ys p.1 q)
 
 -- owned records and records have the same counts
-pub same_counts : (b : List ℕ) (s : Shape) → IsGoodImage b s → (m : ℕ) → times m (owned_records b s) ≡ times m s.records
+pub same_counts : (b : List ℕ) (s : Shape) → IsGoodByShape b s → (m : ℕ) → times m (owned_records b s) ≡ times m s.records
 same_counts b s g m = elim (either (is_in m s.records)) [
   | inl e ↦ let i = true-is_in m s.records e in g.owned_once m i ∙ sym (times-once m s.records (tiles_distinct b 8 (length b) s.records g.has_shape.tiled) i)
   | inr e ↦ let out = false-is_in m s.records e in times-none m (owned_records b s) (λ i. out (owned_stand b s g m i)) ∙ sym (times-none m s.records out)

@@ -8,12 +8,12 @@ use Rattle.cdf_format.specs.Rules.{row, Hold, asked, AllHold}
 use Rattle.cdf_format.specs.Sealed.{has_checksum, trailer, image_of, sealed}
 use Rattle.cdf_format.specs.Phases.{phase10, first_phases, image_phases}
 use Rattle.cdf_format.specs.WellFormed.{WellFormed}
-use Rattle.cdf_format.specs.GoodImage.{IsGoodImage}
+use Rattle.cdf_format.proofs.GoodByShape.{IsGoodByShape}
 use Rattle.cdf_format.specs.Shape.{Shape, shape}
 use Rattle.cdf_format.proofs.Members.{either}
 use Rattle.cdf_format.proofs.TilesLemmas.{tile_lies}
 use Rattle.cdf_format.proofs.ChainsLemmas.{is_a-in, is_a-type}
-use Rattle.cdf_format.proofs.GoodImageLemmas.{rules_by_good}
+use Rattle.cdf_format.proofs.GoodImageLemmas.{good_image, rules_by_good}
 use Rattle.cdf_format.proofs.ImageOf.{good_image_of, flags_of_front, image_of-sealed}
 use Rattle.cdf_format.specs.Fields.{size_at}
 use Rattle.cdf_format.specs.RecordTypes.{cdr_type, fixed_size}
@@ -22,7 +22,7 @@ same_bytes : (xs : List ℕ) → bytes_eq xs xs ≡ true
 same_bytes [] = refl
 same_bytes (x ∷ xs) = and_from (eqb x x) (bytes_eq xs xs) (eq-eqb x x refl) (same_bytes xs)
 
-pub good_long : (b : List ℕ) (s : Shape) → IsGoodImage b s → 44 ≤ length b
+pub good_long : (b : List ℕ) (s : Shape) → IsGoodByShape b s → 44 ≤ length b
 good_long b s g =
     let h = g.has_shape in
     let tile = is_a-in b s.records cdr_type 8 h.cdr_stands in
@@ -44,15 +44,15 @@ trailer_rule b long =
       | inr e ↦ subst (λ (p : Bool). Hold (asked p (row 1 (length (image_of (sealed b))) (bytes_eq (drop (length (image_of (sealed b))) (sealed b)) (md5 (image_of (sealed b)))) ∷ []))) (sym (flags ∙ e)) tt
     ]
 
-pub sealed_keeps : (b : List ℕ) (s : Shape) → AllHold (first_phases (sealed b)) → IsGoodImage b s → WellFormed (sealed b)
+pub sealed_keeps : (b : List ℕ) (s : Shape) → AllHold (first_phases (sealed b)) → IsGoodByShape b s → WellFormed (sealed b)
 sealed_keeps b s first g =
     let long = good_long b s g in
-    let image : AllHold (image_phases (image_of (sealed b))) = subst (λ (x : List ℕ). AllHold (image_phases x)) (sym (image_of-sealed b long)) (rules_by_good b s g) in
+    let image : AllHold (image_phases (image_of (sealed b))) = subst (λ (x : List ℕ). AllHold (image_phases x)) (sym (image_of-sealed b long)) (rules_by_good b s (good_image b s g)) in
     let last = trailer_rule b long in
     (first.0, (first.1.0, (first.1.1.0, (first.1.1.1.0, (image.0, (image.1.0, (image.1.1.0, (image.1.1.1.0, (image.1.1.1.1.0, (image.1.1.1.1.1.0, (last, tt)))))))))))
 
-pub sealed_kept : (b : List ℕ) → 44 ≤ length b → WellFormed (sealed b) → AllHold (first_phases (sealed b)) × IsGoodImage b (shape b)
+pub sealed_kept : (b : List ℕ) → 44 ≤ length b → WellFormed (sealed b) → AllHold (first_phases (sealed b)) × IsGoodByShape b (shape b)
 sealed_kept b long rules = (
   (rules.0, (rules.1.0, (rules.1.1.0, (rules.1.1.1.0, tt)))),
-  subst (λ (x : List ℕ). IsGoodImage x (shape x)) (image_of-sealed b long) (good_image_of (sealed b) rules),
+  subst (λ (x : List ℕ). IsGoodByShape x (shape x)) (image_of-sealed b long) (good_image_of (sealed b) rules),
 )

@@ -17,7 +17,7 @@ use Rattle.cdf_format.specs.AttributeRules.{entry_bytes, has_value, entry_rows, 
 use Rattle.cdf_format.specs.VariableRules.{cpr_link, is_cpr, variable_rows}
 use Rattle.cdf_format.specs.VariableFields.{number_before, plain_size}
 use Rattle.cdf_format.specs.IndexRules.{has_room, is_block, holds_packed, vvr_rows, cvvr_rows, leaf_rows, nodes_rows, used_rows, end_of, index_rows}
-use Rattle.cdf_format.specs.GoodImage.{attribute_shape_rows, IsGoodImage}
+use Rattle.cdf_format.proofs.GoodByShape.{attribute_shape_rows, IsGoodByShape}
 use Rattle.cdf_format.specs.Sound.{EntryFits, AttributeFits, NodeFits, BlockFits, LeafFits, VariableFits, IsSound}
 use Rattle.cdf_format.proofs.Members.{either, is_in-true, true-is_in, false-is_in}
 use Rattle.cdf_format.proofs.Tests.{both, le_of}
@@ -154,7 +154,7 @@ module _ (b records : List ℕ) where
         variables_fit ids more has.1 p7.1 p8.1,
       )
 
-pub sound_of_good : (b : List ℕ) (s : Shape) → IsGoodImage b s → 84 + 4 * r_num_dims b s.gdr ≤ size_at b s.gdr → IsSound b s
+pub sound_of_good : (b : List ℕ) (s : Shape) → IsGoodByShape b s → 84 + 4 * r_num_dims b s.gdr ≤ size_at b s.gdr → IsSound b s
 sound_of_good b s g room = record {
   has_shape = g.has_shape;
   gdr_fits = room;

@@ -1,6 +1,6 @@
 -- The data set that an image means (CDF Internal Format Description, "Internal Records").
-use Rattle.std.specs.Prelude.{ℕ, suc, ◌*◌, List, [], ◌∷◌, map, Bool, true, false, nat_lt, ◌==◌, if◌then◌else◌, pos}
-use Rattle.std.specs.List.{filter, flat_map}
+use Rattle.std.specs.Prelude.{ℕ, ◌*◌, List, [], ◌∷◌, map, Bool, true, false, nat_lt, ◌==◌, if◌then◌else◌, pos}
+use Rattle.std.specs.List.{enumerate_from, filter, flat_map}
 use Rattle.cdf_model.specs.declared.head.Majority.{Majority}
 use Rattle.cdf_model.specs.declared.head.Majority.TheVariants.{Row, Column}
 use Rattle.cdf_model.specs.declared.kinds.Scope.{Scope}
@@ -55,13 +55,9 @@ attribute_of b a = record {
 abbrev pub plain_bytes : List ℕ → ℕ → Leaf → List ℕ
 plain_bytes b vdr leaf = if leaf.packed then plain_of (packed_bytes b leaf.place) else field_bytes b leaf.place (vvr_records (plain_size b vdr leaf))
 
-abbrev pub numbered_from : {A : Type 0} → ℕ → List A → List (ℕ × A)
-numbered_from n [] = []
-numbered_from n (a ∷ more) = (n, a) ∷ numbered_from (suc n) more
-
 -- each record of a leaf, by its number
 abbrev pub leaf_records : List ℕ → ℕ → Leaf → List (ℕ × List ℕ)
-leaf_records b vdr leaf = numbered_from (counted4 leaf.first) (map (turned (type_of_variable b vdr) (is_little b)) (parts (record_bytes b vdr) (records_of_leaf leaf) (plain_bytes b vdr leaf)))
+leaf_records b vdr leaf = enumerate_from (counted4 leaf.first) (map (turned (type_of_variable b vdr) (is_little b)) (parts (record_bytes b vdr) (records_of_leaf leaf) (plain_bytes b vdr leaf)))
 
 -- A leaf may cover records past MaxRec, which are not written.
 abbrev pub records_in : List ℕ → ℕ → List Leaf → List (ℕ × List ℕ)

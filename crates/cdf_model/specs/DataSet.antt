@@ -35,7 +35,7 @@ pub record Variable : Type 0 where
   pub blocking : ℤ
   pub max_rec : ℤ  -- the greatest record number, and -1 without records
   pub pad : Option (List ℕ)  -- the bytes of a value
-  pub recs : List (ℕ × List ℕ)  -- the records that are stored, also those past max_rec
+  pub recs : List (ℕ × List ℕ)  -- the records that are stored, each with its number
 
 -- the version is always 3
 pub record DataSet : Type 0 where

@@ -6,7 +6,7 @@ use Rattle.cdf_format.specs.Sound.{EntryFits, AttributeFits, IsSound}
 use Rattle.cdf_edits.specs.Frame.Leaves.{AttributeStays}
 use Rattle.cdf_format.specs.Chains.{is_in, is_linkable}
 use Rattle.cdf_format.specs.Fields.{number, size_at, type_at}
-use Rattle.cdf_format.specs.GoodImage.{attribute_shape_rows}
+use Rattle.cdf_format.proofs.GoodByShape.{attribute_shape_rows}
 use Rattle.cdf_format.specs.Owners.{attribute_records}
 use Rattle.cdf_format.specs.Records.{adr_num, adr_name}
 use Rattle.cdf_format.specs.RecordTypes.{adr_type, agr_edr_type, az_edr_type}

@@ -1,7 +1,7 @@
 -- What a call leaves that links a record behind a chain, takes a member out of it or puts another in its place: each is an edit.
-use Rattle.std.proofs.Common.{◌≡◌, ℕ, ◌+◌, ◌≤◌, List, [], true, sym, ap, subst, arith}
+use Rattle.std.proofs.Common.{◌≡◌, ℕ, ◌+◌, ◌≤◌, List, [], subst, arith}
 use Rattle.cdf_format.specs.Chains.{IsChain}
-use Rattle.cdf_format.specs.Fields.{number, size_at, type_at}
+use Rattle.cdf_format.specs.Fields.{number, size_at}
 use Rattle.cdf_format.specs.RecordTypes.{fixed_size}
 use Rattle.cdf_format.specs.Shape.{Shape, HasShape, shape}
 use Rattle.cdf_format.specs.Sound.{IsSound}

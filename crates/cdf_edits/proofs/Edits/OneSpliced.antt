@@ -9,7 +9,7 @@ use Rattle.cdf_format.specs.Sound.{IsSound}
 use Rattle.cdf_format.specs.ChainRules.{adrs_rows, r_vdrs_rows, z_vdrs_rows}
 use Rattle.cdf_format.specs.Content.{content, attribute_of}
 use Rattle.cdf_format.specs.Fields.{number, name_in, type_at, gdr_offset}
-use Rattle.cdf_format.specs.GoodImage.{IsGoodImage}
+use Rattle.cdf_format.proofs.GoodByShape.{IsGoodByShape}
 use Rattle.cdf_format.specs.Owners.{attribute_records}
 use Rattle.cdf_format.specs.Records.{gdr_num_attr, adr_name, adr_num}
 use Rattle.cdf_format.specs.RecordTypes.{gdr_type}
@@ -79,7 +79,7 @@ module _ {b now : List ℕ} {s : Shape} {new list : List ℕ} {marks : List Mark
         ]
 
     -- the count and the numbers
-    pub counted : IsGoodImage b s → avoided marks gdr_type 48 52 ≡ true → Hold (adrs_rows now (adrs shape'))
+    pub counted : IsGoodByShape b s → avoided marks gdr_type 48 52 ≡ true → Hold (adrs_rows now (adrs shape'))
     counted good clear =
         let c = Hold-split (adrs_rows b (adrs s) ++ r_vdrs_rows b (vdrs s.r_variables)) (z_vdrs_rows b (vdrs s.z_variables)) good.counting in
         let d = (Hold-split (adrs_rows b (adrs s)) (r_vdrs_rows b (vdrs s.r_variables)) c.0).0 in

@@ -14,7 +14,7 @@ use Rattle.cdf_format.specs.Records.{Field, cdr_gdr_offset, cdr_encoding, cdr_fl
 use Rattle.cdf_format.specs.RecordTypes.{cdr_type, gdr_type, adr_type, agr_edr_type, az_edr_type}
 use Rattle.cdf_format.specs.Rules.{Hold}
 use Rattle.cdf_format.specs.Shape.{AttributeShape, VariableShape, Shape, cpr_of, HasEntries, HasVariable, HasShape}
-use Rattle.cdf_format.specs.GoodImage.{attribute_shape_rows}
+use Rattle.cdf_format.proofs.GoodByShape.{attribute_shape_rows}
 use Rattle.cdf_format.specs.Owners.{variable_records}
 use Rattle.cdf_format.specs.Tiles.{In}
 use Rattle.cdf_edits.proofs.Frame.OwnerAlone.{Each-in, little_code}

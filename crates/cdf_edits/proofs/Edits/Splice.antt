@@ -12,7 +12,7 @@ use Rattle.cdf_format.specs.ChainRules.{adrs_rows, r_vdrs_rows, z_vdrs_rows, dif
 use Rattle.cdf_format.specs.Chains.{is_in, is_linkable, IsChain}
 use Rattle.cdf_format.specs.Content.{content, content_of, attribute_of, majority_of}
 use Rattle.cdf_format.specs.Fields.{number, size_at, type_at, has_bit, gdr_offset, eof}
-use Rattle.cdf_format.specs.GoodImage.{IsGoodImage, attribute_shape_rows}
+use Rattle.cdf_format.proofs.GoodByShape.{IsGoodByShape, attribute_shape_rows}
 use Rattle.cdf_format.specs.NotRead.{read_types}
 use Rattle.cdf_format.specs.Owners.{OwnedOnce, times, owned_records}
 use Rattle.cdf_format.specs.Phases.{first_phases}
@@ -215,7 +215,7 @@ module _ {b now : List ℕ} {s : Shape} {new list : List ℕ} {marks : List Mark
     pub read : (m : ℕ) → In m reborn → is_in (type_at now m) read_types ≡ true
     pub owned : OwnedOnce now s'
 
-  attribute_rules : IsGoodImage b s → Hold (flat_map (attribute_shape_rows now) own') → Hold (flat_map (attribute_shape_rows now) attributes')
+  attribute_rules : IsGoodByShape b s → Hold (flat_map (attribute_shape_rows now) own') → Hold (flat_map (attribute_shape_rows now) attributes')
   attribute_rules good own_rules =
       let rows = attribute_shape_rows b in
       let rows' = attribute_shape_rows now in
@@ -226,7 +226,7 @@ module _ {b now : List ℕ} {s : Shape} {new list : List ℕ} {marks : List Mark
       let rest = all_rules sound e file after there.1.1 splices.after_live last.1 in
       subst Hold (sym (flat_map-append rows' before (own' ++ after))) (Hold-append (flat_map rows' before) (flat_map rows' (own' ++ after)) first (subst Hold (sym (flat_map-append rows' own' after)) (Hold-append (flat_map rows' own') (flat_map rows' after) own_rules rest)))
 
-  pub good_if : IsGoodImage b s → OwnRules → IsGoodImage now s'
+  pub good_if : IsGoodByShape b s → OwnRules → IsGoodByShape now s'
   good_if good rules =
       let c = Hold-split (adrs_rows b (adrs s) ++ r_vdrs_rows b (vdrs s.r_variables)) (z_vdrs_rows b (vdrs s.z_variables)) good.counting in
       let d = Hold-split (adrs_rows b (adrs s)) (r_vdrs_rows b (vdrs s.r_variables)) c.0 in
@@ -254,5 +254,5 @@ module _ {b now : List ℕ} {s : Shape} {new list : List ℕ} {marks : List Mark
 
   -- ---- the file
 
-  pub good_image_if : AllHold (first_phases (sealed b)) → IsGoodImage b s → OwnRules → eof now s.gdr ≡ length now → length now ≤ image_limit → Good now
+  pub good_image_if : AllHold (first_phases (sealed b)) → IsGoodByShape b s → OwnRules → eof now s.gdr ≡ length now → length now ≤ image_limit → Good now
   good_image_if first good rules eof_is short = sealed_keeps now s' (first_phases_stay b now s sound (first_stay sound e splices.file_clear splices.typed eof_is short) first) (good_if good rules)

@@ -6,7 +6,7 @@ use Rattle.cdf_format.specs.Sound.{NodeFits, VariableFits, IsSound}
 use Rattle.cdf_edits.specs.Frame.Leaves.{VariableStays}
 use Rattle.cdf_format.specs.Chains.{is_a, is_in, is_linkable}
 use Rattle.cdf_format.specs.Fields.{number, name_in, size_at, type_at}
-use Rattle.cdf_format.specs.GoodImage.{variables_shape_rows, indexes_shape_rows}
+use Rattle.cdf_format.proofs.GoodByShape.{variables_shape_rows, indexes_shape_rows}
 use Rattle.cdf_format.specs.Index.{Leaf, nodes_of, leaves_of}
 use Rattle.cdf_format.specs.IndexRules.{is_block, index_rows}
 use Rattle.cdf_format.specs.Owners.{variable_records}

@@ -12,7 +12,7 @@ use Rattle.cdf_format.specs.ChainRules.{adrs_rows, r_vdrs_rows, z_vdrs_rows, dif
 use Rattle.cdf_format.specs.Chains.{is_in, IsChain}
 use Rattle.cdf_format.specs.Content.{content, content_of, variable_of, majority_of}
 use Rattle.cdf_format.specs.Fields.{number, size_at, type_at, has_bit, gdr_offset, eof}
-use Rattle.cdf_format.specs.GoodImage.{IsGoodImage, attribute_shape_rows}
+use Rattle.cdf_format.proofs.GoodByShape.{IsGoodByShape, attribute_shape_rows}
 use Rattle.cdf_format.specs.IndexRules.{index_rows}
 use Rattle.cdf_format.specs.NotRead.{read_types}
 use Rattle.cdf_format.specs.Owners.{OwnedOnce, times, owned_records}
@@ -179,7 +179,7 @@ module _ {b now : List ℕ} {s : Shape} {new list : List ℕ} {marks : List Mark
     ]
   ]
 
-  index_now : IsGoodImage b s → OwnRules → Hold (flat_map (λ (v : VariableShape). index_rows now new v.vdr v.index) (variables s'))
+  index_now : IsGoodByShape b s → OwnRules → Hold (flat_map (λ (v : VariableShape). index_rows now new v.vdr v.index) (variables s'))
   index_now good rules =
       let f = λ (v : VariableShape). index_rows now new v.vdr v.index in
       let old = Hold-split (flat_map f s.r_variables) (flat_map f s.z_variables) (subst Hold (flat_map-append f s.r_variables s.z_variables) (indexes_rules sound e file variables_live good.indexes)) in
@@ -187,7 +187,7 @@ module _ {b now : List ℕ} {s : Shape} {new list : List ℕ} {marks : List Mark
       (subst Hold (sym (flat_map-append f s.r_variables rs)) (Hold-append (flat_map f s.r_variables) (flat_map f rs) old.0 rules.r_index))
       (subst Hold (sym (flat_map-append f s.z_variables zs)) (Hold-append (flat_map f s.z_variables) (flat_map f zs) old.1 rules.z_index)))
 
-  pub good_if : IsGoodImage b s → OwnRules → IsGoodImage now s'
+  pub good_if : IsGoodByShape b s → OwnRules → IsGoodByShape now s'
   good_if good rules =
       let c = Hold-split (adrs_rows b (adrs s) ++ r_vdrs_rows b (vdrs s.r_variables)) (z_vdrs_rows b (vdrs s.z_variables)) good.counting in
       let d = Hold-split (adrs_rows b (adrs s)) (r_vdrs_rows b (vdrs s.r_variables)) c.0 in
@@ -220,5 +220,5 @@ module _ {b now : List ℕ} {s : Shape} {new list : List ℕ} {marks : List Mark
         not_twice = once;
       }
 
-  pub good_image_if : AllHold (first_phases (sealed b)) → IsGoodImage b s → OwnRules → eof now s.gdr ≡ length now → length now ≤ image_limit → Good now
+  pub good_image_if : AllHold (first_phases (sealed b)) → IsGoodByShape b s → OwnRules → eof now s.gdr ≡ length now → length now ≤ image_limit → Good now
   good_image_if first good rules eof_is short = sealed_keeps now s' (first_phases_stay b now s sound (first_stay sound e widens.file_clear widens.typed eof_is short) first) (good_if good rules)

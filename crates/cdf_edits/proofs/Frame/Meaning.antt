@@ -2,7 +2,7 @@
 use Rattle.std.proofs.Common.{◌≡◌, ℕ, ℤ, ◌+◌, ◌*◌, ◌≤◌, List, [], ◌∷◌, ◌++◌, length, map, Bool, true, false, not, Some, refl, sym, ap, subst, ◌∙◌, arith, inl, inr}
 use Rattle.std.specs.Prelude.{◌==◌, nat_lt, if◌then◌else◌}
 use Rattle.std.specs.Int.{w32, w64, cast_signed}
-use Rattle.std.specs.List.{before_first, filter, flat_map}
+use Rattle.std.specs.List.{before_first, enumerate_from, filter, flat_map}
 use Rattle.std.specs.Option.{unwrap_or}
 use Rattle.cdf_model.specs.declared.data_type.DataType.{DataType}
 use Rattle.cdf_model.specs.declared.data_type.DataType.TheVariants.{Byte}
@@ -24,7 +24,7 @@ use Rattle.cdf_format.specs.Shape.{AttributeShape, VariableShape, Each, is_compr
 use Rattle.cdf_format.specs.VariableFields.{is_z, counted4, dimensions_at, dims_at, elems_at, vary_field, varys_at, type_of_variable, value_bytes, record_bytes, has_pad, pad_field, pad_at, sparse_at, max_rec_at, records_of_leaf, plain_size}
 use Rattle.cdf_format.specs.VariableRules.{vdr_end}
 use Rattle.cdf_format.specs.AttributeRules.{entry_bytes}
-use Rattle.cdf_format.specs.Content.{scope_of, entry_of, entries_of, attribute_of, plain_bytes, numbered_from, leaf_records, records_in, variable_of}
+use Rattle.cdf_format.specs.Content.{scope_of, entry_of, entries_of, attribute_of, plain_bytes, leaf_records, records_in, variable_of}
 use Rattle.cdf_format.specs.Sound.{EntryFits, AttributeFits, BlockFits, LeafFits}
 use Rattle.cdf_format.proofs.BytesLemmas.{Same-part, word_kept, piece_kept, number_kept, integer_kept, bytes_kept, name_kept, words_kept, size_kept}
 
@@ -275,7 +275,7 @@ module _ (b now : List ℕ) (file : FileSame b now) (v : ℕ) (k : KeptButLink b
       let t = type_same in
       let r = record_same in
       let p = bytes_same leaf kept room in
-      λ i. numbered_from (counted4 leaf.first) (map (turned (t i) (file.little i)) (parts (r i) (records_of_leaf leaf) (p i)))
+      λ i. enumerate_from (counted4 leaf.first) (map (turned (t i) (file.little i)) (parts (r i) (records_of_leaf leaf) (p i)))
 
   leaves_same : (leaves : List Leaf) (records : List ℕ) → ((m : ℕ) → In m (map (λ (leaf : Leaf). leaf.place) leaves) → Kept b now m) → Each (LeafFits b records v) leaves → flat_map (leaf_records now v) leaves ≡ flat_map (leaf_records b v) leaves
   leaves_same [] records kept room = refl

@@ -14,7 +14,7 @@ use Rattle.cdf_format.specs.Rules.{Row, row, Hold}
 use Rattle.cdf_format.specs.Shape.{AttributeShape, Each}
 use Rattle.cdf_format.specs.ChainRules.{differ_rows}
 use Rattle.cdf_format.specs.AttributeRules.{has_name, entry_bytes, entry_rows, same_number, entries_rows}
-use Rattle.cdf_format.specs.GoodImage.{attribute_shape_rows}
+use Rattle.cdf_format.proofs.GoodByShape.{attribute_shape_rows}
 use Rattle.cdf_format.specs.Sound.{EntryFits, AttributeFits}
 use Rattle.cdf_format.proofs.Members.{In-append_left, In-append_right}
 use Rattle.cdf_format.proofs.BytesLemmas.{number_kept, integer_kept, size_kept}

@@ -1,5 +1,5 @@
 -- The record that has the head of a chain, and where the head, the count and the members lie in a sound image.
-use Rattle.std.proofs.Common.{◌≡◌, ℕ, ◌+◌, ◌≤◌, List, length, Option, Some, None, true, refl, sym, subst, arith}
+use Rattle.std.proofs.Common.{◌≡◌, ℕ, ◌+◌, ◌≤◌, List, length, true, refl, sym, subst, arith}
 use Rattle.cdf_format.specs.Fields.{size_at, gdr_offset}
 use Rattle.cdf_format.specs.Records.{field}
 use Rattle.cdf_format.specs.RecordTypes.{cdr_type, gdr_type, fixed_size}
