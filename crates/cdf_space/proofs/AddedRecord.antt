@@ -3,30 +3,30 @@ use Rattle.std.proofs.Common.{◌≡◌, ℕ, ◌+◌, ◌^◌, ◌<◌, ◌≤�
 use Rattle.std.specs.Prelude.{◌==◌}
 use Rattle.std.proofs.Common.{false}
 use Rattle.cdf_format.specs.Chains.{is_a, IsChain}
-use Rattle.cdf_format.specs.Fields.{LiesIn, number, word, with_field, size_at, type_at, gdr_offset}
+use Rattle.cdf_format.specs.Fields.{LiesIn, number, with_field, size_at, type_at}
 use Rattle.cdf_format.specs.Records.{cdr_gdr_offset}
 use Rattle.cdf_format.specs.RecordTypes.{cdr_type, uir_type, fixed_size}
 use Rattle.cdf_format.specs.Shape.{Shape, HasShape, shape}
 use Rattle.cdf_format.specs.Sound.{IsSound}
 use Rattle.cdf_format.specs.Tiles.{In, tiles}
 use Rattle.cdf_format.proofs.ChainsLemmas.{is_a-from, is_a-in, is_a-type, linkable-type, linkable-in}
-use Rattle.cdf_format.proofs.ShapeLemmas.{tiles_are, shape_is}
+use Rattle.cdf_format.proofs.ShapeLemmas.{tiles_are}
 use Rattle.cdf_format.proofs.TilesLemmas.{tile_lies}
 use Rattle.cdf_fields.proofs.Writes.{field_reads, length-with_field, other_bytes}
 use Rattle.cdf_edits.specs.declared.chain.Chain.{Chain}
 use Rattle.cdf_edits.specs.declared.chain.Chain.TheVariants.{Attrs, RVars, ZVars, GrEntries, ZEntries}
 use Rattle.cdf_edits.specs.Edits.Edit.{Edit}
-use Rattle.cdf_edits.specs.Edits.Marks.{Mark, avoided, mark, Among, whole, field_marks, taking_marks, append_marks}
+use Rattle.cdf_edits.specs.Edits.Marks.{Mark, avoided, whole, field_marks, taking_marks, append_marks}
 use Rattle.cdf_edits.specs.Frame.Changed.{touched_field, Changed}
 use Rattle.cdf_edits.specs.Space.Adding.{Added}
 use Rattle.cdf_edits.specs.Space.Chains.{holder_of, head_of, count_of, counted_in, holder_type, type_in, members_of, HolderStands, HasChain, MayJoin, Appended}
 use Rattle.cdf_edits.specs.Space.Placement.{with_space}
-use Rattle.cdf_edits.specs.Space.Placing.{Placed, Fills, IsBody, type_of_body}
+use Rattle.cdf_edits.specs.Space.Placing.{Placed, Fills, type_of_body}
 use Rattle.cdf_edits.proofs.Edits.Composing.{edit_then, changed_edit, head_size, head_type}
 use Rattle.cdf_edits.proofs.Edits.RecordFrame.{part_clear, field_clear, chain_clear}
 use Rattle.cdf_edits.proofs.Edits.ChainsOfShape.{IsOf, members_are, has_chain, may_join, append_changed, joined_chain}
 use Rattle.cdf_edits.proofs.Edits.MadeRecord.{place_in, filled_sound, filled_size, filled_edit, fresh}
-use Rattle.cdf_edits.proofs.Edits.StepEdits.{append_edit, some_bytes}
+use Rattle.cdf_edits.proofs.Edits.StepEdits.{append_edit}
 use Rattle.cdf_edits.proofs.Space.UsedRecords.{apart}
 use Rattle.cdf_edits.proofs.Space.ChainHeads.{holder_stands, head_fits, long_of, cdr_room}
 use Rattle.cdf_space.proofs.Linking.{holder_same}

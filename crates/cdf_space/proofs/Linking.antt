@@ -1,5 +1,5 @@
 -- A link of a chain that is written anew: a record joins behind the last one, a member goes, or another record takes its place.
-use Rattle.std.proofs.Common.{◌≡◌, ◌≢◌, ◌⊎◌, ℕ, ◌+◌, ◌^◌, ◌<◌, ◌≤◌, List, [], ◌∷◌, ◌++◌, length, Option, Some, None, Bool, true, false, eq-eqb, refl, sym, ap, ap₂, subst, ◌∙◌, append-nil, arith, inl, inr}
+use Rattle.std.proofs.Common.{◌≡◌, ◌≢◌, ◌⊎◌, ℕ, ◌+◌, ◌^◌, ◌<◌, ◌≤◌, List, [], ◌∷◌, ◌++◌, length, Option, Some, None, true, false, refl, sym, ap, ap₂, subst, ◌∙◌, append-nil, arith, inl, inr}
 use Rattle.std.proofs.lemmas.Bool.{eqb-true}
 use Rattle.std.specs.List.{last_or}
 use Rattle.std.specs.Prelude.{◌==◌}
@@ -7,7 +7,7 @@ use Rattle.cdf_format.specs.Fields.{LiesIn, word, number, with_field, size_at, t
 use Rattle.cdf_format.specs.Records.{Field, field, uir_next_uir}
 use Rattle.cdf_format.specs.RecordTypes.{cdr_type}
 use Rattle.cdf_format.specs.Bytes.{Same}
-use Rattle.cdf_format.specs.Chains.{is_a, is_in, is_linkable, next_of, next_field, linked_types, Leads, IsChain}
+use Rattle.cdf_format.specs.Chains.{is_in, is_linkable, next_of, next_field, linked_types, Leads, IsChain}
 use Rattle.cdf_format.specs.Shape.{shape}
 use Rattle.cdf_format.specs.Sound.{IsSound}
 use Rattle.cdf_format.specs.Tiles.{In, Distinct, AreTiles, tiles}

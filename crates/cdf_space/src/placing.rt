@@ -16,6 +16,9 @@ ghost use Rattle.cdf_space.specs.Fits.{Cleared, IsFirstFit, Listed, Relinked};
 ghost use Rattle.cdf_edits.specs.Space.Placing.{IsBody, Placed};
 
 use cdf_area::{Area, AreaError};
+use cdf_format::fields::{
+    CDR_GDR_OFFSET, CDR_PLACE, GDR_UIR_HEAD, LEAST_SIZE, LINKED_SIZE, RECORD_TYPE, UIR_NEXT_UIR,
+};
 use cdf_records::{
     read_uir, read_unsigned8, set_gdr_eof, set_record_size, set_record_type, set_uir_next_uir,
     set_uir_prev_uir, set_unsigned8,
@@ -39,7 +42,7 @@ fn is_fit(need: u64, size: u64) -> bool
     requires { need + 28 < 2 ^ 64 }
     ensures { result ≡ fits need size }
 {
-    size == need || need + 28 <= size
+    size == need || need + LINKED_SIZE <= size
 }
 
 /// The first record of the unused list that fits.
@@ -51,7 +54,7 @@ fn first_fit<A: Area>(area: &mut A, gdr: u64, need: u64) -> Result<Option<Fit>, 
     ensures found { IfOk result (λ found. MatchOption found (NoneFit (A.image area.old) need (shape (A.image area.old)).unused) (IsFirstFit (A.image area.old) (shape (A.image area.old)) need)) }
     ensures area { Reads A.image A.frame A.faults A.edited area.old area.new result }
 {
-    let mut link = gdr + 64;
+    let mut link = gdr + GDR_UIR_HEAD;
     let mut before = 0;
     let mut place = read_unsigned8(area, link)?;
     for _ in 0..u32::MAX {
@@ -70,7 +73,7 @@ fn first_fit<A: Area>(area: &mut A, gdr: u64, need: u64) -> Result<Option<Fit>, 
             return Ok(Some(fit));
         }
         before = place;
-        link = place + 12;
+        link = place + UIR_NEXT_UIR;
         place = uir.next_uir;
     }
     Ok(None)
@@ -148,7 +151,7 @@ fn take_whole<A: Area>(area: &mut A, fit: Fit, need: u64) -> Result<(), AreaErro
     ensures area { Edits A.frame A.faults area.old area.new result }
 {
     relink(area, fit, fit.next, fit.before)?;
-    clear(area, fit.place + 12, need - 12)
+    clear(area, fit.place + LEAST_SIZE, need - LEAST_SIZE)
 }
 
 /// Takes a record of the list in part: the rest stays at its higher end, in its place of the list.
@@ -166,7 +169,7 @@ fn take_part<A: Area>(area: &mut A, fit: Fit, need: u64) -> Result<(), AreaError
     list(area, rest, fit.size - need, fit.next, fit.before)?;
     relink(area, fit, rest, rest)?;
     set_record_size(area, fit.place, need)?;
-    clear(area, fit.place + 12, need - 12)
+    clear(area, fit.place + LEAST_SIZE, need - LEAST_SIZE)
 }
 
 /// Takes a record of the list, whole or in part.
@@ -216,7 +219,7 @@ pub fn alloc_record<A: Area>(area: &mut A, need: u64) -> Result<u64, AreaError>
     ensures content { OnOk result (content (A.image area.new) ≡ content (A.image area.old)) }
     ensures area { Edits A.frame A.faults area.old area.new result }
 {
-    let gdr = read_unsigned8(area, 20)?;
+    let gdr = read_unsigned8(area, CDR_PLACE + CDR_GDR_OFFSET)?;
     let Some(fit) = first_fit(area, gdr, need)? else {
         return take_end(area, gdr, need);
     };
@@ -237,9 +240,9 @@ pub fn place_record<A: Area>(area: &mut A, bytes: &[u8]) -> Result<u64, AreaErro
     ensures content { OnOk result (content (A.image area.new) ≡ content (A.image area.old)) }
     ensures area { Edits A.frame A.faults area.old area.new result }
 {
-    let need = 8 + bytes.len() as u64;
+    let need = RECORD_TYPE + bytes.len() as u64;
     let place = alloc_record(area, need)?;
-    area.set(place + 8, bytes)?;
+    area.set(place + RECORD_TYPE, bytes)?;
     Ok(place)
 }
 
@@ -256,16 +259,16 @@ pub fn free_record<A: Area>(area: &mut A, place: u64) -> Result<(), AreaError>
 {
     let _length = area.size();
     let size = read_unsigned8(area, place)?;
-    let gdr = read_unsigned8(area, 20)?;
-    let next = read_unsigned8(area, gdr + 64)?;
+    let gdr = read_unsigned8(area, CDR_PLACE + CDR_GDR_OFFSET)?;
+    let next = read_unsigned8(area, gdr + GDR_UIR_HEAD)?;
     set_record_type(area, place, -1)?;
-    if size < 28 {
+    if size < LINKED_SIZE {
         return Ok(());
     }
     set_uir_next_uir(area, place, next)?;
     set_uir_prev_uir(area, place, 0)?;
     let head = Fit {
-        link: gdr + 64,
+        link: gdr + GDR_UIR_HEAD,
         before: 0,
         place,
         size,

@@ -1,4 +1,4 @@
-use Rattle.std.proofs.Common.{◌≡◌, ◌≤◌, ◌-◌}
+use Rattle.std.proofs.Common.{◌≤◌, ◌-◌}
 use Rattle.cdf_area.specs.Calls.{Keeps}
 use Rattle.cdf_space.specs.Fits.{Cleared}
 use Rattle.cdf_space.proofs.placing.clear.Given as goal

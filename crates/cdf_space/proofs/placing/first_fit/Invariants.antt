@@ -1,4 +1,3 @@
-use Rattle.std.proofs.Common.{◌≡◌, ◌≤◌}
 use Rattle.cdf_area.specs.Calls.{Stays}
 use Rattle.cdf_format.specs.Shape.{shape}
 use Rattle.cdf_space.proofs.FirstFit.{IsOnTheList}

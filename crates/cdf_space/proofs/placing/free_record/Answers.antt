@@ -52,30 +52,30 @@ set_record_type-requires g c =
     let same = ap length (c.in_ok-next.ensures.area.image ∙ c.in_ok-gdr.ensures.area.image ∙ c.in_ok-size.ensures.area.image) in
     omega arith
 
-small_given : (g : _) (c : goal.Then-size-lt28 g) → IsGiven (g.A.Area.image c.args.area.now) (g.A.Area.image c.set_record_type.new.area) (shape (g.A.Area.image c.args.area.now)) (shape (g.A.Area.image c.set_record_type.new.area)) c.args.place
+small_given : (g : _) (c : goal.Then-size-lt-LINKED_SIZE g) → IsGiven (g.A.Area.image c.args.area.now) (g.A.Area.image c.set_record_type.new.area) (shape (g.A.Area.image c.args.area.now)) (shape (g.A.Area.image c.set_record_type.new.area)) c.args.place
 small_given g c =
     let b = g.A.Area.image c.args.area.now in
     let now = g.A.Area.image c.set_record_type.new.area in
     let same = c.in_ok-next.ensures.area.image ∙ c.in_ok-gdr.ensures.area.image ∙ c.in_ok-size.ensures.area.image in
     let size = size_read b c.args.place c.in_ok-size.size c.in_ok-size.ensures.value in
-    let less = c.if-size-lt28.true in
+    let less = c.if-size-lt-LINKED_SIZE.true in
     freed_small b (shape b) c.args.place c.requires.sound c.requires.stands c.requires.free now (subst (λ (n : ℕ). n < 28) size less) (c.in_ok-set_record_type.ensures.ok ∙ ap (λ x. with_field x c.args.place record_type uir_type) same)
 
-pub returns-then-size-lt28-clause-gives : goal.returns-then-size-lt28-clause-gives
-returns-then-size-lt28-clause-gives g c = (small_given g c).0
+pub returns-then-size-lt-LINKED_SIZE-clause-gives : goal.returns-then-size-lt-LINKED_SIZE-clause-gives
+returns-then-size-lt-LINKED_SIZE-clause-gives g c = (small_given g c).0
 
-pub returns-then-size-lt28-clause-sound : goal.returns-then-size-lt28-clause-sound
-returns-then-size-lt28-clause-sound g c = (small_given g c).1
+pub returns-then-size-lt-LINKED_SIZE-clause-sound : goal.returns-then-size-lt-LINKED_SIZE-clause-sound
+returns-then-size-lt-LINKED_SIZE-clause-sound g c = (small_given g c).1
 
-pub returns-then-size-lt28-clause-content : goal.returns-then-size-lt28-clause-content
-returns-then-size-lt28-clause-content g c = (small_given g c).2
+pub returns-then-size-lt-LINKED_SIZE-clause-content : goal.returns-then-size-lt-LINKED_SIZE-clause-content
+returns-then-size-lt-LINKED_SIZE-clause-content g c = (small_given g c).2
 
 pub set_uir_next_uir-requires : goal.set_uir_next_uir-requires
 set_uir_next_uir-requires g c =
     let b = g.A.Area.image c.args.area.now in
     let e = ends b (shape b) c.args.place c.requires.sound c.requires.stands c.requires.free in
     let size = size_read b c.args.place c.in_ok-size.size c.in_ok-size.ensures.value in
-    let large = c.if-size-lt28.false in
+    let large = c.if-size-lt-LINKED_SIZE.false in
     let same = ap length (c.in_ok-next.ensures.area.image ∙ c.in_ok-gdr.ensures.area.image ∙ c.in_ok-size.ensures.area.image) in
     let long1 = c.in_ok-set_record_type.ensures.area.size in
     omega arith
@@ -85,7 +85,7 @@ set_uir_prev_uir-requires g c =
     let b = g.A.Area.image c.args.area.now in
     let e = ends b (shape b) c.args.place c.requires.sound c.requires.stands c.requires.free in
     let size = size_read b c.args.place c.in_ok-size.size c.in_ok-size.ensures.value in
-    let large = c.if-size-lt28.false in
+    let large = c.if-size-lt-LINKED_SIZE.false in
     let same = ap length (c.in_ok-next.ensures.area.image ∙ c.in_ok-gdr.ensures.area.image ∙ c.in_ok-size.ensures.area.image) in
     let long1 = c.in_ok-set_record_type.ensures.area.size in
     let long2 = c.in_ok-set_uir_next_uir.ensures.area.size in
@@ -140,7 +140,7 @@ first_given g c w =
     let size = size_read b c.args.place c.in_ok-size.size c.in_ok-size.ensures.value in
     let short : length b < 2 ^ 64 = let l = c.size-length.ensures in let t = c.size-length.type_inv in omega arith in
     let small : c.in_ok-next.next < 2 ^ 64 = subst (λ n. n < 2 ^ 64) (sym next) (head_small b (shape b) c.args.place c.requires.sound c.requires.stands c.requires.free short) in
-    let large : 28 ≤ size_at b c.args.place = let l = c.if-size-lt28.false in omega arith in
+    let large : 28 ≤ size_at b c.args.place = let l = c.if-size-lt-LINKED_SIZE.false in omega arith in
     freed_first b (shape b) c.args.place c.requires.sound c.requires.stands c.requires.free (g.A.Area.image c.set_record_type.new.area) (g.A.Area.image c.set_uir_next_uir.new.area) (g.A.Area.image c.set_uir_prev_uir.new.area) (g.A.Area.image c.relink.new.area) _
     large c.ranges.place.fits small (ap (λ n. n + 64) is) next (c.in_ok-set_record_type.ensures.ok ∙ ap (λ x. with_field x c.args.place record_type uir_type) same) c.in_ok-set_uir_next_uir.ensures.ok c.in_ok-set_uir_prev_uir.ensures.ok w
 
