@@ -207,17 +207,13 @@ fn read_held<F: Read + OpenFile>(
 ) -> Result<MemFile, AttachError>
     ensures { IfOk result (λ held. string_bytes held.name ≡ name.now) }
 {
-    let Ok(name) = String::from_str(alloc, name) else {
-        return Err(AttachError::NoMemory);
-    };
+    let name = String::from_str(alloc, name)?;
     let length = match file.metadata() {
         Ok(metadata) => metadata.len(),
         Err(error) => return Err(attach_error(error.kind())),
     };
     let mut bytes = Vec::new(alloc);
-    if bytes.reserve_exact(length as usize).is_err() {
-        return Err(AttachError::NoMemory);
-    }
+    bytes.reserve_exact(length as usize)?;
     read_to_end(file, &mut bytes)?;
     Ok(MemFile { name, bytes })
 }
@@ -228,11 +224,7 @@ fn read_to_end<F: Read>(file: &mut F, bytes: &mut Vec<u8>) -> Result<(), AttachE
     for _ in 0..u64::MAX {
         match file.read(&mut piece) {
             Ok(0) => return Ok(()),
-            Ok(count) => {
-                if bytes.extend_from_slice(&piece[..count]).is_err() {
-                    return Err(AttachError::NoMemory);
-                }
-            }
+            Ok(count) => bytes.extend_from_slice(&piece[..count])?,
             Err(error) if error.kind() == ErrorKind::Interrupted => {}
             Err(error) => return Err(attach_error(error.kind())),
         }

@@ -21,6 +21,16 @@ pub enum AttachError {
     NoMemory,
 }
 
+impl From<AllocError> for AttachError {
+    ghost use Rattle.cdf_store.specs.declared.store.AttachError.TheVariants.{NoMemory};
+
+    ghost from_gives = { λ _ e. e ≡ NoMemory };
+
+    fn from(_: AllocError) -> Self {
+        AttachError::NoMemory
+    }
+}
+
 /// A device with named files, of which at most one is attached.
 pub trait Store {
     /// The type of what stands beneath the device.

@@ -52,7 +52,7 @@ pub struct WeakFiles {
     pub writes: Option<usize>,
 }
 
-/// A file whose every other call is interrupted, and which takes two bytes at once and `left` in all.
+/// A file whose every other call is interrupted, which gives and takes two bytes at once, and takes `left` in all.
 #[derive(Drop)]
 pub struct WeakFile {
     file: File,
@@ -74,7 +74,8 @@ impl WeakFile {
 impl Read for WeakFile {
     fn read(&mut self, buf: &mut [u8]) -> Result<usize> {
         self.call()?;
-        self.file.read(buf)
+        let most = buf.len().min(2);
+        self.file.read(&mut buf[..most])
     }
 }
 
