@@ -32,6 +32,7 @@ pub use gdr::{
     set_gdr_r_dim_size, set_gdr_r_max_rec, set_gdr_r_num_dims, set_gdr_r_vdr_head,
     set_gdr_uir_head, set_gdr_z_vdr_head,
 };
+pub use name::padded;
 pub use uir::{set_uir_next_uir, set_uir_prev_uir};
 pub use vdr::{
     set_vdr_blocking_factor, set_vdr_cpr_or_spr_offset, set_vdr_flags, set_vdr_max_rec,

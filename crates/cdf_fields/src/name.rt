@@ -6,13 +6,14 @@ ghost use Rattle.cdf_format.specs.Fields.{LiesIn, with_name};
 ghost use Rattle.cdf_format.specs.Records.{field};
 
 use cdf_area::{Area, AreaError};
+use cdf_format::fields::NAME_SIZE;
 
 /// The bytes of a name, and bytes 0 after it up to 256.
-fn padded(name: &[u8]) -> [u8; 256]
+pub fn padded(name: &[u8]) -> [u8; NAME_SIZE]
     requires { length name.now ≤ 256 }
     ensures { result ≡ name.now ++ replicate (256 - length name.now) 0 }
 {
-    let mut bytes = [0u8; 256];
+    let mut bytes = [0u8; NAME_SIZE];
     bytes[..name.len()].copy_from_slice(name);
     bytes
 }

@@ -7,7 +7,7 @@ ghost use Rattle.cdf_format.specs.Fields.{LiesIn, name_at, name_field, type_at};
 
 use crate::numbers::read_unsigned4;
 use cdf_area::{Area, AreaError};
-use cdf_format::fields::{ADR_NAME, ADR_TYPE, RECORD_TYPE, VDR_NAME};
+use cdf_format::fields::{ADR_NAME, ADR_TYPE, NAME_SIZE, RECORD_TYPE, VDR_NAME};
 use cdf_model::Bytes;
 use std::alloc::Global;
 
@@ -46,7 +46,7 @@ pub fn read_name<A: Area>(alloc: Global, area: &mut A, at: u64) -> Result<Bytes,
 {
     let _size = area.size();
     let record_type = read_unsigned4(area, at + RECORD_TYPE)?;
-    let mut bytes = [0u8; 256];
+    let mut bytes = [0u8; NAME_SIZE];
     area.get(at + name_place(record_type), &mut bytes)?;
     let length = name_length(&bytes);
     Ok(Bytes::new(bytes[..length].to_vec(alloc)?))
