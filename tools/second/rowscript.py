@@ -1,0 +1,62 @@
+"""Lines of a script as commands, of those on attributes and their entries, and quoted text."""
+from layout import TYPE_NAMED
+from model import Command
+
+ESCAPED = {ord('"'): ord('"'), ord('\\'): ord('\\')}
+
+
+def quoted(data):
+    """A text between quotes."""
+    return '"' + ''.join('\\' + chr(b) if b in ESCAPED else chr(b) if 32 <= b < 127 else f'\\x{b:02x}' for b in data) + '"'
+
+
+def quoted_word(line, at):
+    """The bytes of the word whose opening quote stands before a place, and the place behind its closing quote."""
+    word = bytearray()
+    while line[at] != ord('"'):
+        if line[at] != ord('\\'):
+            word.append(line[at])
+            at += 1
+        elif line[at + 1] == ord('x'):
+            word.append(int(line[at + 2:at + 4], 16))
+            at += 4
+        else:
+            word.append(ESCAPED[line[at + 1]])
+            at += 2
+    return bytes(word), at + 1
+
+
+def words_of(line):
+    """The words of a line that is a command."""
+    if b'"' not in line:
+        return line.replace(b'\t', b' ').split(b' ') if b'  ' not in line and b'\t' not in line else line.split()
+    words, at = [], 0
+    while at < len(line):
+        if line[at] in b' \t':
+            at += 1
+        elif line[at] == ord('"'):
+            word, at = quoted_word(line, at + 1)
+            words.append(word)
+        else:
+            end = at
+            while end < len(line) and line[end] not in b' \t':
+                end += 1
+            words.append(line[at:end])
+            at = end
+    return words
+
+
+def command_of(words):
+    kind, rest = words[0].decode(), words[1:]
+    if kind == 'attr':
+        return Command(kind, name=rest[0], scope=1 if rest[1] == b'global' else 2)
+    if kind == 'rename-attr':
+        return Command(kind, name=rest[0], to=rest[1])
+    if kind == 'del-attr':
+        return Command(kind, name=rest[0])
+    if kind == 'put-entry':
+        return Command(kind, name=rest[0], entry=rest[1].decode(), num=int(rest[2]),
+                       type=TYPE_NAMED[rest[3].decode()].code, words=rest[4:])
+    if kind in ('get-entry', 'del-entry'):
+        return Command(kind, name=rest[0], entry=rest[1].decode(), num=int(rest[2]))
+    return Command(kind)

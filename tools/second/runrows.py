@@ -1,0 +1,275 @@
+"""Runs rows of whole runs (crates/cdf_rows/data) by the editor: python3 runrows.py FILE.. [--after TITLE].
+
+The files are read one after the other, as cdf_rows reads them: what one tells of files stays for the next. Of each row
+it says whether the editor writes the same text, ends with the same status and leaves the same file. A line to which the
+row answers BadLine counts as no command. A verdict is right where the rule is broken at the place, whichever of several
+is named; of rules 99 it knows nothing. Of the words it knows --new, --no-save and --space. With --after it prints what
+the run of a row leaves, as lines of a file of rows.
+"""
+import sys
+from dataclasses import dataclass, field
+
+from content import content
+from editor import apply
+from image import Image
+from layout import (ADR, AGREDR, AZEDR, CDR, ENTRY_VALUE, GDR, NAME_BYTES, TEXT_TYPES, TYPES, UIR, Adr, Aedr, Cdr, Gdr,
+                    Uir, fresh_image)
+from model import READERS, Refused
+from rowscript import command_of, quoted, words_of
+from validator import broken
+from worked import space
+
+REASONS = ('BadLine NoSuchAttr NoSuchVar NoSuchTap BadName NameTaken WrongScope NoSuchEntry NumberOutOfRange BadShape '
+           'WrongCount BadValue IndexOutOfRange RecordOutOfRange InUse TooLarge').split()
+SCOPES = {1: 'global', 2: 'variable', 3: 'global-assumed', 4: 'variable-assumed'}
+USAGE = b'usage: cdfedit [--new] [--check] [--no-save] [--space] [--make N] FILE\n'
+
+
+@dataclass
+class Row:
+    title: str
+    words: list = field(default_factory=lambda: ['a.cdf'])
+    before: str = 'new'
+    script: bytes = b''
+    text: bytes = b''
+    status: int = 0
+    after: str = None
+
+
+class Table:
+    """The files and the rows that files of rows tell."""
+
+    def __init__(self):
+        self.files, self.rows, self.last = {}, [], None
+
+    def read(self, name):
+        with open(name, encoding='utf-8') as file:
+            for line in file.read().split('\n'):
+                key, _, rest = line.lstrip().partition(' ')
+                if key and key != '#':
+                    getattr(self, 'take_' + key)(rest)
+
+    def take_file(self, text):
+        name, size, *base = text.split()
+        data = self.files[base[0]] if base else b''
+        self.files[name] = bytearray(data[:int(size)].ljust(int(size), b'\0'))
+        self.last = self.files[name]
+
+    def take_at(self, text):
+        place, _, digits = text.partition(' ')
+        data = bytes.fromhex(digits)
+        room = len(self.last) - int(place)
+        self.last[int(place):int(place) + min(room, len(data))] = data[:room]
+
+    def take_row(self, text):
+        self.rows.append(Row(text))
+
+    def take_words(self, text):
+        self.rows[-1].words = ['' if word == '""' else word for word in text.split()]
+
+    def take_before(self, text):
+        self.rows[-1].before = text
+
+    def take_after(self, text):
+        self.rows[-1].after = text
+
+    def take_script(self, text):
+        self.rows[-1].script += text.encode() + b'\n'
+
+    def take_last(self, text):
+        self.rows[-1].script += text.encode()
+
+    def take_bytes(self, text):
+        self.rows[-1].script += bytes.fromhex(text)
+
+    def take_repeat(self, text):
+        count, _, digits = text.partition(' ')
+        self.rows[-1].script += bytes.fromhex(digits) * int(count)
+
+    def take_text(self, text):
+        self.rows[-1].text += text.encode() + b'\n'
+
+    def take_status(self, text):
+        self.rows[-1].status = int(text)
+
+
+# Replies
+
+def values_text(data_type, elems, network):
+    if data_type.code in TEXT_TYPES:
+        return quoted(network)
+    parts = [network[i:i + data_type.size] for i in range(0, len(network), data_type.size)]
+    if data_type.signed is None:
+        return ' '.join(part.hex() for part in parts)
+    return ' '.join(str(int.from_bytes(part, 'big', signed=data_type.signed)) for part in parts)
+
+
+def head_text(d):
+    dims = ','.join(map(str, d.rdims)) or '-'
+    return (f'version 3.{d.release}.{d.increment} encoding {d.encoding} majority {"row" if d.row else "column"} checksum '
+            f'{"md5" if d.md5 else "none"} rdims {dims} attributes {len(d.attributes)} rvars {len(d.r)} zvars {len(d.z)}')
+
+
+def reply_text(number, c, d, reply):
+    """What is written for a command that is done."""
+    if c.kind == 'info':
+        return f'{number} ok {head_text(d)}\n'
+    if c.kind == 'list':
+        lines = [f'attribute {i} {quoted(a.name)} {SCOPES[a.scope]}' for i, a in enumerate(d.attributes)]
+        lines += [f'{kind}var {i} {quoted(v.name)}' for kind, vs in (('r', d.r), ('z', d.z)) for i, v in enumerate(vs)]
+        return '\n'.join([f'{number} ok', *lines, f'{number} end']) + '\n'
+    if c.kind == 'get-entry':
+        data_type, elems, network = TYPES[reply[0]], reply[1], reply[2]
+        return f'{number} ok {data_type.name} {elems} {values_text(data_type, elems, network)}\n'
+    return f'{number} ok\n'
+
+
+def refusal_text(number, refusal):
+    more = ''.join(f' {n}' for n in refusal.more)
+    return f'{number} refused {refusal.number} {REASONS[refusal.number - 1]}{more}\n'
+
+
+# A run
+
+class Run:
+    def __init__(self, row, before):
+        self.row, self.before = row, before
+        self.text, self.status = b'', 0
+        self.after = before
+
+    def bad_line_of(self, number):
+        """The reply to a line that the row takes as no command."""
+        start = f'{number} refused 1 BadLine '.encode()
+        return next((line + b'\n' for line in self.row.text.split(b'\n') if line.startswith(start)), None)
+
+    def carry_out(self, image):
+        lines = self.row.script.split(b'\n')
+        for number, line in enumerate(lines[:-1] if not lines[-1] else lines, 1):
+            if not line.strip(b' \t') or line.strip(b' \t').startswith(b'#'):
+                continue
+            bad = self.bad_line_of(number)
+            if bad:
+                self.text += bad
+                self.status = 1
+                continue
+            image = self.one_line(image, number, line)
+        return image
+
+    def one_line(self, image, number, line):
+        c = command_of(words_of(line))
+        try:
+            edited, d, reply = apply(bytes(image), c)
+        except Refused as refusal:
+            self.text += refusal_text(number, refusal).encode()
+            self.status = 1
+            return image
+        self.text += reply_text(number, c, d, reply).encode()
+        return image if c.kind in READERS else bytes(edited.data)
+
+    def go(self):
+        flags = [word for word in self.row.words if word.startswith('--')]
+        if self.before is None and '--new' not in flags:
+            self.text, self.status = b'no file\n', 3
+            return
+        wrong = [] if '--new' in flags else broken(bytes(self.before))
+        if wrong:
+            self.status = 4
+            lines = [f'rejected {phase} {rule} {at}\n'.encode() for phase, rule, at in wrong]
+            self.text = self.row.text if self.row.text in lines else lines[0]
+            return
+        image = self.carry_out(bytes(fresh_image()) if '--new' in flags else bytes(self.before))
+        if '--space' in flags:
+            eof, used, listed, listed_bytes, loose, loose_bytes = space(Image(image))
+            self.text += (f'space eof {eof} used {used} listed {listed} {listed_bytes} unlisted {loose} {loose_bytes}\n'
+                          ).encode()
+        if '--no-save' not in flags:
+            self.after = image
+
+
+def wrong_parts(row, table):
+    """What of a row the editor has otherwise, and the run."""
+    before = None if row.before == 'none' else table.files[row.before]
+    run = Run(row, before)
+    run.go()
+    after = before if row.after is None else table.files[row.after] if row.after != 'none' else None
+    wrong = []
+    if run.text != row.text:
+        wrong.append(f'the text {run.text[:400]!r}')
+    if run.status != row.status:
+        wrong.append(f'the status {run.status}')
+    if run.after != after:
+        wrong.append('the file')
+    return wrong, run
+
+
+# A file as lines
+
+RECORDS = {CDR: ('CDR', Cdr), GDR: ('GDR', Gdr), ADR: ('ADR', Adr), AGREDR: ('entry', Aedr), AZEDR: ('entry', Aedr),
+           UIR: ('unused record', Uir)}
+
+
+def pieces_of(image, tile):
+    """The fields of a record, each with its name, and what follows them."""
+    _, fields = RECORDS[tile.type]
+    yield 'size', tile.at, 8
+    yield 'type', tile.at + 8, 4
+    upto = 12
+    for name, piece in vars(fields).items():
+        if tile.type == UIR and tile.size < 28:
+            break
+        if name not in ('Name', 'Copyright'):
+            yield name, tile.at + piece.offset, piece.width
+            upto = piece.offset + piece.width
+    if tile.type == ADR:
+        yield 'Name', tile.at + upto, NAME_BYTES
+    yield 'rest', tile.at + upto, tile.size - upto
+
+
+def lines_of_file(name, base_name, base, data):
+    """A file by what differs from another: the lines of a file of rows."""
+    image = Image(data)
+    yield f'file {name} {len(data)} {base_name}'
+    old = bytes(base[:len(data)]).ljust(len(data), b'\0')
+    for tile in image.tiles():
+        told, bytes_told = [], []
+        for field_name, at, width in pieces_of(image, tile):
+            new = bytes(data[at:at + width])
+            if width > 0 and new != old[at:at + width]:
+                is_text = field_name in ('Name', 'rest')
+                shown = new.rstrip(b'\0') if field_name == 'Name' and not old[at:at + width].strip(b'\0') else new
+                value = quoted(shown) if is_text else int.from_bytes(new, 'big', signed=True)
+                told.append(f'{"value" if field_name == "rest" else field_name} {value}')
+                if bytes_told and bytes_told[-1][0] + len(bytes_told[-1][1]) == at:
+                    bytes_told[-1] = bytes_told[-1][0], bytes_told[-1][1] + shown, bytes_told[-1][2] + ' ' + shown.hex()
+                else:
+                    bytes_told.append((at, shown, shown.hex()))
+        if told:
+            yield f'  # {RECORDS[tile.type][0]} at {tile.at}: ' + ', '.join(told)
+            yield from (f'  at {at} {digits}' for at, _, digits in bytes_told)
+
+
+def main():
+    names, title = sys.argv[1:], None
+    if '--after' in names:
+        at = names.index('--after')
+        names, title = names[:at], names[at + 1]
+    table, wrong = Table(), 0
+    for name in names:
+        table.rows = []
+        table.read(name)
+        for row in table.rows:
+            if title is not None:
+                if row.title == title:
+                    run = wrong_parts(row, table)[1]
+                    print(*lines_of_file(row.after or 'after', row.before, table.files[row.before], run.after), sep='\n')
+                continue
+            parts, _ = wrong_parts(row, table)
+            wrong += bool(parts)
+            print(f'  wrong: {row.title}: ' + '; '.join(parts) if parts else f'  right: {row.title}')
+    if title is None:
+        print(wrong, 'wrong')
+    return 1 if wrong else 0
+
+
+if __name__ == '__main__':
+    sys.exit(main())
