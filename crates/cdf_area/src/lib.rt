@@ -3,8 +3,6 @@
 
 mod area;
 mod mem_area;
-#[cfg(test)]
-mod tests;
 mod undo_log;
 
 pub use area::{Area, AreaError};

@@ -20,6 +20,3 @@ mod verdict;
 
 pub use validator::check;
 pub use verdict::Broken;
-
-#[cfg(test)]
-mod tests;

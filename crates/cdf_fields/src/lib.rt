@@ -9,8 +9,6 @@ mod cvvr;
 mod gdr;
 pub mod laws;
 mod name;
-#[cfg(test)]
-mod tests;
 mod uir;
 mod vdr;
 mod vxr;

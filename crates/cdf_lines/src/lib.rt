@@ -10,6 +10,3 @@ mod text;
 
 pub use line::{LINE_LIMIT, Line};
 pub use lines::Lines;
-
-#[cfg(test)]
-mod tests;

@@ -13,8 +13,6 @@ pub mod laws;
 pub mod limits;
 mod list;
 mod pad;
-#[cfg(test)]
-mod tests;
 mod words;
 
 pub use answer::{LineError, Outcome, Reason, Reply};

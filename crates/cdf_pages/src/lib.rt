@@ -4,8 +4,6 @@
 mod read;
 mod saving;
 mod store_area;
-#[cfg(test)]
-mod tests;
 mod writing;
 
 pub use store_area::StoreArea;

@@ -13,8 +13,6 @@ pub mod laws;
 mod name;
 mod numbers;
 mod steps;
-#[cfg(test)]
-mod tests;
 mod uir;
 mod vdr;
 mod vxr;

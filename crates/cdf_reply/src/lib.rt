@@ -8,6 +8,3 @@ mod reason;
 mod reply;
 
 pub use reply::reply_text;
-
-#[cfg(test)]
-mod tests;

@@ -5,8 +5,6 @@ pub mod laws;
 mod packing;
 mod reading;
 mod stretches;
-#[cfg(test)]
-mod tests;
 
 pub use packing::encode;
 pub use reading::{RleError, decode_into};

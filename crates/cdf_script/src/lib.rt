@@ -13,6 +13,3 @@ mod word;
 mod word_text;
 
 pub use parsing::{ParseError, Parsed, is_blank_line, parse, parse_line};
-
-#[cfg(test)]
-mod tests;

@@ -7,6 +7,3 @@ mod shape;
 
 pub use place::place_of;
 pub use shape::{Shape, record_bytes};
-
-#[cfg(test)]
-mod tests;

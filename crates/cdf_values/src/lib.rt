@@ -14,6 +14,3 @@ pub use order::{from_network, to_network};
 pub use quoted::quoted_text;
 pub use read::{ValueError, read_values};
 pub use write::write_values;
-
-#[cfg(test)]
-mod tests;

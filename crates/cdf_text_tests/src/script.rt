@@ -1,9 +1,9 @@
-//! Lines, with what they ask for.
+//! Lines of each command, with what they ask for.
 
-use crate::{ParseError, Parsed, parse_line};
 use cdf_model::{
     Bytes, Command, EntryKind, LineError, Majority, Nums, Scope, Sparse, Varys, Words,
 };
+use cdf_script::{ParseError, Parsed, parse_line};
 use std::alloc::{AllocError, Global};
 use std::process::Abort;
 use std::test::Fail;
@@ -346,80 +346,4 @@ fn each_command_has_its_words(rt: HostRuntime) -> Result<(), Fail> {
         expect(&rt, rt.alloc(), line, text)?;
     }
     Ok(())
-}
-
-#[test]
-fn a_word_is_its_bytes(rt: HostRuntime) -> Result<(), Fail> {
-    for (line, text) in [
-        (b"\"info\"".as_slice(), b" info".as_slice()),
-        (b" \t\"\\x69n\\x66o\"\t ", b" info"),
-        (
-            b"del-attr\t\"\\\"\\\\\\x00\\xfF \"",
-            b" del-attr [\"\\\x00\xff ]",
-        ),
-        (b"del-attr \x00\x80\xff#", b" del-attr [\x00\x80\xff#]"),
-        (b"del-attr a\\", b" del-attr [a\\]"),
-        (b"attr \"\" global", b" attr [] global"),
-        (b"get-rec \"V\" \"\\x31\"", b" get-rec [V] 1"),
-        (b"", b" blank"),
-        (b" \t ", b" blank"),
-        (b" # x", b" blank"),
-        (b"#\"", b" blank"),
-    ] {
-        expect(&rt, rt.alloc(), line, text)?;
-    }
-    Ok(())
-}
-
-#[test]
-fn the_first_fault_is_named(rt: HostRuntime) -> Result<(), Fail> {
-    for (line, text) in [
-        (b"list x".as_slice(), b" ExtraWord 5".as_slice()),
-        (b"attr \"a\"b global", b" BadQuote 8"),
-        (b"attr a\"b global", b" BadQuote 6"),
-        (b"rvar A INT5 1 vary -", b" UnknownWord 7"),
-        (b"set-blocking T 4294967296", b" BadNumber 15"),
-        (b"inf", b" UnknownWord 0"),
-        (b"info\r", b" UnknownWord 0"),
-        (b"  \"\"", b" UnknownWord 2"),
-        (b"attr X", b" MissingWord 6"),
-        (b"attr X ", b" MissingWord 7"),
-        (b"rename-attr A B C", b" ExtraWord 16"),
-        (b"get-rec T 01", b" BadNumber 10"),
-        (b"get-rec T \"\"", b" BadNumber 10"),
-        (b"get-rec T -1", b" BadNumber 10"),
-        (b"attr \"X global", b" BadQuote 5"),
-        (b"attr \"\\xZ\" global", b" BadHex 6"),
-        (b"attr \"\\x4\" global", b" BadHex 6"),
-        (b"attr \"\\n\" global", b" BadQuote 6"),
-        (b"attr \"\\\" global", b" BadQuote 5"),
-        (b"\"", b" BadQuote 0"),
-        (b"info \"a\\", b" BadQuote 5"),
-        (b"get-val V 1 \"\"", b" BadNumber 12"),
-        (b"get-val V 1 1,,2", b" BadNumber 12"),
-        (b"get-val V 1 1,", b" BadNumber 12"),
-        (b"get-val V 1 1,4294967296", b" BadNumber 12"),
-        (b"setup 1 row \"\"", b" BadNumber 12"),
-        (b"rvar V INT4 1 vary \"\"", b" UnknownWord 19"),
-        (b"rvar V INT4 1 vary TX", b" UnknownWord 19"),
-        (b"attr A global-assumed", b" UnknownWord 7"),
-        (b"nothing \"\\xZ\" \"", b" BadHex 9"),
-        (b"nothing a b", b" UnknownWord 0"),
-        (b"rvar A INT5 x", b" MissingWord 13"),
-        (b"get-rec T 01 x", b" ExtraWord 13"),
-        (b"put-entry A q x INT5 1", b" UnknownWord 12"),
-        (b"put-entry A g x INT5 1", b" BadNumber 14"),
-    ] {
-        expect(&rt, rt.alloc(), line, text)?;
-    }
-    Ok(())
-}
-
-#[test]
-fn a_line_past_the_limit_is_too_long(rt: HostRuntime) -> Result<(), Fail> {
-    let alloc = rt.alloc();
-    let mut line = vec![in alloc; b' '; 16_777_216]?;
-    expect(&rt, alloc, &line, b" blank")?;
-    line.push(b' ')?;
-    expect(&rt, alloc, &line, b" TooLong 16777216")
 }

@@ -1,19 +1,18 @@
 //! Values of each type, read and written.
 
-use crate::{ValueError, from_network, quoted_text, read_values, to_network, write_values};
-use cdf_model::{DataType, Encoding, Words, WordsBuilder, default_pad};
+use cdf_model::{DataType, Words, default_pad};
+use cdf_values::{ValueError, quoted_text, read_values, write_values};
 use std::alloc::{AllocError, Global};
 use std::process::Abort;
 use std::test::Fail;
 
 /// The words of a text, between commas.
 fn words_of(alloc: Global, text: &[u8]) -> Result<Words, AllocError> {
-    let mut words = WordsBuilder::new(alloc, text.len())?;
+    let mut words = Words::new(alloc);
     for word in text.split(|byte| *byte == b',') {
-        words.append(word)?;
-        words.end_word()?;
+        words.push(word)?;
     }
-    Ok(words.finish())
+    Ok(words)
 }
 
 /// Asserts that a word is read as these bytes, and that they are written as the word.
@@ -27,25 +26,14 @@ fn check_both_ways(
     let words = words_of(alloc, word)?;
     let read = read_values(alloc, t, 1, 1, &words)?;
     assert_eq!(rt; read.as_slice(), bytes, "{word:?} is read");
-    check_text(rt, alloc, t, bytes, word)
-}
-
-/// Asserts that the bytes of an element are written so.
-fn check_text(
-    rt: &impl Abort,
-    alloc: Global,
-    t: DataType,
-    bytes: &[u8],
-    want: &[u8],
-) -> Result<(), Fail> {
     assert!(rt; bytes.len() % t.size() as usize == 0);
     let text = write_values(alloc, t, 1, bytes)?;
-    assert_eq!(rt; text.as_slice(), want, "{bytes:?} are written");
+    assert_eq!(rt; text.as_slice(), word, "{bytes:?} are written");
     Ok(())
 }
 
 #[test]
-fn numbers_are_read_and_written(rt: HostRuntime) -> Result<(), Fail> {
+fn values_are_read_and_written(rt: HostRuntime) -> Result<(), Fail> {
     for (t, word, bytes) in [
         (DataType::Int1, b"-128".as_slice(), b"\x80".as_slice()),
         (DataType::Int1, b"127", b"\x7f"),
@@ -80,20 +68,7 @@ fn numbers_are_read_and_written(rt: HostRuntime) -> Result<(), Fail> {
         (DataType::UInt1, b"255", b"\xff"),
         (DataType::UInt2, b"65535", b"\xff\xff"),
         (DataType::UInt4, b"4294967295", b"\xff\xff\xff\xff"),
-    ] {
-        check_both_ways(&rt, rt.alloc(), t, word, bytes)?;
-    }
-    Ok(())
-}
-
-#[test]
-fn digits_are_read_and_written(rt: HostRuntime) -> Result<(), Fail> {
-    for (t, word, bytes) in [
-        (
-            DataType::Real4,
-            b"f149f2ca".as_slice(),
-            b"\xf1\x49\xf2\xca".as_slice(),
-        ),
+        (DataType::Real4, b"f149f2ca", b"\xf1\x49\xf2\xca"),
         (DataType::Float, b"00000001", b"\x00\x00\x00\x01"),
         (
             DataType::Real8,
@@ -118,9 +93,6 @@ fn digits_are_read_and_written(rt: HostRuntime) -> Result<(), Fail> {
     ] {
         check_both_ways(&rt, rt.alloc(), t, word, bytes)?;
     }
-    let words = words_of(rt.alloc(), b"F149f2Ca")?;
-    let read = read_values(rt.alloc(), DataType::Real4, 1, 1, &words)?;
-    assert_eq!(rt; read.as_slice(), b"\xf1\x49\xf2\xca".as_slice());
     Ok(())
 }
 
@@ -150,8 +122,6 @@ fn words_that_break_the_notation_are_refused(rt: HostRuntime) -> Result<(), Fail
             1,
             b"-129,128,-0,00,+1,,1 , 1,-,--1,-01,1x,99999999999999999999999".as_slice(),
         ),
-        (DataType::Byte, 1, b"-129,128,-0"),
-        (DataType::Int2, 1, b"-32769,32768"),
         (DataType::Int4, 1, b"-2147483649,2147483648"),
         (
             DataType::Int8,
@@ -171,50 +141,16 @@ fn words_that_break_the_notation_are_refused(rt: HostRuntime) -> Result<(), Fail
             1,
             b"0000000,000000000,0000000g,,0x000000,-0000001",
         ),
-        (DataType::Float, 1, b"0000000,000000000"),
         (DataType::Real8, 1, b"000000000000000,00000000000000000"),
-        (DataType::Double, 1, b"00000000"),
-        (DataType::Epoch, 1, b"000000000000000,00000000000000000"),
         (
             DataType::Epoch16,
             1,
             b"0000000000000000000000000000000,000000000000000000000000000000000",
         ),
         (DataType::Char, 3, b"ab,abcd,"),
-        (DataType::UChar, 3, b"ab,abcd,"),
     ] {
         check_refused(&rt, rt.alloc(), t, elems, text)?;
     }
-    Ok(())
-}
-
-/// Asserts why a text has no three values of INT4.
-fn check_why(rt: &impl Abort, alloc: Global, text: &[u8], want: ValueError) -> Result<(), Fail> {
-    let words = words_of(alloc, text)?;
-    match read_values(alloc, DataType::Int4, 1, 3, &words) {
-        Ok(_) => panic!(rt; "{text:?} is read"),
-        Err(error) => assert_eq!(rt; error, want, "{text:?}"),
-    }
-    Ok(())
-}
-
-#[test]
-fn the_count_is_told_before_the_first_bad_word(rt: HostRuntime) -> Result<(), Fail> {
-    let few = ValueError::WrongCount {
-        found: 2,
-        wanted: 3,
-    };
-    check_why(&rt, rt.alloc(), b"1,2", few)?;
-    check_why(&rt, rt.alloc(), b"x,y", few)?;
-    let many = ValueError::WrongCount {
-        found: 4,
-        wanted: 3,
-    };
-    check_why(&rt, rt.alloc(), b"1,2,3,4", many)?;
-    check_why(&rt, rt.alloc(), b"1,x,y", ValueError::BadValue { at: 1 })?;
-    let words = words_of(rt.alloc(), b"abc,d\"\0")?;
-    let read = read_values(rt.alloc(), DataType::Char, 3, 2, &words)?;
-    assert_eq!(rt; read.as_slice(), b"abcd\"\0".as_slice());
     Ok(())
 }
 
@@ -232,32 +168,6 @@ fn texts_of_values_have_blanks_between(rt: HostRuntime) -> Result<(), Fail> {
         b"\" ~\\x00\\x1f\\x7f\\x80\\xff\\x0a\"".as_slice()
     );
     Ok(())
-}
-
-#[test]
-fn elements_are_turned_round(rt: HostRuntime) {
-    let (big, little) = (
-        Encoding {
-            code: 1,
-            little: false,
-        },
-        Encoding {
-            code: 6,
-            little: true,
-        },
-    );
-    let mut halves = *b"\x00\x11\x22\x33\x44\x55\x66\x77\x88\x99\xaa\xbb\xcc\xdd\xee\xff";
-    from_network(DataType::Epoch16, little, &mut halves);
-    let turned = *b"\x77\x66\x55\x44\x33\x22\x11\x00\xff\xee\xdd\xcc\xbb\xaa\x99\x88";
-    assert_eq!(rt; halves, turned);
-    let mut pairs = [1, 2, 3, 4];
-    to_network(DataType::UInt2, little, &mut pairs);
-    assert_eq!(rt; pairs, [2, 1, 4, 3]);
-    to_network(DataType::Int4, little, &mut pairs);
-    assert_eq!(rt; pairs, [3, 4, 1, 2]);
-    to_network(DataType::Char, little, &mut pairs);
-    from_network(DataType::Int4, big, &mut pairs);
-    assert_eq!(rt; pairs, [3, 4, 1, 2]);
 }
 
 #[test]

@@ -1,7 +1,7 @@
 //! The digests of texts that RFC 1321 gives.
 
-use crate::digest_of;
 use cdf_area::{Area, MemArea};
+use cdf_seal::digest_of;
 use std::test::Fail;
 
 // RFC 1321, A.5: a text, and the digits of its digest.
