@@ -4,33 +4,12 @@ ghost use Rattle.std.specs.Prelude.{◌≡◌, ◌≤◌, length, OnOk};
 ghost use Rattle.std.specs.Int.{w32, cast_unsigned};
 ghost use Rattle.cdf_area.specs.Calls.{Overwrites};
 ghost use Rattle.cdf_format.specs.Fields.{LiesIn, with_field, with_name};
-ghost use Rattle.cdf_format.specs.Records.{adr_adr_next, adr_agr_edr_head, adr_num, adr_ngr_entries, adr_max_gr_entry, adr_az_edr_head, adr_nz_entries, adr_max_z_entry, adr_name};
+ghost use Rattle.cdf_format.specs.Records.{adr_num, adr_max_gr_entry, adr_max_z_entry, adr_name};
 
 use crate::name::set_name;
-use crate::width::{set_signed4, set_unsigned8};
+use crate::width::set_signed4;
 use cdf_area::{Area, AreaError};
-use cdf_format::fields::{
-    ADR_ADR_NEXT, ADR_AGR_EDR_HEAD, ADR_AZ_EDR_HEAD, ADR_MAX_GR_ENTRY, ADR_MAX_Z_ENTRY, ADR_NAME,
-    ADR_NGR_ENTRIES, ADR_NUM, ADR_NZ_ENTRIES,
-};
-
-/// ADRnext: the place of the next attribute, 0 for none.
-pub fn set_adr_adr_next<A: Area>(area: &mut A, at: u64, to: u64) -> Result<(), AreaError>
-    requires { LiesIn (A.image area.old) at adr_adr_next }
-    ensures ok { OnOk result (A.image area.new ≡ with_field (A.image area.old) at adr_adr_next to) }
-    ensures area { Overwrites A.image A.frame A.faults area.old area.new result }
-{
-    set_unsigned8(area, at, ADR_ADR_NEXT, to)
-}
-
-/// AgrEDRhead: the place of the first gr entry, 0 for none.
-pub fn set_adr_agr_edr_head<A: Area>(area: &mut A, at: u64, to: u64) -> Result<(), AreaError>
-    requires { LiesIn (A.image area.old) at adr_agr_edr_head }
-    ensures ok { OnOk result (A.image area.new ≡ with_field (A.image area.old) at adr_agr_edr_head to) }
-    ensures area { Overwrites A.image A.frame A.faults area.old area.new result }
-{
-    set_unsigned8(area, at, ADR_AGR_EDR_HEAD, to)
-}
+use cdf_format::fields::{ADR_MAX_GR_ENTRY, ADR_MAX_Z_ENTRY, ADR_NAME, ADR_NUM};
 
 /// Num: the number of the attribute.
 pub fn set_adr_num<A: Area>(area: &mut A, at: u64, to: i32) -> Result<(), AreaError>
@@ -41,15 +20,6 @@ pub fn set_adr_num<A: Area>(area: &mut A, at: u64, to: i32) -> Result<(), AreaEr
     set_signed4(area, at, ADR_NUM, to)
 }
 
-/// NgrEntries: the number of gr entries.
-pub fn set_adr_ngr_entries<A: Area>(area: &mut A, at: u64, to: i32) -> Result<(), AreaError>
-    requires { LiesIn (A.image area.old) at adr_ngr_entries }
-    ensures ok { OnOk result (A.image area.new ≡ with_field (A.image area.old) at adr_ngr_entries (cast_unsigned w32 to)) }
-    ensures area { Overwrites A.image A.frame A.faults area.old area.new result }
-{
-    set_signed4(area, at, ADR_NGR_ENTRIES, to)
-}
-
 /// MAXgrEntry: the greatest number of a gr entry, -1 for none.
 pub fn set_adr_max_gr_entry<A: Area>(area: &mut A, at: u64, to: i32) -> Result<(), AreaError>
     requires { LiesIn (A.image area.old) at adr_max_gr_entry }
@@ -57,24 +27,6 @@ pub fn set_adr_max_gr_entry<A: Area>(area: &mut A, at: u64, to: i32) -> Result<(
     ensures area { Overwrites A.image A.frame A.faults area.old area.new result }
 {
     set_signed4(area, at, ADR_MAX_GR_ENTRY, to)
-}
-
-/// AzEDRhead: the place of the first z entry, 0 for none.
-pub fn set_adr_az_edr_head<A: Area>(area: &mut A, at: u64, to: u64) -> Result<(), AreaError>
-    requires { LiesIn (A.image area.old) at adr_az_edr_head }
-    ensures ok { OnOk result (A.image area.new ≡ with_field (A.image area.old) at adr_az_edr_head to) }
-    ensures area { Overwrites A.image A.frame A.faults area.old area.new result }
-{
-    set_unsigned8(area, at, ADR_AZ_EDR_HEAD, to)
-}
-
-/// NzEntries: the number of z entries.
-pub fn set_adr_nz_entries<A: Area>(area: &mut A, at: u64, to: i32) -> Result<(), AreaError>
-    requires { LiesIn (A.image area.old) at adr_nz_entries }
-    ensures ok { OnOk result (A.image area.new ≡ with_field (A.image area.old) at adr_nz_entries (cast_unsigned w32 to)) }
-    ensures area { Overwrites A.image A.frame A.faults area.old area.new result }
-{
-    set_signed4(area, at, ADR_NZ_ENTRIES, to)
 }
 
 /// MAXzEntry: the greatest number of a z entry, -1 for none.

@@ -4,22 +4,13 @@ ghost use Rattle.std.specs.Prelude.{◌≡◌, OnOk};
 ghost use Rattle.std.specs.Int.{w32, cast_unsigned};
 ghost use Rattle.cdf_area.specs.Calls.{Overwrites};
 ghost use Rattle.cdf_format.specs.Fields.{LiesIn, with_field};
-ghost use Rattle.cdf_format.specs.Records.{aedr_aedr_next, aedr_attr_num, aedr_data_type, aedr_num, aedr_num_elems, aedr_num_strings};
+ghost use Rattle.cdf_format.specs.Records.{aedr_attr_num, aedr_data_type, aedr_num, aedr_num_elems, aedr_num_strings};
 
-use crate::width::{set_signed4, set_unsigned8};
+use crate::width::set_signed4;
 use cdf_area::{Area, AreaError};
 use cdf_format::fields::{
-    AEDR_AEDR_NEXT, AEDR_ATTR_NUM, AEDR_DATA_TYPE, AEDR_NUM, AEDR_NUM_ELEMS, AEDR_NUM_STRINGS,
+    AEDR_ATTR_NUM, AEDR_DATA_TYPE, AEDR_NUM, AEDR_NUM_ELEMS, AEDR_NUM_STRINGS,
 };
-
-/// AEDRnext: the place of the next entry, 0 for none.
-pub fn set_aedr_aedr_next<A: Area>(area: &mut A, at: u64, to: u64) -> Result<(), AreaError>
-    requires { LiesIn (A.image area.old) at aedr_aedr_next }
-    ensures ok { OnOk result (A.image area.new ≡ with_field (A.image area.old) at aedr_aedr_next to) }
-    ensures area { Overwrites A.image A.frame A.faults area.old area.new result }
-{
-    set_unsigned8(area, at, AEDR_AEDR_NEXT, to)
-}
 
 /// AttrNum: the number of the attribute.
 pub fn set_aedr_attr_num<A: Area>(area: &mut A, at: u64, to: i32) -> Result<(), AreaError>

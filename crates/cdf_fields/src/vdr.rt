@@ -4,24 +4,15 @@ ghost use Rattle.std.specs.Prelude.{◌≡◌, ◌≤◌, length, OnOk};
 ghost use Rattle.std.specs.Int.{w32, w64, cast_unsigned};
 ghost use Rattle.cdf_area.specs.Calls.{Overwrites};
 ghost use Rattle.cdf_format.specs.Fields.{LiesIn, with_field, with_name};
-ghost use Rattle.cdf_format.specs.Records.{vdr_vdr_next, vdr_max_rec, vdr_vxr_head, vdr_vxr_tail, vdr_flags, vdr_s_records, vdr_num, vdr_cpr_or_spr_offset, vdr_blocking_factor, vdr_name};
+ghost use Rattle.cdf_format.specs.Records.{vdr_max_rec, vdr_vxr_head, vdr_vxr_tail, vdr_flags, vdr_s_records, vdr_num, vdr_cpr_or_spr_offset, vdr_blocking_factor, vdr_name};
 
 use crate::name::set_name;
 use crate::width::{set_signed4, set_signed8, set_unsigned4, set_unsigned8};
 use cdf_area::{Area, AreaError};
 use cdf_format::fields::{
     VDR_BLOCKING_FACTOR, VDR_CPR_OR_SPR_OFFSET, VDR_FLAGS, VDR_MAX_REC, VDR_NAME, VDR_NUM,
-    VDR_S_RECORDS, VDR_VDR_NEXT, VDR_VXR_HEAD, VDR_VXR_TAIL,
+    VDR_S_RECORDS, VDR_VXR_HEAD, VDR_VXR_TAIL,
 };
-
-/// VDRnext: the place of the next variable of its kind, 0 for none.
-pub fn set_vdr_vdr_next<A: Area>(area: &mut A, at: u64, to: u64) -> Result<(), AreaError>
-    requires { LiesIn (A.image area.old) at vdr_vdr_next }
-    ensures ok { OnOk result (A.image area.new ≡ with_field (A.image area.old) at vdr_vdr_next to) }
-    ensures area { Overwrites A.image A.frame A.faults area.old area.new result }
-{
-    set_unsigned8(area, at, VDR_VDR_NEXT, to)
-}
 
 /// MaxRec: the greatest record number, -1 for none.
 pub fn set_vdr_max_rec<A: Area>(area: &mut A, at: u64, to: i32) -> Result<(), AreaError>

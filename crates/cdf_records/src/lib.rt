@@ -20,17 +20,14 @@ mod vxr;
 pub use adr::{Adr, read_adr};
 pub use aedr::{Aedr, read_aedr};
 pub use cdf_fields::{
-    set_adr_adr_next, set_adr_agr_edr_head, set_adr_az_edr_head, set_adr_max_gr_entry,
-    set_adr_max_z_entry, set_adr_name, set_adr_ngr_entries, set_adr_num, set_adr_nz_entries,
-    set_aedr_aedr_next, set_aedr_attr_num, set_aedr_data_type, set_aedr_num, set_aedr_num_elems,
-    set_aedr_num_strings, set_cdr_encoding, set_cdr_flags, set_cdr_gdr_offset, set_cvvr_c_size,
-    set_gdr_adr_head, set_gdr_eof, set_gdr_nr_vars, set_gdr_num_attr, set_gdr_nz_vars,
-    set_gdr_r_dim_size, set_gdr_r_max_rec, set_gdr_r_num_dims, set_gdr_r_vdr_head,
-    set_gdr_uir_head, set_gdr_z_vdr_head, set_record_size, set_record_type, set_signed4,
+    set_adr_max_gr_entry, set_adr_max_z_entry, set_adr_name, set_adr_num, set_aedr_attr_num,
+    set_aedr_data_type, set_aedr_num, set_aedr_num_elems, set_aedr_num_strings, set_cdr_encoding,
+    set_cdr_flags, set_cdr_gdr_offset, set_cvvr_c_size, set_gdr_eof, set_gdr_r_dim_size,
+    set_gdr_r_max_rec, set_gdr_r_num_dims, set_record_size, set_record_type, set_signed4,
     set_signed8, set_uir_next_uir, set_uir_prev_uir, set_unsigned4, set_unsigned8,
     set_vdr_blocking_factor, set_vdr_cpr_or_spr_offset, set_vdr_flags, set_vdr_max_rec,
-    set_vdr_name, set_vdr_num, set_vdr_s_records, set_vdr_vdr_next, set_vdr_vxr_head,
-    set_vdr_vxr_tail, set_vxr_n_used_entries, set_vxr_vxr_next,
+    set_vdr_name, set_vdr_num, set_vdr_s_records, set_vdr_vxr_head, set_vdr_vxr_tail,
+    set_vxr_n_used_entries, set_vxr_vxr_next,
 };
 pub use cdr::{Cdr, read_cdr};
 pub use cpr::{Cpr, read_cpr};
