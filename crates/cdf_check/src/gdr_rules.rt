@@ -7,6 +7,7 @@ ghost use Rattle.cdf_area.specs.Calls.{Reads};
 ghost use Rattle.cdf_model.specs.Limits.{image_limit};
 ghost use Rattle.cdf_format.specs.Fields.{counted, has_bit, is_positive, r_sizes};
 ghost use Rattle.cdf_format.specs.FileRules.{phase3, has_gdr, gdr_rows, is_gdr};
+ghost use Rattle.cdf_format.specs.Sealed.{trailer_size};
 ghost use Rattle.cdf_records.specs.Heads.{cdr_at, gdr_at};
 ghost use Rattle.cdf_records.specs.Pieces.{AreBytes};
 ghost use Rattle.cdf_check.specs.Verdicts.{Finds};
@@ -15,14 +16,11 @@ use crate::fields::{CHECKSUM, has_bit, is_record, unsigned};
 use crate::verdict::Finding;
 use cdf_area::{Area, AreaError};
 use cdf_format::fields::{
-    CDR_PLACE, GDR_R_DIM_SIZE, GDR_R_NUM_DIMS, GDR_SIZE, GDR_TYPE, RECORD_TYPE,
+    CDR_PLACE, GDR_R_DIM_SIZE, GDR_R_NUM_DIMS, GDR_SIZE, GDR_TYPE, RECORD_TYPE, TRAILER_SIZE,
 };
 use cdf_model::limits::{DIMENSION_LIMIT, IMAGE_LIMIT, SIGNED_LIMIT};
 use cdf_records::{Cdr, Gdr, read_cdr, read_gdr, read_nums};
 use std::alloc::Global;
-
-/// The bytes of a checksum.
-const DIGEST_LENGTH: u64 = 16;
 
 /// Whether the record is one of its type that ends within the file, with room for the sizes of its dimensions.
 #[tactic(auto, using(cdf_records::proofs::Places::word4_fits))]
@@ -57,10 +55,10 @@ fn are_sizes(sizes: &[u32]) -> bool
 
 /// How many bytes stand after the image of a file with these Flags.
 fn trailer_length(flags: u32) -> u64
-    ensures { result ≡ (if has_bit flags 2 then 16 else 0) }
+    ensures { result ≡ (if has_bit flags 2 then trailer_size else 0) }
 {
     if has_bit(flags, CHECKSUM) {
-        DIGEST_LENGTH
+        TRAILER_SIZE
     } else {
         0
     }

@@ -8,12 +8,13 @@ ghost use Rattle.cdf_check.specs.Verdicts.{Finds};
 
 use crate::verdict::Finding;
 use cdf_area::{Area, AreaError};
+use cdf_format::fields::TRAILER_SIZE;
 use cdf_model::limits::IMAGE_LIMIT;
 
 /// The bytes of both magic numbers.
 const MAGIC_LENGTH: u64 = 8;
-/// The longest image, and the checksum after it.
-const LONGEST_FILE: u64 = IMAGE_LIMIT + 16;
+/// The longest image, and the trailer after it.
+const LONGEST_FILE: u64 = IMAGE_LIMIT + TRAILER_SIZE;
 /// The first magic number of version 3.
 const VERSION_3: u32 = 0xcdf3_0001;
 /// The second magic number of a file that is not compressed as a whole.

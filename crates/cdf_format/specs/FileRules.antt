@@ -8,11 +8,11 @@ use Rattle.cdf_format.specs.Records.{past, gdr_eof, gdr_r_num_dims, gdr_r_dim_si
 use Rattle.cdf_format.specs.RecordTypes.{cdr_type, gdr_type, fixed_size}
 use Rattle.cdf_format.specs.NotRead.{unread_checksum}
 use Rattle.cdf_format.specs.Rules.{Row, row, asked}
-use Rattle.cdf_format.specs.Sealed.{has_checksum, trailer_length}
+use Rattle.cdf_format.specs.Sealed.{has_checksum, trailer_length, trailer_size}
 
 -- the length of the file: the bytes of the magic numbers, and the longest image with its trailer
 abbrev pub phase0 : List ℕ → List Row
-phase0 f = row 1 0 (nat_le 8 (length f)) ∷ row 2 0 (nat_le (length f) (image_limit + 16)) ∷ []
+phase0 f = row 1 0 (nat_le 8 (length f)) ∷ row 2 0 (nat_le (length f) (image_limit + trailer_size)) ∷ []
 
 -- the magic numbers: version 3, not compressed as a whole
 abbrev pub phase1 : List ℕ → List Row

@@ -11,8 +11,12 @@ has_checksum b = has_bit (flags b) 2
 abbrev pub trailer : List ℕ → List ℕ
 trailer b = if has_checksum b then md5 b else []
 
+-- the bytes of an MD5
+abbrev pub trailer_size : ℕ
+trailer_size = 16
+
 abbrev pub trailer_length : List ℕ → ℕ
-trailer_length f = if has_checksum f then 16 else 0
+trailer_length f = if has_checksum f then trailer_size else 0
 
 -- an image as it is saved
 abbrev pub sealed : List ℕ → List ℕ

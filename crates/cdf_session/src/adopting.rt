@@ -9,11 +9,9 @@ ghost use Rattle.cdf_format.specs.WellFormed.{WellFormed};
 use crate::reading::{CDR, has_checksum};
 use cdf_area::{Area, AreaError};
 use cdf_attrs::Attrs;
+use cdf_format::fields::TRAILER_SIZE;
 use cdf_records::read_cdr;
 use std::alloc::Global;
-
-/// The bytes of a checksum.
-const CHECKSUM: u64 = 16;
 
 /// The bytes that stand after the image of a well-formed file.
 fn trailer_size<A: Area>(area: &mut A) -> Result<u64, AreaError>
@@ -23,7 +21,7 @@ fn trailer_size<A: Area>(area: &mut A) -> Result<u64, AreaError>
 {
     let cdr = read_cdr(area, CDR)?;
     if has_checksum(cdr.flags) {
-        Ok(CHECKSUM)
+        Ok(TRAILER_SIZE)
     } else {
         Ok(0)
     }
