@@ -1,5 +1,5 @@
 -- What the records of an image take adds up to the image.
-use Rattle.std.proofs.Common.{◌≡◌, ℕ, ◌+◌, List, [], ◌∷◌, length, Bool, true, false, not, eqb, eq-eqb, refl, sym, ap, ap₂, subst, ◌∙◌, arith, inl, inr}
+use Rattle.std.proofs.Common.{◌≡◌, ◌≤◌, ℕ, suc, ◌+◌, List, [], ◌∷◌, length, Bool, true, false, not, eqb, eq-eqb, refl, sym, ap, ap₂, subst, ◌∙◌, arith, inl, inr}
 use Rattle.std.proofs.lemmas.Bool.{eqb-true}
 use Rattle.std.specs.List.{filter}
 use Rattle.cdf_format.specs.Fields.{size_at, type_at}
@@ -8,7 +8,7 @@ use Rattle.cdf_format.specs.Tiles.{In, Distinct, AreTiles}
 use Rattle.cdf_format.specs.Chains.{is_in}
 use Rattle.cdf_format.specs.Shape.{Shape, HasShape}
 use Rattle.cdf_format.specs.Owners.{unused_records, bytes_in, space_of}
-use Rattle.cdf_format.proofs.Members.{either, is_in-false}
+use Rattle.cdf_format.proofs.Members.{either, is_in-false, is_in-true, length-le_from_distinct, true-is_in}
 use Rattle.cdf_format.proofs.ChainsLemmas.{linkable-in, linkable-type}
 use Rattle.cdf_format.proofs.Owning.{tiles_distinct, filter-in}
 
@@ -37,6 +37,19 @@ parts_bytes b p (m ∷ ms) = let r = parts_bytes b p ms in elim (either (p m)) [
 
     right : (s x y z : ℕ) → x + y ≡ z → x + (s + y) ≡ s + z
     right s x y z e = omega arith
+
+parts_count : (p : ℕ → Bool) (ms : List ℕ) → length (filter p ms) + length (filter (λ m. not (p m)) ms) ≡ length ms
+parts_count p [] = refl
+parts_count p (m ∷ ms) = let r = parts_count p ms in elim (either (p m)) [
+  | inl e ↦ rw e (left (length (filter p ms)) (length (filter (λ m. not (p m)) ms)) (length ms) r)
+  | inr e ↦ rw e (right (length (filter p ms)) (length (filter (λ m. not (p m)) ms)) (length ms) r)
+]
+  where
+    left : (x y z : ℕ) → x + y ≡ z → suc x + y ≡ suc z
+    left x y z e = omega arith
+
+    right : (x y z : ℕ) → x + y ≡ z → x + suc y ≡ suc z
+    right x y z e = omega arith
 
 -- one member more among those that are looked for
 none_more : (b : List ℕ) (u : ℕ) (us xs : List ℕ) → (In u xs → ⊥) → bytes_in b (filter (λ m. is_in m (u ∷ us)) xs) ≡ bytes_in b (filter (λ m. is_in m us) xs)
@@ -79,6 +92,13 @@ in-filter p [] x i e = absurd i
 in-filter p (y ∷ ys) x (inl h) e = let here : p y ≡ true = ap p (sym h) ∙ e in rw here (inl h)
 in-filter p (y ∷ ys) x (inr i) e = let rest = in-filter p ys x i e in elim (either (p y)) [ inl t ↦ rw t (inr rest) | inr t ↦ rw t rest ]
 
+filter-holds : (p : ℕ → Bool) (xs : List ℕ) (x : ℕ) → In x (filter p xs) → p x ≡ true
+filter-holds p [] x i = absurd i
+filter-holds p (y ∷ ys) x i = elim (either (p y)) [
+  | inl e ↦ let j : In x (y ∷ filter p ys) = rw e at i in elim j [ inl h ↦ ap p h ∙ e | inr h ↦ filter-holds p ys x h ]
+  | inr e ↦ let j : In x (filter p ys) = rw e at i in filter-holds p ys x j
+]
+
 filter_distinct : (p : ℕ → Bool) (xs : List ℕ) → Distinct xs → Distinct (filter p xs)
 filter_distinct p [] d = tt
 filter_distinct p (x ∷ xs) d = elim (either (p x)) [
@@ -86,16 +106,44 @@ filter_distinct p (x ∷ xs) d = elim (either (p x)) [
   | inr e ↦ rw e (filter_distinct p xs d.1)
 ]
 
-pub space_adds_up_lem : (b : List ℕ) (s : Shape) → HasShape b s → (space_of b s).used + (space_of b s).listed_bytes + (space_of b s).unlisted_bytes + 8 ≡ length b
-space_adds_up_lem b s h =
-    let is_uir = λ (m : ℕ). eqb (type_at b m) uir_type in
-    let all = tiles_bytes b 8 (length b) s.records h.tiled in
-    let halves = parts_bytes b is_uir s.records in
-    let unused = unused_records b s in
-    let quarters = parts_bytes b (λ m. is_in m s.unused) unused in
-    let listed = members_bytes b s.unused unused h.unused_chain.once (filter_distinct is_uir s.records (tiles_distinct b 8 (length b) s.records h.tiled))
-    (λ m i. let ok = h.unused_chain.linkable m i in in-filter is_uir s.records m (linkable-in b s.records uir_type m ok) (eq-eqb (type_at b m) uir_type (linkable-type b s.records uir_type m ok))) in
-    add_up (bytes_in b (filter (λ m. not (is_uir m)) s.records)) (bytes_in b s.unused) (bytes_in b (filter (λ m. not (is_in m s.unused)) unused)) (bytes_in b unused) (bytes_in b s.records) (bytes_in b (filter (λ m. is_in m s.unused) unused)) (length b) all halves quarters listed
-  where
-    add_up : (used listed rest unused all member n : ℕ) → 8 + all ≡ n → unused + used ≡ all → member + rest ≡ unused → member ≡ listed → used + listed + rest + 8 ≡ n
-    add_up used listed rest unused all member n p q r t = omega arith
+module _ (b : List ℕ) (s : Shape) (h : HasShape b s) where
+  abbrev is_uir : ℕ → Bool
+  is_uir m = eqb (type_at b m) uir_type
+
+  abbrev is_listed : ℕ → Bool
+  is_listed m = is_in m s.unused
+
+  abbrev unused : List ℕ
+  unused = unused_records b s
+
+  listed_unused : (m : ℕ) → In m s.unused → In m unused
+  listed_unused m i =
+      let ok = h.unused_chain.linkable m i in
+      in-filter is_uir s.records m (linkable-in b s.records uir_type m ok) (eq-eqb (type_at b m) uir_type (linkable-type b s.records uir_type m ok))
+
+  unused_distinct : Distinct unused
+  unused_distinct = filter_distinct is_uir s.records (tiles_distinct b 8 (length b) s.records h.tiled)
+
+  -- the unused records are those of the list, and those that are on no list
+  pub unused_bytes : (space_of b s).listed_bytes + (space_of b s).unlisted_bytes ≡ bytes_in b unused
+  unused_bytes =
+      add_up (bytes_in b (filter is_listed unused)) (bytes_in b s.unused) (bytes_in b (filter (λ m. not (is_listed m)) unused)) (bytes_in b unused) (members_bytes b s.unused unused h.unused_chain.once unused_distinct listed_unused) (parts_bytes b is_listed unused)
+    where
+      add_up : (member listed rest all : ℕ) → member ≡ listed → member + rest ≡ all → listed + rest ≡ all
+      add_up member listed rest all p q = omega arith
+
+  pub unused_count : (space_of b s).listed + (space_of b s).unlisted ≡ length unused
+  unused_count =
+      let few = length-le_from_distinct (filter is_listed unused) s.unused (filter_distinct is_listed unused unused_distinct) (λ m i. true-is_in m s.unused (filter-holds is_listed unused m i)) in
+      let many = length-le_from_distinct s.unused (filter is_listed unused) h.unused_chain.once (λ m i. in-filter is_listed unused m (listed_unused m i) (is_in-true m s.unused i)) in
+      add_up (length (filter is_listed unused)) (length s.unused) (length (filter (λ m. not (is_listed m)) unused)) (length unused) few many (parts_count is_listed unused)
+    where
+      add_up : (member listed rest all : ℕ) → member ≤ listed → listed ≤ member → member + rest ≡ all → listed + rest ≡ all
+      add_up member listed rest all p q r = omega arith
+
+  pub space_adds_up_lem : (space_of b s).used + (space_of b s).listed_bytes + (space_of b s).unlisted_bytes + 8 ≡ length b
+  space_adds_up_lem =
+      add_up (bytes_in b (filter (λ m. not (is_uir m)) s.records)) (bytes_in b s.unused) (bytes_in b (filter (λ m. not (is_listed m)) unused)) (bytes_in b unused) (bytes_in b s.records) (length b) (tiles_bytes b 8 (length b) s.records h.tiled) (parts_bytes b is_uir s.records) unused_bytes
+    where
+      add_up : (used listed rest free all n : ℕ) → 8 + all ≡ n → free + used ≡ all → listed + rest ≡ free → used + listed + rest + 8 ≡ n
+      add_up used listed rest free all n p q r = omega arith

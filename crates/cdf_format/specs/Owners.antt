@@ -3,6 +3,7 @@ use Rattle.std.specs.Prelude.{◌≡◌, ℕ, suc, List, [], ◌∷◌, ◌++◌
 use Rattle.std.specs.List.{filter}
 use Rattle.cdf_model.specs.declared.kinds.Kind.{Kind}
 use Rattle.cdf_model.specs.declared.kinds.Kind.TheVariants.{R, Z}
+use Rattle.cdf_model.specs.declared.space.Space.{Space}
 use Rattle.cdf_format.specs.Fields.{size_at, type_at}
 use Rattle.cdf_format.specs.RecordTypes.{uir_type}
 use Rattle.cdf_format.specs.Tiles.{In}
@@ -66,15 +67,7 @@ abbrev pub bytes_in : List ℕ → List ℕ → ℕ
 bytes_in b [] = 0
 bytes_in b (place ∷ more) = size_at b place + bytes_in b more
 
--- what the records of an image take: of those that are used, of the unused list, and of unused records that are on no list
-pub record Space : Type 0 where
-  pub eof : ℕ
-  pub used : ℕ
-  pub listed : ℕ
-  pub listed_bytes : ℕ
-  pub unlisted : ℕ
-  pub unlisted_bytes : ℕ
-
+-- what the records of an image take: those that are used, those of the unused list, and unused records that are on no list
 abbrev pub space_of : List ℕ → Shape → Space
 space_of b s = record {
   eof = length b;

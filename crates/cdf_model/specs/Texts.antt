@@ -19,6 +19,7 @@ use Rattle.cdf_model.specs.declared.answer.Reason.{Reason}
 use Rattle.cdf_model.specs.declared.answer.Reason.TheVariants.{BadLine, NoSuchAttr, NoSuchVar, NoSuchTap, BadName, NameTaken, WrongScope, NoSuchEntry, NumberOutOfRange, BadShape, WrongCount, BadValue, IndexOutOfRange, RecordOutOfRange, InUse, TooLarge}
 use Rattle.cdf_model.specs.declared.answer.Outcome.{Outcome}
 use Rattle.cdf_model.specs.declared.answer.Outcome.TheVariants.{Done, Refused}
+use Rattle.cdf_model.specs.declared.space.Space.{Space}
 use Rattle.cdf_model.specs.Types.{name_of}
 use Rattle.cdf_model.specs.Values.{quoted, values_text}
 
@@ -127,3 +128,10 @@ no_file_text = codes "no file" ⧺ newline
 -- the rule that a file breaks, and where
 abbrev pub rejected_text : ℕ → ℕ → ℕ → List ℕ
 rejected_text phase rule place = codes "rejected " ⧺ decimal phase ⧺ codes " " ⧺ decimal rule ⧺ codes " " ⧺ decimal place ⧺ newline
+
+-- what the records of an image take
+abbrev pub space_text : Space → List ℕ
+space_text s =
+    codes "space eof " ⧺ decimal s.eof ⧺ codes " used " ⧺ decimal s.used
+    ⧺ codes " listed " ⧺ decimal s.listed ⧺ codes " " ⧺ decimal s.listed_bytes
+    ⧺ codes " unlisted " ⧺ decimal s.unlisted ⧺ codes " " ⧺ decimal s.unlisted_bytes ⧺ newline

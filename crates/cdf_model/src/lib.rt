@@ -13,6 +13,7 @@ pub mod laws;
 pub mod limits;
 mod list;
 mod pad;
+mod space;
 mod words;
 
 pub use answer::{LineError, Outcome, Reason, Reply};
@@ -25,4 +26,5 @@ pub use item::{Item, Items};
 pub use kinds::{EntryKind, Kind, Scope, Sparse};
 pub use list::{Bytes, Nums, Varys};
 pub use pad::default_pad;
+pub use space::Space;
 pub use words::{WordIter, Words, WordsBuilder};
