@@ -99,7 +99,6 @@ pub fn chain_append<A: Area>(
 }
 
 /// Takes a member out of a chain, which stands behind another one, or is the first where none is given.
-/// After an error nothing has changed.
 pub fn chain_remove<A: Area>(
     area: &mut A,
     chain: Chain,
@@ -145,7 +144,7 @@ pub fn chain_replace<A: Area>(
     set_unsigned8(area, link, 0, by)
 }
 
-/// Counts one record more in a chain. After an error nothing has changed.
+/// Counts one record more in a chain.
 pub fn count_up<A: Area>(area: &mut A, chain: Chain) -> Result<(), AreaError>
     requires cdr { 28 ≤ length (A.image area.old) }
     requires inside { holder_of (A.image area.old) chain + (count_of chain).place + 4 ≤ length (A.image area.old) }
