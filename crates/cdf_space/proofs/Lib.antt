@@ -4,4 +4,5 @@ pub mod Taking
 pub mod Freeing
 pub mod Filling
 pub mod Linking
+pub mod ChainRead
 pub mod AddedRecord

@@ -1,4 +1,4 @@
-//! Chains of records: members added, taken out and replaced.
+//! Chains of records: read, and members added, taken out and replaced.
 
 ghost use Rattle.std.specs.Prelude.{◌≡◌, ◌+◌, ◌^◌, ◌<◌, ◌≤◌, true, length, None, IfOk, OnOk};
 ghost use Rattle.std.specs.List.{last_or};
@@ -19,6 +19,7 @@ use cdf_format::fields::{
     GDR_R_VDR_HEAD, GDR_Z_VDR_HEAD,
 };
 use cdf_records::{read_unsigned4, read_unsigned8, set_uir_next_uir, set_unsigned4, set_unsigned8};
+use std::alloc::Global;
 
 /// Where the link to a chain stands in the record that has it.
 fn head_place(chain: Chain) -> u64
@@ -74,6 +75,29 @@ fn link_behind<A: Area>(area: &mut A, chain: Chain, member: Option<u64>) -> Resu
         Some(place) => Ok(place + ADR_ADR_NEXT),
         None => Ok(holder(area, chain)? + head_place(chain)),
     }
+}
+
+/// The records of a chain in its order, of which there are as many as the field beside its head says.
+pub fn read_chain<A: Area>(alloc: Global, area: &mut A, chain: Chain) -> Result<Vec<u64>, AreaError>
+    requires sound { IsSound (A.image area.old) (shape (A.image area.old)) }
+    requires holder { HolderStands (A.image area.old) chain }
+    requires chain { HasChain (A.image area.old) chain }
+    requires counted { counted_in (A.image area.old) chain ≡ length (members_of (A.image area.old) chain) }
+    ensures members { IfOk result (λ places. places.items ≡ members_of (A.image area.old) chain) }
+    ensures area { Reads A.image A.frame A.faults A.edited area.old area.new result }
+{
+    // An image has fewer than 2^64 bytes, so no place in it overflows.
+    let _size = area.size();
+    let at = holder(area, chain)?;
+    let count = read_unsigned4(area, at + count_place(chain))?;
+    let mut places = Vec::new(alloc);
+    let mut link = at + head_place(chain);
+    for _ in 0..count {
+        let place = read_unsigned8(area, link)?;
+        places.push(place)?;
+        link = place + ADR_ADR_NEXT;
+    }
+    Ok(places)
 }
 
 /// Makes a record the last one of a chain, behind the one that was the last, none where the chain was empty.
