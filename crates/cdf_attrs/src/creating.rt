@@ -1,6 +1,6 @@
 //! The command `attr`: a last attribute is made.
 
-ghost use Rattle.std.specs.Prelude.{[], ◌≡◌, ◌≤◌, ◌+◌, ◌-◌, ◌++◌, ◌∷◌, length, replicate, false, IfOk, OnOk, OnErr};
+ghost use Rattle.std.specs.Prelude.{[], ◌≡◌, ◌≤◌, ◌+◌, ◌++◌, ◌∷◌, length, false, IfOk, OnOk, OnErr};
 ghost use Rattle.cdf_area.specs.Calls.{Edits};
 ghost use Rattle.cdf_attrs.specs.Creating.{adr_body, scope_code};
 ghost use Rattle.cdf_format.specs.Content.{content};
@@ -14,6 +14,7 @@ ghost use Rattle.cdf_model.specs.declared.command.Command.TheVariants.{Attr};
 
 use crate::name::is_bad_name;
 use cdf_area::{Area, AreaError};
+use cdf_fields::padded;
 use cdf_format::fields::{ADR_SIZE, ADR_TYPE};
 use cdf_model::{Bytes, Outcome, Reason, Reply, Scope};
 use cdf_names::NameTable;
@@ -56,16 +57,6 @@ fn adr_bytes(alloc: Global, scope: u32, num: u32, name: &[u8]) -> Result<Vec<u8>
     bytes.extend_from_slice(&u32::MAX.to_be_bytes())?;
     bytes.extend_from_slice(&padded(name))?;
     Ok(bytes)
-}
-
-/// The bytes of a name, and bytes 0 after it up to 256.
-fn padded(name: &[u8]) -> [u8; 256]
-    requires { length name.now ≤ 256 }
-    ensures { result ≡ name.now ++ replicate (256 - length name.now) 0 }
-{
-    let mut bytes = [0u8; 256];
-    bytes[..name.len()].copy_from_slice(name);
-    bytes
 }
 
 /// Makes a last attribute in the area, whose place becomes the last one.

@@ -4,8 +4,7 @@ ghost use Rattle.std.specs.Prelude.{◌≡◌, ◌==◌};
 ghost use Rattle.std.specs.List.{list_any};
 ghost use Rattle.cdf_model.specs.Names.{is_bad_name};
 
-/// The most bytes of a name.
-const LIMIT: usize = 256;
+use cdf_format::fields::NAME_SIZE;
 
 /// Whether a name has a byte 0.
 fn has_zero(name: &[u8]) -> bool
@@ -18,5 +17,5 @@ fn has_zero(name: &[u8]) -> bool
 pub fn is_bad_name(name: &[u8]) -> bool
     ensures { result ≡ is_bad_name name.now }
 {
-    name.is_empty() || LIMIT < name.len() || has_zero(name)
+    name.is_empty() || NAME_SIZE < name.len() || has_zero(name)
 }
