@@ -4,7 +4,7 @@ use Rattle.std.proofs.lemmas.Bool.{eqb-true, leb-true, lt-ltb}
 use Rattle.std.specs.Prelude.{nat_le, nat_lt, Some, None}
 use Rattle.std.specs.declared.option.Option.{Option}
 use Rattle.std.specs.List.{fold, slice_get}
-use Rattle.cdf_edits.specs.Commands.Allowances.{FreedStay, FreedStays, shapes_of, Allowance, Anything, Only, OutsideFields, Keeps, Allowances, allowance, AllKeep}
+use Rattle.cdf_edits.specs.Commands.Allowances.{FreedStay, FreedStays, GivenStay, shapes_of, Allowance, Anything, Only, OutsideFields, Keeps, Allowances, allowance, AllKeep}
 use Rattle.cdf_edits.specs.Space.Acts.{Act, Took, Gave, SpaceLeft, Among, AreActs, ActsFollow, RestStays, after_act, used_records, loose_records, space_before, back_of, links_end}
 use Rattle.cdf_edits.specs.Space.Placement.{place_for, unused}
 use Rattle.cdf_model.specs.DataSet.{Attribute}
@@ -14,7 +14,7 @@ use Rattle.cdf_edits.specs.Commands.Variables.{DeletesVariable, DeletesNamed}
 use Rattle.cdf_edits.specs.Index.Written.{EntryIs, UnusedEntries, NodeSpareStays, NodesFollow, was_unused, is_taken_at}
 use Rattle.cdf_format.specs.Bytes.{byte, Same}
 use Rattle.cdf_format.specs.Content.{content}
-use Rattle.cdf_format.specs.Index.{used_count, room_at, first_at, last_at, offset_at}
+use Rattle.cdf_format.specs.Index.{Nodes, used_count, room_at, first_at, last_at, offset_at}
 use Rattle.cdf_format.specs.IndexOf.{SaysEntry}
 use Rattle.cdf_format.specs.Chains.{is_in}
 use Rattle.cdf_format.specs.Fields.{size_at, type_at}
@@ -126,8 +126,8 @@ left_if now places list e = each_if (λ place. Among (place, size_at now place) 
 abbrev pub rest_by : List ℕ → List ℕ → ℕ → ℕ → Bool
 rest_by b now split rest = not (nat_lt split rest && nat_lt rest (split + size_at b split)) || all_below (λ i. nat_lt i 28 || (byte now (rest + i) == byte b (rest + i))) (size_at now rest)
 
-rest_if : (b now : List ℕ) (split rest : ℕ) → rest_by b now split rest ≡ true → RestStays b now split rest
-rest_if b now split rest e low high = record { each = λ i from upto. one i from upto (below (λ i. nat_lt i 28 || (byte now (rest + i) == byte b (rest + i))) (size_at now rest) (tests (nat_lt split rest) (nat_lt rest (split + size_at b split)) _ (lt-ltb split rest low) (lt-ltb rest (split + size_at b split) high) e)) }
+rest_if : (b now : List ℕ) (acts : List Act) (split rest : ℕ) → rest_by b now split rest ≡ true → RestStays b now acts split rest
+rest_if b now acts split rest e low high i from upto untaken = one i from upto (below (λ i. nat_lt i 28 || (byte now (rest + i) == byte b (rest + i))) (size_at now rest) (tests (nat_lt split rest) (nat_lt rest (split + size_at b split)) _ (lt-ltb split rest low) (lt-ltb rest (split + size_at b split) high) e))
   where
     tests : (p q r : Bool) → p ≡ true → q ≡ true → (not (p && q) || r) ≡ true → r ≡ true
     tests true true r x y f = f
@@ -157,8 +157,8 @@ acts_follow_if b now acts are used listed back loose end rests = record {
     loose_are = left_if now (loose_records now) (fold after_act (space_before b) acts).loose loose;
     end_is = end;
   };
-  rests = λ once. each_if (λ split. Each (RestStays b now split) (shape now).unused) (λ split. each_by (rest_by b now split) (shape now).unused)
-      (λ split e. each_if (RestStays b now split) (rest_by b now split) (λ rest h. rest_if b now split rest h) (shape now).unused e) (shape b).unused rests;
+  rests = each_if (λ split. Each (RestStays b now acts split) (shape now).unused) (λ split. each_by (rest_by b now split) (shape now).unused)
+      (λ split e. each_if (RestStays b now acts split) (rest_by b now split) (λ rest h. rest_if b now acts split rest h) (shape now).unused e) (shape b).unused rests;
 }
 
 -- ---- nodes
@@ -182,8 +182,8 @@ node_by b now before acts vxr =
     all_below (λ i. nat_lt i (used_count now vxr) || entry_by b now vxr i (was_unused b before acts vxr i)) (room_at now vxr)
     && (is_taken_at acts vxr || nat_le (size_at b vxr) (28 + 16 * room_at now vxr))
 
-unused_if : (b now : List ℕ) (twice : Bool) (before : List ℕ) (acts : List Act) (vxr : ℕ) → all_below (λ i. nat_lt i (used_count now vxr) || entry_by b now vxr i (was_unused b before acts vxr i)) (room_at now vxr) ≡ true → UnusedEntries b now twice before acts vxr
-unused_if b now twice before acts vxr e i from upto =
+unused_if : (b now : List ℕ) (through : List Nodes) (before : List ℕ) (acts : List Act) (vxr : ℕ) → all_below (λ i. nat_lt i (used_count now vxr) || entry_by b now vxr i (was_unused b before acts vxr i)) (room_at now vxr) ≡ true → UnusedEntries b now through before acts vxr
+unused_if b now through before acts vxr e i from upto =
     inl (entry_if b now vxr i (was_unused b before acts vxr i) (past (nat_lt i (used_count now vxr)) refl (below (λ i. nat_lt i (used_count now vxr) || entry_by b now vxr i (was_unused b before acts vxr i)) (room_at now vxr) e i upto)))
   where
     past : (p : Bool) → nat_lt i (used_count now vxr) ≡ p → (p || entry_by b now vxr i (was_unused b before acts vxr i)) ≡ true → entry_by b now vxr i (was_unused b before acts vxr i) ≡ true
@@ -200,9 +200,9 @@ spare_if b now acts vxr e free = choose (is_taken_at acts vxr) e free
         none : (end size i : ℕ) → size ≤ end → vxr + end ≤ i → i < vxr + size → ⊥
         none end size i short low high = omega (arith, short, low, high)
 
-pub nodes_if : (b now : List ℕ) (twice : Bool) (before after : List ℕ) (acts : List Act) → each_by (node_by b now before acts) after ≡ true → NodesFollow b now twice before after acts
-nodes_if b now twice before after acts e = record {
-  unused = each_if (UnusedEntries b now twice before acts) (node_by b now before acts) (λ vxr h. unused_if b now twice before acts vxr (both (all_below (λ i. nat_lt i (used_count now vxr) || entry_by b now vxr i (was_unused b before acts vxr i)) (room_at now vxr)) (is_taken_at acts vxr || nat_le (size_at b vxr) (28 + 16 * room_at now vxr)) h).0) after e;
+pub nodes_if : (b now : List ℕ) (through : List Nodes) (before after : List ℕ) (acts : List Act) → each_by (node_by b now before acts) after ≡ true → NodesFollow b now through before after acts
+nodes_if b now through before after acts e = record {
+  unused = each_if (UnusedEntries b now through before acts) (node_by b now before acts) (λ vxr h. unused_if b now through before acts vxr (both (all_below (λ i. nat_lt i (used_count now vxr) || entry_by b now vxr i (was_unused b before acts vxr i)) (room_at now vxr)) (is_taken_at acts vxr || nat_le (size_at b vxr) (28 + 16 * room_at now vxr)) h).0) after e;
   spare = each_if (NodeSpareStays b now acts) (node_by b now before acts) (λ vxr h. spare_if b now acts vxr (both (all_below (λ i. nat_lt i (used_count now vxr) || entry_by b now vxr i (was_unused b before acts vxr i)) (room_at now vxr)) (is_taken_at acts vxr || nat_le (size_at b vxr) (28 + 16 * room_at now vxr)) h).1) after e;
 }
 
@@ -212,8 +212,8 @@ abbrev pub freed_by : List ℕ → List ℕ → ℕ → ℕ → List Field → �
 freed_by b now place size fields uir =
     all_below (λ i. nat_lt (place + i) (uir + links_end (size_at now uir)) || (nat_le (uir + size_at now uir) (place + i) || (in_fields fields i || (byte now (place + i) == byte b (place + i))))) size
 
-freed_one : (b now : List ℕ) (place size : ℕ) (fields : List Field) (uir : ℕ) → freed_by b now place size fields uir ≡ true → FreedStays b now place size fields uir
-freed_one b now place size fields uir e i less from upto out =
+freed_one : (b now : List ℕ) (acts : List Act) (place size : ℕ) (fields : List Field) (uir : ℕ) → freed_by b now place size fields uir ≡ true → FreedStays b now acts place size fields uir
+freed_one b now acts place size fields uir e i less from upto out untaken =
     eqb-true (byte now (place + i)) (byte b (place + i)) (outside-fields fields i (byte now (place + i) == byte b (place + i)) out
     (before_end (nat_le (uir + size_at now uir) (place + i)) refl (behind_links (nat_lt (place + i) (uir + links_end (size_at now uir))) refl
     (below (λ i. nat_lt (place + i) (uir + links_end (size_at now uir)) || (nat_le (uir + size_at now uir) (place + i) || (in_fields fields i || (byte now (place + i) == byte b (place + i))))) size e i less))))
@@ -231,12 +231,16 @@ freed_stay_by b now uirs but [] = true
 freed_stay_by b now uirs but (Took place need ∷ more) = freed_stay_by b now uirs but more
 freed_stay_by b now uirs but (Gave place size ∷ more) = each_by (freed_by b now place size (but (type_at b place))) uirs && freed_stay_by b now uirs but more
 
-pub freed_if : (b now : List ℕ) (but : ℕ → List Field) (acts : List Act) → freed_stay_by b now (unused_records now (shape now)) but acts ≡ true → FreedStay b now but acts
-freed_if b now but [] e = tt
-freed_if b now but (Took place need ∷ more) e = freed_if b now but more e
-freed_if b now but (Gave place size ∷ more) e =
+-- of what some of the acts free, and of what all do
+pub given_if : (b now : List ℕ) (but : ℕ → List Field) (acts gives : List Act) → freed_stay_by b now (unused_records now (shape now)) but gives ≡ true → GivenStay b now but acts gives
+given_if b now but acts [] e = tt
+given_if b now but acts (Took place need ∷ more) e = given_if b now but acts more e
+given_if b now but acts (Gave place size ∷ more) e =
     let two = both (each_by (freed_by b now place size (but (type_at b place))) (unused_records now (shape now))) (freed_stay_by b now (unused_records now (shape now)) but more) e in
-    (each_if (FreedStays b now place size (but (type_at b place))) (freed_by b now place size (but (type_at b place))) (λ uir h. freed_one b now place size (but (type_at b place)) uir h) (unused_records now (shape now)) two.0, freed_if b now but more two.1)
+    (each_if (FreedStays b now acts place size (but (type_at b place))) (freed_by b now place size (but (type_at b place))) (λ uir h. freed_one b now acts place size (but (type_at b place)) uir h) (unused_records now (shape now)) two.0, given_if b now but acts more two.1)
+
+pub freed_if : (b now : List ℕ) (but : ℕ → List Field) (acts : List Act) → freed_stay_by b now (unused_records now (shape now)) but acts ≡ true → FreedStay b now but acts
+freed_if b now but acts e = given_if b now but acts acts e
 
 -- ---- what a command names
 

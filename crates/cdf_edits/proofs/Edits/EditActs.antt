@@ -130,14 +130,14 @@ module _ {b taken filled now records list : List ℕ} {need place type : ℕ} (s
         | inr new ↦ elim new [ inl e ↦ absurd (no_place e) | inr rest ↦ absurd (off rest.on_list) ]
       ]
 
-  rest_follows : (split rest : ℕ) → In split s.unused → In rest list → RestStays b now split rest
-  rest_follows split rest i j low high =
+  rest_follows : (split rest : ℕ) → In split s.unused → In rest list → RestStays b now (Took place need ∷ []) split rest
+  rest_follows split rest i j low high k from upto untaken =
       let in_records = linkable-in filled records uir_type rest ((filled_sound sound fills).has_shape.unused_chain.linkable rest j) in
       elim (made_new sound fills later as_long lately rest in_records) [
         | inl old ↦ absurd (no_rest b sound.has_shape split rest (linkable-in b s.records uir_type split (sound.has_shape.unused_chain.linkable split i)) old low high)
         | inr new ↦ elim new [
           | inl e ↦ absurd (false-is_in place list fills.takes.unlisted (subst (λ (x : ℕ). In x list) e j))
-          | inr r ↦ rest_stays sound fills later as_long lately rest in_records r
+          | inr r ↦ (rest_stays sound fills later as_long lately rest in_records r).each k from upto
         ]
       ]
 
@@ -155,6 +155,6 @@ module _ {b taken filled now records list : List ℕ} {need place type : ℕ} (s
       loose_are = each (λ m. Among (m, size_at now m) (sized b (loose_records b))) (loose_records now) loose_among;
       end_is = (listed sound fills later as_long lately).length_is;
     };
-    rests = λ once. each (λ split. Each (RestStays b now split) (shape now).unused) s.unused (λ split i.
-        each (RestStays b now split) (shape now).unused (λ rest j. rest_follows split rest i (subst (In rest) list_are j)));
+    rests = each (λ split. Each (RestStays b now (Took place need ∷ []) split) (shape now).unused) s.unused (λ split i.
+        each (RestStays b now (Took place need ∷ []) split) (shape now).unused (λ rest j. rest_follows split rest i (subst (In rest) list_are j)));
   }

@@ -162,7 +162,7 @@ no_acts b now h same =
             (loose_if b m (record { stands = is; typed = sym (same.type m is) ∙ l.typed; unlisted = λ j. l.unlisted (subst (In m) (sym same.list) j) })) (same.size m is));
         end_is = same.long;
       };
-      rests = λ once. each (λ split. Each (RestStays b now split) (shape now).unused) (shape b).unused (λ split i.
-          each (RestStays b now split) (shape now).unused (λ rest j low high.
+      rests = each (λ split. Each (RestStays b now [] split) (shape now).unused) (shape b).unused (λ split i.
+          each (RestStays b now [] split) (shape now).unused (λ rest j low high.
           absurd (no_rest b h split rest (listed split i) (listed rest (subst (In rest) same.list j)) low high)));
     }

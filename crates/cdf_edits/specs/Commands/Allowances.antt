@@ -7,10 +7,10 @@ use Rattle.cdf_model.specs.declared.kinds.Kind.TheVariants as kinds
 use Rattle.cdf_model.specs.DataSet.{DataSet}
 use Rattle.cdf_model.specs.Names.{Found, variable_named}
 use Rattle.cdf_edits.specs.Index.Blocks.{Range, range}
-use Rattle.cdf_edits.specs.Space.Acts.{Act, Took, Gave, taken, links_end}
+use Rattle.cdf_edits.specs.Space.Acts.{Act, Took, Gave, taken, links_end, lies_in_taken}
 use Rattle.cdf_format.specs.Bytes.{byte}
 use Rattle.cdf_format.specs.Chains.{is_in}
-use Rattle.cdf_format.specs.Fields.{size_at, type_at}
+use Rattle.cdf_format.specs.Fields.{number, size_at, type_at}
 use Rattle.cdf_format.specs.Index.{leaves_of}
 use Rattle.cdf_format.specs.Owners.{Owner, File, OneAttribute, OneVariable, Unused, unused_records}
 use Rattle.cdf_format.specs.Records.{Field, gdr_eof, gdr_r_max_rec, gdr_uir_head, uir_next_uir, uir_prev_uir}
@@ -82,16 +82,25 @@ AllKeep b now allowances acts ((place, owner) ∷ more) = Keeps b now place (all
 
 -- ---- of a record that is freed
 
--- the part of an unused record behind its links that lies in the record of this place and size, but for these fields of that
-abbrev pub FreedStays : List ℕ → List ℕ → ℕ → ℕ → List Field → ℕ → Type 0
-FreedStays b now place size fields uir =
-    (i : ℕ) → i < size → uir + links_end (size_at now uir) ≤ place + i → place + i < uir + size_at now uir → OutsideFields fields i → byte now (place + i) ≡ byte b (place + i)
+-- the part of an unused record behind its links that lies in the record of this place and size, and in none that acts took, but for these fields of that
+abbrev pub FreedStays : List ℕ → List ℕ → List Act → ℕ → ℕ → List Field → ℕ → Type 0
+FreedStays b now acts place size fields uir =
+    (i : ℕ) → i < size → uir + links_end (size_at now uir) ≤ place + i → place + i < uir + size_at now uir → OutsideFields fields i → lies_in_taken acts (place + i) ≡ false → byte now (place + i) ≡ byte b (place + i)
 
--- What is freed, and not taken after that, keeps its bytes behind the links of an unused record, but for these fields of a record of its type.
+-- What some of these acts free, and none of them takes, keeps its bytes behind the links of an unused record, but for these fields of a record of its type.
+abbrev pub GivenStay : List ℕ → List ℕ → (ℕ → List Field) → List Act → List Act → Type 0
+GivenStay b now but acts [] = Unit {0}
+GivenStay b now but acts (Took place need ∷ more) = GivenStay b now but acts more
+GivenStay b now but acts (Gave place size ∷ more) = Each (FreedStays b now acts place size (but (type_at b place))) (unused_records now (shape now)) × GivenStay b now but acts more
+
+-- likewise of all that acts free
 abbrev pub FreedStay : List ℕ → List ℕ → (ℕ → List Field) → List Act → Type 0
-FreedStay b now but [] = Unit {0}
-FreedStay b now but (Took place need ∷ more) = FreedStay b now but more
-FreedStay b now but (Gave place size ∷ more) = Each (FreedStays b now place size (but (type_at b place))) (unused_records now (shape now)) × FreedStay b now but more
+FreedStay b now but acts = GivenStay b now but acts acts
+
+-- a command may empty a record before it is freed: these fields are as they were, or hold these numbers
+abbrev pub StaysOrSays : List ℕ → List ℕ → ℕ → List (Field × ℕ) → Type 0
+StaysOrSays b now place [] = Unit {0}
+StaysOrSays b now place ((f, n) ∷ more) = ((number now place f ≡ number b place f) ⊎ (number now place f ≡ n)) × StaysOrSays b now place more
 
 abbrev pub no_fields : ℕ → List Field
 no_fields type = []

@@ -1,5 +1,5 @@
 -- What `del-recs`, `set-sparse` and `set-compress` do (CDF Internal Format Description, "Variable Index Record", "Compressed Parameters Record"; own: under a sparse rule records keep their numbers, and what is past the new MaxRec is cut after the others).
-use Rattle.std.specs.Prelude.{◌≡◌, ◌⊎◌, ◌≤◌, ◌<◌, ℕ, ◌+◌, max, List, [], ◌∷◌, ◌++◌, map, Bool, true, false, not, ◌&&◌, ◌||◌, ◌==◌, nat_lt, nat_le, if◌then◌else◌}
+use Rattle.std.specs.Prelude.{◌≡◌, ℕ, ◌+◌, List, [], ◌∷◌, ◌++◌, map, Bool, true, false, not, ◌&&◌, ◌||◌, ◌==◌, nat_lt, nat_le, if◌then◌else◌}
 use Rattle.std.specs.List.{flat_map, list_any}
 use Rattle.cdf_model.specs.DataSet.{Variable}
 use Rattle.cdf_model.specs.Limits.{record_number_limit}
@@ -7,13 +7,13 @@ use Rattle.cdf_model.specs.Names.{Found}
 use Rattle.cdf_edits.specs.Commands.Allowances.{Allowances, Anything, Only, stays_all, stays_own, space_fields, anything_if, r_max_rec_field, of_variable}
 use Rattle.cdf_edits.specs.Commands.GreatestRecord.{RMaxRecFollows}
 use Rattle.cdf_edits.specs.Commands.NewRecords.{Says, with_bits}
-use Rattle.cdf_edits.specs.Commands.Room.{vxr_bytes, range_bytes, cuts_in_part}
-use Rattle.cdf_edits.specs.Index.Blocks.{Range, range, covers, shared, cut_open, fallen, is_sparse, record_length, ranges_of, extent_after}
+use Rattle.cdf_edits.specs.Commands.Room.{vxr_bytes}
+use Rattle.cdf_edits.specs.Index.Blocks.{Range, range, covers, shared, fallen, is_sparse, record_length, ranges_of, extent_after}
+use Rattle.cdf_edits.specs.Index.CutTwice.{PartsFollow}
 use Rattle.cdf_edits.specs.Index.Cut.{Part, IsPart, is_whole, CutsIndex, BlockPlaced, BlocksFreedStay, none_written}
 use Rattle.cdf_edits.specs.Index.Grown.{cut_nodes, kept_open, kept_closed, split_off, index_cut_open, index_cut_closed}
 use Rattle.cdf_edits.specs.Index.Written.{is_taken_at, block_need, stays_put, WellPacked, BlockFollows, stored_bytes, NodesFollow, TailFollows}
-use Rattle.cdf_edits.specs.Space.Acts.{Act, Took, gave, taken, none_twice}
-use Rattle.cdf_format.specs.Bytes.{byte}
+use Rattle.cdf_edits.specs.Space.Acts.{Act, Took, gave, taken}
 use Rattle.cdf_format.specs.Fields.{number, size_at}
 use Rattle.cdf_format.specs.Index.{Nodes, no_node, Leaf, leaves_of, nodes_of, room_at}
 use Rattle.cdf_format.specs.Records.{Field, vdr_max_rec, vdr_vxr_head, vdr_vxr_tail, vdr_flags, vdr_s_records, vdr_cpr_or_spr_offset, cpr_rfu_a, cpr_p_count}
@@ -45,19 +45,14 @@ CutsOnceOrTwice v first last before middle after cut again false =
     CutsIndex v (kept_closed first last) before (index_cut_closed first last before) middle cut
     × (middle ≡ after) × (again ≡ [])
 
--- the second cut takes a record
-abbrev pub cuts_again : Variable → ℕ → ℕ → List Range → Bool
-cuts_again v first last ranges = is_sparse v.sparse && list_any (λ r. nat_lt 0 (shared (extent_after v first last) record_number_limit r)) (cut_open first last ranges)
-
 -- both cuts take records of one block
 abbrev pub is_cut_twice : Variable → ℕ → ℕ → Range → Bool
 is_cut_twice v first last r =
     (is_sparse v.sparse && (nat_lt 0 (shared first last r) && nat_lt last r.last)) && nat_lt 0 (shared (extent_after v first last) record_number_limit (range (last + 1) r.last))
 
--- the block of a leaf that the first cut made shorter, if there is a second one
-abbrev pub is_shortened_first : Variable → ℕ → ℕ → List Leaf → ℕ → Bool
-is_shortened_first v first last leaves place =
-    cuts_again v first last (map (λ leaf. range leaf.first leaf.last) leaves) && list_any (λ leaf. (leaf.place == place) && cuts_in_part first last (range leaf.first leaf.last)) leaves
+-- between the cuts, a leaf at this place was left in part
+abbrev pub is_left_in_part : List Range → List Leaf → ℕ → Bool
+is_left_in_part before leaves place = list_any (λ leaf. (leaf.place == place) && not (list_any (λ r. (r.first == leaf.first) && (r.last == leaf.last)) before)) leaves
 
 -- what stays in the block of a range, and what gets a new one
 abbrev pub kept_after_cut : Variable → ℕ → ℕ → Part
@@ -70,27 +65,18 @@ split_after_cut v first last r = if is_sparse v.sparse then flat_map (past_new_m
 abbrev pub is_settled : Variable → ℕ → ℕ → Leaf → Leaf → Bool
 is_settled v first last old new = not (is_cut_twice v first last (range old.first old.last) && nat_le first new.first)
 
--- What the first cut left in a block that is not packed, of which the second one takes records: those behind the first cut, and then bytes 0 in a new block, or else what was there.
-pub record HoldsRest (b now : List ℕ) (v : Variable) (last : ℕ) (old new : Leaf) (is_new : Bool) : Type 0 where
-  pub records : (i : ℕ) → i < range_bytes v (range (last + 1) old.last) → byte now (new.place + 12 + i) ≡ byte b (old.place + 12 + range_bytes v (range old.first last) + i)
-  pub spare : (i : ℕ) → 12 + range_bytes v (range (last + 1) old.last) ≤ i → i < size_at now new.place → byte now (new.place + i) ≡ (if is_new then 0 else byte b (new.place + i))
-
--- a leaf that stays in its block
+-- a leaf that stays in its block; of one that both cuts make shorter, `parts` says where it stands
 pub record LeafKept (b now : List ℕ) (v : Variable) (first last vdr : ℕ) (acts : List Act) (old new : Leaf) : Type 0 where
   pub packed : is_whole old new ≡ false → v.rle ≡ true → WellPacked now vdr new
   pub placed : is_settled v first last old new ≡ true → BlockPlaced now vdr acts old new (is_whole old new || stays_put b now v.rle vdr old new)
-  pub stands : (new.place ≡ old.place) ⊎ (is_taken_at acts new.place ≡ true)
   pub bytes : is_settled v first last old new ≡ true → is_whole old new ≡ false → BlockFollows b now v.rle vdr (old ∷ []) acts new
-  pub rest : is_settled v first last old new ≡ false → v.rle ≡ false → HoldsRest b now v last old new false
 
--- A leaf that gets a new block. What the second cut leaves has the record that the first one took, which is as large as the plain bytes ask for, or smaller if it was packed.
+-- a leaf that gets a new block
 pub record LeafSplit (b now : List ℕ) (v : Variable) (first last vdr : ℕ) (acts : List Act) (old new : Leaf) : Type 0 where
   pub is_new : is_taken_at acts new.place ≡ true
   pub packed : v.rle ≡ true → WellPacked now vdr new
   pub size_is : is_settled v first last old new ≡ true → size_at now new.place ≡ block_need now vdr new
-  pub size_was : v.rle ≡ false → size_at now new.place ≡ max 28 (12 + range_bytes v (range (last + 1) old.last))
   pub bytes : is_settled v first last old new ≡ true → BlockFollows b now v.rle vdr [] acts new
-  pub rest : is_settled v first last old new ≡ false → v.rle ≡ false → HoldsRest b now v last old new true
 
 pub record LeafFollows (b now : List ℕ) (v : Variable) (first last vdr : ℕ) (acts : List Act) (old new : Leaf) : Type 0 where
   pub kept : IsPart (kept_after_cut v first last) old new → LeafKept b now v first last vdr acts old new
@@ -113,12 +99,14 @@ pub record DeletesRecords (b now : List ℕ) (v : Variable) (first last : ℕ) (
   pub again : List Act
   pub acts_are : acts ≡ cut ++ again
   pub cuts : CutsOnceOrTwice v first last before.index middle after.index cut again (is_sparse v.sparse)
+  pub parts : is_sparse v.sparse ≡ true → Each (λ old. Each (PartsFollow b now v after.vdr (kept_open first last) (split_off first last) (past_new_max_rec v first last) cut again after.index old) (leaves_of middle)) (leaves_of before.index)
   pub blocks : Each (λ old. Each (LeafFollows b now v first last after.vdr acts old) (leaves_of after.index)) (leaves_of before.index)
   pub others_stay : OthersStay b now v first last before after
   pub new_nodes : Each (λ vxr. is_taken_at acts vxr ≡ true → size_at now vxr ≡ vxr_bytes (room_at now vxr)) (nodes_of after.index)
-  pub nodes : NodesFollow b now (cuts_again v first last (ranges_of before.index)) (nodes_of before.index) (nodes_of after.index) acts
+  pub nodes : NodesFollow b now (middle ∷ []) (nodes_of before.index) (nodes_of after.index) acts
   pub tail : TailFollows b now acts middle before after
-  pub freed : none_twice [] acts ≡ true → BlocksFreedStay b now (is_shortened_first v first last (leaves_of before.index)) acts
+  pub freed_first : BlocksFreedStay b now none_written acts cut
+  pub freed_again : BlocksFreedStay b now (is_left_in_part (ranges_of before.index) (leaves_of middle)) acts again
   pub r_max_rec : RMaxRecFollows b now
 
 -- ---- `set-sparse` and `set-compress`
@@ -143,7 +131,7 @@ pub record CutsAll (b now : List ℕ) (before after : VariableShape) (acts : Lis
 
 pub record SetsSparse (b now : List ℕ) (before after : VariableShape) (acts : List Act) : Type 0 where
   pub cuts : CutsAll b now before after acts
-  pub freed : BlocksFreedStay b now none_written acts
+  pub freed : BlocksFreedStay b now none_written acts acts
 
 -- then a CPR is taken where there is none, or the one that there is is freed
 abbrev pub cpr_acts : List ℕ → Bool → List ℕ → List ℕ → List Act
@@ -162,4 +150,4 @@ pub record SetsCompress (b now : List ℕ) (rle : Bool) (before after : Variable
   pub flags_are : number now after.vdr vdr_flags ≡ with_bits (number b before.vdr vdr_flags) 2 1 (if rle then 1 else 0)
   pub cpr_says : before.cpr ≡ [] → Each (λ cpr. Says now cpr new_cpr) after.cpr
   pub link_is : rle ≡ false → number now after.vdr vdr_cpr_or_spr_offset ≡ 0xffffffffffffffff
-  pub freed : BlocksFreedStay b now none_written acts
+  pub freed : BlocksFreedStay b now none_written acts acts

@@ -1,5 +1,5 @@
 -- What `put-rec` and `put-val` do (CDF Internal Format Description, "Variable Index Record", "Variable Values Record"; own: records are written in ascending order, those of one block together, and the block of a new leaf is taken before its node).
-use Rattle.std.specs.Prelude.{◌≡◌, ◌⊎◌, ◌<◌, ℕ, ◌+◌, ◌-◌, ◌*◌, max, List, [], ◌∷◌, ◌++◌, length, map, drop, Bool, true, false, not, ◌&&◌, ◌||◌, ◌==◌, nat_lt, nat_le, find, Some, None}
+use Rattle.std.specs.Prelude.{◌≡◌, ◌⊎◌, ◌<◌, ℕ, ◌+◌, ◌-◌, ◌*◌, max, List, [], ◌∷◌, ◌++◌, map, drop, Bool, true, false, not, ◌&&◌, ◌||◌, ◌==◌, nat_lt, find, Some, None}
 use Rattle.std.specs.List.{filter, list_any, repeat}
 use Rattle.cdf_model.specs.declared.kinds.Kind.{Kind}
 use Rattle.cdf_model.specs.ByteOrder.{turned}
@@ -13,9 +13,9 @@ use Rattle.cdf_edits.specs.Commands.Room.{vxr_bytes, uncovered, is_rewritten}
 use Rattle.cdf_edits.specs.Frame.Changed.{Touch, touch, touched_field, Changed}
 use Rattle.cdf_edits.specs.Index.Blocks.{Range, range, covers, shared, ranges_of, first_written, cuts_before_put, record_length, ranges_before_put, ranges_after_put}
 use Rattle.cdf_edits.specs.Index.Cut.{Part, IsPlaced, CutsIndex, BlocksFreedStay, none_written}
-use Rattle.cdf_edits.specs.Index.Grown.{with_leaf, new_room, with_place, cut_nodes, kept_open}
+use Rattle.cdf_edits.specs.Index.Grown.{with_leaf, new_room, with_place, cut_nodes, kept_open, indexes_with}
 use Rattle.cdf_edits.specs.Index.Written.{AnyOf, block_need, stays_put, BlockFollows, stored_bytes, NodesFollow, TailFollows}
-use Rattle.cdf_edits.specs.Space.Acts.{Act, Took, Gave, taken}
+use Rattle.cdf_edits.specs.Space.Acts.{Act, Took, Gave}
 use Rattle.cdf_format.specs.Content.{plain_bytes}
 use Rattle.cdf_format.specs.Fields.{size_at}
 use Rattle.cdf_format.specs.Index.{Nodes, Leaf, leaves_of, nodes_of}
@@ -73,9 +73,9 @@ CutsFirst b now v before after middle acts true =
     × Each (λ old. Each (IsPlaced b now v after.vdr (past_max_rec v) acts old) (leaves_of middle)) (leaves_of before.index)
 CutsFirst b now v before after middle acts false = (middle ≡ before.index) × (acts ≡ [])
 
--- an unused entry may have been used for a moment where two leaves and a node were added
-abbrev pub fills_and_splits : List Act → Bool
-fills_and_splits acts = nat_le 3 (length (taken acts))
+-- the records of the new leaves
+abbrev pub new_ranges : List Range → List Range → List Range
+new_ranges before after = filter (λ r. not (list_any (covers r.first) before)) after
 
 pub record PutsIndex (b now : List ℕ) (v : Variable) (n : ℕ) (before after : VariableShape) (acts : List Act) : Type 0 where
   pub ranges : ranges_of after.index ≡ ranges_after_put v before.index n
@@ -86,8 +86,8 @@ pub record PutsIndex (b now : List ℕ) (v : Variable) (n : ℕ) (before after :
   pub cuts : CutsFirst b now v before after middle cut (cuts_before_put v n)
   pub puts : PutsLeaves b now v.rle after.vdr (filter (is_written v n) (leaves_of after.index)) middle put after.index
   pub tail : TailFollows b now acts middle before after
-  pub nodes : NodesFollow b now (fills_and_splits acts) (nodes_of before.index) (nodes_of after.index) acts
-  pub freed : BlocksFreedStay b now none_written acts
+  pub nodes : NodesFollow b now (indexes_with middle (new_ranges (ranges_of middle) (ranges_of after.index))) (nodes_of before.index) (nodes_of after.index) acts
+  pub freed : BlocksFreedStay b now none_written acts acts
 
 -- ---- bytes
 

@@ -1,10 +1,10 @@
 -- What `reindex` does (CDF Internal Format Description, "Variable Index Record"; own: nodes of 64 entries, filled from the left, level by level, and placed from the leaves up).
-use Rattle.std.specs.Prelude.{◌≡◌, ◌⊎◌, ℕ, zero, suc, List, [], ◌∷◌, ◌++◌, length, map, false, Some, None}
+use Rattle.std.specs.Prelude.{◌≡◌, ◌⊎◌, ℕ, zero, suc, List, [], ◌∷◌, ◌++◌, length, map, Some, None}
 use Rattle.std.specs.List.{last_or, slice_get, sum}
 use Rattle.std.specs.Option.{option_map}
 use Rattle.cdf_model.specs.Names.{Found}
 use Rattle.cdf_edits.specs.Commands.Allowances.{FreedStay, no_fields, Allowances, Anything, Only, stays_all, stays_own, space_fields, of_variable}
-use Rattle.cdf_edits.specs.Commands.Room.{vxr_bytes}
+use Rattle.cdf_edits.specs.Commands.Room.{vxr_bytes, nodes_above}
 use Rattle.cdf_edits.specs.Index.Written.{NodesFollow, TailFollows}
 use Rattle.cdf_edits.specs.Space.Acts.{Act, Took, gave}
 use Rattle.cdf_format.specs.Chains.{next_of}
@@ -69,9 +69,10 @@ made_acts b before after = map (λ vxr. Took vxr (vxr_bytes 64)) (levels_up 7 af
 pub record MakesIndex (b now : List ℕ) (before after : VariableShape) (acts : List Act) : Type 0 where
   pub acts_are : acts ≡ made_acts b before.index after.index
   pub leaves_stay : leaves_of after.index ≡ leaves_of before.index
+  pub fewest : length (nodes_of after.index) ≡ nodes_above 8 (length (leaves_of after.index))
   pub filled : IsPyramid after.index
   pub wide : Each (λ vxr. room_at now vxr ≡ 64) (nodes_of after.index)
   pub alone : Each (λ vxr. next_of now vxr ≡ 0) (nodes_of after.index)
-  pub nodes : NodesFollow b now false [] (nodes_of after.index) acts
+  pub nodes : NodesFollow b now [] [] (nodes_of after.index) acts
   pub tail : TailFollows b now acts before.index before after
   pub freed : FreedStay b now no_fields acts

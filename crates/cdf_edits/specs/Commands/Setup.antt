@@ -1,12 +1,13 @@
 -- What `setup` and `checksum` do (CDF Internal Format Description, "CDF Descriptor Record": Flags, "Global Descriptor Record").
-use Rattle.std.specs.Prelude.{◌≡◌, ℕ, ◌+◌, ◌*◌, List, [], ◌∷◌, length, Bool, if◌then◌else◌}
+use Rattle.std.specs.Prelude.{◌≡◌, ◌≢◌, ℕ, ◌+◌, ◌*◌, List, [], ◌∷◌, length, Bool, if◌then◌else◌}
 use Rattle.cdf_model.specs.declared.head.Majority.{Majority}
 use Rattle.cdf_model.specs.declared.head.Majority.TheVariants.{Row, Column}
-use Rattle.cdf_edits.specs.Commands.Allowances.{FreedStay, Allowances, Anything, Only, stays_all, space_fields}
+use Rattle.cdf_edits.specs.Commands.Allowances.{FreedStay, StaysOrSays, Allowances, Anything, Only, stays_all, space_fields}
 use Rattle.cdf_edits.specs.Commands.NewRecords.{with_bits, AreSameFields, MovesForRoom, moved_for_room}
 use Rattle.cdf_edits.specs.Space.Acts.{Act}
+use Rattle.cdf_format.specs.Chains.{next_of}
 use Rattle.cdf_format.specs.Fields.{flags, gdr_offset}
-use Rattle.cdf_format.specs.Records.{cdr_encoding, cdr_flags, cdr_gdr_offset, gdr_r_max_rec, gdr_rfu_c, gdr_leap_second_last_updated, gdr_rfu_e}
+use Rattle.cdf_format.specs.Records.{Field, cdr_encoding, cdr_flags, cdr_gdr_offset, gdr_eof, gdr_uir_head, gdr_r_max_rec, gdr_rfu_c, gdr_leap_second_last_updated, gdr_rfu_e}
 
 -- ---- `setup`: the GDR may move; the record for the new one is taken while the old one is still in use
 
@@ -21,12 +22,17 @@ majority_bit Column = 0
 abbrev pub gdr_end : List ℕ → ℕ
 gdr_end dims = 84 + 4 * length dims
 
+-- while the old one is in use, the taking writes its UIRhead and eof: the first record of the list then is the one behind it in the end
+abbrev pub space_taken : List ℕ → ℕ → List (Field × ℕ)
+space_taken now gdr = (gdr_uir_head, next_of now gdr) ∷ (gdr_eof, length now) ∷ []
+
 pub record SetsUp (b now : List ℕ) (majority : Majority) (dims : List ℕ) (acts : List Act) : Type 0 where
   pub acts_are : acts ≡ moved_for_room b (gdr_offset b) (gdr_offset now) (gdr_end dims)
   pub flags_are : flags now ≡ with_bits (flags b) 0 1 (majority_bit majority)
   pub fields_stay : AreSameFields b (gdr_offset b) now (gdr_offset now) (gdr_r_max_rec ∷ gdr_rfu_c ∷ gdr_leap_second_last_updated ∷ gdr_rfu_e ∷ [])
   pub room : MovesForRoom b now (gdr_offset b) (gdr_offset now) (gdr_end dims)
   pub freed : FreedStay b now (λ type. space_fields) acts
+  pub emptied : gdr_offset now ≢ gdr_offset b → StaysOrSays b now (gdr_offset b) (space_taken now (gdr_offset b))
 
 -- ---- `checksum`: bits 2 and 3 of Flags say that there is one, and that it is MD5
 

@@ -1,13 +1,14 @@
 -- What a cut takes and frees, and where the blocks stand that it leaves (CDF Internal Format Description, "Variable Index Record"; own: a block stays in its record where it can). The order in which a cut takes and frees is free.
-use Rattle.std.specs.Prelude.{◌≡◌, ◌⊎◌, ◌≤◌, ℕ, ◌+◌, max, List, [], ◌∷◌, ◌++◌, map, Bool, true, false, not, ◌||◌, ◌==◌}
+use Rattle.std.specs.Prelude.{◌≡◌, ◌⊎◌, ◌≤◌, ℕ, ◌+◌, max, List, [], ◌∷◌, ◌++◌, map, Bool, true, false, not, ◌&&◌, ◌||◌, ◌==◌}
 use Rattle.std.specs.List.{filter}
 use Rattle.cdf_model.specs.DataSet.{Variable}
-use Rattle.cdf_edits.specs.Commands.Allowances.{FreedStay, no_fields}
+use Rattle.cdf_edits.specs.Commands.Allowances.{GivenStay, no_fields}
 use Rattle.cdf_edits.specs.Commands.Room.{vxr_bytes, range_bytes}
 use Rattle.cdf_edits.specs.Index.Blocks.{Range, range}
 use Rattle.cdf_edits.specs.Index.Grown.{outline}
 use Rattle.cdf_edits.specs.Index.Written.{AnyOf, block_need, is_given_at, stays_put}
 use Rattle.cdf_edits.specs.Space.Acts.{Act, Took, Gave, taken, none_twice, Among}
+use Rattle.cdf_format.specs.Chains.{is_in}
 use Rattle.cdf_format.specs.Fields.{type_at}
 use Rattle.cdf_format.specs.Index.{Nodes, no_node, node, Entries, no_entry, block, lower, Leaf, leaves_of, nodes_of}
 use Rattle.cdf_format.specs.RecordTypes.{vxr_type}
@@ -41,6 +42,14 @@ unfoldable mutual
 abbrev pub sized_blocks : Variable → Nodes → List (ℕ × ℕ)
 sized_blocks v nodes = map (λ leaf. (leaf.place, max 28 (12 + range_bytes v (range leaf.first leaf.last)))) (leaves_of nodes)
 
+-- where its nodes and blocks stand, and that no two stand at one place
+abbrev pub index_records : Nodes → List ℕ
+index_records nodes = nodes_of nodes ++ map (λ leaf. leaf.place) (leaves_of nodes)
+
+abbrev pub stand_apart : List ℕ → Bool
+stand_apart [] = true
+stand_apart (place ∷ more) = not (is_in place more) && stand_apart more
+
 -- a record is taken for a node of it, or for a block
 abbrev pub IsNeeded : Variable → Nodes → ℕ × ℕ → Type 0
 IsNeeded v nodes take = Among take (sized_nodes nodes) ⊎ AnyOf (λ block. (take.0 ≡ block.0) × ((take.1 ≤ block.1) × (v.rle ≡ false → take.1 ≡ block.1))) (sized_blocks v nodes)
@@ -51,10 +60,12 @@ IsNeeded v nodes take = Among take (sized_nodes nodes) ⊎ AnyOf (λ block. (tak
 abbrev pub StaysWhole : Variable → Part → List Act → Leaf → Leaf → Type 0
 StaysWhole v kept acts old new = IsPart kept old new → (is_whole old new || not v.rle) ≡ true → (new.place ≡ old.place) × (new.packed ≡ old.packed) × (is_given_at acts old.place ≡ false)
 
--- From one index to another, which is this one but for the places of what is new; new nodes stand at 0 in it, and its others are not freed. Each leaf keeps a part of its records.
+-- From one index to another, which is this one but for the places of what is new; new nodes stand at 0 in it, and its others are not freed. A record that is in the index no more is freed. Each leaf keeps a part of its records.
 pub record CutsIndex (v : Variable) (kept : Part) (before wanted after : Nodes) (acts : List Act) : Type 0 where
   pub index_is : outline (map (λ take. take.0) (taken acts)) after ≡ outline (map (λ take. take.0) (taken acts)) wanted
+  pub apart : stand_apart (index_records after) ≡ true
   pub once : none_twice [] acts ≡ true
+  pub frees : Each (λ place. (is_in place (index_records after) || is_given_at acts place) ≡ true) (index_records before)
   pub takes : Each (IsNeeded v after) (taken acts)
   pub stand : Each (λ vxr. is_given_at acts vxr ≡ false) (nodes_of wanted)
   pub stay : Each (λ old. Each (StaysWhole v kept acts old) (leaves_of after)) (leaves_of before)
@@ -69,14 +80,14 @@ IsPlaced b now v vdr kept acts old new = IsPart kept old new → BlockPlaced now
 
 -- ---- what is freed
 
--- a node may be emptied before it is freed, and so may these blocks be written, which the first of two cuts makes shorter
+-- a node may be emptied before it is freed, and these blocks may be written, which the first of two cuts leaves in part
 abbrev pub is_written_before : List ℕ → (ℕ → Bool) → Act → Bool
 is_written_before b written (Took place need) = false
 is_written_before b written (Gave place size) = (type_at b place == vxr_type) || written place
 
--- any other record that is freed keeps its bytes
-abbrev pub BlocksFreedStay : List ℕ → List ℕ → (ℕ → Bool) → List Act → Type 0
-BlocksFreedStay b now written acts = FreedStay b now no_fields (filter (λ act. not (is_written_before b written act)) acts)
+-- any other record that some of these acts free keeps its bytes
+abbrev pub BlocksFreedStay : List ℕ → List ℕ → (ℕ → Bool) → List Act → List Act → Type 0
+BlocksFreedStay b now written acts gives = GivenStay b now no_fields acts (filter (λ act. not (is_written_before b written act)) gives)
 
 abbrev pub none_written : ℕ → Bool
 none_written place = false

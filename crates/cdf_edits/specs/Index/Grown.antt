@@ -143,6 +143,11 @@ kept_closed first last r = cut_closed first last (r ∷ [])
 abbrev pub with_ranges : Nodes → List Range → Nodes
 with_ranges nodes ranges = fold (λ nodes r. with_leaf (leaf r.first r.last 0 false) 0 nodes) nodes ranges
 
+-- an index, and what it becomes as each of these ranges gets a leaf
+unfoldable pub indexes_with : Nodes → List Range → List Nodes
+indexes_with nodes [] = nodes ∷ []
+indexes_with nodes (r ∷ more) = nodes ∷ indexes_with (with_leaf (leaf r.first r.last 0 false) 0 nodes) more
+
 abbrev pub index_cut_open : ℕ → ℕ → Nodes → Nodes
 index_cut_open first last nodes = with_ranges (cut_nodes false (kept_open first last) nodes) (flat_map (split_off first last) (ranges_of nodes))
 

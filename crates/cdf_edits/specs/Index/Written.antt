@@ -11,7 +11,7 @@ use Rattle.cdf_format.specs.Bytes.{byte, Same}
 use Rattle.cdf_format.specs.Chains.{is_in}
 use Rattle.cdf_format.specs.Content.{plain_bytes}
 use Rattle.cdf_format.specs.Fields.{number, size_at}
-use Rattle.cdf_format.specs.Index.{Nodes, no_node, node, Leaf, room_at, used_count, first_at, last_at, offset_at}
+use Rattle.cdf_format.specs.Index.{Nodes, no_node, node, Entries, no_entry, block, lower, Leaf, entry_count, room_at, used_count, first_at, last_at, offset_at}
 use Rattle.cdf_format.specs.IndexOf.{SaysEntry}
 use Rattle.cdf_format.specs.Records.{cvvr_rfu_a, cvvr_c_size, vdr_vxr_tail}
 use Rattle.cdf_format.specs.Shape.{VariableShape, Each}
@@ -45,9 +45,13 @@ abbrev pub same_packing : Bool → Bool → Bool
 same_packing true p = p
 same_packing false p = not p
 
--- the block of a leaf stays in its record; in a compressed variable only where its kind stays and the record is large enough, which one of less than 28 bytes may be
+-- a block whose bytes end there stays in a record of this size; in a compressed variable only where its kind stays and the record is large enough, which one of less than 28 bytes may be
+abbrev pub keeps_record : Bool → Bool → Bool → ℕ → ℕ → Bool
+keeps_record rle was_packed packed end size = if rle then same_packing was_packed packed && nat_le end size else true
+
+-- the block of a leaf stays in its record
 abbrev pub stays_put : List ℕ → List ℕ → Bool → ℕ → Leaf → Leaf → Bool
-stays_put b now rle vdr old new = if rle then same_packing old.packed new.packed && nat_le (block_end now vdr new) (size_at b old.place) else true
+stays_put b now rle vdr old new = keeps_record rle old.packed new.packed (block_end now vdr new) (size_at b old.place)
 
 -- a block of at most 67,108,864 plain bytes is packed where that makes its record shorter; a longer one never (rule 8.7)
 abbrev pub is_worth_packing : List ℕ → List ℕ → Bool
@@ -90,18 +94,29 @@ abbrev pub EntryIs : List ℕ → List ℕ → ℕ → ℕ → Bool → Type 0
 EntryIs b now vxr i true = SaysEntry now vxr i (first_at b vxr i) (last_at b vxr i) (offset_at b vxr i)
 EntryIs b now vxr i false = SaysEntry now vxr i 0xffffffff 0xffffffff 0xffffffffffffffff
 
--- An entry that is not used is -1 throughout; one that was not used before stays, but for one that a command used for a moment.
-abbrev pub UnusedEntries : List ℕ → List ℕ → Bool → List ℕ → List Act → ℕ → Type 0
-UnusedEntries b now twice before acts vxr = (i : ℕ) → used_count now vxr ≤ i → i < room_at now vxr
-    → EntryIs b now vxr i (was_unused b before acts vxr i) ⊎ ((twice ≡ true) × EntryIs b now vxr i false)
+unfoldable mutual
+  -- in an index, entry i of the node at a place is used
+  pub uses_entry : ℕ → ℕ → Nodes → Bool
+  uses_entry vxr i no_node = false
+  uses_entry vxr i (node place room entries more) = ((place == vxr) && nat_lt i (entry_count entries)) || (uses_entry_below vxr i entries || uses_entry vxr i more)
+
+  pub uses_entry_below : ℕ → ℕ → Entries → Bool
+  uses_entry_below vxr i no_entry = false
+  uses_entry_below vxr i (block first last place packed entries) = uses_entry_below vxr i entries
+  uses_entry_below vxr i (lower first last nodes entries) = uses_entry vxr i nodes || uses_entry_below vxr i entries
+
+-- An entry that is not used is -1 throughout; one that was not used before stays, or it is -1 where one of the indexes that a command goes through uses it.
+abbrev pub UnusedEntries : List ℕ → List ℕ → List Nodes → List ℕ → List Act → ℕ → Type 0
+UnusedEntries b now through before acts vxr = (i : ℕ) → used_count now vxr ≤ i → i < room_at now vxr
+    → EntryIs b now vxr i (was_unused b before acts vxr i) ⊎ ((list_any (uses_entry vxr i) through ≡ true) × EntryIs b now vxr i false)
 
 -- behind its entries a node that stays keeps its bytes
 abbrev pub NodeSpareStays : List ℕ → List ℕ → List Act → ℕ → Type 0
 NodeSpareStays b now acts vxr = is_taken_at acts vxr ≡ false → Same b now (vxr + (28 + 16 * room_at now vxr)) (vxr + size_at b vxr)
 
--- the nodes of the new index, of which these were there before; in `twice` an entry may have been used for a moment
-pub record NodesFollow (b now : List ℕ) (twice : Bool) (before after : List ℕ) (acts : List Act) : Type 0 where
-  pub unused : Each (UnusedEntries b now twice before acts) after
+-- the nodes of the new index, of which these were there before; a command goes through these indexes on its way
+pub record NodesFollow (b now : List ℕ) (through : List Nodes) (before after : List ℕ) (acts : List Act) : Type 0 where
+  pub unused : Each (UnusedEntries b now through before acts) after
   pub spare : Each (NodeSpareStays b now acts) after
 
 -- the nodes of the top chain of an index

@@ -1,7 +1,7 @@
 -- What a command takes and frees, in the order in which it does, and what that leaves of the space of an image (CDF Internal Format Description, "Unused Internal Records": NextUIR, PrevUIR; own: a record is taken where it fits first, PrevUIR is kept true, and no record is lost).
-use Rattle.std.specs.Prelude.{◌≡◌, ◌⊎◌, ◌≤◌, ◌<◌, ℕ, ◌+◌, List, [], ◌∷◌, length, map, Bool, true, not, ◌&&◌, ◌==◌, nat_le, find, if◌then◌else◌, Some, None}
-use Rattle.std.specs.List.{filter, fold}
-use Rattle.cdf_format.specs.Bytes.{Same}
+use Rattle.std.specs.Prelude.{◌≡◌, ◌⊎◌, ◌≤◌, ◌<◌, ℕ, ◌+◌, List, [], ◌∷◌, length, map, Bool, true, false, not, ◌&&◌, ◌==◌, nat_lt, nat_le, find, if◌then◌else◌, Some, None}
+use Rattle.std.specs.List.{filter, fold, list_any}
+use Rattle.cdf_format.specs.Bytes.{byte}
 use Rattle.cdf_format.specs.Chains.{is_in}
 use Rattle.cdf_format.specs.Fields.{number, size_at, type_at}
 use Rattle.cdf_format.specs.Owners.{unused_records}
@@ -102,12 +102,17 @@ none_twice places (Gave place size ∷ more) = not (is_in place places) && none_
 abbrev pub links_end : ℕ → ℕ
 links_end size = if nat_le 28 size then 28 else 12
 
--- behind the links of the rest of a split everything stays
-abbrev pub RestStays : List ℕ → List ℕ → ℕ → ℕ → Type 0
-RestStays b now split rest = split < rest → rest < split + size_at b split → Same b now (rest + 28) (rest + size_at now rest)
+-- a byte lies in a record that acts took
+abbrev pub lies_in_taken : List Act → ℕ → Bool
+lies_in_taken acts i = list_any (λ take. nat_le take.0 i && nat_lt i (take.0 + take.1)) (taken acts)
+
+-- Behind the links of the rest of a split everything stays, but for what lay in records that were taken and then freed.
+abbrev pub RestStays : List ℕ → List ℕ → List Act → ℕ → ℕ → Type 0
+RestStays b now acts split rest = split < rest → rest < split + size_at b split
+    → (i : ℕ) → rest + 28 ≤ i → i < rest + size_at now rest → lies_in_taken acts i ≡ false → byte now i ≡ byte b i
 
 -- these acts lead from the space of one image to that of another
 pub record ActsFollow (b now : List ℕ) (acts : List Act) : Type 0 where
   pub are : AreActs (space_before b) acts
   pub left : HasLeft now (fold after_act (space_before b) acts)
-  pub rests : none_twice [] acts ≡ true → Each (λ split. Each (RestStays b now split) (shape now).unused) (shape b).unused
+  pub rests : Each (λ split. Each (RestStays b now acts split) (shape now).unused) (shape b).unused

@@ -22,7 +22,7 @@ use Rattle.cdf_edits.specs.Commands.Room.{entries_in, entries_below, widest, wid
 use Rattle.cdf_examples.specs.Scripts.{run_script}
 use Rattle.std.specs.Fmt.{digits}
 use Rattle.cdf_edits.specs.Commands.Does.{Does}
-use Rattle.cdf_examples.proofs.Deciding.{of_variable, nodes_if, freed_if, each_if}
+use Rattle.cdf_examples.proofs.Deciding.{of_variable, nodes_if, given_if, each_if}
 use Rattle.cdf_edits.specs.Commands.Cuts.{DeletesRecords}
 use Rattle.cdf_edits.specs.Commands.Allowances.{no_fields}
 use Rattle.cdf_edits.specs.Index.Written.{is_taken_at}
@@ -52,13 +52,15 @@ does = of_variable records_file all_deleted_file (codes "T") (λ found v v'. Del
   cut = Gave 748 28 ∷ Gave 776 140 ∷ [];
   again = [];
   acts_are = refl;
-  cuts = (record { index_is = refl; once = refl; takes = tt; stand = tt; stay = (tt, tt) }, refl, refl);
+  cuts = (record { index_is = refl; apart = refl; once = refl; frees = (refl, (refl, tt)); takes = tt; stand = tt; stay = (tt, tt) }, refl, refl);
+  parts = λ sparse. absurd cc;
   blocks = (tt, tt);
   others_stay = λ k covered. of_four (λ k. is_deleted records_data 0 3 k ≡ false → stored_bytes all_deleted_file 404 (record_length records_data) (leaves_of (t_shape no_node).index) (number_after_cut records_data 0 3 k) ≡ stored_bytes records_file 404 (record_length records_data) (leaves_of (t_shape records_index).index) k) (λ kept. absurd cc) (λ kept. absurd cc) (λ kept. absurd cc) (λ kept. absurd cc) k covered;
   new_nodes = each_if (λ vxr. is_taken_at (Gave 748 28 ∷ Gave 776 140 ∷ []) vxr ≡ true → size_at all_deleted_file vxr ≡ vxr_bytes (room_at all_deleted_file vxr)) (λ vxr. not (is_taken_at (Gave 748 28 ∷ Gave 776 140 ∷ []) vxr)) (λ vxr h e. absurd (clash (is_taken_at (Gave 748 28 ∷ Gave 776 140 ∷ []) vxr) h e)) (nodes_of after.index) refl;
   nodes = nodes_if records_file all_deleted_file _ (nodes_of before.index) (nodes_of after.index) (Gave 748 28 ∷ Gave 776 140 ∷ []) refl;
   tail = refl;
-  freed = λ once. freed_if records_file all_deleted_file no_fields (Gave 748 28 ∷ []) refl;
+  freed_first = given_if records_file all_deleted_file no_fields (Gave 748 28 ∷ Gave 776 140 ∷ []) (Gave 748 28 ∷ []) refl;
+  freed_again = tt;
   r_max_rec = refl;
 })
   where

@@ -1,4 +1,4 @@
-use Rattle.std.proofs.Common.{refl, ◌≡◌, [], ◌∷◌, codes, pos, false, true, Bool, arith, inl}
+use Rattle.std.proofs.Common.{refl, ◌≡◌, [], ◌∷◌, codes, pos, false, true, Bool, arith}
 use Rattle.cdf_edits.specs.Index.Blocks.{firsts_of, entry_firsts, cover}
 use Rattle.cdf_edits.specs.Index.Grown.{new_room, with_leaf, new_room_below, with_lower, cut_nodes, cut_entries, outline, entries_outline}
 use Rattle.cdf_edits.specs.Index.Cut.{sized_nodes, sized_nodes_below}
@@ -51,13 +51,15 @@ does = of_variable two_stored_file first_cut_file (codes "T") (λ found v v'. De
   cut = [];
   again = [];
   acts_are = refl;
-  cuts = (record { index_is = refl; once = refl; takes = tt; stand = (refl, tt); stay = ((λ part whole. (refl, refl, refl), tt), tt) }, refl, refl);
-  blocks = ((record { kept = λ part. record { packed = λ whole rle. absurd cc; placed = λ settled. (refl, refl); stands = inl refl; bytes = λ settled whole. record { packed = λ rle. absurd cc; spare = same_if two_stored_file first_cut_file 772 776 refl; reserved = λ packed. absurd cc }; rest = λ settled. absurd cc }; split = λ part. absurd cc }, tt), tt);
+  cuts = (record { index_is = refl; apart = refl; once = refl; frees = (refl, (refl, tt)); takes = tt; stand = (refl, tt); stay = ((λ part whole. (refl, refl, refl), tt), tt) }, refl, refl);
+  parts = λ sparse. absurd cc;
+  blocks = ((record { kept = λ part. record { packed = λ whole rle. absurd cc; placed = λ settled. (refl, refl); bytes = λ settled whole. record { packed = λ rle. absurd cc; spare = same_if two_stored_file first_cut_file 772 776 refl; reserved = λ packed. absurd cc } }; split = λ part. absurd cc }, tt), tt);
   others_stay = λ k covered. of_four (λ k. is_deleted (t_data (pos 1) ((0, high_first 1) ∷ (1, high_first 2) ∷ [])) 0 0 k ≡ false → stored_bytes first_cut_file 404 (record_length (t_data (pos 1) ((0, high_first 1) ∷ (1, high_first 2) ∷ []))) (leaves_of (t_shape (one_node 776 7 (block 0 2 748 false no_entry))).index) (number_after_cut (t_data (pos 1) ((0, high_first 1) ∷ (1, high_first 2) ∷ [])) 0 0 k) ≡ stored_bytes two_stored_file 404 (record_length (t_data (pos 1) ((0, high_first 1) ∷ (1, high_first 2) ∷ []))) (leaves_of (t_shape records_index).index) k) (λ kept. absurd cc) (λ kept. refl) (λ kept. refl) (λ kept. refl) k covered;
   new_nodes = each_if (λ vxr. is_taken_at ([]) vxr ≡ true → size_at first_cut_file vxr ≡ vxr_bytes (room_at first_cut_file vxr)) (λ vxr. not (is_taken_at ([]) vxr)) (λ vxr h e. absurd (clash (is_taken_at ([]) vxr) h e)) (nodes_of after.index) refl;
   nodes = nodes_if two_stored_file first_cut_file _ (nodes_of before.index) (nodes_of after.index) ([]) refl;
   tail = refl;
-  freed = λ once. tt;
+  freed_first = tt;
+  freed_again = tt;
   r_max_rec = refl;
 })
   where

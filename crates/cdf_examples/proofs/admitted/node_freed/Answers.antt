@@ -1,4 +1,4 @@
-use Rattle.std.proofs.Common.{refl, ◌≡◌, [], ◌∷◌, codes, pos, false, true, Bool, arith, inl}
+use Rattle.std.proofs.Common.{refl, ◌≡◌, [], ◌∷◌, codes, pos, false, true, Bool, arith}
 use Rattle.cdf_edits.specs.Index.Blocks.{firsts_of, entry_firsts, cover}
 use Rattle.cdf_edits.specs.Index.Grown.{new_room, with_leaf, new_room_below, with_lower, cut_nodes, cut_entries, outline, entries_outline}
 use Rattle.cdf_edits.specs.Index.Cut.{sized_nodes, sized_nodes_below}
@@ -25,7 +25,7 @@ use Rattle.cdf_edits.specs.Commands.Room.{entries_in, entries_below, widest, wid
 use Rattle.cdf_examples.specs.Scripts.{run_script}
 use Rattle.std.specs.Fmt.{digits}
 use Rattle.cdf_edits.specs.Commands.Does.{Does}
-use Rattle.cdf_examples.proofs.Deciding.{of_variable, nodes_if, freed_if, each_if}
+use Rattle.cdf_examples.proofs.Deciding.{of_variable, nodes_if, given_if, each_if}
 use Rattle.cdf_edits.specs.Commands.Cuts.{DeletesRecords}
 use Rattle.cdf_edits.specs.Commands.Allowances.{no_fields}
 use Rattle.cdf_edits.specs.Index.Written.{is_taken_at}
@@ -55,13 +55,15 @@ does = of_variable two_nodes_file node_freed_file (codes "T") (λ found v v'. De
   cut = Gave 916 28 ∷ Gave 944 140 ∷ [];
   again = [];
   acts_are = refl;
-  cuts = (record { index_is = refl; once = refl; takes = tt; stand = (refl, tt); stay = ((λ part whole. (refl, refl, refl), tt), ((λ part. absurd cc, tt), tt)) }, refl, refl);
-  blocks = ((record { kept = λ part. record { packed = λ whole. absurd cc; placed = λ settled. (refl, refl); stands = inl refl; bytes = λ settled whole. absurd cc; rest = λ settled. absurd cc }; split = λ part. absurd cc }, tt), ((record { kept = λ part. absurd cc; split = λ part. absurd cc }, tt), tt));
+  cuts = (record { index_is = refl; apart = refl; once = refl; frees = (refl, (refl, (refl, (refl, tt)))); takes = tt; stand = (refl, tt); stay = ((λ part whole. (refl, refl, refl), tt), ((λ part. absurd cc, tt), tt)) }, refl, refl);
+  parts = λ sparse. absurd cc;
+  blocks = ((record { kept = λ part. record { packed = λ whole. absurd cc; placed = λ settled. (refl, refl); bytes = λ settled whole. absurd cc }; split = λ part. absurd cc }, tt), ((record { kept = λ part. absurd cc; split = λ part. absurd cc }, tt), tt));
   others_stay = λ k covered. first_or_second (λ k. is_deleted (t_data (pos 7) ((0, high_first 7) ∷ (1, pad_high_first) ∷ (2, pad_high_first) ∷ (3, high_first 9) ∷ (4, high_first 7) ∷ (5, pad_high_first) ∷ (6, pad_high_first) ∷ (7, high_first 9) ∷ [])) 4 7 k ≡ false → stored_bytes node_freed_file 404 (record_length (t_data (pos 7) ((0, high_first 7) ∷ (1, pad_high_first) ∷ (2, pad_high_first) ∷ (3, high_first 9) ∷ (4, high_first 7) ∷ (5, pad_high_first) ∷ (6, pad_high_first) ∷ (7, high_first 9) ∷ []))) (leaves_of records_index) (number_after_cut (t_data (pos 7) ((0, high_first 7) ∷ (1, pad_high_first) ∷ (2, pad_high_first) ∷ (3, high_first 9) ∷ (4, high_first 7) ∷ (5, pad_high_first) ∷ (6, pad_high_first) ∷ (7, high_first 9) ∷ [])) 4 7 k) ≡ stored_bytes two_nodes_file 404 (record_length (t_data (pos 7) ((0, high_first 7) ∷ (1, pad_high_first) ∷ (2, pad_high_first) ∷ (3, high_first 9) ∷ (4, high_first 7) ∷ (5, pad_high_first) ∷ (6, pad_high_first) ∷ (7, high_first 9) ∷ []))) (leaves_of (node 776 7 (block 0 3 748 false no_entry) (one_node 944 7 (block 4 7 916 false no_entry)))) k) k (nat_le 4 k && nat_le k 7) covered (λ kept. refl) (λ kept. refl) (λ kept. refl) (λ kept. refl) (λ second kept. absurd (not_kept (nat_le 4 k && nat_le k 7) second kept));
   new_nodes = each_if (λ vxr. is_taken_at (Gave 916 28 ∷ Gave 944 140 ∷ []) vxr ≡ true → size_at node_freed_file vxr ≡ vxr_bytes (room_at node_freed_file vxr)) (λ vxr. not (is_taken_at (Gave 916 28 ∷ Gave 944 140 ∷ []) vxr)) (λ vxr h e. absurd (clash (is_taken_at (Gave 916 28 ∷ Gave 944 140 ∷ []) vxr) h e)) (nodes_of after.index) refl;
   nodes = nodes_if two_nodes_file node_freed_file _ (nodes_of before.index) (nodes_of after.index) (Gave 916 28 ∷ Gave 944 140 ∷ []) refl;
   tail = refl;
-  freed = λ once. freed_if two_nodes_file node_freed_file no_fields (Gave 916 28 ∷ []) refl;
+  freed_first = given_if two_nodes_file node_freed_file no_fields (Gave 916 28 ∷ Gave 944 140 ∷ []) (Gave 916 28 ∷ []) refl;
+  freed_again = tt;
   r_max_rec = refl;
 })
   where

@@ -1,4 +1,4 @@
-use Rattle.std.proofs.Common.{refl, [], ◌∷◌, codes, pos, false, arith}
+use Rattle.std.proofs.Common.{refl, [], ◌∷◌, codes, pos, false, inl, arith}
 use Rattle.cdf_edits.specs.Index.Blocks.{firsts_of, entry_firsts, cover}
 use Rattle.cdf_edits.specs.Index.Grown.{new_room, with_leaf, new_room_below, with_lower, cut_nodes, cut_entries, outline, entries_outline}
 use Rattle.cdf_edits.specs.Index.Cut.{sized_nodes, sized_nodes_below}
@@ -44,6 +44,7 @@ does = deleted_named small_block_file var_deleted_file (codes "T") (Gave 748 24 
   attributes = λ n a a' was is. absurd cc;
   r_max_rec_is = refl;
   freed = freed_if small_block_file var_deleted_file (index_of kinds.Z) (Gave 748 24 ∷ Gave 772 140 ∷ Gave 404 344 ∷ []) refl;
+  emptied = (inl refl, (inl refl, tt));
 })
 
 pub returns : goal.returns

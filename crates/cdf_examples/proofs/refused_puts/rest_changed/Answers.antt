@@ -1,9 +1,9 @@
-use Rattle.std.proofs.Common.{refl, sym, subst, ap, ◌∙◌, ◌≡◌, List, [], ◌∷◌, codes, negsuc, false, true, arith}
+use Rattle.std.proofs.Common.{refl, sym, subst, ap, ap₂, ◌∙◌, ◌≡◌, ℕ, List, [], ◌∷◌, codes, negsuc, false, true, arith}
 use Rattle.cdf_edits.specs.Index.Grown.{new_room, with_leaf}
-use Rattle.cdf_edits.specs.Space.Acts.{Act, Took, none_twice}
+use Rattle.cdf_edits.specs.Space.Acts.{Act, Took, lies_in_taken}
 use Rattle.cdf_format.specs.Chains.{chain_on}
 use Rattle.cdf_format.specs.Content.{content}
-use Rattle.cdf_format.specs.Index.{nodes_of, lower_nodes, leaves_of, entry_leaves, no_node, block, no_entry}
+use Rattle.cdf_format.specs.Index.{link_to, nodes_of, lower_nodes, leaves_of, entry_leaves, no_node, block, no_entry}
 use Rattle.cdf_format.specs.IndexRules.{nodes_rows, used_rows}
 use Rattle.cdf_format.specs.IndexWalk.{entries_on, nodes_on, levels_on}
 use Rattle.cdf_format.specs.Shape.{shape, VariableShape}
@@ -27,9 +27,9 @@ refused acts claim =
     let block_take = first_take 28 _ acts puts in
     let node_take = first_take 140 _ block_take.more block_take.rest.1 in
     let all : acts ≡ Took block_take.place 28 ∷ Took node_take.place 140 ∷ [] = block_take.acts_are ∙ ap (λ (more : List Act). Took block_take.place 28 ∷ more) (node_take.acts_are ∙ ap (λ (more : List Act). Took node_take.place 140 ∷ more) node_take.rest.0) in
-    let once = subst (λ (list : List Act). none_twice [] list ≡ true) (sym all) refl in
-    let stays = (claim.acts_follow.rests once).0.0 (omega arith) (omega arith) in
-    unequal 1 0 refl (stays.each 804 (omega arith) (omega arith))
+    let stood : acts ≡ Took 748 28 ∷ Took 848 140 ∷ [] = all ∙ ap₂ (λ (block_at node_at : ℕ). Took block_at 28 ∷ Took node_at 140 ∷ []) block_take.rest.0 (ap link_to node_take.rest.1) in
+    let untaken = subst (λ (list : List Act). lies_in_taken list 804 ≡ false) (sym stood) refl in
+    unequal 1 0 refl (claim.acts_follow.rests.0.0 (omega arith) (omega arith) 804 (omega arith) (omega arith) untaken)
 
 pub returns : goal.returns
 unfolding rest_changed_file rest_listed_file shape content tiles_from chain_on nodes_of lower_nodes leaves_of entry_leaves entries_on nodes_on levels_on nodes_rows used_rows
