@@ -1,10 +1,11 @@
--- Images that commands that cut lead to, and wrong ones beside them, which have the same content and keep the rules: of the variable `T` of the type INT4 with blocks of 4 records.
+-- Images that commands that cut lead to, and wrong ones beside them, which have the same content and keep the rules: of the variable `T` of the type INT4 with blocks of 4 records, or of the packed variable `R`.
 use Rattle.std.specs.Prelude.{ℕ, List, [], ◌∷◌, drop, true, codes}
 use Rattle.cdf_model.specs.declared.command.Command.{Command}
 use Rattle.cdf_model.specs.declared.command.Command.TheVariants as commands
 use Rattle.cdf_model.specs.declared.kinds.Sparse.TheVariants.{Pad}
-use Rattle.cdf_examples.specs.Building.{◌⧺◌, minus4, zeros, sized, magic, new_cdr, cdr, new_gdr, gdr, VdrFields, z_vdr, covering, vxr, vxr_of, vvr, cpr, uir}
+use Rattle.cdf_examples.specs.Building.{◌⧺◌, minus4, zeros, sized, magic, new_cdr, cdr, new_gdr, gdr, VdrFields, z_vdr, covering, vxr, vxr_of, vvr, cvvr, cpr, uir}
 use Rattle.cdf_examples.specs.OneVariable.{heads}
+use Rattle.cdf_examples.specs.PackedFiles.{r_vdr}
 use Rattle.cdf_examples.specs.RecordFiles.{t_vdr, t_with, low_first, records_block}
 use Rattle.cdf_examples.specs.WrongPuts.{t_up_to}
 
@@ -135,3 +136,22 @@ var_deleted_file = without_t (sized minus4 (low_first 1 ⧺ low_first 2 ⧺ low_
 -- the block is freed in two pieces
 unfoldable pub two_pieces_file : List ℕ
 two_pieces_file = without_t (sized minus4 [] ⧺ sized minus4 [])
+
+-- ---- a compressed variable with a packed leaf of one record and one of two; the first two records go
+
+abbrev pub delete_r : ℕ → ℕ → Command
+delete_r first last = commands.DelRecs (codes "R") first last
+
+abbrev pub r_up_to : ℕ → VdrFields
+r_up_to last = record r_vdr { max_rec = last; vxr_head = 812; vxr_tail = 812 }
+
+unfoldable pub two_packed_file : List ℕ
+two_packed_file = heads 980 0 ⧺ z_vdr (r_up_to 2) ⧺ cpr ⧺ cvvr (0x00 ∷ 0x27 ∷ []) 2 ⧺ vxr (covering 0 0 784 ∷ covering 1 2 952 ∷ []) ⧺ cvvr (0x00 ∷ 0x4f ∷ []) 2
+
+-- what is left of the second leaf stays in its record
+unfoldable pub packed_stays_file : List ℕ
+packed_stays_file = heads 980 784 ⧺ z_vdr (r_up_to 0) ⧺ cpr ⧺ uir 0 0 [] ⧺ vxr (covering 0 0 952 ∷ []) ⧺ cvvr (0x00 ∷ 0x27 ∷ []) 2
+
+-- it stands in that of the first one
+unfoldable pub packed_elsewhere_file : List ℕ
+packed_elsewhere_file = heads 980 952 ⧺ z_vdr (r_up_to 0) ⧺ cpr ⧺ cvvr (0x00 ∷ 0x27 ∷ []) 2 ⧺ vxr (covering 0 0 784 ∷ []) ⧺ uir 0 0 []

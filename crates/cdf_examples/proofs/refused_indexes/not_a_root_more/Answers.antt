@@ -1,0 +1,9 @@
+use Rattle.std.proofs.Common.{◌≡◌, length, refl, subst}
+use Rattle.cdf_edits.specs.Commands.Room.{nodes_above}
+use Rattle.cdf_format.specs.Index.{Nodes, nodes_of, lower_nodes, leaves_of, entry_leaves}
+use Rattle.cdf_examples.proofs.Refusing.{unequal}
+use Rattle.cdf_examples.proofs.refused_indexes.not_a_root_more.Goals as goal
+
+pub returns : goal.returns
+unfolding nodes_of lower_nodes leaves_of entry_leaves nodes_above
+returns c b now before after acts root only first last place packed is made = unequal 2 1 refl (subst (λ (index : Nodes). length (nodes_of index) ≡ nodes_above 8 (length (leaves_of index))) is made.fewest)
