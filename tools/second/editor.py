@@ -12,6 +12,8 @@ COUNTS = {AGREDR: (Adr.NgrEntries, Adr.MAXgrEntry), AZEDR: (Adr.NzEntries, Adr.M
 
 
 class Editor(Records):
+    # The chains of an attribute are emptied entry by entry before its ADR is freed.
+    empties_chains = False
 
     def by_name(self, places, field, name):
         return next(at for at in places if self.name(at, field) == name)
@@ -65,8 +67,9 @@ class Editor(Records):
             self.add(at, Adr.Num, -1)
             for entry in self.entries(at, AGREDR) + self.entries(at, AZEDR):
                 self.add(entry, Aedr.AttrNum, -1)
-        for at in entries + [adr]:
-            self.give(at)
+        for at in entries:
+            self.drop_entry(adr, self.type(at), at) if self.empties_chains else self.give(at)
+        self.give(adr)
 
     # Entries
 
@@ -310,7 +313,7 @@ def content_of_entry(c):
     return TYPES[c.type], elems, network
 
 
-CHOICES = ('free_last', 'later_first', 'nodes_first', 'keeps_reserved', 'empties_index')
+CHOICES = ('free_last', 'later_first', 'nodes_first', 'keeps_reserved', 'empties_index', 'empties_chains', 'skips_lost')
 
 
 def apply(data, c, limit=IMAGE_LIMIT, before=None, choices=()):

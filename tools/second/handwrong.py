@@ -101,6 +101,17 @@ def free_record(size, then):
     return [ATTRIBUTE, entry(0, b'x' * (size - 56)), drop_entry(0)] + then
 
 
+def unused_filled():
+    """A node of seven entries, of which one is used and the others hold numbers."""
+    h = Hand()
+    return h.finished([h.variable(b'T', 0, h.node(7, [(0, 0, h.block(bytes([1])))], (9, 9, 9)), blocking=1)])
+
+
+def past_max_rec(count, last=5, rle=False):
+    """Under a sparse rule a block of so many records, of which those up to a last one are stored."""
+    return [variable(), sparse(1), compress(rle), blocking(count)] + [put(k, k if not rle else 0) for k in range(last + 1)]
+
+
 FOUR = [variable(), blocking(4)]
 ENTRIES = [ATTRIBUTE, entry(0, b'a'), entry(1, b'b'), entry(2, b'c')]
 CASES = [
@@ -140,6 +151,22 @@ CASES = [
     ('bytes behind the links of the rest of a split change', 'RestChanged', free_record(200, FOUR), put(0, 7)),
     ('a freed record keeps not its bytes', 'FreedChanged', ENTRIES, drop_entry(1)),
     ('VXRtail is not written', 'TailNotWritten', FOUR, put(0, 7)),
+    ('a cut frees a block that it keeps', 'BlockFreedAndTaken', [variable(), blocking(16), put(15, 7)], delete(4, 15)),
+    ('a packed leaf stands in the record of another', 'BlockMovedOnCut',
+     [variable(), compress(True), blocking(40), put(79, 0)], delete(0, 44)),
+    ('a packed leaf that both cuts make shorter is moved', 'BlockMovedOnCut', past_max_rec(64, 40, True), delete(0, 3)),
+    ('a rest changes where what was split off is freed again', 'RestChanged', free_record(200, past_max_rec(16)),
+     delete(3, 5)),
+    ('a block that the second cut frees changes', 'FreedChanged', past_max_rec(16), delete(0, 5)),
+    ('a split block that the second cut frees changes', 'FreedChanged', past_max_rec(16), delete(3, 5)),
+    ('a packed block that the second cut frees was longer', 'BlockLonger', past_max_rec(64, 20, True), delete(15, 20)),
+    ('what the first of two cuts frees is freed last', 'FirstCutFreesLate',
+     [variable(), sparse(1), blocking(4)] + [put(k, k) for k in range(10)], delete(4, 9)),
+    ('entries become -1 that no index used', 'UnusedCleared', unused_filled(), put(4, 1)),
+    ('an emptied field of an ADR holds another number', 'FreedFieldChanged', ENTRIES, C('del-attr', name=b'A')),
+    ('an emptied field of a VDR holds another number', 'FreedFieldChanged', FOUR + [put(0, 7)], C('del-var', name=b'T')),
+    ('a field of the old GDR holds another number', 'FreedFieldChanged', [], C('setup', encoding=1, row=True, dims=[2])),
+    ('a new index has a root too many', 'ReindexTooHigh', FOUR + [put(0, 7)], C('reindex', name=b'T')),
 ]
 
 

@@ -20,6 +20,9 @@ class Records(Space):
     nodes_first = False
     # A packed block that is placed anew keeps rfuA.
     keeps_reserved = False
+    # What the first of two cuts leaves of a block is not written where the second one frees it.
+    skips_lost = False
+    lost_from = None
 
     # Counts
 
@@ -241,8 +244,10 @@ class Records(Space):
             at = self.shortened(vdr, leaf, before)
             later = Entry(last + 1, leaf.last, block or self.new_block(vdr, after))
             return Leaf(leaf.first, first - 1, at), later
-        at = self.shortened(vdr, leaf, before + after)
         start = leaf.first if before else last + 1
+        if self.lost_from is not None and self.lost_from <= start and not self.compressed(vdr):
+            return Leaf(start, leaf.last, leaf.at), None
+        at = self.shortened(vdr, leaf, before + after)
         return Leaf(start, start + len(before + after) // size - 1, at), None
 
     def shortened(self, vdr, leaf, plain):
@@ -292,7 +297,10 @@ class Records(Space):
             self.cut(vdr, first, last, True)
             self.set_max_rec(vdr, old_max - (last - first + 1))
             return
+        if self.skips_lost and last >= old_max:
+            self.lost_from = last + 1
         self.cut(vdr, first, last, False)
+        self.lost_from = None
         stored = [min(leaf.last, old_max) for leaf in self.index(vdr) if leaf.first <= old_max]
         self.set_max_rec(vdr, max(stored, default=-1))
         self.cut(vdr, self[vdr, Vdr.MaxRec] + 1, LAST_NUMBER, False)

@@ -4,8 +4,8 @@ Each names in `commands` the commands that it is tried on; None is all that writ
 """
 from editor import Editor
 from image import Entry
-from layout import (AGREDR, AZEDR, BLOCK_RECORDS, CVVR, LAST_NUMBER, PACKED_BYTES, UIR, VVR, VXR, Aedr, Cvvr, Gdr,
-                    RecordSize, RecordType, Uir, Vdr, Vxr, node_size)
+from layout import (ADR, AGREDR, AZEDR, BLOCK_RECORDS, CVVR, GDR, LAST_NUMBER, PACKED_BYTES, RVDR, UIR, VVR, VXR, ZVDR,
+                    Adr, Aedr, Cvvr, Gdr, RecordSize, RecordType, Uir, Vdr, Vxr, node_size)
 
 PUTS = ('put-rec', 'put-val')
 CUTS = ('del-recs', 'set-sparse', 'set-compress')
@@ -213,7 +213,51 @@ class FreedChanged(Wrong):
                 self.write(at + size - 1, bytes((self.byte(at + size - 1) ^ 1,)))
 
 
+class FreedFieldChanged(Wrong):
+    """A field of a freed ADR, VDR or GDR that a command may empty holds another number."""
+    commands = ('del-attr', 'del-var', 'setup')
+    FIELDS = {ADR: (Adr.NgrEntries, Adr.MAXgrEntry, Adr.AzEDRhead, Adr.NzEntries, Adr.MAXzEntry),
+              RVDR: (Vdr.VXRhead, Vdr.VXRtail), ZVDR: (Vdr.VXRhead, Vdr.VXRtail), GDR: (Gdr.UIRhead, Gdr.eof)}
+
+    def give(self, at):
+        self.fields_freed = getattr(self, 'fields_freed', []) + [(at, f) for f in self.FIELDS.get(self.type(at), ())]
+        super().give(at)
+
+    def finish(self, c):
+        fields = getattr(self, 'fields_freed', [])
+        if fields:
+            at, field = fields[len(self.data) // 4 % len(fields)]
+            self[at, field] = 77
+
+
 # ---- blocks
+
+class FirstCutFreesLate(Wrong):
+    """What the first of two cuts frees is freed after what the second one frees."""
+    commands, holding = ('del-recs',), False
+
+    def delete(self, vdr, first, last):
+        self.held, self.holding = [], True
+        super().delete(vdr, first, last)
+        for at in self.held:
+            super().give(at)
+
+    def cut(self, vdr, first, last, close):
+        super().cut(vdr, first, last, close)
+        self.holding = False
+
+    def give(self, at):
+        self.held.append(at) if self.holding else super().give(at)
+
+
+class BlockFreedAndTaken(Wrong):
+    """A block that a cut makes shorter is freed and taken again, with what it leaves on the list."""
+    commands = ('del-recs',)
+
+    def shortened(self, vdr, leaf, plain):
+        self.give(leaf.at)
+        return self.new_block(vdr, plain)
+
 
 class BlockMoved(Wrong):
     """A block that is written in place, or shortened, is placed anew."""
@@ -458,6 +502,17 @@ class UnusedEntriesZero(Wrong):
         return at
 
 
+class UnusedCleared(Wrong):
+    """Entries that were not used and are not used become -1."""
+    commands = PUTS + ('del-recs',)
+
+    def finish(self, c):
+        vdr = self.variable_named(c.name)
+        for node in self.nodes(self[vdr, Vdr.VXRhead]):
+            for i in range(self.used(node), self[node, Vxr.Nentries]):
+                self.set_entry(node, i, Entry(-1, -1, -1))
+
+
 class TailNotWritten(Wrong):
     """VXRtail is not written."""
     commands = PUTS + CUTS + ('reindex',)
@@ -545,6 +600,21 @@ class ReindexRootFirst(Wrong):
                     self.set_entry(node, i, Entry(entry.first, entry.last, swap[entry.at]))
         self[vdr, Vdr.VXRhead] = first
         self[vdr, Vdr.VXRtail] = first
+
+
+class ReindexTooHigh(Wrong):
+    """A root is made over a node that would do."""
+    commands = ('reindex',)
+
+    def reindex(self, vdr):
+        leaves = self.index(vdr)
+        super().reindex(vdr)
+        if leaves:
+            old = self[vdr, Vdr.VXRhead]
+            node = self.new_node(64)
+            self.fill_node(node, [Entry(leaves[0].first, leaves[-1].last, old)])
+            self[vdr, Vdr.VXRhead] = node
+            self[vdr, Vdr.VXRtail] = node
 
 
 class NodeSpareChanged(Wrong):

@@ -8,7 +8,7 @@ from layout import RVDR, VXR, ZVDR, Field, Gdr, Uir
 
 from .named import at_number, found_variable
 from .shape import leaves_of, owned, shape, shapes_of, unused_records
-from .space_acts import links_end, taken
+from .space_acts import links_end, same_untaken, taken
 
 ANYTHING = None
 NEXT_FIELD = Field(12, 8)
@@ -79,24 +79,32 @@ def no_fields(kind):
     return []
 
 
-def freed_stays(b, now, place, size, fields, uir):
+def freed_stays(b, now, acts, place, size, fields, uir):
     """FreedStays: behind the links of an unused record that lies in a freed one, but for these fields of that."""
-    end = uir + now.size_at(uir)
-    first, last = max(place, uir + links_end(now.size_at(uir))), min(place + size, end)
-    if first >= last:
-        return True
-    old, new = bytearray(b.take(first, last - first)), bytearray(now.take(first, last - first))
-    for f in fields:
-        start, stop = max(0, place + f.offset - first), min(len(old), place + f.offset + f.width - first)
-        if start < stop:
-            old[start:stop] = new[start:stop] = bytes(stop - start)
-    return old == new
+    first = max(place, uir + links_end(now.size_at(uir)))
+    last = min(place + size, uir + now.size_at(uir))
+    for f in sorted(fields, key=lambda f: f.offset):
+        start, stop = place + f.offset, place + f.offset + f.width
+        if not same_untaken(b, now, acts, first, min(last, start)):
+            return False
+        first = max(first, stop)
+    return same_untaken(b, now, acts, first, last)
+
+
+def given_stay(b, now, but, acts, gives):
+    """GivenStay."""
+    return all(freed_stays(b, now, acts, place, size, but(b.type_at(place)), uir)
+               for kind, place, size in gives if kind == 'give' for uir in unused_records(now, shape(now)))
 
 
 def freed_stay(b, now, but, acts):
     """FreedStay."""
-    return all(freed_stays(b, now, place, size, but(b.type_at(place)), uir)
-               for kind, place, size in acts if kind == 'give' for uir in unused_records(now, shape(now)))
+    return given_stay(b, now, but, acts, acts)
+
+
+def stays_or_says(b, now, place, fields):
+    """StaysOrSays."""
+    return all(now.num(place, f) in (b.num(place, f), n) for f, n in fields)
 
 
 # Of variables

@@ -1,21 +1,22 @@
 """Commands/Cuts: `del-recs`, `set-sparse`, `set-compress`."""
-from itertools import chain, product
+from itertools import product
 
 from layout import LAST_NUMBER, Cpr, Vdr, Vxr
 
 from .allowances import (ANYTHING, SPACE_FIELDS, STAYS_ALL, STAYS_OWN, OwnAllowances, anything_if, of_variable,
                          r_max_rec_field)
 from .greatest_record import r_max_rec_follows
-from .index_blocks import cut_open, extent_after, fallen, is_sparse, ranges_of, record_length, shared
+from .index_blocks import extent_after, fallen, is_sparse, ranges_of, record_length, shared
+from .cut_twice import parts_follow
 from .index_cut import block_placed, blocks_freed_stay, cuts_index, is_part, is_whole, none_written
 from .index_grown import cut_nodes, index_cut_closed, index_cut_open, kept_closed, kept_open, split_off
 from .index_written import (block_follows, block_need, is_taken_at, nodes_follow, stays_put, stored_bytes,
                             tail_follows, well_packed)
 from .new_records import says, with_bits
-from .room import cuts_in_part, range_bytes, vxr_bytes
+from .room import vxr_bytes
 from .shape import Lower, leaves_of, nodes_of
-from .space_acts import gave, none_twice, taken
-from .words import ALL8, holds, under
+from .space_acts import gave, taken
+from .words import ALL8, holds, refused, under
 
 PUT_FIELDS = [Vdr.MaxRec, Vdr.VXRhead, Vdr.VXRtail]
 
@@ -38,8 +39,9 @@ def past_new_max_rec(v, first, last):
     return kept_open(extent_after(v, first, last), LAST_NUMBER)
 
 
-def placings(index, before, after, takes):
+def placings(rle, index, before, after, takes):
     """An index with places for what a cut made new: records that it took, or where the block was."""
+    packings = (False, True) if rle else (False,)
     was_leaf = {(leaf.first, leaf.last) for leaf in leaves_of(before)}
     there = {(leaf.first, leaf.last): leaf for leaf in leaves_of(after)}
     places = [place for place, _ in takes]
@@ -58,7 +60,7 @@ def placings(index, before, after, takes):
                         slots.append([(found.place, found.packed)])
                     else:
                         was = [entry.place] if entry.place else []
-                        slots.append([(place, entry.packed) for place in was + places])
+                        slots.append([(place, packed) for place in was + places for packed in packings])
 
     def filled(nodes, chosen):
         return tuple(node._replace(place=next(chosen)[1] if node.place == 0 else node.place,
@@ -79,28 +81,23 @@ def placings(index, before, after, takes):
 
 
 def cuts_twice(v, first, last, before, after, acts):
-    """The indexes between the cuts by which, with a place at which the acts part, both cuts follow."""
+    """The indexes between the cuts, and the acts of each, by which both cuts follow."""
     wanted = index_cut_open(first, last, before)
     second = past_new_max_rec(v, first, last)
     for at in range(len(acts), -1, -1):
         cut, again = acts[:at], acts[at:]
-        for middle in placings(wanted, before, after, taken(cut)):
+        for middle in placings(v.rle, wanted, before, after, taken(cut)):
             if (holds(cuts_index(v, second, middle, cut_nodes(False, second, middle), after, again))
                     and holds(cuts_index(v, kept_open(first, last), before, wanted, middle, cut))):
-                yield middle
+                yield middle, cut, again
 
 
 def cuts_once_or_twice(v, first, last, before, after, acts):
-    """CutsOnceOrTwice: the indexes that may be between the cuts."""
+    """CutsOnceOrTwice: the indexes that may be between the cuts, and the acts of each cut."""
     if is_sparse(v.sparse):
         yield from cuts_twice(v, first, last, before, after, acts)
     elif holds(cuts_index(v, kept_closed(first, last), before, index_cut_closed(first, last, before), after, acts)):
-        yield after
-
-
-def cuts_again(v, first, last, ranges):
-    return is_sparse(v.sparse) and any(
-        shared(extent_after(v, first, last), LAST_NUMBER, r) > 0 for r in cut_open(first, last, ranges))
+        yield after, acts, []
 
 
 def is_cut_twice(v, first, last, r):
@@ -123,15 +120,6 @@ def is_settled(v, first, last, old, new):
     return not (is_cut_twice(v, first, last, (old.first, old.last)) and first <= new.first)
 
 
-def holds_rest(b, now, v, last, old, new, is_new):
-    """HoldsRest: what the first cut left in a block of which the second one takes records."""
-    count, gone = range_bytes(v, (last + 1, old.last)), range_bytes(v, (old.first, last))
-    size = now.size_at(new.place)
-    yield 'records', now.take(new.place + 12, count) == b.take(old.place + 12 + gone, count)
-    rest = now.take(new.place + 12 + count, size - 12 - count)
-    yield 'spare', rest == (bytes(len(rest)) if is_new else b.take(new.place + 12 + count, len(rest)))
-
-
 def leaf_kept(m, v, first, last, vdr, acts, old, new):
     """LeafKept."""
     settled, whole = is_settled(v, first, last, old, new), is_whole(old, new)
@@ -139,11 +127,8 @@ def leaf_kept(m, v, first, last, vdr, acts, old, new):
         yield from under('packed', well_packed(m.now, vdr, new))
     yield 'placed', not settled or block_placed(m.now, vdr, acts, old, new,
                                                 whole or stays_put(m.b, m.now, v.rle, vdr, old, new))
-    yield 'stands', new.place == old.place or is_taken_at(acts, new.place)
     if settled and not whole:
         yield from under('bytes', block_follows(m.b, m.now, v.rle, vdr, [old], acts, new))
-    if not settled and not v.rle:
-        yield from under('rest', holds_rest(m.b, m.now, v, last, old, new, False))
 
 
 def leaf_split(m, v, first, last, vdr, acts, old, new):
@@ -152,13 +137,9 @@ def leaf_split(m, v, first, last, vdr, acts, old, new):
     yield 'is_new', is_taken_at(acts, new.place)
     if v.rle:
         yield from under('packed', well_packed(m.now, vdr, new))
-    else:
-        yield 'size_was', size == max(28, 12 + range_bytes(v, (last + 1, old.last)))
     if settled:
         yield 'size_is', size == block_need(m.now, vdr, new)
         yield from under('bytes', block_follows(m.b, m.now, v.rle, vdr, [], acts, new))
-    elif not v.rle:
-        yield from under('rest', holds_rest(m.b, m.now, v, last, old, new, True))
 
 
 def leaf_follows(m, v, first, last, vdr, acts, old, new):
@@ -182,31 +163,47 @@ def others_stay(m, v, first, last, before, after):
     return True
 
 
-def is_shortened_first(v, first, last, leaves, place):
-    return cuts_again(v, first, last, [(leaf.first, leaf.last) for leaf in leaves]) and any(
-        leaf.place == place and cuts_in_part(first, last, (leaf.first, leaf.last)) for leaf in leaves)
+def is_left_in_part(before, leaves, place):
+    return any(leaf.place == place and (leaf.first, leaf.last) not in before for leaf in leaves)
+
+
+def between_cuts(m, v, first, last, before, after, acts, middle, cut, again):
+    """The clauses of DeletesRecords that speak of what is between the cuts."""
+    b, now = m.b, m.now
+    ranges = ranges_of(before.index)
+    if is_sparse(v.sparse):
+        for old in leaves_of(before.index):
+            for part in leaves_of(middle):
+                yield from under('parts', parts_follow(
+                    b, now, v, after.vdr, kept_open(first, last), split_off(first, last),
+                    past_new_max_rec(v, first, last), cut, again, after.index, old, part))
+    yield from under('nodes', nodes_follow(b, now, [middle], nodes_of(before.index), nodes_of(after.index), acts))
+    yield 'tail', tail_follows(b, now, acts, middle, before, after)
+    yield 'freed_first', blocks_freed_stay(b, now, none_written, acts, cut)
+    yield 'freed_again', blocks_freed_stay(
+        b, now, lambda place: is_left_in_part(ranges, leaves_of(middle), place), acts, again)
 
 
 def deletes_records(m, v, first, last, before, after, acts):
     """DeletesRecords."""
-    b, now = m.b, m.now
-    was, leaves = nodes_of(before.index), leaves_of(before.index)
-    again = cuts_again(v, first, last, ranges_of(before.index))
-    middles = cuts_once_or_twice(v, first, last, before.index, after.index, acts)
-    middle = next(middles, None)
-    yield 'cuts', middle is not None
-    for old in leaves:
+    now = m.now
+    nearest = None
+    for middle, cut, again in cuts_once_or_twice(v, first, last, before.index, after.index, acts):
+        why = refused(between_cuts(m, v, first, last, before, after, acts, middle, cut, again))
+        if nearest is None or len(why) < len(nearest):
+            nearest = why
+        if not why:
+            break
+    yield 'cuts', nearest is not None
+    for name in nearest or []:
+        yield name, False
+    for old in leaves_of(before.index):
         for new in leaves_of(after.index):
             yield from under('blocks', leaf_follows(m, v, first, last, after.vdr, acts, old, new))
     yield 'others_stay', others_stay(m, v, first, last, before, after)
     places = nodes_of(after.index)
     yield 'new_nodes', all(now.size_at(vxr) == vxr_bytes(now.num(vxr, Vxr.Nentries))
                            for vxr in places if is_taken_at(acts, vxr))
-    yield from under('nodes', nodes_follow(b, now, again, was, places, acts))
-    yield 'tail', middle is not None and any(
-        tail_follows(b, now, acts, index, before, after) for index in chain([middle], middles))
-    yield 'freed', not none_twice(acts) or blocks_freed_stay(
-        b, now, lambda place: is_shortened_first(v, first, last, leaves, place), acts)
     yield 'r_max_rec', r_max_rec_follows(m)
 
 
@@ -233,7 +230,7 @@ def cuts_all(m, before, after, acts):
 def sets_sparse(m, before, after, acts):
     """SetsSparse."""
     yield from under('cuts', cuts_all(m, before, after, acts))
-    yield 'freed', blocks_freed_stay(m.b, m.now, none_written, acts)
+    yield 'freed', blocks_freed_stay(m.b, m.now, none_written, acts, acts)
 
 
 def cpr_acts(b, rle, old, new):
@@ -252,4 +249,4 @@ def sets_compress(m, rle, before, after, acts):
     yield 'flags_are', m.now.num(after.vdr, Vdr.Flags) == flags
     yield 'cpr_says', bool(before.cpr) or all(says(m.now, cpr, [(Cpr.rfuA, 0), (Cpr.pCount, 1)]) for cpr in after.cpr)
     yield 'link_is', rle or m.now.num(after.vdr, Vdr.CPRorSPRoffset) == ALL8
-    yield 'freed', blocks_freed_stay(m.b, m.now, none_written, acts)
+    yield 'freed', blocks_freed_stay(m.b, m.now, none_written, acts, acts)

@@ -1,7 +1,7 @@
 """Index/Cut: what a cut takes and frees, and where the blocks stand that it leaves."""
 from layout import VXR
 
-from .allowances import freed_stay, no_fields
+from .allowances import given_stay, no_fields
 from .index_grown import outline
 from .index_written import block_need, stays_put
 from .room import range_bytes, vxr_bytes
@@ -31,6 +31,10 @@ def sized_blocks(v, nodes):
     return [(leaf.place, max(28, 12 + range_bytes(v, (leaf.first, leaf.last)))) for leaf in leaves_of(nodes)]
 
 
+def index_records(nodes):
+    return nodes_of(nodes) + [leaf.place for leaf in leaves_of(nodes)]
+
+
 def is_needed(v, nodes, take):
     return take in sized_nodes(nodes) or any(
         take[0] == place and take[1] <= size and (v.rle or take[1] == size) for place, size in sized_blocks(v, nodes))
@@ -50,7 +54,10 @@ def cuts_index(v, kept, before, wanted, after, acts):
     """CutsIndex."""
     news = {place for place, _ in taken(acts)}
     yield 'index_is', outline(news, after) == outline(news, wanted)
+    here = index_records(after)
+    yield 'apart', len(set(here)) == len(here)
     yield 'once', none_twice(acts)
+    yield 'frees', all(place in here or is_given_at(acts, place) for place in index_records(before))
     yield 'stand', not any(is_given_at(acts, vxr) for vxr in nodes_of(wanted))
     yield 'takes', all(is_needed(v, after, take) for take in taken(acts))
     yield 'stay', all(stays_whole(v, kept, acts, old, new) for old in leaves_of(before) for new in leaves_of(after))
@@ -74,7 +81,7 @@ def none_written(place):
     return False
 
 
-def blocks_freed_stay(b, now, written, acts):
+def blocks_freed_stay(b, now, written, acts, gives):
     """BlocksFreedStay: a node may be emptied before it is freed, and these blocks may be written."""
-    return freed_stay(b, now, no_fields, [act for act in acts if act[0] == 'take' or not (
+    return given_stay(b, now, no_fields, acts, [act for act in gives if act[0] == 'take' or not (
         b.type_at(act[1]) == VXR or written(act[1]))])

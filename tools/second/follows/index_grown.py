@@ -150,6 +150,14 @@ def with_ranges(nodes, ranges):
     return nodes
 
 
+def indexes_with(nodes, ranges):
+    """An index, and what it becomes as each of these ranges gets a leaf."""
+    found = [nodes]
+    for r in ranges:
+        found.append(with_ranges(found[-1], [r]))
+    return found
+
+
 def index_cut_open(first, last, nodes):
     split = split_off(first, last)
     return with_ranges(cut_nodes(False, kept_open(first, last), nodes), [p for r in ranges_of(nodes) for p in split(r)])

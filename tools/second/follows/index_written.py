@@ -3,7 +3,7 @@ from image import encoded
 from layout import BYTES_LIMIT, Cvvr, Vdr, Vxr
 
 from .index_blocks import covers
-from .shape import packed_bytes, plain_bytes, plain_size
+from .shape import Lower, packed_bytes, plain_bytes, plain_size
 from .space_acts import taken
 from .words import ALL4, ALL8, same
 
@@ -20,8 +20,12 @@ def block_need(now, vdr, leaf):
     return max(28, block_end(now, vdr, leaf))
 
 
+def keeps_record(rle, was_packed, packed, end, size):
+    return not rle or (was_packed == packed and end <= size)
+
+
 def stays_put(b, now, rle, vdr, old, new):
-    return not rle or (old.packed == new.packed and block_end(now, vdr, new) <= b.size_at(old.place))
+    return keeps_record(rle, old.packed, new.packed, block_end(now, vdr, new), b.size_at(old.place))
 
 
 def is_longest(packed):
@@ -91,13 +95,18 @@ def was_unused(b, before, acts, vxr, i):
     return vxr in before and not is_taken_at(acts, vxr) and b.used(vxr) <= i
 
 
-def unused_entries(b, now, twice, before, acts, vxr):
+def uses_entry(vxr, i, nodes):
+    return any((node.place == vxr and i < len(node.entries)) or any(
+        uses_entry(vxr, i, entry.nodes) for entry in node.entries if isinstance(entry, Lower)) for node in nodes)
+
+
+def unused_entries(b, now, through, before, acts, vxr):
     """UnusedEntries."""
     empty = (ALL4, ALL4, ALL8)
     for i in range(now.used(vxr), now.num(vxr, Vxr.Nentries)):
         words = entry_words(now, vxr, i)
         wanted = entry_words(b, vxr, i) if was_unused(b, before, acts, vxr, i) else empty
-        if words != wanted and not (twice and words == empty):
+        if words != wanted and not (words == empty and any(uses_entry(vxr, i, index) for index in through)):
             return False
     return True
 
@@ -106,9 +115,9 @@ def node_spare_stays(b, now, acts, vxr):
     return is_taken_at(acts, vxr) or same(b, now, vxr + 28 + 16 * now.num(vxr, Vxr.Nentries), vxr + b.size_at(vxr))
 
 
-def nodes_follow(b, now, twice, before, after, acts):
+def nodes_follow(b, now, through, before, after, acts):
     """NodesFollow."""
-    yield 'unused', all(unused_entries(b, now, twice, before, acts, vxr) for vxr in after)
+    yield 'unused', all(unused_entries(b, now, through, before, acts, vxr) for vxr in after)
     yield 'spare', all(node_spare_stays(b, now, acts, vxr) for vxr in after)
 
 

@@ -7,7 +7,7 @@ from .greatest_record import r_max_rec_follows
 from .index_blocks import (covers, cuts_before_put, extent, first_written, ranges_after_put, ranges_before_put,
                            ranges_of, record_length, shared)
 from .index_cut import blocks_freed_stay, cuts_index, is_placed, none_written
-from .index_grown import cut_nodes, kept_open, new_room, with_leaf, with_place
+from .index_grown import cut_nodes, indexes_with, kept_open, new_room, with_leaf, with_place
 from .index_written import block_follows, block_need, nodes_follow, stays_put, stored_bytes, tail_follows
 from .room import is_rewritten, uncovered, vxr_bytes
 from .shape import leaves_of, nodes_of, plain_bytes, records_of_leaf, shape
@@ -67,8 +67,8 @@ def cuts_first(m, v, before, after, middle, acts):
                         for old in leaves_of(before.index) for new in leaves_of(middle))
 
 
-def fills_and_splits(acts):
-    return len(taken(acts)) >= 3
+def new_ranges(before, after):
+    return [r for r in after if not any(covers(r[0], old) for old in before)]
 
 
 def puts_follow(m, v, n, before, after, acts):
@@ -81,7 +81,7 @@ def puts_follow(m, v, n, before, after, acts):
     wanted = cut_nodes(False, past_max_rec(v), before.index)
     for at in range(len(acts) + 1):
         cut, put = acts[:at], acts[at:]
-        for middle in placings(wanted, before.index, after.index, taken(cut)):
+        for middle in placings(v.rle, wanted, before.index, after.index, taken(cut)):
             if (puts_leaves(m, v.rle, after.vdr, written, middle, put, after.index)
                     and holds(cuts_first(m, v, before, after, middle, cut))):
                 yield middle
@@ -94,9 +94,10 @@ def puts_index(m, v, n, before, after, acts):
     yield 'ranges', ranges_of(after.index) == ranges_after_put(v, before.index, n)
     middles = list(puts_follow(m, v, n, before, after, acts))
     yield 'acts_are, cuts, puts', middles != []
-    yield 'tail', any(tail_follows(b, now, acts, index, before, after) for index in middles)
-    yield from under('nodes', nodes_follow(b, now, fills_and_splits(acts), was, places, acts))
-    yield 'freed', blocks_freed_stay(b, now, none_written, acts)
+    yield 'tail, nodes', any(tail_follows(b, now, acts, index, before, after) and holds(nodes_follow(
+        b, now, indexes_with(index, new_ranges(ranges_of(index), ranges_of(after.index))), was, places, acts))
+                             for index in middles)
+    yield 'freed', blocks_freed_stay(b, now, none_written, acts, acts)
 
 
 # Bytes

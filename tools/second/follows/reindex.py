@@ -3,7 +3,7 @@ from layout import Vdr, Vxr
 
 from .allowances import ANYTHING, SPACE_FIELDS, STAYS_ALL, STAYS_OWN, freed_stay, no_fields, of_variable
 from .index_written import nodes_follow, tail_follows
-from .room import vxr_bytes
+from .room import nodes_above, vxr_bytes
 from .shape import Lower, leaves_of, nodes_of
 from .space_acts import gave
 from .words import under
@@ -60,10 +60,11 @@ def makes_index(m, before, after, acts):
     b, now = m.b, m.now
     yield 'acts_are', acts == made_acts(b, before.index, after.index)
     yield 'leaves_stay', leaves_of(after.index) == leaves_of(before.index)
-    yield from is_pyramid(after.index)
     places = nodes_of(after.index)
+    yield 'fewest', len(places) == nodes_above(8, len(leaves_of(after.index)))
+    yield from is_pyramid(after.index)
     yield 'wide', all(now.num(vxr, Vxr.Nentries) == 64 for vxr in places)
     yield 'alone', all(now.num(vxr, Vxr.VXRnext) == 0 for vxr in places)
-    yield from under('nodes', nodes_follow(b, now, False, [], places, acts))
+    yield from under('nodes', nodes_follow(b, now, [], [], places, acts))
     yield 'tail', tail_follows(b, now, acts, before.index, before, after)
     yield 'freed', freed_stay(b, now, no_fields, acts)

@@ -7,7 +7,7 @@ from collections import namedtuple
 from layout import Uir
 
 from .shape import shape, unused_records
-from .words import UIR_TYPE, same
+from .words import UIR_TYPE
 
 SpaceLeft = namedtuple('SpaceLeft', 'used listed back loose end')
 
@@ -125,13 +125,28 @@ def none_twice(acts):
     return True
 
 
-def rests_stay(b, now):
-    """RestStays, of each record that was listed and each that is now."""
-    for split, size in unused(b):
-        for rest, left in unused(now):
-            if split < rest < split + size and not same(b, now, rest + 28, rest + left):
-                return False
+def lies_in_taken(acts, i):
+    return any(place <= i < place + need for place, need in taken(acts))
+
+
+def same_untaken(b, now, acts, start, end):
+    """The bytes from one place to another are the same, but for those in records that acts took."""
+    while start < end:
+        over = max((place + need for place, need in taken(acts) if place <= start < place + need), default=start)
+        if over > start:
+            start = over
+            continue
+        upto = min([end] + [place for place, need in taken(acts) if start < place])
+        if b.take(start, upto - start) != now.take(start, upto - start):
+            return False
+        start = upto
     return True
+
+
+def rests_stay(b, now, acts):
+    """RestStays, of each record that was listed and each that is now."""
+    return all(same_untaken(b, now, acts, rest + 28, rest + left)
+               for split, size in unused(b) for rest, left in unused(now) if split < rest < split + size)
 
 
 def acts_follow(b, now, acts):
@@ -143,7 +158,7 @@ def acts_follow(b, now, acts):
     yield 'are', are
     for name, truth in has_left(now, left):
         yield 'left.' + name, truth
-    yield 'rests', not none_twice(acts) or rests_stay(b, now)
+    yield 'rests', rests_stay(b, now, acts)
 
 
 # What is freed
