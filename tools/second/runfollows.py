@@ -9,6 +9,7 @@ from selfcheck import run
 SORTS = {'': KINDS, 'even': KINDS, 'setup': ('setup', 'checksum', 'list', 'info'),
          'cuts': CUTS + ('put-rec', 'put-val', 'set-blocking', 'zvar', 'rvar'),
          'sparse': ('del-recs', 'del-recs', 'put-rec', 'put-val'),
+         'twice': ('del-recs', 'del-recs', 'put-rec', 'put-val'),
          'wide': CUTS + ('put-rec', 'put-val', 'reindex', 'set-blocking')}
 
 
@@ -20,7 +21,7 @@ def main():
     tried, failed = Counter(), Counter()
     for seed in range(start, start + files):
         def each(before, data_set, c, edited, after, reply):
-            tried[c.kind, 'new' if sort == 'wide' or (seed % 2 and sort not in ('sparse', 'setup')) else 'foreign'] += 1
+            tried[c.kind, 'new' if sort in ('wide', 'twice') or (seed % 2 and sort not in ('sparse', 'setup')) else 'foreign'] += 1
             why = why_refused(before, c, edited.data, edited.acts, data_set)
             if why:
                 key = (c.kind, tuple(sorted(set(why)))[:3])

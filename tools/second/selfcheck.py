@@ -26,7 +26,25 @@ def many_leaves(source):
     return image
 
 
-FIRST = {'wide': many_leaves, 'sparse': sparse_file, 'setup': empty_file}
+def half_filled(source):
+    """Variables under a sparse rule whose last block covers many records past MaxRec."""
+    image = bytes(fresh_image())
+    for name in (b'u', b'w'):
+        first = [Command('zvar', name=name, type=source.choice((1, 4)), elems=1, vary=True, dims=[], varys=[]),
+                 Command('set-sparse', name=name, rule=source.choice((1, 2))),
+                 Command('set-compress', name=name, rle=source.random() < 0.6),
+                 Command('set-pad', name=name, words=[source.choice((b'0', b'0', b'7'))]),
+                 Command('set-blocking', name=name, n=source.randrange(8, 60))]
+        zeros = source.choice((.3, .9, 1))
+        puts = [Command('put-rec', name=name, rec=rec,
+                        words=[b'0' if source.random() < zeros else b'%d' % source.randrange(99)])
+                for rec in range(source.randrange(2, 30)) if source.random() < 0.9]
+        for c in first + puts:
+            image = bytes(apply(image, c)[0].data)
+    return image
+
+
+FIRST = {'wide': many_leaves, 'sparse': sparse_file, 'setup': empty_file, 'twice': half_filled}
 
 
 def run(seed, commands, each, kinds=KINDS, sort=''):
