@@ -12,9 +12,6 @@ COUNTS = {AGREDR: (Adr.NgrEntries, Adr.MAXgrEntry), AZEDR: (Adr.NzEntries, Adr.M
 
 
 class Editor(Records):
-    # The chains of an attribute are emptied entry by entry before its ADR is freed.
-    empties_chains = False
-
     def by_name(self, places, field, name):
         return next(at for at in places if self.name(at, field) == name)
 
@@ -68,7 +65,7 @@ class Editor(Records):
             for entry in self.entries(at, AGREDR) + self.entries(at, AZEDR):
                 self.add(entry, Aedr.AttrNum, -1)
         for at in entries:
-            self.drop_entry(adr, self.type(at), at) if self.empties_chains else self.give(at)
+            self.give(at)
         self.give(adr)
 
     # Entries
@@ -313,7 +310,7 @@ def content_of_entry(c):
     return TYPES[c.type], elems, network
 
 
-CHOICES = ('free_last', 'later_first', 'nodes_first', 'keeps_reserved', 'empties_index', 'empties_chains', 'skips_lost')
+CHOICES = ('free_last', 'later_first', 'nodes_first', 'keeps_reserved', 'skips_lost')
 
 
 def apply(data, c, limit=IMAGE_LIMIT, before=None, choices=()):

@@ -326,15 +326,9 @@ class Records(Space):
         for at in old:
             self.give(at)
 
-    # A variable's index is emptied before its VDR is freed.
-    empties_index = False
-
     def free_index(self, vdr):
         head = self[vdr, Vdr.VXRhead]
         nodes, leaves = self.nodes(head), self.leaves(head)
-        if self.empties_index:
-            self[vdr, Vdr.VXRhead] = 0
-            self[vdr, Vdr.VXRtail] = 0
         for leaf in leaves:
             self.give(leaf.at)
         for node in nodes:

@@ -214,7 +214,7 @@ class FreedChanged(Wrong):
 
 
 class FreedFieldChanged(Wrong):
-    """A field of a freed ADR, VDR or GDR that a command may empty holds another number."""
+    """A field of a freed ADR, VDR or GDR holds another number."""
     commands = ('del-attr', 'del-var', 'setup')
     FIELDS = {ADR: (Adr.NgrEntries, Adr.MAXgrEntry, Adr.AzEDRhead, Adr.NzEntries, Adr.MAXzEntry),
               RVDR: (Vdr.VXRhead, Vdr.VXRtail), ZVDR: (Vdr.VXRhead, Vdr.VXRtail), GDR: (Gdr.UIRhead, Gdr.eof)}

@@ -1,7 +1,7 @@
 """Commands/Attributes: `attr`, `rename-attr`, `del-attr`."""
 from layout import ADR, Adr, Aedr, Gdr
 
-from .allowances import ANYTHING, NEXT_FIELD, SPACE_FIELDS, STAYS_ALL, freed_stay, only_of, stays_or_says
+from .allowances import ANYTHING, NEXT_FIELD, SPACE_FIELDS, STAYS_ALL, freed_stay, no_fields, only_of
 from .named import at_number, attribute_number, is_attribute
 from .new_records import is_filled, says
 from .shape import shape
@@ -48,16 +48,7 @@ def renames_attribute(m, name, to, acts):
     yield 'named', found is None or is_filled(m.now, found[2].adr, Adr.Name, to)
 
 
-EMPTIED_CHAINS = [(Adr.NgrEntries, 0), (Adr.MAXgrEntry, ALL4), (Adr.AzEDRhead, 0), (Adr.NzEntries, 0),
-                  (Adr.MAXzEntry, ALL4)]
-
-
-def chains_of(kind):
-    return [f for f, _ in EMPTIED_CHAINS] if kind == ADR else []
-
-
 def deletes_attribute(m, name, acts):
     a = at_number(shape(m.b).attributes, attribute_number(m.before, name))
     yield 'acts_are', a is None or acts == gave(m.b, [*a.gr_entries, *a.z_entries, a.adr])
-    yield 'freed', freed_stay(m.b, m.now, chains_of, acts)
-    yield 'emptied', a is None or stays_or_says(m.b, m.now, a.adr, EMPTIED_CHAINS)
+    yield 'freed', freed_stay(m.b, m.now, no_fields, acts)

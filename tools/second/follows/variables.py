@@ -2,7 +2,7 @@
 from layout import Adr, Aedr, Gdr, Vdr
 
 from .allowances import (ANYTHING, NEXT_FIELD, SPACE_FIELDS, STAYS_ALL, STAYS_OWN, VDR_TYPE, OwnAllowances, freed_stay,
-                         no_fields, of_variable, only_of, r_max_rec_field, stays_or_says)
+                         no_fields, of_variable, only_of, r_max_rec_field)
 from .entry_chains import chain_of, entries_of, entry_allowance, greatest_is, share_chain
 from .greatest_record import greatest_r_max_rec, r_max_rec
 from .named import at_number, found_variable
@@ -110,13 +110,6 @@ def numbers_fall(b, now, kind, n, a):
         now.num(aedr, Aedr.Num) + 1 == b.num(aedr, Aedr.Num) for aedr in chain_of(a, kind) if n < b.num(aedr, Aedr.Num))
 
 
-EMPTIED_INDEX = [(Vdr.VXRhead, 0), (Vdr.VXRtail, 0)]
-
-
-def index_of(kind):
-    return lambda type_code: [f for f, _ in EMPTIED_INDEX] if type_code == VDR_TYPE[kind] else []
-
-
 def deletes_named(m, name, acts):
     """DeletesNamed."""
     found = found_variable(m.before, name)
@@ -132,5 +125,4 @@ def deletes_named(m, name, acts):
             written = share_chain(kind, other) and is_renumbered(m.before.attributes[i], kind, n)
             yield 'greatest_is', greatest_is(m, i, a, a2, other, written)
     yield 'r_max_rec_is', r_max_rec(m.now) == (greatest_r_max_rec(m.after) if kind == 'r' else r_max_rec(m.b))
-    yield 'freed', freed_stay(m.b, m.now, index_of(kind), acts)
-    yield 'emptied', stays_or_says(m.b, m.now, v.vdr, EMPTIED_INDEX)
+    yield 'freed', freed_stay(m.b, m.now, no_fields, acts)

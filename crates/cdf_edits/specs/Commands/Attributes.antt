@@ -1,15 +1,15 @@
 -- What `attr`, `rename-attr` and `del-attr` do (CDF Internal Format Description, "Attribute Descriptor Record"; own: a Name is filled with bytes 0, and entries are freed before their attribute).
-use Rattle.std.specs.Prelude.{◌≡◌, ℕ, List, [], ◌∷◌, ◌++◌, length, map, true, ◌==◌, if◌then◌else◌, Some}
+use Rattle.std.specs.Prelude.{◌≡◌, ℕ, List, [], ◌∷◌, ◌++◌, length, true, ◌==◌, if◌then◌else◌, Some}
 use Rattle.std.specs.List.{slice_get}
 use Rattle.cdf_model.specs.DataSet.{DataSet}
-use Rattle.cdf_edits.specs.Commands.Allowances.{FreedStay, StaysOrSays, Allowances, Anything, Only, only_of, stays_all, space_fields}
+use Rattle.cdf_edits.specs.Commands.Allowances.{FreedStay, no_fields, Allowances, Anything, Only, only_of, stays_all, space_fields}
 use Rattle.cdf_edits.specs.Commands.Named.{is_attribute, IsAttribute}
 use Rattle.cdf_edits.specs.Commands.NewRecords.{Says, IsFilled}
 use Rattle.cdf_edits.specs.Space.Acts.{Act, Took, gave}
 use Rattle.cdf_format.specs.Chains.{next_field}
 use Rattle.cdf_format.specs.Content.{content}
 use Rattle.cdf_format.specs.Fields.{type_at}
-use Rattle.cdf_format.specs.Records.{Field, gdr_adr_head, gdr_num_attr, adr_num, adr_ngr_entries, adr_max_gr_entry, adr_az_edr_head, adr_nz_entries, adr_max_z_entry, adr_rfu_a, adr_rfu_e, adr_name, aedr_attr_num}
+use Rattle.cdf_format.specs.Records.{Field, gdr_adr_head, gdr_num_attr, adr_num, adr_max_gr_entry, adr_max_z_entry, adr_rfu_a, adr_rfu_e, adr_name, aedr_attr_num}
 use Rattle.cdf_format.specs.RecordTypes.{adr_type}
 use Rattle.cdf_format.specs.Shape.{AttributeShape, shape}
 
@@ -48,14 +48,6 @@ del_attr_changes b d name = record stays_all {
   attributes = λ n place. if is_attribute d name n then Anything else (if type_at b place == adr_type then Only (next_field ∷ adr_num ∷ []) else Only (aedr_attr_num ∷ []));
 }
 
--- its chains may be emptied before it is freed; AgrEDRhead then lies in the links
-abbrev pub emptied_chains : List (Field × ℕ)
-emptied_chains = (adr_ngr_entries, 0) ∷ (adr_max_gr_entry, 0xffffffff) ∷ (adr_az_edr_head, 0) ∷ (adr_nz_entries, 0) ∷ (adr_max_z_entry, 0xffffffff) ∷ []
-
-abbrev pub chains_of : ℕ → List Field
-chains_of type = if type == adr_type then map (λ pair. pair.0) emptied_chains else []
-
 pub record DeletesAttribute (b now name : List ℕ) (acts : List Act) : Type 0 where
   pub acts_are : (n : ℕ) (a : AttributeShape) → is_attribute (content b) name n ≡ true → slice_get (shape b).attributes n ≡ Some a → acts ≡ gave b (a.gr_entries ++ a.z_entries ++ a.adr ∷ [])
-  pub freed : FreedStay b now chains_of acts
-  pub emptied : (n : ℕ) (a : AttributeShape) → is_attribute (content b) name n ≡ true → slice_get (shape b).attributes n ≡ Some a → StaysOrSays b now a.adr emptied_chains
+  pub freed : FreedStay b now no_fields acts

@@ -7,7 +7,7 @@ use Rattle.cdf_model.specs.declared.kinds.Kind.TheVariants as kinds
 use Rattle.cdf_model.specs.AttributeSteps.{entries_of, is_global}
 use Rattle.cdf_model.specs.DataSet.{Attribute, DataSet}
 use Rattle.cdf_model.specs.Names.{Found, variable_named}
-use Rattle.cdf_edits.specs.Commands.Allowances.{FreedStay, StaysOrSays, no_fields, Allowance, Allowances, Anything, Only, OutsideFields, only_of, stays_all, stays_own, space_fields, vdr_type, same_kind, shapes_of, r_max_rec_field, of_variable}
+use Rattle.cdf_edits.specs.Commands.Allowances.{FreedStay, no_fields, Allowance, Allowances, Anything, Only, OutsideFields, only_of, stays_all, stays_own, space_fields, vdr_type, same_kind, shapes_of, r_max_rec_field, of_variable}
 use Rattle.cdf_edits.specs.Commands.EntryChains.{kind_of_entries, chain_of, entry_allowance, share_chain, GreatestIs}
 use Rattle.cdf_edits.specs.Commands.GreatestRecord.{r_max_rec, greatest_r_max_rec}
 use Rattle.cdf_edits.specs.Commands.NewRecords.{Says, IsFilled, with_bits, MovesForRoom, moved_for_room}
@@ -17,7 +17,7 @@ use Rattle.cdf_format.specs.Chains.{next_field, next_of}
 use Rattle.cdf_format.specs.Content.{content, attribute_of, scope_of}
 use Rattle.cdf_format.specs.Fields.{number, words}
 use Rattle.cdf_format.specs.Index.{leaves_of, nodes_of}
-use Rattle.cdf_format.specs.Records.{Field, gdr_r_vdr_head, gdr_z_vdr_head, gdr_nr_vars, gdr_nz_vars, adr_scope, aedr_num, vdr_vxr_head, vdr_vxr_tail, vdr_flags, vdr_num, vdr_rfu_b, vdr_rfu_c, vdr_rfu_f, vdr_cpr_or_spr_offset, vdr_blocking_factor, vdr_name}
+use Rattle.cdf_format.specs.Records.{Field, gdr_r_vdr_head, gdr_z_vdr_head, gdr_nr_vars, gdr_nz_vars, adr_scope, aedr_num, vdr_vxr_tail, vdr_flags, vdr_num, vdr_rfu_b, vdr_rfu_c, vdr_rfu_f, vdr_cpr_or_spr_offset, vdr_blocking_factor, vdr_name}
 use Rattle.cdf_format.specs.Shape.{AttributeShape, Shape, VariableShape, Each, shape}
 use Rattle.cdf_format.specs.VariableFields.{vary_field, pad_field}
 use Rattle.cdf_format.specs.VariableRules.{vdr_end}
@@ -125,19 +125,11 @@ abbrev pub RMaxRecOf : List ℕ → List ℕ → Kind → Type 0
 RMaxRecOf b now kinds.R = r_max_rec now ≡ greatest_r_max_rec (content now)
 RMaxRecOf b now kinds.Z = r_max_rec now ≡ r_max_rec b
 
--- its index may be emptied before it is freed
-abbrev pub emptied_index : List (Field × ℕ)
-emptied_index = (vdr_vxr_head, 0) ∷ (vdr_vxr_tail, 0) ∷ []
-
-abbrev pub index_of : Kind → ℕ → List Field
-index_of kind type = if type == vdr_type kind then map (λ pair. pair.0) emptied_index else []
-
 pub record DeletesVariable (b now : List ℕ) (found : Found) (v : VariableShape) (acts : List Act) : Type 0 where
   pub acts_are : acts ≡ gave b (entries_for b (shape b).attributes found ++ freed_with_variable v)
   pub attributes : (n : ℕ) (a a' : AttributeShape) → slice_get (shape b).attributes n ≡ Some a → slice_get (shape now).attributes n ≡ Some a' → AttributeFollows b now found a a'
   pub r_max_rec_is : RMaxRecOf b now found.kind
-  pub freed : FreedStay b now (index_of found.kind) acts
-  pub emptied : StaysOrSays b now v.vdr emptied_index
+  pub freed : FreedStay b now no_fields acts
 
 abbrev pub DeletesNamed : List ℕ → List ℕ → List ℕ → List Act → Type 0
 DeletesNamed b now name acts = (found : Found) (v : VariableShape) → variable_named (content b) name ≡ Some found → slice_get (shapes_of (shape b) found.kind) found.number ≡ Some v → DeletesVariable b now found v acts

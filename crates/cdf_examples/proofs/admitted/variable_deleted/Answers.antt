@@ -23,9 +23,8 @@ use Rattle.cdf_examples.specs.Scripts.{run_script}
 use Rattle.std.specs.Fmt.{digits}
 use Rattle.cdf_edits.specs.Commands.Does.{Does}
 use Rattle.cdf_examples.proofs.Deciding.{deleted_named, freed_if}
-use Rattle.cdf_edits.specs.Commands.Variables.{index_of}
 use Rattle.cdf_edits.specs.Space.Acts.{ActsFollow}
-use Rattle.cdf_edits.specs.Commands.Allowances.{AllKeep}
+use Rattle.cdf_edits.specs.Commands.Allowances.{AllKeep, no_fields}
 use Rattle.cdf_model.specs.declared.kinds.Kind.TheVariants as kinds
 use Rattle.cdf_examples.proofs.admitted.variable_deleted.Goals as goal
 
@@ -43,8 +42,7 @@ does = deleted_named small_block_file var_deleted_file (codes "T") (Gave 748 24 
   acts_are = refl;
   attributes = λ n a a' was is. absurd cc;
   r_max_rec_is = refl;
-  freed = freed_if small_block_file var_deleted_file (index_of kinds.Z) (Gave 748 24 ∷ Gave 772 140 ∷ Gave 404 344 ∷ []) refl;
-  emptied = (inl refl, (inl refl, tt));
+  freed = freed_if small_block_file var_deleted_file no_fields (Gave 748 24 ∷ Gave 772 140 ∷ Gave 404 344 ∷ []) refl;
 })
 
 pub returns : goal.returns
