@@ -6,3 +6,4 @@ pub mod Filling
 pub mod Linking
 pub mod ChainRead
 pub mod AddedRecord
+pub mod Counting

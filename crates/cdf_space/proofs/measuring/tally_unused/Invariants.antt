@@ -1,0 +1,14 @@
+use Rattle.std.proofs.Common.{◌-◌}
+use Rattle.cdf_area.specs.Calls.{Stays}
+use Rattle.cdf_format.specs.Shape.{shape}
+use Rattle.cdf_space.proofs.Counting.{AreLeft}
+use Rattle.cdf_space.proofs.measuring.tally_unused.Given as goal
+
+abbrev pub invariant-loop-place : goal.invariant-loop-place
+invariant-loop-place g l = record {
+  left : AreLeft (g.A.Area.image l.fn.area) (shape (g.A.Area.image l.fn.area)) l.place l.unused.count l.unused.bytes;
+  area : Stays g.A.Area.image g.A.Area.frame g.A.Area.faults g.A.Area.edited l.fn.area l.area;
+}
+
+abbrev pub decreases-loop-place : goal.decreases-loop-place
+decreases-loop-place g l = l.eof - l.place
