@@ -5,9 +5,15 @@ from model import Command
 ESCAPED = {ord('"'): ord('"'), ord('\\'): ord('\\')}
 
 
+def quoted_byte(byte):
+    if byte in ESCAPED:
+        return '\\' + chr(byte)
+    return chr(byte) if 32 <= byte < 127 else f'\\x{byte:02x}'
+
+
 def quoted(data):
     """A text between quotes."""
-    return '"' + ''.join('\\' + chr(b) if b in ESCAPED else chr(b) if 32 <= b < 127 else f'\\x{b:02x}' for b in data) + '"'
+    return '"' + ''.join(map(quoted_byte, data)) + '"'
 
 
 def quoted_word(line, at):

@@ -12,8 +12,7 @@ from dataclasses import dataclass, field
 from content import content
 from editor import apply
 from image import Image
-from layout import (ADR, AGREDR, AZEDR, CDR, ENTRY_VALUE, GDR, NAME_BYTES, TEXT_TYPES, TYPES, UIR, Adr, Aedr, Cdr, Gdr,
-                    Uir, fresh_image)
+from layout import ADR, AGREDR, AZEDR, CDR, GDR, TEXT_TYPES, TYPES, UIR, Adr, Aedr, Cdr, Gdr, Uir, fresh_image
 from model import READERS, Refused
 from rowscript import command_of, quoted, words_of
 from validator import broken
@@ -106,8 +105,9 @@ def values_text(data_type, elems, network):
 
 def head_text(d):
     dims = ','.join(map(str, d.rdims)) or '-'
-    return (f'version 3.{d.release}.{d.increment} encoding {d.encoding} majority {"row" if d.row else "column"} checksum '
-            f'{"md5" if d.md5 else "none"} rdims {dims} attributes {len(d.attributes)} rvars {len(d.r)} zvars {len(d.z)}')
+    return (f'version 3.{d.release}.{d.increment} encoding {d.encoding} majority {"row" if d.row else "column"} '
+            f'checksum {"md5" if d.md5 else "none"} rdims {dims} '
+            f'attributes {len(d.attributes)} rvars {len(d.r)} zvars {len(d.z)}')
 
 
 def reply_text(number, c, d, reply):
@@ -191,7 +191,7 @@ def wrong_parts(row, table):
     before = None if row.before == 'none' else table.files[row.before]
     run = Run(row, before)
     run.go()
-    after = before if row.after is None else table.files[row.after] if row.after != 'none' else None
+    after = before if row.after is None else table.files.get(row.after)
     wrong = []
     if run.text != row.text:
         wrong.append(f'the text {run.text[:400]!r}')
@@ -204,48 +204,64 @@ def wrong_parts(row, table):
 
 # A file as lines
 
-RECORDS = {CDR: ('CDR', Cdr), GDR: ('GDR', Gdr), ADR: ('ADR', Adr), AGREDR: ('entry', Aedr), AZEDR: ('entry', Aedr),
-           UIR: ('unused record', Uir)}
+RECORDS = {CDR: ('CDR', Cdr), GDR: ('GDR', Gdr), ADR: ('ADR', Adr), AGREDR: ('gr entry', Aedr),
+           AZEDR: ('z entry', Aedr), UIR: ('unused record', Uir)}
 
 
-def pieces_of(image, tile):
+def pieces_of(tile):
     """The fields of a record, each with its name, and what follows them."""
-    _, fields = RECORDS[tile.type]
+    fields = vars(RECORDS[tile.type][1])
     yield 'size', tile.at, 8
     yield 'type', tile.at + 8, 4
     upto = 12
-    for name, piece in vars(fields).items():
-        if tile.type == UIR and tile.size < 28:
-            break
-        if name not in ('Name', 'Copyright'):
-            yield name, tile.at + piece.offset, piece.width
-            upto = piece.offset + piece.width
-    if tile.type == ADR:
-        yield 'Name', tile.at + upto, NAME_BYTES
-    yield 'rest', tile.at + upto, tile.size - upto
+    if tile.type != UIR or tile.size >= 28:
+        for name, piece in fields.items():
+            if name != 'Copyright':
+                yield name, tile.at + piece.offset, piece.width
+                upto = piece.offset + piece.width
+    yield 'value' if tile.type in (AGREDR, AZEDR) else 'the rest', tile.at + upto, tile.size - upto
+
+
+def piece_text(name, new):
+    if name in ('Name', 'value', 'the rest'):
+        is_plain = len(new) <= 40 and all(32 <= byte < 127 for byte in new)
+        return f'{name} {quoted(new)}' if is_plain else name
+    return f'{name} {int.from_bytes(new, "big", signed=True)}'
+
+
+def without_same_end(new, was):
+    """The bytes of a long piece, but for those at its end that stood there before."""
+    upto = len(new)
+    while upto > 0 and new[upto - 1] == was[upto - 1]:
+        upto -= 1
+    return new[:upto]
+
+
+def lines_of_record(tile, data, old):
+    """The fields of a record that differ, and their bytes: those that follow each other in one line."""
+    told, runs = [], []
+    for name, at, width in pieces_of(tile):
+        new, was = bytes(data[at:at + width]), old[at:at + width]
+        if new == was:
+            continue
+        told.append(piece_text(name, new.rstrip(b'\0') if name == 'Name' else new))
+        if name in ('Name', 'the rest') or width > 40:
+            new = without_same_end(new, was)
+        if runs and runs[-1][1] == at:
+            runs[-1] = runs[-1][0], at + len(new), f'{runs[-1][2]} {new.hex()}'
+        else:
+            runs.append((at, at + len(new), new.hex()))
+    if told:
+        yield f'  # Of the {RECORDS[tile.type][0]} at {tile.at}: ' + ', '.join(told) + '.'
+        yield from (f'  at {at} {digits}' for at, _, digits in runs)
 
 
 def lines_of_file(name, base_name, base, data):
     """A file by what differs from another: the lines of a file of rows."""
-    image = Image(data)
-    yield f'file {name} {len(data)} {base_name}'
+    yield f'file {name} {len(data)} {base_name}'.rstrip()
     old = bytes(base[:len(data)]).ljust(len(data), b'\0')
-    for tile in image.tiles():
-        told, bytes_told = [], []
-        for field_name, at, width in pieces_of(image, tile):
-            new = bytes(data[at:at + width])
-            if width > 0 and new != old[at:at + width]:
-                is_text = field_name in ('Name', 'rest')
-                shown = new.rstrip(b'\0') if field_name == 'Name' and not old[at:at + width].strip(b'\0') else new
-                value = quoted(shown) if is_text else int.from_bytes(new, 'big', signed=True)
-                told.append(f'{"value" if field_name == "rest" else field_name} {value}')
-                if bytes_told and bytes_told[-1][0] + len(bytes_told[-1][1]) == at:
-                    bytes_told[-1] = bytes_told[-1][0], bytes_told[-1][1] + shown, bytes_told[-1][2] + ' ' + shown.hex()
-                else:
-                    bytes_told.append((at, shown, shown.hex()))
-        if told:
-            yield f'  # {RECORDS[tile.type][0]} at {tile.at}: ' + ', '.join(told)
-            yield from (f'  at {at} {digits}' for at, _, digits in bytes_told)
+    for tile in Image(data).tiles():
+        yield from lines_of_record(tile, data, old)
 
 
 def main():
@@ -260,8 +276,9 @@ def main():
         for row in table.rows:
             if title is not None:
                 if row.title == title:
-                    run = wrong_parts(row, table)[1]
-                    print(*lines_of_file(row.after or 'after', row.before, table.files[row.before], run.after), sep='\n')
+                    base = 'new' if row.before == 'none' else row.before
+                    after = wrong_parts(row, table)[1].after
+                    print(*lines_of_file(row.after or 'after', base, table.files[base], after), sep='\n')
                 continue
             parts, _ = wrong_parts(row, table)
             wrong += bool(parts)
