@@ -4,14 +4,40 @@ use crate::bytes::{bytes_in, number_in};
 use anyhow::{Result, bail};
 use std::alloc::Global;
 
+/// Bytes that are written over a file from a place on, as far as it goes.
+#[derive(Drop)]
+pub struct Change {
+    pub place: usize,
+    pub bytes: Vec<u8>,
+}
+
+impl Change {
+    /// A place and hexadecimal digits.
+    pub fn read(alloc: Global, text: &str) -> Result<Change> {
+        let (place, digits) = text.split_once(' ').unwrap_or((text, ""));
+        Ok(Change {
+            place: number_in(place)?,
+            bytes: bytes_in(alloc, digits)?,
+        })
+    }
+
+    /// Writes the bytes.
+    pub fn write(&self, file: &mut [u8]) {
+        for (target, byte) in file.iter_mut().skip(self.place).zip(&self.bytes) {
+            *target = *byte;
+        }
+    }
+}
+
 /// One row of a table. A file is named as in the table; `none` is no file.
 #[derive(Drop)]
 pub struct Row {
     pub title: String,
     /// The words of the command line.
     pub words: Vec<String>,
-    /// The file `a.cdf` before the run.
+    /// The file `a.cdf` before the run, but for the changes.
     pub before: String,
+    pub changes: Vec<Change>,
     pub script: Vec<u8>,
     /// What has to be written.
     pub text: Vec<u8>,
@@ -36,6 +62,7 @@ impl Row {
             title: String::from_str(alloc, title)?,
             words,
             before: String::from_str(alloc, "new")?,
+            changes: Vec::new(alloc),
             script: Vec::new(alloc),
             text: Vec::new(alloc),
             status: 0,
@@ -70,6 +97,7 @@ impl Row {
         match key {
             "words" => self.take_words(alloc, text)?,
             "before" => self.before = String::from_str(alloc, text)?,
+            "with" => self.changes.push(Change::read(alloc, text)?)?,
             "script" => push_line(&mut self.script, text)?,
             "last" => self.script.extend_from_slice(text.as_bytes())?,
             "bytes" => self.script.extend_from_slice(&bytes_in(alloc, text)?)?,

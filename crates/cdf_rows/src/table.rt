@@ -1,7 +1,7 @@
 //! A file of rows: the files that they speak of, and the rows.
 
-use crate::bytes::{bytes_in, number_in};
-use crate::row::Row;
+use crate::bytes::number_in;
+use crate::row::{Change, Row};
 use anyhow::{Context, Result, bail};
 use std::alloc::Global;
 
@@ -23,13 +23,6 @@ pub struct Table {
 /// The first word of a line, and the rest of the line behind one blank.
 fn key_of(line: &str) -> (&str, &str) {
     line.split_once(' ').unwrap_or((line, ""))
-}
-
-/// Writes bytes over a file from a place on, as far as it goes.
-fn write_at(file: &mut [u8], place: usize, bytes: &[u8]) {
-    for (target, byte) in file.iter_mut().skip(place).zip(bytes) {
-        *target = *byte;
-    }
 }
 
 impl Table {
@@ -79,12 +72,11 @@ impl Table {
 
     /// Puts bytes into the file begun last.
     fn put_bytes(&mut self, text: &str) -> Result<()> {
-        let (place, digits) = key_of(text);
-        let bytes = bytes_in(self.alloc, digits)?;
+        let change = Change::read(self.alloc, text)?;
         let Some(file) = self.files.last_mut() else {
             bail!("bytes before the first file");
         };
-        write_at(&mut file.bytes, number_in(place)?, &bytes);
+        change.write(&mut file.bytes);
         Ok(())
     }
 

@@ -9,7 +9,7 @@ use std::alloc::Global;
 /// The sizes of the pieces in which a script is given.
 const PIECES: [usize; 5] = [1, 2, 3, 7, 65_536];
 
-/// The most bytes of a script that is tried in all of them, and over failing devices.
+/// The most bytes of a script that is tried in all of them, each also over failing devices.
 const SHORT: usize = 10_000;
 
 /// What a row is tried with.
@@ -17,7 +17,8 @@ const SHORT: usize = 10_000;
 pub struct Trial<'a> {
     alloc: Global,
     row: &'a Row,
-    before: Option<&'a [u8]>,
+    before: Option<Vec<u8>>,
+    /// The file that the row names for after the run.
     after: Option<&'a [u8]>,
 }
 
@@ -27,6 +28,18 @@ fn file_named<'a>(table: &'a Table, name: &str) -> Result<Option<&'a [u8]>> {
         return Ok(None);
     }
     Ok(Some(table.file(name)?))
+}
+
+/// The file of a row before its run, with the changes that the row makes of it.
+fn file_before(alloc: Global, table: &Table, row: &Row) -> Result<Option<Vec<u8>>> {
+    let Some(named) = file_named(table, row.before.as_str())? else {
+        return Ok(None);
+    };
+    let mut bytes = Vec::from_slice(alloc, named)?;
+    for change in &row.changes {
+        change.write(&mut bytes);
+    }
+    Ok(Some(bytes))
 }
 
 /// What is wrong with a run, if anything is.
@@ -42,21 +55,27 @@ fn wrong_if(faults: &[(bool, &'static str)]) -> Option<&'static str> {
 impl<'a> Trial<'a> {
     /// A row of a table, with the files that it names.
     pub fn new(alloc: Global, table: &'a Table, row: &'a Row) -> Result<Trial<'a>> {
-        let before = file_named(table, row.before.as_str())?;
-        let after = match &row.after {
-            Some(name) => file_named(table, name.as_str())?,
-            None => before,
-        };
         Ok(Trial {
             alloc,
             row,
-            before,
-            after,
+            before: file_before(alloc, table, row)?,
+            after: match &row.after {
+                Some(name) => file_named(table, name.as_str())?,
+                None => None,
+            },
         })
     }
 
     fn run(&self, devices: &Devices) -> Result<Ran> {
-        run_row(self.alloc, self.row, self.before, devices)
+        run_row(self.alloc, self.row, self.before.as_deref(), devices)
+    }
+
+    /// The file that is to be left: the one before, if the row says of none.
+    fn wanted(&self) -> Option<&[u8]> {
+        match &self.row.after {
+            Some(_) => self.after,
+            None => self.before.as_deref(),
+        }
     }
 
     /// What is wrong with a run over sound devices.
@@ -64,7 +83,7 @@ impl<'a> Trial<'a> {
         wrong_if(&[
             (ran.status != self.row.status, "the status"),
             (ran.text.as_slice() != self.row.text.as_slice(), "the text"),
-            (ran.file.as_deref() != self.after, "the file"),
+            (ran.file.as_deref() != self.wanted(), "the file"),
             (!ran.is_other_kept, "another file"),
         ])
     }
@@ -77,13 +96,14 @@ impl<'a> Trial<'a> {
 
     /// What is wrong with a run over a device that fails.
     fn fault_of_failing(&self, device: usize, ran: &Ran) -> Option<&'static str> {
+        let before = self.before.as_deref();
         let is_blamed = match device {
             // a file that is to stay as it is is not written
-            0 => ran.status == 5 || (ran.status == 6 && self.after != self.before),
+            0 => ran.status == 5 || (ran.status == 6 && self.wanted() != before),
             1 => ran.status == 9,
             _ => ran.status == 7,
         };
-        let is_kept = ran.status == 6 || ran.file.as_deref() == self.before || self.is_made(ran);
+        let is_kept = ran.status == 6 || ran.file.as_deref() == before || self.is_made(ran);
         wrong_if(&[
             (!is_blamed, "the status after a failing call"),
             (
@@ -119,7 +139,7 @@ impl<'a> Trial<'a> {
                 if fault.is_some() {
                     return Ok(fault);
                 }
-                if is_short && most > 3 {
+                if is_short {
                     let fault = self.try_failing(most, &ran.calls)?;
                     if fault.is_some() {
                         return Ok(fault);
