@@ -29,10 +29,24 @@ class Row:
     title: str
     words: list = field(default_factory=lambda: ['a.cdf'])
     before: str = 'new'
+    changes: list = field(default_factory=list)
     script: bytes = b''
     text: bytes = b''
     status: int = 0
     after: str = None
+
+
+def change_of(text):
+    """A place and bytes."""
+    place, _, digits = text.partition(' ')
+    return int(place), bytes.fromhex(digits)
+
+
+def write(file, change):
+    """Writes bytes over a file, as far as it goes."""
+    place, data = change
+    data = data[:max(0, len(file) - place)]
+    file[place:place + len(data)] = data
 
 
 class Table:
@@ -55,10 +69,7 @@ class Table:
         self.last = self.files[name]
 
     def take_at(self, text):
-        place, _, digits = text.partition(' ')
-        data = bytes.fromhex(digits)
-        room = len(self.last) - int(place)
-        self.last[int(place):int(place) + min(room, len(data))] = data[:room]
+        write(self.last, change_of(text))
 
     def take_row(self, text):
         self.rows.append(Row(text))
@@ -68,6 +79,9 @@ class Table:
 
     def take_before(self, text):
         self.rows[-1].before = text
+
+    def take_with(self, text):
+        self.rows[-1].changes.append(change_of(text))
 
     def take_after(self, text):
         self.rows[-1].after = text
@@ -188,7 +202,9 @@ class Run:
 
 def wrong_parts(row, table):
     """What of a row the editor has otherwise, and the run."""
-    before = None if row.before == 'none' else table.files[row.before]
+    before = None if row.before == 'none' else bytearray(table.files[row.before])
+    for change in row.changes:
+        write(before, change)
     run = Run(row, before)
     run.go()
     after = before if row.after is None else table.files.get(row.after)

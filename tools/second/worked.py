@@ -2,7 +2,7 @@
 from editor import apply
 from handmade import Hand
 from image import Image
-from layout import TYPE_NAMED, UIR, Adr, Cdr, Gdr, Vdr, fresh_image
+from layout import AGREDR, AZEDR, TYPE_NAMED, UIR, Adr, Aedr, Cdr, Gdr, Vdr, fresh_image
 from model import Command, Refused
 from validator import broken, sealed
 
@@ -105,6 +105,37 @@ def checks():
                       and image.piece(760, 16).hex() == '07000000010000800100008009000000')
 
 
+def foreign_entries():
+    """An attribute whose entries stand out of order of number and place, another one, and unused records."""
+    h = Hand()
+    loose, last, small = h.free(20), h.entry(AGREDR, 2, b'two'), h.free(60)
+    first, large = h.entry(AGREDR, 9, b'nine', size=70), h.free(90)
+    z = h.entry(AZEDR, 4, b'four')
+    attributes = [h.attribute(b'A', 3, [first, last]), h.attribute(b'B', 2, z=[z])]
+    file = h.finished(attributes=attributes, listed=[small, large])
+    return file, loose.at, last.at, small.at, first.at, large.at, z.at
+
+
+def checks_of_entries():
+    yield 'an attribute that goes', space(run(ENTRY + '; del-attr Project')[0]) == (788, 396, 2, 384, 0, 0)
+    file, loose, last, small, first, large, z = foreign_entries()
+    a, b = Image(file).attributes()
+    image, _ = run('put-entry A g 2 CHAR twice', file)
+    moved = image.entries(a, AGREDR)[1]
+    yield 'an entry that moves to a split record', (
+        moved == large and image.size(large) == 61 and image.unused() == [last, small, large + 61]
+        and image[large, Aedr.rfuD] == 7 and image[large, Aedr.NumStrings] == 0 and image[a, Adr.MAXgrEntry] == 9)
+    image, _ = run('put-entry A g 0 CHAR zero', file)
+    yield 'an entry in an unused record of its size', (
+        image.entries(a, AGREDR) == [first, last, small] and image.unused() == [large] and image[a, Adr.MAXzEntry] == 7)
+    image, _ = run('put-entry A g 9 CHAR fourteen_bytes', file)
+    yield 'an entry that fills its record', image.entries(a, AGREDR) == [first, last] and image.eof == len(file)
+    image, _ = run('del-attr A; put-entry B z 4 CHAR x; del-entry B z 4', file)
+    yield 'entries go in the order of their chain', image.unused() == [z, a, last, first, small, large]
+    yield 'the other attribute is the first one now', image[b, Adr.Num] == 0 and image[b, Adr.MAXzEntry] == -1
+    yield 'an unused record on no list stays', image.size(loose) == 20 and loose not in image.unused()
+
+
 def checks_of_cuts():
     image, replies = run(SPARSE + '; get-rec S 0; get-rec S 4; get-rec S 5; get-rec S 2147483646; get-rec S 2147483647')
     yield 'sparse records', [number(reply) for reply in replies[4:8]] == [-32767, 20, 50, -32767] and replies[8] == 14
@@ -164,7 +195,7 @@ def checks_of_rules():
 
 
 def main():
-    for text, holds in [*checks(), *checks_of_cuts(), *checks_of_rules()]:
+    for text, holds in [*checks(), *checks_of_entries(), *checks_of_cuts(), *checks_of_rules()]:
         print('holds' if holds else 'FAILS', text)
 
 
