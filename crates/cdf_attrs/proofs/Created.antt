@@ -1,9 +1,9 @@
 -- The making of an attribute, as an edit, leads from a good image to the one that follows.
-use Rattle.std.proofs.Common.{◌≡◌, ◌≢◌, ℕ, suc, ◌+◌, ◌^◌, ◌-◌, ◌<◌, ◌≤◌, List, [], ◌∷◌, ◌++◌, length, map, Bool, true, false, not, ◌||◌, eqb, eq-eqb, Option, Some, refl, sym, ap, subst, ◌∙◌, append-nil, arith, inl, inr}
+use Rattle.std.proofs.Common.{◌≡◌, ◌≢◌, ℕ, suc, ◌+◌, ◌^◌, ◌-◌, ◌<◌, ◌≤◌, List, [], ◌∷◌, ◌++◌, length, map, Bool, true, false, not, eqb, eq-eqb, Some, refl, sym, ap, subst, ◌∙◌, append-nil, arith, inl, inr}
 use Rattle.std.proofs.lemmas.Bool.{and_from, eqb-true}
-use Rattle.std.proofs.lemmas.List.{length-append, length-map, map-append}
+use Rattle.std.proofs.lemmas.List.{length-append, map-append}
 use Rattle.std.specs.List.{All, flat_map, before_first, slice_get}
-use Rattle.std.specs.Prelude.{◌==◌, ◌&&◌, nat_le, nat_lt, if◌then◌else◌}
+use Rattle.std.specs.Prelude.{◌==◌, ◌&&◌, nat_le, if◌then◌else◌}
 use Rattle.cdf_model.specs.declared.answer.Reply.TheVariants.{Plain}
 use Rattle.cdf_model.specs.declared.command.Command.{Command}
 use Rattle.cdf_model.specs.declared.command.Command.TheVariants.{Attr}
@@ -27,8 +27,7 @@ use Rattle.cdf_edits.specs.Follows.{Follows}
 use Rattle.cdf_edits.specs.Space.Acts.{Act, Took}
 use Rattle.cdf_edits.specs.Commands.Attributes.{MakesAttribute, attr_changes, attributes_gdr_fields}
 use Rattle.cdf_format.specs.Owners.{OneAttribute, attribute_records, owned_by, owned_by_attributes, times, owned}
-use Rattle.cdf_edits.specs.Space.Placement.{with_space}
-use Rattle.cdf_format.specs.Records.{Field, record_size, record_type, gdr_adr_head, gdr_num_attr, adr_agr_edr_head, adr_az_edr_head, adr_name, adr_scope, adr_num, adr_ngr_entries, adr_max_gr_entry, adr_rfu_a, adr_nz_entries, adr_max_z_entry, adr_rfu_e}
+use Rattle.cdf_format.specs.Records.{Field, gdr_adr_head, gdr_num_attr, adr_name, adr_scope, adr_num}
 use Rattle.cdf_format.specs.RecordTypes.{cdr_type, gdr_type, adr_type, agr_edr_type, az_edr_type, uir_type, is_record_type, fixed_size}
 use Rattle.cdf_format.specs.NotRead.{read_types}
 use Rattle.cdf_format.specs.Rules.{Hold}
@@ -65,7 +64,7 @@ use Rattle.cdf_edits.proofs.Edits.VariableFrame.{variables_in}
 use Rattle.cdf_edits.specs.Space.Adding.{Added, adding_marks}
 use Rattle.cdf_attrs.specs.Creating.{scope_code, adr_body}
 use Rattle.cdf_attrs.proofs.AttributeChain.{attribute_members}
-use Rattle.cdf_attrs.proofs.AttributeWalk.{counted_is}
+use Rattle.cdf_attrs.proofs.AttributesRead.{counted_is}
 use Rattle.cdf_attrs.proofs.NamesChanged.{fine_is_some, got-middle}
 use Rattle.cdf_attrs.proofs.NewAdr.{IsNewAdr, length-body, type_in_body, adr_written}
 use Rattle.cdf_fields.proofs.NamesWritten.{before_zeros}

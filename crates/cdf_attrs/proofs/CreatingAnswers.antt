@@ -1,5 +1,5 @@
 -- What the command on a new attribute is answered.
-use Rattle.std.proofs.Common.{◌≡◌, ℕ, ◌+◌, ◌<◌, ◌≤◌, List, [], ◌∷◌, ◌++◌, length, true, false, refl, ap}
+use Rattle.std.proofs.Common.{◌≡◌, ℕ, ◌+◌, ◌<◌, ◌≤◌, List, [], ◌∷◌, ◌++◌, length, true, false, refl}
 use Rattle.cdf_model.specs.declared.answer.Outcome.TheVariants.{Done, Refused}
 use Rattle.cdf_model.specs.declared.answer.Reason.TheVariants.{BadName, NameTaken, TooLarge}
 use Rattle.cdf_model.specs.declared.answer.Reply.TheVariants.{Plain}

@@ -2,8 +2,9 @@ pub mod Renamed
 pub mod NewAdr
 pub mod Created
 pub mod CreatingAnswers
+pub mod KnownAttributes
 pub mod NamesChanged
 pub mod AttributeChain
 pub mod RenamingSteps
-pub mod AttributeWalk
-pub mod ListedNames
+pub mod NamesDiffer
+pub mod AttributesRead

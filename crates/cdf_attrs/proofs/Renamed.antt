@@ -1,5 +1,5 @@
 -- A renaming leads from a good image to one in which one attribute has another name.
-use Rattle.std.proofs.Common.{◌≡◌, ℕ, ◌+◌, ◌≤◌, List, [], ◌∷◌, ◌++◌, length, map, Bool, true, false, not, Option, Some, None, eq-eqb, refl, sym, ap, subst, ◌∙◌, arith, inl, inr}
+use Rattle.std.proofs.Common.{◌≡◌, ℕ, ◌+◌, ◌≤◌, List, [], ◌∷◌, ◌++◌, length, map, true, false, not, Option, Some, None, eq-eqb, refl, sym, ap, subst, ◌∙◌, arith, inl, inr}
 use Rattle.std.specs.Prelude.{◌==◌, if◌then◌else◌}
 use Rattle.std.specs.List.{flat_map, slice_get}
 use Rattle.cdf_model.specs.declared.answer.Reason.TheVariants as reasons
@@ -24,13 +24,11 @@ use Rattle.cdf_format.specs.Fields.{number, size_at, type_at}
 use Rattle.cdf_edits.specs.Follows.{Follows}
 use Rattle.cdf_edits.specs.Commands.Named.{is_attribute, IsAttribute}
 use Rattle.cdf_edits.specs.Commands.NewRecords.{IsFilled}
-use Rattle.cdf_model.specs.declared.kinds.EntryKind.TheVariants as entries
 use Rattle.cdf_model.specs.Step.{ByStep}
-use Rattle.std.specs.Int.{w32, cast_signed}
 use Rattle.std.specs.Option.{unwrap_or}
 use Rattle.std.proofs.lemmas.Bool.{eqb-true}
 use Rattle.cdf_format.specs.Owners.{File, OneAttribute, Unused, owned_by, attribute_records, unused_records, owned}
-use Rattle.cdf_format.specs.Records.{Field, gdr_eof, gdr_adr_head, gdr_uir_head, adr_agr_edr_head, adr_az_edr_head, adr_scope, adr_num, adr_max_gr_entry, adr_max_z_entry, adr_name}
+use Rattle.cdf_format.specs.Records.{Field, gdr_eof, gdr_adr_head, gdr_uir_head, adr_agr_edr_head, adr_az_edr_head, adr_scope, adr_num, adr_name}
 use Rattle.cdf_format.specs.RecordTypes.{adr_type, agr_edr_type, az_edr_type, uir_type}
 use Rattle.cdf_format.specs.Shape.{AttributeShape, Shape, adrs, HasShape, shape}
 use Rattle.cdf_format.specs.Tiles.{In}

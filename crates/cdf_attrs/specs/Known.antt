@@ -1,13 +1,33 @@
--- What is kept of the attributes of a file: their names, and where their descriptors stand, both in order (own).
-use Rattle.std.specs.Prelude.{ℕ, List}
+-- What is kept of the attributes of a file: their names, and where their descriptors stand, both in order; and the entries of one chain, the one that was used last (own).
+use Rattle.std.specs.Prelude.{◌≡◌, ℕ, List, map}
+use Rattle.std.specs.declared.option.Option.{Option}
+use Rattle.std.specs.Option.{ForSome}
+use Rattle.cdf_edits.specs.Space.Chains.{members_of}
+use Rattle.cdf_edits.specs.declared.chain.Chain.{Chain}
 use Rattle.cdf_format.specs.Content.{content}
+use Rattle.cdf_format.specs.Fields.{number}
+use Rattle.cdf_format.specs.Records.{aedr_num}
 use Rattle.cdf_format.specs.Shape.{adrs, shape}
 use Rattle.cdf_model.specs.Names.{attribute_names}
+
+-- the entries of a chain, which names the attribute by its ADR: their numbers, and where they stand, both in the order of the chain
+pub record KnownEntries : Type 0 where
+  pub chain : Chain
+  pub numbers : List ℕ
+  pub places : List ℕ
 
 pub record Known : Type 0 where
   pub names : List (List ℕ)
   pub places : List ℕ
+  pub entries : Option KnownEntries
 
--- those of an image
-abbrev pub known_of : List ℕ → Known
-known_of b = record { names = attribute_names (content b); places = adrs (shape b) }
+-- these are the entries of the chain in an image
+pub record KnowsEntries (b : List ℕ) (entries : KnownEntries) : Type 0 where
+  pub places_are : entries.places ≡ members_of b entries.chain
+  pub numbers_are : entries.numbers ≡ map (λ aedr. number b aedr aedr_num) entries.places
+
+-- this is what there is of the attributes of an image
+pub record Knows (b : List ℕ) (known : Known) : Type 0 where
+  pub names_are : known.names ≡ attribute_names (content b)
+  pub places_are : known.places ≡ adrs (shape b)
+  pub entries_are : ForSome known.entries (KnowsEntries b)

@@ -3,6 +3,7 @@
 ghost use Rattle.std.specs.Prelude.{[], ◌≡◌, ◌≤◌, ◌+◌, ◌++◌, ◌∷◌, length, false, IfOk, OnOk, OnErr};
 ghost use Rattle.cdf_area.specs.Calls.{Edits};
 ghost use Rattle.cdf_attrs.specs.Creating.{adr_body, scope_code};
+ghost use Rattle.cdf_attrs.specs.Known.{Knows};
 ghost use Rattle.cdf_format.specs.Content.{content};
 ghost use Rattle.cdf_edits.specs.Answers.{Answers};
 ghost use Rattle.cdf_edits.specs.Follows.{Follows};
@@ -10,14 +11,15 @@ ghost use Rattle.cdf_format.specs.Shape.{adrs, shape};
 ghost use Rattle.cdf_format.specs.WellFormed.{Good};
 ghost use Rattle.cdf_model.specs.Limits.{image_limit};
 ghost use Rattle.cdf_model.specs.Names.{attribute_names, is_among, is_bad_name};
+ghost use Rattle.cdf_model.specs.Sayable.{CanBeGiven};
 ghost use Rattle.cdf_model.specs.declared.command.Command.TheVariants.{Attr};
 
+use crate::attrs::Attrs;
 use crate::name::is_bad_name;
 use cdf_area::{Area, AreaError};
 use cdf_fields::padded;
 use cdf_format::fields::{ADR_SIZE, ADR_TYPE};
 use cdf_model::{Bytes, Outcome, Reason, Reply, Scope};
-use cdf_names::NameTable;
 use cdf_space::{Chain, append_record};
 use std::alloc::{AllocError, Global};
 
@@ -87,51 +89,50 @@ fn make<A: Area>(
     Ok(())
 }
 
-/// Makes a last attribute without entries, in the area and among the names and the places.
-pub fn create<A: Area>(
-    alloc: Global,
-    names: &mut NameTable,
-    places: &mut Vec<u64>,
-    area: &mut A,
-    name: &[u8],
-    scope: Scope,
-) -> Result<Outcome, AreaError>
-    requires good { Good (A.image area.old) }
-    requires names { names.old ≡ attribute_names (content (A.image area.old)) }
-    requires places { places.old.items ≡ adrs (shape (A.image area.old)) }
-    requires limit { (A.frame area.old).limit ≤ image_limit }
-    requires fits { length (A.image area.old) ≤ (A.frame area.old).limit }
-    ensures answers { IfOk result (λ o. Answers (A.frame area.old).limit (A.image area.old) (Attr name.now scope) o (A.image area.new)) }
-    ensures names { OnOk result (names.new ≡ attribute_names (content (A.image area.new))) }
-    ensures places { OnOk result (places.new.items ≡ adrs (shape (A.image area.new))) }
-    ensures names_stay { OnErr result (names.new ≡ names.old) }
-    ensures places_stay { OnErr result (places.new.items ≡ places.old.items) }
-    ensures area { Edits A.frame A.faults area.old area.new result }
-{
-    if is_bad_name(name) {
-        return Ok(Outcome::Refused {
-            reason: Reason::BadName,
-        });
-    }
-    if names.find(name).is_some() {
-        return Ok(Outcome::Refused {
-            reason: Reason::NameTaken,
-        });
-    }
-    if area.limit() < area.size() + ADR_SIZE {
-        return Ok(Outcome::Refused {
-            reason: Reason::TooLarge,
-        });
-    }
-    let last = names.len();
-    names.add(Bytes::new(name.to_vec(alloc)?))?;
-    match make(alloc, places, area, name, scope) {
-        Ok(()) => Ok(Outcome::Done {
-            reply: Reply::Plain,
-        }),
-        Err(error) => {
-            names.remove(last);
-            Err(error)
+impl Attrs {
+    /// Makes a last attribute without entries: the command `attr`. After an error a part of this may have been done in the area.
+    pub fn create<A: Area>(
+        &mut self,
+        area: &mut A,
+        name: &[u8],
+        scope: Scope,
+    ) -> Result<Outcome, AreaError>
+        requires good { Good (A.image area.old) }
+        requires known { Knows (A.image area.old) self.old }
+        requires fits { length (A.image area.old) ≤ (A.frame area.old).limit }
+        requires limit { (A.frame area.old).limit ≤ image_limit }
+        requires scope { CanBeGiven scope }
+        ensures answers { IfOk result (λ o. Answers (A.frame area.old).limit (A.image area.old) (Attr name.now scope) o (A.image area.new)) }
+        ensures known { OnOk result (Knows (A.image area.new) self.new) }
+        ensures stays { OnErr result (Knows (A.image area.old) self.new) }
+        ensures area { Edits A.frame A.faults area.old area.new result }
+    {
+        if is_bad_name(name) {
+            return Ok(Outcome::Refused {
+                reason: Reason::BadName,
+            });
+        }
+        if self.names.find(name).is_some() {
+            return Ok(Outcome::Refused {
+                reason: Reason::NameTaken,
+            });
+        }
+        if area.limit() < area.size() + ADR_SIZE {
+            return Ok(Outcome::Refused {
+                reason: Reason::TooLarge,
+            });
+        }
+        let last = self.names.len();
+        self.names.add(Bytes::new(name.to_vec(self.alloc)?))?;
+        self.entries = None;
+        match make(self.alloc, &mut self.places, area, name, scope) {
+            Ok(()) => Ok(Outcome::Done {
+                reply: Reply::Plain,
+            }),
+            Err(error) => {
+                self.names.remove(last);
+                Err(error)
+            }
         }
     }
 }

@@ -3,8 +3,9 @@
 
 mod attrs;
 mod creating;
-mod listing;
+mod entry_chain;
 mod name;
+mod reading;
 mod renaming;
 
 pub use attrs::Attrs;

@@ -1,5 +1,5 @@
 -- Why no session began, by the count of the area's faults.
-use Rattle.std.proofs.Common.{◌≡◌, ◌<◌, ◌≤◌, ℕ, Result, Ok, Err, refl, sym, subst, arith}
+use Rattle.std.proofs.Common.{◌≡◌, ◌<◌, ◌≤◌, ℕ, Result, Ok, Err, refl, subst, arith}
 use Rattle.std.specs.Prelude.{IfErr}
 use Rattle.cdf_area.specs.declared.area.AreaError.{AreaError}
 use Rattle.cdf_area.specs.declared.area.AreaError.TheVariants as areas

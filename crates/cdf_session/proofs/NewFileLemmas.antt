@@ -3,7 +3,7 @@ use Rattle.std.proofs.Common.{◌≡◌, ℕ, ◌+◌, ◌≤◌, List, [], ◌+
 use Rattle.std.proofs.Math.Path.{transport}
 use Rattle.std.specs.Prelude.{replicate, OnOk}
 use Rattle.cdf_area.specs.Frame.{Frame, with_base}
-use Rattle.cdf_attrs.specs.Known.{Known, known_of}
+use Rattle.cdf_attrs.specs.Known.{Known, Knows}
 use Rattle.cdf_base.specs.Bytes.{put}
 use Rattle.cdf_format.specs.NewFile.{new_image}
 use Rattle.cdf_format.specs.WellFormed.{Good}
@@ -45,10 +45,10 @@ on_ok (Err e) p = tt
 
 pub new_open : {U : Type 0} (start now kept : List ℕ) (frame marked between end : Frame U) (known : Known)
     → frame.base ≡ None → 404 ≤ frame.limit → frame.limit ≤ image_limit → marked ≡ with_base frame (Some start) → between ≡ marked → end ≡ with_base between None
-    → now ≡ new_image → kept ≡ now → known ≡ known_of new_image → IsOpen kept end known
+    → now ≡ new_image → kept ≡ now → Knows new_image known → IsOpen kept end known
 new_open start now kept frame marked between end known unmarked room limit is same ends new stays named =
     let f : end ≡ frame = frame_back frame between end start unmarked (same ∙ is) ends in
     let there : kept ≡ new_image = stays ∙ new in
     let fits : length kept ≤ frame.limit = let n : length kept ≡ 404 = ap (λ (b : List ℕ). length b) there ∙ new_length in omega arith in
-    let open_there : IsOpen kept frame known = record { good = good_new kept there; fits = fits; limited = limit; unmarked = unmarked; known_is = named ∙ ap known_of (sym there) } in
+    let open_there : IsOpen kept frame known = record { good = good_new kept there; fits = fits; limited = limit; unmarked = unmarked; knows = subst (λ (x : List ℕ). Knows x known) (sym there) named } in
     transport (λ i. IsOpen kept (sym f i) known) open_there

@@ -4,7 +4,7 @@ use Rattle.std.proofs.Math.Path.{transport}
 use Rattle.std.specs.Prelude.{nat_lt, IfOk, OnOk, OnErr}
 use Rattle.cdf_area.specs.declared.area.AreaError.{AreaError}
 use Rattle.cdf_area.specs.Frame.{Frame, with_base}
-use Rattle.cdf_attrs.specs.Known.{Known, known_of}
+use Rattle.cdf_attrs.specs.Known.{Known, Knows}
 use Rattle.cdf_format.specs.Content.{content}
 use Rattle.cdf_edits.specs.Answers.{is_full, MovesIf, Answers}
 use Rattle.cdf_edits.specs.Follows.{Follows}
@@ -76,15 +76,16 @@ some_same b now e = cc e
 -- It was carried out and kept, or it was not and all was taken back. The facts are those that the calls between give.
 pub ends_open : {U : Type 0} (b start made now : List ℕ) (frame first marked end : Frame U) (known after : Known) (c : Command) (done : Result Outcome AreaError)
     → IsOpen b frame known → start ≡ b → first ≡ with_base frame (Some b) → marked ≡ first → end ≡ with_base marked None
-    → IfOk done (λ o. Answers first.limit start c o made) → OnOk done (after ≡ known_of made) → OnErr done (after ≡ known)
+    → IfOk done (λ o. Answers first.limit start c o made) → OnOk done (Knows made after) → OnErr done (Knows start after)
     → OnOk done (now ≡ made) → OnErr done (marked.base ≡ Some now) → IsOpen now end after
-ends_open b start made now frame first marked end known after c (Ok o) was begins is stays ends answers known_is stay kept undone =
+ends_open b start made now frame first marked end known after c (Ok o) was begins is stays ends answers knows stay kept undone =
     let f = frame_back frame marked end b was.unmarked (stays ∙ is) ends in
     let limit : first.limit ≡ frame.limit = ap (λ (m : Frame _). m.limit) is in
     let good = answered_good frame.limit b made c o (transport (λ i. Answers (limit i) (begins i) c o made) answers) was.good was.fits in
-    let there : IsOpen made frame after = record { good = good.0; fits = good.1; limited = was.limited; unmarked = was.unmarked; known_is = known_is } in
+    let there : IsOpen made frame after = record { good = good.0; fits = good.1; limited = was.limited; unmarked = was.unmarked; knows = knows } in
     transport (λ i. IsOpen (sym kept i) (sym f i) after) there
-ends_open b start made now frame first marked end known after c (Err error) was begins is stays ends answers known_is stay kept undone =
+ends_open b start made now frame first marked end known after c (Err error) was begins is stays ends answers knows stay kept undone =
     let f = frame_back frame marked end b was.unmarked (stays ∙ is) ends in
     let back : now ≡ b = some_same b now (sym (ap (λ (m : Frame _). m.base) (stays ∙ is)) ∙ undone) in
-    transport (λ i. IsOpen (sym back i) (sym f i) (sym stay i)) was
+    let there : IsOpen b frame after = record { good = was.good; fits = was.fits; limited = was.limited; unmarked = was.unmarked; knows = subst (λ (x : List ℕ). Knows x after) begins stay } in
+    transport (λ i. IsOpen (sym back i) (sym f i) after) there

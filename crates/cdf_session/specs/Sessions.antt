@@ -3,7 +3,7 @@ use Rattle.std.specs.Prelude.{◌≡◌, ◌≤◌, ℕ, List, length, Bool, tru
 use Rattle.cdf_area.specs.declared.area.AreaError.TheVariants as areas
 use Rattle.cdf_area.specs.Frame.{Frame}
 use Rattle.cdf_base.specs.Causes.{Rose}
-use Rattle.cdf_attrs.specs.Known.{Known, known_of}
+use Rattle.cdf_attrs.specs.Known.{Known, Knows}
 use Rattle.cdf_edits.specs.Answers.{Answers}
 use Rattle.cdf_format.specs.Sealed.{image_of}
 use Rattle.cdf_format.specs.WellFormed.{Good, WellFormed, Breaks}
@@ -22,7 +22,7 @@ pub record IsOpen {U : Type 0} (b : List ℕ) (frame : Frame U) (known : Known) 
   pub fits : length b ≤ frame.limit
   pub limited : frame.limit ≤ image_limit
   pub unmarked : frame.base ≡ None
-  pub known_is : known ≡ known_of b
+  pub knows : Knows b known
 
 -- a well-formed file was taken up, without its trailer
 pub record Adopts (f b : List ℕ) : Type 0 where

@@ -2,15 +2,19 @@
 
 ghost use Rattle.std.specs.Prelude.{◌≡◌, ◌≤◌, ◌++◌, [], IfOk, OnOk};
 ghost use Rattle.cdf_area.specs.Calls.{Edits};
-ghost use Rattle.cdf_attrs.specs.Known.{known_of};
+ghost use Rattle.cdf_attrs.specs.Known.{Knows};
 ghost use Rattle.cdf_format.specs.NewFile.{copyright, new_image, of_4_bytes, of_8_bytes};
 
 use cdf_area::{Area, AreaError};
 use cdf_attrs::Attrs;
+use cdf_format::fields::{CDR_PLACE, CDR_SIZE, CDR_TYPE, GDR_SIZE, GDR_TYPE};
 use std::alloc::{AllocError, Global};
 
+/// Where the Global Descriptor Record of the new file stands, behind the CDF Descriptor Record.
+const GDR_PLACE: u64 = CDR_PLACE + CDR_SIZE;
+
 /// The bytes of the new file.
-const NEW_SIZE: u64 = 404;
+const NEW_SIZE: u64 = GDR_PLACE + GDR_SIZE;
 
 /// The number -1 in 4 bytes.
 const MINUS_ONE: u32 = 0xffff_ffff;
@@ -50,14 +54,14 @@ fn new_bytes(alloc: Global) -> Result<Vec<u8>, AllocError>
 {
     let mut bytes = Vec::new(alloc);
     push_4_bytes(&mut bytes, &[0xcdf3_0001, 0x0000_ffff])?;
-    push_8_bytes(&mut bytes, &[312])?;
-    push_4_bytes(&mut bytes, &[1])?;
-    push_8_bytes(&mut bytes, &[320])?;
+    push_8_bytes(&mut bytes, &[CDR_SIZE])?;
+    push_4_bytes(&mut bytes, &[CDR_TYPE])?;
+    push_8_bytes(&mut bytes, &[GDR_PLACE])?;
     push_4_bytes(&mut bytes, &[3, 9, 6, 3, 0, 0, 0, 2, MINUS_ONE])?;
     push_copyright(&mut bytes)?;
-    push_8_bytes(&mut bytes, &[84])?;
-    push_4_bytes(&mut bytes, &[2])?;
-    push_8_bytes(&mut bytes, &[0, 0, 0, 404])?;
+    push_8_bytes(&mut bytes, &[GDR_SIZE])?;
+    push_4_bytes(&mut bytes, &[GDR_TYPE])?;
+    push_8_bytes(&mut bytes, &[0, 0, 0, NEW_SIZE])?;
     push_4_bytes(&mut bytes, &[0, 0, MINUS_ONE, 0, 0])?;
     push_8_bytes(&mut bytes, &[0])?;
     push_4_bytes(&mut bytes, &[0, MINUS_ONE, MINUS_ONE])?;
@@ -69,7 +73,7 @@ pub fn write_new<A: Area>(alloc: Global, area: &mut A) -> Result<Attrs, AreaErro
     requires empty { A.image area.old ≡ [] }
     requires room { 404 ≤ (A.frame area.old).limit }
     ensures image { OnOk result (A.image area.new ≡ new_image) }
-    ensures known { IfOk result (λ attrs. attrs ≡ known_of new_image) }
+    ensures known { IfOk result (Knows new_image) }
     ensures area { Edits A.frame A.faults area.old area.new result }
 {
     let bytes = new_bytes(alloc)?;

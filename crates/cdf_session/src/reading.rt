@@ -1,4 +1,4 @@
-//! What the commands show that only read: the head of the data set, and the list of its attributes and variables.
+//! The head of the data set, as it is read.
 
 ghost use Rattle.std.specs.Prelude.{◌≡◌, ◌+◌, ◌*◌, ◌≤◌, length, IfOk};
 ghost use Rattle.cdf_area.specs.Calls.{Reads};
@@ -6,21 +6,14 @@ ghost use Rattle.cdf_format.specs.Content.{content, majority_of};
 ghost use Rattle.cdf_format.specs.Fields.{has_bit, r_num_dims, r_sizes, word};
 ghost use Rattle.cdf_format.specs.WellFormed.{Good};
 ghost use Rattle.cdf_model.specs.DataSet.{head_of};
-ghost use Rattle.cdf_model.specs.Listing.{items_of};
 ghost use Rattle.cdf_records.specs.Heads.{gdr_at};
 ghost use Rattle.cdf_session.specs.Heads.{head_with};
 
 use cdf_area::{Area, AreaError};
-use cdf_attrs::Attrs;
-use cdf_model::{Head, Items, Majority, Nums};
+use cdf_format::fields::{CDR_PLACE, GDR_R_DIM_SIZE};
+use cdf_model::{Head, Majority, Nums};
 use cdf_records::{Cdr, Gdr, read_cdr, read_gdr, read_nums};
 use std::alloc::Global;
-
-/// Where the CDF Descriptor Record stands.
-pub const CDR: u64 = 8;
-
-/// The bytes of a Global Descriptor Record before the sizes of its dimensions.
-const GDR_FIXED: u64 = 84;
 
 fn majority_in(flags: u32) -> Majority
     ensures { result ≡ majority_of (has_bit flags 0) }
@@ -73,7 +66,7 @@ fn read_sizes<A: Area>(
     // An image has fewer than 2^64 bytes, so no place in it overflows.
     let _size = area.size();
     let dimensions = gdr.r_num_dims.cast_unsigned();
-    read_nums(alloc, area, place + GDR_FIXED, dimensions)
+    read_nums(alloc, area, place + GDR_R_DIM_SIZE, dimensions)
 }
 
 /// The head of the data set of a good image, as `info` shows it.
@@ -82,17 +75,8 @@ pub fn read_head<A: Area>(alloc: Global, area: &mut A) -> Result<Head, AreaError
     ensures head { IfOk result (λ head. head ≡ head_of (content (A.image area.old))) }
     ensures area { Reads A.image A.frame A.faults A.edited area.old area.new result }
 {
-    let cdr = read_cdr(area, CDR)?;
+    let cdr = read_cdr(area, CDR_PLACE)?;
     let gdr = read_gdr(area, cdr.gdr_offset)?;
     let rdims = read_sizes(alloc, area, &gdr, cdr.gdr_offset)?;
     Ok(head_from(&cdr, &gdr, rdims))
-}
-
-/// What `list` shows of a good image. So far there are no variables.
-pub fn read_items<A: Area>(attrs: &Attrs, area: &mut A) -> Result<Items, AreaError>
-    requires { Good (A.image area.old) }
-    ensures items { IfOk result (λ items. items ≡ items_of (content (A.image area.old))) }
-    ensures area { Reads A.image A.frame A.faults A.edited area.old area.new result }
-{
-    Ok(Items::new(attrs.items(area)?))
 }

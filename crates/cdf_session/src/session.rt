@@ -14,12 +14,12 @@ ghost use Rattle.cdf_session.specs.Sessions.{Adopts, AnswersBuilt, Explains, IsO
 
 use crate::adopting::take_up;
 use crate::new_file::write_new;
-use crate::reading::{read_head, read_items};
+use crate::reading::read_head;
 use crate::refusal::{AdoptError, Refusal};
 use cdf_area::{Area, AreaError};
 use cdf_attrs::Attrs;
 use cdf_check::check;
-use cdf_model::{Command, LineError, Outcome, Reason, Reply, Scope};
+use cdf_model::{Command, Items, LineError, Outcome, Reason, Reply, Scope};
 use std::alloc::Global;
 use std::marker::Model;
 
@@ -175,9 +175,12 @@ impl<A: Area> Session<A> {
         ensures answers { IfOk result (λ o. Answers (A.frame self.old).limit (A.image self.old) Command.List o (A.image self.new)) }
         ensures area { Reads A.image A.frame A.faults A.edited self.old self.new result }
     {
-        let items = read_items(&self.attrs, &mut self.area)?;
+        // So far there are no variables.
+        let items = self.attrs.items(&mut self.area)?;
         Ok(Outcome::Done {
-            reply: Reply::Listing { items },
+            reply: Reply::Listing {
+                items: Items::new(items),
+            },
         })
     }
 

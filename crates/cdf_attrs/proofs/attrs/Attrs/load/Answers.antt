@@ -1,14 +1,34 @@
-use Rattle.std.proofs.Common.{◌∙◌}
-use Rattle.cdf_attrs.proofs.ListedNames.{listed_names, listed_few, listed_differ}
+use Rattle.std.proofs.Common.{◌∙◌, List, ℕ, sym, ap, subst}
+use Rattle.cdf_format.specs.Content.{content}
+use Rattle.cdf_format.specs.Shape.{adrs, shape}
+use Rattle.cdf_format.specs.WellFormed.{Good}
+use Rattle.cdf_format.proofs.GoodSound.{good_is_sound}
+use Rattle.cdf_model.specs.Names.{attribute_names}
+use Rattle.cdf_attrs.proofs.AttributeChain.{attribute_members, has_attribute_chain}
+use Rattle.cdf_attrs.proofs.AttributesRead.{counted_members}
+use Rattle.cdf_attrs.proofs.KnownAttributes.{none_known}
 use Rattle.cdf_attrs.proofs.attrs.Attrs.load.Goals as goal
 
-pub names_of-requires-clause-few : goal.names_of-requires-clause-few
-names_of-requires-clause-few g c = listed_few (g.A.Area.image c.args.area.now) c.requires c.in_ok-items.field-0.items.items c.in_ok-items.ensures.items
+pub read_chain-requires-clause-sound : goal.read_chain-requires-clause-sound
+read_chain-requires-clause-sound g c = good_is_sound (g.A.Area.image c.args.area.now) c.requires
 
-pub names_of-requires-clause-distinct : goal.names_of-requires-clause-distinct
-names_of-requires-clause-distinct g c = listed_differ (g.A.Area.image c.args.area.now) c.requires c.in_ok-items.field-0.items.items c.in_ok-items.ensures.items
+pub read_chain-requires-clause-chain : goal.read_chain-requires-clause-chain
+read_chain-requires-clause-chain g c = let b = g.A.Area.image c.args.area.now in has_attribute_chain b (shape b) (good_is_sound b c.requires).has_shape
+
+pub read_chain-requires-clause-counted : goal.read_chain-requires-clause-counted
+read_chain-requires-clause-counted g c = counted_members (g.A.Area.image c.args.area.now) c.requires
+
+pub read_names-requires-clause-good : goal.read_names-requires-clause-good
+read_names-requires-clause-good g c = subst Good (sym c.in_ok-places.ensures.area.image) c.requires
+
+pub read_names-requires-clause-places : goal.read_names-requires-clause-places
+read_names-requires-clause-places g c =
+    let b = g.A.Area.image c.args.area.now in
+    c.deref.ensures.value ∙ c.in_ok-places.ensures.members ∙ attribute_members b (shape b) (good_is_sound b c.requires).has_shape ∙ ap (λ (x : List ℕ). adrs (shape x)) (sym c.in_ok-places.ensures.area.image)
 
 pub returns-clause-known : goal.returns-clause-known
 returns-clause-known g c =
-    let names = c.in_ok-names.ensures ∙ listed_names (g.A.Area.image c.args.area.now) c.requires c.in_ok-items.field-0.items.items c.in_ok-items.ensures.items in
-    λ i. record { names = names i; places = c.in_ok-items.ensures.places i }
+    let b = g.A.Area.image c.args.area.now in
+    none_known b c.in_ok-names.names c.in_ok-places.places.items
+    (c.in_ok-names.ensures.names ∙ ap (λ (x : List ℕ). attribute_names (content x)) c.in_ok-places.ensures.area.image)
+    (c.in_ok-places.ensures.members ∙ attribute_members b (shape b) (good_is_sound b c.requires).has_shape)

@@ -1,4 +1,3 @@
-use Rattle.std.proofs.Common.{◌∙◌}
 use Rattle.cdf_session.proofs.AdoptLemmas.{stays_well_formed}
 use Rattle.cdf_session.proofs.Explained.{explained, explained_after}
 use Rattle.cdf_session.proofs.session.Session.adopt.Goals as goal

@@ -1,9 +1,5 @@
 use Rattle.cdf_session.proofs.NewFileLemmas.{new_open}
-use Rattle.std.proofs.Common.{◌∙◌}
-use Rattle.std.proofs.Math.Path.{transport}
 use Rattle.cdf_session.proofs.Explained.{explained}
-use Rattle.cdf_session.specs.Sessions.{Explains}
-use Rattle.cdf_session.specs.declared.refusal.AdoptError.TheVariants as errors
 use Rattle.cdf_session.proofs.session.Session.create.Goals as goal
 
 pub invariant_of-result : goal.invariant_of-result

@@ -1,0 +1,53 @@
+-- The names of the attributes of a good image differ.
+use Rattle.std.proofs.Common.{◌≡◌, ℕ, List, [], ◌∷◌, ◌++◌, Bool, true, false, ◌||◌, bytes_eq, refl, sym, subst, append_assoc}
+use Rattle.std.specs.List.{list_any, AllByRecursion, IsDistinct}
+use Rattle.cdf_model.specs.Names.{attribute_names}
+use Rattle.cdf_names.specs.Names.{has_name}
+use Rattle.cdf_format.specs.AttributeRules.{same_name}
+use Rattle.cdf_format.specs.ChainRules.{differ_rows}
+use Rattle.cdf_format.specs.Content.{content}
+use Rattle.cdf_format.specs.Records.{adr_name}
+use Rattle.cdf_format.specs.Shape.{adrs, shape}
+use Rattle.cdf_format.specs.WellFormed.{Good}
+use Rattle.cdf_format.proofs.RowLemmas.{Hold-split}
+use Rattle.cdf_format.proofs.NameRules.{AreNew, absent-split, differ-turned, names_differ, attribute_names_are}
+use Rattle.cdf_format.proofs.GoodSound.{good_by_its_shape}
+
+first_false : (p q : Bool) → (p || q) ≡ false → p ≡ false
+first_false true q e = absurd cc
+first_false false q e = refl
+
+both_false : (p q : Bool) → p ≡ false → q ≡ false → (p || q) ≡ false
+both_false true q e f = absurd cc
+both_false false q e f = f
+
+-- a name differs from those behind it
+new_apart : (before : List (List ℕ)) (x : List ℕ) (mid names : List (List ℕ)) → AreNew (before ++ x ∷ mid) names → AllByRecursion (λ y. bytes_eq x y ≡ false) names
+new_apart before x mid [] h = tt
+new_apart before x mid (y ∷ names) h = (
+  differ-turned y x (first_false (bytes_eq y x) (list_any (bytes_eq y) mid) (absent-split y before (x ∷ mid) h.0).1),
+  new_apart before x (mid ++ y ∷ []) names (subst (λ (z : List (List ℕ)). AreNew z names) (append_assoc before (x ∷ mid) (y ∷ [])) h.1),
+)
+
+pub new_distinct : (before names : List (List ℕ)) → AreNew before names → IsDistinct bytes_eq names
+unfolding IsDistinct
+new_distinct before [] h = tt
+new_distinct before (x ∷ names) h = (new_apart before x [] names h.1, new_distinct (before ++ x ∷ []) names h.1)
+
+all_last : (P : List ℕ → Type 0) (xs : List (List ℕ)) (y : List ℕ) (ys : List (List ℕ)) → AllByRecursion P (xs ++ y ∷ ys) → P y
+all_last P [] y ys h = h.0
+all_last P (x ∷ xs) y ys h = all_last P xs y ys h.1
+
+pub distinct_apart : (xs : List (List ℕ)) (y : List ℕ) (ys : List (List ℕ)) → IsDistinct bytes_eq (xs ++ y ∷ ys) → has_name xs y ≡ false
+unfolding IsDistinct
+distinct_apart [] y ys h = refl
+distinct_apart (x ∷ xs) y ys h = both_false (bytes_eq y x) (list_any (bytes_eq y) xs) (differ-turned x y (all_last (λ z. bytes_eq x z ≡ false) xs y ys h.0)) (distinct_apart xs y ys h.1)
+
+-- ---- those of a good image
+
+pub good_names : (b : List ℕ) → Good b → IsDistinct bytes_eq (attribute_names (content b))
+good_names b good =
+    let isgood = good_by_its_shape b good in
+    let s = shape b in
+    let parts = Hold-split _ (differ_rows 2 (same_name b adr_name) [] (adrs s)) isgood.attributes in
+    subst (IsDistinct bytes_eq) (sym (attribute_names_are b s isgood.has_shape)) (new_distinct [] _ (names_differ 2 b adr_name (adrs s) parts.1))
