@@ -18,15 +18,15 @@ class Hand(Maker):
         self.parts.append(part)
         return part
 
-    def node(self, room, items, garbage=None):
-        """Entries (first, last, part); those beyond them are -1, or `garbage`."""
+    def node(self, room, items, garbage=None, spare=0):
+        """Entries (first, last, part); those beyond them are -1, or `garbage`; and spare bytes."""
         fields = {Vxr.Nentries: room, Vxr.NusedEntries: len(items)}
         for i in range(room):
             first, last, part = items[i] if i < len(items) else garbage or (-1, -1, -1)
             fields[Field(28 + 4 * i, 4)] = first
             fields[Field(28 + 4 * (room + i), 4)] = last
             fields[Field(28 + 8 * room + 8 * i, 8)] = part
-        return self.part(VXR, node_size(room), fields)
+        return self.part(VXR, node_size(room) + spare, fields)
 
     def block(self, plain, size=None):
         return self.part(VVR, max(12 + len(plain), size or 0), {}, 12, plain)

@@ -101,6 +101,13 @@ def free_record(size, then):
     return [ATTRIBUTE, entry(0, b'x' * (size - 56)), drop_entry(0)] + then
 
 
+def spare_node():
+    """A leaf past MaxRec -1, and a node with bytes behind its entries."""
+    h = Hand()
+    node = h.node(7, [(0, 39, h.block(bytes(40)))], spare=40)
+    return h.finished([h.variable(b'T', -1, node, blocking=40)])
+
+
 def unused_filled():
     """A node of seven entries, of which one is used and the others hold numbers."""
     h = Hand()
@@ -162,6 +169,7 @@ CASES = [
     ('a packed block that the second cut frees was longer', 'BlockLonger', past_max_rec(64, 20, True), delete(15, 20)),
     ('what the first of two cuts frees is freed last', 'FirstCutFreesLate',
      [variable(), sparse(1), blocking(4)] + [put(k, k) for k in range(10)], delete(4, 9)),
+    ('a node that a cut frees changes behind its entries', 'FreedNodeChanged', spare_node(), sparse(1)),
     ('entries become -1 that no index used', 'UnusedCleared', unused_filled(), put(4, 1)),
     ('a field of a freed ADR holds another number', 'FreedFieldChanged', ENTRIES, C('del-attr', name=b'A')),
     ('a field of a freed VDR holds another number', 'FreedFieldChanged', FOUR + [put(0, 7)], C('del-var', name=b'T')),

@@ -213,6 +213,20 @@ class FreedChanged(Wrong):
                 self.write(at + size - 1, bytes((self.byte(at + size - 1) ^ 1,)))
 
 
+class FreedNodeChanged(Wrong):
+    """The last byte of a freed node is changed, behind its entries."""
+    commands, nodes_freed = PUTS + CUTS, ()
+
+    def give(self, at):
+        if self.type(at) == VXR and self.size(at) > node_size(self[at, Vxr.Nentries]):
+            self.nodes_freed += (at + self.size(at) - 1,)
+        super().give(at)
+
+    def finish(self, c):
+        for end in self.nodes_freed:
+            self.write(end, bytes((self.byte(end) ^ 1,)))
+
+
 class FreedFieldChanged(Wrong):
     """A field of a freed ADR, VDR or GDR holds another number."""
     commands = ('del-attr', 'del-var', 'setup')

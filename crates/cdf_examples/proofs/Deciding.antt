@@ -1,5 +1,5 @@
 -- What acts leave and what records keep, computed as truth values over the bytes of two images.
-use Rattle.std.proofs.Common.{◌≡◌, ◌⊎◌, ◌<◌, ◌≤◌, ℕ, zero, suc, ◌+◌, ◌-◌, ◌*◌, Bool, true, false, not, ◌&&◌, ◌||◌, ◌==◌, List, [], ◌∷◌, length, refl, inl, inr, subst, sym, ap, ap₂, ◌∙◌, arith}
+use Rattle.std.proofs.Common.{◌≡◌, ◌⊎◌, ◌<◌, ◌≤◌, ℕ, zero, suc, ◌+◌, ◌-◌, ◌*◌, Bool, true, false, not, ◌&&◌, ◌||◌, ◌==◌, List, [], ◌∷◌, length, refl, inl, inr, subst, sym, eq-eqb, ap, ap₂, ◌∙◌, arith}
 use Rattle.std.proofs.lemmas.Bool.{eqb-true, leb-true, lt-ltb}
 use Rattle.std.specs.Prelude.{nat_le, nat_lt, Some, None}
 use Rattle.std.specs.declared.option.Option.{Option}
@@ -11,6 +11,7 @@ use Rattle.cdf_model.specs.DataSet.{Attribute}
 use Rattle.cdf_model.specs.Names.{Found, attribute_named, variable_named}
 use Rattle.cdf_edits.specs.Commands.Named.{OfAttribute, OfVariable}
 use Rattle.cdf_edits.specs.Commands.Variables.{DeletesVariable, DeletesNamed}
+use Rattle.cdf_edits.specs.Index.Cut.{NodesFreedStay}
 use Rattle.cdf_edits.specs.Index.Written.{EntryIs, UnusedEntries, NodeSpareStays, NodesFollow, was_unused, is_taken_at}
 use Rattle.cdf_format.specs.Bytes.{byte, Same}
 use Rattle.cdf_format.specs.Content.{content}
@@ -19,7 +20,8 @@ use Rattle.cdf_format.specs.IndexOf.{SaysEntry}
 use Rattle.cdf_format.specs.Chains.{is_in}
 use Rattle.cdf_format.specs.Fields.{size_at, type_at}
 use Rattle.cdf_format.specs.Owners.{Owner, unused_records}
-use Rattle.cdf_format.specs.Records.{Field}
+use Rattle.cdf_format.specs.Records.{Field, field}
+use Rattle.cdf_format.specs.RecordTypes.{vxr_type}
 use Rattle.cdf_format.specs.Shape.{AttributeShape, VariableShape, Each, shape}
 use Rattle.cdf_format.proofs.Members.{true-is_in}
 use Rattle.cdf_examples.proofs.BytesKept.{all_below, below}
@@ -241,6 +243,23 @@ given_if b now but acts (Gave place size ∷ more) e =
 
 pub freed_if : (b now : List ℕ) (but : ℕ → List Field) (acts : List Act) → freed_stay_by b now (unused_records now (shape now)) but acts ≡ true → FreedStay b now but acts
 freed_if b now but acts e = given_if b now but acts acts e
+
+abbrev pub nodes_freed_by : List ℕ → List ℕ → List ℕ → List Act → Bool
+nodes_freed_by b now uirs [] = true
+nodes_freed_by b now uirs (Took place need ∷ more) = nodes_freed_by b now uirs more
+nodes_freed_by b now uirs (Gave place size ∷ more) = (not (type_at b place == vxr_type) || each_by (freed_by b now place size (field 28 (16 * room_at b place) ∷ [])) uirs) && nodes_freed_by b now uirs more
+
+pub nodes_freed_if : (b now : List ℕ) (acts gives : List Act) → nodes_freed_by b now (unused_records now (shape now)) gives ≡ true → NodesFreedStay b now acts gives
+nodes_freed_if b now acts [] e = tt
+nodes_freed_if b now acts (Took place need ∷ more) e = nodes_freed_if b now acts more e
+nodes_freed_if b now acts (Gave place size ∷ more) e =
+    let fields = field 28 (16 * room_at b place) ∷ [] in
+    let two = both (not (type_at b place == vxr_type) || each_by (freed_by b now place size fields) (unused_records now (shape now))) (nodes_freed_by b now (unused_records now (shape now)) more) e in
+    (λ is. each_if (FreedStays b now acts place size fields) (freed_by b now place size fields) (λ uir h. freed_one b now acts place size fields uir h) (unused_records now (shape now)) (of_node (type_at b place == vxr_type) (eq-eqb (type_at b place) vxr_type is) two.0), nodes_freed_if b now acts more two.1)
+  where
+    of_node : (p : Bool) → p ≡ true → {q : Bool} → (not p || q) ≡ true → q ≡ true
+    of_node true is e = e
+    of_node false is e = absurd cc
 
 -- ---- what a command names
 

@@ -8,7 +8,8 @@ from .allowances import (ANYTHING, SPACE_FIELDS, STAYS_ALL, STAYS_OWN, OwnAllowa
 from .greatest_record import r_max_rec_follows
 from .index_blocks import extent_after, fallen, is_sparse, ranges_of, record_length, shared
 from .cut_twice import parts_follow
-from .index_cut import block_placed, blocks_freed_stay, cuts_index, is_part, is_whole, none_written
+from .index_cut import (block_placed, blocks_freed_stay, cuts_index, is_part, is_whole, nodes_freed_stay,
+                        none_written)
 from .index_grown import cut_nodes, index_cut_closed, index_cut_open, kept_closed, kept_open, split_off
 from .index_written import (block_follows, block_need, is_taken_at, nodes_follow, stays_put, stored_bytes,
                             tail_follows, well_packed)
@@ -182,6 +183,7 @@ def between_cuts(m, v, first, last, before, after, acts, middle, cut, again):
     yield 'freed_first', blocks_freed_stay(b, now, none_written, acts, cut)
     yield 'freed_again', blocks_freed_stay(
         b, now, lambda place: is_left_in_part(ranges, leaves_of(middle), place), acts, again)
+    yield 'nodes_freed', nodes_freed_stay(b, now, acts, acts)
 
 
 def deletes_records(m, v, first, last, before, after, acts):
@@ -231,6 +233,7 @@ def sets_sparse(m, before, after, acts):
     """SetsSparse."""
     yield from under('cuts', cuts_all(m, before, after, acts))
     yield 'freed', blocks_freed_stay(m.b, m.now, none_written, acts, acts)
+    yield 'nodes_freed', nodes_freed_stay(m.b, m.now, acts, acts)
 
 
 def cpr_acts(b, rle, old, new):
@@ -250,3 +253,4 @@ def sets_compress(m, rle, before, after, acts):
     yield 'cpr_says', bool(before.cpr) or all(says(m.now, cpr, [(Cpr.rfuA, 0), (Cpr.pCount, 1)]) for cpr in after.cpr)
     yield 'link_is', rle or m.now.num(after.vdr, Vdr.CPRorSPRoffset) == ALL8
     yield 'freed', blocks_freed_stay(m.b, m.now, none_written, acts, acts)
+    yield 'nodes_freed', nodes_freed_stay(m.b, m.now, acts, acts)

@@ -1,11 +1,11 @@
 """Index/Cut: what a cut takes and frees, and where the blocks stand that it leaves."""
-from layout import VXR
+from layout import VXR, Field, Vxr
 
-from .allowances import given_stay, no_fields
+from .allowances import freed_stays, given_stay, no_fields
 from .index_grown import outline
 from .index_written import block_need, stays_put
 from .room import range_bytes, vxr_bytes
-from .shape import Lower, leaves_of, nodes_of, records_of_leaf
+from .shape import Lower, leaves_of, nodes_of, records_of_leaf, shape, unused_records
 from .space_acts import none_twice, taken
 
 
@@ -85,3 +85,10 @@ def blocks_freed_stay(b, now, written, acts, gives):
     """BlocksFreedStay: a node may be emptied before it is freed, and these blocks may be written."""
     return given_stay(b, now, no_fields, acts, [act for act in gives if act[0] == 'take' or not (
         b.type_at(act[1]) == VXR or written(act[1]))])
+
+
+def nodes_freed_stay(b, now, acts, gives):
+    """NodesFreedStay: a node keeps its bytes behind its entries."""
+    return all(freed_stays(b, now, acts, place, size, [Field(28, 16 * b.num(place, Vxr.Nentries))], uir)
+               for kind, place, size in gives if kind == 'give' and b.type_at(place) == VXR
+               for uir in unused_records(now, shape(now)))

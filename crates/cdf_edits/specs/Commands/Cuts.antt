@@ -10,7 +10,7 @@ use Rattle.cdf_edits.specs.Commands.NewRecords.{Says, with_bits}
 use Rattle.cdf_edits.specs.Commands.Room.{vxr_bytes}
 use Rattle.cdf_edits.specs.Index.Blocks.{Range, range, covers, shared, fallen, is_sparse, record_length, ranges_of, extent_after}
 use Rattle.cdf_edits.specs.Index.CutTwice.{PartsFollow}
-use Rattle.cdf_edits.specs.Index.Cut.{Part, IsPart, is_whole, CutsIndex, BlockPlaced, BlocksFreedStay, none_written}
+use Rattle.cdf_edits.specs.Index.Cut.{Part, IsPart, is_whole, CutsIndex, BlockPlaced, BlocksFreedStay, NodesFreedStay, none_written}
 use Rattle.cdf_edits.specs.Index.Grown.{cut_nodes, kept_open, kept_closed, split_off, index_cut_open, index_cut_closed}
 use Rattle.cdf_edits.specs.Index.Written.{is_taken_at, block_need, stays_put, WellPacked, BlockFollows, stored_bytes, NodesFollow, TailFollows}
 use Rattle.cdf_edits.specs.Space.Acts.{Act, Took, gave, taken}
@@ -107,6 +107,7 @@ pub record DeletesRecords (b now : List ℕ) (v : Variable) (first last : ℕ) (
   pub tail : TailFollows b now acts middle before after
   pub freed_first : BlocksFreedStay b now none_written acts cut
   pub freed_again : BlocksFreedStay b now (is_left_in_part (ranges_of before.index) (leaves_of middle)) acts again
+  pub nodes_freed : NodesFreedStay b now acts acts
   pub r_max_rec : RMaxRecFollows b now
 
 -- ---- `set-sparse` and `set-compress`
@@ -132,6 +133,7 @@ pub record CutsAll (b now : List ℕ) (before after : VariableShape) (acts : Lis
 pub record SetsSparse (b now : List ℕ) (before after : VariableShape) (acts : List Act) : Type 0 where
   pub cuts : CutsAll b now before after acts
   pub freed : BlocksFreedStay b now none_written acts acts
+  pub nodes_freed : NodesFreedStay b now acts acts
 
 -- then a CPR is taken where there is none, or the one that there is is freed
 abbrev pub cpr_acts : List ℕ → Bool → List ℕ → List ℕ → List Act
@@ -151,3 +153,4 @@ pub record SetsCompress (b now : List ℕ) (rle : Bool) (before after : Variable
   pub cpr_says : before.cpr ≡ [] → Each (λ cpr. Says now cpr new_cpr) after.cpr
   pub link_is : rle ≡ false → number now after.vdr vdr_cpr_or_spr_offset ≡ 0xffffffffffffffff
   pub freed : BlocksFreedStay b now none_written acts acts
+  pub nodes_freed : NodesFreedStay b now acts acts

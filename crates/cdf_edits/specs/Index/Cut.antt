@@ -1,8 +1,8 @@
 -- What a cut takes and frees, and where the blocks stand that it leaves (CDF Internal Format Description, "Variable Index Record"; own: a block stays in its record where it can). The order in which a cut takes and frees is free.
-use Rattle.std.specs.Prelude.{◌≡◌, ◌⊎◌, ◌≤◌, ℕ, ◌+◌, max, List, [], ◌∷◌, ◌++◌, map, Bool, true, false, not, ◌&&◌, ◌||◌, ◌==◌}
+use Rattle.std.specs.Prelude.{◌≡◌, ◌⊎◌, ◌≤◌, ℕ, ◌+◌, ◌*◌, max, List, [], ◌∷◌, ◌++◌, map, Bool, true, false, not, ◌&&◌, ◌||◌, ◌==◌}
 use Rattle.std.specs.List.{filter}
 use Rattle.cdf_model.specs.DataSet.{Variable}
-use Rattle.cdf_edits.specs.Commands.Allowances.{GivenStay, no_fields}
+use Rattle.cdf_edits.specs.Commands.Allowances.{FreedStays, GivenStay, no_fields}
 use Rattle.cdf_edits.specs.Commands.Room.{vxr_bytes, range_bytes}
 use Rattle.cdf_edits.specs.Index.Blocks.{Range, range}
 use Rattle.cdf_edits.specs.Index.Grown.{outline}
@@ -10,9 +10,11 @@ use Rattle.cdf_edits.specs.Index.Written.{AnyOf, block_need, is_given_at, stays_
 use Rattle.cdf_edits.specs.Space.Acts.{Act, Took, Gave, taken, none_twice, Among}
 use Rattle.cdf_format.specs.Chains.{is_in}
 use Rattle.cdf_format.specs.Fields.{type_at}
-use Rattle.cdf_format.specs.Index.{Nodes, no_node, node, Entries, no_entry, block, lower, Leaf, leaves_of, nodes_of}
+use Rattle.cdf_format.specs.Index.{Nodes, no_node, node, Entries, no_entry, block, lower, Leaf, leaves_of, nodes_of, room_at}
+use Rattle.cdf_format.specs.Owners.{unused_records}
+use Rattle.cdf_format.specs.Records.{field}
 use Rattle.cdf_format.specs.RecordTypes.{vxr_type}
-use Rattle.cdf_format.specs.Shape.{Each}
+use Rattle.cdf_format.specs.Shape.{Each, shape}
 use Rattle.cdf_format.specs.VariableFields.{records_of_leaf}
 
 -- what of a range stays, or what of it gets a new block: one range, or none
@@ -88,6 +90,13 @@ is_written_before b written (Gave place size) = (type_at b place == vxr_type) ||
 -- any other record that some of these acts free keeps its bytes
 abbrev pub BlocksFreedStay : List ℕ → List ℕ → (ℕ → Bool) → List Act → List Act → Type 0
 BlocksFreedStay b now written acts gives = GivenStay b now no_fields acts (filter (λ act. not (is_written_before b written act)) gives)
+
+-- a node keeps its bytes behind its entries
+abbrev pub NodesFreedStay : List ℕ → List ℕ → List Act → List Act → Type 0
+NodesFreedStay b now acts [] = Unit {0}
+NodesFreedStay b now acts (Took place need ∷ more) = NodesFreedStay b now acts more
+NodesFreedStay b now acts (Gave place size ∷ more) =
+    (type_at b place ≡ vxr_type → Each (FreedStays b now acts place size (field 28 (16 * room_at b place) ∷ [])) (unused_records now (shape now))) × NodesFreedStay b now acts more
 
 abbrev pub none_written : ℕ → Bool
 none_written place = false

@@ -22,7 +22,7 @@ use Rattle.cdf_edits.specs.Commands.Room.{entries_in, entries_below, widest, wid
 use Rattle.cdf_examples.specs.Scripts.{run_script}
 use Rattle.std.specs.Fmt.{digits}
 use Rattle.cdf_edits.specs.Commands.Does.{Does}
-use Rattle.cdf_examples.proofs.Deciding.{of_variable, nodes_if, given_if, each_if}
+use Rattle.cdf_examples.proofs.Deciding.{of_variable, nodes_freed_if, nodes_if, given_if, each_if}
 use Rattle.cdf_edits.specs.Commands.Cuts.{DeletesRecords}
 use Rattle.cdf_edits.specs.Commands.Allowances.{no_fields}
 use Rattle.cdf_edits.specs.Index.Written.{is_taken_at}
@@ -61,6 +61,7 @@ does = of_variable records_file all_deleted_file (codes "T") (λ found v v'. Del
   tail = refl;
   freed_first = given_if records_file all_deleted_file no_fields (Gave 748 28 ∷ Gave 776 140 ∷ []) (Gave 748 28 ∷ []) refl;
   freed_again = tt;
+  nodes_freed = nodes_freed_if records_file all_deleted_file (Gave 748 28 ∷ Gave 776 140 ∷ []) (Gave 748 28 ∷ Gave 776 140 ∷ []) refl;
   r_max_rec = refl;
 })
   where

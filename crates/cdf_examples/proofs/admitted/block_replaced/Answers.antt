@@ -23,7 +23,7 @@ use Rattle.cdf_edits.specs.Commands.Room.{entries_in, entries_below, widest, wid
 use Rattle.cdf_examples.specs.Scripts.{run_script}
 use Rattle.std.specs.Fmt.{digits}
 use Rattle.cdf_edits.specs.Commands.Does.{Does}
-use Rattle.cdf_examples.proofs.Deciding.{of_variable, nodes_if, freed_if}
+use Rattle.cdf_examples.proofs.Deciding.{of_variable, nodes_freed_if, nodes_if, freed_if}
 use Rattle.cdf_edits.specs.Commands.Puts.{PutsRecord}
 use Rattle.cdf_edits.specs.Commands.Allowances.{no_fields}
 use Rattle.cdf_edits.specs.Index.Blocks.{record_length}
@@ -58,6 +58,7 @@ does = of_variable packed_file plain_file (codes "R") (λ found v v'. PutsRecord
     tail = refl;
     nodes = nodes_if packed_file plain_file _ (nodes_of before.index) (nodes_of after.index) (Took 952 52 ∷ Gave 784 28 ∷ []) refl;
     freed = freed_if packed_file plain_file no_fields (Took 952 52 ∷ Gave 784 28 ∷ []) refl;
+    nodes_freed = nodes_freed_if packed_file plain_file (Took 952 52 ∷ Gave 784 28 ∷ []) (Took 952 52 ∷ Gave 784 28 ∷ []) refl;
   };
   bytes = record {
     in_place = λ stays. absurd cc;

@@ -37,7 +37,7 @@ keep = all_keep_if uncompressed_file cpr_placed_file (allowances uncompressed_fi
 
 does : Does uncompressed_file compress_t cpr_placed_file (Took 748 28 ∷ [])
 unfolding uncompressed_file cpr_placed_file shape content tiles_from chain_on nodes_of lower_nodes leaves_of entry_leaves entries_on nodes_on levels_on entries_in entries_below widest widest_below nodes_above firsts_of entry_firsts cover new_room with_leaf new_room_below with_lower cut_nodes cut_entries outline entries_outline sized_nodes sized_nodes_below
-does = of_variable uncompressed_file cpr_placed_file (codes "T") (λ found v v'. SetsCompress uncompressed_file cpr_placed_file true v v' (Took 748 28 ∷ [])) (found_z (t_data (negsuc 0) [])) (t_shape no_node) (record { vdr = 404; index = no_node; cpr = 748 ∷ [] }) refl refl refl (record { cut = []; cuts = record { index_is = refl; takes_none = refl; tail = refl }; acts_are = refl; flags_are = refl; cpr_says = λ none. ((refl, (refl, tt)), tt); link_is = λ e. absurd cc; freed = tt })
+does = of_variable uncompressed_file cpr_placed_file (codes "T") (λ found v v'. SetsCompress uncompressed_file cpr_placed_file true v v' (Took 748 28 ∷ [])) (found_z (t_data (negsuc 0) [])) (t_shape no_node) (record { vdr = 404; index = no_node; cpr = 748 ∷ [] }) refl refl refl (record { cut = []; cuts = record { index_is = refl; takes_none = refl; tail = refl }; acts_are = refl; flags_are = refl; cpr_says = λ none. ((refl, (refl, tt)), tt); link_is = λ e. absurd cc; freed = tt; nodes_freed = tt })
 
 pub returns : goal.returns
 unfolding uncompressed_file cpr_placed_file shape content tiles_from chain_on nodes_of lower_nodes leaves_of entry_leaves entries_on nodes_on levels_on nodes_rows used_rows run_script digits entries_in entries_below widest widest_below nodes_above firsts_of entry_firsts cover

@@ -20,7 +20,7 @@ use Rattle.cdf_edits.specs.Commands.Room.{entries_in, entries_below, widest, wid
 use Rattle.cdf_examples.specs.Scripts.{run_script}
 use Rattle.std.specs.Fmt.{digits}
 use Rattle.cdf_edits.specs.Commands.Does.{Does}
-use Rattle.cdf_examples.proofs.Deciding.{of_variable, nodes_if}
+use Rattle.cdf_examples.proofs.Deciding.{of_variable, nodes_freed_if, nodes_if}
 use Rattle.cdf_edits.specs.Commands.Puts.{PutsRecord}
 use Rattle.cdf_edits.specs.Space.Acts.{ActsFollow}
 use Rattle.cdf_edits.specs.Commands.Allowances.{AllKeep}
@@ -48,6 +48,7 @@ does = of_variable variable_file first_put_file (codes "T") (λ found v v'. Puts
     tail = refl;
     nodes = nodes_if variable_file first_put_file _ (nodes_of before.index) (nodes_of after.index) (Took 748 28 ∷ Took 776 140 ∷ []) refl;
     freed = tt;
+    nodes_freed = nodes_freed_if variable_file first_put_file (Took 748 28 ∷ Took 776 140 ∷ []) (Took 748 28 ∷ Took 776 140 ∷ []) refl;
   };
   bytes = record {
     in_place = λ stays. absurd cc;

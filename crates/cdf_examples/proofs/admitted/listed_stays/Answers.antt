@@ -22,7 +22,7 @@ use Rattle.cdf_edits.specs.Commands.Room.{entries_in, entries_below, widest, wid
 use Rattle.cdf_examples.specs.Scripts.{run_script}
 use Rattle.std.specs.Fmt.{digits}
 use Rattle.cdf_edits.specs.Commands.Does.{Does}
-use Rattle.cdf_examples.proofs.Deciding.{of_variable, nodes_if, each_if}
+use Rattle.cdf_examples.proofs.Deciding.{of_variable, nodes_freed_if, nodes_if, each_if}
 use Rattle.cdf_edits.specs.Commands.Cuts.{DeletesRecords}
 use Rattle.cdf_edits.specs.Index.Written.{is_taken_at}
 use Rattle.std.proofs.Common.{not}
@@ -60,6 +60,7 @@ does = of_variable spare_behind_file spare_stays_file (codes "T") (λ found v v'
   tail = refl;
   freed_first = tt;
   freed_again = tt;
+  nodes_freed = nodes_freed_if spare_behind_file spare_stays_file ([]) ([]) refl;
   r_max_rec = refl;
 })
   where

@@ -21,7 +21,7 @@ use Rattle.cdf_edits.specs.Commands.Room.{entries_in, entries_below, widest, wid
 use Rattle.cdf_examples.specs.Scripts.{run_script}
 use Rattle.std.specs.Fmt.{digits}
 use Rattle.cdf_edits.specs.Commands.Does.{Does}
-use Rattle.cdf_examples.proofs.Deciding.{of_variable, freed_if}
+use Rattle.cdf_examples.proofs.Deciding.{of_variable, nodes_freed_if, freed_if}
 use Rattle.cdf_edits.specs.Commands.Cuts.{SetsSparse}
 use Rattle.cdf_edits.specs.Commands.Allowances.{no_fields}
 use Rattle.cdf_edits.specs.Space.Acts.{ActsFollow}
@@ -38,7 +38,7 @@ keep = all_keep_if none_stored_file made_sparse_file (allowances none_stored_fil
 
 does : Does none_stored_file set_sparse_t made_sparse_file (Gave 748 28 ∷ Gave 776 140 ∷ [])
 unfolding none_stored_file made_sparse_file shape content tiles_from chain_on nodes_of lower_nodes leaves_of entry_leaves entries_on nodes_on levels_on entries_in entries_below widest widest_below nodes_above firsts_of entry_firsts cover new_room with_leaf new_room_below with_lower cut_nodes cut_entries outline entries_outline sized_nodes sized_nodes_below
-does = of_variable none_stored_file made_sparse_file (codes "T") (λ found v v'. SetsSparse none_stored_file made_sparse_file v v' (Gave 748 28 ∷ Gave 776 140 ∷ [])) (found_z (t_data (negsuc 0) [])) (t_shape records_index) (t_shape no_node) refl refl refl (record { cuts = record { index_is = refl; takes_none = refl; tail = refl }; freed = freed_if none_stored_file made_sparse_file no_fields (Gave 748 28 ∷ []) refl })
+does = of_variable none_stored_file made_sparse_file (codes "T") (λ found v v'. SetsSparse none_stored_file made_sparse_file v v' (Gave 748 28 ∷ Gave 776 140 ∷ [])) (found_z (t_data (negsuc 0) [])) (t_shape records_index) (t_shape no_node) refl refl refl (record { cuts = record { index_is = refl; takes_none = refl; tail = refl }; freed = freed_if none_stored_file made_sparse_file no_fields (Gave 748 28 ∷ []) refl; nodes_freed = nodes_freed_if none_stored_file made_sparse_file (Gave 748 28 ∷ Gave 776 140 ∷ []) (Gave 748 28 ∷ Gave 776 140 ∷ []) refl })
 
 pub returns : goal.returns
 unfolding none_stored_file made_sparse_file shape content tiles_from chain_on nodes_of lower_nodes leaves_of entry_leaves entries_on nodes_on levels_on nodes_rows used_rows run_script digits entries_in entries_below widest widest_below nodes_above firsts_of entry_firsts cover

@@ -25,7 +25,7 @@ use Rattle.cdf_edits.specs.Commands.Room.{entries_in, entries_below, widest, wid
 use Rattle.cdf_examples.specs.Scripts.{run_script}
 use Rattle.std.specs.Fmt.{digits}
 use Rattle.cdf_edits.specs.Commands.Does.{Does}
-use Rattle.cdf_examples.proofs.Deciding.{of_variable, nodes_if, given_if, each_if}
+use Rattle.cdf_examples.proofs.Deciding.{of_variable, nodes_freed_if, nodes_if, given_if, each_if}
 use Rattle.cdf_edits.specs.Commands.Cuts.{DeletesRecords}
 use Rattle.cdf_edits.specs.Commands.Allowances.{no_fields}
 use Rattle.cdf_edits.specs.Index.Written.{is_taken_at}
@@ -64,6 +64,7 @@ does = of_variable two_nodes_file node_freed_file (codes "T") (λ found v v'. De
   tail = refl;
   freed_first = given_if two_nodes_file node_freed_file no_fields (Gave 916 28 ∷ Gave 944 140 ∷ []) (Gave 916 28 ∷ []) refl;
   freed_again = tt;
+  nodes_freed = nodes_freed_if two_nodes_file node_freed_file (Gave 916 28 ∷ Gave 944 140 ∷ []) (Gave 916 28 ∷ Gave 944 140 ∷ []) refl;
   r_max_rec = refl;
 })
   where

@@ -19,7 +19,7 @@ use Rattle.cdf_edits.specs.Commands.Room.{entries_in, entries_below, widest, wid
 use Rattle.cdf_examples.specs.Scripts.{run_script}
 use Rattle.std.specs.Fmt.{digits}
 use Rattle.cdf_edits.specs.Commands.Does.{Does}
-use Rattle.cdf_examples.proofs.Deciding.{of_variable, nodes_if}
+use Rattle.cdf_examples.proofs.Deciding.{of_variable, nodes_freed_if, nodes_if}
 use Rattle.cdf_edits.specs.Commands.Puts.{PutsRecord}
 use Rattle.cdf_examples.proofs.Deciding.{of_four}
 use Rattle.cdf_examples.proofs.BytesKept.{changed_by}
@@ -54,6 +54,7 @@ does = of_variable first_put_file put_again_file (codes "T") (λ found v v'. Put
     tail = refl;
     nodes = nodes_if first_put_file put_again_file _ (nodes_of before.index) (nodes_of after.index) ([]) refl;
     freed = tt;
+    nodes_freed = nodes_freed_if first_put_file put_again_file ([]) ([]) refl;
   };
   bytes = record {
     in_place = λ stays. changed_by first_put_file put_again_file (max_rec_touches first_put_file kinds.Z 404 ++ written_in (t_data (pos 0) ((0, high_first 7) ∷ [])) (first_written (t_data (pos 0) ((0, high_first 7) ∷ [])) 0) 0 (leaves_of records_index)) (omega arith) refl;

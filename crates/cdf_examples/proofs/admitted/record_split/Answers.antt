@@ -21,7 +21,7 @@ use Rattle.cdf_edits.specs.Commands.Room.{entries_in, entries_below, widest, wid
 use Rattle.cdf_examples.specs.Scripts.{run_script}
 use Rattle.std.specs.Fmt.{digits}
 use Rattle.cdf_edits.specs.Commands.Does.{Does}
-use Rattle.cdf_examples.proofs.Deciding.{of_variable, nodes_if}
+use Rattle.cdf_examples.proofs.Deciding.{of_variable, nodes_freed_if, nodes_if}
 use Rattle.cdf_edits.specs.Commands.Puts.{PutsRecord}
 use Rattle.cdf_edits.specs.Space.Acts.{ActsFollow}
 use Rattle.cdf_edits.specs.Commands.Allowances.{AllKeep}
@@ -49,6 +49,7 @@ does = of_variable spare_file rest_listed_file (codes "T") (λ found v v'. PutsR
     tail = refl;
     nodes = nodes_if spare_file rest_listed_file _ (nodes_of before.index) (nodes_of after.index) (Took 748 28 ∷ Took 848 140 ∷ []) refl;
     freed = tt;
+    nodes_freed = nodes_freed_if spare_file rest_listed_file (Took 748 28 ∷ Took 848 140 ∷ []) (Took 748 28 ∷ Took 848 140 ∷ []) refl;
   };
   bytes = record {
     in_place = λ stays. absurd cc;

@@ -21,7 +21,7 @@ use Rattle.cdf_edits.specs.Commands.Room.{entries_in, entries_below, widest, wid
 use Rattle.cdf_examples.specs.Scripts.{run_script}
 use Rattle.std.specs.Fmt.{digits}
 use Rattle.cdf_edits.specs.Commands.Does.{Does}
-use Rattle.cdf_examples.proofs.Deciding.{of_variable, nodes_if}
+use Rattle.cdf_examples.proofs.Deciding.{of_variable, nodes_freed_if, nodes_if}
 use Rattle.cdf_edits.specs.Commands.Puts.{PutsRecord}
 use Rattle.cdf_examples.proofs.Deciding.{of_four}
 use Rattle.cdf_edits.specs.Index.Blocks.{first_written, record_length}
@@ -53,6 +53,7 @@ does = of_variable records_file second_block_file (codes "T") (λ found v v'. Pu
     tail = refl;
     nodes = nodes_if records_file second_block_file _ (nodes_of before.index) (nodes_of after.index) (Took 916 28 ∷ []) refl;
     freed = tt;
+    nodes_freed = nodes_freed_if records_file second_block_file (Took 916 28 ∷ []) (Took 916 28 ∷ []) refl;
   };
   bytes = record {
     in_place = λ stays. absurd cc;
