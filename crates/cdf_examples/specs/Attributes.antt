@@ -3,7 +3,8 @@ use Rattle.std.specs.Prelude.{ℕ, List, [], ◌∷◌, length, codes}
 use Rattle.cdf_model.specs.declared.data_type.DataType.TheVariants.{Char}
 use Rattle.cdf_model.specs.declared.kinds.Scope.TheVariants.{Global}
 use Rattle.cdf_model.specs.DataSet.{DataSet, Entry}
-use Rattle.cdf_format.specs.Owners.{Owner, File, OneAttribute, Unused, Space}
+use Rattle.cdf_format.specs.Owners.{Owner, File, OneAttribute, Unused}
+use Rattle.cdf_model.specs.declared.space.Space.{Space}
 use Rattle.cdf_format.specs.Shape.{Shape}
 use Rattle.cdf_examples.specs.Building.{◌⧺◌, four, minus4, magic, new_cdr, cdr, GdrFields, new_gdr, gdr, AdrFields, new_adr, adr, text_entry, gr_entry, uir}
 use Rattle.cdf_examples.specs.NewFile.{new_data_set}

@@ -6,7 +6,8 @@ use Rattle.cdf_model.specs.declared.kinds.Scope.TheVariants as scopes
 use Rattle.cdf_model.specs.declared.kinds.Sparse.TheVariants.{NoRule}
 use Rattle.cdf_model.specs.DataSet.{DataSet, Entry, Variable}
 use Rattle.cdf_format.specs.Index.{no_node}
-use Rattle.cdf_format.specs.Owners.{Owner, File, OneAttribute, OneVariable, Unused, Space}
+use Rattle.cdf_format.specs.Owners.{Owner, File, OneAttribute, OneVariable, Unused}
+use Rattle.cdf_model.specs.declared.space.Space.{Space}
 use Rattle.cdf_format.specs.Shape.{VariableShape, Shape}
 use Rattle.cdf_examples.specs.Building.{◌⧺◌, magic, new_cdr, cdr, new_gdr, gdr, AdrFields, new_adr, adr, EntryFields, text_entry, z_entry, VdrFields, new_vdr, z_vdr, uir}
 use Rattle.cdf_examples.specs.NewFile.{new_data_set}

@@ -7,7 +7,8 @@ use Rattle.cdf_model.specs.declared.kinds.Kind.TheVariants as kinds
 use Rattle.cdf_model.specs.declared.kinds.Sparse.TheVariants.{NoRule}
 use Rattle.cdf_model.specs.DataSet.{DataSet, Variable}
 use Rattle.cdf_format.specs.Index.{no_node}
-use Rattle.cdf_format.specs.Owners.{Owner, File, OneVariable, Unused, Space}
+use Rattle.cdf_format.specs.Owners.{Owner, File, OneVariable, Unused}
+use Rattle.cdf_model.specs.declared.space.Space.{Space}
 use Rattle.cdf_format.specs.Shape.{VariableShape, Shape}
 use Rattle.cdf_examples.specs.Building.{◌⧺◌, minus4, magic, CdrFields, new_cdr, cdr, GdrFields, new_gdr, gdr, VdrFields, new_vdr, z_vdr, r_vdr, uir}
 use Rattle.cdf_examples.specs.NewFile.{new_data_set}

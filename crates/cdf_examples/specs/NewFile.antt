@@ -2,7 +2,8 @@
 use Rattle.std.specs.Prelude.{ℕ, pos, List, [], ◌∷◌, false}
 use Rattle.cdf_model.specs.declared.head.Majority.TheVariants.{Row}
 use Rattle.cdf_model.specs.DataSet.{DataSet}
-use Rattle.cdf_format.specs.Owners.{Owner, File, Space}
+use Rattle.cdf_format.specs.Owners.{Owner, File}
+use Rattle.cdf_model.specs.declared.space.Space.{Space}
 use Rattle.cdf_format.specs.Shape.{Shape}
 use Rattle.cdf_examples.specs.Building.{◌⧺◌, magic, new_cdr, cdr, new_gdr, gdr}
 

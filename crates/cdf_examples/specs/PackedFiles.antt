@@ -5,7 +5,7 @@ use Rattle.cdf_model.specs.declared.data_type.DataType.TheVariants.{UInt1}
 use Rattle.cdf_model.specs.declared.kinds.Sparse.TheVariants.{NoRule}
 use Rattle.cdf_model.specs.DataSet.{Variable}
 use Rattle.cdf_format.specs.Index.{no_entry, block}
-use Rattle.cdf_format.specs.Owners.{Space}
+use Rattle.cdf_model.specs.declared.space.Space.{Space}
 use Rattle.cdf_format.specs.Records.{cpr_c_type, cvvr_c_size, cvvr_packed, vxr_last}
 use Rattle.cdf_format.specs.Shape.{Shape}
 use Rattle.cdf_examples.specs.Building.{◌⧺◌, minus4, minus8, VdrFields, new_vdr, z_vdr, covering, vxr, vvr, cvvr, cpr, uir}

@@ -4,7 +4,7 @@ use Rattle.cdf_model.specs.declared.data_type.DataType.TheVariants.{Int4}
 use Rattle.cdf_model.specs.declared.kinds.Sparse.TheVariants.{NoRule}
 use Rattle.cdf_model.specs.DataSet.{Variable}
 use Rattle.cdf_format.specs.Index.{Nodes, no_entry, block}
-use Rattle.cdf_format.specs.Owners.{Space}
+use Rattle.cdf_model.specs.declared.space.Space.{Space}
 use Rattle.cdf_format.specs.Shape.{VariableShape, Shape}
 use Rattle.cdf_examples.specs.Building.{◌⧺◌, VdrFields, new_vdr, z_vdr, covering, vxr, vxr_of, vvr, uir}
 use Rattle.cdf_examples.specs.OneVariable.{heads, variable_shape, one_node}

@@ -11,7 +11,8 @@ use Rattle.cdf_model.specs.declared.kinds.Scope.TheVariants as scopes
 use Rattle.cdf_model.specs.declared.kinds.Sparse.TheVariants.{NoRule}
 use Rattle.cdf_model.specs.DataSet.{Attribute, DataSet, Variable}
 use Rattle.cdf_format.specs.Index.{Nodes, no_node, node, no_entry, block}
-use Rattle.cdf_format.specs.Owners.{Owner, File, OneAttribute, OneVariable, Space}
+use Rattle.cdf_format.specs.Owners.{Owner, File, OneAttribute, OneVariable}
+use Rattle.cdf_model.specs.declared.space.Space.{Space}
 use Rattle.cdf_format.specs.Shape.{Shape}
 use Rattle.cdf_examples.specs.Building.{zeros}
 
