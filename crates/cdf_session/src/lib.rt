@@ -6,8 +6,6 @@ mod new_file;
 mod reading;
 mod refusal;
 mod session;
-#[cfg(test)]
-mod tests;
 
 pub use refusal::{AdoptError, Refusal};
 pub use session::Session;

@@ -27,6 +27,3 @@ pub use std_streams::{StdSink, StdSource};
 pub use store::{AttachError, Store};
 pub use sure_source::SureSource;
 pub use writing::write_all;
-
-#[cfg(test)]
-mod tests;

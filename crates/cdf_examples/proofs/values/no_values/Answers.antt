@@ -1,0 +1,7 @@
+use Rattle.std.proofs.Common.{refl}
+use Rattle.std.specs.Fmt.{digits}
+use Rattle.cdf_examples.proofs.values.no_values.Goals as goal
+
+pub returns : goal.returns
+unfolding digits
+returns c = record { int1 = refl; int8 = refl; uint1 = refl; uint4 = refl; real4 = refl; letters = refl; few = refl; first = refl }
