@@ -10,6 +10,7 @@ pub mod StoredLemmas
 pub mod EndLemmas
 pub mod WordLemmas
 pub mod AskedWords
+pub mod OnlyReads
 pub mod RunStore
 pub mod CountLemmas
 pub mod RunLemmas

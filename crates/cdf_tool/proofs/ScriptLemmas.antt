@@ -64,7 +64,7 @@ module _ (limit : ℕ) (b : List ℕ) (before left first : Option (List ℕ)) (p
   all_lines : whole ++ last_of p.rest ≡ lines so_far.taken
   all_lines = ap (λ (r : Option (List ℕ)). whole ++ last_of r) so_far.rest ∙ sym (lines-split so_far.taken)
 
-  same_taken : (now : Option (List ℕ)) (piece : List ℕ) → Consumes left now piece → piece ≡ [] → Consumes before now so_far.taken
+  pub same_taken : (now : Option (List ℕ)) (piece : List ℕ) → Consumes left now piece → piece ≡ [] → Consumes before now so_far.taken
   same_taken now piece took none = subst (λ (t : List ℕ). Consumes before now t) (ap (λ (l : List ℕ). so_far.taken ++ l) none ∙ append-nil so_far.taken) (Consumes-trans before left now so_far.taken piece so_far.consumed took)
 
   pub at_end : (now after : Option (List ℕ)) (piece end : List ℕ) (more : Bool) → total ≤ script_limit → Consumes left now piece → piece ≡ [] → IsAtEnd now → Replies limit image p.given (last_of p.rest) end more was after → Finishes limit b before now first end (refused || more) after

@@ -10,3 +10,4 @@ pub mod Areas
 pub mod Asking
 pub mod Accepts
 pub mod Due
+pub mod Reading

@@ -10,6 +10,7 @@ ghost use Rattle.cdf_tool.specs.Areas.{EndsAttached, EndsInMemory};
 ghost use Rattle.cdf_tool.specs.Asking.{asked_for};
 ghost use Rattle.cdf_tool.specs.Counts.{Counted, counts};
 ghost use Rattle.cdf_tool.specs.Ends.{EndsNamed};
+ghost use Rattle.cdf_tool.specs.Reading.{IfReads, WritesNothing};
 
 use crate::Status;
 use crate::ended::Ended;
@@ -31,6 +32,7 @@ fn area_over<S: Store>(alloc: Global, new: bool, store: S, size: u64) -> StoreAr
     ensures empty { new ≡ true → ⟦<StoreArea<S> as Area>⟧.image result ≡ [] }
     ensures frame { ⟦<StoreArea<S> as Area>⟧.frame result ≡ record { base = None; limit = image_limit; under = (S.disk store, S.write_faults store) } }
     ensures faults { ⟦<StoreArea<S> as Area>⟧.faults result ≡ S.read_faults store }
+    ensures unedited { new ≡ false → ⟦<StoreArea<S> as Area>⟧.edited result ≡ false }
 {
     if new {
         StoreArea::fresh(alloc, store, size, IMAGE_LIMIT)
@@ -52,6 +54,7 @@ fn run_attached<S: Store, I: Source, O: Sink>(
     requires { Some size ≡ option_map length (S.disk store).held }
     ensures ends { EndsAttached new no_save (file_of (S.disk store)) (S.disk store) (S.disk result.store) (I.left script.old) (I.left script.new) (O.written out.old) (O.written out.new) result.status }
     ensures counted { Counted (counts (S.read_faults store) (S.write_faults store) (O.faults out.old) (I.faults script.old)) (counts (S.read_faults result.store) (S.write_faults result.store) (O.faults out.new) (I.faults script.new)) result.status }
+    ensures reads { new ≡ false → IfReads (I.left script.old) (WritesNothing (S.disk store) (S.disk result.store) (S.write_faults store) (S.write_faults result.store) result.status) }
 {
     let area = area_over(alloc, new, store, size);
     let ran = run_area(alloc, new, area, script, out);
@@ -90,6 +93,7 @@ pub fn run_file<S: Store, I: Source, O: Sink>(
     requires allowed { Allows (S.disk store).only asked.now.name.now }
     ensures ends { EndsNamed (asked_for asked.now) (S.disk store) (S.disk result.store) (I.left script.old) (I.left script.new) (O.written out.old) (O.written out.new) result.status }
     ensures counted { Counted (counts (S.read_faults store) (S.write_faults store) (O.faults out.old) (I.faults script.old)) (counts (S.read_faults result.store) (S.write_faults result.store) (O.faults out.new) (I.faults script.new)) result.status }
+    ensures reads { asked.now.new ≡ false → IfReads (I.left script.old) (WritesNothing (S.disk store) (S.disk result.store) (S.write_faults store) (S.write_faults result.store) result.status) }
     ensures not_called { (asked.now.new && asked.now.no_save) ≡ true → result.store ≡ store }
 {
     if is_in_memory(asked) {

@@ -1,12 +1,14 @@
 //! The file in an area is opened, and the script is run over it.
 
-ghost use Rattle.std.specs.Prelude.{◌≡◌, ◌≤◌, ℕ, List, [], Bool, length, true, IfOk, IfErr, None};
+ghost use Rattle.std.specs.Prelude.{◌≡◌, ◌≤◌, ℕ, List, [], Bool, length, true, false, IfOk, IfErr, OnOk, None};
+ghost use Rattle.cdf_area.specs.Calls.{Stays};
 ghost use Rattle.cdf_format.specs.WellFormed.{Good};
 ghost use Rattle.cdf_model.specs.Limits.{image_limit};
 ghost use Rattle.cdf_session.specs.Sessions.{Explains};
 ghost use Rattle.cdf_tool.specs.Areas.{EndsOver, Refuses};
 ghost use Rattle.cdf_tool.specs.Counts.{Counted, CountedIn, counts};
 ghost use Rattle.cdf_tool.specs.Ends.{EndsUnread, Opens};
+ghost use Rattle.cdf_tool.specs.Reading.{IfReads};
 
 use crate::Status;
 use crate::say::say_rejected;
@@ -32,6 +34,7 @@ fn open<A: Area>(alloc: Global, new: bool, area: A) -> Result<Session<A>, Refusa
     ensures opens { IfOk result (λ session. Opens new (A.image area) (A.image session)) }
     ensures frame { IfOk result (λ session. A.frame session ≡ A.frame area) }
     ensures counted { IfOk result (λ session. A.faults session ≡ A.faults area) }
+    ensures unedited { new ≡ false → IfOk result (λ session. A.edited session ≡ A.edited area) }
     ensures refused { IfErr result (λ r. Refuses new (A.image area) r.why) }
     ensures frame_back { IfErr result (λ r. A.frame r.area ≡ A.frame area) }
     ensures cause { IfErr result (λ r. Explains r.why (A.faults area) (A.faults r.area)) }
@@ -68,6 +71,7 @@ pub fn run_area<A: Area, I: Source, O: Sink>(
     ensures ends { EndsOver new (A.image area) (I.left script.old) (I.left script.new) (O.written out.old) (O.written out.new) (A.image result.area) result.outcome }
     ensures good { IfOk result.outcome (λ _. Good (A.image result.area)) }
     ensures fits { IfOk result.outcome (λ _. length (A.image result.area) ≤ image_limit) }
+    ensures reads { new ≡ false → OnOk result.outcome (IfReads (I.left script.old) (Stays A.image A.frame A.faults A.edited area result.area)) }
     ensures frame { A.frame result.area ≡ A.frame area }
     ensures counted { CountedIn (counts (A.faults area) 0 (O.faults out.old) (I.faults script.old)) (counts (A.faults result.area) 0 (O.faults out.new) (I.faults script.new)) result.outcome }
 {

@@ -1,12 +1,13 @@
 //! One line of a script is answered.
 
-ghost use Rattle.std.specs.Prelude.{◌≡◌, true, IfOk};
-ghost use Rattle.cdf_area.specs.Calls.{Edits};
+ghost use Rattle.std.specs.Prelude.{◌≡◌, true, IfOk, OnOk};
+ghost use Rattle.cdf_area.specs.Calls.{Edits, Stays};
 ghost use Rattle.cdf_model.specs.Grammar.{parse as asked_for};
 ghost use Rattle.cdf_model.specs.Run.{is_refused};
 ghost use Rattle.cdf_model.specs.Texts.{reply_text as text_of};
 ghost use Rattle.cdf_model.specs.Whole.{CanBeWritten};
 ghost use Rattle.cdf_lines.specs.Pending.{line_of};
+ghost use Rattle.cdf_tool.specs.Reading.{line_reads};
 ghost use Rattle.cdf_tool.specs.Replay.{IsShort, Turns};
 
 use cdf_area::{Area, AreaError};
@@ -53,6 +54,7 @@ pub fn answer_line<A: Area>(
 ) -> Result<Answer, AreaError>
     requires { IsShort (line_of line.now) }
     ensures turns { IfOk result (λ answer. Turns (A.frame session.old).limit (A.image session.old) line.now.number (asked_for (line_of line.now)) (A.image session.new) answer.refused answer.text.items) }
+    ensures reads { line_reads (line_of line.now) ≡ true → OnOk result (Stays A.image A.frame A.faults A.edited session.old session.new) }
     ensures area { Edits A.frame A.faults session.old session.new result }
 {
     let command = match parse(alloc, line) {

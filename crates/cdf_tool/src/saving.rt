@@ -1,10 +1,13 @@
 //! A run over the file that is attached ends, and its image is saved.
 
-ghost use Rattle.std.specs.Prelude.{◌≡◌, ◌≤◌, length, IfOk, IsErrOf, None};
+ghost use Rattle.std.specs.Prelude.{◌≡◌, ◌≤◌, length, IfOk, IsErrOf, OnOk, None};
 ghost use Rattle.cdf_format.specs.WellFormed.{Good};
 ghost use Rattle.cdf_model.specs.Limits.{image_limit};
+ghost use Rattle.cdf_pages.specs.Saving.{IsSavedAlready};
+ghost use Rattle.cdf_store.specs.Disk.{file_of};
 ghost use Rattle.cdf_tool.specs.Areas.{EndsSaving, EndsStored};
 ghost use Rattle.cdf_tool.specs.Counts.{WritesCounted};
+ghost use Rattle.cdf_tool.specs.Reading.{WritesNothing};
 
 use crate::Status;
 use crate::ended::Ended;
@@ -22,6 +25,7 @@ fn save<S: Store>(refused: bool, area: StoreArea<S>) -> Ended<S>
     ensures ends { EndsSaving refused (⟦<StoreArea<S> as Area>⟧.image area) (⟦<StoreArea<S> as Area>⟧.frame area).under.0 (S.disk result.store) result.status }
     ensures reads { S.read_faults result.store ≡ ⟦<StoreArea<S> as Area>⟧.faults area }
     ensures writes { WritesCounted (⟦<StoreArea<S> as Area>⟧.frame area).under.1 (S.write_faults result.store) result.status }
+    ensures untouched { IsSavedAlready (⟦<StoreArea<S> as Area>⟧.edited area) (file_of (⟦<StoreArea<S> as Area>⟧.frame area).under.0) (⟦<StoreArea<S> as Area>⟧.image area) None → WritesNothing (⟦<StoreArea<S> as Area>⟧.frame area).under.0 (S.disk result.store) (⟦<StoreArea<S> as Area>⟧.frame area).under.1 (S.write_faults result.store) result.status }
 {
     let mut area = area;
     match area.save(None) {
@@ -49,6 +53,7 @@ pub fn finish<S: Store>(no_save: bool, ran: Ran<StoreArea<S>>) -> Ended<S>
     ensures ends { EndsStored no_save (⟦<StoreArea<S> as Area>⟧.image ran.area) (⟦<StoreArea<S> as Area>⟧.frame ran.area).under.0 (S.disk result.store) ran.outcome result.status }
     ensures reads { S.read_faults result.store ≡ ⟦<StoreArea<S> as Area>⟧.faults ran.area }
     ensures writes { WritesCounted (⟦<StoreArea<S> as Area>⟧.frame ran.area).under.1 (S.write_faults result.store) result.status }
+    ensures untouched { OnOk ran.outcome (IsSavedAlready (⟦<StoreArea<S> as Area>⟧.edited ran.area) (file_of (⟦<StoreArea<S> as Area>⟧.frame ran.area).under.0) (⟦<StoreArea<S> as Area>⟧.image ran.area) None) → WritesNothing (⟦<StoreArea<S> as Area>⟧.frame ran.area).under.0 (S.disk result.store) (⟦<StoreArea<S> as Area>⟧.frame ran.area).under.1 (S.write_faults result.store) result.status }
 {
     let Ran { area, outcome } = ran;
     match outcome {

@@ -1,7 +1,9 @@
 //! A script is run line by line.
 
-ghost use Rattle.std.specs.Prelude.{◌≡◌, ◌||◌, [], IfOk, IfErr, OnOk};
+ghost use Rattle.std.specs.Prelude.{◌≡◌, ◌||◌, [], true, IfOk, IfErr, OnOk};
+ghost use Rattle.cdf_area.specs.Calls.{Stays};
 ghost use Rattle.cdf_tool.specs.Counts.{CountedIn, counts};
+ghost use Rattle.cdf_tool.specs.Reading.{IfReads, all_read};
 ghost use Rattle.cdf_tool.specs.Replay.{AreShort, IsDrained, Replies as AllReplies, Stops};
 ghost use Rattle.cdf_tool.specs.Script.{Finishes, Halts};
 
@@ -40,6 +42,7 @@ fn answer_lines<A: Area, O: Sink>(
     ensures drained { OnOk result (IsDrained lines.old lines.new) }
     ensures none_left { OnOk result (replies.new ≡ []) }
     ensures stops { IfErr result (λ status. Stops (A.frame session.old).limit (A.image session.old) lines.old.given lines.old.ready (O.written out.old) (O.written out.new) status) }
+    ensures reads { all_read lines.old.ready ≡ true → OnOk result (Stays A.image A.frame A.faults A.edited session.old session.new) }
     ensures frame { A.frame session.new ≡ A.frame session.old }
     ensures counted { CountedIn (counts (A.faults session.old) 0 (O.faults out.old) 0) (counts (A.faults session.new) 0 (O.faults out.new) 0) result }
 {
@@ -80,6 +83,7 @@ pub fn run_script<A: Area, I: Source, O: Sink>(
 ) -> Result<bool, Status>
     ensures ok { IfOk result (λ refused. Finishes (A.frame session.old).limit (A.image session.old) (I.left script.old) (I.left script.new) (O.written out.old) (A.image session.new) refused (O.written out.new)) }
     ensures err { IfErr result (λ status. Halts (A.frame session.old).limit (A.image session.old) (I.left script.old) (I.left script.new) (O.written out.old) (O.written out.new) status) }
+    ensures reads { OnOk result (IfReads (I.left script.old) (Stays A.image A.frame A.faults A.edited session.old session.new)) }
     ensures frame { A.frame session.new ≡ A.frame session.old }
     ensures counted { CountedIn (counts (A.faults session.old) 0 (O.faults out.old) (I.faults script.old)) (counts (A.faults session.new) 0 (O.faults out.new) (I.faults script.new)) result }
 {

@@ -10,6 +10,7 @@ ghost use Rattle.cdf_tool.specs.Accepts.{Accepts};
 ghost use Rattle.cdf_tool.specs.Counts.{Counted, counts};
 ghost use Rattle.cdf_tool.specs.Due.{CanBegin, Looked, Untouched, calls_store};
 ghost use Rattle.cdf_tool.specs.Ends.{Ends};
+ghost use Rattle.cdf_tool.specs.Reading.{IfReads, WritesNothing};
 ghost use Rattle.cdf_tool.specs.Says.{Names};
 ghost use Rattle.cdf_tool.specs.Statuses.{Exactly, IsDone, IsFailure, IsUnsaved};
 
@@ -67,6 +68,13 @@ pub fn run<S: Store, I: Source, O: Sink>(
     ensures not_called { calls_store (ask (map string_bytes words.now)) ≡ false → result.store ≡ store }
     ensures untouched { IfSome (ask (map string_bytes words.now)) (λ asked. IsUnsaved asked.no_save result.status → Untouched asked (S.disk store) (S.disk result.store)) }
     ensures unwritten { IfSome (ask (map string_bytes words.now)) (λ asked. IsUnsaved asked.no_save result.status → S.write_faults result.store ≡ S.write_faults store) }
+
+    // A script that only reads leaves the file as it was. Where each line is blank, no command, or a command that only reads, and no new
+    // file is begun, nothing is written to the store, and no saving fails, also over a file that may not be written.
+    ensures reads { IfSome (ask (map string_bytes words.now)) (λ asked. asked.new ≡ false → IfReads (I.left script.old)
+        (WritesNothing (S.disk store) (S.disk result.store) (S.write_faults store) (S.write_faults result.store) result.status)) }
+
+    // What stands beneath the store stays.
     ensures only { (S.disk result.store).only ≡ (S.disk store).only }
     ensures under { (S.disk result.store).under ≡ (S.disk store).under }
 {

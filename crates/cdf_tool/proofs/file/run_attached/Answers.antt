@@ -3,6 +3,7 @@ use Rattle.cdf_area.specs.Frame.{Frame}
 use Rattle.cdf_store.specs.Disk.{Disk, file_of}
 use Rattle.cdf_tool.proofs.CountLemmas.{counted_attached, no_write}
 use Rattle.cdf_tool.proofs.EndLemmas.{attached_all}
+use Rattle.cdf_tool.proofs.OnlyReads.{attached_reads, nothing_from, saved_already}
 use Rattle.cdf_tool.proofs.file.run_attached.Goals as goal
 
 pub finish-requires-clause-no_write : goal.finish-requires-clause-no_write
@@ -20,3 +21,16 @@ returns-clause-counted g c =
     (g.S.Store.read_faults c.finish.result.store) (g.S.Store.write_faults c.finish.result.store) (g.O.Sink.faults c.run_area-ran.new.out) (g.I.Source.faults c.run_area-ran.new.script) _ _ _
     c.area_over-area.ensures.faults c.finish.ensures.reads (ap (λ (f : Frame (Disk g.S.Store.Under × ℕ)). f.under.1) (c.run_area-ran.ensures.frame ∙ c.area_over-area.ensures.frame))
     c.finish.ensures.ends c.run_area-ran.ensures.counted c.finish.ensures.writes
+
+pub returns-clause-reads : goal.returns-clause-reads
+returns-clause-reads g c = λ old.
+    let area = c.area_over-area.ensures in
+    let ran = c.run_area-ran.result in
+    let disk = g.S.Store.disk c.args.store in
+    let under = c.run_area-ran.ensures.frame ∙ area.frame in
+    let same = ap (λ (f : Frame (Disk g.S.Store.Under × ℕ)). f.under.0) under in
+    let finished = c.finish.ensures.untouched in
+    attached_reads ran.outcome (g.I.Source.left c.args.script.now) _ _ _
+    (λ stays. saved_already _ _ disk _ (stays.edited ∙ area.unedited old) same (stays.image ∙ area.image old))
+    (c.run_area-ran.ensures.reads old)
+    (λ saved. nothing_from disk _ (g.S.Store.disk c.finish.result.store) (g.S.Store.write_faults c.args.store) _ (g.S.Store.write_faults c.finish.result.store) c.finish.result.status same (ap (λ (f : Frame (Disk g.S.Store.Under × ℕ)). f.under.1) under) (finished saved))

@@ -1,11 +1,14 @@
-use Rattle.std.proofs.Common.{◌≡◌, ◌∙◌, ap, sym, refl, Some, true, false, Bool}
+use Rattle.std.proofs.Common.{◌≡◌, ◌∙◌, ap, subst, sym, refl, Some, true, false, Bool}
 use Rattle.std.specs.Option.{option_map}
 use Rattle.cdf_store.specs.Disk.{file_of}
 use Rattle.cdf_tool.specs.Asking.{asked_for}
 use Rattle.cdf_tool.specs.Counts.{counts}
+use Rattle.cdf_tool.specs.declared.status.Status.{Status}
+use Rattle.cdf_tool.specs.Says.{SaysNoFile}
 use Rattle.cdf_tool.specs.Stored.{Attached}
 use Rattle.cdf_tool.proofs.CountLemmas.{counted_from}
 use Rattle.cdf_tool.proofs.EndLemmas.{attached_ends, in_memory_ends}
+use Rattle.cdf_tool.proofs.OnlyReads.{attached_files, if_reads, if_reads_map, nothing_before}
 use Rattle.cdf_tool.proofs.StoredLemmas.{both_are, held_file, found_file, saves}
 use Rattle.cdf_tool.proofs.file.run_file.Goals as goal
 
@@ -47,3 +50,23 @@ returns-in-Ok-None-clause-counted g c =
 
 pub returns-then-is_in_memory-clause-counted : goal.returns-then-is_in_memory-clause-counted
 returns-then-is_in_memory-clause-counted g c = c.run_in_memory-status.ensures.counted (g.S.Store.read_faults c.args.store) (g.S.Store.write_faults c.args.store)
+
+pub returns-then-is_in_memory-clause-reads : goal.returns-then-is_in_memory-clause-reads
+returns-then-is_in_memory-clause-reads g c = λ old. absurd (cc (old, (both_are c.args.asked.now.new c.args.asked.now.no_save (sym c.is_in_memory.ensures ∙ c.if-is_in_memory.true)).0))
+
+pub returns-in-Ok-Some-clause-reads : goal.returns-in-Ok-Some-clause-reads
+returns-in-Ok-Some-clause-reads g c = λ old.
+    let e = c.in-Ok-Some.ensures in
+    if_reads_map (g.I.Source.left c.args.script.now) _ _
+    (nothing_before (g.S.Store.disk c.args.store) (g.S.Store.disk c.attach.new.self) (g.S.Store.disk c.run_attached.result.store) (g.S.Store.write_faults c.args.store) (g.S.Store.write_faults c.attach.new.self) (g.S.Store.write_faults c.run_attached.result.store) c.run_attached.result.status
+    (attached_files c.args.asked.now.new c.args.asked.now.name.now (g.S.Store.disk c.args.store).files (g.S.Store.disk c.attach.new.self).files c.attach.result old c.attach.ensures.files) e.touched c.attach.ensures.write)
+    (c.run_attached.ensures.reads old)
+
+pub returns-in-Ok-None-clause-reads : goal.returns-in-Ok-None-clause-reads
+returns-in-Ok-None-clause-reads g c = λ old.
+    if_reads (g.I.Source.left c.args.script.now) _ (record {
+      files = attached_files c.args.asked.now.new c.args.asked.now.name.now (g.S.Store.disk c.args.store).files (g.S.Store.disk c.attach.new.self).files c.attach.result old c.attach.ensures.files;
+      touched = c.attach.ensures.touched;
+      writes = c.attach.ensures.write;
+      saved = λ is. subst (λ (s : Status). SaysNoFile (g.O.Sink.written c.args.out.now) (g.O.Sink.written c.say_no_file-status.new.out) s) is c.say_no_file-status.ensures.text;
+    })

@@ -5,15 +5,18 @@ use Rattle.cdf_lines.specs.Pending.{Pending, GivesLine}
 use Rattle.cdf_store.specs.Written.{AppendsFront}
 use Rattle.cdf_tool.specs.declared.replay.Answer.{Answer}
 use Rattle.cdf_tool.specs.Gathering.{Gathers}
+use Rattle.cdf_tool.specs.Reading.{line_reads}
 use Rattle.cdf_tool.specs.Replay.{AreShort}
 use Rattle.cdf_tool.proofs.CountLemmas.{area_counted, output_counted, counts_stay}
 use Rattle.cdf_tool.proofs.Lines.{starts, stopped_whole, stopped_cut, all_answered, line_answered, line_cut, line_blank}
+use Rattle.cdf_tool.proofs.OnlyReads.{more_read, stays_on, stays_still}
 use Rattle.cdf_tool.proofs.script.answer_lines.Goals as goal
 
 pub ready-init : goal.ready-init
 ready-init g c = record {
   reached = starts (g.A.Area.frame c.args.session.now).limit (g.A.Area.image c.args.session.now) c.args.lines.now.given c.args.lines.now.ready (g.O.Sink.written c.args.out.now) c.args.replies.now c.requires.none_left;
   short = c.requires.short;
+  reads = λ all. (all, stays_still g.A.Area.image g.A.Area.frame g.A.Area.faults g.A.Area.edited c.args.session.now);
   rest = refl;
   over = refl;
   frame = refl;
@@ -31,6 +34,7 @@ ready-preserved-then-is_blank_line g c =
           (g.A.Area.image c.ready.session) c.ready.refused (g.O.Sink.written c.ready.out) c.ready.replies c.ready.lines i.reached
           c.next_line.new.self c.line-line.result (g.A.Area.frame c.args.session.now).limit gives c.line-line.ensures.text c.line-line.ensures.number refl (c.is_blank_line.ensures c.if-is_blank_line.true);
       short = (subst AreShort gives.first short).1;
+      reads = λ all. let so_far = i.reads all in ((more_read c.ready.lines c.next_line.new.self gives so_far.0).1, so_far.1);
       rest = ap (λ (p : Pending). p.rest) gives.counted ∙ i.rest;
       over = ap (λ (p : Pending). p.over) gives.counted ∙ i.over;
       frame = i.frame;
@@ -60,6 +64,13 @@ ready-preserved g c =
           c.next_line.new.self c.line-line.result (g.A.Area.frame c.ready.session).limit gives c.line-line.ensures.text c.line-line.ensures.number (ap (λ f. f.limit) i.frame)
           (g.A.Area.image c.answer_line.new.session) c.in-Ok.answer.refused c.either-refused.result c.in-Ok.answer.text.items (g.O.Sink.written c.add.new.out) c.add.new.self c.either-refused.ensures c.in-Ok.ensures.turns gathers;
       short = (subst AreShort gives.first short).1;
+      reads = λ all.
+          let so_far = i.reads all in
+          let these = more_read c.ready.lines c.next_line.new.self gives so_far.0 in (
+            these.1,
+            stays_on g.A.Area.image g.A.Area.frame g.A.Area.faults g.A.Area.edited c.args.session.now c.ready.session c.answer_line.new.session so_far.1
+                (c.in-Ok.ensures.reads (ap line_reads c.line-line.ensures.text ∙ these.0)),
+          );
       rest = ap (λ (p : Pending). p.rest) gives.counted ∙ i.rest;
       over = ap (λ (p : Pending). p.over) gives.counted ∙ i.over;
       frame = c.answer_line.ensures.area.frame ∙ i.frame;
@@ -83,3 +94,11 @@ pub returns-in-Err-write-2-clause-stops : goal.returns-in-Err-write-2-clause-sto
 returns-in-Err-write-2-clause-stops g c =
     stopped_cut (g.A.Area.frame c.args.session.now).limit (g.A.Area.image c.args.session.now) c.args.lines.now.given c.args.lines.now.ready (g.O.Sink.written c.args.out.now)
     (g.A.Area.image c.ready.session) c.ready.refused (g.O.Sink.written c.ready.out) c.ready.replies c.ready.lines c.ready.invariant.reached (g.O.Sink.written c.write-2.new.out) c.in-Err-write-2.ensures.part
+
+pub returns-in-Ok-write-clause-reads : goal.returns-in-Ok-write-clause-reads
+returns-in-Ok-write-clause-reads g c = λ all. (c.ready.invariant.reads all).1
+
+pub returns-in-Err-write-clause-stops : goal.returns-in-Err-write-clause-stops
+returns-in-Err-write-clause-stops g c =
+    stopped_cut (g.A.Area.frame c.args.session.now).limit (g.A.Area.image c.args.session.now) c.args.lines.now.given c.args.lines.now.ready (g.O.Sink.written c.args.out.now)
+    (g.A.Area.image c.ready.session) c.ready.refused (g.O.Sink.written c.ready.out) c.ready.replies c.ready.lines c.ready.invariant.reached (g.O.Sink.written c.write.new.out) c.in-Err-write.ensures.part

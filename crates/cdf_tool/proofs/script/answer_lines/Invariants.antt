@@ -1,4 +1,6 @@
-use Rattle.std.proofs.Common.{◌≡◌, length}
+use Rattle.std.proofs.Common.{◌≡◌, true, length}
+use Rattle.cdf_area.specs.Calls.{Stays}
+use Rattle.cdf_tool.specs.Reading.{all_read}
 use Rattle.cdf_tool.specs.Replay.{AreShort}
 use Rattle.cdf_tool.proofs.Standing.{Reached}
 use Rattle.cdf_tool.proofs.script.answer_lines.Given as goal
@@ -7,6 +9,7 @@ abbrev pub invariant-ready : goal.invariant-ready
 invariant-ready g l = record {
   reached : Reached (g.A.Area.frame l.fn.session).limit (g.A.Area.image l.fn.session) l.fn.lines.given l.fn.lines.ready (g.O.Sink.written l.fn.out) l.lines.given l.lines.ready (g.A.Area.image l.session) l.refused (g.O.Sink.written l.out) l.replies;
   short : AreShort l.lines.ready;
+  reads : all_read l.fn.lines.ready ≡ true → (all_read l.lines.ready ≡ true) × Stays g.A.Area.image g.A.Area.frame g.A.Area.faults g.A.Area.edited l.fn.session l.session;
   rest : l.lines.rest ≡ l.fn.lines.rest;
   over : l.lines.over ≡ l.fn.lines.over;
   frame : g.A.Area.frame l.session ≡ g.A.Area.frame l.fn.session;

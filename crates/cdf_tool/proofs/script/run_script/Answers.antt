@@ -1,17 +1,21 @@
 use Rattle.std.proofs.Common.{◌≡◌, ℕ, Bool, ◌+◌, ◌<◌, ◌≤◌, ◌∙◌, [], length, take, ap, sym, subst, refl, rules, arith}
 use Rattle.std.proofs.Math.Path.{transport}
 use Rattle.std.specs.Io.KnownBytes.{IsAtEnd}
+use Rattle.std.proofs.KnownBytes.{Consumes-trans}
+use Rattle.cdf_area.specs.Calls.{Stays}
 use Rattle.cdf_model.specs.Limits.{script_limit}
 use Rattle.cdf_model.specs.Lines.{split}
 use Rattle.cdf_lines.specs.Pending.{last_of, new_lines}
 use Rattle.cdf_tool.specs.declared.status.Status.TheVariants as statuses
 use Rattle.cdf_tool.specs.Counts.{Counts}
+use Rattle.cdf_tool.specs.Reading.{all_read}
 use Rattle.cdf_tool.specs.Replay.{AreShort, Replies, Stops}
 use Rattle.cdf_tool.specs.Script.{Finishes, piece_limit}
 use Rattle.cdf_tool.proofs.CountLemmas.{counted_after, counts_stay}
 use Rattle.cdf_tool.proofs.Moments.{stops_nowhere}
 use Rattle.cdf_tool.proofs.Lines.{drained_fed, fed_ready, new_short}
-use Rattle.cdf_tool.proofs.ScriptLemmas.{at_start, at_end, at_end_stopped, at_limit, at_stop, finished_ready, goes_on}
+use Rattle.cdf_tool.proofs.ScriptLemmas.{at_start, at_end, at_end_stopped, at_limit, at_stop, finished_ready, goes_on, same_taken}
+use Rattle.cdf_tool.proofs.OnlyReads.{after_last, after_piece, if_reads, stays_on, stays_still}
 use Rattle.cdf_tool.proofs.script.run_script.Goals as goal
 
 pub returns-in-Ok-answer_lines-clause-ok : goal.returns-in-Ok-answer_lines-clause-ok
@@ -49,6 +53,20 @@ returns-in-Err-answer_lines-clause-err g c =
     let stops : Stops limit image c.loop.lines.given (last_of c.loop.lines.rest) was now status = transport (λ j. Stops (same j) image (ready.1 j) (ready.0 j) was now status) c.in-Err-answer_lines.ensures.stops in
     at_end_stopped (g.A.Area.frame c.args.session.now).limit (g.A.Area.image c.args.session.now) (g.I.Source.left c.args.script.now) (g.I.Source.left c.loop.script) (g.O.Sink.written c.args.out.now) c.loop.lines (g.A.Area.image c.loop.session) c.loop.refused (g.O.Sink.written c.loop.out) c.loop.total c.loop.invariant.after
     (g.I.Source.left c.read.new.self) now (take c.in-Ok.count c.read.new.out) status i.total read.bytes.0 none end stops
+
+pub returns-in-Ok-answer_lines-clause-reads : goal.returns-in-Ok-answer_lines-clause-reads
+returns-in-Ok-answer_lines-clause-reads g c =
+    let i = c.loop.invariant in
+    let read = c.in-Ok.ensures in
+    let none : take c.in-Ok.count c.read.new.out ≡ [] = ap (λ (k : ℕ). take k c.read.new.out) c.if-count-eq0.true in
+    let end : IsAtEnd (g.I.Source.left c.read.new.self) = read.bytes.1 c.if-count-eq0.true (omega arith) in
+    let ready = finished_ready c.loop.lines c.finish.new.self i.after.none_ready c.finish.ensures in
+    after_last (g.I.Source.left c.args.script.now) (g.I.Source.left c.read.new.self) c.loop.lines.rest i.after.taken
+    (Stays g.A.Area.image g.A.Area.frame g.A.Area.faults g.A.Area.edited c.args.session.now c.loop.session) (Stays g.A.Area.image g.A.Area.frame g.A.Area.faults g.A.Area.edited c.args.session.now c.answer_lines.new.session) i.after.rest
+    (same_taken (g.A.Area.frame c.args.session.now).limit (g.A.Area.image c.args.session.now) (g.I.Source.left c.args.script.now) (g.I.Source.left c.loop.script) (g.O.Sink.written c.args.out.now) c.loop.lines (g.A.Area.image c.loop.session) c.loop.refused (g.O.Sink.written c.loop.out) c.loop.total i.after
+    (g.I.Source.left c.read.new.self) (take c.in-Ok.count c.read.new.out) read.bytes.0 none)
+    end i.reads
+    (λ all so_far. stays_on g.A.Area.image g.A.Area.frame g.A.Area.faults g.A.Area.edited c.args.session.now c.loop.session c.answer_lines.new.session so_far (c.in-Ok-answer_lines.ensures.reads (ap all_read ready.0 ∙ all)))
 
 pub returns-in-Ok-answer_lines-clause-counted : goal.returns-in-Ok-answer_lines-clause-counted
 returns-in-Ok-answer_lines-clause-counted g c =
@@ -143,6 +161,10 @@ loop-preserved g c =
     record {
       after = goes_on (g.A.Area.frame c.args.session.now).limit (g.A.Area.image c.args.session.now) (g.I.Source.left c.args.script.now) (g.I.Source.left c.loop.script) (g.O.Sink.written c.args.out.now) c.loop.lines (g.A.Area.image c.loop.session) c.loop.refused (g.O.Sink.written c.loop.out) c.loop.total c.loop.invariant.after
           (g.I.Source.left c.read.new.self) now piece last lines more c.either-refused.result (c.loop.total + c.in-Ok.count) sum read.bytes.0 drained.ready drained.over drained.rest drained.given c.either-refused.ensures replies;
+      reads = after_piece (g.I.Source.left c.args.script.now) (g.I.Source.left c.read.new.self) c.loop.lines.rest i.after.taken piece
+          (Stays g.A.Area.image g.A.Area.frame g.A.Area.faults g.A.Area.edited c.args.session.now c.loop.session) (Stays g.A.Area.image g.A.Area.frame g.A.Area.faults g.A.Area.edited c.args.session.now c.answer_lines-in-loop.new.session) i.after.rest
+          (Consumes-trans (g.I.Source.left c.args.script.now) (g.I.Source.left c.loop.script) (g.I.Source.left c.read.new.self) i.after.taken piece i.after.consumed read.bytes.0) i.reads
+          (λ all so_far. stays_on g.A.Area.image g.A.Area.frame g.A.Area.faults g.A.Area.edited c.args.session.now c.loop.session c.answer_lines-in-loop.new.session so_far (answered.reads (ap all_read fed.0 ∙ all)));
       none_left = answered.none_left;
       turns = omega arith;
       total = omega arith;
@@ -155,6 +177,7 @@ loop-preserved g c =
 pub loop-init : goal.loop-init
 loop-init g c = record {
   after = at_start (g.A.Area.frame c.args.session.now).limit (g.A.Area.image c.args.session.now) (g.I.Source.left c.args.script.now) (g.O.Sink.written c.args.out.now) c.new-lines.result c.new-lines.ensures;
+  reads = if_reads (g.I.Source.left c.args.script.now) _ (stays_still g.A.Area.image g.A.Area.frame g.A.Area.faults g.A.Area.edited c.args.session.now);
   none_left = c.new-replies.ensures;
   turns = omega arith;
   total = omega arith;

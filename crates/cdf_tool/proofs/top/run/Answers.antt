@@ -43,3 +43,6 @@ returns-in-Some-clause-not_called g c = rw (← c.in-Some.ensures) (λ calls. c.
 
 pub returns-in-None-clause-counted : goal.returns-in-None-clause-counted
 returns-in-None-clause-counted g c = c.say_usage-status.ensures.counted (g.S.Store.read_faults c.args.store) (g.S.Store.write_faults c.args.store) (g.I.Source.faults c.args.script.now)
+
+pub returns-in-Some-clause-reads : goal.returns-in-Some-clause-reads
+returns-in-Some-clause-reads g c = rw (← c.in-Some.ensures) c.run_file.ensures.reads

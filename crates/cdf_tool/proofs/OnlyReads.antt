@@ -1,0 +1,143 @@
+-- A script that only reads.
+use Rattle.std.proofs.Common.{◌≡◌, ◌≢◌, ◌≤◌, ℕ, Bool, true, false, List, ◌++◌, Option, Some, None, Ok, Err, OnOk, Result, refl, sym, ◌∙◌, ap, subst, inl, inr, append-nil, length, arith}
+use Rattle.std.specs.Io.KnownBytes.{Consumes, IsAtEnd}
+use Rattle.std.proofs.lemmas.List.Folds.{list_all-append}
+use Rattle.cdf_area.specs.Calls.{Stays}
+use Rattle.cdf_area.specs.Frame.{Frame}
+use Rattle.cdf_edits.specs.Answers.{Answers, MovesIf, is_full}
+use Rattle.cdf_edits.specs.Follows.{only_reads}
+use Rattle.cdf_format.proofs.Images.{image_of-whole}
+use Rattle.cdf_format.proofs.Tests.{both}
+use Rattle.cdf_format.specs.WellFormed.{WellFormed}
+use Rattle.cdf_lines.specs.Pending.{GivesLine, Pending, last_of, new_lines}
+use Rattle.cdf_lines.proofs.Pieces.{whole_lines-append, lines-split}
+use Rattle.cdf_model.specs.declared.answer.Outcome.{Outcome}
+use Rattle.cdf_model.specs.declared.command.Command.{Command}
+use Rattle.cdf_model.specs.Answers.{is_accepted}
+use Rattle.cdf_model.specs.Lines.{split, kept, lines, whole_lines}
+use Rattle.cdf_pages.specs.Saving.{IsSavedAlready}
+use Rattle.cdf_session.specs.Sessions.{AnswersBuilt}
+use Rattle.cdf_store.specs.Disk.{Disk, file_of}
+use Rattle.cdf_store.specs.Named.{AttachesIn, files_attached}
+use Rattle.cdf_tool.specs.declared.status.Status.{Status}
+use Rattle.cdf_tool.specs.declared.status.Status.TheVariants as statuses
+use Rattle.cdf_tool.specs.Ends.{Opens}
+use Rattle.cdf_tool.specs.Reading.{IfReads, WritesNothing, all_read, line_reads}
+
+-- ---- one command
+
+moved_same : (accepted : Bool) (b : List ℕ) (c : Command) (now : List ℕ) → only_reads c ≡ true → MovesIf accepted b c now → now ≡ b
+moved_same true b c now reads follows = follows.reads reads
+moved_same false b c now reads same = same
+
+-- it leaves the image
+pub reads_same : (is_built : Bool) (limit : ℕ) (b : List ℕ) (c : Command) (o : Outcome) (now : List ℕ) → only_reads c ≡ true → AnswersBuilt is_built limit b c o now → now ≡ b
+reads_same true limit b c o now reads answers = moved_same (is_accepted answers.answer (is_full limit b c answers.answer)) b c now reads answers.moves
+reads_same false limit b c o now reads answers = answers.1
+
+-- ---- lines of a script
+
+pub first_read : (xs ys : List (Option (List ℕ))) → all_read (xs ++ ys) ≡ true → all_read xs ≡ true
+first_read xs ys all = (both (all_read xs) (all_read ys) (sym (list_all-append line_reads xs ys) ∙ all)).0
+
+pub later_read : (xs ys : List (Option (List ℕ))) → all_read (xs ++ ys) ≡ true → all_read ys ≡ true
+later_read xs ys all = (both (all_read xs) (all_read ys) (sym (list_all-append line_reads xs ys) ∙ all)).1
+
+-- the line that is given, and those that are left
+pub more_read : (p p' : Pending) → GivesLine p p' → all_read p.ready ≡ true → (line_reads p'.line ≡ true) × (all_read p'.ready ≡ true)
+more_read p p' gives all = both (line_reads p'.line) (all_read p'.ready) (sym (ap all_read gives.first) ∙ all)
+
+whole_read : (text : List ℕ) → all_read (lines text) ≡ true → all_read (whole_lines text) ≡ true
+whole_read text all = first_read (whole_lines text) (last_of (kept (split text).1)) (sym (ap all_read (lines-split text)) ∙ all)
+
+new_read : (taken piece left : List ℕ) → all_read (lines ((taken ++ piece) ++ left)) ≡ true → all_read (new_lines (kept (split taken).1) piece) ≡ true
+new_read taken piece left all =
+    let rest = new_lines (kept (split (taken ++ piece)).1) left in
+    let up_to : all_read (whole_lines (taken ++ piece)) ≡ true =
+    first_read (whole_lines (taken ++ piece)) rest (sym (ap all_read (whole_lines-append (taken ++ piece) left)) ∙ whole_read ((taken ++ piece) ++ left) all) in
+    later_read (whole_lines taken) (new_lines (kept (split taken).1) piece) (sym (ap all_read (whole_lines-append taken piece)) ∙ up_to)
+
+-- the lines that a piece ends
+pub after_piece : (before now rest : Option (List ℕ)) (taken piece : List ℕ) (P Q : Type 0) → rest ≡ kept (split taken).1 → Consumes before now (taken ++ piece) → IfReads before P → (all_read (new_lines rest piece) ≡ true → P → Q) → IfReads before Q
+after_piece None now rest taken piece P Q is took so_far more = tt
+after_piece (Some script) None rest taken piece P Q is took so_far more = absurd took
+after_piece (Some script) (Some left) rest taken piece P Q is took so_far more = λ all.
+    let here = new_read taken piece left (sym (ap (λ s. all_read (lines s)) took) ∙ all) in
+    more (ap (λ r. all_read (new_lines r piece)) is ∙ here) (so_far all)
+
+-- the last line
+pub after_last : (before now rest : Option (List ℕ)) (taken : List ℕ) (P Q : Type 0) → rest ≡ kept (split taken).1 → Consumes before now taken → IsAtEnd now → IfReads before P → (all_read (last_of rest) ≡ true → P → Q) → IfReads before Q
+after_last None now rest taken P Q is took over so_far more = tt
+after_last (Some script) None rest taken P Q is took over so_far more = absurd took
+after_last (Some script) (Some left) rest taken P Q is took over so_far more = λ all.
+    let same : script ≡ taken = took ∙ ap (λ l. taken ++ l) over ∙ append-nil taken in
+    let here = later_read (whole_lines taken) (last_of (kept (split taken).1)) (sym (ap all_read (lines-split taken)) ∙ sym (ap (λ s. all_read (lines s)) same) ∙ all) in
+    more (ap (λ r. all_read (last_of r)) is ∙ here) (so_far all)
+
+pub if_reads : (before : Option (List ℕ)) (P : Type 0) → P → IfReads before P
+if_reads None P p = tt
+if_reads (Some script) P p = λ all. p
+
+pub if_reads_map : (before : Option (List ℕ)) (P Q : Type 0) → (P → Q) → IfReads before P → IfReads before Q
+if_reads_map None P Q more if = tt
+if_reads_map (Some script) P Q more if = λ all. more (if all)
+
+-- ---- an area that stays
+
+module _ {A U : Type 0} (image_of : A → List ℕ) (frame_of : A → Frame U) (faults_of : A → ℕ) (edited_of : A → Bool) where
+  pub stays_still : (a : A) → Stays image_of frame_of faults_of edited_of a a
+  stays_still a = record { image = refl; edited = refl; frame = refl; faults = refl }
+
+  pub stays_on : (a b c : A) → Stays image_of frame_of faults_of edited_of a b → Stays image_of frame_of faults_of edited_of b c → Stays image_of frame_of faults_of edited_of a c
+  stays_on a b c first then = record {
+    image = then.image ∙ first.image;
+    edited = then.edited ∙ first.edited;
+    frame = then.frame ∙ first.frame;
+    faults = then.faults ∙ first.faults;
+  }
+
+-- ---- the store
+
+-- what a run over the attached file comes to
+pub attached_reads : (outcome : Result Bool Status) (before : Option (List ℕ)) (P S W : Type 0) → (P → S) → OnOk outcome (IfReads before P) → (OnOk outcome S → W) → IfReads before W
+attached_reads (Ok refused) before P S W is_saved reads saved = if_reads_map before P W (λ p. saved (is_saved p)) reads
+attached_reads (Err status) before P S W is_saved reads saved = if_reads before W (saved tt)
+
+-- no file is made that is not new
+files_stay : (make : Bool) (name : List ℕ) (files : Option (List (List ℕ × List ℕ))) → make ≡ false → files_attached make name files ≡ files
+files_stay true name files is = absurd (cc is)
+files_stay false name None is = refl
+files_stay false name (Some fs) is = refl
+
+pub attached_files : {T E : Type 0} (make : Bool) (name : List ℕ) (old new : Option (List (List ℕ × List ℕ))) (result : Result T E) → make ≡ false → AttachesIn make name old new result → new ≡ old
+attached_files make name old new (Ok found) is attaches = attaches ∙ files_stay make name old is
+attached_files make name old new (Err e) is (inl same) = same
+attached_files make name old new (Err e) is (inr made) = made ∙ files_stay make name old is
+
+-- a run that wrote nothing after the file was attached
+pub nothing_before : {U : Type 0} (d at d' : Disk U) (before then now : ℕ) (status : Status) → at.files ≡ d.files → at.touched ≡ d.touched → then ≡ before → WritesNothing at d' then now status → WritesNothing d d' before now status
+nothing_before d at d' before then now status files touched writes none = record {
+  files = none.files ∙ files;
+  touched = none.touched ∙ touched;
+  writes = none.writes ∙ writes;
+  saved = none.saved;
+}
+
+pub nothing_from : {U : Type 0} (d at d' : Disk U) (before then now : ℕ) (status : Status) → at ≡ d → then ≡ before → WritesNothing at d' then now status → WritesNothing d d' before now status
+nothing_from d at d' before then now status same writes none = nothing_before d at d' before then now status (ap (λ (x : Disk _). x.files) same) (ap (λ (x : Disk _). x.touched) same) writes none
+
+-- an image that was not edited and is the file
+pub saved_already : {U : Type 0} (edited : Bool) (at d : Disk U) (image : List ℕ) → edited ≡ false → at ≡ d → image ≡ file_of d → IsSavedAlready edited (file_of at) image None
+saved_already edited at d image unedited same is = record { unedited = unedited; short = le_of_eq (length (file_of at)) (length image) (ap (λ (x : Disk _). length (file_of x)) same ∙ sym (ap (λ (l : List ℕ). length l) is)); no_tail = refl }
+  where
+    le_of_eq : (m n : ℕ) → m ≡ n → m ≤ n
+    le_of_eq m n e = omega (arith, e)
+
+-- a file that is no new one is opened as it is
+pub opened_same : (new : Bool) (file image : List ℕ) → new ≡ false → Opens new file image → image ≡ file
+opened_same true file image is opens = absurd (cc is)
+opened_same false file image is opens = opens.1 ∙ image_of-whole file opens.0
+
+pub on_ok_reads : {T E : Type 0} (outcome : Result T E) (before : Option (List ℕ)) (P Q : Type 0) → (P → Q) → OnOk outcome (IfReads before P) → OnOk outcome (IfReads before Q)
+on_ok_reads (Ok value) before P Q more reads = if_reads_map before P Q more reads
+on_ok_reads (Err error) before P Q more reads = tt
