@@ -1,7 +1,6 @@
 pub mod Layout
 pub mod Asked
 pub mod Scripts
-pub mod Words
 pub mod Building
 pub mod NewFile
 pub mod ChecksumFile

@@ -1,6 +1,6 @@
 -- What a script makes of a data set where all commands are there, and no file is full.
-use Rattle.std.specs.Prelude.{ℕ, ◌+◌, List, [], ◌∷◌, ◌++◌, Bool, false, Some}
-use Rattle.std.specs.List.{flat_map, fold}
+use Rattle.std.specs.Prelude.{ℕ, ◌+◌, List, [], Bool, false, Some}
+use Rattle.std.specs.List.{fold}
 use Rattle.std.specs.declared.option.Option.{Option}
 use Rattle.cdf_model.specs.declared.command.Command.{Command}
 use Rattle.cdf_model.specs.DataSet.{DataSet}
@@ -12,10 +12,7 @@ use Rattle.cdf_model.specs.Step.{Route, ByStep, step}
 use Rattle.cdf_edits.specs.Answers.{is_full}
 use Rattle.cdf_edits.specs.Commands.Room.{room}
 use Rattle.cdf_format.specs.Content.{content}
-
--- texts, each with a newline
-abbrev pub text_lines : List (List ℕ) → List ℕ
-text_lines texts = flat_map (λ text. text ++ 10 ∷ []) texts
+use Rattle.cdf_text_examples.specs.Texts.{text_lines}
 
 -- the line of number n
 abbrev pub full_turn : DataSet → ℕ → Parsed → Turn

@@ -8,7 +8,8 @@ ghost use Rattle.cdf_format.specs.Shape.{shape};
 ghost use Rattle.cdf_examples.specs.Asked.{KeepsRules};
 ghost use Rattle.cdf_examples.specs.Attributes.{attribute_file, with_project, shape_with, entry_file, entry_as_written, text_item, entry_owned, replaced_file, moved_file, moved_owned, moved_space, freed_file, again_file, again_space, text24, text16, freed100_file, behind_file, behind_space, split_file, split_space};
 ghost use Rattle.cdf_examples.specs.NewFile.{new_file, new_data_set};
-ghost use Rattle.cdf_examples.specs.Scripts.{text_lines, replies, made_by, room_for};
+ghost use Rattle.cdf_examples.specs.Scripts.{replies, made_by, room_for};
+ghost use Rattle.cdf_text_examples.specs.Texts.{text_lines};
 
 /// An attribute is made: it stands at 404, and the file has 728 bytes. A second one of its name is refused.
 pub fn made()

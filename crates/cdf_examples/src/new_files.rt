@@ -10,7 +10,8 @@ ghost use Rattle.cdf_format.specs.WellFormed.{WellFormed};
 ghost use Rattle.cdf_examples.specs.Asked.{KeepsRules};
 ghost use Rattle.cdf_examples.specs.ChecksumFile.{checksum_image, checksum_digest, checksum_data_set};
 ghost use Rattle.cdf_examples.specs.NewFile.{new_file, new_shape, new_owned, new_space, new_data_set};
-ghost use Rattle.cdf_examples.specs.Scripts.{text_lines, replies, made_by, room_for};
+ghost use Rattle.cdf_examples.specs.Scripts.{replies, made_by, room_for};
+ghost use Rattle.cdf_text_examples.specs.Texts.{text_lines};
 
 /// What the new file is written as: 404 bytes, the sizes of its records, and eof.
 pub fn written()

@@ -15,7 +15,8 @@ ghost use Rattle.cdf_examples.specs.Asked.{KeepsRules};
 ghost use Rattle.cdf_examples.specs.NewFile.{new_file, new_data_set};
 ghost use Rattle.cdf_examples.specs.OneVariable.{one_node, variable_shape, owned_by_file, of_variable, of_none, with_variable};
 ghost use Rattle.cdf_examples.specs.RecordFiles.{unblocked_file, variable_file, t_data, records_file, records_block, records_index, records_shape, records_data, records_space, in_place_file, in_place_data, t_shape, full_file, full_data, deleted_file, deleted_data, deleted_index, reindexed_file, reindexed_shape, reindexed_space};
-ghost use Rattle.cdf_examples.specs.Scripts.{text_lines, replies, made_by, room_for, makes_too_large};
+ghost use Rattle.cdf_examples.specs.Scripts.{replies, made_by, room_for, makes_too_large};
+ghost use Rattle.cdf_text_examples.specs.Texts.{text_lines};
 
 /// A variable is made: its VDR has 344 bytes. A record far behind would make the file too large.
 pub fn variable_made()

@@ -6,7 +6,8 @@ ghost use Rattle.cdf_model.specs.Place.{place};
 ghost use Rattle.cdf_model.specs.declared.data_type.DataType.TheVariants.{Real8, Epoch16};
 ghost use Rattle.cdf_model.specs.declared.head.Majority.TheVariants.{Row, Column};
 ghost use Rattle.cdf_examples.specs.NewFile.{new_data_set};
-ghost use Rattle.cdf_examples.specs.Scripts.{text_lines, replies, is_refused};
+ghost use Rattle.cdf_examples.specs.Scripts.{replies, is_refused};
+ghost use Rattle.cdf_text_examples.specs.Texts.{text_lines};
 
 /// Values of a record, of which one dimension does not vary.
 pub fn values()

@@ -12,7 +12,8 @@ ghost use Rattle.cdf_format.specs.Shape.{shape};
 ghost use Rattle.cdf_examples.specs.Asked.{KeepsRules};
 ghost use Rattle.cdf_examples.specs.NewFile.{new_data_set};
 ghost use Rattle.cdf_examples.specs.OneVariable.{one_node, variable_shape, with_variable};
-ghost use Rattle.cdf_examples.specs.Scripts.{text_lines, replies, made_by, room_for};
+ghost use Rattle.cdf_examples.specs.Scripts.{replies, made_by, room_for};
+ghost use Rattle.cdf_text_examples.specs.Texts.{text_lines};
 ghost use Rattle.cdf_examples.specs.SparseFiles.{s_data, first_sparse_file, first_sparse_index, first_sparse_data, sparse_file, sparse_index, both_sparse_data, foreign_file, foreign_index, foreign_data, foreign_file_after, foreign_data_after, whole_block_file, whole_block_index, whole_block_data, cut_block_file, cut_block_data};
 
 /// A missing record reads as the one before it, and as a pad where there is none.

@@ -10,7 +10,8 @@ ghost use Rattle.cdf_format.specs.Shape.{shape};
 ghost use Rattle.cdf_model.specs.EventTexts.{dump_text};
 ghost use Rattle.cdf_model.specs.Events.{events_of};
 ghost use Rattle.cdf_examples.specs.Asked.{KeepsRules};
-ghost use Rattle.cdf_examples.specs.Scripts.{text_lines, made_by, room_for};
+ghost use Rattle.cdf_examples.specs.Scripts.{made_by, room_for};
+ghost use Rattle.cdf_text_examples.specs.Texts.{text_lines};
 ghost use Rattle.cdf_examples.specs.Usual.{usual_image, usual_digest};
 ghost use Rattle.cdf_examples.specs.UsualData.{usual_shape, usual_owned, usual_space, usual_data_set, usual_events, usual_dump, data_set_after};
 

@@ -8,7 +8,8 @@ ghost use Rattle.cdf_examples.specs.Asked.{KeepsRules};
 ghost use Rattle.cdf_examples.specs.DeletedVariable.{three_variables, three_data, three_script, bare_shape, shape_of_units, two_variables, two_data, two_owned, two_space};
 ghost use Rattle.cdf_examples.specs.Moved.{without_pad, with_pad, pad_script, data_with_pad, padded_shape, padded_space, set_up_file, r_variable_file, set_up_data, x_data, r_variable_shape, r_variable_owned, r_variable_space};
 ghost use Rattle.cdf_examples.specs.NewFile.{new_file, new_data_set};
-ghost use Rattle.cdf_examples.specs.Scripts.{text_lines, replies, made_by, room_for};
+ghost use Rattle.cdf_examples.specs.Scripts.{replies, made_by, room_for};
+ghost use Rattle.cdf_text_examples.specs.Texts.{text_lines};
 
 /// Three variables with an entry each.
 pub fn three_with_entries()

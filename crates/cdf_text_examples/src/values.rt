@@ -4,7 +4,7 @@ ghost use Rattle.std.specs.Prelude.{◌≡◌, [], ◌∷◌, true, codes, Ok, E
 ghost use Rattle.cdf_model.specs.Values.{quoted, values_in, values_text};
 ghost use Rattle.cdf_model.specs.declared.answer.Reason.TheVariants.{WrongCount, BadValue};
 ghost use Rattle.cdf_model.specs.declared.data_type.DataType.TheVariants.{Int1, Int2, Int4, Int8, UInt1, UInt2, UInt4, Real4, Epoch16, TimeTt2000, Byte, Char, UChar};
-ghost use Rattle.cdf_examples.specs.Words.{are_no_values};
+ghost use Rattle.cdf_text_examples.specs.Words.{are_no_values};
 
 /// The least and the greatest number of each type.
 pub fn numbers()

@@ -10,7 +10,7 @@ ghost use Rattle.cdf_model.specs.declared.head.Majority.TheVariants.{Column};
 ghost use Rattle.cdf_model.specs.declared.item.Item.TheVariants as items;
 ghost use Rattle.cdf_model.specs.declared.kinds.Kind.TheVariants.{R, Z};
 ghost use Rattle.cdf_model.specs.declared.kinds.Scope.TheVariants.{VariableAssumed};
-ghost use Rattle.cdf_examples.specs.Scripts.{text_lines};
+ghost use Rattle.cdf_text_examples.specs.Texts.{text_lines};
 
 /// The head of a file from elsewhere, names with odd bytes, and large numbers.
 pub fn of_the_file()

@@ -1,6 +1,6 @@
 use Rattle.std.proofs.Common.{refl}
 use Rattle.std.specs.Fmt.{digits}
-use Rattle.cdf_examples.proofs.values.no_values.Goals as goal
+use Rattle.cdf_text_examples.proofs.values.no_values.Goals as goal
 
 pub returns : goal.returns
 unfolding digits
