@@ -4,6 +4,9 @@ pub mod ChainsOfShape
 pub mod Composing
 pub mod EditActs
 pub mod FirstRecords
+pub mod FreedBytes
+pub mod FreedRecords
+pub mod FreeingActs
 pub mod InRecords
 pub mod LaterCommands
 pub mod MadeRecord
@@ -12,7 +15,9 @@ pub mod OneSpliced
 pub mod OwnedOnce
 pub mod OwnersKept
 pub mod RecordFrame
+pub mod Renumbered
 pub mod Splice
 pub mod StepEdits
 pub mod VariableFrame
 pub mod Widened
+pub mod WrittenFields

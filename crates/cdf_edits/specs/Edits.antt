@@ -1,2 +1,4 @@
 pub mod Edit
+pub mod ManyMarks
 pub mod Marks
+pub mod Writes

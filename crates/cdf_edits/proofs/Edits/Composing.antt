@@ -74,7 +74,7 @@ module _ (b now old : List ℕ) (ts : List Touch) (marks : List Mark) (reborn : 
   placed [] w = tt
   placed (t ∷ us) w = (inl (w.0.inside, w.0.fits), placed us w.1)
 
-  part : (m lo hi : ℕ) → In m old → hi ≤ size_at b m → Misses ts m lo hi → Same b now (m + lo) (m + hi)
+  pub part : (m lo hi : ℕ) → In m old → hi ≤ size_at b m → Misses ts m lo hi → Same b now (m + lo) (m + hi)
   part m lo hi i fits miss = changed_part b now old (length b) tiled (omega arith) ts changed (placed ts marked) m lo hi i fits miss
 
   size_missed : (us : List Touch) (m : ℕ) → Each (Marked b old marks reborn) us → Misses us m 0 8

@@ -277,7 +277,7 @@ module _ (b now : List ℕ) (s s' : Shape) (place type : ℕ) (h : HasShape b s)
         tt,
       )
 
-  all_marked : Each (Marked b s.records given (place ∷ [])) (giving s.gdr s.unused place (size_at b place))
+  pub all_marked : Each (Marked b s.records given (place ∷ [])) (giving s.gdr s.unused place (size_at b place))
   all_marked =
       let long = (tile_lies b 8 (length b) s.records place h.tiled inside).long in (
         own_marked record_type (omega arith) (omega arith),

@@ -60,7 +60,7 @@ each_push P [] x h p = (p, tt)
 each_push P (y ∷ xs) x h p = (h.0, each_push P xs x h.1 p)
 
 -- the rule that numbers differ
-differ_same : (b now : List ℕ) (before es : List ℕ) → Each (λ m. number now m aedr_num ≡ number b m aedr_num) before → Each (λ m. number now m aedr_num ≡ number b m aedr_num) es
+pub differ_same : (b now : List ℕ) (before es : List ℕ) → Each (λ m. number now m aedr_num ≡ number b m aedr_num) before → Each (λ m. number now m aedr_num ≡ number b m aedr_num) es
     → differ_rows 7 (same_number now) before es ≡ differ_rows 7 (same_number b) before es
 differ_same b now before [] seen same = refl
 differ_same b now before (e ∷ es) seen same =

@@ -1,0 +1,183 @@
+-- What is freed keeps its bytes behind the links of an unused record.
+use Rattle.std.proofs.Common.{◌≡◌, ◌≢◌, ◌⊎◌, ℕ, ◌+◌, ◌<◌, ◌≤◌, List, [], ◌∷◌, ◌++◌, length, Bool, true, false, eq-eqb, refl, sym, ap, subst, ◌∙◌, arith, inl, inr}
+use Rattle.std.proofs.lemmas.Bool.{cases_eq, eqb-true, leb-true, le-leb}
+use Rattle.std.specs.Prelude.{◌==◌, nat_le}
+use Rattle.cdf_format.specs.Records.{Field}
+use Rattle.cdf_edits.specs.Commands.Allowances.{FreedStays, GivenStay}
+use Rattle.cdf_edits.specs.Edits.Marks.{giving_marks}
+use Rattle.cdf_edits.specs.Frame.Changed.{Misses}
+use Rattle.cdf_edits.specs.Space.Acts.{Act, gave, links_end}
+use Rattle.cdf_edits.specs.Space.Freeing.{AllGiven, AreFree}
+use Rattle.cdf_edits.specs.Space.Giving.{IsGiven}
+use Rattle.cdf_edits.specs.Space.Placement.{first_back_link, giving, with_space}
+use Rattle.cdf_format.specs.Bytes.{Same}
+use Rattle.cdf_format.specs.Content.{content}
+use Rattle.cdf_format.specs.Fields.{size_at, type_at}
+use Rattle.cdf_format.specs.Owners.{times, owned_records, unused_records}
+use Rattle.cdf_format.specs.RecordTypes.{uir_type}
+use Rattle.cdf_format.specs.Shape.{Shape, Each, shape}
+use Rattle.cdf_format.specs.Sound.{IsSound}
+use Rattle.cdf_format.specs.Tiles.{In, AreTiles}
+use Rattle.cdf_format.proofs.ChainsLemmas.{is_a-type, linkable-long}
+use Rattle.cdf_format.proofs.Members.{either}
+use Rattle.cdf_format.proofs.Owning.{times-none, filter-in}
+use Rattle.cdf_format.proofs.TilesLemmas.{tile_lies, tiles_lie_apart}
+use Rattle.cdf_edits.proofs.Edits.Composing.{head_type, part}
+use Rattle.cdf_edits.proofs.Edits.FreedRecords.{one_given, others_still, sizes_stay}
+use Rattle.cdf_edits.proofs.Edits.StepEdits.{all_marked}
+use Rattle.cdf_edits.proofs.Frame.OwnersApart.{times-in, owned-times, file_records, all_attribute_records, all_variable_records}
+use Rattle.cdf_edits.proofs.Space.ActsLeave.{each}
+use Rattle.cdf_edits.proofs.Space.UsedRecords.{filter-keeps, filter-says}
+
+end_low : (size : ℕ) → 12 ≤ links_end size
+end_low size = elim (either (nat_le 28 size)) [ inl e ↦ rw e (omega arith) | inr e ↦ rw e (omega arith) ]
+
+end_long : (size : ℕ) → 28 ≤ size → 28 ≤ links_end size
+end_long size long = rw (le-leb 28 size long) (omega arith)
+
+-- ---- one record
+
+module _ {b mid : List ℕ} {place : ℕ} (sound : IsSound b (shape b)) (is_given : IsGiven b mid (shape b) (shape mid) place) (inside : In place (shape b).records) where
+  abbrev s : Shape
+  s = shape b
+
+  backs_missed : (us : List ℕ) (m hi : ℕ) → ((u : ℕ) → In u us → In u s.unused) → Misses (first_back_link us) m (links_end (size_at b m)) hi
+  backs_missed [] m hi sub = tt
+  backs_missed (u ∷ us) m hi sub = (
+    (λ e.
+        let long = subst (λ (x : ℕ). 28 ≤ size_at b x) (sym e) (linkable-long b s.records uir_type u (sound.has_shape.unused_chain.linkable u (sub u (inl refl)))) in
+        let l = end_long (size_at b m) long in
+        inr (omega arith)),
+    tt,
+  )
+
+  all_missed : (m hi : ℕ) → m ≢ s.gdr → Misses (giving s.gdr s.unused place (size_at b place)) m (links_end (size_at b m)) hi
+  all_missed m hi other = (
+    (λ e. let l = end_low (size_at b m) in inr (omega arith)),
+    elim (either (nat_le 28 (size_at b place))) [
+      | inl q ↦ rw q (
+        (λ e. absurd (other e)),
+        (
+          (λ e. let l = end_long (size_at b m) (subst (λ (x : ℕ). 28 ≤ size_at b x) (sym e) (leb-true 28 (size_at b place) q)) in inr (omega arith)),
+          (
+            (λ e. let l = end_long (size_at b m) (subst (λ (x : ℕ). 28 ≤ size_at b x) (sym e) (leb-true 28 (size_at b place) q)) in inr (omega arith)),
+            backs_missed s.unused m hi (λ u i. i),
+          ),
+        ),
+      )
+      | inr q ↦ rw q tt
+    ],
+  )
+
+  behind_one : (m : ℕ) → In m s.records → m ≢ s.gdr → Same b mid (m + links_end (size_at b m)) (m + size_at b m)
+  behind_one m i other =
+      part b mid s.records (giving s.gdr s.unused place (size_at b place)) (giving_marks s.unused (type_at b place) place (size_at b place)) (place ∷ []) sound.has_shape.tiled is_given.0.length_is is_given.0.changed
+      (all_marked b mid s (shape mid) place (type_at b place) sound.has_shape inside refl is_given.0) m (links_end (size_at b m)) (size_at b m) i (omega arith) (all_missed m (size_at b m) other)
+
+-- ---- one after the other
+
+-- the image after that: sound, with its content; only the unused list is another
+pub record IsLeft (b now : List ℕ) : Type 0 where
+  pub sound : IsSound now (shape now)
+  pub content_stays : content now ≡ content b
+  pub shape_is : shape now ≡ with_space (shape b) (shape b).records (shape now).unused
+  pub long : length now ≡ length b
+  pub behind : (m : ℕ) → In m (shape b).records → m ≢ (shape b).gdr → Same b now (m + links_end (size_at b m)) (m + size_at b m)
+
+pub all_left : (b now places : List ℕ) → IsSound b (shape b) → ((m : ℕ) → In m places → In m (shape b).records) → AllGiven b now places → IsLeft b now
+all_left b now [] sound stand same = subst (IsLeft b) (sym same) (record { sound = sound; content_stays = refl; shape_is = refl; long = refl; behind = λ m i other. record { each = λ k l u. refl } })
+all_left b now (place ∷ more) sound stand all =
+    let mid = all.0 in
+    let g = all.1.0 in
+    let inside = stand place (inl refl) in
+    let records = g.0.records_stay in
+    let rest = all_left mid now more g.1 (λ m i. subst (In m) (sym records) (stand m (inr i))) all.1.1 in
+    let first : shape mid ≡ with_space (shape b) (shape b).records (shape mid).unused = g.0.space.rest_stays ∙ ap (λ (r : List ℕ). with_space (shape b) r (shape mid).unused) records in
+    record {
+      sound = rest.sound;
+      content_stays = rest.content_stays ∙ g.2;
+      shape_is = rest.shape_is ∙ ap (λ (x : Shape). with_space x x.records (shape now).unused) first;
+      long = rest.long ∙ g.0.length_is;
+      behind = λ m i other.
+          let size = sizes_stay sound g inside m i in
+          let one = behind_one sound g inside m i other in
+          let two = rest.behind m (subst (In m) (sym records) i) (λ e. other (e ∙ ap (λ (x : Shape). x.gdr) first)) in
+          let two' : Same mid now (m + links_end (size_at b m)) (m + size_at b m) = subst (λ (n : ℕ). Same mid now (m + links_end n) (m + n)) size two in
+          record { each = λ k l u. two'.each k l u ∙ one.each k l u };
+    }
+
+-- a record that is unused stays unused
+pub unused_still : (b now places : List ℕ) → IsSound b (shape b) → ((m : ℕ) → In m places → In m (shape b).records) → AllGiven b now places → (m : ℕ) → In m (shape b).records → type_at b m ≡ uir_type → type_at now m ≡ uir_type
+unused_still b now [] sound stand same m i t = ap (λ (x : List ℕ). type_at x m) same ∙ t
+unused_still b now (place ∷ more) sound stand all m i t =
+    let mid = all.0 in
+    let g = all.1.0 in
+    let there : type_at mid m ≡ uir_type = elim ((one_given sound g (stand place (inl refl))).kind m i) [
+      | inl k ↦ k.1 ∙ t
+      | inr k ↦ elim k [ inl f ↦ f.1 | inr r ↦ elim r [ inl e ↦ ap (type_at mid) e ∙ is_a-type mid (shape mid).records uir_type place g.0.stands | inr none ↦ absurd none ] ]
+    ] in
+    unused_still mid now more g.1 (λ x j. subst (In x) (sym g.0.records_stay) (stand x (inr j))) all.1.1 m (subst (In m) (sym g.0.records_stay) i) there
+
+-- each of them is unused then
+pub all_unused : (b now places : List ℕ) → IsSound b (shape b) → ((m : ℕ) → In m places → In m (shape b).records) → AllGiven b now places → (m : ℕ) → In m places → type_at now m ≡ uir_type
+all_unused b now [] sound stand same m i = absurd i
+all_unused b now (place ∷ more) sound stand all m (inl e) =
+    let mid = all.0 in
+    let g = all.1.0 in
+    let t : type_at mid place ≡ uir_type = is_a-type mid (shape mid).records uir_type place g.0.stands in
+    subst (λ (x : ℕ). type_at now x ≡ uir_type) (sym e) (unused_still mid now more g.1 (λ x j. subst (In x) (sym g.0.records_stay) (stand x (inr j))) all.1.1 place (subst (In place) (sym g.0.records_stay) (stand place (inl refl))) t)
+all_unused b now (place ∷ more) sound stand all m (inr i) =
+    let g = all.1.0 in
+    all_unused all.0 now more g.1 (λ x j. subst (In x) (sym g.0.records_stay) (stand x (inr j))) all.1.1 m i
+
+-- ---- as a command says it
+
+pub freed_stay : (b now : List ℕ) (acts : List Act) (records places : List ℕ) (but : ℕ → List Field) → AreTiles b 8 (length b) records → (shape now).records ≡ records → ((m : ℕ) → In m records → size_at now m ≡ size_at b m) → ((m : ℕ) → In m places → In m records)
+    → ((m : ℕ) → In m places → Same b now (m + links_end (size_at b m)) (m + size_at b m)) → GivenStay b now but acts (gave b places)
+freed_stay b now acts records [] but tiled are sizes stand behind = tt
+freed_stay b now acts records (place ∷ more) but tiled are sizes stand behind = (
+  each (FreedStays b now acts place (size_at b place) (but (type_at b place))) (unused_records now (shape now)) (λ uir i.
+      let there : In uir records = subst (In uir) are (filter-in (λ x. type_at now x == uir_type) (shape now).records uir i) in
+      let size = sizes uir there in
+      λ k lt low high out free. elim (cases_eq place uir) [
+        | inl e ↦ (behind place (inl refl)).each (place + k) (bound place uir k (size_at now uir) (size_at b place) e (size ∙ ap (size_at b) (sym e)) low) (omega arith)
+        | inr other ↦ elim (tiles_lie_apart b 8 (length b) records place uir tiled (stand place (inl refl)) there other) [ inl x ↦ absurd (let l = end_low (size_at now uir) in omega arith) | inr x ↦ absurd (omega arith) ]
+      ]),
+  freed_stay b now acts records more but tiled are sizes (λ m i. stand m (inr i)) (λ m i. behind m (inr i)),
+)
+  where
+    bound : (place uir k n n' : ℕ) → place ≡ uir → n ≡ n' → uir + links_end n ≤ place + k → place + links_end n' ≤ place + k
+    bound place uir k n n' e f low = subst (λ (x : ℕ). place + links_end x ≤ place + k) f (subst (λ (x : ℕ). x + links_end n ≤ place + k) (sym e) low)
+
+-- ---- what a call asks for that frees them
+
+-- a record that no owner has is in use
+pub unowned_used : (b : List ℕ) (s : Shape) (m : ℕ) → In m s.records → times m (owned_records b s) ≡ 0 → type_at b m ≢ uir_type
+unowned_used b s m i none t =
+    let one = times-in m (unused_records b s) (filter-keeps (λ (place : ℕ). type_at b place == uir_type) s.records m i (eq-eqb (type_at b m) uir_type t)) in
+    clash (times m (owned_records b s)) (times m (file_records s)) (times m (all_attribute_records s)) (times m (all_variable_records s)) (times m (unused_records b s)) (owned-times b s m) none one
+  where
+    clash : (n f a v r : ℕ) → n ≡ f + (a + (v + r)) → n ≡ 0 → 1 ≤ r → ⊥
+    clash n f a v r p q l = omega arith
+
+pub free_used : (b places : List ℕ) → AreFree b places → (m : ℕ) → In m places → type_at b m ≢ uir_type
+free_used b places free m i = unowned_used b (shape b) m (free.stand m i) (free.unowned m i)
+
+-- the next ones are free after one was freed
+pub free_again : {b mid : List ℕ} {place : ℕ} {more : List ℕ} (sound : IsSound b (shape b)) (given : IsGiven b mid (shape b) (shape mid) place) → AreFree b (place ∷ more) → AreFree mid more
+free_again {b = b} {mid = mid} {place = place} {more = more} sound given free = record {
+  stand = λ m i. subst (In m) (sym given.0.records_stay) (free.stand m (inr i));
+  unowned = λ m i.
+      let inside = free.stand m (inr i) in
+      let used = free_used b (place ∷ more) free m (inr i) in
+      let other : m ≢ place = λ e. free.once.0 (subst (λ (x : ℕ). In x more) e i) in
+      let type = head_type b mid m (others_still sound given (free.stand place (inl refl)) m inside used other) in
+      let none = times-none m (unused_records mid (shape mid)) (λ j. used (sym type ∙ eqb-true (type_at mid m) uir_type (filter-says (λ (p : ℕ). type_at mid p == uir_type) (shape mid).records m j))) in
+      let rest = given.0.space.rest_stays in
+      gone (times m (owned_records mid (shape mid))) (times m (owned_records b (shape b))) (times m (file_records (shape b))) (times m (all_attribute_records (shape b))) (times m (all_variable_records (shape b))) (times m (unused_records b (shape b))) (times m (unused_records mid (shape mid)))
+      (owned-times mid (shape mid) m ∙ (λ i. times m (file_records (rest i)) + (times m (all_attribute_records (rest i)) + (times m (all_variable_records (rest i)) + times m (unused_records mid (shape mid)))))) (owned-times b (shape b) m) (free.unowned m (inr i)) none;
+  once = free.once.1;
+}
+  where
+    gone : (n n' f a v r r' : ℕ) → n ≡ f + (a + (v + r')) → n' ≡ f + (a + (v + r)) → n' ≡ 0 → r' ≡ 0 → n ≡ 0
+    gone n n' f a v r r' p q e o = omega arith
