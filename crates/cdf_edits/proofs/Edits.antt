@@ -1,7 +1,11 @@
+pub mod AttributeChains
 pub mod AttributeFrame
 pub mod ChainEdits
 pub mod ChainsOfShape
 pub mod Composing
+pub mod DeletedAttribute
+pub mod DeletingFollows
+pub mod DeletionCalls
 pub mod EditActs
 pub mod FirstRecords
 pub mod FreedBytes
@@ -15,9 +19,13 @@ pub mod OneSpliced
 pub mod OwnedOnce
 pub mod OwnersKept
 pub mod RecordFrame
+pub mod RemovedAttribute
+pub mod RemovedLives
 pub mod Renumbered
 pub mod Splice
 pub mod StepEdits
+pub mod UnlinkedAttribute
+pub mod UnlinkingSteps
 pub mod VariableFrame
 pub mod Widened
 pub mod WrittenFields

@@ -1,4 +1,5 @@
 pub mod Edit
 pub mod ManyMarks
 pub mod Marks
+pub mod Unlinks
 pub mod Writes
