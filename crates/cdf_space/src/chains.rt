@@ -1,6 +1,6 @@
 //! Chains of records: read, and members added, taken out and replaced.
 
-ghost use Rattle.std.specs.Prelude.{◌≡◌, ◌+◌, ◌^◌, ◌<◌, ◌≤◌, true, length, None, IfOk, OnOk};
+ghost use Rattle.std.specs.Prelude.{◌≡◌, ◌+◌, ◌-◌, ◌^◌, ◌<◌, ◌≤◌, true, length, None, IfOk, OnOk};
 ghost use Rattle.std.specs.List.{last_or};
 ghost use Rattle.cdf_area.specs.Calls.{Edits, Reads};
 ghost use Rattle.cdf_format.specs.Sound.{IsSound};
@@ -182,4 +182,20 @@ pub fn count_up<A: Area>(area: &mut A, chain: Chain) -> Result<(), AreaError>
     let place = count_place(chain);
     let count = read_unsigned4(area, at + place)?;
     set_unsigned4(area, at, place, count + 1)
+}
+
+/// Counts one record less in a chain. After an error nothing has changed.
+pub fn count_down<A: Area>(area: &mut A, chain: Chain) -> Result<(), AreaError>
+    requires cdr { 28 ≤ length (A.image area.old) }
+    requires inside { holder_of (A.image area.old) chain + (count_of chain).place + 4 ≤ length (A.image area.old) }
+    requires some { 0 < counted_in (A.image area.old) chain }
+    ensures counted { OnOk result (A.image area.new ≡ with_field (A.image area.old) (holder_of (A.image area.old) chain) (count_of chain) (counted_in (A.image area.old) chain - 1)) }
+    ensures area { Edits A.frame A.faults area.old area.new result }
+{
+    // An image has fewer than 2^64 bytes, so no place in it overflows.
+    let _size = area.size();
+    let at = holder(area, chain)?;
+    let place = count_place(chain);
+    let count = read_unsigned4(area, at + place)?;
+    set_unsigned4(area, at, place, count - 1)
 }

@@ -7,6 +7,7 @@ ghost use Rattle.cdf_format.specs.Sound.{IsSound};
 ghost use Rattle.cdf_format.specs.Content.{content};
 ghost use Rattle.cdf_format.specs.Fields.{eof, gdr_offset};
 ghost use Rattle.cdf_format.specs.Owners.{owned_records, times};
+ghost use Rattle.cdf_edits.specs.Space.Freeing.{AllGiven, AreFree};
 ghost use Rattle.cdf_edits.specs.Space.Placement.{Gives, Takes, fits};
 ghost use Rattle.cdf_format.specs.Shape.{shape};
 ghost use Rattle.cdf_edits.specs.Space.Taking.{EndBytes, IsTaken, NoneFit};
@@ -275,4 +276,19 @@ pub fn free_record<A: Area>(area: &mut A, place: u64) -> Result<(), AreaError>
         next,
     };
     relink(area, head, place, place)
+}
+
+/// Frees records that nothing leads to any more, one after the other. After an error a part of this may have been done.
+pub fn free_records<A: Area>(area: &mut A, places: &[u64]) -> Result<(), AreaError>
+    requires sound { IsSound (A.image area.old) (shape (A.image area.old)) }
+    requires free { AreFree (A.image area.old) places.now }
+    ensures given { OnOk result (AllGiven (A.image area.old) (A.image area.new) places.now) }
+    ensures sound { OnOk result (IsSound (A.image area.new) (shape (A.image area.new))) }
+    ensures content { OnOk result (content (A.image area.new) ≡ content (A.image area.old)) }
+    ensures area { Edits A.frame A.faults area.old area.new result }
+{
+    for place in places {
+        free_record(area, *place)?;
+    }
+    Ok(())
 }

@@ -1,0 +1,16 @@
+use Rattle.std.proofs.Common.{◌≡◌, ℕ, List, drop}
+use Rattle.cdf_area.specs.Calls.{Keeps}
+use Rattle.cdf_edits.specs.Space.Freeing.{AllGiven, AreFree}
+use Rattle.cdf_format.specs.Content.{content}
+use Rattle.cdf_format.specs.Shape.{shape}
+use Rattle.cdf_format.specs.Sound.{IsSound}
+use Rattle.cdf_space.proofs.placing.free_records.Given as goal
+
+abbrev pub invariant-loop-place : goal.invariant-loop-place
+invariant-loop-place g l = record {
+  sound : IsSound (g.A.Area.image l.area) (shape (g.A.Area.image l.area));
+  content_stays : content (g.A.Area.image l.area) ≡ content (g.A.Area.image l.fn.area);
+  free : AreFree (g.A.Area.image l.area) (drop l.place-index l.places);
+  goes : (now : List ℕ) → AllGiven (g.A.Area.image l.area) now (drop l.place-index l.places) → AllGiven (g.A.Area.image l.fn.area) now l.places;
+  area : Keeps g.A.Area.frame g.A.Area.faults l.fn.area l.area;
+}
