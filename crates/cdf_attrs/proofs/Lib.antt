@@ -1,3 +1,4 @@
+pub mod DeletingSteps
 pub mod Renamed
 pub mod NewAdr
 pub mod Created

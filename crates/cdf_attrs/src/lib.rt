@@ -1,8 +1,9 @@
-//! The attributes of a file: made, renamed and listed in place.
+//! The attributes of a file: made, renamed, deleted and listed in place.
 #![tactic(auto)]
 
 mod attrs;
 mod creating;
+mod deleting;
 mod entry_chain;
 mod name;
 mod reading;
