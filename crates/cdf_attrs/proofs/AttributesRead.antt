@@ -38,7 +38,7 @@ parted [] i lt = absurd (omega arith)
 parted (x ∷ xs) zero lt = refl
 parted (x ∷ xs) (suc i) lt = ap (λ (r : List ℕ). x ∷ r) (parted xs i (omega arith))
 
-take_all : (xs : List ℕ) (i : ℕ) → i ≡ length xs → take i xs ≡ xs
+pub take_all : (xs : List ℕ) (i : ℕ) → i ≡ length xs → take i xs ≡ xs
 take_all [] zero e = refl
 take_all [] (suc i) e = refl
 take_all (x ∷ xs) zero e = absurd (omega arith)

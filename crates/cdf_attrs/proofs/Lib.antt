@@ -9,3 +9,9 @@ pub mod AttributeChain
 pub mod RenamingSteps
 pub mod NamesDiffer
 pub mod AttributesRead
+pub mod AttributeFound
+pub mod EntryChains
+pub mod EntriesRead
+pub mod EntryLookup
+pub mod EntrySteps
+pub mod GettingAnswers

@@ -1,8 +1,20 @@
 //! The entries of one chain of an attribute, as far as commands ask for them.
 
-ghost use Rattle.cdf_attrs.specs.Known.{KnownEntries};
+ghost use Rattle.std.specs.Prelude.{◌≡◌, ◌==◌, ◌+◌, ◌≤◌, length, map, position, slice_get, slice_index, EachIndex, IfOk, IsTrue, None};
+ghost use Rattle.std.specs.Option.{option_and_then};
+ghost use Rattle.cdf_area.specs.Calls.{Reads};
+ghost use Rattle.cdf_attrs.specs.Finding.{IsOfAttribute};
+ghost use Rattle.cdf_attrs.specs.Known.{KnownEntries, Knows, KnowsEntries};
+ghost use Rattle.cdf_format.specs.Fields.{number};
+ghost use Rattle.cdf_format.specs.Records.{aedr_num};
+ghost use Rattle.cdf_format.specs.WellFormed.{Good};
 
-use cdf_space::Chain;
+use crate::attrs::Attrs;
+use cdf_area::{Area, AreaError};
+use cdf_format::fields::AEDR_NUM;
+use cdf_records::read_unsigned4;
+use cdf_space::{Chain, read_chain};
+use std::alloc::Global;
 use std::marker::Model;
 
 /// The entries of a chain: their numbers, and where their descriptors stand, both in the order of the chain.
@@ -17,4 +29,96 @@ impl Model for EntryChain {
     ghost Value = { KnownEntries };
 
     ghost view = { λ entries. record { chain = entries.chain; numbers = entries.numbers.items; places = entries.places.items } };
+}
+
+/// The numbers of the entries whose descriptors stand at these places.
+fn read_numbers<A: Area>(alloc: Global, area: &mut A, places: &[u64]) -> Result<Vec<u32>, AreaError>
+    requires { EachIndex places.now (λ k. slice_index places.now k + 56 ≤ length (A.image area.old)) }
+    ensures numbers { IfOk result (λ numbers. numbers.items ≡ map (λ aedr. number (A.image area.old) aedr aedr_num) places.now) }
+    ensures area { Reads A.image A.frame A.faults A.edited area.old area.new result }
+{
+    // An image has fewer than 2^64 bytes, so no place in it overflows.
+    let _size = area.size();
+    let mut numbers = Vec::new(alloc);
+    for place in places {
+        let number = read_unsigned4(area, *place + AEDR_NUM)?;
+        numbers.push(number)?;
+    }
+    Ok(numbers)
+}
+
+/// Whether two chains are of the same entries. Of other records than entries none are.
+fn are_same_entries(one: Chain, other: Chain) -> bool
+    ensures { IsTrue result → one ≡ other }
+{
+    match one {
+        Chain::GrEntries { adr } => match other {
+            Chain::GrEntries { adr: with } => adr == with,
+            _ => false,
+        },
+        Chain::ZEntries { adr } => match other {
+            Chain::ZEntries { adr: with } => adr == with,
+            _ => false,
+        },
+        _ => false,
+    }
+}
+
+impl EntryChain {
+    /// The entries of a chain of a good image.
+    fn load<A: Area>(alloc: Global, area: &mut A, chain: Chain) -> Result<EntryChain, AreaError>
+        requires good { Good (A.image area.old) }
+        requires attribute { IsOfAttribute (A.image area.old) chain }
+        ensures chain { IfOk result (λ entries. entries.chain ≡ chain) }
+        ensures entries { IfOk result (KnowsEntries (A.image area.old)) }
+        ensures area { Reads A.image A.frame A.faults A.edited area.old area.new result }
+    {
+        let places = read_chain(alloc, area, chain)?;
+        let numbers = read_numbers(alloc, area, &places)?;
+        Ok(EntryChain {
+            chain,
+            numbers,
+            places,
+        })
+    }
+
+    /// How many entries stand before the one with a number.
+    pub(crate) fn find(&self, num: u32) -> Option<usize>
+        ensures { result ≡ position (λ n. n == num) self.now.numbers }
+    {
+        self.numbers.iter().position(|n| *n == num)
+    }
+
+    /// Where the descriptor of the entry with a number stands.
+    pub(crate) fn place_of(&self, num: u32) -> Option<u64>
+        ensures { result ≡ option_and_then (λ i. slice_get self.now.places i) (position (λ n. n == num) self.now.numbers) }
+    {
+        let i = self.find(num)?;
+        self.places.get(i).copied()
+    }
+}
+
+impl Attrs {
+    /// The entries of a chain of an attribute: those that are kept, where they are of this chain, else as they are read. They are
+    /// given away, so that none are kept any more.
+    pub(crate) fn take_entries<A: Area>(
+        &mut self,
+        area: &mut A,
+        chain: Chain,
+    ) -> Result<EntryChain, AreaError>
+        requires good { Good (A.image area.old) }
+        requires known { Knows (A.image area.old) self.old }
+        requires attribute { IsOfAttribute (A.image area.old) chain }
+        ensures chain { IfOk result (λ entries. entries.chain ≡ chain) }
+        ensures entries { IfOk result (KnowsEntries (A.image area.old)) }
+        ensures given { self.new ≡ record self.old { entries = None } }
+        ensures area { Reads A.image A.frame A.faults A.edited area.old area.new result }
+    {
+        if let Some(kept) = self.entries.take() {
+            if are_same_entries(kept.chain, chain) {
+                return Ok(kept);
+            }
+        }
+        EntryChain::load(self.alloc, area, chain)
+    }
 }
