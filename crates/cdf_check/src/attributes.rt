@@ -1,6 +1,6 @@
 //! The rules on attributes.
 
-ghost use Rattle.std.specs.Prelude.{◌≡◌, ◌+◌, ◌++◌, ◌∷◌, ◌<◌, ◌^◌, [], length, map, IfOk, OnOk, MatchResult};
+ghost use Rattle.std.specs.Prelude.{◌≡◌, ◌+◌, ◌++◌, ◌∷◌, ◌<◌, ◌^◌, [], true, not, length, map, IfOk, OnOk, MatchResult};
 ghost use Rattle.std.specs.List.{flat_map};
 ghost use Rattle.cdf_area.specs.Calls.{Reads};
 ghost use Rattle.cdf_format.specs.AttributeRules.{has_name, same_name, adr_rows, attribute_rows, phase6};
@@ -14,6 +14,7 @@ ghost use Rattle.cdf_format.specs.Walks.{whole};
 ghost use Rattle.cdf_check.specs.Entries.{IsAttribute, AreAttributes, AreEntries};
 ghost use Rattle.cdf_check.specs.FileChains.{AreLong};
 ghost use Rattle.cdf_check.specs.Verdicts.{Finds, Yields};
+ghost use Rattle.cdf_names.specs.Names.{has_name as is_taken};
 
 use crate::entries::{EntryChain, check_entries};
 use crate::verdict::Finding;
@@ -161,6 +162,27 @@ fn check_each<A: Area>(
     Ok(Ok(owned))
 }
 
+/// Whether the Name of an attribute is new to the table, which has it then.
+fn add_name<A: Area>(
+    alloc: Global,
+    area: &mut A,
+    names: &mut NameTable,
+    adr: u64,
+) -> Result<bool, AreaError>
+    requires attribute { IsAttribute (A.image area.old) adr }
+    requires few { length names.old < u32.MAX }
+    ensures new { IfOk result (λ new. new ≡ not (is_taken names.old (name_in (A.image area.old) adr adr_name))) }
+    ensures added { IfOk result (λ new. new ≡ true → names.new ≡ names.old ++ name_in (A.image area.old) adr adr_name ∷ []) }
+    ensures area { Reads A.image A.frame A.faults A.edited area.old area.new result }
+{
+    let name = read_attribute_name(alloc, area, adr)?;
+    if names.find(name.as_slice()).is_some() {
+        return Ok(false);
+    }
+    names.add(name)?;
+    Ok(true)
+}
+
 /// That no two attributes have one name.
 fn check_names<A: Area>(
     alloc: Global,
@@ -175,12 +197,10 @@ fn check_names<A: Area>(
     let mut names = NameTable::new(alloc)?;
     for adr in adrs {
         let place = *adr;
-        let name = read_attribute_name(alloc, area, place)?;
-        if names.find(name.as_slice()).is_some() {
+        if !add_name(alloc, area, &mut names, place)? {
             // 6.2
             return Ok(Some(Finding { rule: 2, place }));
         }
-        names.add(name)?;
     }
     Ok(None)
 }

@@ -6,7 +6,7 @@ ghost use Rattle.cdf_format.specs.Chains.{is_in, is_a, is_linkable, chain};
 ghost use Rattle.cdf_format.specs.Records.{field};
 ghost use Rattle.cdf_format.specs.Tiles.{AreTiles};
 ghost use Rattle.cdf_check.specs.Met.{Agrees};
-ghost use Rattle.cdf_check.specs.Walked.{Ascends, Walks};
+ghost use Rattle.cdf_check.specs.Walked.{Ascends, Meets, Walks};
 
 use crate::fields::{read_size, read_type};
 use crate::met::Met;
@@ -81,6 +81,28 @@ fn goes_on<A: Area>(
     is_linkable(area, tiles, record_type, place)
 }
 
+/// The link of a record to which the chain goes on, which is met then; none where it may not go on to it.
+fn meet<A: Area>(
+    area: &mut A,
+    tiles: &[u64],
+    record_type: u32,
+    met: &mut Met,
+    place: u64,
+) -> Result<Option<u64>, AreaError>
+    requires tiled { AreTiles (A.image area.old) 8 (length (A.image area.old)) tiles.now }
+    requires agrees { Agrees met.old }
+    ensures meets { IfOk result (Meets (A.image area.old) tiles.now record_type met.old met.new place) }
+    ensures area { Reads A.image A.frame A.faults A.edited area.old area.new result }
+{
+    let _size = area.size();
+    if !goes_on(area, tiles, record_type, met, place)? {
+        return Ok(None);
+    }
+    met.add(place)?;
+    let next = read_unsigned8(area, place + UIR_NEXT_UIR)?;
+    Ok(Some(next))
+}
+
 /// The members of the chain from a field of a record, or the record with a link that leads wrong.
 pub fn walk_chain<A: Area>(
     alloc: Global,
@@ -103,12 +125,13 @@ pub fn walk_chain<A: Area>(
         if link == 0 {
             return Ok(Ok(met.list));
         }
-        if !goes_on(area, tiles, record_type, &met, link)? {
-            return Ok(Err(last));
+        match meet(area, tiles, record_type, &mut met, link)? {
+            Some(next) => {
+                last = link;
+                link = next;
+            }
+            None => return Ok(Err(last)),
         }
-        met.add(link)?;
-        last = link;
-        link = read_unsigned8(area, link + UIR_NEXT_UIR)?;
     }
     if link == 0 {
         Ok(Ok(met.list))

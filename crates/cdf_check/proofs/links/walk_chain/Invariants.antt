@@ -1,4 +1,4 @@
-use Rattle.std.proofs.Common.{◌≡◌, ◌-◌, ◌≤◌, length}
+use Rattle.std.proofs.Common.{◌≡◌, ◌-◌, length}
 use Rattle.cdf_area.specs.Calls.{Stays}
 use Rattle.cdf_format.specs.Chains.{chain_on, chain}
 use Rattle.cdf_format.specs.Records.{field}
