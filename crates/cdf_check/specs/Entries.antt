@@ -1,5 +1,5 @@
 -- The entries of an attribute, in an image with these records.
-use Rattle.std.specs.Prelude.{◌≡◌, ◌≤◌, ℕ, ◌+◌, List, ◌++◌, length}
+use Rattle.std.specs.Prelude.{◌≡◌, ◌≤◌, ℕ, ◌+◌, List, length}
 use Rattle.cdf_format.specs.AttributeRules.{entries_rows}
 use Rattle.cdf_format.specs.ChainRules.{chain_rows}
 use Rattle.cdf_format.specs.Chains.{chain}

@@ -1,5 +1,5 @@
 -- The chains that begin in the Global Descriptor Record.
-use Rattle.std.specs.Prelude.{◌≡◌, ◌≤◌, ℕ, ◌+◌, List, [], ◌++◌}
+use Rattle.std.specs.Prelude.{◌≡◌, ◌≤◌, ℕ, ◌+◌, List, ◌++◌}
 use Rattle.cdf_format.specs.Fields.{size_at, type_at}
 use Rattle.cdf_format.specs.Records.{field}
 use Rattle.cdf_format.specs.RecordTypes.{fixed_size}

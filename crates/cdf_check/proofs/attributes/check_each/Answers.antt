@@ -1,4 +1,4 @@
-use Rattle.std.proofs.Common.{◌≡◌, ◌++◌, ◌∷◌, ◌∙◌, get_or, map, take, sym, ap, ap₂, arith, add-one, Ok, Err, List, ℕ}
+use Rattle.std.proofs.Common.{◌≡◌, ◌++◌, ◌∷◌, ◌∙◌, get_or, map, take, sym, ap, ap₂, add-one, Ok, Err, List, ℕ}
 use Rattle.std.specs.List.{flat_map}
 use Rattle.cdf_format.specs.Owners.{attribute_records}
 use Rattle.cdf_format.specs.Shape.{attribute_shape}

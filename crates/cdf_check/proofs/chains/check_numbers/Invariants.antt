@@ -1,4 +1,4 @@
-use Rattle.std.proofs.Common.{◌≡◌, ◌≤◌, drop, Option}
+use Rattle.std.proofs.Common.{drop, Option}
 use Rattle.cdf_area.specs.Calls.{Stays}
 use Rattle.cdf_format.specs.ChainRules.{number_rows}
 use Rattle.cdf_format.specs.Records.{field}

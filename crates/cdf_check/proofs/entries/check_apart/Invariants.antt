@@ -1,4 +1,4 @@
-use Rattle.std.proofs.Common.{◌≡◌, ◌≤◌, [], map, take, drop, Option}
+use Rattle.std.proofs.Common.{◌≡◌, [], map, take, drop, Option}
 use Rattle.cdf_area.specs.Calls.{Stays}
 use Rattle.cdf_format.specs.AttributeRules.{same_number}
 use Rattle.cdf_format.specs.ChainRules.{differ_rows}

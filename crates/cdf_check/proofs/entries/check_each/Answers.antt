@@ -1,4 +1,4 @@
-use Rattle.std.proofs.Common.{◌∙◌, get_or, arith, add-one, Some, None}
+use Rattle.std.proofs.Common.{get_or, add-one, Some, None}
 use Rattle.cdf_format.specs.AttributeRules.{entry_rows}
 use Rattle.cdf_check.specs.Verdicts.{Finds}
 use Rattle.cdf_area.proofs.Calls.{read_more}

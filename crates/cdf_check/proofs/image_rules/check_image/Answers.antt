@@ -1,4 +1,4 @@
-use Rattle.std.proofs.Common.{◌≡◌, ℕ, refl, Ok}
+use Rattle.std.proofs.Common.{◌≡◌, ℕ, Ok}
 use Rattle.std.specs.declared.vec.Vec.{Vec}
 use Rattle.std.specs.declared.alloc.Global.{Global}
 use Rattle.cdf_format.specs.RecordRules.{phase4}

@@ -1,4 +1,4 @@
-use Rattle.std.proofs.Common.{◌≡◌, refl, Ok}
+use Rattle.std.proofs.Common.{refl, Ok}
 use Rattle.cdf_format.specs.ChainRules.{phase5}
 use Rattle.cdf_format.specs.Rules.{IsBroken}
 use Rattle.cdf_format.proofs.TilesLemmas.{tiling_sound}

@@ -1,4 +1,4 @@
-use Rattle.std.proofs.Common.{◌++◌, ◌∙◌, get_or, length, arith, add-one, Some, None}
+use Rattle.std.proofs.Common.{◌++◌, get_or, length, arith, add-one, Some, None}
 use Rattle.cdf_format.specs.NotRead.{unread_type}
 use Rattle.cdf_format.specs.RecordRules.{record_rows}
 use Rattle.cdf_format.proofs.TilesLemmas.{tile_lies}
