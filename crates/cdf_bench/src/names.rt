@@ -50,15 +50,32 @@ fn look_up(table: &NameTable, names: &[Vec<u8>], asked: usize) -> u64 {
     sum
 }
 
+/// Puts the names into a table, and says how long that took.
+fn timed_table(rt: &(impl Runtime + AllocGlobal), names: &[Vec<u8>]) -> Result<NameTable, Failed> {
+    let start = Instant::now(rt)?;
+    let table = table_of(rt.alloc(), names)?;
+    say_lap(rt, "add", &start)?;
+    Ok(table)
+}
+
+/// Looks names up, and says how long that took.
+fn timed_look_up(
+    rt: &impl Runtime,
+    table: &NameTable,
+    names: &[Vec<u8>],
+    asked: usize,
+) -> Result<u64, Failed> {
+    let start = Instant::now(rt)?;
+    let sum = look_up(table, names, asked);
+    say_lap(rt, "find", &start)?;
+    Ok(sum)
+}
+
 /// Looks up so many different ones among so many names.
 pub fn run(rt: &(impl Runtime + AllocGlobal), count: usize, asked: usize) -> Result<(), Failed> {
     let names = all_names(rt.alloc(), count)?;
-    let start = Instant::now(rt)?;
-    let table = table_of(rt.alloc(), &names)?;
-    say_lap(rt, "add", &start)?;
-    let start = Instant::now(rt)?;
-    let sum = look_up(&table, &names, asked);
-    say_lap(rt, "find", &start)?;
+    let table = timed_table(rt, &names)?;
+    let sum = timed_look_up(rt, &table, &names, asked)?;
     println!(rt; "{} {sum}", table.len())?;
     Ok(())
 }
