@@ -60,7 +60,7 @@ class Table:
             for line in file.read().split('\n'):
                 key, _, rest = line.lstrip().partition(' ')
                 if key and key != '#':
-                    getattr(self, 'take_' + key)(rest)
+                    getattr(self, 'take_' + key.replace('-', '_'))(rest)
 
     def take_file(self, text):
         name, size, *base = text.split()
@@ -101,6 +101,13 @@ class Table:
 
     def take_text(self, text):
         self.rows[-1].text += text.encode() + b'\n'
+
+    def take_text_bytes(self, text):
+        self.rows[-1].text += bytes.fromhex(text)
+
+    def take_text_repeat(self, text):
+        count, _, digits = text.partition(' ')
+        self.rows[-1].text += bytes.fromhex(digits) * int(count)
 
     def take_status(self, text):
         self.rows[-1].status = int(text)

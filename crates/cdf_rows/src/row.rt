@@ -53,6 +53,18 @@ fn push_line(bytes: &mut Vec<u8>, line: &str) -> Result<()> {
     Ok(())
 }
 
+/// Appends bytes so often one behind the other.
+fn push_repeated(alloc: Global, bytes: &mut Vec<u8>, text: &str) -> Result<()> {
+    let Some((count, digits)) = text.split_once(' ') else {
+        bail!("what is repeated?");
+    };
+    let part = bytes_in(alloc, digits)?;
+    for _ in 0..number_in(count)? {
+        bytes.extend_from_slice(&part)?;
+    }
+    Ok(())
+}
+
 impl Row {
     /// A row that asks for `a.cdf`, which is the file `new` of the table, without a script.
     pub fn new(alloc: Global, title: &str) -> Result<Row> {
@@ -80,18 +92,6 @@ impl Row {
         Ok(())
     }
 
-    /// Bytes of the script that stand so often one behind the other.
-    fn take_repeated(&mut self, alloc: Global, text: &str) -> Result<()> {
-        let Some((count, digits)) = text.split_once(' ') else {
-            bail!("what is repeated?");
-        };
-        let bytes = bytes_in(alloc, digits)?;
-        for _ in 0..number_in(count)? {
-            self.script.extend_from_slice(&bytes)?;
-        }
-        Ok(())
-    }
-
     /// Takes a part of the row.
     pub fn take(&mut self, alloc: Global, key: &str, text: &str) -> Result<()> {
         match key {
@@ -101,8 +101,10 @@ impl Row {
             "script" => push_line(&mut self.script, text)?,
             "last" => self.script.extend_from_slice(text.as_bytes())?,
             "bytes" => self.script.extend_from_slice(&bytes_in(alloc, text)?)?,
-            "repeat" => self.take_repeated(alloc, text)?,
+            "repeat" => push_repeated(alloc, &mut self.script, text)?,
             "text" => push_line(&mut self.text, text)?,
+            "text-bytes" => self.text.extend_from_slice(&bytes_in(alloc, text)?)?,
+            "text-repeat" => push_repeated(alloc, &mut self.text, text)?,
             "status" => self.status = number_in(text)?,
             "after" => self.after = Some(String::from_str(alloc, text)?),
             _ => bail!("{key} is no part of a row"),
