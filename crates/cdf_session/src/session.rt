@@ -6,6 +6,8 @@ ghost use Rattle.cdf_area.specs.Frame.{with_base};
 ghost use Rattle.cdf_edits.specs.Answers.{Answers};
 ghost use Rattle.cdf_edits.specs.Follows.{only_reads};
 ghost use Rattle.cdf_format.specs.NewFile.{new_image};
+ghost use Rattle.cdf_format.specs.Owners.{space_of as taken_by};
+ghost use Rattle.cdf_format.specs.Shape.{shape};
 ghost use Rattle.cdf_format.specs.WellFormed.{Good, WellFormed};
 ghost use Rattle.cdf_model.specs.Limits.{image_limit};
 ghost use Rattle.cdf_model.specs.Sayable.{CanBeGiven, Sayable};
@@ -19,7 +21,8 @@ use crate::refusal::{AdoptError, Refusal};
 use cdf_area::{Area, AreaError};
 use cdf_attrs::Attrs;
 use cdf_check::check;
-use cdf_model::{Command, Items, LineError, Outcome, Reason, Reply, Scope};
+use cdf_model::{Command, Items, LineError, Outcome, Reason, Reply, Scope, Space};
+use cdf_space::space_of;
 use std::alloc::Global;
 use std::marker::Model;
 
@@ -205,6 +208,14 @@ impl<A: Area> Session<A> {
         self.area.mark();
         let done = self.attrs.rename(&mut self.area, from, to);
         settle(&mut self.area, done)
+    }
+
+    /// What the records of the image take.
+    pub fn space(&mut self) -> Result<Space, AreaError>
+        ensures value { IfOk result (λ space. space ≡ taken_by (A.image self.old) (shape (A.image self.old))) }
+        ensures area { Reads A.image A.frame A.faults A.edited self.old self.new result }
+    {
+        space_of(&mut self.area)
     }
 
     /// The area with the image as it is.
