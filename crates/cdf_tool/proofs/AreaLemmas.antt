@@ -58,13 +58,13 @@ unread_new file other first now statuses.StoreWriteFault ends = ends
 unread_new file other first now statuses.ScriptFault ends = ends
 unread_new file other first now statuses.ScriptTooLong ends = ends
 
-module _ (before left first now : Option (List ℕ)) (end : List ℕ) where
-  over_new : (file other : List ℕ) (outcome : Result Bool Status) → EndsOver true file before left first now end outcome → EndsOver true other before left first now end outcome
+module _ (space : Bool) (before left first now : Option (List ℕ)) (end : List ℕ) where
+  over_new : (file other : List ℕ) (outcome : Result Bool Status) → EndsOver true space file before left first now end outcome → EndsOver true space other before left first now end outcome
   over_new file other (Ok refused) f = record { image = f.image; opens = f.opens; finishes = f.finishes }
   over_new file other (Err status) (inl (same, ends)) = inl (same, unread_new file other first now status ends)
   over_new file other (Err status) (inr h) = inr (record { image = h.image; opens = h.opens; halts = h.halts })
 
   -- what the area held is the file, or does not count
-  pub over_file : (new : Bool) (held file : List ℕ) (outcome : Result Bool Status) → (new ≡ false → held ≡ file) → EndsOver new held before left first now end outcome → EndsOver new file before left first now end outcome
+  pub over_file : (new : Bool) (held file : List ℕ) (outcome : Result Bool Status) → (new ≡ false → held ≡ file) → EndsOver new space held before left first now end outcome → EndsOver new space file before left first now end outcome
   over_file true held file outcome same ends = over_new held file outcome ends
-  over_file false held file outcome same ends = subst (λ (f : List ℕ). EndsOver false f before left first now end outcome) (same refl) ends
+  over_file false held file outcome same ends = subst (λ (f : List ℕ). EndsOver false space f before left first now end outcome) (same refl) ends

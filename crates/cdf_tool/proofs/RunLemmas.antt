@@ -1,5 +1,5 @@
 -- What follows from how a run ends.
-use Rattle.std.proofs.Common.{◌≡◌, ◌⊎◌, ℕ, ◌+◌, ◌-◌, ◌<◌, ◌≤◌, Bool, true, false, List, [], ◌∷◌, ◌++◌, append-nil, map, length, Option, Some, None, refl, sym, ◌∙◌, ap, subst, inl, inr, arith, length-append}
+use Rattle.std.proofs.Common.{◌≡◌, ◌⊎◌, ℕ, ◌+◌, ◌-◌, ◌<◌, ◌≤◌, Bool, true, false, List, [], ◌∷◌, ◌++◌, append-nil, append_assoc, map, length, Option, Some, None, refl, sym, ◌∙◌, ap, subst, inl, inr, arith, length-append}
 use Rattle.std.specs.Prelude.{◌↔◌, IfSome}
 use Rattle.std.specs.Io.KnownBytes.{Appends, Consumes, IsAtEnd}
 use Rattle.cdf_store.specs.Disk.{Disk}
@@ -20,7 +20,7 @@ use Rattle.cdf_tool.specs.Due.{CanBegin, IsGood}
 use Rattle.cdf_tool.specs.Ends.{Opens, Completes, Runs, EndsUnread, EndsWithout, Without, EndsNamed}
 use Rattle.cdf_tool.specs.Says.{Rejects, Names, SaysUsage}
 use Rattle.cdf_tool.specs.Replay.{Goes, line_of_moment, flagged_line, tale}
-use Rattle.cdf_tool.specs.Script.{Finishes}
+use Rattle.cdf_tool.specs.Script.{Finishes, last_line}
 use Rattle.cdf_tool.specs.Statuses.{IsDone, IsFailure, Exactly}
 use Rattle.cdf_tool.specs.Stored.{Kept, StoredBy}
 use Rattle.cdf_tool.proofs.RunStore.{found_lookup_in, kept_attached}
@@ -124,21 +124,33 @@ module _ {U : Type 0} (a : Asked) (d d' : Disk U) (before left first now : Optio
 
   completes_came : (file image : List ℕ) (refused : Bool) (status : Status) → IsDone status → Opens a.new file image → Completes a file image d d' before left first now refused → Came a d d' before left first now status
   completes_came file image refused status is opens c =
-      ran file c.finishes.taken (stored_ran file image c.end a.no_save opens c.stored) (stored_well file image c.end a.no_save opens c.stored) c.finishes.consumed (inl (c.finishes.short, is))
+      ran file c.finishes.finishes.taken (stored_ran file image c.end a.no_save opens c.stored) (stored_well file image c.end a.no_save opens c.stored) c.finishes.finishes.consumed (inl (c.finishes.finishes.short, is))
+
+  -- its script was read to its end
+  read_whole : {end : List ℕ} {refused : Bool} {image : List ℕ} {then : Option (List ℕ)} → Finishes image_limit image before left first end refused then → (left ≡ before) ⊎ ((taken : List ℕ) × Consumes before left taken × (length taken ≤ script_limit))
+  read_whole f = inr (f.taken, f.consumed, f.short)
 
   runs_came : (file image : List ℕ) (status : Status) → Opens a.new file image → Runs a file image d d' before left first now status → Came a d d' before left first now status
   runs_came file image statuses.Done opens r = completes_came file image false statuses.Done tt opens r
   runs_came file image statuses.SomeRefused opens r = completes_came file image true statuses.SomeRefused tt opens r
-  runs_came file image statuses.StoreWriteFault opens r = failed tt (inr (r.finishes.taken, r.finishes.consumed, r.finishes.short))
-  runs_came file image statuses.StoreReadFault opens r = failed tt (inr (r.1.taken, r.1.consumed, r.1.how.0))
-  runs_came file image statuses.OutputFault opens r = failed tt (inr (r.1.taken, r.1.consumed, r.1.how.0))
-  runs_came file image statuses.NoMemory opens (k, inl h) = failed tt (inr (h.taken, h.consumed, h.how.0))
-  runs_came file image statuses.NoMemory opens (k, inr u) = failed tt (inr (u.finishes.taken, u.finishes.consumed, u.finishes.short))
-  runs_came file image statuses.ScriptFault opens r = failed tt (inr (r.1.taken, r.1.consumed, r.1.how.0))
-  runs_came file image statuses.ScriptTooLong opens r = ran file r.1.taken (kept_ran file image opens r.0) (kept_well file image opens r.0) r.1.consumed (inr (r.1.how.long, refl))
-  runs_came file image statuses.Usage opens r = absurd r.1.how
-  runs_came file image statuses.NoFile opens r = absurd r.1.how
-  runs_came file image statuses.Rejected opens r = absurd r.1.how
+  runs_came file image statuses.StoreWriteFault opens r = failed tt (read_whole r.finishes.finishes)
+  runs_came file image statuses.StoreReadFault opens (k, inl h) = failed tt (inr (h.taken, h.consumed, h.how.0))
+  runs_came file image statuses.StoreReadFault opens (k, inr l) = failed tt (read_whole l.finishes)
+  runs_came file image statuses.OutputFault opens (k, inl h) = failed tt (inr (h.taken, h.consumed, h.how.0))
+  runs_came file image statuses.OutputFault opens (k, inr l) = failed tt (read_whole l.finishes)
+  runs_came file image statuses.NoMemory opens (k, inl (inl h)) = failed tt (inr (h.taken, h.consumed, h.how.0))
+  runs_came file image statuses.NoMemory opens (k, inl (inr l)) = failed tt (read_whole l.finishes)
+  runs_came file image statuses.NoMemory opens (k, inr u) = failed tt (read_whole u.finishes.finishes)
+  runs_came file image statuses.ScriptFault opens (k, inl h) = failed tt (inr (h.taken, h.consumed, h.how.0))
+  runs_came file image statuses.ScriptFault opens (k, inr l) = absurd l.stops
+  runs_came file image statuses.ScriptTooLong opens (k, inl h) = ran file h.taken (kept_ran file image opens k) (kept_well file image opens k) h.consumed (inr (h.how.long, refl))
+  runs_came file image statuses.ScriptTooLong opens (k, inr l) = absurd l.stops
+  runs_came file image statuses.Usage opens (k, inl h) = absurd h.how
+  runs_came file image statuses.Usage opens (k, inr l) = absurd l.stops
+  runs_came file image statuses.NoFile opens (k, inl h) = absurd h.how
+  runs_came file image statuses.NoFile opens (k, inr l) = absurd l.stops
+  runs_came file image statuses.Rejected opens (k, inl h) = absurd h.how
+  runs_came file image statuses.Rejected opens (k, inr l) = absurd l.stops
 
   pub came : (status : Status) → EndsNamed a d d' before left first now status → Came a d d' before left first now status
   came status (inl w) = without_came status w w.ends
@@ -277,9 +289,11 @@ all_taken : (script taken : List ℕ) (left : Option (List ℕ)) → Consumes (S
 all_taken script taken None took end = absurd took
 all_taken script taken (Some rest) took end = (ap (λ (l : List ℕ). Some l) end, sym (took ∙ ap (λ (l : List ℕ). taken ++ l) end ∙ append-nil taken))
 
-appended : (written text : List ℕ) (now : Option (List ℕ)) → Appends (Some written) now text → now ≡ Some (written ++ text)
-appended written text None grew = absurd grew
-appended written text (Some after) grew = ap (λ (l : List ℕ). Some l) grew
+-- one text and then another
+appended : (written text line : List ℕ) (then now : Option (List ℕ)) → Appends (Some written) then text → Appends then now line → now ≡ Some (written ++ (text ++ line))
+appended written text line None now first next = absurd first
+appended written text line (Some after) None first next = absurd next
+appended written text line (Some after) (Some all) first next = ap (λ (l : List ℕ). Some l) (next ∙ ap (λ (l : List ℕ). l ++ line) first ∙ append_assoc written text line)
 
 abbrev flag_of : Moment → Bool
 flag_of m = m.full
@@ -289,8 +303,8 @@ flagged_moments [] = refl
 flagged_moments (m ∷ ms) = ap (λ l. (m.line, m.full) ∷ l) (flagged_moments ms)
 
 module _ {U : Type 0} (a : Asked) (file image : List ℕ) (d d' : Disk U) (script written : List ℕ) (left now : Option (List ℕ)) (refused : Bool) (opens : Opens a.new file image) (c : Completes a file image d d' (Some script) left (Some written) now refused) where
-  abbrev f : Finishes image_limit image (Some script) left (Some written) c.end refused now
-  f = c.finishes
+  abbrev f : Finishes image_limit image (Some script) left (Some written) c.end refused c.finishes.then
+  f = c.finishes.finishes
 
   abbrev g : Goes image_limit image 0 (lines f.taken) c.end refused f.replies.text
   g = f.replies.goes
@@ -320,7 +334,8 @@ module _ {U : Type 0} (a : Asked) (file image : List ℕ) (d d' : Disk U) (scrip
     history = record { moments = g.moments; lines_are = these; flags_are = refl; steps = g.steps; end_is = sym g.end_is };
     limit = subst (λ (t : List ℕ). length t ≤ script_limit) all.1 f.short;
     read = all.0;
-    replies = appended written f.replies.text now f.replies.written ∙ ap (λ (t : List ℕ). Some (written ++ t)) (g.text_is ∙ ap (λ (s : State). s.text) (sym run));
+    replies = appended written f.replies.text (last_line a.space c.end) c.finishes.then now f.replies.written c.finishes.line
+        ∙ ap (λ (t : List ℕ). Some (written ++ (t ++ last_line a.space c.end))) (g.text_is ∙ ap (λ (s : State). s.text) (sym run));
     refused = so;
     stored = c.stored;
   }

@@ -54,9 +54,9 @@ pub found_file : (make : Bool) (name : List ℕ) (held : Option (List ℕ)) (fil
 found_file make name held file None is known = tt
 found_file make name held file (Some fs) is known = sym known ∙ is
 
-module _ {U : Type 0} (new no_save : Bool) (name file : List ℕ) (d at d' : Disk U) where
+module _ {U : Type 0} (new no_save space : Bool) (name file : List ℕ) (d at d' : Disk U) where
   abbrev asked : Asked
-  asked = record { new = new; no_save = no_save; name = name }
+  asked = record { new = new; no_save = no_save; space = space; name = name }
 
   -- nothing was written
   pub kept : (new ≡ true → no_save ≡ false) → Attached asked file d at → d' ≡ at → KeptBy new no_save asked file d d'

@@ -10,10 +10,11 @@ use Rattle.cdf_model.specs.Words.{Asked}
 use Rattle.cdf_tool.specs.declared.status.Status.{Status}
 use Rattle.cdf_tool.specs.declared.status.Status.TheVariants as statuses
 use Rattle.cdf_tool.specs.Ends.{Opens}
+use Rattle.cdf_tool.specs.Script.{last_line}
 use Rattle.cdf_tool.specs.Statuses.{IsDone}
 use Rattle.cdf_tool.specs.Stored.{Stored}
 
--- The file was opened, or a new one made. From its image the script led to another one, which was stored, and the text of the run over the data set was written, and nothing else.
+-- The file was opened, or a new one made. From its image the script led to another one, which was stored, and the text of the run over the data set was written, then the line on space where it is asked for, and nothing else.
 pub record Accepted {U : Type 0} (a : Asked) (d d' : Disk U) (script : List ℕ) (left : Option (List ℕ)) (written : List ℕ) (now : Option (List ℕ)) (status : Status) : Type 0 where
   pub file : List ℕ
   pub image : List ℕ
@@ -23,7 +24,7 @@ pub record Accepted {U : Type 0} (a : Asked) (d d' : Disk U) (script : List ℕ)
   pub history : History image_limit image script full end
   pub limit : length script ≤ script_limit
   pub read : left ≡ Some []
-  pub replies : now ≡ Some (written ++ (run_of (content image) [] script full).text)
+  pub replies : now ≡ Some (written ++ ((run_of (content image) [] script full).text ++ last_line a.space end))
   pub refused : (status ≡ statuses.SomeRefused) ↔ ((run_of (content image) [] script full).refused ≡ true)
   pub stored : Stored a file end d d'
 

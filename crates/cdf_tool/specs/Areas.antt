@@ -13,7 +13,7 @@ use Rattle.cdf_store.specs.Disk.{Disk}
 use Rattle.cdf_tool.specs.declared.status.Status.{Status}
 use Rattle.cdf_tool.specs.declared.status.Status.TheVariants as statuses
 use Rattle.cdf_tool.specs.Ends.{Opens, EndsUnread}
-use Rattle.cdf_tool.specs.Script.{Finishes, Halts}
+use Rattle.cdf_tool.specs.Script.{FinishesWith, HaltsWith}
 use Rattle.cdf_tool.specs.Statuses.{status_of}
 
 -- why no session began: no new file is rejected, and another one only for a rule that it breaks
@@ -21,22 +21,22 @@ abbrev pub Refuses : Bool → List ℕ → AdoptError → Type 0
 Refuses true file why = IsNoVerdict why
 Refuses false file why = RejectedFor file why
 
--- an image was opened, and its script was run to its end
-pub record Finished (new : Bool) (file : List ℕ) (before left first : Option (List ℕ)) (end : List ℕ) (refused : Bool) (now : Option (List ℕ)) : Type 0 where
+-- an image was opened, and its script was run to its end; the line on space is written where it is asked for
+pub record Finished (new space : Bool) (file : List ℕ) (before left first : Option (List ℕ)) (end : List ℕ) (refused : Bool) (now : Option (List ℕ)) : Type 0 where
   pub image : List ℕ
   pub opens : Opens new file image
-  pub finishes : Finishes image_limit image before left first end refused now
+  pub finishes : FinishesWith space image_limit image before left first end refused now
 
--- an image was opened, and the run stopped in its script
-pub record Halted (new : Bool) (file : List ℕ) (before left first now : Option (List ℕ)) (status : Status) : Type 0 where
+-- an image was opened, and the run stopped in its script, or at the line on space
+pub record Halted (new space : Bool) (file : List ℕ) (before left first now : Option (List ℕ)) (status : Status) : Type 0 where
   pub image : List ℕ
   pub opens : Opens new file image
-  pub halts : Halts image_limit image before left first now status
+  pub halts : HaltsWith space image_limit image before left first now status
 
 -- a run over an area came to its end, with this image, or stopped with a status
-abbrev pub EndsOver : Bool → List ℕ → Option (List ℕ) → Option (List ℕ) → Option (List ℕ) → Option (List ℕ) → List ℕ → Result Bool Status → Type 0
-EndsOver new file before left first now end (Ok refused) = Finished new file before left first end refused now
-EndsOver new file before left first now end (Err status) = ((left ≡ before) × EndsUnread new file first now status) ⊎ Halted new file before left first now status
+abbrev pub EndsOver : Bool → Bool → List ℕ → Option (List ℕ) → Option (List ℕ) → Option (List ℕ) → Option (List ℕ) → List ℕ → Result Bool Status → Type 0
+EndsOver new space file before left first now end (Ok refused) = Finished new space file before left first end refused now
+EndsOver new space file before left first now end (Err status) = ((left ≡ before) × EndsUnread new file first now status) ⊎ Halted new space file before left first now status
 
 -- a run whose script was answered is saved, or that fails
 abbrev pub EndsSaving : {U : Type 0} → Bool → List ℕ → Disk U → Disk U → Status → Type 0
@@ -53,10 +53,10 @@ EndsStored true end d d' (Ok refused) status = (status ≡ status_of refused) ×
 EndsStored false end d d' (Ok refused) status = EndsSaving refused end d d' status
 
 -- a run over an area with this file ended so, and this became of the store
-pub record EndsAttached {U : Type 0} (new no_save : Bool) (file : List ℕ) (d d' : Disk U) (before left first now : Option (List ℕ)) (status : Status) : Type 0 where
+pub record EndsAttached {U : Type 0} (new no_save space : Bool) (file : List ℕ) (d d' : Disk U) (before left first now : Option (List ℕ)) (status : Status) : Type 0 where
   pub end : List ℕ
   pub outcome : Result Bool Status
-  pub over : EndsOver new file before left first now end outcome
+  pub over : EndsOver new space file before left first now end outcome
   pub good : IfOk outcome (λ _. Good end)
   pub stored : EndsStored no_save end d d' outcome status
 
@@ -65,9 +65,9 @@ status_from (Ok refused) = status_of refused
 status_from (Err status) = status
 
 -- a run over a new file that is not saved ended so
-pub record EndsInMemory (before left first now : Option (List ℕ)) (status : Status) : Type 0 where
+pub record EndsInMemory (space : Bool) (before left first now : Option (List ℕ)) (status : Status) : Type 0 where
   pub end : List ℕ
   pub outcome : Result Bool Status
-  pub over : EndsOver true [] before left first now end outcome
+  pub over : EndsOver true space [] before left first now end outcome
   pub good : IfOk outcome (λ _. Good end)
   pub status_is : status ≡ status_from outcome

@@ -23,9 +23,9 @@ Counted c now statuses.OutputFault = (now ≡ record c { reads = now.reads; outp
 Counted c now statuses.ScriptFault = (now ≡ record c { source = now.source }) × Rose c.source now.source
 Counted c now other = now ≡ c
 
--- a run of a script that was answered to its end saw no fault
-abbrev pub CountedIn : Counts → Counts → Result Bool Status → Type 0
-CountedIn c now (Ok refused) = now ≡ c
+-- a part of a run that came to its end saw no fault
+abbrev pub CountedIn : {T : Type 0} → Counts → Counts → Result T Status → Type 0
+CountedIn c now (Ok value) = now ≡ c
 CountedIn c now (Err status) = Counted c now status
 
 -- the count of failed writes rose where a saving failed, and else it stays

@@ -14,7 +14,7 @@ use Rattle.cdf_model.specs.Words.{Asked}
 use Rattle.cdf_tool.specs.declared.status.Status.{Status}
 use Rattle.cdf_tool.specs.declared.status.Status.TheVariants as statuses
 use Rattle.cdf_tool.specs.Says.{Rejects, rejection, SaysUsage}
-use Rattle.cdf_tool.specs.Script.{Finishes, Halts}
+use Rattle.cdf_tool.specs.Script.{FinishesWith, HaltsWith}
 use Rattle.cdf_tool.specs.Stored.{Unattached, Kept, Stored, Spoiled}
 
 -- ---- over a file
@@ -24,32 +24,32 @@ abbrev pub Opens : Bool → List ℕ → List ℕ → Type 0
 Opens true file image = image ≡ new_image
 Opens false file image = WellFormed file × (image ≡ image_of file)
 
--- the script was run to its end, and the image that it led to was stored
+-- the script was run to its end, the line on space written where it is asked for, and the image that it led to was stored
 pub record Completes {U : Type 0} (a : Asked) (file image : List ℕ) (d d' : Disk U) (before left first now : Option (List ℕ)) (refused : Bool) : Type 0 where
   pub end : List ℕ
-  pub finishes : Finishes image_limit image before left first end refused now
+  pub finishes : FinishesWith a.space image_limit image before left first end refused now
   pub stored : Stored a file end d d'
 
 -- it was run to its end, and the saving failed
 pub record Spoils {U : Type 0} (a : Asked) (file image : List ℕ) (d d' : Disk U) (before left first now : Option (List ℕ)) : Type 0 where
   pub end : List ℕ
   pub refused : Bool
-  pub finishes : Finishes image_limit image before left first end refused now
+  pub finishes : FinishesWith a.space image_limit image before left first end refused now
   pub spoiled : Spoiled a file end d d'
 
 -- it was run to its end, and there was no memory to save the image
-pub record Unsaved (image : List ℕ) (before left first now : Option (List ℕ)) : Type 0 where
+pub record Unsaved (a : Asked) (image : List ℕ) (before left first now : Option (List ℕ)) : Type 0 where
   pub end : List ℕ
   pub refused : Bool
-  pub finishes : Finishes image_limit image before left first end refused now
+  pub finishes : FinishesWith a.space image_limit image before left first end refused now
 
 -- the script was run over this image
 abbrev pub Runs : {U : Type 0} → Asked → List ℕ → List ℕ → Disk U → Disk U → Option (List ℕ) → Option (List ℕ) → Option (List ℕ) → Option (List ℕ) → Status → Type 0
 Runs a file image d d' before left first now statuses.Done = Completes a file image d d' before left first now false
 Runs a file image d d' before left first now statuses.SomeRefused = Completes a file image d d' before left first now true
 Runs a file image d d' before left first now statuses.StoreWriteFault = Spoils a file image d d' before left first now
-Runs a file image d d' before left first now statuses.NoMemory = Kept a file d d' × (Halts image_limit image before left first now statuses.NoMemory ⊎ Unsaved image before left first now)
-Runs a file image d d' before left first now other = Kept a file d d' × Halts image_limit image before left first now other
+Runs a file image d d' before left first now statuses.NoMemory = Kept a file d d' × (HaltsWith a.space image_limit image before left first now statuses.NoMemory ⊎ Unsaved a image before left first now)
+Runs a file image d d' before left first now other = Kept a file d d' × HaltsWith a.space image_limit image before left first now other
 
 pub record Replays {U : Type 0} (a : Asked) (d d' : Disk U) (before left first now : Option (List ℕ)) (status : Status) : Type 0 where
   pub file : List ℕ

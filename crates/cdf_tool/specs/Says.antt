@@ -1,10 +1,12 @@
 -- What a run writes that does not come to its script.
-use Rattle.std.specs.Prelude.{◌≡◌, ℕ, List, Some, None}
+use Rattle.std.specs.Prelude.{◌≡◌, ℕ, List, codes, Some, None}
 use Rattle.std.specs.declared.option.Option.{Option}
+use Rattle.std.specs.Fmt.{decimal}
 use Rattle.std.specs.Io.KnownBytes.{Appends}
 use Rattle.cdf_store.specs.Written.{AppendsFront}
 use Rattle.cdf_format.specs.WellFormed.{Breaks}
-use Rattle.cdf_model.specs.Texts.{usage_text, no_file_text, rejected_text}
+use Rattle.cdf_model.specs.declared.space.Space.{Space}
+use Rattle.cdf_model.specs.Texts.{◌⧺◌, newline, usage_text, no_file_text, rejected_text}
 use Rattle.cdf_tool.specs.declared.status.Status.{Status}
 use Rattle.cdf_tool.specs.declared.status.Status.TheVariants as statuses
 
@@ -41,3 +43,13 @@ SaysRejected text first now statuses.Rejected = Appends first now text
 SaysRejected text first now statuses.OutputFault = AppendsFront first now text
 SaysRejected text first now statuses.NoMemory = now ≡ first
 SaysRejected text first now other = ⊥
+
+-- the parts of the line on space
+abbrev pub used_text : Space → List ℕ
+used_text s = codes "space eof " ⧺ decimal s.eof ⧺ codes " used " ⧺ decimal s.used
+
+abbrev pub listed_text : Space → List ℕ
+listed_text s = codes " listed " ⧺ decimal s.listed ⧺ codes " " ⧺ decimal s.listed_bytes
+
+abbrev pub unlisted_text : Space → List ℕ
+unlisted_text s = codes " unlisted " ⧺ decimal s.unlisted ⧺ codes " " ⧺ decimal s.unlisted_bytes ⧺ newline

@@ -1,9 +1,13 @@
 -- What the run of a script over an image leaves (own). `first` is what the sink held as it began and `now` what it holds, `left` what the source has left.
-use Rattle.std.specs.Prelude.{◌≡◌, ◌⊎◌, ℕ, ◌<◌, ◌≤◌, List, ◌++◌, Bool, length}
+use Rattle.std.specs.Prelude.{◌≡◌, ◌⊎◌, ℕ, ◌<◌, ◌≤◌, List, [], ◌++◌, Bool, true, false, length}
 use Rattle.std.specs.declared.option.Option.{Option}
-use Rattle.std.specs.Io.KnownBytes.{Consumes, IsAtEnd}
+use Rattle.std.specs.Io.KnownBytes.{Appends, Consumes, IsAtEnd}
+use Rattle.cdf_format.specs.Owners.{space_of}
+use Rattle.cdf_format.specs.Shape.{shape}
+use Rattle.cdf_store.specs.Written.{AppendsFront}
 use Rattle.cdf_model.specs.Limits.{script_limit}
 use Rattle.cdf_model.specs.Lines.{lines, whole_lines}
+use Rattle.cdf_model.specs.Texts.{space_text}
 use Rattle.cdf_tool.specs.declared.status.Status.{Status}
 use Rattle.cdf_tool.specs.declared.status.Status.TheVariants as statuses
 use Rattle.cdf_tool.specs.Replay.{Replies, Stops}
@@ -68,3 +72,36 @@ pub record Halts (limit : ℕ) (b : List ℕ) (before left first now : Option (L
   pub taken : List ℕ
   pub consumed : Consumes before left taken
   pub how : HaltsAfter limit b taken left first now status
+
+-- ---- the line on space
+
+-- what is written once a script was answered: the line on what records take, where it is asked for
+abbrev pub last_line : Bool → List ℕ → List ℕ
+last_line true end = space_text (space_of end (shape end))
+last_line false end = []
+
+-- all replies were written, and then this line
+pub record FinishesWith (space : Bool) (limit : ℕ) (b : List ℕ) (before left first : Option (List ℕ)) (end : List ℕ) (refused : Bool) (now : Option (List ℕ)) : Type 0 where
+  pub then : Option (List ℕ)
+  pub finishes : Finishes limit b before left first end refused then
+  pub line : Appends then now (last_line space end)
+
+-- nothing of this line was written, or a part of it where the sink failed
+abbrev pub LineStops : List ℕ → Option (List ℕ) → Option (List ℕ) → Status → Type 0
+LineStops line then now statuses.StoreReadFault = now ≡ then
+LineStops line then now statuses.NoMemory = now ≡ then
+LineStops line then now statuses.OutputFault = AppendsFront then now line
+LineStops line then now other = ⊥
+
+-- all replies were written, and not the whole line
+pub record LacksLine (space : Bool) (limit : ℕ) (b : List ℕ) (before left first now : Option (List ℕ)) (status : Status) : Type 0 where
+  pub asked : space ≡ true
+  pub end : List ℕ
+  pub refused : Bool
+  pub then : Option (List ℕ)
+  pub finishes : Finishes limit b before left first end refused then
+  pub stops : LineStops (last_line true end) then now status
+
+-- the run stopped in its script, or at the line behind it
+abbrev pub HaltsWith : Bool → ℕ → List ℕ → Option (List ℕ) → Option (List ℕ) → Option (List ℕ) → Option (List ℕ) → Status → Type 0
+HaltsWith space limit b before left first now status = Halts limit b before left first now status ⊎ LacksLine space limit b before left first now status

@@ -44,30 +44,34 @@ fn area_over<S: Store>(alloc: Global, new: bool, store: S, size: u64) -> StoreAr
 /// Runs the script over the file that is attached, which has so many bytes, or over a new one in its place.
 fn run_attached<S: Store, I: Source, O: Sink>(
     alloc: Global,
-    new: bool,
-    no_save: bool,
+    asked: &Asked<'_>,
     store: S,
     size: u64,
     script: &mut I,
     out: &mut O,
 ) -> Ended<S>
     requires { Some size ≡ option_map length (S.disk store).held }
-    ensures ends { EndsAttached new no_save (file_of (S.disk store)) (S.disk store) (S.disk result.store) (I.left script.old) (I.left script.new) (O.written out.old) (O.written out.new) result.status }
+    ensures ends { EndsAttached asked.now.new asked.now.no_save asked.now.space (file_of (S.disk store)) (S.disk store) (S.disk result.store) (I.left script.old) (I.left script.new) (O.written out.old) (O.written out.new) result.status }
     ensures counted { Counted (counts (S.read_faults store) (S.write_faults store) (O.faults out.old) (I.faults script.old)) (counts (S.read_faults result.store) (S.write_faults result.store) (O.faults out.new) (I.faults script.new)) result.status }
-    ensures reads { new ≡ false → IfReads (I.left script.old) (WritesNothing (S.disk store) (S.disk result.store) (S.write_faults store) (S.write_faults result.store) result.status) }
+    ensures reads { asked.now.new ≡ false → IfReads (I.left script.old) (WritesNothing (S.disk store) (S.disk result.store) (S.write_faults store) (S.write_faults result.store) result.status) }
 {
-    let area = area_over(alloc, new, store, size);
-    let ran = run_area(alloc, new, area, script, out);
-    finish(no_save, ran)
+    let area = area_over(alloc, asked.new, store, size);
+    let ran = run_area(alloc, asked.new, asked.space, area, script, out);
+    finish(asked.no_save, ran)
 }
 
 /// Runs the script over a new file in memory, which is not saved.
-fn run_in_memory<I: Source, O: Sink>(alloc: Global, script: &mut I, out: &mut O) -> Status
-    ensures ends { EndsInMemory (I.left script.old) (I.left script.new) (O.written out.old) (O.written out.new) result }
+fn run_in_memory<I: Source, O: Sink>(
+    alloc: Global,
+    space: bool,
+    script: &mut I,
+    out: &mut O,
+) -> Status
+    ensures ends { EndsInMemory space (I.left script.old) (I.left script.new) (O.written out.old) (O.written out.new) result }
     ensures counted { (reads writes : ℕ) → Counted (counts reads writes (O.faults out.old) (I.faults script.old)) (counts reads writes (O.faults out.new) (I.faults script.new)) result }
 {
     let area = MemArea::new(alloc, Vec::new(alloc), IMAGE_LIMIT);
-    let ran = run_area(alloc, true, area, script, out);
+    let ran = run_area(alloc, true, space, area, script, out);
     match ran.outcome {
         Ok(refused) => end_status(refused),
         Err(status) => status,
@@ -97,14 +101,12 @@ pub fn run_file<S: Store, I: Source, O: Sink>(
     ensures not_called { (asked.now.new && asked.now.no_save) ≡ true → result.store ≡ store }
 {
     if is_in_memory(asked) {
-        let status = run_in_memory(alloc, script, out);
+        let status = run_in_memory(alloc, asked.space, script, out);
         return Ended { status, store };
     }
     let mut store = store;
     match store.attach(asked.name, asked.new) {
-        Ok(Some(size)) => {
-            run_attached(alloc, asked.new, asked.no_save, store, size, script, out)
-        }
+        Ok(Some(size)) => run_attached(alloc, asked, store, size, script, out),
         Ok(None) => {
             let status = say_no_file(out);
             Ended { status, store }

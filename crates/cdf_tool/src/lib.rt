@@ -3,6 +3,7 @@
 
 mod ended;
 mod file;
+mod measured;
 mod opened;
 mod replay;
 mod replies;

@@ -11,8 +11,8 @@ ghost use Rattle.cdf_tool.specs.Ends.{EndsUnread, Opens};
 ghost use Rattle.cdf_tool.specs.Reading.{IfReads};
 
 use crate::Status;
+use crate::measured::run_measured;
 use crate::say::say_rejected;
-use crate::script::run_script;
 use crate::status::area_status;
 use cdf_area::Area;
 use cdf_session::{AdoptError, Refusal, Session};
@@ -57,10 +57,11 @@ fn refuse<O: Sink>(alloc: Global, why: AdoptError, out: &mut O) -> Status
     }
 }
 
-/// Opens the file in an area, or makes a new one, and runs the script over it.
+/// Opens the file in an area, or makes a new one, runs the script over it, and says what the records take, where that is asked for.
 pub fn run_area<A: Area, I: Source, O: Sink>(
     alloc: Global,
     new: bool,
+    space: bool,
     area: A,
     script: &mut I,
     out: &mut O,
@@ -68,7 +69,7 @@ pub fn run_area<A: Area, I: Source, O: Sink>(
     requires empty { new ≡ true → A.image area ≡ [] }
     requires unmarked { (A.frame area).base ≡ None }
     requires limit { (A.frame area).limit ≡ image_limit }
-    ensures ends { EndsOver new (A.image area) (I.left script.old) (I.left script.new) (O.written out.old) (O.written out.new) (A.image result.area) result.outcome }
+    ensures ends { EndsOver new space (A.image area) (I.left script.old) (I.left script.new) (O.written out.old) (O.written out.new) (A.image result.area) result.outcome }
     ensures good { IfOk result.outcome (λ _. Good (A.image result.area)) }
     ensures fits { IfOk result.outcome (λ _. length (A.image result.area) ≤ image_limit) }
     ensures reads { new ≡ false → OnOk result.outcome (IfReads (I.left script.old) (Stays A.image A.frame A.faults A.edited area result.area)) }
@@ -78,7 +79,7 @@ pub fn run_area<A: Area, I: Source, O: Sink>(
     match open(alloc, new, area) {
         Ok(session) => {
             let mut session = session;
-            let outcome = run_script(alloc, &mut session, script, out);
+            let outcome = run_measured(alloc, space, &mut session, script, out);
             let area = session.into_area();
             Ran { area, outcome }
         }

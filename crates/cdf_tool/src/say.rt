@@ -1,12 +1,15 @@
-//! What a run writes that does not come to its script.
+//! What a run writes beside the replies to its script.
 
-ghost use Rattle.std.specs.Prelude.{◌≡◌, ℕ, IfOk, string_bytes};
-ghost use Rattle.cdf_model.specs.Texts.{rejected_text};
-ghost use Rattle.cdf_tool.specs.Counts.{Counted, counts};
-ghost use Rattle.cdf_tool.specs.Says.{SaysUsage, SaysNoFile, SaysRejected};
+ghost use Rattle.std.specs.Prelude.{◌≡◌, ◌++◌, ℕ, IfOk, IfErr, OnOk, string_bytes};
+ghost use Rattle.std.specs.Io.KnownBytes.{Appends};
+ghost use Rattle.cdf_model.specs.Texts.{rejected_text, space_text};
+ghost use Rattle.cdf_tool.specs.Counts.{Counted, CountedIn, counts};
+ghost use Rattle.cdf_tool.specs.Says.{SaysUsage, SaysNoFile, SaysRejected, listed_text, unlisted_text, used_text};
+ghost use Rattle.cdf_tool.specs.Script.{LineStops};
 
 use crate::Status;
 use cdf_check::Broken;
+use cdf_model::Space;
 use cdf_store::{Failed, Sink, write_all};
 use std::alloc::{AllocError, Global};
 
@@ -53,5 +56,59 @@ pub fn say_rejected<O: Sink>(alloc: Global, broken: Broken, out: &mut O) -> Stat
     match write_all(out, text.as_bytes()) {
         Ok(()) => Status::Rejected,
         Err(Failed) => Status::OutputFault,
+    }
+}
+
+fn append_used(text: &mut String, space: &Space) -> Result<(), AllocError>
+    ensures { OnOk result (string_bytes text.new ≡ string_bytes text.old ++ used_text space.now) }
+{
+    let Space { eof, used, .. } = *space;
+    write!(text, "space eof {eof} used {used}")
+}
+
+fn append_listed(text: &mut String, space: &Space) -> Result<(), AllocError>
+    ensures { OnOk result (string_bytes text.new ≡ string_bytes text.old ++ listed_text space.now) }
+{
+    let Space {
+        listed,
+        listed_bytes,
+        ..
+    } = *space;
+    write!(text, " listed {listed} {listed_bytes}")
+}
+
+fn append_unlisted(text: &mut String, space: &Space) -> Result<(), AllocError>
+    ensures { OnOk result (string_bytes text.new ≡ string_bytes text.old ++ unlisted_text space.now) }
+{
+    let Space {
+        unlisted,
+        unlisted_bytes,
+        ..
+    } = *space;
+    write!(text, " unlisted {unlisted} {unlisted_bytes}\n")
+}
+
+fn space_line(alloc: Global, space: &Space) -> Result<String, AllocError>
+    ensures { IfOk result (λ t. string_bytes t ≡ space_text space.now) }
+{
+    let mut text = String::new(alloc);
+    append_used(&mut text, space)?;
+    append_listed(&mut text, space)?;
+    append_unlisted(&mut text, space)?;
+    Ok(text)
+}
+
+/// Says what the records of an image take.
+pub fn say_space<O: Sink>(alloc: Global, space: Space, out: &mut O) -> Result<(), Status>
+    ensures said { OnOk result (Appends (O.written out.old) (O.written out.new) (space_text space)) }
+    ensures stops { IfErr result (LineStops (space_text space) (O.written out.old) (O.written out.new)) }
+    ensures counted { (reads writes source : ℕ) → CountedIn (counts reads writes (O.faults out.old) source) (counts reads writes (O.faults out.new) source) result }
+{
+    let Ok(text) = space_line(alloc, &space) else {
+        return Err(Status::NoMemory);
+    };
+    match write_all(out, text.as_bytes()) {
+        Ok(()) => Ok(()),
+        Err(Failed) => Err(Status::OutputFault),
     }
 }

@@ -12,6 +12,8 @@ pub struct Asked<'a> {
     pub new: bool,
     /// Do not save.
     pub no_save: bool,
+    /// Show what the records take, once the script was answered.
+    pub space: bool,
     pub name: &'a str,
 }
 
@@ -20,6 +22,7 @@ pub struct Asked<'a> {
 pub struct Asking<'a> {
     new: bool,
     no_save: bool,
+    space: bool,
     only_files: bool,
     name: Option<&'a str>,
 }
@@ -74,6 +77,15 @@ fn with_flag<'a>(asking: Asking<'a>, word: &str) -> Option<Asking<'a>>
             ..asking
         });
     }
+    if word == "--space" {
+        if asking.space {
+            return None;
+        }
+        return Some(Asking {
+            space: true,
+            ..asking
+        });
+    }
     None
 }
 
@@ -97,6 +109,7 @@ pub fn read_words(words: &[String]) -> Option<Asked<'_>>
     let mut asking = Asking {
         new: false,
         no_save: false,
+        space: false,
         only_files: false,
         name: None,
     };
@@ -110,6 +123,7 @@ pub fn read_words(words: &[String]) -> Option<Asked<'_>>
         Some(name) => Some(Asked {
             new: asking.new,
             no_save: asking.no_save,
+            space: asking.space,
             name,
         }),
         None => None,

@@ -11,13 +11,13 @@ finish-requires-clause-no_write g c = no_write _ _ _ _ _ _ c.run_area-ran.result
 
 pub returns-clause-ends : goal.returns-clause-ends
 returns-clause-ends g c =
-    attached_all c.args.new c.args.no_save (file_of (g.S.Store.disk c.args.store)) _ (g.S.Store.disk c.args.store) _ (g.S.Store.disk c.finish.result.store) (g.I.Source.left c.args.script.now) (g.I.Source.left c.run_area-ran.new.script) (g.O.Sink.written c.args.out.now) (g.O.Sink.written c.run_area-ran.new.out)
+    attached_all c.args.asked.now.new c.args.asked.now.no_save c.args.asked.now.space (file_of (g.S.Store.disk c.args.store)) _ (g.S.Store.disk c.args.store) _ (g.S.Store.disk c.finish.result.store) (g.I.Source.left c.args.script.now) (g.I.Source.left c.run_area-ran.new.script) (g.O.Sink.written c.args.out.now) (g.O.Sink.written c.run_area-ran.new.out)
     _ c.run_area-ran.result.outcome c.finish.result.status c.area_over-area.ensures.image c.run_area-ran.ensures.ends c.run_area-ran.ensures.good
     (ap (λ (f : Frame (Disk g.S.Store.Under × ℕ)). f.under.0) (c.run_area-ran.ensures.frame ∙ c.area_over-area.ensures.frame)) c.finish.ensures.ends
 
 pub returns-clause-counted : goal.returns-clause-counted
 returns-clause-counted g c =
-    counted_attached c.args.no_save _ _ _ c.run_area-ran.result.outcome c.finish.result.status (g.S.Store.read_faults c.args.store) (g.S.Store.write_faults c.args.store) (g.O.Sink.faults c.args.out.now) (g.I.Source.faults c.args.script.now)
+    counted_attached c.args.asked.now.no_save _ _ _ c.run_area-ran.result.outcome c.finish.result.status (g.S.Store.read_faults c.args.store) (g.S.Store.write_faults c.args.store) (g.O.Sink.faults c.args.out.now) (g.I.Source.faults c.args.script.now)
     (g.S.Store.read_faults c.finish.result.store) (g.S.Store.write_faults c.finish.result.store) (g.O.Sink.faults c.run_area-ran.new.out) (g.I.Source.faults c.run_area-ran.new.script) _ _ _
     c.area_over-area.ensures.faults c.finish.ensures.reads (ap (λ (f : Frame (Disk g.S.Store.Under × ℕ)). f.under.1) (c.run_area-ran.ensures.frame ∙ c.area_over-area.ensures.frame))
     c.finish.ensures.ends c.run_area-ran.ensures.counted c.finish.ensures.writes

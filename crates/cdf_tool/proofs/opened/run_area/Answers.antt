@@ -15,6 +15,6 @@ returns-in-Ok-clause-reads g c = λ old.
       frame = opened.frame;
       faults = opened.counted;
     } in
-    on_ok_reads c.run_script-outcome.result (g.I.Source.left c.args.script.now) _ _
+    on_ok_reads c.run_measured-outcome.result (g.I.Source.left c.args.script.now) _ _
     (λ more. stays_on g.A.Area.image g.A.Area.frame g.A.Area.faults g.A.Area.edited c.args.area c.in-Ok.session c.into_area-area.result first (subst (λ a. Stays g.A.Area.image g.A.Area.frame g.A.Area.faults g.A.Area.edited c.in-Ok.session a) (sym c.into_area-area.ensures.area) more))
-    c.run_script-outcome.ensures.reads
+    c.run_measured-outcome.ensures.reads
