@@ -154,6 +154,7 @@ impl<A: Area> Session<A> {
             Command::List => self.list(),
             Command::Attr { name, scope } => self.attr(name.as_slice(), *scope),
             Command::RenameAttr { from, to } => self.rename_attr(from.as_slice(), to.as_slice()),
+            Command::DelAttr { name } => self.del_attr(name.as_slice()),
             _ => Ok(Outcome::Refused {
                 reason: Reason::BadLine {
                     fault: LineError::UnknownWord { at: 0 },
@@ -207,6 +208,17 @@ impl<A: Area> Session<A> {
     {
         self.area.mark();
         let done = self.attrs.rename(&mut self.area, from, to);
+        settle(&mut self.area, done)
+    }
+
+    /// The command `del-attr`.
+    fn del_attr(&mut self, name: &[u8]) -> Result<Outcome, AreaError>
+        ensures answers { IfOk result (λ o. Answers (A.frame self.old).limit (A.image self.old) (Command.DelAttr name.now) o (A.image self.new)) }
+        ensures stays { OnErr result (A.image self.new ≡ A.image self.old) }
+        ensures area { Edits A.frame A.faults self.old self.new result }
+    {
+        self.area.mark();
+        let done = self.attrs.remove(&mut self.area, name);
         settle(&mut self.area, done)
     }
 
