@@ -20,6 +20,7 @@ pub mod OwnedOnce
 pub mod OwnersKept
 pub mod RecordFrame
 pub mod RemovedAttribute
+pub mod RemovedKeeps
 pub mod RemovedLives
 pub mod Renumbered
 pub mod Splice

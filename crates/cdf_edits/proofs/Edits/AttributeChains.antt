@@ -2,15 +2,14 @@
 use Rattle.std.proofs.Common.{◌≡◌, ℕ, List, [], ◌∷◌, ◌++◌, length, true, refl, sym, ap, subst, ◌∙◌, inl, inr}
 use Rattle.std.specs.List.{flat_map}
 use Rattle.std.specs.Prelude.{nat_le}
-use Rattle.cdf_format.specs.AttributeRules.{same_name, entry_rows, same_number, entries_rows}
+use Rattle.cdf_format.specs.AttributeRules.{same_name, entries_rows}
 use Rattle.cdf_format.specs.ChainRules.{differ_rows}
 use Rattle.cdf_format.specs.Chains.{is_a}
 use Rattle.cdf_format.specs.Fields.{number, size_at}
-use Rattle.cdf_format.specs.Records.{adr_name, adr_agr_edr_head, adr_az_edr_head, adr_ngr_entries, adr_nz_entries}
+use Rattle.cdf_format.specs.Records.{adr_name, adr_ngr_entries, adr_nz_entries}
 use Rattle.cdf_format.specs.RecordTypes.{adr_type}
 use Rattle.cdf_format.specs.Rules.{Hold}
-use Rattle.cdf_format.specs.Shape.{AttributeShape, Shape, HasShape, adrs, shape}
-use Rattle.cdf_format.specs.Sound.{IsSound}
+use Rattle.cdf_format.specs.Shape.{AttributeShape, Shape, adrs, shape}
 use Rattle.cdf_format.specs.Tiles.{In, tiles}
 use Rattle.cdf_format.specs.WellFormed.{Good}
 use Rattle.cdf_format.proofs.GoodByShape.{attribute_shape_rows}
@@ -18,9 +17,8 @@ use Rattle.cdf_format.proofs.GoodSound.{good_by_its_shape, good_is_sound}
 use Rattle.cdf_format.proofs.RowLemmas.{Hold-split, flat_map-append}
 use Rattle.cdf_format.proofs.ShapeLemmas.{tiles_are}
 use Rattle.cdf_format.proofs.Tests.{both, eq_of}
-use Rattle.cdf_edits.specs.Space.Chains.{HolderStands, HasChain, counted_in, members_of}
+use Rattle.cdf_edits.specs.Space.Chains.{HasChain, counted_in, members_of}
 use Rattle.cdf_edits.specs.declared.chain.Chain.TheVariants.{GrEntries, ZEntries}
-use Rattle.cdf_edits.proofs.Edits.AttributeFrame.{AreThere}
 use Rattle.cdf_edits.proofs.Edits.ChainsOfShape.{IsOf, members_are, has_chain}
 use Rattle.cdf_edits.proofs.Edits.RemovedLives.{adrs_in}
 use Rattle.cdf_edits.proofs.Edits.Splice.{parts_there}

@@ -1,31 +1,29 @@
 -- An image from which an attribute was deleted: good, with the content without it.
-use Rattle.std.proofs.Common.{◌≡◌, ◌≢◌, ℕ, suc, ◌+◌, ◌≤◌, List, [], ◌∷◌, ◌++◌, length, map, true, refl, sym, ap, subst, ◌∙◌, append-nil, arith, inl, inr}
+use Rattle.std.proofs.Common.{◌≡◌, ◌≢◌, ℕ, suc, ◌+◌, ◌≤◌, List, [], ◌∷◌, ◌++◌, length, true, refl, sym, ap, subst, ◌∙◌, arith, inl, inr}
 use Rattle.std.proofs.lemmas.Bool.{le-leb}
 use Rattle.std.proofs.lemmas.List.{length-append, length-map}
 use Rattle.std.specs.List.{flat_map, remove}
-use Rattle.cdf_model.specs.DataSet.{DataSet}
 use Rattle.cdf_model.specs.Limits.{image_limit}
 use Rattle.cdf_format.specs.Bytes.{Same}
 use Rattle.cdf_format.specs.Chains.{is_in, IsChain}
 use Rattle.cdf_format.specs.Content.{content}
-use Rattle.cdf_format.specs.Fields.{number, size_at, type_at, eof}
+use Rattle.cdf_format.specs.Fields.{number, size_at, type_at}
 use Rattle.cdf_format.specs.Owners.{attribute_records}
-use Rattle.cdf_format.specs.Records.{Field, gdr_eof, gdr_adr_head, gdr_uir_head, gdr_num_attr, adr_num, aedr_attr_num}
+use Rattle.cdf_format.specs.Records.{gdr_eof, gdr_adr_head, gdr_uir_head, gdr_num_attr, adr_num, aedr_attr_num}
 use Rattle.cdf_format.specs.RecordTypes.{gdr_type, adr_type, agr_edr_type, az_edr_type, uir_type}
-use Rattle.cdf_format.specs.Shape.{AttributeShape, Shape, adrs, HasShape, shape}
+use Rattle.cdf_format.specs.Shape.{AttributeShape, Shape, adrs, shape}
 use Rattle.cdf_format.specs.Sound.{IsSound}
-use Rattle.cdf_format.specs.Tiles.{In, AreTiles, Distinct}
+use Rattle.cdf_format.specs.Tiles.{In, AreTiles}
 use Rattle.cdf_format.specs.WellFormed.{Good}
 use Rattle.cdf_format.proofs.ChainsLemmas.{linkable-in, linkable-type, linkable-long}
 use Rattle.cdf_format.proofs.GoodSound.{good_by_its_shape, good_is_sound, rules_of_good}
 use Rattle.cdf_format.proofs.Members.{In-append, In-append_left, In-append_right, Distinct-push}
 use Rattle.cdf_format.proofs.SealedRules.{good_long, sealed_kept}
-use Rattle.cdf_format.proofs.TilesLemmas.{tile_lies}
 use Rattle.cdf_edits.specs.Commands.Allowances.{FreedStay, no_fields}
 use Rattle.cdf_edits.specs.Edits.Edit.{Edit}
-use Rattle.cdf_edits.specs.Edits.ManyMarks.{deleting_marks, freeing_marks}
-use Rattle.cdf_edits.specs.Edits.Marks.{Mark, Avoids, attribute_types}
-use Rattle.cdf_edits.specs.Edits.Unlinks.{Unlinks, Deletes}
+use Rattle.cdf_edits.specs.Edits.ManyMarks.{freeing_marks}
+use Rattle.cdf_edits.specs.Edits.Marks.{Avoids, attribute_types}
+use Rattle.cdf_edits.specs.Edits.Unlinks.{Deletes}
 use Rattle.cdf_edits.specs.Space.Acts.{gave, links_end, ActsFollow}
 use Rattle.cdf_edits.specs.Space.Freeing.{AreFree}
 use Rattle.cdf_edits.specs.Space.Placement.{with_space}

@@ -1,5 +1,5 @@
 -- The deletion of an attribute follows: what it keeps of each record, and what it does.
-use Rattle.std.proofs.Common.{◌≡◌, ◌⊎◌, ℕ, zero, suc, ◌+◌, ◌≤◌, List, [], ◌∷◌, ◌++◌, length, map, Bool, true, false, Option, Some, None, eqb, eq-eqb, refl, sym, ap, subst, ◌∙◌, arith, inl, inr}
+use Rattle.std.proofs.Common.{◌≡◌, ℕ, zero, suc, ◌+◌, ◌≤◌, List, [], ◌∷◌, ◌++◌, length, map, Bool, true, false, Option, Some, None, eq-eqb, refl, sym, ap, subst, ◌∙◌, arith, inl, inr}
 use Rattle.std.proofs.lemmas.Bool.{eqb-true}
 use Rattle.std.specs.List.{flat_map, remove, slice_get, sum}
 use Rattle.std.specs.Option.{unwrap_or}
@@ -15,9 +15,9 @@ use Rattle.cdf_model.specs.Names.{attribute_named, attribute_names}
 use Rattle.cdf_model.specs.Step.{ByStep}
 use Rattle.cdf_format.specs.Chains.{next_field}
 use Rattle.cdf_format.specs.Content.{content}
-use Rattle.cdf_format.specs.Fields.{size_at, type_at}
-use Rattle.cdf_format.specs.Owners.{File, OneAttribute, Unused, owned_by, owned_by_attributes, attribute_records, unused_records, owned}
-use Rattle.cdf_format.specs.Records.{Field, adr_num, aedr_attr_num}
+use Rattle.cdf_format.specs.Fields.{type_at}
+use Rattle.cdf_format.specs.Owners.{OneAttribute, owned_by, owned_by_attributes, attribute_records, owned}
+use Rattle.cdf_format.specs.Records.{adr_num, aedr_attr_num}
 use Rattle.cdf_format.specs.RecordTypes.{cdr_type, gdr_type, adr_type}
 use Rattle.cdf_format.specs.Shape.{AttributeShape, Shape, adrs, shape}
 use Rattle.cdf_format.specs.Tiles.{In}
@@ -34,15 +34,15 @@ use Rattle.cdf_edits.specs.Answers.{Answers}
 use Rattle.cdf_edits.proofs.Commands.Answered.{refused, gone}
 use Rattle.cdf_edits.proofs.Commands.KeptRecords.{AllKeep-append}
 use Rattle.cdf_edits.proofs.Edits.AttributeFrame.{AreThere, more_there}
-use Rattle.cdf_edits.proofs.Edits.DeletedAttribute.{sound, places, mine, left, removes, records_are, shape_after, long_now, content_after, good_after, acts_after, freed_after}
+use Rattle.cdf_edits.proofs.Edits.DeletedAttribute.{sound, places, mine, removes, records_are, shape_after, long_now, content_after, good_after, acts_after, freed_after}
 use Rattle.cdf_edits.proofs.Edits.OwnedOnce.{only_owns}
 use Rattle.cdf_edits.proofs.Edits.OwnersKept.{InList, stood, keeps_fields, keeps_within, keep_unused, keep_places, keep_file, keep_each, keep_parts, all_keep}
 use Rattle.cdf_edits.proofs.Edits.RemovedAttribute.{removed-at}
-use Rattle.cdf_edits.proofs.Edits.RemovedLives.{adr_avoids, adr_within, EntryWithin, entry_within, unused_away, unused_listed}
+use Rattle.cdf_edits.proofs.Edits.RemovedKeeps.{adr_within, entry_within, unused_away, unused_listed}
+use Rattle.cdf_edits.proofs.Edits.RemovedLives.{adr_avoids}
 use Rattle.cdf_edits.proofs.Edits.Splice.{parts_there}
 use Rattle.cdf_edits.proofs.Edits.StepEdits.{gdr_in, gdr_typed}
 use Rattle.cdf_edits.proofs.Edits.VariableFrame.{variables_in, all_variables_kept}
-use Rattle.cdf_format.specs.Shape.{Each, HasEntries}
 use Rattle.cdf_format.proofs.Members.{In-append_left, In-append_right}
 
 -- ---- the step

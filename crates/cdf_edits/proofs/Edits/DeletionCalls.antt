@@ -1,5 +1,5 @@
 -- What the calls of a deletion come to, by the places of the attributes and the number of one.
-use Rattle.std.proofs.Common.{◌≡◌, ℕ, zero, suc, ◌+◌, ◌-◌, ◌^◌, ◌<◌, ◌≤◌, List, [], ◌∷◌, ◌++◌, length, map, take, drop, true, Some, None, get_or, refl, sym, ap, ap₂, subst, ◌∙◌, append_assoc, arith, inl, inr}
+use Rattle.std.proofs.Common.{◌≡◌, ℕ, zero, suc, ◌+◌, ◌-◌, ◌^◌, ◌<◌, ◌≤◌, List, [], ◌∷◌, ◌++◌, length, map, take, drop, true, None, get_or, refl, sym, ap, ap₂, subst, ◌∙◌, append_assoc, arith, inl, inr}
 use Rattle.std.proofs.lemmas.List.{length-append, length-map, map-append, take_at}
 use Rattle.std.specs.List.{last_or}
 use Rattle.cdf_model.specs.Limits.{image_limit}
@@ -23,7 +23,7 @@ use Rattle.cdf_edits.specs.Edits.Writes.{Write, write, with_writes, numbers_from
 use Rattle.cdf_edits.specs.Space.Chains.{holder_of, counted_in, members_of, before, HasChain, Removed}
 use Rattle.cdf_edits.specs.Space.Freeing.{AllGiven, AreFree}
 use Rattle.cdf_edits.specs.declared.chain.Chain.TheVariants.{Attrs, GrEntries, ZEntries}
-use Rattle.cdf_edits.proofs.Edits.AttributeChains.{EntryChains, entry_chains}
+use Rattle.cdf_edits.proofs.Edits.AttributeChains.{entry_chains}
 use Rattle.cdf_edits.proofs.Edits.ChainsOfShape.{IsOf, has_chain}
 use Rattle.cdf_edits.proofs.Edits.RemovedLives.{adrs_in}
 use Rattle.cdf_edits.proofs.Edits.UnlinkingSteps.{is_there, stands_behind, first_counted, first_room, first_cdr, second_is, numbers_lie, unlinks_by, unlinks_sound, unlinks_free}

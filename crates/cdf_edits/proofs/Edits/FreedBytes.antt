@@ -1,5 +1,5 @@
 -- What is freed keeps its bytes behind the links of an unused record.
-use Rattle.std.proofs.Common.{◌≡◌, ◌≢◌, ◌⊎◌, ℕ, ◌+◌, ◌<◌, ◌≤◌, List, [], ◌∷◌, ◌++◌, length, Bool, true, false, eq-eqb, refl, sym, ap, subst, ◌∙◌, arith, inl, inr}
+use Rattle.std.proofs.Common.{◌≡◌, ◌≢◌, ℕ, ◌+◌, ◌≤◌, List, [], ◌∷◌, length, eq-eqb, refl, sym, ap, subst, ◌∙◌, arith, inl, inr}
 use Rattle.std.proofs.lemmas.Bool.{cases_eq, eqb-true, leb-true, le-leb}
 use Rattle.std.specs.Prelude.{◌==◌, nat_le}
 use Rattle.cdf_format.specs.Records.{Field}
@@ -15,13 +15,13 @@ use Rattle.cdf_format.specs.Content.{content}
 use Rattle.cdf_format.specs.Fields.{size_at, type_at}
 use Rattle.cdf_format.specs.Owners.{times, owned_records, unused_records}
 use Rattle.cdf_format.specs.RecordTypes.{uir_type}
-use Rattle.cdf_format.specs.Shape.{Shape, Each, shape}
+use Rattle.cdf_format.specs.Shape.{Shape, shape}
 use Rattle.cdf_format.specs.Sound.{IsSound}
 use Rattle.cdf_format.specs.Tiles.{In, AreTiles}
 use Rattle.cdf_format.proofs.ChainsLemmas.{is_a-type, linkable-long}
 use Rattle.cdf_format.proofs.Members.{either}
 use Rattle.cdf_format.proofs.Owning.{times-none, filter-in}
-use Rattle.cdf_format.proofs.TilesLemmas.{tile_lies, tiles_lie_apart}
+use Rattle.cdf_format.proofs.TilesLemmas.{tiles_lie_apart}
 use Rattle.cdf_edits.proofs.Edits.Composing.{head_type, part}
 use Rattle.cdf_edits.proofs.Edits.FreedRecords.{one_given, others_still, sizes_stay}
 use Rattle.cdf_edits.proofs.Edits.StepEdits.{all_marked}

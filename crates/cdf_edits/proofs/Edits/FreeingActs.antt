@@ -1,14 +1,13 @@
 -- What records that are freed one after the other leave of the space of an image.
-use Rattle.std.proofs.Common.{◌≡◌, ◌≢◌, ◌⊎◌, ℕ, ◌+◌, ◌<◌, ◌≤◌, List, [], ◌∷◌, ◌++◌, length, map, Bool, true, false, not, eq-eqb, refl, sym, ap, ap₂, subst, ◌∙◌, arith, inl, inr}
+use Rattle.std.proofs.Common.{◌≡◌, ◌≢◌, ℕ, List, [], ◌∷◌, length, map, Bool, true, false, eq-eqb, refl, sym, ap, ap₂, subst, ◌∙◌, inl, inr}
 use Rattle.std.proofs.lemmas.Bool.{cases_eq, eqb-true}
 use Rattle.std.specs.Prelude.{◌==◌, nat_le, if◌then◌else◌}
 use Rattle.std.specs.List.{fold}
 use Rattle.cdf_edits.specs.Edits.Marks.{Avoids, giving_marks}
-use Rattle.cdf_edits.specs.Space.Acts.{Act, Took, Gave, gave, SpaceLeft, Among, sized, used_records, loose_records, back_of, space_before, HasLeft, back_after, with_listed, without, after_act, Happens, AreActs, none_twice, RestStays, ActsFollow}
+use Rattle.cdf_edits.specs.Space.Acts.{Act, Took, Gave, gave, SpaceLeft, Among, sized, used_records, loose_records, space_before, HasLeft, back_after, without, after_act, Happens, AreActs, RestStays, ActsFollow}
 use Rattle.cdf_edits.specs.Space.Freeing.{AllGiven}
 use Rattle.cdf_edits.specs.Space.Giving.{IsGiven}
 use Rattle.cdf_edits.specs.Space.Placement.{unused, given_to, place_for, taken_from, eof_after}
-use Rattle.cdf_format.specs.Chains.{is_in, is_a}
 use Rattle.cdf_format.specs.Fields.{size_at, type_at}
 use Rattle.cdf_format.specs.RecordTypes.{uir_type}
 use Rattle.cdf_format.specs.Shape.{Shape, Each, shape}

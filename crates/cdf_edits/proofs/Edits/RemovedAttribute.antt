@@ -1,7 +1,7 @@
 -- An image from which one attribute went has its shape, its content and its rules.
-use Rattle.std.proofs.Common.{◌≡◌, ◌≢◌, ◌⊎◌, ℕ, suc, ◌+◌, ◌<◌, ◌≤◌, List, [], ◌∷◌, ◌++◌, length, map, Bool, true, false, ◌||◌, eqb, eq-eqb, refl, sym, ap, subst, ◌∙◌, append-nil, append_assoc, arith, inl, inr}
-use Rattle.std.proofs.lemmas.List.{length-append, length-map, map-append}
-use Rattle.std.specs.List.{filter, flat_map, remove}
+use Rattle.std.proofs.Common.{◌≡◌, ℕ, suc, ◌+◌, ◌≤◌, List, [], ◌∷◌, ◌++◌, length, map, true, eq-eqb, refl, sym, ap, subst, ◌∙◌, append-nil, append_assoc, arith, inl, inr}
+use Rattle.std.proofs.lemmas.List.{length-map, map-append}
+use Rattle.std.specs.List.{flat_map, remove}
 use Rattle.std.specs.Prelude.{◌==◌}
 use Rattle.cdf_model.specs.DataSet.{Attribute, DataSet}
 use Rattle.cdf_model.specs.Limits.{image_limit}
@@ -14,33 +14,31 @@ use Rattle.cdf_format.proofs.GoodByShape.{IsGoodByShape, attribute_shape_rows}
 use Rattle.cdf_format.specs.NotRead.{read_types}
 use Rattle.cdf_format.specs.Owners.{OwnedOnce, attribute_records, times, owned_records, unused_records}
 use Rattle.cdf_format.specs.Phases.{first_phases}
-use Rattle.cdf_format.specs.Records.{Field, gdr_adr_head, gdr_uir_head, gdr_num_attr, adr_name, adr_num}
+use Rattle.cdf_format.specs.Records.{gdr_adr_head, gdr_uir_head, gdr_num_attr, adr_name, adr_num}
 use Rattle.cdf_format.specs.RecordTypes.{adr_type, uir_type, is_record_type, fixed_size}
-use Rattle.cdf_format.specs.Rules.{row, Hold, AllHold}
+use Rattle.cdf_format.specs.Rules.{Hold, AllHold}
 use Rattle.cdf_format.specs.Sealed.{sealed}
 use Rattle.cdf_format.specs.Shape.{AttributeShape, Shape, adrs, vdrs, Each, HasEntries, HasShape}
-use Rattle.cdf_format.specs.Sound.{AttributeFits, IsSound}
+use Rattle.cdf_format.specs.Sound.{IsSound}
 use Rattle.cdf_format.specs.Tiles.{In}
 use Rattle.cdf_format.specs.WellFormed.{Good}
-use Rattle.cdf_format.proofs.ChainsLemmas.{linkable-in}
 use Rattle.cdf_format.proofs.Members.{In-append, In-append_left, In-append_right}
-use Rattle.cdf_format.proofs.NameRules.{stands_in, AreNew, absent-split, absent-append, names_at, names_differ, differ_by_names}
+use Rattle.cdf_format.proofs.NameRules.{AreNew, absent-split, absent-append, names_at, names_differ, differ_by_names}
 use Rattle.cdf_format.proofs.Owning.{times-none}
-use Rattle.cdf_format.proofs.RowLemmas.{Hold-append, Hold-split, flat_map-append}
-use Rattle.cdf_format.proofs.ShapeLemmas.{content_is, shape_is}
+use Rattle.cdf_format.proofs.RowLemmas.{Hold-split, flat_map-append}
+use Rattle.cdf_format.proofs.ShapeLemmas.{content_is}
 use Rattle.cdf_format.proofs.TilesLemmas.{tile_lies}
-use Rattle.cdf_edits.specs.Edits.Edit.{Edit}
 use Rattle.cdf_edits.specs.Edits.ManyMarks.{deleting_marks}
 use Rattle.cdf_edits.specs.Edits.Marks.{Mark}
 use Rattle.cdf_edits.proofs.Edits.AttributeFrame.{AreThere, names_stay, nums_stay}
 use Rattle.cdf_edits.specs.Frame.Leaves.{AttributeStays}
-use Rattle.cdf_edits.proofs.Edits.OwnedOnce.{used_times, IsSorted, all_attributes_in, flat-append, owned_once_if, spliced_times}
-use Rattle.cdf_edits.proofs.Edits.RecordFrame.{AttributeLives, file_same, gdr_place}
+use Rattle.cdf_edits.proofs.Edits.OwnedOnce.{used_times, all_attributes_in, flat-append, owned_once_if, spliced_times}
+use Rattle.cdf_edits.proofs.Edits.RecordFrame.{file_same, gdr_place}
 use Rattle.cdf_edits.proofs.Edits.RemovedLives.{entries_in, adrs_in, AreNumbered, Removes, before_lives, after_numbered}
 use Rattle.cdf_edits.proofs.Edits.Renumbered.{AttributeNumbered, all_numbered_stay, all_numbered_fit, all_numbered_rules, numbered_names}
 use Rattle.cdf_edits.proofs.Edits.Splice.{spliced, Splices, OwnRules, parts_there, shape_now, content_now, sound_if, good_image_if}
 use Rattle.cdf_edits.proofs.Frame.Meaning.{FileSame}
-use Rattle.cdf_edits.proofs.Frame.OwnersApart.{times-append, times-in, owned-times, file_records, all_attribute_records, all_variable_records}
+use Rattle.cdf_edits.proofs.Frame.OwnersApart.{times-in, owned-times, file_records, all_attribute_records, all_variable_records}
 
 -- ---- lists of which one member goes
 

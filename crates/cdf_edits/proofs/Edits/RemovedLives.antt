@@ -1,13 +1,11 @@
 -- Where one attribute goes, those before it stay, and those behind it stay but for their number.
-use Rattle.std.proofs.Common.{◌≡◌, ◌⊎◌, ℕ, suc, ◌+◌, ◌≤◌, List, [], ◌∷◌, ◌++◌, length, map, false, refl, sym, ap, subst, ◌∙◌, arith, inl, inr}
+use Rattle.std.proofs.Common.{◌≡◌, ◌⊎◌, ℕ, suc, ◌+◌, ◌≤◌, List, [], ◌∷◌, ◌++◌, length, map, refl, sym, ap, subst, ◌∙◌, arith, inl, inr}
 use Rattle.std.specs.List.{flat_map}
-use Rattle.std.specs.Prelude.{◌==◌}
-use Rattle.cdf_format.specs.Chains.{next_field}
 use Rattle.cdf_format.specs.Fields.{number, size_at, type_at}
 use Rattle.cdf_format.specs.Owners.{attribute_records, times, owned_records, unused_records}
-use Rattle.cdf_format.specs.Records.{adr_num, aedr_attr_num, uir_next_uir, uir_prev_uir}
-use Rattle.cdf_format.specs.RecordTypes.{adr_type, agr_edr_type, az_edr_type, uir_type}
-use Rattle.cdf_format.specs.Shape.{AttributeShape, Shape, Each, HasEntries}
+use Rattle.cdf_format.specs.Records.{adr_num, aedr_attr_num}
+use Rattle.cdf_format.specs.RecordTypes.{adr_type, agr_edr_type, az_edr_type}
+use Rattle.cdf_format.specs.Shape.{AttributeShape, Shape, Each}
 use Rattle.cdf_format.specs.Sound.{IsSound}
 use Rattle.cdf_format.specs.Tiles.{In}
 use Rattle.cdf_format.proofs.ChainsLemmas.{linkable-in, linkable-type, linkable-long}
@@ -15,9 +13,8 @@ use Rattle.cdf_format.proofs.Members.{In-append, In-append_left, In-append_right
 use Rattle.cdf_format.proofs.TilesLemmas.{tile_lies}
 use Rattle.cdf_edits.specs.Edits.Edit.{Edit}
 use Rattle.cdf_edits.specs.Edits.ManyMarks.{deleting_marks}
-use Rattle.cdf_edits.specs.Edits.Marks.{Mark, Avoids, Away, Within}
+use Rattle.cdf_edits.specs.Edits.Marks.{Mark, Avoids}
 use Rattle.cdf_edits.proofs.Edits.AttributeFrame.{AreThere, more_there}
-use Rattle.cdf_edits.proofs.Edits.MarkLemmas.{avoided-avoids, within-within}
 use Rattle.cdf_edits.proofs.Edits.OwnedOnce.{flat-append, only_owns}
 use Rattle.cdf_edits.proofs.Edits.RecordFrame.{AttributeLives, kept_but_link}
 use Rattle.cdf_edits.proofs.Edits.Renumbered.{AttributeNumbered, EntryNumbered}
@@ -268,171 +265,3 @@ module _ {b now : List ℕ} {s : Shape} {before : List AttributeShape} {own : At
 
   pub after_numbered : (n : ℕ) → AreNumbered now n after → Each (AttributeNumbered b now) after
   after_numbered n says = numbered_behind n after there.1.1 says (λ m i j. (only_owns b s sound before own after r.was m (r.mine m j)).in_after i)
-
-  -- ---- what may be kept of it: the marks in a record beside, by its type
-
-  pub adr_within : (m : ℕ) → (In m places → ⊥) → Within marks adr_type m (next_field ∷ adr_num ∷ [])
-  adr_within m out = (
-    (λ same lies. absurd cc),
-    (
-      (λ same lies. refl),
-      (
-        (λ same lies. absurd cc),
-        (
-          (λ same lies. refl),
-          (
-            (λ same lies. absurd cc),
-            (
-              (λ same lies. absurd cc),
-              (
-                (λ same lies. absurd cc),
-                (
-                  (λ same lies. absurd cc),
-                  (
-                    (λ same lies. absurd (out lies)),
-                    (
-                      (λ same lies. absurd cc),
-                      ((λ same lies. absurd cc), tt),
-                    ),
-                  ),
-                ),
-              ),
-            ),
-          ),
-        ),
-      ),
-    ),
-  )
-
-  gr_within : (m : ℕ) → (In m places → ⊥) → Within marks agr_edr_type m (aedr_attr_num ∷ [])
-  gr_within m out = (
-    (λ same lies. absurd cc),
-    (
-      (λ same lies. absurd cc),
-      (
-        (λ same lies. absurd cc),
-        (
-          (λ same lies. absurd cc),
-          (
-            (λ same lies. refl),
-            (
-              (λ same lies. absurd cc),
-              (
-                (λ same lies. absurd cc),
-                (
-                  (λ same lies. absurd cc),
-                  (
-                    (λ same lies. absurd cc),
-                    (
-                      (λ same lies. absurd (out lies)),
-                      ((λ same lies. absurd cc), tt),
-                    ),
-                  ),
-                ),
-              ),
-            ),
-          ),
-        ),
-      ),
-    ),
-  )
-
-  z_within : (m : ℕ) → (In m places → ⊥) → Within marks az_edr_type m (aedr_attr_num ∷ [])
-  z_within m out = (
-    (λ same lies. absurd cc),
-    (
-      (λ same lies. absurd cc),
-      (
-        (λ same lies. absurd cc),
-        (
-          (λ same lies. absurd cc),
-          (
-            (λ same lies. absurd cc),
-            (
-              (λ same lies. refl),
-              (
-                (λ same lies. absurd cc),
-                (
-                  (λ same lies. absurd cc),
-                  (
-                    (λ same lies. absurd cc),
-                    (
-                      (λ same lies. absurd cc),
-                      ((λ same lies. absurd (out lies)), tt),
-                    ),
-                  ),
-                ),
-              ),
-            ),
-          ),
-        ),
-      ),
-    ),
-  )
-
-  -- an entry, whose type is not that of an ADR
-  pub record EntryWithin (m : ℕ) : Type 0 where
-    pub inside : In m s.records
-    pub other : (type_at b m == adr_type) ≡ false
-    pub heads : Avoids marks (type_at b m) m 0 12
-    pub marked : Within marks (type_at b m) m (aedr_attr_num ∷ [])
-
-  pub entry_within : (a : AttributeShape) → HasEntries b s.records a → (m : ℕ) → In m (a.gr_entries ++ a.z_entries) → (In m places → ⊥) → EntryWithin m
-  entry_within a has m i out = elim (In-append m a.gr_entries a.z_entries i) [
-    | inl j ↦
-        let ok = has.gr_chain.linkable m j in
-        let is = linkable-type b s.records agr_edr_type m ok in
-        record {
-          inside = linkable-in b s.records agr_edr_type m ok;
-          other = ap (λ (t : ℕ). t == adr_type) is;
-          heads = subst (λ (t : ℕ). Avoids marks t m 0 12) (sym is) (gr_avoids m 0 12 out (λ x. inl (omega arith)));
-          marked = subst (λ (t : ℕ). Within marks t m (aedr_attr_num ∷ [])) (sym is) (gr_within m out);
-        }
-    | inr j ↦
-        let ok = has.z_chain.linkable m j in
-        let is = linkable-type b s.records az_edr_type m ok in
-        record {
-          inside = linkable-in b s.records az_edr_type m ok;
-          other = ap (λ (t : ℕ). t == adr_type) is;
-          heads = subst (λ (t : ℕ). Avoids marks t m 0 12) (sym is) (z_avoids m 0 12 out (λ x. inl (omega arith)));
-          marked = subst (λ (t : ℕ). Within marks t m (aedr_attr_num ∷ [])) (sym is) (z_within m out);
-        }
-  ]
-
-  -- an unused record that is on no list
-  pub unused_away : (m : ℕ) → (In m s.unused → ⊥) → Away marks uir_type m
-  unused_away m out = (
-    (λ same lies. absurd cc),
-    (
-      (λ same lies. absurd cc),
-      (
-        (λ same lies. absurd cc),
-        (
-          (λ same lies. absurd cc),
-          (
-            (λ same lies. absurd cc),
-            (
-              (λ same lies. absurd cc),
-              (
-                (λ same lies. absurd cc),
-                (
-                  (λ same lies. absurd (out lies)),
-                  (
-                    (λ same lies. absurd cc),
-                    (
-                      (λ same lies. absurd cc),
-                      ((λ same lies. absurd cc), tt),
-                    ),
-                  ),
-                ),
-              ),
-            ),
-          ),
-        ),
-      ),
-    ),
-  )
-
-  -- one of the list changes in its links
-  pub unused_listed : (m : ℕ) → Avoids marks uir_type m 0 12 × Within marks uir_type m (uir_next_uir ∷ uir_prev_uir ∷ [])
-  unused_listed m = (avoided-avoids marks uir_type m 0 12 refl, within-within marks uir_type m (uir_next_uir ∷ uir_prev_uir ∷ []) refl)

@@ -1,5 +1,5 @@
 -- Attributes that stay but for their number, which their entries say.
-use Rattle.std.proofs.Common.{◌≡◌, ℕ, ℤ, ◌+◌, ◌*◌, ◌≤◌, List, [], ◌∷◌, ◌++◌, length, map, Bool, true, not, is_some, ◌&&◌, eq-eqb, refl, sym, ap, subst, ◌∙◌, arith, inl, inr}
+use Rattle.std.proofs.Common.{◌≡◌, ℕ, ◌+◌, ◌*◌, ◌≤◌, List, [], ◌∷◌, ◌++◌, length, map, Bool, true, not, is_some, ◌&&◌, eq-eqb, refl, sym, ap, subst, ◌∙◌, arith, inl, inr}
 use Rattle.std.specs.Prelude.{◌==◌, nat_le}
 use Rattle.std.specs.Int.{w32, cast_signed}
 use Rattle.std.specs.List.{before_first, flat_map}
@@ -15,13 +15,13 @@ use Rattle.cdf_model.specs.Types.{size_of, type_of}
 use Rattle.cdf_format.specs.AttributeRules.{entry_bytes, entry_rows, same_number, entries_rows, has_value}
 use Rattle.cdf_format.specs.Bytes.{Same}
 use Rattle.cdf_format.specs.ChainRules.{differ_rows}
-use Rattle.cdf_format.specs.Chains.{next_field, is_linkable, Leads, IsChain}
-use Rattle.cdf_format.specs.Content.{scope_of, entry_of, entries_of, attribute_of}
-use Rattle.cdf_format.specs.Fields.{number, is_positive, name_in, size_at, type_at}
+use Rattle.cdf_format.specs.Chains.{is_linkable, Leads, IsChain}
+use Rattle.cdf_format.specs.Content.{scope_of, entry_of, entries_of}
+use Rattle.cdf_format.specs.Fields.{number, is_positive, name_in, size_at}
 use Rattle.cdf_format.proofs.GoodByShape.{attribute_shape_rows}
 use Rattle.cdf_format.specs.Records.{Field, adr_agr_edr_head, adr_az_edr_head, adr_scope, adr_num, adr_name, adr_ngr_entries, adr_nz_entries, aedr_attr_num, aedr_data_type, aedr_num, aedr_num_elems, aedr_value}
 use Rattle.cdf_format.specs.RecordTypes.{adr_type, agr_edr_type, az_edr_type}
-use Rattle.cdf_format.specs.Rules.{Row, Hold}
+use Rattle.cdf_format.specs.Rules.{Hold}
 use Rattle.cdf_format.specs.Shape.{AttributeShape, Shape, Each, HasEntries}
 use Rattle.cdf_format.specs.Sound.{EntryFits, AttributeFits, IsSound}
 use Rattle.cdf_format.specs.Stored.{field_bytes, is_little, data_type_in}

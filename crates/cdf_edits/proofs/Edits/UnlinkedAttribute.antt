@@ -1,13 +1,13 @@
 -- An attribute that is taken out of the chain, counted no more, and those behind it numbered anew: the image is sound, and its records have no owner.
-use Rattle.std.proofs.Common.{◌≡◌, ◌≢◌, ◌⊎◌, ℕ, suc, ◌+◌, ◌^◌, ◌<◌, ◌≤◌, List, [], ◌∷◌, ◌++◌, length, map, Bool, true, false, eqb, eq-eqb, refl, sym, ap, subst, ◌∙◌, append-nil, arith, inl, inr}
+use Rattle.std.proofs.Common.{◌≡◌, ◌≢◌, ◌⊎◌, ℕ, suc, ◌+◌, ◌^◌, ◌<◌, ◌≤◌, List, [], ◌∷◌, ◌++◌, length, map, true, false, eq-eqb, refl, sym, ap, subst, ◌∙◌, arith, inl, inr}
 use Rattle.std.proofs.lemmas.Bool.{eqb-true}
-use Rattle.std.proofs.lemmas.List.{length-map, map-append}
+use Rattle.std.proofs.lemmas.List.{map-append}
 use Rattle.std.specs.List.{filter, flat_map}
 use Rattle.std.specs.Prelude.{◌==◌, if◌then◌else◌}
 use Rattle.cdf_format.specs.Chains.{IsChain}
 use Rattle.cdf_format.specs.Fields.{number, size_at, type_at, gdr_offset, with_field}
 use Rattle.cdf_format.specs.Owners.{attribute_records, times, owned_records, unused_records}
-use Rattle.cdf_format.specs.Records.{gdr_adr_head, gdr_uir_head, gdr_num_attr, adr_num, aedr_attr_num}
+use Rattle.cdf_format.specs.Records.{gdr_adr_head, gdr_uir_head, gdr_num_attr, aedr_attr_num}
 use Rattle.cdf_format.specs.RecordTypes.{gdr_type, adr_type, agr_edr_type, az_edr_type, uir_type}
 use Rattle.cdf_format.specs.Shape.{AttributeShape, Shape, Each, HasShape, adrs, shape}
 use Rattle.cdf_format.specs.Sound.{IsSound}
@@ -17,7 +17,7 @@ use Rattle.cdf_format.proofs.Members.{either, In-append, In-append_left, In-appe
 use Rattle.cdf_format.proofs.ShapeLemmas.{Each-split, Each-append, shape_is}
 use Rattle.cdf_edits.specs.Edits.Edit.{Edit}
 use Rattle.cdf_edits.specs.Edits.ManyMarks.{numbering_marks, unlinking_marks, deleting_marks, freeing_marks}
-use Rattle.cdf_edits.specs.Edits.Marks.{Mark, Among, attribute_types, field_marks, removing_marks}
+use Rattle.cdf_edits.specs.Edits.Marks.{Mark, attribute_types, field_marks, removing_marks}
 use Rattle.cdf_edits.specs.Edits.Unlinks.{Unlinks}
 use Rattle.cdf_edits.specs.Edits.Writes.{Write, write, with_writes, numbers_from}
 use Rattle.cdf_edits.specs.Space.Chains.{before as front_of, without}

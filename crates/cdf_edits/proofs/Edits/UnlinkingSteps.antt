@@ -1,10 +1,9 @@
 -- The calls that take an attribute out of the chain, one after the other.
-use Rattle.std.proofs.Common.{◌≡◌, ℕ, suc, ◌+◌, ◌-◌, ◌^◌, ◌<◌, ◌≤◌, List, [], ◌∷◌, ◌++◌, length, true, Some, None, refl, sym, ap, subst, ◌∙◌, arith, inl, inr}
-use Rattle.std.proofs.lemmas.List.{length-append, length-map, map-append}
+use Rattle.std.proofs.Common.{◌≡◌, ℕ, suc, ◌+◌, ◌-◌, ◌^◌, ◌<◌, ◌≤◌, List, [], ◌∷◌, ◌++◌, length, true, None, refl, sym, ap, subst, ◌∙◌, arith, inl, inr}
+use Rattle.std.proofs.lemmas.List.{length-append, map-append}
 use Rattle.std.specs.List.{last_or}
 use Rattle.cdf_format.specs.Chains.{is_in}
 use Rattle.cdf_format.specs.Fields.{number, gdr_offset, with_field, LiesIn}
-use Rattle.cdf_format.specs.Owners.{attribute_records}
 use Rattle.cdf_format.specs.Records.{gdr_num_attr}
 use Rattle.cdf_format.specs.Shape.{AttributeShape, Shape, Each, adrs, shape}
 use Rattle.cdf_format.specs.Sound.{IsSound}
@@ -18,7 +17,6 @@ use Rattle.cdf_edits.specs.declared.chain.Chain.TheVariants.{Attrs}
 use Rattle.cdf_edits.proofs.Edits.ChainsOfShape.{IsOf, members_are, is_member}
 use Rattle.cdf_edits.proofs.Edits.RecordFrame.{gdr_field, gdr_place}
 use Rattle.cdf_edits.proofs.Edits.RemovedLives.{adrs_in, entries_in}
-use Rattle.cdf_edits.proofs.Edits.StepEdits.{gdr_in}
 use Rattle.cdf_edits.proofs.Edits.UnlinkedAttribute.{counting_marks, e_first, may_first, some, unlinked_sound, unlinked_shape, own_free, own_once, front-middle}
 use Rattle.cdf_edits.proofs.Edits.WrittenFields.{MayWrite, write_lies}
 use Rattle.cdf_edits.proofs.Space.ChainHeads.{cdr_room}
