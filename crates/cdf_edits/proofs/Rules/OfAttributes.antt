@@ -72,7 +72,7 @@ numbers_same : (b now es : List ℕ) → ((m : ℕ) → In m es → Kept b now m
 numbers_same b now [] k fits = tt
 numbers_same b now (e ∷ es) k fits = (num_same b now e (k e (inl refl)) fits.0, numbers_same b now es (λ m i. k m (inr i)) fits.1)
 
-entries_rows_same : (b now : List ℕ) (adr : ℕ) (count : Field) (es : List ℕ) → number now adr adr_num ≡ number b adr adr_num → number now adr count ≡ number b adr count → ((m : ℕ) → In m es → Kept b now m) → Each (EntryFits b) es
+pub entries_rows_same : (b now : List ℕ) (adr : ℕ) (count : Field) (es : List ℕ) → number now adr adr_num ≡ number b adr adr_num → number now adr count ≡ number b adr count → ((m : ℕ) → In m es → Kept b now m) → Each (EntryFits b) es
     → entries_rows now adr count es ≡ entries_rows b adr count es
 entries_rows_same b now adr count es num total k fits =
     let each = each_same b now adr num es k fits in
