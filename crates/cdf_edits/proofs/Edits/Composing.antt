@@ -16,7 +16,7 @@ use Rattle.cdf_edits.specs.Edits.Marks.{Mark, Avoids, Marked}
 use Rattle.cdf_edits.specs.Edits.Edit.{Kind, Edit}
 use Rattle.cdf_edits.proofs.Edits.MarkLemmas.{Avoids-split, avoids-misses}
 
-same-then : (b mid now : List ℕ) (lo hi : ℕ) → Same b mid lo hi → Same mid now lo hi → Same b now lo hi
+pub same-then : (b mid now : List ℕ) (lo hi : ℕ) → Same b mid lo hi → Same mid now lo hi → Same b now lo hi
 same-then b mid now lo hi p q = record { each = λ i l u. q.each i l u ∙ p.each i l u }
 
 pub head_size : (b now : List ℕ) (m : ℕ) → Same b now (m + 0) (m + 12) → size_at now m ≡ size_at b m
@@ -70,7 +70,7 @@ module _ {b mid now old between new : List ℕ} {marks more : List Mark} {reborn
 -- ---- bytes of records are written
 
 module _ (b now old : List ℕ) (ts : List Touch) (marks : List Mark) (reborn : List ℕ) (tiled : AreTiles b 8 (length b) old) (long : length now ≡ length b) (changed : Changed b now ts) (marked : Each (Marked b old marks reborn) ts) where
-  placed : (us : List Touch) → Each (Marked b old marks reborn) us → Placed b old (length b) us
+  pub placed : (us : List Touch) → Each (Marked b old marks reborn) us → Placed b old (length b) us
   placed [] w = tt
   placed (t ∷ us) w = (inl (w.0.inside, w.0.fits), placed us w.1)
 
@@ -89,7 +89,8 @@ module _ (b now old : List ℕ) (ts : List Touch) (marks : List Mark) (reborn : 
   before [] i lt w = tt
   before (t ∷ us) i lt w = let low = (tile_lies b 8 (length b) old t.tile tiled w.0.inside).low in (inl (omega arith), before us i lt w.1)
 
-  sizes : (m : ℕ) → In m old → size_at now m ≡ size_at b m
+  -- all sizes stay
+  pub sizes : (m : ℕ) → In m old → size_at now m ≡ size_at b m
   sizes m i =
       let l = (tile_lies b 8 (length b) old m tiled i).long in
       word_kept b now (m + 0) (m + 8) (part m 0 8 i (omega arith) (size_missed ts m marked)) (m + 0) 8 (omega arith) (omega arith)

@@ -276,14 +276,11 @@ module _ {b taken filled now records list : List ℕ} {need place type : ℕ} (s
   abbrev before_shape : Shape
   before_shape = shape b
 
-  pub made_keeps_unused : (may : Allowances) → AllKeep b now may (Took place need ∷ []) (owned_by Unused (unused_records b before_shape))
-  made_keeps_unused may =
-      let e = made_edit sound fills later as_long lately in
-      let marks = making_marks before_shape.unused place need late in
+  -- of a listed record that is not taken no more than the links is marked
+  pub listed_marks : (m : ℕ) → In m before_shape.unused → is_taken b (Took place need ∷ []) m ≡ false → Avoids (making_marks before_shape.unused place need late) uir_type m 0 12 × Within (making_marks before_shape.unused place need late) uir_type m (uir_next_uir ∷ uir_prev_uir ∷ [])
+  listed_marks m i free =
       let none = (clear_own sound fills later as_long lately).0 in
       let h = sound.has_shape in
-      keep_unused sound e records_are may (Took place need ∷ [])
-      (λ m i free.
       let tile = linkable-in b before_shape.records uir_type m (h.unused_chain.linkable m i) in
       let ne : m ≢ place = λ q. taken_is_taken b place need [] (subst (λ (x : ℕ). 12 ≤ size_at b x) q (tile_lies b 8 (length b) before_shape.records m h.tiled tile).long) (subst (λ (x : ℕ). is_taken b (Took place need ∷ []) x ≡ false) q free) in
       let away = whole_away place need m ne in
@@ -293,5 +290,7 @@ module _ {b taken filled now records list : List ℕ} {need place type : ℕ} (s
       let one = whole uir_type place need ∷ [] in (
         Avoids-append (taking ++ one) late uir_type m 0 12 (Avoids-append taking one uir_type m 0 12 (taking_avoids before_shape.unused place need m 0 12 ne (inl (omega arith))) (away-avoids one uir_type m 0 12 away)) (away-avoids late uir_type m 0 12 away'),
         Within-append (taking ++ one) late uir_type m links (Within-append taking one uir_type m links (taking_within before_shape.unused place need m ne) (away-within one uir_type m links away)) (away-within late uir_type m links away'),
-      ))
-      (λ m tile out. loose_away sound fills later as_long lately m tile out)
+      )
+
+  pub made_keeps_unused : (may : Allowances) → AllKeep b now may (Took place need ∷ []) (owned_by Unused (unused_records b before_shape))
+  made_keeps_unused may = keep_unused sound (made_edit sound fills later as_long lately) records_are may (Took place need ∷ []) listed_marks (λ m tile out. loose_away sound fills later as_long lately m tile out)

@@ -1,0 +1,53 @@
+-- A number that is written as a field of a record is an edit.
+use Rattle.std.proofs.Common.{◌≡◌, ℕ, ℤ, ◌+◌, ◌^◌, ◌<◌, ◌≤◌, List, [], ◌∷◌, length, refl, sym, ap, subst, ◌∙◌, arith, inl}
+use Rattle.std.specs.Int.{w32, cast_unsigned}
+use Rattle.std.specs.Prelude.{FitsSigned}
+use Rattle.cdf_format.specs.Fields.{LiesIn, number, integer4, size_at, type_at, with_field}
+use Rattle.cdf_format.specs.Records.{Field}
+use Rattle.cdf_format.specs.Tiles.{In, AreTiles}
+use Rattle.cdf_format.proofs.TilesLemmas.{tile_lies}
+use Rattle.cdf_fields.proofs.Writes.{field_reads, field_reads4, length-with_field, other_bytes}
+use Rattle.cdf_edits.specs.Edits.Edit.{Edit}
+use Rattle.cdf_edits.specs.Edits.Marks.{field_marks}
+use Rattle.cdf_edits.specs.Frame.Changed.{touched_field, Changed}
+use Rattle.cdf_edits.proofs.Edits.Composing.{changed_edit}
+
+-- a field behind the type, within a record of this type
+pub record IsField (b records : List ℕ) (place type : ℕ) (f : Field) : Type 0 where
+  pub tiled : AreTiles b 8 (length b) records
+  pub inside : In place records
+  pub typed : type_at b place ≡ type
+  pub fits : f.place + f.width ≤ size_at b place
+  pub late : 12 ≤ f.place
+
+module _ (b now records : List ℕ) (place type : ℕ) (f : Field) (n : ℕ) (is : IsField b records place type f) (written : now ≡ with_field b place f n) where
+  pub field_lies : LiesIn b place f
+  field_lies = let high = (tile_lies b 8 (length b) records place is.tiled is.inside).high in reach f.place f.width (size_at b place) (length b) is.fits high
+    where
+      reach : (p w n l : ℕ) → p + w ≤ n → place + n ≤ l → place + p + w ≤ l
+      reach p w n l x y = omega arith
+
+  pub written_long : length now ≡ length b
+  written_long = ap length written ∙ length-with_field b place f n field_lies
+
+  pub written_changed : Changed b now (touched_field place f ∷ [])
+  written_changed = subst (λ (x : List ℕ). Changed b x (touched_field place f ∷ [])) (sym written) (record { longer = omega (arith, length-with_field b place f n field_lies); same = λ i lt out. other_bytes b place f n i field_lies out.0 })
+
+  pub written_edit : Edit b now records records (field_marks type place f) []
+  written_edit = changed_edit b now records (touched_field place f ∷ []) (field_marks type place f) [] is.tiled written_long written_changed (
+    record { inside = is.inside; fits = is.fits; behind_size = behind f.place is.late; behind_type = inl is.late; covered = inl (record { typed = is.typed; lies = inl refl; low = omega arith; high = omega arith }) },
+    tt,
+  ) (let l = tile_lies b 8 (length b) records place is.tiled is.inside in some place (size_at b place) (length b) l.low l.high)
+    where
+      behind : (p : ℕ) → 12 ≤ p → 8 ≤ p
+      behind p l = omega arith
+
+      some : (p n l : ℕ) → 8 ≤ p → p + n ≤ l → 8 ≤ l
+      some p n l x y = omega arith
+
+  pub written_reads : n < 256 ^ f.width → number now place f ≡ n
+  written_reads small = ap (λ (x : List ℕ). number x place f) written ∙ field_reads b place f n field_lies small
+
+-- with a sign
+pub written_integer : (b now records : List ℕ) (place type : ℕ) (f : Field) (z : ℤ) → IsField b records place type f → f.width ≡ 4 → FitsSigned w32 z → now ≡ with_field b place f (cast_unsigned w32 z) → integer4 now place f ≡ z
+written_integer b now records place type f z is wide fits written = ap (λ (x : List ℕ). integer4 x place f) written ∙ field_reads4 b place f z wide (field_lies b now records place type f (cast_unsigned w32 z) is written) fits
