@@ -1,5 +1,15 @@
 pub mod DeletingSteps
 pub mod Renamed
+pub mod EntryWritten
+pub mod EntryAdded
+pub mod EntryPut
+pub mod EntryChanged
+pub mod EntryCalls
+pub mod EntryLeft
+pub mod EntryMoved
+pub mod EntryPushed
+pub mod EntryReplaced
+pub mod EntryReplacing
 pub mod NewAdr
 pub mod Created
 pub mod CreatingAnswers

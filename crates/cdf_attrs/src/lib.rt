@@ -2,6 +2,7 @@
 #![tactic(auto)]
 
 mod attrs;
+mod chain_fields;
 mod creating;
 mod deleting;
 mod entry_chain;
@@ -9,6 +10,10 @@ mod finding;
 mod getting;
 mod name;
 mod reading;
+mod entry_bytes;
+mod listing;
+mod putting;
+mod removing;
 mod renaming;
 
 pub use attrs::Attrs;
