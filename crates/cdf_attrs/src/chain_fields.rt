@@ -8,10 +8,9 @@ ghost use Rattle.cdf_edits.specs.Edits.EntryMarks.{count_field, entries_chain};
 ghost use Rattle.cdf_format.specs.Fields.{LiesIn, with_field};
 
 use cdf_area::{Area, AreaError};
+use cdf_format::fields::{ADR_NGR_ENTRIES, ADR_NZ_ENTRIES};
 use cdf_model::EntryKind;
-use cdf_records::{
-    set_adr_max_gr_entry, set_adr_max_z_entry, set_adr_ngr_entries, set_adr_nz_entries,
-};
+use cdf_records::{set_adr_max_gr_entry, set_adr_max_z_entry, set_signed4};
 use cdf_space::Chain;
 
 /// The chain of the entries of a kind that an Attribute Descriptor Record has.
@@ -48,7 +47,7 @@ pub fn set_count<A: Area>(area: &mut A, kind: EntryKind, adr: u64, to: i32) -> R
     ensures area { Edits A.frame A.faults area.old area.new result }
 {
     match kind {
-        EntryKind::G | EntryKind::R => set_adr_ngr_entries(area, adr, to),
-        EntryKind::Z => set_adr_nz_entries(area, adr, to),
+        EntryKind::G | EntryKind::R => set_signed4(area, adr, ADR_NGR_ENTRIES, to),
+        EntryKind::Z => set_signed4(area, adr, ADR_NZ_ENTRIES, to),
     }
 }

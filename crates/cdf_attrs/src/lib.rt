@@ -5,14 +5,13 @@ mod attrs;
 mod chain_fields;
 mod creating;
 mod deleting;
+mod entry_bytes;
 mod entry_chain;
 mod finding;
 mod getting;
 mod name;
-mod reading;
-mod entry_bytes;
-mod listing;
 mod putting;
+mod reading;
 mod removing;
 mod renaming;
 

@@ -1,9 +1,9 @@
 -- More that follows acts: steps that leave all unused records, and a record that is freed.
 use Rattle.std.proofs.Common.{◌≡◌, ◌≢◌, ◌⊎◌, ℕ, ◌+◌, ◌<◌, ◌≤◌, List, [], ◌∷◌, ◌++◌, length, map, Bool, true, false, not, eq-eqb, refl, sym, ap, ap₂, subst, ◌∙◌, arith, inl, inr}
-use Rattle.std.proofs.lemmas.Bool.{cases_eq, ne_eqb}
+use Rattle.std.proofs.lemmas.Bool.{cases_eq, ne_eqb, le-leb, lt-ltb}
 use Rattle.std.proofs.lemmas.List.Sums.{fold-append}
-use Rattle.std.specs.List.{fold}
-use Rattle.std.specs.Prelude.{◌==◌, nat_le, if◌then◌else◌}
+use Rattle.std.specs.List.{fold, list_any}
+use Rattle.std.specs.Prelude.{◌==◌, ◌&&◌, ◌||◌, nat_le, nat_lt, if◌then◌else◌}
 use Rattle.cdf_format.specs.Bytes.{Same}
 use Rattle.cdf_format.specs.Chains.{is_in}
 use Rattle.cdf_format.specs.Fields.{size_at, type_at}
@@ -22,7 +22,7 @@ use Rattle.cdf_format.proofs.TilesLemmas.{tile_lies, tiles_lie_apart}
 use Rattle.cdf_edits.specs.Commands.Allowances.{FreedStays}
 use Rattle.cdf_edits.specs.Edits.Edit.{Edit}
 use Rattle.cdf_edits.specs.Edits.Marks.{Mark, Avoids, unmarked, giving_marks}
-use Rattle.cdf_edits.specs.Space.Acts.{Act, Took, Gave, Among, SpaceLeft, HasLeft, sized, used_records, loose_records, space_before, back_after, taken, without, after_act, AreActs, Happens, none_twice, links_end, RestStays, ActsFollow}
+use Rattle.cdf_edits.specs.Space.Acts.{Act, Took, Gave, Among, SpaceLeft, HasLeft, sized, used_records, loose_records, space_before, back_after, taken, without, after_act, AreActs, Happens, links_end, lies_in_taken, RestStays, ActsFollow}
 use Rattle.cdf_edits.specs.Space.Placement.{unused, given_to, giving, Gives}
 use Rattle.cdf_edits.proofs.Edits.Composing.{head_size, head_type, sizes}
 use Rattle.cdf_edits.proofs.Edits.RecordFrame.{kept}
@@ -93,12 +93,12 @@ module _ {b mid now new : List ℕ} {marks : List Mark} {acts : List Act} (befor
           (loose_if mid m (record { stands = is; typed = sym (same_type m is) ∙ l.typed; unlisted = λ j. l.unlisted (subst (In m) (sym list) j) }))));
       end_is = long ∙ before.left.end_is;
     };
-    rests = λ once. each (λ split. Each (RestStays b now split) (shape now).unused) (shape b).unused (λ split i.
-        each (RestStays b now split) (shape now).unused (λ rest j low high.
+    rests = each (λ split. Each (RestStays b now acts split) (shape now).unused) (shape b).unused (λ split i.
+        each (RestStays b now acts split) (shape now).unused (λ rest j low high n l u untaken.
         let k = subst (In rest) list j in
         let size = same_size rest (listed rest k) in
-        let first = each_in (RestStays b mid split) (shape mid).unused rest (each_in (λ split. Each (RestStays b mid split) (shape mid).unused) (shape b).unused split (before.rests once) i) k low high in
-        record { each = λ n l u. (unused_one rest (listed rest k) (listed_type rest k)).each n (omega arith) (omega arith) ∙ first.each n l (omega arith) }));
+        let first = each_in (RestStays b mid acts split) (shape mid).unused rest (each_in (λ split. Each (RestStays b mid acts split) (shape mid).unused) (shape b).unused split before.rests i) k low high in
+        (unused_one rest (listed rest k) (listed_type rest k)).each n (omega arith) (omega arith) ∙ first n l (omega arith) untaken));
   }
 
 -- ---- lists of acts
@@ -122,40 +122,31 @@ among_in m n p (x ∷ xs) ne (inr a) = elim (cases_eq x.0 p) [
   | inr other ↦ rw (ne_eqb x.0 p other) (inr (among_in m n p xs ne a))
 ]
 
-abbrev taken_places : List Act → List ℕ
-taken_places acts = map (λ pair. pair.0) (taken acts)
-
 -- what is in use after acts was taken by one, or was in use before them
-used_from : (l : SpaceLeft) (acts : List Act) (p n : ℕ) → Among (p, n) (fold after_act l acts).used → In p (taken_places acts) ⊎ Among (p, n) l.used
+used_from : (l : SpaceLeft) (acts : List Act) (p n : ℕ) → Among (p, n) (fold after_act l acts).used → Among (p, n) (taken acts) ⊎ Among (p, n) l.used
 used_from l [] p n a = inr a
 used_from l (Took place need ∷ acts) p n a = elim (used_from (after_act l (Took place need)) acts p n a) [
   | inl i ↦ inl (inr i)
-  | inr c ↦ elim c [ inl q ↦ inl (inl (ap (λ (pair : ℕ × ℕ). pair.0) q)) | inr d ↦ inr d ]
+  | inr c ↦ elim c [ inl q ↦ inl (inl q) | inr d ↦ inr d ]
 ]
 used_from l (Gave place size ∷ acts) p n a = elim (used_from (after_act l (Gave place size)) acts p n a) [ inl i ↦ inl i | inr c ↦ inr (among_out p n place l.used c) ]
 
-not_there : (p : ℕ) (xs : List ℕ) → not (is_in p xs) ≡ true → In p xs → ⊥
-not_there p xs e i = clash (is_in p xs) e (is_in-true p xs i)
+taken_still : (acts : List Act) (p size : ℕ) → taken (acts ++ Gave p size ∷ []) ≡ taken acts
+taken_still [] p size = refl
+taken_still (Took place need ∷ acts) p size = ap (λ (x : List (ℕ × ℕ)). (place, need) ∷ x) (taken_still acts p size)
+taken_still (Gave place n ∷ acts) p size = taken_still acts p size
+
+-- a byte of a record that was taken
+lies_taken : (xs : List (ℕ × ℕ)) (p n i : ℕ) → Among (p, n) xs → p ≤ i → i < p + n → list_any (λ take. nat_le take.0 i && nat_lt i (take.0 + take.1)) xs ≡ true
+lies_taken [] p n i a low high = absurd a
+lies_taken (x ∷ xs) p n i (inl q) low high =
+    let here : (nat_le x.0 i && nat_lt i (x.0 + x.1)) ≡ true = subst (λ (y : ℕ × ℕ). (nat_le y.0 i && nat_lt i (y.0 + y.1)) ≡ true) q (rw (le-leb p i low, lt-ltb i (p + n) high) refl) in
+    rw here refl
+lies_taken (x ∷ xs) p n i (inr a) low high = or_right (nat_le x.0 i && nat_lt i (x.0 + x.1)) (list_any (λ take. nat_le take.0 i && nat_lt i (take.0 + take.1)) xs) (lies_taken xs p n i a low high)
   where
-    clash : (q : Bool) → not q ≡ true → q ≡ true → ⊥
-    clash true e f = absurd cc
-    clash false e f = absurd cc
-
--- if none is freed that was taken, then the last one was not
-record Untaken (places : List ℕ) (acts : List Act) (p : ℕ) : Type 0 where
-  once : none_twice places acts ≡ true
-  apart : In p places → ⊥
-  untaken : In p (taken_places acts) → ⊥
-
-last_untaken : (places : List ℕ) (acts : List Act) (p size : ℕ) → none_twice places (acts ++ Gave p size ∷ []) ≡ true → Untaken places acts p
-last_untaken places [] p size e = record { once = refl; apart = not_there p places (both (not (is_in p places)) true e).0; untaken = λ i. i }
-last_untaken places (Took place need ∷ acts) p size e =
-    let r = last_untaken (place ∷ places) acts p size e in
-    record { once = r.once; apart = λ i. r.apart (inr i); untaken = λ i. elim i [ inl q ↦ r.apart (inl q) | inr j ↦ r.untaken j ] }
-last_untaken places (Gave place n ∷ acts) p size e =
-    let q = both (not (is_in place places)) (none_twice places (acts ++ Gave p size ∷ [])) e in
-    let r = last_untaken places acts p size q.1 in
-    record { once = rw (q.0, r.once) refl; apart = r.apart; untaken = r.untaken }
+    or_right : (q r : Bool) → r ≡ true → (q || r) ≡ true
+    or_right true r e = refl
+    or_right false r e = e
 
 -- ---- a record is freed
 
@@ -264,26 +255,30 @@ module _ {b mid now : List ℕ} {acts : List Act} {place : ℕ} (was : HasShape 
             (loose_if mid m (record { stands = is; typed = sym (other_type m is ne) ∙ l.typed; unlisted = λ j. l.unlisted (stays_listed m j) }))))
       ]
 
-  -- it was in use before, so no record of the unused list had it
-  rest_given : (split : ℕ) → In split (shape b).unused → Untaken [] acts place → split < place → place < split + size_at b split → ⊥
-  rest_given split i out low high = elim (used_from (space_before b) acts place size in_use) [
-    | inl t ↦ out.untaken t
-    | inr u ↦ no_rest b was split place (linkable-in b (shape b).records uir_type split (was.unused_chain.linkable split i)) (used_says b place (sized_in b (used_records b) place size u)).0 low high
+  -- it was in use before, so no record of the unused list had it, or it was taken
+  rest_given : (split : ℕ) → In split (shape b).unused → split < place → place < split + size_at b split → (i : ℕ) → place ≤ i → i < place + size → lies_in_taken after i ≡ false → ⊥
+  rest_given split i low high n l u untaken = elim (used_from (space_before b) acts place size in_use) [
+    | inl t ↦ clash (lies_in_taken after n) (ap (list_any (λ take. nat_le take.0 n && nat_lt n (take.0 + take.1))) (taken_still acts place size) ∙ lies_taken (taken acts) place size n t l u) untaken
+    | inr x ↦ no_rest b was split place (linkable-in b (shape b).records uir_type split (was.unused_chain.linkable split i)) (used_says b place (sized_in b (used_records b) place size x)).0 low high
   ]
     where
+      clash : (p : Bool) → p ≡ true → p ≡ false → ⊥
+      clash true e f = absurd cc
+      clash false e f = absurd cc
+
       sized_in : (b : List ℕ) (xs : List ℕ) (p n : ℕ) → Among (p, n) (sized b xs) → In p xs
       sized_in b [] p n a = a
       sized_in b (x ∷ xs) p n (inl q) = inl (ap (λ (pair : ℕ × ℕ). pair.0) q)
       sized_in b (x ∷ xs) p n (inr a) = inr (sized_in b xs p n a)
 
-  rest_listed : (split rest : ℕ) → In split (shape b).unused → none_twice [] acts ≡ true → In rest (shape mid).unused → RestStays b now split rest
-  rest_listed split rest i once j low high =
+  rest_listed : (split rest : ℕ) → In split (shape b).unused → In rest (shape mid).unused → RestStays b now after split rest
+  rest_listed split rest i j low high n l u untaken =
       let is = linkable-in mid (shape mid).records uir_type rest (h.unused_chain.linkable rest j) in
       let t = linkable-type mid (shape mid).records uir_type rest (h.unused_chain.linkable rest j) in
       let size = same_sizes rest is in
-      let first = each_in (RestStays b mid split) (shape mid).unused rest (each_in (λ split. Each (RestStays b mid split) (shape mid).unused) (shape b).unused split (before.rests once) i) j low high in
+      let first = each_in (RestStays b mid acts split) (shape mid).unused rest (each_in (λ split. Each (RestStays b mid acts split) (shape mid).unused) (shape b).unused split before.rests i) j low high in
       let then_ = unused_part rest 28 (size_at mid rest) is t (inr (omega arith)) (omega arith) in
-      record { each = λ n l u. then_.each n l (omega arith) ∙ first.each n l (omega arith) }
+      then_.each n l (omega arith) ∙ first n l (omega arith) (ap (list_any (λ take. nat_le take.0 n && nat_lt n (take.0 + take.1))) (sym (taken_still acts place _)) ∙ untaken)
 
   pub acts_gave : ActsFollow b now after
   acts_gave = record {
@@ -299,21 +294,22 @@ module _ {b mid now : List ℕ} {acts : List Act} {place : ℕ} (was : HasShape 
       loose_are = each (λ m. Among (m, size_at now m) by_now.loose) (loose_records now) loose_among;
       end_is = gives.length_is ∙ before.left.end_is;
     });
-    rests = λ once.
-        let out = last_untaken [] acts place size once in
-        each (λ split. Each (RestStays b now split) (shape now).unused) (shape b).unused (λ split i.
-        each (RestStays b now split) (shape now).unused (λ rest j low high.
+    rests = each (λ split. Each (RestStays b now after split) (shape now).unused) (shape b).unused (λ split i.
+        each (RestStays b now after split) (shape now).unused (λ rest j low high n l u untaken.
         elim (was_listed rest j) [
-          | inl q ↦ absurd (rest_given split i out (subst (λ (x : ℕ). split < x) q low) (subst (λ (x : ℕ). x < split + size_at b split) q high))
-          | inr k ↦ rest_listed split rest i out.once k low high
+          | inl q ↦ absurd (rest_given split i (subst (λ (x : ℕ). split < x) q low) (subst (λ (x : ℕ). x < split + size_at b split) q high) n (let e : place ≤ rest = omega arith in omega arith) (in_place rest n q l u) untaken)
+          | inr k ↦ rest_listed split rest i k low high n l u untaken
         ]));
   }
+    where
+      in_place : (rest n : ℕ) → rest ≡ place → rest + 28 ≤ n → n < rest + size_at now rest → n < place + size
+      in_place rest n q l u = subst (λ (x : ℕ). n < place + x) given_size (subst (λ (x : ℕ). n < x + size_at now x) q u)
 
 -- ---- what a freed record keeps
 
 -- of a record that is unused by now, the bytes behind its links
-pub freed_stays : (b now : List ℕ) (place size : ℕ) (fields : List Field) → HasShape now (shape now) → In place (shape now).records → size_at now place ≡ size → Same b now (place + links_end size) (place + size) → Each (FreedStays b now place size fields) (unused_records now (shape now))
-freed_stays b now place size fields h inside size_is same = each (FreedStays b now place size fields) (unused_records now (shape now)) (λ uir j i lt low high out.
+pub freed_stays : (b now : List ℕ) (acts : List Act) (place size : ℕ) (fields : List Field) → HasShape now (shape now) → In place (shape now).records → size_at now place ≡ size → Same b now (place + links_end size) (place + size) → Each (FreedStays b now acts place size fields) (unused_records now (shape now))
+freed_stays b now acts place size fields h inside size_is same = each (FreedStays b now acts place size fields) (unused_records now (shape now)) (λ uir j i lt low high out untaken.
     elim (cases_eq uir place) [
       | inl q ↦ same.each (place + i) (let l : place + links_end size ≤ place + i = subst (λ (n : ℕ). place + links_end n ≤ place + i) size_is (subst (λ (x : ℕ). x + links_end (size_at now x) ≤ place + i) q low) in l) (omega arith)
       | inr ne ↦ elim (tiles_lie_apart now 8 (length now) (shape now).records uir place h.tiled (filter-in (λ (x : ℕ). type_at now x == uir_type) (shape now).records uir j) inside ne) [

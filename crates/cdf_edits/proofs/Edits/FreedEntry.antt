@@ -253,8 +253,8 @@ module _ {b late now : List ℕ} {records list : List ℕ} {marks : List Mark} {
   )
 
   -- behind the links its bytes stay
-  pub freed_bytes : 28 ≤ size_at b old → (fields : List Field) → Each (FreedStays b now old (size_at b old) fields) (unused_records now (shape now))
-  freed_bytes long fields = freed_stays b now old (size_at b old) fields shape_after (subst (In old) (sym records_now) old_in) (same_sizes old old_in ∙ old_size) (rw (le-leb 28 (size_at b old) long) stays)
+  pub freed_bytes : (acts : List Act) → 28 ≤ size_at b old → (fields : List Field) → Each (FreedStays b now acts old (size_at b old) fields) (unused_records now (shape now))
+  freed_bytes acts long fields = freed_stays b now acts old (size_at b old) fields shape_after (subst (In old) (sym records_now) old_in) (same_sizes old old_in ∙ old_size) (rw (le-leb 28 (size_at b old) long) stays)
     where
       stays : Same b now (old + 28) (old + size_at b old)
       stays = same-then b late now (old + 28) (old + size_at b old) (Same-part b late (old + 20) (old + size_at b old) (old + 28) (old + size_at b old) f.lives.rest (omega arith) (omega arith))
