@@ -8,11 +8,11 @@ use Rattle.cdf_edits.specs.declared.chain.Chain.TheVariants.{GrEntries, ZEntries
 use Rattle.cdf_edits.specs.Commands.EntryChains.{chain_of}
 use Rattle.cdf_edits.specs.Space.Chains.{counted_in, members_of, type_in, HasChain, HolderStands}
 use Rattle.cdf_edits.proofs.Edits.ChainsOfShape.{IsOf, members_are, has_chain}
-use Rattle.cdf_format.specs.AttributeRules.{adr_rows, entries_rows, entry_bytes, same_name}
-use Rattle.cdf_format.specs.ChainRules.{differ_rows}
+use Rattle.cdf_format.specs.AttributeRules.{adr_rows, entries_rows, entry_bytes, entry_rows, has_value, same_number, same_name}
+use Rattle.cdf_format.specs.ChainRules.{count_rows, differ_rows}
 use Rattle.cdf_format.specs.Chains.{is_a}
 use Rattle.cdf_format.specs.Fields.{number, size_at}
-use Rattle.cdf_format.specs.Records.{adr_name, adr_ngr_entries, adr_nz_entries}
+use Rattle.cdf_format.specs.Records.{Field, adr_name, adr_ngr_entries, adr_nz_entries}
 use Rattle.cdf_format.specs.RecordTypes.{adr_type}
 use Rattle.cdf_format.specs.Rules.{Hold}
 use Rattle.cdf_format.specs.Shape.{AttributeShape, Shape, adrs, shape, Each, HasEntries, HasShape}
@@ -22,7 +22,7 @@ use Rattle.cdf_format.specs.WellFormed.{Good}
 use Rattle.cdf_format.proofs.ChainsLemmas.{linkable-in, linkable-is_a}
 use Rattle.cdf_format.proofs.GoodByShape.{attribute_shape_rows}
 use Rattle.cdf_format.proofs.GoodSound.{good_by_its_shape, good_is_sound}
-use Rattle.cdf_format.proofs.RowLemmas.{Hold-split}
+use Rattle.cdf_format.proofs.RowLemmas.{Hold-split, Hold-member}
 use Rattle.cdf_format.proofs.ShapeLemmas.{tiles_are}
 use Rattle.cdf_format.proofs.Tests.{eq_of}
 use Rattle.cdf_format.proofs.TilesLemmas.{tile_lies}
@@ -41,6 +41,13 @@ record IsChainOf (b : List ℕ) (s : Shape) (c : Chain) (adr : ℕ) (ms : List �
   stands : is_a b (tiles b) adr_type adr ≡ true → HolderStands b c
   count : counted_in b c ≡ length ms
   fits : Each (EntryFits b) ms
+  values : (m : ℕ) → In m ms → has_value b m ≡ true
+
+values_of : (b : List ℕ) (adr : ℕ) (count : Field) (ms : List ℕ) → Hold (entries_rows b adr count ms) → (m : ℕ) → In m ms → has_value b m ≡ true
+values_of b adr count ms rows m i =
+    let front = Hold-split (count_rows 5 b adr count ms ++ flat_map (entry_rows b adr) ms) (differ_rows 7 (same_number b) [] ms) rows in
+    let entries = Hold-split (count_rows 5 b adr count ms) (flat_map (entry_rows b adr) ms) front.0 in
+    (Hold-member (entry_rows b adr) ms m entries.1 i).1.1.0
 
 got_in : (as_ : List AttributeShape) (i : ℕ) (a : AttributeShape) → slice_get as_ i ≡ Some a → In a.adr (map (λ (x : AttributeShape). x.adr) as_)
 got_in [] i a e = absurd cc
@@ -94,6 +101,7 @@ module _ (b : List ℕ) (good : Good b) where
         stands = λ e. e;
         count = eq_of (number b a.adr adr_ngr_entries) (length a.gr_entries) rows.1.0;
         fits = st.fits.0;
+        values = values_of b a.adr adr_ngr_entries a.gr_entries rows.1;
       }
 
   z_chain_is : (a : AttributeShape) → Stands b (shape b) a → IsChainOf b (shape b) (ZEntries a.adr) a.adr a.z_entries
@@ -104,6 +112,7 @@ module _ (b : List ℕ) (good : Good b) where
         stands = λ e. e;
         count = eq_of (number b a.adr adr_nz_entries) (length a.z_entries) parts.1.0;
         fits = st.fits.1;
+        values = values_of b a.adr adr_nz_entries a.z_entries parts.1;
       }
 
   chain_of_kind : (a : AttributeShape) → Stands b (shape b) a → (kind : EntryKind) → IsChainOf b (shape b) (entries_chain kind a.adr) a.adr (chain_of a kind)
@@ -129,6 +138,9 @@ module _ (b : List ℕ) (good : Good b) where
 
     pub counted : counted_in b c ≡ length (members_of b c)
     counted = at.count ∙ ap (λ (xs : List ℕ). length xs) (sym members)
+
+    pub entry_has_value : (m : ℕ) → In m (members_of b c) → has_value b m ≡ true
+    entry_has_value m i = at.values m (subst (In m) members i)
 
     pub entry_inside : (m : ℕ) → In m (members_of b c) → m + (56 + entry_bytes b m) ≤ length b
     entry_inside m i =

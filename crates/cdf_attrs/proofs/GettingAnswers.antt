@@ -46,7 +46,7 @@ entries_by_chain b a G = refl
 entries_by_chain b a R = refl
 entries_by_chain b a Z = refl
 
-found_in : (test : ℕ → Bool) (xs : List ℕ) (x : ℕ) → find test xs ≡ Some x → In x xs
+pub found_in : (test : ℕ → Bool) (xs : List ℕ) (x : ℕ) → find test xs ≡ Some x → In x xs
 found_in test [] x e = absurd cc
 found_in test (y ∷ xs) x e = choose (test y) (find test xs) (found_in test xs x) e
   where

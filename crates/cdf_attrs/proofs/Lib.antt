@@ -25,3 +25,4 @@ pub mod EntriesRead
 pub mod EntryLookup
 pub mod EntrySteps
 pub mod GettingAnswers
+pub mod WholeEntries

@@ -29,6 +29,12 @@ use Rattle.cdf_session.specs.Sessions.{IsOpen}
 pub stays_open : {U : Type 0} (b now : List ℕ) (frame after : Frame U) (known : Known) → IsOpen b frame known → now ≡ b → after ≡ frame → IsOpen now after known
 stays_open b now frame after known was same kept = transport (λ i. IsOpen (sym same i) (sym kept i) known) was
 
+-- the same, with other entries kept
+pub reads_open : {U : Type 0} (b now : List ℕ) (frame after : Frame U) (known known' : Known) → IsOpen b frame known → now ≡ b → after ≡ frame → Knows now known' → IsOpen now after known'
+reads_open b now frame after known known' was same kept knows =
+    let there : IsOpen b frame known' = record { good = was.good; fits = was.fits; limited = was.limited; unmarked = was.unmarked; knows = subst (λ (x : List ℕ). Knows x known') same knows } in
+    transport (λ i. IsOpen (sym same i) (sym kept i) known') there
+
 pub good_stays : (b now : List ℕ) → Good b → now ≡ b → Good now
 good_stays b now good same = subst Good (sym same) good
 

@@ -21,7 +21,7 @@ use crate::refusal::{AdoptError, Refusal};
 use cdf_area::{Area, AreaError};
 use cdf_attrs::Attrs;
 use cdf_check::check;
-use cdf_model::{Command, Items, LineError, Outcome, Reason, Reply, Scope, Space};
+use cdf_model::{Command, EntryKind, Items, LineError, Outcome, Reason, Reply, Scope, Space};
 use cdf_space::space_of;
 use std::alloc::Global;
 use std::marker::Model;
@@ -155,6 +155,7 @@ impl<A: Area> Session<A> {
             Command::Attr { name, scope } => self.attr(name.as_slice(), *scope),
             Command::RenameAttr { from, to } => self.rename_attr(from.as_slice(), to.as_slice()),
             Command::DelAttr { name } => self.del_attr(name.as_slice()),
+            Command::GetEntry { attr, kind, num } => self.get_entry(attr.as_slice(), *kind, *num),
             _ => Ok(Outcome::Refused {
                 reason: Reason::BadLine {
                     fault: LineError::UnknownWord { at: 0 },
@@ -228,6 +229,14 @@ impl<A: Area> Session<A> {
         ensures area { Reads A.image A.frame A.faults A.edited self.old self.new result }
     {
         space_of(&mut self.area)
+    }
+
+    /// The command `get-entry`.
+    fn get_entry(&mut self, attr: &[u8], kind: EntryKind, num: u32) -> Result<Outcome, AreaError>
+        ensures answers { IfOk result (λ o. Answers (A.frame self.old).limit (A.image self.old) (Command.GetEntry attr.now kind num) o (A.image self.new)) }
+        ensures area { Reads A.image A.frame A.faults A.edited self.old self.new result }
+    {
+        self.attrs.get_entry(&mut self.area, attr, kind, num)
     }
 
     /// The area with the image as it is.
