@@ -2,7 +2,6 @@
 #![tactic(auto)]
 
 mod adr;
-mod aedr;
 mod any;
 mod cdr;
 mod cvvr;
@@ -14,10 +13,7 @@ mod vdr;
 mod vxr;
 mod width;
 
-pub use adr::{set_adr_max_gr_entry, set_adr_max_z_entry, set_adr_name, set_adr_num};
-pub use aedr::{
-    set_aedr_attr_num, set_aedr_data_type, set_aedr_num, set_aedr_num_elems, set_aedr_num_strings,
-};
+pub use adr::{set_adr_max_gr_entry, set_adr_max_z_entry, set_adr_name};
 pub use any::{set_record_size, set_record_type};
 pub use cdr::{set_cdr_encoding, set_cdr_flags, set_cdr_gdr_offset};
 pub use cvvr::set_cvvr_c_size;
