@@ -3,10 +3,9 @@ use Rattle.std.proofs.Common.{◌≡◌, ℕ, suc, ◌+◌, Bool, true, false, n
 use Rattle.std.proofs.lemmas.Bool.{cases_Bool}
 use Rattle.std.proofs.lemmas.Bool.Decides.{nat_tests}
 use Rattle.std.proofs.lemmas.Slice.Eq.{bytes_eq-Decides}
-use Rattle.std.specs.Bool.{Decides}
-use Rattle.std.specs.List.{after_first, before_first, filter, list_all, list_any, position_or_len}
+use Rattle.std.specs.List.{filter, list_all, list_any, position_or_len}
 use Rattle.std.specs.Option.{option_and_then}
-use Rattle.std.specs.Prelude.{◌&&◌, ◌||◌, bytes_eq, codes, if◌then◌else◌, nat_le}
+use Rattle.std.specs.Prelude.{◌&&◌, ◌||◌, codes, if◌then◌else◌, nat_le}
 use Rattle.cdf_model.specs.Words.{Asked, ask, asked_by, files_in, flags_in, is_end, is_flag, is_known, is_new, is_no_save, is_space}
 use Rattle.cdf_tool.specs.Asking.{Asking, asked_at_end, nothing_asked, read_words, with_word}
 use Rattle.cdf_tool.proofs.WordLemmas.{reads_none}

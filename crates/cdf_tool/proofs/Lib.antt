@@ -14,3 +14,4 @@ pub mod OnlyReads
 pub mod RunStore
 pub mod CountLemmas
 pub mod RunLemmas
+pub mod Headline

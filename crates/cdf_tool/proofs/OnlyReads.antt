@@ -1,14 +1,13 @@
 -- A script that only reads.
-use Rattle.std.proofs.Common.{◌≡◌, ◌≢◌, ◌≤◌, ℕ, Bool, true, false, List, ◌++◌, Option, Some, None, Ok, Err, OnOk, Result, refl, sym, ◌∙◌, ap, subst, inl, inr, append-nil, length, arith}
+use Rattle.std.proofs.Common.{◌≡◌, ◌≤◌, ℕ, Bool, true, false, List, ◌++◌, Option, Some, None, Ok, Err, OnOk, Result, refl, sym, ◌∙◌, ap, inl, inr, append-nil, length, arith}
 use Rattle.std.specs.Io.KnownBytes.{Consumes, IsAtEnd}
 use Rattle.std.proofs.lemmas.List.Folds.{list_all-append}
 use Rattle.cdf_area.specs.Calls.{Stays}
 use Rattle.cdf_area.specs.Frame.{Frame}
-use Rattle.cdf_edits.specs.Answers.{Answers, MovesIf, is_full}
+use Rattle.cdf_edits.specs.Answers.{MovesIf, is_full}
 use Rattle.cdf_edits.specs.Follows.{only_reads}
 use Rattle.cdf_format.proofs.Images.{image_of-whole}
 use Rattle.cdf_format.proofs.Tests.{both}
-use Rattle.cdf_format.specs.WellFormed.{WellFormed}
 use Rattle.cdf_lines.specs.Pending.{GivesLine, Pending, last_of, new_lines}
 use Rattle.cdf_lines.proofs.Pieces.{whole_lines-append, lines-split}
 use Rattle.cdf_model.specs.declared.answer.Outcome.{Outcome}
@@ -20,7 +19,6 @@ use Rattle.cdf_session.specs.Sessions.{AnswersBuilt}
 use Rattle.cdf_store.specs.Disk.{Disk, file_of}
 use Rattle.cdf_store.specs.Named.{AttachesIn, files_attached}
 use Rattle.cdf_tool.specs.declared.status.Status.{Status}
-use Rattle.cdf_tool.specs.declared.status.Status.TheVariants as statuses
 use Rattle.cdf_tool.specs.Ends.{Opens}
 use Rattle.cdf_tool.specs.Reading.{IfReads, WritesNothing, all_read, line_reads}
 

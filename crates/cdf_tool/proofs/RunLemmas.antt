@@ -1,26 +1,20 @@
 -- What follows from how a run ends.
-use Rattle.std.proofs.Common.{◌≡◌, ◌⊎◌, ℕ, ◌+◌, ◌-◌, ◌<◌, ◌≤◌, Bool, true, false, List, [], ◌∷◌, ◌++◌, append-nil, append_assoc, map, length, Option, Some, None, refl, sym, ◌∙◌, ap, subst, inl, inr, arith, length-append}
-use Rattle.std.specs.Prelude.{◌↔◌, IfSome}
-use Rattle.std.specs.Io.KnownBytes.{Appends, Consumes, IsAtEnd}
+use Rattle.std.proofs.Common.{◌≡◌, ◌⊎◌, ℕ, ◌+◌, ◌-◌, ◌<◌, ◌≤◌, Bool, true, false, List, length, Option, Some, None, refl, sym, ◌∙◌, ap, subst, inl, inr, arith, length-append}
+use Rattle.std.specs.Prelude.{IfSome}
+use Rattle.std.specs.Io.KnownBytes.{Consumes}
 use Rattle.cdf_store.specs.Disk.{Disk}
 use Rattle.cdf_store.specs.Named.{lookup}
-use Rattle.cdf_format.specs.Content.{content}
-use Rattle.cdf_edits.specs.History.{Moment}
 use Rattle.cdf_format.specs.WellFormed.{WellFormed}
 use Rattle.cdf_format.specs.Phases.{all_phases}
 use Rattle.cdf_format.proofs.Verdicts.{excluded}
 use Rattle.cdf_model.specs.Limits.{image_limit, script_limit}
-use Rattle.cdf_model.specs.Lines.{lines}
-use Rattle.cdf_model.specs.Run.{State, flagged, run_on, run_of, start}
 use Rattle.cdf_model.specs.Words.{Asked}
 use Rattle.cdf_tool.specs.declared.status.Status.{Status}
 use Rattle.cdf_tool.specs.declared.status.Status.TheVariants as statuses
-use Rattle.cdf_tool.specs.Accepts.{Accepted, Accepts}
 use Rattle.cdf_tool.specs.Due.{CanBegin, IsGood}
 use Rattle.cdf_tool.specs.Ends.{Opens, Completes, Runs, EndsUnread, EndsWithout, Without, EndsNamed}
 use Rattle.cdf_tool.specs.Says.{Rejects, Names, SaysUsage}
-use Rattle.cdf_tool.specs.Replay.{Goes, line_of_moment, flagged_line, tale}
-use Rattle.cdf_tool.specs.Script.{Finishes, last_line}
+use Rattle.cdf_tool.specs.Script.{Finishes}
 use Rattle.cdf_tool.specs.Statuses.{IsDone, IsFailure, Exactly}
 use Rattle.cdf_tool.specs.Stored.{Kept, StoredBy}
 use Rattle.cdf_tool.proofs.RunStore.{found_lookup_in, kept_attached}
@@ -281,118 +275,3 @@ pub completes : {U : Type 0} (a : Asked) (d d' : Disk U) (before left first now 
     → CanBegin a.new a.name d.files → IfSome before (λ script. length script ≤ script_limit → IsDone status ⊎ IsFailure status)
 completes a d d' None left first now status c can = tt
 completes a d d' (Some script) left first now status c can = λ le. complete_of a d d' script left first now status c can le
-
--- ---- the headline
-
--- what was taken to the end was all that was left
-all_taken : (script taken : List ℕ) (left : Option (List ℕ)) → Consumes (Some script) left taken → IsAtEnd left → (left ≡ Some []) × (taken ≡ script)
-all_taken script taken None took end = absurd took
-all_taken script taken (Some rest) took end = (ap (λ (l : List ℕ). Some l) end, sym (took ∙ ap (λ (l : List ℕ). taken ++ l) end ∙ append-nil taken))
-
--- one text and then another
-appended : (written text line : List ℕ) (then now : Option (List ℕ)) → Appends (Some written) then text → Appends then now line → now ≡ Some (written ++ (text ++ line))
-appended written text line None now first next = absurd first
-appended written text line (Some after) None first next = absurd next
-appended written text line (Some after) (Some all) first next = ap (λ (l : List ℕ). Some l) (next ∙ ap (λ (l : List ℕ). l ++ line) first ∙ append_assoc written text line)
-
-abbrev flag_of : Moment → Bool
-flag_of m = m.full
-
-flagged_moments : (ms : List Moment) → flagged (map line_of_moment ms) (map flag_of ms) ≡ map flagged_line ms
-flagged_moments [] = refl
-flagged_moments (m ∷ ms) = ap (λ l. (m.line, m.full) ∷ l) (flagged_moments ms)
-
-module _ {U : Type 0} (a : Asked) (file image : List ℕ) (d d' : Disk U) (script written : List ℕ) (left now : Option (List ℕ)) (refused : Bool) (opens : Opens a.new file image) (c : Completes a file image d d' (Some script) left (Some written) now refused) where
-  abbrev f : Finishes image_limit image (Some script) left (Some written) c.end refused c.finishes.then
-  f = c.finishes.finishes
-
-  abbrev g : Goes image_limit image 0 (lines f.taken) c.end refused f.replies.text
-  g = f.replies.goes
-
-  all : (left ≡ Some []) × (f.taken ≡ script)
-  all = all_taken script f.taken left f.consumed f.over
-
-  abbrev full : List Bool
-  full = map flag_of g.moments
-
-  these : map line_of_moment g.moments ≡ lines script
-  these = g.lines_are ∙ ap lines all.1
-
-  run : run_of (content image) [] script full ≡ tale image 0 g.moments
-  run = ap (λ l. run_on (start (content image) []) (flagged l full)) (sym these) ∙ ap (λ l. run_on (start (content image) []) l) (flagged_moments g.moments)
-
-  refuses : refused ≡ (run_of (content image) [] script full).refused
-  refuses = g.refused_is ∙ ap (λ (s : State). s.refused) (sym run)
-
-  accepted : (status : Status) → (status ≡ statuses.SomeRefused) ↔ ((run_of (content image) [] script full).refused ≡ true) → Accepted a d d' script left written now status
-  accepted status so = record {
-    file = file;
-    image = image;
-    end = c.end;
-    full = full;
-    opens = opens;
-    history = record { moments = g.moments; lines_are = these; flags_are = refl; steps = g.steps; end_is = sym g.end_is };
-    limit = subst (λ (t : List ℕ). length t ≤ script_limit) all.1 f.short;
-    read = all.0;
-    replies = appended written f.replies.text (last_line a.space c.end) c.finishes.then now f.replies.written c.finishes.line
-        ∙ ap (λ (t : List ℕ). Some (written ++ (t ++ last_line a.space c.end))) (g.text_is ∙ ap (λ (s : State). s.text) (sym run));
-    refused = so;
-    stored = c.stored;
-  }
-
-accepted_done : {U : Type 0} (a : Asked) (file image : List ℕ) (d d' : Disk U) (script written : List ℕ) (left now : Option (List ℕ)) → Opens a.new file image → Completes a file image d d' (Some script) left (Some written) now false → Accepted a d d' script left written now statuses.Done
-accepted_done a file image d d' script written left now opens c =
-    accepted a file image d d' script written left now false opens c statuses.Done (λ is. absurd (cc is), λ is. absurd (cc (refuses a file image d d' script written left now false opens c ∙ is)))
-
-accepted_some : {U : Type 0} (a : Asked) (file image : List ℕ) (d d' : Disk U) (script written : List ℕ) (left now : Option (List ℕ)) → Opens a.new file image → Completes a file image d d' (Some script) left (Some written) now true → Accepted a d d' script left written now statuses.SomeRefused
-accepted_some a file image d d' script written left now opens c =
-    accepted a file image d d' script written left now true opens c statuses.SomeRefused (λ is. sym (refuses a file image d d' script written left now true opens c), λ is. refl)
-
-runs_accepted : {U : Type 0} (a : Asked) (file image : List ℕ) (d d' : Disk U) (script written : List ℕ) (left now : Option (List ℕ)) (status : Status) → Opens a.new file image → Runs a file image d d' (Some script) left (Some written) now status → IsDone status → Accepted a d d' script left written now status
-runs_accepted a file image d d' script written left now statuses.Done opens r is = accepted_done a file image d d' script written left now opens r
-runs_accepted a file image d d' script written left now statuses.SomeRefused opens r is = accepted_some a file image d d' script written left now opens r
-runs_accepted a file image d d' script written left now statuses.Usage opens r is = absurd is
-runs_accepted a file image d d' script written left now statuses.NoFile opens r is = absurd is
-runs_accepted a file image d d' script written left now statuses.Rejected opens r is = absurd is
-runs_accepted a file image d d' script written left now statuses.StoreReadFault opens r is = absurd is
-runs_accepted a file image d d' script written left now statuses.StoreWriteFault opens r is = absurd is
-runs_accepted a file image d d' script written left now statuses.OutputFault opens r is = absurd is
-runs_accepted a file image d d' script written left now statuses.NoMemory opens r is = absurd is
-runs_accepted a file image d d' script written left now statuses.ScriptFault opens r is = absurd is
-runs_accepted a file image d d' script written left now statuses.ScriptTooLong opens r is = absurd is
-
-without_not_done : (a : Asked) (files : Option (List (List ℕ × List ℕ))) (first now : Option (List ℕ)) (status : Status) → EndsWithout a files first now status → IsDone status → ⊥
-without_not_done a files first now statuses.Done ends is = ends
-without_not_done a files first now statuses.SomeRefused ends is = ends
-without_not_done a files first now statuses.Usage ends is = is
-without_not_done a files first now statuses.NoFile ends is = is
-without_not_done a files first now statuses.Rejected ends is = is
-without_not_done a files first now statuses.StoreReadFault ends is = is
-without_not_done a files first now statuses.StoreWriteFault ends is = is
-without_not_done a files first now statuses.OutputFault ends is = is
-without_not_done a files first now statuses.NoMemory ends is = is
-without_not_done a files first now statuses.ScriptFault ends is = is
-without_not_done a files first now statuses.ScriptTooLong ends is = is
-
-unread_not_done : (new : Bool) (file : List ℕ) (first now : Option (List ℕ)) (status : Status) → EndsUnread new file first now status → IsDone status → ⊥
-unread_not_done new file first now statuses.Done ends is = ends
-unread_not_done new file first now statuses.SomeRefused ends is = ends
-unread_not_done new file first now statuses.Usage ends is = is
-unread_not_done new file first now statuses.NoFile ends is = is
-unread_not_done new file first now statuses.Rejected ends is = is
-unread_not_done new file first now statuses.StoreReadFault ends is = is
-unread_not_done new file first now statuses.StoreWriteFault ends is = is
-unread_not_done new file first now statuses.OutputFault ends is = is
-unread_not_done new file first now statuses.NoMemory ends is = is
-unread_not_done new file first now statuses.ScriptFault ends is = is
-unread_not_done new file first now statuses.ScriptTooLong ends is = is
-
-named_accepted : {U : Type 0} (a : Asked) (d d' : Disk U) (script written : List ℕ) (left now : Option (List ℕ)) (status : Status) → EndsNamed a d d' (Some script) left (Some written) now status → IsDone status → Accepted a d d' script left written now status
-named_accepted a d d' script written left now status (inl w) is = absurd (without_not_done a d.files (Some written) now status w.ends is)
-named_accepted a d d' script written left now status (inr (inl u)) is = absurd (unread_not_done a.new u.file (Some written) now status u.ends is)
-named_accepted a d d' script written left now status (inr (inr r)) is = runs_accepted a r.file r.image d d' script written left now status r.opens r.runs is
-
-pub accepts : {U : Type 0} (a : Asked) (d d' : Disk U) (before left first now : Option (List ℕ)) (status : Status) → EndsNamed a d d' before left first now status → Accepts (Some a) d d' before left first now status
-accepts a d d' None left first now status ends = tt
-accepts a d d' (Some script) left None now status ends = tt
-accepts a d d' (Some script) left (Some written) now status ends = named_accepted a d d' script written left now status ends

@@ -1,5 +1,5 @@
 -- What the words of the command line ask for, read one after the other (own).
-use Rattle.std.specs.Prelude.{ℕ, List, Bool, true, false, bytes_eq, codes, is_some, if◌then◌else◌, Some, None}
+use Rattle.std.specs.Prelude.{ℕ, List, Bool, true, false, is_some, if◌then◌else◌, Some, None}
 use Rattle.std.specs.declared.option.Option.{Option}
 use Rattle.std.specs.List.{fold}
 use Rattle.std.specs.Option.{option_and_then, option_map}

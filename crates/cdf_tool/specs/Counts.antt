@@ -1,5 +1,5 @@
 -- What the counts of the faults of devices say of the status that a run ends with (own).
-use Rattle.std.specs.Prelude.{◌≡◌, ◌≤◌, ℕ, Bool, Ok, Err}
+use Rattle.std.specs.Prelude.{◌≡◌, ◌≤◌, ℕ, Ok, Err}
 use Rattle.std.specs.declared.result.Result.{Result}
 use Rattle.cdf_base.specs.Causes.{Rose}
 use Rattle.cdf_tool.specs.declared.status.Status.{Status}

@@ -1,4 +1,4 @@
-use Rattle.std.proofs.Common.{ℕ, ◌∙◌, ap, refl}
+use Rattle.std.proofs.Common.{ℕ, ◌∙◌, ap}
 use Rattle.cdf_area.specs.Frame.{Frame}
 use Rattle.cdf_store.specs.Disk.{Disk, file_of}
 use Rattle.cdf_tool.proofs.CountLemmas.{counted_attached, no_write}

@@ -1,8 +1,7 @@
-use Rattle.std.proofs.Common.{◌≡◌, ◌∙◌, ap, subst, sym, refl, Some, true, false, Bool}
+use Rattle.std.proofs.Common.{◌≡◌, ◌∙◌, ap, subst, sym, Some}
 use Rattle.std.specs.Option.{option_map}
 use Rattle.cdf_store.specs.Disk.{file_of}
 use Rattle.cdf_tool.specs.Asking.{asked_for}
-use Rattle.cdf_tool.specs.Counts.{counts}
 use Rattle.cdf_tool.specs.declared.status.Status.{Status}
 use Rattle.cdf_tool.specs.Says.{SaysNoFile}
 use Rattle.cdf_tool.specs.Stored.{Attached}

@@ -1,4 +1,4 @@
-use Rattle.std.proofs.Common.{◌∙◌, subst, sym}
+use Rattle.std.proofs.Common.{subst, sym}
 use Rattle.cdf_area.specs.Calls.{Stays}
 use Rattle.cdf_tool.proofs.OnlyReads.{on_ok_reads, opened_same, stays_on}
 use Rattle.cdf_tool.proofs.opened.run_area.Goals as goal

@@ -1,4 +1,4 @@
-use Rattle.std.proofs.Common.{◌≡◌, ℕ, ◌++◌, List, Err, ◌∙◌, ap, subst, refl}
+use Rattle.std.proofs.Common.{ℕ, ◌++◌, List, Err, ◌∙◌, ap, subst, refl}
 use Rattle.cdf_area.specs.declared.area.AreaError.TheVariants as areas
 use Rattle.cdf_base.specs.Causes.{HasCauseOf}
 use Rattle.cdf_lines.specs.Pending.{Pending, GivesLine}
@@ -7,8 +7,8 @@ use Rattle.cdf_tool.specs.declared.replay.Answer.{Answer}
 use Rattle.cdf_tool.specs.Gathering.{Gathers}
 use Rattle.cdf_tool.specs.Reading.{line_reads}
 use Rattle.cdf_tool.specs.Replay.{AreShort}
-use Rattle.cdf_tool.proofs.CountLemmas.{area_counted, output_counted, counts_stay}
-use Rattle.cdf_tool.proofs.Lines.{starts, stopped_whole, stopped_cut, all_answered, line_answered, line_cut, line_blank}
+use Rattle.cdf_tool.proofs.CountLemmas.{area_counted, counts_stay}
+use Rattle.cdf_tool.proofs.Lines.{starts, stopped_cut, line_answered, line_cut, line_blank}
 use Rattle.cdf_tool.proofs.OnlyReads.{more_read, stays_on, stays_still}
 use Rattle.cdf_tool.proofs.script.answer_lines.Goals as goal
 

@@ -1,10 +1,9 @@
-use Rattle.std.proofs.Common.{◌≡◌, ℕ, Bool, ◌+◌, ◌<◌, ◌≤◌, ◌∙◌, [], length, take, ap, sym, subst, refl, rules, arith}
+use Rattle.std.proofs.Common.{◌≡◌, ℕ, Bool, ◌+◌, ◌<◌, ◌≤◌, ◌∙◌, [], length, take, ap, sym, subst, refl, arith}
 use Rattle.std.proofs.Math.Path.{transport}
 use Rattle.std.specs.Io.KnownBytes.{IsAtEnd}
 use Rattle.std.proofs.KnownBytes.{Consumes-trans}
 use Rattle.cdf_area.specs.Calls.{Stays}
 use Rattle.cdf_model.specs.Limits.{script_limit}
-use Rattle.cdf_model.specs.Lines.{split}
 use Rattle.cdf_lines.specs.Pending.{last_of, new_lines}
 use Rattle.cdf_tool.specs.declared.status.Status.TheVariants as statuses
 use Rattle.cdf_tool.specs.Counts.{Counts}

@@ -1,7 +1,8 @@
 use Rattle.std.proofs.Common.{sym}
 use Rattle.cdf_tool.specs.Asking.{asked_for}
 use Rattle.cdf_tool.proofs.CountLemmas.{not_false, unwritten}
-use Rattle.cdf_tool.proofs.RunLemmas.{came, accepts, no_file_exactly, rejected_exactly, too_long_exactly, completes}
+use Rattle.cdf_tool.proofs.RunLemmas.{came, no_file_exactly, rejected_exactly, too_long_exactly, completes}
+use Rattle.cdf_tool.proofs.Headline.{accepts}
 use Rattle.cdf_tool.proofs.top.run.Goals as goal
 
 pub run_file-requires-clause-allowed : goal.run_file-requires-clause-allowed
