@@ -3,6 +3,5 @@ pub mod Commands
 pub mod Edits
 pub mod Follows
 pub mod Frame
-pub mod History
 pub mod Index
 pub mod Space

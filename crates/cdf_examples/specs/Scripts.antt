@@ -7,7 +7,7 @@ use Rattle.cdf_model.specs.DataSet.{DataSet}
 use Rattle.cdf_model.specs.Grammar.{Parsed, Blank, Asks, Faulty, parse}
 use Rattle.cdf_model.specs.Lines.{lines}
 use Rattle.cdf_model.specs.Limits.{image_limit}
-use Rattle.cdf_model.specs.Run.{Turn, asked, faulty, State, start, after}
+use Rattle.cdf_model.specs.Turns.{Turn, asked, faulty, State, start, after}
 use Rattle.cdf_model.specs.Step.{Route, ByStep, step}
 use Rattle.cdf_edits.specs.Answers.{is_full}
 use Rattle.cdf_edits.specs.Commands.Room.{room}

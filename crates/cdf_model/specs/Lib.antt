@@ -30,5 +30,5 @@ pub mod Whole
 pub mod Events
 pub mod EventTexts
 pub mod Taps
-pub mod Run
+pub mod Turns
 pub mod RunLengths

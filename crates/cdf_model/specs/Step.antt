@@ -44,13 +44,3 @@ step d (commands.Reindex var) = ByStep (reindex_step d var)
 step d (commands.Checksum md5) = ByStep (Go (record d { md5 = md5 }) replies.Plain)
 step d commands.Dump = ByContent
 step d (commands.Report tap) = ByTaps tap
-
--- the commands that there are by now
-abbrev pub built : Command → Bool
-built commands.Info = true
-built commands.List = true
-built (commands.Attr name scope) = true
-built (commands.RenameAttr from to) = true
-built (commands.DelAttr name) = true
-built (commands.GetEntry attr kind num) = true
-built c = false

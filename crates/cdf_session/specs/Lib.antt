@@ -1,2 +1,5 @@
 pub mod Heads
+pub mod Built
 pub mod Sessions
+pub mod Run
+pub mod History

@@ -11,7 +11,7 @@ ghost use Rattle.cdf_format.specs.Shape.{shape};
 ghost use Rattle.cdf_format.specs.WellFormed.{Good, WellFormed};
 ghost use Rattle.cdf_model.specs.Limits.{image_limit};
 ghost use Rattle.cdf_model.specs.Sayable.{CanBeGiven, Sayable};
-ghost use Rattle.cdf_model.specs.Step.{built};
+ghost use Rattle.cdf_session.specs.Built.{built};
 ghost use Rattle.cdf_session.specs.Sessions.{Adopts, AnswersBuilt, Explains, IsOpen, IsNoVerdict, Rejects};
 
 use crate::adopting::take_up;

@@ -4,7 +4,7 @@ use Rattle.std.proofs.Math.Path.{transport}
 use Rattle.std.specs.Prelude.{if◌then◌else◌, Some, None}
 use Rattle.cdf_format.specs.Content.{content}
 use Rattle.cdf_edits.specs.Answers.{Answers, StepLeads, is_full}
-use Rattle.cdf_edits.specs.History.{CommandLeads, RouteLeads, LineLeads}
+use Rattle.cdf_session.specs.History.{CommandLeads, RouteLeads, LineLeads}
 use Rattle.cdf_model.specs.declared.answer.LineError.{LineError}
 use Rattle.cdf_model.specs.declared.answer.LineError.TheVariants.{UnknownWord}
 use Rattle.cdf_model.specs.declared.answer.Outcome.{Outcome}
@@ -13,8 +13,9 @@ use Rattle.cdf_model.specs.declared.answer.Reason.TheVariants.{BadLine}
 use Rattle.cdf_model.specs.declared.command.Command.{Command}
 use Rattle.cdf_model.specs.Answers.{Answer}
 use Rattle.cdf_model.specs.Grammar.{Parsed, Asks, Faulty, parse}
-use Rattle.cdf_model.specs.Run.{Turn, asked, answered, faulty, is_refused}
-use Rattle.cdf_model.specs.Step.{Route, ByStep, built, step}
+use Rattle.cdf_model.specs.Turns.{Turn, asked, answered, faulty, is_refused}
+use Rattle.cdf_model.specs.Step.{Route, ByStep, step}
+use Rattle.cdf_session.specs.Built.{built}
 use Rattle.cdf_model.specs.Texts.{reply_text}
 use Rattle.cdf_model.specs.Sayable.{Sayable}
 use Rattle.cdf_model.proofs.SayableForms.{sayable-line}

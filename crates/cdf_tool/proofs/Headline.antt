@@ -4,10 +4,11 @@ use Rattle.std.specs.Prelude.{◌↔◌}
 use Rattle.std.specs.Io.KnownBytes.{Appends, Consumes, IsAtEnd}
 use Rattle.cdf_store.specs.Disk.{Disk}
 use Rattle.cdf_format.specs.Content.{content}
-use Rattle.cdf_edits.specs.History.{Moment}
+use Rattle.cdf_session.specs.History.{Moment}
 use Rattle.cdf_model.specs.Limits.{image_limit, script_limit}
 use Rattle.cdf_model.specs.Lines.{lines}
-use Rattle.cdf_model.specs.Run.{State, flagged, run_on, run_of, start}
+use Rattle.cdf_model.specs.Turns.{State, start}
+use Rattle.cdf_session.specs.Run.{flagged, run_on, run_of}
 use Rattle.cdf_model.specs.Words.{Asked}
 use Rattle.cdf_tool.specs.declared.status.Status.{Status}
 use Rattle.cdf_tool.specs.declared.status.Status.TheVariants as statuses

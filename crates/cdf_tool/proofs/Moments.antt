@@ -8,11 +8,13 @@ use Rattle.cdf_model.specs.declared.command.Command.{Command}
 use Rattle.cdf_model.specs.Answers.{Answer, Go, Refuse, data_after, is_accepted}
 use Rattle.cdf_model.specs.DataSet.{DataSet}
 use Rattle.cdf_model.specs.Grammar.{Parsed, Blank, Asks, Faulty, parse}
-use Rattle.cdf_model.specs.Run.{Turn, State, turn, asked, faulty, advance, run_on}
-use Rattle.cdf_model.specs.Step.{Route, ByStep, ByContent, ByTaps, built, step}
+use Rattle.cdf_model.specs.Turns.{Turn, State, asked, faulty}
+use Rattle.cdf_session.specs.Run.{turn, advance, run_on}
+use Rattle.cdf_model.specs.Step.{Route, ByStep, ByContent, ByTaps, step}
+use Rattle.cdf_session.specs.Built.{built}
 use Rattle.cdf_format.specs.Content.{content}
 use Rattle.cdf_edits.specs.Answers.{Moves, MovesIf}
-use Rattle.cdf_edits.specs.History.{RouteLeads, CommandLeads, LineLeads, Moment, LinesLead, last_image}
+use Rattle.cdf_session.specs.History.{RouteLeads, CommandLeads, LineLeads, Moment, LinesLead, last_image}
 use Rattle.cdf_tool.specs.declared.status.Status.TheVariants.{NoMemory}
 use Rattle.cdf_tool.specs.Replay.{turn_over, line_of_moment, flagged_line, begun, tale, Turns, Goes, Replies, Stops}
 

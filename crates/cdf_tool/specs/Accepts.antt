@@ -3,9 +3,9 @@ use Rattle.std.specs.Prelude.{◌≡◌, ◌↔◌, ◌≤◌, ℕ, List, [], �
 use Rattle.std.specs.declared.option.Option.{Option}
 use Rattle.cdf_store.specs.Disk.{Disk}
 use Rattle.cdf_format.specs.Content.{content}
-use Rattle.cdf_edits.specs.History.{History}
+use Rattle.cdf_session.specs.History.{History}
 use Rattle.cdf_model.specs.Limits.{image_limit, script_limit}
-use Rattle.cdf_model.specs.Run.{run_of}
+use Rattle.cdf_session.specs.Run.{run_of}
 use Rattle.cdf_model.specs.Words.{Asked}
 use Rattle.cdf_tool.specs.declared.status.Status.{Status}
 use Rattle.cdf_tool.specs.declared.status.Status.TheVariants as statuses

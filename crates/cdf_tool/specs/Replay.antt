@@ -4,10 +4,11 @@ use Rattle.std.specs.declared.option.Option.{Option}
 use Rattle.std.specs.Io.KnownBytes.{Appends}
 use Rattle.cdf_store.specs.Written.{AppendsFront}
 use Rattle.cdf_format.specs.Content.{content}
-use Rattle.cdf_edits.specs.History.{LineLeads, Moment, LinesLead, last_image}
+use Rattle.cdf_session.specs.History.{LineLeads, Moment, LinesLead, last_image}
 use Rattle.cdf_model.specs.Grammar.{Parsed}
 use Rattle.cdf_model.specs.Limits.{line_limit}
-use Rattle.cdf_model.specs.Run.{Turn, State, turn, run_on}
+use Rattle.cdf_model.specs.Turns.{Turn, State}
+use Rattle.cdf_session.specs.Run.{turn, run_on}
 use Rattle.cdf_lines.specs.Pending.{Pending}
 use Rattle.cdf_tool.specs.declared.status.Status.{Status}
 use Rattle.cdf_tool.specs.declared.status.Status.TheVariants as statuses

@@ -3,7 +3,7 @@
 ghost use Rattle.std.specs.Prelude.{◌≡◌, true, IfOk, OnOk};
 ghost use Rattle.cdf_area.specs.Calls.{Edits, Stays};
 ghost use Rattle.cdf_model.specs.Grammar.{parse as asked_for};
-ghost use Rattle.cdf_model.specs.Run.{is_refused};
+ghost use Rattle.cdf_model.specs.Turns.{is_refused};
 ghost use Rattle.cdf_model.specs.Texts.{reply_text as text_of};
 ghost use Rattle.cdf_model.specs.Whole.{CanBeWritten};
 ghost use Rattle.cdf_lines.specs.Pending.{line_of};

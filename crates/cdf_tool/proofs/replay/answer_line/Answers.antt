@@ -2,7 +2,7 @@ use Rattle.std.proofs.Common.{◌≡◌, true, ap, sym, ◌∙◌}
 use Rattle.cdf_lines.specs.Pending.{line_of}
 use Rattle.cdf_edits.specs.Follows.{only_reads}
 use Rattle.cdf_model.specs.Grammar.{parse}
-use Rattle.cdf_model.specs.Step.{built}
+use Rattle.cdf_session.specs.Built.{built}
 use Rattle.cdf_tool.specs.Reading.{reads}
 use Rattle.cdf_tool.proofs.Commands.{command_turns, sayable}
 use Rattle.cdf_tool.proofs.OnlyReads.{reads_same}

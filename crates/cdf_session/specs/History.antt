@@ -5,7 +5,8 @@ use Rattle.std.specs.List.{fold}
 use Rattle.cdf_model.specs.declared.command.Command.{Command}
 use Rattle.cdf_model.specs.Grammar.{Parsed, Blank, Asks, Faulty, parse}
 use Rattle.cdf_model.specs.Lines.{lines}
-use Rattle.cdf_model.specs.Step.{Route, ByStep, built, step}
+use Rattle.cdf_model.specs.Step.{Route, ByStep, step}
+use Rattle.cdf_session.specs.Built.{built}
 use Rattle.cdf_format.specs.Content.{content}
 use Rattle.cdf_edits.specs.Answers.{StepLeads}
 
