@@ -17,11 +17,12 @@ use Rattle.cdf_model.specs.AttributeSteps.{is_wrong_scope}
 use Rattle.cdf_model.specs.DataSet.{DataSet}
 use Rattle.cdf_model.specs.Names.{attribute_names, attribute_named}
 use Rattle.cdf_names.specs.Names.{number_of}
-use Rattle.cdf_attrs.specs.Finding.{FindsChain, HasWrongScope, entries_chain}
+use Rattle.cdf_attrs.specs.Finding.{FindsChain, HasWrongScope}
+use Rattle.cdf_edits.specs.Edits.EntryMarks.{entries_chain}
 use Rattle.cdf_attrs.proofs.AttributeChain.{adr_inside, index_in, names_count}
 use Rattle.cdf_attrs.proofs.NamesChanged.{Cut, cut, got-map, got-middle, named_there, number_within}
 
-adr_got : (as_ : List AttributeShape) (n : ℕ) (a : AttributeShape) → slice_get as_ n ≡ Some a → get_or (map (λ (x : AttributeShape). x.adr) as_) n 0 ≡ a.adr
+pub adr_got : (as_ : List AttributeShape) (n : ℕ) (a : AttributeShape) → slice_get as_ n ≡ Some a → get_or (map (λ (x : AttributeShape). x.adr) as_) n 0 ≡ a.adr
 adr_got [] n a e = absurd cc
 adr_got (x ∷ as_) zero a e = let same : x ≡ a = cc in ap (λ (y : AttributeShape). y.adr) same
 adr_got (x ∷ as_) (suc n) a e = adr_got as_ n a e

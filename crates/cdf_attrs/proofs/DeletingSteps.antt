@@ -1,16 +1,15 @@
 -- What the calls of a deletion come to.
-use Rattle.std.proofs.Common.{◌≡◌, ℕ, zero, suc, ◌+◌, ◌-◌, ◌<◌, ◌≤◌, List, [], ◌∷◌, ◌++◌, length, map, drop, true, refl, sym, ap, subst, ◌∙◌, append_assoc, append-nil, arith, inl, inr}
-use Rattle.std.proofs.lemmas.List.{length-map, map-append}
+use Rattle.std.proofs.Common.{◌≡◌, ℕ, List, [], ◌∷◌, length, true, subst, arith}
 use Rattle.cdf_format.specs.Chains.{is_a}
 use Rattle.cdf_format.specs.RecordTypes.{adr_type}
-use Rattle.cdf_format.specs.Shape.{AttributeShape, adrs, shape}
+use Rattle.cdf_format.specs.Shape.{adrs, shape}
 use Rattle.cdf_format.specs.Tiles.{In, tiles}
 use Rattle.cdf_format.specs.WellFormed.{Good}
 use Rattle.cdf_attrs.specs.Deleting.{AllLie}
 use Rattle.cdf_edits.specs.Edits.Writes.{Write}
 use Rattle.cdf_edits.specs.Space.Chains.{HasChain, counted_in, members_of}
 use Rattle.cdf_edits.specs.declared.chain.Chain.TheVariants.{GrEntries, ZEntries}
-use Rattle.cdf_edits.proofs.Edits.AttributeChains.{Stands, stands_at, EntryChains, entry_chains}
+use Rattle.cdf_edits.proofs.Edits.AttributeChains.{stands_at, entry_chains}
 
 -- the chains of an ADR
 pub record ChainsAt (b : List ℕ) (adr : ℕ) : Type 0 where

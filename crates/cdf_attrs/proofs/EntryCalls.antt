@@ -62,7 +62,7 @@ greatest_lies b now kind adr inside same = within (max_field kind).place (max_fi
     within p w fits = omega arith
 
 -- it was taken out, and both numbers were written
-pub leaves : {b mid counted late : List ℕ} {kind : EntryKind} {adr entry : ℕ} (count greatest : ℕ) → IsSound b (shape b) → (i : IsEntryOf b kind adr entry) → Removed b mid (entries_chain kind adr) entry → counted ≡ with_field mid adr (count_field kind) count → late ≡ with_field counted adr (max_field kind) greatest → LeavesChain b late kind i.before i.own i.after entry
+abbrev pub leaves : {b mid counted late : List ℕ} {kind : EntryKind} {adr entry : ℕ} (count greatest : ℕ) → IsSound b (shape b) → (i : IsEntryOf b kind adr entry) → Removed b mid (entries_chain kind adr) entry → counted ≡ with_field mid adr (count_field kind) count → late ≡ with_field counted adr (max_field kind) greatest → LeavesChain b late kind i.before i.own i.after entry
 leaves {b = b} {mid = mid} {counted = counted} {late = late} {kind = kind} {adr = adr} {entry = entry} count greatest sound i removed count_written written = record {
   was = i.stands;
   member = i.member;

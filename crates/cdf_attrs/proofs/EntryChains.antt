@@ -3,30 +3,34 @@ use Rattle.std.proofs.Common.{◌≡◌, ℕ, zero, suc, ◌+◌, ◌≤◌, Lis
 use Rattle.std.specs.List.{flat_map, slice_get}
 use Rattle.cdf_model.specs.declared.kinds.EntryKind.{EntryKind}
 use Rattle.cdf_model.specs.declared.kinds.EntryKind.TheVariants.{G, R, Z}
+use Rattle.cdf_model.specs.Limits.{record_number_limit}
 use Rattle.cdf_edits.specs.declared.chain.Chain.{Chain}
 use Rattle.cdf_edits.specs.declared.chain.Chain.TheVariants.{GrEntries, ZEntries}
 use Rattle.cdf_edits.specs.Commands.EntryChains.{chain_of}
 use Rattle.cdf_edits.specs.Space.Chains.{counted_in, members_of, type_in, HasChain, HolderStands}
+use Rattle.cdf_edits.proofs.Edits.ChainEntries.{nums, nums_differ}
 use Rattle.cdf_edits.proofs.Edits.ChainsOfShape.{IsOf, members_are, has_chain}
 use Rattle.cdf_format.specs.AttributeRules.{adr_rows, entries_rows, entry_bytes, entry_rows, has_value, same_number, same_name}
 use Rattle.cdf_format.specs.ChainRules.{count_rows, differ_rows}
 use Rattle.cdf_format.specs.Chains.{is_a}
 use Rattle.cdf_format.specs.Fields.{number, size_at}
-use Rattle.cdf_format.specs.Records.{Field, adr_name, adr_ngr_entries, adr_nz_entries}
+use Rattle.cdf_format.specs.Records.{Field, adr_name, adr_ngr_entries, adr_nz_entries, aedr_num}
 use Rattle.cdf_format.specs.RecordTypes.{adr_type}
 use Rattle.cdf_format.specs.Rules.{Hold}
 use Rattle.cdf_format.specs.Shape.{AttributeShape, Shape, adrs, shape, Each, HasEntries, HasShape}
 use Rattle.cdf_format.specs.Sound.{AttributeFits, EntryFits, IsSound}
-use Rattle.cdf_format.specs.Tiles.{In, tiles}
+use Rattle.cdf_format.specs.Tiles.{Distinct, In, tiles}
 use Rattle.cdf_format.specs.WellFormed.{Good}
 use Rattle.cdf_format.proofs.ChainsLemmas.{linkable-in, linkable-is_a}
 use Rattle.cdf_format.proofs.GoodByShape.{attribute_shape_rows}
 use Rattle.cdf_format.proofs.GoodSound.{good_by_its_shape, good_is_sound}
+use Rattle.cdf_format.proofs.Members.{length-le_from_distinct}
 use Rattle.cdf_format.proofs.RowLemmas.{Hold-split, Hold-member}
 use Rattle.cdf_format.proofs.ShapeLemmas.{tiles_are}
-use Rattle.cdf_format.proofs.Tests.{eq_of}
-use Rattle.cdf_format.proofs.TilesLemmas.{tile_lies}
-use Rattle.cdf_attrs.specs.Finding.{IsOfAttribute, entries_chain}
+use Rattle.cdf_format.proofs.Tests.{eq_of, le_of}
+use Rattle.cdf_format.proofs.TilesLemmas.{length_tiles, tile_lies}
+use Rattle.cdf_attrs.specs.Finding.{IsOfAttribute}
+use Rattle.cdf_edits.specs.Edits.EntryMarks.{entries_chain}
 
 -- what there is of an attribute that stands in a good image
 record Stands (b : List ℕ) (s : Shape) (a : AttributeShape) : Type 0 where
@@ -42,12 +46,23 @@ record IsChainOf (b : List ℕ) (s : Shape) (c : Chain) (adr : ℕ) (ms : List �
   count : counted_in b c ≡ length ms
   fits : Each (EntryFits b) ms
   values : (m : ℕ) → In m ms → has_value b m ≡ true
+  numbers : (m : ℕ) → In m ms → number b m aedr_num ≤ record_number_limit
+  differ : Distinct (nums b ms)
 
 values_of : (b : List ℕ) (adr : ℕ) (count : Field) (ms : List ℕ) → Hold (entries_rows b adr count ms) → (m : ℕ) → In m ms → has_value b m ≡ true
 values_of b adr count ms rows m i =
     let front = Hold-split (count_rows 5 b adr count ms ++ flat_map (entry_rows b adr) ms) (differ_rows 7 (same_number b) [] ms) rows in
     let entries = Hold-split (count_rows 5 b adr count ms) (flat_map (entry_rows b adr) ms) front.0 in
     (Hold-member (entry_rows b adr) ms m entries.1 i).1.1.0
+
+numbers_of : (b : List ℕ) (adr : ℕ) (count : Field) (ms : List ℕ) → Hold (entries_rows b adr count ms) → (m : ℕ) → In m ms → number b m aedr_num ≤ record_number_limit
+numbers_of b adr count ms rows m i =
+    let front = Hold-split (count_rows 5 b adr count ms ++ flat_map (entry_rows b adr) ms) (differ_rows 7 (same_number b) [] ms) rows in
+    let entries = Hold-split (count_rows 5 b adr count ms) (flat_map (entry_rows b adr) ms) front.0 in
+    le_of (number b m aedr_num) record_number_limit (Hold-member (entry_rows b adr) ms m entries.1 i).1.0
+
+differ_of : (b : List ℕ) (adr : ℕ) (count : Field) (ms : List ℕ) → Hold (entries_rows b adr count ms) → Distinct (nums b ms)
+differ_of b adr count ms rows = nums_differ b ms (Hold-split (count_rows 5 b adr count ms ++ flat_map (entry_rows b adr) ms) (differ_rows 7 (same_number b) [] ms) rows).1
 
 got_in : (as_ : List AttributeShape) (i : ℕ) (a : AttributeShape) → slice_get as_ i ≡ Some a → In a.adr (map (λ (x : AttributeShape). x.adr) as_)
 got_in [] i a e = absurd cc
@@ -102,6 +117,8 @@ module _ (b : List ℕ) (good : Good b) where
         count = eq_of (number b a.adr adr_ngr_entries) (length a.gr_entries) rows.1.0;
         fits = st.fits.0;
         values = values_of b a.adr adr_ngr_entries a.gr_entries rows.1;
+        numbers = numbers_of b a.adr adr_ngr_entries a.gr_entries rows.1;
+        differ = differ_of b a.adr adr_ngr_entries a.gr_entries rows.1;
       }
 
   z_chain_is : (a : AttributeShape) → Stands b (shape b) a → IsChainOf b (shape b) (ZEntries a.adr) a.adr a.z_entries
@@ -113,6 +130,8 @@ module _ (b : List ℕ) (good : Good b) where
         count = eq_of (number b a.adr adr_nz_entries) (length a.z_entries) parts.1.0;
         fits = st.fits.1;
         values = values_of b a.adr adr_nz_entries a.z_entries parts.1;
+        numbers = numbers_of b a.adr adr_nz_entries a.z_entries parts.1;
+        differ = differ_of b a.adr adr_nz_entries a.z_entries parts.1;
       }
 
   chain_of_kind : (a : AttributeShape) → Stands b (shape b) a → (kind : EntryKind) → IsChainOf b (shape b) (entries_chain kind a.adr) a.adr (chain_of a kind)
@@ -138,6 +157,25 @@ module _ (b : List ℕ) (good : Good b) where
 
     pub counted : counted_in b c ≡ length (members_of b c)
     counted = at.count ∙ ap (λ (xs : List ℕ). length xs) (sym members)
+
+    -- it is none of the greatest that there are
+    pub entry_number : (m : ℕ) → In m (members_of b c) → number b m aedr_num ≤ record_number_limit
+    entry_number m i = at.numbers m (subst (In m) members i)
+
+    -- there are fewer of them than bytes
+    pub few_entries : length (members_of b c) + 8 ≤ length b
+    few_entries =
+        let ok = at.is.chain in
+        let l = length-le_from_distinct (chain_of of.own of.kind) (shape b).records ok.once (λ m i. linkable-in b (shape b).records (type_in c) m (ok.linkable m i)) in
+        let t = length_tiles b 8 (length b) (shape b).records h.tiled in
+        let same = ap (λ (xs : List ℕ). length xs) members in
+        omega arith
+
+    pub entry_lies : (m : ℕ) → In m (members_of b c) → EntryFits b m
+    entry_lies m i = fits_of b (chain_of of.own of.kind) m (subst (In m) members i) at.fits
+
+    pub entries_differ : Distinct (nums b (chain_of of.own of.kind))
+    entries_differ = at.differ
 
     pub entry_has_value : (m : ℕ) → In m (members_of b c) → has_value b m ≡ true
     entry_has_value m i = at.values m (subst (In m) members i)

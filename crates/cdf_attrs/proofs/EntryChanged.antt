@@ -11,7 +11,7 @@ use Rattle.cdf_format.specs.Content.{content, entries_of as chain_items}
 use Rattle.cdf_format.specs.Fields.{number, integer4, size_at, type_at}
 use Rattle.cdf_format.specs.Bytes.{Same}
 use Rattle.cdf_format.specs.Owners.{Unused, unused_records}
-use Rattle.cdf_format.specs.Records.{adr_num, aedr_num, aedr_rfu_b, aedr_rfu_c, aedr_rfu_d, aedr_rfu_e}
+use Rattle.cdf_format.specs.Records.{adr_num, aedr_num}
 use Rattle.cdf_format.specs.RecordTypes.{uir_type}
 use Rattle.cdf_format.specs.Shape.{AttributeShape, shape}
 use Rattle.cdf_format.specs.Sound.{IsSound}
@@ -30,14 +30,10 @@ use Rattle.cdf_edits.proofs.Edits.RecordFrame.{kept}
 use Rattle.cdf_edits.proofs.Frame.OwnersApart.{unused_in}
 use Rattle.cdf_edits.proofs.Rules.WithoutLinks.{eof_by_rules}
 use Rattle.cdf_edits.proofs.Space.UsedRecords.{filter-says}
-use Rattle.cdf_attrs.specs.declared.entry_bytes.Reserved.{Reserved}
+use Rattle.cdf_attrs.specs.Putting.{reserved_at}
 use Rattle.cdf_attrs.proofs.EntryPut.{Asked}
 use Rattle.cdf_attrs.proofs.EntryReplaced.{Replacing, replaced_follow}
 use Rattle.cdf_attrs.proofs.EntryWritten.{IsEntry}
-
--- the numbers that the reserved fields of an entry have
-abbrev pub reserved_at : List ℕ → ℕ → Reserved
-reserved_at b place = record { b = number b place aedr_rfu_b; c = number b place aedr_rfu_c; d = number b place aedr_rfu_d; e = number b place aedr_rfu_e }
 
 module _ {b now attr : List ℕ} {kind : EntryKind} {num : ℕ} {t : DataType} {words : List (List ℕ)} {before : List AttributeShape} {own : AttributeShape} {after : List AttributeShape} {entry : Entry} {fields : List ℕ} {old bytes : ℕ} (good : Good b) (asked : Asked b attr kind num t words before own entry)
     (p : ChangesEntry b now kind before own after fields old) (width : 20 + length fields ≡ 56 + bytes) (of_old : number b old aedr_num ≡ num) (new : IsEntry now old (number b own.adr adr_num) num (reserved_at b old) bytes entry) (bytes_are : length entry.bytes ≡ bytes) (small : num ≤ record_number_limit)

@@ -84,25 +84,25 @@ num_left b now old n of_old (e ∷ es) d i live j = elim (cases_eq e old) [
 
 module _ {b late now attr : List ℕ} {kind : EntryKind} {num : ℕ} {before : List AttributeShape} {own : AttributeShape} {after : List AttributeShape} {entry : Entry} {old : ℕ} (good : Good b) (names : Names b attr kind num before own entry) (q : LeavesChain b late kind before own after old) (gives : Gives late now (shape late) (shape now) old)
     (of_old : number b old aedr_num ≡ num) (long : 28 ≤ size_at b old) (counted : number late own.adr (count_field kind) + 1 ≡ number b own.adr (count_field kind)) (greatest : integer4 now own.adr (max_field kind) ≡ greatest_number (without num num (chain_items b (chain_of own kind)))) (limited : length b ≤ image_limit) where
-  sound : IsSound b (shape b)
+  pub sound : IsSound b (shape b)
   sound = good_is_sound b good
 
   image : IsGoodByShape b (shape b)
   image = good_by_its_shape b good
 
-  abbrev chain : List ℕ
+  abbrev pub chain : List ℕ
   chain = chain_of own kind
 
-  abbrev chain' : List ℕ
+  abbrev pub chain' : List ℕ
   chain' = left_of old chain
 
   abbrev acts : List Act
   acts = Gave old (size_at b old) ∷ []
 
-  f : Frees b late now (shape b).records (shape b).unused (marks sound q) [] kind before own after chain' [] old
+  pub f : Frees b late now (shape b).records (shape b).unused (marks sound q) [] kind before own after chain' [] old
   f = left_frees sound q gives
 
-  r : Rechains b now (shape b) (shape b).records (shape now).unused (all_marks sound f) (old ∷ []) kind before own after chain' (old ∷ []) []
+  pub r : Rechains b now (shape b) (shape b).records (shape now).unused (all_marks sound f) (old ∷ []) kind before own after chain' (old ∷ []) []
   r = freed_rechains sound f
 
   old_rules : Hold (entries_rows b own.adr (count_field kind) chain)
@@ -111,10 +111,10 @@ module _ {b late now attr : List ℕ} {kind : EntryKind} {num : ℕ} {before : L
   old_differ : Distinct (nums b chain)
   old_differ = nums_differ b chain (Hold-split _ (differ_rows 7 (same_number b) [] chain) old_rules.1).1
 
-  once : Distinct chain
+  pub once : Distinct chain
   once = (chain_has kind own (there sound r).1.0.have.0).once
 
-  others : (m : ℕ) → In m chain → m ≢ old → EntryLives b now m
+  pub others : (m : ℕ) → In m chain → m ≢ old → EntryLives b now m
   others m i ne = entry_stays sound r m i (λ j. elim j [ inl x ↦ ne x | inr none ↦ none ])
 
   left_nums : Distinct (nums now chain') × ((k : ℕ) → In k (nums now chain') → In k (nums b chain))
@@ -132,10 +132,10 @@ module _ {b late now attr : List ℕ} {kind : EntryKind} {num : ℕ} {before : L
       counts : (n l o c c' : ℕ) → n ≡ l → l + 1 ≡ o → o ≡ c → c' + 1 ≡ c → n ≡ c'
       counts n l o c c' p q r t = omega arith
 
-  items_now : chain_items now chain' ≡ without num num (chain_items b chain)
+  pub items_now : chain_items now chain' ≡ without num num (chain_items b chain)
   items_now = entries_left b now old num of_old chain old_differ q.member others
 
-  content_now : content now ≡ with_attribute (content b) (length before) (with_entries (attribute_of b own) kind (without num num (entries_of (attribute_of b own) kind)))
+  pub content_now : content now ≡ with_attribute (content b) (length before) (with_entries (attribute_of b own) kind (without num num (entries_of (attribute_of b own) kind)))
   content_now =
       content_rechained sound r (without num num (chain_items b chain)) items_now
       ∙ ap (λ (items : List (ℕ × Entry)). with_attribute (content b) (length before) (with_entries (attribute_of b own) kind (without num num items))) (sym (items_of b own kind))

@@ -35,7 +35,7 @@ use Rattle.cdf_edits.proofs.Edits.MovedFreed.{FreeTests, free_tests, frees, by_o
 use Rattle.cdf_edits.proofs.Edits.OwnedOnce.{used_times}
 use Rattle.cdf_edits.proofs.Edits.PushedEntry.{count_is}
 use Rattle.cdf_edits.proofs.Edits.Splice.{spliced}
-use Rattle.cdf_attrs.proofs.EntryChanged.{reserved_at}
+use Rattle.cdf_attrs.specs.Putting.{reserved_at}
 use Rattle.cdf_attrs.proofs.EntryPushed.{entry_is_read}
 use Rattle.cdf_attrs.proofs.EntryPut.{Asked}
 use Rattle.cdf_attrs.proofs.EntryReplaced.{Replacing, replaced_follow}

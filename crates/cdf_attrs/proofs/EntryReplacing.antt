@@ -24,7 +24,7 @@ use Rattle.cdf_attrs.specs.Putting.{IsEntryOf, IsEntryBody}
 use Rattle.cdf_attrs.proofs.EntryWritten.{length-body, type_in_body, entry_written, is_entry}
 
 -- the moving leaves what follows the links of an entry
-value_stays : (kind : EntryKind) (adr by : ℕ) (members : List ℕ) (hi : ℕ) → avoided (moving kind adr by members) (entry_type kind) 20 hi ≡ true
+pub value_stays : (kind : EntryKind) (adr by : ℕ) (members : List ℕ) (hi : ℕ) → avoided (moving kind adr by members) (entry_type kind) 20 hi ≡ true
 value_stays entries.G adr by members hi = refl
 value_stays entries.R adr by members hi = refl
 value_stays entries.Z adr by members hi = refl

@@ -54,7 +54,7 @@ type_back Double = refl
 type_back Char = refl
 type_back UChar = refl
 
-code_small : (t : DataType) → code_of t < 2 ^ 32
+pub code_small : (t : DataType) → code_of t < 2 ^ 32
 code_small t = by t
   where
     by : (t : DataType) → code_of t < 2 ^ 32

@@ -1,8 +1,12 @@
 pub mod DeletingSteps
 pub mod Renamed
 pub mod EntryWritten
+pub mod AttributeParts
 pub mod EntryAdded
 pub mod EntryPut
+pub mod GreatestNumber
+pub mod EntryTakenAt
+pub mod EntryDeleted
 pub mod EntryChanged
 pub mod EntryCalls
 pub mod EntryLeft
@@ -10,6 +14,10 @@ pub mod EntryMoved
 pub mod EntryPushed
 pub mod EntryReplaced
 pub mod EntryReplacing
+pub mod PushedValue
+pub mod PutCalls
+pub mod ChangedValue
+pub mod MovedValue
 pub mod NewAdr
 pub mod Created
 pub mod CreatingAnswers
@@ -26,3 +34,9 @@ pub mod EntryLookup
 pub mod EntrySteps
 pub mod GettingAnswers
 pub mod WholeEntries
+pub mod ValueSizes
+pub mod ValueWords
+pub mod RangeCounts
+pub mod GreatestPut
+pub mod PutSteps
+pub mod PutAnswers

@@ -33,7 +33,8 @@ use Rattle.cdf_format.proofs.Tests.{both, le_of}
 use Rattle.cdf_model.specs.Limits.{signed_limit}
 use Rattle.cdf_model.specs.Place.{record_limit}
 use Rattle.cdf_values.proofs.TurnedLemmas.{size_stays}
-use Rattle.cdf_attrs.specs.Finding.{IsOfAttribute, entries_chain}
+use Rattle.cdf_attrs.specs.Finding.{IsOfAttribute}
+use Rattle.cdf_edits.specs.Edits.EntryMarks.{entries_chain}
 use Rattle.cdf_attrs.proofs.EntryChains.{members, entry_has_value, entry_inside}
 use Rattle.cdf_attrs.proofs.EntryLookup.{item_of_chain}
 use Rattle.cdf_attrs.proofs.GettingAnswers.{entries_by_chain, found_in}

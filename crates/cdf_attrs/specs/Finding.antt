@@ -2,24 +2,17 @@
 use Rattle.std.specs.Prelude.{◌≡◌, ℕ, List, true, false, Some, None}
 use Rattle.std.specs.List.{slice_get}
 use Rattle.cdf_edits.specs.declared.chain.Chain.{Chain}
-use Rattle.cdf_edits.specs.declared.chain.Chain.TheVariants.{GrEntries, ZEntries}
+use Rattle.cdf_edits.specs.Edits.EntryMarks.{entries_chain}
 use Rattle.cdf_format.specs.Content.{content, attribute_of}
 use Rattle.cdf_format.specs.Shape.{AttributeShape, shape}
 use Rattle.cdf_model.specs.declared.answer.Reason.{Reason}
 use Rattle.cdf_model.specs.declared.answer.Reason.TheVariants.{NoSuchAttr, WrongScope}
 use Rattle.cdf_model.specs.declared.kinds.EntryKind.{EntryKind}
-use Rattle.cdf_model.specs.declared.kinds.EntryKind.TheVariants.{G, R, Z}
 use Rattle.cdf_model.specs.AttributeSteps.{is_wrong_scope}
 use Rattle.cdf_model.specs.DataSet.{Attribute}
 use Rattle.cdf_model.specs.Names.{attribute_named}
 use Rattle.cdf_attrs.specs.declared.finding.Target.{Target}
 use Rattle.cdf_attrs.specs.declared.finding.Target.TheVariants.{Found, Refused}
-
--- the chain of the entries of a kind, of the attribute whose ADR stands at a place
-abbrev pub entries_chain : EntryKind → ℕ → Chain
-entries_chain G adr = GrEntries adr
-entries_chain R adr = GrEntries adr
-entries_chain Z adr = ZEntries adr
 
 -- a chain of the entries of an attribute
 pub record IsOfAttribute (b : List ℕ) (chain : Chain) : Type 0 where

@@ -6,7 +6,7 @@ use Rattle.cdf_model.specs.declared.kinds.EntryKind.{EntryKind}
 use Rattle.cdf_model.specs.Limits.{signed_limit}
 use Rattle.cdf_model.specs.Place.{record_limit}
 use Rattle.cdf_model.specs.Types.{code_of, size_of}
-use Rattle.cdf_format.specs.Fields.{with_field}
+use Rattle.cdf_format.specs.Fields.{number, with_field}
 use Rattle.cdf_format.specs.Records.{Field, record_type, aedr_aedr_next, aedr_attr_num, aedr_data_type, aedr_num, aedr_num_elems, aedr_num_strings, aedr_rfu_b, aedr_rfu_c, aedr_rfu_d, aedr_rfu_e}
 use Rattle.cdf_attrs.specs.declared.entry_bytes.Reserved.{Reserved}
 use Rattle.cdf_edits.specs.Commands.EntryChains.{chain_of, entry_type, max_field}
@@ -21,6 +21,10 @@ use Rattle.cdf_format.specs.Tiles.{In}
 -- the numbers in the reserved fields of a new entry
 abbrev pub new_reserved : Reserved
 new_reserved = record { b = 0; c = 0; d = 0xffffffff; e = 0xffffffff }
+
+-- those of an entry that stands at a place
+abbrev pub reserved_at : List ℕ → ℕ → Reserved
+reserved_at b place = record { b = number b place aedr_rfu_b; c = number b place aedr_rfu_c; d = number b place aedr_rfu_d; e = number b place aedr_rfu_e }
 
 -- what the fields say that follow the link to the next one
 abbrev pub aedr_fields : ℕ → DataType → ℕ → ℕ → Reserved → List (Field × ℕ)

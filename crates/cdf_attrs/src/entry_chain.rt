@@ -1,6 +1,6 @@
 //! The entries of one chain of an attribute, as far as commands ask for them.
 
-ghost use Rattle.std.specs.Prelude.{◌≡◌, ◌==◌, ◌+◌, ◌≤◌, length, map, position, slice_get, slice_index, EachIndex, IfOk, IsTrue, None};
+ghost use Rattle.std.specs.Prelude.{◌≡◌, ◌==◌, ◌+◌, ◌≤◌, length, map, position, slice_get, slice_index, slice_set, ◌<◌, EachIndex, IfOk, IsTrue, None, ◌++◌, ◌∷◌, [], OnOk};
 ghost use Rattle.std.specs.Option.{option_and_then};
 ghost use Rattle.cdf_area.specs.Calls.{Reads};
 ghost use Rattle.cdf_attrs.specs.Finding.{IsOfAttribute};
@@ -14,7 +14,7 @@ use cdf_area::{Area, AreaError};
 use cdf_format::fields::AEDR_NUM;
 use cdf_records::read_unsigned4;
 use cdf_space::{Chain, read_chain};
-use std::alloc::Global;
+use std::alloc::{AllocError, Global};
 use std::marker::Model;
 
 /// The entries of a chain: their numbers, and where their descriptors stand, both in the order of the chain.
@@ -87,6 +87,23 @@ impl EntryChain {
         ensures { result ≡ position (λ n. n == num) self.now.numbers }
     {
         self.numbers.iter().position(|n| *n == num)
+    }
+
+    /// Adds a last entry.
+    pub(crate) fn push(&mut self, num: u32, place: u64) -> Result<(), AllocError>
+        ensures { OnOk result (self.new ≡ record { chain = self.old.chain; numbers = self.old.numbers ++ num ∷ []; places = self.old.places ++ place ∷ [] }) }
+    {
+        self.numbers.push(num)?;
+        self.places.push(place)?;
+        Ok(())
+    }
+
+    /// Says that the descriptor of the entry at an index stands elsewhere.
+    pub(crate) fn set_place(&mut self, i: usize, place: u64)
+        requires { i < length self.old.places }
+        ensures { self.new ≡ record self.old { places = slice_set self.old.places i place } }
+    {
+        self.places[i] = place;
     }
 
     /// Where the descriptor of the entry with a number stands.

@@ -2,12 +2,13 @@
 
 ghost use Rattle.std.specs.Prelude.{◌≡◌, IfOk};
 ghost use Rattle.cdf_area.specs.Calls.{Reads};
-ghost use Rattle.cdf_attrs.specs.Finding.{Finds, entries_chain};
+ghost use Rattle.cdf_attrs.specs.Finding.{Finds};
 ghost use Rattle.cdf_attrs.specs.Known.{Knows};
 ghost use Rattle.cdf_format.specs.WellFormed.{Good};
 ghost use Rattle.cdf_model.specs.AttributeSteps.{is_global, is_wrong_scope};
 
 use crate::attrs::Attrs;
+use crate::chain_fields::entries_chain;
 use crate::reading::read_scope;
 use cdf_area::{Area, AreaError};
 use cdf_model::{EntryKind, Reason, Scope};
@@ -39,16 +40,6 @@ fn is_wrong_scope(kind: EntryKind, scope: Scope) -> bool
     match kind {
         EntryKind::G => !is_global(scope),
         EntryKind::R | EntryKind::Z => is_global(scope),
-    }
-}
-
-/// The chain of the entries of a kind, of the attribute whose descriptor stands at a place.
-fn entries_chain(kind: EntryKind, adr: u64) -> Chain
-    ensures { result ≡ entries_chain kind adr }
-{
-    match kind {
-        EntryKind::G | EntryKind::R => Chain::GrEntries { adr },
-        EntryKind::Z => Chain::ZEntries { adr },
     }
 }
 

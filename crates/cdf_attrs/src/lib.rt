@@ -9,10 +9,14 @@ mod entry_bytes;
 mod entry_chain;
 mod finding;
 mod getting;
+mod greatest;
 mod name;
 mod putting;
+mod putting_entry;
+mod range;
 mod reading;
 mod removing;
 mod renaming;
+mod value;
 
 pub use attrs::Attrs;

@@ -17,7 +17,7 @@ use Rattle.cdf_format.proofs.ChainsLemmas.{is_a-type, linkable-in, linkable-type
 use Rattle.cdf_format.proofs.Members.{In-append, In-append_left, In-append_right}
 use Rattle.cdf_format.proofs.TilesLemmas.{tile_lies}
 use Rattle.cdf_edits.specs.Commands.Allowances.{Allowances, AllKeep, FreedStays, is_taken}
-use Rattle.cdf_edits.specs.Commands.EntryChains.{chain_of, entry_type}
+use Rattle.cdf_edits.specs.Commands.EntryChains.{chain_of, entry_type, max_field}
 use Rattle.cdf_edits.specs.Edits.Edit.{Edit}
 use Rattle.cdf_edits.specs.Edits.EntryMarks.{head_field, count_field, keeps_but_chain}
 use Rattle.cdf_edits.specs.Edits.Marks.{Mark, Avoids, Away, Within, Confined, attribute_types, avoided, giving_marks}
@@ -55,6 +55,12 @@ pub give_tests : (kind : EntryKind) (list : List ℕ) (old size : ℕ) → GiveT
 give_tests entries.G list old size = record { start = refl; head = refl; count = refl; gdr_start = refl; gdr_end = refl; no_gdr = apart 5 gdr_type refl; no_uir = apart 5 uir_type refl; head_fits = omega arith }
 give_tests entries.R list old size = record { start = refl; head = refl; count = refl; gdr_start = refl; gdr_end = refl; no_gdr = apart 5 gdr_type refl; no_uir = apart 5 uir_type refl; head_fits = omega arith }
 give_tests entries.Z list old size = record { start = refl; head = refl; count = refl; gdr_start = refl; gdr_end = refl; no_gdr = apart 9 gdr_type refl; no_uir = apart 9 uir_type refl; head_fits = omega arith }
+
+-- freeing leaves the greatest number as well
+greatest_given : (kind : EntryKind) (list : List ℕ) (old size : ℕ) → avoided (giving_marks list (entry_type kind) old size) adr_type (max_field kind).place ((max_field kind).place + (max_field kind).width) ≡ true
+greatest_given entries.G list old size = refl
+greatest_given entries.R list old size = refl
+greatest_given entries.Z list old size = refl
 
 Confined-more : (ks : List Mark) (types own own' : List ℕ) → ((m : ℕ) → In m own → In m own') → Confined ks types own → Confined ks types own'
 Confined-more [] types own own' sub c = tt
@@ -176,6 +182,9 @@ module _ {b late now : List ℕ} {records list : List ℕ} {marks : List Mark} {
 
   pub count_same : (count_field kind).place + (count_field kind).width ≤ 324 → number now own.adr (count_field kind) ≡ number late own.adr (count_field kind)
   count_same fits = adr_field (count_field kind) g.count fits
+
+  pub greatest_same : (max_field kind).place + (max_field kind).width ≤ 324 → number now own.adr (max_field kind) ≡ number late own.adr (max_field kind)
+  greatest_same fits = adr_field (max_field kind) (greatest_given kind list old size) fits
 
   records_now : (shape now).records ≡ records
   records_now = gives.records_stay

@@ -1,10 +1,8 @@
-use Rattle.std.proofs.Common.{◌≡◌, ◌∙◌, ◌+◌, ◌++◌, ◌∷◌, [], ℕ, List, map, take, drop, sym, ap, subst}
+use Rattle.std.proofs.Common.{◌≡◌, ◌∙◌, ◌+◌, ℕ, List, map, take, drop, sym, ap, subst}
 use Rattle.std.proofs.lemmas.Result.{on_ok_weaker}
-use Rattle.cdf_attrs.specs.Deleting.{AllLie, write_of}
+use Rattle.cdf_attrs.specs.Deleting.{write_of}
 use Rattle.cdf_attrs.proofs.AttributeChain.{last_got}
-use Rattle.cdf_edits.specs.Edits.Unlinks.{Deletes}
-use Rattle.cdf_edits.specs.Edits.Writes.{Write, with_writes, numbers_from}
-use Rattle.cdf_edits.specs.Space.Freeing.{AllGiven, AreFree}
+use Rattle.cdf_edits.specs.Edits.Writes.{Write, numbers_from}
 use Rattle.cdf_edits.proofs.Edits.DeletionCalls.{place_in, sound_there, chain_there, member_there, behind_there, cdr_after, room_after, some_after, lie_after, sound_after, free_after, deletes_by}
 use Rattle.cdf_format.specs.Shape.{shape}
 use Rattle.cdf_format.specs.WellFormed.{Good}

@@ -6,7 +6,7 @@ use Rattle.cdf_format.specs.Sound.{IsSound}
 use Rattle.cdf_format.specs.Tiles.{tiles}
 use Rattle.cdf_format.proofs.GoodSound.{good_is_sound}
 use Rattle.cdf_edits.specs.Space.Chains.{HasChain, counted_in, members_of}
-use Rattle.cdf_edits.specs.declared.chain.Chain.TheVariants.{GrEntries, ZEntries}
+use Rattle.cdf_edits.specs.declared.chain.Chain.TheVariants.{ZEntries}
 use Rattle.cdf_attrs.proofs.DeletingSteps.{chains_at}
 use Rattle.cdf_attrs.proofs.deleting.read_entries.Goals as goal
 

@@ -1,5 +1,5 @@
-use Rattle.std.proofs.Common.{◌≡◌, ◌∙◌, ◌+◌, ◌-◌, ◌<◌, ◌++◌, ◌∷◌, [], ℕ, List, map, drop, length, get_or, sym, ap, subst, append-nil, arith}
-use Rattle.std.proofs.lemmas.List.{length-map, map-append, at_drop_all}
+use Rattle.std.proofs.Common.{◌≡◌, ◌∙◌, ◌-◌, ◌++◌, ◌∷◌, [], ℕ, List, map, length, get_or, sym, ap, subst, append-nil, arith}
+use Rattle.std.proofs.lemmas.List.{map-append, at_drop_all}
 use Rattle.cdf_area.proofs.Calls.{read_more}
 use Rattle.cdf_attrs.specs.Deleting.{write_of}
 use Rattle.cdf_attrs.proofs.AttributeChain.{few_attributes}

@@ -1,4 +1,4 @@
-use Rattle.std.proofs.Common.{◌≡◌, ◌∙◌, ◌<◌, ℕ, List, refl, ap, sym, length, arith}
+use Rattle.std.proofs.Common.{◌∙◌, ℕ, List, ap, sym, length, arith}
 use Rattle.std.specs.List.{remove}
 use Rattle.cdf_format.specs.Content.{content}
 use Rattle.cdf_attrs.proofs.KnownAttributes.{names_known, places_known, none_known}

@@ -1,0 +1,113 @@
+-- An attribute of an image, with those before it and those after it; and an image in which one of its chains is another.
+use Rattle.std.proofs.Common.{◌≡◌, ℕ, zero, suc, ◌+◌, List, [], ◌∷◌, ◌++◌, length, map, Some, refl, sym, ap, ◌∙◌, arith, inl, inr}
+use Rattle.std.proofs.lemmas.List.{map-append, map-set}
+use Rattle.std.specs.List.{slice_get}
+use Rattle.std.specs.Prelude.{slice_set}
+use Rattle.cdf_model.specs.declared.kinds.EntryKind.{EntryKind}
+use Rattle.cdf_model.specs.declared.kinds.EntryKind.TheVariants as entries
+use Rattle.cdf_model.specs.AttributeSteps.{with_entries}
+use Rattle.cdf_model.specs.DataSet.{Attribute, DataSet, Entry}
+use Rattle.cdf_model.specs.Names.{attribute_names}
+use Rattle.cdf_format.specs.Content.{content, attribute_of, entries_of as chain_items}
+use Rattle.cdf_format.specs.ChainRules.{adrs_rows, count_rows, differ_rows, number_rows, r_vdrs_rows, z_vdrs_rows}
+use Rattle.cdf_format.specs.Fields.{number, gdr_offset}
+use Rattle.cdf_format.specs.AttributeRules.{same_number}
+use Rattle.cdf_format.specs.Records.{adr_num, aedr_num, gdr_num_attr}
+use Rattle.cdf_format.specs.Tiles.{In}
+use Rattle.cdf_format.specs.Rules.{Hold}
+use Rattle.cdf_format.specs.Shape.{AttributeShape, Shape, adrs, shape, vdrs}
+use Rattle.cdf_format.specs.Sound.{IsSound}
+use Rattle.cdf_format.specs.WellFormed.{Good}
+use Rattle.cdf_format.proofs.GoodSound.{good_by_its_shape, good_is_sound}
+use Rattle.cdf_format.proofs.RowLemmas.{Hold-split}
+use Rattle.cdf_format.proofs.ShapeLemmas.{content_is}
+use Rattle.cdf_format.proofs.Tests.{eq_of}
+use Rattle.cdf_edits.specs.Commands.EntryChains.{chain_of}
+use Rattle.cdf_edits.specs.Edits.EntryMarks.{entries_chain, with_chain}
+use Rattle.cdf_edits.specs.Edits.Marks.{Mark}
+use Rattle.cdf_edits.specs.Space.Chains.{members_of, with_in_place}
+use Rattle.cdf_edits.proofs.Edits.ChainEntries.{nums, nums_differ, nums_replaced}
+use Rattle.cdf_edits.proofs.Edits.ChainFollowed.{chain_now}
+use Rattle.cdf_edits.proofs.Edits.ChainKinds.{adr_of}
+use Rattle.cdf_edits.proofs.Edits.ChainsOfShape.{members_are}
+use Rattle.cdf_edits.proofs.Edits.ChainSpliced.{Rechains, made, splices, now_is, content_rechained, chain_rules_before, entry_stays}
+use Rattle.cdf_edits.proofs.Edits.PushedEntry.{of_shape}
+use Rattle.cdf_edits.proofs.Edits.Splice.{shape_now}
+use Rattle.cdf_attrs.specs.PutValues.{IsAttributeAt}
+use Rattle.cdf_attrs.proofs.NamesChanged.{got-map, got-middle}
+
+-- ---- the parts
+
+pub record Parts (b : List ℕ) (adr number : ℕ) (own : AttributeShape) : Type 0 where
+  pub before : List AttributeShape
+  pub after : List AttributeShape
+  pub stands : (shape b).attributes ≡ before ++ own ∷ after
+  pub count : length before ≡ number
+  pub adr_is : own.adr ≡ adr
+
+same_first : (x a : AttributeShape) → Some x ≡ Some a → x ≡ a
+same_first x a e = cc
+
+parts_at : (as_ : List AttributeShape) (n : ℕ) (own : AttributeShape) → slice_get as_ n ≡ Some own → (before : List AttributeShape) × (after : List AttributeShape) × (as_ ≡ before ++ own ∷ after) × (length before ≡ n)
+parts_at [] n own e = absurd cc
+parts_at (a ∷ more) zero own e = ([], more, ap (λ (x : AttributeShape). x ∷ more) (same_first a own e), refl)
+parts_at (a ∷ more) (suc n) own e = let p = parts_at more n own e in (a ∷ p.0, p.1, ap (λ (x : List AttributeShape). a ∷ x) p.2, ap suc p.3)
+
+pub parts : {b : List ℕ} {number adr : ℕ} (at : IsAttributeAt b number adr) → Parts b adr number at.own
+parts {b = b} {number = number} at = let p = parts_at (shape b).attributes number at.own at.stands in record { before = p.0; after = p.1; stands = p.2; count = p.3; adr_is = at.adr_is }
+
+-- its ADR says its number
+got_number : (b : List ℕ) (k : ℕ) (as_ : List AttributeShape) (n : ℕ) (own : AttributeShape) → slice_get as_ n ≡ Some own → Hold (number_rows 4 b adr_num k (map (λ (a : AttributeShape). a.adr) as_)) → number b own.adr adr_num ≡ k + n
+got_number b k [] n own e rows = absurd cc
+got_number b k (a ∷ more) zero own e rows = ap (λ (x : AttributeShape). number b x.adr adr_num) (sym (same_first a own e)) ∙ eq_of (number b a.adr adr_num) k rows.0 ∙ omega arith
+got_number b k (a ∷ more) (suc n) own e rows = got_number b (suc k) more n own e rows.1 ∙ omega arith
+
+pub number_at : {b : List ℕ} {n adr : ℕ} → Good b → (at : IsAttributeAt b n adr) → number b at.own.adr adr_num ≡ n
+number_at {b = b} {n = n} good at =
+    let image = good_by_its_shape b good in
+    let p = Hold-split (adrs_rows b (adrs (shape b)) ++ r_vdrs_rows b (vdrs (shape b).r_variables)) (z_vdrs_rows b (vdrs (shape b).z_variables)) image.counting in
+    let q = Hold-split (adrs_rows b (adrs (shape b))) (r_vdrs_rows b (vdrs (shape b).r_variables)) p.0 in
+    let rows = Hold-split (count_rows 3 b (gdr_offset b) gdr_num_attr (adrs (shape b))) (number_rows 4 b adr_num 0 (adrs (shape b))) q.0 in
+    got_number b 0 (shape b).attributes n at.own at.stands rows.1 ∙ omega arith
+
+-- ---- one chain is another
+
+set_same : (xs : List (List ℕ)) (n : ℕ) (x : List ℕ) → slice_get xs n ≡ Some x → slice_set xs n x ≡ xs
+set_same [] n x e = refl
+set_same (y ∷ xs) zero x e = let same : y ≡ x = cc in ap (λ (z : List ℕ). z ∷ xs) (sym same)
+set_same (y ∷ xs) (suc n) x e = ap (λ (r : List (List ℕ)). y ∷ r) (set_same xs n x e)
+
+name_stays : (a : Attribute) (kind : EntryKind) (items : List (ℕ × Entry)) → (with_entries a kind items).name ≡ a.name
+name_stays a entries.G items = refl
+name_stays a entries.R items = refl
+name_stays a entries.Z items = refl
+
+module _ {b now new list : List ℕ} {marks : List Mark} {reborn : List ℕ} {kind : EntryKind} {before : List AttributeShape} {own : AttributeShape} {after : List AttributeShape} {chain' gone come : List ℕ} (sound : IsSound b (shape b)) (r : Rechains b now (shape b) new list marks reborn kind before own after chain' gone come) where
+  -- its members are those
+  pub members_rechained : members_of now (entries_chain kind own.adr) ≡ chain'
+  members_rechained =
+      let is = of_shape kind (made sound r) (with_chain own kind chain') (splices sound r).own_entries.0 in
+      ap (λ (a : ℕ). members_of now (entries_chain kind a)) (sym (adr_of kind own chain')) ∙ members_are (shape_now sound (splices sound r)) is ∙ chain_now kind own chain'
+
+  -- the attributes stand where they did, and have their names
+  pub places_rechained : adrs (shape now) ≡ adrs (shape b)
+  places_rechained =
+      let f = λ (a : AttributeShape). a.adr in
+      ap (λ (s : Shape). adrs s) (now_is sound r) ∙ map-append f before (with_chain own kind chain' ∷ after) ∙ ap (λ (x : ℕ). map f before ++ x ∷ map f after) (adr_of kind own chain') ∙ sym (map-append f before (own ∷ after)) ∙ ap (map f) (sym r.was)
+
+  pub names_rechained : attribute_names (content now) ≡ attribute_names (content b)
+  names_rechained =
+      let a = attribute_of b own in
+      let there : slice_get (content b).attributes (length before) ≡ Some a = ap (λ (d : DataSet). slice_get d.attributes (length before)) (content_is b (shape b) sound.has_shape) ∙ got-map (attribute_of b) (shape b).attributes (length before) own (ap (λ (as_ : List AttributeShape). slice_get as_ (length before)) r.was ∙ got-middle before own after) in
+      ap attribute_names (content_rechained sound r (chain_items now chain') refl)
+      ∙ map-set (λ (x : Attribute). x.name) (content b).attributes (length before) (with_entries a kind (chain_items now chain'))
+      ∙ set_same (attribute_names (content b)) (length before) _ (got-map (λ (x : Attribute). x.name) (content b).attributes (length before) a there ∙ ap Some (sym (name_stays a kind (chain_items now chain'))))
+
+-- an entry took the place of the one of its number: the numbers are those that they were
+module _ {b now new list : List ℕ} {marks : List Mark} {reborn : List ℕ} {kind : EntryKind} {before : List AttributeShape} {own : AttributeShape} {after : List AttributeShape} {old by num : ℕ} (good : Good b) (r : Rechains b now (shape b) new list marks reborn kind before own after (with_in_place old by (chain_of own kind)) (old ∷ []) (by ∷ [])) where
+  pub numbers_rechained : In old (chain_of own kind) → number b old aedr_num ≡ num → number now by aedr_num ≡ num → nums now (with_in_place old by (chain_of own kind)) ≡ nums b (chain_of own kind)
+  numbers_rechained member of_old of_new =
+      let sound = good_is_sound b good in
+      let rows = chain_rules_before sound r (good_by_its_shape b good) in
+      let differ = nums_differ b (chain_of own kind) (Hold-split _ (differ_rows 7 (same_number b) [] (chain_of own kind)) rows.1).1 in
+      nums_replaced b now old by num of_old of_new (chain_of own kind) differ member (λ m i ne. entry_stays sound r m i (λ j. elim j [ inl q ↦ ne q | inr none ↦ none ]))

@@ -1,0 +1,291 @@
+-- The command `del-entry`: what it is answered, and what is known of the attributes after it.
+use Rattle.std.proofs.Common.{◌≡◌, ℕ, zero, suc, ◌+◌, ◌^◌, ◌<◌, ◌≤◌, List, [], ◌∷◌, ◌++◌, length, map, get_or, true, Some, None, w32, refl, sym, ap, ap₂, subst, ◌∙◌, arith}
+use Rattle.std.proofs.lemmas.Bool.{eqb-true}
+use Rattle.std.proofs.lemmas.List.{length-map, map-append, map-set}
+use Rattle.std.proofs.lemmas.List.Quantifiers.{position-Some}
+use Rattle.std.proofs.lemmas.Option.{slice_get_within}
+use Rattle.std.specs.Int.{cast_signed, cast_unsigned}
+use Rattle.std.specs.List.{position, remove, slice_get}
+use Rattle.std.specs.Option.{option_and_then}
+use Rattle.std.specs.Prelude.{◌==◌, slice_index, slice_set}
+use Rattle.cdf_model.specs.declared.answer.Outcome.TheVariants.{Done, Refused}
+use Rattle.cdf_model.specs.declared.answer.Reason.{Reason}
+use Rattle.cdf_model.specs.declared.answer.Reason.TheVariants.{NoSuchAttr, WrongScope, NoSuchEntry}
+use Rattle.cdf_model.specs.declared.answer.Reply.TheVariants.{Plain}
+use Rattle.cdf_model.specs.declared.command.Command.TheVariants.{DelEntry}
+use Rattle.cdf_model.specs.declared.kinds.EntryKind.{EntryKind}
+use Rattle.cdf_model.specs.declared.kinds.EntryKind.TheVariants as entries
+use Rattle.cdf_model.specs.Answers.{Answer, Go}
+use Rattle.cdf_model.specs.AttributeSteps.{entries_of, with_attribute, with_entries}
+use Rattle.cdf_model.specs.DataSet.{Attribute, DataSet, Entry}
+use Rattle.cdf_model.specs.Limits.{image_limit}
+use Rattle.cdf_model.specs.Names.{attribute_names, attribute_named}
+use Rattle.cdf_model.specs.Numbered.{without}
+use Rattle.cdf_model.specs.Step.{ByStep}
+use Rattle.cdf_format.specs.AttributeRules.{entry_bytes}
+use Rattle.cdf_format.specs.Content.{content, attribute_of, entry_of, entries_of as chain_items}
+use Rattle.cdf_format.specs.Fields.{number, integer4, size_at}
+use Rattle.cdf_format.specs.RecordTypes.{adr_type}
+use Rattle.cdf_format.specs.Records.{aedr_num}
+use Rattle.cdf_format.specs.Shape.{AttributeShape, Shape, adrs, shape}
+use Rattle.cdf_format.specs.Sound.{IsSound}
+use Rattle.cdf_format.specs.Tiles.{In}
+use Rattle.cdf_format.specs.WellFormed.{Good}
+use Rattle.cdf_format.proofs.GoodSound.{good_is_sound}
+use Rattle.cdf_format.proofs.ShapeLemmas.{content_is}
+use Rattle.cdf_edits.specs.declared.chain.Chain.{Chain}
+use Rattle.cdf_edits.specs.Answers.{Answers}
+use Rattle.cdf_edits.specs.Commands.EntryChains.{chain_of, max_field, greatest_number}
+use Rattle.cdf_edits.specs.Edits.EntryMarks.{entries_chain, count_field, with_chain}
+use Rattle.cdf_edits.specs.Follows.{Follows}
+use Rattle.cdf_edits.specs.Space.Chains.{counted_in, members_of, without as left_of}
+use Rattle.cdf_edits.proofs.Commands.Answered.{refused, gone}
+use Rattle.cdf_edits.proofs.Edits.ChainEntries.{EntryLives, nums, nums_live, entries_left}
+use Rattle.cdf_edits.proofs.Edits.ChainFollowed.{chain_now}
+use Rattle.cdf_edits.proofs.Edits.ChainKinds.{adr_of}
+use Rattle.cdf_edits.proofs.Edits.ChainSpliced.{now_is}
+use Rattle.cdf_edits.proofs.Edits.FieldWritten.{written_integer, written_reads}
+use Rattle.cdf_edits.proofs.Edits.FreedEntry.{greatest_same}
+use Rattle.cdf_edits.proofs.Edits.LeftEntry.{LeavesChain, count_now, left_frees, left_members, of_count, of_max}
+use Rattle.cdf_edits.proofs.Edits.PushedEntry.{max_lies}
+use Rattle.cdf_attrs.specs.Finding.{FindsChain, IsOfAttribute, IsRefusedFor}
+use Rattle.cdf_attrs.specs.Known.{KnownEntries, Knows, KnowsEntries}
+use Rattle.cdf_attrs.specs.Putting.{IsEntryOf}
+use Rattle.cdf_attrs.specs.Removing.{IsGreatest, TakenAt, without_at}
+use Rattle.cdf_attrs.proofs.AttributeFound.{adr_got}
+use Rattle.cdf_attrs.proofs.EntryCalls.{leaves}
+use Rattle.cdf_attrs.proofs.EntryChains.{counted, entries_differ, entry_lies, few_entries, members}
+use Rattle.cdf_attrs.proofs.EntryLeft as left
+use Rattle.cdf_attrs.proofs.EntrySteps.{no_attribute, wrong_scope, no_entry}
+use Rattle.cdf_attrs.proofs.EntryTakenAt.{as_long, left_count, left_small, map-remove, once, places_are, without_at_index}
+use Rattle.cdf_attrs.proofs.GettingAnswers.{found_in, is_entry_at, is_item, of_attribute}
+use Rattle.cdf_attrs.proofs.GreatestNumber.{greatest_fits, greatest_of_items}
+use Rattle.cdf_attrs.proofs.NamesChanged.{Cut, cut, got-map, got-middle}
+
+-- ---- the refusals
+
+module _ (limit : ℕ) (b attr : List ℕ) (kind : EntryKind) (num : ℕ) where
+  abbrev answer : ℕ → Attribute → Entry → Answer
+  answer i a entry = Go (with_attribute (content b) i (with_entries a kind (without num num (entries_of a kind)))) Plain
+
+  pub refused_for : (reason : Reason) → IsRefusedFor b attr kind reason → Answers limit b (DelEntry attr kind num) (Refused reason) b
+  refused_for NoSuchAttr none = refused limit b (DelEntry attr kind num) NoSuchAttr (ap ByStep (no_attribute (content b) attr kind num answer none))
+  refused_for WrongScope is = refused limit b (DelEntry attr kind num) WrongScope (ap ByStep (wrong_scope (content b) attr kind num answer is.number is.own is.named is.wrong))
+  refused_for other h = absurd h
+
+  pub is_missing : {n : ℕ} {chain : Chain} (good : Good b) (found : FindsChain b attr kind n chain) (entries : KnownEntries) (of : entries.chain ≡ chain) (knows : KnowsEntries b entries) → position (λ m. m == num) entries.numbers ≡ None → Answers limit b (DelEntry attr kind num) (Refused NoSuchEntry) b
+  is_missing {n = n} good found entries of knows none =
+      let place : None ≡ option_and_then (λ i. slice_get entries.places i) (position (λ m. m == num) entries.numbers) = ap (option_and_then (λ i. slice_get entries.places i)) (sym none) in
+      refused limit b (DelEntry attr kind num) NoSuchEntry (ap ByStep (no_entry (content b) attr kind num answer n (attribute_of b found.own) found.named found.in_scope (is_item good found entries of knows num None place)))
+
+-- ---- lists
+
+got_index : (xs : List ℕ) (i : ℕ) → i < length xs → slice_get xs i ≡ Some (slice_index xs i)
+got_index [] i lt = absurd (omega arith)
+got_index (x ∷ xs) zero lt = refl
+got_index (x ∷ xs) (suc i) lt = got_index xs i (omega arith)
+
+index_map : (f : ℕ → ℕ) (xs : List ℕ) (i d : ℕ) → i < length xs → get_or (map f xs) i d ≡ f (slice_index xs i)
+index_map f [] i d lt = absurd (omega arith)
+index_map f (x ∷ xs) zero d lt = refl
+index_map f (x ∷ xs) (suc i) d lt = index_map f xs i d (omega arith)
+
+set_there : {A : Type 0} (xs : List A) (n : ℕ) (x : A) → slice_get xs n ≡ Some x → slice_set xs n x ≡ xs
+set_there [] n x e = absurd cc
+set_there (y ∷ xs) zero x e = let same : x ≡ y = cc in ap (λ (z : _). z ∷ xs) same
+set_there (y ∷ xs) (suc n) x e = ap (λ (r : List _). y ∷ r) (set_there xs n x e)
+
+some_same : (x a : AttributeShape) → Some x ≡ Some a → x ≡ a
+some_same x a e = cc e
+
+name_stays : (a : Attribute) (kind : EntryKind) (items : List (ℕ × Entry)) → (with_entries a kind items).name ≡ a.name
+name_stays a entries.G items = refl
+name_stays a entries.R items = refl
+name_stays a entries.Z items = refl
+
+-- ---- fields
+
+count_in : (b : List ℕ) (kind : EntryKind) (adr : ℕ) → counted_in b (entries_chain kind adr) ≡ number b adr (count_field kind)
+count_in b entries.G adr = refl
+count_in b entries.R adr = refl
+count_in b entries.Z adr = refl
+
+count_small : (kind : EntryKind) (n : ℕ) → n < 2 ^ 32 → n < 256 ^ (count_field kind).width
+count_small entries.G n lt = omega arith
+count_small entries.R n lt = omega arith
+count_small entries.Z n lt = omega arith
+
+greatest_integer : (kind : EntryKind) (b now : List ℕ) (adr : ℕ) → number now adr (max_field kind) ≡ number b adr (max_field kind) → integer4 now adr (max_field kind) ≡ integer4 b adr (max_field kind)
+greatest_integer entries.G b now adr e = ap (cast_signed w32) e
+greatest_integer entries.R b now adr e = ap (cast_signed w32) e
+greatest_integer entries.Z b now adr e = ap (cast_signed w32) e
+
+-- ---- the attribute
+
+module _ {b attr : List ℕ} {kind : EntryKind} {n : ℕ} {chain : Chain} (found : FindsChain b attr kind n chain) (places : List ℕ) (placed : places ≡ adrs (shape b)) where
+  pub place_within : n < length places
+  place_within =
+      let lt = slice_get_within (shape b).attributes n found.own found.stands in
+      let long = ap (λ (xs : List ℕ). length xs) placed ∙ length-map (shape b).attributes (λ (a : AttributeShape). a.adr) in
+      omega arith
+
+  pub adr_is : get_or places n 0 ≡ found.own.adr
+  adr_is = ap (λ (xs : List ℕ). get_or xs n 0) placed ∙ adr_got (shape b).attributes n found.own found.stands
+
+module _ (b x : List ℕ) (same : x ≡ b) {kind : EntryKind} {adr own : ℕ} (at : adr ≡ own) where
+  pub there_in : {place : ℕ} → IsEntryOf b kind own place → IsEntryOf x kind adr place
+  there_in {place = place} is = subst (λ (y : List ℕ). IsEntryOf y kind adr place) (sym same) (subst (λ (a : ℕ). IsEntryOf b kind a place) (sym at) is)
+
+  pub taken_in : {now : List ℕ} {es : KnownEntries} {i : ℕ} → TakenAt x now kind adr es i → TakenAt b now kind own es i
+  taken_in {now = now} {es = es} {i = i} taken = subst (λ (y : List ℕ). TakenAt y now kind own es i) same (subst (λ (a : ℕ). TakenAt x now kind a es i) at taken)
+
+-- ---- the entry that is deleted
+
+module _ {b attr : List ℕ} {kind : EntryKind} {n : ℕ} {chain : Chain} (good : Good b) (found : FindsChain b attr kind n chain) (es : KnownEntries) (of : es.chain ≡ chain) (knows : KnowsEntries b es) (num i : ℕ) (at : position (λ m. m == num) es.numbers ≡ Some i) where
+  abbrev own : AttributeShape
+  own = found.own
+
+  abbrev place : ℕ
+  place = slice_index es.places i
+
+  stands_in : (i < length es.numbers) × (get_or es.numbers i 0 == num) ≡ true
+  stands_in = let p = position-Some (λ m. m == num) es.numbers i 0 at in (p.0, p.1)
+
+  pub within : i < length es.places
+  within = let p = stands_in in let e = as_long good (of_attribute found) es of knows in omega arith
+
+  is_place : Some place ≡ option_and_then (λ k. slice_get es.places k) (position (λ m. m == num) es.numbers)
+  is_place = sym (ap (option_and_then (λ k. slice_get es.places k)) at ∙ got_index es.places i within)
+
+  of_old : number b place aedr_num ≡ num
+  of_old =
+      let same : get_or es.numbers i 0 ≡ number b place aedr_num = ap (λ (xs : List ℕ). get_or xs i 0) knows.numbers_are ∙ index_map (λ aedr. number b aedr aedr_num) es.places i 0 within in
+      sym same ∙ eqb-true _ _ stands_in.1
+
+  abbrev pub parts : Cut (shape b).attributes n
+  parts = cut (shape b).attributes n (slice_get_within (shape b).attributes n found.own found.stands)
+
+  own_is : parts.own ≡ found.own
+  own_is = some_same parts.own found.own (sym (ap₂ (λ (as_ : List AttributeShape) (k : ℕ). slice_get as_ k) parts.is (sym parts.count) ∙ got-middle parts.before parts.own parts.after) ∙ found.stands)
+
+  pub cut_is : (shape b).attributes ≡ parts.before ++ found.own ∷ parts.after
+  cut_is = parts.is ∙ ap (λ (a : AttributeShape). parts.before ++ a ∷ parts.after) own_is
+
+  pub member : In place (chain_of found.own kind)
+  member = found_in (λ aedr. number b aedr aedr_num == num) (chain_of found.own kind) place (sym (is_entry_at good found es of knows num (Some place) is_place))
+
+  abbrev pub entry_there : IsEntryOf b kind found.own.adr place
+  entry_there = record { before = parts.before; own = found.own; after = parts.after; stands = cut_is; adr_is = refl; member = member }
+
+  names : left.Names b attr kind num parts.before found.own (entry_of b place)
+  names = record {
+    found = subst (λ (k : ℕ). attribute_named (content b) attr ≡ Some (k, attribute_of b found.own)) (sym parts.count) found.named;
+    scoped = found.in_scope;
+    is_there = is_item good found es of knows num (Some place) is_place;
+  }
+
+  module _ {now : List ℕ} (taken : TakenAt b now kind found.own.adr es i) (short : length b ≤ image_limit) where
+    sound : IsSound b (shape b)
+    sound = good_is_sound b good
+
+    abbrev q : LeavesChain b taken.removed.late kind parts.before found.own parts.after place
+    q = leaves (cast_unsigned w32 taken.count) (cast_unsigned w32 taken.greatest) sound entry_there taken.removed.removed taken.removed.count_written taken.removed.written
+
+    places_of : es.places ≡ chain_of found.own kind
+    places_of = places_are good (of_attribute found) es of knows ∙ members b good chain (of_attribute found)
+
+    left_places : remove es.places i ≡ left_of place (chain_of found.own kind)
+    left_places = sym (without_at_index es.places i within (once good (of_attribute found) es of knows)) ∙ ap (left_of place) places_of
+
+    left_numbers : remove es.numbers i ≡ nums b (left_of place (chain_of found.own kind))
+    left_numbers = ap (λ (xs : List ℕ). remove xs i) knows.numbers_are ∙ map-remove (λ aedr. number b aedr aedr_num) es.places i within ∙ ap (nums b) left_places
+
+    counts : number taken.removed.late found.own.adr (count_field kind) + 1 ≡ number b found.own.adr (count_field kind)
+    counts =
+        let few = few_entries b good chain (of_attribute found) in
+        let long = ap (λ (xs : List ℕ). length xs) (places_are good (of_attribute found) es of knows) in
+        let less = left_count good (of_attribute found) es of knows i within in
+        let all = counted b good chain (of_attribute found) in
+        let one : counted_in b chain ≡ number b found.own.adr (count_field kind) = ap (counted_in b) found.chain_is ∙ count_in b kind found.own.adr in
+        let fits : cast_unsigned w32 taken.count < 2 ^ 32 = subst (λ (k : ℕ). k < 2 ^ 32) (sym taken.count_is) (omega arith) in
+        let reads = written_reads q.mid q.counted (shape b).records found.own.adr adr_type (count_field kind) q.count (of_count sound q) q.count_written (count_small kind (cast_unsigned w32 taken.count) fits) in
+        sums (number taken.removed.late found.own.adr (count_field kind)) (length (remove es.numbers i)) (length es.places) (length (members_of b chain)) (counted_in b chain) (number b found.own.adr (count_field kind)) (count_now sound q ∙ reads ∙ taken.count_is) less long all one
+      where
+        sums : (l r p m c f : ℕ) → l ≡ r → r + 1 ≡ p → p ≡ m → c ≡ m → c ≡ f → l + 1 ≡ f
+        sums l r p m c f x y z t u = omega arith
+
+    long : 28 ≤ size_at b place
+    long = reach (entry_bytes b place) (size_at b place) (entry_lies b good chain (of_attribute found) place (subst (In place) (sym (members b good chain (of_attribute found))) member))
+      where
+        reach : (k size : ℕ) → 56 + k ≤ size → 28 ≤ size
+        reach k size fits = omega arith
+
+    same_lives : (m : ℕ) → In m (chain_of found.own kind) → EntryLives b b m
+    same_lives m j = record { attribute = refl; num = refl; meant = refl; valued = refl; fits = entry_lies b good chain (of_attribute found) m (subst (In m) (sym (members b good chain (of_attribute found))) j) }
+
+    greatest : integer4 now found.own.adr (max_field kind) ≡ greatest_number (without num num (chain_items b (chain_of found.own kind)))
+    greatest =
+        let fits = greatest_fits (remove es.numbers i) taken.greatest (left_small good (of_attribute found) es of knows i within) taken.greatest_is in
+        let stays = greatest_integer kind taken.removed.late now found.own.adr (greatest_same sound (left_frees sound q taken.removed.gives) (max_lies kind).1) in
+        let written = written_integer q.counted taken.removed.late (shape b).records found.own.adr adr_type (max_field kind) taken.greatest (of_max sound q) (max_lies kind).2 fits taken.removed.written in
+        let items = entries_left b b place num of_old (chain_of found.own kind) (entries_differ b good chain (of_attribute found)) member (λ m j ne. same_lives m j) in
+        stays ∙ written ∙ greatest_of_items b (left_of place (chain_of found.own kind)) taken.greatest (subst (λ (xs : List ℕ). IsGreatest xs taken.greatest) left_numbers taken.greatest_is) ∙ ap greatest_number items
+
+    pub follow : Follows b (DelEntry attr kind num) now
+    follow = left.left_follow good names q taken.removed.gives of_old long counts greatest short
+
+    pub is_deleted : (limit : ℕ) → length b ≤ limit → Answers limit b (DelEntry attr kind num) (Done Plain) now
+    is_deleted limit fits = gone limit b (DelEntry attr kind num) _ Plain now (ap ByStep (left.del_goes names)) (omega arith) follow
+
+    -- ---- what is known after it
+
+    abbrev chain' : List ℕ
+    chain' = left_of (slice_index es.places i) (chain_of found.own kind)
+
+    attributes_now : (shape now).attributes ≡ parts.before ++ with_chain found.own kind chain' ∷ parts.after
+    attributes_now = ap (λ (s : Shape). s.attributes) (now_is sound (left.r good names q taken.removed.gives of_old long counts greatest short))
+
+    names_after : attribute_names (content now) ≡ attribute_names (content b)
+    names_after =
+        let a = attribute_of b found.own in
+        let at_number : slice_get (shape b).attributes (length parts.before) ≡ Some found.own = subst (λ (k : ℕ). slice_get (shape b).attributes k ≡ Some found.own) (sym parts.count) found.stands in
+        let got : slice_get (content b).attributes (length parts.before) ≡ Some a = ap (λ (d : DataSet). slice_get d.attributes (length parts.before)) (content_is b (shape b) sound.has_shape) ∙ got-map (attribute_of b) (shape b).attributes (length parts.before) found.own at_number in
+        ap attribute_names (left.content_now good names q taken.removed.gives of_old long counts greatest short)
+        ∙ map-set (λ (x : Attribute). x.name) (content b).attributes (length parts.before) (with_entries a kind (without num num (entries_of a kind)))
+        ∙ ap (slice_set (attribute_names (content b)) (length parts.before)) (name_stays a kind (without num num (entries_of a kind)))
+        ∙ set_there (attribute_names (content b)) (length parts.before) a.name (got-map (λ (x : Attribute). x.name) (content b).attributes (length parts.before) a got)
+
+    places_after : adrs (shape now) ≡ adrs (shape b)
+    places_after =
+        let f = λ (a : AttributeShape). a.adr in
+        ap (map f) attributes_now ∙ map-append f parts.before (with_chain found.own kind chain' ∷ parts.after)
+        ∙ ap (λ (x : ℕ). map f parts.before ++ x ∷ map f parts.after) (adr_of kind found.own chain')
+        ∙ sym (map-append f parts.before (found.own ∷ parts.after)) ∙ ap (map f) (sym cut_is)
+
+    of_now : IsOfAttribute now chain
+    of_now = record {
+      number = length parts.before;
+      own = with_chain found.own kind chain';
+      stands = ap (λ (as_ : List AttributeShape). slice_get as_ (length parts.before)) attributes_now ∙ got-middle parts.before (with_chain found.own kind chain') parts.after;
+      kind = kind;
+      chain_is = found.chain_is ∙ ap (entries_chain kind) (sym (adr_of kind found.own chain'));
+    }
+
+    left_known : KnowsEntries now (without_at es i)
+    unfolding of_now
+    left_known = record {
+      places_are = left_places ∙ sym (members now follow.good chain of_now ∙ chain_now kind found.own chain') ∙ ap (members_of now) (sym of);
+      numbers_are = left_numbers ∙ sym (nums_live b now chain' live) ∙ ap (nums now) (sym left_places);
+    }
+      where
+        live : (m : ℕ) → In m chain' → EntryLives b now m
+        live m j =
+            let x = left_members place m (chain_of found.own kind) (left.once good names q taken.removed.gives of_old long counts greatest short) j in
+            left.others good names q taken.removed.gives of_old long counts greatest short m x.0 x.1
+
+    pub known_after : (table : List (List ℕ)) (places : List ℕ) (rest : KnownEntries) → table ≡ attribute_names (content b) → places ≡ adrs (shape b) → rest ≡ without_at es i → Knows now (record { names = table; places = places; entries = Some rest })
+    known_after table places rest named placed is = record {
+      names_are = named ∙ sym names_after;
+      places_are = placed ∙ sym places_after;
+      entries_are = λ e same. let other : rest ≡ e = cc in subst (KnowsEntries now) (sym is ∙ other) left_known;
+    }

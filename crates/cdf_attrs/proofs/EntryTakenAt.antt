@@ -1,0 +1,119 @@
+-- An entry at an index of its chain: what of the chain is before it and without it, and what calls ask for that take it out.
+use Rattle.std.proofs.Common.{◌≡◌, ℕ, zero, suc, ◌+◌, ◌<◌, ◌≤◌, pos, List, [], ◌∷◌, length, map, take, slice_index_or, All, eq-eqb, FitsSigned, w32, None, refl, sym, ap, subst, ◌∙◌, arith, inl, inr}
+use Rattle.std.proofs.lemmas.Bool.{ne_eqb}
+use Rattle.std.proofs.lemmas.Int.{ints, of_z-to_z}
+use Rattle.std.specs.Int.{cast_signed, cast_unsigned}
+use Rattle.std.proofs.lemmas.List.{length-map}
+use Rattle.std.proofs.lemmas.List.Edits.{length-remove}
+use Rattle.std.specs.List.{last_or, remove, slice_get}
+use Rattle.std.specs.Prelude.{slice_index}
+use Rattle.cdf_model.specs.declared.kinds.EntryKind.{EntryKind}
+use Rattle.cdf_model.specs.Limits.{image_limit, record_number_limit, signed_limit}
+use Rattle.cdf_format.specs.Fields.{number}
+use Rattle.cdf_format.specs.Records.{aedr_num}
+use Rattle.cdf_format.specs.Shape.{AttributeShape}
+use Rattle.cdf_format.specs.Tiles.{In, Distinct}
+use Rattle.cdf_format.specs.WellFormed.{Good}
+use Rattle.cdf_edits.specs.declared.chain.Chain.{Chain}
+use Rattle.cdf_edits.specs.Edits.EntryMarks.{entries_chain}
+use Rattle.cdf_edits.specs.Space.Chains.{before, members_of, without}
+use Rattle.cdf_attrs.specs.Finding.{IsOfAttribute}
+use Rattle.cdf_attrs.specs.Known.{KnownEntries, KnowsEntries}
+use Rattle.cdf_attrs.specs.Putting.{IsEntryOf}
+use Rattle.cdf_attrs.proofs.AttributeChain.{index_in}
+use Rattle.cdf_attrs.proofs.EntryChains.{entry_number, chain_there, few_entries}
+use Rattle.cdf_attrs.proofs.NamesChanged.{got-middle}
+
+-- ---- lists
+
+pub before_at : (xs : List ℕ) (i : ℕ) → i < length xs → Distinct xs → before (slice_index xs i) xs ≡ take i xs
+before_at [] i lt d = absurd (omega arith)
+before_at (x ∷ xs) zero lt d = rw (eq-eqb x x refl) refl
+before_at (x ∷ xs) (suc i) lt d =
+    let j = index_in xs i (omega arith) in
+    rw (ne_eqb x (slice_index xs i) (λ e. d.0 (subst (λ (y : ℕ). In y xs) (sym e) j))) (ap (λ (r : List ℕ). x ∷ r) (before_at xs i (omega arith) d.1))
+
+pub without_at_index : (xs : List ℕ) (i : ℕ) → i < length xs → Distinct xs → without (slice_index xs i) xs ≡ remove xs i
+without_at_index [] i lt d = absurd (omega arith)
+without_at_index (x ∷ xs) zero lt d = rw (eq-eqb x x refl) refl
+without_at_index (x ∷ xs) (suc i) lt d =
+    let j = index_in xs i (omega arith) in
+    rw (ne_eqb x (slice_index xs i) (λ e. d.0 (subst (λ (y : ℕ). In y xs) (sym e) j))) (ap (λ (r : List ℕ). x ∷ r) (without_at_index xs i (omega arith) d.1))
+
+pub map-remove : (f : ℕ → ℕ) (xs : List ℕ) (i : ℕ) → i < length xs → remove (map f xs) i ≡ map f (remove xs i)
+map-remove f [] i lt = absurd (omega arith)
+map-remove f (x ∷ xs) zero lt = refl
+map-remove f (x ∷ xs) (suc i) lt = ap (λ (r : List ℕ). f x ∷ r) (map-remove f xs i (omega arith))
+
+pub remove_in : (xs : List ℕ) (i x : ℕ) → In x (remove xs i) → In x xs
+remove_in [] zero x j = j
+remove_in [] (suc i) x j = j
+remove_in (y ∷ xs) zero x j = inr j
+remove_in (y ∷ xs) (suc i) x j = elim j [ inl e ↦ inl e | inr k ↦ inr (remove_in xs i x k) ]
+
+pub index_same : (xs : List ℕ) (i d : ℕ) → i < length xs → slice_index_or xs i d ≡ slice_index xs i
+index_same [] i d lt = absurd (omega arith)
+index_same (x ∷ xs) zero d lt = refl
+index_same (x ∷ xs) (suc i) d lt = index_same xs i d (omega arith)
+
+pub all_from : (P : ℕ → Type 0) (xs : List ℕ) → ((x : ℕ) → In x xs → P x) → All P xs
+all_from P xs each k d lt = subst P (sym (index_same xs k d lt)) (each (slice_index xs k) (index_in xs k lt))
+
+from_map : (f : ℕ → ℕ) (xs : List ℕ) (n : ℕ) → In n (map f xs) → (x : ℕ) × (In x xs × (n ≡ f x))
+from_map f [] n i = absurd i
+from_map f (x ∷ xs) n (inl e) = (x, (inl refl, e))
+from_map f (x ∷ xs) n (inr i) = let r = from_map f xs n i in (r.0, (inr r.1.0, r.1.1))
+
+-- ---- the entries of a chain
+
+module _ {b : List ℕ} (good : Good b) {chain : Chain} (of : IsOfAttribute b chain) (entries : KnownEntries) (is : entries.chain ≡ chain) (knows : KnowsEntries b entries) where
+  pub places_are : entries.places ≡ members_of b chain
+  places_are = knows.places_are ∙ ap (members_of b) is
+
+  pub once : Distinct entries.places
+  once = subst Distinct (sym places_are) (chain_there b good chain of).once
+
+  pub as_long : length entries.numbers ≡ length entries.places
+  as_long = ap (λ (xs : List ℕ). length xs) knows.numbers_are ∙ length-map entries.places (λ aedr. number b aedr aedr_num)
+
+  -- no number is too great
+  pub small : (n : ℕ) → In n entries.numbers → n ≤ record_number_limit
+  small n i =
+      let from = from_map (λ aedr. number b aedr aedr_num) entries.places n (subst (In n) knows.numbers_are i) in
+      subst (λ (x : ℕ). x ≤ record_number_limit) (sym from.1.1) (entry_number b good chain of from.0 (subst (In from.0) places_are from.1.0))
+
+  module _ (i : ℕ) (within : i < length entries.places) where
+    pub left_small : (n : ℕ) → In n (remove entries.numbers i) → n ≤ signed_limit
+    left_small n j = let le = small n (remove_in entries.numbers i n j) in omega arith
+
+    pub left_count : length (remove entries.numbers i) + 1 ≡ length entries.places
+    left_count = length-remove entries.numbers i (let e = as_long in omega arith) ∙ as_long
+
+    pub left_fits : length b ≤ image_limit → FitsSigned w32 (pos (length (remove entries.numbers i)))
+    left_fits short =
+        let few = few_entries b good chain of in
+        let same = ap (λ (xs : List ℕ). length xs) places_are in
+        let count = left_count in
+        omega (arith, ints)
+
+    -- as it is written
+    pub left_written : length b ≤ image_limit → cast_unsigned w32 (cast_signed w32 (length (remove entries.numbers i))) ≡ length (remove entries.numbers i)
+    left_written short =
+        let few = few_entries b good chain of in
+        let same = ap (λ (xs : List ℕ). length xs) places_are in
+        let count = left_count in
+        let n = length (remove entries.numbers i) in
+        of_z-to_z w32 n (omega arith)
+
+    pub stands_behind : last_or None (take i entries.places) ≡ last_or None (before (slice_index entries.places i) (members_of b chain))
+    stands_behind = ap (last_or None) (sym (before_at entries.places i within once)) ∙ ap (λ (ms : List ℕ). last_or None (before (slice_index entries.places i) ms)) places_are
+
+-- an entry of a chain is of one of an attribute
+pub of_entry : {b : List ℕ} {kind : EntryKind} {adr place : ℕ} → IsEntryOf b kind adr place → IsOfAttribute b (entries_chain kind adr)
+of_entry {kind = kind} i = record {
+  number = length i.before;
+  own = i.own;
+  stands = ap (λ (as_ : List AttributeShape). slice_get as_ (length i.before)) i.stands ∙ got-middle i.before i.own i.after;
+  kind = kind;
+  chain_is = ap (entries_chain kind) (sym i.adr_is);
+}

@@ -1,0 +1,69 @@
+-- How many variables a good image says that it has, and the numbers that entries may have by it.
+use Rattle.std.proofs.Common.{◌≡◌, ℕ, ◌+◌, ◌<◌, ◌≤◌, List, length, map, false, sym, ap, subst, ◌∙◌, arith}
+use Rattle.std.proofs.lemmas.Bool.Decides.{nat_tests}
+use Rattle.std.proofs.lemmas.List.{length-map}
+use Rattle.std.specs.Prelude.{nat_le}
+use Rattle.cdf_model.specs.declared.head.Head.{Head}
+use Rattle.cdf_model.specs.declared.kinds.EntryKind.{EntryKind}
+use Rattle.cdf_model.specs.declared.kinds.EntryKind.TheVariants.{G, R, Z}
+use Rattle.cdf_model.specs.AttributeSteps.{is_out_of_range}
+use Rattle.cdf_model.specs.DataSet.{DataSet}
+use Rattle.cdf_model.specs.Limits.{image_limit, record_number_limit}
+use Rattle.cdf_format.specs.Chains.{IsChain}
+use Rattle.cdf_format.specs.Content.{content, content_of, variable_of}
+use Rattle.cdf_format.specs.Fields.{gdr_offset, word}
+use Rattle.cdf_format.specs.Shape.{HasShape, shape, vdrs}
+use Rattle.cdf_format.specs.Tiles.{AreTiles}
+use Rattle.cdf_format.specs.WellFormed.{Good}
+use Rattle.cdf_format.proofs.ChainsLemmas.{linkable-in}
+use Rattle.cdf_format.proofs.GoodHead.{gdr_fits}
+use Rattle.cdf_format.proofs.GoodSound.{good_by_its_shape, good_is_sound}
+use Rattle.cdf_format.proofs.HeadOf.{head_of_good}
+use Rattle.cdf_format.proofs.Members.{length-le_from_distinct}
+use Rattle.cdf_format.proofs.ShapeLemmas.{content_is}
+use Rattle.cdf_format.proofs.TilesLemmas.{length_tiles}
+use Rattle.cdf_edits.proofs.Space.ChainHeads.{cdr_room}
+
+module _ (b : List ℕ) (good : Good b) where
+  pub cdr_there : 28 ≤ length b
+  cdr_there = let room = cdr_room b (good_is_sound b good) in omega (arith, room)
+
+  pub gdr_there : (field : ℕ) → field + 4 ≤ 84 → gdr_offset b + field + 4 ≤ length b
+  gdr_there field le = let fits = gdr_fits b good in omega (arith, fits, le)
+
+  -- the count that was read, of the variables of a kind
+  pub r_range : (count num : ℕ) → count ≡ word b (gdr_offset b + 44) 4 → nat_le count num ≡ is_out_of_range (content b) R num
+  r_range count num e = ap (λ (n : ℕ). nat_le n num) (e ∙ ap (λ (h : Head). h.rvars) (sym (head_of_good b (shape b) (good_by_its_shape b good))))
+
+  pub z_range : (count num : ℕ) → count ≡ word b (gdr_offset b + 60) 4 → nat_le count num ≡ is_out_of_range (content b) Z num
+  z_range count num e = ap (λ (n : ℕ). nat_le n num) (e ∙ ap (λ (h : Head). h.zvars) (sym (head_of_good b (shape b) (good_by_its_shape b good))))
+
+-- ---- numbers in range
+
+few_in : (b : List ℕ) (records ms : List ℕ) (type link : ℕ) → AreTiles b 8 (length b) records → IsChain b records type link ms → length ms + 8 ≤ length b
+few_in b records ms type link tiled chain =
+    let l = length-le_from_distinct ms records chain.once (λ m i. linkable-in b records type m (chain.linkable m i)) in
+    let t = length_tiles b 8 (length b) records tiled in
+    omega arith
+
+-- a number in range is that of an entry
+pub in_range_small : (b : List ℕ) → Good b → length b ≤ image_limit → (kind : EntryKind) (num : ℕ) → is_out_of_range (content b) kind num ≡ false → num ≤ record_number_limit
+in_range_small b good short kind num e =
+    let h = (good_is_sound b good).has_shape in
+    let d = content_is b (shape b) h in
+    by kind h (subst (λ (x : DataSet). is_out_of_range x kind num ≡ false) d e)
+  where
+    by : (kind : EntryKind) → HasShape b (shape b) → is_out_of_range (content_of b (shape b)) kind num ≡ false → num ≤ record_number_limit
+    by G h e = grind (arith, nat_tests, e)
+    by R h e =
+        let few = few_in b (shape b).records (vdrs (shape b).r_variables) _ _ h.tiled h.r_chain in
+        let long = length-map (shape b).r_variables (λ v. v.vdr) in
+        let same = length-map (shape b).r_variables (variable_of b) in
+        let under : num < length (map (variable_of b) (shape b).r_variables) = grind (arith, nat_tests, e) in
+        omega (arith, few, long, same, under, short)
+    by Z h e =
+        let few = few_in b (shape b).records (vdrs (shape b).z_variables) _ _ h.tiled h.z_chain in
+        let long = length-map (shape b).z_variables (λ v. v.vdr) in
+        let same = length-map (shape b).z_variables (variable_of b) in
+        let under : num < length (map (variable_of b) (shape b).z_variables) = grind (arith, nat_tests, e) in
+        omega (arith, few, long, same, under, short)

@@ -1,0 +1,72 @@
+use Rattle.std.proofs.Common.{◌≡◌, ◌∙◌, ◌<◌, ◌≤◌, ℕ, ℤ, pos, List, FitsSigned, w32, All, None, length, take, sym, ap, subst}
+use Rattle.std.proofs.lemmas.Int.{to_z-of_z}
+use Rattle.std.specs.List.{last_or, remove}
+use Rattle.std.specs.Prelude.{slice_index, slice_index_or}
+use Rattle.std.specs.Int.{cast_signed, cast_unsigned}
+use Rattle.cdf_model.specs.Limits.{signed_limit}
+use Rattle.cdf_area.proofs.Calls.{edit_done, edit_once}
+use Rattle.cdf_edits.specs.Space.Chains.{before, members_of}
+use Rattle.cdf_format.proofs.GoodSound.{good_is_sound}
+use Rattle.cdf_attrs.specs.Known.{KnownEntries}
+use Rattle.cdf_attrs.specs.Putting.{IsEntryOf, RemovedAs}
+use Rattle.cdf_edits.specs.Edits.EntryMarks.{entries_chain}
+use Rattle.cdf_attrs.specs.Removing.{IsGreatest}
+use Rattle.cdf_attrs.proofs.AttributeChain.{last_got}
+use Rattle.cdf_attrs.proofs.EntryTakenAt.{of_entry, all_from, left_fits, left_small, left_written, stands_behind, index_same}
+use Rattle.cdf_attrs.proofs.GreatestNumber.{greatest_fits}
+use Rattle.cdf_model.specs.declared.kinds.EntryKind.{EntryKind}
+use Rattle.cdf_attrs.proofs.removing.remove_at.Goals as goal
+
+pub overflow_cast-count : goal.overflow_cast-count
+overflow_cast-count g c =
+    let left = c.remove.ensures.items ∙ ap (λ (e : KnownEntries). remove e.numbers c.args.i) c.left.view_is in
+    let count = c.len-count.ensures ∙ sym c.deref-2.ensures.len ∙ ap (λ (xs : List ℕ). length xs) (c.deref-2.ensures.value ∙ left) in
+    subst (λ (n : ℕ). FitsSigned w32 (pos n)) (sym count) (left_fits c.requires.good (of_entry c.requires.entry) c.args.entries c.requires.chain c.requires.known c.args.i c.requires.within c.requires.short)
+
+pub greatest_number-greatest-requires : goal.greatest_number-greatest-requires
+greatest_number-greatest-requires g c =
+    let left = c.deref-2.ensures.value ∙ c.remove.ensures.items ∙ ap (λ (e : KnownEntries). remove e.numbers c.args.i) c.left.view_is in
+    subst (λ (xs : List ℕ). All (λ n. n ≤ signed_limit) xs) (sym left) (all_from (λ n. n ≤ signed_limit) (remove c.args.entries.numbers c.args.i) (left_small c.requires.good (of_entry c.requires.entry) c.args.entries c.requires.chain c.requires.known c.args.i c.requires.within))
+
+pub remove_entry-requires-clause-sound : goal.remove_entry-requires-clause-sound
+remove_entry-requires-clause-sound g c = good_is_sound (g.A.Area.image c.args.area.now) c.requires.good
+
+-- the entry that was taken away
+place_is : (entries : KnownEntries) (places : List ℕ) (i place : ℕ) → places ≡ entries.places → i < length entries.places → place ≡ slice_index_or places i place → place ≡ slice_index entries.places i
+place_is entries places i place same within is = is ∙ ap (λ (xs : List ℕ). slice_index_or xs i place) same ∙ index_same entries.places i place within
+
+pub remove_entry-requires-clause-entry : goal.remove_entry-requires-clause-entry
+remove_entry-requires-clause-entry g c =
+    let place = place_is c.args.entries c.left.inside.places.items c.args.i c.remove-place.result (ap (λ (e : KnownEntries). e.places) c.left.view_is) c.requires.within c.remove-place.ensures.value in
+    subst (IsEntryOf (g.A.Area.image c.args.area.now) c.args.kind c.args.adr) (sym place) c.requires.entry
+
+pub remove_entry-requires-clause-behind : goal.remove_entry-requires-clause-behind
+remove_entry-requires-clause-behind g c =
+    let b = g.A.Area.image c.args.area.now in
+    let same = ap (λ (e : KnownEntries). e.places) c.left.view_is in
+    let place = place_is c.args.entries c.left.inside.places.items c.args.i c.remove-place.result same c.requires.within c.remove-place.ensures.value in
+    c.copied-behind.ensures ∙ c.last.ensures.value ∙ last_got (take c.args.i c.deref.result.now) ∙ ap (λ (xs : List ℕ). last_or None (take c.args.i xs)) (c.deref.ensures.value ∙ same)
+    ∙ stands_behind c.requires.good (of_entry c.requires.entry) c.args.entries c.requires.chain c.requires.known c.args.i c.requires.within
+    ∙ ap (λ (m : ℕ). last_or None (before m (members_of b (entries_chain c.args.kind c.args.adr)))) (sym place)
+
+taken_as : (b now : List ℕ) (kind : EntryKind) (adr m place : ℕ) (count greatest : ℤ) → m ≡ place → FitsSigned w32 greatest → RemovedAs b now kind adr m count (cast_signed w32 (cast_unsigned w32 greatest)) → RemovedAs b now kind adr place count greatest
+taken_as b now kind adr m place count greatest same fits removed = subst (λ (z : ℤ). RemovedAs b now kind adr place count z) (to_z-of_z w32 greatest fits) (subst (λ (x : ℕ). RemovedAs b now kind adr x count (cast_signed w32 (cast_unsigned w32 greatest))) same removed)
+
+pub returns-clause-removed : goal.returns-clause-removed
+returns-clause-removed g c =
+    let b = g.A.Area.image c.args.area.now in
+    let left = c.remove.ensures.items ∙ ap (λ (e : KnownEntries). remove e.numbers c.args.i) c.left.view_is in
+    let count = c.len-count.ensures ∙ sym c.deref-2.ensures.len ∙ ap (λ (xs : List ℕ). length xs) (c.deref-2.ensures.value ∙ left) in
+    let place = place_is c.args.entries c.left.inside.places.items c.args.i c.remove-place.result (ap (λ (e : KnownEntries). e.places) c.left.view_is) c.requires.within c.remove-place.ensures.value in
+    let greatest = subst (λ (xs : List ℕ). IsGreatest xs c.greatest_number-greatest.result) (c.deref-2.ensures.value ∙ left) c.greatest_number-greatest.ensures in
+    let fits = greatest_fits (remove c.args.entries.numbers c.args.i) c.greatest_number-greatest.result (left_small c.requires.good (of_entry c.requires.entry) c.args.entries c.requires.chain c.requires.known c.args.i c.requires.within) greatest in
+    record {
+      count = cast_signed w32 c.len-count.result;
+      greatest = c.greatest_number-greatest.result;
+      count_is = ap (λ (n : ℕ). cast_unsigned w32 (cast_signed w32 n)) count ∙ left_written c.requires.good (of_entry c.requires.entry) c.args.entries c.requires.chain c.requires.known c.args.i c.requires.within c.requires.short;
+      greatest_is = greatest;
+      removed = taken_as b (g.A.Area.image c.remove_entry.new.area) c.args.kind c.args.adr c.remove-place.result (slice_index c.args.entries.places c.args.i) (cast_signed w32 c.len-count.result) c.greatest_number-greatest.result place fits c.in_ok-remove_entry.ensures.removed;
+    }
+
+pub returns-clause-area : goal.returns-clause-area
+returns-clause-area g c = edit_done (edit_once c.in_ok-remove_entry.ensures.area)
