@@ -10,5 +10,7 @@ built commands.List = true
 built (commands.Attr name scope) = true
 built (commands.RenameAttr from to) = true
 built (commands.DelAttr name) = true
+built (commands.PutEntry attr kind num t words) = true
 built (commands.GetEntry attr kind num) = true
+built (commands.DelEntry attr kind num) = true
 built c = false

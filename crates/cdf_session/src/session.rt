@@ -10,7 +10,7 @@ ghost use Rattle.cdf_format.specs.Owners.{space_of as taken_by};
 ghost use Rattle.cdf_format.specs.Shape.{shape};
 ghost use Rattle.cdf_format.specs.WellFormed.{Good, WellFormed};
 ghost use Rattle.cdf_model.specs.Limits.{image_limit};
-ghost use Rattle.cdf_model.specs.Sayable.{CanBeGiven, Sayable};
+ghost use Rattle.cdf_model.specs.Sayable.{CanBeGiven, Fit, Sayable};
 ghost use Rattle.cdf_session.specs.Built.{built};
 ghost use Rattle.cdf_session.specs.Sessions.{Adopts, AnswersBuilt, Explains, IsOpen, IsNoVerdict, Rejects};
 
@@ -21,7 +21,9 @@ use crate::refusal::{AdoptError, Refusal};
 use cdf_area::{Area, AreaError};
 use cdf_attrs::Attrs;
 use cdf_check::check;
-use cdf_model::{Command, EntryKind, Items, LineError, Outcome, Reason, Reply, Scope, Space};
+use cdf_model::{
+    Command, DataType, EntryKind, Items, LineError, Outcome, Reason, Reply, Scope, Space, Words,
+};
 use cdf_space::space_of;
 use std::alloc::Global;
 use std::marker::Model;
@@ -156,6 +158,14 @@ impl<A: Area> Session<A> {
             Command::RenameAttr { from, to } => self.rename_attr(from.as_slice(), to.as_slice()),
             Command::DelAttr { name } => self.del_attr(name.as_slice()),
             Command::GetEntry { attr, kind, num } => self.get_entry(attr.as_slice(), *kind, *num),
+            Command::DelEntry { attr, kind, num } => self.del_entry(attr.as_slice(), *kind, *num),
+            Command::PutEntry {
+                attr,
+                kind,
+                num,
+                t,
+                words,
+            } => self.put_entry(attr.as_slice(), *kind, *num, *t, words),
             _ => Ok(Outcome::Refused {
                 reason: Reason::BadLine {
                     fault: LineError::UnknownWord { at: 0 },
@@ -237,6 +247,39 @@ impl<A: Area> Session<A> {
         ensures area { Reads A.image A.frame A.faults A.edited self.old self.new result }
     {
         self.attrs.get_entry(&mut self.area, attr, kind, num)
+    }
+
+    /// The command `del-entry`.
+    fn del_entry(&mut self, attr: &[u8], kind: EntryKind, num: u32) -> Result<Outcome, AreaError>
+        ensures answers { IfOk result (λ o. Answers (A.frame self.old).limit (A.image self.old) (Command.DelEntry attr.now kind num) o (A.image self.new)) }
+        ensures stays { OnErr result (A.image self.new ≡ A.image self.old) }
+        ensures area { Edits A.frame A.faults self.old self.new result }
+    {
+        self.area.mark();
+        let done = self.attrs.del_entry(&mut self.area, attr, kind, num);
+        settle(&mut self.area, done)
+    }
+
+    /// The command `put-entry`.
+    fn put_entry(
+        &mut self,
+        attr: &[u8],
+        kind: EntryKind,
+        num: u32,
+        t: DataType,
+        words: &Words,
+    ) -> Result<Outcome, AreaError>
+        requires some { 1 ≤ length words.now }
+        requires fit { Fit words.now }
+        ensures answers { IfOk result (λ o. Answers (A.frame self.old).limit (A.image self.old) (Command.PutEntry attr.now kind num t words.now) o (A.image self.new)) }
+        ensures stays { OnErr result (A.image self.new ≡ A.image self.old) }
+        ensures area { Edits A.frame A.faults self.old self.new result }
+    {
+        self.area.mark();
+        let done = self
+            .attrs
+            .put_entry(&mut self.area, attr, kind, num, t, words);
+        settle(&mut self.area, done)
     }
 
     /// The area with the image as it is.

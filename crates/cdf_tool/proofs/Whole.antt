@@ -11,14 +11,18 @@ use Rattle.cdf_model.specs.declared.answer.Reason.{Reason}
 use Rattle.cdf_model.specs.declared.answer.Reason.TheVariants as reasons
 use Rattle.cdf_model.specs.declared.answer.Reply.TheVariants as replies
 use Rattle.cdf_model.specs.declared.command.Command.{Command}
-use Rattle.cdf_model.specs.declared.command.Command.TheVariants.{Info, List as Lists, Attr, RenameAttr, DelAttr, GetEntry}
+use Rattle.cdf_model.specs.declared.command.Command.TheVariants.{Info, List as Lists, Attr, RenameAttr, DelAttr, PutEntry, GetEntry, DelEntry}
 use Rattle.cdf_model.specs.declared.kinds.Scope.{Scope}
+use Rattle.cdf_model.specs.declared.data_type.DataType.{DataType}
 use Rattle.cdf_model.specs.declared.kinds.EntryKind.{EntryKind}
-use Rattle.cdf_model.specs.AttributeSteps.{attr_step, rename_attr_step, del_attr_step, get_entry_step, new_attribute, with_attribute}
+use Rattle.cdf_model.specs.AttributeSteps.{attr_step, rename_attr_step, del_attr_step, put_entry_step, get_entry_step, del_entry_step, entries_of, entry_by, is_out_of_range, is_wrong_scope, new_attribute, with_attribute, with_entries}
 use Rattle.cdf_model.specs.Answers.{Answer, Go, Refuse, is_accepted, outcome, unless, given, valued}
-use Rattle.cdf_model.specs.DataSet.{Attribute, DataSet}
+use Rattle.cdf_model.specs.DataSet.{Attribute, DataSet, Entry}
 use Rattle.cdf_model.specs.Names.{is_bad_name, is_among, attribute_names, attribute_named}
-use Rattle.cdf_model.specs.Step.{ByStep, built, step}
+use Rattle.cdf_model.specs.Numbered.{item_at, with_item, without}
+use Rattle.cdf_model.specs.Values.{notation_of}
+use Rattle.cdf_model.specs.Step.{Route, ByStep, step}
+use Rattle.cdf_session.specs.Built.{built}
 use Rattle.cdf_model.specs.Whole.{CanBeWritten, HasWholeValues}
 use Rattle.cdf_session.specs.Sessions.{AnswersBuilt}
 
@@ -58,6 +62,20 @@ rename_attr_whole d from to =
 del_attr_whole : (d : DataSet) (name : List ℕ) → IsWholeAnswer (del_attr_step d name)
 del_attr_whole d name = given_whole {A = ℕ × Attribute} reasons.NoSuchAttr (attribute_named d name) (λ found. Go (record d { attributes = remove d.attributes found.0 }) replies.Plain) (λ found. tt)
 
+put_entry_whole : (d : DataSet) (name : List ℕ) (kind : EntryKind) (num : ℕ) (t : DataType) (words : List (List ℕ)) → IsWholeAnswer (put_entry_step d name kind num t words)
+put_entry_whole d name kind num t words =
+    let put = λ (found : ℕ × Attribute) (entry : Entry). Go (with_attribute d found.0 (with_entries found.1 kind (with_item num entry (entries_of found.1 kind)))) replies.Plain in
+    let answer = λ (found : ℕ × Attribute). unless ((is_wrong_scope kind found.1.scope, reasons.WrongScope) ∷ (is_out_of_range d kind num, reasons.NumberOutOfRange) ∷ []) (valued (entry_by (notation_of t) t words) (put found)) in
+    given_whole {A = ℕ × Attribute} reasons.NoSuchAttr (attribute_named d name) answer
+    (λ found. unless_whole ((is_wrong_scope kind found.1.scope, reasons.WrongScope) ∷ (is_out_of_range d kind num, reasons.NumberOutOfRange) ∷ []) (valued (entry_by (notation_of t) t words) (put found)) (valued_whole (entry_by (notation_of t) t words) (put found) (λ entry. tt)))
+
+del_entry_whole : (d : DataSet) (name : List ℕ) (kind : EntryKind) (num : ℕ) → IsWholeAnswer (del_entry_step d name kind num)
+del_entry_whole d name kind num =
+    let delete = λ (found : ℕ × Attribute) (entry : Entry). Go (with_attribute d found.0 (with_entries found.1 kind (without num num (entries_of found.1 kind)))) replies.Plain in
+    let answer = λ (found : ℕ × Attribute). unless ((is_wrong_scope kind found.1.scope, reasons.WrongScope) ∷ []) (given reasons.NoSuchEntry (item_at num (entries_of found.1 kind)) (delete found)) in
+    given_whole {A = ℕ × Attribute} reasons.NoSuchAttr (attribute_named d name) answer
+    (λ found. unless_whole ((is_wrong_scope kind found.1.scope, reasons.WrongScope) ∷ []) (given reasons.NoSuchEntry (item_at num (entries_of found.1 kind)) (delete found)) (given_whole {A = Entry} reasons.NoSuchEntry (item_at num (entries_of found.1 kind)) (delete found) (λ entry. tt)))
+
 by_step : (x y : Answer) → ByStep x ≡ ByStep y → x ≡ y
 by_step x y same = cc
 
@@ -78,6 +96,8 @@ can_be_written limit b Lists o now a = from_answers limit b Lists o now _ refl t
 can_be_written limit b (Attr name scope) o now a = from_answers limit b (Attr name scope) o now (attr_step (content b) name scope) refl (attr_whole (content b) name scope) a
 can_be_written limit b (RenameAttr from to) o now a = from_answers limit b (RenameAttr from to) o now (rename_attr_step (content b) from to) refl (rename_attr_whole (content b) from to) a
 can_be_written limit b (DelAttr name) o now a = from_answers limit b (DelAttr name) o now (del_attr_step (content b) name) refl (del_attr_whole (content b) name) a
+can_be_written limit b (PutEntry attr kind num t words) o now a = from_answers limit b (PutEntry attr kind num t words) o now (put_entry_step (content b) attr kind num t words) refl (put_entry_whole (content b) attr kind num t words) a
+can_be_written limit b (DelEntry attr kind num) o now a = from_answers limit b (DelEntry attr kind num) o now (del_entry_step (content b) attr kind num) refl (del_entry_whole (content b) attr kind num) a
 can_be_written limit b (GetEntry attr kind num) o now a =
     subst CanBeWritten (sym a.outcome_is) (entry_written b attr kind num now a.answer (is_full limit b (GetEntry attr kind num) a.answer) (by_step (get_entry_step (content b) attr kind num) a.answer a.step_is) a.moves)
 can_be_written limit b c o now a = subst CanBeWritten (sym a.0) tt
