@@ -1,5 +1,5 @@
 -- A command is answered, or is not known.
-use Rattle.std.proofs.Common.{◌≡◌, ℕ, Bool, true, false, List, [], Option, refl, sym, ◌∙◌, ap, subst}
+use Rattle.std.proofs.Common.{◌≡◌, ℕ, Bool, true, false, List, [], Option, Ok, refl, sym, ◌∙◌, ap, subst}
 use Rattle.std.proofs.Math.Path.{transport}
 use Rattle.std.specs.Prelude.{if◌then◌else◌, Some, None}
 use Rattle.cdf_format.specs.Content.{content}
@@ -12,7 +12,7 @@ use Rattle.cdf_model.specs.declared.answer.Outcome.TheVariants.{Refused}
 use Rattle.cdf_model.specs.declared.answer.Reason.TheVariants.{BadLine}
 use Rattle.cdf_model.specs.declared.command.Command.{Command}
 use Rattle.cdf_model.specs.Answers.{Answer}
-use Rattle.cdf_model.specs.Grammar.{Parsed, Asks, Faulty, parse}
+use Rattle.cdf_model.specs.Grammar.{Parsed, Blank, Asks, Faulty, parse}
 use Rattle.cdf_model.specs.Turns.{Turn, asked, answered, faulty, is_refused}
 use Rattle.cdf_model.specs.Step.{Route, ByStep, step}
 use Rattle.cdf_session.specs.Built.{built}
@@ -20,7 +20,10 @@ use Rattle.cdf_model.specs.Texts.{reply_text}
 use Rattle.cdf_model.specs.Sayable.{Sayable}
 use Rattle.cdf_model.proofs.SayableForms.{sayable-line}
 use Rattle.cdf_session.specs.Sessions.{AnswersBuilt}
-use Rattle.cdf_tool.specs.Replay.{turn_over, IsShort, Turns}
+use Rattle.cdf_script.specs.declared.parsing.Parsed.{Parsed as Read}
+use Rattle.cdf_script.specs.declared.parsing.Parsed.TheVariants as forms
+use Rattle.cdf_script.specs.Asking.{Parses}
+use Rattle.cdf_tool.specs.Replay.{turn_over, asked_by, IsSayable, IsShort, Turns}
 
 module _ (limit : ℕ) (b : List ℕ) (n : ℕ) (c : Command) (o : Outcome) (end : List ℕ) where
   turn_built : built c ≡ true → (answer : Answer) (full : Bool) → step (content b) c ≡ ByStep answer → turn_over b n (Asks c) full ≡ answered (content b) [] n answer full
@@ -58,6 +61,10 @@ module _ (limit : ℕ) (b : List ℕ) (n : ℕ) (c : Command) (o : Outcome) (end
   command_turns parsed refused reply asks answers refused_is reply_is =
       transport (λ i. Turns limit b n (sym asks i) end (sym refused_is i) (sym reply_is i)) (turns_by (built c) refl answers)
 
+-- a blank line is answered
+pub turns_blank : (limit : ℕ) (b : List ℕ) (n : ℕ) → Turns limit b n Blank b false []
+turns_blank limit b n = record { full = false; leads = (refl, refl); refused_is = refl; reply_is = refl }
+
 -- a line that is no command is answered
 pub fault_turns : (limit : ℕ) (b : List ℕ) (n : ℕ) (fault : LineError) (parsed : Parsed) (end : List ℕ) (refused : Bool) (reply : List ℕ) → parsed ≡ Faulty fault → end ≡ b → refused ≡ true → reply ≡ reply_text n (Refused (BadLine fault)) → Turns limit b n parsed end refused reply
 fault_turns limit b n fault parsed end refused reply is same refused_is reply_is =
@@ -68,3 +75,13 @@ fault_turns limit b n fault parsed end refused reply is same refused_is reply_is
 pub sayable : (line : Option (List ℕ)) (c : Command) → IsShort line → parse line ≡ Asks c → Sayable c
 sayable None c short asks = absurd (cc asks)
 sayable (Some line) c short asks = sayable-line line c short asks
+
+pub asked_sayable : (line : Option (List ℕ)) (asked : Parsed) → IsShort line → parse line ≡ asked → IsSayable asked
+asked_sayable line (Asks c) short is = sayable line c short is
+asked_sayable line Blank short is = tt
+asked_sayable line (Faulty fault) short is = tt
+
+-- what was read of a line is what it asks for
+pub asked_is : (asked : Parsed) (parsed : Read) → Parses asked (Ok parsed) → asked ≡ asked_by parsed
+asked_is asked forms.Blank parses = parses
+asked_is asked (forms.Cmd c) parses = parses

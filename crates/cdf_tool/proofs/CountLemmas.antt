@@ -30,6 +30,9 @@ never_writes r o s r' o' s' (same, rose) = omega (arith, rose)
 pub output_counted : (r w o s r' w' o' s' : ℕ) → r ≤ r' → w' ≡ w → s' ≡ s → Rose o o' → Counted (counts r w o s) (counts r' w' o' s') statuses.OutputFault
 output_counted r w o s r' w' o' s' later writes source rose = (λ i. counts r' (writes i) o' (source i), later, rose)
 
+pub sink_counted : (r w o s o' : ℕ) → Rose o o' → Counted (counts r w o s) (counts r w o' s) statuses.OutputFault
+sink_counted r w o s o' rose = output_counted r w o s r w o' s (omega arith) refl refl rose
+
 -- the source failed
 pub source_counted : (r w o s r' w' o' s' : ℕ) → r' ≡ r → w' ≡ w → o' ≡ o → Rose s s' → Counted (counts r w o s) (counts r' w' o' s') statuses.ScriptFault
 source_counted r w o s r' w' o' s' reads writes output rose = (λ i. counts (reads i) (writes i) (output i) s', rose)
@@ -46,6 +49,14 @@ pub area_counted : {T : Type 0} (error : AreaError) (status : Status) (r w o s r
 area_counted error status r w o s r' w' o' s' is cause writes output source =
     subst (λ (x : Status). Counted (counts r w o s) (counts r' w' o' s') x) (sym is) (by_error error r w o s r' w' o' s' cause writes output source)
 
+-- no count rose before
+pub counted_on : (c c' now : Counts) (status : Status) → c' ≡ c → Counted c' now status → Counted c now status
+counted_on c c' now status same counted = subst (λ (x : Counts). Counted x now status) same counted
+
+-- the same where another device keeps its count
+pub with_source : (r w o r' w' o' source : ℕ) → counts r' w' o' 0 ≡ counts r w o 0 → counts r' w' o' source ≡ counts r w o source
+with_source r w o r' w' o' source same = λ i. record (same i) { source = source }
+
 -- no session began
 by_reason : (error : AreaError) (r o s r' : ℕ) → Explains (errors.Failed error) r r' → Counted (counts r 0 o s) (counts r' 0 o s) (status_of_area error)
 by_reason areas.Fault r o s r' rose = (refl, rose)
@@ -59,25 +70,6 @@ pub rejected_counted : (broken : Broken) (why : AdoptError) (status : Status) (r
 rejected_counted broken why status r o s r' o' reason explains counted =
     let same : r' ≡ r = subst (λ (w : AdoptError). Explains w r r') reason explains in
     subst (λ (n : ℕ). Counted (counts r 0 o s) (counts n 0 o' s) status) (sym same) counted
-
--- beside a source of which no read failed
-pub with_source : (status : Status) (r o r' o' before now : ℕ) → now ≡ before → Counted (counts r 0 o 0) (counts r' 0 o' 0) status → Counted (counts r 0 o before) (counts r' 0 o' now) status
-with_source statuses.StoreReadFault r o r' o' before now source (same, rose) = (λ i. record (same i) { source = source i }, rose)
-with_source statuses.OutputFault r o r' o' before now source (same, later, rose) = (λ i. record (same i) { source = source i }, later, rose)
-with_source statuses.ScriptFault r o r' o' before now source (same, rose) = absurd (omega (arith, rose))
-with_source statuses.StoreWriteFault r o r' o' before now source (same, rose) = absurd (omega (arith, rose))
-with_source statuses.Done r o r' o' before now source same = λ i. record (same i) { source = source i }
-with_source statuses.SomeRefused r o r' o' before now source same = λ i. record (same i) { source = source i }
-with_source statuses.Usage r o r' o' before now source same = λ i. record (same i) { source = source i }
-with_source statuses.NoFile r o r' o' before now source same = λ i. record (same i) { source = source i }
-with_source statuses.Rejected r o r' o' before now source same = λ i. record (same i) { source = source i }
-with_source statuses.NoMemory r o r' o' before now source same = λ i. record (same i) { source = source i }
-with_source statuses.ScriptTooLong r o r' o' before now source same = λ i. record (same i) { source = source i }
-
--- no fault was seen before
-pub counted_after : (status : Status) (r o r' o' r'' o'' before now : ℕ) → r' ≡ r → o' ≡ o → now ≡ before → Counted (counts r' 0 o' 0) (counts r'' 0 o'' 0) status → Counted (counts r 0 o before) (counts r'' 0 o'' now) status
-counted_after status r o r' o' r'' o'' before now reads output source counted =
-    with_source status r o r'' o'' before now source (transport (λ i. Counted (counts (reads i) 0 (output i) 0) (counts r'' 0 o'' 0) status) counted)
 
 -- ---- with the writes of a store
 

@@ -40,3 +40,7 @@ module _ (was now : Option (List ℕ)) (text held : List ℕ) (g : Gathers was t
   -- or a part of it
   pub gathered_cut : (after : Option (List ℕ)) → AppendsFront now after held → AppendsFront was after text
   gathered_cut after part = subst (λ l. AppendsFront was after l) g.1 (front_after was now after g.0 held g.2 part)
+
+  -- and one more reply
+  pub gathered_whole : (after : Option (List ℕ)) (reply : List ℕ) → Appends now after (held ++ reply) → Appends was after (text ++ reply)
+  gathered_whole after reply writes = subst (λ l. Appends was after l) (joined reply) (Appends-trans was now after g.0 (held ++ reply) g.2 writes)

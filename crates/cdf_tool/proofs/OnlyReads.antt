@@ -1,6 +1,6 @@
 -- A script that only reads.
 use Rattle.std.proofs.Common.{◌≡◌, ◌≤◌, ℕ, Bool, true, false, List, ◌++◌, Option, Some, None, Ok, Err, OnOk, Result, refl, sym, ◌∙◌, ap, inl, inr, append-nil, length, arith}
-use Rattle.std.specs.Io.KnownBytes.{Consumes, IsAtEnd}
+use Rattle.std.specs.Io.KnownBytes.{Consumes}
 use Rattle.std.proofs.lemmas.List.Folds.{list_all-append}
 use Rattle.cdf_area.specs.Calls.{Stays}
 use Rattle.cdf_area.specs.Frame.{Frame}
@@ -8,7 +8,7 @@ use Rattle.cdf_edits.specs.Answers.{MovesIf, is_full}
 use Rattle.cdf_edits.specs.Follows.{only_reads}
 use Rattle.cdf_format.proofs.Images.{image_of-whole}
 use Rattle.cdf_format.proofs.Tests.{both}
-use Rattle.cdf_lines.specs.Pending.{GivesLine, Pending, last_of, new_lines}
+use Rattle.cdf_lines.specs.Pending.{Pending, last_of, new_lines}
 use Rattle.cdf_lines.proofs.Pieces.{whole_lines-append, lines-split}
 use Rattle.cdf_model.specs.declared.answer.Outcome.{Outcome}
 use Rattle.cdf_model.specs.declared.command.Command.{Command}
@@ -21,6 +21,8 @@ use Rattle.cdf_store.specs.Named.{AttachesIn, files_attached}
 use Rattle.cdf_tool.specs.declared.status.Status.{Status}
 use Rattle.cdf_tool.specs.Ends.{Opens}
 use Rattle.cdf_tool.specs.Reading.{IfReads, WritesNothing, all_read, line_reads}
+use Rattle.cdf_tool.specs.Replay.{GivesNext, Passes}
+use Rattle.cdf_tool.proofs.Standing.{HasTaken, IsReady}
 
 -- ---- one command
 
@@ -41,36 +43,36 @@ first_read xs ys all = (both (all_read xs) (all_read ys) (sym (list_all-append l
 pub later_read : (xs ys : List (Option (List ℕ))) → all_read (xs ++ ys) ≡ true → all_read ys ≡ true
 later_read xs ys all = (both (all_read xs) (all_read ys) (sym (list_all-append line_reads xs ys) ∙ all)).1
 
+-- those that are left behind blank lines
+pub passed_read : (p p' : Pending) → Passes p p' → all_read p.ready ≡ true → all_read p'.ready ≡ true
+passed_read p p' passes all = later_read passes.blank p'.ready (sym (ap all_read passes.first) ∙ all)
+
 -- the line that is given, and those that are left
-pub more_read : (p p' : Pending) → GivesLine p p' → all_read p.ready ≡ true → (line_reads p'.line ≡ true) × (all_read p'.ready ≡ true)
-more_read p p' gives all = both (line_reads p'.line) (all_read p'.ready) (sym (ap all_read gives.first) ∙ all)
+pub next_read : (p p' : Pending) → GivesNext p p' → all_read p.ready ≡ true → (line_reads p'.line ≡ true) × (all_read p'.ready ≡ true)
+next_read p p' next all = both (line_reads p'.line) (all_read p'.ready) (sym (ap all_read next.gives.first) ∙ passed_read p next.passed next.passes all)
 
 whole_read : (text : List ℕ) → all_read (lines text) ≡ true → all_read (whole_lines text) ≡ true
 whole_read text all = first_read (whole_lines text) (last_of (kept (split text).1)) (sym (ap all_read (lines-split text)) ∙ all)
 
-new_read : (taken piece left : List ℕ) → all_read (lines ((taken ++ piece) ++ left)) ≡ true → all_read (new_lines (kept (split taken).1) piece) ≡ true
-new_read taken piece left all =
-    let rest = new_lines (kept (split (taken ++ piece)).1) left in
-    let up_to : all_read (whole_lines (taken ++ piece)) ≡ true =
-    first_read (whole_lines (taken ++ piece)) rest (sym (ap all_read (whole_lines-append (taken ++ piece) left)) ∙ whole_read ((taken ++ piece) ++ left) all) in
-    later_read (whole_lines taken) (new_lines (kept (split taken).1) piece) (sym (ap all_read (whole_lines-append taken piece)) ∙ up_to)
+-- those that are ready
+all_ready : (more : Bool) (earlier last left : List ℕ) (p : Pending) → IsReady more earlier last p (Some left) → all_read (lines ((earlier ++ last) ++ left)) ≡ true → all_read p.ready ≡ true
+all_ready true earlier last left p ready all =
+    let rest = new_lines (kept (split (earlier ++ last)).1) left in
+    let up_to : all_read (whole_lines (earlier ++ last)) ≡ true =
+    first_read (whole_lines (earlier ++ last)) rest (sym (ap all_read (whole_lines-append (earlier ++ last) left)) ∙ whole_read ((earlier ++ last) ++ left) all) in
+    later_read (whole_lines earlier) p.ready (ap all_read ready.0 ∙ up_to)
+all_ready false earlier last left p ready all =
+    let same : (earlier ++ last) ++ left ≡ earlier ++ last = ap (λ l. (earlier ++ last) ++ l) ready.0 ∙ append-nil (earlier ++ last) in
+    later_read (whole_lines earlier) p.ready (ap all_read ready.1 ∙ sym (ap (λ s. all_read (lines s)) same) ∙ all)
 
--- the lines that a piece ends
-pub after_piece : (before now rest : Option (List ℕ)) (taken piece : List ℕ) (P Q : Type 0) → rest ≡ kept (split taken).1 → Consumes before now (taken ++ piece) → IfReads before P → (all_read (new_lines rest piece) ≡ true → P → Q) → IfReads before Q
-after_piece None now rest taken piece P Q is took so_far more = tt
-after_piece (Some script) None rest taken piece P Q is took so_far more = absurd took
-after_piece (Some script) (Some left) rest taken piece P Q is took so_far more = λ all.
-    let here = new_read taken piece left (sym (ap (λ s. all_read (lines s)) took) ∙ all) in
-    more (ap (λ r. all_read (new_lines r piece)) is ∙ here) (so_far all)
+ready_reads : (more : Bool) (before now : Option (List ℕ)) (earlier last : List ℕ) (p : Pending) (P Q : Type 0) → Consumes before now (earlier ++ last) → IsReady more earlier last p now → IfReads before P → (all_read p.ready ≡ true → P → Q) → IfReads before Q
+ready_reads more None now earlier last p P Q took ready so_far onward = tt
+ready_reads more (Some script) None earlier last p P Q took ready so_far onward = absurd took
+ready_reads more (Some script) (Some left) earlier last p P Q took ready so_far onward = λ all. onward (all_ready more earlier last left p ready (sym (ap (λ s. all_read (lines s)) took) ∙ all)) (so_far all)
 
--- the last line
-pub after_last : (before now rest : Option (List ℕ)) (taken : List ℕ) (P Q : Type 0) → rest ≡ kept (split taken).1 → Consumes before now taken → IsAtEnd now → IfReads before P → (all_read (last_of rest) ≡ true → P → Q) → IfReads before Q
-after_last None now rest taken P Q is took over so_far more = tt
-after_last (Some script) None rest taken P Q is took over so_far more = absurd took
-after_last (Some script) (Some left) rest taken P Q is took over so_far more = λ all.
-    let same : script ≡ taken = took ∙ ap (λ l. taken ++ l) over ∙ append-nil taken in
-    let here = later_read (whole_lines taken) (last_of (kept (split taken).1)) (sym (ap all_read (lines-split taken)) ∙ sym (ap (λ s. all_read (lines s)) same) ∙ all) in
-    more (ap (λ r. all_read (last_of r)) is ∙ here) (so_far all)
+pub taken_reads : (more : Bool) (limit : ℕ) (b : List ℕ) (before left first : Option (List ℕ)) (p : Pending) (image : List ℕ) (refused : Bool) (was : Option (List ℕ)) (total : ℕ) → HasTaken more limit b before left first p image refused was total
+    → (P Q : Type 0) → IfReads before P → (all_read p.ready ≡ true → P → Q) → IfReads before Q
+taken_reads more limit b before left first p image refused was total has P Q so_far onward = ready_reads more before left has.earlier has.last p P Q has.consumed has.ready so_far onward
 
 pub if_reads : (before : Option (List ℕ)) (P : Type 0) → P → IfReads before P
 if_reads None P p = tt

@@ -1,10 +1,12 @@
 -- What stays true while a script is replayed.
-use Rattle.std.proofs.Common.{◌≡◌, ℕ, ◌+◌, List, [], ◌++◌, length, Bool, false, Option}
-use Rattle.std.specs.Io.KnownBytes.{Consumes}
-use Rattle.cdf_model.specs.Lines.{split, kept, whole_lines}
+use Rattle.std.proofs.Common.{◌≡◌, ◌≤◌, ℕ, ◌+◌, List, [], ◌++◌, length, Bool, true, false, Option}
+use Rattle.std.specs.Io.KnownBytes.{Consumes, IsAtEnd}
+use Rattle.cdf_model.specs.Limits.{script_limit}
+use Rattle.cdf_model.specs.Lines.{split, kept, lines, whole_lines}
 use Rattle.cdf_lines.specs.Pending.{Pending}
 use Rattle.cdf_tool.specs.Gathering.{Gathers}
-use Rattle.cdf_tool.specs.Replay.{Goes, Replies}
+use Rattle.cdf_tool.specs.Replay.{AreShort, Goes, Replies}
+use Rattle.cdf_tool.specs.Taking.{piece_limit}
 
 -- on the way through these lines: some are answered, and these are left
 pub record Reached (limit : ℕ) (b : List ℕ) (given : ℕ) (lines : List (Option (List ℕ))) (was : Option (List ℕ)) (given' : ℕ) (ready : List (Option (List ℕ))) (image : List ℕ) (refused : Bool) (now : Option (List ℕ)) (gathered : List ℕ) : Type 0 where
@@ -25,3 +27,21 @@ pub record IsAfter (limit : ℕ) (b : List ℕ) (before left first : Option (Lis
   pub not_over : lines.over ≡ false
   pub given : lines.given ≡ length (whole_lines taken)
   pub replies : Replies limit b 0 (whole_lines taken) image refused first now
+
+-- the lines that the last bytes of the script so far have ended, or its end, are ready
+abbrev pub IsReady : Bool → List ℕ → List ℕ → Pending → Option (List ℕ) → Type 0
+IsReady true earlier last p left = (whole_lines earlier ++ p.ready ≡ whole_lines (earlier ++ last)) × (p.rest ≡ kept (split (earlier ++ last)).1) × (p.over ≡ false)
+IsReady false earlier last p left = IsAtEnd left × (whole_lines earlier ++ p.ready ≡ lines (earlier ++ last))
+
+-- the replay stands after some bytes of the script, and the lines that the last of them have ended wait to be answered; there may be more bytes, or not
+pub record HasTaken (more : Bool) (limit : ℕ) (b : List ℕ) (before left first : Option (List ℕ)) (p : Pending) (image : List ℕ) (refused : Bool) (now : Option (List ℕ)) (total : ℕ) : Type 0 where
+  pub earlier : List ℕ
+  pub last : List ℕ
+  pub short : length last ≤ piece_limit
+  pub consumed : Consumes before left (earlier ++ last)
+  pub total_is : length (earlier ++ last) ≡ total
+  pub within : total ≤ script_limit
+  pub given : p.given ≡ length (whole_lines earlier)
+  pub replies : Replies limit b 0 (whole_lines earlier) image refused first now
+  pub ready : IsReady more earlier last p left
+  pub are_short : AreShort p.ready

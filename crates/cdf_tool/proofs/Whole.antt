@@ -21,7 +21,7 @@ use Rattle.cdf_model.specs.DataSet.{Attribute, DataSet, Entry}
 use Rattle.cdf_model.specs.Names.{is_bad_name, is_among, attribute_names, attribute_named}
 use Rattle.cdf_model.specs.Numbered.{item_at, with_item, without}
 use Rattle.cdf_model.specs.Values.{notation_of}
-use Rattle.cdf_model.specs.Step.{Route, ByStep, step}
+use Rattle.cdf_model.specs.Step.{ByStep, step}
 use Rattle.cdf_session.specs.Built.{built}
 use Rattle.cdf_model.specs.Whole.{CanBeWritten, HasWholeValues}
 use Rattle.cdf_session.specs.Sessions.{AnswersBuilt}

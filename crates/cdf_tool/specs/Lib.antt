@@ -2,6 +2,7 @@ pub mod Statuses
 pub mod Counts
 pub mod Gathering
 pub mod Replay
+pub mod Taking
 pub mod Script
 pub mod Stored
 pub mod Says

@@ -1,20 +1,25 @@
 -- What lines of a script lead to (own).
-use Rattle.std.specs.Prelude.{◌≡◌, ℕ, ◌+◌, ◌≤◌, List, [], ◌∷◌, ◌++◌, map, length, Bool, false, Some, None}
+use Rattle.std.specs.Prelude.{◌≡◌, ◌⊎◌, ℕ, ◌+◌, ◌≤◌, List, [], ◌∷◌, ◌++◌, map, length, Bool, false, Some, None}
 use Rattle.std.specs.declared.option.Option.{Option}
 use Rattle.std.specs.Io.KnownBytes.{Appends}
 use Rattle.cdf_store.specs.Written.{AppendsFront}
 use Rattle.cdf_format.specs.Content.{content}
 use Rattle.cdf_session.specs.History.{LineLeads, Moment, LinesLead, last_image}
-use Rattle.cdf_model.specs.Grammar.{Parsed}
+use Rattle.cdf_model.specs.Grammar.{Parsed as Asked, Asks, Blank, parse}
 use Rattle.cdf_model.specs.Limits.{line_limit}
+use Rattle.cdf_model.specs.Sayable.{Sayable}
 use Rattle.cdf_model.specs.Turns.{Turn, State}
+use Rattle.cdf_script.specs.declared.parsing.Parsed.{Parsed}
+use Rattle.cdf_script.specs.declared.parsing.Parsed.TheVariants as forms
 use Rattle.cdf_session.specs.Run.{turn, run_on}
-use Rattle.cdf_lines.specs.Pending.{Pending}
+use Rattle.cdf_lines.specs.declared.line.Line.{Line}
+use Rattle.cdf_lines.specs.Pending.{Pending, GivesLine, line_of}
 use Rattle.cdf_tool.specs.declared.status.Status.{Status}
 use Rattle.cdf_tool.specs.declared.status.Status.TheVariants as statuses
+use Rattle.cdf_tool.specs.Gathering.{Gathers}
 
 -- the line of a number over an image, where there are no taps so far
-abbrev pub turn_over : List ℕ → ℕ → Parsed → Bool → Turn
+abbrev pub turn_over : List ℕ → ℕ → Asked → Bool → Turn
 turn_over b n parsed full = turn (content b) [] n parsed full
 
 abbrev pub line_of_moment : Moment → Option (List ℕ)
@@ -35,11 +40,21 @@ tale b given moments = run_on (begun b given) (map flagged_line moments)
 -- ---- one line
 
 -- it was answered: it led to this image, it was refused or not, and this is its reply
-pub record Turns (limit : ℕ) (b : List ℕ) (n : ℕ) (parsed : Parsed) (end : List ℕ) (refused : Bool) (reply : List ℕ) : Type 0 where
+pub record Turns (limit : ℕ) (b : List ℕ) (n : ℕ) (parsed : Asked) (end : List ℕ) (refused : Bool) (reply : List ℕ) : Type 0 where
   pub full : Bool
   pub leads : LineLeads limit b parsed full end
   pub refused_is : refused ≡ (turn_over b n parsed full).refused
   pub reply_is : reply ≡ (turn_over b n parsed full).text
+
+-- what a line asks for that was read
+abbrev pub asked_by : Parsed → Asked
+asked_by forms.Blank = Blank
+asked_by (forms.Cmd c) = Asks c
+
+-- a command that it asks for can be said
+abbrev pub IsSayable : Asked → Type 0
+IsSayable (Asks c) = Sayable c
+IsSayable other = Unit {0}
 
 -- the bytes of a line are no more than a line may have
 abbrev pub IsShort : Option (List ℕ) → Type 0
@@ -94,3 +109,45 @@ pub record IsDrained (old new : Pending) : Type 0 where
   pub rest : new.rest ≡ old.rest
   pub over : new.over ≡ old.over
   pub given : new.given ≡ old.given + length old.ready
+
+-- ---- one line after the other
+
+-- each of these lines asks for nothing
+abbrev pub AreBlank : List (Option (List ℕ)) → Type 0
+AreBlank [] = Unit {0}
+AreBlank (line ∷ more) = (parse line ≡ Blank) × AreBlank more
+
+-- blank lines were given
+pub record Passes (old new : Pending) : Type 0 where
+  pub blank : List (Option (List ℕ))
+  pub are_blank : AreBlank blank
+  pub first : old.ready ≡ blank ++ new.ready
+  pub counted : new ≡ record old { given = old.given + length blank; line = new.line; ready = new.ready }
+
+-- and then the next line
+pub record GivesNext (old new : Pending) : Type 0 where
+  pub passed : Pending
+  pub passes : Passes old passed
+  pub gives : GivesLine passed new
+
+-- and no line is left
+abbrev pub PassesAll : Pending → Pending → Type 0
+PassesAll old new = Passes old new × (new.ready ≡ [])
+
+-- a line was answered, and its reply gathered behind what was
+pub record GathersReply (limit : ℕ) (b : List ℕ) (line : Line) (end : List ℕ) (refused : Bool) (was : Option (List ℕ)) (held : List ℕ) (now : Option (List ℕ)) (gathered : List ℕ) : Type 0 where
+  pub reply : List ℕ
+  pub turns : Turns limit b line.number (parse (line_of line)) end refused reply
+  pub gathers : Gathers was (held ++ reply) now gathered
+
+-- this is the reply to a line that was answered
+pub record IsReply (limit : ℕ) (b : List ℕ) (line : Line) (reply : List ℕ) : Type 0 where
+  pub end : List ℕ
+  pub refused : Bool
+  pub turns : Turns limit b line.number (parse (line_of line)) end refused reply
+
+-- A line was answered or not. What was gathered before was written, and then its reply, or a part of both where the sink failed.
+pub record StopsAt (limit : ℕ) (b : List ℕ) (line : Line) (was : Option (List ℕ)) (held : List ℕ) (now : Option (List ℕ)) (status : Status) : Type 0 where
+  pub reply : List ℕ
+  pub answered : (reply ≡ []) ⊎ IsReply limit b line reply
+  pub wrote : Wrote was now (held ++ reply) status

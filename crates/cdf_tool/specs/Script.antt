@@ -10,11 +10,8 @@ use Rattle.cdf_model.specs.Lines.{lines, whole_lines}
 use Rattle.cdf_model.specs.Texts.{space_text}
 use Rattle.cdf_tool.specs.declared.status.Status.{Status}
 use Rattle.cdf_tool.specs.declared.status.Status.TheVariants as statuses
+use Rattle.cdf_tool.specs.Taking.{piece_limit}
 use Rattle.cdf_tool.specs.Replay.{Replies, Stops}
-
--- the most bytes of a script that are taken before they are answered
-abbrev pub piece_limit : ℕ
-piece_limit = 65536
 
 -- the script was read to its end, each of its lines was answered, and all replies were written
 pub record Finishes (limit : ℕ) (b : List ℕ) (before left first : Option (List ℕ)) (end : List ℕ) (refused : Bool) (now : Option (List ℕ)) : Type 0 where

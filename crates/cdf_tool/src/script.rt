@@ -1,10 +1,12 @@
 //! A script is run line by line.
 
-ghost use Rattle.std.specs.Prelude.{◌≡◌, ◌||◌, [], true, IfOk, IfErr, OnOk};
+ghost use Rattle.std.specs.Prelude.{◌≡◌, ◌≤◌, ◌||◌, ℕ, [], true, false, IsTrue, IfOk, IfErr, OnOk};
 ghost use Rattle.cdf_area.specs.Calls.{Stays};
+ghost use Rattle.cdf_lines.specs.Pending.{line_of};
 ghost use Rattle.cdf_tool.specs.Counts.{CountedIn, counts};
-ghost use Rattle.cdf_tool.specs.Reading.{IfReads, all_read};
-ghost use Rattle.cdf_tool.specs.Replay.{AreShort, IsDrained, Replies as AllReplies, Stops};
+ghost use Rattle.cdf_tool.specs.Taking.{Takes, TakesNone};
+ghost use Rattle.cdf_tool.specs.Reading.{IfReads, all_read, line_reads};
+ghost use Rattle.cdf_tool.specs.Replay.{AreShort, GathersReply, GivesNext, IsDrained, IsShort, PassesAll, Replies as AllReplies, Stops, StopsAt};
 ghost use Rattle.cdf_tool.specs.Script.{Finishes, Halts};
 
 use crate::Status;
@@ -12,7 +14,7 @@ use crate::replay::answer_line;
 use crate::replies::Replies;
 use crate::status::area_status;
 use cdf_area::Area;
-use cdf_lines::Lines;
+use cdf_lines::{Line, Lines};
 use cdf_model::limits::SCRIPT_LIMIT;
 use cdf_script::is_blank_line;
 use cdf_session::Session;
@@ -26,6 +28,48 @@ fn either(one: bool, other: bool) -> bool
     ensures { result ≡ (one || other) }
 {
     one || other
+}
+
+/// Goes on to the next line that is not blank, and says whether there is one. A blank line costs as little as can be: nothing else stands
+/// in this loop.
+#[inline(never)]
+fn next_to_answer(lines: &mut Lines) -> bool
+    ensures none { result ≡ false → PassesAll lines.old lines.new }
+    ensures line { IsTrue result → GivesNext lines.old lines.new }
+{
+    'ready: while lines.next_line() {
+        if !is_blank_line(&lines.line()) {
+            return true;
+        }
+    }
+    false
+}
+
+/// Answers a line, and says whether it was refused. Its reply is gathered; where there is none, what was gathered before is written.
+fn gather_reply<A: Area, O: Sink>(
+    alloc: Global,
+    session: &mut Session<A>,
+    line: &Line,
+    replies: &mut Replies,
+    out: &mut O,
+) -> Result<bool, Status>
+    requires { IsShort (line_of line.now) }
+    ensures ok { IfOk result (λ refused. GathersReply (A.frame session.old).limit (A.image session.old) line.now (A.image session.new) refused (O.written out.old) replies.old (O.written out.new) replies.new) }
+    ensures stops { IfErr result (λ status. StopsAt (A.frame session.old).limit (A.image session.old) line.now (O.written out.old) replies.old (O.written out.new) status) }
+    ensures reads { line_reads (line_of line.now) ≡ true → OnOk result (Stays A.image A.frame A.faults A.edited session.old session.new) }
+    ensures frame { A.frame session.new ≡ A.frame session.old }
+    ensures counted { (source : ℕ) → CountedIn (counts (A.faults session.old) 0 (O.faults out.old) source) (counts (A.faults session.new) 0 (O.faults out.new) source) result }
+{
+    match answer_line(alloc, session, line) {
+        Ok(answer) => match replies.add(&answer.text, out) {
+            Ok(()) => Ok(answer.refused),
+            Err(Failed) => Err(Status::OutputFault),
+        },
+        Err(error) => match replies.write(out) {
+            Ok(()) => Err(area_status(error)),
+            Err(Failed) => Err(Status::OutputFault),
+        },
+    }
 }
 
 /// Answers the lines that are ready, and says whether one of them was refused. Their replies are written before it ends, unless the sink fails.
@@ -44,33 +88,45 @@ fn answer_lines<A: Area, O: Sink>(
     ensures stops { IfErr result (λ status. Stops (A.frame session.old).limit (A.image session.old) lines.old.given lines.old.ready (O.written out.old) (O.written out.new) status) }
     ensures reads { all_read lines.old.ready ≡ true → OnOk result (Stays A.image A.frame A.faults A.edited session.old session.new) }
     ensures frame { A.frame session.new ≡ A.frame session.old }
-    ensures counted { CountedIn (counts (A.faults session.old) 0 (O.faults out.old) 0) (counts (A.faults session.new) 0 (O.faults out.new) 0) result }
+    ensures counted { (source : ℕ) → CountedIn (counts (A.faults session.old) 0 (O.faults out.old) source) (counts (A.faults session.new) 0 (O.faults out.new) source) result }
 {
     let mut refused = false;
-    'ready: while lines.next_line() {
-        let line = lines.line();
-        // A blank line costs as little as can be.
-        if is_blank_line(&line) {
-            continue;
-        }
-        match answer_line(alloc, session, &line) {
-            Ok(answer) => {
-                if let Err(Failed) = replies.add(&answer.text, out) {
-                    return Err(Status::OutputFault);
-                }
-                refused = either(refused, answer.refused);
-            }
-            Err(error) => {
-                if let Err(Failed) = replies.write(out) {
-                    return Err(Status::OutputFault);
-                }
-                return Err(area_status(error));
-            }
+    'ready: while next_to_answer(lines) {
+        match gather_reply(alloc, session, &lines.line(), replies, out) {
+            Ok(more) => refused = either(refused, more),
+            Err(status) => return Err(status),
         }
     }
     match replies.write(out) {
         Ok(()) => Ok(refused),
         Err(Failed) => Err(Status::OutputFault),
+    }
+}
+
+/// Takes the next piece of a script, and says whether there was one. At the end of the script its last line is ready.
+fn take_piece<I: Source>(script: &mut I, lines: &mut Lines, taken: &mut u64) -> Result<bool, Status>
+    requires not_over { lines.old.over ≡ false }
+    requires within { taken.old ≤ SCRIPT_LIMIT }
+    ensures ok { IfOk result (λ more. Takes more (I.left script.old) (I.left script.new) lines.old lines.new taken.old taken.new) }
+    ensures err { IfErr result (λ status. TakesNone (I.left script.old) (I.left script.new) taken.old status) }
+    ensures counted { (reads output : ℕ) → CountedIn (counts reads 0 output (I.faults script.old)) (counts reads 0 output (I.faults script.new)) result }
+{
+    let mut piece = [0u8; PIECE];
+    let count = match script.read(&mut piece) {
+        Ok(count) => count,
+        Err(Failed) => return Err(Status::ScriptFault),
+    };
+    if count == 0 {
+        lines.finish();
+        return Ok(false);
+    }
+    *taken += count as u64;
+    if *taken > SCRIPT_LIMIT {
+        return Err(Status::ScriptTooLong);
+    }
+    match lines.feed(&piece[..count]) {
+        Ok(()) => Ok(true),
+        Err(AllocError) => Err(Status::NoMemory),
     }
 }
 
@@ -90,30 +146,18 @@ pub fn run_script<A: Area, I: Source, O: Sink>(
     let mut lines = Lines::new(alloc);
     let mut replies = Replies::new(alloc);
     let mut refused = false;
-    let mut piece = [0u8; PIECE];
-    let mut total = 0u64;
+    let mut taken = 0u64;
     for _ in 0..SCRIPT_LIMIT + 1 {
-        let count = match script.read(&mut piece) {
-            Ok(count) => count,
-            Err(Failed) => return Err(Status::ScriptFault),
-        };
-        if count == 0 {
-            lines.finish();
-            match answer_lines(alloc, session, &mut lines, &mut replies, out) {
-                Ok(more) => return Ok(either(refused, more)),
-                Err(status) => return Err(status),
-            }
-        }
-        total += count as u64;
-        if total > SCRIPT_LIMIT {
-            return Err(Status::ScriptTooLong);
-        }
-        if let Err(AllocError) = lines.feed(&piece[..count]) {
-            return Err(Status::NoMemory);
-        }
-        match answer_lines(alloc, session, &mut lines, &mut replies, out) {
-            Ok(more) => refused = either(refused, more),
+        let more = match take_piece(script, &mut lines, &mut taken) {
+            Ok(more) => more,
             Err(status) => return Err(status),
+        };
+        match answer_lines(alloc, session, &mut lines, &mut replies, out) {
+            Ok(again) => refused = either(refused, again),
+            Err(status) => return Err(status),
+        }
+        if !more {
+            return Ok(refused);
         }
     }
     Err(Status::ScriptTooLong)

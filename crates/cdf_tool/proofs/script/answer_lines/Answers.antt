@@ -1,15 +1,11 @@
-use Rattle.std.proofs.Common.{ℕ, ◌++◌, List, Err, ◌∙◌, ap, subst, refl}
-use Rattle.cdf_area.specs.declared.area.AreaError.TheVariants as areas
-use Rattle.cdf_base.specs.Causes.{HasCauseOf}
-use Rattle.cdf_lines.specs.Pending.{Pending, GivesLine}
-use Rattle.cdf_store.specs.Written.{AppendsFront}
-use Rattle.cdf_tool.specs.declared.replay.Answer.{Answer}
-use Rattle.cdf_tool.specs.Gathering.{Gathers}
+use Rattle.std.proofs.Common.{◌∙◌, ap, subst, sym, refl}
+use Rattle.cdf_tool.specs.declared.status.Status.TheVariants as statuses
+use Rattle.cdf_tool.specs.Counts.{counts}
 use Rattle.cdf_tool.specs.Reading.{line_reads}
-use Rattle.cdf_tool.specs.Replay.{AreShort}
-use Rattle.cdf_tool.proofs.CountLemmas.{area_counted, counts_stay}
-use Rattle.cdf_tool.proofs.Lines.{starts, stopped_cut, line_answered, line_cut, line_blank}
-use Rattle.cdf_tool.proofs.OnlyReads.{more_read, stays_on, stays_still}
+use Rattle.cdf_tool.specs.Replay.{GivesNext, IsShort}
+use Rattle.cdf_tool.proofs.CountLemmas.{counted_on, counts_stay, sink_counted, with_source}
+use Rattle.cdf_tool.proofs.Lines.{all_drained, all_replies, next_answered, next_fewer, next_same, next_short, next_stops, starts, stopped_cut}
+use Rattle.cdf_tool.proofs.OnlyReads.{next_read, stays_on, stays_still}
 use Rattle.cdf_tool.proofs.script.answer_lines.Goals as goal
 
 pub ready-init : goal.ready-init
@@ -20,85 +16,85 @@ ready-init g c = record {
   rest = refl;
   over = refl;
   frame = refl;
-  faults = refl;
-  out_faults = refl;
+  counted = refl;
 }
 
-pub ready-preserved-then-is_blank_line : goal.ready-preserved-then-is_blank_line
-ready-preserved-then-is_blank_line g c =
-    let i = c.ready.invariant in
-    let gives : GivesLine c.ready.lines c.next_line.new.self = c.next_line.ensures.line c.ready-test.true in
-    let short : AreShort c.ready.lines.ready = i.short in
-    record {
-      reached = line_blank (g.A.Area.frame c.args.session.now).limit (g.A.Area.image c.args.session.now) c.args.lines.now.given c.args.lines.now.ready (g.O.Sink.written c.args.out.now)
-          (g.A.Area.image c.ready.session) c.ready.refused (g.O.Sink.written c.ready.out) c.ready.replies c.ready.lines i.reached
-          c.next_line.new.self c.line-line.result (g.A.Area.frame c.args.session.now).limit gives c.line-line.ensures.text c.line-line.ensures.number refl (c.is_blank_line.ensures c.if-is_blank_line.true);
-      short = (subst AreShort gives.first short).1;
-      reads = λ all. let so_far = i.reads all in ((more_read c.ready.lines c.next_line.new.self gives so_far.0).1, so_far.1);
-      rest = ap (λ (p : Pending). p.rest) gives.counted ∙ i.rest;
-      over = ap (λ (p : Pending). p.over) gives.counted ∙ i.over;
-      frame = i.frame;
-      faults = i.faults;
-      out_faults = i.out_faults;
-    }
+pub gather_reply-requires : goal.gather_reply-requires
+gather_reply-requires g c =
+    let next : GivesNext c.ready.lines c.next_to_answer.new.lines = c.next_to_answer.ensures.line c.ready-test.true in
+    subst IsShort (sym c.line.ensures.text) (next_short c.ready.lines c.next_to_answer.new.lines next c.ready.invariant.short).0
 
-pub returns-in-Err-add-clause-stops : goal.returns-in-Err-add-clause-stops
-returns-in-Err-add-clause-stops g c =
-    let i = c.ready.invariant in
-    let gives : GivesLine c.ready.lines c.next_line.new.self = c.next_line.ensures.line c.ready-test.true in
-    let part = subst (λ (t : List ℕ). AppendsFront (g.O.Sink.written c.ready.out) (g.O.Sink.written c.add.new.out) (c.ready.replies ++ t)) c.deref.ensures.value c.in-Err-add.ensures.part in
-    line_cut (g.A.Area.frame c.args.session.now).limit (g.A.Area.image c.args.session.now) c.args.lines.now.given c.args.lines.now.ready (g.O.Sink.written c.args.out.now)
-    (g.A.Area.image c.ready.session) c.ready.refused (g.O.Sink.written c.ready.out) c.ready.replies c.ready.lines i.reached
-    c.next_line.new.self c.line-line.result (g.A.Area.frame c.ready.session).limit gives c.line-line.ensures.text c.line-line.ensures.number (ap (λ f. f.limit) i.frame)
-    (g.A.Area.image c.answer_line.new.session) c.in-Ok.answer.refused c.in-Ok.answer.text.items (g.O.Sink.written c.add.new.out) c.in-Ok.ensures.turns part
+pub ready-smaller : goal.ready-smaller
+ready-smaller g c = next_fewer c.ready.lines c.next_to_answer.new.lines (c.next_to_answer.ensures.line c.ready-test.true)
 
 pub ready-preserved : goal.ready-preserved
 ready-preserved g c =
     let i = c.ready.invariant in
-    let gives : GivesLine c.ready.lines c.next_line.new.self = c.next_line.ensures.line c.ready-test.true in
-    let short : AreShort c.ready.lines.ready = i.short in
-    let gathers = subst (λ (t : List ℕ). Gathers (g.O.Sink.written c.ready.out) (c.ready.replies ++ t) (g.O.Sink.written c.add.new.out) c.add.new.self) c.deref.ensures.value c.in_default.ensures.all in
+    let next : GivesNext c.ready.lines c.next_to_answer.new.lines = c.next_to_answer.ensures.line c.ready-test.true in
+    let same = next_same c.ready.lines c.next_to_answer.new.lines next in
     record {
-      reached = line_answered (g.A.Area.frame c.args.session.now).limit (g.A.Area.image c.args.session.now) c.args.lines.now.given c.args.lines.now.ready (g.O.Sink.written c.args.out.now)
+      reached = next_answered (g.A.Area.frame c.args.session.now).limit (g.A.Area.image c.args.session.now) c.args.lines.now.given c.args.lines.now.ready (g.O.Sink.written c.args.out.now)
           (g.A.Area.image c.ready.session) c.ready.refused (g.O.Sink.written c.ready.out) c.ready.replies c.ready.lines i.reached
-          c.next_line.new.self c.line-line.result (g.A.Area.frame c.ready.session).limit gives c.line-line.ensures.text c.line-line.ensures.number (ap (λ f. f.limit) i.frame)
-          (g.A.Area.image c.answer_line.new.session) c.in-Ok.answer.refused c.either-refused.result c.in-Ok.answer.text.items (g.O.Sink.written c.add.new.out) c.add.new.self c.either-refused.ensures c.in-Ok.ensures.turns gathers;
-      short = (subst AreShort gives.first short).1;
+          c.next_to_answer.new.lines c.line.result (g.A.Area.frame c.ready.session).limit next c.line.ensures.text c.line.ensures.number (ap (λ f. f.limit) i.frame)
+          (g.A.Area.image c.gather_reply.new.session) c.in-Ok.more c.either-refused.result (g.O.Sink.written c.gather_reply.new.out) c.gather_reply.new.replies c.either-refused.ensures c.in-Ok.ensures.ok;
+      short = (next_short c.ready.lines c.next_to_answer.new.lines next i.short).1;
       reads = λ all.
           let so_far = i.reads all in
-          let these = more_read c.ready.lines c.next_line.new.self gives so_far.0 in (
+          let these = next_read c.ready.lines c.next_to_answer.new.lines next so_far.0 in (
             these.1,
-            stays_on g.A.Area.image g.A.Area.frame g.A.Area.faults g.A.Area.edited c.args.session.now c.ready.session c.answer_line.new.session so_far.1
-                (c.in-Ok.ensures.reads (ap line_reads c.line-line.ensures.text ∙ these.0)),
+            stays_on g.A.Area.image g.A.Area.frame g.A.Area.faults g.A.Area.edited c.args.session.now c.ready.session c.gather_reply.new.session so_far.1
+                (c.in-Ok.ensures.reads (ap line_reads c.line.ensures.text ∙ these.0)),
           );
-      rest = ap (λ (p : Pending). p.rest) gives.counted ∙ i.rest;
-      over = ap (λ (p : Pending). p.over) gives.counted ∙ i.over;
-      frame = c.answer_line.ensures.area.frame ∙ i.frame;
-      faults = c.in-Ok.ensures.area.cause.done ∙ i.faults;
-      out_faults = c.in_default.ensures.cause.done ∙ i.out_faults;
+      rest = same.0 ∙ i.rest;
+      over = same.1 ∙ i.over;
+      frame = c.gather_reply.ensures.frame ∙ i.frame;
+      counted = c.in-Ok.ensures.counted 0 ∙ i.counted;
     }
 
-pub returns-in-Err-clause-counted : goal.returns-in-Err-clause-counted
-returns-in-Err-clause-counted g c =
+pub returns-in-Err : goal.returns-in-Err
+returns-in-Err g c =
     let i = c.ready.invariant in
-    let cause = subst (λ (n : ℕ). HasCauseOf {T = Answer} areas.Fault n (g.A.Area.faults c.answer_line.new.session) (Err c.in-Err.error)) i.faults c.in-Err.ensures.area.cause in
-    area_counted c.in-Err.error c.area_status.result (g.A.Area.faults c.args.session.now) 0 (g.O.Sink.faults c.args.out.now) 0 (g.A.Area.faults c.answer_line.new.session) 0 (g.O.Sink.faults c.write.new.out) 0
-    c.area_status.ensures cause refl (c.in_default-write.ensures.cause.done ∙ i.out_faults) refl
+    let next : GivesNext c.ready.lines c.next_to_answer.new.lines = c.next_to_answer.ensures.line c.ready-test.true in
+    record {
+      ok = tt;
+      drained = tt;
+      none_left = tt;
+      stops = next_stops (g.A.Area.frame c.args.session.now).limit (g.A.Area.image c.args.session.now) c.args.lines.now.given c.args.lines.now.ready (g.O.Sink.written c.args.out.now)
+          (g.A.Area.image c.ready.session) c.ready.refused (g.O.Sink.written c.ready.out) c.ready.replies c.ready.lines i.reached
+          c.next_to_answer.new.lines c.line.result (g.A.Area.frame c.ready.session).limit next c.line.ensures.text c.line.ensures.number (ap (λ f. f.limit) i.frame)
+          (g.O.Sink.written c.gather_reply.new.out) c.in-Err.status c.in-Err.ensures.stops;
+      reads = λ all. tt;
+      frame = c.gather_reply.ensures.frame ∙ i.frame;
+      counted = λ source. counted_on _ _ _ c.in-Err.status (with_source _ _ _ _ _ _ source i.counted) (c.in-Err.ensures.counted source);
+    }
 
-pub returns-in-Ok-write-clause-counted : goal.returns-in-Ok-write-clause-counted
-returns-in-Ok-write-clause-counted g c =
+pub returns-in-Ok-write : goal.returns-in-Ok-write
+returns-in-Ok-write g c =
     let i = c.ready.invariant in
-    counts_stay (g.A.Area.faults c.args.session.now) 0 (g.O.Sink.faults c.args.out.now) 0 (g.A.Area.faults c.ready.session) 0 (g.O.Sink.faults c.write-2.new.out) 0 i.faults refl (c.in-Ok-write.ensures.cause.done ∙ i.out_faults) refl
+    let all = c.next_to_answer.ensures.none c.ready-test.false in
+    record {
+      ok = all_replies (g.A.Area.frame c.args.session.now).limit (g.A.Area.image c.args.session.now) c.args.lines.now.given c.args.lines.now.ready (g.O.Sink.written c.args.out.now)
+          (g.A.Area.image c.ready.session) c.ready.refused (g.O.Sink.written c.ready.out) c.ready.replies c.ready.lines i.reached c.next_to_answer.new.lines all (g.O.Sink.written c.write.new.out) c.in-Ok-write.ensures.all;
+      drained = all_drained (g.A.Area.frame c.args.session.now).limit (g.A.Area.image c.args.session.now) c.args.lines.now.given c.args.lines.now.ready (g.O.Sink.written c.args.out.now)
+          (g.A.Area.image c.ready.session) c.ready.refused (g.O.Sink.written c.ready.out) c.ready.replies c.ready.lines i.reached c.next_to_answer.new.lines all c.args.lines.now i.rest i.over refl refl;
+      none_left = c.in-Ok-write.ensures.none_left;
+      stops = tt;
+      reads = λ read. (i.reads read).1;
+      frame = i.frame;
+      counted = λ source. counts_stay _ _ _ _ _ _ _ _ refl refl c.in-Ok-write.ensures.cause.done refl ∙ with_source _ _ _ _ _ _ source i.counted;
+    }
 
-pub returns-in-Err-write-2-clause-stops : goal.returns-in-Err-write-2-clause-stops
-returns-in-Err-write-2-clause-stops g c =
-    stopped_cut (g.A.Area.frame c.args.session.now).limit (g.A.Area.image c.args.session.now) c.args.lines.now.given c.args.lines.now.ready (g.O.Sink.written c.args.out.now)
-    (g.A.Area.image c.ready.session) c.ready.refused (g.O.Sink.written c.ready.out) c.ready.replies c.ready.lines c.ready.invariant.reached (g.O.Sink.written c.write-2.new.out) c.in-Err-write-2.ensures.part
-
-pub returns-in-Ok-write-clause-reads : goal.returns-in-Ok-write-clause-reads
-returns-in-Ok-write-clause-reads g c = λ all. (c.ready.invariant.reads all).1
-
-pub returns-in-Err-write-clause-stops : goal.returns-in-Err-write-clause-stops
-returns-in-Err-write-clause-stops g c =
-    stopped_cut (g.A.Area.frame c.args.session.now).limit (g.A.Area.image c.args.session.now) c.args.lines.now.given c.args.lines.now.ready (g.O.Sink.written c.args.out.now)
-    (g.A.Area.image c.ready.session) c.ready.refused (g.O.Sink.written c.ready.out) c.ready.replies c.ready.lines c.ready.invariant.reached (g.O.Sink.written c.write.new.out) c.in-Err-write.ensures.part
+pub returns-in-Err-write : goal.returns-in-Err-write
+returns-in-Err-write g c =
+    let i = c.ready.invariant in
+    record {
+      ok = tt;
+      drained = tt;
+      none_left = tt;
+      stops = stopped_cut (g.A.Area.frame c.args.session.now).limit (g.A.Area.image c.args.session.now) c.args.lines.now.given c.args.lines.now.ready (g.O.Sink.written c.args.out.now)
+          (g.A.Area.image c.ready.session) c.ready.refused (g.O.Sink.written c.ready.out) c.ready.replies c.ready.lines i.reached (g.O.Sink.written c.write.new.out) c.in-Err-write.ensures.part;
+      reads = λ read. tt;
+      frame = i.frame;
+      counted = λ source. counted_on (counts (g.A.Area.faults c.args.session.now) 0 (g.O.Sink.faults c.args.out.now) source) (counts (g.A.Area.faults c.ready.session) 0 (g.O.Sink.faults c.ready.out) source) (counts (g.A.Area.faults c.ready.session) 0 (g.O.Sink.faults c.write.new.out) source) statuses.OutputFault
+          (with_source _ _ _ _ _ _ source i.counted) (sink_counted _ _ _ source _ c.in-Err-write.ensures.cause.failed);
+    }

@@ -1,5 +1,6 @@
 use Rattle.std.proofs.Common.{◌≡◌, true, length}
 use Rattle.cdf_area.specs.Calls.{Stays}
+use Rattle.cdf_tool.specs.Counts.{counts}
 use Rattle.cdf_tool.specs.Reading.{all_read}
 use Rattle.cdf_tool.specs.Replay.{AreShort}
 use Rattle.cdf_tool.proofs.Standing.{Reached}
@@ -13,8 +14,7 @@ invariant-ready g l = record {
   rest : l.lines.rest ≡ l.fn.lines.rest;
   over : l.lines.over ≡ l.fn.lines.over;
   frame : g.A.Area.frame l.session ≡ g.A.Area.frame l.fn.session;
-  faults : g.A.Area.faults l.session ≡ g.A.Area.faults l.fn.session;
-  out_faults : g.O.Sink.faults l.out ≡ g.O.Sink.faults l.fn.out;
+  counted : counts (g.A.Area.faults l.session) 0 (g.O.Sink.faults l.out) 0 ≡ counts (g.A.Area.faults l.fn.session) 0 (g.O.Sink.faults l.fn.out) 0;
 }
 
 abbrev pub decreases-ready : goal.decreases-ready
