@@ -10,7 +10,9 @@ SORTS = {'': KINDS, 'even': KINDS, 'setup': ('setup', 'checksum', 'list', 'info'
          'cuts': CUTS + ('put-rec', 'put-val', 'set-blocking', 'zvar', 'rvar'),
          'sparse': ('del-recs', 'del-recs', 'put-rec', 'put-val'),
          'twice': ('del-recs', 'del-recs', 'put-rec', 'put-val'),
-         'wide': CUTS + ('put-rec', 'put-val', 'reindex', 'set-blocking')}
+         'wide': CUTS + ('put-rec', 'put-val', 'reindex', 'set-blocking'),
+         'frees': ('attr', 'put-entry', 'put-entry', 'put-entry', 'del-entry', 'del-attr', 'rvar', 'zvar', 'put-rec',
+                   'put-rec', 'set-blocking', 'set-pad', 'set-sparse', 'del-var')}
 
 
 def main():

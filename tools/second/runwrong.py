@@ -1,6 +1,7 @@
 """Tries the wrong editors beside the right one: python3 runwrong.py FILES COMMANDS [SEED] [NAME].
 
-An image that a wrong editor makes counts where it is good, has the right content and is not the right image.
+An image that a wrong editor makes counts where it is good, has the right content and is not the right image. Of each
+that is admitted it says by which acts it was made, and in which records it differs from the right one.
 """
 import sys
 from collections import Counter
@@ -8,6 +9,8 @@ from collections import Counter
 from content import content
 from editor import apply
 from follows.search import refused_whatever
+from image import Image
+from layout import VXR, Vxr, node_size
 from model import READERS
 from selfcheck import run
 from validator import broken, sealed
@@ -32,6 +35,25 @@ def made_by(cls, before, c, after):
     return image
 
 
+def part(before, acts, at):
+    """The record in which a byte is, one that was there or that is taken; whether it is freed; of a node, which part."""
+    image = Image(before)
+    tile = next((t for t in image.tiles() if t.at <= at < t.at + t.size), None)
+    place = tile.at if tile else next((p for act, p, n in acts if act == 'take' and p <= at < p + n), None)
+    words = 'freed' if any(act == 'give' and given == place for act, given, _ in acts) else 'kept'
+    if tile is None or tile.type != VXR:
+        return place, words
+    inside = 28 <= at - place < node_size(image[place, Vxr.Nentries])
+    return place, words + (' node, entries' if inside else ' node, not its entries')
+
+
+def differences(before, right, image):
+    """How many bytes are not those of the right image, by where they are."""
+    longer = len(image.data) - len(right.data)
+    found = Counter(part(before, image.acts, at) for at, (a, b) in enumerate(zip(image.data, right.data)) if a != b)
+    return dict(found), f'{longer} bytes longer' if longer else 'as long'
+
+
 def main():
     files, commands = int(sys.argv[1]), int(sys.argv[2])
     start = int(sys.argv[3]) if len(sys.argv) > 3 else 0
@@ -54,8 +76,8 @@ def main():
                 reasons.setdefault(cls.__name__, Counter())[why[0]] += 1
                 continue
             admitted[cls.__name__, c.kind] += 1
-            if admitted[cls.__name__, c.kind] <= 2:
-                print('ADMITTED', cls.__name__, 'seed', seed, c, edited.acts, image.acts, flush=True)
+            print('ADMITTED', cls.__name__, 'seed', seed, c, '\n  right', edited.acts, '\n  acts ', image.acts,
+                  '\n  differs', *differences(before, edited, image), flush=True)
 
     for seed in range(start, start + files):
         run(seed, commands, each)

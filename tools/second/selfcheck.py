@@ -55,7 +55,7 @@ def run(seed, commands, each, kinds=KINDS, sort=''):
     assert broken(sealed(image)) == [], (seed, broken(sealed(image)))
     script, data_set, tally = Script(source), content_of(image), Counter()
     for _ in range(commands):
-        c = script.command(data_set, kinds, sort == 'even')
+        c = script.command(data_set, kinds, sort in ('even', 'frees'))
         work = bytearray(image)
         try:
             choices = [choice for choice in CHOICES if source.random() < 0.25]
