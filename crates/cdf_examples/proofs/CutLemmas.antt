@@ -107,7 +107,7 @@ place_before ((place, size) ∷ more) end need fit before e = choose (fits need 
     choose true fit e rest = before.0 e
     choose false fit e rest = rest fit e
 
-each_filter : (P : ℕ × ℕ → Type 0) (test : ℕ × ℕ → Bool) (list : List (ℕ × ℕ)) → Each P list → Each P (filter test list)
+pub each_filter : (P : ℕ × ℕ → Type 0) (test : ℕ × ℕ → Bool) (list : List (ℕ × ℕ)) → Each P list → Each P (filter test list)
 each_filter P test [] e = tt
 each_filter P test (pair ∷ more) e = choose (test pair) refl (each_filter P test more e.1)
   where
@@ -115,7 +115,7 @@ each_filter P test (pair ∷ more) e = choose (test pair) refl (each_filter P te
     choose true is later = let kept : filter test (pair ∷ more) ≡ pair ∷ filter test more = rw is refl in subst (Each P) (sym kept) (e.0, later)
     choose false is later = let gone : filter test (pair ∷ more) ≡ filter test more = rw is refl in subst (Each P) (sym gone) later
 
-each_among : (P : ℕ × ℕ → Type 0) (pair : ℕ × ℕ) (list : List (ℕ × ℕ)) → Each P list → Among pair list → P pair
+pub each_among : (P : ℕ × ℕ → Type 0) (pair : ℕ × ℕ) (list : List (ℕ × ℕ)) → Each P list → Among pair list → P pair
 each_among P pair [] e i = absurd i
 each_among P pair (other ∷ more) e (inl q) = subst P (sym q) e.0
 each_among P pair (other ∷ more) e (inr i) = each_among P pair more e.1 i

@@ -303,7 +303,7 @@ same_if b now from upto e = record { each = λ i low high. eqb-true (byte now i)
     past i low true is e = let less : i < from = leb-true (suc i) from is in absurd (omega (arith, less, low))
     past i low false is e = e
 
--- of a number that a range of one, or of four, covers
+-- of a number that a range of one, of two or of four covers
 covered_last : (k last : ℕ) → ((nat_le 0 k && nat_le k last) || false) ≡ true → k ≤ last
 covered_last k last covered = leb-true k last (second (nat_le 0 k) (nat_le k last) covered)
   where
@@ -315,6 +315,11 @@ covered_last k last covered = leb-true k last (second (nat_le 0 k) (nat_le k las
 pub of_one : (P : ℕ → Type 0) → P 0 → (k : ℕ) → ((nat_le 0 k && nat_le k 0) || false) ≡ true → P k
 of_one P p0 zero covered = p0
 of_one P p0 (suc k) covered = let last = covered_last (suc k) 0 covered in absurd (omega (arith, last))
+
+pub of_two : (P : ℕ → Type 0) → P 0 → P 1 → (k : ℕ) → ((nat_le 0 k && nat_le k 1) || false) ≡ true → P k
+of_two P p0 p1 zero covered = p0
+of_two P p0 p1 (suc zero) covered = p1
+of_two P p0 p1 (suc (suc k)) covered = let last = covered_last (suc (suc k)) 1 covered in absurd (omega (arith, last))
 
 pub of_four : (P : ℕ → Type 0) → P 0 → P 1 → P 2 → P 3 → (k : ℕ) → ((nat_le 0 k && nat_le k 3) || false) ≡ true → P k
 of_four P p0 p1 p2 p3 zero covered = p0

@@ -6,3 +6,4 @@ pub mod PutLemmas
 pub mod CutLemmas
 pub mod Deciding
 pub mod Packing
+pub mod NeverTaken

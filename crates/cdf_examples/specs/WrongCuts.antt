@@ -1,11 +1,12 @@
--- Images that commands that cut lead to, and wrong ones beside them, which have the same content and keep the rules: of the variable `T` of the type INT4 with blocks of 4 records, or of the packed variable `R`.
-use Rattle.std.specs.Prelude.{ℕ, List, [], ◌∷◌, drop, true, codes}
+-- Images that commands that cut lead to, and wrong ones beside them, which have the same content and keep the rules: of the variable `T` of the type INT4 with blocks of 4 records, of the packed variable `R`, or of one like it that is not compressed.
+use Rattle.std.specs.Prelude.{ℕ, ℤ, pos, List, [], ◌∷◌, drop, replicate, true, false, codes}
 use Rattle.cdf_model.specs.declared.command.Command.{Command}
 use Rattle.cdf_model.specs.declared.command.Command.TheVariants as commands
 use Rattle.cdf_model.specs.declared.kinds.Sparse.TheVariants.{Pad}
-use Rattle.cdf_examples.specs.Building.{◌⧺◌, minus4, zeros, sized, magic, new_cdr, cdr, new_gdr, gdr, VdrFields, z_vdr, covering, vxr, vxr_of, vvr, cvvr, cpr, uir}
+use Rattle.cdf_model.specs.DataSet.{Variable}
+use Rattle.cdf_examples.specs.Building.{◌⧺◌, minus4, minus8, zeros, sized, magic, new_cdr, cdr, new_gdr, gdr, VdrFields, z_vdr, covering, vxr, vxr_of, vvr, cvvr, cpr, uir}
 use Rattle.cdf_examples.specs.OneVariable.{heads}
-use Rattle.cdf_examples.specs.PackedFiles.{r_vdr}
+use Rattle.cdf_examples.specs.PackedFiles.{r_vdr, r_data}
 use Rattle.cdf_examples.specs.RecordFiles.{t_vdr, t_with, low_first, records_block}
 use Rattle.cdf_examples.specs.WrongPuts.{t_up_to}
 
@@ -155,3 +156,25 @@ packed_stays_file = heads 980 784 ⧺ z_vdr (r_up_to 0) ⧺ cpr ⧺ uir 0 0 [] �
 -- it stands in that of the first one
 unfoldable pub packed_elsewhere_file : List ℕ
 packed_elsewhere_file = heads 980 952 ⧺ z_vdr (r_up_to 0) ⧺ cpr ⧺ cvvr (0x00 ∷ 0x27 ∷ []) 2 ⧺ vxr (covering 0 0 784 ∷ []) ⧺ uir 0 0 []
+
+-- ---- a variable with records of 40 bytes that is not compressed; of a block of two records the second goes
+
+abbrev pub delete_u : ℕ → ℕ → Command
+delete_u first last = commands.DelRecs (codes "U") first last
+
+abbrev pub u_up_to : ℕ → VdrFields
+u_up_to last = record r_vdr { name = codes "U"; flags = 1; cpr = minus8; blocking = 2; max_rec = last; vxr_head = 848; vxr_tail = 848 }
+
+abbrev pub u_data : ℤ → List (ℕ × List ℕ) → Variable
+u_data max_rec recs = record (r_data max_rec recs) { name = codes "U"; rle = false; blocking = pos 2 }
+
+unfoldable pub two_of_forty_file : List ℕ
+two_of_forty_file = heads 988 0 ⧺ z_vdr (u_up_to 1) ⧺ vvr (replicate 40 1 ⧺ replicate 40 2) ⧺ vxr (covering 0 1 756 ∷ [])
+
+-- the block stays in its record of 92 bytes
+unfoldable pub one_of_forty_file : List ℕ
+one_of_forty_file = heads 988 0 ⧺ z_vdr (u_up_to 0) ⧺ vvr (replicate 40 1 ⧺ replicate 40 2) ⧺ vxr (covering 0 0 756 ∷ [])
+
+-- this was freed, and 52 bytes of it taken again
+unfoldable pub taken_again_file : List ℕ
+taken_again_file = heads 988 808 ⧺ z_vdr (u_up_to 0) ⧺ vvr (replicate 40 1) ⧺ uir 0 0 (replicate 12 2) ⧺ vxr (covering 0 0 756 ∷ [])

@@ -9,7 +9,7 @@ ghost use Rattle.cdf_examples.specs.Claimed.{Claimed};
 ghost use Rattle.cdf_examples.specs.PackedFiles.{packed_file, plain_file, put_ones};
 ghost use Rattle.cdf_examples.specs.RecordFiles.{variable_file, records_file};
 ghost use Rattle.cdf_examples.specs.Scripts.{made_by};
-ghost use Rattle.cdf_examples.specs.WrongCuts.{delete_t, all_deleted_file, last_deleted_file, spare_behind_file, spare_stays_file, two_stored_file, first_cut_file, two_nodes_file, node_freed_file, none_stored_file, set_sparse_t, made_sparse_file, uncompressed_file, compress_t, cpr_placed_file, small_block_file, delete_var_t, var_deleted_file};
+ghost use Rattle.cdf_examples.specs.WrongCuts.{delete_t, all_deleted_file, last_deleted_file, spare_behind_file, spare_stays_file, two_stored_file, first_cut_file, two_nodes_file, node_freed_file, none_stored_file, set_sparse_t, made_sparse_file, uncompressed_file, compress_t, cpr_placed_file, small_block_file, delete_var_t, var_deleted_file, delete_u, two_of_forty_file, one_of_forty_file};
 ghost use Rattle.cdf_examples.specs.WrongEntries.{three_entries_file, delete_second, second_deleted_file, one_entry_file, put_second, entry_last_file};
 ghost use Rattle.cdf_examples.specs.WrongPuts.{put_t, put_r, first_put_file, spare_file, rest_listed_file, put_again_file, second_block_file, two_levels_file, widened_file};
 
@@ -81,6 +81,13 @@ pub fn first_deleted()
     ensures rules { KeepsRules first_cut_file }
     ensures made { made_by (content two_stored_file) (codes "del-recs T 0 0" ∷ []) ≡ content first_cut_file }
     ensures follows { Claimed two_stored_file (delete_t 0 0) first_cut_file ([]) }
+{}
+
+/// The second record goes, and the block stays in a record with room for both.
+pub fn second_deleted()
+    ensures rules { KeepsRules one_of_forty_file }
+    ensures made { made_by (content two_of_forty_file) (codes "del-recs U 1 1" ∷ []) ≡ content one_of_forty_file }
+    ensures follows { Claimed two_of_forty_file (delete_u 1 1) one_of_forty_file ([]) }
 {}
 
 /// A node without entries is freed after its block.

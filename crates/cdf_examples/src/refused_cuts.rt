@@ -5,7 +5,7 @@ ghost use Rattle.cdf_format.specs.Content.{content};
 ghost use Rattle.cdf_examples.specs.Asked.{KeepsRules};
 ghost use Rattle.cdf_examples.specs.Claimed.{Refused};
 ghost use Rattle.cdf_examples.specs.RecordFiles.{records_file};
-ghost use Rattle.cdf_examples.specs.WrongCuts.{delete_t, all_deleted_file, block_unlisted_file, last_deleted_file, dead_bytes_file, longer_node_file, fewer_entries_file, block_moved_file, spare_behind_file, spare_stays_file, spare_overwritten_file, two_stored_file, first_cut_file, past_cut_file, two_nodes_file, node_freed_file, bare_node_file, none_stored_file, set_sparse_t, made_sparse_file, cut_unlisted_file, uncompressed_file, compress_t, cpr_placed_file, cpr_at_end_file, small_block_file, delete_var_t, var_deleted_file, two_pieces_file, delete_r, two_packed_file, packed_stays_file, packed_elsewhere_file};
+ghost use Rattle.cdf_examples.specs.WrongCuts.{delete_t, all_deleted_file, block_unlisted_file, last_deleted_file, dead_bytes_file, longer_node_file, fewer_entries_file, block_moved_file, spare_behind_file, spare_stays_file, spare_overwritten_file, two_stored_file, first_cut_file, past_cut_file, two_nodes_file, node_freed_file, bare_node_file, none_stored_file, set_sparse_t, made_sparse_file, cut_unlisted_file, uncompressed_file, compress_t, cpr_placed_file, cpr_at_end_file, small_block_file, delete_var_t, var_deleted_file, two_pieces_file, delete_r, two_packed_file, packed_stays_file, packed_elsewhere_file, delete_u, two_of_forty_file, one_of_forty_file, taken_again_file};
 
 /// A block that is freed is not on the unused list.
 pub fn block_off_list()
@@ -89,4 +89,11 @@ pub fn packed_elsewhere()
     ensures rules { KeepsRules packed_elsewhere_file }
     ensures content { content packed_elsewhere_file ≡ content packed_stays_file }
     ensures refused { Refused two_packed_file (delete_r 0 1) packed_elsewhere_file }
+{}
+
+/// A record that a cut keeps is freed, and a part of it is taken again.
+pub fn freed_and_taken_again()
+    ensures rules { KeepsRules taken_again_file }
+    ensures content { content taken_again_file ≡ content one_of_forty_file }
+    ensures refused { Refused two_of_forty_file (delete_u 1 1) taken_again_file }
 {}

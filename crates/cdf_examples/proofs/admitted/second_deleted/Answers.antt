@@ -1,0 +1,87 @@
+use Rattle.std.proofs.Common.{refl, ◌≡◌, [], ◌∷◌, codes, pos, replicate, false, true, Bool, arith}
+use Rattle.cdf_model.specs.DataSet.{Variable}
+use Rattle.cdf_edits.specs.Index.Blocks.{firsts_of, entry_firsts, cover}
+use Rattle.cdf_edits.specs.Index.Grown.{new_room, with_leaf, new_room_below, with_lower, cut_nodes, cut_entries, outline, entries_outline}
+use Rattle.cdf_edits.specs.Index.Cut.{sized_nodes, sized_nodes_below}
+use Rattle.cdf_format.specs.Chains.{chain_on}
+use Rattle.cdf_format.specs.Content.{content}
+use Rattle.cdf_format.specs.Index.{nodes_of, lower_nodes, leaves_of, entry_leaves, block, no_entry}
+use Rattle.cdf_format.specs.IndexRules.{nodes_rows, used_rows}
+use Rattle.cdf_format.specs.IndexWalk.{entries_on, nodes_on, levels_on}
+use Rattle.cdf_format.specs.Shape.{shape, VariableShape}
+use Rattle.cdf_format.specs.Tiles.{tiles_from}
+use Rattle.cdf_format.specs.Fields.{size_at}
+use Rattle.cdf_examples.specs.OneVariable.{one_node}
+use Rattle.cdf_examples.specs.RecordFiles.{t_shape}
+use Rattle.cdf_examples.specs.WrongPuts.{found_z}
+use Rattle.cdf_examples.proofs.Tests.{keeps_rules}
+use Rattle.cdf_examples.specs.WrongCuts.{delete_u, u_data, two_of_forty_file, one_of_forty_file}
+use Rattle.cdf_examples.proofs.Deciding.{acts_follow_if, all_keep_if}
+use Rattle.cdf_edits.specs.Commands.Keeps.{allowances}
+use Rattle.cdf_format.specs.Owners.{owned}
+use Rattle.cdf_edits.specs.Commands.Room.{entries_in, entries_below, widest, widest_below, nodes_above}
+use Rattle.cdf_examples.specs.Scripts.{run_script}
+use Rattle.std.specs.Fmt.{digits}
+use Rattle.cdf_edits.specs.Commands.Does.{Does}
+use Rattle.cdf_examples.proofs.Deciding.{of_variable, nodes_freed_if, nodes_if, each_if}
+use Rattle.cdf_edits.specs.Commands.Cuts.{DeletesRecords}
+use Rattle.cdf_edits.specs.Index.Written.{is_taken_at}
+use Rattle.std.proofs.Common.{not}
+use Rattle.cdf_examples.proofs.Deciding.{same_if, of_two}
+use Rattle.cdf_edits.specs.Index.Blocks.{record_length}
+use Rattle.cdf_edits.specs.Index.Written.{stored_bytes}
+use Rattle.cdf_edits.specs.Commands.Cuts.{is_deleted, number_after_cut}
+use Rattle.cdf_edits.specs.Commands.Room.{vxr_bytes}
+use Rattle.cdf_format.specs.Index.{room_at}
+use Rattle.cdf_edits.specs.Space.Acts.{ActsFollow}
+use Rattle.cdf_edits.specs.Commands.Allowances.{AllKeep}
+use Rattle.cdf_examples.proofs.admitted.second_deleted.Goals as goal
+
+follow : ActsFollow two_of_forty_file one_of_forty_file ([])
+unfolding two_of_forty_file one_of_forty_file shape content tiles_from chain_on nodes_of lower_nodes leaves_of entry_leaves entries_on nodes_on levels_on
+follow = acts_follow_if two_of_forty_file one_of_forty_file ([]) refl refl refl refl refl refl refl
+
+keep : AllKeep two_of_forty_file one_of_forty_file (allowances two_of_forty_file (content two_of_forty_file) (shape two_of_forty_file) (delete_u 1 1)) ([]) (owned two_of_forty_file (shape two_of_forty_file))
+unfolding two_of_forty_file one_of_forty_file shape content tiles_from chain_on nodes_of lower_nodes leaves_of entry_leaves entries_on nodes_on levels_on
+keep = all_keep_if two_of_forty_file one_of_forty_file (allowances two_of_forty_file (content two_of_forty_file) (shape two_of_forty_file) (delete_u 1 1)) ([]) (owned two_of_forty_file (shape two_of_forty_file)) refl
+
+does : Does two_of_forty_file (delete_u 1 1) one_of_forty_file ([])
+unfolding two_of_forty_file one_of_forty_file shape content tiles_from chain_on nodes_of lower_nodes leaves_of entry_leaves entries_on nodes_on levels_on entries_in entries_below widest widest_below nodes_above firsts_of entry_firsts cover new_room with_leaf new_room_below with_lower cut_nodes cut_entries outline entries_outline sized_nodes sized_nodes_below
+does = of_variable two_of_forty_file one_of_forty_file (codes "U") (λ found v v'. DeletesRecords two_of_forty_file one_of_forty_file found.variable 1 1 v v' ([])) (found_z two) before after refl refl refl (record {
+  middle = after.index;
+  cut = [];
+  again = [];
+  acts_are = refl;
+  cuts = (record { index_is = refl; apart = refl; once = refl; frees = (refl, (refl, tt)); takes = tt; stand = (refl, tt); stay = ((λ part whole. (refl, refl, refl), tt), tt) }, refl, refl);
+  parts = λ sparse. absurd cc;
+  blocks = ((record { kept = λ part. record { packed = λ whole rle. absurd cc; placed = λ settled. (refl, refl); bytes = λ settled whole. record { packed = λ rle. absurd cc; spare = same_if two_of_forty_file one_of_forty_file 808 848 refl; reserved = λ packed. absurd cc } }; split = λ part. absurd cc }, tt), tt);
+  others_stay = λ k covered. of_two (λ k. is_deleted two 1 1 k ≡ false → stored_bytes one_of_forty_file 404 (record_length two) (leaves_of after.index) (number_after_cut two 1 1 k) ≡ stored_bytes two_of_forty_file 404 (record_length two) (leaves_of before.index) k) (λ kept. refl) (λ kept. absurd cc) k covered;
+  new_nodes = each_if (λ vxr. is_taken_at ([]) vxr ≡ true → size_at one_of_forty_file vxr ≡ vxr_bytes (room_at one_of_forty_file vxr)) (λ vxr. not (is_taken_at ([]) vxr)) (λ vxr h e. absurd (clash (is_taken_at ([]) vxr) h e)) (nodes_of after.index) refl;
+  nodes = nodes_if two_of_forty_file one_of_forty_file _ (nodes_of before.index) (nodes_of after.index) ([]) refl;
+  tail = refl;
+  freed_first = tt;
+  freed_again = tt;
+  nodes_freed = nodes_freed_if two_of_forty_file one_of_forty_file ([]) ([]) refl;
+  r_max_rec = refl;
+})
+  where
+    two : Variable
+    two = u_data (pos 1) ((0, replicate 40 1) ∷ (1, replicate 40 2) ∷ [])
+
+    before : VariableShape
+    before = t_shape (one_node 848 7 (block 0 1 756 false no_entry))
+
+    after : VariableShape
+    after = t_shape (one_node 848 7 (block 0 0 756 false no_entry))
+
+    clash : (p : Bool) → not p ≡ true → p ≡ true → ⊥
+    clash true e f = absurd cc
+    clash false e f = absurd cc
+
+pub returns : goal.returns
+unfolding two_of_forty_file one_of_forty_file shape content tiles_from chain_on nodes_of lower_nodes leaves_of entry_leaves entries_on nodes_on levels_on nodes_rows used_rows run_script digits entries_in entries_below widest widest_below nodes_above firsts_of entry_firsts cover
+returns c = record {
+  rules = keeps_rules one_of_forty_file refl;
+  made = refl;
+  follows = record { within = omega arith; acts_follow = follow; keeps = keep; does = does };
+}
