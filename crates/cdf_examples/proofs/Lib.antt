@@ -6,4 +6,6 @@ pub mod PutLemmas
 pub mod CutLemmas
 pub mod Deciding
 pub mod Packing
+pub mod Reindexing
 pub mod NeverTaken
+pub mod WideNodes

@@ -23,3 +23,4 @@ pub mod WrongPuts
 pub mod WrongCuts
 pub mod WrongEntries
 pub mod Signs
+pub mod WideIndexes

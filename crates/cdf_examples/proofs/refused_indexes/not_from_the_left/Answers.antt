@@ -1,7 +1,35 @@
-use Rattle.std.proofs.Common.{refl, subst}
-use Rattle.cdf_edits.specs.Commands.Reindex.{FullFromLeft}
+use Rattle.std.proofs.Common.{◌≡◌, true, [], ◌∷◌, codes, refl, sym, subst}
+use Rattle.cdf_edits.specs.Commands.Reindex.{FullFromLeft, nodes_at, nodes_below}
+use Rattle.cdf_format.specs.Chains.{chain_on}
+use Rattle.cdf_format.specs.Index.{leaves_of, entry_leaves}
+use Rattle.cdf_format.specs.IndexWalk.{entries_on, nodes_on, levels_on}
+use Rattle.cdf_format.specs.Shape.{shape}
+use Rattle.cdf_format.specs.Tiles.{tiles_from}
+use Rattle.cdf_examples.specs.Claimed.{Refused}
+use Rattle.cdf_examples.specs.WideIndexes.{reindex_w, w_shape, wide_node_file, wide_node_index, from_the_right_file, from_the_right_index}
 use Rattle.cdf_examples.proofs.Refusing.{unequal}
+use Rattle.cdf_examples.proofs.Reindexing.{has_gap, no_gap, makes_none}
+use Rattle.cdf_examples.proofs.WideNodes.{names_w, wide_index_is}
 use Rattle.cdf_examples.proofs.refused_indexes.not_from_the_left.Goals as goal
 
+index : (shape from_the_right_file).z_variables ≡ w_shape from_the_right_index ∷ []
+unfolding from_the_right_file shape tiles_from chain_on entries_on nodes_on levels_on
+index = refl
+
+gap : has_gap (nodes_at 1 from_the_right_index) ≡ true
+unfolding nodes_at nodes_below
+gap = refl
+
+refused : Refused wide_node_file reindex_w from_the_right_file
+refused acts claim =
+    makes_none wide_node_file from_the_right_file (codes "W") acts (λ index. has_gap (nodes_at 1 index)) (λ v v'. no_gap wide_node_file from_the_right_file v v' acts 1)
+    (w_shape wide_node_index) (w_shape from_the_right_index) names_w wide_index_is index gap claim.does
+
 pub returns : goal.returns
-returns c b now before after acts levels first second are made = unequal 1 64 refl (subst FullFromLeft are (made.filled.full levels)).0
+unfolding leaves_of entry_leaves
+returns c = record {
+  law = λ b now before after acts levels first second are made. unequal 1 64 refl (subst FullFromLeft are (made.filled.full levels)).0;
+  index = index;
+  leaves = refl;
+  refused = refused;
+}

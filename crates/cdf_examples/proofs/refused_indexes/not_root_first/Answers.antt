@@ -1,13 +1,35 @@
-use Rattle.std.proofs.Common.{◌≡◌, ◌++◌, ℕ, List, ◌∷◌, map, length, subst, ap, ◌∙◌}
-use Rattle.cdf_edits.specs.Commands.Room.{vxr_bytes}
-use Rattle.cdf_edits.specs.Space.Acts.{Took, gave, AreActs, space_before}
-use Rattle.cdf_edits.specs.Space.Placement.{place_for}
-use Rattle.cdf_format.specs.Index.{nodes_of}
+use Rattle.std.proofs.Common.{◌≡◌, true, [], ◌∷◌, codes, refl}
+use Rattle.cdf_edits.specs.Commands.Reindex.{nodes_at, nodes_below, levels_up}
+use Rattle.cdf_format.specs.Chains.{chain_on}
+use Rattle.cdf_format.specs.Index.{leaves_of, entry_leaves}
+use Rattle.cdf_format.specs.IndexWalk.{entries_on, nodes_on, levels_on}
+use Rattle.cdf_format.specs.Shape.{shape}
+use Rattle.cdf_format.specs.Tiles.{tiles_from}
+use Rattle.cdf_examples.specs.Claimed.{Refused}
+use Rattle.cdf_examples.specs.WideIndexes.{reindex_w, w_shape, wide_node_file, wide_node_index, root_first_file, root_first_index}
+use Rattle.cdf_examples.proofs.Reindexing.{first_at_end, begins_elsewhere, begins_at_end, makes_none}
+use Rattle.cdf_examples.proofs.WideNodes.{names_w, wide_index_is, wide_end_is, none_unused}
 use Rattle.cdf_examples.proofs.refused_indexes.not_root_first.Goals as goal
 
+index : (shape root_first_file).z_variables ≡ w_shape root_first_index ∷ []
+unfolding root_first_file shape tiles_from chain_on entries_on nodes_on levels_on
+index = refl
+
+elsewhere : begins_elsewhere 2661 (levels_up 7 root_first_index) ≡ true
+unfolding nodes_at nodes_below
+elsewhere = refl
+
+refused : Refused wide_node_file reindex_w root_first_file
+refused acts claim =
+    makes_none wide_node_file root_first_file (codes "W") acts (λ index. begins_elsewhere 2661 (levels_up 7 index))
+    (λ v v' test. begins_at_end wide_node_file root_first_file v v' acts 2661 wide_end_is test none_unused claim.acts_follow)
+    (w_shape wide_node_index) (w_shape root_first_index) names_w wide_index_is index elsewhere claim.does
+
 pub returns : goal.returns
-returns c b now before after acts lowest more levels none other follow made =
-    let all : acts ≡ Took lowest (vxr_bytes 64) ∷ (map (λ vxr. Took vxr (vxr_bytes 64)) more ++ gave b (nodes_of before.index)) =
-    made.acts_are ∙ ap (λ (places : List ℕ). map (λ vxr. Took vxr (vxr_bytes 64)) places ++ gave b (nodes_of before.index)) levels in
-    let are = subst (AreActs (space_before b)) all follow.are in
-    other (are.0.1 ∙ ap (λ (list : List (ℕ × ℕ)). place_for list (length b) (vxr_bytes 64)) none)
+unfolding leaves_of entry_leaves
+returns c = record {
+  law = λ b now before after acts lowest more levels none other follow made. other (first_at_end b now before after acts lowest more levels none follow made);
+  index = index;
+  leaves = refl;
+  refused = refused;
+}
