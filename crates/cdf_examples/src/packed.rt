@@ -1,25 +1,15 @@
 //! Records that are packed as run lengths of zeros.
 
-ghost use Rattle.std.specs.Prelude.{◌≡◌, [], ◌∷◌, ◌++◌, length, replicate, codes, pos, Some, None};
+ghost use Rattle.std.specs.Prelude.{◌≡◌, [], ◌∷◌, ◌++◌, length, replicate, codes, pos};
 ghost use Rattle.cdf_format.specs.Content.{content};
 ghost use Rattle.cdf_format.specs.Index.{no_node};
 ghost use Rattle.cdf_format.specs.Owners.{owned, space_of};
 ghost use Rattle.cdf_format.specs.Shape.{shape};
-ghost use Rattle.cdf_model.specs.RunLengths.{unpacked};
 ghost use Rattle.cdf_examples.specs.Asked.{KeepsRules};
 ghost use Rattle.cdf_examples.specs.NewFile.{new_data_set};
 ghost use Rattle.cdf_examples.specs.OneVariable.{variable_shape, owned_by_file, of_variable, of_none, with_variable};
 ghost use Rattle.cdf_examples.specs.PackedFiles.{unpacked_file, packed_file, packed_shape, r_data, packed_space, put_zeros, plain_file, plain_shape, plain_space, put_ones};
 ghost use Rattle.cdf_examples.specs.Scripts.{made_by, room_for};
-
-/// What packed bytes stand for.
-pub fn run_lengths()
-    ensures five { unpacked (0x00 ∷ 0x02 ∷ 0x05 ∷ []) ≡ Some (0x00 ∷ 0x00 ∷ 0x00 ∷ 0x05 ∷ []) }
-    ensures longest { unpacked (0x00 ∷ 0xff ∷ []) ≡ Some (replicate 256 0) }
-    ensures one_more { unpacked (0x00 ∷ 0xff ∷ 0x00 ∷ 0x00 ∷ []) ≡ Some (replicate 257 0) }
-    ensures cut { unpacked (0x05 ∷ 0x00 ∷ []) ≡ None }
-    ensures two { unpacked (0x00 ∷ 0x00 ∷ 0x00 ∷ 0x00 ∷ []) ≡ Some (0x00 ∷ 0x00 ∷ []) }
-{}
 
 /// A record of 40 zeros: its block has two packed bytes.
 pub fn zeros_packed()
