@@ -19,7 +19,6 @@ pub mod FieldWritten
 pub mod FirstRecords
 pub mod FreedBytes
 pub mod FreedRecords
-pub mod FreeingActs
 pub mod FreedEntry
 pub mod InRecords
 pub mod LaterCommands

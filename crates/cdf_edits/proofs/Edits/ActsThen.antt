@@ -1,105 +1,31 @@
--- More that follows acts: steps that leave all unused records, and a record that is freed.
-use Rattle.std.proofs.Common.{◌≡◌, ◌≢◌, ◌⊎◌, ℕ, ◌+◌, ◌<◌, ◌≤◌, List, [], ◌∷◌, ◌++◌, length, map, Bool, true, false, not, eq-eqb, refl, sym, ap, ap₂, subst, ◌∙◌, arith, inl, inr}
+-- Acts that follow, and then a record is freed, or some one after the other.
+use Rattle.std.proofs.Common.{◌≡◌, ◌≢◌, ◌⊎◌, ℕ, ◌+◌, ◌<◌, ◌≤◌, List, [], ◌∷◌, ◌++◌, map, Bool, true, false, eq-eqb, refl, sym, ap, ap₂, subst, ◌∙◌, arith, inl, inr, append-nil, append_assoc}
 use Rattle.std.proofs.lemmas.Bool.{cases_eq, ne_eqb, le-leb, lt-ltb}
 use Rattle.std.proofs.lemmas.List.Sums.{fold-append}
 use Rattle.std.specs.List.{fold, list_any}
-use Rattle.std.specs.Prelude.{◌==◌, ◌&&◌, ◌||◌, nat_le, nat_lt, if◌then◌else◌}
+use Rattle.std.specs.Prelude.{◌&&◌, ◌||◌, nat_le, nat_lt, if◌then◌else◌}
 use Rattle.cdf_format.specs.Bytes.{Same}
-use Rattle.cdf_format.specs.Chains.{is_in}
 use Rattle.cdf_format.specs.Fields.{size_at, type_at}
-use Rattle.cdf_format.specs.Owners.{unused_records}
-use Rattle.cdf_format.specs.Records.{Field, record_size, record_type, uir_prev_uir}
 use Rattle.cdf_format.specs.RecordTypes.{gdr_type, uir_type}
 use Rattle.cdf_format.specs.Shape.{Each, HasShape, shape}
 use Rattle.cdf_format.specs.Sound.{IsSound}
 use Rattle.cdf_format.specs.Tiles.{In}
-use Rattle.cdf_format.proofs.BytesLemmas.{number_kept}
-use Rattle.cdf_format.proofs.ChainsLemmas.{is_a-type, linkable-in, linkable-type, linkable-long}
-use Rattle.cdf_format.proofs.Members.{is_in-true}
-use Rattle.cdf_format.proofs.Owning.{filter-in}
-use Rattle.cdf_format.proofs.Tests.{both}
-use Rattle.cdf_format.proofs.TilesLemmas.{tile_lies, tiles_lie_apart}
-use Rattle.cdf_edits.specs.Commands.Allowances.{FreedStays}
+use Rattle.cdf_format.proofs.ChainsLemmas.{is_a-type, linkable-in, linkable-type}
 use Rattle.cdf_edits.specs.Edits.Edit.{Edit}
-use Rattle.cdf_edits.specs.Edits.Marks.{Mark, Avoids, unmarked, giving_marks}
-use Rattle.cdf_edits.specs.Space.Acts.{Act, Took, Gave, Among, SpaceLeft, HasLeft, sized, used_records, loose_records, space_before, back_after, taken, without, after_act, AreActs, Happens, links_end, lies_in_taken, RestStays, ActsFollow}
+use Rattle.cdf_edits.specs.Edits.Marks.{Avoids, giving_marks}
+use Rattle.cdf_edits.specs.Space.Acts.{Act, Took, Gave, Among, SpaceLeft, HasLeft, sized, used_records, loose_records, space_before, back_after, taken, without, after_act, AreActs, Happens, lies_in_taken, RestStays, ActsFollow, gave}
 use Rattle.cdf_edits.specs.Space.Placement.{unused, given_to, giving, Gives}
-use Rattle.cdf_edits.proofs.Edits.Composing.{head_size, head_type, sizes}
-use Rattle.cdf_edits.proofs.Edits.RecordFrame.{kept}
+use Rattle.cdf_edits.proofs.Edits.Composing.{sizes}
 use Rattle.cdf_edits.proofs.Edits.StepEdits.{gives_edit, all_marked}
-use Rattle.cdf_edits.proofs.Space.ActsLeave.{each, places-sized, used_says, used_if, loose_says, loose_if, backs, backs_follow, no_rest}
+use Rattle.cdf_edits.proofs.Space.ActsLeave.{each, places-sized, used_says, used_if, loose_says, loose_if, backs_follow, no_rest}
 use Rattle.cdf_edits.proofs.Space.UsedRecords.{apart}
+use Rattle.cdf_edits.proofs.Edits.FreedRecords.{MayFree, still_free, sizes_stay}
+use Rattle.cdf_edits.specs.Space.Freeing.{AllGiven}
 
 pub each_in : (P : ℕ → Type 0) (xs : List ℕ) (m : ℕ) → Each P xs → In m xs → P m
 each_in P [] m h i = absurd i
 each_in P (x ∷ xs) m h (inl q) = subst P (sym q) h.0
 each_in P (x ∷ xs) m h (inr i) = each_in P xs m h.1 i
-
--- ---- steps that leave all unused records, and the sizes and types of all
-
-module _ {b mid now new : List ℕ} {marks : List Mark} {acts : List Act} (before : ActsFollow b mid acts) (sound : IsSound mid (shape mid)) (e : Edit mid now (shape mid).records new marks []) (clear : unmarked marks uir_type ≡ true) (records : (shape now).records ≡ (shape mid).records) (list : (shape now).unused ≡ (shape mid).unused) (long : length now ≡ length mid) where
-  unused_one : (m : ℕ) → In m (shape mid).records → type_at mid m ≡ uir_type → Same mid now m (m + size_at mid m)
-  unused_one m i t = (kept e m uir_type i t clear).same
-
-  same_size : (m : ℕ) → In m (shape mid).records → size_at now m ≡ size_at mid m
-  same_size m i = elim (cases_eq (type_at mid m) uir_type) [
-    | inl t ↦ let l = (tile_lies mid 8 (length mid) (shape mid).records m sound.has_shape.tiled i).long in number_kept mid now m (unused_one m i t) record_size (omega arith)
-    | inr t ↦ head_size mid now m (e.head m i t (λ r. r))
-  ]
-
-  same_type : (m : ℕ) → In m (shape mid).records → type_at now m ≡ type_at mid m
-  same_type m i = elim (cases_eq (type_at mid m) uir_type) [
-    | inl t ↦ let l = (tile_lies mid 8 (length mid) (shape mid).records m sound.has_shape.tiled i).long in number_kept mid now m (unused_one m i t) record_type (omega arith)
-    | inr t ↦ head_type mid now m (e.head m i t (λ r. r))
-  ]
-
-  old : (m : ℕ) → In m (shape now).records → In m (shape mid).records
-  old m i = subst (In m) records i
-
-  listed : (m : ℕ) → In m (shape mid).unused → In m (shape mid).records
-  listed m i = linkable-in mid (shape mid).records uir_type m (sound.has_shape.unused_chain.linkable m i)
-
-  listed_type : (m : ℕ) → In m (shape mid).unused → type_at mid m ≡ uir_type
-  listed_type m i = linkable-type mid (shape mid).records uir_type m (sound.has_shape.unused_chain.linkable m i)
-
-  list_sizes : (us : List ℕ) → ((m : ℕ) → In m us → In m (shape mid).unused) → sized now us ≡ sized mid us
-  list_sizes [] sub = refl
-  list_sizes (u ∷ us) sub = ap₂ (λ (n : ℕ) (rest : List (ℕ × ℕ)). (u, n) ∷ rest) (same_size u (listed u (sub u (inl refl)))) (list_sizes us (λ m i. sub m (inr i)))
-
-  same_backs : (us : List ℕ) → ((m : ℕ) → In m us → In m (shape mid).unused) → backs now us ≡ backs mid us
-  same_backs [] sub = refl
-  same_backs (u ∷ us) sub =
-      let i = sub u (inl refl) in
-      let wide = linkable-long mid (shape mid).records uir_type u (sound.has_shape.unused_chain.linkable u i) in
-      ap₂ (λ (n : ℕ) (rest : List (ℕ × ℕ)). (u, n) ∷ rest) (number_kept mid now u (unused_one u (listed u i) (listed_type u i)) uir_prev_uir (omega arith)) (same_backs us (λ m j. sub m (inr j)))
-
-  abbrev left : SpaceLeft
-  left = fold after_act (space_before b) acts
-
-  pub acts_kept : ActsFollow b now acts
-  acts_kept = record {
-    are = before.are;
-    left = record {
-      used_are = each (λ place. Among (place, size_at now place) left.used) (used_records now) (λ m i.
-          let u = used_says now m i in
-          let is = old m u.0 in
-          subst (λ (n : ℕ). Among (m, n) left.used) (sym (same_size m is)) (each_in (λ place. Among (place, size_at mid place) left.used) (used_records mid) m before.left.used_are (used_if mid m is (λ t. u.1 (same_type m is ∙ t)))));
-      list_is = ap (sized now) list ∙ list_sizes (shape mid).unused (λ m i. i) ∙ before.left.list_is;
-      back_is = ap (backs now) list ∙ same_backs (shape mid).unused (λ m i. i) ∙ before.left.back_is;
-      loose_are = each (λ place. Among (place, size_at now place) left.loose) (loose_records now) (λ m i.
-          let l = loose_says now m i in
-          let is = old m l.stands in
-          subst (λ (n : ℕ). Among (m, n) left.loose) (sym (same_size m is)) (each_in (λ place. Among (place, size_at mid place) left.loose) (loose_records mid) m before.left.loose_are
-          (loose_if mid m (record { stands = is; typed = sym (same_type m is) ∙ l.typed; unlisted = λ j. l.unlisted (subst (In m) (sym list) j) }))));
-      end_is = long ∙ before.left.end_is;
-    };
-    rests = each (λ split. Each (RestStays b now acts split) (shape now).unused) (shape b).unused (λ split i.
-        each (RestStays b now acts split) (shape now).unused (λ rest j low high n l u untaken.
-        let k = subst (In rest) list j in
-        let size = same_size rest (listed rest k) in
-        let first = each_in (RestStays b mid acts split) (shape mid).unused rest (each_in (λ split. Each (RestStays b mid acts split) (shape mid).unused) (shape b).unused split before.rests i) k low high in
-        (unused_one rest (listed rest k) (listed_type rest k)).each n (omega arith) (omega arith) ∙ first n l (omega arith) untaken));
-  }
 
 -- ---- lists of acts
 
@@ -305,21 +231,17 @@ module _ {b mid now : List ℕ} {acts : List Act} {place : ℕ} (was : HasShape 
       in_place : (rest n : ℕ) → rest ≡ place → rest + 28 ≤ n → n < rest + size_at now rest → n < place + size
       in_place rest n q l u = subst (λ (x : ℕ). n < place + x) given_size (subst (λ (x : ℕ). n < x + size_at now x) q u)
 
--- ---- what a freed record keeps
+-- ---- records are freed one after the other
 
--- of a record that is unused by now, the bytes behind its links
-pub freed_stays : (b now : List ℕ) (acts : List Act) (place size : ℕ) (fields : List Field) → HasShape now (shape now) → In place (shape now).records → size_at now place ≡ size → Same b now (place + links_end size) (place + size) → Each (FreedStays b now acts place size fields) (unused_records now (shape now))
-freed_stays b now acts place size fields h inside size_is same = each (FreedStays b now acts place size fields) (unused_records now (shape now)) (λ uir j i lt low high out untaken.
-    elim (cases_eq uir place) [
-      | inl q ↦ same.each (place + i) (let l : place + links_end size ≤ place + i = subst (λ (n : ℕ). place + links_end n ≤ place + i) size_is (subst (λ (x : ℕ). x + links_end (size_at now x) ≤ place + i) q low) in l) (omega arith)
-      | inr ne ↦ elim (tiles_lie_apart now 8 (length now) (shape now).records uir place h.tiled (filter-in (λ (x : ℕ). type_at now x == uir_type) (shape now).records uir j) inside ne) [
-        | inl x ↦ absurd (behind uir (size_at now uir) i x high)
-        | inr x ↦ absurd (in_front uir (links_end (size_at now uir)) (size_at now place) i x low size_is lt)
-      ]
-    ])
-  where
-    behind : (u n i : ℕ) → u + n ≤ place → place + i < u + n → ⊥
-    behind u n i p q = absurd (omega arith)
+pub gave-same : (b mid places : List ℕ) → ((m : ℕ) → In m places → size_at mid m ≡ size_at b m) → gave mid places ≡ gave b places
+gave-same b mid [] same = refl
+gave-same b mid (p ∷ more) same = ap₂ (λ (n : ℕ) (rest : List Act). Gave p n ∷ rest) (same p (inl refl)) (gave-same b mid more (λ m i. same m (inr i)))
 
-    in_front : (u k n i : ℕ) → place + n ≤ u → u + k ≤ place + i → n ≡ size → i < size → ⊥
-    in_front u k n i p q r t = absurd (omega arith)
+pub all_gave : (b mid now : List ℕ) (acts : List Act) (types places : List ℕ) → HasShape b (shape b) → ActsFollow b mid acts → IsSound mid (shape mid) → MayFree mid types places → AllGiven mid now places → ActsFollow b now (acts ++ gave mid places)
+all_gave b mid now acts types [] was before sound may same = subst (λ (x : List ℕ). ActsFollow b x (acts ++ [])) (sym same) (subst (ActsFollow b mid) (sym (append-nil acts)) before)
+all_gave b mid now acts types (place ∷ more) was before sound may all =
+    let given = all.1.0 in
+    let inside = may.stand place (inl refl) in
+    let one = acts_gave was before sound inside (may.used place (inl refl)) given.0 in
+    let rest = all_gave b all.0 now (acts ++ Gave place (size_at mid place) ∷ []) types more was one given.1 (still_free sound given types more may) all.1.1 in
+    subst (ActsFollow b now) (append_assoc acts (Gave place (size_at mid place) ∷ []) (gave all.0 more) ∙ ap (λ (xs : List Act). acts ++ Gave place (size_at mid place) ∷ xs) (gave-same mid all.0 more (λ m i. sizes_stay sound given inside m (may.stand m (inr i))))) rest

@@ -32,7 +32,7 @@ use Rattle.cdf_edits.proofs.Edits.Composing.{head_size, edit_then}
 use Rattle.cdf_edits.proofs.Edits.EditActs.{acts_none}
 use Rattle.cdf_edits.proofs.Edits.FreedBytes.{IsLeft, all_left, all_unused, freed_stay, free_used}
 use Rattle.cdf_edits.proofs.Edits.FreedRecords.{MayFree, sizes_by_tiles, all_given_edit}
-use Rattle.cdf_edits.proofs.Edits.FreeingActs.{acts_gave}
+use Rattle.cdf_edits.proofs.Edits.ActsThen.{gave-same, all_gave}
 use Rattle.cdf_edits.proofs.Edits.OwnedOnce.{only_owns}
 use Rattle.cdf_edits.proofs.Edits.RecordFrame.{field_avoids, field_clear, gdr_field}
 use Rattle.cdf_edits.proofs.Edits.RemovedAttribute.{without_one, SaysRemoved, content_removed, removed_good}
@@ -190,7 +190,7 @@ module _ {b now : List ℕ} {n : ℕ} (good : Good b) (d : Deletes b now n) wher
   acts_after =
       let same = unlinked_shape sound d.unlinks in
       let none = acts_none sound (unlinked_edit sound d.unlinks) refl refl (ap (λ (x : Shape). x.records) same) (ap (λ (x : Shape). x.unused) same) (as_long sound d.unlinks) in
-      acts_gave b mid now attribute_types places sound none mid_sound may_free d.given left.sound records_are sizes_before
+      subst (ActsFollow b now) (gave-same b mid places sizes_before) (all_gave b mid now [] attribute_types places sound.has_shape none mid_sound may_free d.given)
 
   sizes_after : (m : ℕ) → In m s.records → size_at now m ≡ size_at b m
   sizes_after = sizes_by_tiles b now 8 8 (length b) s.records refl sound.has_shape.tiled (subst (λ (k : ℕ). AreTiles now 8 k s.records) long_now removes.edit.tiled_now)
@@ -237,4 +237,4 @@ module _ {b now : List ℕ} {n : ℕ} (good : Good b) (d : Deletes b now n) wher
           ]
 
   pub freed_after : FreedStay b now no_fields (gave b places)
-  freed_after = freed_stay b now (gave b places) s.records places no_fields sound.has_shape.tiled records_are sizes_after (λ m i. own_in sound d.unlinks m (mine m i)) behind
+  freed_after = freed_stay b now (gave b places) places no_fields left.sound.has_shape.tiled (λ m i. subst (In m) (sym records_are) (own_in sound d.unlinks m (mine m i))) (λ m i. sizes_after m (own_in sound d.unlinks m (mine m i))) behind

@@ -9,13 +9,13 @@ use Rattle.cdf_edits.specs.Frame.Changed.{Misses}
 use Rattle.cdf_edits.specs.Space.Acts.{Act, gave, links_end}
 use Rattle.cdf_edits.specs.Space.Freeing.{AllGiven, AreFree}
 use Rattle.cdf_edits.specs.Space.Giving.{IsGiven}
-use Rattle.cdf_edits.specs.Space.Placement.{first_back_link, giving, with_space}
+use Rattle.cdf_edits.specs.Space.Placement.{first_back_link, giving, with_space, Gives}
 use Rattle.cdf_format.specs.Bytes.{Same}
 use Rattle.cdf_format.specs.Content.{content}
 use Rattle.cdf_format.specs.Fields.{size_at, type_at}
 use Rattle.cdf_format.specs.Owners.{times, owned_records, unused_records}
 use Rattle.cdf_format.specs.RecordTypes.{uir_type}
-use Rattle.cdf_format.specs.Shape.{Shape, shape}
+use Rattle.cdf_format.specs.Shape.{Shape, shape, HasShape}
 use Rattle.cdf_format.specs.Sound.{IsSound}
 use Rattle.cdf_format.specs.Tiles.{In, AreTiles}
 use Rattle.cdf_format.proofs.ChainsLemmas.{is_a-type, linkable-long}
@@ -37,15 +37,12 @@ end_long size long = rw (le-leb 28 size long) (omega arith)
 
 -- ---- one record
 
-module _ {b mid : List ℕ} {place : ℕ} (sound : IsSound b (shape b)) (is_given : IsGiven b mid (shape b) (shape mid) place) (inside : In place (shape b).records) where
-  abbrev s : Shape
-  s = shape b
-
+module _ {b mid : List ℕ} {s : Shape} {place : ℕ} (h : HasShape b s) (gives : Gives b mid s (shape mid) place) (inside : In place s.records) where
   backs_missed : (us : List ℕ) (m hi : ℕ) → ((u : ℕ) → In u us → In u s.unused) → Misses (first_back_link us) m (links_end (size_at b m)) hi
   backs_missed [] m hi sub = tt
   backs_missed (u ∷ us) m hi sub = (
     (λ e.
-        let long = subst (λ (x : ℕ). 28 ≤ size_at b x) (sym e) (linkable-long b s.records uir_type u (sound.has_shape.unused_chain.linkable u (sub u (inl refl)))) in
+        let long = subst (λ (x : ℕ). 28 ≤ size_at b x) (sym e) (linkable-long b s.records uir_type u (h.unused_chain.linkable u (sub u (inl refl)))) in
         let l = end_long (size_at b m) long in
         inr (omega arith)),
     tt,
@@ -69,10 +66,10 @@ module _ {b mid : List ℕ} {place : ℕ} (sound : IsSound b (shape b)) (is_give
     ],
   )
 
-  behind_one : (m : ℕ) → In m s.records → m ≢ s.gdr → Same b mid (m + links_end (size_at b m)) (m + size_at b m)
+  pub behind_one : (m : ℕ) → In m s.records → m ≢ s.gdr → Same b mid (m + links_end (size_at b m)) (m + size_at b m)
   behind_one m i other =
-      part b mid s.records (giving s.gdr s.unused place (size_at b place)) (giving_marks s.unused (type_at b place) place (size_at b place)) (place ∷ []) sound.has_shape.tiled is_given.0.length_is is_given.0.changed
-      (all_marked b mid s (shape mid) place (type_at b place) sound.has_shape inside refl is_given.0) m (links_end (size_at b m)) (size_at b m) i (omega arith) (all_missed m (size_at b m) other)
+      part b mid s.records (giving s.gdr s.unused place (size_at b place)) (giving_marks s.unused (type_at b place) place (size_at b place)) (place ∷ []) h.tiled gives.length_is gives.changed
+      (all_marked b mid s (shape mid) place (type_at b place) h inside refl gives) m (links_end (size_at b m)) (size_at b m) i (omega arith) (all_missed m (size_at b m) other)
 
 -- ---- one after the other
 
@@ -100,7 +97,7 @@ all_left b now (place ∷ more) sound stand all =
       long = rest.long ∙ g.0.length_is;
       behind = λ m i other.
           let size = sizes_stay sound g inside m i in
-          let one = behind_one sound g inside m i other in
+          let one = behind_one sound.has_shape g.0 inside m i other in
           let two = rest.behind m (subst (In m) (sym records) i) (λ e. other (e ∙ ap (λ (x : Shape). x.gdr) first)) in
           let two' : Same mid now (m + links_end (size_at b m)) (m + size_at b m) = subst (λ (n : ℕ). Same mid now (m + links_end n) (m + n)) size two in
           record { each = λ k l u. two'.each k l u ∙ one.each k l u };
@@ -132,22 +129,21 @@ all_unused b now (place ∷ more) sound stand all m (inr i) =
 
 -- ---- as a command says it
 
-pub freed_stay : (b now : List ℕ) (acts : List Act) (records places : List ℕ) (but : ℕ → List Field) → AreTiles b 8 (length b) records → (shape now).records ≡ records → ((m : ℕ) → In m records → size_at now m ≡ size_at b m) → ((m : ℕ) → In m places → In m records)
+pub freed_stay : (b now : List ℕ) (acts : List Act) (places : List ℕ) (but : ℕ → List Field) → AreTiles now 8 (length now) (shape now).records → ((m : ℕ) → In m places → In m (shape now).records) → ((m : ℕ) → In m places → size_at now m ≡ size_at b m)
     → ((m : ℕ) → In m places → Same b now (m + links_end (size_at b m)) (m + size_at b m)) → GivenStay b now but acts (gave b places)
-freed_stay b now acts records [] but tiled are sizes stand behind = tt
-freed_stay b now acts records (place ∷ more) but tiled are sizes stand behind = (
-  each (FreedStays b now acts place (size_at b place) (but (type_at b place))) (unused_records now (shape now)) (λ uir i.
-      let there : In uir records = subst (In uir) are (filter-in (λ x. type_at now x == uir_type) (shape now).records uir i) in
-      let size = sizes uir there in
-      λ k lt low high out free. elim (cases_eq place uir) [
-        | inl e ↦ (behind place (inl refl)).each (place + k) (bound place uir k (size_at now uir) (size_at b place) e (size ∙ ap (size_at b) (sym e)) low) (omega arith)
-        | inr other ↦ elim (tiles_lie_apart b 8 (length b) records place uir tiled (stand place (inl refl)) there other) [ inl x ↦ absurd (let l = end_low (size_at now uir) in omega arith) | inr x ↦ absurd (omega arith) ]
+freed_stay b now acts [] but tiled stand sizes behind = tt
+freed_stay b now acts (place ∷ more) but tiled stand sizes behind = (
+  each (FreedStays b now acts place (size_at b place) (but (type_at b place))) (unused_records now (shape now)) (λ uir j i lt low high out untaken.
+      let size = sizes place (inl refl) in
+      elim (cases_eq uir place) [
+        | inl q ↦ (behind place (inl refl)).each (place + i) (subst (λ (n : ℕ). place + links_end n ≤ place + i) size (subst (λ (x : ℕ). x + links_end (size_at now x) ≤ place + i) q low)) (omega arith)
+        | inr ne ↦ elim (tiles_lie_apart now 8 (length now) (shape now).records uir place tiled (filter-in (λ (x : ℕ). type_at now x == uir_type) (shape now).records uir j) (stand place (inl refl)) ne) [
+          | inl x ↦ absurd (omega arith)
+          | inr x ↦ absurd (let l = end_low (size_at now uir) in omega arith)
+        ]
       ]),
-  freed_stay b now acts records more but tiled are sizes (λ m i. stand m (inr i)) (λ m i. behind m (inr i)),
+  freed_stay b now acts more but tiled (λ m i. stand m (inr i)) (λ m i. sizes m (inr i)) (λ m i. behind m (inr i)),
 )
-  where
-    bound : (place uir k n n' : ℕ) → place ≡ uir → n ≡ n' → uir + links_end n ≤ place + k → place + links_end n' ≤ place + k
-    bound place uir k n n' e f low = subst (λ (x : ℕ). place + links_end x ≤ place + k) f (subst (λ (x : ℕ). x + links_end n ≤ place + k) (sym e) low)
 
 -- ---- what a call asks for that frees them
 

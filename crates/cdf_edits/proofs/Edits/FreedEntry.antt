@@ -9,35 +9,33 @@ use Rattle.cdf_format.specs.Fields.{number, size_at, type_at}
 use Rattle.cdf_format.specs.Owners.{Unused, attribute_records, owned_by, unused_records}
 use Rattle.cdf_format.specs.Records.{Field, gdr_eof, gdr_uir_head, uir_next_uir, uir_prev_uir}
 use Rattle.cdf_format.specs.RecordTypes.{gdr_type, adr_type, uir_type, is_record_type, fixed_size}
-use Rattle.cdf_format.specs.Shape.{AttributeShape, Each, HasShape, Shape, shape}
+use Rattle.cdf_format.specs.Shape.{AttributeShape, HasShape, Shape, shape}
 use Rattle.cdf_format.specs.Sound.{IsSound}
-use Rattle.cdf_format.specs.Tiles.{In}
+use Rattle.cdf_format.specs.Tiles.{In, AreTiles}
 use Rattle.cdf_format.proofs.BytesLemmas.{Same-part}
 use Rattle.cdf_format.proofs.ChainsLemmas.{is_a-type, linkable-in, linkable-type}
 use Rattle.cdf_format.proofs.Members.{In-append, In-append_left, In-append_right}
 use Rattle.cdf_format.proofs.TilesLemmas.{tile_lies}
-use Rattle.cdf_edits.specs.Commands.Allowances.{Allowances, AllKeep, FreedStays, is_taken}
+use Rattle.cdf_edits.specs.Commands.Allowances.{Allowances, AllKeep, is_taken, GivenStay, no_fields}
 use Rattle.cdf_edits.specs.Commands.EntryChains.{chain_of, entry_type, max_field}
 use Rattle.cdf_edits.specs.Edits.Edit.{Edit}
 use Rattle.cdf_edits.specs.Edits.EntryMarks.{head_field, count_field, keeps_but_chain}
 use Rattle.cdf_edits.specs.Edits.Marks.{Mark, Avoids, Away, Within, Confined, attribute_types, avoided, giving_marks}
-use Rattle.cdf_edits.specs.Frame.Changed.{Misses}
-use Rattle.cdf_edits.specs.Space.Acts.{Act, Gave, ActsFollow}
-use Rattle.cdf_edits.specs.Space.Placement.{Gives, first_back_link, giving}
-use Rattle.cdf_edits.proofs.Edits.ActsThen.{acts_gave, freed_stays}
+use Rattle.cdf_edits.specs.Space.Acts.{Act, Gave, ActsFollow, gave, links_end}
+use Rattle.cdf_edits.specs.Space.Placement.{Gives, giving}
+use Rattle.cdf_edits.proofs.Edits.ActsThen.{acts_gave}
 use Rattle.cdf_edits.proofs.Edits.ChainKinds.{chain_has, chain_in}
 use Rattle.cdf_edits.proofs.Edits.ChainOwners.{rechained, gone_unowned}
-use Rattle.cdf_edits.proofs.Edits.ChainSpliced.{Rechains, adr_in, adr_typed, adr_start, there, splices, now_is}
-use Rattle.cdf_edits.proofs.Edits.Composing.{edit_then, head_size, head_type, same-then, sizes, placed}
+use Rattle.cdf_edits.proofs.Edits.ChainSpliced.{Rechains, adr_in, adr_typed, adr_start, there, now_is}
+use Rattle.cdf_edits.proofs.Edits.Composing.{edit_then, head_size, head_type, same-then, sizes}
 use Rattle.cdf_edits.proofs.Edits.MarkLemmas.{Avoids-append, Within-append, Away-append, away-avoids}
 use Rattle.cdf_edits.proofs.Edits.OwnedOnce.{used_times, IsSorted}
 use Rattle.cdf_edits.proofs.Edits.OwnersKept.{keep_unused}
 use Rattle.cdf_edits.proofs.Edits.RecordFrame.{field_clear, chain_stays, kept_away}
-use Rattle.cdf_edits.proofs.Edits.Splice.{shape_now}
 use Rattle.cdf_edits.proofs.Edits.StepEdits.{fixed_long, gives_edit, all_marked, gdr_in, gdr_typed, gdr_long}
-use Rattle.cdf_edits.proofs.Frame.ChangedBytes.{changed_part}
 use Rattle.cdf_edits.proofs.Frame.Meaning.{Kept, KeptButLink, late_type, late_size}
 use Rattle.cdf_edits.proofs.Space.UsedRecords.{apart}
+use Rattle.cdf_edits.proofs.Edits.FreedBytes.{behind_one, freed_stay}
 
 -- ---- by the kind
 
@@ -245,31 +243,20 @@ module _ {b late now : List ℕ} {records list : List ℕ} {marks : List Mark} {
   freed_acts {acts = acts} before_acts = subst (λ (n : ℕ). ActsFollow b now (acts ++ Gave old n ∷ [])) old_size
       (acts_gave sound.has_shape before_acts f.sound_late (subst (In old) (sym (ap (λ (x : Shape). x.records) late_is)) old_in) (λ u. g.no_uir (sym old_typed ∙ u)) f.gives)
 
-  pub shape_after : HasShape now (shape now)
-  shape_after = subst (HasShape now) (sym (now_is sound freed_rechains)) (shape_now sound (splices sound freed_rechains))
-
-  back_missed : (us : List ℕ) → ((m : ℕ) → In m us → type_at late m ≡ uir_type) → Misses (first_back_link us) old 28 size
-  back_missed [] typed = tt
-  back_missed (u ∷ us) typed = ((λ q. absurd (g.no_uir (sym old_typed ∙ ap (type_at late) q ∙ typed u (inl refl)))), tt)
-
-  links_missed : 28 ≤ size → Misses (giving made.gdr list old size) old 28 size
-  links_missed long = (
-    (λ q. inr (omega arith)),
-    rw (le-leb 28 size long) (
-      (λ q. absurd (g.no_gdr (sym old_typed ∙ ap (type_at late) q ∙ gdr_typed late made h_late))),
-      ((λ q. inr (omega arith)), ((λ q. inr (omega arith)), back_missed list (λ m i. linkable-type late records uir_type m (h_late.unused_chain.linkable m i)))),
-    ),
-  )
-
   -- behind the links its bytes stay
-  pub freed_bytes : (acts : List Act) → 28 ≤ size_at b old → (fields : List Field) → Each (FreedStays b now acts old (size_at b old) fields) (unused_records now (shape now))
-  freed_bytes acts long fields = freed_stays b now acts old (size_at b old) fields shape_after (subst (In old) (sym records_now) old_in) (same_sizes old old_in ∙ old_size) (rw (le-leb 28 (size_at b old) long) stays)
+  pub freed_bytes : (acts : List Act) → 28 ≤ size_at b old → GivenStay b now no_fields acts (gave b (old ∷ []))
+  freed_bytes acts long = freed_stay b now acts (old ∷ []) no_fields (subst (AreTiles now 8 (length now)) (sym records_now) given.tiled_now)
+      (λ m i. subst (λ (x : ℕ). In x (shape now).records) (sym (only_old m i)) (subst (In old) (sym records_now) old_in))
+      (λ m i. subst (λ (x : ℕ). size_at now x ≡ size_at b x) (sym (only_old m i)) (same_sizes old old_in ∙ old_size))
+      (λ m i. subst (λ (x : ℕ). Same b now (x + links_end (size_at b x)) (x + size_at b x)) (sym (only_old m i)) (rw (le-leb 28 (size_at b old) long) stays))
     where
       stays : Same b now (old + 28) (old + size_at b old)
-      stays = same-then b late now (old + 28) (old + size_at b old) (Same-part b late (old + 20) (old + size_at b old) (old + 28) (old + size_at b old) f.lives.rest (omega arith) (omega arith))
-          (subst (λ (n : ℕ). Same late now (old + 28) (old + n)) old_size (changed_part late now records (length late) h_late.tiled (omega arith) (giving made.gdr list old size) gives.changed
-          (placed late now records (giving made.gdr list old size) given_marks (old ∷ []) h_late.tiled gives.length_is gives.changed (all_marked late now made (shape now) old (entry_type kind) h_late old_in old_typed gives) (giving made.gdr list old size) (all_marked late now made (shape now) old (entry_type kind) h_late old_in old_typed gives))
-          old 28 size old_in (omega arith) (links_missed (let e = old_size in omega arith))))
+      stays =
+          let not_gdr : old ≢ s.gdr = λ q. g.no_gdr (sym old_typed ∙ ap (type_at late) q ∙ gdr_typed late made h_late) in
+          let wide : links_end (size_at late old) ≡ 28 = rw (old_size, le-leb 28 (size_at b old) long) refl in
+          let behind = behind_one h_late gives old_in old old_in not_gdr in
+          same-then b late now (old + 28) (old + size_at b old) (Same-part b late (old + 20) (old + size_at b old) (old + 28) (old + size_at b old) f.lives.rest (omega arith) (omega arith))
+          (subst (λ (n : ℕ). Same late now (old + 28) (old + n)) old_size (subst (λ (n : ℕ). Same late now (old + n) (old + size_at late old)) wide behind))
 
   -- what the command may change of unused records
   pub freed_keeps_unused : (may : Allowances) (acts : List Act) → ((m : ℕ) → In m s.unused → is_taken b acts m ≡ false → Avoids marks uir_type m 0 12 × Within marks uir_type m (uir_next_uir ∷ uir_prev_uir ∷ []))

@@ -1,7 +1,7 @@
 -- What avoids marks.
 use Rattle.std.proofs.Common.{◌≡◌, ◌⊎◌, ℕ, ◌+◌, ◌≤◌, List, [], ◌∷◌, ◌++◌, Bool, true, false, not, ◌||◌, eq-eqb, refl, subst, sym, true≢false, ◌∙◌, arith, inl, inr, ap}
 use Rattle.std.proofs.lemmas.Bool.{leb-true, eqb-true}
-use Rattle.std.specs.Prelude.{◌==◌, nat_le, ◌&&◌}
+use Rattle.std.specs.Prelude.{◌==◌, nat_le, ◌&&◌, if◌then◌else◌}
 use Rattle.cdf_edits.specs.Commands.Allowances.{OutsideFields}
 use Rattle.cdf_edits.specs.Frame.Changed.{Touch, Misses}
 use Rattle.cdf_format.specs.Chains.{is_in}
@@ -11,6 +11,7 @@ use Rattle.cdf_format.specs.Shape.{Each}
 use Rattle.cdf_format.specs.Tiles.{In}
 use Rattle.cdf_format.proofs.Tests.{both}
 use Rattle.cdf_edits.specs.Edits.Marks.{Lies, Mark, Avoids, Away, Within, Confined, has_mark, avoided, ended, unmarked, all_unmarked, within, Covered, Marked}
+use Rattle.cdf_format.proofs.Members.{either}
 
 pub or_cases : (p q : Bool) → (p || q) ≡ true → (p ≡ true) ⊎ (q ≡ true)
 or_cases true q e = inl refl
@@ -72,6 +73,36 @@ within-within [] type m fields e = tt
 within-within (k ∷ ks) type m fields e =
     let p = both (not (type == k.type) || has_mark fields k) (within ks type fields) e in
     ((λ same lies. unless type k.type _ p.0 same), within-within ks type m fields p.1)
+
+-- ---- the marks of one type
+
+abbrev pub of_type : ℕ → List Mark → List Mark
+of_type type [] = []
+of_type type (k ∷ ks) = if type == k.type then k ∷ of_type type ks else of_type type ks
+
+other_type : (type other : ℕ) → (type == other) ≡ false → type ≡ other → ⊥
+other_type type other e same = true≢false (sym (eq-eqb type other same) ∙ e)
+
+pub avoids-of_type : (ks : List Mark) (type m lo hi : ℕ) → Avoids (of_type type ks) type m lo hi → Avoids ks type m lo hi
+avoids-of_type [] type m lo hi a = tt
+avoids-of_type (k ∷ ks) type m lo hi a = elim (either (type == k.type)) [
+  | inl e ↦ let c : Avoids (k ∷ of_type type ks) type m lo hi = rw e at a in (c.0, avoids-of_type ks type m lo hi c.1)
+  | inr e ↦ let c : Avoids (of_type type ks) type m lo hi = rw e at a in ((λ same lies. absurd (other_type type k.type e same)), avoids-of_type ks type m lo hi c)
+]
+
+pub within-of_type : (ks : List Mark) (type m : ℕ) (fields : List Field) → Within (of_type type ks) type m fields → Within ks type m fields
+within-of_type [] type m fields a = tt
+within-of_type (k ∷ ks) type m fields a = elim (either (type == k.type)) [
+  | inl e ↦ let c : Within (k ∷ of_type type ks) type m fields = rw e at a in (c.0, within-of_type ks type m fields c.1)
+  | inr e ↦ let c : Within (of_type type ks) type m fields = rw e at a in ((λ same lies. absurd (other_type type k.type e same)), within-of_type ks type m fields c)
+]
+
+pub away-of_type : (ks : List Mark) (type m : ℕ) → Away (of_type type ks) type m → Away ks type m
+away-of_type [] type m a = tt
+away-of_type (k ∷ ks) type m a = elim (either (type == k.type)) [
+  | inl e ↦ let c : Away (k ∷ of_type type ks) type m = rw e at a in (c.0, away-of_type ks type m c.1)
+  | inr e ↦ let c : Away (of_type type ks) type m = rw e at a in ((λ same lies. other_type type k.type e same), away-of_type ks type m c)
+]
 
 pub Avoids-split : (ks ls : List Mark) (type m lo hi : ℕ) → Avoids (ks ++ ls) type m lo hi → Avoids ks type m lo hi × Avoids ls type m lo hi
 Avoids-split [] ls type m lo hi a = (tt, a)

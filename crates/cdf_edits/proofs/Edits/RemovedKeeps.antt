@@ -12,7 +12,7 @@ use Rattle.cdf_format.proofs.ChainsLemmas.{linkable-in, linkable-type}
 use Rattle.cdf_format.proofs.Members.{In-append}
 use Rattle.cdf_edits.specs.Edits.ManyMarks.{deleting_marks}
 use Rattle.cdf_edits.specs.Edits.Marks.{Mark, Avoids, Away, Within}
-use Rattle.cdf_edits.proofs.Edits.MarkLemmas.{avoided-avoids, within-within}
+use Rattle.cdf_edits.proofs.Edits.MarkLemmas.{avoided-avoids, within-within, within-of_type, away-of_type}
 use Rattle.cdf_edits.proofs.Edits.RemovedLives.{entries_in, adrs_in, Removes, gr_avoids, z_avoids}
 
 module _ {b now : List ℕ} {s : Shape} {before : List AttributeShape} {own : AttributeShape} {after : List AttributeShape} {places : List ℕ} {limit : ℕ} (sound : IsSound b s) (r : Removes b now s before own after places limit) where
@@ -22,103 +22,13 @@ module _ {b now : List ℕ} {s : Shape} {before : List AttributeShape} {own : At
   -- ---- the marks in a record beside it, by its type
 
   pub adr_within : (m : ℕ) → (In m places → ⊥) → Within marks adr_type m (next_field ∷ adr_num ∷ [])
-  adr_within m out = (
-    (λ same lies. absurd cc),
-    (
-      (λ same lies. refl),
-      (
-        (λ same lies. absurd cc),
-        (
-          (λ same lies. refl),
-          (
-            (λ same lies. absurd cc),
-            (
-              (λ same lies. absurd cc),
-              (
-                (λ same lies. absurd cc),
-                (
-                  (λ same lies. absurd cc),
-                  (
-                    (λ same lies. absurd (out lies)),
-                    (
-                      (λ same lies. absurd cc),
-                      ((λ same lies. absurd cc), tt),
-                    ),
-                  ),
-                ),
-              ),
-            ),
-          ),
-        ),
-      ),
-    ),
-  )
+  adr_within m out = within-of_type marks adr_type m (next_field ∷ adr_num ∷ []) ((λ same lies. refl), ((λ same lies. refl), ((λ same lies. absurd (out lies)), tt)))
 
   gr_within : (m : ℕ) → (In m places → ⊥) → Within marks agr_edr_type m (aedr_attr_num ∷ [])
-  gr_within m out = (
-    (λ same lies. absurd cc),
-    (
-      (λ same lies. absurd cc),
-      (
-        (λ same lies. absurd cc),
-        (
-          (λ same lies. absurd cc),
-          (
-            (λ same lies. refl),
-            (
-              (λ same lies. absurd cc),
-              (
-                (λ same lies. absurd cc),
-                (
-                  (λ same lies. absurd cc),
-                  (
-                    (λ same lies. absurd cc),
-                    (
-                      (λ same lies. absurd (out lies)),
-                      ((λ same lies. absurd cc), tt),
-                    ),
-                  ),
-                ),
-              ),
-            ),
-          ),
-        ),
-      ),
-    ),
-  )
+  gr_within m out = within-of_type marks agr_edr_type m (aedr_attr_num ∷ []) ((λ same lies. refl), ((λ same lies. absurd (out lies)), tt))
 
   z_within : (m : ℕ) → (In m places → ⊥) → Within marks az_edr_type m (aedr_attr_num ∷ [])
-  z_within m out = (
-    (λ same lies. absurd cc),
-    (
-      (λ same lies. absurd cc),
-      (
-        (λ same lies. absurd cc),
-        (
-          (λ same lies. absurd cc),
-          (
-            (λ same lies. absurd cc),
-            (
-              (λ same lies. refl),
-              (
-                (λ same lies. absurd cc),
-                (
-                  (λ same lies. absurd cc),
-                  (
-                    (λ same lies. absurd cc),
-                    (
-                      (λ same lies. absurd cc),
-                      ((λ same lies. absurd (out lies)), tt),
-                    ),
-                  ),
-                ),
-              ),
-            ),
-          ),
-        ),
-      ),
-    ),
-  )
+  z_within m out = within-of_type marks az_edr_type m (aedr_attr_num ∷ []) ((λ same lies. refl), ((λ same lies. absurd (out lies)), tt))
 
   -- an entry, whose type is not that of an ADR
   pub record EntryWithin (m : ℕ) : Type 0 where
@@ -151,37 +61,7 @@ module _ {b now : List ℕ} {s : Shape} {before : List AttributeShape} {own : At
 
   -- an unused record that is on no list
   pub unused_away : (m : ℕ) → (In m s.unused → ⊥) → Away marks uir_type m
-  unused_away m out = (
-    (λ same lies. absurd cc),
-    (
-      (λ same lies. absurd cc),
-      (
-        (λ same lies. absurd cc),
-        (
-          (λ same lies. absurd cc),
-          (
-            (λ same lies. absurd cc),
-            (
-              (λ same lies. absurd cc),
-              (
-                (λ same lies. absurd cc),
-                (
-                  (λ same lies. absurd (out lies)),
-                  (
-                    (λ same lies. absurd cc),
-                    (
-                      (λ same lies. absurd cc),
-                      ((λ same lies. absurd cc), tt),
-                    ),
-                  ),
-                ),
-              ),
-            ),
-          ),
-        ),
-      ),
-    ),
-  )
+  unused_away m out = away-of_type marks uir_type m ((λ same lies. absurd (out lies)), tt)
 
   -- one of the list changes in its links
   pub unused_listed : (m : ℕ) → Avoids marks uir_type m 0 12 × Within marks uir_type m (uir_next_uir ∷ uir_prev_uir ∷ [])

@@ -23,6 +23,7 @@ use Rattle.cdf_edits.proofs.Edits.StepEdits.{fixed_long}
 use Rattle.cdf_edits.proofs.Frame.Meaning.{Kept}
 use Rattle.cdf_format.proofs.BytesLemmas.{Same-part}
 use Rattle.cdf_edits.proofs.Frame.OwnersApart.{times-append, times-in, owned-times, file_records, all_attribute_records, all_variable_records}
+use Rattle.cdf_edits.proofs.Edits.MarkLemmas.{avoids-of_type}
 
 -- where the entries of attributes stand
 abbrev pub entries_in : List AttributeShape → List ℕ
@@ -77,103 +78,13 @@ module _ {b now : List ℕ} {s : Shape} {before : List AttributeShape} {own : At
   -- ---- what avoids the marks, by its type
 
   pub adr_avoids : (m lo hi : ℕ) → (In m places → ⊥) → (hi ≤ 12) ⊎ (20 ≤ lo) → (In m (adrs_in after) → (hi ≤ 32) ⊎ (36 ≤ lo)) → Avoids marks adr_type m lo hi
-  adr_avoids m lo hi out link num = (
-    (λ same lies. absurd cc),
-    (
-      (λ same lies. link),
-      (
-        (λ same lies. absurd cc),
-        (
-          (λ same lies. num lies),
-          (
-            (λ same lies. absurd cc),
-            (
-              (λ same lies. absurd cc),
-              (
-                (λ same lies. absurd cc),
-                (
-                  (λ same lies. absurd cc),
-                  (
-                    (λ same lies. absurd (out lies)),
-                    (
-                      (λ same lies. absurd cc),
-                      ((λ same lies. absurd cc), tt),
-                    ),
-                  ),
-                ),
-              ),
-            ),
-          ),
-        ),
-      ),
-    ),
-  )
+  adr_avoids m lo hi out link num = avoids-of_type marks adr_type m lo hi ((λ same lies. link), ((λ same lies. num lies), ((λ same lies. absurd (out lies)), tt)))
 
   pub gr_avoids : (m lo hi : ℕ) → (In m places → ⊥) → (In m (entries_in after) → (hi ≤ 20) ⊎ (24 ≤ lo)) → Avoids marks agr_edr_type m lo hi
-  gr_avoids m lo hi out num = (
-    (λ same lies. absurd cc),
-    (
-      (λ same lies. absurd cc),
-      (
-        (λ same lies. absurd cc),
-        (
-          (λ same lies. absurd cc),
-          (
-            (λ same lies. num lies),
-            (
-              (λ same lies. absurd cc),
-              (
-                (λ same lies. absurd cc),
-                (
-                  (λ same lies. absurd cc),
-                  (
-                    (λ same lies. absurd cc),
-                    (
-                      (λ same lies. absurd (out lies)),
-                      ((λ same lies. absurd cc), tt),
-                    ),
-                  ),
-                ),
-              ),
-            ),
-          ),
-        ),
-      ),
-    ),
-  )
+  gr_avoids m lo hi out num = avoids-of_type marks agr_edr_type m lo hi ((λ same lies. num lies), ((λ same lies. absurd (out lies)), tt))
 
   pub z_avoids : (m lo hi : ℕ) → (In m places → ⊥) → (In m (entries_in after) → (hi ≤ 20) ⊎ (24 ≤ lo)) → Avoids marks az_edr_type m lo hi
-  z_avoids m lo hi out num = (
-    (λ same lies. absurd cc),
-    (
-      (λ same lies. absurd cc),
-      (
-        (λ same lies. absurd cc),
-        (
-          (λ same lies. absurd cc),
-          (
-            (λ same lies. absurd cc),
-            (
-              (λ same lies. num lies),
-              (
-                (λ same lies. absurd cc),
-                (
-                  (λ same lies. absurd cc),
-                  (
-                    (λ same lies. absurd cc),
-                    (
-                      (λ same lies. absurd cc),
-                      ((λ same lies. absurd (out lies)), tt),
-                    ),
-                  ),
-                ),
-              ),
-            ),
-          ),
-        ),
-      ),
-    ),
-  )
+  z_avoids m lo hi out num = avoids-of_type marks az_edr_type m lo hi ((λ same lies. num lies), ((λ same lies. absurd (out lies)), tt))
 
   -- an entry has one of two types
   pub entry_avoids : (a : AttributeShape) (as_ : List AttributeShape) → AreThere b s.records (a ∷ as_) → (m lo hi : ℕ) → In m (a.gr_entries ++ a.z_entries) → (In m places → ⊥) → (In m (entries_in after) → (hi ≤ 20) ⊎ (24 ≤ lo)) → Avoids marks (type_at b m) m lo hi
