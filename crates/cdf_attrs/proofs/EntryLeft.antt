@@ -162,7 +162,7 @@ module _ {b late now attr : List ℕ} {kind : EntryKind} {num : ℕ} {before : L
       (record {
         acts_are = ap (λ (o : Option ℕ). gave b (option_to_list o)) (sym at_before);
         chain = chain_follows;
-        freed = (freed_bytes sound f acts long [], tt);
+        freed = freed_bytes sound f acts long;
       })
 
   all_tests : LeaveTests kind own.adr (members_of b (entries_chain kind own.adr)) (shape b).unused old (size_at late old)

@@ -91,7 +91,7 @@ module _ {b late now attr : List ℕ} {kind : EntryKind} {num : ℕ} {t : DataTy
       reserved = new.reserved;
       room = λ fits. absurd (clash (size_at b old) (entry_end now by) fits (subst (λ (n : ℕ). size_at b old < n) (sym size_is ∙ ends) too_small));
     };
-    freed = (freed_bytes sound f acts long [], tt);
+    freed = freed_bytes sound f acts long;
     greatest = greatest;
   }
     where

@@ -22,6 +22,7 @@ pub mod FreedRecords
 pub mod FreedEntry
 pub mod InRecords
 pub mod LaterCommands
+pub mod MadeEntry
 pub mod MadeRecord
 pub mod LeftEntry
 pub mod MarkLemmas

@@ -28,12 +28,12 @@ use Rattle.cdf_edits.proofs.Edits.ChainKinds.{chain_has, chain_in}
 use Rattle.cdf_edits.proofs.Edits.ChainOwners.{replaced_trades}
 use Rattle.cdf_edits.proofs.Edits.ChainSpliced.{Rechains}
 use Rattle.cdf_edits.proofs.Edits.Composing.{changed_edit, edit_then, head_size, head_type}
-use Rattle.cdf_edits.proofs.Edits.FieldWritten.{IsField, written_edit, written_long}
+use Rattle.cdf_edits.proofs.Edits.FieldWritten.{IsField, written_edit, written_long, Stands, still_stands, still_says, field_in}
 use Rattle.cdf_edits.proofs.Edits.MarkLemmas.{away-avoids}
 use Rattle.cdf_edits.proofs.Edits.PushedEntry.{max_lies, head_lies, count_is}
-use Rattle.cdf_edits.proofs.Edits.RecordFrame.{part_clear, field_clear, chain_stays, chain_clear, kept_but_link}
-use Rattle.cdf_edits.proofs.Edits.Splice.{parts_there}
-use Rattle.cdf_edits.proofs.Edits.StepEdits.{fixed_long, gdr_in, gdr_typed, gdr_long, some_bytes}
+use Rattle.cdf_edits.proofs.Edits.RecordFrame.{field_clear, chain_stays, chain_clear, kept_but_link}
+use Rattle.cdf_edits.proofs.Edits.Splice.{parts_there, adr_stands}
+use Rattle.cdf_edits.proofs.Edits.StepEdits.{gdr_in, gdr_typed, gdr_long, some_bytes}
 use Rattle.cdf_edits.proofs.Frame.ChangedBytes.{changed_put}
 use Rattle.cdf_edits.proofs.Space.UsedRecords.{apart}
 
@@ -84,14 +84,8 @@ module _ {b now : List ℕ} {kind : EntryKind} {before : List AttributeShape} {o
   there : AreThere b s.records (own ∷ [])
   there = (parts_there b s sound before (own ∷ []) after p.was).1.0
 
-  adr_in : In own.adr s.records
-  adr_in = linkable-in b s.records adr_type own.adr there.linked.0
-
-  adr_typed : type_at b own.adr ≡ adr_type
-  adr_typed = linkable-type b s.records adr_type own.adr there.linked.0
-
-  adr_long : 324 ≤ size_at b own.adr
-  adr_long = fixed_long b s h adr_type own.adr adr_in adr_typed
+  the_adr : Stands b s.records own.adr adr_type 324
+  the_adr = adr_stands sound before own after p.was
 
   place_in : In place s.records
   place_in = linkable-in b s.records (entry_type kind) place ((chain_has kind own there.have.0).linkable place p.member)
@@ -120,20 +114,8 @@ module _ {b now : List ℕ} {kind : EntryKind} {before : List AttributeShape} {o
   t : Changes kind own.adr place width
   t = changes kind own.adr place width
 
-  first_part : Same b mid (own.adr + 0) (own.adr + 12)
-  first_part = let l = adr_long in part_clear first own.adr adr_type 0 12 adr_in adr_typed t.first_only t.first_only (omega arith)
-
   pub of_max : IsField mid s.records own.adr adr_type (max_field kind)
-  of_max = record {
-    tiled = first.tiled_now;
-    inside = adr_in;
-    typed = head_type b mid own.adr first_part ∙ adr_typed;
-    fits = through ((max_field kind).place + (max_field kind).width) 324 (size_at mid own.adr) (max_lies kind).1 (subst (λ (n : ℕ). 324 ≤ n) (sym (head_size b mid own.adr first_part)) adr_long);
-    late = (max_lies kind).0;
-  }
-    where
-      through : (x y z : ℕ) → x ≤ y → y ≤ z → x ≤ z
-      through x y z l m = omega arith
+  of_max = field_in first.tiled_now (still_stands first the_adr t.first_only (omega arith)) (max_lies kind).0 (max_lies kind).1
 
   second : Edit mid now s.records s.records (field_marks adr_type own.adr (max_field kind)) []
   second = written_edit mid now s.records own.adr adr_type (max_field kind) p.greatest of_max p.written
@@ -178,7 +160,7 @@ module _ {b now : List ℕ} {kind : EntryKind} {before : List AttributeShape} {o
   chain' = with_in_place place place (chain_of own kind)
 
   adr_same : (f : Field) → avoided marks adr_type f.place (f.place + f.width) ≡ true → f.place + f.width ≤ 324 → number now own.adr f ≡ number b own.adr f
-  adr_same f clear fits = field_clear e own.adr adr_type f adr_in adr_typed t.start clear (let l = adr_long in omega arith)
+  adr_same = still_says e the_adr t.start
 
   pub count_now : number now own.adr (count_field kind) ≡ number b own.adr (count_field kind)
   count_now = adr_same (count_field kind) t.count (count_is kind b own.adr).0

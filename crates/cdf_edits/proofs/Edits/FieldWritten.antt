@@ -1,5 +1,5 @@
 -- A number that is written as a field of a record is an edit.
-use Rattle.std.proofs.Common.{◌≡◌, ℕ, ℤ, ◌+◌, ◌^◌, ◌<◌, ◌≤◌, List, [], ◌∷◌, length, refl, sym, ap, subst, ◌∙◌, arith, inl}
+use Rattle.std.proofs.Common.{◌≡◌, ℕ, ℤ, ◌+◌, ◌^◌, ◌<◌, ◌≤◌, List, [], ◌∷◌, length, refl, sym, ap, subst, ◌∙◌, arith, inl, true}
 use Rattle.std.specs.Int.{w32, cast_unsigned}
 use Rattle.std.specs.Prelude.{FitsSigned}
 use Rattle.cdf_format.specs.Fields.{LiesIn, number, integer4, size_at, type_at, with_field}
@@ -8,9 +8,10 @@ use Rattle.cdf_format.specs.Tiles.{In, AreTiles}
 use Rattle.cdf_format.proofs.TilesLemmas.{tile_lies}
 use Rattle.cdf_fields.proofs.Writes.{field_reads, field_reads4, length-with_field, other_bytes}
 use Rattle.cdf_edits.specs.Edits.Edit.{Edit}
-use Rattle.cdf_edits.specs.Edits.Marks.{field_marks}
+use Rattle.cdf_edits.specs.Edits.Marks.{Mark, avoided, field_marks}
 use Rattle.cdf_edits.specs.Frame.Changed.{touched_field, Changed}
-use Rattle.cdf_edits.proofs.Edits.Composing.{changed_edit}
+use Rattle.cdf_edits.proofs.Edits.Composing.{changed_edit, head_size, head_type}
+use Rattle.cdf_edits.proofs.Edits.RecordFrame.{part_clear, field_clear, through}
 
 -- a field behind the type, within a record of this type
 pub record IsField (b records : List ℕ) (place type : ℕ) (f : Field) : Type 0 where
@@ -19,6 +20,25 @@ pub record IsField (b records : List ℕ) (place type : ℕ) (f : Field) : Type 
   pub typed : type_at b place ≡ type
   pub fits : f.place + f.width ≤ size_at b place
   pub late : 12 ≤ f.place
+
+-- a record of a type, with so many bytes at least
+pub record Stands (b records : List ℕ) (m type n : ℕ) : Type 0 where
+  pub inside : In m records
+  pub typed : type_at b m ≡ type
+  pub long : n ≤ size_at b m
+
+pub field_in : {b records : List ℕ} {m type n : ℕ} {f : Field} → AreTiles b 8 (length b) records → Stands b records m type n → 12 ≤ f.place → f.place + f.width ≤ n → IsField b records m type f
+field_in {b = b} {m = m} {n = n} {f = f} tiled is late fits = record { tiled = tiled; inside = is.inside; typed = is.typed; fits = through (f.place + f.width) n (size_at b m) fits is.long; late = late }
+
+-- what an edit leaves of it that does not touch its size and its type
+module _ {b now old new : List ℕ} {marks : List Mark} {reborn : List ℕ} (e : Edit b now old new marks reborn) {m type n : ℕ} (is : Stands b old m type n) (heads : avoided marks type 0 12 ≡ true) where
+  pub still_stands : 12 ≤ n → Stands now new m type n
+  still_stands some =
+      let start = part_clear e m type 0 12 is.inside is.typed heads heads (through 12 n (size_at b m) some is.long) in
+      record { inside = e.sub m is.inside; typed = head_type b now m start ∙ is.typed; long = subst (λ (k : ℕ). n ≤ k) (sym (head_size b now m start)) is.long }
+
+  pub still_says : (f : Field) → avoided marks type f.place (f.place + f.width) ≡ true → f.place + f.width ≤ n → number now m f ≡ number b m f
+  still_says f clear fits = field_clear e m type f is.inside is.typed heads clear (through (f.place + f.width) n (size_at b m) fits is.long)
 
 module _ (b now records : List ℕ) (place type : ℕ) (f : Field) (n : ℕ) (is : IsField b records place type f) (written : now ≡ with_field b place f n) where
   pub field_lies : LiesIn b place f

@@ -3,7 +3,6 @@ use Rattle.std.proofs.Common.{◌≡◌, ◌≢◌, ℕ, ◌+◌, ◌≤◌, Lis
 use Rattle.std.proofs.lemmas.Bool.{cases_eq, ne_eqb}
 use Rattle.cdf_model.specs.declared.kinds.EntryKind.{EntryKind}
 use Rattle.cdf_model.specs.declared.kinds.EntryKind.TheVariants as entries
-use Rattle.cdf_format.specs.Bytes.{Same}
 use Rattle.cdf_format.specs.Chains.{IsChain}
 use Rattle.cdf_format.specs.Fields.{number, size_at, type_at, with_field}
 use Rattle.cdf_format.specs.Owners.{attribute_records, owned_records, times}
@@ -27,15 +26,15 @@ use Rattle.cdf_edits.proofs.Edits.ChainEdits.{removed_edit}
 use Rattle.cdf_edits.proofs.Edits.ChainOwners.{left_trades, rechained, gone_free}
 use Rattle.cdf_edits.proofs.Edits.ChainSpliced.{Rechains, now_is, entry_stays, sound_rechained}
 use Rattle.cdf_edits.proofs.Edits.ChainsOfShape.{has_chain, left_chain, members_are}
-use Rattle.cdf_edits.proofs.Edits.Composing.{edit_then, head_size, head_type}
+use Rattle.cdf_edits.proofs.Edits.Composing.{edit_then}
 use Rattle.cdf_edits.proofs.Edits.EditActs.{acts_none}
-use Rattle.cdf_edits.proofs.Edits.FieldWritten.{IsField, written_edit, written_long}
+use Rattle.cdf_edits.proofs.Edits.FieldWritten.{IsField, written_edit, written_long, Stands, still_stands, still_says, field_in}
 use Rattle.cdf_edits.proofs.Edits.FreedEntry.{Frees}
 use Rattle.cdf_edits.proofs.Edits.MarkLemmas.{avoided-avoids, ended-avoids}
 use Rattle.cdf_edits.proofs.Edits.PushedEntry.{max_lies, head_lies, count_is, as_chain, of_shape, only}
-use Rattle.cdf_edits.proofs.Edits.RecordFrame.{part_clear, field_clear, chain_clear, kept_but_link}
-use Rattle.cdf_edits.proofs.Edits.Splice.{parts_there}
-use Rattle.cdf_edits.proofs.Edits.StepEdits.{fixed_long, gdr_in, gdr_typed, gdr_long}
+use Rattle.cdf_edits.proofs.Edits.RecordFrame.{field_clear, chain_clear, kept_but_link}
+use Rattle.cdf_edits.proofs.Edits.Splice.{parts_there, adr_stands}
+use Rattle.cdf_edits.proofs.Edits.StepEdits.{gdr_in, gdr_typed, gdr_long}
 use Rattle.cdf_edits.proofs.Frame.Meaning.{KeptButLink, late_type}
 use Rattle.cdf_edits.proofs.Space.UsedRecords.{apart}
 
@@ -131,14 +130,8 @@ module _ {b late : List ℕ} {kind : EntryKind} {before : List AttributeShape} {
   there : AreThere b s.records (own ∷ [])
   there = (parts_there b s sound before (own ∷ []) after q.was).1.0
 
-  adr_in : In own.adr s.records
-  adr_in = linkable-in b s.records adr_type own.adr there.linked.0
-
-  adr_typed : type_at b own.adr ≡ adr_type
-  adr_typed = linkable-type b s.records adr_type own.adr there.linked.0
-
-  adr_long : 324 ≤ size_at b own.adr
-  adr_long = fixed_long b s h adr_type own.adr adr_in adr_typed
+  the_adr : Stands b s.records own.adr adr_type 324
+  the_adr = adr_stands sound before own after q.was
 
   members_old : members ≡ chain_of own kind
   members_old = members_are h (of_shape kind s own there.have.0)
@@ -146,29 +139,20 @@ module _ {b late : List ℕ} {kind : EntryKind} {before : List AttributeShape} {
   first : Edit b q.mid s.records s.records (leaving_link kind own.adr members) []
   first = as_leaving kind b q.mid s.records own.adr members (removed_edit b (entries_chain kind own.adr) sound q.holder (has_chain h (of_shape kind s own there.have.0)) q.removed)
 
-  up_to : (x y z : ℕ) → x ≤ y → y ≤ z → x ≤ z
-  up_to x y z l m = omega arith
-
-  part1 : Same b q.mid (own.adr + 0) (own.adr + 12)
-  part1 = let l = adr_long in part_clear first own.adr adr_type 0 12 adr_in adr_typed u.adr_link u.adr_link (omega arith)
-
-  long1 : 324 ≤ size_at q.mid own.adr
-  long1 = subst (λ (n : ℕ). 324 ≤ n) (sym (head_size b q.mid own.adr part1)) adr_long
+  mid_adr : Stands q.mid s.records own.adr adr_type 324
+  mid_adr = still_stands first the_adr u.adr_link (omega arith)
 
   pub of_count : IsField q.mid s.records own.adr adr_type (count_field kind)
-  of_count = record { tiled = first.tiled_now; inside = adr_in; typed = head_type b q.mid own.adr part1 ∙ adr_typed; fits = up_to ((count_field kind).place + (count_field kind).width) 324 (size_at q.mid own.adr) u.count_lies.1 long1; late = u.count_lies.0 }
+  of_count = field_in first.tiled_now mid_adr u.count_lies.0 u.count_lies.1
 
   second : Edit q.mid q.counted s.records s.records (field_marks adr_type own.adr (count_field kind)) []
   second = written_edit q.mid q.counted s.records own.adr adr_type (count_field kind) q.count of_count q.count_written
 
-  part2 : Same q.mid q.counted (own.adr + 0) (own.adr + 12)
-  part2 = let l = long1 in part_clear second own.adr adr_type 0 12 adr_in of_count.typed u.adr_count u.adr_count (omega arith)
-
-  long2 : 324 ≤ size_at q.counted own.adr
-  long2 = subst (λ (n : ℕ). 324 ≤ n) (sym (head_size q.mid q.counted own.adr part2)) long1
+  counted_adr : Stands q.counted s.records own.adr adr_type 324
+  counted_adr = still_stands second mid_adr u.adr_count (omega arith)
 
   pub of_max : IsField q.counted s.records own.adr adr_type (max_field kind)
-  of_max = record { tiled = second.tiled_now; inside = adr_in; typed = head_type q.mid q.counted own.adr part2 ∙ of_count.typed; fits = up_to ((max_field kind).place + (max_field kind).width) 324 (size_at q.counted own.adr) (max_lies kind).1 long2; late = (max_lies kind).0 }
+  of_max = field_in second.tiled_now counted_adr (max_lies kind).0 (max_lies kind).1
 
   third : Edit q.counted late s.records s.records (field_marks adr_type own.adr (max_field kind)) []
   third = written_edit q.counted late s.records own.adr adr_type (max_field kind) q.greatest of_max q.written
@@ -184,7 +168,7 @@ module _ {b late : List ℕ} {kind : EntryKind} {before : List AttributeShape} {
 
   -- the count that was written
   pub count_now : number late own.adr (count_field kind) ≡ number q.counted own.adr (count_field kind)
-  count_now = field_clear third own.adr adr_type (count_field kind) adr_in of_max.typed u.adr_max u.max_count (up_to ((count_field kind).place + (count_field kind).width) 324 (size_at q.counted own.adr) u.count_lies.1 long2)
+  count_now = still_says third counted_adr u.adr_max (count_field kind) u.max_count u.count_lies.1
 
   abbrev pub chain' : List ℕ
   chain' = without old (chain_of own kind)
@@ -192,8 +176,8 @@ module _ {b late : List ℕ} {kind : EntryKind} {before : List AttributeShape} {
   chain_late : IsChain late s.records (entry_type kind) (number late own.adr (head_field kind)) chain'
   chain_late =
       let c1 = as_chain kind q.mid q.mid s.records own.adr chain' (at_holder (left_chain h (of_shape kind s own there.have.0) q.removed first.tiled_now (count_is kind q.mid own.adr).3)) in
-      let c2 = chain_clear second (entry_type kind) _ _ chain' c1 (field_clear second own.adr adr_type (head_field kind) adr_in of_count.typed u.adr_count u.later_head.0 (up_to ((head_field kind).place + (head_field kind).width) 324 (size_at q.mid own.adr) (head_lies kind) long1)) u.later_links.0 in
-      chain_clear third (entry_type kind) _ _ chain' c2 (field_clear third own.adr adr_type (head_field kind) adr_in of_max.typed u.adr_max u.later_head.1 (up_to ((head_field kind).place + (head_field kind).width) 324 (size_at q.counted own.adr) (head_lies kind) long2)) u.later_links.1
+      let c2 = chain_clear second (entry_type kind) _ _ chain' c1 (still_says second mid_adr u.adr_count (head_field kind) u.later_head.0 (head_lies kind)) u.later_links.0 in
+      chain_clear third (entry_type kind) _ _ chain' c2 (still_says third counted_adr u.adr_max (head_field kind) u.later_head.1 (head_lies kind)) u.later_links.1
     where
       at_holder : IsChain q.mid s.records (type_in (entries_chain kind own.adr)) (number q.mid own.adr (head_of (entries_chain kind own.adr))) chain' → IsChain q.mid s.records (type_in (entries_chain kind own.adr)) (number q.mid (holder_of q.mid (entries_chain kind own.adr)) (head_of (entries_chain kind own.adr))) chain'
       at_holder x = subst (λ (a : ℕ). IsChain q.mid s.records (type_in (entries_chain kind own.adr)) (number q.mid a (head_of (entries_chain kind own.adr))) chain') (sym (count_is kind q.mid own.adr).3) x

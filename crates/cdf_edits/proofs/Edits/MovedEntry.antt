@@ -1,14 +1,13 @@
 -- An entry is made in the place of another one of its chain, the greatest number is written, and the old one is freed.
-use Rattle.std.proofs.Common.{◌≡◌, ◌≢◌, ◌⊎◌, ℕ, ◌+◌, ◌<◌, ◌≤◌, List, [], ◌∷◌, ◌++◌, length, map, true, false, refl, sym, ap, subst, ◌∙◌, arith, inl, inr}
+use Rattle.std.proofs.Common.{◌≡◌, ◌≢◌, ◌⊎◌, ℕ, ◌+◌, ◌<◌, ◌≤◌, List, [], ◌∷◌, ◌++◌, length, map, true, refl, sym, ap, subst, ◌∙◌, arith, inl, inr}
 use Rattle.std.proofs.lemmas.Bool.{leb-true}
 use Rattle.std.specs.Prelude.{◌==◌, nat_le}
 use Rattle.cdf_model.specs.declared.kinds.EntryKind.{EntryKind}
 use Rattle.cdf_model.specs.declared.kinds.EntryKind.TheVariants as entries
-use Rattle.cdf_format.specs.Bytes.{Same}
 use Rattle.cdf_format.specs.Chains.{IsChain, is_in, is_a}
 use Rattle.cdf_format.specs.Fields.{number, size_at, type_at, with_field}
 use Rattle.cdf_format.specs.Owners.{attribute_records}
-use Rattle.cdf_format.specs.RecordTypes.{uir_type, adr_type, is_record_type, fixed_size}
+use Rattle.cdf_format.specs.RecordTypes.{uir_type, adr_type}
 use Rattle.cdf_format.specs.Shape.{AttributeShape, HasShape, Shape, shape}
 use Rattle.cdf_format.specs.Sound.{IsSound}
 use Rattle.cdf_format.specs.Tiles.{In, tiles}
@@ -17,8 +16,8 @@ use Rattle.cdf_format.proofs.Members.{either}
 use Rattle.cdf_format.proofs.ShapeLemmas.{shape_is, tiles_are}
 use Rattle.cdf_edits.specs.Commands.EntryChains.{chain_of, entry_type, max_field}
 use Rattle.cdf_edits.specs.Edits.Edit.{Edit}
-use Rattle.cdf_edits.specs.Edits.EntryMarks.{entries_chain, head_field, count_field, keeps_but_chain}
-use Rattle.cdf_edits.specs.Edits.Marks.{Mark, Confined, attribute_types, avoided, ended, making_marks, replacing_marks, field_marks, is_late}
+use Rattle.cdf_edits.specs.Edits.EntryMarks.{entries_chain, head_field, count_field}
+use Rattle.cdf_edits.specs.Edits.Marks.{Mark, Confined, attribute_types, avoided, making_marks, replacing_marks, field_marks, is_late}
 use Rattle.cdf_edits.specs.Space.Acts.{sized}
 use Rattle.cdf_edits.specs.Space.Chains.{HasChain, HolderStands, MayJoin, Replaced, head_of, holder_of, holder_type, members_of, type_in, with_in_place}
 use Rattle.cdf_edits.specs.Space.Placement.{taken_from, unused, with_space}
@@ -27,17 +26,16 @@ use Rattle.cdf_edits.proofs.Edits.AttributeFrame.{AreThere}
 use Rattle.cdf_edits.proofs.Edits.ChainKinds.{chain_has, chain_in}
 use Rattle.cdf_edits.proofs.Edits.ChainOwners.{replaced_trades, rechained}
 use Rattle.cdf_edits.proofs.Edits.ChainSpliced.{Rechains, now_is}
-use Rattle.cdf_edits.proofs.Edits.MarkLemmas.{avoided-avoids, ended-avoids}
 use Rattle.cdf_edits.proofs.Edits.ChainEdits.{replaced_edit}
 use Rattle.cdf_edits.proofs.Edits.ChainsOfShape.{IsOf, members_are, has_chain, may_join, is_member, replaced_chain}
-use Rattle.cdf_edits.proofs.Edits.FieldWritten.{IsField, written_edit, written_long}
-use Rattle.cdf_edits.proofs.Edits.MadeRecord.{filled_edit, filled_sound, filled_size, fresh, place_in, made_edit, made_type, made_size, list_chain, listed}
+use Rattle.cdf_edits.proofs.Edits.FieldWritten.{IsField, written_edit, written_long, Stands, still_stands, still_says, field_in}
+use Rattle.cdf_edits.proofs.Edits.MadeRecord.{filled_edit, filled_sound, filled_size, fresh, place_in, made_edit, made_type, made_size, listed}
 use Rattle.cdf_edits.proofs.Edits.PushedEntry.{max_lies, head_lies, count_is, as_chain, only, first}
-use Rattle.cdf_edits.proofs.Edits.RecordFrame.{part_clear, field_clear, chain_clear, kept_but_link}
-use Rattle.cdf_edits.proofs.Edits.Composing.{edit_then, head_size, head_type}
-use Rattle.cdf_edits.proofs.Edits.Splice.{parts_there}
-use Rattle.cdf_edits.proofs.Edits.StepEdits.{fixed_long}
+use Rattle.cdf_edits.proofs.Edits.RecordFrame.{chain_clear}
+use Rattle.cdf_edits.proofs.Edits.Composing.{edit_then}
+use Rattle.cdf_edits.proofs.Edits.Splice.{parts_there, adr_stands}
 use Rattle.cdf_edits.proofs.Space.ActsLeave.{places-sized, no_rest}
+use Rattle.cdf_edits.proofs.Edits.MadeEntry.{Leaves, joins}
 
 -- ---- records of the unused list after one was taken
 
@@ -122,14 +120,8 @@ module _ {b filled : List ℕ} {kind : EntryKind} {before : List AttributeShape}
   there : AreThere b s.records (own ∷ [])
   there = (parts_there b s sound before (own ∷ []) after p.was).1.0
 
-  adr_in : In own.adr s.records
-  adr_in = linkable-in b s.records adr_type own.adr there.linked.0
-
-  adr_typed : type_at b own.adr ≡ adr_type
-  adr_typed = linkable-type b s.records adr_type own.adr there.linked.0
-
-  adr_long : 324 ≤ size_at b own.adr
-  adr_long = fixed_long b s h adr_type own.adr adr_in adr_typed
+  the_adr : Stands b s.records own.adr adr_type 324
+  the_adr = adr_stands sound before own after p.was
 
   e : Edit b filled s.records records (making_marks s.unused by need []) (by ∷ [])
   e = filled_edit sound fills
@@ -146,32 +138,20 @@ module _ {b filled : List ℕ} {kind : EntryKind} {before : List AttributeShape}
   pub shape_filled : shape filled ≡ grown
   shape_filled = shape_is filled grown of_filled
 
-  through : (x y z : ℕ) → x ≤ y → y ≤ z → x ≤ z
-  through x y z l m = omega arith
-
   chain_filled : IsChain filled records (entry_type kind) (number filled own.adr (head_field kind)) chain
   chain_filled = chain_clear e (entry_type kind) _ _ chain (chain_has kind own there.have.0)
-      (field_clear e own.adr adr_type (head_field kind) adr_in adr_typed c.1 c.2 (through ((head_field kind).place + (head_field kind).width) 324 (size_at b own.adr) (head_lies kind) adr_long)) c.0
+      (still_says e the_adr c.1 (head_field kind) c.2 (head_lies kind)) c.0
 
   pub is_of : IsOf filled grown (entries_chain kind own.adr) own.adr chain
   is_of = of_records kind grown own.adr chain_filled
 
   -- ---- what a call asks for that puts it into the place of the old one
 
-  first_part : Same b filled (own.adr + 0) (own.adr + 12)
-  first_part = let l = adr_long in part_clear e own.adr adr_type 0 12 adr_in adr_typed c.1 c.1 (omega arith)
-
-  pub filled_typed : type_at filled own.adr ≡ adr_type
-  filled_typed = head_type b filled own.adr first_part ∙ adr_typed
-
-  pub filled_long : 324 ≤ size_at filled own.adr
-  filled_long = subst (λ (n : ℕ). 324 ≤ n) (sym (head_size b filled own.adr first_part)) adr_long
-
-  pub filled_in : In own.adr records
-  filled_in = e.sub own.adr adr_in
+  pub filled_adr : Stands filled records own.adr adr_type 324
+  filled_adr = still_stands e the_adr c.1 (omega arith)
 
   pub holder_filled : HolderStands filled (entries_chain kind own.adr)
-  holder_filled = holds kind filled own.adr (subst (λ (ts : List ℕ). is_a filled ts adr_type own.adr ≡ true) (sym (tiles_are filled grown of_filled)) (is_a-from filled records adr_type own.adr filled_in filled_typed))
+  holder_filled = holds kind filled own.adr (subst (λ (ts : List ℕ). is_a filled ts adr_type own.adr ≡ true) (sym (tiles_are filled grown of_filled)) (is_a-from filled records adr_type own.adr filled_adr.inside filled_adr.typed))
 
   pub chain_stands : HasChain filled (entries_chain kind own.adr)
   chain_stands = has_chain of_filled is_of
@@ -213,9 +193,7 @@ as_linking entries.Z filled mid all adr by members e = e
 
 pub record MoveTests (unused : List ℕ) (kind : EntryKind) (adr by need : ℕ) (members : List ℕ) : Type 0 where
   pub late : is_late (moving kind adr by members) (entry_type kind) ≡ true
-  pub clear : keeps_but_chain (making_marks unused by need (moving kind adr by members)) kind ≡ true
-  pub start : avoided (making_marks unused by need (moving kind adr by members)) (entry_type kind) 0 12 ≡ true
-  pub rest : ended (making_marks unused by need (moving kind adr by members)) (entry_type kind) 20 ≡ true
+  pub leaves : Leaves (making_marks unused by need (moving kind adr by members)) kind
   pub linked : avoided (linking kind adr by members) adr_type 0 12 ≡ true
   pub max_start : avoided (field_marks adr_type adr (max_field kind)) adr_type 0 12 ≡ true
   pub max_links : avoided (field_marks adr_type adr (max_field kind)) (entry_type kind) 0 20 ≡ true
@@ -224,9 +202,9 @@ pub record MoveTests (unused : List ℕ) (kind : EntryKind) (adr by need : ℕ) 
   pub count : (avoided (linking kind adr by members) adr_type (count_field kind).place ((count_field kind).place + (count_field kind).width) ≡ true) × (avoided (making_marks unused by need (moving kind adr by members)) adr_type (count_field kind).place ((count_field kind).place + (count_field kind).width) ≡ true)
 
 move_tests : (unused : List ℕ) (kind : EntryKind) (adr by need : ℕ) (members : List ℕ) → MoveTests unused kind adr by need members
-move_tests unused entries.G adr by n members = record { late = refl; clear = refl; start = refl; rest = refl; linked = refl; max_start = refl; max_links = refl; max_head = refl; adr_start = refl; count = (refl, refl) }
-move_tests unused entries.R adr by n members = record { late = refl; clear = refl; start = refl; rest = refl; linked = refl; max_start = refl; max_links = refl; max_head = refl; adr_start = refl; count = (refl, refl) }
-move_tests unused entries.Z adr by n members = record { late = refl; clear = refl; start = refl; rest = refl; linked = refl; max_start = refl; max_links = refl; max_head = refl; adr_start = refl; count = (refl, refl) }
+move_tests unused entries.G adr by n members = record { late = refl; leaves = record { clear = refl; gdr_within = refl; adr_within = refl; start = refl; rest = refl }; linked = refl; max_start = refl; max_links = refl; max_head = refl; adr_start = refl; count = (refl, refl) }
+move_tests unused entries.R adr by n members = record { late = refl; leaves = record { clear = refl; gdr_within = refl; adr_within = refl; start = refl; rest = refl }; linked = refl; max_start = refl; max_links = refl; max_head = refl; adr_start = refl; count = (refl, refl) }
+move_tests unused entries.Z adr by n members = record { late = refl; leaves = record { clear = refl; gdr_within = refl; adr_within = refl; start = refl; rest = refl }; linked = refl; max_start = refl; max_links = refl; max_head = refl; adr_start = refl; count = (refl, refl) }
 
 moved_confined : (unused : List ℕ) (kind : EntryKind) (adr by need : ℕ) (members own : List ℕ) → In by own → In adr own → ((m : ℕ) → In m members → In m own) → Confined (making_marks unused by need (moving kind adr by members)) attribute_types own
 moved_confined unused entries.G adr by n members own i a ms = (inl refl, (inl refl, (inl refl, (inl refl, (inl refl, (inl refl, (inr (only own adr a), (inr (first own by members i ms), (inr (only own adr a), tt)))))))))
@@ -259,23 +237,11 @@ module _ {b late : List ℕ} {kind : EntryKind} {before : List AttributeShape} {
   linked = as_linking kind q.filled q.mid new_records own.adr by members
       (replaced_edit q.filled (entries_chain kind own.adr) (subst (IsSound q.filled) (sym (shape_filled sound p)) (filled_sound sound (fills sound p))) (holder_filled sound p) (chain_stands sound p) (by_joins sound p) q.replaced)
 
-  second_part : Same q.filled q.mid (own.adr + 0) (own.adr + 12)
-  second_part = let l = filled_long sound p in part_clear linked own.adr adr_type 0 12 (filled_in sound p) (filled_typed sound p) t.linked t.linked (omega arith)
-
-  mid_long : 324 ≤ size_at q.mid own.adr
-  mid_long = subst (λ (n : ℕ). 324 ≤ n) (sym (head_size q.filled q.mid own.adr second_part)) (filled_long sound p)
-
-  up_to : (x y z : ℕ) → x ≤ y → y ≤ z → x ≤ z
-  up_to x y z l m = omega arith
+  mid_adr : Stands q.mid new_records own.adr adr_type 324
+  mid_adr = still_stands linked (filled_adr sound p) t.linked (omega arith)
 
   pub of_max : IsField q.mid new_records own.adr adr_type (max_field kind)
-  of_max = record {
-    tiled = linked.tiled_now;
-    inside = filled_in sound p;
-    typed = head_type q.filled q.mid own.adr second_part ∙ filled_typed sound p;
-    fits = up_to ((max_field kind).place + (max_field kind).width) 324 (size_at q.mid own.adr) (max_lies kind).1 mid_long;
-    late = (max_lies kind).0;
-  }
+  of_max = field_in linked.tiled_now mid_adr (max_lies kind).0 (max_lies kind).1
 
   max_edit : Edit q.mid late new_records new_records (field_marks adr_type own.adr (max_field kind)) []
   max_edit = written_edit q.mid late new_records own.adr adr_type (max_field kind) q.greatest of_max q.written
@@ -307,37 +273,14 @@ module _ {b late : List ℕ} {kind : EntryKind} {before : List AttributeShape} {
   pub chain_late : IsChain late new_records (entry_type kind) (number late own.adr (head_field kind)) chain'
   chain_late =
       chain_clear max_edit (entry_type kind) _ _ chain' (as_chain kind q.mid q.mid new_records own.adr chain' (at_holder (replaced_chain (of_filled sound p) (is_of sound p) q.replaced linked.tiled_now (count_is kind q.mid own.adr).3)))
-      (field_clear max_edit own.adr adr_type (head_field kind) of_max.inside of_max.typed t.max_start t.max_head (up_to ((head_field kind).place + (head_field kind).width) 324 (size_at q.mid own.adr) (head_lies kind) mid_long)) t.max_links
+      (still_says max_edit mid_adr t.max_start (head_field kind) t.max_head (head_lies kind)) t.max_links
     where
       at_holder : IsChain q.mid new_records (type_in (entries_chain kind own.adr)) (number q.mid own.adr (head_of (entries_chain kind own.adr))) chain' → IsChain q.mid new_records (type_in (entries_chain kind own.adr)) (number q.mid (holder_of q.mid (entries_chain kind own.adr)) (head_of (entries_chain kind own.adr))) chain'
       at_holder x = subst (λ (a : ℕ). IsChain q.mid new_records (type_in (entries_chain kind own.adr)) (number q.mid a (head_of (entries_chain kind own.adr))) chain') (sym (count_is kind q.mid own.adr).3) x
 
-  only_by : (m : ℕ) → In m (by ∷ []) → m ≡ by
-  only_by m (inl e) = e
-  only_by m (inr none) = absurd none
-
-  not_attribute : (m : ℕ) → In m (by ∷ []) → is_in (type_at b m) attribute_types ≡ true → In m sb.records → ⊥
-  not_attribute m i typed stands = clash (sym typed ∙ ap (λ (t : ℕ). is_in t attribute_types) (ap (type_at b) (only_by m i) ∙ fresh sound (fills sound p) (subst (λ (x : ℕ). In x sb.records) (only_by m i) stands)))
-    where
-      clash : true ≡ false → ⊥
-      clash q = absurd cc
-
   pub made_rechains : Rechains b late sb new_records new_list made_marks (by ∷ []) kind before own after chain' (old ∷ []) (by ∷ [])
-  made_rechains = record {
-    edit = made;
-    was = p.was;
-    clear = t.clear;
-    confined = moved_confined sb.unused kind own.adr by size_needed members (by ∷ attribute_records own) (inl refl) (inr (inl refl)) (λ m i. inr (inr (chain_in kind own m (subst (In m) (members_filled sound p) i))));
-    fresh = λ m i typed stands. absurd (not_attribute m i typed stands);
-    typed = λ m i. subst (λ (x : ℕ). (is_record_type (type_at late x) ≡ true) × (fixed_size (type_at late x) ≤ size_at late x)) (sym (only_by m i))
-        (subst (λ (t : ℕ). (is_record_type t ≡ true) × (fixed_size t ≤ size_at late by)) (sym by_type) ((fills sound p).real, subst (λ (n : ℕ). fixed_size (entry_type kind) ≤ n) (sym by_size) (fills sound p).fixed));
-    chain_now = chain_late;
-    unused_chain = list_chain sound (fills sound p) later as_long t.late;
-    trades = replaced_trades (chain_of own kind) old by p.member;
-    live = λ m i out.
-        let ok = (chain_has kind own (parts_there b sb sound before (own ∷ []) after p.was).1.0.have.0).linkable m i in
-        kept_but_link made m (entry_type kind) (linkable-in b sb.records (entry_type kind) m ok) (linkable-type b sb.records (entry_type kind) m ok) (avoided-avoids made_marks (entry_type kind) m 0 12 t.start) (ended-avoids made_marks (entry_type kind) m 20 (size_at b m) t.rest);
-  }
+  made_rechains = joins kind before own after sound p.was (fills sound p) later as_long t.late chain' (old ∷ []) (replaced_trades (chain_of own kind) old by p.member) t.leaves
+      (moved_confined sb.unused kind own.adr by size_needed members (by ∷ attribute_records own) (inl refl) (inr (inl refl)) (λ m i. inr (inr (chain_in kind own m (subst (In m) (members_filled sound p) i))))) chain_late
 
   -- ---- the image before the old one is freed
 
@@ -348,11 +291,7 @@ module _ {b late : List ℕ} {kind : EntryKind} {before : List AttributeShape} {
   lately = t.late
 
   pub count_late : number late own.adr (count_field kind) ≡ number b own.adr (count_field kind)
-  count_late =
-      let there = (parts_there b sb sound before (own ∷ []) after p.was).1.0 in
-      let inside = linkable-in b sb.records adr_type own.adr there.linked.0 in
-      let typed = linkable-type b sb.records adr_type own.adr there.linked.0 in
-      field_clear made own.adr adr_type (count_field kind) inside typed t.adr_start t.count.1 (up_to ((count_field kind).place + (count_field kind).width) 324 (size_at b own.adr) (count_is kind b own.adr).0 (fixed_long b sb sound.has_shape adr_type own.adr inside typed))
+  count_late = still_says made (adr_stands sound before own after p.was) t.adr_start (count_field kind) t.count.1 (count_is kind b own.adr).0
 
   -- an old record that is on the list by now was on it before
   pub was_listed : (m : ℕ) → In m sb.records → In m new_list → In m sb.unused

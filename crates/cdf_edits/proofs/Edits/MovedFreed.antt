@@ -18,15 +18,16 @@ use Rattle.cdf_edits.specs.Edits.Marks.{within, making_marks, giving_marks}
 use Rattle.cdf_edits.specs.Space.Chains.{members_of, with_in_place}
 use Rattle.cdf_edits.specs.Space.Placement.{Gives}
 use Rattle.cdf_edits.proofs.Edits.ChainKinds.{chain_has}
-use Rattle.cdf_edits.proofs.Edits.ChainOwners.{IsHeld, rechained, traded, gone_free}
+use Rattle.cdf_edits.proofs.Edits.ChainOwners.{IsHeld, rechained, gone_free}
 use Rattle.cdf_edits.proofs.Edits.ChainSpliced.{entry_stays, sound_rechained, there}
 use Rattle.cdf_edits.proofs.Edits.FreedEntry.{Frees}
-use Rattle.cdf_edits.proofs.Edits.MadeRecord.{place_in, unowned}
+use Rattle.cdf_edits.proofs.Edits.MadeRecord.{place_in}
 use Rattle.cdf_edits.proofs.Edits.MarkLemmas.{avoided-avoids, ended-avoids}
-use Rattle.cdf_edits.proofs.Edits.MovedEntry.{LinksEntry, moving, fills, by_not_old, by_type, new_records, new_list, made_marks, made, made_rechains, late_is, tests}
+use Rattle.cdf_edits.proofs.Edits.MovedEntry.{LinksEntry, moving, fills, by_not_old, new_records, new_list, made_marks, made, made_rechains, late_is, tests, later, as_long, lately}
 use Rattle.cdf_edits.proofs.Edits.OwnedOnce.{used_times}
 use Rattle.cdf_edits.proofs.Edits.RecordFrame.{kept_but_link}
 use Rattle.cdf_edits.proofs.Frame.Meaning.{KeptButLink, late_type}
+use Rattle.cdf_edits.proofs.Edits.MadeEntry.{once_owned, in_use}
 
 -- ---- the members of a chain in which one was replaced
 
@@ -84,14 +85,10 @@ module _ {b late : List ℕ} {kind : EntryKind} {before : List AttributeShape} {
       less x y e = omega arith
 
   pub by_once : used_times now_shape by ≡ 1
-  by_once = one (used_times now_shape by) (used_times s by) (times by (old ∷ [])) (times by (by ∷ [])) (traded s (new_records sound q) (new_list sound q) before own after kind chain' (old ∷ []) (by ∷ []) q.places.was (made_rechains sound q).trades by)
-      (unowned sound (fills sound q.places)) (times-none by (old ∷ []) (λ i. elim i [ inl x ↦ by_not_old sound q.places x | inr none ↦ none ])) (rw (eq-eqb by by refl) refl)
-    where
-      one : (u' u g h : ℕ) → u' + g ≡ u + h → u ≡ 0 → g ≡ 0 → h ≡ 1 → u' ≡ 1
-      one u' u g h p q r t = omega arith
+  by_once = once_owned kind before own after sound q.places.was (fills sound q.places) (later sound q) (as_long sound q) (lately sound q) chain' (old ∷ []) (made_rechains sound q).trades (λ i. elim i [ inl x ↦ by_not_old sound q.places x | inr none ↦ none ])
 
   pub by_used : type_at late by ≢ uir_type
-  by_used u = (fills sound q.places).in_use (sym (by_type sound q) ∙ u)
+  by_used = in_use kind before own after sound q.places.was (fills sound q.places) (later sound q) (as_long sound q) (lately sound q)
 
   held : (m : ℕ) → In m (by ∷ []) → IsHeld late now_shape m
   held m (inl x) = subst (IsHeld late now_shape) (sym x) (inl (by_used, most (used_times now_shape by) by_once))
@@ -115,7 +112,7 @@ module _ {b late : List ℕ} {kind : EntryKind} {before : List AttributeShape} {
   old_ok = let ok = (chain_has kind own (there sound (made_rechains sound q)).1.0.have.0).linkable old q.places.member in (linkable-in b s.records (entry_type kind) old ok, linkable-type b s.records (entry_type kind) old ok)
 
   pub old_lives : KeptButLink b late old
-  old_lives = kept_but_link (made sound q) old (entry_type kind) old_ok.0 old_ok.1 (avoided-avoids (made_marks sound q) (entry_type kind) old 0 12 (tests sound q).start) (ended-avoids (made_marks sound q) (entry_type kind) old 20 (size_at b old) (tests sound q).rest)
+  old_lives = kept_but_link (made sound q) old (entry_type kind) old_ok.0 old_ok.1 (avoided-avoids (made_marks sound q) (entry_type kind) old 0 12 (tests sound q).leaves.start) (ended-avoids (made_marks sound q) (entry_type kind) old 20 (size_at b old) (tests sound q).leaves.rest)
 
   pub old_in : In old (shape late).records
   old_in = subst (In old) (sym (ap (λ (x : Shape). x.records) (late_is sound q))) ((made sound q).sub old old_ok.0)

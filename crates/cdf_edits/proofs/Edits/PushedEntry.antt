@@ -1,38 +1,34 @@
 -- An entry is made and becomes the last one of a chain of an attribute, whose greatest number is written.
-use Rattle.std.proofs.Common.{◌≡◌, ℕ, ◌+◌, ◌≤◌, List, [], ◌∷◌, ◌++◌, length, eq-eqb, true, false, refl, sym, ap, subst, ◌∙◌, arith, inl, inr}
+use Rattle.std.proofs.Common.{◌≡◌, ℕ, ◌+◌, ◌≤◌, List, [], ◌∷◌, ◌++◌, length, true, refl, sym, subst, ◌∙◌, arith, inl, inr}
 use Rattle.cdf_model.specs.declared.kinds.EntryKind.{EntryKind}
 use Rattle.cdf_model.specs.declared.kinds.EntryKind.TheVariants as entries
-use Rattle.cdf_format.specs.Bytes.{Same}
 use Rattle.cdf_format.specs.Chains.{IsChain, is_in}
 use Rattle.cdf_format.specs.Fields.{number, size_at, type_at, with_field}
 use Rattle.cdf_format.specs.Owners.{attribute_records, times}
-use Rattle.cdf_format.specs.RecordTypes.{gdr_type, adr_type, is_record_type, fixed_size}
+use Rattle.cdf_format.specs.RecordTypes.{adr_type, is_record_type}
 use Rattle.cdf_format.specs.Shape.{AttributeShape, HasEntries, HasShape, Shape, shape}
 use Rattle.cdf_format.specs.Sound.{IsSound}
 use Rattle.cdf_format.specs.Tiles.{In}
-use Rattle.cdf_format.proofs.ChainsLemmas.{linkable-in, linkable-type}
 use Rattle.cdf_format.proofs.Owning.{times-none}
-use Rattle.cdf_edits.specs.Commands.Allowances.{space_fields}
-use Rattle.cdf_edits.specs.Commands.EntryChains.{chain_of, chain_fields, entry_type, max_field}
+use Rattle.cdf_edits.specs.Commands.EntryChains.{chain_of, entry_type, max_field}
 use Rattle.cdf_edits.specs.Edits.Edit.{Edit}
-use Rattle.cdf_edits.specs.Edits.EntryMarks.{entries_chain, head_field, count_field, keeps_but_chain}
-use Rattle.cdf_edits.specs.Edits.Marks.{Mark, Confined, attribute_types, avoided, ended, within, making_marks, field_marks, is_late}
+use Rattle.cdf_edits.specs.Edits.EntryMarks.{entries_chain, head_field, count_field}
+use Rattle.cdf_edits.specs.Edits.Marks.{Mark, Confined, attribute_types, avoided, making_marks, field_marks, is_late}
 use Rattle.cdf_edits.specs.Space.Adding.{Added, adding_marks}
 use Rattle.cdf_edits.specs.Space.Chains.{holder_of, head_of, count_of, type_in, members_of}
 use Rattle.cdf_edits.specs.Space.Placing.{Fills, type_of_body}
 use Rattle.cdf_edits.proofs.Edits.AttributeFrame.{AreThere}
-use Rattle.cdf_edits.proofs.Edits.ChainKinds.{chain_has, chain_in}
-use Rattle.cdf_edits.proofs.Edits.ChainOwners.{pushed_trades, rechained, traded}
+use Rattle.cdf_edits.proofs.Edits.ChainKinds.{chain_in}
+use Rattle.cdf_edits.proofs.Edits.ChainOwners.{pushed_trades, rechained}
 use Rattle.cdf_edits.proofs.Edits.ChainSpliced.{Rechains}
 use Rattle.cdf_edits.proofs.Edits.ChainsOfShape.{IsOf, members_are}
-use Rattle.cdf_edits.proofs.Edits.Composing.{edit_then, head_size, head_type}
-use Rattle.cdf_edits.proofs.Edits.FieldWritten.{IsField, written_edit, written_long}
-use Rattle.cdf_edits.proofs.Edits.MadeRecord.{filled_edit, fresh, unowned, made_edit, made_type, made_size, list_chain}
-use Rattle.cdf_edits.proofs.Edits.MarkLemmas.{avoided-avoids, ended-avoids}
-use Rattle.cdf_edits.proofs.Edits.OwnedOnce.{used_times, IsSorted}
-use Rattle.cdf_edits.proofs.Edits.RecordFrame.{part_clear, field_clear, chain_clear, kept_but_link}
-use Rattle.cdf_edits.proofs.Edits.Splice.{parts_there}
-use Rattle.cdf_edits.proofs.Edits.StepEdits.{fixed_long}
+use Rattle.cdf_edits.proofs.Edits.Composing.{edit_then}
+use Rattle.cdf_edits.proofs.Edits.FieldWritten.{IsField, written_edit, written_long, Stands, still_stands, still_says, field_in}
+use Rattle.cdf_edits.proofs.Edits.MadeRecord.{filled_edit, made_type, made_size}
+use Rattle.cdf_edits.proofs.Edits.OwnedOnce.{IsSorted}
+use Rattle.cdf_edits.proofs.Edits.RecordFrame.{chain_clear}
+use Rattle.cdf_edits.proofs.Edits.Splice.{parts_there, adr_stands}
+use Rattle.cdf_edits.proofs.Edits.MadeEntry.{Leaves, the_one, joins, once_owned, in_use}
 
 -- ---- by the kind
 
@@ -74,14 +70,6 @@ count_is entries.Z b adr = (omega arith, refl, refl, refl)
 abbrev pub pushing : List ℕ → EntryKind → ℕ → ℕ → List Mark
 pushing b kind adr place = adding_marks b (entries_chain kind adr) place ++ field_marks adr_type adr (max_field kind)
 
--- what they leave, decided by the types
-pub record Pushes (marks : List Mark) (kind : EntryKind) : Type 0 where
-  pub clear : keeps_but_chain marks kind ≡ true
-  pub gdr_within : within marks gdr_type space_fields ≡ true
-  pub adr_within : within marks adr_type (chain_fields kind) ≡ true
-  pub start : avoided marks (entry_type kind) 0 12 ≡ true
-  pub rest : ended marks (entry_type kind) 20 ≡ true
-
 -- the linking leaves the ADR but for the head and the count, and the greatest number alone is written after that
 max_leaves : (b : List ℕ) (adr place : ℕ) (kind : EntryKind) → (avoided (adding_marks b (entries_chain kind adr) place) adr_type 0 12 ≡ true) × (avoided (field_marks adr_type adr (max_field kind)) (entry_type kind) 0 20 ≡ true) × (avoided (field_marks adr_type adr (max_field kind)) adr_type 0 12 ≡ true)
     × (avoided (field_marks adr_type adr (max_field kind)) adr_type (head_field kind).place ((head_field kind).place + (head_field kind).width) ≡ true)
@@ -103,7 +91,7 @@ first own x ms i sub m (inl q) = subst (λ (y : ℕ). In y own) (sym q) i
 first own x ms i sub m (inr j) = sub m j
 
 module _ (b : List ℕ) (unused : List ℕ) (adr place need : ℕ) where
-  pub pushes : (kind : EntryKind) → Pushes (making_marks unused place need (pushing b kind adr place)) kind
+  pub pushes : (kind : EntryKind) → Leaves (making_marks unused place need (pushing b kind adr place)) kind
   pushes entries.G = record { clear = refl; gdr_within = refl; adr_within = refl; start = refl; rest = refl }
   pushes entries.R = record { clear = refl; gdr_within = refl; adr_within = refl; start = refl; rest = refl }
   pushes entries.Z = record { clear = refl; gdr_within = refl; adr_within = refl; start = refl; rest = refl }
@@ -149,14 +137,8 @@ module _ {b now : List ℕ} {kind : EntryKind} {before : List AttributeShape} {o
   there : AreThere b s.records (own ∷ [])
   there = (parts_there b s sound before (own ∷ []) after p.was).1.0
 
-  adr_in : In own.adr s.records
-  adr_in = linkable-in b s.records adr_type own.adr there.linked.0
-
-  adr_typed : type_at b own.adr ≡ adr_type
-  adr_typed = linkable-type b s.records adr_type own.adr there.linked.0
-
-  adr_long : 324 ≤ size_at b own.adr
-  adr_long = fixed_long b s h adr_type own.adr adr_in adr_typed
+  the_adr : Stands b s.records own.adr adr_type 324
+  the_adr = adr_stands sound before own after p.was
 
   pub members : members_of b (entries_chain kind own.adr) ≡ chain_of own kind
   members = members_are h (of_shape kind s own there.have.0)
@@ -167,32 +149,14 @@ module _ {b now : List ℕ} {kind : EntryKind} {before : List AttributeShape} {o
       × (avoided (field_marks adr_type own.adr (max_field kind)) adr_type (head_field kind).place ((head_field kind).place + (head_field kind).width) ≡ true)
   leaves = max_leaves b own.adr place kind
 
-  first_part : Same b filled (own.adr + 0) (own.adr + 12)
-  first_part = let l = adr_long in part_clear (filled_edit sound fills) own.adr adr_type 0 12 adr_in adr_typed refl refl (omega arith)
+  filled_adr : Stands filled records own.adr adr_type 324
+  filled_adr = still_stands (filled_edit sound fills) the_adr refl (omega arith)
 
-  filled_typed : type_at filled own.adr ≡ adr_type
-  filled_typed = head_type b filled own.adr first_part ∙ adr_typed
-
-  filled_long : 324 ≤ size_at filled own.adr
-  filled_long = subst (λ (n : ℕ). 324 ≤ n) (sym (head_size b filled own.adr first_part)) adr_long
-
-  second_part : Same filled p.mid (own.adr + 0) (own.adr + 12)
-  second_part = let l = filled_long in part_clear p.added.linked own.adr adr_type 0 12 ((filled_edit sound fills).sub own.adr adr_in) filled_typed leaves.0 leaves.0 (omega arith)
-
-  mid_long : 324 ≤ size_at p.mid own.adr
-  mid_long = subst (λ (n : ℕ). 324 ≤ n) (sym (head_size filled p.mid own.adr second_part)) filled_long
+  mid_adr : Stands p.mid records own.adr adr_type 324
+  mid_adr = still_stands p.added.linked filled_adr leaves.0 (omega arith)
 
   pub of_max : IsField p.mid records own.adr adr_type (max_field kind)
-  of_max = record {
-    tiled = p.added.linked.tiled_now;
-    inside = p.added.linked.sub own.adr ((filled_edit sound fills).sub own.adr adr_in);
-    typed = head_type filled p.mid own.adr second_part ∙ filled_typed;
-    fits = through ((max_field kind).place + (max_field kind).width) 324 (size_at p.mid own.adr) (max_lies kind).1 mid_long;
-    late = (max_lies kind).0;
-  }
-    where
-      through : (x y z : ℕ) → x ≤ y → y ≤ z → x ≤ z
-      through x y z l m = omega arith
+  of_max = field_in p.added.linked.tiled_now mid_adr (max_lies kind).0 (max_lies kind).1
 
   max_edit : Edit p.mid now records records (field_marks adr_type own.adr (max_field kind)) []
   max_edit = written_edit p.mid now records own.adr adr_type (max_field kind) p.greatest of_max p.written
@@ -211,11 +175,8 @@ module _ {b now : List ℕ} {kind : EntryKind} {before : List AttributeShape} {o
   abbrev pub marks : List Mark
   marks = making_marks s.unused place need (pushing b kind own.adr place)
 
-  pub tests : Pushes marks kind
+  pub tests : Leaves marks kind
   tests = pushes b s.unused own.adr place need kind
-
-  e : Edit b now s.records records marks (place ∷ [])
-  e = made_edit sound fills later as_long lately
 
   pub new_type : type_at now place ≡ entry_type kind
   new_type = made_type sound fills later as_long lately
@@ -230,58 +191,26 @@ module _ {b now : List ℕ} {kind : EntryKind} {before : List AttributeShape} {o
   chain_now =
       let mid_chain = subst (λ (ms : List ℕ). IsChain p.mid records (entry_type kind) (number p.mid own.adr (head_field kind)) (ms ++ place ∷ [])) members (as_chain kind b p.mid records own.adr (members_of b (entries_chain kind own.adr) ++ place ∷ []) p.added.chain) in
       chain_clear max_edit (entry_type kind) _ _ chain' mid_chain
-      (field_clear max_edit own.adr adr_type (head_field kind) of_max.inside of_max.typed leaves.2 leaves.3 (through ((head_field kind).place + (head_field kind).width) 324 (size_at p.mid own.adr) (head_lies kind) mid_long)) leaves.1
-    where
-      through : (x y z : ℕ) → x ≤ y → y ≤ z → x ≤ z
-      through x y z l m = omega arith
+      (still_says max_edit mid_adr leaves.2 (head_field kind) leaves.3 (head_lies kind)) leaves.1
 
   pub count_now : number now own.adr (count_field kind) ≡ number b own.adr (count_field kind) + 1
   count_now =
       let at = count_is kind b own.adr in
       let field = at.2 in
       let holder = at.3 in
-      field_clear max_edit own.adr adr_type (count_field kind) of_max.inside of_max.typed leaves.2 at.1 (through ((count_field kind).place + (count_field kind).width) 324 (size_at p.mid own.adr) at.0 mid_long)
+      still_says max_edit mid_adr leaves.2 (count_field kind) at.1 at.0
       ∙ (λ i. number p.mid (sym holder i) (sym field i)) ∙ p.added.counted ∙ (λ i. number b (holder i) (field i) + 1)
-    where
-      through : (x y z : ℕ) → x ≤ y → y ≤ z → x ≤ z
-      through x y z l m = omega arith
-
-  only_place : (m : ℕ) → In m (place ∷ []) → m ≡ place
-  only_place m (inl q) = q
-  only_place m (inr none) = absurd none
 
   pub rechains : Rechains b now s records list marks (place ∷ []) kind before own after chain' [] (place ∷ [])
-  rechains = record {
-    edit = e;
-    was = p.was;
-    clear = tests.clear;
-    confined = pushed_confined b s.unused own.adr place need kind (place ∷ attribute_records own) (inl refl) (inr (inl refl)) (λ m i. inr (inr (chain_in kind own m (subst (In m) members i))));
-    fresh = λ m i typed stands. absurd (clash (sym typed ∙ ap (λ (t : ℕ). is_in t attribute_types) (ap (type_at b) (only_place m i) ∙ fresh sound fills (subst (λ (x : ℕ). In x s.records) (only_place m i) stands))));
-    typed = λ m i. subst (λ (x : ℕ). (is_record_type (type_at now x) ≡ true) × (fixed_size (type_at now x) ≤ size_at now x)) (sym (only_place m i))
-        (subst (λ (t : ℕ). (is_record_type t ≡ true) × (fixed_size t ≤ size_at now place)) (sym new_type) (fills.real, subst (λ (n : ℕ). fixed_size (entry_type kind) ≤ n) (sym new_size) fills.fixed));
-    chain_now = chain_now;
-    unused_chain = list_chain sound fills later as_long lately;
-    trades = pushed_trades (chain_of own kind) place;
-    live = λ m i out.
-        let ok = (chain_has kind own there.have.0).linkable m i in
-        kept_but_link e m (entry_type kind) (linkable-in b s.records (entry_type kind) m ok) (linkable-type b s.records (entry_type kind) m ok) (avoided-avoids marks (entry_type kind) m 0 12 tests.start) (ended-avoids marks (entry_type kind) m 20 (size_at b m) tests.rest);
-  }
-    where
-      clash : true ≡ false → ⊥
-      clash q = absurd cc
+  rechains = joins kind before own after sound p.was fills later as_long lately chain' [] (pushed_trades (chain_of own kind) place) tests
+      (pushed_confined b s.unused own.adr place need kind (place ∷ attribute_records own) (inl refl) (inr (inl refl)) (λ m i. inr (inr (chain_in kind own m (subst (In m) members i))))) chain_now
 
   -- it is owned once, and each other record by whom it was
   abbrev pub made : Shape
   made = rechained s records list before own after kind chain' [] (place ∷ []) p.was rechains.trades
 
   pub sorted : (m : ℕ) → In m (place ∷ []) → IsSorted now made m
-  sorted m i = subst (IsSorted now made) (sym (only_place m i)) (inl (
-    (λ u. fills.in_use (sym new_type ∙ u)),
-    once (used_times made place) (used_times s place) (times place (place ∷ [])) (traded s records list before own after kind chain' [] (place ∷ []) p.was rechains.trades place) (unowned sound fills) (rw (eq-eqb place place refl) refl),
-  ))
-    where
-      once : (x y n : ℕ) → x + 0 ≡ y + n → y ≡ 0 → n ≡ 1 → x ≡ 1
-      once x y n p q r = omega arith
+  sorted m i = subst (IsSorted now made) (sym (the_one place m i)) (inl (in_use kind before own after sound p.was fills later as_long lately, once_owned kind before own after sound p.was fills later as_long lately chain' [] rechains.trades (λ none. none)))
 
   pub beside_same : (m : ℕ) → (In m (place ∷ []) → ⊥) → times m [] ≡ times m (place ∷ [])
   beside_same m out = sym (times-none m (place ∷ []) out)

@@ -47,7 +47,7 @@ pub record VariableLives (b now : List ℕ) (v : VariableShape) : Type 0 where
   pub vdr : KeptButLink b now v.vdr
   pub behind : (m : ℕ) → In m (index_records v) → Kept b now m
 
-through : (x y z : ℕ) → x ≤ y → y ≤ z → x ≤ z
+pub through : (x y z : ℕ) → x ≤ y → y ≤ z → x ≤ z
 through x y z p q = omega arith
 
 -- ---- records and chains, whatever else an image has

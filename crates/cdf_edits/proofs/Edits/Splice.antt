@@ -24,7 +24,7 @@ use Rattle.cdf_format.specs.Shape.{AttributeShape, Shape, adrs, vdrs, variables,
 use Rattle.cdf_format.specs.Tiles.{In}
 use Rattle.cdf_format.specs.WellFormed.{Good}
 use Rattle.cdf_edits.proofs.Frame.SameShape.{has_entries, has_variables, same_attributes, same_variables}
-use Rattle.cdf_format.proofs.ChainsLemmas.{is_a-from, is_a-in}
+use Rattle.cdf_format.proofs.ChainsLemmas.{is_a-from, is_a-in, linkable-in, linkable-type}
 use Rattle.cdf_edits.proofs.Rules.FirstRules.{first_phases_stay}
 use Rattle.cdf_format.proofs.GoodImageLemmas.{vdrs_append}
 use Rattle.cdf_edits.proofs.Frame.Meaning.{FileSame, Kept}
@@ -41,8 +41,9 @@ use Rattle.cdf_edits.proofs.Edits.AttributeFrame.{AreThere, all_stay, all_rules,
 use Rattle.cdf_edits.proofs.Edits.FirstRecords.{gdr_still, cdr_still, typed_now, fixed_now, read_now, gdr_room, first_stay}
 use Rattle.cdf_edits.proofs.Edits.RecordFrame.{AttributeLives, VariableLives, chain_stays, gdr_field, gdr_place, file_same, file_stays}
 use Rattle.cdf_edits.proofs.Edits.MarkLemmas.{away-avoids, all_unmarked-away}
-use Rattle.cdf_edits.proofs.Edits.StepEdits.{gdr_in}
+use Rattle.cdf_edits.proofs.Edits.StepEdits.{gdr_in, fixed_long}
 use Rattle.cdf_edits.proofs.Edits.VariableFrame.{all_variables_kept, kept_live, variables_fit, variables_stay, variables_rules, indexes_rules, nums_kept}
+use Rattle.cdf_edits.proofs.Edits.FieldWritten.{Stands}
 
 -- a shape with other records and unused list, and other attributes
 abbrev pub spliced : Shape → List ℕ → List ℕ → List AttributeShape → Shape
@@ -71,6 +72,14 @@ parts_there b s sound before own after was =
   where
     three : (P : AttributeShape → Type 0) → Each P s.attributes → Each P before × (Each P own × Each P after)
     three P e = let p = Each-split P before (own ++ after) (subst (Each P) was e) in (p.0, Each-split P own after p.1)
+
+-- the ADR of one of them
+pub adr_stands : {b : List ℕ} {s : Shape} (sound : IsSound b s) (before : List AttributeShape) (own : AttributeShape) (after : List AttributeShape) → s.attributes ≡ before ++ own ∷ after → Stands b s.records own.adr adr_type 324
+adr_stands {b = b} {s = s} sound before own after was =
+    let ok = (parts_there b s sound before (own ∷ []) after was).1.0.linked.0 in
+    let inside = linkable-in b s.records adr_type own.adr ok in
+    let typed = linkable-type b s.records adr_type own.adr ok in
+    record { inside = inside; typed = typed; long = fixed_long b s sound.has_shape adr_type own.adr inside typed }
 
 module _ {b now : List ℕ} {s : Shape} {new list : List ℕ} {marks : List Mark} {reborn : List ℕ} {before own own' after : List AttributeShape} (sound : IsSound b s) (splices : Splices b now s new list marks reborn before own own' after) where
   h : HasShape b s
