@@ -29,6 +29,7 @@ pub mod MarkLemmas
 pub mod MovedEntry
 pub mod MovedFreed
 pub mod NumberedItems
+pub mod OneChain
 pub mod OneSpliced
 pub mod OwnedOnce
 pub mod OwnersKept

@@ -21,6 +21,7 @@ use Rattle.cdf_edits.proofs.Space.ActsLeave.{each, places-sized, used_says, used
 use Rattle.cdf_edits.proofs.Space.UsedRecords.{apart}
 use Rattle.cdf_edits.proofs.Edits.FreedRecords.{MayFree, still_free, sizes_stay}
 use Rattle.cdf_edits.specs.Space.Freeing.{AllGiven}
+use Rattle.cdf_edits.proofs.Edits.MarkLemmas.{the_one}
 
 pub each_in : (P : ℕ → Type 0) (xs : List ℕ) (m : ℕ) → Each P xs → In m xs → P m
 each_in P [] m h i = absurd i
@@ -92,12 +93,8 @@ module _ {b mid now : List ℕ} {acts : List Act} {place : ℕ} (was : HasShape 
   pub given_type : type_at now place ≡ uir_type
   given_type = is_a-type now (shape now).records uir_type place gives.stands
 
-  only : (m : ℕ) → In m (place ∷ []) → m ≡ place
-  only m (inl q) = q
-  only m (inr none) = absurd none
-
   other_type : (m : ℕ) → In m (shape mid).records → m ≢ place → type_at now m ≡ type_at mid m
-  other_type m i ne = elim (given_edit.kind m i) [ inl j ↦ j.1 | inr j ↦ elim j [ inl new ↦ absurd (new.0 i) | inr r ↦ absurd (ne (only m r)) ] ]
+  other_type m i ne = elim (given_edit.kind m i) [ inl j ↦ j.1 | inr j ↦ elim j [ inl new ↦ absurd (new.0 i) | inr r ↦ absurd (ne (the_one place m r)) ] ]
 
   avoids : (lo hi : ℕ) → (hi ≤ 20) ⊎ (28 ≤ lo) → (m : ℕ) → Avoids (giving_marks (shape mid).unused (type_at mid place) place size) uir_type m lo hi
   avoids lo hi beside m = ((λ q lies. absurd (apart uir_type gdr_type refl q)), ((λ q lies. elim beside [ inl x ↦ inl x | inr x ↦ inr x ]), ((λ q lies. absurd (used (sym q))), tt)))

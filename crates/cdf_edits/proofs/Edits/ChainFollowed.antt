@@ -89,6 +89,11 @@ module _ (b now : List ℕ) (kind : EntryKind) (own : AttributeShape) (num : ℕ
 
 -- ---- the greatest numbers
 
+pub greatest_integer : (kind : EntryKind) (b now : List ℕ) (adr : ℕ) → number now adr (max_field kind) ≡ number b adr (max_field kind) → integer4 now adr (max_field kind) ≡ integer4 b adr (max_field kind)
+greatest_integer entries.G b now adr e = ap (cast_signed w32) e
+greatest_integer entries.R b now adr e = ap (cast_signed w32) e
+greatest_integer entries.Z b now adr e = ap (cast_signed w32) e
+
 other_integer : (kind : EntryKind) (b now : List ℕ) (adr : ℕ) → number now adr (other_max kind) ≡ number b adr (other_max kind) → integer4 now adr (other_max kind) ≡ integer4 b adr (other_max kind)
 other_integer entries.G b now adr e = ap (cast_signed w32) e
 other_integer entries.R b now adr e = ap (cast_signed w32) e

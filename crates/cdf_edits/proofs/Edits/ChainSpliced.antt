@@ -23,7 +23,7 @@ use Rattle.cdf_format.specs.Tiles.{In}
 use Rattle.cdf_format.specs.Bytes.{Same}
 use Rattle.cdf_format.proofs.BytesLemmas.{word_kept, piece_kept}
 use Rattle.cdf_format.proofs.ChainsLemmas.{linkable-in, linkable-type}
-use Rattle.cdf_format.proofs.Members.{In-append, In-append_left, In-append_right}
+use Rattle.cdf_format.proofs.Members.{In-append}
 use Rattle.cdf_format.proofs.NameRules.{AreNew, names_at, names_differ, differ_by_names}
 use Rattle.cdf_format.proofs.RowLemmas.{Hold-append, Hold-split, flat_map-append}
 use Rattle.cdf_format.proofs.ShapeLemmas.{shape_is}
@@ -38,7 +38,7 @@ use Rattle.cdf_edits.proofs.Edits.ChainEntries.{EntryLives, entry_lives}
 use Rattle.cdf_edits.proofs.Edits.ChainOwners.{Trades, rechained, traded, IsHeld, not_twice_kept}
 use Rattle.cdf_edits.proofs.Edits.MarkLemmas.{avoided-avoids, Avoids-part, confined-away}
 use Rattle.cdf_edits.proofs.Edits.OneSpliced.{content_replaced, counted, names_now, names_before}
-use Rattle.cdf_edits.proofs.Edits.OwnedOnce.{used_times, IsSorted, all_attributes_in, flat-append, only_owns, owned_once_if}
+use Rattle.cdf_edits.proofs.Edits.OwnedOnce.{used_times, IsSorted, only_owns, owned_once_if, front_in, back_in}
 use Rattle.cdf_edits.proofs.Edits.RecordFrame.{kept, chain_kept, chain_clear, gdr_field, file_same}
 use Rattle.cdf_edits.proofs.Edits.Splice.{Splices, OwnRules, parts_there, shape_now, sound_if}
 use Rattle.cdf_edits.proofs.Edits.StepEdits.{fixed_long}
@@ -161,17 +161,11 @@ module _ {b now : List ℕ} {s : Shape} {new list : List ℕ} {marks : List Mark
       let typed = attribute_typed b s.records as_ t m i in
       confined-away marks attribute_types (reborn ++ attribute_records own) (type_at b m) m r.confined typed (λ j. out m i (elim (In-append m reborn (attribute_records own) j) [ inl k ↦ r.fresh m k typed (sub m i) | inr k ↦ k ]))
 
-  parts_in : (m : ℕ) → In m (flat_map attribute_records before ++ (attribute_records own ++ flat_map attribute_records after)) → In m s.records
-  parts_in m i = all_attributes_in sound m (subst (λ (as_ : List AttributeShape). In m (flat_map attribute_records as_)) (sym r.was) (subst (In m) (sym (flat-append attribute_records before (own ∷ after))) i))
-
   pub before_in : (m : ℕ) → In m (flat_map attribute_records before) → In m s.records
-  before_in m i = parts_in m (In-append_left m (flat_map attribute_records before) (attribute_records own ++ flat_map attribute_records after) i)
-
-  pub own_in : (m : ℕ) → In m (attribute_records own) → In m s.records
-  own_in m i = parts_in m (In-append_right m (flat_map attribute_records before) (attribute_records own ++ flat_map attribute_records after) (In-append_left m (attribute_records own) (flat_map attribute_records after) i))
+  before_in = front_in b s sound before own after r.was
 
   pub after_in : (m : ℕ) → In m (flat_map attribute_records after) → In m s.records
-  after_in m i = parts_in m (In-append_right m (flat_map attribute_records before) (attribute_records own ++ flat_map attribute_records after) (In-append_right m (attribute_records own) (flat_map attribute_records after) i))
+  after_in = back_in b s sound before own after r.was
 
   pub before_away : (m : ℕ) → In m (flat_map attribute_records before) → Away marks (type_at b m) m
   before_away = beside before there.0 (λ m i j. (only_owns b s sound before own after r.was m j).in_before i) before_in

@@ -33,14 +33,15 @@ use Rattle.cdf_edits.proofs.Edits.EditActs.{acts_none}
 use Rattle.cdf_edits.proofs.Edits.FreedBytes.{IsLeft, all_left, all_unused, freed_stay, free_used}
 use Rattle.cdf_edits.proofs.Edits.FreedRecords.{MayFree, sizes_by_tiles, all_given_edit}
 use Rattle.cdf_edits.proofs.Edits.ActsThen.{gave-same, all_gave}
-use Rattle.cdf_edits.proofs.Edits.OwnedOnce.{only_owns}
+use Rattle.cdf_edits.proofs.Edits.OwnedOnce.{only_owns, own_in}
 use Rattle.cdf_edits.proofs.Edits.RecordFrame.{field_avoids, field_clear, gdr_field}
 use Rattle.cdf_edits.proofs.Edits.RemovedAttribute.{without_one, SaysRemoved, content_removed, removed_good}
-use Rattle.cdf_edits.proofs.Edits.RemovedLives.{entries_in, adrs_in, adrs_owned, entries_owned, AreNumbered, Removes, adr_avoids, gr_avoids, z_avoids}
+use Rattle.cdf_edits.proofs.Edits.RemovedLives.{entries_in, adrs_in, adrs_owned, entries_owned, AreNumbered, Removes, adr_avoids, entry_avoids, entry_in, entry_long}
 use Rattle.cdf_edits.proofs.Edits.Splice.{parts_there}
 use Rattle.cdf_edits.proofs.Edits.StepEdits.{gdr_in, gdr_typed, gdr_long, fixed_long}
-use Rattle.cdf_edits.proofs.Edits.UnlinkedAttribute.{unlinked_edit, unlinks_removes, as_long, counted_now, numbered_now, types_stay, left_shape, unlinked_sound, unlinked_shape, own_in, own_free, own_once}
+use Rattle.cdf_edits.proofs.Edits.UnlinkedAttribute.{unlinked_edit, unlinks_removes, as_long, counted_now, numbered_now, types_stay, left_shape, unlinked_sound, unlinked_shape, own_free, own_once}
 use Rattle.cdf_edits.proofs.Rules.WithoutLinks.{eof_by_rules}
+use Rattle.cdf_edits.proofs.Edits.ChainKinds.{attribute_typed}
 
 module _ {b now : List ℕ} {n : ℕ} (good : Good b) (d : Deletes b now n) where
   abbrev s : Shape
@@ -75,16 +76,12 @@ module _ {b now : List ℕ} {n : ℕ} (good : Good b) (d : Deletes b now n) wher
   own_there = (parts_there b s sound d.before (d.own ∷ []) d.after d.unlinks.was).1.0
 
   own_typed : (m : ℕ) → In m (attribute_records d.own) → is_in (type_at b m) attribute_types ≡ true
-  own_typed m (inl e) = ap (λ (x : ℕ). is_in (type_at b x) attribute_types) e ∙ ap (λ (t : ℕ). is_in t attribute_types) (linkable-type b s.records adr_type d.own.adr own_there.linked.0)
-  own_typed m (inr i) = elim (In-append m d.own.gr_entries d.own.z_entries i) [
-    | inl j ↦ ap (λ (t : ℕ). is_in t attribute_types) (linkable-type b s.records agr_edr_type m (own_there.have.0.gr_chain.linkable m j))
-    | inr j ↦ ap (λ (t : ℕ). is_in t attribute_types) (linkable-type b s.records az_edr_type m (own_there.have.0.z_chain.linkable m j))
-  ]
+  own_typed m i = attribute_typed b s.records (d.own ∷ []) own_there m (In-append_left m (attribute_records d.own) [] i)
 
   may_free : MayFree mid attribute_types places
   may_free = record {
     stand = free.stand;
-    typed = λ m i. ap (λ (t : ℕ). is_in t attribute_types) (types_stay sound d.unlinks m (own_in sound d.unlinks m (mine m i))) ∙ own_typed m (mine m i);
+    typed = λ m i. ap (λ (t : ℕ). is_in t attribute_types) (types_stay sound d.unlinks m (own_in b s sound d.before d.own d.after d.unlinks.was m (mine m i))) ∙ own_typed m (mine m i);
     used = free_used mid places free;
     once = free.once;
   }
@@ -183,7 +180,7 @@ module _ {b now : List ℕ} {n : ℕ} (good : Good b) (d : Deletes b now n) wher
 
   sizes_before : (m : ℕ) → In m places → size_at mid m ≡ size_at b m
   sizes_before m i =
-      let inside = own_in sound d.unlinks m (mine m i) in
+      let inside = own_in b s sound d.before d.own d.after d.unlinks.was m (mine m i) in
       head_size b mid m ((unlinked_edit sound d.unlinks).head m inside (λ t. free_used mid places free m i (types_stay sound d.unlinks m inside ∙ t)) (λ r. r))
 
   pub acts_after : ActsFollow b now (gave b places)
@@ -223,18 +220,10 @@ module _ {b now : List ℕ} {n : ℕ} (good : Good b) (d : Deletes b now n) wher
           subst (λ (x : ℕ). Same b mid (x + links_end (size_at b x)) (x + size_at b x)) (sym e) (subst (λ (k : ℕ). Same b mid (a + k) (a + size_at b a)) (sym (long_enough (size_at b a) long)) here)
       own_behind m (inr i) =
           let out : In m (entries_in d.after) → ⊥ = λ j. (only_owns b s sound d.before d.own d.after d.unlinks.was m (inr i)).in_after (entries_owned d.after m j) in
-          elim (In-append m d.own.gr_entries d.own.z_entries i) [
-            | inl j ↦
-                let ok = own_there.have.0.gr_chain.linkable m j in
-                let long = linkable-long b s.records agr_edr_type m ok in
-                subst (λ (k : ℕ). Same b mid (m + k) (m + size_at b m)) (sym (long_enough (size_at b m) long))
-                (r.edit.part m agr_edr_type 28 (size_at b m) (linkable-in b s.records agr_edr_type m ok) (linkable-type b s.records agr_edr_type m ok) (gr_avoids sound r m 0 12 (none m) (λ x. inl (omega arith))) (gr_avoids sound r m 28 (size_at b m) (none m) (λ x. absurd (out x))) (omega arith))
-            | inr j ↦
-                let ok = own_there.have.0.z_chain.linkable m j in
-                let long = linkable-long b s.records az_edr_type m ok in
-                subst (λ (k : ℕ). Same b mid (m + k) (m + size_at b m)) (sym (long_enough (size_at b m) long))
-                (r.edit.part m az_edr_type 28 (size_at b m) (linkable-in b s.records az_edr_type m ok) (linkable-type b s.records az_edr_type m ok) (z_avoids sound r m 0 12 (none m) (λ x. inl (omega arith))) (z_avoids sound r m 28 (size_at b m) (none m) (λ x. absurd (out x))) (omega arith))
-          ]
+          let long = entry_long sound r d.own [] own_there m i in
+          let heads = entry_avoids sound r d.own [] own_there m 0 12 i (none m) (λ x. inl (omega arith)) in
+          subst (λ (k : ℕ). Same b mid (m + k) (m + size_at b m)) (sym (long_enough (size_at b m) long))
+          (r.edit.part m (type_at b m) 28 (size_at b m) (entry_in sound r d.own [] own_there m i) refl heads (entry_avoids sound r d.own [] own_there m 28 (size_at b m) i (none m) (λ x. absurd (out x))) (omega arith))
 
   pub freed_after : FreedStay b now no_fields (gave b places)
-  freed_after = freed_stay b now (gave b places) places no_fields left.sound.has_shape.tiled (λ m i. subst (In m) (sym records_are) (own_in sound d.unlinks m (mine m i))) (λ m i. sizes_after m (own_in sound d.unlinks m (mine m i))) behind
+  freed_after = freed_stay b now (gave b places) places no_fields left.sound.has_shape.tiled (λ m i. subst (In m) (sym records_are) (own_in b s sound d.before d.own d.after d.unlinks.was m (mine m i))) (λ m i. sizes_after m (own_in b s sound d.before d.own d.after d.unlinks.was m (mine m i))) behind

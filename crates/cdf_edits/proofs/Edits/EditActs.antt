@@ -22,7 +22,7 @@ use Rattle.cdf_edits.proofs.Edits.Composing.{head_size, head_type}
 use Rattle.cdf_edits.proofs.Edits.RecordFrame.{kept}
 use Rattle.cdf_edits.proofs.Edits.MadeRecord.{fresh, made_edit, made_type, made_size, filled_sound, listed, loose_away, made_new, rest_stays}
 use Rattle.cdf_edits.specs.Space.Placing.{Fills}
-use Rattle.cdf_edits.proofs.Edits.MarkLemmas.{away-avoids}
+use Rattle.cdf_edits.proofs.Edits.MarkLemmas.{away-avoids, the_one}
 
 differs : (t : ℕ) → (t == uir_type) ≡ false → t ≢ uir_type
 differs t e q = no (t == uir_type) (eq-eqb t uir_type q) e
@@ -83,12 +83,8 @@ module _ {b taken filled now records list : List ℕ} {need place type : ℕ} (s
   now_type : type_at now place ≢ uir_type
   now_type e = fills.in_use (sym (made_type sound fills later as_long lately) ∙ e)
 
-  only : (m : ℕ) → In m (place ∷ []) → m ≡ place
-  only m (inl e) = e
-  only m (inr none) = absurd none
-
   stands_still : (m : ℕ) → In m s.records → type_at b m ≢ uir_type → Same b now (m + 0) (m + 12)
-  stands_still m i other = (made_edit sound fills later as_long lately).head m i other (λ r. other (subst (λ (x : ℕ). type_at b x ≡ uir_type) (sym (only m r)) (fresh sound fills (subst (λ (x : ℕ). In x s.records) (only m r) i))))
+  stands_still m i other = (made_edit sound fills later as_long lately).head m i other (λ r. other (subst (λ (x : ℕ). type_at b x ≡ uir_type) (sym (the_one place m r)) (fresh sound fills (subst (λ (x : ℕ). In x s.records) (the_one place m r) i))))
 
   used_among : (m : ℕ) → In m (used_records now) → Among (m, size_at now m) ((place, need) ∷ sized b (used_records b))
   used_among m i =
@@ -99,7 +95,7 @@ module _ {b taken filled now records list : List ℕ} {need place type : ℕ} (s
             inr (among_sized b (used_records b) m (size_at now m) (used_if b m old.0 other) (head_size b now m (stands_still m old.0 other)))
         | inr new ↦ elim new [
           | inl free ↦ absurd (u.1 free.1)
-          | inr again ↦ inl (ap₂ (λ (x n : ℕ). (x, n)) (only m again) (ap (size_at now) (only m again) ∙ made_size sound fills later as_long lately))
+          | inr again ↦ inl (ap₂ (λ (x n : ℕ). (x, n)) (the_one place m again) (ap (size_at now) (the_one place m again) ∙ made_size sound fills later as_long lately))
         ]
       ]
 

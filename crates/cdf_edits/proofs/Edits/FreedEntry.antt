@@ -28,7 +28,7 @@ use Rattle.cdf_edits.proofs.Edits.ChainKinds.{chain_has, chain_in}
 use Rattle.cdf_edits.proofs.Edits.ChainOwners.{rechained, gone_unowned}
 use Rattle.cdf_edits.proofs.Edits.ChainSpliced.{Rechains, adr_in, adr_typed, adr_start, there, now_is}
 use Rattle.cdf_edits.proofs.Edits.Composing.{edit_then, head_size, head_type, same-then, sizes}
-use Rattle.cdf_edits.proofs.Edits.MarkLemmas.{Avoids-append, Within-append, Away-append, away-avoids}
+use Rattle.cdf_edits.proofs.Edits.MarkLemmas.{Avoids-append, Within-append, Away-append, away-avoids, the_one}
 use Rattle.cdf_edits.proofs.Edits.OwnedOnce.{used_times, IsSorted}
 use Rattle.cdf_edits.proofs.Edits.OwnersKept.{keep_unused}
 use Rattle.cdf_edits.proofs.Edits.RecordFrame.{field_clear, chain_stays, kept_away}
@@ -141,15 +141,11 @@ module _ {b late now : List ℕ} {records list : List ℕ} {marks : List Mark} {
   abbrev pub all_marks : List Mark
   all_marks = marks ++ given_marks
 
-  only_old : (m : ℕ) → In m (old ∷ []) → m ≡ old
-  only_old m (inl q) = q
-  only_old m (inr none) = absurd none
-
   same_sizes : (m : ℕ) → In m records → size_at now m ≡ size_at late m
   same_sizes m i = sizes late now records (giving made.gdr list old size) given_marks (old ∷ []) h_late.tiled gives.length_is gives.changed (all_marked late now made (shape now) old (entry_type kind) h_late old_in old_typed gives) m i
 
   pub same_types : (m : ℕ) → In m records → m ≢ old → type_at now m ≡ type_at late m
-  same_types m i ne = elim (given.kind m i) [ inl j ↦ j.1 | inr j ↦ elim j [ inl new ↦ absurd (new.0 i) | inr x ↦ absurd (ne (only_old m x)) ] ]
+  same_types m i ne = elim (given.kind m i) [ inl j ↦ j.1 | inr j ↦ elim j [ inl new ↦ absurd (new.0 i) | inr x ↦ absurd (ne (the_one old m x)) ] ]
 
   pub freed_type : type_at now old ≡ uir_type
   freed_type = is_a-type now (shape now).records uir_type old gives.stands
@@ -200,7 +196,7 @@ module _ {b late now : List ℕ} {records list : List ℕ} {marks : List Mark} {
         (give_confined kind list old size ((reborn ++ old ∷ []) ++ attribute_records own) (In-append_right old (reborn ++ old ∷ []) (attribute_records own) (inr (chain_in kind own old f.member))));
     fresh = λ m i typed stands. elim (In-append m reborn (old ∷ []) i) [
       | inl j ↦ r.fresh m j typed stands
-      | inr j ↦ subst (λ (x : ℕ). In x (attribute_records own)) (sym (only_old m j)) (inr (chain_in kind own old f.member))
+      | inr j ↦ subst (λ (x : ℕ). In x (attribute_records own)) (sym (the_one old m j)) (inr (chain_in kind own old f.member))
     ];
     typed = λ m i. elim (In-append m reborn (old ∷ []) i) [
       | inl j ↦
@@ -208,7 +204,7 @@ module _ {b late now : List ℕ} {records list : List ℕ} {marks : List Mark} {
           let ne : m ≢ old = λ q. f.out (subst (λ (x : ℕ). In x reborn) q j) in
           let t = r.typed m j in
           (subst (λ (x : ℕ). is_record_type x ≡ true) (sym (same_types m is ne)) t.0, subst (λ (x : ℕ). fixed_size x ≤ size_at now m) (sym (same_types m is ne)) (subst (λ (n : ℕ). fixed_size (type_at late m) ≤ n) (sym (same_sizes m is)) t.1))
-      | inr j ↦ subst (λ (x : ℕ). (is_record_type (type_at now x) ≡ true) × (fixed_size (type_at now x) ≤ size_at now x)) (sym (only_old m j))
+      | inr j ↦ subst (λ (x : ℕ). (is_record_type (type_at now x) ≡ true) × (fixed_size (type_at now x) ≤ size_at now x)) (sym (the_one old m j))
           (subst (λ (t : ℕ). (is_record_type t ≡ true) × (fixed_size t ≤ size_at now old)) (sym freed_type) (refl, (tile_lies now 8 (length now) records old given.tiled_now old_in).long))
     ];
     chain_now = chain_stays given (entry_type kind) _ _ chain' r.chain_now (adr_field (head_field kind) g.head g.head_fits) (λ m i. away-avoids given_marks (entry_type kind) m 0 20 (entry_away m (f.others m i)));
@@ -234,7 +230,7 @@ module _ {b late now : List ℕ} {records list : List ℕ} {marks : List Mark} {
   pub freed_sorted : ((m : ℕ) → In m reborn → (type_at late m ≢ uir_type) × (used_times made m ≡ 1)) → (m : ℕ) → In m (reborn ++ old ∷ []) → IsSorted now (rechained s records (shape now).unused before own after kind chain' (old ∷ []) come f.rechains.was f.rechains.trades) m
   freed_sorted sorted m i = elim (In-append m reborn (old ∷ []) i) [
     | inl j ↦ let ne : m ≢ old = λ q. f.out (subst (λ (x : ℕ). In x reborn) q j) in inl ((λ u. (sorted m j).0 (sym (same_types m (f.reborn_in m j) ne) ∙ u)), (sorted m j).1)
-    | inr j ↦ subst (IsSorted now (rechained s records (shape now).unused before own after kind chain' (old ∷ []) come f.rechains.was f.rechains.trades)) (sym (only_old m j)) (inr (freed_type, unowned_now))
+    | inr j ↦ subst (IsSorted now (rechained s records (shape now).unused before own after kind chain' (old ∷ []) come f.rechains.was f.rechains.trades)) (sym (the_one old m j)) (inr (freed_type, unowned_now))
   ]
 
   -- ---- the acts, and what the freed one keeps
@@ -246,9 +242,9 @@ module _ {b late now : List ℕ} {records list : List ℕ} {marks : List Mark} {
   -- behind the links its bytes stay
   pub freed_bytes : (acts : List Act) → 28 ≤ size_at b old → GivenStay b now no_fields acts (gave b (old ∷ []))
   freed_bytes acts long = freed_stay b now acts (old ∷ []) no_fields (subst (AreTiles now 8 (length now)) (sym records_now) given.tiled_now)
-      (λ m i. subst (λ (x : ℕ). In x (shape now).records) (sym (only_old m i)) (subst (In old) (sym records_now) old_in))
-      (λ m i. subst (λ (x : ℕ). size_at now x ≡ size_at b x) (sym (only_old m i)) (same_sizes old old_in ∙ old_size))
-      (λ m i. subst (λ (x : ℕ). Same b now (x + links_end (size_at b x)) (x + size_at b x)) (sym (only_old m i)) (rw (le-leb 28 (size_at b old) long) stays))
+      (λ m i. subst (λ (x : ℕ). In x (shape now).records) (sym (the_one old m i)) (subst (In old) (sym records_now) old_in))
+      (λ m i. subst (λ (x : ℕ). size_at now x ≡ size_at b x) (sym (the_one old m i)) (same_sizes old old_in ∙ old_size))
+      (λ m i. subst (λ (x : ℕ). Same b now (x + links_end (size_at b x)) (x + size_at b x)) (sym (the_one old m i)) (rw (le-leb 28 (size_at b old) long) stays))
     where
       stays : Same b now (old + 28) (old + size_at b old)
       stays =

@@ -1,6 +1,8 @@
 -- An entry that is made, in whatever way it is linked: the chain of the attribute that it joins, and who owns it.
-use Rattle.std.proofs.Common.{◌≡◌, ◌≢◌, ℕ, ◌+◌, ◌≤◌, List, [], ◌∷◌, ◌++◌, length, eq-eqb, true, true≢false, refl, sym, ap, subst, ◌∙◌, arith, inl, inr}
+use Rattle.std.proofs.Common.{◌≡◌, ◌≢◌, ℕ, ◌+◌, ◌≤◌, List, [], ◌∷◌, ◌++◌, length, eq-eqb, true, true≢false, refl, sym, ap, subst, ◌∙◌, arith}
 use Rattle.cdf_model.specs.declared.kinds.EntryKind.{EntryKind}
+use Rattle.cdf_model.specs.declared.kinds.EntryKind.TheVariants as entries
+use Rattle.cdf_format.specs.NotRead.{read_types}
 use Rattle.cdf_format.specs.Chains.{IsChain, is_in}
 use Rattle.cdf_format.specs.Fields.{number, size_at, type_at}
 use Rattle.cdf_format.specs.Owners.{attribute_records, times}
@@ -20,7 +22,7 @@ use Rattle.cdf_edits.proofs.Edits.ChainKinds.{chain_has}
 use Rattle.cdf_edits.proofs.Edits.ChainOwners.{Trades, rechained, traded}
 use Rattle.cdf_edits.proofs.Edits.ChainSpliced.{Rechains}
 use Rattle.cdf_edits.proofs.Edits.MadeRecord.{fresh, unowned, made_edit, made_type, made_size, list_chain}
-use Rattle.cdf_edits.proofs.Edits.MarkLemmas.{avoided-avoids, ended-avoids}
+use Rattle.cdf_edits.proofs.Edits.MarkLemmas.{avoided-avoids, ended-avoids, the_one}
 use Rattle.cdf_edits.proofs.Edits.OwnedOnce.{used_times}
 use Rattle.cdf_edits.proofs.Edits.RecordFrame.{kept_but_link}
 use Rattle.cdf_edits.proofs.Edits.Splice.{parts_there}
@@ -33,9 +35,10 @@ pub record Leaves (marks : List Mark) (kind : EntryKind) : Type 0 where
   pub start : avoided marks (entry_type kind) 0 12 ≡ true
   pub rest : ended marks (entry_type kind) 20 ≡ true
 
-pub the_one : (x m : ℕ) → In m (x ∷ []) → m ≡ x
-the_one x m (inl q) = q
-the_one x m (inr none) = absurd none
+pub entry_is_read : (kind : EntryKind) → is_in (entry_type kind) read_types ≡ true
+entry_is_read entries.G = refl
+entry_is_read entries.R = refl
+entry_is_read entries.Z = refl
 
 module _ {b taken filled now : List ℕ} (kind : EntryKind) (before : List AttributeShape) (own : AttributeShape) (after : List AttributeShape) {records list : List ℕ} {need place : ℕ} {late : List Mark} (sound : IsSound b (shape b)) (was : (shape b).attributes ≡ before ++ own ∷ after) (fills : Fills b taken filled (shape b) records list need place (entry_type kind))
     (later : Edit filled now records records late []) (as_long : length now ≡ length filled) (lately : is_late late (entry_type kind) ≡ true) where

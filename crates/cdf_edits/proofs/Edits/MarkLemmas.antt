@@ -13,6 +13,10 @@ use Rattle.cdf_format.proofs.Tests.{both}
 use Rattle.cdf_edits.specs.Edits.Marks.{Lies, Mark, Avoids, Away, Within, Confined, has_mark, avoided, ended, unmarked, all_unmarked, within, Covered, Marked}
 use Rattle.cdf_format.proofs.Members.{either}
 
+pub the_one : (x m : ℕ) → In m (x ∷ []) → m ≡ x
+the_one x m (inl q) = q
+the_one x m (inr none) = absurd none
+
 pub or_cases : (p q : Bool) → (p || q) ≡ true → (p ≡ true) ⊎ (q ≡ true)
 or_cases true q e = inl refl
 or_cases false q e = inr e

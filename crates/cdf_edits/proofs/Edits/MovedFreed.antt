@@ -22,7 +22,7 @@ use Rattle.cdf_edits.proofs.Edits.ChainOwners.{IsHeld, rechained, gone_free}
 use Rattle.cdf_edits.proofs.Edits.ChainSpliced.{entry_stays, sound_rechained, there}
 use Rattle.cdf_edits.proofs.Edits.FreedEntry.{Frees}
 use Rattle.cdf_edits.proofs.Edits.MadeRecord.{place_in}
-use Rattle.cdf_edits.proofs.Edits.MarkLemmas.{avoided-avoids, ended-avoids}
+use Rattle.cdf_edits.proofs.Edits.MarkLemmas.{avoided-avoids, ended-avoids, the_one}
 use Rattle.cdf_edits.proofs.Edits.MovedEntry.{LinksEntry, moving, fills, by_not_old, new_records, new_list, made_marks, made, made_rechains, late_is, tests, later, as_long, lately}
 use Rattle.cdf_edits.proofs.Edits.OwnedOnce.{used_times}
 use Rattle.cdf_edits.proofs.Edits.RecordFrame.{kept_but_link}
@@ -89,6 +89,9 @@ module _ {b late : List ℕ} {kind : EntryKind} {before : List AttributeShape} {
 
   pub by_used : type_at late by ≢ uir_type
   by_used = in_use kind before own after sound q.places.was (fills sound q.places) (later sound q) (as_long sound q) (lately sound q)
+
+  pub moved_sorted : (m : ℕ) → In m (by ∷ []) → (type_at late m ≢ uir_type) × (used_times now_shape m ≡ 1)
+  moved_sorted m i = subst (λ (x : ℕ). (type_at late x ≢ uir_type) × (used_times now_shape x ≡ 1)) (sym (the_one by m i)) (by_used, by_once)
 
   held : (m : ℕ) → In m (by ∷ []) → IsHeld late now_shape m
   held m (inl x) = subst (IsHeld late now_shape) (sym x) (inl (by_used, most (used_times now_shape by) by_once))

@@ -10,9 +10,9 @@ use Rattle.cdf_format.specs.RecordTypes.{adr_type, uir_type}
 use Rattle.cdf_format.specs.Shape.{AttributeShape, Shape, HasShape}
 use Rattle.cdf_format.specs.Tiles.{In, AreTiles}
 use Rattle.cdf_format.proofs.ChainsLemmas.{linkable-in}
-use Rattle.cdf_format.proofs.Members.{either, true-is_in, false-is_in}
+use Rattle.cdf_format.proofs.Members.{either, true-is_in, false-is_in, In-append_right, In-append_left}
 use Rattle.cdf_edits.proofs.Frame.OwnersApart.{times-append, times-in, owned-times, file_records, all_attribute_records, all_variable_records, unused_from_file, unused_from_attributes, unused_from_variables, file_in}
-use Rattle.cdf_format.proofs.Owning.{times-none, times-once, tiles_distinct, attributes_in, filter-in}
+use Rattle.cdf_format.proofs.Owning.{times-none, times-once, tiles_distinct, attributes_in}
 use Rattle.cdf_edits.proofs.Space.UsedRecords.{filter-keeps, filter-says, filter-distinct}
 use Rattle.cdf_edits.specs.Edits.Marks.{Mark}
 use Rattle.cdf_edits.specs.Edits.Edit.{Edit}
@@ -101,24 +101,37 @@ owned_once_if b now s s' marks reborn sound once e same sorted m i = once_by_sor
       ]
 ])
 
-le_once : (f a v u : ℕ) → f + (a + v) ≡ 0 → u ≡ 0 → f + (a + (v + u)) ≤ 1
-le_once f a v u p q = omega arith
-
--- so none is owned twice, even where an old image was no more than sound
-pub not_twice_if : (now : List ℕ) (s : Shape) → AreTiles now 8 (length now) s.records → ((m : ℕ) → In m s.records → IsSorted now s m) → ((m : ℕ) → (In m s.records → ⊥) → used_times s m ≡ 0) → (m : ℕ) → times m (owned_records now s) ≤ 1
-not_twice_if now s tiled sorted outside m = elim (either (is_in m s.records)) [
-  | inl x ↦ let i = true-is_in m s.records x in let once = once_by_sorting now s tiled m i (sorted m i) in omega arith
-  | inr x ↦
-      let out = false-is_in m s.records x in
-      let none = times-none m (unused_records now s) (λ j. out (filter-in (λ (p : ℕ). eqb (type_at now p) uir_type) s.records m j)) in
-      subst (λ (n : ℕ). n ≤ 1) (sym (owned-times now s m)) (le_once (times m (file_records s)) (times m (all_attribute_records s)) (times m (all_variable_records s)) (times m (unused_records now s)) (outside m out) none)
-]
-
 -- ---- the records of one attribute
 
 pub flat-append : {A : Type 0} (f : A → List ℕ) (xs ys : List A) → flat_map f (xs ++ ys) ≡ flat_map f xs ++ flat_map f ys
 flat-append f [] ys = refl
 flat-append f (x ∷ xs) ys = ap (λ (r : List ℕ). f x ++ r) (flat-append f xs ys) ∙ sym (append_assoc (f x) (flat_map f xs) (flat_map f ys))
+
+-- how often a record is one of attributes, by their parts: of all of them once at most
+module _ (b : List ℕ) (s : Shape) (sound : IsSound b s) (before : List AttributeShape) (own : AttributeShape) (after : List AttributeShape) (was : s.attributes ≡ before ++ own ∷ after) where
+  pub parts_times : (m : ℕ) → times m (all_attribute_records s) ≡ times m (flat_map attribute_records before) + (times m (attribute_records own) + times m (flat_map attribute_records after))
+  parts_times m =
+      let xs = flat_map attribute_records before in
+      let ys = flat_map attribute_records after in
+      ap (λ (as_ : List AttributeShape). times m (flat_map attribute_records as_)) was ∙ ap (times m) (flat-append attribute_records before (own ∷ after)) ∙ times-append m xs (attribute_records own ++ ys) ∙ ap (λ (n : ℕ). times m xs + n) (times-append m (attribute_records own) ys)
+
+  pub parts_once : (m : ℕ) → times m (flat_map attribute_records before) + (times m (attribute_records own) + times m (flat_map attribute_records after)) ≤ 1
+  parts_once m = once (times m (file_records s)) (times m (all_attribute_records s)) (times m (all_variable_records s)) (times m (unused_records b s)) (times m (owned_records b s)) _ (sound.not_twice m) (owned-times b s m) (parts_times m)
+    where
+      once : (f a v u n p : ℕ) → n ≤ 1 → n ≡ f + (a + (v + u)) → a ≡ p → p ≤ 1
+      once f a v u n p l q r = omega arith
+
+  part_in : (m : ℕ) → In m (flat_map attribute_records before ++ (attribute_records own ++ flat_map attribute_records after)) → In m s.records
+  part_in m i = all_attributes_in sound m (subst (λ (as_ : List AttributeShape). In m (flat_map attribute_records as_)) (sym was) (subst (In m) (sym (flat-append attribute_records before (own ∷ after))) i))
+
+  pub front_in : (m : ℕ) → In m (flat_map attribute_records before) → In m s.records
+  front_in m i = part_in m (In-append_left m (flat_map attribute_records before) (attribute_records own ++ flat_map attribute_records after) i)
+
+  pub own_in : (m : ℕ) → In m (attribute_records own) → In m s.records
+  own_in m i = part_in m (In-append_right m (flat_map attribute_records before) (attribute_records own ++ flat_map attribute_records after) (In-append_left m (attribute_records own) (flat_map attribute_records after) i))
+
+  pub back_in : (m : ℕ) → In m (flat_map attribute_records after) → In m s.records
+  back_in m i = part_in m (In-append_right m (flat_map attribute_records before) (attribute_records own ++ flat_map attribute_records after) (In-append_right m (attribute_records own) (flat_map attribute_records after) i))
 
 -- a record of an attribute is no record of another owner
 pub record OnlyOwns (b : List ℕ) (s : Shape) (before : List AttributeShape) (after : List AttributeShape) (m : ℕ) : Type 0 where
@@ -141,10 +154,8 @@ pub only_owns : (b : List ℕ) (s : Shape) → IsSound b s → (before : List At
 only_owns b s sound before own after all m i =
     let xs = flat_map attribute_records before in
     let ys = flat_map attribute_records after in
-    let parts : times m (all_attribute_records s) ≡ times m xs + (times m (attribute_records own) + times m ys) =
-    ap (λ (as_ : List AttributeShape). times m (flat_map attribute_records as_)) all ∙ ap (times m) (flat-append attribute_records before (own ∷ after)) ∙ times-append m xs (attribute_records own ++ ys) ∙ ap (λ (n : ℕ). times m xs + n) (times-append m (attribute_records own) ys) in
     let none = none_other (times m (file_records s)) (times m xs) (times m (attribute_records own)) (times m ys) (times m (all_variable_records s)) (times m (unused_records b s)) (times m (all_attribute_records s)) (times m (owned_records b s))
-    (sound.not_twice m) (owned-times b s m) parts (times-in m (attribute_records own) i) in
+    (sound.not_twice m) (owned-times b s m) (parts_times b s sound before own after all m) (times-in m (attribute_records own) i) in
     record { in_file = none-out m (file_records s) none.0; in_before = none-out m xs none.1; in_after = none-out m ys none.2; in_variables = none-out m (all_variable_records s) none.3; in_unused = none-out m (unused_records b s) none.4 }
 
 -- its ADR is none of its entries
@@ -152,16 +163,11 @@ pub adr_no_entry : (b : List ℕ) (s : Shape) → IsSound b s → (before : List
 adr_no_entry b s sound before own after all i =
     let m = own.adr in
     let es = own.gr_entries ++ own.z_entries in
-    let xs = flat_map attribute_records before in
-    let ys = flat_map attribute_records after in
-    let parts : times m (all_attribute_records s) ≡ times m xs + (times m (attribute_records own) + times m ys) =
-    ap (λ (as_ : List AttributeShape). times m (flat_map attribute_records as_)) all ∙ ap (times m) (flat-append attribute_records before (own ∷ after)) ∙ times-append m xs (attribute_records own ++ ys) ∙ ap (λ (n : ℕ). times m xs + n) (times-append m (attribute_records own) ys) in
     let self : times m (attribute_records own) ≡ suc (times m es) = rw (eq-eqb m m refl) refl in
-    twice (times m (file_records s)) (times m xs) (times m (attribute_records own)) (times m ys) (times m (all_variable_records s)) (times m (unused_records b s)) (times m (all_attribute_records s)) (times m (owned_records b s)) (times m es)
-    (sound.not_twice m) (owned-times b s m) parts self (times-in m es i)
+    twice (times m (flat_map attribute_records before)) (times m (attribute_records own)) (times m (flat_map attribute_records after)) (times m es) (parts_once b s sound before own after all m) self (times-in m es i)
   where
-    twice : (f x o y v u a n e : ℕ) → n ≤ 1 → n ≡ f + (a + (v + u)) → a ≡ x + (o + y) → o ≡ suc e → 1 ≤ e → ⊥
-    twice f x o y v u a n e l p q r t = omega arith
+    twice : (x o y e : ℕ) → x + (o + y) ≤ 1 → o ≡ suc e → 1 ≤ e → ⊥
+    twice x o y e l p q = omega arith
 
 -- ---- the attributes are spliced
 
@@ -176,29 +182,3 @@ spliced_times s records list before own own' after was m k l same =
   where
     sums : (f v x y o o' a a' k l : ℕ) → a ≡ x + (o + y) → a' ≡ x + (o' + y) → o' + l ≡ o + k → f + (a' + v) + l ≡ f + (a + v) + k
     sums f v x y o o' a a' k l p q r = omega arith
-
-no_more_used : (n n' o u k : ℕ) → n + u ≤ 1 → n' + o ≡ n + 0 → 1 ≤ o → k ≡ n' → k ≡ 0
-no_more_used n n' o u k l p q r = omega arith
-
-regrouped : (f a v u : ℕ) → f + (a + (v + u)) ≡ f + (a + v) + u
-regrouped f a v u = omega arith
-
--- a record that some attributes had, and that they have no more, has no owner
-pub left_unowned : (b now : List ℕ) (s : Shape) (records list : List ℕ) (before own own' after : List AttributeShape) → IsSound b s → s.attributes ≡ before ++ (own ++ after) → (old : ℕ) → In old (flat_map attribute_records own) → (In old (flat_map attribute_records own') → ⊥) → type_at now old ≢ uir_type
-    → times old (owned_records now (record s { records = records; attributes = before ++ (own' ++ after); unused = list })) ≡ 0
-left_unowned b now s records list before own own' after sound was old i out used =
-    let s' : Shape = record s { records = records; attributes = before ++ (own' ++ after); unused = list } in
-    let o = times old (flat_map attribute_records own) in
-    let own_now : times old (flat_map attribute_records own') ≡ 0 = times-none old (flat_map attribute_records own') out in
-    let unused_now : times old (unused_records now s') ≡ 0 = times-none old (unused_records now s') (λ j. used (eqb-true _ _ (filter-says (λ (p : ℕ). eqb (type_at now p) uir_type) records old j))) in
-    let once : used_times s old + times old (unused_records b s) ≤ 1 = subst (λ (n : ℕ). n ≤ 1) (owned-times b s old ∙ regrouped (times old (file_records s)) (times old (all_attribute_records s)) (times old (all_variable_records s)) (times old (unused_records b s))) (sound.not_twice old) in
-    let count : used_times s' old + o ≡ used_times s old + 0 = spliced_times s records list before own own' after was old 0 o (same (times old (flat_map attribute_records own')) o own_now) in
-    let all : times old (owned_records now s') ≡ used_times s' old =
-    owned-times now s' old ∙ regrouped (times old (file_records s')) (times old (all_attribute_records s')) (times old (all_variable_records s')) (times old (unused_records now s')) ∙ ap (λ (n : ℕ). used_times s' old + n) unused_now ∙ plus_0 (used_times s' old) in
-    no_more_used (used_times s old) (used_times s' old) o (times old (unused_records b s)) (times old (owned_records now s')) once count (times-in old (flat_map attribute_records own) i) all
-  where
-    same : (n o : ℕ) → n ≡ 0 → n + o ≡ o + 0
-    same n o e = omega arith
-
-    plus_0 : (n : ℕ) → n + 0 ≡ n
-    plus_0 n = omega arith

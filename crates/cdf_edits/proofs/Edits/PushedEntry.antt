@@ -28,7 +28,8 @@ use Rattle.cdf_edits.proofs.Edits.MadeRecord.{filled_edit, made_type, made_size}
 use Rattle.cdf_edits.proofs.Edits.OwnedOnce.{IsSorted}
 use Rattle.cdf_edits.proofs.Edits.RecordFrame.{chain_clear}
 use Rattle.cdf_edits.proofs.Edits.Splice.{parts_there, adr_stands}
-use Rattle.cdf_edits.proofs.Edits.MadeEntry.{Leaves, the_one, joins, once_owned, in_use}
+use Rattle.cdf_edits.proofs.Edits.MadeEntry.{Leaves, joins, once_owned, in_use}
+use Rattle.cdf_edits.proofs.Edits.MarkLemmas.{the_one}
 
 -- ---- by the kind
 

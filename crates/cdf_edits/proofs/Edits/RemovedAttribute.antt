@@ -22,7 +22,7 @@ use Rattle.cdf_format.specs.Shape.{AttributeShape, Shape, adrs, vdrs, Each, HasE
 use Rattle.cdf_format.specs.Sound.{IsSound}
 use Rattle.cdf_format.specs.Tiles.{In}
 use Rattle.cdf_format.specs.WellFormed.{Good}
-use Rattle.cdf_format.proofs.Members.{In-append, In-append_left, In-append_right}
+use Rattle.cdf_format.proofs.Members.{In-append, In-append_left}
 use Rattle.cdf_format.proofs.NameRules.{AreNew, absent-split, absent-append, names_at, names_differ, differ_by_names}
 use Rattle.cdf_format.proofs.Owning.{times-none}
 use Rattle.cdf_format.proofs.RowLemmas.{Hold-split, flat_map-append}
@@ -32,7 +32,7 @@ use Rattle.cdf_edits.specs.Edits.ManyMarks.{deleting_marks}
 use Rattle.cdf_edits.specs.Edits.Marks.{Mark}
 use Rattle.cdf_edits.proofs.Edits.AttributeFrame.{AreThere, names_stay, nums_stay}
 use Rattle.cdf_edits.specs.Frame.Leaves.{AttributeStays}
-use Rattle.cdf_edits.proofs.Edits.OwnedOnce.{used_times, all_attributes_in, flat-append, owned_once_if, spliced_times}
+use Rattle.cdf_edits.proofs.Edits.OwnedOnce.{used_times, owned_once_if, spliced_times, own_in}
 use Rattle.cdf_edits.proofs.Edits.RecordFrame.{file_same, gdr_place}
 use Rattle.cdf_edits.proofs.Edits.RemovedLives.{entries_in, adrs_in, AreNumbered, Removes, before_lives, after_numbered}
 use Rattle.cdf_edits.proofs.Edits.Renumbered.{AttributeNumbered, all_numbered_stay, all_numbered_fit, all_numbered_rules, numbered_names}
@@ -117,7 +117,7 @@ module _ {b now : List ℕ} {s : Shape} {before : List AttributeShape} {own : At
       after_live = tt;
       typed = λ m i.
           let t = says.freed m i in
-          let inside = r.edit.sub m (mine_in m i) in
+          let inside = r.edit.sub m (own_in b s sound before own after r.was m (r.mine m i)) in
           let long = (tile_lies now 8 (length now) s.records m r.edit.tiled_now inside).long in
           (subst (λ (x : ℕ). is_record_type x ≡ true) (sym t) refl, subst (λ (x : ℕ). fixed_size x ≤ size_at now m) (sym t) long);
       attribute_chain = subst (λ (as_ : List AttributeShape). IsChain now s.records adr_type (number now s.gdr gdr_adr_head) (adrs_in (before ++ as_))) (sym (append-nil after)) says.attribute_chain;
@@ -128,10 +128,6 @@ module _ {b now : List ℕ} {s : Shape} {before : List AttributeShape} {own : At
         entries_have : (as_ : List AttributeShape) → Each (AttributeStays b now s.records) as_ → Each (HasEntries now s.records) as_
         entries_have [] e = tt
         entries_have (a ∷ as_) e = (e.0.0, entries_have as_ e.1)
-
-        mine_in : (m : ℕ) → In m places → In m s.records
-        mine_in m i = all_attributes_in sound m (subst (λ (as_ : List AttributeShape). In m (flat_map attribute_records as_)) (sym r.was) (subst (In m) (sym (flat-append attribute_records before (own ∷ after)))
-            (In-append_right m (flat_map attribute_records before) (attribute_records own ++ flat_map attribute_records after) (In-append_left m (attribute_records own) (flat_map attribute_records after) (r.mine m i)))))
 
     pub shape_removed : HasShape now (without_one list)
     shape_removed = subst (λ (as_ : List AttributeShape). HasShape now (spliced s s.records list (before ++ as_))) (append-nil after) (shape_now sound splices)

@@ -1,8 +1,8 @@
 -- Where one attribute goes, those before it stay, and those behind it stay but for their number.
-use Rattle.std.proofs.Common.{◌≡◌, ◌⊎◌, ℕ, suc, ◌+◌, ◌≤◌, List, [], ◌∷◌, ◌++◌, length, map, refl, sym, ap, subst, ◌∙◌, arith, inl, inr}
+use Rattle.std.proofs.Common.{◌≡◌, ◌⊎◌, ℕ, suc, ◌+◌, ◌≤◌, List, [], ◌∷◌, ◌++◌, length, map, refl, sym, subst, ◌∙◌, arith, inl, inr}
 use Rattle.std.specs.List.{flat_map}
 use Rattle.cdf_format.specs.Fields.{number, size_at, type_at}
-use Rattle.cdf_format.specs.Owners.{attribute_records, times, owned_records, unused_records}
+use Rattle.cdf_format.specs.Owners.{attribute_records, times}
 use Rattle.cdf_format.specs.Records.{adr_num, aedr_attr_num}
 use Rattle.cdf_format.specs.RecordTypes.{adr_type, agr_edr_type, az_edr_type}
 use Rattle.cdf_format.specs.Shape.{AttributeShape, Shape, Each}
@@ -15,14 +15,14 @@ use Rattle.cdf_edits.specs.Edits.Edit.{Edit}
 use Rattle.cdf_edits.specs.Edits.ManyMarks.{deleting_marks}
 use Rattle.cdf_edits.specs.Edits.Marks.{Mark, Avoids}
 use Rattle.cdf_edits.proofs.Edits.AttributeFrame.{AreThere, more_there}
-use Rattle.cdf_edits.proofs.Edits.OwnedOnce.{flat-append, only_owns}
+use Rattle.cdf_edits.proofs.Edits.OwnedOnce.{only_owns, parts_once}
 use Rattle.cdf_edits.proofs.Edits.RecordFrame.{AttributeLives, kept_but_link}
 use Rattle.cdf_edits.proofs.Edits.Renumbered.{AttributeNumbered, EntryNumbered}
 use Rattle.cdf_edits.proofs.Edits.Splice.{parts_there}
 use Rattle.cdf_edits.proofs.Edits.StepEdits.{fixed_long}
 use Rattle.cdf_edits.proofs.Frame.Meaning.{Kept}
 use Rattle.cdf_format.proofs.BytesLemmas.{Same-part}
-use Rattle.cdf_edits.proofs.Frame.OwnersApart.{times-append, times-in, owned-times, file_records, all_attribute_records, all_variable_records}
+use Rattle.cdf_edits.proofs.Frame.OwnersApart.{times-in}
 use Rattle.cdf_edits.proofs.Edits.MarkLemmas.{avoids-of_type}
 
 -- where the entries of attributes stand
@@ -54,13 +54,10 @@ pub sides_apart : (b : List ℕ) (s : Shape) → IsSound b s → (before : List 
 sides_apart b s sound before own after was m i j =
     let xs = flat_map attribute_records before in
     let ys = flat_map attribute_records after in
-    let parts : times m (all_attribute_records s) ≡ times m xs + (times m (attribute_records own) + times m ys) =
-    ap (λ (as_ : List AttributeShape). times m (flat_map attribute_records as_)) was ∙ ap (times m) (flat-append attribute_records before (own ∷ after)) ∙ times-append m xs (attribute_records own ++ ys) ∙ ap (λ (n : ℕ). times m xs + n) (times-append m (attribute_records own) ys) in
-    twice (times m (file_records s)) (times m xs) (times m (attribute_records own)) (times m ys) (times m (all_variable_records s)) (times m (unused_records b s)) (times m (all_attribute_records s)) (times m (owned_records b s))
-    (sound.not_twice m) (owned-times b s m) parts (times-in m xs i) (times-in m ys j)
+    twice (times m xs) (times m (attribute_records own)) (times m ys) (parts_once b s sound before own after was m) (times-in m xs i) (times-in m ys j)
   where
-    twice : (f x o y v u a n : ℕ) → n ≤ 1 → n ≡ f + (a + (v + u)) → a ≡ x + (o + y) → 1 ≤ x → 1 ≤ y → ⊥
-    twice f x o y v u a n l p q r t = omega arith
+    twice : (x o y : ℕ) → x + (o + y) ≤ 1 → 1 ≤ x → 1 ≤ y → ⊥
+    twice x o y l p q = omega arith
 
 -- an edit that takes one attribute away, numbers those behind it and frees records of it
 pub record Removes (b now : List ℕ) (s : Shape) (before : List AttributeShape) (own : AttributeShape) (after : List AttributeShape) (places : List ℕ) (limit : ℕ) : Type 0 where
@@ -93,13 +90,13 @@ module _ {b now : List ℕ} {s : Shape} {before : List AttributeShape} {own : At
     | inr j ↦ subst (λ (t : ℕ). Avoids marks t m lo hi) (sym (linkable-type b s.records az_edr_type m (there.have.0.z_chain.linkable m j))) (z_avoids m lo hi out num)
   ]
 
-  entry_in : (a : AttributeShape) (as_ : List AttributeShape) → AreThere b s.records (a ∷ as_) → (m : ℕ) → In m (a.gr_entries ++ a.z_entries) → In m s.records
+  pub entry_in : (a : AttributeShape) (as_ : List AttributeShape) → AreThere b s.records (a ∷ as_) → (m : ℕ) → In m (a.gr_entries ++ a.z_entries) → In m s.records
   entry_in a as_ there m i = elim (In-append m a.gr_entries a.z_entries i) [
     | inl j ↦ linkable-in b s.records agr_edr_type m (there.have.0.gr_chain.linkable m j)
     | inr j ↦ linkable-in b s.records az_edr_type m (there.have.0.z_chain.linkable m j)
   ]
 
-  entry_long : (a : AttributeShape) (as_ : List AttributeShape) → AreThere b s.records (a ∷ as_) → (m : ℕ) → In m (a.gr_entries ++ a.z_entries) → 28 ≤ size_at b m
+  pub entry_long : (a : AttributeShape) (as_ : List AttributeShape) → AreThere b s.records (a ∷ as_) → (m : ℕ) → In m (a.gr_entries ++ a.z_entries) → 28 ≤ size_at b m
   entry_long a as_ there m i = elim (In-append m a.gr_entries a.z_entries i) [
     | inl j ↦ linkable-long b s.records agr_edr_type m (there.have.0.gr_chain.linkable m j)
     | inr j ↦ linkable-long b s.records az_edr_type m (there.have.0.z_chain.linkable m j)

@@ -30,14 +30,14 @@ use Rattle.cdf_edits.proofs.Edits.ChainsOfShape.{IsOf, remove_changed, left_chai
 use Rattle.cdf_edits.proofs.Edits.Composing.{head_size, head_type, edit_then}
 use Rattle.cdf_edits.proofs.Edits.FreedRecords.{edit_under}
 use Rattle.cdf_edits.proofs.Edits.MarkLemmas.{Avoids-split}
-use Rattle.cdf_edits.proofs.Edits.OwnedOnce.{used_times, only_owns, all_attributes_in, flat-append}
+use Rattle.cdf_edits.proofs.Edits.OwnedOnce.{used_times, only_owns, flat-append, parts_once, own_in}
 use Rattle.cdf_edits.proofs.Edits.RecordFrame.{chain_clear, field_clear, part_clear, gdr_place}
 use Rattle.cdf_edits.proofs.Edits.RemovedAttribute.{SaysRemoved, without_one, fewer, used_once, none_left, removed_sound}
 use Rattle.cdf_edits.proofs.Edits.RemovedLives.{entries_in, adrs_in, AreNumbered, Removes}
 use Rattle.cdf_edits.proofs.Edits.Splice.{parts_there}
 use Rattle.cdf_edits.proofs.Edits.StepEdits.{Linked, gdr_in, gdr_typed, gdr_long, some_bytes, fixed_long, remove_edit}
 use Rattle.cdf_edits.proofs.Edits.WrittenFields.{MayWrite, written_tiles, may_after, write_lies, write_edit, writes_edit, writes_say}
-use Rattle.cdf_edits.proofs.Frame.OwnersApart.{times-append, times-in, owned-times, file_records, all_attribute_records, all_variable_records, file_from_attributes}
+use Rattle.cdf_edits.proofs.Frame.OwnersApart.{times-in, owned-times, file_records, all_attribute_records, all_variable_records, file_from_attributes}
 use Rattle.cdf_fields.proofs.Writes.{length-with_field}
 use Rattle.cdf_format.specs.Bytes.{Same}
 
@@ -208,23 +208,15 @@ module _ {b mid : List ℕ} {s : Shape} {before : List AttributeShape} {own : At
   -- what the image says
   once_each : Distinct (written_tiles writes)
   once_each = (
-    (λ i. file_from_attributes b s sound s.gdr (in_all s.gdr (subst (In s.gdr) (tiles_written (length before) after) i)) (inr (inl refl))),
-    subst Distinct (sym (tiles_written (length before) after)) (distinct_if (flat_map attribute_records after) (λ m. back_once m)),
+    (λ i. (only_gdr (subst (In s.gdr) (tiles_written (length before) after) i))),
+    subst Distinct (sym (tiles_written (length before) after)) (distinct_if (flat_map attribute_records after) (λ m. back (times m (flat_map attribute_records before)) (times m (attribute_records own)) (times m (flat_map attribute_records after)) (parts_once b s sound before own after u.was m))),
   )
     where
-      in_all : (m : ℕ) → In m (flat_map attribute_records after) → In m (all_attribute_records s)
-      in_all m i = subst (λ (as_ : List AttributeShape). In m (flat_map attribute_records as_)) (sym u.was) (subst (In m) (sym (flat-append attribute_records before (own ∷ after))) (In-append_right m (flat_map attribute_records before) (attribute_records own ++ flat_map attribute_records after) (In-append_right m (attribute_records own) (flat_map attribute_records after) i)))
+      only_gdr : In s.gdr (flat_map attribute_records after) → ⊥
+      only_gdr i = file_from_attributes b s sound s.gdr (subst (λ (as_ : List AttributeShape). In s.gdr (flat_map attribute_records as_)) (sym u.was) (subst (In s.gdr) (sym (flat-append attribute_records before (own ∷ after))) (In-append_right s.gdr (flat_map attribute_records before) (attribute_records own ++ flat_map attribute_records after) (In-append_right s.gdr (attribute_records own) (flat_map attribute_records after) i)))) (inr (inl refl))
 
-      part : (n f a v r x o y : ℕ) → n ≤ 1 → n ≡ f + (a + (v + r)) → a ≡ x + (o + y) → y ≤ 1
-      part n f a v r x o y l p q = omega arith
-
-      back_once : (m : ℕ) → times m (flat_map attribute_records after) ≤ 1
-      back_once m =
-          let xs = flat_map attribute_records before in
-          let ys = flat_map attribute_records after in
-          let parts : times m (all_attribute_records s) ≡ times m xs + (times m (attribute_records own) + times m ys) =
-          ap (λ (as_ : List AttributeShape). times m (flat_map attribute_records as_)) u.was ∙ ap (times m) (flat-append attribute_records before (own ∷ after)) ∙ times-append m xs (attribute_records own ++ ys) ∙ ap (λ (n : ℕ). times m xs + n) (times-append m (attribute_records own) ys) in
-          part (times m (owned_records b s)) (times m (file_records s)) (times m (all_attribute_records s)) (times m (all_variable_records s)) (times m (unused_records b s)) (times m xs) (times m (attribute_records own)) (times m ys) (sound.not_twice m) (owned-times b s m) parts
+      back : (x o y : ℕ) → x + (o + y) ≤ 1 → y ≤ 1
+      back x o y l = omega arith
 
   said : Each (λ (w : Write). number mid w.tile w.f ≡ w.to) writes
   said = subst (λ (x : List ℕ). Each (λ (w : Write). number x w.tile w.f ≡ w.to) writes) (sym u.written)
@@ -294,15 +286,12 @@ module _ {b mid : List ℕ} {s : Shape} {before : List AttributeShape} {own : At
   pub unlinked_shape : shape mid ≡ left_shape
   unlinked_shape = shape_is mid left_shape unlinked_sound.has_shape
 
-  pub own_in : (m : ℕ) → In m (attribute_records own) → In m s.records
-  own_in m i = all_attributes_in sound m (subst (λ (as_ : List AttributeShape). In m (flat_map attribute_records as_)) (sym u.was) (subst (In m) (sym (flat-append attribute_records before (own ∷ after))) (In-append_right m (flat_map attribute_records before) (attribute_records own ++ flat_map attribute_records after) (In-append_left m (attribute_records own) (flat_map attribute_records after) i))))
-
   -- its records can be freed, in any order in which none stands twice
   pub own_free : (places : List ℕ) → ((m : ℕ) → In m places → In m (attribute_records own)) → Distinct places → AreFree mid places
   own_free places mine once = record {
-    stand = λ m i. subst (λ (x : Shape). In m x.records) (sym unlinked_shape) (own_in m (mine m i));
+    stand = λ m i. subst (λ (x : Shape). In m x.records) (sym unlinked_shape) (own_in b s sound before own after u.was m (mine m i));
     unowned = λ m i.
-        let used : type_at mid m ≢ uir_type = λ t. used_own m (mine m i) (sym (types_stay m (own_in m (mine m i))) ∙ t) in
+        let used : type_at mid m ≢ uir_type = λ t. used_own m (mine m i) (sym (types_stay m (own_in b s sound before own after u.was m (mine m i))) ∙ t) in
         let none = times-none m (unused_records mid left_shape) (λ j. used (eqb-true (type_at mid m) uir_type (filter-says (λ (p : ℕ). type_at mid p == uir_type) s.records m j))) in
         subst (λ (x : Shape). times m (owned_records mid x) ≡ 0) (sym unlinked_shape)
         (gone (times m (owned_records mid left_shape)) (times m (file_records left_shape)) (times m (all_attribute_records left_shape)) (times m (all_variable_records left_shape)) (times m (unused_records mid left_shape)) (owned-times mid left_shape m) (none_left sound (unlinks_removes 0) (unlinks_says 0) m (mine m i)) none);
@@ -313,16 +302,11 @@ module _ {b mid : List ℕ} {s : Shape} {before : List AttributeShape} {own : At
       gone n f a v r p q e = omega arith
 
       used_own : (m : ℕ) → In m (attribute_records own) → type_at b m ≢ uir_type
-      used_own m i t = (only_owns b s sound before own after u.was m i).in_unused (filter-keeps (λ (p : ℕ). type_at b p == uir_type) s.records m (own_in m i) (eq-eqb (type_at b m) uir_type t))
+      used_own m i t = (only_owns b s sound before own after u.was m i).in_unused (filter-keeps (λ (p : ℕ). type_at b p == uir_type) s.records m (own_in b s sound before own after u.was m i) (eq-eqb (type_at b m) uir_type t))
 
   -- and none of them stands twice
   pub own_once : Distinct (attribute_records own)
-  own_once = distinct_if (attribute_records own) (λ m.
-      let xs = flat_map attribute_records before in
-      let ys = flat_map attribute_records after in
-      let parts : times m (all_attribute_records s) ≡ times m xs + (times m (attribute_records own) + times m ys) =
-      ap (λ (as_ : List AttributeShape). times m (flat_map attribute_records as_)) u.was ∙ ap (times m) (flat-append attribute_records before (own ∷ after)) ∙ times-append m xs (attribute_records own ++ ys) ∙ ap (λ (n : ℕ). times m xs + n) (times-append m (attribute_records own) ys) in
-      part (times m (owned_records b s)) (times m (file_records s)) (times m (all_attribute_records s)) (times m (all_variable_records s)) (times m (unused_records b s)) (times m xs) (times m (attribute_records own)) (times m ys) (sound.not_twice m) (owned-times b s m) parts)
+  own_once = distinct_if (attribute_records own) (λ m. mid_once (times m (flat_map attribute_records before)) (times m (attribute_records own)) (times m (flat_map attribute_records after)) (parts_once b s sound before own after u.was m))
     where
-      part : (n f a v r x o y : ℕ) → n ≤ 1 → n ≡ f + (a + (v + r)) → a ≡ x + (o + y) → o ≤ 1
-      part n f a v r x o y l p q = omega arith
+      mid_once : (x o y : ℕ) → x + (o + y) ≤ 1 → o ≤ 1
+      mid_once x o y l = omega arith

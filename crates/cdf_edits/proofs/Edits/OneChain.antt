@@ -1,0 +1,147 @@
+-- What an image comes to in which one chain of entries of an attribute is another, for a command on an entry of a number.
+use Rattle.std.proofs.Common.{◌≡◌, ◌≤◌, ◌+◌, ℕ, List, [], ◌∷◌, length, map, true, false, true≢false, Some, refl, sym, ap, subst, ◌∙◌, eq-eqb, ◌++◌, arith}
+use Rattle.std.specs.List.{flat_map, slice_get, sum}
+use Rattle.cdf_model.specs.declared.answer.Reply.TheVariants.{Plain}
+use Rattle.cdf_model.specs.declared.command.Command.{Command}
+use Rattle.cdf_model.specs.declared.kinds.EntryKind.{EntryKind}
+use Rattle.cdf_model.specs.declared.kinds.EntryKind.TheVariants as entries
+use Rattle.cdf_model.specs.Answers.{Go}
+use Rattle.cdf_model.specs.AttributeSteps.{entries_of, with_attribute, with_entries}
+use Rattle.cdf_model.specs.DataSet.{Attribute, DataSet, Entry}
+use Rattle.cdf_model.specs.Limits.{image_limit}
+use Rattle.cdf_model.specs.Names.{attribute_named}
+use Rattle.cdf_model.specs.Step.{ByStep, step}
+use Rattle.cdf_format.specs.AttributeRules.{entry_rows, same_number, entries_rows}
+use Rattle.cdf_format.specs.ChainRules.{differ_rows}
+use Rattle.cdf_format.specs.Chains.{is_in}
+use Rattle.cdf_format.specs.Content.{content, attribute_of, entries_of as chain_items}
+use Rattle.cdf_format.specs.Fields.{number, integer4, type_at, eof}
+use Rattle.cdf_format.specs.NotRead.{read_types}
+use Rattle.cdf_format.specs.Owners.{Unused, owned_by, times, unused_records, owned}
+use Rattle.cdf_format.specs.Records.{aedr_num}
+use Rattle.cdf_format.specs.RecordTypes.{gdr_type, adr_type}
+use Rattle.cdf_format.specs.Rules.{Hold}
+use Rattle.cdf_format.specs.Shape.{AttributeShape, Shape, shape}
+use Rattle.cdf_format.specs.Sound.{IsSound}
+use Rattle.cdf_format.specs.Tiles.{In, Distinct}
+use Rattle.cdf_format.specs.WellFormed.{Good}
+use Rattle.cdf_format.proofs.GoodSound.{good_by_its_shape, rules_of_good, good_is_sound}
+use Rattle.cdf_format.proofs.RowLemmas.{Hold-append, Hold-members, Hold-split, Hold-member}
+use Rattle.cdf_format.proofs.SealedRules.{good_long, sealed_kept}
+use Rattle.cdf_edits.specs.Commands.Allowances.{Allowances, AllKeep, space_fields}
+use Rattle.cdf_edits.specs.Commands.Does.{Does}
+use Rattle.cdf_edits.specs.Commands.Entries.{ChainFollows, chain_after, entry_changes}
+use Rattle.cdf_edits.specs.Commands.EntryChains.{chain_of, chain_fields, entry_at, max_field, greatest_number}
+use Rattle.cdf_edits.specs.Commands.Keeps.{allowances}
+use Rattle.cdf_edits.specs.Commands.Named.{OfAttribute}
+use Rattle.cdf_edits.specs.Commands.Room.{room}
+use Rattle.cdf_edits.specs.Edits.EntryMarks.{count_field, with_chain}
+use Rattle.cdf_edits.specs.Edits.Marks.{Mark, within}
+use Rattle.cdf_edits.specs.Follows.{Follows, only_reads}
+use Rattle.cdf_edits.specs.Space.Acts.{Act, ActsFollow, taken}
+use Rattle.cdf_edits.proofs.Edits.ChainEntries.{nums, differ_by_nums, nums_differ, entry_rules_live}
+use Rattle.cdf_edits.proofs.Edits.ChainFollowed.{of_attribute, is_named, greatest_follow}
+use Rattle.cdf_edits.proofs.Edits.ChainKept.{entry_keeps}
+use Rattle.cdf_edits.proofs.Edits.ChainSpliced.{Rechains, made, splices, now_is, other_max_same, attribute_now, content_rechained, rules_rechained, chain_rules_before, there, num_same, entry_stays}
+use Rattle.cdf_edits.proofs.Edits.OwnedOnce.{IsSorted}
+use Rattle.cdf_edits.proofs.Edits.Splice.{good_image_if}
+use Rattle.cdf_format.proofs.Tests.{eq_of}
+use Rattle.cdf_edits.proofs.Edits.ChainKinds.{chain_has}
+use Rattle.cdf_edits.proofs.Rules.WithoutLinks.{eof_by_rules}
+
+-- the entries of a kind are those of its chain
+pub items_of : (b : List ℕ) (own : AttributeShape) (kind : EntryKind) → entries_of (attribute_of b own) kind ≡ chain_items b (chain_of own kind)
+items_of b own entries.G = refl
+items_of b own entries.R = refl
+items_of b own entries.Z = refl
+
+items_with : (a : Attribute) (kind : EntryKind) (items : List (ℕ × Entry)) → entries_of (with_entries a kind items) kind ≡ items
+items_with a entries.G items = refl
+items_with a entries.R items = refl
+items_with a entries.Z items = refl
+
+got_middle : (xs : List AttributeShape) (x : AttributeShape) (ys : List AttributeShape) → slice_get (xs ++ x ∷ ys) (length xs) ≡ Some x
+got_middle [] x ys = refl
+got_middle (y ∷ xs) x ys = got_middle xs x ys
+
+-- a good image ends where the GDR says
+pub end_before : (b : List ℕ) → Good b → eof b (shape b).gdr ≡ length b
+end_before b good = eof_by_rules b (shape b) (good_is_sound b good) (sealed_kept b (good_long b (shape b) (good_by_its_shape b good)) (rules_of_good b good)).0
+
+module _ {b now new list : List ℕ} {marks : List Mark} {reborn : List ℕ} {kind : EntryKind} {before : List AttributeShape} {own : AttributeShape} {after : List AttributeShape} {chain' gone come : List ℕ} (sound : IsSound b (shape b)) (r : Rechains b now (shape b) new list marks reborn kind before own after chain' gone come) where
+  -- what the chain was
+  module _ (good : Good b) where
+    rules_before : Hold (entries_rows b own.adr (count_field kind) (chain_of own kind))
+    rules_before = chain_rules_before sound r (good_by_its_shape b good)
+
+    parts_before : Hold (flat_map (entry_rows b own.adr) (chain_of own kind)) × Hold (differ_rows 7 (same_number b) [] (chain_of own kind))
+    parts_before = Hold-split (flat_map (entry_rows b own.adr) (chain_of own kind)) (differ_rows 7 (same_number b) [] (chain_of own kind)) rules_before.1
+
+    pub counted_before : number b own.adr (count_field kind) ≡ length (chain_of own kind)
+    counted_before = eq_of _ _ rules_before.0
+
+    pub differ_before : Distinct (nums b (chain_of own kind))
+    differ_before = nums_differ b (chain_of own kind) parts_before.1
+
+    pub once_before : Distinct (chain_of own kind)
+    once_before = (chain_has kind own (there sound r).1.0.have.0).once
+
+    -- a member that stays keeps its rules
+    pub rules_live : (m : ℕ) → In m (chain_of own kind) → (In m gone → ⊥) → Hold (entry_rows now own.adr m)
+    rules_live m i out = entry_rules_live b now own.adr m (num_same sound r) (entry_stays sound r m i out) (Hold-member (entry_rows b own.adr) (chain_of own kind) m parts_before.0 i)
+
+  -- what is to be shown: of the entries, of owners, of the space and of the acts
+  pub record Chained (attr : List ℕ) (num need : ℕ) (items : List (ℕ × Entry)) (acts : List Act) : Type 0 where
+    pub found : attribute_named (content b) attr ≡ Some (length before, attribute_of b own)
+    pub items_now : chain_items now chain' ≡ items
+    pub counted : number now own.adr (count_field kind) ≡ length chain'
+    pub differ : Distinct (nums now chain')
+    pub rules : (m : ℕ) → In m chain' → Hold (entry_rows now own.adr m)
+    pub chain_is : chain_of (with_chain own kind chain') kind ≡ chain_after (chain_of own kind) (entry_at b own kind num) (entry_at now (with_chain own kind chain') kind num)
+    pub greatest : integer4 now own.adr (max_field kind) ≡ greatest_number items
+    pub of_gone : (m : ℕ) → In m gone → number b m aedr_num ≡ num
+    pub read : (m : ℕ) → In m reborn → is_in (type_at now m) read_types ≡ true
+    pub beside : (m : ℕ) → (In m reborn → ⊥) → times m gone ≡ times m come
+    pub sorted : (m : ℕ) → In m reborn → IsSorted now (made sound r) m
+    pub end : eof now (shape b).gdr ≡ length now
+    pub longest : length now ≤ length b + need
+    pub takes_within : sum (map (λ take. take.1) (taken acts)) ≤ need
+    pub acts_follow : ActsFollow b now acts
+    pub gdr_within : within marks gdr_type space_fields ≡ true
+    pub adr_within : within marks adr_type (chain_fields kind) ≡ true
+    pub unused : AllKeep b now (entry_changes b (content b) attr kind num) acts (owned_by Unused (unused_records b (shape b)))
+
+  module _ {attr : List ℕ} {num need : ℕ} {items : List (ℕ × Entry)} {acts : List Act} (c : Chained attr num need items acts) where
+    pub content_chained : content now ≡ with_attribute (content b) (length before) (with_entries (attribute_of b own) kind items)
+    content_chained = content_rechained sound r items c.items_now
+
+    pub chain_follows : ChainFollows b now own (with_chain own kind chain') kind num
+    chain_follows = record {
+      chain_is = c.chain_is;
+      greatest_is = greatest_follow kind b now own chain' (c.greatest ∙ ap greatest_number (sym (items_with (attribute_of b own) kind items)) ∙ ap (λ (a : Attribute). greatest_number (entries_of a kind)) (sym (attribute_now sound r items c.items_now))) (other_max_same sound r);
+    }
+
+    -- what holds of the attribute before and after it, holds of the one of the name
+    pub of_named : (P : AttributeShape → AttributeShape → Type 0) → P own (with_chain own kind chain') → OfAttribute b now attr P
+    of_named P p = of_attribute b now attr (length before) (attribute_of b own) own (with_chain own kind chain') P c.found
+        (ap (λ (as_ : List AttributeShape). slice_get as_ (length before)) r.was ∙ got_middle before own after)
+        (ap (λ (x : Shape). slice_get x.attributes (length before)) (now_is sound r) ∙ got_middle before (with_chain own kind chain') after) p
+
+    pub follows_chained : Good b → (command : Command) → step (content b) command ≡ ByStep (Go (with_attribute (content b) (length before) (with_entries (attribute_of b own) kind items)) Plain) → room b command ≡ need → only_reads command ≡ false → allowances b (content b) (shape b) command ≡ entry_changes b (content b) attr kind num
+        → Does b command now acts → length b + need ≤ image_limit → Follows b command now
+    follows_chained good command goes roomy writes allowed does limited =
+        let image = good_by_its_shape b good in
+        let rows : Hold (entries_rows now own.adr (count_field kind) chain') = (eq-eqb (number now own.adr (count_field kind)) (length chain') c.counted, Hold-append (flat_map (entry_rows now own.adr) chain') (differ_rows 7 (same_number now) [] chain') (Hold-members (entry_rows now own.adr) chain' c.rules) (differ_by_nums now chain' c.differ)) in
+        record {
+          reply = Plain;
+          goes = goes ∙ ap (λ (d : DataSet). ByStep (Go d Plain)) (sym content_chained);
+          good = good_image_if sound (splices sound r) (sealed_kept b (good_long b (shape b) image) (rules_of_good b good)).0 image (rules_rechained sound r image rows c.read c.beside c.sorted) c.end (omega (arith, c.longest, limited));
+          longer = r.edit.longer;
+          within = subst (λ (n : ℕ). length now ≤ length b + n) (sym roomy) c.longest;
+          reads = λ q. absurd (true≢false (sym q ∙ writes));
+          acts = acts;
+          takes_within = subst (λ (n : ℕ). sum (map (λ take. take.1) (taken acts)) ≤ n) (sym roomy) c.takes_within;
+          acts_follow = c.acts_follow;
+          keeps = subst (λ (may : Allowances). AllKeep b now may acts (owned b (shape b))) (sym allowed) (entry_keeps sound r attr num acts (is_named b attr (length before) (attribute_of b own) c.found) c.gdr_within c.adr_within c.of_gone c.unused);
+          does = does;
+        }
