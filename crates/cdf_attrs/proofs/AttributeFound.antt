@@ -21,11 +21,23 @@ use Rattle.cdf_attrs.specs.Finding.{FindsChain, HasWrongScope}
 use Rattle.cdf_edits.specs.Edits.EntryMarks.{entries_chain}
 use Rattle.cdf_attrs.proofs.AttributeChain.{adr_inside, index_in, names_count}
 use Rattle.cdf_attrs.proofs.NamesChanged.{Cut, cut, got-map, got-middle, named_there, number_within}
+use Rattle.std.proofs.lemmas.Option.{slice_get_within}
 
 pub adr_got : (as_ : List AttributeShape) (n : ℕ) (a : AttributeShape) → slice_get as_ n ≡ Some a → get_or (map (λ (x : AttributeShape). x.adr) as_) n 0 ≡ a.adr
 adr_got [] n a e = absurd cc
 adr_got (x ∷ as_) zero a e = let same : x ≡ a = cc in ap (λ (y : AttributeShape). y.adr) same
 adr_got (x ∷ as_) (suc n) a e = adr_got as_ n a e
+
+-- the place of an attribute whose chain was found
+module _ {b attr : List ℕ} {kind : EntryKind} {n : ℕ} {chain : Chain} (found : FindsChain b attr kind n chain) (places : List ℕ) (placed : places ≡ adrs (shape b)) where
+  pub place_within : n < length places
+  place_within =
+      let lt = slice_get_within (shape b).attributes n found.own found.stands in
+      let long = ap (λ (xs : List ℕ). length xs) placed ∙ length-map (shape b).attributes (λ (a : AttributeShape). a.adr) in
+      omega arith
+
+  pub adr_is : get_or places n 0 ≡ found.own.adr
+  adr_is = ap (λ (xs : List ℕ). get_or xs n 0) placed ∙ adr_got (shape b).attributes n found.own found.stands
 
 module _ (b attr : List ℕ) (kind : EntryKind) (good : Good b) (names : List (List ℕ)) (places : List ℕ) (names_are : names ≡ attribute_names (content b)) (places_are : places ≡ adrs (shape b)) (n : ℕ) (found : number_of names attr ≡ Some n) where
   h : HasShape b (shape b)

@@ -1,13 +1,12 @@
 -- The command `del-entry`: what it is answered, and what is known of the attributes after it.
 use Rattle.std.proofs.Common.{◌≡◌, ℕ, zero, suc, ◌+◌, ◌^◌, ◌<◌, ◌≤◌, List, [], ◌∷◌, ◌++◌, length, map, get_or, true, Some, None, w32, refl, sym, ap, ap₂, subst, ◌∙◌, arith}
 use Rattle.std.proofs.lemmas.Bool.{eqb-true}
-use Rattle.std.proofs.lemmas.List.{length-map, map-append, map-set}
 use Rattle.std.proofs.lemmas.List.Quantifiers.{position-Some}
 use Rattle.std.proofs.lemmas.Option.{slice_get_within}
-use Rattle.std.specs.Int.{cast_signed, cast_unsigned}
+use Rattle.std.specs.Int.{cast_unsigned}
 use Rattle.std.specs.List.{position, remove, slice_get}
 use Rattle.std.specs.Option.{option_and_then}
-use Rattle.std.specs.Prelude.{◌==◌, slice_index, slice_set}
+use Rattle.std.specs.Prelude.{◌==◌, slice_index}
 use Rattle.cdf_model.specs.declared.answer.Outcome.TheVariants.{Done, Refused}
 use Rattle.cdf_model.specs.declared.answer.Reason.{Reason}
 use Rattle.cdf_model.specs.declared.answer.Reason.TheVariants.{NoSuchAttr, WrongScope, NoSuchEntry}
@@ -17,7 +16,7 @@ use Rattle.cdf_model.specs.declared.kinds.EntryKind.{EntryKind}
 use Rattle.cdf_model.specs.declared.kinds.EntryKind.TheVariants as entries
 use Rattle.cdf_model.specs.Answers.{Answer, Go}
 use Rattle.cdf_model.specs.AttributeSteps.{entries_of, with_attribute, with_entries}
-use Rattle.cdf_model.specs.DataSet.{Attribute, DataSet, Entry}
+use Rattle.cdf_model.specs.DataSet.{Attribute, Entry}
 use Rattle.cdf_model.specs.Limits.{image_limit}
 use Rattle.cdf_model.specs.Names.{attribute_names, attribute_named}
 use Rattle.cdf_model.specs.Numbered.{without}
@@ -27,32 +26,28 @@ use Rattle.cdf_format.specs.Content.{content, attribute_of, entry_of, entries_of
 use Rattle.cdf_format.specs.Fields.{number, integer4, size_at}
 use Rattle.cdf_format.specs.RecordTypes.{adr_type}
 use Rattle.cdf_format.specs.Records.{aedr_num}
-use Rattle.cdf_format.specs.Shape.{AttributeShape, Shape, adrs, shape}
+use Rattle.cdf_format.specs.Shape.{AttributeShape, adrs, shape}
 use Rattle.cdf_format.specs.Sound.{IsSound}
 use Rattle.cdf_format.specs.Tiles.{In}
 use Rattle.cdf_format.specs.WellFormed.{Good}
 use Rattle.cdf_format.proofs.GoodSound.{good_is_sound}
-use Rattle.cdf_format.proofs.ShapeLemmas.{content_is}
 use Rattle.cdf_edits.specs.declared.chain.Chain.{Chain}
 use Rattle.cdf_edits.specs.Answers.{Answers}
 use Rattle.cdf_edits.specs.Commands.EntryChains.{chain_of, max_field, greatest_number}
-use Rattle.cdf_edits.specs.Edits.EntryMarks.{entries_chain, count_field, with_chain}
+use Rattle.cdf_edits.specs.Edits.EntryMarks.{entries_chain, count_field}
 use Rattle.cdf_edits.specs.Follows.{Follows}
 use Rattle.cdf_edits.specs.Space.Chains.{counted_in, members_of, without as left_of}
 use Rattle.cdf_edits.proofs.Commands.Answered.{refused, gone}
 use Rattle.cdf_edits.proofs.Edits.ChainEntries.{EntryLives, nums, nums_live, entries_left}
-use Rattle.cdf_edits.proofs.Edits.ChainFollowed.{chain_now}
-use Rattle.cdf_edits.proofs.Edits.ChainKinds.{adr_of}
-use Rattle.cdf_edits.proofs.Edits.ChainSpliced.{now_is}
+use Rattle.cdf_edits.proofs.Edits.ChainFollowed.{greatest_integer}
 use Rattle.cdf_edits.proofs.Edits.FieldWritten.{written_integer, written_reads}
 use Rattle.cdf_edits.proofs.Edits.FreedEntry.{greatest_same}
 use Rattle.cdf_edits.proofs.Edits.LeftEntry.{LeavesChain, count_now, left_frees, left_members, of_count, of_max}
 use Rattle.cdf_edits.proofs.Edits.PushedEntry.{max_lies}
-use Rattle.cdf_attrs.specs.Finding.{FindsChain, IsOfAttribute, IsRefusedFor}
+use Rattle.cdf_attrs.specs.Finding.{FindsChain, IsRefusedFor}
 use Rattle.cdf_attrs.specs.Known.{KnownEntries, Knows, KnowsEntries}
 use Rattle.cdf_attrs.specs.Putting.{IsEntryOf}
 use Rattle.cdf_attrs.specs.Removing.{IsGreatest, TakenAt, without_at}
-use Rattle.cdf_attrs.proofs.AttributeFound.{adr_got}
 use Rattle.cdf_attrs.proofs.EntryCalls.{leaves}
 use Rattle.cdf_attrs.proofs.EntryChains.{counted, entries_differ, entry_lies, few_entries, members}
 use Rattle.cdf_attrs.proofs.EntryLeft as left
@@ -60,7 +55,7 @@ use Rattle.cdf_attrs.proofs.EntrySteps.{no_attribute, wrong_scope, no_entry}
 use Rattle.cdf_attrs.proofs.EntryTakenAt.{as_long, left_count, left_small, map-remove, once, places_are, without_at_index}
 use Rattle.cdf_attrs.proofs.GettingAnswers.{found_in, is_entry_at, is_item, of_attribute}
 use Rattle.cdf_attrs.proofs.GreatestNumber.{greatest_fits, greatest_of_items}
-use Rattle.cdf_attrs.proofs.NamesChanged.{Cut, cut, got-map, got-middle}
+use Rattle.cdf_attrs.proofs.NamesChanged.{Cut, cut, got-middle}
 
 -- ---- the refusals
 
@@ -90,18 +85,8 @@ index_map f [] i d lt = absurd (omega arith)
 index_map f (x ∷ xs) zero d lt = refl
 index_map f (x ∷ xs) (suc i) d lt = index_map f xs i d (omega arith)
 
-set_there : {A : Type 0} (xs : List A) (n : ℕ) (x : A) → slice_get xs n ≡ Some x → slice_set xs n x ≡ xs
-set_there [] n x e = absurd cc
-set_there (y ∷ xs) zero x e = let same : x ≡ y = cc in ap (λ (z : _). z ∷ xs) same
-set_there (y ∷ xs) (suc n) x e = ap (λ (r : List _). y ∷ r) (set_there xs n x e)
-
 some_same : (x a : AttributeShape) → Some x ≡ Some a → x ≡ a
 some_same x a e = cc e
-
-name_stays : (a : Attribute) (kind : EntryKind) (items : List (ℕ × Entry)) → (with_entries a kind items).name ≡ a.name
-name_stays a entries.G items = refl
-name_stays a entries.R items = refl
-name_stays a entries.Z items = refl
 
 -- ---- fields
 
@@ -115,22 +100,7 @@ count_small entries.G n lt = omega arith
 count_small entries.R n lt = omega arith
 count_small entries.Z n lt = omega arith
 
-greatest_integer : (kind : EntryKind) (b now : List ℕ) (adr : ℕ) → number now adr (max_field kind) ≡ number b adr (max_field kind) → integer4 now adr (max_field kind) ≡ integer4 b adr (max_field kind)
-greatest_integer entries.G b now adr e = ap (cast_signed w32) e
-greatest_integer entries.R b now adr e = ap (cast_signed w32) e
-greatest_integer entries.Z b now adr e = ap (cast_signed w32) e
-
 -- ---- the attribute
-
-module _ {b attr : List ℕ} {kind : EntryKind} {n : ℕ} {chain : Chain} (found : FindsChain b attr kind n chain) (places : List ℕ) (placed : places ≡ adrs (shape b)) where
-  pub place_within : n < length places
-  place_within =
-      let lt = slice_get_within (shape b).attributes n found.own found.stands in
-      let long = ap (λ (xs : List ℕ). length xs) placed ∙ length-map (shape b).attributes (λ (a : AttributeShape). a.adr) in
-      omega arith
-
-  pub adr_is : get_or places n 0 ≡ found.own.adr
-  adr_is = ap (λ (xs : List ℕ). get_or xs n 0) placed ∙ adr_got (shape b).attributes n found.own found.stands
 
 module _ (b x : List ℕ) (same : x ≡ b) {kind : EntryKind} {adr own : ℕ} (at : adr ≡ own) where
   pub there_in : {place : ℕ} → IsEntryOf b kind own place → IsEntryOf x kind adr place
@@ -239,53 +209,20 @@ module _ {b attr : List ℕ} {kind : EntryKind} {n : ℕ} {chain : Chain} (good 
 
     -- ---- what is known after it
 
-    abbrev chain' : List ℕ
-    chain' = left_of (slice_index es.places i) (chain_of found.own kind)
-
-    attributes_now : (shape now).attributes ≡ parts.before ++ with_chain found.own kind chain' ∷ parts.after
-    attributes_now = ap (λ (s : Shape). s.attributes) (now_is sound (left.r good names q taken.removed.gives of_old long counts greatest short))
-
-    names_after : attribute_names (content now) ≡ attribute_names (content b)
-    names_after =
-        let a = attribute_of b found.own in
-        let at_number : slice_get (shape b).attributes (length parts.before) ≡ Some found.own = subst (λ (k : ℕ). slice_get (shape b).attributes k ≡ Some found.own) (sym parts.count) found.stands in
-        let got : slice_get (content b).attributes (length parts.before) ≡ Some a = ap (λ (d : DataSet). slice_get d.attributes (length parts.before)) (content_is b (shape b) sound.has_shape) ∙ got-map (attribute_of b) (shape b).attributes (length parts.before) found.own at_number in
-        ap attribute_names (left.content_now good names q taken.removed.gives of_old long counts greatest short)
-        ∙ map-set (λ (x : Attribute). x.name) (content b).attributes (length parts.before) (with_entries a kind (without num num (entries_of a kind)))
-        ∙ ap (slice_set (attribute_names (content b)) (length parts.before)) (name_stays a kind (without num num (entries_of a kind)))
-        ∙ set_there (attribute_names (content b)) (length parts.before) a.name (got-map (λ (x : Attribute). x.name) (content b).attributes (length parts.before) a got)
-
-    places_after : adrs (shape now) ≡ adrs (shape b)
-    places_after =
-        let f = λ (a : AttributeShape). a.adr in
-        ap (map f) attributes_now ∙ map-append f parts.before (with_chain found.own kind chain' ∷ parts.after)
-        ∙ ap (λ (x : ℕ). map f parts.before ++ x ∷ map f parts.after) (adr_of kind found.own chain')
-        ∙ sym (map-append f parts.before (found.own ∷ parts.after)) ∙ ap (map f) (sym cut_is)
-
-    of_now : IsOfAttribute now chain
-    of_now = record {
-      number = length parts.before;
-      own = with_chain found.own kind chain';
-      stands = ap (λ (as_ : List AttributeShape). slice_get as_ (length parts.before)) attributes_now ∙ got-middle parts.before (with_chain found.own kind chain') parts.after;
-      kind = kind;
-      chain_is = found.chain_is ∙ ap (entries_chain kind) (sym (adr_of kind found.own chain'));
-    }
-
     left_known : KnowsEntries now (without_at es i)
-    unfolding of_now
     left_known = record {
-      places_are = left_places ∙ sym (members now follow.good chain of_now ∙ chain_now kind found.own chain') ∙ ap (members_of now) (sym of);
-      numbers_are = left_numbers ∙ sym (nums_live b now chain' live) ∙ ap (nums now) (sym left_places);
+      places_are = left_places ∙ sym (left.members_left good names q taken.removed.gives of_old long counts greatest short) ∙ ap (members_of now) (sym (of ∙ found.chain_is));
+      numbers_are = left_numbers ∙ sym (nums_live b now (left_of place (chain_of found.own kind)) live) ∙ ap (nums now) (sym left_places);
     }
       where
-        live : (m : ℕ) → In m chain' → EntryLives b now m
+        live : (m : ℕ) → In m (left_of place (chain_of found.own kind)) → EntryLives b now m
         live m j =
             let x = left_members place m (chain_of found.own kind) (left.once good names q taken.removed.gives of_old long counts greatest short) j in
             left.others good names q taken.removed.gives of_old long counts greatest short m x.0 x.1
 
     pub known_after : (table : List (List ℕ)) (places : List ℕ) (rest : KnownEntries) → table ≡ attribute_names (content b) → places ≡ adrs (shape b) → rest ≡ without_at es i → Knows now (record { names = table; places = places; entries = Some rest })
     known_after table places rest named placed is = record {
-      names_are = named ∙ sym names_after;
-      places_are = placed ∙ sym places_after;
+      names_are = named ∙ sym (left.names_left good names q taken.removed.gives of_old long counts greatest short);
+      places_are = placed ∙ sym (left.places_left good names q taken.removed.gives of_old long counts greatest short);
       entries_are = λ e same. let other : rest ≡ e = cc in subst (KnowsEntries now) (sym is ∙ other) left_known;
     }

@@ -7,7 +7,8 @@ use Rattle.cdf_edits.specs.Answers.{Answers}
 use Rattle.cdf_edits.specs.Edits.EntryMarks.{entries_chain}
 use Rattle.cdf_attrs.specs.Finding.{Finds}
 use Rattle.cdf_attrs.specs.Known.{Known, KnowsEntries}
-use Rattle.cdf_attrs.proofs.EntryDeleted.{refused_for, is_missing, place_within, adr_is, there_in, taken_in, within, entry_there, is_deleted, known_after}
+use Rattle.cdf_attrs.proofs.AttributeFound.{adr_is, place_within}
+use Rattle.cdf_attrs.proofs.EntryDeleted.{refused_for, is_missing, there_in, taken_in, within, entry_there, is_deleted, known_after}
 use Rattle.cdf_attrs.proofs.attrs.Attrs.del_entry.Goals as goal
 
 pub returns-in-Refused-clause-answers : goal.returns-in-Refused-clause-answers
