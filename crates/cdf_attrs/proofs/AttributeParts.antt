@@ -1,5 +1,5 @@
 -- An attribute of an image, with those before it and those after it; and an image in which one of its chains is another.
-use Rattle.std.proofs.Common.{◌≡◌, ℕ, zero, suc, ◌+◌, List, [], ◌∷◌, ◌++◌, length, map, Some, refl, sym, ap, ◌∙◌, arith, inl, inr}
+use Rattle.std.proofs.Common.{◌≡◌, ℕ, zero, suc, ◌+◌, List, [], ◌∷◌, ◌++◌, length, map, Some, refl, sym, ap, ◌∙◌, arith}
 use Rattle.std.proofs.lemmas.List.{map-append, map-set}
 use Rattle.std.specs.List.{slice_get}
 use Rattle.std.specs.Prelude.{slice_set}
@@ -9,11 +9,9 @@ use Rattle.cdf_model.specs.AttributeSteps.{with_entries}
 use Rattle.cdf_model.specs.DataSet.{Attribute, DataSet, Entry}
 use Rattle.cdf_model.specs.Names.{attribute_names}
 use Rattle.cdf_format.specs.Content.{content, attribute_of, entries_of as chain_items}
-use Rattle.cdf_format.specs.ChainRules.{adrs_rows, count_rows, differ_rows, number_rows, r_vdrs_rows, z_vdrs_rows}
+use Rattle.cdf_format.specs.ChainRules.{adrs_rows, count_rows, number_rows, r_vdrs_rows, z_vdrs_rows}
 use Rattle.cdf_format.specs.Fields.{number, gdr_offset}
-use Rattle.cdf_format.specs.AttributeRules.{same_number}
-use Rattle.cdf_format.specs.Records.{adr_num, aedr_num, gdr_num_attr}
-use Rattle.cdf_format.specs.Tiles.{In}
+use Rattle.cdf_format.specs.Records.{adr_num, gdr_num_attr}
 use Rattle.cdf_format.specs.Rules.{Hold}
 use Rattle.cdf_format.specs.Shape.{AttributeShape, Shape, adrs, shape, vdrs}
 use Rattle.cdf_format.specs.Sound.{IsSound}
@@ -22,15 +20,13 @@ use Rattle.cdf_format.proofs.GoodSound.{good_by_its_shape, good_is_sound}
 use Rattle.cdf_format.proofs.RowLemmas.{Hold-split}
 use Rattle.cdf_format.proofs.ShapeLemmas.{content_is}
 use Rattle.cdf_format.proofs.Tests.{eq_of}
-use Rattle.cdf_edits.specs.Commands.EntryChains.{chain_of}
 use Rattle.cdf_edits.specs.Edits.EntryMarks.{entries_chain, with_chain}
 use Rattle.cdf_edits.specs.Edits.Marks.{Mark}
-use Rattle.cdf_edits.specs.Space.Chains.{members_of, with_in_place}
-use Rattle.cdf_edits.proofs.Edits.ChainEntries.{nums, nums_differ, nums_replaced}
+use Rattle.cdf_edits.specs.Space.Chains.{members_of}
 use Rattle.cdf_edits.proofs.Edits.ChainFollowed.{chain_now}
 use Rattle.cdf_edits.proofs.Edits.ChainKinds.{adr_of}
 use Rattle.cdf_edits.proofs.Edits.ChainsOfShape.{members_are}
-use Rattle.cdf_edits.proofs.Edits.ChainSpliced.{Rechains, made, splices, now_is, content_rechained, chain_rules_before, entry_stays}
+use Rattle.cdf_edits.proofs.Edits.ChainSpliced.{Rechains, made, splices, now_is, content_rechained}
 use Rattle.cdf_edits.proofs.Edits.PushedEntry.{of_shape}
 use Rattle.cdf_edits.proofs.Edits.Splice.{shape_now}
 use Rattle.cdf_attrs.specs.PutValues.{IsAttributeAt}
@@ -103,11 +99,6 @@ module _ {b now new list : List ℕ} {marks : List Mark} {reborn : List ℕ} {ki
       ∙ map-set (λ (x : Attribute). x.name) (content b).attributes (length before) (with_entries a kind (chain_items now chain'))
       ∙ set_same (attribute_names (content b)) (length before) _ (got-map (λ (x : Attribute). x.name) (content b).attributes (length before) a there ∙ ap Some (sym (name_stays a kind (chain_items now chain'))))
 
--- an entry took the place of the one of its number: the numbers are those that they were
-module _ {b now new list : List ℕ} {marks : List Mark} {reborn : List ℕ} {kind : EntryKind} {before : List AttributeShape} {own : AttributeShape} {after : List AttributeShape} {old by num : ℕ} (good : Good b) (r : Rechains b now (shape b) new list marks reborn kind before own after (with_in_place old by (chain_of own kind)) (old ∷ []) (by ∷ [])) where
-  pub numbers_rechained : In old (chain_of own kind) → number b old aedr_num ≡ num → number now by aedr_num ≡ num → nums now (with_in_place old by (chain_of own kind)) ≡ nums b (chain_of own kind)
-  numbers_rechained member of_old of_new =
-      let sound = good_is_sound b good in
-      let rows = chain_rules_before sound r (good_by_its_shape b good) in
-      let differ = nums_differ b (chain_of own kind) (Hold-split _ (differ_rows 7 (same_number b) [] (chain_of own kind)) rows.1).1 in
-      nums_replaced b now old by num of_old of_new (chain_of own kind) differ member (λ m i ne. entry_stays sound r m i (λ j. elim j [ inl q ↦ ne q | inr none ↦ none ]))
+-- the members of its chain then
+pub members_at : {b now new list : List ℕ} {marks : List Mark} {reborn : List ℕ} {kind : EntryKind} {before after : List AttributeShape} {chain' gone come : List ℕ} {number adr : ℕ} (good : Good b) (at : IsAttributeAt b number adr) → Rechains b now (shape b) new list marks reborn kind before at.own after chain' gone come → members_of now (entries_chain kind adr) ≡ chain'
+members_at {now = now} {kind = kind} good at r = ap (λ (a : ℕ). members_of now (entries_chain kind a)) (sym at.adr_is) ∙ members_rechained (good_is_sound _ good) r

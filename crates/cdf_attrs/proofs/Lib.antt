@@ -7,11 +7,8 @@ pub mod EntryPut
 pub mod GreatestNumber
 pub mod EntryTakenAt
 pub mod EntryDeleted
-pub mod EntryChanged
 pub mod EntryCalls
 pub mod EntryLeft
-pub mod EntryMoved
-pub mod EntryPushed
 pub mod EntryReplaced
 pub mod EntryReplacing
 pub mod PushedValue

@@ -1,156 +1,63 @@
 -- A value that was added as a last entry: what is read of it, and what the image follows by.
-use Rattle.std.proofs.Common.{◌≡◌, ℕ, ◌+◌, ◌*◌, ◌%◌, ◌<◌, ◌≤◌, ℤ, List, [], ◌∷◌, ◌++◌, length, Bool, true, Some, None, nat_lt, ◌==◌, eq-eqb, FitsSigned, w32, refl, sym, ap, ap₂, subst, ◌∙◌, arith, inl, inr}
+use Rattle.std.proofs.Common.{◌≡◌, ℕ, ◌+◌, ◌<◌, List, [], ◌∷◌, ◌++◌, length, true, Some, None, nat_lt, ◌==◌, eq-eqb, w32, refl, sym, ap, subst, ◌∙◌, arith, inl, inr, Option}
 use Rattle.std.proofs.lemmas.Bool.{lt-ltb}
-use Rattle.std.proofs.lemmas.List.{map-append}
-use Rattle.std.proofs.Math.Nat.{mul-mod_right}
+use Rattle.std.proofs.lemmas.List.{map-append, length-append}
 use Rattle.std.specs.Int.{cast_unsigned}
 use Rattle.std.specs.List.{position, position_or_len}
 use Rattle.std.specs.Prelude.{if◌then◌else◌}
-use Rattle.cdf_model.specs.declared.command.Command.TheVariants.{PutEntry}
-use Rattle.cdf_model.specs.declared.data_type.DataType.{DataType}
 use Rattle.cdf_model.specs.declared.kinds.EntryKind.{EntryKind}
 use Rattle.cdf_model.specs.declared.kinds.EntryKind.TheVariants as entries
-use Rattle.cdf_model.specs.ByteOrder.{turned}
 use Rattle.cdf_model.specs.DataSet.{Entry}
-use Rattle.cdf_model.specs.Limits.{image_limit, record_number_limit}
-use Rattle.cdf_model.specs.Names.{attribute_names}
+use Rattle.cdf_model.specs.Names.{attribute_named}
 use Rattle.cdf_model.specs.Numbered.{with_item}
-use Rattle.cdf_model.specs.Types.{size_of}
 use Rattle.cdf_format.specs.Content.{content, attribute_of, entries_of as chain_items}
-use Rattle.cdf_format.specs.Fields.{number, integer4, with_field}
+use Rattle.cdf_format.specs.Fields.{number, integer4, with_field, type_at}
 use Rattle.cdf_format.specs.Records.{adr_num, aedr_num}
 use Rattle.cdf_format.specs.RecordTypes.{adr_type}
-use Rattle.cdf_format.specs.Shape.{AttributeShape, adrs, shape}
+use Rattle.cdf_format.specs.Shape.{AttributeShape, shape}
 use Rattle.cdf_format.specs.Sound.{IsSound}
 use Rattle.cdf_format.specs.Stored.{is_little}
-use Rattle.cdf_format.specs.Tiles.{In}
+use Rattle.cdf_format.specs.Tiles.{In, Distinct}
 use Rattle.cdf_format.specs.WellFormed.{Good}
 use Rattle.cdf_format.proofs.GoodSound.{good_is_sound}
-use Rattle.cdf_format.proofs.Members.{either}
+use Rattle.cdf_format.proofs.Members.{either, In-append, In-append_right}
 use Rattle.cdf_values.proofs.TurnedLemmas.{size_stays}
-use Rattle.cdf_edits.specs.Commands.EntryChains.{chain_of, entry_type, max_field, greatest_number}
-use Rattle.cdf_edits.specs.Edits.EntryMarks.{entries_chain}
+use Rattle.cdf_edits.specs.Commands.EntryChains.{chain_of, entry_type, max_field, greatest_number, entry_at}
+use Rattle.cdf_edits.specs.Edits.EntryMarks.{entries_chain, with_chain}
 use Rattle.cdf_edits.specs.Edits.Marks.{avoided}
-use Rattle.cdf_edits.specs.Follows.{Follows}
 use Rattle.cdf_edits.specs.Space.Adding.{Added}
 use Rattle.cdf_edits.specs.Space.Chains.{members_of}
-use Rattle.cdf_edits.proofs.Edits.ChainEntries.{nums, nums_live}
-use Rattle.cdf_edits.proofs.Edits.ChainSpliced.{entry_stays, file_now}
+use Rattle.cdf_edits.proofs.Edits.ChainEntries.{nums, nums_live, EntryLives, nums_pushed, entries_live, entries_pushed}
+use Rattle.cdf_edits.proofs.Edits.ChainSpliced.{entry_stays, Rechains}
 use Rattle.cdf_edits.proofs.Edits.FieldWritten.{written_integer}
-use Rattle.cdf_edits.proofs.Edits.MadeRecord.{made_part}
-use Rattle.cdf_edits.proofs.Edits.PushedEntry.{PushesEntry, fills, later, as_long, lately, new_size, of_max, max_lies, members, pushing, rechains}
-use Rattle.cdf_attrs.specs.declared.putting.Slot.{Slot}
+use Rattle.cdf_edits.proofs.Edits.MadeRecord.{made_part, shorter, end_now, made_keeps_unused}
+use Rattle.cdf_edits.proofs.Edits.PushedEntry.{PushesEntry, fills, later, as_long, lately, new_size, of_max, max_lies, pushing, rechains, tests, new_type, count_now, sorted, beside_same, records, list, marks}
 use Rattle.cdf_attrs.specs.Known.{KnownEntries, KnowsEntries}
-use Rattle.cdf_attrs.specs.Putting.{aedr_body, new_reserved, Fit, IsStored, PushedAs}
-use Rattle.cdf_attrs.specs.PutValues.{Asks, IsAttributeAt, Puts, stored_entry}
-use Rattle.cdf_attrs.proofs.AttributeParts.{parts, number_at, members_rechained, places_rechained, names_rechained}
-use Rattle.cdf_attrs.proofs.EntryPushed.{pushed_follow}
-use Rattle.cdf_attrs.proofs.EntryPut.{Asked}
-use Rattle.cdf_attrs.proofs.EntryWritten.{IsEntry, length-body, type_in_body, entry_written, is_entry}
-
--- as many bytes as there were
-pub stored_length : (t : DataType) (elems : ℕ) (value : List ℕ) (little : Bool) → IsStored t elems value → length (turned t little value) ≡ length value
-stored_length t elems value little stored = size_stays t little value (ap (λ (n : ℕ). n % size_of t) (sym stored.long) ∙ whole t elems)
-  where
-    whole : (t : DataType) (elems : ℕ) → (size_of t * elems) % size_of t ≡ 0
-    whole t elems = mul-mod_right (size_of t) elems
-
--- what is asked, by the parts of the attributes
-pub asked : {b attr : List ℕ} {slot : Slot} {words : List (List ℕ)} {entry : Entry} (asks : Asks b attr slot words entry) → Asked b attr slot.kind slot.num entry.type words (parts asks.at).before asks.at.own entry
-asked {b = b} asks = record {
-  found = asks.named ∙ ap (λ (n : ℕ). Some (n, attribute_of b asks.at.own)) (sym (parts asks.at).count);
-  scoped = asks.in_scope;
-  in_range = asks.in_range;
-  valued = asks.valued;
-}
+use Rattle.cdf_attrs.specs.Putting.{new_reserved, PushedAs}
+use Rattle.cdf_attrs.specs.PutValues.{IsAttributeAt, Puts, IsReady, new_entry}
+use Rattle.cdf_attrs.proofs.AttributeParts.{parts, places_rechained, names_rechained, members_at}
+use Rattle.cdf_attrs.proofs.EntryPut.{asked, entry_there, found_new, put_follows, put_rules}
+use Rattle.cdf_attrs.proofs.EntryWritten.{IsEntry, length-body, type_in_body, entry_written}
+use Rattle.cdf_attrs.specs.declared.putting.NewEntry.{NewEntry}
+use Rattle.cdf_attrs.proofs.PutCalls.{body_of, ready_limit, new_fit, places_chain}
+use Rattle.cdf_edits.proofs.Edits.OneChain.{Chained, items_of, counted_before, differ_before}
+use Rattle.cdf_edits.proofs.Edits.ChainFollowed.{found_none, pushed_follows}
+use Rattle.cdf_attrs.proofs.ValueWords.{whole}
+use Rattle.cdf_edits.proofs.Edits.MadeEntry.{entry_is_read}
+use Rattle.cdf_edits.proofs.Edits.MarkLemmas.{the_one}
+use Rattle.cdf_edits.specs.Commands.Entries.{EntryFollows}
+use Rattle.cdf_model.specs.AttributeSteps.{entries_of}
+use Rattle.cdf_format.specs.Chains.{is_in}
+use Rattle.cdf_format.specs.NotRead.{read_types}
+use Rattle.cdf_edits.specs.Space.Acts.{Act, Took}
+use Rattle.cdf_edits.proofs.Edits.ChainKept.{records_are, list_is}
+use Rattle.cdf_edits.proofs.Edits.EditActs.{acts_took}
 
 -- the pushing leaves what follows the links of an entry
 value_stays : (b : List ℕ) (kind : EntryKind) (adr place hi : ℕ) → avoided (pushing b kind adr place) (entry_type kind) 20 hi ≡ true
 value_stays b entries.G adr place hi = refl
 value_stays b entries.R adr place hi = refl
 value_stays b entries.Z adr place hi = refl
-
--- an entry was written as the last one of the chain of a kind, for this value
-pub record PushedValue (b now : List ℕ) (slot : Slot) (t : DataType) (elems : ℕ) (value : List ℕ) (greatest : ℤ) (place : ℕ) : Type 0 where
-  pub pushed : PushedAs b now slot.kind slot.adr (aedr_body slot.kind slot.attribute t slot.num elems new_reserved value) greatest place
-  pub fit : Fit slot.attribute slot.num elems new_reserved
-  pub stored : IsStored t elems value
-  pub fits : FitsSigned w32 greatest
-
-module _ {b now : List ℕ} {slot : Slot} {t : DataType} {elems : ℕ} {value : List ℕ} {greatest : ℤ} {place : ℕ} (good : Good b) (v : PushedValue b now slot t elems value greatest place) (at : IsAttributeAt b slot.attribute slot.adr) where
-  abbrev own : AttributeShape
-  own = at.own
-
-  abbrev kind : EntryKind
-  kind = slot.kind
-
-  abbrev adr : ℕ
-  adr = slot.adr
-
-  sound : IsSound b (shape b)
-  sound = good_is_sound b good
-
-  abbrev body : List ℕ
-  body = aedr_body kind slot.attribute t slot.num elems new_reserved value
-
-  abbrev entry : Entry
-  entry = stored_entry b t elems value
-
-  abbrev pub pushes : PushesEntry b now kind (parts at).before own (parts at).after body place
-  pushes = record {
-    was = (parts at).stands;
-    mid = v.pushed.mid;
-    added = subst (λ (a : ℕ). Added b v.pushed.mid (entries_chain kind a) body place) (sym at.adr_is) v.pushed.added;
-    type_is = type_in_body slot.attribute t slot.num elems new_reserved value kind;
-    greatest = cast_unsigned w32 greatest;
-    written = subst (λ (a : ℕ). now ≡ with_field v.pushed.mid a (max_field kind) (cast_unsigned w32 greatest)) (sym at.adr_is) v.pushed.written;
-  }
-
-  size_is : 8 + length body ≡ 56 + length value
-  size_is = omega (arith, length-body slot.attribute t slot.num elems new_reserved value kind)
-
-  -- what is read of it
-  pub new : IsEntry now place (number b own.adr adr_num) slot.num new_reserved (length value) entry
-  new =
-      let size = size_is in
-      let long = as_long sound pushes in
-      let inside = pushes.added.placed.inside in
-      let kept = pushes.added.placed.fills.long in
-      let there = entry_written slot.attribute t slot.num elems new_reserved value kind pushes.added.placed v.fit
-      (made_part sound (fills sound pushes) (later sound pushes) (as_long sound pushes) (lately sound pushes) 20 (56 + length value) (value_stays b kind own.adr place (56 + length value)) (omega (arith, size)))
-      (omega (arith, size, inside, kept)) (omega (arith, long)) in
-      subst (λ (k : ℕ). IsEntry now place k slot.num new_reserved (length value) entry) (sym (number_at good at))
-      (is_entry now place slot.attribute t slot.num elems new_reserved value entry there.0 there.1 (record { meant = ap (λ (little : Bool). record { type = t; elems = elems; bytes = turned t little value }) (file_now sound (rechains sound pushes)).little; stored = v.stored }) (omega (arith, new_size sound pushes, size)))
-
-  greatest_is : integer4 now own.adr (max_field kind) ≡ greatest
-  greatest_is = written_integer pushes.mid now _ own.adr adr_type (max_field kind) greatest (of_max sound pushes) (max_lies kind).2 v.fits pushes.written
-
-  pub chain_is : members_of b (entries_chain kind adr) ≡ chain_of own kind
-  chain_is = ap (λ (a : ℕ). members_of b (entries_chain kind a)) (sym at.adr_is) ∙ members sound pushes
-
-  -- ---- the chain
-
-  pub members_now : members_of now (entries_chain kind adr) ≡ members_of b (entries_chain kind adr) ++ place ∷ []
-  members_now = ap (λ (a : ℕ). members_of now (entries_chain kind a)) (sym at.adr_is) ∙ members_rechained sound (rechains sound pushes) ∙ ap (λ (ms : List ℕ). ms ++ place ∷ []) (sym chain_is)
-
-  pub numbers_now : nums now (members_of b (entries_chain kind adr) ++ place ∷ []) ≡ nums b (members_of b (entries_chain kind adr)) ++ slot.num ∷ []
-  numbers_now =
-      let ms = members_of b (entries_chain kind adr) in
-      let stay : nums now ms ≡ nums b ms = subst (λ (es : List ℕ). nums now es ≡ nums b es) (sym chain_is) (nums_live b now (chain_of own kind) (λ m i. entry_stays sound (rechains sound pushes) m i (λ none. none))) in
-      map-append (λ (e : ℕ). number now e aedr_num) ms (place ∷ []) ∙ ap₂ (λ (ns : List ℕ) (n : ℕ). ns ++ n ∷ []) stay new.num_is
-
-  pub places_stay : adrs (shape now) ≡ adrs (shape b)
-  places_stay = places_rechained sound (rechains sound pushes)
-
-  pub names_stay : attribute_names (content now) ≡ attribute_names (content b)
-  names_stay = names_rechained sound (rechains sound pushes)
-
-  -- ---- what it follows by
-
-  pub follows : {attr : List ℕ} {words : List (List ℕ)} → Asked b attr kind slot.num t words (parts at).before own entry → slot.num ≤ record_number_limit → (In slot.num (nums b (members_of b (entries_chain kind adr))) → ⊥) → greatest ≡ greatest_number (with_item slot.num entry (chain_items b (members_of b (entries_chain kind adr)))) → length b + (56 + length value) ≤ image_limit → Follows b (PutEntry attr kind slot.num t words) now
-  follows asks small absent most limited = pushed_follow good asks pushes new size_is (stored_length t elems value (is_little b) v.stored) small (λ i. absent (subst (λ (ms : List ℕ). In slot.num (nums b ms)) (sym chain_is) i)) (greatest_is ∙ most ∙ ap (λ (ms : List ℕ). greatest_number (with_item slot.num entry (chain_items b ms))) chain_is) limited
-
--- ---- by what is known of the chain
 
 -- no number is that one
 none_numbered : (num : ℕ) (numbers : List ℕ) → position (λ n. n == num) numbers ≡ None → In num numbers → ⊥
@@ -164,25 +71,124 @@ none_numbered num numbers none i = clash (position_or_len (λ n. n == num) numbe
     clash : (k n : ℕ) → k < n → (if nat_lt k n then Some k else None) ≡ None → ⊥
     clash k n lt e = let got : Some k ≡ None = rw (lt-ltb k n lt) at e in absurd cc
 
-module _ {b now : List ℕ} {slot : Slot} {t : DataType} {elems : ℕ} {value : List ℕ} {greatest : ℤ} {place : ℕ} (good : Good b) (v : PushedValue b now slot t elems value greatest place) (at : IsAttributeAt b slot.attribute slot.adr) (entries : KnownEntries) (of : entries.chain ≡ entries_chain slot.kind slot.adr) (knows : KnowsEntries b entries) where
-  are : entries.places ≡ members_of b (entries_chain slot.kind slot.adr)
-  are = knows.places_are ∙ ap (members_of b) of
+module _ {b now : List ℕ} {limit : ℕ} {new : NewEntry} {entries : KnownEntries} {place : ℕ} (good : Good b) (w : IsReady b limit new entries) (absent : position (λ n. n == new.slot.num) entries.numbers ≡ None) (pushed : PushedAs b now new.slot.kind new.slot.adr (body_of new new_reserved) new.greatest place) where
+  abbrev at : IsAttributeAt b new.slot.attribute new.slot.adr
+  at = w.attribute
 
-  pub puts : slot.num ≤ record_number_limit → position (λ n. n == slot.num) entries.numbers ≡ None → greatest ≡ greatest_number (with_item slot.num (stored_entry b t elems value) (chain_items b entries.places)) → length b + (56 + length value) ≤ image_limit → Puts b now slot (stored_entry b t elems value)
-  puts small none most limited =
-      let absent = none_numbered slot.num entries.numbers none in
+  abbrev own : AttributeShape
+  own = w.attribute.own
+
+  abbrev kind : EntryKind
+  kind = new.slot.kind
+
+  abbrev value : List ℕ
+  value = new.value.bytes.items
+
+  abbrev entry : Entry
+  entry = new_entry b new
+
+  abbrev sound : IsSound b (shape b)
+  sound = good_is_sound b good
+
+  abbrev body : List ℕ
+  body = body_of new new_reserved
+
+  abbrev pushes : PushesEntry b now kind (parts at).before own (parts at).after body place
+  pushes = record {
+    was = (parts at).stands;
+    mid = pushed.mid;
+    added = subst (λ (a : ℕ). Added b pushed.mid (entries_chain kind a) body place) (sym at.adr_is) pushed.added;
+    type_is = type_in_body new.slot.attribute new.value.t new.slot.num new.value.elems new_reserved value kind;
+    greatest = cast_unsigned w32 new.greatest;
+    written = subst (λ (a : ℕ). now ≡ with_field pushed.mid a (max_field kind) (cast_unsigned w32 new.greatest)) (sym at.adr_is) pushed.written;
+  }
+
+  size_is : 8 + length body ≡ 56 + length value
+  size_is = omega (arith, length-body new.slot.attribute new.value.t new.slot.num new.value.elems new_reserved value kind)
+
+  r : Rechains b now (shape b) (records sound pushes) (list sound pushes) (marks sound pushes) (place ∷ []) kind (parts at).before own (parts at).after (chain_of own kind ++ place ∷ []) [] (place ∷ [])
+  r = rechains sound pushes
+
+  -- what is read of it
+  there : IsEntry now place (number b own.adr adr_num) new.slot.num new_reserved (length value) entry
+  there =
+      let size = size_is in
+      let long = as_long sound pushes in
+      let inside = pushes.added.placed.inside in
+      let kept = pushes.added.placed.fills.long in
+      let says = entry_written new.slot.attribute new.value.t new.slot.num new.value.elems new_reserved value kind pushes.added.placed (new_fit good w)
+      (made_part sound (fills sound pushes) (later sound pushes) (as_long sound pushes) (lately sound pushes) 20 (56 + length value) (value_stays b kind own.adr place (56 + length value)) (omega (arith, size)))
+      (omega (arith, size, inside, kept)) (omega (arith, long)) in
+      entry_there good w r says.0 says.1 (omega (arith, new_size sound pushes, size))
+
+  greatest_is : integer4 now own.adr (max_field kind) ≡ new.greatest
+  greatest_is = written_integer pushes.mid now _ own.adr adr_type (max_field kind) new.greatest (of_max sound pushes) (max_lies kind).2 w.fits pushes.written
+
+  -- ---- the chain
+
+  abbrev chain : List ℕ
+  chain = chain_of own kind
+
+  abbrev acts : List Act
+  acts = Took place (8 + length body) ∷ []
+
+  are : entries.places ≡ chain
+  are = places_chain good w
+
+  greatest_now : integer4 now own.adr (max_field kind) ≡ greatest_number (with_item new.slot.num entry (entries_of (attribute_of b own) kind))
+  greatest_now = greatest_is ∙ w.greatest ∙ ap (λ (ms : List ℕ). greatest_number (with_item new.slot.num entry (chain_items b ms))) are ∙ ap (λ (items : List (ℕ × Entry)). greatest_number (with_item new.slot.num entry items)) (sym (items_of b own kind))
+
+  out : In new.slot.num (nums b chain) → ⊥
+  out i = none_numbered new.slot.num entries.numbers absent (subst (In new.slot.num) (sym (w.known.numbers_are ∙ ap (nums b) are)) i)
+
+  live : (m : ℕ) → In m chain → EntryLives b now m
+  live m i = entry_stays sound r m i (λ none. none)
+
+  out_now : In (number now place aedr_num) (nums now chain) → ⊥
+  out_now i = out (subst (In new.slot.num) (nums_live b now chain live) (subst (λ (n : ℕ). In n (nums now chain)) there.num_is i))
+
+  differ_now : Distinct (nums now (chain ++ place ∷ []))
+  differ_now = nums_pushed now chain place (subst Distinct (sym (nums_live b now chain live)) (differ_before sound r good)) out_now
+
+  at_now : entry_at now (with_chain own kind (chain ++ place ∷ [])) kind new.slot.num ≡ Some place
+  at_now = found_new good r there (In-append_right place chain (place ∷ []) (inl refl)) differ_now
+
+  chained : {attr : List ℕ} → attribute_named (content b) attr ≡ Some (length (parts at).before, attribute_of b own) → Chained sound r attr new.slot.num (56 + length value) (with_item new.slot.num entry (entries_of (attribute_of b own) kind)) acts
+  chained found =
+      let grown = shorter sound (fills sound pushes) (later sound pushes) (as_long sound pushes) (lately sound pushes) in
       record {
-        follows = λ attr words asks. follows good v asks.at (asked asks) small
-            (λ i. absent (subst (In slot.num) (sym knows.numbers_are) (subst (λ (ms : List ℕ). In slot.num (nums b ms)) (sym are) i)))
-            (most ∙ ap (λ (ms : List ℕ). greatest_number (with_item slot.num (stored_entry b t elems value) (chain_items b ms))) are) limited;
-        names_stay = names_stay good v at;
-        places_stay = places_stay good v at;
+        found = found;
+        items_now = entries_pushed now chain place out_now ∙ (λ i. with_item (there.num_is i) (there.meant i) (entries_live b now chain live i)) ∙ ap (with_item new.slot.num entry) (sym (items_of b own kind));
+        counted = count_now sound pushes ∙ ap (λ (n : ℕ). n + 1) (counted_before sound r good) ∙ sym (length-append chain (place ∷ []));
+        differ = differ_now;
+        rules = put_rules good r there w.num (λ m i. elim (In-append m chain (place ∷ []) i) [ inl j ↦ inr (j, (λ none. none)) | inr j ↦ inl (the_one place m j) ]);
+        chain_is = pushed_follows b now kind own new.slot.num place (found_none b new.slot.num chain out) at_now;
+        greatest = greatest_now;
+        of_gone = λ m i. absurd i;
+        read = λ m i. ap (λ (type : ℕ). is_in type read_types) (ap (type_at now) (the_one place m i) ∙ new_type sound pushes) ∙ entry_is_read kind;
+        beside = beside_same sound pushes;
+        sorted = sorted sound pushes;
+        end = end_now sound (fills sound pushes) (later sound pushes) (as_long sound pushes) (lately sound pushes);
+        longest = omega (arith, grown, size_is);
+        takes_within = omega (arith, size_is);
+        acts_follow = acts_took sound (fills sound pushes) (later sound pushes) (as_long sound pushes) (lately sound pushes) (records_are sound r) (list_is sound r);
+        gdr_within = (tests sound pushes).gdr_within;
+        adr_within = (tests sound pushes).adr_within;
+        unused = made_keeps_unused sound (fills sound pushes) (later sound pushes) (as_long sound pushes) (lately sound pushes) (records_are sound r) _;
       }
 
-  pub knows_now : KnowsEntries now (record { chain = entries.chain; numbers = entries.numbers ++ slot.num ∷ []; places = entries.places ++ place ∷ [] })
-  knows_now =
-      let now_are : entries.places ++ place ∷ [] ≡ members_of b (entries_chain slot.kind slot.adr) ++ place ∷ [] = ap (λ (ms : List ℕ). ms ++ place ∷ []) are in
-      record {
-        places_are = now_are ∙ sym (members_now good v at) ∙ ap (members_of now) (sym of);
-        numbers_are = ap (λ (ns : List ℕ). ns ++ slot.num ∷ []) (knows.numbers_are ∙ ap (nums b) are) ∙ sym (numbers_now good v at) ∙ ap (nums now) (sym now_are);
-      }
+  moves : EntryFollows b now (entry_at b own kind new.slot.num) place acts
+  moves = subst (λ (o : Option ℕ). EntryFollows b now o place acts) (sym (found_none b new.slot.num chain out)) (ap (λ (n : ℕ). Took place n ∷ []) (size_is ∙ ap (λ (n : ℕ). 56 + n) (sym there.bytes_are)), there.reserved)
+
+  pub puts : Puts b now new.slot entry
+  puts = record {
+    follows = λ attr words asks. put_follows good r there (asked at asks) (chained (asked at asks).found) (size_stays new.value.t (is_little b) value (whole w.stored)) at_now moves tt (ready_limit good w);
+    names_stay = names_rechained sound r;
+    places_stay = places_rechained sound r;
+  }
+
+  pub knows_now : KnowsEntries now (record { chain = entries.chain; numbers = entries.numbers ++ new.slot.num ∷ []; places = entries.places ++ place ∷ [] })
+  knows_now = record {
+    places_are = ap (λ (ms : List ℕ). ms ++ place ∷ []) are ∙ sym (members_at good at r) ∙ ap (members_of now) (sym w.chain);
+    numbers_are = (λ i. (w.known.numbers_are ∙ ap (nums b) are ∙ sym (nums_live b now chain live)) i ++ sym there.num_is i ∷ []) ∙ sym (map-append (λ (e : ℕ). number now e aedr_num) chain (place ∷ [])) ∙ ap (λ (ms : List ℕ). nums now (ms ++ place ∷ [])) (sym are);
+  }

@@ -1,7 +1,6 @@
 -- What the command that puts an entry is answered.
-use Rattle.std.proofs.Common.{◌≡◌, ℕ, zero, suc, ◌+◌, ◌<◌, ◌≤◌, max, List, [], ◌∷◌, length, map, Some, Ok, refl, sym, ap, subst, ◌∙◌, arith, inl, inr}
-use Rattle.std.proofs.lemmas.List.{length-map}
-use Rattle.std.specs.List.{fold, slice_get}
+use Rattle.std.proofs.Common.{◌≡◌, ℕ, ◌+◌, ◌<◌, ◌≤◌, max, List, [], ◌∷◌, length, map, Ok, refl, sym, ap, subst, ◌∙◌, arith, inl, inr}
+use Rattle.std.specs.List.{fold}
 use Rattle.std.specs.Prelude.{slice_index}
 use Rattle.cdf_model.specs.declared.answer.Outcome.TheVariants.{Done, Refused}
 use Rattle.cdf_model.specs.declared.answer.Reason.{Reason}
@@ -11,7 +10,6 @@ use Rattle.cdf_model.specs.declared.command.Command.{Command}
 use Rattle.cdf_model.specs.declared.command.Command.TheVariants.{PutEntry}
 use Rattle.cdf_model.specs.declared.data_type.DataType.{DataType}
 use Rattle.cdf_model.specs.declared.kinds.EntryKind.{EntryKind}
-use Rattle.cdf_model.specs.declared.kinds.EntryKind.TheVariants.{G, R, Z}
 use Rattle.cdf_model.specs.Answers.{Go, Refuse}
 use Rattle.cdf_model.specs.AttributeSteps.{entries_of, put_entry_step, with_attribute, with_entries}
 use Rattle.cdf_model.specs.ByteOrder.{turned}
@@ -23,7 +21,7 @@ use Rattle.cdf_values.proofs.TurnedLemmas.{size_stays}
 use Rattle.cdf_format.specs.Content.{content, attribute_of}
 use Rattle.cdf_format.specs.Fields.{number}
 use Rattle.cdf_format.specs.Records.{aedr_num}
-use Rattle.cdf_format.specs.Shape.{AttributeShape, adrs, shape}
+use Rattle.cdf_format.specs.Shape.{adrs, shape}
 use Rattle.cdf_format.specs.Stored.{is_little}
 use Rattle.cdf_format.specs.Tiles.{In}
 use Rattle.cdf_format.specs.WellFormed.{Good}
@@ -41,7 +39,7 @@ use Rattle.cdf_attrs.specs.Known.{KnownEntries, KnowsEntries}
 use Rattle.cdf_attrs.specs.PutValues.{Asks, IsAttributeAt, Puts, stored_entry}
 use Rattle.cdf_attrs.specs.Requests.{MayPut}
 use Rattle.cdf_attrs.specs.Valued.{entry_of_words}
-use Rattle.cdf_attrs.proofs.AttributeFound.{adr_got}
+use Rattle.cdf_attrs.proofs.AttributeFound.{adr_is}
 use Rattle.cdf_attrs.proofs.EntryChains.{entry_number, members}
 use Rattle.cdf_attrs.proofs.GettingAnswers.{of_attribute}
 use Rattle.cdf_attrs.proofs.GreatestPut.{top_small}
@@ -53,16 +51,6 @@ each_small : (b ms : List ℕ) → ((m : ℕ) → In m ms → number b m aedr_nu
 each_small b [] all x i = absurd i
 each_small b (m ∷ ms) all x (inl e) = let le = all m (inl refl) in omega arith
 each_small b (m ∷ ms) all x (inr i) = each_small b ms (λ n j. all n (inr j)) x i
-
-within : (as_ : List AttributeShape) (n : ℕ) (a : AttributeShape) → slice_get as_ n ≡ Some a → n < length as_
-within [] n a e = absurd cc
-within (x ∷ as_) zero a e = omega arith
-within (x ∷ as_) (suc n) a e = let lt = within as_ n a e in omega arith
-
-chain_marks : (b attr : List ℕ) (kind : EntryKind) (n : ℕ) (chain : Chain) (found : FindsChain b attr kind n chain) → chain ≡ entries_chain kind found.own.adr
-chain_marks b attr G n chain found = found.chain_is
-chain_marks b attr R n chain found = found.chain_is
-chain_marks b attr Z n chain found = found.chain_is
 
 module _ {b attr : List ℕ} {kind : EntryKind} {n : ℕ} {chain : Chain} (good : Good b) (found : FindsChain b attr kind n chain) where
   numbers_small : (x : ℕ) → In x (map (λ aedr. number b aedr aedr_num) (chain_of found.own kind)) → x ≤ record_number_limit
@@ -78,17 +66,11 @@ module _ {b attr : List ℕ} {kind : EntryKind} {n : ℕ} {chain : Chain} (good 
       let small = top_small num record_number_limit entries.numbers le (λ x i. numbers_small x (subst (In x) are i)) in
       omega (arith, small)
 
-  pub place_within : (places : List ℕ) → places ≡ adrs (shape b) → n < length places
-  place_within places are = let lt = within (shape b).attributes n found.own found.stands in omega (arith, lt, ap length are, length-map (shape b).attributes (λ (a : AttributeShape). a.adr))
-
-  pub adr_there : (places : List ℕ) → places ≡ adrs (shape b) → found.own.adr ≡ slice_index places n
-  adr_there places are = sym (ap (λ (xs : List ℕ). slice_index xs n) are ∙ adr_got (shape b).attributes n found.own found.stands)
-
   pub attribute_at : (places : List ℕ) → places ≡ adrs (shape b) → IsAttributeAt b n (slice_index places n)
-  attribute_at places are = record { own = found.own; stands = found.stands; adr_is = adr_there places are }
+  attribute_at places are = record { own = found.own; stands = found.stands; adr_is = sym (adr_is found places are) }
 
   pub chain_at : (places : List ℕ) → places ≡ adrs (shape b) → chain ≡ entries_chain kind (slice_index places n)
-  chain_at places are = chain_marks b attr kind n chain found ∙ ap (entries_chain kind) (adr_there places are)
+  chain_at places are = found.chain_is ∙ ap (entries_chain kind) (sym (adr_is found places are))
 
 -- ---- the answers
 

@@ -1,5 +1,5 @@
 -- A value that is put as the entry of a number into a chain of an attribute, and what an image is then (own).
-use Rattle.std.specs.Prelude.{◌≡◌, ℕ, List, Some, Ok, false}
+use Rattle.std.specs.Prelude.{◌≡◌, ◌+◌, ◌<◌, ◌≤◌, ℕ, List, Some, Ok, false, length, slice_index, FitsSigned}
 use Rattle.std.specs.List.{slice_get}
 use Rattle.cdf_model.specs.declared.command.Command.TheVariants.{PutEntry}
 use Rattle.cdf_model.specs.declared.data_type.DataType.{DataType}
@@ -9,10 +9,22 @@ use Rattle.cdf_model.specs.DataSet.{Entry}
 use Rattle.cdf_model.specs.Names.{attribute_named, attribute_names}
 use Rattle.cdf_model.specs.Values.{notation_of}
 use Rattle.cdf_edits.specs.Follows.{Follows}
-use Rattle.cdf_format.specs.Content.{content, attribute_of}
+use Rattle.cdf_format.specs.Content.{content, attribute_of, entries_of}
 use Rattle.cdf_format.specs.Shape.{AttributeShape, adrs, shape}
 use Rattle.cdf_format.specs.Stored.{is_little}
 use Rattle.cdf_attrs.specs.declared.putting.Slot.{Slot}
+use Rattle.cdf_attrs.specs.declared.putting.NewEntry.{NewEntry}
+use Rattle.cdf_attrs.specs.declared.entry_bytes.OldEntry.{OldEntry}
+use Rattle.cdf_attrs.specs.Known.{KnownEntries, KnowsEntries}
+use Rattle.cdf_attrs.specs.Putting.{IsStored, reserved_at}
+use Rattle.cdf_records.specs.Pieces.{AreBytes}
+use Rattle.cdf_edits.specs.Commands.EntryChains.{greatest_number}
+use Rattle.cdf_edits.specs.Edits.EntryMarks.{entries_chain}
+use Rattle.cdf_format.specs.Fields.{number, size_at}
+use Rattle.cdf_format.specs.Records.{aedr_num}
+use Rattle.cdf_model.specs.Limits.{image_limit, record_number_limit}
+use Rattle.cdf_model.specs.Numbered.{with_item}
+use Rattle.std.specs.Int.{w32}
 
 -- an attribute has this number, and its ADR stands at this place
 pub record IsAttributeAt (b : List ℕ) (number adr : ℕ) : Type 0 where
@@ -37,3 +49,27 @@ pub record Puts (b now : List ℕ) (slot : Slot) (entry : Entry) : Type 0 where
   pub follows : (attr : List ℕ) (words : List (List ℕ)) → Asks b attr slot words entry → Follows b (PutEntry attr slot.kind slot.num entry.type words) now
   pub names_stay : attribute_names (content now) ≡ attribute_names (content b)
   pub places_stay : adrs (shape now) ≡ adrs (shape b)
+
+-- the entry of a slot and a value
+abbrev pub new_entry : List ℕ → NewEntry → Entry
+new_entry b new = stored_entry b new.value.t new.value.elems new.value.bytes.items
+
+-- An entry may be put into a chain of which all entries are known: there is the attribute, its value fits a record, there is room for it within a limit, and the greatest number is the one with it.
+pub record IsReady (b : List ℕ) (limit : ℕ) (new : NewEntry) (entries : KnownEntries) : Type 0 where
+  pub attribute : IsAttributeAt b new.slot.attribute new.slot.adr
+  pub chain : entries.chain ≡ entries_chain new.slot.kind new.slot.adr
+  pub known : KnowsEntries b entries
+  pub stored : IsStored new.value.t new.value.elems new.value.bytes.items
+  pub num : new.slot.num ≤ record_number_limit
+  pub greatest : new.greatest ≡ greatest_number (with_item new.slot.num (new_entry b new) (entries_of b entries.places))
+  pub fits : FitsSigned w32 new.greatest
+  pub room : length b + (56 + length new.value.bytes.items) ≤ limit
+  pub within : limit ≤ image_limit
+
+-- the entry at an index of a chain has this number, and this is what was read of it
+pub record HasOld (b : List ℕ) (entries : KnownEntries) (i num : ℕ) (old : OldEntry) : Type 0 where
+  pub within : i < length entries.places
+  pub number_is : number b (slice_index entries.places i) aedr_num ≡ num
+  pub size_is : old.size ≡ size_at b (slice_index entries.places i)
+  pub reserved_is : old.reserved ≡ reserved_at b (slice_index entries.places i)
+  pub bytes : AreBytes b (slice_index entries.places i) 56

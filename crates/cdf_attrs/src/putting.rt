@@ -1,33 +1,28 @@
 //! The command `put-entry`: an entry is made or replaced.
 
-ghost use Rattle.std.specs.Prelude.{◌≡◌, ◌==◌, ◌+◌, ◌<◌, ◌≤◌, ◌^◌, length, slice_index, None, IfOk, OnOk};
+ghost use Rattle.std.specs.Prelude.{◌≡◌, ◌==◌, ◌+◌, ◌<◌, ◌≤◌, ◌^◌, length, None, IfOk, OnOk};
 ghost use Rattle.std.specs.Int.{cast_unsigned, w32};
 ghost use Rattle.std.specs.List.{last_or, position};
 ghost use Rattle.cdf_area.specs.Calls.{Edits};
 ghost use Rattle.cdf_base.specs.Bytes.{put};
-ghost use Rattle.cdf_attrs.specs.Known.{KnownEntries, KnowsEntries};
-ghost use Rattle.cdf_attrs.specs.PutValues.{IsAttributeAt, Puts, stored_entry};
-ghost use Rattle.cdf_attrs.specs.Putting.{IsEntryBody, IsEntryOf, IsStored, MovedAs, PushedAs, reserved_at};
-ghost use Rattle.cdf_edits.specs.Commands.EntryChains.{entry_type, greatest_number, max_field};
+ghost use Rattle.cdf_attrs.specs.Known.{KnowsEntries};
+ghost use Rattle.cdf_attrs.specs.PutValues.{HasOld, IsReady, Puts, new_entry};
+ghost use Rattle.cdf_attrs.specs.Putting.{IsEntryBody, IsEntryOf, MovedAs, PushedAs};
+ghost use Rattle.cdf_edits.specs.Commands.EntryChains.{max_field};
 ghost use Rattle.cdf_edits.specs.Edits.EntryMarks.{entries_chain};
 ghost use Rattle.cdf_edits.specs.Space.Chains.{before, HasChain, HolderStands, counted_in, members_of, type_in};
 ghost use Rattle.cdf_edits.specs.Space.Placing.{IsBody, type_of_body};
-ghost use Rattle.cdf_format.specs.Content.{entries_of};
-ghost use Rattle.cdf_format.specs.Fields.{LiesIn, eof, gdr_offset, number, size_at, with_field};
-ghost use Rattle.cdf_format.specs.Records.{aedr_num};
+ghost use Rattle.cdf_format.specs.Fields.{LiesIn, eof, gdr_offset, with_field};
 ghost use Rattle.cdf_format.specs.Shape.{shape};
 ghost use Rattle.cdf_format.specs.Sound.{IsSound};
-ghost use Rattle.cdf_format.specs.Tiles.{In};
 ghost use Rattle.cdf_format.specs.WellFormed.{Good};
-ghost use Rattle.cdf_records.specs.Pieces.{AreBytes};
-ghost use Rattle.cdf_model.specs.Limits.{image_limit, record_number_limit};
-ghost use Rattle.cdf_model.specs.Numbered.{with_item};
+ghost use Rattle.cdf_model.specs.Limits.{image_limit};
 
 use crate::chain_fields::{entries_chain, set_greatest};
 use crate::entry_bytes::{OldEntry, Reserved, StoredValue, aedr_bytes, field_bytes, read_old};
 use crate::entry_chain::EntryChain;
 use cdf_area::{Area, AreaError};
-use cdf_format::fields::AEDR_ATTR_NUM;
+use cdf_format::fields::{AEDR_ATTR_NUM, AEDR_SIZE};
 use cdf_model::EntryKind;
 use cdf_space::{append_record, chain_replace, free_record, place_record};
 use std::alloc::Global;
@@ -39,6 +34,14 @@ pub struct Slot {
     pub attribute: u32,
     pub adr: u64,
     pub num: u32,
+}
+
+/// An entry that is to be put: where it belongs, its value, and the greatest number that its chain has with it.
+#[derive(Drop)]
+pub struct NewEntry {
+    pub slot: Slot,
+    pub value: StoredValue,
+    pub greatest: i32,
 }
 
 /// Makes a last entry in the chain of a kind, behind the one that was the last, with these bytes behind its size, and writes the greatest number.
@@ -119,198 +122,152 @@ fn move_entry<A: Area>(
     Ok(place)
 }
 
-/// Puts a value as a new entry, of a number that there is none of, behind the last one of its chain. Gives the entries as they are then.
+/// Puts an entry, of a number that there is none of, behind the last one of its chain. Gives the entries as they are then.
 /// After an error a part of this may have been done.
 fn put_last<A: Area>(
     alloc: Global,
     area: &mut A,
-    slot: Slot,
+    entry: &NewEntry,
     entries: EntryChain,
-    value: &StoredValue,
-    greatest: i32,
 ) -> Result<EntryChain, AreaError>
     requires good { Good (A.image area.old) }
-    requires attribute { IsAttributeAt (A.image area.old) slot.attribute slot.adr }
-    requires chain { entries.chain ≡ entries_chain slot.kind slot.adr }
-    requires known { KnowsEntries (A.image area.old) entries }
-    requires stored { IsStored value.now.t value.now.elems value.now.bytes.items }
-    requires num { slot.num ≤ record_number_limit }
-    requires absent { position (λ n. n == slot.num) entries.numbers ≡ None }
-    requires greatest { greatest ≡ greatest_number (with_item slot.num (stored_entry (A.image area.old) value.now.t value.now.elems value.now.bytes.items) (entries_of (A.image area.old) entries.places)) }
-    requires room { length (A.image area.old) + (56 + length value.now.bytes.items) ≤ (A.frame area.old).limit }
-    requires limit { (A.frame area.old).limit ≤ image_limit }
-    ensures put { OnOk result (Puts (A.image area.old) (A.image area.new) slot (stored_entry (A.image area.old) value.now.t value.now.elems value.now.bytes.items)) }
+    requires ready { IsReady (A.image area.old) (A.frame area.old).limit entry.now entries }
+    requires absent { position (λ n. n == entry.now.slot.num) entries.numbers ≡ None }
+    ensures put { OnOk result (Puts (A.image area.old) (A.image area.new) entry.now.slot (new_entry (A.image area.old) entry.now)) }
     ensures known { IfOk result (KnowsEntries (A.image area.new)) }
     ensures chain { IfOk result (λ put. put.chain ≡ entries.chain) }
     ensures area { Edits A.frame A.faults area.old area.new result }
 {
+    let slot = entry.slot;
     let bytes = aedr_bytes(
         alloc,
         slot.kind,
         slot.attribute,
         slot.num,
-        value,
+        &entry.value,
         Reserved::new(),
     )?;
     let mut put = entries;
     let last = put.places.last().copied();
-    let place = push_entry(area, slot.kind, slot.adr, last, &bytes, greatest)?;
+    let place = push_entry(area, slot.kind, slot.adr, last, &bytes, entry.greatest)?;
     put.push(slot.num, place)?;
     Ok(put)
 }
 
-/// Writes a value over that of the entry of its number, whose record has room for it. The numbers in its reserved fields stay.
-/// Gives the entries, which are those that they were. After an error a part of this may have been done.
+/// Puts an entry over the one of its number, at an index of its chain, whose record has room for it. The numbers in its reserved fields
+/// stay. Gives the entries, which are those that they were. After an error a part of this may have been done.
 fn put_in_place<A: Area>(
     alloc: Global,
     area: &mut A,
-    slot: Slot,
+    entry: &NewEntry,
     entries: EntryChain,
-    place: u64,
-    value: &StoredValue,
-    reserved: Reserved,
-    greatest: i32,
+    i: usize,
+    old: OldEntry,
 ) -> Result<EntryChain, AreaError>
     requires good { Good (A.image area.old) }
-    requires attribute { IsAttributeAt (A.image area.old) slot.attribute slot.adr }
-    requires chain { entries.chain ≡ entries_chain slot.kind slot.adr }
-    requires known { KnowsEntries (A.image area.old) entries }
-    requires stored { IsStored value.now.t value.now.elems value.now.bytes.items }
-    requires num { slot.num ≤ record_number_limit }
-    requires member { In place entries.places }
-    requires number { number (A.image area.old) place aedr_num ≡ slot.num }
-    requires reserved { reserved ≡ reserved_at (A.image area.old) place }
-    requires bytes { AreBytes (A.image area.old) place 56 }
-    requires fits { 56 + length value.now.bytes.items ≤ size_at (A.image area.old) place }
-    requires greatest { greatest ≡ greatest_number (with_item slot.num (stored_entry (A.image area.old) value.now.t value.now.elems value.now.bytes.items) (entries_of (A.image area.old) entries.places)) }
-    requires room { length (A.image area.old) + (56 + length value.now.bytes.items) ≤ (A.frame area.old).limit }
-    requires limit { (A.frame area.old).limit ≤ image_limit }
-    ensures put { OnOk result (Puts (A.image area.old) (A.image area.new) slot (stored_entry (A.image area.old) value.now.t value.now.elems value.now.bytes.items)) }
+    requires ready { IsReady (A.image area.old) (A.frame area.old).limit entry.now entries }
+    requires old { HasOld (A.image area.old) entries i entry.now.slot.num old }
+    requires fits { 56 + length entry.now.value.bytes.items ≤ old.size }
+    ensures put { OnOk result (Puts (A.image area.old) (A.image area.new) entry.now.slot (new_entry (A.image area.old) entry.now)) }
     ensures known { IfOk result (KnowsEntries (A.image area.new)) }
     ensures chain { IfOk result (λ put. put.chain ≡ entries.chain) }
     ensures area { Edits A.frame A.faults area.old area.new result }
 {
-    let fields = field_bytes(alloc, slot.attribute, slot.num, value, reserved)?;
-    change_entry(area, slot.kind, slot.adr, place, &fields, greatest)?;
+    let slot = entry.slot;
+    let fields = field_bytes(alloc, slot.attribute, slot.num, &entry.value, old.reserved)?;
+    let place = entries.places.as_slice()[i];
+    change_entry(area, slot.kind, slot.adr, place, &fields, entry.greatest)?;
     Ok(entries)
 }
 
-/// Makes a record with a value for the entry of its number, at an index of its chain, whose record has no room for it, and frees that one.
+/// Makes a record with an entry for the one of its number, at an index of its chain, whose record has no room for it, and frees that one.
 /// The numbers in its reserved fields stay. Gives the entries as they are then. After an error a part of this may have been done.
 fn put_anew<A: Area>(
     alloc: Global,
     area: &mut A,
-    slot: Slot,
+    entry: &NewEntry,
     entries: EntryChain,
     i: usize,
-    value: &StoredValue,
-    reserved: Reserved,
-    greatest: i32,
+    old: OldEntry,
 ) -> Result<EntryChain, AreaError>
     requires good { Good (A.image area.old) }
-    requires attribute { IsAttributeAt (A.image area.old) slot.attribute slot.adr }
-    requires chain { entries.chain ≡ entries_chain slot.kind slot.adr }
-    requires known { KnowsEntries (A.image area.old) entries }
-    requires stored { IsStored value.now.t value.now.elems value.now.bytes.items }
-    requires num { slot.num ≤ record_number_limit }
-    requires within { i < length entries.places }
-    requires number { number (A.image area.old) (slice_index entries.places i) aedr_num ≡ slot.num }
-    requires reserved { reserved ≡ reserved_at (A.image area.old) (slice_index entries.places i) }
-    requires bytes { AreBytes (A.image area.old) (slice_index entries.places i) 56 }
-    requires large { size_at (A.image area.old) (slice_index entries.places i) < 56 + length value.now.bytes.items }
-    requires greatest { greatest ≡ greatest_number (with_item slot.num (stored_entry (A.image area.old) value.now.t value.now.elems value.now.bytes.items) (entries_of (A.image area.old) entries.places)) }
-    requires room { length (A.image area.old) + (56 + length value.now.bytes.items) ≤ (A.frame area.old).limit }
-    requires limit { (A.frame area.old).limit ≤ image_limit }
-    ensures put { OnOk result (Puts (A.image area.old) (A.image area.new) slot (stored_entry (A.image area.old) value.now.t value.now.elems value.now.bytes.items)) }
+    requires ready { IsReady (A.image area.old) (A.frame area.old).limit entry.now entries }
+    requires old { HasOld (A.image area.old) entries i entry.now.slot.num old }
+    requires large { old.size < 56 + length entry.now.value.bytes.items }
+    ensures put { OnOk result (Puts (A.image area.old) (A.image area.new) entry.now.slot (new_entry (A.image area.old) entry.now)) }
     ensures known { IfOk result (KnowsEntries (A.image area.new)) }
     ensures chain { IfOk result (λ put. put.chain ≡ entries.chain) }
     ensures area { Edits A.frame A.faults area.old area.new result }
 {
-    let bytes = aedr_bytes(alloc, slot.kind, slot.attribute, slot.num, value, reserved)?;
+    let slot = entry.slot;
+    let bytes = aedr_bytes(
+        alloc,
+        slot.kind,
+        slot.attribute,
+        slot.num,
+        &entry.value,
+        old.reserved,
+    )?;
     let mut put = entries;
     let behind = put.places[..i].last().copied();
-    let old = put.places.as_slice()[i];
-    let place = move_entry(area, slot.kind, slot.adr, &bytes, behind, old, greatest)?;
+    let was = put.places.as_slice()[i];
+    let place = move_entry(
+        area,
+        slot.kind,
+        slot.adr,
+        &bytes,
+        behind,
+        was,
+        entry.greatest,
+    )?;
     put.set_place(i, place);
     Ok(put)
 }
 
-/// Puts a value in place of the entry of its number, at an index of its chain: in its record where that has room for it, else in another one.
+/// Puts an entry in place of the one of its number, at an index of its chain: in its record where that has room for it, else in another one.
 /// Gives the entries as they are then. After an error a part of this may have been done.
 fn put_over<A: Area>(
     alloc: Global,
     area: &mut A,
-    slot: Slot,
+    entry: &NewEntry,
     entries: EntryChain,
     i: usize,
-    value: &StoredValue,
     old: OldEntry,
-    greatest: i32,
 ) -> Result<EntryChain, AreaError>
     requires good { Good (A.image area.old) }
-    requires attribute { IsAttributeAt (A.image area.old) slot.attribute slot.adr }
-    requires chain { entries.chain ≡ entries_chain slot.kind slot.adr }
-    requires known { KnowsEntries (A.image area.old) entries }
-    requires stored { IsStored value.now.t value.now.elems value.now.bytes.items }
-    requires num { slot.num ≤ record_number_limit }
-    requires within { i < length entries.places }
-    requires number { number (A.image area.old) (slice_index entries.places i) aedr_num ≡ slot.num }
-    requires size { old.size ≡ size_at (A.image area.old) (slice_index entries.places i) }
-    requires reserved { old.reserved ≡ reserved_at (A.image area.old) (slice_index entries.places i) }
-    requires bytes { AreBytes (A.image area.old) (slice_index entries.places i) 56 }
-    requires greatest { greatest ≡ greatest_number (with_item slot.num (stored_entry (A.image area.old) value.now.t value.now.elems value.now.bytes.items) (entries_of (A.image area.old) entries.places)) }
-    requires room { length (A.image area.old) + (56 + length value.now.bytes.items) ≤ (A.frame area.old).limit }
-    requires limit { (A.frame area.old).limit ≤ image_limit }
-    ensures put { OnOk result (Puts (A.image area.old) (A.image area.new) slot (stored_entry (A.image area.old) value.now.t value.now.elems value.now.bytes.items)) }
+    requires ready { IsReady (A.image area.old) (A.frame area.old).limit entry.now entries }
+    requires old { HasOld (A.image area.old) entries i entry.now.slot.num old }
+    ensures put { OnOk result (Puts (A.image area.old) (A.image area.new) entry.now.slot (new_entry (A.image area.old) entry.now)) }
     ensures known { IfOk result (KnowsEntries (A.image area.new)) }
     ensures chain { IfOk result (λ put. put.chain ≡ entries.chain) }
     ensures area { Edits A.frame A.faults area.old area.new result }
 {
-    if 56 + value.bytes.len() as u64 <= old.size {
-        let place = entries.places.as_slice()[i];
-        put_in_place(
-            alloc,
-            area,
-            slot,
-            entries,
-            place,
-            value,
-            old.reserved,
-            greatest,
-        )
+    if AEDR_SIZE + entry.value.bytes.len() as u64 <= old.size {
+        put_in_place(alloc, area, entry, entries, i, old)
     } else {
-        put_anew(alloc, area, slot, entries, i, value, old.reserved, greatest)
+        put_anew(alloc, area, entry, entries, i, old)
     }
 }
 
-/// Puts a value as the entry of a number into a chain of an attribute: as a last one, or in place of the one that there is.
-/// Gives the entries as they are then. After an error a part of this may have been done.
-pub(crate) fn put_value<A: Area>(
+/// Puts an entry into its chain: as a last one, or in place of the one of its number. Gives the entries as they are then.
+/// After an error a part of this may have been done.
+pub(crate) fn put_new<A: Area>(
     alloc: Global,
     area: &mut A,
-    slot: Slot,
+    entry: &NewEntry,
     entries: EntryChain,
-    value: &StoredValue,
-    greatest: i32,
 ) -> Result<EntryChain, AreaError>
     requires good { Good (A.image area.old) }
-    requires attribute { IsAttributeAt (A.image area.old) slot.attribute slot.adr }
-    requires chain { entries.chain ≡ entries_chain slot.kind slot.adr }
-    requires known { KnowsEntries (A.image area.old) entries }
-    requires stored { IsStored value.now.t value.now.elems value.now.bytes.items }
-    requires num { slot.num ≤ record_number_limit }
-    requires greatest { greatest ≡ greatest_number (with_item slot.num (stored_entry (A.image area.old) value.now.t value.now.elems value.now.bytes.items) (entries_of (A.image area.old) entries.places)) }
-    requires room { length (A.image area.old) + (56 + length value.now.bytes.items) ≤ (A.frame area.old).limit }
-    requires limit { (A.frame area.old).limit ≤ image_limit }
-    ensures put { OnOk result (Puts (A.image area.old) (A.image area.new) slot (stored_entry (A.image area.old) value.now.t value.now.elems value.now.bytes.items)) }
+    requires ready { IsReady (A.image area.old) (A.frame area.old).limit entry.now entries }
+    ensures put { OnOk result (Puts (A.image area.old) (A.image area.new) entry.now.slot (new_entry (A.image area.old) entry.now)) }
     ensures known { IfOk result (KnowsEntries (A.image area.new)) }
     ensures chain { IfOk result (λ put. put.chain ≡ entries.chain) }
     ensures area { Edits A.frame A.faults area.old area.new result }
 {
-    let Some(i) = entries.find(slot.num) else {
-        return put_last(alloc, area, slot, entries, value, greatest);
+    let Some(i) = entries.find(entry.slot.num) else {
+        return put_last(alloc, area, entry, entries);
     };
     let place = entries.places.as_slice()[i];
     let old = read_old(area, place)?;
-    put_over(alloc, area, slot, entries, i, value, old, greatest)
+    put_over(alloc, area, entry, entries, i, old)
 }

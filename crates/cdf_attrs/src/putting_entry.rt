@@ -19,7 +19,7 @@ use crate::entry_bytes::StoredValue;
 use crate::finding::Target;
 use crate::getting::read_encoding;
 use crate::greatest::greatest_with;
-use crate::putting::{Slot, put_value};
+use crate::putting::{NewEntry, Slot, put_new};
 use crate::range::is_out_of_range;
 use crate::value::read_value;
 use cdf_area::{Area, AreaError};
@@ -139,7 +139,12 @@ impl Attrs {
             num,
         };
         let greatest = greatest_with(num, &entries.numbers);
-        let put = put_value(self.alloc, area, slot, entries, &value, greatest)?;
+        let entry = NewEntry {
+            slot,
+            value,
+            greatest,
+        };
+        let put = put_new(self.alloc, area, &entry, entries)?;
         self.entries = Some(put);
         Ok(Outcome::Done {
             reply: Reply::Plain,

@@ -1,4 +1,4 @@
-use Rattle.std.proofs.Common.{◌∙◌, ◌+◌, ◌<◌, ◌≤◌, ℕ, pos, max, List, length, FitsSigned, w32, sym, ap, subst, arith}
+use Rattle.std.proofs.Common.{◌∙◌, ◌+◌, ◌<◌, ◌≤◌, ℕ, pos, max, List, length, FitsSigned, w32, sym, ap, subst, arith, ℤ}
 use Rattle.std.proofs.lemmas.Int.{ints, to_z-of_z}
 use Rattle.std.specs.List.{fold}
 use Rattle.std.specs.Prelude.{slice_index}
@@ -11,14 +11,18 @@ use Rattle.cdf_model.specs.declared.answer.Reason.TheVariants.{TooLarge}
 use Rattle.cdf_model.specs.declared.command.Command.TheVariants.{PutEntry}
 use Rattle.cdf_model.specs.Limits.{signed_limit}
 use Rattle.cdf_model.specs.Numbered.{with_item}
+use Rattle.cdf_attrs.specs.declared.putting.NewEntry.{NewEntry}
 use Rattle.cdf_attrs.specs.declared.putting.Slot.{Slot}
 use Rattle.cdf_attrs.specs.Known.{Known, KnownEntries, KnowsEntries}
-use Rattle.cdf_attrs.specs.PutValues.{IsAttributeAt, Puts, stored_entry}
+use Rattle.cdf_attrs.specs.PutValues.{IsReady, Puts, new_entry, stored_entry}
 use Rattle.cdf_attrs.specs.Requests.{IsRequest}
 use Rattle.cdf_attrs.proofs.GreatestPut.{greatest_put}
-use Rattle.cdf_attrs.proofs.PutAnswers.{adr_there, attribute_at, chain_at, greatest_fits, place_within, put_done, put_refused, put_too_large}
+use Rattle.cdf_attrs.proofs.PutAnswers.{attribute_at, chain_at, greatest_fits, put_done, put_refused, put_too_large}
+use Rattle.cdf_attrs.proofs.AttributeFound.{adr_is, place_within}
 use Rattle.cdf_attrs.proofs.RangeCounts.{in_range_small}
 use Rattle.cdf_attrs.proofs.attrs.Attrs.put_entry.Goals as goal
+use Rattle.cdf_model.specs.declared.data_type.DataType.{DataType}
+use Rattle.cdf_attrs.specs.Putting.{IsStored}
 
 pub returns-in-Refused-clause-answers : goal.returns-in-Refused-clause-answers
 returns-in-Refused-clause-answers g c =
@@ -46,7 +50,7 @@ bounds-places-attribute g c =
     let b = g.A.Area.image c.args.area.now in
     let may = subst (IsRequest b c.args.attr.now c.args.kind c.args.num c.args.t c.args.words.now) c.in-Put.is c.in_ok-number.ensures.request in
     let places = c.as_slice-places.ensures.value ∙ ap (λ (k : Known). k.places) (c.self.view_is ∙ c.in_ok-entries.ensures.given) ∙ c.requires.known.places_are in
-    place_within c.requires.good may.found c.as_slice-places.result.now places
+    place_within may.found c.as_slice-places.result.now places
 
 pub greatest_with-greatest-requires : goal.greatest_with-greatest-requires
 greatest_with-greatest-requires g c =
@@ -57,45 +61,39 @@ greatest_with-greatest-requires g c =
     let numbers = c.deref.ensures.value ∙ ap (λ (k : KnownEntries). k.numbers) c.entries.view_is in
     subst (λ (xs : List ℕ). fold max c.args.num xs ≤ signed_limit) (sym numbers) (greatest_fits c.requires.good may.found c.in_ok-entries.entries c.in_ok-entries.ensures.chain knows c.args.num small)
 
-pub put_value-requires-clause-good : goal.put_value-requires-clause-good
-put_value-requires-clause-good g c = subst Good (sym (c.take_entries.ensures.area.image ∙ c.read_request.ensures.area.image)) c.requires.good
+pub put_new-requires-clause-good : goal.put_new-requires-clause-good
+put_new-requires-clause-good g c = subst Good (sym (c.take_entries.ensures.area.image ∙ c.read_request.ensures.area.image)) c.requires.good
 
-pub put_value-requires-clause-attribute : goal.put_value-requires-clause-attribute
-put_value-requires-clause-attribute g c =
+pub put_new-requires-clause-ready : goal.put_new-requires-clause-ready
+put_new-requires-clause-ready g c =
     let b = g.A.Area.image c.args.area.now in
+    let limit = (g.A.Area.frame c.args.area.now).limit in
     let may = subst (IsRequest b c.args.attr.now c.args.kind c.args.num c.args.t c.args.words.now) c.in-Put.is c.in_ok-number.ensures.request in
     let same = c.take_entries.ensures.area.image ∙ c.read_request.ensures.area.image in
     let places = c.as_slice-places.ensures.value ∙ ap (λ (k : Known). k.places) (c.self.view_is ∙ c.in_ok-entries.ensures.given) ∙ c.requires.known.places_are in
-    subst (λ (x : List ℕ). IsAttributeAt x c.in-Put.number (slice_index c.as_slice-places.result.now c.in-Put.number)) (sym same) (attribute_at c.requires.good may.found c.as_slice-places.result.now places)
-
-pub put_value-requires-clause-chain : goal.put_value-requires-clause-chain
-put_value-requires-clause-chain g c =
-    let b = g.A.Area.image c.args.area.now in
-    let may = subst (IsRequest b c.args.attr.now c.args.kind c.args.num c.args.t c.args.words.now) c.in-Put.is c.in_ok-number.ensures.request in
-    let places = c.as_slice-places.ensures.value ∙ ap (λ (k : Known). k.places) (c.self.view_is ∙ c.in_ok-entries.ensures.given) ∙ c.requires.known.places_are in
-    c.in_ok-entries.ensures.chain ∙ chain_at c.requires.good may.found c.as_slice-places.result.now places
-
-pub put_value-requires-clause-num : goal.put_value-requires-clause-num
-put_value-requires-clause-num g c =
-    let b = g.A.Area.image c.args.area.now in
-    let may = subst (IsRequest b c.args.attr.now c.args.kind c.args.num c.args.t c.args.words.now) c.in-Put.is c.in_ok-number.ensures.request in
-    let small = in_range_small b c.requires.good (omega (arith, c.requires.fits, c.requires.limit)) c.args.kind c.args.num may.in_range in
-    small
-
-pub put_value-requires-clause-greatest : goal.put_value-requires-clause-greatest
-put_value-requires-clause-greatest g c =
-    let b = g.A.Area.image c.args.area.now in
-    let may = subst (IsRequest b c.args.attr.now c.args.kind c.args.num c.args.t c.args.words.now) c.in-Put.is c.in_ok-number.ensures.request in
-    let same = c.take_entries.ensures.area.image ∙ c.read_request.ensures.area.image in
     let knows = subst (λ (x : List ℕ). KnowsEntries x c.in_ok-entries.entries) c.read_request.ensures.area.image c.in_ok-entries.ensures.entries in
     let small = in_range_small b c.requires.good (omega (arith, c.requires.fits, c.requires.limit)) c.args.kind c.args.num may.in_range in
     let numbers = c.deref.ensures.value ∙ ap (λ (k : KnownEntries). k.numbers) c.entries.view_is in
     let fits = greatest_fits c.requires.good may.found c.in_ok-entries.entries c.in_ok-entries.ensures.chain knows c.args.num small in
     let is = c.greatest_with-greatest.ensures ∙ ap (λ (xs : List ℕ). pos (fold max c.args.num xs)) numbers in
     let signed = subst (FitsSigned w32) (sym is) (omega (arith, ints, fits)) in
-    to_z-of_z w32 c.greatest_with-greatest.result signed ∙ is ∙ ap (λ (xs : List ℕ). pos (fold max c.args.num xs)) knows.numbers_are
-    ∙ greatest_put b c.in_ok-entries.entries.places c.args.num (stored_entry b c.in-Put.value.t c.in-Put.value.elems c.in-Put.value.bytes.items)
-    ∙ ap (λ (x : List ℕ). greatest_number (with_item c.args.num (stored_entry x c.in-Put.value.t c.in-Put.value.elems c.in-Put.value.bytes.items) (entries_of x c.in_ok-entries.entries.places))) (sym same)
+    let long = ap (λ (x : List ℕ). length x) c.read_request.ensures.area.image in
+    let most = ap (λ f. f.limit) c.read_request.ensures.area.frame in
+    let entry : NewEntry = record { slot = record { kind = c.args.kind; attribute = c.in-Put.number; adr = slice_index c.as_slice-places.result.now c.in-Put.number; num = c.args.num }; value = c.in-Put.value; greatest = c.greatest_with-greatest.result } in
+    let ready : IsReady b limit entry c.in_ok-entries.entries = record {
+      attribute = attribute_at c.requires.good may.found c.as_slice-places.result.now places;
+      chain = c.in_ok-entries.ensures.chain ∙ chain_at c.requires.good may.found c.as_slice-places.result.now places;
+      known = knows;
+      stored = subst (λ (x : DataType). IsStored x c.in-Put.value.elems c.in-Put.value.bytes.items) (sym may.t_is) may.written.stored;
+      num = small;
+      greatest = is ∙ ap (λ (xs : List ℕ). pos (fold max c.args.num xs)) knows.numbers_are ∙ greatest_put b c.in_ok-entries.entries.places c.args.num (new_entry b entry);
+      fits = signed;
+      room = omega (arith, c.requires.fits, long, most, c.if-limit-size.false, c.limit.ensures, c.size.ensures, c.len.ensures);
+      within = c.requires.limit;
+    } in
+    let framed = ap (λ f. f.limit) (c.take_entries.ensures.area.frame ∙ c.read_request.ensures.area.frame) in
+    let there = subst (λ (n : ℕ). IsReady (g.A.Area.image c.take_entries.new.area) n entry c.in_ok-entries.entries) (sym framed) (subst (λ (x : List ℕ). IsReady x limit entry c.in_ok-entries.entries) (sym same) ready) in
+    subst (λ (z : ℤ). IsReady (g.A.Area.image c.take_entries.new.area) (g.A.Area.frame c.take_entries.new.area).limit (record entry { greatest = z }) c.in_ok-entries.entries) (sym (to_z-of_z w32 c.greatest_with-greatest.result signed)) there
 
 pub returns-clause-answers : goal.returns-clause-answers
 returns-clause-answers g c =
@@ -108,6 +106,6 @@ returns-clause-answers g c =
     let most = ap (λ f. f.limit) c.read_request.ensures.area.frame in
     let adr = slice_index c.as_slice-places.result.now c.in-Put.number in
     let slot : Slot = record { kind = c.args.kind; attribute = c.in-Put.number; adr = adr; num = c.args.num } in
-    let puts = subst (λ (x : List ℕ). Puts x (g.A.Area.image c.put_value.new.area) slot (stored_entry x c.in-Put.value.t c.in-Put.value.elems c.in-Put.value.bytes.items)) same c.in_ok-put.ensures.put in
+    let puts = subst (λ (x : List ℕ). Puts x (g.A.Area.image c.put_new.new.area) slot (stored_entry x c.in-Put.value.t c.in-Put.value.elems c.in-Put.value.bytes.items)) same c.in_ok-put.ensures.put in
     let under : length b + (56 + length c.in-Put.value.bytes.items) ≤ limit = omega (arith, c.requires.fits, long, most, c.if-limit-size.false, c.limit.ensures, c.size.ensures, c.len.ensures) in
-    put_done limit b c.args.attr.now c.args.kind c.args.num c.args.t c.args.words.now may (g.A.Area.image c.put_value.new.area) adr (adr_there c.requires.good may.found c.as_slice-places.result.now places) under puts
+    put_done limit b c.args.attr.now c.args.kind c.args.num c.args.t c.args.words.now may (g.A.Area.image c.put_new.new.area) adr (sym (adr_is may.found c.as_slice-places.result.now places)) under puts
