@@ -1,89 +1,117 @@
--- A file that is written over from a place on is between the old file and the new one.
-use Rattle.std.proofs.Common.{◌≡◌, ◌⊎◌, ℕ, ◌+◌, ◌-◌, ◌≤◌, ◌<◌, Bool, true, false, List, [], ◌++◌, length, take, drop, refl, sym, ◌∙◌, ap, subst, arith, inl, inr, append_assoc, append-nil, length-append}
-use Rattle.std.proofs.lemmas.Bool.{cases_Bool}
-use Rattle.std.proofs.lemmas.Bool.Decides.{nat_tests}
-use Rattle.std.proofs.lemmas.List.{length-take-le, length-drop, get_or-take, get_or-drop, get_or_append_left, get_or-append_right, take_at}
-use Rattle.std.proofs.Math.ListN.{drop_of_length-le}
-use Rattle.std.specs.Prelude.{nat_lt, slice_index}
+-- A file into which parts of a new one are written stays between the old one and the new one.
+use Rattle.std.proofs.Common.{◌≡◌, ◌⊎◌, ℕ, ◌+◌, ◌-◌, ◌*◌, ◌≤◌, ◌<◌, min, max, List, [], ◌++◌, length, take, drop, slice_index, Option, Some, None, refl, sym, ◌∙◌, ap, subst, arith, inl, inr, append_assoc, append-nil, length-append}
+use Rattle.std.proofs.lemmas.Bool.{cases_lt}
+use Rattle.std.proofs.lemmas.List.{length-take-le, length-drop, get_or-take, get_or_append_left, get_or-append_right, take_at, drop_all}
 use Rattle.cdf_base.specs.Bytes.{put}
-use Rattle.cdf_pages.specs.Saving.{IsBetween, behind_front}
+use Rattle.cdf_base.proofs.Puts.{byte-put_before, byte-put_inside, byte-put_after, take-put}
+use Rattle.cdf_store.specs.Disk.{Disk, IsWhole, WrittenPart, cut, file_of, written}
+use Rattle.std.specs.Prelude.{IsSome}
+use Rattle.cdf_pages.specs.Saving.{Holds, HoldsBetween, IsBetween}
+use Rattle.cdf_pages.proofs.Disks.{file_held, holds_cut, holds_first, holds_next}
 
-less : (m n : ℕ) → nat_lt m n ≡ true → m < n
-less m n e = grind (arith, nat_tests)
-
-not_less : (m n : ℕ) → nat_lt m n ≡ false → n ≤ m
-not_less m n e = grind (arith, nat_tests)
-
-module _ (old : List ℕ) (start : ℕ) (xs : List ℕ) (n : ℕ) (le : start ≤ length old) (within : n ≤ length xs) where
-  abbrev front : List ℕ
-  front = take start old
-
-  abbrev piece : List ℕ
-  piece = take n xs
-
-  abbrev rest : List ℕ
-  rest = drop (start + length piece) old
-
-  front_long : length front ≡ start
-  front_long = length-take-le start old le
-
-  piece_long : length piece ≡ n
-  piece_long = length-take-le n xs within
-
-  put_long : length (front ++ (piece ++ rest)) ≡ start + n + (length old - (start + n))
-  put_long = omega (arith, length-append front (piece ++ rest), length-append piece rest, front_long, piece_long, length-drop (start + length piece) old)
-
-  new_long : length (behind_front old start xs) ≡ start + length xs
-  new_long = omega (arith, length-append front xs, front_long)
-
-  at_front : (i : ℕ) → i < start → slice_index (front ++ (piece ++ rest)) i ≡ slice_index old i
-  at_front i lt = get_or_append_left front (piece ++ rest) 0 i (omega (arith, front_long)) ∙ get_or-take start old i 0 lt
-
-  at_piece : (i : ℕ) → start ≤ i → i < start + n → slice_index (front ++ (piece ++ rest)) i ≡ slice_index (behind_front old start xs) i
-  at_piece i ge lt =
-      get_or-append_right front (piece ++ rest) start i 0 front_long ge
-      ∙ get_or_append_left piece rest 0 (i - start) (omega (arith, piece_long))
-      ∙ get_or-take n xs (i - start) 0 (omega arith)
-      ∙ sym (get_or-append_right front xs start i 0 front_long ge)
-
-  at_rest : (i : ℕ) → start + n ≤ i → slice_index (front ++ (piece ++ rest)) i ≡ slice_index old i
-  at_rest i ge =
-      get_or-append_right front (piece ++ rest) start i 0 front_long (omega arith)
-      ∙ get_or-append_right piece rest n (i - start) 0 piece_long (omega arith)
-      ∙ get_or-drop (start + length piece) old (i - start - n) 0
-      ∙ ap (slice_index old) (omega (arith, piece_long))
-
-  pub put_between : IsBetween old (behind_front old start xs) (put old start (take n xs))
-  unfolding put
-  put_between = record {
-    long = inl (omega (arith, put_long));
-    short = elim (cases_Bool (nat_lt (start + n) (length old))) [
-      | inl e ↦ inl (let lt = less (start + n) (length old) e in omega (arith, put_long))
-      | inr e ↦ inr (let ge = not_less (start + n) (length old) e in omega (arith, put_long, new_long))
-    ];
-    each = λ i lt. elim (cases_Bool (nat_lt i start)) [
-      | inl e ↦ inl (let l = less i start e in (omega arith, at_front i l))
-      | inr e ↦ (let g = not_less i start e in elim (cases_Bool (nat_lt i (start + n))) [
-        | inl e2 ↦ inr (let l = less i (start + n) e2 in (omega (arith, new_long), at_piece i g l))
-        | inr e2 ↦ inl (let h = not_less i (start + n) e2 in (omega (arith, put_long), at_rest i h))
-      ])
-    ];
-  }
-
--- all bytes were written, and the file was cut behind them
-pub put_cut : (old : List ℕ) (start : ℕ) (xs : List ℕ) → start ≤ length old → take (start + length xs) (put old start xs) ≡ behind_front old start xs
+pub length-written : (b : List ℕ) (place : ℕ) (xs : List ℕ) → place ≤ length b → length (put b place xs) ≡ max (length b) (place + length xs)
 unfolding put
-put_cut old start xs le =
-    let long : length (take start old ++ xs) ≡ start + length xs = length-append (take start old) xs ∙ ap (λ (n : ℕ). n + length xs) (length-take-le start old le) in
-    ap (take (start + length xs)) (sym (append_assoc (take start old) xs (drop (start + length xs) old))) ∙ take_at (take start old ++ xs) (drop (start + length xs) old) (start + length xs) long
+length-written b place xs h =
+    omega (arith, length-append (take place b) (xs ++ drop (place + length xs) b), length-append xs (drop (place + length xs) b), length-take-le place b h, length-drop (place + length xs) b)
 
--- where the old file was not longer there is nothing to cut
-pub put_all : (old : List ℕ) (start : ℕ) (xs : List ℕ) → start ≤ length old → length old ≤ start + length xs → put old start xs ≡ behind_front old start xs
-unfolding put
-put_all old start xs le short =
-    ap (λ (l : List ℕ). take start old ++ (xs ++ l)) (drop_of_length-le old short) ∙ ap (λ (l : List ℕ). take start old ++ l) (append-nil xs)
+pub between_same : (old new : List ℕ) → IsBetween old new old
+between_same old new = record { long = inl (omega arith); short = inl (omega arith); each = λ i lt. inl (lt, refl) }
 
--- the front stays
-pub put_front : (old : List ℕ) (start n : ℕ) (xs : List ℕ) → start ≤ length old → take start (put old start (take n xs)) ≡ take start old
+-- bytes of the new file are written
+pub between_put : (old new now : List ℕ) (place : ℕ) (xs : List ℕ) → IsBetween old new now → place ≤ length now → place + length xs ≤ length new → ((t : ℕ) → t < length xs → slice_index xs t ≡ slice_index new (place + t)) → IsBetween old new (put now place xs)
+between_put old new now place xs b room fits same =
+    let long = length-written now place xs room in
+    record {
+      long = elim b.long [ inl o ↦ inl (omega (arith, o, long)) | inr n ↦ inr (omega (arith, n, long)) ];
+      short = elim (cases_lt (length now) (place + length xs)) [
+        | inl grows ↦ inr (omega (arith, grows, long, fits))
+        | inr stays ↦ elim b.short [ inl o ↦ inl (omega (arith, o, long, stays)) | inr n ↦ inr (omega (arith, n, long, stays)) ]
+      ];
+      each = λ i lt. elim (cases_lt i place) [
+        | inl before ↦ (let is = byte-put_before now place xs i room before in
+            elim (b.each i (omega arith)) [ inl o ↦ inl (o.0, is ∙ o.1) | inr n ↦ inr (n.0, is ∙ n.1) ])
+        | inr from_ ↦ elim (cases_lt i (place + length xs)) [
+          | inl within ↦ (let e : place + (i - place) ≡ i = omega arith in
+              inr (omega (arith, within, fits), ap (slice_index (put now place xs)) (sym e) ∙ byte-put_inside now place xs (i - place) room (omega arith) ∙ same (i - place) (omega arith) ∙ ap (slice_index new) e))
+          | inr after ↦ (let is = byte-put_after now place xs i room after in
+              elim (b.each i (omega (arith, lt, long, after))) [ inl o ↦ inl (o.0, is ∙ o.1) | inr n ↦ inr (n.0, is ∙ n.1) ])
+        ]
+      ];
+    }
+
+-- the same of the disk
+pub holds_between_first : {U : Type 0} (d : Disk U) (new : List ℕ) → IsWhole d → IsSome d.held → HoldsBetween d new d
+holds_between_first d new whole is = record { bytes = file_of d; between = between_same (file_of d) new; holds = holds_first d whole is }
+
+module _ {U : Type 0} (d now : Disk U) (new : List ℕ) (place : ℕ) (xs : List ℕ) (h : HoldsBetween d new now) (room : place ≤ length (file_of now)) (fits : place + length xs ≤ length new)
+    (same : (t : ℕ) → t < length xs → slice_index xs t ≡ slice_index new (place + t)) where
+  pub written_between : (next : Disk U) → next ≡ written now place xs → HoldsBetween d new next
+  written_between next e =
+      let file = file_held d now h.bytes h.holds in
+      record {
+        bytes = put h.bytes place xs;
+        between = between_put (file_of d) new h.bytes place xs h.between (omega (arith, room, ap length file)) fits same;
+        holds = holds_next d now next h.bytes place xs h.holds e;
+      }
+
+module _ {U : Type 0} (d now : Disk U) (new : List ℕ) (place : ℕ) (xs : List ℕ) (h : HoldsBetween d new now) (room : place ≤ length (file_of now)) (fits : place + length xs ≤ length new)
+    (same : (t : ℕ) → t < length xs → slice_index xs t ≡ slice_index new (place + t)) where
+  -- a part of them
+  pub part_between : (next : Disk U) → WrittenPart now place xs next → HoldsBetween d new next
+  part_between next (inl stays) = subst (HoldsBetween d new) (sym stays) h
+  part_between next (inr w) =
+      let n = w.0 in
+      let long : length (take n xs) ≡ n = length-take-le n xs w.1 in
+      let within = w.1 in
+      written_between d now new place (take n xs) h room (omega (arith, long, within, fits)) (λ t lt.
+      let low : t < n = omega (arith, lt, long) in get_or-take n xs t 0 low ∙ same t (omega (arith, low, within))) next w.2
+
+-- how long the file is at most
+pub between_bound : {U : Type 0} (d now : Disk U) (new : List ℕ) → HoldsBetween d new now → length (file_of now) ≤ max (length (file_of d)) (length new)
+between_bound d now new h =
+    let is = ap length (file_held d now h.bytes h.holds) in
+    elim h.between.short [ inl o ↦ omega (arith, o, is) | inr n ↦ omega (arith, n, is) ]
+
+-- the file has become the new one
+pub holds_new : {U : Type 0} (d now : Disk U) (new : List ℕ) → HoldsBetween d new now → file_of now ≡ new → Holds d new now
+holds_new d now new h e = subst (λ (l : List ℕ). Holds d l now) (sym (file_held d now h.bytes h.holds) ∙ e) h.holds
+
+pub cut_new : {U : Type 0} (d now next : Disk U) (new : List ℕ) (n : ℕ) → HoldsBetween d new now → next ≡ cut now n → take n (file_of now) ≡ new → Holds d new next
+cut_new d now next new n h e is =
+    subst (λ (l : List ℕ). Holds d l next) (ap (take n) (sym (file_held d now h.bytes h.holds)) ∙ is) (holds_cut d now next h.bytes n h.holds e)
+
+-- the tail was written behind the image: it is cut behind the tail, or nothing stands there
+pub tail_cut : (file : List ℕ) (place : ℕ) (tail : List ℕ) → place ≤ length file → take (place + length tail) (put file place tail) ≡ take place file ++ tail
 unfolding put
-put_front old start n xs le = take_at (take start old) _ start (length-take-le start old le)
+tail_cut file place tail le =
+    let long : length (take place file ++ tail) ≡ place + length tail = length-append (take place file) tail ∙ ap (λ n. n + length tail) (length-take-le place file le) in
+    ap (take (place + length tail)) (sym (append_assoc (take place file) tail (drop (place + length tail) file))) ∙ take_at (take place file ++ tail) (drop (place + length tail) file) (place + length tail) long
+
+pub tail_last : (file : List ℕ) (place : ℕ) (tail : List ℕ) → length file ≤ place + length tail → put file place tail ≡ take place file ++ tail
+unfolding put
+tail_last file place tail short =
+    ap (λ (l : List ℕ). take place file ++ (tail ++ l)) (drop_all (place + length tail) file short) ∙ ap (λ (l : List ℕ). take place file ++ l) (append-nil tail)
+
+-- a tail stands behind the image
+pub tail_in : (image tail : List ℕ) (place : ℕ) → length image ≡ place → (place + length tail ≤ length (image ++ tail)) × ((t : ℕ) → t < length tail → slice_index tail t ≡ slice_index (image ++ tail) (place + t))
+tail_in image tail place e = (
+  omega (arith, e, length-append image tail),
+  λ t lt.
+      sym (get_or-append_right image tail place (place + t) 0 e (omega arith) ∙ ap (slice_index tail) (omega arith)),
+)
+
+module _ {U : Type 0} (d next : Disk U) (place : ℕ) (xs : List ℕ) (room : place ≤ length (file_of d)) where
+  pub front_written : next ≡ written d place xs → take place (file_of next) ≡ take place (file_of d)
+  front_written e = ap (λ x. take place (file_of x)) e ∙ take-put (file_of d) place xs room
+
+  pub longer_written : next ≡ written d place xs → length (file_of d) ≤ length (file_of next)
+  longer_written e = omega (arith, ap (λ x. length (file_of x)) e, length-written (file_of d) place xs room)
+
+module _ {U : Type 0} (d next : Disk U) (place : ℕ) (xs : List ℕ) (room : place ≤ length (file_of d)) where
+  pub front_part : WrittenPart d place xs next → take place (file_of next) ≡ take place (file_of d)
+  front_part (inl same) = ap (λ x. take place (file_of x)) same
+  front_part (inr w) = front_written d next place (take w.0 xs) room w.2
+
+  pub longer_part : WrittenPart d place xs next → length (file_of d) ≤ length (file_of next)
+  longer_part (inl same) = omega (arith, ap (λ x. length (file_of x)) same)
+  longer_part (inr w) = longer_written d next place (take w.0 xs) room w.2

@@ -1,4 +1,10 @@
-pub mod Filling
-pub mod PiecesWritten
 pub mod Between
-pub mod Saved
+pub mod Costs
+pub mod Disks
+pub mod Filling
+pub mod Growing
+pub mod Images
+pub mod Keys
+pub mod SavedArea
+pub mod SavedPage
+pub mod Touched

@@ -1,1 +1,5 @@
+pub mod Cached
+pub mod Grown
+pub mod Pages
 pub mod Saving
+pub mod Standing

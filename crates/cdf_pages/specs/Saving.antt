@@ -1,7 +1,11 @@
--- What writes leave of the attached file, and of the disk.
-use Rattle.std.specs.Prelude.{◌≡◌, ◌⊎◌, ◌≤◌, ◌<◌, ◌==◌, ◌||◌, ℕ, Bool, false, not, List, [], ◌++◌, length, take, slice_index, Some, None}
+-- What a save leaves of the attached file, and of the disk.
+use Rattle.std.specs.Prelude.{◌≡◌, ◌⊎◌, ◌+◌, ◌*◌, ◌≤◌, ◌<◌, ◌==◌, ◌||◌, ℕ, Bool, false, true, not, List, [], ◌++◌, length, max, slice_index, Some, None, Ok, Err, IsTrue}
+use Rattle.std.specs.declared.result.Result.{Result}
+use Rattle.cdf_area.specs.declared.area.AreaError.{AreaError}
+use Rattle.cdf_area.specs.declared.area.AreaError.TheVariants.{Fault, NoMemory}
 use Rattle.std.specs.declared.option.Option.{Option}
-use Rattle.cdf_base.specs.Bytes.{put}
+use Rattle.std.specs.List.{All}
+use Rattle.std.specs.Option.{option_map}
 use Rattle.cdf_store.specs.Disk.{Disk, file_of, files_with}
 
 -- the attached file has these bytes, and beside it only the list of written ranges may differ
@@ -11,21 +15,6 @@ pub record Holds {U : Type 0} (d : Disk U) (bytes : List ℕ) (now : Disk U) : T
   pub name_stays : now.name ≡ d.name
   pub only_stays : now.only ≡ d.only
   pub under_stays : now.under ≡ d.under
-
--- a front part of these bytes was written from a place on
-pub record HoldsPart {U : Type 0} (d : Disk U) (place : ℕ) (bytes : List ℕ) (now : Disk U) : Type 0 where
-  pub count : ℕ
-  pub within : count ≤ length bytes
-  pub holds : Holds d (put (file_of d) place (take count bytes)) now
-
--- the front of a file, and these bytes
-abbrev pub behind_front : List ℕ → ℕ → List ℕ → List ℕ
-behind_front file start bytes = take start file ++ bytes
-
--- the first bytes of a file stay
-pub record FrontStays (file : List ℕ) (start : ℕ) (now : List ℕ) : Type 0 where
-  pub long : start ≤ length now
-  pub same : take start now ≡ take start file
 
 -- A file between an old one and a new one: its length lies between theirs, and each byte is that of one of them at its place.
 pub record IsBetween (old new now : List ℕ) : Type 0 where
@@ -39,15 +28,42 @@ pub record HoldsBetween {U : Type 0} (d : Disk U) (new : List ℕ) (now : Disk U
   pub between : IsBetween (file_of d) new bytes
   pub holds : Holds d bytes now
 
--- an image may be other than the file's front: it was moved into memory, or the file has fewer bytes than it is taken to have
+-- a range, by its place and its length, lies in a page
+abbrev pub LiesIn : ℕ → ℕ × ℕ → Type 0
+LiesIn number range = (number * 65536 ≤ range.0) × (range.0 + range.1 ≤ number * 65536 + 65536)
+
+-- it lies in a changed page, or in a tail of so many bytes behind an image of n bytes
+abbrev pub IsChangedRange : (ℕ → Bool) → ℕ → ℕ → ℕ × ℕ → Type 0
+IsChangedRange changed n tail range = ((number : ℕ) × IsTrue (changed number) × LiesIn number range) ⊎ ((n ≤ range.0) × (range.0 + range.1 ≤ n + tail))
+
+-- only such ranges were added to the written ones, where the device tells them
+pub record Touches (P : ℕ × ℕ → Type 0) (before after : Option (List (ℕ × ℕ))) : Type 0 where
+  pub ranges : List (ℕ × ℕ)
+  pub all : All P ranges
+  pub added : after ≡ option_map (λ old. old ++ ranges) before
+
+-- an image may be other than the file's front: it may have been written to or grown, or the file has not the length that it is taken to have
 abbrev pub is_edited : Bool → ℕ → List ℕ → Bool
-is_edited moved most file = moved || not (most == length file)
+is_edited edited most file = edited || not (most == length file)
 
 -- the file is the image, which was not edited, and no tail is to stand behind it
 pub record IsSavedAlready (edited : Bool) (file image : List ℕ) (tail : Option (List ℕ)) : Type 0 where
   pub unedited : edited ≡ false
   pub short : length file ≤ length image
   pub no_tail : tail ≡ None
+
+-- no page is changed, the file, of a known length, is not longer than the image, and no tail is to stand behind it
+pub record HasNothingToSave (changed : ℕ → Bool) (measured : Bool) (file image : List ℕ) (tail : Option (List ℕ)) : Type 0 where
+  pub unchanged : (number : ℕ) → changed number ≡ false
+  pub known : measured ≡ true
+  pub short : length file ≤ length image
+  pub no_tail : tail ≡ None
+
+-- how many bytes a file of at most so many has at most, after a save that is to end there
+abbrev pub most_of : {T : Type 0} → Result T AreaError → ℕ → ℕ → ℕ
+most_of (Ok done) most end = end
+most_of (Err Fault) most end = max most end
+most_of (Err NoMemory) most end = most
 
 -- the bytes of a tail, if there is one
 abbrev pub tail_bytes : Option (List ℕ) → List ℕ

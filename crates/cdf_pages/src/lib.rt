@@ -1,9 +1,14 @@
-//! An area over the file that is attached to a store.
+//! An area in pages over the file that is attached to a store.
 #![tactic(auto)]
 
-mod read;
+mod in_pages;
+mod owning;
+mod page;
+mod paged_area;
+mod reading;
 mod saving;
-mod store_area;
+mod sheets;
 mod writing;
 
-pub use store_area::StoreArea;
+pub use in_pages::InPages;
+pub use paged_area::PagedArea;

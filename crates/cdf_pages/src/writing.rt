@@ -1,37 +1,58 @@
-//! Writing many bytes by writes that a store allows.
+//! Writing bytes of an image whose pages are changed ones, which cannot fail.
 
-ghost use Rattle.std.specs.Prelude.{◌≡◌, ◌+◌, ◌/◌, ◌≤◌, ◌<◌, ◌^◌, length, IsSome, OnOk, OnErr};
+ghost use Rattle.std.specs.Prelude.{◌≡◌, ◌+◌, ◌*◌, ◌/◌, ◌≤◌, ◌<◌, ◌^◌, ◌⊎◌, ◌++◌, ℕ, List, length, replicate, None};
+ghost use Rattle.std.specs.Ordering.{nat_cmp};
+ghost use Rattle.std.specs.BTreeMap.{get};
 ghost use Rattle.cdf_base.specs.Bytes.{put};
-ghost use Rattle.cdf_base.specs.Causes.{HasCause};
-ghost use Rattle.cdf_store.specs.Disk.{file_of};
-ghost use Rattle.cdf_pages.specs.Saving.{Holds, HoldsPart};
+ghost use Rattle.cdf_pages.specs.Pages.{image_of};
 
-use cdf_store::{Failed, Store};
+use crate::page::PAGE;
+use crate::sheets::Sheets;
 
-/// The most bytes that a store writes at once.
-pub const PIECE: usize = 65_536;
+/// How many zeros are written at once.
+const ZEROS: usize = 4096;
 
-/// Writes bytes of the attached file from a place on, piece by piece, for which room was made. After a fault a front part of them was written.
-pub fn write_pieces<S: Store>(store: &mut S, place: u64, bytes: &[u8]) -> Result<(), Failed>
-    requires held { IsSome (S.disk store.old).held }
-    requires place { place ≤ length (file_of (S.disk store.old)) }
-    requires writes { length bytes.now / 65536 + 1 ≤ (S.spare store.old).writes }
-    requires end { place + length bytes.now ≤ (S.spare store.old).end }
-    requires fits { place + length bytes.now < 2 ^ 64 }
-    ensures ok { OnOk result (Holds (S.disk store.old) (put (file_of (S.disk store.old)) place bytes.now) (S.disk store.new)) }
-    ensures part { OnErr result (HoldsPart (S.disk store.old) place bytes.now (S.disk store.new)) }
-    ensures writes { (S.spare store.old).writes ≤ (S.spare store.new).writes + (length bytes.now / 65536 + 1) }
-    ensures end { (S.spare store.new).end ≡ (S.spare store.old).end }
-    ensures cause { HasCause (S.write_faults store.old) (S.write_faults store.new) result }
-    ensures read { S.read_faults store.new ≡ S.read_faults store.old }
+/// Writes bytes over those from a place on, page by page.
+pub fn write_range(sheets: &mut Sheets, place: u64, bytes: &[u8])
+    requires inside { place + length bytes.now ≤ sheets.old.length }
+    requires there { (number : ℕ) → place / 65536 ≤ number → number * 65536 < place + length bytes.now → get nat_cmp sheets.old.changed number ≡ None → ⊥ }
+    ensures image { (file : List ℕ) → image_of (get nat_cmp sheets.new.changed) file sheets.old.length ≡ put (image_of (get nat_cmp sheets.old.changed) file sheets.old.length) place bytes.now }
+    ensures less { (number : ℕ) → get nat_cmp sheets.new.changed number ≡ None → get nat_cmp sheets.old.changed number ≡ None }
+    ensures others { (other : ℕ) → (other < place / 65536) ⊎ (place + length bytes.now ≤ other * 65536) → get nat_cmp sheets.new.changed other ≡ get nat_cmp sheets.old.changed other }
+    ensures kept { sheets.new.kept ≡ sheets.old.kept }
+    ensures length { sheets.new.length ≡ sheets.old.length }
+    ensures marked { sheets.new.marked ≡ sheets.old.marked }
 {
-    let mut done = 0;
-    let mut left = bytes.len() / PIECE + 1;
+    let _size = sheets.length;
+    let mut done: usize = 0;
     while done < bytes.len() {
-        let count = (bytes.len() - done).min(PIECE);
-        store.write_at(place + done as u64, &bytes[done..done + count])?;
+        let start = place + done as u64;
+        let number = start / PAGE;
+        let within = (start % PAGE) as usize;
+        let count = (bytes.len() - done).min(PAGE as usize - within);
+        sheets.write(number, within, &bytes[done..done + count]);
         done += count;
-        left -= 1;
     }
-    Ok(())
+}
+
+/// Appends bytes that are 0.
+pub fn zero_range(sheets: &mut Sheets, n: u64)
+    requires room { sheets.old.length + n < 2 ^ 64 }
+    requires there { (number : ℕ) → sheets.old.length / 65536 ≤ number → number * 65536 < sheets.old.length + n → get nat_cmp sheets.old.changed number ≡ None → ⊥ }
+    ensures image { (file : List ℕ) → image_of (get nat_cmp sheets.new.changed) file sheets.new.length ≡ image_of (get nat_cmp sheets.old.changed) file sheets.old.length ++ replicate n 0 }
+    ensures less { (number : ℕ) → get nat_cmp sheets.new.changed number ≡ None → get nat_cmp sheets.old.changed number ≡ None }
+    ensures others { (other : ℕ) → (other < sheets.old.length / 65536) ⊎ (sheets.old.length + n ≤ other * 65536) → get nat_cmp sheets.new.changed other ≡ get nat_cmp sheets.old.changed other }
+    ensures kept { sheets.new.kept ≡ sheets.old.kept }
+    ensures length { sheets.new.length ≡ sheets.old.length + n }
+    ensures marked { sheets.new.marked ≡ sheets.old.marked }
+{
+    let zeros = [0; ZEROS];
+    let place = sheets.length;
+    sheets.length = place + n;
+    let mut done: u64 = 0;
+    while done < n {
+        let count = (n - done).min(ZEROS as u64);
+        write_range(sheets, place + done, &zeros[..count as usize]);
+        done += count;
+    }
 }

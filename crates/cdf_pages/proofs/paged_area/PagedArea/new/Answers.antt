@@ -1,0 +1,13 @@
+use Rattle.std.proofs.Common.{◌≡◌, ◌∙◌, ◌≤◌, ap, arith, length, take}
+use Rattle.std.specs.Ordering.{nat_cmp}
+use Rattle.std.specs.BTreeMap.{get}
+use Rattle.cdf_store.specs.Disk.{file_of}
+use Rattle.cdf_pages.specs.Pages.{image_of}
+use Rattle.cdf_pages.proofs.Images.{image_file}
+use Rattle.cdf_pages.proofs.paged_area.PagedArea.new.Goals as goal
+
+pub returns-clause-image : goal.returns-clause-image
+returns-clause-image g c =
+    let P = get nat_cmp c.new-sheets.result.changed in
+    let F = file_of (g.S.Store.disk c.args.store) in
+    ap (image_of P F) c.new-sheets.ensures.length ∙ image_file P F c.args.size c.new-sheets.ensures.none (omega (arith, c.requires.size, c.requires.most))

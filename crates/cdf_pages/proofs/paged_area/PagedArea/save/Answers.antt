@@ -1,0 +1,99 @@
+use Rattle.std.proofs.Common.{rules, ◌≡◌, ◌∙◌, ◌+◌, ◌≤◌, ◌++◌, ℕ, List, [], Option, Some, None, Ok, OnOk, refl, sym, ap, subst, arith, length, true, false}
+use Rattle.std.specs.Prelude.{IsErrOf, IsTrue}
+use Rattle.std.specs.Option.{is_some}
+use Rattle.std.specs.Ordering.{nat_cmp}
+use Rattle.std.specs.BTreeMap.{get}
+use Rattle.cdf_area.specs.declared.area.AreaError.TheVariants.{Fault, NoMemory}
+use Rattle.cdf_store.specs.Disk.{Disk, file_of}
+use Rattle.cdf_pages.specs.Pages.{image_of, is_in, was}
+use Rattle.cdf_pages.specs.Saving.{HasNothingToSave, Holds, HoldsBetween, IsChangedRange, IsSavedAlready, Touches, tail_bytes}
+use Rattle.cdf_pages.proofs.Filling.{on_ok_map, true_not_false}
+use Rattle.cdf_pages.proofs.Images.{image_size}
+use Rattle.cdf_pages.proofs.SavedArea.{no_mark, nothing_to_save, saved_already, saved_bound, saved_shows, saved_whole}
+use Rattle.cdf_pages.proofs.Touched.{touches_none}
+use Rattle.cdf_pages.proofs.paged_area.PagedArea.save.Goals as goal
+
+pub save_image-outcome-requires-clause-unmarked : goal.save_image-outcome-requires-clause-unmarked
+save_image-outcome-requires-clause-unmarked g c = no_mark _ c.args.self.now.sheets.marked c.requires.unmarked
+
+pub invariant_of-self : goal.invariant_of-self
+invariant_of-self g c =
+    let self = c.args.self.now in
+    let e = c.save_image-outcome.ensures in
+    let P = get nat_cmp self.sheets.changed in
+    let F = file_of (g.S.Store.disk self.store) in
+    record {
+      backed = λ i lt none. e.backed i (omega (arith, lt, e.length)) none;
+      base_backed = λ size is. (let no = e.marked in cc);
+      shows = saved_shows P (get nat_cmp c.save_image-outcome.new.sheets.changed) F _ self.sheets.length _ self.clean.entries e.length e.image e.less self.shows;
+      bounded = subst (λ (m : ℕ). length (file_of (g.S.Store.disk c.save_image-outcome.new.store)) ≤ m) (sym c.most_after-self.ensures)
+          (saved_bound c.save_image-outcome.result (g.S.Store.disk self.store) (g.S.Store.disk c.save_image-outcome.new.store) (image_of P F self.sheets.length) c.tail_slice-bytes.result.now self.most self.sheets.length (self.sheets.length + length c.tail_slice-bytes.result.now)
+          (image_size P F self.sheets.length) refl self.bounded e.bound e.saved e.no_memory);
+      valid = self.valid;
+      cap = self.cap;
+      unedited = λ is q. e.less q (self.unedited is q);
+    }
+
+pub returns-then-has_nothing_to_save-clause-saved : goal.returns-then-has_nothing_to_save-clause-saved
+returns-then-has_nothing_to_save-clause-saved g c =
+    let self = c.args.self.now in
+    let found = c.has_nothing_to_save.ensures.yes c.if-has_nothing_to_save.true in
+    let no_tail = found.1 in
+    rw no_tail (saved_whole (g.S.Store.disk self.store) (get nat_cmp self.sheets.changed) self.sheets.length self.most None (g.met.S.Store.whole self.store) c.requires.held found.0 self.backed self.bounded found.2)
+
+pub returns-then-has_nothing_to_save-clause-unchanged : goal.returns-then-has_nothing_to_save-clause-unchanged
+returns-then-has_nothing_to_save-clause-unchanged g c q = ap is_some ((c.has_nothing_to_save.ensures.yes c.if-has_nothing_to_save.true).0 q)
+
+pub returns-then-has_nothing_to_save-clause-touched : goal.returns-then-has_nothing_to_save-clause-touched
+returns-then-has_nothing_to_save-clause-touched g c = touches_none _ _ _ refl
+
+pub returns-clause-saved : goal.returns-clause-saved
+returns-clause-saved g c =
+    let self = c.args.self.now in
+    subst (λ (l : List ℕ). OnOk c.save_image-outcome.result (Holds (g.S.Store.disk self.store) (image_of (get nat_cmp self.sheets.changed) (file_of (g.S.Store.disk self.store)) self.sheets.length ++ l) (g.S.Store.disk c.save_image-outcome.new.store)))
+    c.tail_slice-bytes.ensures.bytes c.save_image-outcome.ensures.saved
+
+pub returns-clause-failed : goal.returns-clause-failed
+returns-clause-failed g c is =
+    let self = c.args.self.now in
+    subst (λ (l : List ℕ). HoldsBetween (g.S.Store.disk self.store) (image_of (get nat_cmp self.sheets.changed) (file_of (g.S.Store.disk self.store)) self.sheets.length ++ l) (g.S.Store.disk c.save_image-outcome.new.store))
+    c.tail_slice-bytes.ensures.bytes (c.save_image-outcome.ensures.failed is)
+
+pub returns-clause-image : goal.returns-clause-image
+returns-clause-image g c =
+    ap (λ m. image_of (get nat_cmp c.save_image-outcome.new.sheets.changed) (file_of (g.S.Store.disk c.save_image-outcome.new.store)) m) c.save_image-outcome.ensures.length ∙ c.save_image-outcome.ensures.image
+
+pub returns-clause-unchanged : goal.returns-clause-unchanged
+returns-clause-unchanged g c = on_ok_map c.save_image-outcome.result (λ none q. ap is_some (none q)) c.save_image-outcome.ensures.none
+
+pub returns-clause-touched : goal.returns-clause-touched
+returns-clause-touched g c =
+    let self = c.args.self.now in
+    let P = get nat_cmp self.sheets.changed in
+    let size = image_size P (file_of (g.S.Store.disk self.store)) self.sheets.length in
+    subst (λ (m : ℕ). Touches (IsChangedRange (is_in P) m (length (tail_bytes c.args.tail))) (g.S.Store.disk self.store).touched (g.S.Store.disk c.save_image-outcome.new.store).touched) (sym size)
+    (subst (λ (l : List ℕ). Touches (IsChangedRange (is_in P) self.sheets.length (length l)) (g.S.Store.disk self.store).touched (g.S.Store.disk c.save_image-outcome.new.store).touched) c.tail_slice-bytes.ensures.bytes c.save_image-outcome.ensures.touched)
+
+pub returns-clause-not_called : goal.returns-clause-not_called
+returns-clause-not_called g c h =
+    let self = c.args.self.now in
+    let F = file_of (g.S.Store.disk self.store) in
+    let P = get nat_cmp self.sheets.changed in
+    let found = nothing_to_save P F (image_of P F self.sheets.length) self.sheets.length self.most c.args.tail (image_size P F self.sheets.length) h in
+    absurd (true_not_false (sym (c.has_nothing_to_save.ensures.no found.0 found.1 found.2) ∙ c.if-has_nothing_to_save.false))
+
+pub returns-clause-untouched : goal.returns-clause-untouched
+returns-clause-untouched g c h =
+    let self = c.args.self.now in
+    let F = file_of (g.S.Store.disk self.store) in
+    let P = get nat_cmp self.sheets.changed in
+    let found = saved_already P self.edited F (image_of P F self.sheets.length) self.sheets.length self.most c.args.tail (image_size P F self.sheets.length) self.unedited h in
+    absurd (true_not_false (sym (c.has_nothing_to_save.ensures.no found.0 found.1 found.2) ∙ c.if-has_nothing_to_save.false))
+
+pub returns-clause-unfailed : goal.returns-clause-unfailed
+returns-clause-unfailed g c h =
+    let self = c.args.self.now in
+    let F = file_of (g.S.Store.disk self.store) in
+    let P = get nat_cmp self.sheets.changed in
+    let found = saved_already P self.edited F (image_of P F self.sheets.length) self.sheets.length self.most c.args.tail (image_size P F self.sheets.length) self.unedited h in
+    absurd (true_not_false (sym (c.has_nothing_to_save.ensures.no found.0 found.1 found.2) ∙ c.if-has_nothing_to_save.false))

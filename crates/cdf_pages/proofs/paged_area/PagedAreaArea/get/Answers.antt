@@ -1,0 +1,18 @@
+use Rattle.std.proofs.Common.{rules, ◌≡◌, ◌∙◌, ◌+◌, ◌*◌, ◌≤◌, sym, ap, arith, length, slice_index}
+use Rattle.cdf_store.specs.Disk.{file_of}
+use Rattle.cdf_pages.proofs.paged_area.PagedAreaArea.get.Goals as goal
+
+pub invariant_of-self : goal.invariant_of-self
+invariant_of-self g c =
+    let self = c.args.self.now in
+    let e = c.read_range.ensures in
+    let size = ap (λ d. length (file_of d)) e.disk in
+    record {
+      backed = λ i lt none. let stood = self.backed i lt none in omega (arith, stood, size);
+      base_backed = λ marked is. let old = self.base_backed marked is in (old.0, λ i lt none. let stood = old.1 i lt none in omega (arith, stood, size));
+      shows = λ q page is. let now = e.shows q page is in (now.0, λ j lt low. now.1 j lt low ∙ ap (λ d. slice_index (file_of d) (q * 65536 + j)) (sym e.disk));
+      bounded = omega (arith, self.bounded, size);
+      valid = e.valid;
+      cap = e.cap ∙ self.cap;
+      unedited = self.unedited;
+    }

@@ -1,0 +1,16 @@
+use Rattle.std.proofs.Common.{◌≡◌, ◌∙◌, ◌+◌, ◌-◌, ◌≤◌, sym, ap, arith, take, length}
+use Rattle.std.specs.Ordering.{nat_cmp}
+use Rattle.std.specs.BTreeMap.{get}
+use Rattle.cdf_store.specs.Disk.{file_of}
+use Rattle.cdf_pages.specs.Pages.{image_of}
+use Rattle.cdf_pages.proofs.Images.{image_take, image_size}
+use Rattle.cdf_pages.proofs.paged_area.PagedAreaArea.shorten.Goals as goal
+
+pub returns-clause-shorter : goal.returns-clause-shorter
+returns-clause-shorter g c =
+    let P = get nat_cmp c.args.self.now.sheets.changed in
+    let F = file_of (g.S.Store.disk c.args.self.now.store) in
+    let L = c.args.self.now.sheets.length in
+    let n = c.args.n in
+    let back : L - n + n ≡ L = omega (arith, c.requires.room, image_size P F L) in
+    sym (ap (λ z. take (z - n) (image_of P F L)) (image_size P F L) ∙ ap (λ z. take (L - n) (image_of P F z)) (sym back) ∙ image_take P F (L - n) n)

@@ -1,0 +1,28 @@
+use Rattle.std.proofs.Common.{◌-◌, ◌≡◌, ◌+◌, ◌/◌, ◌%◌, ◌<◌, ◌≤◌, ℕ, List, length, take, drop, Some, None, nat_eq}
+use Rattle.std.specs.Map.{keys_of}
+use Rattle.lru.specs.LruCache.{IsValid}
+use Rattle.std.specs.Ordering.{nat_cmp}
+use Rattle.std.specs.BTreeMap.{get}
+use Rattle.cdf_store.specs.Disk.{file_of}
+use Rattle.cdf_pages.specs.Pages.{AllShow, TakesAtMost, image_of, is_in}
+use Rattle.cdf_pages.specs.Standing.{cost_of_reading, pages_in, used_from}
+use Rattle.cdf_pages.proofs.reading.read_range.Given as goal
+
+abbrev pub invariant-loop-done : goal.invariant-loop-done
+invariant-loop-done g l = record {
+  within : l.done ≤ length l.out;
+  bytes : take l.done l.out ≡ take l.done (drop l.fn.place (image_of (get nat_cmp l.sheets.changed) (file_of (g.S.Store.disk l.fn.store)) l.sheets.length));
+  len : length l.out ≡ length l.fn.out;
+  shows : AllShow (get nat_cmp l.sheets.changed) (file_of (g.S.Store.disk l.fn.store)) l.sheets.length l.clean.entries;
+  aligned : 0 < l.done → l.done < length l.out → (l.fn.place + l.done) % 65536 ≡ 0;
+  used : keys_of l.clean.entries ≡ used_from (is_in (get nat_cmp l.sheets.changed)) (l.fn.place / 65536) (pages_in l.fn.place l.done) (keys_of l.fn.clean.entries);
+  taken : TakesAtMost (g.S.Store.taken l.fn.store) (g.S.Store.taken l.store) (cost_of_reading (is_in (get nat_cmp l.sheets.changed)) (keys_of l.fn.clean.entries) (length (file_of (g.S.Store.disk l.fn.store))) (l.fn.place / 65536) (pages_in l.fn.place l.done));
+  valid : IsValid nat_eq l.clean;
+  cap : l.clean.cap ≡ l.fn.clean.cap;
+  disk : g.S.Store.disk l.store ≡ g.S.Store.disk l.fn.store;
+  read : g.S.Store.read_faults l.store ≡ g.S.Store.read_faults l.fn.store;
+  write : g.S.Store.write_faults l.store ≡ g.S.Store.write_faults l.fn.store;
+}
+
+abbrev pub decreases-loop-done : goal.decreases-loop-done
+decreases-loop-done g l = length l.out - l.done

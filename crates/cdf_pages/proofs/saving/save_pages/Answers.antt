@@ -1,0 +1,95 @@
+use Rattle.std.proofs.Common.{rules, ◌≡◌, ◌∙◌, ◌⊎◌, ◌+◌, ◌≤◌, ◌++◌, ℕ, List, Bool, true, false, Option, None, IsSome, refl, sym, ap, subst, arith, inl, inr, length}
+use Rattle.std.specs.Prelude.{IsTrue}
+use Rattle.std.specs.Option.{is_some}
+use Rattle.std.specs.Ordering.{nat_cmp}
+use Rattle.std.specs.BTreeMap.{get}
+use Rattle.std.proofs.lemmas.Bool.{cases_Bool}
+use Rattle.cdf_store.specs.Disk.{Disk, file_of}
+use Rattle.cdf_pages.specs.Pages.{image_of, is_in}
+use Rattle.cdf_pages.specs.Saving.{HoldsBetween, LiesIn, Touches}
+use Rattle.cdf_pages.proofs.Filling.{false_not_true, none_is}
+use Rattle.cdf_pages.proofs.Touched.{touches_none, touches_then, touches_weaker}
+use Rattle.cdf_pages.proofs.saving.save_pages.Goals as goal
+
+pub loop-number-init : goal.loop-number-init
+loop-number-init g c = record {
+  image = refl;
+  backed = c.requires.backed;
+  less = λ q e. e;
+  held = c.requires.held;
+  between = λ first tail h. h;
+  touched = touches_none _ _ _ refl;
+  length = refl;
+  marked = c.requires.unmarked;
+  spent = omega arith;
+  end = refl;
+  taken = refl;
+  write = refl;
+  read = refl;
+}
+
+-- a page that is a changed one was one at first
+changed_at_first : (p p' : ℕ → Option (List ℕ)) (k : ℕ) → ((q : ℕ) → p q ≡ None → p' q ≡ None) → IsSome (p' k) → IsTrue (is_in p k)
+changed_at_first p p' k less some = elim (cases_Bool (is_some (p k))) [
+  | inl is ↦ is
+  | inr none ↦ absurd (false_not_true (sym (ap is_some (less k (none_is (p k) none))) ∙ some))
+]
+
+module _ {U : Type 0} (p p' : ℕ → Option (List ℕ)) (first mid next : Disk U) (n n' k : ℕ) (same : image_of p' (file_of mid) n ≡ image_of p (file_of first) n) (len : n' ≡ n) where
+  -- the image that the next page is written for is the one that all are
+  between_next : ((d : Disk U) (tail : List ℕ) → HoldsBetween d (image_of p (file_of first) n ++ tail) first → HoldsBetween d (image_of p (file_of first) n ++ tail) mid)
+      → ((d : Disk U) (tail : List ℕ) → HoldsBetween d (image_of p' (file_of mid) n' ++ tail) mid → HoldsBetween d (image_of p' (file_of mid) n' ++ tail) next)
+      → (d : Disk U) (tail : List ℕ) → HoldsBetween d (image_of p (file_of first) n ++ tail) first → HoldsBetween d (image_of p (file_of first) n ++ tail) next
+  between_next before step d tail h =
+      let is : image_of p' (file_of mid) n' ≡ image_of p (file_of first) n = ap (image_of p' (file_of mid)) len ∙ same in
+      subst (λ (l : List ℕ). HoldsBetween d (l ++ tail) next) is (step d tail (subst (λ (l : List ℕ). HoldsBetween d (l ++ tail) mid) (sym is) (before d tail h)))
+
+touched_next : (p p' : ℕ → Option (List ℕ)) (a b c : Option (List (ℕ × ℕ))) (k : ℕ) → ((q : ℕ) → p q ≡ None → p' q ≡ None) → IsSome (p' k)
+    → Touches (λ range. (number : ℕ) × IsTrue (is_in p number) × LiesIn number range) a b → Touches (LiesIn k) b c → Touches (λ range. (number : ℕ) × IsTrue (is_in p number) × LiesIn number range) a c
+touched_next p p' a b c k less some before now =
+    touches_then _ a b c before (touches_weaker (LiesIn k) _ b c (λ range lies. (k, changed_at_first p p' k less some, lies)) now)
+
+pub returns-in_err-save_first-clause-image : goal.returns-in_err-save_first-clause-image
+returns-in_err-save_first-clause-image g c =
+    let inv = c.loop-number.invariant in
+    ap (λ n. image_of (get nat_cmp c.save_first.new.sheets.changed) (file_of (g.S.Store.disk c.save_first.new.store)) n) (sym inv.length) ∙ c.save_first.ensures.image
+    ∙ ap (λ n. image_of (get nat_cmp c.loop-number.sheets.changed) (file_of (g.S.Store.disk c.loop-number.store)) n) inv.length ∙ inv.image
+
+pub returns-in_err-save_first-clause-backed : goal.returns-in_err-save_first-clause-backed
+returns-in_err-save_first-clause-backed g c i lt e = c.save_first.ensures.backed i (omega (arith, lt, c.loop-number.invariant.length)) e
+
+pub returns-in_err-save_first-clause-less : goal.returns-in_err-save_first-clause-less
+returns-in_err-save_first-clause-less g c q e = c.save_first.ensures.less q (c.loop-number.invariant.less q e)
+
+pub returns-in_err-save_first-clause-between : goal.returns-in_err-save_first-clause-between
+returns-in_err-save_first-clause-between g c =
+    let inv = c.loop-number.invariant in
+    between_next (get nat_cmp c.args.sheets.now.changed) (get nat_cmp c.loop-number.sheets.changed) (g.S.Store.disk c.args.store.now) (g.S.Store.disk c.loop-number.store) (g.S.Store.disk c.save_first.new.store) c.args.sheets.now.length c.loop-number.sheets.length 0
+    inv.image inv.length inv.between c.save_first.ensures.between
+
+pub returns-in_err-save_first-clause-touched : goal.returns-in_err-save_first-clause-touched
+returns-in_err-save_first-clause-touched g c =
+    let inv = c.loop-number.invariant in
+    touched_next (get nat_cmp c.args.sheets.now.changed) (get nat_cmp c.loop-number.sheets.changed) _ _ _ c.in-Some.number inv.less c.in-Some.ensures.there inv.touched c.save_first.ensures.touched
+
+pub loop-number-preserved : goal.loop-number-preserved
+loop-number-preserved g c =
+    let inv = c.loop-number.invariant in
+    let there = c.in-Some.ensures.there in
+    record {
+      image = ap (λ n. image_of (get nat_cmp c.save_first.new.sheets.changed) (file_of (g.S.Store.disk c.save_first.new.store)) n) (sym inv.length) ∙ c.in_ok-save_first.ensures.image
+          ∙ ap (λ n. image_of (get nat_cmp c.loop-number.sheets.changed) (file_of (g.S.Store.disk c.loop-number.store)) n) inv.length ∙ inv.image;
+      backed = λ i lt e. c.in_ok-save_first.ensures.backed i (omega (arith, lt, inv.length)) e;
+      less = λ q e. c.in_ok-save_first.ensures.less q (inv.less q e);
+      held = c.in_ok-save_first.ensures.held;
+      between = between_next (get nat_cmp c.args.sheets.now.changed) (get nat_cmp c.loop-number.sheets.changed) (g.S.Store.disk c.args.store.now) (g.S.Store.disk c.loop-number.store) (g.S.Store.disk c.save_first.new.store) c.args.sheets.now.length c.loop-number.sheets.length 0
+          inv.image inv.length inv.between c.in_ok-save_first.ensures.between;
+      touched = touched_next (get nat_cmp c.args.sheets.now.changed) (get nat_cmp c.loop-number.sheets.changed) _ _ _ c.in-Some.number inv.less there inv.touched c.in_ok-save_first.ensures.touched;
+      length = c.in_ok-save_first.ensures.length ∙ inv.length;
+      marked = c.in_ok-save_first.ensures.marked;
+      spent = omega (arith, inv.spent, c.in_ok-save_first.ensures.spare.writes, c.in_ok-save_first.ensures.fewer);
+      end = c.in_ok-save_first.ensures.spare.end ∙ inv.end;
+      taken = c.in_ok-save_first.ensures.taken ∙ inv.taken;
+      write = c.in_ok-save_first.ensures.cause.done ∙ inv.write;
+      read = c.in_ok-save_first.ensures.read ∙ inv.read;
+    }

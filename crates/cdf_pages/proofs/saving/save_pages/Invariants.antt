@@ -1,0 +1,29 @@
+use Rattle.std.proofs.Common.{◌≡◌, ◌+◌, ◌≤◌, ◌++◌, ℕ, List, length, None, IsSome}
+use Rattle.std.specs.Prelude.{IsTrue}
+use Rattle.std.specs.Ordering.{nat_cmp}
+use Rattle.std.specs.BTreeMap.{btree_map_len, get}
+use Rattle.cdf_store.specs.Disk.{Disk, file_of}
+use Rattle.cdf_pages.specs.Pages.{Backed, image_of, is_in}
+use Rattle.cdf_pages.specs.Saving.{HoldsBetween, LiesIn, Touches}
+use Rattle.cdf_pages.proofs.saving.save_pages.Given as goal
+
+abbrev pub invariant-loop-number : goal.invariant-loop-number
+invariant-loop-number g l = record {
+  image : image_of (get nat_cmp l.sheets.changed) (file_of (g.S.Store.disk l.store)) l.fn.sheets.length ≡ image_of (get nat_cmp l.fn.sheets.changed) (file_of (g.S.Store.disk l.fn.store)) l.fn.sheets.length;
+  backed : Backed (get nat_cmp l.sheets.changed) (length (file_of (g.S.Store.disk l.store))) l.fn.sheets.length;
+  less : (number : ℕ) → get nat_cmp l.fn.sheets.changed number ≡ None → get nat_cmp l.sheets.changed number ≡ None;
+  held : IsSome (g.S.Store.disk l.store).held;
+  between : (first : Disk g.S.Store.Under) → (tail : List ℕ) → HoldsBetween first (image_of (get nat_cmp l.fn.sheets.changed) (file_of (g.S.Store.disk l.fn.store)) l.fn.sheets.length ++ tail) (g.S.Store.disk l.fn.store)
+      → HoldsBetween first (image_of (get nat_cmp l.fn.sheets.changed) (file_of (g.S.Store.disk l.fn.store)) l.fn.sheets.length ++ tail) (g.S.Store.disk l.store);
+  touched : Touches (λ range. (number : ℕ) × IsTrue (is_in (get nat_cmp l.fn.sheets.changed) number) × LiesIn number range) (g.S.Store.disk l.fn.store).touched (g.S.Store.disk l.store).touched;
+  length : l.sheets.length ≡ l.fn.sheets.length;
+  marked : l.sheets.marked ≡ None;
+  spent : (g.S.Store.spare l.fn.store).writes + btree_map_len l.sheets.changed ≤ (g.S.Store.spare l.store).writes + btree_map_len l.fn.sheets.changed;
+  end : (g.S.Store.spare l.store).end ≡ (g.S.Store.spare l.fn.store).end;
+  taken : g.S.Store.taken l.store ≡ g.S.Store.taken l.fn.store;
+  write : g.S.Store.write_faults l.store ≡ g.S.Store.write_faults l.fn.store;
+  read : g.S.Store.read_faults l.store ≡ g.S.Store.read_faults l.fn.store;
+}
+
+abbrev pub decreases-loop-number : goal.decreases-loop-number
+decreases-loop-number g l = btree_map_len l.sheets.changed

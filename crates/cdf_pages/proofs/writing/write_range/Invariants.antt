@@ -1,0 +1,20 @@
+use Rattle.std.proofs.Common.{◌≡◌, ◌+◌, ◌-◌, ◌*◌, ◌/◌, ◌≤◌, ◌<◌, ◌⊎◌, ℕ, List, length, take, None}
+use Rattle.std.specs.Ordering.{nat_cmp}
+use Rattle.std.specs.BTreeMap.{get}
+use Rattle.cdf_base.specs.Bytes.{put}
+use Rattle.cdf_pages.specs.Pages.{image_of}
+use Rattle.cdf_pages.proofs.writing.write_range.Given as goal
+
+abbrev pub invariant-loop-done : goal.invariant-loop-done
+invariant-loop-done l = record {
+  within : l.done ≤ length l.bytes;
+  image : (file : List ℕ) → image_of (get nat_cmp l.sheets.changed) file l.fn.sheets.length ≡ put (image_of (get nat_cmp l.fn.sheets.changed) file l.fn.sheets.length) l.fn.place (take l.done l.bytes);
+  less : (q : ℕ) → get nat_cmp l.sheets.changed q ≡ None → get nat_cmp l.fn.sheets.changed q ≡ None;
+  others : (q : ℕ) → (q < l.fn.place / 65536) ⊎ (l.fn.place + length l.bytes ≤ q * 65536) → get nat_cmp l.sheets.changed q ≡ get nat_cmp l.fn.sheets.changed q;
+  kept : l.sheets.kept ≡ l.fn.sheets.kept;
+  length : l.sheets.length ≡ l.fn.sheets.length;
+  marked : l.sheets.marked ≡ l.fn.sheets.marked;
+}
+
+abbrev pub decreases-loop-done : goal.decreases-loop-done
+decreases-loop-done l = length l.bytes - l.done

@@ -1,0 +1,41 @@
+use Rattle.std.proofs.Common.{rules, ◌≡◌, ◌∙◌, ◌+◌, ◌-◌, ◌*◌, ◌/◌, ◌≤◌, ◌<◌, ◌⊎◌, ℕ, List, refl, sym, ap, ap₂, arith, take, length, replicate, inl, inr}
+use Rattle.std.proofs.lemmas.List.{length-replicate}
+use Rattle.std.specs.Ordering.{nat_cmp}
+use Rattle.std.specs.BTreeMap.{get}
+use Rattle.cdf_base.specs.Bytes.{put}
+use Rattle.cdf_pages.specs.Pages.{image_of}
+use Rattle.cdf_pages.proofs.Images.{put_none, take_zeros, zeros_more, put_end, length-image}
+use Rattle.cdf_pages.proofs.writing.zero_range.Goals as goal
+
+pub loop-done-init : goal.loop-done-init
+loop-done-init c = record { within = omega arith; image = λ file. sym (put_none _ c.args.sheets.now.length); less = λ q e. e; others = λ q o. refl; kept = refl; length = refl; marked = refl }
+
+pub loop-done-preserved : goal.loop-done-preserved
+loop-done-preserved c =
+    let inv = c.loop-done.invariant in
+    let m = c.min-count.result in
+    let n = c.args.sheets.now.length + c.args.n in
+    let start = c.args.sheets.now.length + c.loop-done.done in
+    let small : m ≤ 4096 = search rules in
+    let within : c.loop-done.done + m ≤ c.args.n = search rules in
+    let part : take m (replicate {A = ℕ} 4096 0) ≡ replicate m 0 = take_zeros m 4096 small in
+    let count : length (take m (replicate {A = ℕ} 4096 0)) ≡ m = ap (λ (l : List ℕ). length l) part ∙ length-replicate {A = ℕ} m 0 in
+    record {
+      within = within;
+      image = λ file. ap (λ k. image_of (get nat_cmp c.write_range.new.sheets.changed) file k) (sym inv.length) ∙ c.write_range.ensures.image file
+          ∙ ap (λ k. put (image_of (get nat_cmp c.loop-done.sheets.changed) file k) start (take m (replicate {A = ℕ} 4096 0))) inv.length
+          ∙ ap₂ (λ b xs. put b start xs) (inv.image file) part ∙ zeros_more (image_of (get nat_cmp c.args.sheets.now.changed) file n) c.args.sheets.now.length c.loop-done.done m (omega (arith, within, length-image (get nat_cmp c.args.sheets.now.changed) file n));
+      less = λ q e. inv.less q (c.write_range.ensures.less q e);
+      others = λ q o. c.write_range.ensures.others q (elim o [ inl below ↦ inl (omega arith) | inr above ↦ inr (omega (arith, above, count, within)) ]) ∙ inv.others q o;
+      kept = c.write_range.ensures.kept ∙ inv.kept;
+      length = c.write_range.ensures.length ∙ inv.length;
+      marked = c.write_range.ensures.marked ∙ inv.marked;
+    }
+
+pub returns-clause-image : goal.returns-clause-image
+returns-clause-image c file =
+    let inv = c.loop-done.invariant in
+    let whole : c.loop-done.done ≡ c.args.n = search rules in
+    ap (λ k. image_of (get nat_cmp c.loop-done.sheets.changed) file k) inv.length ∙ inv.image file
+    ∙ ap (λ k. put (image_of (get nat_cmp c.args.sheets.now.changed) file (c.args.sheets.now.length + c.args.n)) c.args.sheets.now.length (replicate k 0)) whole
+    ∙ put_end (get nat_cmp c.args.sheets.now.changed) file c.args.sheets.now.length c.args.n

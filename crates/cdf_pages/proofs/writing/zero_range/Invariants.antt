@@ -1,0 +1,20 @@
+use Rattle.std.proofs.Common.{◌-◌, ◌≡◌, ◌+◌, ◌*◌, ◌/◌, ◌≤◌, ◌<◌, ◌++◌, ℕ, List, length, take, drop, replicate, Some, None, ◌⊎◌}
+use Rattle.std.specs.Ordering.{nat_cmp}
+use Rattle.std.specs.BTreeMap.{get}
+use Rattle.cdf_base.specs.Bytes.{put}
+use Rattle.cdf_pages.specs.Pages.{image_of}
+use Rattle.cdf_pages.proofs.writing.zero_range.Given as goal
+
+abbrev pub invariant-loop-done : goal.invariant-loop-done
+invariant-loop-done l = record {
+  within : l.done ≤ l.n;
+  image : (file : List ℕ) → image_of (get nat_cmp l.sheets.changed) file (l.fn.sheets.length + l.n) ≡ put (image_of (get nat_cmp l.fn.sheets.changed) file (l.fn.sheets.length + l.n)) l.fn.sheets.length (replicate l.done 0);
+  less : (q : ℕ) → get nat_cmp l.sheets.changed q ≡ None → get nat_cmp l.fn.sheets.changed q ≡ None;
+  others : (q : ℕ) → (q < l.fn.sheets.length / 65536) ⊎ (l.fn.sheets.length + l.n ≤ q * 65536) → get nat_cmp l.sheets.changed q ≡ get nat_cmp l.fn.sheets.changed q;
+  kept : l.sheets.kept ≡ l.fn.sheets.kept;
+  length : l.sheets.length ≡ l.fn.sheets.length + l.n;
+  marked : l.sheets.marked ≡ l.fn.sheets.marked;
+}
+
+abbrev pub decreases-loop-done : goal.decreases-loop-done
+decreases-loop-done l = l.n - l.done

@@ -1,0 +1,369 @@
+//! An area in pages over the attached file of a store.
+
+ghost use Rattle.std.specs.Prelude.{◌≡◌, ◌≤◌, ◌<◌, ◌+◌, ◌-◌, ◌/◌, ◌++◌, ◌==◌, ◌^◌, ℕ, List, [], length, take, drop, replicate, false, nat_eq, Some, None, IsSome, IfOk, IfErr, IsErrOf, IsOk, IsTrue, OnOk, OnErr};
+ghost use Rattle.std.proofs.Props.{props};
+ghost use Rattle.std.specs.Option.{option_map};
+ghost use Rattle.std.specs.Map.{keys_of};
+ghost use Rattle.std.specs.Ordering.{nat_cmp};
+ghost use Rattle.std.specs.BTreeMap.{get};
+ghost use Rattle.lru.specs.LruCache.{IsValid};
+ghost use Rattle.cdf_base.specs.Bytes.{put};
+ghost use Rattle.cdf_area.specs.Calls.{Edits, Overwrites, Reads};
+ghost use Rattle.cdf_area.specs.Frame.{Frame, with_base};
+ghost use Rattle.cdf_store.specs.Disk.{Disk, file_of};
+ghost use Rattle.cdf_pages.specs.Cached.{all_clean};
+ghost use Rattle.cdf_pages.specs.Pages.{AllShow, Backed, TakesAtMost, image_of, is_in, was};
+ghost use Rattle.cdf_base.specs.Causes.{HasCauseOf};
+ghost use Rattle.cdf_pages.specs.Saving.{HasNothingToSave, Holds, HoldsBetween, IsChangedRange, IsSavedAlready, Touches, is_edited, tail_bytes};
+ghost use Rattle.cdf_pages.specs.Standing.{Changes, ChangesSome, ReadsSome, cost_of_reading, cost_of_writing, pages_in, used_from};
+
+use crate::in_pages::InPages;
+use crate::owning::own_pages;
+use crate::page::{PAGE, Page};
+use crate::reading::read_range;
+use crate::saving::{most_after, save_image, tail_slice};
+use crate::sheets::Sheets;
+use crate::writing::{write_range, zero_range};
+use cdf_area::{Area, AreaError};
+use cdf_store::Store;
+use lru::LruCache;
+use std::alloc::{AllocFailed, Global};
+use std::num::NonZeroUsize;
+
+/// How many pages that were only read stand in memory.
+const CLEAN_PAGES: usize = 256;
+
+/// An area over the file that is attached to a store, in pages of 65,536 bytes.
+///
+/// A page that is read is kept in a cache of 256 pages, and one that is written in a map until it is saved. So an edit costs
+/// what it touches. Nothing is written to the store but by `save`.
+#[derive(Drop)]
+pub struct PagedArea<S: Store> {
+    alloc: Global,
+    store: S,
+    sheets: Sheets,
+    clean: LruCache<u64, Page>,
+    limit: u64,
+    /// The file has at most so many bytes.
+    most: u64,
+    /// Whether a write or a growth may have been made.
+    edited: bool,
+    ghost backed: { Backed (get nat_cmp sheets.changed) (length (file_of (S.disk store))) sheets.length },
+    ghost base_backed: { (size : ℕ) → sheets.marked ≡ Some size → (size ≤ sheets.length) × Backed (λ number. was (get nat_cmp sheets.kept number) (get nat_cmp sheets.changed number)) (length (file_of (S.disk store))) size },
+    ghost shows: { AllShow (get nat_cmp sheets.changed) (file_of (S.disk store)) sheets.length clean.entries },
+    ghost bounded: { length (file_of (S.disk store)) ≤ most },
+    ghost valid: { IsValid nat_eq clean } by { Prim.hlevel props },
+    ghost cap: { clean.cap ≡ 256 },
+    ghost unedited: { edited ≡ false → (number : ℕ) → get nat_cmp sheets.changed number ≡ None },
+}
+
+impl<S: Store> PagedArea<S> {
+    /// The whole file that is attached, which has so many bytes and may be longer than the limit, without a mark. Where there
+    /// is no memory the store is handed back.
+    pub fn over(
+        alloc: Global,
+        store: S,
+        size: u64,
+        limit: u64,
+    ) -> Result<PagedArea<S>, AllocFailed<S>>
+        requires { Some size ≡ option_map length (S.disk store).held }
+        ensures image { IfOk result (λ area. Some (⟦<PagedArea<S> as Area>⟧.image area) ≡ (S.disk store).held) }
+        ensures frame { IfOk result (λ area. ⟦<PagedArea<S> as Area>⟧.frame area ≡ record { base = None; limit = limit; under = (S.disk store, S.write_faults store) }) }
+        ensures faults { IfOk result (λ area. ⟦<PagedArea<S> as Area>⟧.faults area ≡ S.read_faults store) }
+        ensures edited { IfOk result (λ area. ⟦<PagedArea<S> as Area>⟧.edited area ≡ false) }
+        ensures none_changed { IfOk result (λ area. (number : ℕ) → ⟦<PagedArea<S> as InPages>⟧.changed area number ≡ false) }
+        ensures none_clean { IfOk result (λ area. ⟦<PagedArea<S> as InPages>⟧.clean area ≡ []) }
+        ensures taken { IfOk result (λ area. ⟦<PagedArea<S> as InPages>⟧.taken area ≡ S.taken store) }
+        ensures handed_back { IfErr result (λ failed. failed.value ≡ store) }
+    {
+        PagedArea::new(alloc, store, size, size, limit)
+    }
+
+    /// An empty image over the store, whatever stands in the file that is attached, which has so many bytes, or none where there
+    /// is none, without a mark. Where there is no memory the store is handed back.
+    pub fn fresh(
+        alloc: Global,
+        store: S,
+        size: u64,
+        limit: u64,
+    ) -> Result<PagedArea<S>, AllocFailed<S>>
+        requires { size ≡ length (file_of (S.disk store)) }
+        ensures image { IfOk result (λ area. ⟦<PagedArea<S> as Area>⟧.image area ≡ []) }
+        ensures frame { IfOk result (λ area. ⟦<PagedArea<S> as Area>⟧.frame area ≡ record { base = None; limit = limit; under = (S.disk store, S.write_faults store) }) }
+        ensures faults { IfOk result (λ area. ⟦<PagedArea<S> as Area>⟧.faults area ≡ S.read_faults store) }
+        ensures edited { IfOk result (λ area. ⟦<PagedArea<S> as Area>⟧.edited area ≡ false) }
+        ensures none_changed { IfOk result (λ area. (number : ℕ) → ⟦<PagedArea<S> as InPages>⟧.changed area number ≡ false) }
+        ensures none_clean { IfOk result (λ area. ⟦<PagedArea<S> as InPages>⟧.clean area ≡ []) }
+        ensures taken { IfOk result (λ area. ⟦<PagedArea<S> as InPages>⟧.taken area ≡ S.taken store) }
+        ensures handed_back { IfErr result (λ failed. failed.value ≡ store) }
+    {
+        PagedArea::new(alloc, store, size, 0, limit)
+    }
+
+    /// Makes the attached file the image and a tail behind it, and cuts it where it is longer. Only changed pages are written,
+    /// in ascending order, and the tail. Room for all writes is made first, which is the one want of memory.
+    #[tactic(auto, using(crate::proofs::Images::image_size))]
+    pub fn save(&mut self, tail: Option<[u8; 16]>) -> Result<(), AreaError>
+        requires held { IsSome (⟦<PagedArea<S> as Area>⟧.frame self.old).under.0.held }
+        requires unmarked { (⟦<PagedArea<S> as Area>⟧.frame self.old).base ≡ None }
+        requires fits { length (⟦<PagedArea<S> as Area>⟧.image self.old) + 16 < 2 ^ 64 }
+        ensures saved { OnOk result (Holds (⟦<PagedArea<S> as Area>⟧.frame self.old).under.0 (⟦<PagedArea<S> as Area>⟧.image self.old ++ tail_bytes tail) (⟦<PagedArea<S> as Area>⟧.frame self.new).under.0) }
+        ensures failed { IsErrOf result AreaError.Fault → HoldsBetween (⟦<PagedArea<S> as Area>⟧.frame self.old).under.0 (⟦<PagedArea<S> as Area>⟧.image self.old ++ tail_bytes tail) (⟦<PagedArea<S> as Area>⟧.frame self.new).under.0 }
+        ensures no_memory { IsErrOf result AreaError.NoMemory → (⟦<PagedArea<S> as Area>⟧.frame self.new).under ≡ (⟦<PagedArea<S> as Area>⟧.frame self.old).under }
+        ensures image { ⟦<PagedArea<S> as Area>⟧.image self.new ≡ ⟦<PagedArea<S> as Area>⟧.image self.old }
+        ensures base { (⟦<PagedArea<S> as Area>⟧.frame self.new).base ≡ None }
+        ensures limit { (⟦<PagedArea<S> as Area>⟧.frame self.new).limit ≡ (⟦<PagedArea<S> as Area>⟧.frame self.old).limit }
+        ensures faults { ⟦<PagedArea<S> as Area>⟧.faults self.new ≡ ⟦<PagedArea<S> as Area>⟧.faults self.old }
+        ensures cause { HasCauseOf AreaError.Fault (⟦<PagedArea<S> as Area>⟧.frame self.old).under.1 (⟦<PagedArea<S> as Area>⟧.frame self.new).under.1 result }
+        // Then no page is a changed one. Nothing but changed pages and the tail was written, and nothing was read.
+        ensures unchanged { OnOk result ((number : ℕ) → ⟦<PagedArea<S> as InPages>⟧.changed self.new number ≡ false) }
+        ensures clean { ⟦<PagedArea<S> as InPages>⟧.clean self.new ≡ ⟦<PagedArea<S> as InPages>⟧.clean self.old }
+        ensures taken { ⟦<PagedArea<S> as InPages>⟧.taken self.new ≡ ⟦<PagedArea<S> as InPages>⟧.taken self.old }
+        ensures touched { Touches (IsChangedRange (⟦<PagedArea<S> as InPages>⟧.changed self.old) (length (⟦<PagedArea<S> as Area>⟧.image self.old)) (length (tail_bytes tail))) (⟦<PagedArea<S> as Area>⟧.frame self.old).under.0.touched (⟦<PagedArea<S> as Area>⟧.frame self.new).under.0.touched }
+        // Where no page is changed and the file is as long as it is to be, the store is not called.
+        ensures not_called { HasNothingToSave (⟦<PagedArea<S> as InPages>⟧.changed self.old) (⟦<PagedArea<S> as InPages>⟧.measured self.old) (file_of (⟦<PagedArea<S> as Area>⟧.frame self.old).under.0) (⟦<PagedArea<S> as Area>⟧.image self.old) tail → (result ≡ Ok tt) × ((⟦<PagedArea<S> as Area>⟧.frame self.new).under ≡ (⟦<PagedArea<S> as Area>⟧.frame self.old).under) }
+        // So it is of a file that is the image as it stands.
+        ensures untouched { IsSavedAlready (⟦<PagedArea<S> as Area>⟧.edited self.old) (file_of (⟦<PagedArea<S> as Area>⟧.frame self.old).under.0) (⟦<PagedArea<S> as Area>⟧.image self.old) tail → (⟦<PagedArea<S> as Area>⟧.frame self.new).under ≡ (⟦<PagedArea<S> as Area>⟧.frame self.old).under }
+        ensures unfailed { IsSavedAlready (⟦<PagedArea<S> as Area>⟧.edited self.old) (file_of (⟦<PagedArea<S> as Area>⟧.frame self.old).under.0) (⟦<PagedArea<S> as Area>⟧.image self.old) tail → IsOk result }
+    {
+        if self.has_nothing_to_save(&tail) {
+            return Ok(());
+        }
+        let bytes = tail_slice(&tail);
+        let most = self.most;
+        let end = self.sheets.length + bytes.len() as u64;
+        let outcome = save_image(&mut self.store, &mut self.sheets, most, bytes);
+        self.most = most_after(&outcome, most, end);
+        outcome
+    }
+
+    /// Whether no page is changed, the file is not longer than the image, and no tail is to stand behind it.
+    fn has_nothing_to_save(&self, tail: &Option<[u8; 16]>) -> bool
+        ensures yes { IsTrue result → ((number : ℕ) → get nat_cmp self.now.sheets.changed number ≡ None) × (tail.now ≡ None) × (self.now.most ≤ self.now.sheets.length) }
+        ensures no { ((number : ℕ) → get nat_cmp self.now.sheets.changed number ≡ None) → tail.now ≡ None → self.now.most ≤ self.now.sheets.length → IsTrue result }
+    {
+        self.sheets.first().is_none() && tail.is_none() && self.most <= self.sheets.length
+    }
+
+    /// The store beneath. What was changed is let go.
+    pub fn into_store(self) -> S
+        ensures disk { S.disk result ≡ (⟦<PagedArea<S> as Area>⟧.frame self).under.0 }
+        ensures write { S.write_faults result ≡ (⟦<PagedArea<S> as Area>⟧.frame self).under.1 }
+        ensures read { S.read_faults result ≡ ⟦<PagedArea<S> as Area>⟧.faults self }
+    {
+        self.store
+    }
+
+    /// The first `size` bytes of the file that is attached, which has `most` bytes.
+    fn new(
+        alloc: Global,
+        store: S,
+        most: u64,
+        size: u64,
+        limit: u64,
+    ) -> Result<PagedArea<S>, AllocFailed<S>>
+        requires most { most ≡ length (file_of (S.disk store)) }
+        requires size { size ≤ most }
+        ensures image { IfOk result (λ area. ⟦<PagedArea<S> as Area>⟧.image area ≡ take size (file_of (S.disk store))) }
+        ensures frame { IfOk result (λ area. ⟦<PagedArea<S> as Area>⟧.frame area ≡ record { base = None; limit = limit; under = (S.disk store, S.write_faults store) }) }
+        ensures faults { IfOk result (λ area. ⟦<PagedArea<S> as Area>⟧.faults area ≡ S.read_faults store) }
+        ensures edited { IfOk result (λ area. ⟦<PagedArea<S> as Area>⟧.edited area ≡ false) }
+        ensures none_changed { IfOk result (λ area. (number : ℕ) → ⟦<PagedArea<S> as InPages>⟧.changed area number ≡ false) }
+        ensures none_clean { IfOk result (λ area. ⟦<PagedArea<S> as InPages>⟧.clean area ≡ []) }
+        ensures taken { IfOk result (λ area. ⟦<PagedArea<S> as InPages>⟧.taken area ≡ S.taken store) }
+        ensures handed_back { IfErr result (λ failed. failed.value ≡ store) }
+    {
+        let cap = NonZeroUsize::new(CLEAN_PAGES).unwrap();
+        let Ok(clean) = LruCache::new(alloc, cap) else {
+            return Err(AllocFailed { value: store });
+        };
+        let sheets = Sheets::new(alloc, size);
+        Ok(PagedArea {
+            alloc,
+            store,
+            sheets,
+            clean,
+            limit,
+            most,
+            edited: false,
+        })
+    }
+}
+
+impl<S: Store> InPages for PagedArea<S> {
+    ghost changed = { λ a. is_in (get nat_cmp a.sheets.changed) };
+
+    ghost marked = { λ a. is_in (λ number. was (get nat_cmp a.sheets.kept number) (get nat_cmp a.sheets.changed number)) };
+
+    ghost clean = { λ a. keys_of a.clean.entries };
+
+    ghost taken = { λ a. S.taken a.store };
+
+    ghost measured = { λ a. a.most == length (file_of (S.disk a.store)) };
+
+    ghost cached = { λ a. all_clean (get nat_cmp a.sheets.changed) (file_of (S.disk a.store)) a.sheets.length a.clean a.valid a.cap a.shows };
+}
+
+impl<S: Store> Area for PagedArea<S> {
+    ghost image = { λ a. image_of (get nat_cmp a.sheets.changed) (file_of (S.disk a.store)) a.sheets.length };
+
+    ghost Under = { Disk S.Under × ℕ };
+
+    ghost frame = { λ a. record {
+      base = option_map (λ size. image_of (λ number. was (get nat_cmp a.sheets.kept number) (get nat_cmp a.sheets.changed number)) (file_of (S.disk a.store)) size) a.sheets.marked;
+      limit = a.limit;
+      under = (S.disk a.store, S.write_faults a.store);
+    } };
+
+    ghost faults = { λ a. S.read_faults a.store };
+
+    ghost edited = { λ a. is_edited a.edited a.most (file_of (S.disk a.store)) };
+
+    #[tactic(auto, using(crate::proofs::Images::image_size))]
+    fn size(&self) -> u64 {
+        self.sheets.length
+    }
+
+    fn limit(&self) -> u64 {
+        self.limit
+    }
+
+    #[tactic(auto, using(crate::proofs::Images::image_size))]
+    fn get(&mut self, place: u64, out: &mut [u8]) -> Result<(), AreaError>
+        requires { place + length out.old ≤ length (⟦<PagedArea<S> as Area>⟧.image self.old) }
+        ensures bytes { OnOk result (out.new ≡ take (length out.new) (drop place (⟦<PagedArea<S> as Area>⟧.image self.old))) }
+        ensures area { Reads ⟦<PagedArea<S> as Area>⟧.image ⟦<PagedArea<S> as Area>⟧.frame ⟦<PagedArea<S> as Area>⟧.faults ⟦<PagedArea<S> as Area>⟧.edited self.old self.new result }
+        // Its pages come to the front one after another, up to one that cannot be read, and only a missing one is read.
+        ensures changed { ⟦<PagedArea<S> as InPages>⟧.changed self.new ≡ ⟦<PagedArea<S> as InPages>⟧.changed self.old }
+        ensures used { OnOk result (⟦<PagedArea<S> as InPages>⟧.clean self.new ≡ used_from (⟦<PagedArea<S> as InPages>⟧.changed self.old) (place / 65536) (pages_in place (length out.old)) (⟦<PagedArea<S> as InPages>⟧.clean self.old)) }
+        ensures some { OnErr result (ReadsSome (⟦<PagedArea<S> as InPages>⟧.changed self.old) (⟦<PagedArea<S> as InPages>⟧.clean self.old) (⟦<PagedArea<S> as InPages>⟧.clean self.new) place (length out.old)) }
+        ensures taken { TakesAtMost (⟦<PagedArea<S> as InPages>⟧.taken self.old) (⟦<PagedArea<S> as InPages>⟧.taken self.new) (cost_of_reading (⟦<PagedArea<S> as InPages>⟧.changed self.old) (⟦<PagedArea<S> as InPages>⟧.clean self.old) (length (file_of (⟦<PagedArea<S> as Area>⟧.frame self.old).under.0)) (place / 65536) (pages_in place (length out.old))) }
+    {
+        read_range(
+            self.alloc,
+            &mut self.store,
+            &self.sheets,
+            &mut self.clean,
+            place,
+            out,
+        )
+    }
+
+    #[tactic(auto, using(crate::proofs::Images::image_size))]
+    fn set(&mut self, place: u64, bytes: &[u8]) -> Result<(), AreaError>
+        requires { place + length bytes.now ≤ length (⟦<PagedArea<S> as Area>⟧.image self.old) }
+        ensures written { OnOk result (⟦<PagedArea<S> as Area>⟧.image self.new ≡ put (⟦<PagedArea<S> as Area>⟧.image self.old) place bytes.now) }
+        ensures area { Overwrites ⟦<PagedArea<S> as Area>⟧.image ⟦<PagedArea<S> as Area>⟧.frame ⟦<PagedArea<S> as Area>⟧.faults self.old self.new result }
+        // Exactly the pages of the range become changed ones, and some of them at most where there is an error.
+        ensures changes { OnOk result (Changes (⟦<PagedArea<S> as InPages>⟧.changed self.old) (⟦<PagedArea<S> as InPages>⟧.changed self.new) (⟦<PagedArea<S> as InPages>⟧.clean self.old) (⟦<PagedArea<S> as InPages>⟧.clean self.new) place (length bytes.now)) }
+        ensures some { OnErr result (ChangesSome (⟦<PagedArea<S> as InPages>⟧.changed self.old) (⟦<PagedArea<S> as InPages>⟧.changed self.new) (⟦<PagedArea<S> as InPages>⟧.clean self.old) (⟦<PagedArea<S> as InPages>⟧.clean self.new) place (length bytes.now)) }
+        ensures taken { TakesAtMost (⟦<PagedArea<S> as InPages>⟧.taken self.old) (⟦<PagedArea<S> as InPages>⟧.taken self.new) (cost_of_writing (⟦<PagedArea<S> as InPages>⟧.changed self.old) (⟦<PagedArea<S> as InPages>⟧.clean self.old) (length (file_of (⟦<PagedArea<S> as Area>⟧.frame self.old).under.0)) (place / 65536) (pages_in place (length bytes.now))) }
+    {
+        if bytes.is_empty() {
+            return Ok(());
+        }
+        let _size = self.sheets.length;
+        let from = place / PAGE;
+        let upto = (place + (bytes.len() as u64 - 1)) / PAGE + 1;
+        self.edited = true;
+        let owned = own_pages(
+            self.alloc,
+            &mut self.store,
+            &mut self.sheets,
+            &mut self.clean,
+            from,
+            upto,
+        );
+        let _count = self.clean.len();
+        owned?;
+        write_range(&mut self.sheets, place, bytes);
+        Ok(())
+    }
+
+    #[tactic(auto, using(crate::proofs::Images::image_size))]
+    fn extend(&mut self, n: u64) -> Result<(), AreaError>
+        requires { length (⟦<PagedArea<S> as Area>⟧.image self.old) + n ≤ (⟦<PagedArea<S> as Area>⟧.frame self.old).limit }
+        ensures longer { OnOk result (⟦<PagedArea<S> as Area>⟧.image self.new ≡ ⟦<PagedArea<S> as Area>⟧.image self.old ++ replicate n 0) }
+        ensures stays { OnErr result (⟦<PagedArea<S> as Area>⟧.image self.new ≡ ⟦<PagedArea<S> as Area>⟧.image self.old) }
+        ensures area { Edits ⟦<PagedArea<S> as Area>⟧.frame ⟦<PagedArea<S> as Area>⟧.faults self.old self.new result }
+        // Exactly the pages of the range become changed ones, and some of them at most where there is an error.
+        ensures changes { OnOk result (Changes (⟦<PagedArea<S> as InPages>⟧.changed self.old) (⟦<PagedArea<S> as InPages>⟧.changed self.new) (⟦<PagedArea<S> as InPages>⟧.clean self.old) (⟦<PagedArea<S> as InPages>⟧.clean self.new) (length (⟦<PagedArea<S> as Area>⟧.image self.old)) n) }
+        ensures some { OnErr result (ChangesSome (⟦<PagedArea<S> as InPages>⟧.changed self.old) (⟦<PagedArea<S> as InPages>⟧.changed self.new) (⟦<PagedArea<S> as InPages>⟧.clean self.old) (⟦<PagedArea<S> as InPages>⟧.clean self.new) (length (⟦<PagedArea<S> as Area>⟧.image self.old)) n) }
+        ensures taken { TakesAtMost (⟦<PagedArea<S> as InPages>⟧.taken self.old) (⟦<PagedArea<S> as InPages>⟧.taken self.new) (cost_of_writing (⟦<PagedArea<S> as InPages>⟧.changed self.old) (⟦<PagedArea<S> as InPages>⟧.clean self.old) (length (file_of (⟦<PagedArea<S> as Area>⟧.frame self.old).under.0)) ((length (⟦<PagedArea<S> as Area>⟧.image self.old)) / 65536) (pages_in (length (⟦<PagedArea<S> as Area>⟧.image self.old)) n)) }
+    {
+        if n == 0 {
+            return Ok(());
+        }
+        let _limit = self.limit;
+        let place = self.sheets.length;
+        let from = place / PAGE;
+        let upto = (place + (n - 1)) / PAGE + 1;
+        self.edited = true;
+        let owned = own_pages(
+            self.alloc,
+            &mut self.store,
+            &mut self.sheets,
+            &mut self.clean,
+            from,
+            upto,
+        );
+        let _count = self.clean.len();
+        owned?;
+        zero_range(&mut self.sheets, n);
+        Ok(())
+    }
+
+    #[tactic(auto, using(crate::proofs::Images::image_size))]
+    fn shorten(&mut self, n: u64)
+        requires room { n ≤ length (⟦<PagedArea<S> as Area>⟧.image self.old) }
+        requires unmarked { (⟦<PagedArea<S> as Area>⟧.frame self.old).base ≡ None }
+        ensures shorter { ⟦<PagedArea<S> as Area>⟧.image self.new ≡ take (length (⟦<PagedArea<S> as Area>⟧.image self.old) - n) (⟦<PagedArea<S> as Area>⟧.image self.old) }
+        ensures frame { ⟦<PagedArea<S> as Area>⟧.frame self.new ≡ ⟦<PagedArea<S> as Area>⟧.frame self.old }
+        ensures edited { ⟦<PagedArea<S> as Area>⟧.edited self.new ≡ ⟦<PagedArea<S> as Area>⟧.edited self.old }
+        ensures faults { ⟦<PagedArea<S> as Area>⟧.faults self.new ≡ ⟦<PagedArea<S> as Area>⟧.faults self.old }
+        ensures changed { ⟦<PagedArea<S> as InPages>⟧.changed self.new ≡ ⟦<PagedArea<S> as InPages>⟧.changed self.old }
+        ensures clean { ⟦<PagedArea<S> as InPages>⟧.clean self.new ≡ ⟦<PagedArea<S> as InPages>⟧.clean self.old }
+        ensures taken { ⟦<PagedArea<S> as InPages>⟧.taken self.new ≡ ⟦<PagedArea<S> as InPages>⟧.taken self.old }
+    {
+        self.sheets.length -= n;
+    }
+
+    fn mark(&mut self)
+        ensures image { ⟦<PagedArea<S> as Area>⟧.image self.new ≡ ⟦<PagedArea<S> as Area>⟧.image self.old }
+        ensures frame { ⟦<PagedArea<S> as Area>⟧.frame self.new ≡ with_base (⟦<PagedArea<S> as Area>⟧.frame self.old) (Some (⟦<PagedArea<S> as Area>⟧.image self.old)) }
+        ensures edited { ⟦<PagedArea<S> as Area>⟧.edited self.new ≡ ⟦<PagedArea<S> as Area>⟧.edited self.old }
+        ensures faults { ⟦<PagedArea<S> as Area>⟧.faults self.new ≡ ⟦<PagedArea<S> as Area>⟧.faults self.old }
+        ensures marked { (number : ℕ) → ⟦<PagedArea<S> as InPages>⟧.marked self.new number ≡ ⟦<PagedArea<S> as InPages>⟧.changed self.old number }
+        ensures changed { ⟦<PagedArea<S> as InPages>⟧.changed self.new ≡ ⟦<PagedArea<S> as InPages>⟧.changed self.old }
+        ensures clean { ⟦<PagedArea<S> as InPages>⟧.clean self.new ≡ ⟦<PagedArea<S> as InPages>⟧.clean self.old }
+        ensures taken { ⟦<PagedArea<S> as InPages>⟧.taken self.new ≡ ⟦<PagedArea<S> as InPages>⟧.taken self.old }
+    {
+        self.sheets.mark();
+    }
+
+    fn keep(&mut self)
+        requires { IsSome (⟦<PagedArea<S> as Area>⟧.frame self.old).base }
+        ensures image { ⟦<PagedArea<S> as Area>⟧.image self.new ≡ ⟦<PagedArea<S> as Area>⟧.image self.old }
+        ensures frame { ⟦<PagedArea<S> as Area>⟧.frame self.new ≡ with_base (⟦<PagedArea<S> as Area>⟧.frame self.old) None }
+        ensures edited { ⟦<PagedArea<S> as Area>⟧.edited self.new ≡ ⟦<PagedArea<S> as Area>⟧.edited self.old }
+        ensures faults { ⟦<PagedArea<S> as Area>⟧.faults self.new ≡ ⟦<PagedArea<S> as Area>⟧.faults self.old }
+        ensures changed { ⟦<PagedArea<S> as InPages>⟧.changed self.new ≡ ⟦<PagedArea<S> as InPages>⟧.changed self.old }
+        ensures clean { ⟦<PagedArea<S> as InPages>⟧.clean self.new ≡ ⟦<PagedArea<S> as InPages>⟧.clean self.old }
+        ensures taken { ⟦<PagedArea<S> as InPages>⟧.taken self.new ≡ ⟦<PagedArea<S> as InPages>⟧.taken self.old }
+    {
+        self.sheets.keep();
+    }
+
+    fn undo(&mut self)
+        requires { IsSome (⟦<PagedArea<S> as Area>⟧.frame self.old).base }
+        ensures image { (⟦<PagedArea<S> as Area>⟧.frame self.old).base ≡ Some (⟦<PagedArea<S> as Area>⟧.image self.new) }
+        ensures frame { ⟦<PagedArea<S> as Area>⟧.frame self.new ≡ with_base (⟦<PagedArea<S> as Area>⟧.frame self.old) None }
+        ensures edited { ⟦<PagedArea<S> as Area>⟧.edited self.new ≡ ⟦<PagedArea<S> as Area>⟧.edited self.old }
+        ensures faults { ⟦<PagedArea<S> as Area>⟧.faults self.new ≡ ⟦<PagedArea<S> as Area>⟧.faults self.old }
+        ensures changed { (number : ℕ) → ⟦<PagedArea<S> as InPages>⟧.changed self.new number ≡ ⟦<PagedArea<S> as InPages>⟧.marked self.old number }
+        ensures clean { ⟦<PagedArea<S> as InPages>⟧.clean self.new ≡ ⟦<PagedArea<S> as InPages>⟧.clean self.old }
+        ensures taken { ⟦<PagedArea<S> as InPages>⟧.taken self.new ≡ ⟦<PagedArea<S> as InPages>⟧.taken self.old }
+    {
+        self.sheets.undo();
+    }
+}

@@ -1,0 +1,195 @@
+//! Reading bytes of an image, out of changed pages, of the cache and of the file.
+
+ghost use Rattle.std.specs.Prelude.{◌≡◌, ◌+◌, ◌-◌, ◌*◌, ◌/◌, ◌≤◌, ◌<◌, ◌^◌, ◌⊎◌, ℕ, List, length, min, take, drop, nat_eq, Some, OnOk, OnErr, IfOk};
+ghost use Rattle.lru.specs.LruCache.{IsValid};
+ghost use Rattle.std.specs.Map.{keys_of, lookup};
+ghost use Rattle.std.specs.Ordering.{nat_cmp};
+ghost use Rattle.std.specs.BTreeMap.{get};
+ghost use Rattle.cdf_base.specs.Causes.{HasCause, HasCauseOf};
+ghost use Rattle.cdf_store.specs.Disk.{file_of};
+ghost use Rattle.cdf_pages.specs.Pages.{AllShow, Backed, Shows, TakesAtMost, image_of, is_in};
+ghost use Rattle.cdf_pages.specs.Standing.{ReadsSome, clean_cost, cost_of_reading, page_cost, pages_in, to_front, used, used_from};
+
+use crate::page::{PAGE, Page};
+use crate::sheets::Sheets;
+use cdf_area::AreaError;
+use cdf_store::{Failed, Store};
+use lru::LruCache;
+use std::alloc::Global;
+
+/// Fills the front of `out`, so many bytes, with those of the file from a place on.
+fn fill<S: Store>(store: &mut S, place: u64, out: &mut [u8], live: usize) -> Result<(), Failed>
+    requires live { live ≤ length out.old }
+    requires there { 0 < live → place + live ≤ length (file_of (S.disk store.old)) }
+    requires fits { place + live < 2 ^ 64 }
+    ensures bytes { OnOk result (take live out.new ≡ take live (drop place (file_of (S.disk store.old)))) }
+    ensures size { length out.new ≡ length out.old }
+    ensures disk { S.disk store.new ≡ S.disk store.old }
+    ensures taken { TakesAtMost (S.taken store.old) (S.taken store.new) live }
+    ensures cause { HasCause (S.read_faults store.old) (S.read_faults store.new) result }
+    ensures write { S.write_faults store.new ≡ S.write_faults store.old }
+{
+    let mut done = 0;
+    while done < live {
+        let count = store.read_at(place + done as u64, &mut out[done..live])?;
+        done += count;
+    }
+    Ok(())
+}
+
+/// How many bytes of a page lie in an image of so many bytes.
+pub fn live_bytes(size: u64, number: u64) -> usize
+    requires { number * 65536 < 2 ^ 64 }
+    ensures { result ≡ min 65536 (size - number * 65536) }
+{
+    let start = number * PAGE;
+    if size <= start {
+        return 0;
+    }
+    (size - start).min(PAGE) as usize
+}
+
+/// A page of the file, with its first bytes alone.
+pub fn load_page<S: Store>(
+    alloc: Global,
+    store: &mut S,
+    number: u64,
+    live: usize,
+) -> Result<Page, AreaError>
+    requires live { live ≤ 65536 }
+    requires fits { number * 65536 + live < 2 ^ 64 }
+    requires there { 0 < live → number * 65536 + live ≤ length (file_of (S.disk store.old)) }
+    ensures bytes { IfOk result (λ page. take live page ≡ take live (drop (number * 65536) (file_of (S.disk store.old)))) }
+    ensures disk { S.disk store.new ≡ S.disk store.old }
+    ensures taken { TakesAtMost (S.taken store.old) (S.taken store.new) live }
+    ensures cause { HasCauseOf AreaError.Fault (S.read_faults store.old) (S.read_faults store.new) result }
+    ensures write { S.write_faults store.new ≡ S.write_faults store.old }
+{
+    let mut bytes = Vec::new(alloc);
+    bytes.resize(PAGE as usize, 0)?;
+    match fill(store, number * PAGE, &mut bytes, live) {
+        Ok(()) => Ok(Page::new(bytes)),
+        Err(Failed) => Err(AreaError::Fault),
+    }
+}
+
+/// Reads within one page that is no changed one, which comes to the front of the cache.
+fn read_clean<S: Store>(
+    alloc: Global,
+    store: &mut S,
+    clean: &mut LruCache<u64, Page>,
+    size: u64,
+    number: u64,
+    place: usize,
+    out: &mut [u8],
+) -> Result<(), AreaError>
+    requires room { place + length out.old ≤ 65536 }
+    requires inside { number * 65536 + place + length out.old ≤ size }
+    requires fits { number * 65536 < 2 ^ 64 }
+    requires backed { (j : ℕ) → j < 65536 → number * 65536 + j < size → number * 65536 + j < length (file_of (S.disk store.old)) }
+    requires shows { (other : ℕ) → (page : List ℕ) → lookup (nat_eq other) clean.old.entries ≡ Some page → Shows (file_of (S.disk store.old)) size other page }
+    requires cap { clean.old.cap ≡ 256 }
+    ensures size { length out.new ≡ length out.old }
+    ensures bytes { OnOk result (out.new ≡ take (length out.old) (drop (number * 65536 + place) (file_of (S.disk store.old)))) }
+    ensures fewer { (other : ℕ) → (page : List ℕ) → lookup (nat_eq other) clean.new.entries ≡ Some page → (lookup (nat_eq other) clean.old.entries ≡ Some page) ⊎ ((other ≡ number) × Shows (file_of (S.disk store.old)) size number page) }
+    ensures used { OnOk result (keys_of clean.new.entries ≡ to_front number (keys_of clean.old.entries)) }
+    ensures stays { OnErr result (clean.new ≡ clean.old) }
+    ensures cap { clean.new.cap ≡ clean.old.cap }
+    ensures disk { S.disk store.new ≡ S.disk store.old }
+    ensures taken { TakesAtMost (S.taken store.old) (S.taken store.new) (clean_cost (keys_of clean.old.entries) (length (file_of (S.disk store.old))) number) }
+    ensures cause { HasCauseOf AreaError.Fault (S.read_faults store.old) (S.read_faults store.new) result }
+    ensures write { S.write_faults store.new ≡ S.write_faults store.old }
+{
+    let _count = clean.len();
+    if let Some(page) = clean.peek(&number) {
+        page.read(place, out);
+        clean.promote(&number);
+        return Ok(());
+    }
+    let live = live_bytes(size, number);
+    let page = load_page(alloc, store, number, live)?;
+    page.read(place, out);
+    clean.put(number, page)?;
+    Ok(())
+}
+
+/// Reads within one page.
+fn read_within<S: Store>(
+    alloc: Global,
+    store: &mut S,
+    sheets: &Sheets,
+    clean: &mut LruCache<u64, Page>,
+    number: u64,
+    place: usize,
+    out: &mut [u8],
+) -> Result<(), AreaError>
+    requires room { place + length out.old ≤ 65536 }
+    requires inside { number * 65536 + place + length out.old ≤ sheets.now.length }
+    requires fits { number * 65536 < 2 ^ 64 }
+    requires backed { Backed (get nat_cmp sheets.now.changed) (length (file_of (S.disk store.old))) sheets.now.length }
+    requires shows { AllShow (get nat_cmp sheets.now.changed) (file_of (S.disk store.old)) sheets.now.length clean.old.entries }
+    requires cap { clean.old.cap ≡ 256 }
+    ensures size { length out.new ≡ length out.old }
+    ensures bytes { OnOk result (out.new ≡ take (length out.old) (drop (number * 65536 + place) (image_of (get nat_cmp sheets.now.changed) (file_of (S.disk store.old)) sheets.now.length))) }
+    ensures shows { AllShow (get nat_cmp sheets.now.changed) (file_of (S.disk store.old)) sheets.now.length clean.new.entries }
+    ensures used { OnOk result (keys_of clean.new.entries ≡ used (is_in (get nat_cmp sheets.now.changed)) number (keys_of clean.old.entries)) }
+    ensures stays { OnErr result (clean.new ≡ clean.old) }
+    ensures cap { clean.new.cap ≡ clean.old.cap }
+    ensures disk { S.disk store.new ≡ S.disk store.old }
+    ensures taken { TakesAtMost (S.taken store.old) (S.taken store.new) (page_cost (is_in (get nat_cmp sheets.now.changed)) (keys_of clean.old.entries) (length (file_of (S.disk store.old))) number) }
+    ensures cause { HasCauseOf AreaError.Fault (S.read_faults store.old) (S.read_faults store.new) result }
+    ensures write { S.write_faults store.new ≡ S.write_faults store.old }
+{
+    if let Some(page) = sheets.page(number) {
+        page.read(place, out);
+        return Ok(());
+    }
+    read_clean(alloc, store, clean, sheets.length, number, place, out)
+}
+
+/// Reads bytes from a place on, page by page.
+pub fn read_range<S: Store>(
+    alloc: Global,
+    store: &mut S,
+    sheets: &Sheets,
+    clean: &mut LruCache<u64, Page>,
+    place: u64,
+    out: &mut [u8],
+) -> Result<(), AreaError>
+    requires inside { place + length out.old ≤ sheets.now.length }
+    requires backed { Backed (get nat_cmp sheets.now.changed) (length (file_of (S.disk store.old))) sheets.now.length }
+    requires shows { AllShow (get nat_cmp sheets.now.changed) (file_of (S.disk store.old)) sheets.now.length clean.old.entries }
+    requires cap { clean.old.cap ≡ 256 }
+    requires valid { IsValid nat_eq clean.old }
+    ensures bytes { OnOk result (out.new ≡ take (length out.new) (drop place (image_of (get nat_cmp sheets.now.changed) (file_of (S.disk store.old)) sheets.now.length))) }
+    ensures shows { AllShow (get nat_cmp sheets.now.changed) (file_of (S.disk store.old)) sheets.now.length clean.new.entries }
+    ensures used { OnOk result (keys_of clean.new.entries ≡ used_from (is_in (get nat_cmp sheets.now.changed)) (place / 65536) (pages_in place (length out.old)) (keys_of clean.old.entries)) }
+    ensures some { OnErr result (ReadsSome (is_in (get nat_cmp sheets.now.changed)) (keys_of clean.old.entries) (keys_of clean.new.entries) place (length out.old)) }
+    ensures cap { clean.new.cap ≡ clean.old.cap }
+    ensures valid { IsValid nat_eq clean.new }
+    ensures disk { S.disk store.new ≡ S.disk store.old }
+    ensures taken { TakesAtMost (S.taken store.old) (S.taken store.new) (cost_of_reading (is_in (get nat_cmp sheets.now.changed)) (keys_of clean.old.entries) (length (file_of (S.disk store.old))) (place / 65536) (pages_in place (length out.old))) }
+    ensures cause { HasCauseOf AreaError.Fault (S.read_faults store.old) (S.read_faults store.new) result }
+    ensures write { S.write_faults store.new ≡ S.write_faults store.old }
+{
+    let _size = sheets.length;
+    let mut done: usize = 0;
+    while done < out.len() {
+        let start = place + done as u64;
+        let number = start / PAGE;
+        let within = (start % PAGE) as usize;
+        let count = (out.len() - done).min(PAGE as usize - within);
+        read_within(
+            alloc,
+            store,
+            sheets,
+            clean,
+            number,
+            within,
+            &mut out[done..done + count],
+        )?;
+        let _held = clean.len();
+        done += count;
+    }
+    Ok(())
+}

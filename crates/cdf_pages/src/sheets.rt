@@ -1,0 +1,217 @@
+//! The changed pages of an image.
+
+ghost use Rattle.std.specs.Prelude.{◌≡◌, ◌+◌, ◌≤◌, ◌<◌, ◌^◌, ℕ, List, length, OnOk, OnErr, Some, None, IsSome, IfOk, IfSome, IfNone, option_copied};
+ghost use Rattle.std.specs.Option.{is_some};
+ghost use Rattle.std.specs.Ordering.{nat_cmp};
+ghost use Rattle.std.specs.BTreeMap.{btree_map_len, get};
+ghost use Rattle.cdf_base.specs.Bytes.{put};
+ghost use Rattle.cdf_pages.specs.Pages.{was};
+
+use crate::page::Page;
+use std::alloc::{AllocError, Global};
+use std::collections::BTreeMap;
+
+/// The changed pages of an image by their numbers, and what they were at the mark.
+///
+/// While there is a mark, a page is kept as it was before it is first written. So going back takes no memory, and costs in
+/// proportion to what was written.
+#[derive(Drop)]
+pub struct Sheets {
+    pub alloc: Global,
+    /// How many bytes the image has.
+    pub length: u64,
+    pub changed: BTreeMap<u64, Page>,
+    /// How many bytes it had at the mark.
+    pub marked: Option<u64>,
+    /// Pages as they were at the mark: `None` for one that was not a changed page.
+    pub kept: BTreeMap<u64, Option<Page>>,
+    ghost unmarked: { marked ≡ None → (number : ℕ) → get nat_cmp kept number ≡ None },
+    ghost stay: { (number : ℕ) → (page : List ℕ) → get nat_cmp kept number ≡ Some (Some page) → IsSome (get nat_cmp changed number) },
+}
+
+impl Sheets {
+    /// No changed page, of an image of so many bytes, without a mark.
+    pub fn new(alloc: Global, length: u64) -> Sheets
+        ensures none { (number : ℕ) → get nat_cmp result.changed number ≡ None }
+        ensures length { result.length ≡ length }
+        ensures marked { result.marked ≡ None }
+    {
+        Sheets {
+            alloc,
+            length,
+            changed: BTreeMap::new(alloc),
+            marked: None,
+            kept: BTreeMap::new(alloc),
+        }
+    }
+
+    /// Whether a page is a changed one.
+    pub fn has(&self, number: u64) -> bool
+        ensures { result ≡ is_some (get nat_cmp self.now.changed number) }
+    {
+        self.changed.contains_key(&number)
+    }
+
+    /// A changed page.
+    pub fn page(&self, number: u64) -> Option<&Page>
+        ensures { option_copied result ≡ get nat_cmp self.now.changed number }
+    {
+        self.changed.get(&number)
+    }
+
+    /// Keeps what a page is, where there is a mark and it is not kept yet.
+    pub fn keep_page(&mut self, number: u64) -> Result<(), AllocError>
+        ensures changed { self.new.changed ≡ self.old.changed }
+        ensures length { self.new.length ≡ self.old.length }
+        ensures marked { self.new.marked ≡ self.old.marked }
+        ensures kept { OnOk result (IsSome self.old.marked → IsSome (get nat_cmp self.new.kept number)) }
+        ensures more { (other : ℕ) → IsSome (get nat_cmp self.old.kept other) → IsSome (get nat_cmp self.new.kept other) }
+        ensures was { (other : ℕ) → was (get nat_cmp self.new.kept other) (get nat_cmp self.old.changed other) ≡ was (get nat_cmp self.old.kept other) (get nat_cmp self.old.changed other) }
+    {
+        if self.marked.is_none() || self.kept.contains_key(&number) {
+            return Ok(());
+        }
+        let old = copy_of(self.alloc, self.changed.get(&number))?;
+        self.kept.insert(number, old)?;
+        Ok(())
+    }
+
+    /// Adds a page that was not a changed one, once it is kept.
+    pub fn add(&mut self, number: u64, page: Page) -> Result<(), AllocError>
+        requires absent { get nat_cmp self.old.changed number ≡ None }
+        requires kept { IsSome self.old.marked → IsSome (get nat_cmp self.old.kept number) }
+        ensures added { OnOk result (get nat_cmp self.new.changed number ≡ Some page) }
+        ensures others { OnOk result ((other : ℕ) → (other ≡ number → ⊥) → get nat_cmp self.new.changed other ≡ get nat_cmp self.old.changed other) }
+        ensures stays { OnErr result ((other : ℕ) → get nat_cmp self.new.changed other ≡ get nat_cmp self.old.changed other) }
+        ensures kept { self.new.kept ≡ self.old.kept }
+        ensures length { self.new.length ≡ self.old.length }
+        ensures marked { self.new.marked ≡ self.old.marked }
+    {
+        self.changed.insert(number, page)?;
+        Ok(())
+    }
+
+    /// Writes bytes within a changed page, once it is kept.
+    pub fn write(&mut self, number: u64, place: usize, bytes: &[u8])
+        requires there { IsSome (get nat_cmp self.old.changed number) }
+        requires room { place + length bytes.now ≤ 65536 }
+        ensures whole { (page : List ℕ) → get nat_cmp self.old.changed number ≡ Some page → length page ≡ 65536 }
+        ensures written { (page : List ℕ) → get nat_cmp self.old.changed number ≡ Some page → get nat_cmp self.new.changed number ≡ Some (put page place bytes.now) }
+        ensures others { (other : ℕ) → (other ≡ number → ⊥) → get nat_cmp self.new.changed other ≡ get nat_cmp self.old.changed other }
+        ensures kept { self.new.kept ≡ self.old.kept }
+        ensures length { self.new.length ≡ self.old.length }
+        ensures marked { self.new.marked ≡ self.old.marked }
+    {
+        if let Some(page) = self.changed.get_mut(&number) {
+            page.write(place, bytes);
+        }
+    }
+
+    /// The first changed page.
+    pub fn first(&self) -> Option<u64>
+        ensures there { IfSome result (λ number. IsSome (get nat_cmp self.now.changed number)) }
+        ensures least { IfSome result (λ number. (other : ℕ) → other < number → get nat_cmp self.now.changed other ≡ None) }
+        ensures none { IfNone result ((number : ℕ) → get nat_cmp self.now.changed number ≡ None) }
+    {
+        let (number, _) = self.changed.first_key_value()?;
+        Some(*number)
+    }
+
+    /// How many changed pages there are.
+    pub fn count(&self) -> u64
+        ensures count { result ≡ btree_map_len self.now.changed }
+        ensures small { result < 2 ^ 63 }
+    {
+        self.changed.len() as u64
+    }
+
+    /// A page is a changed one no more, while there is no mark.
+    pub fn forget(&mut self, number: u64)
+        requires { self.old.marked ≡ None }
+        ensures fewer { IsSome (get nat_cmp self.old.changed number) → btree_map_len self.new.changed + 1 ≡ btree_map_len self.old.changed }
+        ensures gone { get nat_cmp self.new.changed number ≡ None }
+        ensures others { (other : ℕ) → (other ≡ number → ⊥) → get nat_cmp self.new.changed other ≡ get nat_cmp self.old.changed other }
+        ensures kept { self.new.kept ≡ self.old.kept }
+        ensures length { self.new.length ≡ self.old.length }
+        ensures marked { self.new.marked ≡ self.old.marked }
+    {
+        let _ = self.changed.remove(&number);
+    }
+
+    /// Marks the pages as they are.
+    pub fn mark(&mut self)
+        ensures changed { self.new.changed ≡ self.old.changed }
+        ensures none { (number : ℕ) → get nat_cmp self.new.kept number ≡ None }
+        ensures length { self.new.length ≡ self.old.length }
+        ensures marked { self.new.marked ≡ Some self.old.length }
+    {
+        self.kept.clear();
+        self.marked = Some(self.length);
+    }
+
+    /// Forgets the mark.
+    pub fn keep(&mut self)
+        ensures changed { self.new.changed ≡ self.old.changed }
+        ensures none { (number : ℕ) → get nat_cmp self.new.kept number ≡ None }
+        ensures length { self.new.length ≡ self.old.length }
+        ensures marked { self.new.marked ≡ None }
+    {
+        self.kept.clear();
+        self.marked = None;
+    }
+
+    /// Makes each page what it was at the mark, and forgets the mark. It takes no memory.
+    pub fn undo(&mut self)
+        requires { IsSome self.old.marked }
+        ensures was { (number : ℕ) → get nat_cmp self.new.changed number ≡ was (get nat_cmp self.old.kept number) (get nat_cmp self.old.changed number) }
+        ensures none { (number : ℕ) → get nat_cmp self.new.kept number ≡ None }
+        ensures length { Some self.new.length ≡ self.old.marked }
+        ensures marked { self.new.marked ≡ None }
+    {
+        if let Some(length) = self.marked {
+            self.length = length;
+        }
+        self.marked = None;
+        restore_all(&mut self.changed, &mut self.kept);
+    }
+}
+
+/// A copy of a page, where there is one.
+fn copy_of(alloc: Global, page: Option<&Page>) -> Result<Option<Page>, AllocError>
+    ensures { IfOk result (λ copy. copy ≡ option_copied page.entry) }
+{
+    match page {
+        Some(page) => {
+            let copy = page.copied(alloc)?;
+            Ok(Some(copy))
+        }
+        None => Ok(None),
+    }
+}
+
+/// Makes a page what it was. Where it was a changed page it is one now, so no memory is taken.
+fn restore(changed: &mut BTreeMap<u64, Page>, number: u64, old: Option<Page>)
+    requires { (page : List ℕ) → old ≡ Some page → IsSome (get nat_cmp changed.old number) }
+    ensures was { get nat_cmp changed.new number ≡ old }
+    ensures others { (other : ℕ) → (other ≡ number → ⊥) → get nat_cmp changed.new other ≡ get nat_cmp changed.old other }
+{
+    match old {
+        Some(page) => {
+            let _ = changed.insert(number, page);
+        }
+        None => {
+            let _ = changed.remove(&number);
+        }
+    }
+}
+
+/// Makes each page what it was.
+fn restore_all(changed: &mut BTreeMap<u64, Page>, kept: &mut BTreeMap<u64, Option<Page>>)
+    requires { (number : ℕ) → (page : List ℕ) → get nat_cmp kept.old number ≡ Some (Some page) → IsSome (get nat_cmp changed.old number) }
+    ensures was { (number : ℕ) → get nat_cmp changed.new number ≡ was (get nat_cmp kept.old number) (get nat_cmp changed.old number) }
+    ensures none { (number : ℕ) → get nat_cmp kept.new number ≡ None }
+{
+    while let Some((number, old)) = kept.pop_first() {
+        restore(changed, number, old);
+    }
+}
