@@ -1,6 +1,6 @@
 //! The file that is asked for is attached, and the script is run over it.
 
-ghost use Rattle.std.specs.Prelude.{◌≡◌, ◌&&◌, ℕ, [], true, false, length, Some, None};
+ghost use Rattle.std.specs.Prelude.{◌≡◌, ◌&&◌, ℕ, [], true, false, length, IfErr, IfOk, Some, None};
 ghost use Rattle.std.specs.Option.{option_map};
 ghost use Rattle.cdf_area.specs.Frame.{Frame};
 ghost use Rattle.cdf_store.specs.Disk.{file_of};
@@ -21,23 +21,30 @@ use crate::status::end_status;
 use crate::words::Asked;
 use cdf_area::{Area, MemArea};
 use cdf_model::limits::IMAGE_LIMIT;
-use cdf_pages::StoreArea;
+use cdf_pages::PagedArea;
 use cdf_store::{AttachError, Sink, Source, Store};
-use std::alloc::Global;
+use std::alloc::{AllocFailed, Global};
 
-/// An area over the file that is attached, which has so many bytes: over its image, or over an empty one.
-fn area_over<S: Store>(alloc: Global, new: bool, store: S, size: u64) -> StoreArea<S>
+/// An area over the file that is attached, which has so many bytes: over its image, or over an empty one. Where there is no memory
+/// the store is handed back.
+fn area_over<S: Store>(
+    alloc: Global,
+    new: bool,
+    store: S,
+    size: u64,
+) -> Result<PagedArea<S>, AllocFailed<S>>
     requires { Some size ≡ option_map length (S.disk store).held }
-    ensures image { new ≡ false → ⟦<StoreArea<S> as Area>⟧.image result ≡ file_of (S.disk store) }
-    ensures empty { new ≡ true → ⟦<StoreArea<S> as Area>⟧.image result ≡ [] }
-    ensures frame { ⟦<StoreArea<S> as Area>⟧.frame result ≡ record { base = None; limit = image_limit; under = (S.disk store, S.write_faults store) } }
-    ensures faults { ⟦<StoreArea<S> as Area>⟧.faults result ≡ S.read_faults store }
-    ensures unedited { new ≡ false → ⟦<StoreArea<S> as Area>⟧.edited result ≡ false }
+    ensures image { new ≡ false → IfOk result (λ area. ⟦<PagedArea<S> as Area>⟧.image area ≡ file_of (S.disk store)) }
+    ensures empty { new ≡ true → IfOk result (λ area. ⟦<PagedArea<S> as Area>⟧.image area ≡ []) }
+    ensures frame { IfOk result (λ area. ⟦<PagedArea<S> as Area>⟧.frame area ≡ record { base = None; limit = image_limit; under = (S.disk store, S.write_faults store) }) }
+    ensures faults { IfOk result (λ area. ⟦<PagedArea<S> as Area>⟧.faults area ≡ S.read_faults store) }
+    ensures unedited { new ≡ false → IfOk result (λ area. ⟦<PagedArea<S> as Area>⟧.edited area ≡ false) }
+    ensures handed_back { IfErr result (λ failed. failed.value ≡ store) }
 {
     if new {
-        StoreArea::fresh(alloc, store, size, IMAGE_LIMIT)
+        PagedArea::fresh(alloc, store, size, IMAGE_LIMIT)
     } else {
-        StoreArea::over(alloc, store, size, IMAGE_LIMIT)
+        PagedArea::over(alloc, store, size, IMAGE_LIMIT)
     }
 }
 
@@ -55,9 +62,16 @@ fn run_attached<S: Store, I: Source, O: Sink>(
     ensures counted { Counted (counts (S.read_faults store) (S.write_faults store) (O.faults out.old) (I.faults script.old)) (counts (S.read_faults result.store) (S.write_faults result.store) (O.faults out.new) (I.faults script.new)) result.status }
     ensures reads { asked.now.new ≡ false → IfReads (I.left script.old) (WritesNothing (S.disk store) (S.disk result.store) (S.write_faults store) (S.write_faults result.store) result.status) }
 {
-    let area = area_over(alloc, asked.new, store, size);
-    let ran = run_area(alloc, asked.new, asked.space, area, script, out);
-    finish(asked.no_save, ran)
+    match area_over(alloc, asked.new, store, size) {
+        Ok(area) => {
+            let ran = run_area(alloc, asked.new, asked.space, area, script, out);
+            finish(asked.no_save, ran)
+        }
+        Err(failed) => Ended {
+            status: Status::NoMemory,
+            store: failed.value,
+        },
+    }
 }
 
 /// Runs the script over a new file in memory, which is not saved.
