@@ -1,0 +1,157 @@
+//! What an area in pages asks of its store, by the number of calls, and what it leaves of the file.
+
+ghost use Rattle.std.specs.Prelude.{◌≡◌, IsSome, IfOk, None};
+
+use cdf_area::Area;
+use cdf_pages::PagedArea;
+use cdf_store::{MemStore, Store};
+use std::alloc::Global;
+use std::test::Fail;
+
+const NAME: &str = "file";
+
+/// How many bytes a page has.
+const PAGE: u64 = 65_536;
+
+/// An area over a file of so many bytes that are 7.
+fn area_over(alloc: Global, size: u64) -> Result<PagedArea<MemStore>, Fail>
+    ensures base { IfOk result (λ area. (⟦<PagedArea<MemStore> as Area>⟧.frame area).base ≡ None) }
+    ensures held { IfOk result (λ area. IsSome (⟦<PagedArea<MemStore> as Area>⟧.frame area).under.0.held) }
+{
+    let bytes = vec![in alloc; 7u8; size as usize]?;
+    let mut store = MemStore::new(alloc);
+    store.put_file(NAME, &bytes)?;
+    let Ok(Some(length)) = store.attach(NAME, false) else {
+        return Err(Fail::new("no file was attached"));
+    };
+    match PagedArea::over(alloc, store, length, 1 << 40) {
+        Ok(area) => Ok(area),
+        Err(_) => Err(Fail::new("no area")),
+    }
+}
+
+/// The byte at a place.
+fn byte_at(area: &mut PagedArea<MemStore>, place: u64) -> Result<u8, Fail>
+    ensures { ⟦<PagedArea<MemStore> as Area>⟧.frame area.new ≡ ⟦<PagedArea<MemStore> as Area>⟧.frame area.old }
+{
+    if place >= area.size() {
+        return Err(Fail::new("no such byte"));
+    }
+    let mut out = [0];
+    match area.get(place, &mut out) {
+        Ok(()) => Ok(out[0]),
+        Err(_) => Err(Fail::new("the byte was not read")),
+    }
+}
+
+/// Writes bytes from a place on.
+fn write(area: &mut PagedArea<MemStore>, place: u64, bytes: &[u8]) -> Result<(), Fail>
+    ensures { ⟦<PagedArea<MemStore> as Area>⟧.frame area.new ≡ ⟦<PagedArea<MemStore> as Area>⟧.frame area.old }
+{
+    let size = area.size();
+    if place > size || bytes.len() as u64 > size - place {
+        return Err(Fail::new("no such bytes"));
+    }
+    match area.set(place, bytes) {
+        Ok(()) => Ok(()),
+        Err(_) => Err(Fail::new("nothing was written")),
+    }
+}
+
+/// Appends bytes that are 0.
+fn grow(area: &mut PagedArea<MemStore>, n: u64) -> Result<(), Fail>
+    ensures { ⟦<PagedArea<MemStore> as Area>⟧.frame area.new ≡ ⟦<PagedArea<MemStore> as Area>⟧.frame area.old }
+{
+    let size = area.size();
+    if size > area.limit() || n > area.limit() - size {
+        return Err(Fail::new("no room"));
+    }
+    match area.extend(n) {
+        Ok(()) => Ok(()),
+        Err(_) => Err(Fail::new("the image did not grow")),
+    }
+}
+
+/// The store beneath, once the image is saved without a tail.
+fn saved(mut area: PagedArea<MemStore>) -> Result<MemStore, Fail>
+    requires base { (⟦<PagedArea<MemStore> as Area>⟧.frame area).base ≡ None }
+    requires held { IsSome (⟦<PagedArea<MemStore> as Area>⟧.frame area).under.0.held }
+{
+    if area.size() > 1 << 40 {
+        return Err(Fail::new("the image is too long"));
+    }
+    match area.save(None) {
+        Ok(()) => Ok(area.into_store()),
+        Err(_) => Err(Fail::new("the image was not saved")),
+    }
+}
+
+#[test]
+fn a_page_is_read_by_one_call(rt: HostRuntime) -> Result<(), Fail> {
+    let mut area = area_over(rt.alloc(), 2 * PAGE)?;
+    assert_eq!(rt; byte_at(&mut area, 3)?, 7);
+    assert_eq!(rt; byte_at(&mut area, PAGE - 1)?, 7);
+    // The file was attached by one call too.
+    assert_eq!(rt; area.into_store().calls(), 2);
+    Ok(())
+}
+
+#[test]
+fn a_257th_page_pushes_out_the_one_used_least(rt: HostRuntime) -> Result<(), Fail> {
+    let mut area = area_over(rt.alloc(), 257 * PAGE)?;
+    for number in 0..257u64 {
+        byte_at(&mut area, number * PAGE)?;
+    }
+    byte_at(&mut area, PAGE)?;
+    byte_at(&mut area, 256 * PAGE)?;
+    byte_at(&mut area, 0)?;
+    assert_eq!(rt; area.into_store().calls(), 1 + 257 + 1);
+    Ok(())
+}
+
+#[test]
+fn an_edit_across_a_border_writes_two_pages(rt: HostRuntime) -> Result<(), Fail> {
+    let mut area = area_over(rt.alloc(), 4 * PAGE)?;
+    write(&mut area, PAGE - 1, &[1, 2])?;
+    assert_eq!(rt; byte_at(&mut area, PAGE - 1)?, 1);
+    assert_eq!(rt; byte_at(&mut area, PAGE)?, 2);
+    let store = saved(area)?;
+    assert_eq!(rt; store.calls(), 1 + 2 + 2);
+    let Some([.., 7, 1, 2, 7]) = store
+        .file(NAME)
+        .and_then(|file| file.get(..PAGE as usize + 2))
+    else {
+        return Err(Fail::new("other bytes were saved"));
+    };
+    Ok(())
+}
+
+#[test]
+fn of_four_pages_one_is_written(rt: HostRuntime) -> Result<(), Fail> {
+    let mut area = area_over(rt.alloc(), 4 * PAGE)?;
+    write(&mut area, 3 * PAGE + 5, &[1])?;
+    assert_eq!(rt; saved(area)?.calls(), 1 + 1 + 1);
+    Ok(())
+}
+
+#[test]
+fn an_unchanged_file_is_not_written(rt: HostRuntime) -> Result<(), Fail> {
+    let area = area_over(rt.alloc(), 2 * PAGE)?;
+    assert_eq!(rt; saved(area)?.calls(), 1);
+    Ok(())
+}
+
+#[test]
+fn a_file_grows_wherever_it_ends(rt: HostRuntime) -> Result<(), Fail> {
+    for size in [0, 5, PAGE, PAGE + 5] {
+        let mut area = area_over(rt.alloc(), size)?;
+        grow(&mut area, 3)?;
+        let store = saved(area)?;
+        let Some(file) = store.file(NAME) else {
+            return Err(Fail::new("no file"));
+        };
+        assert_eq!(rt; file.len() as u64, size + 3);
+        assert_eq!(rt; file.last(), Some(&0));
+    }
+    Ok(())
+}
