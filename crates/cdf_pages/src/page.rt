@@ -42,6 +42,13 @@ impl Page {
         Ok(Page { bytes })
     }
 
+    /// Makes the bytes those of another page.
+    pub fn assign(&mut self, other: &Page)
+        ensures { self.new ≡ other.now }
+    {
+        self.bytes.copy_from_slice(&other.bytes);
+    }
+
     /// Writes bytes over those from a place on.
     #[tactic(auto, unfolding(cdf_base::specs::Bytes::put))]
     pub fn write(&mut self, place: usize, bytes: &[u8])

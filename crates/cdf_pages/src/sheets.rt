@@ -25,6 +25,8 @@ pub struct Sheets {
     pub marked: Option<u64>,
     /// Pages as they were at the mark: `None` for one that was not a changed page.
     pub kept: BTreeMap<u64, Option<Page>>,
+    /// Pages that are needed no more, whose memory serves the next ones that are kept.
+    pub spares: Vec<Page>,
     ghost unmarked: { marked ≡ None → (number : ℕ) → get nat_cmp kept number ≡ None },
     ghost stay: { (number : ℕ) → (page : List ℕ) → get nat_cmp kept number ≡ Some (Some page) → IsSome (get nat_cmp changed number) },
 }
@@ -42,6 +44,7 @@ impl Sheets {
             changed: BTreeMap::new(alloc),
             marked: None,
             kept: BTreeMap::new(alloc),
+            spares: Vec::new(alloc),
         }
     }
 
@@ -71,7 +74,7 @@ impl Sheets {
         if self.marked.is_none() || self.kept.contains_key(&number) {
             return Ok(());
         }
-        let old = copy_of(self.alloc, self.changed.get(&number))?;
+        let old = copy_of(self.alloc, &mut self.spares, self.changed.get(&number))?;
         self.kept.insert(number, old)?;
         Ok(())
     }
@@ -145,7 +148,7 @@ impl Sheets {
         ensures length { self.new.length ≡ self.old.length }
         ensures marked { self.new.marked ≡ Some self.old.length }
     {
-        self.kept.clear();
+        retire(&mut self.kept, &mut self.spares);
         self.marked = Some(self.length);
     }
 
@@ -156,7 +159,7 @@ impl Sheets {
         ensures length { self.new.length ≡ self.old.length }
         ensures marked { self.new.marked ≡ None }
     {
-        self.kept.clear();
+        retire(&mut self.kept, &mut self.spares);
         self.marked = None;
     }
 
@@ -176,16 +179,50 @@ impl Sheets {
     }
 }
 
+/// How many pages that are needed no more stand in memory.
+const SPARES: usize = 16;
+
+/// A copy of a page, in the memory of one that is needed no more, where there is such a one.
+fn copy_in(alloc: Global, spare: Option<Page>, page: &Page) -> Result<Page, AllocError>
+    ensures { IfOk result (λ copy. copy ≡ page.now) }
+{
+    match spare {
+        Some(spare) => {
+            let mut copy = spare;
+            copy.assign(page);
+            Ok(copy)
+        }
+        None => page.copied(alloc),
+    }
+}
+
 /// A copy of a page, where there is one.
-fn copy_of(alloc: Global, page: Option<&Page>) -> Result<Option<Page>, AllocError>
+fn copy_of(
+    alloc: Global,
+    spares: &mut Vec<Page>,
+    page: Option<&Page>,
+) -> Result<Option<Page>, AllocError>
     ensures { IfOk result (λ copy. copy ≡ option_copied page.entry) }
 {
     match page {
         Some(page) => {
-            let copy = page.copied(alloc)?;
+            let copy = copy_in(alloc, spares.pop(), page)?;
             Ok(Some(copy))
         }
         None => Ok(None),
+    }
+}
+
+/// Forgets all pages that are kept. Some of them stay in memory, to be used again.
+fn retire(kept: &mut BTreeMap<u64, Option<Page>>, spares: &mut Vec<Page>)
+    ensures none { (number : ℕ) → get nat_cmp kept.new number ≡ None }
+{
+    while let Some((_, old)) = kept.pop_first() {
+        if let Some(page) = old {
+            if spares.len() < SPARES {
+                let _ = spares.push(page);
+            }
+        }
     }
 }
 
