@@ -1,10 +1,11 @@
 -- The numbers of the pages in a cache.
-use Rattle.std.proofs.Common.{◌≡◌, ◌∙◌, ◌⊎◌, ℕ, zero, suc, ◌+◌, ◌-◌, ◌<◌, ◌≤◌, Bool, true, false, cond, List, [], ◌∷◌, length, map, take, Option, Some, None, refl, sym, ap, arith, inl, inr, nat_eq, IsSome}
+use Rattle.std.proofs.Common.{◌≡◌, ◌∙◌, ◌⊎◌, ℕ, zero, suc, ◌+◌, ◌-◌, ◌<◌, ◌≤◌, Bool, true, false, cond, List, [], ◌∷◌, length, map, take, Option, Some, None, refl, sym, ap, arith, inl, inr, nat_eq, IsSome, slice_get}
 use Rattle.std.specs.Option.{is_some, option_map_or}
 use Rattle.std.specs.Map.{keys_of, lookup, lookup_entry, remove_entry}
 use Rattle.std.specs.List.{list_any}
-use Rattle.std.proofs.lemmas.Bool.{cases_Bool, eqb-true}
+use Rattle.std.proofs.lemmas.Bool.{cases_Bool, eq-eqb, eqb-true}
 use Rattle.std.proofs.lemmas.List.{take_all}
+use Rattle.std.proofs.lemmas.Option.{same_Some}
 use Rattle.std.proofs.lemmas.Map.Made.{is_some-lookup}
 use Rattle.std.proofs.lemmas.Map.Entries.{length-keys_of}
 use Rattle.lru.specs.LruCache.{LruCache, promoted, put_entries}
@@ -99,3 +100,15 @@ pub lookup-removed : {X : Type 0} (q k n : ℕ) (es : List (ℕ × X)) → k + n
 unfolding removed
 lookup-removed q k zero es le = refl
 lookup-removed q k (suc n) es le = lookup-removed q (suc k) n (remove_entry (nat_eq k) es) (omega arith) ∙ lookup-apart q k es (λ e. omega arith)
+
+-- a page that is the first one is there, and stays the first one
+same_number : (k : ℕ) → nat_eq k k ≡ true
+same_number k = eq-eqb k k refl
+
+pub first_there : {X : Type 0} (k : ℕ) (v : X) (es : List (ℕ × X)) → slice_get es 0 ≡ Some (k, v) → lookup (nat_eq k) es ≡ Some v
+first_there k v [] e = cc
+first_there k v (f ∷ es) e = rw (same_Some f (k, v) e) (rw (same_number k) refl)
+
+pub first_stays : {X : Type 0} (k : ℕ) (v : X) (es : List (ℕ × X)) → slice_get es 0 ≡ Some (k, v) → length es ≤ 256 → to_front k (keys_of es) ≡ keys_of es
+first_stays k v [] e few = cc
+first_stays k v (f ∷ es) e few = rw (same_Some f (k, v) e) (rw (same_number k) (take_all 256 (k ∷ keys_of es) (omega (arith, few, length-keys_of es))))

@@ -1,6 +1,6 @@
 //! Reading bytes of an image, out of changed pages, of the cache and of the file.
 
-ghost use Rattle.std.specs.Prelude.{◌≡◌, ◌+◌, ◌-◌, ◌*◌, ◌/◌, ◌≤◌, ◌<◌, ◌^◌, ◌⊎◌, ℕ, List, length, min, take, drop, nat_eq, Some, OnOk, OnErr, IfOk};
+ghost use Rattle.std.specs.Prelude.{◌≡◌, ◌+◌, ◌-◌, ◌*◌, ◌/◌, ◌≤◌, ◌<◌, ◌^◌, ◌⊎◌, ℕ, List, length, min, take, drop, nat_eq, Some, OnOk, OnErr, IfOk, IfSome, slice_get};
 ghost use Rattle.lru.specs.LruCache.{IsValid};
 ghost use Rattle.std.specs.Map.{keys_of, lookup};
 ghost use Rattle.std.specs.Ordering.{nat_cmp};
@@ -73,6 +73,17 @@ pub fn load_page<S: Store>(
     }
 }
 
+/// The page that was used last, where it has this number. It is found without a look-up.
+fn last_used(clean: &LruCache<u64, Page>, number: u64) -> Option<&Page>
+    ensures { IfSome result (λ page. slice_get clean.now.entries 0 ≡ Some (number, page.now)) }
+{
+    let (last, page) = clean.peek_mru()?;
+    if *last != number {
+        return None;
+    }
+    Some(page)
+}
+
 /// Reads within one page that is no changed one, which comes to the front of the cache.
 fn read_clean<S: Store>(
     alloc: Global,
@@ -113,8 +124,8 @@ fn read_clean<S: Store>(
     Ok(())
 }
 
-/// Reads within one page.
-fn read_within<S: Store>(
+/// Reads within one page, which is looked up among the changed ones and in the cache.
+fn read_looked_up<S: Store>(
     alloc: Global,
     store: &mut S,
     sheets: &Sheets,
@@ -145,6 +156,41 @@ fn read_within<S: Store>(
         return Ok(());
     }
     read_clean(alloc, store, clean, sheets.length, number, place, out)
+}
+
+/// Reads within one page.
+fn read_within<S: Store>(
+    alloc: Global,
+    store: &mut S,
+    sheets: &Sheets,
+    clean: &mut LruCache<u64, Page>,
+    number: u64,
+    place: usize,
+    out: &mut [u8],
+) -> Result<(), AreaError>
+    requires room { place + length out.old ≤ 65536 }
+    requires inside { number * 65536 + place + length out.old ≤ sheets.now.length }
+    requires fits { number * 65536 < 2 ^ 64 }
+    requires backed { Backed (get nat_cmp sheets.now.changed) (length (file_of (S.disk store.old))) sheets.now.length }
+    requires shows { AllShow (get nat_cmp sheets.now.changed) (file_of (S.disk store.old)) sheets.now.length clean.old.entries }
+    requires cap { clean.old.cap ≡ 256 }
+    ensures size { length out.new ≡ length out.old }
+    ensures bytes { OnOk result (out.new ≡ take (length out.old) (drop (number * 65536 + place) (image_of (get nat_cmp sheets.now.changed) (file_of (S.disk store.old)) sheets.now.length))) }
+    ensures shows { AllShow (get nat_cmp sheets.now.changed) (file_of (S.disk store.old)) sheets.now.length clean.new.entries }
+    ensures used { OnOk result (keys_of clean.new.entries ≡ used (is_in (get nat_cmp sheets.now.changed)) number (keys_of clean.old.entries)) }
+    ensures stays { OnErr result (clean.new ≡ clean.old) }
+    ensures cap { clean.new.cap ≡ clean.old.cap }
+    ensures disk { S.disk store.new ≡ S.disk store.old }
+    ensures taken { TakesAtMost (S.taken store.old) (S.taken store.new) (page_cost (is_in (get nat_cmp sheets.now.changed)) (keys_of clean.old.entries) (length (file_of (S.disk store.old))) number) }
+    ensures cause { HasCauseOf AreaError.Fault (S.read_faults store.old) (S.read_faults store.new) result }
+    ensures write { S.write_faults store.new ≡ S.write_faults store.old }
+{
+    let _count = clean.len();
+    if let Some(page) = last_used(clean, number) {
+        page.read(place, out);
+        return Ok(());
+    }
+    read_looked_up(alloc, store, sheets, clean, number, place, out)
 }
 
 /// Reads bytes from a place on, page by page.
