@@ -1,6 +1,6 @@
 -- The numbers of the pages in a cache.
 use Rattle.std.proofs.Common.{◌≡◌, ◌∙◌, ◌⊎◌, ℕ, zero, suc, ◌+◌, ◌-◌, ◌<◌, ◌≤◌, Bool, true, false, cond, List, [], ◌∷◌, length, map, take, Option, Some, None, refl, sym, ap, arith, inl, inr, nat_eq, IsSome, slice_get}
-use Rattle.std.specs.Option.{is_some, option_map_or}
+use Rattle.std.specs.Option.{is_some, option_map, option_map_or}
 use Rattle.std.specs.Map.{keys_of, lookup, lookup_entry, remove_entry}
 use Rattle.std.specs.List.{list_any}
 use Rattle.std.proofs.lemmas.Bool.{cases_Bool, eq-eqb, eqb-true}
@@ -10,6 +10,7 @@ use Rattle.std.proofs.lemmas.Map.Made.{is_some-lookup}
 use Rattle.std.proofs.lemmas.Map.Entries.{length-keys_of}
 use Rattle.lru.specs.LruCache.{LruCache, promoted, put_entries}
 use Rattle.lru.proofs.CallerLemmas.{Contains-lookup_entry}
+use Rattle.lru.proofs.Pairs.{lookup-lookup_entry}
 use Rattle.cdf_pages.specs.Grown.{removed}
 use Rattle.cdf_pages.specs.Standing.{without, without_from, to_front}
 
@@ -112,3 +113,15 @@ first_there k v (f ∷ es) e = rw (same_Some f (k, v) e) (rw (same_number k) ref
 pub first_stays : {X : Type 0} (k : ℕ) (v : X) (es : List (ℕ × X)) → slice_get es 0 ≡ Some (k, v) → length es ≤ 256 → to_front k (keys_of es) ≡ keys_of es
 first_stays k v [] e few = cc
 first_stays k v (f ∷ es) e few = rw (same_Some f (k, v) e) (rw (same_number k) (take_all 256 (k ∷ keys_of es) (omega (arith, few, length-keys_of es))))
+
+-- a page that comes to the front stands there
+pub front_promoted : {X : Type 0} (k : ℕ) (es : List (ℕ × X)) (v : X) → lookup (nat_eq k) es ≡ Some v → slice_get (promoted (nat_eq k) es) 0 ≡ Some (k, v)
+front_promoted {X = X} k es v there =
+    let e = entry_there k es (ap is_some there) in
+    let is : nat_eq k e.0.0 ≡ true = (Contains-lookup_entry (nat_eq k) es e.0 e.1).1 in
+    let value : e.0.1 ≡ v = same_Some e.0.1 v (ap (option_map (λ (f : ℕ × X). f.1)) (sym e.1) ∙ lookup-lookup_entry (nat_eq k) es ∙ there) in
+    ap (λ (o : Option (ℕ × X)). slice_get (option_map_or (λ f. f ∷ remove_entry (nat_eq k) es) o es) 0) e.1
+    ∙ (λ i. Some (sym (eqb-true k e.0.0 is) i, value i))
+
+pub front_value : {X : Type 0} (k : ℕ) (es : List (ℕ × X)) (v : X) (f : ℕ × X) → Some f ≡ slice_get (promoted (nat_eq k) es) 0 → lookup (nat_eq k) es ≡ Some v → f.1 ≡ v
+front_value {X = X} k es v f first there = ap (λ (e : ℕ × X). e.1) (same_Some f (k, v) (first ∙ front_promoted k es v there))

@@ -1,7 +1,8 @@
 //! Reading bytes of an image, out of changed pages, of the cache and of the file.
 
-ghost use Rattle.std.specs.Prelude.{◌≡◌, ◌+◌, ◌-◌, ◌*◌, ◌/◌, ◌≤◌, ◌<◌, ◌^◌, ◌⊎◌, ℕ, List, length, min, take, drop, nat_eq, Some, OnOk, OnErr, IfOk, IfSome, slice_get};
-ghost use Rattle.lru.specs.LruCache.{IsValid};
+ghost use Rattle.std.specs.Prelude.{◌≡◌, ◌+◌, ◌-◌, ◌*◌, ◌/◌, ◌≤◌, ◌<◌, ◌^◌, ◌⊎◌, ℕ, List, length, min, take, drop, nat_eq, Some, OnOk, OnErr, IfOk, IfSome, IsTrue, IsFalse, slice_get};
+ghost use Rattle.lru.specs.LruCache.{IsValid, lru_cache, promoted};
+ghost use Rattle.std.specs.Option.{is_some};
 ghost use Rattle.std.specs.Map.{keys_of, lookup};
 ghost use Rattle.std.specs.Ordering.{nat_cmp};
 ghost use Rattle.std.specs.BTreeMap.{get};
@@ -84,6 +85,65 @@ fn last_used(clean: &LruCache<u64, Page>, number: u64) -> Option<&Page>
     Some(page)
 }
 
+/// Reads within one page of the cache, which comes to its front. Says whether it was there.
+fn read_cached(
+    clean: &mut LruCache<u64, Page>,
+    number: u64,
+    place: usize,
+    out: &mut [u8],
+) -> bool
+    requires room { place + length out.old ≤ 65536 }
+    ensures there { result ≡ is_some (lookup (nat_eq number) clean.old.entries) }
+    ensures absent { IsFalse result → clean.new ≡ clean.old }
+    ensures promoted { clean.new ≡ lru_cache (promoted (nat_eq number) clean.old.entries) clean.old.cap }
+    ensures bytes { IsTrue result → (page : List ℕ) → lookup (nat_eq number) clean.old.entries ≡ Some page → (length page ≡ 65536) × (out.new ≡ take (length out.old) (drop place page)) }
+    ensures size { length out.new ≡ length out.old }
+{
+    if !clean.promote(&number) {
+        return false;
+    }
+    if let Some((_, page)) = clean.peek_mru() {
+        page.read(place, out);
+    }
+    true
+}
+
+/// Reads within one page that is no changed one and not in the cache, which comes to its front.
+fn read_missing<S: Store>(
+    alloc: Global,
+    store: &mut S,
+    clean: &mut LruCache<u64, Page>,
+    size: u64,
+    number: u64,
+    place: usize,
+    out: &mut [u8],
+) -> Result<(), AreaError>
+    requires room { place + length out.old ≤ 65536 }
+    requires inside { number * 65536 + place + length out.old ≤ size }
+    requires fits { number * 65536 < 2 ^ 64 }
+    requires backed { (j : ℕ) → j < 65536 → number * 65536 + j < size → number * 65536 + j < length (file_of (S.disk store.old)) }
+    requires shows { (other : ℕ) → (page : List ℕ) → lookup (nat_eq other) clean.old.entries ≡ Some page → Shows (file_of (S.disk store.old)) size other page }
+    requires missing { lookup (nat_eq number) clean.old.entries ≡ None }
+    requires cap { clean.old.cap ≡ 256 }
+    ensures size { length out.new ≡ length out.old }
+    ensures bytes { OnOk result (out.new ≡ take (length out.old) (drop (number * 65536 + place) (file_of (S.disk store.old)))) }
+    ensures fewer { (other : ℕ) → (page : List ℕ) → lookup (nat_eq other) clean.new.entries ≡ Some page → (lookup (nat_eq other) clean.old.entries ≡ Some page) ⊎ ((other ≡ number) × Shows (file_of (S.disk store.old)) size number page) }
+    ensures used { OnOk result (keys_of clean.new.entries ≡ to_front number (keys_of clean.old.entries)) }
+    ensures stays { OnErr result (clean.new ≡ clean.old) }
+    ensures cap { clean.new.cap ≡ clean.old.cap }
+    ensures disk { S.disk store.new ≡ S.disk store.old }
+    ensures taken { TakesAtMost (S.taken store.old) (S.taken store.new) (clean_cost (keys_of clean.old.entries) (length (file_of (S.disk store.old))) number) }
+    ensures cause { HasCauseOf AreaError.Fault (S.read_faults store.old) (S.read_faults store.new) result }
+    ensures write { S.write_faults store.new ≡ S.write_faults store.old }
+{
+    let _count = clean.len();
+    let live = live_bytes(size, number);
+    let page = load_page(alloc, store, number, live)?;
+    page.read(place, out);
+    clean.put(number, page)?;
+    Ok(())
+}
+
 /// Reads within one page that is no changed one, which comes to the front of the cache.
 fn read_clean<S: Store>(
     alloc: Global,
@@ -112,16 +172,10 @@ fn read_clean<S: Store>(
     ensures write { S.write_faults store.new ≡ S.write_faults store.old }
 {
     let _count = clean.len();
-    if let Some(page) = clean.peek(&number) {
-        page.read(place, out);
-        clean.promote(&number);
+    if read_cached(clean, number, place, out) {
         return Ok(());
     }
-    let live = live_bytes(size, number);
-    let page = load_page(alloc, store, number, live)?;
-    page.read(place, out);
-    clean.put(number, page)?;
-    Ok(())
+    read_missing(alloc, store, clean, size, number, place, out)
 }
 
 /// Reads within one page, which is looked up among the changed ones and in the cache.

@@ -1,65 +1,23 @@
-use Rattle.std.proofs.Common.{rules, ◌≡◌, ◌∙◌, ◌+◌, ◌-◌, ◌*◌, ◌≤◌, ◌<◌, sym, ap, arith, take, drop, length, None, Some, IsSome, false, nat_eq, ℕ, List, option_copied, inl, inr, subst}
+use Rattle.std.proofs.Common.{◌≡◌, ◌∙◌, ◌+◌, ◌-◌, ◌*◌, ◌≤◌, ◌<◌, sym, ap, arith, length, Some, nat_eq, true, ℕ, inl}
 use Rattle.std.specs.Map.{keys_of, lookup}
-use Rattle.std.specs.List.{list_any}
 use Rattle.std.specs.Option.{is_some}
-use Rattle.cdf_pages.proofs.Keys.{is_there, used_missing, used_there}
+use Rattle.lru.proofs.Pairs.{promoted_put}
 use Rattle.cdf_store.specs.Disk.{file_of}
-use Rattle.cdf_pages.specs.Pages.{Shows, TakesAtMost}
-use Rattle.cdf_pages.proofs.Images.{shown_part, load_shows}
-use Rattle.cdf_pages.proofs.Growing.{promoted_old, put_old}
-use Rattle.cdf_pages.proofs.Filling.{backed_live, takes_live}
+use Rattle.cdf_pages.proofs.Growing.{promoted_old}
+use Rattle.cdf_pages.proofs.Images.{shown_part}
+use Rattle.cdf_pages.proofs.Keys.{used_there}
 use Rattle.cdf_pages.proofs.reading.read_clean.Goals as goal
 
-pub returns-in-Some-clause-bytes : goal.returns-in-Some-clause-bytes
-returns-in-Some-clause-bytes g c =
-    let shows = c.requires.shows c.args.number c.in-Some.page.now (sym c.peek.ensures ∙ ap option_copied c.in-Some.is) in
-    c.read.ensures.bytes ∙ shown_part (file_of (g.S.Store.disk c.args.store.now)) c.in-Some.page.now c.args.number c.args.place (length c.args.out.now) c.args.size shows c.read.ensures.whole c.requires.room c.requires.inside c.requires.backed
+pub returns-then-read_cached-clause-bytes : goal.returns-then-read_cached-clause-bytes
+returns-then-read_cached-clause-bytes g c =
+    let it = promoted_put nat_eq c.args.clean.now c.args.number (sym c.read_cached.ensures.there ∙ c.if-read_cached.true) in
+    let read = c.read_cached.ensures.bytes c.if-read_cached.true it.0 it.1 in
+    read.1 ∙ shown_part (file_of (g.S.Store.disk c.args.store.now)) it.0 c.args.number c.args.place (length c.args.out.now) c.args.size (c.requires.shows c.args.number it.0 it.1) read.0 c.requires.room c.requires.inside c.requires.backed
 
-pub returns-in-Some-clause-fewer : goal.returns-in-Some-clause-fewer
-returns-in-Some-clause-fewer g c q p e = inl (promoted_old q p c.args.clean.now.entries c.len-count.ensures.valid.0 c.args.number (sym (ap (λ ca. lookup (nat_eq q) ca.entries) c.promote.ensures.entries) ∙ e))
+pub returns-then-read_cached-clause-fewer : goal.returns-then-read_cached-clause-fewer
+returns-then-read_cached-clause-fewer g c q p e = inl (promoted_old q p c.args.clean.now.entries c.len-count.ensures.valid.0 c.args.number (sym (ap (λ ca. lookup (nat_eq q) ca.entries) c.read_cached.ensures.promoted) ∙ e))
 
-pub load_page-requires-clause-there : goal.load_page-requires-clause-there
-load_page-requires-clause-there g c = backed_live c.args.size c.args.number _ c.live_bytes-live.result c.requires.backed c.live_bytes-live.ensures
-
-missing : {X : Type 0} (k : ℕ) (es : List (ℕ × X)) → lookup (nat_eq k) es ≡ None → list_any (nat_eq k) (keys_of es) ≡ false
-missing k es none = is_there k es ∙ ap is_some none
-
-pub returns-in-Some-clause-used : goal.returns-in-Some-clause-used
-returns-in-Some-clause-used g c =
-    let there : IsSome (lookup (nat_eq c.args.number) c.args.clean.now.entries) = ap is_some (sym c.peek.ensures ∙ ap option_copied c.in-Some.is) in
-    ap (λ ca. keys_of ca.entries) c.promote.ensures.entries ∙ used_there c.args.number c.args.clean.now.entries there (omega (arith, c.len-count.ensures.valid.1, c.requires.cap))
-
-pub returns-in_err-page-clause-taken : goal.returns-in_err-page-clause-taken
-returns-in_err-page-clause-taken g c =
-    let gone : list_any (nat_eq c.args.number) (keys_of c.args.clean.now.entries) ≡ false = missing c.args.number c.args.clean.now.entries (sym c.peek.ensures ∙ ap option_copied c.in_default.is) in
-    rw gone (takes_live _ _ c.args.size c.args.number _ c.live_bytes-live.result c.requires.backed c.live_bytes-live.ensures c.load_page.ensures.taken)
-
-pub returns-in_err-put-clause-taken : goal.returns-in_err-put-clause-taken
-returns-in_err-put-clause-taken g c =
-    let gone : list_any (nat_eq c.args.number) (keys_of c.args.clean.now.entries) ≡ false = missing c.args.number c.args.clean.now.entries (sym c.peek.ensures ∙ ap option_copied c.in_default.is) in
-    rw gone (takes_live _ _ c.args.size c.args.number _ c.live_bytes-live.result c.requires.backed c.live_bytes-live.ensures c.load_page.ensures.taken)
-
-pub returns-clause-taken : goal.returns-clause-taken
-returns-clause-taken g c =
-    let gone : list_any (nat_eq c.args.number) (keys_of c.args.clean.now.entries) ≡ false = missing c.args.number c.args.clean.now.entries (sym c.peek.ensures ∙ ap option_copied c.in_default.is) in
-    rw gone (takes_live _ _ c.args.size c.args.number _ c.live_bytes-live.result c.requires.backed c.live_bytes-live.ensures c.load_page.ensures.taken)
-
-pub returns-clause-used : goal.returns-clause-used
-returns-clause-used g c =
-    let none : lookup (nat_eq c.args.number) c.args.clean.now.entries ≡ None = sym c.peek.ensures ∙ ap option_copied c.in_default.is in
-    ap (λ ca. keys_of ca.entries) c.in_ok-put.ensures.entries ∙ used_missing c.args.number c.args.clean.now c.in_ok-page.page c.requires.cap none
-
-pub returns-clause-bytes : goal.returns-clause-bytes
-returns-clause-bytes g c =
-    let F = file_of (g.S.Store.disk c.args.store.now) in
-    let shows = load_shows F c.in_ok-page.page c.args.number c.args.size c.live_bytes-live.result c.live_bytes-live.ensures c.read-2.ensures.whole c.in_ok-page.ensures.bytes in
-    c.read-2.ensures.bytes ∙ shown_part F c.in_ok-page.page c.args.number c.args.place (length c.args.out.now) c.args.size shows c.read-2.ensures.whole c.requires.room c.requires.inside c.requires.backed
-
-pub returns-clause-fewer : goal.returns-clause-fewer
-returns-clause-fewer g c q p e =
-    let F = file_of (g.S.Store.disk c.args.store.now) in
-    let shows = load_shows F c.in_ok-page.page c.args.number c.args.size c.live_bytes-live.result c.live_bytes-live.ensures c.read-2.ensures.whole c.in_ok-page.ensures.bytes in
-    elim (put_old q p c.args.clean.now c.args.number c.in_ok-page.page c.len-count.ensures.valid.0 (sym (ap (λ ca. lookup (nat_eq q) ca.entries) c.in_ok-put.ensures.entries) ∙ e)) [
-      | inl old ↦ inl old
-      | inr new ↦ inr (new.0, subst (Shows F c.args.size c.args.number) (sym new.1) shows)
-    ]
+pub returns-then-read_cached-clause-used : goal.returns-then-read_cached-clause-used
+returns-then-read_cached-clause-used g c =
+    let there : is_some (lookup (nat_eq c.args.number) c.args.clean.now.entries) ≡ true = sym c.read_cached.ensures.there ∙ c.if-read_cached.true in
+    ap (λ ca. keys_of ca.entries) c.read_cached.ensures.promoted ∙ used_there c.args.number c.args.clean.now.entries there (omega (arith, c.len-count.ensures.valid.1, c.requires.cap))

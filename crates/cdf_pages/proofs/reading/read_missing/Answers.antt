@@ -1,0 +1,52 @@
+use Rattle.std.proofs.Common.{rules, ◌≡◌, ◌∙◌, ◌+◌, ◌-◌, ◌*◌, ◌≤◌, ◌<◌, sym, ap, arith, take, drop, length, None, Some, IsSome, false, nat_eq, ℕ, List, option_copied, inl, inr, subst}
+use Rattle.std.specs.Map.{keys_of, lookup}
+use Rattle.std.specs.List.{list_any}
+use Rattle.std.specs.Option.{is_some}
+use Rattle.cdf_pages.proofs.Keys.{is_there, used_missing, used_there}
+use Rattle.cdf_store.specs.Disk.{file_of}
+use Rattle.cdf_pages.specs.Pages.{Shows, TakesAtMost}
+use Rattle.cdf_pages.proofs.Images.{shown_part, load_shows}
+use Rattle.cdf_pages.proofs.Growing.{promoted_old, put_old}
+use Rattle.cdf_pages.proofs.Filling.{backed_live, takes_live}
+use Rattle.cdf_pages.proofs.reading.read_missing.Goals as goal
+
+pub load_page-requires-clause-there : goal.load_page-requires-clause-there
+load_page-requires-clause-there g c = backed_live c.args.size c.args.number _ c.live_bytes-live.result c.requires.backed c.live_bytes-live.ensures
+
+missing : {X : Type 0} (k : ℕ) (es : List (ℕ × X)) → lookup (nat_eq k) es ≡ None → list_any (nat_eq k) (keys_of es) ≡ false
+missing k es none = is_there k es ∙ ap is_some none
+
+pub returns-in_err-page-clause-taken : goal.returns-in_err-page-clause-taken
+returns-in_err-page-clause-taken g c =
+    let gone : list_any (nat_eq c.args.number) (keys_of c.args.clean.now.entries) ≡ false = missing c.args.number c.args.clean.now.entries c.requires.missing in
+    rw gone (takes_live _ _ c.args.size c.args.number _ c.live_bytes-live.result c.requires.backed c.live_bytes-live.ensures c.load_page.ensures.taken)
+
+pub returns-in_err-put-clause-taken : goal.returns-in_err-put-clause-taken
+returns-in_err-put-clause-taken g c =
+    let gone : list_any (nat_eq c.args.number) (keys_of c.args.clean.now.entries) ≡ false = missing c.args.number c.args.clean.now.entries c.requires.missing in
+    rw gone (takes_live _ _ c.args.size c.args.number _ c.live_bytes-live.result c.requires.backed c.live_bytes-live.ensures c.load_page.ensures.taken)
+
+pub returns-clause-taken : goal.returns-clause-taken
+returns-clause-taken g c =
+    let gone : list_any (nat_eq c.args.number) (keys_of c.args.clean.now.entries) ≡ false = missing c.args.number c.args.clean.now.entries c.requires.missing in
+    rw gone (takes_live _ _ c.args.size c.args.number _ c.live_bytes-live.result c.requires.backed c.live_bytes-live.ensures c.load_page.ensures.taken)
+
+pub returns-clause-used : goal.returns-clause-used
+returns-clause-used g c =
+    let none : lookup (nat_eq c.args.number) c.args.clean.now.entries ≡ None = c.requires.missing in
+    ap (λ ca. keys_of ca.entries) c.in_ok-put.ensures.entries ∙ used_missing c.args.number c.args.clean.now c.in_ok-page.page c.requires.cap none
+
+pub returns-clause-bytes : goal.returns-clause-bytes
+returns-clause-bytes g c =
+    let F = file_of (g.S.Store.disk c.args.store.now) in
+    let shows = load_shows F c.in_ok-page.page c.args.number c.args.size c.live_bytes-live.result c.live_bytes-live.ensures c.read.ensures.whole c.in_ok-page.ensures.bytes in
+    c.read.ensures.bytes ∙ shown_part F c.in_ok-page.page c.args.number c.args.place (length c.args.out.now) c.args.size shows c.read.ensures.whole c.requires.room c.requires.inside c.requires.backed
+
+pub returns-clause-fewer : goal.returns-clause-fewer
+returns-clause-fewer g c q p e =
+    let F = file_of (g.S.Store.disk c.args.store.now) in
+    let shows = load_shows F c.in_ok-page.page c.args.number c.args.size c.live_bytes-live.result c.live_bytes-live.ensures c.read.ensures.whole c.in_ok-page.ensures.bytes in
+    elim (put_old q p c.args.clean.now c.args.number c.in_ok-page.page c.len-count.ensures.valid.0 (sym (ap (λ ca. lookup (nat_eq q) ca.entries) c.in_ok-put.ensures.entries) ∙ e)) [
+      | inl old ↦ inl old
+      | inr new ↦ inr (new.0, subst (Shows F c.args.size c.args.number) (sym new.1) shows)
+    ]
