@@ -150,12 +150,37 @@ fn undo(count: usize, size: usize) {
     println!("{:016x} {:016x}", sum_of(&head), sum_of(&bytes));
 }
 
+/// The sum of words at places that look random.
+fn sum_of_words(bytes: &[u8], count: usize) -> u64 {
+    let mut random = Random { state: 4 };
+    let mut sum = 0u64;
+    for _ in 0..count {
+        let place = (random.next() % (bytes.len() as u64 - 7)) as usize;
+        let mut word = [0; 8];
+        word.copy_from_slice(&bytes[place..place + 8]);
+        sum = sum.wrapping_add(u64::from_le_bytes(word));
+    }
+    sum
+}
+
+fn pages(count: usize, size: usize) {
+    let bytes = mixed(size);
+    let start = Instant::now();
+    let first = sum_of_words(&bytes, count);
+    say_lap("first", start);
+    let start = Instant::now();
+    let again = sum_of_words(&bytes, count);
+    say_lap("again", start);
+    println!("{first:016x} {again:016x}");
+}
+
 fn main() -> ExitCode {
     let words: Vec<String> = std::env::args().skip(1).collect();
     let number = |place: usize| words.get(place).and_then(|word| word.parse().ok());
     match (words.first().map(String::as_str), number(1), number(2)) {
         (Some("rle"), Some(size), _) => rle(size),
         (Some("names"), Some(count), Some(asked)) if asked > 0 => names(count, asked),
+        (Some("pages"), Some(count), Some(size)) if size >= 8 => pages(count, size),
         (Some("undo"), Some(count), Some(size)) => undo(count, size),
         _ => return ExitCode::FAILURE,
     }

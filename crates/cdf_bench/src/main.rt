@@ -4,12 +4,14 @@
 //!     rle SIZE            packs so many bytes, and reads them back
 //!     digest FILE         the MD5 digest of a file that is held in memory
 //!     names COUNT ASKED   a million look-ups of so many different ones among so many names
+//!     pages COUNT SIZE    so many reads of 8 bytes from a file of so many bytes in pages, and as many again
 //!     undo COUNT SIZE     so many writes of 8 bytes under one mark of an area of so many bytes, and back
 #![tactic(auto)]
 
 mod data;
 mod failed;
 mod names;
+mod pages;
 mod rle;
 mod undo;
 mod whole;
@@ -57,6 +59,7 @@ fn run(rt: &(impl Runtime + AllocGlobal)) -> Result<(), Failed> {
         "rle" => rle::run(rt, number(&words, 1)?),
         "digest" => whole::run(rt, text(&words, 1)?),
         "names" => names::run(rt, number(&words, 1)?, number(&words, 2)?),
+        "pages" => pages::run(rt, number(&words, 1)?, number(&words, 2)?),
         "undo" => undo::run(rt, number(&words, 1)?, number(&words, 2)?),
         _ => Err(Failed::Words),
     }
