@@ -1,6 +1,7 @@
 //! An area in pages over the file that is attached to a store.
 #![tactic(auto)]
 
+mod cache;
 mod in_pages;
 mod owning;
 mod page;

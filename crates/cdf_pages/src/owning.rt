@@ -11,19 +11,19 @@ ghost use Rattle.cdf_pages.specs.Grown.{Grown, Owned, RemovesSome, removed};
 ghost use Rattle.cdf_pages.specs.Pages.{Backed, Shows, TakesAtMost, is_in};
 ghost use Rattle.cdf_pages.specs.Standing.{cost_of_writing};
 
+use crate::cache::Cache;
 use crate::page::Page;
 use crate::reading::{live_bytes, load_page};
 use crate::sheets::Sheets;
 use cdf_area::AreaError;
 use cdf_store::Store;
-use lru::LruCache;
 use std::alloc::Global;
 
 /// A page that is no changed one, out of the cache or of the file.
 fn take_page<S: Store>(
     alloc: Global,
     store: &mut S,
-    clean: &mut LruCache<u64, Page>,
+    clean: &mut Cache,
     size: u64,
     number: u64,
 ) -> Result<Page, AreaError>
@@ -42,7 +42,7 @@ fn take_page<S: Store>(
         return Ok(page);
     }
     let live = live_bytes(size, number);
-    load_page(alloc, store, number, live)
+    load_page(alloc, store, clean, number, live)
 }
 
 /// Makes a page a changed one with the same bytes, and keeps it where there is a mark.
@@ -50,7 +50,7 @@ fn own_page<S: Store>(
     alloc: Global,
     store: &mut S,
     sheets: &mut Sheets,
-    clean: &mut LruCache<u64, Page>,
+    clean: &mut Cache,
     number: u64,
 ) -> Result<(), AreaError>
     requires fits { number * 65536 < 2 ^ 64 }
@@ -89,7 +89,7 @@ pub fn own_pages<S: Store>(
     alloc: Global,
     store: &mut S,
     sheets: &mut Sheets,
-    clean: &mut LruCache<u64, Page>,
+    clean: &mut Cache,
     from: u64,
     upto: u64,
 ) -> Result<(), AreaError>

@@ -34,6 +34,14 @@ impl Page {
         Page { bytes }
     }
 
+    /// The bytes.
+    pub fn into_bytes(self) -> Vec<u8>
+        ensures bytes { result.items ≡ self }
+        ensures size { length result.items ≡ 65536 }
+    {
+        self.bytes
+    }
+
     /// The same bytes once more.
     pub fn copied(&self, alloc: Global) -> Result<Page, AllocError>
         ensures { IfOk result (λ page. page ≡ self.now) }

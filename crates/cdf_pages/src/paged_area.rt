@@ -17,6 +17,7 @@ ghost use Rattle.cdf_base.specs.Causes.{HasCauseOf};
 ghost use Rattle.cdf_pages.specs.Saving.{HasNothingToSave, Holds, HoldsBetween, IsChangedRange, IsSavedAlready, Touches, is_edited, tail_bytes};
 ghost use Rattle.cdf_pages.specs.Standing.{Changes, ChangesSome, ReadsSome, cost_of_reading, cost_of_writing, pages_in, used_from};
 
+use crate::cache::Cache;
 use crate::in_pages::InPages;
 use crate::owning::own_pages;
 use crate::page::{PAGE, Page};
@@ -26,12 +27,7 @@ use crate::sheets::Sheets;
 use crate::writing::{write_range, zero_range};
 use cdf_area::{Area, AreaError};
 use cdf_store::Store;
-use lru::LruCache;
 use std::alloc::{AllocFailed, Global};
-use std::num::NonZeroUsize;
-
-/// How many pages that were only read stand in memory.
-const CLEAN_PAGES: usize = 256;
 
 /// An area over the file that is attached to a store, in pages of 65,536 bytes.
 ///
@@ -42,7 +38,7 @@ pub struct PagedArea<S: Store> {
     alloc: Global,
     store: S,
     sheets: Sheets,
-    clean: LruCache<u64, Page>,
+    clean: Cache,
     limit: u64,
     /// The file has at most so many bytes.
     most: u64,
@@ -173,8 +169,7 @@ impl<S: Store> PagedArea<S> {
         ensures taken { IfOk result (λ area. ⟦<PagedArea<S> as InPages>⟧.taken area ≡ S.taken store) }
         ensures handed_back { IfErr result (λ failed. failed.value ≡ store) }
     {
-        let cap = NonZeroUsize::new(CLEAN_PAGES).unwrap();
-        let Ok(clean) = LruCache::new(alloc, cap) else {
+        let Ok(clean) = Cache::new(alloc) else {
             return Err(AllocFailed { value: store });
         };
         let sheets = Sheets::new(alloc, size);

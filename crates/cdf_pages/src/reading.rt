@@ -11,11 +11,11 @@ ghost use Rattle.cdf_store.specs.Disk.{file_of};
 ghost use Rattle.cdf_pages.specs.Pages.{AllShow, Backed, Shows, TakesAtMost, image_of, is_in};
 ghost use Rattle.cdf_pages.specs.Standing.{ReadsSome, clean_cost, cost_of_reading, page_cost, pages_in, to_front, used, used_from};
 
+use crate::cache::Cache;
 use crate::page::{PAGE, Page};
 use crate::sheets::Sheets;
 use cdf_area::AreaError;
 use cdf_store::{Failed, Store};
-use lru::LruCache;
 use std::alloc::Global;
 
 /// Fills the front of `out`, so many bytes, with those of the file from a place on.
@@ -54,20 +54,21 @@ pub fn live_bytes(size: u64, number: u64) -> usize
 pub fn load_page<S: Store>(
     alloc: Global,
     store: &mut S,
+    clean: &mut Cache,
     number: u64,
     live: usize,
 ) -> Result<Page, AreaError>
     requires live { live ≤ 65536 }
     requires fits { number * 65536 + live < 2 ^ 64 }
     requires there { 0 < live → number * 65536 + live ≤ length (file_of (S.disk store.old)) }
+    ensures clean { clean.new ≡ clean.old }
     ensures bytes { IfOk result (λ page. take live page ≡ take live (drop (number * 65536) (file_of (S.disk store.old)))) }
     ensures disk { S.disk store.new ≡ S.disk store.old }
     ensures taken { TakesAtMost (S.taken store.old) (S.taken store.new) live }
     ensures cause { HasCauseOf AreaError.Fault (S.read_faults store.old) (S.read_faults store.new) result }
     ensures write { S.write_faults store.new ≡ S.write_faults store.old }
 {
-    let mut bytes = Vec::new(alloc);
-    bytes.resize(PAGE as usize, 0)?;
+    let mut bytes = clean.room(alloc)?;
     match fill(store, number * PAGE, &mut bytes, live) {
         Ok(()) => Ok(Page::new(bytes)),
         Err(Failed) => Err(AreaError::Fault),
@@ -75,10 +76,10 @@ pub fn load_page<S: Store>(
 }
 
 /// The page that was used last, where it has this number. It is found without a look-up.
-fn last_used(clean: &LruCache<u64, Page>, number: u64) -> Option<&Page>
+fn last_used(clean: &Cache, number: u64) -> Option<&Page>
     ensures { IfSome result (λ page. slice_get clean.now.entries 0 ≡ Some (number, page.now)) }
 {
-    let (last, page) = clean.peek_mru()?;
+    let (last, page) = clean.first()?;
     if *last != number {
         return None;
     }
@@ -86,12 +87,7 @@ fn last_used(clean: &LruCache<u64, Page>, number: u64) -> Option<&Page>
 }
 
 /// Reads within one page of the cache, which comes to its front. Says whether it was there.
-fn read_cached(
-    clean: &mut LruCache<u64, Page>,
-    number: u64,
-    place: usize,
-    out: &mut [u8],
-) -> bool
+fn read_cached(clean: &mut Cache, number: u64, place: usize, out: &mut [u8]) -> bool
     requires room { place + length out.old ≤ 65536 }
     ensures there { result ≡ is_some (lookup (nat_eq number) clean.old.entries) }
     ensures absent { IsFalse result → clean.new ≡ clean.old }
@@ -102,7 +98,7 @@ fn read_cached(
     if !clean.promote(&number) {
         return false;
     }
-    if let Some((_, page)) = clean.peek_mru() {
+    if let Some((_, page)) = clean.first() {
         page.read(place, out);
     }
     true
@@ -112,7 +108,7 @@ fn read_cached(
 fn read_missing<S: Store>(
     alloc: Global,
     store: &mut S,
-    clean: &mut LruCache<u64, Page>,
+    clean: &mut Cache,
     size: u64,
     number: u64,
     place: usize,
@@ -138,7 +134,7 @@ fn read_missing<S: Store>(
 {
     let _count = clean.len();
     let live = live_bytes(size, number);
-    let page = load_page(alloc, store, number, live)?;
+    let page = load_page(alloc, store, clean, number, live)?;
     page.read(place, out);
     clean.put(number, page)?;
     Ok(())
@@ -148,7 +144,7 @@ fn read_missing<S: Store>(
 fn read_clean<S: Store>(
     alloc: Global,
     store: &mut S,
-    clean: &mut LruCache<u64, Page>,
+    clean: &mut Cache,
     size: u64,
     number: u64,
     place: usize,
@@ -183,7 +179,7 @@ fn read_looked_up<S: Store>(
     alloc: Global,
     store: &mut S,
     sheets: &Sheets,
-    clean: &mut LruCache<u64, Page>,
+    clean: &mut Cache,
     number: u64,
     place: usize,
     out: &mut [u8],
@@ -217,7 +213,7 @@ fn read_within<S: Store>(
     alloc: Global,
     store: &mut S,
     sheets: &Sheets,
-    clean: &mut LruCache<u64, Page>,
+    clean: &mut Cache,
     number: u64,
     place: usize,
     out: &mut [u8],
@@ -252,7 +248,7 @@ pub fn read_range<S: Store>(
     alloc: Global,
     store: &mut S,
     sheets: &Sheets,
-    clean: &mut LruCache<u64, Page>,
+    clean: &mut Cache,
     place: u64,
     out: &mut [u8],
 ) -> Result<(), AreaError>

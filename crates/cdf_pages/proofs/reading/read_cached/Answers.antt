@@ -9,13 +9,13 @@ use Rattle.cdf_pages.proofs.reading.read_cached.Goals as goal
 
 pub returns-in-Some-clause-bytes : goal.returns-in-Some-clause-bytes
 returns-in-Some-clause-bytes c sure page there =
-    let first : Some (c.in-Some.field-0-0.now, c.in-Some.page.now) ≡ slice_get (promoted (nat_eq c.args.number) c.args.clean.now.entries) 0 = ap (option_map (λ p. (p.0.now, p.1.now))) (sym c.in-Some.is) ∙ c.peek_mru.ensures ∙ ap (λ ca. slice_get ca.entries 0) c.promote.ensures.entries in
+    let first : Some (c.in-Some.field-0-0.now, c.in-Some.page.now) ≡ slice_get (promoted (nat_eq c.args.number) c.args.clean.now.entries) 0 = ap (option_map (λ p. (p.0.now, p.1.now))) (sym c.in-Some.is) ∙ c.first.ensures ∙ ap (λ ca. slice_get ca.entries 0) c.promote.ensures.entries in
     let same : c.in-Some.page.now ≡ page = front_value c.args.number c.args.clean.now.entries page (c.in-Some.field-0-0.now, c.in-Some.page.now) first there in
     (subst (λ p. length p ≡ 65536) same c.read.ensures.whole, c.read.ensures.bytes ∙ ap (λ p. take (length c.args.out.now) (drop c.args.place p)) same)
 
 pub returns-in_default-clause-bytes : goal.returns-in_default-clause-bytes
 returns-in_default-clause-bytes c sure page there =
-    absurd (none-some (c.args.number, page) (ap (option_map (λ p. (p.0.now, p.1.now))) (sym c.in_default.is) ∙ c.peek_mru.ensures ∙ ap (λ ca. slice_get ca.entries 0) c.promote.ensures.entries ∙ front_promoted c.args.number c.args.clean.now.entries page there))
+    absurd (none-some (c.args.number, page) (ap (option_map (λ p. (p.0.now, p.1.now))) (sym c.in_default.is) ∙ c.first.ensures ∙ ap (λ ca. slice_get ca.entries 0) c.promote.ensures.entries ∙ front_promoted c.args.number c.args.clean.now.entries page there))
 
 pub returns-then-not-promote-clause-absent : goal.returns-then-not-promote-clause-absent
 returns-then-not-promote-clause-absent c sure =

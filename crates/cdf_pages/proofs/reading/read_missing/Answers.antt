@@ -2,6 +2,7 @@ use Rattle.std.proofs.Common.{rules, ◌≡◌, ◌∙◌, ◌+◌, ◌-◌, ◌
 use Rattle.std.specs.Map.{keys_of, lookup}
 use Rattle.std.specs.List.{list_any}
 use Rattle.std.specs.Option.{is_some}
+use Rattle.lru.specs.LruCache.{put_entries}
 use Rattle.cdf_pages.proofs.Keys.{is_there, used_missing, used_there}
 use Rattle.cdf_store.specs.Disk.{file_of}
 use Rattle.cdf_pages.specs.Pages.{Shows, TakesAtMost}
@@ -34,7 +35,7 @@ returns-clause-taken g c =
 pub returns-clause-used : goal.returns-clause-used
 returns-clause-used g c =
     let none : lookup (nat_eq c.args.number) c.args.clean.now.entries ≡ None = c.requires.missing in
-    ap (λ ca. keys_of ca.entries) c.in_ok-put.ensures.entries ∙ used_missing c.args.number c.args.clean.now c.in_ok-page.page c.requires.cap none
+    ap (λ ca. keys_of ca.entries) c.in_ok-put.ensures.entries ∙ ap (λ ca. keys_of (put_entries nat_eq ca c.args.number c.in_ok-page.page)) c.load_page.ensures.clean ∙ used_missing c.args.number c.args.clean.now c.in_ok-page.page c.requires.cap none
 
 pub returns-clause-bytes : goal.returns-clause-bytes
 returns-clause-bytes g c =
@@ -46,7 +47,7 @@ pub returns-clause-fewer : goal.returns-clause-fewer
 returns-clause-fewer g c q p e =
     let F = file_of (g.S.Store.disk c.args.store.now) in
     let shows = load_shows F c.in_ok-page.page c.args.number c.args.size c.live_bytes-live.result c.live_bytes-live.ensures c.read.ensures.whole c.in_ok-page.ensures.bytes in
-    elim (put_old q p c.args.clean.now c.args.number c.in_ok-page.page c.len-count.ensures.valid.0 (sym (ap (λ ca. lookup (nat_eq q) ca.entries) c.in_ok-put.ensures.entries) ∙ e)) [
+    elim (put_old q p c.args.clean.now c.args.number c.in_ok-page.page c.len-count.ensures.valid.0 (sym (ap (λ ca. lookup (nat_eq q) ca.entries) c.in_ok-put.ensures.entries ∙ ap (λ ca. lookup (nat_eq q) (put_entries nat_eq ca c.args.number c.in_ok-page.page)) c.load_page.ensures.clean) ∙ e)) [
       | inl old ↦ inl old
       | inr new ↦ inr (new.0, subst (Shows F c.args.size c.args.number) (sym new.1) shows)
     ]
