@@ -72,6 +72,18 @@ fn grow(area: &mut PagedArea<MemStore>, n: u64) -> Result<(), Fail>
     }
 }
 
+/// Drops the changed pages whose bytes the file has.
+fn settle(area: &mut PagedArea<MemStore>) -> Result<(), Fail>
+    requires base { (⟦<PagedArea<MemStore> as Area>⟧.frame area.old).base ≡ None }
+    requires held { IsSome (⟦<PagedArea<MemStore> as Area>⟧.frame area.old).under.0.held }
+    ensures { ⟦<PagedArea<MemStore> as Area>⟧.frame area.new ≡ ⟦<PagedArea<MemStore> as Area>⟧.frame area.old }
+{
+    match area.settle() {
+        Ok(()) => Ok(()),
+        Err(_) => Err(Fail::new("the file was not compared")),
+    }
+}
+
 /// The store beneath, once the image is saved without a tail.
 fn saved(mut area: PagedArea<MemStore>) -> Result<MemStore, Fail>
     requires base { (⟦<PagedArea<MemStore> as Area>⟧.frame area).base ≡ None }
@@ -131,6 +143,24 @@ fn of_four_pages_one_is_written(rt: HostRuntime) -> Result<(), Fail> {
     let mut area = area_over(rt.alloc(), 4 * PAGE)?;
     write(&mut area, 3 * PAGE + 5, &[1])?;
     assert_eq!(rt; saved(area)?.calls(), 1 + 1 + 1);
+    Ok(())
+}
+
+#[test]
+fn a_page_that_was_changed_back_is_not_written(rt: HostRuntime) -> Result<(), Fail> {
+    let mut area = area_over(rt.alloc(), 4 * PAGE)?;
+    write(&mut area, PAGE + 5, &[1])?;
+    write(&mut area, PAGE + 5, &[7])?;
+    write(&mut area, 3 * PAGE + 5, &[1])?;
+    settle(&mut area)?;
+    let store = saved(area)?;
+    // Two pages were read, and read again to be compared. One was written, which is the one that the last byte is in.
+    assert_eq!(rt; store.calls(), 1 + 2 + 2 + 1);
+    let Some(file) = store.file(NAME) else {
+        return Err(Fail::new("no file"));
+    };
+    assert_eq!(rt; file.get(PAGE as usize + 5), Some(&7));
+    assert_eq!(rt; file.get(3 * PAGE as usize + 5), Some(&1));
     Ok(())
 }
 

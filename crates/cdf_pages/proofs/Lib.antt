@@ -7,4 +7,5 @@ pub mod Images
 pub mod Keys
 pub mod SavedArea
 pub mod SavedPage
+pub mod Settled
 pub mod Touched

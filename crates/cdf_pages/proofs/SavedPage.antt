@@ -1,12 +1,15 @@
 -- A page is written to the file.
-use Rattle.std.proofs.Common.{◌≡◌, ◌∙◌, ◌⊎◌, min, ℕ, ◌+◌, ◌-◌, ◌*◌, ◌/◌, ◌%◌, ◌<◌, ◌≤◌, max, ◌++◌, List, length, take, drop, slice_index, Option, Some, None, refl, sym, ap, ap₂, subst, arith, inl, inr}
+use Rattle.std.proofs.Common.{◌≡◌, ◌∙◌, min, ℕ, ◌+◌, ◌-◌, ◌*◌, ◌/◌, ◌%◌, ◌<◌, ◌≤◌, max, ◌++◌, List, length, take, slice_index, Option, Some, None, refl, sym, ap, arith, inl, inr}
 use Rattle.std.proofs.lemmas.List.{get_or-take, get_or_append_left, length-take-le, take_at}
 use Rattle.std.proofs.Common.{length-append}
-use Rattle.std.proofs.lemmas.Bool.{cases_lt}
+use Rattle.std.proofs.lemmas.Bool.{cases_Bool, cases_lt}
+use Rattle.std.specs.Prelude.{IsSome, IsTrue}
+use Rattle.std.specs.Option.{is_some}
 use Rattle.cdf_base.specs.Bytes.{put}
 use Rattle.cdf_base.proofs.Puts.{byte-put_before, byte-put_inside, byte-put_after}
 use Rattle.cdf_store.specs.Disk.{Disk, WrittenPart, file_of, written}
-use Rattle.cdf_pages.specs.Pages.{Backed, byte_from, byte_of, image_of}
+use Rattle.cdf_pages.specs.Pages.{Backed, byte_from, image_of, is_in}
+use Rattle.cdf_pages.proofs.Filling.{false_not_true, none_is}
 use Rattle.cdf_pages.proofs.Between.{length-written}
 use Rattle.cdf_pages.proofs.Images.{at_page, byte-image, image_file, image_same, length-image, same_or_not}
 
@@ -86,6 +89,13 @@ pub less_saved : (p p' : ℕ → Option (List ℕ)) (k : ℕ) → p' k ≡ None 
 less_saved p p' k gone others q e = elim (same_or_not q k) [
   | inl here ↦ ap p' here ∙ gone
   | inr else ↦ others q else ∙ e
+]
+
+-- a page that is a changed one was one at first
+pub changed_at_first : (p p' : ℕ → Option (List ℕ)) (k : ℕ) → ((q : ℕ) → p q ≡ None → p' q ≡ None) → IsSome (p' k) → IsTrue (is_in p k)
+changed_at_first p p' k less some = elim (cases_Bool (is_some (p k))) [
+  | inl is ↦ is
+  | inr none ↦ absurd (false_not_true (sym (ap is_some (less k (none_is (p k) none))) ∙ some))
 ]
 
 -- all before a changed page stands in the file

@@ -1,5 +1,5 @@
 -- What a save leaves of the attached file, and of the disk.
-use Rattle.std.specs.Prelude.{◌≡◌, ◌⊎◌, ◌+◌, ◌*◌, ◌≤◌, ◌<◌, ◌==◌, ◌||◌, ℕ, Bool, false, true, not, List, [], ◌++◌, length, max, slice_index, Some, None, Ok, Err, IsTrue}
+use Rattle.std.specs.Prelude.{◌≡◌, ◌⊎◌, ◌+◌, ◌*◌, ◌/◌, ◌≤◌, ◌<◌, ◌==◌, ◌||◌, ℕ, Bool, false, true, not, List, [], ◌++◌, length, max, slice_index, Some, None, Ok, Err, IsTrue}
 use Rattle.std.specs.declared.result.Result.{Result}
 use Rattle.cdf_area.specs.declared.area.AreaError.{AreaError}
 use Rattle.cdf_area.specs.declared.area.AreaError.TheVariants.{Fault, NoMemory}
@@ -58,6 +58,13 @@ pub record HasNothingToSave (changed : ℕ → Bool) (measured : Bool) (file ima
   pub known : measured ≡ true
   pub short : length file ≤ length image
   pub no_tail : tail ≡ None
+
+-- the image has a byte in this page that the file has not there
+pub record Differs (file image : List ℕ) (number : ℕ) : Type 0 where
+  pub at : ℕ
+  pub here : at / 65536 ≡ number
+  pub inside : at < length image
+  pub other : at < length file → slice_index file at ≡ slice_index image at → ⊥
 
 -- how many bytes a file of at most so many has at most, after a save that is to end there
 abbrev pub most_of : {T : Type 0} → Result T AreaError → ℕ → ℕ → ℕ

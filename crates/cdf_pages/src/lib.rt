@@ -8,6 +8,7 @@ mod page;
 mod paged_area;
 mod reading;
 mod saving;
+mod settling;
 mod sheets;
 mod writing;
 

@@ -1,6 +1,6 @@
 //! An area in pages over the attached file of a store.
 
-ghost use Rattle.std.specs.Prelude.{◌≡◌, ◌≤◌, ◌<◌, ◌+◌, ◌-◌, ◌/◌, ◌++◌, ◌==◌, ◌^◌, ℕ, List, [], length, take, drop, replicate, false, nat_eq, Some, None, IsSome, IfOk, IfErr, IsErrOf, IsOk, IsTrue, OnOk, OnErr};
+ghost use Rattle.std.specs.Prelude.{◌≡◌, ◌≤◌, ◌<◌, ◌+◌, ◌-◌, ◌/◌, ◌++◌, ◌==◌, ◌^◌, ℕ, List, [], length, take, drop, replicate, false, not, nat_eq, Some, None, IsSome, IfOk, IfErr, IsErrOf, IsOk, IsTrue, OnOk, OnErr};
 ghost use Rattle.std.proofs.Props.{props};
 ghost use Rattle.std.specs.Option.{option_map};
 ghost use Rattle.std.specs.Map.{keys_of};
@@ -14,7 +14,7 @@ ghost use Rattle.cdf_store.specs.Disk.{Disk, file_of};
 ghost use Rattle.cdf_pages.specs.Cached.{all_clean};
 ghost use Rattle.cdf_pages.specs.Pages.{AllShow, Backed, TakesAtMost, image_of, is_in, was};
 ghost use Rattle.cdf_base.specs.Causes.{HasCauseOf};
-ghost use Rattle.cdf_pages.specs.Saving.{HasNothingToSave, Holds, HoldsBetween, IsChangedRange, IsSavedAlready, Touches, is_edited, tail_bytes};
+ghost use Rattle.cdf_pages.specs.Saving.{Differs, HasNothingToSave, Holds, HoldsBetween, IsChangedRange, IsSavedAlready, Touches, is_edited, tail_bytes};
 ghost use Rattle.cdf_pages.specs.Standing.{Changes, ChangesSome, ReadsSome, cost_of_reading, cost_of_writing, pages_in, used_from};
 
 use crate::cache::Cache;
@@ -23,6 +23,7 @@ use crate::owning::own_pages;
 use crate::page::{PAGE, Page};
 use crate::reading::read_range;
 use crate::saving::{most_after, save_image, tail_slice};
+use crate::settling::settle_pages;
 use crate::sheets::Sheets;
 use crate::writing::{write_range, zero_range};
 use cdf_area::{Area, AreaError};
@@ -133,12 +134,40 @@ impl<S: Store> PagedArea<S> {
         outcome
     }
 
+    /// Drops each changed page whose bytes the file has there anyway, so that `save` does not write it. The file is read for that.
+    #[tactic(auto, using(crate::proofs::Images::image_size))]
+    pub fn settle(&mut self) -> Result<(), AreaError>
+        requires held { IsSome (⟦<PagedArea<S> as Area>⟧.frame self.old).under.0.held }
+        requires unmarked { (⟦<PagedArea<S> as Area>⟧.frame self.old).base ≡ None }
+        ensures image { ⟦<PagedArea<S> as Area>⟧.image self.new ≡ ⟦<PagedArea<S> as Area>⟧.image self.old }
+        ensures frame { ⟦<PagedArea<S> as Area>⟧.frame self.new ≡ ⟦<PagedArea<S> as Area>⟧.frame self.old }
+        ensures edited { ⟦<PagedArea<S> as Area>⟧.edited self.new ≡ ⟦<PagedArea<S> as Area>⟧.edited self.old }
+        ensures cause { HasCauseOf AreaError.Fault (⟦<PagedArea<S> as Area>⟧.faults self.old) (⟦<PagedArea<S> as Area>⟧.faults self.new) result }
+        // No page becomes a changed one, and where all goes well each that is left has a byte that the file has not.
+        ensures fewer { (number : ℕ) → IsTrue (⟦<PagedArea<S> as InPages>⟧.changed self.new number) → IsTrue (⟦<PagedArea<S> as InPages>⟧.changed self.old number) }
+        ensures differs { OnOk result ((number : ℕ) → IsTrue (⟦<PagedArea<S> as InPages>⟧.changed self.new number) → Differs (file_of (⟦<PagedArea<S> as Area>⟧.frame self.old).under.0) (⟦<PagedArea<S> as Area>⟧.image self.old) number) }
+        ensures clean { ⟦<PagedArea<S> as InPages>⟧.clean self.new ≡ ⟦<PagedArea<S> as InPages>⟧.clean self.old }
+        ensures measured { ⟦<PagedArea<S> as InPages>⟧.measured self.new ≡ ⟦<PagedArea<S> as InPages>⟧.measured self.old }
+        // Of the file no more is read than it has in the changed pages of the image.
+        ensures taken { TakesAtMost (⟦<PagedArea<S> as InPages>⟧.taken self.old) (⟦<PagedArea<S> as InPages>⟧.taken self.new) (cost_of_writing (λ number. not (⟦<PagedArea<S> as InPages>⟧.changed self.old number)) [] (length (file_of (⟦<PagedArea<S> as Area>⟧.frame self.old).under.0)) 0 (pages_in 0 (length (⟦<PagedArea<S> as Area>⟧.image self.old)))) }
+    {
+        settle_pages(self.alloc, &mut self.store, &mut self.sheets, self.most)
+    }
+
     /// Whether no page is changed, the file is not longer than the image, and no tail is to stand behind it.
     fn has_nothing_to_save(&self, tail: &Option<[u8; 16]>) -> bool
         ensures yes { IsTrue result → ((number : ℕ) → get nat_cmp self.now.sheets.changed number ≡ None) × (tail.now ≡ None) × (self.now.most ≤ self.now.sheets.length) }
         ensures no { ((number : ℕ) → get nat_cmp self.now.sheets.changed number ≡ None) → tail.now ≡ None → self.now.most ≤ self.now.sheets.length → IsTrue result }
     {
         self.sheets.first().is_none() && tail.is_none() && self.most <= self.sheets.length
+    }
+
+    /// Whether the image may be other than the front of the file.
+    pub fn is_edited(&self) -> bool
+        ensures unedited { ⟦<PagedArea<S> as Area>⟧.edited self.now ≡ false → result ≡ false }
+        ensures front { result ≡ false → ⟦<PagedArea<S> as Area>⟧.image self.now ≡ take (length (⟦<PagedArea<S> as Area>⟧.image self.now)) (file_of (⟦<PagedArea<S> as Area>⟧.frame self.now).under.0) }
+    {
+        self.edited
     }
 
     /// The store beneath. What was changed is let go.

@@ -16,7 +16,7 @@ use cdf_area::AreaError;
 use cdf_store::{Failed, Store};
 
 /// Whether a page has bytes of the image.
-fn is_within(length: u64, number: u64) -> bool
+pub fn is_within(length: u64, number: u64) -> bool
     ensures { IsTrue result ↔ (number * 65536 < length) }
 {
     length > 0 && number <= (length - 1) / PAGE

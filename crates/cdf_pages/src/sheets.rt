@@ -10,6 +10,7 @@ ghost use Rattle.cdf_pages.specs.Pages.{was};
 use crate::page::Page;
 use std::alloc::{AllocError, Global};
 use std::collections::BTreeMap;
+use std::ops::Bound;
 
 /// The changed pages of an image by their numbers, and what they were at the mark.
 ///
@@ -120,6 +121,20 @@ impl Sheets {
         Some(*number)
     }
 
+    /// The next changed page behind a number.
+    pub fn next(&self, last: u64) -> Option<u64>
+        ensures there { IfSome result (λ number. IsSome (get nat_cmp self.now.changed number)) }
+        ensures behind { IfSome result (λ number. last < number) }
+        ensures least { IfSome result (λ number. (other : ℕ) → last < other → other < number → get nat_cmp self.now.changed other ≡ None) }
+        ensures none { IfNone result ((number : ℕ) → last < number → get nat_cmp self.now.changed number ≡ None) }
+    {
+        let (number, _) = self
+            .changed
+            .range((Bound::Excluded(last), Bound::Unbounded))
+            .next()?;
+        Some(*number)
+    }
+
     /// How many changed pages there are.
     pub fn count(&self) -> u64
         ensures count { result ≡ btree_map_len self.now.changed }
@@ -138,7 +153,9 @@ impl Sheets {
         ensures length { self.new.length ≡ self.old.length }
         ensures marked { self.new.marked ≡ self.old.marked }
     {
-        let _ = self.changed.remove(&number);
+        if let Some(page) = self.changed.remove(&number) {
+            add_spare(&mut self.spares, page);
+        }
     }
 
     /// Marks the pages as they are.
@@ -213,15 +230,20 @@ fn copy_of(
     }
 }
 
+/// Keeps the memory of a page that is needed no more, where little is kept yet.
+fn add_spare(spares: &mut Vec<Page>, page: Page) {
+    if spares.len() < SPARES {
+        let _ = spares.push(page);
+    }
+}
+
 /// Forgets all pages that are kept. Some of them stay in memory, to be used again.
 fn retire(kept: &mut BTreeMap<u64, Option<Page>>, spares: &mut Vec<Page>)
     ensures none { (number : ℕ) → get nat_cmp kept.new number ≡ None }
 {
     while let Some((_, old)) = kept.pop_first() {
         if let Some(page) = old {
-            if spares.len() < SPARES {
-                let _ = spares.push(page);
-            }
+            add_spare(spares, page);
         }
     }
 }

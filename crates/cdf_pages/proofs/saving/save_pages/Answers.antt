@@ -1,13 +1,11 @@
-use Rattle.std.proofs.Common.{rules, ◌≡◌, ◌∙◌, ◌⊎◌, ◌+◌, ◌≤◌, ◌++◌, ℕ, List, Bool, true, false, Option, None, IsSome, refl, sym, ap, subst, arith, inl, inr, length}
+use Rattle.std.proofs.Common.{◌≡◌, ◌∙◌, ◌++◌, ℕ, List, Option, None, IsSome, refl, sym, ap, subst, arith}
 use Rattle.std.specs.Prelude.{IsTrue}
-use Rattle.std.specs.Option.{is_some}
 use Rattle.std.specs.Ordering.{nat_cmp}
 use Rattle.std.specs.BTreeMap.{get}
-use Rattle.std.proofs.lemmas.Bool.{cases_Bool}
 use Rattle.cdf_store.specs.Disk.{Disk, file_of}
 use Rattle.cdf_pages.specs.Pages.{image_of, is_in}
 use Rattle.cdf_pages.specs.Saving.{HoldsBetween, LiesIn, Touches}
-use Rattle.cdf_pages.proofs.Filling.{false_not_true, none_is}
+use Rattle.cdf_pages.proofs.SavedPage.{changed_at_first}
 use Rattle.cdf_pages.proofs.Touched.{touches_none, touches_then, touches_weaker}
 use Rattle.cdf_pages.proofs.saving.save_pages.Goals as goal
 
@@ -27,13 +25,6 @@ loop-number-init g c = record {
   write = refl;
   read = refl;
 }
-
--- a page that is a changed one was one at first
-changed_at_first : (p p' : ℕ → Option (List ℕ)) (k : ℕ) → ((q : ℕ) → p q ≡ None → p' q ≡ None) → IsSome (p' k) → IsTrue (is_in p k)
-changed_at_first p p' k less some = elim (cases_Bool (is_some (p k))) [
-  | inl is ↦ is
-  | inr none ↦ absurd (false_not_true (sym (ap is_some (less k (none_is (p k) none))) ∙ some))
-]
 
 module _ {U : Type 0} (p p' : ℕ → Option (List ℕ)) (first mid next : Disk U) (n n' k : ℕ) (same : image_of p' (file_of mid) n ≡ image_of p (file_of first) n) (len : n' ≡ n) where
   -- the image that the next page is written for is the one that all are

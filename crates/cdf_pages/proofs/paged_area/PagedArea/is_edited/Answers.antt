@@ -1,0 +1,20 @@
+use Rattle.std.proofs.Common.{◌≡◌, ◌≤◌, ℕ, zero, suc, List, Option, None, arith, length}
+use Rattle.std.specs.Ordering.{nat_cmp}
+use Rattle.std.specs.BTreeMap.{get}
+use Rattle.cdf_store.specs.Disk.{file_of}
+use Rattle.cdf_pages.specs.Pages.{Backed}
+use Rattle.cdf_pages.proofs.Images.{image_file, length-image}
+use Rattle.cdf_pages.proofs.paged_area.PagedArea.is_edited.Goals as goal
+
+-- an image of which no page is changed stands in the file
+backed_within : (p : ℕ → Option (List ℕ)) (long n : ℕ) → Backed p long n → ((q : ℕ) → p q ≡ None) → n ≤ long
+backed_within p long zero backed none = omega arith
+backed_within p long (suc n) backed none = omega (arith, backed n (omega arith) (none _))
+
+pub returns-clause-front : goal.returns-clause-front
+returns-clause-front g c = λ is.
+    let self = c.args.self.now in
+    let P = get nat_cmp self.sheets.changed in
+    let F = file_of (g.S.Store.disk self.store) in
+    let none = self.unedited is in
+    rw (length-image P F self.sheets.length) (image_file P F self.sheets.length none (backed_within P (length F) self.sheets.length self.backed none))

@@ -1,0 +1,18 @@
+use Rattle.std.proofs.Common.{◌≡◌, ◌-◌, ◌≤◌, length, min, take, drop}
+use Rattle.cdf_store.specs.Disk.{file_of}
+use Rattle.cdf_pages.specs.Pages.{TakesAtMost}
+use Rattle.cdf_pages.proofs.settling.fill_front.Given as goal
+
+abbrev pub invariant-loop-done : goal.invariant-loop-done
+invariant-loop-done g l = record {
+  bytes : take l.done l.out ≡ take l.done (drop l.fn.place (file_of (g.S.Store.disk l.fn.store)));
+  within : l.done ≤ min (length l.fn.out) (length (file_of (g.S.Store.disk l.fn.store)) - l.fn.place);
+  size : length l.out ≡ length l.fn.out;
+  disk : g.S.Store.disk l.store ≡ g.S.Store.disk l.fn.store;
+  read : g.S.Store.read_faults l.store ≡ g.S.Store.read_faults l.fn.store;
+  write : g.S.Store.write_faults l.store ≡ g.S.Store.write_faults l.fn.store;
+  taken : TakesAtMost (g.S.Store.taken l.fn.store) (g.S.Store.taken l.store) l.done;
+}
+
+abbrev pub decreases-loop-done : goal.decreases-loop-done
+decreases-loop-done g l = length l.out - l.done
