@@ -1,6 +1,6 @@
 //! The attributes of a file as a command meets them.
 
-ghost use Rattle.std.specs.Prelude.{◌≡◌, IfOk};
+ghost use Rattle.std.specs.Prelude.{◌≡◌, IfOk, None};
 ghost use Rattle.cdf_area.specs.Calls.{Reads};
 ghost use Rattle.cdf_attrs.specs.Known.{Known, Knows};
 ghost use Rattle.cdf_format.specs.Content.{content};
@@ -47,6 +47,13 @@ impl Attrs {
             places,
             entries: None,
         })
+    }
+
+    /// Lets go the entries that are kept, so that what is left is right of each image with the same attributes in the same places.
+    pub fn forget_entries(&mut self)
+        ensures { self.new ≡ record self.old { entries = None } }
+    {
+        self.entries = None;
     }
 
     /// The attributes as `list` shows them, each with its number, its name and its scope.

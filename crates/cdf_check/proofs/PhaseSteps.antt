@@ -1,19 +1,21 @@
 -- The phases of a file, put together.
-use Rattle.std.proofs.Common.{◌≡◌, ℕ, zero, suc, ◌+◌, ◌-◌, ◌<◌, ◌≤◌, ◌^◌, List, [], ◌∷◌, ◌++◌, length, take, Bool, true, false, sym, ap, ◌∙◌, subst, arith}
-use Rattle.std.proofs.lemmas.List.{take_all}
-use Rattle.std.specs.Prelude.{if◌then◌else◌, nat_le, Some, None, Ok, Err, IfOk}
+use Rattle.std.proofs.Common.{◌≡◌, ◌≢◌, ℕ, zero, suc, ◌+◌, ◌-◌, ◌<◌, ◌≤◌, ◌^◌, List, [], ◌∷◌, ◌++◌, length, length-take, take, drop, Bool, true, false, refl, sym, ap, ◌∙◌, subst, arith}
+use Rattle.std.specs.Prelude.{if◌then◌else◌, bytes_eq, Some}
 use Rattle.std.specs.declared.option.Option.{Option}
-use Rattle.std.specs.declared.result.Result.{Result}
-use Rattle.cdf_area.specs.declared.area.AreaError.{AreaError}
+use Rattle.std.proofs.Math.Path.{subst₂}
+use Rattle.md5.specs.Md5.{md5}
 use Rattle.cdf_model.specs.Limits.{image_limit}
 use Rattle.cdf_format.specs.Fields.{gdr_offset}
 use Rattle.cdf_format.specs.Phases.{first_phases, image_phases, phase10}
-use Rattle.cdf_format.specs.Rules.{Row, asked, Hold, AllHold, FirstBroken}
-use Rattle.cdf_format.specs.Sealed.{has_checksum, image_of}
+use Rattle.cdf_format.specs.Rules.{Row, row, asked, Hold, IsBroken, AllHold, FirstBroken}
+use Rattle.cdf_format.specs.Sealed.{has_checksum, trailer_size, trailer_length, image_of}
 use Rattle.cdf_format.specs.WellFormed.{WellFormed, Breaks}
-use Rattle.cdf_format.proofs.Tests.{both, le_of, not_false}
+use Rattle.cdf_format.proofs.ImageOf.{short_trailer}
+use Rattle.cdf_format.proofs.Pieces.{word-piece}
+use Rattle.cdf_format.proofs.Tests.{le_of}
 use Rattle.cdf_check.specs.declared.verdict.Broken.{Broken}
-use Rattle.cdf_check.specs.Verdicts.{Judges, JudgesImage}
+use Rattle.cdf_check.specs.declared.verdict.Finding.{Finding}
+use Rattle.cdf_check.specs.Verdicts.{Finds, Judges, JudgesImage}
 
 -- ---- phases before others
 
@@ -35,48 +37,84 @@ unasked : (p : Bool) (rows : List Row) → p ≡ false → Hold (asked p rows)
 unasked true rows e = absurd cc
 unasked false rows e = tt
 
+no_trailer : (p : Bool) → (if p then trailer_size else 0) ≡ 0 → p ≡ false
+no_trailer true e = absurd (omega (arith, e))
+no_trailer false e = refl
+
+has_trailer : (p : Bool) → (if p then trailer_size else 0) ≢ 0 → p ≡ true
+has_trailer true some = refl
+has_trailer false some = absurd (some refl)
+
+-- that the bytes behind this place are the MD5 of those before it
+abbrev pub checksum_row : ℕ → List ℕ → List Row
+checksum_row eof f = row 1 eof (bytes_eq (drop eof f) (md5 (take eof f))) ∷ []
+
+abbrev pub last_row : List ℕ → List Row
+last_row f = checksum_row (length f - trailer_length f) f
+
+-- what was found in a file as it was read, up to this place and behind it
+module _ (f : List ℕ) {read : List ℕ} {eof : ℕ} (same : read ≡ f) (size : eof ≡ length f - trailer_length f) where
+  pub image_read : (found : Option Broken) → JudgesImage (take eof read) found → JudgesImage (image_of f) found
+  image_read found judged = subst₂ (λ (n : ℕ) (b : List ℕ). JudgesImage (take n b) found) size same judged
+
+  pub last_read : (found : Option Finding) → Finds (checksum_row eof read) found → Finds (last_row f) found
+  last_read found finds = subst₂ (λ (n : ℕ) (b : List ℕ). Finds (checksum_row n b) found) size same finds
+
 -- ---- the start of a file
 
 pub start_broken : (f : List ℕ) (phase rule place : ℕ) → FirstBroken (first_phases f) phase rule place → Breaks f phase rule place
 start_broken f phase rule place p = FirstBroken-before (first_phases f) (image_phases (image_of f) ++ phase10 f ∷ []) phase rule place p
 
 module _ (f : List ℕ) (start : AllHold (first_phases f)) where
-  unsealed : has_checksum f ≡ false
-  unsealed = not_false (has_checksum f) start.1.1.0.1.1.1.1.1.1.0
+  abbrev size : ℕ
+  size = length f - trailer_length f
 
-  -- no trailer is read
-  image_is : image_of f ≡ f
-  image_is = ap (λ (p : Bool). take (length f - (if p then 16 else 0)) f) unsealed ∙ take_all (length f - 0) f (omega arith)
+  pub start_long : 320 ≤ length f
+  start_long = le_of 320 (length f) start.1.1.0.0
 
-  sealed_holds : Hold (phase10 f)
-  sealed_holds = unasked (has_checksum f) _ unsealed
+  -- the trailer is a part of the file
+  pub image_long : length (image_of f) + trailer_length f ≡ length f
+  image_long = let long = start_long in let short = short_trailer f in omega (arith, length-take size f)
 
-  pub all_judged : AllHold (image_phases f) → WellFormed f
-  all_judged image =
-      let here : AllHold (image_phases (image_of f)) = subst (λ (b : List ℕ). AllHold (image_phases b)) (sym image_is) image in
-      AllHold-append (first_phases f ++ image_phases (image_of f)) (phase10 f ∷ []) (AllHold-append (first_phases f) (image_phases (image_of f)) start here) (sealed_holds, tt)
+  pub image_some : 8 ≤ length (image_of f)
+  image_some = let long = start_long in let short = short_trailer f in let all = image_long in omega arith
 
-  pub image_broken : (n phase rule place : ℕ) → phase ≡ n + 4 → FirstBroken (image_phases f) n rule place → Breaks f phase rule place
+  pub image_small : length (image_of f) < 2 ^ 31
+  image_small = let limit = le_of (length f) (image_limit + 16) start.0.1.0 in let all = image_long in omega arith
+
+  pub image_gdr : gdr_offset (image_of f) ≡ gdr_offset f
+  image_gdr = let long = start_long in let short = short_trailer f in word-piece f 0 20 8 size (omega arith)
+
+  -- the rules on the image and the one behind them
+  pub all_judged : AllHold (image_phases (image_of f)) → Hold (phase10 f) → WellFormed f
+  all_judged image last = AllHold-append (first_phases f ++ image_phases (image_of f)) (phase10 f ∷ []) (AllHold-append (first_phases f) (image_phases (image_of f)) start image) (last, tt)
+
+  image_broken : (n phase rule place : ℕ) → phase ≡ n + 4 → FirstBroken (image_phases (image_of f)) n rule place → Breaks f phase rule place
   image_broken n phase rule place e broken =
-      let here : FirstBroken (image_phases (image_of f)) n rule place = subst (λ (b : List ℕ). FirstBroken (image_phases b) n rule place) (sym image_is) broken in
-      FirstBroken-before (first_phases f ++ image_phases (image_of f)) (phase10 f ∷ []) phase rule place (FirstBroken-behind (first_phases f) (image_phases (image_of f)) n phase rule place start e here)
+      FirstBroken-before (first_phases f ++ image_phases (image_of f)) (phase10 f ∷ []) phase rule place (FirstBroken-behind (first_phases f) (image_phases (image_of f)) n phase rule place start e broken)
 
-  pub start_long : 8 ≤ length f
-  start_long = le_of 8 (length f) start.0.0
+  pub image_judged : (broken : Broken) → JudgesImage (image_of f) (Some broken) → Judges f (Some broken)
+  image_judged broken breaks = image_broken breaks.0 broken.phase broken.rule broken.at breaks.1 breaks.2
 
-  pub start_small : length f < 2 ^ 31
-  start_small = let limit = le_of (length f) (image_limit + 16) start.0.1.0 in omega arith
+  pub unsealed_judged : AllHold (image_phases (image_of f)) → trailer_length f ≡ 0 → WellFormed f
+  unsealed_judged image none = all_judged image (unasked (has_checksum f) _ (no_trailer (has_checksum f) none))
 
-  pub start_room : gdr_offset f + 84 ≤ length f
-  start_room = le_of (gdr_offset f + 84) (length f) (both (nat_le 8 (gdr_offset f)) (nat_le (gdr_offset f + 84) (length f)) start.1.1.1.0.0).1
+  module _ (some : trailer_length f ≢ 0) where
+    in_use : has_checksum f ≡ true
+    in_use = has_trailer (has_checksum f) some
 
-  pub start_head : 28 ≤ length f
-  start_head = let enough = le_of 320 (length f) start.1.1.0.0 in omega arith
+    -- the trailer is 16 bytes
+    pub seal_fits : size + 16 ≡ length f
+    seal_fits = let long = start_long in let sixteen : trailer_length f ≡ 16 = ap (λ (p : Bool). if p then 16 else 0) in_use in omega arith
 
-  image_judged : (found : Option Broken) → JudgesImage f found → Judges f found
-  image_judged None holds = all_judged holds
-  image_judged (Some broken) breaks = image_broken breaks.0 broken.phase broken.rule broken.at breaks.1 breaks.2
+    last_is : phase10 f ≡ last_row f
+    last_is = ap (λ (p : Bool). asked p (row 1 (length (image_of f)) (bytes_eq (drop (length (image_of f)) f) (md5 (image_of f))) ∷ [])) in_use ∙ ap (λ (eof : ℕ). row 1 eof (bytes_eq (drop eof f) (md5 (image_of f))) ∷ []) size_is
+      where
+        size_is : length (image_of f) ≡ size
+        size_is = let all = image_long in omega arith
 
-  pub result_judged : (result : Result (Option Broken) AreaError) → IfOk result (JudgesImage f) → IfOk result (Judges f)
-  result_judged (Ok found) judged = image_judged found judged
-  result_judged (Err error) judged = tt
+    pub seal_held : AllHold (image_phases (image_of f)) → Hold (last_row f) → WellFormed f
+    seal_held image holds = all_judged image (subst Hold (sym last_is) holds)
+
+    pub seal_broken : AllHold (image_phases (image_of f)) → (rule place : ℕ) → IsBroken (last_row f) rule place → Breaks f 10 rule place
+    seal_broken image rule place broken = FirstBroken-behind (first_phases f ++ image_phases (image_of f)) (phase10 f ∷ []) 0 10 rule place (AllHold-append (first_phases f) (image_phases (image_of f)) start image) refl (subst (λ (rows : List Row). IsBroken rows rule place) (sym last_is) broken)

@@ -83,10 +83,6 @@ fn check_fields<A: Area>(area: &A, cdr: &Cdr) -> Option<Finding>
         // 2.6
         return Some(Finding { rule: 6, place });
     }
-    if has_bit(cdr.flags, CHECKSUM) {
-        // 2.99
-        return Some(Finding { rule: 99, place });
-    }
     None
 }
 

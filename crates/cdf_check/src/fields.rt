@@ -1,12 +1,13 @@
 //! Fields that several rules read.
 
-ghost use Rattle.std.specs.Prelude.{◌≡◌, ◌+◌, ◌^◌, ◌<◌, ◌≤◌, length, IfOk};
+ghost use Rattle.std.specs.Prelude.{◌≡◌, ◌+◌, ◌^◌, ◌<◌, ◌≤◌, length, if◌then◌else◌, IfOk};
 ghost use Rattle.cdf_area.specs.Calls.{Reads};
 ghost use Rattle.cdf_format.specs.Fields.{has_bit, signed4, size_at, type_at, word};
 ghost use Rattle.cdf_format.specs.FileRules.{is_record};
+ghost use Rattle.cdf_format.specs.Sealed.{trailer_size};
 
 use cdf_area::{Area, AreaError};
-use cdf_format::fields::RECORD_TYPE;
+use cdf_format::fields::{RECORD_TYPE, TRAILER_SIZE};
 use cdf_records::{read_unsigned4, read_unsigned8};
 
 /// The bit of the Flags that says that the file is a whole data set.
@@ -22,6 +23,17 @@ pub fn has_bit(flags: u32, bit: u32) -> bool
     ensures { result ≡ has_bit flags bit }
 {
     (flags >> bit) % 2 == 1
+}
+
+/// How many bytes stand after the image of a file with these Flags.
+pub fn trailer_length(flags: u32) -> u64
+    ensures { result ≡ (if has_bit flags 2 then trailer_size else 0) }
+{
+    if has_bit(flags, CHECKSUM) {
+        TRAILER_SIZE
+    } else {
+        0
+    }
 }
 
 /// The 4 bytes of a field of the area without the sign that its record gives it.

@@ -91,6 +91,7 @@ fn check_links<A: Area>(
 }
 
 /// The rules on the chains of an image.
+#[tactic(auto, using(crate::proofs::ChainLists::gdr_ends))]
 pub fn check_chains<A: Area>(
     alloc: Global,
     area: &mut A,
@@ -100,7 +101,6 @@ pub fn check_chains<A: Area>(
     requires tiled { AreTiles (A.image area.old) 8 (length (A.image area.old)) tiles.now }
     requires long { AreLong (A.image area.old) tiles.now }
     requires gdr { gdr ≡ gdr_offset (A.image area.old) }
-    requires room { gdr + 84 ≤ length (A.image area.old) }
     ensures found { IfOk result (Yields (phase5 (A.image area.old) tiles.now) (AreChains (A.image area.old) tiles.now)) }
     ensures area { Reads A.image A.frame A.faults A.edited area.old area.new result }
 {

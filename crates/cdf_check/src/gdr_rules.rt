@@ -1,22 +1,21 @@
 //! The rules on the Global Descriptor Record.
 
-ghost use Rattle.std.specs.Prelude.{◌≡◌, ◌+◌, ◌≤◌, ◌&&◌, length, nat_le, if◌then◌else◌, IfOk, IsTrue};
+ghost use Rattle.std.specs.Prelude.{◌≡◌, ◌+◌, ◌≤◌, ◌&&◌, length, nat_le, IfOk, IsTrue};
 ghost use Rattle.std.specs.Int.{w64, cast_signed};
 ghost use Rattle.std.specs.List.{list_all};
 ghost use Rattle.cdf_area.specs.Calls.{Reads};
 ghost use Rattle.cdf_model.specs.Limits.{image_limit};
-ghost use Rattle.cdf_format.specs.Fields.{counted, has_bit, is_positive, r_sizes};
+ghost use Rattle.cdf_format.specs.Fields.{counted, is_positive, r_sizes};
 ghost use Rattle.cdf_format.specs.FileRules.{phase3, has_gdr, gdr_rows, is_gdr};
-ghost use Rattle.cdf_format.specs.Sealed.{trailer_size};
 ghost use Rattle.cdf_records.specs.Heads.{cdr_at, gdr_at};
 ghost use Rattle.cdf_records.specs.Pieces.{AreBytes};
 ghost use Rattle.cdf_check.specs.Verdicts.{Finds};
 
-use crate::fields::{CHECKSUM, has_bit, is_record, unsigned};
+use crate::fields::{is_record, trailer_length, unsigned};
 use crate::verdict::Finding;
 use cdf_area::{Area, AreaError};
 use cdf_format::fields::{
-    CDR_PLACE, GDR_R_DIM_SIZE, GDR_R_NUM_DIMS, GDR_SIZE, GDR_TYPE, RECORD_TYPE, TRAILER_SIZE,
+    CDR_PLACE, GDR_R_DIM_SIZE, GDR_R_NUM_DIMS, GDR_SIZE, GDR_TYPE, RECORD_TYPE,
 };
 use cdf_model::limits::{DIMENSION_LIMIT, IMAGE_LIMIT, SIGNED_LIMIT};
 use cdf_records::{Cdr, Gdr, read_cdr, read_gdr, read_nums};
@@ -51,17 +50,6 @@ fn are_sizes(sizes: &[u32]) -> bool
     ensures { result ≡ list_all is_positive sizes.now }
 {
     sizes.iter().all(|size| *size >= 1 && *size <= SIGNED_LIMIT)
-}
-
-/// How many bytes stand after the image of a file with these Flags.
-fn trailer_length(flags: u32) -> u64
-    ensures { result ≡ (if has_bit flags 2 then trailer_size else 0) }
-{
-    if has_bit(flags, CHECKSUM) {
-        TRAILER_SIZE
-    } else {
-        0
-    }
 }
 
 /// Whether the eof of an image, which has a sign, is in the limit.

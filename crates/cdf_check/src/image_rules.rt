@@ -57,7 +57,6 @@ fn check_linked<A: Area>(
     requires records { Hold (phase4 (A.image area.old)) }
     requires small { length (A.image area.old) < 2 ^ 31 }
     requires gdr { gdr ≡ gdr_offset (A.image area.old) }
-    requires room { gdr + 84 ≤ length (A.image area.old) }
     ensures verdict { IfOk result (JudgesImage (A.image area.old)) }
     ensures area { Reads A.image A.frame A.faults A.edited area.old area.new result }
 {
@@ -77,7 +76,6 @@ pub fn check_image<A: Area>(
     requires some { 8 ≤ length (A.image area.old) }
     requires small { length (A.image area.old) < 2 ^ 31 }
     requires gdr { gdr ≡ gdr_offset (A.image area.old) }
-    requires room { gdr + 84 ≤ length (A.image area.old) }
     ensures verdict { IfOk result (JudgesImage (A.image area.old)) }
     ensures area { Reads A.image A.frame A.faults A.edited area.old area.new result }
 {

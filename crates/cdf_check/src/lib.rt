@@ -15,6 +15,7 @@ mod met;
 mod owners;
 mod record_types;
 mod tiles;
+mod trailer_rules;
 mod validator;
 mod verdict;
 

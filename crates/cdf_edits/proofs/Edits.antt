@@ -10,6 +10,7 @@ pub mod ChainOwners
 pub mod ChainSpliced
 pub mod ChainsOfShape
 pub mod ChangedEntry
+pub mod ChecksumSet
 pub mod Composing
 pub mod DeletedAttribute
 pub mod DeletingFollows

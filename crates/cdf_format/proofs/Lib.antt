@@ -1,6 +1,5 @@
 pub mod Pieces
 pub mod Verdicts
-pub mod Images
 pub mod Members
 pub mod TilesLemmas
 pub mod ChainsLemmas

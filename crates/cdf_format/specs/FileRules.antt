@@ -6,7 +6,6 @@ use Rattle.cdf_model.specs.Encodings.{encoding_at}
 use Rattle.cdf_format.specs.Fields.{word, number, integer8, counted, is_positive, has_bit, size_at, type_at, gdr_offset, version, encoding, flags, eof, r_num_dims, r_sizes}
 use Rattle.cdf_format.specs.Records.{past, gdr_eof, gdr_r_num_dims, gdr_r_dim_sizes}
 use Rattle.cdf_format.specs.RecordTypes.{cdr_type, gdr_type, fixed_size}
-use Rattle.cdf_format.specs.NotRead.{unread_checksum}
 use Rattle.cdf_format.specs.Rules.{Row, row, asked}
 use Rattle.cdf_format.specs.Sealed.{has_checksum, trailer_length, trailer_size}
 
@@ -31,7 +30,7 @@ phase2 f =
     ∷ row 4 8 (is_some (encoding_at (encoding f)))
     ∷ row 5 8 (has_bit (flags f) 1)
     ∷ row 6 8 (not (has_checksum f) || has_bit (flags f) 3)
-    ∷ unread_checksum f
+    ∷ []
 
 -- GDRoffset leaves room for the fixed part of a record
 abbrev pub has_gdr : List ℕ → Bool

@@ -1,15 +1,10 @@
 -- What is not read so far (own). Each of these rules, numbered 99, goes once what it refuses is read, and a type joins `read_types` once its records are read.
-use Rattle.std.specs.Prelude.{ℕ, List, [], ◌∷◌, false, not, ◌==◌}
+use Rattle.std.specs.Prelude.{ℕ, List, [], ◌∷◌, false, ◌==◌}
 use Rattle.cdf_format.specs.Fields.{number, type_at}
 use Rattle.cdf_format.specs.Records.{vdr_s_records}
 use Rattle.cdf_format.specs.RecordTypes.{cdr_type, gdr_type, adr_type, agr_edr_type, az_edr_type, uir_type}
 use Rattle.cdf_format.specs.Chains.{is_in}
 use Rattle.cdf_format.specs.Rules.{Row, row}
-use Rattle.cdf_format.specs.Sealed.{has_checksum}
-
--- 2.99: files with a checksum
-abbrev pub unread_checksum : List ℕ → List Row
-unread_checksum f = row 99 8 (not (has_checksum f)) ∷ []
 
 -- 4.99: records of other types
 abbrev pub read_types : List ℕ

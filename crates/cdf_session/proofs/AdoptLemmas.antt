@@ -1,5 +1,5 @@
 -- A well-formed file is taken up.
-use Rattle.std.proofs.Common.{◌≡◌, ℕ, ◌-◌, ◌≤◌, List, length, take, None, sym, subst, ◌∙◌, arith}
+use Rattle.std.proofs.Common.{◌≡◌, ℕ, ◌-◌, ◌≤◌, List, length, take, None, sym, ap, subst, ◌∙◌, arith}
 use Rattle.std.proofs.Math.Path.{transport}
 use Rattle.cdf_area.specs.Frame.{Frame}
 use Rattle.cdf_attrs.specs.Known.{Known, Knows}
@@ -15,6 +15,10 @@ shortened f read now n same size is = is ∙ (λ i. take (length (same i) - size
 
 pub taken_good : (f now : List ℕ) → WellFormed f → now ≡ image_of f → Good now
 taken_good f now holds is = subst Good (sym is) (image_is_good f holds)
+
+-- the image of a file, as it stands in front of the trailer
+pub front_is : (f read : List ℕ) (size n : ℕ) → read ≡ f → size ≡ length read → n ≡ trailer_length f → take (size - n) read ≡ image_of f
+front_is f read size n same long is = λ i. take ((long ∙ ap length same) i - is i) (same i)
 
 pub stays_well_formed : (f now : List ℕ) → WellFormed f → now ≡ f → WellFormed now
 stays_well_formed f now holds same = subst WellFormed (sym same) holds

@@ -1,6 +1,7 @@
 pub mod HeadLemmas
 pub mod ListLemmas
 pub mod OpenLemmas
+pub mod ChecksumLemmas
 pub mod AdoptLemmas
 pub mod NewFileLemmas
 pub mod Explained

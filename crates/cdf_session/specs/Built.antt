@@ -13,4 +13,5 @@ built (commands.DelAttr name) = true
 built (commands.PutEntry attr kind num t words) = true
 built (commands.GetEntry attr kind num) = true
 built (commands.DelEntry attr kind num) = true
+built (commands.Checksum md5) = true
 built c = false

@@ -1,5 +1,6 @@
 pub mod Heads
 pub mod Built
+pub mod Seals
 pub mod Sessions
 pub mod Run
 pub mod History

@@ -1,16 +1,17 @@
-//! A file that was found well formed is taken up: its trailer is dropped, and its attributes are read.
+//! A file that was found well formed is taken up: its attributes are read, and its trailer is dropped.
 
-ghost use Rattle.std.specs.Prelude.{◌≡◌, IfOk, OnOk, OnErr, None};
+ghost use Rattle.std.specs.Prelude.{◌≡◌, take, IfOk, OnOk, OnErr, None};
 ghost use Rattle.cdf_area.specs.Calls.{Edits, Reads};
 ghost use Rattle.cdf_attrs.specs.Known.{Knows};
 ghost use Rattle.cdf_format.specs.Sealed.{image_of, trailer_length};
-ghost use Rattle.cdf_format.specs.WellFormed.{WellFormed};
+ghost use Rattle.cdf_format.specs.WellFormed.{Good, WellFormed};
 
 use crate::reading::has_checksum;
 use cdf_area::{Area, AreaError};
 use cdf_attrs::Attrs;
 use cdf_format::fields::{CDR_PLACE, TRAILER_SIZE};
 use cdf_records::read_cdr;
+use cdf_seal::Front;
 use std::alloc::Global;
 
 /// The bytes that stand after the image of a well-formed file.
@@ -27,7 +28,17 @@ fn trailer_size<A: Area>(area: &mut A) -> Result<u64, AreaError>
     }
 }
 
-/// Drops the trailer of a well-formed file, and takes up its attributes.
+/// What there is of the attributes of an image, which is the first bytes of a file.
+fn load_image<A: Area>(alloc: Global, area: &mut A, eof: u64) -> Result<Attrs, AreaError>
+    requires { Good (take eof (A.image area.old)) }
+    ensures known { IfOk result (Knows (take eof (A.image area.old))) }
+    ensures area { Reads A.image A.frame A.faults A.edited area.old area.new result }
+{
+    let mut image = Front::new(area, eof);
+    Attrs::load(alloc, &mut image)
+}
+
+/// Takes up the attributes of a well-formed file, and then drops its trailer, so that the file is as it was after an error.
 pub fn take_up<A: Area>(alloc: Global, area: &mut A) -> Result<Attrs, AreaError>
     requires well_formed { WellFormed (A.image area.old) }
     requires unmarked { (A.frame area.old).base ≡ None }
@@ -38,6 +49,8 @@ pub fn take_up<A: Area>(alloc: Global, area: &mut A) -> Result<Attrs, AreaError>
     ensures area { Edits A.frame A.faults area.old area.new result }
 {
     let trailer = trailer_size(area)?;
+    let eof = area.size() - trailer;
+    let attrs = load_image(alloc, area, eof)?;
     area.shorten(trailer);
-    Attrs::load(alloc, area)
+    Ok(attrs)
 }

@@ -2,6 +2,7 @@
 #![tactic(auto)]
 
 mod adopting;
+mod checksum;
 mod new_file;
 mod reading;
 mod refusal;

@@ -12,9 +12,11 @@ ghost use Rattle.cdf_format.specs.WellFormed.{Good, WellFormed};
 ghost use Rattle.cdf_model.specs.Limits.{image_limit};
 ghost use Rattle.cdf_model.specs.Sayable.{CanBeGiven, Fit, Sayable};
 ghost use Rattle.cdf_session.specs.Built.{built};
+ghost use Rattle.cdf_session.specs.Seals.{seal_of};
 ghost use Rattle.cdf_session.specs.Sessions.{Adopts, AnswersBuilt, Explains, IsOpen, IsNoVerdict, Rejects};
 
 use crate::adopting::take_up;
+use crate::checksum::{read_seal, set_checksum};
 use crate::new_file::write_new;
 use crate::reading::read_head;
 use crate::refusal::{AdoptError, Refusal};
@@ -166,6 +168,7 @@ impl<A: Area> Session<A> {
                 t,
                 words,
             } => self.put_entry(attr.as_slice(), *kind, *num, *t, words),
+            Command::Checksum { md5 } => self.checksum(*md5),
             _ => Ok(Outcome::Refused {
                 reason: Reason::BadLine {
                     fault: LineError::UnknownWord { at: 0 },
@@ -280,6 +283,27 @@ impl<A: Area> Session<A> {
             .attrs
             .put_entry(&mut self.area, attr, kind, num, t, words);
         settle(&mut self.area, done)
+    }
+
+    /// The command `checksum`.
+    fn checksum(&mut self, md5: bool) -> Result<Outcome, AreaError>
+        ensures answers { IfOk result (λ o. Answers (A.frame self.old).limit (A.image self.old) (Command.Checksum md5) o (A.image self.new)) }
+        ensures stays { OnErr result (A.image self.new ≡ A.image self.old) }
+        ensures area { Edits A.frame A.faults self.old self.new result }
+    {
+        set_checksum(&mut self.area, md5)?;
+        self.attrs.forget_entries();
+        Ok(Outcome::Done {
+            reply: Reply::Plain,
+        })
+    }
+
+    /// The checksum that is to stand behind the image: none where no checksum is in use, else its MD5.
+    pub fn seal(&mut self) -> Result<Option<[u8; 16]>, AreaError>
+        ensures seal { IfOk result (λ seal. seal ≡ seal_of (A.image self.old)) }
+        ensures area { Reads A.image A.frame A.faults A.edited self.old self.new result }
+    {
+        read_seal(&mut self.area)
     }
 
     /// The area with the image as it is.

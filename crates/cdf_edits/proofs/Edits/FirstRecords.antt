@@ -1,17 +1,18 @@
 -- What every edit leaves that keeps the CDR and the GDR: the types of all records, and the rules on the file.
-use Rattle.std.proofs.Common.{◌≡◌, ℕ, ◌+◌, ◌*◌, ◌≤◌, List, length, true, refl, sym, subst, ◌∙◌, arith, inl, inr}
+use Rattle.std.proofs.Common.{◌≡◌, ℕ, ◌+◌, ◌*◌, ◌≤◌, List, length, true, not, ◌||◌, refl, sym, ap, subst, ◌∙◌, arith, inl, inr}
 use Rattle.std.proofs.lemmas.Bool.{cases_eq, cases_lt}
 use Rattle.std.specs.List.{flat_map}
 use Rattle.cdf_model.specs.Limits.{image_limit}
 use Rattle.cdf_format.specs.Sound.{IsSound}
 use Rattle.cdf_format.specs.Chains.{is_in}
-use Rattle.cdf_format.specs.Fields.{size_at, type_at, eof, r_num_dims}
+use Rattle.cdf_format.specs.Fields.{size_at, type_at, flags, has_bit, eof, r_num_dims}
 use Rattle.cdf_format.specs.NotRead.{read_types, unread_type}
 use Rattle.cdf_format.specs.RecordTypes.{cdr_type, gdr_type, uir_type, is_record_type, fixed_size}
 use Rattle.cdf_format.specs.Rules.{Hold}
 use Rattle.cdf_format.specs.Shape.{Shape, HasShape}
 use Rattle.cdf_format.specs.Tiles.{In}
-use Rattle.cdf_format.proofs.BytesLemmas.{Same-part, type_kept}
+use Rattle.cdf_format.specs.Records.{cdr_flags}
+use Rattle.cdf_format.proofs.BytesLemmas.{Same-part, number_kept, type_kept}
 use Rattle.cdf_format.proofs.ChainsLemmas.{is_a-type}
 use Rattle.cdf_format.proofs.TilesLemmas.{tile_lies}
 use Rattle.cdf_edits.proofs.Rules.FirstRules.{FirstStay}
@@ -80,8 +81,11 @@ module _ {b now : List ℕ} {s : Shape} {new : List ℕ} {marks : List Mark} {re
       let cdr = cdr_kept sound e clear in
       let long = cdr_long sound e clear in
       let start = gdr_part sound e clear 0 12 (gdr_start sound e clear) (let l = gdr_long b s h in omega arith) in
+      let flags_are : flags now ≡ flags b = number_kept b now 8 cdr.same cdr_flags (omega arith) in
       record {
         start = record { each = λ i from upto. elim (cases_lt i 8) [ inl first ↦ e.front.each i from first | inr later ↦ cdr.same.each i later (omega arith) ] };
+        single_file = λ holds. ap (λ (n : ℕ). has_bit n 1) flags_are ∙ holds;
+        md5_used = λ holds. ap (λ (n : ℕ). not (has_bit n 2) || has_bit n 3) flags_are ∙ holds;
         head = Same-part b now (s.gdr + 0) (s.gdr + 12) s.gdr (s.gdr + 12) start (omega arith) (omega arith);
         dimensions = gdr_dimensions sound e clear;
         sizes = gdr_sizes sound e clear;

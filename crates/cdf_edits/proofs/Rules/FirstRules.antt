@@ -24,9 +24,11 @@ use Rattle.cdf_format.proofs.ImageOf.{short_trailer, flags_of_front, trailer_is}
 use Rattle.cdf_format.proofs.Tests.{both, of_le}
 use Rattle.cdf_format.proofs.TilesLemmas.{tile_lies}
 
--- what the rules read of the two first records stays, but for the end of the image
+-- what the rules read of the two first records stays, but for Flags, which keep their rules, and the end of the image
 pub record FirstStay (b now : List ℕ) (gdr : ℕ) : Type 0 where
-  pub start : Same b now 0 320
+  pub start : Same b now 0 40
+  pub single_file : has_bit (flags b) 1 ≡ true → has_bit (flags now) 1 ≡ true
+  pub md5_used : (not (has_checksum b) || has_bit (flags b) 3) ≡ true → (not (has_checksum now) || has_bit (flags now) 3) ≡ true
   pub head : Same b now gdr (gdr + 12)
   pub dimensions : Same b now (gdr + 56) (gdr + 60)
   pub sizes : Same b now (gdr + 84) (gdr + (84 + 4 * r_num_dims b gdr))
@@ -84,35 +86,30 @@ module _ (b now : List ℕ) (s : Shape) (sound : IsSound b s) (stay : FirstStay 
       within : (x n m k l : ℕ) → n ≤ m → m ≤ k → x + k ≤ l → x + n ≤ l
       within x n m k l p q r = omega arith
 
-  start : Same f f' 0 320
-  start = sealed_same b now 0 320 cdr_inside stay.longer stay.start
+  start : Same f f' 0 40
+  start = sealed_same b now 0 40 (let l = cdr_inside in omega arith) stay.longer stay.start
 
-  word4_same : (place : ℕ) → place + 4 ≤ 320 → word f' place 4 ≡ word f place 4
-  word4_same place fits = word_kept f f' 0 320 start place 4 (omega arith) fits
+  word4_same : (place : ℕ) → place + 4 ≤ 40 → word f' place 4 ≡ word f place 4
+  word4_same place fits = word_kept f f' 0 40 start place 4 (omega arith) fits
 
-  flags_same : flags f' ≡ flags f
-  flags_same = word4_same 40 (omega arith)
+  -- the same of the file and its image
+  of_image : (place n : ℕ) → place + n ≤ length b → word f place n ≡ word b place n
+  of_image place n fits = word_kept b f 0 (length b) (front_same b (trailer b)) place n (omega arith) fits
+
+  flags_before : flags f ≡ flags b
+  flags_before = of_image 40 4 (let l = cdr_inside in omega arith)
+
+  flags_now : flags f' ≡ flags now
+  flags_now = word_kept now f' 0 (length now) (front_same now (trailer now)) 40 4 (omega arith) (let l = cdr_inside in let m = stay.longer in omega arith)
 
   offset_same : gdr_offset f' ≡ g
-  offset_same = word_kept f f' 0 320 start 20 8 (omega arith) (omega arith) ∙ word_kept b f 0 (length b) (front_same b (trailer b)) 20 8 (omega arith) (let l = cdr_inside in omega arith) ∙ sound.has_shape.gdr_is
+  offset_same = word_kept f f' 0 40 start 20 8 (omega arith) (omega arith) ∙ word_kept b f 0 (length b) (front_same b (trailer b)) 20 8 (omega arith) (let l = cdr_inside in omega arith) ∙ sound.has_shape.gdr_is
 
   offset_before : gdr_offset f ≡ g
   offset_before = word_kept b f 0 (length b) (front_same b (trailer b)) 20 8 (omega arith) (let l = cdr_inside in omega arith) ∙ sound.has_shape.gdr_is
 
   long_now : 44 ≤ length now
   long_now = let l = cdr_inside in let m = stay.longer in omega arith
-
-  checksum_same : has_checksum now ≡ has_checksum b
-  checksum_same = ap (λ (n : ℕ). has_bit n 2) (word_kept b now 0 320 stay.start 40 4 (omega arith) (omega arith))
-
-  trailer_same : length (trailer now) ≡ length (trailer b)
-  trailer_same = trailer_is now ∙ ap (λ (p : Bool). if p then 16 else 0) checksum_same ∙ sym (trailer_is b)
-
-  longer : length f ≤ length f'
-  longer = let m = stay.longer in up (length f) (length f') (length b) (length now) (length (trailer b)) (length (trailer now)) (length-append b (trailer b)) (length-append now (trailer now)) m trailer_same
-    where
-      up : (x y l m t u : ℕ) → x ≡ l + t → y ≡ m + u → l ≤ m → u ≡ t → x ≤ y
-      up x y l m t u p q r e = omega arith
 
   -- the file ends with its trailer
   image_end : length f' - trailer_length f' ≡ length now
@@ -137,10 +134,6 @@ module _ (b now : List ℕ) (s : Shape) (sound : IsSound b s) (stay : FirstStay 
     where
       up : (x p h : ℕ) → p + 4 ≤ h → x + p + 4 ≤ x + h
       up x p h e = omega arith
-
-  -- the same of the file and its image
-  of_image : (place n : ℕ) → place + n ≤ length b → word f place n ≡ word b place n
-  of_image place n fits = word_kept b f 0 (length b) (front_same b (trailer b)) place n (omega arith) fits
 
   size_same : size_at f' g ≡ size_at b g
   size_same =
@@ -191,50 +184,39 @@ module _ (b now : List ℕ) (s : Shape) (sound : IsSound b s) (stay : FirstStay 
       through : (x l : ℕ) → x ≤ l → l ≤ image_limit → x ≤ image_limit
       through x l p q = omega arith
 
+  cdr_ends : 8 + size_at b 8 ≤ length b
+  cdr_ends = let h = sound.has_shape in (tile_lies b 8 (length b) s.records 8 h.tiled (is_a-in b s.records cdr_type 8 h.cdr_stands)).high
+
   pub first_phases_stay : AllHold (first_phases f) → AllHold (first_phases f')
   first_phases_stay rules =
-      let l = longer in
       let r = record-of f 8 1 312 rules.1.1.0.1.0 in
-      let size : size_at f' 8 ≡ size_at f 8 = word_kept f f' 0 320 start 8 8 (omega arith) (omega arith) in
+      let size : size_at f' 8 ≡ size_at f 8 = word_kept f f' 0 40 start 8 8 (omega arith) (omega arith) in
+      let here : size_at f' 8 ≡ size_at b 8 = size ∙ of_image 8 8 (let l = cdr_inside in omega arith) in
       let type : type_at f' 8 ≡ 1 = word4_same 16 (omega arith) ∙ r.type_is in
-      let cdr : is_record f' 8 1 312 ≡ true = is_record-from f' 8 1 312 type (subst (λ (x : ℕ). 312 ≤ x) (sym size) r.long) (subst (λ (x : ℕ). 8 + x ≤ length f') (sym size) (later (size_at f 8) (length f) (length f') r.ends l)) in
-      let long : 320 ≤ length f' = let i = cdr_inside in let m = stay.longer in enough (length b) (length now) (length f') (length (trailer now)) i m (length-append now (trailer now)) in
-      let sixth = ap (λ (n : ℕ). not (has_bit n 2) || has_bit n 3) flags_same ∙ rules.1.1.0.1.1.1.1.1.0 in
-      let gdr_room : g + 84 ≤ length f' = let i = part_inside 84 (omega arith) in let m = stay.longer in reach g (length b) (length now) (length f') (length (trailer now)) i m (length-append now (trailer now)) in
+      let ends : 8 + size_at f' 8 ≤ length f' = subst (λ (x : ℕ). 8 + x ≤ length f') (sym here) (reach 8 (size_at b 8) (length b) (length now) (length f') (length (trailer now)) cdr_ends stay.longer (length-append now (trailer now))) in
+      let cdr : is_record f' 8 1 312 ≡ true = is_record-from f' 8 1 312 type (subst (λ (x : ℕ). 312 ≤ x) (sym size) r.long) ends in
+      let long : 320 ≤ length f' = reach 320 0 (length b) (length now) (length f') (length (trailer now)) cdr_inside stay.longer (length-append now (trailer now)) in
+      let single : has_bit (flags f') 1 ≡ true = ap (λ (n : ℕ). has_bit n 1) flags_now ∙ stay.single_file (sym (ap (λ (n : ℕ). has_bit n 1) flags_before) ∙ rules.1.1.0.1.1.1.1.0) in
+      let md5 = ap (λ (n : ℕ). not (has_bit n 2) || has_bit n 3) flags_now ∙ stay.md5_used (sym (ap (λ (n : ℕ). not (has_bit n 2) || has_bit n 3) flags_before) ∙ rules.1.1.0.1.1.1.1.1.0) in
+      let gdr_room : g + 84 ≤ length f' = reach g 84 (length b) (length now) (length f') (length (trailer now)) (part_inside 84 (omega arith)) stay.longer (length-append now (trailer now)) in
       let before = both (nat_le 8 (gdr_offset f)) (nat_le (gdr_offset f + 84) (length f)) rules.1.1.1.0.0 in
       let at_g : has_gdr f' ≡ true = and_from _ _ (ap (λ (x : ℕ). nat_le 8 x) (offset_same ∙ sym offset_before) ∙ before.0) (of_le _ _ (subst (λ (x : ℕ). x + 84 ≤ length f') (sym offset_same) gdr_room)) in
       let rows : Hold (gdr_rows f (gdr_offset f)) = subst (λ (t : Bool). Hold (asked t (gdr_rows f (gdr_offset f)))) rules.1.1.1.0.0 rules.1.1.1.0.1 in
-      let rows' : Hold (gdr_rows f' (gdr_offset f')) = subst (λ (x : ℕ). Hold (gdr_rows f' x)) (sym offset_same) (gdr_rules (subst (λ (x : ℕ). Hold (gdr_rows f x)) offset_before rows)) in (
+      let rows' : Hold (gdr_rows f' (gdr_offset f')) = subst (λ (x : ℕ). Hold (gdr_rows f' x)) (sym offset_same) (gdr_rules (subst (λ (x : ℕ). Hold (gdr_rows f x)) offset_before rows)) in
+      let version = ap (λ (n : ℕ). n == 3) (word4_same 28 (omega arith)) ∙ rules.1.1.0.1.1.0 in
+      let encoding = ap (λ (n : ℕ). is_some (encoding_at n)) (word4_same 36 (omega arith)) ∙ rules.1.1.0.1.1.1.0 in (
         (of_le _ _ (eight (length f') long), (of_le _ _ not_longer, tt)),
         (
           (ap (λ (n : ℕ). n == 0xcdf30001) (word4_same 0 (omega arith)) ∙ rules.1.0.0, (ap (λ (n : ℕ). n == 0x0000ffff) (word4_same 4 (omega arith)) ∙ rules.1.0.1.0, tt)),
           (
-            (
-              of_le _ _ long,
-              (
-                cdr,
-                (
-                  ap (λ (n : ℕ). n == 3) (word4_same 28 (omega arith)) ∙ rules.1.1.0.1.1.0,
-                  (
-                    ap (λ (n : ℕ). is_some (encoding_at n)) (word4_same 36 (omega arith)) ∙ rules.1.1.0.1.1.1.0,
-                    (ap (λ (n : ℕ). has_bit n 1) flags_same ∙ rules.1.1.0.1.1.1.1.0, (sixth, (ap (λ (n : ℕ). not (has_bit n 2)) flags_same ∙ rules.1.1.0.1.1.1.1.1.1.0, tt))),
-                  ),
-                ),
-              ),
-            ),
+            (of_le _ _ long, (cdr, (version, (encoding, (single, (md5, tt)))))),
             ((at_g, subst (λ (t : Bool). Hold (asked t (gdr_rows f' (gdr_offset f')))) (sym at_g) rows'), tt),
           ),
         ),
       )
     where
-      later : (x l m : ℕ) → 8 + x ≤ l → l ≤ m → 8 + x ≤ m
-      later x l m p q = omega arith
-
-      enough : (l m n t : ℕ) → 320 ≤ l → l ≤ m → n ≡ m + t → 320 ≤ n
-      enough l m n t p q r = omega arith
-
-      reach : (x l m n t : ℕ) → x + 84 ≤ l → l ≤ m → n ≡ m + t → x + 84 ≤ n
-      reach x l m n t p q r = omega arith
+      reach : (x k l m n t : ℕ) → x + k ≤ l → l ≤ m → n ≡ m + t → x + k ≤ n
+      reach x k l m n t p q r = omega arith
 
       eight : (n : ℕ) → 320 ≤ n → 8 ≤ n
       eight n p = omega arith

@@ -1,38 +1,66 @@
-use Rattle.std.proofs.Common.{refl, IfOk, None}
+use Rattle.std.proofs.Common.{◌≡◌, ◌≢◌, ◌-◌, length, sym, refl, ◌∙◌, Some, None}
+use Rattle.cdf_area.proofs.Calls.{read_once, read_more, read_done}
+use Rattle.cdf_format.specs.Sealed.{image_of, trailer_length}
 use Rattle.cdf_check.specs.Verdicts.{JudgesStart, JudgesImage}
-use Rattle.cdf_check.proofs.PhaseSteps.{start_long, start_small, start_room, start_head, result_judged}
+use Rattle.cdf_check.proofs.PhaseSteps.{image_read, last_read, image_some, image_gdr, image_judged, unsealed_judged, seal_fits, seal_held, seal_broken}
 use Rattle.cdf_check.proofs.validator.check.Goals as goal
 
-pub read_unsigned8-requires : goal.read_unsigned8-requires
-read_unsigned8-requires g c =
+pub check_front-requires-clause-some : goal.check_front-requires-clause-some
+check_front-requires-clause-some g c =
     let f = g.A.Area.image c.args.area.now in
     let start : JudgesStart f None = rw c.in_default.is at c.in_ok-broken.ensures.verdict in
-    rw c.check_start.ensures.area.image (start_head f start)
+    rw (c.size.ensures, c.trailer_length-trailer.ensures, c.in_ok-cdr.ensures.value, c.read_cdr.ensures.area.image, c.check_start.ensures.area.image) (image_some f start)
 
-pub check_image-requires-clause-some : goal.check_image-requires-clause-some
-check_image-requires-clause-some g c =
+pub check_front-requires-clause-gdr : goal.check_front-requires-clause-gdr
+check_front-requires-clause-gdr g c =
     let f = g.A.Area.image c.args.area.now in
     let start : JudgesStart f None = rw c.in_default.is at c.in_ok-broken.ensures.verdict in
-    rw (c.read_unsigned8.ensures.area.image, c.check_start.ensures.area.image) (start_long f start)
+    rw (c.size.ensures, c.trailer_length-trailer.ensures, c.in_ok-cdr.ensures.value, c.read_cdr.ensures.area.image, c.check_start.ensures.area.image) (sym (image_gdr f start))
 
-pub check_image-requires-clause-small : goal.check_image-requires-clause-small
-check_image-requires-clause-small g c =
+pub returns-in-Some-2-clause-verdict : goal.returns-in-Some-2-clause-verdict
+returns-in-Some-2-clause-verdict g c =
     let f = g.A.Area.image c.args.area.now in
     let start : JudgesStart f None = rw c.in_default.is at c.in_ok-broken.ensures.verdict in
-    rw (c.read_unsigned8.ensures.area.image, c.check_start.ensures.area.image) (start_small f start)
+    let size : c.size.result - c.trailer_length-trailer.result ≡ length f - trailer_length f = rw (c.size.ensures, c.trailer_length-trailer.ensures, c.in_ok-cdr.ensures.value, c.read_cdr.ensures.area.image, c.check_start.ensures.area.image) refl in
+    let read : g.A.Area.image c.read_cdr.new.area ≡ f = c.read_cdr.ensures.area.image ∙ c.check_start.ensures.area.image in
+    image_judged f start c.in-Some-2.broken (image_read f read size (Some c.in-Some-2.broken) (rw c.in-Some-2.is at c.in_ok-broken-2.ensures.verdict))
 
-pub check_image-requires-clause-gdr : goal.check_image-requires-clause-gdr
-check_image-requires-clause-gdr g c = rw (c.in_ok-gdr.ensures.value, c.read_unsigned8.ensures.area.image) refl
-
-pub check_image-requires-clause-room : goal.check_image-requires-clause-room
-check_image-requires-clause-room g c =
+pub returns-then-trailer-eq0-clause-verdict : goal.returns-then-trailer-eq0-clause-verdict
+returns-then-trailer-eq0-clause-verdict g c =
     let f = g.A.Area.image c.args.area.now in
     let start : JudgesStart f None = rw c.in_default.is at c.in_ok-broken.ensures.verdict in
-    rw (c.in_ok-gdr.ensures.value, c.read_unsigned8.ensures.area.image, c.check_start.ensures.area.image) (start_room f start)
+    let size : c.size.result - c.trailer_length-trailer.result ≡ length f - trailer_length f = rw (c.size.ensures, c.trailer_length-trailer.ensures, c.in_ok-cdr.ensures.value, c.read_cdr.ensures.area.image, c.check_start.ensures.area.image) refl in
+    let read : g.A.Area.image c.read_cdr.new.area ≡ f = c.read_cdr.ensures.area.image ∙ c.check_start.ensures.area.image in
+    let image : JudgesImage (image_of f) None = image_read f read size None (rw c.in_default-2.is at c.in_ok-broken-2.ensures.verdict) in
+    unsealed_judged f start image (rw (c.trailer_length-trailer.ensures, c.in_ok-cdr.ensures.value, c.check_start.ensures.area.image) at c.if-trailer-eq0.true)
 
-pub returns-clause-verdict : goal.returns-clause-verdict
-returns-clause-verdict g c =
+pub check_trailer-requires : goal.check_trailer-requires
+check_trailer-requires g c =
     let f = g.A.Area.image c.args.area.now in
     let start : JudgesStart f None = rw c.in_default.is at c.in_ok-broken.ensures.verdict in
-    let judged : IfOk c.check_image.result (JudgesImage f) = rw (c.read_unsigned8.ensures.area.image, c.check_start.ensures.area.image) at c.check_image.ensures.verdict in
-    result_judged f start c.check_image.result judged
+    let some : trailer_length f ≢ 0 = rw (c.trailer_length-trailer.ensures, c.in_ok-cdr.ensures.value, c.check_start.ensures.area.image) at c.if-trailer-eq0.false in
+    rw (c.size.ensures, c.trailer_length-trailer.ensures, c.in_ok-cdr.ensures.value, c.check_front.ensures.area.image, c.read_cdr.ensures.area.image, c.check_start.ensures.area.image) (seal_fits f start some)
+
+pub returns-in-Some-3-clause-verdict : goal.returns-in-Some-3-clause-verdict
+returns-in-Some-3-clause-verdict g c =
+    let f = g.A.Area.image c.args.area.now in
+    let start : JudgesStart f None = rw c.in_default.is at c.in_ok-broken.ensures.verdict in
+    let size : c.size.result - c.trailer_length-trailer.result ≡ length f - trailer_length f = rw (c.size.ensures, c.trailer_length-trailer.ensures, c.in_ok-cdr.ensures.value, c.read_cdr.ensures.area.image, c.check_start.ensures.area.image) refl in
+    let read : g.A.Area.image c.read_cdr.new.area ≡ f = c.read_cdr.ensures.area.image ∙ c.check_start.ensures.area.image in
+    let image : JudgesImage (image_of f) None = image_read f read size None (rw c.in_default-2.is at c.in_ok-broken-2.ensures.verdict) in
+    let some : trailer_length f ≢ 0 = rw (c.trailer_length-trailer.ensures, c.in_ok-cdr.ensures.value, c.check_start.ensures.area.image) at c.if-trailer-eq0.false in
+    let broken = last_read f (c.check_front.ensures.area.image ∙ read) size (Some c.in-Some-3.finding) (rw c.in-Some-3.is at c.in_ok-finding.ensures.found) in
+    rw c.in_phase.ensures (seal_broken f start some image c.in-Some-3.finding.rule c.in-Some-3.finding.place broken)
+
+pub returns-in-Some-3-clause-area : goal.returns-in-Some-3-clause-area
+returns-in-Some-3-clause-area g c = read_done (read_more (read_more (read_more (read_once c.in_ok-broken.ensures.area) c.in_ok-cdr.ensures.area) c.in_ok-broken-2.ensures.area) c.in_ok-finding.ensures.area)
+
+pub returns-in-None-clause-verdict : goal.returns-in-None-clause-verdict
+returns-in-None-clause-verdict g c =
+    let f = g.A.Area.image c.args.area.now in
+    let start : JudgesStart f None = rw c.in_default.is at c.in_ok-broken.ensures.verdict in
+    let size : c.size.result - c.trailer_length-trailer.result ≡ length f - trailer_length f = rw (c.size.ensures, c.trailer_length-trailer.ensures, c.in_ok-cdr.ensures.value, c.read_cdr.ensures.area.image, c.check_start.ensures.area.image) refl in
+    let read : g.A.Area.image c.read_cdr.new.area ≡ f = c.read_cdr.ensures.area.image ∙ c.check_start.ensures.area.image in
+    let image : JudgesImage (image_of f) None = image_read f read size None (rw c.in_default-2.is at c.in_ok-broken-2.ensures.verdict) in
+    let some : trailer_length f ≢ 0 = rw (c.trailer_length-trailer.ensures, c.in_ok-cdr.ensures.value, c.check_start.ensures.area.image) at c.if-trailer-eq0.false in
+    seal_held f start some image (last_read f (c.check_front.ensures.area.image ∙ read) size None (rw c.in-None.is at c.in_ok-finding.ensures.found))

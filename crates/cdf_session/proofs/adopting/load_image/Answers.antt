@@ -1,0 +1,6 @@
+use Rattle.std.proofs.Common.{sym, subst}
+use Rattle.cdf_format.specs.WellFormed.{Good}
+use Rattle.cdf_session.proofs.adopting.load_image.Goals as goal
+
+pub load-requires : goal.load-requires
+load-requires g c = subst Good (sym c.new-image.ensures.image) c.requires
