@@ -1,11 +1,14 @@
 -- How a run over an area ends.
-use Rattle.std.proofs.Common.{◌≡◌, ℕ, Bool, true, false, List, Option, Result, Ok, Err, refl, sym, subst, inl, inr}
+use Rattle.std.proofs.Common.{◌≡◌, ℕ, Bool, true, false, List, Option, Result, Ok, Err, refl, sym, ◌∙◌, ap, subst, inl, inr}
+use Rattle.std.specs.Prelude.{IfOk}
 use Rattle.cdf_area.specs.declared.area.AreaError.{AreaError}
 use Rattle.cdf_area.specs.declared.area.AreaError.TheVariants as areas
 use Rattle.cdf_check.specs.declared.verdict.Broken.{Broken}
+use Rattle.cdf_format.specs.WellFormed.{WellFormed}
 use Rattle.cdf_model.specs.Texts.{rejected_text}
 use Rattle.cdf_session.specs.declared.refusal.AdoptError.{AdoptError}
 use Rattle.cdf_session.specs.declared.refusal.AdoptError.TheVariants as errors
+use Rattle.cdf_store.specs.Disk.{Disk, file_of}
 use Rattle.cdf_tool.specs.declared.status.Status.{Status}
 use Rattle.cdf_tool.specs.declared.status.Status.TheVariants as statuses
 use Rattle.cdf_tool.specs.Areas.{Refuses, EndsOver}
@@ -68,3 +71,15 @@ module _ (space : Bool) (before left first now : Option (List ℕ)) (end : List 
   pub over_file : (new : Bool) (held file : List ℕ) (outcome : Result Bool Status) → (new ≡ false → held ≡ file) → EndsOver new space held before left first now end outcome → EndsOver new space file before left first now end outcome
   over_file true held file outcome same ends = over_new held file outcome ends
   over_file false held file outcome same ends = subst (λ (f : List ℕ). EndsOver false space f before left first now end outcome) (same refl) ends
+
+-- the file that is opened, and not made, is well formed
+opened_holds : (new space : Bool) (file : List ℕ) (before left first now : Option (List ℕ)) (end : List ℕ) (outcome : Result Bool Status) → new ≡ false → EndsOver new space file before left first now end outcome → IfOk outcome (λ _. WellFormed file)
+opened_holds true space file before left first now end outcome is ends = absurd (cc is)
+opened_holds false space file before left first now end (Ok refused) is f = f.opens.0
+opened_holds false space file before left first now end (Err status) is ends = tt
+
+-- and so is the one that is still attached once the script is answered
+pub attached_holds : {U : Type 0} (new space : Bool) (held : List ℕ) (d at : Disk U) (before left first now : Option (List ℕ)) (end : List ℕ) (outcome : Result Bool Status) → (new ≡ false → held ≡ file_of d) → at ≡ d → EndsOver new space held before left first now end outcome
+    → new ≡ false → IfOk outcome (λ _. WellFormed (file_of at))
+attached_holds new space held d at before left first now end outcome same is over old =
+    subst (λ (f : List ℕ). IfOk outcome (λ _. WellFormed f)) (same old ∙ sym (ap (λ (x : Disk _). file_of x) is)) (opened_holds new space held before left first now end outcome old over)

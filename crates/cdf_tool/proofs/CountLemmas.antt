@@ -8,7 +8,7 @@ use Rattle.cdf_base.specs.Causes.{HasCauseOf, Rose}
 use Rattle.cdf_check.specs.declared.verdict.Broken.{Broken}
 use Rattle.cdf_session.specs.declared.refusal.AdoptError.{AdoptError}
 use Rattle.cdf_session.specs.declared.refusal.AdoptError.TheVariants as errors
-use Rattle.cdf_model.specs.Words.{Asked}
+use Rattle.cdf_tool.specs.Asking.{Asked}
 use Rattle.cdf_session.specs.Sessions.{Explains}
 use Rattle.cdf_store.specs.Disk.{Disk}
 use Rattle.cdf_tool.specs.Areas.{EndsSaving, EndsStored}
@@ -77,7 +77,7 @@ counts_reads : (r w o s r' w' o' s' : ℕ) → counts r' w' o' s' ≡ counts r w
 counts_reads r w o s r' w' o' s' same = ap (λ (c : Counts). c.reads) same
 
 -- a run over an area that stopped, and wrote nothing to the store
-stopped_counted : (status : Status) (r w o s r' w' o' s' : ℕ) → Counted (counts r 0 o s) (counts r' 0 o' s') status → w' ≡ w → Counted (counts r w o s) (counts r' w' o' s') status
+pub stopped_counted : (status : Status) (r w o s r' w' o' s' : ℕ) → Counted (counts r 0 o s) (counts r' 0 o' s') status → w' ≡ w → Counted (counts r w o s) (counts r' w' o' s') status
 stopped_counted statuses.StoreReadFault r w o s r' w' o' s' (same, rose) writes = (λ i. counts r' (writes i) (same i).output (same i).source, rose)
 stopped_counted statuses.OutputFault r w o s r' w' o' s' (same, later, rose) writes = (λ i. counts r' (writes i) o' (same i).source, later, rose)
 stopped_counted statuses.ScriptFault r w o s r' w' o' s' (same, rose) writes = (λ i. counts (same i).reads (writes i) (same i).output s', rose)
@@ -164,7 +164,7 @@ no_write c now o s o' s' outcome counted is = never_writes c o s now o' s' (subs
 -- ---- a whole run
 
 -- only a saving that fails counts a write
-writes_stay : (status : Status) (c now : Counts) → (status ≡ statuses.StoreWriteFault → ⊥) → Counted c now status → now.writes ≡ c.writes
+pub writes_stay : (status : Status) (c now : Counts) → (status ≡ statuses.StoreWriteFault → ⊥) → Counted c now status → now.writes ≡ c.writes
 writes_stay statuses.StoreWriteFault c now not_so counted = absurd (not_so refl)
 writes_stay statuses.StoreReadFault c now not_so counted = ap (λ (k : Counts). k.writes) counted.0
 writes_stay statuses.OutputFault c now not_so counted = ap (λ (k : Counts). k.writes) counted.0

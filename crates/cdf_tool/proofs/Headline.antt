@@ -9,7 +9,7 @@ use Rattle.cdf_model.specs.Limits.{image_limit, script_limit}
 use Rattle.cdf_model.specs.Lines.{lines}
 use Rattle.cdf_model.specs.Turns.{State, start}
 use Rattle.cdf_session.specs.Run.{flagged, run_on, run_of}
-use Rattle.cdf_model.specs.Words.{Asked}
+use Rattle.cdf_tool.specs.Asking.{Asked}
 use Rattle.cdf_tool.specs.declared.status.Status.{Status}
 use Rattle.cdf_tool.specs.declared.status.Status.TheVariants as statuses
 use Rattle.cdf_tool.specs.Accepts.{Accepted, Accepts}
@@ -129,4 +129,4 @@ named_accepted a d d' script written left now status (inr (inr r)) is = runs_acc
 pub accepts : {U : Type 0} (a : Asked) (d d' : Disk U) (before left first now : Option (List ℕ)) (status : Status) → EndsNamed a d d' before left first now status → Accepts (Some a) d d' before left first now status
 accepts a d d' None left first now status ends = tt
 accepts a d d' (Some script) left None now status ends = tt
-accepts a d d' (Some script) left (Some written) now status ends = named_accepted a d d' script written left now status ends
+accepts a d d' (Some script) left (Some written) now status ends = λ unchecked. named_accepted a d d' script written left now status ends

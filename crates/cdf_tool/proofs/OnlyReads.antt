@@ -1,12 +1,11 @@
 -- A script that only reads.
-use Rattle.std.proofs.Common.{◌≡◌, ◌≤◌, ℕ, Bool, true, false, List, ◌++◌, Option, Some, None, Ok, Err, OnOk, Result, refl, sym, ◌∙◌, ap, inl, inr, append-nil, length, arith}
+use Rattle.std.proofs.Common.{◌≡◌, ℕ, Bool, true, false, List, ◌++◌, Option, Some, None, Ok, Err, OnOk, Result, refl, sym, ◌∙◌, ap, inl, inr, append-nil}
 use Rattle.std.specs.Io.KnownBytes.{Consumes}
 use Rattle.std.proofs.lemmas.List.Folds.{list_all-append}
 use Rattle.cdf_area.specs.Calls.{Stays}
 use Rattle.cdf_area.specs.Frame.{Frame}
 use Rattle.cdf_edits.specs.Answers.{MovesIf, is_full}
 use Rattle.cdf_edits.specs.Follows.{only_reads}
-use Rattle.cdf_format.proofs.Images.{image_of-whole}
 use Rattle.cdf_format.proofs.Tests.{both}
 use Rattle.cdf_lines.specs.Pending.{Pending, last_of, new_lines}
 use Rattle.cdf_lines.proofs.Pieces.{whole_lines-append, lines-split}
@@ -14,12 +13,10 @@ use Rattle.cdf_model.specs.declared.answer.Outcome.{Outcome}
 use Rattle.cdf_model.specs.declared.command.Command.{Command}
 use Rattle.cdf_model.specs.Answers.{is_accepted}
 use Rattle.cdf_model.specs.Lines.{split, kept, lines, whole_lines}
-use Rattle.cdf_pages.specs.Saving.{IsSavedAlready}
 use Rattle.cdf_session.specs.Sessions.{AnswersBuilt}
-use Rattle.cdf_store.specs.Disk.{Disk, file_of}
+use Rattle.cdf_store.specs.Disk.{Disk}
 use Rattle.cdf_store.specs.Named.{AttachesIn, files_attached}
 use Rattle.cdf_tool.specs.declared.status.Status.{Status}
-use Rattle.cdf_tool.specs.Ends.{Opens}
 use Rattle.cdf_tool.specs.Reading.{IfReads, WritesNothing, all_read, line_reads}
 use Rattle.cdf_tool.specs.Replay.{GivesNext, Passes}
 use Rattle.cdf_tool.proofs.Standing.{HasTaken, IsReady}
@@ -125,18 +122,6 @@ nothing_before d at d' before then now status files touched writes none = record
 
 pub nothing_from : {U : Type 0} (d at d' : Disk U) (before then now : ℕ) (status : Status) → at ≡ d → then ≡ before → WritesNothing at d' then now status → WritesNothing d d' before now status
 nothing_from d at d' before then now status same writes none = nothing_before d at d' before then now status (ap (λ (x : Disk _). x.files) same) (ap (λ (x : Disk _). x.touched) same) writes none
-
--- an image that was not edited and is the file
-pub saved_already : {U : Type 0} (edited : Bool) (at d : Disk U) (image : List ℕ) → edited ≡ false → at ≡ d → image ≡ file_of d → IsSavedAlready edited (file_of at) image None
-saved_already edited at d image unedited same is = record { unedited = unedited; short = le_of_eq (length (file_of at)) (length image) (ap (λ (x : Disk _). length (file_of x)) same ∙ sym (ap (λ (l : List ℕ). length l) is)); no_tail = refl }
-  where
-    le_of_eq : (m n : ℕ) → m ≡ n → m ≤ n
-    le_of_eq m n e = omega (arith, e)
-
--- a file that is no new one is opened as it is
-pub opened_same : (new : Bool) (file image : List ℕ) → new ≡ false → Opens new file image → image ≡ file
-opened_same true file image is opens = absurd (cc is)
-opened_same false file image is opens = opens.1 ∙ image_of-whole file opens.0
 
 pub on_ok_reads : {T E : Type 0} (outcome : Result T E) (before : Option (List ℕ)) (P Q : Type 0) → (P → Q) → OnOk outcome (IfReads before P) → OnOk outcome (IfReads before Q)
 on_ok_reads (Ok value) before P Q more reads = if_reads_map before P Q more reads

@@ -1,5 +1,5 @@
 -- What follows from how a run ends.
-use Rattle.std.proofs.Common.{◌≡◌, ◌⊎◌, ℕ, ◌+◌, ◌-◌, ◌<◌, ◌≤◌, Bool, true, false, List, length, Option, Some, None, refl, sym, ◌∙◌, ap, subst, inl, inr, arith, length-append}
+use Rattle.std.proofs.Common.{◌≡◌, ◌⊎◌, ℕ, ◌+◌, ◌-◌, ◌<◌, ◌≤◌, Bool, true, false, List, [], length, Option, Some, None, refl, sym, ◌∙◌, ap, subst, inl, inr, arith, length-append}
 use Rattle.std.specs.Prelude.{IfSome}
 use Rattle.std.specs.Io.KnownBytes.{Consumes}
 use Rattle.cdf_store.specs.Disk.{Disk}
@@ -8,15 +8,17 @@ use Rattle.cdf_format.specs.WellFormed.{WellFormed}
 use Rattle.cdf_format.specs.Phases.{all_phases}
 use Rattle.cdf_format.proofs.Verdicts.{excluded}
 use Rattle.cdf_model.specs.Limits.{image_limit, script_limit}
-use Rattle.cdf_model.specs.Words.{Asked}
+use Rattle.cdf_tool.specs.Asking.{Asked}
 use Rattle.cdf_tool.specs.declared.status.Status.{Status}
 use Rattle.cdf_tool.specs.declared.status.Status.TheVariants as statuses
+use Rattle.std.proofs.KnownBytes.{Consumes-nil}
+use Rattle.cdf_tool.specs.Checking.{Accepted, EndsChecked}
 use Rattle.cdf_tool.specs.Due.{CanBegin, IsGood}
 use Rattle.cdf_tool.specs.Ends.{Opens, Completes, Runs, EndsUnread, EndsWithout, Without, EndsNamed}
 use Rattle.cdf_tool.specs.Says.{Rejects, Names, SaysUsage}
 use Rattle.cdf_tool.specs.Script.{Finishes}
 use Rattle.cdf_tool.specs.Statuses.{IsDone, IsFailure, Exactly}
-use Rattle.cdf_tool.specs.Stored.{Kept, StoredBy}
+use Rattle.cdf_tool.specs.Stored.{Attached, Kept, StoredBy}
 use Rattle.cdf_tool.proofs.RunStore.{found_lookup_in, kept_attached}
 
 -- ---- statuses
@@ -43,7 +45,7 @@ unasked_status first now statuses.NoFile ends = absurd ends
 unasked_status first now statuses.Rejected ends = absurd ends
 unasked_status first now statuses.StoreReadFault ends = absurd ends
 unasked_status first now statuses.StoreWriteFault ends = absurd ends
-unasked_status first now statuses.NoMemory ends = absurd ends
+unasked_status first now statuses.NoMemory ends = inr tt
 unasked_status first now statuses.ScriptFault ends = absurd ends
 unasked_status first now statuses.ScriptTooLong ends = absurd ends
 
@@ -129,22 +131,54 @@ module _ {U : Type 0} (a : Asked) (d d' : Disk U) (before left first now : Optio
   runs_came file image statuses.SomeRefused opens r = completes_came file image true statuses.SomeRefused tt opens r
   runs_came file image statuses.StoreWriteFault opens r = failed tt (read_whole r.finishes.finishes)
   runs_came file image statuses.StoreReadFault opens (k, inl h) = failed tt (inr (h.taken, h.consumed, h.how.0))
-  runs_came file image statuses.StoreReadFault opens (k, inr l) = failed tt (read_whole l.finishes)
+  runs_came file image statuses.StoreReadFault opens (k, inr (inl l)) = failed tt (read_whole l.finishes)
+  runs_came file image statuses.StoreReadFault opens (k, inr (inr l)) = failed tt (read_whole l.finishes.finishes)
   runs_came file image statuses.OutputFault opens (k, inl h) = failed tt (inr (h.taken, h.consumed, h.how.0))
-  runs_came file image statuses.OutputFault opens (k, inr l) = failed tt (read_whole l.finishes)
+  runs_came file image statuses.OutputFault opens (k, inr (inl l)) = failed tt (read_whole l.finishes)
+  runs_came file image statuses.OutputFault opens (k, inr (inr l)) = absurd l.stops
   runs_came file image statuses.NoMemory opens (k, inl (inl h)) = failed tt (inr (h.taken, h.consumed, h.how.0))
-  runs_came file image statuses.NoMemory opens (k, inl (inr l)) = failed tt (read_whole l.finishes)
+  runs_came file image statuses.NoMemory opens (k, inl (inr (inl l))) = failed tt (read_whole l.finishes)
+  runs_came file image statuses.NoMemory opens (k, inl (inr (inr l))) = failed tt (read_whole l.finishes.finishes)
   runs_came file image statuses.NoMemory opens (k, inr u) = failed tt (read_whole u.finishes.finishes)
   runs_came file image statuses.ScriptFault opens (k, inl h) = failed tt (inr (h.taken, h.consumed, h.how.0))
-  runs_came file image statuses.ScriptFault opens (k, inr l) = absurd l.stops
+  runs_came file image statuses.ScriptFault opens (k, inr (inl l)) = absurd l.stops
+  runs_came file image statuses.ScriptFault opens (k, inr (inr l)) = absurd l.stops
   runs_came file image statuses.ScriptTooLong opens (k, inl h) = ran file h.taken (kept_ran file image opens k) (kept_well file image opens k) h.consumed (inr (h.how.long, refl))
-  runs_came file image statuses.ScriptTooLong opens (k, inr l) = absurd l.stops
+  runs_came file image statuses.ScriptTooLong opens (k, inr (inl l)) = absurd l.stops
+  runs_came file image statuses.ScriptTooLong opens (k, inr (inr l)) = absurd l.stops
   runs_came file image statuses.Usage opens (k, inl h) = absurd h.how
-  runs_came file image statuses.Usage opens (k, inr l) = absurd l.stops
+  runs_came file image statuses.Usage opens (k, inr (inl l)) = absurd l.stops
+  runs_came file image statuses.Usage opens (k, inr (inr l)) = absurd l.stops
   runs_came file image statuses.NoFile opens (k, inl h) = absurd h.how
-  runs_came file image statuses.NoFile opens (k, inr l) = absurd l.stops
+  runs_came file image statuses.NoFile opens (k, inr (inl l)) = absurd l.stops
+  runs_came file image statuses.NoFile opens (k, inr (inr l)) = absurd l.stops
   runs_came file image statuses.Rejected opens (k, inl h) = absurd h.how
-  runs_came file image statuses.Rejected opens (k, inr l) = absurd l.stops
+  runs_came file image statuses.Rejected opens (k, inr (inl l)) = absurd l.stops
+  runs_came file image statuses.Rejected opens (k, inr (inr l)) = absurd l.stops
+
+  -- a file that is no new one
+  attached_old : (file : List ℕ) → a.new ≡ false → Attached a file d d' → IsOld a d.files (Some file)
+  attached_old file old at = record { old = old; found = found_lookup_in a.new a.name file d.files old at.found }
+
+  accepted_came : (file : List ℕ) (status : Status) → a.new ≡ false → Attached a file d d' → left ≡ before → Accepted a.space file first now status → Came a d d' before left first now status
+  accepted_came file statuses.Done old at none (good, says) =
+      ran file [] (λ _. (good, attached_old file old at)) (λ _ held is. subst (λ (f : List ℕ). WellFormed f) (some_same file held (sym at.held ∙ is)) good)
+      (subst (λ (l : Option (List ℕ)). Consumes before l []) (sym none) (Consumes-nil before)) (inl (omega arith, tt))
+  accepted_came file statuses.OutputFault old at none (good, says) = failed tt (inl none)
+  accepted_came file statuses.StoreReadFault old at none (good, says) = failed tt (inl none)
+  accepted_came file statuses.NoMemory old at none (good, says) = failed tt (inl none)
+  accepted_came file statuses.SomeRefused old at none (good, says) = absurd says
+  accepted_came file statuses.Usage old at none (good, says) = absurd says
+  accepted_came file statuses.NoFile old at none (good, says) = absurd says
+  accepted_came file statuses.Rejected old at none (good, says) = absurd says
+  accepted_came file statuses.StoreWriteFault old at none (good, says) = absurd says
+  accepted_came file statuses.ScriptFault old at none (good, says) = absurd says
+  accepted_came file statuses.ScriptTooLong old at none (good, says) = absurd says
+
+  pub checked_came : (status : Status) → a.new ≡ false → EndsChecked a d d' before left first now status → Came a d d' before left first now status
+  checked_came status old (inl w) = without_came status w w.ends
+  checked_came status old (inr (inl u)) = unread_came u.file status u.kept u.none_read u.ends
+  checked_came status old (inr (inr c)) = accepted_came c.file status old c.attached c.none_read c.accepted
 
   pub came : (status : Status) → EndsNamed a d d' before left first now status → Came a d d' before left first now status
   came status (inl w) = without_came status w w.ends

@@ -3,7 +3,7 @@ use Rattle.std.proofs.Common.{◌≡◌, ℕ, Bool, true, false, List, Option, S
 use Rattle.std.specs.Prelude.{IfSome}
 use Rattle.cdf_store.specs.Disk.{Disk}
 use Rattle.cdf_store.specs.Named.{found_or_made, lookup}
-use Rattle.cdf_model.specs.Words.{Asked}
+use Rattle.cdf_tool.specs.Asking.{Asked}
 use Rattle.cdf_tool.specs.Stored.{Attached, KeptBy}
 
 -- it is the one under the name

@@ -1,23 +1,29 @@
 -- What becomes of the store.
-use Rattle.std.proofs.Common.{◌≡◌, ℕ, Bool, true, false, List, [], ◌∷◌, ◌++◌, ◌+◌, ◌≤◌, append-nil, length, length-append, arith, Option, Some, None, refl, sym, ◌∙◌, ap, subst}
-use Rattle.std.specs.Prelude.{◌&&◌, bytes_eq, is_some, nat_le, if◌then◌else◌, IfSome}
+use Rattle.std.proofs.Common.{◌≡◌, ℕ, Bool, true, false, List, [], ◌∷◌, ◌++◌, ◌+◌, ◌-◌, ◌≤◌, length, take, arith, Option, Some, None, Ok, refl, sym, ◌∙◌, ap, subst}
+use Rattle.std.specs.Prelude.{◌&&◌, bytes_eq, is_some, if◌then◌else◌, IfSome, IsSome}
 use Rattle.std.specs.Option.{option_map}
 use Rattle.std.proofs.lemmas.Slice.Eq.{bytes_eq-Decides}
-use Rattle.cdf_store.specs.Disk.{Disk, file_in, files_with}
+use Rattle.cdf_store.specs.Disk.{Disk, IsWhole, file_in, file_of, files_with}
 use Rattle.cdf_store.specs.Named.{files_attached, found_or_made, lookup, with_file}
-use Rattle.cdf_pages.specs.Saving.{Holds, HoldsBetween, IsBetween}
-use Rattle.cdf_format.specs.Fields.{gdr_offset}
-use Rattle.cdf_format.specs.Sealed.{has_checksum, sealed, trailer}
-use Rattle.cdf_format.proofs.ImageOf.{image_of-sealed}
-use Rattle.cdf_format.proofs.Images.{image_of-whole}
-use Rattle.cdf_format.proofs.Tests.{both, le_of}
+use Rattle.cdf_pages.specs.Saving.{Holds, HoldsBetween, IsBetween, tail_bytes}
+use Rattle.cdf_pages.proofs.Disks.{holds_first}
+use Rattle.cdf_format.specs.Fields.{gdr_offset, eof, word}
+use Rattle.cdf_format.specs.Sealed.{has_checksum, image_of, sealed, trailer_length}
+use Rattle.cdf_format.specs.Shape.{shape}
+use Rattle.cdf_format.proofs.FileRecords.{gdr_holds}
+use Rattle.cdf_format.proofs.GoodHead.{gdr_fits}
+use Rattle.cdf_format.proofs.GoodSound.{good_by_its_shape, good_eof}
+use Rattle.cdf_format.proofs.ImageOf.{sealed_is_file}
+use Rattle.cdf_format.proofs.Pieces.{word-piece}
+use Rattle.cdf_format.proofs.SealedRules.{good_long}
+use Rattle.cdf_format.proofs.Tests.{eq_of}
 use Rattle.md5.specs.Md5.{md5}
-use Rattle.md5.proofs.StandardFacts.{length-md5}
-use Rattle.cdf_format.specs.WellFormed.{Good}
-use Rattle.cdf_model.specs.Words.{Asked}
+use Rattle.cdf_session.specs.Seals.{seal_of}
+use Rattle.cdf_format.specs.WellFormed.{Good, WellFormed}
+use Rattle.cdf_tool.specs.Asking.{Asked}
 use Rattle.std.proofs.Math.Path.{transport}
 use Rattle.cdf_tool.specs.declared.status.Status.{Status}
-use Rattle.cdf_tool.specs.Areas.{EndsSaving}
+use Rattle.cdf_tool.specs.Areas.{EndsSaving, EndsStored}
 use Rattle.cdf_tool.specs.Statuses.{status_of}
 use Rattle.cdf_tool.specs.Stored.{Attached, KeptBy, Replaced, Spoiled}
 
@@ -54,9 +60,9 @@ pub found_file : (make : Bool) (name : List ℕ) (held : Option (List ℕ)) (fil
 found_file make name held file None is known = tt
 found_file make name held file (Some fs) is known = sym known ∙ is
 
-module _ {U : Type 0} (new no_save space : Bool) (name file : List ℕ) (d at d' : Disk U) where
+module _ {U : Type 0} (new check no_save space : Bool) (name file : List ℕ) (d at d' : Disk U) where
   abbrev asked : Asked
-  asked = record { new = new; no_save = no_save; space = space; name = name }
+  asked = record { new = new; check = check; no_save = no_save; space = space; name = name }
 
   -- nothing was written
   pub kept : (new ≡ true → no_save ≡ false) → Attached asked file d at → d' ≡ at → KeptBy new no_save asked file d d'
@@ -88,33 +94,52 @@ module _ {U : Type 0} (new no_save space : Bool) (name file : List ℕ) (d at d'
 
 -- ---- an image as it is saved
 
-short_trailer : (b : List ℕ) (t : Bool) → length (if t then md5 b else []) ≤ 16
-short_trailer b true = omega (arith, length-md5 b)
-short_trailer b false = omega arith
+-- its checksum stands behind it where it has one
+seal_is : (b : List ℕ) (seal : Option (List ℕ)) → seal ≡ seal_of b → b ++ tail_bytes seal ≡ sealed b
+seal_is b seal is = ap (λ (s : Option (List ℕ)). b ++ tail_bytes s) is ∙ ap (λ (t : List ℕ). b ++ t) (bytes (has_checksum b))
+  where
+    bytes : (used : Bool) → tail_bytes (if used then Some (md5 b) else None) ≡ (if used then md5 b else [])
+    bytes true = refl
+    bytes false = refl
 
--- nothing stands behind an image so far, since no checksum is read
-pub sealed_is : (b : List ℕ) → Good b → sealed b ≡ b
-sealed_is b good =
-    let f = sealed b in
-    let room = both (nat_le 8 (gdr_offset f)) (nat_le (gdr_offset f + 84) (length f)) good.1.1.1.0.0 in
-    let first : 8 ≤ gdr_offset f = le_of 8 (gdr_offset f) room.0 in
-    let second : gdr_offset f + 84 ≤ length f = le_of (gdr_offset f + 84) (length f) room.1 in
-    let whole : length f ≡ length b + length (trailer b) = length-append b (trailer b) in
-    let long : 44 ≤ length b = omega (arith, first, second, whole, short_trailer b (has_checksum b)) in
-    sym (image_of-whole f good) ∙ image_of-sealed b long
+-- the front of a well-formed file that is good is its image
+front_is_image : (f b : List ℕ) → WellFormed f → Good b → b ≡ take (length b) f → b ≡ image_of f
+front_is_image f b holds good front =
+    let n = length b in
+    let long : 44 ≤ n = good_long b (shape b) (good_by_its_shape b good) in
+    let fits = gdr_fits b good in
+    let place : gdr_offset b ≡ gdr_offset f = ap gdr_offset front ∙ word-piece f 0 20 8 n (omega arith) in
+    let from : 0 + (gdr_offset b + 36) ≡ gdr_offset b + 36 = omega arith in
+    let here : eof b (gdr_offset b) ≡ eof f (gdr_offset b) = ap (λ (x : List ℕ). eof x (gdr_offset b)) front ∙ word-piece f 0 (gdr_offset b + 36) 8 n (omega arith) ∙ ap (λ (k : ℕ). word f k 8) from in
+    let end : eof f (gdr_offset f) ≡ length f - trailer_length f = eq_of (eof f (gdr_offset f)) (length f - trailer_length f) (gdr_holds f holds).1.1.0 in
+    let size : n ≡ length f - trailer_length f = sym (good_eof b good) ∙ here ∙ ap (eof f) place ∙ end in
+    front ∙ ap (λ (k : ℕ). take k f) size
+
+-- so an image that is the front of such a file is saved already
+pub saved_already : {U : Type 0} (d : Disk U) (b : List ℕ) → IsWhole d → IsSome d.held → WellFormed (file_of d) → Good b → b ≡ take (length b) (file_of d) → Holds d (sealed b) d
+saved_already d b whole held holds good front =
+    let f = file_of d in
+    let bytes : f ≡ sealed b = sym (sealed_is_file f holds) ∙ sym (ap sealed (front_is_image f b holds good front)) in
+    subst (λ (file : List ℕ). Holds d file d) bytes (holds_first d whole held)
 
 -- ---- a saving
 
-module _ {U : Type 0} (end : List ℕ) (d d' now : Disk U) (good : Good end) (same : d' ≡ now) where
-  bytes_are : end ++ [] ≡ sealed end
-  bytes_are = append-nil end ∙ sym (sealed_is end good)
+module _ {U : Type 0} (end : List ℕ) (seal : Option (List ℕ)) (d d' now : Disk U) (is : seal ≡ seal_of end) (same : d' ≡ now) where
+  bytes_are : end ++ tail_bytes seal ≡ sealed end
+  bytes_are = seal_is end seal is
 
-  pub saved_done : (refused : Bool) (status : Status) → status ≡ status_of refused → Holds d (end ++ []) now → EndsSaving refused end d d' status
-  saved_done true status is holds = subst (λ (s : Status). EndsSaving true end d d' s) (sym is) (refl, transport (λ i. Holds d (bytes_are i) (sym same i)) holds)
-  saved_done false status is holds = subst (λ (s : Status). EndsSaving false end d d' s) (sym is) (refl, transport (λ i. Holds d (bytes_are i) (sym same i)) holds)
+  pub saved_done : (refused : Bool) (status : Status) → status ≡ status_of refused → Holds d (end ++ tail_bytes seal) now → EndsSaving refused end d d' status
+  saved_done true status ends holds = subst (λ (s : Status). EndsSaving true end d d' s) (sym ends) (refl, transport (λ i. Holds d (bytes_are i) (sym same i)) holds)
+  saved_done false status ends holds = subst (λ (s : Status). EndsSaving false end d d' s) (sym ends) (refl, transport (λ i. Holds d (bytes_are i) (sym same i)) holds)
 
-  pub saved_in_part : HoldsBetween d (end ++ []) now → HoldsBetween d (sealed end) d'
+  pub saved_in_part : HoldsBetween d (end ++ tail_bytes seal) now → HoldsBetween d (sealed end) d'
   saved_in_part holds = transport (λ i. HoldsBetween d (bytes_are i) (sym same i)) holds
+
+-- nothing was written, since that is not asked for, or the file is the image already
+pub stored_same : {U : Type 0} (no_save : Bool) (end : List ℕ) (d d' : Disk U) (refused : Bool) (status : Status) → d' ≡ d → status ≡ status_of refused → (no_save ≡ false → Holds d (sealed end) d) → EndsStored no_save end d d' (Ok refused) status
+stored_same true end d d' refused status same is already = (is, same)
+stored_same false end d d' true status same is already = subst (λ (s : Status). EndsSaving true end d d' s) (sym is) (refl, subst (Holds d (sealed end)) (sym same) (already refl))
+stored_same false end d d' false status same is already = subst (λ (s : Status). EndsSaving false end d d' s) (sym is) (refl, subst (Holds d (sealed end)) (sym same) (already refl))
 
 -- ---- what is asked for
 

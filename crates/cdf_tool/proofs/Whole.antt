@@ -11,7 +11,7 @@ use Rattle.cdf_model.specs.declared.answer.Reason.{Reason}
 use Rattle.cdf_model.specs.declared.answer.Reason.TheVariants as reasons
 use Rattle.cdf_model.specs.declared.answer.Reply.TheVariants as replies
 use Rattle.cdf_model.specs.declared.command.Command.{Command}
-use Rattle.cdf_model.specs.declared.command.Command.TheVariants.{Info, List as Lists, Attr, RenameAttr, DelAttr, PutEntry, GetEntry, DelEntry}
+use Rattle.cdf_model.specs.declared.command.Command.TheVariants.{Info, List as Lists, Attr, RenameAttr, DelAttr, PutEntry, GetEntry, DelEntry, Checksum}
 use Rattle.cdf_model.specs.declared.kinds.Scope.{Scope}
 use Rattle.cdf_model.specs.declared.data_type.DataType.{DataType}
 use Rattle.cdf_model.specs.declared.kinds.EntryKind.{EntryKind}
@@ -100,4 +100,5 @@ can_be_written limit b (PutEntry attr kind num t words) o now a = from_answers l
 can_be_written limit b (DelEntry attr kind num) o now a = from_answers limit b (DelEntry attr kind num) o now (del_entry_step (content b) attr kind num) refl (del_entry_whole (content b) attr kind num) a
 can_be_written limit b (GetEntry attr kind num) o now a =
     subst CanBeWritten (sym a.outcome_is) (entry_written b attr kind num now a.answer (is_full limit b (GetEntry attr kind num) a.answer) (by_step (get_entry_step (content b) attr kind num) a.answer a.step_is) a.moves)
+can_be_written limit b (Checksum md5) o now a = from_answers limit b (Checksum md5) o now (Go (record (content b) { md5 = md5 }) replies.Plain) refl tt a
 can_be_written limit b c o now a = subst CanBeWritten (sym a.0) tt

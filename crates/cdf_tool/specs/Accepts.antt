@@ -1,12 +1,12 @@
 -- What a run over devices that tell their bytes comes to, where nothing failed.
-use Rattle.std.specs.Prelude.{◌≡◌, ◌↔◌, ◌≤◌, ℕ, List, [], ◌++◌, length, Bool, true, Some, None}
+use Rattle.std.specs.Prelude.{◌≡◌, ◌↔◌, ◌≤◌, ℕ, List, [], ◌++◌, length, Bool, true, false, Some, None}
 use Rattle.std.specs.declared.option.Option.{Option}
 use Rattle.cdf_store.specs.Disk.{Disk}
 use Rattle.cdf_format.specs.Content.{content}
 use Rattle.cdf_session.specs.History.{History}
 use Rattle.cdf_model.specs.Limits.{image_limit, script_limit}
 use Rattle.cdf_session.specs.Run.{run_of}
-use Rattle.cdf_model.specs.Words.{Asked}
+use Rattle.cdf_tool.specs.Asking.{Asked}
 use Rattle.cdf_tool.specs.declared.status.Status.{Status}
 use Rattle.cdf_tool.specs.declared.status.Status.TheVariants as statuses
 use Rattle.cdf_tool.specs.Ends.{Opens}
@@ -28,8 +28,8 @@ pub record Accepted {U : Type 0} (a : Asked) (d d' : Disk U) (script : List ℕ)
   pub refused : (status ≡ statuses.SomeRefused) ↔ ((run_of (content image) [] script full).refused ≡ true)
   pub stored : Stored a file end d d'
 
--- with status 0 or 1, over a source and a sink that tell their bytes
+-- with status 0 or 1 and no check, over a source and a sink that tell their bytes
 abbrev pub Accepts : {U : Type 0} → Option Asked → Disk U → Disk U → Option (List ℕ) → Option (List ℕ) → Option (List ℕ) → Option (List ℕ) → Status → Type 0
 Accepts None d d' before left first now status = IsDone status → ⊥
-Accepts (Some a) d d' (Some script) left (Some written) now status = IsDone status → Accepted a d d' script left written now status
+Accepts (Some a) d d' (Some script) left (Some written) now status = a.check ≡ false → IsDone status → Accepted a d d' script left written now status
 Accepts (Some a) d d' before left first now status = Unit {0}

@@ -1,46 +1,69 @@
--- What the words of the command line ask for, read one after the other (own).
-use Rattle.std.specs.Prelude.{ℕ, List, Bool, true, false, is_some, if◌then◌else◌, Some, None}
+-- What the words of the command line ask for (own).
+use Rattle.std.specs.Prelude.{ℕ, List, [], ◌∷◌, ◌++◌, Bool, true, false, not, ◌&&◌, ◌||◌, ◌==◌, bytes_eq, codes, if◌then◌else◌, Some, None}
+use Rattle.std.specs.List.{after_first, before_first, filter}
 use Rattle.std.specs.declared.option.Option.{Option}
-use Rattle.std.specs.List.{fold}
-use Rattle.std.specs.Option.{option_and_then, option_map}
-use Rattle.cdf_model.specs.Words.{Asked, is_end, is_flag, is_new, is_no_save, is_space}
+use Rattle.std.specs.Option.{option_and_then}
+use Rattle.cdf_model.specs.Names.{is_among}
 use Rattle.cdf_tool.specs.declared.words.Asked.{Asked as AskedWords}
-use Rattle.cdf_tool.specs.declared.words.Asking.{Asking as ReadWords}
 
-abbrev pub asked_for : AskedWords → Asked
-asked_for words = record { new = words.new; no_save = words.no_save; space = words.space; name = words.name.now }
-
--- what the words read so far ask for; behind `--` each word is a file
-pub record Asking : Type 0 where
+-- what a run is asked for: to begin with a new file, to check one and no more, not to save, to show what records take, and the file
+pub record Asked : Type 0 where
   pub new : Bool
+  pub check : Bool
   pub no_save : Bool
   pub space : Bool
-  pub only_files : Bool
-  pub name : Option (List ℕ)
+  pub name : List ℕ
 
-abbrev pub nothing_asked : Asking
-nothing_asked = record { new = false; no_save = false; space = false; only_files = false; name = None }
+abbrev pub asked_for : AskedWords → Asked
+asked_for words = record { new = words.new; check = words.check; no_save = words.no_save; space = words.space; name = words.name.now }
 
-abbrev pub asking_of : ReadWords → Asking
-asking_of words = record { new = words.new; no_save = words.no_save; space = words.space; only_files = words.only_files; name = option_map (λ name. name.now) words.name }
+-- a word that begins with `-`, and is longer
+abbrev pub is_flag : List ℕ → Bool
+is_flag (b ∷ c ∷ rest) = b == 45
+is_flag word = false
 
--- there is one file
-abbrev pub with_name : Asking → List ℕ → Option Asking
-with_name a word = if is_some a.name then None else Some (record a { name = Some word })
+abbrev pub is_end : List ℕ → Bool
+is_end word = bytes_eq word (codes "--")
 
--- a flag stands at most once, and no other word that looks like one is known
-abbrev pub with_flag : Asking → List ℕ → Option Asking
-with_flag a word =
-    if is_end word then Some (record a { only_files = true })
-    else (if is_new word then (if a.new then None else Some (record a { new = true }))
-    else (if is_no_save word then (if a.no_save then None else Some (record a { no_save = true }))
-    else (if is_space word then (if a.space then None else Some (record a { space = true })) else None)))
+-- the flags are the words before `--` that look like flags
+abbrev pub flags_in : List (List ℕ) → List (List ℕ)
+flags_in words = filter is_flag (before_first is_end words)
 
-abbrev pub with_word : Asking → List ℕ → Option Asking
-with_word a word = if a.only_files then with_name a word else (if is_flag word then with_flag a word else with_name a word)
+-- the files are the others before it, and all words behind it
+abbrev pub files_in : List (List ℕ) → List (List ℕ)
+files_in words = filter (λ word. not (is_flag word)) (before_first is_end words) ++ after_first is_end words
 
-abbrev pub read_words : Option Asking → List (List ℕ) → Option Asking
-read_words a words = fold (λ so_far word. option_and_then (λ a. with_word a word) so_far) a words
+abbrev pub known_flags : List (List ℕ)
+known_flags = codes "--new" ∷ codes "--check" ∷ codes "--no-save" ∷ codes "--space" ∷ []
 
-abbrev pub asked_at_end : Asking → Option Asked
-asked_at_end a = elim a.name [ None ↦ None | Some name ↦ Some (record { new = a.new; no_save = a.no_save; space = a.space; name = name }) ]
+-- each is known, and none stands twice
+abbrev pub are_fine : List (List ℕ) → Bool
+are_fine [] = true
+are_fine (flag ∷ flags) = is_among flag known_flags && not (is_among flag flags) && are_fine flags
+
+-- what flags and one file say
+abbrev pub said_by : List (List ℕ) → List (List ℕ) → Option Asked
+said_by flags (name ∷ []) =
+    if are_fine flags then Some (record {
+      new = is_among (codes "--new") flags;
+      check = is_among (codes "--check") flags;
+      no_save = is_among (codes "--no-save") flags;
+      space = is_among (codes "--space") flags;
+      name = name;
+    }) else None
+said_by flags files = None
+
+abbrev pub said : List (List ℕ) → Option Asked
+said words = said_by (flags_in words) (files_in words)
+
+-- a file that is made is not checked
+abbrev pub unless_both : Asked → Option Asked
+unless_both a = if a.new && a.check then None else Some a
+
+-- what the words ask for, if they are such words: a flag stands once, and there is one file
+abbrev pub ask : List (List ℕ) → Option Asked
+ask words = option_and_then unless_both (said words)
+
+-- such a run saves nothing
+abbrev pub saves_nothing : Asked → Bool
+saves_nothing a = a.check || a.no_save

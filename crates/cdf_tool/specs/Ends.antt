@@ -1,5 +1,5 @@
 -- What a run leaves, by its status (own). `d` is the store as it came, and `d'` as it is handed back.
-use Rattle.std.specs.Prelude.{◌≡◌, ◌⊎◌, ℕ, List, Bool, true, false, IfSome, Some, None}
+use Rattle.std.specs.Prelude.{◌≡◌, ◌⊎◌, ℕ, List, Bool, true, false, IfSome, None}
 use Rattle.std.specs.declared.option.Option.{Option}
 use Rattle.std.specs.Io.KnownBytes.{Appends}
 use Rattle.cdf_store.specs.Disk.{Disk}
@@ -10,10 +10,10 @@ use Rattle.cdf_format.specs.Sealed.{image_of}
 use Rattle.cdf_format.specs.WellFormed.{WellFormed}
 use Rattle.cdf_model.specs.Limits.{image_limit}
 use Rattle.cdf_model.specs.Texts.{no_file_text}
-use Rattle.cdf_model.specs.Words.{Asked}
+use Rattle.cdf_tool.specs.Asking.{Asked}
 use Rattle.cdf_tool.specs.declared.status.Status.{Status}
 use Rattle.cdf_tool.specs.declared.status.Status.TheVariants as statuses
-use Rattle.cdf_tool.specs.Says.{Rejects, rejection, SaysUsage}
+use Rattle.cdf_tool.specs.Says.{Rejects, rejection}
 use Rattle.cdf_tool.specs.Script.{FinishesWith, HaltsWith}
 use Rattle.cdf_tool.specs.Stored.{Unattached, Kept, Stored, Spoiled}
 
@@ -88,11 +88,6 @@ pub record Without {U : Type 0} (a : Asked) (d d' : Disk U) (before left first n
 
 -- ---- a whole run
 
--- A run ended so that was asked for this.
+-- a run ended so that was asked for this, and for no check
 abbrev pub EndsNamed : {U : Type 0} → Asked → Disk U → Disk U → Option (List ℕ) → Option (List ℕ) → Option (List ℕ) → Option (List ℕ) → Status → Type 0
 EndsNamed a d d' before left first now status = Without a d d' before left first now status ⊎ (Unread a d d' before left first now status ⊎ Replays a d d' before left first now status)
-
--- A run ended so, by what its words ask for.
-abbrev pub Ends : {U : Type 0} → Option Asked → Disk U → Disk U → Option (List ℕ) → Option (List ℕ) → Option (List ℕ) → Option (List ℕ) → Status → Type 0
-Ends None d d' before left first now status = (d' ≡ d) × (left ≡ before) × SaysUsage first now status
-Ends (Some a) d d' before left first now status = EndsNamed a d d' before left first now status

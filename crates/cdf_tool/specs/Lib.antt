@@ -7,8 +7,11 @@ pub mod Script
 pub mod Stored
 pub mod Says
 pub mod Ends
+pub mod Checking
+pub mod Endings
 pub mod Areas
 pub mod Asking
+pub mod CommandLine
 pub mod Accepts
 pub mod Due
 pub mod Reading

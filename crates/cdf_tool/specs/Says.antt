@@ -10,10 +10,11 @@ use Rattle.cdf_model.specs.Texts.{◌⧺◌, newline, usage_text, no_file_text, 
 use Rattle.cdf_tool.specs.declared.status.Status.{Status}
 use Rattle.cdf_tool.specs.declared.status.Status.TheVariants as statuses
 
--- how the program is called was written, or a part of it
+-- how the program is called was written, or a part of it, or there was no memory to read the words
 abbrev pub SaysUsage : Option (List ℕ) → Option (List ℕ) → Status → Type 0
 SaysUsage first now statuses.Usage = Appends first now usage_text
 SaysUsage first now statuses.OutputFault = AppendsFront first now usage_text
+SaysUsage first now statuses.NoMemory = now ≡ first
 SaysUsage first now other = ⊥
 
 -- that there is no file was written, or a part of it

@@ -99,6 +99,21 @@ pub record LacksLine (space : Bool) (limit : ℕ) (b : List ℕ) (before left fi
   pub finishes : Finishes limit b before left first end refused then
   pub stops : LineStops (last_line true end) then now status
 
--- the run stopped in its script, or at the line behind it
+-- ---- the checksum
+
+-- it was not made: the store failed as it was read for it, or there was no memory
+abbrev pub SealStops : Status → Type 0
+SealStops statuses.StoreReadFault = Unit {0}
+SealStops statuses.NoMemory = Unit {0}
+SealStops other = ⊥
+
+-- all replies were written, and the line, and the image was not sealed
+pub record LacksSeal (space : Bool) (limit : ℕ) (b : List ℕ) (before left first now : Option (List ℕ)) (status : Status) : Type 0 where
+  pub end : List ℕ
+  pub refused : Bool
+  pub finishes : FinishesWith space limit b before left first end refused now
+  pub stops : SealStops status
+
+-- the run stopped in its script, at the line behind it, or at the checksum
 abbrev pub HaltsWith : Bool → ℕ → List ℕ → Option (List ℕ) → Option (List ℕ) → Option (List ℕ) → Option (List ℕ) → Status → Type 0
-HaltsWith space limit b before left first now status = Halts limit b before left first now status ⊎ LacksLine space limit b before left first now status
+HaltsWith space limit b before left first now status = Halts limit b before left first now status ⊎ (LacksLine space limit b before left first now status ⊎ LacksSeal space limit b before left first now status)

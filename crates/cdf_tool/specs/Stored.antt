@@ -7,7 +7,7 @@ use Rattle.cdf_store.specs.Named.{files_attached, found_or_made, lookup, with_fi
 use Rattle.cdf_pages.specs.Saving.{IsBetween}
 use Rattle.cdf_format.specs.Sealed.{sealed}
 use Rattle.cdf_format.specs.WellFormed.{Good}
-use Rattle.cdf_model.specs.Words.{Asked}
+use Rattle.cdf_tool.specs.Asking.{Asked}
 
 -- over a store that tells its files this is the file under the name, or an empty one that was made
 abbrev pub IsFound : Asked → Option (List (List ℕ × List ℕ)) → List ℕ → Type 0

@@ -64,11 +64,13 @@ fn run_attached<S: Store, I: Source, O: Sink>(
 {
     match area_over(alloc, asked.new, store, size) {
         Ok(area) => {
-            let ran = run_area(alloc, asked.new, asked.space, area, script, out);
-            finish(asked.no_save, ran)
+            let seal = !asked.no_save;
+            let ran = run_area(alloc, asked.new, asked.space, seal, area, script, out);
+            finish(asked.new, asked.no_save, ran)
         }
         Err(failed) => Ended {
             status: Status::NoMemory,
+            broken: None,
             store: failed.value,
         },
     }
@@ -85,7 +87,7 @@ fn run_in_memory<I: Source, O: Sink>(
     ensures counted { (reads writes : ℕ) → Counted (counts reads writes (O.faults out.old) (I.faults script.old)) (counts reads writes (O.faults out.new) (I.faults script.new)) result }
 {
     let area = MemArea::new(alloc, Vec::new(alloc), IMAGE_LIMIT);
-    let ran = run_area(alloc, true, space, area, script, out);
+    let ran = run_area(alloc, true, space, false, area, script, out);
     match ran.outcome {
         Ok(refused) => end_status(refused),
         Err(status) => status,
@@ -116,21 +118,31 @@ pub fn run_file<S: Store, I: Source, O: Sink>(
 {
     if is_in_memory(asked) {
         let status = run_in_memory(alloc, asked.space, script, out);
-        return Ended { status, store };
+        return Ended {
+            status,
+            broken: None,
+            store,
+        };
     }
     let mut store = store;
     match store.attach(asked.name, asked.new) {
         Ok(Some(size)) => run_attached(alloc, asked, store, size, script, out),
         Ok(None) => {
             let status = say_no_file(out);
-            Ended { status, store }
+            Ended {
+                status,
+                broken: None,
+                store,
+            }
         }
         Err(AttachError::Failed) => Ended {
             status: Status::StoreReadFault,
+            broken: None,
             store,
         },
         Err(AttachError::NoMemory) => Ended {
             status: Status::NoMemory,
+            broken: None,
             store,
         },
     }

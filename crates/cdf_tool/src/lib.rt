@@ -1,6 +1,7 @@
 //! The run of the program: from the words of its command line to what it writes.
 #![tactic(auto)]
 
+mod checked;
 mod ended;
 mod file;
 mod measured;
@@ -17,3 +18,4 @@ mod words;
 pub use ended::Ended;
 pub use status::Status;
 pub use top::run;
+pub use words::{Asked, WordsError, read_words};

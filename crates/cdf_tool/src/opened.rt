@@ -1,9 +1,9 @@
 //! The file in an area is opened, and the script is run over it.
 
 ghost use Rattle.std.specs.Prelude.{◌≡◌, ◌≤◌, ℕ, List, [], Bool, length, true, false, IfOk, IfErr, OnOk, None};
-ghost use Rattle.cdf_area.specs.Calls.{Stays};
 ghost use Rattle.cdf_format.specs.WellFormed.{Good};
 ghost use Rattle.cdf_model.specs.Limits.{image_limit};
+ghost use Rattle.cdf_session.specs.Seals.{seal_of};
 ghost use Rattle.cdf_session.specs.Sessions.{Explains};
 ghost use Rattle.cdf_tool.specs.Areas.{EndsOver, Refuses};
 ghost use Rattle.cdf_tool.specs.Counts.{Counted, CountedIn, counts};
@@ -11,19 +11,24 @@ ghost use Rattle.cdf_tool.specs.Ends.{EndsUnread, Opens};
 ghost use Rattle.cdf_tool.specs.Reading.{IfReads};
 
 use crate::Status;
-use crate::measured::run_measured;
+use crate::measured::{Answered, run_sealed};
 use crate::say::say_rejected;
 use crate::status::area_status;
 use cdf_area::Area;
+use cdf_check::Broken;
 use cdf_session::{AdoptError, Refusal, Session};
 use cdf_store::{Sink, Source};
 use std::alloc::Global;
 
-/// What a run leaves over an area: whether a line was refused, or the status with which it stopped.
+/// What a run leaves over an area: whether a line was refused, or the status with which it stopped; and the checksum that is to
+/// stand behind the image, where that was asked for.
 #[derive(Drop)]
 pub struct Ran<A> {
     pub area: A,
     pub outcome: Result<bool, Status>,
+    pub seal: Option<[u8; 16]>,
+    /// The rule that the file breaks, where it was rejected.
+    pub broken: Option<Broken>,
 }
 
 /// Takes up the file in an area, or makes a new one in an empty area.
@@ -46,8 +51,16 @@ fn open<A: Area>(alloc: Global, new: bool, area: A) -> Result<Session<A>, Refusa
     }
 }
 
+/// The rule for which a file was rejected.
+pub fn rule_of(why: AdoptError) -> Option<Broken> {
+    match why {
+        AdoptError::Rejected { broken } => Some(broken),
+        AdoptError::Failed { .. } => None,
+    }
+}
+
 /// Says why no session began.
-fn refuse<O: Sink>(alloc: Global, why: AdoptError, out: &mut O) -> Status
+pub fn refuse<O: Sink>(alloc: Global, why: AdoptError, out: &mut O) -> Status
     ensures ends { (new : Bool) (file : List ℕ) → Refuses new file why → EndsUnread new file (O.written out.old) (O.written out.new) result }
     ensures counted { (before now source : ℕ) → Explains why before now → Counted (counts before 0 (O.faults out.old) source) (counts now 0 (O.faults out.new) source) result }
 {
@@ -57,11 +70,12 @@ fn refuse<O: Sink>(alloc: Global, why: AdoptError, out: &mut O) -> Status
     }
 }
 
-/// Opens the file in an area, or makes a new one, runs the script over it, and says what the records take, where that is asked for.
+/// Opens the file in an area, or makes a new one, runs the script over it, says what the records take and makes the checksum of the image, the last two where they are asked for.
 pub fn run_area<A: Area, I: Source, O: Sink>(
     alloc: Global,
     new: bool,
     space: bool,
+    seal: bool,
     area: A,
     script: &mut I,
     out: &mut O,
@@ -72,22 +86,38 @@ pub fn run_area<A: Area, I: Source, O: Sink>(
     ensures ends { EndsOver new space (A.image area) (I.left script.old) (I.left script.new) (O.written out.old) (O.written out.new) (A.image result.area) result.outcome }
     ensures good { IfOk result.outcome (λ _. Good (A.image result.area)) }
     ensures fits { IfOk result.outcome (λ _. length (A.image result.area) ≤ image_limit) }
-    ensures reads { new ≡ false → OnOk result.outcome (IfReads (I.left script.old) (Stays A.image A.frame A.faults A.edited area result.area)) }
+    ensures seal { seal ≡ true → IfOk result.outcome (λ _. result.seal ≡ seal_of (A.image result.area)) }
+    ensures unedited { new ≡ false → OnOk result.outcome (IfReads (I.left script.old) (A.edited result.area ≡ A.edited area)) }
     ensures frame { A.frame result.area ≡ A.frame area }
     ensures counted { CountedIn (counts (A.faults area) 0 (O.faults out.old) (I.faults script.old)) (counts (A.faults result.area) 0 (O.faults out.new) (I.faults script.new)) result.outcome }
 {
     match open(alloc, new, area) {
         Ok(session) => {
             let mut session = session;
-            let outcome = run_measured(alloc, space, &mut session, script, out);
+            let answered = run_sealed(alloc, space, seal, &mut session, script, out);
             let area = session.into_area();
-            Ran { area, outcome }
+            match answered {
+                Ok(Answered { refused, seal }) => Ran {
+                    area,
+                    outcome: Ok(refused),
+                    seal,
+                    broken: None,
+                },
+                Err(status) => Ran {
+                    area,
+                    outcome: Err(status),
+                    seal: None,
+                    broken: None,
+                },
+            }
         }
         Err(Refusal { area, why }) => {
             let status = refuse(alloc, why, out);
             Ran {
                 area,
                 outcome: Err(status),
+                seal: None,
+                broken: rule_of(why),
             }
         }
     }

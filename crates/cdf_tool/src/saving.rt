@@ -1,9 +1,9 @@
 //! A run over the file that is attached ends, and its image is saved.
 
-ghost use Rattle.std.specs.Prelude.{◌≡◌, ◌≤◌, length, IfOk, IsErrOf, IsSome, OnOk, None};
-ghost use Rattle.cdf_format.specs.WellFormed.{Good};
+ghost use Rattle.std.specs.Prelude.{◌≡◌, ◌≤◌, length, take, true, false, IsSome, IfOk, IsErrOf, OnOk};
+ghost use Rattle.cdf_format.specs.WellFormed.{Good, WellFormed};
 ghost use Rattle.cdf_model.specs.Limits.{image_limit};
-ghost use Rattle.cdf_pages.specs.Saving.{IsSavedAlready};
+ghost use Rattle.cdf_session.specs.Seals.{seal_of};
 ghost use Rattle.cdf_store.specs.Disk.{file_of};
 ghost use Rattle.cdf_tool.specs.Areas.{EndsSaving, EndsStored};
 ghost use Rattle.cdf_tool.specs.Counts.{WritesCounted};
@@ -17,60 +17,86 @@ use cdf_area::{Area, AreaError};
 use cdf_pages::PagedArea;
 use cdf_store::Store;
 
-/// Saves the image to the file that is attached. No image has a checksum so far, so nothing stands behind it.
-fn save<S: Store>(refused: bool, area: PagedArea<S>) -> Ended<S>
+/// Saves the image to the file that is attached, and behind it its checksum, where it has one.
+fn save<S: Store>(refused: bool, area: PagedArea<S>, seal: Option<[u8; 16]>) -> Ended<S>
     requires held { IsSome (⟦<PagedArea<S> as Area>⟧.frame area).under.0.held }
-    requires good { Good (⟦<PagedArea<S> as Area>⟧.image area) }
     requires fits { length (⟦<PagedArea<S> as Area>⟧.image area) ≤ image_limit }
     requires unmarked { (⟦<PagedArea<S> as Area>⟧.frame area).base ≡ None }
+    requires seal { seal ≡ seal_of (⟦<PagedArea<S> as Area>⟧.image area) }
     ensures ends { EndsSaving refused (⟦<PagedArea<S> as Area>⟧.image area) (⟦<PagedArea<S> as Area>⟧.frame area).under.0 (S.disk result.store) result.status }
     ensures reads { S.read_faults result.store ≡ ⟦<PagedArea<S> as Area>⟧.faults area }
     ensures writes { WritesCounted (⟦<PagedArea<S> as Area>⟧.frame area).under.1 (S.write_faults result.store) result.status }
-    ensures untouched { IsSavedAlready (⟦<PagedArea<S> as Area>⟧.edited area) (file_of (⟦<PagedArea<S> as Area>⟧.frame area).under.0) (⟦<PagedArea<S> as Area>⟧.image area) None → WritesNothing (⟦<PagedArea<S> as Area>⟧.frame area).under.0 (S.disk result.store) (⟦<PagedArea<S> as Area>⟧.frame area).under.1 (S.write_faults result.store) result.status }
 {
     let mut area = area;
-    match area.save(None) {
+    match area.save(seal) {
         Ok(()) => Ended {
             status: end_status(refused),
+            broken: None,
             store: area.into_store(),
         },
         Err(AreaError::Fault) => Ended {
             status: Status::StoreWriteFault,
+            broken: None,
             store: area.into_store(),
         },
         Err(AreaError::NoMemory) => Ended {
             status: Status::NoMemory,
+            broken: None,
             store: area.into_store(),
         },
     }
 }
 
-/// Ends a run over the file that is attached, and saves the image unless the run stopped or that is not asked for.
-pub fn finish<S: Store>(no_save: bool, ran: Ran<PagedArea<S>>) -> Ended<S>
-    requires held { IsSome (⟦<PagedArea<S> as Area>⟧.frame ran.area).under.0.held }
+/// Whether the file that is attached is the image, sealed, already: it was opened, and not edited.
+fn is_saved<S: Store>(new: bool, area: &PagedArea<S>) -> bool
+    ensures opened { result ≡ true → new ≡ false }
+    ensures front { result ≡ true → ⟦<PagedArea<S> as Area>⟧.image area.now ≡ take (length (⟦<PagedArea<S> as Area>⟧.image area.now)) (file_of (⟦<PagedArea<S> as Area>⟧.frame area.now).under.0) }
+    ensures unedited { new ≡ false → ⟦<PagedArea<S> as Area>⟧.edited area.now ≡ false → result ≡ true }
+{
+    !new && !area.is_edited()
+}
+
+/// Ends a run over the file that is attached, and saves the image unless the run stopped, that is not asked for or it is saved already.
+pub fn finish<S: Store>(new: bool, no_save: bool, ran: Ran<PagedArea<S>>) -> Ended<S>
     requires good { IfOk ran.outcome (λ _. Good (⟦<PagedArea<S> as Area>⟧.image ran.area)) }
     requires fits { IfOk ran.outcome (λ _. length (⟦<PagedArea<S> as Area>⟧.image ran.area) ≤ image_limit) }
     requires unmarked { (⟦<PagedArea<S> as Area>⟧.frame ran.area).base ≡ None }
+    requires seal { no_save ≡ false → IfOk ran.outcome (λ _. ran.seal ≡ seal_of (⟦<PagedArea<S> as Area>⟧.image ran.area)) }
+    requires held { IsSome (⟦<PagedArea<S> as Area>⟧.frame ran.area).under.0.held }
+    requires opened { new ≡ false → IfOk ran.outcome (λ _. WellFormed (file_of (⟦<PagedArea<S> as Area>⟧.frame ran.area).under.0)) }
     requires no_write { IsErrOf ran.outcome Status.StoreWriteFault → ⊥ }
     ensures ends { EndsStored no_save (⟦<PagedArea<S> as Area>⟧.image ran.area) (⟦<PagedArea<S> as Area>⟧.frame ran.area).under.0 (S.disk result.store) ran.outcome result.status }
     ensures reads { S.read_faults result.store ≡ ⟦<PagedArea<S> as Area>⟧.faults ran.area }
     ensures writes { WritesCounted (⟦<PagedArea<S> as Area>⟧.frame ran.area).under.1 (S.write_faults result.store) result.status }
-    ensures untouched { OnOk ran.outcome (IsSavedAlready (⟦<PagedArea<S> as Area>⟧.edited ran.area) (file_of (⟦<PagedArea<S> as Area>⟧.frame ran.area).under.0) (⟦<PagedArea<S> as Area>⟧.image ran.area) None) → WritesNothing (⟦<PagedArea<S> as Area>⟧.frame ran.area).under.0 (S.disk result.store) (⟦<PagedArea<S> as Area>⟧.frame ran.area).under.1 (S.write_faults result.store) result.status }
+    ensures untouched { new ≡ false → OnOk ran.outcome (⟦<PagedArea<S> as Area>⟧.edited ran.area ≡ false) → WritesNothing (⟦<PagedArea<S> as Area>⟧.frame ran.area).under.0 (S.disk result.store) (⟦<PagedArea<S> as Area>⟧.frame ran.area).under.1 (S.write_faults result.store) result.status }
 {
-    let Ran { area, outcome } = ran;
+    let Ran {
+        area,
+        outcome,
+        seal,
+        broken,
+    } = ran;
     match outcome {
         Ok(refused) => {
-            if no_save {
+            if no_save || is_saved(new, &area) {
                 let store = area.into_store();
                 let status = end_status(refused);
-                Ended { status, store }
+                Ended {
+                    status,
+                    broken: None,
+                    store,
+                }
             } else {
-                save(refused, area)
+                save(refused, area, seal)
             }
         }
         Err(status) => {
             let store = area.into_store();
-            Ended { status, store }
+            Ended {
+                status,
+                broken,
+                store,
+            }
         }
     }
 }

@@ -1,8 +1,10 @@
 //! What a run writes beside the replies to its script.
 
-ghost use Rattle.std.specs.Prelude.{◌≡◌, ◌++◌, ℕ, IfOk, IfErr, OnOk, string_bytes};
+ghost use Rattle.std.specs.Prelude.{◌≡◌, ◌++◌, ℕ, [], IfOk, IfErr, OnOk, string_bytes};
+ghost use Rattle.std.specs.Option.{option_map_or};
 ghost use Rattle.std.specs.Io.KnownBytes.{Appends};
 ghost use Rattle.cdf_model.specs.Texts.{rejected_text, space_text};
+ghost use Rattle.cdf_tool.specs.Checking.{SaysAccepted, yes_text};
 ghost use Rattle.cdf_tool.specs.Counts.{Counted, CountedIn, counts};
 ghost use Rattle.cdf_tool.specs.Says.{SaysUsage, SaysNoFile, SaysRejected, listed_text, unlisted_text, used_text};
 ghost use Rattle.cdf_tool.specs.Script.{LineStops};
@@ -96,6 +98,31 @@ fn space_line(alloc: Global, space: &Space) -> Result<String, AllocError>
     append_listed(&mut text, space)?;
     append_unlisted(&mut text, space)?;
     Ok(text)
+}
+
+/// What is written of a well-formed file, whose records take so much, where that is asked for.
+fn accepted_lines(alloc: Global, space: Option<Space>) -> Result<String, AllocError>
+    ensures { IfOk result (λ t. string_bytes t ≡ yes_text ++ option_map_or space_text space []) }
+{
+    let mut text = String::from_str(alloc, "yes\n")?;
+    if let Some(space) = space {
+        text.push_str(space_line(alloc, &space)?.as_str())?;
+    }
+    Ok(text)
+}
+
+/// Says that a file is well formed, and what its records take, where that is asked for.
+pub fn say_accepted<O: Sink>(alloc: Global, space: Option<Space>, out: &mut O) -> Status
+    ensures text { SaysAccepted (yes_text ++ option_map_or space_text space []) (O.written out.old) (O.written out.new) result }
+    ensures counted { (reads writes source : ℕ) → Counted (counts reads writes (O.faults out.old) source) (counts reads writes (O.faults out.new) source) result }
+{
+    let Ok(text) = accepted_lines(alloc, space) else {
+        return Status::NoMemory;
+    };
+    match write_all(out, text.as_bytes()) {
+        Ok(()) => Status::Done,
+        Err(Failed) => Status::OutputFault,
+    }
 }
 
 /// Says what the records of an image take.

@@ -1,24 +1,26 @@
 //! The top call: `run`.
 
-ghost use Rattle.std.specs.Prelude.{◌≡◌, ◌-◌, ◌<◌, ◌≤◌, length, map, string_bytes, false, Some, None, IfSome, ◌⊎◌};
+ghost use Rattle.std.specs.Prelude.{◌≡◌, ◌-◌, ◌<◌, ◌≤◌, length, map, string_bytes, true, false, Some, None, IfSome, ◌⊎◌};
 ghost use Rattle.std.specs.Option.{ForSome, option_map};
 ghost use Rattle.cdf_store.specs.Named.{Allows, lookup};
 ghost use Rattle.cdf_format.specs.WellFormed.{WellFormed};
 ghost use Rattle.cdf_model.specs.Limits.{script_limit};
-ghost use Rattle.cdf_model.specs.Words.{ask};
+ghost use Rattle.cdf_tool.specs.Asking.{ask, saves_nothing};
 ghost use Rattle.cdf_tool.specs.Accepts.{Accepts};
+ghost use Rattle.cdf_tool.specs.Checking.{Checks};
 ghost use Rattle.cdf_tool.specs.Counts.{Counted, counts};
 ghost use Rattle.cdf_tool.specs.Due.{CanBegin, Looked, Untouched, calls_store};
-ghost use Rattle.cdf_tool.specs.Ends.{Ends};
+ghost use Rattle.cdf_tool.specs.Endings.{Ends};
 ghost use Rattle.cdf_tool.specs.Reading.{IfReads, WritesNothing};
 ghost use Rattle.cdf_tool.specs.Says.{Names};
 ghost use Rattle.cdf_tool.specs.Statuses.{Exactly, IsDone, IsFailure, IsUnsaved};
 
 use crate::Status;
+use crate::checked::check_file;
 use crate::ended::Ended;
 use crate::file::run_file;
 use crate::say::say_usage;
-use crate::words::read_words;
+use crate::words::{WordsError, read_words};
 use cdf_store::{Sink, Source, Store};
 use std::alloc::Global;
 
@@ -34,18 +36,23 @@ pub fn run<S: Store, I: Source, O: Sink>(
     requires free { (S.disk store).held ≡ None }
     requires allowed { ForSome (ask (map string_bytes words.now)) (λ asked. Allows (S.disk store).only asked.name) }
 
-    // Over devices that tell their bytes: with status 0 or 1 the file is well formed, or a new one was made, and there are a last image
+    // Over devices that tell their bytes: with status 0 or 1, and without `--check`, the file is well formed, or a new one was made, and there are a last image
     // and a flag for each line, so that the script leads from the first image to the last one, what was written is the text of the run
     // over the data set of the first, and nothing else, the last image is stored, the script was read to its end, and the status is 1
     // exactly where that run refuses a line.
     ensures accepted { Accepts (ask (map string_bytes words.now)) (S.disk store) (S.disk result.store) (I.left script.old) (I.left script.new) (O.written out.old) (O.written out.new) result.status }
+
+    // With `--check` status 0 comes exactly where the file that was read is well formed; then `yes` is written, and the line on space
+    // where it is asked for, and nothing else. The script is not read.
+    ensures checked { IfSome (ask (map string_bytes words.now)) (λ asked. asked.check ≡ true → Checks asked.space (S.disk result.store).held (O.written out.old) (O.written out.new) result.status) }
+    ensures unread { IfSome (ask (map string_bytes words.now)) (λ asked. asked.check ≡ true → script.new ≡ script.old) }
 
     // Over any devices: what was written, what was read and what became of the store, status by status.
     ensures ends { Ends (ask (map string_bytes words.now)) (S.disk store) (S.disk result.store) (I.left script.old) (I.left script.new) (O.written out.old) (O.written out.new) result.status }
 
     // The file that is attached has the name that was asked for. Unless it is new or was saved, it is the one of that name over a store that tells its files.
     ensures named { IfSome (ask (map string_bytes words.now)) (λ asked. (S.disk result.store).name ≡ option_map (λ _. asked.name) (S.disk result.store).held) }
-    ensures looked { IfSome (ask (map string_bytes words.now)) (λ asked. asked.new ≡ false → IsUnsaved asked.no_save result.status →
+    ensures looked { IfSome (ask (map string_bytes words.now)) (λ asked. asked.new ≡ false → IsUnsaved (saves_nothing asked) result.status →
         IfSome (S.disk store).files (λ files. Looked (S.disk result.store).held (lookup asked.name files) result.status)) }
 
     // Statuses 2, 3, 4 and 10 come exactly where they are due.
@@ -66,8 +73,8 @@ pub fn run<S: Store, I: Source, O: Sink>(
     // Where nothing is saved the store's files stay as they were, but that an empty one may have been made for a new file. Where no file
     // is named, and for a new one that is not saved, the store is not called.
     ensures not_called { calls_store (ask (map string_bytes words.now)) ≡ false → result.store ≡ store }
-    ensures untouched { IfSome (ask (map string_bytes words.now)) (λ asked. IsUnsaved asked.no_save result.status → Untouched asked (S.disk store) (S.disk result.store)) }
-    ensures unwritten { IfSome (ask (map string_bytes words.now)) (λ asked. IsUnsaved asked.no_save result.status → S.write_faults result.store ≡ S.write_faults store) }
+    ensures untouched { IfSome (ask (map string_bytes words.now)) (λ asked. IsUnsaved (saves_nothing asked) result.status → Untouched asked (S.disk store) (S.disk result.store)) }
+    ensures unwritten { IfSome (ask (map string_bytes words.now)) (λ asked. IsUnsaved (saves_nothing asked) result.status → S.write_faults result.store ≡ S.write_faults store) }
 
     // A script that only reads leaves the file as it was. Where each line is blank, no command, or a command that only reads, and no new
     // file is begun, nothing is written to the store, and no saving fails, also over a file that may not be written.
@@ -78,11 +85,26 @@ pub fn run<S: Store, I: Source, O: Sink>(
     ensures only { (S.disk result.store).only ≡ (S.disk store).only }
     ensures under { (S.disk result.store).under ≡ (S.disk store).under }
 {
-    match read_words(words) {
-        Some(asked) => run_file(alloc, &asked, store, script, out),
-        None => {
-            let status = say_usage(out);
-            Ended { status, store }
+    match read_words(alloc, words) {
+        Ok(asked) => {
+            if asked.check {
+                check_file(alloc, &asked, store, out)
+            } else {
+                run_file(alloc, &asked, store, script, out)
+            }
         }
+        Err(WordsError::Usage) => {
+            let status = say_usage(out);
+            Ended {
+                status,
+                broken: None,
+                store,
+            }
+        }
+        Err(WordsError::NoMemory) => Ended {
+            status: Status::NoMemory,
+            broken: None,
+            store,
+        },
     }
 }

@@ -1,15 +1,21 @@
 //! The words of the command line are read.
 
-ghost use Rattle.std.specs.Prelude.{◌≡◌, map, string_bytes};
-ghost use Rattle.std.specs.Option.{option_map};
-ghost use Rattle.cdf_model.specs.Words.{ask, is_flag as flag};
-ghost use Rattle.cdf_tool.specs.Asking.{asked_for, asking_of, with_flag as asking_flag, with_name as asking_name, with_word as asking_word};
+ghost use Rattle.std.specs.Prelude.{◌≡◌, map, string_bytes, codes, Err, Some, None, true, false, IfOk};
+ghost use Rattle.clap.specs.Words.{app_of, rule_of};
+ghost use Rattle.cdf_tool.specs.Asking.{ask, asked_for, said};
+ghost use Rattle.cdf_tool.specs.CommandLine.{command, file_rule, flag_rule, plain_app};
+
+use clap::error::ErrorKind;
+use clap::{Arg, ArgAction, Command};
+use std::alloc::{AllocError, Global};
 
 /// What a run is asked for.
 #[derive(Clone, Copy)]
 pub struct Asked<'a> {
     /// Begin with a new file.
     pub new: bool,
+    /// Say whether the file is well formed, and no more.
+    pub check: bool,
     /// Do not save.
     pub no_save: bool,
     /// Show what the records take, once the script was answered.
@@ -17,115 +23,103 @@ pub struct Asked<'a> {
     pub name: &'a str,
 }
 
-/// What the words read so far ask for. Behind `--` each word is a file.
-#[derive(Clone, Copy)]
-pub struct Asking<'a> {
-    new: bool,
-    no_save: bool,
-    space: bool,
-    only_files: bool,
-    name: Option<&'a str>,
+/// Why words ask for nothing.
+#[derive(Clone, Copy, Debug, PartialEq, Eq)]
+pub enum WordsError {
+    /// They break the rules of the command line.
+    Usage,
+    /// There is no memory to read them.
+    NoMemory,
 }
 
-fn is_flag(word: &[u8]) -> bool
-    ensures { result ≡ flag word.now }
-{
-    match word {
-        [first, _, ..] => *first == b'-',
-        _ => false,
+impl From<AllocError> for WordsError {
+    ghost use Rattle.std.specs.Prelude.{◌≡◌};
+    ghost use Rattle.cdf_tool.specs.declared.words.WordsError.TheVariants.{NoMemory};
+
+    ghost from_gives = { λ _ e. e ≡ NoMemory };
+
+    fn from(_: AllocError) -> Self {
+        WordsError::NoMemory
     }
 }
 
-/// One more word, which is a file.
-fn with_name<'a>(asking: Asking<'a>, word: &'a str) -> Option<Asking<'a>>
-    ensures { option_map asking_of result ≡ asking_name (asking_of asking.entry) word.now }
+/// A flag of this name, with two dashes before it.
+fn flag<'a>(alloc: Global, name: &'a str) -> Arg<'a>
+    ensures rule { rule_of result ≡ flag_rule name.entry.now }
+    ensures local { result.global ≡ false }
 {
-    match asking.name {
-        Some(_) => None,
-        None => Some(Asking {
-            name: Some(word),
-            ..asking
+    Arg::new(alloc, name).long(name).action(ArgAction::SetTrue)
+}
+
+/// The file.
+fn file<'a>(alloc: Global) -> Arg<'a>
+    ensures rule { rule_of result ≡ file_rule }
+    ensures local { result.global ≡ false }
+{
+    Arg::new(alloc, "file")
+        .action(ArgAction::Set)
+        .required(true)
+}
+
+/// The command without its arguments. It has no help of its own.
+fn plain<'a>(alloc: Global) -> Command<'a>
+    ensures { app_of result ≡ plain_app }
+{
+    Command::new(alloc, "cdfedit")
+        .no_binary_name(true)
+        .disable_help_flag(true)
+}
+
+/// The command with its flags and its file.
+fn cdfedit<'a>(alloc: Global) -> Result<Command<'a>, AllocError>
+    ensures { IfOk result (λ c. app_of c ≡ command) }
+{
+    let command = plain(alloc)
+        .arg(flag(alloc, "new"))?
+        .arg(flag(alloc, "check"))?
+        .arg(flag(alloc, "no-save"))?
+        .arg(flag(alloc, "space"))?
+        .arg(file(alloc))?;
+    Ok(command)
+}
+
+/// Why the words were not read: by their own fault, or for want of memory.
+fn cause(kind: ErrorKind) -> WordsError
+    ensures { result ≡ WordsError.Usage → kind ≡ ErrorKind.OutOfMemory → ⊥ }
+{
+    match kind {
+        ErrorKind::OutOfMemory => WordsError::NoMemory,
+        _ => WordsError::Usage,
+    }
+}
+
+/// What the words say, be it to check a file that is made.
+fn parse(alloc: Global, words: &[String]) -> Result<Asked<'_>, WordsError>
+    ensures said { IfOk result (λ asked. said (map string_bytes words.now) ≡ Some (asked_for asked)) }
+    ensures usage { result ≡ Err WordsError.Usage → said (map string_bytes words.now) ≡ None }
+{
+    let command = cdfedit(alloc)?;
+    match command.try_get_matches_from(words) {
+        Ok(matches) => Ok(Asked {
+            new: matches.get_flag("new"),
+            check: matches.get_flag("check"),
+            no_save: matches.get_flag("no-save"),
+            space: matches.get_flag("space"),
+            name: matches.get_str("file").unwrap(),
         }),
+        Err(error) => Err(cause(error.kind())),
     }
-}
-
-/// One more word, which is a flag.
-fn with_flag<'a>(asking: Asking<'a>, word: &str) -> Option<Asking<'a>>
-    ensures { option_map asking_of result ≡ asking_flag (asking_of asking.entry) word.now }
-{
-    if word == "--" {
-        return Some(Asking {
-            only_files: true,
-            ..asking
-        });
-    }
-    if word == "--new" {
-        if asking.new {
-            return None;
-        }
-        return Some(Asking {
-            new: true,
-            ..asking
-        });
-    }
-    if word == "--no-save" {
-        if asking.no_save {
-            return None;
-        }
-        return Some(Asking {
-            no_save: true,
-            ..asking
-        });
-    }
-    if word == "--space" {
-        if asking.space {
-            return None;
-        }
-        return Some(Asking {
-            space: true,
-            ..asking
-        });
-    }
-    None
-}
-
-/// One more word.
-fn with_word<'a>(asking: Asking<'a>, word: &'a str) -> Option<Asking<'a>>
-    ensures { option_map asking_of result ≡ asking_word (asking_of asking.entry) word.now }
-{
-    if asking.only_files {
-        return with_name(asking, word);
-    }
-    if is_flag(word.as_bytes()) {
-        return with_flag(asking, word);
-    }
-    with_name(asking, word)
 }
 
 /// What the words ask for, if they are such words.
-pub fn read_words(words: &[String]) -> Option<Asked<'_>>
-    ensures { option_map asked_for result ≡ ask (map string_bytes words.now) }
+pub fn read_words(alloc: Global, words: &[String]) -> Result<Asked<'_>, WordsError>
+    ensures asked { IfOk result (λ asked. ask (map string_bytes words.now) ≡ Some (asked_for asked)) }
+    ensures old { IfOk result (λ asked. asked.check ≡ true → asked.new ≡ false) }
+    ensures usage { result ≡ Err WordsError.Usage → ask (map string_bytes words.now) ≡ None }
 {
-    let mut asking = Asking {
-        new: false,
-        no_save: false,
-        space: false,
-        only_files: false,
-        name: None,
-    };
-    for word in words {
-        match with_word(asking, word.as_str()) {
-            Some(more) => asking = more,
-            None => return None,
-        }
+    let asked = parse(alloc, words)?;
+    if asked.new && asked.check {
+        return Err(WordsError::Usage);
     }
-    match asking.name {
-        Some(name) => Some(Asked {
-            new: asking.new,
-            no_save: asking.no_save,
-            space: asking.space,
-            name,
-        }),
-        None => None,
-    }
+    Ok(asked)
 }

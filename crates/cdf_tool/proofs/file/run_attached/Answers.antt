@@ -1,15 +1,21 @@
-use Rattle.std.proofs.Common.{rules, ◌≡◌, ◌∙◌, ℕ, List, [], Option, None, Some, Err, IsSome, refl, sym, ap, subst, inl, length}
-use Rattle.std.specs.Option.{is_some, option_map}
+use Rattle.std.proofs.Common.{◌≡◌, ◌∙◌, ℕ, List, [], Option, None, Some, Err, IsSome, refl, sym, ap, subst, inl, length}
+use Rattle.std.specs.Option.{option_map}
 use Rattle.cdf_area.specs.Frame.{Frame}
 use Rattle.cdf_store.specs.Disk.{Disk, file_of}
 use Rattle.cdf_tool.specs.declared.status.Status.TheVariants as statuses
+use Rattle.cdf_tool.proofs.AreaLemmas.{attached_holds}
 use Rattle.cdf_tool.proofs.CountLemmas.{counted_attached, no_write}
 use Rattle.cdf_tool.proofs.EndLemmas.{attached_all}
-use Rattle.cdf_tool.proofs.OnlyReads.{attached_reads, if_reads, nothing_from, saved_already}
+use Rattle.cdf_tool.proofs.OnlyReads.{attached_reads, if_reads, nothing_from}
 use Rattle.cdf_tool.proofs.file.run_attached.Goals as goal
 
 pub finish-requires-clause-no_write : goal.finish-requires-clause-no_write
 finish-requires-clause-no_write g c = no_write _ _ _ _ _ _ c.run_area-ran.result.outcome c.run_area-ran.ensures.counted
+
+pub finish-requires-clause-opened : goal.finish-requires-clause-opened
+finish-requires-clause-opened g c =
+    attached_holds c.args.asked.now.new c.args.asked.now.space _ (g.S.Store.disk c.args.store) _ (g.I.Source.left c.args.script.now) (g.I.Source.left c.run_area-ran.new.script) (g.O.Sink.written c.args.out.now) (g.O.Sink.written c.run_area-ran.new.out)
+    _ c.run_area-ran.result.outcome c.in-Ok.ensures.image (ap (λ (f : Frame (Disk g.S.Store.Under × ℕ)). f.under.0) (c.run_area-ran.ensures.frame ∙ c.in-Ok.ensures.frame)) c.run_area-ran.ensures.ends
 
 pub returns-in-Ok-clause-ends : goal.returns-in-Ok-clause-ends
 returns-in-Ok-clause-ends g c =
@@ -30,12 +36,9 @@ returns-in-Ok-clause-reads g c = λ old.
     let ran = c.run_area-ran.result in
     let disk = g.S.Store.disk c.args.store in
     let under = c.run_area-ran.ensures.frame ∙ area.frame in
-    let same = ap (λ (f : Frame (Disk g.S.Store.Under × ℕ)). f.under.0) under in
-    let finished = c.finish.ensures.untouched in
-    attached_reads ran.outcome (g.I.Source.left c.args.script.now) _ _ _
-    (λ stays. saved_already _ _ disk _ (stays.edited ∙ area.unedited old) same (stays.image ∙ area.image old))
-    (c.run_area-ran.ensures.reads old)
-    (λ saved. nothing_from disk _ (g.S.Store.disk c.finish.result.store) (g.S.Store.write_faults c.args.store) _ (g.S.Store.write_faults c.finish.result.store) c.finish.result.status same (ap (λ (f : Frame (Disk g.S.Store.Under × ℕ)). f.under.1) under) (finished saved))
+    attached_reads ran.outcome (g.I.Source.left c.args.script.now) _ _ _ (λ same. same ∙ area.unedited old) (c.run_area-ran.ensures.unedited old)
+    (λ unedited. nothing_from disk _ (g.S.Store.disk c.finish.result.store) (g.S.Store.write_faults c.args.store) _ (g.S.Store.write_faults c.finish.result.store) c.finish.result.status
+    (ap (λ (f : Frame (Disk g.S.Store.Under × ℕ)). f.under.0) under) (ap (λ (f : Frame (Disk g.S.Store.Under × ℕ)). f.under.1) under) (c.finish.ensures.untouched old unedited))
 
 -- a file of which the length is known is attached
 is_attached : (held : Option (List ℕ)) (size : ℕ) → Some size ≡ option_map (λ (l : List ℕ). length l) held → IsSome held

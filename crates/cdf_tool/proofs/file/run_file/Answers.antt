@@ -15,7 +15,7 @@ pub returns-then-is_in_memory-clause-ends : goal.returns-then-is_in_memory-claus
 returns-then-is_in_memory-clause-ends g c =
     let asked = c.args.asked.now in
     let both = both_are asked.new asked.no_save (sym c.is_in_memory.ensures ∙ c.if-is_in_memory.true) in
-    in_memory_ends asked.new asked.no_save asked.space asked.name.now (g.S.Store.disk c.args.store) (g.I.Source.left c.args.script.now) (g.I.Source.left c.run_in_memory-status.new.script) (g.O.Sink.written c.args.out.now) (g.O.Sink.written c.run_in_memory-status.new.out)
+    in_memory_ends asked.new asked.check asked.no_save asked.space asked.name.now (g.S.Store.disk c.args.store) (g.I.Source.left c.args.script.now) (g.I.Source.left c.run_in_memory-status.new.script) (g.O.Sink.written c.args.out.now) (g.O.Sink.written c.run_in_memory-status.new.out)
     c.run_in_memory-status.result both.0 both.1 c.run_in_memory-status.ensures.ends
 
 pub returns-in-Ok-Some-clause-ends : goal.returns-in-Ok-Some-clause-ends
@@ -34,7 +34,7 @@ returns-in-Ok-Some-clause-ends g c =
       only = e.only;
       under = e.under;
     } in
-    attached_ends asked.new asked.no_save asked.space asked.name.now (file_of at) d (g.S.Store.disk c.run_attached.result.store) (g.I.Source.left c.args.script.now) (g.I.Source.left c.run_attached.new.script) (g.O.Sink.written c.args.out.now) (g.O.Sink.written c.run_attached.new.out)
+    attached_ends asked.new asked.check asked.no_save asked.space asked.name.now (file_of at) d (g.S.Store.disk c.run_attached.result.store) (g.I.Source.left c.args.script.now) (g.I.Source.left c.run_attached.new.script) (g.O.Sink.written c.args.out.now) (g.O.Sink.written c.run_attached.new.out)
     at attached (saves asked.new asked.no_save (sym c.is_in_memory.ensures ∙ c.if-is_in_memory.false)) c.run_attached.result.status c.run_attached.ensures.ends
 
 pub returns-in-Ok-Some-clause-counted : goal.returns-in-Ok-Some-clause-counted

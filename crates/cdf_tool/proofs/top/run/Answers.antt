@@ -1,49 +1,170 @@
-use Rattle.std.proofs.Common.{sym}
-use Rattle.cdf_tool.specs.Asking.{asked_for}
+use Rattle.std.proofs.Common.{map, string_bytes}
+use Rattle.cdf_tool.specs.Asking.{ask, asked_for}
+use Rattle.cdf_tool.proofs.AskedLemmas.{accepts_checked, check_ends, check_leaves, old_called, run_ends, unsaved_run, untouched_old}
+use Rattle.cdf_tool.proofs.CheckLemmas.{checks}
 use Rattle.cdf_tool.proofs.CountLemmas.{not_false, unwritten}
-use Rattle.cdf_tool.proofs.RunLemmas.{came, no_file_exactly, rejected_exactly, too_long_exactly, completes}
+use Rattle.cdf_tool.proofs.RunLemmas.{came, checked_came, completes, never_usage, no_file_exactly, no_file_held, rejected_exactly, too_long_exactly, verdict_names}
 use Rattle.cdf_tool.proofs.Headline.{accepts}
+use Rattle.cdf_tool.proofs.OnlyReads.{if_reads}
+use Rattle.cdf_tool.proofs.Unstarted.{unnamed, unstarted_ends}
 use Rattle.cdf_tool.proofs.top.run.Goals as goal
 
 pub run_file-requires-clause-allowed : goal.run_file-requires-clause-allowed
-run_file-requires-clause-allowed g c = c.requires.allowed (asked_for c.in-Some.asked) (sym c.in-Some.ensures)
+run_file-requires-clause-allowed g c =
+    c.requires.allowed (asked_for c.in-Ok.asked) c.in-Ok.ensures.asked
 
-pub returns-in-Some-clause-accepted : goal.returns-in-Some-clause-accepted
-returns-in-Some-clause-accepted g c =
-    rw (← c.in-Some.ensures)
-    (accepts (asked_for c.in-Some.asked) (g.S.Store.disk c.args.store) (g.S.Store.disk c.run_file.result.store) (g.I.Source.left c.args.script.now) (g.I.Source.left c.run_file.new.script) (g.O.Sink.written c.args.out.now) (g.O.Sink.written c.run_file.new.out) c.run_file.result.status c.run_file.ensures.ends)
+pub check_file-requires-clause-allowed : goal.check_file-requires-clause-allowed
+check_file-requires-clause-allowed g c =
+    c.requires.allowed (asked_for c.in-Ok.asked) c.in-Ok.ensures.asked
 
-pub returns-in-Some-clause-no_file : goal.returns-in-Some-clause-no_file
-returns-in-Some-clause-no_file g c =
-    let there = came (asked_for c.in-Some.asked) (g.S.Store.disk c.args.store) (g.S.Store.disk c.run_file.result.store) (g.I.Source.left c.args.script.now) (g.I.Source.left c.run_file.new.script) (g.O.Sink.written c.args.out.now) (g.O.Sink.written c.run_file.new.out) c.run_file.result.status c.run_file.ensures.ends in
-    rw (← c.in-Some.ensures) (no_file_exactly _ _ _ _ _ _ _ _ there)
+pub check_file-requires-clause-old : goal.check_file-requires-clause-old
+check_file-requires-clause-old g c =
+    c.in-Ok.ensures.old c.if-asked.true
 
-pub returns-in-Some-clause-rejected : goal.returns-in-Some-clause-rejected
-returns-in-Some-clause-rejected g c =
-    let there = came (asked_for c.in-Some.asked) (g.S.Store.disk c.args.store) (g.S.Store.disk c.run_file.result.store) (g.I.Source.left c.args.script.now) (g.I.Source.left c.run_file.new.script) (g.O.Sink.written c.args.out.now) (g.O.Sink.written c.run_file.new.out) c.run_file.result.status c.run_file.ensures.ends in
-    rw (← c.in-Some.ensures) (rejected_exactly _ _ _ _ _ _ _ _ there)
+-- ---- a script was run
 
-pub returns-in-Some-clause-too_long : goal.returns-in-Some-clause-too_long
-returns-in-Some-clause-too_long g c =
-    let there = came (asked_for c.in-Some.asked) (g.S.Store.disk c.args.store) (g.S.Store.disk c.run_file.result.store) (g.I.Source.left c.args.script.now) (g.I.Source.left c.run_file.new.script) (g.O.Sink.written c.args.out.now) (g.O.Sink.written c.run_file.new.out) c.run_file.result.status c.run_file.ensures.ends in
-    too_long_exactly (asked_for c.in-Some.asked) (g.S.Store.disk c.args.store) (g.S.Store.disk c.run_file.result.store) (g.I.Source.left c.args.script.now) (g.I.Source.left c.run_file.new.script) (g.O.Sink.written c.args.out.now) (g.O.Sink.written c.run_file.new.out) c.run_file.result.status there
+pub returns-else-asked-clause-accepted : goal.returns-else-asked-clause-accepted
+returns-else-asked-clause-accepted g c =
+    rw c.in-Ok.ensures.asked (accepts (asked_for c.in-Ok.asked) (g.S.Store.disk c.args.store) (g.S.Store.disk c.run_file.result.store) (g.I.Source.left c.args.script.now) (g.I.Source.left c.run_file.new.script) (g.O.Sink.written c.args.out.now) (g.O.Sink.written c.run_file.new.out) c.run_file.result.status c.run_file.ensures.ends)
 
-pub returns-in-Some-clause-complete : goal.returns-in-Some-clause-complete
-returns-in-Some-clause-complete g c =
-    let there = came (asked_for c.in-Some.asked) (g.S.Store.disk c.args.store) (g.S.Store.disk c.run_file.result.store) (g.I.Source.left c.args.script.now) (g.I.Source.left c.run_file.new.script) (g.O.Sink.written c.args.out.now) (g.O.Sink.written c.run_file.new.out) c.run_file.result.status c.run_file.ensures.ends in
-    rw (← c.in-Some.ensures) (completes (asked_for c.in-Some.asked) (g.S.Store.disk c.args.store) (g.S.Store.disk c.run_file.result.store) (g.I.Source.left c.args.script.now) (g.I.Source.left c.run_file.new.script) (g.O.Sink.written c.args.out.now) (g.O.Sink.written c.run_file.new.out) c.run_file.result.status there)
+pub returns-else-asked-clause-checked : goal.returns-else-asked-clause-checked
+returns-else-asked-clause-checked g c =
+    rw c.in-Ok.ensures.asked (λ is. absurd (cc (is, c.if-asked.false)))
 
-pub returns-in-Some-clause-unwritten : goal.returns-in-Some-clause-unwritten
-returns-in-Some-clause-unwritten g c =
-    rw (← c.in-Some.ensures)
-    (unwritten (asked_for c.in-Some.asked) (g.S.Store.disk c.args.store) (g.S.Store.disk c.run_file.result.store) (g.I.Source.left c.args.script.now) (g.I.Source.left c.run_file.new.script) (g.O.Sink.written c.args.out.now) (g.O.Sink.written c.run_file.new.out) c.run_file.result.status
-    _ _ c.run_file.ensures.ends c.run_file.ensures.counted)
+pub returns-else-asked-clause-unread : goal.returns-else-asked-clause-unread
+returns-else-asked-clause-unread g c =
+    rw c.in-Ok.ensures.asked (λ is. absurd (cc (is, c.if-asked.false)))
 
-pub returns-in-Some-clause-not_called : goal.returns-in-Some-clause-not_called
-returns-in-Some-clause-not_called g c = rw (← c.in-Some.ensures) (λ calls. c.run_file.ensures.not_called (not_false _ calls))
+pub returns-else-asked-clause-ends : goal.returns-else-asked-clause-ends
+returns-else-asked-clause-ends g c =
+    rw c.in-Ok.ensures.asked (run_ends (asked_for c.in-Ok.asked) (g.S.Store.disk c.args.store) (g.S.Store.disk c.run_file.result.store) (g.I.Source.left c.args.script.now) (g.I.Source.left c.run_file.new.script) (g.O.Sink.written c.args.out.now) (g.O.Sink.written c.run_file.new.out) c.run_file.result.status c.in-Ok.asked.check c.if-asked.false c.run_file.ensures.ends)
 
-pub returns-in-None-clause-counted : goal.returns-in-None-clause-counted
-returns-in-None-clause-counted g c = c.say_usage-status.ensures.counted (g.S.Store.read_faults c.args.store) (g.S.Store.write_faults c.args.store) (g.I.Source.faults c.args.script.now)
+pub returns-else-asked-clause-no_file : goal.returns-else-asked-clause-no_file
+returns-else-asked-clause-no_file g c =
+    rw c.in-Ok.ensures.asked (no_file_exactly (asked_for c.in-Ok.asked) (g.S.Store.disk c.args.store) (g.S.Store.disk c.run_file.result.store) (g.I.Source.left c.args.script.now) (g.I.Source.left c.run_file.new.script) (g.O.Sink.written c.args.out.now) (g.O.Sink.written c.run_file.new.out) c.run_file.result.status (came (asked_for c.in-Ok.asked) (g.S.Store.disk c.args.store) (g.S.Store.disk c.run_file.result.store) (g.I.Source.left c.args.script.now) (g.I.Source.left c.run_file.new.script) (g.O.Sink.written c.args.out.now) (g.O.Sink.written c.run_file.new.out) c.run_file.result.status c.run_file.ensures.ends))
 
-pub returns-in-Some-clause-reads : goal.returns-in-Some-clause-reads
-returns-in-Some-clause-reads g c = rw (← c.in-Some.ensures) c.run_file.ensures.reads
+pub returns-else-asked-clause-rejected : goal.returns-else-asked-clause-rejected
+returns-else-asked-clause-rejected g c =
+    rw c.in-Ok.ensures.asked (rejected_exactly (asked_for c.in-Ok.asked) (g.S.Store.disk c.args.store) (g.S.Store.disk c.run_file.result.store) (g.I.Source.left c.args.script.now) (g.I.Source.left c.run_file.new.script) (g.O.Sink.written c.args.out.now) (g.O.Sink.written c.run_file.new.out) c.run_file.result.status (came (asked_for c.in-Ok.asked) (g.S.Store.disk c.args.store) (g.S.Store.disk c.run_file.result.store) (g.I.Source.left c.args.script.now) (g.I.Source.left c.run_file.new.script) (g.O.Sink.written c.args.out.now) (g.O.Sink.written c.run_file.new.out) c.run_file.result.status c.run_file.ensures.ends))
+
+pub returns-else-asked-clause-too_long : goal.returns-else-asked-clause-too_long
+returns-else-asked-clause-too_long g c =
+    too_long_exactly (asked_for c.in-Ok.asked) (g.S.Store.disk c.args.store) (g.S.Store.disk c.run_file.result.store) (g.I.Source.left c.args.script.now) (g.I.Source.left c.run_file.new.script) (g.O.Sink.written c.args.out.now) (g.O.Sink.written c.run_file.new.out) c.run_file.result.status (came (asked_for c.in-Ok.asked) (g.S.Store.disk c.args.store) (g.S.Store.disk c.run_file.result.store) (g.I.Source.left c.args.script.now) (g.I.Source.left c.run_file.new.script) (g.O.Sink.written c.args.out.now) (g.O.Sink.written c.run_file.new.out) c.run_file.result.status c.run_file.ensures.ends)
+
+pub returns-else-asked-clause-complete : goal.returns-else-asked-clause-complete
+returns-else-asked-clause-complete g c =
+    rw c.in-Ok.ensures.asked (completes (asked_for c.in-Ok.asked) (g.S.Store.disk c.args.store) (g.S.Store.disk c.run_file.result.store) (g.I.Source.left c.args.script.now) (g.I.Source.left c.run_file.new.script) (g.O.Sink.written c.args.out.now) (g.O.Sink.written c.run_file.new.out) c.run_file.result.status (came (asked_for c.in-Ok.asked) (g.S.Store.disk c.args.store) (g.S.Store.disk c.run_file.result.store) (g.I.Source.left c.args.script.now) (g.I.Source.left c.run_file.new.script) (g.O.Sink.written c.args.out.now) (g.O.Sink.written c.run_file.new.out) c.run_file.result.status c.run_file.ensures.ends))
+
+pub returns-else-asked-clause-unwritten : goal.returns-else-asked-clause-unwritten
+returns-else-asked-clause-unwritten g c =
+    rw c.in-Ok.ensures.asked (λ unsaved. unwritten (asked_for c.in-Ok.asked) (g.S.Store.disk c.args.store) (g.S.Store.disk c.run_file.result.store) (g.I.Source.left c.args.script.now) (g.I.Source.left c.run_file.new.script) (g.O.Sink.written c.args.out.now) (g.O.Sink.written c.run_file.new.out) c.run_file.result.status _ _ c.run_file.ensures.ends c.run_file.ensures.counted (unsaved_run c.in-Ok.asked.check c.in-Ok.asked.no_save c.run_file.result.status c.if-asked.false unsaved))
+
+pub returns-else-asked-clause-not_called : goal.returns-else-asked-clause-not_called
+returns-else-asked-clause-not_called g c =
+    rw c.in-Ok.ensures.asked (λ calls. c.run_file.ensures.not_called (not_false _ calls))
+
+pub returns-else-asked-clause-reads : goal.returns-else-asked-clause-reads
+returns-else-asked-clause-reads g c =
+    rw c.in-Ok.ensures.asked c.run_file.ensures.reads
+
+-- ---- a file was checked
+
+pub returns-then-asked-clause-accepted : goal.returns-then-asked-clause-accepted
+returns-then-asked-clause-accepted g c =
+    rw c.in-Ok.ensures.asked (accepts_checked (asked_for c.in-Ok.asked) (g.S.Store.disk c.args.store) (g.S.Store.disk c.check_file.result.store) (g.I.Source.left c.args.script.now) (g.I.Source.left c.args.script.now) (g.O.Sink.written c.args.out.now) (g.O.Sink.written c.check_file.new.out) c.check_file.result.status c.if-asked.true)
+
+pub returns-then-asked-clause-checked : goal.returns-then-asked-clause-checked
+returns-then-asked-clause-checked g c =
+    rw c.in-Ok.ensures.asked (λ is. checks (asked_for c.in-Ok.asked) (g.S.Store.disk c.args.store) (g.S.Store.disk c.check_file.result.store) (g.I.Source.left c.args.script.now) (g.I.Source.left c.args.script.now) (g.O.Sink.written c.args.out.now) (g.O.Sink.written c.check_file.new.out) c.check_file.result.status (c.in-Ok.ensures.old is) (c.check_file.ensures.ends (g.I.Source.left c.args.script.now)))
+
+pub returns-then-asked-clause-ends : goal.returns-then-asked-clause-ends
+returns-then-asked-clause-ends g c =
+    rw c.in-Ok.ensures.asked (check_ends (asked_for c.in-Ok.asked) (g.S.Store.disk c.args.store) (g.S.Store.disk c.check_file.result.store) (g.I.Source.left c.args.script.now) (g.I.Source.left c.args.script.now) (g.O.Sink.written c.args.out.now) (g.O.Sink.written c.check_file.new.out) c.check_file.result.status c.in-Ok.asked.check c.if-asked.true (c.check_file.ensures.ends (g.I.Source.left c.args.script.now)))
+
+pub returns-then-asked-clause-no_file : goal.returns-then-asked-clause-no_file
+returns-then-asked-clause-no_file g c =
+    rw c.in-Ok.ensures.asked (no_file_exactly (asked_for c.in-Ok.asked) (g.S.Store.disk c.args.store) (g.S.Store.disk c.check_file.result.store) (g.I.Source.left c.args.script.now) (g.I.Source.left c.args.script.now) (g.O.Sink.written c.args.out.now) (g.O.Sink.written c.check_file.new.out) c.check_file.result.status (checked_came (asked_for c.in-Ok.asked) (g.S.Store.disk c.args.store) (g.S.Store.disk c.check_file.result.store) (g.I.Source.left c.args.script.now) (g.I.Source.left c.args.script.now) (g.O.Sink.written c.args.out.now) (g.O.Sink.written c.check_file.new.out) c.check_file.result.status (c.in-Ok.ensures.old c.if-asked.true) (c.check_file.ensures.ends (g.I.Source.left c.args.script.now))))
+
+pub returns-then-asked-clause-rejected : goal.returns-then-asked-clause-rejected
+returns-then-asked-clause-rejected g c =
+    rw c.in-Ok.ensures.asked (rejected_exactly (asked_for c.in-Ok.asked) (g.S.Store.disk c.args.store) (g.S.Store.disk c.check_file.result.store) (g.I.Source.left c.args.script.now) (g.I.Source.left c.args.script.now) (g.O.Sink.written c.args.out.now) (g.O.Sink.written c.check_file.new.out) c.check_file.result.status (checked_came (asked_for c.in-Ok.asked) (g.S.Store.disk c.args.store) (g.S.Store.disk c.check_file.result.store) (g.I.Source.left c.args.script.now) (g.I.Source.left c.args.script.now) (g.O.Sink.written c.args.out.now) (g.O.Sink.written c.check_file.new.out) c.check_file.result.status (c.in-Ok.ensures.old c.if-asked.true) (c.check_file.ensures.ends (g.I.Source.left c.args.script.now))))
+
+pub returns-then-asked-clause-too_long : goal.returns-then-asked-clause-too_long
+returns-then-asked-clause-too_long g c =
+    too_long_exactly (asked_for c.in-Ok.asked) (g.S.Store.disk c.args.store) (g.S.Store.disk c.check_file.result.store) (g.I.Source.left c.args.script.now) (g.I.Source.left c.args.script.now) (g.O.Sink.written c.args.out.now) (g.O.Sink.written c.check_file.new.out) c.check_file.result.status (checked_came (asked_for c.in-Ok.asked) (g.S.Store.disk c.args.store) (g.S.Store.disk c.check_file.result.store) (g.I.Source.left c.args.script.now) (g.I.Source.left c.args.script.now) (g.O.Sink.written c.args.out.now) (g.O.Sink.written c.check_file.new.out) c.check_file.result.status (c.in-Ok.ensures.old c.if-asked.true) (c.check_file.ensures.ends (g.I.Source.left c.args.script.now)))
+
+pub returns-then-asked-clause-complete : goal.returns-then-asked-clause-complete
+returns-then-asked-clause-complete g c =
+    rw c.in-Ok.ensures.asked (completes (asked_for c.in-Ok.asked) (g.S.Store.disk c.args.store) (g.S.Store.disk c.check_file.result.store) (g.I.Source.left c.args.script.now) (g.I.Source.left c.args.script.now) (g.O.Sink.written c.args.out.now) (g.O.Sink.written c.check_file.new.out) c.check_file.result.status (checked_came (asked_for c.in-Ok.asked) (g.S.Store.disk c.args.store) (g.S.Store.disk c.check_file.result.store) (g.I.Source.left c.args.script.now) (g.I.Source.left c.args.script.now) (g.O.Sink.written c.args.out.now) (g.O.Sink.written c.check_file.new.out) c.check_file.result.status (c.in-Ok.ensures.old c.if-asked.true) (c.check_file.ensures.ends (g.I.Source.left c.args.script.now))))
+
+pub returns-then-asked-clause-counted : goal.returns-then-asked-clause-counted
+returns-then-asked-clause-counted g c =
+    c.check_file.ensures.counted (g.I.Source.faults c.args.script.now)
+
+pub returns-then-asked-clause-unwritten : goal.returns-then-asked-clause-unwritten
+returns-then-asked-clause-unwritten g c =
+    rw c.in-Ok.ensures.asked (λ unsaved. c.check_file.ensures.reads.writes)
+
+pub returns-else-asked-clause-usage : goal.returns-else-asked-clause-usage
+returns-else-asked-clause-usage g c =
+    rw c.in-Ok.ensures.asked (record { only = λ be. absurd (never_usage (asked_for c.in-Ok.asked) (g.S.Store.disk c.args.store) (g.S.Store.disk c.run_file.result.store) (g.I.Source.left c.args.script.now) (g.I.Source.left c.run_file.new.script) (g.O.Sink.written c.args.out.now) (g.O.Sink.written c.run_file.new.out) c.run_file.result.status (came (asked_for c.in-Ok.asked) (g.S.Store.disk c.args.store) (g.S.Store.disk c.run_file.result.store) (g.I.Source.left c.args.script.now) (g.I.Source.left c.run_file.new.script) (g.O.Sink.written c.args.out.now) (g.O.Sink.written c.run_file.new.out) c.run_file.result.status c.run_file.ensures.ends) be); always = λ none. absurd (cc none) })
+
+pub returns-else-asked-clause-no_file_read : goal.returns-else-asked-clause-no_file_read
+returns-else-asked-clause-no_file_read g c =
+    no_file_held (asked_for c.in-Ok.asked) (g.S.Store.disk c.args.store) (g.S.Store.disk c.run_file.result.store) (g.I.Source.left c.args.script.now) (g.I.Source.left c.run_file.new.script) (g.O.Sink.written c.args.out.now) (g.O.Sink.written c.run_file.new.out) c.run_file.result.status (came (asked_for c.in-Ok.asked) (g.S.Store.disk c.args.store) (g.S.Store.disk c.run_file.result.store) (g.I.Source.left c.args.script.now) (g.I.Source.left c.run_file.new.script) (g.O.Sink.written c.args.out.now) (g.O.Sink.written c.run_file.new.out) c.run_file.result.status c.run_file.ensures.ends)
+
+pub returns-else-asked-clause-verdict : goal.returns-else-asked-clause-verdict
+returns-else-asked-clause-verdict g c =
+    verdict_names (asked_for c.in-Ok.asked) (g.S.Store.disk c.args.store) (g.S.Store.disk c.run_file.result.store) (g.I.Source.left c.args.script.now) (g.I.Source.left c.run_file.new.script) (g.O.Sink.written c.args.out.now) (g.O.Sink.written c.run_file.new.out) c.run_file.result.status (came (asked_for c.in-Ok.asked) (g.S.Store.disk c.args.store) (g.S.Store.disk c.run_file.result.store) (g.I.Source.left c.args.script.now) (g.I.Source.left c.run_file.new.script) (g.O.Sink.written c.args.out.now) (g.O.Sink.written c.run_file.new.out) c.run_file.result.status c.run_file.ensures.ends)
+
+pub returns-then-asked-clause-usage : goal.returns-then-asked-clause-usage
+returns-then-asked-clause-usage g c =
+    rw c.in-Ok.ensures.asked (record { only = λ be. absurd (never_usage (asked_for c.in-Ok.asked) (g.S.Store.disk c.args.store) (g.S.Store.disk c.check_file.result.store) (g.I.Source.left c.args.script.now) (g.I.Source.left c.args.script.now) (g.O.Sink.written c.args.out.now) (g.O.Sink.written c.check_file.new.out) c.check_file.result.status (checked_came (asked_for c.in-Ok.asked) (g.S.Store.disk c.args.store) (g.S.Store.disk c.check_file.result.store) (g.I.Source.left c.args.script.now) (g.I.Source.left c.args.script.now) (g.O.Sink.written c.args.out.now) (g.O.Sink.written c.check_file.new.out) c.check_file.result.status (c.in-Ok.ensures.old c.if-asked.true) (c.check_file.ensures.ends (g.I.Source.left c.args.script.now))) be); always = λ none. absurd (cc none) })
+
+pub returns-then-asked-clause-no_file_read : goal.returns-then-asked-clause-no_file_read
+returns-then-asked-clause-no_file_read g c =
+    no_file_held (asked_for c.in-Ok.asked) (g.S.Store.disk c.args.store) (g.S.Store.disk c.check_file.result.store) (g.I.Source.left c.args.script.now) (g.I.Source.left c.args.script.now) (g.O.Sink.written c.args.out.now) (g.O.Sink.written c.check_file.new.out) c.check_file.result.status (checked_came (asked_for c.in-Ok.asked) (g.S.Store.disk c.args.store) (g.S.Store.disk c.check_file.result.store) (g.I.Source.left c.args.script.now) (g.I.Source.left c.args.script.now) (g.O.Sink.written c.args.out.now) (g.O.Sink.written c.check_file.new.out) c.check_file.result.status (c.in-Ok.ensures.old c.if-asked.true) (c.check_file.ensures.ends (g.I.Source.left c.args.script.now)))
+
+pub returns-then-asked-clause-verdict : goal.returns-then-asked-clause-verdict
+returns-then-asked-clause-verdict g c =
+    verdict_names (asked_for c.in-Ok.asked) (g.S.Store.disk c.args.store) (g.S.Store.disk c.check_file.result.store) (g.I.Source.left c.args.script.now) (g.I.Source.left c.args.script.now) (g.O.Sink.written c.args.out.now) (g.O.Sink.written c.check_file.new.out) c.check_file.result.status (checked_came (asked_for c.in-Ok.asked) (g.S.Store.disk c.args.store) (g.S.Store.disk c.check_file.result.store) (g.I.Source.left c.args.script.now) (g.I.Source.left c.args.script.now) (g.O.Sink.written c.args.out.now) (g.O.Sink.written c.check_file.new.out) c.check_file.result.status (c.in-Ok.ensures.old c.if-asked.true) (c.check_file.ensures.ends (g.I.Source.left c.args.script.now)))
+
+pub returns-then-asked-clause-not_called : goal.returns-then-asked-clause-not_called
+returns-then-asked-clause-not_called g c =
+    rw c.in-Ok.ensures.asked (λ calls. absurd (old_called c.in-Ok.asked.new c.in-Ok.asked.no_save (c.in-Ok.ensures.old c.if-asked.true) calls))
+
+pub returns-then-asked-clause-reads : goal.returns-then-asked-clause-reads
+returns-then-asked-clause-reads g c =
+    rw c.in-Ok.ensures.asked (λ old. if_reads (g.I.Source.left c.args.script.now) _ c.check_file.ensures.reads)
+
+pub returns-then-asked-clause-untouched : goal.returns-then-asked-clause-untouched
+returns-then-asked-clause-untouched g c =
+    rw c.in-Ok.ensures.asked (λ unsaved. untouched_old (asked_for c.in-Ok.asked) (g.S.Store.disk c.args.store) (g.S.Store.disk c.check_file.result.store) (c.in-Ok.ensures.old c.if-asked.true) c.check_file.ensures.reads.files c.check_file.ensures.reads.touched)
+
+pub returns-then-asked-clause-named : goal.returns-then-asked-clause-named
+returns-then-asked-clause-named g c =
+    rw c.in-Ok.ensures.asked (check_leaves (asked_for c.in-Ok.asked) (g.S.Store.disk c.args.store) (g.S.Store.disk c.check_file.result.store) (g.I.Source.left c.args.script.now) (g.I.Source.left c.args.script.now) (g.O.Sink.written c.args.out.now) (g.O.Sink.written c.check_file.new.out) c.check_file.result.status (c.in-Ok.ensures.old c.if-asked.true) (c.check_file.ensures.ends (g.I.Source.left c.args.script.now))).name
+
+pub returns-then-asked-clause-looked : goal.returns-then-asked-clause-looked
+returns-then-asked-clause-looked g c =
+    rw c.in-Ok.ensures.asked (λ old unsaved. (check_leaves (asked_for c.in-Ok.asked) (g.S.Store.disk c.args.store) (g.S.Store.disk c.check_file.result.store) (g.I.Source.left c.args.script.now) (g.I.Source.left c.args.script.now) (g.O.Sink.written c.args.out.now) (g.O.Sink.written c.check_file.new.out) c.check_file.result.status (c.in-Ok.ensures.old c.if-asked.true) (c.check_file.ensures.ends (g.I.Source.left c.args.script.now))).looked)
+
+pub returns-then-asked-clause-only : goal.returns-then-asked-clause-only
+returns-then-asked-clause-only g c =
+    (check_leaves (asked_for c.in-Ok.asked) (g.S.Store.disk c.args.store) (g.S.Store.disk c.check_file.result.store) (g.I.Source.left c.args.script.now) (g.I.Source.left c.args.script.now) (g.O.Sink.written c.args.out.now) (g.O.Sink.written c.check_file.new.out) c.check_file.result.status (c.in-Ok.ensures.old c.if-asked.true) (c.check_file.ensures.ends (g.I.Source.left c.args.script.now))).only
+
+pub returns-then-asked-clause-under : goal.returns-then-asked-clause-under
+returns-then-asked-clause-under g c =
+    (check_leaves (asked_for c.in-Ok.asked) (g.S.Store.disk c.args.store) (g.S.Store.disk c.check_file.result.store) (g.I.Source.left c.args.script.now) (g.I.Source.left c.args.script.now) (g.O.Sink.written c.args.out.now) (g.O.Sink.written c.check_file.new.out) c.check_file.result.status (c.in-Ok.ensures.old c.if-asked.true) (c.check_file.ensures.ends (g.I.Source.left c.args.script.now))).under
+
+-- ---- there was no memory to read the words
+
+pub returns-in-Err-NoMemory-clause-ends : goal.returns-in-Err-NoMemory-clause-ends
+returns-in-Err-NoMemory-clause-ends g c =
+    unstarted_ends (g.S.Store.disk c.args.store) (g.I.Source.left c.args.script.now) (g.O.Sink.written c.args.out.now) c.requires.free (unnamed _ _ (g.met.S.Store.whole c.args.store).named c.requires.free) (ask (map string_bytes c.args.words.now))
+
+-- ---- the words ask for nothing
+
+pub returns-in-Err-Usage-clause-counted : goal.returns-in-Err-Usage-clause-counted
+returns-in-Err-Usage-clause-counted g c =
+    c.say_usage-status.ensures.counted (g.S.Store.read_faults c.args.store) (g.S.Store.write_faults c.args.store) (g.I.Source.faults c.args.script.now)

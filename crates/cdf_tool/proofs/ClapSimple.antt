@@ -1,0 +1,12 @@
+-- The command is one of which clap's clauses say all.
+use Rattle.std.proofs.Common.{◌≡◌, true, refl}
+use Rattle.clap.specs.Words.{is_simple, is_simple_and_free}
+use Rattle.cdf_tool.specs.CommandLine.{command}
+
+pub simple : is_simple command ≡ true
+unfolding command
+simple = refl
+
+pub simple_and_free : is_simple_and_free command ≡ true
+unfolding command
+simple_and_free = refl

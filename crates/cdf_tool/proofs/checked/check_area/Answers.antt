@@ -1,0 +1,21 @@
+use Rattle.std.proofs.Common.{ℕ, List, false, inl, inr, subst, sym}
+use Rattle.std.proofs.Math.Path.{transport}
+use Rattle.cdf_tool.specs.Checking.{SaysAccepted, accepted_text}
+use Rattle.cdf_tool.specs.Counts.{Counted, counts}
+use Rattle.cdf_tool.proofs.checked.check_area.Goals as goal
+
+pub returns-in-Ok-clause-ends : goal.returns-in-Ok-clause-ends
+returns-in-Ok-clause-ends g c =
+    let adopted = c.in-Ok.ensures.adopted in
+    inr (adopted.well_formed, subst (λ (b : List ℕ). SaysAccepted (accepted_text c.args.space b) (g.O.Sink.written c.args.out.now) (g.O.Sink.written c.confirm-status.new.out) c.confirm-status.result) adopted.image_is c.confirm-status.ensures.says)
+
+pub returns-in-Ok-clause-counted : goal.returns-in-Ok-clause-counted
+returns-in-Ok-clause-counted g c = λ source.
+    transport (λ i. Counted (counts (c.in-Ok.ensures.counted i) 0 (g.O.Sink.faults c.args.out.now) source) (counts (g.A.Area.faults (sym c.into_area-area.ensures.area i)) 0 (g.O.Sink.faults c.confirm-status.new.out) source) c.confirm-status.result)
+    (c.confirm-status.ensures.counted source)
+
+pub returns-in-Err-clause-ends : goal.returns-in-Err-clause-ends
+returns-in-Err-clause-ends g c = inl (c.refuse-status.ensures.ends false (g.A.Area.image c.args.area) c.in-Err.ensures.rejected)
+
+pub returns-in-Err-clause-counted : goal.returns-in-Err-clause-counted
+returns-in-Err-clause-counted g c = λ source. c.refuse-status.ensures.counted _ _ source c.in-Err.ensures.cause

@@ -1,0 +1,20 @@
+use Rattle.std.proofs.Common.{ℕ, List, ◌∙◌, ap, subst, sym}
+use Rattle.std.proofs.Math.Path.{transport}
+use Rattle.cdf_area.specs.Frame.{Frame}
+use Rattle.cdf_store.specs.Disk.{Disk, file_in}
+use Rattle.cdf_tool.specs.Checking.{EndsOverFile}
+use Rattle.cdf_tool.specs.Counts.{Counted, counts}
+use Rattle.cdf_tool.proofs.CountLemmas.{stopped_counted}
+use Rattle.cdf_tool.proofs.checked.check_attached.Goals as goal
+
+pub returns-in-Ok-clause-ends : goal.returns-in-Ok-clause-ends
+returns-in-Ok-clause-ends g c =
+    subst (λ (file : List ℕ). EndsOverFile c.args.space file (g.O.Sink.written c.args.out.now) (g.O.Sink.written c.check_area-area.new.out) c.check_area-area.result.status) (ap file_in c.in-Ok.ensures.image) c.check_area-area.ensures.ends
+
+pub returns-in-Ok-clause-counted : goal.returns-in-Ok-clause-counted
+returns-in-Ok-clause-counted g c = λ source.
+    let writes = c.into_store-store.ensures.write ∙ ap (λ (f : Frame (Disk g.S.Store.Under × ℕ)). f.under.1) (c.check_area-area.ensures.frame ∙ c.in-Ok.ensures.frame) in
+    stopped_counted c.check_area-area.result.status (g.S.Store.read_faults c.args.store) (g.S.Store.write_faults c.args.store) (g.O.Sink.faults c.args.out.now) source
+    (g.S.Store.read_faults c.into_store-store.result) (g.S.Store.write_faults c.into_store-store.result) (g.O.Sink.faults c.check_area-area.new.out) source
+    (transport (λ i. Counted (counts (c.in-Ok.ensures.faults i) 0 (g.O.Sink.faults c.args.out.now) source) (counts (sym c.into_store-store.ensures.read i) 0 (g.O.Sink.faults c.check_area-area.new.out) source) c.check_area-area.result.status) (c.check_area-area.ensures.counted source))
+    writes

@@ -1,0 +1,18 @@
+-- What any run leaves, by what its words ask for (own).
+use Rattle.std.specs.Prelude.{◌≡◌, ℕ, List, Bool, true, false, Some, None}
+use Rattle.std.specs.declared.option.Option.{Option}
+use Rattle.cdf_store.specs.Disk.{Disk}
+use Rattle.cdf_tool.specs.Asking.{Asked}
+use Rattle.cdf_tool.specs.declared.status.Status.{Status}
+use Rattle.cdf_tool.specs.Checking.{EndsChecked}
+use Rattle.cdf_tool.specs.Ends.{EndsNamed}
+use Rattle.cdf_tool.specs.Says.{SaysUsage}
+
+-- a file was checked, or a script run
+abbrev pub EndsAsked : {U : Type 0} → Bool → Asked → Disk U → Disk U → Option (List ℕ) → Option (List ℕ) → Option (List ℕ) → Option (List ℕ) → Status → Type 0
+EndsAsked true a d d' before left first now status = EndsChecked a d d' before left first now status
+EndsAsked false a d d' before left first now status = EndsNamed a d d' before left first now status
+
+abbrev pub Ends : {U : Type 0} → Option Asked → Disk U → Disk U → Option (List ℕ) → Option (List ℕ) → Option (List ℕ) → Option (List ℕ) → Status → Type 0
+Ends None d d' before left first now status = (d' ≡ d) × (left ≡ before) × SaysUsage first now status
+Ends (Some a) d d' before left first now status = EndsAsked a.check a d d' before left first now status
