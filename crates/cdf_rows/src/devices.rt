@@ -3,6 +3,7 @@
 use crate::row::Row;
 use anyhow::Result;
 use cdf_store::{MemSink, MemSource, MemStore};
+use cdf_tellings::Telling;
 use cdf_tool::run;
 use std::alloc::Global;
 
@@ -39,7 +40,9 @@ impl Devices {
 pub struct Ran {
     pub status: usize,
     pub text: Vec<u8>,
-    /// The file `a.cdf` that is left.
+    /// What is told of the run.
+    pub told: String,
+    /// The file of the row that is left.
     pub file: Option<Vec<u8>>,
     /// The file `-` is as it was.
     pub is_other_kept: bool,
@@ -57,7 +60,7 @@ const OTHER: &[u8] = b"another file";
 pub fn run_row(alloc: Global, row: &Row, before: Option<&[u8]>, devices: &Devices) -> Result<Ran> {
     let mut store = MemStore::new(alloc);
     if let Some(bytes) = before {
-        store.put_file("a.cdf", bytes)?;
+        store.put_file(row.name.as_str(), bytes)?;
     }
     store.put_file("-", OTHER)?;
     store.fail_at(devices.failing[0])?;
@@ -67,14 +70,16 @@ pub fn run_row(alloc: Global, row: &Row, before: Option<&[u8]>, devices: &Device
     let mut sink = MemSink::new(alloc, ROOM)?;
     sink.fail_at(devices.failing[2])?;
     let ended = run(alloc, &row.words, store, &mut source, &mut sink);
+    let telling = Telling::of_run(alloc, &row.words, ended.status, ended.broken);
     let store = ended.store;
-    let file = match store.file("a.cdf") {
+    let file = match store.file(row.name.as_str()) {
         Some(bytes) => Some(Vec::from_slice(alloc, bytes)?),
         None => None,
     };
     Ok(Ran {
         status: ended.status.number() as usize,
         text: Vec::from_slice(alloc, sink.written())?,
+        told: format!(in alloc; "{telling}")?,
         file,
         is_other_kept: store.file("-") == Some(OTHER),
         calls: [store.calls(), source.calls(), sink.calls()],

@@ -35,14 +35,18 @@ pub struct Row {
     pub title: String,
     /// The words of the command line.
     pub words: Vec<String>,
-    /// The file `a.cdf` before the run, but for the changes.
+    /// The name of the file that the row speaks of.
+    pub name: String,
+    /// This file before the run, but for the changes.
     pub before: String,
     pub changes: Vec<Change>,
     pub script: Vec<u8>,
     /// What has to be written.
     pub text: Vec<u8>,
     pub status: usize,
-    /// The file `a.cdf` after the run; the one before it, if none is said.
+    /// What has to be told of the run on standard error, if that is asked.
+    pub told: Option<String>,
+    /// The file after the run, which may be saved; the one before it, if none is said, and then none is saved.
     pub after: Option<String>,
 }
 
@@ -73,11 +77,13 @@ impl Row {
         Ok(Row {
             title: String::from_str(alloc, title)?,
             words,
+            name: String::from_str(alloc, "a.cdf")?,
             before: String::from_str(alloc, "new")?,
             changes: Vec::new(alloc),
             script: Vec::new(alloc),
             text: Vec::new(alloc),
             status: 0,
+            told: None,
             after: None,
         })
     }
@@ -96,6 +102,7 @@ impl Row {
     pub fn take(&mut self, alloc: Global, key: &str, text: &str) -> Result<()> {
         match key {
             "words" => self.take_words(alloc, text)?,
+            "under" => self.name = String::from_str(alloc, text)?,
             "before" => self.before = String::from_str(alloc, text)?,
             "with" => self.changes.push(Change::read(alloc, text)?)?,
             "script" => push_line(&mut self.script, text)?,
@@ -106,6 +113,7 @@ impl Row {
             "text-bytes" => self.text.extend_from_slice(&bytes_in(alloc, text)?)?,
             "text-repeat" => push_repeated(alloc, &mut self.text, text)?,
             "status" => self.status = number_in(text)?,
+            "told" => self.told = Some(String::from_str(alloc, text)?),
             "after" => self.after = Some(String::from_str(alloc, text)?),
             _ => bail!("{key} is no part of a row"),
         }

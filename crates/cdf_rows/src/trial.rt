@@ -78,11 +78,20 @@ impl<'a> Trial<'a> {
         }
     }
 
+    /// What was told is not what the row says, if it says anything.
+    fn is_told_wrong(&self, ran: &Ran) -> bool {
+        match &self.row.told {
+            Some(told) => told.as_str() != ran.told.as_str(),
+            None => false,
+        }
+    }
+
     /// What is wrong with a run over sound devices.
     fn fault_of_sound(&self, ran: &Ran) -> Option<&'static str> {
         wrong_if(&[
             (ran.status != self.row.status, "the status"),
             (ran.text.as_slice() != self.row.text.as_slice(), "the text"),
+            (self.is_told_wrong(ran), "what is told"),
             (ran.file.as_deref() != self.wanted(), "the file"),
             (!ran.is_other_kept, "another file"),
         ])
@@ -98,8 +107,8 @@ impl<'a> Trial<'a> {
     fn fault_of_failing(&self, device: usize, ran: &Ran) -> Option<&'static str> {
         let before = self.before.as_deref();
         let is_blamed = match device {
-            // a file that is to stay as it is is not written
-            0 => ran.status == 5 || (ran.status == 6 && self.wanted() != before),
+            // where a row names no file after the run, none is written
+            0 => ran.status == 5 || (ran.status == 6 && self.row.after.is_some()),
             1 => ran.status == 9,
             _ => ran.status == 7,
         };
