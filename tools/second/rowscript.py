@@ -1,4 +1,4 @@
-"""Lines of a script as commands, of those on attributes and their entries, and quoted text."""
+"""Lines of a script as commands, of those on attributes, their entries and the checksum, and quoted text."""
 from layout import TYPE_NAMED
 from model import Command
 
@@ -65,4 +65,6 @@ def command_of(words):
                        type=TYPE_NAMED[rest[3].decode()].code, words=rest[4:])
     if kind in ('get-entry', 'del-entry'):
         return Command(kind, name=rest[0], entry=rest[1].decode(), num=int(rest[2]))
+    if kind == 'checksum':
+        return Command(kind, md5=rest[0] == b'md5')
     return Command(kind)

@@ -15,7 +15,7 @@ from image import Image
 from layout import ADR, AGREDR, AZEDR, CDR, GDR, TEXT_TYPES, TYPES, UIR, Adr, Aedr, Cdr, Gdr, Uir, fresh_image
 from model import READERS, Refused
 from rowscript import command_of, quoted, words_of
-from validator import broken
+from validator import broken, sealed, unsealed
 from worked import space
 
 REASONS = ('BadLine NoSuchAttr NoSuchVar NoSuchTap BadName NameTaken WrongScope NoSuchEntry NumberOutOfRange BadShape '
@@ -198,13 +198,13 @@ class Run:
             lines = [f'rejected {phase} {rule} {at}\n'.encode() for phase, rule, at in wrong]
             self.text = self.row.text if self.row.text in lines else lines[0]
             return
-        image = self.carry_out(bytes(fresh_image()) if '--new' in flags else bytes(self.before))
+        image = self.carry_out(bytes(fresh_image()) if '--new' in flags else unsealed(bytes(self.before)))
         if '--space' in flags:
             eof, used, listed, listed_bytes, loose, loose_bytes = space(Image(image))
             self.text += (f'space eof {eof} used {used} listed {listed} {listed_bytes} unlisted {loose} {loose_bytes}\n'
                           ).encode()
         if '--no-save' not in flags:
-            self.after = image
+            self.after = sealed(image)
 
 
 def wrong_parts(row, table):

@@ -254,5 +254,10 @@ def sealed(image):
     return data + hashlib.md5(data).digest() if Image(data)[8, Cdr.Flags] & CHECKSUM else data
 
 
+def unsealed(file):
+    """A well-formed file without the MD5 behind its image."""
+    return file[:-16] if Image(file)[8, Cdr.Flags] & CHECKSUM else file
+
+
 def broken(file):
     return Validator(file).check()
