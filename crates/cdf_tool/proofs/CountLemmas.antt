@@ -14,7 +14,7 @@ use Rattle.cdf_store.specs.Disk.{Disk}
 use Rattle.cdf_tool.specs.Areas.{EndsSaving, EndsStored}
 use Rattle.cdf_tool.specs.declared.status.Status.{Status}
 use Rattle.cdf_tool.specs.declared.status.Status.TheVariants as statuses
-use Rattle.cdf_tool.specs.Counts.{Counts, Counted, CountedIn, WritesCounted, counts}
+use Rattle.cdf_tool.specs.Counts.{Counts, Counted, CountedIn, ReadsCounted, ReadsCountedBehind, WritesCounted, counts}
 use Rattle.cdf_tool.specs.Ends.{EndsNamed}
 use Rattle.cdf_tool.specs.Statuses.{IsUnsaved, status_of, status_of_area}
 
@@ -91,18 +91,22 @@ stopped_counted statuses.NoMemory r w o s r' w' o' s' same writes = λ i. record
 stopped_counted statuses.ScriptTooLong r w o s r' w' o' s' same writes = λ i. record (same i) { writes = writes i }
 
 -- a run whose script was answered, and what was saved
-saved_counted : {U : Type 0} (refused : Bool) (end : List ℕ) (d d' : Disk U) (status : Status) (r w o s r' w' o' s' : ℕ) → EndsSaving refused end d d' status → counts r' 0 o' s' ≡ counts r 0 o s → WritesCounted w w' status → Counted (counts r w o s) (counts r' w' o' s') status
-saved_counted refused end d d' statuses.Done r w o s r' w' o' s' ends same writes = λ i. record (same i) { writes = writes i }
-saved_counted refused end d d' statuses.SomeRefused r w o s r' w' o' s' ends same writes = λ i. record (same i) { writes = writes i }
-saved_counted refused end d d' statuses.NoMemory r w o s r' w' o' s' ends same writes = λ i. record (same i) { writes = writes i }
-saved_counted refused end d d' statuses.StoreWriteFault r w o s r' w' o' s' ends same rose = (λ i. record (same i) { writes = w' }, rose)
-saved_counted refused end d d' statuses.Usage r w o s r' w' o' s' ends same writes = absurd ends
-saved_counted refused end d d' statuses.NoFile r w o s r' w' o' s' ends same writes = absurd ends
-saved_counted refused end d d' statuses.Rejected r w o s r' w' o' s' ends same writes = absurd ends
-saved_counted refused end d d' statuses.StoreReadFault r w o s r' w' o' s' ends same writes = absurd ends
-saved_counted refused end d d' statuses.OutputFault r w o s r' w' o' s' ends same writes = absurd ends
-saved_counted refused end d d' statuses.ScriptFault r w o s r' w' o' s' ends same writes = absurd ends
-saved_counted refused end d d' statuses.ScriptTooLong r w o s r' w' o' s' ends same writes = absurd ends
+saved_stays : (r w o s r' w' o' s' now : ℕ) → counts now 0 o' s' ≡ counts r 0 o s → r' ≡ now → w' ≡ w → counts r' w' o' s' ≡ counts r w o s
+saved_stays r w o s r' w' o' s' now same reads writes = λ i. record (same i) { reads = (reads ∙ counts_reads r 0 o s now 0 o' s' same) i; writes = writes i }
+
+saved_counted : {U : Type 0} (refused : Bool) (end : List ℕ) (d d' : Disk U) (status : Status) (r w o s r' w' o' s' now : ℕ) → EndsSaving refused end d d' status → counts now 0 o' s' ≡ counts r 0 o s → ReadsCounted now r' status → WritesCounted w w' status → Counted (counts r w o s) (counts r' w' o' s') status
+saved_counted refused end d d' statuses.Done r w o s r' w' o' s' now ends same reads writes = saved_stays r w o s r' w' o' s' now same reads writes
+saved_counted refused end d d' statuses.SomeRefused r w o s r' w' o' s' now ends same reads writes = saved_stays r w o s r' w' o' s' now same reads writes
+saved_counted refused end d d' statuses.NoMemory r w o s r' w' o' s' now ends same reads writes = saved_stays r w o s r' w' o' s' now same reads writes
+saved_counted refused end d d' statuses.StoreWriteFault r w o s r' w' o' s' now ends same reads rose = (saved_stays r w' o s r' w' o' s' now same reads refl, rose)
+saved_counted refused end d d' statuses.StoreReadFault r w o s r' w' o' s' now ends same rose writes =
+    (λ i. record (same i) { reads = r'; writes = writes i }, subst (λ (n : ℕ). Rose n r') (counts_reads r 0 o s now 0 o' s' same) rose)
+saved_counted refused end d d' statuses.Usage r w o s r' w' o' s' now ends same reads writes = absurd ends
+saved_counted refused end d d' statuses.NoFile r w o s r' w' o' s' now ends same reads writes = absurd ends
+saved_counted refused end d d' statuses.Rejected r w o s r' w' o' s' now ends same reads writes = absurd ends
+saved_counted refused end d d' statuses.OutputFault r w o s r' w' o' s' now ends same reads writes = absurd ends
+saved_counted refused end d d' statuses.ScriptFault r w o s r' w' o' s' now ends same reads writes = absurd ends
+saved_counted refused end d d' statuses.ScriptTooLong r w o s r' w' o' s' now ends same reads writes = absurd ends
 
 writes_of : (status : Status) (w w' : ℕ) → (status ≡ statuses.StoreWriteFault → ⊥) → WritesCounted w w' status → w' ≡ w
 writes_of statuses.StoreWriteFault w w' not_so writes = absurd (not_so refl)
@@ -117,25 +121,21 @@ writes_of statuses.NoMemory w w' not_so writes = writes
 writes_of statuses.ScriptFault w w' not_so writes = writes
 writes_of statuses.ScriptTooLong w w' not_so writes = writes
 
-done_writes_not : (refused : Bool) → status_of refused ≡ statuses.StoreWriteFault → ⊥
-done_writes_not true is = cc
-done_writes_not false is = cc
-
-unsaved_counted : (refused : Bool) (r w o s r' w' o' s' : ℕ) → counts r' 0 o' s' ≡ counts r 0 o s → w' ≡ w → Counted (counts r w o s) (counts r' w' o' s') (status_of refused)
-unsaved_counted true r w o s r' w' o' s' same writes = λ i. record (same i) { writes = writes i }
-unsaved_counted false r w o s r' w' o' s' same writes = λ i. record (same i) { writes = writes i }
+unsaved_counted : (refused : Bool) (r w o s r' w' o' s' now : ℕ) → counts now 0 o' s' ≡ counts r 0 o s → ReadsCounted now r' (status_of refused) → WritesCounted w w' (status_of refused) → Counted (counts r w o s) (counts r' w' o' s') (status_of refused)
+unsaved_counted true r w o s r' w' o' s' now same reads writes = saved_stays r w o s r' w' o' s' now same reads writes
+unsaved_counted false r w o s r' w' o' s' now same reads writes = saved_stays r w o s r' w' o' s' now same reads writes
 
 -- a run over the file that is attached
-pub attached_counted : {U : Type 0} (no_save : Bool) (end : List ℕ) (d d' : Disk U) (outcome : Result Bool Status) (status : Status) (r w o s r' w' o' s' : ℕ) → EndsStored no_save end d d' outcome status → CountedIn (counts r 0 o s) (counts r' 0 o' s') outcome → WritesCounted w w' status
-    → Counted (counts r w o s) (counts r' w' o' s') status
-attached_counted no_save end d d' (Err stopped) status r w o s r' w' o' s' (is, same) counted writes =
-    let here : Counted (counts r 0 o s) (counts r' 0 o' s') status = subst (λ (x : Status). Counted (counts r 0 o s) (counts r' 0 o' s') x) (sym is) counted in
+attached_counted : {U : Type 0} (no_save : Bool) (end : List ℕ) (d d' : Disk U) (outcome : Result Bool Status) (status : Status) (r w o s r' w' o' s' now : ℕ) → EndsStored no_save end d d' outcome status → CountedIn (counts r 0 o s) (counts now 0 o' s') outcome
+    → ReadsCountedBehind outcome now r' status → WritesCounted w w' status → Counted (counts r w o s) (counts r' w' o' s') status
+attached_counted no_save end d d' (Err stopped) status r w o s r' w' o' s' now (is, same) counted reads writes =
+    let here : Counted (counts r 0 o s) (counts r' 0 o' s') status = transport (λ i. Counted (counts r 0 o s) (counts (sym reads i) 0 o' s') (sym is i)) counted in
     let not_so : status ≡ statuses.StoreWriteFault → ⊥ = λ so. never_writes r o s r' o' s' (subst (λ (x : Status). Counted (counts r 0 o s) (counts r' 0 o' s') x) so here) in
     stopped_counted status r w o s r' w' o' s' here (writes_of status w w' not_so writes)
-attached_counted true end d d' (Ok refused) status r w o s r' w' o' s' (is, same) counted writes =
-    let not_so : status ≡ statuses.StoreWriteFault → ⊥ = λ so. done_writes_not refused (sym is ∙ so) in
-    subst (λ (x : Status). Counted (counts r w o s) (counts r' w' o' s') x) (sym is) (unsaved_counted refused r w o s r' w' o' s' counted (writes_of status w w' not_so writes))
-attached_counted false end d d' (Ok refused) status r w o s r' w' o' s' ends counted writes = saved_counted refused end d d' status r w o s r' w' o' s' ends counted writes
+attached_counted true end d d' (Ok refused) status r w o s r' w' o' s' now (is, same) counted reads writes =
+    subst (λ (x : Status). Counted (counts r w o s) (counts r' w' o' s') x) (sym is)
+    (unsaved_counted refused r w o s r' w' o' s' now counted (subst (λ (x : Status). ReadsCounted now r' x) is reads) (subst (λ (x : Status). WritesCounted w w' x) is writes))
+attached_counted false end d d' (Ok refused) status r w o s r' w' o' s' now ends counted reads writes = saved_counted refused end d d' status r w o s r' w' o' s' now ends counted reads writes
 
 -- a run over a new file in memory
 pub in_memory_counted : (refused : Bool) (status : Status) (c now : Counts) → status ≡ status_of refused → now ≡ c → Counted c now status
@@ -146,11 +146,11 @@ in_memory_counted refused status c now is same = subst (λ (x : Status). Counted
     by_refused false = same
 
 -- the same, where the counts of the area are those of the store
-pub counted_attached : {U : Type 0} (no_save : Bool) (end : List ℕ) (d d' : Disk U) (outcome : Result Bool Status) (status : Status) (r w o s r' w' o' s' before now writes : ℕ) → before ≡ r → r' ≡ now → writes ≡ w → EndsStored no_save end d d' outcome status
-    → CountedIn (counts before 0 o s) (counts now 0 o' s') outcome → WritesCounted writes w' status → Counted (counts r w o s) (counts r' w' o' s') status
-counted_attached no_save end d d' outcome status r w o s r' w' o' s' before now writes first last same ends counted wrote =
-    attached_counted no_save end d d' outcome status r w o s r' w' o' s' ends
-    (transport (λ i. CountedIn (counts (first i) 0 o s) (counts (sym last i) 0 o' s') outcome) counted)
+pub counted_attached : {U : Type 0} (no_save : Bool) (end : List ℕ) (d d' : Disk U) (outcome : Result Bool Status) (status : Status) (r w o s r' w' o' s' before now writes : ℕ) → before ≡ r → writes ≡ w → EndsStored no_save end d d' outcome status
+    → CountedIn (counts before 0 o s) (counts now 0 o' s') outcome → ReadsCountedBehind outcome now r' status → WritesCounted writes w' status → Counted (counts r w o s) (counts r' w' o' s') status
+counted_attached no_save end d d' outcome status r w o s r' w' o' s' before now writes first same ends counted reads wrote =
+    attached_counted no_save end d d' outcome status r w o s r' w' o' s' now ends
+    (subst (λ (n : ℕ). CountedIn (counts n 0 o s) (counts now 0 o' s') outcome) first counted) reads
     (subst (λ (n : ℕ). WritesCounted n w' status) same wrote)
 
 -- a run over the file that was attached without a fault

@@ -14,7 +14,7 @@ use Rattle.cdf_tool.specs.Script.{FinishesWith, HaltsWith}
 use Rattle.cdf_tool.specs.Statuses.{status_of}
 use Rattle.cdf_tool.specs.Stored.{Attached, Kept, StoredBy}
 use Rattle.cdf_tool.proofs.AreaLemmas.{over_file}
-use Rattle.cdf_tool.proofs.StoredLemmas.{kept, replaced, spoiled}
+use Rattle.cdf_tool.proofs.StoredLemmas.{kept, replaced, rewritten, spoiled}
 
 module _ {U : Type 0} (new check no_save space : Bool) (name file : List ℕ) (d d' : Disk U) (before left first now : Option (List ℕ)) where
   abbrev asked : Asked
@@ -35,7 +35,7 @@ module _ {U : Type 0} (new check no_save space : Bool) (name file : List ℕ) (d
   halted_runs image statuses.Rejected same h = (same, h)
   halted_runs image statuses.StoreReadFault same h = (same, h)
   halted_runs image statuses.OutputFault same h = (same, h)
-  halted_runs image statuses.NoMemory same h = (same, inl h)
+  halted_runs image statuses.NoMemory same h = (same, h)
   halted_runs image statuses.ScriptFault same h = (same, h)
   halted_runs image statuses.ScriptTooLong same h = (same, h)
 
@@ -55,17 +55,17 @@ module _ {U : Type 0} (new check no_save space : Bool) (name file : List ℕ) (d
 
   module _ (at : Disk U) (attached : Attached asked file d at) (saves : new ≡ true → no_save ≡ false) where
     saved_runs : (image end : List ℕ) (refused : Bool) (status : Status) → no_save ≡ false → Good end → FinishesWith space image_limit image before left first end refused now → EndsSaving refused end at d' status → Runs asked file image d d' before left first now status
-    saved_runs image end refused statuses.Done asks good f (is, holds) =
-        record { end = end; finishes = subst (λ (r : Bool). FinishesWith space image_limit image before left first end r now) is f; stored = subst (λ (s : Bool). StoredBy s asked file end d d') (sym asks) (good, replaced new check no_save space name file d at d' _ attached holds) }
-    saved_runs image end refused statuses.SomeRefused asks good f (is, holds) =
-        record { end = end; finishes = subst (λ (r : Bool). FinishesWith space image_limit image before left first end r now) is f; stored = subst (λ (s : Bool). StoredBy s asked file end d d') (sym asks) (good, replaced new check no_save space name file d at d' _ attached holds) }
-    saved_runs image end refused statuses.StoreWriteFault asks good f holds =
-        record { end = end; refused = refused; finishes = f; spoiled = spoiled new check no_save space name file d at d' end asks attached holds }
-    saved_runs image end refused statuses.NoMemory asks good f same = (kept new check no_save space name file d at d' saves attached same, inr (record { end = end; refused = refused; finishes = f }))
+    saved_runs image end refused statuses.Done asks good f (is, holds, written) =
+        record { end = end; finishes = subst (λ (r : Bool). FinishesWith space image_limit image before left first end r now) is f; stored = subst (λ (s : Bool). StoredBy s asked file end d d') (sym asks) (good, replaced new check no_save space name file d at d' _ attached holds, rewritten new check no_save space name file d at d' end attached written) }
+    saved_runs image end refused statuses.SomeRefused asks good f (is, holds, written) =
+        record { end = end; finishes = subst (λ (r : Bool). FinishesWith space image_limit image before left first end r now) is f; stored = subst (λ (s : Bool). StoredBy s asked file end d d') (sym asks) (good, replaced new check no_save space name file d at d' _ attached holds, rewritten new check no_save space name file d at d' end attached written) }
+    saved_runs image end refused statuses.StoreWriteFault asks good f (holds, written) =
+        record { end = end; refused = refused; finishes = f; spoiled = spoiled new check no_save space name file d at d' end asks attached holds written }
+    saved_runs image end refused statuses.NoMemory asks good f same = (kept new check no_save space name file d at d' saves attached same, inr (inr (record { end = end; refused = refused; finishes = f; stops = tt })))
+    saved_runs image end refused statuses.StoreReadFault asks good f same = (kept new check no_save space name file d at d' saves attached same, inr (inr (record { end = end; refused = refused; finishes = f; stops = tt })))
     saved_runs image end refused statuses.Usage asks good f ends = absurd ends
     saved_runs image end refused statuses.NoFile asks good f ends = absurd ends
     saved_runs image end refused statuses.Rejected asks good f ends = absurd ends
-    saved_runs image end refused statuses.StoreReadFault asks good f ends = absurd ends
     saved_runs image end refused statuses.OutputFault asks good f ends = absurd ends
     saved_runs image end refused statuses.ScriptFault asks good f ends = absurd ends
     saved_runs image end refused statuses.ScriptTooLong asks good f ends = absurd ends

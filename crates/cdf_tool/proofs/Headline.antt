@@ -95,7 +95,7 @@ runs_accepted a file image d d' script written left now statuses.NoMemory opens 
 runs_accepted a file image d d' script written left now statuses.ScriptFault opens r is = absurd is
 runs_accepted a file image d d' script written left now statuses.ScriptTooLong opens r is = absurd is
 
-without_not_done : (a : Asked) (files : Option (List (List ℕ × List ℕ))) (first now : Option (List ℕ)) (status : Status) → EndsWithout a files first now status → IsDone status → ⊥
+pub without_not_done : (a : Asked) (files : Option (List (List ℕ × List ℕ))) (first now : Option (List ℕ)) (status : Status) → EndsWithout a files first now status → IsDone status → ⊥
 without_not_done a files first now statuses.Done ends is = ends
 without_not_done a files first now statuses.SomeRefused ends is = ends
 without_not_done a files first now statuses.Usage ends is = is
@@ -108,7 +108,7 @@ without_not_done a files first now statuses.NoMemory ends is = is
 without_not_done a files first now statuses.ScriptFault ends is = is
 without_not_done a files first now statuses.ScriptTooLong ends is = is
 
-unread_not_done : (new : Bool) (file : List ℕ) (first now : Option (List ℕ)) (status : Status) → EndsUnread new file first now status → IsDone status → ⊥
+pub unread_not_done : (new : Bool) (file : List ℕ) (first now : Option (List ℕ)) (status : Status) → EndsUnread new file first now status → IsDone status → ⊥
 unread_not_done new file first now statuses.Done ends is = ends
 unread_not_done new file first now statuses.SomeRefused ends is = ends
 unread_not_done new file first now statuses.Usage ends is = is

@@ -21,3 +21,4 @@ pub mod CheckLemmas
 pub mod AskedLemmas
 pub mod Unstarted
 pub mod Headline
+pub mod Changes

@@ -112,11 +112,11 @@ module _ {U : Type 0} (a : Asked) (d d' : Disk U) (before left first now : Optio
 
   stored_ran : (file image end : List ℕ) (no_save : Bool) → Opens a.new file image → StoredBy no_save a file end d d' → a.new ≡ false → WellFormed file × IsOld a d.files (Some file)
   stored_ran file image end true opens k old = kept_ran file image opens k old
-  stored_ran file image end false opens (good, r) old = (opened_well a.new file image old opens, record { old = old; found = found_lookup_in a.new a.name file d.files old r.found })
+  stored_ran file image end false opens (good, r, written) old = (opened_well a.new file image old opens, record { old = old; found = found_lookup_in a.new a.name file d.files old r.found })
 
   stored_well : (file image end : List ℕ) (no_save : Bool) → Opens a.new file image → StoredBy no_save a file end d d' → a.new ≡ false → (held : List ℕ) → d'.held ≡ Some held → WellFormed held
   stored_well file image end true opens k old held is = kept_well file image opens k old held is
-  stored_well file image end false opens (good, r) old held is = subst (λ (f : List ℕ). WellFormed f) (some_same _ held (sym r.held ∙ is)) good
+  stored_well file image end false opens (good, r, written) old held is = subst (λ (f : List ℕ). WellFormed f) (some_same _ held (sym r.held ∙ is)) good
 
   completes_came : (file image : List ℕ) (refused : Bool) (status : Status) → IsDone status → Opens a.new file image → Completes a file image d d' before left first now refused → Came a d d' before left first now status
   completes_came file image refused status is opens c =
@@ -136,10 +136,9 @@ module _ {U : Type 0} (a : Asked) (d d' : Disk U) (before left first now : Optio
   runs_came file image statuses.OutputFault opens (k, inl h) = failed tt (inr (h.taken, h.consumed, h.how.0))
   runs_came file image statuses.OutputFault opens (k, inr (inl l)) = failed tt (read_whole l.finishes)
   runs_came file image statuses.OutputFault opens (k, inr (inr l)) = absurd l.stops
-  runs_came file image statuses.NoMemory opens (k, inl (inl h)) = failed tt (inr (h.taken, h.consumed, h.how.0))
-  runs_came file image statuses.NoMemory opens (k, inl (inr (inl l))) = failed tt (read_whole l.finishes)
-  runs_came file image statuses.NoMemory opens (k, inl (inr (inr l))) = failed tt (read_whole l.finishes.finishes)
-  runs_came file image statuses.NoMemory opens (k, inr u) = failed tt (read_whole u.finishes.finishes)
+  runs_came file image statuses.NoMemory opens (k, inl h) = failed tt (inr (h.taken, h.consumed, h.how.0))
+  runs_came file image statuses.NoMemory opens (k, inr (inl l)) = failed tt (read_whole l.finishes)
+  runs_came file image statuses.NoMemory opens (k, inr (inr l)) = failed tt (read_whole l.finishes.finishes)
   runs_came file image statuses.ScriptFault opens (k, inl h) = failed tt (inr (h.taken, h.consumed, h.how.0))
   runs_came file image statuses.ScriptFault opens (k, inr (inl l)) = absurd l.stops
   runs_came file image statuses.ScriptFault opens (k, inr (inr l)) = absurd l.stops

@@ -1,12 +1,13 @@
 -- What becomes of the store.
-use Rattle.std.proofs.Common.{◌≡◌, ℕ, Bool, true, false, List, [], ◌∷◌, ◌++◌, ◌+◌, ◌-◌, ◌≤◌, length, take, arith, Option, Some, None, Ok, refl, sym, ◌∙◌, ap, subst}
+use Rattle.std.proofs.Common.{◌≡◌, ℕ, Bool, true, false, List, [], ◌∷◌, ◌++◌, ◌+◌, ◌-◌, ◌≤◌, length, length-append, take, arith, Option, Some, None, Ok, IsTrue, refl, sym, ◌∙◌, ap, subst, inl, inr}
 use Rattle.std.specs.Prelude.{◌&&◌, bytes_eq, is_some, if◌then◌else◌, IfSome, IsSome}
 use Rattle.std.specs.Option.{option_map}
 use Rattle.std.proofs.lemmas.Slice.Eq.{bytes_eq-Decides}
 use Rattle.cdf_store.specs.Disk.{Disk, IsWhole, file_in, file_of, files_with}
 use Rattle.cdf_store.specs.Named.{files_attached, found_or_made, lookup, with_file}
-use Rattle.cdf_pages.specs.Saving.{Holds, HoldsBetween, IsBetween, tail_bytes}
+use Rattle.cdf_pages.specs.Saving.{Differs, Holds, HoldsBetween, IsBetween, IsChangedRange, Touches, tail_bytes}
 use Rattle.cdf_pages.proofs.Disks.{holds_first}
+use Rattle.cdf_pages.proofs.Touched.{touches_none, touches_weaker}
 use Rattle.cdf_format.specs.Fields.{gdr_offset, eof, word}
 use Rattle.cdf_format.specs.Sealed.{has_checksum, image_of, sealed, trailer_length}
 use Rattle.cdf_format.specs.Shape.{shape}
@@ -25,7 +26,7 @@ use Rattle.std.proofs.Math.Path.{transport}
 use Rattle.cdf_tool.specs.declared.status.Status.{Status}
 use Rattle.cdf_tool.specs.Areas.{EndsSaving, EndsStored}
 use Rattle.cdf_tool.specs.Statuses.{status_of}
-use Rattle.cdf_tool.specs.Stored.{Attached, KeptBy, Replaced, Spoiled}
+use Rattle.cdf_tool.specs.Stored.{Attached, IsRewritten, KeptBy, Replaced, Rewrites, Spoiled}
 
 -- ---- files by name
 
@@ -84,12 +85,17 @@ module _ {U : Type 0} (new check no_save space : Bool) (name file : List ℕ) (d
     under = holds.under_stays ∙ attached.under;
   }
 
-  pub spoiled : (end : List ℕ) → no_save ≡ false → Attached asked file d at → HoldsBetween at (sealed end) d' → Spoiled asked file end d d'
-  spoiled end saves attached holds = record {
+  -- where only these ranges were
+  pub rewritten : (end : List ℕ) → Attached asked file d at → Rewrites (file_of at) end at d' → Rewrites file end d d'
+  rewritten end attached written = transport (λ i. Touches (IsRewritten (file_in (attached.held i)) end) (attached.touched i) d'.touched) written
+
+  pub spoiled : (end : List ℕ) → no_save ≡ false → Attached asked file d at → HoldsBetween at (sealed end) d' → Rewrites (file_of at) end at d' → Spoiled asked file end d d'
+  spoiled end saves attached holds written = record {
     saves = saves;
     now = holds.bytes;
     between = subst (λ (f : List ℕ). IsBetween f (sealed end) holds.bytes) (ap file_in attached.held) holds.between;
     replaced = replaced holds.bytes attached holds.holds;
+    touched = rewritten end attached written;
   }
 
 -- ---- an image as it is saved
@@ -103,7 +109,7 @@ seal_is b seal is = ap (λ (s : Option (List ℕ)). b ++ tail_bytes s) is ∙ ap
     bytes false = refl
 
 -- the front of a well-formed file that is good is its image
-front_is_image : (f b : List ℕ) → WellFormed f → Good b → b ≡ take (length b) f → b ≡ image_of f
+pub front_is_image : (f b : List ℕ) → WellFormed f → Good b → b ≡ take (length b) f → b ≡ image_of f
 front_is_image f b holds good front =
     let n = length b in
     let long : 44 ≤ n = good_long b (shape b) (good_by_its_shape b good) in
@@ -128,18 +134,33 @@ module _ {U : Type 0} (end : List ℕ) (seal : Option (List ℕ)) (d d' now : Di
   bytes_are : end ++ tail_bytes seal ≡ sealed end
   bytes_are = seal_is end seal is
 
-  pub saved_done : (refused : Bool) (status : Status) → status ≡ status_of refused → Holds d (end ++ tail_bytes seal) now → EndsSaving refused end d d' status
-  saved_done true status ends holds = subst (λ (s : Status). EndsSaving true end d d' s) (sym ends) (refl, transport (λ i. Holds d (bytes_are i) (sym same i)) holds)
-  saved_done false status ends holds = subst (λ (s : Status). EndsSaving false end d d' s) (sym ends) (refl, transport (λ i. Holds d (bytes_are i) (sym same i)) holds)
+  -- only changed pages were written, which differ, and the checksum
+  pub rewrites : (changed : ℕ → Bool) → ((number : ℕ) → IsTrue (changed number) → Differs (file_of d) end number) → Touches (IsChangedRange changed (length end) (length (tail_bytes seal))) d.touched now.touched → Rewrites (file_of d) end d d'
+  rewrites changed differs written =
+      subst (λ (x : Disk U). Rewrites (file_of d) end d x) (sym same) (touches_weaker (IsChangedRange changed (length end) (length (tail_bytes seal))) (IsRewritten (file_of d) end) d.touched now.touched each written)
+    where
+      long : length end + length (tail_bytes seal) ≡ length (sealed end)
+      long = sym (length-append end (tail_bytes seal)) ∙ ap (λ (l : List ℕ). length l) bytes_are
+
+      each : (range : ℕ × ℕ) → IsChangedRange changed (length end) (length (tail_bytes seal)) range → IsRewritten (file_of d) end range
+      each range (inl page) = inl (page.0, differs page.0 page.1, page.2)
+      each range (inr tail) = inr (tail.0, subst (λ (n : ℕ). range.0 + range.1 ≤ n) long tail.1)
+
+  pub saved_done : (refused : Bool) (status : Status) → status ≡ status_of refused → Holds d (end ++ tail_bytes seal) now → Rewrites (file_of d) end d d' → EndsSaving refused end d d' status
+  saved_done true status ends holds written = subst (λ (s : Status). EndsSaving true end d d' s) (sym ends) (refl, transport (λ i. Holds d (bytes_are i) (sym same i)) holds, written)
+  saved_done false status ends holds written = subst (λ (s : Status). EndsSaving false end d d' s) (sym ends) (refl, transport (λ i. Holds d (bytes_are i) (sym same i)) holds, written)
 
   pub saved_in_part : HoldsBetween d (end ++ tail_bytes seal) now → HoldsBetween d (sealed end) d'
   saved_in_part holds = transport (λ i. HoldsBetween d (bytes_are i) (sym same i)) holds
 
+none_written : {U : Type 0} (file end : List ℕ) (d d' : Disk U) → d' ≡ d → Rewrites file end d d'
+none_written file end d d' same = touches_none (IsRewritten file end) d.touched d'.touched (ap (λ (x : Disk _). x.touched) same)
+
 -- nothing was written, since that is not asked for, or the file is the image already
 pub stored_same : {U : Type 0} (no_save : Bool) (end : List ℕ) (d d' : Disk U) (refused : Bool) (status : Status) → d' ≡ d → status ≡ status_of refused → (no_save ≡ false → Holds d (sealed end) d) → EndsStored no_save end d d' (Ok refused) status
 stored_same true end d d' refused status same is already = (is, same)
-stored_same false end d d' true status same is already = subst (λ (s : Status). EndsSaving true end d d' s) (sym is) (refl, subst (Holds d (sealed end)) (sym same) (already refl))
-stored_same false end d d' false status same is already = subst (λ (s : Status). EndsSaving false end d d' s) (sym is) (refl, subst (Holds d (sealed end)) (sym same) (already refl))
+stored_same false end d d' true status same is already = subst (λ (s : Status). EndsSaving true end d d' s) (sym is) (refl, subst (Holds d (sealed end)) (sym same) (already refl), none_written (file_of d) end d d' same)
+stored_same false end d d' false status same is already = subst (λ (s : Status). EndsSaving false end d d' s) (sym is) (refl, subst (Holds d (sealed end)) (sym same) (already refl), none_written (file_of d) end d d' same)
 
 -- ---- what is asked for
 

@@ -9,12 +9,13 @@ use Rattle.cdf_pages.specs.Saving.{Holds, HoldsBetween}
 use Rattle.cdf_session.specs.Sessions.{IsNoVerdict}
 use Rattle.cdf_session.specs.Sessions.{Rejects as RejectedFor}
 use Rattle.cdf_session.specs.declared.refusal.AdoptError.{AdoptError}
-use Rattle.cdf_store.specs.Disk.{Disk}
+use Rattle.cdf_store.specs.Disk.{Disk, file_of}
 use Rattle.cdf_tool.specs.declared.status.Status.{Status}
 use Rattle.cdf_tool.specs.declared.status.Status.TheVariants as statuses
 use Rattle.cdf_tool.specs.Ends.{Opens, EndsUnread}
 use Rattle.cdf_tool.specs.Script.{FinishesWith, HaltsWith}
 use Rattle.cdf_tool.specs.Statuses.{status_of}
+use Rattle.cdf_tool.specs.Stored.{Rewrites}
 
 -- why no session began: no new file is rejected, and another one only for a rule that it breaks
 abbrev pub Refuses : Bool → List ℕ → AdoptError → Type 0
@@ -38,11 +39,12 @@ abbrev pub EndsOver : Bool → Bool → List ℕ → Option (List ℕ) → Optio
 EndsOver new space file before left first now end (Ok refused) = Finished new space file before left first end refused now
 EndsOver new space file before left first now end (Err status) = ((left ≡ before) × EndsUnread new file first now status) ⊎ Halted new space file before left first now status
 
--- a run whose script was answered is saved, or that fails
+-- A run whose script was answered is saved, or that fails. Of the file only what differs is written.
 abbrev pub EndsSaving : {U : Type 0} → Bool → List ℕ → Disk U → Disk U → Status → Type 0
-EndsSaving refused end d d' statuses.Done = (refused ≡ false) × Holds d (sealed end) d'
-EndsSaving refused end d d' statuses.SomeRefused = (refused ≡ true) × Holds d (sealed end) d'
-EndsSaving refused end d d' statuses.StoreWriteFault = HoldsBetween d (sealed end) d'
+EndsSaving refused end d d' statuses.Done = (refused ≡ false) × Holds d (sealed end) d' × Rewrites (file_of d) end d d'
+EndsSaving refused end d d' statuses.SomeRefused = (refused ≡ true) × Holds d (sealed end) d' × Rewrites (file_of d) end d d'
+EndsSaving refused end d d' statuses.StoreWriteFault = HoldsBetween d (sealed end) d' × Rewrites (file_of d) end d d'
+EndsSaving refused end d d' statuses.StoreReadFault = d' ≡ d
 EndsSaving refused end d d' statuses.NoMemory = d' ≡ d
 EndsSaving refused end d d' other = ⊥
 

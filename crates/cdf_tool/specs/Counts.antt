@@ -32,3 +32,13 @@ CountedIn c now (Err status) = Counted c now status
 abbrev pub WritesCounted : ℕ → ℕ → Status → Type 0
 WritesCounted before now statuses.StoreWriteFault = Rose before now
 WritesCounted before now other = now ≡ before
+
+-- the count of failed reads rose where the store failed as it was read for a saving, and else it stays
+abbrev pub ReadsCounted : ℕ → ℕ → Status → Type 0
+ReadsCounted before now statuses.StoreReadFault = Rose before now
+ReadsCounted before now other = now ≡ before
+
+-- it stays behind a run over an area that stopped, since nothing is saved then
+abbrev pub ReadsCountedBehind : {T : Type 0} → Result T Status → ℕ → ℕ → Status → Type 0
+ReadsCountedBehind (Ok value) before now status = ReadsCounted before now status
+ReadsCountedBehind (Err stopped) before now status = now ≡ before

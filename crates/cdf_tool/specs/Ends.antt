@@ -37,18 +37,11 @@ pub record Spoils {U : Type 0} (a : Asked) (file image : List ℕ) (d d' : Disk 
   pub finishes : FinishesWith a.space image_limit image before left first end refused now
   pub spoiled : Spoiled a file end d d'
 
--- it was run to its end, and there was no memory to save the image
-pub record Unsaved (a : Asked) (image : List ℕ) (before left first now : Option (List ℕ)) : Type 0 where
-  pub end : List ℕ
-  pub refused : Bool
-  pub finishes : FinishesWith a.space image_limit image before left first end refused now
-
 -- the script was run over this image
 abbrev pub Runs : {U : Type 0} → Asked → List ℕ → List ℕ → Disk U → Disk U → Option (List ℕ) → Option (List ℕ) → Option (List ℕ) → Option (List ℕ) → Status → Type 0
 Runs a file image d d' before left first now statuses.Done = Completes a file image d d' before left first now false
 Runs a file image d d' before left first now statuses.SomeRefused = Completes a file image d d' before left first now true
 Runs a file image d d' before left first now statuses.StoreWriteFault = Spoils a file image d d' before left first now
-Runs a file image d d' before left first now statuses.NoMemory = Kept a file d d' × (HaltsWith a.space image_limit image before left first now statuses.NoMemory ⊎ Unsaved a image before left first now)
 Runs a file image d d' before left first now other = Kept a file d d' × HaltsWith a.space image_limit image before left first now other
 
 pub record Replays {U : Type 0} (a : Asked) (d d' : Disk U) (before left first now : Option (List ℕ)) (status : Status) : Type 0 where

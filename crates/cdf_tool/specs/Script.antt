@@ -99,21 +99,21 @@ pub record LacksLine (space : Bool) (limit : ℕ) (b : List ℕ) (before left fi
   pub finishes : Finishes limit b before left first end refused then
   pub stops : LineStops (last_line true end) then now status
 
--- ---- the checksum
+-- ---- the saving
 
--- it was not made: the store failed as it was read for it, or there was no memory
-abbrev pub SealStops : Status → Type 0
-SealStops statuses.StoreReadFault = Unit {0}
-SealStops statuses.NoMemory = Unit {0}
-SealStops other = ⊥
+-- it was not begun: the store failed as it was read for it, or there was no memory
+abbrev pub SavingStops : Status → Type 0
+SavingStops statuses.StoreReadFault = Unit {0}
+SavingStops statuses.NoMemory = Unit {0}
+SavingStops other = ⊥
 
--- all replies were written, and the line, and the image was not sealed
-pub record LacksSeal (space : Bool) (limit : ℕ) (b : List ℕ) (before left first now : Option (List ℕ)) (status : Status) : Type 0 where
+-- all replies were written, and the line, and nothing was saved
+pub record LacksSaving (space : Bool) (limit : ℕ) (b : List ℕ) (before left first now : Option (List ℕ)) (status : Status) : Type 0 where
   pub end : List ℕ
   pub refused : Bool
   pub finishes : FinishesWith space limit b before left first end refused now
-  pub stops : SealStops status
+  pub stops : SavingStops status
 
--- the run stopped in its script, at the line behind it, or at the checksum
+-- the run stopped in its script, at the line behind it, or before its saving
 abbrev pub HaltsWith : Bool → ℕ → List ℕ → Option (List ℕ) → Option (List ℕ) → Option (List ℕ) → Option (List ℕ) → Status → Type 0
-HaltsWith space limit b before left first now status = Halts limit b before left first now status ⊎ (LacksLine space limit b before left first now status ⊎ LacksSeal space limit b before left first now status)
+HaltsWith space limit b before left first now status = Halts limit b before left first now status ⊎ (LacksLine space limit b before left first now status ⊎ LacksSaving space limit b before left first now status)

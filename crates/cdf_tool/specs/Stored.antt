@@ -1,11 +1,11 @@
 -- What a run leaves of the store.
-use Rattle.std.specs.Prelude.{◌≡◌, ◌⊎◌, ℕ, List, Bool, true, false, IfSome, Some, None}
+use Rattle.std.specs.Prelude.{◌≡◌, ◌⊎◌, ◌+◌, ◌≤◌, ℕ, List, length, Bool, true, false, IfSome, Some, None}
 use Rattle.std.specs.Option.{option_map}
 use Rattle.std.specs.declared.option.Option.{Option}
 use Rattle.cdf_store.specs.Disk.{Disk}
 use Rattle.cdf_store.specs.Named.{files_attached, found_or_made, lookup, with_file}
-use Rattle.cdf_pages.specs.Saving.{IsBetween}
-use Rattle.cdf_format.specs.Sealed.{sealed}
+use Rattle.cdf_pages.specs.Saving.{Differs, IsBetween, LiesIn, Touches}
+use Rattle.cdf_format.specs.Sealed.{image_of, sealed}
 use Rattle.cdf_format.specs.WellFormed.{Good}
 use Rattle.cdf_tool.specs.Asking.{Asked}
 
@@ -50,10 +50,22 @@ KeptBy false no_save a file d d' = Attached a file d d'
 abbrev pub Kept : {U : Type 0} → Asked → List ℕ → Disk U → Disk U → Type 0
 Kept a file d d' = KeptBy a.new a.no_save a file d d'
 
+-- a range lies in a page in which the image has a byte that the file had not there, or behind the image in its checksum
+abbrev pub IsRewritten : List ℕ → List ℕ → ℕ × ℕ → Type 0
+IsRewritten file image range = ((number : ℕ) × Differs file image number × LiesIn number range) ⊎ ((length image ≤ range.0) × (range.0 + range.1 ≤ length (sealed image)))
+
+-- only such ranges were written
+abbrev pub Rewrites : {U : Type 0} → List ℕ → List ℕ → Disk U → Disk U → Type 0
+Rewrites file image d d' = Touches (IsRewritten file image) d.touched d'.touched
+
+-- a range lies in a page in which a file has a byte by now that the old one had not there, or behind the image that it holds
+abbrev pub IsChanged : List ℕ → List ℕ → ℕ × ℕ → Type 0
+IsChanged old now range = ((number : ℕ) × Differs old now number × LiesIn number range) ⊎ ((length (image_of now) ≤ range.0) × (range.0 + range.1 ≤ length now))
+
 -- the image is saved, unless that is not asked for
 abbrev pub StoredBy : {U : Type 0} → Bool → Asked → List ℕ → List ℕ → Disk U → Disk U → Type 0
 StoredBy true a file end d d' = Kept a file d d'
-StoredBy false a file end d d' = Good end × Replaced a file (sealed end) d d'
+StoredBy false a file end d d' = Good end × Replaced a file (sealed end) d d' × Rewrites file end d d'
 
 abbrev pub Stored : {U : Type 0} → Asked → List ℕ → List ℕ → Disk U → Disk U → Type 0
 Stored a file end d d' = StoredBy a.no_save a file end d d'
@@ -64,3 +76,4 @@ pub record Spoiled {U : Type 0} (a : Asked) (file end : List ℕ) (d d' : Disk U
   pub now : List ℕ
   pub between : IsBetween file (sealed end) now
   pub replaced : Replaced a file now d d'
+  pub touched : Rewrites file end d d'

@@ -6,7 +6,7 @@ ghost use Rattle.cdf_area.specs.Calls.{Stays};
 ghost use Rattle.cdf_tool.specs.Counts.{CountedIn, counts};
 ghost use Rattle.cdf_tool.specs.Reading.{IfReads};
 ghost use Rattle.cdf_session.specs.Seals.{seal_of};
-ghost use Rattle.cdf_tool.specs.Script.{FinishesWith, HaltsWith, LineStops, SealStops, last_line};
+ghost use Rattle.cdf_tool.specs.Script.{FinishesWith, HaltsWith, LineStops, SavingStops, last_line};
 
 use crate::Status;
 use crate::say::say_space;
@@ -38,7 +38,7 @@ fn measure<A: Area, O: Sink>(
 /// The checksum that is to stand behind the image, where it is asked for.
 fn make_seal<A: Area>(asked: bool, session: &mut Session<A>) -> Result<Option<[u8; 16]>, Status>
     ensures seal { asked ≡ true → IfOk result (λ seal. seal ≡ seal_of (A.image session.old)) }
-    ensures stops { IfErr result SealStops }
+    ensures stops { IfErr result SavingStops }
     ensures reads { OnOk result (Stays A.image A.frame A.faults A.edited session.old session.new) }
     ensures frame { A.frame session.new ≡ A.frame session.old }
     ensures counted { (sink source : ℕ) → CountedIn (counts (A.faults session.old) 0 sink source) (counts (A.faults session.new) 0 sink source) result }

@@ -1,30 +1,32 @@
 //! A run over the file that is attached ends, and its image is saved.
 
-ghost use Rattle.std.specs.Prelude.{◌≡◌, ◌≤◌, length, take, true, false, IsSome, IfOk, IsErrOf, OnOk};
+ghost use Rattle.std.specs.Prelude.{◌≡◌, ◌≤◌, ℕ, length, take, true, false, IsSome, IsTrue, IfOk, IsErrOf, OnOk};
 ghost use Rattle.cdf_format.specs.WellFormed.{Good, WellFormed};
 ghost use Rattle.cdf_model.specs.Limits.{image_limit};
 ghost use Rattle.cdf_session.specs.Seals.{seal_of};
+ghost use Rattle.cdf_pages.specs.Saving.{Differs};
 ghost use Rattle.cdf_store.specs.Disk.{file_of};
 ghost use Rattle.cdf_tool.specs.Areas.{EndsSaving, EndsStored};
-ghost use Rattle.cdf_tool.specs.Counts.{WritesCounted};
+ghost use Rattle.cdf_tool.specs.Counts.{ReadsCounted, ReadsCountedBehind, WritesCounted};
 ghost use Rattle.cdf_tool.specs.Reading.{WritesNothing};
 
 use crate::Status;
 use crate::ended::Ended;
 use crate::opened::Ran;
-use crate::status::end_status;
+use crate::status::{area_status, end_status};
 use cdf_area::{Area, AreaError};
-use cdf_pages::PagedArea;
+use cdf_pages::{InPages, PagedArea};
 use cdf_store::Store;
 
-/// Saves the image to the file that is attached, and behind it its checksum, where it has one.
-fn save<S: Store>(refused: bool, area: PagedArea<S>, seal: Option<[u8; 16]>) -> Ended<S>
+/// Writes the image to the file that is attached, and behind it its checksum, where it has one. Each changed page differs from the file.
+fn write<S: Store>(refused: bool, area: PagedArea<S>, seal: Option<[u8; 16]>) -> Ended<S>
     requires held { IsSome (⟦<PagedArea<S> as Area>⟧.frame area).under.0.held }
     requires fits { length (⟦<PagedArea<S> as Area>⟧.image area) ≤ image_limit }
     requires unmarked { (⟦<PagedArea<S> as Area>⟧.frame area).base ≡ None }
     requires seal { seal ≡ seal_of (⟦<PagedArea<S> as Area>⟧.image area) }
+    requires settled { (number : ℕ) → IsTrue (⟦<PagedArea<S> as InPages>⟧.changed area number) → Differs (file_of (⟦<PagedArea<S> as Area>⟧.frame area).under.0) (⟦<PagedArea<S> as Area>⟧.image area) number }
     ensures ends { EndsSaving refused (⟦<PagedArea<S> as Area>⟧.image area) (⟦<PagedArea<S> as Area>⟧.frame area).under.0 (S.disk result.store) result.status }
-    ensures reads { S.read_faults result.store ≡ ⟦<PagedArea<S> as Area>⟧.faults area }
+    ensures reads { ReadsCounted (⟦<PagedArea<S> as Area>⟧.faults area) (S.read_faults result.store) result.status }
     ensures writes { WritesCounted (⟦<PagedArea<S> as Area>⟧.frame area).under.1 (S.write_faults result.store) result.status }
 {
     let mut area = area;
@@ -41,6 +43,28 @@ fn save<S: Store>(refused: bool, area: PagedArea<S>, seal: Option<[u8; 16]>) -> 
         },
         Err(AreaError::NoMemory) => Ended {
             status: Status::NoMemory,
+            broken: None,
+            store: area.into_store(),
+        },
+    }
+}
+
+/// Saves the image to the file that is attached, and behind it its checksum, where it has one. Of its pages those alone are written
+/// that differ from the file, which is read for that.
+fn save<S: Store>(refused: bool, area: PagedArea<S>, seal: Option<[u8; 16]>) -> Ended<S>
+    requires held { IsSome (⟦<PagedArea<S> as Area>⟧.frame area).under.0.held }
+    requires fits { length (⟦<PagedArea<S> as Area>⟧.image area) ≤ image_limit }
+    requires unmarked { (⟦<PagedArea<S> as Area>⟧.frame area).base ≡ None }
+    requires seal { seal ≡ seal_of (⟦<PagedArea<S> as Area>⟧.image area) }
+    ensures ends { EndsSaving refused (⟦<PagedArea<S> as Area>⟧.image area) (⟦<PagedArea<S> as Area>⟧.frame area).under.0 (S.disk result.store) result.status }
+    ensures reads { ReadsCounted (⟦<PagedArea<S> as Area>⟧.faults area) (S.read_faults result.store) result.status }
+    ensures writes { WritesCounted (⟦<PagedArea<S> as Area>⟧.frame area).under.1 (S.write_faults result.store) result.status }
+{
+    let mut area = area;
+    match area.settle() {
+        Ok(()) => write(refused, area, seal),
+        Err(error) => Ended {
+            status: area_status(error),
             broken: None,
             store: area.into_store(),
         },
@@ -66,7 +90,7 @@ pub fn finish<S: Store>(new: bool, no_save: bool, ran: Ran<PagedArea<S>>) -> End
     requires opened { new ≡ false → IfOk ran.outcome (λ _. WellFormed (file_of (⟦<PagedArea<S> as Area>⟧.frame ran.area).under.0)) }
     requires no_write { IsErrOf ran.outcome Status.StoreWriteFault → ⊥ }
     ensures ends { EndsStored no_save (⟦<PagedArea<S> as Area>⟧.image ran.area) (⟦<PagedArea<S> as Area>⟧.frame ran.area).under.0 (S.disk result.store) ran.outcome result.status }
-    ensures reads { S.read_faults result.store ≡ ⟦<PagedArea<S> as Area>⟧.faults ran.area }
+    ensures reads { ReadsCountedBehind ran.outcome (⟦<PagedArea<S> as Area>⟧.faults ran.area) (S.read_faults result.store) result.status }
     ensures writes { WritesCounted (⟦<PagedArea<S> as Area>⟧.frame ran.area).under.1 (S.write_faults result.store) result.status }
     ensures untouched { new ≡ false → OnOk ran.outcome (⟦<PagedArea<S> as Area>⟧.edited ran.area ≡ false) → WritesNothing (⟦<PagedArea<S> as Area>⟧.frame ran.area).under.0 (S.disk result.store) (⟦<PagedArea<S> as Area>⟧.frame ran.area).under.1 (S.write_faults result.store) result.status }
 {

@@ -2,7 +2,9 @@
 
 ghost use Rattle.std.specs.Prelude.{◌≡◌, ◌-◌, ◌<◌, ◌≤◌, length, map, string_bytes, true, false, Some, None, IfSome, ◌⊎◌};
 ghost use Rattle.std.specs.Option.{ForSome, option_map};
+ghost use Rattle.cdf_store.specs.Disk.{file_in};
 ghost use Rattle.cdf_store.specs.Named.{Allows, lookup};
+ghost use Rattle.cdf_pages.specs.Saving.{Touches};
 ghost use Rattle.cdf_format.specs.WellFormed.{WellFormed};
 ghost use Rattle.cdf_model.specs.Limits.{script_limit};
 ghost use Rattle.cdf_tool.specs.Asking.{ask, saves_nothing};
@@ -14,6 +16,7 @@ ghost use Rattle.cdf_tool.specs.Endings.{Ends};
 ghost use Rattle.cdf_tool.specs.Reading.{IfReads, WritesNothing};
 ghost use Rattle.cdf_tool.specs.Says.{Names};
 ghost use Rattle.cdf_tool.specs.Statuses.{Exactly, IsDone, IsFailure, IsUnsaved};
+ghost use Rattle.cdf_tool.specs.Stored.{IsChanged};
 
 use crate::Status;
 use crate::checked::check_file;
@@ -75,6 +78,11 @@ pub fn run<S: Store, I: Source, O: Sink>(
     ensures not_called { calls_store (ask (map string_bytes words.now)) ≡ false → result.store ≡ store }
     ensures untouched { IfSome (ask (map string_bytes words.now)) (λ asked. IsUnsaved (saves_nothing asked) result.status → Untouched asked (S.disk store) (S.disk result.store)) }
     ensures unwritten { IfSome (ask (map string_bytes words.now)) (λ asked. IsUnsaved (saves_nothing asked) result.status → S.write_faults result.store ≡ S.write_faults store) }
+
+    // Only pages that differ are written: over a store that tells its files, each range that was written lies in a page in which the
+    // file that is left has a byte that the old one had not there, or behind the image, in its checksum.
+    ensures touched { IfSome (ask (map string_bytes words.now)) (λ asked. IfSome (S.disk store).files (λ files. IfSome (S.disk result.store).held (λ now. IsDone result.status →
+        Touches (IsChanged (file_in (lookup asked.name files)) now) (S.disk store).touched (S.disk result.store).touched))) }
 
     // A script that only reads leaves the file as it was. Where each line is blank, no command, or a command that only reads, and no new
     // file is begun, nothing is written to the store, and no saving fails, also over a file that may not be written.

@@ -1,6 +1,8 @@
 use Rattle.std.proofs.Common.{map, string_bytes}
 use Rattle.cdf_tool.specs.Asking.{ask, asked_for}
+use Rattle.cdf_tool.specs.declared.status.Status.TheVariants as statuses
 use Rattle.cdf_tool.proofs.AskedLemmas.{accepts_checked, check_ends, check_leaves, old_called, run_ends, unsaved_run, untouched_old}
+use Rattle.cdf_tool.proofs.Changes.{run_changes, unstarted_changes, unwritten_changes}
 use Rattle.cdf_tool.proofs.CheckLemmas.{checks}
 use Rattle.cdf_tool.proofs.CountLemmas.{not_false, unwritten}
 use Rattle.cdf_tool.proofs.RunLemmas.{came, checked_came, completes, never_usage, no_file_exactly, no_file_held, rejected_exactly, too_long_exactly, verdict_names}
@@ -67,7 +69,15 @@ pub returns-else-asked-clause-reads : goal.returns-else-asked-clause-reads
 returns-else-asked-clause-reads g c =
     rw c.in-Ok.ensures.asked c.run_file.ensures.reads
 
+pub returns-else-asked-clause-touched : goal.returns-else-asked-clause-touched
+returns-else-asked-clause-touched g c =
+    rw c.in-Ok.ensures.asked (run_changes (asked_for c.in-Ok.asked) (g.S.Store.disk c.args.store) (g.S.Store.disk c.run_file.result.store) (g.I.Source.left c.args.script.now) (g.I.Source.left c.run_file.new.script) (g.O.Sink.written c.args.out.now) (g.O.Sink.written c.run_file.new.out) c.run_file.result.status c.run_file.ensures.ends)
+
 -- ---- a file was checked
+
+pub returns-then-asked-clause-touched : goal.returns-then-asked-clause-touched
+returns-then-asked-clause-touched g c =
+    rw c.in-Ok.ensures.asked (unwritten_changes (asked_for c.in-Ok.asked) (g.S.Store.disk c.args.store) (g.S.Store.disk c.check_file.result.store) c.check_file.result.status c.check_file.ensures.reads.touched)
 
 pub returns-then-asked-clause-accepted : goal.returns-then-asked-clause-accepted
 returns-then-asked-clause-accepted g c =
@@ -162,6 +172,10 @@ returns-then-asked-clause-under g c =
 pub returns-in-Err-NoMemory-clause-ends : goal.returns-in-Err-NoMemory-clause-ends
 returns-in-Err-NoMemory-clause-ends g c =
     unstarted_ends (g.S.Store.disk c.args.store) (g.I.Source.left c.args.script.now) (g.O.Sink.written c.args.out.now) c.requires.free (unnamed _ _ (g.met.S.Store.whole c.args.store).named c.requires.free) (ask (map string_bytes c.args.words.now))
+
+pub returns-in-Err-NoMemory-clause-touched : goal.returns-in-Err-NoMemory-clause-touched
+returns-in-Err-NoMemory-clause-touched g c =
+    unstarted_changes (g.S.Store.disk c.args.store) (ask (map string_bytes c.args.words.now)) statuses.NoMemory
 
 -- ---- the words ask for nothing
 
