@@ -17,6 +17,7 @@ pub mod OnlyReads
 pub mod RunStore
 pub mod CountLemmas
 pub mod RunLemmas
+pub mod Told
 pub mod CheckLemmas
 pub mod AskedLemmas
 pub mod Unstarted

@@ -15,7 +15,7 @@ use Rattle.std.proofs.KnownBytes.{Consumes-nil}
 use Rattle.cdf_tool.specs.Checking.{Accepted, EndsChecked}
 use Rattle.cdf_tool.specs.Due.{CanBegin, IsGood}
 use Rattle.cdf_tool.specs.Ends.{Opens, Completes, Runs, EndsUnread, EndsWithout, Without, EndsNamed}
-use Rattle.cdf_tool.specs.Says.{Rejects, Names, SaysUsage}
+use Rattle.cdf_tool.specs.Says.{Rejects, SaysUsage}
 use Rattle.cdf_tool.specs.Script.{Finishes}
 use Rattle.cdf_tool.specs.Statuses.{IsDone, IsFailure, Exactly}
 use Rattle.cdf_tool.specs.Stored.{Attached, Kept, StoredBy}
@@ -59,7 +59,7 @@ pub record IsOld (a : Asked) (files : Option (List (List ℕ × List ℕ))) (und
 -- no file, a rejected one, a script that was run, or a failure
 pub data Came {U : Type 0} (a : Asked) (d d' : Disk U) (before left first now : Option (List ℕ)) (status : Status) : Type 0 where
   without : IsOld a d.files None → d'.held ≡ None → left ≡ before → status ≡ statuses.NoFile → Came a d d' before left first now status
-  rejected : (file : List ℕ) (r : Rejects file) → IsOld a d.files (Some file) → d'.held ≡ Some file → left ≡ before → status ≡ statuses.Rejected → Names (Some file) first now → Came a d d' before left first now status
+  rejected : (file : List ℕ) (r : Rejects file) → IsOld a d.files (Some file) → d'.held ≡ Some file → left ≡ before → status ≡ statuses.Rejected → Came a d d' before left first now status
   ran : (file taken : List ℕ) → (a.new ≡ false → WellFormed file × IsOld a d.files (Some file)) → (a.new ≡ false → (held : List ℕ) → d'.held ≡ Some held → WellFormed held) → Consumes before left taken
       → ((length taken ≤ script_limit) × IsDone status) ⊎ ((script_limit < length taken) × (status ≡ statuses.ScriptTooLong)) → Came a d d' before left first now status
   failed : IsFailure status → (left ≡ before) ⊎ ((taken : List ℕ) × Consumes before left taken × (length taken ≤ script_limit)) → Came a d d' before left first now status
@@ -87,7 +87,7 @@ module _ {U : Type 0} (a : Asked) (d d' : Disk U) (before left first now : Optio
       (record { old = old; found = found_lookup_in a.new a.name file d.files old at.found }, at.held)
 
   unread_came : (file : List ℕ) (status : Status) → Kept a file d d' → left ≡ before → EndsUnread a.new file first now status → Came a d d' before left first now status
-  unread_came file statuses.Rejected k none ends = let old = kept_old file k ends.0 in rejected file ends.1.0 old.0 old.1 none refl ends.1
+  unread_came file statuses.Rejected k none ends = let old = kept_old file k ends.0 in rejected file ends.1.0 old.0 old.1 none refl
   unread_came file statuses.OutputFault k none ends = failed tt (inl none)
   unread_came file statuses.StoreReadFault k none ends = failed tt (inl none)
   unread_came file statuses.NoMemory k none ends = failed tt (inl none)
@@ -198,13 +198,13 @@ module _ {U : Type 0} (a : Asked) (d d' : Disk U) (before left first now : Optio
   -- no file named and asked for
   pub never_usage : Came a d d' before left first now status → status ≡ statuses.Usage → ⊥
   never_usage (without o held none is) same = cc (sym is ∙ same)
-  never_usage (rejected file r o held none is names) same = cc (sym is ∙ same)
+  never_usage (rejected file r o held none is) same = cc (sym is ∙ same)
   never_usage (ran file taken well held took how) same = not_ran statuses.Usage (λ x. x) (λ e. cc e) (ran_is taken how) same
   never_usage (failed fails read) same = subst (λ (s : Status). IsFailure s) same fails
 
   no_file_of : (fs : List (List ℕ × List ℕ)) → d.files ≡ Some fs → Came a d d' before left first now status → Exactly statuses.NoFile status ((a.new ≡ false) × (lookup a.name fs ≡ None))
   no_file_of fs told (without o held none is) = record { only = λ be. (o.old, subst (λ (x : Option (List (List ℕ × List ℕ))). IfSome x (λ l. lookup a.name l ≡ None)) told o.found); always = λ due. inl is }
-  no_file_of fs told (rejected file r o held none is names) =
+  no_file_of fs told (rejected file r o held none is) =
       let found : lookup a.name fs ≡ Some file = subst (λ (x : Option (List (List ℕ × List ℕ))). IfSome x (λ l. lookup a.name l ≡ Some file)) told o.found in
       record { only = λ be. absurd (cc (is, be)); always = λ due. absurd (cc (sym found ∙ due.1)) }
   no_file_of fs told (ran file taken well held took how) = record {
@@ -225,22 +225,16 @@ module _ {U : Type 0} (a : Asked) (d d' : Disk U) (before left first now : Optio
 
   pub no_file_held : Came a d d' before left first now status → status ≡ statuses.NoFile → d'.held ≡ None
   no_file_held (without o held none is) same = held
-  no_file_held (rejected file r o held none is names) same = absurd (cc (sym is ∙ same))
+  no_file_held (rejected file r o held none is) same = absurd (cc (sym is ∙ same))
   no_file_held (ran file taken well held took how) same = absurd (not_ran statuses.NoFile (λ x. x) (λ e. cc e) (ran_is taken how) same)
   no_file_held (failed fails read) same = absurd (subst (λ (s : Status). IsFailure s) same fails)
-
-  pub verdict_names : Came a d d' before left first now status → status ≡ statuses.Rejected → Names d'.held first now
-  verdict_names (without o held none is) same = absurd (cc (sym is ∙ same))
-  verdict_names (rejected file r o held none is names) same = subst (λ (h : Option (List ℕ)). Names h first now) (sym held) names
-  verdict_names (ran file taken well held took how) same = absurd (not_ran statuses.Rejected (λ x. x) (λ e. cc e) (ran_is taken how) same)
-  verdict_names (failed fails read) same = absurd (subst (λ (s : Status). IsFailure s) same fails)
 
   broken_not : (file : List ℕ) → Rejects file → WellFormed file → ⊥
   broken_not file r well = excluded (all_phases file) r.phase r.rule r.place well r.broken
 
   rejected_of : (file : List ℕ) → d'.held ≡ Some file → Came a d d' before left first now status → Exactly statuses.Rejected status ((a.new ≡ false) × (WellFormed file → ⊥))
   rejected_of file there (without o held none is) = record { only = λ be. absurd (cc (sym is ∙ be)); always = λ due. absurd (cc (sym held ∙ there)) }
-  rejected_of file there (rejected own r o held none is names) = record {
+  rejected_of file there (rejected own r o held none is) = record {
     only = λ be. (o.old, λ well. broken_not own r (subst (λ (f : List ℕ). WellFormed f) (some_same file own (sym there ∙ held)) well));
     always = λ due. inl is;
   }
@@ -273,7 +267,7 @@ unread_too_long script left status not_so same = record { only = λ be. absurd (
 
 too_long_of : {U : Type 0} (a : Asked) (d d' : Disk U) (script left : List ℕ) (first now : Option (List ℕ)) (status : Status) → Came a d d' (Some script) (Some left) first now status → Exactly statuses.ScriptTooLong status (script_limit < length script - length left)
 too_long_of a d d' script left first now status (without o held none is) = unread_too_long script left status (λ be. cc (sym is ∙ be)) none
-too_long_of a d d' script left first now status (rejected file r o held none is names) = unread_too_long script left status (λ be. cc (sym is ∙ be)) none
+too_long_of a d d' script left first now status (rejected file r o held none is) = unread_too_long script left status (λ be. cc (sym is ∙ be)) none
 too_long_of a d d' script left first now status (ran file taken well held took (inl (le, is))) =
     let l = taken_length script taken left took in
     record { only = λ be. absurd (subst (λ (s : Status). IsDone s) be is); always = λ long. absurd (omega (arith, l, le, long)) }
@@ -298,7 +292,7 @@ cannot false name (Some fs) under old found can = subst IsGood found can
 
 complete_of : {U : Type 0} (a : Asked) (d d' : Disk U) (script : List ℕ) (left first now : Option (List ℕ)) (status : Status) → Came a d d' (Some script) left first now status → CanBegin a.new a.name d.files → length script ≤ script_limit → IsDone status ⊎ IsFailure status
 complete_of a d d' script left first now status (without o held none is) can le = absurd (cannot a.new a.name d.files None o.old o.found can)
-complete_of a d d' script left first now status (rejected file r o held none is names) can le =
+complete_of a d d' script left first now status (rejected file r o held none is) can le =
     absurd (excluded (all_phases file) r.phase r.rule r.place (cannot a.new a.name d.files (Some file) o.old o.found can) r.broken)
 complete_of a d d' script left first now status (ran file taken well held took (inl (short, is))) can le = inl is
 complete_of a d d' script left first now status (ran file taken well held took (inr (long, is))) can le = absurd (omega (arith, taken_most script taken left took, le, long))

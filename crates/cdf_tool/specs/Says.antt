@@ -1,9 +1,10 @@
 -- What a run writes that does not come to its script.
-use Rattle.std.specs.Prelude.{◌≡◌, ℕ, List, codes, Some, None}
+use Rattle.std.specs.Prelude.{◌≡◌, ◌≢◌, ℕ, List, Bool, true, false, codes, Some, None}
 use Rattle.std.specs.declared.option.Option.{Option}
 use Rattle.std.specs.Fmt.{decimal}
 use Rattle.std.specs.Io.KnownBytes.{Appends}
 use Rattle.cdf_store.specs.Written.{AppendsFront}
+use Rattle.cdf_check.specs.declared.verdict.Broken.{Broken}
 use Rattle.cdf_format.specs.WellFormed.{Breaks}
 use Rattle.cdf_model.specs.declared.space.Space.{Space}
 use Rattle.cdf_model.specs.Texts.{◌⧺◌, newline, usage_text, no_file_text, rejected_text}
@@ -33,10 +34,21 @@ pub record Rejects (file : List ℕ) : Type 0 where
 abbrev pub rejection : {file : List ℕ} → Rejects file → List ℕ
 rejection r = rejected_text r.phase r.rule r.place
 
--- a rule that the file breaks was written
-abbrev pub Names : Option (List ℕ) → Option (List ℕ) → Option (List ℕ) → Type 0
-Names None first now = ⊥
-Names (Some file) first now = (r : Rejects file) × Appends first now (rejection r)
+-- this rule is one that the file breaks, of the first phase of which it breaks one, and it was written
+abbrev pub Names : Option Broken → Option (List ℕ) → Option (List ℕ) → Option (List ℕ) → Type 0
+Names None file first now = ⊥
+Names (Some broken) None first now = ⊥
+Names (Some broken) (Some file) first now = Breaks file broken.phase broken.rule broken.at × Appends first now (rejected_text broken.phase broken.rule broken.at)
+
+-- a rule is handed back with the status of a rejected file, and with no other: such a one
+abbrev pub Tells : Option Broken → Option (List ℕ) → Option (List ℕ) → Option (List ℕ) → Status → Type 0
+Tells None file first now status = status ≢ statuses.Rejected
+Tells (Some broken) file first now status = (status ≡ statuses.Rejected) × Names (Some broken) file first now
+
+-- the file that may be rejected, which no new one is
+abbrev pub old_file : Bool → List ℕ → Option (List ℕ)
+old_file true file = None
+old_file false file = Some file
 
 -- this rejection was written, or a part of it, or there was no memory to make it
 abbrev pub SaysRejected : List ℕ → Option (List ℕ) → Option (List ℕ) → Status → Type 0

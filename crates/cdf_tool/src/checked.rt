@@ -10,10 +10,11 @@ ghost use Rattle.cdf_tool.specs.Asking.{asked_for};
 ghost use Rattle.cdf_tool.specs.Checking.{EndsChecked, EndsOverFile, SaysAccepted, accepted_text};
 ghost use Rattle.cdf_tool.specs.Counts.{Counted, counts};
 ghost use Rattle.cdf_tool.specs.Reading.{WritesNothing};
+ghost use Rattle.cdf_tool.specs.Says.{Tells};
 
 use crate::Status;
 use crate::ended::Ended;
-use crate::opened::{refuse, rule_of};
+use crate::opened::{Refused, refuse};
 use crate::say::{say_accepted, say_no_file};
 use crate::status::area_status;
 use crate::words::Asked;
@@ -59,6 +60,7 @@ fn check_area<A: Area, O: Sink>(alloc: Global, space: bool, area: A, out: &mut O
     requires unmarked { (A.frame area).base ≡ None }
     requires limit { (A.frame area).limit ≡ image_limit }
     ensures ends { EndsOverFile space (A.image area) (O.written out.old) (O.written out.new) result.status }
+    ensures told { Tells result.broken (Some (A.image area)) (O.written out.old) (O.written out.new) result.status }
     ensures frame { A.frame result.area ≡ A.frame area }
     ensures counted { (source : ℕ) → Counted (counts (A.faults area) 0 (O.faults out.old) source) (counts (A.faults result.area) 0 (O.faults out.new) source) result.status }
 {
@@ -74,11 +76,11 @@ fn check_area<A: Area, O: Sink>(alloc: Global, space: bool, area: A, out: &mut O
             }
         }
         Err(Refusal { area, why }) => {
-            let status = refuse(alloc, why, out);
+            let Refused { status, broken } = refuse(alloc, why, out);
             Checked {
                 area,
                 status,
-                broken: rule_of(why),
+                broken,
             }
         }
     }
@@ -94,6 +96,7 @@ fn check_attached<S: Store, O: Sink>(
 ) -> Ended<S>
     requires { Some size ≡ option_map length (S.disk store).held }
     ensures ends { EndsOverFile space (file_of (S.disk store)) (O.written out.old) (O.written out.new) result.status }
+    ensures told { Tells result.broken (S.disk result.store).held (O.written out.old) (O.written out.new) result.status }
     ensures disk { S.disk result.store ≡ S.disk store }
     ensures counted { (source : ℕ) → Counted (counts (S.read_faults store) (S.write_faults store) (O.faults out.old) source) (counts (S.read_faults result.store) (S.write_faults result.store) (O.faults out.new) source) result.status }
 {
@@ -130,6 +133,7 @@ pub fn check_file<S: Store, O: Sink>(
     requires allowed { Allows (S.disk store).only asked.now.name.now }
     requires old { asked.now.new ≡ false }
     ensures ends { (left : Option (List ℕ)) → EndsChecked (asked_for asked.now) (S.disk store) (S.disk result.store) left left (O.written out.old) (O.written out.new) result.status }
+    ensures told { Tells result.broken (S.disk result.store).held (O.written out.old) (O.written out.new) result.status }
     ensures counted { (source : ℕ) → Counted (counts (S.read_faults store) (S.write_faults store) (O.faults out.old) source) (counts (S.read_faults result.store) (S.write_faults result.store) (O.faults out.new) source) result.status }
     ensures reads { WritesNothing (S.disk store) (S.disk result.store) (S.write_faults store) (S.write_faults result.store) result.status }
 {

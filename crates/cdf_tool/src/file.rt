@@ -1,6 +1,6 @@
 //! The file that is asked for is attached, and the script is run over it.
 
-ghost use Rattle.std.specs.Prelude.{◌≡◌, ◌&&◌, ℕ, [], true, false, length, IfErr, IfOk, Some, None};
+ghost use Rattle.std.specs.Prelude.{◌≡◌, ◌≢◌, ◌&&◌, ℕ, [], true, false, length, IfErr, IfOk, Some, None};
 ghost use Rattle.std.specs.Option.{option_map};
 ghost use Rattle.cdf_area.specs.Frame.{Frame};
 ghost use Rattle.cdf_store.specs.Disk.{file_of};
@@ -11,6 +11,7 @@ ghost use Rattle.cdf_tool.specs.Asking.{asked_for};
 ghost use Rattle.cdf_tool.specs.Counts.{Counted, counts};
 ghost use Rattle.cdf_tool.specs.Ends.{EndsNamed};
 ghost use Rattle.cdf_tool.specs.Reading.{IfReads, WritesNothing};
+ghost use Rattle.cdf_tool.specs.Says.{Tells};
 
 use crate::Status;
 use crate::ended::Ended;
@@ -59,6 +60,7 @@ fn run_attached<S: Store, I: Source, O: Sink>(
 ) -> Ended<S>
     requires { Some size ≡ option_map length (S.disk store).held }
     ensures ends { EndsAttached asked.now.new asked.now.no_save asked.now.space (file_of (S.disk store)) (S.disk store) (S.disk result.store) (I.left script.old) (I.left script.new) (O.written out.old) (O.written out.new) result.status }
+    ensures told { Tells result.broken (S.disk result.store).held (O.written out.old) (O.written out.new) result.status }
     ensures counted { Counted (counts (S.read_faults store) (S.write_faults store) (O.faults out.old) (I.faults script.old)) (counts (S.read_faults result.store) (S.write_faults result.store) (O.faults out.new) (I.faults script.new)) result.status }
     ensures reads { asked.now.new ≡ false → IfReads (I.left script.old) (WritesNothing (S.disk store) (S.disk result.store) (S.write_faults store) (S.write_faults result.store) result.status) }
 {
@@ -84,6 +86,7 @@ fn run_in_memory<I: Source, O: Sink>(
     out: &mut O,
 ) -> Status
     ensures ends { EndsInMemory space (I.left script.old) (I.left script.new) (O.written out.old) (O.written out.new) result }
+    ensures told { result ≢ Status.Rejected }
     ensures counted { (reads writes : ℕ) → Counted (counts reads writes (O.faults out.old) (I.faults script.old)) (counts reads writes (O.faults out.new) (I.faults script.new)) result }
 {
     let area = MemArea::new(alloc, Vec::new(alloc), IMAGE_LIMIT);
@@ -112,6 +115,7 @@ pub fn run_file<S: Store, I: Source, O: Sink>(
     requires free { (S.disk store).held ≡ None }
     requires allowed { Allows (S.disk store).only asked.now.name.now }
     ensures ends { EndsNamed (asked_for asked.now) (S.disk store) (S.disk result.store) (I.left script.old) (I.left script.new) (O.written out.old) (O.written out.new) result.status }
+    ensures told { Tells result.broken (S.disk result.store).held (O.written out.old) (O.written out.new) result.status }
     ensures counted { Counted (counts (S.read_faults store) (S.write_faults store) (O.faults out.old) (I.faults script.old)) (counts (S.read_faults result.store) (S.write_faults result.store) (O.faults out.new) (I.faults script.new)) result.status }
     ensures reads { asked.now.new ≡ false → IfReads (I.left script.old) (WritesNothing (S.disk store) (S.disk result.store) (S.write_faults store) (S.write_faults result.store) result.status) }
     ensures not_called { (asked.now.new && asked.now.no_save) ≡ true → result.store ≡ store }

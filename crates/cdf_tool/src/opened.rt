@@ -1,14 +1,15 @@
 //! The file in an area is opened, and the script is run over it.
 
-ghost use Rattle.std.specs.Prelude.{◌≡◌, ◌≤◌, ℕ, List, [], Bool, length, true, false, IfOk, IfErr, OnOk, None};
+ghost use Rattle.std.specs.Prelude.{◌≡◌, ◌≢◌, ◌≤◌, ℕ, List, [], Bool, length, true, false, IfOk, IfErr, IfSome, OnOk, None};
 ghost use Rattle.cdf_format.specs.WellFormed.{Good};
 ghost use Rattle.cdf_model.specs.Limits.{image_limit};
 ghost use Rattle.cdf_session.specs.Seals.{seal_of};
 ghost use Rattle.cdf_session.specs.Sessions.{Explains};
-ghost use Rattle.cdf_tool.specs.Areas.{EndsOver, Refuses};
+ghost use Rattle.cdf_tool.specs.Areas.{EndsOver, Refuses, status_from};
 ghost use Rattle.cdf_tool.specs.Counts.{Counted, CountedIn, counts};
 ghost use Rattle.cdf_tool.specs.Ends.{EndsUnread, Opens};
 ghost use Rattle.cdf_tool.specs.Reading.{IfReads};
+ghost use Rattle.cdf_tool.specs.Says.{Tells, old_file};
 
 use crate::Status;
 use crate::measured::{Answered, run_sealed};
@@ -51,22 +52,43 @@ fn open<A: Area>(alloc: Global, new: bool, area: A) -> Result<Session<A>, Refusa
     }
 }
 
-/// The rule for which a file was rejected.
-pub fn rule_of(why: AdoptError) -> Option<Broken> {
-    match why {
-        AdoptError::Rejected { broken } => Some(broken),
-        AdoptError::Failed { .. } => None,
+/// What came of saying why no session began.
+#[derive(Clone, Copy)]
+pub struct Refused {
+    pub status: Status,
+    /// The rule that the file breaks, where it was written.
+    pub broken: Option<Broken>,
+}
+
+/// The rule that a file breaks, where it was written.
+fn if_rejected(status: Status, broken: Broken) -> Option<Broken>
+    ensures told { IfSome result (λ told. (status ≡ Status.Rejected) × (told ≡ broken)) }
+    ensures untold { result ≡ None → status ≢ Status.Rejected }
+{
+    match status {
+        Status::Rejected => Some(broken),
+        _ => None,
     }
 }
 
 /// Says why no session began.
-pub fn refuse<O: Sink>(alloc: Global, why: AdoptError, out: &mut O) -> Status
-    ensures ends { (new : Bool) (file : List ℕ) → Refuses new file why → EndsUnread new file (O.written out.old) (O.written out.new) result }
-    ensures counted { (before now source : ℕ) → Explains why before now → Counted (counts before 0 (O.faults out.old) source) (counts now 0 (O.faults out.new) source) result }
+pub fn refuse<O: Sink>(alloc: Global, why: AdoptError, out: &mut O) -> Refused
+    ensures ends { (new : Bool) (file : List ℕ) → Refuses new file why → EndsUnread new file (O.written out.old) (O.written out.new) result.status }
+    ensures told { (new : Bool) (file : List ℕ) → Refuses new file why → Tells result.broken (old_file new file) (O.written out.old) (O.written out.new) result.status }
+    ensures counted { (before now source : ℕ) → Explains why before now → Counted (counts before 0 (O.faults out.old) source) (counts now 0 (O.faults out.new) source) result.status }
 {
     match why {
-        AdoptError::Rejected { broken } => say_rejected(alloc, broken, out),
-        AdoptError::Failed { error } => area_status(error),
+        AdoptError::Rejected { broken } => {
+            let status = say_rejected(alloc, broken, out);
+            Refused {
+                status,
+                broken: if_rejected(status, broken),
+            }
+        }
+        AdoptError::Failed { error } => Refused {
+            status: area_status(error),
+            broken: None,
+        },
     }
 }
 
@@ -84,6 +106,7 @@ pub fn run_area<A: Area, I: Source, O: Sink>(
     requires unmarked { (A.frame area).base ≡ None }
     requires limit { (A.frame area).limit ≡ image_limit }
     ensures ends { EndsOver new space (A.image area) (I.left script.old) (I.left script.new) (O.written out.old) (O.written out.new) (A.image result.area) result.outcome }
+    ensures told { Tells result.broken (old_file new (A.image area)) (O.written out.old) (O.written out.new) (status_from result.outcome) }
     ensures good { IfOk result.outcome (λ _. Good (A.image result.area)) }
     ensures fits { IfOk result.outcome (λ _. length (A.image result.area) ≤ image_limit) }
     ensures seal { seal ≡ true → IfOk result.outcome (λ _. result.seal ≡ seal_of (A.image result.area)) }
@@ -112,12 +135,12 @@ pub fn run_area<A: Area, I: Source, O: Sink>(
             }
         }
         Err(Refusal { area, why }) => {
-            let status = refuse(alloc, why, out);
+            let Refused { status, broken } = refuse(alloc, why, out);
             Ran {
                 area,
                 outcome: Err(status),
                 seal: None,
-                broken: rule_of(why),
+                broken,
             }
         }
     }

@@ -1,6 +1,6 @@
 //! A run over the file that is attached ends, and its image is saved.
 
-ghost use Rattle.std.specs.Prelude.{◌≡◌, ◌≤◌, ℕ, length, take, true, false, IsSome, IsTrue, IfOk, IsErrOf, OnOk};
+ghost use Rattle.std.specs.Prelude.{◌≡◌, ◌≤◌, ℕ, length, take, true, false, IsSome, IsTrue, IfOk, IsErrOf, OnOk, None};
 ghost use Rattle.cdf_format.specs.WellFormed.{Good, WellFormed};
 ghost use Rattle.cdf_model.specs.Limits.{image_limit};
 ghost use Rattle.cdf_session.specs.Seals.{seal_of};
@@ -26,6 +26,7 @@ fn write<S: Store>(refused: bool, area: PagedArea<S>, seal: Option<[u8; 16]>) ->
     requires seal { seal ≡ seal_of (⟦<PagedArea<S> as Area>⟧.image area) }
     requires settled { (number : ℕ) → IsTrue (⟦<PagedArea<S> as InPages>⟧.changed area number) → Differs (file_of (⟦<PagedArea<S> as Area>⟧.frame area).under.0) (⟦<PagedArea<S> as Area>⟧.image area) number }
     ensures ends { EndsSaving refused (⟦<PagedArea<S> as Area>⟧.image area) (⟦<PagedArea<S> as Area>⟧.frame area).under.0 (S.disk result.store) result.status }
+    ensures untold { result.broken ≡ None }
     ensures reads { ReadsCounted (⟦<PagedArea<S> as Area>⟧.faults area) (S.read_faults result.store) result.status }
     ensures writes { WritesCounted (⟦<PagedArea<S> as Area>⟧.frame area).under.1 (S.write_faults result.store) result.status }
 {
@@ -57,6 +58,7 @@ fn save<S: Store>(refused: bool, area: PagedArea<S>, seal: Option<[u8; 16]>) -> 
     requires unmarked { (⟦<PagedArea<S> as Area>⟧.frame area).base ≡ None }
     requires seal { seal ≡ seal_of (⟦<PagedArea<S> as Area>⟧.image area) }
     ensures ends { EndsSaving refused (⟦<PagedArea<S> as Area>⟧.image area) (⟦<PagedArea<S> as Area>⟧.frame area).under.0 (S.disk result.store) result.status }
+    ensures untold { result.broken ≡ None }
     ensures reads { ReadsCounted (⟦<PagedArea<S> as Area>⟧.faults area) (S.read_faults result.store) result.status }
     ensures writes { WritesCounted (⟦<PagedArea<S> as Area>⟧.frame area).under.1 (S.write_faults result.store) result.status }
 {
@@ -89,6 +91,8 @@ pub fn finish<S: Store>(new: bool, no_save: bool, ran: Ran<PagedArea<S>>) -> End
     requires held { IsSome (⟦<PagedArea<S> as Area>⟧.frame ran.area).under.0.held }
     requires opened { new ≡ false → IfOk ran.outcome (λ _. WellFormed (file_of (⟦<PagedArea<S> as Area>⟧.frame ran.area).under.0)) }
     requires no_write { IsErrOf ran.outcome Status.StoreWriteFault → ⊥ }
+    requires untold { IfOk ran.outcome (λ _. ran.broken ≡ None) }
+    ensures told { result.broken ≡ ran.broken }
     ensures ends { EndsStored no_save (⟦<PagedArea<S> as Area>⟧.image ran.area) (⟦<PagedArea<S> as Area>⟧.frame ran.area).under.0 (S.disk result.store) ran.outcome result.status }
     ensures reads { ReadsCountedBehind ran.outcome (⟦<PagedArea<S> as Area>⟧.faults ran.area) (S.read_faults result.store) result.status }
     ensures writes { WritesCounted (⟦<PagedArea<S> as Area>⟧.frame ran.area).under.1 (S.write_faults result.store) result.status }

@@ -63,8 +63,11 @@ pub fn run<S: Store, I: Source, O: Sink>(
     ensures no_file { IfSome (ask (map string_bytes words.now)) (λ asked. IfSome (S.disk store).files (λ files. Exactly Status.NoFile result.status ((asked.new ≡ false) × (lookup asked.name files ≡ None)))) }
     ensures no_file_read { result.status ≡ Status.NoFile → (S.disk result.store).held ≡ None }
     ensures rejected { IfSome (ask (map string_bytes words.now)) (λ asked. IfSome (S.disk result.store).held (λ file. Exactly Status.Rejected result.status ((asked.new ≡ false) × (WellFormed file → ⊥)))) }
-    ensures verdict { result.status ≡ Status.Rejected → Names (S.disk result.store).held (O.written out.old) (O.written out.new) }
     ensures too_long { IfSome (I.left script.old) (λ before. IfSome (I.left script.new) (λ left. Exactly Status.ScriptTooLong result.status (script_limit < length before - length left))) }
+
+    // A rule is handed back with status 4, and with no other: it is one that the file breaks, and nothing else was written.
+    ensures verdict { result.status ≡ Status.Rejected → Names result.broken (S.disk result.store).held (O.written out.old) (O.written out.new) }
+    ensures told { IfSome result.broken (λ _. result.status ≡ Status.Rejected) }
 
     // A well-formed file or a new one, and a script that is not too long, end with status 0 or 1, unless a device failed or memory was refused.
     ensures complete { IfSome (ask (map string_bytes words.now)) (λ asked. CanBegin asked.new asked.name (S.disk store).files →

@@ -2,6 +2,7 @@ use Rattle.std.proofs.Common.{ℕ, List, false, inl, inr, subst, sym}
 use Rattle.std.proofs.Math.Path.{transport}
 use Rattle.cdf_tool.specs.Checking.{SaysAccepted, accepted_text}
 use Rattle.cdf_tool.specs.Counts.{Counted, counts}
+use Rattle.cdf_tool.specs.declared.status.Status.{Status}
 use Rattle.cdf_tool.proofs.checked.check_area.Goals as goal
 
 pub returns-in-Ok-clause-ends : goal.returns-in-Ok-clause-ends
@@ -13,6 +14,12 @@ pub returns-in-Ok-clause-counted : goal.returns-in-Ok-clause-counted
 returns-in-Ok-clause-counted g c = λ source.
     transport (λ i. Counted (counts (c.in-Ok.ensures.counted i) 0 (g.O.Sink.faults c.args.out.now) source) (counts (g.A.Area.faults (sym c.into_area-area.ensures.area i)) 0 (g.O.Sink.faults c.confirm-status.new.out) source) c.confirm-status.result)
     (c.confirm-status.ensures.counted source)
+
+pub returns-in-Ok-clause-told : goal.returns-in-Ok-clause-told
+returns-in-Ok-clause-told g c = λ is. subst (λ (s : Status). SaysAccepted (accepted_text c.args.space (g.A.Area.image c.in-Ok.session)) (g.O.Sink.written c.args.out.now) (g.O.Sink.written c.confirm-status.new.out) s) is c.confirm-status.ensures.says
+
+pub returns-in-Err-clause-told : goal.returns-in-Err-clause-told
+returns-in-Err-clause-told g c = c.refuse-status.ensures.told false (g.A.Area.image c.args.area) c.in-Err.ensures.rejected
 
 pub returns-in-Err-clause-ends : goal.returns-in-Err-clause-ends
 returns-in-Err-clause-ends g c = inl (c.refuse-status.ensures.ends false (g.A.Area.image c.args.area) c.in-Err.ensures.rejected)

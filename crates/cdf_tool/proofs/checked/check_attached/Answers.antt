@@ -1,15 +1,21 @@
-use Rattle.std.proofs.Common.{ℕ, List, ◌∙◌, ap, subst, sym}
+use Rattle.std.proofs.Common.{ℕ, List, Option, ◌∙◌, ap, subst, sym}
 use Rattle.std.proofs.Math.Path.{transport}
 use Rattle.cdf_area.specs.Frame.{Frame}
 use Rattle.cdf_store.specs.Disk.{Disk, file_in}
 use Rattle.cdf_tool.specs.Checking.{EndsOverFile}
 use Rattle.cdf_tool.specs.Counts.{Counted, counts}
+use Rattle.cdf_tool.specs.Says.{Tells}
 use Rattle.cdf_tool.proofs.CountLemmas.{stopped_counted}
 use Rattle.cdf_tool.proofs.checked.check_attached.Goals as goal
 
 pub returns-in-Ok-clause-ends : goal.returns-in-Ok-clause-ends
 returns-in-Ok-clause-ends g c =
     subst (λ (file : List ℕ). EndsOverFile c.args.space file (g.O.Sink.written c.args.out.now) (g.O.Sink.written c.check_area-area.new.out) c.check_area-area.result.status) (ap file_in c.in-Ok.ensures.image) c.check_area-area.ensures.ends
+
+pub returns-in-Ok-clause-told : goal.returns-in-Ok-clause-told
+returns-in-Ok-clause-told g c =
+    let disk = c.into_store-store.ensures.disk ∙ ap (λ (f : Frame (Disk g.S.Store.Under × ℕ)). f.under.0) (c.check_area-area.ensures.frame ∙ c.in-Ok.ensures.frame) in
+    subst (λ (held : Option (List ℕ)). Tells c.check_area-area.result.broken held (g.O.Sink.written c.args.out.now) (g.O.Sink.written c.check_area-area.new.out) c.check_area-area.result.status) (c.in-Ok.ensures.image ∙ ap (λ (d : Disk g.S.Store.Under). d.held) (sym disk)) c.check_area-area.ensures.told
 
 pub returns-in-Ok-clause-counted : goal.returns-in-Ok-clause-counted
 returns-in-Ok-clause-counted g c = λ source.

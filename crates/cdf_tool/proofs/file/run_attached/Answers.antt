@@ -7,6 +7,8 @@ use Rattle.cdf_tool.proofs.AreaLemmas.{attached_holds}
 use Rattle.cdf_tool.proofs.CountLemmas.{counted_attached, no_write}
 use Rattle.cdf_tool.proofs.EndLemmas.{attached_all}
 use Rattle.cdf_tool.proofs.OnlyReads.{attached_reads, if_reads, nothing_from}
+use Rattle.cdf_tool.proofs.StoredLemmas.{held_file}
+use Rattle.cdf_tool.proofs.Told.{stored_tells, untold_at_end}
 use Rattle.cdf_tool.proofs.file.run_attached.Goals as goal
 
 pub finish-requires-clause-no_write : goal.finish-requires-clause-no_write
@@ -22,6 +24,16 @@ returns-in-Ok-clause-ends g c =
     attached_all c.args.asked.now.new c.args.asked.now.no_save c.args.asked.now.space (file_of (g.S.Store.disk c.args.store)) _ (g.S.Store.disk c.args.store) _ (g.S.Store.disk c.finish.result.store) (g.I.Source.left c.args.script.now) (g.I.Source.left c.run_area-ran.new.script) (g.O.Sink.written c.args.out.now) (g.O.Sink.written c.run_area-ran.new.out)
     _ c.run_area-ran.result.outcome c.finish.result.status c.in-Ok.ensures.image c.run_area-ran.ensures.ends c.run_area-ran.ensures.good
     (ap (λ (f : Frame (Disk g.S.Store.Under × ℕ)). f.under.0) (c.run_area-ran.ensures.frame ∙ c.in-Ok.ensures.frame)) c.finish.ensures.ends
+
+pub finish-requires-clause-untold : goal.finish-requires-clause-untold
+finish-requires-clause-untold g c = untold_at_end (g.O.Sink.written c.args.out.now) (g.O.Sink.written c.run_area-ran.new.out) c.run_area-ran.result.broken _ c.run_area-ran.result.outcome c.run_area-ran.ensures.told
+
+pub returns-in-Ok-clause-told : goal.returns-in-Ok-clause-told
+returns-in-Ok-clause-told g c =
+    let d = g.S.Store.disk c.args.store in
+    stored_tells (g.O.Sink.written c.args.out.now) (g.O.Sink.written c.run_area-ran.new.out) c.args.asked.now.no_save _ d _ (g.S.Store.disk c.finish.result.store) (ap (λ (f : Frame (Disk g.S.Store.Under × ℕ)). f.under.0) (c.run_area-ran.ensures.frame ∙ c.in-Ok.ensures.frame))
+    c.args.asked.now.new _ c.run_area-ran.result.broken c.finish.result.broken c.run_area-ran.result.outcome c.finish.result.status c.finish.ensures.told c.in-Ok.ensures.image (held_file d.held c.args.size (Some c.args.size) refl c.requires)
+    c.run_area-ran.ensures.told c.finish.ensures.ends
 
 pub returns-in-Ok-clause-counted : goal.returns-in-Ok-clause-counted
 returns-in-Ok-clause-counted g c =

@@ -5,8 +5,9 @@ use Rattle.cdf_tool.proofs.AskedLemmas.{accepts_checked, check_ends, check_leave
 use Rattle.cdf_tool.proofs.Changes.{run_changes, unstarted_changes, unwritten_changes}
 use Rattle.cdf_tool.proofs.CheckLemmas.{checks}
 use Rattle.cdf_tool.proofs.CountLemmas.{not_false, unwritten}
-use Rattle.cdf_tool.proofs.RunLemmas.{came, checked_came, completes, never_usage, no_file_exactly, no_file_held, rejected_exactly, too_long_exactly, verdict_names}
+use Rattle.cdf_tool.proofs.RunLemmas.{came, checked_came, completes, never_usage, no_file_exactly, no_file_held, rejected_exactly, too_long_exactly}
 use Rattle.cdf_tool.proofs.Headline.{accepts}
+use Rattle.cdf_tool.proofs.Told.{tells_names, tells_status}
 use Rattle.cdf_tool.proofs.OnlyReads.{if_reads}
 use Rattle.cdf_tool.proofs.Unstarted.{unnamed, unstarted_ends}
 use Rattle.cdf_tool.proofs.top.run.Goals as goal
@@ -125,7 +126,11 @@ returns-else-asked-clause-no_file_read g c =
 
 pub returns-else-asked-clause-verdict : goal.returns-else-asked-clause-verdict
 returns-else-asked-clause-verdict g c =
-    verdict_names (asked_for c.in-Ok.asked) (g.S.Store.disk c.args.store) (g.S.Store.disk c.run_file.result.store) (g.I.Source.left c.args.script.now) (g.I.Source.left c.run_file.new.script) (g.O.Sink.written c.args.out.now) (g.O.Sink.written c.run_file.new.out) c.run_file.result.status (came (asked_for c.in-Ok.asked) (g.S.Store.disk c.args.store) (g.S.Store.disk c.run_file.result.store) (g.I.Source.left c.args.script.now) (g.I.Source.left c.run_file.new.script) (g.O.Sink.written c.args.out.now) (g.O.Sink.written c.run_file.new.out) c.run_file.result.status c.run_file.ensures.ends)
+    tells_names (g.O.Sink.written c.args.out.now) (g.O.Sink.written c.run_file.new.out) c.run_file.result.broken (g.S.Store.disk c.run_file.result.store).held c.run_file.result.status c.run_file.ensures.told
+
+pub returns-else-asked-clause-told : goal.returns-else-asked-clause-told
+returns-else-asked-clause-told g c =
+    tells_status (g.O.Sink.written c.args.out.now) (g.O.Sink.written c.run_file.new.out) c.run_file.result.broken (g.S.Store.disk c.run_file.result.store).held c.run_file.result.status c.run_file.ensures.told
 
 pub returns-then-asked-clause-usage : goal.returns-then-asked-clause-usage
 returns-then-asked-clause-usage g c =
@@ -137,7 +142,11 @@ returns-then-asked-clause-no_file_read g c =
 
 pub returns-then-asked-clause-verdict : goal.returns-then-asked-clause-verdict
 returns-then-asked-clause-verdict g c =
-    verdict_names (asked_for c.in-Ok.asked) (g.S.Store.disk c.args.store) (g.S.Store.disk c.check_file.result.store) (g.I.Source.left c.args.script.now) (g.I.Source.left c.args.script.now) (g.O.Sink.written c.args.out.now) (g.O.Sink.written c.check_file.new.out) c.check_file.result.status (checked_came (asked_for c.in-Ok.asked) (g.S.Store.disk c.args.store) (g.S.Store.disk c.check_file.result.store) (g.I.Source.left c.args.script.now) (g.I.Source.left c.args.script.now) (g.O.Sink.written c.args.out.now) (g.O.Sink.written c.check_file.new.out) c.check_file.result.status (c.in-Ok.ensures.old c.if-asked.true) (c.check_file.ensures.ends (g.I.Source.left c.args.script.now)))
+    tells_names (g.O.Sink.written c.args.out.now) (g.O.Sink.written c.check_file.new.out) c.check_file.result.broken (g.S.Store.disk c.check_file.result.store).held c.check_file.result.status c.check_file.ensures.told
+
+pub returns-then-asked-clause-told : goal.returns-then-asked-clause-told
+returns-then-asked-clause-told g c =
+    tells_status (g.O.Sink.written c.args.out.now) (g.O.Sink.written c.check_file.new.out) c.check_file.result.broken (g.S.Store.disk c.check_file.result.store).held c.check_file.result.status c.check_file.ensures.told
 
 pub returns-then-asked-clause-not_called : goal.returns-then-asked-clause-not_called
 returns-then-asked-clause-not_called g c =
