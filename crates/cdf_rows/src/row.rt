@@ -46,8 +46,10 @@ pub struct Row {
     pub status: usize,
     /// What has to be told of the run on standard error, if that is asked.
     pub told: Option<String>,
-    /// The file after the run, which may be saved; the one before it, if none is said, and then none is saved.
+    /// The file after the run; the one before it, if none is said.
     pub after: Option<String>,
+    /// The file is saved though it stays as it was.
+    pub is_saved: bool,
 }
 
 /// Appends a line and its newline.
@@ -85,6 +87,7 @@ impl Row {
             status: 0,
             told: None,
             after: None,
+            is_saved: false,
         })
     }
 
@@ -115,6 +118,7 @@ impl Row {
             "status" => self.status = number_in(text)?,
             "told" => self.told = Some(String::from_str(alloc, text)?),
             "after" => self.after = Some(String::from_str(alloc, text)?),
+            "saved" => self.is_saved = true,
             _ => bail!("{key} is no part of a row"),
         }
         Ok(())

@@ -103,12 +103,17 @@ impl<'a> Trial<'a> {
         self.before.is_none() && is_empty
     }
 
+    /// The file is written: it changes, or the row says that it is saved as it was.
+    fn is_saved(&self) -> bool {
+        self.row.is_saved || self.wanted() != self.before.as_deref()
+    }
+
     /// What is wrong with a run over a device that fails.
     fn fault_of_failing(&self, device: usize, ran: &Ran) -> Option<&'static str> {
         let before = self.before.as_deref();
         let is_blamed = match device {
-            // where a row names no file after the run, none is written
-            0 => ran.status == 5 || (ran.status == 6 && self.row.after.is_some()),
+            // a file that is to stay as it is is not written, unless the row says so
+            0 => ran.status == 5 || (ran.status == 6 && self.is_saved()),
             1 => ran.status == 9,
             _ => ran.status == 7,
         };
