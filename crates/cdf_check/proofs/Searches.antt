@@ -6,7 +6,7 @@ use Rattle.cdf_format.specs.Chains.{is_in}
 use Rattle.cdf_format.specs.Tiles.{In, AreTiles}
 use Rattle.cdf_format.proofs.Members.{is_in-true, is_in-false}
 use Rattle.cdf_format.proofs.TilesLemmas.{tile_lies}
-use Rattle.cdf_check.specs.Walked.{Ascends}
+use Rattle.cdf_check.specs.Met.{Ascends}
 use Rattle.cdf_check.proofs.Rows.{In-get_or}
 
 place_of : (x : ℕ) (xs : List ℕ) → In x xs → (i : ℕ) × (i < length xs) × (get_or xs i 0 ≡ x)

@@ -27,10 +27,6 @@ abbrev pub SizesTile : List ℕ → ℕ → Option ℕ → Type 0
 SizesTile b place (Some size) = (is_tile b place ≡ true) × (size ≡ size_at b place)
 SizesTile b place None = is_tile b place ≡ false
 
--- none is less than one before it
-abbrev pub Ascends : List ℕ → Type 0
-Ascends xs = (i j : ℕ) → i ≤ j → j < length xs → get_or xs i 0 ≤ get_or xs j 0
-
 -- each is greater than those before it
 abbrev pub Climbs : List ℕ → Type 0
 Climbs xs = (i j : ℕ) → i < j → j < length xs → get_or xs i 0 < get_or xs j 0

@@ -14,6 +14,7 @@ mod magic_rules;
 mod met;
 mod owners;
 mod record_types;
+mod sorted;
 mod tiles;
 mod trailer_rules;
 mod validator;

@@ -6,25 +6,15 @@ ghost use Rattle.cdf_format.specs.Chains.{is_in, is_a, is_linkable, chain};
 ghost use Rattle.cdf_format.specs.Records.{field};
 ghost use Rattle.cdf_format.specs.Tiles.{AreTiles};
 ghost use Rattle.cdf_check.specs.Met.{Agrees};
-ghost use Rattle.cdf_check.specs.Walked.{Ascends, Meets, Walks};
+ghost use Rattle.cdf_check.specs.Walked.{Meets, Walks};
 
 use crate::fields::{read_size, read_type};
 use crate::met::Met;
+use crate::sorted::stands_in;
 use cdf_area::{Area, AreaError};
 use cdf_format::fields::{LINKED_SIZE, UIR_NEXT_UIR};
 use cdf_records::read_unsigned8;
 use std::alloc::Global;
-
-/// Whether a number stands in the ascending list.
-fn stands_in(tiles: &[u64], place: u64) -> bool
-    requires ascends { Ascends tiles.now }
-    ensures { result ≡ is_in place tiles.now }
-{
-    match tiles.binary_search(&place) {
-        Ok(_) => true,
-        Err(_) => false,
-    }
-}
 
 /// Whether a record of this type stands at a place.
 pub fn is_a<A: Area>(
