@@ -16,7 +16,6 @@ pub mod Listing
 pub mod Step
 pub mod Gathered
 pub mod Parts
-pub mod Words
 pub mod Lines
 pub mod Quoting
 pub mod Written
