@@ -3,6 +3,7 @@ pub mod Findings
 pub mod Readings
 pub mod TileSteps
 pub mod Rows
+pub mod RecordSteps
 pub mod Sets
 pub mod Searches
 pub mod ChainSteps

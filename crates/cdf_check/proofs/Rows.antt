@@ -1,9 +1,12 @@
 -- The rules of each member of a list, one after the other.
-use Rattle.std.proofs.Common.{ℕ, zero, suc, ◌<◌, List, [], ◌∷◌, ◌++◌, length, take, get_or, refl, inl, inr, ◌⊎◌, arith}
+use Rattle.std.proofs.Common.{◌≡◌, ℕ, zero, suc, ◌<◌, List, [], ◌∷◌, ◌++◌, length, take, get_or, refl, ap, ◌∙◌, inl, inr, ◌⊎◌, arith, append-nil, Option, Some, None}
 use Rattle.std.specs.List.{flat_map}
+use Rattle.std.specs.Option.{option_or}
 use Rattle.cdf_format.specs.Rules.{Row, Hold, IsBroken}
 use Rattle.cdf_format.specs.Tiles.{In}
-use Rattle.cdf_format.proofs.RowLemmas.{Hold-append, Hold-split, IsBroken-before, IsBroken-after}
+use Rattle.cdf_format.proofs.RowLemmas.{Hold-append, Hold-split, IsBroken-before, IsBroken-after, flat_map-append}
+use Rattle.cdf_check.specs.declared.verdict.Finding.{Finding}
+use Rattle.cdf_check.specs.Verdicts.{Finds}
 
 pub In-get_or : (xs : List ℕ) (i : ℕ) → i < length xs → In (get_or xs i 0) xs
 In-get_or [] i lt = absurd (omega arith)
@@ -29,19 +32,36 @@ IsBroken-split [] ys rule place p = inr p
 IsBroken-split (x ∷ xs) ys rule place (inl p) = inl (inl p)
 IsBroken-split (x ∷ xs) ys rule place (inr p) = elim (IsBroken-split xs ys rule place p) [ inl q ↦ inl (inr q) | inr q ↦ inr q ]
 
--- the same of two lists of rules at once
-module _ (one two : ℕ → List Row) (members : List ℕ) (i : ℕ) (lt : i < length members) where
-  pub broken_member_of_two : (rule place : ℕ) → IsBroken (one (get_or members i 0) ++ two (get_or members i 0)) rule place → IsBroken (flat_map one members ++ flat_map two members) rule place
-  broken_member_of_two rule place broken = elim (IsBroken-split (one (get_or members i 0)) (two (get_or members i 0)) rule place broken) [
-    | inl p ↦ IsBroken-before (flat_map one members) (flat_map two members) rule place (broken_member one members i 0 rule place lt p)
-    | inr p ↦ IsBroken-after (flat_map one members) (flat_map two members) rule place (broken_member two members i 0 rule place lt p)
-  ]
+-- the same of two lists of rules at once, of which the first broken one is kept
+more : (rows : ℕ → List Row) (ms : List ℕ) (m : ℕ) → flat_map rows (ms ++ m ∷ []) ≡ flat_map rows ms ++ rows m
+more rows ms m = flat_map-append rows ms (m ∷ []) ∙ ap (λ (r : List Row). flat_map rows ms ++ r) (append-nil (rows m))
 
-  pub holds_more_of_two : Hold (flat_map one (take i members) ++ flat_map two (take i members)) → Hold (one (get_or members i 0) ++ two (get_or members i 0)) → Hold (flat_map one (take (suc i) members) ++ flat_map two (take (suc i) members))
-  holds_more_of_two before here =
-      let b = Hold-split (flat_map one (take i members)) (flat_map two (take i members)) before in
-      let h = Hold-split (one (get_or members i 0)) (two (get_or members i 0)) here in
-      Hold-append (flat_map one (take (suc i) members)) (flat_map two (take (suc i) members)) (holds_more one members i 0 lt b.0 h.0) (holds_more two members i 0 lt b.1 h.1)
+module _ (one two : ℕ → List Row) (ms : List ℕ) (m : ℕ) where
+  abbrev all : List ℕ → List Row
+  all members = flat_map one members ++ flat_map two members
+
+  breaks_before : (rule place : ℕ) → IsBroken (all ms) rule place → IsBroken (all (ms ++ m ∷ [])) rule place
+  breaks_before rule place p = rw (more one ms m, more two ms m) (elim (IsBroken-split (flat_map one ms) (flat_map two ms) rule place p) [
+    | inl q ↦ IsBroken-before (flat_map one ms ++ one m) (flat_map two ms ++ two m) rule place (IsBroken-before (flat_map one ms) (one m) rule place q)
+    | inr q ↦ IsBroken-after (flat_map one ms ++ one m) (flat_map two ms ++ two m) rule place (IsBroken-before (flat_map two ms) (two m) rule place q)
+  ])
+
+  breaks_here : (rule place : ℕ) → IsBroken (one m ++ two m) rule place → IsBroken (all (ms ++ m ∷ [])) rule place
+  breaks_here rule place p = rw (more one ms m, more two ms m) (elim (IsBroken-split (one m) (two m) rule place p) [
+    | inl q ↦ IsBroken-before (flat_map one ms ++ one m) (flat_map two ms ++ two m) rule place (IsBroken-after (flat_map one ms) (one m) rule place q)
+    | inr q ↦ IsBroken-after (flat_map one ms ++ one m) (flat_map two ms ++ two m) rule place (IsBroken-after (flat_map two ms) (two m) rule place q)
+  ])
+
+  holds_here : Hold (all ms) → Hold (one m ++ two m) → Hold (all (ms ++ m ∷ []))
+  holds_here before here =
+      let b = Hold-split (flat_map one ms) (flat_map two ms) before in
+      let h = Hold-split (one m) (two m) here in
+      rw (more one ms m, more two ms m) (Hold-append (flat_map one ms ++ one m) (flat_map two ms ++ two m) (Hold-append (flat_map one ms) (one m) b.0 h.0) (Hold-append (flat_map two ms) (two m) b.1 h.1))
+
+  pub found_more : (before here : Option Finding) → Finds (flat_map one ms ++ flat_map two ms) before → Finds (one m ++ two m) here → Finds (flat_map one (ms ++ m ∷ []) ++ flat_map two (ms ++ m ∷ [])) (option_or before here)
+  found_more None None p q = holds_here p q
+  found_more None (Some f) p q = breaks_here f.rule f.place q
+  found_more (Some f) here p q = breaks_before f.rule f.place p
 
 -- three lists of rules
 module _ (one two three : List Row) where

@@ -1,5 +1,5 @@
 -- Steps of the walk over the records of an image.
-use Rattle.std.proofs.Common.{◌≡◌, ◌≢◌, ℕ, zero, suc, ◌+◌, ◌≤◌, List, [], ◌∷◌, ◌++◌, length, true, false, eqb, leb, eq-eqb, refl, sym, ap, ◌∙◌, inl, inr, append_assoc, append-nil}
+use Rattle.std.proofs.Common.{◌≡◌, ◌≢◌, ℕ, zero, suc, ◌+◌, ◌≤◌, List, [], ◌∷◌, ◌++◌, length, true, false, eqb, leb, eq-eqb, refl, sym, ap, ◌∙◌, inl, inr, append_assoc, append-nil, arith}
 use Rattle.std.proofs.lemmas.Bool.{eqb-true, and_parts, leb-true}
 use Rattle.cdf_format.specs.Fields.{size_at}
 use Rattle.cdf_format.specs.Walks.{Walk, whole, stuck, after_first}
@@ -56,6 +56,12 @@ module _ (b : List ℕ) (place : ℕ) where
 
 pub tile_ends : (b : List ℕ) (place : ℕ) → is_tile b place ≡ true → place + size_at b place ≤ length b
 tile_ends b place good = leb-true (place + size_at b place) (length b) (and_parts (leb 12 (size_at b place)) (leb (place + size_at b place) (length b)) good).1
+
+-- the size and the type of a record lie in the image
+pub tile_room : (b : List ℕ) (place : ℕ) → is_tile b place ≡ true → place + 12 ≤ length b
+tile_room b place good =
+    let parts = and_parts (leb 12 (size_at b place)) (leb (place + size_at b place) (length b)) good in
+    omega (arith, leb-true 12 (size_at b place) parts.0, leb-true (place + size_at b place) (length b) parts.1)
 
 -- the rules of the phase where the records go on to the end, and where they do not
 pub whole_rows : (b records : List ℕ) → tiling b ≡ whole records → phase4 b ≡ flat_map (record_rows b) records ++ flat_map (unread_type b) records

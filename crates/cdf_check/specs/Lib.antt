@@ -1,5 +1,6 @@
 pub mod Verdicts
 pub mod Walked
+pub mod Records
 pub mod Met
 pub mod FileChains
 pub mod Entries

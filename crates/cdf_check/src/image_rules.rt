@@ -9,6 +9,7 @@ ghost use Rattle.cdf_format.specs.Rules.{Hold};
 ghost use Rattle.cdf_format.specs.Tiles.{tiling};
 ghost use Rattle.cdf_format.specs.Walks.{whole};
 ghost use Rattle.cdf_check.specs.FileChains.{AreChains};
+ghost use Rattle.cdf_check.specs.Records.{unused_of};
 ghost use Rattle.cdf_check.specs.Verdicts.{JudgesImage};
 
 use crate::attributes::check_attributes;
@@ -24,10 +25,12 @@ fn check_members<A: Area>(
     alloc: Global,
     area: &mut A,
     tiles: &[u64],
+    unused: &[u64],
     chains: &Chains,
     gdr: u64,
 ) -> Result<Option<Broken>, AreaError>
     requires tiling { tiling (A.image area.old) ≡ whole tiles.now }
+    requires unused { unused.now ≡ unused_of (A.image area.old) tiles.now }
     requires records { Hold (phase4 (A.image area.old)) }
     requires chains { AreChains (A.image area.old) tiles.now chains.now }
     requires linked { Hold (phase5 (A.image area.old) tiles.now) }
@@ -40,7 +43,7 @@ fn check_members<A: Area>(
         Ok(members) => members,
         Err(finding) => return Ok(Some(in_phase(6, finding))),
     };
-    if let Some(finding) = check_owners(alloc, area, tiles, gdr, &members)? {
+    if let Some(finding) = check_owners(alloc, tiles, gdr, &members, unused)? {
         return Ok(Some(in_phase(9, finding)));
     }
     Ok(None)
@@ -51,9 +54,11 @@ fn check_linked<A: Area>(
     alloc: Global,
     area: &mut A,
     tiles: &[u64],
+    unused: &[u64],
     gdr: u64,
 ) -> Result<Option<Broken>, AreaError>
     requires tiling { tiling (A.image area.old) ≡ whole tiles.now }
+    requires unused { unused.now ≡ unused_of (A.image area.old) tiles.now }
     requires records { Hold (phase4 (A.image area.old)) }
     requires small { length (A.image area.old) < 2 ^ 31 }
     requires gdr { gdr ≡ gdr_offset (A.image area.old) }
@@ -64,7 +69,7 @@ fn check_linked<A: Area>(
         Ok(chains) => chains,
         Err(finding) => return Ok(Some(in_phase(5, finding))),
     };
-    check_members(alloc, area, tiles, &chains, gdr)
+    check_members(alloc, area, tiles, unused, &chains, gdr)
 }
 
 /// A rule on its records that an image breaks, with its Global Descriptor Record at a place.
@@ -79,9 +84,9 @@ pub fn check_image<A: Area>(
     ensures verdict { IfOk result (JudgesImage (A.image area.old)) }
     ensures area { Reads A.image A.frame A.faults A.edited area.old area.new result }
 {
-    let tiles = match check_tiles(alloc, area)? {
-        Ok(tiles) => tiles,
+    let records = match check_tiles(alloc, area)? {
+        Ok(records) => records,
         Err(finding) => return Ok(Some(in_phase(4, finding))),
     };
-    check_linked(alloc, area, &tiles, gdr)
+    check_linked(alloc, area, &records.all, &records.unused, gdr)
 }

@@ -1,19 +1,12 @@
 //! The rule that each record of an image has one owner.
 
-ghost use Rattle.std.specs.Prelude.{◌≡◌, ◌==◌, ◌++◌, ◌∷◌, length, IfOk, OnOk};
-ghost use Rattle.std.specs.List.{filter};
-ghost use Rattle.cdf_area.specs.Calls.{Reads};
-ghost use Rattle.cdf_format.specs.Fields.{type_at};
+ghost use Rattle.std.specs.Prelude.{◌++◌, ◌∷◌, IfOk};
 ghost use Rattle.cdf_format.specs.Phases.{phase9};
-ghost use Rattle.cdf_format.specs.RecordTypes.{uir_type};
-ghost use Rattle.cdf_format.specs.Tiles.{AreTiles};
 ghost use Rattle.cdf_check.specs.Verdicts.{Finds};
 ghost use Rattle.cdf_check.specs.Walked.{Climbs, StandsAt, Counts};
 
-use crate::fields::read_type;
 use crate::verdict::Finding;
-use cdf_area::{Area, AreaError};
-use cdf_format::fields::{CDR_PLACE, UIR_TYPE};
+use cdf_format::fields::CDR_PLACE;
 use std::alloc::{AllocError, Global};
 
 /// Where a place stands among those of the records.
@@ -60,37 +53,21 @@ fn check_owned(alloc: Global, tiles: &[u64], owned: &[u64]) -> Result<Option<Fin
     Ok(None)
 }
 
-/// Puts the unused records last.
-fn own_unused<A: Area>(area: &mut A, tiles: &[u64], owned: &mut Vec<u64>) -> Result<(), AreaError>
-    requires tiled { AreTiles (A.image area.old) 8 (length (A.image area.old)) tiles.now }
-    ensures owned { OnOk result (owned.new.items ≡ owned.old.items ++ filter (λ place. type_at (A.image area.old) place == uir_type) tiles.now) }
-    ensures area { Reads A.image A.frame A.faults A.edited area.old area.new result }
-{
-    for place in tiles {
-        let record_type = read_type(area, *place)?;
-        if record_type == UIR_TYPE {
-            owned.push(*place)?;
-        }
-    }
-    Ok(())
-}
-
 /// That each record of an image has one owner: the file, an attribute or a variable, whose records `members` lists, or it is unused.
-pub fn check_owners<A: Area>(
+pub fn check_owners(
     alloc: Global,
-    area: &mut A,
     tiles: &[u64],
     gdr: u64,
     members: &[u64],
-) -> Result<Option<Finding>, AreaError>
-    requires tiled { AreTiles (A.image area.old) 8 (length (A.image area.old)) tiles.now }
-    ensures found { IfOk result (Finds (phase9 tiles.now ((8 ∷ gdr ∷ members.now) ++ filter (λ place. type_at (A.image area.old) place == uir_type) tiles.now))) }
-    ensures area { Reads A.image A.frame A.faults A.edited area.old area.new result }
+    unused: &[u64],
+) -> Result<Option<Finding>, AllocError>
+    requires climbs { Climbs tiles.now }
+    ensures found { IfOk result (Finds (phase9 tiles.now ((8 ∷ gdr ∷ members.now) ++ unused.now))) }
 {
     let mut owned = Vec::new(alloc);
     owned.push(CDR_PLACE)?;
     owned.push(gdr)?;
     owned.extend_from_slice(members)?;
-    own_unused(area, tiles, &mut owned)?;
-    Ok(check_owned(alloc, tiles, &owned)?)
+    owned.extend_from_slice(unused)?;
+    check_owned(alloc, tiles, &owned)
 }

@@ -1,20 +1,23 @@
-use Rattle.std.proofs.Common.{◌≡◌, ℕ, Ok}
-use Rattle.std.specs.declared.vec.Vec.{Vec}
-use Rattle.std.specs.declared.alloc.Global.{Global}
+use Rattle.std.proofs.Common.{Ok}
 use Rattle.cdf_format.specs.RecordRules.{phase4}
-use Rattle.cdf_format.specs.Tiles.{tiling}
-use Rattle.cdf_format.specs.Walks.{whole}
+use Rattle.cdf_check.specs.Records.{AreRecords}
 use Rattle.cdf_check.specs.Verdicts.{Yields}
 use Rattle.cdf_check.proofs.image_rules.check_image.Goals as goal
 
 pub check_linked-requires-clause-tiling : goal.check_linked-requires-clause-tiling
 check_linked-requires-clause-tiling g c =
     let b = g.A.Area.image c.args.area.now in
-    let tiles : Yields (phase4 b) (λ (v : Vec ℕ Global). tiling b ≡ whole v.items) (Ok c.in-Ok.tiles) = rw c.in-Ok.is at c.in_ok-tiles.ensures.found in
-    rw (c.deref.ensures.value, c.check_tiles.ensures.area.image) tiles.1
+    let records : Yields (phase4 b) (AreRecords b) (Ok c.in-Ok.records) = rw c.in-Ok.is at c.in_ok-records.ensures.found in
+    rw (c.deref.ensures.value, c.check_tiles.ensures.area.image) records.1.walk
+
+pub check_linked-requires-clause-unused : goal.check_linked-requires-clause-unused
+check_linked-requires-clause-unused g c =
+    let b = g.A.Area.image c.args.area.now in
+    let records : Yields (phase4 b) (AreRecords b) (Ok c.in-Ok.records) = rw c.in-Ok.is at c.in_ok-records.ensures.found in
+    rw (c.deref.ensures.value, c.deref-2.ensures.value, c.check_tiles.ensures.area.image) records.1.unused
 
 pub check_linked-requires-clause-records : goal.check_linked-requires-clause-records
 check_linked-requires-clause-records g c =
     let b = g.A.Area.image c.args.area.now in
-    let tiles : Yields (phase4 b) (λ (v : Vec ℕ Global). tiling b ≡ whole v.items) (Ok c.in-Ok.tiles) = rw c.in-Ok.is at c.in_ok-tiles.ensures.found in
-    rw c.check_tiles.ensures.area.image tiles.0
+    let records : Yields (phase4 b) (AreRecords b) (Ok c.in-Ok.records) = rw c.in-Ok.is at c.in_ok-records.ensures.found in
+    rw c.check_tiles.ensures.area.image records.0

@@ -1,11 +1,16 @@
-use Rattle.std.proofs.Common.{◌≡◌}
-use Rattle.cdf_format.specs.Tiles.{tiling}
-use Rattle.cdf_format.specs.Walks.{whole}
-use Rattle.cdf_format.proofs.TilesLemmas.{tiling_sound}
+use Rattle.std.proofs.Common.{Ok}
+use Rattle.cdf_check.specs.Records.{WalksTiles}
+use Rattle.cdf_check.proofs.RecordSteps.{records_hold, records_break}
 use Rattle.cdf_check.proofs.tiles.check_tiles.Goals as goal
 
-pub check_records-requires : goal.check_records-requires
-check_records-requires g c =
+pub returns-in-Some-clause-found : goal.returns-in-Some-clause-found
+returns-in-Some-clause-found g c =
     let b = g.A.Area.image c.args.area.now in
-    let is : tiling b ≡ whole c.in-Ok.records.items = rw c.in-Ok.is at c.in_ok-records.ensures.walk in
-    rw (c.walk_tiles.ensures.area.image, c.deref.ensures.value) (tiling_sound b c.in-Ok.records.items is)
+    let walked : WalksTiles b (Ok c.in-Ok.walked) = rw c.in-Ok.is at c.in_ok-walked.ensures.walk in
+    records_break b c.in-Ok.walked walked c.in-Some.broken c.in-Some.is
+
+pub returns-in-None-clause-found : goal.returns-in-None-clause-found
+returns-in-None-clause-found g c =
+    let b = g.A.Area.image c.args.area.now in
+    let walked : WalksTiles b (Ok c.in-Ok.walked) = rw c.in-Ok.is at c.in_ok-walked.ensures.walk in
+    records_hold b c.in-Ok.walked walked c.in-None.is
