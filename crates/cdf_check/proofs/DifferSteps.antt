@@ -1,10 +1,11 @@
 -- No member of a list is like one before it.
-use Rattle.std.proofs.Common.{◌≡◌, ℕ, ◌+◌, ◌<◌, List, [], ◌∷◌, ◌++◌, length, map, take, drop, get_or, Bool, true, false, not, ◌||◌, eqb, refl, sym, ap, ◌∙◌, inl, inr, Option, Some, None, add-one}
+use Rattle.std.proofs.Common.{◌≡◌, ℕ, ◌+◌, ◌<◌, List, [], ◌∷◌, ◌++◌, length, map, take, drop, get_or, Bool, true, false, not, ◌||◌, eqb, refl, sym, ap, ◌∙◌, inl, inr, Option, Some, None, add-one, append-nil, append_assoc}
 use Rattle.std.proofs.lemmas.List.{take_more, map-append}
 use Rattle.std.specs.List.{list_any}
 use Rattle.cdf_format.specs.Chains.{is_in}
-use Rattle.cdf_format.specs.Rules.{Row, IsBroken}
+use Rattle.cdf_format.specs.Rules.{Row, row, Hold, IsBroken}
 use Rattle.cdf_format.specs.ChainRules.{differ_rows}
+use Rattle.cdf_format.proofs.RowLemmas.{Hold-append, IsBroken-before, IsBroken-after}
 use Rattle.cdf_check.specs.declared.verdict.Finding.{Finding}
 use Rattle.cdf_check.specs.Verdicts.{Finds}
 use Rattle.cdf_check.proofs.NumberSteps.{drop_at}
@@ -30,6 +31,25 @@ module _ {X : Type 0} (key : ℕ → X) (same : X → X → Bool) (rule : ℕ) (
 
   pub keys_more : keys ++ key (get_or ms i 0) ∷ [] ≡ map key (take (i + 1) ms)
   keys_more = rw (are, take_more ms i 0 lt) (sym (map-append key (take i ms) (get_or ms i 0 ∷ [])))
+
+-- one member more
+module _ {X : Type 0} (key : ℕ → X) (same : X → X → Bool) (rule : ℕ) (ms : List ℕ) (m : ℕ) where
+  any-keys : (x : X) (others : List ℕ) → list_any (same x) (map key others) ≡ list_any (λ other. same x (key other)) others
+  any-keys x [] = refl
+  any-keys x (other ∷ others) = ap (λ (p : Bool). same x (key other) || p) (any-keys x others)
+
+  pushed : (before members : List ℕ) → differ_rows rule (λ one other. same (key one) (key other)) before (members ++ m ∷ []) ≡ differ_rows rule (λ one other. same (key one) (key other)) before members ++ row rule m (not (list_any (λ other. same (key m) (key other)) (before ++ members))) ∷ []
+  pushed before [] = ap (λ (others : List ℕ). row rule m (not (list_any (λ other. same (key m) (key other)) others)) ∷ []) (sym (append-nil before))
+  pushed before (x ∷ members) = ap (λ (rows : List Row). row rule x (not (list_any (λ other. same (key x) (key other)) before)) ∷ rows) (pushed (before ++ x ∷ []) members ∙ ap (λ (others : List ℕ). differ_rows rule (λ one other. same (key one) (key other)) (before ++ x ∷ []) members ++ row rule m (not (list_any (λ other. same (key m) (key other)) others)) ∷ []) (append_assoc before (x ∷ []) members))
+
+  pub push_broken : (r place : ℕ) → IsBroken (differ_rows rule (λ one other. same (key one) (key other)) [] ms) r place → IsBroken (differ_rows rule (λ one other. same (key one) (key other)) [] (ms ++ m ∷ [])) r place
+  push_broken r place broken = rw (pushed [] ms) (IsBroken-before (differ_rows rule (λ one other. same (key one) (key other)) [] ms) _ r place broken)
+
+  pub push_met : list_any (same (key m)) (map key ms) ≡ true → IsBroken (differ_rows rule (λ one other. same (key one) (key other)) [] (ms ++ m ∷ [])) rule m
+  push_met old = rw (pushed [] ms) (IsBroken-after (differ_rows rule (λ one other. same (key one) (key other)) [] ms) _ rule m (inl (refl, refl, ap not (sym (any-keys (key m) ms) ∙ old))))
+
+  pub push_new : list_any (same (key m)) (map key ms) ≡ false → Hold (differ_rows rule (λ one other. same (key one) (key other)) [] ms) → Hold (differ_rows rule (λ one other. same (key one) (key other)) [] (ms ++ m ∷ []))
+  push_new new before = rw (pushed [] ms) (Hold-append (differ_rows rule (λ one other. same (key one) (key other)) [] ms) _ before (ap not (sym (any-keys (key m) ms) ∙ new), tt))
 
 pub is_in-any : (n : ℕ) (ns : List ℕ) → is_in n ns ≡ list_any (eqb n) ns
 is_in-any n [] = refl

@@ -10,6 +10,7 @@ pub mod ChainSteps
 pub mod ChainLists
 pub mod NumberSteps
 pub mod DifferSteps
+pub mod NameSteps
 pub mod EntryRows
 pub mod AttributeSteps
 pub mod Tallies

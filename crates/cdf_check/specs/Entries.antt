@@ -3,14 +3,14 @@ use Rattle.std.specs.Prelude.{◌≡◌, ◌≤◌, ℕ, ◌+◌, List, length}
 use Rattle.cdf_format.specs.AttributeRules.{entries_rows}
 use Rattle.cdf_format.specs.ChainRules.{chain_rows}
 use Rattle.cdf_format.specs.Chains.{chain}
-use Rattle.cdf_format.specs.Fields.{type_at}
+use Rattle.cdf_format.specs.Fields.{name_in, type_at}
 use Rattle.cdf_format.specs.RecordTypes.{adr_type}
 use Rattle.cdf_format.specs.Tiles.{In}
-use Rattle.cdf_format.specs.Records.{field}
+use Rattle.cdf_format.specs.Records.{adr_name, field}
 use Rattle.cdf_format.specs.Rules.{Row}
 use Rattle.cdf_format.specs.Shape.{gr_entry_chain, z_entry_chain}
 use Rattle.cdf_format.specs.Walks.{Walk, whole}
-use Rattle.cdf_check.specs.declared.attributes.EntryLists.{EntryLists}
+use Rattle.cdf_check.specs.declared.attributes.Attribute.{Attribute}
 use Rattle.cdf_check.specs.declared.entries.EntryChain.{EntryChain}
 
 -- a chain of entries of this kind
@@ -21,9 +21,11 @@ entry_walk b records kind adr = chain b records kind.record_type adr (field kind
 abbrev pub entry_chain_rows : List ℕ → List ℕ → EntryChain → ℕ → List Row
 entry_chain_rows b records kind adr = chain_rows 4 (entry_walk b records kind adr) (entries_rows b adr (field kind.count 4))
 
-pub record AreEntries (b records : List ℕ) (adr : ℕ) (lists : EntryLists) : Type 0 where
-  pub gr : gr_entry_chain b records adr ≡ whole lists.gr.items
-  pub z : z_entry_chain b records adr ≡ whole lists.z.items
+-- an attribute has this Name and these entries
+pub record Describes (b records : List ℕ) (adr : ℕ) (attribute : Attribute) : Type 0 where
+  pub name : attribute.name ≡ name_in b adr adr_name
+  pub gr : gr_entry_chain b records adr ≡ whole attribute.gr.items
+  pub z : z_entry_chain b records adr ≡ whole attribute.z.items
 
 -- a record of an attribute, with all its fields
 pub record IsAttribute (b : List ℕ) (adr : ℕ) : Type 0 where

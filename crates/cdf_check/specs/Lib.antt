@@ -4,3 +4,4 @@ pub mod Records
 pub mod Met
 pub mod FileChains
 pub mod Entries
+pub mod Named

@@ -12,6 +12,7 @@ mod image_rules;
 mod links;
 mod magic_rules;
 mod met;
+mod names;
 mod owners;
 mod record_types;
 mod sorted;

@@ -7,12 +7,7 @@ check_each-requires-clause-attributes g c =
     let b = g.A.Area.image c.args.area.now in
     chain_attributes b c.args.tiles.now c.args.adrs.now c.requires.tiled c.requires.long c.requires.chain
 
-pub check_names-requires-clause-attributes : goal.check_names-requires-clause-attributes
-check_names-requires-clause-attributes g c =
-    let b = g.A.Area.image c.args.area.now in
-    rw c.check_each.ensures.area.image (chain_attributes b c.args.tiles.now c.args.adrs.now c.requires.tiled c.requires.long c.requires.chain)
-
-pub check_names-requires-clause-few : goal.check_names-requires-clause-few
-check_names-requires-clause-few g c =
+pub check_each-requires-clause-few : goal.check_each-requires-clause-few
+check_each-requires-clause-few g c =
     let b = g.A.Area.image c.args.area.now in
     omega (arith, chain_few b c.args.tiles.now c.args.adrs.now c.requires.tiled c.requires.chain, c.requires.small)
