@@ -1,6 +1,6 @@
 //! Numbers that were met before.
 
-ghost use Rattle.std.specs.Prelude.{◌≡◌, ◌++◌, [], ◌∷◌, true, OnOk, MatchResult, IfOk, ℕ};
+ghost use Rattle.std.specs.Prelude.{◌≡◌, ◌++◌, [], ◌∷◌, true, false, OnOk, MatchResult, IfOk, ℕ};
 ghost use Rattle.std.specs.BTreeSet.{contains};
 ghost use Rattle.std.specs.Ordering.{nat_cmp};
 ghost use Rattle.cdf_format.specs.Chains.{is_in};
@@ -28,6 +28,17 @@ fn is_after(list: &[u64], number: u64) -> bool
 {
     match list.last() {
         Some(last) => *last <= number,
+        None => true,
+    }
+}
+
+/// Whether a number is past each of an ascending list, so that it is none of them.
+fn is_past(list: &[u64], number: u64) -> bool
+    requires ascends { Ascends list.now }
+    ensures { result ≡ true → is_in number list.now ≡ false }
+{
+    match list.last() {
+        Some(last) => *last < number,
         None => true,
     }
 }
@@ -61,7 +72,7 @@ impl Met {
         ensures { result ≡ is_in number self.now.list.items }
     {
         if self.is_sorted {
-            stands_in(&self.list, number)
+            !is_past(&self.list, number) && stands_in(&self.list, number)
         } else {
             self.set.contains(&number)
         }
