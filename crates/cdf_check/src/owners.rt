@@ -20,16 +20,29 @@ fn place_in(tiles: &[u64], place: u64) -> Option<usize>
     }
 }
 
+/// The same. The record that has this number is looked at first.
+fn place_near(tiles: &[u64], place: u64, near: usize) -> Option<usize>
+    requires climbs { Climbs tiles.now }
+    ensures { StandsAt tiles.now place result }
+{
+    if near < tiles.len() && tiles[near] == place {
+        return Some(near);
+    }
+    place_in(tiles, place)
+}
+
 /// How often each record stands in a list.
 fn count_owned(alloc: Global, tiles: &[u64], owned: &[u64]) -> Result<Vec<u64>, AllocError>
     requires climbs { Climbs tiles.now }
     ensures counts { IfOk result (λ counts. Counts tiles.now owned.now counts.items) }
 {
     let mut counts = vec![in alloc; 0u64; tiles.len()]?;
+    let mut next = 0;
     for place in owned {
-        let stands = place_in(tiles, *place);
+        let stands = place_near(tiles, *place, next);
         if let Some(i) = stands {
             counts[i] += 1;
+            next = i + 1;
         }
     }
     Ok(counts)
