@@ -29,7 +29,8 @@ use Rattle.cdf_format.proofs.GoodSound.{good_by_its_shape, rules_of_good}
 use Rattle.cdf_edits.specs.declared.chain.Chain.TheVariants.{Attrs}
 use Rattle.cdf_edits.specs.Space.Chains.{counted_in, members_of}
 use Rattle.cdf_attrs.proofs.AttributeChain.{adr_inside, attribute_members, few_attributes, index_in, name_lies}
-use Rattle.cdf_attrs.proofs.NamesDiffer.{distinct_apart, good_names}
+use Rattle.cdf_names.proofs.Apart.{distinct_apart}
+use Rattle.cdf_attrs.proofs.NamesDiffer.{good_names}
 
 -- ---- lists
 

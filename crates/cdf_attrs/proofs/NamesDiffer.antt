@@ -2,7 +2,6 @@
 use Rattle.std.proofs.Common.{◌≡◌, ℕ, List, [], ◌∷◌, ◌++◌, Bool, true, false, ◌||◌, bytes_eq, refl, sym, subst, append_assoc}
 use Rattle.std.specs.List.{list_any, AllByRecursion, IsDistinct}
 use Rattle.cdf_model.specs.Names.{attribute_names}
-use Rattle.cdf_names.specs.Names.{has_name}
 use Rattle.cdf_format.specs.AttributeRules.{same_name}
 use Rattle.cdf_format.specs.ChainRules.{differ_rows}
 use Rattle.cdf_format.specs.Content.{content}
@@ -17,10 +16,6 @@ first_false : (p q : Bool) → (p || q) ≡ false → p ≡ false
 first_false true q e = absurd cc
 first_false false q e = refl
 
-both_false : (p q : Bool) → p ≡ false → q ≡ false → (p || q) ≡ false
-both_false true q e f = absurd cc
-both_false false q e f = f
-
 -- a name differs from those behind it
 new_apart : (before : List (List ℕ)) (x : List ℕ) (mid names : List (List ℕ)) → AreNew (before ++ x ∷ mid) names → AllByRecursion (λ y. bytes_eq x y ≡ false) names
 new_apart before x mid [] h = tt
@@ -33,15 +28,6 @@ pub new_distinct : (before names : List (List ℕ)) → AreNew before names → 
 unfolding IsDistinct
 new_distinct before [] h = tt
 new_distinct before (x ∷ names) h = (new_apart before x [] names h.1, new_distinct (before ++ x ∷ []) names h.1)
-
-all_last : (P : List ℕ → Type 0) (xs : List (List ℕ)) (y : List ℕ) (ys : List (List ℕ)) → AllByRecursion P (xs ++ y ∷ ys) → P y
-all_last P [] y ys h = h.0
-all_last P (x ∷ xs) y ys h = all_last P xs y ys h.1
-
-pub distinct_apart : (xs : List (List ℕ)) (y : List ℕ) (ys : List (List ℕ)) → IsDistinct bytes_eq (xs ++ y ∷ ys) → has_name xs y ≡ false
-unfolding IsDistinct
-distinct_apart [] y ys h = refl
-distinct_apart (x ∷ xs) y ys h = both_false (bytes_eq y x) (list_any (bytes_eq y) xs) (differ-turned x y (all_last (λ z. bytes_eq x z ≡ false) xs y ys h.0)) (distinct_apart xs y ys h.1)
 
 -- ---- those of a good image
 

@@ -15,11 +15,11 @@ ghost use Rattle.cdf_model.specs.Sayable.{CanBeGiven};
 ghost use Rattle.cdf_model.specs.declared.command.Command.TheVariants.{Attr};
 
 use crate::attrs::Attrs;
-use crate::name::is_bad_name;
 use cdf_area::{Area, AreaError};
 use cdf_fields::padded;
 use cdf_format::fields::{ADR_SIZE, ADR_TYPE};
 use cdf_model::{Bytes, Outcome, Reason, Reply, Scope};
+use cdf_names::is_bad_name;
 use cdf_space::{Chain, append_record};
 use std::alloc::{AllocError, Global};
 

@@ -10,7 +10,6 @@ mod entry_chain;
 mod finding;
 mod getting;
 mod greatest;
-mod name;
 mod putting;
 mod putting_entry;
 mod range;

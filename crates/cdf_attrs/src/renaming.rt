@@ -9,9 +9,9 @@ ghost use Rattle.cdf_model.specs.Limits.{image_limit};
 ghost use Rattle.cdf_model.specs.declared.command.Command.TheVariants.{RenameAttr};
 
 use crate::attrs::Attrs;
-use crate::name::is_bad_name;
 use cdf_area::{Area, AreaError};
 use cdf_model::{Bytes, Outcome, Reason, Reply};
+use cdf_names::is_bad_name;
 use cdf_records::set_adr_name;
 
 impl Attrs {

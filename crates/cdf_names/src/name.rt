@@ -1,10 +1,11 @@
-//! Which names an attribute may not have.
+//! Which names an attribute or a variable may not have.
 
 ghost use Rattle.std.specs.Prelude.{◌≡◌, ◌==◌};
 ghost use Rattle.std.specs.List.{list_any};
 ghost use Rattle.cdf_model.specs.Names.{is_bad_name};
 
-use cdf_format::fields::NAME_SIZE;
+/// The most bytes of a name.
+const NAME_LIMIT: usize = 256;
 
 /// Whether a name has a byte 0.
 fn has_zero(name: &[u8]) -> bool
@@ -17,5 +18,5 @@ fn has_zero(name: &[u8]) -> bool
 pub fn is_bad_name(name: &[u8]) -> bool
     ensures { result ≡ is_bad_name name.now }
 {
-    name.is_empty() || NAME_SIZE < name.len() || has_zero(name)
+    name.is_empty() || NAME_LIMIT < name.len() || has_zero(name)
 }
