@@ -1,0 +1,65 @@
+-- What is read of records with names, one after the other.
+use Rattle.std.proofs.Common.{◌≡◌, ℕ, zero, suc, ◌+◌, ◌<◌, ◌≤◌, List, [], ◌∷◌, ◌++◌, length, map, take, drop, get_or, false, refl, sym, ap, ap₂, subst, ◌∙◌, append_assoc, append-nil, arith, bytes_eq, inl, inr}
+use Rattle.std.proofs.lemmas.List.{length-map, length-take, map-append, map_more, at_drop_more, at_drop_all, take_all}
+use Rattle.std.specs.List.{IsDistinct}
+use Rattle.cdf_format.specs.Fields.{name_at, name_field, type_at, LiesIn}
+use Rattle.cdf_format.specs.Tiles.{In}
+use Rattle.cdf_model.specs.declared.item.Item.{Item}
+use Rattle.cdf_model.specs.declared.item.Item.TheVariants.{Var}
+use Rattle.cdf_model.specs.declared.kinds.Kind.{Kind}
+use Rattle.cdf_names.specs.Names.{has_name}
+use Rattle.cdf_names.proofs.Apart.{distinct_apart}
+use Rattle.cdf_vars.specs.Reading.{AreNamed, items_at}
+
+pub in_list : (xs : List ℕ) (i : ℕ) → i < length xs → In (get_or xs i 0) xs
+in_list [] i lt = absurd (omega arith)
+in_list (x ∷ xs) zero lt = inl refl
+in_list (x ∷ xs) (suc i) lt = inr (in_list xs i (omega arith))
+
+parted : (xs : List ℕ) (i : ℕ) → i < length xs → xs ≡ take i xs ++ get_or xs i 0 ∷ drop (suc i) xs
+parted [] i lt = absurd (omega arith)
+parted (x ∷ xs) zero lt = refl
+parted (x ∷ xs) (suc i) lt = ap (λ (r : List ℕ). x ∷ r) (parted xs i (omega arith))
+
+module _ (b places : List ℕ) (named : AreNamed b places) where
+  -- all names
+  pub all_named : (names : List (List ℕ)) (i : ℕ) → names ≡ map (name_at b) (take i places) → length places ≤ i → names ≡ map (name_at b) places
+  all_named names i is all = is ∙ ap (map (name_at b)) (take_all i places all)
+
+  module _ (i : ℕ) (lt : i < length places) where
+    pub name_lies : (now : List ℕ) → now ≡ b → LiesIn now (get_or places i 0) (name_field (type_at now (get_or places i 0)))
+    name_lies now same = subst (λ (x : List ℕ). LiesIn x (get_or places i 0) (name_field (type_at x (get_or places i 0)))) (sym same) (named.lie (get_or places i 0) (in_list places i lt))
+
+    -- the next name is not among those before it
+    pub next_is_new : (names : List (List ℕ)) (name : List ℕ) → names ≡ map (name_at b) (take i places) → name ≡ name_at b (get_or places i 0) → has_name names name ≡ false
+    next_is_new names name is read =
+        let whole : map (name_at b) places ≡ map (name_at b) (take i places) ++ name_at b (get_or places i 0) ∷ map (name_at b) (drop (suc i) places) =
+        ap (map (name_at b)) (parted places i lt) ∙ map-append (name_at b) (take i places) (get_or places i 0 ∷ drop (suc i) places) in
+        ap₂ has_name is read ∙ distinct_apart (map (name_at b) (take i places)) (name_at b (get_or places i 0)) (map (name_at b) (drop (suc i) places)) (subst (IsDistinct bytes_eq) whole named.differ)
+
+    pub few_names : (names : List (List ℕ)) → names ≡ map (name_at b) (take i places) → length names < 4294967295
+    few_names names is =
+        let n : length names ≡ length (take i places) = ap (λ (xs : List (List ℕ)). length xs) is ∙ length-map (take i places) (name_at b) in
+        let few = named.few in
+        omega (arith, length-take i places)
+
+    pub next_named : (names names' : List (List ℕ)) (name : List ℕ) → names ≡ map (name_at b) (take i places) → name ≡ name_at b (get_or places i 0) → names' ≡ names ++ name ∷ [] → names' ≡ map (name_at b) (take (i + 1) places)
+    next_named names names' name is read added = added ∙ ap₂ (λ (xs : List (List ℕ)) (x : List ℕ). xs ++ x ∷ []) is read ∙ sym (map_more (name_at b) places i 0 lt)
+
+-- ---- as `list` shows them
+
+-- these items, and those of the places from a number on
+abbrev pub Listed : List ℕ → Kind → List ℕ → List Item → List Item → ℕ → Type 0
+Listed b kind places whole items i = items ++ items_at b kind i (drop i places) ≡ whole
+
+module _ (b : List ℕ) (kind : Kind) (places : List ℕ) (whole : List Item) where
+  pub all_listed : (items : List Item) (i : ℕ) → Listed b kind places whole items i → length places ≤ i → items ≡ whole
+  all_listed items i is all = sym (append-nil items) ∙ ap (λ (xs : List Item). items ++ xs) (sym (at_drop_all (items_at b kind i) places i all)) ∙ is
+
+  pub next_listed : (items items' : List Item) (i : ℕ) (name : List ℕ) → i < length places → Listed b kind places whole items i → name ≡ name_at b (get_or places i 0) → items' ≡ items ++ Var kind i name ∷ [] → Listed b kind places whole items' (i + 1)
+  next_listed items items' i name lt is read added =
+      let rest = items_at b kind (i + 1) (drop (i + 1) places) in
+      ap (λ (xs : List Item). xs ++ rest) (added ∙ ap (λ (x : List ℕ). items ++ Var kind i x ∷ []) read)
+      ∙ append_assoc items (Var kind i (name_at b (get_or places i 0)) ∷ []) rest
+      ∙ ap (λ (xs : List Item). items ++ xs) (sym (at_drop_more (items_at b kind i) places i 0 lt))
+      ∙ is

@@ -1,0 +1,157 @@
+-- The variable of a name, by what is kept of the variables, and in the data set.
+use Rattle.std.proofs.Common.{◌≡◌, ℕ, zero, suc, ◌<◌, List, [], ◌∷◌, length, map, true, Option, Some, None, is_some, get_or, bytes_eq, refl, sym, ap, ap₂, subst, ◌∙◌, arith}
+use Rattle.std.proofs.lemmas.List.{length-map}
+use Rattle.std.proofs.lemmas.List.Quantifiers.{position-Some}
+use Rattle.std.proofs.lemmas.Option.{same_Some, slice_get_within}
+use Rattle.std.specs.List.{position, slice_get}
+use Rattle.std.specs.Option.{option_map, option_or}
+use Rattle.cdf_edits.specs.Commands.Allowances.{shapes_of}
+use Rattle.cdf_format.specs.Content.{content, variable_of}
+use Rattle.cdf_format.specs.Shape.{VariableShape, shape, vdrs}
+use Rattle.cdf_format.specs.WellFormed.{Good}
+use Rattle.cdf_format.proofs.GoodSound.{good_is_sound}
+use Rattle.cdf_model.specs.declared.kinds.Kind.{Kind}
+use Rattle.cdf_model.specs.declared.kinds.Kind.TheVariants.{R, Z}
+use Rattle.cdf_model.specs.DataSet.{DataSet, Variable}
+use Rattle.cdf_model.specs.Names.{Found, found_in, numbered, variable_named, variables_of}
+use Rattle.cdf_names.specs.Names.{number_of}
+use Rattle.cdf_names.proofs.Keys.{number_of-keys}
+use Rattle.cdf_vars.specs.declared.vars.VarId.{VarId}
+use Rattle.cdf_vars.specs.Finding.{found_among, found_of, id_of}
+use Rattle.cdf_vars.specs.Known.{Known, Knows, KnowsKind, known_of}
+use Rattle.cdf_vars.proofs.VariableNames.{variables_are}
+
+-- ---- which variable of the data set it is
+
+abbrev of_pair : Kind → ℕ × Variable → Found
+of_pair kind pair = record { kind = kind; number = pair.0; variable = pair.1 }
+
+abbrev id_at : Kind → ℕ → VarId
+id_at kind n = record { kind = kind; num = n }
+
+-- an item that is there
+there_is : (vs : List Variable) (n : ℕ) → n < length vs → is_some (slice_get vs n) ≡ true
+there_is [] n lt = absurd (omega arith)
+there_is (v ∷ vs) zero lt = refl
+there_is (v ∷ vs) (suc n) lt = there_is vs n (omega arith)
+
+id_of_item : (kind : Kind) (n : ℕ) (v : Option Variable) → is_some v ≡ true → option_map id_of (option_map (of_pair kind) (option_map (λ (x : Variable). (n, x)) v)) ≡ Some (id_at kind n)
+id_of_item kind n None e = absurd cc
+id_of_item kind n (Some v) e = refl
+
+id_of_number : (kind : Kind) (vs : List Variable) (o : Option ℕ) → ((n : ℕ) → o ≡ Some n → n < length vs) → option_map id_of (option_map (of_pair kind) (numbered vs o)) ≡ option_map (id_at kind) o
+id_of_number kind vs None within = refl
+id_of_number kind vs (Some n) within = id_of_item kind n (slice_get vs n) (there_is vs n (within n refl))
+
+number_within : (names : List (List ℕ)) (name : List ℕ) (n : ℕ) → number_of names name ≡ Some n → n < length names
+number_within names name n e = (position-Some (bytes_eq name) names n [] e).0
+
+id_in : (d : DataSet) (name : List ℕ) (kind : Kind) (names : List (List ℕ)) → names ≡ map (λ (v : Variable). v.name) (variables_of d kind) → option_map id_of (found_in d name kind) ≡ found_of kind names name
+id_in d name kind names is =
+    let vs = variables_of d kind in
+    let same : position (λ (v : Variable). bytes_eq name v.name) vs ≡ number_of names name = number_of-keys (λ (v : Variable). v.name) vs names (sym is) name in
+    let long : length names ≡ length vs = ap length is ∙ length-map vs (λ (v : Variable). v.name) in
+    let within : (n : ℕ) → number_of names name ≡ Some n → n < length vs = λ n e. let lt = number_within names name n e in omega arith in
+    ap (λ (o : Option ℕ). option_map id_of (option_map (of_pair kind) (numbered vs o))) same ∙ id_of_number kind vs (number_of names name) within
+
+map-or : (p q : Option Found) → option_map id_of (option_or p q) ≡ option_or (option_map id_of p) (option_map id_of q)
+map-or None q = refl
+map-or (Some f) q = refl
+
+-- what is found by the names that are kept is the variable of that name
+pub found_is : (b : List ℕ) (known : Known) (name : List ℕ) → Knows b known → option_map id_of (variable_named (content b) name) ≡ found_among known name
+found_is b known name knows =
+    map-or (found_in (content b) name R) (found_in (content b) name Z)
+    ∙ ap₂ (λ (p q : Option VarId). option_or p q) (id_in (content b) name R known.r.names knows.r_known.names_are) (id_in (content b) name Z known.z.names knows.z_known.names_are)
+
+-- as the names of the one kind and then of the other give it
+pub named_first : (b : List ℕ) (known : Known) (name : List ℕ) (id : VarId) → Knows b known → found_of R known.r.names name ≡ Some id → Some id ≡ option_map id_of (variable_named (content b) name)
+named_first b known name id knows e = sym (found_is b known name knows ∙ ap (λ (p : Option VarId). option_or p (found_of Z known.z.names name)) e)
+
+pub named_second : (b : List ℕ) (known : Known) (name : List ℕ) (found : Option VarId) → Knows b known → found_of R known.r.names name ≡ None → found ≡ found_of Z known.z.names name → found ≡ option_map id_of (variable_named (content b) name)
+named_second b known name found knows none is = is ∙ ap (λ (p : Option VarId). option_or p (found_of Z known.z.names name)) (sym none) ∙ sym (found_is b known name knows)
+
+-- ---- where it stands
+
+-- the one that is found stands in the list of its kind
+found_number : (kind : Kind) (vs : List Variable) (o : Option ℕ) (f : Found) → option_map (of_pair kind) (numbered vs o) ≡ Some f → (f.kind ≡ kind) × (slice_get vs f.number ≡ Some f.variable)
+found_number kind vs None f e = absurd cc
+found_number kind vs (Some n) f e = found_item (slice_get vs n) refl e
+  where
+    found_item : (v : Option Variable) → slice_get vs n ≡ v → option_map (of_pair kind) (option_map (λ (x : Variable). (n, x)) v) ≡ Some f → (f.kind ≡ kind) × (slice_get vs f.number ≡ Some f.variable)
+    found_item None is e = absurd cc
+    found_item (Some v) is e = let same = same_Some (of_pair kind (n, v)) f e in subst (λ (g : Found). (g.kind ≡ kind) × (slice_get vs g.number ≡ Some g.variable)) same (refl, is)
+
+pub item_found : (d : DataSet) (name : List ℕ) (f : Found) → variable_named d name ≡ Some f → slice_get (variables_of d f.kind) f.number ≡ Some f.variable
+item_found d name f e = in_either (found_in d name R) (found_in d name Z) refl refl e
+  where
+    of_kind : (kind : Kind) → found_in d name kind ≡ Some f → slice_get (variables_of d f.kind) f.number ≡ Some f.variable
+    of_kind kind e =
+        let p = found_number kind (variables_of d kind) (position (λ (v : Variable). bytes_eq name v.name) (variables_of d kind)) f e in
+        subst (λ (k : Kind). slice_get (variables_of d k) f.number ≡ Some f.variable) (sym p.0) p.1
+
+    in_either : (p q : Option Found) → found_in d name R ≡ p → found_in d name Z ≡ q → option_or p q ≡ Some f → slice_get (variables_of d f.kind) f.number ≡ Some f.variable
+    in_either None q is other e = of_kind Z (other ∙ e)
+    in_either (Some g) q is other e = of_kind R (is ∙ e)
+
+-- the variable of the image
+record ShapeOf (b : List ℕ) (vs : List VariableShape) (n : ℕ) (v : Variable) : Type 0 where
+  own : VariableShape
+  stands : slice_get vs n ≡ Some own
+  is : v ≡ variable_of b own
+
+shape_of : (b : List ℕ) (vs : List VariableShape) (n : ℕ) (v : Variable) → slice_get (map (variable_of b) vs) n ≡ Some v → ShapeOf b vs n v
+shape_of b [] n v e = absurd cc
+shape_of b (own ∷ vs) zero v e = record { own = own; stands = refl; is = sym (same_Some (variable_of b own) v e) }
+shape_of b (own ∷ vs) (suc n) v e = let r = shape_of b vs n v e in record { own = r.own; stands = r.stands; is = r.is }
+
+vdr_at : (vs : List VariableShape) (n : ℕ) (own : VariableShape) → slice_get vs n ≡ Some own → get_or (vdrs vs) n 0 ≡ own.vdr
+vdr_at [] n own e = absurd cc
+vdr_at (v ∷ vs) zero own e = ap (λ (x : VariableShape). x.vdr) (same_Some v own e)
+vdr_at (v ∷ vs) (suc n) own e = vdr_at vs n own e
+
+-- A variable that is found by its name: what it is in the data set, and where its VDR stands.
+pub record IsFound (b : List ℕ) (known : Known) (name : List ℕ) (id : VarId) : Type 0 where
+  pub own : VariableShape
+  pub stands : slice_get (shapes_of (shape b) id.kind) id.num ≡ Some own
+  pub named : variable_named (content b) name ≡ Some (record { kind = id.kind; number = id.num; variable = variable_of b own })
+  pub within : id.num < length (known_of known id.kind).places
+  pub place_is : get_or (known_of known id.kind).places id.num 0 ≡ own.vdr
+
+pub knows_kind : (b : List ℕ) (known : Known) → Knows b known → (kind : Kind) → KnowsKind b kind (known_of known kind)
+knows_kind b known knows R = knows.r_known
+knows_kind b known knows Z = knows.z_known
+
+id_is : (b name : List ℕ) (id : VarId) → option_map id_of (variable_named (content b) name) ≡ Some id → (f : Found) × (variable_named (content b) name ≡ Some f) × (id_of f ≡ id)
+id_is b name id e = from (variable_named (content b) name) refl e
+  where
+    from : (o : Option Found) → variable_named (content b) name ≡ o → option_map id_of o ≡ Some id → (f : Found) × (variable_named (content b) name ≡ Some f) × (id_of f ≡ id)
+    from None is e = absurd cc
+    from (Some f) is e = (f, is, same_Some (id_of f) id e)
+
+pub found_stands : (b : List ℕ) (known : Known) (name : List ℕ) (id : VarId) → Good b → Knows b known → found_among known name ≡ Some id → IsFound b known name id
+found_stands b known name id good knows e =
+    let h = (good_is_sound b good).has_shape in
+    let r = id_is b name id (found_is b known name knows ∙ e) in
+    let at = item_found (content b) name r.0 r.1 in
+    let there : slice_get (map (variable_of b) (shapes_of (shape b) r.0.kind)) r.0.number ≡ Some r.0.variable = subst (λ (vs : List Variable). slice_get vs r.0.number ≡ Some r.0.variable) (variables_are b (shape b) h r.0.kind) at in
+    let own = shape_of b (shapes_of (shape b) r.0.kind) r.0.number r.0.variable there in
+    let places = (knows_kind b known knows r.0.kind).places_are in
+    let lt = slice_get_within (shapes_of (shape b) r.0.kind) r.0.number own.own own.stands in
+    let long : length (known_of known r.0.kind).places ≡ length (shapes_of (shape b) r.0.kind) = ap (λ (xs : List ℕ). length xs) places ∙ length-map (shapes_of (shape b) r.0.kind) (λ (v : VariableShape). v.vdr) in
+    let mine : IsFound b known name (id_of r.0) = record {
+      own = own.own;
+      stands = own.stands;
+      named = r.1 ∙ ap (λ (v : Variable). Some (of_pair r.0.kind (r.0.number, v))) own.is;
+      within = omega arith;
+      place_is = ap (λ (xs : List ℕ). get_or xs r.0.number 0) places ∙ vdr_at (shapes_of (shape b) r.0.kind) r.0.number own.own own.stands;
+    } in
+    subst (IsFound b known name) r.2 mine
+
+-- no variable has the name
+pub none_found : (b : List ℕ) (known : Known) (name : List ℕ) → Knows b known → found_among known name ≡ None → variable_named (content b) name ≡ None
+none_found b known name knows e = nothing (variable_named (content b) name) (found_is b known name knows ∙ e)
+  where
+    nothing : (o : Option Found) → option_map id_of o ≡ None → o ≡ None
+    nothing None e = refl
+    nothing (Some f) e = absurd cc

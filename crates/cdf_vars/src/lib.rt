@@ -1,0 +1,8 @@
+//! The variables of a file: made, changed, deleted and listed in place.
+#![tactic(auto)]
+
+mod chain;
+mod reading;
+mod vars;
+
+pub use vars::{VarId, Vars};
