@@ -8,6 +8,7 @@ pub mod GreatestRecord
 pub mod Keeps
 pub mod Named
 pub mod NewRecords
+pub mod Others
 pub mod Puts
 pub mod Reindex
 pub mod Room

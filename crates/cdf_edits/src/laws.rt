@@ -6,6 +6,7 @@ ghost use Rattle.cdf_model.specs.declared.command.Command.{Command};
 ghost use Rattle.cdf_model.specs.Answers.{Go};
 ghost use Rattle.cdf_model.specs.Step.{ByStep, step};
 ghost use Rattle.cdf_format.specs.Sound.{IsSound};
+ghost use Rattle.cdf_edits.specs.Commands.Others.{is_on_attributes, is_on_variables, AttributesStay, VariablesStay};
 ghost use Rattle.cdf_edits.specs.Frame.Leaves.{ChangedWithin, LeavesFinding, FileStays, Leaves};
 ghost use Rattle.cdf_edits.specs.Frame.Changed.{Touch, touch, Changed, Placed};
 ghost use Rattle.cdf_format.specs.Chains.{Leads, is_a, is_in, is_linkable, next_of, chain};
@@ -97,6 +98,12 @@ pub fn given_stays_sound()
 /// A command that only reads follows by leaving the image as it is.
 pub fn reading_follows()
     ensures { (b : List ℕ) (c : Command) (reply : Reply) → only_reads c ≡ true → step (content b) c ≡ ByStep (Go (content b) reply) → Good b → Follows b c b }
+{}
+
+/// A command leaves the names and the places of the attributes and of the variables where it is not on them.
+pub fn others_stay()
+    ensures attributes { (b now : List ℕ) (c : Command) → is_on_attributes c ≡ false → Good b → Follows b c now → AttributesStay b now }
+    ensures variables { (b now : List ℕ) (c : Command) → is_on_variables c ≡ false → Good b → Follows b c now → VariablesStay b now }
 {}
 
 /// Two edits, one after the other, are one.
