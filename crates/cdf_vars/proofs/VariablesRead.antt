@@ -1,5 +1,5 @@
 -- The variables of a kind as they are read of a good image.
-use Rattle.std.proofs.Common.{◌≡◌, ℕ, List, ◌++◌, map, Result, Ok, Err, OnOk, sym, ap, subst, ◌∙◌}
+use Rattle.std.proofs.Common.{◌≡◌, ℕ, List, ◌++◌, map, Result, Ok, Err, IfOk, OnOk, sym, ap, subst, ◌∙◌}
 use Rattle.cdf_edits.specs.Commands.Allowances.{shapes_of}
 use Rattle.cdf_edits.specs.declared.chain.Chain.{Chain}
 use Rattle.cdf_edits.specs.Space.Chains.{members_of}
@@ -21,6 +21,10 @@ use Rattle.cdf_vars.proofs.VariableNames.{are_named, items_read, names_read, var
 pub on_ok : {T E P Q : Type 0} (r : Result T E) → (P → Q) → OnOk r P → OnOk r Q
 on_ok (Ok x) f p = f p
 on_ok (Err e) f p = tt
+
+pub if_ok : {T E : Type 0} {P Q : T → Type 0} (r : Result T E) → ((x : T) → P x → Q x) → IfOk r P → IfOk r Q
+if_ok (Ok x) f p = f x p
+if_ok (Err e) f p = tt
 
 module _ (b : List ℕ) (good : Good b) (kind : Kind) where
   h : HasShape b (shape b)

@@ -3,7 +3,9 @@
 ghost use Rattle.std.specs.Prelude.{◌≡◌, ◌++◌, ℕ, List, is_some, IfOk, OnOk};
 ghost use Rattle.std.specs.Option.{option_map};
 ghost use Rattle.cdf_area.specs.Calls.{Reads};
+ghost use Rattle.cdf_edits.specs.Commands.Allowances.{shapes_of};
 ghost use Rattle.cdf_format.specs.Content.{content};
+ghost use Rattle.cdf_format.specs.Shape.{shape, vdrs};
 ghost use Rattle.cdf_format.specs.WellFormed.{Good};
 ghost use Rattle.cdf_model.specs.declared.kinds.Kind.TheVariants as kinds;
 ghost use Rattle.cdf_model.specs.Listing.{variable_items};
@@ -41,6 +43,15 @@ impl Model for VarTable {
     ghost view = { λ table. record { names = table.names; places = table.places.items } };
 }
 
+/// Where the descriptors of the variables of a kind stand, in the order of their numbers.
+fn read_places<A: Area>(alloc: Global, area: &mut A, kind: Kind) -> Result<Vec<u64>, AreaError>
+    requires { Good (A.image area.old) }
+    ensures places { IfOk result (λ places. places.items ≡ vdrs (shapes_of (shape (A.image area.old)) kind)) }
+    ensures area { Reads A.image A.frame A.faults A.edited area.old area.new result }
+{
+    read_chain(alloc, area, chain_of(kind))
+}
+
 impl VarTable {
     /// The variables of a kind that a good image has.
     fn load<A: Area>(alloc: Global, area: &mut A, kind: Kind) -> Result<VarTable, AreaError>
@@ -48,7 +59,7 @@ impl VarTable {
         ensures known { IfOk result (KnowsKind (A.image area.old) kind) }
         ensures area { Reads A.image A.frame A.faults A.edited area.old area.new result }
     {
-        let places = read_chain(alloc, area, chain_of(kind))?;
+        let places = read_places(alloc, area, kind)?;
         let names = read_names(alloc, area, &places)?;
         Ok(VarTable { names, places })
     }
@@ -74,7 +85,7 @@ fn push_kind<A: Area>(
     ensures items { OnOk result (items.new.items ≡ items.old.items ++ variable_items kind 0 (variables_of (content (A.image area.old)) kind)) }
     ensures area { Reads A.image A.frame A.faults A.edited area.old area.new result }
 {
-    let places = read_chain(alloc, area, chain_of(kind))?;
+    let places = read_places(alloc, area, kind)?;
     push_items_at(alloc, area, kind, &places, items)
 }
 

@@ -1,33 +1,15 @@
-use Rattle.std.proofs.Common.{◌≡◌, ◌∙◌, length, sym, subst}
-use Rattle.cdf_edits.specs.declared.chain.Chain.{Chain}
-use Rattle.cdf_edits.specs.Space.Chains.{counted_in, members_of, HasChain, HolderStands}
-use Rattle.cdf_format.specs.Shape.{shape}
-use Rattle.cdf_format.proofs.GoodSound.{good_is_sound}
-use Rattle.cdf_vars.proofs.VariableChains.{counted_members, has_variable_chain, holder_stands}
-use Rattle.cdf_vars.proofs.VariablesRead.{items_listed, named_at, on_ok, places_read}
+use Rattle.std.proofs.Common.{◌∙◌}
+use Rattle.cdf_vars.proofs.VariablesRead.{items_listed, named_at, on_ok}
 use Rattle.cdf_vars.proofs.vars.push_kind.Goals as goal
-
-pub read_chain-requires-clause-sound : goal.read_chain-requires-clause-sound
-read_chain-requires-clause-sound g c = good_is_sound (g.A.Area.image c.args.area.now) c.requires
-
-pub read_chain-requires-clause-holder : goal.read_chain-requires-clause-holder
-read_chain-requires-clause-holder g c = let b = g.A.Area.image c.args.area.now in subst (HolderStands b) (sym c.chain_of.ensures) (holder_stands b c.args.kind)
-
-pub read_chain-requires-clause-chain : goal.read_chain-requires-clause-chain
-read_chain-requires-clause-chain g c = let b = g.A.Area.image c.args.area.now in subst (HasChain b) (sym c.chain_of.ensures) (has_variable_chain b (shape b) (good_is_sound b c.requires).has_shape c.args.kind)
-
-pub read_chain-requires-clause-counted : goal.read_chain-requires-clause-counted
-read_chain-requires-clause-counted g c = let b = g.A.Area.image c.args.area.now in subst (λ (chain : Chain). counted_in b chain ≡ length (members_of b chain)) (sym c.chain_of.ensures) (counted_members b c.requires c.args.kind)
 
 pub push_items_at-requires : goal.push_items_at-requires
 push_items_at-requires g c =
     let b = g.A.Area.image c.args.area.now in
-    named_at b c.requires c.args.kind _ c.in_ok-places.ensures.area.image c.deref.result.now (c.deref.ensures.value ∙ places_read b c.requires c.args.kind c.chain_of.result c.chain_of.ensures _ c.in_ok-places.ensures.members)
+    named_at b c.requires c.args.kind _ c.in_ok-places.ensures.area.image c.deref.result.now (c.deref.ensures.value ∙ c.in_ok-places.ensures.places)
 
 pub returns-clause-items : goal.returns-clause-items
 returns-clause-items g c =
     let b = g.A.Area.image c.args.area.now in
     on_ok c.push_items_at.result
-    (items_listed b c.requires c.args.kind (g.A.Area.image c.read_chain.new.area) c.in_ok-places.ensures.area.image c.args.items.now.items c.push_items_at.new.items.items c.deref.result.now
-    (c.deref.ensures.value ∙ places_read b c.requires c.args.kind c.chain_of.result c.chain_of.ensures _ c.in_ok-places.ensures.members))
+    (items_listed b c.requires c.args.kind _ c.in_ok-places.ensures.area.image c.args.items.now.items c.push_items_at.new.items.items c.deref.result.now (c.deref.ensures.value ∙ c.in_ok-places.ensures.places))
     c.push_items_at.ensures.items
