@@ -3,6 +3,7 @@ use Rattle.std.proofs.Common.{◌≡◌, ℕ, ◌-◌, ◌≤◌, List, length, 
 use Rattle.std.proofs.Math.Path.{transport}
 use Rattle.cdf_area.specs.Frame.{Frame}
 use Rattle.cdf_attrs.specs.Known.{Known, Knows}
+use Rattle.cdf_vars.specs.Known.{Known as KnownVariables, Knows as KnowsVariables}
 use Rattle.cdf_format.specs.Sealed.{image_of, trailer_length}
 use Rattle.cdf_format.specs.WellFormed.{WellFormed, Good}
 use Rattle.cdf_format.proofs.GoodHead.{image_is_good, image_fits}
@@ -26,8 +27,8 @@ stays_well_formed f now holds same = subst WellFormed (sym same) holds
 pub adopted : (f now : List ℕ) → WellFormed f → now ≡ image_of f → Adopts f now
 adopted f now holds is = record { well_formed = holds; image_is = is; good = taken_good f now holds is }
 
-pub adopted_open : {U : Type 0} (f now : List ℕ) (frame after : Frame U) (known : Known) → WellFormed f → now ≡ image_of f → after ≡ frame → frame.limit ≡ image_limit → frame.base ≡ None → Knows now known → IsOpen now after known
-adopted_open f now frame after known holds is same limit unmarked named =
+pub adopted_open : {U : Type 0} (f now : List ℕ) (frame after : Frame U) (known : Known) (vars : KnownVariables) → WellFormed f → now ≡ image_of f → after ≡ frame → frame.limit ≡ image_limit → frame.base ≡ None → Knows now known → KnowsVariables now vars → IsOpen now after known vars
+adopted_open f now frame after known vars holds is same limit unmarked named variables =
     let fits : length now ≤ frame.limit = transport (λ i. length (sym is i) ≤ sym limit i) (image_fits f holds) in
-    let there : IsOpen now frame known = record { good = taken_good f now holds is; fits = fits; limited = subst (λ (n : ℕ). n ≤ image_limit) (sym limit) (search arith); unmarked = unmarked; knows = named } in
-    transport (λ i. IsOpen now (sym same i) known) there
+    let there : IsOpen now frame known vars = record { good = taken_good f now holds is; fits = fits; limited = subst (λ (n : ℕ). n ≤ image_limit) (sym limit) (search arith); unmarked = unmarked; knows = named; knows_variables = variables } in
+    transport (λ i. IsOpen now (sym same i) known vars) there

@@ -3,6 +3,7 @@ use Rattle.std.proofs.Common.{◌≡◌, ℕ, ◌<◌, ◌≤◌, ◌^◌, List,
 use Rattle.std.specs.Prelude.{if◌then◌else◌}
 use Rattle.cdf_area.specs.Frame.{Frame}
 use Rattle.cdf_attrs.specs.Known.{Known, Knows}
+use Rattle.cdf_vars.specs.Known.{Known as KnownVariables}
 use Rattle.cdf_attrs.proofs.KnownAttributes.{none_known}
 use Rattle.cdf_edits.specs.Answers.{Answers}
 use Rattle.cdf_edits.specs.Commands.NewRecords.{with_bits}
@@ -30,6 +31,7 @@ use Rattle.cdf_records.specs.declared.cdr.Cdr.{Cdr}
 use Rattle.cdf_records.specs.Heads.{cdr_at}
 use Rattle.cdf_session.specs.Seals.{seal_of}
 use Rattle.cdf_session.specs.Sessions.{IsOpen}
+use Rattle.cdf_session.proofs.OpenLemmas.{variables_known}
 use Rattle.md5.specs.Md5.{md5 as md5_of}
 use Rattle.std.proofs.lemmas.List.{take_all}
 
@@ -82,12 +84,13 @@ module _ (b now : List ℕ) (md5 : Bool) (good : Good b) (flags_are : flags now 
   pub checksum_answers : (limit : ℕ) → length b ≤ limit → limit ≤ image_limit → Answers limit b (commands.Checksum md5) (Done replies.Plain) now
   checksum_answers limit fits limited = gone limit b (commands.Checksum md5) (record (content b) { md5 = md5 }) replies.Plain now refl (omega arith) (leads (omega arith))
 
-  pub checksum_open : {U : Type 0} (frame after : Frame U) (known : Known) → IsOpen b frame known → after ≡ frame → IsOpen now after (record known { entries = None })
-  checksum_open frame after known was kept =
+  pub checksum_open : {U : Type 0} (frame after : Frame U) (known : Known) (vars : KnownVariables) → IsOpen b frame known vars → after ≡ frame → IsOpen now after (record known { entries = None }) vars
+  checksum_open frame after known vars was kept =
       let fits = was.fits in
       let limited = was.limited in
       let knows : Knows now (record known { entries = None }) = none_known now known.names known.places
       (was.knows.names_are ∙ sym (ap attribute_names (content_now b now md5 good changed as_long flags_are)))
       (was.knows.places_are ∙ sym (ap adrs (same_shape b now md5 good changed as_long flags_are))) in
-      let there : IsOpen now frame (record known { entries = None }) = record { good = (leads (omega arith)).good; fits = omega arith; limited = limited; unmarked = was.unmarked; knows = knows } in
-      subst (λ (f : Frame _). IsOpen now f (record known { entries = None })) (sym kept) there
+      let variables = variables_known b now (commands.Checksum md5) vars refl good (leads (omega arith)) was.knows_variables in
+      let there : IsOpen now frame (record known { entries = None }) vars = record { good = (leads (omega arith)).good; fits = omega arith; limited = limited; unmarked = was.unmarked; knows = knows; knows_variables = variables } in
+      subst (λ (f : Frame _). IsOpen now f (record known { entries = None }) vars) (sym kept) there

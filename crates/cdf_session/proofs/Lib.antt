@@ -1,5 +1,4 @@
 pub mod HeadLemmas
-pub mod ListLemmas
 pub mod OpenLemmas
 pub mod ChecksumLemmas
 pub mod AdoptLemmas

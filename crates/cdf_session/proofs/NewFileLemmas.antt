@@ -4,6 +4,7 @@ use Rattle.std.proofs.Math.Path.{transport}
 use Rattle.std.specs.Prelude.{replicate, OnOk}
 use Rattle.cdf_area.specs.Frame.{Frame, with_base}
 use Rattle.cdf_attrs.specs.Known.{Known, Knows}
+use Rattle.cdf_vars.specs.Known.{Known as KnownVariables, Knows as KnowsVariables}
 use Rattle.cdf_base.specs.Bytes.{put}
 use Rattle.cdf_format.specs.NewFile.{new_image}
 use Rattle.cdf_format.specs.WellFormed.{Good}
@@ -43,12 +44,12 @@ pub on_ok : {T E : Type 0} {P : Type 0} (r : Result T E) → P → OnOk r P
 on_ok (Ok x) p = p
 on_ok (Err e) p = tt
 
-pub new_open : {U : Type 0} (start now kept : List ℕ) (frame marked between end : Frame U) (known : Known)
+pub new_open : {U : Type 0} (start now kept : List ℕ) (frame marked between end : Frame U) (known : Known) (vars : KnownVariables)
     → frame.base ≡ None → 404 ≤ frame.limit → frame.limit ≤ image_limit → marked ≡ with_base frame (Some start) → between ≡ marked → end ≡ with_base between None
-    → now ≡ new_image → kept ≡ now → Knows new_image known → IsOpen kept end known
-new_open start now kept frame marked between end known unmarked room limit is same ends new stays named =
+    → now ≡ new_image → kept ≡ now → Knows new_image known → KnowsVariables new_image vars → IsOpen kept end known vars
+new_open start now kept frame marked between end known vars unmarked room limit is same ends new stays named variables =
     let f : end ≡ frame = frame_back frame between end start unmarked (same ∙ is) ends in
     let there : kept ≡ new_image = stays ∙ new in
     let fits : length kept ≤ frame.limit = let n : length kept ≡ 404 = ap (λ (b : List ℕ). length b) there ∙ new_length in omega arith in
-    let open_there : IsOpen kept frame known = record { good = good_new kept there; fits = fits; limited = limit; unmarked = unmarked; knows = subst (λ (x : List ℕ). Knows x known) (sym there) named } in
-    transport (λ i. IsOpen kept (sym f i) known) open_there
+    let open_there : IsOpen kept frame known vars = record { good = good_new kept there; fits = fits; limited = limit; unmarked = unmarked; knows = subst (λ (x : List ℕ). Knows x known) (sym there) named; knows_variables = subst (λ (x : List ℕ). KnowsVariables x vars) (sym there) variables } in
+    transport (λ i. IsOpen kept (sym f i) known vars) open_there

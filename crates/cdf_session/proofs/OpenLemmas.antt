@@ -1,15 +1,18 @@
 -- A session stays open.
-use Rattle.std.proofs.Common.{◌≡◌, ℕ, ◌+◌, ◌≤◌, List, length, Bool, true, false, ◌&&◌, Some, None, Result, Ok, Err, inl, inr, refl, sym, ap, subst, ◌∙◌, arith}
+use Rattle.std.proofs.Common.{◌≡◌, ℕ, ◌+◌, ◌≤◌, List, ◌++◌, length, Bool, true, false, ◌&&◌, Some, None, Result, Ok, Err, inl, inr, refl, sym, ap, subst, ◌∙◌, arith}
 use Rattle.std.proofs.Math.Path.{transport}
 use Rattle.std.specs.Prelude.{nat_lt, IfOk, OnOk, OnErr}
 use Rattle.cdf_area.specs.declared.area.AreaError.{AreaError}
 use Rattle.cdf_area.specs.Frame.{Frame, with_base}
 use Rattle.cdf_attrs.specs.Known.{Known, Knows}
+use Rattle.cdf_vars.specs.Known.{Known as KnownVariables, Knows as KnowsVariables}
 use Rattle.cdf_format.specs.Content.{content}
 use Rattle.cdf_edits.specs.Answers.{is_full, MovesIf, Answers}
 use Rattle.cdf_edits.specs.Follows.{Follows}
+use Rattle.cdf_edits.specs.Commands.Others.{is_on_variables}
 use Rattle.cdf_edits.specs.Commands.Room.{room}
 use Rattle.cdf_format.specs.WellFormed.{Good}
+use Rattle.cdf_edits.proofs.Commands.OthersStay.{variables_stay}
 use Rattle.cdf_edits.proofs.Commands.ReadingFollows.{reading_follows}
 use Rattle.cdf_format.proofs.Members.{either}
 use Rattle.cdf_model.specs.declared.answer.Outcome.{Outcome}
@@ -19,21 +22,22 @@ use Rattle.cdf_model.specs.declared.command.Command.{Command}
 use Rattle.cdf_model.specs.declared.command.Command.TheVariants as commands
 use Rattle.cdf_model.specs.declared.head.Head.{Head}
 use Rattle.cdf_model.specs.declared.item.Item.{Item}
+use Rattle.cdf_model.specs.declared.kinds.Kind.TheVariants.{R, Z}
 use Rattle.cdf_model.specs.Answers.{Answer, Go, Refuse, is_accepted}
 use Rattle.cdf_model.specs.DataSet.{head_of}
-use Rattle.cdf_model.specs.Listing.{items_of}
+use Rattle.cdf_model.specs.Listing.{attribute_items, items_of, variable_items}
 use Rattle.cdf_session.specs.Sessions.{IsOpen}
 
 -- ---- the image stays
 
-pub stays_open : {U : Type 0} (b now : List ℕ) (frame after : Frame U) (known : Known) → IsOpen b frame known → now ≡ b → after ≡ frame → IsOpen now after known
-stays_open b now frame after known was same kept = transport (λ i. IsOpen (sym same i) (sym kept i) known) was
+pub stays_open : {U : Type 0} (b now : List ℕ) (frame after : Frame U) (known : Known) (vars : KnownVariables) → IsOpen b frame known vars → now ≡ b → after ≡ frame → IsOpen now after known vars
+stays_open b now frame after known vars was same kept = transport (λ i. IsOpen (sym same i) (sym kept i) known vars) was
 
 -- the same, with other entries kept
-pub reads_open : {U : Type 0} (b now : List ℕ) (frame after : Frame U) (known known' : Known) → IsOpen b frame known → now ≡ b → after ≡ frame → Knows now known' → IsOpen now after known'
-reads_open b now frame after known known' was same kept knows =
-    let there : IsOpen b frame known' = record { good = was.good; fits = was.fits; limited = was.limited; unmarked = was.unmarked; knows = subst (λ (x : List ℕ). Knows x known') same knows } in
-    transport (λ i. IsOpen (sym same i) (sym kept i) known') there
+pub reads_open : {U : Type 0} (b now : List ℕ) (frame after : Frame U) (known known' : Known) (vars : KnownVariables) → IsOpen b frame known vars → now ≡ b → after ≡ frame → Knows now known' → IsOpen now after known' vars
+reads_open b now frame after known known' vars was same kept knows =
+    let there : IsOpen b frame known' vars = record { good = was.good; fits = was.fits; limited = was.limited; unmarked = was.unmarked; knows = subst (λ (x : List ℕ). Knows x known') same knows; knows_variables = was.knows_variables } in
+    transport (λ i. IsOpen (sym same i) (sym kept i) known' vars) there
 
 pub good_stays : (b now : List ℕ) → Good b → now ≡ b → Good now
 good_stays b now good same = subst Good (sym same) good
@@ -49,6 +53,11 @@ list_answers limit b now items good fits same is =
     let room_left : nat_lt limit (length b + 0) ≡ false = search (arith, fits) in
     let follows : Follows b commands.List now = subst (Follows b commands.List) (sym same) (reading_follows b commands.List (replies.Listing (items_of (content b))) refl refl good) in
     record { answer = Go (content b) (replies.Listing (items_of (content b))); step_is = refl; outcome_is = rw room_left (ap (λ (shown : List Item). Done (replies.Listing shown)) is); moves = rw room_left follows }
+
+-- the attributes, and then the variables
+pub listed : (b read : List ℕ) (attributes items : List Item) → read ≡ b → attributes ≡ attribute_items 0 (content b).attributes
+    → items ≡ attributes ++ variable_items R 0 (content read).r_variables ++ variable_items Z 0 (content read).z_variables → items ≡ items_of (content b)
+listed b read attributes items same first all = all ∙ (λ i. first i ++ variable_items R 0 (content (same i)).r_variables ++ variable_items Z 0 (content (same i)).z_variables)
 
 -- ---- a command that changes, between a mark and its end
 
@@ -72,6 +81,23 @@ answered_good limit b now c o a good fits = elim (either (is_accepted a.answer (
     short_enough : (n m : ℕ) → n ≤ m → nat_lt limit m ≡ false → n ≤ limit
     short_enough n m le e = grind (arith)
 
+-- a command that is not on variables leaves what is known of them
+pub variables_known : (b now : List ℕ) (c : Command) (vars : KnownVariables) → is_on_variables c ≡ false → Good b → Follows b c now → KnowsVariables b vars → KnowsVariables now vars
+variables_known b now c vars other good follows knows =
+    let stay = variables_stay b now c other good follows in
+    record {
+      r_known = record { names_are = knows.r_known.names_are ∙ sym (stay.names_stay R); places_are = knows.r_known.places_are ∙ sym (stay.places_stay R) };
+      z_known = record { names_are = knows.z_known.names_are ∙ sym (stay.names_stay Z); places_are = knows.z_known.places_are ∙ sym (stay.places_stay Z) };
+    }
+
+answered_variables : (limit : ℕ) (b now : List ℕ) (c : Command) (o : Outcome) (vars : KnownVariables) → Answers limit b c o now → is_on_variables c ≡ false → Good b → KnowsVariables b vars → KnowsVariables now vars
+answered_variables limit b now c o vars a other good knows = elim (either (is_accepted a.answer (is_full limit b c a.answer))) [
+  | inl e ↦ variables_known b now c vars other good (subst (λ (p : Bool). MovesIf p b c now) e a.moves) knows
+  | inr e ↦
+      let same : now ≡ b = subst (λ (p : Bool). MovesIf p b c now) e a.moves in
+      subst (λ (x : List ℕ). KnowsVariables x vars) (sym same) knows
+]
+
 -- the mark is gone at the end
 pub frame_back : {U : Type 0} (frame marked end : Frame U) (b : List ℕ) → frame.base ≡ None → marked ≡ with_base frame (Some b) → end ≡ with_base marked None → end ≡ frame
 frame_back frame marked end b unmarked is ends = ends ∙ ap (λ (f : Frame _). with_base f None) is ∙ ap (with_base frame) (sym unmarked)
@@ -80,18 +106,20 @@ some_same : (b now : List ℕ) → Some b ≡ Some now → now ≡ b
 some_same b now e = cc e
 
 -- It was carried out and kept, or it was not and all was taken back. The facts are those that the calls between give.
-pub ends_open : {U : Type 0} (b start made now : List ℕ) (frame first marked end : Frame U) (known after : Known) (c : Command) (done : Result Outcome AreaError)
-    → IsOpen b frame known → start ≡ b → first ≡ with_base frame (Some b) → marked ≡ first → end ≡ with_base marked None
+pub ends_open : {U : Type 0} (b start made now : List ℕ) (frame first marked end : Frame U) (known after : Known) (vars : KnownVariables) (c : Command) → is_on_variables c ≡ false → (done : Result Outcome AreaError)
+    → IsOpen b frame known vars → start ≡ b → first ≡ with_base frame (Some b) → marked ≡ first → end ≡ with_base marked None
     → IfOk done (λ o. Answers first.limit start c o made) → OnOk done (Knows made after) → OnErr done (Knows start after)
-    → OnOk done (now ≡ made) → OnErr done (marked.base ≡ Some now) → IsOpen now end after
-ends_open b start made now frame first marked end known after c (Ok o) was begins is stays ends answers knows stay kept undone =
+    → OnOk done (now ≡ made) → OnErr done (marked.base ≡ Some now) → IsOpen now end after vars
+ends_open b start made now frame first marked end known after vars c other (Ok o) was begins is stays ends answers knows stay kept undone =
     let f = frame_back frame marked end b was.unmarked (stays ∙ is) ends in
     let limit : first.limit ≡ frame.limit = ap (λ (m : Frame _). m.limit) is in
-    let good = answered_good frame.limit b made c o (transport (λ i. Answers (limit i) (begins i) c o made) answers) was.good was.fits in
-    let there : IsOpen made frame after = record { good = good.0; fits = good.1; limited = was.limited; unmarked = was.unmarked; knows = knows } in
-    transport (λ i. IsOpen (sym kept i) (sym f i) after) there
-ends_open b start made now frame first marked end known after c (Err error) was begins is stays ends answers knows stay kept undone =
+    let answered : Answers frame.limit b c o made = transport (λ i. Answers (limit i) (begins i) c o made) answers in
+    let good = answered_good frame.limit b made c o answered was.good was.fits in
+    let same_variables = answered_variables frame.limit b made c o vars answered other was.good was.knows_variables in
+    let there : IsOpen made frame after vars = record { good = good.0; fits = good.1; limited = was.limited; unmarked = was.unmarked; knows = knows; knows_variables = same_variables } in
+    transport (λ i. IsOpen (sym kept i) (sym f i) after vars) there
+ends_open b start made now frame first marked end known after vars c other (Err error) was begins is stays ends answers knows stay kept undone =
     let f = frame_back frame marked end b was.unmarked (stays ∙ is) ends in
     let back : now ≡ b = some_same b now (sym (ap (λ (m : Frame _). m.base) (stays ∙ is)) ∙ undone) in
-    let there : IsOpen b frame after = record { good = was.good; fits = was.fits; limited = was.limited; unmarked = was.unmarked; knows = subst (λ (x : List ℕ). Knows x after) begins stay } in
-    transport (λ i. IsOpen (sym back i) (sym f i) after) there
+    let there : IsOpen b frame after vars = record { good = was.good; fits = was.fits; limited = was.limited; unmarked = was.unmarked; knows = subst (λ (x : List ℕ). Knows x after) begins stay; knows_variables = was.knows_variables } in
+    transport (λ i. IsOpen (sym back i) (sym f i) after vars) there

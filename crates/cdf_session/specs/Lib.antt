@@ -1,6 +1,7 @@
 pub mod Heads
 pub mod Built
 pub mod Seals
+pub mod Loading
 pub mod Sessions
 pub mod Run
 pub mod History

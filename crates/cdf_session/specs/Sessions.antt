@@ -4,6 +4,7 @@ use Rattle.cdf_area.specs.declared.area.AreaError.TheVariants as areas
 use Rattle.cdf_area.specs.Frame.{Frame}
 use Rattle.cdf_base.specs.Causes.{Rose}
 use Rattle.cdf_attrs.specs.Known.{Known, Knows}
+use Rattle.cdf_vars.specs.Known.{Known as KnownVariables, Knows as KnowsVariables}
 use Rattle.cdf_edits.specs.Answers.{Answers}
 use Rattle.cdf_format.specs.Sealed.{image_of}
 use Rattle.cdf_format.specs.WellFormed.{Good, WellFormed, Breaks}
@@ -16,13 +17,14 @@ use Rattle.cdf_model.specs.Limits.{image_limit}
 use Rattle.cdf_session.specs.declared.refusal.AdoptError.{AdoptError}
 use Rattle.cdf_session.specs.declared.refusal.AdoptError.TheVariants as errors
 
--- between two commands: a good image within the limit, no mark, and what is known of its attributes
-pub record IsOpen {U : Type 0} (b : List ℕ) (frame : Frame U) (known : Known) : Type 0 where
+-- between two commands: a good image within the limit, no mark, and what is known of its attributes and of its variables
+pub record IsOpen {U : Type 0} (b : List ℕ) (frame : Frame U) (attributes : Known) (variables : KnownVariables) : Type 0 where
   pub good : Good b
   pub fits : length b ≤ frame.limit
   pub limited : frame.limit ≤ image_limit
   pub unmarked : frame.base ≡ None
-  pub knows : Knows b known
+  pub knows : Knows b attributes
+  pub knows_variables : KnowsVariables b variables
 
 -- a well-formed file was taken up, without its trailer
 pub record Adopts (f b : List ℕ) : Type 0 where

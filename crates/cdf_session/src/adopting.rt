@@ -1,14 +1,14 @@
-//! A file that was found well formed is taken up: its attributes are read, and its trailer is dropped.
+//! A file that was found well formed is taken up: its attributes and variables are read, and its trailer is dropped.
 
 ghost use Rattle.std.specs.Prelude.{◌≡◌, take, IfOk, OnOk, OnErr, None};
 ghost use Rattle.cdf_area.specs.Calls.{Edits, Reads};
-ghost use Rattle.cdf_attrs.specs.Known.{Knows};
 ghost use Rattle.cdf_format.specs.Sealed.{image_of, trailer_length};
 ghost use Rattle.cdf_format.specs.WellFormed.{Good, WellFormed};
+ghost use Rattle.cdf_session.specs.Loading.{AreOf};
 
+use crate::loading::{Loaded, load};
 use crate::reading::has_checksum;
 use cdf_area::{Area, AreaError};
-use cdf_attrs::Attrs;
 use cdf_format::fields::{CDR_PLACE, TRAILER_SIZE};
 use cdf_records::read_cdr;
 use cdf_seal::Front;
@@ -28,29 +28,29 @@ fn trailer_size<A: Area>(area: &mut A) -> Result<u64, AreaError>
     }
 }
 
-/// What there is of the attributes of an image, which is the first bytes of a file.
-fn load_image<A: Area>(alloc: Global, area: &mut A, eof: u64) -> Result<Attrs, AreaError>
+/// The attributes and the variables of an image, which is the first bytes of a file.
+fn load_image<A: Area>(alloc: Global, area: &mut A, eof: u64) -> Result<Loaded, AreaError>
     requires { Good (take eof (A.image area.old)) }
-    ensures known { IfOk result (Knows (take eof (A.image area.old))) }
+    ensures known { IfOk result (AreOf (take eof (A.image area.old))) }
     ensures area { Reads A.image A.frame A.faults A.edited area.old area.new result }
 {
     let mut image = Front::new(area, eof);
-    Attrs::load(alloc, &mut image)
+    load(alloc, &mut image)
 }
 
-/// Takes up the attributes of a well-formed file, and then drops its trailer, so that the file is as it was after an error.
-pub fn take_up<A: Area>(alloc: Global, area: &mut A) -> Result<Attrs, AreaError>
+/// Takes up the attributes and the variables of a well-formed file, and then drops its trailer, so that the file is as it was after an error.
+pub fn take_up<A: Area>(alloc: Global, area: &mut A) -> Result<Loaded, AreaError>
     requires well_formed { WellFormed (A.image area.old) }
     requires unmarked { (A.frame area.old).base ≡ None }
     ensures image { OnOk result (A.image area.new ≡ image_of (A.image area.old)) }
-    ensures known { IfOk result (Knows (A.image area.new)) }
+    ensures known { IfOk result (AreOf (A.image area.new)) }
     ensures unedited { A.edited area.new ≡ A.edited area.old }
     ensures stays { OnErr result (A.image area.new ≡ A.image area.old) }
     ensures area { Edits A.frame A.faults area.old area.new result }
 {
     let trailer = trailer_size(area)?;
     let eof = area.size() - trailer;
-    let attrs = load_image(alloc, area, eof)?;
+    let loaded = load_image(alloc, area, eof)?;
     area.shorten(trailer);
-    Ok(attrs)
+    Ok(loaded)
 }

@@ -3,6 +3,7 @@
 
 mod adopting;
 mod checksum;
+mod loading;
 mod new_file;
 mod reading;
 mod refusal;

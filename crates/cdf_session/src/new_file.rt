@@ -2,11 +2,11 @@
 
 ghost use Rattle.std.specs.Prelude.{◌≡◌, ◌≤◌, ◌++◌, [], IfOk, OnOk};
 ghost use Rattle.cdf_area.specs.Calls.{Edits};
-ghost use Rattle.cdf_attrs.specs.Known.{Knows};
 ghost use Rattle.cdf_format.specs.NewFile.{copyright, new_image, of_4_bytes, of_8_bytes};
+ghost use Rattle.cdf_session.specs.Loading.{AreOf};
 
+use crate::loading::{Loaded, load};
 use cdf_area::{Area, AreaError};
-use cdf_attrs::Attrs;
 use cdf_format::fields::{CDR_PLACE, CDR_SIZE, CDR_TYPE, GDR_SIZE, GDR_TYPE};
 use std::alloc::{AllocError, Global};
 
@@ -68,16 +68,16 @@ fn new_bytes(alloc: Global) -> Result<Vec<u8>, AllocError>
     Ok(bytes)
 }
 
-/// Writes the new file into an empty area, and takes up its attributes, of which there are none. After an error a part of this may have been done in the area.
-pub fn write_new<A: Area>(alloc: Global, area: &mut A) -> Result<Attrs, AreaError>
+/// Writes the new file into an empty area, and takes up its attributes and variables, of which there are none. After an error a part of this may have been done in the area.
+pub fn write_new<A: Area>(alloc: Global, area: &mut A) -> Result<Loaded, AreaError>
     requires empty { A.image area.old ≡ [] }
     requires room { 404 ≤ (A.frame area.old).limit }
     ensures image { OnOk result (A.image area.new ≡ new_image) }
-    ensures known { IfOk result (Knows new_image) }
+    ensures known { IfOk result (AreOf new_image) }
     ensures area { Edits A.frame A.faults area.old area.new result }
 {
     let bytes = new_bytes(alloc)?;
     area.extend(NEW_SIZE)?;
     area.set(0, &bytes)?;
-    Attrs::load(alloc, area)
+    load(alloc, area)
 }

@@ -27,6 +27,7 @@ use cdf_model::{
     Command, DataType, EntryKind, Items, LineError, Outcome, Reason, Reply, Scope, Space, Words,
 };
 use cdf_space::space_of;
+use cdf_vars::Vars;
 use std::alloc::Global;
 use std::marker::Model;
 
@@ -36,6 +37,7 @@ pub struct Session<A: Area> {
     alloc: Global,
     area: A,
     attrs: Attrs,
+    vars: Vars,
 }
 
 impl<A: Area> Model for Session<A> {
@@ -43,7 +45,7 @@ impl<A: Area> Model for Session<A> {
 
     ghost view = { λ session. session.area };
 
-    ghost invariant = { λ session. IsOpen (A.image session.area) (A.frame session.area) session.attrs };
+    ghost invariant = { λ session. IsOpen (A.image session.area) (A.frame session.area) session.attrs session.vars };
 }
 
 /// Ends what began at the mark: a command that was carried out is kept, and after an error all is taken back.
@@ -106,7 +108,12 @@ impl<A: Area> Session<A> {
     {
         let mut area = area;
         match take_up(alloc, &mut area) {
-            Ok(attrs) => Ok(Session { alloc, area, attrs }),
+            Ok(loaded) => Ok(Session {
+                alloc,
+                area,
+                attrs: loaded.attrs,
+                vars: loaded.vars,
+            }),
             Err(error) => Err(Refusal {
                 area,
                 why: AdoptError::Failed { error },
@@ -131,9 +138,14 @@ impl<A: Area> Session<A> {
         let mut area = area;
         area.mark();
         match write_new(alloc, &mut area) {
-            Ok(attrs) => {
+            Ok(loaded) => {
                 area.keep();
-                Ok(Session { alloc, area, attrs })
+                Ok(Session {
+                    alloc,
+                    area,
+                    attrs: loaded.attrs,
+                    vars: loaded.vars,
+                })
             }
             Err(error) => {
                 area.undo();
@@ -193,8 +205,8 @@ impl<A: Area> Session<A> {
         ensures answers { IfOk result (λ o. Answers (A.frame self.old).limit (A.image self.old) Command.List o (A.image self.new)) }
         ensures area { Reads A.image A.frame A.faults A.edited self.old self.new result }
     {
-        // So far there are no variables.
-        let items = self.attrs.items(&mut self.area)?;
+        let mut items = self.attrs.items(&mut self.area)?;
+        self.vars.push_items(&mut self.area, &mut items)?;
         Ok(Outcome::Done {
             reply: Reply::Listing {
                 items: Items::new(items),

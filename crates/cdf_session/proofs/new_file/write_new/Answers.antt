@@ -1,6 +1,6 @@
 use Rattle.std.proofs.Common.{◌∙◌, List, ℕ, subst}
 use Rattle.std.specs.Prelude.{IfOk}
-use Rattle.cdf_attrs.specs.Known.{Knows}
+use Rattle.cdf_session.specs.Loading.{AreOf}
 use Rattle.cdf_session.proofs.NewFileLemmas.{new_fits, written_new, good_new, on_ok}
 use Rattle.cdf_session.proofs.new_file.write_new.Goals as goal
 
@@ -20,4 +20,4 @@ returns-clause-image g c =
 pub returns-clause-known : goal.returns-clause-known
 returns-clause-known g c =
     let written = written_new (g.A.Area.image c.args.area.now) (g.A.Area.image c.extend.new.self) c.deref.result.now (g.A.Area.image c.set.new.self) c.requires.empty c.in_ok-extend.ensures.longer (c.deref.ensures.value ∙ c.in_ok-bytes.ensures) c.in_ok-set.ensures.written in
-    subst (λ (b : List ℕ). IfOk c.load.result (Knows b)) written c.load.ensures.known
+    subst (λ (b : List ℕ). IfOk c.load.result (AreOf b)) written c.load.ensures.known

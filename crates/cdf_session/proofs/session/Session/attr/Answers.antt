@@ -1,3 +1,4 @@
+use Rattle.std.proofs.Common.{refl}
 use Rattle.cdf_model.specs.declared.command.Command.TheVariants.{Attr}
 use Rattle.cdf_session.proofs.OpenLemmas.{good_stays, ends_open}
 use Rattle.cdf_session.proofs.session.Session.attr.Goals as goal
@@ -9,6 +10,6 @@ pub invariant_of-self : goal.invariant_of-self
 invariant_of-self g c =
     ends_open (g.A.Area.image c.self.inside.area) (g.A.Area.image c.mark.new.self) (g.A.Area.image c.create-done.new.area) (g.A.Area.image c.settle.new.area)
     (g.A.Area.frame c.self.inside.area) (g.A.Area.frame c.mark.new.self) (g.A.Area.frame c.create-done.new.area) (g.A.Area.frame c.settle.new.area)
-    c.self.inside.attrs c.create-done.new.self (Attr c.args.name.now c.args.scope) c.create-done.result
+    c.self.inside.attrs c.create-done.new.self c.self.inside.vars (Attr c.args.name.now c.args.scope) refl c.create-done.result
     c.self.invariant c.mark.ensures.image c.mark.ensures.frame c.create-done.ensures.area.frame c.settle.ensures.frame
     c.create-done.ensures.answers c.create-done.ensures.known c.create-done.ensures.stays c.settle.ensures.kept c.settle.ensures.undone

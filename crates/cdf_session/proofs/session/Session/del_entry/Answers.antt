@@ -1,3 +1,4 @@
+use Rattle.std.proofs.Common.{refl}
 use Rattle.cdf_model.specs.declared.command.Command.TheVariants.{DelEntry}
 use Rattle.cdf_session.proofs.OpenLemmas.{good_stays, ends_open}
 use Rattle.cdf_session.proofs.session.Session.del_entry.Goals as goal
@@ -9,6 +10,6 @@ pub invariant_of-self : goal.invariant_of-self
 invariant_of-self g c =
     ends_open (g.A.Area.image c.self.inside.area) (g.A.Area.image c.mark.new.self) (g.A.Area.image c.del_entry-done.new.area) (g.A.Area.image c.settle.new.area)
     (g.A.Area.frame c.self.inside.area) (g.A.Area.frame c.mark.new.self) (g.A.Area.frame c.del_entry-done.new.area) (g.A.Area.frame c.settle.new.area)
-    c.self.inside.attrs c.del_entry-done.new.self (DelEntry c.args.attr.now c.args.kind c.args.num) c.del_entry-done.result
+    c.self.inside.attrs c.del_entry-done.new.self c.self.inside.vars (DelEntry c.args.attr.now c.args.kind c.args.num) refl c.del_entry-done.result
     c.self.invariant c.mark.ensures.image c.mark.ensures.frame c.del_entry-done.ensures.area.frame c.settle.ensures.frame
     c.del_entry-done.ensures.answers c.del_entry-done.ensures.known c.del_entry-done.ensures.stays c.settle.ensures.kept c.settle.ensures.undone

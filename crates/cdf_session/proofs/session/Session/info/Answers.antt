@@ -2,10 +2,10 @@ use Rattle.cdf_session.proofs.OpenLemmas.{stays_open, info_answers}
 use Rattle.cdf_session.proofs.session.Session.info.Goals as goal
 
 pub invariant_of-self : goal.invariant_of-self
-invariant_of-self g c = stays_open (g.A.Area.image c.self.inside.area) (g.A.Area.image c.read_head.new.area) (g.A.Area.frame c.self.inside.area) (g.A.Area.frame c.read_head.new.area) c.self.inside.attrs c.self.invariant c.read_head.ensures.area.image c.read_head.ensures.area.frame
+invariant_of-self g c = stays_open (g.A.Area.image c.self.inside.area) (g.A.Area.image c.read_head.new.area) (g.A.Area.frame c.self.inside.area) (g.A.Area.frame c.read_head.new.area) c.self.inside.attrs c.self.inside.vars c.self.invariant c.read_head.ensures.area.image c.read_head.ensures.area.frame
 
 pub invariant_of-self-2 : goal.invariant_of-self-2
-invariant_of-self-2 g c = stays_open (g.A.Area.image c.self.inside.area) (g.A.Area.image c.read_head.new.area) (g.A.Area.frame c.self.inside.area) (g.A.Area.frame c.read_head.new.area) c.self.inside.attrs c.self.invariant c.read_head.ensures.area.image c.read_head.ensures.area.frame
+invariant_of-self-2 g c = stays_open (g.A.Area.image c.self.inside.area) (g.A.Area.image c.read_head.new.area) (g.A.Area.frame c.self.inside.area) (g.A.Area.frame c.read_head.new.area) c.self.inside.attrs c.self.inside.vars c.self.invariant c.read_head.ensures.area.image c.read_head.ensures.area.frame
 
 pub returns-clause-answers : goal.returns-clause-answers
 returns-clause-answers g c =

@@ -1,3 +1,4 @@
+use Rattle.std.proofs.Common.{refl}
 use Rattle.cdf_model.specs.declared.command.Command.TheVariants.{RenameAttr}
 use Rattle.cdf_session.proofs.OpenLemmas.{good_stays, ends_open}
 use Rattle.cdf_session.proofs.session.Session.rename_attr.Goals as goal
@@ -9,6 +10,6 @@ pub invariant_of-self : goal.invariant_of-self
 invariant_of-self g c =
     ends_open (g.A.Area.image c.self.inside.area) (g.A.Area.image c.mark.new.self) (g.A.Area.image c.rename-done.new.area) (g.A.Area.image c.settle.new.area)
     (g.A.Area.frame c.self.inside.area) (g.A.Area.frame c.mark.new.self) (g.A.Area.frame c.rename-done.new.area) (g.A.Area.frame c.settle.new.area)
-    c.self.inside.attrs c.rename-done.new.self (RenameAttr c.args.from.now c.args.to.now) c.rename-done.result
+    c.self.inside.attrs c.rename-done.new.self c.self.inside.vars (RenameAttr c.args.from.now c.args.to.now) refl c.rename-done.result
     c.self.invariant c.mark.ensures.image c.mark.ensures.frame c.rename-done.ensures.area.frame c.settle.ensures.frame
     c.rename-done.ensures.answers c.rename-done.ensures.known c.rename-done.ensures.stays c.settle.ensures.kept c.settle.ensures.undone
