@@ -20,7 +20,8 @@ use Rattle.cdf_names.specs.Names.{number_of}
 use Rattle.cdf_attrs.specs.Finding.{FindsChain, HasWrongScope}
 use Rattle.cdf_edits.specs.Edits.EntryMarks.{entries_chain}
 use Rattle.cdf_attrs.proofs.AttributeChain.{adr_inside, index_in, names_count}
-use Rattle.cdf_attrs.proofs.NamesChanged.{Cut, cut, got-map, got-middle, named_there, number_within}
+use Rattle.cdf_edits.proofs.Commands.ListParts.{Cut, cut, got-map, got-middle}
+use Rattle.cdf_attrs.proofs.NamesChanged.{named_there, number_within}
 use Rattle.std.proofs.lemmas.Option.{slice_get_within}
 
 pub adr_got : (as_ : List AttributeShape) (n : ℕ) (a : AttributeShape) → slice_get as_ n ≡ Some a → get_or (map (λ (x : AttributeShape). x.adr) as_) n 0 ≡ a.adr

@@ -30,7 +30,7 @@ use Rattle.cdf_edits.proofs.Edits.ChainSpliced.{Rechains, made, splices, now_is,
 use Rattle.cdf_edits.proofs.Edits.PushedEntry.{of_shape}
 use Rattle.cdf_edits.proofs.Edits.Splice.{shape_now}
 use Rattle.cdf_attrs.specs.PutValues.{IsAttributeAt}
-use Rattle.cdf_attrs.proofs.NamesChanged.{got-map, got-middle}
+use Rattle.cdf_edits.proofs.Commands.ListParts.{got-map, got-middle}
 
 -- ---- the parts
 

@@ -33,7 +33,8 @@ use Rattle.cdf_attrs.specs.Known.{KnownEntries, KnowsEntries}
 use Rattle.cdf_attrs.specs.PutValues.{IsAttributeAt, Puts, IsReady, HasOld, new_entry}
 use Rattle.cdf_attrs.proofs.AttributeParts.{parts, places_rechained, names_rechained, members_at}
 use Rattle.cdf_attrs.proofs.EntryPut.{asked, entry_there, put_follows}
-use Rattle.cdf_attrs.proofs.EntryWritten.{IsEntry, code_small}
+use Rattle.cdf_edits.proofs.Commands.TypeCodes.{code_small}
+use Rattle.cdf_attrs.proofs.EntryWritten.{IsEntry}
 use Rattle.cdf_attrs.proofs.PutCalls.{fields_of, reserved_fields, ready_limit, places_chain, member_shape, entry_ends, old_fit}
 use Rattle.cdf_attrs.specs.declared.putting.NewEntry.{NewEntry}
 use Rattle.cdf_attrs.specs.declared.entry_bytes.OldEntry.{OldEntry}

@@ -18,7 +18,7 @@ use Rattle.cdf_model.specs.Step.{ByStep}
 use Rattle.cdf_format.specs.Sound.{IsSound}
 use Rattle.cdf_edits.specs.Commands.Allowances.{AllKeep, Allowances, Only, Keeps, only_of}
 use Rattle.cdf_format.specs.AttributeRules.{same_name}
-use Rattle.cdf_format.specs.ChainRules.{number_rows, adrs_rows, differ_rows, r_vdrs_rows, z_vdrs_rows}
+use Rattle.cdf_format.specs.ChainRules.{adrs_rows, differ_rows, r_vdrs_rows, z_vdrs_rows}
 use Rattle.cdf_format.specs.Chains.{next_field, is_in, IsChain}
 use Rattle.cdf_format.specs.Content.{content, scope_of, attribute_of}
 use Rattle.cdf_format.specs.Fields.{number, name_in, size_at, type_at, gdr_offset}
@@ -41,7 +41,7 @@ use Rattle.cdf_format.proofs.Members.{either}
 use Rattle.cdf_format.proofs.NameRules.{stands_in, AreNew, names_at, names_differ, differ_by_names, new_pushed, attribute_names_are}
 use Rattle.cdf_edits.proofs.Frame.OwnersApart.{adrs_linked}
 use Rattle.cdf_format.proofs.RowLemmas.{Hold-append, Hold-split}
-use Rattle.cdf_edits.proofs.Rules.WithoutLinks.{number_rows_kept}
+use Rattle.cdf_edits.proofs.Rules.WithoutLinks.{number_rows_kept, number_rows-push}
 use Rattle.cdf_format.proofs.SealedRules.{good_long, sealed_kept}
 use Rattle.cdf_format.proofs.ShapeLemmas.{content_is, shape_is}
 use Rattle.cdf_format.proofs.Tests.{of_le}
@@ -65,22 +65,13 @@ use Rattle.cdf_edits.specs.Space.Adding.{Added, adding_marks}
 use Rattle.cdf_attrs.specs.Creating.{scope_code, adr_body}
 use Rattle.cdf_attrs.proofs.AttributeChain.{attribute_members}
 use Rattle.cdf_attrs.proofs.AttributesRead.{counted_is}
-use Rattle.cdf_attrs.proofs.NamesChanged.{fine_is_some, got-middle}
+use Rattle.cdf_edits.proofs.Commands.FineNames.{fine_is_some}
+use Rattle.cdf_edits.proofs.Commands.ListParts.{got-middle}
 use Rattle.cdf_attrs.proofs.NewAdr.{IsNewAdr, length-body, type_in_body, adr_written}
 use Rattle.cdf_fields.proofs.NamesWritten.{before_zeros}
 use Rattle.cdf_attrs.proofs.CreatingAnswers.{with_last}
 
--- ---- numbers, scopes and the rules of a new ADR
-
-number_rows-push : (rule : ℕ) (b : List ℕ) (num : Field) (n : ℕ) (ms : List ℕ) (m : ℕ) → number b m num ≡ n + length ms → Hold (number_rows rule b num n ms) → Hold (number_rows rule b num n (ms ++ m ∷ []))
-number_rows-push rule b num n [] m is h = (eq-eqb _ _ (is ∙ none n), tt)
-  where
-    none : (x : ℕ) → x + 0 ≡ x
-    none x = omega arith
-number_rows-push rule b num n (x ∷ ms) m is h = (h.0, number_rows-push rule b num (suc n) ms m (is ∙ next n (length ms)) h.1)
-  where
-    next : (x y : ℕ) → x + suc y ≡ suc x + y
-    next x y = omega arith
+-- ---- scopes and the rules of a new ADR
 
 -- an attribute without entries
 abbrev bare_attribute : ℕ → AttributeShape

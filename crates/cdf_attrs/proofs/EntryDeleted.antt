@@ -55,7 +55,7 @@ use Rattle.cdf_attrs.proofs.EntrySteps.{no_attribute, wrong_scope, no_entry}
 use Rattle.cdf_attrs.proofs.EntryTakenAt.{as_long, left_count, left_small, map-remove, once, places_are, without_at_index}
 use Rattle.cdf_attrs.proofs.GettingAnswers.{found_in, is_entry_at, is_item, of_attribute}
 use Rattle.cdf_attrs.proofs.GreatestNumber.{greatest_fits, greatest_of_items}
-use Rattle.cdf_attrs.proofs.NamesChanged.{Cut, cut, got-middle}
+use Rattle.cdf_edits.proofs.Commands.ListParts.{Cut, cut, got-middle}
 
 -- ---- the refusals
 

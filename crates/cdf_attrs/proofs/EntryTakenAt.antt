@@ -22,7 +22,7 @@ use Rattle.cdf_attrs.specs.Known.{KnownEntries, KnowsEntries}
 use Rattle.cdf_attrs.specs.Putting.{IsEntryOf}
 use Rattle.cdf_attrs.proofs.AttributeChain.{index_in}
 use Rattle.cdf_attrs.proofs.EntryChains.{entry_number, chain_there, few_entries}
-use Rattle.cdf_attrs.proofs.NamesChanged.{got-middle}
+use Rattle.cdf_edits.proofs.Commands.ListParts.{got-middle}
 
 -- ---- lists
 

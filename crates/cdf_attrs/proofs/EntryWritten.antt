@@ -6,14 +6,14 @@ use Rattle.std.specs.Int.{w32, cast_signed}
 use Rattle.std.specs.Option.{unwrap_or}
 use Rattle.std.specs.Prelude.{nat_le}
 use Rattle.cdf_model.specs.declared.data_type.DataType.{DataType}
-use Rattle.cdf_model.specs.declared.data_type.DataType.TheVariants.{Int1, Int2, Int4, Int8, UInt1, UInt2, UInt4, Real4, Real8, Epoch, Epoch16, TimeTt2000, Byte, Float, Double, Char, UChar}
+use Rattle.cdf_model.specs.declared.data_type.DataType.TheVariants.{Byte}
 use Rattle.cdf_model.specs.declared.kinds.EntryKind.{EntryKind}
 use Rattle.cdf_model.specs.declared.kinds.EntryKind.TheVariants as entries
 use Rattle.cdf_model.specs.ByteOrder.{turned}
 use Rattle.cdf_model.specs.DataSet.{Entry}
 use Rattle.cdf_model.specs.Limits.{signed_limit}
 use Rattle.cdf_model.specs.Place.{record_limit}
-use Rattle.cdf_model.specs.Types.{code_of, size_of, type_of}
+use Rattle.cdf_model.specs.Types.{size_of, type_of}
 use Rattle.cdf_format.specs.AttributeRules.{entry_bytes, has_value}
 use Rattle.cdf_format.specs.Bytes.{Same}
 use Rattle.cdf_format.specs.Content.{entry_of}
@@ -27,54 +27,11 @@ use Rattle.cdf_format.proofs.Tests.{of_le}
 use Rattle.cdf_edits.specs.Commands.EntryChains.{entry_type}
 use Rattle.cdf_edits.specs.Commands.NewRecords.{Says}
 use Rattle.cdf_edits.specs.Space.Placing.{IsBody, Placed}
+use Rattle.cdf_edits.proofs.Commands.TypeCodes.{type_back, code_small}
 use Rattle.cdf_edits.proofs.Space.LaidOut.{placed_says, says_kept}
 use Rattle.cdf_edits.proofs.Space.UsedRecords.{apart}
 use Rattle.cdf_attrs.specs.declared.entry_bytes.Reserved.{Reserved}
 use Rattle.cdf_attrs.specs.Putting.{aedr_fields, aedr_body, Fit, IsStored}
-
--- ---- types
-
--- a code means its type
-pub type_back : (t : DataType) → type_of (cast_signed w32 (code_of t)) ≡ Some t
-type_back Int1 = refl
-type_back Int2 = refl
-type_back Int4 = refl
-type_back Int8 = refl
-type_back UInt1 = refl
-type_back UInt2 = refl
-type_back UInt4 = refl
-type_back Real4 = refl
-type_back Real8 = refl
-type_back Epoch = refl
-type_back Epoch16 = refl
-type_back TimeTt2000 = refl
-type_back Byte = refl
-type_back Float = refl
-type_back Double = refl
-type_back Char = refl
-type_back UChar = refl
-
-pub code_small : (t : DataType) → code_of t < 2 ^ 32
-code_small t = by t
-  where
-    by : (t : DataType) → code_of t < 2 ^ 32
-    by Int1 = lit< tt
-    by Int2 = lit< tt
-    by Int4 = lit< tt
-    by Int8 = lit< tt
-    by UInt1 = lit< tt
-    by UInt2 = lit< tt
-    by UInt4 = lit< tt
-    by Real4 = lit< tt
-    by Real8 = lit< tt
-    by Epoch = lit< tt
-    by Epoch16 = lit< tt
-    by TimeTt2000 = lit< tt
-    by Byte = lit< tt
-    by Float = lit< tt
-    by Double = lit< tt
-    by Char = lit< tt
-    by UChar = lit< tt
 
 -- ---- the body
 

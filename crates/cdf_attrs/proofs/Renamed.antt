@@ -41,7 +41,7 @@ use Rattle.cdf_edits.proofs.Commands.KeptRecords.{Stood, AllKeep-append, keep_ow
 use Rattle.cdf_edits.proofs.Frame.Meaning.{Kept, entries_kept}
 use Rattle.cdf_format.proofs.Members.{In-append, In-append_left, In-append_right}
 use Rattle.cdf_format.proofs.NameRules.{stands_in, AreNew, names_at, names_differ, differ_by_names, new_replaced, attribute_names_are}
-use Rattle.cdf_edits.proofs.Frame.OwnersApart.{file_in, unused_in, all_variable_records}
+use Rattle.cdf_edits.proofs.Frame.OwnersApart.{flat-append, file_in, unused_in, all_variable_records}
 use Rattle.cdf_format.proofs.RowLemmas.{Hold-append, Hold-split, flat_map-append}
 use Rattle.cdf_format.proofs.SealedRules.{good_long, sealed_kept}
 use Rattle.cdf_format.proofs.ShapeLemmas.{shape_is}
@@ -51,14 +51,15 @@ use Rattle.cdf_edits.proofs.Edits.AttributeFrame.{AreThere}
 use Rattle.cdf_edits.proofs.Edits.EditActs.{acts_none}
 use Rattle.cdf_edits.proofs.Edits.RecordFrame.{part_clear, chain_clear, chain_kept, kept_away, file_same, gdr_field}
 use Rattle.cdf_edits.proofs.Edits.OwnersKept.{stood, keeps_fields, keep_parts, all_keep}
-use Rattle.cdf_edits.proofs.Edits.OwnedOnce.{used_times, IsSorted, only_owns, adr_no_entry, all_attributes_in, flat-append, owned_once_if}
+use Rattle.cdf_edits.proofs.Edits.OwnedOnce.{used_times, IsSorted, only_owns, adr_no_entry, all_attributes_in, owned_once_if}
 use Rattle.cdf_edits.proofs.Edits.VariableFrame.{variables_in}
 use Rattle.cdf_format.proofs.BytesLemmas.{word_kept}
 use Rattle.cdf_edits.proofs.Edits.OneSpliced.{beside_live, content_replaced, counted, names_now, names_before}
 use Rattle.cdf_edits.proofs.Edits.Splice.{spliced, Splices, parts_there, shape_now, OwnRules, good_image_if}
 use Rattle.cdf_edits.proofs.Edits.StepEdits.{fixed_long, field_edit}
 use Rattle.cdf_attrs.specs.Renaming.{Renamed}
-use Rattle.cdf_attrs.proofs.NamesChanged.{fine_is_some, got-middle}
+use Rattle.cdf_edits.proofs.Commands.FineNames.{fine_is_some}
+use Rattle.cdf_edits.proofs.Commands.ListParts.{got-middle}
 
 -- ---- the step
 

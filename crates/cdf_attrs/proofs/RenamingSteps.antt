@@ -30,7 +30,9 @@ use Rattle.cdf_edits.proofs.Commands.Answered.{refused, gone}
 use Rattle.cdf_fields.proofs.NamesWritten.{name_reads}
 use Rattle.cdf_fields.proofs.Writes.{drop-put_there}
 use Rattle.cdf_attrs.specs.Renaming.{Renamed}
-use Rattle.cdf_attrs.proofs.NamesChanged.{fine_is_short, fine_has_no_zeros, Cut, cut, got-middle, got-map, none_named, number_within, named_there, some_named, last_moved, renamed_names}
+use Rattle.cdf_edits.proofs.Commands.FineNames.{fine_is_short, fine_has_no_zeros}
+use Rattle.cdf_edits.proofs.Commands.ListParts.{Cut, cut, got-middle, got-map}
+use Rattle.cdf_attrs.proofs.NamesChanged.{none_named, number_within, named_there, some_named, last_moved, renamed_names}
 use Rattle.cdf_attrs.proofs.AttributeChain.{name_lies, few_attributes, names_count}
 use Rattle.cdf_attrs.proofs.Renamed.{same_shape, content_now, rename_missing, rename_bad, rename_taken, rename_goes, rename_follows}
 

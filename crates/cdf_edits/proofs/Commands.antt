@@ -3,4 +3,7 @@ pub mod ChainsStay
 pub mod KeptRecords
 pub mod OtherNames
 pub mod OthersStay
+pub mod FineNames
+pub mod ListParts
 pub mod ReadingFollows
+pub mod TypeCodes

@@ -25,7 +25,8 @@ use Rattle.cdf_edits.specs.Edits.Marks.{Mark, Away, avoided}
 use Rattle.cdf_edits.proofs.Edits.AttributeFrame.{AreThere, lives_away, names_stay, nums_stay}
 use Rattle.cdf_edits.specs.Edits.Edit.{Edit}
 use Rattle.cdf_edits.proofs.Edits.RecordFrame.{AttributeLives, gdr_field, gdr_place}
-use Rattle.cdf_edits.proofs.Edits.OwnedOnce.{only_owns, all_attributes_in, flat-append}
+use Rattle.cdf_edits.proofs.Frame.OwnersApart.{flat-append}
+use Rattle.cdf_edits.proofs.Edits.OwnedOnce.{only_owns, all_attributes_in}
 use Rattle.cdf_edits.proofs.Edits.Splice.{Splices, s', file, parts_there, content_now}
 
 -- the marks are in its own records alone: the others stay

@@ -1,5 +1,5 @@
 -- Which records are owned once an image was edited, and how owners stand apart.
-use Rattle.std.proofs.Common.{◌≡◌, ◌≢◌, ◌⊎◌, ℕ, suc, ◌+◌, ◌≤◌, List, [], ◌∷◌, ◌++◌, length, eqb, eq-eqb, refl, sym, ap, subst, ◌∙◌, append_assoc, arith, inl, inr}
+use Rattle.std.proofs.Common.{◌≡◌, ◌≢◌, ◌⊎◌, ℕ, suc, ◌+◌, ◌≤◌, List, ◌∷◌, ◌++◌, length, eqb, eq-eqb, refl, sym, ap, subst, ◌∙◌, arith, inl, inr}
 use Rattle.std.proofs.lemmas.Bool.{cases_eq, eqb-true}
 use Rattle.std.specs.List.{flat_map}
 use Rattle.cdf_format.specs.Sound.{IsSound}
@@ -11,7 +11,7 @@ use Rattle.cdf_format.specs.Shape.{AttributeShape, Shape, HasShape}
 use Rattle.cdf_format.specs.Tiles.{In, AreTiles}
 use Rattle.cdf_format.proofs.ChainsLemmas.{linkable-in}
 use Rattle.cdf_format.proofs.Members.{either, true-is_in, false-is_in, In-append_right, In-append_left}
-use Rattle.cdf_edits.proofs.Frame.OwnersApart.{times-append, times-in, owned-times, file_records, all_attribute_records, all_variable_records, unused_from_file, unused_from_attributes, unused_from_variables, file_in}
+use Rattle.cdf_edits.proofs.Frame.OwnersApart.{flat-append, times-append, times-three, times-in, owned-times, file_records, all_attribute_records, all_variable_records, unused_from_file, unused_from_attributes, unused_from_variables, file_in}
 use Rattle.cdf_format.proofs.Owning.{times-none, times-once, tiles_distinct, attributes_in}
 use Rattle.cdf_edits.proofs.Space.UsedRecords.{filter-keeps, filter-says, filter-distinct}
 use Rattle.cdf_edits.specs.Edits.Marks.{Mark}
@@ -103,10 +103,6 @@ owned_once_if b now s s' marks reborn sound once e same sorted m i = once_by_sor
 
 -- ---- the records of one attribute
 
-pub flat-append : {A : Type 0} (f : A → List ℕ) (xs ys : List A) → flat_map f (xs ++ ys) ≡ flat_map f xs ++ flat_map f ys
-flat-append f [] ys = refl
-flat-append f (x ∷ xs) ys = ap (λ (r : List ℕ). f x ++ r) (flat-append f xs ys) ∙ sym (append_assoc (f x) (flat_map f xs) (flat_map f ys))
-
 -- how often a record is one of attributes, by their parts: of all of them once at most
 module _ (b : List ℕ) (s : Shape) (sound : IsSound b s) (before : List AttributeShape) (own : AttributeShape) (after : List AttributeShape) (was : s.attributes ≡ before ++ own ∷ after) where
   pub parts_times : (m : ℕ) → times m (all_attribute_records s) ≡ times m (flat_map attribute_records before) + (times m (attribute_records own) + times m (flat_map attribute_records after))
@@ -175,8 +171,7 @@ adr_no_entry b s sound before own after all i =
 pub spliced_times : (s : Shape) (records list : List ℕ) (before own own' after : List AttributeShape) → s.attributes ≡ before ++ (own ++ after) → (m k l : ℕ) → times m (flat_map attribute_records own') + l ≡ times m (flat_map attribute_records own) + k
     → used_times (record s { records = records; attributes = before ++ (own' ++ after); unused = list }) m + l ≡ used_times s m + k
 spliced_times s records list before own own' after was m k l same =
-    let parts = λ (mid : List AttributeShape). ap (times m) (flat-append attribute_records before (mid ++ after)) ∙ times-append m (flat_map attribute_records before) (flat_map attribute_records (mid ++ after))
-    ∙ ap (λ (n : ℕ). times m (flat_map attribute_records before) + n) (ap (times m) (flat-append attribute_records mid after) ∙ times-append m (flat_map attribute_records mid) (flat_map attribute_records after)) in
+    let parts = λ (mid : List AttributeShape). times-three attribute_records m before mid after in
     let old : times m (all_attribute_records s) ≡ times m (flat_map attribute_records before) + (times m (flat_map attribute_records own) + times m (flat_map attribute_records after)) = ap (λ (as_ : List AttributeShape). times m (flat_map attribute_records as_)) was ∙ parts own in
     sums (times m (file_records s)) (times m (all_variable_records s)) (times m (flat_map attribute_records before)) (times m (flat_map attribute_records after)) (times m (flat_map attribute_records own)) (times m (flat_map attribute_records own')) (times m (all_attribute_records s)) (times m (flat_map attribute_records (before ++ (own' ++ after)))) k l old (parts own') same
   where

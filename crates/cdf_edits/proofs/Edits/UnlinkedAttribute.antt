@@ -30,14 +30,14 @@ use Rattle.cdf_edits.proofs.Edits.ChainsOfShape.{IsOf, remove_changed, left_chai
 use Rattle.cdf_edits.proofs.Edits.Composing.{head_size, head_type, edit_then}
 use Rattle.cdf_edits.proofs.Edits.FreedRecords.{edit_under}
 use Rattle.cdf_edits.proofs.Edits.MarkLemmas.{Avoids-split}
-use Rattle.cdf_edits.proofs.Edits.OwnedOnce.{used_times, only_owns, flat-append, parts_once, own_in}
+use Rattle.cdf_edits.proofs.Edits.OwnedOnce.{used_times, only_owns, parts_once, own_in}
 use Rattle.cdf_edits.proofs.Edits.RecordFrame.{chain_clear, field_clear, part_clear, gdr_place}
 use Rattle.cdf_edits.proofs.Edits.RemovedAttribute.{SaysRemoved, without_one, fewer, used_once, none_left, removed_sound}
 use Rattle.cdf_edits.proofs.Edits.RemovedLives.{entries_in, adrs_in, AreNumbered, Removes}
 use Rattle.cdf_edits.proofs.Edits.Splice.{parts_there}
 use Rattle.cdf_edits.proofs.Edits.StepEdits.{Linked, gdr_in, gdr_typed, gdr_long, some_bytes, fixed_long, remove_edit}
 use Rattle.cdf_edits.proofs.Edits.WrittenFields.{MayWrite, written_tiles, may_after, write_lies, write_edit, writes_edit, writes_say}
-use Rattle.cdf_edits.proofs.Frame.OwnersApart.{times-in, owned-times, file_records, all_attribute_records, all_variable_records, file_from_attributes}
+use Rattle.cdf_edits.proofs.Frame.OwnersApart.{flat-append, times-in, owned-times, file_records, all_attribute_records, all_variable_records, file_from_attributes}
 use Rattle.cdf_fields.proofs.Writes.{length-with_field}
 use Rattle.cdf_format.specs.Bytes.{Same}
 

@@ -50,12 +50,17 @@ times-in m (x ∷ xs) i = elim (either (eqb m x)) [
     clash true a e = cc
     clash false a e = cc
 
-flat-append : {A : Type 0} (f : A → List ℕ) (xs ys : List A) → flat_map f (xs ++ ys) ≡ flat_map f xs ++ flat_map f ys
+pub flat-append : {A : Type 0} (f : A → List ℕ) (xs ys : List A) → flat_map f (xs ++ ys) ≡ flat_map f xs ++ flat_map f ys
 flat-append f [] ys = refl
 flat-append f (x ∷ xs) ys = ap (λ (r : List ℕ). f x ++ r) (flat-append f xs ys) ∙ sym (append_assoc (f x) (flat_map f xs) (flat_map f ys))
 
 times-parts : {A : Type 0} (f : A → List ℕ) (m : ℕ) (xs : List A) (x : A) (ys : List A) → times m (flat_map f (xs ++ x ∷ ys)) ≡ times m (flat_map f xs) + (times m (f x) + times m (flat_map f ys))
 times-parts f m xs x ys = ap (times m) (flat-append f xs (x ∷ ys)) ∙ times-append m (flat_map f xs) (f x ++ flat_map f ys) ∙ ap (λ (n : ℕ). times m (flat_map f xs) + n) (times-append m (f x) (flat_map f ys))
+
+pub times-three : {A : Type 0} (f : A → List ℕ) (m : ℕ) (xs ys zs : List A) → times m (flat_map f (xs ++ (ys ++ zs))) ≡ times m (flat_map f xs) + (times m (flat_map f ys) + times m (flat_map f zs))
+times-three f m xs ys zs =
+    ap (times m) (flat-append f xs (ys ++ zs)) ∙ times-append m (flat_map f xs) (flat_map f (ys ++ zs))
+    ∙ ap (λ (n : ℕ). times m (flat_map f xs) + n) (ap (times m) (flat-append f ys zs) ∙ times-append m (flat_map f ys) (flat_map f zs))
 
 abbrev pub file_records : Shape → List ℕ
 file_records s = 8 ∷ s.gdr ∷ []

@@ -1,5 +1,5 @@
 -- The rules of an image that follow no link stay for records whose sizes and types do, and for variables whose records stay whole.
-use Rattle.std.proofs.Common.{◌≡◌, ℕ, suc, ◌+◌, ◌-◌, ◌≤◌, List, [], ◌∷◌, length, Bool, refl, sym, ap, subst, ◌∙◌, arith, inl, inr}
+use Rattle.std.proofs.Common.{◌≡◌, ℕ, suc, ◌+◌, ◌-◌, ◌≤◌, List, [], ◌∷◌, ◌++◌, length, Bool, eq-eqb, refl, sym, ap, subst, ◌∙◌, arith, inl, inr}
 use Rattle.std.proofs.lemmas.List.{length-append, get_or_append_left}
 use Rattle.std.specs.Prelude.{◌==◌, if◌then◌else◌}
 use Rattle.cdf_format.specs.Records.{Field}
@@ -27,6 +27,17 @@ number_rows_kept rule b now f n (m ∷ ms) same =
     let here = same m (inl refl) in
     let rest = number_rows_kept rule b now f (suc n) ms (λ x i. same x (inr i)) in
     λ i. row rule m (here i == n) ∷ rest i
+
+-- and one more behind them
+pub number_rows-push : (rule : ℕ) (b : List ℕ) (num : Field) (n : ℕ) (ms : List ℕ) (m : ℕ) → number b m num ≡ n + length ms → Hold (number_rows rule b num n ms) → Hold (number_rows rule b num n (ms ++ m ∷ []))
+number_rows-push rule b num n [] m is h = (eq-eqb _ _ (is ∙ none n), tt)
+  where
+    none : (x : ℕ) → x + 0 ≡ x
+    none x = omega arith
+number_rows-push rule b num n (x ∷ ms) m is h = (h.0, number_rows-push rule b num (suc n) ms m (is ∙ next n (length ms)) h.1)
+  where
+    next : (x y : ℕ) → x + suc y ≡ suc x + y
+    next x y = omega arith
 
 -- an image ends where its trailer begins
 image_end : (b : List ℕ) → 44 ≤ length b → length (sealed b) - trailer_length (sealed b) ≡ length b

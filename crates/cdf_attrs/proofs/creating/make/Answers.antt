@@ -9,7 +9,7 @@ use Rattle.cdf_attrs.specs.Creating.{scope_code, adr_body}
 use Rattle.cdf_attrs.proofs.AttributeChain.{attribute_members, has_attribute_chain, few_attributes, last_got}
 use Rattle.cdf_attrs.proofs.AttributesRead.{counted_is}
 use Rattle.cdf_attrs.proofs.Created.{follows, names_now, places_now}
-use Rattle.cdf_attrs.proofs.NamesChanged.{fine_is_short, fine_has_no_zeros}
+use Rattle.cdf_edits.proofs.Commands.FineNames.{fine_is_short, fine_has_no_zeros}
 use Rattle.cdf_attrs.proofs.NewAdr.{length-body, type_in_body, adr_is_body}
 use Rattle.cdf_attrs.proofs.creating.make.Goals as goal
 

@@ -6,7 +6,7 @@ use Rattle.cdf_format.proofs.GoodSound.{good_is_sound}
 use Rattle.cdf_attrs.proofs.AttributeChain.{few_attributes, names_count}
 use Rattle.cdf_attrs.proofs.CreatingAnswers.{badly_named, name_taken, too_large, is_done}
 use Rattle.cdf_attrs.proofs.KnownAttributes.{names_known, places_known, none_known}
-use Rattle.cdf_attrs.proofs.NamesChanged.{last_removed}
+use Rattle.cdf_edits.proofs.Commands.ListParts.{last_removed}
 use Rattle.cdf_attrs.proofs.attrs.Attrs.create.Goals as goal
 
 pub returns-then-is_bad_name-clause-answers : goal.returns-then-is_bad_name-clause-answers

@@ -7,7 +7,8 @@ use Rattle.cdf_format.specs.Tiles.{In}
 use Rattle.cdf_format.proofs.GoodSound.{good_is_sound}
 use Rattle.cdf_attrs.proofs.AttributeChain.{name_lies, index_in}
 use Rattle.cdf_attrs.proofs.KnownAttributes.{names_known, places_known, none_known}
-use Rattle.cdf_attrs.proofs.NamesChanged.{number_within, last_removed}
+use Rattle.cdf_edits.proofs.Commands.ListParts.{last_removed}
+use Rattle.cdf_attrs.proofs.NamesChanged.{number_within}
 use Rattle.cdf_attrs.proofs.RenamingSteps.{answers_missing, answers_bad, answers_taken, number_is_adr, few_names, answers_done, names_done, places_done}
 use Rattle.cdf_attrs.proofs.attrs.Attrs.rename.Goals as goal
 

@@ -1,0 +1,29 @@
+-- What a name has that is not bad.
+use Rattle.std.proofs.Common.{◌≡◌, ◌≢◌, ℕ, ◌≤◌, List, [], ◌∷◌, length, Bool, true, false, ◌||◌, eq-eqb, true≢false, refl, sym, ◌∙◌}
+use Rattle.std.proofs.lemmas.Bool.{ltb-false}
+use Rattle.std.proofs.lemmas.List.Elements.{All-nil, All-cons}
+use Rattle.std.specs.List.{All, list_any}
+use Rattle.std.specs.Prelude.{nat_lt, ◌==◌}
+use Rattle.cdf_model.specs.Names.{name_limit, is_bad_name}
+
+or_false : (p q : Bool) → (p || q) ≡ false → (p ≡ false) × (q ≡ false)
+or_false true q e = absurd cc
+or_false false q e = (refl, e)
+
+pub fine_is_some : (name : List ℕ) → is_bad_name name ≡ false → (length name == 0) ≡ false
+fine_is_some name e = (or_false (length name == 0) (nat_lt name_limit (length name)) (or_false ((length name == 0) || nat_lt name_limit (length name)) (list_any (λ b. b == 0) name) e).0).0
+
+pub fine_is_short : (name : List ℕ) → is_bad_name name ≡ false → length name ≤ 256
+fine_is_short name e =
+    let p = or_false ((length name == 0) || nat_lt name_limit (length name)) (list_any (λ b. b == 0) name) e in
+    ltb-false 256 (length name) (or_false (length name == 0) (nat_lt name_limit (length name)) p.0).1
+
+not_zero : (x : ℕ) → (x == 0) ≡ false → x ≢ 0
+not_zero x e same = absurd (true≢false (sym (eq-eqb x 0 same) ∙ e))
+
+no_zeros : (name : List ℕ) → list_any (λ b. b == 0) name ≡ false → All (λ byte. byte ≢ 0) name
+no_zeros [] e = All-nil (λ byte. byte ≢ 0)
+no_zeros (x ∷ name) e = let p = or_false (x == 0) (list_any (λ b. b == 0) name) e in All-cons (λ byte. byte ≢ 0) x name (not_zero x p.0) (no_zeros name p.1)
+
+pub fine_has_no_zeros : (name : List ℕ) → is_bad_name name ≡ false → All (λ byte. byte ≢ 0) name
+fine_has_no_zeros name e = no_zeros name (or_false ((length name == 0) || nat_lt name_limit (length name)) (list_any (λ b. b == 0) name) e).1
