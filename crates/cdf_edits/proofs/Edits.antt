@@ -45,5 +45,8 @@ pub mod StepEdits
 pub mod UnlinkedAttribute
 pub mod UnlinkingSteps
 pub mod VariableFrame
-pub mod Widened
+pub mod VariableKinds
+pub mod VariableNames
+pub mod VariableSplice
+pub mod VariablesLinked
 pub mod WrittenFields

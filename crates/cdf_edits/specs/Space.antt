@@ -6,3 +6,4 @@ pub mod Giving
 pub mod Placement
 pub mod Placing
 pub mod Taking
+pub mod VariableChains

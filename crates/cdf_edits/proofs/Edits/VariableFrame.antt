@@ -12,32 +12,33 @@ use Rattle.cdf_format.specs.IndexRules.{is_block, index_rows}
 use Rattle.cdf_format.specs.Owners.{variable_records}
 use Rattle.cdf_format.specs.Records.{vdr_num, vdr_name}
 use Rattle.cdf_format.specs.RecordTypes.{r_vdr_type, z_vdr_type, vxr_type, vvr_type, cvvr_type, cpr_type, fixed_size}
-use Rattle.cdf_format.specs.Rules.{Hold}
+use Rattle.cdf_format.specs.Rules.{Row, Hold}
 use Rattle.cdf_format.specs.Shape.{VariableShape, Shape, vdrs, variables, is_compressed, Each, HasVariable, HasShape}
 use Rattle.cdf_format.specs.Tiles.{In}
-use Rattle.cdf_format.specs.VariableRules.{cpr_link, variable_rows}
+use Rattle.cdf_format.specs.VariableRules.{cpr_link, is_named_apart, variable_rows}
 use Rattle.cdf_format.specs.Sound.{LeafFits}
 use Rattle.cdf_edits.proofs.Frame.OwnerAlone.{Each-in}
 use Rattle.cdf_format.proofs.ChainsLemmas.{is_a-in, is_a-type, linkable-in, linkable-type}
 use Rattle.cdf_format.proofs.GoodImageLemmas.{vdrs_append}
 use Rattle.cdf_format.proofs.IndexLemmas.{nodes_stand}
 use Rattle.cdf_edits.proofs.Rules.OfIndexes.{index_rules_kept}
-use Rattle.cdf_edits.proofs.Frame.Meaning.{FileSame, Kept, KeptButLink, but_link, late_number, late_name, compressed_same, cpr_link_same, end_kept}
+use Rattle.cdf_edits.proofs.Frame.Meaning.{FileSame, Kept, KeptButLink, but_link, field_same, compressed_same, cpr_link_same, end_kept}
 use Rattle.cdf_format.proofs.Members.{either, In-append, In-append_left, In-append_right}
-use Rattle.cdf_edits.proofs.Frame.OwnersApart.{all_variable_records, vdrs_stand}
+use Rattle.cdf_edits.proofs.Frame.OwnersApart.{flat-append, all_variable_records, vdrs_stand}
 use Rattle.cdf_edits.proofs.Frame.LinksStay.{SameHeads}
+use Rattle.cdf_format.proofs.ShapeLemmas.{Each-split}
 use Rattle.cdf_format.proofs.Tests.{both}
 use Rattle.cdf_edits.proofs.Space.UsedRecords.{apart}
 use Rattle.cdf_format.proofs.RowLemmas.{Hold-append, Hold-split}
 use Rattle.cdf_edits.proofs.Frame.SoundStays.{nodes_fit_kept, leaves_fit_kept, cprs_kept}
 use Rattle.cdf_edits.proofs.Frame.FileSound.{variables_stand}
 use Rattle.cdf_edits.proofs.Rules.OfVariables.{variable_rows_same}
-use Rattle.cdf_edits.specs.Edits.Marks.{Mark, avoided, ended, all_unmarked, variable_types, index_types, keeps_index_records}
+use Rattle.cdf_model.specs.DataSet.{Variable}
+use Rattle.cdf_edits.specs.Edits.Marks.{Mark, Away, avoided, ended, all_unmarked, variable_types, index_types, keeps_index_records}
 use Rattle.cdf_edits.specs.Edits.Edit.{Edit}
 use Rattle.cdf_edits.proofs.Edits.RecordFrame.{VariableLives, index_records, kept_away, kept_but_link, own_heads, node_own, block_own, variable_stays}
 use Rattle.cdf_edits.proofs.Edits.InRecords.{places_of, variable_rows_both, index_rows_both, leaves_fit_both, cprs_both}
 use Rattle.cdf_edits.proofs.Edits.MarkLemmas.{or_cases, avoided-avoids, ended-avoids, all_unmarked-away}
-use Rattle.cdf_edits.proofs.Edits.StepEdits.{fixed_long}
 
 -- ---- the types of the records of variables
 
@@ -91,6 +92,99 @@ variable_typed b s sound = each (variables s) (vdr_of_type b s sound) sound.has_
 pub variables_in : (b : List ℕ) (s : Shape) → IsSound b s → (m : ℕ) → In m (all_variable_records s) → In m s.records
 variables_in b s sound = variables_stand b s.records (variables s) (vdrs_stand b s sound) sound.has_shape.have_variables sound.variables_fit
 
+-- ---- each of some
+
+pub Each-map : {A : Type 0} (P Q : A → Type 0) → ((x : A) → P x → Q x) → (xs : List A) → Each P xs → Each Q xs
+Each-map P Q f [] h = tt
+Each-map P Q f (x ∷ xs) h = (f x h.0, Each-map P Q f xs h.1)
+
+pub Each-apply : {A : Type 0} (P Q : A → Type 0) (xs : List A) → Each (λ x. P x → Q x) xs → Each P xs → Each Q xs
+Each-apply P Q [] f h = tt
+Each-apply P Q (x ∷ xs) f h = (f.0 h.0, Each-apply P Q xs f.1 h.1)
+
+pub each_holds : {A : Type 0} (rows : A → List Row) (xs : List A) → Hold (flat_map rows xs) → Each (λ x. Hold (rows x)) xs
+each_holds rows [] h = tt
+each_holds rows (x ∷ xs) h = let p = Hold-split (rows x) (flat_map rows xs) h in (p.0, each_holds rows xs p.1)
+
+pub hold_all : {A : Type 0} (rows : A → List Row) (xs : List A) → Each (λ x. Hold (rows x)) xs → Hold (flat_map rows xs)
+hold_all rows [] h = tt
+hold_all rows (x ∷ xs) h = Hold-append (rows x) (flat_map rows xs) h.0 (hold_all rows xs h.1)
+
+same_rows : (rows rows' : ℕ → List Row) (vs : List VariableShape) → Each (λ v. rows v.vdr ≡ rows' v.vdr) vs → flat_map rows (vdrs vs) ≡ flat_map rows' (vdrs vs)
+same_rows rows rows' [] h = refl
+same_rows rows rows' (v ∷ vs) h =
+    let here = h.0 in
+    let rest = same_rows rows rows' vs h.1 in
+    λ i. here i ++ rest i
+
+-- ---- a variable that remains
+
+-- the rules of a variable by itself, and of its index
+abbrev pub IsRuled : List ℕ → List ℕ → VariableShape → Type 0
+IsRuled b records v = Hold (variable_rows b records [] v.vdr) × Hold (index_rows b records v.vdr v.index)
+
+-- the names of all variables are told apart by another rule
+pub all_ruled : (b records ids : List ℕ) (vs : List VariableShape) → Hold (flat_map (variable_rows b records ids) (vdrs vs)) → Hold (flat_map (λ (v : VariableShape). index_rows b records v.vdr v.index) vs) → Each (IsRuled b records) vs
+all_ruled b records ids [] rules indexes = tt
+all_ruled b records ids (v ∷ vs) rules indexes =
+    let p = Hold-split (variable_rows b records ids v.vdr) (flat_map (variable_rows b records ids) (vdrs vs)) rules in
+    let q = Hold-split (index_rows b records v.vdr v.index) (flat_map (λ (v : VariableShape). index_rows b records v.vdr v.index) vs) indexes in
+    (((p.0.0, (refl, p.0.1.1)), q.0), all_ruled b records ids vs p.1 q.1)
+
+pub ruled_rows : (b records ids : List ℕ) (vs : List VariableShape) → Each (IsRuled b records) vs → ((m : ℕ) → In m (vdrs vs) → is_named_apart b ids m ≡ true) → Hold (flat_map (variable_rows b records ids) (vdrs vs))
+ruled_rows b records ids [] ruled apart = tt
+ruled_rows b records ids (v ∷ vs) ruled apart = Hold-append (variable_rows b records ids v.vdr) (flat_map (variable_rows b records ids) (vdrs vs)) (ruled.0.0.0, (apart v.vdr (inl refl), ruled.0.0.1.1)) (ruled_rows b records ids vs ruled.1 (λ m i. apart m (inr i)))
+
+-- it is linked as it was, means what it meant and keeps its rules; the link to the next one may be another, and so may its number
+pub record VariableRemains (b now records new : List ℕ) (v : VariableShape) : Type 0 where
+  pub stays : VariableStays b now new v
+  pub fits : VariableFits now new v
+  pub ruled : IsRuled b records v → IsRuled now new v
+
+pub remaining_names : (b now records new : List ℕ) (vs : List VariableShape) → Each (VariableRemains b now records new) vs → (m : ℕ) → In m (vdrs vs) → name_in now m vdr_name ≡ name_in b m vdr_name
+remaining_names b now records new [] r m i = absurd i
+remaining_names b now records new (v ∷ vs) r m (inl q) = subst (λ (x : ℕ). name_in now x vdr_name ≡ name_in b x vdr_name) (sym q) (ap (λ (x : Variable). x.name) r.0.stays.1)
+remaining_names b now records new (v ∷ vs) r m (inr i) = remaining_names b now records new vs r.1 m i
+
+-- ---- variables of the image
+
+pub record AreOurs (b : List ℕ) (s : Shape) (vs : List VariableShape) : Type 0 where
+  pub has : Each (HasVariable b s.records) vs
+  pub fits : Each (VariableFits b s.records) vs
+  pub sub : (m : ℕ) → In m (flat_map variable_records vs) → In m (all_variable_records s)
+  pub kinds : (m : ℕ) → In m (vdrs vs) → (type_at b m ≡ r_vdr_type) ⊎ (type_at b m ≡ z_vdr_type)
+
+module _ (b : List ℕ) (s : Shape) where
+  pub all_ours : IsSound b s → AreOurs b s (variables s)
+  all_ours sound = record { has = sound.has_shape.have_variables; fits = sound.variables_fit; sub = λ m i. i; kinds = vdr_of_type b s sound }
+
+  first_sub : (v : VariableShape) (more : List VariableShape) → AreOurs b s (v ∷ more) → (m : ℕ) → In m (variable_records v) → In m (all_variable_records s)
+  first_sub v more ours m i = ours.sub m (In-append_left m (variable_records v) (flat_map variable_records more) i)
+
+  rest_ours : (v : VariableShape) (more : List VariableShape) → AreOurs b s (v ∷ more) → AreOurs b s more
+  rest_ours v more ours = record { has = ours.has.1; fits = ours.fits.1; sub = λ m i. ours.sub m (In-append_right m (variable_records v) (flat_map variable_records more) i); kinds = λ m i. ours.kinds m (inr i) }
+
+  -- those in front of others, and those
+  pub ours_parts : (xs ys : List VariableShape) → AreOurs b s (xs ++ ys) → AreOurs b s xs × AreOurs b s ys
+  ours_parts xs ys ours =
+      let has = Each-split (HasVariable b s.records) xs ys ours.has in
+      let fits = Each-split (VariableFits b s.records) xs ys ours.fits in
+      let records = flat-append variable_records xs ys in
+      let places = vdrs_append xs ys in (
+        record {
+          has = has.0;
+          fits = fits.0;
+          sub = λ m i. ours.sub m (subst (In m) (sym records) (In-append_left m (flat_map variable_records xs) (flat_map variable_records ys) i));
+          kinds = λ m i. ours.kinds m (subst (In m) (sym places) (In-append_left m (vdrs xs) (vdrs ys) i));
+        },
+        record {
+          has = has.1;
+          fits = fits.1;
+          sub = λ m i. ours.sub m (subst (In m) (sym records) (In-append_right m (flat_map variable_records xs) (flat_map variable_records ys) i));
+          kinds = λ m i. ours.kinds m (subst (In m) (sym places) (In-append_right m (vdrs xs) (vdrs ys) i));
+        },
+      )
+
 -- ---- variables with all their records
 
 module _ {b now : List ℕ} {s : Shape} {new : List ℕ} {marks : List Mark} {reborn : List ℕ} (sound : IsSound b s) (e : Edit b now s.records new marks reborn) where
@@ -141,24 +235,11 @@ module _ {b now : List ℕ} {s : Shape} {new : List ℕ} {marks : List Mark} {re
         each more (λ m i. sub m (In-append_right m (variable_records v) (flat_map variable_records more) i)) (λ m i. k m (inr i)) has.1 fits.1,
       )
 
-  module _ (file : FileSame b now) (lives : Each (VariableLives b now) (variables s)) where
-    vdr_long : (m : ℕ) → In m (vdrs (variables s)) → 340 ≤ size_at b m
-    vdr_long m i = elim (In-append m (vdrs s.r_variables) (vdrs s.z_variables) (subst (λ (x : List ℕ). In m x) (vdrs_append s.r_variables s.z_variables) i)) [
-      | inl j ↦ let ok = h.r_chain.linkable m j in fixed_long b s h r_vdr_type m (linkable-in b s.records r_vdr_type m ok) (linkable-type b s.records r_vdr_type m ok)
-      | inr j ↦ let ok = h.z_chain.linkable m j in let l = fixed_long b s h z_vdr_type m (linkable-in b s.records z_vdr_type m ok) (linkable-type b s.records z_vdr_type m ok) in omega arith
-    ]
+  -- no mark is in their records
+  pub variables_away : (vs : List VariableShape) → AreOurs b s vs → ((m : ℕ) → In m (flat_map variable_records vs) → Away marks (type_at b m) m) → Each (VariableLives b now) vs
+  variables_away vs ours away = live_from vs (λ m i. kept_away e m (type_at b m) (variables_in b s sound m (ours.sub m i)) refl (away m i))
 
-    vdr_lives : (vs : List VariableShape) → Each (VariableLives b now) vs → (m : ℕ) → In m (vdrs vs) → KeptButLink b now m
-    vdr_lives [] l m i = absurd i
-    vdr_lives (v ∷ more) l m (inl q) = subst (KeptButLink b now) (sym q) l.0.vdr
-    vdr_lives (v ∷ more) l m (inr i) = vdr_lives more l.1 m i
-
-    pub vdr_names_kept : (m : ℕ) → In m (vdrs (variables s)) → name_in now m vdr_name ≡ name_in b m vdr_name
-    vdr_names_kept m i = late_name b now m (vdr_lives (variables s) lives m i) vdr_name (omega arith) (let l = vdr_long m i in omega arith) file.longer
-
-    pub nums_kept : (m : ℕ) → In m (vdrs (variables s)) → number now m vdr_num ≡ number b m vdr_num
-    nums_kept m i = late_number b now m (vdr_lives (variables s) lives m i) vdr_num (omega arith) (let l = vdr_long m i in omega arith)
-
+  module _ (file : FileSame b now) where
     module _ (v : VariableShape) (has : HasVariable b s.records v) (fits : VariableFits b s.records v) (live : VariableLives b now v) (sub : (m : ℕ) → In m (variable_records v) → In m (all_variable_records s)) (kind : (type_at b v.vdr ≡ r_vdr_type) ⊎ (type_at b v.vdr ≡ z_vdr_type)) where
       stand : (m : ℕ) → In m (variable_records v) → In m s.records
       stand m i = variables_in b s sound m (sub m i)
@@ -193,12 +274,11 @@ module _ {b now : List ℕ} {s : Shape} {new : List ℕ} {marks : List Mark} {re
       one_stays : VariableStays b now new v
       one_stays = variable_stays sound e v file has fits stand live
 
-      one_rules : variable_rows now new (vdrs (variables s)) v.vdr ≡ variable_rows b s.records (vdrs (variables s)) v.vdr
-      one_rules =
-          let ids = vdrs (variables s) in
+      one_rules : (ids : List ℕ) → ((m : ℕ) → In m ids → name_in now m vdr_name ≡ name_in b m vdr_name) → variable_rows now new ids v.vdr ≡ variable_rows b s.records ids v.vdr
+      one_rules ids names =
           let own = variable_records v in
           variable_rows_both now own new ids v.vdr (λ c. (cpr_own_now c, e.sub _ (stand _ (cpr_own_now c))))
-          ∙ variable_rows_same b now own (heads own (λ m i. i)) file fixed_own cpr_kept v.vdr live.vdr fits.0 ids vdr_names_kept
+          ∙ variable_rows_same b now own (heads own (λ m i. i)) file fixed_own cpr_kept v.vdr live.vdr fits.0 ids names
           ∙ variable_rows_both b s.records own ids v.vdr (λ c. (stand _ (cpr_own c), cpr_own c))
 
       one_index : Hold (index_rows b s.records v.vdr v.index) → Hold (index_rows now new v.vdr v.index)
@@ -221,62 +301,58 @@ module _ {b now : List ℕ} {s : Shape} {new : List ℕ} {marks : List Mark} {re
             cprs_kept b now own new file same v.cpr (cprs_both b s.records own v.cpr (λ m i. (stand m (inr (cpr m i)), inr (cpr m i))) fits.3),
           )
 
-    -- variables of the image
-    record AreOurs (vs : List VariableShape) : Type 0 where
-      has : Each (HasVariable b s.records) vs
-      fits : Each (VariableFits b s.records) vs
-      live : Each (VariableLives b now) vs
-      sub : (m : ℕ) → In m (flat_map variable_records vs) → In m (all_variable_records s)
-      kinds : (m : ℕ) → In m (vdrs vs) → (type_at b m ≡ r_vdr_type) ⊎ (type_at b m ≡ z_vdr_type)
+    -- ---- variables of the image that live
 
-    first_sub : (v : VariableShape) (more : List VariableShape) → AreOurs (v ∷ more) → (m : ℕ) → In m (variable_records v) → In m (all_variable_records s)
-    first_sub v more ours m i = ours.sub m (In-append_left m (variable_records v) (flat_map variable_records more) i)
-
-    rest_ours : (v : VariableShape) (more : List VariableShape) → AreOurs (v ∷ more) → AreOurs more
-    rest_ours v more ours = record { has = ours.has.1; fits = ours.fits.1; live = ours.live.1; sub = λ m i. ours.sub m (In-append_right m (variable_records v) (flat_map variable_records more) i); kinds = λ m i. ours.kinds m (inr i) }
-
-    all_ours : AreOurs (variables s)
-    all_ours = record { has = h.have_variables; fits = sound.variables_fit; live = lives; sub = λ m i. i; kinds = vdr_of_type b s sound }
-
-    fit_from : (vs : List VariableShape) → AreOurs vs → Each (VariableFits now new) vs
-    fit_from [] ours = tt
-    fit_from (v ∷ more) ours = (
-      one_fits v ours.has.0 ours.fits.0 ours.live.0 (first_sub v more ours) (ours.kinds v.vdr (inl refl)),
-      fit_from more (rest_ours v more ours),
+    one_by_one : (P : VariableShape → Type 0)
+        → ((v : VariableShape) → HasVariable b s.records v → VariableFits b s.records v → VariableLives b now v → ((m : ℕ) → In m (variable_records v) → In m (all_variable_records s)) → (type_at b v.vdr ≡ r_vdr_type) ⊎ (type_at b v.vdr ≡ z_vdr_type) → P v)
+        → (vs : List VariableShape) → AreOurs b s vs → Each (VariableLives b now) vs → Each P vs
+    one_by_one P one [] ours live = tt
+    one_by_one P one (v ∷ more) ours live = (
+      one v ours.has.0 ours.fits.0 live.0 (first_sub b s v more ours) (ours.kinds v.vdr (inl refl)),
+      one_by_one P one more (rest_ours b s v more ours) live.1,
     )
 
-    pub variables_fit : Each (VariableFits now new) (variables s)
-    variables_fit = fit_from (variables s) all_ours
+    pub remain_from : (vs : List VariableShape) → AreOurs b s vs → Each (VariableLives b now) vs → Each (VariableRemains b now s.records new) vs
+    remain_from = one_by_one (VariableRemains b now s.records new) (λ v has fits live sub kind. record {
+      stays = one_stays v has fits live sub kind;
+      fits = one_fits v has fits live sub kind;
+      ruled = λ rules. (subst Hold (sym (one_rules v has fits live sub kind [] (λ m i. absurd i))) rules.0, one_index v has fits live sub kind rules.1);
+    })
 
-    stay_from : (vs : List VariableShape) → AreOurs vs → Each (VariableStays b now new) vs
-    stay_from [] ours = tt
-    stay_from (v ∷ more) ours = (
-      one_stays v ours.has.0 ours.fits.0 ours.live.0 (first_sub v more ours) (ours.kinds v.vdr (inl refl)),
-      stay_from more (rest_ours v more ours),
-    )
+    -- their numbers
+    pub nums_from : (vs : List VariableShape) → AreOurs b s vs → Each (VariableLives b now) vs → (m : ℕ) → In m (vdrs vs) → number now m vdr_num ≡ number b m vdr_num
+    nums_from [] ours live m i = absurd i
+    nums_from (v ∷ more) ours live m (inl q) = subst (λ (x : ℕ). number now x vdr_num ≡ number b x vdr_num) (sym q) (field_same b now file v.vdr live.0.vdr ours.fits.0.0 vdr_num (omega arith) (omega arith))
+    nums_from (v ∷ more) ours live m (inr i) = nums_from more (rest_ours b s v more ours) live.1 m i
 
-    pub variables_stay : Each (VariableStays b now new) (variables s)
-    variables_stay = stay_from (variables s) all_ours
+    -- ---- all variables
 
-    rules_from : (vs : List VariableShape) → AreOurs vs
-        → flat_map (variable_rows now new (vdrs (variables s))) (vdrs vs) ≡ flat_map (variable_rows b s.records (vdrs (variables s))) (vdrs vs)
-    rules_from [] ours = refl
-    rules_from (v ∷ more) ours =
-        let here = one_rules v ours.has.0 ours.fits.0 ours.live.0 (first_sub v more ours) (ours.kinds v.vdr (inl refl)) in
-        let rest = rules_from more (rest_ours v more ours) in
-        λ i. here i ++ rest i
+    module _ (lives : Each (VariableLives b now) (variables s)) where
+      ours : AreOurs b s (variables s)
+      ours = all_ours b s sound
 
-    pub variables_rules : Hold (variables_shape_rows b s) → Hold (flat_map (variable_rows now new (vdrs (variables s))) (vdrs (variables s)))
-    variables_rules rules = subst Hold (sym (rules_from (variables s) all_ours)) rules
+      all_remain : Each (VariableRemains b now s.records new) (variables s)
+      all_remain = remain_from (variables s) ours lives
 
-    index_from : (vs : List VariableShape) → AreOurs vs
-        → Hold (flat_map (λ (v : VariableShape). index_rows b s.records v.vdr v.index) vs) → Hold (flat_map (λ (v : VariableShape). index_rows now new v.vdr v.index) vs)
-    index_from [] ours rules = tt
-    index_from (v ∷ more) ours rules =
-        let parts = Hold-split (index_rows b s.records v.vdr v.index) (flat_map (λ (v : VariableShape). index_rows b s.records v.vdr v.index) more) rules in
-        Hold-append (index_rows now new v.vdr v.index) (flat_map (λ (v : VariableShape). index_rows now new v.vdr v.index) more)
-        (one_index v ours.has.0 ours.fits.0 ours.live.0 (first_sub v more ours) (ours.kinds v.vdr (inl refl)) parts.0)
-        (index_from more (rest_ours v more ours) parts.1)
+      pub nums_kept : (m : ℕ) → In m (vdrs (variables s)) → number now m vdr_num ≡ number b m vdr_num
+      nums_kept = nums_from (variables s) ours lives
 
-    pub indexes_rules : Hold (indexes_shape_rows b s) → Hold (flat_map (λ (v : VariableShape). index_rows now new v.vdr v.index) (variables s))
-    indexes_rules rules = index_from (variables s) all_ours rules
+      pub variables_fit : Each (VariableFits now new) (variables s)
+      variables_fit = Each-map (VariableRemains b now s.records new) (VariableFits now new) (λ v r. r.fits) (variables s) all_remain
+
+      pub variables_stay : Each (VariableStays b now new) (variables s)
+      variables_stay = Each-map (VariableRemains b now s.records new) (VariableStays b now new) (λ v r. r.stays) (variables s) all_remain
+
+      pub variables_rules : Hold (variables_shape_rows b s) → Hold (flat_map (variable_rows now new (vdrs (variables s))) (vdrs (variables s)))
+      variables_rules rules =
+          let ids = vdrs (variables s) in
+          let names = remaining_names b now s.records new (variables s) all_remain in
+          let same = one_by_one (λ v. variable_rows now new ids v.vdr ≡ variable_rows b s.records ids v.vdr) (λ v has fits live sub kind. one_rules v has fits live sub kind ids names) (variables s) ours lives in
+          subst Hold (sym (same_rows (variable_rows now new ids) (variable_rows b s.records ids) (variables s) same)) rules
+
+      pub indexes_rules : Hold (indexes_shape_rows b s) → Hold (flat_map (λ (v : VariableShape). index_rows now new v.vdr v.index) (variables s))
+      indexes_rules rules =
+          let was = λ (v : VariableShape). Hold (index_rows b s.records v.vdr v.index) in
+          let is = λ (v : VariableShape). Hold (index_rows now new v.vdr v.index) in
+          let kept = one_by_one (λ v. was v → is v) (λ v has fits live sub kind. one_index v has fits live sub kind) (variables s) ours lives in
+          hold_all (λ v. index_rows now new v.vdr v.index) (variables s) (Each-apply was is (variables s) kept (each_holds (λ v. index_rows b s.records v.vdr v.index) (variables s) rules))

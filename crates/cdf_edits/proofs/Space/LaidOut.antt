@@ -1,14 +1,16 @@
 -- Fields that are written one behind the other read back.
-use Rattle.std.proofs.Common.{◌≡◌, ℕ, ◌+◌, ◌^◌, ◌<◌, ◌≤◌, List, [], ◌∷◌, ◌++◌, length, drop, Bool, true, sym, ap, ◌∙◌, append_assoc, arith}
+use Rattle.std.proofs.Common.{◌≡◌, ℕ, suc, ◌+◌, ◌*◌, ◌^◌, ◌<◌, ◌≤◌, List, [], ◌∷◌, ◌++◌, length, drop, Bool, true, refl, sym, ap, ap₂, ◌∙◌, append_assoc, arith}
 use Rattle.std.proofs.lemmas.Bool.{eqb-true}
-use Rattle.std.proofs.lemmas.List.{drop-drop}
+use Rattle.std.proofs.lemmas.List.{drop-drop, length-append}
 use Rattle.std.proofs.Math.Seq.{drop-append_seam}
+use Rattle.std.specs.List.{flat_map}
 use Rattle.std.specs.Prelude.{◌==◌, ◌&&◌}
 use Rattle.byteorder.specs.Endian.{big_bytes, big_from}
 use Rattle.byteorder.specs.Numbers.{big_number-reads_back, big_from-take, length-bytes_high_first}
 use Rattle.cdf_format.specs.Bytes.{Same}
-use Rattle.cdf_format.specs.Fields.{word}
+use Rattle.cdf_format.specs.Fields.{word, words}
 use Rattle.cdf_format.specs.Records.{Field}
+use Rattle.cdf_format.specs.Shape.{Each}
 use Rattle.cdf_format.proofs.BytesLemmas.{word_kept}
 use Rattle.cdf_format.proofs.Pieces.{word_of_piece_lem}
 use Rattle.cdf_format.proofs.Tests.{both}
@@ -49,6 +51,28 @@ says_laid_out b place at ((f, n) ∷ more) rest e o fit =
   where
     move : (p a w : ℕ) → p + (a + w) ≡ p + a + w
     move p a w = omega arith
+
+-- numbers of 4 bytes, one behind the other
+pub words_laid_out : (b : List ℕ) (at : ℕ) (ns rest : List ℕ) → drop at b ≡ flat_map (big_bytes 4) ns ++ rest → Each (λ n. n < 256 ^ 4) ns → (words b at (length ns) ≡ ns) × (drop (at + 4 * length ns) b ≡ rest)
+words_laid_out b at [] rest e fit = (refl, ap (λ (x : ℕ). drop x b) (none at) ∙ e)
+  where
+    none : (x : ℕ) → x + 4 * 0 ≡ x
+    none x = omega arith
+words_laid_out b at (n ∷ ns) rest e fit =
+    let xs = big_bytes 4 n in
+    let next = flat_map (big_bytes 4) ns ++ rest in
+    let split : drop at b ≡ xs ++ next = e ∙ append_assoc xs (flat_map (big_bytes 4) ns) rest in
+    let long : length xs ≡ 4 = length-bytes_high_first 4 n in
+    let after : drop (at + 4) b ≡ next = sym (drop-drop 4 at b) ∙ ap (drop 4) split ∙ ap (λ (k : ℕ). drop k (xs ++ next)) (sym long) ∙ drop-append_seam xs next in
+    let others = words_laid_out b (at + 4) ns rest after fit.1 in
+    (ap₂ (λ (x : ℕ) (more : List ℕ). x ∷ more) (word_there b at 4 n next split fit.0) others.0, ap (λ (x : ℕ). drop x b) (move at (length ns)) ∙ others.1)
+  where
+    move : (p k : ℕ) → p + 4 * suc k ≡ p + 4 + 4 * k
+    move p k = omega arith
+
+pub length-words : (ns : List ℕ) → length (flat_map (big_bytes 4) ns) ≡ 4 * length ns
+length-words [] = refl
+length-words (n ∷ ns) = let r = length-words ns in let l = length-bytes_high_first 4 n in omega (arith, length-append (big_bytes 4 n) (flat_map (big_bytes 4) ns))
 
 -- in a record that was placed
 pub placed_says : {b filled body : List ℕ} {place : ℕ} (fields : List (Field × ℕ)) (rest : List ℕ) → Placed b filled body place → body ≡ laid_out fields ++ rest → are_in_order 8 fields ≡ true → AllFit fields → Says filled place fields × ((more : List ℕ) × (drop (place + end_of 8 fields) filled ≡ rest ++ more))
