@@ -1,7 +1,6 @@
 -- The chain of the attributes, as an image with a shape has it.
-use Rattle.std.proofs.Common.{◌≡◌, ℕ, zero, suc, ◌+◌, ◌-◌, ◌<◌, ◌≤◌, List, [], ◌∷◌, length, slice_index, Some, None, refl, sym, ap, subst, ◌∙◌, arith, inl, inr}
+use Rattle.std.proofs.Common.{◌≡◌, ℕ, zero, suc, ◌+◌, ◌<◌, ◌≤◌, List, [], ◌∷◌, length, slice_index, refl, sym, ap, subst, ◌∙◌, arith, inl, inr}
 use Rattle.std.proofs.lemmas.List.{length-map}
-use Rattle.std.specs.List.{last_or, slice_get}
 use Rattle.cdf_model.specs.Names.{attribute_names}
 use Rattle.cdf_format.specs.Fields.{number, size_at, gdr_offset, LiesIn}
 use Rattle.cdf_format.specs.Records.{gdr_adr_head, adr_name}
@@ -58,12 +57,3 @@ pub index_in : (xs : List ℕ) (n : ℕ) → n < length xs → In (slice_index x
 index_in [] n lt = absurd (omega arith)
 index_in (x ∷ xs) zero lt = inl refl
 index_in (x ∷ xs) (suc n) lt = inr (index_in xs n (omega arith))
-
--- the last one
-pub last_got : (xs : List ℕ) → slice_get xs (length xs - 1) ≡ last_or None xs
-last_got [] = refl
-last_got (x ∷ xs) = let e : length (x ∷ xs) - 1 ≡ length xs = omega arith in ap (slice_get (x ∷ xs)) e ∙ from x xs
-  where
-    from : (x : ℕ) (xs : List ℕ) → slice_get (x ∷ xs) (length xs) ≡ last_or (Some x) xs
-    from x [] = refl
-    from x (y ∷ xs) = from y xs

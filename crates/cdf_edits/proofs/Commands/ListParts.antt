@@ -1,7 +1,7 @@
 -- A list at a number.
-use Rattle.std.proofs.Common.{◌≡◌, ℕ, zero, suc, ◌<◌, List, [], ◌∷◌, ◌++◌, length, map, drop, Option, Some, None, refl, ap, ap₂, append-nil, ◌∙◌, arith}
+use Rattle.std.proofs.Common.{◌≡◌, ℕ, zero, suc, ◌-◌, ◌<◌, List, [], ◌∷◌, ◌++◌, length, map, drop, Option, Some, None, refl, ap, ap₂, append-nil, ◌∙◌, arith}
 use Rattle.std.proofs.lemmas.List.{take_at}
-use Rattle.std.specs.List.{remove, slice_get}
+use Rattle.std.specs.List.{last_or, remove, slice_get}
 
 -- the elements before a number, the one with it, and those after
 pub record Cut {A : Type 0} (xs : List A) (n : ℕ) : Type 0 where
@@ -24,6 +24,15 @@ pub got-map : {A B : Type 0} (f : A → B) (xs : List A) (n : ℕ) (x : A) → s
 got-map f [] n x e = absurd cc
 got-map f (y ∷ xs) zero x e = ap (λ (o : Option _). elim o [ None ↦ None | Some z ↦ Some (f z) ]) e
 got-map f (y ∷ xs) (suc n) x e = got-map f xs n x e
+
+-- the last one
+pub last_got : (xs : List ℕ) → slice_get xs (length xs - 1) ≡ last_or None xs
+last_got [] = refl
+last_got (x ∷ xs) = let e : length (x ∷ xs) - 1 ≡ length xs = omega arith in ap (slice_get (x ∷ xs)) e ∙ from x xs
+  where
+    from : (x : ℕ) (xs : List ℕ) → slice_get (x ∷ xs) (length xs) ≡ last_or (Some x) xs
+    from x [] = refl
+    from x (y ∷ xs) = from y xs
 
 -- one that was put last goes again
 pub last_removed : {A : Type 0} (xs : List A) (x : A) (last : ℕ) → last ≡ length xs → remove (xs ++ x ∷ []) last ≡ xs

@@ -6,7 +6,8 @@ use Rattle.cdf_edits.specs.Space.Adding.{Added}
 use Rattle.cdf_edits.specs.Space.Placing.{IsBody, type_of_body}
 use Rattle.cdf_edits.specs.declared.chain.Chain.TheVariants.{Attrs}
 use Rattle.cdf_attrs.specs.Creating.{scope_code, adr_body}
-use Rattle.cdf_attrs.proofs.AttributeChain.{attribute_members, has_attribute_chain, few_attributes, last_got}
+use Rattle.cdf_edits.proofs.Commands.ListParts.{last_got}
+use Rattle.cdf_attrs.proofs.AttributeChain.{attribute_members, has_attribute_chain, few_attributes}
 use Rattle.cdf_attrs.proofs.AttributesRead.{counted_is}
 use Rattle.cdf_attrs.proofs.Created.{follows, names_now, places_now}
 use Rattle.cdf_edits.proofs.Commands.FineNames.{fine_is_short, fine_has_no_zeros}

@@ -1,7 +1,7 @@
 use Rattle.std.proofs.Common.{◌≡◌, ◌∙◌, ◌+◌, ℕ, List, map, take, drop, sym, ap, subst}
 use Rattle.std.proofs.lemmas.Result.{on_ok_weaker}
 use Rattle.cdf_attrs.specs.Deleting.{write_of}
-use Rattle.cdf_attrs.proofs.AttributeChain.{last_got}
+use Rattle.cdf_edits.proofs.Commands.ListParts.{last_got}
 use Rattle.cdf_edits.specs.Edits.Writes.{Write, numbers_from}
 use Rattle.cdf_edits.proofs.Edits.DeletionCalls.{place_in, sound_there, chain_there, member_there, behind_there, cdr_after, room_after, some_after, lie_after, sound_after, free_after, deletes_by}
 use Rattle.cdf_format.specs.Shape.{shape}

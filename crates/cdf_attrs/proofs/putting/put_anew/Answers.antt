@@ -9,7 +9,7 @@ use Rattle.cdf_edits.specs.Edits.EntryMarks.{entries_chain}
 use Rattle.cdf_attrs.specs.declared.putting.Slot.{Slot}
 use Rattle.cdf_attrs.specs.Known.{KnownEntries, KnowsEntries}
 use Rattle.cdf_attrs.specs.Putting.{IsEntryBody, IsEntryOf, MovedAs}
-use Rattle.cdf_attrs.proofs.AttributeChain.{last_got}
+use Rattle.cdf_edits.proofs.Commands.ListParts.{last_got}
 use Rattle.cdf_attrs.proofs.EntryTakenAt.{stands_behind}
 use Rattle.cdf_attrs.proofs.EntryWritten.{length-body}
 use Rattle.cdf_attrs.proofs.MovedValue.{puts, knows_now}

@@ -6,7 +6,7 @@ use Rattle.cdf_edits.specs.Space.Placing.{IsBody, type_of_body}
 use Rattle.cdf_attrs.specs.declared.putting.Slot.{Slot}
 use Rattle.cdf_attrs.specs.Known.{KnownEntries, KnowsEntries}
 use Rattle.cdf_attrs.specs.Putting.{PushedAs, new_reserved}
-use Rattle.cdf_attrs.proofs.AttributeChain.{last_got}
+use Rattle.cdf_edits.proofs.Commands.ListParts.{last_got}
 use Rattle.cdf_attrs.proofs.EntryWritten.{length-body, type_in_body, aedr_is_body}
 use Rattle.cdf_attrs.proofs.PushedValue.{puts, knows_now}
 use Rattle.cdf_attrs.proofs.PutCalls.{body_of, holder, has_chain, few, places_known, type_of_kind}

@@ -11,7 +11,7 @@ use Rattle.cdf_attrs.specs.Known.{KnownEntries}
 use Rattle.cdf_attrs.specs.Putting.{IsEntryOf, RemovedAs}
 use Rattle.cdf_edits.specs.Edits.EntryMarks.{entries_chain}
 use Rattle.cdf_attrs.specs.Removing.{IsGreatest}
-use Rattle.cdf_attrs.proofs.AttributeChain.{last_got}
+use Rattle.cdf_edits.proofs.Commands.ListParts.{last_got}
 use Rattle.cdf_attrs.proofs.EntryTakenAt.{of_entry, all_from, left_fits, left_small, left_written, stands_behind, index_same}
 use Rattle.cdf_attrs.proofs.GreatestNumber.{greatest_fits}
 use Rattle.cdf_model.specs.declared.kinds.EntryKind.{EntryKind}
