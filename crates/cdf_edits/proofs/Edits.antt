@@ -44,6 +44,7 @@ pub mod Splice
 pub mod StepEdits
 pub mod UnlinkedAttribute
 pub mod UnlinkingSteps
+pub mod VariableCopied
 pub mod VariableFrame
 pub mod VariableKinds
 pub mod VariableNames

@@ -2,4 +2,5 @@ pub mod FirstRules
 pub mod OfAttributes
 pub mod OfIndexes
 pub mod OfVariables
+pub mod OfVdrCopied
 pub mod WithoutLinks

@@ -80,7 +80,7 @@ module _ (b now : List ℕ) (m : ℕ) (k : KeptButLink b now m) where
 less : (a p s : ℕ) → a + p ≤ s → a ≤ s
 less a p s h = omega arith
 
-if_same : {A : Type 0} (p q : Bool) (x y x' y' : A) → p ≡ q → (q ≡ true → x ≡ x') → (q ≡ false → y ≡ y') → (if p then x else y) ≡ (if q then x' else y')
+pub if_same : {A : Type 0} (p q : Bool) (x y x' y' : A) → p ≡ q → (q ≡ true → x ≡ x') → (q ≡ false → y ≡ y') → (if p then x else y) ≡ (if q then x' else y')
 if_same true true x y x' y' e f g = f refl
 if_same true false x y x' y' e f g = absurd cc
 if_same false true x y x' y' e f g = absurd cc
@@ -132,15 +132,15 @@ module _ (b now : List ℕ) (file : FileSame b now) where
 
 -- ---- variables
 
-pad_place : (p : Bool) (d n : ℕ) → p ≡ true → (if p then vdr_z_pad_value d n else vdr_r_pad_value d n).place ≡ 344 + 8 * d
+pub pad_place : (p : Bool) (d n : ℕ) → p ≡ true → (if p then vdr_z_pad_value d n else vdr_r_pad_value d n).place ≡ 344 + 8 * d
 pad_place true d n e = refl
 pad_place false d n e = absurd cc
 
-pad_long : (p : Bool) (d n : ℕ) → 340 ≤ (if p then vdr_z_pad_value d n else vdr_r_pad_value d n).place
+pub pad_long : (p : Bool) (d n : ℕ) → 340 ≤ (if p then vdr_z_pad_value d n else vdr_r_pad_value d n).place
 pad_long true d n = omega arith
 pad_long false d n = omega arith
 
-pad_width : (p : Bool) (d n : ℕ) → (if p then vdr_z_pad_value d n else vdr_r_pad_value d n).width ≡ n
+pub pad_width : (p : Bool) (d n : ℕ) → (if p then vdr_z_pad_value d n else vdr_r_pad_value d n).width ≡ n
 pad_width true d n = refl
 pad_width false d n = refl
 
@@ -148,11 +148,11 @@ vary_late : (p : Bool) (d : ℕ) → 20 ≤ (if p then vdr_z_dim_vary d 0 else v
 vary_late true d = omega arith
 vary_late false d = omega arith
 
-vary_fits : (p : Bool) (d n : ℕ) → (if p then vdr_z_dim_vary d 0 else vdr_r_dim_vary 0).place + 4 * d ≤ (if p then vdr_z_pad_value d n else vdr_r_pad_value d n).place
+pub vary_fits : (p : Bool) (d n : ℕ) → (if p then vdr_z_dim_vary d 0 else vdr_r_dim_vary 0).place + 4 * d ≤ (if p then vdr_z_pad_value d n else vdr_r_pad_value d n).place
 vary_fits true d n = omega arith
 vary_fits false d n = omega arith
 
-end_fits : (q : Bool) (p w s : ℕ) → p + (if q then w else 0) ≤ s → q ≡ true → p + w ≤ s
+pub end_fits : (q : Bool) (p w s : ℕ) → p + (if q then w else 0) ≤ s → q ≡ true → p + w ≤ s
 end_fits true p w s h e = h
 end_fits false p w s h e = absurd cc
 

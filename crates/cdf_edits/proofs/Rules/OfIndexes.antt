@@ -14,7 +14,7 @@ use Rattle.cdf_format.specs.Index.{Nodes, no_node, node, Entries, no_entry, bloc
 use Rattle.cdf_format.specs.Shape.{is_compressed}
 use Rattle.cdf_format.specs.NotRead.{unread_lower}
 use Rattle.cdf_format.specs.VariableRules.{vdr_end}
-use Rattle.cdf_format.specs.VariableFields.{number_before}
+use Rattle.cdf_format.specs.VariableFields.{number_before, plain_size}
 use Rattle.cdf_format.specs.IndexRules.{has_room, is_between, end_of, nodes_rows, used_rows, unpacks_to, holds_packed, vvr_rows, cvvr_rows, leaf_rows, index_rows}
 use Rattle.cdf_format.specs.Sound.{NodeFits}
 use Rattle.cdf_format.proofs.Members.{In-append_left, In-append_right}
@@ -60,20 +60,20 @@ module _ (b now records : List ℕ) (same : SameHeads b now records records) whe
         let rest = used_same vxr (with_sign last) high entries (λ m i. k m (In-append_right m (nodes_of nodes) (lower_nodes entries) i)) (λ m i. fits m (In-append_right m (nodes_of nodes) (lower_nodes entries) i)) in
         λ i. row 4 vxr (is_between low high first last) ∷ unread_lower vxr ++ below i ++ rest i
 
-  module _ (file : FileSame b now) (fixed : (m : ℕ) → In m records → fixed_size (type_at b m) ≤ size_at b m) (v : ℕ) (k : KeptButLink b now v) (fits : vdr_end b v ≤ size_at b v) where
-    vvr_same : (leaf : Leaf) → Kept b now leaf.place → vvr_rows now v leaf ≡ vvr_rows b v leaf
+  -- of a variable whose VDR may stand at another place, with the flag and the sizes that its blocks are read by
+  module _ (file : FileSame b now) (fixed : (m : ℕ) → In m records → fixed_size (type_at b m) ≤ size_at b m) (v v' : ℕ) (packed : is_compressed now v' ≡ is_compressed b v) (plain_same : (leaf : Leaf) → plain_size now v' leaf ≡ plain_size b v leaf) where
+    vvr_same : (leaf : Leaf) → Kept b now leaf.place → vvr_rows now v' leaf ≡ vvr_rows b v leaf
     vvr_same leaf kept =
-        let plain = plain_same b now file v k fits leaf in
+        let plain = plain_same leaf in
         let size = size_kept b now leaf.place kept.same (let l = kept.long in omega arith) in
         λ i. row 5 leaf.place (nat_le (12 + plain i) (size i)) ∷ []
 
     -- given that the rules hold
-    cvvr_same : (leaf : Leaf) → Kept b now leaf.place → 24 ≤ size_at b leaf.place → Hold (cvvr_rows b v leaf) → cvvr_rows now v leaf ≡ cvvr_rows b v leaf
+    cvvr_same : (leaf : Leaf) → Kept b now leaf.place → 24 ≤ size_at b leaf.place → Hold (cvvr_rows b v leaf) → cvvr_rows now v' leaf ≡ cvvr_rows b v leaf
     cvvr_same leaf kept long rules =
         let holds = both (is_compressed b v) (holds_packed b leaf.place) rules.0 in
         let room = le_of (24 + number b leaf.place cvvr_c_size) (size_at b leaf.place) (both (nat_le (number b leaf.place cvvr_c_size) 0x7fffffffffffffff) (nat_le (24 + number b leaf.place cvvr_c_size) (size_at b leaf.place)) holds.1).1 in
-        let packed = compressed_same b now file v k fits in
-        let plain = plain_same b now file v k fits leaf in
+        let plain = plain_same leaf in
         let count = number_kept b now leaf.place kept.same cvvr_c_size (omega arith) in
         let size = size_kept b now leaf.place kept.same (omega arith) in
         let bytes = packed_same b now file leaf.place kept room in
@@ -83,23 +83,28 @@ module _ (b now records : List ℕ) (same : SameHeads b now records records) whe
         ∷ row 8 leaf.place (unpacks_to (bytes i) (plain i))
         ∷ []
 
-    leaf_same : (leaf : Leaf) → Kept b now leaf.place → Hold (leaf_rows b records v leaf) → leaf_rows now records v leaf ≡ leaf_rows b records v leaf
+    leaf_same : (leaf : Leaf) → Kept b now leaf.place → Hold (leaf_rows b records v leaf) → leaf_rows now records v' leaf ≡ leaf_rows b records v leaf
     leaf_same leaf kept rules =
         let parts = Hold-split (asked (is_a b records vvr_type leaf.place) (vvr_rows b v leaf)) (asked (is_a b records cvvr_type leaf.place) (cvvr_rows b v leaf)) rules in
-        let plain = asked_same (is_a now records vvr_type leaf.place) (is_a b records vvr_type leaf.place) (vvr_rows now v leaf) (vvr_rows b v leaf) (is_a_same b now records same vvr_type leaf.place) (λ e. vvr_same leaf kept) in
-        let packed = asked_same (is_a now records cvvr_type leaf.place) (is_a b records cvvr_type leaf.place) (cvvr_rows now v leaf) (cvvr_rows b v leaf) (is_a_same b now records same cvvr_type leaf.place) (λ e.
+        let plain = asked_same (is_a now records vvr_type leaf.place) (is_a b records vvr_type leaf.place) (vvr_rows now v' leaf) (vvr_rows b v leaf) (is_a_same b now records same vvr_type leaf.place) (λ e. vvr_same leaf kept) in
+        let blocks = asked_same (is_a now records cvvr_type leaf.place) (is_a b records cvvr_type leaf.place) (cvvr_rows now v' leaf) (cvvr_rows b v leaf) (is_a_same b now records same cvvr_type leaf.place) (λ e.
         let long : 24 ≤ size_at b leaf.place = subst (λ (t : ℕ). fixed_size t ≤ size_at b leaf.place) (is_a-type b records cvvr_type leaf.place e) (fixed leaf.place (is_a-in b records cvvr_type leaf.place e)) in
         cvvr_same leaf kept long (Hold-asked (is_a b records cvvr_type leaf.place) (cvvr_rows b v leaf) parts.1 e)) in
-        λ i. plain i ++ packed i
+        λ i. plain i ++ blocks i
 
-    leaves_rules : (leaves : List Leaf) → ((m : ℕ) → In m (map (λ (leaf : Leaf). leaf.place) leaves) → Kept b now m) → Hold (flat_map (leaf_rows b records v) leaves) → Hold (flat_map (leaf_rows now records v) leaves)
+    leaves_rules : (leaves : List Leaf) → ((m : ℕ) → In m (map (λ (leaf : Leaf). leaf.place) leaves) → Kept b now m) → Hold (flat_map (leaf_rows b records v) leaves) → Hold (flat_map (leaf_rows now records v') leaves)
     leaves_rules [] kept rules = tt
     leaves_rules (leaf ∷ more) kept rules =
         let parts = Hold-split (leaf_rows b records v leaf) (flat_map (leaf_rows b records v) more) rules in
-        Hold-append (leaf_rows now records v leaf) (flat_map (leaf_rows now records v) more) (subst Hold (sym (leaf_same leaf (kept leaf.place (inl refl)) parts.0)) parts.0) (leaves_rules more (λ m i. kept m (inr i)) parts.1)
+        Hold-append (leaf_rows now records v' leaf) (flat_map (leaf_rows now records v') more) (subst Hold (sym (leaf_same leaf (kept leaf.place (inl refl)) parts.0)) parts.0) (leaves_rules more (λ m i. kept m (inr i)) parts.1)
 
-    pub index_rules_kept : (nodes : Nodes) → ((m : ℕ) → In m (nodes_of nodes) → Kept b now m) → ((m : ℕ) → In m (nodes_of nodes) → NodeFits b m) → ((m : ℕ) → In m (map (λ (leaf : Leaf). leaf.place) (leaves_of nodes)) → Kept b now m)
-        → Hold (index_rows b records v nodes) → Hold (index_rows now records v nodes)
-    index_rules_kept nodes kept room blocks rules =
+    pub index_rules_copied : (nodes : Nodes) → ((m : ℕ) → In m (nodes_of nodes) → Kept b now m) → ((m : ℕ) → In m (nodes_of nodes) → NodeFits b m) → ((m : ℕ) → In m (map (λ (leaf : Leaf). leaf.place) (leaves_of nodes)) → Kept b now m)
+        → Hold (index_rows b records v nodes) → Hold (index_rows now records v' nodes)
+    index_rules_copied nodes kept room blocks rules =
         let parts = Hold-split (nodes_rows b records (negsuc 0) (pos record_number_limit) nodes) (flat_map (leaf_rows b records v) (leaves_of nodes)) rules in
-        Hold-append (nodes_rows now records (negsuc 0) (pos record_number_limit) nodes) (flat_map (leaf_rows now records v) (leaves_of nodes)) (subst Hold (sym (nodes_same (negsuc 0) (pos record_number_limit) nodes kept room)) parts.0) (leaves_rules (leaves_of nodes) blocks parts.1)
+        Hold-append (nodes_rows now records (negsuc 0) (pos record_number_limit) nodes) (flat_map (leaf_rows now records v') (leaves_of nodes)) (subst Hold (sym (nodes_same (negsuc 0) (pos record_number_limit) nodes kept room)) parts.0) (leaves_rules (leaves_of nodes) blocks parts.1)
+
+  -- where it stands but for its link
+  pub index_rules_kept : (file : FileSame b now) → ((m : ℕ) → In m records → fixed_size (type_at b m) ≤ size_at b m) → (v : ℕ) → KeptButLink b now v → vdr_end b v ≤ size_at b v → (nodes : Nodes) → ((m : ℕ) → In m (nodes_of nodes) → Kept b now m) → ((m : ℕ) → In m (nodes_of nodes) → NodeFits b m)
+      → ((m : ℕ) → In m (map (λ (leaf : Leaf). leaf.place) (leaves_of nodes)) → Kept b now m) → Hold (index_rows b records v nodes) → Hold (index_rows now records v nodes)
+  index_rules_kept file fixed v k fits = index_rules_copied file fixed v v (compressed_same b now file v k fits) (plain_same b now file v k fits)

@@ -1,0 +1,80 @@
+-- A variable whose VDR stands at another place, or is another where it is, and whose other records an edit leaves: its links, its content and its rules.
+use Rattle.std.proofs.Common.{◌≡◌, ℕ, ◌≤◌, List, [], ◌∷◌, ◌++◌, Bool, true, sym, ap, subst, ◌∙◌, arith, inl, refl}
+use Rattle.std.specs.Prelude.{if◌then◌else◌}
+use Rattle.cdf_format.specs.AttributeRules.{has_name}
+use Rattle.cdf_format.specs.Content.{variable_of}
+use Rattle.cdf_format.specs.Fields.{number, name_in, integer4, size_at}
+use Rattle.cdf_format.specs.Index.{nodes_of, leaves_of}
+use Rattle.cdf_format.specs.IndexRules.{index_rows}
+use Rattle.cdf_format.specs.Records.{vdr_vxr_head, vdr_blocking_factor, vdr_name}
+use Rattle.cdf_format.specs.Rules.{Hold}
+use Rattle.cdf_format.specs.Shape.{VariableShape, Shape, cpr_of, is_compressed, HasVariable}
+use Rattle.cdf_format.specs.Sound.{NodeFits, VariableFits, IsSound}
+use Rattle.cdf_format.specs.Tiles.{In}
+use Rattle.cdf_format.specs.VariableFields.{records_vary, pad_at}
+use Rattle.cdf_format.specs.VariableRules.{vdr_end, cpr_link, is_named_apart, variable_rows}
+use Rattle.cdf_format.proofs.BytesLemmas.{size_kept, type_kept}
+use Rattle.cdf_format.proofs.Members.{In-append_left, In-append_right}
+use Rattle.cdf_edits.specs.Edits.Edit.{Edit}
+use Rattle.cdf_edits.specs.Edits.Marks.{Mark}
+use Rattle.cdf_edits.proofs.Edits.InRecords.{places_of, index_both, index_rows_both}
+use Rattle.cdf_edits.proofs.Edits.RecordFrame.{index_records}
+use Rattle.cdf_edits.proofs.Frame.LinksStay.{SameHeads, index_kept}
+use Rattle.cdf_edits.proofs.Frame.Meaning.{FileSame, Kept}
+use Rattle.cdf_edits.proofs.Frame.OwnerAlone.{Each-in}
+use Rattle.cdf_edits.proofs.Frame.VdrCopied.{VdrCopied, cpr_link_copied, index_link_copied, plain_copied, variable_copied}
+use Rattle.cdf_edits.proofs.Rules.OfIndexes.{index_rules_copied}
+use Rattle.cdf_edits.proofs.Rules.OfVdrCopied.{cpr_stays, variable_rules_copied}
+
+-- its nodes, its blocks and its parameters
+module _ (own : VariableShape) where
+  pub node_behind : (m : ℕ) → In m (nodes_of own.index) → In m (index_records own)
+  node_behind m i = In-append_left m (nodes_of own.index ++ places_of (leaves_of own.index)) own.cpr (In-append_left m (nodes_of own.index) (places_of (leaves_of own.index)) i)
+
+  pub block_behind : (m : ℕ) → In m (places_of (leaves_of own.index)) → In m (index_records own)
+  block_behind m i = In-append_left m (nodes_of own.index ++ places_of (leaves_of own.index)) own.cpr (In-append_right m (nodes_of own.index) (places_of (leaves_of own.index)) i)
+
+  pub cpr_behind : (m : ℕ) → In m own.cpr → In m (index_records own)
+  cpr_behind m i = In-append_right m (nodes_of own.index ++ places_of (leaves_of own.index)) own.cpr i
+
+module _ {b now : List ℕ} {s : Shape} {new : List ℕ} {marks : List Mark} {reborn : List ℕ} (sound : IsSound b s) (e : Edit b now s.records new marks reborn) (file : FileSame b now) (own : VariableShape) (has : HasVariable b s.records own) (fits : VariableFits b s.records own)
+    (stand : (m : ℕ) → In m (index_records own) → In m s.records) (kept : (m : ℕ) → In m (index_records own) → Kept b now m) {v' : ℕ} (k : VdrCopied b now own.vdr v') (packed : is_compressed now v' ≡ is_compressed b own.vdr) where
+  heads : (records : List ℕ) → ((m : ℕ) → In m (index_records own) → In m records) → SameHeads b now (index_records own) records
+  heads records sub = record {
+    sizes = λ m i. let x = kept m i in size_kept b now m x.same (let l = x.long in omega arith);
+    types = λ m i. let x = kept m i in type_kept b now m x.same x.long;
+    sub = sub;
+  }
+
+  pub links_copied : HasVariable now new (record own { vdr = v' })
+  links_copied =
+      let mine = index_records own in
+      let link = cpr_link_copied file k in
+      let cpr : cpr_of now v' ≡ cpr_of b own.vdr = λ i. if packed i then link i ∷ [] else [] in
+      let index = index_both b s.records mine (number b own.vdr vdr_vxr_head) own.index (λ m i. (stand m (node_behind own m i), node_behind own m i)) (λ m i. (stand m (block_behind own m i), block_behind own m i)) has.indexed in
+      record {
+        indexed = index_kept b now mine new (heads new (λ m i. e.sub m (stand m i))) (number b own.vdr vdr_vxr_head) (number now v' vdr_vxr_head) own.index index (index_link_copied file k)
+            (λ m i. kept m (node_behind own m i)) (Each-in (NodeFits b) (nodes_of own.index) fits.1) (block_behind own);
+        packed_by = cpr ∙ has.packed_by;
+      }
+
+  pub content_copied : variable_of now (record own { vdr = v' }) ≡ record (variable_of b own) { name = name_in now v' vdr_name; vary = records_vary now v'; rle = is_compressed now v'; blocking = integer4 now v' vdr_blocking_factor; pad = pad_at now v' }
+  content_copied = variable_copied file own (record own { vdr = v' }) s.records k refl (λ m i. kept m (block_behind own m i)) fits.2
+
+  pub index_rules_stay : Hold (index_rows b s.records own.vdr own.index) → Hold (index_rows now new v' own.index)
+  index_rules_stay rules =
+      let mine = index_records own in
+      let there : Hold (index_rows b mine own.vdr own.index) = subst Hold (sym (index_rows_both b s.records mine own.vdr own.index (λ m i. (stand m (block_behind own m i), block_behind own m i)))) rules in
+      subst Hold (sym (index_rows_both now mine new v' own.index (λ m i. (block_behind own m i, e.sub m (stand m (block_behind own m i))))))
+      (index_rules_copied b now mine (heads mine (λ m i. i)) file (λ m i. sound.has_shape.fixed m (stand m i)) own.vdr v' packed (plain_copied file k) own.index (λ m i. kept m (node_behind own m i)) (Each-in (NodeFits b) (nodes_of own.index) fits.1)
+      (λ m i. kept m (block_behind own m i)) there)
+
+  cpr_own : is_compressed b own.vdr ≡ true → In (cpr_link b own.vdr) (index_records own)
+  cpr_own c =
+      let there : own.cpr ≡ cpr_link b own.vdr ∷ [] = sym has.packed_by ∙ ap (λ (p : Bool). if p then cpr_link b own.vdr ∷ [] else []) c in
+      cpr_behind own (cpr_link b own.vdr) (subst (λ (x : List ℕ). In (cpr_link b own.vdr) x) (sym there) (inl refl))
+
+  pub rules_stay : (ids ids' : List ℕ) → Hold (variable_rows b s.records ids own.vdr) → has_name now v' vdr_name ≡ true → is_named_apart now ids' v' ≡ true → vdr_end now v' ≤ size_at now v' → size_at b own.vdr ≤ size_at now v' → Hold (variable_rows now new ids' v')
+  rules_stay ids ids' rules named apart ends larger =
+      variable_rules_copied file k larger s.records new ids ids' rules named apart ends packed
+      (λ c is. cpr_stays b now s.records new (cpr_link b own.vdr) is (kept (cpr_link b own.vdr) (cpr_own c)) (e.sub (cpr_link b own.vdr) (stand (cpr_link b own.vdr) (cpr_own c))))
