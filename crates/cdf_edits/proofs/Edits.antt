@@ -46,8 +46,11 @@ pub mod UnlinkedAttribute
 pub mod UnlinkingSteps
 pub mod VariableCopied
 pub mod VariableFrame
+pub mod VariableKept
 pub mod VariableKinds
 pub mod VariableNames
 pub mod VariableSplice
 pub mod VariablesLinked
+pub mod VdrEdited
+pub mod VdrWritten
 pub mod WrittenFields

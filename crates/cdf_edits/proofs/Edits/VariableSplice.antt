@@ -242,7 +242,7 @@ module _ {b now : List ℕ} {s : Shape} {kind : Kind} {new list : List ℕ} {mar
       by_kind (λ k vs. Hold (vdrs_rows k now (vdrs vs))) kind s variables' rules.counted (subst Hold (sym same) (counted_before good (other_kind kind)))
 
   -- each variable had its rules
-  parts_ruled : IsGoodByShape b s → (Each (IsRuled b s.records) before × (Each (IsRuled b s.records) own × Each (IsRuled b s.records) after)) × Each (IsRuled b s.records) others
+  pub parts_ruled : IsGoodByShape b s → (Each (IsRuled b s.records) before × (Each (IsRuled b s.records) own × Each (IsRuled b s.records) after)) × Each (IsRuled b s.records) others
   parts_ruled good =
       let ruled = IsRuled b s.records in
       let all = all_ruled b s.records (vdrs (variables s)) (variables s) good.of_variables good.indexes in

@@ -1,0 +1,167 @@
+-- BlockingFactor or Name of a VDR is written where it stands.
+use Rattle.std.proofs.Common.{◌≡◌, ◌⊎◌, ℕ, ◌+◌, ◌≤◌, List, [], ◌∷◌, length, true, refl, sym, ap, subst, ◌∙◌, arith, inl, inr}
+use Rattle.std.specs.Int.{w32, cast_signed}
+use Rattle.std.specs.List.{before_first}
+use Rattle.std.specs.Prelude.{◌==◌, if◌then◌else◌}
+use Rattle.cdf_model.specs.declared.kinds.Kind.{Kind}
+use Rattle.cdf_model.specs.declared.kinds.Kind.TheVariants.{R, Z}
+use Rattle.cdf_format.specs.Bytes.{Same}
+use Rattle.cdf_format.specs.Content.{variable_of}
+use Rattle.cdf_format.specs.Fields.{number, name_in, integer4, has_bit, size_at}
+use Rattle.cdf_format.specs.Records.{Field, vdr_flags, vdr_blocking_factor, vdr_name}
+use Rattle.cdf_format.specs.Shape.{VariableShape, Shape, is_compressed, HasShape, shape}
+use Rattle.cdf_format.specs.Sound.{IsSound}
+use Rattle.cdf_format.specs.Stored.{field_bytes}
+use Rattle.cdf_format.specs.Tiles.{In}
+use Rattle.cdf_format.specs.VariableFields.{is_z, dimensions_at, value_bytes, has_pad, pad_field, pad_at}
+use Rattle.cdf_format.specs.VariableRules.{vdr_end}
+use Rattle.cdf_format.specs.WellFormed.{Good}
+use Rattle.cdf_format.proofs.BytesLemmas.{word_kept, piece_kept}
+use Rattle.cdf_format.proofs.GoodSound.{good_is_sound}
+use Rattle.cdf_format.proofs.Tests.{of_le}
+use Rattle.cdf_format.proofs.TilesLemmas.{tile_lies}
+use Rattle.cdf_edits.specs.Edits.Edit.{Edit}
+use Rattle.cdf_edits.specs.Edits.Marks.{Mark, Avoids, Within, field_marks}
+use Rattle.cdf_edits.specs.Frame.Changed.{touched_field, Changed}
+use Rattle.cdf_edits.specs.Space.Chains.{type_in}
+use Rattle.cdf_edits.specs.Space.VariableChains.{variables_chain}
+use Rattle.cdf_edits.proofs.Edits.Composing.{head_type}
+use Rattle.cdf_edits.proofs.Edits.RecordFrame.{file_same}
+use Rattle.cdf_edits.proofs.Edits.VdrEdited.{StandsAmong, EditsVdr, MarkTests, through, tile, typed, long, has, fits, behind_in, behind_kept, file}
+use Rattle.cdf_edits.proofs.Edits.StepEdits.{field_edit}
+use Rattle.cdf_edits.proofs.Edits.VariableCopied.{content_copied}
+use Rattle.cdf_edits.proofs.Frame.Meaning.{FileSame, pad_long, pad_width, end_fits}
+use Rattle.cdf_edits.proofs.Frame.VdrCopied.{VdrCopied, copied_in_place, pad_copied, pad_field_copied, value_copied}
+
+-- a field of the record at a place, behind CPRorSPRoffset of a VDR and before its dimensions, is written, and no other byte changes
+pub record WritesVdr (b now : List ℕ) (v : ℕ) (f : Field) : Type 0 where
+  pub late : 80 ≤ f.place
+  pub early : f.place + f.width ≤ 340
+  pub changed : Changed b now (touched_field v f ∷ [])
+  pub as_long : length now ≡ length b
+
+field_tests : (kind : Kind) (v : ℕ) (f : Field) → MarkTests kind (field_marks (type_in (variables_chain kind)) v f)
+field_tests R v f = record { file_clear = refl; attributes_clear = refl; other_clear = refl; index_clear = refl; unused_clear = refl; gdr_clear = λ lo hi. refl }
+field_tests Z v f = record { file_clear = refl; attributes_clear = refl; other_clear = refl; index_clear = refl; unused_clear = refl; gdr_clear = λ lo hi. refl }
+
+less : (a p s : ℕ) → a + p ≤ s → a ≤ s
+less a p s h = omega arith
+
+module _ {b now : List ℕ} {kind : Kind} {before : List VariableShape} {own : VariableShape} {after : List VariableShape} {f : Field} (good : Good b) (at : StandsAmong b kind before own after) (w : WritesVdr b now own.vdr f) where
+  abbrev s : Shape
+  s = shape b
+
+  abbrev v : ℕ
+  v = own.vdr
+
+  abbrev type : ℕ
+  type = type_in (variables_chain kind)
+
+  abbrev marks : List Mark
+  marks = field_marks type v f
+
+  sound : IsSound b s
+  sound = good_is_sound b good
+
+  h : HasShape b s
+  h = sound.has_shape
+
+  is_in_records : In v s.records
+  is_in_records = tile good at
+
+  wide : 340 ≤ size_at b v
+  wide = long good at
+
+  edit : Edit b now s.records s.records marks []
+  edit = field_edit b now s h v type f is_in_records (typed good at) (through (f.place + f.width) 340 (size_at b v) w.early wide) (let l = w.late in omega arith) w.changed w.as_long
+
+  -- the field may change
+  pub marks_within : Within marks type v (f ∷ [])
+  marks_within = ((λ same lies. rw (of_le f.place f.place (omega arith), of_le (f.place + f.width) (f.place + f.width) (omega arith)) refl), tt)
+
+  beside : (of m lo hi : ℕ) → (hi ≤ f.place) ⊎ (f.place + f.width ≤ lo) → Avoids marks of m lo hi
+  beside of m lo hi side = ((λ same lies. side), tt)
+
+  early_side : (of m lo hi : ℕ) → hi ≤ 80 → Avoids marks of m lo hi
+  early_side of m lo hi l = beside of m lo hi (inl (through hi 80 f.place l w.late))
+
+  part : (lo hi : ℕ) → (hi ≤ f.place) ⊎ (f.place + f.width ≤ lo) → hi ≤ size_at b v → Same b now (v + lo) (v + hi)
+  part lo hi side fits = edit.part v type lo hi is_in_records (typed good at) (early_side type v 0 12 (omega arith)) (beside type v lo hi side) fits
+
+  first_part : (lo hi : ℕ) → hi ≤ 80 → Same b now (v + lo) (v + hi)
+  first_part lo hi l = part lo hi (inl (through hi 80 f.place l w.late)) (let n = wide in omega arith)
+
+  same_file : FileSame b now
+  same_file = file_same sound edit (field_tests kind v f).file_clear
+
+  pad_fits : (pad_field b v).place ≤ size_at b v
+  pad_fits = less (pad_field b v).place _ (size_at b v) (fits good at).0
+
+  pad_late : 340 ≤ (pad_field b v).place
+  pad_late = pad_long (is_z b v) (dimensions_at b v) (value_bytes b v)
+
+  last_part : (hi : ℕ) → hi ≤ size_at b v → Same b now (v + 340) (v + hi)
+  last_part hi l = part 340 hi (inr w.early) l
+
+  copied : VdrCopied b now v v
+  copied = record {
+    typed = head_type b now v (first_part 0 12 (omega arith));
+    first = copied_in_place b now v 20 44 (first_part 20 44 (omega arith));
+    second = copied_in_place b now v 48 80 (first_part 48 80 (omega arith));
+    behind = copied_in_place b now v 340 (pad_field b v).place (last_part (pad_field b v).place pad_fits);
+  }
+
+  flags_same : number now v vdr_flags ≡ number b v vdr_flags
+  flags_same = word_kept b now (v + 44) (v + 48) (first_part 44 48 (omega arith)) (v + 44) 4 (omega arith) (omega arith)
+
+  packed : is_compressed now v ≡ is_compressed b v
+  packed = ap (λ (n : ℕ). has_bit n 2) flags_same
+
+  pad_bytes : has_pad b v ≡ true → field_bytes now v (pad_field b v) ≡ field_bytes b v (pad_field b v)
+  pad_bytes e =
+      let n = size_at b v in
+      let ends = end_fits (has_pad b v) (pad_field b v).place (value_bytes b v) n (fits good at).0 e in
+      let room : (pad_field b v).place + (pad_field b v).width ≤ n = subst (λ (k : ℕ). (pad_field b v).place + k ≤ n) (sym (pad_width (is_z b v) (dimensions_at b v) (value_bytes b v))) ends in
+      piece_kept b now (v + 340) (v + n) (last_part n (omega arith)) (v + (pad_field b v).place) (pad_field b v).width (from v (pad_field b v).place pad_late) (upto v (pad_field b v).place (pad_field b v).width n room)
+      (tile_lies b 8 (length b) s.records v h.tiled is_in_records).high (let l = w.as_long in omega arith)
+    where
+      from : (v p : ℕ) → 340 ≤ p → v + 340 ≤ v + p
+      from v p l = omega arith
+
+      upto : (v p k n : ℕ) → p + k ≤ n → v + p + k ≤ v + n
+      upto v p k n l = omega arith
+
+  end_same : vdr_end now v ≡ vdr_end b v
+  end_same =
+      let pad = pad_field_copied same_file copied in
+      let flags = flags_same in
+      let value = value_copied same_file copied in
+      λ i. (pad i).place + (if has_bit (flags i) 1 then value i else 0)
+
+  pub edits : EditsVdr b now kind own marks
+  edits = record {
+    edit = edit;
+    as_long = w.as_long;
+    own_marks = (refl, (let l = w.late in omega arith), tt);
+    tests = field_tests kind v f;
+    copied = copied;
+    packed = packed;
+    end_fits = subst (λ (n : ℕ). n ≤ size_at b v) (sym end_same) (fits good at).0;
+  }
+
+  pub meaning : variable_of now own ≡ record (variable_of b own) { name = name_in now v vdr_name; blocking = integer4 now v vdr_blocking_factor }
+  meaning =
+      let flags = flags_same in
+      let pad = pad_copied (file good at edits) copied flags_same pad_bytes in
+      let rest : record (variable_of b own) { name = name_in now v vdr_name; vary = has_bit (number now v vdr_flags) 0; rle = has_bit (number now v vdr_flags) 2; blocking = integer4 now v vdr_blocking_factor; pad = pad_at now v } ≡ record (variable_of b own) { name = name_in now v vdr_name; blocking = integer4 now v vdr_blocking_factor } =
+      λ i. record (variable_of b own) { name = name_in now v vdr_name; vary = has_bit (flags i) 0; rle = has_bit (flags i) 2; blocking = integer4 now v vdr_blocking_factor; pad = pad i } in
+      content_copied sound edit (file good at edits) own (has good at) (fits good at) (behind_in good at) (behind_kept good at edits) copied packed ∙ rest
+
+  -- each of the two fields stays where the other is written
+  pub name_same : f.place + f.width ≤ 84 → name_in now v vdr_name ≡ name_in b v vdr_name
+  name_same l =
+      let same = part 84 340 (inr l) wide in
+      ap (before_first (λ (x : ℕ). x == 0)) (piece_kept b now (v + 84) (v + 340) same (v + 84) 256 (omega arith) (omega arith) (let high = (tile_lies b 8 (length b) s.records v h.tiled is_in_records).high in let n = wide in omega arith) (let l = w.as_long in omega arith))
+
+  pub blocking_same : 84 ≤ f.place → integer4 now v vdr_blocking_factor ≡ integer4 b v vdr_blocking_factor
+  blocking_same l = ap (cast_signed w32) (word_kept b now (v + 80) (v + 84) (part 80 84 (inl l) (let n = wide in omega arith)) (v + 80) 4 (omega arith) (omega arith))
