@@ -1,14 +1,13 @@
 -- The names of attributes, and what a renaming makes of them.
-use Rattle.std.proofs.Common.{◌≡◌, ℕ, ◌-◌, ◌<◌, List, [], ◌∷◌, ◌++◌, length, take, None, Some, get_or, bytes_eq, sym, ap, ap₂, refl, ◌∙◌, arith}
-use Rattle.std.proofs.lemmas.List.{length-map, length-append, length-set, map-set, set-append_left, take_at}
+use Rattle.std.proofs.Common.{◌≡◌, ℕ, ◌<◌, List, length, None, Some, bytes_eq, sym, ap, ap₂, refl, ◌∙◌, arith}
+use Rattle.std.proofs.lemmas.List.{length-map, map-set}
 use Rattle.std.proofs.lemmas.Option.{slice_get_within}
-use Rattle.std.proofs.Math.Seq.{get_or-append_seam}
 use Rattle.std.specs.Prelude.{slice_set}
 use Rattle.std.specs.List.{position, slice_get}
 use Rattle.cdf_model.specs.AttributeSteps.{with_attribute}
 use Rattle.cdf_model.specs.DataSet.{Attribute, DataSet}
 use Rattle.cdf_model.specs.Names.{attribute_names, attribute_named, numbered}
-use Rattle.cdf_names.specs.Names.{number_of, last_to}
+use Rattle.cdf_names.specs.Names.{number_of}
 use Rattle.cdf_names.proofs.Keys.{number_of-keys, found_at}
 use Rattle.cdf_edits.proofs.Commands.ListParts.{cut, got-middle}
 
@@ -33,17 +32,6 @@ some_named d names name n e found =
     let c = cut d.attributes n (omega arith) in
     let there : slice_get d.attributes n ≡ Some c.own = ap₂ (λ (xs : List Attribute) (k : ℕ). slice_get xs k) c.is (sym c.count) ∙ got-middle c.before c.own c.after in
     (c.own, named_there d names name n c.own e found there)
-
--- a name that was put last, and then took a number
-pub last_moved : (names : List (List ℕ)) (to : List ℕ) (n : ℕ) → n < length names → last_to (names ++ to ∷ []) n ≡ slice_set names n to
-last_moved names to n lt =
-    let long : length (names ++ to ∷ []) - 1 ≡ length names = omega (arith, length-append names (to ∷ [])) in
-    let last : get_or (names ++ to ∷ []) (length names) [] ≡ to = get_or-append_seam names to [] [] in
-    let set = set-append_left names (to ∷ []) n to lt in
-    ap (λ (k : ℕ). take k (slice_set (names ++ to ∷ []) n (get_or (names ++ to ∷ []) k []))) long
-    ∙ ap (λ (x : List ℕ). take (length names) (slice_set (names ++ to ∷ []) n x)) last
-    ∙ ap (take (length names)) set
-    ∙ take_at (slice_set names n to) (to ∷ []) (length names) (length-set names n to)
 
 pub renamed_names : (d : DataSet) (n : ℕ) (a : Attribute) (to : List ℕ) → attribute_names (with_attribute d n (record a { name = to })) ≡ slice_set (attribute_names d) n to
 renamed_names d n a to = map-set (λ (x : Attribute). x.name) d.attributes n (record a { name = to })

@@ -1,6 +1,6 @@
 -- What the calls of a renaming come to.
-use Rattle.std.proofs.Common.{◌≡◌, ℕ, ◌+◌, ◌-◌, ◌<◌, ◌≤◌, List, [], ◌∷◌, ◌++◌, length, map, take, drop, replicate, true, false, Some, None, refl, sym, ap, ap₂, subst, ◌∙◌, arith, inl, inr}
-use Rattle.std.proofs.lemmas.List.{length-append, length-replicate, length-map, map-append, take_at}
+use Rattle.std.proofs.Common.{◌≡◌, ℕ, ◌<◌, ◌≤◌, List, [], ◌∷◌, ◌++◌, length, map, true, false, Some, None, refl, sym, ap, ap₂, subst, ◌∙◌, arith, inl, inr}
+use Rattle.std.proofs.lemmas.List.{length-map, map-append}
 use Rattle.std.proofs.Math.Seq.{get_or-append_seam}
 use Rattle.std.specs.Prelude.{slice_index, slice_set}
 use Rattle.std.specs.List.{slice_get}
@@ -16,46 +16,34 @@ use Rattle.cdf_model.specs.Step.{ByStep}
 use Rattle.cdf_names.specs.Names.{has_name, number_of, last_to}
 use Rattle.cdf_format.specs.Fields.{LiesIn, with_name}
 use Rattle.cdf_format.specs.Records.{adr_name}
-use Rattle.cdf_edits.specs.Commands.NewRecords.{IsFilled}
 use Rattle.cdf_format.specs.Content.{content, attribute_of}
 use Rattle.cdf_edits.specs.Answers.{Answers}
 use Rattle.cdf_format.specs.Shape.{AttributeShape, adrs, shape}
 use Rattle.cdf_format.specs.Tiles.{In}
 use Rattle.cdf_format.specs.WellFormed.{Good}
-use Rattle.cdf_format.proofs.BytesLemmas.{length-put}
-use Rattle.cdf_edits.proofs.Frame.ChangedBytes.{changed_put}
+use Rattle.cdf_edits.proofs.Edits.NameWritten.{name_filled, length-with_name, name_changed}
 use Rattle.cdf_format.proofs.GoodSound.{good_is_sound}
 use Rattle.cdf_format.proofs.ShapeLemmas.{content_is}
 use Rattle.cdf_edits.proofs.Commands.Answered.{refused, gone}
 use Rattle.cdf_fields.proofs.NamesWritten.{name_reads}
-use Rattle.cdf_fields.proofs.Writes.{drop-put_there}
 use Rattle.cdf_attrs.specs.Renaming.{Renamed}
 use Rattle.cdf_edits.proofs.Commands.FineNames.{fine_is_short, fine_has_no_zeros}
 use Rattle.cdf_edits.proofs.Commands.ListParts.{Cut, cut, got-middle, got-map}
-use Rattle.cdf_attrs.proofs.NamesChanged.{none_named, number_within, named_there, some_named, last_moved, renamed_names}
+use Rattle.cdf_names.proofs.Moved.{last_moved}
+use Rattle.cdf_attrs.proofs.NamesChanged.{none_named, number_within, named_there, some_named, renamed_names}
 use Rattle.cdf_attrs.proofs.AttributeChain.{name_lies, few_attributes, names_count}
 use Rattle.cdf_attrs.proofs.Renamed.{same_shape, content_now, rename_missing, rename_bad, rename_taken, rename_goes, rename_follows}
 
 -- ---- the Name
 
-name_fills : (b : List ℕ) (place : ℕ) (to : List ℕ) → LiesIn b place adr_name → length to ≤ 256 → IsFilled (with_name b place adr_name to) place adr_name to
-unfolding with_name
-name_fills b place to lies short =
-    let xs = to ++ replicate (256 - length to) 0 in
-    let long : length xs ≡ 256 = omega (arith, length-append to (replicate (256 - length to) 0), length-replicate {A = ℕ} (256 - length to) 0) in
-    ap (take 256) (drop-put_there b xs (place + 68) (omega arith)) ∙ take_at xs (drop (place + 68 + length xs) b) 256 long
-
 pub name_written : (b : List ℕ) (place : ℕ) (to : List ℕ) → LiesIn b place adr_name → is_bad_name to ≡ false → Renamed b (with_name b place adr_name to) place to
-unfolding with_name
 name_written b place to lies fine =
     let short = fine_is_short to fine in
-    let xs = to ++ replicate (256 - length to) 0 in
-    let long : length xs ≡ 256 = omega (arith, length-append to (replicate (256 - length to) 0), length-replicate {A = ℕ} (256 - length to) 0) in
     record {
       name_is = name_reads b place adr_name to lies short (fine_has_no_zeros to fine);
-      filled = name_fills b place to lies short;
-      length_stays = length-put b (place + 68) xs (omega arith);
-      changed = changed_put b place 68 256 xs long lies;
+      filled = name_filled b place adr_name to lies short;
+      length_stays = length-with_name b place adr_name to lies short;
+      changed = name_changed b place adr_name to lies short;
     }
 
 -- ---- the reasons

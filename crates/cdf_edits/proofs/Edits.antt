@@ -29,6 +29,7 @@ pub mod LeftEntry
 pub mod MarkLemmas
 pub mod MovedEntry
 pub mod MovedFreed
+pub mod NameWritten
 pub mod NumberedItems
 pub mod OneChain
 pub mod OneSpliced
