@@ -3,3 +3,9 @@ pub mod VariableChains
 pub mod VariableFound
 pub mod VariableNames
 pub mod VariablesRead
+pub mod RenamingSteps
+pub mod Renamed
+pub mod RenameCalls
+pub mod VariableParts
+pub mod KnownChanged
+pub mod RenameAnswers

@@ -3,6 +3,7 @@
 
 mod chain;
 mod reading;
+mod renaming;
 mod vars;
 
 pub use vars::{VarId, Vars};
