@@ -6,6 +6,10 @@ pub mod VariablesRead
 pub mod RenamingSteps
 pub mod Renamed
 pub mod RenameCalls
+pub mod BlockingSteps
+pub mod Blocked
+pub mod BlockingCalls
 pub mod VariableParts
 pub mod KnownChanged
 pub mod RenameAnswers
+pub mod BlockingAnswers

@@ -1,6 +1,7 @@
 //! The variables of a file: made, changed, deleted and listed in place.
 #![tactic(auto)]
 
+mod blocking;
 mod chain;
 mod reading;
 mod renaming;

@@ -1,6 +1,6 @@
 //! The variables of a file as a command meets them.
 
-ghost use Rattle.std.specs.Prelude.{◌≡◌, ◌++◌, ℕ, List, is_some, IfOk, OnOk};
+ghost use Rattle.std.specs.Prelude.{◌≡◌, ◌<◌, ◌++◌, ℕ, List, is_some, length, slice_index, IfOk, OnOk};
 ghost use Rattle.std.specs.Option.{option_map};
 ghost use Rattle.cdf_area.specs.Calls.{Reads};
 ghost use Rattle.cdf_edits.specs.Commands.Allowances.{shapes_of};
@@ -12,7 +12,7 @@ ghost use Rattle.cdf_model.specs.Listing.{variable_items};
 ghost use Rattle.cdf_model.specs.Names.{is_among, variable_named, variables_of};
 ghost use Rattle.cdf_names.specs.Names.{has_name};
 ghost use Rattle.cdf_vars.specs.Finding.{found_among, found_of, id_of, names_of};
-ghost use Rattle.cdf_vars.specs.Known.{Known, KnownKind, Knows, KnowsKind};
+ghost use Rattle.cdf_vars.specs.Known.{Known, KnownKind, Knows, KnowsKind, known_of};
 
 use crate::chain::chain_of;
 use crate::reading::{push_items_at, read_names};
@@ -124,6 +124,17 @@ impl Vars {
         match self.r.find(Kind::R, name) {
             Some(id) => Some(id),
             None => self.z.find(Kind::Z, name),
+        }
+    }
+
+    /// Where the descriptor of a variable stands.
+    pub(crate) fn place_of(&self, id: VarId) -> u64
+        requires { id.num < length (known_of self.now id.kind).places }
+        ensures { result ≡ slice_index (known_of self.now id.kind).places id.num }
+    {
+        match id.kind {
+            Kind::R => self.r.places.as_slice()[id.num as usize],
+            Kind::Z => self.z.places.as_slice()[id.num as usize],
         }
     }
 
