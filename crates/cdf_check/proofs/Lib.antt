@@ -16,3 +16,7 @@ pub mod AttributeSteps
 pub mod Tallies
 pub mod ImageSteps
 pub mod PhaseSteps
+pub mod Alike
+pub mod VariableSteps
+pub mod VariableShapes
+pub mod IndexSteps

@@ -1,20 +1,26 @@
 -- The phases of a file, put together.
-use Rattle.std.proofs.Common.{◌≡◌, ◌≢◌, ℕ, zero, suc, ◌+◌, ◌-◌, ◌<◌, ◌≤◌, ◌^◌, List, [], ◌∷◌, ◌++◌, length, length-take, take, drop, Bool, true, false, refl, sym, ap, ◌∙◌, subst, arith}
-use Rattle.std.specs.Prelude.{if◌then◌else◌, bytes_eq, Some}
+use Rattle.std.proofs.Common.{◌≡◌, ◌≢◌, ℕ, zero, suc, ◌+◌, ◌*◌, ◌-◌, ◌<◌, ◌≤◌, ◌^◌, List, [], ◌∷◌, ◌++◌, length, length-take, take, drop, Bool, true, false, refl, sym, ap, ◌∙◌, subst, arith}
+use Rattle.std.specs.Prelude.{if◌then◌else◌, bytes_eq, nat_le, Some}
+use Rattle.std.specs.Int.{w32, cast_signed}
 use Rattle.std.specs.declared.option.Option.{Option}
 use Rattle.std.proofs.Math.Path.{subst₂}
 use Rattle.md5.specs.Md5.{md5}
 use Rattle.cdf_model.specs.Limits.{image_limit}
-use Rattle.cdf_format.specs.Fields.{gdr_offset}
+use Rattle.cdf_format.specs.Fields.{Holds, counted, gdr_offset, number, r_num_dims, size_at, word}
+use Rattle.cdf_format.specs.FileRules.{gdr_rows, has_gdr, is_record}
 use Rattle.cdf_format.specs.Phases.{first_phases, image_phases, phase10}
+use Rattle.cdf_format.specs.Records.{gdr_r_dim_sizes, gdr_r_num_dims}
 use Rattle.cdf_format.specs.Rules.{Row, row, asked, Hold, IsBroken, AllHold, FirstBroken}
 use Rattle.cdf_format.specs.Sealed.{has_checksum, trailer_size, trailer_length, image_of}
 use Rattle.cdf_format.specs.WellFormed.{WellFormed, Breaks}
+use Rattle.cdf_format.proofs.FileRecords.{record-of}
 use Rattle.cdf_format.proofs.ImageOf.{short_trailer}
 use Rattle.cdf_format.proofs.Pieces.{word-piece}
-use Rattle.cdf_format.proofs.Tests.{le_of}
+use Rattle.cdf_format.proofs.RowLemmas.{Hold-asked}
+use Rattle.cdf_format.proofs.Tests.{both, le_of}
 use Rattle.cdf_check.specs.declared.verdict.Broken.{Broken}
 use Rattle.cdf_check.specs.declared.verdict.Finding.{Finding}
+use Rattle.cdf_check.specs.Variables.{HasRoomForSizes}
 use Rattle.cdf_check.specs.Verdicts.{Finds, Judges, JudgesImage}
 
 -- ---- phases before others
@@ -84,6 +90,33 @@ module _ (f : List ℕ) (start : AllHold (first_phases f)) where
 
   pub image_gdr : gdr_offset (image_of f) ≡ gdr_offset f
   image_gdr = let long = start_long in let short = short_trailer f in word-piece f 0 20 8 size (omega arith)
+
+  -- the GDR has room for the sizes of its dimensions
+  pub image_sizes : HasRoomForSizes (image_of f)
+  image_sizes = subst (λ (g : ℕ). Holds (image_of f) g (gdr_r_dim_sizes (r_num_dims (image_of f) g))) (sym image_gdr) (here (gdr_offset f) dims_is size_is in_file)
+    where
+      rows : Hold (gdr_rows f (gdr_offset f))
+      rows = Hold-asked (has_gdr f) (gdr_rows f (gdr_offset f)) start.1.1.1.0.1 start.1.1.1.0.0
+
+      in_file : 84 + 4 * r_num_dims f (gdr_offset f) ≤ size_at f (gdr_offset f)
+      in_file =
+          let least = 84 + 4 * r_num_dims f (gdr_offset f) in
+          (record-of f (gdr_offset f) 2 least (both (nat_le (number f (gdr_offset f) gdr_r_num_dims) 10) (is_record f (gdr_offset f) 2 least) rows.0).1).long
+
+      room : gdr_offset f + 68 ≤ length f - trailer_length f
+      room = let short = short_trailer f in let fits = le_of (gdr_offset f + 84) (length f) (both (nat_le 8 (gdr_offset f)) (nat_le (gdr_offset f + 84) (length f)) start.1.1.1.0.0).1 in omega arith
+
+      front : (place k : ℕ) → place + k ≤ length f - trailer_length f → word (image_of f) place k ≡ word f place k
+      front place k le = let e : 0 + place ≡ place = omega arith in word-piece f 0 place k (length f - trailer_length f) le ∙ ap (λ (x : ℕ). word f x k) e
+
+      size_is : size_at (image_of f) (gdr_offset f) ≡ size_at f (gdr_offset f)
+      size_is = front (gdr_offset f + 0) 8 (let fits = room in omega arith)
+
+      dims_is : r_num_dims (image_of f) (gdr_offset f) ≡ r_num_dims f (gdr_offset f)
+      dims_is = ap (λ (x : ℕ). counted (cast_signed w32 x)) (front (gdr_offset f + 56) 4 (let fits = room in omega arith))
+
+      here : (at : ℕ) → r_num_dims (image_of f) at ≡ r_num_dims f at → size_at (image_of f) at ≡ size_at f at → 84 + 4 * r_num_dims f at ≤ size_at f at → 84 + 4 * r_num_dims (image_of f) at ≤ size_at (image_of f) at
+      here at dims size room = subst₂ (λ (d s : ℕ). 84 + 4 * d ≤ s) (sym dims) (sym size) room
 
   -- the rules on the image and the one behind them
   pub all_judged : AllHold (image_phases (image_of f)) → Hold (phase10 f) → WellFormed f

@@ -27,7 +27,7 @@ holds_more rows (x ∷ members) (suc i) d lt before here =
     let parts = Hold-split (rows x) (flat_map rows (take i members)) before in
     Hold-append (rows x) (flat_map rows (take (suc i) members)) parts.0 (holds_more rows members i d (omega arith) parts.1 here)
 
-IsBroken-split : (xs ys : List Row) (rule place : ℕ) → IsBroken (xs ++ ys) rule place → IsBroken xs rule place ⊎ IsBroken ys rule place
+pub IsBroken-split : (xs ys : List Row) (rule place : ℕ) → IsBroken (xs ++ ys) rule place → IsBroken xs rule place ⊎ IsBroken ys rule place
 IsBroken-split [] ys rule place p = inr p
 IsBroken-split (x ∷ xs) ys rule place (inl p) = inl (inl p)
 IsBroken-split (x ∷ xs) ys rule place (inr p) = elim (IsBroken-split xs ys rule place p) [ inl q ↦ inl (inr q) | inr q ↦ inr q ]

@@ -5,3 +5,4 @@ pub mod Met
 pub mod FileChains
 pub mod Entries
 pub mod Named
+pub mod Variables

@@ -46,7 +46,7 @@ fn is_gdr<A: Area>(area: &A, place: u64, gdr: &Gdr) -> bool
 }
 
 /// Whether each size of a dimension is a positive number of 4 bytes with a sign.
-fn are_sizes(sizes: &[u32]) -> bool
+pub fn are_sizes(sizes: &[u32]) -> bool
     ensures { result ≡ list_all is_positive sizes.now }
 {
     sizes.iter().all(|size| *size >= 1 && *size <= SIGNED_LIMIT)

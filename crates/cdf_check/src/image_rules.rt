@@ -1,26 +1,80 @@
 //! The rules on an image, phases 4 to 9.
 
-ghost use Rattle.std.specs.Prelude.{◌≡◌, ◌+◌, ◌≤◌, ◌<◌, ◌^◌, length, IfOk};
+ghost use Rattle.std.specs.Prelude.{◌≡◌, ◌+◌, ◌++◌, ◌≤◌, ◌<◌, ◌^◌, length, map, IfOk};
+ghost use Rattle.std.specs.List.{flat_map};
 ghost use Rattle.cdf_area.specs.Calls.{Reads};
+ghost use Rattle.cdf_format.specs.AttributeRules.{phase6};
 ghost use Rattle.cdf_format.specs.ChainRules.{phase5};
 ghost use Rattle.cdf_format.specs.Fields.{gdr_offset};
+ghost use Rattle.cdf_format.specs.Owners.{attribute_records};
 ghost use Rattle.cdf_format.specs.RecordRules.{phase4};
 ghost use Rattle.cdf_format.specs.Rules.{Hold};
+ghost use Rattle.cdf_format.specs.Shape.{attribute_shape};
 ghost use Rattle.cdf_format.specs.Tiles.{tiling};
 ghost use Rattle.cdf_format.specs.Walks.{whole};
 ghost use Rattle.cdf_check.specs.FileChains.{AreChains};
 ghost use Rattle.cdf_check.specs.Records.{unused_of};
+ghost use Rattle.cdf_check.specs.Variables.{HasRoomForSizes};
 ghost use Rattle.cdf_check.specs.Verdicts.{JudgesImage};
 
 use crate::attributes::check_attributes;
 use crate::file_chains::{Chains, check_chains};
 use crate::owners::check_owners;
 use crate::tiles::check_tiles;
+use crate::variables::{check_indexes, check_variables};
 use crate::verdict::{Broken, in_phase};
 use cdf_area::{Area, AreaError};
-use std::alloc::Global;
+use std::alloc::{AllocError, Global};
 
-/// A rule on attributes or owners that an image breaks, of which the records and the chains keep their rules. No variable is read, so no rule on variables is broken.
+/// The places of two lists, one after the other.
+fn join(alloc: Global, first: &[u64], second: &[u64]) -> Result<Vec<u64>, AllocError>
+    ensures { IfOk result (λ both. both.items ≡ first.now ++ second.now) }
+{
+    let mut both = Vec::new(alloc);
+    both.extend_from_slice(first)?;
+    both.extend_from_slice(second)?;
+    Ok(both)
+}
+
+/// A rule on variables or owners that an image breaks, of which the records, the chains and the attributes keep their rules. The
+/// records of the attributes are these members.
+fn check_variable_members<A: Area>(
+    alloc: Global,
+    area: &mut A,
+    tiles: &[u64],
+    unused: &[u64],
+    chains: &Chains,
+    gdr: u64,
+    mut members: Vec<u64>,
+) -> Result<Option<Broken>, AreaError>
+    requires tiling { tiling (A.image area.old) ≡ whole tiles.now }
+    requires unused { unused.now ≡ unused_of (A.image area.old) tiles.now }
+    requires records { Hold (phase4 (A.image area.old)) }
+    requires chains { AreChains (A.image area.old) tiles.now chains.now }
+    requires linked { Hold (phase5 (A.image area.old) tiles.now) }
+    requires attributes { Hold (phase6 (A.image area.old) tiles.now chains.now.attributes.items) }
+    requires members { members.items ≡ flat_map attribute_records (map (attribute_shape (A.image area.old) tiles.now) chains.now.attributes.items) }
+    requires small { length (A.image area.old) < 2 ^ 31 }
+    requires gdr { gdr ≡ gdr_offset (A.image area.old) }
+    requires sizes { HasRoomForSizes (A.image area.old) }
+    ensures verdict { IfOk result (JudgesImage (A.image area.old)) }
+    ensures area { Reads A.image A.frame A.faults A.edited area.old area.new result }
+{
+    let vdrs = join(alloc, &chains.r_variables, &chains.z_variables)?;
+    if let Some(finding) = check_variables(alloc, area, tiles, gdr, &vdrs)? {
+        return Ok(Some(in_phase(7, finding)));
+    }
+    if let Some(finding) = check_indexes(area, tiles, &vdrs)? {
+        return Ok(Some(in_phase(8, finding)));
+    }
+    members.extend_from_slice(&vdrs)?;
+    if let Some(finding) = check_owners(alloc, tiles, gdr, &members, unused)? {
+        return Ok(Some(in_phase(9, finding)));
+    }
+    Ok(None)
+}
+
+/// A rule on attributes, variables or owners that an image breaks, of which the records and the chains keep their rules.
 fn check_members<A: Area>(
     alloc: Global,
     area: &mut A,
@@ -36,6 +90,7 @@ fn check_members<A: Area>(
     requires linked { Hold (phase5 (A.image area.old) tiles.now) }
     requires small { length (A.image area.old) < 2 ^ 31 }
     requires gdr { gdr ≡ gdr_offset (A.image area.old) }
+    requires sizes { HasRoomForSizes (A.image area.old) }
     ensures verdict { IfOk result (JudgesImage (A.image area.old)) }
     ensures area { Reads A.image A.frame A.faults A.edited area.old area.new result }
 {
@@ -43,10 +98,7 @@ fn check_members<A: Area>(
         Ok(members) => members,
         Err(finding) => return Ok(Some(in_phase(6, finding))),
     };
-    if let Some(finding) = check_owners(alloc, tiles, gdr, &members, unused)? {
-        return Ok(Some(in_phase(9, finding)));
-    }
-    Ok(None)
+    check_variable_members(alloc, area, tiles, unused, chains, gdr, members)
 }
 
 /// A rule that an image breaks, of which the records keep their rules.
@@ -62,6 +114,7 @@ fn check_linked<A: Area>(
     requires records { Hold (phase4 (A.image area.old)) }
     requires small { length (A.image area.old) < 2 ^ 31 }
     requires gdr { gdr ≡ gdr_offset (A.image area.old) }
+    requires sizes { HasRoomForSizes (A.image area.old) }
     ensures verdict { IfOk result (JudgesImage (A.image area.old)) }
     ensures area { Reads A.image A.frame A.faults A.edited area.old area.new result }
 {
@@ -81,6 +134,7 @@ pub fn check_image<A: Area>(
     requires some { 8 ≤ length (A.image area.old) }
     requires small { length (A.image area.old) < 2 ^ 31 }
     requires gdr { gdr ≡ gdr_offset (A.image area.old) }
+    requires sizes { HasRoomForSizes (A.image area.old) }
     ensures verdict { IfOk result (JudgesImage (A.image area.old)) }
     ensures area { Reads A.image A.frame A.faults A.edited area.old area.new result }
 {

@@ -19,6 +19,9 @@ mod sorted;
 mod tiles;
 mod trailer_rules;
 mod validator;
+mod variable;
+mod variable_shape;
+mod variables;
 mod verdict;
 
 pub use validator::check;

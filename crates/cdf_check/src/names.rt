@@ -34,7 +34,7 @@ impl Names {
             return Ok(());
         }
         if self.table.find(name.as_slice()).is_some() {
-            // 6.2
+            // 6.2, 7.2
             self.repeated = Some(Finding { rule: 2, place });
             return Ok(());
         }

@@ -3,6 +3,7 @@
 ghost use Rattle.std.specs.Prelude.{◌≡◌, ◌≤◌, ◌<◌, ◌^◌, length, take, IfOk};
 ghost use Rattle.cdf_area.specs.Calls.{Reads};
 ghost use Rattle.cdf_format.specs.Fields.{gdr_offset};
+ghost use Rattle.cdf_check.specs.Variables.{HasRoomForSizes};
 ghost use Rattle.cdf_check.specs.Verdicts.{Judges, JudgesImage, JudgesStart};
 
 use crate::cdr_rules::check_cdr;
@@ -48,6 +49,7 @@ fn check_front<A: Area>(
     requires some { 8 ≤ length (take eof (A.image area.old)) }
     requires small { length (take eof (A.image area.old)) < 2 ^ 31 }
     requires gdr { gdr ≡ gdr_offset (take eof (A.image area.old)) }
+    requires sizes { HasRoomForSizes (take eof (A.image area.old)) }
     ensures verdict { IfOk result (JudgesImage (take eof (A.image area.old))) }
     ensures area { Reads A.image A.frame A.faults A.edited area.old area.new result }
 {

@@ -48,7 +48,7 @@ pub map_adrs : (b ts ms : List ℕ) → map (λ (a : AttributeShape). a.adr) (ma
 map_adrs b ts [] = refl
 map_adrs b ts (m ∷ ms) = ap (λ (r : List ℕ). m ∷ r) (map_adrs b ts ms)
 
-map_vdrs : (b ts ms : List ℕ) → vdrs (map (variable_shape b ts) ms) ≡ ms
+pub map_vdrs : (b ts ms : List ℕ) → vdrs (map (variable_shape b ts) ms) ≡ ms
 map_vdrs b ts [] = refl
 map_vdrs b ts (m ∷ ms) = ap (λ (r : List ℕ). m ∷ r) (map_vdrs b ts ms)
 

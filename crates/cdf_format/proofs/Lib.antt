@@ -19,6 +19,5 @@ pub mod SpaceLemmas
 pub mod SealedRules
 pub mod NewFileRules
 pub mod GoodHead
-pub mod ReadSoFar
 pub mod NameRules
 pub mod GoodSound

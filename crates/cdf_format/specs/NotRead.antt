@@ -2,13 +2,13 @@
 use Rattle.std.specs.Prelude.{ℕ, List, [], ◌∷◌, false, ◌==◌}
 use Rattle.cdf_format.specs.Fields.{number, type_at}
 use Rattle.cdf_format.specs.Records.{vdr_s_records}
-use Rattle.cdf_format.specs.RecordTypes.{cdr_type, gdr_type, adr_type, agr_edr_type, az_edr_type, uir_type}
+use Rattle.cdf_format.specs.RecordTypes.{cdr_type, gdr_type, r_vdr_type, z_vdr_type, adr_type, agr_edr_type, az_edr_type, uir_type}
 use Rattle.cdf_format.specs.Chains.{is_in}
 use Rattle.cdf_format.specs.Rules.{Row, row}
 
 -- 4.99: records of other types
 abbrev pub read_types : List ℕ
-read_types = cdr_type ∷ gdr_type ∷ adr_type ∷ agr_edr_type ∷ az_edr_type ∷ uir_type ∷ []
+read_types = cdr_type ∷ gdr_type ∷ adr_type ∷ agr_edr_type ∷ az_edr_type ∷ r_vdr_type ∷ z_vdr_type ∷ uir_type ∷ []
 
 abbrev pub unread_type : List ℕ → ℕ → List Row
 unread_type b place = row 99 place (is_in (type_at b place) read_types) ∷ []

@@ -2,7 +2,7 @@ use Rattle.std.proofs.Common.{◌≡◌, ◌≢◌, ◌-◌, length, sym, refl, 
 use Rattle.cdf_area.proofs.Calls.{read_once, read_more, read_done}
 use Rattle.cdf_format.specs.Sealed.{image_of, trailer_length}
 use Rattle.cdf_check.specs.Verdicts.{JudgesStart, JudgesImage}
-use Rattle.cdf_check.proofs.PhaseSteps.{image_read, last_read, image_some, image_gdr, image_judged, unsealed_judged, seal_fits, seal_held, seal_broken}
+use Rattle.cdf_check.proofs.PhaseSteps.{image_read, last_read, image_some, image_gdr, image_sizes, image_judged, unsealed_judged, seal_fits, seal_held, seal_broken}
 use Rattle.cdf_check.proofs.validator.check.Goals as goal
 
 pub check_front-requires-clause-some : goal.check_front-requires-clause-some
@@ -16,6 +16,12 @@ check_front-requires-clause-gdr g c =
     let f = g.A.Area.image c.args.area.now in
     let start : JudgesStart f None = rw c.in_default.is at c.in_ok-broken.ensures.verdict in
     rw (c.size.ensures, c.trailer_length-trailer.ensures, c.in_ok-cdr.ensures.value, c.read_cdr.ensures.area.image, c.check_start.ensures.area.image) (sym (image_gdr f start))
+
+pub check_front-requires-clause-sizes : goal.check_front-requires-clause-sizes
+check_front-requires-clause-sizes g c =
+    let f = g.A.Area.image c.args.area.now in
+    let start : JudgesStart f None = rw c.in_default.is at c.in_ok-broken.ensures.verdict in
+    rw (c.size.ensures, c.trailer_length-trailer.ensures, c.in_ok-cdr.ensures.value, c.read_cdr.ensures.area.image, c.check_start.ensures.area.image) (image_sizes f start)
 
 pub returns-in-Some-2-clause-verdict : goal.returns-in-Some-2-clause-verdict
 returns-in-Some-2-clause-verdict g c =

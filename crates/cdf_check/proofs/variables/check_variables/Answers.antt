@@ -1,0 +1,59 @@
+use Rattle.std.proofs.Common.{◌≡◌, [], get_or, take, sym, subst, add-one, arith, Ok, Err, List, ℕ}
+use Rattle.std.proofs.lemmas.List.{take_all, take_more}
+use Rattle.std.specs.List.{flat_map}
+use Rattle.cdf_area.proofs.Calls.{read_more}
+use Rattle.cdf_format.specs.AttributeRules.{same_name}
+use Rattle.cdf_format.specs.ChainRules.{differ_rows}
+use Rattle.cdf_format.specs.Fields.{name_in}
+use Rattle.cdf_format.specs.Records.{vdr_name}
+use Rattle.cdf_format.specs.Rules.{Hold}
+use Rattle.cdf_format.specs.VariableRules.{variable_rows}
+use Rattle.cdf_check.specs.Named.{AreNamed}
+use Rattle.cdf_check.specs.Verdicts.{Finds, Yields}
+use Rattle.cdf_check.proofs.Rows.{In-get_or, broken_member, holds_more}
+use Rattle.cdf_check.proofs.VariableSteps.{each_breaks, all_found}
+use Rattle.cdf_check.proofs.variables.check_variables.Goals as goal
+
+pub check_variable-requires : goal.check_variable-requires
+check_variable-requires g c =
+    let l = c.loop-vdr in
+    let m = get_or c.args.vdrs.now l.vdr-index 0 in
+    rw l.invariant.area.image (record {
+      gdr = c.requires.gdr;
+      sizes = c.requires.sizes;
+      read = c.requires.read;
+      variable = c.requires.variables m (In-get_or c.args.vdrs.now l.vdr-index c.loop-vdr-test.true);
+    })
+
+pub returns-in-Err-clause-found : goal.returns-in-Err-clause-found
+returns-in-Err-clause-found g c =
+    let l = c.loop-vdr in
+    let b = g.A.Area.image c.args.area.now in
+    let ts = c.args.tiles.now in
+    let m = get_or c.args.vdrs.now l.vdr-index 0 in
+    let here : Yields (variable_rows b ts [] m) (λ (name : List ℕ). name ≡ name_in b m vdr_name) (Err c.in-Err.broken) = rw (c.in-Err.is, l.invariant.area.image) at c.in_ok-name.ensures.found in
+    each_breaks b ts c.args.vdrs.now c.in-Err.broken.rule c.in-Err.broken.place (broken_member (variable_rows b ts []) c.args.vdrs.now l.vdr-index 0 c.in-Err.broken.rule c.in-Err.broken.place c.loop-vdr-test.true here)
+
+pub loop-vdr-preserved : goal.loop-vdr-preserved
+loop-vdr-preserved g c =
+    let l = c.loop-vdr in
+    let b = g.A.Area.image c.args.area.now in
+    let ts = c.args.tiles.now in
+    let m = get_or c.args.vdrs.now l.vdr-index 0 in
+    let here : Yields (variable_rows b ts [] m) (λ (name : List ℕ). name ≡ name_in b m vdr_name) (Ok c.in-Ok.name) = rw (c.in-Ok.is, l.invariant.area.image) at c.in_ok-name.ensures.found in
+    record {
+      area = read_more l.invariant.area c.in_ok-name.ensures.area;
+      rows = rw add-one (holds_more (variable_rows b ts []) c.args.vdrs.now l.vdr-index 0 c.loop-vdr-test.true l.invariant.rows here.0);
+      named = subst (λ (xs : List ℕ). AreNamed (λ vdr. name_in b vdr vdr_name) xs c.add.new.self) (sym (take_more c.args.vdrs.now l.vdr-index 0 c.loop-vdr-test.true)) (c.in_ok-add-in-Ok.ensures.named (λ vdr. name_in b vdr vdr_name) (take l.vdr-index c.args.vdrs.now) here.1 l.invariant.named);
+    }
+
+pub returns-clause-found : goal.returns-clause-found
+returns-clause-found g c =
+    let l = c.loop-vdr in
+    let b = g.A.Area.image c.args.area.now in
+    let ts = c.args.tiles.now in
+    let vdrs = c.args.vdrs.now in
+    let all : take l.vdr-index vdrs ≡ vdrs = take_all l.vdr-index vdrs (omega (arith, c.loop-vdr-test.false)) in
+    let rows : Hold (flat_map (variable_rows b ts []) vdrs) = rw all at l.invariant.rows in
+    let found : Finds (differ_rows 2 (same_name b vdr_name) [] vdrs) l.names.repeated = rw all at l.invariant.named.found in
+    all_found b ts vdrs c.requires.once rows l.names.repeated found
