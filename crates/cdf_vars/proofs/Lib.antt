@@ -1,4 +1,12 @@
+pub mod CreatedVariable
+pub mod CreatingAnswers
+pub mod DimsRead
+pub mod KindKnown
+pub mod Making
+pub mod MeantVdr
 pub mod NamesRead
+pub mod NewVdr
+pub mod ShapedVariable
 pub mod VariableChains
 pub mod VariableFound
 pub mod VariableNames

@@ -1,4 +1,5 @@
 pub mod Chains
+pub mod Creating
 pub mod Finding
 pub mod Known
 pub mod Reading

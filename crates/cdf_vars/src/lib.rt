@@ -2,7 +2,10 @@
 #![tactic(auto)]
 
 mod blocking;
+mod bad_shape;
 mod chain;
+mod creating;
+mod descriptor;
 mod reading;
 mod renaming;
 mod vars;
