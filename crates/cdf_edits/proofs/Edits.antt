@@ -16,6 +16,7 @@ pub mod DeletedAttribute
 pub mod DeletingFollows
 pub mod DeletionCalls
 pub mod EditActs
+pub mod EmptySet
 pub mod FieldWritten
 pub mod FirstRecords
 pub mod FreedBytes

@@ -1,6 +1,7 @@
 -- A record is taken and written anew, and then it is linked and counted: what every command has that makes a record.
-use Rattle.std.proofs.Common.{◌≡◌, ◌≢◌, ◌⊎◌, ℕ, ◌+◌, ◌-◌, ◌<◌, ◌≤◌, List, [], ◌∷◌, ◌++◌, length, map, true, false, refl, sym, ap₂, subst, ◌∙◌, arith, inl, inr}
-use Rattle.std.specs.Prelude.{◌&&◌}
+use Rattle.std.proofs.Common.{◌≡◌, ◌≢◌, ◌⊎◌, ℕ, ◌+◌, ◌-◌, ◌<◌, ◌≤◌, List, [], ◌∷◌, ◌++◌, length, map, true, false, refl, sym, ap, ap₂, subst, ◌∙◌, arith, inl, inr}
+use Rattle.std.proofs.lemmas.Bool.{leb-true}
+use Rattle.std.specs.Prelude.{◌==◌, ◌&&◌, nat_le}
 use Rattle.cdf_edits.specs.Space.Acts.{Took, sized}
 use Rattle.cdf_format.specs.Sound.{IsSound}
 use Rattle.cdf_edits.specs.Commands.Allowances.{Allowances, is_taken, AllKeep}
@@ -22,6 +23,7 @@ use Rattle.cdf_format.proofs.Members.{either, true-is_in, false-is_in}
 use Rattle.cdf_edits.proofs.Space.TakenLeaves.{KeepsTaken, IsRest, takes_keep, takes_new, takes_longest}
 use Rattle.cdf_format.proofs.Tests.{both}
 use Rattle.cdf_format.proofs.TilesLemmas.{tile_lies}
+use Rattle.cdf_edits.proofs.Space.ActsLeave.{no_rest, places-sized}
 use Rattle.cdf_edits.proofs.Space.UsedRecords.{apart}
 use Rattle.cdf_edits.specs.Space.Placing.{Fills}
 use Rattle.cdf_edits.specs.Edits.Marks.{Mark, whole, Avoids, Away, Within, avoided, unmarked, taking_marks, making_marks, is_late}
@@ -270,7 +272,46 @@ module _ {b taken filled : List ℕ} {s : Shape} {records list : List ℕ} {need
               ∙ fills.fill.same n (let e = size in omega arith) (inr (let e = rest.stands in let f = fills.enough in omega arith), tt)
               ∙ rest.far.each n l (let e = size in let f = rest.size_is in let g = rest.stands in let r = rest.room in omega arith);
         }
-    -- ---- what the command may change of unused records
+
+-- ---- records of the unused list after one was taken
+
+-- each was on it before, or is the rest of one that was
+rest_or_old : (b : List ℕ) (need m : ℕ) → 1 ≤ need → (us : List ℕ) → In m (map (λ pair. pair.0) (taken_from (sized b us) need)) → In m us ⊎ ((p : ℕ) × In p us × (p < m) × (m < p + size_at b p))
+rest_or_old b need m some [] i = absurd i
+rest_or_old b need m some (p ∷ us) i = elim (either (size_at b p == need)) [
+  | inl whole ↦ let j : In m (map (λ pair. pair.0) (sized b us)) = rw whole at i in inl (inr (subst (In m) (places-sized b us) j))
+  | inr partly ↦ elim (either (nat_le (need + 28) (size_at b p))) [
+    | inl larger ↦
+        let j : In m ((p + need) ∷ map (λ pair. pair.0) (sized b us)) = rw (partly, larger) at i in
+        elim j [
+          | inl q ↦ let l = leb-true (need + 28) (size_at b p) larger in inr (p, inl refl, below p need m some q, above p need (size_at b p) m l q)
+          | inr k ↦ inl (inr (subst (In m) (places-sized b us) k))
+        ]
+    | inr small ↦
+        let j : In m (p ∷ map (λ pair. pair.0) (taken_from (sized b us) need)) = rw (partly, small) at i in
+        elim j [ inl q ↦ inl (inl q) | inr k ↦ elim (rest_or_old b need m some us k) [ inl old ↦ inl (inr old) | inr rest ↦ inr (rest.0, inr rest.1, rest.2, rest.3) ] ]
+  ]
+]
+  where
+    below : (p n m : ℕ) → 1 ≤ n → m ≡ p + n → p < m
+    below p n m o q = omega arith
+
+    above : (p n size m : ℕ) → n + 28 ≤ size → m ≡ p + n → m < p + size
+    above p n size m l q = omega arith
+
+module _ {b taken filled now records list : List ℕ} {need place type : ℕ} (sound : IsSound b (shape b)) (fills : Fills b taken filled (shape b) records list need place type) {late : List Mark} (later : Edit filled now records records late []) (as_long : length now ≡ length filled) (lately : is_late late type ≡ true) where
+  -- an old record that is on the list by now was on it before
+  pub listed_before : (m : ℕ) → In m (shape b).records → In m list → In m (shape b).unused
+  listed_before m i j =
+      let k : In m (map (λ pair. pair.0) (taken_from (sized b (shape b).unused) need)) = subst (In m) (sym (places-sized now list) ∙ ap (map (λ pair. pair.0)) (listed sound fills later as_long lately).list_is) j in
+      elim (rest_or_old b need m (some fills.enough) (shape b).unused k) [
+        | inl x ↦ x
+        | inr rest ↦ absurd (no_rest b sound.has_shape rest.0 m (linkable-in b (shape b).records uir_type rest.0 (sound.has_shape.unused_chain.linkable rest.0 rest.1)) i rest.2 rest.3)
+      ]
+    where
+      some : 28 ≤ need → 1 ≤ need
+      some l = omega arith
+      -- ---- what the command may change of unused records
 
 module _ {b taken filled now records list : List ℕ} {need place type : ℕ} (sound : IsSound b (shape b)) (fills : Fills b taken filled (shape b) records list need place type) {late : List Mark} (later : Edit filled now records records late []) (as_long : length now ≡ length filled) (lately : is_late late type ≡ true) (records_are : (shape now).records ≡ records) where
   abbrev before_shape : Shape

@@ -1,26 +1,22 @@
 -- An entry is made in the place of another one of its chain, the greatest number is written, and the old one is freed.
-use Rattle.std.proofs.Common.{◌≡◌, ◌≢◌, ◌⊎◌, ℕ, ◌+◌, ◌<◌, ◌≤◌, List, [], ◌∷◌, ◌++◌, length, map, true, refl, sym, ap, subst, ◌∙◌, arith, inl, inr}
-use Rattle.std.proofs.lemmas.Bool.{leb-true}
-use Rattle.std.specs.Prelude.{◌==◌, nat_le}
+use Rattle.std.proofs.Common.{◌≡◌, ◌≢◌, ℕ, ◌+◌, ◌≤◌, List, [], ◌∷◌, ◌++◌, length, true, refl, sym, subst, ◌∙◌, arith, inl, inr}
 use Rattle.cdf_model.specs.declared.kinds.EntryKind.{EntryKind}
 use Rattle.cdf_model.specs.declared.kinds.EntryKind.TheVariants as entries
 use Rattle.cdf_format.specs.Chains.{IsChain, is_in, is_a}
 use Rattle.cdf_format.specs.Fields.{number, size_at, type_at, with_field}
 use Rattle.cdf_format.specs.Owners.{attribute_records}
-use Rattle.cdf_format.specs.RecordTypes.{uir_type, adr_type}
+use Rattle.cdf_format.specs.RecordTypes.{adr_type}
 use Rattle.cdf_format.specs.Shape.{AttributeShape, HasShape, Shape, shape}
 use Rattle.cdf_format.specs.Sound.{IsSound}
 use Rattle.cdf_format.specs.Tiles.{In, tiles}
 use Rattle.cdf_format.proofs.ChainsLemmas.{is_a-from, linkable-in, linkable-type}
-use Rattle.cdf_format.proofs.Members.{either}
 use Rattle.cdf_format.proofs.ShapeLemmas.{shape_is, tiles_are}
 use Rattle.cdf_edits.specs.Commands.EntryChains.{chain_of, entry_type, max_field}
 use Rattle.cdf_edits.specs.Edits.Edit.{Edit}
 use Rattle.cdf_edits.specs.Edits.EntryMarks.{entries_chain, head_field, count_field}
 use Rattle.cdf_edits.specs.Edits.Marks.{Mark, Confined, attribute_types, avoided, making_marks, replacing_marks, field_marks, is_late}
-use Rattle.cdf_edits.specs.Space.Acts.{sized}
 use Rattle.cdf_edits.specs.Space.Chains.{HasChain, HolderStands, MayJoin, Replaced, head_of, holder_of, holder_type, members_of, type_in, with_in_place}
-use Rattle.cdf_edits.specs.Space.Placement.{taken_from, unused, with_space}
+use Rattle.cdf_edits.specs.Space.Placement.{unused, with_space}
 use Rattle.cdf_edits.specs.Space.Placing.{Fills, Placed, type_of_body}
 use Rattle.cdf_edits.proofs.Edits.AttributeFrame.{AreThere}
 use Rattle.cdf_edits.proofs.Edits.ChainKinds.{chain_has, chain_in}
@@ -29,39 +25,12 @@ use Rattle.cdf_edits.proofs.Edits.ChainSpliced.{Rechains, now_is}
 use Rattle.cdf_edits.proofs.Edits.ChainEdits.{replaced_edit}
 use Rattle.cdf_edits.proofs.Edits.ChainsOfShape.{IsOf, members_are, has_chain, may_join, is_member, replaced_chain}
 use Rattle.cdf_edits.proofs.Edits.FieldWritten.{IsField, written_edit, written_long, Stands, still_stands, still_says, field_in}
-use Rattle.cdf_edits.proofs.Edits.MadeRecord.{filled_edit, filled_sound, filled_size, fresh, place_in, made_edit, made_type, made_size, listed}
+use Rattle.cdf_edits.proofs.Edits.MadeRecord.{filled_edit, filled_sound, filled_size, fresh, place_in, made_edit, made_type, made_size, listed_before}
 use Rattle.cdf_edits.proofs.Edits.PushedEntry.{max_lies, head_lies, count_is, as_chain, only, first}
 use Rattle.cdf_edits.proofs.Edits.RecordFrame.{chain_clear}
 use Rattle.cdf_edits.proofs.Edits.Composing.{edit_then}
 use Rattle.cdf_edits.proofs.Edits.Splice.{parts_there, adr_stands}
-use Rattle.cdf_edits.proofs.Space.ActsLeave.{places-sized, no_rest}
 use Rattle.cdf_edits.proofs.Edits.MadeEntry.{Leaves, joins}
-
--- ---- records of the unused list after one was taken
-
--- each was on it before, or is the rest of one that was
-rest_or_old : (b : List ℕ) (need m : ℕ) → 1 ≤ need → (us : List ℕ) → In m (map (λ pair. pair.0) (taken_from (sized b us) need)) → In m us ⊎ ((p : ℕ) × In p us × (p < m) × (m < p + size_at b p))
-rest_or_old b need m some [] i = absurd i
-rest_or_old b need m some (p ∷ us) i = elim (either (size_at b p == need)) [
-  | inl whole ↦ let j : In m (map (λ pair. pair.0) (sized b us)) = rw whole at i in inl (inr (subst (In m) (places-sized b us) j))
-  | inr partly ↦ elim (either (nat_le (need + 28) (size_at b p))) [
-    | inl larger ↦
-        let j : In m ((p + need) ∷ map (λ pair. pair.0) (sized b us)) = rw (partly, larger) at i in
-        elim j [
-          | inl q ↦ let l = leb-true (need + 28) (size_at b p) larger in inr (p, inl refl, below p need m some q, above p need (size_at b p) m l q)
-          | inr k ↦ inl (inr (subst (In m) (places-sized b us) k))
-        ]
-    | inr small ↦
-        let j : In m (p ∷ map (λ pair. pair.0) (taken_from (sized b us) need)) = rw (partly, small) at i in
-        elim j [ inl q ↦ inl (inl q) | inr k ↦ elim (rest_or_old b need m some us k) [ inl old ↦ inl (inr old) | inr rest ↦ inr (rest.0, inr rest.1, rest.2, rest.3) ] ]
-  ]
-]
-  where
-    below : (p n m : ℕ) → 1 ≤ n → m ≡ p + n → p < m
-    below p n m o q = omega arith
-
-    above : (p n size m : ℕ) → n + 28 ≤ size → m ≡ p + n → m < p + size
-    above p n size m l q = omega arith
 
 -- what is moved: the links and the greatest number
 abbrev pub moving : EntryKind → ℕ → ℕ → List ℕ → List Mark
@@ -295,13 +264,4 @@ module _ {b late : List ℕ} {kind : EntryKind} {before : List AttributeShape} {
 
   -- an old record that is on the list by now was on it before
   pub was_listed : (m : ℕ) → In m sb.records → In m new_list → In m sb.unused
-  was_listed m i j =
-      let taken = listed sound (fills sound p) later as_long t.late in
-      let k : In m (map (λ pair. pair.0) (taken_from (sized b sb.unused) size_needed)) = subst (In m) (sym (places-sized late new_list) ∙ ap (map (λ pair. pair.0)) taken.list_is) j in
-      elim (rest_or_old b size_needed m (some (fills sound p).enough) sb.unused k) [
-        | inl x ↦ x
-        | inr rest ↦ absurd (no_rest b sound.has_shape rest.0 m (linkable-in b sb.records uir_type rest.0 (sound.has_shape.unused_chain.linkable rest.0 rest.1)) i rest.2 rest.3)
-      ]
-    where
-      some : 28 ≤ size_needed → 1 ≤ size_needed
-      some l = omega arith
+  was_listed m i j = listed_before sound (fills sound p) later as_long t.late m i j
