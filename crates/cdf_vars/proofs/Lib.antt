@@ -21,3 +21,11 @@ pub mod VariableParts
 pub mod KnownChanged
 pub mod RenameAnswers
 pub mod BlockingAnswers
+pub mod SetUpAnswers
+pub mod SetUpCalls
+pub mod SetUpEdits
+pub mod SetUpHead
+pub mod SetUpKept
+pub mod SetUpMade
+pub mod SetUpMoved
+pub mod SetUpWrites

@@ -3,3 +3,4 @@ pub mod Creating
 pub mod Finding
 pub mod Known
 pub mod Reading
+pub mod Setup

@@ -8,6 +8,8 @@ mod creating;
 mod descriptor;
 mod reading;
 mod renaming;
+mod setup;
 mod vars;
 
+pub use setup::set_up;
 pub use vars::{VarId, Vars};

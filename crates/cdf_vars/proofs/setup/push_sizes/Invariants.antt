@@ -1,0 +1,6 @@
+use Rattle.std.proofs.Common.{◌≡◌, ◌++◌, take}
+use Rattle.cdf_format.specs.NewFile.{of_4_bytes}
+use Rattle.cdf_vars.proofs.setup.push_sizes.Given as goal
+
+abbrev pub invariant-loop-size : goal.invariant-loop-size
+invariant-loop-size l = l.bytes.items ≡ l.fn.bytes.items ++ of_4_bytes (take l.size-index l.sizes)
