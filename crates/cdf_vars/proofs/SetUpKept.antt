@@ -1,7 +1,6 @@
 -- `setup` where the GDR has room for the dimensions, and stays in its place.
 use Rattle.std.proofs.Common.{◌≡◌, ◌⊎◌, ℕ, ◌+◌, ◌*◌, ◌≤◌, List, [], ◌∷◌, ◌++◌, length, true, false, refl, sym, ap, subst, ◌∙◌, arith, inl, inr}
 use Rattle.std.proofs.lemmas.Bool.{le-leb}
-use Rattle.std.specs.List.{flat_map}
 use Rattle.std.specs.Prelude.{◌==◌, is_some}
 use Rattle.cdf_model.specs.declared.answer.Reply.TheVariants as replies
 use Rattle.cdf_model.specs.declared.command.Command.TheVariants as commands
@@ -20,15 +19,14 @@ use Rattle.cdf_edits.proofs.Edits.EditActs.{acts_none}
 use Rattle.cdf_edits.proofs.Edits.OwnersKept.{stood, keeps_fields, keep_file, all_keep}
 use Rattle.cdf_edits.proofs.Edits.RecordFrame.{kept, part_clear, field_avoids, field_clear, chain_clear}
 use Rattle.cdf_edits.proofs.Edits.FreedRecords.{sizes_by_tiles}
-use Rattle.cdf_edits.proofs.Frame.OwnersApart.{all_variable_records}
 use Rattle.cdf_edits.proofs.Space.UsedRecords.{filter-says}
 use Rattle.cdf_format.specs.Bytes.{Same}
 use Rattle.cdf_format.specs.Content.{content}
 use Rattle.cdf_format.specs.Fields.{Holds, number, size_at, type_at, gdr_offset, eof, flags, r_num_dims, words}
-use Rattle.cdf_format.specs.Owners.{Unused, attribute_records, variable_records, unused_records, owned}
+use Rattle.cdf_format.specs.Owners.{Unused, unused_records, owned}
 use Rattle.cdf_format.specs.Records.{Field, cdr_gdr_offset, cdr_encoding, cdr_flags, gdr_eof, gdr_uir_head, gdr_r_num_dims, gdr_r_dim_sizes, gdr_r_max_rec, gdr_rfu_c, gdr_leap_second_last_updated, gdr_rfu_e, gdr_adr_head, gdr_r_vdr_head, gdr_z_vdr_head, gdr_num_attr, gdr_nr_vars, gdr_nz_vars}
 use Rattle.cdf_format.specs.RecordTypes.{cdr_type, gdr_type, uir_type, is_record_type, fixed_size}
-use Rattle.cdf_format.specs.Shape.{AttributeShape, VariableShape, Shape, HasShape, shape}
+use Rattle.cdf_format.specs.Shape.{Shape, HasShape, shape}
 use Rattle.cdf_format.specs.Sound.{IsSound}
 use Rattle.cdf_format.specs.Tiles.{In, AreTiles}
 use Rattle.cdf_format.specs.WellFormed.{Good}
@@ -38,7 +36,7 @@ use Rattle.cdf_format.proofs.Owning.{filter-in}
 use Rattle.cdf_format.proofs.ShapeLemmas.{shape_is}
 use Rattle.cdf_format.proofs.Tests.{eq_of}
 use Rattle.cdf_vars.specs.Setup.{KeepsGdr}
-use Rattle.cdf_edits.proofs.Edits.EmptySet.{IsEmptySet, HasNone, AreAlone, empty_shape, empty_has_shape, good_is_alone, good_is_empty}
+use Rattle.cdf_edits.proofs.Edits.EmptySet.{IsEmptySet, HasNone, no_attribute, no_variable, AreAlone, empty_shape, empty_has_shape, good_is_alone, good_is_empty}
 use Rattle.cdf_vars.proofs.SetUpAnswers.{step_goes}
 use Rattle.cdf_vars.proofs.SetUpEdits.{IsThere, cdr_marks, cdr_edit, dims_marks, dims_edit, avoids_both}
 use Rattle.cdf_vars.proofs.SetUpHead.{HeadSet, majority_flags, has_none, dims_counted, content_now, good_now}
@@ -191,24 +189,15 @@ module _ (b now : List ℕ) (code : ℕ) (majority : Majority) (dims : List ℕ)
   abbrev may : Allowances
   may = setup_changes
 
-  no_attribute : (m : ℕ) → In m (flat_map attribute_records s.attributes) → ⊥
-  no_attribute m i = subst (λ (as_ : List AttributeShape). In m (flat_map attribute_records as_)) has.attributes i
-
-  no_variable : (m : ℕ) → In m (all_variable_records s) → ⊥
-  no_variable m i = subst (λ (vs : List VariableShape). In m (flat_map variable_records vs)) (none_at_all has.r_variables has.z_variables) i
-    where
-      none_at_all : {rs zs : List VariableShape} → rs ≡ [] → zs ≡ [] → rs ++ zs ≡ []
-      none_at_all p q = rw (p, q) refl
-
   unused_stands : (m : ℕ) → In m (unused_records b s) → In m s.records × (type_at b m ≡ uir_type)
   unused_stands m i = (filter-in (λ (x : ℕ). type_at b x == uir_type) s.records m i, eq_of _ _ (filter-says (λ (x : ℕ). type_at b x == uir_type) s.records m i))
 
   keeps : AllKeep b now may [] (owned b s)
   keeps =
       let f = keep_file b now may [] sound (keeps_fields sound e records_are 8 cdr_type (cdr_encoding ∷ cdr_flags ∷ cdr_gdr_offset ∷ []) was.cdr_in was.cdr_typed refl refl) tt in
-      let a = keep_attributes b now may [] 0 s.attributes (λ m i. absurd (no_attribute m i)) in
+      let a = keep_attributes b now may [] 0 s.attributes (λ m i. absurd (no_attribute s has m i)) in
       let u = keep_owned b now may [] Unused (unused_records b s) (λ m i. let st = unused_stands m i in stood sound e records_are m st.0 (kept e m uir_type st.0 st.1 refl)) in
-      all_keep b now may [] f a (λ m i. absurd (no_variable m i)) u
+      all_keep b now may [] f a (λ m i. absurd (no_variable s has m i)) u
 
   stays : (f : Field) → number now s.gdr f ≡ number b s.gdr f → number now (gdr_offset now) f ≡ number b (gdr_offset b) f
   stays f same = ap (λ (g : ℕ). number now g f) offset ∙ same ∙ sym (ap (λ (g : ℕ). number b g f) at)

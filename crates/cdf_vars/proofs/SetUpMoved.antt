@@ -1,7 +1,6 @@
 -- `setup` where the GDR has no room for the dimensions: another one was made, and the old one is freed.
 use Rattle.std.proofs.Common.{◌≡◌, ◌≢◌, ◌⊎◌, ℕ, ◌+◌, ◌*◌, ◌<◌, ◌≤◌, List, [], ◌∷◌, ◌++◌, length, map, Bool, true, false, refl, sym, ap, subst, ◌∙◌, arith, inl, inr}
 use Rattle.std.proofs.lemmas.Bool.{cases_eq, le-leb, lt-leb}
-use Rattle.std.specs.List.{flat_map}
 use Rattle.std.specs.Prelude.{◌==◌, is_some, nat_le, if◌then◌else◌}
 use Rattle.cdf_model.specs.declared.answer.Reply.TheVariants as replies
 use Rattle.cdf_model.specs.declared.command.Command.TheVariants as commands
@@ -26,17 +25,16 @@ use Rattle.cdf_edits.proofs.Edits.MarkLemmas.{Avoids-append, Within-append, Away
 use Rattle.cdf_edits.proofs.Edits.OwnersKept.{keep_unused, keeps_fields, keep_file, all_keep}
 use Rattle.cdf_edits.proofs.Edits.RecordFrame.{kept, part_clear}
 use Rattle.cdf_edits.proofs.Edits.StepEdits.{gives_edit}
-use Rattle.cdf_edits.proofs.Frame.OwnersApart.{all_variable_records}
 use Rattle.cdf_edits.proofs.Space.ActsLeave.{each, places-sized}
 use Rattle.cdf_edits.proofs.Space.UsedRecords.{apart}
 use Rattle.cdf_format.specs.Bytes.{Same, byte}
 use Rattle.cdf_format.specs.Chains.{IsChain, Leads, next_of}
 use Rattle.cdf_format.specs.Content.{content}
 use Rattle.cdf_format.specs.Fields.{number, size_at, type_at, gdr_offset, eof, flags}
-use Rattle.cdf_format.specs.Owners.{attribute_records, variable_records, unused_records, owned}
+use Rattle.cdf_format.specs.Owners.{unused_records, owned}
 use Rattle.cdf_format.specs.Records.{Field, cdr_gdr_offset, cdr_encoding, cdr_flags, gdr_eof, gdr_uir_head, gdr_r_num_dims, gdr_r_max_rec, gdr_rfu_c, gdr_leap_second_last_updated, gdr_rfu_e, gdr_num_attr, gdr_nr_vars, gdr_nz_vars, uir_next_uir, uir_prev_uir}
 use Rattle.cdf_format.specs.RecordTypes.{cdr_type, gdr_type, uir_type, fixed_size}
-use Rattle.cdf_format.specs.Shape.{AttributeShape, VariableShape, Shape, HasShape, shape}
+use Rattle.cdf_format.specs.Shape.{Shape, HasShape, shape}
 use Rattle.cdf_format.specs.Sound.{IsSound}
 use Rattle.cdf_format.specs.Tiles.{In, AreTiles}
 use Rattle.cdf_format.specs.WellFormed.{Good}
@@ -46,7 +44,7 @@ use Rattle.cdf_format.proofs.GoodSound.{good_is_sound}
 use Rattle.cdf_format.proofs.Owning.{filter-in}
 use Rattle.cdf_format.proofs.TilesLemmas.{tiles_lie_apart}
 use Rattle.cdf_vars.specs.Setup.{MovesGdr}
-use Rattle.cdf_edits.proofs.Edits.EmptySet.{IsEmptySet, HasNone, AreAlone, empty_shape, empty_has_shape, good_is_alone}
+use Rattle.cdf_edits.proofs.Edits.EmptySet.{IsEmptySet, HasNone, no_attribute, no_variable, AreAlone, empty_shape, empty_has_shape, good_is_alone}
 use Rattle.cdf_vars.proofs.SetUpAnswers.{step_goes}
 use Rattle.cdf_vars.proofs.SetUpHead.{HeadSet, majority_flags, has_none, content_now, good_now}
 use Rattle.cdf_vars.proofs.SetUpMade.{new_records, new_list, was, sound, at, fills, later, as_long as late_long, made_marks, made, place_not_old, place_size, late_longer, count_is, sizes_are, place_end, old_end, old_list, late_empty, late_is, late_sound, old_late, old_late_typed, old_late_size, old_stands, acts_late, new_says}
@@ -245,15 +243,6 @@ module _ (b now : List ℕ) (code : ℕ) (majority : Majority) (dims : List ℕ)
   abbrev may : Allowances
   may = setup_changes
 
-  no_attribute : (m : ℕ) → In m (flat_map attribute_records s.attributes) → ⊥
-  no_attribute m i = subst (λ (as_ : List AttributeShape). In m (flat_map attribute_records as_)) has.attributes i
-
-  no_variable : (m : ℕ) → In m (all_variable_records s) → ⊥
-  no_variable m i = subst (λ (vs : List VariableShape). In m (flat_map variable_records vs)) (none_at_all has.r_variables has.z_variables) i
-    where
-      none_at_all : {rs zs : List VariableShape} → rs ≡ [] → zs ≡ [] → rs ++ zs ≡ []
-      none_at_all p q = rw (p, q) refl
-
   records_now : (shape now).records ≡ records
   records_now = gives.records_stay
 
@@ -274,13 +263,13 @@ module _ (b now : List ℕ) (code : ℕ) (majority : Majority) (dims : List ℕ)
       let lng = late_long good has fine moves.made in
       let marks = made_marks good has fine moves.made in
       let f = keep_file b now may acts snd (keeps_fields snd all records_now 8 cdr_type (cdr_encoding ∷ cdr_flags ∷ cdr_gdr_offset ∷ []) before.cdr_in before.cdr_typed refl refl) tt in
-      let a = keep_attributes b now may acts 0 s.attributes (λ m i. absurd (no_attribute m i)) in
+      let a = keep_attributes b now may acts 0 s.attributes (λ m i. absurd (no_attribute s has m i)) in
       let u = keep_unused snd all records_now may acts
       (λ m i free.
       let l = listed_marks snd fls ltr lng refl (ap (λ (x : Shape). x.records) (late_is good has fine moves.made)) m i free in
       (Avoids-append marks given_marks uir_type m 0 12 l.0 (uir_avoids m), Within-append marks given_marks uir_type m (uir_next_uir ∷ uir_prev_uir ∷ []) l.1 (uir_within m)))
       (λ m i out. Away-append marks given_marks uir_type m (loose_away snd fls ltr lng refl m i out) (uir_away m (λ j. out (listed_before snd fls ltr lng refl m i j)))) in
-      all_keep b now may acts f a (λ m i. absurd (no_variable m i)) u
+      all_keep b now may acts f a (λ m i. absurd (no_variable s has m i)) u
 
   -- ---- of the old one
 

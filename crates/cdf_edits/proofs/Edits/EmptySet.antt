@@ -7,7 +7,7 @@ use Rattle.cdf_format.specs.ChainRules.{adrs_rows, r_vdrs_rows, z_vdrs_rows}
 use Rattle.cdf_format.specs.Chains.{is_in, IsChain}
 use Rattle.cdf_format.specs.Fields.{Holds, number, size_at, type_at, gdr_offset, r_num_dims}
 use Rattle.cdf_format.specs.NotRead.{read_types, unread_type}
-use Rattle.cdf_format.specs.Owners.{attribute_records, times, owned_records, unused_records}
+use Rattle.cdf_format.specs.Owners.{attribute_records, variable_records, times, owned_records, unused_records}
 use Rattle.cdf_format.specs.Records.{Field, gdr_r_vdr_head, gdr_z_vdr_head, gdr_adr_head, gdr_nr_vars, gdr_num_attr, gdr_nz_vars, gdr_uir_head, gdr_r_dim_sizes}
 use Rattle.cdf_format.specs.RecordTypes.{cdr_type, gdr_type, adr_type, r_vdr_type, z_vdr_type, uir_type, is_record_type, fixed_size}
 use Rattle.cdf_format.specs.Shape.{AttributeShape, VariableShape, Shape, adrs, vdrs, HasShape, shape}
@@ -187,6 +187,16 @@ pub record HasNone (s : Shape) : Type 0 where
   pub r_variables : s.r_variables ≡ []
   pub z_variables : s.z_variables ≡ []
 
+-- no record is one of an attribute or of a variable
+pub no_attribute : (s : Shape) → HasNone s → (m : ℕ) → In m (all_attribute_records s) → ⊥
+no_attribute s has m i = subst (λ (as_ : List AttributeShape). In m (flat_map attribute_records as_)) has.attributes i
+
+pub no_variable : (s : Shape) → HasNone s → (m : ℕ) → In m (all_variable_records s) → ⊥
+no_variable s has m i = subst (λ (vs : List VariableShape). In m (flat_map variable_records vs)) (none has.r_variables has.z_variables) i
+  where
+    none : {rs zs : List VariableShape} → rs ≡ [] → zs ≡ [] → rs ++ zs ≡ []
+    none p q = rw (p, q) refl
+
 module _ (b : List ℕ) (good : Good b) (has : HasNone (shape b)) where
   abbrev s : Shape
   s = shape b
@@ -208,18 +218,12 @@ module _ (b : List ℕ) (good : Good b) (has : HasNone (shape b)) where
 
   pub good_is_alone : AreAlone b s.records s.gdr
   good_is_alone m i used = elim (sorted_before sound image.owned_once m i) [
-    | inl p ↦ in_file m (alone (times m (file_records s)) (times m (all_attribute_records s)) (times m (all_variable_records s)) p.1 no_attribute no_variable)
+    | inl p ↦ in_file m (alone (times m (file_records s)) (times m (all_attribute_records s)) (times m (all_variable_records s)) p.1 (times-none m (all_attribute_records s) (no_attribute s has m)) (times-none m (all_variable_records s) (no_variable s has m)))
     | inr p ↦ absurd (used p.0)
   ]
     where
       alone : (f a v : ℕ) → f + (a + v) ≡ 1 → a ≡ 0 → v ≡ 0 → f ≡ 1
       alone f a v p q r = omega arith
-
-      no_attribute : times m (all_attribute_records s) ≡ 0
-      no_attribute = ap (λ (as_ : List AttributeShape). times m (flat_map attribute_records as_)) has.attributes
-
-      no_variable : times m (all_variable_records s) ≡ 0
-      no_variable = rw (has.r_variables, has.z_variables) refl
 
   no_adrs : adrs s ≡ []
   no_adrs = ap (map (λ (a : AttributeShape). a.adr)) has.attributes
