@@ -36,9 +36,9 @@ const FIELDS_SIZE: usize = (GDR_R_DIM_SIZE - RECORD_TYPE) as usize;
 
 /// What the CDF Descriptor Record is to say: the code of the encoding, and Flags.
 #[derive(Clone, Copy)]
-pub struct NewCdr {
-    pub encoding: u32,
-    pub flags: u32,
+struct NewCdr {
+    encoding: u32,
+    flags: u32,
 }
 
 /// Flags with another majority.
@@ -104,6 +104,7 @@ fn write_dims<A: Area>(alloc: Global, area: &mut A, gdr: u64, dims: &[u32]) -> R
     ensures written { OnOk result (WritesDims (A.image area.old) (A.image area.new) gdr dims.now) }
     ensures area { Edits A.frame A.faults area.old area.new result }
 {
+    // An image has fewer than 2^64 bytes, so no place in it overflows.
     let _size = area.size();
     let mut bytes = Vec::new(alloc);
     push_sizes(&mut bytes, dims)?;
@@ -119,6 +120,7 @@ fn copy_gdr<A: Area>(area: &mut A, from: u64, to: u64) -> Result<(), AreaError>
     ensures copied { OnOk result (A.image area.new ≡ put (A.image area.old) (to + 8) (gdr_fields (A.image area.old) from)) }
     ensures area { Edits A.frame A.faults area.old area.new result }
 {
+    // An image has fewer than 2^64 bytes, so no place in it overflows.
     let _size = area.size();
     let mut bytes = [0u8; FIELDS_SIZE];
     area.get(from + RECORD_TYPE, &mut bytes)?;
@@ -193,11 +195,11 @@ fn change_gdr<A: Area>(
 /// What is read of the CDF Descriptor Record and the Global Descriptor Record: where the second stands, its size, Flags of the first,
 /// and whether there is an attribute or a variable.
 #[derive(Clone, Copy)]
-pub struct Heads {
-    pub gdr: u64,
-    pub size: u64,
-    pub flags: u32,
-    pub in_use: bool,
+struct Heads {
+    gdr: u64,
+    size: u64,
+    flags: u32,
+    in_use: bool,
 }
 
 /// Whether there is an attribute or a variable.
