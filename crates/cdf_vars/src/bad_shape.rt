@@ -7,26 +7,21 @@ ghost use Rattle.cdf_model.specs.Values.{notation_of};
 ghost use Rattle.cdf_model.specs.VariableSteps.{are_bad_sizes, is_bad_shape, is_characters};
 
 use cdf_model::DataType;
+use cdf_model::limits::{DIMENSION_LIMIT, SIGNED_LIMIT};
 use cdf_shape::{Shape, record_bytes};
-
-/// The most dimensions.
-const DIMENSION_LIMIT: usize = 10;
-
-/// The greatest size of a dimension.
-const SIZE_LIMIT: u32 = 2_147_483_647;
 
 /// Whether a dimension has no size, or one past 31 bits.
 fn has_bad_size(dims: &[u32]) -> bool
     ensures { result ≡ list_any (λ size. (size == 0) || nat_lt signed_limit size) dims.now }
 {
-    dims.iter().any(|size| *size == 0 || SIZE_LIMIT < *size)
+    dims.iter().any(|size| *size == 0 || *size > SIGNED_LIMIT)
 }
 
 /// Whether there are too many dimensions, or one of a size that it may not have.
-fn are_bad_sizes(dims: &[u32]) -> bool
+pub fn are_bad_sizes(dims: &[u32]) -> bool
     ensures { result ≡ are_bad_sizes dims.now }
 {
-    DIMENSION_LIMIT < dims.len() || has_bad_size(dims)
+    dims.len() > DIMENSION_LIMIT as usize || has_bad_size(dims)
 }
 
 /// Whether values have no element, or several that are no characters.

@@ -1,8 +1,8 @@
 //! The variables of a file: made, changed, deleted and listed in place.
 #![tactic(auto)]
 
-mod blocking;
 mod bad_shape;
+mod blocking;
 mod chain;
 mod creating;
 mod descriptor;

@@ -20,9 +20,9 @@ ghost use Rattle.cdf_model.specs.declared.answer.Outcome.TheVariants.{Refused};
 ghost use Rattle.cdf_model.specs.declared.command.Command.TheVariants.{Setup};
 ghost use Rattle.cdf_vars.specs.Setup.{KeepsGdr, MakesGdr, MovesGdr, WritesCdr, WritesDims, gdr_fields};
 
+use crate::bad_shape::are_bad_sizes;
 use cdf_area::{Area, AreaError};
 use cdf_format::fields::{CDR_PLACE, GDR_R_DIM_SIZE, GDR_SIZE, RECORD_TYPE};
-use cdf_model::limits::{DIMENSION_LIMIT, SIGNED_LIMIT};
 use cdf_model::{Encoding, Majority, Nums, Outcome, Reason, Reply};
 use cdf_records::{
     Gdr, read_cdr, read_gdr, set_cdr_encoding, set_cdr_flags, set_cdr_gdr_offset,
@@ -60,20 +60,6 @@ fn is_encoding(code: u32) -> bool
         Ok(code) => Encoding::of_code(code).is_some(),
         Err(_) => false,
     }
-}
-
-/// Whether a dimension has no size, or one past 31 bits.
-fn has_bad_size(dims: &[u32]) -> bool
-    ensures { result ≡ list_any (λ size. (size == 0) || nat_lt signed_limit size) dims.now }
-{
-    dims.iter().any(|size| *size == 0 || *size > SIGNED_LIMIT)
-}
-
-/// Whether there are too many dimensions, or one of no size or of one past 31 bits.
-fn are_bad_sizes(dims: &[u32]) -> bool
-    ensures { result ≡ are_bad_sizes dims.now }
-{
-    dims.len() > DIMENSION_LIMIT as usize || has_bad_size(dims)
 }
 
 /// Appends the sizes of dimensions as they are stored.
