@@ -1,4 +1,4 @@
-"""Lines of a script as commands, of those on attributes, their entries and the checksum, and quoted text."""
+"""Lines of a script as commands, of those on attributes, their entries, the checksum and variables, and quoted text."""
 from layout import TYPE_NAMED
 from model import Command
 
@@ -52,8 +52,37 @@ def words_of(line):
     return words
 
 
-def command_of(words):
-    kind, rest = words[0].decode(), words[1:]
+def numbers_of(word):
+    """The sizes of dimensions."""
+    return [] if word == b'-' else [int(number) for number in word.split(b',')]
+
+
+def varys_of(word):
+    """Whether each dimension varies."""
+    return [] if word == b'-' else [letter == ord('T') for letter in word]
+
+
+def variable_command(kind, rest):
+    """A command on the head of the data set or on variables, or None."""
+    if kind == 'setup':
+        return Command(kind, encoding=int(rest[0]), row=rest[1] == b'row', dims=numbers_of(rest[2]))
+    if kind in ('rvar', 'zvar'):
+        dims = {'dims': numbers_of(rest[4])} if kind == 'zvar' else {}
+        return Command(kind, name=rest[0], type=TYPE_NAMED[rest[1].decode()].code, elems=int(rest[2]),
+                       vary=rest[3] == b'vary', varys=varys_of(rest[-1]), **dims)
+    if kind == 'rename-var':
+        return Command(kind, name=rest[0], to=rest[1])
+    if kind == 'del-var':
+        return Command(kind, name=rest[0])
+    if kind == 'set-blocking':
+        return Command(kind, name=rest[0], n=int(rest[1]))
+    if kind == 'set-pad':
+        return Command(kind, name=rest[0], words=rest[1:])
+    return None
+
+
+def attribute_command(kind, rest):
+    """A command on attributes or their entries, or None."""
     if kind == 'attr':
         return Command(kind, name=rest[0], scope=1 if rest[1] == b'global' else 2)
     if kind == 'rename-attr':
@@ -65,6 +94,11 @@ def command_of(words):
                        type=TYPE_NAMED[rest[3].decode()].code, words=rest[4:])
     if kind in ('get-entry', 'del-entry'):
         return Command(kind, name=rest[0], entry=rest[1].decode(), num=int(rest[2]))
+    return None
+
+
+def command_of(words):
+    kind, rest = words[0].decode(), words[1:]
     if kind == 'checksum':
         return Command(kind, md5=rest[0] == b'md5')
-    return Command(kind)
+    return attribute_command(kind, rest) or variable_command(kind, rest) or Command(kind)

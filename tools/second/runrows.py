@@ -3,8 +3,8 @@
 The files are read one after the other, as cdf_rows reads them: what one tells of files stays for the next. Of each row
 it says whether the editor writes the same text, ends with the same status and leaves the same file. A line to which the
 row answers BadLine counts as no command. A verdict is right where the rule is broken at the place, whichever of several
-is named; of rules 99 it knows nothing. Of the words it knows --new, --no-save and --space. With --after it prints what
-the run of a row leaves, as lines of a file of rows.
+is named; of rules 99 it knows nothing. Of the words it knows --new, --check, --no-save and --space; what is told of a run on
+standard error it does not look at. With --after it prints what the run of a row leaves, as lines of a file of rows.
 """
 import sys
 from dataclasses import dataclass, field
@@ -12,7 +12,8 @@ from dataclasses import dataclass, field
 from content import content
 from editor import apply
 from image import Image
-from layout import ADR, AGREDR, AZEDR, CDR, GDR, TEXT_TYPES, TYPES, UIR, Adr, Aedr, Cdr, Gdr, Uir, fresh_image
+from layout import (ADR, AGREDR, AZEDR, CDR, GDR, RVDR, TEXT_TYPES, TYPES, UIR, ZVDR, Adr, Aedr, Cdr, Gdr, Uir, Vdr,
+                    fresh_image)
 from model import READERS, Refused
 from rowscript import command_of, quoted, words_of
 from validator import broken, sealed, unsealed
@@ -33,6 +34,9 @@ class Row:
     script: bytes = b''
     text: bytes = b''
     status: int = 0
+    told: str = None
+    under: str = 'a.cdf'
+    is_saved: bool = False
     after: str = None
 
 
@@ -111,6 +115,15 @@ class Table:
 
     def take_status(self, text):
         self.rows[-1].status = int(text)
+
+    def take_told(self, text):
+        self.rows[-1].told = text
+
+    def take_under(self, text):
+        self.rows[-1].under = text
+
+    def take_saved(self, _):
+        self.rows[-1].is_saved = True
 
 
 # Replies
@@ -198,12 +211,16 @@ class Run:
             lines = [f'rejected {phase} {rule} {at}\n'.encode() for phase, rule, at in wrong]
             self.text = self.row.text if self.row.text in lines else lines[0]
             return
-        image = self.carry_out(bytes(fresh_image()) if '--new' in flags else unsealed(bytes(self.before)))
+        image = bytes(fresh_image()) if '--new' in flags else unsealed(bytes(self.before))
+        if '--check' in flags:
+            self.text = b'yes\n'
+        else:
+            image = self.carry_out(image)
         if '--space' in flags:
             eof, used, listed, listed_bytes, loose, loose_bytes = space(Image(image))
             self.text += (f'space eof {eof} used {used} listed {listed} {listed_bytes} unlisted {loose} {loose_bytes}\n'
                           ).encode()
-        if '--no-save' not in flags:
+        if '--no-save' not in flags and '--check' not in flags:
             self.after = sealed(image)
 
 
@@ -228,7 +245,7 @@ def wrong_parts(row, table):
 # A file as lines
 
 RECORDS = {CDR: ('CDR', Cdr), GDR: ('GDR', Gdr), ADR: ('ADR', Adr), AGREDR: ('gr entry', Aedr),
-           AZEDR: ('z entry', Aedr), UIR: ('unused record', Uir)}
+           AZEDR: ('z entry', Aedr), RVDR: ('r variable', Vdr), ZVDR: ('z variable', Vdr), UIR: ('unused record', Uir)}
 
 
 def pieces_of(tile):
@@ -239,7 +256,7 @@ def pieces_of(tile):
     upto = 12
     if tile.type != UIR or tile.size >= 28:
         for name, piece in fields.items():
-            if name != 'Copyright':
+            if name != 'Copyright' and (name != 'zNumDims' or tile.type == ZVDR):
                 yield name, tile.at + piece.offset, piece.width
                 upto = piece.offset + piece.width
     yield 'value' if tile.type in (AGREDR, AZEDR) else 'the rest', tile.at + upto, tile.size - upto
