@@ -3,8 +3,9 @@
 The files are read one after the other, as cdf_rows reads them: what one tells of files stays for the next. Of each row
 it says whether the editor writes the same text, ends with the same status and leaves the same file. A line to which the
 row answers BadLine counts as no command. A verdict is right where the rule is broken at the place, whichever of several
-is named; of rules 99 it knows nothing. Of the words it knows --new, --check, --no-save and --space; what is told of a run on
-standard error it does not look at. With --after it prints what the run of a row leaves, as lines of a file of rows.
+is named; of rules 99 it knows nothing. Of the words it knows --new, --check, --no-save and --space. What is told of
+a run on standard error it does not look at. With --after it prints what the run of a row leaves, as lines of a file
+of rows.
 """
 import sys
 from dataclasses import dataclass, field
@@ -68,6 +69,7 @@ class Table:
 
     def take_file(self, text):
         name, size, *base = text.split()
+        assert name not in self.files, f'the file {name} is told twice'
         data = self.files[base[0]] if base else b''
         self.files[name] = bytearray(data[:int(size)].ljust(int(size), b'\0'))
         self.last = self.files[name]
@@ -269,6 +271,14 @@ def piece_text(name, new):
     return f'{name} {int.from_bytes(new, "big", signed=True)}'
 
 
+# What each new variable has as -1, which is not told
+USUAL = ('MaxRec', 'rfuC', 'rfuF', 'CPRorSPRoffset')
+
+
+def is_usual(tile, name, new):
+    return tile.type in (RVDR, ZVDR) and name in USUAL and not new.strip(b'\xff')
+
+
 def without_same_end(new, was):
     """The bytes of a long piece, but for those at its end that stood there before."""
     upto = len(new)
@@ -284,7 +294,8 @@ def lines_of_record(tile, data, old):
         new, was = bytes(data[at:at + width]), old[at:at + width]
         if new == was:
             continue
-        told.append(piece_text(name, new.rstrip(b'\0') if name == 'Name' else new))
+        if not is_usual(tile, name, new):
+            told.append(piece_text(name, new.rstrip(b'\0') if name == 'Name' else new))
         if name in ('Name', 'the rest') or width > 40:
             new = without_same_end(new, was)
         if runs and runs[-1][1] == at:
@@ -300,8 +311,12 @@ def lines_of_file(name, base_name, base, data):
     """A file by what differs from another: the lines of a file of rows."""
     yield f'file {name} {len(data)} {base_name}'.rstrip()
     old = bytes(base[:len(data)]).ljust(len(data), b'\0')
-    for tile in Image(data).tiles():
+    image = Image(data)
+    for tile in image.tiles():
         yield from lines_of_record(tile, data, old)
+    if len(data) > image.eof:
+        yield '  # And the trailer.'
+        yield f'  at {image.eof} {bytes(data[image.eof:]).hex()}'
 
 
 def main():
