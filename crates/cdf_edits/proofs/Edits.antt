@@ -22,6 +22,8 @@ pub mod FirstRecords
 pub mod FreedBytes
 pub mod FreedRecords
 pub mod FreedEntry
+pub mod FreedVdr
+pub mod PadMoved
 pub mod InRecords
 pub mod LaterCommands
 pub mod MadeEntry
@@ -30,12 +32,14 @@ pub mod LeftEntry
 pub mod MarkLemmas
 pub mod MovedEntry
 pub mod MovedFreed
+pub mod MovedVdr
 pub mod NameWritten
 pub mod NumberedItems
 pub mod OneChain
 pub mod OneSpliced
 pub mod OwnedOnce
 pub mod OwnersKept
+pub mod PadWritten
 pub mod PushedEntry
 pub mod RecordFrame
 pub mod RemovedAttribute

@@ -71,7 +71,7 @@ Confined-append (k ∷ ks) ls types own c d = (c.0, Confined-append ks ls types 
 give_confined : (kind : EntryKind) (list : List ℕ) (old size : ℕ) (own : List ℕ) → In old own → Confined (giving_marks list (entry_type kind) old size) attribute_types own
 give_confined kind list old size own i = (inl refl, (inl refl, (inr (λ m j. elim j [ inl q ↦ subst (λ (x : ℕ). In x own) (sym q) i | inr none ↦ absurd none ]), tt)))
 
-link_then : (b mid now : List ℕ) (m : ℕ) → KeptButLink b mid m → Kept mid now m → KeptButLink b now m
+pub link_then : (b mid now : List ℕ) (m : ℕ) → KeptButLink b mid m → Kept mid now m → KeptButLink b now m
 link_then b mid now m k l =
     let size = late_size b mid m k in
     record {

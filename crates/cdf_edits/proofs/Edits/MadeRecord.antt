@@ -276,7 +276,7 @@ module _ {b taken filled : List ℕ} {s : Shape} {records list : List ℕ} {need
 -- ---- records of the unused list after one was taken
 
 -- each was on it before, or is the rest of one that was
-rest_or_old : (b : List ℕ) (need m : ℕ) → 1 ≤ need → (us : List ℕ) → In m (map (λ pair. pair.0) (taken_from (sized b us) need)) → In m us ⊎ ((p : ℕ) × In p us × (p < m) × (m < p + size_at b p))
+pub rest_or_old : (b : List ℕ) (need m : ℕ) → 1 ≤ need → (us : List ℕ) → In m (map (λ pair. pair.0) (taken_from (sized b us) need)) → In m us ⊎ ((p : ℕ) × In p us × (p < m) × (m < p + size_at b p))
 rest_or_old b need m some [] i = absurd i
 rest_or_old b need m some (p ∷ us) i = elim (either (size_at b p == need)) [
   | inl whole ↦ let j : In m (map (λ pair. pair.0) (sized b us)) = rw whole at i in inl (inr (subst (In m) (places-sized b us) j))

@@ -1,15 +1,15 @@
 -- A variable whose VDR stands at another place, or is another where it is, and whose other records an edit leaves: its links, its content and its rules.
-use Rattle.std.proofs.Common.{◌≡◌, ℕ, ◌≤◌, List, [], ◌∷◌, ◌++◌, Bool, true, sym, ap, subst, ◌∙◌, arith, inl, refl}
+use Rattle.std.proofs.Common.{◌≡◌, ℕ, ◌≤◌, List, [], ◌∷◌, ◌++◌, Bool, true, sym, ap, subst, ◌∙◌, arith, inl, inr, refl}
 use Rattle.std.specs.Prelude.{if◌then◌else◌}
 use Rattle.cdf_format.specs.AttributeRules.{has_name}
 use Rattle.cdf_format.specs.Content.{variable_of}
 use Rattle.cdf_format.specs.Fields.{number, name_in, integer4, size_at}
-use Rattle.cdf_format.specs.Index.{nodes_of, leaves_of}
+use Rattle.cdf_format.specs.Index.{Leaf, nodes_of, leaves_of}
 use Rattle.cdf_format.specs.IndexRules.{index_rows}
 use Rattle.cdf_format.specs.Records.{vdr_vxr_head, vdr_blocking_factor, vdr_name}
 use Rattle.cdf_format.specs.Rules.{Hold}
-use Rattle.cdf_format.specs.Shape.{VariableShape, Shape, cpr_of, is_compressed, HasVariable}
-use Rattle.cdf_format.specs.Sound.{NodeFits, VariableFits, IsSound}
+use Rattle.cdf_format.specs.Shape.{VariableShape, Shape, cpr_of, is_compressed, Each, HasVariable}
+use Rattle.cdf_format.specs.Sound.{LeafFits, NodeFits, VariableFits, IsSound}
 use Rattle.cdf_format.specs.Tiles.{In}
 use Rattle.cdf_format.specs.VariableFields.{records_vary, pad_at}
 use Rattle.cdf_format.specs.VariableRules.{vdr_end, cpr_link, is_named_apart, variable_rows}
@@ -17,12 +17,13 @@ use Rattle.cdf_format.proofs.BytesLemmas.{size_kept, type_kept}
 use Rattle.cdf_format.proofs.Members.{In-append_left, In-append_right}
 use Rattle.cdf_edits.specs.Edits.Edit.{Edit}
 use Rattle.cdf_edits.specs.Edits.Marks.{Mark}
-use Rattle.cdf_edits.proofs.Edits.InRecords.{places_of, index_both, index_rows_both}
+use Rattle.cdf_edits.proofs.Edits.InRecords.{places_of, index_both, index_rows_both, leaves_fit_both, cprs_both}
 use Rattle.cdf_edits.proofs.Edits.RecordFrame.{index_records}
 use Rattle.cdf_edits.proofs.Frame.LinksStay.{SameHeads, index_kept}
 use Rattle.cdf_edits.proofs.Frame.Meaning.{FileSame, Kept}
 use Rattle.cdf_edits.proofs.Frame.OwnerAlone.{Each-in}
-use Rattle.cdf_edits.proofs.Frame.VdrCopied.{VdrCopied, cpr_link_copied, index_link_copied, plain_copied, variable_copied}
+use Rattle.cdf_edits.proofs.Frame.VdrCopied.{VdrCopied, block_fits_copied, cpr_link_copied, index_link_copied, plain_copied, variable_copied}
+use Rattle.cdf_edits.proofs.Frame.SoundStays.{block_kept, nodes_fit_kept, cprs_kept}
 use Rattle.cdf_edits.proofs.Rules.OfIndexes.{index_rules_copied}
 use Rattle.cdf_edits.proofs.Rules.OfVdrCopied.{cpr_stays, variable_rules_copied}
 
@@ -78,3 +79,20 @@ module _ {b now : List ℕ} {s : Shape} {new : List ℕ} {marks : List Mark} {re
   rules_stay ids ids' rules named apart ends larger =
       variable_rules_copied file k larger s.records new ids ids' rules named apart ends packed
       (λ c is. cpr_stays b now s.records new (cpr_link b own.vdr) is (kept (cpr_link b own.vdr) (cpr_own c)) (e.sub (cpr_link b own.vdr) (stand (cpr_link b own.vdr) (cpr_own c))))
+
+  leaves_fit_copied : (leaves : List Leaf) → ((m : ℕ) → In m (places_of leaves) → Kept b now m) → Each (LeafFits b (index_records own) own.vdr) leaves → Each (LeafFits now new v') leaves
+  leaves_fit_copied [] still f = tt
+  leaves_fit_copied (leaf ∷ more) still f = (
+    (block_kept b now (index_records own) new file (heads new (λ m i. e.sub m (stand m i))) leaf.place f.0.0, block_fits_copied file k leaf leaf.packed (still leaf.place (inl refl)) f.0.1),
+    leaves_fit_copied more (λ m i. still m (inr i)) f.1,
+  )
+
+  pub fits_copied : vdr_end now v' ≤ size_at now v' → VariableFits now new (record own { vdr = v' })
+  fits_copied ends =
+      let mine = index_records own in
+      let same = heads new (λ m i. e.sub m (stand m i)) in (
+        ends,
+        nodes_fit_kept b now mine new file same (nodes_of own.index) (λ m i. kept m (node_behind own m i)) fits.1,
+        leaves_fit_copied (leaves_of own.index) (λ m i. kept m (block_behind own m i)) (leaves_fit_both b s.records mine own.vdr (leaves_of own.index) (λ m i. (stand m (block_behind own m i), block_behind own m i)) fits.2),
+        cprs_kept b now mine new file same own.cpr (cprs_both b s.records mine own.cpr (λ m i. (stand m (cpr_behind own m i), cpr_behind own m i)) fits.3),
+      )

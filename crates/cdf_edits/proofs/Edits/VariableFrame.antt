@@ -161,7 +161,7 @@ module _ (b : List ℕ) (s : Shape) where
   first_sub : (v : VariableShape) (more : List VariableShape) → AreOurs b s (v ∷ more) → (m : ℕ) → In m (variable_records v) → In m (all_variable_records s)
   first_sub v more ours m i = ours.sub m (In-append_left m (variable_records v) (flat_map variable_records more) i)
 
-  rest_ours : (v : VariableShape) (more : List VariableShape) → AreOurs b s (v ∷ more) → AreOurs b s more
+  pub rest_ours : (v : VariableShape) (more : List VariableShape) → AreOurs b s (v ∷ more) → AreOurs b s more
   rest_ours v more ours = record { has = ours.has.1; fits = ours.fits.1; sub = λ m i. ours.sub m (In-append_right m (variable_records v) (flat_map variable_records more) i); kinds = λ m i. ours.kinds m (inr i) }
 
   -- those in front of others, and those

@@ -138,7 +138,7 @@ module _ (b now : List ℕ) (may : Allowances) (acts : List Act) where
   keep_own kind n own vdr behind = (vdr, keep_owned b now may acts (OneVariable kind n) (index_records own) behind)
 
   -- the variables of both kinds, of which those of one are given
-  keep_kinds : (kind : Kind) → AllKeep b now may acts (owned_by_variables kind 0 (shapes_of (shape b) kind)) → AllKeep b now may acts (owned_by_variables (other_kind kind) 0 (shapes_of (shape b) (other_kind kind)))
+  pub keep_kinds : (kind : Kind) → AllKeep b now may acts (owned_by_variables kind 0 (shapes_of (shape b) kind)) → AllKeep b now may acts (owned_by_variables (other_kind kind) 0 (shapes_of (shape b) (other_kind kind)))
       → AllKeep b now may acts (owned_by_variables R 0 (shape b).r_variables) × AllKeep b now may acts (owned_by_variables Z 0 (shape b).z_variables)
   keep_kinds R own other = (own, other)
   keep_kinds Z own other = (other, own)

@@ -104,7 +104,7 @@ pub in_middle : (before : List VariableShape) (own : VariableShape) (after : Lis
 in_middle [] own after = inl refl
 in_middle (v ∷ before) own after = inr (in_middle before own after)
 
-least_size : (kind : Kind) → 340 ≤ fixed_size (type_in (variables_chain kind))
+pub least_size : (kind : Kind) → 340 ≤ fixed_size (type_in (variables_chain kind))
 least_size R = omega arith
 least_size Z = omega arith
 

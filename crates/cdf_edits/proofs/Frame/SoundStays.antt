@@ -40,7 +40,7 @@ module _ (b now : List ℕ) (records records' : List ℕ) (file : FileSame b now
       let t = same.types place i in
       λ k. there k && (t k == type)
 
-  block_kept : (place : ℕ) → is_block b records place ≡ true → is_block now records' place ≡ true
+  pub block_kept : (place : ℕ) → is_block b records place ≡ true → is_block now records' place ≡ true
   block_kept place e =
       let i = block_in b records place e in
       let p = is_a_same vvr_type place i in

@@ -1,5 +1,5 @@
 -- What a VDR means that stands at another place, or that has another name, blocking factor, flags or pad value where it is.
-use Rattle.std.proofs.Common.{◌≡◌, ℕ, ℤ, zero, suc, ◌+◌, ◌*◌, ◌^◌, ◌<◌, ◌≤◌, List, [], ◌∷◌, ◌++◌, map, Bool, true, false, not, Some, refl, ap, ap₂, subst, ◌∙◌, arith, inl, inr}
+use Rattle.std.proofs.Common.{◌≡◌, ℕ, ℤ, zero, suc, ◌+◌, ◌*◌, ◌^◌, ◌<◌, ◌≤◌, List, [], ◌∷◌, ◌++◌, map, Bool, true, false, not, Some, refl, sym, ap, ap₂, subst, ◌∙◌, arith, inl, inr}
 use Rattle.std.specs.Prelude.{◌==◌, nat_lt, if◌then◌else◌}
 use Rattle.std.specs.Int.{w32, cast_signed}
 use Rattle.std.specs.List.{enumerate_from, filter, flat_map}
@@ -22,7 +22,7 @@ use Rattle.cdf_format.specs.Shape.{VariableShape, Each, is_compressed}
 use Rattle.cdf_format.specs.VariableFields.{is_z, counted4, dimensions_at, dims_at, elems_at, vary_field, varys_at, type_of_variable, value_bytes, record_bytes, records_vary, has_pad, pad_field, pad_at, sparse_at, records_of_leaf, plain_size}
 use Rattle.cdf_format.specs.Content.{plain_bytes, leaf_records, records_in, variable_of}
 use Rattle.cdf_format.specs.Sound.{BlockFits, LeafFits}
-use Rattle.cdf_format.proofs.BytesLemmas.{bytes_kept}
+use Rattle.cdf_format.proofs.BytesLemmas.{bytes_kept, number_kept, size_kept}
 use Rattle.cdf_edits.proofs.Frame.Meaning.{FileSame, Kept, if_same, pad_place, vary_fits, packed_same}
 
 -- ---- bytes that stand at another place too
@@ -194,6 +194,19 @@ module _ {b now : List ℕ} (file : FileSame b now) {v v' : ℕ} (k : VdrCopied 
       let m = ap (cast_signed w32) raw_max_copied in
       let all = leaves_copied leaves records kept room in
       λ i. filter (λ pair. nat_lt pair.0 (extent (m i))) (all i)
+
+  -- a block has room as it had
+  pub block_fits_copied : (leaf : Leaf) (packed : Bool) → Kept b now leaf.place → BlockFits b v leaf packed → BlockFits now v' leaf packed
+  block_fits_copied leaf true kept room =
+      let c = number_kept b now leaf.place kept.same cvvr_c_size (short (number b leaf.place cvvr_c_size) (size_at b leaf.place) room) in
+      let size = size_kept b now leaf.place kept.same (let l = kept.long in omega arith) in
+      subst (λ (x : ℕ). 24 + number now leaf.place cvvr_c_size ≤ x) (sym size) (subst (λ (x : ℕ). 24 + x ≤ size_at b leaf.place) (sym c) room)
+    where
+      short : (p n : ℕ) → 24 + p ≤ n → 24 ≤ n
+      short p n l = omega arith
+  block_fits_copied leaf false kept room =
+      let size = size_kept b now leaf.place kept.same (let l = kept.long in omega arith) in
+      subst (λ (x : ℕ). 12 + plain_size now v' leaf ≤ x) (sym size) (subst (λ (x : ℕ). 12 + x ≤ size_at b leaf.place) (sym (plain_copied leaf)) room)
 
 -- the variable, whose blocks stay
 pub variable_copied : {b now : List ℕ} (file : FileSame b now) (own own' : VariableShape) (records : List ℕ) → VdrCopied b now own.vdr own'.vdr → own'.index ≡ own.index → ((m : ℕ) → In m (map (λ (leaf : Leaf). leaf.place) (leaves_of own.index)) → Kept b now m) → Each (LeafFits b records own.vdr) (leaves_of own.index)

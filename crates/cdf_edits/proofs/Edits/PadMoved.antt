@@ -1,0 +1,122 @@
+-- The VDR moved of a variable that got a pad value: what the variable means then, and what `set-pad` says of it.
+use Rattle.std.proofs.Common.{◌≡◌, ℕ, ◌+◌, ◌<◌, ◌≤◌, List, [], ◌∷◌, length, Bool, true, Some, None, sym, ap, subst, ◌∙◌, arith, inl, inr}
+use Rattle.std.specs.Int.{cast_signed, w32}
+use Rattle.std.specs.Prelude.{nat_le, if◌then◌else◌}
+use Rattle.cdf_model.specs.ByteOrder.{turned}
+use Rattle.cdf_model.specs.declared.kinds.Kind.{Kind}
+use Rattle.cdf_format.specs.Bytes.{byte}
+use Rattle.cdf_format.specs.Content.{variable_of}
+use Rattle.cdf_format.specs.Fields.{number, name_in, integer4, size_at, has_bit}
+use Rattle.cdf_format.specs.Records.{Field, vdr_blocking_factor, vdr_flags, vdr_name}
+use Rattle.cdf_format.specs.Shape.{VariableShape, is_compressed, shape}
+use Rattle.cdf_format.specs.Stored.{field_bytes, is_little}
+use Rattle.cdf_format.specs.VariableFields.{dimensions_at, has_pad, is_z, pad_at, pad_field, records_vary, type_of_variable, value_bytes}
+use Rattle.cdf_format.specs.VariableRules.{vdr_end}
+use Rattle.cdf_format.specs.WellFormed.{Good}
+use Rattle.cdf_format.proofs.BytesLemmas.{bytes_kept, number_kept}
+use Rattle.cdf_format.proofs.Members.{either}
+use Rattle.cdf_format.proofs.Tests.{le_of}
+use Rattle.cdf_edits.specs.Commands.Allowances.{OutsideFields}
+use Rattle.cdf_edits.specs.Commands.NewRecords.{with_bits}
+use Rattle.cdf_edits.specs.Commands.Variables.{SetsPad}
+use Rattle.cdf_edits.specs.Space.Acts.{Took, Gave}
+use Rattle.cdf_edits.specs.Space.Placement.{Gives}
+use Rattle.cdf_edits.proofs.Edits.FreedVdr.{by_kept, by_long, copied_now, file_now, freed_bytes, moved_means, name_now, packed_now, same_end}
+use Rattle.cdf_edits.proofs.Edits.MovedVdr.{MovesVdr, by_size, file, need, own'}
+use Rattle.cdf_edits.proofs.Edits.PadWritten.{padded_0, padded_1}
+use Rattle.cdf_edits.proofs.Edits.VdrEdited.{StandsAmong}
+use Rattle.cdf_edits.proofs.Frame.Meaning.{pad_long, pad_width}
+use Rattle.cdf_edits.proofs.Frame.VdrCopied.{Copied, word_copied, pad_field_copied, type_copied, value_copied}
+
+-- the new VDR is the old one up to the pad value but for its flags, and ends with these bytes, for which the old one had no room
+pub record HoldsPad (b late : List ℕ) (old by need : ℕ) (bytes : List ℕ) : Type 0 where
+  pub alike : (i : ℕ) → 12 ≤ i → i < (pad_field b old).place → OutsideFields (vdr_flags ∷ []) i → byte late (by + i) ≡ byte b (old + i)
+  pub flags_are : number late by vdr_flags ≡ with_bits (number b old vdr_flags) 1 1 1
+  pub pad_is : field_bytes late by (pad_field b old) ≡ bytes
+  pub whole : vdr_end late by ≡ need
+  pub short : size_at b old < need
+
+module _ {b late now : List ℕ} {kind : Kind} {before : List VariableShape} {own : VariableShape} {after : List VariableShape} {body : List ℕ} {by : ℕ} {bytes : List ℕ} (good : Good b) (at : StandsAmong b kind before own after) (m : MovesVdr b late kind own body by) (gives : Gives late now (shape late) (shape now) own.vdr)
+    (p : HoldsPad b late own.vdr by (8 + length body) bytes) where
+  abbrev old : ℕ
+  old = own.vdr
+
+  abbrev pad : Field
+  pad = pad_field b old
+
+  pad_late : 340 ≤ pad.place
+  pad_late = pad_long (is_z b old) (dimensions_at b old) (value_bytes b old)
+
+  fields_alike : Copied b late old by 80 340
+  fields_alike = record { each = λ i l h. p.alike i (omega arith) (under i pad.place h pad_late) (inr (omega arith), tt) }
+    where
+      under : (i n : ℕ) → i < 340 → 340 ≤ n → i < n
+      under i n l k = omega arith
+
+  flags_now : number now by vdr_flags ≡ with_bits (number b old vdr_flags) 1 1 1
+  flags_now = number_kept late now by (by_kept good at m gives).same vdr_flags (let l = by_long good at m gives in omega arith) ∙ p.flags_are
+
+  blocking_now : integer4 now by vdr_blocking_factor ≡ integer4 b old vdr_blocking_factor
+  blocking_now = ap (cast_signed w32) (number_kept late now by (by_kept good at m gives).same vdr_blocking_factor (let l = by_long good at m gives in omega arith) ∙ word_copied fields_alike 80 4 (omega arith) (omega arith))
+
+  padded_late : has_pad late by ≡ true
+  padded_late = ap (λ (n : ℕ). has_bit n 1) p.flags_are ∙ padded_1 (number b old vdr_flags)
+
+  end_late : vdr_end late by ≡ pad.place + value_bytes b old
+  end_late =
+      let f = pad_field_copied (file good at m) m.copied in
+      let value = value_copied (file good at m) m.copied in
+      let flag = padded_late in
+      λ i. (f i).place + (if flag i then value i else 0)
+
+  pad_fits : pad.place + pad.width ≤ size_at late by
+  pad_fits = subst (λ (k : ℕ). pad.place + k ≤ size_at late by) (sym (pad_width (is_z b old) (dimensions_at b old) (value_bytes b old))) (same (size_at late by) (by_size good at m ∙ sym p.whole ∙ end_late))
+    where
+      same : (n : ℕ) → n ≡ pad.place + value_bytes b old → pad.place + value_bytes b old ≤ n
+      same n e = omega arith
+
+  bytes_now : field_bytes now by pad ≡ bytes
+  bytes_now =
+      let k = by_kept good at m gives in
+      bytes_kept late now by k.same pad pad_fits k.inside (let l = gives.length_is in omega arith) ∙ p.pad_is
+
+  value_now : pad_at now by ≡ Some (turned (type_of_variable b old) (is_little b) bytes)
+  value_now =
+      let same_file = file_now good at m gives in
+      let copied = copied_now good at m gives in
+      let t = type_copied same_file copied in
+      let f = pad_field_copied same_file copied in
+      let flag : has_pad now by ≡ true = ap (λ (n : ℕ). has_bit n 1) flags_now ∙ padded_1 (number b old vdr_flags) in
+      let first : pad_at now by ≡ Some (turned (type_of_variable b old) (is_little b) (field_bytes now by pad)) = λ i. if flag i then Some (turned (t i) (same_file.little i) (field_bytes now by (f i))) else None in
+      first ∙ ap (λ (x : List ℕ). Some (turned (type_of_variable b old) (is_little b) x)) bytes_now
+
+  pub pad_means : variable_of now (own' good at m) ≡ record (variable_of b own) { pad = Some (turned (type_of_variable b old) (is_little b) bytes) }
+  pad_means =
+      let name = name_now good at m gives in
+      let blocking = blocking_now in
+      let vary : records_vary now by ≡ records_vary b old = ap (λ (n : ℕ). has_bit n 0) flags_now ∙ padded_0 (number b old vdr_flags) in
+      let rle = packed_now good at m gives in
+      let value = value_now in
+      let rest : record (variable_of b own) { name = name_in now by vdr_name; vary = records_vary now by; rle = is_compressed now by; blocking = integer4 now by vdr_blocking_factor; pad = pad_at now by } ≡ record (variable_of b own) { pad = Some (turned (type_of_variable b old) (is_little b) bytes) } =
+      λ i. record (variable_of b own) { name = name i; vary = vary i; rle = rle i; blocking = blocking i; pad = value i } in
+      moved_means good at m gives ∙ rest
+
+  pub moved_sets_pad : SetsPad b now old by (Took by (need good at m) ∷ Gave old (size_at b old) ∷ [])
+  moved_sets_pad =
+      let ends = same_end good at m gives ∙ p.whole in
+      record {
+        acts_are = acts_of (vdr_end now by) ends;
+        copied = λ i low high out. (by_kept good at m gives).same.each (by + i) (omega arith) (inside i pad.place pad.width (size_at late by) high pad_fits) ∙ p.alike i low high out;
+        flags_are = flags_now;
+        room = λ l. absurd (never (vdr_end now by) ends l);
+        freed = freed_bytes good at m gives (Took by (need good at m) ∷ Gave old (size_at b old) ∷ []);
+      }
+    where
+      never : (n : ℕ) → n ≡ 8 + length body → n ≤ size_at b old → ⊥
+      never n e l = let s = p.short in omega arith
+
+      acts_of : (n : ℕ) → n ≡ need good at m → (Took by (need good at m) ∷ Gave old (size_at b old) ∷ []) ≡ (if nat_le n (size_at b old) then [] else Took by n ∷ Gave old (size_at b old) ∷ [])
+      acts_of n e = elim (either (nat_le n (size_at b old))) [ inl fit ↦ absurd (never n e (le_of n (size_at b old) fit)) | inr over ↦ sym (ap (λ (q : Bool). if q then [] else Took by n ∷ Gave old (size_at b old) ∷ []) over ∙ ap (λ (k : ℕ). Took by k ∷ Gave old (size_at b old) ∷ []) e) ]
+
+      inside : (i place width n : ℕ) → i < place → place + width ≤ n → by + i < by + n
+      inside i place width n a d = omega arith
