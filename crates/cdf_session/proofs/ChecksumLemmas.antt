@@ -2,15 +2,14 @@
 use Rattle.std.proofs.Common.{◌≡◌, ℕ, ◌<◌, ◌≤◌, ◌^◌, List, [], ◌∷◌, length, Bool, true, false, Some, None, take, refl, sym, ap, subst, ◌∙◌, arith}
 use Rattle.std.specs.Prelude.{if◌then◌else◌}
 use Rattle.cdf_area.specs.Frame.{Frame}
-use Rattle.cdf_attrs.specs.Known.{Known, Knows}
+use Rattle.cdf_attrs.specs.Known.{Known}
 use Rattle.cdf_vars.specs.Known.{Known as KnownVariables}
-use Rattle.cdf_attrs.proofs.KnownAttributes.{none_known}
 use Rattle.cdf_edits.specs.Answers.{Answers}
 use Rattle.cdf_edits.specs.Commands.NewRecords.{with_bits}
 use Rattle.cdf_edits.specs.Follows.{Follows}
 use Rattle.cdf_edits.specs.Frame.Changed.{Changed, touched_field}
 use Rattle.cdf_edits.proofs.Commands.Answered.{gone}
-use Rattle.cdf_edits.proofs.Edits.ChecksumSet.{checksum_follows, content_now, same_shape}
+use Rattle.cdf_edits.proofs.Edits.ChecksumSet.{checksum_follows}
 use Rattle.cdf_edits.proofs.Edits.FieldWritten.{IsField, written_changed, written_reads}
 use Rattle.cdf_edits.proofs.Edits.StepEdits.{fixed_long}
 use Rattle.cdf_format.specs.Content.{content}
@@ -18,7 +17,7 @@ use Rattle.cdf_format.specs.Fields.{flags, has_bit, with_field}
 use Rattle.cdf_format.specs.Records.{cdr_flags}
 use Rattle.cdf_format.specs.RecordTypes.{cdr_type}
 use Rattle.cdf_format.specs.Sealed.{has_checksum}
-use Rattle.cdf_format.specs.Shape.{adrs, HasShape, shape}
+use Rattle.cdf_format.specs.Shape.{HasShape, shape}
 use Rattle.cdf_format.specs.WellFormed.{Good}
 use Rattle.cdf_format.proofs.ChainsLemmas.{is_a-in, is_a-type}
 use Rattle.cdf_format.proofs.GoodSound.{good_is_sound}
@@ -26,12 +25,11 @@ use Rattle.cdf_model.specs.declared.answer.Outcome.TheVariants.{Done}
 use Rattle.cdf_model.specs.declared.answer.Reply.TheVariants as replies
 use Rattle.cdf_model.specs.declared.command.Command.TheVariants as commands
 use Rattle.cdf_model.specs.Limits.{image_limit}
-use Rattle.cdf_model.specs.Names.{attribute_names}
 use Rattle.cdf_records.specs.declared.cdr.Cdr.{Cdr}
 use Rattle.cdf_records.specs.Heads.{cdr_at}
 use Rattle.cdf_session.specs.Seals.{seal_of}
 use Rattle.cdf_session.specs.Sessions.{IsOpen}
-use Rattle.cdf_session.proofs.OpenLemmas.{variables_known}
+use Rattle.cdf_session.proofs.OpenLemmas.{attributes_known, variables_known}
 use Rattle.md5.specs.Md5.{md5 as md5_of}
 use Rattle.std.proofs.lemmas.List.{take_all}
 
@@ -88,9 +86,7 @@ module _ (b now : List ℕ) (md5 : Bool) (good : Good b) (flags_are : flags now 
   checksum_open frame after known vars was kept =
       let fits = was.fits in
       let limited = was.limited in
-      let knows : Knows now (record known { entries = None }) = none_known now known.names known.places
-      (was.knows.names_are ∙ sym (ap attribute_names (content_now b now md5 good changed as_long flags_are)))
-      (was.knows.places_are ∙ sym (ap adrs (same_shape b now md5 good changed as_long flags_are))) in
+      let knows = attributes_known b now (commands.Checksum md5) known refl good (leads (omega arith)) was.knows in
       let variables = variables_known b now (commands.Checksum md5) vars refl good (leads (omega arith)) was.knows_variables in
       let there : IsOpen now frame (record known { entries = None }) vars = record { good = (leads (omega arith)).good; fits = omega arith; limited = limited; unmarked = was.unmarked; knows = knows; knows_variables = variables } in
       subst (λ (f : Frame _). IsOpen now f (record known { entries = None }) vars) (sym kept) there

@@ -5,14 +5,15 @@ use Rattle.std.specs.Prelude.{nat_lt, IfOk, OnOk, OnErr}
 use Rattle.cdf_area.specs.declared.area.AreaError.{AreaError}
 use Rattle.cdf_area.specs.Frame.{Frame, with_base}
 use Rattle.cdf_attrs.specs.Known.{Known, Knows}
+use Rattle.cdf_attrs.proofs.KnownAttributes.{none_known}
 use Rattle.cdf_vars.specs.Known.{Known as KnownVariables, Knows as KnowsVariables}
 use Rattle.cdf_format.specs.Content.{content}
 use Rattle.cdf_edits.specs.Answers.{is_full, MovesIf, Answers}
 use Rattle.cdf_edits.specs.Follows.{Follows}
-use Rattle.cdf_edits.specs.Commands.Others.{is_on_variables}
+use Rattle.cdf_edits.specs.Commands.Others.{is_on_attributes, is_on_variables}
 use Rattle.cdf_edits.specs.Commands.Room.{room}
 use Rattle.cdf_format.specs.WellFormed.{Good}
-use Rattle.cdf_edits.proofs.Commands.OthersStay.{variables_stay}
+use Rattle.cdf_edits.proofs.Commands.OthersStay.{attributes_stay, variables_stay}
 use Rattle.cdf_edits.proofs.Commands.ReadingFollows.{reading_follows}
 use Rattle.cdf_format.proofs.Members.{either}
 use Rattle.cdf_model.specs.declared.answer.Outcome.{Outcome}
@@ -81,6 +82,19 @@ answered_good limit b now c o a good fits = elim (either (is_accepted a.answer (
     short_enough : (n m : ℕ) → n ≤ m → nat_lt limit m ≡ false → n ≤ limit
     short_enough n m le e = grind (arith)
 
+-- what is so before a command and of the image that it leads to is so after its answer
+answered_so : (P : List ℕ → Type 0) (limit : ℕ) (b now : List ℕ) (c : Command) (o : Outcome) → Answers limit b c o now → P b → (Follows b c now → P now) → P now
+answered_so P limit b now c o a before led = elim (either (is_accepted a.answer (is_full limit b c a.answer))) [
+  | inl e ↦ led (subst (λ (p : Bool). MovesIf p b c now) e a.moves)
+  | inr e ↦
+      let same : now ≡ b = subst (λ (p : Bool). MovesIf p b c now) e a.moves in
+      subst P (sym same) before
+]
+
+on_err : {T E P : Type 0} (r : Result T E) → P → OnErr r P
+on_err (Ok x) p = tt
+on_err (Err e) p = p
+
 -- a command that is not on variables leaves what is known of them
 pub variables_known : (b now : List ℕ) (c : Command) (vars : KnownVariables) → is_on_variables c ≡ false → Good b → Follows b c now → KnowsVariables b vars → KnowsVariables now vars
 variables_known b now c vars other good follows knows =
@@ -90,13 +104,26 @@ variables_known b now c vars other good follows knows =
       z_known = record { names_are = knows.z_known.names_are ∙ sym (stay.names_stay Z); places_are = knows.z_known.places_are ∙ sym (stay.places_stay Z) };
     }
 
-answered_variables : (limit : ℕ) (b now : List ℕ) (c : Command) (o : Outcome) (vars : KnownVariables) → Answers limit b c o now → is_on_variables c ≡ false → Good b → KnowsVariables b vars → KnowsVariables now vars
-answered_variables limit b now c o vars a other good knows = elim (either (is_accepted a.answer (is_full limit b c a.answer))) [
-  | inl e ↦ variables_known b now c vars other good (subst (λ (p : Bool). MovesIf p b c now) e a.moves) knows
-  | inr e ↦
-      let same : now ≡ b = subst (λ (p : Bool). MovesIf p b c now) e a.moves in
-      subst (λ (x : List ℕ). KnowsVariables x vars) (sym same) knows
-]
+variables_after : (limit : ℕ) (b start made : List ℕ) (c : Command) (vars : KnownVariables) → is_on_variables c ≡ false → Good b → KnowsVariables b vars → start ≡ b
+    → (done : Result Outcome AreaError) → IfOk done (λ o. Answers limit start c o made) → OnOk done (KnowsVariables made vars)
+variables_after limit b start made c vars other good knows begins (Ok o) answers =
+    answered_so (λ (x : List ℕ). KnowsVariables x vars) limit b made c o (subst (λ (x : List ℕ). Answers limit x c o made) begins answers) knows (λ f. variables_known b made c vars other good f knows)
+variables_after limit b start made c vars other good knows begins (Err error) answers = tt
+
+-- one that is not on attributes leaves what is known of them, but for the entries of one chain, which are to be forgotten
+pub attributes_known : (b now : List ℕ) (c : Command) (known : Known) → is_on_attributes c ≡ false → Good b → Follows b c now → Knows b known → Knows now (record known { entries = None })
+attributes_known b now c known other good follows knows =
+    let stay = attributes_stay b now c other good follows in
+    none_known now known.names known.places (knows.names_are ∙ sym stay.names_stay) (knows.places_are ∙ sym stay.places_stay)
+
+forgotten : (b : List ℕ) (known : Known) → Knows b known → Knows b (record known { entries = None })
+forgotten b known knows = none_known b known.names known.places knows.names_are knows.places_are
+
+attributes_after : (limit : ℕ) (b start made : List ℕ) (c : Command) (known : Known) → is_on_attributes c ≡ false → Good b → Knows b known → start ≡ b
+    → (done : Result Outcome AreaError) → IfOk done (λ o. Answers limit start c o made) → OnOk done (Knows made (record known { entries = None }))
+attributes_after limit b start made c known other good knows begins (Ok o) answers =
+    answered_so (λ (x : List ℕ). Knows x (record known { entries = None })) limit b made c o (subst (λ (x : List ℕ). Answers limit x c o made) begins answers) (forgotten b known knows) (λ f. attributes_known b made c known other good f knows)
+attributes_after limit b start made c known other good knows begins (Err error) answers = tt
 
 -- the mark is gone at the end
 pub frame_back : {U : Type 0} (frame marked end : Frame U) (b : List ℕ) → frame.base ≡ None → marked ≡ with_base frame (Some b) → end ≡ with_base marked None → end ≡ frame
@@ -106,20 +133,49 @@ some_same : (b now : List ℕ) → Some b ≡ Some now → now ≡ b
 some_same b now e = cc e
 
 -- It was carried out and kept, or it was not and all was taken back. The facts are those that the calls between give.
-pub ends_open : {U : Type 0} (b start made now : List ℕ) (frame first marked end : Frame U) (known after : Known) (vars : KnownVariables) (c : Command) → is_on_variables c ≡ false → (done : Result Outcome AreaError)
-    → IsOpen b frame known vars → start ≡ b → first ≡ with_base frame (Some b) → marked ≡ first → end ≡ with_base marked None
-    → IfOk done (λ o. Answers first.limit start c o made) → OnOk done (Knows made after) → OnErr done (Knows start after)
-    → OnOk done (now ≡ made) → OnErr done (marked.base ≡ Some now) → IsOpen now end after vars
-ends_open b start made now frame first marked end known after vars c other (Ok o) was begins is stays ends answers knows stay kept undone =
+ends_known : {U : Type 0} (b start made now : List ℕ) (frame first marked end : Frame U) (known after : Known) (vars vars' : KnownVariables) (c : Command) (done : Result Outcome AreaError)
+    → IsOpen b frame known vars → start ≡ b → first ≡ with_base frame (Some b) → marked ≡ first → end ≡ with_base marked None → IfOk done (λ o. Answers first.limit start c o made)
+    → OnOk done (Knows made after) → OnErr done (Knows start after) → OnOk done (KnowsVariables made vars') → OnErr done (KnowsVariables start vars')
+    → OnOk done (now ≡ made) → OnErr done (marked.base ≡ Some now) → IsOpen now end after vars'
+ends_known b start made now frame first marked end known after vars vars' c (Ok o) was begins is stays ends answers knows stay knows_variables stay_variables kept undone =
     let f = frame_back frame marked end b was.unmarked (stays ∙ is) ends in
     let limit : first.limit ≡ frame.limit = ap (λ (m : Frame _). m.limit) is in
     let answered : Answers frame.limit b c o made = transport (λ i. Answers (limit i) (begins i) c o made) answers in
     let good = answered_good frame.limit b made c o answered was.good was.fits in
-    let same_variables = answered_variables frame.limit b made c o vars answered other was.good was.knows_variables in
-    let there : IsOpen made frame after vars = record { good = good.0; fits = good.1; limited = was.limited; unmarked = was.unmarked; knows = knows; knows_variables = same_variables } in
-    transport (λ i. IsOpen (sym kept i) (sym f i) after vars) there
-ends_open b start made now frame first marked end known after vars c other (Err error) was begins is stays ends answers knows stay kept undone =
+    let there : IsOpen made frame after vars' = record { good = good.0; fits = good.1; limited = was.limited; unmarked = was.unmarked; knows = knows; knows_variables = knows_variables } in
+    transport (λ i. IsOpen (sym kept i) (sym f i) after vars') there
+ends_known b start made now frame first marked end known after vars vars' c (Err error) was begins is stays ends answers knows stay knows_variables stay_variables kept undone =
     let f = frame_back frame marked end b was.unmarked (stays ∙ is) ends in
     let back : now ≡ b = some_same b now (sym (ap (λ (m : Frame _). m.base) (stays ∙ is)) ∙ undone) in
-    let there : IsOpen b frame after vars = record { good = was.good; fits = was.fits; limited = was.limited; unmarked = was.unmarked; knows = subst (λ (x : List ℕ). Knows x after) begins stay; knows_variables = was.knows_variables } in
-    transport (λ i. IsOpen (sym back i) (sym f i) after vars) there
+    let there : IsOpen start frame after vars' = record { good = good_stays b start was.good begins; fits = subst (λ (x : List ℕ). length x ≤ frame.limit) (sym begins) was.fits; limited = was.limited; unmarked = was.unmarked; knows = stay; knows_variables = stay_variables } in
+    transport (λ i. IsOpen ((begins ∙ sym back) i) (sym f i) after vars') there
+
+-- of a command on attributes
+pub ends_open : {U : Type 0} (b start made now : List ℕ) (frame first marked end : Frame U) (known after : Known) (vars : KnownVariables) (c : Command) → is_on_variables c ≡ false → (done : Result Outcome AreaError)
+    → IsOpen b frame known vars → start ≡ b → first ≡ with_base frame (Some b) → marked ≡ first → end ≡ with_base marked None
+    → IfOk done (λ o. Answers first.limit start c o made) → OnOk done (Knows made after) → OnErr done (Knows start after)
+    → OnOk done (now ≡ made) → OnErr done (marked.base ≡ Some now) → IsOpen now end after vars
+ends_open b start made now frame first marked end known after vars c other done was begins is stays ends answers knows stay kept undone =
+    ends_known b start made now frame first marked end known after vars vars c done was begins is stays ends answers knows stay
+    (variables_after first.limit b start made c vars other was.good was.knows_variables begins done answers)
+    (on_err done (subst (λ (x : List ℕ). KnowsVariables x vars) (sym begins) was.knows_variables)) kept undone
+
+-- of a command on variables, after which the entries that were kept are forgotten
+pub ends_on_variables : {U : Type 0} (b start made now : List ℕ) (frame first marked end : Frame U) (known after : Known) (vars vars' : KnownVariables) (c : Command) → is_on_attributes c ≡ false → (done : Result Outcome AreaError)
+    → IsOpen b frame known vars → start ≡ b → first ≡ with_base frame (Some b) → marked ≡ first → end ≡ with_base marked None → after ≡ record known { entries = None }
+    → IfOk done (λ o. Answers first.limit start c o made) → OnOk done (KnowsVariables made vars') → OnErr done (KnowsVariables start vars')
+    → OnOk done (now ≡ made) → OnErr done (marked.base ≡ Some now) → IsOpen now end after vars'
+ends_on_variables b start made now frame first marked end known after vars vars' c other done was begins is stays ends forgot answers knows stay kept undone =
+    subst (λ (k : Known). IsOpen now end k vars') (sym forgot)
+    (ends_known b start made now frame first marked end known (record known { entries = None }) vars vars' c done was begins is stays ends answers
+    (attributes_after first.limit b start made c known other was.good was.knows begins done answers)
+    (on_err done (subst (λ (x : List ℕ). Knows x (record known { entries = None })) (sym begins) (forgotten b known was.knows))) knows stay kept undone)
+
+-- of a command on neither, after which they are forgotten too
+pub ends_on_neither : {U : Type 0} (b start made now : List ℕ) (frame first marked end : Frame U) (known after : Known) (vars : KnownVariables) (c : Command) → is_on_attributes c ≡ false → is_on_variables c ≡ false → (done : Result Outcome AreaError)
+    → IsOpen b frame known vars → start ≡ b → first ≡ with_base frame (Some b) → marked ≡ first → end ≡ with_base marked None → after ≡ record known { entries = None }
+    → IfOk done (λ o. Answers first.limit start c o made) → OnOk done (now ≡ made) → OnErr done (marked.base ≡ Some now) → IsOpen now end after vars
+ends_on_neither b start made now frame first marked end known after vars c not_attributes not_variables done was begins is stays ends forgot answers kept undone =
+    ends_on_variables b start made now frame first marked end known after vars vars c not_attributes done was begins is stays ends forgot answers
+    (variables_after first.limit b start made c vars not_variables was.good was.knows_variables begins done answers)
+    (on_err done (subst (λ (x : List ℕ). KnowsVariables x vars) (sym begins) was.knows_variables)) kept undone

@@ -3,6 +3,15 @@ use Rattle.std.specs.Prelude.{Bool, true, false}
 use Rattle.cdf_model.specs.declared.command.Command.{Command}
 use Rattle.cdf_model.specs.declared.command.Command.TheVariants as commands
 
+-- of the commands on variables, and `setup`, those that there are by now
+abbrev pub built_on_variables : Command → Bool
+built_on_variables (commands.Setup encoding majority dims) = true
+built_on_variables (commands.RVar name t elems vary varys) = true
+built_on_variables (commands.ZVar name t elems vary dims varys) = true
+built_on_variables (commands.RenameVar from to) = true
+built_on_variables (commands.SetBlocking var n) = true
+built_on_variables c = false
+
 -- the commands that there are by now
 abbrev pub built : Command → Bool
 built commands.Info = true
@@ -14,4 +23,4 @@ built (commands.PutEntry attr kind num t words) = true
 built (commands.GetEntry attr kind num) = true
 built (commands.DelEntry attr kind num) = true
 built (commands.Checksum md5) = true
-built c = false
+built c = built_on_variables c

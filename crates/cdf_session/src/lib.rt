@@ -5,6 +5,7 @@ mod adopting;
 mod checksum;
 mod loading;
 mod new_file;
+mod on_variables;
 mod reading;
 mod refusal;
 mod session;

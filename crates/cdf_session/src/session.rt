@@ -23,9 +23,7 @@ use crate::refusal::{AdoptError, Refusal};
 use cdf_area::{Area, AreaError};
 use cdf_attrs::Attrs;
 use cdf_check::check;
-use cdf_model::{
-    Command, DataType, EntryKind, Items, LineError, Outcome, Reason, Reply, Scope, Space, Words,
-};
+use cdf_model::{Command, DataType, EntryKind, Items, Outcome, Reply, Scope, Space, Words};
 use cdf_space::space_of;
 use cdf_vars::Vars;
 use std::alloc::Global;
@@ -34,10 +32,10 @@ use std::marker::Model;
 /// A file under edit, in an area that ends at its eof.
 #[derive(Drop)]
 pub struct Session<A: Area> {
-    alloc: Global,
-    area: A,
-    attrs: Attrs,
-    vars: Vars,
+    pub(crate) alloc: Global,
+    pub(crate) area: A,
+    pub(crate) attrs: Attrs,
+    pub(crate) vars: Vars,
 }
 
 impl<A: Area> Model for Session<A> {
@@ -49,7 +47,10 @@ impl<A: Area> Model for Session<A> {
 }
 
 /// Ends what began at the mark: a command that was carried out is kept, and after an error all is taken back.
-fn settle<A: Area>(area: &mut A, done: Result<Outcome, AreaError>) -> Result<Outcome, AreaError>
+pub(crate) fn settle<A: Area>(
+    area: &mut A,
+    done: Result<Outcome, AreaError>,
+) -> Result<Outcome, AreaError>
     requires marked { IsSome (A.frame area.old).base }
     ensures same { result ≡ done }
     ensures kept { OnOk done (A.image area.new ≡ A.image area.old) }
@@ -181,11 +182,7 @@ impl<A: Area> Session<A> {
                 words,
             } => self.put_entry(attr.as_slice(), *kind, *num, *t, words),
             Command::Checksum { md5 } => self.checksum(*md5),
-            _ => Ok(Outcome::Refused {
-                reason: Reason::BadLine {
-                    fault: LineError::UnknownWord { at: 0 },
-                },
-            }),
+            _ => self.apply_to_variables(command),
         }
     }
 

@@ -1,7 +1,8 @@
 -- What a session answers can be written.
 use Rattle.std.proofs.Common.{◌≡◌, ℕ, Bool, true, false, List, [], ◌∷◌, ◌++◌, Option, Some, None, Result, Ok, Err, refl, sym, ◌∙◌, subst}
-use Rattle.std.specs.Prelude.{if◌then◌else◌}
+use Rattle.std.specs.Prelude.{if◌then◌else◌, pos, not, nat_lt}
 use Rattle.std.specs.List.{remove}
+use Rattle.std.specs.Option.{is_none}
 use Rattle.cdf_edits.specs.Answers.{Answers, MovesIf, is_full}
 use Rattle.cdf_format.specs.Content.{content}
 use Rattle.cdf_format.specs.WellFormed.{Good}
@@ -11,17 +12,23 @@ use Rattle.cdf_model.specs.declared.answer.Reason.{Reason}
 use Rattle.cdf_model.specs.declared.answer.Reason.TheVariants as reasons
 use Rattle.cdf_model.specs.declared.answer.Reply.TheVariants as replies
 use Rattle.cdf_model.specs.declared.command.Command.{Command}
-use Rattle.cdf_model.specs.declared.command.Command.TheVariants.{Info, List as Lists, Attr, RenameAttr, DelAttr, PutEntry, GetEntry, DelEntry, Checksum}
+use Rattle.cdf_model.specs.declared.command.Command.TheVariants.{Info, List as Lists, Attr, RenameAttr, DelAttr, PutEntry, GetEntry, DelEntry, Setup, RVar, ZVar, RenameVar, SetBlocking, Checksum}
+use Rattle.cdf_model.specs.declared.head.Majority.{Majority}
+use Rattle.cdf_model.specs.declared.kinds.Kind.{Kind}
+use Rattle.cdf_model.specs.declared.kinds.Kind.TheVariants.{R, Z}
 use Rattle.cdf_model.specs.declared.kinds.Scope.{Scope}
 use Rattle.cdf_model.specs.declared.data_type.DataType.{DataType}
 use Rattle.cdf_model.specs.declared.kinds.EntryKind.{EntryKind}
 use Rattle.cdf_model.specs.AttributeSteps.{attr_step, rename_attr_step, del_attr_step, put_entry_step, get_entry_step, del_entry_step, entries_of, entry_by, is_out_of_range, is_wrong_scope, new_attribute, with_attribute, with_entries}
 use Rattle.cdf_model.specs.Answers.{Answer, Go, Refuse, is_accepted, outcome, unless, given, valued}
 use Rattle.cdf_model.specs.DataSet.{Attribute, DataSet, Entry}
-use Rattle.cdf_model.specs.Names.{is_bad_name, is_among, attribute_names, attribute_named}
+use Rattle.cdf_model.specs.Encodings.{encoding_at}
+use Rattle.cdf_model.specs.Limits.{signed_limit}
+use Rattle.cdf_model.specs.Names.{Found, is_bad_name, is_among, attribute_names, attribute_named, variable_named, variable_names, variables_of, with_variables}
 use Rattle.cdf_model.specs.Numbered.{item_at, with_item, without}
 use Rattle.cdf_model.specs.Values.{notation_of}
 use Rattle.cdf_model.specs.Step.{ByStep, step}
+use Rattle.cdf_model.specs.VariableSteps.{are_bad_sizes, is_bad_shape, is_empty_set, new_variable, rename_var_step, set_blocking_step, setup_step, var_step, with_variable}
 use Rattle.cdf_session.specs.Built.{built}
 use Rattle.cdf_model.specs.Whole.{CanBeWritten, HasWholeValues}
 use Rattle.cdf_session.specs.Sessions.{AnswersBuilt}
@@ -76,6 +83,28 @@ del_entry_whole d name kind num =
     given_whole {A = ℕ × Attribute} reasons.NoSuchAttr (attribute_named d name) answer
     (λ found. unless_whole ((is_wrong_scope kind found.1.scope, reasons.WrongScope) ∷ []) (given reasons.NoSuchEntry (item_at num (entries_of found.1 kind)) (delete found)) (given_whole {A = Entry} reasons.NoSuchEntry (item_at num (entries_of found.1 kind)) (delete found) (λ entry. tt)))
 
+setup_whole : (d : DataSet) (encoding : ℕ) (majority : Majority) (dims : List ℕ) → IsWholeAnswer (setup_step d encoding majority dims)
+setup_whole d encoding majority dims =
+    unless_whole ((is_none (encoding_at encoding), reasons.NumberOutOfRange) ∷ (are_bad_sizes dims, reasons.BadShape) ∷ (not (is_empty_set d), reasons.InUse) ∷ [])
+    (Go (record d { encoding = encoding; majority = majority; rdims = dims }) replies.Plain) tt
+
+var_whole : (d : DataSet) (kind : Kind) (name : List ℕ) (t : DataType) (elems : ℕ) (vary : Bool) (dims : List ℕ) (varys : List Bool) → IsWholeAnswer (var_step d kind name t elems vary dims varys)
+var_whole d kind name t elems vary dims varys =
+    unless_whole ((is_bad_name name, reasons.BadName) ∷ (is_among name (variable_names d), reasons.NameTaken) ∷ (is_bad_shape t elems dims varys, reasons.BadShape) ∷ [])
+    (Go (with_variables d kind (variables_of d kind ++ new_variable name t elems dims varys vary ∷ [])) replies.Plain) tt
+
+-- of a command that changes the variable that it names
+variable_whole : (d : DataSet) (name : List ℕ) (checks : List (Bool × Reason)) (changed : Found → DataSet) → IsWholeAnswer (given reasons.NoSuchVar (variable_named d name) (λ found. unless checks (Go (changed found) replies.Plain)))
+variable_whole d name checks changed =
+    given_whole {A = Found} reasons.NoSuchVar (variable_named d name) (λ found. unless checks (Go (changed found) replies.Plain)) (λ found. unless_whole checks (Go (changed found) replies.Plain) tt)
+
+rename_var_whole : (d : DataSet) (from to : List ℕ) → IsWholeAnswer (rename_var_step d from to)
+rename_var_whole d from to =
+    variable_whole d from ((is_bad_name to, reasons.BadName) ∷ (is_among to (variable_names d), reasons.NameTaken) ∷ []) (λ found. with_variable d found (record found.variable { name = to }))
+
+set_blocking_whole : (d : DataSet) (name : List ℕ) (n : ℕ) → IsWholeAnswer (set_blocking_step d name n)
+set_blocking_whole d name n = variable_whole d name ((nat_lt signed_limit n, reasons.NumberOutOfRange) ∷ []) (λ found. with_variable d found (record found.variable { blocking = pos n }))
+
 by_step : (x y : Answer) → ByStep x ≡ ByStep y → x ≡ y
 by_step x y same = cc
 
@@ -100,5 +129,12 @@ can_be_written limit b (PutEntry attr kind num t words) o now a = from_answers l
 can_be_written limit b (DelEntry attr kind num) o now a = from_answers limit b (DelEntry attr kind num) o now (del_entry_step (content b) attr kind num) refl (del_entry_whole (content b) attr kind num) a
 can_be_written limit b (GetEntry attr kind num) o now a =
     subst CanBeWritten (sym a.outcome_is) (entry_written b attr kind num now a.answer (is_full limit b (GetEntry attr kind num) a.answer) (by_step (get_entry_step (content b) attr kind num) a.answer a.step_is) a.moves)
+can_be_written limit b (Setup encoding majority dims) o now a = from_answers limit b (Setup encoding majority dims) o now (setup_step (content b) encoding majority dims) refl (setup_whole (content b) encoding majority dims) a
+can_be_written limit b (RVar name t elems vary varys) o now a =
+    from_answers limit b (RVar name t elems vary varys) o now (var_step (content b) R name t elems vary (content b).rdims varys) refl (var_whole (content b) R name t elems vary (content b).rdims varys) a
+can_be_written limit b (ZVar name t elems vary dims varys) o now a =
+    from_answers limit b (ZVar name t elems vary dims varys) o now (var_step (content b) Z name t elems vary dims varys) refl (var_whole (content b) Z name t elems vary dims varys) a
+can_be_written limit b (RenameVar from to) o now a = from_answers limit b (RenameVar from to) o now (rename_var_step (content b) from to) refl (rename_var_whole (content b) from to) a
+can_be_written limit b (SetBlocking var n) o now a = from_answers limit b (SetBlocking var n) o now (set_blocking_step (content b) var n) refl (set_blocking_whole (content b) var n) a
 can_be_written limit b (Checksum md5) o now a = from_answers limit b (Checksum md5) o now (Go (record (content b) { md5 = md5 }) replies.Plain) refl tt a
 can_be_written limit b c o now a = subst CanBeWritten (sym a.0) tt
