@@ -2,5 +2,6 @@ pub mod Chains
 pub mod Creating
 pub mod Finding
 pub mod Known
+pub mod Padding
 pub mod Reading
 pub mod Setup

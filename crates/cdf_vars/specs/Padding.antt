@@ -1,0 +1,101 @@
+-- How a variable gets a pad value: what is read of its VDR, the record that is made where the VDR has no room, and how that takes its place (own).
+use Rattle.std.specs.Prelude.{◌≡◌, ◌<◌, ℕ, ◌+◌, ◌-◌, ◌*◌, List, ◌∷◌, ◌++◌, length, take, drop, slice_set, slice_index, Bool, true, ◌||◌, ◌==◌, Some, Ok}
+use Rattle.byteorder.specs.Endian.{big_bytes}
+use Rattle.cdf_base.specs.Bytes.{put}
+use Rattle.cdf_edits.specs.Answers.{Answers}
+use Rattle.cdf_edits.specs.Commands.Allowances.{shapes_of}
+use Rattle.cdf_edits.specs.Commands.NewRecords.{with_bits}
+use Rattle.cdf_edits.specs.Space.Chains.{Replaced}
+use Rattle.cdf_edits.specs.Space.Placement.{Gives}
+use Rattle.cdf_edits.specs.Space.Placing.{Placed}
+use Rattle.cdf_edits.specs.Space.VariableChains.{variables_chain}
+use Rattle.cdf_format.specs.Fields.{number, size_at}
+use Rattle.cdf_format.specs.Records.{vdr_flags}
+use Rattle.cdf_format.specs.Shape.{VariableShape, shape}
+use Rattle.cdf_format.specs.Stored.{is_little}
+use Rattle.cdf_format.specs.VariableFields.{elems_at, pad_field, type_of_variable, value_bytes}
+use Rattle.cdf_model.specs.ByteOrder.{turned}
+use Rattle.cdf_model.specs.declared.answer.Outcome.TheVariants as outcomes
+use Rattle.cdf_model.specs.declared.command.Command.TheVariants.{SetPad}
+use Rattle.cdf_model.specs.declared.data_type.DataType.{DataType}
+use Rattle.cdf_model.specs.declared.kinds.Kind.{Kind}
+use Rattle.cdf_model.specs.Types.{size_of}
+use Rattle.cdf_model.specs.Values.{notation_of, values_in}
+use Rattle.cdf_model.specs.VariableSteps.{is_characters}
+use Rattle.cdf_records.specs.Pieces.{AreBytes}
+use Rattle.cdf_vars.specs.declared.vars.VarId.{VarId}
+use Rattle.cdf_vars.specs.declared.padding.PadRequest.{PadRequest}
+use Rattle.cdf_vars.specs.declared.padding.PadRequest.TheVariants.{Put, Refused}
+use Rattle.cdf_vars.specs.declared.pad_place.PadPlace.{PadPlace}
+use Rattle.cdf_vars.specs.Finding.{found_among}
+use Rattle.cdf_vars.specs.Known.{Known, known_of}
+
+-- the VDR of a variable of a kind stands at a place
+pub record IsVdr (b : List ℕ) (kind : Kind) (vdr : ℕ) : Type 0 where
+  pub before : List VariableShape
+  pub own : VariableShape
+  pub after : List VariableShape
+  pub was : shapes_of (shape b) kind ≡ before ++ record own { vdr = vdr } ∷ after
+
+-- what is read of the VDR at a place
+pub record IsPlace (b : List ℕ) (vdr : ℕ) (p : PadPlace) : Type 0 where
+  pub vdr_is : p.vdr ≡ vdr
+  pub t_is : p.t ≡ type_of_variable b vdr
+  pub elems_are : p.elems ≡ elems_at b vdr
+  pub at_is : p.at ≡ (pad_field b vdr).place
+  pub size_is : p.size ≡ size_at b vdr
+  pub flags_are : p.flags ≡ number b vdr vdr_flags
+  pub bytes : AreBytes b vdr 84
+
+-- a value has one element, unless they are the letters of a text
+abbrev pub HasElements : DataType → ℕ → Type 0
+HasElements t elems = ((elems == 1) || is_characters (notation_of t)) ≡ true
+
+-- a word writes bytes of a value, in the byte order of a file
+pub record IsValue (little : Bool) (t : DataType) (elems : ℕ) (words : List (List ℕ)) (bytes : List ℕ) : Type 0 where
+  pub value : List ℕ
+  pub read : values_in t elems 1 words ≡ Ok value
+  pub turns : turned t little bytes ≡ value
+  pub long : length bytes ≡ size_of t * elems
+
+-- the variable of a name gets these bytes at a place
+pub record MayPad (b : List ℕ) (known : Known) (name : List ℕ) (words : List (List ℕ)) (id : VarId) (p : PadPlace) (bytes : List ℕ) : Type 0 where
+  pub found : found_among known name ≡ Some id
+  pub place : IsPlace b p.vdr p
+  pub vdr_is : p.vdr ≡ slice_index (known_of known id.kind).places id.num
+  pub value : IsValue (is_little b) p.t p.elems words bytes
+
+abbrev pub IsRequest : List ℕ → Known → List ℕ → List (List ℕ) → PadRequest → Type 0
+IsRequest b known name words (Put id p bytes) = MayPad b known name words id p bytes.items
+IsRequest b known name words (Refused reason) = (limit : ℕ) → Answers limit b (SetPad name words) (outcomes.Refused reason) b
+
+-- bit 1 of Flags says that there is a pad value
+abbrev pub padded_flags : ℕ → ℕ
+padded_flags n = with_bits n 1 1 1
+
+-- what follows the size of a VDR with these bytes as its pad value, which has all before that of one at a place but bit 1 of Flags
+abbrev pub padded_body : List ℕ → ℕ → List ℕ → List ℕ
+padded_body b vdr bytes = put (take ((pad_field b vdr).place - 8) (drop (vdr + 8) b)) 36 (big_bytes 4 (padded_flags (number b vdr vdr_flags))) ++ bytes
+
+-- it has the bytes of a value, for which the VDR had no room
+pub record IsPadded (b : List ℕ) (vdr : ℕ) (body : List ℕ) : Type 0 where
+  pub bytes : List ℕ
+  pub is : body ≡ padded_body b vdr bytes
+  pub long : length bytes ≡ value_bytes b vdr
+  pub short : size_at b vdr < (pad_field b vdr).place + length bytes
+  pub read : AreBytes b vdr 84
+
+-- A record with these bytes behind its size took the place of the VDR, which was freed.
+pub record MovedTo (b now : List ℕ) (kind : Kind) (vdr : ℕ) (body : List ℕ) (by : ℕ) : Type 0 where
+  pub filled : List ℕ
+  pub late : List ℕ
+  pub placed : Placed b filled body by
+  pub replaced : Replaced filled late (variables_chain kind) vdr by
+  pub read : AreBytes late by 84
+  pub gives : Gives late now (shape late) (shape now) vdr
+
+-- the VDR at an index of these places moved
+pub record Moves (b now : List ℕ) (kind : Kind) (p : PadPlace) (bytes : List ℕ) (places places' : List ℕ) (num : ℕ) : Type 0 where
+  pub by : ℕ
+  pub moved : MovedTo b now kind p.vdr (padded_body b p.vdr bytes) by
+  pub places_are : places' ≡ slice_set places num by
