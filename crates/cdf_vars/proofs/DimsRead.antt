@@ -19,7 +19,7 @@ module _ (b now : List ℕ) (good : Good b) (same : now ≡ b) (g : ℕ) (there 
   count_lies = let l = gdr_fits b good in let n : length now ≡ length b = ap (λ (x : List ℕ). length x) same in omega arith
 
   module _ (n : ℕ) (says : n ≡ word now (g + 56) 4) where
-    count_is : n ≡ r_num_dims b (gdr_offset b)
+    pub count_is : n ≡ r_num_dims b (gdr_offset b)
     count_is =
         let at : n ≡ word b (gdr_offset b + 56) 4 = says ∙ (λ i. word (same i) (there i + 56) 4) in
         let small : word b (gdr_offset b + 56) 4 ≤ 10 = few_dimensions b good in

@@ -45,7 +45,7 @@ knows_renamed {b = b} {now = now} {known = known} knows kind n x same made = kno
     names_kept Z = knows.z_known.names_are
 
 -- of one with the name that it had
-same_name_set : (vs : List Variable) (n : ℕ) (x v : Variable) → slice_get vs n ≡ Some v → x.name ≡ v.name → map (λ (v : Variable). v.name) vs ≡ map (λ (v : Variable). v.name) (slice_set vs n x)
+pub same_name_set : (vs : List Variable) (n : ℕ) (x v : Variable) → slice_get vs n ≡ Some v → x.name ≡ v.name → map (λ (v : Variable). v.name) vs ≡ map (λ (v : Variable). v.name) (slice_set vs n x)
 same_name_set [] n x v there e = refl
 same_name_set (w ∷ vs) zero x v there e = ap (λ (name : List ℕ). name ∷ map (λ (v : Variable). v.name) vs) (ap (λ (y : Variable). y.name) (same_Some w v there) ∙ sym e)
 same_name_set (w ∷ vs) (suc n) x v there e = ap (λ (r : List (List ℕ)). w.name ∷ r) (same_name_set vs n x v there e)

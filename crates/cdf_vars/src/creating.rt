@@ -32,7 +32,7 @@ use cdf_space::append_record;
 use std::alloc::{AllocError, Global};
 
 /// The bytes of a descriptor of a variable of a kind, which has so many dimensions and no pad value.
-fn descriptor_size(kind: Kind, dimensions: usize) -> u64
+pub fn descriptor_size(kind: Kind, dimensions: usize) -> u64
     requires { dimensions ≤ 10 }
     ensures { result ≡ vdr_bytes kind dimensions }
 {

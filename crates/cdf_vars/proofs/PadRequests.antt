@@ -1,0 +1,59 @@
+-- What `set-pad` asks for: the variable of a name, where its pad value belongs, and what the word says.
+use Rattle.std.proofs.Common.{◌≡◌, ℕ, ◌<◌, ◌≤◌, List, ◌∷◌, ◌++◌, length, Bool, Option, Some, None, Result, Err, get_or, sym, ap, ap₂, subst, ◌∙◌, arith}
+use Rattle.cdf_model.specs.declared.answer.Outcome.TheVariants.{Refused}
+use Rattle.cdf_model.specs.declared.answer.Reason.{Reason}
+use Rattle.cdf_model.specs.declared.answer.Reason.TheVariants as reasons
+use Rattle.cdf_model.specs.declared.command.Command.TheVariants as commands
+use Rattle.cdf_model.specs.declared.data_type.DataType.{DataType}
+use Rattle.cdf_model.specs.Values.{values_in}
+use Rattle.cdf_format.specs.Stored.{is_little}
+use Rattle.cdf_format.specs.VariableFields.{elems_at, type_of_variable}
+use Rattle.cdf_format.specs.WellFormed.{Good}
+use Rattle.cdf_edits.specs.Answers.{Answers}
+use Rattle.cdf_values.specs.declared.read.ValueError.{ValueError}
+use Rattle.cdf_values.specs.Reading.{Explains}
+use Rattle.cdf_vars.specs.declared.pad_place.PadPlace.{PadPlace}
+use Rattle.cdf_vars.specs.declared.vars.VarId.{VarId}
+use Rattle.cdf_vars.specs.Finding.{found_among}
+use Rattle.cdf_vars.specs.Known.{Known, Knows, known_of}
+use Rattle.cdf_vars.specs.Padding.{HasElements, IsPlace, IsValue, IsVdr, MayPad}
+use Rattle.cdf_vars.proofs.PadSites.{has_so_many, vdr_lies}
+use Rattle.cdf_vars.proofs.PadSteps.{answers_missing, answers_no_value}
+use Rattle.cdf_vars.proofs.VariableFound.{none_found}
+use Rattle.cdf_vars.proofs.VariableParts.{Parts, the_parts, within_places}
+
+module _ {b : List ℕ} (name : List ℕ) (words : List (List ℕ)) {known : Known} {result : Option VarId} (knows : Knows b known) (asked : result ≡ found_among known name) where
+  pub missing : result ≡ None → (limit : ℕ) → Answers limit b (commands.SetPad name words) (Refused reasons.NoSuchVar) b
+  missing none limit = answers_missing limit b name words (none_found b known name knows (sym asked ∙ none))
+
+  module _ {id : VarId} (good : Good b) (some : result ≡ Some id) where
+    found : found_among known name ≡ Some id
+    found = sym asked ∙ some
+
+    parts : Parts b known name id
+    parts = the_parts name good knows found
+
+    pub placed : id.num < length (known_of known id.kind).places
+    placed = within_places name good knows found
+
+    module _ {place : ℕ} (is : place ≡ get_or (known_of known id.kind).places id.num 0) where
+      own_is : parts.own.vdr ≡ place
+      own_is = sym parts.place_is ∙ sym is
+
+      pub is_vdr : IsVdr b id.kind place
+      is_vdr = record { before = parts.before; own = parts.own; after = parts.after; was = parts.at.was ∙ ap (λ (k : ℕ). parts.before ++ record parts.own { vdr = k } ∷ parts.after) own_is }
+
+      pub long : 320 ≤ length b
+      long = let l = vdr_lies good is_vdr in omega (arith, l)
+
+      module _ {p : PadPlace} (there : IsPlace b place p) where
+        pub elements : HasElements p.t p.elems
+        elements = subst (λ (t : DataType). HasElements t p.elems) (sym there.t_is) (subst (λ (n : ℕ). HasElements (type_of_variable b place) n) (sym there.elems_are) (has_so_many good is_vdr))
+
+        pub may : (little : Bool) (bytes : List ℕ) → little ≡ is_little b → IsValue little p.t p.elems words bytes → MayPad b known name words id p bytes
+        may little bytes same value = record { found = found; place = subst (λ (v : ℕ). IsPlace b v p) (sym there.vdr_is) there; vdr_is = there.vdr_is ∙ is; value = subst (λ (l : Bool). IsValue l p.t p.elems words bytes) same value }
+
+        pub no_value : (error : ValueError) (why : Reason) → Explains (values_in p.t p.elems 1 words) error → ((meaning : Result (List ℕ) Reason) → Explains meaning error → meaning ≡ Err why) → (limit : ℕ) → Answers limit b (commands.SetPad name words) (Refused why) b
+        no_value error why says reason limit =
+            let same = ap (λ (v : ℕ). values_in (type_of_variable b v) (elems_at b v) 1 words) own_is ∙ ap₂ (λ (t : DataType) (n : ℕ). values_in t n 1 words) (sym there.t_is) (sym there.elems_are) in
+            answers_no_value limit b name words _ why parts.named (same ∙ reason (values_in p.t p.elems 1 words) says)

@@ -1,0 +1,55 @@
+use Rattle.std.proofs.Common.{◌≡◌, ◌+◌, ◌∙◌, ℕ, List, length, take, None, refl, sym, ap, subst, arith}
+use Rattle.std.specs.List.{last_or}
+use Rattle.cdf_area.specs.Frame.{Frame}
+use Rattle.cdf_area.proofs.Calls.{edit_done, edit_failed, edit_more, edit_without_memory, edits_by_read, keeps_by_read, read_once}
+use Rattle.cdf_format.specs.WellFormed.{Good}
+use Rattle.cdf_edits.specs.Space.Chains.{before, members_of}
+use Rattle.cdf_edits.specs.Space.VariableChains.{variables_chain}
+use Rattle.cdf_edits.proofs.Commands.ListParts.{last_got}
+use Rattle.cdf_vars.specs.Padding.{IsVdr, padded_flags}
+use Rattle.cdf_vars.proofs.PadMoving.{body_long, is_vdr, old_long, place_late, place_lies, stands_behind}
+use Rattle.cdf_vars.proofs.pad_record.move_vdr.Goals as goal
+
+pub overflow_add-place : goal.overflow_add-place
+overflow_add-place g c = let l = place_lies (g.A.Area.image c.args.area.now) c.args.kind c.requires.good c.requires.places c.requires.within c.requires.vdr c.requires.place in omega (arith, l, c.requires.room, c.requires.limit)
+
+pub read_bytes-requires : goal.read_bytes-requires
+read_bytes-requires g c =
+    let l = place_lies (g.A.Area.image c.args.area.now) c.args.kind c.requires.good c.requires.places c.requires.within c.requires.vdr c.requires.place in
+    let late = place_late (g.A.Area.image c.args.area.now) c.args.kind c.requires.good c.requires.places c.requires.within c.requires.vdr c.requires.place in
+    omega (arith, l, late)
+
+pub returns-in_err-old-clause-area : goal.returns-in_err-old-clause-area
+returns-in_err-old-clause-area g c = edit_failed (record { frame = refl; faults = refl }) (edits_by_read c.in_err-old.ensures.area) c.from_residual.ensures.1
+
+pub padded_bytes-requires : goal.padded_bytes-requires
+padded_bytes-requires g c = old_long (g.A.Area.image c.args.area.now) c.args.kind c.requires.good c.requires.places c.requires.within c.requires.vdr c.requires.place c.deref-2.result.now (c.deref-2.ensures.value ∙ c.in_ok-old.ensures.bytes)
+
+pub returns-in_err-bytes-clause-area : goal.returns-in_err-bytes-clause-area
+returns-in_err-bytes-clause-area g c = edit_without_memory (keeps_by_read (read_once c.in_ok-old.ensures.area)) c.from_residual-in_err-bytes.ensures.1
+
+pub replace_vdr-requires-clause-good : goal.replace_vdr-requires-clause-good
+replace_vdr-requires-clause-good g c = subst Good (sym c.read_bytes.ensures.area.image) c.requires.good
+
+pub replace_vdr-requires-clause-vdr : goal.replace_vdr-requires-clause-vdr
+replace_vdr-requires-clause-vdr g c = subst (λ (x : List ℕ). IsVdr x c.args.kind c.args.place.vdr) (sym c.read_bytes.ensures.area.image) (is_vdr (g.A.Area.image c.args.area.now) c.args.kind c.requires.good c.requires.places c.requires.within c.requires.vdr)
+
+pub replace_vdr-requires-clause-behind : goal.replace_vdr-requires-clause-behind
+replace_vdr-requires-clause-behind g c =
+    c.copied-behind.ensures ∙ c.last.ensures.value ∙ last_got (take c.args.num c.deref.result.now) ∙ ap (λ (xs : List ℕ). last_or None (take c.args.num xs)) c.deref.ensures.value
+    ∙ stands_behind (g.A.Area.image c.args.area.now) c.args.kind c.requires.good c.requires.places c.requires.within c.requires.vdr
+    ∙ ap (λ (x : List ℕ). last_or None (before c.args.place.vdr (members_of x (variables_chain c.args.kind)))) (sym c.read_bytes.ensures.area.image)
+
+pub replace_vdr-requires-clause-room : goal.replace_vdr-requires-clause-room
+replace_vdr-requires-clause-room g c =
+    let long : 8 + length c.deref-3.result.now ≡ c.args.place.at + length c.args.value.now =
+    body_long (g.A.Area.image c.args.area.now) c.args.kind c.requires.good c.requires.places c.requires.within c.requires.vdr c.requires.place c.deref-2.result.now c.deref-3.result.now c.args.value.now (padded_flags c.args.place.flags) (c.deref-2.ensures.value ∙ c.in_ok-old.ensures.bytes) (c.deref-3.ensures.value ∙ c.in_ok-bytes.ensures) in
+    let same = ap (λ (x : List ℕ). length x) c.read_bytes.ensures.area.image in
+    let bound = ap (λ (f : Frame _). f.limit) c.read_bytes.ensures.area.frame in
+    omega (arith, long, same, bound, c.requires.room)
+
+pub returns-in_err-by-clause-area : goal.returns-in_err-by-clause-area
+returns-in_err-by-clause-area g c = edit_failed (keeps_by_read (read_once c.in_ok-old.ensures.area)) c.in_err-by.ensures.area c.from_residual-in_err-by.ensures.1
+
+pub returns-clause-area : goal.returns-clause-area
+returns-clause-area g c = edit_done (edit_more (keeps_by_read (read_once c.in_ok-old.ensures.area)) c.in_ok-by.ensures.area)

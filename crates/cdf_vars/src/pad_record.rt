@@ -1,0 +1,118 @@
+//! A pad value is written where a descriptor has room for it, and else in a descriptor that takes the place of the old one.
+
+ghost use Rattle.std.specs.Prelude.{◌≡◌, ◌+◌, ◌++◌, ◌<◌, ◌≤◌, length, slice_index, None, IfOk, OnOk, OnErr};
+ghost use Rattle.std.specs.List.{last_or};
+ghost use Rattle.byteorder.specs.Endian.{big_bytes};
+ghost use Rattle.cdf_area.specs.Calls.{Edits};
+ghost use Rattle.cdf_base.specs.Bytes.{put};
+ghost use Rattle.cdf_edits.specs.Commands.Allowances.{shapes_of};
+ghost use Rattle.cdf_edits.specs.Space.Chains.{before, members_of};
+ghost use Rattle.cdf_edits.specs.Space.VariableChains.{variables_chain};
+ghost use Rattle.cdf_format.specs.Fields.{with_field};
+ghost use Rattle.cdf_format.specs.Records.{vdr_flags};
+ghost use Rattle.cdf_format.specs.Shape.{shape, vdrs};
+ghost use Rattle.cdf_format.specs.VariableFields.{value_bytes};
+ghost use Rattle.cdf_format.specs.WellFormed.{Good};
+ghost use Rattle.cdf_model.specs.Limits.{image_limit};
+ghost use Rattle.cdf_vars.specs.Padding.{IsPadded, IsPlace, IsVdr, MovedTo, Moves, padded_flags};
+
+use crate::chain::chain_of;
+use crate::pad_place::{PadPlace, read_bytes};
+use cdf_area::{Area, AreaError};
+use cdf_format::fields::{RECORD_TYPE, VDR_FLAGS};
+use cdf_model::Kind;
+use cdf_records::{read_vdr, set_vdr_flags};
+use cdf_space::{chain_replace, free_record, place_record};
+use std::alloc::{AllocError, Global};
+
+/// Flags of a variable that has a pad value, which bit 1 says.
+fn padded(flags: u32) -> u32
+    ensures { result ≡ padded_flags flags }
+{
+    let others = flags % 2 + flags / 4 * 4;
+    others + 2
+}
+
+/// Writes a pad value where it belongs, and that there is one. After an error a part of this may have been done.
+pub fn write_pad<A: Area>(area: &mut A, place: PadPlace, value: &[u8]) -> Result<(), AreaError>
+    requires late { 340 ≤ place.at }
+    requires inside { place.vdr + (place.at + length value.now) ≤ length (A.image area.old) }
+    ensures written { OnOk result (A.image area.new ≡ put (with_field (A.image area.old) place.vdr vdr_flags (padded_flags place.flags)) (place.vdr + place.at) value.now) }
+    ensures area { Edits A.frame A.faults area.old area.new result }
+{
+    // An image has fewer than 2^64 bytes, so no place in it overflows.
+    let _size = area.size();
+    set_vdr_flags(area, place.vdr, padded(place.flags))?;
+    area.set(place.vdr + place.at, value)
+}
+
+/// What follows the size of a descriptor with a pad value, from what does so in the old one up to there.
+fn padded_bytes(alloc: Global, old: &[u8], flags: u32, value: &[u8]) -> Result<Vec<u8>, AllocError>
+    requires { 40 ≤ length old.now }
+    ensures { IfOk result (λ bytes. bytes.items ≡ put old.now 36 (big_bytes 4 (padded_flags flags)) ++ value.now) }
+{
+    let flags_at = (VDR_FLAGS - RECORD_TYPE) as usize;
+    let mut bytes = Vec::new(alloc);
+    bytes.extend_from_slice(&old[..flags_at])?;
+    bytes.extend_from_slice(&padded(flags).to_be_bytes())?;
+    bytes.extend_from_slice(&old[flags_at + 4..])?;
+    bytes.extend_from_slice(value)?;
+    Ok(bytes)
+}
+
+/// Makes a descriptor with these bytes behind its size in place of one of a kind, which stands behind another one, or is the first
+/// where none is given; and frees the old one after that. Gives the new place. After an error a part of this may have been done.
+fn replace_vdr<A: Area>(
+    area: &mut A,
+    kind: Kind,
+    behind: Option<u64>,
+    old: u64,
+    bytes: &[u8],
+) -> Result<u64, AreaError>
+    requires good { Good (A.image area.old) }
+    requires vdr { IsVdr (A.image area.old) kind old }
+    requires behind { behind ≡ last_or None (before old (members_of (A.image area.old) (variables_chain kind))) }
+    requires padded { IsPadded (A.image area.old) old bytes.now }
+    requires room { length (A.image area.old) + (8 + length bytes.now) ≤ (A.frame area.old).limit }
+    requires limit { (A.frame area.old).limit ≤ image_limit }
+    ensures moved { IfOk result (MovedTo (A.image area.old) (A.image area.new) kind old bytes.now) }
+    ensures area { Edits A.frame A.faults area.old area.new result }
+{
+    let place = place_record(area, bytes)?;
+    chain_replace(area, chain_of(kind), behind, old, place)?;
+    let _linked = read_vdr(area, place)?;
+    free_record(area, old)?;
+    Ok(place)
+}
+
+/// Makes a descriptor with a pad value in place of the one of a number among those of a kind, which has no room for it.
+/// After an error a part of this may have been done in the area.
+pub fn move_vdr<A: Area>(
+    alloc: Global,
+    area: &mut A,
+    kind: Kind,
+    places: &mut Vec<u64>,
+    num: u32,
+    place: PadPlace,
+    value: &[u8],
+) -> Result<(), AreaError>
+    requires good { Good (A.image area.old) }
+    requires places { places.old.items ≡ vdrs (shapes_of (shape (A.image area.old)) kind) }
+    requires within { num < length places.old.items }
+    requires vdr { place.vdr ≡ slice_index places.old.items num }
+    requires place { IsPlace (A.image area.old) place.vdr place }
+    requires long { length value.now ≡ value_bytes (A.image area.old) place.vdr }
+    requires short { place.size < place.at + length value.now }
+    requires room { length (A.image area.old) + (place.at + length value.now) ≤ (A.frame area.old).limit }
+    requires limit { (A.frame area.old).limit ≤ image_limit }
+    ensures moves { OnOk result (Moves (A.image area.old) (A.image area.new) kind place value.now places.old.items places.new.items num) }
+    ensures stays { OnErr result (places.new.items ≡ places.old.items) }
+    ensures area { Edits A.frame A.faults area.old area.new result }
+{
+    let behind = places[..num as usize].last().copied();
+    let old = read_bytes(alloc, area, place.vdr + RECORD_TYPE, place.at - RECORD_TYPE)?;
+    let bytes = padded_bytes(alloc, &old, place.flags, value)?;
+    let by = replace_vdr(area, kind, behind, place.vdr, &bytes)?;
+    places[num as usize] = by;
+    Ok(())
+}
