@@ -1,16 +1,16 @@
 //! The commands on variables, and `setup`, as a session carries them out.
 
-ghost use Rattle.std.specs.Prelude.{◌≡◌, true, IfOk, OnErr};
+ghost use Rattle.std.specs.Prelude.{◌≡◌, true, length, IfOk, OnErr};
 ghost use Rattle.cdf_area.specs.Calls.{Edits};
 ghost use Rattle.cdf_edits.specs.Answers.{Answers};
 ghost use Rattle.cdf_edits.specs.Follows.{only_reads};
-ghost use Rattle.cdf_model.specs.Sayable.{Sayable};
+ghost use Rattle.cdf_model.specs.Sayable.{Fit, Sayable};
 ghost use Rattle.cdf_session.specs.Built.{built_on_variables};
 ghost use Rattle.cdf_session.specs.Sessions.{AnswersBuilt};
 
 use crate::session::{Session, settle};
 use cdf_area::{Area, AreaError};
-use cdf_model::{Command, DataType, LineError, Majority, Nums, Outcome, Reason, Varys};
+use cdf_model::{Command, DataType, LineError, Majority, Nums, Outcome, Reason, Varys, Words};
 use cdf_vars::set_up;
 
 impl<A: Area> Session<A> {
@@ -44,6 +44,7 @@ impl<A: Area> Session<A> {
                 varys,
             } => self.zvar(name.as_slice(), *t, *elems, *vary, dims, varys),
             Command::RenameVar { from, to } => self.rename_var(from.as_slice(), to.as_slice()),
+            Command::SetPad { var, words } => self.set_pad(var.as_slice(), words),
             Command::SetBlocking { var, n } => self.set_blocking(var.as_slice(), *n),
             _ => Ok(Outcome::Refused {
                 reason: Reason::BadLine {
@@ -121,6 +122,20 @@ impl<A: Area> Session<A> {
     {
         self.area.mark();
         let done = self.vars.rename(&mut self.area, from, to);
+        self.attrs.forget_entries();
+        settle(&mut self.area, done)
+    }
+
+    /// The command `set-pad`.
+    fn set_pad(&mut self, var: &[u8], words: &Words) -> Result<Outcome, AreaError>
+        requires one { length words.now ≡ 1 }
+        requires fit { Fit words.now }
+        ensures answers { IfOk result (λ o. Answers (A.frame self.old).limit (A.image self.old) (Command.SetPad var.now words.now) o (A.image self.new)) }
+        ensures stays { OnErr result (A.image self.new ≡ A.image self.old) }
+        ensures area { Edits A.frame A.faults self.old self.new result }
+    {
+        self.area.mark();
+        let done = self.vars.set_pad(&mut self.area, var, words);
         self.attrs.forget_entries();
         settle(&mut self.area, done)
     }
