@@ -9,3 +9,5 @@ pub mod OwnersApart
 pub mod SameShape
 pub mod SoundStays
 pub mod TilesGrow
+pub mod NumberFell
+pub mod VdrNumbered

@@ -1,6 +1,9 @@
+pub mod DropsEntries
 pub mod Edit
 pub mod ManyMarks
 pub mod EntryMarks
+pub mod FallenNumbers
 pub mod Marks
+pub mod RemovesVariable
 pub mod Unlinks
 pub mod Writes

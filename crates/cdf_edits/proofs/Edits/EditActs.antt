@@ -24,7 +24,7 @@ use Rattle.cdf_edits.proofs.Edits.MadeRecord.{fresh, made_edit, made_type, made_
 use Rattle.cdf_edits.specs.Space.Placing.{Fills}
 use Rattle.cdf_edits.proofs.Edits.MarkLemmas.{away-avoids, the_one}
 
-differs : (t : ℕ) → (t == uir_type) ≡ false → t ≢ uir_type
+pub differs : (t : ℕ) → (t == uir_type) ≡ false → t ≢ uir_type
 differs t e q = no (t == uir_type) (eq-eqb t uir_type q) e
   where
     no : (p : Bool) → p ≡ true → p ≡ false → ⊥

@@ -118,11 +118,11 @@ backs_follow b now was before (uir ∷ more) e =
     elim (either (stands_behind 0 was before uir)) [ inl q ↦ rw q (sym (back_found b was uir (stands_in 0 was before uir q))) | inr q ↦ rw q refl ] in
     ap₂ (λ (n : ℕ) (rest : List (ℕ × ℕ)). (uir, n) ∷ rest) (here ∙ found) (backs_follow b now was uir more (ap rest_of e))
 
-backs_same : (b now list : List ℕ) → ((m : ℕ) → In m list → number now m uir_prev_uir ≡ number b m uir_prev_uir) → backs now list ≡ backs b list
+pub backs_same : (b now list : List ℕ) → ((m : ℕ) → In m list → number now m uir_prev_uir ≡ number b m uir_prev_uir) → backs now list ≡ backs b list
 backs_same b now [] same = refl
 backs_same b now (m ∷ more) same = ap₂ (λ (n : ℕ) (rest : List (ℕ × ℕ)). (m, n) ∷ rest) (same m (inl refl)) (backs_same b now more (λ x i. same x (inr i)))
 
-sizes_same : (b now list : List ℕ) → ((m : ℕ) → In m list → size_at now m ≡ size_at b m) → sized now list ≡ sized b list
+pub sizes_same : (b now list : List ℕ) → ((m : ℕ) → In m list → size_at now m ≡ size_at b m) → sized now list ≡ sized b list
 sizes_same b now [] same = refl
 sizes_same b now (m ∷ more) same = ap₂ (λ (n : ℕ) (rest : List (ℕ × ℕ)). (m, n) ∷ rest) (same m (inl refl)) (sizes_same b now more (λ x i. same x (inr i)))
 

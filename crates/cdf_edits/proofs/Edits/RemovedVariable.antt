@@ -1,0 +1,297 @@
+-- The image after a variable went: its shape, its content, its rules and its space.
+use Rattle.std.proofs.Common.{◌≡◌, ◌≢◌, ℕ, zero, suc, ◌+◌, ◌≤◌, List, [], ◌∷◌, ◌++◌, length, map, max, true, eq-eqb, refl, sym, ap, subst, ◌∙◌, arith, inl, inr}
+use Rattle.std.proofs.lemmas.Bool.{le-leb}
+use Rattle.std.proofs.lemmas.List.{length-append, length-map}
+use Rattle.std.specs.Int.{w32, cast_signed}
+use Rattle.std.specs.Int.RustNames.{FitsSigned}
+use Rattle.std.specs.List.{fold, remove}
+use Rattle.cdf_model.specs.declared.kinds.Kind.{Kind}
+use Rattle.cdf_model.specs.declared.kinds.Kind.TheVariants.{R, Z}
+use Rattle.cdf_model.specs.DataSet.{extent}
+use Rattle.cdf_model.specs.Limits.{image_limit}
+use Rattle.cdf_model.specs.Names.{variables_of, with_variables}
+use Rattle.cdf_model.specs.RecordSteps.{last_number}
+use Rattle.cdf_format.specs.Bytes.{Same}
+use Rattle.cdf_format.specs.Chains.{is_in, IsChain}
+use Rattle.cdf_format.specs.Content.{content, variable_of}
+use Rattle.cdf_format.specs.Fields.{number, integer4, size_at, type_at, gdr_offset}
+use Rattle.cdf_format.specs.Records.{gdr_eof, gdr_uir_head, gdr_r_max_rec, vdr_num}
+use Rattle.cdf_format.specs.RecordTypes.{gdr_type, r_vdr_type, z_vdr_type, uir_type}
+use Rattle.cdf_format.specs.Shape.{VariableShape, Shape, vdrs, shape}
+use Rattle.cdf_format.specs.Sound.{IsSound}
+use Rattle.cdf_format.specs.Tiles.{In, AreTiles}
+use Rattle.cdf_format.specs.VariableFields.{max_rec_at}
+use Rattle.cdf_format.specs.WellFormed.{Good}
+use Rattle.cdf_format.proofs.GoodSound.{good_by_its_shape, good_is_sound, rules_of_good}
+use Rattle.cdf_format.proofs.SealedRules.{good_long, sealed_kept}
+use Rattle.cdf_edits.specs.Commands.Allowances.{FreedStay, no_fields, shapes_of}
+use Rattle.cdf_edits.specs.Commands.GreatestRecord.{r_extents}
+use Rattle.cdf_edits.specs.Commands.Variables.{RMaxRecOf}
+use Rattle.cdf_edits.specs.Edits.Edit.{Edit}
+use Rattle.cdf_edits.specs.Edits.ManyMarks.{freeing_marks}
+use Rattle.cdf_edits.specs.Edits.Marks.{Avoids, avoided, unmarked}
+use Rattle.cdf_edits.specs.Edits.RemovesVariable.{RemovesVariable, greatest_at, variable_unlinking_marks}
+use Rattle.cdf_edits.specs.Space.Acts.{gave, links_end, ActsFollow}
+use Rattle.cdf_edits.specs.Space.Chains.{head_of, count_of, type_in}
+use Rattle.cdf_edits.specs.Space.Freeing.{AllGiven, AreFree}
+use Rattle.cdf_edits.specs.Space.Placement.{with_space}
+use Rattle.cdf_edits.specs.Space.VariableChains.{variables_chain}
+use Rattle.cdf_edits.proofs.Edits.ActsThen.{gave-same, all_gave}
+use Rattle.cdf_edits.proofs.Edits.Composing.{head_size, head_type, edit_then}
+use Rattle.cdf_edits.proofs.Edits.EditActs.{acts_none}
+use Rattle.cdf_edits.proofs.Edits.FreedBytes.{IsLeft, all_left, all_unused, freed_stay, free_used}
+use Rattle.cdf_edits.proofs.Edits.FreedRecords.{MayFree, sizes_by_tiles, all_given_edit}
+use Rattle.cdf_edits.proofs.Edits.MarkLemmas.{avoids-of_type}
+use Rattle.cdf_edits.proofs.Edits.PlainVariables.{IsPlain, plain_freed}
+use Rattle.cdf_edits.proofs.Edits.RecordFrame.{field_avoids, field_clear, gdr_field, gdr_place, through}
+use Rattle.cdf_edits.proofs.Edits.StepEdits.{gdr_in, gdr_typed, gdr_long}
+use Rattle.cdf_edits.proofs.Edits.TakenVariable.{TakesVariable, SaysTaken, tests, without_variable, content_taken, taken_good, splices, vdr_avoids, vdr_there, back_in, back_out}
+use Rattle.cdf_edits.proofs.Edits.UnlinkedVariable.{all_plain, e_second, e_early, some_second, may_last, unlinked_edit, unlinks_takes, as_long, counted_now, numbered_now, numbered_still, types_stay, unlinked_shape, mid_sound, own_there, own_free}
+use Rattle.cdf_edits.proofs.Edits.VariableKinds.{in_gdr, kind_chain, with_shapes}
+use Rattle.cdf_edits.proofs.Edits.VariableSplice.{content_now}
+use Rattle.cdf_edits.proofs.Edits.WrittenFields.{write_lies}
+use Rattle.cdf_fields.proofs.Writes.{field_reads4}
+use Rattle.std.proofs.lemmas.Int.{ints}
+use Rattle.cdf_edits.proofs.Rules.WithoutLinks.{eof_by_rules}
+
+-- ---- by the kind
+
+pub record FreeingTests (kind : Kind) (list places : List ℕ) (limit : ℕ) : Type 0 where
+  pub start : avoided (freeing_marks (type_in (variables_chain kind) ∷ []) list places limit) gdr_type 0 12 ≡ true
+  pub count : avoided (freeing_marks (type_in (variables_chain kind) ∷ []) list places limit) gdr_type (count_of (variables_chain kind)).place ((count_of (variables_chain kind)).place + (count_of (variables_chain kind)).width) ≡ true
+  pub r_max : avoided (freeing_marks (type_in (variables_chain kind) ∷ []) list places limit) gdr_type 52 56 ≡ true
+  pub vdr : (m lo hi : ℕ) → (In m places → ⊥) → Avoids (freeing_marks (type_in (variables_chain kind) ∷ []) list places limit) (type_in (variables_chain kind)) m lo hi
+
+pub freeing_tests : (kind : Kind) (list places : List ℕ) (limit : ℕ) → FreeingTests kind list places limit
+freeing_tests R list places limit = record { start = refl; count = refl; r_max = refl; vdr = λ m lo hi out. avoids-of_type (freeing_marks (r_vdr_type ∷ []) list places limit) r_vdr_type m lo hi ((λ same lies. absurd (out lies)), tt) }
+freeing_tests Z list places limit = record { start = refl; count = refl; r_max = refl; vdr = λ m lo hi out. avoids-of_type (freeing_marks (z_vdr_type ∷ []) list places limit) z_vdr_type m lo hi ((λ same lies. absurd (out lies)), tt) }
+
+module _ {b now : List ℕ} {kind : Kind} {n : ℕ} (good : Good b) (d : RemovesVariable b now kind n) where
+  abbrev pub s : Shape
+  s = shape b
+
+  pub sound : IsSound b s
+  sound = good_is_sound b good
+
+  abbrev type : ℕ
+  type = type_in (variables_chain kind)
+
+  abbrev mid : List ℕ
+  mid = d.mid
+
+  -- the one record that is freed
+  abbrev pub places : List ℕ
+  places = d.own.vdr ∷ []
+
+  pub own_plain : IsPlain d.own
+  own_plain = (all_plain good d.unlinks).1.0
+
+  pub given : AllGiven mid now (d.own.vdr ∷ [])
+  given = subst (AllGiven mid now) (plain_freed own_plain) d.given
+
+  free : AreFree mid (d.own.vdr ∷ [])
+  free = own_free good d.unlinks
+
+  one : (m : ℕ) → In m (d.own.vdr ∷ []) → m ≡ d.own.vdr
+  one m (inl q) = q
+  one m (inr none) = absurd none
+
+  pub own_is : In d.own.vdr s.records × ((type_at b d.own.vdr ≡ type) × (340 ≤ size_at b d.own.vdr))
+  own_is = own_there good d.unlinks
+
+  mid_typed : type_at mid d.own.vdr ≡ type
+  mid_typed = types_stay good d.unlinks d.own.vdr own_is.0 ∙ own_is.1.0
+
+  pub may_free : MayFree mid (type ∷ []) (d.own.vdr ∷ [])
+  may_free = record {
+    stand = free.stand;
+    typed = λ m i. subst (λ (x : ℕ). is_in (type_at mid x) (type_in (variables_chain kind) ∷ []) ≡ true) (sym (one m i)) (among (type_at mid d.own.vdr) type mid_typed);
+    used = free_used mid (d.own.vdr ∷ []) free;
+    once = free.once;
+  }
+    where
+      among : (x t : ℕ) → x ≡ t → is_in x (t ∷ []) ≡ true
+      among x t e = rw (eq-eqb x t e) refl
+
+  pub left : IsLeft mid now
+  left = all_left mid now (d.own.vdr ∷ []) (mid_sound good d.unlinks) free.stand given
+
+  freeing : Edit mid now s.records s.records (freeing_marks (type ∷ []) s.unused (d.own.vdr ∷ []) (length mid)) (d.own.vdr ∷ [])
+  freeing = subst (λ (x : Shape). Edit mid now x.records x.records (freeing_marks (type_in (variables_chain kind) ∷ []) x.unused (d.own.vdr ∷ []) (length mid)) (d.own.vdr ∷ [])) (unlinked_shape good d.unlinks) (all_given_edit mid now (type ∷ []) (d.own.vdr ∷ []) (mid_sound good d.unlinks) may_free given)
+
+  free_tests : FreeingTests kind s.unused (d.own.vdr ∷ []) (length mid)
+  free_tests = freeing_tests kind s.unused (d.own.vdr ∷ []) (length mid)
+
+  pub takes : TakesVariable b now s kind d.before d.own d.after (d.own.vdr ∷ []) (length mid)
+  takes = record { edit = edit_then (unlinked_edit good d.unlinks) freeing; was = d.unlinks.was; mine = one; own_plain = own_plain; after_plain = (all_plain good d.unlinks).1.1 }
+
+  -- ---- the shape
+
+  pub shape_after : shape now ≡ without_variable sound takes (shape now).unused
+  shape_after = left.shape_is ∙ ap (λ (x : Shape). with_space x x.records (shape now).unused) (unlinked_shape good d.unlinks)
+
+  pub records_are : (shape now).records ≡ s.records
+  records_are = ap (λ (x : Shape). x.records) shape_after
+
+  pub long_now : length now ≡ length b
+  long_now = left.long ∙ as_long good d.unlinks
+
+  -- ---- what the records behind say
+
+  head_stays : (m : ℕ) → In m s.records → type_at b m ≢ uir_type → Same b mid (m + 0) (m + 12)
+  head_stays m i used = (unlinked_edit good d.unlinks).head m i used (λ r. r)
+
+  no_uir : (k : Kind) → type_in (variables_chain k) ≢ uir_type
+  no_uir R e = absurd cc
+  no_uir Z e = absurd cc
+
+  numbered : (m : ℕ) → In m (vdrs d.after) → number now m vdr_num ≡ number mid m vdr_num
+  numbered m i =
+      let v = vdr_there sound takes m (back_in sound takes m i) in
+      let same = head_stays m v.0 (λ x. no_uir kind (sym v.1.0 ∙ x)) in
+      let size = head_size b mid m same in
+      let long = v.1.1 in
+      let out = back_out sound takes m i in
+      field_avoids freeing m type vdr_num v.0 (head_type b mid m same ∙ v.1.0) (free_tests.vdr m 0 12 out) (free_tests.vdr m 68 72 out) (omega arith)
+
+  pub says : SaysTaken sound takes (shape now).unused
+  says = record {
+    numbered = numbered_still mid now (length d.before) (vdrs d.after) numbered (numbered_now good d.unlinks);
+    variable_chain = chain_after;
+    unused_chain = subst (λ (x : Shape). IsChain now x.records uir_type (number now x.gdr gdr_uir_head) x.unused) shape_after left.sound.has_shape.unused_chain;
+    freed = all_unused mid now (d.own.vdr ∷ []) (mid_sound good d.unlinks) free.stand given;
+  }
+    where
+      chain_of_shape : (k : Kind) → IsChain now (shape now).records (type_in (variables_chain k)) (number now (shape now).gdr (head_of (variables_chain k))) (vdrs (shapes_of (shape now) k))
+      chain_of_shape k = kind_chain k left.sound.has_shape
+
+      of_kind : (k : Kind) (vs : List VariableShape) (records list : List ℕ) → shapes_of (with_shapes s k records list vs) k ≡ vs
+      of_kind R vs records list = refl
+      of_kind Z vs records list = refl
+
+      chain_after : IsChain now s.records (type_in (variables_chain kind)) (number now s.gdr (head_of (variables_chain kind))) (vdrs (d.before ++ d.after))
+      chain_after = subst (λ (vs : List VariableShape). IsChain now s.records (type_in (variables_chain kind)) (number now s.gdr (head_of (variables_chain kind))) (vdrs vs)) (of_kind kind (d.before ++ d.after) s.records (shape now).unused)
+          (subst (λ (x : Shape). IsChain now x.records (type_in (variables_chain kind)) (number now x.gdr (head_of (variables_chain kind))) (vdrs (shapes_of x kind))) shape_after (chain_of_shape kind))
+
+  pub content_after : content now ≡ with_variables (content b) kind (remove (variables_of (content b) kind) n)
+  content_after = content_taken sound takes says ∙ ap (λ (k : ℕ). with_variables (content b) kind (remove (variables_of (content b) kind) k)) d.count
+
+  gdr_mid : type_at mid s.gdr ≡ gdr_type
+  gdr_mid = types_stay good d.unlinks s.gdr (gdr_in b s sound.has_shape) ∙ gdr_typed b s sound.has_shape
+
+  gdr_mid_long : 84 ≤ size_at mid s.gdr
+  gdr_mid_long = subst (λ (k : ℕ). 84 ≤ k) (sym (head_size b mid s.gdr (head_stays s.gdr (gdr_in b s sound.has_shape) (λ x. (let e : gdr_type ≡ uir_type = sym (gdr_typed b s sound.has_shape) ∙ x in absurd cc))))) (gdr_long b s sound.has_shape)
+
+  pub count_now : number now s.gdr (count_of (variables_chain kind)) ≡ length (vdrs (d.before ++ d.after))
+  count_now =
+      let total : length d.before + length d.after ≡ length (vdrs (d.before ++ d.after)) = sym (length-map (d.before ++ d.after) (λ (v : VariableShape). v.vdr) ∙ length-append d.before d.after) in
+      field_clear freeing s.gdr gdr_type (count_of (variables_chain kind)) (gdr_in b s sound.has_shape) gdr_mid free_tests.start free_tests.count (through _ 84 (size_at mid s.gdr) (in_gdr kind).1 gdr_mid_long) ∙ counted_now good d.unlinks ∙ total
+
+  pub good_after : length b ≤ image_limit → Good now
+  good_after short =
+      let image = good_by_its_shape b good in
+      let first = (sealed_kept b (good_long b s image) (rules_of_good b good)).0 in
+      let t = tests sound takes in
+      let end = gdr_field sound takes.edit t.file_clear gdr_eof t.eof_clear (omega arith) ∙ eof_by_rules b s sound first ∙ sym long_now in
+      taken_good sound takes says first image (inl refl) count_now end (let l = long_now in omega arith)
+
+  -- rMaxRec is not written by freeing
+  pub r_max_mid : number now s.gdr gdr_r_max_rec ≡ number mid s.gdr gdr_r_max_rec
+  r_max_mid = field_clear freeing s.gdr gdr_type gdr_r_max_rec (gdr_in b s sound.has_shape) gdr_mid free_tests.start free_tests.r_max (let l = gdr_mid_long in omega arith)
+
+  -- ---- its space
+
+  pub size_before : size_at mid d.own.vdr ≡ size_at b d.own.vdr
+  size_before = head_size b mid d.own.vdr (head_stays d.own.vdr own_is.0 (λ x. no_uir kind (sym own_is.1.0 ∙ x)))
+
+  pub acts_after : ActsFollow b now (gave b (d.own.vdr ∷ []))
+  acts_after =
+      let same = unlinked_shape good d.unlinks in
+      let none = acts_none sound (unlinked_edit good d.unlinks) (free_of_unused kind) refl (ap (λ (x : Shape). x.records) same) (ap (λ (x : Shape). x.unused) same) (as_long good d.unlinks) in
+      subst (ActsFollow b now) (gave-same b mid (d.own.vdr ∷ []) (λ m i. subst (λ (x : ℕ). size_at mid x ≡ size_at b x) (sym (one m i)) size_before)) (all_gave b mid now [] (type ∷ []) (d.own.vdr ∷ []) sound.has_shape none (mid_sound good d.unlinks) may_free given)
+    where
+      free_of_unused : (k : Kind) → unmarked (variable_unlinking_marks k s.gdr (vdrs (shapes_of s k)) (vdrs d.after)) uir_type ≡ true
+      free_of_unused R = refl
+      free_of_unused Z = refl
+
+  sizes_after : (m : ℕ) → In m s.records → size_at now m ≡ size_at b m
+  sizes_after = sizes_by_tiles b now 8 8 (length b) s.records refl sound.has_shape.tiled (subst (λ (k : ℕ). AreTiles now 8 k s.records) long_now takes.edit.tiled_now)
+
+  -- its bytes behind the links
+  pub behind : Same b now (d.own.vdr + links_end (size_at b d.own.vdr)) (d.own.vdr + size_at b d.own.vdr)
+  behind =
+      let v = d.own.vdr in
+      let t = unlinks_takes good d.unlinks 0 in
+      let long = own_is.1.1 in
+      let out : In v (vdrs d.after) → ⊥ = λ i. back_out sound takes v i (inl refl) in
+      let avoids = vdr_avoids kind s.gdr (vdrs (shapes_of s kind)) (vdrs d.after) s.unused [] 0 v in
+      let first : Same b mid (v + 28) (v + size_at b v) = t.edit.part v type 28 (size_at b v) own_is.0 own_is.1.0 (avoids 0 12 (λ i. i) (inl (omega arith)) (λ i. absurd (out i))) (avoids 28 (size_at b v) (λ i. i) (inr (omega arith)) (λ i. absurd (out i))) (omega arith) in
+      let one = subst (λ (k : ℕ). Same b mid (v + k) (v + size_at b v)) (sym (long_enough (size_at b v) (omega arith))) first in
+      let not_gdr : v ≢ (shape mid).gdr = λ e. apart_gdr kind (sym own_is.1.0 ∙ ap (type_at b) (e ∙ ap (λ (x : Shape). x.gdr) (unlinked_shape good d.unlinks)) ∙ gdr_typed b s sound.has_shape) in
+      let two = subst (λ (k : ℕ). Same mid now (v + links_end k) (v + k)) size_before (left.behind v (free.stand v (inl refl)) not_gdr) in
+      record { each = λ k l u. two.each k l u ∙ one.each k l u }
+    where
+      long_enough : (k : ℕ) → 28 ≤ k → links_end k ≡ 28
+      long_enough k l = rw (le-leb 28 k l) refl
+
+      apart_gdr : (k : Kind) → type_in (variables_chain k) ≢ gdr_type
+      apart_gdr R e = absurd cc
+      apart_gdr Z e = absurd cc
+
+  pub freed_after : FreedStay b now no_fields (gave b (d.own.vdr ∷ []))
+  freed_after = freed_stay b now (gave b (d.own.vdr ∷ [])) (d.own.vdr ∷ []) no_fields left.sound.has_shape.tiled (λ m i. subst (In m) (sym records_are) (subst (λ (x : ℕ). In x s.records) (sym (one m i)) own_is.0)) (λ m i. sizes_after m (subst (λ (x : ℕ). In x s.records) (sym (one m i)) own_is.0))
+      (λ m i. subst (λ (x : ℕ). Same b now (x + links_end (size_at b x)) (x + size_at b x)) (sym (one m i)) behind)
+
+-- ---- rMaxRec
+
+extent_small : (n : ℕ) → extent (cast_signed w32 n) ≤ 2147483648
+extent_small n = grind arith
+
+max_small : (m n k : ℕ) → m ≤ k → n ≤ k → max m n ≤ k
+max_small m n k l h = grind arith
+
+fold_small : (k m : ℕ) (ns : List ℕ) → m ≤ k → ((n : ℕ) → In n ns → n ≤ k) → fold max m ns ≤ k
+fold_small k m [] l all = l
+fold_small k m (n ∷ ns) l all = fold_small k (max m n) ns (max_small m n k l (all n (inl refl))) (λ x i. all x (inr i))
+
+pub last_fits : (n : ℕ) → n ≤ 2147483648 → FitsSigned w32 (last_number n)
+last_fits zero l = omega (arith, ints)
+last_fits (suc n) l = omega (arith, ints)
+
+pub greatest_fits : (b places : List ℕ) → FitsSigned w32 (greatest_at b places)
+greatest_fits b places = last_fits (fold max 0 (map (λ vdr. extent (max_rec_at b vdr)) places)) (fold_small 2147483648 0 (map (λ vdr. extent (max_rec_at b vdr)) places) (omega arith) (all places))
+  where
+    all : (xs : List ℕ) → (n : ℕ) → In n (map (λ vdr. extent (max_rec_at b vdr)) xs) → n ≤ 2147483648
+    all [] n i = absurd i
+    all (x ∷ xs) n (inl q) = subst (λ (k : ℕ). k ≤ 2147483648) (sym q) (extent_small _)
+    all (x ∷ xs) n (inr i) = all xs n i
+
+extents_at : (b : List ℕ) (xs ys : List VariableShape) → map (λ v. extent v.max_rec) (map (variable_of b) xs ++ map (variable_of b) ys) ≡ map (λ vdr. extent (max_rec_at b vdr)) (vdrs (xs ++ ys))
+extents_at b [] [] = refl
+extents_at b [] (y ∷ ys) = ap (λ (r : List ℕ). extent (max_rec_at b y.vdr) ∷ r) (extents_at b [] ys)
+extents_at b (x ∷ xs) ys = ap (λ (r : List ℕ). extent (max_rec_at b x.vdr) ∷ r) (extents_at b xs ys)
+
+-- as the command says it
+pub r_max_after : {b now : List ℕ} {n : ℕ} (kind : Kind) (good : Good b) (d : RemovesVariable b now kind n) → RMaxRecOf b now kind
+r_max_after {b = b} {now = now} R good d =
+    let s = shape b in
+    let places = vdrs (d.before ++ d.after) in
+    let greatest = greatest_at b places in
+    let t = takes good d in
+    let may = (may_last good d.unlinks).0 in
+    let second = e_second good d.unlinks in
+    let lies = write_lies d.unlinks.second s.records second.tiled_now (some_second good d.unlinks) s.gdr gdr_r_max_rec may.inside may.fits in
+    let written : integer4 d.mid s.gdr gdr_r_max_rec ≡ greatest = ap (λ (x : List ℕ). integer4 x s.gdr gdr_r_max_rec) d.unlinks.written ∙ field_reads4 d.unlinks.second s.gdr gdr_r_max_rec greatest refl lies (greatest_fits b places) in
+    let kept : integer4 now s.gdr gdr_r_max_rec ≡ integer4 d.mid s.gdr gdr_r_max_rec = ap (cast_signed w32) (r_max_mid good d) in
+    let place : gdr_offset now ≡ s.gdr = gdr_place (sound good d) t.edit (tests (sound good d) t).file_clear in
+    let left : r_extents (content now) ≡ map (λ vdr. extent (max_rec_at b vdr)) places = ap r_extents (content_now (sound good d) (splices (sound good d) t (says good d))) ∙ extents_at b d.before d.after in
+    ap (λ (g : ℕ). integer4 now g gdr_r_max_rec) place ∙ kept ∙ written ∙ ap (λ (ns : List ℕ). last_number (fold max 0 ns)) (sym left)
+r_max_after {b = b} {now = now} Z good d =
+    let s = shape b in
+    let t = takes good d in
+    let h = (sound good d).has_shape in
+    let place : gdr_offset now ≡ s.gdr = gdr_place (sound good d) t.edit (tests (sound good d) t).file_clear in
+    let early = e_early good d.unlinks in
+    let first = field_clear early s.gdr gdr_type gdr_r_max_rec (gdr_in b s h) (gdr_typed b s h) refl refl (let l = gdr_long b s h in omega arith) in
+    let kept : integer4 now s.gdr gdr_r_max_rec ≡ integer4 b s.gdr gdr_r_max_rec = ap (cast_signed w32) (r_max_mid good d ∙ ap (λ (x : List ℕ). number x s.gdr gdr_r_max_rec) d.unlinks.written ∙ first) in
+    ap (λ (g : ℕ). integer4 now g gdr_r_max_rec) place ∙ kept ∙ ap (λ (g : ℕ). integer4 b g gdr_r_max_rec) (sym h.gdr_is)

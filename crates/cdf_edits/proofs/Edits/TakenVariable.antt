@@ -1,0 +1,340 @@
+-- An image from which one variable went has its shape, its content and its rules.
+use Rattle.std.proofs.Common.{◌≡◌, ◌⊎◌, ℕ, suc, ◌+◌, ◌≤◌, List, [], ◌∷◌, ◌++◌, length, map, true, eq-eqb, refl, sym, ap, subst, ◌∙◌, arith, inl, inr}
+use Rattle.std.proofs.lemmas.List.{length-map, map-append}
+use Rattle.std.specs.List.{flat_map, remove}
+use Rattle.std.specs.Prelude.{◌==◌}
+use Rattle.cdf_model.specs.DataSet.{DataSet, Variable}
+use Rattle.cdf_model.specs.Limits.{image_limit}
+use Rattle.cdf_model.specs.Names.{variables_of, with_variables}
+use Rattle.cdf_model.specs.declared.kinds.Kind.{Kind}
+use Rattle.cdf_model.specs.declared.kinds.Kind.TheVariants.{R, Z}
+use Rattle.cdf_format.specs.ChainRules.{number_rows}
+use Rattle.cdf_format.specs.Chains.{is_in, IsChain}
+use Rattle.cdf_format.specs.Content.{content, variable_of}
+use Rattle.cdf_format.specs.Fields.{number, size_at, type_at, gdr_offset, eof}
+use Rattle.cdf_format.specs.NotRead.{read_types}
+use Rattle.cdf_format.specs.Owners.{OwnedOnce, variable_records, times, owned_records, unused_records}
+use Rattle.cdf_format.specs.Phases.{first_phases}
+use Rattle.cdf_format.specs.Records.{gdr_uir_head, vdr_num}
+use Rattle.cdf_format.specs.RecordTypes.{gdr_type, r_vdr_type, z_vdr_type, uir_type, is_record_type, fixed_size}
+use Rattle.cdf_format.specs.Rules.{Hold, AllHold}
+use Rattle.cdf_format.specs.Sealed.{sealed}
+use Rattle.cdf_format.specs.Shape.{VariableShape, Shape, vdrs, Each, HasShape}
+use Rattle.cdf_format.specs.Sound.{IsSound}
+use Rattle.cdf_format.specs.Tiles.{In, Distinct}
+use Rattle.cdf_format.specs.WellFormed.{Good}
+use Rattle.cdf_format.proofs.ChainsLemmas.{linkable-in, linkable-type}
+use Rattle.cdf_format.proofs.GoodByShape.{IsGoodByShape}
+use Rattle.cdf_format.proofs.GoodImageLemmas.{vdrs_append}
+use Rattle.cdf_format.proofs.Members.{In-append_left, In-append_right, Distinct-back}
+use Rattle.cdf_format.proofs.Owning.{times-none}
+use Rattle.cdf_format.proofs.ShapeLemmas.{content_is}
+use Rattle.cdf_format.proofs.TilesLemmas.{tile_lies}
+use Rattle.cdf_edits.specs.Commands.Allowances.{shapes_of}
+use Rattle.cdf_edits.specs.Edits.Edit.{Edit}
+use Rattle.cdf_edits.specs.Edits.Marks.{Mark, Avoids, avoided, unmarked, all_unmarked, index_types, keeps_file}
+use Rattle.cdf_edits.specs.Edits.RemovesVariable.{variable_removing_marks}
+use Rattle.cdf_edits.specs.Space.Chains.{head_of, count_of, type_in}
+use Rattle.cdf_edits.specs.Space.VariableChains.{variables_chain}
+use Rattle.cdf_edits.proofs.Edits.MarkLemmas.{all_unmarked-away, avoids-of_type, unmarked-away}
+use Rattle.cdf_edits.proofs.Edits.OwnedOnce.{used_times, owned_once_if}
+use Rattle.cdf_edits.proofs.Edits.PlainVariables.{IsPlain, plain_records}
+use Rattle.cdf_edits.proofs.Edits.RecordFrame.{VariableLives, file_same, gdr_place, kept_away, kept_but_link, through}
+use Rattle.cdf_edits.proofs.Edits.StepEdits.{fixed_long}
+use Rattle.cdf_edits.proofs.Edits.VariableFrame.{AreOurs, VariableRemains, ours_parts, remain_from, nums_from, index_typed, variables_in}
+use Rattle.cdf_edits.proofs.Edits.VariableKinds.{other_kind, with_shapes, vdrs_rows, number_part, keeps_kind, kind_ours, kind_chain, counted_before, variables_of_are, spliced_times}
+use Rattle.cdf_edits.proofs.Edits.VariableNames.{apart_if}
+use Rattle.cdf_edits.proofs.Edits.VariableSplice.{VariableSplices, keeps_all_attributes, shape_now, content_now, sound_if, good_image_if}
+use Rattle.cdf_edits.proofs.Frame.Meaning.{FileSame, KeptButLink, but_link}
+use Rattle.cdf_edits.proofs.Frame.OwnersApart.{times-in, owned-times, file_records, all_attribute_records, all_variable_records}
+use Rattle.cdf_edits.proofs.Frame.VdrNumbered.{KeptButNum}
+use Rattle.cdf_edits.proofs.Rules.OfNumbered.{plain_remains}
+use Rattle.cdf_edits.proofs.Space.TakenFromList.{distinct_apart}
+
+-- ---- lists
+
+pub removed-at : {A : Type 0} (xs : List A) (x : A) (ys : List A) → remove (xs ++ x ∷ ys) (length xs) ≡ xs ++ ys
+removed-at [] x ys = refl
+removed-at (z ∷ xs) x ys = ap (λ (r : List _). z ∷ r) (removed-at xs x ys)
+
+-- VDRs have the numbers from one on
+abbrev pub AreNumberedOn : List ℕ → ℕ → List ℕ → Type 0
+AreNumberedOn now n [] = Unit {0}
+AreNumberedOn now n (vdr ∷ more) = (number now vdr vdr_num ≡ n) × AreNumberedOn now (suc n) more
+
+rows_front : (rule : ℕ) (b : List ℕ) (n : ℕ) (xs ys : List ℕ) → Hold (number_rows rule b vdr_num n (xs ++ ys)) → Hold (number_rows rule b vdr_num n xs)
+rows_front rule b n [] ys h = tt
+rows_front rule b n (x ∷ xs) ys h = (h.0, rows_front rule b (suc n) xs ys h.1)
+
+rows_joined : (rule : ℕ) (b : List ℕ) (n k : ℕ) (xs ys : List ℕ) → n + length xs ≡ k → Hold (number_rows rule b vdr_num n xs) → Hold (number_rows rule b vdr_num k ys) → Hold (number_rows rule b vdr_num n (xs ++ ys))
+rows_joined rule b n k [] ys e h g = subst (λ (m : ℕ). Hold (number_rows rule b vdr_num m ys)) (omega arith) g
+rows_joined rule b n k (x ∷ xs) ys e h g = (h.0, rows_joined rule b (suc n) k xs ys (omega arith) h.1 g)
+
+rows_numbered : (rule : ℕ) (now : List ℕ) (n : ℕ) (xs : List ℕ) → AreNumberedOn now n xs → Hold (number_rows rule now vdr_num n xs)
+rows_numbered rule now n [] says = tt
+rows_numbered rule now n (x ∷ more) says = (eq-eqb (number now x vdr_num) n says.0, rows_numbered rule now (suc n) more says.1)
+
+rows_kept : (rule : ℕ) (b now : List ℕ) (n : ℕ) (xs : List ℕ) → ((m : ℕ) → In m xs → number now m vdr_num ≡ number b m vdr_num) → Hold (number_rows rule b vdr_num n xs) → Hold (number_rows rule now vdr_num n xs)
+rows_kept rule b now n [] same h = tt
+rows_kept rule b now n (x ∷ xs) same h = (ap (λ (m : ℕ). m == n) (same x (inl refl)) ∙ h.0, rows_kept rule b now (suc n) xs (λ m i. same m (inr i)) h.1)
+
+one_less : (rule : ℕ) (b now : List ℕ) (front : List ℕ) (own : ℕ) (back : List ℕ) → ((m : ℕ) → In m front → number now m vdr_num ≡ number b m vdr_num) → AreNumberedOn now (length front) back → Hold (number_rows rule b vdr_num 0 (front ++ own ∷ back)) → Hold (number_rows rule now vdr_num 0 (front ++ back))
+one_less rule b now front own back same says h = rows_joined rule now 0 (length front) front back (omega arith) (rows_kept rule b now 0 front same (rows_front rule b 0 front (own ∷ back) h)) (rows_numbered rule now (length front) back says)
+
+-- ---- the marks, by the kind
+
+pub record TakingTests (kind : Kind) (marks : List Mark) : Type 0 where
+  pub file_clear : keeps_file marks ≡ true
+  pub attributes_clear : keeps_all_attributes marks ≡ true
+  pub other_clear : keeps_kind marks (other_kind kind) ≡ true
+  pub index_clear : all_unmarked marks index_types ≡ true
+  pub others_clear : unmarked marks (type_in (variables_chain (other_kind kind))) ≡ true
+  pub eof_clear : avoided marks gdr_type 36 44 ≡ true
+
+pub taking_tests : (kind : Kind) (gdr : ℕ) (members behind unused places : List ℕ) (limit : ℕ) → TakingTests kind (variable_removing_marks kind gdr members behind unused places limit)
+taking_tests R gdr members behind unused places limit = record { file_clear = refl; attributes_clear = refl; other_clear = refl; index_clear = refl; others_clear = refl; eof_clear = refl }
+taking_tests Z gdr members behind unused places limit = record { file_clear = refl; attributes_clear = refl; other_clear = refl; index_clear = refl; others_clear = refl; eof_clear = refl }
+
+-- what of a VDR of the kind avoids them
+pub vdr_avoids : (kind : Kind) (gdr : ℕ) (members behind unused places : List ℕ) (limit m lo hi : ℕ) → (In m places → ⊥) → (hi ≤ 12) ⊎ (20 ≤ lo) → (In m behind → (hi ≤ 68) ⊎ (72 ≤ lo)) → Avoids (variable_removing_marks kind gdr members behind unused places limit) (type_in (variables_chain kind)) m lo hi
+vdr_avoids R gdr members behind unused places limit m lo hi out link num = avoids-of_type (variable_removing_marks R gdr members behind unused places limit) r_vdr_type m lo hi ((λ same lies. link), ((λ same lies. num lies), ((λ same lies. absurd (out lies)), tt)))
+vdr_avoids Z gdr members behind unused places limit m lo hi out link num = avoids-of_type (variable_removing_marks Z gdr members behind unused places limit) z_vdr_type m lo hi ((λ same lies. link), ((λ same lies. num lies), ((λ same lies. absurd (out lies)), tt)))
+
+pub least_size : (kind : Kind) → 340 ≤ fixed_size (type_in (variables_chain kind))
+least_size R = omega arith
+least_size Z = omega arith
+
+pub counting_by : (kind : Kind) (now ms : List ℕ) → number now (gdr_offset now) (count_of (variables_chain kind)) ≡ length ms → Hold (number_part kind now ms) → Hold (vdrs_rows kind now ms)
+counting_by R now ms count numbers = (eq-eqb _ _ count, numbers)
+counting_by Z now ms count numbers = (eq-eqb _ _ count, numbers)
+
+numbers_by : (kind : Kind) (b now : List ℕ) (front : List ℕ) (own : ℕ) (back : List ℕ) → ((m : ℕ) → In m front → number now m vdr_num ≡ number b m vdr_num) → AreNumberedOn now (length front) back → Hold (vdrs_rows kind b (front ++ own ∷ back)) → Hold (number_part kind now (front ++ back))
+numbers_by R b now front own back same says h = one_less 7 b now front own back same says h.1
+numbers_by Z b now front own back same says h = one_less 10 b now front own back same says h.1
+
+-- ---- an edit that takes one variable away, which has a VDR alone, numbers those behind it, and may free the VDR
+
+pub record TakesVariable (b now : List ℕ) (s : Shape) (kind : Kind) (before : List VariableShape) (own : VariableShape) (after : List VariableShape) (places : List ℕ) (limit : ℕ) : Type 0 where
+  pub edit : Edit b now s.records s.records (variable_removing_marks kind s.gdr (vdrs (shapes_of s kind)) (vdrs after) s.unused places limit) places
+  pub was : shapes_of s kind ≡ before ++ own ∷ after
+  pub mine : (m : ℕ) → In m places → m ≡ own.vdr
+  pub own_plain : IsPlain own
+  pub after_plain : Each IsPlain after
+
+module _ {b now : List ℕ} {s : Shape} {kind : Kind} {before : List VariableShape} {own : VariableShape} {after : List VariableShape} {places : List ℕ} {limit : ℕ} (sound : IsSound b s) (r : TakesVariable b now s kind before own after places limit) where
+  abbrev pub marks : List Mark
+  marks = variable_removing_marks kind s.gdr (vdrs (shapes_of s kind)) (vdrs after) s.unused places limit
+
+  abbrev type : ℕ
+  type = type_in (variables_chain kind)
+
+  h : HasShape b s
+  h = sound.has_shape
+
+  pub tests : TakingTests kind marks
+  tests = taking_tests kind s.gdr (vdrs (shapes_of s kind)) (vdrs after) s.unused places limit
+
+  pub file : FileSame b now
+  file = file_same sound r.edit tests.file_clear
+
+  pub ours : AreOurs b s before × AreOurs b s (own ∷ after)
+  ours = ours_parts b s before (own ∷ after) (subst (AreOurs b s) r.was (kind_ours b s sound kind))
+
+  pub ours_after : AreOurs b s after
+  ours_after = (ours_parts b s (own ∷ []) after ours.1).1
+
+  pub vdrs_were : vdrs (shapes_of s kind) ≡ vdrs before ++ own.vdr ∷ vdrs after
+  vdrs_were = ap vdrs r.was ∙ vdrs_append before (own ∷ after)
+
+  once : Distinct (vdrs before ++ own.vdr ∷ vdrs after)
+  once = subst Distinct vdrs_were (kind_chain kind h).once
+
+  pub front_in : (m : ℕ) → In m (vdrs before) → In m (vdrs (shapes_of s kind))
+  front_in m i = subst (In m) (sym vdrs_were) (In-append_left m (vdrs before) (own.vdr ∷ vdrs after) i)
+
+  pub own_in : In own.vdr (vdrs (shapes_of s kind))
+  own_in = subst (In own.vdr) (sym vdrs_were) (In-append_right own.vdr (vdrs before) (own.vdr ∷ vdrs after) (inl refl))
+
+  pub back_in : (m : ℕ) → In m (vdrs after) → In m (vdrs (shapes_of s kind))
+  back_in m i = subst (In m) (sym vdrs_were) (In-append_right m (vdrs before) (own.vdr ∷ vdrs after) (inr i))
+
+  pub front_out : (m : ℕ) → In m (vdrs before) → In m (own.vdr ∷ vdrs after) → ⊥
+  front_out m i j = distinct_apart (vdrs before) (own.vdr ∷ vdrs after) m once i j
+
+  pub back_out : (m : ℕ) → In m (vdrs after) → In m places → ⊥
+  back_out m i j = (Distinct-back (vdrs before) (own.vdr ∷ vdrs after) once).0 (subst (λ (x : ℕ). In x (vdrs after)) (r.mine m j) i)
+
+  -- a VDR of the kind
+  pub vdr_there : (m : ℕ) → In m (vdrs (shapes_of s kind)) → In m s.records × ((type_at b m ≡ type) × (340 ≤ size_at b m))
+  vdr_there m i =
+      let ok = (kind_chain kind h).linkable m i in
+      let inside = linkable-in b s.records type m ok in
+      let typed = linkable-type b s.records type m ok in
+      (inside, (typed, through 340 (fixed_size type) (size_at b m) (least_size kind) (fixed_long b s h type m inside typed)))
+
+  avoids : (m lo hi : ℕ) → (In m places → ⊥) → (hi ≤ 12) ⊎ (20 ≤ lo) → (In m (vdrs after) → (hi ≤ 68) ⊎ (72 ≤ lo)) → Avoids marks type m lo hi
+  avoids = vdr_avoids kind s.gdr (vdrs (shapes_of s kind)) (vdrs after) s.unused places limit
+
+  -- ---- before it, and of the other kind
+
+  lives : (vs : List VariableShape) → AreOurs b s vs → ((m : ℕ) → In m (vdrs vs) → KeptButLink b now m) → Each (VariableLives b now) vs
+  lives [] of k = tt
+  lives (v ∷ more) of k = (
+    record {
+      vdr = k v.vdr (inl refl);
+      behind = λ m i.
+          let inside = variables_in b s sound m (of.sub m (In-append_left m (variable_records v) (flat_map variable_records more) (inr i))) in
+          kept_away r.edit m (type_at b m) inside refl (all_unmarked-away marks index_types (type_at b m) m tests.index_clear (index_typed b s v of.has.0 of.fits.0 m i));
+    },
+    lives more (ours_parts b s (v ∷ []) more of).1 (λ m i. k m (inr i)),
+  )
+
+  pub before_live : Each (VariableLives b now) before
+  before_live = lives before ours.0 (λ m i.
+      let x = vdr_there m (front_in m i) in
+      let out : In m places → ⊥ = λ j. front_out m i (inl (r.mine m j)) in
+      let front : In m (vdrs after) → ⊥ = λ j. front_out m i (inr j) in
+      kept_but_link r.edit m type x.0 x.1.0 (avoids m 0 12 out (inl (omega arith)) (λ j. inl (omega arith))) (avoids m 20 (size_at b m) out (inr (omega arith)) (λ j. absurd (front j))))
+
+  abbrev others : List VariableShape
+  others = shapes_of s (other_kind kind)
+
+  pub others_live : Each (VariableLives b now) others
+  others_live = lives others (kind_ours b s sound (other_kind kind)) (λ m i.
+      let other = type_in (variables_chain (other_kind kind)) in
+      let ok = (kind_chain (other_kind kind) h).linkable m i in
+      but_link b now m (kept_away r.edit m other (linkable-in b s.records other m ok) (linkable-type b s.records other m ok) (unmarked-away marks other m tests.others_clear)))
+
+  -- ---- behind it
+
+  numbered_vdr : (m : ℕ) → In m (vdrs after) → KeptButNum b now m
+  numbered_vdr m i =
+      let x = vdr_there m (back_in m i) in
+      let long = x.1.1 in
+      let out = back_out m i in
+      let l = tile_lies b 8 (length b) s.records m h.tiled x.0 in
+      let heads = avoids m 0 12 out (inl (omega arith)) (λ j. inl (omega arith)) in
+      record {
+        start = r.edit.part m type 0 12 x.0 x.1.0 heads heads (omega arith);
+        middle = r.edit.part m type 20 68 x.0 x.1.0 heads (avoids m 20 68 out (inr (omega arith)) (λ j. inl (omega arith))) (omega arith);
+        rest = r.edit.part m type 72 (size_at b m) x.0 x.1.0 heads (avoids m 72 (size_at b m) out (inr (omega arith)) (λ j. inr (omega arith))) (omega arith);
+        inside = l.high;
+      }
+
+  pub after_remain : Each (VariableRemains b now s.records s.records) after
+  after_remain = all after ours_after r.after_plain (λ m i. i)
+    where
+      all : (vs : List VariableShape) → AreOurs b s vs → Each IsPlain vs → ((m : ℕ) → In m (vdrs vs) → In m (vdrs after)) → Each (VariableRemains b now s.records s.records) vs
+      all [] of plain sub = tt
+      all (v ∷ more) of plain sub = (plain_remains s.records file plain.0 of.has.0 of.fits.0 (numbered_vdr v.vdr (sub v.vdr (inl refl))), all more (ours_parts b s (v ∷ []) more of).1 plain.1 (λ m i. sub m (inr i)))
+
+  -- ---- the image
+
+  -- what the image says of it
+  pub record SaysTaken (list : List ℕ) : Type 0 where
+    pub numbered : AreNumberedOn now (length before) (vdrs after)
+    pub variable_chain : IsChain now s.records type (number now s.gdr (head_of (variables_chain kind))) (vdrs (before ++ after))
+    pub unused_chain : IsChain now s.records uir_type (number now s.gdr gdr_uir_head) list
+    pub freed : (m : ℕ) → In m places → type_at now m ≡ uir_type
+
+  -- the shape without the variable
+  abbrev pub without_variable : List ℕ → Shape
+  without_variable list = with_shapes s kind s.records list (before ++ after)
+
+  module _ {list : List ℕ} (says : SaysTaken list) where
+    pub splices : VariableSplices b now s kind s.records list marks places before (own ∷ []) [] after
+    splices = record {
+      edit = r.edit;
+      was = r.was;
+      file_clear = tests.file_clear;
+      attributes_clear = tests.attributes_clear;
+      other_clear = tests.other_clear;
+      before_remain = remain_from sound r.edit file before ours.0 before_live;
+      after_remain = after_remain;
+      others_live = others_live;
+      typed = λ m i.
+          let t = says.freed m i in
+          let inside = r.edit.sub m (subst (λ (x : ℕ). In x s.records) (sym (r.mine m i)) (vdr_there own.vdr own_in).0) in
+          let long = (tile_lies now 8 (length now) s.records m r.edit.tiled_now inside).long in
+          (subst (λ (x : ℕ). is_record_type x ≡ true) (sym t) refl, subst (λ (x : ℕ). fixed_size x ≤ size_at now m) (sym t) long);
+      variable_chain = says.variable_chain;
+      unused_chain = says.unused_chain;
+      own_have = tt;
+    }
+
+    pub shape_taken : HasShape now (without_variable list)
+    shape_taken = shape_now sound splices
+
+    pub content_taken : content now ≡ with_variables (content b) kind (remove (variables_of (content b) kind) (length before))
+    content_taken =
+        let split : variables_of (content b) kind ≡ map (variable_of b) before ++ variable_of b own ∷ map (variable_of b) after =
+        ap (λ (d : DataSet). variables_of d kind) (content_is b s h) ∙ variables_of_are b s kind ∙ ap (map (variable_of b)) r.was ∙ map-append (variable_of b) before (own ∷ after) in
+        let gone : remove (variables_of (content b) kind) (length before) ≡ map (variable_of b) before ++ map (variable_of b) after =
+        ap (λ (vs : List Variable). remove vs (length before)) split
+        ∙ ap (λ (n : ℕ). remove (map (variable_of b) before ++ variable_of b own ∷ map (variable_of b) after) n) (sym (length-map before (variable_of b)))
+        ∙ removed-at (map (variable_of b) before) (variable_of b own) (map (variable_of b) after) in
+        content_now sound splices ∙ ap (with_variables (content b) kind) (sym gone)
+
+    -- ---- the owners
+
+    -- counts without its records
+    fewer : (m : ℕ) → used_times (without_variable list) m + times m (flat_map variable_records (own ∷ [])) ≡ used_times s m + 0
+    fewer m = spliced_times s kind s.records list before (own ∷ []) [] after r.was m 0 (times m (flat_map variable_records (own ∷ []))) (omega arith)
+
+    used_once : (m : ℕ) → used_times s m + times m (unused_records b s) ≤ 1
+    used_once m = subst (λ (n : ℕ). n ≤ 1) (owned-times b s m ∙ regrouped (times m (file_records s)) (times m (all_attribute_records s)) (times m (all_variable_records s)) (times m (unused_records b s))) (sound.not_twice m)
+      where
+        regrouped : (f a v u : ℕ) → f + (a + (v + u)) ≡ f + (a + v) + u
+        regrouped f a v u = omega arith
+
+    own_record : (m : ℕ) → In m (flat_map variable_records (own ∷ [])) → m ≡ own.vdr
+    own_record m i = one (subst (In m) (ap (λ (xs : List ℕ). xs ++ []) (plain_records r.own_plain)) i)
+      where
+        one : In m (own.vdr ∷ []) → m ≡ own.vdr
+        one (inl q) = q
+        one (inr none) = absurd none
+
+    pub none_left : used_times (without_variable list) own.vdr ≡ 0
+    none_left = no_more (used_times s own.vdr) (used_times (without_variable list) own.vdr) (times own.vdr (flat_map variable_records (own ∷ []))) (times own.vdr (unused_records b s)) (used_once own.vdr) (fewer own.vdr) (times-in own.vdr (flat_map variable_records (own ∷ [])) (inl refl))
+      where
+        no_more : (n n' o u : ℕ) → n + u ≤ 1 → n' + o ≡ n + 0 → 1 ≤ o → n' ≡ 0
+        no_more n n' o u l p q = omega arith
+
+    pub less_twice : (m : ℕ) → times m (unused_records now (without_variable list)) ≡ times m (unused_records b s) → times m (owned_records now (without_variable list)) ≤ 1
+    less_twice m same =
+        let t = without_variable list in
+        less (times m (owned_records now t)) (times m (file_records t)) (times m (all_attribute_records t)) (times m (all_variable_records t)) (times m (unused_records now t)) (times m (unused_records b s)) (used_times s m) (times m (flat_map variable_records (own ∷ [])))
+        (owned-times now t m) same (fewer m) (used_once m)
+      where
+        less : (n f a v r r' k o : ℕ) → n ≡ f + (a + (v + r)) → r ≡ r' → f + (a + v) + o ≡ k + 0 → k + r' ≤ 1 → n ≤ 1
+        less n f a v r r' k o p q t l = omega arith
+
+    pub sound_taken : ((m : ℕ) → times m (owned_records now (without_variable list)) ≤ 1) → IsSound now (without_variable list)
+    sound_taken once = sound_if sound splices tt once
+
+    owned : OwnedOnce b s → In own.vdr places → OwnedOnce now (without_variable list)
+    owned once mine = owned_once_if b now s (without_variable list) marks places sound once r.edit
+        (λ m out. as_before (used_times (without_variable list) m) (times m (flat_map variable_records (own ∷ []))) (used_times s m) (fewer m) (times-none m (flat_map variable_records (own ∷ [])) (λ i. out (subst (λ (x : ℕ). In x places) (sym (own_record m i)) mine))))
+        (λ m i. inr (says.freed m i, subst (λ (x : ℕ). used_times (without_variable list) x ≡ 0) (sym (r.mine m i)) none_left))
+      where
+        as_before : (n' o n : ℕ) → n' + o ≡ n + 0 → o ≡ 0 → n' ≡ n
+        as_before n' o n p q = omega arith
+
+    -- ---- the rules
+
+    counted : IsGoodByShape b s → number now s.gdr (count_of (variables_chain kind)) ≡ length (vdrs (before ++ after)) → Hold (vdrs_rows kind now (vdrs (before ++ after)))
+    counted good count =
+        let place : gdr_offset now ≡ s.gdr = gdr_place sound r.edit tests.file_clear in
+        let same = nums_from sound r.edit file before ours.0 before_live in
+        let long : length (vdrs before) ≡ length before = length-map before (λ (v : VariableShape). v.vdr) in
+        let numbers = numbers_by kind b now (vdrs before) own.vdr (vdrs after) same (subst (λ (n : ℕ). AreNumberedOn now n (vdrs after)) (sym long) says.numbered) (subst (λ (ms : List ℕ). Hold (vdrs_rows kind b ms)) vdrs_were (counted_before good kind)) in
+        counting_by kind now (vdrs (before ++ after)) (ap (λ (g : ℕ). number now g (count_of (variables_chain kind))) place ∙ count) (subst (λ (ms : List ℕ). Hold (number_part kind now ms)) (sym (vdrs_append before after)) numbers)
+
+    pub taken_good : AllHold (first_phases (sealed b)) → IsGoodByShape b s → In own.vdr places → number now s.gdr (count_of (variables_chain kind)) ≡ length (vdrs (before ++ after)) → eof now s.gdr ≡ length now → length now ≤ image_limit → Good now
+    taken_good first good mine count eof_is short = good_image_if sound splices first good (record {
+      counted = counted good count;
+      apart = apart_if sound splices good (λ x y i j differ. absurd i) (λ x y i beside. absurd i);
+      own_ruled = tt;
+      read = λ m i. subst (λ (t : ℕ). is_in t read_types ≡ true) (sym (says.freed m i)) refl;
+      owned = owned good.owned_once mine;
+    }) eof_is short

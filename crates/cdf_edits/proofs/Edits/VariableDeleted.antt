@@ -1,0 +1,203 @@
+-- What the deletion of a variable leaves of the attributes, and of the records that it frees.
+use Rattle.std.proofs.Common.{◌≡◌, ◌⊎◌, ℕ, zero, suc, ◌+◌, ◌-◌, ◌<◌, ◌≤◌, List, [], ◌∷◌, ◌++◌, length, map, Bool, true, Some, refl, sym, ap, subst, ◌∙◌, arith, inl, inr}
+use Rattle.std.proofs.lemmas.Bool.{le-leb}
+use Rattle.std.proofs.lemmas.Option.{same_Some}
+use Rattle.std.specs.List.{flat_map, slice_get}
+use Rattle.std.specs.Prelude.{if◌then◌else◌}
+use Rattle.cdf_model.specs.declared.kinds.EntryKind.{EntryKind}
+use Rattle.cdf_model.specs.declared.kinds.EntryKind.TheVariants as entries
+use Rattle.cdf_model.specs.declared.kinds.Kind.{Kind}
+use Rattle.cdf_model.specs.declared.kinds.Kind.TheVariants.{R, Z}
+use Rattle.cdf_model.specs.AttributeSteps.{entries_of}
+use Rattle.cdf_model.specs.DataSet.{Attribute}
+use Rattle.cdf_model.specs.Names.{Found}
+use Rattle.cdf_format.specs.Bytes.{Same, byte}
+use Rattle.cdf_format.specs.Content.{attribute_of}
+use Rattle.cdf_format.specs.Fields.{number, integer4, size_at}
+use Rattle.cdf_format.specs.Owners.{attribute_records}
+use Rattle.cdf_format.specs.Records.{aedr_num}
+use Rattle.cdf_format.specs.RecordTypes.{adr_type, fixed_size, uir_type}
+use Rattle.cdf_format.specs.Shape.{AttributeShape, Shape, Each, HasEntries, shape, vdrs}
+use Rattle.cdf_format.specs.Tiles.{In, AreTiles}
+use Rattle.cdf_format.specs.WellFormed.{Good}
+use Rattle.cdf_format.proofs.BytesLemmas.{integer_kept, number_kept}
+use Rattle.cdf_format.proofs.ChainsLemmas.{linkable-in, linkable-type}
+use Rattle.cdf_format.proofs.GoodSound.{good_is_sound}
+use Rattle.cdf_format.proofs.Members.{In-append, In-append_left, In-append_right}
+use Rattle.cdf_edits.specs.Commands.Allowances.{FreedStay, no_fields, shapes_of}
+use Rattle.cdf_edits.specs.Commands.EntryChains.{GreatestIs, chain_of, entry_type, greatest_number, kind_of_entries, max_field}
+use Rattle.cdf_edits.specs.Commands.Variables.{AttributeFollows, NumbersFall, entries_for, freed_with_variable}
+use Rattle.cdf_edits.specs.Edits.DropsEntries.{DropsEntries, AttributeDropped}
+use Rattle.cdf_edits.specs.Edits.Marks.{avoided, ended}
+use Rattle.cdf_edits.specs.Edits.RemovesVariable.{RemovesVariable, variable_removing_marks}
+use Rattle.cdf_edits.specs.Frame.Leaves.{AttributeStays}
+use Rattle.cdf_edits.specs.Space.Acts.{gave, links_end}
+use Rattle.cdf_edits.proofs.Edits.ChainKinds.{chain_has, chain_in}
+use Rattle.cdf_edits.proofs.Edits.FreedBytes.{freed_stay}
+use Rattle.cdf_edits.proofs.Edits.FreedRecords.{sizes_by_tiles}
+use Rattle.cdf_edits.proofs.Edits.MarkLemmas.{avoided-avoids, ended-avoids}
+use Rattle.cdf_edits.proofs.Edits.PlainVariables.{plain_freed}
+use Rattle.cdf_edits.proofs.Edits.RemovedVariable.{sound, takes, says, behind, own_plain, own_is, shape_after}
+use Rattle.cdf_edits.proofs.Edits.StepEdits.{fixed_long}
+use Rattle.cdf_edits.proofs.Edits.TakenVariable.{splices, own_in}
+use Rattle.cdf_edits.proofs.Edits.VariableDeletion.{long_deleted, records_deleted, sizes_mid}
+use Rattle.cdf_edits.proofs.Edits.VariableSplice.{attributes_kept, attributes_stay}
+use Rattle.cdf_edits.proofs.Frame.Meaning.{Kept}
+
+-- ---- an attribute of a list
+
+each_at : (P : AttributeShape → Type 0) (as_ : List AttributeShape) (k : ℕ) (a : AttributeShape) → Each P as_ → slice_get as_ k ≡ Some a → P a
+each_at P [] k a each e = absurd cc
+each_at P (x ∷ xs) zero a each e = subst P (same_Some x a e) each.0
+each_at P (x ∷ xs) (suc k) a each e = each_at P xs k a each.1 e
+
+records_at : (as_ : List AttributeShape) (k : ℕ) (a : AttributeShape) → slice_get as_ k ≡ Some a → (m : ℕ) → In m (attribute_records a) → In m (flat_map attribute_records as_)
+records_at [] k a e m i = absurd cc
+records_at (x ∷ xs) zero a e m i = In-append_left m (attribute_records x) (flat_map attribute_records xs) (subst (λ (y : AttributeShape). In m (attribute_records y)) (sym (same_Some x a e)) i)
+records_at (x ∷ xs) (suc k) a e m i = In-append_right m (attribute_records x) (flat_map attribute_records xs) (records_at xs k a e m i)
+
+adr_at : (as_ : List AttributeShape) (k : ℕ) (a : AttributeShape) → slice_get as_ k ≡ Some a → In a.adr (map (λ (x : AttributeShape). x.adr) as_)
+adr_at [] k a e = absurd cc
+adr_at (x ∷ xs) zero a e = inl (sym (ap (λ (y : AttributeShape). y.adr) (same_Some x a e)))
+adr_at (x ∷ xs) (suc k) a e = inr (adr_at xs k a e)
+
+least_entry : (kind : EntryKind) → 32 ≤ fixed_size (entry_type kind)
+least_entry entries.G = omega arith
+least_entry entries.R = omega arith
+least_entry entries.Z = omega arith
+
+greatest_field : (kind : EntryKind) → (max_field kind).place + 4 ≤ 324
+greatest_field entries.G = omega arith
+greatest_field entries.R = omega arith
+greatest_field entries.Z = omega arith
+
+pub record UnusedTests (kind : Kind) (gdr : ℕ) (members later unused places : List ℕ) (limit : ℕ) : Type 0 where
+  pub start : avoided (variable_removing_marks kind gdr members later unused places limit) uir_type 0 12 ≡ true
+  pub end : ended (variable_removing_marks kind gdr members later unused places limit) uir_type 28 ≡ true
+
+pub unused_tests : (kind : Kind) (gdr : ℕ) (members later unused places : List ℕ) (limit : ℕ) → UnusedTests kind gdr members later unused places limit
+unused_tests R gdr members later unused places limit = record { start = refl; end = refl }
+unused_tests Z gdr members later unused places limit = record { start = refl; end = refl }
+
+module _ {b mid now : List ℕ} {found : Found} (good : Good b) (drops : DropsEntries b found mid) (d : RemovesVariable mid now found.kind found.number) where
+  good_mid : Good mid
+  good_mid = drops.good
+
+  attributes_are : (shape now).attributes ≡ (shape mid).attributes
+  attributes_are = ap (λ (x : Shape). x.attributes) (shape_after drops.good d)
+
+  kept : (m : ℕ) → In m (flat_map attribute_records (shape mid).attributes) → Kept mid now m
+  kept = attributes_kept (sound drops.good d) (splices (sound drops.good d) (takes drops.good d) (says drops.good d))
+
+  stay : Each (AttributeStays mid now (shape mid).records) (shape mid).attributes
+  stay = attributes_stay (sound drops.good d) (splices (sound drops.good d) (takes drops.good d) (says drops.good d))
+
+  -- ---- the attributes
+
+  module _ (k : ℕ) (a a' : AttributeShape) (at : slice_get (shape b).attributes k ≡ Some a) (at_now : slice_get (shape now).attributes k ≡ Some a') where
+    at_mid : slice_get (shape mid).attributes k ≡ Some a'
+    at_mid = ap (λ (as_ : List AttributeShape). slice_get as_ k) (sym attributes_are) ∙ at_now
+
+    left : AttributeDropped b mid found k a a'
+    left = drops.attributes k a a' at at_mid
+
+    has : HasEntries mid (shape mid).records a'
+    has = each_at (HasEntries mid (shape mid).records) (shape mid).attributes k a' (good_is_sound mid drops.good).has_shape.entry_chains at_mid
+
+    entry_number : (m : ℕ) → In m (chain_of a' (kind_of_entries found.kind)) → number now m aedr_num ≡ number mid m aedr_num
+    entry_number m i =
+        let kind = kind_of_entries found.kind in
+        let ok = (chain_has kind a' has).linkable m i in
+        let long = fixed_long mid (shape mid) (good_is_sound mid drops.good).has_shape (entry_type kind) m (linkable-in mid (shape mid).records (entry_type kind) m ok) (linkable-type mid (shape mid).records (entry_type kind) m ok) in
+        let least = least_entry kind in
+        number_kept mid now m (kept m (records_at (shape mid).attributes k a' at_mid m (inr (chain_in kind a' m i)))).same aedr_num (omega arith)
+
+    numbers_fall : NumbersFall b now found a
+    numbers_fall of_variables = all (chain_of a (kind_of_entries found.kind)) left.later (left.follows.0 of_variables)
+      where
+        all : (es : List ℕ) → Each (λ aedr. found.number < number b aedr aedr_num → In aedr (chain_of a' (kind_of_entries found.kind))) es → Each (λ aedr. found.number < number b aedr aedr_num → number mid aedr aedr_num + 1 ≡ number b aedr aedr_num) es
+            → Each (λ aedr. found.number < number b aedr aedr_num → number now aedr aedr_num + 1 ≡ number b aedr aedr_num) es
+        all [] later fall = tt
+        all (e ∷ es) later fall = ((λ lt. ap (λ (n : ℕ). n + 1) (entry_number e (later.0 lt)) ∙ fall.0 lt), all es later.1 fall.1)
+
+    adr_kept : Kept mid now a'.adr
+    adr_kept = kept a'.adr (records_at (shape mid).attributes k a' at_mid a'.adr (inl refl))
+
+    adr_long : 324 ≤ size_at mid a'.adr
+    adr_long =
+        let h = (good_is_sound mid drops.good).has_shape in
+        let ok = h.attribute_chain.linkable a'.adr (adr_at (shape mid).attributes k a' at_mid) in
+        fixed_long mid (shape mid) h adr_type a'.adr (linkable-in mid (shape mid).records adr_type a'.adr ok) (linkable-type mid (shape mid).records adr_type a'.adr ok)
+
+    greatest_is : (kind : EntryKind) (written : Bool) → GreatestIs b mid a a' kind written → GreatestIs b now a a' kind written
+    greatest_is kind written is =
+        let same : attribute_of now a' ≡ attribute_of mid a' = (each_at (AttributeStays mid now (shape mid).records) (shape mid).attributes k a' stay at_mid).1 in
+        let fits = greatest_field kind in
+        let field = integer_kept mid now a'.adr adr_kept.same (max_field kind) (let l = adr_long in omega arith) in
+        field ∙ is ∙ ap (λ (x : Attribute). if written then greatest_number (entries_of x kind) else integer4 b a.adr (max_field kind)) (sym same)
+
+    pub attribute_follows : AttributeFollows b now found a a'
+    attribute_follows = (numbers_fall, (λ kind. greatest_is kind _ (left.follows.1 kind)))
+
+  -- ---- what is freed
+
+  freed_places : List ℕ
+  freed_places = entries_for b (shape b).attributes found ++ freed_with_variable d.own
+
+  one_of : (m : ℕ) → In m (entries_for b (shape b).attributes found ++ freed_with_variable d.own) → In m (entries_for b (shape b).attributes found) ⊎ (m ≡ d.own.vdr)
+  one_of m i = elim (In-append m (entries_for b (shape b).attributes found) (freed_with_variable d.own) i) [
+    | inl j ↦ inl j
+    | inr j ↦ inr (only (subst (In m) (plain_freed (own_plain drops.good d)) j))
+  ]
+    where
+      only : In m (d.own.vdr ∷ []) → m ≡ d.own.vdr
+      only (inl q) = q
+      only (inr none) = absurd none
+
+  pub own_vdr_in : In d.own.vdr (vdrs (shapes_of (shape b) found.kind))
+  own_vdr_in = subst (λ (vs : List _). In d.own.vdr (vdrs vs)) (drops.variables_are found.kind) (own_in (sound drops.good d) (takes drops.good d))
+
+  own_in_b : In d.own.vdr (shape b).records
+  own_in_b = subst (In d.own.vdr) drops.records_are (own_is drops.good d).0
+
+  places_in : (m : ℕ) → In m (entries_for b (shape b).attributes found ++ freed_with_variable d.own) → In m (shape b).records
+  places_in m i = elim (one_of m i) [ inl j ↦ (drops.dropped m j).stands | inr q ↦ subst (λ (x : ℕ). In x (shape b).records) (sym q) own_in_b ]
+
+  sizes_now : (m : ℕ) → In m (shape b).records → size_at now m ≡ size_at b m
+  sizes_now =
+      let t = (takes drops.good d).edit.tiled_now in
+      sizes_by_tiles b now 8 8 (length b) (shape b).records refl (good_is_sound b good).has_shape.tiled (subst (λ (k : ℕ). AreTiles now 8 k (shape b).records) (long_deleted good drops d) (subst (AreTiles now 8 (length now)) drops.records_are t))
+
+  long_enough : (k : ℕ) → 28 ≤ k → links_end k ≡ 28
+  long_enough k l = rw (le-leb 28 k l) refl
+
+  entry_behind : (m : ℕ) → In m (entries_for b (shape b).attributes found) → Same b now (m + links_end (size_at b m)) (m + size_at b m)
+  entry_behind m i =
+      let x = drops.dropped m i in
+      let t = unused_tests found.kind (shape mid).gdr (vdrs (shapes_of (shape mid) found.kind)) (vdrs d.after) (shape mid).unused (d.own.vdr ∷ []) (length d.mid) in
+      let e = (takes drops.good d).edit in
+      let size = sizes_mid good drops d m x.stands in
+      let inside : In m (shape mid).records = subst (In m) (sym drops.records_are) x.stands in
+      let marks = variable_removing_marks found.kind (shape mid).gdr (vdrs (shapes_of (shape mid) found.kind)) (vdrs d.after) (shape mid).unused (d.own.vdr ∷ []) (length d.mid) in
+      let later : Same mid now (m + 28) (m + size_at b m) = e.part m uir_type 28 (size_at b m) inside x.freed (avoided-avoids marks uir_type m 0 12 t.start) (ended-avoids marks uir_type m 28 (size_at b m) t.end) (omega arith) in
+      subst (λ (k : ℕ). Same b now (m + k) (m + size_at b m)) (sym (long_enough (size_at b m) x.long)) (record { each = λ k l u. later.each k l u ∙ x.behind.each k l u })
+
+  vdr_behind : Same b now (d.own.vdr + links_end (size_at b d.own.vdr)) (d.own.vdr + size_at b d.own.vdr)
+  vdr_behind =
+      let v = d.own.vdr in
+      let size = sizes_mid good drops d v own_in_b in
+      let later = subst (λ (k : ℕ). Same mid now (v + links_end k) (v + k)) size (behind drops.good d) in
+      let first = drops.vdr_kept found.kind v own_vdr_in in
+      record { each = λ k l u. later.each k l u ∙ here v k (size_at b v) (links_end (size_at b v)) first.same l u }
+    where
+      here : (v k s p : ℕ) → ((i : ℕ) → i < s → Unit {0} → byte mid (v + i) ≡ byte b (v + i)) → v + p ≤ k → k < v + s → byte mid k ≡ byte b k
+      here v k s p same l u =
+          let at : k ≡ v + (k - v) = omega arith in
+          subst (λ (x : ℕ). byte mid x ≡ byte b x) (sym at) (same (k - v) (omega arith) tt)
+
+  pub freed_deleted : FreedStay b now no_fields (gave b (entries_for b (shape b).attributes found ++ freed_with_variable d.own))
+  freed_deleted = freed_stay b now (gave b (entries_for b (shape b).attributes found ++ freed_with_variable d.own)) (entries_for b (shape b).attributes found ++ freed_with_variable d.own) no_fields
+      (subst (AreTiles now 8 (length now)) (sym (records_deleted good drops d)) (subst (AreTiles now 8 (length now)) drops.records_are (takes drops.good d).edit.tiled_now))
+      (λ m i. subst (In m) (sym (records_deleted good drops d)) (places_in m i))
+      (λ m i. sizes_now m (places_in m i))
+      (λ m i. elim (one_of m i) [ inl j ↦ entry_behind m j | inr q ↦ subst (λ (x : ℕ). Same b now (x + links_end (size_at b x)) (x + size_at b x)) (sym q) vdr_behind ])

@@ -1,0 +1,111 @@
+-- The deletion of a variable follows: its entries went, and then the variable.
+use Rattle.std.proofs.Common.{◌≡◌, ℕ, ◌≤◌, List, [], ◌∷◌, ◌++◌, length, map, true, Some, refl, sym, ap, subst, ◌∙◌, arith}
+use Rattle.std.proofs.lemmas.List.{map-append}
+use Rattle.std.specs.List.{remove}
+use Rattle.cdf_model.specs.declared.answer.Reply.TheVariants as replies
+use Rattle.cdf_model.specs.declared.kinds.Kind.{Kind}
+use Rattle.cdf_model.specs.declared.kinds.Kind.TheVariants.{R, Z}
+use Rattle.cdf_model.specs.Answers.{Go}
+use Rattle.cdf_model.specs.DataSet.{Attribute, DataSet, Variable}
+use Rattle.cdf_model.specs.Limits.{image_limit}
+use Rattle.cdf_model.specs.Names.{Found, variable_named, variables_of, with_variables}
+use Rattle.cdf_model.specs.VariableSteps.{attribute_without, del_var_step, without_variable as without_found}
+use Rattle.cdf_format.specs.Content.{content}
+use Rattle.cdf_format.specs.Fields.{size_at}
+use Rattle.cdf_format.specs.RecordTypes.{uir_type}
+use Rattle.cdf_format.specs.Shape.{Shape, HasShape, shape, vdrs}
+use Rattle.cdf_format.specs.Tiles.{In, AreTiles}
+use Rattle.cdf_format.specs.WellFormed.{Good}
+use Rattle.cdf_format.proofs.GoodSound.{good_is_sound}
+use Rattle.cdf_edits.specs.Commands.Variables.{RMaxRecOf, entries_for, freed_with_variable}
+use Rattle.cdf_edits.specs.Edits.DropsEntries.{DropsEntries}
+use Rattle.cdf_edits.specs.Edits.Marks.{unmarked}
+use Rattle.cdf_edits.specs.Edits.RemovesVariable.{RemovesVariable, variable_unlinking_marks}
+use Rattle.cdf_edits.specs.Commands.Allowances.{shapes_of}
+use Rattle.cdf_edits.specs.Space.Chains.{type_in}
+use Rattle.cdf_edits.specs.Space.VariableChains.{variables_chain}
+use Rattle.cdf_edits.specs.Space.Acts.{Act, Gave, gave, taken, ActsFollow}
+use Rattle.cdf_edits.proofs.Edits.ActsStill.{acts_still_by}
+use Rattle.cdf_edits.proofs.Edits.ActsThen.{all_gave}
+use Rattle.cdf_edits.proofs.Edits.FreedRecords.{sizes_by_tiles}
+use Rattle.cdf_edits.proofs.Edits.PlainVariables.{plain_freed}
+use Rattle.cdf_edits.proofs.Edits.RemovedVariable.{given, may_free, size_before, own_plain, own_is, content_after, good_after, long_now, records_are, r_max_after}
+use Rattle.cdf_edits.proofs.Edits.UnlinkedVariable.{as_long, mid_sound, unlinked_edit, unlinked_shape}
+
+-- ---- the step
+
+pub delete_goes : (d : DataSet) (name : List ℕ) (found : Found) → variable_named d name ≡ Some found → del_var_step d name ≡ Go (without_found d found) replies.Plain
+delete_goes d name found e = rw e refl
+
+attributes_apart : (d : DataSet) (as_ : List Attribute) (kind : Kind) → variables_of (record d { attributes = as_ }) kind ≡ variables_of d kind
+attributes_apart d as_ R = refl
+attributes_apart d as_ Z = refl
+
+pub taken_none : (b places : List ℕ) → taken (gave b places) ≡ []
+taken_none b [] = refl
+taken_none b (p ∷ more) = taken_none b more
+
+free_of_unused : (kind : Kind) (gdr : ℕ) (members later : List ℕ) → unmarked (variable_unlinking_marks kind gdr members later) uir_type ≡ true
+free_of_unused R gdr members later = refl
+free_of_unused Z gdr members later = refl
+
+module _ {b mid now : List ℕ} {found : Found} (good : Good b) (drops : DropsEntries b found mid) (d : RemovesVariable mid now found.kind found.number) where
+  h : HasShape b (shape b)
+  h = (good_is_sound b good).has_shape
+
+  abbrev places : List ℕ
+  places = entries_for b (shape b).attributes found ++ d.own.vdr ∷ []
+
+  abbrev pub acts : List Act
+  acts = gave b (entries_for b (shape b).attributes found ++ freed_with_variable d.own)
+
+  acts_are : gave b (entries_for b (shape b).attributes found ++ freed_with_variable d.own) ≡ gave b (entries_for b (shape b).attributes found) ++ gave b (d.own.vdr ∷ [])
+  acts_are = ap (λ (xs : List ℕ). gave b (entries_for b (shape b).attributes found ++ xs)) (plain_freed (own_plain drops.good d)) ∙ map-append (λ (place : ℕ). Gave place (size_at b place)) (entries_for b (shape b).attributes found) (d.own.vdr ∷ [])
+
+  -- ---- the content
+
+  pub content_deleted : content now ≡ without_found (content b) found
+  content_deleted =
+      let as_ = map (attribute_without found.kind found.number) (content b).attributes in
+      content_after drops.good d ∙ ap (λ (x : DataSet). with_variables x found.kind (remove (variables_of x found.kind) found.number)) drops.content_is
+      ∙ ap (λ (vs : List Variable). with_variables (record (content b) { attributes = as_ }) found.kind (remove vs found.number)) (attributes_apart (content b) as_ found.kind)
+
+  pub goes_deleted : (name : List ℕ) → variable_named (content b) name ≡ Some found → del_var_step (content b) name ≡ Go (content now) replies.Plain
+  goes_deleted name named = delete_goes (content b) name found named ∙ ap (λ (x : DataSet). Go x replies.Plain) (sym content_deleted)
+
+  pub long_deleted : length now ≡ length b
+  long_deleted = long_now drops.good d ∙ drops.long
+
+  pub good_deleted : length b ≤ image_limit → Good now
+  good_deleted short = good_after drops.good d (let l = drops.long in omega arith)
+
+  pub records_deleted : (shape now).records ≡ (shape b).records
+  records_deleted = records_are drops.good d ∙ drops.records_are
+
+  -- ---- its space
+
+  pub sizes_mid : (m : ℕ) → In m (shape b).records → size_at mid m ≡ size_at b m
+  sizes_mid = sizes_by_tiles b mid 8 8 (length b) (shape b).records refl h.tiled (subst (λ (k : ℕ). AreTiles mid 8 k (shape b).records) drops.long (subst (AreTiles mid 8 (length mid)) drops.records_are (good_is_sound mid drops.good).has_shape.tiled))
+
+  pub own_in : In d.own.vdr (shape b).records
+  own_in = subst (In d.own.vdr) drops.records_are (own_is drops.good d).0
+
+  unlinked_acts : ActsFollow b d.mid (gave b (entries_for b (shape b).attributes found))
+  unlinked_acts =
+      let same = unlinked_shape drops.good d.unlinks in
+      acts_still_by (good_is_sound mid drops.good) drops.acts (unlinked_edit drops.good d.unlinks) (free_of_unused found.kind (shape mid).gdr (vdrs (shapes_of (shape mid) found.kind)) (vdrs d.after)) (ap (λ (x : Shape). x.records) same) (ap (λ (x : Shape). x.unused) same) (as_long drops.good d.unlinks)
+
+  pub acts_deleted : ActsFollow b now (gave b (entries_for b (shape b).attributes found ++ freed_with_variable d.own))
+  acts_deleted =
+      let all = all_gave b d.mid now (gave b (entries_for b (shape b).attributes found)) (type_in (variables_chain found.kind) ∷ []) (d.own.vdr ∷ []) h unlinked_acts (mid_sound drops.good d.unlinks) (may_free drops.good d) (given drops.good d) in
+      let size : size_at d.mid d.own.vdr ≡ size_at b d.own.vdr = size_before drops.good d ∙ sizes_mid d.own.vdr own_in in
+      subst (ActsFollow b now) (ap (λ (n : ℕ). gave b (entries_for b (shape b).attributes found) ++ Gave d.own.vdr n ∷ []) size ∙ sym acts_are) all
+
+  -- ---- rMaxRec
+
+  pub r_max_deleted : RMaxRecOf b now found.kind
+  r_max_deleted = by_kind found.kind (r_max_after found.kind drops.good d)
+    where
+      by_kind : (kind : Kind) → RMaxRecOf mid now kind → RMaxRecOf b now kind
+      by_kind R is = is
+      by_kind Z is = is ∙ drops.r_max_rec_kept

@@ -1,0 +1,328 @@
+-- What the deletion of a variable keeps of each record, by its owner.
+use Rattle.std.proofs.Common.{◌≡◌, ℕ, zero, suc, ◌+◌, ◌-◌, ◌<◌, ◌≤◌, List, [], ◌∷◌, ◌++◌, length, Bool, true, false, true≢false, Option, Some, None, eq-eqb, eqb, refl, sym, ap, subst, ◌∙◌, arith, inl, inr}
+use Rattle.std.proofs.lemmas.Bool.{eqb-true}
+use Rattle.std.proofs.lemmas.Option.{same_Some}
+use Rattle.std.specs.List.{flat_map, slice_get}
+use Rattle.std.specs.Prelude.{◌==◌, if◌then◌else◌}
+use Rattle.cdf_model.specs.declared.kinds.Kind.{Kind}
+use Rattle.cdf_model.specs.declared.kinds.Kind.TheVariants.{R, Z}
+use Rattle.cdf_model.specs.Names.{Found}
+use Rattle.cdf_format.specs.Bytes.{byte}
+use Rattle.cdf_format.specs.Chains.{is_in, next_field}
+use Rattle.cdf_format.specs.Content.{content}
+use Rattle.cdf_format.specs.Fields.{size_at, type_at}
+use Rattle.cdf_format.specs.Owners.{OneAttribute, OneVariable, Unused, attribute_records, owned, owned_by, owned_by_attributes, owned_by_variables, unused_records, variable_records}
+use Rattle.cdf_format.specs.Records.{Field, uir_next_uir, uir_prev_uir, vdr_num}
+use Rattle.cdf_format.specs.RecordTypes.{cdr_type, gdr_type, r_vdr_type, z_vdr_type, vxr_type, uir_type}
+use Rattle.cdf_format.specs.Shape.{AttributeShape, VariableShape, Each, HasShape, shape, vdrs}
+use Rattle.cdf_format.specs.Sound.{IsSound}
+use Rattle.cdf_format.specs.Tiles.{In, Distinct}
+use Rattle.cdf_format.specs.WellFormed.{Good}
+use Rattle.cdf_format.proofs.ChainsLemmas.{is_a-in, is_a-type, linkable-in, linkable-type}
+use Rattle.cdf_format.proofs.GoodSound.{good_by_its_shape, good_is_sound}
+use Rattle.cdf_format.proofs.Members.{either, true-is_in, false-is_in, In-append_left, In-append_right}
+use Rattle.cdf_format.proofs.Owning.{filter-in}
+use Rattle.cdf_format.proofs.Tests.{both}
+use Rattle.cdf_format.proofs.TilesLemmas.{tile_lies}
+use Rattle.cdf_edits.specs.Commands.Allowances.{Allowance, AllKeep, own_allowance, range_at, Allowances, Anything, Keeps, Only, OutsideFields, Stays, is_taken, only_of, r_max_rec_field, same_kind, shapes_of, space_fields, unused_allowance, vdr_type}
+use Rattle.cdf_edits.specs.Commands.Variables.{del_var_changes, entries_allowance, entries_for, freed_with_variable, variables_gdr_fields}
+use Rattle.cdf_edits.specs.Edits.DropsEntries.{DropsEntries}
+use Rattle.cdf_edits.specs.Edits.Edit.{Edit}
+use Rattle.cdf_edits.specs.Edits.Marks.{Away, Within, all_unmarked, attribute_types, avoided, within}
+use Rattle.cdf_edits.specs.Edits.RemovesVariable.{RemovesVariable, variable_removing_marks}
+use Rattle.cdf_edits.specs.Index.Blocks.{Range}
+use Rattle.cdf_edits.specs.Space.Acts.{Act, gave}
+use Rattle.cdf_edits.specs.Space.Chains.{type_in}
+use Rattle.cdf_edits.specs.Space.VariableChains.{variables_chain}
+use Rattle.cdf_edits.proofs.Commands.KeptRecords.{AllKeep-append}
+use Rattle.cdf_edits.proofs.Edits.AttributeFrame.{AreThere}
+use Rattle.cdf_edits.proofs.Edits.ChainKinds.{attribute_typed}
+use Rattle.cdf_edits.proofs.Edits.Composing.{head_type}
+use Rattle.cdf_edits.proofs.Edits.MarkLemmas.{all_unmarked-away, away-of_type, unmarked-away, within-of_type}
+use Rattle.cdf_edits.proofs.Edits.OwnersKept.{keep_all, keep_file, keep_places, keeps_away, keeps_fields, keeps_within}
+use Rattle.cdf_edits.proofs.Edits.PlainVariables.{IsPlain, are_plain, plain_records}
+use Rattle.cdf_edits.proofs.Edits.RemovedVariable.{takes, records_are}
+use Rattle.cdf_edits.proofs.Edits.TakenVariable.{TakingTests, taking_tests, vdr_avoids}
+use Rattle.cdf_edits.proofs.Edits.VariableKinds.{kind_chain, kind_ours, kind_type, other_kind}
+use Rattle.cdf_edits.proofs.Frame.OwnersApart.{adrs_linked}
+use Rattle.cdf_edits.proofs.Space.UsedRecords.{filter-says}
+
+-- ---- one record, in two steps
+
+stays_then : (b mid now : List ℕ) (m : ℕ) (fs gs hs : List Field) → Stays b mid m fs → Stays mid now m gs → ((i : ℕ) → OutsideFields hs i → OutsideFields fs i × OutsideFields gs i) → Stays b now m hs
+stays_then b mid now m fs gs hs one two sub = record {
+  stands = two.stands;
+  size_is = two.size_is ∙ one.size_is;
+  same = λ i lt out. let o = sub i out in two.same i (subst (λ (n : ℕ). i < n) (sym one.size_is) lt) o.1 ∙ one.same i lt o.0;
+}
+
+type_stays : (b mid : List ℕ) (m : ℕ) (fs : List Field) → Stays b mid m fs → 12 ≤ size_at b m → ((i : ℕ) → i < 12 → OutsideFields fs i) → type_at mid m ≡ type_at b m
+type_stays b mid m fs s long out = head_type b mid m (record {
+  each = λ k l u.
+      let at : k ≡ m + (k - m) = omega arith in
+      let less : k - m < 12 = omega arith in
+      subst (λ (x : ℕ). byte mid x ≡ byte b x) (sym at) (s.same (k - m) (omega arith) (out (k - m) less));
+})
+
+own_free : (b now : List ℕ) (m : ℕ) (o : Option Range) (p q : Bool) → Keeps b now m (elim o [ Some r ↦ Anything | None ↦ if p then Anything else (if q then Anything else Anything) ])
+own_free b now m (Some r) p q = tt
+own_free b now m None true q = tt
+own_free b now m None false true = tt
+own_free b now m None false false = tt
+
+by_two : (kind k : Kind) (P : Bool → Type 0) → (k ≡ kind → P true) → (k ≡ other_kind kind → P false) → P (same_kind kind k)
+by_two R R P own other = own refl
+by_two R Z P own other = other refl
+by_two Z R P own other = other refl
+by_two Z Z P own other = own refl
+
+-- ---- lists
+
+there_too : (as_ bs : List AttributeShape) (k : ℕ) (a : AttributeShape) → slice_get as_ k ≡ Some a → length bs ≡ length as_ → (x : AttributeShape) × (slice_get bs k ≡ Some x)
+there_too [] bs k a e l = absurd cc
+there_too (x ∷ xs) [] k a e l = absurd (omega arith)
+there_too (x ∷ xs) (y ∷ ys) zero a e l = (y, refl)
+there_too (x ∷ xs) (y ∷ ys) (suc k) a e l = there_too xs ys k a e (omega arith)
+
+vdr_at : (vs : List VariableShape) (k : ℕ) (v : VariableShape) → slice_get vs k ≡ Some v → In v.vdr (vdrs vs)
+vdr_at [] k v e = absurd cc
+vdr_at (x ∷ xs) zero v e = inl (sym (ap (λ (y : VariableShape). y.vdr) (same_Some x v e)))
+vdr_at (x ∷ xs) (suc k) v e = inr (vdr_at xs k v e)
+
+-- each VDR stands at one number
+number_of_vdr : (before : List VariableShape) (own : VariableShape) (after : List VariableShape) (k : ℕ) (v : VariableShape) → Distinct (vdrs (before ++ own ∷ after)) → slice_get (before ++ own ∷ after) k ≡ Some v → v.vdr ≡ own.vdr → length before ≡ k
+number_of_vdr [] own after zero v once e q = refl
+number_of_vdr [] own after (suc k) v once e q = absurd (once.0 (subst (λ (x : ℕ). In x (vdrs after)) q (vdr_at after k v e)))
+number_of_vdr (x ∷ xs) own after zero v once e q = absurd (once.0 (subst (λ (y : ℕ). In y (vdrs (xs ++ own ∷ after))) (sym q ∙ sym (ap (λ (y : VariableShape). y.vdr) (same_Some x v e))) (middle xs)))
+  where
+    middle : (ys : List VariableShape) → In own.vdr (vdrs (ys ++ own ∷ after))
+    middle [] = inl refl
+    middle (y ∷ ys) = inr (middle ys)
+number_of_vdr (x ∷ xs) own after (suc k) v once e q = ap suc (number_of_vdr xs own after k v once.1 e q)
+
+-- ---- the marks, by the kind
+
+pub record KeepTests (kind : Kind) (gdr : ℕ) (members later unused places : List ℕ) (limit : ℕ) : Type 0 where
+  pub cdr_start : avoided (variable_removing_marks kind gdr members later unused places limit) cdr_type 0 12 ≡ true
+  pub cdr_within : within (variable_removing_marks kind gdr members later unused places limit) cdr_type [] ≡ true
+  pub gdr_start : avoided (variable_removing_marks kind gdr members later unused places limit) gdr_type 0 12 ≡ true
+  pub gdr_within : within (variable_removing_marks kind gdr members later unused places limit) gdr_type (r_max_rec_field kind ++ variables_gdr_fields kind) ≡ true
+  pub outside : (i : ℕ) → OutsideFields (r_max_rec_field kind ++ variables_gdr_fields kind) i → OutsideFields space_fields i
+  pub uir_start : avoided (variable_removing_marks kind gdr members later unused places limit) uir_type 0 12 ≡ true
+  pub uir_within : within (variable_removing_marks kind gdr members later unused places limit) uir_type (uir_next_uir ∷ uir_prev_uir ∷ []) ≡ true
+  pub uir_away : (m : ℕ) → (In m unused → ⊥) → Away (variable_removing_marks kind gdr members later unused places limit) uir_type m
+  pub vdr_within : (m : ℕ) → (In m places → ⊥) → Within (variable_removing_marks kind gdr members later unused places limit) (type_in (variables_chain kind)) m (next_field ∷ vdr_num ∷ [])
+
+keep_tests : (kind : Kind) (gdr : ℕ) (members later unused places : List ℕ) (limit : ℕ) → KeepTests kind gdr members later unused places limit
+keep_tests R gdr members later unused places limit = record {
+  cdr_start = refl;
+  cdr_within = refl;
+  gdr_start = refl;
+  gdr_within = refl;
+  outside = λ i o. o.1.1.1;
+  uir_start = refl;
+  uir_within = refl;
+  uir_away = λ m out. away-of_type (variable_removing_marks R gdr members later unused places limit) uir_type m ((λ same lies. out lies), tt);
+  vdr_within = λ m out. within-of_type (variable_removing_marks R gdr members later unused places limit) r_vdr_type m (next_field ∷ vdr_num ∷ []) ((λ same lies. refl), ((λ same lies. refl), ((λ same lies. absurd (out lies)), tt)));
+}
+keep_tests Z gdr members later unused places limit = record {
+  cdr_start = refl;
+  cdr_within = refl;
+  gdr_start = refl;
+  gdr_within = refl;
+  outside = λ i o. o.1.1;
+  uir_start = refl;
+  uir_within = refl;
+  uir_away = λ m out. away-of_type (variable_removing_marks Z gdr members later unused places limit) uir_type m ((λ same lies. out lies), tt);
+  vdr_within = λ m out. within-of_type (variable_removing_marks Z gdr members later unused places limit) z_vdr_type m (next_field ∷ vdr_num ∷ []) ((λ same lies. refl), ((λ same lies. refl), ((λ same lies. absurd (out lies)), tt)));
+}
+
+-- ---- all records of an owner, by numbers
+
+module _ (b now : List ℕ) (may : Allowances) (acts : List Act) where
+  keep_attributes_by : (n : ℕ) (as_ : List AttributeShape) → ((i : ℕ) (a : AttributeShape) → slice_get as_ i ≡ Some a → (m : ℕ) → In m (attribute_records a) → Keeps b now m (may.attributes (n + i) m)) → AllKeep b now may acts (owned_by_attributes n as_)
+  keep_attributes_by n [] h = tt
+  keep_attributes_by n (a ∷ more) h =
+      AllKeep-append b now may acts (owned_by (OneAttribute n) (attribute_records a)) (owned_by_attributes (suc n) more)
+      (keep_places b now may acts (OneAttribute n) (attribute_records a) (λ m i. let same : n + 0 ≡ n = omega arith in subst (λ (k : ℕ). Keeps b now m (may.attributes k m)) same (h 0 a refl m i)))
+      (keep_attributes_by (suc n) more (λ i x e m j. let same : n + suc i ≡ suc n + i = omega arith in subst (λ (k : ℕ). Keeps b now m (may.attributes k m)) same (h (suc i) x e m j)))
+
+  keep_variables_by : (kind : Kind) (n : ℕ) (vs : List VariableShape) → ((i : ℕ) (v : VariableShape) → slice_get vs i ≡ Some v → (m : ℕ) → In m (variable_records v) → Keeps b now m (may.variables kind (n + i) m)) → AllKeep b now may acts (owned_by_variables kind n vs)
+  keep_variables_by kind n [] h = tt
+  keep_variables_by kind n (v ∷ more) h =
+      AllKeep-append b now may acts (owned_by (OneVariable kind n) (variable_records v)) (owned_by_variables kind (suc n) more)
+      (keep_places b now may acts (OneVariable kind n) (variable_records v) (λ m i. let same : n + 0 ≡ n = omega arith in subst (λ (k : ℕ). Keeps b now m (may.variables kind k m)) same (h 0 v refl m i)))
+      (keep_variables_by kind (suc n) more (λ i x e m j. let same : n + suc i ≡ suc n + i = omega arith in subst (λ (k : ℕ). Keeps b now m (may.variables kind k m)) same (h (suc i) x e m j)))
+
+module _ {b mid now : List ℕ} {found : Found} (good : Good b) (drops : DropsEntries b found mid) (d : RemovesVariable mid now found.kind found.number) where
+  abbrev may : Allowances
+  may = del_var_changes b (content b) (shape b) found
+
+  abbrev acts : List Act
+  acts = gave b (entries_for b (shape b).attributes found ++ freed_with_variable d.own)
+
+  sound : IsSound b (shape b)
+  sound = good_is_sound b good
+
+  h : HasShape b (shape b)
+  h = sound.has_shape
+
+  sound_mid : IsSound mid (shape mid)
+  sound_mid = good_is_sound mid drops.good
+
+  abbrev members : List ℕ
+  members = vdrs (shapes_of (shape mid) found.kind)
+
+  e : Edit mid now (shape mid).records (shape mid).records (variable_removing_marks found.kind (shape mid).gdr (vdrs (shapes_of (shape mid) found.kind)) (vdrs d.after) (shape mid).unused (d.own.vdr ∷ []) (length d.mid)) (d.own.vdr ∷ [])
+  e = (takes drops.good d).edit
+
+  same : (shape now).records ≡ (shape mid).records
+  same = records_are drops.good d
+
+  t : KeepTests found.kind (shape mid).gdr (vdrs (shapes_of (shape mid) found.kind)) (vdrs d.after) (shape mid).unused (d.own.vdr ∷ []) (length d.mid)
+  t = keep_tests found.kind (shape mid).gdr (vdrs (shapes_of (shape mid) found.kind)) (vdrs d.after) (shape mid).unused (d.own.vdr ∷ []) (length d.mid)
+
+  u : TakingTests found.kind (variable_removing_marks found.kind (shape mid).gdr (vdrs (shapes_of (shape mid) found.kind)) (vdrs d.after) (shape mid).unused (d.own.vdr ∷ []) (length d.mid))
+  u = taking_tests found.kind (shape mid).gdr (vdrs (shapes_of (shape mid) found.kind)) (vdrs d.after) (shape mid).unused (d.own.vdr ∷ []) (length d.mid)
+
+  -- ---- the file
+
+  cdr_keeps : Keeps b now 8 (Only [])
+  cdr_keeps =
+      let hm = sound_mid.has_shape in
+      stays_then b mid now 8 [] [] [] drops.cdr_kept (keeps_fields sound_mid e same 8 cdr_type [] (is_a-in mid (shape mid).records cdr_type 8 hm.cdr_stands) (is_a-type mid (shape mid).records cdr_type 8 hm.cdr_stands) t.cdr_start t.cdr_within) (λ i o. (tt, tt))
+
+  gdr_keeps : Keeps b now (shape b).gdr (Only (r_max_rec_field found.kind ++ variables_gdr_fields found.kind))
+  gdr_keeps =
+      let hm = sound_mid.has_shape in
+      let later = keeps_fields sound_mid e same (shape mid).gdr gdr_type (r_max_rec_field found.kind ++ variables_gdr_fields found.kind) (is_a-in mid (shape mid).records gdr_type (shape mid).gdr hm.gdr_stands) (is_a-type mid (shape mid).records gdr_type (shape mid).gdr hm.gdr_stands) t.gdr_start t.gdr_within in
+      stays_then b mid now (shape b).gdr space_fields (r_max_rec_field found.kind ++ variables_gdr_fields found.kind) (r_max_rec_field found.kind ++ variables_gdr_fields found.kind) drops.gdr_kept (subst (λ (g : ℕ). Stays mid now g (r_max_rec_field found.kind ++ variables_gdr_fields found.kind)) drops.gdr_is later) (λ i o. (t.outside i o, o))
+
+  -- ---- the attributes
+
+  there : AreThere b (shape b).records (shape b).attributes
+  there = record { linked = adrs_linked b (shape b) sound; have = h.entry_chains; fit = sound.attributes_fit }
+
+  records_at : (as_ : List AttributeShape) (k : ℕ) (a : AttributeShape) → slice_get as_ k ≡ Some a → (m : ℕ) → In m (attribute_records a) → In m (flat_map attribute_records as_)
+  records_at [] k a e m i = absurd cc
+  records_at (x ∷ xs) zero a e m i = In-append_left m (attribute_records x) (flat_map attribute_records xs) (subst (λ (y : AttributeShape). In m (attribute_records y)) (sym (same_Some x a e)) i)
+  records_at (x ∷ xs) (suc k) a e m i = In-append_right m (attribute_records x) (flat_map attribute_records xs) (records_at xs k a e m i)
+
+  still : (m : ℕ) (a : Allowance) → is_in (type_at b m) attribute_types ≡ true → type_at mid m ≡ type_at b m → Keeps b mid m a → Keeps b now m a
+  still m Anything typed is k = tt
+  still m (Only fs) typed is k =
+      let away = all_unmarked-away (variable_removing_marks found.kind (shape mid).gdr (vdrs (shapes_of (shape mid) found.kind)) (vdrs d.after) (shape mid).unused (d.own.vdr ∷ []) (length d.mid)) attribute_types (type_at b m) m (both (all_unmarked (variable_removing_marks found.kind (shape mid).gdr (vdrs (shapes_of (shape mid) found.kind)) (vdrs d.after) (shape mid).unused (d.own.vdr ∷ []) (length d.mid)) attribute_types) _ u.attributes_clear).0 typed in
+      stays_then b mid now m fs [] fs k (keeps_away sound_mid e same m (type_at b m) (Only []) k.stands is away) (λ i o. (o, tt))
+
+  attribute_keeps : (k : ℕ) (a : AttributeShape) → slice_get (shape b).attributes k ≡ Some a → (m : ℕ) → In m (attribute_records a) → Keeps b now m (entries_allowance b (content b) found k m)
+  attribute_keeps k a at m i =
+      let x = there_too (shape b).attributes (shape mid).attributes k a at drops.attributes_kept in
+      elim ((drops.attributes k a x.0 at x.1).keeps m i) [
+        | inl any ↦ subst (Keeps b now m) (sym any) tt
+        | inr kept ↦ still m (entries_allowance b (content b) found k m) (attribute_typed b (shape b).records (shape b).attributes there m (records_at (shape b).attributes k a at m i)) kept.1 kept.0
+      ]
+
+  -- ---- the variables
+
+  as_parts : shapes_of (shape b) found.kind ≡ d.before ++ d.own ∷ d.after
+  as_parts = sym (drops.variables_are found.kind) ∙ d.unlinks.was
+
+  vdr_of : (k : Kind) (i : ℕ) (v : VariableShape) → slice_get (shapes_of (shape b) k) i ≡ Some v → (m : ℕ) → In m (variable_records v) → m ≡ v.vdr
+  vdr_of k i v at m j = one (subst (In m) (plain_records (plain_at (shapes_of (shape b) k) i (are_plain (good_by_its_shape b good) (shapes_of (shape b) k) (kind_ours b (shape b) sound k)) at)) j)
+    where
+      plain_at : (vs : List VariableShape) (i : ℕ) → Each IsPlain vs → slice_get vs i ≡ Some v → IsPlain v
+      plain_at [] i each e = absurd cc
+      plain_at (x ∷ xs) zero each e = subst IsPlain (same_Some x v e) each.0
+      plain_at (x ∷ xs) (suc i) each e = plain_at xs i each.1 e
+
+      one : In m (v.vdr ∷ []) → m ≡ v.vdr
+      one (inl q) = q
+      one (inr none) = absurd none
+
+  in_kind : (k : Kind) (i : ℕ) (v : VariableShape) → slice_get (shapes_of (shape b) k) i ≡ Some v → (m : ℕ) → In m (variable_records v) → In m (vdrs (shapes_of (shape b) k))
+  in_kind k i v at m j = subst (λ (x : ℕ). In x (vdrs (shapes_of (shape b) k))) (sym (vdr_of k i v at m j)) (vdr_at (shapes_of (shape b) k) i v at)
+
+  typed_in : (k : Kind) (m : ℕ) → In m (vdrs (shapes_of (shape b) k)) → In m (shape mid).records × (type_at mid m ≡ type_in (variables_chain k))
+  typed_in k m i =
+      let ok = (kind_chain k sound_mid.has_shape).linkable m (subst (λ (vs : List VariableShape). In m (vdrs vs)) (sym (drops.variables_are k)) i) in
+      (linkable-in mid (shape mid).records (type_in (variables_chain k)) m ok, linkable-type mid (shape mid).records (type_in (variables_chain k)) m ok)
+
+  beside_keeps : (i : ℕ) (v : VariableShape) → slice_get (shapes_of (shape b) found.kind) i ≡ Some v → (found.number == i) ≡ false → (m : ℕ) → In m (variable_records v) → Keeps b now m (only_of b m (vdr_type found.kind) (next_field ∷ vdr_num ∷ []))
+  beside_keeps i v at other m j =
+      let here = in_kind found.kind i v at m j in
+      let x = typed_in found.kind m here in
+      let once : Distinct (vdrs (d.before ++ d.own ∷ d.after)) = subst (λ (vs : List VariableShape). Distinct (vdrs vs)) as_parts (kind_chain found.kind h).once in
+      let out : In m (d.own.vdr ∷ []) → ⊥ = λ lies. elim lies [
+        | inl q ↦
+            let n = number_of_vdr d.before d.own d.after i v once (ap (λ (vs : List VariableShape). slice_get vs i) (sym as_parts) ∙ at) (sym (vdr_of found.kind i v at m j) ∙ q) in
+            true_not_false (eq-eqb found.number i (sym d.count ∙ n)) other
+        | inr none ↦ none
+      ] in
+      let avoids = vdr_avoids found.kind (shape mid).gdr (vdrs (shapes_of (shape mid) found.kind)) (vdrs d.after) (shape mid).unused (d.own.vdr ∷ []) (length d.mid) m 0 12 out (inl (omega arith)) (λ l. inl (omega arith)) in
+      let later = keeps_within sound_mid e same m (type_in (variables_chain found.kind)) (next_field ∷ vdr_num ∷ []) x.0 x.1 avoids (t.vdr_within m out) in
+      let whole = stays_then b mid now m [] (next_field ∷ vdr_num ∷ []) (next_field ∷ vdr_num ∷ []) (drops.vdr_kept found.kind m here) later (λ k o. (tt, o)) in
+      let ok = (kind_chain found.kind h).linkable m here in
+      let is : (type_at b m == vdr_type found.kind) ≡ true = eq-eqb _ _ (linkable-type b (shape b).records (type_in (variables_chain found.kind)) m ok ∙ kind_type found.kind) in
+      subst (λ (p : Bool). Keeps b now m (if p then Only (next_field ∷ vdr_num ∷ []) else Only [])) (sym is) whole
+    where
+      true_not_false : {p : Bool} → p ≡ true → p ≡ false → ⊥
+      true_not_false x y = true≢false (sym x ∙ y)
+
+  other_keeps : (i : ℕ) (v : VariableShape) → slice_get (shapes_of (shape b) (other_kind found.kind)) i ≡ Some v → (m : ℕ) → In m (variable_records v) → Keeps b now m (Only [])
+  other_keeps i v at m j =
+      let k = other_kind found.kind in
+      let here = in_kind k i v at m j in
+      let x = typed_in k m here in
+      stays_then b mid now m [] [] [] (drops.vdr_kept k m here) (keeps_away sound_mid e same m (type_in (variables_chain k)) (Only []) x.0 x.1 (unmarked-away (variable_removing_marks found.kind (shape mid).gdr (vdrs (shapes_of (shape mid) found.kind)) (vdrs d.after) (shape mid).unused (d.own.vdr ∷ []) (length d.mid)) (type_in (variables_chain k)) m u.others_clear)) (λ n o. (tt, tt))
+
+  variable_keeps : (k : Kind) (i : ℕ) (v : VariableShape) → slice_get (shapes_of (shape b) k) i ≡ Some v → (m : ℕ) → In m (variable_records v) → Keeps b now m (may.variables k i m)
+  variable_keeps k i v at m j = by_two found.kind k (λ p. Keeps b now m (if p then (if found.number == i then own_allowance b (shape b) found (record { vdr = Anything; nodes = Anything; blocks = λ r. Anything; cpr = Anything }) m else only_of b m (vdr_type k) (next_field ∷ vdr_num ∷ [])) else Only []))
+      (λ q. elim (either (found.number == i)) [
+        | inl x ↦ subst (λ (p : Bool). Keeps b now m (if p then own_allowance b (shape b) found (record { vdr = Anything; nodes = Anything; blocks = λ r. Anything; cpr = Anything }) m else only_of b m (vdr_type k) (next_field ∷ vdr_num ∷ []))) (sym x) (own_free b now m (range_at (shape b) found m) (type_at b m == vdr_type found.kind) (type_at b m == vxr_type))
+        | inr x ↦ subst (λ (p : Bool). Keeps b now m (if p then own_allowance b (shape b) found (record { vdr = Anything; nodes = Anything; blocks = λ r. Anything; cpr = Anything }) m else only_of b m (vdr_type k) (next_field ∷ vdr_num ∷ []))) (sym x)
+            (subst (λ (z : Kind). Keeps b now m (only_of b m (vdr_type z) (next_field ∷ vdr_num ∷ []))) (sym q) (beside_keeps i v (subst (λ (z : Kind). slice_get (shapes_of (shape b) z) i ≡ Some v) q at) x m j))
+      ])
+      (λ q. other_keeps i v (subst (λ (z : Kind). slice_get (shapes_of (shape b) z) i ≡ Some v) q at) m j)
+
+  -- ---- unused records
+
+  abbrev links : List Field
+  links = uir_next_uir ∷ uir_prev_uir ∷ []
+
+  unless_taken : (p : Bool) (m : ℕ) → Keeps b now m (Only (uir_next_uir ∷ uir_prev_uir ∷ [])) → Keeps b now m (if p then Anything else Only (uir_next_uir ∷ uir_prev_uir ∷ []))
+  unless_taken true m k = tt
+  unless_taken false m k = k
+
+  unused_keeps : (m : ℕ) → In m (unused_records b (shape b)) → Keeps b now m (unused_allowance b (shape b) (gave b (entries_for b (shape b).attributes found ++ freed_with_variable d.own)) m)
+  unused_keeps m i =
+      let tile = filter-in (λ (x : ℕ). eqb (type_at b x) uir_type) (shape b).records m i in
+      let typed = eqb-true _ _ (filter-says (λ (x : ℕ). eqb (type_at b x) uir_type) (shape b).records m i) in
+      let long = (tile_lies b 8 (length b) (shape b).records m h.tiled tile).long in
+      elim (either (is_in m (shape b).unused)) [
+        | inl x ↦
+            let first = drops.listed_kept m (true-is_in m (shape b).unused x) in
+            let is = type_stays b mid m (uir_next_uir ∷ uir_prev_uir ∷ []) first long (λ k l. (inl (omega arith), (inl (omega arith), tt))) ∙ typed in
+            let later = keeps_fields sound_mid e same m uir_type (uir_next_uir ∷ uir_prev_uir ∷ []) first.stands is t.uir_start t.uir_within in
+            subst (λ (p : Bool). Keeps b now m (if p then (if is_taken b (gave b (entries_for b (shape b).attributes found ++ freed_with_variable d.own)) m then Anything else Only (uir_next_uir ∷ uir_prev_uir ∷ [])) else Only [])) (sym x)
+            (unless_taken (is_taken b (gave b (entries_for b (shape b).attributes found ++ freed_with_variable d.own)) m) m (stays_then b mid now m (uir_next_uir ∷ uir_prev_uir ∷ []) (uir_next_uir ∷ uir_prev_uir ∷ []) (uir_next_uir ∷ uir_prev_uir ∷ []) first later (λ k o. (o, o))))
+        | inr x ↦
+            let y = drops.loose_kept m tile typed (false-is_in m (shape b).unused x) in
+            let is = type_stays b mid m [] y.0 long (λ k l. tt) ∙ typed in
+            let later = keeps_away sound_mid e same m uir_type (Only []) y.0.stands is (t.uir_away m y.1) in
+            subst (λ (p : Bool). Keeps b now m (if p then (if is_taken b (gave b (entries_for b (shape b).attributes found ++ freed_with_variable d.own)) m then Anything else Only (uir_next_uir ∷ uir_prev_uir ∷ [])) else Only [])) (sym x) (stays_then b mid now m [] [] [] y.0 later (λ k o. (tt, tt)))
+      ]
+
+  -- ---- all of them
+
+  from_zero : (P : ℕ → Type 0) (i : ℕ) → P i → P (0 + i)
+  from_zero P i p = let same : i ≡ 0 + i = omega arith in subst P same p
+
+  pub all_kept : AllKeep b now (del_var_changes b (content b) (shape b) found) (gave b (entries_for b (shape b).attributes found ++ freed_with_variable d.own)) (owned b (shape b))
+  all_kept =
+      let m = del_var_changes b (content b) (shape b) found in
+      let a = gave b (entries_for b (shape b).attributes found ++ freed_with_variable d.own) in
+      keep_all b now m a (keep_file b now m a sound cdr_keeps gdr_keeps)
+      (keep_attributes_by b now m a 0 (shape b).attributes (λ i x at p j. from_zero (λ k. Keeps b now p (m.attributes k p)) i (attribute_keeps i x at p j)))
+      (keep_variables_by b now m a R 0 (shape b).r_variables (λ i v at p j. from_zero (λ k. Keeps b now p (m.variables R k p)) i (variable_keeps R i v at p j)))
+      (keep_variables_by b now m a Z 0 (shape b).z_variables (λ i v at p j. from_zero (λ k. Keeps b now p (m.variables Z k p)) i (variable_keeps Z i v at p j)))
+      (keep_places b now m a Unused (unused_records b (shape b)) unused_keeps)
