@@ -6,6 +6,9 @@ pub mod Making
 pub mod MeantVdr
 pub mod NamesRead
 pub mod NewVdr
+pub mod RemovalAnswers
+pub mod RemovalKnown
+pub mod RemovalSteps
 pub mod ShapedVariable
 pub mod VariableChains
 pub mod VariableFound

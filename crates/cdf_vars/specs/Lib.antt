@@ -4,4 +4,5 @@ pub mod Finding
 pub mod Known
 pub mod Padding
 pub mod Reading
+pub mod Removing
 pub mod Setup

@@ -10,6 +10,7 @@ mod pad_place;
 mod pad_record;
 mod padding;
 mod reading;
+mod removing;
 mod renaming;
 mod setup;
 mod vars;

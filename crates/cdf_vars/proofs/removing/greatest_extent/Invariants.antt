@@ -1,0 +1,14 @@
+use Rattle.std.proofs.Common.{◌≡◌, ◌≤◌, ◌^◌, max, drop}
+use Rattle.std.specs.List.{fold}
+use Rattle.cdf_area.specs.Calls.{Stays}
+use Rattle.cdf_vars.proofs.RemovalSteps.{extents}
+use Rattle.cdf_vars.proofs.removing.greatest_extent.Given as goal
+
+abbrev pub invariant-loop-place : goal.invariant-loop-place
+invariant-loop-place g l =
+    let b = g.A.Area.image l.fn.area in
+    record {
+      few : l.greatest ≤ 2 ^ 31;
+      goes : fold max l.greatest (extents b (drop l.place-index l.places)) ≡ fold max l.fn.least (extents b l.places);
+      area : Stays g.A.Area.image g.A.Area.frame g.A.Area.faults g.A.Area.edited l.fn.area l.area;
+    }

@@ -1,0 +1,189 @@
+//! A variable that goes: it leaves the chain of its kind, those behind it get numbers less by one, and its records are freed.
+
+ghost use Rattle.std.specs.Prelude.{◌≡◌, ◌≤◌, ◌<◌, ◌+◌, ◌^◌, length, max, map, IfOk, OnOk, OnErr};
+ghost use Rattle.std.specs.Int.{w32, cast_unsigned};
+ghost use Rattle.std.specs.List.{fold, remove};
+ghost use Rattle.cdf_area.specs.Calls.{Edits, Reads};
+ghost use Rattle.cdf_edits.specs.Commands.Allowances.{shapes_of};
+ghost use Rattle.cdf_edits.specs.Edits.RemovesVariable.{RemovesVariable, greatest_at, numbers_on, r_max_writes};
+ghost use Rattle.cdf_edits.specs.Edits.Writes.{with_writes};
+ghost use Rattle.cdf_format.specs.Fields.{LiesIn, gdr_offset, with_field};
+ghost use Rattle.cdf_format.specs.Records.{gdr_r_max_rec, vdr_name};
+ghost use Rattle.cdf_format.specs.Shape.{shape, vdrs};
+ghost use Rattle.cdf_format.specs.VariableFields.{max_rec_at};
+ghost use Rattle.cdf_format.specs.WellFormed.{Good};
+ghost use Rattle.cdf_model.specs.DataSet.{extent};
+ghost use Rattle.cdf_model.specs.Limits.{image_limit};
+ghost use Rattle.cdf_model.specs.RecordSteps.{last_number};
+ghost use Rattle.cdf_model.specs.declared.kinds.Kind.TheVariants as kinds;
+ghost use Rattle.cdf_vars.specs.Known.{Knows, KnowsKind, known_of};
+ghost use Rattle.cdf_vars.specs.Removing.{VdrsLie};
+
+use crate::chain::chain_of;
+use crate::vars::{VarId, VarTable, Vars};
+use cdf_area::{Area, AreaError};
+use cdf_format::fields::{CDR_GDR_OFFSET, CDR_PLACE, VDR_MAX_REC, VDR_NUM};
+use cdf_model::Kind;
+use cdf_records::{read_signed4, read_unsigned8, set_gdr_r_max_rec, set_unsigned4};
+use cdf_space::{chain_remove, count_down, free_record};
+
+/// How many records a variable of a MaxRec has at most.
+fn extent(max_rec: i32) -> u32
+    ensures value { result ≡ extent max_rec }
+    ensures few { result ≤ 2 ^ 31 }
+{
+    if max_rec < 0 { 0 } else { max_rec as u32 + 1 }
+}
+
+/// The number of the last of so many records, -1 where there is none.
+fn last_number(extent: u32) -> i32
+    requires { extent ≤ 2 ^ 31 }
+    ensures { result ≡ last_number extent }
+{
+    if extent == 0 { -1 } else { (extent - 1) as i32 }
+}
+
+/// How many records the variable has whose descriptor stands at a place, by its MaxRec.
+fn read_extent<A: Area>(area: &mut A, vdr: u64) -> Result<u32, AreaError>
+    requires { LiesIn (A.image area.old) vdr vdr_name }
+    ensures extent { IfOk result (λ n. n ≡ extent (max_rec_at (A.image area.old) vdr)) }
+    ensures few { IfOk result (λ n. n ≤ 2 ^ 31) }
+    ensures area { Reads A.image A.frame A.faults A.edited area.old area.new result }
+{
+    // An image has fewer than 2^64 bytes, so no place in it overflows.
+    let _size = area.size();
+    let max_rec = read_signed4(area, vdr + VDR_MAX_REC)?;
+    Ok(extent(max_rec))
+}
+
+/// The most records that one of the variables has whose descriptors stand at these places, but no fewer than so many.
+fn greatest_extent<A: Area>(area: &mut A, least: u32, places: &[u64]) -> Result<u32, AreaError>
+    requires lie { VdrsLie (A.image area.old) places.now }
+    requires few { least ≤ 2 ^ 31 }
+    ensures greatest { IfOk result (λ n. n ≡ fold max least (map (λ vdr. extent (max_rec_at (A.image area.old) vdr)) places.now)) }
+    ensures few { IfOk result (λ n. n ≤ 2 ^ 31) }
+    ensures area { Reads A.image A.frame A.faults A.edited area.old area.new result }
+{
+    let mut greatest = least;
+    for place in places {
+        let extent = read_extent(area, *place)?;
+        greatest = greatest.max(extent);
+    }
+    Ok(greatest)
+}
+
+/// What rMaxRec is without the variable of a number: of r variables their greatest MaxRec, -1 where there is none.
+fn greatest_left<A: Area>(
+    area: &mut A,
+    kind: Kind,
+    places: &[u64],
+    number: usize,
+) -> Result<i32, AreaError>
+    requires lie { VdrsLie (A.image area.old) places.now }
+    requires within { number < length places.now }
+    ensures greatest { IfOk result (λ greatest. kind ≡ kinds.R → greatest ≡ greatest_at (A.image area.old) (remove places.now number)) }
+    ensures area { Reads A.image A.frame A.faults A.edited area.old area.new result }
+{
+    match kind {
+        Kind::R => {
+            let front = greatest_extent(area, 0, &places[..number])?;
+            let greatest = greatest_extent(area, front, &places[number + 1..])?;
+            Ok(last_number(greatest))
+        }
+        Kind::Z => Ok(-1),
+    }
+}
+
+/// Gives the variables whose descriptors stand at these places the numbers from one on.
+/// After an error a part of them may have been written.
+fn set_numbers<A: Area>(area: &mut A, first: u32, places: &[u64]) -> Result<(), AreaError>
+    requires lie { VdrsLie (A.image area.old) places.now }
+    requires few { first + length places.now ≤ u32.MAX }
+    ensures written { OnOk result (A.image area.new ≡ with_writes (A.image area.old) (numbers_on first places.now)) }
+    ensures area { Edits A.frame A.faults area.old area.new result }
+{
+    for (i, place) in places.iter().enumerate() {
+        set_unsigned4(area, *place, VDR_NUM, first + i as u32)?;
+    }
+    Ok(())
+}
+
+/// Writes rMaxRec, where a variable of this kind went.
+fn set_greatest<A: Area>(area: &mut A, kind: Kind, greatest: i32) -> Result<(), AreaError>
+    requires cdr { 28 ≤ length (A.image area.old) }
+    requires field { LiesIn (A.image area.old) (gdr_offset (A.image area.old)) gdr_r_max_rec }
+    ensures written { OnOk result (A.image area.new ≡ with_writes (A.image area.old) (r_max_writes kind (gdr_offset (A.image area.old)) greatest)) }
+    ensures area { Edits A.frame A.faults area.old area.new result }
+{
+    match kind {
+        Kind::R => {
+            let gdr = read_unsigned8(area, CDR_PLACE + CDR_GDR_OFFSET)?;
+            set_gdr_r_max_rec(area, gdr, greatest)
+        }
+        Kind::Z => Ok(()),
+    }
+}
+
+/// Takes the variable of a number out of the area. After an error a part of this may have been done.
+fn remove_at<A: Area>(
+    area: &mut A,
+    kind: Kind,
+    places: &[u64],
+    number: usize,
+) -> Result<(), AreaError>
+    requires good { Good (A.image area.old) }
+    requires places { places.now ≡ vdrs (shapes_of (shape (A.image area.old)) kind) }
+    requires within { number < length places.now }
+    requires short { length (A.image area.old) ≤ image_limit }
+    ensures removed { OnOk result (RemovesVariable (A.image area.old) (A.image area.new) kind number) }
+    ensures area { Edits A.frame A.faults area.old area.new result }
+{
+    let place = places[number];
+    let greatest = greatest_left(area, kind, places, number)?;
+    let chain = chain_of(kind);
+    let behind = places[..number].last().copied();
+    chain_remove(area, chain, behind, place)?;
+    count_down(area, chain)?;
+    set_numbers(area, number as u32, &places[number + 1..])?;
+    set_greatest(area, kind, greatest)?;
+    free_record(area, place)
+}
+
+impl VarTable {
+    /// Takes the variable of a number out of the area and out of the table, which stays after an error.
+    fn remove<A: Area>(&mut self, area: &mut A, kind: Kind, num: u32) -> Result<(), AreaError>
+        requires good { Good (A.image area.old) }
+        requires known { KnowsKind (A.image area.old) kind self.old }
+        requires within { num < length self.old.places }
+        requires short { length (A.image area.old) ≤ image_limit }
+        ensures removed { OnOk result (RemovesVariable (A.image area.old) (A.image area.new) kind num) }
+        ensures known { OnOk result (KnowsKind (A.image area.new) kind self.new) }
+        ensures stays { OnErr result (self.new ≡ self.old) }
+        ensures area { Edits A.frame A.faults area.old area.new result }
+    {
+        remove_at(area, kind, &self.places, num as usize)?;
+        self.names.remove(num);
+        self.places.remove(num as usize);
+        Ok(())
+    }
+}
+
+impl Vars {
+    /// Takes a variable out of the file, whose entries have gone before. The numbers of those behind it fall by one.
+    /// After an error a part of this may have been done in the area.
+    pub fn remove<A: Area>(&mut self, area: &mut A, id: VarId) -> Result<(), AreaError>
+        requires good { Good (A.image area.old) }
+        requires known { Knows (A.image area.old) self.old }
+        requires within { id.num < length (known_of self.old id.kind).places }
+        requires short { length (A.image area.old) ≤ image_limit }
+        ensures removed { OnOk result (RemovesVariable (A.image area.old) (A.image area.new) id.kind id.num) }
+        ensures known { OnOk result (Knows (A.image area.new) self.new) }
+        ensures stays { OnErr result (Knows (A.image area.old) self.new) }
+        ensures area { Edits A.frame A.faults area.old area.new result }
+    {
+        match id.kind {
+            Kind::R => self.r.remove(area, Kind::R, id.num),
+            Kind::Z => self.z.remove(area, Kind::Z, id.num),
+        }
+    }
+}
