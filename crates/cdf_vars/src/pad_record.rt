@@ -80,6 +80,7 @@ fn replace_vdr<A: Area>(
 {
     let place = place_record(area, bytes)?;
     chain_replace(area, chain_of(kind), behind, old, place)?;
+    // What is freed next has to leave the new record whole, and that its fields are bytes is known of what was read.
     let _linked = read_vdr(area, place)?;
     free_record(area, old)?;
     Ok(place)
