@@ -72,3 +72,5 @@ pub mod VariablesLinked
 pub mod VdrEdited
 pub mod VdrWritten
 pub mod WrittenFields
+pub mod DropsOne
+pub mod DroppedSoFar

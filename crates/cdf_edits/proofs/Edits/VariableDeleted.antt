@@ -46,27 +46,27 @@ use Rattle.cdf_edits.proofs.Frame.Meaning.{Kept}
 
 -- ---- an attribute of a list
 
-each_at : (P : AttributeShape → Type 0) (as_ : List AttributeShape) (k : ℕ) (a : AttributeShape) → Each P as_ → slice_get as_ k ≡ Some a → P a
+pub each_at : (P : AttributeShape → Type 0) (as_ : List AttributeShape) (k : ℕ) (a : AttributeShape) → Each P as_ → slice_get as_ k ≡ Some a → P a
 each_at P [] k a each e = absurd cc
 each_at P (x ∷ xs) zero a each e = subst P (same_Some x a e) each.0
 each_at P (x ∷ xs) (suc k) a each e = each_at P xs k a each.1 e
 
-records_at : (as_ : List AttributeShape) (k : ℕ) (a : AttributeShape) → slice_get as_ k ≡ Some a → (m : ℕ) → In m (attribute_records a) → In m (flat_map attribute_records as_)
+pub records_at : (as_ : List AttributeShape) (k : ℕ) (a : AttributeShape) → slice_get as_ k ≡ Some a → (m : ℕ) → In m (attribute_records a) → In m (flat_map attribute_records as_)
 records_at [] k a e m i = absurd cc
 records_at (x ∷ xs) zero a e m i = In-append_left m (attribute_records x) (flat_map attribute_records xs) (subst (λ (y : AttributeShape). In m (attribute_records y)) (sym (same_Some x a e)) i)
 records_at (x ∷ xs) (suc k) a e m i = In-append_right m (attribute_records x) (flat_map attribute_records xs) (records_at xs k a e m i)
 
-adr_at : (as_ : List AttributeShape) (k : ℕ) (a : AttributeShape) → slice_get as_ k ≡ Some a → In a.adr (map (λ (x : AttributeShape). x.adr) as_)
+pub adr_at : (as_ : List AttributeShape) (k : ℕ) (a : AttributeShape) → slice_get as_ k ≡ Some a → In a.adr (map (λ (x : AttributeShape). x.adr) as_)
 adr_at [] k a e = absurd cc
 adr_at (x ∷ xs) zero a e = inl (sym (ap (λ (y : AttributeShape). y.adr) (same_Some x a e)))
 adr_at (x ∷ xs) (suc k) a e = inr (adr_at xs k a e)
 
-least_entry : (kind : EntryKind) → 32 ≤ fixed_size (entry_type kind)
+pub least_entry : (kind : EntryKind) → 32 ≤ fixed_size (entry_type kind)
 least_entry entries.G = omega arith
 least_entry entries.R = omega arith
 least_entry entries.Z = omega arith
 
-greatest_field : (kind : EntryKind) → (max_field kind).place + 4 ≤ 324
+pub greatest_field : (kind : EntryKind) → (max_field kind).place + 4 ≤ 324
 greatest_field entries.G = omega arith
 greatest_field entries.R = omega arith
 greatest_field entries.Z = omega arith

@@ -49,14 +49,14 @@ use Rattle.cdf_edits.proofs.Space.UsedRecords.{filter-says}
 
 -- ---- one record, in two steps
 
-stays_then : (b mid now : List ℕ) (m : ℕ) (fs gs hs : List Field) → Stays b mid m fs → Stays mid now m gs → ((i : ℕ) → OutsideFields hs i → OutsideFields fs i × OutsideFields gs i) → Stays b now m hs
+pub stays_then : (b mid now : List ℕ) (m : ℕ) (fs gs hs : List Field) → Stays b mid m fs → Stays mid now m gs → ((i : ℕ) → OutsideFields hs i → OutsideFields fs i × OutsideFields gs i) → Stays b now m hs
 stays_then b mid now m fs gs hs one two sub = record {
   stands = two.stands;
   size_is = two.size_is ∙ one.size_is;
   same = λ i lt out. let o = sub i out in two.same i (subst (λ (n : ℕ). i < n) (sym one.size_is) lt) o.1 ∙ one.same i lt o.0;
 }
 
-type_stays : (b mid : List ℕ) (m : ℕ) (fs : List Field) → Stays b mid m fs → 12 ≤ size_at b m → ((i : ℕ) → i < 12 → OutsideFields fs i) → type_at mid m ≡ type_at b m
+pub type_stays : (b mid : List ℕ) (m : ℕ) (fs : List Field) → Stays b mid m fs → 12 ≤ size_at b m → ((i : ℕ) → i < 12 → OutsideFields fs i) → type_at mid m ≡ type_at b m
 type_stays b mid m fs s long out = head_type b mid m (record {
   each = λ k l u.
       let at : k ≡ m + (k - m) = omega arith in
@@ -78,7 +78,7 @@ by_two Z Z P own other = own refl
 
 -- ---- lists
 
-there_too : (as_ bs : List AttributeShape) (k : ℕ) (a : AttributeShape) → slice_get as_ k ≡ Some a → length bs ≡ length as_ → (x : AttributeShape) × (slice_get bs k ≡ Some x)
+pub there_too : (as_ bs : List AttributeShape) (k : ℕ) (a : AttributeShape) → slice_get as_ k ≡ Some a → length bs ≡ length as_ → (x : AttributeShape) × (slice_get bs k ≡ Some x)
 there_too [] bs k a e l = absurd cc
 there_too (x ∷ xs) [] k a e l = absurd (omega arith)
 there_too (x ∷ xs) (y ∷ ys) zero a e l = (y, refl)
