@@ -74,3 +74,4 @@ pub mod VdrWritten
 pub mod WrittenFields
 pub mod DropsOne
 pub mod DroppedSoFar
+pub mod SameAttribute

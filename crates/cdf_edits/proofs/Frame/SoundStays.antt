@@ -76,7 +76,7 @@ module _ (b now : List ℕ) (records records' : List ℕ) (file : FileSame b now
         variables_fit_kept more (λ m i. k m (In-append_right m (variable_records v) (flat_map variable_records more) i)) fits.1,
       )
 
-filter_same : (p q : ℕ → Bool) (xs : List ℕ) → ((x : ℕ) → In x xs → p x ≡ q x) → filter p xs ≡ filter q xs
+pub filter_same : (p q : ℕ → Bool) (xs : List ℕ) → ((x : ℕ) → In x xs → p x ≡ q x) → filter p xs ≡ filter q xs
 filter_same p q [] h = refl
 filter_same p q (x ∷ xs) h =
     let here = h x (inl refl) in
