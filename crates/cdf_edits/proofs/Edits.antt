@@ -75,3 +75,4 @@ pub mod WrittenFields
 pub mod DropsOne
 pub mod DroppedSoFar
 pub mod SameAttribute
+pub mod DroppedNext

@@ -43,7 +43,7 @@ leads_next b link (x ∷ []) l m (inr i) = absurd i
 leads_next b link (x ∷ y ∷ es) l m (inl q) = inr (inr (inl (ap (next_of b) q ∙ l.1.0)))
 leads_next b link (x ∷ y ∷ es) l m (inr i) = elim (leads_next b (next_of b x) (y ∷ es) l.1 m i) [ inl z ↦ inl z | inr j ↦ inr (inr j) ]
 
-each_from : (P Q : ℕ → Type 0) (es : List ℕ) → ((m : ℕ) → In m es → P m → Q m) → Each P es → Each Q es
+pub each_from : (P Q : ℕ → Type 0) (es : List ℕ) → ((m : ℕ) → In m es → P m → Q m) → Each P es → Each Q es
 each_from P Q [] f all = tt
 each_from P Q (e ∷ es) f all = (f e (inl refl) all.0, each_from P Q es (λ m i. f m (inr i)) all.1)
 
