@@ -209,7 +209,7 @@ module _ {b attr : List ℕ} {kind : EntryKind} {n : ℕ} {chain : Chain} (good 
 
     -- ---- what is known after it
 
-    left_known : KnowsEntries now (without_at es i)
+    pub left_known : KnowsEntries now (without_at es i)
     left_known = record {
       places_are = left_places ∙ sym (left.members_left good names q taken.removed.gives of_old long counts greatest short) ∙ ap (members_of now) (sym (of ∙ found.chain_is));
       numbers_are = left_numbers ∙ sym (nums_live b now (left_of place (chain_of found.own kind)) live) ∙ ap (nums now) (sym left_places);

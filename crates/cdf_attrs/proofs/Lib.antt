@@ -1,4 +1,7 @@
 pub mod DeletingSteps
+pub mod DroppedNumber
+pub mod DroppingFrom
+pub mod DroppingSteps
 pub mod Renamed
 pub mod EntryWritten
 pub mod AttributeParts
@@ -16,15 +19,18 @@ pub mod PutCalls
 pub mod ChangedValue
 pub mod MovedValue
 pub mod NewAdr
+pub mod NumberGone
 pub mod Created
 pub mod CreatingAnswers
 pub mod KnownAttributes
+pub mod LoweredChain
 pub mod NamesChanged
 pub mod AttributeChain
 pub mod RenamingSteps
 pub mod NamesDiffer
 pub mod AttributesRead
 pub mod AttributeFound
+pub mod AttributeNamed
 pub mod EntryChains
 pub mod EntriesRead
 pub mod EntryLookup

@@ -22,7 +22,7 @@ use cdf_records::set_unsigned4;
 use cdf_space::{Chain, chain_remove, count_down, free_records, read_chain};
 use std::alloc::{AllocError, Global};
 
-/// The number of an attribute as one record says it: where the record stands, where in it the field, and the number.
+/// A number as one record says it: where the record stands, where in it the field, and the number.
 #[derive(Clone, Copy)]
 pub struct Numbered {
     pub at: u64,
@@ -97,8 +97,8 @@ fn read_numbers<A: Area>(
     Ok(numbers)
 }
 
-/// Writes numbers of attributes. After an error a part of them may have been written.
-fn set_numbers<A: Area>(area: &mut A, numbers: &[Numbered]) -> Result<(), AreaError>
+/// Writes numbers in records. After an error a part of them may have been written.
+pub(crate) fn set_numbers<A: Area>(area: &mut A, numbers: &[Numbered]) -> Result<(), AreaError>
     requires { AllLie (A.image area.old) (map write_of numbers.now) }
     ensures written { OnOk result (A.image area.new ≡ with_writes (A.image area.old) (map write_of numbers.now)) }
     ensures area { Edits A.frame A.faults area.old area.new result }

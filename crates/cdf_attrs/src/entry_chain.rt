@@ -66,7 +66,11 @@ fn are_same_entries(one: Chain, other: Chain) -> bool
 
 impl EntryChain {
     /// The entries of a chain of a good image.
-    fn load<A: Area>(alloc: Global, area: &mut A, chain: Chain) -> Result<EntryChain, AreaError>
+    pub(crate) fn load<A: Area>(
+        alloc: Global,
+        area: &mut A,
+        chain: Chain,
+    ) -> Result<EntryChain, AreaError>
         requires good { Good (A.image area.old) }
         requires attribute { IsOfAttribute (A.image area.old) chain }
         ensures chain { IfOk result (λ entries. entries.chain ≡ chain) }

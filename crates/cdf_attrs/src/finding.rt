@@ -24,7 +24,7 @@ pub enum Target {
 }
 
 /// Whether an attribute describes the file.
-fn is_global(scope: Scope) -> bool
+pub(crate) fn is_global(scope: Scope) -> bool
     ensures { result ≡ is_global scope }
 {
     match scope {

@@ -5,6 +5,7 @@ mod attrs;
 mod chain_fields;
 mod creating;
 mod deleting;
+mod dropping;
 mod entry_bytes;
 mod entry_chain;
 mod finding;

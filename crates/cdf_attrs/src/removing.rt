@@ -24,7 +24,7 @@ use cdf_model::{EntryKind, Outcome, Reason, Reply};
 use cdf_space::{chain_remove, free_record};
 
 /// The greatest of some numbers.
-fn greatest(numbers: &[u32]) -> Option<u32>
+pub(crate) fn greatest(numbers: &[u32]) -> Option<u32>
     ensures empty { IsNone result ↔ (numbers.now ≡ []) }
     ensures member { IfSome result (Contains numbers.now) }
     ensures greatest { IfSome result (λ most. All (λ n. n ≤ most) numbers.now) }
@@ -69,7 +69,7 @@ fn remove_entry<A: Area>(
 
 /// Takes the entry at an index of its chain out of an area, and gives the entries that are left.
 /// After an error a part of this may have been done.
-fn remove_at<A: Area>(
+pub(crate) fn remove_at<A: Area>(
     area: &mut A,
     kind: EntryKind,
     adr: u64,

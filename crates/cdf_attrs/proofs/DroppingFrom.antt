@@ -1,0 +1,166 @@
+-- What dropping from one attribute asks of its chain, and what it comes to.
+use Rattle.std.proofs.Common.{◌≡◌, ◌∙◌, ◌+◌, ◌<◌, ◌≤◌, ℕ, List, [], ◌∷◌, All, length, Result, Ok, Err, Some, false, refl, sym, ap, subst, arith, inl, inr}
+use Rattle.std.proofs.lemmas.Bool.{cases_lt, lt-ltb, le-ltb}
+use Rattle.std.specs.List.{slice_get}
+use Rattle.std.specs.Result.{OnOk}
+use Rattle.cdf_model.specs.AttributeSteps.{is_global, is_wrong_scope}
+use Rattle.cdf_model.specs.Limits.{image_limit, signed_limit}
+use Rattle.cdf_model.specs.declared.kinds.Kind.{Kind}
+use Rattle.cdf_model.specs.declared.kinds.Scope.{Scope}
+use Rattle.cdf_model.specs.declared.kinds.Kind.TheVariants.{R, Z}
+use Rattle.cdf_model.specs.declared.kinds.EntryKind.{EntryKind}
+use Rattle.cdf_format.specs.AttributeRules.{entry_bytes}
+use Rattle.cdf_format.specs.Content.{attribute_of, scope_of}
+use Rattle.cdf_format.specs.Fields.{LiesIn, number}
+use Rattle.cdf_format.specs.Records.{adr_scope, aedr_num}
+use Rattle.cdf_format.specs.Shape.{AttributeShape, adrs, shape}
+use Rattle.cdf_format.specs.Tiles.{In}
+use Rattle.cdf_format.specs.WellFormed.{Good}
+use Rattle.cdf_edits.specs.declared.chain.Chain.{Chain}
+use Rattle.cdf_edits.specs.Commands.EntryChains.{kind_of_entries, max_field}
+use Rattle.cdf_edits.specs.Edits.EntryMarks.{entries_chain}
+use Rattle.cdf_edits.proofs.Commands.ListParts.{got-middle}
+use Rattle.cdf_edits.proofs.Edits.AttributeChains.{Stands, stands_at}
+use Rattle.cdf_edits.specs.Edits.Writes.{Write, write}
+use Rattle.cdf_edits.proofs.Edits.PushedEntry.{max_lies}
+use Rattle.cdf_format.proofs.GoodSound.{good_is_sound}
+use Rattle.cdf_attrs.specs.Deleting.{AllLie}
+use Rattle.cdf_attrs.specs.Dropping.{DropsFrom, DropsNumber, IsScoped, Lowers, LowersNumbers, lower_writes}
+use Rattle.cdf_attrs.specs.Finding.{IsOfAttribute}
+use Rattle.cdf_attrs.specs.Known.{KnownEntries, KnowsEntries}
+use Rattle.cdf_attrs.proofs.AttributeChain.{adr_inside}
+use Rattle.cdf_attrs.proofs.DroppedNumber.{adrs_now, long_now}
+use Rattle.cdf_attrs.proofs.EntryChains.{entry_inside}
+use Rattle.cdf_attrs.proofs.EntryTakenAt.{all_from, as_long, places_are, small}
+use Rattle.cdf_attrs.proofs.LoweredChain.{good_now}
+use Rattle.cdf_attrs.proofs.NumberGone.{number_gone, numbers_differ}
+
+module _ (b : List ℕ) (adr : ℕ) (there : In adr (adrs (shape b))) where
+  abbrev parts : Stands (shape b).attributes adr
+  parts = stands_at (shape b).attributes adr there
+
+  stands : slice_get (shape b).attributes (length parts.fronts) ≡ Some parts.own
+  stands = ap (λ (as_ : List AttributeShape). slice_get as_ (length parts.fronts)) parts.is ∙ got-middle parts.fronts parts.own parts.after
+
+  pub of_attribute : (kind : EntryKind) → IsOfAttribute b (entries_chain kind adr)
+  of_attribute kind = record { number = length parts.fronts; own = parts.own; stands = stands; kind = kind; chain_is = ap (entries_chain kind) (sym parts.adr_is) }
+
+  own_scope : is_global (scope_of (number b adr adr_scope)) ≡ false → is_global (attribute_of b parts.own).scope ≡ false
+  own_scope e = subst (λ (a : ℕ). is_global (scope_of (number b a adr_scope)) ≡ false) (sym parts.adr_is) e
+
+  pub scoped : (kind : Kind) → is_global (scope_of (number b adr adr_scope)) ≡ false → IsScoped b (kind_of_entries kind) adr
+  scoped R e = record { number = length parts.fronts; own = parts.own; stands = stands; adr_is = parts.adr_is; in_scope = own_scope e }
+  scoped Z e = record { number = length parts.fronts; own = parts.own; stands = stands; adr_is = parts.adr_is; in_scope = own_scope e }
+
+-- the attribute stands where it stood when the entry of a number went
+pub there_after : {b now : List ℕ} {kind : EntryKind} {adr num : ℕ} {entries left : KnownEntries} → Good b → IsScoped b kind adr → entries.chain ≡ entries_chain kind adr → KnowsEntries b entries → length b ≤ image_limit → DropsNumber b now kind adr entries num left → In adr (adrs (shape b)) → In adr (adrs (shape now))
+there_after {adr = adr} {num = num} {entries = entries} good scoped is knows short drops there = elim drops [
+  | inl none ↦ subst (λ (x : List ℕ). In adr (adrs (shape x))) (sym none.stays) there
+  | inr takes ↦ subst (In adr) (sym (adrs_now good scoped entries is knows num takes.index takes.at takes.taken short)) there
+]
+
+pub chain_left : {b now : List ℕ} {kind : EntryKind} {adr num : ℕ} {entries left : KnownEntries} → entries.chain ≡ entries_chain kind adr → DropsNumber b now kind adr entries num left → left.chain ≡ entries_chain kind adr
+chain_left is drops = elim drops [
+  | inl none ↦ ap (λ (e : KnownEntries). e.chain) none.left_is ∙ is
+  | inr takes ↦ ap (λ (e : KnownEntries). e.chain) takes.left_is ∙ is
+]
+
+-- what is written of entries lies where they stand
+writes_lie : (b : List ℕ) (num : ℕ) (ns ps : List ℕ) → ((p : ℕ) → In p ps → p + 56 ≤ length b) → AllLie b (lower_writes num ns ps)
+writes_lie b num [] ps all = tt
+writes_lie b num (n ∷ ns) [] all = tt
+writes_lie b num (n ∷ ns) (p ∷ ps) all =
+    let rest = writes_lie b num ns ps (λ q j. all q (inr j)) in
+    let here = all p (inl refl) in
+    elim (cases_lt num n) [
+      | inl lt ↦ rw (lt-ltb num n lt) ((omega arith, rest))
+      | inr le ↦ rw (le-ltb num n le) rest
+    ]
+
+-- what is asked of a chain whose numbers fall
+module _ {b : List ℕ} (good : Good b) (kind : EntryKind) (adr : ℕ) (there : In adr (adrs (shape b))) (es : KnownEntries) (is : es.chain ≡ entries_chain kind adr) (knows : KnowsEntries b es) where
+  pub numbers_long : length es.numbers ≡ length es.places
+  numbers_long = as_long good (of_attribute b adr there kind) es is knows
+
+  pub numbers_small : All (λ n. n ≤ signed_limit) es.numbers
+  numbers_small = all_from (λ n. n ≤ signed_limit) es.numbers (λ n i. let le = small good (of_attribute b adr there kind) es is knows n i in omega arith)
+
+  inside : (p : ℕ) → In p es.places → p + 56 ≤ length b
+  inside p i =
+      let of = of_attribute b adr there kind in
+      let lies = entry_inside b good (entries_chain kind adr) of p (subst (In p) (places_are good of es is knows) i) in
+      let n = entry_bytes b p in
+      omega arith
+
+  pub entries_lie : (num : ℕ) → AllLie b (lower_writes num es.numbers es.places)
+  entries_lie num = writes_lie b num es.numbers es.places inside
+
+  pub greatest_lies : LiesIn b adr (max_field kind)
+  greatest_lies = let l = adr_inside b (shape b) (good_is_sound b good).has_shape adr there in let m = max_lies kind in omega arith
+
+-- the image when the numbers fell
+pub good_lowered : {mid now : List ℕ} (good : Good mid) {kind : EntryKind} {adr num : ℕ} (there : In adr (adrs (shape mid))) (left : KnownEntries) → left.chain ≡ entries_chain kind adr → KnowsEntries mid left → length mid ≤ image_limit → (In num left.numbers → ⊥) → Lowers mid now kind adr left num → Good now
+unfolding of_attribute
+good_lowered {mid} {now} good {kind} {adr} {num} there left is knows short none lowers = elim lowers [
+  | inl rests ↦ subst Good (sym rests.1) good
+  | inr falls ↦ let of = of_attribute mid adr there kind in good_now good of left is knows short none (subst (λ (a : ℕ). LowersNumbers mid now kind a left num) (sym (parts mid adr there).adr_is) falls)
+]
+
+pub long_dropped : {b now : List ℕ} {kind : EntryKind} {adr num : ℕ} {entries left : KnownEntries} → Good b → IsScoped b kind adr → entries.chain ≡ entries_chain kind adr → KnowsEntries b entries → length b ≤ image_limit → DropsNumber b now kind adr entries num left → length now ≡ length b
+long_dropped {num = num} {entries = entries} good scoped is knows short drops = elim drops [
+  | inl none ↦ ap (λ (x : List ℕ). length x) none.stays
+  | inr takes ↦ long_now good scoped entries is knows num takes.index takes.at takes.taken short
+]
+
+-- ---- what all of it comes to
+
+-- the entry of a number was taken out of the chain, and these are left
+pub record Dropping (b mid : List ℕ) (kind : Kind) (k : EntryKind) (adr num : ℕ) (left : KnownEntries) : Type 0 where
+  pub small : All (λ n. n ≤ signed_limit) left.numbers
+  pub lie : AllLie mid (lower_writes num left.numbers left.places)
+  pub field : LiesIn mid adr (max_field k)
+  pub drops : (now : List ℕ) → Lowers mid now k adr left num → DropsFrom b now (kind_of_entries kind) adr num
+  pub good : (now : List ℕ) → Lowers mid now k adr left num → Good now
+
+-- where the numbers fell, and where they could not
+module _ {X E : Type 0} {b mid : List ℕ} {kind : Kind} {k : EntryKind} {adr num : ℕ} {left : KnownEntries} (d : Dropping b mid kind k adr num left) (now : List ℕ) where
+  pub drops_on : (r : Result X E) → OnOk r (Lowers mid now k adr left num) → OnOk r (is_global (scope_of (number b adr adr_scope)) ≡ false → DropsFrom b now (kind_of_entries kind) adr num)
+  drops_on (Ok x) lowers = λ own. d.drops now lowers
+  drops_on (Err e) lowers = tt
+
+  pub good_on : (r : Result X E) → OnOk r (Lowers mid now k adr left num) → OnOk r (Good now)
+  good_on (Ok x) lowers = d.good now lowers
+  good_on (Err e) lowers = tt
+
+module _ {b read loaded mid : List ℕ} (kind : Kind) {k : EntryKind} {adr num : ℕ} {chain : Chain} {scope : Scope} {entries left : KnownEntries} (good : Good b) (there : In adr (adrs (shape b))) (short : length b ≤ image_limit)
+    (same : read ≡ b) (scope_is : scope ≡ scope_of (number b adr adr_scope)) (own : is_global scope ≡ false) (k_is : k ≡ kind_of_entries kind) (chain_is : chain ≡ entries_chain k adr)
+    (same_loaded : loaded ≡ read) (is : entries.chain ≡ chain) (knows : KnowsEntries read entries) (drops : DropsNumber loaded mid k adr entries num left) (good_mid : Good mid) (left_knows : KnowsEntries mid left) where
+  of_kind : IsScoped b k adr
+  of_kind = subst (λ (x : EntryKind). IsScoped b x adr) (sym k_is) (scoped b adr there kind (subst (λ (s : Scope). is_global s ≡ false) scope_is own))
+
+  of_chain : entries.chain ≡ entries_chain k adr
+  of_chain = is ∙ chain_is
+
+  known : KnowsEntries b entries
+  known = subst (λ (x : List ℕ). KnowsEntries x entries) same knows
+
+  dropped : DropsNumber b mid k adr entries num left
+  dropped = subst (λ (x : List ℕ). DropsNumber x mid k adr entries num left) (same_loaded ∙ same) drops
+
+  there_mid : In adr (adrs (shape mid))
+  there_mid = there_after good of_kind of_chain known short dropped there
+
+  left_is : left.chain ≡ entries_chain k adr
+  left_is = chain_left of_chain dropped
+
+  none_left : In num left.numbers → ⊥
+  none_left = number_gone (numbers_differ good (of_attribute b adr there k) entries of_chain known) dropped
+
+  pub dropping : Dropping b mid kind k adr num left
+  dropping = record {
+    small = numbers_small good_mid k adr there_mid left left_is left_knows;
+    lie = entries_lie good_mid k adr there_mid left left_is left_knows num;
+    field = greatest_lies good_mid k adr there_mid left left_is left_knows;
+    drops = λ now lowers. subst (λ (x : EntryKind). DropsFrom b now x adr num) k_is (record { entries = entries; chain_is = of_chain; known = known; mid = mid; left = left; drops = dropped; good = good_mid; left_known = left_knows; lowers = lowers });
+    good = λ now lowers. good_lowered good_mid there_mid left left_is left_knows (let l = long_dropped good of_kind of_chain known short dropped in omega arith) none_left lowers;
+  }

@@ -1,0 +1,82 @@
+-- The numbers of entries that are less by one, index by index.
+use Rattle.std.proofs.Common.{◌≡◌, ℕ, ℤ, pos, zero, suc, ◌+◌, ◌-◌, ◌<◌, ◌≤◌, List, [], ◌∷◌, ◌++◌, All, Contains, drop, get_or, length, map, refl, sym, ap, ap₂, subst, ◌∙◌, append_assoc, arith, inl, inr}
+use Rattle.std.proofs.lemmas.Bool.{cases_lt, lt-ltb, le-ltb}
+use Rattle.cdf_model.specs.Limits.{signed_limit}
+use Rattle.cdf_attrs.specs.Deleting.{AllLie}
+use Rattle.cdf_attrs.specs.Dropping.{lower_writes}
+use Rattle.cdf_attrs.specs.Removing.{IsGreatest}
+use Rattle.cdf_attrs.proofs.DeletingSteps.{lie_still}
+use Rattle.cdf_attrs.proofs.GreatestNumber.{each_of, is_member}
+use Rattle.cdf_edits.specs.Edits.FallenNumbers.{fallen}
+use Rattle.cdf_fields.proofs.Writes.{length-with_field}
+use Rattle.cdf_format.specs.Fields.{LiesIn, with_field}
+use Rattle.cdf_format.specs.Tiles.{In}
+use Rattle.cdf_edits.specs.Edits.Writes.{Write, with_writes, write}
+use Rattle.cdf_format.specs.Records.{Field, aedr_num}
+
+pub lower_falls : (num : ℕ) (ns ps : List ℕ) (i : ℕ) → i < length ns → length ns ≡ length ps → num < get_or ns i 0 → lower_writes num (drop i ns) (drop i ps) ≡ write (get_or ps i 0) aedr_num (get_or ns i 0 - 1) ∷ lower_writes num (drop (suc i) ns) (drop (suc i) ps)
+lower_falls num [] ps i lt long falls = absurd (omega arith)
+lower_falls num (n ∷ ns) [] i lt long falls = absurd (omega arith)
+lower_falls num (n ∷ ns) (p ∷ ps) zero lt long falls = rw (lt-ltb num n falls) refl
+lower_falls num (n ∷ ns) (p ∷ ps) (suc i) lt long falls = lower_falls num ns ps i (omega arith) (omega arith) falls
+
+pub lower_rests : (num : ℕ) (ns ps : List ℕ) (i : ℕ) → i < length ns → length ns ≡ length ps → get_or ns i 0 ≤ num → lower_writes num (drop i ns) (drop i ps) ≡ lower_writes num (drop (suc i) ns) (drop (suc i) ps)
+lower_rests num [] ps i lt long rests = absurd (omega arith)
+lower_rests num (n ∷ ns) [] i lt long rests = absurd (omega arith)
+lower_rests num (n ∷ ns) (p ∷ ps) zero lt long rests = rw (le-ltb num n rests) refl
+lower_rests num (n ∷ ns) (p ∷ ps) (suc i) lt long rests = lower_rests num ns ps i (omega arith) (omega arith) rests
+
+-- what was pushed, and what is still to be, where lists were read
+module _ (num : ℕ) (ns ps ns' ps' : List ℕ) (same-ns : ns' ≡ ns) (same-ps : ps' ≡ ps) (long : length ns ≡ length ps) (i : ℕ) (lt : i < length ns') (done all : List Write) (goes : done ++ lower_writes num (drop i ns) (drop i ps) ≡ all) where
+  one : suc i ≡ i + 1
+  one = omega arith
+
+  pub falls_on : num < get_or ns' i 0 → (more : List Write) → more ≡ done ++ write (get_or ps' i 0) aedr_num (get_or ns' i 0 - 1) ∷ [] → more ++ lower_writes num (drop (i + 1) ns) (drop (i + 1) ps) ≡ all
+  falls_on falls more is =
+      let rest = lower_writes num (drop (i + 1) ns) (drop (i + 1) ps) in
+      let w = write (get_or ps i 0) aedr_num (get_or ns i 0 - 1) in
+      let same : more ≡ done ++ w ∷ [] = is ∙ ap₂ (λ (x y : List ℕ). done ++ write (get_or y i 0) aedr_num (get_or x i 0 - 1) ∷ []) same-ns same-ps in
+      ap (λ (x : List Write). x ++ rest) same ∙ append_assoc done (w ∷ []) rest
+      ∙ ap (λ (x : List Write). done ++ x) (sym (subst (λ (k : ℕ). lower_writes num (drop i ns) (drop i ps) ≡ w ∷ lower_writes num (drop k ns) (drop k ps)) one (lower_falls num ns ps i (subst (λ (x : List ℕ). i < length x) same-ns lt) long (subst (λ (x : List ℕ). num < get_or x i 0) same-ns falls)))) ∙ goes
+
+  pub rests_on : get_or ns' i 0 ≤ num → done ++ lower_writes num (drop (i + 1) ns) (drop (i + 1) ps) ≡ all
+  rests_on rests = ap (λ (x : List Write). done ++ x) (sym (subst (λ (k : ℕ). lower_writes num (drop i ns) (drop i ps) ≡ lower_writes num (drop k ns) (drop k ps)) one (lower_rests num ns ps i (subst (λ (x : List ℕ). i < length x) same-ns lt) long (subst (λ (x : List ℕ). get_or x i 0 ≤ num) same-ns rests)))) ∙ goes
+
+-- ---- the greatest number
+
+fallen_most : (num m n : ℕ) → num < m → n ≤ m → fallen num n ≤ m - 1
+fallen_most num m n lt le = elim (cases_lt num n) [
+  | inl p ↦ rw (lt-ltb num n p) (omega arith)
+  | inr p ↦ rw (le-ltb num n p) (omega arith)
+]
+
+fallen_all : (num m : ℕ) (ns : List ℕ) → num < m → ((n : ℕ) → In n ns → n ≤ m) → (k : ℕ) → In k (map (fallen num) ns) → k ≤ m - 1
+fallen_all num m [] lt all k i = absurd i
+fallen_all num m (n ∷ ns) lt all k (inl e) = subst (λ (x : ℕ). x ≤ m - 1) (sym e) (fallen_most num m n lt (all n (inl refl)))
+fallen_all num m (n ∷ ns) lt all k (inr i) = fallen_all num m ns lt (λ x j. all x (inr j)) k i
+
+fallen_in : (num m : ℕ) (ns : List ℕ) → num < m → In m ns → In (m - 1) (map (fallen num) ns)
+fallen_in num m [] lt i = absurd i
+fallen_in num m (n ∷ ns) lt (inl e) = inl (ap (λ (x : ℕ). x - 1) e ∙ sym (rw (lt-ltb num n (subst (λ (x : ℕ). num < x) e lt)) refl))
+fallen_in num m (n ∷ ns) lt (inr i) = inr (fallen_in num m ns lt i)
+
+greatest_by : (ns : List ℕ) (m : ℕ) (z : ℤ) → z ≡ pos m → In m ns → ((k : ℕ) → In k ns → k ≤ m) → IsGreatest ns z
+greatest_by [] m z is i all = absurd i
+greatest_by (n ∷ ns) m z is i all = (m, is, (i, all))
+
+pub lowered_greatest : (num m : ℕ) (ns : List ℕ) (z : ℤ) → z ≡ pos (m - 1) → num < m → Contains ns m → All (λ n. n ≤ m) ns → IsGreatest (map (fallen num) ns) z
+lowered_greatest num m ns z is lt has all = greatest_by (map (fallen num) ns) (m - 1) z is (fallen_in num m ns lt (is_member ns m has)) (fallen_all num m ns lt (each_of (λ x. x ≤ m) ns all))
+
+pub member_small : (m : ℕ) (ns : List ℕ) → Contains ns m → All (λ n. n ≤ signed_limit) ns → m ≤ signed_limit
+member_small m ns has all = each_of (λ x. x ≤ signed_limit) ns all m (is_member ns m has)
+
+-- ---- the image is as long
+
+pub length-writes : (b : List ℕ) (ws : List Write) → AllLie b ws → length (with_writes b ws) ≡ length b
+length-writes b [] lie = refl
+length-writes b (w ∷ ws) lie =
+    let long = length-with_field b w.tile w.f w.to lie.0 in
+    length-writes (with_field b w.tile w.f w.to) ws (lie_still b (with_field b w.tile w.f w.to) ws long lie.1) ∙ long
+
+pub lies_after : (b now : List ℕ) (ws : List Write) (adr : ℕ) (f : Field) → now ≡ with_writes b ws → AllLie b ws → LiesIn b adr f → LiesIn now adr f
+lies_after b now ws adr f is lie lies = let long = ap (λ (x : List ℕ). length x) is ∙ length-writes b ws lie in omega (arith, lies)

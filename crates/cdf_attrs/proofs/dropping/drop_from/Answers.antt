@@ -1,0 +1,59 @@
+use Rattle.std.proofs.Common.{◌≡◌, ◌∙◌, ◌≤◌, ℕ, List, All, false, length, sym, ap, subst, arith}
+use Rattle.cdf_format.proofs.GoodSound.{good_is_sound}
+use Rattle.cdf_format.specs.Shape.{shape}
+use Rattle.cdf_format.specs.WellFormed.{Good}
+use Rattle.cdf_model.specs.AttributeSteps.{is_global}
+use Rattle.cdf_model.specs.declared.kinds.Scope.{Scope}
+use Rattle.cdf_model.specs.declared.kinds.EntryKind.{EntryKind}
+use Rattle.cdf_edits.specs.declared.chain.Chain.{Chain}
+use Rattle.cdf_edits.specs.Edits.EntryMarks.{entries_chain}
+use Rattle.cdf_attrs.specs.Dropping.{IsScoped, Lowers}
+use Rattle.cdf_attrs.specs.Finding.{IsOfAttribute}
+use Rattle.cdf_attrs.proofs.AttributeChain.{adr_inside}
+use Rattle.cdf_attrs.proofs.DroppingFrom as from
+use Rattle.cdf_attrs.proofs.dropping.drop_from.Goals as goal
+
+pub read_scope-requires : goal.read_scope-requires
+read_scope-requires g c = let b = g.A.Area.image c.args.area.now in let l = adr_inside b (shape b) (good_is_sound b c.requires.good).has_shape c.args.adr c.requires.adr in omega arith
+
+pub returns-then-is_global-clause-good : goal.returns-then-is_global-clause-good
+returns-then-is_global-clause-good g c = subst Good (sym c.in_ok-scope.ensures.area.image) c.requires.good
+
+pub load-requires-clause-good : goal.load-requires-clause-good
+load-requires-clause-good g c = subst Good (sym c.in_ok-scope.ensures.area.image) c.requires.good
+
+pub load-requires-clause-attribute : goal.load-requires-clause-attribute
+load-requires-clause-attribute g c =
+    let b = g.A.Area.image c.args.area.now in
+    let of = from.of_attribute b c.args.adr c.requires.adr c.entries_of-kind.result in
+    subst (λ (x : List ℕ). IsOfAttribute x c.entries_chain.result) (sym c.in_ok-scope.ensures.area.image) (subst (IsOfAttribute b) (sym c.entries_chain.ensures) of)
+
+pub drop_number-requires-clause-good : goal.drop_number-requires-clause-good
+drop_number-requires-clause-good g c = subst Good (sym (c.in_ok-entries.ensures.area.image ∙ c.in_ok-scope.ensures.area.image)) c.requires.good
+
+pub drop_number-requires-clause-attribute : goal.drop_number-requires-clause-attribute
+drop_number-requires-clause-attribute g c =
+    let b = g.A.Area.image c.args.area.now in
+    let own : is_global c.in_ok-scope.scope ≡ false = sym c.if-is_global.ensures in
+    let scoped = from.scoped b c.args.adr c.requires.adr c.args.kind (subst (λ (s : Scope). is_global s ≡ false) c.in_ok-scope.ensures.scope own) in
+    subst (λ (x : List ℕ). IsScoped x c.entries_of-kind.result c.args.adr) (sym (c.in_ok-entries.ensures.area.image ∙ c.in_ok-scope.ensures.area.image)) (subst (λ (k : EntryKind). IsScoped b k c.args.adr) (sym c.entries_of-kind.ensures) scoped)
+
+pub lower_entries-requires-clause-small : goal.lower_entries-requires-clause-small
+lower_entries-requires-clause-small g c = (from.dropping c.args.kind c.requires.good c.requires.adr c.requires.short c.in_ok-scope.ensures.area.image c.in_ok-scope.ensures.scope (sym c.if-is_global.ensures) c.entries_of-kind.ensures c.entries_chain.ensures
+    c.in_ok-entries.ensures.area.image c.in_ok-entries.ensures.chain c.in_ok-entries.ensures.entries c.in_ok-left.ensures.drops c.in_ok-left.ensures.good c.in_ok-left.ensures.left).small
+
+pub lower_entries-requires-clause-lie : goal.lower_entries-requires-clause-lie
+lower_entries-requires-clause-lie g c = (from.dropping c.args.kind c.requires.good c.requires.adr c.requires.short c.in_ok-scope.ensures.area.image c.in_ok-scope.ensures.scope (sym c.if-is_global.ensures) c.entries_of-kind.ensures c.entries_chain.ensures
+    c.in_ok-entries.ensures.area.image c.in_ok-entries.ensures.chain c.in_ok-entries.ensures.entries c.in_ok-left.ensures.drops c.in_ok-left.ensures.good c.in_ok-left.ensures.left).lie
+
+pub lower_entries-requires-clause-field : goal.lower_entries-requires-clause-field
+lower_entries-requires-clause-field g c = (from.dropping c.args.kind c.requires.good c.requires.adr c.requires.short c.in_ok-scope.ensures.area.image c.in_ok-scope.ensures.scope (sym c.if-is_global.ensures) c.entries_of-kind.ensures c.entries_chain.ensures
+    c.in_ok-entries.ensures.area.image c.in_ok-entries.ensures.chain c.in_ok-entries.ensures.entries c.in_ok-left.ensures.drops c.in_ok-left.ensures.good c.in_ok-left.ensures.left).field
+
+pub returns-clause-dropped : goal.returns-clause-dropped
+returns-clause-dropped g c = from.drops_on (from.dropping c.args.kind c.requires.good c.requires.adr c.requires.short c.in_ok-scope.ensures.area.image c.in_ok-scope.ensures.scope (sym c.if-is_global.ensures) c.entries_of-kind.ensures c.entries_chain.ensures
+    c.in_ok-entries.ensures.area.image c.in_ok-entries.ensures.chain c.in_ok-entries.ensures.entries c.in_ok-left.ensures.drops c.in_ok-left.ensures.good c.in_ok-left.ensures.left) (g.A.Area.image c.lower_entries.new.area) c.lower_entries.result c.lower_entries.ensures.lowers
+
+pub returns-clause-good : goal.returns-clause-good
+returns-clause-good g c = from.good_on (from.dropping c.args.kind c.requires.good c.requires.adr c.requires.short c.in_ok-scope.ensures.area.image c.in_ok-scope.ensures.scope (sym c.if-is_global.ensures) c.entries_of-kind.ensures c.entries_chain.ensures
+    c.in_ok-entries.ensures.area.image c.in_ok-entries.ensures.chain c.in_ok-entries.ensures.entries c.in_ok-left.ensures.drops c.in_ok-left.ensures.good c.in_ok-left.ensures.left) (g.A.Area.image c.lower_entries.new.area) c.lower_entries.result c.lower_entries.ensures.lowers

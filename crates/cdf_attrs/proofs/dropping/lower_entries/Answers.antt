@@ -1,0 +1,34 @@
+use Rattle.std.proofs.Common.{◌∙◌, ◌-◌, ◌≤◌, ℕ, List, All, Contains, w32, map, ap, subst, inr, arith}
+use Rattle.std.proofs.lemmas.Int.{to_z_pos}
+use Rattle.std.proofs.lemmas.Result.{on_ok_weaker}
+use Rattle.std.specs.Int.{cast_signed, cast_unsigned}
+use Rattle.cdf_attrs.specs.Deleting.{write_of}
+use Rattle.cdf_attrs.specs.Dropping.{lower_writes}
+use Rattle.cdf_attrs.specs.Known.{KnownEntries}
+use Rattle.cdf_attrs.proofs.DroppingSteps.{lies_after, lowered_greatest, member_small}
+use Rattle.cdf_edits.specs.Commands.EntryChains.{max_field}
+use Rattle.cdf_edits.specs.Edits.Writes.{with_writes}
+use Rattle.cdf_format.specs.Fields.{with_field}
+use Rattle.cdf_attrs.proofs.dropping.lower_entries.Goals as goal
+
+pub set_greatest-requires : goal.set_greatest-requires
+set_greatest-requires g c =
+    let b = g.A.Area.image c.args.area.now in
+    let writes = ap (map write_of) c.deref-2.ensures.value ∙ c.in_ok-lower.ensures in
+    lies_after b _ (lower_writes c.args.num c.args.entries.now.numbers c.args.entries.now.places) c.args.adr (max_field c.args.kind) (c.in_ok-set_numbers.ensures.written ∙ ap (with_writes b) writes) c.requires.lie c.requires.field
+
+pub returns-clause-lowers : goal.returns-clause-lowers
+returns-clause-lowers g c =
+    let b = g.A.Area.image c.args.area.now in
+    let es = c.args.entries.now in
+    let writes = ap (map write_of) c.deref-2.ensures.value ∙ c.in_ok-lower.ensures in
+    let most = c.in-Some.greatest in
+    let numbers = c.deref.ensures.value ∙ ap (λ (e : KnownEntries). e.numbers) c.entries.view_is in
+    let has = subst (λ (xs : List ℕ). Contains xs most) numbers c.in-Some.ensures.member in
+    let all = subst (λ (xs : List ℕ). All (λ n. n ≤ most) xs) numbers c.in-Some.ensures.greatest in
+    let less = member_small most es.numbers has c.requires.small in
+    on_ok_weaker _ (λ w. inr (record {
+      greatest = cast_signed w32 (most - 1);
+      greatest_is = lowered_greatest c.args.num most es.numbers (cast_signed w32 (most - 1)) (to_z_pos w32 (most - 1) (omega arith)) c.in-Some.ensures.above has all;
+      written = w ∙ ap (λ (x : List ℕ). with_field x c.args.adr (max_field c.args.kind) (cast_unsigned w32 (cast_signed w32 (most - 1)))) (c.in_ok-set_numbers.ensures.written ∙ ap (with_writes b) writes);
+    })) c.set_greatest.ensures.written
