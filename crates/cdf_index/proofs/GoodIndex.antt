@@ -1,0 +1,148 @@
+-- The index of a variable of a good image is one that can be searched.
+use Rattle.std.proofs.Common.{◌≡◌, ◌⊎◌, ℕ, ℤ, pos, negsuc, zero, suc, ◌-◌, ◌^◌, ◌≤◌, List, [], ◌∷◌, ◌++◌, length, true, not, ◌&&◌, ltb, eqb, true≢false, refl, sym, ap, subst, ◌∙◌, arith, inl, inr}
+use Rattle.std.specs.Prelude.{◌-ℤ◌, int_lt, int_le}
+use Rattle.std.proofs.Math.IntN.{ -ℤ_one}
+use Rattle.std.specs.List.{flat_map}
+use Rattle.cdf_model.specs.Limits.{record_number_limit}
+use Rattle.cdf_format.specs.Chains.{is_in, is_linkable}
+use Rattle.cdf_format.specs.Fields.{with_sign, number}
+use Rattle.cdf_format.specs.GoodImage.{IsGoodImage}
+use Rattle.cdf_format.specs.Index.{Nodes, no_node, node, Entries, no_entry, block, lower, Leaf, nodes_of, leaves_of}
+use Rattle.cdf_format.specs.IndexOf.{IsIndex}
+use Rattle.cdf_format.specs.IndexRules.{end_of, is_between, is_block, nodes_rows, used_rows, leaf_rows, met_rows, phase8}
+use Rattle.cdf_format.specs.IndexWalk.{Met, met, lost, nodes_met, nodes_on, levels_on}
+use Rattle.cdf_format.specs.NotRead.{unread_lower}
+use Rattle.cdf_format.specs.Records.{vdr_vxr_head}
+use Rattle.cdf_format.specs.RecordTypes.{vxr_type}
+use Rattle.cdf_format.specs.Rules.{Row, Hold}
+use Rattle.cdf_format.specs.Shape.{VariableShape, Shape, vdrs, variables, index_of, Each, HasVariable}
+use Rattle.cdf_format.specs.Sound.{NodeFits, LeafFits, VariableFits, IsSound}
+use Rattle.cdf_format.specs.Tiles.{AreTiles, tiles}
+use Rattle.cdf_format.specs.VariableFields.{number_before}
+use Rattle.cdf_format.proofs.IndexLemmas.{index_complete}
+use Rattle.cdf_format.proofs.Members.{either}
+use Rattle.cdf_format.proofs.RowLemmas.{Hold-split}
+use Rattle.cdf_format.proofs.ShapeLemmas.{Each-split, tiles_are}
+use Rattle.cdf_format.proofs.Tests.{both, le_of}
+use Rattle.cdf_index.specs.Finding.{index_at, IsBlock, HasIndex}
+use Rattle.cdf_index.specs.Order.{past_entries, InOrder, AreInOrder}
+use Rattle.cdf_index.proofs.OrderLemmas.{lt_of}
+
+-- the number before one
+abbrev before_number : ℕ → ℤ
+before_number zero = negsuc 0
+before_number (suc n) = pos n
+
+sign_of : (n : ℕ) → (with_sign n ≡ pos n) ⊎ (with_sign n ≡ negsuc (2 ^ 32 - suc n))
+sign_of n = elim (either (ltb n (2 ^ 31))) [ inl t ↦ inl (rw t refl) | inr t ↦ inr (rw t refl) ]
+
+past_before : (low first : ℕ) → int_lt (before_number low) (pos first) ≡ true → low ≤ first
+past_before zero first h = omega arith
+past_before (suc low) first h = lt_of low first h
+
+none_below : (low k : ℕ) → int_lt (before_number low) (negsuc k) ≡ true → ⊥
+none_below zero k h = let less = lt_of k 0 h in omega arith
+none_below (suc low) k h = true≢false (sym h)
+
+first_after : (low first : ℕ) → int_lt (before_number low) (with_sign first) ≡ true → (low ≤ first) × (with_sign first ≡ pos first)
+first_after low first h = elim (sign_of first) [ inl e ↦ (past_before low first (rw e at h), e) | inr e ↦ absurd (none_below low _ (rw e at h)) ]
+
+last_after : (first last : ℕ) → int_le (pos first) (with_sign last) ≡ true → (first ≤ last) × (with_sign last ≡ pos last)
+last_after first last h = elim (sign_of last) [ inl e ↦ (le_of first last (rw e at h), e) | inr e ↦ absurd (true≢false (sym (rw e at h))) ]
+
+record Between (low high first last : ℕ) : Type 0 where
+  low_first : low ≤ first
+  first_last : first ≤ last
+  last_high : last ≤ high
+  first_is : with_sign first ≡ pos first
+  last_is : with_sign last ≡ pos last
+
+between : (low high first last : ℕ) → is_between (before_number low) (pos high) first last ≡ true → Between low high first last
+between low high first last e =
+    let p = both (int_lt (before_number low) (with_sign first)) (int_le (with_sign first) (with_sign last) && int_le (with_sign last) (pos high)) e in
+    let q = both (int_le (with_sign first) (with_sign last)) (int_le (with_sign last) (pos high)) p.1 in
+    let f = first_after low first p.0 in
+    let l = last_after first last (subst (λ (z : ℤ). int_le z (with_sign last) ≡ true) f.1 q.0) in
+    record { low_first = f.0; first_last = l.0; last_high = le_of last high (subst (λ (z : ℤ). int_le z (pos high) ≡ true) l.1 q.1); first_is = f.1; last_is = l.1 }
+
+before_is : (n : ℕ) → with_sign n ≡ pos n → number_before n ≡ before_number n
+before_is zero e = ap (λ (z : ℤ). z -ℤ pos 1) e
+before_is (suc n) e = ap (λ (z : ℤ). z -ℤ pos 1) e ∙ -ℤ_one (pos (suc n))
+
+module _ (b records : List ℕ) where
+  mutual
+    unfolding nodes_rows used_rows InOrder AreInOrder
+
+    order_from : (low high : ℕ) (nodes : Nodes) → Hold (nodes_rows b records (before_number low) (pos high) nodes) → InOrder low high nodes
+    order_from low high no_node h = tt
+    order_from low high (node place room entries more) h =
+        let p = Hold-split (used_rows b records place (before_number low) (pos high) entries) (nodes_rows b records (end_of (before_number low) entries) (pos high) more) h.1 in
+        let o = entries_order_from place low high entries p.0 in
+        (o.0, order_from (past_entries low entries) high more (subst (λ (z : ℤ). Hold (nodes_rows b records z (pos high) more)) o.1 p.1))
+
+    entries_order_from : (vxr low high : ℕ) (entries : Entries) → Hold (used_rows b records vxr (before_number low) (pos high) entries) → AreInOrder low high entries × (end_of (before_number low) entries ≡ before_number (past_entries low entries))
+    entries_order_from vxr low high no_entry h = (tt, refl)
+    entries_order_from vxr low high (block first last place packed entries) h =
+        let o = between low high first last h.1.0 in
+        let rest = entries_order_from vxr (suc last) high entries (subst (λ (z : ℤ). Hold (used_rows b records vxr z (pos high) entries)) o.last_is h.1.1) in
+        ((o.low_first, o.first_last, o.last_high, rest.0), ap (λ (z : ℤ). end_of z entries) o.last_is ∙ rest.1)
+    entries_order_from vxr low high (lower first last nodes entries) h =
+        let o = between low high first last h.0 in
+        let p = Hold-split (unread_lower vxr ++ nodes_rows b records (number_before first) (with_sign last) nodes) (used_rows b records vxr (with_sign last) (pos high) entries) h.1 in
+        let q = Hold-split (unread_lower vxr) (nodes_rows b records (number_before first) (with_sign last) nodes) p.0 in
+        let below = subst (λ (z : ℤ). Hold (nodes_rows b records z (with_sign last) nodes)) (before_is first o.first_is) q.1 in
+        let rest = entries_order_from vxr (suc last) high entries (subst (λ (z : ℤ). Hold (used_rows b records vxr z (pos high) entries)) o.last_is p.1) in
+        ((o.low_first, o.first_last, o.last_high, order_from first last nodes (subst (λ (z : ℤ). Hold (nodes_rows b records (before_number first) z nodes)) o.last_is below), rest.0), ap (λ (z : ℤ). end_of z entries) o.last_is ∙ rest.1)
+
+rows_of : (f : ℕ → List Row) (before : List VariableShape) (v : VariableShape) (after : List VariableShape) → Hold (flat_map f (vdrs (before ++ v ∷ after))) → Hold (f v.vdr)
+rows_of f [] v after h = (Hold-split (f v.vdr) (flat_map f (vdrs after)) h).0
+rows_of f (w ∷ before) v after h = rows_of f before v after (Hold-split (f w.vdr) (flat_map f (vdrs (before ++ v ∷ after))) h).1
+
+blocks_from : (b records : List ℕ) (vdr : ℕ) (leaves : List Leaf) → tiles b ≡ records → Each (LeafFits b records vdr) leaves → Each (IsBlock b) leaves
+blocks_from b records vdr [] t h = tt
+blocks_from b records vdr (leaf ∷ more) t h = (ap (λ (x : List ℕ). is_block b x leaf.place) t ∙ h.0.0, blocks_from b records vdr more t h.1)
+
+-- ---- the walk from a link alone
+
+never_lost : {A : Type 0} (place : ℕ) (seen : List ℕ) (a : A) → lost place ≡ met seen a → ⊥
+never_lost {A} place seen a e = subst is_lost e tt
+  where
+    is_lost : Met A → Type 0
+    is_lost (met seen a) = ⊥
+    is_lost (lost place) = Unit {0}
+
+-- the record that holds the link matters only where the walk leads wrong
+any_holder : (below : List ℕ → ℕ → ℕ → Met Nodes) (most : ℕ) (b ts seen : List ℕ) (holder other link : ℕ) (all : List ℕ) (nodes : Nodes) → nodes_on below most b ts seen holder link ≡ met all nodes → nodes_on below most b ts seen other link ≡ met all nodes
+unfolding nodes_on
+any_holder below zero b ts seen holder other link all nodes e = elim (either (eqb link 0)) [ inl t ↦ rw t (rw t at e) | inr t ↦ absurd (never_lost holder all nodes (rw t at e)) ]
+any_holder below (suc most) b ts seen holder other link all nodes e =
+    elim (either (eqb link 0)) [
+      | inl t ↦ rw t (rw t at e)
+      | inr t ↦ elim (either (is_linkable b ts vxr_type link && not (is_in link seen))) [ inl u ↦ rw (t, u) (rw (t, u) at e) | inr u ↦ absurd (never_lost holder all nodes (rw (t, u) at e)) ]
+    ]
+
+index_at_is : (b : List ℕ) (upto vdr : ℕ) (nodes : Nodes) → AreTiles b 8 upto (tiles b) → IsIndex b (tiles b) (number b vdr vdr_vxr_head) nodes → index_at b (number b vdr vdr_vxr_head) ≡ nodes
+unfolding levels_on
+index_at_is b upto vdr nodes t x = ap nodes_met (any_holder (levels_on 7 b (tiles b)) (length (tiles b)) b (tiles b) [] vdr 0 (number b vdr vdr_vxr_head) (nodes_of nodes) nodes (index_complete b (tiles b) upto vdr vdr_vxr_head nodes t x))
+
+pub good_index : (b : List ℕ) (s : Shape) (before : List VariableShape) (v : VariableShape) (after : List VariableShape) → IsGoodImage b s → IsSound b s → variables s ≡ before ++ v ∷ after → HasIndex b (number b v.vdr vdr_vxr_head) × (index_at b (number b v.vdr vdr_vxr_head) ≡ v.index)
+good_index b s before v after good sound all =
+    let h = good.has_shape in
+    let t = tiles_are b s h in
+    let tiled : AreTiles b 8 (length b) (tiles b) = subst (λ (x : List ℕ). AreTiles b 8 (length b) x) (sym t) h.tiled in
+    let has = (Each-split (HasVariable b s.records) before (v ∷ after) (subst (Each (HasVariable b s.records)) all h.have_variables)).1.0 in
+    let fits = (Each-split (VariableFits b s.records) before (v ∷ after) (subst (Each (VariableFits b s.records)) all sound.variables_fit)).1.0 in
+    let index : IsIndex b (tiles b) (number b v.vdr vdr_vxr_head) v.index = subst (λ (x : List ℕ). IsIndex b x (number b v.vdr vdr_vxr_head) v.index) (sym t) has.indexed in
+    let same = index_at_is b (length b) v.vdr v.index tiled index in
+    let found = index_complete b s.records (length b) v.vdr vdr_vxr_head v.index h.tiled has.indexed in
+    let rows = subst (λ (m : Met Nodes). Hold (met_rows b s.records v.vdr m)) found (rows_of (λ vdr. met_rows b s.records vdr (index_of b s.records vdr)) before v after (subst (λ (x : List VariableShape). Hold (phase8 b s.records (vdrs x))) all good.phases.1.1.1.0)) in
+    let order = order_from b s.records 0 record_number_limit v.index (Hold-split (nodes_rows b s.records (negsuc 0) (pos record_number_limit) v.index) (flat_map (leaf_rows b s.records v.vdr) (leaves_of v.index)) rows).0 in (
+      record {
+        tiled = tiled;
+        index = subst (λ (x : Nodes). IsIndex b (tiles b) (number b v.vdr vdr_vxr_head) x) (sym same) index;
+        fits = subst (λ (x : Nodes). Each (NodeFits b) (nodes_of x)) (sym same) fits.1;
+        blocks = subst (λ (x : Nodes). Each (IsBlock b) (leaves_of x)) (sym same) (blocks_from b s.records v.vdr (leaves_of v.index) t fits.2);
+        order = subst (λ (x : Nodes). InOrder 0 record_number_limit x) (sym same) order;
+      },
+      same,
+    )

@@ -1,0 +1,5 @@
+pub mod OrderLemmas
+pub mod Looking
+pub mod Scanning
+pub mod Searching
+pub mod GoodIndex

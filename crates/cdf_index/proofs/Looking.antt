@@ -1,0 +1,289 @@
+-- What is read at one node leads the search on.
+use Rattle.std.proofs.Common.{◌≡◌, ◌≢◌, ◌⊎◌, ℕ, zero, suc, ◌+◌, ◌*◌, ◌<◌, ◌≤◌, List, length, Bool, true, false, ◌||◌, ltb, eqb, refl, sym, ap, subst, ◌∙◌, arith, inl, inr, Option, Some, None, if◌then◌else◌}
+use Rattle.std.proofs.lemmas.Bool.Decides.{nat_tests}
+use Rattle.std.proofs.lemmas.List.{length-append}
+use Rattle.cdf_format.specs.Sound.{NodeFits}
+use Rattle.cdf_format.specs.Chains.{is_a, is_linkable, next_of}
+use Rattle.cdf_format.specs.Fields.{word, type_at}
+use Rattle.cdf_format.specs.Index.{Nodes, no_node, node, Entries, no_entry, block, lower, Leaf, leaf, nodes_of, lower_nodes, leaves_of, entry_leaves, entry_count, link_to, room_at, used_count, first_at, last_at, offset_at}
+use Rattle.cdf_format.specs.IndexOf.{SayEntries, SaysNode, IsNode, HasNodes, Names}
+use Rattle.cdf_format.specs.RecordTypes.{vxr_type, vvr_type, cvvr_type}
+use Rattle.cdf_format.specs.Shape.{Each}
+use Rattle.cdf_format.specs.Tiles.{In, AreTiles, tiles}
+use Rattle.cdf_format.proofs.ChainsLemmas.{is_a-in, is_a-type, linkable-in, linkable-type}
+use Rattle.cdf_format.proofs.Members.{either}
+use Rattle.cdf_format.proofs.ShapeLemmas.{Each-split}
+use Rattle.cdf_format.proofs.TilesLemmas.{tile_lies}
+use Rattle.cdf_index.specs.Order.{find_in, find_entry, passed, NextsAreZero, LowerAreZero}
+use Rattle.cdf_index.specs.Finding.{IsBlock, Stands, SomeNode, NodeInside, Onward}
+
+-- without the first entries that end before a record
+abbrev pub rest : ℕ → Entries → Entries
+rest rec no_entry = no_entry
+rest rec (block first last place packed entries) = if ltb last rec then rest rec entries else block first last place packed entries
+rest rec (lower first last nodes entries) = if ltb last rec then rest rec entries else lower first last nodes entries
+
+-- the first of the entries ends at the record or later
+abbrev pub Ends : ℕ → Entries → Type 0
+Ends rec no_entry = Unit {0}
+Ends rec (block first last place packed entries) = ltb last rec ≡ false
+Ends rec (lower first last nodes entries) = ltb last rec ≡ false
+
+-- what is left of the entries of a node without the first n, from number i on
+pub record Left (b : List ℕ) (rec levels at i n : ℕ) (entries left : Entries) : Type 0 where
+  pub same : (other : Option Leaf) → find_entry rec entries other ≡ find_entry rec left other
+  pub say : SayEntries b at i left
+  pub names : Names b (tiles b) levels left
+  pub fits : Each (NodeFits b) (lower_nodes left)
+  pub blocks : Each (IsBlock b) (entry_leaves left)
+  pub ends : Ends rec left
+  pub many : n + entry_count left ≡ entry_count entries
+  pub fewer : length (lower_nodes left) ≤ length (lower_nodes entries)
+  pub zero : LowerAreZero entries → LowerAreZero left
+
+left_all : (b : List ℕ) (rec levels at i : ℕ) (entries : Entries) → SayEntries b at i entries → Names b (tiles b) levels entries → Each (NodeFits b) (lower_nodes entries) → Each (IsBlock b) (entry_leaves entries) → Ends rec entries
+    → Left b rec levels at (i + 0) 0 entries entries
+left_all b rec levels at i entries s n f k e =
+    let z : i + 0 ≡ i = omega arith in
+    rw z (record { same = λ other. refl; say = s; names = n; fits = f; blocks = k; ends = e; many = omega arith; fewer = omega arith; zero = λ o. o })
+
+left_over : (b : List ℕ) (rec levels at i : ℕ) (entries : Entries) → SayEntries b at i entries → Names b (tiles b) levels entries → Each (NodeFits b) (lower_nodes entries) → Each (IsBlock b) (entry_leaves entries)
+    → Left b rec levels at (i + passed rec entries) (passed rec entries) entries (rest rec entries)
+unfolding Names lower_nodes entry_leaves find_in find_entry LowerAreZero
+left_over b rec levels at i no_entry s n f k = left_all b rec levels at i no_entry s n f k tt
+left_over b rec levels at i (block first last place packed entries) s n f k = elim (either (ltb last rec)) [
+  | inl t ↦
+      let r = left_over b rec levels at (suc i) entries s.1 n.2 f k.1 in
+      let e : i + suc (passed rec entries) ≡ suc i + passed rec entries = omega arith in
+      let m = r.many in
+      rw t (rw e (record { same = λ other. rw t (r.same other); say = r.say; names = r.names; fits = r.fits; blocks = r.blocks; ends = r.ends; many = omega arith; fewer = r.fewer; zero = r.zero }))
+  | inr t ↦ rw t (left_all b rec levels at i (block first last place packed entries) s n f k t)
+]
+left_over b rec levels at i (lower first last nodes entries) s n f k = elim (either (ltb last rec)) [
+  | inl t ↦
+      let fs = Each-split (NodeFits b) (nodes_of nodes) (lower_nodes entries) f in
+      let ks = Each-split (IsBlock b) (leaves_of nodes) (entry_leaves entries) k in
+      let r = left_over b rec levels at (suc i) entries s.1 n.2 fs.1 ks.1 in
+      let e : i + suc (passed rec entries) ≡ suc i + passed rec entries = omega arith in
+      let m = r.many in
+      let w = r.fewer in
+      rw t (rw e (record { same = λ other. rw t (r.same other); say = r.say; names = r.names; fits = r.fits; blocks = r.blocks; ends = r.ends; many = omega arith; fewer = omega (arith, length-append (nodes_of nodes) (lower_nodes entries)); zero = λ z. r.zero z.1 }))
+  | inr t ↦ rw t (left_all b rec levels at i (lower first last nodes entries) s n f k t)
+]
+
+-- what was read of a node: the number of the first entry that counts
+pub record Scanned (b : List ℕ) (rec at i : ℕ) : Type 0 where
+  pub pass : (entries : Entries) → used_count b at ≡ entry_count entries → SayEntries b at 0 entries → i ≡ passed rec entries
+  pub most : i ≤ used_count b at
+
+-- what was read of an entry
+pub record ReadEntry (b : List ℕ) (at i first last place type : ℕ) : Type 0 where
+  pub first_is : first ≡ first_at b at i
+  pub last_is : last ≡ last_at b at i
+  pub place_is : place ≡ offset_at b at i
+  pub type_is : type ≡ type_at b place
+
+-- a node that stands, and what is left of its entries
+pub record Looked (b : List ℕ) (rec levels at i room : ℕ) (entries : Entries) (more : Nodes) : Type 0 where
+  pub says : SaysNode b (tiles b) at room entries more
+  pub left : Entries
+  pub over : Left b rec levels at i i entries left
+  pub more_stands : Stands b (suc levels) more
+
+looked : (b : List ℕ) (rec levels at i room : ℕ) (entries : Entries) (more : Nodes) → Stands b (suc levels) (node at room entries more) → Scanned b rec at i → Looked b rec levels at i room entries more
+unfolding HasNodes nodes_of leaves_of
+looked b rec levels at i room entries more st s =
+    let h = st.has in
+    let fs = Each-split (NodeFits b) (lower_nodes entries) (nodes_of more) st.fits.1 in
+    let ks = Each-split (IsBlock b) (entry_leaves entries) (leaves_of more) st.blocks in
+    let e : i ≡ passed rec entries = s.pass entries h.0.used_is h.0.say_entries in
+    record {
+      says = h.0;
+      left = rest rec entries;
+      over = rw e (let z : 0 + passed rec entries ≡ passed rec entries = omega arith in rw z at (left_over b rec levels at 0 entries h.0.say_entries h.1 fs.0 ks.0));
+      more_stands = record { has = h.2; fits = fs.1; blocks = ks.1 };
+    }
+
+zero_entries : (place room : ℕ) (entries : Entries) (more : Nodes) → NextsAreZero (node place room entries more) → LowerAreZero entries
+unfolding NextsAreZero LowerAreZero
+zero_entries place room entries no_node z = z
+zero_entries place room entries (node place' room' entries' more) z = absurd z
+
+-- ---- the whole node was passed
+
+passed_all : (b : List ℕ) (rec levels at i : ℕ) (entries left : Entries) → Left b rec levels at i i entries left → i ≡ entry_count entries → (other : Option Leaf) → find_entry rec entries other ≡ other
+unfolding find_in find_entry
+passed_all b rec levels at i entries no_entry l e other = l.same other
+passed_all b rec levels at i entries (block first last place packed left) l e other = absurd (omega (arith, l.many))
+passed_all b rec levels at i entries (lower first last nodes left) l e other = absurd (omega (arith, l.many))
+
+-- at the end of a chain no level is needed any more
+onward_more : (b : List ℕ) (rec levels at room link : ℕ) (entries : Entries) (more : Nodes) → Stands b (suc levels) more → link ≡ link_to more → find_in rec more ≡ find_in rec (node at room entries more)
+    → Onward b rec (suc levels) (node at room entries more) link
+unfolding HasNodes nodes_of lower_nodes leaves_of NextsAreZero LowerAreZero
+onward_more b rec levels at room link entries no_node st e same =
+    record { down = levels; left = no_node; stands = record { has = tt; fits = tt; blocks = tt }; link_is = e; same = same; fewer = omega arith; zero = λ z. (tt, omega arith) }
+onward_more b rec levels at room link entries (node place' room' entries' more) st e same =
+    record { down = suc levels; left = node place' room' entries' more; stands = st; link_is = e; same = same; fewer = omega (arith, length-append (lower_nodes entries) (nodes_of (node place' room' entries' more))); zero = λ z. absurd z }
+
+pub look_next : (b : List ℕ) (rec levels i link : ℕ) (nodes : Nodes) → Stands b levels nodes → IsNode nodes → Scanned b rec (link_to nodes) i → i ≡ used_count b (link_to nodes) → link ≡ next_of b (link_to nodes) → Onward b rec levels nodes link
+unfolding HasNodes find_in find_entry
+look_next b rec levels i link no_node st is s e x = absurd is
+look_next b rec zero i link (node place room entries more) st is s e x = absurd st.has
+look_next b rec (suc levels) i link (node place room entries more) st is s e x =
+    let l = looked b rec levels place i room entries more st s in
+    onward_more b rec levels place room link entries more l.more_stands (x ∙ l.says.next_is) (sym (passed_all b rec levels place i entries l.left l.over (e ∙ l.says.used_is) (find_in rec more)))
+
+-- ---- an entry tells
+
+nothing_there : (b : List ℕ) (rec levels at i first : ℕ) (entries left : Entries) → Left b rec levels at i i entries left → i < entry_count entries → first ≡ first_at b at i → rec < first → (other : Option Leaf) → find_entry rec entries other ≡ None
+unfolding find_in find_entry
+nothing_there b rec levels at i first entries no_entry l lt q h other = absurd (omega (arith, l.many))
+nothing_there b rec levels at i first entries (block f la place packed left) l lt q h other =
+    let e : first ≡ f = q ∙ l.say.0.first_is in
+    let t : ltb la rec ≡ false = l.ends in
+    let u : ltb rec f ≡ true = grind (arith, nat_tests) in
+    l.same other ∙ rw (t, u) refl
+nothing_there b rec levels at i first entries (lower f la nodes left) l lt q h other =
+    let e : first ≡ f = q ∙ l.say.0.first_is in
+    let t : ltb la rec ≡ false = l.ends in
+    let u : ltb rec f ≡ true = grind (arith, nat_tests) in
+    l.same other ∙ rw (t, u) refl
+
+below_used : (i u c : ℕ) → i ≢ u → i ≤ u → u ≡ c → i < c
+below_used i u c ne le e = omega arith
+
+pub look_nothing : (b : List ℕ) (rec levels i first : ℕ) (nodes : Nodes) → Stands b levels nodes → IsNode nodes → Scanned b rec (link_to nodes) i → i ≢ used_count b (link_to nodes) → first ≡ first_at b (link_to nodes) i → rec < first → find_in rec nodes ≡ None
+unfolding HasNodes find_in find_entry
+look_nothing b rec levels i first no_node st is s ne q h = absurd is
+look_nothing b rec zero i first (node place room entries more) st is s ne q h = absurd st.has
+look_nothing b rec (suc levels) i first (node place room entries more) st is s ne q h =
+    let l = looked b rec levels place i room entries more st s in
+    nothing_there b rec levels place i first entries l.left l.over (below_used i (used_count b place) (entry_count entries) ne s.most l.says.used_is) q h (find_in rec more)
+
+or_cases : (p q : Bool) → (p || q) ≡ true → (p ≡ true) ⊎ (q ≡ true)
+or_cases true q e = inl refl
+or_cases false q e = inr e
+
+-- a block is a VVR or a CVVR, and it stands in the image
+pub block_type : (b : List ℕ) (l : Leaf) → IsBlock b l → (type_at b l.place ≡ vvr_type) ⊎ (type_at b l.place ≡ cvvr_type)
+block_type b l e = elim (or_cases (is_a b (tiles b) vvr_type l.place) (is_a b (tiles b) cvvr_type l.place) e) [ inl p ↦ inl (is_a-type b (tiles b) vvr_type l.place p) | inr p ↦ inr (is_a-type b (tiles b) cvvr_type l.place p) ]
+
+pub block_in : (b : List ℕ) (l : Leaf) → IsBlock b l → In l.place (tiles b)
+block_in b l e = elim (or_cases (is_a b (tiles b) vvr_type l.place) (is_a b (tiles b) cvvr_type l.place) e) [ inl p ↦ is_a-in b (tiles b) vvr_type l.place p | inr p ↦ is_a-in b (tiles b) cvvr_type l.place p ]
+
+pub no_node_type : (t : ℕ) → (t ≡ vvr_type) ⊎ (t ≡ cvvr_type) → t ≡ 6 → ⊥
+no_node_type t (inl e) z = omega arith
+no_node_type t (inr e) z = omega arith
+
+pub node_linkable : (b : List ℕ) (levels : ℕ) (nodes : Nodes) → IsNode nodes → HasNodes b (tiles b) levels nodes → is_linkable b (tiles b) vxr_type (link_to nodes) ≡ true
+unfolding HasNodes
+node_linkable b levels no_node is h = absurd is
+node_linkable b zero (node place room entries more) is h = absurd h
+node_linkable b (suc levels) (node place room entries more) is h = h.0.linkable
+
+onward_lower : (b : List ℕ) (rec levels at i room first place type : ℕ) (entries left : Entries) (more : Nodes) → Left b rec levels at i i entries left → i < entry_count entries → first ≡ first_at b at i → place ≡ offset_at b at i → type ≡ type_at b place → first ≤ rec → type ≡ 6
+    → Onward b rec (suc levels) (node at room entries more) place
+unfolding find_in find_entry Names HasNodes nodes_of lower_nodes leaves_of entry_leaves NextsAreZero LowerAreZero
+onward_lower b rec levels at i room first place type entries no_entry more l lt qf qp qt h k = absurd (omega (arith, l.many))
+onward_lower b rec levels at i room first place type entries (block f la p packed left) more l lt qf qp qt h k =
+    let e : place ≡ p = qp ∙ l.say.0.offset_is in
+    absurd (no_node_type (type_at b p) (block_type b (leaf f la p packed) l.blocks.0) (ap (type_at b) (sym e) ∙ sym qt ∙ k))
+onward_lower b rec levels at i room first place type entries (lower f la nodes left) more l lt qf qp qt h k =
+    let e : first ≡ f = qf ∙ l.say.0.first_is in
+    let t : ltb la rec ≡ false = l.ends in
+    let u : ltb rec f ≡ false = grind (arith, nat_tests) in
+    let fs = Each-split (NodeFits b) (nodes_of nodes) (lower_nodes left) l.fits in
+    let ks = Each-split (IsBlock b) (leaves_of nodes) (entry_leaves left) l.blocks in
+    let same : find_entry rec entries (find_in rec more) ≡ find_in rec nodes = l.same (find_in rec more) ∙ rw (t, u) refl in
+    record {
+      down = levels;
+      left = nodes;
+      stands = record { has = l.names.1; fits = fs.0; blocks = ks.0 };
+      link_is = qp ∙ l.say.0.offset_is;
+      same = sym same;
+      fewer = omega (arith, length-append (lower_nodes entries) (nodes_of more), length-append (nodes_of nodes) (lower_nodes left), l.fewer);
+      zero = λ z. ((l.zero (zero_entries at room entries more z)).0, omega arith);
+    }
+
+pub look_below : (b : List ℕ) (rec levels i first place type : ℕ) (nodes : Nodes) → Stands b levels nodes → IsNode nodes → Scanned b rec (link_to nodes) i → i ≢ used_count b (link_to nodes) → first ≡ first_at b (link_to nodes) i → place ≡ offset_at b (link_to nodes) i → type ≡ type_at b place
+    → first ≤ rec → type ≡ 6 → Onward b rec levels nodes place
+unfolding HasNodes
+look_below b rec levels i first place type no_node st is s ne qf qp qt h k = absurd is
+look_below b rec zero i first place type (node at room entries more) st is s ne qf qp qt h k = absurd st.has
+look_below b rec (suc levels) i first place type (node at room entries more) st is s ne qf qp qt h k =
+    let l = looked b rec levels at i room entries more st s in
+    onward_lower b rec levels at i room first place type entries l.left more l.over (below_used i (used_count b at) (entry_count entries) ne s.most l.says.used_is) qf qp qt h k
+
+found_there : (b : List ℕ) (rec levels at i first last place type : ℕ) (entries left : Entries) → Left b rec levels at i i entries left → i < entry_count entries → ReadEntry b at i first last place type → first ≤ rec → type ≢ 6 → (other : Option Leaf)
+    → find_entry rec entries other ≡ Some (leaf first last place (eqb type 13))
+unfolding find_in find_entry Names
+found_there b rec levels at i first last place type entries no_entry l lt q h k other = absurd (omega (arith, l.many))
+found_there b rec levels at i first last place type entries (block f la p packed left) l lt q h k other =
+    let e : first ≡ f = q.first_is ∙ l.say.0.first_is in
+    let el : last ≡ la = q.last_is ∙ l.say.0.last_is in
+    let ep : place ≡ p = q.place_is ∙ l.say.0.offset_is in
+    let t : ltb la rec ≡ false = l.ends in
+    let u : ltb rec f ≡ false = grind (arith, nat_tests) in
+    let ek : eqb type 13 ≡ packed = ap (λ (x : ℕ). eqb x 13) (q.type_is ∙ ap (type_at b) ep) ∙ l.names.1 in
+    l.same other ∙ rw (t, u) (rw (ek, el, ep, e) refl)
+found_there b rec levels at i first last place type entries (lower f la nodes left) l lt q h k other =
+    let ep : place ≡ link_to nodes = q.place_is ∙ l.say.0.offset_is in
+    absurd (k (q.type_is ∙ ap (type_at b) ep ∙ linkable-type b (tiles b) vxr_type (link_to nodes) (node_linkable b levels nodes l.names.0 l.names.1)))
+
+pub look_found : (b : List ℕ) (rec levels i first last place type : ℕ) (nodes : Nodes) → Stands b levels nodes → IsNode nodes → Scanned b rec (link_to nodes) i → i ≢ used_count b (link_to nodes) → ReadEntry b (link_to nodes) i first last place type → first ≤ rec → type ≢ 6
+    → find_in rec nodes ≡ Some (leaf first last place (eqb type 13))
+unfolding HasNodes find_in find_entry
+look_found b rec levels i first last place type no_node st is s ne q h k = absurd is
+look_found b rec zero i first last place type (node at room entries more) st is s ne q h k = absurd st.has
+look_found b rec (suc levels) i first last place type (node at room entries more) st is s ne q h k =
+    let l = looked b rec levels at i room entries more st s in
+    found_there b rec levels at i first last place type entries l.left l.over (below_used i (used_count b at) (entry_count entries) ne s.most l.says.used_is) q h k (find_in rec more)
+
+-- ---- where it is safe to read
+
+named_in : (b : List ℕ) (rec levels at i place : ℕ) (entries left : Entries) → Left b rec levels at i i entries left → i < entry_count entries → place ≡ offset_at b at i → In place (tiles b)
+unfolding Names entry_leaves
+named_in b rec levels at i place entries no_entry l lt q = absurd (omega (arith, l.many))
+named_in b rec levels at i place entries (block f la p packed left) l lt q = subst (λ (x : ℕ). In x (tiles b)) (sym (q ∙ l.say.0.offset_is)) (block_in b (leaf f la p packed) l.blocks.0)
+named_in b rec levels at i place entries (lower f la nodes left) l lt q =
+    subst (λ (x : ℕ). In x (tiles b)) (sym (q ∙ l.say.0.offset_is)) (linkable-in b (tiles b) vxr_type (link_to nodes) (node_linkable b levels nodes l.names.0 l.names.1))
+
+node_named_in : (b : List ℕ) (rec levels i place : ℕ) (nodes : Nodes) → Stands b levels nodes → IsNode nodes → Scanned b rec (link_to nodes) i → i ≢ used_count b (link_to nodes) → place ≡ offset_at b (link_to nodes) i → In place (tiles b)
+unfolding HasNodes
+node_named_in b rec levels i place no_node st is s ne q = absurd is
+node_named_in b rec zero i place (node at room entries more) st is s ne q = absurd st.has
+node_named_in b rec (suc levels) i place (node at room entries more) st is s ne q =
+    let l = looked b rec levels at i room entries more st s in
+    named_in b rec levels at i place entries l.left l.over (below_used i (used_count b at) (entry_count entries) ne s.most l.says.used_is) q
+
+pub named_inside : (b : List ℕ) (rec at i place : ℕ) → SomeNode b at → Scanned b rec at i → i ≢ used_count b at → place ≡ offset_at b at i → place + 12 ≤ length b
+named_inside b rec at i place n s ne q =
+    let e = n.link in
+    let there = node_named_in b rec n.levels i place n.nodes n.stands n.is_node (subst (λ (x : ℕ). Scanned b rec x i) e s) (subst (λ (x : ℕ). i ≢ used_count b x) e ne) (subst (λ (x : ℕ). place ≡ offset_at b x i) e q) in
+    let lies = tile_lies b 8 (length b) (tiles b) place n.tiled there in
+    omega (arith, lies.high, lies.long)
+
+inside_at : (b : List ℕ) (levels : ℕ) (nodes : Nodes) → AreTiles b 8 (length b) (tiles b) → Stands b levels nodes → IsNode nodes → NodeInside b (link_to nodes)
+unfolding HasNodes nodes_of
+inside_at b levels no_node t st is = absurd is
+inside_at b zero (node place room entries more) t st is = absurd st.has
+inside_at b (suc levels) (node place room entries more) t st is =
+    let lies = tile_lies b 8 (length b) (tiles b) place t (linkable-in b (tiles b) vxr_type place st.has.0.linkable) in
+    let fits = st.fits.0 in
+    let f0 = fits.0 in
+    record { low = lies.low; inside = lies.high; room = omega (arith, lies.high); entries = f0; fits = fits.1 }
+
+pub node_inside : (b : List ℕ) (at : ℕ) → SomeNode b at → NodeInside b at
+node_inside b at n = subst (λ (x : ℕ). NodeInside b x) (sym n.link) (inside_at b n.levels n.nodes n.tiled n.stands n.is_node)
+
+-- ---- what code read
+
+pub read_first : (b now : List ℕ) (at i first : ℕ) → now ≡ b → first ≡ word now (at + (28 + 4 * i)) 4 → first ≡ first_at b at i
+read_first b now at i first e w = w ∙ ap (λ (x : List ℕ). word x (at + (28 + 4 * i)) 4) e
+
+pub read_place : (b now : List ℕ) (at room i place : ℕ) → now ≡ b → room ≡ room_at b at → place ≡ word now (at + (28 + 8 * room + 8 * i)) 8 → place ≡ offset_at b at i
+read_place b now at room i place e r w = w ∙ ap (λ (x : List ℕ). word x (at + (28 + 8 * room + 8 * i)) 8) e ∙ ap (λ (n : ℕ). word b (at + (28 + 8 * n + 8 * i)) 8) r
+
+pub read_type : (b now : List ℕ) (place type : ℕ) → now ≡ b → type ≡ word now (place + 8) 4 → type ≡ type_at b place
+read_type b now place type e w = w ∙ ap (λ (x : List ℕ). word x (place + 8) 4) e

@@ -1,0 +1,108 @@
+-- The leaf that has a record, found on the way down.
+use Rattle.std.proofs.Common.{◌≡◌, ℕ, suc, ◌<◌, ◌≤◌, List, [], ◌∷◌, ◌++◌, true, false, ltb, append_assoc, refl, sym, ◌∙◌, arith, inl, inr, Option, None}
+use Rattle.std.proofs.lemmas.Bool.Decides.{nat_tests}
+use Rattle.cdf_format.specs.Index.{Nodes, no_node, node, Entries, no_entry, block, lower, Leaf, leaves_of, entry_leaves}
+use Rattle.cdf_format.proofs.Members.{either}
+use Rattle.cdf_index.specs.Order.{past_entries, InOrder, AreInOrder, leaf_of, find_in, find_entry}
+
+-- each of the leaves has records from low to high alone
+abbrev pub Within : ℕ → ℕ → List Leaf → Type 0
+Within low high [] = Unit {0}
+Within low high (x ∷ xs) = (low ≤ x.first) × (x.first ≤ x.last) × (x.last ≤ high) × Within low high xs
+
+pub within_append : (low high : ℕ) (xs ys : List Leaf) → Within low high xs → Within low high ys → Within low high (xs ++ ys)
+within_append low high [] ys v w = w
+within_append low high (x ∷ xs) ys v w = (v.0, v.1, v.2, within_append low high xs ys v.3 w)
+
+pub within_more : (low high low' high' : ℕ) (xs : List Leaf) → Within low high xs → low' ≤ low → high ≤ high' → Within low' high' xs
+within_more low high low' high' [] w l h = tt
+within_more low high low' high' (x ∷ xs) w l h = let w0 = w.0 in let w2 = w.2 in (omega arith, w.1, omega arith, within_more low high low' high' xs w.3 l h)
+
+mutual
+  unfolding InOrder AreInOrder leaves_of entry_leaves
+
+  pub leaves_within : (low high : ℕ) (nodes : Nodes) → InOrder low high nodes → Within low high (leaves_of nodes)
+  leaves_within low high no_node o = tt
+  leaves_within low high (node place room entries more) o =
+      within_append low high (entry_leaves entries) (leaves_of more) (entries_within low high entries o.0) (within_more (past_entries low entries) high low high (leaves_of more) (leaves_within (past_entries low entries) high more o.1) (end_after low high entries o.0) (omega arith))
+
+  pub entries_within : (low high : ℕ) (entries : Entries) → AreInOrder low high entries → Within low high (entry_leaves entries)
+  entries_within low high no_entry o = tt
+  entries_within low high (block first last place packed entries) o =
+      let o0 = o.0 in let o1 = o.1 in (o.0, o.1, o.2, within_more (suc last) high low high (entry_leaves entries) (entries_within (suc last) high entries o.3) (omega arith) (omega arith))
+  entries_within low high (lower first last nodes entries) o =
+      let o0 = o.0 in
+      let o1 = o.1 in
+      let o2 = o.2 in
+      within_append low high (leaves_of nodes) (entry_leaves entries)
+      (within_more first last low high (leaves_of nodes) (leaves_within first last nodes o.3) o0 o2)
+      (within_more (suc last) high low high (entry_leaves entries) (entries_within (suc last) high entries o.4) (omega arith) (omega arith))
+
+  pub end_after : (low high : ℕ) (entries : Entries) → AreInOrder low high entries → low ≤ past_entries low entries
+  end_after low high no_entry o = omega arith
+  end_after low high (block first last place packed entries) o = let o0 = o.0 in let o1 = o.1 in let r = end_after (suc last) high entries o.3 in omega arith
+  end_after low high (lower first last nodes entries) o = let o0 = o.0 in let o1 = o.1 in let r = end_after (suc last) high entries o.4 in omega arith
+
+-- leaves before a record, and leaves past it, do not have it
+pub leaf_behind : (rec low high : ℕ) (xs ys : List Leaf) → Within low high xs → high < rec → leaf_of rec (xs ++ ys) ≡ leaf_of rec ys
+leaf_behind rec low high [] ys w h = refl
+leaf_behind rec low high (x ∷ xs) ys w h = let r = leaf_behind rec low high xs ys w.3 h in let w2 = w.2 in grind (arith, nat_tests)
+
+pub no_leaf : (rec low high : ℕ) (xs : List Leaf) → Within low high xs → rec < low → leaf_of rec xs ≡ None
+no_leaf rec low high [] w h = refl
+no_leaf rec low high (x ∷ xs) w h = let r = no_leaf rec low high xs w.3 h in let w0 = w.0 in grind (arith, nat_tests)
+
+pub leaf_before : (rec low high : ℕ) (xs ys : List Leaf) → Within low high ys → rec < low → leaf_of rec (xs ++ ys) ≡ leaf_of rec xs
+leaf_before rec low high [] ys w h = no_leaf rec low high ys w h
+leaf_before rec low high (x ∷ xs) ys w h = let r = leaf_before rec low high xs ys w h in grind (arith, nat_tests)
+
+pub lt_of : (m n : ℕ) → ltb m n ≡ true → m < n
+lt_of m n t = grind (arith, nat_tests)
+
+pub ge_of : (m n : ℕ) → ltb m n ≡ false → n ≤ m
+ge_of m n t = grind (arith, nat_tests)
+
+-- what comes behind entries, with them
+behind : (low high : ℕ) (entries : Entries) (zs : List Leaf) → AreInOrder low high entries → Within (past_entries low entries) high zs → Within low high (entry_leaves entries ++ zs)
+behind low high entries zs o w = let e = end_after low high entries o in within_append low high (entry_leaves entries) zs (entries_within low high entries o) (within_more (past_entries low entries) high low high zs w e (omega arith))
+
+mutual
+  unfolding InOrder AreInOrder leaves_of entry_leaves find_in find_entry
+
+  -- a search on the way down finds the leaf
+  pub find_is : (rec low high : ℕ) (nodes : Nodes) → InOrder low high nodes → find_in rec nodes ≡ leaf_of rec (leaves_of nodes)
+  find_is rec low high no_node o = refl
+  find_is rec low high (node place room entries more) o = find_entry_is rec low high entries (leaves_of more) (find_in rec more) o.0 (leaves_within (past_entries low entries) high more o.1) (find_is rec (past_entries low entries) high more o.1)
+
+  find_entry_is : (rec low high : ℕ) (entries : Entries) (zs : List Leaf) (other : Option Leaf) → AreInOrder low high entries → Within (past_entries low entries) high zs → other ≡ leaf_of rec zs
+      → find_entry rec entries other ≡ leaf_of rec (entry_leaves entries ++ zs)
+  find_entry_is rec low high no_entry zs other o w e = e
+  find_entry_is rec low high (block first last place packed entries) zs other o w e =
+      let r = find_entry_is rec (suc last) high entries zs other o.3 w e in
+      let tail = behind (suc last) high entries zs o.3 w in
+      elim (either (ltb last rec)) [
+        | inl t ↦ let lt = lt_of last rec t in rw (t, r) (grind (arith, nat_tests))
+        | inr t ↦
+            let ge = ge_of last rec t in
+            let none = no_leaf rec (suc last) high (entry_leaves entries ++ zs) tail (omega arith) in
+            elim (either (ltb rec first)) [
+              | inl u ↦ let lt = lt_of rec first u in rw (t, u) (grind (arith, nat_tests))
+              | inr u ↦ let le = ge_of rec first u in rw (t, u) (grind (arith, nat_tests))
+            ]
+      ]
+  find_entry_is rec low high (lower first last nodes entries) zs other o w e =
+      let tail = behind (suc last) high entries zs o.4 w in
+      let inner = leaves_within first last nodes o.3 in
+      let assoc = append_assoc (leaves_of nodes) (entry_leaves entries) zs in
+      elim (either (ltb last rec)) [
+        | inl t ↦
+            let lt = lt_of last rec t in
+            rw (t, assoc) (find_entry_is rec (suc last) high entries zs other o.4 w e ∙ sym (leaf_behind rec first last (leaves_of nodes) (entry_leaves entries ++ zs) inner lt))
+        | inr t ↦
+            let ge = ge_of last rec t in
+            let left = leaf_before rec (suc last) high (leaves_of nodes) (entry_leaves entries ++ zs) tail (omega arith) in
+            elim (either (ltb rec first)) [
+              | inl u ↦ rw (t, u, assoc, left) (sym (no_leaf rec first last (leaves_of nodes) inner (lt_of rec first u)))
+              | inr u ↦ rw (t, u, assoc, left) (find_is rec first last nodes o.3)
+            ]
+      ]

@@ -1,0 +1,110 @@
+//! The block of a record, found on the way down from the first node.
+
+ghost use Rattle.std.specs.Prelude.{◌≡◌, ◌+◌, ◌≤◌, ℕ, length, IfOk};
+ghost use Rattle.std.specs.Option.{option_map};
+ghost use Rattle.cdf_area.specs.Calls.{Reads};
+ghost use Rattle.cdf_model.specs.Limits.{image_limit};
+ghost use Rattle.cdf_format.specs.Index.{Nodes, Entries, entry_count, nodes_of, leaves_of, link_to, used_count};
+ghost use Rattle.cdf_format.specs.IndexOf.{SayEntries, IsNode};
+ghost use Rattle.cdf_index.specs.Order.{leaf_of, passed, NextsAreZero};
+ghost use Rattle.cdf_index.specs.Finding.{index_at, HasIndex, NodeInside, SomeNode, Stands};
+ghost use Rattle.cdf_index.specs.Sight.{IsHead, SightIs, seen};
+
+use crate::nodes::{Head, Leaf, read_node};
+use cdf_area::{Area, AreaError};
+use cdf_format::fields::{CVVR_TYPE, RECORD_TYPE, VXR_FIRST, VXR_TYPE};
+use cdf_records::{Steps, read_unsigned4, read_unsigned8};
+use std::sync::ledger::Ledger;
+
+/// What a search meets at a node: a link on, a leaf, or a gap.
+#[derive(Clone, Copy)]
+enum Sight {
+    On { link: u64 },
+    Found { leaf: Leaf },
+    Nothing,
+}
+
+/// The number of the first entry of a node that ends at a record or later.
+fn entries_before<A: Area>(area: &mut A, at: u64, head: &Head, rec: u32) -> Result<u64, AreaError>
+    requires head { IsHead (A.image area.old) at head.now }
+    requires inside { NodeInside (A.image area.old) at }
+    requires short { length (A.image area.old) ≤ image_limit }
+    ensures passed { IfOk result (λ i. (entries : Entries) → used_count (A.image area.old) at ≡ entry_count entries → SayEntries (A.image area.old) at 0 entries → i ≡ passed rec entries) }
+    ensures most { IfOk result (λ i. i ≤ used_count (A.image area.old) at) }
+    ensures area { Reads A.image A.frame A.faults A.edited area.old area.new result }
+{
+    for i in 0..head.used {
+        let last = read_unsigned4(area, at + (VXR_FIRST + 4 * head.room + 4 * i))?;
+        if last >= rec {
+            return Ok(i);
+        }
+    }
+    Ok(head.used)
+}
+
+/// What a node tells of a record.
+fn look<A: Area>(area: &mut A, at: u64, head: &Head, rec: u32) -> Result<Sight, AreaError>
+    requires head { IsHead (A.image area.old) at head.now }
+    requires node { SomeNode (A.image area.old) at }
+    requires inside { NodeInside (A.image area.old) at }
+    requires short { length (A.image area.old) ≤ image_limit }
+    ensures told { IfOk result (λ sight. (levels : ℕ) (nodes : Nodes) → Stands (A.image area.old) levels nodes → IsNode nodes → at ≡ link_to nodes → SightIs (A.image area.old) rec levels nodes sight) }
+    ensures area { Reads A.image A.frame A.faults A.edited area.old area.new result }
+{
+    let i = entries_before(area, at, head, rec)?;
+    if i == head.used {
+        return Ok(Sight::On { link: head.next });
+    }
+    let first = read_unsigned4(area, at + (VXR_FIRST + 4 * i))?;
+    if rec < first {
+        return Ok(Sight::Nothing);
+    }
+    let last = read_unsigned4(area, at + (VXR_FIRST + 4 * head.room + 4 * i))?;
+    let place = read_unsigned8(area, at + (VXR_FIRST + 8 * head.room + 8 * i))?;
+    let kind = read_unsigned4(area, place + RECORD_TYPE)?;
+    if kind == VXR_TYPE {
+        return Ok(Sight::On { link: place });
+    }
+    let leaf = Leaf {
+        first,
+        last,
+        at: place,
+        packed: kind == CVVR_TYPE,
+    };
+    Ok(Sight::Found { leaf })
+}
+
+/// The leaf that has a record, in the index that a link leads to. A node takes a step.
+pub fn find<A: Area, L: Ledger>(
+    area: &mut A,
+    head: u64,
+    rec: u32,
+    steps: &mut Steps<L>,
+) -> Result<Option<Leaf>, AreaError>
+    requires index { HasIndex (A.image area.old) head }
+    requires short { length (A.image area.old) ≤ image_limit }
+    ensures value { IfOk result (λ found. option_map seen found ≡ leaf_of rec (leaves_of (index_at (A.image area.old) head))) }
+    ensures steps { steps.new ≤ steps.old + length (nodes_of (index_at (A.image area.old) head)) }
+    ensures levels { NextsAreZero (index_at (A.image area.old) head) → steps.new ≤ steps.old + 8 }
+    ensures area { Reads A.image A.frame A.faults A.edited area.old area.new result }
+{
+    let mut at = head;
+    for turn in 0..area.size() {
+        if at == 0 {
+            return Ok(None);
+        }
+        let node = read_node(area, at, steps)?;
+        match look(area, at, &node, rec)? {
+            Sight::On { link } => {
+                at = link;
+            }
+            Sight::Found { leaf } => {
+                return Ok(Some(leaf));
+            }
+            Sight::Nothing => {
+                return Ok(None);
+            }
+        }
+    }
+    Ok(None)
+}

@@ -1,0 +1,9 @@
+//! The index of a variable: a tree of nodes whose entries name blocks of records, read through an area.
+#![tactic(auto)]
+
+mod finding;
+pub mod laws;
+mod nodes;
+
+pub use finding::find;
+pub use nodes::Leaf;
