@@ -3,3 +3,4 @@ pub mod Looking
 pub mod Scanning
 pub mod Searching
 pub mod GoodIndex
+pub mod RecordRead

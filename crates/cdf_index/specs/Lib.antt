@@ -1,3 +1,4 @@
 pub mod Order
 pub mod Finding
 pub mod Sight
+pub mod Reading

@@ -4,6 +4,8 @@
 mod finding;
 pub mod laws;
 mod nodes;
+mod records;
 
 pub use finding::find;
 pub use nodes::Leaf;
+pub use records::read_rec;
