@@ -4,3 +4,4 @@ pub mod Scanning
 pub mod Searching
 pub mod GoodIndex
 pub mod RecordRead
+pub mod NextLemmas

@@ -2,3 +2,4 @@ pub mod Order
 pub mod Finding
 pub mod Sight
 pub mod Reading
+pub mod Next
