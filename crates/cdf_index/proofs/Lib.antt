@@ -5,3 +5,4 @@ pub mod Searching
 pub mod GoodIndex
 pub mod RecordRead
 pub mod NextLemmas
+pub mod Walking

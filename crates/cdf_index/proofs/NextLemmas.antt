@@ -1,5 +1,5 @@
 -- The least First past a record: which entries decide it.
-use Rattle.std.proofs.Common.{◌≡◌, ℕ, suc, ◌<◌, ◌≤◌, List, [], ◌∷◌, ◌++◌, min, true, false, ltb, append_assoc, refl, sym, ap, ◌∙◌, arith, inl, inr}
+use Rattle.std.proofs.Common.{◌≡◌, ℕ, suc, ◌≤◌, List, [], ◌∷◌, ◌++◌, min, true, false, ltb, append_assoc, refl, sym, ap, ◌∙◌, arith, inl, inr}
 use Rattle.std.specs.List.{filter, fold}
 use Rattle.std.proofs.lemmas.Bool.Decides.{nat_tests}
 use Rattle.std.proofs.lemmas.List.Sums.{fold-append}
@@ -9,7 +9,7 @@ use Rattle.cdf_format.specs.Index.{Nodes, no_node, node, Entries, no_entry, bloc
 use Rattle.cdf_format.proofs.Members.{either}
 use Rattle.cdf_index.specs.Next.{least_from}
 use Rattle.cdf_index.specs.Order.{past_entries, InOrder, AreInOrder}
-use Rattle.cdf_index.proofs.OrderLemmas.{lt_of, ge_of, end_after}
+use Rattle.cdf_index.proofs.OrderLemmas.{ge_of, end_after}
 
 -- each of the numbers lies from low to high
 abbrev pub Between : ℕ → ℕ → List ℕ → Type 0
@@ -78,19 +78,19 @@ module _ (rec : ℕ) where
       ∙ ap (λ (n : ℕ). least_from rec n before) m
 
   -- an entry that is not past the record is passed, and what stood before it
-  pub entry_passed : (best first low high : ℕ) (before behind : List ℕ) → ltb rec first ≡ false → Between low high before → high < first → least_from rec best (before ++ first ∷ behind) ≡ least_from rec best behind
+  pub entry_passed : (best first low high : ℕ) (before behind : List ℕ) → ltb rec first ≡ false → Between low high before → high ≤ first → least_from rec best (before ++ first ∷ behind) ≡ least_from rec best behind
   entry_passed best first low high before behind t w h =
       let le = ge_of rec first t in
       least_append best before (first ∷ behind) ∙ ap (λ (n : ℕ). least_from rec n (first ∷ behind)) (none_past best low high before w (omega arith)) ∙ rw t refl
 
   -- ---- the entries of a node, one after the other, with what stands below the entry before and what comes behind the node
   module _ (best : ℕ) (low : Nodes) (from upto : ℕ) (below : InOrder from upto low) (zs : List ℕ) where
-    pub block_passed : (first last place : ℕ) (packed : _) (entries : Entries) → ltb rec first ≡ false → upto < first
+    pub block_passed : (first last place : ℕ) (packed : _) (entries : Entries) → ltb rec first ≡ false → upto ≤ first
         → least_from rec best (firsts_of low ++ (entry_firsts (block first last place packed entries) ++ zs)) ≡ least_from rec best (firsts_of no_node ++ (entry_firsts entries ++ zs))
     unfolding firsts_of entry_firsts
     block_passed first last place packed entries t h = entry_passed best first from upto (firsts_of low) (entry_firsts entries ++ zs) t (firsts_between from upto low below) h
 
-    pub lower_passed : (first last : ℕ) (nodes : Nodes) (entries : Entries) → ltb rec first ≡ false → upto < first
+    pub lower_passed : (first last : ℕ) (nodes : Nodes) (entries : Entries) → ltb rec first ≡ false → upto ≤ first
         → least_from rec best (firsts_of low ++ (entry_firsts (lower first last nodes entries) ++ zs)) ≡ least_from rec best (firsts_of nodes ++ (entry_firsts entries ++ zs))
     unfolding firsts_of entry_firsts
     lower_passed first last nodes entries t h =

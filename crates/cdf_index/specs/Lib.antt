@@ -3,3 +3,4 @@ pub mod Finding
 pub mod Sight
 pub mod Reading
 pub mod Next
+pub mod Ahead

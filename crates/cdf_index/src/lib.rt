@@ -3,9 +3,11 @@
 
 mod finding;
 pub mod laws;
+mod next;
 mod nodes;
 mod records;
 
 pub use finding::find;
+pub use next::next_first;
 pub use nodes::Leaf;
 pub use records::read_rec;

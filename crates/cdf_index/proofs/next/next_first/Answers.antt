@@ -1,0 +1,60 @@
+use Rattle.std.proofs.Common.{rules, length, arith, ◌∙◌}
+use Rattle.cdf_area.proofs.Calls.{read_more}
+use Rattle.cdf_edits.specs.Index.Blocks.{firsts_of, next_first as least_past}
+use Rattle.cdf_format.specs.Index.{nodes_of}
+use Rattle.cdf_index.specs.Finding.{index_at}
+use Rattle.cdf_index.proofs.Searching.{inside_now, node_now}
+use Rattle.cdf_index.proofs.Walking.{walk_start, walk_over, walk_end, walk_node, walk_cost, walk_now}
+use Rattle.cdf_index.proofs.next.next_first.Goals as goal
+
+pub returns-then-walk-eq0-clause-value : goal.returns-then-walk-eq0-clause-value
+returns-then-walk-eq0-clause-value g c =
+    walk_end (g.A.Area.image c.args.area.now) c.args.head c.args.rec c.requires.index c.loop-turn.turn c.loop-turn.walk c.loop-turn.invariant.walk c.if-walk-eq0.true
+
+pub read_node-requires-clause-inside : goal.read_node-requires-clause-inside
+read_node-requires-clause-inside g c =
+    let i = c.loop-turn.invariant in
+    inside_now (g.A.Area.image c.args.area.now) _ c.loop-turn.walk.at i.area.image (walk_node (g.A.Area.image c.args.area.now) c.args.head c.args.rec c.requires.index c.loop-turn.turn c.loop-turn.walk i.walk c.if-walk-eq0.false)
+
+pub returns-in_err-node-clause-steps : goal.returns-in_err-node-clause-steps
+returns-in_err-node-clause-steps g c =
+    let i = c.loop-turn.invariant in
+    let h = walk_cost (g.A.Area.image c.args.area.now) c.args.head c.args.rec c.requires.index c.loop-turn.turn c.loop-turn.walk i.walk c.if-walk-eq0.false in
+    let s = i.steps in
+    let t = c.read_node.ensures.step in
+    omega arith
+
+pub advance-requires-clause-inside : goal.advance-requires-clause-inside
+advance-requires-clause-inside g c =
+    let i = c.loop-turn.invariant in
+    inside_now (g.A.Area.image c.args.area.now) _ c.loop-turn.walk.at (c.read_node.ensures.area.image ∙ i.area.image) (walk_node (g.A.Area.image c.args.area.now) c.args.head c.args.rec c.requires.index c.loop-turn.turn c.loop-turn.walk i.walk c.if-walk-eq0.false)
+
+pub advance-requires-clause-node : goal.advance-requires-clause-node
+advance-requires-clause-node g c =
+    let i = c.loop-turn.invariant in
+    node_now (g.A.Area.image c.args.area.now) _ c.loop-turn.walk.at (c.read_node.ensures.area.image ∙ i.area.image) (walk_node (g.A.Area.image c.args.area.now) c.args.head c.args.rec c.requires.index c.loop-turn.turn c.loop-turn.walk i.walk c.if-walk-eq0.false)
+
+pub returns-in_err-walk-clause-steps : goal.returns-in_err-walk-clause-steps
+returns-in_err-walk-clause-steps g c =
+    let i = c.loop-turn.invariant in
+    let h = walk_cost (g.A.Area.image c.args.area.now) c.args.head c.args.rec c.requires.index c.loop-turn.turn c.loop-turn.walk i.walk c.if-walk-eq0.false in
+    let s = i.steps in
+    let t = c.read_node.ensures.step in
+    omega arith
+
+pub loop-turn-init : goal.loop-turn-init
+loop-turn-init g c = record { walk = walk_start (g.A.Area.image c.args.area.now) c.args.head c.args.rec c.requires.index; area = search rules; steps = omega arith }
+
+pub loop-turn-preserved : goal.loop-turn-preserved
+loop-turn-preserved g c =
+    let b = g.A.Area.image c.args.area.now in
+    let i = c.loop-turn.invariant in
+    record {
+      walk = walk_now b (g.A.Area.image c.read_node.new.area) c.args.rec c.loop-turn.turn (length (nodes_of (index_at b c.args.head))) (least_past c.args.rec (firsts_of (index_at b c.args.head))) c.loop-turn.walk c.in_ok-walk.walk (c.read_node.ensures.area.image ∙ i.area.image) c.in_ok-walk.ensures.told i.walk;
+      area = read_more (read_more i.area c.in_ok-node.ensures.area) c.in_ok-walk.ensures.area;
+      steps = let s = i.steps in let t = c.read_node.ensures.step in omega arith;
+    }
+
+pub returns-clause-value : goal.returns-clause-value
+returns-clause-value g c =
+    absurd (walk_over (g.A.Area.image c.args.area.now) c.args.head c.args.rec c.requires.index c.loop-turn.turn c.loop-turn.walk c.loop-turn.invariant.walk (omega (arith, c.size-turn-end.ensures, c.loop-turn-test.false)))
