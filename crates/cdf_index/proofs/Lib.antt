@@ -6,3 +6,4 @@ pub mod GoodIndex
 pub mod RecordRead
 pub mod NextLemmas
 pub mod Walking
+pub mod GoodBlock

@@ -21,7 +21,7 @@ counted_less a zero = omega arith
 counted_less a (suc b) = elim (either (leb (suc a) (suc b))) [ inl t ↦ let le : a - suc b ≡ 0 = grind (arith, nat_tests) in rw (t, le) refl | inr t ↦ rw t refl ]
 
 -- how many records a block has
-count_is : (first last : ℕ) → last ≤ record_number_limit → first ≤ last → counted (with_sign last -ℤ number_before first) ≡ last + 1 - first
+pub count_is : (first last : ℕ) → last ≤ record_number_limit → first ≤ last → counted (with_sign last -ℤ number_before first) ≡ last + 1 - first
 count_is zero last small le = rw (signed last small) (omega arith)
 count_is (suc first) last small le = rw (signed last small, signed (suc first) (omega arith)) (ap (λ (z : ℤ). counted (pos last -ℤ z)) (-ℤ_one (pos (suc first))) ∙ counted_less last first ∙ omega arith)
 
