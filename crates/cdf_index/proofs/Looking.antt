@@ -14,6 +14,7 @@ use Rattle.cdf_format.proofs.ChainsLemmas.{is_a-in, is_a-type, linkable-in, link
 use Rattle.cdf_format.proofs.Members.{either}
 use Rattle.cdf_format.proofs.ShapeLemmas.{Each-split}
 use Rattle.cdf_format.proofs.TilesLemmas.{tile_lies}
+use Rattle.cdf_index.specs.Ahead.{NamesIn}
 use Rattle.cdf_index.specs.Order.{find_in, find_entry, passed, NextsAreZero, LowerAreZero}
 use Rattle.cdf_index.specs.Finding.{IsBlock, Stands, SomeNode, NodeInside, Onward}
 
@@ -242,27 +243,42 @@ look_found b rec (suc levels) i first last place type (node at room entries more
 
 -- ---- where it is safe to read
 
-named_in : (b : List ℕ) (rec levels at i place : ℕ) (entries left : Entries) → Left b rec levels at i i entries left → i < entry_count entries → place ≡ offset_at b at i → In place (tiles b)
+-- what an entry names is a tile
+named_at : (b : List ℕ) (levels at k n : ℕ) (entries : Entries) → SayEntries b at k entries → Names b (tiles b) levels entries → Each (IsBlock b) (entry_leaves entries) → n < entry_count entries → In (offset_at b at (k + n)) (tiles b)
 unfolding Names entry_leaves
-named_in b rec levels at i place entries no_entry l lt q = absurd (omega (arith, l.many))
-named_in b rec levels at i place entries (block f la p packed left) l lt q = subst (λ (x : ℕ). In x (tiles b)) (sym (q ∙ l.say.0.offset_is)) (block_in b (leaf f la p packed) l.blocks.0)
-named_in b rec levels at i place entries (lower f la nodes left) l lt q =
-    subst (λ (x : ℕ). In x (tiles b)) (sym (q ∙ l.say.0.offset_is)) (linkable-in b (tiles b) vxr_type (link_to nodes) (node_linkable b levels nodes l.names.0 l.names.1))
+named_at b levels at k n no_entry s m q lt = absurd (omega arith)
+named_at b levels at k zero (block f la p packed entries) s m q lt =
+    let e : k + 0 ≡ k = omega arith in
+    rw e (subst (λ (x : ℕ). In x (tiles b)) (sym s.0.offset_is) (block_in b (leaf f la p packed) q.0))
+named_at b levels at k (suc n) (block f la p packed entries) s m q lt =
+    let e : k + suc n ≡ suc k + n = omega arith in
+    rw e (named_at b levels at (suc k) n entries s.1 m.2 q.1 (omega arith))
+named_at b levels at k zero (lower f la nodes entries) s m q lt =
+    let e : k + 0 ≡ k = omega arith in
+    rw e (subst (λ (x : ℕ). In x (tiles b)) (sym s.0.offset_is) (linkable-in b (tiles b) vxr_type (link_to nodes) (node_linkable b levels nodes m.0 m.1)))
+named_at b levels at k (suc n) (lower f la nodes entries) s m q lt =
+    let e : k + suc n ≡ suc k + n = omega arith in
+    let qs = Each-split (IsBlock b) (leaves_of nodes) (entry_leaves entries) q in
+    rw e (named_at b levels at (suc k) n entries s.1 m.2 qs.1 (omega arith))
 
-node_named_in : (b : List ℕ) (rec levels i place : ℕ) (nodes : Nodes) → Stands b levels nodes → IsNode nodes → Scanned b rec (link_to nodes) i → i ≢ used_count b (link_to nodes) → place ≡ offset_at b (link_to nodes) i → In place (tiles b)
-unfolding HasNodes
-node_named_in b rec levels i place no_node st is s ne q = absurd is
-node_named_in b rec zero i place (node at room entries more) st is s ne q = absurd st.has
-node_named_in b rec (suc levels) i place (node at room entries more) st is s ne q =
-    let l = looked b rec levels at i room entries more st s in
-    named_in b rec levels at i place entries l.left l.over (below_used i (used_count b at) (entry_count entries) ne s.most l.says.used_is) q
+names_in_node : (b : List ℕ) (levels : ℕ) (nodes : Nodes) → AreTiles b 8 (length b) (tiles b) → Stands b levels nodes → IsNode nodes → NamesIn b (link_to nodes)
+unfolding HasNodes leaves_of
+names_in_node b levels no_node t st is = absurd is
+names_in_node b zero (node at room entries more) t st is = absurd st.has
+names_in_node b (suc levels) (node at room entries more) t st is = λ j lt.
+    (let h = st.has in
+    let qs = Each-split (IsBlock b) (entry_leaves entries) (leaves_of more) st.blocks in
+    let many = h.0.used_is in
+    let z : 0 + j ≡ j = omega arith in
+    let there = rw z at (named_at b levels at 0 j entries h.0.say_entries h.1 qs.0 (omega arith)) in
+    let lies = tile_lies b 8 (length b) (tiles b) (offset_at b at j) t there in
+    omega (arith, lies.high, lies.long))
+
+pub names_in : (b : List ℕ) (at : ℕ) → SomeNode b at → NamesIn b at
+names_in b at n = subst (λ (x : ℕ). NamesIn b x) (sym n.link) (names_in_node b n.levels n.nodes n.tiled n.stands n.is_node)
 
 pub named_inside : (b : List ℕ) (rec at i place : ℕ) → SomeNode b at → Scanned b rec at i → i ≢ used_count b at → place ≡ offset_at b at i → place + 12 ≤ length b
-named_inside b rec at i place n s ne q =
-    let e = n.link in
-    let there = node_named_in b rec n.levels i place n.nodes n.stands n.is_node (subst (λ (x : ℕ). Scanned b rec x i) e s) (subst (λ (x : ℕ). i ≢ used_count b x) e ne) (subst (λ (x : ℕ). place ≡ offset_at b x i) e q) in
-    let lies = tile_lies b 8 (length b) (tiles b) place n.tiled there in
-    omega (arith, lies.high, lies.long)
+named_inside b rec at i place n s ne q = let named = names_in b at n i (omega (arith, s.most)) in omega arith
 
 inside_at : (b : List ℕ) (levels : ℕ) (nodes : Nodes) → AreTiles b 8 (length b) (tiles b) → Stands b levels nodes → IsNode nodes → NodeInside b (link_to nodes)
 unfolding HasNodes nodes_of

@@ -10,18 +10,18 @@ use Rattle.cdf_format.specs.IndexOf.{SayEntries, IsNode, HasNodes, Names}
 use Rattle.cdf_format.specs.RecordTypes.{vxr_type}
 use Rattle.cdf_format.specs.Shape.{Each}
 use Rattle.cdf_format.specs.Sound.{NodeFits}
-use Rattle.cdf_format.specs.Tiles.{In, AreTiles, tiles}
+use Rattle.cdf_format.specs.Tiles.{AreTiles, tiles}
 use Rattle.cdf_format.proofs.ChainsLemmas.{linkable-in, linkable-type}
 use Rattle.cdf_format.proofs.Members.{either}
 use Rattle.cdf_format.proofs.ShapeLemmas.{Each-split}
 use Rattle.cdf_format.proofs.TilesLemmas.{tile_lies}
 use Rattle.cdf_model.specs.Limits.{record_number_limit}
-use Rattle.cdf_index.specs.Ahead.{Begun, NamesIn, chain_at, chain_before, IsWalk}
+use Rattle.cdf_index.specs.Ahead.{Begun, chain_at, chain_before, IsWalk}
 use Rattle.cdf_index.specs.Finding.{index_at, HasIndex, IsBlock, Stands, SomeNode}
 use Rattle.cdf_index.specs.Next.{least_from, number_within, least_first_past}
 use Rattle.cdf_index.specs.Order.{past_entries, InOrder, AreInOrder}
 use Rattle.cdf_index.specs.declared.next.Walk.{Walk}
-use Rattle.cdf_index.proofs.Looking.{block_type, block_in, no_node_type, node_linkable}
+use Rattle.cdf_index.proofs.Looking.{block_type, no_node_type, node_linkable}
 use Rattle.cdf_index.proofs.NextLemmas.{Between, block_passed, lower_passed, block_decides, lower_decides, firsts_between, between_more}
 use Rattle.cdf_index.proofs.OrderLemmas.{end_after, lt_of, ge_of}
 use Rattle.cdf_index.proofs.Searching.{few_nodes}
@@ -37,40 +37,6 @@ chain_is b at k e = let t : eqb (type_at b (offset_at b at k)) 6 ≡ true = grin
 
 no_chain : (b : List ℕ) (at k : ℕ) → type_at b (offset_at b at k) ≢ 6 → chain_at b at k ≡ 0
 no_chain b at k e = let t : eqb (type_at b (offset_at b at k)) 6 ≡ false = grind (arith, nat_tests) in rw t refl
-
--- what an entry names is a tile
-named_at : (b : List ℕ) (levels at k n : ℕ) (entries : Entries) → SayEntries b at k entries → Names b (tiles b) levels entries → Each (IsBlock b) (entry_leaves entries) → n < entry_count entries → In (offset_at b at (k + n)) (tiles b)
-unfolding Names entry_leaves
-named_at b levels at k n no_entry s m q lt = absurd (omega arith)
-named_at b levels at k zero (block f la p packed entries) s m q lt =
-    let e : k + 0 ≡ k = omega arith in
-    rw e (subst (λ (x : ℕ). In x (tiles b)) (sym s.0.offset_is) (block_in b (leaf f la p packed) q.0))
-named_at b levels at k (suc n) (block f la p packed entries) s m q lt =
-    let e : k + suc n ≡ suc k + n = omega arith in
-    rw e (named_at b levels at (suc k) n entries s.1 m.2 q.1 (omega arith))
-named_at b levels at k zero (lower f la nodes entries) s m q lt =
-    let e : k + 0 ≡ k = omega arith in
-    rw e (subst (λ (x : ℕ). In x (tiles b)) (sym s.0.offset_is) (linkable-in b (tiles b) vxr_type (link_to nodes) (node_linkable b levels nodes m.0 m.1)))
-named_at b levels at k (suc n) (lower f la nodes entries) s m q lt =
-    let e : k + suc n ≡ suc k + n = omega arith in
-    let qs = Each-split (IsBlock b) (leaves_of nodes) (entry_leaves entries) q in
-    rw e (named_at b levels at (suc k) n entries s.1 m.2 qs.1 (omega arith))
-
-names_in_node : (b : List ℕ) (levels : ℕ) (nodes : Nodes) → AreTiles b 8 (length b) (tiles b) → Stands b levels nodes → IsNode nodes → NamesIn b (link_to nodes)
-unfolding HasNodes leaves_of
-names_in_node b levels no_node t st is = absurd is
-names_in_node b zero (node at room entries more) t st is = absurd st.has
-names_in_node b (suc levels) (node at room entries more) t st is = λ j lt.
-    (let h = st.has in
-    let qs = Each-split (IsBlock b) (entry_leaves entries) (leaves_of more) st.blocks in
-    let many = h.0.used_is in
-    let z : 0 + j ≡ j = omega arith in
-    let there = rw z at (named_at b levels at 0 j entries h.0.say_entries h.1 qs.0 (omega arith)) in
-    let lies = tile_lies b 8 (length b) (tiles b) (offset_at b at j) t there in
-    omega (arith, lies.high, lies.long))
-
-pub names_in : (b : List ℕ) (at : ℕ) → SomeNode b at → NamesIn b at
-names_in b at n = subst (λ (x : ℕ). NamesIn b x) (sym n.link) (names_in_node b n.levels n.nodes n.tiled n.stands n.is_node)
 
 -- ---- the entries of a node, from number k on, of which n begin at the record or before it
 

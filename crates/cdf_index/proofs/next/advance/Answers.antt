@@ -1,7 +1,7 @@
 use Rattle.std.proofs.Common.{◌≢◌, ℕ, List, arith, ap, sym, subst, ◌∙◌}
 use Rattle.cdf_index.specs.Ahead.{NamesIn, chain_before}
-use Rattle.cdf_index.proofs.Looking.{read_first}
-use Rattle.cdf_index.proofs.Walking.{names_in, walk_decided, walk_below, walk_along}
+use Rattle.cdf_index.proofs.Looking.{names_in, read_first}
+use Rattle.cdf_index.proofs.Walking.{walk_decided, walk_below, walk_along}
 use Rattle.cdf_index.proofs.next.advance.Goals as goal
 
 pub lower_before-requires-clause-names : goal.lower_before-requires-clause-names
