@@ -18,6 +18,9 @@ pub mod DeletingFollows
 pub mod DeletionCalls
 pub mod EditActs
 pub mod EmptySet
+pub mod EntryBeside
+pub mod EntryTakenStep
+pub mod NumbersFallStep
 pub mod FallenEntries
 pub mod FallenItems
 pub mod FieldWritten
@@ -73,6 +76,10 @@ pub mod VdrEdited
 pub mod VdrWritten
 pub mod WrittenFields
 pub mod DropsOne
+pub mod StandsBut
+pub mod StandsThen
+pub mod StandsSame
+pub mod DropHalves
 pub mod DroppedSoFar
 pub mod SameAttribute
 pub mod DroppedNext

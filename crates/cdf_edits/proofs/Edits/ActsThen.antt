@@ -137,7 +137,7 @@ module _ {b mid now : List ℕ} {acts : List Act} {place : ℕ} (was : HasShape 
       by true = inr i
       by false = i
 
-  was_listed : (m : ℕ) → In m (shape now).unused → (m ≡ place) ⊎ In m (shape mid).unused
+  pub was_listed : (m : ℕ) → In m (shape now).unused → (m ≡ place) ⊎ In m (shape mid).unused
   was_listed m i = by (nat_le 28 size) (subst (In m) listed_places i)
     where
       by : (p : Bool) → In m (if p then place ∷ (shape mid).unused else (shape mid).unused) → (m ≡ place) ⊎ In m (shape mid).unused

@@ -67,7 +67,7 @@ module _ {b now new list : List ℕ} {marks : List Mark} {reborn : List ℕ} {ki
   list_is = ap (λ (x : Shape). x.unused) (now_is sound r)
 
   -- an entry that stays but for its link to the next one
-  link_allowed : (m : ℕ) → In m s.records → KeptButLink b now m → Keeps b now m (Only (next_field ∷ []))
+  pub link_allowed : (m : ℕ) → In m s.records → KeptButLink b now m → Keeps b now m (Only (next_field ∷ []))
   link_allowed m i k = record {
     stands = subst (In m) (sym records_are) (r.edit.sub m i);
     size_is = late_size b now m k;

@@ -90,7 +90,7 @@ tiles_of : (b es : List ℕ) → written_tiles (lowered b es) ≡ es
 tiles_of b [] = refl
 tiles_of b (e ∷ es) = ap (λ (x : List ℕ). e ∷ x) (tiles_of b es)
 
-later_in : (b : List ℕ) (num : ℕ) (es : List ℕ) (m : ℕ) → In m es → num < number b m aedr_num → In m (later b num es)
+pub later_in : (b : List ℕ) (num : ℕ) (es : List ℕ) (m : ℕ) → In m es → num < number b m aedr_num → In m (later b num es)
 later_in b num [] m i lt = absurd i
 later_in b num (e ∷ es) m i lt = elim (cases_lt num (number b e aedr_num)) [
   | inl p ↦ rw (lt-ltb num (number b e aedr_num) p) (elim i [ inl q ↦ inl q | inr j ↦ inr (later_in b num es m j lt) ])
@@ -100,7 +100,7 @@ later_in b num (e ∷ es) m i lt = elim (cases_lt num (number b e aedr_num)) [
     clash : (x y n : ℕ) → x ≡ y → n < x → y ≤ n → ⊥
     clash x y n e l p = absurd (omega arith)
 
-later_above : (b : List ℕ) (num : ℕ) (es : List ℕ) (m : ℕ) → In m (later b num es) → num < number b m aedr_num
+pub later_above : (b : List ℕ) (num : ℕ) (es : List ℕ) (m : ℕ) → In m (later b num es) → num < number b m aedr_num
 later_above b num [] m i = absurd i
 later_above b num (e ∷ es) m i = elim (cases_lt num (number b e aedr_num)) [
   | inl p ↦
@@ -154,16 +154,16 @@ module _ {b now : List ℕ} {kind : EntryKind} {before : List AttributeShape} {o
   the_adr : Stands b s.records own.adr adr_type 324
   the_adr = adr_stands sound before own after q.was
 
-  t : FallTests kind own.adr those
+  pub t : FallTests kind own.adr those
   t = fall_tests kind own.adr those
 
-  entry_in : (m : ℕ) → In m chain → In m s.records
+  pub entry_in : (m : ℕ) → In m chain → In m s.records
   entry_in m i = linkable-in b s.records (entry_type kind) m ((chain_has kind own there.have.0).linkable m i)
 
-  entry_typed : (m : ℕ) → In m chain → type_at b m ≡ entry_type kind
+  pub entry_typed : (m : ℕ) → In m chain → type_at b m ≡ entry_type kind
   entry_typed m i = linkable-type b s.records (entry_type kind) m ((chain_has kind own there.have.0).linkable m i)
 
-  of_those : (m : ℕ) → In m those → In m chain
+  pub of_those : (m : ℕ) → In m those → In m chain
   of_those m i = filter-in (λ aedr. nat_lt num (number b aedr aedr_num)) chain m i
 
   entry_fits : (m : ℕ) → In m chain → EntryFits b m
@@ -185,7 +185,7 @@ module _ {b now : List ℕ} {kind : EntryKind} {before : List AttributeShape} {o
   abbrev mid : List ℕ
   mid = with_writes b ws
 
-  long_enough : (m : ℕ) → In m chain → 56 ≤ size_at b m
+  pub long_enough : (m : ℕ) → In m chain → 56 ≤ size_at b m
   long_enough m i = reach _ (size_at b m) (entry_fits m i)
     where
       reach : (n size : ℕ) → 56 + n ≤ size → 56 ≤ size

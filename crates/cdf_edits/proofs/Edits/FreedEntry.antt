@@ -240,19 +240,19 @@ module _ {b late now : List ℕ} {records list : List ℕ} {marks : List Mark} {
       (acts_gave sound.has_shape before_acts f.sound_late (subst (In old) (sym (ap (λ (x : Shape). x.records) late_is)) old_in) (λ u. g.no_uir (sym old_typed ∙ u)) f.gives)
 
   -- behind the links its bytes stay
+  pub freed_behind : 28 ≤ size_at b old → Same b now (old + 28) (old + size_at b old)
+  freed_behind long =
+      let not_gdr : old ≢ s.gdr = λ q. g.no_gdr (sym old_typed ∙ ap (type_at late) q ∙ gdr_typed late made h_late) in
+      let wide : links_end (size_at late old) ≡ 28 = rw (old_size, le-leb 28 (size_at b old) long) refl in
+      let behind = behind_one h_late gives old_in old old_in not_gdr in
+      same-then b late now (old + 28) (old + size_at b old) (Same-part b late (old + 20) (old + size_at b old) (old + 28) (old + size_at b old) f.lives.rest (omega arith) (omega arith))
+      (subst (λ (n : ℕ). Same late now (old + 28) (old + n)) old_size (subst (λ (n : ℕ). Same late now (old + n) (old + size_at late old)) wide behind))
+
   pub freed_bytes : (acts : List Act) → 28 ≤ size_at b old → GivenStay b now no_fields acts (gave b (old ∷ []))
   freed_bytes acts long = freed_stay b now acts (old ∷ []) no_fields (subst (AreTiles now 8 (length now)) (sym records_now) given.tiled_now)
       (λ m i. subst (λ (x : ℕ). In x (shape now).records) (sym (the_one old m i)) (subst (In old) (sym records_now) old_in))
       (λ m i. subst (λ (x : ℕ). size_at now x ≡ size_at b x) (sym (the_one old m i)) (same_sizes old old_in ∙ old_size))
-      (λ m i. subst (λ (x : ℕ). Same b now (x + links_end (size_at b x)) (x + size_at b x)) (sym (the_one old m i)) (rw (le-leb 28 (size_at b old) long) stays))
-    where
-      stays : Same b now (old + 28) (old + size_at b old)
-      stays =
-          let not_gdr : old ≢ s.gdr = λ q. g.no_gdr (sym old_typed ∙ ap (type_at late) q ∙ gdr_typed late made h_late) in
-          let wide : links_end (size_at late old) ≡ 28 = rw (old_size, le-leb 28 (size_at b old) long) refl in
-          let behind = behind_one h_late gives old_in old old_in not_gdr in
-          same-then b late now (old + 28) (old + size_at b old) (Same-part b late (old + 20) (old + size_at b old) (old + 28) (old + size_at b old) f.lives.rest (omega arith) (omega arith))
-          (subst (λ (n : ℕ). Same late now (old + 28) (old + n)) old_size (subst (λ (n : ℕ). Same late now (old + n) (old + size_at late old)) wide behind))
+      (λ m i. subst (λ (x : ℕ). Same b now (x + links_end (size_at b x)) (x + size_at b x)) (sym (the_one old m i)) (rw (le-leb 28 (size_at b old) long) (freed_behind long)))
 
   -- what the command may change of unused records
   pub freed_keeps_unused : (may : Allowances) (acts : List Act) → ((m : ℕ) → In m s.unused → is_taken b acts m ≡ false → Avoids marks uir_type m 0 12 × Within marks uir_type m (uir_next_uir ∷ uir_prev_uir ∷ []))

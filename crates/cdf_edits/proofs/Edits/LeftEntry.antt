@@ -145,7 +145,7 @@ module _ {b late : List ℕ} {kind : EntryKind} {before : List AttributeShape} {
   pub of_count : IsField q.mid s.records own.adr adr_type (count_field kind)
   of_count = field_in first.tiled_now mid_adr u.count_lies.0 u.count_lies.1
 
-  second : Edit q.mid q.counted s.records s.records (field_marks adr_type own.adr (count_field kind)) []
+  pub second : Edit q.mid q.counted s.records s.records (field_marks adr_type own.adr (count_field kind)) []
   second = written_edit q.mid q.counted s.records own.adr adr_type (count_field kind) q.count of_count q.count_written
 
   counted_adr : Stands q.counted s.records own.adr adr_type 324
@@ -154,7 +154,7 @@ module _ {b late : List ℕ} {kind : EntryKind} {before : List AttributeShape} {
   pub of_max : IsField q.counted s.records own.adr adr_type (max_field kind)
   of_max = field_in second.tiled_now counted_adr (max_lies kind).0 (max_lies kind).1
 
-  third : Edit q.counted late s.records s.records (field_marks adr_type own.adr (max_field kind)) []
+  pub third : Edit q.counted late s.records s.records (field_marks adr_type own.adr (max_field kind)) []
   third = written_edit q.counted late s.records own.adr adr_type (max_field kind) q.greatest of_max q.written
 
   abbrev pub marks : List Mark
@@ -216,7 +216,7 @@ module _ {b late : List ℕ} {kind : EntryKind} {before : List AttributeShape} {
       (fit chain' (λ m i. let r = left_members old m (chain_of own kind) once i in (entry_stays sound left_rechains m r.0 (λ j. elim j [ inl x ↦ r.1 x | inr none ↦ none ])).fits))
       (λ m out. omega arith) (λ m i. absurd i))
 
-  old_ok : In old s.records × (type_at b old ≡ entry_type kind)
+  pub old_ok : In old s.records × (type_at b old ≡ entry_type kind)
   old_ok = let ok = (chain_has kind own there.have.0).linkable old q.member in (linkable-in b s.records (entry_type kind) old ok, linkable-type b s.records (entry_type kind) old ok)
 
   pub old_in : In old (shape late).records

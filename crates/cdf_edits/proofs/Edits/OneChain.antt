@@ -60,7 +60,7 @@ items_with a entries.G items = refl
 items_with a entries.R items = refl
 items_with a entries.Z items = refl
 
-got_middle : (xs : List AttributeShape) (x : AttributeShape) (ys : List AttributeShape) → slice_get (xs ++ x ∷ ys) (length xs) ≡ Some x
+pub got_middle : (xs : List AttributeShape) (x : AttributeShape) (ys : List AttributeShape) → slice_get (xs ++ x ∷ ys) (length xs) ≡ Some x
 got_middle [] x ys = refl
 got_middle (y ∷ xs) x ys = got_middle xs x ys
 
@@ -89,6 +89,14 @@ module _ {b now new list : List ℕ} {marks : List Mark} {reborn : List ℕ} {ki
     -- a member that stays keeps its rules
     pub rules_live : (m : ℕ) → In m (chain_of own kind) → (In m gone → ⊥) → Hold (entry_rows now own.adr m)
     rules_live m i out = entry_rules_live b now own.adr m (num_same sound r) (entry_stays sound r m i out) (Hold-member (entry_rows b own.adr) (chain_of own kind) m parts_before.0 i)
+
+  -- an image whose chain keeps the rules is good
+  pub good_chained : Good b → number now own.adr (count_field kind) ≡ length chain' → Distinct (nums now chain') → ((m : ℕ) → In m chain' → Hold (entry_rows now own.adr m)) → ((m : ℕ) → In m reborn → is_in (type_at now m) read_types ≡ true) → ((m : ℕ) → (In m reborn → ⊥) → times m gone ≡ times m come)
+      → ((m : ℕ) → In m reborn → IsSorted now (made sound r) m) → eof now (shape b).gdr ≡ length now → length now ≤ image_limit → Good now
+  good_chained good counted differ rules read beside sorted end short =
+      let image = good_by_its_shape b good in
+      let rows : Hold (entries_rows now own.adr (count_field kind) chain') = (eq-eqb (number now own.adr (count_field kind)) (length chain') counted, Hold-append (flat_map (entry_rows now own.adr) chain') (differ_rows 7 (same_number now) [] chain') (Hold-members (entry_rows now own.adr) chain' rules) (differ_by_nums now chain' differ)) in
+      good_image_if sound (splices sound r) (sealed_kept b (good_long b (shape b) image) (rules_of_good b good)).0 image (rules_rechained sound r image rows read beside sorted) end short
 
   -- what is to be shown: of the entries, of owners, of the space and of the acts
   pub record Chained (attr : List ℕ) (num need : ℕ) (items : List (ℕ × Entry)) (acts : List Act) : Type 0 where
@@ -130,12 +138,10 @@ module _ {b now new list : List ℕ} {marks : List Mark} {reborn : List ℕ} {ki
     pub follows_chained : Good b → (command : Command) → step (content b) command ≡ ByStep (Go (with_attribute (content b) (length before) (with_entries (attribute_of b own) kind items)) Plain) → room b command ≡ need → only_reads command ≡ false → allowances b (content b) (shape b) command ≡ entry_changes b (content b) attr kind num
         → Does b command now acts → length b + need ≤ image_limit → Follows b command now
     follows_chained good command goes roomy writes allowed does limited =
-        let image = good_by_its_shape b good in
-        let rows : Hold (entries_rows now own.adr (count_field kind) chain') = (eq-eqb (number now own.adr (count_field kind)) (length chain') c.counted, Hold-append (flat_map (entry_rows now own.adr) chain') (differ_rows 7 (same_number now) [] chain') (Hold-members (entry_rows now own.adr) chain' c.rules) (differ_by_nums now chain' c.differ)) in
         record {
           reply = Plain;
           goes = goes ∙ ap (λ (d : DataSet). ByStep (Go d Plain)) (sym content_chained);
-          good = good_image_if sound (splices sound r) (sealed_kept b (good_long b (shape b) image) (rules_of_good b good)).0 image (rules_rechained sound r image rows c.read c.beside c.sorted) c.end (omega (arith, c.longest, limited));
+          good = good_chained good c.counted c.differ c.rules c.read c.beside c.sorted c.end (omega (arith, c.longest, limited));
           longer = r.edit.longer;
           within = subst (λ (n : ℕ). length now ≤ length b + n) (sym roomy) c.longest;
           reads = λ q. absurd (true≢false (sym q ∙ writes));

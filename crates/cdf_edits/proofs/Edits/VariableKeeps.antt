@@ -154,6 +154,12 @@ module _ (b now : List ℕ) (may : Allowances) (acts : List Act) where
       (keep_places b now may acts (OneVariable kind n) (variable_records v) (λ m i. let same : n + 0 ≡ n = omega arith in subst (λ (k : ℕ). Keeps b now m (may.variables kind k m)) same (h 0 v refl m i)))
       (keep_variables_by kind (suc n) more (λ i x e m j. let same : n + suc i ≡ suc n + i = omega arith in subst (λ (k : ℕ). Keeps b now m (may.variables kind k m)) same (h (suc i) x e m j)))
 
+-- the records of an attribute are among those of all
+pub records_at : (as_ : List AttributeShape) (k : ℕ) (a : AttributeShape) → slice_get as_ k ≡ Some a → (m : ℕ) → In m (attribute_records a) → In m (flat_map attribute_records as_)
+records_at [] k a e m i = absurd cc
+records_at (x ∷ xs) zero a e m i = In-append_left m (attribute_records x) (flat_map attribute_records xs) (subst (λ (y : AttributeShape). In m (attribute_records y)) (sym (same_Some x a e)) i)
+records_at (x ∷ xs) (suc k) a e m i = In-append_right m (attribute_records x) (flat_map attribute_records xs) (records_at xs k a e m i)
+
 module _ {b mid now : List ℕ} {found : Found} (good : Good b) (drops : DropsEntries b found mid) (d : RemovesVariable mid now found.kind found.number) where
   abbrev may : Allowances
   may = del_var_changes b (content b) (shape b) found
@@ -202,11 +208,6 @@ module _ {b mid now : List ℕ} {found : Found} (good : Good b) (drops : DropsEn
 
   there : AreThere b (shape b).records (shape b).attributes
   there = record { linked = adrs_linked b (shape b) sound; have = h.entry_chains; fit = sound.attributes_fit }
-
-  records_at : (as_ : List AttributeShape) (k : ℕ) (a : AttributeShape) → slice_get as_ k ≡ Some a → (m : ℕ) → In m (attribute_records a) → In m (flat_map attribute_records as_)
-  records_at [] k a e m i = absurd cc
-  records_at (x ∷ xs) zero a e m i = In-append_left m (attribute_records x) (flat_map attribute_records xs) (subst (λ (y : AttributeShape). In m (attribute_records y)) (sym (same_Some x a e)) i)
-  records_at (x ∷ xs) (suc k) a e m i = In-append_right m (attribute_records x) (flat_map attribute_records xs) (records_at xs k a e m i)
 
   still : (m : ℕ) (a : Allowance) → is_in (type_at b m) attribute_types ≡ true → type_at mid m ≡ type_at b m → Keeps b mid m a → Keeps b now m a
   still m Anything typed is k = tt
