@@ -24,10 +24,10 @@ if_given (Ok y) P x T f same t = subst P (sym same) (f t)
 if_given (Err e) P x T f same t = tt
 
 module _ {b : List ℕ} {kind : EntryKind} {adr : ℕ} (good : Good b) (has : IsScoped b kind adr) (es : KnownEntries) (is : es.chain ≡ entries_chain kind adr) (knows : KnowsEntries b es) (num i : ℕ) (at : position (λ n. n == num) es.numbers ≡ Some i) where
-  abbrev found : FindsChain b (attribute_of b has.own).name kind has.number (entries_chain kind has.own.adr)
+  abbrev pub found : FindsChain b (attribute_of b has.own).name kind has.number (entries_chain kind has.own.adr)
   found = finds_chain b good kind has.number has.own has.stands has.in_scope
 
-  of : es.chain ≡ entries_chain kind has.own.adr
+  pub of : es.chain ≡ entries_chain kind has.own.adr
   of = is ∙ ap (entries_chain kind) (sym has.adr_is)
 
   pub within : i < length es.places
@@ -37,7 +37,7 @@ module _ {b : List ℕ} {kind : EntryKind} {adr : ℕ} (good : Good b) (has : Is
   entry_there = subst (λ (a : ℕ). IsEntryOf b kind a (slice_index es.places i)) has.adr_is (deleted.entry_there good found es of knows num i at)
 
   module _ {now : List ℕ} (taken : TakenAt b now kind adr es i) (short : length b ≤ image_limit) where
-    own_taken : TakenAt b now kind has.own.adr es i
+    pub own_taken : TakenAt b now kind has.own.adr es i
     own_taken = subst (λ (a : ℕ). TakenAt b now kind a es i) (sym has.adr_is) taken
 
     pub good_now : Good now
@@ -46,9 +46,12 @@ module _ {b : List ℕ} {kind : EntryKind} {adr : ℕ} (good : Good b) (has : Is
     pub known_now : KnowsEntries now (without_at es i)
     known_now = deleted.left_known good found es of knows num i at own_taken short
 
-    -- each attribute stands in its place
+    -- each attribute stands in its place, with its name
     pub adrs_now : adrs (shape now) ≡ adrs (shape b)
     adrs_now = sym (deleted.known_after good found es of knows num i at own_taken short (attribute_names (content b)) (adrs (shape b)) (without_at es i) refl refl refl).places_are
+
+    pub names_now : attribute_names (content now) ≡ attribute_names (content b)
+    names_now = sym (deleted.known_after good found es of knows num i at own_taken short (attribute_names (content b)) (adrs (shape b)) (without_at es i) refl refl refl).names_are
 
     pub long_now : length now ≡ length b
     long_now = let f = deleted.follow good found es of knows num i at own_taken short in let l = f.longer in let w = f.within in omega arith

@@ -5,12 +5,13 @@ use Rattle.std.specs.List.{slice_get}
 use Rattle.std.specs.Result.{OnOk}
 use Rattle.cdf_model.specs.AttributeSteps.{is_global, is_wrong_scope}
 use Rattle.cdf_model.specs.Limits.{image_limit, signed_limit}
+use Rattle.cdf_model.specs.Names.{attribute_names}
 use Rattle.cdf_model.specs.declared.kinds.Kind.{Kind}
 use Rattle.cdf_model.specs.declared.kinds.Scope.{Scope}
 use Rattle.cdf_model.specs.declared.kinds.Kind.TheVariants.{R, Z}
 use Rattle.cdf_model.specs.declared.kinds.EntryKind.{EntryKind}
 use Rattle.cdf_format.specs.AttributeRules.{entry_bytes}
-use Rattle.cdf_format.specs.Content.{attribute_of, scope_of}
+use Rattle.cdf_format.specs.Content.{attribute_of, content, scope_of}
 use Rattle.cdf_format.specs.Fields.{LiesIn, number}
 use Rattle.cdf_format.specs.Records.{adr_scope, aedr_num}
 use Rattle.cdf_format.specs.Shape.{AttributeShape, adrs, shape}
@@ -22,17 +23,19 @@ use Rattle.cdf_edits.specs.Edits.EntryMarks.{entries_chain}
 use Rattle.cdf_edits.proofs.Commands.ListParts.{got-middle}
 use Rattle.cdf_edits.proofs.Edits.AttributeChains.{Stands, stands_at}
 use Rattle.cdf_edits.specs.Edits.Writes.{Write, write}
+use Rattle.cdf_edits.proofs.Edits.FallenEntries.{as_long as as_long_lowered, rechains}
 use Rattle.cdf_edits.proofs.Edits.PushedEntry.{max_lies}
 use Rattle.cdf_format.proofs.GoodSound.{good_is_sound}
 use Rattle.cdf_attrs.specs.Deleting.{AllLie}
-use Rattle.cdf_attrs.specs.Dropping.{DropsFrom, DropsNumber, IsScoped, Lowers, LowersNumbers, lower_writes}
+use Rattle.cdf_attrs.specs.Dropping.{DropsFrom, DropsNumber, IsScoped, KeepsAttributes, Lowers, LowersNumbers, lower_writes}
 use Rattle.cdf_attrs.specs.Finding.{IsOfAttribute}
 use Rattle.cdf_attrs.specs.Known.{KnownEntries, KnowsEntries}
 use Rattle.cdf_attrs.proofs.AttributeChain.{adr_inside}
-use Rattle.cdf_attrs.proofs.DroppedNumber.{adrs_now, long_now}
+use Rattle.cdf_attrs.proofs.AttributeParts.{names_rechained, places_rechained}
+use Rattle.cdf_attrs.proofs.DroppedNumber.{adrs_now, long_now, names_now}
 use Rattle.cdf_attrs.proofs.EntryChains.{entry_inside}
 use Rattle.cdf_attrs.proofs.EntryTakenAt.{all_from, as_long, places_are, small}
-use Rattle.cdf_attrs.proofs.LoweredChain.{good_now}
+use Rattle.cdf_attrs.proofs.LoweredChain.{good_now, lowers_chain}
 use Rattle.cdf_attrs.proofs.NumberGone.{number_gone, numbers_differ}
 
 module _ (b : List ℕ) (adr : ℕ) (there : In adr (adrs (shape b))) where
@@ -112,6 +115,32 @@ long_dropped {num = num} {entries = entries} good scoped is knows short drops = 
   | inr takes ↦ long_now good scoped entries is knows num takes.index takes.at takes.taken short
 ]
 
+-- ---- the attributes beside their entries
+
+pub keeps_same : {b now : List ℕ} → now ≡ b → KeepsAttributes b now
+keeps_same same = record { names = ap (λ (x : List ℕ). attribute_names (content x)) same; places = ap (λ (x : List ℕ). adrs (shape x)) same; long = ap (λ (x : List ℕ). length x) same }
+
+keeps_lowered : {mid now : List ℕ} (good : Good mid) {kind : EntryKind} {adr num : ℕ} (there : In adr (adrs (shape mid))) (left : KnownEntries) → left.chain ≡ entries_chain kind adr → KnowsEntries mid left → length mid ≤ image_limit → (In num left.numbers → ⊥) → Lowers mid now kind adr left num → KeepsAttributes mid now
+unfolding of_attribute
+keeps_lowered {mid} {now} good {kind} {adr} {num} there left is knows short none lowers = elim lowers [
+  | inl rests ↦ keeps_same rests.1
+  | inr falls ↦
+      let of = of_attribute mid adr there kind in
+      let q = lowers_chain good of left is knows short none (subst (λ (a : ℕ). LowersNumbers mid now kind a left num) (sym (parts mid adr there).adr_is) falls) in
+      let sound = good_is_sound mid good in
+      record { names = names_rechained sound (rechains good short q); places = places_rechained sound (rechains good short q); long = as_long_lowered good short q }
+]
+
+keeps_taken : {b now : List ℕ} {kind : EntryKind} {adr num : ℕ} {entries left : KnownEntries} → Good b → IsScoped b kind adr → entries.chain ≡ entries_chain kind adr → KnowsEntries b entries → length b ≤ image_limit → DropsNumber b now kind adr entries num left → KeepsAttributes b now
+keeps_taken {num = num} {entries = entries} good scoped is knows short drops = elim drops [
+  | inl none ↦ keeps_same none.stays
+  | inr takes ↦ record {
+    names = names_now good scoped entries is knows num takes.index takes.at takes.taken short;
+    places = adrs_now good scoped entries is knows num takes.index takes.at takes.taken short;
+    long = long_now good scoped entries is knows num takes.index takes.at takes.taken short;
+  }
+]
+
 -- ---- what all of it comes to
 
 -- the entry of a number was taken out of the chain, and these are left
@@ -121,6 +150,7 @@ pub record Dropping (b mid : List ℕ) (kind : Kind) (k : EntryKind) (adr num : 
   pub field : LiesIn mid adr (max_field k)
   pub drops : (now : List ℕ) → Lowers mid now k adr left num → DropsFrom b now (kind_of_entries kind) adr num
   pub good : (now : List ℕ) → Lowers mid now k adr left num → Good now
+  pub keeps : (now : List ℕ) → Lowers mid now k adr left num → KeepsAttributes b now
 
 -- where the numbers fell, and where they could not
 module _ {X E : Type 0} {b mid : List ℕ} {kind : Kind} {k : EntryKind} {adr num : ℕ} {left : KnownEntries} (d : Dropping b mid kind k adr num left) (now : List ℕ) where
@@ -131,6 +161,10 @@ module _ {X E : Type 0} {b mid : List ℕ} {kind : Kind} {k : EntryKind} {adr nu
   pub good_on : (r : Result X E) → OnOk r (Lowers mid now k adr left num) → OnOk r (Good now)
   good_on (Ok x) lowers = d.good now lowers
   good_on (Err e) lowers = tt
+
+  pub keeps_on : (r : Result X E) → OnOk r (Lowers mid now k adr left num) → OnOk r (KeepsAttributes b now)
+  keeps_on (Ok x) lowers = d.keeps now lowers
+  keeps_on (Err e) lowers = tt
 
 module _ {b read loaded mid : List ℕ} (kind : Kind) {k : EntryKind} {adr num : ℕ} {chain : Chain} {scope : Scope} {entries left : KnownEntries} (good : Good b) (there : In adr (adrs (shape b))) (short : length b ≤ image_limit)
     (same : read ≡ b) (scope_is : scope ≡ scope_of (number b adr adr_scope)) (own : is_global scope ≡ false) (k_is : k ≡ kind_of_entries kind) (chain_is : chain ≡ entries_chain k adr)
@@ -163,4 +197,8 @@ module _ {b read loaded mid : List ℕ} (kind : Kind) {k : EntryKind} {adr num :
     field = greatest_lies good_mid k adr there_mid left left_is left_knows;
     drops = λ now lowers. subst (λ (x : EntryKind). DropsFrom b now x adr num) k_is (record { entries = entries; chain_is = of_chain; known = known; mid = mid; left = left; drops = dropped; good = good_mid; left_known = left_knows; lowers = lowers });
     good = λ now lowers. good_lowered good_mid there_mid left left_is left_knows (let l = long_dropped good of_kind of_chain known short dropped in omega arith) none_left lowers;
+    keeps = λ now lowers.
+        let one = keeps_taken good of_kind of_chain known short dropped in
+        let two = keeps_lowered good_mid there_mid left left_is left_knows (let l = one.long in omega arith) none_left lowers in
+        record { names = two.names ∙ one.names; places = two.places ∙ one.places; long = two.long ∙ one.long };
   }

@@ -127,7 +127,7 @@ module _ {b attr : List ℕ} {kind : EntryKind} {n : ℕ} {chain : Chain} (good 
   is_place : Some place ≡ option_and_then (λ k. slice_get es.places k) (position (λ m. m == num) es.numbers)
   is_place = sym (ap (option_and_then (λ k. slice_get es.places k)) at ∙ got_index es.places i within)
 
-  of_old : number b place aedr_num ≡ num
+  pub of_old : number b place aedr_num ≡ num
   of_old =
       let same : get_or es.numbers i 0 ≡ number b place aedr_num = ap (λ (xs : List ℕ). get_or xs i 0) knows.numbers_are ∙ index_map (λ aedr. number b aedr aedr_num) es.places i 0 within in
       sym same ∙ eqb-true _ _ stands_in.1
@@ -155,10 +155,10 @@ module _ {b attr : List ℕ} {kind : EntryKind} {n : ℕ} {chain : Chain} (good 
   }
 
   module _ {now : List ℕ} (taken : TakenAt b now kind found.own.adr es i) (short : length b ≤ image_limit) where
-    sound : IsSound b (shape b)
+    pub sound : IsSound b (shape b)
     sound = good_is_sound b good
 
-    abbrev q : LeavesChain b taken.removed.late kind parts.before found.own parts.after place
+    abbrev pub q : LeavesChain b taken.removed.late kind parts.before found.own parts.after place
     q = leaves (cast_unsigned w32 taken.count) (cast_unsigned w32 taken.greatest) sound entry_there taken.removed.removed taken.removed.count_written taken.removed.written
 
     places_of : es.places ≡ chain_of found.own kind
@@ -170,7 +170,7 @@ module _ {b attr : List ℕ} {kind : EntryKind} {n : ℕ} {chain : Chain} (good 
     left_numbers : remove es.numbers i ≡ nums b (left_of place (chain_of found.own kind))
     left_numbers = ap (λ (xs : List ℕ). remove xs i) knows.numbers_are ∙ map-remove (λ aedr. number b aedr aedr_num) es.places i within ∙ ap (nums b) left_places
 
-    counts : number taken.removed.late found.own.adr (count_field kind) + 1 ≡ number b found.own.adr (count_field kind)
+    pub counts : number taken.removed.late found.own.adr (count_field kind) + 1 ≡ number b found.own.adr (count_field kind)
     counts =
         let few = few_entries b good chain (of_attribute found) in
         let long = ap (λ (xs : List ℕ). length xs) (places_are good (of_attribute found) es of knows) in
@@ -184,7 +184,7 @@ module _ {b attr : List ℕ} {kind : EntryKind} {n : ℕ} {chain : Chain} (good 
         sums : (l r p m c f : ℕ) → l ≡ r → r + 1 ≡ p → p ≡ m → c ≡ m → c ≡ f → l + 1 ≡ f
         sums l r p m c f x y z t u = omega arith
 
-    long : 28 ≤ size_at b place
+    pub long : 28 ≤ size_at b place
     long = reach (entry_bytes b place) (size_at b place) (entry_lies b good chain (of_attribute found) place (subst (In place) (sym (members b good chain (of_attribute found))) member))
       where
         reach : (k size : ℕ) → 56 + k ≤ size → 28 ≤ size
@@ -193,7 +193,7 @@ module _ {b attr : List ℕ} {kind : EntryKind} {n : ℕ} {chain : Chain} (good 
     same_lives : (m : ℕ) → In m (chain_of found.own kind) → EntryLives b b m
     same_lives m j = record { attribute = refl; num = refl; meant = refl; valued = refl; fits = entry_lies b good chain (of_attribute found) m (subst (In m) (sym (members b good chain (of_attribute found))) j) }
 
-    greatest : integer4 now found.own.adr (max_field kind) ≡ greatest_number (without num num (chain_items b (chain_of found.own kind)))
+    pub greatest : integer4 now found.own.adr (max_field kind) ≡ greatest_number (without num num (chain_items b (chain_of found.own kind)))
     greatest =
         let fits = greatest_fits (remove es.numbers i) taken.greatest (left_small good (of_attribute found) es of knows i within) taken.greatest_is in
         let stays = greatest_integer kind taken.removed.late now found.own.adr (greatest_same sound (left_frees sound q taken.removed.gives) (max_lies kind).1) in

@@ -59,7 +59,7 @@ same_greatest (x ∷ xs) (y ∷ ys) z w to from (m, is, (i, all)) (n, is', (i', 
 
 -- ---- items
 
-abbrev keys : List (ℕ × Entry) → List ℕ
+abbrev pub keys : List (ℕ × Entry) → List ℕ
 keys items = map (λ item. item.0) items
 
 last_greatest : (n low : ℕ) (a : Entry) (items : List (ℕ × Entry)) → n < low → Rising low items → IsGreatest (keys ((n, a) ∷ items)) (greatest_number ((n, a) ∷ items))
@@ -100,12 +100,12 @@ key_from n a ((m, c) ∷ items) k i = elim (either (nat_lt n m)) [
   ]
 ]
 
-keys_in : (b es : List ℕ) (k : ℕ) → In k (nums b es) → In k (keys (entries_of b es))
+pub keys_in : (b es : List ℕ) (k : ℕ) → In k (nums b es) → In k (keys (entries_of b es))
 keys_in b [] k i = absurd i
 keys_in b (e ∷ es) k (inl q) = subst (λ (x : ℕ). In x (keys (entries_of b (e ∷ es)))) (sym q) (key_in (number b e aedr_num) (entry_of b e) (entries_of b es))
 keys_in b (e ∷ es) k (inr i) = key_stays (number b e aedr_num) (entry_of b e) (entries_of b es) k (keys_in b es k i)
 
-nums_in : (b es : List ℕ) (k : ℕ) → In k (keys (entries_of b es)) → In k (nums b es)
+pub nums_in : (b es : List ℕ) (k : ℕ) → In k (keys (entries_of b es)) → In k (nums b es)
 nums_in b [] k i = absurd i
 nums_in b (e ∷ es) k i = elim (key_from (number b e aedr_num) (entry_of b e) (entries_of b es) k i) [ inl q ↦ inl q | inr l ↦ inr (nums_in b es k l) ]
 

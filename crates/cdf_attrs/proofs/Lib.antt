@@ -1,6 +1,9 @@
 pub mod DeletingSteps
 pub mod DroppedNumber
+pub mod DroppedOne
+pub mod DroppedVar
 pub mod DroppingFrom
+pub mod DropHalf
 pub mod DroppingSteps
 pub mod Renamed
 pub mod EntryWritten
@@ -19,6 +22,7 @@ pub mod PutCalls
 pub mod ChangedValue
 pub mod MovedValue
 pub mod NewAdr
+pub mod NumberedEntries
 pub mod NumberGone
 pub mod Created
 pub mod CreatingAnswers
@@ -37,6 +41,7 @@ pub mod EntryLookup
 pub mod EntrySteps
 pub mod GettingAnswers
 pub mod WholeEntries
+pub mod TakenHalf
 pub mod ValueSizes
 pub mod ValueWords
 pub mod RangeCounts

@@ -25,7 +25,7 @@ found_in num [] i = absurd i
 found_in num (x ∷ xs) (inl e) = subst (λ (y : ℕ). position_or_len (λ n. n == num) (y ∷ xs) < suc (length xs)) e (rw (eq-eqb num num refl) (omega arith))
 found_in num (x ∷ xs) (inr i) = bound (x == num) (position_or_len (λ n. n == num) xs) (length xs) (found_in num xs i)
 
-none_in : (num : ℕ) (xs : List ℕ) → position (λ n. n == num) xs ≡ None → In num xs → ⊥
+pub none_in : (num : ℕ) (xs : List ℕ) → position (λ n. n == num) xs ≡ None → In num xs → ⊥
 none_in num xs none i =
     let some : position (λ n. n == num) xs ≡ Some (position_or_len (λ n. n == num) xs) = rw (lt-ltb _ _ (found_in num xs i)) refl in
     let no : Some (position_or_len (λ n. n == num) xs) ≡ None = sym some ∙ none in

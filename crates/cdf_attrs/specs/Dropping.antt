@@ -1,16 +1,18 @@
 -- What is written of the entries of a chain whose numbers fall since a variable goes.
-use Rattle.std.specs.Prelude.{◌≡◌, ◌≤◌, ◌⊎◌, ◌==◌, ℕ, ℤ, ◌-◌, List, [], ◌∷◌, map, position, All, nat_lt, false, if◌then◌else◌, Some, None}
+use Rattle.std.specs.Prelude.{◌≡◌, ◌<◌, ◌≤◌, ◌⊎◌, ◌==◌, ℕ, ℤ, ◌-◌, List, [], ◌∷◌, length, map, position, All, nat_lt, false, if◌then◌else◌, Some, None}
 use Rattle.std.specs.Int.{w32, cast_unsigned}
 use Rattle.std.specs.List.{slice_get}
 use Rattle.cdf_model.specs.AttributeSteps.{is_wrong_scope}
-use Rattle.cdf_format.specs.Content.{attribute_of}
-use Rattle.cdf_format.specs.Shape.{AttributeShape, shape}
+use Rattle.cdf_format.specs.Content.{attribute_of, content}
+use Rattle.cdf_format.specs.Shape.{AttributeShape, adrs, shape}
+use Rattle.cdf_model.specs.Names.{attribute_names}
 use Rattle.cdf_model.specs.declared.kinds.EntryKind.{EntryKind}
 use Rattle.cdf_edits.specs.Commands.EntryChains.{max_field}
 use Rattle.cdf_edits.specs.Edits.FallenNumbers.{fallen}
 use Rattle.cdf_edits.specs.Edits.Writes.{Write, write, with_writes}
 use Rattle.cdf_format.specs.Fields.{with_field}
 use Rattle.cdf_format.specs.Records.{aedr_num}
+use Rattle.cdf_format.specs.Tiles.{In}
 use Rattle.cdf_attrs.specs.Known.{KnownEntries, KnowsEntries}
 use Rattle.cdf_edits.specs.Edits.EntryMarks.{entries_chain}
 use Rattle.cdf_format.specs.WellFormed.{Good}
@@ -22,8 +24,9 @@ lower_writes num [] places = []
 lower_writes num (n ∷ numbers) [] = []
 lower_writes num (n ∷ numbers) (aedr ∷ places) = if nat_lt num n then write aedr aedr_num (n - 1) ∷ lower_writes num numbers places else lower_writes num numbers places
 
--- the greater numbers of a chain were written less by one, and then its greatest number; or none is greater, and nothing was written
+-- some numbers of a chain are greater and were written less by one, and then its greatest number; or none is greater, and nothing was written
 pub record LowersNumbers (b now : List ℕ) (kind : EntryKind) (adr : ℕ) (entries : KnownEntries) (num : ℕ) : Type 0 where
+  pub some : (n : ℕ) × (In n entries.numbers × (num < n))
   pub greatest : ℤ
   pub greatest_is : IsGreatest (map (fallen num) entries.numbers) greatest
   pub written : now ≡ with_field (with_writes b (lower_writes num entries.numbers entries.places)) adr (max_field kind) (cast_unsigned w32 greatest)
@@ -65,3 +68,9 @@ pub record DropsFrom (b now : List ℕ) (kind : EntryKind) (adr num : ℕ) : Typ
   pub good : Good mid
   pub left_known : KnowsEntries mid left
   pub lowers : Lowers mid now kind adr left num
+
+-- the attributes have the names that they had, and stand where they did, in an image that is as long
+pub record KeepsAttributes (b now : List ℕ) : Type 0 where
+  pub names : attribute_names (content now) ≡ attribute_names (content b)
+  pub places : adrs (shape now) ≡ adrs (shape b)
+  pub long : length now ≡ length b

@@ -3,9 +3,10 @@
 ghost use Rattle.std.specs.Prelude.{◌≡◌, ◌<◌, ◌≤◌, length, map, All, Contains, IfOk, IfSome, IsNone, OnErr, OnOk, false, true};
 ghost use Rattle.cdf_area.specs.Calls.{Edits};
 ghost use Rattle.cdf_attrs.specs.Deleting.{AllLie, write_of};
-ghost use Rattle.cdf_attrs.specs.Dropping.{DropsFrom, DropsNumber, IsScoped, Lowers, lower_writes};
-ghost use Rattle.cdf_attrs.specs.Known.{KnowsEntries};
+ghost use Rattle.cdf_attrs.specs.Dropping.{DropsFrom, DropsNumber, IsScoped, KeepsAttributes, Lowers, lower_writes};
+ghost use Rattle.cdf_attrs.specs.Known.{Knows, KnowsEntries};
 ghost use Rattle.cdf_edits.specs.Commands.EntryChains.{kind_of_entries, max_field};
+ghost use Rattle.cdf_edits.specs.Edits.DropsEntries.{DropsEntries};
 ghost use Rattle.cdf_edits.specs.Edits.EntryMarks.{entries_chain};
 ghost use Rattle.cdf_format.specs.Content.{scope_of};
 ghost use Rattle.cdf_format.specs.Fields.{LiesIn, number};
@@ -13,9 +14,11 @@ ghost use Rattle.cdf_format.specs.Records.{adr_scope};
 ghost use Rattle.cdf_format.specs.Shape.{adrs, shape};
 ghost use Rattle.cdf_format.specs.Tiles.{In};
 ghost use Rattle.cdf_model.specs.AttributeSteps.{is_global};
+ghost use Rattle.cdf_model.specs.Names.{Found};
 ghost use Rattle.cdf_format.specs.WellFormed.{Good};
 ghost use Rattle.cdf_model.specs.Limits.{image_limit, signed_limit};
 
+use crate::attrs::Attrs;
 use crate::chain_fields::{entries_chain, set_greatest};
 use crate::deleting::{Numbered, set_numbers};
 use crate::entry_chain::EntryChain;
@@ -132,6 +135,7 @@ fn drop_from<A: Area>(
     ensures global { OnOk result (is_global (scope_of (number (A.image area.old) adr adr_scope)) ≡ true → A.image area.new ≡ A.image area.old) }
     ensures dropped { OnOk result (is_global (scope_of (number (A.image area.old) adr adr_scope)) ≡ false → DropsFrom (A.image area.old) (A.image area.new) (kind_of_entries kind) adr num) }
     ensures good { OnOk result (Good (A.image area.new)) }
+    ensures keeps { OnOk result (KeepsAttributes (A.image area.old) (A.image area.new)) }
     ensures area { Edits A.frame A.faults area.old area.new result }
 {
     let scope = read_scope(area, adr)?;
@@ -142,4 +146,24 @@ fn drop_from<A: Area>(
     let entries = EntryChain::load(alloc, area, entries_chain(kind, adr))?;
     let left = drop_number(area, kind, adr, entries, num)?;
     lower_entries(alloc, area, kind, adr, &left, num)
+}
+
+impl Attrs {
+    /// Takes the entries for a variable out of all attributes of variables; later entries for variables of its kind get numbers less
+    /// by one. After an error a part of this may have been done in the area.
+    pub fn drop_var<A: Area>(&mut self, area: &mut A, kind: Kind, num: u32) -> Result<(), AreaError>
+        requires good { Good (A.image area.old) }
+        requires known { Knows (A.image area.old) self.old }
+        requires short { length (A.image area.old) ≤ image_limit }
+        ensures dropped { OnOk result ((found : Found) → found.kind ≡ kind → found.number ≡ num → DropsEntries (A.image area.old) found (A.image area.new)) }
+        ensures known { OnOk result (Knows (A.image area.new) self.new) }
+        ensures stays { Knows (A.image area.old) self.new }
+        ensures area { Edits A.frame A.faults area.old area.new result }
+    {
+        self.entries = None;
+        for adr in &self.places {
+            drop_from(self.alloc, area, *adr, kind, num)?;
+        }
+        Ok(())
+    }
 }

@@ -57,3 +57,10 @@ returns-clause-dropped g c = from.drops_on (from.dropping c.args.kind c.requires
 pub returns-clause-good : goal.returns-clause-good
 returns-clause-good g c = from.good_on (from.dropping c.args.kind c.requires.good c.requires.adr c.requires.short c.in_ok-scope.ensures.area.image c.in_ok-scope.ensures.scope (sym c.if-is_global.ensures) c.entries_of-kind.ensures c.entries_chain.ensures
     c.in_ok-entries.ensures.area.image c.in_ok-entries.ensures.chain c.in_ok-entries.ensures.entries c.in_ok-left.ensures.drops c.in_ok-left.ensures.good c.in_ok-left.ensures.left) (g.A.Area.image c.lower_entries.new.area) c.lower_entries.result c.lower_entries.ensures.lowers
+
+pub returns-then-is_global-clause-keeps : goal.returns-then-is_global-clause-keeps
+returns-then-is_global-clause-keeps g c = from.keeps_same c.in_ok-scope.ensures.area.image
+
+pub returns-clause-keeps : goal.returns-clause-keeps
+returns-clause-keeps g c = from.keeps_on (from.dropping c.args.kind c.requires.good c.requires.adr c.requires.short c.in_ok-scope.ensures.area.image c.in_ok-scope.ensures.scope (sym c.if-is_global.ensures) c.entries_of-kind.ensures c.entries_chain.ensures
+    c.in_ok-entries.ensures.area.image c.in_ok-entries.ensures.chain c.in_ok-entries.ensures.entries c.in_ok-left.ensures.drops c.in_ok-left.ensures.good c.in_ok-left.ensures.left) (g.A.Area.image c.lower_entries.new.area) c.lower_entries.result c.lower_entries.ensures.lowers

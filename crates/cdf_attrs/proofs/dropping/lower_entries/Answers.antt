@@ -5,6 +5,7 @@ use Rattle.std.specs.Int.{cast_signed, cast_unsigned}
 use Rattle.cdf_attrs.specs.Deleting.{write_of}
 use Rattle.cdf_attrs.specs.Dropping.{lower_writes}
 use Rattle.cdf_attrs.specs.Known.{KnownEntries}
+use Rattle.cdf_attrs.proofs.GreatestNumber.{is_member}
 use Rattle.cdf_attrs.proofs.DroppingSteps.{lies_after, lowered_greatest, member_small}
 use Rattle.cdf_edits.specs.Commands.EntryChains.{max_field}
 use Rattle.cdf_edits.specs.Edits.Writes.{with_writes}
@@ -28,6 +29,7 @@ returns-clause-lowers g c =
     let all = subst (λ (xs : List ℕ). All (λ n. n ≤ most) xs) numbers c.in-Some.ensures.greatest in
     let less = member_small most es.numbers has c.requires.small in
     on_ok_weaker _ (λ w. inr (record {
+      some = (most, (is_member es.numbers most has, c.in-Some.ensures.above));
       greatest = cast_signed w32 (most - 1);
       greatest_is = lowered_greatest c.args.num most es.numbers (cast_signed w32 (most - 1)) (to_z_pos w32 (most - 1) (omega arith)) c.in-Some.ensures.above has all;
       written = w ∙ ap (λ (x : List ℕ). with_field x c.args.adr (max_field c.args.kind) (cast_unsigned w32 (cast_signed w32 (most - 1)))) (c.in_ok-set_numbers.ensures.written ∙ ap (with_writes b) writes);

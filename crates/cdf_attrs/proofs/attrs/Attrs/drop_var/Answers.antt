@@ -1,0 +1,33 @@
+use Rattle.std.proofs.Common.{◌≡◌, ◌∙◌, ℕ, List, refl, sym, ap, subst, arith}
+use Rattle.cdf_area.proofs.Calls.{edit_more}
+use Rattle.cdf_attrs.specs.Known.{Known}
+use Rattle.cdf_edits.proofs.Edits.DroppedSoFar.{start}
+use Rattle.cdf_format.specs.Shape.{adrs, shape}
+use Rattle.cdf_format.specs.Tiles.{In}
+use Rattle.cdf_attrs.proofs.DroppedVar.{all_done, at_index, drops_more, keeps_then}
+use Rattle.cdf_attrs.proofs.DroppingFrom.{keeps_same}
+use Rattle.cdf_attrs.proofs.attrs.Attrs.drop_var.Goals as goal
+
+pub loop-adr-init : goal.loop-adr-init
+loop-adr-init g c = record { good = c.requires.good; keeps = keeps_same refl; dropped = λ found kind_is num_is. start c.requires.good; area = record { frame = refl; faults = refl } }
+
+pub drop_from-requires-clause-adr : goal.drop_from-requires-clause-adr
+drop_from-requires-clause-adr g c =
+    let are = c.deref-adr-items.ensures.value ∙ ap (λ (k : Known). k.places) c.self.view_is ∙ c.requires.known.places_are in
+    at_index c.deref-adr-items.result.now _ c.loop-adr.adr-index (are ∙ sym c.loop-adr.invariant.keeps.places) c.loop-adr-test.true
+
+pub loop-adr-preserved : goal.loop-adr-preserved
+loop-adr-preserved g c =
+    let are = c.deref-adr-items.ensures.value ∙ ap (λ (k : Known). k.places) c.self.view_is ∙ c.requires.known.places_are in
+    let call = c.in_ok-drop_from.ensures in
+    record {
+      good = call.good;
+      keeps = keeps_then c.loop-adr.invariant.keeps call.keeps;
+      dropped = drops_more c.requires.good c.requires.short are c.loop-adr-test.true refl c.loop-adr.invariant.good c.loop-adr.invariant.keeps c.loop-adr.invariant.dropped call.global call.dropped;
+      area = edit_more c.loop-adr.invariant.area call.area;
+    }
+
+pub returns-clause-dropped : goal.returns-clause-dropped
+returns-clause-dropped g c =
+    let are = c.deref-adr-items.ensures.value ∙ ap (λ (k : Known). k.places) c.self.view_is ∙ c.requires.known.places_are in
+    λ found kind_is num_is. all_done c.deref-adr-items.result.now c.loop-adr.adr-index are (omega (arith, c.loop-adr-test.false, c.loop-adr.auto.adr-index-end)) (c.loop-adr.invariant.dropped found kind_is num_is)
