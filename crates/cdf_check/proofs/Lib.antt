@@ -20,3 +20,4 @@ pub mod Alike
 pub mod VariableSteps
 pub mod VariableShapes
 pub mod IndexSteps
+pub mod FieldSteps

@@ -5,7 +5,7 @@ use Rattle.cdf_model.specs.Place.{record_limit}
 use Rattle.cdf_format.specs.Chains.{is_in}
 use Rattle.cdf_format.specs.Fields.{LiesIn, Holds, gdr_offset, number, r_num_dims, r_sizes, size_at, type_at}
 use Rattle.cdf_format.specs.NotRead.{read_types, unread_sparse}
-use Rattle.cdf_format.specs.Records.{gdr_r_dim_sizes, vdr_data_type, vdr_max_rec, vdr_r_dim_vary, vdr_s_records}
+use Rattle.cdf_format.specs.Records.{gdr_r_dim_sizes, vdr_data_type, vdr_flags, vdr_max_rec, vdr_num_elems, vdr_r_dim_vary, vdr_s_records}
 use Rattle.cdf_format.specs.RecordTypes.{r_vdr_type, z_vdr_type}
 use Rattle.cdf_format.specs.Rules.{Row, row, asked}
 use Rattle.cdf_format.specs.Shape.{is_compressed}
@@ -13,6 +13,7 @@ use Rattle.cdf_format.specs.Stored.{known_type}
 use Rattle.cdf_format.specs.Tiles.{In}
 use Rattle.cdf_format.specs.VariableFields.{is_z, dimensions_at, dims_at, vary_field, type_of_variable, elems_at, record_bytes}
 use Rattle.cdf_format.specs.VariableRules.{has_elements, has_dimensions, vdr_end, is_max_rec, is_no_link, cpr_link, is_cpr, cpr_rows}
+use Rattle.cdf_check.specs.declared.variable_fields.Fields.{Fields}
 use Rattle.cdf_check.specs.declared.variable_shape.Dimensions.{Dimensions}
 use Rattle.cdf_check.specs.declared.variable_shape.Value.{Value}
 
@@ -29,6 +30,17 @@ pub record IsVariable (b : List ℕ) (vdr : ℕ) : Type 0 where
 
 abbrev pub AreVariables : List ℕ → List ℕ → Type 0
 AreVariables b vdrs = (vdr : ℕ) → In vdr vdrs → IsVariable b vdr
+
+-- the fields of a variable, as they were read
+pub record AreFields (b : List ℕ) (vdr : ℕ) (fields : Fields) : Type 0 where
+  pub size_is : fields.record_size ≡ size_at b vdr
+  pub type_is : fields.record_type ≡ type_at b vdr
+  pub data_type_is : fields.data_type ≡ known_type b vdr vdr_data_type
+  pub max_rec_is : fields.max_rec ≡ number b vdr vdr_max_rec
+  pub flags_are : fields.flags ≡ number b vdr vdr_flags
+  pub s_records_are : fields.s_records ≡ number b vdr vdr_s_records
+  pub num_elems_are : fields.num_elems ≡ number b vdr vdr_num_elems
+  pub link_is : fields.cpr_or_spr_offset ≡ cpr_link b vdr
 
 -- the GDR has room for the sizes of the dimensions that the r variables share
 abbrev pub HasRoomForSizes : List ℕ → Type 0

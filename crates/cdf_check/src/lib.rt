@@ -20,6 +20,7 @@ mod tiles;
 mod trailer_rules;
 mod validator;
 mod variable;
+mod variable_fields;
 mod variable_shape;
 mod variables;
 mod verdict;

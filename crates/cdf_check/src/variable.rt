@@ -1,26 +1,23 @@
 //! The rules on a variable by itself.
 
-ghost use Rattle.std.specs.Prelude.{◌≡◌, ◌+◌, ◌≤◌, ◌&&◌, ◌||◌, ◌==◌, [], length, IfOk};
+ghost use Rattle.std.specs.Prelude.{◌≡◌, ◌&&◌, ◌||◌, ◌==◌, ℕ, List, [], IfOk};
 ghost use Rattle.cdf_area.specs.Calls.{Reads};
 ghost use Rattle.cdf_model.specs.Values.{notation_of};
 ghost use Rattle.cdf_model.specs.VariableSteps.{is_characters};
 ghost use Rattle.cdf_format.specs.Fields.{gdr_offset, is_positive, name_in};
-ghost use Rattle.cdf_format.specs.Records.{vdr_data_type, vdr_name};
-ghost use Rattle.cdf_format.specs.Stored.{known_type};
+ghost use Rattle.cdf_format.specs.Records.{vdr_name};
 ghost use Rattle.cdf_format.specs.VariableRules.{variable_rows};
-ghost use Rattle.cdf_check.specs.Variables.{AreRead, AreValues, HasSizes, IsVariable, packing_rows, records_rows, value_rows};
+ghost use Rattle.cdf_check.specs.Variables.{AreFields, AreRead, AreValues, HasSizes, IsVariable, packing_rows, records_rows, value_rows};
 ghost use Rattle.cdf_check.specs.Verdicts.{Finds, Yields};
 
 use crate::fields::has_bit;
+use crate::variable_fields::{Fields, read_fields};
 use crate::variable_shape::{Value, check_shape};
 use crate::verdict::Finding;
 use cdf_area::{Area, AreaError};
-use cdf_format::fields::{
-    VDR_CPR_OR_SPR_OFFSET, VDR_DATA_TYPE, VDR_FLAGS, VDR_MAX_REC, VDR_NUM_ELEMS, VDR_S_RECORDS,
-};
 use cdf_model::limits::{RECORD_NUMBER_LIMIT, SIGNED_LIMIT};
 use cdf_model::{Bytes, DataType};
-use cdf_records::{read_name, read_signed4, read_unsigned4, read_unsigned8};
+use cdf_records::read_name;
 use std::alloc::Global;
 
 /// The bit of the Flags that says that the variable is compressed.
@@ -62,90 +59,61 @@ fn has_elements(data_type: DataType, elements: u32) -> bool
     elements >= 1 && elements <= SIGNED_LIMIT && (elements == 1 || is_text)
 }
 
-/// The DataType of a variable, if it is known.
-fn read_data_type<A: Area>(area: &mut A, vdr: u64) -> Result<Option<DataType>, AreaError>
-    requires variable { IsVariable (A.image area.old) vdr }
-    ensures value { IfOk result (λ found. found ≡ known_type (A.image area.old) vdr vdr_data_type) }
-    ensures area { Reads A.image A.frame A.faults A.edited area.old area.new result }
-{
-    let _size = area.size();
-    let code = read_signed4(area, vdr + VDR_DATA_TYPE)?;
-    Ok(DataType::of_code(code))
-}
-
 /// What the values of a variable are made of, or a rule on them that is broken.
-fn check_values<A: Area>(area: &mut A, vdr: u64) -> Result<Result<Value, Finding>, AreaError>
-    requires variable { IsVariable (A.image area.old) vdr }
-    ensures found { IfOk result (Yields (value_rows (A.image area.old) vdr) (AreValues (A.image area.old) vdr)) }
-    ensures area { Reads A.image A.frame A.faults A.edited area.old area.new result }
+fn check_values(vdr: u64, fields: &Fields) -> Result<Value, Finding>
+    ensures { (b : List ℕ) → AreFields b vdr fields.now → Yields (value_rows b vdr) (AreValues b vdr) result }
 {
-    let _size = area.size();
     let place = vdr;
-    let elements = read_unsigned4(area, vdr + VDR_NUM_ELEMS)?;
-    let Some(data_type) = read_data_type(area, vdr)? else {
+    let elements = fields.num_elems;
+    let Some(data_type) = fields.data_type else {
         // 7.3
-        return Ok(Err(Finding { rule: 3, place }));
+        return Err(Finding { rule: 3, place });
     };
     if !has_elements(data_type, elements) {
         // 7.4
-        return Ok(Err(Finding { rule: 4, place }));
+        return Err(Finding { rule: 4, place });
     }
-    Ok(Ok(Value {
+    Ok(Value {
         data_type,
         elements,
-    }))
+    })
 }
 
 /// The rules on the numbers of a variable's records.
-fn check_records<A: Area>(area: &mut A, vdr: u64) -> Result<Option<Finding>, AreaError>
-    requires variable { IsVariable (A.image area.old) vdr }
-    ensures found { IfOk result (Finds (records_rows (A.image area.old) vdr)) }
-    ensures area { Reads A.image A.frame A.faults A.edited area.old area.new result }
+fn check_records(vdr: u64, fields: &Fields) -> Option<Finding>
+    ensures { (b : List ℕ) → AreFields b vdr fields.now → Finds (records_rows b vdr) result }
 {
-    let _size = area.size();
     let place = vdr;
-    let last = read_unsigned4(area, vdr + VDR_MAX_REC)?;
-    if last > RECORD_NUMBER_LIMIT && last != NO_RECORD {
+    if fields.max_rec > RECORD_NUMBER_LIMIT && fields.max_rec != NO_RECORD {
         // 7.8
-        return Ok(Some(Finding { rule: 8, place }));
+        return Some(Finding { rule: 8, place });
     }
-    let sparse = read_unsigned4(area, vdr + VDR_S_RECORDS)?;
-    if sparse > LAST_SPARSE {
+    if fields.s_records > LAST_SPARSE {
         // 7.9
-        return Ok(Some(Finding { rule: 9, place }));
+        return Some(Finding { rule: 9, place });
     }
-    Ok(None)
+    None
 }
 
 /// The rules on how a variable's records are packed, where no CPR is read so far.
-fn check_packing<A: Area>(
-    area: &mut A,
-    _tiles: &[u64],
-    vdr: u64,
-) -> Result<Option<Finding>, AreaError>
-    requires variable { IsVariable (A.image area.old) vdr }
-    requires read { AreRead (A.image area.old) _tiles.now }
-    ensures found { IfOk result (Finds (packing_rows (A.image area.old) _tiles.now vdr)) }
-    ensures area { Reads A.image A.frame A.faults A.edited area.old area.new result }
+fn check_packing(_tiles: &[u64], vdr: u64, fields: &Fields) -> Option<Finding>
+    ensures { (b : List ℕ) → AreRead b _tiles.now → AreFields b vdr fields.now → Finds (packing_rows b _tiles.now vdr) result }
 {
-    let _size = area.size();
     let place = vdr;
-    let flags = read_unsigned4(area, vdr + VDR_FLAGS)?;
-    let link = read_unsigned8(area, vdr + VDR_CPR_OR_SPR_OFFSET)?;
-    let sparse = read_unsigned4(area, vdr + VDR_S_RECORDS)?;
-    if has_bit(flags, COMPRESSED) {
+    let link = fields.cpr_or_spr_offset;
+    if has_bit(fields.flags, COMPRESSED) {
         // 7.11
-        return Ok(Some(Finding { rule: 11, place }));
+        return Some(Finding { rule: 11, place });
     }
     if link != u64::MAX && link != 0 {
         // 7.10
-        return Ok(Some(Finding { rule: 10, place }));
+        return Some(Finding { rule: 10, place });
     }
-    if sparse != 0 {
+    if fields.s_records != 0 {
         // 7.99
-        return Ok(Some(Finding { rule: 99, place }));
+        return Some(Finding { rule: 99, place });
     }
-    Ok(None)
+    None
 }
 
 /// The Name of a variable, or a rule on it that is broken, but for those that compare it with others.
@@ -171,17 +139,18 @@ pub fn check_variable<A: Area>(
             place: vdr,
         }));
     }
-    let value = match check_values(area, vdr)? {
+    let fields = read_fields(area, vdr)?;
+    let value = match check_values(vdr, &fields) {
         Ok(value) => value,
         Err(broken) => return Ok(Err(broken)),
     };
-    if let Some(broken) = check_shape(alloc, area, gdr, vdr, value)? {
+    if let Some(broken) = check_shape(alloc, area, gdr, vdr, &fields, value)? {
         return Ok(Err(broken));
     }
-    if let Some(broken) = check_records(area, vdr)? {
+    if let Some(broken) = check_records(vdr, &fields) {
         return Ok(Err(broken));
     }
-    if let Some(broken) = check_packing(area, tiles, vdr)? {
+    if let Some(broken) = check_packing(tiles, vdr, &fields) {
         return Ok(Err(broken));
     }
     Ok(Ok(name))

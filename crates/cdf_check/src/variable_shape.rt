@@ -8,16 +8,16 @@ ghost use Rattle.cdf_format.specs.Fields.{counted, gdr_offset, is_positive, numb
 ghost use Rattle.cdf_format.specs.Records.{vdr_z_num_dims};
 ghost use Rattle.cdf_format.specs.VariableFields.{counted4, is_z, record_bytes, dimensions_at, vary_field};
 ghost use Rattle.cdf_format.specs.VariableRules.{vdr_end};
-ghost use Rattle.cdf_check.specs.Variables.{AreDimensions, AreShared, AreValues, HasSizes, IsVariable, Measures, shape_rows};
+ghost use Rattle.cdf_check.specs.Variables.{AreDimensions, AreFields, AreShared, AreValues, HasSizes, IsVariable, Measures, shape_rows};
 ghost use Rattle.cdf_check.specs.Verdicts.{Finds};
 
-use crate::fields::{has_bit, read_size, read_type};
+use crate::fields::has_bit;
 use crate::gdr_rules::are_sizes;
+use crate::variable_fields::Fields;
 use crate::verdict::Finding;
 use cdf_area::{Area, AreaError};
 use cdf_format::fields::{
-    GDR_R_DIM_SIZE, GDR_R_NUM_DIMS, VDR_FLAGS, VDR_R_DIM_VARY, VDR_Z_DIM_SIZE, VDR_Z_NUM_DIMS,
-    Z_VDR_TYPE,
+    GDR_R_DIM_SIZE, GDR_R_NUM_DIMS, VDR_R_DIM_VARY, VDR_Z_DIM_SIZE, VDR_Z_NUM_DIMS, Z_VDR_TYPE,
 };
 use cdf_model::limits::DIMENSION_LIMIT;
 use cdf_model::{DataType, Nums, Varys};
@@ -65,16 +65,6 @@ fn are_not_0(alloc: Global, numbers: &[u32]) -> Result<Vec<bool>, AllocError>
     numbers.iter().map(|number| *number != 0).collect(alloc)
 }
 
-/// Whether a variable is a z variable.
-fn is_z<A: Area>(area: &mut A, vdr: u64) -> Result<bool, AreaError>
-    requires { IsVariable (A.image area.old) vdr }
-    ensures value { IfOk result (λ is. is ≡ is_z (A.image area.old) vdr) }
-    ensures area { Reads A.image A.frame A.faults A.edited area.old area.new result }
-{
-    let record_type = read_type(area, vdr)?;
-    Ok(record_type == Z_VDR_TYPE)
-}
-
 /// The dimensions that the r variables share.
 fn read_r_dimensions<A: Area>(
     alloc: Global,
@@ -102,8 +92,10 @@ fn read_z_dimensions<A: Area>(
     alloc: Global,
     area: &mut A,
     vdr: u64,
+    fields: &Fields,
 ) -> Result<Option<Dimensions>, AreaError>
     requires variable { IsVariable (A.image area.old) vdr }
+    requires fields { AreFields (A.image area.old) vdr fields.now }
     requires kind { is_z (A.image area.old) vdr ≡ true }
     ensures dimensions { IfOk result (Measures (A.image area.old) vdr) }
     ensures area { Reads A.image A.frame A.faults A.edited area.old area.new result }
@@ -114,8 +106,7 @@ fn read_z_dimensions<A: Area>(
         return Ok(None);
     }
     let varys = VDR_Z_DIM_SIZE + 4 * u64::from(count);
-    let size = read_size(area, vdr)?;
-    if varys > size {
+    if varys > fields.record_size {
         return Ok(None);
     }
     let sizes = read_nums(alloc, area, vdr + VDR_Z_DIM_SIZE, count)?;
@@ -135,41 +126,41 @@ fn read_dimensions<A: Area>(
     area: &mut A,
     gdr: u64,
     vdr: u64,
+    fields: &Fields,
 ) -> Result<Option<Dimensions>, AreaError>
     requires gdr { gdr ≡ gdr_offset (A.image area.old) }
     requires sizes { HasSizes (A.image area.old) }
     requires variable { IsVariable (A.image area.old) vdr }
+    requires fields { AreFields (A.image area.old) vdr fields.now }
     ensures dimensions { IfOk result (Measures (A.image area.old) vdr) }
     ensures area { Reads A.image A.frame A.faults A.edited area.old area.new result }
 {
-    if is_z(area, vdr)? {
-        return read_z_dimensions(alloc, area, vdr);
+    if fields.record_type == Z_VDR_TYPE {
+        return read_z_dimensions(alloc, area, vdr, fields);
     }
     let dimensions = read_r_dimensions(alloc, area, gdr)?;
     Ok(Some(dimensions))
 }
 
 /// Where the fields of a variable end in its record, the pad value included.
-fn read_end<A: Area>(
-    area: &mut A,
+fn end_of<A: Area>(
+    _area: &A,
     vdr: u64,
+    fields: &Fields,
     value: Value,
     dimensions: &Dimensions,
-) -> Result<u64, AreaError>
-    requires variable { IsVariable (A.image area.old) vdr }
-    requires value { AreValues (A.image area.old) vdr value }
-    requires dimensions { AreDimensions (A.image area.old) vdr dimensions.now }
-    ensures value { IfOk result (λ end. end ≡ vdr_end (A.image area.old) vdr) }
-    ensures area { Reads A.image A.frame A.faults A.edited area.old area.new result }
+) -> u64
+    requires fields { AreFields (A.image _area.now) vdr fields.now }
+    requires value { AreValues (A.image _area.now) vdr value }
+    requires dimensions { AreDimensions (A.image _area.now) vdr dimensions.now }
+    ensures { result ≡ vdr_end (A.image _area.now) vdr }
 {
-    let _size = area.size();
-    let flags = read_unsigned4(area, vdr + VDR_FLAGS)?;
     let pad = dimensions.varys + 4 * u64::from(dimensions.count);
-    if !has_bit(flags, HAS_PAD) {
-        return Ok(pad);
+    if !has_bit(fields.flags, HAS_PAD) {
+        return pad;
     }
     let bytes = u64::from(value.data_type.size()) * u64::from(value.elements);
-    Ok(pad + bytes)
+    pad + bytes
 }
 
 /// Whether the values of a variable vary along each dimension, from a place on.
@@ -218,23 +209,24 @@ pub fn check_shape<A: Area>(
     area: &mut A,
     gdr: u64,
     vdr: u64,
+    fields: &Fields,
     value: Value,
 ) -> Result<Option<Finding>, AreaError>
     requires gdr { gdr ≡ gdr_offset (A.image area.old) }
     requires sizes { HasSizes (A.image area.old) }
     requires variable { IsVariable (A.image area.old) vdr }
+    requires fields { AreFields (A.image area.old) vdr fields.now }
     requires value { AreValues (A.image area.old) vdr value }
     ensures found { IfOk result (Finds (shape_rows (A.image area.old) vdr)) }
     ensures area { Reads A.image A.frame A.faults A.edited area.old area.new result }
 {
     let place = vdr;
-    let Some(dimensions) = read_dimensions(alloc, area, gdr, vdr)? else {
+    let Some(dimensions) = read_dimensions(alloc, area, gdr, vdr, fields)? else {
         // 7.5
         return Ok(Some(Finding { rule: 5, place }));
     };
-    let end = read_end(area, vdr, value, &dimensions)?;
-    let size = read_size(area, vdr)?;
-    if end > size {
+    let end = end_of(area, vdr, fields, value, &dimensions);
+    if end > fields.record_size {
         // 7.6
         return Ok(Some(Finding { rule: 6, place }));
     }
