@@ -3,4 +3,5 @@ pub mod OpenLemmas
 pub mod ChecksumLemmas
 pub mod AdoptLemmas
 pub mod NewFileLemmas
+pub mod DeletionLemmas
 pub mod Explained

@@ -91,7 +91,7 @@ answered_so P limit b now c o a before led = elim (either (is_accepted a.answer 
       subst P (sym same) before
 ]
 
-on_err : {T E P : Type 0} (r : Result T E) → P → OnErr r P
+pub on_err : {T E P : Type 0} (r : Result T E) → P → OnErr r P
 on_err (Ok x) p = tt
 on_err (Err e) p = p
 
@@ -133,7 +133,7 @@ some_same : (b now : List ℕ) → Some b ≡ Some now → now ≡ b
 some_same b now e = cc e
 
 -- It was carried out and kept, or it was not and all was taken back. The facts are those that the calls between give.
-ends_known : {U : Type 0} (b start made now : List ℕ) (frame first marked end : Frame U) (known after : Known) (vars vars' : KnownVariables) (c : Command) (done : Result Outcome AreaError)
+pub ends_known : {U : Type 0} (b start made now : List ℕ) (frame first marked end : Frame U) (known after : Known) (vars vars' : KnownVariables) (c : Command) (done : Result Outcome AreaError)
     → IsOpen b frame known vars → start ≡ b → first ≡ with_base frame (Some b) → marked ≡ first → end ≡ with_base marked None → IfOk done (λ o. Answers first.limit start c o made)
     → OnOk done (Knows made after) → OnErr done (Knows start after) → OnOk done (KnowsVariables made vars') → OnErr done (KnowsVariables start vars')
     → OnOk done (now ≡ made) → OnErr done (marked.base ≡ Some now) → IsOpen now end after vars'

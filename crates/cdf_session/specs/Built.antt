@@ -9,6 +9,7 @@ built_on_variables (commands.Setup encoding majority dims) = true
 built_on_variables (commands.RVar name t elems vary varys) = true
 built_on_variables (commands.ZVar name t elems vary dims varys) = true
 built_on_variables (commands.RenameVar from to) = true
+built_on_variables (commands.DelVar name) = true
 built_on_variables (commands.SetPad var words) = true
 built_on_variables (commands.SetBlocking var n) = true
 built_on_variables c = false

@@ -3,6 +3,7 @@
 
 mod adopting;
 mod checksum;
+mod deleting;
 mod loading;
 mod new_file;
 mod on_variables;

@@ -8,6 +8,7 @@ ghost use Rattle.cdf_model.specs.Sayable.{Fit, Sayable};
 ghost use Rattle.cdf_session.specs.Built.{built_on_variables};
 ghost use Rattle.cdf_session.specs.Sessions.{AnswersBuilt};
 
+use crate::deleting::delete_variable;
 use crate::session::{Session, settle};
 use cdf_area::{Area, AreaError};
 use cdf_model::{Command, DataType, LineError, Majority, Nums, Outcome, Reason, Varys, Words};
@@ -44,6 +45,7 @@ impl<A: Area> Session<A> {
                 varys,
             } => self.zvar(name.as_slice(), *t, *elems, *vary, dims, varys),
             Command::RenameVar { from, to } => self.rename_var(from.as_slice(), to.as_slice()),
+            Command::DelVar { name } => self.del_var(name.as_slice()),
             Command::SetPad { var, words } => self.set_pad(var.as_slice(), words),
             Command::SetBlocking { var, n } => self.set_blocking(var.as_slice(), *n),
             _ => Ok(Outcome::Refused {
@@ -123,6 +125,17 @@ impl<A: Area> Session<A> {
         self.area.mark();
         let done = self.vars.rename(&mut self.area, from, to);
         self.attrs.forget_entries();
+        settle(&mut self.area, done)
+    }
+
+    /// The command `del-var`.
+    fn del_var(&mut self, name: &[u8]) -> Result<Outcome, AreaError>
+        ensures answers { IfOk result (λ o. Answers (A.frame self.old).limit (A.image self.old) (Command.DelVar name.now) o (A.image self.new)) }
+        ensures stays { OnErr result (A.image self.new ≡ A.image self.old) }
+        ensures area { Edits A.frame A.faults self.old self.new result }
+    {
+        self.area.mark();
+        let done = delete_variable(&mut self.area, &mut self.attrs, &mut self.vars, name);
         settle(&mut self.area, done)
     }
 

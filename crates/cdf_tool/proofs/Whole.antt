@@ -12,7 +12,7 @@ use Rattle.cdf_model.specs.declared.answer.Reason.{Reason}
 use Rattle.cdf_model.specs.declared.answer.Reason.TheVariants as reasons
 use Rattle.cdf_model.specs.declared.answer.Reply.TheVariants as replies
 use Rattle.cdf_model.specs.declared.command.Command.{Command}
-use Rattle.cdf_model.specs.declared.command.Command.TheVariants.{Info, List as Lists, Attr, RenameAttr, DelAttr, PutEntry, GetEntry, DelEntry, Setup, RVar, ZVar, RenameVar, SetPad, SetBlocking, Checksum}
+use Rattle.cdf_model.specs.declared.command.Command.TheVariants.{Info, List as Lists, Attr, RenameAttr, DelAttr, PutEntry, GetEntry, DelEntry, Setup, RVar, ZVar, RenameVar, DelVar, SetPad, SetBlocking, Checksum}
 use Rattle.cdf_model.specs.declared.head.Majority.{Majority}
 use Rattle.cdf_model.specs.declared.kinds.Kind.{Kind}
 use Rattle.cdf_model.specs.declared.kinds.Kind.TheVariants.{R, Z}
@@ -28,7 +28,7 @@ use Rattle.cdf_model.specs.Names.{Found, is_bad_name, is_among, attribute_names,
 use Rattle.cdf_model.specs.Numbered.{item_at, with_item, without}
 use Rattle.cdf_model.specs.Values.{notation_of, values_in}
 use Rattle.cdf_model.specs.Step.{ByStep, step}
-use Rattle.cdf_model.specs.VariableSteps.{are_bad_sizes, is_bad_shape, is_empty_set, new_variable, rename_var_step, set_blocking_step, set_pad_step, setup_step, var_step, with_variable}
+use Rattle.cdf_model.specs.VariableSteps.{are_bad_sizes, del_var_step, is_bad_shape, is_empty_set, new_variable, rename_var_step, set_blocking_step, set_pad_step, setup_step, var_step, with_variable, without_variable}
 use Rattle.cdf_session.specs.Built.{built}
 use Rattle.cdf_model.specs.Whole.{CanBeWritten, HasWholeValues}
 use Rattle.cdf_session.specs.Sessions.{AnswersBuilt}
@@ -102,6 +102,9 @@ rename_var_whole : (d : DataSet) (from to : List ℕ) → IsWholeAnswer (rename_
 rename_var_whole d from to =
     variable_whole d from ((is_bad_name to, reasons.BadName) ∷ (is_among to (variable_names d), reasons.NameTaken) ∷ []) (λ found. with_variable d found (record found.variable { name = to }))
 
+del_var_whole : (d : DataSet) (name : List ℕ) → IsWholeAnswer (del_var_step d name)
+del_var_whole d name = given_whole {A = Found} reasons.NoSuchVar (variable_named d name) (λ found. Go (without_variable d found) replies.Plain) (λ found. tt)
+
 set_pad_whole : (d : DataSet) (name : List ℕ) (words : List (List ℕ)) → IsWholeAnswer (set_pad_step d name words)
 set_pad_whole d name words =
     let put = λ (found : Found) (bytes : List ℕ). Go (with_variable d found (record found.variable { pad = Some bytes })) replies.Plain in
@@ -141,6 +144,7 @@ can_be_written limit b (RVar name t elems vary varys) o now a =
 can_be_written limit b (ZVar name t elems vary dims varys) o now a =
     from_answers limit b (ZVar name t elems vary dims varys) o now (var_step (content b) Z name t elems vary dims varys) refl (var_whole (content b) Z name t elems vary dims varys) a
 can_be_written limit b (RenameVar from to) o now a = from_answers limit b (RenameVar from to) o now (rename_var_step (content b) from to) refl (rename_var_whole (content b) from to) a
+can_be_written limit b (DelVar name) o now a = from_answers limit b (DelVar name) o now (del_var_step (content b) name) refl (del_var_whole (content b) name) a
 can_be_written limit b (SetPad var words) o now a = from_answers limit b (SetPad var words) o now (set_pad_step (content b) var words) refl (set_pad_whole (content b) var words) a
 can_be_written limit b (SetBlocking var n) o now a = from_answers limit b (SetBlocking var n) o now (set_blocking_step (content b) var n) refl (set_blocking_whole (content b) var n) a
 can_be_written limit b (Checksum md5) o now a = from_answers limit b (Checksum md5) o now (Go (record (content b) { md5 = md5 }) replies.Plain) refl tt a

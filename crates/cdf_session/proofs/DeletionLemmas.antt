@@ -1,0 +1,95 @@
+-- What is kept of attributes and variables while a variable goes with its entries.
+use Rattle.std.proofs.Common.{◌≡◌, ◌<◌, ◌≤◌, ℕ, List, [], ◌∷◌, length, map, refl, sym, ap, subst, ◌∙◌, Some, None, arith}
+use Rattle.cdf_attrs.specs.Known.{Known, Knows}
+use Rattle.cdf_edits.proofs.Edits.RemovedVariable.{content_after, shape_after}
+use Rattle.cdf_edits.proofs.Edits.VariableKinds.{with_shapes}
+use Rattle.cdf_edits.specs.Edits.DropsEntries.{DropsEntries}
+use Rattle.cdf_edits.specs.Edits.RemovesVariable.{RemovesVariable}
+use Rattle.cdf_format.specs.Content.{content}
+use Rattle.cdf_format.specs.Shape.{Shape, VariableShape, adrs, shape, vdrs}
+use Rattle.cdf_format.specs.WellFormed.{Good}
+use Rattle.cdf_edits.specs.Commands.Allowances.{shapes_of}
+use Rattle.cdf_model.specs.DataSet.{DataSet, Variable}
+use Rattle.cdf_model.specs.Names.{Found, attribute_names, variables_of, with_variables}
+use Rattle.cdf_model.specs.declared.kinds.Kind.{Kind}
+use Rattle.cdf_model.specs.declared.kinds.Kind.TheVariants.{R, Z}
+use Rattle.cdf_edits.specs.Answers.{Answers}
+use Rattle.cdf_edits.proofs.Edits.VariableDeletionFollows.{delete_done}
+use Rattle.cdf_format.specs.Content.{variable_of}
+use Rattle.cdf_model.specs.Limits.{image_limit}
+use Rattle.cdf_model.specs.declared.answer.Outcome.TheVariants.{Done}
+use Rattle.cdf_model.specs.declared.answer.Reply.TheVariants.{Plain}
+use Rattle.cdf_model.specs.declared.command.Command.TheVariants.{DelVar}
+use Rattle.cdf_vars.specs.Finding.{found_among}
+use Rattle.cdf_vars.specs.Known.{Known as KnownVariables, KnownKind, KnowsKind, Knows as KnowsVariables, known_of}
+use Rattle.cdf_vars.specs.declared.vars.VarId.{VarId}
+use Rattle.cdf_vars.proofs.VariableFound.{IsFound, found_stands}
+
+same_names : (d : DataSet) (kind : Kind) (vs : List Variable) → attribute_names (with_variables d kind vs) ≡ attribute_names d
+same_names d R vs = refl
+same_names d Z vs = refl
+
+module _ {b now : List ℕ} {kind : Kind} {n : ℕ} (good : Good b) (d : RemovesVariable b now kind n) where
+  -- the attributes stay while the variable itself goes
+  pub attributes_stay : {known : Known} → known.entries ≡ None → Knows b known → Knows now known
+  attributes_stay {known} none knows = record {
+    names_are = knows.names_are ∙ sym (ap attribute_names (content_after good d) ∙ same_names _ kind _);
+    places_are = knows.places_are ∙ sym (ap adrs (shape_after good d));
+    entries_are = λ e same. let no : None ≡ Some e = sym none ∙ same in absurd cc;
+  }
+
+module _ {b now : List ℕ} {found : Found} (drops : DropsEntries b found now) where
+  kind_stays : (kind : Kind) → variables_of (content now) kind ≡ variables_of (content b) kind
+  kind_stays R = ap (λ (d : DataSet). d.r_variables) drops.content_is
+  kind_stays Z = ap (λ (d : DataSet). d.z_variables) drops.content_is
+
+  -- the variables stay while their entries go
+  pub variables_stay : {known : KnownVariables} → KnowsVariables b known → KnowsVariables now known
+  variables_stay knows = record {
+    r_known = record { names_are = knows.r_known.names_are ∙ ap (map (λ (v : Variable). v.name)) (sym (kind_stays R)); places_are = knows.r_known.places_are ∙ ap vdrs (sym (drops.variables_are R)) };
+    z_known = record { names_are = knows.z_known.names_are ∙ ap (map (λ (v : Variable). v.name)) (sym (kind_stays Z)); places_are = knows.z_known.places_are ∙ ap vdrs (sym (drops.variables_are Z)) };
+  }
+
+  kind_back : (kind : Kind) {known : KnownKind} → KnowsKind now kind known → KnowsKind b kind known
+  kind_back kind knows = record {
+    names_are = knows.names_are ∙ ap (map (λ (v : Variable). v.name)) (kind_stays kind);
+    places_are = knows.places_are ∙ ap vdrs (drops.variables_are kind);
+  }
+
+  -- and what is right of them after that was right of them before
+  pub variables_were : {known : KnownVariables} → KnowsVariables now known → KnowsVariables b known
+  variables_were knows = record { r_known = kind_back R knows.r_known; z_known = kind_back Z knows.z_known }
+
+-- ---- a variable that is found by its name, and whose entries went
+
+module _ {b mid : List ℕ} {known : KnownVariables} (name : List ℕ) {id : VarId} (good : Good b) (knows : KnowsVariables b known) (is : found_among known name ≡ Some id) (dropped : (found : Found) → found.kind ≡ id.kind → found.number ≡ id.num → DropsEntries b found mid) where
+  there : IsFound b known name id
+  there = found_stands b known name id good knows is
+
+  abbrev found : Found
+  found = record { kind = id.kind; number = id.num; variable = variable_of b there.own }
+
+  drops : DropsEntries b found mid
+  drops = dropped found refl refl
+
+  pub good_between : Good mid
+  good_between = drops.good
+
+  pub knows_between : KnowsVariables mid known
+  knows_between = variables_stay drops knows
+
+  pub knew_before : {after : KnownVariables} → KnowsVariables mid after → KnowsVariables b after
+  knew_before k = variables_were drops k
+
+  pub stands_within : id.num < length (known_of known id.kind).places
+  stands_within = there.within
+
+  pub short_between : length b ≤ image_limit → length mid ≤ image_limit
+  short_between short = let l = drops.long in omega arith
+
+  pub is_deleted : {now : List ℕ} (limit : ℕ) → length b ≤ limit → limit ≤ image_limit → RemovesVariable mid now id.kind id.num → Answers limit b (DelVar name) (Done Plain) now
+  is_deleted limit fits most removes = delete_done good drops removes name there.named limit fits (omega arith)
+
+-- nothing but the entries of one chain was let go
+pub forgets : {b : List ℕ} {known after : Known} → Knows b known → after ≡ record known { entries = None } → Knows b after
+forgets {b} {known} {after} knows is = subst (Knows b) (sym is) (record { names_are = knows.names_are; places_are = knows.places_are; entries_are = λ e same. absurd cc })
