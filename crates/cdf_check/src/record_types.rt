@@ -51,6 +51,8 @@ pub fn is_read(record_type: u32) -> bool
         || record_type == AGR_EDR_TYPE
         || record_type == AZ_EDR_TYPE
         || record_type == R_VDR_TYPE
+        || record_type == VXR_TYPE
+        || record_type == VVR_TYPE
         || record_type == Z_VDR_TYPE
         || record_type == UIR_TYPE
 }

@@ -24,7 +24,6 @@ use Rattle.cdf_format.proofs.IndexLemmas.{nodes_stand}
 use Rattle.cdf_format.proofs.RowLemmas.{Hold-split}
 use Rattle.cdf_format.proofs.ShapeLemmas.{Each-split}
 use Rattle.cdf_format.proofs.Tests.{both}
-use Rattle.cdf_format.specs.NotRead.{unread_lower}
 
 -- ---- counts
 
@@ -123,10 +122,9 @@ module _ (b ts : List ℕ) where
     entry_blocks_in vxr low high (block first last place packed entries) h m (inl e) = ap (is_block b ts) e ∙ h.0
     entry_blocks_in vxr low high (block first last place packed entries) h m (inr i) = entry_blocks_in vxr (with_sign last) high entries h.1.1 m i
     entry_blocks_in vxr low high (lower first last nodes entries) h m i =
-        let p = Hold-split (unread_lower vxr ++ nodes_rows b ts (number_before first) (with_sign last) nodes) (used_rows b ts vxr (with_sign last) high entries) h.1 in
-        let q = Hold-split (unread_lower vxr) (nodes_rows b ts (number_before first) (with_sign last) nodes) p.0 in
+        let p = Hold-split (nodes_rows b ts (number_before first) (with_sign last) nodes) (used_rows b ts vxr (with_sign last) high entries) h.1 in
         elim (In-append m (map (λ (leaf : Leaf). leaf.place) (leaves_of nodes)) (map (λ (leaf : Leaf). leaf.place) (entry_leaves entries)) (subst (λ (x : List ℕ). In m x) (map-append (λ (leaf : Leaf). leaf.place) (leaves_of nodes) (entry_leaves entries)) i)) [
-          | inl j ↦ blocks_in (number_before first) (with_sign last) nodes q.1 m j
+          | inl j ↦ blocks_in (number_before first) (with_sign last) nodes p.0 m j
           | inr j ↦ entry_blocks_in vxr (with_sign last) high entries p.1 m j
         ]
 

@@ -24,7 +24,6 @@ use Rattle.cdf_format.proofs.Tests.{both, le_of}
 use Rattle.cdf_format.proofs.RowLemmas.{Hold-split}
 use Rattle.cdf_format.proofs.ShapeLemmas.{Each-append}
 use Rattle.cdf_format.proofs.Owning.{times-none, times-once, tiles_distinct, blocks_in, block_in, same_counts}
-use Rattle.cdf_format.specs.NotRead.{unread_lower}
 
 -- ---- entries
 
@@ -78,9 +77,8 @@ module _ (b records : List ℕ) where
     lower_fit vxr low high no_entry h = tt
     lower_fit vxr low high (block first last place packed entries) h = lower_fit vxr (with_sign last) high entries h.1.1
     lower_fit vxr low high (lower first last nodes entries) h =
-        let p = Hold-split (unread_lower vxr ++ nodes_rows b records (number_before first) (with_sign last) nodes) (used_rows b records vxr (with_sign last) high entries) h.1 in
-        let q = Hold-split (unread_lower vxr) (nodes_rows b records (number_before first) (with_sign last) nodes) p.0 in
-        Each-append (NodeFits b) (nodes_of nodes) (lower_nodes entries) (nodes_fit (number_before first) (with_sign last) nodes q.1) (lower_fit vxr (with_sign last) high entries p.1)
+        let p = Hold-split (nodes_rows b records (number_before first) (with_sign last) nodes) (used_rows b records vxr (with_sign last) high entries) h.1 in
+        Each-append (NodeFits b) (nodes_of nodes) (lower_nodes entries) (nodes_fit (number_before first) (with_sign last) nodes p.0) (lower_fit vxr (with_sign last) high entries p.1)
 
   abbrev IsPackedAs : Leaf → Type 0
   IsPackedAs leaf = (type_at b leaf.place == cvvr_type) ≡ leaf.packed

@@ -7,7 +7,6 @@ use Rattle.cdf_model.specs.RunLengths.{unpacked}
 use Rattle.cdf_format.specs.Fields.{with_sign, number, holds}
 use Rattle.cdf_format.specs.Records.{vxr_n_used_entries, vxr_entries, vvr_records, cvvr_c_size, cvvr_packed}
 use Rattle.cdf_format.specs.RecordTypes.{vvr_type, cvvr_type}
-use Rattle.cdf_format.specs.NotRead.{unread_lower}
 use Rattle.cdf_format.specs.Rules.{Row, row, asked}
 use Rattle.cdf_format.specs.Chains.{is_a}
 use Rattle.cdf_format.specs.Index.{Nodes, no_node, node, Entries, no_entry, block, lower, Leaf, leaves_of, room_at}
@@ -44,7 +43,7 @@ unfoldable mutual
   used_rows b records vxr low high (block first last place packed entries) =
       row 3 vxr (is_block b records place) ∷ row 4 vxr (is_between low high first last) ∷ used_rows b records vxr (with_sign last) high entries
   used_rows b records vxr low high (lower first last nodes entries) =
-      row 4 vxr (is_between low high first last) ∷ unread_lower vxr ++ nodes_rows b records (number_before first) (with_sign last) nodes ++ used_rows b records vxr (with_sign last) high entries
+      row 4 vxr (is_between low high first last) ∷ nodes_rows b records (number_before first) (with_sign last) nodes ++ used_rows b records vxr (with_sign last) high entries
 
 -- packed bytes stand for just so many
 abbrev pub unpacks_to : List ℕ → ℕ → Bool

@@ -11,7 +11,7 @@ use Rattle.cdf_format.specs.Chains.{is_a, is_in, is_linkable}
 use Rattle.cdf_format.specs.Index.{Nodes, no_node, node, Entries, no_entry, block, lower, Leaf, nodes_of, lower_nodes, leaves_of, entry_leaves}
 use Rattle.cdf_format.specs.IndexOf.{HasNodes, Names, IsIndex}
 use Rattle.cdf_format.specs.IndexRules.{is_block, is_between, end_of, has_room, nodes_rows, used_rows, leaf_rows, vvr_rows, cvvr_rows, index_rows}
-use Rattle.cdf_format.specs.NotRead.{unread_lower, unread_sparse}
+use Rattle.cdf_format.specs.NotRead.{unread_sparse}
 use Rattle.cdf_format.specs.Rules.{Row, row, asked}
 use Rattle.cdf_format.specs.Shape.{Each, is_compressed}
 use Rattle.cdf_format.specs.Sound.{LeafFits}
@@ -126,7 +126,7 @@ module _ (b r r' : List ℕ) where
         let es = places_of (entry_leaves entries) in
         let below = nodes_rows_both (number_before first) (with_sign last) nodes (λ m i. p m (subst (λ (x : List ℕ). In m x) (sym parts) (In-append_left m ns es i))) in
         let rest = used_rows_both vxr (with_sign last) high entries (λ m i. p m (subst (λ (x : List ℕ). In m x) (sym parts) (In-append_right m ns es i))) in
-        λ i. row 4 vxr (is_between low high first last) ∷ unread_lower vxr ++ below i ++ rest i
+        λ i. row 4 vxr (is_between low high first last) ∷ below i ++ rest i
 
   leaves_rows_both : (vdr : ℕ) (leaves : List Leaf) → ((m : ℕ) → In m (places_of leaves) → InBoth r r' m) → flat_map (leaf_rows b r' vdr) leaves ≡ flat_map (leaf_rows b r vdr) leaves
   leaves_rows_both vdr [] p = refl

@@ -12,7 +12,6 @@ use Rattle.cdf_format.specs.Chains.{is_a}
 use Rattle.cdf_format.specs.Rules.{row, Hold, asked}
 use Rattle.cdf_format.specs.Index.{Nodes, no_node, node, Entries, no_entry, block, lower, Leaf, nodes_of, lower_nodes, leaves_of, room_at}
 use Rattle.cdf_format.specs.Shape.{is_compressed}
-use Rattle.cdf_format.specs.NotRead.{unread_lower}
 use Rattle.cdf_format.specs.VariableRules.{vdr_end}
 use Rattle.cdf_format.specs.VariableFields.{number_before, plain_size}
 use Rattle.cdf_format.specs.IndexRules.{has_room, is_between, end_of, nodes_rows, used_rows, unpacks_to, holds_packed, vvr_rows, cvvr_rows, leaf_rows, index_rows}
@@ -58,7 +57,7 @@ module _ (b now records : List ℕ) (same : SameHeads b now records records) whe
     used_same vxr low high (lower first last nodes entries) k fits =
         let below = nodes_same (number_before first) (with_sign last) nodes (λ m i. k m (In-append_left m (nodes_of nodes) (lower_nodes entries) i)) (λ m i. fits m (In-append_left m (nodes_of nodes) (lower_nodes entries) i)) in
         let rest = used_same vxr (with_sign last) high entries (λ m i. k m (In-append_right m (nodes_of nodes) (lower_nodes entries) i)) (λ m i. fits m (In-append_right m (nodes_of nodes) (lower_nodes entries) i)) in
-        λ i. row 4 vxr (is_between low high first last) ∷ unread_lower vxr ++ below i ++ rest i
+        λ i. row 4 vxr (is_between low high first last) ∷ below i ++ rest i
 
   -- of a variable whose VDR may stand at another place, with the flag and the sizes that its blocks are read by
   module _ (file : FileSame b now) (fixed : (m : ℕ) → In m records → fixed_size (type_at b m) ≤ size_at b m) (v v' : ℕ) (packed : is_compressed now v' ≡ is_compressed b v) (plain_same : (leaf : Leaf) → plain_size now v' leaf ≡ plain_size b v leaf) where
