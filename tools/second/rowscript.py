@@ -1,4 +1,4 @@
-"""Lines of a script as commands, of those on attributes, their entries, the checksum and variables, and quoted text."""
+"""Lines of a script as commands, of those on attributes, their entries, the checksum, variables and their records, and quoted text."""
 from layout import TYPE_NAMED
 from model import Command
 
@@ -81,6 +81,21 @@ def variable_command(kind, rest):
     return None
 
 
+def record_command(kind, rest):
+    """A command on records of variables, or None."""
+    if kind == 'put-rec':
+        return Command(kind, name=rest[0], rec=int(rest[1]), words=rest[2:])
+    if kind == 'get-rec':
+        return Command(kind, name=rest[0], rec=int(rest[1]))
+    if kind == 'put-val':
+        return Command(kind, name=rest[0], rec=int(rest[1]), index=numbers_of(rest[2]), words=rest[3:])
+    if kind == 'get-val':
+        return Command(kind, name=rest[0], rec=int(rest[1]), index=numbers_of(rest[2]))
+    if kind == 'reindex':
+        return Command(kind, name=rest[0])
+    return None
+
+
 def attribute_command(kind, rest):
     """A command on attributes or their entries, or None."""
     if kind == 'attr':
@@ -101,4 +116,4 @@ def command_of(words):
     kind, rest = words[0].decode(), words[1:]
     if kind == 'checksum':
         return Command(kind, md5=rest[0] == b'md5')
-    return attribute_command(kind, rest) or variable_command(kind, rest) or Command(kind)
+    return attribute_command(kind, rest) or variable_command(kind, rest) or record_command(kind, rest) or Command(kind)

@@ -9,12 +9,13 @@ of rows.
 """
 import sys
 from dataclasses import dataclass, field
+from types import SimpleNamespace
 
 from content import content
 from editor import apply
 from image import Image
-from layout import (ADR, AGREDR, AZEDR, CDR, GDR, RVDR, TEXT_TYPES, TYPES, UIR, ZVDR, Adr, Aedr, Cdr, Gdr, Uir, Vdr,
-                    fresh_image)
+from layout import (ADR, AGREDR, AZEDR, CDR, GDR, RVDR, TEXT_TYPES, TYPES, UIR, VVR, VXR, ZVDR, Adr, Aedr, Cdr, Gdr, Uir,
+                    Vdr, Vxr, fresh_image)
 from model import READERS, Refused
 from rowscript import command_of, quoted, words_of
 from validator import broken, sealed, unsealed
@@ -154,7 +155,7 @@ def reply_text(number, c, d, reply):
         lines = [f'attribute {i} {quoted(a.name)} {SCOPES[a.scope]}' for i, a in enumerate(d.attributes)]
         lines += [f'{kind}var {i} {quoted(v.name)}' for kind, vs in (('r', d.r), ('z', d.z)) for i, v in enumerate(vs)]
         return '\n'.join([f'{number} ok', *lines, f'{number} end']) + '\n'
-    if c.kind == 'get-entry':
+    if c.kind in ('get-entry', 'get-rec', 'get-val'):
         data_type, elems, network = TYPES[reply[0]], reply[1], reply[2]
         return f'{number} ok {data_type.name} {elems} {values_text(data_type, elems, network)}\n'
     return f'{number} ok\n'
@@ -247,7 +248,8 @@ def wrong_parts(row, table):
 # A file as lines
 
 RECORDS = {CDR: ('CDR', Cdr), GDR: ('GDR', Gdr), ADR: ('ADR', Adr), AGREDR: ('gr entry', Aedr),
-           AZEDR: ('z entry', Aedr), RVDR: ('r variable', Vdr), ZVDR: ('z variable', Vdr), UIR: ('unused record', Uir)}
+           AZEDR: ('z entry', Aedr), RVDR: ('r variable', Vdr), ZVDR: ('z variable', Vdr), VXR: ('node', Vxr),
+           VVR: ('block', SimpleNamespace()), UIR: ('unused record', Uir)}
 
 
 def pieces_of(tile):
