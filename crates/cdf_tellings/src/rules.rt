@@ -4,7 +4,7 @@
 struct Rule(u8, u8, &'static str);
 
 /// All rules, phase by phase.
-static RULES: [Rule; 62] = [
+static RULES: [Rule; 61] = [
     Rule(0, 1, "the file has fewer than 8 bytes"),
     Rule(0, 2, "the file has more than 1073741840 bytes"),
     Rule(1, 1, "the first magic number is not cdf30001"),
@@ -107,11 +107,6 @@ static RULES: [Rule; 62] = [
         8,
         8,
         "the packed bytes of a CVVR are not those of its records",
-    ),
-    Rule(
-        8,
-        99,
-        "an entry of a VXR leads to a VXR, which is not read yet",
     ),
     Rule(9, 1, "a record has no owner, or more than one"),
     Rule(10, 1, "the checksum is not that of the file"),
