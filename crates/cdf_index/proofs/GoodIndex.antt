@@ -11,7 +11,6 @@ use Rattle.cdf_format.specs.Index.{Nodes, no_node, node, Entries, no_entry, bloc
 use Rattle.cdf_format.specs.IndexOf.{IsIndex}
 use Rattle.cdf_format.specs.IndexRules.{end_of, is_between, is_block, nodes_rows, used_rows, leaf_rows, met_rows, phase8}
 use Rattle.cdf_format.specs.IndexWalk.{Met, met, lost, nodes_met, nodes_on, levels_on}
-use Rattle.cdf_format.specs.NotRead.{unread_lower}
 use Rattle.cdf_format.specs.Records.{vdr_vxr_head}
 use Rattle.cdf_format.specs.RecordTypes.{vxr_type}
 use Rattle.cdf_format.specs.Rules.{Row, Hold}
@@ -88,9 +87,8 @@ module _ (b records : List ℕ) where
         ((o.low_first, o.first_last, o.last_high, rest.0), ap (λ (z : ℤ). end_of z entries) o.last_is ∙ rest.1)
     entries_order_from vxr low high (lower first last nodes entries) h =
         let o = between low high first last h.0 in
-        let p = Hold-split (unread_lower vxr ++ nodes_rows b records (number_before first) (with_sign last) nodes) (used_rows b records vxr (with_sign last) (pos high) entries) h.1 in
-        let q = Hold-split (unread_lower vxr) (nodes_rows b records (number_before first) (with_sign last) nodes) p.0 in
-        let below = subst (λ (z : ℤ). Hold (nodes_rows b records z (with_sign last) nodes)) (before_is first o.first_is) q.1 in
+        let p = Hold-split (nodes_rows b records (number_before first) (with_sign last) nodes) (used_rows b records vxr (with_sign last) (pos high) entries) h.1 in
+        let below = subst (λ (z : ℤ). Hold (nodes_rows b records z (with_sign last) nodes)) (before_is first o.first_is) p.0 in
         let rest = entries_order_from vxr (suc last) high entries (subst (λ (z : ℤ). Hold (used_rows b records vxr z (pos high) entries)) o.last_is p.1) in
         ((o.low_first, o.first_last, o.last_high, order_from first last nodes (subst (λ (z : ℤ). Hold (nodes_rows b records (before_number first) z nodes)) o.last_is below), rest.0), ap (λ (z : ℤ). end_of z entries) o.last_is ∙ rest.1)
 
