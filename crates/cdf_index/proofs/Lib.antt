@@ -7,3 +7,5 @@ pub mod RecordRead
 pub mod NextLemmas
 pub mod Walking
 pub mod GoodBlock
+pub mod ChainWalk
+pub mod Collected

@@ -4,3 +4,4 @@ pub mod Sight
 pub mod Reading
 pub mod Next
 pub mod Ahead
+pub mod Whole

@@ -1,12 +1,14 @@
 //! The index of a variable: a tree of nodes whose entries name blocks of records, read through an area.
 #![tactic(auto)]
 
+mod collecting;
 mod finding;
 pub mod laws;
 mod next;
 mod nodes;
 mod records;
 
+pub use collecting::index_records;
 pub use finding::find;
 pub use next::next_first;
 pub use nodes::Leaf;

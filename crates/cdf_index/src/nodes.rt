@@ -8,12 +8,15 @@ ghost use Rattle.cdf_index.specs.Finding.{NodeInside};
 ghost use Rattle.cdf_index.specs.Sight.{IsHead};
 
 use cdf_area::{Area, AreaError};
-use cdf_format::fields::VXR_FIRST;
-use cdf_records::{Steps, read_vxr};
+use cdf_format::fields::{RECORD_SIZE, VXR_FIRST, VXR_N_ENTRIES, VXR_N_USED_ENTRIES, VXR_VXR_NEXT};
+use cdf_records::{Steps, read_signed4, read_unsigned8, read_vxr};
 use std::sync::ledger::Ledger;
 
 /// The bytes of First, Last and Offset of an entry.
 const ENTRY_SIZE: u64 = 16;
+
+/// How many levels an index has at most.
+pub const LEVELS: u64 = 8;
 
 /// A leaf of an index: the records from a first to a last, and where their block stands.
 #[derive(Clone, Copy, Debug, PartialEq, Eq)]
@@ -67,4 +70,20 @@ pub fn read_node<A: Area, L: Ledger>(
         used,
         next: vxr.vxr_next,
     })
+}
+
+/// The same without a step.
+pub fn read_head<A: Area>(area: &mut A, at: u64) -> Result<Head, AreaError>
+    requires inside { NodeInside (A.image area.old) at }
+    requires short { length (A.image area.old) ≤ image_limit }
+    ensures head { IfOk result (IsHead (A.image area.old) at) }
+    ensures area { Reads A.image A.frame A.faults A.edited area.old area.new result }
+{
+    let size = read_unsigned8(area, at + RECORD_SIZE)?;
+    let next = read_unsigned8(area, at + VXR_VXR_NEXT)?;
+    let n_entries = read_signed4(area, at + VXR_N_ENTRIES)?;
+    let n_used_entries = read_signed4(area, at + VXR_N_USED_ENTRIES)?;
+    let room = count_of(n_entries);
+    let used = used_of(count_of(n_used_entries), room, size);
+    Ok(Head { room, used, next })
 }

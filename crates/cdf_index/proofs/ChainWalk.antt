@@ -1,0 +1,313 @@
+-- The walk over a whole chain, with what is below it.
+use Rattle.std.proofs.Common.{◌≡◌, ◌≢◌, ℕ, zero, suc, ◌+◌, ◌-◌, ◌<◌, ◌≤◌, List, length, refl, sym, ap, subst, ◌∙◌, arith}
+use Rattle.std.proofs.lemmas.List.{length-append}
+use Rattle.cdf_format.specs.Chains.{next_of}
+use Rattle.cdf_format.specs.Fields.{type_at}
+use Rattle.cdf_format.specs.Index.{Nodes, no_node, node, Entries, no_entry, block, lower, leaf, nodes_of, lower_nodes, leaves_of, entry_leaves, entry_count, link_to, room_at, used_count, offset_at}
+use Rattle.cdf_format.specs.IndexOf.{SayEntries, IsNode, HasNodes, Names}
+use Rattle.cdf_format.specs.RecordTypes.{vxr_type}
+use Rattle.cdf_format.specs.Shape.{Each}
+use Rattle.cdf_format.specs.Sound.{NodeFits}
+use Rattle.cdf_format.specs.Tiles.{In, AreTiles, tiles}
+use Rattle.cdf_format.proofs.ChainsLemmas.{linkable-in, linkable-type}
+use Rattle.cdf_format.proofs.ShapeLemmas.{Each-split}
+use Rattle.cdf_format.proofs.TilesLemmas.{tile_lies}
+use Rattle.cdf_index.specs.Finding.{index_at, HasIndex, IsBlock, Stands, SomeNode}
+use Rattle.cdf_index.specs.Whole.{through, through_entries, EntriesStand, SomeChain, SomeEntries}
+use Rattle.cdf_index.proofs.Looking.{block_type, block_in, no_node_type, node_linkable}
+use Rattle.cdf_index.proofs.Searching.{few_nodes}
+
+-- ---- nodes and entries
+
+some_there : (ns : Nodes) → link_to ns ≢ 0 → IsNode ns
+some_there no_node ne = absurd (ne refl)
+some_there (node place room entries more) ne = tt
+
+none_there : (b : List ℕ) (levels : ℕ) (ns : Nodes) → AreTiles b 8 (length b) (tiles b) → HasNodes b (tiles b) levels ns → link_to ns ≡ 0 → ns ≡ no_node
+unfolding HasNodes
+none_there b levels no_node t h e = refl
+none_there b zero (node place room entries more) t h e = absurd h
+none_there b (suc levels) (node place room entries more) t h e = let lies = tile_lies b 8 (length b) (tiles b) place t (linkable-in b (tiles b) vxr_type place h.0.linkable) in absurd (omega (arith, lies.low))
+
+a_level : (b : List ℕ) (levels : ℕ) (ns : Nodes) → IsNode ns → HasNodes b (tiles b) levels ns → 1 ≤ levels
+unfolding HasNodes
+a_level b levels no_node is h = absurd is
+a_level b zero (node place room entries more) is h = absurd h
+a_level b (suc levels) (node place room entries more) is h = omega arith
+
+one_node : (ns : Nodes) → IsNode ns → 1 ≤ length (nodes_of ns)
+unfolding nodes_of
+one_node no_node is = absurd is
+one_node (node place room entries more) is = omega arith
+
+one_less : (levels : ℕ) → 1 ≤ levels → suc (levels - 1) ≡ levels
+one_less levels h = omega arith
+
+none_of_none : (n : ℕ) → n ≤ 0 → n ≡ 0
+none_of_none n h = omega arith
+
+no_link : (ns : Nodes) → length (nodes_of ns) ≡ 0 → link_to ns ≡ 0
+no_link no_node e = refl
+no_link (node place room entries more) e = let o = one_node (node place room entries more) tt in absurd (omega arith)
+
+named_there : (b : List ℕ) (levels at i place : ℕ) (es : Entries) → SayEntries b at i es → Names b (tiles b) levels es → Each (IsBlock b) (entry_leaves es) → 1 ≤ entry_count es → place ≡ offset_at b at i → In place (tiles b)
+unfolding Names entry_leaves
+named_there b levels at i place no_entry s n k c q = absurd (omega arith)
+named_there b levels at i place (block f la p packed es) s n k c q = subst (λ (x : ℕ). In x (tiles b)) (sym (q ∙ s.0.offset_is)) (block_in b (leaf f la p packed) k.0)
+named_there b levels at i place (lower f la nodes es) s n k c q = subst (λ (x : ℕ). In x (tiles b)) (sym (q ∙ s.0.offset_is)) (linkable-in b (tiles b) vxr_type (link_to nodes) (node_linkable b levels nodes n.0 n.1))
+
+count_left : (i n k : ℕ) → i + n ≡ k → i < k → 1 ≤ n
+count_left i n k e h = omega arith
+
+none_left : (i n k : ℕ) → i + n ≡ k → k ≤ i → n ≡ 0
+none_left i n k e h = omega arith
+
+no_entries : (es : Entries) → entry_count es ≡ 0 → es ≡ no_entry
+no_entries no_entry e = refl
+no_entries (block first last place packed es) e = absurd (omega arith)
+no_entries (lower first last nodes es) e = absurd (omega arith)
+
+-- the lower chain of an entry that names a node
+record LowerThere (b : List ℕ) (levels place : ℕ) (es : Entries) : Type 0 where
+  nodes : Nodes
+  stands : Stands b levels nodes
+  link_is : place ≡ link_to nodes
+  few : length (nodes_of nodes) ≤ length (lower_nodes es)
+
+lower_there : (b : List ℕ) (levels at i place type : ℕ) (es : Entries) → SayEntries b at i es → Names b (tiles b) levels es → Each (NodeFits b) (lower_nodes es) → Each (IsBlock b) (entry_leaves es) → 1 ≤ entry_count es → place ≡ offset_at b at i → type ≡ type_at b place → type ≡ 6 → LowerThere b levels place es
+unfolding Names entry_leaves lower_nodes
+lower_there b levels at i place type no_entry s n f k c q qt is = absurd (omega arith)
+lower_there b levels at i place type (block fi la p packed es) s n f k c q qt is =
+    let e : place ≡ p = q ∙ s.0.offset_is in
+    absurd (no_node_type (type_at b p) (block_type b (leaf fi la p packed) k.0) (ap (type_at b) (sym e) ∙ sym qt ∙ is))
+lower_there b levels at i place type (lower fi la nodes es) s n f k c q qt is =
+    let fs = Each-split (NodeFits b) (nodes_of nodes) (lower_nodes es) f in
+    let ks = Each-split (IsBlock b) (leaves_of nodes) (entry_leaves es) k in
+    record { nodes = nodes; stands = record { has = n.1; fits = fs.0; blocks = ks.0 }; link_is = q ∙ s.0.offset_is; few = omega (arith, length-append (nodes_of nodes) (lower_nodes es)) }
+
+-- ---- a value on its way
+
+module _ {S : Type 0} (at_node : S → ℕ → ℕ → ℕ → S) (at_block : S → ℕ → S) where
+  -- what is left of a chain at a link
+  pub record ChainLeft (b : List ℕ) (levels at turn : ℕ) (was s : S) (ns : Nodes) : Type 0 where
+    pub left : Nodes
+    pub stands : Stands b levels left
+    pub link_is : at ≡ link_to left
+    pub same : through at_node at_block s left ≡ through at_node at_block was ns
+    pub fewer : length (nodes_of left) + turn ≤ length (nodes_of ns)
+
+  pub record Walked (b : List ℕ) (levels link at turn : ℕ) (was s : S) : Type 0 where
+    pub left : (ns : Nodes) → Stands b levels ns → link ≡ link_to ns → ChainLeft b levels at turn was s ns
+
+  pub walk_start : (b : List ℕ) (levels link : ℕ) (was : S) → Walked b levels link link 0 was was
+  walk_start b levels link was = record { left = λ ns st e. record { left = ns; stands = st; link_is = e; same = refl; fewer = omega arith } }
+
+  nothing_through : (ns : Nodes) (s : S) → ns ≡ no_node → through at_node at_block s ns ≡ s
+  unfolding through
+  nothing_through ns s e = rw e refl
+
+  pub walk_end : (b : List ℕ) (levels link at turn : ℕ) (was s : S) → SomeChain b levels link → Walked b levels link at turn was s → at ≡ 0 → (ns : Nodes) → Stands b levels ns → link ≡ link_to ns → s ≡ through at_node at_block was ns
+  walk_end b levels link at turn was s some w z ns st e =
+      let l = w.left ns st e in
+      sym (nothing_through l.left s (none_there b levels l.left some.tiled l.stands.has (sym l.link_is ∙ z))) ∙ l.same
+
+  pub walk_over : (b : List ℕ) (levels link at turn : ℕ) (was s : S) → SomeChain b levels link → Walked b levels link at turn was s → length b ≤ turn → at ≡ 0
+  walk_over b levels link at turn was s some w le =
+      let l = w.left some.nodes some.stands some.link_is in
+      l.link_is ∙ no_link l.left (let f = l.fewer in let g = some.few in none_of_none (length (nodes_of l.left)) (omega arith))
+
+  -- a node of the chain
+  pub walk_node : (b : List ℕ) (levels link at turn : ℕ) (was s : S) → SomeChain b levels link → Walked b levels link at turn was s → at ≢ 0 → SomeNode b at × (1 ≤ levels)
+  walk_node b levels link at turn was s some w ne =
+      let l = w.left some.nodes some.stands some.link_is in
+      let is = some_there l.left (λ z. ne (l.link_is ∙ z)) in
+      (record { levels = levels; nodes = l.left; tiled = some.tiled; stands = l.stands; is_node = is; link = l.link_is }, a_level b levels l.left is l.stands.has)
+
+  -- its entries
+  record NodeLeft (b : List ℕ) (levels at : ℕ) (s : S) (ns : Nodes) : Type 0 where
+    entries : Entries
+    more : Nodes
+    stand : EntriesStand b at levels entries
+    more_stands : Stands b (suc levels) more
+    next_is : next_of b at ≡ link_to more
+    same : through at_node at_block s ns ≡ through at_node at_block (through_entries at_node at_block (at_node s at (room_at b at) (used_count b at)) entries) more
+    length_is : length (nodes_of ns) ≡ suc (length (lower_nodes entries) + length (nodes_of more))
+
+  node_here : (b : List ℕ) (levels : ℕ) (s : S) (ns : Nodes) → Stands b (suc levels) ns → IsNode ns → NodeLeft b levels (link_to ns) s ns
+  unfolding HasNodes nodes_of leaves_of through
+  node_here b levels s no_node st is = absurd is
+  node_here b levels s (node place room entries more) st is =
+      let fs = Each-split (NodeFits b) (lower_nodes entries) (nodes_of more) st.fits.1 in
+      let ks = Each-split (IsBlock b) (entry_leaves entries) (leaves_of more) st.blocks in
+      let h = st.has in
+      record {
+        entries = entries;
+        more = more;
+        stand = record { used_is = h.0.used_is; say = h.0.say_entries; names = h.1; fits = fs.0; blocks = ks.0 };
+        more_stands = record { has = h.2; fits = fs.1; blocks = ks.1 };
+        next_is = h.0.next_is;
+        same =
+            ap (λ (x : ℕ). through at_node at_block (through_entries at_node at_block (at_node s place x (entry_count entries)) entries) more) (sym h.0.room_is)
+            ∙ ap (λ (x : ℕ). through at_node at_block (through_entries at_node at_block (at_node s place (room_at b place) x) entries) more) (sym h.0.used_is);
+        length_is = ap suc (length-append (lower_nodes entries) (nodes_of more));
+      }
+
+  node_left : (b : List ℕ) (levels at : ℕ) (s : S) (ns : Nodes) → Stands b (suc levels) ns → IsNode ns → at ≡ link_to ns → NodeLeft b levels at s ns
+  node_left b levels at s ns st is e = subst (λ (x : ℕ). NodeLeft b levels x s ns) (sym e) (node_here b levels s ns st is)
+
+  at_one : (b : List ℕ) (levels link at turn : ℕ) (was s : S) (ns : Nodes) → ChainLeft b levels at turn was s ns → at ≢ 0 → (l : ChainLeft b levels at turn was s ns) × NodeLeft b (levels - 1) at s l.left × (1 ≤ levels)
+  at_one b levels link at turn was s ns l ne =
+      let is = some_there l.left (λ z. ne (l.link_is ∙ z)) in
+      let lv = a_level b levels l.left is l.stands.has in
+      (l, node_left b (levels - 1) at s l.left (subst (λ (x : ℕ). Stands b x l.left) (sym (one_less levels lv)) l.stands) is l.link_is, lv)
+
+  pub walk_entries : (b : List ℕ) (levels link at turn : ℕ) (was s : S) → SomeChain b levels link → Walked b levels link at turn was s → at ≢ 0 → SomeEntries b at (levels - 1)
+  walk_entries b levels link at turn was s some w ne =
+      let q = at_one b levels link at turn was s some.nodes (w.left some.nodes some.stands some.link_is) ne in
+      let f = q.0.fewer in
+      let g = some.few in
+      let n = q.1.length_is in
+      record { entries = q.1.entries; tiled = some.tiled; stand = q.1.stand; few = omega arith }
+
+  pub walk_on : (b : List ℕ) (levels link at turn next : ℕ) (was s now : S) → Walked b levels link at turn was s → at ≢ 0 → next ≡ next_of b at
+      → ((entries : Entries) → EntriesStand b at (levels - 1) entries → now ≡ through_entries at_node at_block (at_node s at (room_at b at) (used_count b at)) entries) → Walked b levels link next (turn + 1) was now
+  walk_on b levels link at turn next was s now w ne nx told = record {
+    left = λ ns st e.
+        (let q = at_one b levels link at turn was s ns (w.left ns st e) ne in
+        let n = q.1 in
+        let f = q.0.fewer in
+        let li = n.length_is in
+        record {
+          left = n.more;
+          stands = subst (λ (x : ℕ). Stands b x n.more) (one_less levels q.2) n.more_stands;
+          link_is = nx ∙ n.next_is;
+          same = ap (λ (x : S). through at_node at_block x n.more) (told n.entries n.stand) ∙ sym n.same ∙ q.0.same;
+          fewer = omega arith;
+        });
+  }
+
+  -- ---- over the entries of a node
+
+  pub record BelowLeft (b : List ℕ) (at levels i : ℕ) (was s : S) (entries : Entries) : Type 0 where
+    pub left : Entries
+    pub say : SayEntries b at i left
+    pub names : Names b (tiles b) levels left
+    pub fits : Each (NodeFits b) (lower_nodes left)
+    pub blocks : Each (IsBlock b) (entry_leaves left)
+    pub many : i + entry_count left ≡ entry_count entries
+    pub same : through_entries at_node at_block s left ≡ through_entries at_node at_block was entries
+    pub fewer : length (lower_nodes left) ≤ length (lower_nodes entries)
+
+  pub record Gone (b : List ℕ) (at levels i : ℕ) (was s : S) : Type 0 where
+    pub left : (entries : Entries) → EntriesStand b at levels entries → BelowLeft b at levels i was s entries
+
+  pub below_start : (b : List ℕ) (at levels : ℕ) (was : S) → Gone b at levels 0 was was
+  below_start b at levels was = record { left = λ es st. record { left = es; say = st.say; names = st.names; fits = st.fits; blocks = st.blocks; many = omega arith; same = refl; fewer = omega arith } }
+
+  nothing_below : (es : Entries) (s : S) → es ≡ no_entry → through_entries at_node at_block s es ≡ s
+  unfolding through_entries
+  nothing_below es s e = rw e refl
+
+  pub below_end : (b : List ℕ) (at levels i : ℕ) (was s : S) → Gone b at levels i was s → used_count b at ≤ i → (entries : Entries) → EntriesStand b at levels entries → s ≡ through_entries at_node at_block was entries
+  below_end b at levels i was s g le es st =
+      let l = g.left es st in
+      let m = l.many in
+      let u = st.used_is in
+      sym (nothing_below l.left s (no_entries l.left (none_left i (entry_count l.left) (entry_count es) m (omega arith)))) ∙ l.same
+
+  -- the block or the node that an entry names lies in the image
+  pub named_lies : (b : List ℕ) (at levels i place : ℕ) (was s : S) → SomeEntries b at levels → Gone b at levels i was s → i < used_count b at → place ≡ offset_at b at i → place + 12 ≤ length b
+  named_lies b at levels i place was s some g lt q =
+      let l = g.left some.entries some.stand in
+      let there = named_there b levels at i place l.left l.say l.names l.blocks (count_left i (entry_count l.left) (entry_count some.entries) l.many (subst (λ (x : ℕ). i < x) some.stand.used_is lt)) q in
+      let lies = tile_lies b 8 (length b) (tiles b) place some.tiled there in
+      omega (arith, lies.high, lies.long)
+
+  pub lower_chain : (b : List ℕ) (at levels i place type : ℕ) (was s : S) → SomeEntries b at levels → Gone b at levels i was s → i < used_count b at → place ≡ offset_at b at i → type ≡ type_at b place → type ≡ 6 → SomeChain b levels place
+  lower_chain b at levels i place type was s some g lt q qt is =
+      let l = g.left some.entries some.stand in
+      let t = lower_there b levels at i place type l.left l.say l.names l.fits l.blocks (count_left i (entry_count l.left) (entry_count some.entries) l.many (subst (λ (x : ℕ). i < x) some.stand.used_is lt)) q qt is in
+      let f1 = t.few in
+      let f2 = l.fewer in
+      let f3 = some.few in
+      record { nodes = t.nodes; tiled = some.tiled; stands = t.stands; link_is = t.link_is; few = omega arith }
+
+  -- past a block
+  block_gone : (b : List ℕ) (at levels i place type : ℕ) (was s : S) (es left : Entries) → SayEntries b at i left → Names b (tiles b) levels left → Each (NodeFits b) (lower_nodes left) → Each (IsBlock b) (entry_leaves left) → i + entry_count left ≡ entry_count es → through_entries at_node at_block s left ≡ through_entries at_node at_block was es → length (lower_nodes left) ≤ length (lower_nodes es)
+      → i < entry_count es → place ≡ offset_at b at i → type ≡ type_at b place → type ≢ 6 → BelowLeft b at levels (i + 1) was (at_block s place) es
+  unfolding Names entry_leaves lower_nodes through_entries
+  block_gone b at levels i place type was s es no_entry sa n f k m same few lt q qt is = absurd (omega arith)
+  block_gone b at levels i place type was s es (block fi la p packed left) sa n f k m same few lt q qt is =
+      let z : suc i ≡ i + 1 = omega arith in
+      record {
+        left = left;
+        say = rw z at sa.1;
+        names = n.2;
+        fits = f;
+        blocks = k.1;
+        many = omega arith;
+        same = ap (λ (x : ℕ). through_entries at_node at_block (at_block s x) left) (q ∙ sa.0.offset_is) ∙ same;
+        fewer = few;
+      }
+  block_gone b at levels i place type was s es (lower fi la nodes left) sa n f k m same few lt q qt is =
+      let ep : place ≡ link_to nodes = q ∙ sa.0.offset_is in
+      absurd (is (qt ∙ ap (type_at b) ep ∙ linkable-type b (tiles b) vxr_type (link_to nodes) (node_linkable b levels nodes n.0 n.1)))
+
+  pub past_block : (b : List ℕ) (at levels i place type : ℕ) (was s : S) → Gone b at levels i was s → i < used_count b at → place ≡ offset_at b at i → type ≡ type_at b place → type ≢ 6 → Gone b at levels (i + 1) was (at_block s place)
+  past_block b at levels i place type was s g lt q qt is = record {
+    left = λ es st. (let l = g.left es st in block_gone b at levels i place type was s es l.left l.say l.names l.fits l.blocks l.many l.same l.fewer (subst (λ (x : ℕ). i < x) st.used_is lt) q qt is);
+  }
+
+  -- past a lower chain
+  lower_gone : (b : List ℕ) (at levels i place type : ℕ) (was s now : S) (es left : Entries) → SayEntries b at i left → Names b (tiles b) levels left → Each (NodeFits b) (lower_nodes left) → Each (IsBlock b) (entry_leaves left) → i + entry_count left ≡ entry_count es → through_entries at_node at_block s left ≡ through_entries at_node at_block was es → length (lower_nodes left) ≤ length (lower_nodes es)
+      → i < entry_count es → place ≡ offset_at b at i → type ≡ type_at b place → type ≡ 6 → ((ns : Nodes) → Stands b levels ns → place ≡ link_to ns → now ≡ through at_node at_block s ns) → BelowLeft b at levels (i + 1) was now es
+  unfolding Names entry_leaves lower_nodes through_entries
+  lower_gone b at levels i place type was s now es no_entry sa n f k m same few lt q qt is told = absurd (omega arith)
+  lower_gone b at levels i place type was s now es (block fi la p packed left) sa n f k m same few lt q qt is told =
+      let e : place ≡ p = q ∙ sa.0.offset_is in
+      absurd (no_node_type (type_at b p) (block_type b (leaf fi la p packed) k.0) (ap (type_at b) (sym e) ∙ sym qt ∙ is))
+  lower_gone b at levels i place type was s now es (lower fi la nodes left) sa n f k m same few lt q qt is told =
+      let z : suc i ≡ i + 1 = omega arith in
+      let fs = Each-split (NodeFits b) (nodes_of nodes) (lower_nodes left) f in
+      let ks = Each-split (IsBlock b) (leaves_of nodes) (entry_leaves left) k in
+      let t = told nodes (record { has = n.1; fits = fs.0; blocks = ks.0 }) (q ∙ sa.0.offset_is) in
+      record {
+        left = left;
+        say = rw z at sa.1;
+        names = n.2;
+        fits = fs.1;
+        blocks = ks.1;
+        many = omega arith;
+        same = ap (λ (x : S). through_entries at_node at_block x left) t ∙ same;
+        fewer = omega (arith, length-append (nodes_of nodes) (lower_nodes left));
+      }
+
+  pub past_lower : (b : List ℕ) (at levels i place type : ℕ) (was s now : S) → Gone b at levels i was s → i < used_count b at → place ≡ offset_at b at i → type ≡ type_at b place → type ≡ 6 → ((ns : Nodes) → Stands b levels ns → place ≡ link_to ns → now ≡ through at_node at_block s ns) → Gone b at levels (i + 1) was now
+  past_lower b at levels i place type was s now g lt q qt is told = record {
+    left = λ es st. (let l = g.left es st in lower_gone b at levels i place type was s now es l.left l.say l.names l.fits l.blocks l.many l.same l.fewer (subst (λ (x : ℕ). i < x) st.used_is lt) q qt is told);
+  }
+
+  -- ---- of an image that is the same
+
+  pub entries_told : (b now : List ℕ) (at levels : ℕ) (was s : S) → now ≡ b → ((es : Entries) → EntriesStand now at levels es → s ≡ through_entries at_node at_block was es) → (es : Entries) → EntriesStand b at levels es → s ≡ through_entries at_node at_block was es
+  entries_told b now at levels was s e told = subst (λ (x : List ℕ). (es : Entries) → EntriesStand x at levels es → s ≡ through_entries at_node at_block was es) e told
+
+  pub chain_told : (b now : List ℕ) (levels link : ℕ) (was s : S) → now ≡ b → ((ns : Nodes) → Stands now levels ns → link ≡ link_to ns → s ≡ through at_node at_block was ns) → (ns : Nodes) → Stands b levels ns → link ≡ link_to ns → s ≡ through at_node at_block was ns
+  chain_told b now levels link was s e told = subst (λ (x : List ℕ). (ns : Nodes) → Stands x levels ns → link ≡ link_to ns → s ≡ through at_node at_block was ns) e told
+
+pub entries_now : (b now : List ℕ) (at levels : ℕ) → now ≡ b → SomeEntries b at levels → SomeEntries now at levels
+entries_now b now at levels e s = subst (λ (x : List ℕ). SomeEntries x at levels) (sym e) s
+
+pub chain_now : (b now : List ℕ) (levels link : ℕ) → now ≡ b → SomeChain b levels link → SomeChain now levels link
+chain_now b now levels link e s = subst (λ (x : List ℕ). SomeChain x levels link) (sym e) s
+
+-- ---- from the head of an index
+
+pub whole_stands : (b : List ℕ) (head : ℕ) → HasIndex b head → Stands b 8 (index_at b head)
+whole_stands b head has = record { has = has.index.has_nodes; fits = has.fits; blocks = has.blocks }
+
+pub whole_chain : (b : List ℕ) (head : ℕ) → HasIndex b head → SomeChain b 8 head
+whole_chain b head has = record { nodes = index_at b head; tiled = has.tiled; stands = whole_stands b head has; link_is = has.index.link_is; few = few }
+  where
+    few : length (nodes_of (index_at b head)) ≤ length b
+    few = let over = few_nodes b head 0 has in omega (arith, over)
