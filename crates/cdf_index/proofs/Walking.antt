@@ -19,7 +19,7 @@ use Rattle.cdf_model.specs.Limits.{record_number_limit}
 use Rattle.cdf_index.specs.Ahead.{Begun, chain_at, chain_before, IsWalk}
 use Rattle.cdf_index.specs.Finding.{index_at, HasIndex, IsBlock, Stands, SomeNode}
 use Rattle.cdf_index.specs.Next.{least_from, number_within, least_first_past}
-use Rattle.cdf_index.specs.Order.{past_entries, InOrder, AreInOrder}
+use Rattle.cdf_index.specs.Order.{past_entries, InOrder, AreInOrder, NextsAreZero, LowerAreZero}
 use Rattle.cdf_index.specs.declared.next.Walk.{Walk}
 use Rattle.cdf_index.proofs.Looking.{block_type, no_node_type, node_linkable}
 use Rattle.cdf_index.proofs.NextLemmas.{Between, block_passed, lower_passed, block_decides, lower_decides, firsts_between, between_more}
@@ -40,7 +40,7 @@ no_chain b at k e = let t : eqb (type_at b (offset_at b at k)) 6 ≡ false = gri
 
 -- ---- the entries of a node, from number k on, of which n begin at the record or before it
 
-pub record Met (b : List ℕ) (rec best high at k n middle : ℕ) (entries : Entries) (before : Nodes) (zs : List ℕ) : Type 0 where
+pub record Met (b : List ℕ) (rec best high at k n middle low_levels deep : ℕ) (entries : Entries) (before : Nodes) (zs : List ℕ) : Type 0 where
   pub levels : ℕ
   pub low : Nodes
   pub stands : Stands b levels low
@@ -56,6 +56,7 @@ pub record Met (b : List ℕ) (rec best high at k n middle : ℕ) (entries : Ent
   pub below : n < entry_count entries → upto ≤ first_at b at (k + n)
   pub within : n < entry_count entries → first_at b at (k + n) ≤ high
   pub fewer : length (nodes_of low) ≤ length (nodes_of before) + length (lower_nodes entries)
+  pub zero : low_levels ≤ deep → NextsAreZero before → LowerAreZero entries → NextsAreZero low × (levels ≤ deep)
 
 chain_step : (b : List ℕ) (at k m link named : ℕ) → (m ≡ 0 → link ≡ named) → ((j : ℕ) → m ≡ suc j → chain_at b at (suc k + j) ≡ link) → chain_at b at k ≡ named → (j : ℕ) → suc m ≡ suc j → chain_at b at (k + j) ≡ link
 chain_step b at k zero link named start chain c j e =
@@ -73,7 +74,7 @@ module _ (b : List ℕ) (rec best high levels at : ℕ) (zs : List ℕ) (most : 
       → (0 < entry_count entries → least_from rec best (firsts_of low ++ (entry_firsts entries ++ zs)) ≡ least_from rec (first_at b at k) (firsts_of low))
       → (0 < entry_count entries → middle ≤ first_at b at k)
       → (0 < entry_count entries → first_at b at k ≤ high)
-      → Met b rec best high at k 0 middle entries low zs
+      → Met b rec best high at k 0 middle low_levels levels entries low zs
   met_here k middle low_levels from upto entries low st o asc lm passed ends decided above within =
       let e : k + 0 ≡ k = omega arith in
       record {
@@ -92,15 +93,17 @@ module _ (b : List ℕ) (rec best high levels at : ℕ) (zs : List ℕ) (most : 
         below = λ lt. rw e (let a = above lt in omega arith);
         within = λ lt. rw e (within lt);
         fewer = omega arith;
+        zero = λ d z y. (z, d);
       }
 
   -- the first of these entries is passed
-  met_more : (k m middle last : ℕ) (entries all : Entries) (named before : Nodes) → Met b rec best high at (suc k) m (suc last) entries named zs → entry_count all ≡ suc (entry_count entries) → chain_at b at k ≡ link_to named
+  met_more : (k m middle last low_levels under : ℕ) (entries all : Entries) (named before : Nodes) → Met b rec best high at (suc k) m (suc last) under levels entries named zs → entry_count all ≡ suc (entry_count entries) → chain_at b at k ≡ link_to named
       → past_entries middle all ≡ past_entries (suc last) entries
       → least_from rec best (firsts_of before ++ (entry_firsts all ++ zs)) ≡ least_from rec best (firsts_of named ++ (entry_firsts entries ++ zs))
       → length (nodes_of named) + length (lower_nodes entries) ≤ length (lower_nodes all)
-      → Met b rec best high at k (suc m) middle all before zs
-  met_more k m middle last entries all named before r many c past same few =
+      → under ≤ levels → (LowerAreZero all → NextsAreZero named × LowerAreZero entries)
+      → Met b rec best high at k (suc m) middle low_levels levels all before zs
+  met_more k m middle last low_levels under entries all named before r many c past same few deep alone =
       let e : k + suc m ≡ suc k + m = omega arith in
       record {
         levels = r.levels;
@@ -118,14 +121,15 @@ module _ (b : List ℕ) (rec best high levels at : ℕ) (zs : List ℕ) (most : 
         below = λ lt. rw e (r.below (omega arith));
         within = λ lt. rw e (r.within (omega arith));
         fewer = omega (arith, r.fewer);
+        zero = λ d z y. (let w = alone y in r.zero deep w.0 w.1);
       }
 
   met : (k n middle low_levels from upto : ℕ) (entries : Entries) (low : Nodes) → Stands b low_levels low → InOrder from upto low → upto ≤ middle → upto ≤ high
       → SayEntries b at k entries → Names b (tiles b) levels entries → Each (NodeFits b) (lower_nodes entries) → Each (IsBlock b) (entry_leaves entries) → AreInOrder middle high entries
       → ((first : ℕ) → first ≤ past_entries middle entries → Between first high zs)
       → ((j : ℕ) → j < k + n → first_at b at j ≤ rec) → n ≤ entry_count entries → (n < entry_count entries → rec < first_at b at (k + n))
-      → Met b rec best high at k n middle entries low zs
-  unfolding Names lower_nodes entry_leaves AreInOrder entry_firsts nodes_of firsts_of
+      → Met b rec best high at k n middle low_levels levels entries low zs
+  unfolding Names lower_nodes entry_leaves AreInOrder entry_firsts nodes_of firsts_of NextsAreZero LowerAreZero
   met k zero middle low_levels from upto no_entry low st o asc lm s nm f q ao zb before le stop =
       met_here k middle low_levels from upto no_entry low st o asc lm (λ z. refl) (λ z. asc) (λ lt. absurd (omega arith)) (λ lt. absurd (omega arith)) (λ lt. absurd (omega arith))
   met k (suc m) middle low_levels from upto no_entry low st o asc lm s nm f q ao zb before le stop = absurd (omega arith)
@@ -161,7 +165,7 @@ module _ (b : List ℕ) (rec best high levels at : ℕ) (zs : List ℕ) (most : 
       let t : ltb rec fi ≡ false = grind (arith, nat_tests) in
       let c = no_chain b at k (λ y. no_node_type (type_at b p) (block_type b (leaf fi la p packed) q.0) (ap (type_at b) (sym s.0.offset_is) ∙ y)) in
       let r = met (suc k) m (suc la) 0 0 0 entries no_node (record { has = tt; fits = tt; blocks = tt }) tt (omega arith) (omega arith) s.1 nm.2 f q.1 ao.3 zb (rw z at before) (omega arith) (λ lt. rw z at (stop (omega arith))) in
-      met_more k m middle la entries (block fi la p packed entries) no_node low r refl c refl (block_passed rec best low from upto o zs fi la p packed entries t (omega arith)) (omega arith)
+      met_more k m middle la low_levels 0 entries (block fi la p packed entries) no_node low r refl c refl (block_passed rec best low from upto o zs fi la p packed entries t (omega arith)) (omega arith) (omega arith) (λ y. (tt, y))
   met k (suc m) middle low_levels from upto (lower fi la nodes entries) low st o asc lm s nm f q ao zb before le stop =
       let z : k + suc m ≡ suc k + m = omega arith in
       let e = s.0.first_is in
@@ -173,12 +177,25 @@ module _ (b : List ℕ) (rec best high levels at : ℕ) (zs : List ℕ) (most : 
       let y : type_at b (offset_at b at k) ≡ 6 = ap (type_at b) s.0.offset_is ∙ linkable-type b (tiles b) vxr_type (link_to nodes) (node_linkable b levels nodes nm.0 nm.1) in
       let c = chain_is b at k y ∙ s.0.offset_is in
       let r = met (suc k) m (suc la) levels fi la entries nodes (record { has = nm.1; fits = fs.0; blocks = qs.0 }) ao.3 (omega arith) ao.2 s.1 nm.2 fs.1 qs.1 ao.4 zb (rw z at before) (omega arith) (λ lt. rw z at (stop (omega arith))) in
-      met_more k m middle la entries (lower fi la nodes entries) nodes low r refl c refl (lower_passed rec best low from upto o zs fi la nodes entries t (omega arith)) (omega (arith, length-append (nodes_of nodes) (lower_nodes entries)))
+      met_more k m middle la low_levels levels entries (lower fi la nodes entries) nodes low r refl c refl (lower_passed rec best low from upto o zs fi la nodes entries t (omega arith)) (omega (arith, length-append (nodes_of nodes) (lower_nodes entries))) (omega arith) (λ y. y)
 
 -- ---- a node
 
+-- none has one behind it
+zero_node : (at room : ℕ) (entries : Entries) (more : Nodes) → NextsAreZero (node at room entries more) → LowerAreZero entries × (more ≡ no_node)
+unfolding NextsAreZero
+zero_node at room entries no_node z = (z, refl)
+zero_node at room entries (node at' room' entries' more) z = absurd z
+
+-- no level is left
+zero_below : (b : List ℕ) (levels : ℕ) (nodes : Nodes) → levels ≡ 0 → HasNodes b (tiles b) levels nodes → NextsAreZero nodes
+unfolding HasNodes NextsAreZero
+zero_below b levels no_node e h = tt
+zero_below b zero (node at room entries more) e h = absurd h
+zero_below b (suc levels) (node at room entries more) e h = absurd (omega arith)
+
 -- what is left behind a node: the chain below the last entry passed, and the next nodes
-pub record Turned (b : List ℕ) (rec value total turn best at under i : ℕ) : Type 0 where
+pub record Turned (b : List ℕ) (rec : ℕ) (nodes : Nodes) (turn best at under i : ℕ) : Type 0 where
   pub levels : ℕ
   pub low : Nodes
   pub stands : Stands b levels low
@@ -196,12 +213,13 @@ pub record Turned (b : List ℕ) (rec value total turn best at under i : ℕ) : 
   pub low_most : upto ≤ high
   pub most : high ≤ record_number_limit
   pub past : high ≤ best
-  pub passed : i ≡ used_count b at → least_from rec best (firsts_of low ++ firsts_of more) ≡ value
+  pub passed : i ≡ used_count b at → least_from rec best (firsts_of low ++ firsts_of more) ≡ next_first rec (firsts_of nodes)
   pub ends : i ≡ used_count b at → upto ≤ middle
-  pub decided : i < used_count b at → least_from rec (first_at b at i) (firsts_of low) ≡ value
+  pub decided : i < used_count b at → least_from rec (first_at b at i) (firsts_of low) ≡ next_first rec (firsts_of nodes)
   pub below : i < used_count b at → upto ≤ first_at b at i
   pub within : i < used_count b at → first_at b at i ≤ high
-  pub fewer : length (nodes_of low) + length (nodes_of more) + (turn + 1) ≤ total
+  pub fewer : length (nodes_of low) + length (nodes_of more) + (turn + 1) ≤ length (nodes_of nodes)
+  pub zero : NextsAreZero nodes → NextsAreZero low × (more ≡ no_node) × (levels + (turn + 1) ≤ 8)
 
 none_of : (b : List ℕ) (levels : ℕ) (nodes : Nodes) → AreTiles b 8 (length b) (tiles b) → Stands b levels nodes → link_to nodes ≡ 0 → nodes ≡ no_node
 unfolding HasNodes
@@ -219,11 +237,15 @@ from_start b rec at i value least low e same =
     let z : i ≡ 0 + i = omega arith in
     ap (λ (x : ℕ). least_from rec (first_at b at x) (firsts_of low)) z ∙ sym e ∙ same
 
-module _ (b : List ℕ) (rec value total turn : ℕ) (walk : Walk) (w : IsWalk b rec value total turn walk) (i : ℕ) where
+module _ (b : List ℕ) (rec : ℕ) (nodes : Nodes) (turn : ℕ) (walk : Walk) (w : IsWalk b rec nodes turn walk) (i : ℕ) where
+  abbrev value : ℕ
+  value = next_first rec (firsts_of nodes)
+
   turned_at : (levels at room : ℕ) (entries : Entries) (more : Nodes) → Stands b (suc levels) (node at room entries more) → InOrder w.middle w.high (node at room entries more)
-      → least_from rec w.best (firsts_of w.low ++ firsts_of (node at room entries more)) ≡ value → length (nodes_of w.low) + length (nodes_of (node at room entries more)) + turn ≤ total → Begun b at rec i → Turned b rec value total turn w.best at walk.lower i
+      → least_from rec w.best (firsts_of w.low ++ firsts_of (node at room entries more)) ≡ value → length (nodes_of w.low) + length (nodes_of (node at room entries more)) + turn ≤ length (nodes_of nodes)
+      → (NextsAreZero nodes → NextsAreZero (node at room entries more) × (w.low_levels ≡ 0) × (suc levels + turn ≤ 8)) → Begun b at rec i → Turned b rec nodes turn w.best at walk.lower i
   unfolding HasNodes nodes_of leaves_of InOrder firsts_of
-  turned_at levels at room entries more st o same few g =
+  turned_at levels at room entries more st o same few zero_left g =
       let h = st.has in
       let fs = Each-split (NodeFits b) (lower_nodes entries) (nodes_of more) st.fits.1 in
       let qs = Each-split (IsBlock b) (entry_leaves entries) (leaves_of more) st.blocks in
@@ -258,22 +280,31 @@ module _ (b : List ℕ) (rec value total turn : ℕ) (walk : Walk) (w : IsWalk b
         below = λ lt. subst (λ (x : ℕ). m.upto ≤ first_at b at x) z (m.below (omega arith));
         within = λ lt. subst (λ (x : ℕ). first_at b at x ≤ w.high) z (m.within (omega arith));
         fewer = omega (arith, length-append (lower_nodes entries) (nodes_of more));
+        zero = λ z.
+            (let y = zero_left z in
+            let none = y.1 in
+            let deep = y.2 in
+            let here = zero_node at room entries more y.0 in
+            let met_zero = m.zero (omega arith) (zero_below b w.low_levels w.low none w.low_stands.has) here.0 in
+            let less = met_zero.1 in
+            (met_zero.0, here.1, omega arith));
       }
 
   turned_left : (levels : ℕ) (left : Nodes) → walk.at ≡ link_to left → walk.at ≢ 0 → Stands b levels left → InOrder w.middle w.high left → least_from rec w.best (firsts_of w.low ++ firsts_of left) ≡ value
-      → length (nodes_of w.low) + length (nodes_of left) + turn ≤ total → Begun b walk.at rec i → Turned b rec value total turn w.best walk.at walk.lower i
+      → length (nodes_of w.low) + length (nodes_of left) + turn ≤ length (nodes_of nodes)
+      → (NextsAreZero nodes → NextsAreZero left × (w.low_levels ≡ 0) × (levels + turn ≤ 8)) → Begun b walk.at rec i → Turned b rec nodes turn w.best walk.at walk.lower i
   unfolding HasNodes
-  turned_left levels no_node e some st o same few g = absurd (some e)
-  turned_left zero (node at room entries more) e some st o same few g = absurd st.has
-  turned_left (suc levels) (node at room entries more) e some st o same few g =
-      subst (λ (x : ℕ). Turned b rec value total turn w.best x walk.lower i) (sym e) (turned_at levels at room entries more st o same few (subst (λ (x : ℕ). Begun b x rec i) e g))
+  turned_left levels no_node e some st o same few z g = absurd (some e)
+  turned_left zero (node at room entries more) e some st o same few z g = absurd st.has
+  turned_left (suc levels) (node at room entries more) e some st o same few z g =
+      subst (λ (x : ℕ). Turned b rec nodes turn w.best x walk.lower i) (sym e) (turned_at levels at room entries more st o same few z (subst (λ (x : ℕ). Begun b x rec i) e g))
 
-  turned : walk.at ≢ 0 → Begun b walk.at rec i → Turned b rec value total turn w.best walk.at walk.lower i
-  turned some g = turned_left w.levels w.left w.link_is some w.stands w.order w.same w.fewer g
+  turned : walk.at ≢ 0 → Begun b walk.at rec i → Turned b rec nodes turn w.best walk.at walk.lower i
+  turned some g = turned_left w.levels w.left w.link_is some w.stands w.order w.same w.fewer w.zero g
 
   -- an entry past the record: what stands below the one before it is left
   pub walk_decided : walk.at ≢ 0 → Begun b walk.at rec i → i < used_count b walk.at → (first under : ℕ) → first ≡ first_at b walk.at i → under ≡ chain_before b walk.at walk.lower i
-      → IsWalk b rec value total (turn + 1) (record { best = Some first; at = under; lower = 0 })
+      → IsWalk b rec nodes (turn + 1) (record { best = Some first; at = under; lower = 0 })
   unfolding nodes_of firsts_of InOrder HasNodes leaves_of
   walk_decided some g lt first under fe le =
       let t = turned some g in
@@ -306,11 +337,12 @@ module _ (b : List ℕ) (rec value total turn : ℕ) (walk : Walk) (w : IsWalk b
         past = omega arith;
         same = ap (λ (x : ℕ). least_from rec x (firsts_of t.low)) fe ∙ t.decided lt;
         fewer = let f = t.fewer in omega arith;
+        zero = λ z. (let y = t.zero z in (y.0, refl, y.2));
       }
 
   -- the chain ended, and the walk goes on below
   pub walk_below : AreTiles b 8 (length b) (tiles b) → walk.at ≢ 0 → Begun b walk.at rec i → i ≡ used_count b walk.at → next_of b walk.at ≡ 0 → (under : ℕ) → under ≡ chain_before b walk.at walk.lower i
-      → IsWalk b rec value total (turn + 1) (record { best = walk.best; at = under; lower = 0 })
+      → IsWalk b rec nodes (turn + 1) (record { best = walk.best; at = under; lower = 0 })
   unfolding nodes_of firsts_of InOrder HasNodes leaves_of
   walk_below d some g e next under le =
       let t = turned some g in
@@ -342,11 +374,12 @@ module _ (b : List ℕ) (rec value total turn : ℕ) (walk : Walk) (w : IsWalk b
         past = omega arith;
         same = ap (least_from rec w.best) (sym (append-nil (firsts_of t.low))) ∙ ap (λ (x : Nodes). least_from rec w.best (firsts_of t.low ++ firsts_of x)) (sym none) ∙ t.passed e;
         fewer = let f = t.fewer in omega arith;
+        zero = λ z. (let y = t.zero z in (y.0, refl, y.2));
       }
 
   -- the walk goes on along the chain
   pub walk_along : walk.at ≢ 0 → Begun b walk.at rec i → i ≡ used_count b walk.at → (next under : ℕ) → next ≡ next_of b walk.at → next ≢ 0 → under ≡ chain_before b walk.at walk.lower i
-      → IsWalk b rec value total (turn + 1) (record { best = walk.best; at = next; lower = under })
+      → IsWalk b rec nodes (turn + 1) (record { best = walk.best; at = next; lower = under })
   walk_along some g e next under ne nz le =
       let t = turned some g in
       record {
@@ -373,13 +406,14 @@ module _ (b : List ℕ) (rec value total turn : ℕ) (walk : Walk) (w : IsWalk b
         past = t.past;
         same = t.passed e;
         fewer = t.fewer;
+        zero = λ z. absurd (nz (ne ∙ t.next_is ∙ ap link_to (t.zero z).1));
       }
 
 -- ---- the walk over an index
 
 module _ (b : List ℕ) (head rec : ℕ) (has : HasIndex b head) where
   abbrev pub WalkOf : ℕ → Walk → Type 0
-  WalkOf turn walk = IsWalk b rec (next_first rec (firsts_of (index_at b head))) (length (nodes_of (index_at b head))) turn walk
+  WalkOf turn walk = IsWalk b rec (index_at b head) turn walk
 
   pub walk_start : WalkOf 0 (record { best = None; at = head; lower = 0 })
   unfolding nodes_of firsts_of InOrder HasNodes leaves_of
@@ -408,6 +442,7 @@ module _ (b : List ℕ) (head rec : ℕ) (has : HasIndex b head) where
         past = omega arith;
         same = refl;
         fewer = omega arith;
+        zero = λ z. (z, refl, omega arith);
       }
 
   module _ (turn : ℕ) (walk : Walk) (w : WalkOf turn walk) where
@@ -438,5 +473,17 @@ module _ (b : List ℕ) (head rec : ℕ) (has : HasIndex b head) where
       pub walk_cost : turn + 1 ≤ length (nodes_of (index_at b head))
       walk_cost = let o = one w.left (there w.left (λ z. some (w.link_is ∙ z))) in omega (arith, w.fewer)
 
-pub walk_now : (b now : List ℕ) (rec turn : ℕ) (total value : ℕ) (walk walked : Walk) → now ≡ b → ((value total turn : ℕ) → IsWalk now rec value total turn walk → IsWalk now rec value total (turn + 1) walked) → IsWalk b rec value total turn walk → IsWalk b rec value total (turn + 1) walked
-walk_now b now rec turn total value walk walked e told w = subst (λ (x : List ℕ). IsWalk x rec value total turn walk → IsWalk x rec value total (turn + 1) walked) e (told value total turn) w
+      level : (levels : ℕ) (ns : Nodes) → IsNode ns → HasNodes b (tiles b) levels ns → 1 ≤ levels
+      unfolding HasNodes
+      level levels no_node is h = absurd is
+      level zero (node place room entries more) is h = absurd h
+      level (suc levels) (node place room entries more) is h = omega arith
+
+      pub walk_cost_zero : NextsAreZero (index_at b head) → turn + 1 ≤ 8
+      walk_cost_zero z = let l = level w.levels w.left (there w.left (λ y. some (w.link_is ∙ y))) w.stands.has in let d = (w.zero z).2 in omega arith
+
+    pub walk_cost_end_zero : NextsAreZero (index_at b head) → turn ≤ 8
+    walk_cost_end_zero z = let d = (w.zero z).2 in omega arith
+
+pub walk_now : (b now : List ℕ) (rec turn : ℕ) (nodes : Nodes) (walk walked : Walk) → now ≡ b → ((nodes : Nodes) (turn : ℕ) → IsWalk now rec nodes turn walk → IsWalk now rec nodes (turn + 1) walked) → IsWalk b rec nodes turn walk → IsWalk b rec nodes (turn + 1) walked
+walk_now b now rec turn nodes walk walked e told w = subst (λ (x : List ℕ). IsWalk x rec nodes turn walk → IsWalk x rec nodes (turn + 1) walked) e (told nodes turn) w

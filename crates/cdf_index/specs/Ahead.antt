@@ -1,12 +1,12 @@
 -- The search for the least First past a record, on its way.
 use Rattle.std.specs.Prelude.{◌≡◌, ◌≤◌, ◌<◌, ◌+◌, ◌==◌, ℕ, zero, suc, List, ◌++◌, length, if◌then◌else◌}
-use Rattle.cdf_edits.specs.Index.Blocks.{firsts_of}
+use Rattle.cdf_edits.specs.Index.Blocks.{firsts_of, next_first}
 use Rattle.cdf_format.specs.Fields.{type_at}
 use Rattle.cdf_format.specs.Index.{Nodes, nodes_of, link_to, used_count, first_at, offset_at}
 use Rattle.cdf_format.specs.RecordTypes.{vxr_type}
 use Rattle.cdf_index.specs.Finding.{Stands}
 use Rattle.cdf_index.specs.Next.{least_from, number_within}
-use Rattle.cdf_index.specs.Order.{InOrder}
+use Rattle.cdf_index.specs.Order.{InOrder, NextsAreZero}
 use Rattle.cdf_index.specs.declared.next.Walk.{Walk}
 use Rattle.cdf_model.specs.Limits.{record_number_limit}
 
@@ -29,8 +29,8 @@ abbrev pub chain_before : List ℕ → ℕ → ℕ → ℕ → ℕ
 chain_before b at lower zero = lower
 chain_before b at lower (suc j) = chain_at b at j
 
--- After so many turns what is left are the nodes from `at` on and those below the last entry passed. Of the Firsts in them, and the best one so far, the least past the record is the one asked for.
-pub record IsWalk (b : List ℕ) (rec value total turn : ℕ) (walk : Walk) : Type 0 where
+-- After so many turns of a walk over these nodes what is left are the nodes from `at` on and those below the last entry passed. Of the Firsts in them, and the best one so far, the least past the record is the one asked for. Where no node has one behind it, each turn leads a level down.
+pub record IsWalk (b : List ℕ) (rec : ℕ) (nodes : Nodes) (turn : ℕ) (walk : Walk) : Type 0 where
   pub levels : ℕ
   pub low_levels : ℕ
   pub left : Nodes
@@ -52,5 +52,6 @@ pub record IsWalk (b : List ℕ) (rec value total turn : ℕ) (walk : Walk) : Ty
   pub best : ℕ
   pub best_is : walk.best ≡ number_within best
   pub past : high ≤ best
-  pub same : least_from rec best (firsts_of low ++ firsts_of left) ≡ value
-  pub fewer : length (nodes_of low) + length (nodes_of left) + turn ≤ total
+  pub same : least_from rec best (firsts_of low ++ firsts_of left) ≡ next_first rec (firsts_of nodes)
+  pub fewer : length (nodes_of low) + length (nodes_of left) + turn ≤ length (nodes_of nodes)
+  pub zero : NextsAreZero nodes → NextsAreZero left × (low_levels ≡ 0) × (levels + turn ≤ 8)

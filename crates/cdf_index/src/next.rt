@@ -2,11 +2,12 @@
 
 ghost use Rattle.std.specs.Prelude.{◌≡◌, ◌+◌, ◌≤◌, ℕ, length, IfOk};
 ghost use Rattle.cdf_area.specs.Calls.{Reads};
-ghost use Rattle.cdf_format.specs.Index.{nodes_of, used_count};
+ghost use Rattle.cdf_format.specs.Index.{Nodes, nodes_of, used_count};
 ghost use Rattle.cdf_model.specs.Limits.{image_limit};
 ghost use Rattle.cdf_index.specs.Finding.{index_at, HasIndex, NodeInside, SomeNode};
 ghost use Rattle.cdf_index.specs.Ahead.{Begun, NamesIn, chain_before, IsWalk};
 ghost use Rattle.cdf_index.specs.Next.{least_first_past};
+ghost use Rattle.cdf_index.specs.Order.{NextsAreZero};
 ghost use Rattle.cdf_index.specs.Sight.{IsHead};
 
 use crate::nodes::{Head, read_node};
@@ -70,7 +71,7 @@ fn advance<A: Area>(area: &mut A, walk: &Walk, head: &Head, rec: u32) -> Result<
     requires inside { NodeInside (A.image area.old) walk.now.at }
     requires node { SomeNode (A.image area.old) walk.now.at }
     requires short { length (A.image area.old) ≤ image_limit }
-    ensures told { IfOk result (λ walked. (value total turn : ℕ) → IsWalk (A.image area.old) rec value total turn walk.now → IsWalk (A.image area.old) rec value total (turn + 1) walked) }
+    ensures told { IfOk result (λ walked. (nodes : Nodes) (turn : ℕ) → IsWalk (A.image area.old) rec nodes turn walk.now → IsWalk (A.image area.old) rec nodes (turn + 1) walked) }
     ensures area { Reads A.image A.frame A.faults A.edited area.old area.new result }
 {
     let i = entries_begun(area, walk.at, head, rec)?;
@@ -108,6 +109,7 @@ pub fn next_first<A: Area, L: Ledger>(
     requires short { length (A.image area.old) ≤ image_limit }
     ensures value { IfOk result (λ next. next ≡ least_first_past rec (index_at (A.image area.old) head)) }
     ensures steps { steps.new ≤ steps.old + length (nodes_of (index_at (A.image area.old) head)) }
+    ensures levels { NextsAreZero (index_at (A.image area.old) head) → steps.new ≤ steps.old + 8 }
     ensures area { Reads A.image A.frame A.faults A.edited area.old area.new result }
 {
     let mut walk = Walk {

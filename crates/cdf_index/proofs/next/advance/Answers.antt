@@ -19,7 +19,7 @@ returns-then-i-head-clause-told g c =
     let first = read_first b _ walk.at c.in_ok-i.i c.in_ok-first.first (c.in_ok-lower.ensures.area.image ∙ c.in_ok-i.ensures.area.image) c.in_ok-first.ensures.value in
     let lt = c.if-i-head.true in
     let used = c.requires.head.used_is in
-    λ value total turn w. walk_decided b c.args.rec value total turn walk w c.in_ok-i.i some c.in_ok-i.ensures.begun (omega arith) c.in_ok-first.first c.in_ok-lower.lower first chain
+    λ nodes turn w. walk_decided b c.args.rec nodes turn walk w c.in_ok-i.i some c.in_ok-i.ensures.begun (omega arith) c.in_ok-first.first c.in_ok-lower.lower first chain
 
 pub returns-then-head-eq0-clause-told : goal.returns-then-head-eq0-clause-told
 returns-then-head-eq0-clause-told g c =
@@ -32,7 +32,7 @@ returns-then-head-eq0-clause-told g c =
     let used = c.requires.head.used_is in
     let most = c.in_ok-i.ensures.begun.most in
     let next = sym c.requires.head.next_is ∙ c.if-head-eq0.true in
-    λ value total turn w. walk_below b c.args.rec value total turn walk w c.in_ok-i.i c.requires.node.tiled some c.in_ok-i.ensures.begun (omega arith) next c.in_ok-lower.lower chain
+    λ nodes turn w. walk_below b c.args.rec nodes turn walk w c.in_ok-i.i c.requires.node.tiled some c.in_ok-i.ensures.begun (omega arith) next c.in_ok-lower.lower chain
 
 pub returns-clause-told : goal.returns-clause-told
 returns-clause-told g c =
@@ -44,4 +44,4 @@ returns-clause-told g c =
     let ge = c.if-i-head.false in
     let used = c.requires.head.used_is in
     let most = c.in_ok-i.ensures.begun.most in
-    λ value total turn w. walk_along b c.args.rec value total turn walk w c.in_ok-i.i some c.in_ok-i.ensures.begun (omega arith) c.args.head.now.next c.in_ok-lower.lower c.requires.head.next_is c.if-head-eq0.false chain
+    λ nodes turn w. walk_along b c.args.rec nodes turn walk w c.in_ok-i.i some c.in_ok-i.ensures.begun (omega arith) c.args.head.now.next c.in_ok-lower.lower c.requires.head.next_is c.if-head-eq0.false chain

@@ -1,14 +1,12 @@
-use Rattle.std.proofs.Common.{◌≡◌, ◌+◌, length}
+use Rattle.std.proofs.Common.{◌≡◌, ◌+◌}
 use Rattle.cdf_area.specs.Calls.{Stays}
-use Rattle.cdf_edits.specs.Index.Blocks.{firsts_of, next_first as least_past}
-use Rattle.cdf_format.specs.Index.{nodes_of}
 use Rattle.cdf_index.specs.Ahead.{IsWalk}
 use Rattle.cdf_index.specs.Finding.{index_at}
 use Rattle.cdf_index.proofs.next.next_first.Given as goal
 
 abbrev pub invariant-loop-turn : goal.invariant-loop-turn
 invariant-loop-turn g l = record {
-  walk : IsWalk (g.A.Area.image l.fn.area) l.rec (least_past l.rec (firsts_of (index_at (g.A.Area.image l.fn.area) l.head))) (length (nodes_of (index_at (g.A.Area.image l.fn.area) l.head))) l.turn l.walk;
+  walk : IsWalk (g.A.Area.image l.fn.area) l.rec (index_at (g.A.Area.image l.fn.area) l.head) l.turn l.walk;
   area : Stays g.A.Area.image g.A.Area.frame g.A.Area.faults g.A.Area.edited l.fn.area l.area;
   steps : l.steps ≡ l.fn.steps + l.turn;
 }
