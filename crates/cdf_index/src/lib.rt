@@ -12,4 +12,4 @@ pub use collecting::index_records;
 pub use finding::find;
 pub use next::next_first;
 pub use nodes::Leaf;
-pub use records::read_rec;
+pub use records::{read_rec, write_recs};

@@ -1,7 +1,8 @@
-//! Single records, read from their blocks.
+//! Records, read from their blocks and written into them.
 
-ghost use Rattle.std.specs.Prelude.{◌≡◌, ◌+◌, ◌-◌, ◌≤◌, ℕ, length, take, drop, IfOk};
-ghost use Rattle.cdf_area.specs.Calls.{Reads};
+ghost use Rattle.std.specs.Prelude.{◌≡◌, ◌+◌, ◌-◌, ◌*◌, ◌≤◌, ℕ, length, take, drop, IfOk, OnOk};
+ghost use Rattle.cdf_area.specs.Calls.{Overwrites, Reads};
+ghost use Rattle.cdf_base.specs.Bytes.{put};
 ghost use Rattle.cdf_format.specs.Content.{plain_bytes};
 ghost use Rattle.cdf_format.specs.VariableFields.{record_bytes};
 ghost use Rattle.cdf_model.specs.Limits.{image_limit};
@@ -48,4 +49,23 @@ pub fn read_rec<A: Area>(
     let number = (rec - leaf.first) as u64;
     let place = leaf.at + (VVR_RECORDS + number * rec_bytes);
     read_bytes(alloc, area, place, rec_bytes)
+}
+
+/// Writes records, from one of a number on, into a block that is not packed. After an error the image stays.
+pub fn write_recs<A: Area>(
+    area: &mut A,
+    leaf: &Leaf,
+    rec_bytes: u64,
+    rec: u32,
+    bytes: &[u8],
+) -> Result<(), AreaError>
+    requires block { HoldsRecords (A.image area.old) leaf.now rec_bytes }
+    requires from { leaf.now.first ≤ rec }
+    requires within { (rec - leaf.now.first) * rec_bytes + length bytes.now ≤ (leaf.now.last + 1 - leaf.now.first) * rec_bytes }
+    requires short { length (A.image area.old) ≤ image_limit }
+    ensures written { OnOk result (A.image area.new ≡ put (A.image area.old) (leaf.now.at + (12 + (rec - leaf.now.first) * rec_bytes)) bytes.now) }
+    ensures area { Overwrites A.image A.frame A.faults area.old area.new result }
+{
+    let number = (rec - leaf.first) as u64;
+    area.set(leaf.at + (VVR_RECORDS + number * rec_bytes), bytes)
 }
