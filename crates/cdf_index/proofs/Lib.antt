@@ -9,3 +9,4 @@ pub mod Walking
 pub mod GoodBlock
 pub mod ChainWalk
 pub mod Collected
+pub mod Measured

@@ -5,3 +5,4 @@ pub mod Reading
 pub mod Next
 pub mod Ahead
 pub mod Whole
+pub mod Sizes
