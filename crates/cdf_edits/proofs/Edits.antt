@@ -70,6 +70,7 @@ pub mod VariableKept
 pub mod VariableKeeps
 pub mod VariableKinds
 pub mod VariableNames
+pub mod VariableNumbered
 pub mod VariableSplice
 pub mod VariablesLinked
 pub mod VdrEdited

@@ -10,4 +10,3 @@ pub mod SameShape
 pub mod SoundStays
 pub mod TilesGrow
 pub mod NumberFell
-pub mod VdrNumbered

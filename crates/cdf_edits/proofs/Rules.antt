@@ -2,7 +2,6 @@ pub mod FirstHead
 pub mod FirstRules
 pub mod OfAttributes
 pub mod OfIndexes
-pub mod OfNumbered
 pub mod OfVariables
 pub mod OfVdrCopied
 pub mod WithoutLinks

@@ -34,7 +34,7 @@ use Rattle.cdf_edits.proofs.Edits.RecordFrame.{file_same}
 use Rattle.cdf_edits.proofs.Edits.VariableKinds.{kind_chain}
 use Rattle.cdf_edits.proofs.Edits.VdrEdited.{StandsAmong, sound, typed}
 use Rattle.cdf_edits.proofs.Frame.Meaning.{FileSame, pad_long, pad_width}
-use Rattle.cdf_edits.proofs.Frame.VdrCopied.{VdrCopied, pad_field_copied, value_copied}
+use Rattle.cdf_edits.proofs.Frame.VdrCopied.{Copied, VdrCopied, pad_field_copied, value_copied, word_copied}
 use Rattle.cdf_records.specs.Pieces.{AreBytes}
 use Rattle.cdf_records.proofs.Places.{word_fits}
 use Rattle.cdf_space.proofs.AddedRecord.{filled_joins}
@@ -216,8 +216,12 @@ module _ (value : List ℕ) {b filled late : List ℕ} {kind : Kind} {before : L
     typed = made_type (sound good at) fills later replaced.length_stays t.lately ∙ sym (typed good at);
     first = record { each = λ i l h. late_byte i l (omega (arith, pad_late)) (inl h) };
     second = record { each = λ i l h. late_byte i (omega arith) (omega (arith, pad_late)) (inr l) };
+    third = record { each = λ i l h. late_byte i (omega arith) (omega (arith, pad_late)) (inr (omega arith)) };
     behind = record { each = λ i l h. late_byte i (omega arith) h (inr (omega arith)) };
   }
+
+  num_there : Copied b late v by 68 72
+  num_there = record { each = λ i l h. late_byte i (omega arith) (omega (arith, pad_late)) (inr (omega arith)) }
 
   end_is : vdr_end late by ≡ need
   end_is =
@@ -245,6 +249,7 @@ module _ (value : List ℕ) {b filled late : List ℕ} {kind : Kind} {before : L
     joins = joins;
     replaced = replaced;
     copied = copied_there;
+    num_is = word_copied num_there 68 4 (omega arith) (omega arith);
     packed = ap (λ (k : ℕ). has_bit k 2) flags_now ∙ padded_2 (number b v vdr_flags);
     ends = omega (arith, end_is);
     larger = omega (arith, short, need_is);

@@ -65,7 +65,7 @@ use Rattle.cdf_edits.proofs.Edits.VariableNames.{apart_if, own_names_apart}
 use Rattle.cdf_edits.proofs.Edits.VariableSplice.{VariableSplices, OwnRules, attributes_kept, keeps_all_attributes, shape_now, content_now, parts_ruled, good_image_if}
 use Rattle.cdf_edits.proofs.Edits.VdrEdited.{StandsAmong, sound, tile, typed, ours, after_ours, has, fits, behind_in, only, long, no_block, through, least_size}
 use Rattle.cdf_edits.proofs.Frame.Meaning.{FileSame, Kept, KeptButLink, late_type, late_size}
-use Rattle.cdf_edits.proofs.Frame.VdrCopied.{VdrCopied, pad_field_copied, value_copied, second_number}
+use Rattle.cdf_edits.proofs.Frame.VdrCopied.{VdrCopied, pad_field_copied, value_copied}
 
 -- ---- by the kind
 
@@ -131,6 +131,7 @@ copied_then {b = b} {mid = mid} {now = now} {v = v} {v' = v'} c k wide pad = rec
   typed = type_kept mid now v' k.same k.long ∙ c.typed;
   first = record { each = λ i l h. k.same.each (v' + i) (omega arith) (omega arith) ∙ c.first.each i l h };
   second = record { each = λ i l h. k.same.each (v' + i) (omega arith) (omega arith) ∙ c.second.each i l h };
+  third = record { each = λ i l h. k.same.each (v' + i) (omega arith) (omega arith) ∙ c.third.each i l h };
   behind = record { each = λ i l h. k.same.each (v' + i) (omega arith) (inside v' i (pad_field b v).place (size_at mid v') h pad) ∙ c.behind.each i l h };
 }
   where
@@ -378,7 +379,7 @@ module _ {b late now : List ℕ} {kind : Kind} {before : List VariableShape} {ow
   counted image =
       rows_replaced kind b now before own after by (gdr_kept (count_of (variables_chain kind)) t.count_clear (in_gdr kind).1)
       (nums_from (sound good at) freed_edit file_now before (ours good at).0 front_live) (nums_from (sound good at) freed_edit file_now after (after_ours good at) back_live)
-      (second_number file_now copied_now vdr_num (omega arith) (omega arith))
+      (number_kept late now by by_kept.same vdr_num (let l = by_long in omega arith) ∙ m.num_is)
       (subst (λ (vs : List VariableShape). Hold (vdrs_rows kind b (vdrs vs))) at.was (counted_before image kind))
 
   pub same_end : vdr_end now by ≡ vdr_end late by

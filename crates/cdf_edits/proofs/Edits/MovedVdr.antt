@@ -6,7 +6,7 @@ use Rattle.cdf_model.specs.declared.kinds.Kind.TheVariants.{R, Z}
 use Rattle.cdf_format.specs.Chains.{IsChain}
 use Rattle.cdf_format.specs.Fields.{number, name_in, size_at, type_at, gdr_offset}
 use Rattle.cdf_format.specs.Owners.{variable_records, times, owned_records}
-use Rattle.cdf_format.specs.Records.{vdr_name}
+use Rattle.cdf_format.specs.Records.{vdr_num, vdr_name}
 use Rattle.cdf_format.specs.RecordTypes.{uir_type, fixed_size, is_record_type}
 use Rattle.cdf_format.specs.Shape.{VariableShape, Shape, vdrs, variables, is_compressed, HasShape, Each, shape}
 use Rattle.cdf_format.specs.Sound.{IsSound}
@@ -46,6 +46,7 @@ pub record MovesVdr (b late : List ℕ) (kind : Kind) (own : VariableShape) (bod
   pub joins : MayJoin filled (variables_chain kind) by
   pub replaced : Replaced filled late (variables_chain kind) own.vdr by
   pub copied : VdrCopied b late own.vdr by
+  pub num_is : number late by vdr_num ≡ number b own.vdr vdr_num
   pub packed : is_compressed late by ≡ is_compressed b own.vdr
   pub ends : vdr_end late by ≤ 8 + length body
   pub larger : size_at b own.vdr ≤ 8 + length body

@@ -126,7 +126,8 @@ module _ {b now : List ℕ} {kind : Kind} {before : List VariableShape} {own : V
   copied = record {
     typed = head_type b now v (front 0 12 (omega arith) (inl (omega arith)));
     first = copied_in_place b now v 20 44 (front 20 44 (omega arith) (inl (omega arith)));
-    second = copied_in_place b now v 48 80 (front 48 80 (omega arith) (inr (omega arith)));
+    second = copied_in_place b now v 48 68 (front 48 68 (omega arith) (inr (omega arith)));
+    third = copied_in_place b now v 72 80 (front 72 80 (omega arith) (inr (omega arith)));
     behind = copied_in_place b now v 340 pad.place (part 340 pad.place (omega arith) (inr (omega arith)));
   }
 
@@ -150,6 +151,7 @@ module _ {b now : List ℕ} {kind : Kind} {before : List VariableShape} {own : V
     own_marks = (refl, through 20 340 pad.place (omega arith) pad_late, (refl, (omega arith), tt));
     tests = pad_tests kind v pad;
     copied = copied;
+    num_is = word_kept b now (v + 68) (v + 72) (front 68 72 (omega arith) (inr (omega arith))) (v + 68) 4 (omega arith) (omega arith);
     packed = packed;
     end_fits = subst (λ (n : ℕ). n ≤ size_at b v) (sym end_is) w.room;
   }

@@ -26,29 +26,29 @@ use Rattle.cdf_format.specs.WellFormed.{Good}
 use Rattle.cdf_format.proofs.ChainsLemmas.{linkable-in, linkable-type}
 use Rattle.cdf_format.proofs.GoodByShape.{IsGoodByShape}
 use Rattle.cdf_format.proofs.GoodImageLemmas.{vdrs_append}
-use Rattle.cdf_format.proofs.Members.{In-append_left, In-append_right, Distinct-back}
+use Rattle.cdf_format.proofs.Members.{In-append, In-append_left, In-append_right}
 use Rattle.cdf_format.proofs.Owning.{times-none}
 use Rattle.cdf_format.proofs.ShapeLemmas.{content_is}
 use Rattle.cdf_format.proofs.TilesLemmas.{tile_lies}
 use Rattle.cdf_edits.specs.Commands.Allowances.{shapes_of}
 use Rattle.cdf_edits.specs.Edits.Edit.{Edit}
-use Rattle.cdf_edits.specs.Edits.Marks.{Mark, Avoids, avoided, unmarked, all_unmarked, index_types, keeps_file}
+use Rattle.cdf_edits.specs.Edits.ManyMarks.{wholes}
+use Rattle.cdf_edits.specs.Edits.Marks.{Mark, Avoids, Confined, avoided, unmarked, index_types, keeps_file}
 use Rattle.cdf_edits.specs.Edits.RemovesVariable.{variable_removing_marks}
 use Rattle.cdf_edits.specs.Space.Chains.{head_of, count_of, type_in}
 use Rattle.cdf_edits.specs.Space.VariableChains.{variables_chain}
-use Rattle.cdf_edits.proofs.Edits.MarkLemmas.{all_unmarked-away, avoids-of_type, unmarked-away}
+use Rattle.cdf_edits.proofs.Edits.MarkLemmas.{avoids-of_type, confined-away, unmarked-away}
 use Rattle.cdf_edits.proofs.Edits.OwnedOnce.{used_times, owned_once_if}
-use Rattle.cdf_edits.proofs.Edits.PlainVariables.{IsPlain, plain_records}
-use Rattle.cdf_edits.proofs.Edits.RecordFrame.{VariableLives, file_same, gdr_place, kept_away, kept_but_link, through}
+use Rattle.cdf_edits.proofs.Edits.RecordFrame.{VariableLives, file_same, gdr_place, index_records, kept_away, kept_but_link, through}
 use Rattle.cdf_edits.proofs.Edits.StepEdits.{fixed_long}
 use Rattle.cdf_edits.proofs.Edits.VariableFrame.{AreOurs, VariableRemains, ours_parts, remain_from, nums_from, index_typed, variables_in}
 use Rattle.cdf_edits.proofs.Edits.VariableKinds.{other_kind, with_shapes, vdrs_rows, number_part, keeps_kind, kind_ours, kind_chain, counted_before, variables_of_are, spliced_times}
+use Rattle.cdf_edits.proofs.Edits.VariableKept.{OnlyVariable, only_variable}
 use Rattle.cdf_edits.proofs.Edits.VariableNames.{apart_if}
+use Rattle.cdf_edits.proofs.Edits.VariableNumbered.{KeptButNum, numbered_remains}
 use Rattle.cdf_edits.proofs.Edits.VariableSplice.{VariableSplices, keeps_all_attributes, shape_now, content_now, sound_if, good_image_if}
-use Rattle.cdf_edits.proofs.Frame.Meaning.{FileSame, KeptButLink, but_link}
+use Rattle.cdf_edits.proofs.Frame.Meaning.{FileSame, Kept, KeptButLink, but_link}
 use Rattle.cdf_edits.proofs.Frame.OwnersApart.{times-in, owned-times, file_records, all_attribute_records, all_variable_records}
-use Rattle.cdf_edits.proofs.Frame.VdrNumbered.{KeptButNum}
-use Rattle.cdf_edits.proofs.Rules.OfNumbered.{plain_remains}
 use Rattle.cdf_edits.proofs.Space.TakenFromList.{distinct_apart}
 
 -- ---- lists
@@ -81,24 +81,38 @@ rows_kept rule b now n (x ∷ xs) same h = (ap (λ (m : ℕ). m == n) (same x (i
 one_less : (rule : ℕ) (b now : List ℕ) (front : List ℕ) (own : ℕ) (back : List ℕ) → ((m : ℕ) → In m front → number now m vdr_num ≡ number b m vdr_num) → AreNumberedOn now (length front) back → Hold (number_rows rule b vdr_num 0 (front ++ own ∷ back)) → Hold (number_rows rule now vdr_num 0 (front ++ back))
 one_less rule b now front own back same says h = rows_joined rule now 0 (length front) front back (omega arith) (rows_kept rule b now 0 front same (rows_front rule b 0 front (own ∷ back) h)) (rows_numbered rule now (length front) back says)
 
+-- a VDR is a record of its variable
+pub vdr_record : (vs : List VariableShape) (m : ℕ) → In m (vdrs vs) → In m (flat_map variable_records vs)
+vdr_record [] m i = absurd i
+vdr_record (v ∷ vs) m (inl q) = inl q
+vdr_record (v ∷ vs) m (inr i) = In-append_right m (variable_records v) (flat_map variable_records vs) (vdr_record vs m i)
+
 -- ---- the marks, by the kind
 
 pub record TakingTests (kind : Kind) (marks : List Mark) : Type 0 where
   pub file_clear : keeps_file marks ≡ true
   pub attributes_clear : keeps_all_attributes marks ≡ true
   pub other_clear : keeps_kind marks (other_kind kind) ≡ true
-  pub index_clear : all_unmarked marks index_types ≡ true
   pub others_clear : unmarked marks (type_in (variables_chain (other_kind kind))) ≡ true
   pub eof_clear : avoided marks gdr_type 36 44 ≡ true
 
 pub taking_tests : (kind : Kind) (gdr : ℕ) (members behind unused places : List ℕ) (limit : ℕ) → TakingTests kind (variable_removing_marks kind gdr members behind unused places limit)
-taking_tests R gdr members behind unused places limit = record { file_clear = refl; attributes_clear = refl; other_clear = refl; index_clear = refl; others_clear = refl; eof_clear = refl }
-taking_tests Z gdr members behind unused places limit = record { file_clear = refl; attributes_clear = refl; other_clear = refl; index_clear = refl; others_clear = refl; eof_clear = refl }
+taking_tests R gdr members behind unused places limit = record { file_clear = refl; attributes_clear = refl; other_clear = refl; others_clear = refl; eof_clear = refl }
+taking_tests Z gdr members behind unused places limit = record { file_clear = refl; attributes_clear = refl; other_clear = refl; others_clear = refl; eof_clear = refl }
 
 -- what of a VDR of the kind avoids them
 pub vdr_avoids : (kind : Kind) (gdr : ℕ) (members behind unused places : List ℕ) (limit m lo hi : ℕ) → (In m places → ⊥) → (hi ≤ 12) ⊎ (20 ≤ lo) → (In m behind → (hi ≤ 68) ⊎ (72 ≤ lo)) → Avoids (variable_removing_marks kind gdr members behind unused places limit) (type_in (variables_chain kind)) m lo hi
 vdr_avoids R gdr members behind unused places limit m lo hi out link num = avoids-of_type (variable_removing_marks R gdr members behind unused places limit) r_vdr_type m lo hi ((λ same lies. link), ((λ same lies. num lies), ((λ same lies. absurd (out lies)), tt)))
 vdr_avoids Z gdr members behind unused places limit m lo hi out link num = avoids-of_type (variable_removing_marks Z gdr members behind unused places limit) z_vdr_type m lo hi ((λ same lies. link), ((λ same lies. num lies), ((λ same lies. absurd (out lies)), tt)))
+
+wholes_confined : (types places : List ℕ) (limit : ℕ) → Confined (wholes types places limit) index_types places
+wholes_confined [] places limit = tt
+wholes_confined (type ∷ types) places limit = (inr (λ m i. i), wholes_confined types places limit)
+
+-- nodes, blocks and parameters have marks where they are freed alone
+pub index_confined : (kind : Kind) (gdr : ℕ) (members behind unused places : List ℕ) (limit : ℕ) → Confined (variable_removing_marks kind gdr members behind unused places limit) index_types places
+index_confined R gdr members behind unused places limit = (inl refl, (inl refl, (inl refl, (inl refl, (inl refl, (inl refl, (inl refl, wholes_confined (type_in (variables_chain R) ∷ index_types) places limit)))))))
+index_confined Z gdr members behind unused places limit = (inl refl, (inl refl, (inl refl, (inl refl, (inl refl, (inl refl, wholes_confined (type_in (variables_chain Z) ∷ index_types) places limit))))))
 
 pub least_size : (kind : Kind) → 340 ≤ fixed_size (type_in (variables_chain kind))
 least_size R = omega arith
@@ -112,14 +126,12 @@ numbers_by : (kind : Kind) (b now : List ℕ) (front : List ℕ) (own : ℕ) (ba
 numbers_by R b now front own back same says h = one_less 7 b now front own back same says h.1
 numbers_by Z b now front own back same says h = one_less 10 b now front own back same says h.1
 
--- ---- an edit that takes one variable away, which has a VDR alone, numbers those behind it, and may free the VDR
+-- ---- an edit that takes one variable away, numbers those behind it, and may free records of it
 
 pub record TakesVariable (b now : List ℕ) (s : Shape) (kind : Kind) (before : List VariableShape) (own : VariableShape) (after : List VariableShape) (places : List ℕ) (limit : ℕ) : Type 0 where
   pub edit : Edit b now s.records s.records (variable_removing_marks kind s.gdr (vdrs (shapes_of s kind)) (vdrs after) s.unused places limit) places
   pub was : shapes_of s kind ≡ before ++ own ∷ after
-  pub mine : (m : ℕ) → In m places → m ≡ own.vdr
-  pub own_plain : IsPlain own
-  pub after_plain : Each IsPlain after
+  pub mine : (m : ℕ) → In m places → In m (variable_records own)
 
 module _ {b now : List ℕ} {s : Shape} {kind : Kind} {before : List VariableShape} {own : VariableShape} {after : List VariableShape} {places : List ℕ} {limit : ℕ} (sound : IsSound b s) (r : TakesVariable b now s kind before own after places limit) where
   abbrev pub marks : List Mark
@@ -161,8 +173,15 @@ module _ {b now : List ℕ} {s : Shape} {kind : Kind} {before : List VariableSha
   pub front_out : (m : ℕ) → In m (vdrs before) → In m (own.vdr ∷ vdrs after) → ⊥
   front_out m i j = distinct_apart (vdrs before) (own.vdr ∷ vdrs after) m once i j
 
+  -- no other has a record that is freed
+  pub only : (m : ℕ) → In m places → OnlyVariable b s kind before after m
+  only m i = only_variable sound kind before own after r.was m (r.mine m i)
+
   pub back_out : (m : ℕ) → In m (vdrs after) → In m places → ⊥
-  back_out m i j = (Distinct-back (vdrs before) (own.vdr ∷ vdrs after) once).0 (subst (λ (x : ℕ). In x (vdrs after)) (r.mine m j) i)
+  back_out m i j = (only m j).in_after (vdr_record after m i)
+
+  pub own_stand : (m : ℕ) → In m (variable_records own) → In m s.records
+  own_stand m i = variables_in b s sound m (ours.1.sub m (In-append_left m (variable_records own) (flat_map variable_records after) i))
 
   -- a VDR of the kind
   pub vdr_there : (m : ℕ) → In m (vdrs (shapes_of s kind)) → In m s.records × ((type_at b m ≡ type) × (340 ≤ size_at b m))
@@ -177,22 +196,24 @@ module _ {b now : List ℕ} {s : Shape} {kind : Kind} {before : List VariableSha
 
   -- ---- before it, and of the other kind
 
-  lives : (vs : List VariableShape) → AreOurs b s vs → ((m : ℕ) → In m (vdrs vs) → KeptButLink b now m) → Each (VariableLives b now) vs
-  lives [] of k = tt
-  lives (v ∷ more) of k = (
-    record {
-      vdr = k v.vdr (inl refl);
-      behind = λ m i.
-          let inside = variables_in b s sound m (of.sub m (In-append_left m (variable_records v) (flat_map variable_records more) (inr i))) in
-          kept_away r.edit m (type_at b m) inside refl (all_unmarked-away marks index_types (type_at b m) m tests.index_clear (index_typed b s v of.has.0 of.fits.0 m i));
-    },
-    lives more (ours_parts b s (v ∷ []) more of).1 (λ m i. k m (inr i)),
+  -- what is behind a VDR that is not freed
+  behind : (v : VariableShape) (more : List VariableShape) → AreOurs b s (v ∷ more) → ((m : ℕ) → In m (flat_map variable_records (v ∷ more)) → In m places → ⊥) → (m : ℕ) → In m (index_records v) → Kept b now m
+  behind v more of out m i =
+      let mine = In-append_left m (variable_records v) (flat_map variable_records more) (inr i) in
+      let away = confined-away marks index_types places (type_at b m) m (index_confined kind s.gdr (vdrs (shapes_of s kind)) (vdrs after) s.unused places limit) (index_typed b s v of.has.0 of.fits.0 m i) (out m mine) in
+      kept_away r.edit m (type_at b m) (variables_in b s sound m (of.sub m mine)) refl away
+
+  lives : (vs : List VariableShape) → AreOurs b s vs → ((m : ℕ) → In m (flat_map variable_records vs) → In m places → ⊥) → ((m : ℕ) → In m (vdrs vs) → KeptButLink b now m) → Each (VariableLives b now) vs
+  lives [] of out k = tt
+  lives (v ∷ more) of out k = (
+    record { vdr = k v.vdr (inl refl); behind = behind v more of out },
+    lives more (ours_parts b s (v ∷ []) more of).1 (λ m i. out m (In-append_right m (variable_records v) (flat_map variable_records more) i)) (λ m i. k m (inr i)),
   )
 
   pub before_live : Each (VariableLives b now) before
-  before_live = lives before ours.0 (λ m i.
+  before_live = lives before ours.0 (λ m i j. (only m j).in_before i) (λ m i.
       let x = vdr_there m (front_in m i) in
-      let out : In m places → ⊥ = λ j. front_out m i (inl (r.mine m j)) in
+      let out : In m places → ⊥ = λ j. (only m j).in_before (vdr_record before m i) in
       let front : In m (vdrs after) → ⊥ = λ j. front_out m i (inr j) in
       kept_but_link r.edit m type x.0 x.1.0 (avoids m 0 12 out (inl (omega arith)) (λ j. inl (omega arith))) (avoids m 20 (size_at b m) out (inr (omega arith)) (λ j. absurd (front j))))
 
@@ -200,7 +221,7 @@ module _ {b now : List ℕ} {s : Shape} {kind : Kind} {before : List VariableSha
   others = shapes_of s (other_kind kind)
 
   pub others_live : Each (VariableLives b now) others
-  others_live = lives others (kind_ours b s sound (other_kind kind)) (λ m i.
+  others_live = lives others (kind_ours b s sound (other_kind kind)) (λ m i j. (only m j).in_others i) (λ m i.
       let other = type_in (variables_chain (other_kind kind)) in
       let ok = (kind_chain (other_kind kind) h).linkable m i in
       but_link b now m (kept_away r.edit m other (linkable-in b s.records other m ok) (linkable-type b s.records other m ok) (unmarked-away marks other m tests.others_clear)))
@@ -222,11 +243,14 @@ module _ {b now : List ℕ} {s : Shape} {kind : Kind} {before : List VariableSha
       }
 
   pub after_remain : Each (VariableRemains b now s.records s.records) after
-  after_remain = all after ours_after r.after_plain (λ m i. i)
+  after_remain = all after ours_after (λ m i j. (only m j).in_after i) (λ m i. i)
     where
-      all : (vs : List VariableShape) → AreOurs b s vs → Each IsPlain vs → ((m : ℕ) → In m (vdrs vs) → In m (vdrs after)) → Each (VariableRemains b now s.records s.records) vs
-      all [] of plain sub = tt
-      all (v ∷ more) of plain sub = (plain_remains s.records file plain.0 of.has.0 of.fits.0 (numbered_vdr v.vdr (sub v.vdr (inl refl))), all more (ours_parts b s (v ∷ []) more of).1 plain.1 (λ m i. sub m (inr i)))
+      all : (vs : List VariableShape) → AreOurs b s vs → ((m : ℕ) → In m (flat_map variable_records vs) → In m places → ⊥) → ((m : ℕ) → In m (vdrs vs) → In m (vdrs after)) → Each (VariableRemains b now s.records s.records) vs
+      all [] of out sub = tt
+      all (v ∷ more) of out sub = (
+        numbered_remains sound r.edit file v of.has.0 of.fits.0 (λ m i. variables_in b s sound m (of.sub m (In-append_left m (variable_records v) (flat_map variable_records more) (inr i)))) (behind v more of out) (numbered_vdr v.vdr (sub v.vdr (inl refl))),
+        all more (ours_parts b s (v ∷ []) more of).1 (λ m i. out m (In-append_right m (variable_records v) (flat_map variable_records more) i)) (λ m i. sub m (inr i)),
+      )
 
   -- ---- the image
 
@@ -254,7 +278,7 @@ module _ {b now : List ℕ} {s : Shape} {kind : Kind} {before : List VariableSha
       others_live = others_live;
       typed = λ m i.
           let t = says.freed m i in
-          let inside = r.edit.sub m (subst (λ (x : ℕ). In x s.records) (sym (r.mine m i)) (vdr_there own.vdr own_in).0) in
+          let inside = r.edit.sub m (own_stand m (r.mine m i)) in
           let long = (tile_lies now 8 (length now) s.records m r.edit.tiled_now inside).long in
           (subst (λ (x : ℕ). is_record_type x ≡ true) (sym t) refl, subst (λ (x : ℕ). fixed_size x ≤ size_at now m) (sym t) long);
       variable_chain = says.variable_chain;
@@ -287,15 +311,8 @@ module _ {b now : List ℕ} {s : Shape} {kind : Kind} {before : List VariableSha
         regrouped : (f a v u : ℕ) → f + (a + (v + u)) ≡ f + (a + v) + u
         regrouped f a v u = omega arith
 
-    own_record : (m : ℕ) → In m (flat_map variable_records (own ∷ [])) → m ≡ own.vdr
-    own_record m i = one (subst (In m) (ap (λ (xs : List ℕ). xs ++ []) (plain_records r.own_plain)) i)
-      where
-        one : In m (own.vdr ∷ []) → m ≡ own.vdr
-        one (inl q) = q
-        one (inr none) = absurd none
-
-    pub none_left : used_times (without_variable list) own.vdr ≡ 0
-    none_left = no_more (used_times s own.vdr) (used_times (without_variable list) own.vdr) (times own.vdr (flat_map variable_records (own ∷ []))) (times own.vdr (unused_records b s)) (used_once own.vdr) (fewer own.vdr) (times-in own.vdr (flat_map variable_records (own ∷ [])) (inl refl))
+    pub none_left : (m : ℕ) → In m (variable_records own) → used_times (without_variable list) m ≡ 0
+    none_left m i = no_more (used_times s m) (used_times (without_variable list) m) (times m (flat_map variable_records (own ∷ []))) (times m (unused_records b s)) (used_once m) (fewer m) (times-in m (flat_map variable_records (own ∷ [])) (In-append_left m (variable_records own) [] i))
       where
         no_more : (n n' o u : ℕ) → n + u ≤ 1 → n' + o ≡ n + 0 → 1 ≤ o → n' ≡ 0
         no_more n n' o u l p q = omega arith
@@ -312,13 +329,16 @@ module _ {b now : List ℕ} {s : Shape} {kind : Kind} {before : List VariableSha
     pub sound_taken : ((m : ℕ) → times m (owned_records now (without_variable list)) ≤ 1) → IsSound now (without_variable list)
     sound_taken once = sound_if sound splices tt once
 
-    owned : OwnedOnce b s → In own.vdr places → OwnedOnce now (without_variable list)
-    owned once mine = owned_once_if b now s (without_variable list) marks places sound once r.edit
-        (λ m out. as_before (used_times (without_variable list) m) (times m (flat_map variable_records (own ∷ []))) (used_times s m) (fewer m) (times-none m (flat_map variable_records (own ∷ [])) (λ i. out (subst (λ (x : ℕ). In x places) (sym (own_record m i)) mine))))
-        (λ m i. inr (says.freed m i, subst (λ (x : ℕ). used_times (without_variable list) x ≡ 0) (sym (r.mine m i)) none_left))
+    owned : OwnedOnce b s → ((m : ℕ) → In m (variable_records own) → In m places) → OwnedOnce now (without_variable list)
+    owned once all = owned_once_if b now s (without_variable list) marks places sound once r.edit
+        (λ m out. as_before (used_times (without_variable list) m) (times m (flat_map variable_records (own ∷ []))) (used_times s m) (fewer m) (times-none m (flat_map variable_records (own ∷ [])) (λ i. out (all m (own_record m i)))))
+        (λ m i. inr (says.freed m i, none_left m (r.mine m i)))
       where
         as_before : (n' o n : ℕ) → n' + o ≡ n + 0 → o ≡ 0 → n' ≡ n
         as_before n' o n p q = omega arith
+
+        own_record : (m : ℕ) → In m (flat_map variable_records (own ∷ [])) → In m (variable_records own)
+        own_record m i = elim (In-append m (variable_records own) [] i) [ inl j ↦ j | inr none ↦ absurd none ]
 
     -- ---- the rules
 
@@ -330,11 +350,11 @@ module _ {b now : List ℕ} {s : Shape} {kind : Kind} {before : List VariableSha
         let numbers = numbers_by kind b now (vdrs before) own.vdr (vdrs after) same (subst (λ (n : ℕ). AreNumberedOn now n (vdrs after)) (sym long) says.numbered) (subst (λ (ms : List ℕ). Hold (vdrs_rows kind b ms)) vdrs_were (counted_before good kind)) in
         counting_by kind now (vdrs (before ++ after)) (ap (λ (g : ℕ). number now g (count_of (variables_chain kind))) place ∙ count) (subst (λ (ms : List ℕ). Hold (number_part kind now ms)) (sym (vdrs_append before after)) numbers)
 
-    pub taken_good : AllHold (first_phases (sealed b)) → IsGoodByShape b s → In own.vdr places → number now s.gdr (count_of (variables_chain kind)) ≡ length (vdrs (before ++ after)) → eof now s.gdr ≡ length now → length now ≤ image_limit → Good now
-    taken_good first good mine count eof_is short = good_image_if sound splices first good (record {
+    pub taken_good : AllHold (first_phases (sealed b)) → IsGoodByShape b s → ((m : ℕ) → In m (variable_records own) → In m places) → number now s.gdr (count_of (variables_chain kind)) ≡ length (vdrs (before ++ after)) → eof now s.gdr ≡ length now → length now ≤ image_limit → Good now
+    taken_good first good all count eof_is short = good_image_if sound splices first good (record {
       counted = counted good count;
       apart = apart_if sound splices good (λ x y i j differ. absurd i) (λ x y i beside. absurd i);
       own_ruled = tt;
       read = λ m i. subst (λ (t : ℕ). is_in t read_types ≡ true) (sym (says.freed m i)) refl;
-      owned = owned good.owned_once mine;
+      owned = owned good.owned_once all;
     }) eof_is short

@@ -62,7 +62,7 @@ use Rattle.cdf_edits.proofs.Edits.VariableNames.{IsBeside, apart_if}
 use Rattle.cdf_edits.proofs.Edits.VariableSplice.{VariableSplices, OwnRules, keeps_all_attributes, shape_now, content_now, parts_ruled, good_image_if}
 use Rattle.cdf_edits.proofs.Frame.Meaning.{FileSame, Kept}
 use Rattle.cdf_edits.proofs.Frame.OwnersApart.{all_attribute_records, file_in, unused_in}
-use Rattle.cdf_edits.proofs.Frame.VdrCopied.{VdrCopied, second_number}
+use Rattle.cdf_edits.proofs.Frame.VdrCopied.{VdrCopied}
 use Rattle.cdf_edits.proofs.Rules.WithoutLinks.{eof_by_rules}
 
 -- each mark is in the record at a place, behind its link
@@ -85,6 +85,7 @@ pub record EditsVdr (b now : List ℕ) (kind : Kind) (own : VariableShape) (mark
   pub own_marks : AreIn own.vdr marks
   pub tests : MarkTests kind marks
   pub copied : VdrCopied b now own.vdr own.vdr
+  pub num_is : number now own.vdr vdr_num ≡ number b own.vdr vdr_num
   pub packed : is_compressed now own.vdr ≡ is_compressed b own.vdr
   pub end_fits : vdr_end now own.vdr ≤ size_at b own.vdr
 
@@ -259,7 +260,7 @@ module _ {b : List ℕ} {kind : Kind} {before : List VariableShape} {own : Varia
         let is = linkable-type b s.records type m ok in
         let wide = through 340 (fixed_size type) (size_at b m) (least_size kind) (fixed_long b s h type m inside is) in
         elim (cases_eq m v) [
-          | inl q ↦ subst (λ (x : ℕ). number now x vdr_num ≡ number b x vdr_num) (sym q) (second_number file w.copied vdr_num (omega arith) (omega arith))
+          | inl q ↦ subst (λ (x : ℕ). number now x vdr_num ≡ number b x vdr_num) (sym q) w.num_is
           | inr other ↦ number_kept b now m (kept_away edit m (type_at b m) inside refl (away m other)).same vdr_num (omega arith)
         ]
 

@@ -107,7 +107,8 @@ module _ {b now : List ℕ} {kind : Kind} {before : List VariableShape} {own : V
   copied = record {
     typed = head_type b now v (first_part 0 12 (omega arith));
     first = copied_in_place b now v 20 44 (first_part 20 44 (omega arith));
-    second = copied_in_place b now v 48 80 (first_part 48 80 (omega arith));
+    second = copied_in_place b now v 48 68 (first_part 48 68 (omega arith));
+    third = copied_in_place b now v 72 80 (first_part 72 80 (omega arith));
     behind = copied_in_place b now v 340 (pad_field b v).place (last_part (pad_field b v).place pad_fits);
   }
 
@@ -145,6 +146,7 @@ module _ {b now : List ℕ} {kind : Kind} {before : List VariableShape} {own : V
     own_marks = (refl, (let l = w.late in omega arith), tt);
     tests = field_tests kind v f;
     copied = copied;
+    num_is = word_kept b now (v + 68) (v + 72) (first_part 68 72 (omega arith)) (v + 68) 4 (omega arith) (omega arith);
     packed = packed;
     end_fits = subst (λ (n : ℕ). n ≤ size_at b v) (sym end_same) (fits good at).0;
   }

@@ -63,11 +63,12 @@ module _ {b now : List ℕ} {v v' lo hi : ℕ} (c : Copied b now v v' lo hi) whe
 
 -- ---- a VDR
 
--- Of a VDR stand its fields before Flags, those from SRecords to CPRorSPRoffset, and those between Name and its pad value.
+-- Of a VDR stand its fields before Flags, those from SRecords to NumElems, CPRorSPRoffset, and those between Name and its pad value.
 pub record VdrCopied (b now : List ℕ) (v v' : ℕ) : Type 0 where
   pub typed : type_at now v' ≡ type_at b v
   pub first : Copied b now v v' 20 44
-  pub second : Copied b now v v' 48 80
+  pub second : Copied b now v v' 48 68
+  pub third : Copied b now v v' 72 80
   pub behind : Copied b now v v' 340 (pad_field b v).place
 
 vary_behind : (p : Bool) (d : ℕ) → 340 ≤ (if p then vdr_z_dim_vary d 0 else vdr_r_dim_vary 0).place
@@ -75,10 +76,10 @@ vary_behind true d = omega arith
 vary_behind false d = omega arith
 
 module _ {b now : List ℕ} (file : FileSame b now) {v v' : ℕ} (k : VdrCopied b now v v') where
-  pub first_number : (f : Field) → 20 ≤ f.place → f.place + f.width ≤ 44 → number now v' f ≡ number b v f
+  first_number : (f : Field) → 20 ≤ f.place → f.place + f.width ≤ 44 → number now v' f ≡ number b v f
   first_number f late h = word_copied k.first f.place f.width late h
 
-  pub second_number : (f : Field) → 48 ≤ f.place → f.place + f.width ≤ 80 → number now v' f ≡ number b v f
+  second_number : (f : Field) → 48 ≤ f.place → f.place + f.width ≤ 68 → number now v' f ≡ number b v f
   second_number f late h = word_copied k.second f.place f.width late h
 
   pub z_copied : is_z now v' ≡ is_z b v
@@ -146,7 +147,7 @@ module _ {b now : List ℕ} (file : FileSame b now) {v v' : ℕ} (k : VdrCopied 
   raw_max_copied = first_number vdr_max_rec (omega arith) (omega arith)
 
   pub cpr_link_copied : number now v' vdr_cpr_or_spr_offset ≡ number b v vdr_cpr_or_spr_offset
-  cpr_link_copied = second_number vdr_cpr_or_spr_offset (omega arith) (omega arith)
+  cpr_link_copied = word_copied k.third 72 8 (omega arith) (omega arith)
 
   pub index_link_copied : number now v' vdr_vxr_head ≡ number b v vdr_vxr_head
   index_link_copied = first_number vdr_vxr_head (omega arith) (omega arith)

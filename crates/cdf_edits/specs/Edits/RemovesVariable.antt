@@ -8,7 +8,7 @@ use Rattle.cdf_model.specs.DataSet.{extent}
 use Rattle.cdf_model.specs.RecordSteps.{last_number}
 use Rattle.cdf_edits.specs.Commands.Allowances.{shapes_of}
 use Rattle.cdf_edits.specs.Commands.Variables.{freed_with_variable}
-use Rattle.cdf_edits.specs.Edits.Marks.{Among, Mark, mark, field_marks, removing_marks}
+use Rattle.cdf_edits.specs.Edits.Marks.{Among, Mark, mark, field_marks, index_types, removing_marks}
 use Rattle.cdf_edits.specs.Edits.ManyMarks.{freeing_marks}
 use Rattle.cdf_edits.specs.Edits.Writes.{Write, write, with_writes}
 use Rattle.cdf_edits.specs.Space.Chains.{head_of, count_of, type_in, Removed}
@@ -71,6 +71,6 @@ variable_unlinking_marks kind gdr members behind =
     ++ (field_marks gdr_type gdr (count_of (variables_chain kind)) ++ mark (type_in (variables_chain kind)) (Among behind) vdr_num ∷ [])
     ++ r_max_marks kind gdr
 
--- and records of it are freed
+-- and records of it are freed: its VDR, nodes, blocks and parameters
 abbrev pub variable_removing_marks : Kind → ℕ → List ℕ → List ℕ → List ℕ → List ℕ → ℕ → List Mark
-variable_removing_marks kind gdr members behind unused places limit = variable_unlinking_marks kind gdr members behind ++ freeing_marks (type_in (variables_chain kind) ∷ []) unused places limit
+variable_removing_marks kind gdr members behind unused places limit = variable_unlinking_marks kind gdr members behind ++ freeing_marks (type_in (variables_chain kind) ∷ index_types) unused places limit
