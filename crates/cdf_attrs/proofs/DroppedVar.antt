@@ -99,7 +99,7 @@ module _ (b : List ℕ) (found : Found) (good : Good b) (k : ℕ) (own : Attribu
     others_kept = all.others_kept;
     cdr_kept = all.cdr_kept;
     gdr_kept = all.gdr_kept;
-    vdr_kept = all.vdr_kept;
+    variables_kept = all.variables_kept;
     listed_kept = all.listed_kept;
     loose_kept = all.loose_kept;
     r_max_rec_kept = all.r_max_rec_kept;

@@ -4,7 +4,7 @@ use Rattle.std.proofs.lemmas.Bool.{cases_eq}
 use Rattle.std.proofs.lemmas.Grind.{flat_map-append}
 use Rattle.std.proofs.lemmas.List.{map-append}
 use Rattle.std.proofs.lemmas.Option.{same_Some}
-use Rattle.std.specs.List.{filter, slice_get}
+use Rattle.std.specs.List.{filter, slice_get, flat_map}
 use Rattle.std.specs.Prelude.{◌==◌, if◌then◌else◌, slice_set, take}
 use Rattle.cdf_model.specs.DataSet.{Attribute, DataSet}
 use Rattle.cdf_model.specs.Names.{Found}
@@ -14,10 +14,10 @@ use Rattle.cdf_format.specs.Bytes.{Same, byte}
 use Rattle.cdf_format.specs.Chains.{is_in}
 use Rattle.cdf_format.specs.Content.{attribute_of, content, scope_of}
 use Rattle.cdf_format.specs.Fields.{number, size_at, type_at}
-use Rattle.cdf_format.specs.Owners.{attribute_records}
+use Rattle.cdf_format.specs.Owners.{attribute_records, variable_records}
 use Rattle.cdf_format.specs.Records.{Field, adr_scope, aedr_num, uir_next_uir, uir_prev_uir}
 use Rattle.cdf_format.specs.RecordTypes.{uir_type}
-use Rattle.cdf_format.specs.Shape.{AttributeShape, VariableShape, HasShape, shape, vdrs}
+use Rattle.cdf_format.specs.Shape.{AttributeShape, VariableShape, HasShape, shape}
 use Rattle.cdf_format.specs.Tiles.{In, AreTiles}
 use Rattle.cdf_format.specs.WellFormed.{Good}
 use Rattle.cdf_format.proofs.ChainsLemmas.{linkable-in, linkable-type}
@@ -298,7 +298,7 @@ module _ {b mid now : List ℕ} {found : Found} {k : ℕ} {own : AttributeShape}
     others_kept = others_next;
     cdr_kept = keeps_on b mid now 8 (Only []) d.cdr_kept one.cdr_kept;
     gdr_kept = stays_then b mid now (shape b).gdr space_fields space_fields space_fields d.gdr_kept (subst (λ (g : ℕ). Stays mid now g space_fields) d.gdr_is one.gdr_kept) (λ n o. (o, o));
-    vdr_kept = λ kind vdr i. keeps_on b mid now vdr (Only []) (d.vdr_kept kind vdr i) (one.vdr_kept kind vdr (subst (λ (vs : List VariableShape). In vdr (vdrs vs)) (sym (d.variables_are kind)) i));
+    variables_kept = λ kind m i. keeps_on b mid now m (Only []) (d.variables_kept kind m i) (one.variables_kept kind m (subst (λ (vs : List VariableShape). In m (flat_map variable_records vs)) (sym (d.variables_are kind)) i));
     listed_kept = listed_next;
     loose_kept = loose_next;
     r_max_rec_kept = one.r_max_rec_kept ∙ d.r_max_rec_kept;

@@ -2,19 +2,18 @@
 use Rattle.std.proofs.Common.{◌≡◌, ◌⊎◌, ℕ, zero, suc, ◌≤◌, ◌<◌, List, [], ◌∷◌, length, map, Some, refl, sym, ap, subst, ◌∙◌, arith, inl, inr}
 use Rattle.std.proofs.lemmas.List.{length-map}
 use Rattle.std.proofs.lemmas.Option.{slice_get_within}
-use Rattle.std.specs.List.{slice_get}
+use Rattle.std.specs.List.{slice_get, flat_map}
 use Rattle.std.specs.Prelude.{take}
 use Rattle.cdf_model.specs.declared.kinds.Kind.{Kind}
-use Rattle.cdf_model.specs.declared.kinds.Kind.TheVariants.{R, Z}
 use Rattle.cdf_model.specs.DataSet.{Attribute, DataSet}
 use Rattle.cdf_model.specs.Names.{Found}
 use Rattle.cdf_model.specs.VariableSteps.{attribute_without}
 use Rattle.cdf_format.specs.Content.{attribute_of, content}
 use Rattle.cdf_format.specs.Fields.{type_at}
-use Rattle.cdf_format.specs.Owners.{attribute_records}
+use Rattle.cdf_format.specs.Owners.{attribute_records, variable_records}
 use Rattle.cdf_format.specs.Records.{Field, uir_next_uir, uir_prev_uir}
-use Rattle.cdf_format.specs.RecordTypes.{adr_type, agr_edr_type, az_edr_type, cdr_type, gdr_type, r_vdr_type, uir_type, z_vdr_type}
-use Rattle.cdf_format.specs.Shape.{AttributeShape, HasEntries, HasShape, shape, vdrs}
+use Rattle.cdf_format.specs.RecordTypes.{adr_type, agr_edr_type, az_edr_type, cdr_type, gdr_type, uir_type}
+use Rattle.cdf_format.specs.Shape.{AttributeShape, HasEntries, HasShape, shape}
 use Rattle.cdf_format.specs.Tiles.{In}
 use Rattle.cdf_format.specs.WellFormed.{Good}
 use Rattle.cdf_format.proofs.ChainsLemmas.{is_a-in, linkable-in}
@@ -28,6 +27,7 @@ use Rattle.cdf_edits.specs.Edits.DropsEntries.{AttributeDropped, DropsEntries, I
 use Rattle.cdf_edits.specs.Space.Acts.{gave, ActsFollow}
 use Rattle.cdf_edits.proofs.Edits.VariableDeleted.{adr_at, each_at}
 use Rattle.cdf_edits.proofs.Space.ActsLeave.{no_acts}
+use Rattle.cdf_edits.proofs.Edits.VariableKinds.{kind_in}
 
 -- ---- lists of which the first are other ones
 
@@ -68,7 +68,7 @@ pub record DropsUpTo (b : List ℕ) (found : Found) (k : ℕ) (now : List ℕ) :
   pub others_kept : (j : ℕ) (a : AttributeShape) (place : ℕ) → k ≤ j → slice_get (shape b).attributes j ≡ Some a → In place (attribute_records a) → Keeps b now place (Only []) × (type_at now place ≡ type_at b place)
   pub cdr_kept : Keeps b now 8 (Only [])
   pub gdr_kept : Keeps b now (shape b).gdr (Only space_fields)
-  pub vdr_kept : (kind : Kind) (vdr : ℕ) → In vdr (vdrs (shapes_of (shape b) kind)) → Keeps b now vdr (Only [])
+  pub variables_kept : (kind : Kind) (place : ℕ) → In place (flat_map variable_records (shapes_of (shape b) kind)) → Keeps b now place (Only [])
   pub listed_kept : (uir : ℕ) → In uir (shape b).unused → Keeps b now uir (Only (uir_next_uir ∷ uir_prev_uir ∷ []))
   pub loose_kept : (uir : ℕ) → In uir (shape b).records → type_at b uir ≡ uir_type → (In uir (shape b).unused → ⊥) → Keeps b now uir (Only []) × (In uir (shape now).unused → ⊥)
   pub r_max_rec_kept : r_max_rec now ≡ r_max_rec b
@@ -84,13 +84,10 @@ member_in {b = b} h j a m at (inr i) =
       | inr z ↦ linkable-in b (shape b).records az_edr_type m (has.z_chain.linkable m z)
     ]
 
-vdr_in : {b : List ℕ} → HasShape b (shape b) → (kind : Kind) (vdr : ℕ) → In vdr (vdrs (shapes_of (shape b) kind)) → In vdr (shape b).records
-vdr_in {b = b} h R vdr i = linkable-in b (shape b).records r_vdr_type vdr (h.r_chain.linkable vdr i)
-vdr_in {b = b} h Z vdr i = linkable-in b (shape b).records z_vdr_type vdr (h.z_chain.linkable vdr i)
-
 pub start : {b : List ℕ} {found : Found} → Good b → DropsUpTo b found 0 b
 start {b = b} {found = found} good =
-    let h = (good_is_sound b good).has_shape in
+    let sound = good_is_sound b good in
+    let h = sound.has_shape in
     let still = λ (m : ℕ) (fields : List Field) (i : In m (shape b).records). let s : Stays b b m fields = record { stands = i; size_is = refl; same = λ k l o. refl } in s in
     record {
       was = good;
@@ -109,7 +106,7 @@ start {b = b} {found = found} good =
       others_kept = λ j a place le at i. (still place [] (member_in h j a place at i), refl);
       cdr_kept = still 8 [] (is_a-in b (shape b).records cdr_type 8 h.cdr_stands);
       gdr_kept = still (shape b).gdr space_fields (is_a-in b (shape b).records gdr_type (shape b).gdr h.gdr_stands);
-      vdr_kept = λ kind vdr i. still vdr [] (vdr_in h kind vdr i);
+      variables_kept = λ kind place i. still place [] (kind_in sound kind place i);
       listed_kept = λ uir i. still uir (uir_next_uir ∷ uir_prev_uir ∷ []) (linkable-in b (shape b).records uir_type uir (h.unused_chain.linkable uir i));
       loose_kept = λ uir i typed out. (still uir [] i, out);
       r_max_rec_kept = refl;
@@ -134,7 +131,7 @@ finish {b = b} {now = now} {found = found} d =
       attributes = λ j a a' at at'. d.attributes j a a' (slice_get_within (shape b).attributes j a at) at at';
       cdr_kept = d.cdr_kept;
       gdr_kept = d.gdr_kept;
-      vdr_kept = d.vdr_kept;
+      variables_kept = d.variables_kept;
       listed_kept = d.listed_kept;
       loose_kept = d.loose_kept;
       r_max_rec_kept = d.r_max_rec_kept;

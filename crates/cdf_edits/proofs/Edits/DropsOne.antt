@@ -1,6 +1,6 @@
 -- An image in which one attribute dropped its entry for a variable, and all else stands: a step on the way to `DropsEntries`.
 use Rattle.std.specs.Prelude.{◌≡◌, ◌⊎◌, ℕ, List, [], ◌∷◌, ◌++◌, length, Some}
-use Rattle.std.specs.List.{slice_get, slice_set}
+use Rattle.std.specs.List.{slice_get, slice_set, flat_map}
 use Rattle.cdf_model.specs.Names.{Found}
 use Rattle.cdf_model.specs.VariableSteps.{attribute_without}
 use Rattle.cdf_model.specs.declared.kinds.Kind.{Kind}
@@ -11,10 +11,10 @@ use Rattle.cdf_edits.specs.Edits.DropsEntries.{AttributeDropped, IsDropped}
 use Rattle.cdf_edits.specs.Space.Acts.{Act, gave, ActsFollow}
 use Rattle.cdf_format.specs.Content.{attribute_of, content}
 use Rattle.cdf_format.specs.Fields.{type_at}
-use Rattle.cdf_format.specs.Owners.{attribute_records}
+use Rattle.cdf_format.specs.Owners.{attribute_records, variable_records}
 use Rattle.cdf_format.specs.Records.{uir_next_uir, uir_prev_uir}
 use Rattle.cdf_format.specs.RecordTypes.{uir_type}
-use Rattle.cdf_format.specs.Shape.{AttributeShape, HasShape, shape, vdrs}
+use Rattle.cdf_format.specs.Shape.{AttributeShape, HasShape, shape}
 use Rattle.cdf_format.specs.Tiles.{In}
 use Rattle.cdf_format.specs.WellFormed.{Good}
 
@@ -35,7 +35,7 @@ pub record DropsOne (b : List ℕ) (found : Found) (k : ℕ) (own : AttributeSha
   pub others_kept : (j : ℕ) (a : AttributeShape) (place : ℕ) → (j ≡ k → ⊥) → slice_get (shape b).attributes j ≡ Some a → In place (attribute_records a) → Keeps b now place (Only []) × (type_at now place ≡ type_at b place)
   pub cdr_kept : Keeps b now 8 (Only [])
   pub gdr_kept : Keeps b now (shape b).gdr (Only space_fields)
-  pub vdr_kept : (kind : Kind) (vdr : ℕ) → In vdr (vdrs (shapes_of (shape b) kind)) → Keeps b now vdr (Only [])
+  pub variables_kept : (kind : Kind) (place : ℕ) → In place (flat_map variable_records (shapes_of (shape b) kind)) → Keeps b now place (Only [])
   pub listed_kept : (uir : ℕ) → In uir (shape b).unused → Keeps b now uir (Only (uir_next_uir ∷ uir_prev_uir ∷ []))
   pub loose_kept : (uir : ℕ) → In uir (shape b).records → type_at b uir ≡ uir_type → (In uir (shape b).unused → ⊥) → Keeps b now uir (Only []) × (In uir (shape now).unused → ⊥)
   pub r_max_rec_kept : r_max_rec now ≡ r_max_rec b

@@ -15,10 +15,10 @@ use Rattle.cdf_format.specs.Chains.{is_in, next_field, next_of}
 use Rattle.cdf_format.specs.Content.{attribute_of, content}
 use Rattle.cdf_format.specs.Fields.{integer4, number, size_at, type_at}
 use Rattle.cdf_format.specs.NotRead.{read_types}
-use Rattle.cdf_format.specs.Owners.{attribute_records}
+use Rattle.cdf_format.specs.Owners.{attribute_records, variable_records}
 use Rattle.cdf_format.specs.Records.{aedr_num, gdr_r_max_rec, uir_next_uir, uir_prev_uir}
 use Rattle.cdf_format.specs.RecordTypes.{adr_type, cdr_type, gdr_type, uir_type}
-use Rattle.cdf_format.specs.Shape.{AttributeShape, HasShape, Shape, shape, vdrs}
+use Rattle.cdf_format.specs.Shape.{AttributeShape, HasShape, Shape, shape}
 use Rattle.cdf_format.specs.Sound.{IsSound}
 use Rattle.cdf_format.specs.Tiles.{In}
 use Rattle.cdf_format.specs.WellFormed.{Good}
@@ -35,9 +35,8 @@ use Rattle.cdf_edits.specs.Edits.DropsEntries.{IsDropped}
 use Rattle.cdf_edits.specs.Edits.EntryMarks.{count_field, entries_chain, with_chain}
 use Rattle.cdf_edits.specs.Edits.Marks.{Away, Mark, all_unmarked, avoided, giving_marks, unmarked, variable_types, within}
 use Rattle.cdf_edits.specs.Space.Acts.{Act, ActsFollow, Gave, gave}
-use Rattle.cdf_edits.specs.Space.Chains.{members_of, type_in, without as left_of}
+use Rattle.cdf_edits.specs.Space.Chains.{members_of, without as left_of}
 use Rattle.cdf_edits.specs.Space.Placement.{Gives}
-use Rattle.cdf_edits.specs.Space.VariableChains.{variables_chain}
 use Rattle.cdf_edits.proofs.Commands.KeptRecords.{keeps_stood}
 use Rattle.cdf_edits.proofs.Edits.ActsStill.{acts_still_by}
 use Rattle.cdf_edits.proofs.Edits.ActsThen.{acts_gave, was_listed}
@@ -57,9 +56,10 @@ use Rattle.cdf_edits.proofs.Edits.RecordFrame.{gdr_field, gdr_place, gdr_start, 
 use Rattle.cdf_edits.proofs.Edits.StandsBut.{StandsBut}
 use Rattle.cdf_edits.proofs.Edits.StepEdits.{fixed_long, gdr_in, gdr_typed}
 use Rattle.cdf_edits.proofs.Edits.VariableKeeps.{records_at}
-use Rattle.cdf_edits.proofs.Edits.VariableKinds.{kind_chain}
+use Rattle.cdf_edits.proofs.Edits.VariableKinds.{kind_in, kind_ours}
 use Rattle.cdf_edits.proofs.Frame.Meaning.{Kept, KeptButLink, late_size, late_type}
 use Rattle.cdf_edits.proofs.Space.UsedRecords.{apart}
+use Rattle.cdf_edits.proofs.Edits.VariableFrame.{variable_typed}
 
 -- ---- lists in which one is another
 
@@ -91,10 +91,6 @@ taken_tests : (kind : EntryKind) (adr : ℕ) (members list : List ℕ) (old size
 taken_tests entries.G adr members list old size = record { uir_start = refl; uir_within = refl; r_max = refl; variables = refl }
 taken_tests entries.R adr members list old size = record { uir_start = refl; uir_within = refl; r_max = refl; variables = refl }
 taken_tests entries.Z adr members list old size = record { uir_start = refl; uir_within = refl; r_max = refl; variables = refl }
-
-pub variable_type : (kind : Kind) → is_in (type_in (variables_chain kind)) variable_types ≡ true
-variable_type kinds.R = refl
-variable_type kinds.Z = refl
 
 -- ---- the image
 
@@ -195,10 +191,8 @@ module _ {b late now : List ℕ} {kind : EntryKind} {before : List AttributeShap
   other_stays : (m : ℕ) → In m (other_of own kind) → Keeps b now m (Only []) × (type_at now m ≡ type_at b m)
   other_stays m i = kept_stays m (linkable-in b s.records (other_type kind) m ((other_has kind own (there sound r).1.0.have.0).linkable m i)) (other_kept sound r m i)
 
-  vdr_stays : (vk : Kind) (vdr : ℕ) → In vdr (vdrs (shapes_of (shape b) vk)) → Keeps b now vdr (Only [])
-  vdr_stays vk m i =
-      let ok = (kind_chain vk h).linkable m i in
-      keeps_away sound r.edit same_records m (type_in (variables_chain vk)) (Only []) (linkable-in b s.records (type_in (variables_chain vk)) m ok) (linkable-type b s.records (type_in (variables_chain vk)) m ok) (all_unmarked-away (all_marks sound f) variable_types (type_in (variables_chain vk)) m t.variables (variable_type vk))
+  variable_stays : (vk : Kind) (m : ℕ) → In m (flat_map variable_records (shapes_of (shape b) vk)) → Keeps b now m (Only [])
+  variable_stays vk m i = keeps_away sound r.edit same_records m (type_at b m) (Only []) (kind_in sound vk m i) refl (all_unmarked-away (all_marks sound f) variable_types (type_at b m) m t.variables (variable_typed b s sound m ((kind_ours b s sound vk).sub m i)))
 
   -- ---- unused records
 
@@ -252,7 +246,7 @@ module _ {b late now : List ℕ} {kind : EntryKind} {before : List AttributeShap
         other_kept = other_stays;
         cdr_kept = keeps_away sound r.edit same_records 8 cdr_type (Only []) (is_a-in b s.records cdr_type 8 h.cdr_stands) (is_a-type b s.records cdr_type 8 h.cdr_stands) (unmarked-away (all_marks sound f) cdr_type 8 (both (unmarked (all_marks sound f) cdr_type) _ file).0);
         gdr_kept = keeps_fields sound r.edit same_records s.gdr gdr_type space_fields (gdr_in b s h) (gdr_typed b s h) (gdr_start sound r.edit file) left_tests.gdr_within;
-        vdr_kept = vdr_stays;
+        variables_kept = variable_stays;
         listed_kept = listed_stays;
         loose_kept = loose_stays;
         r_max_rec_kept = r_max_stays;

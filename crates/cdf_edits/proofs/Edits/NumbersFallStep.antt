@@ -2,7 +2,7 @@
 use Rattle.std.proofs.Common.{◌≡◌, ◌⊎◌, ℕ, ◌+◌, ◌-◌, ◌<◌, ◌≤◌, List, [], ◌∷◌, ◌++◌, length, true, Some, refl, sym, ap, subst, ◌∙◌, arith, inl, inr}
 use Rattle.std.proofs.lemmas.Bool.{cases_lt, lt-ltb, le-ltb}
 use Rattle.std.specs.Int.{cast_signed, w32}
-use Rattle.std.specs.List.{slice_get}
+use Rattle.std.specs.List.{slice_get, flat_map}
 use Rattle.std.specs.Prelude.{nat_lt, if◌then◌else◌}
 use Rattle.cdf_model.specs.declared.kinds.EntryKind.{EntryKind}
 use Rattle.cdf_model.specs.declared.kinds.EntryKind.TheVariants as entries
@@ -10,10 +10,10 @@ use Rattle.cdf_model.specs.declared.kinds.Kind.{Kind}
 use Rattle.cdf_model.specs.declared.kinds.Kind.TheVariants as kinds
 use Rattle.cdf_model.specs.Limits.{image_limit}
 use Rattle.cdf_format.specs.Fields.{integer4, number, size_at, type_at}
-use Rattle.cdf_format.specs.Owners.{attribute_records}
+use Rattle.cdf_format.specs.Owners.{attribute_records, variable_records}
 use Rattle.cdf_format.specs.Records.{aedr_num, gdr_r_max_rec, uir_next_uir, uir_prev_uir}
 use Rattle.cdf_format.specs.RecordTypes.{adr_type, cdr_type, gdr_type, uir_type}
-use Rattle.cdf_format.specs.Shape.{AttributeShape, HasShape, Shape, shape, vdrs}
+use Rattle.cdf_format.specs.Shape.{AttributeShape, HasShape, Shape, shape}
 use Rattle.cdf_format.specs.Sound.{IsSound}
 use Rattle.cdf_format.specs.Tiles.{In}
 use Rattle.cdf_format.specs.WellFormed.{Good}
@@ -27,15 +27,13 @@ use Rattle.cdf_edits.specs.Commands.GreatestRecord.{r_max_rec}
 use Rattle.cdf_edits.specs.Edits.EntryMarks.{with_chain}
 use Rattle.cdf_edits.specs.Edits.Marks.{Away, all_unmarked, avoided, unmarked, variable_types, within}
 use Rattle.cdf_edits.specs.Space.Acts.{Act, ActsFollow}
-use Rattle.cdf_edits.specs.Space.Chains.{type_in}
-use Rattle.cdf_edits.specs.Space.VariableChains.{variables_chain}
 use Rattle.cdf_edits.proofs.Commands.KeptRecords.{keeps_stood}
 use Rattle.cdf_edits.proofs.Edits.ActsStill.{acts_still_by}
 use Rattle.cdf_edits.proofs.Edits.ChainKept.{records_are}
 use Rattle.cdf_edits.proofs.Edits.ChainKinds.{other_has, other_of, other_type}
 use Rattle.cdf_edits.proofs.Edits.ChainSpliced.{Rechains, adr_in, adr_start, adr_typed, after_away, after_in, before_away, before_in, clear_file, now_is, other_kept, there}
 use Rattle.cdf_edits.proofs.Edits.Composing.{head_type}
-use Rattle.cdf_edits.proofs.Edits.EntryTakenStep.{beside_got, beside_in, beside_long, variable_type}
+use Rattle.cdf_edits.proofs.Edits.EntryTakenStep.{beside_got, beside_in, beside_long}
 use Rattle.cdf_edits.proofs.Edits.FallenEntries.{LowersChain, as_long, edit, entry_in, entry_typed, falling, fell, good_lowered, later, later_above, long_enough, rechains, t, those}
 use Rattle.cdf_edits.proofs.Edits.FallenItems.{falls}
 use Rattle.cdf_edits.proofs.Edits.MarkLemmas.{all_unmarked-away, unmarked-away, within-within}
@@ -45,8 +43,9 @@ use Rattle.cdf_edits.proofs.Edits.RecordFrame.{gdr_field, gdr_place, gdr_start, 
 use Rattle.cdf_edits.proofs.Edits.StandsBut.{StandsBut}
 use Rattle.cdf_edits.proofs.Edits.StepEdits.{fixed_long, gdr_in, gdr_typed}
 use Rattle.cdf_edits.proofs.Edits.VariableKeeps.{type_stays}
-use Rattle.cdf_edits.proofs.Edits.VariableKinds.{kind_chain}
+use Rattle.cdf_edits.proofs.Edits.VariableKinds.{kind_in, kind_ours}
 use Rattle.cdf_edits.proofs.Frame.Meaning.{Kept}
+use Rattle.cdf_edits.proofs.Edits.VariableFrame.{variable_typed}
 
 -- ---- the marks, by the kind
 
@@ -124,10 +123,8 @@ module _ {b now : List ℕ} {kind : EntryKind} {before : List AttributeShape} {o
   other_stays : (m : ℕ) → In m (other_of own kind) → Keeps b now m (Only []) × (type_at now m ≡ type_at b m)
   other_stays m i = kept_stays m (linkable-in b s.records (other_type kind) m ((other_has kind own (there sound r).1.0.have.0).linkable m i)) (other_kept sound r m i)
 
-  vdr_stays : (vk : Kind) (vdr : ℕ) → In vdr (vdrs (shapes_of (shape b) vk)) → Keeps b now vdr (Only [])
-  vdr_stays vk m i =
-      let ok = (kind_chain vk h).linkable m i in
-      keeps_away sound r.edit same_records m (type_in (variables_chain vk)) (Only []) (linkable-in b s.records (type_in (variables_chain vk)) m ok) (linkable-type b s.records (type_in (variables_chain vk)) m ok) (all_unmarked-away (falling kind own.adr (those good short q)) variable_types (type_in (variables_chain vk)) m tests.variables (variable_type vk))
+  variable_stays : (vk : Kind) (m : ℕ) → In m (flat_map variable_records (shapes_of (shape b) vk)) → Keeps b now m (Only [])
+  variable_stays vk m i = keeps_away sound r.edit same_records m (type_at b m) (Only []) (kind_in sound vk m i) refl (all_unmarked-away (falling kind own.adr (those good short q)) variable_types (type_at b m) m tests.variables (variable_typed b s sound m ((kind_ours b s sound vk).sub m i)))
 
   unused_away : (m : ℕ) → Away (falling kind own.adr (those good short q)) uir_type m
   unused_away m = unmarked-away (falling kind own.adr (those good short q)) uir_type m (t good short q).unused
@@ -165,7 +162,7 @@ module _ {b now : List ℕ} {kind : EntryKind} {before : List AttributeShape} {o
         other_kept = other_stays;
         cdr_kept = keeps_away sound r.edit same_records 8 cdr_type (Only []) (is_a-in b s.records cdr_type 8 h.cdr_stands) (is_a-type b s.records cdr_type 8 h.cdr_stands) (unmarked-away (falling kind own.adr (those good short q)) cdr_type 8 (both (unmarked (falling kind own.adr (those good short q)) cdr_type) _ file).0);
         gdr_kept = keeps_fields sound r.edit same_records s.gdr gdr_type space_fields (gdr_in b s h) (gdr_typed b s h) (gdr_start sound r.edit file) tests.gdr_within;
-        vdr_kept = vdr_stays;
+        variables_kept = variable_stays;
         listed_kept = listed_stays;
         loose_kept = loose_stays;
         r_max_rec_kept = r_max_stays;

@@ -1,6 +1,6 @@
 -- An image in which one chain of entries of an attribute changed, and all else stands.
 use Rattle.std.specs.Prelude.{◌≡◌, ℕ, List, [], ◌∷◌, length, Some}
-use Rattle.std.specs.List.{slice_get}
+use Rattle.std.specs.List.{slice_get, flat_map}
 use Rattle.cdf_model.specs.declared.kinds.Kind.{Kind}
 use Rattle.cdf_model.specs.declared.kinds.EntryKind.{EntryKind}
 use Rattle.cdf_edits.specs.Commands.Allowances.{Keeps, Only, shapes_of, space_fields}
@@ -8,10 +8,10 @@ use Rattle.cdf_edits.specs.Commands.EntryChains.{chain_fields}
 use Rattle.cdf_edits.specs.Commands.GreatestRecord.{r_max_rec}
 use Rattle.cdf_edits.proofs.Edits.ChainKinds.{other_of}
 use Rattle.cdf_format.specs.Fields.{type_at}
-use Rattle.cdf_format.specs.Owners.{attribute_records}
+use Rattle.cdf_format.specs.Owners.{attribute_records, variable_records}
 use Rattle.cdf_format.specs.Records.{uir_next_uir, uir_prev_uir}
 use Rattle.cdf_format.specs.RecordTypes.{uir_type}
-use Rattle.cdf_format.specs.Shape.{AttributeShape, shape, vdrs}
+use Rattle.cdf_format.specs.Shape.{AttributeShape, shape}
 use Rattle.cdf_format.specs.Tiles.{In}
 use Rattle.cdf_format.specs.WellFormed.{Good}
 
@@ -29,7 +29,7 @@ pub record StandsBut (b : List ℕ) (k : ℕ) (own : AttributeShape) (kind : Ent
   pub other_kept : (m : ℕ) → In m (other_of own kind) → Keeps b now m (Only []) × (type_at now m ≡ type_at b m)
   pub cdr_kept : Keeps b now 8 (Only [])
   pub gdr_kept : Keeps b now (shape b).gdr (Only space_fields)
-  pub vdr_kept : (kind : Kind) (vdr : ℕ) → In vdr (vdrs (shapes_of (shape b) kind)) → Keeps b now vdr (Only [])
+  pub variables_kept : (kind : Kind) (place : ℕ) → In place (flat_map variable_records (shapes_of (shape b) kind)) → Keeps b now place (Only [])
   pub listed_kept : (uir : ℕ) → In uir (shape b).unused → Keeps b now uir (Only (uir_next_uir ∷ uir_prev_uir ∷ []))
   pub loose_kept : (uir : ℕ) → In uir (shape b).records → type_at b uir ≡ uir_type → (In uir (shape b).unused → ⊥) → Keeps b now uir (Only []) × (In uir (shape now).unused → ⊥)
   pub r_max_rec_kept : r_max_rec now ≡ r_max_rec b

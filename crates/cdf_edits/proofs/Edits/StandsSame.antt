@@ -13,14 +13,13 @@ use Rattle.cdf_format.proofs.GoodSound.{good_is_sound}
 use Rattle.cdf_format.proofs.Members.{In-append, In-append_left, In-append_right}
 use Rattle.cdf_edits.specs.Commands.Allowances.{Stays}
 use Rattle.cdf_edits.specs.Commands.EntryChains.{chain_of}
-use Rattle.cdf_edits.specs.Space.Chains.{type_in}
-use Rattle.cdf_edits.specs.Space.VariableChains.{variables_chain}
 use Rattle.cdf_edits.specs.Commands.Allowances.{Keeps, Only}
 use Rattle.cdf_edits.proofs.Edits.ChainKinds.{other_of}
 use Rattle.cdf_edits.proofs.Edits.DroppedSoFar.{member_in}
 use Rattle.cdf_edits.proofs.Edits.StandsBut.{StandsBut}
 use Rattle.cdf_edits.proofs.Edits.StepEdits.{gdr_in}
-use Rattle.cdf_edits.proofs.Edits.VariableKinds.{kind_chain}
+use Rattle.cdf_edits.proofs.Edits.VariableKinds.{kind_in}
+use Rattle.cdf_format.specs.Sound.{IsSound}
 
 -- the records of an attribute are its ADR and those of two chains
 pub chain_or_other : (kind : EntryKind) (a : AttributeShape) (m : ℕ) → In m (a.gr_entries ++ a.z_entries) → In m (chain_of a kind) ⊎ In m (other_of a kind)
@@ -34,8 +33,11 @@ other_in entries.R a m i = In-append_right m a.gr_entries a.z_entries i
 other_in entries.Z a m i = In-append_left m a.gr_entries a.z_entries i
 
 module _ {b : List ℕ} (good : Good b) where
+  sound : IsSound b (shape b)
+  sound = good_is_sound b good
+
   h : HasShape b (shape b)
-  h = (good_is_sound b good).has_shape
+  h = sound.has_shape
 
   pub stays_same : (m : ℕ) → In m (shape b).records → (fs : List Field) → Stays b b m fs
   stays_same m i fs = record { stands = i; size_is = refl; same = λ n lt o. refl }
@@ -54,7 +56,7 @@ module _ {b : List ℕ} (good : Good b) where
     other_kept = λ m i. (stays_same m (member_in h k own m at (inr (other_in kind own m i))) [], refl);
     cdr_kept = stays_same 8 (is_a-in b (shape b).records cdr_type 8 h.cdr_stands) [];
     gdr_kept = stays_same (shape b).gdr (gdr_in b (shape b) h) _;
-    vdr_kept = λ vk m i. stays_same m (linkable-in b (shape b).records (type_in (variables_chain vk)) m ((kind_chain vk h).linkable m i)) [];
+    variables_kept = λ vk m i. stays_same m (kind_in sound vk m i) [];
     listed_kept = λ m i. stays_same m (linkable-in b (shape b).records uir_type m (h.unused_chain.linkable m i)) _;
     loose_kept = λ m i typed out. (stays_same m i [], out);
     r_max_rec_kept = refl;

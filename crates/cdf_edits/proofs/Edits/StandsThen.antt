@@ -1,14 +1,14 @@
 -- A chain of entries changed twice, and all else stands.
 use Rattle.std.proofs.Common.{◌≡◌, ℕ, ◌+◌, ◌-◌, ◌≤◌, ◌<◌, List, [], ◌∷◌, length, Some, refl, sym, ap, subst, ◌∙◌, arith, inl, inr}
-use Rattle.std.specs.List.{slice_get}
+use Rattle.std.specs.List.{slice_get, flat_map}
 use Rattle.cdf_model.specs.declared.kinds.EntryKind.{EntryKind}
 use Rattle.cdf_format.specs.Bytes.{Same, byte}
 use Rattle.cdf_format.specs.Chains.{is_in}
 use Rattle.cdf_format.specs.Fields.{size_at, type_at}
-use Rattle.cdf_format.specs.Owners.{attribute_records}
+use Rattle.cdf_format.specs.Owners.{attribute_records, variable_records}
 use Rattle.cdf_format.specs.Records.{Field, uir_next_uir, uir_prev_uir}
 use Rattle.cdf_format.specs.RecordTypes.{uir_type}
-use Rattle.cdf_format.specs.Shape.{AttributeShape, HasShape, VariableShape, shape, vdrs}
+use Rattle.cdf_format.specs.Shape.{AttributeShape, HasShape, VariableShape, shape}
 use Rattle.cdf_format.specs.Tiles.{AreTiles, In}
 use Rattle.cdf_format.specs.WellFormed.{Good}
 use Rattle.cdf_format.proofs.ChainsLemmas.{linkable-in, linkable-type}
@@ -92,7 +92,7 @@ module _ {b mid now : List ℕ} {k : ℕ} {own own' : AttributeShape} {kind : En
     other_kept = chain_twice;
     cdr_kept = twice 8 [] first.cdr_kept second.cdr_kept;
     gdr_kept = twice (shape b).gdr space_fields first.gdr_kept (subst (λ (g : ℕ). Stays mid now g space_fields) first.gdr_is second.gdr_kept);
-    vdr_kept = λ kind vdr i. twice vdr [] (first.vdr_kept kind vdr i) (second.vdr_kept kind vdr (subst (λ (vs : List VariableShape). In vdr (vdrs vs)) (sym (first.variables_are kind)) i));
+    variables_kept = λ kind m i. twice m [] (first.variables_kept kind m i) (second.variables_kept kind m (subst (λ (vs : List VariableShape). In m (flat_map variable_records vs)) (sym (first.variables_are kind)) i));
     listed_kept = listed_twice;
     loose_kept = loose_twice;
     r_max_rec_kept = second.r_max_rec_kept ∙ first.r_max_rec_kept;

@@ -7,7 +7,7 @@ use Rattle.cdf_model.specs.DataSet.{DataSet, Variable}
 use Rattle.cdf_model.specs.Names.{variables_of, with_variables}
 use Rattle.cdf_model.specs.declared.kinds.Kind.{Kind}
 use Rattle.cdf_model.specs.declared.kinds.Kind.TheVariants.{R, Z}
-use Rattle.cdf_edits.proofs.Edits.VariableFrame.{AreOurs, all_ours, ours_parts}
+use Rattle.cdf_edits.proofs.Edits.VariableFrame.{AreOurs, all_ours, ours_parts, variables_in}
 use Rattle.cdf_edits.proofs.Frame.OwnersApart.{flat-append, all_variable_records, times-append, times-three, file_records, all_attribute_records}
 use Rattle.cdf_edits.proofs.Edits.OwnedOnce.{used_times}
 use Rattle.cdf_edits.proofs.Rules.WithoutLinks.{number_rows_kept, number_rows-push}
@@ -76,6 +76,10 @@ of_kind P Z s each = (Each-split P s.r_variables s.z_variables each).1
 pub kind_ours : (b : List ℕ) (s : Shape) → IsSound b s → (kind : Kind) → AreOurs b s (shapes_of s kind)
 kind_ours b s sound R = (ours_parts b s s.r_variables s.z_variables (all_ours b s sound)).0
 kind_ours b s sound Z = (ours_parts b s s.r_variables s.z_variables (all_ours b s sound)).1
+
+-- their records
+pub kind_in : {b : List ℕ} {s : Shape} → IsSound b s → (kind : Kind) (m : ℕ) → In m (flat_map variable_records (shapes_of s kind)) → In m s.records
+kind_in {b = b} {s = s} sound kind m i = variables_in b s sound m ((kind_ours b s sound kind).sub m i)
 
 -- ---- chains and counts
 

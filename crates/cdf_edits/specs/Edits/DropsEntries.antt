@@ -1,6 +1,6 @@
 -- What is left of an image from which the entries for a variable went, before the variable goes itself (own).
 use Rattle.std.specs.Prelude.{◌≡◌, ◌⊎◌, ◌≤◌, ◌<◌, ℕ, ◌+◌, List, [], ◌∷◌, length, map, Some}
-use Rattle.std.specs.List.{slice_get}
+use Rattle.std.specs.List.{slice_get, flat_map}
 use Rattle.cdf_model.specs.Names.{Found}
 use Rattle.cdf_model.specs.VariableSteps.{attribute_without}
 use Rattle.cdf_model.specs.declared.kinds.Kind.{Kind}
@@ -12,10 +12,10 @@ use Rattle.cdf_edits.specs.Space.Acts.{gave, ActsFollow}
 use Rattle.cdf_format.specs.Bytes.{Same}
 use Rattle.cdf_format.specs.Content.{content}
 use Rattle.cdf_format.specs.Fields.{number, size_at, type_at}
-use Rattle.cdf_format.specs.Owners.{attribute_records}
+use Rattle.cdf_format.specs.Owners.{attribute_records, variable_records}
 use Rattle.cdf_format.specs.Records.{aedr_num, uir_next_uir, uir_prev_uir}
 use Rattle.cdf_format.specs.RecordTypes.{uir_type}
-use Rattle.cdf_format.specs.Shape.{AttributeShape, Each, shape, vdrs}
+use Rattle.cdf_format.specs.Shape.{AttributeShape, Each, shape}
 use Rattle.cdf_format.specs.Tiles.{In}
 use Rattle.cdf_format.specs.WellFormed.{Good}
 
@@ -50,7 +50,7 @@ pub record DropsEntries (b : List ℕ) (found : Found) (now : List ℕ) : Type 0
   pub attributes : (k : ℕ) (a a' : AttributeShape) → slice_get (shape b).attributes k ≡ Some a → slice_get (shape now).attributes k ≡ Some a' → AttributeDropped b now found k a a'
   pub cdr_kept : Keeps b now 8 (Only [])
   pub gdr_kept : Keeps b now (shape b).gdr (Only space_fields)
-  pub vdr_kept : (kind : Kind) (vdr : ℕ) → In vdr (vdrs (shapes_of (shape b) kind)) → Keeps b now vdr (Only [])
+  pub variables_kept : (kind : Kind) (place : ℕ) → In place (flat_map variable_records (shapes_of (shape b) kind)) → Keeps b now place (Only [])
   pub listed_kept : (uir : ℕ) → In uir (shape b).unused → Keeps b now uir (Only (uir_next_uir ∷ uir_prev_uir ∷ []))
   pub loose_kept : (uir : ℕ) → In uir (shape b).records → type_at b uir ≡ uir_type → (In uir (shape b).unused → ⊥) → Keeps b now uir (Only []) × (In uir (shape now).unused → ⊥)
   pub r_max_rec_kept : r_max_rec now ≡ r_max_rec b
