@@ -27,6 +27,7 @@ use Rattle.cdf_edits.proofs.Commands.Answered.{gone, refused}
 use Rattle.cdf_edits.proofs.Commands.ListParts.{got-middle}
 use Rattle.cdf_edits.proofs.Edits.VariableDeleted.{attribute_follows, freed_deleted}
 use Rattle.cdf_edits.proofs.Edits.VariableDeletion.{acts_deleted, delete_goes, good_deleted, goes_deleted, long_deleted, r_max_deleted, taken_none}
+use Rattle.cdf_edits.proofs.Edits.RemovedVariable.{takes, records_are}
 use Rattle.cdf_edits.proofs.Edits.VariableKeeps.{all_kept}
 
 module _ {b mid now : List ℕ} {found : Found} (good : Good b) (drops : DropsEntries b found mid) (d : RemovesVariable mid now found.kind found.number) (name : List ℕ) (named : variable_named (content b) name ≡ Some found) where
@@ -61,7 +62,7 @@ module _ {b mid now : List ℕ} {found : Found} (good : Good b) (drops : DropsEn
         acts = acts;
         takes_within = subst (λ (xs : List (ℕ × ℕ)). sum (map (λ take. take.1) xs) ≤ 0) (sym (taken_none b (entries_for b (shape b).attributes found ++ freed_with_variable d.own))) (omega arith);
         acts_follow = acts_deleted good drops d;
-        keeps = subst (λ (o : Option Found). AllKeep b now (elim o as (λ x. Allowances) [ None ↦ stays_all | Some f ↦ del_var_changes b (content b) (shape b) f ]) acts (owned b (shape b))) (sym named) (all_kept good drops d);
+        keeps = subst (λ (o : Option Found). AllKeep b now (elim o as (λ x. Allowances) [ None ↦ stays_all | Some f ↦ del_var_changes b (content b) (shape b) f ]) acts (owned b (shape b))) (sym named) (all_kept good drops d (takes drops.good d) (records_are drops.good d));
         does = does;
       }
 

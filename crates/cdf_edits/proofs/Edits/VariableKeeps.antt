@@ -1,5 +1,5 @@
 -- What the deletion of a variable keeps of each record, by its owner.
-use Rattle.std.proofs.Common.{◌≡◌, ℕ, zero, suc, ◌+◌, ◌-◌, ◌<◌, ◌≤◌, List, [], ◌∷◌, ◌++◌, length, Bool, true, false, true≢false, Option, Some, None, eq-eqb, eqb, refl, sym, ap, subst, ◌∙◌, arith, inl, inr}
+use Rattle.std.proofs.Common.{◌≡◌, ◌⊎◌, ℕ, zero, suc, ◌+◌, ◌-◌, ◌<◌, ◌≤◌, List, [], ◌∷◌, ◌++◌, length, Bool, true, false, true≢false, Option, Some, None, eq-eqb, eqb, refl, sym, ap, subst, ◌∙◌, arith, inl, inr}
 use Rattle.std.proofs.lemmas.Bool.{eqb-true}
 use Rattle.std.proofs.lemmas.Option.{same_Some}
 use Rattle.std.specs.List.{flat_map, slice_get}
@@ -8,18 +8,18 @@ use Rattle.cdf_model.specs.declared.kinds.Kind.{Kind}
 use Rattle.cdf_model.specs.declared.kinds.Kind.TheVariants.{R, Z}
 use Rattle.cdf_model.specs.Names.{Found}
 use Rattle.cdf_format.specs.Bytes.{byte}
-use Rattle.cdf_format.specs.Chains.{is_in, next_field}
+use Rattle.cdf_format.specs.Chains.{is_in, is_linkable, next_field}
 use Rattle.cdf_format.specs.Content.{content}
 use Rattle.cdf_format.specs.Fields.{size_at, type_at}
 use Rattle.cdf_format.specs.Owners.{OneAttribute, OneVariable, Unused, attribute_records, owned, owned_by, owned_by_attributes, owned_by_variables, unused_records, variable_records}
 use Rattle.cdf_format.specs.Records.{Field, uir_next_uir, uir_prev_uir, vdr_num}
 use Rattle.cdf_format.specs.RecordTypes.{cdr_type, gdr_type, r_vdr_type, z_vdr_type, vxr_type, uir_type}
-use Rattle.cdf_format.specs.Shape.{AttributeShape, VariableShape, Each, HasShape, shape, vdrs}
+use Rattle.cdf_format.specs.Shape.{AttributeShape, VariableShape, Shape, HasShape, shape, vdrs}
 use Rattle.cdf_format.specs.Sound.{IsSound}
-use Rattle.cdf_format.specs.Tiles.{In, Distinct}
+use Rattle.cdf_format.specs.Tiles.{In}
 use Rattle.cdf_format.specs.WellFormed.{Good}
-use Rattle.cdf_format.proofs.ChainsLemmas.{is_a-in, is_a-type, linkable-in, linkable-type}
-use Rattle.cdf_format.proofs.GoodSound.{good_by_its_shape, good_is_sound}
+use Rattle.cdf_format.proofs.ChainsLemmas.{is_a-in, is_a-type, linkable-type}
+use Rattle.cdf_format.proofs.GoodSound.{good_is_sound}
 use Rattle.cdf_format.proofs.Members.{either, true-is_in, false-is_in, In-append_left, In-append_right}
 use Rattle.cdf_format.proofs.Owning.{filter-in}
 use Rattle.cdf_format.proofs.Tests.{both}
@@ -28,7 +28,7 @@ use Rattle.cdf_edits.specs.Commands.Allowances.{Allowance, AllKeep, own_allowanc
 use Rattle.cdf_edits.specs.Commands.Variables.{del_var_changes, entries_allowance, entries_for, freed_with_variable, variables_gdr_fields}
 use Rattle.cdf_edits.specs.Edits.DropsEntries.{DropsEntries}
 use Rattle.cdf_edits.specs.Edits.Edit.{Edit}
-use Rattle.cdf_edits.specs.Edits.Marks.{Away, Within, all_unmarked, attribute_types, avoided, within}
+use Rattle.cdf_edits.specs.Edits.Marks.{Mark, Away, Within, all_unmarked, attribute_types, avoided, index_types, within}
 use Rattle.cdf_edits.specs.Edits.RemovesVariable.{RemovesVariable, variable_removing_marks}
 use Rattle.cdf_edits.specs.Index.Blocks.{Range}
 use Rattle.cdf_edits.specs.Space.Acts.{Act, gave}
@@ -38,12 +38,12 @@ use Rattle.cdf_edits.proofs.Commands.KeptRecords.{AllKeep-append}
 use Rattle.cdf_edits.proofs.Edits.AttributeFrame.{AreThere}
 use Rattle.cdf_edits.proofs.Edits.ChainKinds.{attribute_typed}
 use Rattle.cdf_edits.proofs.Edits.Composing.{head_type}
-use Rattle.cdf_edits.proofs.Edits.MarkLemmas.{all_unmarked-away, away-of_type, unmarked-away, within-of_type}
+use Rattle.cdf_edits.proofs.Edits.MarkLemmas.{all_unmarked-away, away-of_type, confined-away, unmarked-away, within-of_type}
 use Rattle.cdf_edits.proofs.Edits.OwnersKept.{keep_all, keep_file, keep_places, keeps_away, keeps_fields, keeps_within}
-use Rattle.cdf_edits.proofs.Edits.PlainVariables.{IsPlain, are_plain, plain_records}
-use Rattle.cdf_edits.proofs.Edits.RemovedVariable.{takes, records_are}
-use Rattle.cdf_edits.proofs.Edits.TakenVariable.{TakingTests, taking_tests, vdr_avoids}
-use Rattle.cdf_edits.proofs.Edits.VariableKinds.{kind_chain, kind_ours, kind_type, other_kind}
+use Rattle.cdf_edits.proofs.Edits.RecordFrame.{index_records}
+use Rattle.cdf_edits.proofs.Edits.TakenVariable.{TakesVariable, TakingTests, taking_tests, index_confined, only, vdr_avoids}
+use Rattle.cdf_edits.proofs.Edits.VariableKinds.{kind_chain, kind_in, kind_ours, kind_type, other_kind}
+use Rattle.cdf_edits.proofs.Edits.VariableFrame.{AreOurs, index_typed, ours_parts}
 use Rattle.cdf_edits.proofs.Frame.OwnersApart.{adrs_linked}
 use Rattle.cdf_edits.proofs.Space.UsedRecords.{filter-says}
 
@@ -84,21 +84,37 @@ there_too (x ∷ xs) [] k a e l = absurd (omega arith)
 there_too (x ∷ xs) (y ∷ ys) zero a e l = (y, refl)
 there_too (x ∷ xs) (y ∷ ys) (suc k) a e l = there_too xs ys k a e (omega arith)
 
+-- the records of a variable are among those of all
+variable_at : (vs : List VariableShape) (k : ℕ) (v : VariableShape) → slice_get vs k ≡ Some v → (m : ℕ) → In m (variable_records v) → In m (flat_map variable_records vs)
+variable_at [] k v e m i = absurd cc
+variable_at (x ∷ xs) zero v e m i = In-append_left m (variable_records x) (flat_map variable_records xs) (subst (λ (y : VariableShape). In m (variable_records y)) (sym (same_Some x v e)) i)
+variable_at (x ∷ xs) (suc k) v e m i = In-append_right m (variable_records x) (flat_map variable_records xs) (variable_at xs k v e m i)
+
+-- another variable stands before one or behind it
+variable_beside : (before : List VariableShape) (own : VariableShape) (after : List VariableShape) (k : ℕ) (v : VariableShape) → (length before ≡ k → ⊥) → slice_get (before ++ own ∷ after) k ≡ Some v → (m : ℕ) → In m (variable_records v) → In m (flat_map variable_records before) ⊎ In m (flat_map variable_records after)
+variable_beside [] own after zero v ne e m i = absurd (ne refl)
+variable_beside [] own after (suc k) v ne e m i = inr (variable_at after k v e m i)
+variable_beside (x ∷ xs) own after zero v ne e m i = inl (variable_at (x ∷ xs) zero v e m i)
+variable_beside (x ∷ xs) own after (suc k) v ne e m i = elim (variable_beside xs own after k v (λ q. ne (ap suc q)) e m i) [ inl j ↦ inl (In-append_right m (variable_records x) (flat_map variable_records xs) j) | inr j ↦ inr j ]
+
 vdr_at : (vs : List VariableShape) (k : ℕ) (v : VariableShape) → slice_get vs k ≡ Some v → In v.vdr (vdrs vs)
 vdr_at [] k v e = absurd cc
 vdr_at (x ∷ xs) zero v e = inl (sym (ap (λ (y : VariableShape). y.vdr) (same_Some x v e)))
 vdr_at (x ∷ xs) (suc k) v e = inr (vdr_at xs k v e)
 
--- each VDR stands at one number
-number_of_vdr : (before : List VariableShape) (own : VariableShape) (after : List VariableShape) (k : ℕ) (v : VariableShape) → Distinct (vdrs (before ++ own ∷ after)) → slice_get (before ++ own ∷ after) k ≡ Some v → v.vdr ≡ own.vdr → length before ≡ k
-number_of_vdr [] own after zero v once e q = refl
-number_of_vdr [] own after (suc k) v once e q = absurd (once.0 (subst (λ (x : ℕ). In x (vdrs after)) q (vdr_at after k v e)))
-number_of_vdr (x ∷ xs) own after zero v once e q = absurd (once.0 (subst (λ (y : ℕ). In y (vdrs (xs ++ own ∷ after))) (sym q ∙ sym (ap (λ (y : VariableShape). y.vdr) (same_Some x v e))) (middle xs)))
+-- ---- nodes, blocks and parameters
+
+index_type_at : (b : List ℕ) (s : Shape) (vs : List VariableShape) → AreOurs b s vs → (k : ℕ) (v : VariableShape) → slice_get vs k ≡ Some v → (m : ℕ) → In m (index_records v) → is_in (type_at b m) index_types ≡ true
+index_type_at b s [] ours k v e m i = absurd cc
+index_type_at b s (x ∷ xs) ours zero v e m i = index_typed b s x ours.has.0 ours.fits.0 m (subst (λ (y : VariableShape). In m (index_records y)) (sym (same_Some x v e)) i)
+index_type_at b s (x ∷ xs) ours (suc k) v e m i = index_type_at b s xs (ours_parts b s (x ∷ []) xs ours).1 k v e m i
+
+no_vdr : (kind : Kind) (type : ℕ) → is_in type index_types ≡ true → (type == vdr_type kind) ≡ false
+no_vdr kind type i = elim (either (type == vdr_type kind)) [ inl e ↦ absurd (clash kind (ap (λ (t : ℕ). is_in t index_types) (sym (eqb-true type (vdr_type kind) e)) ∙ i)) | inr e ↦ e ]
   where
-    middle : (ys : List VariableShape) → In own.vdr (vdrs (ys ++ own ∷ after))
-    middle [] = inl refl
-    middle (y ∷ ys) = inr (middle ys)
-number_of_vdr (x ∷ xs) own after (suc k) v once e q = ap suc (number_of_vdr xs own after k v once.1 e q)
+    clash : (kind : Kind) → is_in (vdr_type kind) index_types ≡ true → ⊥
+    clash R e = cc
+    clash Z e = cc
 
 -- ---- the marks, by the kind
 
@@ -160,7 +176,7 @@ records_at [] k a e m i = absurd cc
 records_at (x ∷ xs) zero a e m i = In-append_left m (attribute_records x) (flat_map attribute_records xs) (subst (λ (y : AttributeShape). In m (attribute_records y)) (sym (same_Some x a e)) i)
 records_at (x ∷ xs) (suc k) a e m i = In-append_right m (attribute_records x) (flat_map attribute_records xs) (records_at xs k a e m i)
 
-module _ {b mid now : List ℕ} {found : Found} (good : Good b) (drops : DropsEntries b found mid) (d : RemovesVariable mid now found.kind found.number) where
+module _ {b mid now : List ℕ} {found : Found} (good : Good b) (drops : DropsEntries b found mid) (d : RemovesVariable mid now found.kind found.number) (takes : TakesVariable mid now (shape mid) found.kind d.before d.own d.after (freed_with_variable d.own) (length d.mid)) (same : (shape now).records ≡ (shape mid).records) where
   abbrev may : Allowances
   may = del_var_changes b (content b) (shape b) found
 
@@ -176,20 +192,21 @@ module _ {b mid now : List ℕ} {found : Found} (good : Good b) (drops : DropsEn
   sound_mid : IsSound mid (shape mid)
   sound_mid = good_is_sound mid drops.good
 
-  abbrev members : List ℕ
-  members = vdrs (shapes_of (shape mid) found.kind)
+  -- the records that are freed
+  abbrev places : List ℕ
+  places = freed_with_variable d.own
 
-  e : Edit mid now (shape mid).records (shape mid).records (variable_removing_marks found.kind (shape mid).gdr (vdrs (shapes_of (shape mid) found.kind)) (vdrs d.after) (shape mid).unused (d.own.vdr ∷ []) (length d.mid)) (d.own.vdr ∷ [])
-  e = (takes drops.good d).edit
+  abbrev marks : List Mark
+  marks = variable_removing_marks found.kind (shape mid).gdr (vdrs (shapes_of (shape mid) found.kind)) (vdrs d.after) (shape mid).unused (freed_with_variable d.own) (length d.mid)
 
-  same : (shape now).records ≡ (shape mid).records
-  same = records_are drops.good d
+  e : Edit mid now (shape mid).records (shape mid).records marks places
+  e = takes.edit
 
-  t : KeepTests found.kind (shape mid).gdr (vdrs (shapes_of (shape mid) found.kind)) (vdrs d.after) (shape mid).unused (d.own.vdr ∷ []) (length d.mid)
-  t = keep_tests found.kind (shape mid).gdr (vdrs (shapes_of (shape mid) found.kind)) (vdrs d.after) (shape mid).unused (d.own.vdr ∷ []) (length d.mid)
+  t : KeepTests found.kind (shape mid).gdr (vdrs (shapes_of (shape mid) found.kind)) (vdrs d.after) (shape mid).unused (freed_with_variable d.own) (length d.mid)
+  t = keep_tests found.kind (shape mid).gdr (vdrs (shapes_of (shape mid) found.kind)) (vdrs d.after) (shape mid).unused (freed_with_variable d.own) (length d.mid)
 
-  u : TakingTests found.kind (variable_removing_marks found.kind (shape mid).gdr (vdrs (shapes_of (shape mid) found.kind)) (vdrs d.after) (shape mid).unused (d.own.vdr ∷ []) (length d.mid))
-  u = taking_tests found.kind (shape mid).gdr (vdrs (shapes_of (shape mid) found.kind)) (vdrs d.after) (shape mid).unused (d.own.vdr ∷ []) (length d.mid)
+  u : TakingTests found.kind marks
+  u = taking_tests found.kind (shape mid).gdr (vdrs (shapes_of (shape mid) found.kind)) (vdrs d.after) (shape mid).unused (freed_with_variable d.own) (length d.mid)
 
   -- ---- the file
 
@@ -212,7 +229,7 @@ module _ {b mid now : List ℕ} {found : Found} (good : Good b) (drops : DropsEn
   still : (m : ℕ) (a : Allowance) → is_in (type_at b m) attribute_types ≡ true → type_at mid m ≡ type_at b m → Keeps b mid m a → Keeps b now m a
   still m Anything typed is k = tt
   still m (Only fs) typed is k =
-      let away = all_unmarked-away (variable_removing_marks found.kind (shape mid).gdr (vdrs (shapes_of (shape mid) found.kind)) (vdrs d.after) (shape mid).unused (d.own.vdr ∷ []) (length d.mid)) attribute_types (type_at b m) m (both (all_unmarked (variable_removing_marks found.kind (shape mid).gdr (vdrs (shapes_of (shape mid) found.kind)) (vdrs d.after) (shape mid).unused (d.own.vdr ∷ []) (length d.mid)) attribute_types) _ u.attributes_clear).0 typed in
+      let away = all_unmarked-away marks attribute_types (type_at b m) m (both (all_unmarked marks attribute_types) _ u.attributes_clear).0 typed in
       stays_then b mid now m fs [] fs k (keeps_away sound_mid e same m (type_at b m) (Only []) k.stands is away) (λ i o. (o, tt))
 
   attribute_keeps : (k : ℕ) (a : AttributeShape) → slice_get (shape b).attributes k ≡ Some a → (m : ℕ) → In m (attribute_records a) → Keeps b now m (entries_allowance b (content b) found k m)
@@ -228,53 +245,59 @@ module _ {b mid now : List ℕ} {found : Found} (good : Good b) (drops : DropsEn
   as_parts : shapes_of (shape b) found.kind ≡ d.before ++ d.own ∷ d.after
   as_parts = sym (drops.variables_are found.kind) ∙ d.unlinks.was
 
-  vdr_of : (k : Kind) (i : ℕ) (v : VariableShape) → slice_get (shapes_of (shape b) k) i ≡ Some v → (m : ℕ) → In m (variable_records v) → m ≡ v.vdr
-  vdr_of k i v at m j = one (subst (In m) (plain_records (plain_at (shapes_of (shape b) k) i (are_plain (good_by_its_shape b good) (shapes_of (shape b) k) (kind_ours b (shape b) sound k)) at)) j)
-    where
-      plain_at : (vs : List VariableShape) (i : ℕ) → Each IsPlain vs → slice_get vs i ≡ Some v → IsPlain v
-      plain_at [] i each e = absurd cc
-      plain_at (x ∷ xs) zero each e = subst IsPlain (same_Some x v e) each.0
-      plain_at (x ∷ xs) (suc i) each e = plain_at xs i each.1 e
+  in_kind : (k : Kind) (i : ℕ) (v : VariableShape) → slice_get (shapes_of (shape b) k) i ≡ Some v → (m : ℕ) → In m (variable_records v) → In m (flat_map variable_records (shapes_of (shape b) k))
+  in_kind k i v at m j = variable_at (shapes_of (shape b) k) i v at m j
 
-      one : In m (v.vdr ∷ []) → m ≡ v.vdr
-      one (inl q) = q
-      one (inr none) = absurd none
+  in_mid : (k : Kind) (i : ℕ) (v : VariableShape) → slice_get (shapes_of (shape b) k) i ≡ Some v → (m : ℕ) → In m (variable_records v) → In m (shape mid).records
+  in_mid k i v at m j = kind_in sound_mid k m (subst (λ (vs : List VariableShape). In m (flat_map variable_records vs)) (sym (drops.variables_are k)) (in_kind k i v at m j))
 
-  in_kind : (k : Kind) (i : ℕ) (v : VariableShape) → slice_get (shapes_of (shape b) k) i ≡ Some v → (m : ℕ) → In m (variable_records v) → In m (vdrs (shapes_of (shape b) k))
-  in_kind k i v at m j = subst (λ (x : ℕ). In x (vdrs (shapes_of (shape b) k))) (sym (vdr_of k i v at m j)) (vdr_at (shapes_of (shape b) k) i v at)
+  linked_mid : (k : Kind) (i : ℕ) (v : VariableShape) → slice_get (shapes_of (shape b) k) i ≡ Some v → is_linkable mid (shape mid).records (type_in (variables_chain k)) v.vdr ≡ true
+  linked_mid k i v at = (kind_chain k sound_mid.has_shape).linkable v.vdr (subst (λ (vs : List VariableShape). In v.vdr (vdrs vs)) (sym (drops.variables_are k)) (vdr_at (shapes_of (shape b) k) i v at))
 
-  typed_in : (k : Kind) (m : ℕ) → In m (vdrs (shapes_of (shape b) k)) → In m (shape mid).records × (type_at mid m ≡ type_in (variables_chain k))
-  typed_in k m i =
-      let ok = (kind_chain k sound_mid.has_shape).linkable m (subst (λ (vs : List VariableShape). In m (vdrs vs)) (sym (drops.variables_are k)) i) in
-      (linkable-in mid (shape mid).records (type_in (variables_chain k)) m ok, linkable-type mid (shape mid).records (type_in (variables_chain k)) m ok)
+  -- a record behind the VDR of another variable
+  behind_keeps : (k : Kind) (i : ℕ) (v : VariableShape) → slice_get (shapes_of (shape b) k) i ≡ Some v → (m : ℕ) → In m (index_records v) → (In m places → ⊥) → Keeps b now m (Only [])
+  behind_keeps k i v at m j out =
+      let typed = index_type_at mid (shape mid) (shapes_of (shape mid) k) (kind_ours mid (shape mid) sound_mid k) i v (ap (λ (vs : List VariableShape). slice_get vs i) (drops.variables_are k) ∙ at) m j in
+      let away = confined-away marks index_types places (type_at mid m) m (index_confined found.kind (shape mid).gdr (vdrs (shapes_of (shape mid) found.kind)) (vdrs d.after) (shape mid).unused (freed_with_variable d.own) (length d.mid)) typed out in
+      stays_then b mid now m [] [] [] (drops.variables_kept k m (in_kind k i v at m (inr j))) (keeps_away sound_mid e same m (type_at mid m) (Only []) (in_mid k i v at m (inr j)) refl away) (λ n o. (tt, tt))
 
-  beside_keeps : (i : ℕ) (v : VariableShape) → slice_get (shapes_of (shape b) found.kind) i ≡ Some v → (found.number == i) ≡ false → (m : ℕ) → In m (variable_records v) → Keeps b now m (only_of b m (vdr_type found.kind) (next_field ∷ vdr_num ∷ []))
-  beside_keeps i v at other m j =
-      let here = in_kind found.kind i v at m j in
-      let x = typed_in found.kind m here in
-      let once : Distinct (vdrs (d.before ++ d.own ∷ d.after)) = subst (λ (vs : List VariableShape). Distinct (vdrs vs)) as_parts (kind_chain found.kind h).once in
-      let out : In m (d.own.vdr ∷ []) → ⊥ = λ lies. elim lies [
-        | inl q ↦
-            let n = number_of_vdr d.before d.own d.after i v once (ap (λ (vs : List VariableShape). slice_get vs i) (sym as_parts) ∙ at) (sym (vdr_of found.kind i v at m j) ∙ q) in
-            true_not_false (eq-eqb found.number i (sym d.count ∙ n)) other
-        | inr none ↦ none
-      ] in
-      let avoids = vdr_avoids found.kind (shape mid).gdr (vdrs (shapes_of (shape mid) found.kind)) (vdrs d.after) (shape mid).unused (d.own.vdr ∷ []) (length d.mid) m 0 12 out (inl (omega arith)) (λ l. inl (omega arith)) in
-      let later = keeps_within sound_mid e same m (type_in (variables_chain found.kind)) (next_field ∷ vdr_num ∷ []) x.0 x.1 avoids (t.vdr_within m out) in
-      let whole = stays_then b mid now m [] (next_field ∷ vdr_num ∷ []) (next_field ∷ vdr_num ∷ []) (drops.vdr_kept found.kind m here) later (λ k o. (tt, o)) in
-      let ok = (kind_chain found.kind h).linkable m here in
-      let is : (type_at b m == vdr_type found.kind) ≡ true = eq-eqb _ _ (linkable-type b (shape b).records (type_in (variables_chain found.kind)) m ok ∙ kind_type found.kind) in
-      subst (λ (p : Bool). Keeps b now m (if p then Only (next_field ∷ vdr_num ∷ []) else Only [])) (sym is) whole
+  -- of the kind, with another number
+  beside_out : (i : ℕ) (v : VariableShape) → slice_get (shapes_of (shape b) found.kind) i ≡ Some v → (found.number == i) ≡ false → (m : ℕ) → In m (variable_records v) → In m places → ⊥
+  beside_out i v at other m j lies = elim (variable_beside d.before d.own d.after i v (λ n. true_not_false (eq-eqb found.number i (sym d.count ∙ n)) other) (ap (λ (vs : List VariableShape). slice_get vs i) (sym as_parts) ∙ at) m j) [
+    | inl x ↦ (only sound_mid takes m lies).in_before x
+    | inr x ↦ (only sound_mid takes m lies).in_after x
+  ]
     where
       true_not_false : {p : Bool} → p ≡ true → p ≡ false → ⊥
       true_not_false x y = true≢false (sym x ∙ y)
 
+  vdr_keeps : (i : ℕ) (v : VariableShape) → slice_get (shapes_of (shape b) found.kind) i ≡ Some v → (In v.vdr places → ⊥) → Keeps b now v.vdr (Only (next_field ∷ vdr_num ∷ []))
+  vdr_keeps i v at out =
+      let typed = linkable-type mid (shape mid).records (type_in (variables_chain found.kind)) v.vdr (linked_mid found.kind i v at) in
+      let avoids = vdr_avoids found.kind (shape mid).gdr (vdrs (shapes_of (shape mid) found.kind)) (vdrs d.after) (shape mid).unused (freed_with_variable d.own) (length d.mid) v.vdr 0 12 out (inl (omega arith)) (λ l. inl (omega arith)) in
+      stays_then b mid now v.vdr [] (next_field ∷ vdr_num ∷ []) (next_field ∷ vdr_num ∷ []) (drops.variables_kept found.kind v.vdr (in_kind found.kind i v at v.vdr (inl refl)))
+      (keeps_within sound_mid e same v.vdr (type_in (variables_chain found.kind)) (next_field ∷ vdr_num ∷ []) (in_mid found.kind i v at v.vdr (inl refl)) typed avoids (t.vdr_within v.vdr out)) (λ k o. (tt, o))
+
+  beside_keeps : (i : ℕ) (v : VariableShape) → slice_get (shapes_of (shape b) found.kind) i ≡ Some v → (found.number == i) ≡ false → (m : ℕ) → In m (variable_records v) → Keeps b now m (only_of b m (vdr_type found.kind) (next_field ∷ vdr_num ∷ []))
+  beside_keeps i v at other m (inl q) =
+      let ok = (kind_chain found.kind h).linkable v.vdr (vdr_at (shapes_of (shape b) found.kind) i v at) in
+      let is : (type_at b v.vdr == vdr_type found.kind) ≡ true = eq-eqb _ _ (linkable-type b (shape b).records (type_in (variables_chain found.kind)) v.vdr ok ∙ kind_type found.kind) in
+      subst (λ (x : ℕ). Keeps b now x (only_of b x (vdr_type found.kind) (next_field ∷ vdr_num ∷ []))) (sym q)
+      (subst (λ (p : Bool). Keeps b now v.vdr (if p then Only (next_field ∷ vdr_num ∷ []) else Only [])) (sym is) (vdr_keeps i v at (beside_out i v at other v.vdr (inl refl))))
+  beside_keeps i v at other m (inr j) =
+      let is = no_vdr found.kind (type_at b m) (index_type_at b (shape b) (shapes_of (shape b) found.kind) (kind_ours b (shape b) sound found.kind) i v at m j) in
+      subst (λ (p : Bool). Keeps b now m (if p then Only (next_field ∷ vdr_num ∷ []) else Only [])) (sym is) (behind_keeps found.kind i v at m j (beside_out i v at other m (inr j)))
+
+  -- of the other kind
   other_keeps : (i : ℕ) (v : VariableShape) → slice_get (shapes_of (shape b) (other_kind found.kind)) i ≡ Some v → (m : ℕ) → In m (variable_records v) → Keeps b now m (Only [])
-  other_keeps i v at m j =
+  other_keeps i v at m (inl q) =
       let k = other_kind found.kind in
-      let here = in_kind k i v at m j in
-      let x = typed_in k m here in
-      stays_then b mid now m [] [] [] (drops.vdr_kept k m here) (keeps_away sound_mid e same m (type_in (variables_chain k)) (Only []) x.0 x.1 (unmarked-away (variable_removing_marks found.kind (shape mid).gdr (vdrs (shapes_of (shape mid) found.kind)) (vdrs d.after) (shape mid).unused (d.own.vdr ∷ []) (length d.mid)) (type_in (variables_chain k)) m u.others_clear)) (λ n o. (tt, tt))
+      let typed = linkable-type mid (shape mid).records (type_in (variables_chain k)) v.vdr (linked_mid k i v at) in
+      subst (λ (x : ℕ). Keeps b now x (Only [])) (sym q)
+      (stays_then b mid now v.vdr [] [] [] (drops.variables_kept k v.vdr (in_kind k i v at v.vdr (inl refl))) (keeps_away sound_mid e same v.vdr (type_in (variables_chain k)) (Only []) (in_mid k i v at v.vdr (inl refl)) typed (unmarked-away marks (type_in (variables_chain k)) v.vdr u.others_clear)) (λ n o. (tt, tt)))
+  other_keeps i v at m (inr j) =
+      let k = other_kind found.kind in
+      behind_keeps k i v at m j (λ lies. (only sound_mid takes m lies).in_others (subst (λ (vs : List VariableShape). In m (flat_map variable_records vs)) (sym (drops.variables_are k)) (in_kind k i v at m (inr j))))
 
   variable_keeps : (k : Kind) (i : ℕ) (v : VariableShape) → slice_get (shapes_of (shape b) k) i ≡ Some v → (m : ℕ) → In m (variable_records v) → Keeps b now m (may.variables k i m)
   variable_keeps k i v at m j = by_two found.kind k (λ p. Keeps b now m (if p then (if found.number == i then own_allowance b (shape b) found (record { vdr = Anything; nodes = Anything; blocks = λ r. Anything; cpr = Anything }) m else only_of b m (vdr_type k) (next_field ∷ vdr_num ∷ [])) else Only []))
