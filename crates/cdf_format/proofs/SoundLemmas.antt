@@ -80,13 +80,13 @@ module _ (b records : List ℕ) where
         let p = Hold-split (nodes_rows b records (number_before first) (with_sign last) nodes) (used_rows b records vxr (with_sign last) high entries) h.1 in
         Each-append (NodeFits b) (nodes_of nodes) (lower_nodes entries) (nodes_fit (number_before first) (with_sign last) nodes p.0) (lower_fit vxr (with_sign last) high entries p.1)
 
-  abbrev IsPackedAs : Leaf → Type 0
+  abbrev pub IsPackedAs : Leaf → Type 0
   IsPackedAs leaf = (type_at b leaf.place == cvvr_type) ≡ leaf.packed
 
   mutual
     unfolding HasNodes Names leaves_of entry_leaves
 
-    leaves_packed : (levels : ℕ) (nodes : Nodes) → HasNodes b records levels nodes → Each IsPackedAs (leaves_of nodes)
+    pub leaves_packed : (levels : ℕ) (nodes : Nodes) → HasNodes b records levels nodes → Each IsPackedAs (leaves_of nodes)
     leaves_packed levels no_node h = tt
     leaves_packed zero (node place room entries more) h = absurd h
     leaves_packed (suc levels) (node place room entries more) h = Each-append IsPackedAs (entry_leaves entries) (leaves_of more) (entries_packed levels entries h.1) (leaves_packed (suc levels) more h.2)

@@ -1,85 +1,70 @@
--- So far a variable of a good image has a VDR alone: records of indexes, blocks and parameters are refused (rule 4.99).
-use Rattle.std.proofs.Common.{◌≡◌, ℕ, List, [], ◌∷◌, Bool, true, false, true≢false, refl, sym, ap, ◌∙◌, inl}
-use Rattle.std.specs.Prelude.{if◌then◌else◌}
-use Rattle.cdf_edits.specs.Commands.Variables.{freed_with_variable}
+-- So far no variable of a good image is compressed: records of parameters and of packed blocks are refused (rule 4.99).
+use Rattle.std.proofs.Common.{◌≡◌, ℕ, List, [], ◌∷◌, Bool, true, false, true≢false, refl, sym, ap, ◌∙◌, inl, inr}
+use Rattle.std.specs.Prelude.{◌==◌, if◌then◌else◌}
+use Rattle.cdf_edits.proofs.Edits.MarkLemmas.{or_cases}
 use Rattle.cdf_edits.proofs.Edits.VariableFrame.{AreOurs, ours_parts}
 use Rattle.cdf_edits.proofs.Frame.OwnerAlone.{Each-in}
 use Rattle.cdf_format.specs.Chains.{is_a, is_in}
 use Rattle.cdf_format.specs.Fields.{number, type_at}
-use Rattle.cdf_format.specs.Index.{Nodes, no_node, node, nodes_of, leaves_of}
+use Rattle.cdf_format.specs.Index.{Leaf, leaves_of}
 use Rattle.cdf_format.specs.NotRead.{read_types, unread_type}
-use Rattle.cdf_format.specs.Owners.{variable_records}
 use Rattle.cdf_format.specs.Records.{vdr_cpr_or_spr_offset}
-use Rattle.cdf_format.specs.RecordTypes.{vxr_type, cpr_type}
+use Rattle.cdf_format.specs.RecordTypes.{vvr_type, cvvr_type, cpr_type}
 use Rattle.cdf_format.specs.Shape.{VariableShape, Shape, is_compressed, Each, HasVariable}
-use Rattle.cdf_format.specs.Sound.{VariableFits}
+use Rattle.cdf_format.specs.Sound.{LeafFits, VariableFits}
 use Rattle.cdf_format.specs.Tiles.{In}
-use Rattle.cdf_format.proofs.ChainsLemmas.{is_a-in, is_a-type, linkable-in, linkable-type}
+use Rattle.cdf_format.proofs.ChainsLemmas.{is_a-in, is_a-type}
 use Rattle.cdf_format.proofs.GoodByShape.{IsGoodByShape}
-use Rattle.cdf_format.proofs.IndexLemmas.{nodes_stand}
 use Rattle.cdf_format.proofs.RowLemmas.{Hold-member}
+use Rattle.cdf_format.proofs.SoundLemmas.{IsPackedAs, leaves_packed}
 
--- no index, no block and no CPR
-pub record IsPlain (v : VariableShape) : Type 0 where
-  pub no_index : v.index ≡ no_node
+-- its records stand in a VVR
+abbrev pub IsPlainBlock : List ℕ → List ℕ → Leaf → Type 0
+IsPlainBlock b records leaf = (is_a b records vvr_type leaf.place ≡ true) × (leaf.packed ≡ false)
+
+pub record IsUncompressed (b records : List ℕ) (v : VariableShape) : Type 0 where
   pub no_cpr : v.cpr ≡ []
-
-no_leaves : leaves_of no_node ≡ []
-unfolding leaves_of
-no_leaves = refl
-
-no_nodes : nodes_of no_node ≡ []
-unfolding nodes_of
-no_nodes = refl
-
-empty_index : (nodes : Nodes) → ((m : ℕ) → In m (nodes_of nodes) → ⊥) → nodes ≡ no_node
-unfolding nodes_of
-empty_index no_node out = refl
-empty_index (node place room entries more) out = absurd (out place (inl refl))
+  pub no_flag : is_compressed b v.vdr ≡ false
+  pub plain_blocks : Each (IsPlainBlock b records) (leaves_of v.index)
 
 empty_list : (xs : List ℕ) → ((m : ℕ) → In m xs → ⊥) → xs ≡ []
 empty_list [] out = refl
 empty_list (x ∷ xs) out = absurd (out x (inl refl))
 
-module _ {v : VariableShape} (plain : IsPlain v) where
-  pub plain_leaves : leaves_of v.index ≡ []
-  plain_leaves = ap leaves_of plain.no_index ∙ no_leaves
-
-  pub plain_nodes : nodes_of v.index ≡ []
-  plain_nodes = ap nodes_of plain.no_index ∙ no_nodes
-
-  pub plain_records : variable_records v ≡ v.vdr ∷ []
-  plain_records =
-      let leaves = plain_leaves in
-      let nodes = plain_nodes in
-      let cpr = plain.no_cpr in
-      rw (leaves, nodes, cpr) refl
-
-  pub plain_freed : freed_with_variable v ≡ v.vdr ∷ []
-  plain_freed =
-      let leaves = plain_leaves in
-      let nodes = plain_nodes in
-      let cpr = plain.no_cpr in
-      rw (leaves, nodes, cpr) refl
-
-  pub plain_packing : (b records : List ℕ) → HasVariable b records v → is_compressed b v.vdr ≡ false
-  plain_packing b records has = unpacked (is_compressed b v.vdr) (has.packed_by ∙ plain.no_cpr)
-    where
-      unpacked : (p : Bool) → (if p then number b v.vdr vdr_cpr_or_spr_offset ∷ [] else []) ≡ [] → p ≡ false
-      unpacked true e = absurd cc
-      unpacked false e = refl
+no_flag_if : (p : Bool) (cpr : ℕ) → (if p then cpr ∷ [] else []) ≡ [] → p ≡ false
+no_flag_if true cpr e = absurd cc
+no_flag_if false cpr e = refl
 
 module _ {b : List ℕ} {s : Shape} (good : IsGoodByShape b s) where
   none_of : (m type : ℕ) → In m s.records → type_at b m ≡ type → is_in type read_types ≡ false → ⊥
   none_of m type i is unread = true≢false (sym (Hold-member (unread_type b) s.records m good.read_types i).0 ∙ ap (λ (t : ℕ). is_in t read_types) is ∙ unread)
 
   -- where what an image may have grows, this changes
-  pub is_plain : (v : VariableShape) → HasVariable b s.records v → VariableFits b s.records v → IsPlain v
-  is_plain v has fits = record {
-    no_index = empty_index v.index (λ m i. let ok = nodes_stand b s.records 8 v.index has.indexed.has_nodes m i in none_of m vxr_type (linkable-in b s.records vxr_type m ok) (linkable-type b s.records vxr_type m ok) refl);
-    no_cpr = empty_list v.cpr (λ m i. let ok = Each-in (λ x. is_a b s.records cpr_type x ≡ true) v.cpr fits.3 m i in none_of m cpr_type (is_a-in b s.records cpr_type m ok) (is_a-type b s.records cpr_type m ok) refl);
-  }
+  no_cpr_at : (m : ℕ) → is_a b s.records cpr_type m ≡ true → ⊥
+  no_cpr_at m ok = none_of m cpr_type (is_a-in b s.records cpr_type m ok) (is_a-type b s.records cpr_type m ok) refl
 
-  pub are_plain : (vs : List VariableShape) → AreOurs b s vs → Each IsPlain vs
-  are_plain [] ours = tt
-  are_plain (v ∷ more) ours = (is_plain v ours.has.0 ours.fits.0, are_plain more (ours_parts b s (v ∷ []) more ours).1)
+  no_packed_at : (m : ℕ) → is_a b s.records cvvr_type m ≡ true → ⊥
+  no_packed_at m ok = none_of m cvvr_type (is_a-in b s.records cvvr_type m ok) (is_a-type b s.records cvvr_type m ok) refl
+
+  plain_each : (vdr : ℕ) (leaves : List Leaf) → Each (LeafFits b s.records vdr) leaves → Each (IsPackedAs b s.records) leaves → Each (IsPlainBlock b s.records) leaves
+  plain_each vdr [] fits packed = tt
+  plain_each vdr (leaf ∷ more) fits packed = (
+    elim (or_cases (is_a b s.records vvr_type leaf.place) (is_a b s.records cvvr_type leaf.place) fits.0.0) [
+      | inl p ↦ (p, sym packed.0 ∙ ap (λ (t : ℕ). t == cvvr_type) (is_a-type b s.records vvr_type leaf.place p))
+      | inr p ↦ absurd (no_packed_at leaf.place p)
+    ],
+    plain_each vdr more fits.1 packed.1,
+  )
+
+  pub is_uncompressed : (v : VariableShape) → HasVariable b s.records v → VariableFits b s.records v → IsUncompressed b s.records v
+  is_uncompressed v has fits =
+      let none = empty_list v.cpr (λ m i. no_cpr_at m (Each-in (λ x. is_a b s.records cpr_type x ≡ true) v.cpr fits.3 m i)) in
+      record {
+        no_cpr = none;
+        no_flag = no_flag_if (is_compressed b v.vdr) (number b v.vdr vdr_cpr_or_spr_offset) (has.packed_by ∙ none);
+        plain_blocks = plain_each v.vdr (leaves_of v.index) fits.2 (leaves_packed b s.records 8 v.index has.indexed.has_nodes);
+      }
+
+  pub are_uncompressed : (vs : List VariableShape) → AreOurs b s vs → Each (IsUncompressed b s.records) vs
+  are_uncompressed [] ours = tt
+  are_uncompressed (v ∷ more) ours = (is_uncompressed v ours.has.0 ours.fits.0, are_uncompressed more (ours_parts b s (v ∷ []) more ours).1)
