@@ -45,6 +45,7 @@ pub mod OneChain
 pub mod OneSpliced
 pub mod OwnedOnce
 pub mod OwnersKept
+pub mod OwnVariable
 pub mod PadWritten
 pub mod PlainVariables
 pub mod PushedEntry

@@ -7,7 +7,6 @@ use Rattle.cdf_model.specs.declared.kinds.Kind.TheVariants.{R, Z}
 use Rattle.cdf_model.specs.Limits.{image_limit}
 use Rattle.cdf_format.specs.Chains.{is_in}
 use Rattle.cdf_format.specs.Fields.{number, gdr_offset, with_field, LiesIn}
-use Rattle.cdf_format.specs.Owners.{times, owned_records}
 use Rattle.cdf_format.specs.Records.{gdr_r_max_rec}
 use Rattle.cdf_format.specs.Shape.{VariableShape, vdrs, shape}
 use Rattle.cdf_format.specs.Sound.{IsSound}
@@ -21,20 +20,19 @@ use Rattle.cdf_format.proofs.Tests.{eq_of}
 use Rattle.cdf_format.proofs.TilesLemmas.{length_tiles, tile_lies}
 use Rattle.cdf_fields.proofs.Writes.{length-with_field}
 use Rattle.cdf_edits.specs.Commands.Allowances.{shapes_of}
+use Rattle.cdf_edits.specs.Commands.Variables.{freed_with_variable}
 use Rattle.cdf_edits.specs.Edits.RemovesVariable.{UnlinksVariable, RemovesVariable, numbers_on, r_max_writes, greatest_at}
 use Rattle.cdf_edits.specs.Edits.Writes.{write, with_writes}
 use Rattle.cdf_edits.specs.Space.Chains.{holder_of, count_of, counted_in, type_in, members_of, before, HasChain, HolderStands, Removed}
-use Rattle.cdf_edits.specs.Space.Freeing.{AllGiven}
-use Rattle.cdf_edits.specs.Space.Giving.{IsGiven}
+use Rattle.cdf_edits.specs.Space.Freeing.{AllGiven, AreFree}
 use Rattle.cdf_edits.specs.Space.VariableChains.{variables_chain}
 use Rattle.cdf_edits.proofs.Commands.ListParts.{Cut, cut}
 use Rattle.cdf_edits.proofs.Edits.ChainsOfShape.{IsOf, has_chain, members_are, is_member}
-use Rattle.cdf_edits.proofs.Edits.PlainVariables.{plain_freed}
 use Rattle.cdf_edits.proofs.Edits.RecordFrame.{gdr_field, gdr_place}
 use Rattle.cdf_edits.proofs.Edits.StepEdits.{gdr_in, gdr_long, fixed_long}
 use Rattle.cdf_edits.proofs.Edits.TakenVariable.{removed-at, least_size}
 use Rattle.cdf_edits.proofs.Edits.UnlinkedAttribute.{front-middle}
-use Rattle.cdf_edits.proofs.Edits.UnlinkedVariable.{in_holder, unlinking_tests, e_first, e_early, all_plain, mid_sound, own_stands, own_unowned}
+use Rattle.cdf_edits.proofs.Edits.UnlinkedVariable.{in_holder, unlinking_tests, e_first, e_early, mid_sound, own_free}
 use Rattle.cdf_edits.proofs.Edits.VariableKinds.{counted_before, in_gdr, kind_chain, vdrs_rows}
 use Rattle.cdf_format.specs.Rules.{Hold}
 
@@ -258,19 +256,8 @@ module _ (b : List ℕ) (good : Good b) (kind : Kind) (places : List ℕ) (are :
             pub sound_mid : IsSound mid (shape mid)
             sound_mid = mid_sound good unlinks
 
-            pub stands_mid : In (get_or places n 0) (shape mid).records
-            stands_mid = subst (λ (m : ℕ). In m (shape mid).records) (sym own_at) (own_stands good unlinks)
+            pub free_mid : {records : List ℕ} → records ≡ freed_with_variable this.own → AreFree mid records
+            free_mid are = subst (AreFree mid) (sym are) (own_free good unlinks)
 
-            pub free_mid : times (get_or places n 0) (owned_records mid (shape mid)) ≡ 0
-            free_mid = subst (λ (m : ℕ). times m (owned_records mid (shape mid)) ≡ 0) (sym own_at) (own_unowned good unlinks)
-
-            pub removes_by : (now : List ℕ) → IsGiven mid now (shape mid) (shape now) (get_or places n 0) → RemovesVariable b now kind n
-            removes_by now given = record {
-              before = this.before;
-              own = this.own;
-              after = this.after;
-              count = this.count;
-              mid = mid;
-              unlinks = unlinks;
-              given = subst (AllGiven mid now) (sym (plain_freed (all_plain good unlinks).1.0)) (now, (subst (IsGiven mid now (shape mid) (shape now)) own_at given, refl));
-            }
+            pub removes_by : {records : List ℕ} → records ≡ freed_with_variable this.own → (now : List ℕ) → AllGiven mid now records → RemovesVariable b now kind n
+            removes_by are now given = record { before = this.before; own = this.own; after = this.after; count = this.count; mid = mid; unlinks = unlinks; given = subst (AllGiven mid now) are given }

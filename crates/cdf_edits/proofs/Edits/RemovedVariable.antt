@@ -1,6 +1,5 @@
 -- The image after a variable went: its shape, its content, its rules and its space.
-use Rattle.std.proofs.Common.{◌≡◌, ◌≢◌, ℕ, zero, suc, ◌+◌, ◌≤◌, List, [], ◌∷◌, ◌++◌, length, map, max, true, eq-eqb, refl, sym, ap, subst, ◌∙◌, arith, inl, inr}
-use Rattle.std.proofs.lemmas.Bool.{le-leb}
+use Rattle.std.proofs.Common.{◌≡◌, ◌≢◌, ℕ, zero, suc, ◌+◌, ◌≤◌, List, [], ◌∷◌, ◌++◌, length, map, max, true, refl, sym, ap, subst, ◌∙◌, arith, inl, inr}
 use Rattle.std.proofs.lemmas.List.{length-append, length-map}
 use Rattle.std.specs.Int.{w32, cast_signed}
 use Rattle.std.specs.Int.RustNames.{FitsSigned}
@@ -12,41 +11,41 @@ use Rattle.cdf_model.specs.Limits.{image_limit}
 use Rattle.cdf_model.specs.Names.{variables_of, with_variables}
 use Rattle.cdf_model.specs.RecordSteps.{last_number}
 use Rattle.cdf_format.specs.Bytes.{Same}
-use Rattle.cdf_format.specs.Chains.{is_in, IsChain}
+use Rattle.cdf_format.specs.Chains.{IsChain}
 use Rattle.cdf_format.specs.Content.{content, variable_of}
 use Rattle.cdf_format.specs.Fields.{number, integer4, size_at, type_at, gdr_offset}
+use Rattle.cdf_format.specs.Owners.{variable_records}
 use Rattle.cdf_format.specs.Records.{gdr_eof, gdr_uir_head, gdr_r_max_rec, vdr_num}
 use Rattle.cdf_format.specs.RecordTypes.{gdr_type, r_vdr_type, z_vdr_type, uir_type}
 use Rattle.cdf_format.specs.Shape.{VariableShape, Shape, vdrs, shape}
 use Rattle.cdf_format.specs.Sound.{IsSound}
-use Rattle.cdf_format.specs.Tiles.{In, AreTiles}
+use Rattle.cdf_format.specs.Tiles.{In}
 use Rattle.cdf_format.specs.VariableFields.{max_rec_at}
 use Rattle.cdf_format.specs.WellFormed.{Good}
 use Rattle.cdf_format.proofs.GoodSound.{good_by_its_shape, good_is_sound, rules_of_good}
 use Rattle.cdf_format.proofs.SealedRules.{good_long, sealed_kept}
-use Rattle.cdf_edits.specs.Commands.Allowances.{FreedStay, no_fields, shapes_of}
+use Rattle.cdf_edits.specs.Commands.Allowances.{shapes_of}
 use Rattle.cdf_edits.specs.Commands.GreatestRecord.{r_extents}
-use Rattle.cdf_edits.specs.Commands.Variables.{RMaxRecOf}
+use Rattle.cdf_edits.specs.Commands.Variables.{RMaxRecOf, freed_with_variable}
 use Rattle.cdf_edits.specs.Edits.Edit.{Edit}
 use Rattle.cdf_edits.specs.Edits.ManyMarks.{freeing_marks}
-use Rattle.cdf_edits.specs.Edits.Marks.{Avoids, avoided, unmarked}
-use Rattle.cdf_edits.specs.Edits.RemovesVariable.{RemovesVariable, greatest_at, variable_unlinking_marks}
-use Rattle.cdf_edits.specs.Space.Acts.{gave, links_end, ActsFollow}
+use Rattle.cdf_edits.specs.Edits.Marks.{Avoids, avoided, index_types}
+use Rattle.cdf_edits.specs.Edits.RemovesVariable.{RemovesVariable, greatest_at}
+use Rattle.cdf_edits.specs.Space.Acts.{links_end}
 use Rattle.cdf_edits.specs.Space.Chains.{head_of, count_of, type_in}
-use Rattle.cdf_edits.specs.Space.Freeing.{AllGiven, AreFree}
+use Rattle.cdf_edits.specs.Space.Freeing.{AreFree}
 use Rattle.cdf_edits.specs.Space.Placement.{with_space}
 use Rattle.cdf_edits.specs.Space.VariableChains.{variables_chain}
-use Rattle.cdf_edits.proofs.Edits.ActsThen.{gave-same, all_gave}
 use Rattle.cdf_edits.proofs.Edits.Composing.{head_size, head_type, edit_then}
-use Rattle.cdf_edits.proofs.Edits.EditActs.{acts_none}
-use Rattle.cdf_edits.proofs.Edits.FreedBytes.{IsLeft, all_left, all_unused, freed_stay, free_used}
-use Rattle.cdf_edits.proofs.Edits.FreedRecords.{MayFree, sizes_by_tiles, all_given_edit}
+use Rattle.cdf_edits.proofs.Edits.FreedBytes.{IsLeft, all_left, all_unused, free_used}
+use Rattle.cdf_edits.proofs.Edits.FreedRecords.{MayFree, all_given_edit}
 use Rattle.cdf_edits.proofs.Edits.MarkLemmas.{avoids-of_type}
-use Rattle.cdf_edits.proofs.Edits.PlainVariables.{IsPlain, plain_freed}
+use Rattle.cdf_edits.proofs.Edits.OwnVariable.{freed_mine, mine_freed}
 use Rattle.cdf_edits.proofs.Edits.RecordFrame.{field_avoids, field_clear, gdr_field, gdr_place, through}
 use Rattle.cdf_edits.proofs.Edits.StepEdits.{gdr_in, gdr_typed, gdr_long}
-use Rattle.cdf_edits.proofs.Edits.TakenVariable.{TakesVariable, SaysTaken, tests, without_variable, content_taken, taken_good, splices, vdr_avoids, vdr_there, back_in, back_out}
-use Rattle.cdf_edits.proofs.Edits.UnlinkedVariable.{all_plain, e_second, e_early, some_second, may_last, unlinked_edit, unlinks_takes, as_long, counted_now, numbered_now, numbered_still, types_stay, unlinked_shape, mid_sound, own_there, own_free}
+use Rattle.cdf_edits.proofs.Edits.TakenVariable.{TakesVariable, SaysTaken, tests, without_variable, content_taken, taken_good, splices, vdr_there, back_in, back_out}
+use Rattle.cdf_edits.proofs.Edits.UnlinkedVariable.{e_second, e_early, some_second, may_last, unlinked_edit, as_long, counted_now, numbered_now, numbered_still, types_stay, unlinked_shape, mid_sound, own_free, mine_in, mine_sized, mine_typed, unlinked_behind}
+use Rattle.cdf_edits.proofs.Edits.VariableKept.{only_variable}
 use Rattle.cdf_edits.proofs.Edits.VariableKinds.{in_gdr, kind_chain, with_shapes}
 use Rattle.cdf_edits.proofs.Edits.VariableSplice.{content_now}
 use Rattle.cdf_edits.proofs.Edits.WrittenFields.{write_lies}
@@ -57,14 +56,14 @@ use Rattle.cdf_edits.proofs.Rules.WithoutLinks.{eof_by_rules}
 -- ---- by the kind
 
 pub record FreeingTests (kind : Kind) (list places : List ℕ) (limit : ℕ) : Type 0 where
-  pub start : avoided (freeing_marks (type_in (variables_chain kind) ∷ []) list places limit) gdr_type 0 12 ≡ true
-  pub count : avoided (freeing_marks (type_in (variables_chain kind) ∷ []) list places limit) gdr_type (count_of (variables_chain kind)).place ((count_of (variables_chain kind)).place + (count_of (variables_chain kind)).width) ≡ true
-  pub r_max : avoided (freeing_marks (type_in (variables_chain kind) ∷ []) list places limit) gdr_type 52 56 ≡ true
-  pub vdr : (m lo hi : ℕ) → (In m places → ⊥) → Avoids (freeing_marks (type_in (variables_chain kind) ∷ []) list places limit) (type_in (variables_chain kind)) m lo hi
+  pub start : avoided (freeing_marks (type_in (variables_chain kind) ∷ index_types) list places limit) gdr_type 0 12 ≡ true
+  pub count : avoided (freeing_marks (type_in (variables_chain kind) ∷ index_types) list places limit) gdr_type (count_of (variables_chain kind)).place ((count_of (variables_chain kind)).place + (count_of (variables_chain kind)).width) ≡ true
+  pub r_max : avoided (freeing_marks (type_in (variables_chain kind) ∷ index_types) list places limit) gdr_type 52 56 ≡ true
+  pub vdr : (m lo hi : ℕ) → (In m places → ⊥) → Avoids (freeing_marks (type_in (variables_chain kind) ∷ index_types) list places limit) (type_in (variables_chain kind)) m lo hi
 
 pub freeing_tests : (kind : Kind) (list places : List ℕ) (limit : ℕ) → FreeingTests kind list places limit
-freeing_tests R list places limit = record { start = refl; count = refl; r_max = refl; vdr = λ m lo hi out. avoids-of_type (freeing_marks (r_vdr_type ∷ []) list places limit) r_vdr_type m lo hi ((λ same lies. absurd (out lies)), tt) }
-freeing_tests Z list places limit = record { start = refl; count = refl; r_max = refl; vdr = λ m lo hi out. avoids-of_type (freeing_marks (z_vdr_type ∷ []) list places limit) z_vdr_type m lo hi ((λ same lies. absurd (out lies)), tt) }
+freeing_tests R list places limit = record { start = refl; count = refl; r_max = refl; vdr = λ m lo hi out. avoids-of_type (freeing_marks (r_vdr_type ∷ index_types) list places limit) r_vdr_type m lo hi ((λ same lies. absurd (out lies)), tt) }
+freeing_tests Z list places limit = record { start = refl; count = refl; r_max = refl; vdr = λ m lo hi out. avoids-of_type (freeing_marks (z_vdr_type ∷ index_types) list places limit) z_vdr_type m lo hi ((λ same lies. absurd (out lies)), tt) }
 
 module _ {b now : List ℕ} {kind : Kind} {n : ℕ} (good : Good b) (d : RemovesVariable b now kind n) where
   abbrev pub s : Shape
@@ -79,51 +78,39 @@ module _ {b now : List ℕ} {kind : Kind} {n : ℕ} (good : Good b) (d : Removes
   abbrev mid : List ℕ
   mid = d.mid
 
-  -- the one record that is freed
+  -- its records, as they are freed
   abbrev pub places : List ℕ
-  places = d.own.vdr ∷ []
+  places = freed_with_variable d.own
 
-  pub own_plain : IsPlain d.own
-  own_plain = (all_plain good d.unlinks).1.0
+  pub mine : (m : ℕ) → In m places → In m (variable_records d.own)
+  mine = freed_mine d.own
 
-  pub given : AllGiven mid now (d.own.vdr ∷ [])
-  given = subst (AllGiven mid now) (plain_freed own_plain) d.given
-
-  free : AreFree mid (d.own.vdr ∷ [])
+  free : AreFree mid places
   free = own_free good d.unlinks
 
-  one : (m : ℕ) → In m (d.own.vdr ∷ []) → m ≡ d.own.vdr
-  one m (inl q) = q
-  one m (inr none) = absurd none
+  pub places_in : (m : ℕ) → In m places → In m s.records
+  places_in m i = mine_in good d.unlinks m (mine m i)
 
-  pub own_is : In d.own.vdr s.records × ((type_at b d.own.vdr ≡ type) × (340 ≤ size_at b d.own.vdr))
-  own_is = own_there good d.unlinks
-
-  mid_typed : type_at mid d.own.vdr ≡ type
-  mid_typed = types_stay good d.unlinks d.own.vdr own_is.0 ∙ own_is.1.0
-
-  pub may_free : MayFree mid (type ∷ []) (d.own.vdr ∷ [])
+  pub may_free : MayFree mid (type_in (variables_chain kind) ∷ index_types) places
   may_free = record {
     stand = free.stand;
-    typed = λ m i. subst (λ (x : ℕ). is_in (type_at mid x) (type_in (variables_chain kind) ∷ []) ≡ true) (sym (one m i)) (among (type_at mid d.own.vdr) type mid_typed);
-    used = free_used mid (d.own.vdr ∷ []) free;
+    typed = λ m i. mine_typed good d.unlinks m (mine m i);
+    used = free_used mid places free;
     once = free.once;
   }
-    where
-      among : (x t : ℕ) → x ≡ t → is_in x (t ∷ []) ≡ true
-      among x t e = rw (eq-eqb x t e) refl
 
   pub left : IsLeft mid now
-  left = all_left mid now (d.own.vdr ∷ []) (mid_sound good d.unlinks) free.stand given
+  left = all_left mid now places (mid_sound good d.unlinks) free.stand d.given
 
-  freeing : Edit mid now s.records s.records (freeing_marks (type ∷ []) s.unused (d.own.vdr ∷ []) (length mid)) (d.own.vdr ∷ [])
-  freeing = subst (λ (x : Shape). Edit mid now x.records x.records (freeing_marks (type_in (variables_chain kind) ∷ []) x.unused (d.own.vdr ∷ []) (length mid)) (d.own.vdr ∷ [])) (unlinked_shape good d.unlinks) (all_given_edit mid now (type ∷ []) (d.own.vdr ∷ []) (mid_sound good d.unlinks) may_free given)
+  freeing : Edit mid now s.records s.records (freeing_marks (type_in (variables_chain kind) ∷ index_types) s.unused places (length mid)) places
+  freeing = subst (λ (x : Shape). Edit mid now x.records x.records (freeing_marks (type_in (variables_chain kind) ∷ index_types) x.unused places (length mid)) places) (unlinked_shape good d.unlinks)
+      (all_given_edit mid now (type_in (variables_chain kind) ∷ index_types) places (mid_sound good d.unlinks) may_free d.given)
 
-  free_tests : FreeingTests kind s.unused (d.own.vdr ∷ []) (length mid)
-  free_tests = freeing_tests kind s.unused (d.own.vdr ∷ []) (length mid)
+  free_tests : FreeingTests kind s.unused places (length mid)
+  free_tests = freeing_tests kind s.unused places (length mid)
 
-  pub takes : TakesVariable b now s kind d.before d.own d.after (d.own.vdr ∷ []) (length mid)
-  takes = record { edit = edit_then (unlinked_edit good d.unlinks) freeing; was = d.unlinks.was; mine = one; own_plain = own_plain; after_plain = (all_plain good d.unlinks).1.1 }
+  pub takes : TakesVariable b now s kind d.before d.own d.after places (length mid)
+  takes = record { edit = edit_then (unlinked_edit good d.unlinks) freeing; was = d.unlinks.was; mine = mine }
 
   -- ---- the shape
 
@@ -159,7 +146,7 @@ module _ {b now : List ℕ} {kind : Kind} {n : ℕ} (good : Good b) (d : Removes
     numbered = numbered_still mid now (length d.before) (vdrs d.after) numbered (numbered_now good d.unlinks);
     variable_chain = chain_after;
     unused_chain = subst (λ (x : Shape). IsChain now x.records uir_type (number now x.gdr gdr_uir_head) x.unused) shape_after left.sound.has_shape.unused_chain;
-    freed = all_unused mid now (d.own.vdr ∷ []) (mid_sound good d.unlinks) free.stand given;
+    freed = all_unused mid now places (mid_sound good d.unlinks) free.stand d.given;
   }
     where
       chain_of_shape : (k : Kind) → IsChain now (shape now).records (type_in (variables_chain k)) (number now (shape now).gdr (head_of (variables_chain k))) (vdrs (shapes_of (shape now) k))
@@ -193,7 +180,7 @@ module _ {b now : List ℕ} {kind : Kind} {n : ℕ} (good : Good b) (d : Removes
       let first = (sealed_kept b (good_long b s image) (rules_of_good b good)).0 in
       let t = tests sound takes in
       let end = gdr_field sound takes.edit t.file_clear gdr_eof t.eof_clear (omega arith) ∙ eof_by_rules b s sound first ∙ sym long_now in
-      taken_good sound takes says first image (inl refl) count_now end (let l = long_now in omega arith)
+      taken_good sound takes says first image (mine_freed d.own) count_now end (let l = long_now in omega arith)
 
   -- rMaxRec is not written by freeing
   pub r_max_mid : number now s.gdr gdr_r_max_rec ≡ number mid s.gdr gdr_r_max_rec
@@ -201,46 +188,16 @@ module _ {b now : List ℕ} {kind : Kind} {n : ℕ} (good : Good b) (d : Removes
 
   -- ---- its space
 
-  pub size_before : size_at mid d.own.vdr ≡ size_at b d.own.vdr
-  size_before = head_size b mid d.own.vdr (head_stays d.own.vdr own_is.0 (λ x. no_uir kind (sym own_is.1.0 ∙ x)))
-
-  pub acts_after : ActsFollow b now (gave b (d.own.vdr ∷ []))
-  acts_after =
-      let same = unlinked_shape good d.unlinks in
-      let none = acts_none sound (unlinked_edit good d.unlinks) (free_of_unused kind) refl (ap (λ (x : Shape). x.records) same) (ap (λ (x : Shape). x.unused) same) (as_long good d.unlinks) in
-      subst (ActsFollow b now) (gave-same b mid (d.own.vdr ∷ []) (λ m i. subst (λ (x : ℕ). size_at mid x ≡ size_at b x) (sym (one m i)) size_before)) (all_gave b mid now [] (type ∷ []) (d.own.vdr ∷ []) sound.has_shape none (mid_sound good d.unlinks) may_free given)
-    where
-      free_of_unused : (k : Kind) → unmarked (variable_unlinking_marks k s.gdr (vdrs (shapes_of s k)) (vdrs d.after)) uir_type ≡ true
-      free_of_unused R = refl
-      free_of_unused Z = refl
-
-  sizes_after : (m : ℕ) → In m s.records → size_at now m ≡ size_at b m
-  sizes_after = sizes_by_tiles b now 8 8 (length b) s.records refl sound.has_shape.tiled (subst (λ (k : ℕ). AreTiles now 8 k s.records) long_now takes.edit.tiled_now)
+  pub sizes_before : (m : ℕ) → In m places → size_at mid m ≡ size_at b m
+  sizes_before m i = mine_sized good d.unlinks m (mine m i)
 
   -- its bytes behind the links
-  pub behind : Same b now (d.own.vdr + links_end (size_at b d.own.vdr)) (d.own.vdr + size_at b d.own.vdr)
-  behind =
-      let v = d.own.vdr in
-      let t = unlinks_takes good d.unlinks 0 in
-      let long = own_is.1.1 in
-      let out : In v (vdrs d.after) → ⊥ = λ i. back_out sound takes v i (inl refl) in
-      let avoids = vdr_avoids kind s.gdr (vdrs (shapes_of s kind)) (vdrs d.after) s.unused [] 0 v in
-      let first : Same b mid (v + 28) (v + size_at b v) = t.edit.part v type 28 (size_at b v) own_is.0 own_is.1.0 (avoids 0 12 (λ i. i) (inl (omega arith)) (λ i. absurd (out i))) (avoids 28 (size_at b v) (λ i. i) (inr (omega arith)) (λ i. absurd (out i))) (omega arith) in
-      let one = subst (λ (k : ℕ). Same b mid (v + k) (v + size_at b v)) (sym (long_enough (size_at b v) (omega arith))) first in
-      let not_gdr : v ≢ (shape mid).gdr = λ e. apart_gdr kind (sym own_is.1.0 ∙ ap (type_at b) (e ∙ ap (λ (x : Shape). x.gdr) (unlinked_shape good d.unlinks)) ∙ gdr_typed b s sound.has_shape) in
-      let two = subst (λ (k : ℕ). Same mid now (v + links_end k) (v + k)) size_before (left.behind v (free.stand v (inl refl)) not_gdr) in
+  pub behind : (m : ℕ) → In m places → Same b now (m + links_end (size_at b m)) (m + size_at b m)
+  behind m i =
+      let one = unlinked_behind good d.unlinks m (mine m i) in
+      let not_gdr : m ≢ (shape mid).gdr = λ e. (only_variable sound kind d.before d.own d.after d.unlinks.was m (mine m i)).in_file (inr (inl (e ∙ ap (λ (x : Shape). x.gdr) (unlinked_shape good d.unlinks)))) in
+      let two = subst (λ (k : ℕ). Same mid now (m + links_end k) (m + k)) (sizes_before m i) (left.behind m (free.stand m i) not_gdr) in
       record { each = λ k l u. two.each k l u ∙ one.each k l u }
-    where
-      long_enough : (k : ℕ) → 28 ≤ k → links_end k ≡ 28
-      long_enough k l = rw (le-leb 28 k l) refl
-
-      apart_gdr : (k : Kind) → type_in (variables_chain k) ≢ gdr_type
-      apart_gdr R e = absurd cc
-      apart_gdr Z e = absurd cc
-
-  pub freed_after : FreedStay b now no_fields (gave b (d.own.vdr ∷ []))
-  freed_after = freed_stay b now (gave b (d.own.vdr ∷ [])) (d.own.vdr ∷ []) no_fields left.sound.has_shape.tiled (λ m i. subst (In m) (sym records_are) (subst (λ (x : ℕ). In x s.records) (sym (one m i)) own_is.0)) (λ m i. sizes_after m (subst (λ (x : ℕ). In x s.records) (sym (one m i)) own_is.0))
-      (λ m i. subst (λ (x : ℕ). Same b now (x + links_end (size_at b x)) (x + size_at b x)) (sym (one m i)) behind)
 
 -- ---- rMaxRec
 

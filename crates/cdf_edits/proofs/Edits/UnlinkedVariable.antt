@@ -1,45 +1,53 @@
 -- A variable that is taken out of the chain, counted no more, and those behind it numbered anew: the image is sound, and its VDR has no owner.
-use Rattle.std.proofs.Common.{◌≡◌, ◌≢◌, ℕ, ℤ, suc, ◌+◌, ◌^◌, ◌<◌, ◌≤◌, List, [], ◌∷◌, ◌++◌, length, true, refl, sym, ap, subst, ◌∙◌, arith, inl, inr}
+use Rattle.std.proofs.Common.{◌≡◌, ◌≢◌, ℕ, ℤ, suc, ◌+◌, ◌^◌, ◌<◌, ◌≤◌, List, [], ◌∷◌, ◌++◌, length, true, eq-eqb, refl, sym, ap, subst, ◌∙◌, arith, inl, inr}
+use Rattle.std.proofs.lemmas.Bool.{le-leb}
 use Rattle.std.specs.List.{filter}
 use Rattle.std.specs.Prelude.{◌==◌, if◌then◌else◌}
 use Rattle.cdf_model.specs.declared.kinds.Kind.{Kind}
 use Rattle.cdf_model.specs.declared.kinds.Kind.TheVariants.{R, Z}
-use Rattle.cdf_format.specs.Chains.{IsChain}
+use Rattle.cdf_format.specs.Bytes.{Same}
+use Rattle.cdf_format.specs.Chains.{is_in, IsChain}
 use Rattle.cdf_format.specs.Fields.{number, size_at, type_at, gdr_offset, with_field}
-use Rattle.cdf_format.specs.Owners.{times, owned_records, unused_records}
+use Rattle.cdf_format.specs.Owners.{variable_records, times, owned_records, unused_records}
 use Rattle.cdf_format.specs.Records.{Field, gdr_uir_head, vdr_num}
 use Rattle.cdf_format.specs.RecordTypes.{gdr_type, uir_type}
 use Rattle.cdf_format.specs.Shape.{VariableShape, Shape, vdrs, Each, HasShape, shape}
 use Rattle.cdf_format.specs.Sound.{IsSound}
 use Rattle.cdf_format.specs.Tiles.{In, AreTiles, Distinct}
 use Rattle.cdf_format.specs.WellFormed.{Good}
+use Rattle.cdf_format.proofs.BytesLemmas.{Same-part}
 use Rattle.cdf_format.proofs.GoodImageLemmas.{vdrs_append}
-use Rattle.cdf_format.proofs.GoodSound.{good_by_its_shape, good_is_sound}
+use Rattle.cdf_format.proofs.GoodSound.{good_is_sound}
 use Rattle.cdf_format.proofs.Members.{Distinct-back, Distinct-middle}
-use Rattle.cdf_format.proofs.ShapeLemmas.{Each-split, shape_is}
+use Rattle.cdf_format.proofs.ShapeLemmas.{shape_is}
 use Rattle.cdf_fields.proofs.Writes.{length-with_field}
 use Rattle.cdf_edits.specs.Commands.Allowances.{shapes_of}
+use Rattle.cdf_edits.specs.Commands.Variables.{freed_with_variable}
 use Rattle.cdf_edits.specs.Edits.Edit.{Edit}
 use Rattle.cdf_edits.specs.Edits.ManyMarks.{freeing_marks}
-use Rattle.cdf_edits.specs.Edits.Marks.{Among, Mark, mark, avoided, keeps_file, field_marks, removing_marks}
+use Rattle.cdf_edits.specs.Edits.Marks.{Among, Mark, mark, all_unmarked, avoided, keeps_file, field_marks, index_types, removing_marks}
 use Rattle.cdf_edits.specs.Edits.RemovesVariable.{UnlinksVariable, numbers_on, r_max_writes, r_max_marks, greatest_at, variable_unlinking_marks, variable_removing_marks}
 use Rattle.cdf_edits.specs.Edits.Writes.{Write, write, with_writes}
+use Rattle.cdf_edits.specs.Space.Acts.{links_end}
 use Rattle.cdf_edits.specs.Space.Chains.{holder_of, head_of, count_of, type_in, without}
 use Rattle.cdf_edits.specs.Space.Freeing.{AreFree}
 use Rattle.cdf_edits.specs.Space.VariableChains.{variables_chain}
 use Rattle.cdf_edits.proofs.Edits.ChainsOfShape.{IsOf, remove_changed, left_chain}
 use Rattle.cdf_edits.proofs.Edits.Composing.{head_size, head_type, edit_then}
 use Rattle.cdf_edits.proofs.Edits.FreedRecords.{edit_under}
-use Rattle.cdf_edits.proofs.Edits.MarkLemmas.{Avoids-split}
+use Rattle.cdf_edits.proofs.Edits.MarkLemmas.{Avoids-split, all_unmarked-away}
 use Rattle.cdf_edits.proofs.Edits.OwnedOnce.{unused_none}
-use Rattle.cdf_edits.proofs.Edits.PlainVariables.{IsPlain, are_plain}
-use Rattle.cdf_edits.proofs.Edits.RecordFrame.{chain_clear, field_clear, gdr_place, through}
+use Rattle.cdf_edits.proofs.Edits.OwnVariable.{freed_mine, freed_once, own_typed}
+use Rattle.cdf_edits.proofs.Edits.RecordFrame.{chain_clear, field_clear, gdr_place, kept_away, through}
 use Rattle.cdf_edits.proofs.Edits.StepEdits.{Linked, gdr_in, gdr_typed, gdr_long, some_bytes, remove_edit}
-use Rattle.cdf_edits.proofs.Edits.TakenVariable.{AreNumberedOn, TakesVariable, SaysTaken, without_variable, vdr_there, back_in, own_in, vdrs_were, sound_taken, less_twice, none_left}
+use Rattle.cdf_edits.proofs.Edits.TakenVariable.{AreNumberedOn, TakesVariable, SaysTaken, without_variable, vdr_there, back_in, own_in, own_stand, ours, vdr_avoids, vdr_record, vdrs_were, sound_taken, less_twice, none_left}
 use Rattle.cdf_edits.proofs.Edits.UnlinkedAttribute.{without-middle}
-use Rattle.cdf_edits.proofs.Edits.VariableKinds.{kind_ours, kind_chain, in_gdr}
+use Rattle.cdf_edits.proofs.Edits.VariableFrame.{index_typed}
+use Rattle.cdf_edits.proofs.Edits.VariableKept.{only_variable}
+use Rattle.cdf_edits.proofs.Edits.VariableKinds.{kind_chain, in_gdr}
 use Rattle.cdf_edits.proofs.Edits.WrittenFields.{MayWrite, written_tiles, may_after, write_lies, write_edit, writes_edit, writes_say}
 use Rattle.cdf_edits.proofs.Frame.OwnersApart.{owned-times, file_records, all_attribute_records, all_variable_records}
+use Rattle.cdf_edits.proofs.Space.UsedRecords.{filter-keeps}
 
 -- ---- by the kind
 
@@ -69,6 +77,7 @@ pub record UnlinkingTests (kind : Kind) (gdr : ℕ) (members behind : List ℕ) 
   pub all_start : avoided (variable_unlinking_marks kind gdr members behind) gdr_type 0 12 ≡ true
   pub all_list : avoided (variable_unlinking_marks kind gdr members behind) gdr_type 64 72 ≡ true
   pub early_r_max : avoided (removing_marks gdr_type gdr (head_of (variables_chain kind)) (type_in (variables_chain kind)) members ++ counting_marks kind gdr behind) gdr_type 52 56 ≡ true
+  pub index_clear : all_unmarked (variable_unlinking_marks kind gdr members behind) index_types ≡ true
   pub early_start : avoided (removing_marks gdr_type gdr (head_of (variables_chain kind)) (type_in (variables_chain kind)) members ++ counting_marks kind gdr behind) gdr_type 0 12 ≡ true
 
 pub unlinking_tests : (kind : Kind) (gdr : ℕ) (members behind : List ℕ) → UnlinkingTests kind gdr members behind
@@ -91,6 +100,7 @@ unlinking_tests R gdr members behind = record {
   all_start = refl;
   all_list = refl;
   early_r_max = refl;
+  index_clear = refl;
   early_start = refl;
 }
 unlinking_tests Z gdr members behind = record {
@@ -112,6 +122,7 @@ unlinking_tests Z gdr members behind = record {
   all_start = refl;
   all_list = refl;
   early_r_max = refl;
+  index_clear = refl;
   early_start = refl;
 }
 
@@ -181,9 +192,6 @@ module _ {b mid : List ℕ} {kind : Kind} {before : List VariableShape} {own : V
   t : UnlinkingTests kind s.gdr members (vdrs after)
   t = unlinking_tests kind s.gdr members (vdrs after)
 
-  pub all_plain : Each IsPlain before × (IsPlain own × Each IsPlain after)
-  all_plain = Each-split IsPlain before (own ∷ after) (subst (Each IsPlain) u.was (are_plain (good_by_its_shape b good) (shapes_of s kind) (kind_ours b s sound kind)))
-
   -- the chain, as calls speak of it
   pub is_of : IsOf b s (variables_chain kind) s.gdr members
   is_of = record { holder_is = in_holder kind b ∙ h.gdr_is; chain = kind_chain kind h }
@@ -197,11 +205,9 @@ module _ {b mid : List ℕ} {kind : Kind} {before : List VariableShape} {own : V
   -- an edit of nothing, which says where the VDRs stand
   stands : TakesVariable b u.first s kind before own after [] 0
   stands = record {
-    edit = edit_under e_first (variable_removing_marks kind s.gdr members (vdrs after) s.unused [] 0) (λ m type lo hi i is a. (Avoids-split (removing_marks gdr_type s.gdr head (type_in (variables_chain kind)) members) (counting_marks kind s.gdr (vdrs after) ++ r_max_marks kind s.gdr) type m lo hi (Avoids-split (variable_unlinking_marks kind s.gdr members (vdrs after)) (freeing_marks (type_in (variables_chain kind) ∷ []) s.unused [] 0) type m lo hi a).0).0);
+    edit = edit_under e_first (variable_removing_marks kind s.gdr members (vdrs after) s.unused [] 0) (λ m type lo hi i is a. (Avoids-split (removing_marks gdr_type s.gdr head (type_in (variables_chain kind)) members) (counting_marks kind s.gdr (vdrs after) ++ r_max_marks kind s.gdr) type m lo hi (Avoids-split (variable_unlinking_marks kind s.gdr members (vdrs after)) (freeing_marks (type_in (variables_chain kind) ∷ index_types) s.unused [] 0) type m lo hi a).0).0);
     was = u.was;
     mine = λ m i. absurd i;
-    own_plain = all_plain.1.0;
-    after_plain = all_plain.1.1;
   }
 
   may_number : (n : ℕ) (xs : List ℕ) → ((m : ℕ) → In m xs → In m (vdrs after)) → Each (MayWrite b s.records (counting_marks kind s.gdr (vdrs after))) (numbers_on n xs)
@@ -251,11 +257,9 @@ module _ {b mid : List ℕ} {kind : Kind} {before : List VariableShape} {own : V
 
   pub unlinks_takes : (limit : ℕ) → TakesVariable b mid s kind before own after [] limit
   unlinks_takes limit = record {
-    edit = edit_under unlinked_edit (variable_removing_marks kind s.gdr members (vdrs after) s.unused [] limit) (λ m type lo hi i is a. (Avoids-split (variable_unlinking_marks kind s.gdr members (vdrs after)) (freeing_marks (type_in (variables_chain kind) ∷ []) s.unused [] limit) type m lo hi a).0);
+    edit = edit_under unlinked_edit (variable_removing_marks kind s.gdr members (vdrs after) s.unused [] limit) (λ m type lo hi i is a. (Avoids-split (variable_unlinking_marks kind s.gdr members (vdrs after)) (freeing_marks (type_in (variables_chain kind) ∷ index_types) s.unused [] limit) type m lo hi a).0);
     was = u.was;
     mine = λ m i. absurd i;
-    own_plain = all_plain.1.0;
-    after_plain = all_plain.1.1;
   }
 
   pub as_long : length mid ≡ length b
@@ -346,23 +350,54 @@ module _ {b mid : List ℕ} {kind : Kind} {before : List VariableShape} {own : V
   pub own_there : In own.vdr s.records × ((type_at b own.vdr ≡ type) × (340 ≤ size_at b own.vdr))
   own_there = vdr_there sound stands own.vdr (own_in sound stands)
 
-  -- it can be freed
-  pub own_stands : In own.vdr (shape mid).records
-  own_stands = subst (λ (x : Shape). In own.vdr x.records) (sym unlinked_shape) own_there.0
+  -- a record of it still stands, and has the bytes of its head
+  pub mine_in : (m : ℕ) → In m (variable_records own) → In m s.records
+  mine_in = own_stand sound stands
 
-  pub own_unowned : times own.vdr (owned_records mid (shape mid)) ≡ 0
-  own_unowned =
-      let used : type_at mid own.vdr ≢ uir_type = λ x. t.no_uir (sym own_there.1.0 ∙ sym (types_stay own.vdr own_there.0) ∙ x) in
-      let none = unused_none mid left_shape unlinked_sound.has_shape.tiled own.vdr used in
-      subst (λ (x : Shape). times own.vdr (owned_records mid x) ≡ 0) (sym unlinked_shape)
-      (gone (times own.vdr (owned_records mid left_shape)) (times own.vdr (file_records left_shape)) (times own.vdr (all_attribute_records left_shape)) (times own.vdr (all_variable_records left_shape)) (times own.vdr (unused_records mid left_shape)) (owned-times mid left_shape own.vdr) (none_left sound (unlinks_takes 0) (unlinks_says 0)) none)
+  pub mine_used : (m : ℕ) → In m (variable_records own) → type_at b m ≢ uir_type
+  mine_used m i t = (only_variable sound kind before own after u.was m i).in_unused (filter-keeps (λ (p : ℕ). type_at b p == uir_type) s.records m (mine_in m i) (eq-eqb (type_at b m) uir_type t))
+
+  pub mine_sized : (m : ℕ) → In m (variable_records own) → size_at mid m ≡ size_at b m
+  mine_sized m i = head_size b mid m (unlinked_edit.head m (mine_in m i) (mine_used m i) (λ r. r))
+
+  pub mine_typed : (m : ℕ) → In m (variable_records own) → is_in (type_at mid m) (type_in (variables_chain kind) ∷ index_types) ≡ true
+  mine_typed m i = ap (λ (x : ℕ). is_in x (type_in (variables_chain kind) ∷ index_types)) (types_stay m (mine_in m i)) ∙ own_typed sound kind before own after u.was m i
+
+  -- behind the links of an unused record it has its bytes
+  pub unlinked_behind : (m : ℕ) → In m (variable_records own) → Same b mid (m + links_end (size_at b m)) (m + size_at b m)
+  unlinked_behind m (inl e) = subst (λ (x : ℕ). Same b mid (x + links_end (size_at b x)) (x + size_at b x)) (sym e) vdr_behind
+    where
+      long_enough : (k : ℕ) → 28 ≤ k → links_end k ≡ 28
+      long_enough k l = rw (le-leb 28 k l) refl
+
+      vdr_behind : Same b mid (own.vdr + links_end (size_at b own.vdr)) (own.vdr + size_at b own.vdr)
+      vdr_behind =
+          let v = own.vdr in
+          let long = own_there.1.1 in
+          let out : In v (vdrs after) → ⊥ = λ i. (only_variable sound kind before own after u.was v (inl refl)).in_after (vdr_record after v i) in
+          let avoids = vdr_avoids kind s.gdr members (vdrs after) s.unused [] 0 v in
+          let here : Same b mid (v + 28) (v + size_at b v) = (unlinks_takes 0).edit.part v type 28 (size_at b v) own_there.0 own_there.1.0 (avoids 0 12 (λ i. i) (inl (omega arith)) (λ i. absurd (out i))) (avoids 28 (size_at b v) (λ i. i) (inr (omega arith)) (λ i. absurd (out i))) (omega arith) in
+          subst (λ (k : ℕ). Same b mid (v + k) (v + size_at b v)) (sym (long_enough (size_at b v) (omega arith))) here
+  unlinked_behind m (inr i) =
+      let ours_own = (ours sound stands).1 in
+      let away = all_unmarked-away (variable_unlinking_marks kind s.gdr members (vdrs after)) index_types (type_at b m) m t.index_clear (index_typed b s own ours_own.has.0 ours_own.fits.0 m i) in
+      let kept = kept_away unlinked_edit m (type_at b m) (mine_in m (inr i)) refl away in
+      Same-part b mid m (m + size_at b m) (m + links_end (size_at b m)) (m + size_at b m) kept.same (omega arith) (omega arith)
+
+  -- and can be freed
+  mine_unowned : (m : ℕ) → In m (variable_records own) → times m (owned_records mid (shape mid)) ≡ 0
+  mine_unowned m i =
+      let used : type_at mid m ≢ uir_type = λ x. mine_used m i (sym (types_stay m (mine_in m i)) ∙ x) in
+      let none = unused_none mid left_shape unlinked_sound.has_shape.tiled m used in
+      subst (λ (x : Shape). times m (owned_records mid x) ≡ 0) (sym unlinked_shape)
+      (gone (times m (owned_records mid left_shape)) (times m (file_records left_shape)) (times m (all_attribute_records left_shape)) (times m (all_variable_records left_shape)) (times m (unused_records mid left_shape)) (owned-times mid left_shape m) (none_left sound (unlinks_takes 0) (unlinks_says 0) m i) none)
     where
       gone : (n f a v r : ℕ) → n ≡ f + (a + (v + r)) → f + (a + v) ≡ 0 → r ≡ 0 → n ≡ 0
       gone n f a v r p q e = omega arith
 
-  pub own_free : AreFree mid (own.vdr ∷ [])
+  pub own_free : AreFree mid (freed_with_variable own)
   own_free = record {
-    stand = λ m i. elim i [ inl q ↦ subst (λ (x : ℕ). In x (shape mid).records) (sym q) own_stands | inr none ↦ absurd none ];
-    unowned = λ m i. elim i [ inl q ↦ subst (λ (x : ℕ). times x (owned_records mid (shape mid)) ≡ 0) (sym q) own_unowned | inr none ↦ absurd none ];
-    once = ((λ i. i), tt);
+    stand = λ m i. subst (λ (x : Shape). In m x.records) (sym unlinked_shape) (mine_in m (freed_mine own m i));
+    unowned = λ m i. mine_unowned m (freed_mine own m i);
+    once = freed_once sound kind before own after u.was;
   }

@@ -14,10 +14,10 @@ use Rattle.cdf_model.specs.Names.{Found}
 use Rattle.cdf_format.specs.Bytes.{Same, byte}
 use Rattle.cdf_format.specs.Content.{attribute_of}
 use Rattle.cdf_format.specs.Fields.{number, integer4, size_at}
-use Rattle.cdf_format.specs.Owners.{attribute_records}
+use Rattle.cdf_format.specs.Owners.{attribute_records, variable_records}
 use Rattle.cdf_format.specs.Records.{aedr_num}
 use Rattle.cdf_format.specs.RecordTypes.{adr_type, fixed_size, uir_type}
-use Rattle.cdf_format.specs.Shape.{AttributeShape, Shape, Each, HasEntries, shape, vdrs}
+use Rattle.cdf_format.specs.Shape.{AttributeShape, VariableShape, Shape, Each, HasEntries, shape, vdrs}
 use Rattle.cdf_format.specs.Tiles.{In, AreTiles}
 use Rattle.cdf_format.specs.WellFormed.{Good}
 use Rattle.cdf_format.proofs.BytesLemmas.{integer_kept, number_kept}
@@ -36,13 +36,14 @@ use Rattle.cdf_edits.proofs.Edits.ChainKinds.{chain_has, chain_in}
 use Rattle.cdf_edits.proofs.Edits.FreedBytes.{freed_stay}
 use Rattle.cdf_edits.proofs.Edits.FreedRecords.{sizes_by_tiles}
 use Rattle.cdf_edits.proofs.Edits.MarkLemmas.{avoided-avoids, ended-avoids}
-use Rattle.cdf_edits.proofs.Edits.PlainVariables.{plain_freed}
-use Rattle.cdf_edits.proofs.Edits.RemovedVariable.{sound, takes, says, behind, own_plain, own_is, shape_after}
+use Rattle.cdf_edits.proofs.Edits.OwnVariable.{freed_mine}
+use Rattle.cdf_edits.proofs.Edits.RemovedVariable.{sound, takes, says, behind, shape_after}
 use Rattle.cdf_edits.proofs.Edits.StepEdits.{fixed_long}
-use Rattle.cdf_edits.proofs.Edits.TakenVariable.{splices, own_in}
-use Rattle.cdf_edits.proofs.Edits.VariableDeletion.{long_deleted, records_deleted, sizes_mid}
+use Rattle.cdf_edits.proofs.Edits.TakenVariable.{splices}
+use Rattle.cdf_edits.proofs.Edits.VariableDeletion.{long_deleted, own_in, records_deleted, sizes_mid}
 use Rattle.cdf_edits.proofs.Edits.VariableSplice.{attributes_kept, attributes_stay}
 use Rattle.cdf_edits.proofs.Frame.Meaning.{Kept}
+use Rattle.cdf_edits.proofs.Frame.OwnersApart.{flat-append}
 
 -- ---- an attribute of a list
 
@@ -141,27 +142,18 @@ module _ {b mid now : List ℕ} {found : Found} (good : Good b) (drops : DropsEn
 
   -- ---- what is freed
 
-  freed_places : List ℕ
-  freed_places = entries_for b (shape b).attributes found ++ freed_with_variable d.own
+  one_of : (m : ℕ) → In m (entries_for b (shape b).attributes found ++ freed_with_variable d.own) → In m (entries_for b (shape b).attributes found) ⊎ In m (freed_with_variable d.own)
+  one_of m i = In-append m (entries_for b (shape b).attributes found) (freed_with_variable d.own) i
 
-  one_of : (m : ℕ) → In m (entries_for b (shape b).attributes found ++ freed_with_variable d.own) → In m (entries_for b (shape b).attributes found) ⊎ (m ≡ d.own.vdr)
-  one_of m i = elim (In-append m (entries_for b (shape b).attributes found) (freed_with_variable d.own) i) [
-    | inl j ↦ inl j
-    | inr j ↦ inr (only (subst (In m) (plain_freed (own_plain drops.good d)) j))
-  ]
-    where
-      only : In m (d.own.vdr ∷ []) → m ≡ d.own.vdr
-      only (inl q) = q
-      only (inr none) = absurd none
-
-  pub own_vdr_in : In d.own.vdr (vdrs (shapes_of (shape b) found.kind))
-  own_vdr_in = subst (λ (vs : List _). In d.own.vdr (vdrs vs)) (drops.variables_are found.kind) (own_in (sound drops.good d) (takes drops.good d))
-
-  own_in_b : In d.own.vdr (shape b).records
-  own_in_b = subst (In d.own.vdr) drops.records_are (own_is drops.good d).0
+  -- a record of the variable is one of the variables of its kind
+  own_among : (m : ℕ) → In m (freed_with_variable d.own) → In m (flat_map variable_records (shapes_of (shape b) found.kind))
+  own_among m i =
+      let mine = In-append_right m (flat_map variable_records d.before) (variable_records d.own ++ flat_map variable_records d.after) (In-append_left m (variable_records d.own) (flat_map variable_records d.after) (freed_mine d.own m i)) in
+      let there : In m (flat_map variable_records (d.before ++ d.own ∷ d.after)) = subst (In m) (sym (flat-append variable_records d.before (d.own ∷ d.after))) mine in
+      subst (λ (vs : List VariableShape). In m (flat_map variable_records vs)) (sym d.unlinks.was ∙ drops.variables_are found.kind) there
 
   places_in : (m : ℕ) → In m (entries_for b (shape b).attributes found ++ freed_with_variable d.own) → In m (shape b).records
-  places_in m i = elim (one_of m i) [ inl j ↦ (drops.dropped m j).stands | inr q ↦ subst (λ (x : ℕ). In x (shape b).records) (sym q) own_in_b ]
+  places_in m i = elim (one_of m i) [ inl j ↦ (drops.dropped m j).stands | inr j ↦ own_in good drops d m j ]
 
   sizes_now : (m : ℕ) → In m (shape b).records → size_at now m ≡ size_at b m
   sizes_now =
@@ -174,21 +166,20 @@ module _ {b mid now : List ℕ} {found : Found} (good : Good b) (drops : DropsEn
   entry_behind : (m : ℕ) → In m (entries_for b (shape b).attributes found) → Same b now (m + links_end (size_at b m)) (m + size_at b m)
   entry_behind m i =
       let x = drops.dropped m i in
-      let t = unused_tests found.kind (shape mid).gdr (vdrs (shapes_of (shape mid) found.kind)) (vdrs d.after) (shape mid).unused (d.own.vdr ∷ []) (length d.mid) in
+      let t = unused_tests found.kind (shape mid).gdr (vdrs (shapes_of (shape mid) found.kind)) (vdrs d.after) (shape mid).unused (freed_with_variable d.own) (length d.mid) in
       let e = (takes drops.good d).edit in
       let size = sizes_mid good drops d m x.stands in
       let inside : In m (shape mid).records = subst (In m) (sym drops.records_are) x.stands in
-      let marks = variable_removing_marks found.kind (shape mid).gdr (vdrs (shapes_of (shape mid) found.kind)) (vdrs d.after) (shape mid).unused (d.own.vdr ∷ []) (length d.mid) in
+      let marks = variable_removing_marks found.kind (shape mid).gdr (vdrs (shapes_of (shape mid) found.kind)) (vdrs d.after) (shape mid).unused (freed_with_variable d.own) (length d.mid) in
       let later : Same mid now (m + 28) (m + size_at b m) = e.part m uir_type 28 (size_at b m) inside x.freed (avoided-avoids marks uir_type m 0 12 t.start) (ended-avoids marks uir_type m 28 (size_at b m) t.end) (omega arith) in
       subst (λ (k : ℕ). Same b now (m + k) (m + size_at b m)) (sym (long_enough (size_at b m) x.long)) (record { each = λ k l u. later.each k l u ∙ x.behind.each k l u })
 
-  vdr_behind : Same b now (d.own.vdr + links_end (size_at b d.own.vdr)) (d.own.vdr + size_at b d.own.vdr)
-  vdr_behind =
-      let v = d.own.vdr in
-      let size = sizes_mid good drops d v own_in_b in
-      let later = subst (λ (k : ℕ). Same mid now (v + links_end k) (v + k)) size (behind drops.good d) in
-      let first = drops.vdr_kept found.kind v own_vdr_in in
-      record { each = λ k l u. later.each k l u ∙ here v k (size_at b v) (links_end (size_at b v)) first.same l u }
+  own_behind : (m : ℕ) → In m (freed_with_variable d.own) → Same b now (m + links_end (size_at b m)) (m + size_at b m)
+  own_behind m i =
+      let size = sizes_mid good drops d m (own_in good drops d m i) in
+      let later = subst (λ (k : ℕ). Same mid now (m + links_end k) (m + k)) size (behind drops.good d m i) in
+      let first = drops.variables_kept found.kind m (own_among m i) in
+      record { each = λ k l u. later.each k l u ∙ here m k (size_at b m) (links_end (size_at b m)) first.same l u }
     where
       here : (v k s p : ℕ) → ((i : ℕ) → i < s → Unit {0} → byte mid (v + i) ≡ byte b (v + i)) → v + p ≤ k → k < v + s → byte mid k ≡ byte b k
       here v k s p same l u =
@@ -200,4 +191,4 @@ module _ {b mid now : List ℕ} {found : Found} (good : Good b) (drops : DropsEn
       (subst (AreTiles now 8 (length now)) (sym (records_deleted good drops d)) (subst (AreTiles now 8 (length now)) drops.records_are (takes drops.good d).edit.tiled_now))
       (λ m i. subst (In m) (sym (records_deleted good drops d)) (places_in m i))
       (λ m i. sizes_now m (places_in m i))
-      (λ m i. elim (one_of m i) [ inl j ↦ entry_behind m j | inr q ↦ subst (λ (x : ℕ). Same b now (x + links_end (size_at b x)) (x + size_at b x)) (sym q) vdr_behind ])
+      (λ m i. elim (one_of m i) [ inl j ↦ entry_behind m j | inr j ↦ own_behind m j ])

@@ -19,17 +19,16 @@ use Rattle.cdf_format.specs.WellFormed.{Good}
 use Rattle.cdf_format.proofs.GoodSound.{good_is_sound}
 use Rattle.cdf_edits.specs.Commands.Variables.{RMaxRecOf, entries_for, freed_with_variable}
 use Rattle.cdf_edits.specs.Edits.DropsEntries.{DropsEntries}
-use Rattle.cdf_edits.specs.Edits.Marks.{unmarked}
+use Rattle.cdf_edits.specs.Edits.Marks.{index_types, unmarked}
 use Rattle.cdf_edits.specs.Edits.RemovesVariable.{RemovesVariable, variable_unlinking_marks}
 use Rattle.cdf_edits.specs.Commands.Allowances.{shapes_of}
 use Rattle.cdf_edits.specs.Space.Chains.{type_in}
 use Rattle.cdf_edits.specs.Space.VariableChains.{variables_chain}
 use Rattle.cdf_edits.specs.Space.Acts.{Act, Gave, gave, taken, ActsFollow}
 use Rattle.cdf_edits.proofs.Edits.ActsStill.{acts_still_by}
-use Rattle.cdf_edits.proofs.Edits.ActsThen.{all_gave}
+use Rattle.cdf_edits.proofs.Edits.ActsThen.{all_gave, gave-same}
 use Rattle.cdf_edits.proofs.Edits.FreedRecords.{sizes_by_tiles}
-use Rattle.cdf_edits.proofs.Edits.PlainVariables.{plain_freed}
-use Rattle.cdf_edits.proofs.Edits.RemovedVariable.{given, may_free, size_before, own_plain, own_is, content_after, good_after, long_now, records_are, r_max_after}
+use Rattle.cdf_edits.proofs.Edits.RemovedVariable.{may_free, places_in, sizes_before, content_after, good_after, long_now, records_are, r_max_after}
 use Rattle.cdf_edits.proofs.Edits.UnlinkedVariable.{as_long, mid_sound, unlinked_edit, unlinked_shape}
 
 -- ---- the step
@@ -53,14 +52,11 @@ module _ {b mid now : List ℕ} {found : Found} (good : Good b) (drops : DropsEn
   h : HasShape b (shape b)
   h = (good_is_sound b good).has_shape
 
-  abbrev places : List ℕ
-  places = entries_for b (shape b).attributes found ++ d.own.vdr ∷ []
-
   abbrev pub acts : List Act
   acts = gave b (entries_for b (shape b).attributes found ++ freed_with_variable d.own)
 
-  acts_are : gave b (entries_for b (shape b).attributes found ++ freed_with_variable d.own) ≡ gave b (entries_for b (shape b).attributes found) ++ gave b (d.own.vdr ∷ [])
-  acts_are = ap (λ (xs : List ℕ). gave b (entries_for b (shape b).attributes found ++ xs)) (plain_freed (own_plain drops.good d)) ∙ map-append (λ (place : ℕ). Gave place (size_at b place)) (entries_for b (shape b).attributes found) (d.own.vdr ∷ [])
+  acts_are : gave b (entries_for b (shape b).attributes found ++ freed_with_variable d.own) ≡ gave b (entries_for b (shape b).attributes found) ++ gave b (freed_with_variable d.own)
+  acts_are = map-append (λ (place : ℕ). Gave place (size_at b place)) (entries_for b (shape b).attributes found) (freed_with_variable d.own)
 
   -- ---- the content
 
@@ -87,8 +83,8 @@ module _ {b mid now : List ℕ} {found : Found} (good : Good b) (drops : DropsEn
   pub sizes_mid : (m : ℕ) → In m (shape b).records → size_at mid m ≡ size_at b m
   sizes_mid = sizes_by_tiles b mid 8 8 (length b) (shape b).records refl h.tiled (subst (λ (k : ℕ). AreTiles mid 8 k (shape b).records) drops.long (subst (AreTiles mid 8 (length mid)) drops.records_are (good_is_sound mid drops.good).has_shape.tiled))
 
-  pub own_in : In d.own.vdr (shape b).records
-  own_in = subst (In d.own.vdr) drops.records_are (own_is drops.good d).0
+  pub own_in : (m : ℕ) → In m (freed_with_variable d.own) → In m (shape b).records
+  own_in m i = subst (In m) drops.records_are (places_in drops.good d m i)
 
   unlinked_acts : ActsFollow b d.mid (gave b (entries_for b (shape b).attributes found))
   unlinked_acts =
@@ -97,9 +93,9 @@ module _ {b mid now : List ℕ} {found : Found} (good : Good b) (drops : DropsEn
 
   pub acts_deleted : ActsFollow b now (gave b (entries_for b (shape b).attributes found ++ freed_with_variable d.own))
   acts_deleted =
-      let all = all_gave b d.mid now (gave b (entries_for b (shape b).attributes found)) (type_in (variables_chain found.kind) ∷ []) (d.own.vdr ∷ []) h unlinked_acts (mid_sound drops.good d.unlinks) (may_free drops.good d) (given drops.good d) in
-      let size : size_at d.mid d.own.vdr ≡ size_at b d.own.vdr = size_before drops.good d ∙ sizes_mid d.own.vdr own_in in
-      subst (ActsFollow b now) (ap (λ (n : ℕ). gave b (entries_for b (shape b).attributes found) ++ Gave d.own.vdr n ∷ []) size ∙ sym acts_are) all
+      let all = all_gave b d.mid now (gave b (entries_for b (shape b).attributes found)) (type_in (variables_chain found.kind) ∷ index_types) (freed_with_variable d.own) h unlinked_acts (mid_sound drops.good d.unlinks) (may_free drops.good d) d.given in
+      let sizes = gave-same b d.mid (freed_with_variable d.own) (λ m i. sizes_before drops.good d m i ∙ sizes_mid m (own_in m i)) in
+      subst (ActsFollow b now) (ap (λ (xs : List Act). gave b (entries_for b (shape b).attributes found) ++ xs) sizes ∙ sym acts_are) all
 
   -- ---- rMaxRec
 
