@@ -10,3 +10,5 @@ pub mod GoodBlock
 pub mod ChainWalk
 pub mod Collected
 pub mod Measured
+pub mod PlainBlocks
+pub mod StoredRecords

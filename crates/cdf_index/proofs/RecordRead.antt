@@ -13,7 +13,7 @@ use Rattle.cdf_index.specs.declared.nodes.Leaf.{Leaf}
 use Rattle.cdf_index.specs.Reading.{HoldsRecords, record_in}
 use Rattle.cdf_index.specs.Sight.{seen}
 
-signed : (n : ℕ) → n ≤ record_number_limit → with_sign n ≡ pos n
+pub signed : (n : ℕ) → n ≤ record_number_limit → with_sign n ≡ pos n
 signed n h = let t : ltb n (2 ^ 31) ≡ true = grind (arith, nat_tests) in rw t refl
 
 counted_less : (a b : ℕ) → counted (pos a -ℤ pos b) ≡ a - b
