@@ -9,6 +9,9 @@ pub mod Walking
 pub mod GoodBlock
 pub mod ChainWalk
 pub mod Collected
+pub mod EntryWritten
+pub mod Inserting
 pub mod Measured
+pub mod NodeMade
 pub mod PlainBlocks
 pub mod StoredRecords

@@ -4,5 +4,6 @@ pub mod Sight
 pub mod Reading
 pub mod Next
 pub mod Ahead
-pub mod Whole
 pub mod Sizes
+pub mod Whole
+pub mod Writing

@@ -1,0 +1,45 @@
+use Rattle.std.proofs.Common.{◌≡◌, ◌-◌, ◌<◌, ℕ, List, subst, ap, sym, refl, ◌∙◌, arith}
+use Rattle.std.proofs.lemmas.Result.{on_ok_weaker}
+use Rattle.cdf_area.proofs.Calls.{edit_more, edits_by_read}
+use Rattle.cdf_format.specs.Fields.{with_field}
+use Rattle.cdf_format.specs.Records.{vxr_n_used_entries}
+use Rattle.cdf_index.specs.Finding.{NodeInside}
+use Rattle.cdf_index.specs.Writing.{EntrySet}
+use Rattle.cdf_index.proofs.Inserting.{Shifted, shift_start, inside_stays, shift_more, inserted}
+use Rattle.cdf_index.proofs.entries.insert_entry.Goals as goal
+
+pub loop-moved-init : goal.loop-moved-init
+loop-moved-init g c = record { shifted = shift_start (g.A.Area.image c.args.area.now) c.args.at c.args.used; area = record { frame = refl; faults = refl }; far = omega arith }
+
+pub set_entry-requires-clause-inside : goal.set_entry-requires-clause-inside
+set_entry-requires-clause-inside g c =
+    let b = g.A.Area.image c.args.area.now in
+    let sh = c.loop-moved.invariant.shifted in
+    subst (λ (x : List ℕ). NodeInside x c.args.at) (sym c.in_ok-before.ensures.area.image) (inside_stays b (g.A.Area.image c.loop-moved.area) c.args.at _ sh.changed sh.as_long c.requires.inside)
+
+pub loop-moved-preserved : goal.loop-moved-preserved
+loop-moved-preserved g c =
+    let b = g.A.Area.image c.args.area.now in
+    let i = c.loop-moved.invariant in
+    let e = c.in_ok-before.ensures.area.image in
+    let room = c.requires.inside.room in
+    let full = c.requires.fits in
+    let set = subst (λ (x : List ℕ). EntrySet x (g.A.Area.image c.set_entry.new.area) c.args.at (c.args.used - c.loop-moved.moved) c.in_ok-before.before.first c.in_ok-before.before.last c.in_ok-before.before.place) e c.in_ok-set_entry.ensures.set in
+    record {
+      shifted = shift_more b (g.A.Area.image c.loop-moved.area) (g.A.Area.image c.set_entry.new.area) c.args.at c.args.used c.loop-moved.moved c.in_ok-before.before.first c.in_ok-before.before.last c.in_ok-before.before.place
+          i.shifted (omega arith) (subst (λ (x : ℕ). c.args.used < x) c.requires.room full) (let t = c.loop-moved-test.true in omega arith) c.in_ok-before.ensures.value set;
+      area = edit_more (edit_more i.area (edits_by_read c.in_ok-before.ensures.area)) c.in_ok-set_entry.ensures.area;
+      far = let t = c.loop-moved-test.true in omega arith;
+    }
+
+pub returns-clause-inserted : goal.returns-clause-inserted
+returns-clause-inserted g c =
+    let b = g.A.Area.image c.args.area.now in
+    let mid = g.A.Area.image c.loop-moved.area in
+    let i = c.loop-moved.invariant in
+    let full = c.requires.fits in
+    let room = c.requires.inside.room in
+    let end : c.loop-moved.moved ≡ c.args.used - c.args.p = let far = i.far in let t = c.loop-moved-test.false in omega arith in
+    let sh : Shifted b mid c.args.at c.args.used (c.args.used - c.args.p) = subst (λ (k : ℕ). Shifted b mid c.args.at c.args.used k) end i.shifted in
+    on_ok_weaker _ (λ w. inserted b mid (g.A.Area.image c.set_entry-2.new.area) (g.A.Area.image c.set_unsigned4.new.area) c.args.at c.args.used c.args.p c.args.entry.first c.args.entry.last c.args.entry.place
+    sh c.requires.inside c.requires.short (subst (λ (x : ℕ). c.args.used < x) c.requires.room full) c.requires.place c.in_ok-set_entry-2.ensures.set (w ∙ ap (λ (n : ℕ). with_field (g.A.Area.image c.set_entry-2.new.area) c.args.at vxr_n_used_entries n) (omega arith))) c.set_unsigned4.ensures.ok

@@ -1,0 +1,71 @@
+-- What writes of entries leave of a node.
+use Rattle.std.specs.Prelude.{◌≡◌, ◌≢◌, ◌<◌, ◌≤◌, ℕ, suc, ◌+◌, ◌*◌, List, [], ◌∷◌, length, slice_get}
+use Rattle.std.specs.Option.{unwrap_or}
+use Rattle.cdf_edits.specs.Frame.Changed.{Changed, touch}
+use Rattle.cdf_format.specs.Chains.{next_of}
+use Rattle.cdf_format.specs.Fields.{size_at, type_at}
+use Rattle.cdf_format.specs.Index.{room_at, used_count}
+use Rattle.cdf_format.specs.IndexOf.{SaysEntry}
+use Rattle.cdf_format.specs.RecordTypes.{vxr_type}
+use Rattle.cdf_index.specs.Finding.{NodeInside}
+use Rattle.cdf_index.specs.declared.entries.Entry.{Entry}
+
+-- an entry says what another one said before
+abbrev pub StillSays : List ℕ → List ℕ → ℕ → ℕ → ℕ → Type 0
+StillSays b now at i j = (first last offset : ℕ) → SaysEntry b at i first last offset → SaysEntry now at j first last offset
+
+-- an entry that is not used is -1 throughout
+abbrev pub unused_entry : Entry
+unused_entry = record { first = 0xffffffff; last = 0xffffffff; place = 0xffffffffffffffff }
+
+abbrev pub entry_in : List Entry → ℕ → Entry
+entry_in entries i = unwrap_or (slice_get entries i) unused_entry
+
+-- one entry of a node was written
+pub record EntrySet (b now : List ℕ) (at i first last offset : ℕ) : Type 0 where
+  pub as_long : length now ≡ length b
+  pub changed : Changed b now (touch at 28 (16 * room_at b at) ∷ [])
+  pub here : SaysEntry now at i first last offset
+  pub others : (j : ℕ) → j < room_at b at → j ≢ i → StillSays b now at j j
+
+-- a node has one entry more, with number p; those behind the used ones stay, but for the first
+pub record Inserted (b now : List ℕ) (at used p first last offset : ℕ) : Type 0 where
+  pub as_long : length now ≡ length b
+  pub changed : Changed b now (touch at 24 (4 + 16 * room_at b at) ∷ [])
+  pub earlier : (j : ℕ) → j < p → StillSays b now at j j
+  pub here : SaysEntry now at p first last offset
+  pub later : (j : ℕ) → p ≤ j → j < used → StillSays b now at j (suc j)
+  pub unused : (j : ℕ) → used < j → j < room_at b at → StillSays b now at j j
+  pub room_stays : room_at now at ≡ room_at b at
+  pub used_is : used_count now at ≡ suc used
+
+-- a record has room for a node with just so many entries
+pub record HasRoomFor (b : List ℕ) (at room : ℕ) : Type 0 where
+  pub low : 8 ≤ at
+  pub inside : at + size_at b at ≤ length b
+  pub size_is : size_at b at ≡ 28 + 16 * room
+
+-- the fields of a node before its entries were written
+pub record HeadWritten (b now : List ℕ) (at room used next : ℕ) : Type 0 where
+  pub as_long : length now ≡ length b
+  pub changed : Changed b now (touch at 8 20 ∷ [])
+  pub type_is : type_at now at ≡ vxr_type
+  pub next_is : next_of now at ≡ next
+  pub room_is : room_at now at ≡ room
+  pub inside : NodeInside now at
+  pub used_is : used_count now at ≡ used
+
+-- the first so many entries of a node are these, and then unused ones
+abbrev pub SaysFirst : List ℕ → ℕ → List Entry → ℕ → Type 0
+SaysFirst now at entries n = (i : ℕ) → i < n → SaysEntry now at i (entry_in entries i).first (entry_in entries i).last (entry_in entries i).place
+
+-- a record became a node with these entries
+pub record NodeWritten (b now : List ℕ) (at room next : ℕ) (entries : List Entry) : Type 0 where
+  pub as_long : length now ≡ length b
+  pub changed : Changed b now (touch at 8 (20 + 16 * room) ∷ [])
+  pub type_is : type_at now at ≡ vxr_type
+  pub next_is : next_of now at ≡ next
+  pub room_is : room_at now at ≡ room
+  pub used_is : used_count now at ≡ length entries
+  pub inside : NodeInside now at
+  pub says : SaysFirst now at entries room

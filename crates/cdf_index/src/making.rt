@@ -1,0 +1,62 @@
+//! Nodes that are made of records taken for them.
+
+ghost use Rattle.std.specs.Prelude.{◌≡◌, ◌+◌, ◌≤◌, ◌<◌, length, OnOk};
+ghost use Rattle.cdf_area.specs.Calls.{Edits};
+ghost use Rattle.cdf_model.specs.Limits.{image_limit};
+ghost use Rattle.cdf_index.specs.Writing.{HasRoomFor, HeadWritten, NodeWritten, entry_in};
+
+use crate::entries::{Entry, UNUSED, set_entry};
+use cdf_area::{Area, AreaError};
+use cdf_format::fields::{RECORD_TYPE, VXR_N_ENTRIES, VXR_N_USED_ENTRIES, VXR_TYPE, VXR_VXR_NEXT};
+use cdf_records::{set_unsigned4, set_unsigned8};
+
+/// The entry with number `i` of a node that has these, -1 throughout behind them.
+fn entry_of(entries: &[Entry], i: u64) -> Entry
+    ensures { result ≡ entry_in entries.now i }
+{
+    match entries.get(i as usize) {
+        Some(entry) => *entry,
+        None => UNUSED,
+    }
+}
+
+/// Writes what a node says before its entries, with its type.
+fn write_head<A: Area>(
+    area: &mut A,
+    at: u64,
+    room: u64,
+    used: u64,
+    next: u64,
+) -> Result<(), AreaError>
+    requires place { HasRoomFor (A.image area.old) at room }
+    requires few { used ≤ room }
+    requires short { length (A.image area.old) ≤ image_limit }
+    ensures written { OnOk result (HeadWritten (A.image area.old) (A.image area.new) at room used next) }
+    ensures area { Edits A.frame A.faults area.old area.new result }
+{
+    set_unsigned4(area, at, RECORD_TYPE, VXR_TYPE)?;
+    set_unsigned8(area, at, VXR_VXR_NEXT, next)?;
+    set_unsigned4(area, at, VXR_N_ENTRIES, room as u32)?;
+    set_unsigned4(area, at, VXR_N_USED_ENTRIES, used as u32)
+}
+
+/// Makes a node of a record that has room for just so many entries: its fields, these entries, and -1 throughout in the others.
+pub fn write_node<A: Area>(
+    area: &mut A,
+    at: u64,
+    room: u64,
+    next: u64,
+    entries: &[Entry],
+) -> Result<(), AreaError>
+    requires place { HasRoomFor (A.image area.old) at room }
+    requires few { length entries.now ≤ room }
+    requires short { length (A.image area.old) ≤ image_limit }
+    ensures written { OnOk result (NodeWritten (A.image area.old) (A.image area.new) at room next entries.now) }
+    ensures area { Edits A.frame A.faults area.old area.new result }
+{
+    write_head(area, at, room, entries.len() as u64, next)?;
+    for i in 0..room {
+        set_entry(area, at, room, i, entry_of(entries, i))?;
+    }
+    Ok(())
+}
