@@ -13,5 +13,9 @@ pub mod EntryWritten
 pub mod Inserting
 pub mod Measured
 pub mod NodeMade
+pub mod IndexReplaced
+pub mod LeafMore
+pub mod NodeGrown
 pub mod PlainBlocks
+pub mod Saying
 pub mod StoredRecords

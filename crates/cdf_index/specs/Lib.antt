@@ -7,3 +7,6 @@ pub mod Ahead
 pub mod Sizes
 pub mod Whole
 pub mod Writing
+pub mod Growing
+pub mod Way
+pub mod Replacing

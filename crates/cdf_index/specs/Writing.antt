@@ -1,5 +1,5 @@
 -- What writes of entries leave of a node.
-use Rattle.std.specs.Prelude.{◌≡◌, ◌≢◌, ◌<◌, ◌≤◌, ℕ, suc, ◌+◌, ◌*◌, List, [], ◌∷◌, length, slice_get}
+use Rattle.std.specs.Prelude.{◌≡◌, ◌≢◌, ◌<◌, ◌≤◌, ℕ, suc, ◌+◌, ◌-◌, ◌*◌, max, List, [], ◌∷◌, length, slice_get}
 use Rattle.std.specs.Option.{unwrap_or}
 use Rattle.cdf_edits.specs.Frame.Changed.{Changed, touch}
 use Rattle.cdf_format.specs.Chains.{next_of}
@@ -38,6 +38,29 @@ pub record Inserted (b now : List ℕ) (at used p first last offset : ℕ) : Typ
   pub unused : (j : ℕ) → used < j → j < room_at b at → StillSays b now at j j
   pub room_stays : room_at now at ≡ room_at b at
   pub used_is : used_count now at ≡ suc used
+
+-- A full node was split: the entry with number p is new and its last one, those from p on stand in a node behind it, which goes on with the chain.
+pub record Split (b now : List ℕ) (at new used p first last offset : ℕ) : Type 0 where
+  pub earlier : (j : ℕ) → j < p → StillSays b now at j j
+  pub here : SaysEntry now at p first last offset
+  pub room_stays : room_at now at ≡ room_at b at
+  pub used_is : used_count now at ≡ suc p
+  pub next_is : next_of now at ≡ new
+  pub moved : (j f l o : ℕ) → p ≤ j → j < used → SaysEntry b at j f l o → SaysEntry now new (j - p) f l o
+  pub new_room : room_at now new ≡ max 7 (used - p)
+  pub new_used : used_count now new ≡ used - p
+  pub new_next : next_of now new ≡ next_of b at
+
+-- Behind a full node stands one with this entry alone, which goes on with the chain.
+pub record Chained (b now : List ℕ) (at new used first last offset : ℕ) : Type 0 where
+  pub stay : (j : ℕ) → j < used → StillSays b now at j j
+  pub room_stays : room_at now at ≡ room_at b at
+  pub used_is : used_count now at ≡ used
+  pub next_is : next_of now at ≡ new
+  pub here : SaysEntry now new 0 first last offset
+  pub new_room : room_at now new ≡ 7
+  pub new_used : used_count now new ≡ 1
+  pub new_next : next_of now new ≡ next_of b at
 
 -- a record has room for a node with just so many entries
 pub record HasRoomFor (b : List ℕ) (at room : ℕ) : Type 0 where

@@ -1,19 +1,34 @@
 //! What holds of an index, each law as the clause of a function.
 
-ghost use Rattle.std.specs.Prelude.{◌≡◌, ◌∷◌, ◌++◌, ◌≤◌, ℕ, List, Some, false};
+ghost use Rattle.std.specs.Prelude.{◌≡◌, ◌∷◌, ◌++◌, ◌≤◌, ℕ, List, Some, false, ◌≢◌, ◌+◌, ◌<◌, true, length, map};
 ghost use Rattle.cdf_format.specs.Content.{variable_of};
 ghost use Rattle.cdf_format.specs.Fields.{number};
 ghost use Rattle.cdf_format.specs.GoodImage.{IsGoodImage};
-ghost use Rattle.cdf_format.specs.Index.{Leaf as TreeLeaf, leaves_of};
+ghost use Rattle.cdf_format.specs.Index.{Leaf as TreeLeaf, Nodes, leaves_of, nodes_of, room_at, used_count};
+ghost use Rattle.cdf_edits.specs.Index.Blocks.{range, ranges_of, with_range};
+ghost use Rattle.cdf_edits.specs.Index.Grown.{with_leaf};
+ghost use Rattle.cdf_edits.specs.Frame.Leaves.{ChangedWithin};
+ghost use Rattle.cdf_edits.proofs.Frame.LinksStay.{SameHeads};
+ghost use Rattle.cdf_edits.proofs.Frame.Meaning.{Kept};
+ghost use Rattle.cdf_edits.proofs.Index.NodeEdited.{redo};
+ghost use Rattle.cdf_format.specs.Chains.{is_linkable};
+ghost use Rattle.cdf_format.specs.IndexOf.{HasNodes};
+ghost use Rattle.cdf_format.specs.Owners.{variable_records};
 ghost use Rattle.cdf_format.specs.Records.{vdr_vxr_head};
+ghost use Rattle.cdf_format.specs.RecordTypes.{vxr_type};
 ghost use Rattle.cdf_format.specs.Shape.{VariableShape, Shape, variables};
-ghost use Rattle.cdf_format.specs.Sound.{IsSound};
+ghost use Rattle.cdf_format.specs.Sound.{IsSound, NodeFits};
+ghost use Rattle.cdf_format.specs.Tiles.{In, Distinct};
 ghost use Rattle.cdf_format.specs.VariableFields.{record_bytes};
 ghost use Rattle.cdf_model.specs.Numbered.{item_at};
 ghost use Rattle.cdf_index.specs.Finding.{index_at, HasIndex};
+ghost use Rattle.cdf_index.specs.Growing.{with_new, Begins, MayName};
 ghost use Rattle.cdf_index.specs.Order.{leaf_of};
 ghost use Rattle.cdf_index.specs.Reading.{HoldsRecords, stored_in};
+ghost use Rattle.cdf_index.specs.Replacing.{with_variables, HasReplaced, IsReplaced, NewIndex};
 ghost use Rattle.cdf_index.specs.Sight.{seen};
+ghost use Rattle.cdf_index.specs.Way.{placed};
+ghost use Rattle.cdf_index.specs.Writing.{Inserted, Split, Chained};
 ghost use Rattle.cdf_index.specs.declared.nodes.Leaf.{Leaf};
 
 /// The index of a variable of a good image can be searched from the VXRhead of its VDR, and is the one that the shape has.
@@ -34,4 +49,22 @@ pub fn stored_record()
 /// The block that has a record of a variable of a good image is not packed.
 pub fn plain_block()
     ensures { (b : List ℕ) (s : Shape) (before : List VariableShape) (v : VariableShape) (after : List VariableShape) → IsGoodImage b s → IsSound b s → variables s ≡ before ++ v ∷ after → (rec : ℕ) (leaf : TreeLeaf) → leaf_of rec (leaves_of v.index) ≡ Some leaf → leaf.packed ≡ false }
+{}
+
+/// An index with one leaf more has the leaves that it had, and this one before the first that begins past it.
+pub fn leaf_more()
+    ensures leaves { (b : List ℕ) (head at : ℕ) (l : TreeLeaf) → HasIndex b head → leaves_of (with_leaf l at (index_at b head)) ≡ with_new l (leaves_of (index_at b head)) }
+    ensures ranges { (b : List ℕ) (head at : ℕ) (l : TreeLeaf) → HasIndex b head → ranges_of (with_leaf l at (index_at b head)) ≡ with_range (range l.first l.last) (ranges_of (index_at b head)) }
+{}
+
+/// Where a node gets the entry of a leaf, and a new node where it is full, and the other nodes stay, the new image has the tree with that node so edited.
+pub fn node_grown()
+    ensures with_room { (b now records records' : List ℕ) (at new used p levels : ℕ) (l : TreeLeaf) (nodes : Nodes) → SameHeads b now records records' → used ≡ used_count b at → Begins b at l.first p → MayName now records' l → used < room_at b at → Inserted b now at used p l.first l.last l.place → at + 28 ≤ length b → HasNodes b records levels nodes → Distinct (nodes_of nodes) → ((m : ℕ) → In m (nodes_of nodes) → m ≢ at → Kept b now m × NodeFits b m) → ((m : ℕ) → In m (map (λ leaf. leaf.place) (leaves_of nodes)) → In m records) → HasNodes now records' levels (redo at (placed l new at) nodes) }
+    ensures split { (b now records records' : List ℕ) (at new used p levels : ℕ) (l : TreeLeaf) (nodes : Nodes) → SameHeads b now records records' → used ≡ used_count b at → Begins b at l.first p → MayName now records' l → room_at b at ≤ used → is_linkable now records' vxr_type new ≡ true → Split b now at new used p l.first l.last l.place → p < used → HasNodes b records levels nodes → Distinct (nodes_of nodes) → ((m : ℕ) → In m (nodes_of nodes) → m ≢ at → Kept b now m × NodeFits b m) → ((m : ℕ) → In m (map (λ leaf. leaf.place) (leaves_of nodes)) → In m records) → HasNodes now records' levels (redo at (placed l new at) nodes) }
+    ensures behind { (b now records records' : List ℕ) (at new used p levels : ℕ) (l : TreeLeaf) (nodes : Nodes) → SameHeads b now records records' → used ≡ used_count b at → Begins b at l.first p → MayName now records' l → room_at b at ≤ used → is_linkable now records' vxr_type new ≡ true → Chained b now at new used l.first l.last l.place → p ≡ used → HasNodes b records levels nodes → Distinct (nodes_of nodes) → ((m : ℕ) → In m (nodes_of nodes) → m ≢ at → Kept b now m × NodeFits b m) → ((m : ℕ) → In m (map (λ leaf. leaf.place) (leaves_of nodes)) → In m records) → HasNodes now records' levels (redo at (placed l new at) nodes) }
+{}
+
+/// A change within the records of one variable that gives it another index leaves a sound image sound, and every other owner as it was.
+pub fn index_replaced()
+    ensures { (b now : List ℕ) (s : Shape) (before : List VariableShape) (v : VariableShape) (after : List VariableShape) (index : Nodes) (rs zs : List VariableShape) → IsSound b s → HasReplaced s before v after index rs zs → length now ≡ length b → ChangedWithin b now (variable_records v) → NewIndex b now s v index → IsReplaced b now s (with_variables s rs zs) (before ++ after) }
 {}

@@ -1,0 +1,173 @@
+-- The index of one variable becomes another one: a sound image stays sound, and every other owner is as before.
+use Rattle.std.proofs.Common.{◌≡◌, ◌⊎◌, ℕ, ◌+◌, ◌≤◌, List, [], ◌∷◌, ◌++◌, length, map, true, refl, sym, ap, subst, ap₂, append_assoc, ◌∙◌, arith, inl, inr}
+use Rattle.std.specs.List.{flat_map}
+use Rattle.cdf_model.specs.DataSet.{Attribute, Variable}
+use Rattle.cdf_edits.specs.Frame.Leaves.{ChangedWithin, FileStays, AttributeStays, VariableStays, Leaves}
+use Rattle.cdf_format.specs.Sound.{VariableFits, IsSound}
+use Rattle.cdf_format.specs.Chains.{is_a, IsChain}
+use Rattle.cdf_format.specs.Content.{attribute_of, variable_of}
+use Rattle.cdf_format.specs.Fields.{number}
+use Rattle.cdf_format.specs.Index.{Nodes}
+use Rattle.cdf_format.specs.Owners.{times, attribute_records, variable_records, unused_records, owned_records}
+use Rattle.cdf_format.specs.Records.{gdr_r_vdr_head, gdr_z_vdr_head}
+use Rattle.cdf_format.specs.RecordTypes.{cdr_type, gdr_type, adr_type, r_vdr_type, z_vdr_type, cpr_type}
+use Rattle.cdf_format.specs.Shape.{AttributeShape, VariableShape, Shape, variables, Each, HasVariable, HasShape}
+use Rattle.cdf_format.specs.Tiles.{In, AreTiles}
+use Rattle.cdf_format.proofs.Members.{In-append, In-append_left, In-append_right}
+use Rattle.cdf_format.proofs.ChainsLemmas.{linkable-in}
+use Rattle.cdf_format.proofs.ShapeLemmas.{Each-split, Each-append}
+use Rattle.cdf_format.proofs.Owning.{attributes_in}
+use Rattle.cdf_edits.proofs.Frame.Meaning.{FileSame, Kept}
+use Rattle.cdf_edits.proofs.Frame.LinksStay.{SameHeads}
+use Rattle.cdf_edits.proofs.Frame.OwnerAlone.{heads, stays}
+use Rattle.cdf_edits.proofs.Frame.OwnersApart.{times-append, times-in, owned-times, file_records, all_attribute_records, all_variable_records, vdrs_stand, file_same_is, gdr_room, variable_alone}
+use Rattle.cdf_edits.proofs.Frame.SoundStays.{attributes_fit_kept, variables_fit_kept, unused_kept}
+use Rattle.cdf_edits.proofs.Frame.FileSound.{variables_stand}
+use Rattle.cdf_edits.proofs.Frame.SameShape.{has_entries, has_variables, is_a_kept, typed_kept, fixed_kept}
+use Rattle.cdf_index.specs.Replacing.{with_index, with_variables, NewIndex, HasReplaced, IsReplaced}
+
+flat-append : {A : Type 0} (f : A → List ℕ) (xs ys : List A) → flat_map f (xs ++ ys) ≡ flat_map f xs ++ flat_map f ys
+flat-append f [] ys = refl
+flat-append f (x ∷ xs) ys = ap (λ (r : List ℕ). f x ++ r) (flat-append f xs ys) ∙ sym (append_assoc (f x) (flat_map f xs) (flat_map f ys))
+
+times-parts : {A : Type 0} (f : A → List ℕ) (m : ℕ) (xs : List A) (x : A) (ys : List A) → times m (flat_map f (xs ++ x ∷ ys)) ≡ times m (flat_map f xs) + (times m (f x) + times m (flat_map f ys))
+times-parts f m xs x ys = ap (times m) (flat-append f xs (x ∷ ys)) ∙ times-append m (flat_map f xs) (f x ++ flat_map f ys) ∙ ap (λ (n : ℕ). times m (flat_map f xs) + n) (times-append m (f x) (flat_map f ys))
+
+same_attributes : (b now records : List ℕ) (as_ : List AttributeShape) → Each (AttributeStays b now records) as_ → map (attribute_of now) as_ ≡ map (attribute_of b) as_
+same_attributes b now records [] h = refl
+same_attributes b now records (a ∷ more) h = ap₂ (λ (x : Attribute) (xs : List Attribute). x ∷ xs) h.0.1 (same_attributes b now records more h.1)
+
+same_variables : (b now records : List ℕ) (vs : List VariableShape) → Each (VariableStays b now records) vs → map (variable_of now) vs ≡ map (variable_of b) vs
+same_variables b now records [] h = refl
+same_variables b now records (v ∷ more) h = ap₂ (λ (x : Variable) (xs : List Variable). x ∷ xs) h.0.1 (same_variables b now records more h.1)
+
+module _ (b now : List ℕ) (s : Shape) (before : List VariableShape) (v : VariableShape) (after : List VariableShape) (index : Nodes) (rs zs : List VariableShape)
+    (sound : IsSound b s) (shaped : HasReplaced s before v after index rs zs) (as_long : length now ≡ length b) (change : ChangedWithin b now (variable_records v)) (new : NewIndex b now s v index) where
+  h : HasShape b s
+  h = sound.has_shape
+
+  abbrev mine : List ℕ
+  mine = variable_records v
+
+  abbrev s' : Shape
+  s' = with_variables s rs zs
+
+  total : ℕ → ℕ
+  total m = times m (owned_records b s)
+
+  parts : (m : ℕ) → times m (all_variable_records s) ≡ times m (flat_map variable_records before) + (times m mine + times m (flat_map variable_records after))
+  parts m = ap (λ (x : List VariableShape). times m (flat_map variable_records x)) shaped.was ∙ times-parts variable_records m before v after
+
+  parts' : (m : ℕ) → times m (all_variable_records s') ≡ times m (flat_map variable_records before) + (times m (variable_records (with_index v index)) + times m (flat_map variable_records after))
+  parts' m = ap (λ (x : List VariableShape). times m (flat_map variable_records x)) shaped.is ∙ times-parts variable_records m before (with_index v index) after
+
+  limit : (m : ℕ) → times m (file_records s) + (times m (all_attribute_records s) + (times m (all_variable_records s) + times m (unused_records b s))) ≤ 1
+  limit m = subst (λ (n : ℕ). n ≤ 1) (owned-times b s m) (sound.not_twice m)
+
+  not_both : (o f a w u x y : ℕ) → f + (a + (w + u)) ≤ 1 → w ≡ x + (o + y) → 1 ≤ o → (1 ≤ f) ⊎ ((1 ≤ a) ⊎ (1 ≤ x + y)) → ⊥
+  not_both o f a w u x y l e p (inl q) = absurd (omega arith)
+  not_both o f a w u x y l e p (inr (inl q)) = absurd (omega arith)
+  not_both o f a w u x y l e p (inr (inr q)) = absurd (omega arith)
+
+  from_file : (m : ℕ) → In m (file_records s) → In m mine → ⊥
+  from_file m i j = not_both (times m mine) _ _ _ _ _ _ (limit m) (parts m) (times-in m mine j) (inl (times-in m (file_records s) i))
+
+  from_attributes : (m : ℕ) → In m (flat_map attribute_records s.attributes) → In m mine → ⊥
+  from_attributes m i j = not_both (times m mine) _ _ _ _ _ _ (limit m) (parts m) (times-in m mine j) (inr (inl (times-in m (all_attribute_records s) i)))
+
+  from_others : (m : ℕ) → In m (flat_map variable_records (before ++ after)) → In m mine → ⊥
+  from_others m i j =
+      let t = times-in m (flat_map variable_records (before ++ after)) i in
+      let e : times m (flat_map variable_records (before ++ after)) ≡ times m (flat_map variable_records before) + times m (flat_map variable_records after) = ap (times m) (flat-append variable_records before after) ∙ times-append m (flat_map variable_records before) (flat_map variable_records after) in
+      not_both (times m mine) _ _ _ _ _ _ (limit m) (parts m) (times-in m mine j) (inr (inr (subst (λ (n : ℕ). 1 ≤ n) e t)))
+
+  all_stand : (m : ℕ) → In m (flat_map variable_records (variables s)) → In m s.records
+  all_stand = variables_stand b s.records (variables s) (vdrs_stand b s sound) h.have_variables sound.variables_fit
+
+  inside : (m : ℕ) → In m mine → In m s.records
+  inside m i = all_stand m (subst (λ (x : List VariableShape). In m (flat_map variable_records x)) (sym shaped.was)
+      (subst (λ (x : List ℕ). In m x) (sym (flat-append variable_records before (v ∷ after))) (In-append_right m (flat_map variable_records before) (mine ++ flat_map variable_records after) (In-append_left m mine (flat_map variable_records after) i))))
+
+  all : (m : ℕ) → In m s.records → In m s.records
+  all m i = i
+
+  same : SameHeads b now s.records s.records
+  same = heads b now mine s h change inside s.records all
+
+  file : FileSame b now
+  file = file_same_is b s sound now mine change inside from_file s.records all
+
+  alone : Leaves b now s s.records s.attributes (before ++ after) × FileStays b now s
+  alone = variable_alone b s sound before v after shaped.was now s.records all change
+
+  kept : (m : ℕ) → In m s.records → (In m mine → ⊥) → Kept b now m
+  kept = stays b now mine s h change inside s.records all
+
+  old_fits : Each (VariableFits b s.records) before × VariableFits b s.records v × Each (VariableFits b s.records) after
+  old_fits = let p = Each-split (VariableFits b s.records) before (v ∷ after) (subst (Each (VariableFits b s.records)) shaped.was sound.variables_fit) in (p.0, p.1.0, p.1.1)
+
+  others_fit : Each (VariableFits now s.records) (before ++ after)
+  others_fit = variables_fit_kept b now s.records s.records file same (before ++ after) (λ m i. kept m (all_stand m (of_all m i)) (from_others m i)) (Each-append (VariableFits b s.records) before after old_fits.0 old_fits.2)
+    where
+      of_all : (m : ℕ) → In m (flat_map variable_records (before ++ after)) → In m (flat_map variable_records (variables s))
+      of_all m i = subst (λ (x : List VariableShape). In m (flat_map variable_records x)) (sym shaped.was) (subst (λ (x : List ℕ). In m x) (sym (flat-append variable_records before (v ∷ after)))
+          (elim (In-append m (flat_map variable_records before) (flat_map variable_records after) (subst (λ (x : List ℕ). In m x) (flat-append variable_records before after) i)) [
+            | inl j ↦ In-append_left m (flat_map variable_records before) (mine ++ flat_map variable_records after) j
+            | inr j ↦ In-append_right m (flat_map variable_records before) (mine ++ flat_map variable_records after) (In-append_right m mine (flat_map variable_records after) j)
+          ]))
+
+  cprs_stay : (cs : List ℕ) → Each (λ (cpr : ℕ). is_a b s.records cpr_type cpr ≡ true) cs → Each (λ (cpr : ℕ). is_a now s.records cpr_type cpr ≡ true) cs
+  cprs_stay [] e = tt
+  cprs_stay (c ∷ cs) e = (is_a_kept b now s.records s.records cpr_type c same e.0, cprs_stay cs e.1)
+
+  -- with this one among them
+  with_it : (P : VariableShape → Type 0) → Each P (before ++ after) → P (with_index v index) → Each P (rs ++ zs)
+  with_it P e p = let q = Each-split P before after e in subst (Each P) (sym shaped.is) (Each-append P before (with_index v index ∷ after) q.0 (p, q.1))
+
+  shape_now : HasShape now s'
+  shape_now =
+      let c = alone.0.chains_stay in
+      record {
+        tiled = subst (λ (n : ℕ). AreTiles now 8 n s.records) (sym as_long) alone.0.tiled;
+        typed = typed_kept b now s h s.records same;
+        fixed = fixed_kept b now s h s.records same;
+        cdr_stands = is_a_kept b now s.records s.records cdr_type 8 same h.cdr_stands;
+        gdr_is = c.gdr_is;
+        gdr_stands = is_a_kept b now s.records s.records gdr_type s.gdr same h.gdr_stands;
+        attribute_chain = c.attribute_chain;
+        r_chain = subst (λ (x : List ℕ). IsChain now s.records r_vdr_type (number now s.gdr gdr_r_vdr_head) x) (sym shaped.rs_are) c.r_chain;
+        z_chain = subst (λ (x : List ℕ). IsChain now s.records z_vdr_type (number now s.gdr gdr_z_vdr_head) x) (sym shaped.zs_are) c.z_chain;
+        unused_chain = c.unused_chain;
+        entry_chains = has_entries b now s.records s.attributes alone.0.attributes_stay;
+        have_variables = with_it (HasVariable now s.records) (has_variables b now s.records (before ++ after) alone.0.variables_stay) (record { indexed = new.has; packed_by = new.packed_by });
+      }
+
+  -- nothing is owned twice
+  fewer : (f a w w' u x y o o' : ℕ) → f + (a + (w + u)) ≤ 1 → w ≡ x + (o + y) → w' ≡ x + (o' + y) → o' ≤ o → f + (a + (w' + u)) ≤ 1
+  fewer f a w w' u x y o o' l e e' le = omega arith
+
+  fresh : (t f a w w' u x y o o' : ℕ) → t ≡ f + (a + (w + u)) → t ≡ 0 → w ≡ x + (o + y) → w' ≡ x + (o' + y) → o' ≤ 1 → f + (a + (w' + u)) ≤ 1
+  fresh t f a w w' u x y o o' i z e e' le = omega arith
+
+  once : (m : ℕ) → times m (owned_records now s') ≤ 1
+  once m =
+      let u : unused_records now s' ≡ unused_records b s = unused_kept b now s same.types in
+      let step : times m (file_records s) + (times m (all_attribute_records s) + (times m (all_variable_records s') + times m (unused_records b s))) ≤ 1 = elim (new.own m) [
+        | inl le ↦ fewer _ _ _ _ _ _ _ _ _ (limit m) (parts m) (parts' m) le
+        | inr p ↦ fresh _ _ _ _ _ _ _ _ _ _ (owned-times b s m) p.0 (parts m) (parts' m) p.1
+      ] in
+      subst (λ (n : ℕ). n ≤ 1) (sym (owned-times now s' m)) (subst (λ (x : List ℕ). times m (file_records s) + (times m (all_attribute_records s) + (times m (all_variable_records s') + times m x)) ≤ 1) (sym u) step)
+
+  pub index_replaced : IsReplaced b now s (with_variables s rs zs) (before ++ after)
+  index_replaced = record {
+    sound = record {
+      has_shape = shape_now;
+      gdr_fits = gdr_room b s sound now mine change inside from_file s.records all;
+      attributes_fit = attributes_fit_kept b now s.records s.records file same s.attributes (λ m i. kept m (attributes_in b s.records s.attributes h.entry_chains (λ k j. linkable-in b s.records adr_type k (h.attribute_chain.linkable k j)) m i) (from_attributes m i)) sound.attributes_fit;
+      variables_fit = with_it (VariableFits now s.records) others_fit (new.vdr_fits, new.nodes_fit, new.leaves_fit, cprs_stay v.cpr old_fits.1.3);
+      not_twice = once;
+    };
+    file = alone.1;
+    attributes_mean = same_attributes b now s.records s.attributes alone.0.attributes_stay;
+    others_mean = same_variables b now s.records (before ++ after) alone.0.variables_stay;
+  }
