@@ -85,3 +85,7 @@ pub mod DropHalves
 pub mod DroppedSoFar
 pub mod SameAttribute
 pub mod DroppedNext
+pub mod NumberedLookup
+pub mod LeafRecords
+pub mod RecordsPut
+pub mod LeavesOrder

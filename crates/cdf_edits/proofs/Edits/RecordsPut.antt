@@ -1,0 +1,110 @@
+-- The records of a variable once one is put: what its leaves hold then says that they are those of the content.
+use Rattle.std.proofs.Common.{◌≡◌, ◌≢◌, ◌⊎◌, ℕ, zero, suc, ◌+◌, ◌-◌, ◌<◌, ◌≤◌, List, Option, Some, None, refl, sym, ap, ap₂, subst, ◌∙◌, arith, inl, inr}
+use Rattle.std.proofs.lemmas.Bool.{cases_eq, cases_lt, lt-ltb, le-ltb}
+use Rattle.std.specs.Option.{option_map}
+use Rattle.std.specs.Prelude.{nat_lt, if◌then◌else◌}
+use Rattle.cdf_model.specs.declared.data_type.DataType.{DataType}
+use Rattle.cdf_model.specs.declared.kinds.Sparse.{Sparse}
+use Rattle.cdf_model.specs.declared.kinds.Sparse.TheVariants.{NoRule, Pad, Previous}
+use Rattle.cdf_model.specs.ByteOrder.{turned}
+use Rattle.cdf_model.specs.DataSet.{Variable, extent}
+use Rattle.cdf_model.specs.Limits.{record_number_limit}
+use Rattle.cdf_model.specs.Numbered.{item_at, with_item, with_items}
+use Rattle.cdf_model.specs.Reading.{pad_record}
+use Rattle.cdf_model.specs.RecordSteps.{greater, filled}
+use Rattle.cdf_format.specs.Content.{records_in}
+use Rattle.cdf_format.specs.Index.{Leaf}
+use Rattle.cdf_format.specs.Stored.{is_little}
+use Rattle.cdf_format.specs.VariableFields.{type_of_variable, record_bytes, max_rec_at}
+use Rattle.cdf_edits.specs.Index.Written.{stored_bytes}
+use Rattle.cdf_edits.proofs.Edits.LeafRecords.{Ascending, rising_records, record_is, record_past}
+use Rattle.cdf_edits.proofs.Edits.NumberedItems.{Rising, rising_with}
+use Rattle.cdf_edits.proofs.Edits.NumberedLookup.{same_items, item_with, item_beside, rising_with_items, item_among, item_before_all, item_past_all}
+
+-- One record is put, of a variable whose VDR says now of each record as much as before: it is stored, each from MaxRec on before it is stored as a pad, and what was stored up to MaxRec stays.
+pub record StoresPut (b now : List ℕ) (vdr vdr' : ℕ) (leaves leaves' : List Leaf) (r : ℕ) (bytes pad : List ℕ) : Type 0 where
+  pub typed : type_of_variable now vdr' ≡ type_of_variable b vdr
+  pub little : is_little now ≡ is_little b
+  pub as_long : record_bytes now vdr' ≡ record_bytes b vdr
+  pub ascend : Ascending 0 (suc record_number_limit) leaves
+  pub ascend_now : Ascending 0 (suc record_number_limit) leaves'
+  pub upto : extent (max_rec_at now vdr') ≡ greater (extent (max_rec_at b vdr)) (r + 1)
+  pub stored : option_map (turned (type_of_variable b vdr) (is_little b)) (stored_bytes now vdr' (record_bytes b vdr) leaves' r) ≡ Some bytes
+  pub padded : (k : ℕ) → extent (max_rec_at b vdr) ≤ k → k < r → option_map (turned (type_of_variable b vdr) (is_little b)) (stored_bytes now vdr' (record_bytes b vdr) leaves' k) ≡ Some pad
+  pub kept : (k : ℕ) → k < extent (max_rec_at b vdr) → k ≢ r → stored_bytes now vdr' (record_bytes b vdr) leaves' k ≡ stored_bytes b vdr (record_bytes b vdr) leaves k
+
+greater_least : (m n : ℕ) → n ≤ greater m n
+greater_least m n = elim (cases_lt m n) [ inl lt ↦ rw (lt-ltb m n lt) (omega arith) | inr le ↦ rw (le-ltb m n le) le ]
+
+greater_first : (m n : ℕ) → m ≤ greater m n
+greater_first m n = elim (cases_lt m n) [ inl lt ↦ rw (lt-ltb m n lt) (omega arith) | inr le ↦ rw (le-ltb m n le) (omega arith) ]
+
+greater_most : (m n k : ℕ) → m ≤ k → n ≤ k → greater m n ≤ k
+greater_most m n k l h = elim (cases_lt m n) [ inl lt ↦ rw (lt-ltb m n lt) h | inr le ↦ rw (le-ltb m n le) l ]
+
+module _ {b now : List ℕ} {vdr vdr' : ℕ} {leaves leaves' : List Leaf} {r : ℕ} {bytes pad : List ℕ} (p : StoresPut b now vdr vdr' leaves leaves' r bytes pad) where
+  abbrev turn : List ℕ → List ℕ
+  turn = turned (type_of_variable b vdr) (is_little b)
+
+  abbrev m : ℕ
+  m = extent (max_rec_at b vdr)
+
+  abbrev most : ℕ
+  most = extent (max_rec_at now vdr')
+
+  abbrev was : List (ℕ × List ℕ)
+  was = records_in b vdr leaves
+
+  abbrev filled_up : List (ℕ × List ℕ)
+  filled_up = with_items m (r - m) pad was
+
+  now_is : (k : ℕ) → k < most → item_at k (records_in now vdr' leaves') ≡ option_map turn (stored_bytes now vdr' (record_bytes b vdr) leaves' k)
+  now_is k lt =
+      let t = p.typed in
+      let l = p.little in
+      let n = p.as_long in
+      record_is now vdr' leaves' p.ascend_now k lt ∙ (λ i. option_map (turned (t i) (l i)) (stored_bytes now vdr' (n i) leaves' k))
+
+  each : (k : ℕ) → item_at k (records_in now vdr' leaves') ≡ item_at k (with_item r bytes filled_up)
+  each k = elim (cases_eq r k) [
+    | inl e ↦ subst (λ (x : ℕ). item_at x (records_in now vdr' leaves') ≡ item_at x (with_item r bytes filled_up)) e (now_is r (put_below most p.upto) ∙ p.stored ∙ sym (item_with r bytes filled_up))
+    | inr ne ↦ beside ne (cases_lt k m) ∙ sym (item_beside k r bytes filled_up ne)
+  ]
+    where
+      put_below : (x : ℕ) → x ≡ greater m (r + 1) → r < x
+      put_below x e = let l = greater_least m (r + 1) in omega arith
+
+      first_below : (x : ℕ) → x ≡ greater m (r + 1) → m ≤ x
+      first_below x e = let l = greater_first m (r + 1) in omega arith
+
+      past : (x : ℕ) → x ≡ greater m (r + 1) → m ≤ k → r + 1 ≤ k → x ≤ k
+      past x e l h = let g = greater_most m (r + 1) k l h in omega arith
+
+      beside : r ≢ k → (k < m) ⊎ (m ≤ k) → item_at k (records_in now vdr' leaves') ≡ item_at k filled_up
+      beside ne (inl lt) =
+          now_is k (let f = first_below most p.upto in omega arith) ∙ ap (option_map turn) (p.kept k lt (λ e. ne (sym e))) ∙ sym (record_is b vdr leaves p.ascend k lt) ∙ sym (item_before_all k m (r - m) pad was lt)
+      beside ne (inr le) = elim (cases_lt k r) [
+        | inl lt ↦ now_is k (let f = put_below most p.upto in omega arith) ∙ p.padded k le lt ∙ sym (item_among k m (r - m) pad was le (omega arith))
+        | inr ge ↦ record_past now vdr' leaves' p.ascend_now k (past most p.upto le (omega arith)) ∙ sym (record_past b vdr leaves p.ascend k le) ∙ sym (item_past_all k m (r - m) pad was (reach ne ge le))
+      ]
+        where
+          reach : r ≢ k → r ≤ k → m ≤ k → m + (r - m) ≤ k
+          reach ne g l = omega arith
+
+  pub records_put : records_in now vdr' leaves' ≡ with_item r bytes (with_items m (r - m) pad (records_in b vdr leaves))
+  records_put = same_items 0 0 (records_in now vdr' leaves') (with_item r bytes filled_up) (rising_records now vdr' leaves' p.ascend_now) (rising_with 0 r bytes filled_up (omega arith) (rising_with_items 0 m (r - m) pad was (omega arith) (rising_records b vdr leaves p.ascend))) each
+
+-- what is filled up where there is no rule, and where nothing is to be
+pub filled_plain : (v : Variable) (r : ℕ) → v.sparse ≡ NoRule → filled v.sparse v r ≡ with_items (extent v.max_rec) (r - extent v.max_rec) (pad_record v) v.recs
+filled_plain v r e = ap (λ (s : Sparse). filled s v r) e
+
+pub filled_none : (v : Variable) (r : ℕ) → r < extent v.max_rec → filled v.sparse v r ≡ with_items (extent v.max_rec) (r - extent v.max_rec) (pad_record v) v.recs
+filled_none v r lt = by v.sparse ∙ ap (λ (c : ℕ). with_items (extent v.max_rec) c (pad_record v) v.recs) nothing
+  where
+    nothing : 0 ≡ r - extent v.max_rec
+    nothing = omega arith
+
+    by : (s : Sparse) → filled s v r ≡ v.recs
+    by NoRule = ap (λ (c : ℕ). with_items (extent v.max_rec) c (pad_record v) v.recs) (sym nothing)
+    by Pad = refl
+    by Previous = refl
