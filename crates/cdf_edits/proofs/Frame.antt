@@ -3,6 +3,7 @@ pub mod FileSound
 pub mod LinkWritten
 pub mod LinksStay
 pub mod Meaning
+pub mod VdrAlike
 pub mod VdrCopied
 pub mod OwnerAlone
 pub mod OwnersApart

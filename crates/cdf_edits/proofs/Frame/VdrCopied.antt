@@ -24,42 +24,8 @@ use Rattle.cdf_format.specs.Content.{plain_bytes, leaf_records, records_in, vari
 use Rattle.cdf_format.specs.Sound.{BlockFits, LeafFits}
 use Rattle.cdf_format.proofs.BytesLemmas.{bytes_kept, number_kept, size_kept}
 use Rattle.cdf_edits.proofs.Frame.Meaning.{FileSame, Kept, if_same, pad_place, vary_fits, packed_same}
-
--- ---- bytes that stand at another place too
-
--- those of a record from one place within it to another
-pub record Copied (b now : List ℕ) (v v' lo hi : ℕ) : Type 0 where
-  pub each : (i : ℕ) → lo ≤ i → i < hi → byte now (v' + i) ≡ byte b (v + i)
-
-pub copied_in_place : (b now : List ℕ) (v lo hi : ℕ) → Same b now (v + lo) (v + hi) → Copied b now v v lo hi
-copied_in_place b now v lo hi s = record { each = λ i l h. s.each (v + i) (omega arith) (omega arith) }
-
-word_alike : (b now : List ℕ) (at at' n : ℕ) → ((i x x' : ℕ) → x ≡ at + i → x' ≡ at' + i → i < n → byte now x' ≡ byte b x) → word now at' n ≡ word b at n
-word_alike b now at at' zero s = refl
-word_alike b now at at' (suc n) s =
-    let here : byte now at' ≡ byte b at = s 0 at at' (omega arith) (omega arith) (omega arith) in
-    let rest = word_alike b now (suc at) (suc at') n (λ i x x' p q lt. s (suc i) x x' (omega arith) (omega arith) (omega arith)) in
-    ap₂ (λ (x y : ℕ). x * 256 ^ n + y) here rest
-
-words_alike : (b now : List ℕ) (at at' n : ℕ) → ((i x x' : ℕ) → x ≡ at + i → x' ≡ at' + i → i < 4 * n → byte now x' ≡ byte b x) → words now at' n ≡ words b at n
-words_alike b now at at' zero s = refl
-words_alike b now at at' (suc n) s =
-    let here = word_alike b now at at' 4 (λ i x x' p q lt. s i x x' p q (omega arith)) in
-    let rest = words_alike b now (at + 4) (at' + 4) n (λ i x x' p q lt. s (i + 4) x x' (omega arith) (omega arith) (omega arith)) in
-    ap₂ (λ (x : ℕ) (xs : List ℕ). x ∷ xs) here rest
-
-module _ {b now : List ℕ} {v v' lo hi : ℕ} (c : Copied b now v v' lo hi) where
-  at_once : (p n : ℕ) → lo ≤ p → p + n ≤ hi → (i x x' : ℕ) → x ≡ v + p + i → x' ≡ v' + p + i → i < n → byte now x' ≡ byte b x
-  at_once p n l h i x x' e e' lt =
-      let to : x' ≡ v' + (p + i) = omega arith in
-      let from : v + (p + i) ≡ x = omega arith in
-      ap (λ (y : ℕ). byte now y) to ∙ c.each (p + i) (omega arith) (omega arith) ∙ ap (λ (y : ℕ). byte b y) from
-
-  pub word_copied : (p n : ℕ) → lo ≤ p → p + n ≤ hi → word now (v' + p) n ≡ word b (v + p) n
-  word_copied p n l h = word_alike b now (v + p) (v' + p) n (at_once p n l h)
-
-  pub words_copied : (p n : ℕ) → lo ≤ p → p + 4 * n ≤ hi → words now (v' + p) n ≡ words b (v + p) n
-  words_copied p n l h = words_alike b now (v + p) (v' + p) n (at_once p (4 * n) l h)
+use Rattle.cdf_edits.proofs.Frame.VdrAlike.{Copied, word_copied, copied_part, VdrAlike, second_same, plain_alike, z_alike, count_alike, dims_alike, varys_alike, raw_type_alike, type_alike, raw_elems_alike, elems_alike, value_alike, record_alike, pad_field_alike, raw_sparse_alike, sparse_alike, cpr_link_alike, index_link_alike, pad_alike}
+pub use Rattle.cdf_edits.proofs.Frame.VdrAlike.{Copied, copied_in_place, word_copied, words_copied}
 
 -- ---- a VDR
 
@@ -71,101 +37,69 @@ pub record VdrCopied (b now : List ℕ) (v v' : ℕ) : Type 0 where
   pub third : Copied b now v v' 72 80
   pub behind : Copied b now v v' 340 (pad_field b v).place
 
-vary_behind : (p : Bool) (d : ℕ) → 340 ≤ (if p then vdr_z_dim_vary d 0 else vdr_r_dim_vary 0).place
-vary_behind true d = omega arith
-vary_behind false d = omega arith
+-- MaxRec among them
+pub alike : {b now : List ℕ} {v v' : ℕ} → VdrCopied b now v v' → VdrAlike b now v v'
+alike k = record { typed = k.typed; type = copied_part k.first 20 24 (omega arith) (omega arith); links = copied_part k.first 28 44 (omega arith) (omega arith); second = k.second; third = k.third; behind = k.behind }
 
 module _ {b now : List ℕ} (file : FileSame b now) {v v' : ℕ} (k : VdrCopied b now v v') where
-  first_number : (f : Field) → 20 ≤ f.place → f.place + f.width ≤ 44 → number now v' f ≡ number b v f
-  first_number f late h = word_copied k.first f.place f.width late h
-
-  second_number : (f : Field) → 48 ≤ f.place → f.place + f.width ≤ 68 → number now v' f ≡ number b v f
-  second_number f late h = word_copied k.second f.place f.width late h
-
-  pub z_copied : is_z now v' ≡ is_z b v
-  z_copied = ap (λ (t : ℕ). t == z_vdr_type) k.typed
-
-  pad_behind : is_z b v ≡ true → (pad_field b v).place ≡ 344 + 8 * dimensions_at b v
-  pad_behind e = pad_place (is_z b v) (dimensions_at b v) (value_bytes b v) e
-
-  pub count_copied : is_z b v ≡ true → number now v' vdr_z_num_dims ≡ number b v vdr_z_num_dims
-  count_copied e = word_copied k.behind 340 4 (omega arith) (some (pad_field b v).place (dimensions_at b v) (pad_behind e))
-    where
-      some : (p d : ℕ) → p ≡ 344 + 8 * d → 340 + 4 ≤ p
-      some p d q = omega arith
-
-  pub dimensions_copied : dimensions_at now v' ≡ dimensions_at b v
-  dimensions_copied = if_same (is_z now v') (is_z b v) _ _ _ _ z_copied (λ e. ap (λ (n : ℕ). counted (cast_signed w32 n)) (count_copied e)) (λ e. file.dimensions)
-
-  pub dims_copied : dims_at now v' ≡ dims_at b v
-  dims_copied = if_same (is_z now v') (is_z b v) _ _ _ _ z_copied
-      (λ e. ap (map counted4) (ap (words now (v' + 344)) dimensions_copied ∙ words_copied k.behind 344 (dimensions_at b v) (omega arith) (room (pad_field b v).place (dimensions_at b v) (pad_behind e))))
-      (λ e. file.sizes)
-    where
-      room : (p d : ℕ) → p ≡ 344 + 8 * d → 344 + 4 * d ≤ p
-      room p d q = omega arith
-
-  vary_copied : (vary_field now v').place ≡ (vary_field b v).place
-  vary_copied = let z = z_copied in let d = dimensions_copied in λ i. (if z i then vdr_z_dim_vary (d i) 0 else vdr_r_dim_vary 0).place
-
-  varys_copied : varys_at now v' ≡ varys_at b v
-  varys_copied =
-      let p = vary_copied in
-      let d = dimensions_copied in
-      let moved : words now (v' + (vary_field now v').place) (dimensions_at now v') ≡ words now (v' + (vary_field b v).place) (dimensions_at b v) = λ i. words now (v' + p i) (d i) in
-      let kept = words_copied k.behind (vary_field b v).place (dimensions_at b v) (vary_behind (is_z b v) (dimensions_at b v)) (vary_fits (is_z b v) (dimensions_at b v) (value_bytes b v)) in
-      ap (λ (ws : List ℕ). map (λ n. not (n == 0)) ws) (moved ∙ kept)
-
-  pub raw_type_copied : integer4 now v' vdr_data_type ≡ integer4 b v vdr_data_type
-  raw_type_copied = ap (cast_signed w32) (first_number vdr_data_type (omega arith) (omega arith))
-
-  pub type_copied : type_of_variable now v' ≡ type_of_variable b v
-  type_copied = ap (λ (z : ℤ). unwrap_or (type_of z) Byte) raw_type_copied
-
-  pub raw_elems_copied : number now v' vdr_num_elems ≡ number b v vdr_num_elems
-  raw_elems_copied = second_number vdr_num_elems (omega arith) (omega arith)
-
-  elems_copied : elems_at now v' ≡ elems_at b v
-  elems_copied = ap (λ (n : ℕ). counted (cast_signed w32 n)) raw_elems_copied
-
-  pub value_copied : value_bytes now v' ≡ value_bytes b v
-  value_copied = let t = type_copied in let n = elems_copied in λ i. size_of (t i) * n i
-
-  pub record_copied : record_bytes now v' ≡ record_bytes b v
-  record_copied = let t = type_copied in let n = elems_copied in let d = dims_copied in let w = varys_copied in λ i. record_size (t i) (n i) (d i) (w i)
-
-  pub pad_field_copied : pad_field now v' ≡ pad_field b v
-  pad_field_copied = let z = z_copied in let d = dimensions_copied in let w = value_copied in λ i. if z i then vdr_z_pad_value (d i) (w i) else vdr_r_pad_value (d i) (w i)
-
-  pub raw_sparse_copied : number now v' vdr_s_records ≡ number b v vdr_s_records
-  raw_sparse_copied = second_number vdr_s_records (omega arith) (omega arith)
-
-  sparse_copied : sparse_at now v' ≡ sparse_at b v
-  sparse_copied = let s = raw_sparse_copied in λ i. if s i == 0 then NoRule else (if s i == 1 then Pad else Previous)
+  pub second_number : (f : Field) → 48 ≤ f.place → f.place + f.width ≤ 68 → number now v' f ≡ number b v f
+  second_number = second_same file (alike k)
 
   pub raw_max_copied : number now v' vdr_max_rec ≡ number b v vdr_max_rec
-  raw_max_copied = first_number vdr_max_rec (omega arith) (omega arith)
+  raw_max_copied = word_copied k.first 24 4 (omega arith) (omega arith)
+
+  pub z_copied : is_z now v' ≡ is_z b v
+  z_copied = z_alike file (alike k)
+
+  pub count_copied : is_z b v ≡ true → number now v' vdr_z_num_dims ≡ number b v vdr_z_num_dims
+  count_copied = count_alike file (alike k)
+
+  pub dims_copied : dims_at now v' ≡ dims_at b v
+  dims_copied = dims_alike file (alike k)
+
+  pub varys_copied : varys_at now v' ≡ varys_at b v
+  varys_copied = varys_alike file (alike k)
+
+  pub raw_type_copied : integer4 now v' vdr_data_type ≡ integer4 b v vdr_data_type
+  raw_type_copied = raw_type_alike file (alike k)
+
+  pub type_copied : type_of_variable now v' ≡ type_of_variable b v
+  type_copied = type_alike file (alike k)
+
+  pub raw_elems_copied : number now v' vdr_num_elems ≡ number b v vdr_num_elems
+  raw_elems_copied = raw_elems_alike file (alike k)
+
+  pub elems_copied : elems_at now v' ≡ elems_at b v
+  elems_copied = elems_alike file (alike k)
+
+  pub value_copied : value_bytes now v' ≡ value_bytes b v
+  value_copied = value_alike file (alike k)
+
+  pub record_copied : record_bytes now v' ≡ record_bytes b v
+  record_copied = record_alike file (alike k)
+
+  pub pad_field_copied : pad_field now v' ≡ pad_field b v
+  pad_field_copied = pad_field_alike file (alike k)
+
+  pub raw_sparse_copied : number now v' vdr_s_records ≡ number b v vdr_s_records
+  raw_sparse_copied = raw_sparse_alike file (alike k)
+
+  pub sparse_copied : sparse_at now v' ≡ sparse_at b v
+  sparse_copied = sparse_alike file (alike k)
 
   pub cpr_link_copied : number now v' vdr_cpr_or_spr_offset ≡ number b v vdr_cpr_or_spr_offset
-  cpr_link_copied = word_copied k.third 72 8 (omega arith) (omega arith)
+  cpr_link_copied = cpr_link_alike file (alike k)
 
   pub index_link_copied : number now v' vdr_vxr_head ≡ number b v vdr_vxr_head
-  index_link_copied = first_number vdr_vxr_head (omega arith) (omega arith)
+  index_link_copied = index_link_alike file (alike k)
 
-  -- the pad value, where it is the same
   pub pad_copied : number now v' vdr_flags ≡ number b v vdr_flags → (has_pad b v ≡ true → field_bytes now v' (pad_field b v) ≡ field_bytes b v (pad_field b v)) → pad_at now v' ≡ pad_at b v
-  pad_copied flags bytes = if_same (has_pad now v') (has_pad b v) _ _ _ _ (ap (λ (x : ℕ). has_bit x 1) flags)
-      (λ e.
-      let t = type_copied in
-      let f = pad_field_copied in
-      let first : network_bytes now v' (pad_field now v') (type_of_variable now v') ≡ turned (type_of_variable b v) (is_little b) (field_bytes now v' (pad_field b v)) = λ i. turned (t i) (file.little i) (field_bytes now v' (f i)) in
-      ap Some (first ∙ ap (turned (type_of_variable b v) (is_little b)) (bytes e)))
-      (λ e. refl)
+  pad_copied = pad_alike file (alike k)
 
   -- ---- its records
 
   pub plain_copied : (leaf : Leaf) → plain_size now v' leaf ≡ plain_size b v leaf
-  plain_copied leaf = let r = record_copied in λ i. records_of_leaf leaf * r i
+  plain_copied = plain_alike file (alike k)
 
   bytes_copied : (leaf : Leaf) → Kept b now leaf.place → BlockFits b v leaf leaf.packed → plain_bytes now v' leaf ≡ plain_bytes b v leaf
   bytes_copied leaf kept room = if_same leaf.packed leaf.packed _ _ _ _ refl

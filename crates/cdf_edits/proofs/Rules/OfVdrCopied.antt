@@ -1,4 +1,4 @@
--- The rules of a variable whose VDR stands at another place, or that has another name, flags or pad value where it is.
+-- The rules of a variable whose VDR stands at another place, or that has another name, flags, pad value or MaxRec where it is.
 use Rattle.std.proofs.Common.{◌≡◌, ℕ, ℤ, ◌+◌, ◌*◌, ◌≤◌, List, [], ◌∷◌, Bool, true, false, not, is_some, ◌&&◌, ◌||◌, refl, sym, ap, subst, ◌∙◌, arith}
 use Rattle.std.specs.Prelude.{nat_le, ◌==◌}
 use Rattle.std.specs.List.{list_all}
@@ -8,7 +8,7 @@ use Rattle.cdf_model.specs.Types.{type_of}
 use Rattle.cdf_model.specs.Values.{notation_of}
 use Rattle.cdf_model.specs.VariableSteps.{is_characters}
 use Rattle.cdf_format.specs.AttributeRules.{has_name}
-use Rattle.cdf_format.specs.Records.{vdr_s_records, vdr_name, vdr_z_num_dims, cpr_c_type, cpr_p_count, cpr_parameter}
+use Rattle.cdf_format.specs.Records.{vdr_max_rec, vdr_s_records, vdr_name, vdr_z_num_dims, cpr_c_type, cpr_p_count, cpr_parameter}
 use Rattle.cdf_format.specs.RecordTypes.{cpr_type}
 use Rattle.cdf_format.specs.Fields.{is_positive, number, size_at}
 use Rattle.cdf_format.specs.Tiles.{In}
@@ -22,7 +22,8 @@ use Rattle.cdf_format.proofs.Tests.{both, le_of, of_le}
 use Rattle.cdf_format.proofs.ChainsLemmas.{is_a-type, is_a-from}
 use Rattle.cdf_format.proofs.BytesLemmas.{number_kept, size_kept, type_kept}
 use Rattle.cdf_edits.proofs.Frame.Meaning.{FileSame, Kept}
-use Rattle.cdf_edits.proofs.Frame.VdrCopied.{VdrCopied, z_copied, count_copied, dims_copied, raw_type_copied, type_copied, raw_elems_copied, record_copied, raw_sparse_copied, raw_max_copied, cpr_link_copied}
+use Rattle.cdf_edits.proofs.Frame.VdrAlike.{VdrAlike, z_alike, count_alike, dims_alike, raw_type_alike, type_alike, raw_elems_alike, record_alike, raw_sparse_alike, cpr_link_alike}
+use Rattle.cdf_edits.proofs.Frame.VdrCopied.{VdrCopied, alike, raw_max_copied}
 
 and_true : (p q : Bool) → p ≡ true → q ≡ true → (p && q) ≡ true
 and_true p q e f = rw (e, f) refl
@@ -66,23 +67,23 @@ cpr_stays b now records records' m e k i =
 
 -- ---- all of them
 
-module _ {b now : List ℕ} (file : FileSame b now) {v v' : ℕ} (k : VdrCopied b now v v') (larger : size_at b v ≤ size_at now v') where
+module _ {b now : List ℕ} (file : FileSame b now) {v v' : ℕ} (k : VdrAlike b now v v') (larger : size_at b v ≤ size_at now v') where
   dimensions_rule : is_z b v ≡ true → has_dimensions b v ≡ true → has_dimensions now v' ≡ true
   dimensions_rule z h =
       let n = number b v vdr_z_num_dims in
       let p = both (nat_le n dimension_limit) (nat_le (344 + 4 * n) (size_at b v) && list_all is_positive (dims_at b v)) h in
       let q = both (nat_le (344 + 4 * n) (size_at b v)) (list_all is_positive (dims_at b v)) p.1 in
-      let count = count_copied file k z in
-      let dims = dims_copied file k in
+      let count = count_alike file k z in
+      let dims = dims_alike file k in
       let fits = of_le (344 + 4 * n) (size_at now v') (through (344 + 4 * n) (size_at b v) (size_at now v') (le_of (344 + 4 * n) (size_at b v) q.0) larger) in
       and_true _ _ (ap (λ (x : ℕ). nat_le x dimension_limit) count ∙ p.0) (and_true _ _ (ap (λ (x : ℕ). nat_le (344 + 4 * x) (size_at now v')) count ∙ fits) (ap (list_all is_positive) dims ∙ q.1))
     where
       through : (x y z : ℕ) → x ≤ y → y ≤ z → x ≤ z
       through x y z p q = omega arith
 
-  pub variable_rules_copied : (records records' ids ids' : List ℕ) → Hold (variable_rows b records ids v) → has_name now v' vdr_name ≡ true → is_named_apart now ids' v' ≡ true → vdr_end now v' ≤ size_at now v' → is_compressed now v' ≡ is_compressed b v
-      → (is_compressed b v ≡ true → is_cpr b records (cpr_link b v) ≡ true → CprStays b now records' (cpr_link b v)) → Hold (variable_rows now records' ids' v')
-  variable_rules_copied records records' ids ids' h named apart ends packed cpr =
+  pub variable_rules_alike : (records records' ids ids' : List ℕ) → Hold (variable_rows b records ids v) → has_name now v' vdr_name ≡ true → is_named_apart now ids' v' ≡ true → vdr_end now v' ≤ size_at now v' → is_compressed now v' ≡ is_compressed b v
+      → (is_compressed b v ≡ true → is_cpr b records (cpr_link b v) ≡ true → CprStays b now records' (cpr_link b v)) → is_max_rec (number now v' vdr_max_rec) ≡ true → Hold (variable_rows now records' ids' v')
+  variable_rules_alike records records' ids ids' h named apart ends packed cpr max =
       let h3 = h.1.1 in
       let h4 = h3.1 in
       let h5 = h4.1 in
@@ -92,14 +93,13 @@ module _ {b now : List ℕ} (file : FileSame b now) {v v' : ℕ} (k : VdrCopied 
       let h10 = h9.1 in
       let h11 = h10.1 in
       let rest = Hold-split (asked (is_compressed b v) (cpr_rows b records (cpr_link b v))) (row 99 v (number b v vdr_s_records == 0) ∷ []) h11.1 in
-      let raw = raw_type_copied file k in
-      let type = type_copied file k in
-      let elems = raw_elems_copied file k in
-      let z = z_copied file k in
-      let bytes = record_copied file k in
-      let max = raw_max_copied file k in
-      let sparse = raw_sparse_copied file k in
-      let link = cpr_link_copied file k in
+      let raw = raw_type_alike file k in
+      let type = type_alike file k in
+      let elems = raw_elems_alike file k in
+      let z = z_alike file k in
+      let bytes = record_alike file k in
+      let sparse = raw_sparse_alike file k in
+      let link = cpr_link_alike file k in
       let was : is_compressed b v ≡ true → is_cpr b records (cpr_link b v) ≡ true = unless_holds (is_compressed b v) (is_cpr b records (cpr_link b v)) h11.0 in
       let stays : is_compressed now v' ≡ true → CprStays b now records' (cpr_link b v) = λ e. let c = sym packed ∙ e in cpr c (was c) in
       let known : is_compressed b v ≡ true → is_known_packing b (cpr_link b v) ≡ true = λ c.
@@ -120,7 +120,7 @@ module _ {b now : List ℕ} (file : FileSame b now) {v v' : ℕ} (k : VdrCopied 
                   (
                     ap (λ (n : ℕ). nat_le n record_limit) bytes ∙ h7.0,
                     (
-                      ap is_max_rec max ∙ h8.0,
+                      max,
                       (
                         ap (λ (n : ℕ). nat_le n 2) sparse ∙ h9.0,
                         (
@@ -141,3 +141,8 @@ module _ {b now : List ℕ} (file : FileSame b now) {v v' : ℕ} (k : VdrCopied 
           ),
         ),
       )
+
+-- with MaxRec as it was
+pub variable_rules_copied : {b now : List ℕ} (file : FileSame b now) {v v' : ℕ} (k : VdrCopied b now v v') (larger : size_at b v ≤ size_at now v') (records records' ids ids' : List ℕ) → Hold (variable_rows b records ids v) → has_name now v' vdr_name ≡ true → is_named_apart now ids' v' ≡ true → vdr_end now v' ≤ size_at now v' → is_compressed now v' ≡ is_compressed b v
+    → (is_compressed b v ≡ true → is_cpr b records (cpr_link b v) ≡ true → CprStays b now records' (cpr_link b v)) → Hold (variable_rows now records' ids' v')
+variable_rules_copied file k larger records records' ids ids' h named apart ends packed cpr = variable_rules_alike file (alike k) larger records records' ids ids' h named apart ends packed cpr (ap is_max_rec (raw_max_copied file k) ∙ h.1.1.1.1.1.1.1.0)
