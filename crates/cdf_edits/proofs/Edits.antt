@@ -89,3 +89,7 @@ pub mod NumberedLookup
 pub mod LeafRecords
 pub mod RecordsPut
 pub mod LeavesOrder
+pub mod RecordsWritten
+pub mod LeafPieces
+pub mod PlainLeaves
+pub mod RecordPut

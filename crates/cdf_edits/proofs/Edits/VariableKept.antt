@@ -81,7 +81,7 @@ find_none : (leaves : List Leaf) (p : ℕ) → (In p (places_of leaves) → ⊥)
 find_none [] p out = refl
 find_none (leaf ∷ more) p out = rw (ne_eqb leaf.place p (λ e. out (inl (sym e)))) (find_none more p (λ i. out (inr i)))
 
-same_as_itself : (kind : Kind) → same_kind kind kind ≡ true
+pub same_as_itself : (kind : Kind) → same_kind kind kind ≡ true
 same_as_itself R = refl
 same_as_itself Z = refl
 

@@ -71,17 +71,17 @@ module _ (b now records records' : List ℕ) (heads : SameHeads b now records re
     long : 28 ≤ size_at b place
     long = node_long (room_at b place) (size_at b place) fits.0
 
-    room_same : room_at now place ≡ room_at b place
+    pub room_same : room_at now place ≡ room_at b place
     room_same = number_kept b now place k.same vxr_n_entries (let l = long in omega arith)
 
-    used_same : used_count now place ≡ used_count b place
+    pub used_same : used_count now place ≡ used_count b place
     used_same =
         let u = integer_kept b now place k.same vxr_n_used_entries (let l = long in omega arith) in
         let n = integer_kept b now place k.same vxr_n_entries (let l = long in omega arith) in
         let s = size_kept b now place k.same (let l = long in omega arith) in
         λ i. min (counted (u i)) (min (counted (n i)) ((s i - 28) / 16))
 
-    entry_same : (i first last offset : ℕ) → suc i ≤ room_at b place → SaysEntry b place i first last offset → SaysEntry now place i first last offset
+    pub entry_same : (i first last offset : ℕ) → suc i ≤ room_at b place → SaysEntry b place i first last offset → SaysEntry now place i first last offset
     entry_same i first last offset l e =
         let r = room_same in
         record {

@@ -1,5 +1,5 @@
 -- The rules of indexes and of blocks stay where the bytes of their records do.
-use Rattle.std.proofs.Common.{◌≡◌, ℕ, ℤ, pos, negsuc, ◌+◌, ◌*◌, ◌≤◌, List, [], ◌∷◌, ◌++◌, map, ◌&&◌, refl, sym, subst, arith, inl, inr}
+use Rattle.std.proofs.Common.{◌≡◌, ◌⊎◌, true≢false, eq-eqb, ◌∙◌, ℕ, ℤ, pos, negsuc, ◌+◌, ◌*◌, ◌≤◌, List, [], ◌∷◌, ◌++◌, map, ◌&&◌, refl, sym, subst, arith, inl, inr}
 use Rattle.std.specs.Prelude.{nat_le}
 use Rattle.std.specs.List.{flat_map}
 use Rattle.cdf_model.specs.Limits.{record_number_limit, signed_limit}
@@ -102,6 +102,32 @@ module _ (b now records : List ℕ) (same : SameHeads b now records records) whe
     index_rules_copied nodes kept room blocks rules =
         let parts = Hold-split (nodes_rows b records (negsuc 0) (pos record_number_limit) nodes) (flat_map (leaf_rows b records v) (leaves_of nodes)) rules in
         Hold-append (nodes_rows now records (negsuc 0) (pos record_number_limit) nodes) (flat_map (leaf_rows now records v') (leaves_of nodes)) (subst Hold (sym (nodes_same (negsuc 0) (pos record_number_limit) nodes kept room)) parts.0) (leaves_rules (leaves_of nodes) blocks parts.1)
+
+    -- a block that is not packed may hold other records
+    leaf_written : (leaf : Leaf) → In leaf.place records → type_at b leaf.place ≡ vvr_type → leaf_rows now records v' leaf ≡ leaf_rows b records v leaf
+    leaf_written leaf inside typed =
+        let size = same.sizes leaf.place inside in
+        let bytes = plain_same leaf in
+        let plain = asked_same (is_a now records vvr_type leaf.place) (is_a b records vvr_type leaf.place) (vvr_rows now v' leaf) (vvr_rows b v leaf) (is_a_same b now records same vvr_type leaf.place) (λ e i. row 5 leaf.place (nat_le (12 + bytes i) (size i)) ∷ []) in
+        let blocks = asked_same (is_a now records cvvr_type leaf.place) (is_a b records cvvr_type leaf.place) (cvvr_rows now v' leaf) (cvvr_rows b v leaf) (is_a_same b now records same cvvr_type leaf.place) (λ e. absurd (not_packed (sym typed ∙ is_a-type b records cvvr_type leaf.place e))) in
+        λ i. plain i ++ blocks i
+      where
+        not_packed : vvr_type ≡ cvvr_type → ⊥
+        not_packed e = true≢false (sym (eq-eqb vvr_type cvvr_type e))
+
+    leaves_written : (leaves : List Leaf) → ((m : ℕ) → In m (map (λ (leaf : Leaf). leaf.place) leaves) → In m records × (Kept b now m ⊎ (type_at b m ≡ vvr_type))) → Hold (flat_map (leaf_rows b records v) leaves) → Hold (flat_map (leaf_rows now records v') leaves)
+    leaves_written [] blocks rules = tt
+    leaves_written (leaf ∷ more) blocks rules =
+        let parts = Hold-split (leaf_rows b records v leaf) (flat_map (leaf_rows b records v) more) rules in
+        let own = blocks leaf.place (inl refl) in
+        let same_rows : leaf_rows now records v' leaf ≡ leaf_rows b records v leaf = elim own.1 [ inl kept ↦ leaf_same leaf kept parts.0 | inr typed ↦ leaf_written leaf own.0 typed ] in
+        Hold-append (leaf_rows now records v' leaf) (flat_map (leaf_rows now records v') more) (subst Hold (sym same_rows) parts.0) (leaves_written more (λ m i. blocks m (inr i)) parts.1)
+
+    pub index_rules_written : (nodes : Nodes) → ((m : ℕ) → In m (nodes_of nodes) → Kept b now m) → ((m : ℕ) → In m (nodes_of nodes) → NodeFits b m) → ((m : ℕ) → In m (map (λ (leaf : Leaf). leaf.place) (leaves_of nodes)) → In m records × (Kept b now m ⊎ (type_at b m ≡ vvr_type)))
+        → Hold (index_rows b records v nodes) → Hold (index_rows now records v' nodes)
+    index_rules_written nodes kept room blocks rules =
+        let parts = Hold-split (nodes_rows b records (negsuc 0) (pos record_number_limit) nodes) (flat_map (leaf_rows b records v) (leaves_of nodes)) rules in
+        Hold-append (nodes_rows now records (negsuc 0) (pos record_number_limit) nodes) (flat_map (leaf_rows now records v') (leaves_of nodes)) (subst Hold (sym (nodes_same (negsuc 0) (pos record_number_limit) nodes kept room)) parts.0) (leaves_written (leaves_of nodes) blocks parts.1)
 
   -- where it stands but for its link
   pub index_rules_kept : (file : FileSame b now) → ((m : ℕ) → In m records → fixed_size (type_at b m) ≤ size_at b m) → (v : ℕ) → KeptButLink b now v → vdr_end b v ≤ size_at b v → (nodes : Nodes) → ((m : ℕ) → In m (nodes_of nodes) → Kept b now m) → ((m : ℕ) → In m (nodes_of nodes) → NodeFits b m)

@@ -1,0 +1,594 @@
+-- Records of a variable are written where they stand, in blocks that are not packed, and MaxRec with them: the image has its shape and its rules, and all but the variable stays.
+use Rattle.std.proofs.Common.{◌≡◌, ◌⊎◌, ℕ, suc, ◌+◌, ◌≤◌, List, [], ◌∷◌, ◌++◌, length, map, Bool, true, false, not, Option, Some, None, bytes_eq, eqb, true≢false, eq-eqb, refl, sym, ap, subst, ◌∙◌, arith, inl, inr}
+use Rattle.std.proofs.lemmas.Bool.{eqb-true}
+use Rattle.std.proofs.lemmas.List.{length-map, map-append, set_at}
+use Rattle.std.specs.Int.{w32, cast_signed}
+use Rattle.std.specs.List.{before_first, flat_map, slice_get}
+use Rattle.std.specs.Prelude.{◌==◌, find, if◌then◌else◌, slice_set}
+use Rattle.cdf_model.specs.declared.kinds.Kind.{Kind}
+use Rattle.cdf_model.specs.declared.kinds.Kind.TheVariants.{R, Z}
+use Rattle.cdf_model.specs.DataSet.{DataSet, Variable}
+use Rattle.cdf_model.specs.Limits.{image_limit}
+use Rattle.cdf_model.specs.Names.{Found, variables_of, with_variables}
+use Rattle.cdf_format.specs.AttributeRules.{has_name}
+use Rattle.cdf_format.specs.Bytes.{Same}
+use Rattle.cdf_format.specs.Chains.{is_a, is_in, IsChain}
+use Rattle.cdf_format.specs.Content.{content, variable_of}
+use Rattle.cdf_format.specs.Fields.{number, name_in, integer4, has_bit, size_at, type_at, gdr_offset}
+use Rattle.cdf_format.specs.Index.{Leaf, nodes_of, leaves_of}
+use Rattle.cdf_format.specs.IndexRules.{index_rows}
+use Rattle.cdf_format.specs.Owners.{OneVariable, Unused, variable_records, unused_records, owned}
+use Rattle.cdf_format.specs.Records.{Field, gdr_eof, gdr_uir_head, gdr_r_max_rec, vdr_num, vdr_name, vdr_flags, vdr_max_rec, vdr_vxr_head, vdr_vxr_tail, vdr_blocking_factor}
+use Rattle.cdf_format.specs.RecordTypes.{fixed_size, cdr_type, gdr_type, r_vdr_type, z_vdr_type, vxr_type, vvr_type, cvvr_type, cpr_type, uir_type}
+use Rattle.cdf_format.specs.Rules.{Hold}
+use Rattle.cdf_format.specs.Shape.{VariableShape, Shape, vdrs, cpr_of, is_compressed, Each, HasVariable, HasShape, shape}
+use Rattle.cdf_format.specs.Sound.{IsSound, NodeFits}
+use Rattle.cdf_format.specs.Stored.{field_bytes}
+use Rattle.cdf_format.specs.Tiles.{In}
+use Rattle.cdf_format.specs.VariableFields.{is_z, dimensions_at, value_bytes, has_pad, pad_field, pad_at}
+use Rattle.cdf_format.specs.VariableRules.{vdr_end, cpr_link, is_max_rec, variable_rows}
+use Rattle.cdf_format.specs.WellFormed.{Good}
+use Rattle.cdf_format.proofs.BytesLemmas.{word_kept, number_kept, piece_kept}
+use Rattle.cdf_format.proofs.ChainsLemmas.{is_a-in, is_a-type, linkable-in, linkable-type}
+use Rattle.cdf_format.proofs.GoodByShape.{IsGoodByShape}
+use Rattle.cdf_format.proofs.GoodSound.{good_by_its_shape, good_is_sound, rules_of_good}
+use Rattle.cdf_format.proofs.IndexLemmas.{nodes_stand}
+use Rattle.cdf_format.proofs.Members.{either, In-append, In-append_left, In-append_right, true-is_in, false-is_in}
+use Rattle.cdf_format.proofs.SealedRules.{good_long, sealed_kept}
+use Rattle.cdf_format.proofs.ShapeLemmas.{Each-append, shape_is, content_is}
+use Rattle.cdf_format.proofs.TilesLemmas.{tile_lies}
+use Rattle.cdf_edits.specs.Commands.Allowances.{Allowance, Allowances, Anything, Only, Keeps, AllKeep, OwnAllowances, stays_own, space_fields, anything_if, only_of, same_kind, vdr_type, shapes_of, range_at, of_variable, r_max_rec_field}
+use Rattle.cdf_edits.specs.Commands.Puts.{max_rec_touches, put_changes}
+use Rattle.cdf_edits.specs.Commands.Room.{is_rewritten}
+use Rattle.cdf_edits.specs.Edits.Edit.{Edit}
+use Rattle.cdf_edits.specs.Edits.Marks.{Mark, mark, Anywhere, Among, Avoids, Away, Within, Covered, Marked, avoided, unmarked, all_unmarked, keeps_file, variable_types}
+use Rattle.cdf_edits.specs.Frame.Changed.{Touch, touched_field, Changed, Misses}
+use Rattle.cdf_edits.specs.Index.Blocks.{Range, range}
+use Rattle.cdf_edits.specs.Space.Acts.{ActsFollow}
+use Rattle.cdf_edits.specs.Space.Chains.{head_of, count_of, type_in}
+use Rattle.cdf_edits.specs.Space.VariableChains.{variables_chain}
+use Rattle.cdf_edits.proofs.Commands.KeptRecords.{Stood, keeps_stood, keep_owned, keep_attributes, keep_variables}
+use Rattle.cdf_edits.proofs.Commands.ListParts.{got-middle}
+use Rattle.cdf_edits.proofs.Edits.Composing.{head_size, head_type, part as part_missed, changed_edit}
+use Rattle.cdf_edits.proofs.Edits.EditActs.{acts_none}
+use Rattle.cdf_edits.proofs.Edits.InRecords.{places_of, index_both, index_rows_both}
+use Rattle.cdf_edits.proofs.Edits.MarkLemmas.{the_one}
+use Rattle.cdf_edits.proofs.Edits.OwnedOnce.{used_times, all_attributes_in, owned_once_if}
+use Rattle.cdf_edits.proofs.Edits.OwnersKept.{stood, keeps_within, keep_places, keep_file, keep_all}
+use Rattle.cdf_edits.proofs.Edits.RecordFrame.{index_records, cdr_kept, kept, kept_away, chain_stays, gdr_field, gdr_place, file_same}
+use Rattle.cdf_edits.proofs.Edits.StepEdits.{gdr_in, gdr_typed, gdr_long, some_bytes, fixed_long}
+use Rattle.cdf_edits.proofs.Edits.VariableCopied.{node_behind, block_behind, cpr_behind}
+use Rattle.cdf_edits.proofs.Edits.VariableFrame.{IsRuled, variable_typed, variables_away, variables_in, remain_from}
+use Rattle.cdf_edits.proofs.Edits.VariableKept.{OnlyVariable, only_variable, same_as_itself, vdr_allowance, keep_variable_parts, keep_kinds}
+use Rattle.cdf_edits.proofs.Edits.VariableKinds.{other_kind, kind_type, with_shapes, vdrs_rows, keeps_kind, kind_chain, kind_ours, in_gdr, counted_before, vdrs_rows_kept, variables_of_are}
+use Rattle.cdf_edits.proofs.Edits.VariableNames.{own_names_apart, apart_if}
+use Rattle.cdf_edits.proofs.Edits.VariableSplice.{VariableSplices, attributes_kept, OwnRules, keeps_all_attributes, shape_now, content_now, parts_ruled, good_image_if}
+use Rattle.cdf_edits.proofs.Edits.VdrEdited.{StandsAmong, through, in_middle, least_size, tile, typed, long, has, fits, ours, after_ours, behind_in, no_block}
+use Rattle.cdf_edits.proofs.Frame.LinksStay.{SameHeads, index_kept}
+use Rattle.cdf_edits.proofs.Frame.Meaning.{FileSame, Kept, pad_long, pad_width, end_fits}
+use Rattle.cdf_edits.proofs.Frame.OwnerAlone.{Each-in}
+use Rattle.cdf_edits.proofs.Frame.OwnersApart.{all_variable_records, unused_in}
+use Rattle.cdf_edits.proofs.Frame.VdrAlike.{VdrAlike, copied_in_place, second_same, pad_alike, pad_field_alike, value_alike, cpr_link_alike, index_link_alike, plain_alike}
+use Rattle.cdf_edits.proofs.Rules.OfIndexes.{index_rules_written}
+use Rattle.cdf_edits.proofs.Rules.OfVdrCopied.{cpr_stays, variable_rules_alike}
+use Rattle.cdf_edits.proofs.Rules.WithoutLinks.{eof_by_rules}
+use Rattle.cdf_edits.proofs.Space.UsedRecords.{apart, filter-says}
+
+-- some bytes of a block of the variable that is not packed, behind its type
+pub record InBlock (b : List ℕ) (own : VariableShape) (t : Touch) : Type 0 where
+  pub block : In t.tile (places_of (leaves_of own.index))
+  pub typed : type_at b t.tile ≡ vvr_type
+  pub later : 12 ≤ t.place
+  pub fits : t.place + t.width ≤ size_at b t.tile
+
+-- bytes of its blocks are written, with MaxRec, and no other byte changes
+pub record WritesRecords (b now : List ℕ) (kind : Kind) (own : VariableShape) (ts : List Touch) : Type 0 where
+  pub changed : Changed b now (max_rec_touches b kind own.vdr ++ ts)
+  pub as_long : length now ≡ length b
+  pub in_blocks : Each (InBlock b own) ts
+  pub max_rec_ruled : is_max_rec (number now own.vdr vdr_max_rec) ≡ true
+
+-- ---- marks
+
+abbrev gdr_marks : Kind → List Mark
+gdr_marks R = mark gdr_type Anywhere gdr_r_max_rec ∷ []
+gdr_marks Z = []
+
+abbrev block_mark : List ℕ → ℕ → Mark
+block_mark places most = record { type = vvr_type; tiles = Among places; place = 12; width = most }
+
+abbrev pub put_marks : Kind → ℕ → List ℕ → ℕ → List Mark
+put_marks kind v places most = gdr_marks kind ++ mark (type_in (variables_chain kind)) (Among (v ∷ [])) vdr_max_rec ∷ block_mark places most ∷ []
+
+-- which records they leave by their types alone
+record PutTests (kind : Kind) (marks : List Mark) : Type 0 where
+  file_clear : keeps_file marks ≡ true
+  attributes_clear : keeps_all_attributes marks ≡ true
+  other_clear : keeps_kind marks (other_kind kind) ≡ true
+  nodes_clear : unmarked marks vxr_type ≡ true
+  packed_clear : unmarked marks cvvr_type ≡ true
+  cpr_clear : unmarked marks cpr_type ≡ true
+  unused_clear : unmarked marks uir_type ≡ true
+  head_clear : avoided marks gdr_type (head_of (variables_chain kind)).place ((head_of (variables_chain kind)).place + (head_of (variables_chain kind)).width) ≡ true
+  count_clear : avoided marks gdr_type (count_of (variables_chain kind)).place ((count_of (variables_chain kind)).place + (count_of (variables_chain kind)).width) ≡ true
+  list_clear : avoided marks gdr_type gdr_uir_head.place (gdr_uir_head.place + gdr_uir_head.width) ≡ true
+  eof_clear : avoided marks gdr_type gdr_eof.place (gdr_eof.place + gdr_eof.width) ≡ true
+
+put_tests : (kind : Kind) (v : ℕ) (places : List ℕ) (most : ℕ) → PutTests kind (put_marks kind v places most)
+put_tests R v places most = record { file_clear = refl; attributes_clear = refl; other_clear = refl; nodes_clear = refl; packed_clear = refl; cpr_clear = refl; unused_clear = refl; head_clear = refl; count_clear = refl; list_clear = refl; eof_clear = refl }
+put_tests Z v places most = record { file_clear = refl; attributes_clear = refl; other_clear = refl; nodes_clear = refl; packed_clear = refl; cpr_clear = refl; unused_clear = refl; head_clear = refl; count_clear = refl; list_clear = refl; eof_clear = refl }
+
+pub put_avoids : (kind : Kind) (v : ℕ) (places : List ℕ) (most type m lo hi : ℕ) → (type ≡ gdr_type → (hi ≤ 52) ⊎ (56 ≤ lo)) → (type ≡ type_in (variables_chain kind) → m ≡ v → (hi ≤ 24) ⊎ (28 ≤ lo)) → (type ≡ vvr_type → In m places → hi ≤ 12) → Avoids (put_marks kind v places most) type m lo hi
+put_avoids R v places most type m lo hi g d p = ((λ same lies. g same), ((λ same lies. d same (the_one v m lies)), ((λ same lies. inl (p same lies)), tt)))
+put_avoids Z v places most type m lo hi g d p = ((λ same lies. d same (the_one v m lies)), ((λ same lies. inl (p same lies)), tt))
+
+put_away : (kind : Kind) (v : ℕ) (places : List ℕ) (most type m : ℕ) → (type ≡ gdr_type → ⊥) → (m ≡ v → ⊥) → (type ≡ vvr_type → In m places → ⊥) → Away (put_marks kind v places most) type m
+put_away R v places most type m g d p = ((λ same lies. g same), ((λ same lies. d (the_one v m lies)), ((λ same lies. p same lies), tt)))
+put_away Z v places most type m g d p = ((λ same lies. d (the_one v m lies)), ((λ same lies. p same lies), tt))
+
+-- the first bytes of all records
+early : (kind : Kind) (v : ℕ) (places : List ℕ) (most type m lo hi : ℕ) → hi ≤ 12 → Avoids (put_marks kind v places most) type m lo hi
+early kind v places most type m lo hi l = put_avoids kind v places most type m lo hi (λ e. inl (omega arith)) (λ e f. inl (omega arith)) (λ e i. l)
+
+vdr_no_gdr : (kind : Kind) → type_in (variables_chain kind) ≡ gdr_type → ⊥
+vdr_no_gdr R = apart r_vdr_type gdr_type refl
+vdr_no_gdr Z = apart z_vdr_type gdr_type refl
+
+vdr_no_block : (kind : Kind) → type_in (variables_chain kind) ≡ vvr_type → ⊥
+vdr_no_block R = apart r_vdr_type vvr_type refl
+vdr_no_block Z = apart z_vdr_type vvr_type refl
+
+covered_later : (b : List ℕ) (ks xs : List Mark) (t : Touch) → Covered b xs t → Covered b (ks ++ xs) t
+covered_later b [] xs t c = c
+covered_later b (k ∷ ks) xs t c = inr (covered_later b ks xs t c)
+
+tiles_in : (b : List ℕ) (own : VariableShape) (ts : List Touch) → Each (InBlock b own) ts → (m : ℕ) → In m (map (λ (t : Touch). t.tile) ts) → In m (places_of (leaves_of own.index))
+tiles_in b own [] each m i = absurd i
+tiles_in b own (t ∷ ts) each m (inl q) = subst (λ (x : ℕ). In x (places_of (leaves_of own.index))) (sym q) each.0.block
+tiles_in b own (t ∷ ts) each m (inr i) = tiles_in b own ts each.1 m i
+
+-- ---- the edit
+
+module _ {b now : List ℕ} {kind : Kind} {before : List VariableShape} {own : VariableShape} {after : List VariableShape} {ts : List Touch} (good : Good b) (at : StandsAmong b kind before own after) (w : WritesRecords b now kind own ts) where
+  abbrev s : Shape
+  s = shape b
+
+  abbrev v : ℕ
+  v = own.vdr
+
+  abbrev type : ℕ
+  type = type_in (variables_chain kind)
+
+  abbrev pub places : List ℕ
+  places = map (λ (t : Touch). t.tile) ts
+
+  abbrev pub marks : List Mark
+  marks = put_marks kind v places (length b)
+
+  abbrev tests : PutTests kind marks
+  tests = put_tests kind v places (length b)
+
+  sound : IsSound b s
+  sound = good_is_sound b good
+
+  h : HasShape b s
+  h = sound.has_shape
+
+  image : IsGoodByShape b s
+  image = good_by_its_shape b good
+
+  block_in : (m : ℕ) → In m places → In m (places_of (leaves_of own.index))
+  block_in = tiles_in b own ts w.in_blocks
+
+  pub in_records : (m : ℕ) → In m (places_of (leaves_of own.index)) → In m s.records
+  in_records m i = behind_in good at m (block_behind own m i)
+
+  blocks_marked : (xs : List Touch) → ((m : ℕ) → In m (map (λ (t : Touch). t.tile) xs) → In m places) → Each (InBlock b own) xs → Each (Marked b s.records marks []) xs
+  blocks_marked [] sub each = tt
+  blocks_marked (t ∷ xs) sub each =
+      let x = each.0 in
+      let inside = in_records t.tile x.block in (
+        record {
+          inside = inside;
+          fits = x.fits;
+          behind_size = let l = x.later in omega arith;
+          behind_type = inl x.later;
+          covered = covered_later b (gdr_marks kind) (mark type (Among (v ∷ [])) vdr_max_rec ∷ block_mark places (length b) ∷ []) t (inr (inl (record {
+            typed = x.typed;
+            lies = sub t.tile (inl refl);
+            low = x.later;
+            high = upto (t.place + t.width) (size_at b t.tile) t.tile (length b) x.fits (tile_lies b 8 (length b) s.records t.tile h.tiled inside).high;
+          })));
+        },
+        blocks_marked xs (λ m i. sub m (inr i)) each.1,
+      )
+    where
+      upto : (e n m l : ℕ) → e ≤ n → m + n ≤ l → e ≤ 12 + l
+      upto e n m l p q = omega arith
+
+  vdr_marked : Marked b s.records marks [] (touched_field v vdr_max_rec)
+  vdr_marked = record {
+    inside = tile good at;
+    fits = let n = long good at in omega arith;
+    behind_size = omega arith;
+    behind_type = inl (omega arith);
+    covered = covered_later b (gdr_marks kind) (mark type (Among (v ∷ [])) vdr_max_rec ∷ block_mark places (length b) ∷ []) (touched_field v vdr_max_rec) (inl (record { typed = typed good at; lies = inl refl; low = omega arith; high = omega arith }));
+  }
+
+  gdr_marked : (k : Kind) → Each (Marked b s.records (put_marks k v places (length b)) []) (map (touched_field s.gdr) (r_max_rec_field k))
+  gdr_marked R = (
+    record { inside = gdr_in b s h; fits = let l = gdr_long b s h in omega arith; behind_size = omega arith; behind_type = inl (omega arith); covered = inl (record { typed = gdr_typed b s h; lies = tt; low = omega arith; high = omega arith }) },
+    tt,
+  )
+  gdr_marked Z = tt
+
+  all_marked : Each (Marked b s.records marks []) (max_rec_touches b kind v ++ ts)
+  all_marked = Each-append (Marked b s.records marks []) (max_rec_touches b kind v) ts (Each-append (Marked b s.records marks []) (map (touched_field s.gdr) (r_max_rec_field kind)) (touched_field v vdr_max_rec ∷ []) (gdr_marked kind) (vdr_marked, tt)) (blocks_marked ts (λ m i. i) w.in_blocks)
+
+  pub edit : Edit b now s.records s.records marks []
+  edit = changed_edit b now s.records (max_rec_touches b kind v ++ ts) marks [] h.tiled w.as_long w.changed all_marked (some_bytes b s h)
+
+  pub file : FileSame b now
+  file = file_same sound edit tests.file_clear
+
+  -- ---- its records
+
+  start : (m : ℕ) → In m s.records → Same b now (m + 0) (m + 12)
+  start m i = edit.part m (type_at b m) 0 12 i refl (early kind v places (length b) (type_at b m) m 0 12 (omega arith)) (early kind v places (length b) (type_at b m) m 0 12 (omega arith)) (tile_lies b 8 (length b) s.records m h.tiled i).long
+
+  pub size_same : (m : ℕ) → In m s.records → size_at now m ≡ size_at b m
+  size_same m i = head_size b now m (start m i)
+
+  pub type_same : (m : ℕ) → In m s.records → type_at now m ≡ type_at b m
+  type_same m i = head_type b now m (start m i)
+
+  pub node_kept : (m : ℕ) → In m (nodes_of own.index) → Kept b now m
+  node_kept m i = kept edit m vxr_type (behind_in good at m (node_behind own m i)) (linkable-type b s.records vxr_type m (nodes_stand b s.records 8 own.index (has good at).indexed.has_nodes m i)) tests.nodes_clear
+
+  cpr_kept : (m : ℕ) → In m own.cpr → Kept b now m
+  cpr_kept m i = kept edit m cpr_type (behind_in good at m (cpr_behind own m i)) (is_a-type b s.records cpr_type m (Each-in (λ x. is_a b s.records cpr_type x ≡ true) own.cpr (fits good at).3 m i)) tests.cpr_clear
+
+  vdr_in : In v (variable_records own)
+  vdr_in = inl refl
+
+  -- no other variable has a record of this one
+  only : (m : ℕ) → In m (variable_records own) → OnlyVariable b s kind before after m
+  only m i = only_variable sound kind before own after at.was m i
+
+  -- a block of which nothing is written
+  pub block_kept : (m : ℕ) → In m (places_of (leaves_of own.index)) → (In m places → ⊥) → Kept b now m
+  block_kept m i out = kept_away edit m (type_at b m) (in_records m i) refl (put_away kind v places (length b) (type_at b m) m (λ e. no_gdr m (variable_typed b s sound m (own_of m i)) e) (λ e. no_vdr m i e) (λ e j. out j))
+    where
+      no_gdr : (m : ℕ) → is_in (type_at b m) variable_types ≡ true → type_at b m ≡ gdr_type → ⊥
+      no_gdr m t e = true≢false (sym (ap (λ (x : ℕ). is_in x variable_types) (sym e) ∙ t))
+
+      own_of : (m : ℕ) → In m (places_of (leaves_of own.index)) → In m (all_variable_records s)
+      own_of m i = (ours good at).1.sub m (In-append_left m (variable_records own) (flat_map variable_records after) (inr (block_behind own m i)))
+
+      no_vdr : (m : ℕ) → In m (places_of (leaves_of own.index)) → m ≡ v → ⊥
+      no_vdr m i e = no_block good at (subst (λ (x : ℕ). In x (places_of (leaves_of own.index))) e i)
+
+  -- no block is the VDR or the GDR
+  pub block_no_vdr : (m : ℕ) → In m (places_of (leaves_of own.index)) → m ≡ v → ⊥
+  block_no_vdr m i e = no_block good at (subst (λ (x : ℕ). In x (places_of (leaves_of own.index))) e i)
+
+  block_no_gdr : (m : ℕ) → In m (places_of (leaves_of own.index)) → m ≡ s.gdr → ⊥
+  block_no_gdr m i e =
+      let all = (ours good at).1.sub m (In-append_left m (variable_records own) (flat_map variable_records after) (inr (block_behind own m i))) in
+      true≢false (sym (ap (λ (x : ℕ). is_in x variable_types) (sym (ap (type_at b) e ∙ gdr_typed b s h)) ∙ variable_typed b s sound m all))
+
+  Misses-append : (xs ys : List Touch) (m lo hi : ℕ) → Misses xs m lo hi → Misses ys m lo hi → Misses (xs ++ ys) m lo hi
+  Misses-append [] ys m lo hi p q = q
+  Misses-append (x ∷ xs) ys m lo hi p q = (p.0, Misses-append xs ys m lo hi p.1 q)
+
+  gdr_missed : (k : Kind) (m lo hi : ℕ) → (m ≡ s.gdr → ⊥) → Misses (map (touched_field s.gdr) (r_max_rec_field k)) m lo hi
+  gdr_missed R m lo hi out = ((λ e. absurd (out e)), tt)
+  gdr_missed Z m lo hi out = tt
+
+  -- bytes of a block that no touch meets
+  pub block_part : (m lo hi : ℕ) → In m (places_of (leaves_of own.index)) → hi ≤ size_at b m → Misses ts m lo hi → Same b now (m + lo) (m + hi)
+  block_part m lo hi i fit miss = part_missed b now s.records (max_rec_touches b kind v ++ ts) marks [] h.tiled w.as_long w.changed all_marked m lo hi (in_records m i) fit
+      (Misses-append (max_rec_touches b kind v) ts m lo hi (Misses-append (map (touched_field s.gdr) (r_max_rec_field kind)) (touched_field v vdr_max_rec ∷ []) m lo hi (gdr_missed kind m lo hi (block_no_gdr m i)) ((λ e. absurd (block_no_vdr m i e)), tt)) miss)
+
+  -- ---- its VDR
+
+  part : (lo hi : ℕ) → (hi ≤ 24) ⊎ (28 ≤ lo) → hi ≤ size_at b v → Same b now (v + lo) (v + hi)
+  part lo hi side fit = edit.part v type lo hi (tile good at) (typed good at) (early kind v places (length b) type v 0 12 (omega arith)) (put_avoids kind v places (length b) type v lo hi (λ e. absurd (vdr_no_gdr kind e)) (λ e f. side) (λ e i. absurd (vdr_no_block kind e))) fit
+
+  wide : 340 ≤ size_at b v
+  wide = long good at
+
+  front : (lo hi : ℕ) → (hi ≤ 24) ⊎ (28 ≤ lo) → hi ≤ 340 → Same b now (v + lo) (v + hi)
+  front lo hi side l = part lo hi side (through hi 340 (size_at b v) l wide)
+
+  pad_fits : (pad_field b v).place ≤ size_at b v
+  pad_fits = less (pad_field b v).place _ (size_at b v) (fits good at).0
+    where
+      less : (a p s : ℕ) → a + p ≤ s → a ≤ s
+      less a p s h = omega arith
+
+  pad_late : 340 ≤ (pad_field b v).place
+  pad_late = pad_long (is_z b v) (dimensions_at b v) (value_bytes b v)
+
+  pub vdr_alike : VdrAlike b now v v
+  vdr_alike = record {
+    typed = type_same v (tile good at);
+    type = copied_in_place b now v 20 24 (front 20 24 (inl (omega arith)) (omega arith));
+    links = copied_in_place b now v 28 44 (front 28 44 (inr (omega arith)) (omega arith));
+    second = copied_in_place b now v 48 68 (front 48 68 (inr (omega arith)) (omega arith));
+    third = copied_in_place b now v 72 80 (front 72 80 (inr (omega arith)) (omega arith));
+    behind = copied_in_place b now v 340 (pad_field b v).place (part 340 (pad_field b v).place (inr (omega arith)) pad_fits);
+  }
+
+  pub flags_same : number now v vdr_flags ≡ number b v vdr_flags
+  flags_same = word_kept b now (v + 44) (v + 48) (front 44 48 (inr (omega arith)) (omega arith)) (v + 44) 4 (omega arith) (omega arith)
+
+  packed : is_compressed now v ≡ is_compressed b v
+  packed = ap (λ (n : ℕ). has_bit n 2) flags_same
+
+  pub name_same : name_in now v vdr_name ≡ name_in b v vdr_name
+  name_same = ap (before_first (λ (x : ℕ). x == 0)) (piece_kept b now (v + 84) (v + 340) (front 84 340 (inr (omega arith)) (omega arith)) (v + 84) 256 (omega arith) (omega arith) (let high = (tile_lies b 8 (length b) s.records v h.tiled (tile good at)).high in let n = wide in omega arith) (let l = w.as_long in omega arith))
+
+  pub blocking_same : integer4 now v vdr_blocking_factor ≡ integer4 b v vdr_blocking_factor
+  blocking_same = ap (cast_signed w32) (word_kept b now (v + 80) (v + 84) (front 80 84 (inr (omega arith)) (omega arith)) (v + 80) 4 (omega arith) (omega arith))
+
+  pad_bytes : has_pad b v ≡ true → field_bytes now v (pad_field b v) ≡ field_bytes b v (pad_field b v)
+  pad_bytes e =
+      let n = size_at b v in
+      let ends = end_fits (has_pad b v) (pad_field b v).place (value_bytes b v) n (fits good at).0 e in
+      let room : (pad_field b v).place + (pad_field b v).width ≤ n = subst (λ (k : ℕ). (pad_field b v).place + k ≤ n) (sym (pad_width (is_z b v) (dimensions_at b v) (value_bytes b v))) ends in
+      piece_kept b now (v + 340) (v + n) (part 340 n (inr (omega arith)) (omega arith)) (v + (pad_field b v).place) (pad_field b v).width (from v (pad_field b v).place pad_late) (upto v (pad_field b v).place (pad_field b v).width n room)
+      (tile_lies b 8 (length b) s.records v h.tiled (tile good at)).high (let l = w.as_long in omega arith)
+    where
+      from : (v p : ℕ) → 340 ≤ p → v + 340 ≤ v + p
+      from v p l = omega arith
+
+      upto : (v p k n : ℕ) → p + k ≤ n → v + p + k ≤ v + n
+      upto v p k n l = omega arith
+
+  pub pad_same : pad_at now v ≡ pad_at b v
+  pad_same = pad_alike file vdr_alike flags_same pad_bytes
+
+  end_same : vdr_end now v ≡ vdr_end b v
+  end_same =
+      let pad = pad_field_alike file vdr_alike in
+      let flags = flags_same in
+      let value = value_alike file vdr_alike in
+      λ i. (pad i).place + (if has_bit (flags i) 1 then value i else 0)
+
+  -- ---- its links and its rules
+
+  mine_heads : (records : List ℕ) → ((m : ℕ) → In m (index_records own) → In m records) → SameHeads b now (index_records own) records
+  mine_heads records sub = record { sizes = λ m i. size_same m (behind_in good at m i); types = λ m i. type_same m (behind_in good at m i); sub = sub }
+
+  has_now : HasVariable now s.records own
+  has_now =
+      let mine = index_records own in
+      let link = cpr_link_alike file vdr_alike in
+      let pack = packed in
+      let cpr : cpr_of now v ≡ cpr_of b v = λ i. if pack i then link i ∷ [] else [] in
+      let index = index_both b s.records mine (number b v vdr_vxr_head) own.index (λ m i. (behind_in good at m (node_behind own m i), node_behind own m i)) (λ m i. (behind_in good at m (block_behind own m i), block_behind own m i)) (has good at).indexed in
+      record {
+        indexed = index_kept b now mine s.records (mine_heads s.records (behind_in good at)) (number b v vdr_vxr_head) (number now v vdr_vxr_head) own.index index (index_link_alike file vdr_alike)
+            node_kept (Each-in (NodeFits b) (nodes_of own.index) (fits good at).1) (block_behind own);
+        packed_by = cpr ∙ (has good at).packed_by;
+      }
+
+  cpr_own : is_compressed b v ≡ true → In (cpr_link b v) own.cpr
+  cpr_own c =
+      let there : own.cpr ≡ cpr_link b v ∷ [] = sym (has good at).packed_by ∙ ap (λ (p : Bool). if p then cpr_link b v ∷ [] else []) c in
+      subst (λ (x : List ℕ). In (cpr_link b v) x) (sym there) (inl refl)
+
+  kept_or_plain : (m : ℕ) → In m (places_of (leaves_of own.index)) → Kept b now m ⊎ (type_at b m ≡ vvr_type)
+  kept_or_plain m i = elim (either (is_in m places)) [
+    | inl e ↦ inr (plain ts w.in_blocks m (true-is_in m places e))
+    | inr e ↦ inl (block_kept m i (false-is_in m places e))
+  ]
+    where
+      plain : (xs : List Touch) → Each (InBlock b own) xs → (m : ℕ) → In m (map (λ (t : Touch). t.tile) xs) → type_at b m ≡ vvr_type
+      plain [] each m i = absurd i
+      plain (t ∷ xs) each m (inl q) = ap (type_at b) q ∙ each.0.typed
+      plain (t ∷ xs) each m (inr i) = plain xs each.1 m i
+
+  index_ruled : Hold (index_rows b s.records v own.index) → Hold (index_rows now s.records v own.index)
+  index_ruled rules =
+      let mine = index_records own in
+      let there : Hold (index_rows b mine v own.index) = subst Hold (sym (index_rows_both b s.records mine v own.index (λ m i. (behind_in good at m (block_behind own m i), block_behind own m i)))) rules in
+      subst Hold (sym (index_rows_both now mine s.records v own.index (λ m i. (block_behind own m i, behind_in good at m (block_behind own m i)))))
+      (index_rules_written b now mine (mine_heads mine (λ m i. i)) file (λ m i. h.fixed m (behind_in good at m i)) v v packed (plain_alike file vdr_alike) own.index node_kept (Each-in (NodeFits b) (nodes_of own.index) (fits good at).1)
+      (λ m i. (block_behind own m i, kept_or_plain m i)) there)
+
+  ruled : IsRuled b s.records own → has_name now v vdr_name ≡ true → IsRuled now s.records own
+  ruled rules named = (
+    variable_rules_alike file vdr_alike (subst (λ (n : ℕ). size_at b v ≤ n) (sym (size_same v (tile good at))) (omega arith)) s.records s.records [] [] rules.0 named refl
+        (subst (λ (n : ℕ). vdr_end now v ≤ n) (sym (size_same v (tile good at))) (subst (λ (n : ℕ). n ≤ size_at b v) (sym end_same) (fits good at).0)) packed
+        (λ c is. cpr_stays b now s.records s.records (cpr_link b v) is (cpr_kept (cpr_link b v) (cpr_own c)) (behind_in good at (cpr_link b v) (cpr_behind own (cpr_link b v) (cpr_own c)))) w.max_rec_ruled,
+    index_ruled rules.1,
+  )
+
+  -- ---- the others
+
+  -- records of variables that are not of this one
+  beside : (xs : List ℕ) → ((m : ℕ) → In m xs → In m (all_variable_records s)) → ((m : ℕ) → In m (variable_records own) → In m xs → ⊥) → (m : ℕ) → In m xs → Away marks (type_at b m) m
+  beside xs sub out m i =
+      put_away kind v places (length b) (type_at b m) m (λ e. true≢false (sym (ap (λ (x : ℕ). is_in x variable_types) (sym e) ∙ variable_typed b s sound m (sub m i))))
+      (λ e. out m (subst (λ (x : ℕ). In x (variable_records own)) (sym e) vdr_in) i) (λ e j. out m (inr (block_behind own m (block_in m j))) i)
+
+  abbrev others : List VariableShape
+  others = shapes_of s (other_kind kind)
+
+  gdr_same : (g : Field) → avoided marks gdr_type g.place (g.place + g.width) ≡ true → g.place + g.width ≤ 84 → number now s.gdr g ≡ number b s.gdr g
+  gdr_same g clear l = gdr_field sound edit tests.file_clear g clear l
+
+  chain_early : (m : ℕ) → Avoids marks type m 0 20
+  chain_early m = put_avoids kind v places (length b) type m 0 20 (λ e. absurd (vdr_no_gdr kind e)) (λ e f. inl (omega arith)) (λ e i. absurd (vdr_no_block kind e))
+
+  unused_early : (m : ℕ) → Avoids marks uir_type m 0 20
+  unused_early m = put_avoids kind v places (length b) uir_type m 0 20 (λ e. absurd (apart uir_type gdr_type refl e)) (λ e f. inl (omega arith)) (λ e i. absurd (apart uir_type vvr_type refl e))
+
+  pub splices : VariableSplices b now s kind s.records s.unused marks [] before (own ∷ []) (own ∷ []) after
+  splices = record {
+    edit = edit;
+    was = at.was;
+    file_clear = tests.file_clear;
+    attributes_clear = tests.attributes_clear;
+    other_clear = tests.other_clear;
+    before_remain = remain_from sound edit file before (ours good at).0 (variables_away sound edit before (ours good at).0 (beside (flat_map variable_records before) (ours good at).0.sub (λ m i. (only m i).in_before)));
+    after_remain = remain_from sound edit file after (after_ours good at) (variables_away sound edit after (after_ours good at) (beside (flat_map variable_records after) (after_ours good at).sub (λ m i. (only m i).in_after)));
+    others_live = variables_away sound edit others (kind_ours b s sound (other_kind kind)) (beside (flat_map variable_records others) (kind_ours b s sound (other_kind kind)).sub (λ m i. (only m i).in_others));
+    typed = λ m i. absurd i;
+    variable_chain = subst (λ (vs : List VariableShape). IsChain now s.records type (number now s.gdr (head_of (variables_chain kind))) (vdrs vs)) at.was
+        (chain_stays edit type _ _ (vdrs (shapes_of s kind)) (kind_chain kind h) (gdr_same (head_of (variables_chain kind)) tests.head_clear (in_gdr kind).0) (λ m i. chain_early m));
+    unused_chain = chain_stays edit uir_type _ _ s.unused h.unused_chain (gdr_same gdr_uir_head tests.list_clear (omega arith)) (λ m i. unused_early m);
+    own_have = (has_now, tt);
+  }
+
+  -- ---- the shape and the content
+
+  as_was : with_shapes s kind s.records s.unused (before ++ own ∷ after) ≡ s
+  as_was = ap (with_shapes s kind s.records s.unused) (sym at.was) ∙ by_itself kind
+    where
+      by_itself : (kind : Kind) → with_shapes (shape b) kind (shape b).records (shape b).unused (shapes_of (shape b) kind) ≡ shape b
+      by_itself R = refl
+      by_itself Z = refl
+
+  pub same_shape : shape now ≡ s
+  same_shape = shape_is now _ (shape_now sound splices) ∙ as_was
+
+  pub records_are : (shape now).records ≡ s.records
+  records_are = ap (λ (x : Shape). x.records) same_shape
+
+  pub content_replaced : content now ≡ with_variables (content b) kind (slice_set (variables_of (content b) kind) (length before) (variable_of now own))
+  content_replaced =
+      let split : variables_of (content b) kind ≡ map (variable_of b) before ++ variable_of b own ∷ map (variable_of b) after =
+      ap (λ (d : DataSet). variables_of d kind) (content_is b s h) ∙ variables_of_are b s kind ∙ ap (map (variable_of b)) at.was ∙ map-append (variable_of b) before (own ∷ after) in
+      let set = ap (λ (vs : List Variable). slice_set vs (length before) (variable_of now own)) split ∙ set_at (map (variable_of b) before) (variable_of b own) (map (variable_of b) after) (variable_of now own) (length before) (length-map before (variable_of b)) in
+      content_now sound splices ∙ ap (with_variables (content b) kind) (sym set)
+
+  -- ---- the rules
+
+  count_same : number now (gdr_offset now) (count_of (variables_chain kind)) ≡ number b (gdr_offset b) (count_of (variables_chain kind))
+  count_same =
+      let g = count_of (variables_chain kind) in
+      ap (λ (x : ℕ). number now x g) (gdr_place sound edit tests.file_clear) ∙ gdr_same g tests.count_clear (in_gdr kind).1 ∙ sym (ap (λ (x : ℕ). number b x g) h.gdr_is)
+
+  num_same : (m : ℕ) → In m (vdrs (shapes_of s kind)) → number now m vdr_num ≡ number b m vdr_num
+  num_same m i =
+      let ok = (kind_chain kind h).linkable m i in
+      let inside = linkable-in b s.records type m ok in
+      let is = linkable-type b s.records type m ok in
+      let far = through 340 (fixed_size type) (size_at b m) (least_size kind) (fixed_long b s h type m inside is) in
+      word_kept b now (m + 68) (m + 72) (edit.part m type 68 72 inside is (early kind v places (length b) type m 0 12 (omega arith)) (put_avoids kind v places (length b) type m 68 72 (λ e. absurd (vdr_no_gdr kind e)) (λ e f. inr (omega arith)) (λ e j. absurd (vdr_no_block kind e))) (omega arith)) (m + vdr_num.place) 4 (omega arith) (omega arith)
+
+  counted : Hold (vdrs_rows kind now (vdrs (before ++ own ∷ after)))
+  counted =
+      let same = vdrs_rows_kept kind b now (vdrs (shapes_of s kind)) (gdr_place sound edit tests.file_clear ∙ sym h.gdr_is) count_same num_same in
+      subst (λ (vs : List VariableShape). Hold (vdrs_rows kind now (vdrs vs))) at.was (subst Hold (sym same) (counted_before image kind))
+
+  pub own_ruled : IsRuled b s.records own
+  own_ruled = (parts_ruled sound splices image).0.1.0.0
+
+  has_name_now : has_name now v vdr_name ≡ true
+  has_name_now = ap (λ (x : List ℕ). not (length x == 0)) name_same ∙ own_ruled.0.0
+
+  pub good_now : length b ≤ image_limit → Good now
+  good_now short =
+      let first = (sealed_kept b (good_long b s image) (rules_of_good b good)).0 in
+      let rules : OwnRules sound splices = record {
+        counted = counted;
+        apart = apart_if sound splices image (λ x y i j differ. absurd (differ (the_one v x i ∙ sym (the_one v y j))))
+            (λ x y i beside. subst (λ (z : ℕ). bytes_eq (name_in now z vdr_name) (name_in b y vdr_name) ≡ false) (sym (the_one v x i)) (subst (λ (n : List ℕ). bytes_eq n (name_in b y vdr_name) ≡ false) (sym name_same) (own_names_apart sound splices image v y (inl refl) beside)));
+        own_ruled = (ruled own_ruled has_name_now, tt);
+        read = λ m i. absurd i;
+        owned = owned_once_if b now s (with_shapes s kind s.records s.unused (before ++ own ∷ after)) marks [] sound image.owned_once edit (λ m out. ap (λ (x : Shape). used_times x m) as_was) (λ m i. absurd i);
+      } in
+      good_image_if sound splices first image rules (gdr_same gdr_eof tests.eof_clear (omega arith) ∙ eof_by_rules b s sound first ∙ sym w.as_long) (let l = w.as_long in omega arith)
+
+  pub no_acts_follow : ActsFollow b now []
+  no_acts_follow = acts_none sound edit tests.unused_clear refl records_are (ap (λ (x : Shape). x.unused) same_shape) w.as_long
+
+  -- ---- what stays
+
+  stands : (xs : List ℕ) → ((m : ℕ) → In m xs → In m (all_variable_records s)) → ((m : ℕ) → In m (variable_records own) → In m xs → ⊥) → (m : ℕ) → In m xs → Stood b now m
+  stands xs sub out m i = let inside = variables_in b s sound m (sub m i) in stood sound edit records_are m inside (kept_away edit m (type_at b m) inside refl (beside xs sub out m i))
+
+  gdr_within : (k : Kind) → Within (put_marks k v places (length b)) gdr_type s.gdr (r_max_rec_field k ++ space_fields)
+  gdr_within R = ((λ same lies. refl), ((λ same lies. absurd (vdr_no_gdr R (sym same))), ((λ same lies. absurd (apart gdr_type vvr_type refl same)), tt)))
+  gdr_within Z = ((λ same lies. absurd (vdr_no_gdr Z (sym same))), ((λ same lies. absurd (apart gdr_type vvr_type refl same)), tt))
+
+  vdr_within : (k : Kind) → Within (put_marks k v places (length b)) (type_in (variables_chain k)) v (vdr_max_rec ∷ vdr_vxr_head ∷ vdr_vxr_tail ∷ [])
+  vdr_within R = ((λ same lies. absurd (vdr_no_gdr R same)), ((λ same lies. refl), ((λ same lies. absurd (vdr_no_block R same)), tt)))
+  vdr_within Z = ((λ same lies. refl), ((λ same lies. absurd (vdr_no_block Z same)), tt))
+
+  module _ (found : Found) (kind_is : found.kind ≡ kind) (number_is : found.number ≡ length before) (n : ℕ)
+      (rewritten : (m : ℕ) → In m places → (l : Leaf) × ((find (λ (leaf : Leaf). leaf.place == m) (leaves_of own.index) ≡ Some l) × (is_rewritten found.variable n (range l.first l.last) ≡ true))) where
+    abbrev may : Allowances
+    may = put_changes b s found n
+
+    abbrev own_may : OwnAllowances
+    own_may = record stays_own { vdr = Only (vdr_max_rec ∷ vdr_vxr_head ∷ vdr_vxr_tail ∷ []); nodes = Anything; blocks = λ r. anything_if (is_rewritten found.variable n r) }
+
+    was : shapes_of s found.kind ≡ before ++ own ∷ after
+    was = ap (shapes_of s) kind_is ∙ at.was
+
+    keeps_own_vdr : Keeps b now v (may.variables kind (length before) v)
+    keeps_own_vdr =
+        let may_be : of_variable b s found own_may [] found.kind (length before) v ≡ Only (vdr_max_rec ∷ vdr_vxr_head ∷ vdr_vxr_tail ∷ []) = vdr_allowance b found before own after was number_is (typed good at ∙ ap (λ (k : Kind). type_in (variables_chain k)) (sym kind_is) ∙ kind_type found.kind) (no_block good at) own_may [] in
+        let kept_vdr : Keeps b now v (Only (vdr_max_rec ∷ vdr_vxr_head ∷ vdr_vxr_tail ∷ [])) = keeps_within sound edit records_are v type (vdr_max_rec ∷ vdr_vxr_head ∷ vdr_vxr_tail ∷ []) (tile good at) (typed good at) (early kind v places (length b) type v 0 12 (omega arith)) (vdr_within kind) in
+        subst (λ (k : Kind). Keeps b now v (may.variables k (length before) v)) kind_is (subst (Keeps b now v) (sym may_be) kept_vdr)
+
+    stood_behind : (m : ℕ) → In m (index_records own) → Kept b now m → Stood b now m
+    stood_behind m i k = stood sound edit records_are m (behind_in good at m i) k
+
+    -- a block that is written may change
+    block_free : (m : ℕ) → In m places → may.variables kind (length before) m ≡ Anything
+    block_free m i =
+        let x = rewritten m i in
+        let there : slice_get (shapes_of s found.kind) found.number ≡ Some own = ap (slice_get (shapes_of s found.kind)) number_is ∙ ap (λ (vs : List VariableShape). slice_get vs (length before)) was ∙ got-middle before own after in
+        let at_place : range_at s found m ≡ Some (range x.0.first x.0.last) = ap (range_in m) there ∙ ap in_leaf x.1.0 in
+        let same : same_kind found.kind kind ≡ true = ap (same_kind found.kind) (sym kind_is) ∙ same_as_itself found.kind in
+        let number : (found.number == length before) ≡ true = eq-eqb found.number (length before) number_is in
+        let written = x.1.1 in
+        (λ i. if same i then (if number i then (elim (at_place i) as (λ o. Allowance) [ Some r ↦ anything_if (is_rewritten found.variable n r) | None ↦ if type_at b m == vdr_type found.kind then own_may.vdr else (if type_at b m == vxr_type then own_may.nodes else own_may.cpr) ]) else only_of b m (vdr_type kind) []) else Only [])
+        ∙ ap anything_if written
+      where
+        in_leaf : Option Leaf → Option Range
+        in_leaf None = None
+        in_leaf (Some leaf) = Some (range leaf.first leaf.last)
+
+        range_in : ℕ → Option VariableShape → Option Range
+        range_in place None = None
+        range_in place (Some v) = in_leaf (find (λ (leaf : Leaf). leaf.place == place) (leaves_of v.index))
+
+    keeps_behind : (m : ℕ) → In m (index_records own) → Keeps b now m (may.variables kind (length before) m)
+    keeps_behind m i = elim (In-append m (nodes_of own.index ++ places_of (leaves_of own.index)) own.cpr i) [
+      | inr c ↦ keeps_stood b now m (stood_behind m i (cpr_kept m c)) (may.variables kind (length before) m)
+      | inl j ↦ elim (In-append m (nodes_of own.index) (places_of (leaves_of own.index)) j) [
+        | inl x ↦ keeps_stood b now m (stood_behind m i (node_kept m x)) (may.variables kind (length before) m)
+        | inr x ↦ elim (either (is_in m places)) [
+          | inl e ↦ subst (Keeps b now m) (sym (block_free m (true-is_in m places e))) tt
+          | inr e ↦ keeps_stood b now m (stood_behind m i (block_kept m x (false-is_in m places e))) (may.variables kind (length before) m)
+        ]
+      ]
+    ]
+
+    keeps_gdr : Keeps b now s.gdr may.gdr
+    keeps_gdr = keeps_within sound edit records_are s.gdr gdr_type (r_max_rec_field found.kind ++ space_fields) (gdr_in b s h) (gdr_typed b s h) (early kind v places (length b) gdr_type s.gdr 0 12 (omega arith))
+        (subst (λ (k : Kind). Within marks gdr_type s.gdr (r_max_rec_field k ++ space_fields)) (sym kind_is) (gdr_within kind))
+
+    keeps_cdr : Keeps b now 8 may.cdr
+    keeps_cdr = let k = cdr_kept sound edit tests.file_clear in keeps_stood b now 8 (stood sound edit records_are 8 (is_a-in b s.records cdr_type 8 h.cdr_stands) k) may.cdr
+
+    pub all_keep_put : AllKeep b now (put_changes b s found n) [] (owned b s)
+    all_keep_put =
+        let mine = keep_places b now may [] (OneVariable kind (length before)) (variable_records own) (λ m i. elim i [
+          | inl q ↦ subst (λ (x : ℕ). Keeps b now x (may.variables kind (length before) x)) (sym q) keeps_own_vdr
+          | inr j ↦ keeps_behind m j
+        ]) in
+        let parts = keep_variable_parts b now may [] kind before own after at.was
+        (keep_variables b now may [] kind 0 before (stands (flat_map variable_records before) (ours good at).0.sub (λ m i. (only m i).in_before))) mine
+        (keep_variables b now may [] kind (suc (length before)) after (stands (flat_map variable_records after) (after_ours good at).sub (λ m i. (only m i).in_after))) in
+        let both = keep_kinds b now may [] kind parts (keep_variables b now may [] (other_kind kind) 0 others (stands (flat_map variable_records others) (kind_ours b s sound (other_kind kind)).sub (λ m i. (only m i).in_others))) in
+        keep_all b now may [] (keep_file b now may [] sound keeps_cdr keeps_gdr)
+        (keep_attributes b now may [] 0 s.attributes (λ m i. stood sound edit records_are m (all_attributes_in sound m i) (attributes_kept sound splices m i))) both.0 both.1
+        (keep_owned b now may [] Unused (unused_records b s) (λ m i. let inside = unused_in b s sound m i in stood sound edit records_are m inside (kept edit m uir_type inside (eqb-true _ _ (filter-says (λ (x : ℕ). eqb (type_at b x) uir_type) s.records m i)) tests.unused_clear)))
