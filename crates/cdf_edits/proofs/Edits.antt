@@ -93,3 +93,4 @@ pub mod RecordsWritten
 pub mod LeafPieces
 pub mod PlainLeaves
 pub mod RecordPut
+pub mod RecordPuts
