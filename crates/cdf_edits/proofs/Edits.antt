@@ -94,3 +94,5 @@ pub mod LeafPieces
 pub mod PlainLeaves
 pub mod RecordPut
 pub mod RecordPuts
+pub mod GreatestPut
+pub mod OneRecordPut

@@ -86,7 +86,7 @@ filled_uncut v r e = by v.sparse e
 
 -- ---- MaxRec
 
-extent_last : (n : ℕ) → extent (last_number n) ≡ n
+pub extent_last : (n : ℕ) → extent (last_number n) ≡ n
 extent_last zero = refl
 extent_last (suc n) = omega arith
 
@@ -94,10 +94,10 @@ last_extent : (z : ℤ) (r : ℕ) → r < extent z → last_number (extent z) �
 last_extent (pos n) r lt = let e : n + 1 ≡ suc n = omega arith in ap last_number e
 last_extent (negsuc n) r lt = absurd (omega arith)
 
-greater_is_first : (m r : ℕ) → r < m → greater m (r + 1) ≡ m
+pub greater_is_first : (m r : ℕ) → r < m → greater m (r + 1) ≡ m
 greater_is_first m r lt = rw (le-ltb m (r + 1) (omega arith)) refl
 
-greater_is_last : (m r : ℕ) → m ≤ r → greater m (r + 1) ≡ suc r
+pub greater_is_last : (m r : ℕ) → m ≤ r → greater m (r + 1) ≡ suc r
 greater_is_last m r le = rw (lt-ltb m (r + 1) (omega arith)) (omega arith)
 
 -- ---- the leaves that are written
@@ -115,7 +115,7 @@ pub some_shared : (n : ℕ) → nat_lt 0 n ≡ true → 0 < n
 some_shared n t = grind (arith, nat_tests)
 
 module _ (v : Variable) (r : ℕ) where
-  abbrev touch_of : Leaf → Touch
+  abbrev pub touch_of : Leaf → Touch
   touch_of l = touch l.place (12 + (max (first_written v r) l.first - l.first) * record_length v) (shared (first_written v r) r (range l.first l.last) * record_length v)
 
   each_touch : (P : Touch → Type 0) (xs : List Leaf) → ((l : Leaf) → IsOneOf xs l → P (touch_of l)) → Each P (map touch_of xs)
@@ -245,13 +245,13 @@ module _ {b now : List ℕ} {kind : Kind} {before : List VariableShape} {own : V
   first_is : (first ≤ m) × ((first ≡ r) ⊎ (first ≡ m))
   first_is = first_cases v.sparse m r p.uncut
 
-  max_rec_now : max_rec_at now vdr ≡ last_number (greater m (r + 1))
+  pub max_rec_now : max_rec_at now vdr ≡ last_number (greater m (r + 1))
   max_rec_now = elim (cases_lt r m) [
     | inl lt ↦ ap with_sign (p.max_rec_is ∙ rw (lt-ltb r m lt) refl) ∙ sym (last_extent (max_rec_at b vdr) r lt) ∙ ap last_number (sym (greater_is_first m r lt))
     | inr le ↦ ap with_sign (p.max_rec_is ∙ rw (le-ltb r m le) refl) ∙ signed r p.within ∙ ap last_number (sym (greater_is_last m r le))
   ]
 
-  module _ (bytes : List ℕ) (raw_is : turned (type_of_variable b vdr) (is_little b) raw ≡ bytes) (pad_is : turned (type_of_variable b vdr) (is_little b) pad ≡ pad_record v) where
+  module _ (bytes : List ℕ) (raw_is : turned (type_of_variable b vdr) (is_little b) raw ≡ bytes) (pad_is : extent (max_rec_at b vdr) < r → turned (type_of_variable b vdr) (is_little b) pad ≡ pad_record v) where
     stores : StoresPut b now vdr vdr leaves leaves r bytes (pad_record v)
     stores = record {
       typed = type_alike (file good at writes) (vdr_alike good at writes);
@@ -261,7 +261,7 @@ module _ {b now : List ℕ} {kind : Kind} {before : List VariableShape} {own : V
       ascend_now = leaves_ascend good at;
       upto = ap extent max_rec_now ∙ extent_last (greater m (r + 1));
       stored = let c = p.covered r (first_upto first_is.0 first_is.1) (omega arith) in ap (option_map turn) (stored_is r c.0 c.1.0 c.1.1.0 c.1.1.1 ∙ ap Some (p.stored c.0 c.1.0 c.1.1.0 c.1.1.1)) ∙ ap Some raw_is;
-      padded = λ k le lt. let c = p.covered k (let l = first_is.0 in omega arith) (omega arith) in ap (option_map turn) (stored_is k c.0 c.1.0 c.1.1.0 c.1.1.1 ∙ ap Some (p.padded k c.0 le lt c.1.0 c.1.1.0 c.1.1.1)) ∙ ap Some pad_is;
+      padded = λ k le lt. let c = p.covered k (let l = first_is.0 in omega arith) (omega arith) in ap (option_map turn) (stored_is k c.0 c.1.0 c.1.1.0 c.1.1.1 ∙ ap Some (p.padded k c.0 le lt c.1.0 c.1.1.0 c.1.1.1)) ∙ ap Some (pad_is (omega arith));
       kept = λ k lt ne. stored_same k (beside k lt ne first_is.1);
     }
       where

@@ -29,7 +29,7 @@ use Rattle.cdf_format.specs.Shape.{VariableShape, Shape, is_compressed, Each, sh
 use Rattle.cdf_format.specs.Sound.{NodeFits}
 use Rattle.cdf_format.specs.Stored.{is_little}
 use Rattle.cdf_format.specs.Tiles.{In}
-use Rattle.cdf_format.specs.VariableFields.{type_of_variable, record_bytes, records_of_leaf}
+use Rattle.cdf_format.specs.VariableFields.{type_of_variable, record_bytes, max_rec_at, records_of_leaf}
 use Rattle.cdf_format.specs.WellFormed.{Good}
 use Rattle.cdf_format.proofs.BytesLemmas.{Same-part}
 use Rattle.cdf_format.proofs.Members.{either, is_in-true}
@@ -271,7 +271,7 @@ module _ {b now : List ℕ} {kind : Kind} {before : List VariableShape} {own : V
         let now_is : own ≡ x' = same_Some own x' (sym there ∙ ap (λ (f : Found). slice_get (shapes_of (shape now) f.kind) f.number) q ∙ is.after) in
         subst (λ (f : Found). PutsRecord b now f.kind f.variable r x x' []) q (subst (λ (y : VariableShape). PutsRecord b now kind v r y x' []) was (subst (λ (y : VariableShape). PutsRecord b now kind v r own y []) now_is puts_record))
 
-    module _ (bytes : List ℕ) (raw_is : turned (type_of_variable b vdr) (is_little b) raw ≡ bytes) (pad_is : turned (type_of_variable b vdr) (is_little b) pad ≡ pad_record v) (name : List ℕ) (named : variable_named (content b) name ≡ Some found) where
+    module _ (bytes : List ℕ) (raw_is : turned (type_of_variable b vdr) (is_little b) raw ≡ bytes) (pad_is : extent (max_rec_at b vdr) < r → turned (type_of_variable b vdr) (is_little b) pad ≡ pad_record v) (name : List ℕ) (named : variable_named (content b) name ≡ Some found) where
       pub content_put : content now ≡ with_variable (content b) found (with_record v r bytes)
       content_put = content_replaced good at (writes good at p) ∙ ap (with_variable (content b) found) (meaning good at p bytes raw_is pad_is)
 

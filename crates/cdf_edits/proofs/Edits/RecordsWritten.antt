@@ -228,6 +228,9 @@ module _ {b now : List ℕ} {kind : Kind} {before : List VariableShape} {own : V
   pub edit : Edit b now s.records s.records marks []
   edit = changed_edit b now s.records (max_rec_touches b kind v ++ ts) marks [] h.tiled w.as_long w.changed all_marked (some_bytes b s h)
 
+  pub file_clear : keeps_file marks ≡ true
+  file_clear = tests.file_clear
+
   pub file : FileSame b now
   file = file_same sound edit tests.file_clear
 
