@@ -12,6 +12,8 @@ built_on_variables (commands.RenameVar from to) = true
 built_on_variables (commands.DelVar name) = true
 built_on_variables (commands.SetPad var words) = true
 built_on_variables (commands.SetBlocking var n) = true
+built_on_variables (commands.GetRec var rec) = true
+built_on_variables (commands.GetVal var rec index) = true
 built_on_variables c = false
 
 -- the commands that there are by now

@@ -1,7 +1,7 @@
 //! The commands on variables, and `setup`, as a session carries them out.
 
 ghost use Rattle.std.specs.Prelude.{◌≡◌, true, length, IfOk, OnErr};
-ghost use Rattle.cdf_area.specs.Calls.{Edits};
+ghost use Rattle.cdf_area.specs.Calls.{Edits, Reads};
 ghost use Rattle.cdf_edits.specs.Answers.{Answers};
 ghost use Rattle.cdf_edits.specs.Follows.{only_reads};
 ghost use Rattle.cdf_model.specs.Sayable.{Fit, Sayable};
@@ -48,6 +48,8 @@ impl<A: Area> Session<A> {
             Command::DelVar { name } => self.del_var(name.as_slice()),
             Command::SetPad { var, words } => self.set_pad(var.as_slice(), words),
             Command::SetBlocking { var, n } => self.set_blocking(var.as_slice(), *n),
+            Command::GetRec { var, rec } => self.get_rec(var.as_slice(), *rec),
+            Command::GetVal { var, rec, index } => self.get_val(var.as_slice(), *rec, index),
             _ => Ok(Outcome::Refused {
                 reason: Reason::BadLine {
                     fault: LineError::UnknownWord { at: 0 },
@@ -163,5 +165,21 @@ impl<A: Area> Session<A> {
         let done = self.vars.set_blocking(&mut self.area, var, n);
         self.attrs.forget_entries();
         settle(&mut self.area, done)
+    }
+
+    /// The command `get-rec`.
+    fn get_rec(&mut self, var: &[u8], rec: u32) -> Result<Outcome, AreaError>
+        ensures answers { IfOk result (λ o. Answers (A.frame self.old).limit (A.image self.old) (Command.GetRec var.now rec) o (A.image self.new)) }
+        ensures area { Reads A.image A.frame A.faults A.edited self.old self.new result }
+    {
+        self.vars.get_rec(&mut self.area, var, rec)
+    }
+
+    /// The command `get-val`.
+    fn get_val(&mut self, var: &[u8], rec: u32, index: &Nums) -> Result<Outcome, AreaError>
+        ensures answers { IfOk result (λ o. Answers (A.frame self.old).limit (A.image self.old) (Command.GetVal var.now rec index.now) o (A.image self.new)) }
+        ensures area { Reads A.image A.frame A.faults A.edited self.old self.new result }
+    {
+        self.vars.get_val(&mut self.area, var, rec, index)
     }
 }

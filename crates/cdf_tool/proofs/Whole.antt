@@ -12,7 +12,7 @@ use Rattle.cdf_model.specs.declared.answer.Reason.{Reason}
 use Rattle.cdf_model.specs.declared.answer.Reason.TheVariants as reasons
 use Rattle.cdf_model.specs.declared.answer.Reply.TheVariants as replies
 use Rattle.cdf_model.specs.declared.command.Command.{Command}
-use Rattle.cdf_model.specs.declared.command.Command.TheVariants.{Info, List as Lists, Attr, RenameAttr, DelAttr, PutEntry, GetEntry, DelEntry, Setup, RVar, ZVar, RenameVar, DelVar, SetPad, SetBlocking, Checksum}
+use Rattle.cdf_model.specs.declared.command.Command.TheVariants.{Info, List as Lists, Attr, RenameAttr, DelAttr, PutEntry, GetEntry, DelEntry, Setup, RVar, ZVar, RenameVar, DelVar, SetPad, SetBlocking, GetRec, GetVal, Checksum}
 use Rattle.cdf_model.specs.declared.head.Majority.{Majority}
 use Rattle.cdf_model.specs.declared.kinds.Kind.{Kind}
 use Rattle.cdf_model.specs.declared.kinds.Kind.TheVariants.{R, Z}
@@ -27,11 +27,13 @@ use Rattle.cdf_model.specs.Limits.{signed_limit}
 use Rattle.cdf_model.specs.Names.{Found, is_bad_name, is_among, attribute_names, attribute_named, variable_named, variable_names, variables_of, with_variables}
 use Rattle.cdf_model.specs.Numbered.{item_at, with_item, without}
 use Rattle.cdf_model.specs.Values.{notation_of, values_in}
+use Rattle.cdf_model.specs.RecordSteps.{get_rec_step, get_val_step}
 use Rattle.cdf_model.specs.Step.{ByStep, step}
 use Rattle.cdf_model.specs.VariableSteps.{are_bad_sizes, del_var_step, is_bad_shape, is_empty_set, new_variable, rename_var_step, set_blocking_step, set_pad_step, setup_step, var_step, with_variable, without_variable}
 use Rattle.cdf_session.specs.Built.{built}
 use Rattle.cdf_model.specs.Whole.{CanBeWritten, HasWholeValues}
 use Rattle.cdf_session.specs.Sessions.{AnswersBuilt}
+use Rattle.cdf_vars.proofs.WholeRecords.{shown_record, shown_value}
 
 -- if it goes, its reply has only whole values
 abbrev IsWholeAnswer : Answer → Type 0
@@ -128,6 +130,17 @@ entry_written b attr kind num now (Go d reply) true is moves = tt
 entry_written b attr kind num now (Go d reply) false is moves = shown_is_whole b (subst Good (moves.reads refl) moves.good) attr kind num d reply is
 entry_written b attr kind num now (Refuse reason) full is moves = tt
 
+-- so is what `get-rec` and `get-val` show
+record_written : (b : List ℕ) (name : List ℕ) (rec : ℕ) (now : List ℕ) (answer : Answer) (full : Bool) → get_rec_step (content b) name rec ≡ answer → MovesIf (is_accepted answer full) b (GetRec name rec) now → CanBeWritten (outcome answer full)
+record_written b name rec now (Go d reply) true is moves = tt
+record_written b name rec now (Go d reply) false is moves = shown_record b (subst Good (moves.reads refl) moves.good) name rec d reply is
+record_written b name rec now (Refuse reason) full is moves = tt
+
+value_written : (b : List ℕ) (name : List ℕ) (rec : ℕ) (index now : List ℕ) (answer : Answer) (full : Bool) → get_val_step (content b) name rec index ≡ answer → MovesIf (is_accepted answer full) b (GetVal name rec index) now → CanBeWritten (outcome answer full)
+value_written b name rec index now (Go d reply) true is moves = tt
+value_written b name rec index now (Go d reply) false is moves = shown_value b (subst Good (moves.reads refl) moves.good) name rec index d reply is
+value_written b name rec index now (Refuse reason) full is moves = tt
+
 pub can_be_written : (limit : ℕ) (b : List ℕ) (c : Command) (o : Outcome) (now : List ℕ) → AnswersBuilt (built c) limit b c o now → CanBeWritten o
 can_be_written limit b Info o now a = from_answers limit b Info o now _ refl tt a
 can_be_written limit b Lists o now a = from_answers limit b Lists o now _ refl tt a
@@ -147,5 +160,9 @@ can_be_written limit b (RenameVar from to) o now a = from_answers limit b (Renam
 can_be_written limit b (DelVar name) o now a = from_answers limit b (DelVar name) o now (del_var_step (content b) name) refl (del_var_whole (content b) name) a
 can_be_written limit b (SetPad var words) o now a = from_answers limit b (SetPad var words) o now (set_pad_step (content b) var words) refl (set_pad_whole (content b) var words) a
 can_be_written limit b (SetBlocking var n) o now a = from_answers limit b (SetBlocking var n) o now (set_blocking_step (content b) var n) refl (set_blocking_whole (content b) var n) a
+can_be_written limit b (GetRec name rec) o now a =
+    subst CanBeWritten (sym a.outcome_is) (record_written b name rec now a.answer (is_full limit b (GetRec name rec) a.answer) (by_step (get_rec_step (content b) name rec) a.answer a.step_is) a.moves)
+can_be_written limit b (GetVal name rec index) o now a =
+    subst CanBeWritten (sym a.outcome_is) (value_written b name rec index now a.answer (is_full limit b (GetVal name rec index) a.answer) (by_step (get_val_step (content b) name rec index) a.answer a.step_is) a.moves)
 can_be_written limit b (Checksum md5) o now a = from_answers limit b (Checksum md5) o now (Go (record (content b) { md5 = md5 }) replies.Plain) refl tt a
 can_be_written limit b c o now a = subst CanBeWritten (sym a.0) tt

@@ -34,6 +34,13 @@ pub mod BlockingSteps
 pub mod Blocked
 pub mod BlockingCalls
 pub mod VariableParts
+pub mod RecordForms
+pub mod RecordsRead
+pub mod RecordReading
+pub mod RecordPlaces
+pub mod WholeRecords
+pub mod RecordSteps
+pub mod RecordAnswers
 pub mod KnownChanged
 pub mod RenameAnswers
 pub mod BlockingAnswers

@@ -30,11 +30,11 @@ use Rattle.cdf_edits.proofs.Edits.VdrEdited.{StandsAmong, typed}
 use Rattle.cdf_format.specs.WellFormed.{Good}
 use Rattle.cdf_vars.proofs.PadSteps.{pad_goes}
 
-words_long : (b : List ℕ) (p n : ℕ) → length (words b p n) ≡ n
+pub words_long : (b : List ℕ) (p n : ℕ) → length (words b p n) ≡ n
 words_long b p zero = refl
 words_long b p (suc n) = ap suc (words_long b (p + 4) n)
 
-dims_long : (b : List ℕ) (v : ℕ) → length (dims_at b v) ≡ dimensions_at b v
+pub dims_long : (b : List ℕ) (v : ℕ) → length (dims_at b v) ≡ dimensions_at b v
 dims_long b v = elim (either (is_z b v)) [
   | inl z ↦ rw z (length-map (words b _ _) counted4 ∙ words_long b _ _)
   | inr z ↦ rw z (words_long b _ _)

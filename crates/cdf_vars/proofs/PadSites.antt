@@ -39,7 +39,7 @@ module _ {b : List ℕ} {kind : Kind} {vdr : ℕ} (good : Good b) (v : IsVdr b k
   image : IsGoodByShape b (shape b)
   image = good_by_its_shape b good
 
-  ruled : IsRuled b (shape b).records (own good v)
+  pub ruled : IsRuled b (shape b).records (own good v)
   ruled =
       let all = all_ruled b (shape b).records (vdrs (variables (shape b))) (variables (shape b)) image.of_variables image.indexes in
       (Each-split (IsRuled b (shape b).records) v.before (own good v ∷ v.after) (subst (Each (IsRuled b (shape b).records)) v.was (of_kind (IsRuled b (shape b).records) kind (shape b) all))).1.0
@@ -47,7 +47,7 @@ module _ {b : List ℕ} {kind : Kind} {vdr : ℕ} (good : Good b) (v : IsVdr b k
   elements : has_elements b vdr ≡ true
   elements = ruled.0.1.1.1.0
 
-  positive : (1 ≤ number b vdr vdr_num_elems) × (number b vdr vdr_num_elems ≤ signed_limit)
+  pub positive : (1 ≤ number b vdr vdr_num_elems) × (number b vdr vdr_num_elems ≤ signed_limit)
   positive =
       let p = both (nat_le 1 (number b vdr vdr_num_elems)) (nat_le (number b vdr vdr_num_elems) signed_limit) (both (is_positive (number b vdr vdr_num_elems)) _ elements).0 in
       (le_of 1 _ p.0, le_of _ signed_limit p.1)
@@ -85,7 +85,7 @@ module _ {b : List ℕ} {kind : Kind} {vdr : ℕ} (good : Good b) (v : IsVdr b k
 
 -- of a z variable
 module _ {b : List ℕ} {vdr : ℕ} (good : Good b) (v : IsVdr b Z vdr) where
-  z_typed : is_z b vdr ≡ true
+  pub z_typed : is_z b vdr ≡ true
   z_typed = ap (λ (t : ℕ). t == z_vdr_type) (typed good (at good v))
 
   pub z_few : number b vdr vdr_z_num_dims ≤ 10
@@ -109,5 +109,8 @@ module _ {b : List ℕ} {vdr : ℕ} (good : Good b) (v : IsVdr b Z vdr) where
 
 -- of an r variable
 module _ {b : List ℕ} {vdr : ℕ} (good : Good b) (v : IsVdr b R vdr) where
+  pub r_typed : is_z b vdr ≡ false
+  r_typed = ap (λ (t : ℕ). t == z_vdr_type) (typed good (at good v))
+
   pub r_count : dimensions_at b vdr ≡ r_num_dims b (gdr_offset b)
-  r_count = let z : is_z b vdr ≡ false = ap (λ (t : ℕ). t == z_vdr_type) (typed good (at good v)) in rw z refl
+  r_count = let z = r_typed in rw z refl

@@ -56,7 +56,7 @@ each_size (size ∷ dims) e =
     ((not_zero size q.0, not_less signed_limit size q.1), each_size dims p.1)
 
 -- a value has a byte, and a record a value
-size_some : (t : DataType) → 1 ≤ size_of t
+pub size_some : (t : DataType) → 1 ≤ size_of t
 size_some Int1 = omega arith
 size_some Int2 = omega arith
 size_some Int4 = omega arith

@@ -4,5 +4,6 @@ pub mod Finding
 pub mod Known
 pub mod Padding
 pub mod Reading
+pub mod Records
 pub mod Removing
 pub mod Setup

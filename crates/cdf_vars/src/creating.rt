@@ -62,7 +62,7 @@ fn shape_with(
 }
 
 /// The sizes of the dimensions that the r variables of a good image share.
-fn read_dims<A: Area>(alloc: Global, area: &mut A) -> Result<Nums, AreaError>
+pub fn read_dims<A: Area>(alloc: Global, area: &mut A) -> Result<Nums, AreaError>
     requires { Good (A.image area.old) }
     ensures dims { IfOk result (λ dims. dims ≡ (content (A.image area.old)).rdims) }
     ensures area { Reads A.image A.frame A.faults A.edited area.old area.new result }

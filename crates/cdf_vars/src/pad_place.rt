@@ -78,7 +78,7 @@ fn read_r_dimensions<A: Area>(area: &mut A) -> Result<u32, AreaError>
 }
 
 /// How many dimensions the z variable has whose descriptor stands at a place of a good image.
-fn read_z_dimensions<A: Area>(area: &mut A, vdr: u64) -> Result<u32, AreaError>
+pub fn read_z_dimensions<A: Area>(area: &mut A, vdr: u64) -> Result<u32, AreaError>
     requires good { Good (A.image area.old) }
     requires vdr { IsVdr (A.image area.old) Z vdr }
     ensures few { IfOk result (λ n. n ≤ 10) }

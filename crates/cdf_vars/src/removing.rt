@@ -44,7 +44,7 @@ fn last_number(extent: u32) -> i32
 }
 
 /// How many records the variable has whose descriptor stands at a place, by its MaxRec.
-fn read_extent<A: Area>(area: &mut A, vdr: u64) -> Result<u32, AreaError>
+pub fn read_extent<A: Area>(area: &mut A, vdr: u64) -> Result<u32, AreaError>
     requires { LiesIn (A.image area.old) vdr vdr_name }
     ensures extent { IfOk result (λ n. n ≡ extent (max_rec_at (A.image area.old) vdr)) }
     ensures few { IfOk result (λ n. n ≤ 2 ^ 31) }
