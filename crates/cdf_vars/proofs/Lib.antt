@@ -8,6 +8,7 @@ pub mod NamesRead
 pub mod NewVdr
 pub mod RemovalAnswers
 pub mod RemovalKnown
+pub mod RemovalRecords
 pub mod RemovalSteps
 pub mod ShapedVariable
 pub mod VariableChains

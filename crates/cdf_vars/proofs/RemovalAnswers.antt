@@ -4,20 +4,20 @@ use Rattle.std.proofs.lemmas.List.{take_all}
 use Rattle.std.proofs.lemmas.Int.{to_z-of_z}
 use Rattle.std.specs.Int.{w32, cast_signed, cast_unsigned}
 use Rattle.std.specs.List.{last_or, remove, slice_get}
-use Rattle.cdf_edits.proofs.Edits.RemovalCalls.{inside, few, sound_there, holder_there, chain_there, member_there, behind_there, cdr_after, room_after, some_after, lie_after, cdr_second, field_second, sound_mid, stands_mid, free_mid, removes_by}
+use Rattle.cdf_edits.proofs.Edits.RemovalCalls.{inside, few, sound_there, holder_there, chain_there, member_there, behind_there, cdr_after, room_after, some_after, lie_after, cdr_second, field_second, sound_mid, free_mid, removes_by, places_in, own_at, this}
 use Rattle.cdf_edits.proofs.Edits.RemovedVariable.{greatest_fits}
 use Rattle.cdf_edits.specs.Commands.Allowances.{shapes_of}
+use Rattle.cdf_edits.specs.Commands.Variables.{freed_with_variable}
 use Rattle.cdf_edits.specs.Edits.RemovesVariable.{RemovesVariable, greatest_at, numbers_on, r_max_writes}
 use Rattle.cdf_edits.specs.Edits.Writes.{with_writes}
 use Rattle.cdf_edits.specs.Space.Chains.{before, count_of, counted_in, holder_of, members_of, HasChain, HolderStands, Removed}
-use Rattle.cdf_edits.specs.Space.Giving.{IsGiven}
+use Rattle.cdf_edits.specs.Space.Freeing.{AllGiven, AreFree}
 use Rattle.cdf_edits.specs.Space.VariableChains.{variables_chain}
 use Rattle.cdf_edits.specs.declared.chain.Chain.{Chain}
 use Rattle.cdf_format.specs.Chains.{is_in}
 use Rattle.cdf_format.specs.Fields.{gdr_offset, with_field, LiesIn}
-use Rattle.cdf_format.specs.Owners.{times, owned_records}
-use Rattle.cdf_format.specs.Records.{gdr_r_max_rec}
-use Rattle.cdf_format.specs.Shape.{shape, vdrs}
+use Rattle.cdf_format.specs.Records.{gdr_r_max_rec, vdr_name}
+use Rattle.cdf_format.specs.Shape.{shape, variables, vdrs}
 use Rattle.cdf_format.specs.Sound.{IsSound}
 use Rattle.cdf_format.specs.Tiles.{In}
 use Rattle.cdf_format.specs.WellFormed.{Good}
@@ -25,7 +25,8 @@ use Rattle.cdf_model.specs.Limits.{image_limit}
 use Rattle.cdf_model.specs.declared.kinds.Kind.{Kind}
 use Rattle.cdf_model.specs.declared.kinds.Kind.TheVariants.{R, Z}
 use Rattle.cdf_vars.specs.Chains.{chain_of}
-use Rattle.cdf_vars.specs.Removing.{VdrsLie}
+use Rattle.cdf_vars.specs.Removing.{AreRecordsAt, VdrsLie}
+use Rattle.cdf_vars.proofs.RemovalRecords.{own_records, vdr_among}
 use Rattle.cdf_vars.proofs.RemovalSteps.{in_dropped}
 
 pub same_chain : (kind : Kind) → chain_of kind ≡ variables_chain kind
@@ -36,6 +37,10 @@ same_chain Z = refl
 pub on_ok_all : {T E P Q S U : Type 0} (r : Result T E) → (P → Q → S → U) → OnOk r P → OnOk r Q → OnOk r S → OnOk r U
 on_ok_all (Ok x) f p q s = f p q s
 on_ok_all (Err e) f p q s = tt
+
+pub on_ok : {T E P U : Type 0} (r : Result T E) → (P → U) → OnOk r P → OnOk r U
+on_ok (Ok x) f p = f p
+on_ok (Err e) f p = tt
 
 -- the last one of some
 pub last_got : (xs : List ℕ) → slice_get xs (length xs - 1) ≡ last_or None xs
@@ -56,8 +61,8 @@ pub to_the_end : (xs : List ℕ) (k : ℕ) → take (length xs - k) (drop k xs) 
 to_the_end xs k = take_all (length xs - k) (drop k xs) (let l = length_dropped xs k in omega arith)
 
 -- rMaxRec as it is handed on
-pub handed_on : (b places : List ℕ) (kind : Kind) (greatest : ℤ) → (kind ≡ R → greatest ≡ greatest_at b places) → kind ≡ R → cast_signed w32 (cast_unsigned w32 greatest) ≡ greatest_at b places
-handed_on b places kind greatest is e = to_z-of_z w32 greatest (subst (FitsSigned w32) (sym (is e)) (greatest_fits b places)) ∙ is e
+pub handed_on : (b places : List ℕ) (kind : Kind) (greatest : ℤ) {x : List ℕ} → x ≡ b → (kind ≡ R → greatest ≡ greatest_at x places) → kind ≡ R → cast_signed w32 (cast_unsigned w32 greatest) ≡ greatest_at b places
+handed_on b places kind greatest {x = x} same is e = to_z-of_z w32 greatest (subst (FitsSigned w32) (sym (is e)) (greatest_fits x places)) ∙ is e ∙ ap (λ (y : List ℕ). greatest_at y places) same
 
 module _ (b : List ℕ) (good : Good b) (kind : Kind) (places : List ℕ) (are : places ≡ vdrs (shapes_of (shape b) kind)) (n : ℕ) (lt : n < length places) (short : length b ≤ image_limit) where
   abbrev place : ℕ
@@ -66,8 +71,17 @@ module _ (b : List ℕ) (good : Good b) (kind : Kind) (places : List ℕ) (are :
   abbrev slice : List ℕ
   slice = take (length places - (n + 1)) (drop (n + 1) places)
 
-  pub all_lie : VdrsLie b places
-  all_lie = inside b good kind places are n lt
+  pub place_among : In (get_or places n 0) (vdrs (variables (shape b)))
+  place_among = vdr_among kind (shape b) (get_or places n 0) (subst (In (get_or places n 0)) are (places_in places n lt))
+
+  pub place_lies : LiesIn b (get_or places n 0) vdr_name
+  place_lies = inside b good kind places are n lt (get_or places n 0) (places_in places n lt)
+
+  pub all_lie : {x : List ℕ} → x ≡ b → VdrsLie x places
+  all_lie same = subst (λ (y : List ℕ). VdrsLie y places) (sym same) (inside b good kind places are n lt)
+
+  own_are : {records : List ℕ} → AreRecordsAt b (get_or places n 0) records → records ≡ freed_with_variable (this b good kind places are n lt).own
+  own_are {records = records} read = let t = this b good kind places are n lt in own_records b kind t.before t.own t.after t.is (get_or places n 0) (sym (own_at b good kind places are n lt)) records read
 
   pub number_fits : n < 4294967296
   number_fits = let f = few b good kind places are n lt short in omega arith
@@ -131,11 +145,8 @@ module _ (b : List ℕ) (good : Good b) (kind : Kind) (places : List ℕ) (are :
             pub sound_last : IsSound mid (shape mid)
             sound_last = sound_mid b good kind places are n lt x same short removed less_is numbered greatest_is last
 
-            pub stands_last : In (get_or places n 0) (shape mid).records
-            stands_last = stands_mid b good kind places are n lt x same short removed less_is numbered greatest_is last
+            pub free_last : {records : List ℕ} → AreRecordsAt b (get_or places n 0) records → AreFree mid records
+            free_last read = free_mid b good kind places are n lt x same short removed less_is numbered greatest_is last (own_are read)
 
-            pub free_last : times (get_or places n 0) (owned_records mid (shape mid)) ≡ 0
-            free_last = free_mid b good kind places are n lt x same short removed less_is numbered greatest_is last
-
-            pub removes_last : (now : List ℕ) → IsGiven mid now (shape mid) (shape now) (get_or places n 0) → RemovesVariable b now kind n
-            removes_last now given = removes_by b good kind places are n lt x same short removed less_is numbered greatest_is last now given
+            pub removes_last : {records : List ℕ} → AreRecordsAt b (get_or places n 0) records → (now : List ℕ) → AllGiven mid now records → RemovesVariable b now kind n
+            removes_last read now given = removes_by b good kind places are n lt x same short removed less_is numbered greatest_is last (own_are read) now given

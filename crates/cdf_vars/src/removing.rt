@@ -9,7 +9,8 @@ ghost use Rattle.cdf_edits.specs.Edits.RemovesVariable.{RemovesVariable, greates
 ghost use Rattle.cdf_edits.specs.Edits.Writes.{with_writes};
 ghost use Rattle.cdf_format.specs.Fields.{LiesIn, gdr_offset, with_field};
 ghost use Rattle.cdf_format.specs.Records.{gdr_r_max_rec, vdr_name};
-ghost use Rattle.cdf_format.specs.Shape.{shape, vdrs};
+ghost use Rattle.cdf_format.specs.Shape.{shape, variables, vdrs};
+ghost use Rattle.cdf_format.specs.Tiles.{In};
 ghost use Rattle.cdf_format.specs.VariableFields.{max_rec_at};
 ghost use Rattle.cdf_format.specs.WellFormed.{Good};
 ghost use Rattle.cdf_model.specs.DataSet.{extent};
@@ -17,15 +18,17 @@ ghost use Rattle.cdf_model.specs.Limits.{image_limit};
 ghost use Rattle.cdf_model.specs.RecordSteps.{last_number};
 ghost use Rattle.cdf_model.specs.declared.kinds.Kind.TheVariants as kinds;
 ghost use Rattle.cdf_vars.specs.Known.{Knows, KnowsKind, known_of};
-ghost use Rattle.cdf_vars.specs.Removing.{VdrsLie};
+ghost use Rattle.cdf_vars.specs.Removing.{AreRecordsAt, VdrsLie};
 
 use crate::chain::chain_of;
 use crate::vars::{VarId, VarTable, Vars};
 use cdf_area::{Area, AreaError};
-use cdf_format::fields::{CDR_GDR_OFFSET, CDR_PLACE, VDR_MAX_REC, VDR_NUM};
+use cdf_format::fields::{CDR_GDR_OFFSET, CDR_PLACE, VDR_MAX_REC, VDR_NUM, VDR_VXR_HEAD};
+use cdf_index::index_records;
 use cdf_model::Kind;
 use cdf_records::{read_signed4, read_unsigned8, set_gdr_r_max_rec, set_unsigned4};
-use cdf_space::{chain_remove, count_down, free_record};
+use cdf_space::{chain_remove, count_down, free_records};
+use std::alloc::Global;
 
 /// How many records a variable of a MaxRec has at most.
 fn extent(max_rec: i32) -> u32
@@ -124,8 +127,27 @@ fn set_greatest<A: Area>(area: &mut A, kind: Kind, greatest: i32) -> Result<(), 
     }
 }
 
+/// The records that go with the variable whose descriptor stands at a place, in the order in which they are freed: the blocks by record
+/// number, the nodes of the index, and the descriptor.
+fn read_records<A: Area>(alloc: Global, area: &mut A, vdr: u64) -> Result<Vec<u64>, AreaError>
+    requires good { Good (A.image area.old) }
+    requires vdr { In vdr (vdrs (variables (shape (A.image area.old)))) }
+    requires lies { LiesIn (A.image area.old) vdr vdr_name }
+    requires short { length (A.image area.old) ≤ image_limit }
+    ensures records { IfOk result (λ records. AreRecordsAt (A.image area.old) vdr records.items) }
+    ensures area { Reads A.image A.frame A.faults A.edited area.old area.new result }
+{
+    // An image has fewer than 2^64 bytes, so no place in it overflows.
+    let _size = area.size();
+    let head = read_unsigned8(area, vdr + VDR_VXR_HEAD)?;
+    let mut records = index_records(alloc, area, head)?;
+    records.push(vdr)?;
+    Ok(records)
+}
+
 /// Takes the variable of a number out of the area. After an error a part of this may have been done.
 fn remove_at<A: Area>(
+    alloc: Global,
     area: &mut A,
     kind: Kind,
     places: &[u64],
@@ -139,6 +161,7 @@ fn remove_at<A: Area>(
     ensures area { Edits A.frame A.faults area.old area.new result }
 {
     let place = places[number];
+    let records = read_records(alloc, area, place)?;
     let greatest = greatest_left(area, kind, places, number)?;
     let chain = chain_of(kind);
     let behind = places[..number].last().copied();
@@ -146,12 +169,18 @@ fn remove_at<A: Area>(
     count_down(area, chain)?;
     set_numbers(area, number as u32, &places[number + 1..])?;
     set_greatest(area, kind, greatest)?;
-    free_record(area, place)
+    free_records(area, &records)
 }
 
 impl VarTable {
     /// Takes the variable of a number out of the area and out of the table, which stays after an error.
-    fn remove<A: Area>(&mut self, area: &mut A, kind: Kind, num: u32) -> Result<(), AreaError>
+    fn remove<A: Area>(
+        &mut self,
+        alloc: Global,
+        area: &mut A,
+        kind: Kind,
+        num: u32,
+    ) -> Result<(), AreaError>
         requires good { Good (A.image area.old) }
         requires known { KnowsKind (A.image area.old) kind self.old }
         requires within { num < length self.old.places }
@@ -161,7 +190,7 @@ impl VarTable {
         ensures stays { OnErr result (self.new ≡ self.old) }
         ensures area { Edits A.frame A.faults area.old area.new result }
     {
-        remove_at(area, kind, &self.places, num as usize)?;
+        remove_at(alloc, area, kind, &self.places, num as usize)?;
         self.names.remove(num);
         self.places.remove(num as usize);
         Ok(())
@@ -182,8 +211,8 @@ impl Vars {
         ensures area { Edits A.frame A.faults area.old area.new result }
     {
         match id.kind {
-            Kind::R => self.r.remove(area, Kind::R, id.num),
-            Kind::Z => self.z.remove(area, Kind::Z, id.num),
+            Kind::R => self.r.remove(self.alloc, area, Kind::R, id.num),
+            Kind::Z => self.z.remove(self.alloc, area, Kind::Z, id.num),
         }
     }
 }
