@@ -1,26 +1,25 @@
 -- What follows from the rules on the records of an image for its other rules.
-use Rattle.std.proofs.Common.{◌≡◌, ℕ, ◌+◌, ◌*◌, ◌≤◌, List, [], ◌∷◌, ◌++◌, length, map, sym, ap, ap₂, ◌∙◌, subst, arith, append_assoc}
+use Rattle.std.proofs.Common.{◌≡◌, ℕ, ◌+◌, ◌*◌, ◌≤◌, List, [], ◌∷◌, ◌++◌, length, map, refl, sym, ap, ap₂, ◌∙◌, subst, arith, append_assoc}
 use Rattle.std.specs.Prelude.{◌==◌}
 use Rattle.std.specs.List.{filter, flat_map}
 use Rattle.cdf_format.specs.AttributeRules.{phase6}
 use Rattle.cdf_format.specs.ChainRules.{phase5}
 use Rattle.cdf_format.specs.Fields.{gdr_offset, r_num_dims, size_at, type_at}
-use Rattle.cdf_format.specs.IndexRules.{met_rows, phase8}
+use Rattle.cdf_format.specs.IndexRules.{phase8}
 use Rattle.cdf_format.specs.NotRead.{unread_type}
 use Rattle.cdf_format.specs.Owners.{attribute_records, variable_records, owned_records, unused_records}
 use Rattle.cdf_format.specs.Phases.{phase9, image_phases}
 use Rattle.cdf_format.specs.Records.{gdr_r_vdr_head, gdr_z_vdr_head}
 use Rattle.cdf_format.specs.RecordTypes.{gdr_type, uir_type}
 use Rattle.cdf_format.specs.RecordRules.{record_rows, phase4}
-use Rattle.cdf_format.specs.VariableRules.{variable_rows, phase7}
+use Rattle.cdf_format.specs.VariableRules.{phase7}
 use Rattle.cdf_format.specs.Rules.{Row, Hold, IsBroken, AllHold, FirstBroken}
-use Rattle.cdf_format.specs.Shape.{AttributeShape, adrs, vdrs, shape, adr_chain, r_vdr_chain, z_vdr_chain, index_of, attribute_shape, variable_shape}
+use Rattle.cdf_format.specs.Shape.{AttributeShape, adrs, vdrs, shape, adr_chain, r_vdr_chain, z_vdr_chain, attribute_shape, variable_shape}
 use Rattle.cdf_format.specs.Shape.{variables as shape_variables}
-use Rattle.cdf_format.specs.Tiles.{In, Distinct, AreTiles, tiles, tiling}
+use Rattle.cdf_format.specs.Tiles.{Distinct, AreTiles, tiles, tiling}
 use Rattle.cdf_format.specs.Walks.{Walk, whole, records_of}
 use Rattle.cdf_format.proofs.ChainsLemmas.{is_a-in}
 use Rattle.cdf_format.proofs.GoodImageLemmas.{map_adrs, map_vdrs, vdrs_append}
-use Rattle.cdf_format.proofs.Members.{In-append_left, In-append_right}
 use Rattle.cdf_format.proofs.Owning.{owned_is}
 use Rattle.cdf_format.proofs.RowLemmas.{Hold-split, Hold-member}
 use Rattle.cdf_format.proofs.Tests.{le_of}
@@ -28,7 +27,6 @@ use Rattle.cdf_format.proofs.TilesLemmas.{tile_lies, tiling_sound}
 use Rattle.cdf_check.specs.declared.file_chains.Chains.{Chains}
 use Rattle.cdf_check.specs.FileChains.{AreLong, AreChains}
 use Rattle.cdf_check.specs.Variables.{AreRead, AreVariables, HasRoomForSizes, HasSizes}
-use Rattle.cdf_check.proofs.IndexSteps.{alone, all_alone}
 use Rattle.cdf_check.proofs.TileSteps.{whole_rows}
 use Rattle.cdf_check.proofs.VariableSteps.{all_variables, all_once, all_few}
 
@@ -134,22 +132,20 @@ module _ (b ts : List ℕ) (is : tiling b ≡ whole ts) where
 
             -- ---- the owners
 
-            one_alone : (m : ℕ) → In m (c.r_variables.items ++ c.z_variables.items) → variable_records (variable_shape b ts m) ≡ m ∷ []
-            one_alone m i =
-                let vs = c.r_variables.items ++ c.z_variables.items in
-                alone b ts all_read m vs (Hold-member (variable_rows b ts vs) vs m described i) (Hold-member (λ vdr. met_rows b ts vdr (index_of b ts vdr)) vs m indexed i)
+            abbrev records_of_variables : List ℕ → List ℕ
+            records_of_variables vs = flat_map variable_records (map (variable_shape b ts) vs)
 
-            rs_owned : flat_map variable_records (map (variable_shape b (tiles b)) (records_of (r_vdr_chain b (tiles b)))) ≡ c.r_variables.items
-            rs_owned =
-                ap₂ (λ (xs ms : List ℕ). flat_map variable_records (map (variable_shape b xs) ms)) are_tiles rs_are
-                ∙ all_alone b ts c.r_variables.items (λ m i. one_alone m (In-append_left m c.r_variables.items c.z_variables.items i))
+            rs_owned : flat_map variable_records (map (variable_shape b (tiles b)) (records_of (r_vdr_chain b (tiles b)))) ≡ records_of_variables c.r_variables.items
+            rs_owned = ap₂ (λ (xs ms : List ℕ). flat_map variable_records (map (variable_shape b xs) ms)) are_tiles rs_are
 
-            zs_owned : flat_map variable_records (map (variable_shape b (tiles b)) (records_of (z_vdr_chain b (tiles b)))) ≡ c.z_variables.items
-            zs_owned =
-                ap₂ (λ (xs ms : List ℕ). flat_map variable_records (map (variable_shape b xs) ms)) are_tiles zs_are
-                ∙ all_alone b ts c.z_variables.items (λ m i. one_alone m (In-append_right m c.r_variables.items c.z_variables.items i))
+            zs_owned : flat_map variable_records (map (variable_shape b (tiles b)) (records_of (z_vdr_chain b (tiles b)))) ≡ records_of_variables c.z_variables.items
+            zs_owned = ap₂ (λ (xs ms : List ℕ). flat_map variable_records (map (variable_shape b xs) ms)) are_tiles zs_are
 
-            module _ (own members : List ℕ) (own_is : own ≡ flat_map attribute_records (map (attribute_shape b ts) c.attributes.items)) (all_is : members ≡ own ++ (c.r_variables.items ++ c.z_variables.items)) where
+            both_owned : (rs zs : List ℕ) → records_of_variables (rs ++ zs) ≡ records_of_variables rs ++ records_of_variables zs
+            both_owned [] zs = refl
+            both_owned (v ∷ rs) zs = ap (λ (xs : List ℕ). variable_records (variable_shape b ts v) ++ xs) (both_owned rs zs) ∙ sym (append_assoc (variable_records (variable_shape b ts v)) (records_of_variables rs) (records_of_variables zs))
+
+            module _ (own members : List ℕ) (own_is : own ≡ flat_map attribute_records (map (attribute_shape b ts) c.attributes.items)) (all_is : members ≡ own ++ flat_map variable_records (map (variable_shape b ts) (c.r_variables.items ++ c.z_variables.items))) where
               attributes_owned : flat_map attribute_records (map (attribute_shape b (tiles b)) (records_of (adr_chain b (tiles b)))) ≡ own
               attributes_owned =
                   ap (λ (xs : List ℕ). flat_map attribute_records (map (attribute_shape b xs) (records_of (adr_chain b xs)))) are_tiles
@@ -160,8 +156,8 @@ module _ (b ts : List ℕ) (is : tiling b ≡ whole ts) where
               unfolding shape
               owned_are =
                   owned_is b (shape b)
-                  ∙ joined (unused_records b (shape b)) _ own _ c.r_variables.items _ c.z_variables.items attributes_owned rs_owned zs_owned
-                  ∙ ap (λ (xs : List ℕ). (8 ∷ gdr_offset b ∷ xs) ++ unused_records b (shape b)) (append_assoc own c.r_variables.items c.z_variables.items ∙ sym all_is)
+                  ∙ joined (unused_records b (shape b)) _ own _ (records_of_variables c.r_variables.items) _ (records_of_variables c.z_variables.items) attributes_owned rs_owned zs_owned
+                  ∙ ap (λ (xs : List ℕ). (8 ∷ gdr_offset b ∷ xs) ++ unused_records b (shape b)) (append_assoc own (records_of_variables c.r_variables.items) (records_of_variables c.z_variables.items) ∙ ap (λ (xs : List ℕ). own ++ xs) (sym (both_owned c.r_variables.items c.z_variables.items)) ∙ sym all_is)
                 where
                   joined : (u a own r rs z zs : List ℕ) → a ≡ own → r ≡ rs → z ≡ zs → (8 ∷ gdr_offset b ∷ []) ++ a ++ r ++ z ++ u ≡ (8 ∷ gdr_offset b ∷ (own ++ rs ++ zs)) ++ u
                   joined u a own r rs z zs p q s = λ i. (8 ∷ gdr_offset b ∷ (p i ++ q i ++ s i)) ++ u

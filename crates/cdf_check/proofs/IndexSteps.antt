@@ -1,90 +1,126 @@
--- The indexes and the parameters of variables, where no record of theirs is read so far.
-use Rattle.std.proofs.Common.{◌≡◌, ◌≢◌, ℕ, zero, suc, List, [], ◌∷◌, ◌++◌, length, map, true, false, not, ◌||◌, eqb, eq-eqb, true≢false, refl, sym, ap, ap₂, ◌∙◌, inl, inr}
-use Rattle.std.proofs.lemmas.Bool.{eqb-true}
+-- The rules on the index of a variable, and its records.
+use Rattle.std.proofs.Common.{◌≡◌, ℕ, pos, negsuc, List, [], ◌∷◌, ◌++◌, length, map, true, false, not, ◌||◌, true≢false, refl, sym, ap, ap₂, subst, ◌∙◌, append-nil, inl, inr, Option, Some, None, Ok}
 use Rattle.std.specs.List.{flat_map}
-use Rattle.cdf_format.specs.Chains.{is_a, is_in, is_linkable}
-use Rattle.cdf_format.specs.Fields.{number}
-use Rattle.cdf_format.specs.Index.{Nodes, no_node, nodes_of, leaves_of}
-use Rattle.cdf_format.specs.IndexRules.{met_rows, nodes_rows}
-use Rattle.cdf_format.specs.IndexWalk.{Met, met, lost, levels_on, nodes_on}
+use Rattle.cdf_model.specs.Limits.{record_number_limit}
+use Rattle.cdf_format.specs.Chains.{is_a, is_in}
+use Rattle.cdf_format.specs.Index.{Nodes, Leaf, nodes_of, leaves_of}
+use Rattle.cdf_format.specs.IndexRules.{met_rows, nodes_rows, leaf_rows, vvr_rows}
+use Rattle.cdf_format.specs.IndexWalk.{Met, met, lost, nodes_met}
 use Rattle.cdf_format.specs.NotRead.{read_types}
 use Rattle.cdf_format.specs.Owners.{variable_records}
 use Rattle.cdf_format.specs.Records.{vdr_vxr_head}
-use Rattle.cdf_format.specs.RecordTypes.{vxr_type, cpr_type}
-use Rattle.cdf_format.specs.Rules.{Hold, IsBroken}
+use Rattle.cdf_format.specs.RecordTypes.{vvr_type, cvvr_type, cpr_type}
+use Rattle.cdf_format.specs.Rules.{Row, asked, Hold, IsBroken}
 use Rattle.cdf_format.specs.Shape.{cpr_of, index_of, is_compressed, variable_shape}
+use Rattle.cdf_format.specs.Tiles.{AreTiles}
+use Rattle.cdf_format.specs.VariableFields.{record_bytes}
 use Rattle.cdf_format.specs.VariableRules.{cpr_link, is_cpr, variable_rows}
-use Rattle.cdf_format.specs.Tiles.{In}
-use Rattle.cdf_format.proofs.ChainsLemmas.{is_a-in, is_a-type, linkable-in, linkable-type}
+use Rattle.cdf_format.proofs.ChainsLemmas.{is_a-in, is_a-type}
+use Rattle.cdf_format.proofs.IndexLemmas.{index_sound, index_complete}
 use Rattle.cdf_format.proofs.Members.{either}
+use Rattle.cdf_format.proofs.RowLemmas.{Hold-append, IsBroken-before, IsBroken-after}
+use Rattle.cdf_check.specs.Indexes.{MeetsIndex, WalksIndex, block_of, block_rows, index_records}
 use Rattle.cdf_check.specs.Variables.{AreRead, packing_rows}
-use Rattle.cdf_check.proofs.TileSteps.{other}
+use Rattle.cdf_check.specs.Verdicts.{Finds}
+use Rattle.cdf_check.specs.declared.index_walk.Block.{Block}
+use Rattle.cdf_check.specs.declared.index_walk.Index.{Index}
+use Rattle.cdf_check.specs.declared.verdict.Finding.{Finding}
+use Rattle.cdf_check.proofs.Findings.{none_found, one_found}
 
 module _ (b ts : List ℕ) (read : AreRead b ts) where
-  no_vxr : (link : ℕ) → is_linkable b ts vxr_type link ≡ false
-  no_vxr link = elim (either (is_linkable b ts vxr_type link)) [
-    | inl e ↦ absurd (true≢false (sym (read link (linkable-in b ts vxr_type link e)) ∙ ap (λ (t : ℕ). is_in t read_types) (linkable-type b ts vxr_type link e)))
+  -- there is no record of a type that is not read
+  none_of : (type place : ℕ) → is_in type read_types ≡ false → is_a b ts type place ≡ false
+  none_of type place unread = elim (either (is_a b ts type place)) [
+    | inl e ↦ absurd (true≢false (sym (read place (is_a-in b ts type place e)) ∙ ap (λ (t : ℕ). is_in t read_types) (is_a-type b ts type place e) ∙ unread))
     | inr e ↦ e
   ]
 
   pub no_cpr : (link : ℕ) → is_cpr b ts link ≡ false
-  no_cpr link = elim (either (is_a b ts cpr_type link)) [
-    | inl e ↦ absurd (true≢false (sym (read link (is_a-in b ts cpr_type link e)) ∙ ap (λ (t : ℕ). is_in t read_types) (is_a-type b ts cpr_type link e)))
-    | inr e ↦ rw e refl
-  ]
+  no_cpr link = rw (none_of cpr_type link refl) refl
+
+  no_cvvr : (place : ℕ) → is_a b ts cvvr_type place ≡ false
+  no_cvvr place = none_of cvvr_type place refl
 
   module _ (vdr : ℕ) where
     pub packed_breaks : is_compressed b vdr ≡ true → IsBroken (packing_rows b ts vdr) 11 vdr
     packed_breaks packed = inr (inl (refl, refl, rw (packed, no_cpr (cpr_link b vdr)) refl))
 
-    no_nodes : (below : List ℕ → ℕ → ℕ → Met Nodes) (most link : ℕ) → link ≡ 0 → nodes_on below most b ts [] vdr link ≡ met [] no_node
-    unfolding nodes_on
-    no_nodes below zero link none = rw (eq-eqb link 0 none) refl
-    no_nodes below (suc most) link none = rw (eq-eqb link 0 none) refl
+    -- a variable whose rules hold is not compressed
+    pub plain : (vdrs : List ℕ) → Hold (variable_rows b ts vdrs vdr) → is_compressed b vdr ≡ false
+    plain vdrs rows = elim (either (is_compressed b vdr)) [
+      | inl e ↦
+          let packed : (not (is_compressed b vdr) || is_cpr b ts (cpr_link b vdr)) ≡ true = rows.1.1.1.1.1.1.1.1.1.1.0 in
+          let wrong : false ≡ true = rw (e, no_cpr (cpr_link b vdr)) at packed in
+          absurd (true≢false (sym wrong))
+      | inr e ↦ e
+    ]
 
-    lost_nodes : (below : List ℕ → ℕ → ℕ → Met Nodes) (most link : ℕ) → link ≢ 0 → nodes_on below most b ts [] vdr link ≡ lost vdr
-    unfolding nodes_on
-    lost_nodes below zero link some = rw (other link 0 some) refl
-    lost_nodes below (suc most) link some = rw (other link 0 some, no_vxr link) refl
+    -- ---- the rules on blocks
 
-    pub no_index : number b vdr vdr_vxr_head ≡ 0 → index_of b ts vdr ≡ met [] no_node
-    unfolding levels_on
-    no_index none = no_nodes (levels_on 7 b ts) (length ts) (number b vdr vdr_vxr_head) none
+    block_rows_are : (bytes : ℕ) → bytes ≡ record_bytes b vdr → (leaf : Leaf) → block_rows b ts bytes (block_of leaf) ≡ leaf_rows b ts vdr leaf
+    block_rows_are bytes is leaf = rw is (rw (no_cvvr leaf.place) (sym (append-nil (asked (is_a b ts vvr_type leaf.place) (vvr_rows b vdr leaf)))))
 
-    pub lost_index : number b vdr vdr_vxr_head ≢ 0 → index_of b ts vdr ≡ lost vdr
-    unfolding levels_on
-    lost_index some = lost_nodes (levels_on 7 b ts) (length ts) (number b vdr vdr_vxr_head) some
+    blocks_are : (bytes : ℕ) → bytes ≡ record_bytes b vdr → (leaves : List Leaf) → flat_map (block_rows b ts bytes) (map block_of leaves) ≡ flat_map (leaf_rows b ts vdr) leaves
+    blocks_are bytes is [] = refl
+    blocks_are bytes is (leaf ∷ leaves) = ap₂ (λ (xs ys : List Row). xs ++ ys) (block_rows_are bytes is leaf) (blocks_are bytes is leaves)
 
-    pub index_holds : number b vdr vdr_vxr_head ≡ 0 → Hold (met_rows b ts vdr (index_of b ts vdr))
-    unfolding nodes_rows leaves_of
-    index_holds none = rw (no_index none) tt
+    -- ---- the index
 
-    pub index_breaks : number b vdr vdr_vxr_head ≢ 0 → IsBroken (met_rows b ts vdr (index_of b ts vdr)) 1 vdr
-    index_breaks some = rw (lost_index some) (inl (refl, refl, refl))
+    pub index_lost : (place : ℕ) → index_of b ts vdr ≡ lost place → IsBroken (met_rows b ts vdr (index_of b ts vdr)) 1 place
+    index_lost place e = subst (λ (m : Met Nodes). IsBroken (met_rows b ts vdr m) 1 place) (sym e) (inl (refl, refl, refl))
 
-    -- a variable whose rules hold has no records but its own
-    pub alone : (vdrs : List ℕ) → Hold (variable_rows b ts vdrs vdr) → Hold (met_rows b ts vdr (index_of b ts vdr)) → variable_records (variable_shape b ts vdr) ≡ vdr ∷ []
-    unfolding nodes_of leaves_of
-    alone vdrs rows index = rw (index_is, cpr_is) refl
-      where
-        index_is : index_of b ts vdr ≡ met [] no_node
-        index_is = elim (either (eqb (number b vdr vdr_vxr_head) 0)) [
-          | inl e ↦ no_index (eqb-true (number b vdr vdr_vxr_head) 0 e)
-          | inr e ↦ let lost_rows : Hold (met_rows b ts vdr (lost vdr)) = rw (lost_index (λ z. absurd (true≢false (sym (eq-eqb _ 0 z) ∙ e)))) at index in absurd (true≢false (sym lost_rows.0))
-        ]
+    module _ (index : Index) (nodes : Nodes) (meets : MeetsIndex b ts vdr index nodes) where
+      pub index_breaks : (rule place : ℕ) → IsBroken (nodes_rows b ts (negsuc 0) (pos record_number_limit) nodes) rule place → IsBroken (met_rows b ts vdr (index_of b ts vdr)) rule place
+      index_breaks rule place broken = subst (λ (m : Met Nodes). IsBroken (met_rows b ts vdr m) rule place) (sym meets.walk_is) (IsBroken-before (nodes_rows b ts (negsuc 0) (pos record_number_limit) nodes) (flat_map (leaf_rows b ts vdr) (leaves_of nodes)) rule place broken)
 
-        plain : is_compressed b vdr ≡ false
-        plain = elim (either (is_compressed b vdr)) [
-          | inl e ↦
-              let packed : (not (is_compressed b vdr) || is_cpr b ts (cpr_link b vdr)) ≡ true = rows.1.1.1.1.1.1.1.1.1.1.0 in
-              let wrong : false ≡ true = rw (e, no_cpr (cpr_link b vdr)) at packed in
-              absurd (true≢false (sym wrong))
-          | inr e ↦ e
-        ]
+      module _ (bytes : ℕ) (is : bytes ≡ record_bytes b vdr) where
+        rows_are : flat_map (block_rows b ts bytes) index.blocks.items ≡ flat_map (leaf_rows b ts vdr) (leaves_of nodes)
+        rows_are = ap (flat_map (block_rows b ts bytes)) meets.blocks_are ∙ blocks_are bytes is (leaves_of nodes)
 
-        cpr_is : cpr_of b vdr ≡ []
-        cpr_is = rw plain refl
+        pub blocks_break : (rule place : ℕ) → IsBroken (flat_map (block_rows b ts bytes) index.blocks.items) rule place → IsBroken (met_rows b ts vdr (index_of b ts vdr)) rule place
+        blocks_break rule place broken =
+            subst (λ (m : Met Nodes). IsBroken (met_rows b ts vdr m) rule place) (sym meets.walk_is) (IsBroken-after (nodes_rows b ts (negsuc 0) (pos record_number_limit) nodes) (flat_map (leaf_rows b ts vdr) (leaves_of nodes)) rule place (subst (λ (rows : List Row). IsBroken rows rule place) rows_are broken))
 
-pub all_alone : (b ts : List ℕ) (ms : List ℕ) → ((m : ℕ) → In m ms → variable_records (variable_shape b ts m) ≡ m ∷ []) → flat_map variable_records (map (variable_shape b ts) ms) ≡ ms
-all_alone b ts [] each = refl
-all_alone b ts (m ∷ ms) each = ap₂ (λ (xs ys : List ℕ). xs ++ ys) (each m (inl refl)) (all_alone b ts ms (λ x i. each x (inr i)))
+        pub index_holds : Hold (nodes_rows b ts (negsuc 0) (pos record_number_limit) nodes) → Hold (flat_map (block_rows b ts bytes) index.blocks.items) → Hold (met_rows b ts vdr (index_of b ts vdr))
+        index_holds walked blocks = subst (λ (m : Met Nodes). Hold (met_rows b ts vdr m)) (sym meets.walk_is) (Hold-append (nodes_rows b ts (negsuc 0) (pos record_number_limit) nodes) (flat_map (leaf_rows b ts vdr) (leaves_of nodes)) walked (subst Hold rows_are blocks))
+
+      -- ---- the records
+
+      pub records_are : AreTiles b 8 (length b) ts → is_compressed b vdr ≡ false → index_records vdr index ≡ variable_records (variable_shape b ts vdr)
+      records_are tiled unpacked =
+          ap₂ (λ (xs ys : List ℕ). vdr ∷ xs ++ ys) nodes_are places_are
+          ∙ ap (λ (xs : List ℕ). vdr ∷ xs) (sym (append-nil (nodes_of nodes ++ map (λ leaf. leaf.place) (leaves_of nodes))))
+          ∙ ap (λ (xs : List ℕ). vdr ∷ nodes_of nodes ++ map (λ leaf. leaf.place) (leaves_of nodes) ++ xs) (sym cpr_is)
+          ∙ ap (λ (m : Met Nodes). vdr ∷ nodes_of (nodes_met m) ++ map (λ leaf. leaf.place) (leaves_of (nodes_met m)) ++ cpr_of b vdr) (sym meets.walk_is)
+        where
+          seen_of : Met Nodes → List ℕ
+          seen_of (met seen m) = seen
+          seen_of (lost place) = []
+
+          nodes_are : index.nodes.list.items ≡ nodes_of nodes
+          nodes_are = ap seen_of (sym meets.walk_is ∙ index_complete b ts (length b) vdr vdr_vxr_head nodes tiled (index_sound b ts (length b) vdr vdr_vxr_head index.nodes.list.items nodes tiled meets.walk_is))
+
+          places : (leaves : List Leaf) → map (λ (block : Block). block.place) (map block_of leaves) ≡ map (λ (leaf : Leaf). leaf.place) leaves
+          places [] = refl
+          places (leaf ∷ leaves) = ap (λ (xs : List ℕ). leaf.place ∷ xs) (places leaves)
+
+          places_are : map (λ (block : Block). block.place) index.blocks.items ≡ map (λ (leaf : Leaf). leaf.place) (leaves_of nodes)
+          places_are = ap (map (λ (block : Block). block.place)) meets.blocks_are ∙ places (leaves_of nodes)
+
+          cpr_is : cpr_of b vdr ≡ []
+          cpr_is = rw unpacked refl
+
+    -- ---- what is found in an index that was walked
+
+    module _ (index : Index) (walked : WalksIndex b ts vdr (Ok index)) where
+      pub found_in_nodes : (f : Finding) → index.broken ≡ Some f → IsBroken (met_rows b ts vdr (index_of b ts vdr)) f.rule f.place
+      found_in_nodes f is = index_breaks index walked.0 walked.1 f.rule f.place (one_found (nodes_rows b ts (negsuc 0) (pos record_number_limit) walked.0) index.broken f walked.1.found is)
+
+      module _ (bytes : ℕ) (is : bytes ≡ record_bytes b vdr) (found : Option Finding) (finds : Finds (flat_map (block_rows b ts bytes) index.blocks.items) found) where
+        pub found_in_blocks : (f : Finding) → found ≡ Some f → IsBroken (met_rows b ts vdr (index_of b ts vdr)) f.rule f.place
+        found_in_blocks f some = blocks_break index walked.0 walked.1 bytes is f.rule f.place (one_found (flat_map (block_rows b ts bytes) index.blocks.items) found f finds some)
+
+        pub none_found_in_index : index.broken ≡ None → found ≡ None → Hold (met_rows b ts vdr (index_of b ts vdr))
+        none_found_in_index walk_none blocks_none =
+            index_holds index walked.0 walked.1 bytes is (none_found (nodes_rows b ts (negsuc 0) (pos record_number_limit) walked.0) index.broken walked.1.found walk_none)
+            (none_found (flat_map (block_rows b ts bytes) index.blocks.items) found finds blocks_none)

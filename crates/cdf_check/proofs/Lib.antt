@@ -21,3 +21,9 @@ pub mod VariableSteps
 pub mod VariableShapes
 pub mod IndexSteps
 pub mod FieldSteps
+pub mod IndexFindings
+pub mod IndexJoins
+pub mod IndexWalks
+pub mod NodeSteps
+pub mod IndexMet
+pub mod IndexLists

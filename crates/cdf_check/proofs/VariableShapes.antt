@@ -1,6 +1,6 @@
 -- What a VDR says of the values and the dimensions of its variable, as it is read, and what its fields and its record take.
-use Rattle.std.proofs.Common.{◌≡◌, ℕ, zero, suc, ◌+◌, ◌-◌, ◌<◌, ◌≤◌, ◌^◌, List, [], ◌∷◌, length, map, get_or, Bool, true, false, not, ◌&&◌, ◌||◌, refl, sym, ap, ap₂, ◌∙◌, arith, inl, inr, Option, Some, None}
-use Rattle.std.specs.Prelude.{◌==◌, nat_le, is_some}
+use Rattle.std.proofs.Common.{◌≡◌, ℕ, zero, suc, ◌+◌, ◌-◌, ◌<◌, ◌≤◌, ◌^◌, List, [], ◌∷◌, length, map, get_or, Bool, true, false, not, ◌&&◌, ◌||◌, refl, sym, ap, ap₂, ◌∙◌, arith, inl, inr, Some, None}
+use Rattle.std.specs.Prelude.{◌==◌, nat_le}
 use Rattle.std.proofs.Math.Path.{subst₂}
 use Rattle.std.proofs.lemmas.Bool.{cases_lt}
 use Rattle.std.proofs.lemmas.Bool.Decides.{nat_tests}
@@ -99,9 +99,12 @@ length-dims b vdr = elim (either (is_z b vdr)) [
 pub length-varys : (b : List ℕ) (place n : ℕ) → length (map (λ n. not (n == 0)) (words b place n)) ≡ n
 length-varys b place n = length-map (λ (m : ℕ). not (m == 0)) (words b place n) ∙ length-words b place n
 
-pub is_within : (found : Option ℕ) (size limit : ℕ) → SomeIff found (size ≤ limit) size → is_some found ≡ nat_le size limit
-is_within None size limit p = elim (either (nat_le size limit)) [ inl e ↦ absurd (p (le_of size limit e)) | inr e ↦ sym e ]
-is_within (Some n) size limit p = sym (of_le size limit p.0)
+-- a record that is as small as it has to be, or is not
+pub is_small_enough : (size limit : ℕ) (n : ℕ) → SomeIff (Some n) (size ≤ limit) size → nat_le size limit ≡ true
+is_small_enough size limit n p = of_le size limit p.0
+
+pub is_too_large : (size limit : ℕ) → SomeIff None (size ≤ limit) size → nat_le size limit ≡ false
+is_too_large size limit p = elim (either (nat_le size limit)) [ inl e ↦ absurd (p (le_of size limit e)) | inr e ↦ e ]
 
 pub is_longer : (end size : ℕ) → size < end → nat_le end size ≡ false
 is_longer end size more = grind (arith, nat_tests)

@@ -6,3 +6,4 @@ pub mod FileChains
 pub mod Entries
 pub mod Named
 pub mod Variables
+pub mod Indexes

@@ -3,9 +3,9 @@ use Rattle.std.specs.Prelude.{◌≡◌, ◌≤◌, ◌⊎◌, ℕ, ◌+◌, Lis
 use Rattle.std.specs.declared.option.Option.{Option}
 use Rattle.cdf_model.specs.Place.{record_limit}
 use Rattle.cdf_format.specs.Chains.{is_in}
-use Rattle.cdf_format.specs.Fields.{LiesIn, Holds, gdr_offset, number, r_num_dims, r_sizes, size_at, type_at}
+use Rattle.cdf_format.specs.Fields.{LiesIn, Holds, gdr_offset, name_in, number, r_num_dims, r_sizes, size_at, type_at}
 use Rattle.cdf_format.specs.NotRead.{read_types, unread_sparse}
-use Rattle.cdf_format.specs.Records.{gdr_r_dim_sizes, vdr_data_type, vdr_flags, vdr_max_rec, vdr_num_elems, vdr_r_dim_vary, vdr_s_records}
+use Rattle.cdf_format.specs.Records.{gdr_r_dim_sizes, vdr_data_type, vdr_flags, vdr_max_rec, vdr_name, vdr_num_elems, vdr_r_dim_vary, vdr_s_records}
 use Rattle.cdf_format.specs.RecordTypes.{r_vdr_type, z_vdr_type}
 use Rattle.cdf_format.specs.Rules.{Row, row, asked}
 use Rattle.cdf_format.specs.Shape.{is_compressed}
@@ -13,6 +13,7 @@ use Rattle.cdf_format.specs.Stored.{known_type}
 use Rattle.cdf_format.specs.Tiles.{In}
 use Rattle.cdf_format.specs.VariableFields.{is_z, dimensions_at, dims_at, vary_field, type_of_variable, elems_at, record_bytes}
 use Rattle.cdf_format.specs.VariableRules.{has_elements, has_dimensions, vdr_end, is_max_rec, is_no_link, cpr_link, is_cpr, cpr_rows}
+use Rattle.cdf_check.specs.declared.variable.Variable.{Variable}
 use Rattle.cdf_check.specs.declared.variable_fields.Fields.{Fields}
 use Rattle.cdf_check.specs.declared.variable_shape.Dimensions.{Dimensions}
 use Rattle.cdf_check.specs.declared.variable_shape.Value.{Value}
@@ -77,6 +78,11 @@ packing_rows b records vdr =
 pub record AreValues (b : List ℕ) (vdr : ℕ) (value : Value) : Type 0 where
   pub type_is : value.data_type ≡ type_of_variable b vdr
   pub elements_are : value.elements ≡ elems_at b vdr
+
+-- a variable as it was read: its Name, and the bytes of a record
+pub record IsVariableOf (b : List ℕ) (vdr : ℕ) (variable : Variable) : Type 0 where
+  pub name_is : variable.name ≡ name_in b vdr vdr_name
+  pub bytes_are : variable.record_bytes ≡ record_bytes b vdr
 
 -- its dimensions
 pub record AreDimensions (b : List ℕ) (vdr : ℕ) (d : Dimensions) : Type 0 where

@@ -2,7 +2,7 @@
 
 ghost use Rattle.std.specs.Prelude.{◌≡◌, ◌+◌, ◌^◌, ◌<◌, ◌≤◌, length, if◌then◌else◌, IfOk};
 ghost use Rattle.cdf_area.specs.Calls.{Reads};
-ghost use Rattle.cdf_format.specs.Fields.{has_bit, signed4, size_at, type_at, word};
+ghost use Rattle.cdf_format.specs.Fields.{has_bit, signed4, size_at, type_at, with_sign, word};
 ghost use Rattle.cdf_format.specs.FileRules.{is_record};
 ghost use Rattle.cdf_format.specs.Sealed.{trailer_size};
 
@@ -61,6 +61,13 @@ pub fn is_record<A: Area>(
 {
     let rest = area.size() - place;
     record_type == wanted_type && record_size >= wanted_size && record_size <= rest
+}
+
+/// A number of 4 bytes with its sign.
+pub fn with_sign(number: u32) -> i64
+    ensures { result ≡ with_sign number }
+{
+    i64::from(number.cast_signed())
 }
 
 /// The RecordSize of the record at a place.

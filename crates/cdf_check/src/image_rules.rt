@@ -19,9 +19,10 @@ ghost use Rattle.cdf_check.specs.Verdicts.{JudgesImage};
 
 use crate::attributes::check_attributes;
 use crate::file_chains::{Chains, check_chains};
+use crate::indexes::check_indexes;
 use crate::owners::check_owners;
 use crate::tiles::check_tiles;
-use crate::variables::{check_indexes, check_variables};
+use crate::variables::check_variables;
 use crate::verdict::{Broken, in_phase};
 use cdf_area::{Area, AreaError};
 use std::alloc::{AllocError, Global};
@@ -61,13 +62,15 @@ fn check_variable_members<A: Area>(
     ensures area { Reads A.image A.frame A.faults A.edited area.old area.new result }
 {
     let vdrs = join(alloc, &chains.r_variables, &chains.z_variables)?;
-    if let Some(finding) = check_variables(alloc, area, tiles, gdr, &vdrs)? {
-        return Ok(Some(in_phase(7, finding)));
-    }
-    if let Some(finding) = check_indexes(area, tiles, &vdrs)? {
-        return Ok(Some(in_phase(8, finding)));
-    }
-    members.extend_from_slice(&vdrs)?;
+    let record_sizes = match check_variables(alloc, area, tiles, gdr, &vdrs)? {
+        Ok(sizes) => sizes,
+        Err(finding) => return Ok(Some(in_phase(7, finding))),
+    };
+    let owned = match check_indexes(alloc, area, tiles, &vdrs, &record_sizes)? {
+        Ok(owned) => owned,
+        Err(finding) => return Ok(Some(in_phase(8, finding))),
+    };
+    members.extend_from_slice(&owned)?;
     if let Some(finding) = check_owners(alloc, tiles, gdr, &members, unused)? {
         return Ok(Some(in_phase(9, finding)));
     }

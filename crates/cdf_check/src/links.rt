@@ -35,7 +35,7 @@ pub fn is_a<A: Area>(
 }
 
 /// Whether a chain of records of this type may lead to a place.
-fn is_linkable<A: Area>(
+pub fn is_linkable<A: Area>(
     area: &mut A,
     tiles: &[u64],
     record_type: u32,
@@ -53,7 +53,7 @@ fn is_linkable<A: Area>(
 }
 
 /// Whether the chain goes on to a place that it has not met.
-fn goes_on<A: Area>(
+pub fn goes_on<A: Area>(
     area: &mut A,
     tiles: &[u64],
     record_type: u32,

@@ -7,7 +7,7 @@ ghost use Rattle.cdf_model.specs.VariableSteps.{is_characters};
 ghost use Rattle.cdf_format.specs.Fields.{gdr_offset, is_positive, name_in};
 ghost use Rattle.cdf_format.specs.Records.{vdr_name};
 ghost use Rattle.cdf_format.specs.VariableRules.{variable_rows};
-ghost use Rattle.cdf_check.specs.Variables.{AreFields, AreRead, AreValues, HasSizes, IsVariable, packing_rows, records_rows, value_rows};
+ghost use Rattle.cdf_check.specs.Variables.{AreFields, AreRead, AreValues, HasSizes, IsVariable, IsVariableOf, packing_rows, records_rows, value_rows};
 ghost use Rattle.cdf_check.specs.Verdicts.{Finds, Yields};
 
 use crate::fields::has_bit;
@@ -26,6 +26,13 @@ const COMPRESSED: u32 = 2;
 const LAST_SPARSE: u32 = 2;
 /// MaxRec of a variable without records.
 const NO_RECORD: u32 = u32::MAX;
+
+/// What a variable that keeps its rules has: its Name, and how many bytes a record takes.
+#[derive(Drop)]
+pub struct Variable {
+    pub name: Bytes,
+    pub record_bytes: u64,
+}
 
 /// The Name of a variable.
 #[tactic(auto, using(crate::proofs::VariableSteps::name_lies, crate::proofs::VariableSteps::name_is))]
@@ -116,19 +123,19 @@ fn check_packing(_tiles: &[u64], vdr: u64, fields: &Fields) -> Option<Finding>
     None
 }
 
-/// The Name of a variable, or a rule on it that is broken, but for those that compare it with others.
+/// What a variable has, or a rule on it that is broken, but for those that compare it with others.
 pub fn check_variable<A: Area>(
     alloc: Global,
     area: &mut A,
     tiles: &[u64],
     gdr: u64,
     vdr: u64,
-) -> Result<Result<Bytes, Finding>, AreaError>
+) -> Result<Result<Variable, Finding>, AreaError>
     requires gdr { gdr ≡ gdr_offset (A.image area.old) }
     requires sizes { HasSizes (A.image area.old) }
     requires read { AreRead (A.image area.old) tiles.now }
     requires variable { IsVariable (A.image area.old) vdr }
-    ensures found { IfOk result (Yields (variable_rows (A.image area.old) tiles.now [] vdr) (λ name. name ≡ name_in (A.image area.old) vdr vdr_name)) }
+    ensures found { IfOk result (Yields (variable_rows (A.image area.old) tiles.now [] vdr) (IsVariableOf (A.image area.old) vdr)) }
     ensures area { Reads A.image A.frame A.faults A.edited area.old area.new result }
 {
     let name = read_variable_name(alloc, area, vdr)?;
@@ -144,14 +151,15 @@ pub fn check_variable<A: Area>(
         Ok(value) => value,
         Err(broken) => return Ok(Err(broken)),
     };
-    if let Some(broken) = check_shape(alloc, area, gdr, vdr, &fields, value)? {
-        return Ok(Err(broken));
-    }
+    let record_bytes = match check_shape(alloc, area, gdr, vdr, &fields, value)? {
+        Ok(bytes) => bytes,
+        Err(broken) => return Ok(Err(broken)),
+    };
     if let Some(broken) = check_records(vdr, &fields) {
         return Ok(Err(broken));
     }
     if let Some(broken) = check_packing(tiles, vdr, &fields) {
         return Ok(Err(broken));
     }
-    Ok(Ok(name))
+    Ok(Ok(Variable { name, record_bytes }))
 }

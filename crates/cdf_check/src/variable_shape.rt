@@ -1,7 +1,8 @@
 //! The rules on the dimensions of a variable, and on what its fields and its record take.
 
-ghost use Rattle.std.specs.Prelude.{◌≡◌, ◌+◌, ◌*◌, ◌==◌, ◌≤◌, length, map, not, nat_le, true, IfOk};
+ghost use Rattle.std.specs.Prelude.{◌≡◌, ◌+◌, ◌*◌, ◌==◌, ◌≤◌, length, map, not, true, IfOk};
 ghost use Rattle.std.specs.List.{list_all};
+ghost use Rattle.std.specs.Option.{SomeIff};
 ghost use Rattle.cdf_area.specs.Calls.{Reads};
 ghost use Rattle.cdf_model.specs.Place.{record_limit};
 ghost use Rattle.cdf_format.specs.Fields.{counted, gdr_offset, is_positive, number, r_num_dims, size_at, words};
@@ -9,7 +10,7 @@ ghost use Rattle.cdf_format.specs.Records.{vdr_z_num_dims};
 ghost use Rattle.cdf_format.specs.VariableFields.{counted4, is_z, record_bytes, dimensions_at, vary_field};
 ghost use Rattle.cdf_format.specs.VariableRules.{vdr_end};
 ghost use Rattle.cdf_check.specs.Variables.{AreDimensions, AreFields, AreShared, AreValues, HasSizes, IsVariable, Measures, shape_rows};
-ghost use Rattle.cdf_check.specs.Verdicts.{Finds};
+ghost use Rattle.cdf_check.specs.Verdicts.{Yields};
 
 use crate::fields::has_bit;
 use crate::gdr_rules::are_sizes;
@@ -174,18 +175,18 @@ fn read_varys<A: Area>(alloc: Global, area: &mut A, at: u64, count: u32) -> Resu
     Ok(Varys::new(varys))
 }
 
-/// Whether a record of a variable is as small as it has to be.
-fn is_record_small<A: Area>(
+/// How many bytes a record of a variable takes, if it is as small as it has to be.
+fn read_record_bytes<A: Area>(
     alloc: Global,
     area: &mut A,
     vdr: u64,
     value: Value,
     dimensions: Dimensions,
-) -> Result<bool, AreaError>
+) -> Result<Option<u64>, AreaError>
     requires value { AreValues (A.image area.old) vdr value }
     requires dimensions { AreDimensions (A.image area.old) vdr dimensions }
     requires room { vdr + dimensions.varys + 4 * dimensions.count ≤ length (A.image area.old) }
-    ensures value { IfOk result (λ is. is ≡ nat_le (record_bytes (A.image area.old) vdr) record_limit) }
+    ensures value { IfOk result (λ found. SomeIff found (record_bytes (A.image area.old) vdr ≤ record_limit) (record_bytes (A.image area.old) vdr)) }
     ensures area { Reads A.image A.frame A.faults A.edited area.old area.new result }
 {
     let _size = area.size();
@@ -200,10 +201,10 @@ fn is_record_small<A: Area>(
         dims: sizes,
         varys: read_varys(alloc, area, vdr + varys, count)?,
     };
-    Ok(record_bytes(&shape).is_some())
+    Ok(record_bytes(&shape))
 }
 
-/// The rules on the dimensions of a variable, the end of its fields and the bytes of its record.
+/// How many bytes a record of a variable takes, or a rule that is broken on its dimensions, the end of its fields, or these bytes.
 pub fn check_shape<A: Area>(
     alloc: Global,
     area: &mut A,
@@ -211,28 +212,28 @@ pub fn check_shape<A: Area>(
     vdr: u64,
     fields: &Fields,
     value: Value,
-) -> Result<Option<Finding>, AreaError>
+) -> Result<Result<u64, Finding>, AreaError>
     requires gdr { gdr ≡ gdr_offset (A.image area.old) }
     requires sizes { HasSizes (A.image area.old) }
     requires variable { IsVariable (A.image area.old) vdr }
     requires fields { AreFields (A.image area.old) vdr fields.now }
     requires value { AreValues (A.image area.old) vdr value }
-    ensures found { IfOk result (Finds (shape_rows (A.image area.old) vdr)) }
+    ensures found { IfOk result (Yields (shape_rows (A.image area.old) vdr) (λ bytes. bytes ≡ record_bytes (A.image area.old) vdr)) }
     ensures area { Reads A.image A.frame A.faults A.edited area.old area.new result }
 {
     let place = vdr;
     let Some(dimensions) = read_dimensions(alloc, area, gdr, vdr, fields)? else {
         // 7.5
-        return Ok(Some(Finding { rule: 5, place }));
+        return Ok(Err(Finding { rule: 5, place }));
     };
     let end = end_of(area, vdr, fields, value, &dimensions);
     if end > fields.record_size {
         // 7.6
-        return Ok(Some(Finding { rule: 6, place }));
+        return Ok(Err(Finding { rule: 6, place }));
     }
-    if !is_record_small(alloc, area, vdr, value, dimensions)? {
+    match read_record_bytes(alloc, area, vdr, value, dimensions)? {
+        Some(bytes) => Ok(Ok(bytes)),
         // 7.7
-        return Ok(Some(Finding { rule: 7, place }));
+        None => Ok(Err(Finding { rule: 7, place })),
     }
-    Ok(None)
 }

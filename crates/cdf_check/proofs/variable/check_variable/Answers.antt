@@ -1,21 +1,22 @@
-use Rattle.std.proofs.Common.{◌≡◌, true, None, Some, Ok, rules}
+use Rattle.std.proofs.Common.{◌≡◌, ℕ, true, None, Some, Ok, rules}
 use Rattle.cdf_area.proofs.Calls.{read_done, read_more, read_once}
 use Rattle.cdf_format.specs.AttributeRules.{has_name}
 use Rattle.cdf_format.specs.Records.{vdr_name}
+use Rattle.cdf_format.specs.VariableFields.{record_bytes}
 use Rattle.cdf_check.specs.Variables.{AreFields, AreValues, packing_rows, records_rows, shape_rows, value_rows}
 use Rattle.cdf_check.specs.Verdicts.{Finds, Yields}
 use Rattle.cdf_check.proofs.FieldSteps.{all_parts, packing_breaks, records_break}
 use Rattle.cdf_check.proofs.variable.check_variable.Goals as goal
 
-pub returns-in-Some-check_records-clause-found : goal.returns-in-Some-check_records-clause-found
-returns-in-Some-check_records-clause-found g c =
+pub returns-in-Some-clause-found : goal.returns-in-Some-clause-found
+returns-in-Some-clause-found g c =
     let b = g.A.Area.image c.args.area.now in
     let are : AreFields b c.args.vdr c.in_ok-fields.fields = rw c.read_variable_name.ensures.area.image at c.in_ok-fields.ensures.fields in
-    let broken : Finds (records_rows b c.args.vdr) (Some c.in-Some-check_records.broken) = rw c.in-Some-check_records.is at (c.check_records.ensures b are) in
-    records_break b c.args.tiles.now c.args.vdr c.in-Some-check_records.broken.rule c.in-Some-check_records.broken.place broken
+    let broken : Finds (records_rows b c.args.vdr) (Some c.in-Some.broken) = rw c.in-Some.is at (c.check_records.ensures b are) in
+    records_break b c.args.tiles.now c.args.vdr c.in-Some.broken.rule c.in-Some.broken.place broken
 
-pub returns-in-Some-check_records-clause-area : goal.returns-in-Some-check_records-clause-area
-returns-in-Some-check_records-clause-area g c = read_done (read_more (read_more (read_once c.in_ok-name.ensures.area) c.in_ok-fields.ensures.area) c.in_ok-broken.ensures.area)
+pub returns-in-Some-clause-area : goal.returns-in-Some-clause-area
+returns-in-Some-clause-area g c = read_done (read_more (read_more (read_once c.in_ok-name.ensures.area) c.in_ok-fields.ensures.area) c.in_ok-bytes.ensures.area)
 
 pub returns-in-Some-check_packing-clause-found : goal.returns-in-Some-check_packing-clause-found
 returns-in-Some-check_packing-clause-found g c =
@@ -25,7 +26,7 @@ returns-in-Some-check_packing-clause-found g c =
     packing_breaks b c.args.tiles.now c.args.vdr c.in-Some-check_packing.broken.rule c.in-Some-check_packing.broken.place broken
 
 pub returns-in-Some-check_packing-clause-area : goal.returns-in-Some-check_packing-clause-area
-returns-in-Some-check_packing-clause-area g c = read_done (read_more (read_more (read_once c.in_ok-name.ensures.area) c.in_ok-fields.ensures.area) c.in_ok-broken.ensures.area)
+returns-in-Some-check_packing-clause-area g c = read_done (read_more (read_more (read_once c.in_ok-name.ensures.area) c.in_ok-fields.ensures.area) c.in_ok-bytes.ensures.area)
 
 pub returns-clause-found : goal.returns-clause-found
 returns-clause-found g c =
@@ -33,11 +34,11 @@ returns-clause-found g c =
     let are : AreFields b c.args.vdr c.in_ok-fields.fields = rw c.read_variable_name.ensures.area.image at c.in_ok-fields.ensures.fields in
     let named : has_name b c.args.vdr vdr_name ≡ true = search (rules, c.if-is_empty.false, c.is_empty.ensures, c.as_slice.ensures, c.in_ok-name.ensures.value) in
     let values : Yields (value_rows b c.args.vdr) (AreValues b c.args.vdr) (Ok c.in-Ok.value) = rw c.in-Ok.is at (c.check_values.ensures b are) in
-    let measured = rw (c.read_fields.ensures.area.image, c.read_variable_name.ensures.area.image) at c.in_ok-broken.ensures.found in
-    let shape : Finds (shape_rows b c.args.vdr) None = rw c.in_default.is at measured in
-    let records : Finds (records_rows b c.args.vdr) None = rw c.in_default-check_records.is at (c.check_records.ensures b are) in
+    let measured = rw (c.read_fields.ensures.area.image, c.read_variable_name.ensures.area.image) at c.in_ok-bytes.ensures.found in
+    let shape : Yields (shape_rows b c.args.vdr) (λ (bytes : ℕ). bytes ≡ record_bytes b c.args.vdr) (Ok c.in-Ok-2.bytes) = rw c.in-Ok-2.is at measured in
+    let records : Finds (records_rows b c.args.vdr) None = rw c.in_default.is at (c.check_records.ensures b are) in
     let packing : Finds (packing_rows b c.args.tiles.now c.args.vdr) None = rw c.in_default-check_packing.is at (c.check_packing.ensures b c.requires.read are) in
-    (all_parts b c.args.tiles.now c.args.vdr named values.0 shape records packing, c.in_ok-name.ensures.value)
+    (all_parts b c.args.tiles.now c.args.vdr named values.0 shape.0 records packing, record { name_is = c.in_ok-name.ensures.value; bytes_are = shape.1 })
 
 pub returns-clause-area : goal.returns-clause-area
-returns-clause-area g c = read_done (read_more (read_more (read_once c.in_ok-name.ensures.area) c.in_ok-fields.ensures.area) c.in_ok-broken.ensures.area)
+returns-clause-area g c = read_done (read_more (read_more (read_once c.in_ok-name.ensures.area) c.in_ok-fields.ensures.area) c.in_ok-bytes.ensures.area)

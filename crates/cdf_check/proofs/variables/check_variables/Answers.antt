@@ -1,16 +1,19 @@
-use Rattle.std.proofs.Common.{◌≡◌, [], get_or, take, sym, subst, add-one, arith, Ok, Err, List, ℕ}
+use Rattle.std.proofs.Common.{◌≡◌, ◌∙◌, [], get_or, take, map, sym, ap, subst, add-one, arith, Ok, Err, List, ℕ}
 use Rattle.std.proofs.lemmas.List.{take_all, take_more}
 use Rattle.std.specs.List.{flat_map}
-use Rattle.cdf_area.proofs.Calls.{read_more}
+use Rattle.cdf_area.proofs.Calls.{read_done, read_failed, read_more}
 use Rattle.cdf_format.specs.AttributeRules.{same_name}
 use Rattle.cdf_format.specs.ChainRules.{differ_rows}
 use Rattle.cdf_format.specs.Fields.{name_in}
 use Rattle.cdf_format.specs.Records.{vdr_name}
 use Rattle.cdf_format.specs.Rules.{Hold}
-use Rattle.cdf_format.specs.VariableRules.{variable_rows}
+use Rattle.cdf_format.specs.VariableFields.{record_bytes}
+use Rattle.cdf_format.specs.VariableRules.{phase7, variable_rows}
 use Rattle.cdf_check.specs.Named.{AreNamed}
+use Rattle.cdf_check.specs.Variables.{IsVariableOf}
 use Rattle.cdf_check.specs.Verdicts.{Finds, Yields}
-use Rattle.cdf_check.proofs.Rows.{In-get_or, broken_member, holds_more}
+use Rattle.cdf_check.proofs.Findings.{none_found, one_found}
+use Rattle.cdf_check.proofs.Rows.{In-get_or, broken_member, holds_more, one_more}
 use Rattle.cdf_check.proofs.VariableSteps.{each_breaks, all_found}
 use Rattle.cdf_check.proofs.variables.check_variables.Goals as goal
 
@@ -31,7 +34,7 @@ returns-in-Err-clause-found g c =
     let b = g.A.Area.image c.args.area.now in
     let ts = c.args.tiles.now in
     let m = get_or c.args.vdrs.now l.vdr-index 0 in
-    let here : Yields (variable_rows b ts [] m) (λ (name : List ℕ). name ≡ name_in b m vdr_name) (Err c.in-Err.broken) = rw (c.in-Err.is, l.invariant.area.image) at c.in_ok-name.ensures.found in
+    let here : Yields (variable_rows b ts [] m) (IsVariableOf b m) (Err c.in-Err.broken) = rw (c.in-Err.is, l.invariant.area.image) at c.in_ok-variable.ensures.found in
     each_breaks b ts c.args.vdrs.now c.in-Err.broken.rule c.in-Err.broken.place (broken_member (variable_rows b ts []) c.args.vdrs.now l.vdr-index 0 c.in-Err.broken.rule c.in-Err.broken.place c.loop-vdr-test.true here)
 
 pub loop-vdr-preserved : goal.loop-vdr-preserved
@@ -40,12 +43,25 @@ loop-vdr-preserved g c =
     let b = g.A.Area.image c.args.area.now in
     let ts = c.args.tiles.now in
     let m = get_or c.args.vdrs.now l.vdr-index 0 in
-    let here : Yields (variable_rows b ts [] m) (λ (name : List ℕ). name ≡ name_in b m vdr_name) (Ok c.in-Ok.name) = rw (c.in-Ok.is, l.invariant.area.image) at c.in_ok-name.ensures.found in
+    let here : Yields (variable_rows b ts [] m) (IsVariableOf b m) (Ok c.in-Ok.variable) = rw (c.in-Ok.is, l.invariant.area.image) at c.in_ok-variable.ensures.found in
+    let more = sym (take_more c.args.vdrs.now l.vdr-index 0 c.loop-vdr-test.true) in
     record {
-      area = read_more l.invariant.area c.in_ok-name.ensures.area;
+      area = read_more l.invariant.area c.in_ok-variable.ensures.area;
       rows = rw add-one (holds_more (variable_rows b ts []) c.args.vdrs.now l.vdr-index 0 c.loop-vdr-test.true l.invariant.rows here.0);
-      named = subst (λ (xs : List ℕ). AreNamed (λ vdr. name_in b vdr vdr_name) xs c.add.new.self) (sym (take_more c.args.vdrs.now l.vdr-index 0 c.loop-vdr-test.true)) (c.in_ok-add-in-Ok.ensures.named (λ vdr. name_in b vdr vdr_name) (take l.vdr-index c.args.vdrs.now) here.1 l.invariant.named);
+      named = subst (λ (xs : List ℕ). AreNamed (λ vdr. name_in b vdr vdr_name) xs c.add.new.self) more (c.in_ok-add-in-Ok.ensures.named (λ vdr. name_in b vdr vdr_name) (take l.vdr-index c.args.vdrs.now) here.1.name_is l.invariant.named);
+      sizes = c.in_ok-push-in-Ok.ensures.items ∙ one_more (record_bytes b) c.args.vdrs.now l.vdr-index l.record_sizes.items c.in-Ok.variable.record_bytes c.loop-vdr-test.true l.invariant.sizes here.1.bytes_are;
     }
+
+pub returns-in-Some-clause-found : goal.returns-in-Some-clause-found
+returns-in-Some-clause-found g c =
+    let l = c.loop-vdr in
+    let b = g.A.Area.image c.args.area.now in
+    let ts = c.args.tiles.now in
+    let vdrs = c.args.vdrs.now in
+    let all : take l.vdr-index vdrs ≡ vdrs = take_all l.vdr-index vdrs (omega (arith, c.loop-vdr-test.false)) in
+    let rows : Hold (flat_map (variable_rows b ts []) vdrs) = rw all at l.invariant.rows in
+    let found : Finds (differ_rows 2 (same_name b vdr_name) [] vdrs) l.names.repeated = rw all at l.invariant.named.found in
+    one_found (phase7 b ts vdrs) l.names.repeated c.in-Some.broken (all_found b ts vdrs c.requires.once rows l.names.repeated found) c.in-Some.is
 
 pub returns-clause-found : goal.returns-clause-found
 returns-clause-found g c =
@@ -56,4 +72,13 @@ returns-clause-found g c =
     let all : take l.vdr-index vdrs ≡ vdrs = take_all l.vdr-index vdrs (omega (arith, c.loop-vdr-test.false)) in
     let rows : Hold (flat_map (variable_rows b ts []) vdrs) = rw all at l.invariant.rows in
     let found : Finds (differ_rows 2 (same_name b vdr_name) [] vdrs) l.names.repeated = rw all at l.invariant.named.found in
-    all_found b ts vdrs c.requires.once rows l.names.repeated found
+    (none_found (phase7 b ts vdrs) l.names.repeated (all_found b ts vdrs c.requires.once rows l.names.repeated found) c.in-None.is, l.invariant.sizes ∙ ap (map (record_bytes b)) all)
+
+pub returns-in_err-variable-clause-area : goal.returns-in_err-variable-clause-area
+returns-in_err-variable-clause-area g c = read_failed c.loop-vdr.invariant.area c.in_err-variable.ensures.area c.from_residual-in_err-variable.ensures.1
+
+pub returns-in-Err-clause-area : goal.returns-in-Err-clause-area
+returns-in-Err-clause-area g c = read_done (read_more c.loop-vdr.invariant.area c.in_ok-variable.ensures.area)
+
+pub returns-clause-area : goal.returns-clause-area
+returns-clause-area g c = read_done c.loop-vdr.invariant.area

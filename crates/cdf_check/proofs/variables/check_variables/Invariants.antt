@@ -1,9 +1,10 @@
-use Rattle.std.proofs.Common.{[], take}
+use Rattle.std.proofs.Common.{◌≡◌, [], map, take}
 use Rattle.std.specs.List.{flat_map}
 use Rattle.cdf_area.specs.Calls.{Stays}
 use Rattle.cdf_format.specs.Fields.{name_in}
 use Rattle.cdf_format.specs.Records.{vdr_name}
 use Rattle.cdf_format.specs.Rules.{Hold}
+use Rattle.cdf_format.specs.VariableFields.{record_bytes}
 use Rattle.cdf_format.specs.VariableRules.{variable_rows}
 use Rattle.cdf_check.specs.Named.{AreNamed}
 use Rattle.cdf_check.proofs.variables.check_variables.Given as goal
@@ -13,4 +14,5 @@ invariant-loop-vdr g l = record {
   area : Stays g.A.Area.image g.A.Area.frame g.A.Area.faults g.A.Area.edited l.fn.area l.area;
   rows : Hold (flat_map (variable_rows (g.A.Area.image l.fn.area) l.tiles []) (take l.vdr-index l.vdrs));
   named : AreNamed (λ vdr. name_in (g.A.Area.image l.fn.area) vdr vdr_name) (take l.vdr-index l.vdrs) l.names;
+  sizes : l.record_sizes.items ≡ map (record_bytes (g.A.Area.image l.fn.area)) (take l.vdr-index l.vdrs);
 }

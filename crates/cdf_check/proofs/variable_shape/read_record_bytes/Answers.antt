@@ -1,10 +1,11 @@
-use Rattle.std.proofs.Common.{◌≡◌, ℕ, ◌+◌, ◌∙◌, length, map, not, sym, ap, ap₂}
-use Rattle.std.specs.Prelude.{◌==◌, nat_le}
+use Rattle.std.proofs.Common.{◌≡◌, ℕ, ◌+◌, ◌≤◌, ◌∙◌, length, map, not, sym, ap, ap₂, subst}
+use Rattle.std.specs.Prelude.{◌==◌}
+use Rattle.std.specs.Option.{SomeIff}
 use Rattle.cdf_model.specs.Place.{record_limit, record_size}
 use Rattle.cdf_format.specs.Fields.{words}
 use Rattle.cdf_format.specs.VariableFields.{record_bytes, varys_at}
-use Rattle.cdf_check.proofs.VariableShapes.{is_within, length-dims, length-varys}
-use Rattle.cdf_check.proofs.variable_shape.is_record_small.Goals as goal
+use Rattle.cdf_check.proofs.VariableShapes.{length-dims, length-varys}
+use Rattle.cdf_check.proofs.variable_shape.read_record_bytes.Goals as goal
 
 pub record_bytes-requires : goal.record_bytes-requires
 record_bytes-requires g c =
@@ -23,4 +24,4 @@ returns-clause-value g c =
     let varys_are : c.in_ok-read_varys.field-0 ≡ varys_at b vdr = c.in_ok-read_varys.ensures.value ∙ ap₂ (λ (p n : ℕ). map (λ (m : ℕ). not (m == 0)) (words b (vdr + p) n)) are.varys_at are.count_is in
     let size = record_size c.args.value.data_type c.args.value.elements d.sizes c.in_ok-read_varys.field-0 in
     let same : size ≡ record_bytes b vdr = λ i. record_size (value.type_is i) (value.elements_are i) (are.sizes_are i) (varys_are i) in
-    c.is_some.ensures ∙ is_within c.record_bytes.result size record_limit c.record_bytes.ensures ∙ ap (λ (n : ℕ). nat_le n record_limit) same
+    subst (λ (n : ℕ). SomeIff c.record_bytes.result (n ≤ record_limit) n) same c.record_bytes.ensures
