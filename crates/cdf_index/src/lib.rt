@@ -4,9 +4,9 @@
 mod collecting;
 mod entries;
 mod finding;
+pub mod laws;
 mod making;
 mod measuring;
-pub mod laws;
 mod next;
 mod nodes;
 mod records;
