@@ -133,7 +133,7 @@ class Table:
 
 def values_text(data_type, elems, network):
     if data_type.code in TEXT_TYPES:
-        return quoted(network)
+        return ' '.join(quoted(network[i:i + elems]) for i in range(0, len(network), elems))
     parts = [network[i:i + data_type.size] for i in range(0, len(network), data_type.size)]
     if data_type.signed is None:
         return ' '.join(part.hex() for part in parts)
@@ -157,7 +157,8 @@ def reply_text(number, c, d, reply):
         return '\n'.join([f'{number} ok', *lines, f'{number} end']) + '\n'
     if c.kind in ('get-entry', 'get-rec', 'get-val'):
         data_type, elems, network = TYPES[reply[0]], reply[1], reply[2]
-        return f'{number} ok {data_type.name} {elems} {values_text(data_type, elems, network)}\n'
+        form = f'{data_type.name} {elems} ' if c.kind == 'get-entry' else ''
+        return f'{number} ok {form}{values_text(data_type, elems, network)}\n'
     return f'{number} ok\n'
 
 
