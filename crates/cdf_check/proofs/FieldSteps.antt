@@ -29,14 +29,15 @@ module _ (b : List ℕ) (vdr : ℕ) (head : Vdr) (read : head ≡ vdr_at b vdr) 
   plain8 = of_z-to_z w64 (number b vdr vdr_cpr_or_spr_offset) (word_fits b vdr 84 (vdr + 72) 8 bytes (omega arith) (omega arith))
 
   pub fields_are : (fields : Fields) → fields.record_size ≡ head.record_size → fields.record_type ≡ cast_unsigned w32 (cast_signed w32 (cast_unsigned w32 head.record_type))
-      → fields.data_type ≡ type_of (cast_signed w32 (cast_unsigned w32 head.data_type)) → fields.max_rec ≡ cast_unsigned w32 (cast_signed w32 (cast_unsigned w32 head.max_rec)) → fields.flags ≡ head.flags
+      → fields.data_type ≡ type_of (cast_signed w32 (cast_unsigned w32 head.data_type)) → fields.max_rec ≡ cast_unsigned w32 (cast_signed w32 (cast_unsigned w32 head.max_rec)) → fields.vxr_head ≡ head.vxr_head → fields.flags ≡ head.flags
       → fields.s_records ≡ cast_unsigned w32 (cast_signed w32 (cast_unsigned w32 head.s_records)) → fields.num_elems ≡ cast_unsigned w32 (cast_signed w32 (cast_unsigned w32 head.num_elems))
       → fields.cpr_or_spr_offset ≡ cast_unsigned w64 (cast_signed w64 (cast_unsigned w64 head.cpr_or_spr_offset)) → AreFields b vdr fields
-  fields_are fields size type data_type max_rec flags s_records num_elems link = record {
+  fields_are fields size type data_type max_rec index flags s_records num_elems link = record {
     size_is = size ∙ ap (λ (h : Vdr). h.record_size) read;
     type_is = type ∙ ap (λ (h : Vdr). cast_unsigned w32 (cast_signed w32 (cast_unsigned w32 h.record_type))) read ∙ again4 record_type refl (omega arith);
     data_type_is = data_type ∙ ap (λ (h : Vdr). type_of (cast_signed w32 (cast_unsigned w32 h.data_type))) read ∙ ap (λ (n : ℕ). type_of (cast_signed w32 n)) (plain4 vdr_data_type refl (omega arith));
     max_rec_is = max_rec ∙ ap (λ (h : Vdr). cast_unsigned w32 (cast_signed w32 (cast_unsigned w32 h.max_rec))) read ∙ again4 vdr_max_rec refl (omega arith);
+    head_is = index ∙ ap (λ (h : Vdr). h.vxr_head) read;
     flags_are = flags ∙ ap (λ (h : Vdr). h.flags) read;
     s_records_are = s_records ∙ ap (λ (h : Vdr). cast_unsigned w32 (cast_signed w32 (cast_unsigned w32 h.s_records))) read ∙ again4 vdr_s_records refl (omega arith);
     num_elems_are = num_elems ∙ ap (λ (h : Vdr). cast_unsigned w32 (cast_signed w32 (cast_unsigned w32 h.num_elems))) read ∙ again4 vdr_num_elems refl (omega arith);
@@ -46,6 +47,11 @@ module _ (b : List ℕ) (vdr : ℕ) (head : Vdr) (read : head ≡ vdr_at b vdr) 
 -- ---- the rules
 
 module _ (b ts : List ℕ) (vdr : ℕ) where
+  pub values_break : (rule place : ℕ) → IsBroken (value_rows b vdr) rule place → IsBroken (variable_rows b ts [] vdr) rule place
+  values_break rule place (inl p) = inr (inr (inl p))
+  values_break rule place (inr (inl p)) = inr (inr (inr (inl p)))
+  values_break rule place (inr (inr p)) = absurd p
+
   pub records_break : (rule place : ℕ) → IsBroken (records_rows b vdr) rule place → IsBroken (variable_rows b ts [] vdr) rule place
   records_break rule place (inl p) = inr (inr (inr (inr (inr (inr (inr (inl p)))))))
   records_break rule place (inr (inl p)) = inr (inr (inr (inr (inr (inr (inr (inr (inl p))))))))

@@ -46,5 +46,6 @@ module _ (b ts vdrs : List ℕ) (read : AreRead b ts) (described : Hold (phase7 
   pub is_small : record_bytes b (get_or vdrs i 0) ≤ record_limit
   is_small = le_of (record_bytes b (get_or vdrs i 0)) record_limit rows.1.1.1.1.1.1.0
 
-pub bytes_at : (b vdrs sizes : List ℕ) (i : ℕ) → i < length vdrs → sizes ≡ map (record_bytes b) vdrs → get_or sizes i 0 ≡ record_bytes b (get_or vdrs i 0)
-bytes_at b vdrs sizes i lt e = ap (λ (xs : List ℕ). get_or xs i 0) e ∙ get-map (record_bytes b) vdrs i lt
+-- what each of these variables has, in their order
+pub had_at : (f : ℕ → ℕ) (vdrs xs : List ℕ) (i : ℕ) → i < length vdrs → xs ≡ map f vdrs → get_or xs i 0 ≡ f (get_or vdrs i 0)
+had_at f vdrs xs i lt e = ap (λ (ys : List ℕ). get_or ys i 0) e ∙ get-map f vdrs i lt

@@ -1,11 +1,11 @@
 -- The variables of an image with these records, and their rules, part by part.
-use Rattle.std.specs.Prelude.{◌≡◌, ◌≤◌, ◌⊎◌, ℕ, ◌+◌, List, [], ◌∷◌, ◌++◌, Bool, true, false, not, is_some, ◌||◌, nat_le, length, Some, None}
+use Rattle.std.specs.Prelude.{◌≡◌, ◌≤◌, ◌⊎◌, ℕ, ◌+◌, List, [], ◌∷◌, ◌++◌, Bool, true, false, not, is_some, ◌||◌, nat_le, length, map, Some, None}
 use Rattle.std.specs.declared.option.Option.{Option}
 use Rattle.cdf_model.specs.Place.{record_limit}
 use Rattle.cdf_format.specs.Chains.{is_in}
 use Rattle.cdf_format.specs.Fields.{LiesIn, Holds, gdr_offset, name_in, number, r_num_dims, r_sizes, size_at, type_at}
 use Rattle.cdf_format.specs.NotRead.{read_types, unread_sparse}
-use Rattle.cdf_format.specs.Records.{gdr_r_dim_sizes, vdr_data_type, vdr_flags, vdr_max_rec, vdr_name, vdr_num_elems, vdr_r_dim_vary, vdr_s_records}
+use Rattle.cdf_format.specs.Records.{gdr_r_dim_sizes, vdr_data_type, vdr_flags, vdr_max_rec, vdr_name, vdr_num_elems, vdr_r_dim_vary, vdr_s_records, vdr_vxr_head}
 use Rattle.cdf_format.specs.RecordTypes.{r_vdr_type, z_vdr_type}
 use Rattle.cdf_format.specs.Rules.{Row, row, asked}
 use Rattle.cdf_format.specs.Shape.{is_compressed}
@@ -14,6 +14,7 @@ use Rattle.cdf_format.specs.Tiles.{In}
 use Rattle.cdf_format.specs.VariableFields.{is_z, dimensions_at, dims_at, vary_field, type_of_variable, elems_at, record_bytes}
 use Rattle.cdf_format.specs.VariableRules.{has_elements, has_dimensions, vdr_end, is_max_rec, is_no_link, cpr_link, is_cpr, cpr_rows}
 use Rattle.cdf_check.specs.declared.variable.Variable.{Variable}
+use Rattle.cdf_check.specs.declared.variables.Described.{Described}
 use Rattle.cdf_check.specs.declared.variable_fields.Fields.{Fields}
 use Rattle.cdf_check.specs.declared.variable_shape.Dimensions.{Dimensions}
 use Rattle.cdf_check.specs.declared.variable_shape.Value.{Value}
@@ -38,6 +39,7 @@ pub record AreFields (b : List ℕ) (vdr : ℕ) (fields : Fields) : Type 0 where
   pub type_is : fields.record_type ≡ type_at b vdr
   pub data_type_is : fields.data_type ≡ known_type b vdr vdr_data_type
   pub max_rec_is : fields.max_rec ≡ number b vdr vdr_max_rec
+  pub head_is : fields.vxr_head ≡ number b vdr vdr_vxr_head
   pub flags_are : fields.flags ≡ number b vdr vdr_flags
   pub s_records_are : fields.s_records ≡ number b vdr vdr_s_records
   pub num_elems_are : fields.num_elems ≡ number b vdr vdr_num_elems
@@ -79,10 +81,16 @@ pub record AreValues (b : List ℕ) (vdr : ℕ) (value : Value) : Type 0 where
   pub type_is : value.data_type ≡ type_of_variable b vdr
   pub elements_are : value.elements ≡ elems_at b vdr
 
--- a variable as it was read: its Name, and the bytes of a record
+-- a variable as it was read: its Name, the bytes of a record, and where its index begins
 pub record IsVariableOf (b : List ℕ) (vdr : ℕ) (variable : Variable) : Type 0 where
   pub name_is : variable.name ≡ name_in b vdr vdr_name
   pub bytes_are : variable.record_bytes ≡ record_bytes b vdr
+  pub head_is : variable.vxr_head ≡ number b vdr vdr_vxr_head
+
+-- what these variables have
+pub record AreDescribed (b : List ℕ) (vdrs : List ℕ) (described : Described) : Type 0 where
+  pub sizes_are : described.record_sizes.items ≡ map (record_bytes b) vdrs
+  pub heads_are : described.vxr_heads.items ≡ map (λ vdr. number b vdr vdr_vxr_head) vdrs
 
 -- its dimensions
 pub record AreDimensions (b : List ℕ) (vdr : ℕ) (d : Dimensions) : Type 0 where

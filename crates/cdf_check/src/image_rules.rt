@@ -62,11 +62,18 @@ fn check_variable_members<A: Area>(
     ensures area { Reads A.image A.frame A.faults A.edited area.old area.new result }
 {
     let vdrs = join(alloc, &chains.r_variables, &chains.z_variables)?;
-    let record_sizes = match check_variables(alloc, area, tiles, gdr, &vdrs)? {
-        Ok(sizes) => sizes,
+    let described = match check_variables(alloc, area, tiles, gdr, &vdrs)? {
+        Ok(described) => described,
         Err(finding) => return Ok(Some(in_phase(7, finding))),
     };
-    let owned = match check_indexes(alloc, area, tiles, &vdrs, &record_sizes)? {
+    let owned = match check_indexes(
+        alloc,
+        area,
+        tiles,
+        &vdrs,
+        &described.record_sizes,
+        &described.vxr_heads,
+    )? {
         Ok(owned) => owned,
         Err(finding) => return Ok(Some(in_phase(8, finding))),
     };

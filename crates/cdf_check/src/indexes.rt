@@ -4,15 +4,17 @@ ghost use Rattle.std.specs.Prelude.{◌≡◌, ◌+◌, ◌++◌, ◌∷◌, ◌
 ghost use Rattle.std.specs.List.{flat_map};
 ghost use Rattle.cdf_area.specs.Calls.{Reads};
 ghost use Rattle.cdf_model.specs.Place.{record_limit};
+ghost use Rattle.cdf_format.specs.Fields.{number};
 ghost use Rattle.cdf_format.specs.IndexRules.{met_rows, phase8};
 ghost use Rattle.cdf_format.specs.Owners.{variable_records};
+ghost use Rattle.cdf_format.specs.Records.{vdr_vxr_head};
 ghost use Rattle.cdf_format.specs.Rules.{Hold};
 ghost use Rattle.cdf_format.specs.Shape.{index_of, is_compressed, variable_shape};
 ghost use Rattle.cdf_format.specs.Tiles.{AreTiles};
 ghost use Rattle.cdf_format.specs.VariableFields.{record_bytes};
 ghost use Rattle.cdf_format.specs.VariableRules.{phase7};
 ghost use Rattle.cdf_check.specs.Indexes.{block_rows, index_records, records_of_block, WalksIndex};
-ghost use Rattle.cdf_check.specs.Variables.{AreRead, AreVariables, IsVariable};
+ghost use Rattle.cdf_check.specs.Variables.{AreRead, AreVariables};
 ghost use Rattle.cdf_check.specs.Verdicts.{Finds, Yields};
 
 use crate::fields::{read_size, with_sign};
@@ -20,9 +22,8 @@ use crate::index_walk::{Between, Block, Chain, Index, walk_nodes};
 use crate::links::is_a;
 use crate::verdict::Finding;
 use cdf_area::{Area, AreaError};
-use cdf_format::fields::{VDR_VXR_HEAD, VVR_RECORDS, VVR_TYPE};
+use cdf_format::fields::{VVR_RECORDS, VVR_TYPE};
 use cdf_model::limits::RECORD_NUMBER_LIMIT;
-use cdf_records::read_unsigned8;
 use std::alloc::Global;
 
 /// The most levels of nodes.
@@ -81,22 +82,23 @@ fn check_blocks<A: Area>(
     Ok(None)
 }
 
-/// The index from the VXRhead of a variable; or the place of a record with a link that leads wrong.
+/// The index from the VXRhead of a variable, which is given; or the place of a record with a link that leads wrong.
 fn walk_index<A: Area>(
     alloc: Global,
     area: &mut A,
     tiles: &[u64],
     vdr: u64,
+    head: u64,
 ) -> Result<Result<Index, u64>, AreaError>
     requires tiled { AreTiles (A.image area.old) 8 (length (A.image area.old)) tiles.now }
     requires small { length (A.image area.old) < 2 ^ 31 }
-    requires variable { IsVariable (A.image area.old) vdr }
+    requires head { head ≡ number (A.image area.old) vdr vdr_vxr_head }
     ensures walk { IfOk result (WalksIndex (A.image area.old) tiles.now vdr) }
     ensures area { Reads A.image A.frame A.faults A.edited area.old area.new result }
 {
     let chain = Chain {
         holder: vdr,
-        link: read_unsigned8(area, vdr + VDR_VXR_HEAD)?,
+        link: head,
     };
     let between = Between {
         low: -1,
@@ -116,18 +118,19 @@ fn check_index<A: Area>(
     tiles: &[u64],
     vdr: u64,
     rec_bytes: u64,
+    head: u64,
 ) -> Result<Result<Index, Finding>, AreaError>
     requires tiled { AreTiles (A.image area.old) 8 (length (A.image area.old)) tiles.now }
     requires small { length (A.image area.old) < 2 ^ 31 }
     requires read { AreRead (A.image area.old) tiles.now }
-    requires variable { IsVariable (A.image area.old) vdr }
+    requires head { head ≡ number (A.image area.old) vdr vdr_vxr_head }
     requires plain { is_compressed (A.image area.old) vdr ≡ false }
     requires bytes { rec_bytes ≡ record_bytes (A.image area.old) vdr }
     requires few { rec_bytes ≤ record_limit }
     ensures found { IfOk result (Yields (met_rows (A.image area.old) tiles.now vdr (index_of (A.image area.old) tiles.now vdr)) (λ index. index_records vdr index ≡ variable_records (variable_shape (A.image area.old) tiles.now vdr))) }
     ensures area { Reads A.image A.frame A.faults A.edited area.old area.new result }
 {
-    let index = match walk_index(alloc, area, tiles, vdr)? {
+    let index = match walk_index(alloc, area, tiles, vdr, head)? {
         Ok(index) => index,
         // 8.1
         Err(place) => return Ok(Err(Finding { rule: 1, place })),
@@ -162,6 +165,7 @@ pub fn check_indexes<A: Area>(
     tiles: &[u64],
     vdrs: &[u64],
     record_sizes: &[u64],
+    vxr_heads: &[u64],
 ) -> Result<Result<Vec<u64>, Finding>, AreaError>
     requires tiled { AreTiles (A.image area.old) 8 (length (A.image area.old)) tiles.now }
     requires small { length (A.image area.old) < 2 ^ 31 }
@@ -169,6 +173,7 @@ pub fn check_indexes<A: Area>(
     requires variables { AreVariables (A.image area.old) vdrs.now }
     requires described { Hold (phase7 (A.image area.old) tiles.now vdrs.now) }
     requires sizes { record_sizes.now ≡ map (record_bytes (A.image area.old)) vdrs.now }
+    requires heads { vxr_heads.now ≡ map (λ vdr. number (A.image area.old) vdr vdr_vxr_head) vdrs.now }
     ensures found { IfOk result (Yields (phase8 (A.image area.old) tiles.now vdrs.now) (λ owned. owned.items ≡ flat_map variable_records (map (variable_shape (A.image area.old) tiles.now) vdrs.now))) }
     ensures area { Reads A.image A.frame A.faults A.edited area.old area.new result }
 {
@@ -176,7 +181,8 @@ pub fn check_indexes<A: Area>(
     for i in 0..vdrs.len() {
         let vdr = vdrs[i];
         let rec_bytes = record_sizes[i];
-        match check_index(alloc, area, tiles, vdr, rec_bytes)? {
+        let head = vxr_heads[i];
+        match check_index(alloc, area, tiles, vdr, rec_bytes, head)? {
             Ok(index) => {
                 own(&mut owned, vdr, &index)?;
             }

@@ -27,11 +27,12 @@ const LAST_SPARSE: u32 = 2;
 /// MaxRec of a variable without records.
 const NO_RECORD: u32 = u32::MAX;
 
-/// What a variable that keeps its rules has: its Name, and how many bytes a record takes.
+/// What a variable that keeps its rules has: its Name, how many bytes a record takes, and the link to its index.
 #[derive(Drop)]
 pub struct Variable {
     pub name: Bytes,
     pub record_bytes: u64,
+    pub vxr_head: u64,
 }
 
 /// The Name of a variable.
@@ -161,5 +162,10 @@ pub fn check_variable<A: Area>(
     if let Some(broken) = check_packing(tiles, vdr, &fields) {
         return Ok(Err(broken));
     }
-    Ok(Ok(Variable { name, record_bytes }))
+    let vxr_head = fields.vxr_head;
+    Ok(Ok(Variable {
+        name,
+        record_bytes,
+        vxr_head,
+    }))
 }

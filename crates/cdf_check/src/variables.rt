@@ -1,12 +1,11 @@
 //! The rules on variables.
 
-ghost use Rattle.std.specs.Prelude.{◌≡◌, ◌<◌, ◌^◌, length, map, IfOk};
+ghost use Rattle.std.specs.Prelude.{◌≡◌, ◌<◌, ◌^◌, length, IfOk};
 ghost use Rattle.cdf_area.specs.Calls.{Reads};
 ghost use Rattle.cdf_format.specs.Fields.{gdr_offset};
 ghost use Rattle.cdf_format.specs.Tiles.{Distinct};
-ghost use Rattle.cdf_format.specs.VariableFields.{record_bytes};
 ghost use Rattle.cdf_format.specs.VariableRules.{phase7};
-ghost use Rattle.cdf_check.specs.Variables.{AreRead, AreVariables, HasSizes};
+ghost use Rattle.cdf_check.specs.Variables.{AreDescribed, AreRead, AreVariables, HasSizes};
 ghost use Rattle.cdf_check.specs.Verdicts.{Yields};
 
 use crate::names::Names;
@@ -15,30 +14,43 @@ use crate::verdict::Finding;
 use cdf_area::{Area, AreaError};
 use std::alloc::Global;
 
-/// How many bytes a record of each variable of an image takes, or a rule on variables that is broken.
+/// What the rules on records ask of variables: how many bytes a record of each takes, and the link to its index.
+#[derive(Drop)]
+pub struct Described {
+    pub record_sizes: Vec<u64>,
+    pub vxr_heads: Vec<u64>,
+}
+
+/// What the variables of an image have, or a rule on variables that is broken.
 pub fn check_variables<A: Area>(
     alloc: Global,
     area: &mut A,
     tiles: &[u64],
     gdr: u64,
     vdrs: &[u64],
-) -> Result<Result<Vec<u64>, Finding>, AreaError>
+) -> Result<Result<Described, Finding>, AreaError>
     requires gdr { gdr ≡ gdr_offset (A.image area.old) }
     requires sizes { HasSizes (A.image area.old) }
     requires read { AreRead (A.image area.old) tiles.now }
     requires variables { AreVariables (A.image area.old) vdrs.now }
     requires once { Distinct vdrs.now }
     requires few { length vdrs.now < 2 ^ 31 }
-    ensures found { IfOk result (Yields (phase7 (A.image area.old) tiles.now vdrs.now) (λ sizes. sizes.items ≡ map (record_bytes (A.image area.old)) vdrs.now)) }
+    ensures found { IfOk result (Yields (phase7 (A.image area.old) tiles.now vdrs.now) (AreDescribed (A.image area.old) vdrs.now)) }
     ensures area { Reads A.image A.frame A.faults A.edited area.old area.new result }
 {
     let mut names = Names::new(alloc)?;
     let mut record_sizes = Vec::new(alloc);
+    let mut vxr_heads = Vec::new(alloc);
     for vdr in vdrs {
         match check_variable(alloc, area, tiles, gdr, *vdr)? {
             Ok(variable) => {
-                let Variable { name, record_bytes } = variable;
+                let Variable {
+                    name,
+                    record_bytes,
+                    vxr_head,
+                } = variable;
                 record_sizes.push(record_bytes)?;
+                vxr_heads.push(vxr_head)?;
                 names.add(*vdr, name)?;
             }
             Err(broken) => return Ok(Err(broken)),
@@ -46,6 +58,9 @@ pub fn check_variables<A: Area>(
     }
     match names.repeated {
         Some(broken) => Ok(Err(broken)),
-        None => Ok(Ok(record_sizes)),
+        None => Ok(Ok(Described {
+            record_sizes,
+            vxr_heads,
+        })),
     }
 }

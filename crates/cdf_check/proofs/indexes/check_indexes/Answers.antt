@@ -2,16 +2,18 @@ use Rattle.std.proofs.Common.{◌≡◌, ◌∙◌, ◌++◌, ℕ, List, length,
 use Rattle.std.proofs.lemmas.List.{take_all}
 use Rattle.std.specs.List.{flat_map}
 use Rattle.cdf_area.proofs.Calls.{read_more}
+use Rattle.cdf_format.specs.Fields.{number}
 use Rattle.cdf_format.specs.IndexRules.{met_rows, phase8}
 use Rattle.cdf_format.specs.Owners.{variable_records}
+use Rattle.cdf_format.specs.Records.{vdr_vxr_head}
 use Rattle.cdf_format.specs.Rules.{Hold}
 use Rattle.cdf_format.specs.Shape.{index_of, variable_shape}
 use Rattle.cdf_format.specs.VariableFields.{record_bytes}
 use Rattle.cdf_check.specs.Indexes.{index_records}
 use Rattle.cdf_check.specs.Verdicts.{Yields}
 use Rattle.cdf_check.specs.declared.index_walk.Index.{Index}
-use Rattle.cdf_check.proofs.IndexLists.{bytes_at, is_plain, is_small, length_map, list_more}
-use Rattle.cdf_check.proofs.Rows.{In-get_or, broken_member, holds_more}
+use Rattle.cdf_check.proofs.IndexLists.{had_at, is_plain, is_small, length_map, list_more}
+use Rattle.cdf_check.proofs.Rows.{broken_member, holds_more}
 use Rattle.cdf_check.proofs.indexes.check_indexes.Goals as goal
 
 abbrev IsOf : List ℕ → List ℕ → ℕ → Index → Type 0
@@ -22,6 +24,11 @@ bounds-record_sizes-i g c =
     let b = g.A.Area.image c.args.area.now in
     omega (arith, c.loop-i-test.true, ap length c.requires.sizes, length_map (record_bytes b) c.args.vdrs.now)
 
+pub bounds-vxr_heads-i : goal.bounds-vxr_heads-i
+bounds-vxr_heads-i g c =
+    let b = g.A.Area.image c.args.area.now in
+    omega (arith, c.loop-i-test.true, ap length c.requires.heads, length_map (λ vdr. number b vdr vdr_vxr_head) c.args.vdrs.now)
+
 pub check_index-requires : goal.check_index-requires
 check_index-requires g c =
     let l = c.loop-i in
@@ -29,12 +36,12 @@ check_index-requires g c =
     let ts = c.args.tiles.now in
     let vdrs = c.args.vdrs.now in
     let lt = c.loop-i-test.true in
-    let bytes = bytes_at b vdrs c.args.record_sizes.now l.i lt c.requires.sizes in
+    let bytes = had_at (record_bytes b) vdrs c.args.record_sizes.now l.i lt c.requires.sizes in
     rw l.invariant.area.image (record {
       tiled = c.requires.tiled;
       small = c.requires.small;
       read = c.requires.read;
-      variable = c.requires.variables (get_or vdrs l.i 0) (In-get_or vdrs l.i lt);
+      head = had_at (λ vdr. number b vdr vdr_vxr_head) vdrs c.args.vxr_heads.now l.i lt c.requires.heads;
       plain = is_plain b ts vdrs c.requires.read c.requires.described l.i lt;
       bytes = bytes;
       few = omega (arith, bytes, is_small b ts vdrs c.requires.read c.requires.described l.i lt);

@@ -1,12 +1,26 @@
-use Rattle.std.proofs.Common.{◌≡◌, ℕ, true, None, Some, Ok, rules}
+use Rattle.std.proofs.Common.{◌≡◌, ℕ, true, None, Some, Ok, Err, rules}
 use Rattle.cdf_area.proofs.Calls.{read_done, read_more, read_once}
 use Rattle.cdf_format.specs.AttributeRules.{has_name}
 use Rattle.cdf_format.specs.Records.{vdr_name}
 use Rattle.cdf_format.specs.VariableFields.{record_bytes}
 use Rattle.cdf_check.specs.Variables.{AreFields, AreValues, packing_rows, records_rows, shape_rows, value_rows}
 use Rattle.cdf_check.specs.Verdicts.{Finds, Yields}
-use Rattle.cdf_check.proofs.FieldSteps.{all_parts, packing_breaks, records_break}
+use Rattle.cdf_check.proofs.FieldSteps.{all_parts, packing_breaks, records_break, values_break}
 use Rattle.cdf_check.proofs.variable.check_variable.Goals as goal
+
+pub returns-in-Err-clause-found : goal.returns-in-Err-clause-found
+returns-in-Err-clause-found g c =
+    let b = g.A.Area.image c.args.area.now in
+    let are : AreFields b c.args.vdr c.in_ok-fields.fields = rw c.read_variable_name.ensures.area.image at c.in_ok-fields.ensures.fields in
+    let broken : Yields (value_rows b c.args.vdr) (AreValues b c.args.vdr) (Err c.in-Err.broken) = rw c.in-Err.is at (c.check_values.ensures b are) in
+    values_break b c.args.tiles.now c.args.vdr c.in-Err.broken.rule c.in-Err.broken.place broken
+
+pub check_shape-requires-clause-value : goal.check_shape-requires-clause-value
+check_shape-requires-clause-value g c =
+    let b = g.A.Area.image c.args.area.now in
+    let are : AreFields b c.args.vdr c.in_ok-fields.fields = rw c.read_variable_name.ensures.area.image at c.in_ok-fields.ensures.fields in
+    let values : Yields (value_rows b c.args.vdr) (AreValues b c.args.vdr) (Ok c.in-Ok.value) = rw c.in-Ok.is at (c.check_values.ensures b are) in
+    rw (c.read_fields.ensures.area.image, c.read_variable_name.ensures.area.image) values.1
 
 pub returns-in-Some-clause-found : goal.returns-in-Some-clause-found
 returns-in-Some-clause-found g c =
@@ -38,7 +52,7 @@ returns-clause-found g c =
     let shape : Yields (shape_rows b c.args.vdr) (λ (bytes : ℕ). bytes ≡ record_bytes b c.args.vdr) (Ok c.in-Ok-2.bytes) = rw c.in-Ok-2.is at measured in
     let records : Finds (records_rows b c.args.vdr) None = rw c.in_default.is at (c.check_records.ensures b are) in
     let packing : Finds (packing_rows b c.args.tiles.now c.args.vdr) None = rw c.in_default-check_packing.is at (c.check_packing.ensures b c.requires.read are) in
-    (all_parts b c.args.tiles.now c.args.vdr named values.0 shape.0 records packing, record { name_is = c.in_ok-name.ensures.value; bytes_are = shape.1 })
+    (all_parts b c.args.tiles.now c.args.vdr named values.0 shape.0 records packing, record { name_is = c.in_ok-name.ensures.value; bytes_are = shape.1; head_is = are.head_is })
 
 pub returns-clause-area : goal.returns-clause-area
 returns-clause-area g c = read_done (read_more (read_more (read_once c.in_ok-name.ensures.area) c.in_ok-fields.ensures.area) c.in_ok-bytes.ensures.area)

@@ -4,8 +4,8 @@ use Rattle.std.specs.List.{flat_map}
 use Rattle.cdf_area.proofs.Calls.{read_done, read_failed, read_more}
 use Rattle.cdf_format.specs.AttributeRules.{same_name}
 use Rattle.cdf_format.specs.ChainRules.{differ_rows}
-use Rattle.cdf_format.specs.Fields.{name_in}
-use Rattle.cdf_format.specs.Records.{vdr_name}
+use Rattle.cdf_format.specs.Fields.{name_in, number}
+use Rattle.cdf_format.specs.Records.{vdr_name, vdr_vxr_head}
 use Rattle.cdf_format.specs.Rules.{Hold}
 use Rattle.cdf_format.specs.VariableFields.{record_bytes}
 use Rattle.cdf_format.specs.VariableRules.{phase7, variable_rows}
@@ -50,6 +50,7 @@ loop-vdr-preserved g c =
       rows = rw add-one (holds_more (variable_rows b ts []) c.args.vdrs.now l.vdr-index 0 c.loop-vdr-test.true l.invariant.rows here.0);
       named = subst (λ (xs : List ℕ). AreNamed (λ vdr. name_in b vdr vdr_name) xs c.add.new.self) more (c.in_ok-add-in-Ok.ensures.named (λ vdr. name_in b vdr vdr_name) (take l.vdr-index c.args.vdrs.now) here.1.name_is l.invariant.named);
       sizes = c.in_ok-push-in-Ok.ensures.items ∙ one_more (record_bytes b) c.args.vdrs.now l.vdr-index l.record_sizes.items c.in-Ok.variable.record_bytes c.loop-vdr-test.true l.invariant.sizes here.1.bytes_are;
+      heads = c.in_ok-push-in-Ok-2.ensures.items ∙ one_more (λ vdr. number b vdr vdr_vxr_head) c.args.vdrs.now l.vdr-index l.vxr_heads.items c.in-Ok.variable.vxr_head c.loop-vdr-test.true l.invariant.heads here.1.head_is;
     }
 
 pub returns-in-Some-clause-found : goal.returns-in-Some-clause-found
@@ -72,7 +73,7 @@ returns-clause-found g c =
     let all : take l.vdr-index vdrs ≡ vdrs = take_all l.vdr-index vdrs (omega (arith, c.loop-vdr-test.false)) in
     let rows : Hold (flat_map (variable_rows b ts []) vdrs) = rw all at l.invariant.rows in
     let found : Finds (differ_rows 2 (same_name b vdr_name) [] vdrs) l.names.repeated = rw all at l.invariant.named.found in
-    (none_found (phase7 b ts vdrs) l.names.repeated (all_found b ts vdrs c.requires.once rows l.names.repeated found) c.in-None.is, l.invariant.sizes ∙ ap (map (record_bytes b)) all)
+    (none_found (phase7 b ts vdrs) l.names.repeated (all_found b ts vdrs c.requires.once rows l.names.repeated found) c.in-None.is, record { sizes_are = l.invariant.sizes ∙ ap (map (record_bytes b)) all; heads_are = l.invariant.heads ∙ ap (map (λ vdr. number b vdr vdr_vxr_head)) all })
 
 pub returns-in_err-variable-clause-area : goal.returns-in_err-variable-clause-area
 returns-in_err-variable-clause-area g c = read_failed c.loop-vdr.invariant.area c.in_err-variable.ensures.area c.from_residual-in_err-variable.ensures.1
@@ -82,3 +83,6 @@ returns-in-Err-clause-area g c = read_done (read_more c.loop-vdr.invariant.area 
 
 pub returns-clause-area : goal.returns-clause-area
 returns-clause-area g c = read_done c.loop-vdr.invariant.area
+
+pub returns-in-Some-clause-area : goal.returns-in-Some-clause-area
+returns-in-Some-clause-area g c = read_done c.loop-vdr.invariant.area

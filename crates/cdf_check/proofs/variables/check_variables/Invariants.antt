@@ -1,8 +1,8 @@
 use Rattle.std.proofs.Common.{◌≡◌, [], map, take}
 use Rattle.std.specs.List.{flat_map}
 use Rattle.cdf_area.specs.Calls.{Stays}
-use Rattle.cdf_format.specs.Fields.{name_in}
-use Rattle.cdf_format.specs.Records.{vdr_name}
+use Rattle.cdf_format.specs.Fields.{name_in, number}
+use Rattle.cdf_format.specs.Records.{vdr_name, vdr_vxr_head}
 use Rattle.cdf_format.specs.Rules.{Hold}
 use Rattle.cdf_format.specs.VariableFields.{record_bytes}
 use Rattle.cdf_format.specs.VariableRules.{variable_rows}
@@ -15,4 +15,5 @@ invariant-loop-vdr g l = record {
   rows : Hold (flat_map (variable_rows (g.A.Area.image l.fn.area) l.tiles []) (take l.vdr-index l.vdrs));
   named : AreNamed (λ vdr. name_in (g.A.Area.image l.fn.area) vdr vdr_name) (take l.vdr-index l.vdrs) l.names;
   sizes : l.record_sizes.items ≡ map (record_bytes (g.A.Area.image l.fn.area)) (take l.vdr-index l.vdrs);
+  heads : l.vxr_heads.items ≡ map (λ vdr. number (g.A.Area.image l.fn.area) vdr vdr_vxr_head) (take l.vdr-index l.vdrs);
 }
