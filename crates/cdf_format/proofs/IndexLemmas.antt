@@ -221,7 +221,7 @@ module _ (b ts : List ℕ) (upto : ℕ) (tiled : AreTiles b 8 upto ts) (levels :
       ∙ ap (λ (z : ℕ). met (seen ++ z ∷ rest) (node z room entries more)) t
       )
 
-levels_complete : (b ts : List ℕ) (upto : ℕ) → AreTiles b 8 upto ts → (levels : ℕ) → Complete b ts levels (levels_on levels b ts)
+pub levels_complete : (b ts : List ℕ) (upto : ℕ) → AreTiles b 8 upto ts → (levels : ℕ) → Complete b ts levels (levels_on levels b ts)
 unfolding levels_on HasNodes nodes_of
 levels_complete b ts upto tiled zero seen holder link no_node t h o = rw (eq-eqb link 0 t) (ap (λ (z : List ℕ). met z no_node) (sym (append-nil seen)))
 levels_complete b ts upto tiled zero seen holder link (node place room entries more) t h o = absurd h

@@ -2,7 +2,7 @@
 use Rattle.std.specs.Prelude.{◌≡◌, ℕ, zero, suc, List, [], ◌∷◌, ◌++◌, length, Bool, true, false, not, ◌&&◌, ◌||◌, ◌==◌, nat_le, if◌then◌else◌}
 use Rattle.cdf_format.specs.Fields.{number, size_at, type_at}
 use Rattle.cdf_format.specs.Records.{Field, uir_next_uir}
-use Rattle.cdf_format.specs.RecordTypes.{adr_type, agr_edr_type, az_edr_type, r_vdr_type, z_vdr_type, vxr_type, uir_type}
+use Rattle.cdf_format.specs.RecordTypes.{adr_type, agr_edr_type, az_edr_type, r_vdr_type, z_vdr_type, uir_type}
 use Rattle.cdf_format.specs.Tiles.{In, Distinct}
 use Rattle.cdf_format.specs.Walks.{Walk, whole, stuck}
 
@@ -47,6 +47,6 @@ chain_on (suc most) b tiles type met holder link =
 abbrev pub chain : List ℕ → List ℕ → ℕ → ℕ → Field → Walk
 chain b tiles type holder head = chain_on (length tiles) b tiles type [] holder (number b holder head)
 
--- the types of records that have a next field
+-- the types of records that chains of the file lead through; the nodes of an index are reached from their variable alone
 abbrev pub linked_types : List ℕ
-linked_types = adr_type ∷ agr_edr_type ∷ az_edr_type ∷ r_vdr_type ∷ z_vdr_type ∷ vxr_type ∷ uir_type ∷ []
+linked_types = adr_type ∷ agr_edr_type ∷ az_edr_type ∷ r_vdr_type ∷ z_vdr_type ∷ uir_type ∷ []

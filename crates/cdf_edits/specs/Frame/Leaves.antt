@@ -11,7 +11,7 @@ use Rattle.cdf_format.specs.Tiles.{In, AreTiles}
 
 -- ---- a change within some of its records
 
--- what follows RecordSize, RecordType and the next field of a record
+-- what follows RecordSize, RecordType and, in a chain of the file, the next field of a record
 abbrev pub after_links : List ℕ → ℕ → ℕ
 after_links b place = if is_in (type_at b place) linked_types then 20 else 12
 
