@@ -53,7 +53,7 @@ use Rattle.cdf_edits.proofs.Edits.LeafPieces.{IsOneOf, each_of, covers_from, fin
 use Rattle.cdf_edits.proofs.Edits.LeafRecords.{count_is}
 use Rattle.cdf_edits.proofs.Edits.PlainLeaves.{leaves_ascend, leaves_apart}
 use Rattle.cdf_edits.proofs.Edits.RecordPut.{PutsInPlace, touches_of, touched_leaf, of_filter, some_shared, miss_touches, plain, writes, size_now, stored_same, meaning}
-use Rattle.cdf_edits.proofs.Edits.RecordsWritten.{content_replaced, same_shape, good_now, no_acts_follow, all_keep_put, node_kept, block_part, vdr_alike}
+use Rattle.cdf_edits.proofs.Edits.RecordsWritten.{content_replaced, same_shape, good_now, no_acts_follow, all_keep_put, node_kept, block_part, links_same}
 use Rattle.cdf_edits.proofs.Edits.VdrEdited.{StandsAmong, fits}
 use Rattle.cdf_edits.proofs.Frame.LinksStay.{SameHeads, room_same, used_same, entry_same}
 use Rattle.cdf_edits.proofs.Frame.Meaning.{Kept}
@@ -167,7 +167,7 @@ module _ {b now : List ℕ} {kind : Kind} {before : List VariableShape} {own : V
 
   tail_stays : TailFollows b now [] own.index own own
   tail_stays =
-      let same : number now vdr vdr_vxr_tail ≡ number b vdr vdr_vxr_tail = word_copied (vdr_alike good at (writes good at p)).links 36 8 (omega arith) (omega arith) in
+      let same : number now vdr vdr_vxr_tail ≡ number b vdr vdr_vxr_tail = word_copied (links_same good at (writes good at p)) 36 8 (omega arith) (omega arith) in
       same ∙ sym (ap (λ (c : Bool). if c then number b vdr vdr_vxr_tail else last_node own.index) (all_stay own.index))
 
   no_heads : SameHeads b now [] []

@@ -68,7 +68,7 @@ use Rattle.cdf_edits.proofs.Frame.LinksStay.{SameHeads, index_kept}
 use Rattle.cdf_edits.proofs.Frame.Meaning.{FileSame, Kept, pad_long, pad_width, end_fits}
 use Rattle.cdf_edits.proofs.Frame.OwnerAlone.{Each-in}
 use Rattle.cdf_edits.proofs.Frame.OwnersApart.{all_variable_records, unused_in}
-use Rattle.cdf_edits.proofs.Frame.VdrAlike.{VdrAlike, copied_in_place, second_same, pad_alike, pad_field_alike, value_alike, cpr_link_alike, index_link_alike, plain_alike}
+use Rattle.cdf_edits.proofs.Frame.VdrAlike.{VdrAlike, Copied, copied_in_place, second_same, pad_alike, pad_field_alike, value_alike, cpr_link_alike, index_link_alike, plain_alike}
 use Rattle.cdf_edits.proofs.Rules.OfIndexes.{index_rules_written}
 use Rattle.cdf_edits.proofs.Rules.OfVdrCopied.{cpr_stays, variable_rules_alike}
 use Rattle.cdf_edits.proofs.Rules.WithoutLinks.{eof_by_rules}
@@ -317,11 +317,13 @@ module _ {b now : List ℕ} {kind : Kind} {before : List VariableShape} {own : V
   vdr_alike = record {
     typed = type_same v (tile good at);
     type = copied_in_place b now v 20 24 (front 20 24 (inl (omega arith)) (omega arith));
-    links = copied_in_place b now v 28 44 (front 28 44 (inr (omega arith)) (omega arith));
     second = copied_in_place b now v 48 68 (front 48 68 (inr (omega arith)) (omega arith));
     third = copied_in_place b now v 72 80 (front 72 80 (inr (omega arith)) (omega arith));
     behind = copied_in_place b now v 340 (pad_field b v).place (part 340 (pad_field b v).place (inr (omega arith)) pad_fits);
   }
+
+  pub links_same : Copied b now v v 28 44
+  links_same = copied_in_place b now v 28 44 (front 28 44 (inr (omega arith)) (omega arith))
 
   pub flags_same : number now v vdr_flags ≡ number b v vdr_flags
   flags_same = word_kept b now (v + 44) (v + 48) (front 44 48 (inr (omega arith)) (omega arith)) (v + 44) 4 (omega arith) (omega arith)
@@ -372,7 +374,7 @@ module _ {b now : List ℕ} {kind : Kind} {before : List VariableShape} {own : V
       let cpr : cpr_of now v ≡ cpr_of b v = λ i. if pack i then link i ∷ [] else [] in
       let index = index_both b s.records mine (number b v vdr_vxr_head) own.index (λ m i. (behind_in good at m (node_behind own m i), node_behind own m i)) (λ m i. (behind_in good at m (block_behind own m i), block_behind own m i)) (has good at).indexed in
       record {
-        indexed = index_kept b now mine s.records (mine_heads s.records (behind_in good at)) (number b v vdr_vxr_head) (number now v vdr_vxr_head) own.index index (index_link_alike file vdr_alike)
+        indexed = index_kept b now mine s.records (mine_heads s.records (behind_in good at)) (number b v vdr_vxr_head) (number now v vdr_vxr_head) own.index index (index_link_alike file vdr_alike links_same)
             node_kept (Each-in (NodeFits b) (nodes_of own.index) (fits good at).1) (block_behind own);
         packed_by = cpr ∙ (has good at).packed_by;
       }

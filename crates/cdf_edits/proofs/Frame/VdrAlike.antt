@@ -66,11 +66,10 @@ module _ {b now : List ℕ} {v v' lo hi : ℕ} (c : Copied b now v v' lo hi) whe
 
 -- ---- a VDR
 
--- Of a VDR stand DataType, VXRhead and VXRtail, its fields from SRecords to CPRorSPRoffset, and those between Name and its pad value.
+-- Of a VDR stand DataType, its fields from SRecords to CPRorSPRoffset, and those between Name and its pad value.
 pub record VdrAlike (b now : List ℕ) (v v' : ℕ) : Type 0 where
   pub typed : type_at now v' ≡ type_at b v
   pub type : Copied b now v v' 20 24
-  pub links : Copied b now v v' 28 44
   pub second : Copied b now v v' 48 68
   pub third : Copied b now v v' 72 80
   pub behind : Copied b now v v' 340 (pad_field b v).place
@@ -147,8 +146,9 @@ module _ {b now : List ℕ} (file : FileSame b now) {v v' : ℕ} (k : VdrAlike b
   pub cpr_link_alike : number now v' vdr_cpr_or_spr_offset ≡ number b v vdr_cpr_or_spr_offset
   cpr_link_alike = word_copied k.third 72 8 (omega arith) (omega arith)
 
-  pub index_link_alike : number now v' vdr_vxr_head ≡ number b v vdr_vxr_head
-  index_link_alike = word_copied k.links 28 8 (omega arith) (omega arith)
+  -- where VXRhead and VXRtail stand too
+  pub index_link_alike : Copied b now v v' 28 44 → number now v' vdr_vxr_head ≡ number b v vdr_vxr_head
+  index_link_alike links = word_copied links 28 8 (omega arith) (omega arith)
 
   -- the pad value, where it is the same
   pub pad_alike : number now v' vdr_flags ≡ number b v vdr_flags → (has_pad b v ≡ true → field_bytes now v' (pad_field b v) ≡ field_bytes b v (pad_field b v)) → pad_at now v' ≡ pad_at b v

@@ -39,7 +39,7 @@ pub record VdrCopied (b now : List ℕ) (v v' : ℕ) : Type 0 where
 
 -- MaxRec among them
 pub alike : {b now : List ℕ} {v v' : ℕ} → VdrCopied b now v v' → VdrAlike b now v v'
-alike k = record { typed = k.typed; type = copied_part k.first 20 24 (omega arith) (omega arith); links = copied_part k.first 28 44 (omega arith) (omega arith); second = k.second; third = k.third; behind = k.behind }
+alike k = record { typed = k.typed; type = copied_part k.first 20 24 (omega arith) (omega arith); second = k.second; third = k.third; behind = k.behind }
 
 module _ {b now : List ℕ} (file : FileSame b now) {v v' : ℕ} (k : VdrCopied b now v v') where
   pub second_number : (f : Field) → 48 ≤ f.place → f.place + f.width ≤ 68 → number now v' f ≡ number b v f
@@ -91,7 +91,7 @@ module _ {b now : List ℕ} (file : FileSame b now) {v v' : ℕ} (k : VdrCopied 
   cpr_link_copied = cpr_link_alike file (alike k)
 
   pub index_link_copied : number now v' vdr_vxr_head ≡ number b v vdr_vxr_head
-  index_link_copied = index_link_alike file (alike k)
+  index_link_copied = index_link_alike file (alike k) (copied_part k.first 28 44 (omega arith) (omega arith))
 
   pub pad_copied : number now v' vdr_flags ≡ number b v vdr_flags → (has_pad b v ≡ true → field_bytes now v' (pad_field b v) ≡ field_bytes b v (pad_field b v)) → pad_at now v' ≡ pad_at b v
   pad_copied = pad_alike file (alike k)
