@@ -4,7 +4,7 @@ use Rattle.std.proofs.lemmas.List.{length-append}
 use Rattle.cdf_format.specs.Chains.{next_of}
 use Rattle.cdf_format.specs.Fields.{type_at}
 use Rattle.cdf_format.specs.Index.{Nodes, no_node, node, Entries, no_entry, block, lower, leaf, nodes_of, lower_nodes, leaves_of, entry_leaves, entry_count, link_to, room_at, used_count, offset_at}
-use Rattle.cdf_format.specs.IndexOf.{SayEntries, IsNode, HasNodes, Names}
+use Rattle.cdf_format.specs.IndexOf.{SaysEntry, SayEntries, IsNode, HasNodes, Names}
 use Rattle.cdf_format.specs.RecordTypes.{vxr_type}
 use Rattle.cdf_format.specs.Shape.{Each}
 use Rattle.cdf_format.specs.Sound.{NodeFits}
@@ -87,7 +87,7 @@ lower_there b levels at i place type (lower fi la nodes es) s n f k c q qt is =
 
 -- ---- a value on its way
 
-module _ {S : Type 0} (at_node : S → ℕ → ℕ → ℕ → S) (at_block : S → ℕ → S) where
+module _ {S : Type 0} (at_node : S → ℕ → ℕ → ℕ → S) (at_block : S → ℕ → ℕ → ℕ → S) where
   -- what is left of a chain at a link
   pub record ChainLeft (b : List ℕ) (levels at turn : ℕ) (was s : S) (ns : Nodes) : Type 0 where
     pub left : Nodes
@@ -233,29 +233,24 @@ module _ {S : Type 0} (at_node : S → ℕ → ℕ → ℕ → S) (at_block : S 
       record { nodes = t.nodes; tiled = some.tiled; stands = t.stands; link_is = t.link_is; few = omega arith }
 
   -- past a block
-  block_gone : (b : List ℕ) (at levels i place type : ℕ) (was s : S) (es left : Entries) → SayEntries b at i left → Names b (tiles b) levels left → Each (NodeFits b) (lower_nodes left) → Each (IsBlock b) (entry_leaves left) → i + entry_count left ≡ entry_count es → through_entries at_node at_block s left ≡ through_entries at_node at_block was es → length (lower_nodes left) ≤ length (lower_nodes es)
-      → i < entry_count es → place ≡ offset_at b at i → type ≡ type_at b place → type ≢ 6 → BelowLeft b at levels (i + 1) was (at_block s place) es
+  block_gone : (b : List ℕ) (at levels i first last place type : ℕ) (was s : S) (es left : Entries) → SayEntries b at i left → Names b (tiles b) levels left → Each (NodeFits b) (lower_nodes left) → Each (IsBlock b) (entry_leaves left) → i + entry_count left ≡ entry_count es → through_entries at_node at_block s left ≡ through_entries at_node at_block was es
+      → length (lower_nodes left) ≤ length (lower_nodes es) → i < entry_count es → SaysEntry b at i first last place → type ≡ type_at b place → type ≢ 6 → BelowLeft b at levels (i + 1) was (at_block s first last place) es
   unfolding Names entry_leaves lower_nodes through_entries
-  block_gone b at levels i place type was s es no_entry sa n f k m same few lt q qt is = absurd (omega arith)
-  block_gone b at levels i place type was s es (block fi la p packed left) sa n f k m same few lt q qt is =
+  block_gone b at levels i first last place type was s es no_entry sa n f k m same few lt q qt is = absurd (omega arith)
+  block_gone b at levels i first last place type was s es (block fi la p packed left) sa n f k m same few lt q qt is =
       let z : suc i ≡ i + 1 = omega arith in
-      record {
-        left = left;
-        say = rw z at sa.1;
-        names = n.2;
-        fits = f;
-        blocks = k.1;
-        many = omega arith;
-        same = ap (λ (x : ℕ). through_entries at_node at_block (at_block s x) left) (q ∙ sa.0.offset_is) ∙ same;
-        fewer = few;
-      }
-  block_gone b at levels i place type was s es (lower fi la nodes left) sa n f k m same few lt q qt is =
-      let ep : place ≡ link_to nodes = q ∙ sa.0.offset_is in
+      let ef : first ≡ fi = sym q.first_is ∙ sa.0.first_is in
+      let el : last ≡ la = sym q.last_is ∙ sa.0.last_is in
+      let ep : place ≡ p = sym q.offset_is ∙ sa.0.offset_is in
+      let here : through_entries at_node at_block (at_block s first last place) left ≡ through_entries at_node at_block (at_block s fi la p) left = λ j. through_entries at_node at_block (at_block s (ef j) (el j) (ep j)) left in
+      record { left = left; say = rw z at sa.1; names = n.2; fits = f; blocks = k.1; many = omega arith; same = here ∙ same; fewer = few }
+  block_gone b at levels i first last place type was s es (lower fi la nodes left) sa n f k m same few lt q qt is =
+      let ep : place ≡ link_to nodes = sym q.offset_is ∙ sa.0.offset_is in
       absurd (is (qt ∙ ap (type_at b) ep ∙ linkable-type b (tiles b) vxr_type (link_to nodes) (node_linkable b levels nodes n.0 n.1)))
 
-  pub past_block : (b : List ℕ) (at levels i place type : ℕ) (was s : S) → Gone b at levels i was s → i < used_count b at → place ≡ offset_at b at i → type ≡ type_at b place → type ≢ 6 → Gone b at levels (i + 1) was (at_block s place)
-  past_block b at levels i place type was s g lt q qt is = record {
-    left = λ es st. (let l = g.left es st in block_gone b at levels i place type was s es l.left l.say l.names l.fits l.blocks l.many l.same l.fewer (subst (λ (x : ℕ). i < x) st.used_is lt) q qt is);
+  pub past_block : (b : List ℕ) (at levels i first last place type : ℕ) (was s : S) → Gone b at levels i was s → i < used_count b at → SaysEntry b at i first last place → type ≡ type_at b place → type ≢ 6 → Gone b at levels (i + 1) was (at_block s first last place)
+  past_block b at levels i first last place type was s g lt q qt is = record {
+    left = λ es st. (let l = g.left es st in block_gone b at levels i first last place type was s es l.left l.say l.names l.fits l.blocks l.many l.same l.fewer (subst (λ (x : ℕ). i < x) st.used_is lt) q qt is);
   }
 
   -- past a lower chain

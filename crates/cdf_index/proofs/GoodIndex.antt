@@ -28,7 +28,7 @@ use Rattle.cdf_index.specs.Order.{past_entries, InOrder, AreInOrder}
 use Rattle.cdf_index.proofs.OrderLemmas.{lt_of}
 
 -- the number before one
-abbrev before_number : ℕ → ℤ
+abbrev pub before_number : ℕ → ℤ
 before_number zero = negsuc 0
 before_number (suc n) = pos n
 
@@ -72,7 +72,7 @@ module _ (b records : List ℕ) where
   mutual
     unfolding nodes_rows used_rows InOrder AreInOrder
 
-    order_from : (low high : ℕ) (nodes : Nodes) → Hold (nodes_rows b records (before_number low) (pos high) nodes) → InOrder low high nodes
+    pub order_from : (low high : ℕ) (nodes : Nodes) → Hold (nodes_rows b records (before_number low) (pos high) nodes) → InOrder low high nodes
     order_from low high no_node h = tt
     order_from low high (node place room entries more) h =
         let p = Hold-split (used_rows b records place (before_number low) (pos high) entries) (nodes_rows b records (end_of (before_number low) entries) (pos high) more) h.1 in

@@ -172,17 +172,20 @@ module _ (b mid mid2 now : List ℕ) (at used p first last offset : ℕ) (sh : S
       bound : (r l : ℕ) → at + (28 + 16 * r) ≤ l → l ≤ image_limit → r < 2 ^ 31
       bound r l h s = omega arith
 
+  count_now : number now at vxr_n_used_entries ≡ suc used
+  count_now = let sm = small in ap (λ (x : List ℕ). number x at vxr_n_used_entries) write ∙ field_reads mid2 at vxr_n_used_entries (suc used) lies (bits (room_at b at) sm room)
+    where
+      bits : (r : ℕ) → r < 2 ^ 31 → used < r → suc used < 256 ^ 4
+      bits r s h = omega arith
+
   used_now : used_count now at ≡ suc used
   used_now =
       let r = room_is in
       let s : size_at now at ≡ size_at b at = past (at + 0) 8 (inl (omega arith)) ∙ front_stays b mid2 at 28 (16 * room_at b at) changed2 head 0 8 (omega arith) in
       let sm = small in
-      let u : number now at vxr_n_used_entries ≡ suc used = ap (λ (x : List ℕ). number x at vxr_n_used_entries) write ∙ field_reads mid2 at vxr_n_used_entries (suc used) lies (bits (room_at b at) sm room) in
+      let u = count_now in
       (λ i. counts (u i) (r i) (s i)) ∙ count_is (suc used) (room_at b at) (size_at b at) (above (room_at b at) room) inside.entries sm
     where
-      bits : (r : ℕ) → r < 2 ^ 31 → used < r → suc used < 256 ^ 4
-      bits r s h = omega arith
-
       above : (r : ℕ) → used < r → suc used ≤ r
       above r h = omega arith
 
@@ -199,6 +202,7 @@ module _ (b mid mid2 now : List ℕ) (at used p first last offset : ℕ) (sh : S
     unused = λ j lt in_room f l o s. kept j in_room (λ e. absurd (omega arith)) f l o (sh.unused j lt in_room f l o s);
     room_stays = room_is;
     used_is = used_now;
+    count_is = count_now;
   }
     where
       outside_count : (i r : ℕ) → (i < at + 24) ⊎ (at + 24 + (4 + 16 * r) ≤ i) → (i < at + 24) ⊎ (at + 24 + 4 ≤ i)

@@ -16,6 +16,14 @@ pub mod NodeMade
 pub mod IndexReplaced
 pub mod LeafMore
 pub mod NodeGrown
+pub mod GoingDown
+pub mod Leading
+pub mod LevelsDown
+pub mod NodeShortened
+pub mod NodeSplit
+pub mod NodeWider
 pub mod PlainBlocks
 pub mod Saying
 pub mod StoredRecords
+pub mod TreeTouched
+pub mod WayDown

@@ -52,7 +52,7 @@ mutual
   measured_below : (size : IndexSize) (entries : Entries) → Small size → through_entries node_counted block_counted size entries ≡ and_more size (length (entry_leaves entries)) (entries_below entries) (widest_below entries)
   measured_below size no_entry s = nothing_more size s
   measured_below size (block first last place packed entries) s =
-      let k = block_counted size place in
+      let k = block_counted size first last place in
       let ks : Small k = record { leaves = omega arith; entries = s.entries; widest = s.widest } in
       measured_below k entries ks ∙ size_is _ _ _ _ _ _ (omega arith) refl refl
   measured_below size (lower first last nodes entries) s =

@@ -19,7 +19,7 @@ no_names : (now records : List ℕ) (levels : ℕ) → Names now records levels 
 unfolding Names
 no_names now records levels = tt
 
-node_has : (now records : List ℕ) (levels place room : ℕ) (es : Entries) (more : Nodes) → SaysNode now records place room es more → Names now records levels es → HasNodes now records (suc levels) more → HasNodes now records (suc levels) (node place room es more)
+pub node_has : (now records : List ℕ) (levels place room : ℕ) (es : Entries) (more : Nodes) → SaysNode now records place room es more → Names now records levels es → HasNodes now records (suc levels) more → HasNodes now records (suc levels) (node place room es more)
 unfolding HasNodes
 node_has now records levels place room es more h n m = (h, n, m)
 

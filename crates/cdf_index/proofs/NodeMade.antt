@@ -63,10 +63,13 @@ module _ (b b1 b2 b3 now : List ℕ) (at room used next : ℕ) (h : HasRoomFor b
   room_same : room_at now at ≡ room
   room_same = let s = small in past4 (at + 20) 4 (inl (omega arith)) ∙ ap (λ (x : List ℕ). number x at (field 20 4)) three ∙ field_reads b2 at (field 20 4) room lies3 (omega arith)
 
+  count_same : number now at (field 24 4) ≡ used
+  count_same = let s = small in ap (λ (x : List ℕ). number x at (field 24 4)) four ∙ field_reads b3 at (field 24 4) used lies4 (omega arith)
+
   used_same : used_count now at ≡ used
   used_same =
       let s = small in
-      let u : number now at (field 24 4) ≡ used = ap (λ (x : List ℕ). number x at (field 24 4)) four ∙ field_reads b3 at (field 24 4) used lies4 (omega arith) in
+      let u = count_same in
       let r = room_same in
       let z = size_same in
       (λ i. counts (u i) (r i) (z i)) ∙ count_is used room (28 + 16 * room) few (omega arith) s
@@ -97,6 +100,7 @@ module _ (b b1 b2 b3 now : List ℕ) (at room used next : ℕ) (h : HasRoomFor b
       fits = subst (λ (n : ℕ). used_count now at ≤ n) (sym room_same) (subst (λ (n : ℕ). n ≤ room) (sym used_same) few);
     };
     used_is = used_same;
+    count_is = count_same;
   }
 
 -- ---- the entries, one by one
@@ -145,6 +149,7 @@ node_written b head now at room next entries w m =
       next_is = front_stays head now at 28 (16 * room) c start 12 8 (omega arith) ∙ w.next_is;
       room_is = room_stays head now at (16 * room) c start ∙ w.room_is;
       used_is = used_stays head now at (16 * room) c start ∙ w.used_is;
+      count_is = front_stays head now at 28 (16 * room) c start 24 4 (omega arith) ∙ w.count_is;
       inside = inside_stays head now at (16 * room) c m.as_long w.inside;
       says = m.says;
     }

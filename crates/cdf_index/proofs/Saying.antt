@@ -1,5 +1,5 @@
 -- The entries of a node, and what it says of them, taken apart and put together.
-use Rattle.std.proofs.Common.{◌≡◌, ℕ, suc, ◌+◌, ◌<◌, List, true, false, leb, refl, ap, sym, ◌∙◌, arith, inl, inr}
+use Rattle.std.proofs.Common.{◌≡◌, ℕ, suc, ◌+◌, ◌<◌, List, leb, refl, ap, sym, ◌∙◌, arith, inl, inr}
 use Rattle.std.specs.Prelude.{nat_le, if◌then◌else◌}
 use Rattle.cdf_edits.specs.Index.Grown.{with_block, upto, past, with_both}
 use Rattle.cdf_format.specs.Index.{Entries, no_entry, block, lower, Leaf, entry_count, link_to}

@@ -3,11 +3,10 @@ use Rattle.std.proofs.Common.{◌≡◌, ℕ, zero, suc, ◌+◌, ◌-◌, ◌*�
 use Rattle.std.proofs.lemmas.Bool.Decides.{nat_tests}
 use Rattle.std.proofs.lemmas.List.{drop-drop}
 use Rattle.std.proofs.lemmas.List.Folds.{find-append}
-use Rattle.std.specs.Prelude.{◌==◌, ◌&&◌, find, nat_lt, if◌then◌else◌}
+use Rattle.std.specs.Prelude.{◌==◌, find, nat_lt, if◌then◌else◌}
 use Rattle.std.specs.List.{enumerate_from, filter, flat_map}
 use Rattle.std.specs.Option.{option_map, option_or}
 use Rattle.cdf_edits.specs.Index.Blocks.{range, covers}
-use Rattle.cdf_model.specs.declared.data_type.DataType.{DataType}
 use Rattle.cdf_model.specs.ByteOrder.{parts, turned}
 use Rattle.cdf_model.specs.DataSet.{extent}
 use Rattle.cdf_model.specs.Limits.{record_number_limit}
@@ -19,11 +18,11 @@ use Rattle.cdf_format.specs.GoodImage.{IsGoodImage}
 use Rattle.cdf_format.specs.Shape.{VariableShape, Shape, variables}
 use Rattle.cdf_format.specs.Sound.{IsSound}
 use Rattle.cdf_format.specs.Stored.{is_little}
-use Rattle.cdf_format.specs.VariableFields.{counted4, max_rec_at, record_bytes, records_of_leaf, type_of_variable}
+use Rattle.cdf_format.specs.VariableFields.{counted4, max_rec_at, record_bytes, type_of_variable}
 use Rattle.cdf_format.proofs.Members.{either}
 use Rattle.cdf_format.proofs.Tests.{le_of}
 use Rattle.cdf_index.specs.Order.{InOrder, leaf_of}
-use Rattle.cdf_index.specs.Reading.{record_in, record_of_leaf, stored_in}
+use Rattle.cdf_index.specs.Reading.{record_of_leaf, stored_in}
 use Rattle.cdf_index.proofs.GoodIndex.{good_index}
 use Rattle.cdf_index.proofs.OrderLemmas.{Within, leaves_within}
 use Rattle.cdf_index.proofs.RecordRead.{count_is, signed}

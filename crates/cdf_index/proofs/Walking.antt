@@ -32,10 +32,10 @@ begun_more b at rec i first before e le j lt = elim (either (ltb j i)) [
   | inr t ↦ let ge = ge_of j i t in let q : j ≡ i = omega arith in rw q (omega arith)
 ]
 
-chain_is : (b : List ℕ) (at k : ℕ) → type_at b (offset_at b at k) ≡ 6 → chain_at b at k ≡ offset_at b at k
+pub chain_is : (b : List ℕ) (at k : ℕ) → type_at b (offset_at b at k) ≡ 6 → chain_at b at k ≡ offset_at b at k
 chain_is b at k e = let t : eqb (type_at b (offset_at b at k)) 6 ≡ true = grind (arith, nat_tests) in rw t refl
 
-no_chain : (b : List ℕ) (at k : ℕ) → type_at b (offset_at b at k) ≢ 6 → chain_at b at k ≡ 0
+pub no_chain : (b : List ℕ) (at k : ℕ) → type_at b (offset_at b at k) ≢ 6 → chain_at b at k ≡ 0
 no_chain b at k e = let t : eqb (type_at b (offset_at b at k)) 6 ≡ false = grind (arith, nat_tests) in rw t refl
 
 -- ---- the entries of a node, from number k on, of which n begin at the record or before it

@@ -10,3 +10,5 @@ pub mod Writing
 pub mod Growing
 pub mod Way
 pub mod Replacing
+pub mod Adding
+pub mod Descent

@@ -17,5 +17,5 @@ more_of count more = min (count + more) (2 ^ 64 - 1)
 abbrev pub node_counted : IndexSize → ℕ → ℕ → ℕ → IndexSize
 node_counted size place room used = record { leaves = size.leaves; entries = more_of size.entries used; widest = max size.widest room }
 
-abbrev pub block_counted : IndexSize → ℕ → IndexSize
-block_counted size place = record { leaves = more_of size.leaves 1; entries = size.entries; widest = size.widest }
+abbrev pub block_counted : IndexSize → ℕ → ℕ → ℕ → IndexSize
+block_counted size first last place = record { leaves = more_of size.leaves 1; entries = size.entries; widest = size.widest }

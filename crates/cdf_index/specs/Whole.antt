@@ -1,30 +1,38 @@
 -- The walk over a whole index.
-use Rattle.std.specs.Prelude.{◌≡◌, ◌≤◌, ℕ, List, [], ◌∷◌, ◌++◌, length}
-use Rattle.cdf_format.specs.Index.{Nodes, no_node, node, Entries, no_entry, block, lower, nodes_of, lower_nodes, entry_leaves, entry_count, link_to, used_count}
+use Rattle.std.specs.Prelude.{◌≡◌, ◌≤◌, ℕ, List, [], ◌∷◌, ◌++◌, length, map}
+use Rattle.cdf_format.specs.Index.{Nodes, no_node, node, Entries, no_entry, block, lower, Leaf, nodes_of, lower_nodes, entry_leaves, entry_count, link_to, used_count}
 use Rattle.cdf_format.specs.IndexOf.{SayEntries, Names}
 use Rattle.cdf_format.specs.Shape.{Each}
 use Rattle.cdf_format.specs.Sound.{NodeFits}
 use Rattle.cdf_format.specs.Tiles.{AreTiles, tiles}
 use Rattle.cdf_index.specs.Finding.{IsBlock, Stands}
+use Rattle.cdf_index.specs.declared.entries.Entry.{Entry}
 
 unfoldable mutual
-  -- what becomes of a value at each node, by its place, its room and the number of its entries, then at the blocks and in the lower chains that it names, and then at the next node of its chain
-  pub through : {S : Type 0} → (S → ℕ → ℕ → ℕ → S) → (S → ℕ → S) → S → Nodes → S
+  -- what becomes of a value at each node, by its place, its room and the number of its entries, then at the blocks that it names, by First, Last and the place of each, and in the lower chains, and then at the next node of its chain
+  pub through : {S : Type 0} → (S → ℕ → ℕ → ℕ → S) → (S → ℕ → ℕ → ℕ → S) → S → Nodes → S
   through at_node at_block s no_node = s
   through at_node at_block s (node place room entries more) = through at_node at_block (through_entries at_node at_block (at_node s place room (entry_count entries)) entries) more
 
-  pub through_entries : {S : Type 0} → (S → ℕ → ℕ → ℕ → S) → (S → ℕ → S) → S → Entries → S
+  pub through_entries : {S : Type 0} → (S → ℕ → ℕ → ℕ → S) → (S → ℕ → ℕ → ℕ → S) → S → Entries → S
   through_entries at_node at_block s no_entry = s
-  through_entries at_node at_block s (block first last place packed entries) = through_entries at_node at_block (at_block s place) entries
+  through_entries at_node at_block s (block first last place packed entries) = through_entries at_node at_block (at_block s first last place) entries
   through_entries at_node at_block s (lower first last nodes entries) = through_entries at_node at_block (through at_node at_block s nodes) entries
 
--- ---- the places of blocks and nodes, collected
+-- ---- the entries of blocks and the places of nodes, collected
 
-abbrev pub with_node : List ℕ × List ℕ → ℕ → ℕ → ℕ → List ℕ × List ℕ
-with_node places place room used = (places.0, places.1 ++ place ∷ [])
+-- what the entry of a leaf says
+abbrev pub leaf_words : Leaf → Entry
+leaf_words leaf = record { first = leaf.first; last = leaf.last; place = leaf.place }
 
-abbrev pub with_block : List ℕ × List ℕ → ℕ → List ℕ × List ℕ
-with_block places place = (places.0 ++ place ∷ [], places.1)
+abbrev pub places_in : List Entry → List ℕ
+places_in entries = map (λ entry. entry.place) entries
+
+abbrev pub with_node : List Entry × List ℕ → ℕ → ℕ → ℕ → List Entry × List ℕ
+with_node parts place room used = (parts.0, parts.1 ++ place ∷ [])
+
+abbrev pub with_block : List Entry × List ℕ → ℕ → ℕ → ℕ → List Entry × List ℕ
+with_block parts first last place = (parts.0 ++ record { first = first; last = last; place = place } ∷ [], parts.1)
 
 -- ---- what stands in the image
 

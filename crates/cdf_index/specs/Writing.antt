@@ -1,11 +1,12 @@
 -- What writes of entries leave of a node.
-use Rattle.std.specs.Prelude.{◌≡◌, ◌≢◌, ◌<◌, ◌≤◌, ℕ, suc, ◌+◌, ◌-◌, ◌*◌, max, List, [], ◌∷◌, length, slice_get}
+use Rattle.std.specs.Prelude.{◌≡◌, ◌≢◌, ◌⊎◌, ◌<◌, ◌≤◌, ℕ, suc, ◌+◌, ◌-◌, ◌*◌, max, List, [], ◌∷◌, length, slice_get}
 use Rattle.std.specs.Option.{unwrap_or}
 use Rattle.cdf_edits.specs.Frame.Changed.{Changed, touch}
 use Rattle.cdf_format.specs.Chains.{next_of}
-use Rattle.cdf_format.specs.Fields.{size_at, type_at}
+use Rattle.cdf_format.specs.Fields.{number, size_at, type_at}
 use Rattle.cdf_format.specs.Index.{room_at, used_count}
 use Rattle.cdf_format.specs.IndexOf.{SaysEntry}
+use Rattle.cdf_format.specs.Records.{vxr_n_used_entries}
 use Rattle.cdf_format.specs.RecordTypes.{vxr_type}
 use Rattle.cdf_index.specs.Finding.{NodeInside}
 use Rattle.cdf_index.specs.declared.entries.Entry.{Entry}
@@ -20,6 +21,9 @@ unused_entry = record { first = 0xffffffff; last = 0xffffffff; place = 0xfffffff
 
 abbrev pub entry_in : List Entry → ℕ → Entry
 entry_in entries i = unwrap_or (slice_get entries i) unused_entry
+
+abbrev pub SaysUnused : List ℕ → ℕ → ℕ → Type 0
+SaysUnused b at i = SaysEntry b at i 0xffffffff 0xffffffff 0xffffffffffffffff
 
 -- one entry of a node was written
 pub record EntrySet (b now : List ℕ) (at i first last offset : ℕ) : Type 0 where
@@ -38,6 +42,39 @@ pub record Inserted (b now : List ℕ) (at used p first last offset : ℕ) : Typ
   pub unused : (j : ℕ) → used < j → j < room_at b at → StillSays b now at j j
   pub room_stays : room_at now at ≡ room_at b at
   pub used_is : used_count now at ≡ suc used
+  pub count_is : number now at vxr_n_used_entries ≡ suc used
+
+-- the entry with a number of a node has another Last, at least as great as before
+pub record Widened (b now : List ℕ) (at i last : ℕ) : Type 0 where
+  pub as_long : length now ≡ length b
+  pub changed : Changed b now (touch at 28 (16 * room_at b at) ∷ [])
+  pub here : (f l o : ℕ) → SaysEntry b at i f l o → SaysEntry now at i f (max l last) o
+  pub others : (j : ℕ) → j < room_at b at → j ≢ i → StillSays b now at j j
+
+-- the entries of a node from one number to another were read
+pub record EntriesRead (b : List ℕ) (at from upto : ℕ) (entries : List Entry) : Type 0 where
+  pub many : length entries + from ≡ upto
+  pub say : (i : ℕ) → i < length entries → SaysEntry b at (from + i) (entry_in entries i).first (entry_in entries i).last (entry_in entries i).place
+
+-- the entries of a node from one number to another are not used
+pub record Cleared (b now : List ℕ) (at from upto : ℕ) : Type 0 where
+  pub as_long : length now ≡ length b
+  pub changed : Changed b now (touch at 28 (16 * room_at b at) ∷ [])
+  pub gone : (j : ℕ) → from ≤ j → j < upto → SaysUnused now at j
+  pub others : (j : ℕ) → j < room_at b at → (j < from) ⊎ (upto ≤ j) → StillSays b now at j j
+
+-- Of the used entries of a node the first p stayed, one was put behind them, and the others are not used; it has another link.
+pub record Shortened (b now : List ℕ) (at used p first last offset next : ℕ) : Type 0 where
+  pub as_long : length now ≡ length b
+  pub changed : Changed b now (touch at 12 (16 + 16 * room_at b at) ∷ [])
+  pub earlier : (j : ℕ) → j < p → StillSays b now at j j
+  pub here : SaysEntry now at p first last offset
+  pub gone : (j : ℕ) → p < j → j < used → SaysUnused now at j
+  pub unused : (j : ℕ) → used ≤ j → j < room_at b at → StillSays b now at j j
+  pub room_stays : room_at now at ≡ room_at b at
+  pub used_is : used_count now at ≡ suc p
+  pub count_is : number now at vxr_n_used_entries ≡ suc p
+  pub next_is : next_of now at ≡ next
 
 -- A full node was split: the entry with number p is new and its last one, those from p on stand in a node behind it, which goes on with the chain.
 pub record Split (b now : List ℕ) (at new used p first last offset : ℕ) : Type 0 where
@@ -77,6 +114,7 @@ pub record HeadWritten (b now : List ℕ) (at room used next : ℕ) : Type 0 whe
   pub room_is : room_at now at ≡ room
   pub inside : NodeInside now at
   pub used_is : used_count now at ≡ used
+  pub count_is : number now at vxr_n_used_entries ≡ used
 
 -- the first so many entries of a node are these, and then unused ones
 abbrev pub SaysFirst : List ℕ → ℕ → List Entry → ℕ → Type 0
@@ -90,5 +128,6 @@ pub record NodeWritten (b now : List ℕ) (at room next : ℕ) (entries : List E
   pub next_is : next_of now at ≡ next
   pub room_is : room_at now at ≡ room
   pub used_is : used_count now at ≡ length entries
+  pub count_is : number now at vxr_n_used_entries ≡ length entries
   pub inside : NodeInside now at
   pub says : SaysFirst now at entries room

@@ -1,4 +1,4 @@
-//! The records of an index, collected.
+//! The records of an index, collected, with what the entries of its blocks say.
 
 ghost use Rattle.std.specs.Prelude.{◌≡◌, ◌++◌, ◌≤◌, ℕ, List, length, map, IfOk, OnOk};
 ghost use Rattle.cdf_area.specs.Calls.{Reads};
@@ -6,21 +6,22 @@ ghost use Rattle.cdf_format.specs.Index.{Nodes, Entries, nodes_of, leaves_of, li
 ghost use Rattle.cdf_model.specs.Limits.{image_limit};
 ghost use Rattle.cdf_index.specs.Finding.{index_at, HasIndex, NodeInside, Stands};
 ghost use Rattle.cdf_index.specs.Sight.{IsHead};
-ghost use Rattle.cdf_index.specs.Whole.{EntriesStand, SomeChain, SomeEntries, through, through_entries, with_block, with_node};
+ghost use Rattle.cdf_index.specs.Whole.{EntriesStand, SomeChain, SomeEntries, through, through_entries, leaf_words, places_in, with_block, with_node};
 
+use crate::entries::{Entry, read_entry};
 use crate::nodes::{Head, LEVELS, read_head};
 use cdf_area::{Area, AreaError};
-use cdf_format::fields::{RECORD_TYPE, VXR_FIRST, VXR_TYPE};
-use cdf_records::{read_unsigned4, read_unsigned8};
-use std::alloc::Global;
+use cdf_format::fields::{RECORD_TYPE, VXR_TYPE};
+use cdf_records::read_unsigned4;
+use std::alloc::{AllocError, Global};
 
-/// Puts the places of the blocks and of the nodes of a chain behind those of two lists.
+/// Puts the entries of the blocks and the places of the nodes of a chain behind those of two lists.
 #[cycle(collecting)]
 fn collect<A: Area>(
     area: &mut A,
     link: u64,
     levels: u64,
-    blocks: &mut Vec<u64>,
+    blocks: &mut Vec<Entry>,
     nodes: &mut Vec<u64>,
 ) -> Result<(), AreaError>
     requires chain { SomeChain (A.image area.old) levels link }
@@ -49,7 +50,7 @@ fn collect_below<A: Area>(
     at: u64,
     head: &Head,
     levels: u64,
-    blocks: &mut Vec<u64>,
+    blocks: &mut Vec<Entry>,
     nodes: &mut Vec<u64>,
 ) -> Result<(), AreaError>
     requires head { IsHead (A.image area.old) at head.now }
@@ -61,15 +62,47 @@ fn collect_below<A: Area>(
     ensures area { Reads A.image A.frame A.faults A.edited area.old area.new result }
 {
     for i in 0..head.used {
-        let place = read_unsigned8(area, at + (VXR_FIRST + 8 * head.room + 8 * i))?;
-        let kind = read_unsigned4(area, place + RECORD_TYPE)?;
+        let entry = read_entry(area, at, head.room, i)?;
+        let kind = read_unsigned4(area, entry.place + RECORD_TYPE)?;
         if kind == VXR_TYPE {
-            collect(area, place, levels, blocks, nodes)?;
+            collect(area, entry.place, levels, blocks, nodes)?;
         } else {
-            blocks.push(place)?;
+            blocks.push(entry)?;
         }
     }
     Ok(())
+}
+
+/// The parts of an index: what the entries of its blocks say, by record number, and the places of its nodes in order.
+#[derive(Drop)]
+pub struct IndexParts {
+    pub leaves: Vec<Entry>,
+    pub nodes: Vec<u64>,
+}
+
+/// The parts of the index that a link leads to.
+pub fn index_parts<A: Area>(alloc: Global, area: &mut A, head: u64) -> Result<IndexParts, AreaError>
+    requires index { HasIndex (A.image area.old) head }
+    requires short { length (A.image area.old) ≤ image_limit }
+    ensures leaves { IfOk result (λ parts. parts.leaves.items ≡ map leaf_words (leaves_of (index_at (A.image area.old) head))) }
+    ensures nodes { IfOk result (λ parts. parts.nodes.items ≡ nodes_of (index_at (A.image area.old) head)) }
+    ensures area { Reads A.image A.frame A.faults A.edited area.old area.new result }
+{
+    let mut leaves = Vec::new(alloc);
+    let mut nodes = Vec::new(alloc);
+    collect(area, head, LEVELS, &mut leaves, &mut nodes)?;
+    Ok(IndexParts { leaves, nodes })
+}
+
+/// The places that entries name.
+fn places_of(alloc: Global, entries: &[Entry]) -> Result<Vec<u64>, AllocError>
+    ensures { IfOk result (λ places. places.items ≡ places_in entries.now) }
+{
+    let mut places = Vec::new(alloc);
+    for entry in entries {
+        places.push(entry.place)?;
+    }
+    Ok(places)
 }
 
 /// The records that go with a variable, but for its descriptor: the places of the blocks by record number, and then those of the nodes in order.
@@ -79,9 +112,8 @@ pub fn index_records<A: Area>(alloc: Global, area: &mut A, head: u64) -> Result<
     ensures value { IfOk result (λ places. places.items ≡ map (λ leaf. leaf.place) (leaves_of (index_at (A.image area.old) head)) ++ nodes_of (index_at (A.image area.old) head)) }
     ensures area { Reads A.image A.frame A.faults A.edited area.old area.new result }
 {
-    let mut blocks = Vec::new(alloc);
-    let mut nodes = Vec::new(alloc);
-    collect(area, head, LEVELS, &mut blocks, &mut nodes)?;
-    blocks.extend_from_slice(&nodes)?;
-    Ok(blocks)
+    let parts = index_parts(alloc, area, head)?;
+    let mut places = places_of(alloc, &parts.leaves)?;
+    places.extend_from_slice(&parts.nodes)?;
+    Ok(places)
 }

@@ -6,7 +6,7 @@ ghost use Rattle.cdf_format.specs.Index.{room_at, used_count};
 ghost use Rattle.cdf_format.specs.IndexOf.{SaysEntry};
 ghost use Rattle.cdf_model.specs.Limits.{image_limit};
 ghost use Rattle.cdf_index.specs.Finding.{NodeInside};
-ghost use Rattle.cdf_index.specs.Writing.{EntrySet, Inserted};
+ghost use Rattle.cdf_index.specs.Writing.{EntrySet, Inserted, Widened};
 
 use cdf_area::{Area, AreaError};
 use cdf_format::fields::{VXR_FIRST, VXR_N_USED_ENTRIES};
@@ -87,4 +87,28 @@ pub fn insert_entry<A: Area>(
     }
     set_entry(area, at, room, p, entry)?;
     set_unsigned4(area, at, VXR_N_USED_ENTRIES, (used + 1) as u32)
+}
+
+/// Lets the entry with number `i` of a node end at a record, if it ends before it.
+pub fn widen_entry<A: Area>(
+    area: &mut A,
+    at: u64,
+    room: u64,
+    i: u64,
+    last: u32,
+) -> Result<(), AreaError>
+    requires inside { NodeInside (A.image area.old) at }
+    requires room { room ≡ room_at (A.image area.old) at }
+    requires below { i < room }
+    requires short { length (A.image area.old) ≤ image_limit }
+    ensures widened { OnOk result (Widened (A.image area.old) (A.image area.new) at i last) }
+    ensures area { Edits A.frame A.faults area.old area.new result }
+{
+    let entry = read_entry(area, at, room, i)?;
+    let wider = Entry {
+        first: entry.first,
+        last: entry.last.max(last),
+        place: entry.place,
+    };
+    set_entry(area, at, room, i, wider)
 }

@@ -27,7 +27,7 @@ ghost use Rattle.cdf_index.specs.Order.{leaf_of};
 ghost use Rattle.cdf_index.specs.Reading.{HoldsRecords, stored_in};
 ghost use Rattle.cdf_index.specs.Replacing.{with_variables, HasReplaced, IsReplaced, NewIndex};
 ghost use Rattle.cdf_index.specs.Sight.{seen};
-ghost use Rattle.cdf_index.specs.Way.{placed};
+ghost use Rattle.cdf_index.specs.Way.{way, spot, placed, widen_all};
 ghost use Rattle.cdf_index.specs.Writing.{Inserted, Split, Chained};
 ghost use Rattle.cdf_index.specs.declared.nodes.Leaf.{Leaf};
 
@@ -62,6 +62,11 @@ pub fn node_grown()
     ensures with_room { (b now records records' : List ℕ) (at new used p levels : ℕ) (l : TreeLeaf) (nodes : Nodes) → SameHeads b now records records' → used ≡ used_count b at → Begins b at l.first p → MayName now records' l → used < room_at b at → Inserted b now at used p l.first l.last l.place → at + 28 ≤ length b → HasNodes b records levels nodes → Distinct (nodes_of nodes) → ((m : ℕ) → In m (nodes_of nodes) → m ≢ at → Kept b now m × NodeFits b m) → ((m : ℕ) → In m (map (λ leaf. leaf.place) (leaves_of nodes)) → In m records) → HasNodes now records' levels (redo at (placed l new at) nodes) }
     ensures split { (b now records records' : List ℕ) (at new used p levels : ℕ) (l : TreeLeaf) (nodes : Nodes) → SameHeads b now records records' → used ≡ used_count b at → Begins b at l.first p → MayName now records' l → room_at b at ≤ used → is_linkable now records' vxr_type new ≡ true → Split b now at new used p l.first l.last l.place → p < used → HasNodes b records levels nodes → Distinct (nodes_of nodes) → ((m : ℕ) → In m (nodes_of nodes) → m ≢ at → Kept b now m × NodeFits b m) → ((m : ℕ) → In m (map (λ leaf. leaf.place) (leaves_of nodes)) → In m records) → HasNodes now records' levels (redo at (placed l new at) nodes) }
     ensures behind { (b now records records' : List ℕ) (at new used p levels : ℕ) (l : TreeLeaf) (nodes : Nodes) → SameHeads b now records records' → used ≡ used_count b at → Begins b at l.first p → MayName now records' l → room_at b at ≤ used → is_linkable now records' vxr_type new ≡ true → Chained b now at new used l.first l.last l.place → p ≡ used → HasNodes b records levels nodes → Distinct (nodes_of nodes) → ((m : ℕ) → In m (nodes_of nodes) → m ≢ at → Kept b now m × NodeFits b m) → ((m : ℕ) → In m (map (λ leaf. leaf.place) (leaves_of nodes)) → In m records) → HasNodes now records' levels (redo at (placed l new at) nodes) }
+{}
+
+/// An index with one leaf more is what the edit of the node at the end of the way makes of it, and then one in each node on the way, from the bottom up.
+pub fn leaf_on_its_way()
+    ensures { (b : List ℕ) (head at : ℕ) (l : TreeLeaf) → HasIndex b head → head ≢ 0 → widen_all l.last (way l.first (index_at b head)) (redo (spot l.first (index_at b head)) (placed l at (spot l.first (index_at b head))) (index_at b head)) ≡ with_leaf l at (index_at b head) }
 {}
 
 /// A change within the records of one variable that gives it another index leaves a sound image sound, and every other owner as it was.

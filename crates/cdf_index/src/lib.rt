@@ -2,6 +2,7 @@
 #![tactic(auto)]
 
 mod collecting;
+mod descending;
 mod entries;
 mod finding;
 pub mod laws;
@@ -10,12 +11,15 @@ mod measuring;
 mod next;
 mod nodes;
 mod records;
+mod splitting;
 
-pub use collecting::index_records;
-pub use entries::{Entry, insert_entry, read_entry, set_entry};
+pub use collecting::{IndexParts, index_parts, index_records};
+pub use descending::{Spot, Step, Way, way_down};
+pub use entries::{Entry, insert_entry, read_entry, set_entry, widen_entry};
 pub use finding::find;
 pub use making::write_node;
 pub use measuring::{IndexSize, index_size};
 pub use next::next_first;
 pub use nodes::Leaf;
 pub use records::{read_rec, write_recs};
+pub use splitting::{read_entries, shorten_node};

@@ -43,7 +43,7 @@ fn count_node(size: IndexSize, head: &Head) -> IndexSize
 
 /// A block more.
 fn count_block(size: IndexSize) -> IndexSize
-    ensures { (place : ℕ) → result ≡ block_counted size place }
+    ensures { (first last place : ℕ) → result ≡ block_counted size first last place }
 {
     IndexSize {
         leaves: size.leaves.saturating_add(1),

@@ -25,7 +25,12 @@ pub struct Walk {
 }
 
 /// How many of the first entries of a node begin at a record or before it.
-fn entries_begun<A: Area>(area: &mut A, at: u64, head: &Head, rec: u32) -> Result<u64, AreaError>
+pub fn entries_begun<A: Area>(
+    area: &mut A,
+    at: u64,
+    head: &Head,
+    rec: u32,
+) -> Result<u64, AreaError>
     requires head { IsHead (A.image area.old) at head.now }
     requires inside { NodeInside (A.image area.old) at }
     requires short { length (A.image area.old) ≤ image_limit }
@@ -42,7 +47,7 @@ fn entries_begun<A: Area>(area: &mut A, at: u64, head: &Head, rec: u32) -> Resul
 }
 
 /// The lower chain that the entry before one names, 0 where it names a block; `lower` before the first.
-fn lower_before<A: Area>(
+pub fn lower_before<A: Area>(
     area: &mut A,
     at: u64,
     head: &Head,

@@ -1,10 +1,14 @@
 use Rattle.std.proofs.Common.{◌<◌, ◌+◌, ◌-◌, ◌++◌, ℕ, List, [], ◌∷◌, length, arith, ap, sym, subst, ◌∙◌}
-use Rattle.cdf_area.proofs.Calls.{read_more}
+use Rattle.cdf_area.proofs.Calls.{read_more, read_failed, read_without_memory}
 use Rattle.cdf_area.specs.Calls.{Stays}
 use Rattle.cdf_format.specs.Chains.{next_of}
+use Rattle.cdf_format.specs.Index.{room_at, used_count}
+use Rattle.cdf_index.specs.Finding.{NodeInside}
 use Rattle.cdf_index.specs.Sight.{IsHead}
+use Rattle.cdf_format.specs.IndexOf.{SaysEntry}
+use Rattle.cdf_index.specs.declared.entries.Entry.{Entry}
 use Rattle.cdf_index.specs.Whole.{through_entries, with_block, with_node}
-use Rattle.cdf_index.proofs.Looking.{read_place, read_type}
+use Rattle.cdf_index.proofs.Looking.{read_type}
 use Rattle.cdf_index.proofs.Searching.{inside_now}
 use Rattle.cdf_index.proofs.ChainWalk.{Gone, walk_end, walk_over, walk_node, walk_entries, walk_on, below_end, named_lies, lower_chain, past_block, past_lower, entries_now, chain_now, entries_told, chain_told}
 use Rattle.cdf_index.proofs.Collected.{pair_is}
@@ -15,32 +19,32 @@ pub collect-returns-then-at-eq0-clause-places : goal.collect-returns-then-at-eq0
 collect-returns-then-at-eq0-clause-places g t c =
     let l = c.loop-turn in
     let b = g.A.Area.image c.args.area.now in
-    let was : List ℕ × List ℕ = (c.args.blocks.now.items, c.args.nodes.now.items) in
-    let s : List ℕ × List ℕ = (l.blocks.items, l.nodes.items) in
+    let was : List Entry × List ℕ = (c.args.blocks.now.items, c.args.nodes.now.items) in
+    let s : List Entry × List ℕ = (l.blocks.items, l.nodes.items) in
     walk_end with_node with_block b c.args.levels c.args.link l.at l.turn was s c.requires.chain l.invariant.walked c.if-at-eq0.true
 
 pub collect-read_head-requires-clause-inside : goal.collect-read_head-requires-clause-inside
 collect-read_head-requires-clause-inside g t c =
     let l = c.loop-turn in
     let b = g.A.Area.image c.args.area.now in
-    let was : List ℕ × List ℕ = (c.args.blocks.now.items, c.args.nodes.now.items) in
-    let s : List ℕ × List ℕ = (l.blocks.items, l.nodes.items) in
+    let was : List Entry × List ℕ = (c.args.blocks.now.items, c.args.nodes.now.items) in
+    let s : List Entry × List ℕ = (l.blocks.items, l.nodes.items) in
     inside_now b _ l.at l.invariant.area.image (walk_node with_node with_block b c.args.levels c.args.link l.at l.turn was s c.requires.chain l.invariant.walked c.if-at-eq0.false).0
 
 pub collect-overflow_sub-levels : goal.collect-overflow_sub-levels
 collect-overflow_sub-levels g t c =
     let l = c.loop-turn in
     let b = g.A.Area.image c.args.area.now in
-    let was : List ℕ × List ℕ = (c.args.blocks.now.items, c.args.nodes.now.items) in
-    let s : List ℕ × List ℕ = (l.blocks.items, l.nodes.items) in
+    let was : List Entry × List ℕ = (c.args.blocks.now.items, c.args.nodes.now.items) in
+    let s : List Entry × List ℕ = (l.blocks.items, l.nodes.items) in
     (walk_node with_node with_block b c.args.levels c.args.link l.at l.turn was s c.requires.chain l.invariant.walked c.if-at-eq0.false).1
 
 pub collect-collect_below-requires : goal.collect-collect_below-requires
 collect-collect_below-requires g t c =
     let l = c.loop-turn in
     let b = g.A.Area.image c.args.area.now in
-    let was : List ℕ × List ℕ = (c.args.blocks.now.items, c.args.nodes.now.items) in
-    let s : List ℕ × List ℕ = (l.blocks.items, l.nodes.items) in
+    let was : List Entry × List ℕ = (c.args.blocks.now.items, c.args.nodes.now.items) in
+    let s : List Entry × List ℕ = (l.blocks.items, l.nodes.items) in
     let e = c.in_ok-head.ensures.area.image ∙ l.invariant.area.image in
     let n = walk_node with_node with_block b c.args.levels c.args.link l.at l.turn was s c.requires.chain l.invariant.walked c.if-at-eq0.false in
     λ κs w. (
@@ -64,8 +68,8 @@ pub collect-loop-turn-preserved : goal.collect-loop-turn-preserved
 collect-loop-turn-preserved g t c =
     let l = c.loop-turn in
     let b = g.A.Area.image c.args.area.now in
-    let was : List ℕ × List ℕ = (c.args.blocks.now.items, c.args.nodes.now.items) in
-    let s : List ℕ × List ℕ = (l.blocks.items, l.nodes.items) in
+    let was : List Entry × List ℕ = (c.args.blocks.now.items, c.args.nodes.now.items) in
+    let s : List Entry × List ℕ = (l.blocks.items, l.nodes.items) in
     let e = c.in_ok-head.ensures.area.image ∙ l.invariant.area.image in
     record {
       walked = walk_on with_node with_block b c.args.levels c.args.link l.at l.turn c.in_ok-head.head.next was s (c.collect_below.new.blocks.items, c.collect_below.new.nodes.items) l.invariant.walked c.if-at-eq0.false (c.in_ok-head.ensures.head.next_is ∙ ap (λ (x : List ℕ). next_of x l.at) l.invariant.area.image)
@@ -77,21 +81,37 @@ pub collect-returns-clause-places : goal.collect-returns-clause-places
 collect-returns-clause-places g t c =
     let l = c.loop-turn in
     let b = g.A.Area.image c.args.area.now in
-    let was : List ℕ × List ℕ = (c.args.blocks.now.items, c.args.nodes.now.items) in
-    let s : List ℕ × List ℕ = (l.blocks.items, l.nodes.items) in
+    let was : List Entry × List ℕ = (c.args.blocks.now.items, c.args.nodes.now.items) in
+    let s : List Entry × List ℕ = (l.blocks.items, l.nodes.items) in
     let z = walk_over with_node with_block b c.args.levels c.args.link l.at l.turn was s c.requires.chain l.invariant.walked (omega (arith, c.size-turn-end.ensures, c.loop-turn-test.false)) in
     walk_end with_node with_block b c.args.levels c.args.link l.at l.turn was s c.requires.chain l.invariant.walked z
 
-pub collect_below-overflow_add-place : goal.collect_below-overflow_add-place
-collect_below-overflow_add-place g t c =
+pub collect_below-read_entry-requires : goal.collect_below-read_entry-requires
+collect_below-read_entry-requires g t c =
     let l = c.loop-i in
     let b = g.A.Area.image c.args.area.now in
-    let was : List ℕ × List ℕ = (c.args.blocks.now.items, c.args.nodes.now.items) in
-    let s : List ℕ × List ℕ = (l.blocks.items, l.nodes.items) in
+    let h = c.requires.head in
+    let same = l.invariant.area.image in
+    let lt : l.i < used_count b c.args.at = subst (λ (n : ℕ). l.i < n) h.used_is c.loop-i-test.true in
+    record {
+      inside = subst (λ (x : List ℕ). NodeInside x c.args.at) (sym same) c.requires.inside;
+      room = h.room_is ∙ ap (λ (x : List ℕ). room_at x c.args.at) (sym same);
+      below = subst (λ (n : ℕ). l.i < n) (sym h.room_is) (let f = c.requires.inside.fits in omega arith);
+      short = let q = c.requires.short in let z = ap length same in omega arith;
+    }
+
+pub collect_below-overflow_add-entry : goal.collect_below-overflow_add-entry
+collect_below-overflow_add-entry g t c =
+    let l = c.loop-i in
+    let b = g.A.Area.image c.args.area.now in
+    let was : List Entry × List ℕ = (c.args.blocks.now.items, c.args.nodes.now.items) in
+    let s : List Entry × List ℕ = (l.blocks.items, l.nodes.items) in
     let h = c.requires.head in
     let lt = subst (λ (n : ℕ). l.i < n) h.used_is c.loop-i-test.true in
-    let place = read_place b _ c.args.at c.args.head.now.room l.i c.in_ok-place.place l.invariant.area.image h.room_is c.in_ok-place.ensures.value in
-    let room = named_lies with_node with_block b c.args.at c.args.levels l.i c.in_ok-place.place was s c.requires.entries l.invariant.gone lt place in
+    let entry = c.in_ok-entry.entry in
+    let says : SaysEntry b c.args.at l.i entry.first entry.last entry.place = subst (λ (x : List ℕ). SaysEntry x c.args.at l.i entry.first entry.last entry.place) l.invariant.area.image c.in_ok-entry.ensures.value in
+    let place = sym says.offset_is in
+    let room = named_lies with_node with_block b c.args.at c.args.levels l.i entry.place was s c.requires.entries l.invariant.gone lt place in
     let short = c.requires.short in
     omega arith
 
@@ -99,32 +119,36 @@ pub collect_below-read_unsigned4-requires : goal.collect_below-read_unsigned4-re
 collect_below-read_unsigned4-requires g t c =
     let l = c.loop-i in
     let b = g.A.Area.image c.args.area.now in
-    let was : List ℕ × List ℕ = (c.args.blocks.now.items, c.args.nodes.now.items) in
-    let s : List ℕ × List ℕ = (l.blocks.items, l.nodes.items) in
+    let was : List Entry × List ℕ = (c.args.blocks.now.items, c.args.nodes.now.items) in
+    let s : List Entry × List ℕ = (l.blocks.items, l.nodes.items) in
     let h = c.requires.head in
     let lt = subst (λ (n : ℕ). l.i < n) h.used_is c.loop-i-test.true in
-    let place = read_place b _ c.args.at c.args.head.now.room l.i c.in_ok-place.place l.invariant.area.image h.room_is c.in_ok-place.ensures.value in
-    let room = named_lies with_node with_block b c.args.at c.args.levels l.i c.in_ok-place.place was s c.requires.entries l.invariant.gone lt place in
-    let same = ap length (c.in_ok-place.ensures.area.image ∙ l.invariant.area.image) in
+    let entry = c.in_ok-entry.entry in
+    let says : SaysEntry b c.args.at l.i entry.first entry.last entry.place = subst (λ (x : List ℕ). SaysEntry x c.args.at l.i entry.first entry.last entry.place) l.invariant.area.image c.in_ok-entry.ensures.value in
+    let place = sym says.offset_is in
+    let room = named_lies with_node with_block b c.args.at c.args.levels l.i entry.place was s c.requires.entries l.invariant.gone lt place in
+    let same = ap length (c.in_ok-entry.ensures.area.image ∙ l.invariant.area.image) in
     omega arith
 
 pub collect_below-collect-requires : goal.collect_below-collect-requires
 collect_below-collect-requires g t c =
     let l = c.loop-i in
     let b = g.A.Area.image c.args.area.now in
-    let was : List ℕ × List ℕ = (c.args.blocks.now.items, c.args.nodes.now.items) in
-    let s : List ℕ × List ℕ = (l.blocks.items, l.nodes.items) in
+    let was : List Entry × List ℕ = (c.args.blocks.now.items, c.args.nodes.now.items) in
+    let s : List Entry × List ℕ = (l.blocks.items, l.nodes.items) in
     let h = c.requires.head in
     let lt = subst (λ (n : ℕ). l.i < n) h.used_is c.loop-i-test.true in
-    let place = read_place b _ c.args.at c.args.head.now.room l.i c.in_ok-place.place l.invariant.area.image h.room_is c.in_ok-place.ensures.value in
-    let type = read_type b _ c.in_ok-place.place c.in_ok-kind.kind (c.in_ok-place.ensures.area.image ∙ l.invariant.area.image) c.in_ok-kind.ensures.value in
-    let e = c.in_ok-kind.ensures.area.image ∙ c.in_ok-place.ensures.area.image ∙ l.invariant.area.image in
+    let entry = c.in_ok-entry.entry in
+    let says : SaysEntry b c.args.at l.i entry.first entry.last entry.place = subst (λ (x : List ℕ). SaysEntry x c.args.at l.i entry.first entry.last entry.place) l.invariant.area.image c.in_ok-entry.ensures.value in
+    let place = sym says.offset_is in
+    let type = read_type b _ entry.place c.in_ok-kind.kind (c.in_ok-entry.ensures.area.image ∙ l.invariant.area.image) c.in_ok-kind.ensures.value in
+    let e = c.in_ok-kind.ensures.area.image ∙ c.in_ok-entry.ensures.area.image ∙ l.invariant.area.image in
     λ κs w. (
       let d = c.decreases in omega arith,
       (
         w,
         (
-          chain_now b _ c.args.levels c.in_ok-place.place e (lower_chain with_node with_block b c.args.at c.args.levels l.i c.in_ok-place.place c.in_ok-kind.kind was s c.requires.entries l.invariant.gone lt place type c.if-kind-eq-VXR_TYPE.true),
+          chain_now b _ c.args.levels entry.place e (lower_chain with_node with_block b c.args.at c.args.levels l.i entry.place c.in_ok-kind.kind was s c.requires.entries l.invariant.gone lt place type c.if-kind-eq-VXR_TYPE.true),
           (c.requires.few, let q = c.requires.short in let z = ap length e in omega arith),
         ),
       ),
@@ -134,24 +158,26 @@ pub collect_below-loop-i-preserved : goal.collect_below-loop-i-preserved
 collect_below-loop-i-preserved g t c =
     let l = c.loop-i in
     let b = g.A.Area.image c.args.area.now in
-    let was : List ℕ × List ℕ = (c.args.blocks.now.items, c.args.nodes.now.items) in
-    let s : List ℕ × List ℕ = (l.blocks.items, l.nodes.items) in
+    let was : List Entry × List ℕ = (c.args.blocks.now.items, c.args.nodes.now.items) in
+    let s : List Entry × List ℕ = (l.blocks.items, l.nodes.items) in
     let h = c.requires.head in
     let lt = subst (λ (n : ℕ). l.i < n) h.used_is c.loop-i-test.true in
-    let place = read_place b _ c.args.at c.args.head.now.room l.i c.in_ok-place.place l.invariant.area.image h.room_is c.in_ok-place.ensures.value in
-    let type = read_type b _ c.in_ok-place.place c.in_ok-kind.kind (c.in_ok-place.ensures.area.image ∙ l.invariant.area.image) c.in_ok-kind.ensures.value in
-    let e = c.in_ok-kind.ensures.area.image ∙ c.in_ok-place.ensures.area.image ∙ l.invariant.area.image in
-    let a = read_more (read_more l.invariant.area c.in_ok-place.ensures.area) c.in_ok-kind.ensures.area in
+    let entry = c.in_ok-entry.entry in
+    let says : SaysEntry b c.args.at l.i entry.first entry.last entry.place = subst (λ (x : List ℕ). SaysEntry x c.args.at l.i entry.first entry.last entry.place) l.invariant.area.image c.in_ok-entry.ensures.value in
+    let place = sym says.offset_is in
+    let type = read_type b _ entry.place c.in_ok-kind.kind (c.in_ok-entry.ensures.area.image ∙ l.invariant.area.image) c.in_ok-kind.ensures.value in
+    let e = c.in_ok-kind.ensures.area.image ∙ c.in_ok-entry.ensures.area.image ∙ l.invariant.area.image in
+    let a = read_more (read_more l.invariant.area c.in_ok-entry.ensures.area) c.in_ok-kind.ensures.area in
     elim c.if-kind-eq-VXR_TYPE.branch [
       | collect_below-then-kind-eq-VXR_TYPE+in_ok-collect w ↦
-          let now : List ℕ × List ℕ = (w.collect.new.blocks.items, w.collect.new.nodes.items) in
-          let told = chain_told with_node with_block b _ c.args.levels c.in_ok-place.place s now e w.in_ok-collect.ensures.places in
+          let now : List Entry × List ℕ = (w.collect.new.blocks.items, w.collect.new.nodes.items) in
+          let told = chain_told with_node with_block b _ c.args.levels entry.place s now e w.in_ok-collect.ensures.places in
           record {
-            gone = subst (λ (x : List ℕ × List ℕ). Gone with_node with_block b c.args.at c.args.levels (l.i + 1) was x) (sym (pair_is _ _ _ _ (ap (λ v. v.items) w.blocks-is) (ap (λ v. v.items) w.nodes-is))) (past_lower with_node with_block b c.args.at c.args.levels l.i c.in_ok-place.place c.in_ok-kind.kind was s now l.invariant.gone lt place type w.if-kind-eq-VXR_TYPE.true told);
+            gone = subst (λ (x : List Entry × List ℕ). Gone with_node with_block b c.args.at c.args.levels (l.i + 1) was x) (sym (pair_is _ _ _ _ (ap (λ v. v.items) w.blocks-is) (ap (λ v. v.items) w.nodes-is))) (past_lower with_node with_block b c.args.at c.args.levels l.i entry.place c.in_ok-kind.kind was s now l.invariant.gone lt place type w.if-kind-eq-VXR_TYPE.true told);
             area = subst (λ x. Stays g.A.Area.image g.A.Area.frame g.A.Area.faults g.A.Area.edited c.args.area.now x) (sym w.area-is) (read_more a w.in_ok-collect.ensures.area);
           }
       | collect_below-else-kind-eq-VXR_TYPE+in_ok-push w ↦ record {
-        gone = subst (λ (x : List ℕ × List ℕ). Gone with_node with_block b c.args.at c.args.levels (l.i + 1) was x) (sym (pair_is _ _ _ _ (ap (λ v. v.items) w.blocks-is ∙ w.in_ok-push.ensures.items) (ap (λ v. v.items) w.nodes-is))) (past_block with_node with_block b c.args.at c.args.levels l.i c.in_ok-place.place c.in_ok-kind.kind was s l.invariant.gone lt place type w.if-kind-eq-VXR_TYPE.false);
+        gone = subst (λ (x : List Entry × List ℕ). Gone with_node with_block b c.args.at c.args.levels (l.i + 1) was x) (sym (pair_is _ _ _ _ (ap (λ v. v.items) w.blocks-is ∙ w.in_ok-push.ensures.items) (ap (λ v. v.items) w.nodes-is))) (past_block with_node with_block b c.args.at c.args.levels l.i entry.first entry.last entry.place c.in_ok-kind.kind was s l.invariant.gone lt says type w.if-kind-eq-VXR_TYPE.false);
         area = subst (λ x. Stays g.A.Area.image g.A.Area.frame g.A.Area.faults g.A.Area.edited c.args.area.now x) (sym w.area-is) a;
       }
     ]
@@ -161,3 +187,12 @@ collect_below-returns-clause-places g t c =
     let l = c.loop-i in
     λ es st.
     below_end with_node with_block (g.A.Area.image c.args.area.now) c.args.at c.args.levels l.i (c.args.blocks.now.items, c.args.nodes.now.items) (l.blocks.items, l.nodes.items) l.invariant.gone (let h = c.requires.head.used_is in let f = c.loop-i-test.false in omega arith) es st
+
+pub collect_below-returns-in_err-kind-clause-area : goal.collect_below-returns-in_err-kind-clause-area
+collect_below-returns-in_err-kind-clause-area g t c = read_failed (read_more c.loop-i.invariant.area c.in_ok-entry.ensures.area) c.in_err-kind.ensures.area c.from_residual-in_err-kind.ensures.1
+
+pub collect_below-returns-in_err-collect-clause-area : goal.collect_below-returns-in_err-collect-clause-area
+collect_below-returns-in_err-collect-clause-area g t c = read_failed (read_more (read_more c.loop-i.invariant.area c.in_ok-entry.ensures.area) c.in_ok-kind.ensures.area) c.in_err-collect.ensures.area c.from_residual-in_err-collect.ensures.1
+
+pub collect_below-returns-in_err-push-clause-area : goal.collect_below-returns-in_err-push-clause-area
+collect_below-returns-in_err-push-clause-area g t c = read_without_memory (read_more (read_more c.loop-i.invariant.area c.in_ok-entry.ensures.area) c.in_ok-kind.ensures.area) c.from_residual-in_err-push.ensures.1

@@ -1,18 +1,13 @@
-use Rattle.std.proofs.Common.{◌≡◌, ◌∙◌, ◌++◌, ℕ, List, [], ap}
+use Rattle.std.proofs.Common.{◌∙◌, ◌++◌, ℕ, List, ap, ap₂}
+use Rattle.cdf_format.specs.Index.{leaves_of}
 use Rattle.cdf_index.specs.Finding.{index_at}
-use Rattle.cdf_index.specs.Whole.{through, with_block, with_node}
-use Rattle.cdf_index.proofs.ChainWalk.{whole_chain, whole_stands}
-use Rattle.cdf_index.proofs.Collected.{pair_is, records_are}
+use Rattle.cdf_index.specs.Whole.{places_in}
+use Rattle.cdf_index.proofs.Collected.{places_of_words}
 use Rattle.cdf_index.proofs.collecting.index_records.Goals as goal
-
-pub collect-requires-clause-chain : goal.collect-requires-clause-chain
-collect-requires-clause-chain g c = whole_chain (g.A.Area.image c.args.area.now) c.args.head c.requires.index
 
 pub returns-clause-value : goal.returns-clause-value
 returns-clause-value g c =
     let b = g.A.Area.image c.args.area.now in
-    let none : List ℕ × List ℕ = (c.new-blocks.result.items, c.new-nodes.result.items) in
-    let start : ◌≡◌ {A = List ℕ × List ℕ} none ([], []) = pair_is _ _ _ _ c.new-blocks.ensures.items c.new-nodes.ensures.items in
-    let told = c.in_ok-collect.ensures.places (index_at b c.args.head) (whole_stands b c.args.head c.requires.index) c.requires.index.index.link_is in
-    records_are c.collect.new.blocks.items c.collect.new.nodes.items c.extend_from_slice.new.self.items (index_at b c.args.head) (told ∙ ap (λ (x : List ℕ × List ℕ). through with_node with_block x (index_at b c.args.head)) start)
-    (c.in_ok-extend_from_slice.ensures.items ∙ ap (λ (x : List ℕ). c.collect.new.blocks.items ++ x) c.deref.ensures.value)
+    let parts = c.in_ok-parts.ensures in
+    let first = c.in_ok-places.ensures ∙ ap places_in (c.deref.ensures.value ∙ parts.leaves) ∙ places_of_words (leaves_of (index_at b c.args.head)) in
+    c.in_ok-extend_from_slice.ensures.items ∙ ap₂ (λ (xs ys : List ℕ). xs ++ ys) first (c.deref-2.ensures.value ∙ parts.nodes)

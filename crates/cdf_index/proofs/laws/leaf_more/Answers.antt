@@ -1,4 +1,4 @@
-use Rattle.std.proofs.Common.{map, List, ap, ◌∙◌}
+use Rattle.std.proofs.Common.{map, ap, ◌∙◌}
 use Rattle.cdf_edits.specs.Index.Blocks.{range}
 use Rattle.cdf_format.specs.Index.{Leaf, leaves_of}
 use Rattle.cdf_model.specs.Limits.{record_number_limit}

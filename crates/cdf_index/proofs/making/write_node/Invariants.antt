@@ -1,4 +1,3 @@
-use Rattle.std.proofs.Common.{◌≤◌}
 use Rattle.cdf_area.specs.Calls.{Keeps}
 use Rattle.cdf_index.proofs.NodeMade.{Making}
 use Rattle.cdf_index.proofs.making.write_node.Given as goal

@@ -1,8 +1,8 @@
-use Rattle.std.proofs.Common.{◌<◌, ◌+◌, ◌-◌, ℕ, List, length, arith, ap, sym, subst, ◌∙◌}
+use Rattle.std.proofs.Common.{◌<◌, ◌+◌, ◌-◌, ℕ, List, length, arith, ap, refl, sym, subst, ◌∙◌}
 use Rattle.cdf_area.specs.Calls.{Stays}
 use Rattle.cdf_area.proofs.Calls.{read_more}
 use Rattle.cdf_format.specs.Chains.{next_of}
-use Rattle.cdf_format.specs.Index.{room_at, used_count}
+use Rattle.cdf_format.specs.Index.{room_at, used_count, first_at, last_at}
 use Rattle.cdf_index.specs.Sight.{IsHead}
 use Rattle.cdf_index.specs.Sizes.{block_counted, node_counted}
 use Rattle.cdf_index.specs.Whole.{through_entries}
@@ -148,7 +148,7 @@ measure_below-loop-i-preserved g t c =
             area = subst (λ x. Stays g.A.Area.image g.A.Area.frame g.A.Area.faults g.A.Area.edited c.args.area.now x) (sym w.area-is) (read_more a w.in_ok-measured.ensures.area);
           }
       | measure_below-else-kind-eq-VXR_TYPE w ↦ record {
-        gone = subst (λ (x : IndexSize). Gone node_counted block_counted b c.args.at c.args.levels (l.i + 1) c.args.size x) (sym (w.measured-is ∙ w.count_block-measured.ensures c.in_ok-place.place)) (past_block node_counted block_counted b c.args.at c.args.levels l.i c.in_ok-place.place c.in_ok-kind.kind c.args.size l.measured l.invariant.gone lt place type w.if-kind-eq-VXR_TYPE.false);
+        gone = subst (λ (x : IndexSize). Gone node_counted block_counted b c.args.at c.args.levels (l.i + 1) c.args.size x) (sym (w.measured-is ∙ w.count_block-measured.ensures (first_at b c.args.at l.i) (last_at b c.args.at l.i) c.in_ok-place.place)) (past_block node_counted block_counted b c.args.at c.args.levels l.i (first_at b c.args.at l.i) (last_at b c.args.at l.i) c.in_ok-place.place c.in_ok-kind.kind c.args.size l.measured l.invariant.gone lt (record { first_is = refl; last_is = refl; offset_is = sym place }) type w.if-kind-eq-VXR_TYPE.false);
         area = subst (λ x. Stays g.A.Area.image g.A.Area.frame g.A.Area.faults g.A.Area.edited c.args.area.now x) (sym w.area-is) a;
       }
     ]

@@ -1,0 +1,109 @@
+-- The way down to the place of a new entry, from level to level.
+use Rattle.std.proofs.Common.{◌≡◌, ◌≢◌, ℕ, ◌+◌, ◌-◌, ◌<◌, ◌≤◌, List, [], ◌∷◌, ◌++◌, length, map, append_assoc, append-nil, refl, sym, ap, subst, ◌∙◌, inl, inr, arith}
+use Rattle.std.proofs.lemmas.List.{map-append}
+use Rattle.cdf_format.specs.Index.{Nodes, no_node, node, link_to, nodes_of, room_at, used_count}
+use Rattle.cdf_format.specs.IndexOf.{HasNodes}
+use Rattle.cdf_format.specs.Tiles.{AreTiles, In, tiles}
+use Rattle.cdf_format.specs.Shape.{Each}
+use Rattle.cdf_format.proofs.ShapeLemmas.{Each-append}
+use Rattle.cdf_model.specs.Limits.{record_number_limit}
+use Rattle.cdf_index.specs.Descent.{IsTree, SomeTree, IsAmong, SpotIs, StepSays, step_pair}
+use Rattle.cdf_index.specs.Finding.{index_at, HasIndex, SomeNode}
+use Rattle.cdf_index.specs.Way.{way, spot}
+use Rattle.cdf_index.specs.declared.descending.Spot.{Spot}
+use Rattle.cdf_index.specs.declared.descending.Step.{Step}
+use Rattle.cdf_index.proofs.Leading.{test_zero, test_some}
+use Rattle.cdf_index.proofs.WayDown.{AllIn, node_there_by, no_zero, spot_in, way_in}
+
+no_nodes : (b : List ℕ) (nodes : Nodes) → IsTree b 0 nodes → ⊥
+unfolding HasNodes
+no_nodes b no_node t = t.is_node
+no_nodes b (node place room es more) t = t.stands.has
+
+pub record Descending (b : List ℕ) (f turn : ℕ) (total : Nodes) (passed : List Step) (end : Spot) : Type 0 where
+  pub levels : ℕ
+  pub nodes : Nodes
+  pub tree : IsTree b levels nodes
+  pub deep : levels + turn ≤ 8
+  pub ends : SpotIs b f levels nodes end
+  pub way_is : way f total ≡ map step_pair passed ++ way f nodes
+  pub end_is : spot f total ≡ spot f nodes
+  pub say : Each (StepSays b) passed
+
+module _ (b : List ℕ) (head : ℕ) (has : HasIndex b head) (some : head ≢ 0) where
+  pub index_tree : IsTree b 8 (index_at b head)
+  index_tree = record {
+    stands = record { has = has.index.has_nodes; fits = has.fits; blocks = has.blocks };
+    is_node = node_there_by head (index_at b head) has.index.link_is some;
+    once = has.index.once;
+    from = 0;
+    upto = record_number_limit;
+    order = has.order;
+  }
+
+  pub some_tree : SomeTree b head
+  some_tree = record { levels = 8; nodes = index_at b head; tiled = has.tiled; tree = index_tree; link = has.index.link_is }
+
+  pub descend_start : (f : ℕ) (end : Spot) → ((levels : ℕ) (nodes : Nodes) → IsTree b levels nodes → head ≡ link_to nodes → SpotIs b f levels nodes end) → Descending b f 0 (index_at b head) [] end
+  descend_start f end s = record { levels = 8; nodes = index_at b head; tree = index_tree; deep = omega arith; ends = s 8 (index_at b head) index_tree has.index.link_is; way_is = refl; end_is = refl; say = tt }
+
+module _ (b : List ℕ) (f turn : ℕ) (total : Nodes) (passed : List Step) (end : Spot) (d : Descending b f turn total passed end) where
+  pub next_level : AreTiles b 8 (length b) (tiles b) → end.lower ≢ 0 → SomeTree b end.lower
+  next_level tiled n = record { levels = d.ends.down; nodes = d.ends.low; tiled = tiled; tree = d.ends.below n; link = d.ends.lower_is }
+
+  pub way_done : end.lower ≡ 0 → map step_pair passed ≡ way f total
+  way_done e =
+      let t = test_zero end.lower e in
+      let none : way f d.nodes ≡ [] = d.ends.way_is ∙ rw t refl in
+      sym (d.way_is ∙ ap (λ (xs : List (ℕ × ℕ)). map step_pair passed ++ xs) none ∙ append-nil (map step_pair passed))
+
+  pub end_done : end.lower ≡ 0 → end.place ≡ spot f total
+  end_done e = let t = test_zero end.lower e in let here : spot f d.nodes ≡ end.place = d.ends.end_is ∙ rw t refl in sym (d.end_is ∙ here)
+
+  pub last_among : AreTiles b 8 (length b) (tiles b) → end.lower ≡ 0 → In end.place (nodes_of total)
+  last_among tiled e = elim (spot_in f total) [
+    | inl z ↦ absurd (no_zero b (tiles b) d.levels d.nodes tiled d.tree.stands.has (subst (λ (x : ℕ). In x (nodes_of d.nodes)) (end_done e ∙ z) d.ends.among))
+    | inr i ↦ subst (λ (x : ℕ). In x (nodes_of total)) (sym (end_done e)) i
+  ]
+
+  pub all_among : end.lower ≡ 0 → Each (IsAmong total) passed
+  all_among e = pairs_among passed (subst (λ (w : List (ℕ × ℕ)). AllIn w (nodes_of total)) (sym (way_done e)) (way_in f total))
+    where
+      pairs_among : (steps : List Step) → AllIn (map step_pair steps) (nodes_of total) → Each (IsAmong total) steps
+      pairs_among [] a = tt
+      pairs_among (step ∷ more) a = (a.0, pairs_among more a.1)
+
+  pub descend_more : (step : Step) (next : Spot) → end.lower ≢ 0 → step.place ≡ end.place → step.entry ≡ end.begun - 1 → step.room ≡ end.room → ((levels : ℕ) (nodes : Nodes) → IsTree b levels nodes → end.lower ≡ link_to nodes → SpotIs b f levels nodes next) → Descending b f (turn + 1) total (passed ++ step ∷ []) next
+  descend_more step next n p i r s =
+      let t = test_some end.lower n in
+      let here : way f d.nodes ≡ (end.place, end.begun - 1) ∷ way f d.ends.low = d.ends.way_is ∙ rw t refl in
+      let mine : step_pair step ≡ (end.place, end.begun - 1) = ap (λ (x : ℕ). (x, step.entry)) p ∙ ap (λ (x : ℕ). (end.place, x)) i in
+      let there : spot f d.nodes ≡ spot f d.ends.low = d.ends.end_is ∙ rw t refl in
+      let less = d.ends.fewer n in
+      record {
+        levels = d.ends.down;
+        nodes = d.ends.low;
+        tree = d.ends.below n;
+        deep = let e = d.deep in omega arith;
+        ends = s d.ends.down d.ends.low (d.ends.below n) d.ends.lower_is;
+        way_is =
+            d.way_is ∙ ap (λ (xs : List (ℕ × ℕ)). map step_pair passed ++ xs) (here ∙ ap (λ (x : ℕ × ℕ). x ∷ way f d.ends.low) (sym mine))
+            ∙ sym (append_assoc (map step_pair passed) (step_pair step ∷ []) (way f d.ends.low)) ∙ ap (λ (xs : List (ℕ × ℕ)). xs ++ way f d.ends.low) (sym (map-append step_pair passed (step ∷ [])));
+        end_is = d.end_is ∙ there;
+        say = Each-append (StepSays b) passed (step ∷ []) d.say (says step n p i r, tt);
+      }
+    where
+      says : (step : Step) → end.lower ≢ 0 → step.place ≡ end.place → step.entry ≡ end.begun - 1 → step.room ≡ end.room → StepSays b step
+      says step n p i r =
+          let some = d.ends.leads n in
+          let most = d.ends.sees.begun.most in
+          record { room_is = r ∙ d.ends.sees.room_is ∙ ap (room_at b) (sym p); within = subst (λ (x : ℕ). step.entry < used_count b x) (sym p) (omega arith) }
+
+  pub descend_never : 8 ≤ turn → ⊥
+  descend_never le = no_level d.levels d.nodes d.tree (let e = d.deep in omega arith)
+    where
+      no_level : (levels : ℕ) (nodes : Nodes) → IsTree b levels nodes → levels ≡ 0 → ⊥
+      no_level levels nodes t e = no_nodes b nodes (subst (λ (x : ℕ). IsTree b x nodes) e t)
+
+pub some_node : (b : List ℕ) (at : ℕ) → SomeTree b at → SomeNode b at
+some_node b at t = record { levels = t.levels; nodes = t.nodes; tiled = t.tiled; stands = t.tree.stands; is_node = t.tree.is_node; link = t.link }

@@ -1,0 +1,11 @@
+use Rattle.std.proofs.Common.{◌≤◌}
+use Rattle.cdf_area.specs.Calls.{Keeps}
+use Rattle.cdf_index.specs.Writing.{Cleared}
+use Rattle.cdf_index.proofs.splitting.clear_entries.Given as goal
+
+abbrev pub invariant-loop-i : goal.invariant-loop-i
+invariant-loop-i g l = record {
+  cleared : Cleared (g.A.Area.image l.fn.area) (g.A.Area.image l.area) l.at l.from l.i;
+  area : Keeps g.A.Area.frame g.A.Area.faults l.fn.area l.area;
+  lower : l.from ≤ l.i;
+}

@@ -1,0 +1,15 @@
+use Rattle.std.proofs.Common.{◌≤◌, ℕ, subst, ap, sym, ◌∙◌, arith}
+use Rattle.std.proofs.lemmas.Result.{on_ok_weaker}
+use Rattle.cdf_format.specs.Fields.{with_field}
+use Rattle.cdf_format.specs.Index.{room_at}
+use Rattle.cdf_format.specs.Records.{vxr_n_used_entries}
+use Rattle.cdf_index.proofs.NodeShortened.{shortened}
+use Rattle.cdf_index.proofs.splitting.shorten_node.Goals as goal
+
+pub returns-clause-shortened : goal.returns-clause-shortened
+returns-clause-shortened g c =
+    let b = g.A.Area.image c.args.area.now in
+    let cl = c.in_ok-clear_entries.ensures.cleared in
+    let fits : c.args.used ≤ room_at b c.args.at = subst (λ (n : ℕ). n ≤ room_at b c.args.at) (sym c.requires.used) c.requires.inside.fits in
+    on_ok_weaker _ (λ w. shortened b (g.A.Area.image c.clear_entries.new.area) (g.A.Area.image c.set_entry.new.area) (g.A.Area.image c.set_unsigned4.new.area) (g.A.Area.image c.set_unsigned8.new.area) c.args.at c.args.used c.args.p c.args.entry.first c.args.entry.last c.args.entry.place c.args.next
+    c.requires.inside c.requires.short fits c.requires.place (omega arith) cl c.in_ok-set_entry.ensures.set (c.in_ok-set_unsigned4.ensures.ok ∙ ap (λ (n : ℕ). with_field (g.A.Area.image c.set_entry.new.area) c.args.at vxr_n_used_entries n) (omega arith)) w) c.set_unsigned8.ensures.ok

@@ -1,0 +1,146 @@
+//! The way down to the node that gets a new entry.
+
+ghost use Rattle.std.specs.Prelude.{◌≡◌, ◌≢◌, ◌⊎◌, ◌≤◌, ◌<◌, ℕ, length, map, true, false, IfOk};
+ghost use Rattle.cdf_area.specs.Calls.{Reads};
+ghost use Rattle.cdf_format.specs.Index.{Nodes, nodes_of, link_to};
+ghost use Rattle.cdf_format.specs.Shape.{Each};
+ghost use Rattle.cdf_format.specs.Tiles.{In};
+ghost use Rattle.cdf_model.specs.Limits.{image_limit};
+ghost use Rattle.cdf_index.specs.Descent.{SomeTree, IsTree, IsAmong, SeesNode, SpotIs, StepSays, step_pair};
+ghost use Rattle.cdf_index.specs.Finding.{index_at, HasIndex, SomeNode};
+ghost use Rattle.cdf_index.specs.Way.{way, spot};
+
+use crate::next::{entries_begun, lower_before};
+use crate::nodes::{LEVELS, read_node};
+use cdf_area::{Area, AreaError};
+use cdf_records::Steps;
+use std::alloc::Global;
+use std::sync::ledger::Ledger;
+
+/// A node as it is met on the way: how many entries it has room for and uses, the next node, how many of its entries begin at a record or before it, and the lower chain that the last of these names, 0 for none.
+#[derive(Clone, Copy)]
+pub struct Spot {
+    pub place: u64,
+    pub room: u64,
+    pub used: u64,
+    pub next: u64,
+    pub begun: u64,
+    pub lower: u64,
+}
+
+/// A node on the way, and the number of its entry that leads on.
+#[derive(Clone, Copy)]
+pub struct Step {
+    pub place: u64,
+    pub room: u64,
+    pub entry: u64,
+}
+
+/// The nodes on the way, from the top, and the one at its end.
+#[derive(Drop)]
+pub struct Way {
+    pub steps: Vec<Step>,
+    pub end: Spot,
+}
+
+/// A node, as a record is looked for.
+fn see_node<A: Area, L: Ledger>(
+    area: &mut A,
+    at: u64,
+    first: u32,
+    steps: &mut Steps<L>,
+) -> Result<Spot, AreaError>
+    requires node { SomeNode (A.image area.old) at }
+    requires short { length (A.image area.old) ≤ image_limit }
+    ensures sees { IfOk result (SeesNode (A.image area.old) at first) }
+    ensures area { Reads A.image A.frame A.faults A.edited area.old area.new result }
+{
+    let head = read_node(area, at, steps)?;
+    let begun = entries_begun(area, at, &head, first)?;
+    let lower = lower_before(area, at, &head, begun, 0)?;
+    Ok(Spot {
+        place: at,
+        room: head.room,
+        used: head.used,
+        next: head.next,
+        begun,
+        lower,
+    })
+}
+
+/// Whether no later node of a chain has an entry that begins at the record or before it.
+fn ends_search(here: Spot) -> bool
+    ensures ends { result ≡ true → (here.begun < here.used) ⊎ (here.next ≡ 0) }
+    ensures goes_on { result ≡ false → here.next ≢ 0 }
+{
+    here.begun < here.used || here.next == 0
+}
+
+/// The one met now, if it has such an entry, else the best one so far.
+fn better(best: Spot, here: Spot) -> Spot
+    ensures taken { 0 < here.begun → result ≡ here }
+    ensures kept { here.begun ≡ 0 → result ≡ best }
+{
+    if here.begun > 0 { here } else { best }
+}
+
+/// The last node of a chain that has an entry which begins at a record or before it, or else the first node.
+fn spot_of_chain<A: Area, L: Ledger>(
+    area: &mut A,
+    at: u64,
+    first: u32,
+    steps: &mut Steps<L>,
+) -> Result<Spot, AreaError>
+    requires tree { SomeTree (A.image area.old) at }
+    requires short { length (A.image area.old) ≤ image_limit }
+    ensures spot { IfOk result (λ spot. (levels : ℕ) (nodes : Nodes) → IsTree (A.image area.old) levels nodes → at ≡ link_to nodes → SpotIs (A.image area.old) first levels nodes spot) }
+    ensures area { Reads A.image A.frame A.faults A.edited area.old area.new result }
+{
+    let mut here = see_node(area, at, first, steps)?;
+    let mut best = here;
+    for turn in 0..area.size() {
+        if ends_search(here) {
+            return Ok(best);
+        }
+        let next = see_node(area, here.next, first, steps)?;
+        best = better(best, next);
+        here = next;
+    }
+    Ok(best)
+}
+
+/// The way that an index leads down to the node that gets a new entry.
+pub fn way_down<A: Area, L: Ledger>(
+    alloc: Global,
+    area: &mut A,
+    head: u64,
+    first: u32,
+    steps: &mut Steps<L>,
+) -> Result<Way, AreaError>
+    requires index { HasIndex (A.image area.old) head }
+    requires some { head ≢ 0 }
+    requires short { length (A.image area.old) ≤ image_limit }
+    ensures steps { IfOk result (λ found. map step_pair found.steps.items ≡ way first (index_at (A.image area.old) head)) }
+    ensures end { IfOk result (λ found. found.end.place ≡ spot first (index_at (A.image area.old) head)) }
+    ensures sees { IfOk result (λ found. SeesNode (A.image area.old) found.end.place first found.end) }
+    ensures last { IfOk result (λ found. In found.end.place (nodes_of (index_at (A.image area.old) head))) }
+    ensures among { IfOk result (λ found. Each (IsAmong (index_at (A.image area.old) head)) found.steps.items) }
+    ensures say { IfOk result (λ found. Each (StepSays (A.image area.old)) found.steps.items) }
+    ensures area { Reads A.image A.frame A.faults A.edited area.old area.new result }
+{
+    let mut passed = Vec::new(alloc);
+    let mut end = spot_of_chain(area, head, first, steps)?;
+    for turn in 0..LEVELS {
+        if end.lower == 0 {
+            return Ok(Way { steps: passed, end });
+        }
+        passed.push(Step {
+            place: end.place,
+            room: end.room,
+            entry: end.begun - 1,
+        })?;
+        let below = spot_of_chain(area, end.lower, first, steps)?;
+        end = below;
+    }
+    Ok(Way { steps: passed, end })
+}
