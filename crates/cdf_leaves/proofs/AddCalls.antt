@@ -1,0 +1,285 @@
+-- What the calls ask for that add a leaf, and what they leave.
+use Rattle.std.proofs.Common.{◌≡◌, ◌≢◌, ◌⊎◌, ℕ, ◌+◌, ◌-◌, ◌*◌, ◌<◌, ◌≤◌, max, List, [], ◌∷◌, ◌++◌, length, map, false, refl, sym, ap, subst, ◌∙◌, arith, inl, inr}
+use Rattle.std.proofs.lemmas.List.{map-append}
+use Rattle.cdf_model.specs.declared.kinds.Kind.{Kind}
+use Rattle.cdf_model.specs.declared.kinds.Kind.TheVariants.{R, Z}
+use Rattle.cdf_model.specs.Limits.{image_limit}
+use Rattle.cdf_edits.specs.Commands.Allowances.{shapes_of}
+use Rattle.cdf_edits.specs.Commands.Room.{vxr_bytes, widest}
+use Rattle.cdf_edits.specs.Index.Grown.{with_leaf, new_room}
+use Rattle.cdf_edits.specs.Space.Placing.{Placed, type_of_body}
+use Rattle.cdf_edits.proofs.Edits.VdrEdited.{StandsAmong, sound, tile, has, long}
+use Rattle.cdf_edits.proofs.Space.UsedRecords.{apart}
+use Rattle.cdf_format.specs.Fields.{number, size_at, with_field}
+use Rattle.cdf_format.specs.Index.{Nodes, Leaf, leaf, nodes_of, room_at}
+use Rattle.cdf_format.specs.Records.{vdr_vxr_head, vdr_vxr_tail, vxr_vxr_next}
+use Rattle.cdf_format.specs.RecordTypes.{uir_type, vxr_type, vvr_type}
+use Rattle.cdf_format.specs.Shape.{VariableShape, Each, shape, variables, vdrs}
+use Rattle.cdf_format.specs.Tiles.{In}
+use Rattle.cdf_format.specs.WellFormed.{Good}
+use Rattle.cdf_format.proofs.BytesLemmas.{type_kept, next_kept}
+use Rattle.cdf_format.proofs.Members.{In-append}
+use Rattle.cdf_format.proofs.TilesLemmas.{tile_lies}
+use Rattle.cdf_index.specs.Adding.{AddsLeaf}
+use Rattle.cdf_index.specs.Descent.{IsAmong, StepSays, step_pair}
+use Rattle.cdf_index.specs.Finding.{HasIndex, index_at}
+use Rattle.cdf_index.specs.Way.{way, spot}
+use Rattle.cdf_index.specs.declared.descending.Spot.{Spot}
+use Rattle.cdf_index.specs.declared.descending.Step.{Step}
+use Rattle.cdf_index.specs.declared.descending.Way.{Way}
+use Rattle.cdf_leaves.specs.Added.{IsStep, IsWay, entry}
+use Rattle.cdf_leaves.specs.Putting.{EntryPut, IndexStarted, MayPut, NodeMade}
+use Rattle.cdf_leaves.specs.Tail.{ChainInside, chain_end}
+use Rattle.cdf_leaves.specs.Widening.{StepStands, WayStands, WidenedAlong}
+use Rattle.cdf_leaves.proofs.Grew.{Grew, grew, stands, unlike}
+use Rattle.cdf_leaves.proofs.LeafGrown.{EntryStands, entry_stands, wide_state, chain_ready, vdr_lies, tail_stays, tail_written}
+use Rattle.cdf_leaves.proofs.Grown.{was}
+use Rattle.cdf_leaves.proofs.NodesOf.{old_in}
+use Rattle.cdf_leaves.proofs.Linked.{field_long}
+use Rattle.cdf_index.specs.declared.entries.Entry.{Entry}
+use Rattle.cdf_index.proofs.WayDown.{no_zero}
+use Rattle.cdf_leaves.proofs.LeafStarted.{first_added}
+use Rattle.cdf_leaves.proofs.Own.{searchable, own_node, node_fits, node_kept, node_spares}
+use Rattle.cdf_leaves.proofs.Spares.{fits_still, front_lies, node_inside}
+use Rattle.cdf_leaves.proofs.SpotNode.{NotAt, nodes_linkable, way_apart, widest_least}
+use Rattle.cdf_leaves.proofs.State.{State}
+
+-- ---- the variable
+
+pub record OwnStands (b : List ℕ) (vdr : ℕ) : Type 0 where
+  pub kind : Kind
+  pub before : List VariableShape
+  pub own : VariableShape
+  pub after : List VariableShape
+  pub was : shapes_of (shape b) kind ≡ before ++ own ∷ after
+  pub vdr_is : own.vdr ≡ vdr
+
+record StandsIn (vs : List VariableShape) (vdr : ℕ) : Type 0 where
+  before : List VariableShape
+  own : VariableShape
+  after : List VariableShape
+  is : vs ≡ before ++ own ∷ after
+  vdr_is : own.vdr ≡ vdr
+
+stands_in : (vs : List VariableShape) (m : ℕ) → In m (vdrs vs) → StandsIn vs m
+stands_in [] m i = absurd i
+stands_in (v ∷ vs) m (inl e) = record { before = []; own = v; after = vs; is = refl; vdr_is = sym e }
+stands_in (v ∷ vs) m (inr i) = let at = stands_in vs m i in record { before = v ∷ at.before; own = at.own; after = at.after; is = ap (λ (r : List VariableShape). v ∷ r) at.is; vdr_is = at.vdr_is }
+
+pub own_stands : (b : List ℕ) (vdr : ℕ) → In vdr (vdrs (variables (shape b))) → OwnStands b vdr
+own_stands b vdr i = elim (In-append vdr (vdrs (shape b).r_variables) (vdrs (shape b).z_variables) (subst (In vdr) (map-append (λ (v : VariableShape). v.vdr) (shape b).r_variables (shape b).z_variables) i)) [
+  | inl j ↦ let s = stands_in (shape b).r_variables vdr j in record { kind = R; before = s.before; own = s.own; after = s.after; was = s.is; vdr_is = s.vdr_is }
+  | inr j ↦ let s = stands_in (shape b).z_variables vdr j in record { kind = Z; before = s.before; own = s.own; after = s.after; was = s.is; vdr_is = s.vdr_is }
+]
+
+-- ---- how long an image gets
+
+pub put_long : {filled grown : List ℕ} {seen : Spot} {e : Entry} {at : ℕ} → seen.used ≤ seen.room → seen.place + 28 ≤ length filled → EntryPut filled grown seen e at → length grown ≤ length filled + vxr_bytes (max 7 seen.room)
+put_long {filled = filled} {seen = seen} fits lies (inl p) = let l = p.2.as_long in omega arith
+put_long {filled = filled} {grown = grown} {seen = seen} fits lies (inr q) = elim q.1 [
+  | inl s ↦ let l = s.1.made.longest in let m = s.1.shortened.as_long in bound (length filled) (length s.1.roomy) (length grown) (seen.used - seen.begun) seen.room (omega arith) l m
+  | inr c ↦
+      let l = c.1.made.longest in
+      let longer = takes_longer c.1.made in
+      let m = field_long c.1.roomy grown seen.place vxr_vxr_next _ (omega arith) c.1.linked in
+      bound_7 (length filled) (length c.1.roomy) (length grown) seen.room l m
+]
+  where
+    bound : (f r n d room : ℕ) → d ≤ room → r ≤ f + (28 + 16 * max 7 d) → n ≡ r → n ≤ f + (28 + 16 * max 7 room)
+    bound f r n d room a c e = grind arith
+
+    bound_7 : (f r n room : ℕ) → r ≤ f + (28 + 16 * 7) → n ≡ r → n ≤ f + (28 + 16 * max 7 room)
+    bound_7 f r n room c e = grind arith
+
+    takes_longer : {roomy : List ℕ} {room next at : ℕ} {entries : List Entry} → NodeMade filled roomy room next entries at → length filled ≤ length roomy
+    takes_longer made = let a = made.fills.takes.changed.longer in let b = made.fills.long in omega arith
+
+-- an index that has its first node
+pub started_long : {filled now : List ℕ} {vdr : ℕ} {e : Entry} → vdr + 44 ≤ length filled → IndexStarted filled now vdr e → length now ≤ length filled + vxr_bytes 7
+started_long {filled = filled} {now = now} {vdr = vdr} lies st =
+    let a = st.made.fills.takes.changed.longer in
+    let c = st.made.fills.long in
+    let l = st.made.longest in
+    let m = field_long st.roomy (with_field st.roomy vdr vdr_vxr_head st.at) vdr vdr_vxr_head st.at (omega arith) refl in
+    let n = field_long (with_field st.roomy vdr vdr_vxr_head st.at) now vdr vdr_vxr_tail st.at (omega arith) st.linked in
+    omega arith
+
+pub fits_room : (f b n w m lim lim' : ℕ) → f ≤ b + n → m ≤ w → b + n + (28 + 16 * w) ≤ lim → lim' ≡ lim → f + (28 + 16 * m) ≤ lim'
+fits_room f b n w m lim lim' a c d e = omega arith
+
+pub through : (x y z : ℕ) → x ≤ y → y ≤ z → x ≤ z
+through x y z p q = omega arith
+
+-- it is a variable of its kind
+pub among_kind : (b : List ℕ) (vdr : ℕ) (i : In vdr (vdrs (variables (shape b)))) → StandsAmong b (own_stands b vdr i).kind (own_stands b vdr i).before (record (own_stands b vdr i).own { vdr = vdr }) (own_stands b vdr i).after
+among_kind b vdr i = let o = own_stands b vdr i in record { was = o.was ∙ ap (λ (k : ℕ). o.before ++ record o.own { vdr = k } ∷ o.after) o.vdr_is }
+
+module _ {b : List ℕ} {kind : Kind} {before : List VariableShape} {own : VariableShape} {after : List VariableShape} (good : Good b) (at_own : StandsAmong b kind before own after) where
+  pub index_there : {head : ℕ} → head ≡ number b own.vdr vdr_vxr_head → HasIndex b head
+  index_there e = subst (HasIndex b) (sym e) (searchable good at_own).0
+
+  index_same : {head : ℕ} → head ≡ number b own.vdr vdr_vxr_head → index_at b head ≡ own.index
+  index_same e = ap (index_at b) e ∙ (searchable good at_own).1
+
+  pub vdr_there : own.vdr + 340 ≤ length b
+  vdr_there = let t = tile_lies b 8 (length b) (shape b).records own.vdr (sound good at_own).has_shape.tiled (tile good at_own) in ends (size_at b own.vdr) t.high (long good at_own)
+    where
+      ends : (s : ℕ) → own.vdr + s ≤ length b → 340 ≤ s → own.vdr + 340 ≤ length b
+      ends s a c = omega arith
+
+  no_0 : In 0 (nodes_of own.index) → ⊥
+  no_0 = no_zero b (shape b).records 8 own.index (sound good at_own).has_shape.tiled (has good at_own).indexed.has_nodes
+
+  -- ---- a block was placed
+
+  module _ {filled body : List ℕ} {place : ℕ} (block : Placed b filled body place) where
+    pub late : Grew b filled
+    late = grew (sound good at_own) block.fills
+
+    pub vdr_late : own.vdr + 44 ≤ length filled
+    vdr_late = let l = late.longer in let v = vdr_there in omega arith
+
+    pub seven_fit : {head : ℕ} → head ≡ number b own.vdr vdr_vxr_head → (lim lim' : ℕ) → length b + (8 + length body) + vxr_bytes (widest (index_at b head)) ≤ lim → lim' ≡ lim → length filled + vxr_bytes 7 ≤ lim'
+    seven_fit {head = head} e lim lim' room same = fits_room (length filled) (length b) (8 + length body) (widest (index_at b head)) 7 lim lim' block.longest (widest_least (index_at b head)) room same
+
+    -- ---- the index had no node
+
+    pub started : {now : List ℕ} {first last : ℕ} → number b own.vdr vdr_vxr_head ≡ 0 → type_of_body body ≡ vvr_type → length now ≤ image_limit → IndexStarted filled now own.vdr (entry first last place) → AddsLeaf b now own first last body
+    started {first = first} {last = last} none type_is short st = record {
+      place = place;
+      at = st.at;
+      added = first_added good at_own (leaf first last place false) late (stands (sound good at_own) block.fills) (block.fills.typed ∙ type_is) refl none short st block;
+    }
+
+    -- ---- the way was looked for
+
+    module _ {head first : ℕ} (head_is : head ≡ number b own.vdr vdr_vxr_head) {found : Way} (w : IsWay b head first found) where
+      index : index_at b head ≡ own.index
+      index = index_same head_is
+
+      last_there : In found.end.place (nodes_of own.index)
+      last_there = subst (λ (n : Nodes). In found.end.place (nodes_of n)) index w.last
+
+      end_is : found.end.place ≡ spot first own.index
+      end_is = w.end_is ∙ ap (spot first) index
+
+      way_is : map step_pair found.steps.items ≡ way first own.index
+      way_is = w.steps_are ∙ ap (way first) index
+
+      pub may_put : MayPut filled found.end
+      may_put =
+          let n = own_node good at_own found.end.place last_there in
+          let k = node_kept good at_own late found.end.place last_there in
+          let s = node_spares good at_own late found.end.place last_there in
+          let f = node_fits good at_own found.end.place last_there in
+          record {
+            sound = late.sound;
+            ends = late.ends;
+            there = late.sub found.end.place n.0;
+            typed = type_kept b filled found.end.place k.same k.long ∙ n.1;
+            fits = fits_still b filled found.end.place s f;
+            room_is = w.sees.room_is ∙ sym s.room_is;
+            used_is = w.sees.used_is ∙ sym s.used_is;
+            next_is = w.sees.next_is ∙ sym (next_kept b filled found.end.place k.same (far (room_at b found.end.place) (size_at b found.end.place) f.0));
+            most = subst (λ (u : ℕ). found.end.begun ≤ u) (sym w.sees.used_is) w.sees.begun.most;
+          }
+        where
+          far : (r s : ℕ) → 28 + 16 * r ≤ s → 20 ≤ s
+          far r s h = omega arith
+
+      pub wide_enough : max 7 found.end.room ≤ widest (index_at b head)
+      wide_enough =
+          subst (λ (n : Nodes). max 7 found.end.room ≤ widest n) (sym index)
+          (subst (λ (r : ℕ). max 7 r ≤ widest own.index) (sym w.sees.room_is) (both_least (room_at b found.end.place) (widest own.index) (widest_least own.index) (nodes_linkable b (shape b).records 8 found.end.place own.index (has good at_own).indexed.has_nodes last_there).1))
+        where
+          both_least : (r n : ℕ) → 7 ≤ n → r ≤ n → max 7 r ≤ n
+          both_least r n p q = grind arith
+
+      steps_of : (steps : List Step) → Each (IsAmong own.index) steps → Each (StepSays b) steps → Each (IsStep b own.index) (map step_pair steps)
+      steps_of [] a s = tt
+      steps_of (step ∷ more) a s = ((a.0, s.0.within), steps_of more a.1 s.1)
+
+      among_own : Each (IsAmong own.index) found.steps.items
+      among_own = subst (λ (n : Nodes). Each (IsAmong n) found.steps.items) index w.among
+
+      is_steps : Each (IsStep b own.index) (way first own.index)
+      is_steps = subst (Each (IsStep b own.index)) way_is (steps_of found.steps.items among_own w.say)
+
+      not_end : NotAt found.end.place (map step_pair found.steps.items)
+      not_end = subst (λ (ws : List (ℕ × ℕ)). NotAt found.end.place ws) (sym way_is) (subst (λ (y : ℕ). NotAt y (way first own.index)) (sym end_is) (way_apart first own.index (has good at_own).indexed.once no_0))
+
+      pub entry_long : {grown : List ℕ} {e : Entry} {at : ℕ} → EntryPut filled grown found.end e at → length grown ≤ length filled + vxr_bytes (max 7 found.end.room)
+      entry_long put =
+          let m = may_put in
+          put_long (subst (λ (r : ℕ). found.end.used ≤ r) (sym m.room_is) (subst (λ (u : ℕ). u ≤ room_at filled found.end.place) (sym m.used_is) m.fits.1)) (front_lies filled found.end.place (node_inside filled (shape filled).records found.end.place m.sound.has_shape.tiled m.there m.fits)) put
+
+      pub grown_short : {grown : List ℕ} {e : Entry} {at : ℕ} → EntryPut filled grown found.end e at → (lim : ℕ) → length b + (8 + length body) + vxr_bytes (widest (index_at b head)) ≤ lim → lim ≤ image_limit → length grown ≤ image_limit
+      grown_short {grown = grown} put lim room limit =
+          through (length grown) (length filled + vxr_bytes (max 7 found.end.room)) image_limit (entry_long put)
+          (through (length filled + vxr_bytes (max 7 found.end.room)) lim image_limit (fits_room (length filled) (length b) (8 + length body) (widest (index_at b head)) (max 7 found.end.room) lim lim block.longest wide_enough room refl) limit)
+
+      -- ---- the entry was put
+
+      module _ {grown : List ℕ} {last at : ℕ} (some : head ≢ 0) (type_is : type_of_body body ≡ vvr_type) (short : length grown ≤ image_limit) (put : EntryPut filled grown found.end (entry first last place) at) where
+        abbrev l : Leaf
+        l = leaf first last place false
+
+        block_apart : (m : ℕ) → In m (nodes_of own.index) → m ≢ place
+        block_apart m j = let n = own_node good at_own m j in unlike (sound good at_own) block.fills m n.0 (λ u. apart vxr_type uir_type refl (sym n.1 ∙ u))
+
+        pub stands_now : EntryStands b filled grown (leaf first last place false) at own found.end.place (8 + length body)
+        stands_now = entry_stands good at_own (leaf first last place false) (8 + length body) late (stands (sound good at_own) block.fills) (block.fills.typed ∙ type_is) refl block_apart (λ z. some (head_is ∙ z)) found.end end_is last_there w.sees.room_is w.sees.used_is w.sees.next_is w.sees.begun short put
+
+        all_steps : (steps : List Step) → Each (IsAmong own.index) steps → Each (StepSays b) steps → NotAt found.end.place (map step_pair steps) → Each (StepStands grown (shape stands_now.roomy).records) steps
+        all_steps [] a s n = tt
+        all_steps (step ∷ more) a s n =
+            let e = stands_now in
+            let i = old_in own.index (leaf first last place false) at step.place a.0 in
+            let now_node = e.state.each step.place i in
+            let old = node_spares good at_own e.grew step.place a.0 in (
+              record {
+                there = e.grew.sub step.place (own_node good at_own step.place a.0).0;
+                fits = now_node.fits;
+                room_is = s.0.room_is ∙ sym (now_node.room_is ∙ old.room_is);
+                within = subst (λ (u : ℕ). step.entry < u) (sym (now_node.stays n.0 ∙ old.used_is)) s.0.within;
+              },
+              all_steps more a.1 s.1 n.1,
+            )
+
+        pub way_stands : WayStands grown found.steps.items
+        way_stands = record { records = (shape stands_now.roomy).records; tiled = stands_now.state.tiled; stand = all_steps found.steps.items among_own w.say not_end }
+
+        -- ---- the nodes on the way were widened
+
+        module _ (wide : List ℕ) (widened : WidenedAlong grown wide last (map step_pair found.steps.items)) where
+          state : State b stands_now.roomy wide (shape stands_now.roomy).records (nodes_of (with_leaf (leaf first last place false) at own.index)) (was b (nodes_of own.index) place (8 + length body) (new_room first own.index) at) found.end.place (with_leaf (leaf first last place false) at own.index)
+          state = wide_state good at_own (leaf first last place false) (8 + length body) late (stands (sound good at_own) block.fills) (block.fills.typed ∙ type_is) refl block_apart (λ z. some (head_is ∙ z)) found.end end_is last_there w.sees.room_is w.sees.used_is w.sees.next_is w.sees.begun stands_now is_steps (subst (WidenedAlong grown wide last) way_is widened)
+
+          pub tail_chain : ChainInside (length wide) wide head
+          tail_chain = subst (ChainInside (length wide) wide) (sym head_is) (chain_ready good at_own (leaf first last place false) (8 + length body) late (stands (sound good at_own) block.fills) (block.fills.typed ∙ type_is) refl block_apart (λ z. some (head_is ∙ z)) found.end end_is last_there w.sees.room_is w.sees.used_is w.sees.next_is w.sees.begun stands_now state)
+
+          pub tail_lies : own.vdr + 44 ≤ length wide
+          tail_lies = let v = vdr_lies good at_own (leaf first last place false) (8 + length body) late (stands (sound good at_own) block.fills) (block.fills.typed ∙ type_is) refl block_apart (λ z. some (head_is ∙ z)) found.end end_is last_there w.sees.room_is w.sees.used_is w.sees.next_is w.sees.begun stands_now state in omega arith
+
+          pub wide_long : length wide ≡ length grown
+          wide_long = state.as_long ∙ sym stands_now.state.as_long
+
+          pub grown_stays : (at ≡ 0) ⊎ (found.steps.items ≢ []) → AddsLeaf b wide own first last body
+          grown_stays why = record {
+            place = place;
+            at = at;
+            added = tail_stays good at_own (leaf first last place false) (8 + length body) late (stands (sound good at_own) block.fills) (block.fills.typed ∙ type_is) refl block_apart (λ z. some (head_is ∙ z)) found.end end_is last_there w.sees.room_is w.sees.used_is w.sees.next_is w.sees.begun stands_now state block refl
+                (elim why [ inl z ↦ inl z | inr ne ↦ inr (λ z. ne (no_steps found.steps.items (way_is ∙ z))) ]);
+          }
+            where
+              no_steps : (steps : List Step) → map step_pair steps ≡ [] → steps ≡ []
+              no_steps [] e = refl
+              no_steps (step ∷ more) e = absurd (cc)
+
+          pub grown_tail : {now : List ℕ} → at ≢ 0 → found.steps.items ≡ [] → now ≡ with_field wide own.vdr vdr_vxr_tail (chain_end (length wide) wide head) → AddsLeaf b now own first last body
+          grown_tail {now = now} ne none is = record {
+            place = place;
+            at = at;
+            added = tail_written good at_own (leaf first last place false) (8 + length body) late (stands (sound good at_own) block.fills) (block.fills.typed ∙ type_is) refl block_apart (λ z. some (head_is ∙ z)) found.end end_is last_there w.sees.room_is w.sees.used_is w.sees.next_is w.sees.begun stands_now state block refl
+                short ne (sym way_is ∙ ap (map step_pair) none) (is ∙ ap (λ (h : ℕ). with_field wide own.vdr vdr_vxr_tail (chain_end (length wide) wide h)) head_is);
+          }

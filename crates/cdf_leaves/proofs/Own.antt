@@ -1,0 +1,116 @@
+-- The variable whose index gets a leaf, in the images in which records were taken.
+use Rattle.std.proofs.Common.{◌≡◌, ◌≢◌, ℕ, List, [], ◌∷◌, ◌++◌, append_assoc, refl, sym, ap, subst, ◌∙◌, inl, inr}
+use Rattle.cdf_model.specs.declared.kinds.Kind.{Kind}
+use Rattle.cdf_model.specs.declared.kinds.Kind.TheVariants.{R, Z}
+use Rattle.cdf_edits.specs.Commands.Allowances.{shapes_of}
+use Rattle.cdf_edits.proofs.Edits.VdrEdited.{StandsAmong, sound, tile, typed, has}
+use Rattle.cdf_edits.proofs.Frame.Meaning.{Kept}
+use Rattle.cdf_edits.proofs.Space.UsedRecords.{apart}
+use Rattle.cdf_edits.specs.Space.Chains.{type_in}
+use Rattle.cdf_edits.specs.Space.VariableChains.{variables_chain}
+use Rattle.cdf_format.specs.Fields.{number, type_at}
+use Rattle.cdf_format.specs.GoodImage.{IsGoodImage}
+use Rattle.cdf_format.specs.Index.{Leaf, nodes_of, leaves_of}
+use Rattle.cdf_format.specs.Records.{vdr_vxr_head}
+use Rattle.cdf_format.specs.RecordTypes.{gdr_type, uir_type, vxr_type}
+use Rattle.cdf_format.specs.Shape.{VariableShape, Each, HasVariable, shape, variables}
+use Rattle.cdf_format.specs.Sound.{NodeFits, LeafFits, VariableFits}
+use Rattle.cdf_format.specs.Tiles.{In}
+use Rattle.cdf_format.specs.WellFormed.{Good}
+use Rattle.cdf_format.proofs.BytesLemmas.{type_kept}
+use Rattle.cdf_format.proofs.ChainsLemmas.{linkable-in, linkable-type}
+use Rattle.cdf_format.proofs.GoodImageLemmas.{good_image}
+use Rattle.cdf_format.proofs.GoodSound.{good_by_its_shape, good_is_sound}
+use Rattle.cdf_format.proofs.Owning.{block_in}
+use Rattle.cdf_format.proofs.ShapeLemmas.{Each-split}
+use Rattle.cdf_index.specs.Finding.{HasIndex, index_at}
+use Rattle.cdf_index.proofs.GoodIndex.{good_index}
+use Rattle.cdf_leaves.proofs.Grew.{Grew}
+use Rattle.cdf_leaves.proofs.NodesMore.{places}
+use Rattle.cdf_leaves.proofs.Spares.{Spares, spares_kept}
+use Rattle.cdf_leaves.proofs.SpotNode.{nodes_linkable}
+
+-- a variable among all of them
+pub record AmongAll (vs : List VariableShape) (own : VariableShape) : Type 0 where
+  pub front : List VariableShape
+  pub rest : List VariableShape
+  pub all : vs ≡ front ++ own ∷ rest
+
+pub among_all : (b : List ℕ) (kind : Kind) (before : List VariableShape) (own : VariableShape) (after : List VariableShape) → shapes_of (shape b) kind ≡ before ++ own ∷ after → AmongAll (variables (shape b)) own
+among_all b R before own after was = record { front = before; rest = after ++ (shape b).z_variables; all = ap (λ (vs : List VariableShape). vs ++ (shape b).z_variables) was ∙ append_assoc before (own ∷ after) (shape b).z_variables }
+among_all b Z before own after was = record { front = (shape b).r_variables ++ before; rest = after; all = ap (λ (vs : List VariableShape). (shape b).r_variables ++ vs) was ∙ sym (append_assoc (shape b).r_variables before (own ∷ after)) }
+
+each_in : {A : Type 0} (P : A → Type 0) (vs front : List A) (own : A) (rest : List A) → vs ≡ front ++ own ∷ rest → Each P vs → P own
+each_in P vs front own rest all e = (Each-split P front (own ∷ rest) (subst (Each P) all e)).1.0
+
+pub node_each : (P : ℕ → Type 0) (xs : List ℕ) (m : ℕ) → Each P xs → In m xs → P m
+node_each P [] m e i = absurd i
+node_each P (x ∷ xs) m e (inl q) = subst P (sym q) e.0
+node_each P (x ∷ xs) m e (inr i) = node_each P xs m e.1 i
+
+leaf_each : (b records : List ℕ) (vdr : ℕ) (xs : List Leaf) (m : ℕ) → Each (LeafFits b records vdr) xs → In m (places xs) → In m records
+leaf_each b records vdr [] m e i = absurd i
+leaf_each b records vdr (x ∷ xs) m e (inl q) = subst (λ (y : ℕ). In y records) (sym q) (block_in b records x.place e.0.0)
+leaf_each b records vdr (x ∷ xs) m e (inr i) = leaf_each b records vdr xs m e.1 i
+
+no_gdr : (kind : Kind) → type_in (variables_chain kind) ≢ gdr_type
+no_gdr R = apart (type_in (variables_chain R)) gdr_type refl
+no_gdr Z = apart (type_in (variables_chain Z)) gdr_type refl
+
+no_uir : (kind : Kind) → type_in (variables_chain kind) ≢ uir_type
+no_uir R = apart (type_in (variables_chain R)) uir_type refl
+no_uir Z = apart (type_in (variables_chain Z)) uir_type refl
+
+no_vxr : (kind : Kind) → type_in (variables_chain kind) ≢ vxr_type
+no_vxr R = apart (type_in (variables_chain R)) vxr_type refl
+no_vxr Z = apart (type_in (variables_chain Z)) vxr_type refl
+
+module _ {b : List ℕ} {kind : Kind} {before : List VariableShape} {own : VariableShape} {after : List VariableShape} (good : Good b) (at : StandsAmong b kind before own after) where
+  among : AmongAll (variables (shape b)) own
+  among = among_all b kind before own after at.was
+
+  image : IsGoodImage b (shape b)
+  image = good_image b (shape b) (good_by_its_shape b good)
+
+  pub searchable : HasIndex b (number b own.vdr vdr_vxr_head) × (index_at b (number b own.vdr vdr_vxr_head) ≡ own.index)
+  searchable = good_index b (shape b) among.front own among.rest image (good_is_sound b good) among.all
+
+  pub own_node : (m : ℕ) → In m (nodes_of own.index) → In m (shape b).records × (type_at b m ≡ vxr_type)
+  own_node m i = let l = (nodes_linkable b (shape b).records 8 m own.index (has good at).indexed.has_nodes i).0 in (linkable-in b (shape b).records vxr_type m l, linkable-type b (shape b).records vxr_type m l)
+
+  pub own_fits : VariableFits b (shape b).records own
+  own_fits = each_in (VariableFits b (shape b).records) (variables (shape b)) among.front own among.rest among.all (sound good at).variables_fit
+
+  pub node_fits : (m : ℕ) → In m (nodes_of own.index) → NodeFits b m
+  node_fits m i = node_each (NodeFits b) (nodes_of own.index) m own_fits.1 i
+
+  pub vdr_apart : (m : ℕ) → type_at b m ≡ vxr_type → m ≢ own.vdr
+  vdr_apart m t e = no_vxr kind (sym (typed good at) ∙ ap (type_at b) (sym e) ∙ t)
+
+  module _ {now : List ℕ} (g : Grew b now) where
+    now_all : variables (shape now) ≡ among.front ++ own ∷ among.rest
+    now_all = g.variables_are ∙ among.all
+
+    pub now_has : HasVariable now (shape now).records own
+    now_has = each_in (HasVariable now (shape now).records) (variables (shape now)) among.front own among.rest now_all g.sound.has_shape.have_variables
+
+    pub now_fits : VariableFits now (shape now).records own
+    now_fits = each_in (VariableFits now (shape now).records) (variables (shape now)) among.front own among.rest now_all g.sound.variables_fit
+
+    pub now_blocks : (m : ℕ) → In m (places (leaves_of own.index)) → In m (shape now).records
+    now_blocks m i = leaf_each now (shape now).records own.vdr (leaves_of own.index) m now_fits.2 i
+
+    pub node_kept : (m : ℕ) → In m (nodes_of own.index) → Kept b now m
+    node_kept m i = let n = own_node m i in g.kept m n.0 (λ u. apart vxr_type uir_type refl (sym n.1 ∙ u)) (λ u. apart vxr_type gdr_type refl (sym n.1 ∙ u))
+
+    pub node_spares : (m : ℕ) → In m (nodes_of own.index) → Spares b now m
+    node_spares m i = spares_kept b now m (node_kept m i) (node_fits m i)
+
+    pub vdr_kept : Kept b now own.vdr
+    vdr_kept = g.kept own.vdr (tile good at) (λ u. no_uir kind (sym (typed good at) ∙ u)) (λ u. no_gdr kind (sym (typed good at) ∙ u))
+
+    pub vdr_in : In own.vdr (shape now).records
+    vdr_in = g.sub own.vdr (tile good at)
+
+    pub vdr_used : type_at now own.vdr ≢ uir_type
+    vdr_used u = let k = vdr_kept in no_uir kind (sym (type_kept b now own.vdr k.same k.long ∙ typed good at) ∙ u)

@@ -1,0 +1,40 @@
+-- A node that gets an entry, once another record was taken.
+use Rattle.std.proofs.Common.{◌≡◌, ◌≢◌, ℕ, List, refl, sym, ◌∙◌}
+use Rattle.cdf_edits.proofs.Frame.Meaning.{Kept}
+use Rattle.cdf_edits.proofs.Space.UsedRecords.{apart}
+use Rattle.cdf_format.specs.Fields.{type_at}
+use Rattle.cdf_format.specs.Index.{room_at, used_count}
+use Rattle.cdf_format.specs.RecordTypes.{gdr_type, uir_type, vxr_type}
+use Rattle.cdf_format.specs.Shape.{shape}
+use Rattle.cdf_index.specs.Finding.{NodeInside}
+use Rattle.cdf_index.specs.declared.descending.Spot.{Spot}
+use Rattle.cdf_index.specs.declared.entries.Entry.{Entry}
+use Rattle.cdf_leaves.specs.Putting.{MayPut, NodeMade}
+use Rattle.cdf_leaves.proofs.Grew.{Grew, grew}
+use Rattle.cdf_leaves.proofs.Spares.{Spares, spares_kept, fits_still, node_inside}
+
+pub node_used : (b : List ℕ) (m : ℕ) → type_at b m ≡ vxr_type → type_at b m ≢ uir_type
+node_used b m t e = apart vxr_type uir_type refl (sym t ∙ e)
+
+pub node_no_gdr : (b : List ℕ) (m : ℕ) → type_at b m ≡ vxr_type → type_at b m ≢ gdr_type
+node_no_gdr b m t e = apart vxr_type gdr_type refl (sym t ∙ e)
+
+pub record StaysThere (now : List ℕ) (seen : Spot) : Type 0 where
+  pub inside : NodeInside now seen.place
+  pub room_is : seen.room ≡ room_at now seen.place
+  pub used_is : seen.used ≡ used_count now seen.place
+
+module _ (b : List ℕ) (seen : Spot) (may : MayPut b seen) where
+  pub inside_before : NodeInside b seen.place
+  inside_before = node_inside b (shape b).records seen.place may.sound.has_shape.tiled may.there may.fits
+
+  pub stays_there : (now : List ℕ) (room next at : ℕ) (entries : List Entry) → NodeMade b now room next entries at → StaysThere now seen
+  stays_there now room next at entries made =
+      let g : Grew b now = grew may.sound made.fills in
+      let k : Kept b now seen.place = g.kept seen.place may.there (node_used b seen.place may.typed) (node_no_gdr b seen.place may.typed) in
+      let s : Spares b now seen.place = spares_kept b now seen.place k may.fits in
+      record {
+        inside = node_inside now (shape now).records seen.place g.sound.has_shape.tiled (g.sub seen.place may.there) (fits_still b now seen.place s may.fits);
+        room_is = may.room_is ∙ sym s.room_is;
+        used_is = may.used_is ∙ sym s.used_is;
+      }

@@ -1,0 +1,180 @@
+-- The node at the end of the way.
+use Rattle.std.proofs.Common.{◌≡◌, ◌≢◌, ◌⊎◌, ℕ, zero, suc, ◌+◌, ◌<◌, ◌≤◌, max, List, [], ◌∷◌, true, false, leb, refl, sym, ap, subst, ◌∙◌, arith, inl, inr}
+use Rattle.std.proofs.lemmas.Bool.Decides.{nat_tests}
+use Rattle.cdf_edits.specs.Commands.Room.{widest, widest_below}
+use Rattle.cdf_edits.specs.Index.Grown.{reaches, chain_reaches, leads_down, past, room_of_new, new_room, new_room_below}
+use Rattle.cdf_format.specs.Chains.{is_linkable}
+use Rattle.cdf_format.specs.Index.{Nodes, no_node, node, Entries, no_entry, block, lower, nodes_of, lower_nodes, entry_count, room_at, first_at}
+use Rattle.cdf_format.specs.IndexOf.{SayEntries, SaysNode, HasNodes, Names}
+use Rattle.cdf_format.specs.RecordTypes.{vxr_type}
+use Rattle.cdf_format.specs.Tiles.{In, Distinct}
+use Rattle.cdf_format.proofs.Members.{either, In-append, In-append_left, In-append_right, Distinct-front, Distinct-back}
+use Rattle.cdf_index.specs.Ahead.{Begun}
+use Rattle.cdf_index.specs.Growing.{Begins}
+use Rattle.cdf_index.specs.Way.{way, way_below, spot, spot_below}
+use Rattle.cdf_index.proofs.WayDown.{spot_in}
+
+-- a node is at the end of the way, and the new one has so much room
+pub record SpotNode (b ts : List ℕ) (f at new : ℕ) : Type 0 where
+  pub room : ℕ
+  pub entries : Entries
+  pub more : Nodes
+  pub says : SaysNode b ts at room entries more
+  pub new_is : new ≡ room_of_new f room entries
+
+mutual
+  unfolding HasNodes Names spot spot_below new_room new_room_below
+
+  pub spot_node : (b ts : List ℕ) (levels f : ℕ) (nodes : Nodes) → HasNodes b ts levels nodes → (spot f nodes ≡ 0) ⊎ SpotNode b ts f (spot f nodes) (new_room f nodes)
+  spot_node b ts levels f no_node h = inl refl
+  spot_node b ts zero f (node place room es more) h = absurd h
+  spot_node b ts (suc levels) f (node place room es more) h = elim (either (chain_reaches f more)) [
+    | inl t ↦ rw t (spot_node b ts (suc levels) f more h.2)
+    | inr t ↦ elim (either (leads_down f false es)) [
+      | inl u ↦ rw (t, u) (spot_below_node b ts levels f es h.1)
+      | inr u ↦ rw (t, u) (inr (record { room = room; entries = es; more = more; says = h.0; new_is = refl }))
+    ]
+  ]
+
+  spot_below_node : (b ts : List ℕ) (levels f : ℕ) (es : Entries) → Names b ts levels es → (spot_below f es ≡ 0) ⊎ SpotNode b ts f (spot_below f es) (new_room_below f es)
+  spot_below_node b ts levels f no_entry n = inl refl
+  spot_below_node b ts levels f (block first last place packed es) n = spot_below_node b ts levels f es n.2
+  spot_below_node b ts levels f (lower first last nodes es) n = elim (either (reaches f es)) [
+    | inl t ↦ rw t (spot_below_node b ts levels f es n.2)
+    | inr t ↦ rw t (spot_node b ts levels f nodes n.1)
+  ]
+
+-- ---- the way does not lead through it
+
+abbrev pub NotAt : ℕ → List (ℕ × ℕ) → Type 0
+NotAt x [] = Unit {0}
+NotAt x (step ∷ more) = (step.0 ≢ x) × NotAt x more
+
+mutual
+  unfolding way way_below spot spot_below nodes_of lower_nodes
+
+  pub way_apart : (f : ℕ) (nodes : Nodes) → Distinct (nodes_of nodes) → (In 0 (nodes_of nodes) → ⊥) → NotAt (spot f nodes) (way f nodes)
+  way_apart f no_node d z = tt
+  way_apart f (node place room es more) d z = elim (either (chain_reaches f more)) [
+    | inl t ↦ rw t (way_apart f more (Distinct-back (lower_nodes es) (nodes_of more) d.1) (λ i. z (inr (In-append_right 0 (lower_nodes es) (nodes_of more) i))))
+    | inr t ↦ elim (either (leads_down f false es)) [
+      | inl u ↦ rw (t, u) (
+        (λ e. elim (below_in f es) [
+          | inl q ↦ z (inl (sym (e ∙ q)))
+          | inr i ↦ d.0 (In-append_left place (lower_nodes es) (nodes_of more) (subst (λ (x : ℕ). In x (lower_nodes es)) (sym e) i))
+        ]),
+        below_apart f es (Distinct-front (lower_nodes es) (nodes_of more) d.1) (λ i. z (inr (In-append_left 0 (lower_nodes es) (nodes_of more) i))),
+      )
+      | inr u ↦ rw (t, u) tt
+    ]
+  ]
+
+  below_apart : (f : ℕ) (es : Entries) → Distinct (lower_nodes es) → (In 0 (lower_nodes es) → ⊥) → NotAt (spot_below f es) (way_below f es)
+  below_apart f no_entry d z = tt
+  below_apart f (block first last place packed es) d z = below_apart f es d z
+  below_apart f (lower first last nodes es) d z = elim (either (reaches f es)) [
+    | inl t ↦ rw t (below_apart f es (Distinct-back (nodes_of nodes) (lower_nodes es) d) (λ i. z (In-append_right 0 (nodes_of nodes) (lower_nodes es) i)))
+    | inr t ↦ rw t (way_apart f nodes (Distinct-front (nodes_of nodes) (lower_nodes es) d) (λ i. z (In-append_left 0 (nodes_of nodes) (lower_nodes es) i)))
+  ]
+
+  below_in : (f : ℕ) (es : Entries) → (spot_below f es ≡ 0) ⊎ In (spot_below f es) (lower_nodes es)
+  below_in f no_entry = inl refl
+  below_in f (block first last place packed es) = below_in f es
+  below_in f (lower first last nodes es) = elim (either (reaches f es)) [
+    | inl t ↦ rw t (elim (below_in f es) [ inl q ↦ inl q | inr i ↦ inr (In-append_right (spot_below f es) (nodes_of nodes) (lower_nodes es) i) ])
+    | inr t ↦ rw t (elim (spot_in f nodes) [ inl q ↦ inl q | inr i ↦ inr (In-append_left (spot f nodes) (nodes_of nodes) (lower_nodes es) i) ])
+  ]
+
+-- ---- all nodes
+
+mutual
+  unfolding HasNodes Names nodes_of lower_nodes widest widest_below
+
+  pub nodes_linkable : (b ts : List ℕ) (levels m : ℕ) (nodes : Nodes) → HasNodes b ts levels nodes → In m (nodes_of nodes) → (is_linkable b ts vxr_type m ≡ true) × (room_at b m ≤ widest nodes)
+  nodes_linkable b ts levels m no_node h i = absurd i
+  nodes_linkable b ts zero m (node place room es more) h i = absurd h
+  nodes_linkable b ts (suc levels) m (node place room es more) h (inl e) =
+      (subst (λ (x : ℕ). is_linkable b ts vxr_type x ≡ true) (sym e) h.0.linkable, subst (λ (x : ℕ). room_at b x ≤ max room (max (widest_below es) (widest more))) (sym e) (subst (λ (r : ℕ). r ≤ max room (max (widest_below es) (widest more))) (sym h.0.room_is) (first room (widest_below es) (widest more))))
+    where
+      first : (a c d : ℕ) → a ≤ max a (max c d)
+      first a c d = grind arith
+  nodes_linkable b ts (suc levels) m (node place room es more) h (inr i) = elim (In-append m (lower_nodes es) (nodes_of more) i) [
+    | inl j ↦ let r = lower_linkable b ts levels m es h.1 j in (r.0, second room (widest_below es) (widest more) (room_at b m) r.1)
+    | inr j ↦ let r = nodes_linkable b ts (suc levels) m more h.2 j in (r.0, third room (widest_below es) (widest more) (room_at b m) r.1)
+  ]
+    where
+      second : (a c d n : ℕ) → n ≤ c → n ≤ max a (max c d)
+      second a c d n l = grind arith
+
+      third : (a c d n : ℕ) → n ≤ d → n ≤ max a (max c d)
+      third a c d n l = grind arith
+
+  lower_linkable : (b ts : List ℕ) (levels m : ℕ) (es : Entries) → Names b ts levels es → In m (lower_nodes es) → (is_linkable b ts vxr_type m ≡ true) × (room_at b m ≤ widest_below es)
+  lower_linkable b ts levels m no_entry n i = absurd i
+  lower_linkable b ts levels m (block first last place packed es) n i = lower_linkable b ts levels m es n.2 i
+  lower_linkable b ts levels m (lower first last nodes es) n i = elim (In-append m (nodes_of nodes) (lower_nodes es) i) [
+    | inl j ↦ let r = nodes_linkable b ts levels m nodes n.1 j in (r.0, left (widest nodes) (widest_below es) (room_at b m) r.1)
+    | inr j ↦ let r = lower_linkable b ts levels m es n.2 j in (r.0, right (widest nodes) (widest_below es) (room_at b m) r.1)
+  ]
+    where
+      left : (a c n : ℕ) → n ≤ a → n ≤ max a c
+      left a c n l = grind arith
+
+      right : (a c n : ℕ) → n ≤ c → n ≤ max a c
+      right a c n l = grind arith
+
+pub widest_least : (nodes : Nodes) → 7 ≤ widest nodes
+unfolding widest widest_below
+widest_least no_node = omega arith
+widest_least (node place room es more) = third room (widest_below es) (widest more) (widest_least more)
+  where
+    third : (a c d : ℕ) → 7 ≤ d → 7 ≤ max a (max c d)
+    third a c d l = grind arith
+
+-- ---- its entries that begin at a record or before it
+
+shift : (k j : ℕ) → k + suc j ≡ suc k + j
+shift k j = omega arith
+
+past_count : (b : List ℕ) (at f k p : ℕ) (es : Entries) → SayEntries b at k es → p ≤ entry_count es → ((j : ℕ) → j < p → first_at b at (k + j) ≤ f) → (p < entry_count es → f < first_at b at (k + p)) → p + entry_count (past f es) ≡ entry_count es
+past_count b at f k p no_entry s most before stop = omega arith
+past_count b at f k zero (block first last place packed es) s most before stop =
+    let z : k + 0 ≡ k = omega arith in
+    let g : f < first_at b at (k + 0) = stop (omega arith) in
+    let t : leb first f ≡ false = above first f (subst (λ (n : ℕ). f < n) (ap (first_at b at) z ∙ s.0.first_is) g) in
+    rw t (omega arith)
+  where
+    above : (m n : ℕ) → n < m → leb m n ≡ false
+    above m n h = grind (arith, nat_tests)
+past_count b at f k zero (lower first last nodes es) s most before stop =
+    let z : k + 0 ≡ k = omega arith in
+    let g : f < first_at b at (k + 0) = stop (omega arith) in
+    let t : leb first f ≡ false = above first f (subst (λ (n : ℕ). f < n) (ap (first_at b at) z ∙ s.0.first_is) g) in
+    rw t (omega arith)
+  where
+    above : (m n : ℕ) → n < m → leb m n ≡ false
+    above m n h = grind (arith, nat_tests)
+past_count b at f k (suc p) (block first last place packed es) s most before stop =
+    let z : k + 0 ≡ k = omega arith in
+    let g : first_at b at (k + 0) ≤ f = before 0 (omega arith) in
+    let t : leb first f ≡ true = within first f (subst (λ (n : ℕ). n ≤ f) (ap (first_at b at) z ∙ s.0.first_is) g) in
+    let r = past_count b at f (suc k) p es s.1 (omega arith) (λ j lt. subst (λ (n : ℕ). first_at b at n ≤ f) (shift k j) (before (suc j) (omega arith))) (λ lt. subst (λ (n : ℕ). f < first_at b at n) (shift k p) (stop (omega arith))) in
+    rw t (omega arith)
+  where
+    within : (m n : ℕ) → m ≤ n → leb m n ≡ true
+    within m n h = grind (arith, nat_tests)
+past_count b at f k (suc p) (lower first last nodes es) s most before stop =
+    let z : k + 0 ≡ k = omega arith in
+    let g : first_at b at (k + 0) ≤ f = before 0 (omega arith) in
+    let t : leb first f ≡ true = within first f (subst (λ (n : ℕ). n ≤ f) (ap (first_at b at) z ∙ s.0.first_is) g) in
+    let r = past_count b at f (suc k) p es s.1 (omega arith) (λ j lt. subst (λ (n : ℕ). first_at b at n ≤ f) (shift k j) (before (suc j) (omega arith))) (λ lt. subst (λ (n : ℕ). f < first_at b at n) (shift k p) (stop (omega arith))) in
+    rw t (omega arith)
+  where
+    within : (m n : ℕ) → m ≤ n → leb m n ≡ true
+    within m n h = grind (arith, nat_tests)
+
+pub begins_by : (b : List ℕ) (at f p : ℕ) → Begun b at f p → Begins b at f p
+begins_by b at f p g es u s = past_count b at f 0 p es s (subst (λ (n : ℕ). p ≤ n) u g.most) (λ j lt. subst (λ (n : ℕ). first_at b at n ≤ f) (from_zero j) (g.before j lt)) (λ lt. subst (λ (n : ℕ). f < first_at b at n) (from_zero p) (g.stop (subst (λ (n : ℕ). p < n) (sym u) lt)))
+  where
+    from_zero : (j : ℕ) → j ≡ 0 + j
+    from_zero j = omega arith

@@ -1,0 +1,135 @@
+-- The top chain of an index that gets a leaf, and its end in the bytes.
+use Rattle.std.proofs.Common.{◌≡◌, ◌≢◌, ◌⊎◌, ℕ, zero, suc, ◌+◌, ◌≤◌, max, List, [], ◌∷◌, length, false, ltb, eqb, refl, sym, ap, subst, ◌∙◌, arith, inl, inr, None, Some}
+use Rattle.std.specs.List.{last_or}
+use Rattle.std.specs.Option.{unwrap_or}
+use Rattle.cdf_edits.specs.Index.Grown.{chain_reaches, leads_down, past, with_entry, with_leaf, room_of_new, new_room}
+use Rattle.cdf_edits.specs.Index.Written.{top_chain, last_node}
+use Rattle.cdf_format.specs.Chains.{next_of}
+use Rattle.cdf_format.specs.Fields.{size_at}
+use Rattle.cdf_format.specs.Index.{Nodes, no_node, node, Entries, Leaf, entry_count, link_to, nodes_of, lower_nodes}
+use Rattle.cdf_format.specs.IndexOf.{IsNode, HasNodes}
+use Rattle.cdf_format.specs.RecordTypes.{vxr_type}
+use Rattle.cdf_format.specs.Tiles.{AreTiles, In, Distinct}
+use Rattle.cdf_format.proofs.ChainsLemmas.{linkable-in, linkable-long, some_place}
+use Rattle.cdf_format.proofs.Members.{either, In-append_right, length-le_from_distinct, Distinct-back}
+use Rattle.cdf_format.proofs.TilesLemmas.{tile_lies, length_tiles}
+use Rattle.cdf_index.specs.Way.{way}
+use Rattle.cdf_leaves.specs.Tail.{chain_end, ChainInside}
+use Rattle.cdf_leaves.proofs.Chain.{test_zero, test_some}
+
+-- ---- in the tree
+
+entry_top : (l : Leaf) (at place room : ℕ) (es : Entries) (more : Nodes) → (room_of_new l.first room es ≡ 0 → top_chain (with_entry l at place room es more) ≡ place ∷ top_chain more) × (room_of_new l.first room es ≢ 0 → length (top_chain (with_entry l at place room es more)) ≡ suc (suc (length (top_chain more))))
+entry_top l at place room es more = elim (either (ltb (entry_count es) room)) [
+  | inl t ↦ rw t ((λ e. refl), (λ ne. absurd (ne refl)))
+  | inr t ↦
+      let big : 7 ≤ max 7 (entry_count (past l.first es)) = grind arith in
+      elim (either (eqb (entry_count (past l.first es)) 0)) [
+        | inl u ↦ rw (t, u) ((λ e. absurd (never (max 7 (entry_count (past l.first es))) big e)), (λ ne. refl))
+        | inr u ↦ rw (t, u) ((λ e. absurd (never (max 7 (entry_count (past l.first es))) big e)), (λ ne. refl))
+      ]
+]
+  where
+    never : (n : ℕ) → 7 ≤ n → n ≡ 0 → ⊥
+    never n l e = omega arith
+
+pub top_stays : (l : Leaf) (at : ℕ) (nodes : Nodes) → (new_room l.first nodes ≡ 0) ⊎ (way l.first nodes ≢ []) → top_chain (with_leaf l at nodes) ≡ top_chain nodes
+unfolding with_leaf new_room way
+top_stays l at no_node (inl e) = absurd (seven e)
+  where
+    seven : ◌≡◌ {A = ℕ} 7 0 → ⊥
+    seven e = omega arith
+top_stays l at no_node (inr ne) = absurd (ne refl)
+top_stays l at (node place room es more) h = elim (either (chain_reaches l.first more)) [
+  | inl t ↦ rw t (ap (λ (xs : List ℕ). place ∷ xs) (top_stays l at more (rw t at h)))
+  | inr t ↦ elim (either (leads_down l.first false es)) [
+    | inl u ↦ rw (t, u) refl
+    | inr u ↦ rw (t, u) (here (rw (t, u) at h))
+  ]
+]
+  where
+    here : (room_of_new l.first room es ≡ 0) ⊎ (◌≢◌ {A = List (ℕ × ℕ)} [] []) → top_chain (with_entry l at place room es more) ≡ place ∷ top_chain more
+    here (inl e) = (entry_top l at place room es more).0 e
+    here (inr ne) = absurd (ne refl)
+
+pub top_grows : (l : Leaf) (at : ℕ) (nodes : Nodes) → way l.first nodes ≡ [] → new_room l.first nodes ≢ 0 → length (top_chain (with_leaf l at nodes)) ≡ suc (length (top_chain nodes))
+unfolding with_leaf new_room way
+top_grows l at no_node w n = refl
+top_grows l at (node place room es more) w n = elim (either (chain_reaches l.first more)) [
+  | inl t ↦ rw t (ap suc (top_grows l at more (rw t at w) (rw t at n)))
+  | inr t ↦ elim (either (leads_down l.first false es)) [
+    | inl u ↦ absurd (some (place, _) _ (rw (t, u) at w))
+    | inr u ↦ rw (t, u) ((entry_top l at place room es more).1 (rw (t, u) at n))
+  ]
+]
+  where
+    some : (s : ℕ × ℕ) (more : List (ℕ × ℕ)) → s ∷ more ≡ [] → ⊥
+    some s more e = cc
+
+-- ---- in the bytes
+
+chain_in : (nodes : Nodes) (m : ℕ) → In m (top_chain nodes) → In m (nodes_of nodes)
+unfolding nodes_of lower_nodes
+chain_in no_node m i = i
+chain_in (node place room es more) m (inl e) = inl e
+chain_in (node place room es more) m (inr i) = inr (In-append_right m (lower_nodes es) (nodes_of more) (chain_in more m i))
+
+chain_once : (nodes : Nodes) → Distinct (nodes_of nodes) → Distinct (top_chain nodes)
+unfolding nodes_of lower_nodes
+chain_once no_node d = tt
+chain_once (node place room es more) d = ((λ i. d.0 (In-append_right place (lower_nodes es) (nodes_of more) (chain_in more place i))), chain_once more (Distinct-back (lower_nodes es) (nodes_of more) d.1))
+
+last_more : (p : ℕ) (xs : List ℕ) → unwrap_or (last_or None (p ∷ xs)) 0 ≡ unwrap_or (last_or (Some p) xs) 0
+last_more p xs = refl
+
+abbrev last_from : ℕ → Nodes → ℕ
+last_from p nodes = unwrap_or (last_or (Some p) (top_chain nodes)) 0
+
+module _ (b ts : List ℕ) (tiled : AreTiles b 8 (length b) ts) where
+  pub chain_inside : (most levels : ℕ) (nodes : Nodes) → HasNodes b ts levels nodes → IsNode nodes → ChainInside most b (link_to nodes)
+  unfolding HasNodes
+  chain_inside zero levels nodes h is = tt
+  chain_inside (suc most) levels no_node h is = absurd is
+  chain_inside (suc most) zero (node place room es more) h is = absurd h
+  chain_inside (suc most) (suc levels) (node place room es more) h is =
+      let l = tile_lies b 8 (length b) ts place tiled (linkable-in b ts vxr_type place h.0.linkable) in
+      let long = linkable-long b ts vxr_type place h.0.linkable in
+      (reach (size_at b place) l.high long, λ n. subst (λ (x : ℕ). ChainInside most b x) (sym h.0.next_is) (chain_inside most (suc levels) more h.2 (behind more (λ e. n (h.0.next_is ∙ e)))))
+    where
+      reach : (s : ℕ) → place + s ≤ length b → 28 ≤ s → place + 20 ≤ length b
+      reach s p q = omega arith
+
+      behind : (more : Nodes) → link_to more ≢ 0 → IsNode more
+      behind no_node n = n refl
+      behind (node place room es more) n = tt
+
+  end_from : (most levels p : ℕ) (nodes : Nodes) → HasNodes b ts levels nodes → length (top_chain nodes) ≤ most → next_of b p ≡ link_to nodes → chain_end (suc most) b p ≡ last_from p nodes
+  unfolding HasNodes
+  end_from most levels p no_node h le e = let t = test_zero (next_of b p) e in rw t refl
+  end_from most zero p (node place room es more) h le e = absurd h
+  end_from zero (suc levels) p (node place room es more) h le e = absurd (omega arith)
+  end_from (suc most) (suc levels) p (node place room es more) h le e =
+      let some : place ≢ 0 = some_place b ts (length b) place tiled (linkable-in b ts vxr_type place h.0.linkable) in
+      let t = test_some (next_of b p) (λ z. some (sym e ∙ z)) in
+      rw t (ap (chain_end (suc most) b) e ∙ end_from most (suc levels) place more h.2 (omega arith) h.0.next_is)
+
+  pub end_is_last : (levels : ℕ) (nodes : Nodes) → HasNodes b ts levels nodes → IsNode nodes → Distinct (nodes_of nodes) → ((m : ℕ) → In m (nodes_of nodes) → In m ts) → chain_end (length b) b (link_to nodes) ≡ last_node nodes
+  unfolding HasNodes
+  end_is_last levels no_node h is once stand = absurd is
+  end_is_last zero (node place room es more) h is once stand = absurd h
+  end_is_last (suc levels) (node place room es more) h is once stand =
+      let few = length-le_from_distinct (top_chain (node place room es more)) ts (chain_once (node place room es more) once) (λ m i. stand m (chain_in (node place room es more) m i)) in
+      let all = length_tiles b 8 (length b) ts tiled in
+      go (length b) (omega arith)
+    where
+      go : (n : ℕ) → suc (length (top_chain more)) ≤ n → chain_end n b place ≡ last_from place more
+      go zero le = absurd (omega arith)
+      go (suc n) le = end_from n (suc levels) place more h.2 (omega arith) h.0.next_is
+
+last_one : (p : ℕ) (xs : List ℕ) → In (unwrap_or (last_or (Some p) xs) 0) (p ∷ xs)
+last_one p [] = inl refl
+last_one p (x ∷ xs) = inr (last_one x xs)
+
+pub last_in : (nodes : Nodes) → IsNode nodes → In (last_node nodes) (nodes_of nodes)
+last_in no_node is = absurd is
+last_in (node place room es more) is = chain_in (node place room es more) (last_node (node place room es more)) (last_one place (top_chain more))

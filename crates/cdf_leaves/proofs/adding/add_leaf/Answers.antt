@@ -1,0 +1,78 @@
+use Rattle.std.proofs.Common.{◌≡◌, ◌+◌, ◌≤◌, ◌∙◌, ℕ, List, length, refl, sym, ap, subst, arith}
+use Rattle.cdf_area.specs.Frame.{Frame}
+use Rattle.cdf_area.proofs.Calls.{edit_more, keeps_by_read, read_once}
+use Rattle.cdf_edits.specs.Space.Placing.{Placed}
+use Rattle.cdf_format.specs.WellFormed.{Good}
+use Rattle.cdf_format.proofs.GoodSound.{good_is_sound, good_eof}
+use Rattle.std.specs.Result.{OnOk}
+use Rattle.cdf_model.specs.declared.kinds.Kind.{Kind}
+use Rattle.cdf_model.specs.Limits.{image_limit}
+use Rattle.cdf_edits.specs.Commands.Room.{vxr_bytes}
+use Rattle.cdf_edits.proofs.Edits.VdrEdited.{StandsAmong}
+use Rattle.cdf_format.specs.Fields.{number}
+use Rattle.cdf_format.specs.Records.{vdr_vxr_head}
+use Rattle.cdf_format.specs.Shape.{VariableShape}
+use Rattle.cdf_index.specs.Adding.{AddsLeaf}
+use Rattle.cdf_leaves.specs.Added.{entry}
+use Rattle.cdf_leaves.specs.Putting.{IndexStarted}
+use Rattle.cdf_leaves.proofs.AddCalls.{among_kind, late, seven_fit, started, started_long, through, vdr_late, vdr_there}
+use Rattle.cdf_leaves.proofs.LastCall.{edit_last, ok_map}
+use Rattle.cdf_leaves.proofs.adding.add_leaf.Goals as goal
+
+pub read_unsigned8-requires : goal.read_unsigned8-requires
+read_unsigned8-requires g c = let v = vdr_there c.requires.good (among_kind (g.A.Area.image c.args.area.now) c.args.vdr c.requires.vdr) in omega arith
+
+pub overflow_add-vdr : goal.overflow_add-vdr
+overflow_add-vdr g c = let v = vdr_there c.requires.good (among_kind (g.A.Area.image c.args.area.now) c.args.vdr c.requires.vdr) in omega (arith, v, c.requires.room, c.requires.limit)
+
+pub grow_index-requires-clause-good : goal.grow_index-requires-clause-good
+grow_index-requires-clause-good g c = subst Good (sym c.in_ok-head.ensures.area.image) c.requires.good
+
+pub place_record-requires-clause-sound : goal.place_record-requires-clause-sound
+place_record-requires-clause-sound g c = good_is_sound (g.A.Area.image c.read_unsigned8.new.area) (subst Good (sym c.in_ok-head.ensures.area.image) c.requires.good)
+
+pub place_record-requires-clause-eof : goal.place_record-requires-clause-eof
+place_record-requires-clause-eof g c = good_eof (g.A.Area.image c.read_unsigned8.new.area) (subst Good (sym c.in_ok-head.ensures.area.image) c.requires.good)
+
+pub returns-then-head-ne0-clause-added : goal.returns-then-head-ne0-clause-added
+returns-then-head-ne0-clause-added g c =
+    subst (λ (x : List ℕ). OnOk c.grow_index.result ((kind : Kind) (before : List VariableShape) (own : VariableShape) (after : List VariableShape) → StandsAmong x kind before own after → own.vdr ≡ c.args.vdr → AddsLeaf x (g.A.Area.image c.grow_index.new.area) own c.args.first c.args.last c.args.body.now))
+    c.in_ok-head.ensures.area.image c.grow_index.ensures.added
+
+pub start_index-requires-clause-eof : goal.start_index-requires-clause-eof
+start_index-requires-clause-eof g c =
+    let b = g.A.Area.image c.args.area.now in
+    let placed = subst (λ (x : List ℕ). Placed x (g.A.Area.image c.place_record.new.area) c.args.body.now c.in_ok-place.place) c.in_ok-head.ensures.area.image c.in_ok-place.ensures.placed in
+    let own = among_kind b c.args.vdr c.requires.vdr in
+    (late c.requires.good own placed).ends
+
+pub start_index-requires-clause-lies : goal.start_index-requires-clause-lies
+start_index-requires-clause-lies g c =
+    let b = g.A.Area.image c.args.area.now in
+    let placed = subst (λ (x : List ℕ). Placed x (g.A.Area.image c.place_record.new.area) c.args.body.now c.in_ok-place.place) c.in_ok-head.ensures.area.image c.in_ok-place.ensures.placed in
+    let own = among_kind b c.args.vdr c.requires.vdr in
+    vdr_late c.requires.good own placed
+
+pub start_index-requires-clause-room : goal.start_index-requires-clause-room
+start_index-requires-clause-room g c =
+    let b = g.A.Area.image c.args.area.now in
+    let placed = subst (λ (x : List ℕ). Placed x (g.A.Area.image c.place_record.new.area) c.args.body.now c.in_ok-place.place) c.in_ok-head.ensures.area.image c.in_ok-place.ensures.placed in
+    let own = among_kind b c.args.vdr c.requires.vdr in
+    seven_fit c.requires.good own placed refl (g.A.Area.frame c.args.area.now).limit _ c.requires.room (ap (λ (f : Frame _). f.limit) (c.in_ok-place.ensures.area.frame ∙ c.in_ok-head.ensures.area.frame))
+
+pub returns-clause-added : goal.returns-clause-added
+returns-clause-added g c =
+    let b = g.A.Area.image c.args.area.now in
+    let placed = subst (λ (x : List ℕ). Placed x (g.A.Area.image c.place_record.new.area) c.args.body.now c.in_ok-place.place) c.in_ok-head.ensures.area.image c.in_ok-place.ensures.placed in
+    let own = among_kind b c.args.vdr c.requires.vdr in
+    let lies = vdr_late c.requires.good own placed in
+    let fits : length (g.A.Area.image c.place_record.new.area) + vxr_bytes 7 ≤ (g.A.Area.frame c.args.area.now).limit = seven_fit c.requires.good own placed refl (g.A.Area.frame c.args.area.now).limit (g.A.Area.frame c.args.area.now).limit c.requires.room refl in
+    let zero : c.in_ok-head.head ≡ 0 = c.if-head-ne0.false in
+    ok_map c.start_index.result (λ st kind before own' after stood is.
+    (let none : number b own'.vdr vdr_vxr_head ≡ 0 = ap (λ (v : ℕ). number b v vdr_vxr_head) is ∙ sym c.in_ok-head.ensures.value ∙ zero in
+    let short : length (g.A.Area.image c.start_index.new.area) ≤ image_limit =
+    through (length (g.A.Area.image c.start_index.new.area)) (length (g.A.Area.image c.place_record.new.area) + vxr_bytes 7) image_limit (started_long lies st) (through (length (g.A.Area.image c.place_record.new.area) + vxr_bytes 7) (g.A.Area.frame c.args.area.now).limit image_limit fits c.requires.limit) in
+    started c.requires.good stood placed none c.requires.block short (subst (λ (v : ℕ). IndexStarted (g.A.Area.image c.place_record.new.area) (g.A.Area.image c.start_index.new.area) v (entry c.args.first c.args.last c.in_ok-place.place)) (sym is) st))) c.start_index.ensures.started
+
+pub returns-clause-area : goal.returns-clause-area
+returns-clause-area g c = edit_last (edit_more (keeps_by_read (read_once c.in_ok-head.ensures.area)) c.in_ok-place.ensures.area) c.start_index.ensures.area

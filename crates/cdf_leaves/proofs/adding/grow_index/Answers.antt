@@ -1,0 +1,139 @@
+use Rattle.std.proofs.Common.{rules, ◌≡◌, ◌+◌, ◌≤◌, ◌∙◌, ℕ, List, [], length, map, max, sym, ap, subst, inl, inr}
+use Rattle.std.proofs.lemmas.Bool.{eqb-true}
+use Rattle.std.specs.Vec.{vec_len}
+use Rattle.cdf_area.specs.Frame.{Frame}
+use Rattle.cdf_area.proofs.Calls.{edit_done, edit_failed, edit_more, keeps_by_read, read_once}
+use Rattle.cdf_edits.specs.Commands.Room.{widest}
+use Rattle.cdf_edits.specs.Space.Placing.{Placed}
+use Rattle.cdf_model.specs.Limits.{image_limit}
+use Rattle.cdf_format.specs.WellFormed.{Good}
+use Rattle.cdf_format.proofs.GoodSound.{good_is_sound, good_eof}
+use Rattle.cdf_index.specs.Finding.{index_at}
+use Rattle.cdf_format.specs.Fields.{number, with_field}
+use Rattle.cdf_format.specs.Records.{vdr_vxr_head, vdr_vxr_tail}
+use Rattle.cdf_index.specs.Descent.{step_pair}
+use Rattle.cdf_index.specs.declared.descending.Step.{Step}
+use Rattle.cdf_leaves.specs.Tail.{chain_end}
+use Rattle.cdf_leaves.specs.Widening.{WayStands, WidenedAlong}
+use Rattle.cdf_leaves.proofs.AddCalls.{among_kind, fits_room, grown_short, grown_stays, grown_tail, index_there, may_put, tail_chain, tail_lies, wide_enough, wide_long, way_stands}
+use Rattle.cdf_leaves.proofs.LastCall.{edit_last, no_items, ok_map}
+use Rattle.cdf_leaves.proofs.adding.grow_index.Goals.{then-at-eq0-via-then-at-eq0, then-at-eq0-via-else-at-eq0+then-not-is_empty}
+use Rattle.cdf_leaves.proofs.adding.grow_index.Goals as goal
+
+pub find_way-requires-clause-index : goal.find_way-requires-clause-index
+find_way-requires-clause-index g c = let b = g.A.Area.image c.args.area.now in index_there c.requires.good (among_kind b c.args.vdr c.requires.vdr) c.requires.head
+
+pub place_record-requires-clause-sound : goal.place_record-requires-clause-sound
+place_record-requires-clause-sound g c = good_is_sound (g.A.Area.image c.find_way.new.area) (subst Good (sym c.in_ok-way.ensures.area.image) c.requires.good)
+
+pub place_record-requires-clause-eof : goal.place_record-requires-clause-eof
+place_record-requires-clause-eof g c = good_eof (g.A.Area.image c.find_way.new.area) (subst Good (sym c.in_ok-way.ensures.area.image) c.requires.good)
+
+pub put_entry-requires-clause-end : goal.put_entry-requires-clause-end
+put_entry-requires-clause-end g c =
+    let b = g.A.Area.image c.args.area.now in
+    let placed = subst (λ (x : List ℕ). Placed x (g.A.Area.image c.place_record.new.area) c.args.body.now c.in_ok-place.place) c.in_ok-way.ensures.area.image c.in_ok-place.ensures.placed in
+    may_put c.requires.good (among_kind b c.args.vdr c.requires.vdr) placed c.requires.head c.in_ok-way.ensures.way
+
+pub put_entry-requires-clause-room : goal.put_entry-requires-clause-room
+put_entry-requires-clause-room g c =
+    let b = g.A.Area.image c.args.area.now in
+    let placed = subst (λ (x : List ℕ). Placed x (g.A.Area.image c.place_record.new.area) c.args.body.now c.in_ok-place.place) c.in_ok-way.ensures.area.image c.in_ok-place.ensures.placed in
+    fits_room (length (g.A.Area.image c.place_record.new.area)) (length b) (8 + length c.args.body.now) (widest (index_at b c.args.head)) (max 7 c.in_ok-way.way.end.room) (g.A.Area.frame c.args.area.now).limit _ placed.longest
+    (wide_enough c.requires.good (among_kind b c.args.vdr c.requires.vdr) placed c.requires.head c.in_ok-way.ensures.way) c.requires.room
+    (ap (λ (f : Frame _). f.limit) (c.in_ok-place.ensures.area.frame ∙ c.in_ok-way.ensures.area.frame))
+
+pub returns-in_err-at-clause-area : goal.returns-in_err-at-clause-area
+returns-in_err-at-clause-area g c = edit_failed (edit_more (keeps_by_read (read_once c.in_ok-way.ensures.area)) c.in_ok-place.ensures.area) c.in_err-at.ensures.area c.from_residual-in_err-at.ensures.1
+
+pub returns-in_err-widen_way-clause-area : goal.returns-in_err-widen_way-clause-area
+returns-in_err-widen_way-clause-area g c = edit_failed (edit_more (edit_more (keeps_by_read (read_once c.in_ok-way.ensures.area)) c.in_ok-place.ensures.area) c.in_ok-at.ensures.area) c.in_err-widen_way.ensures.area c.from_residual-in_err-widen_way.ensures.1
+
+pub returns-then-at-eq0-clause-area : goal.returns-then-at-eq0-clause-area
+returns-then-at-eq0-clause-area g c = edit_done (edit_more (edit_more (edit_more (keeps_by_read (read_once c.in_ok-way.ensures.area)) c.in_ok-place.ensures.area) c.in_ok-at.ensures.area) c.in_ok-widen_way.ensures.area)
+
+pub widen_way-requires-clause-stands : goal.widen_way-requires-clause-stands
+widen_way-requires-clause-stands g c =
+    let b = g.A.Area.image c.args.area.now in
+    let placed = subst (λ (x : List ℕ). Placed x (g.A.Area.image c.place_record.new.area) c.args.body.now c.in_ok-place.place) c.in_ok-way.ensures.area.image c.in_ok-place.ensures.placed in
+    let own = among_kind b c.args.vdr c.requires.vdr in
+    let way = c.in_ok-way.ensures.way in
+    let short : length (g.A.Area.image c.put_entry.new.area) ≤ image_limit =
+    grown_short c.requires.good own placed c.requires.head way c.in_ok-at.ensures.put (g.A.Area.frame c.args.area.now).limit c.requires.room c.requires.limit in
+    subst (λ (s : List Step). WayStands (g.A.Area.image c.put_entry.new.area) s) (sym c.deref.ensures.value) (way_stands c.requires.good own placed c.requires.head way c.requires.there c.requires.block short c.in_ok-at.ensures.put)
+
+pub widen_way-requires-clause-short : goal.widen_way-requires-clause-short
+widen_way-requires-clause-short g c =
+    let b = g.A.Area.image c.args.area.now in
+    let placed = subst (λ (x : List ℕ). Placed x (g.A.Area.image c.place_record.new.area) c.args.body.now c.in_ok-place.place) c.in_ok-way.ensures.area.image c.in_ok-place.ensures.placed in
+    let own = among_kind b c.args.vdr c.requires.vdr in
+    let way = c.in_ok-way.ensures.way in
+    let short : length (g.A.Area.image c.put_entry.new.area) ≤ image_limit =
+    grown_short c.requires.good own placed c.requires.head way c.in_ok-at.ensures.put (g.A.Area.frame c.args.area.now).limit c.requires.room c.requires.limit in
+    short
+
+pub returns-then-at-eq0-clause-added : goal.returns-then-at-eq0-clause-added
+returns-then-at-eq0-clause-added g c = λ kind before own' after stood is.
+    (let b = g.A.Area.image c.args.area.now in
+    let placed = subst (λ (x : List ℕ). Placed x (g.A.Area.image c.place_record.new.area) c.args.body.now c.in_ok-place.place) c.in_ok-way.ensures.area.image c.in_ok-place.ensures.placed in
+    let own = among_kind b c.args.vdr c.requires.vdr in
+    let way = c.in_ok-way.ensures.way in
+    let short : length (g.A.Area.image c.put_entry.new.area) ≤ image_limit =
+    grown_short c.requires.good own placed c.requires.head way c.in_ok-at.ensures.put (g.A.Area.frame c.args.area.now).limit c.requires.room c.requires.limit in
+    let widened = subst (λ (s : List Step). WidenedAlong (g.A.Area.image c.put_entry.new.area) (g.A.Area.image c.widen_way.new.area) c.args.last (map step_pair s)) c.deref.ensures.value c.in_ok-widen_way.ensures.widened in
+    let head = c.requires.head ∙ ap (λ (v : ℕ). number b v vdr_vxr_head) (sym is) in
+    grown_stays c.requires.good stood placed head way c.requires.there c.requires.block short c.in_ok-at.ensures.put (g.A.Area.image c.widen_way.new.area) widened (elim c.then-at-eq0.branch [
+      | then-at-eq0-via-then-at-eq0 w ↦ inl w.if-at-eq0.true
+      | then-at-eq0-via-else-at-eq0+then-not-is_empty w ↦ inr (λ z. (let l = ap (λ (s : List Step). length s) z in absurd (search (rules, l, w.is_empty.ensures, w.if-not-is_empty.true))))
+    ]))
+
+pub set_tail-requires-clause-chain : goal.set_tail-requires-clause-chain
+set_tail-requires-clause-chain g c =
+    let b = g.A.Area.image c.args.area.now in
+    let placed = subst (λ (x : List ℕ). Placed x (g.A.Area.image c.place_record.new.area) c.args.body.now c.in_ok-place.place) c.in_ok-way.ensures.area.image c.in_ok-place.ensures.placed in
+    let own = among_kind b c.args.vdr c.requires.vdr in
+    let way = c.in_ok-way.ensures.way in
+    let short : length (g.A.Area.image c.put_entry.new.area) ≤ image_limit =
+    grown_short c.requires.good own placed c.requires.head way c.in_ok-at.ensures.put (g.A.Area.frame c.args.area.now).limit c.requires.room c.requires.limit in
+    let widened = subst (λ (s : List Step). WidenedAlong (g.A.Area.image c.put_entry.new.area) (g.A.Area.image c.widen_way.new.area) c.args.last (map step_pair s)) c.deref.ensures.value c.in_ok-widen_way.ensures.widened in
+    tail_chain c.requires.good own placed c.requires.head way c.requires.there c.requires.block short c.in_ok-at.ensures.put (g.A.Area.image c.widen_way.new.area) widened
+
+pub set_tail-requires-clause-lies : goal.set_tail-requires-clause-lies
+set_tail-requires-clause-lies g c =
+    let b = g.A.Area.image c.args.area.now in
+    let placed = subst (λ (x : List ℕ). Placed x (g.A.Area.image c.place_record.new.area) c.args.body.now c.in_ok-place.place) c.in_ok-way.ensures.area.image c.in_ok-place.ensures.placed in
+    let own = among_kind b c.args.vdr c.requires.vdr in
+    let way = c.in_ok-way.ensures.way in
+    let short : length (g.A.Area.image c.put_entry.new.area) ≤ image_limit =
+    grown_short c.requires.good own placed c.requires.head way c.in_ok-at.ensures.put (g.A.Area.frame c.args.area.now).limit c.requires.room c.requires.limit in
+    let widened = subst (λ (s : List Step). WidenedAlong (g.A.Area.image c.put_entry.new.area) (g.A.Area.image c.widen_way.new.area) c.args.last (map step_pair s)) c.deref.ensures.value c.in_ok-widen_way.ensures.widened in
+    tail_lies c.requires.good own placed c.requires.head way c.requires.there c.requires.block short c.in_ok-at.ensures.put (g.A.Area.image c.widen_way.new.area) widened
+
+pub set_tail-requires-clause-short : goal.set_tail-requires-clause-short
+set_tail-requires-clause-short g c =
+    let b = g.A.Area.image c.args.area.now in
+    let placed = subst (λ (x : List ℕ). Placed x (g.A.Area.image c.place_record.new.area) c.args.body.now c.in_ok-place.place) c.in_ok-way.ensures.area.image c.in_ok-place.ensures.placed in
+    let own = among_kind b c.args.vdr c.requires.vdr in
+    let way = c.in_ok-way.ensures.way in
+    let short : length (g.A.Area.image c.put_entry.new.area) ≤ image_limit =
+    grown_short c.requires.good own placed c.requires.head way c.in_ok-at.ensures.put (g.A.Area.frame c.args.area.now).limit c.requires.room c.requires.limit in
+    let widened = subst (λ (s : List Step). WidenedAlong (g.A.Area.image c.put_entry.new.area) (g.A.Area.image c.widen_way.new.area) c.args.last (map step_pair s)) c.deref.ensures.value c.in_ok-widen_way.ensures.widened in
+    subst (λ (n : ℕ). n ≤ image_limit) (sym (wide_long c.requires.good own placed c.requires.head way c.requires.there c.requires.block short c.in_ok-at.ensures.put (g.A.Area.image c.widen_way.new.area) widened)) short
+
+pub returns-clause-added : goal.returns-clause-added
+returns-clause-added g c =
+    let b = g.A.Area.image c.args.area.now in
+    let placed = subst (λ (x : List ℕ). Placed x (g.A.Area.image c.place_record.new.area) c.args.body.now c.in_ok-place.place) c.in_ok-way.ensures.area.image c.in_ok-place.ensures.placed in
+    let own = among_kind b c.args.vdr c.requires.vdr in
+    let way = c.in_ok-way.ensures.way in
+    let short : length (g.A.Area.image c.put_entry.new.area) ≤ image_limit =
+    grown_short c.requires.good own placed c.requires.head way c.in_ok-at.ensures.put (g.A.Area.frame c.args.area.now).limit c.requires.room c.requires.limit in
+    let widened = subst (λ (s : List Step). WidenedAlong (g.A.Area.image c.put_entry.new.area) (g.A.Area.image c.widen_way.new.area) c.args.last (map step_pair s)) c.deref.ensures.value c.in_ok-widen_way.ensures.widened in
+    let none : c.in_ok-way.way.steps.items ≡ [] = no_items c.in_ok-way.way.steps.items (ap (λ (s : List Step). length s) (sym c.deref.ensures.value) ∙ c.deref.ensures.len ∙ eqb-true (vec_len c.in_ok-way.way.steps) 0 (sym c.is_empty.ensures ∙ c.if-not-is_empty.false)) in
+    ok_map c.set_tail.result (λ set kind before own' after stood is.
+    (let head = c.requires.head ∙ ap (λ (v : ℕ). number b v vdr_vxr_head) (sym is) in
+    grown_tail c.requires.good stood placed head way c.requires.there c.requires.block short c.in_ok-at.ensures.put (g.A.Area.image c.widen_way.new.area) widened c.if-at-eq0.false none
+    (set ∙ ap (λ (v : ℕ). with_field (g.A.Area.image c.widen_way.new.area) v vdr_vxr_tail (chain_end (length (g.A.Area.image c.widen_way.new.area)) (g.A.Area.image c.widen_way.new.area) c.args.head)) (sym is)))) c.set_tail.ensures.set
+
+pub returns-clause-area : goal.returns-clause-area
+returns-clause-area g c = edit_last (edit_more (edit_more (edit_more (keeps_by_read (read_once c.in_ok-way.ensures.area)) c.in_ok-place.ensures.area) c.in_ok-at.ensures.area) c.in_ok-widen_way.ensures.area) c.set_tail.ensures.area

@@ -1,0 +1,4 @@
+pub mod Putting
+pub mod Widening
+pub mod Tail
+pub mod Added
