@@ -1,0 +1,61 @@
+-- The last step of a put: MaxRec is raised, or nothing is done. Blocks and nodes stay, and so does VXRtail.
+use Rattle.std.proofs.Common.{◌≡◌, ℕ, ◌+◌, ◌<◌, List, length, refl, sym, ap, subst, ◌∙◌, arith, inl, inr}
+use Rattle.cdf_model.specs.declared.kinds.Kind.{Kind}
+use Rattle.cdf_model.specs.DataSet.{extent}
+use Rattle.cdf_model.specs.RecordSteps.{last_number, greater}
+use Rattle.cdf_edits.specs.Commands.Puts.{max_rec_touches}
+use Rattle.cdf_edits.specs.Frame.Changed.{Changed}
+use Rattle.cdf_edits.specs.Space.Acts.{Act}
+use Rattle.cdf_edits.proofs.Edits.RecordFrame.{index_records}
+use Rattle.cdf_edits.proofs.Edits.VdrEdited.{sound, behind_in}
+use Rattle.cdf_edits.proofs.Frame.Meaning.{Kept}
+use Rattle.cdf_format.specs.Fields.{number, with_sign}
+use Rattle.cdf_format.specs.Records.{vdr_vxr_tail}
+use Rattle.cdf_format.specs.Shape.{VariableShape, shape}
+use Rattle.cdf_format.specs.Tiles.{In}
+use Rattle.cdf_format.specs.VariableFields.{max_rec_at}
+use Rattle.cdf_format.proofs.TilesLemmas.{tile_lies}
+use Rattle.cdf_puts.specs.SoFar.{SoFar, MaxRecDone}
+use Rattle.cdf_puts.proofs.PutMeaning.{max_rec_raised_to, max_rec_kept_at}
+use Rattle.cdf_puts.proofs.RaisedGoes.{max_rec_raised, raised_behind, raised_tail}
+use Rattle.cdf_puts.proofs.RaisedThen.{HasPut, raised_then, unraised_then}
+
+-- what that leaves
+pub record LastImage (b now last : List ℕ) (kind : Kind) (own own' : VariableShape) (r : ℕ) : Type 0 where
+  pub behind : (m : ℕ) → In m (index_records own') → Kept now last m
+  pub tail : number last own'.vdr vdr_vxr_tail ≡ number now own'.vdr vdr_vxr_tail
+  pub as_long : length last ≡ length now
+  pub changed : Changed now last (max_rec_touches now kind own'.vdr)
+  pub max_rec_is : max_rec_at last own.vdr ≡ last_number (greater (extent (max_rec_at b own.vdr)) (r + 1))
+
+module _ {b now : List ℕ} {kind : Kind} {before : List VariableShape} {own own' : VariableShape} {after : List VariableShape} {raw pad : List ℕ} {r : ℕ} {acts : List Act} (so : SoFar b now kind before own own' after raw pad r (r + 1) acts) where
+  kept : (m : ℕ) → In m (index_records own') → Kept now now m
+  kept m i =
+      let lies = tile_lies now 8 (length now) (shape now).records m (sound so.goes.good so.goes.among).has_shape.tiled (behind_in so.goes.good so.goes.among m i) in
+      record { same = record { each = λ p low high. refl }; inside = lies.high; long = lies.long }
+
+  still : r < extent (max_rec_at b own.vdr) → LastImage b now now kind own own' r
+  still lt = record {
+    behind = kept;
+    tail = refl;
+    as_long = refl;
+    changed = record { longer = omega arith; same = λ place l out. refl };
+    max_rec_is = max_rec_kept_at (max_rec_at b own.vdr) (max_rec_at now own.vdr) r lt (ap with_sign so.max_rec_is);
+  }
+
+  pub last_image : {last : List ℕ} → MaxRecDone b now last kind own own' r → LastImage b now last kind own own' r
+  last_image {last = last} (inl x) =
+      let w = x.1 in
+      let small = so.start.small in
+      record {
+        behind = raised_behind so.goes.good so.goes.among w small;
+        tail = raised_tail so.goes.good so.goes.among w small;
+        as_long = w.as_long;
+        changed = w.changed;
+        max_rec_is = max_rec_raised_to (max_rec_at b own.vdr) (max_rec_at last own.vdr) r x.0 (ap (max_rec_at last) (sym so.goes.vdr_is) ∙ max_rec_raised so.goes.good so.goes.among w small);
+      }
+  last_image (inr x) = subst (λ (y : List ℕ). LastImage b now y kind own own' r) (sym x.1) (still x.0)
+
+  pub has_put : {last : List ℕ} → MaxRecDone b now last kind own own' r → HasPut b last kind before own own' after r acts
+  has_put (inl x) = raised_then so.start.good so.start.among so.goes x.1 x.0 so.start.small so.short
+  has_put (inr x) = subst (λ (y : List ℕ). HasPut b y kind before own own' after r acts) (sym x.1) (unraised_then so.start.good so.start.among so.goes (ap with_sign so.max_rec_is))

@@ -1,0 +1,100 @@
+-- A leaf that is added: the records that are taken are those that its acts take.
+use Rattle.std.proofs.Common.{◌≡◌, ℕ, zero, suc, ◌+◌, List, [], ◌∷◌, ◌++◌, length, true, refl, ap, subst, arith}
+use Rattle.std.proofs.lemmas.Bool.{lt-leb}
+use Rattle.std.specs.Prelude.{◌&&◌}
+use Rattle.cdf_model.specs.declared.kinds.Kind.{Kind}
+use Rattle.cdf_model.specs.declared.kinds.Kind.TheVariants.{R, Z}
+use Rattle.cdf_edits.proofs.Edits.EditActs.{acts_none, acts_took}
+use Rattle.cdf_edits.proofs.Edits.MadeRecord.{listed_marks, made_edit}
+use Rattle.cdf_edits.proofs.Edits.MarkLemmas.{unmarked-away}
+use Rattle.cdf_edits.proofs.Edits.OwnersKept.{keeps_away, keeps_within}
+use Rattle.cdf_edits.proofs.Edits.VariableSplice.{shape_now}
+use Rattle.cdf_edits.proofs.Edits.VdrEdited.{StandsAmong}
+use Rattle.cdf_edits.specs.Commands.Allowances.{Only}
+use Rattle.cdf_edits.specs.Edits.Edit.{Edit}
+use Rattle.cdf_edits.specs.Edits.Marks.{Mark, avoided, unmarked, is_late}
+use Rattle.cdf_edits.specs.Index.Grown.{new_room}
+use Rattle.cdf_edits.specs.Space.Acts.{Took, ActsFollow}
+use Rattle.cdf_edits.specs.Space.Placing.{Fills, type_of_body}
+use Rattle.cdf_format.proofs.ChainsLemmas.{linkable-in, linkable-type}
+use Rattle.cdf_format.proofs.GoodSound.{good_is_sound}
+use Rattle.cdf_format.proofs.ShapeLemmas.{shape_is}
+use Rattle.cdf_format.proofs.Tests.{both}
+use Rattle.cdf_format.specs.Index.{Leaf}
+use Rattle.cdf_format.specs.Records.{Field, uir_next_uir, uir_prev_uir}
+use Rattle.cdf_format.specs.RecordTypes.{gdr_type, uir_type, vvr_type, vxr_type}
+use Rattle.cdf_format.specs.Shape.{VariableShape, Shape, shape}
+use Rattle.cdf_format.specs.Sound.{IsSound}
+use Rattle.cdf_format.specs.WellFormed.{Good}
+use Rattle.cdf_index.specs.Adding.{NodeTaken, LeafAdded, node_acts, leaf_acts}
+use Rattle.cdf_puts.proofs.ActsJoined.{ListedStay, acts_joined}
+use Rattle.cdf_puts.proofs.LeafEdit.{index_marks, new_nodes, still_edit, first, second, third, room, nodes, most, need}
+use Rattle.cdf_puts.proofs.LeafSplices.{splices}
+use Rattle.cdf_puts.proofs.OnlyTaken.{node_takes}
+
+abbrev links : List Field
+links = uir_next_uir ∷ uir_prev_uir ∷ []
+
+-- ---- a record is taken
+
+pub took_listed : {b taken filled now records list : List ℕ} {need place type : ℕ} (sound : IsSound b (shape b)) (fills : Fills b taken filled (shape b) records list need place type) {late : List Mark} → Edit filled now records records late [] → length now ≡ length filled → is_late late type ≡ true → (shape now).records ≡ records → ListedStay b now (Took place need ∷ [])
+took_listed {b = b} sound fills later as_long lately records_are m i free =
+    let ok = sound.has_shape.unused_chain.linkable m i in
+    let x = listed_marks sound fills later as_long lately records_are m i free in
+    keeps_within sound (made_edit sound fills later as_long lately) records_are m uir_type links (linkable-in b (shape b).records uir_type m ok) (linkable-type b (shape b).records uir_type m ok) x.0 x.1
+
+-- ---- entries are written after a node was taken, or none was
+
+-- the entries leave the unused list, the end of the image, and heads
+pub index_late : (kind : Kind) (v : ℕ) (ns : List ℕ) (most : ℕ) → is_late (index_marks kind v ns most) vxr_type ≡ true
+index_late R v ns width = rw (lt-leb (12 + width) 0 (omega arith)) refl
+index_late Z v ns width = rw (lt-leb (12 + width) 0 (omega arith)) refl
+
+pub record NodeFollows (b now : List ℕ) (room at : ℕ) : Type 0 where
+  pub follow : ActsFollow b now (node_acts room at)
+  pub listed : ListedStay b now (node_acts room at)
+
+node_follows : {b mid now : List ℕ} {late : List Mark} (room at : ℕ) → IsSound b (shape b) → IsSound mid (shape mid) → NodeTaken b mid room at → Edit mid now (shape mid).records (shape mid).records late [] → length now ≡ length mid → is_late late vxr_type ≡ true → unmarked late uir_type ≡ true
+    → (shape now).records ≡ (shape mid).records → (shape now).unused ≡ (shape mid).unused → NodeFollows b now room at
+node_follows {mid = mid} {now = now} {late = late} zero at sound sound' taken later as_long lately clear records_are list_are =
+    subst (λ (x : List ℕ). NodeFollows x now zero at) taken.0 (record {
+      follow = acts_none sound' later clear refl records_are list_are as_long;
+      listed = λ m i free. let ok = sound'.has_shape.unused_chain.linkable m i in keeps_away sound' later records_are m uir_type (Only links) (linkable-in mid (shape mid).records uir_type m ok) (linkable-type mid (shape mid).records uir_type m ok) (unmarked-away late uir_type m clear);
+    })
+node_follows (suc entries) at sound sound' taken later as_long lately clear records_are list_are = record {
+  follow = acts_took sound taken.fills later as_long lately records_are list_are;
+  listed = took_listed sound taken.fills later as_long lately records_are;
+}
+
+-- ---- the whole
+
+module _ {b now : List ℕ} {kind : Kind} {before : List VariableShape} {own : VariableShape} {after : List VariableShape} {new : Leaf} {body : List ℕ} {at : ℕ} (good : Good b) (among : StandsAmong b kind before own after) (w : LeafAdded b now own new body at) (plain : type_of_body body ≡ vvr_type) where
+  sound : IsSound b (shape b)
+  sound = good_is_sound b good
+
+  pub records_are : (shape now).records ≡ (shape w.roomy).records
+  records_are = ap (λ (s : Shape). s.records) (shape_is now _ (shape_now sound (splices good among w plain)))
+
+  pub list_is : (shape now).unused ≡ (shape w.roomy).unused
+  list_is = ap (λ (s : Shape). s.unused) (shape_is now _ (shape_now sound (splices good among w plain)))
+
+  pub placed_still : Edit w.filled w.filled (shape w.filled).records (shape w.filled).records [] []
+  placed_still = still_edit (first good among w).sound.has_shape
+
+  block_follows : ActsFollow b w.filled (Took new.place (need good among w) ∷ [])
+  block_follows = acts_took sound w.block.fills placed_still refl refl refl refl
+
+  block_listed : ListedStay b w.filled (Took new.place (need good among w) ∷ [])
+  block_listed = took_listed sound w.block.fills placed_still refl refl refl
+
+  node_part : NodeFollows w.filled now (room good among w) at
+  node_part =
+      let late = index_marks kind own.vdr (new_nodes (room good among w) at ++ nodes good among w) (most good among w) in
+      let lately = index_late kind own.vdr (new_nodes (room good among w) at ++ nodes good among w) (most good among w) in
+      node_follows (room good among w) at (first good among w).sound (second good among w).sound w.node (third good among w) w.as_long lately (clear late lately) records_are list_is
+    where
+      clear : (late : List Mark) → is_late late vxr_type ≡ true → unmarked late uir_type ≡ true
+      clear late e = (both (unmarked late uir_type) (avoided late vxr_type 0 12) (both (unmarked late uir_type && avoided late vxr_type 0 12) (avoided late gdr_type 0 12 && (avoided late gdr_type 36 44 && avoided late gdr_type 64 72)) e).0).0
+
+  pub leaf_follows : ActsFollow b now (leaf_acts new.place (8 + length body) (new_room new.first own.index) at)
+  leaf_follows = acts_joined sound.has_shape (first good among w).sound.has_shape block_follows node_part.follow tt (node_takes (room good among w) at) block_listed node_part.listed

@@ -1,0 +1,452 @@
+-- An index with a leaf more, but for where its blocks and its new nodes stand; and its top chain.
+use Rattle.std.proofs.Common.{◌≡◌, ◌⊎◌, ℕ, zero, suc, ◌<◌, ◌≤◌, max, List, [], ◌∷◌, ◌++◌, length, Bool, true, false, None, ltb, leb, eqb, refl, sym, ap, subst, ◌∙◌, arith, inl, inr}
+use Rattle.std.proofs.lemmas.Bool.{eq-eqb, ne_eqb, lt-ltb}
+use Rattle.std.proofs.lemmas.List.Folds.{list_any-append}
+use Rattle.std.specs.List.{last_or, list_any}
+use Rattle.std.specs.Option.{unwrap_or}
+use Rattle.std.specs.Prelude.{bytes_eq, ◌&&◌, ◌||◌, if◌then◌else◌}
+use Rattle.cdf_edits.specs.Index.Blocks.{Range, firsts_of, entry_firsts}
+use Rattle.cdf_edits.specs.Index.Grown.{reaches, chain_reaches, leads_down, with_block, upto, past, with_both, with_entry, with_leaf, with_lower, room_of_new, new_room, new_room_below, with_ranges, indexes_with, outline, entries_outline}
+use Rattle.cdf_edits.specs.Index.Written.{uses_entry, uses_entry_below, is_taken_at, top_chain, last_node, top_stays}
+use Rattle.cdf_edits.specs.Space.Acts.{Act}
+use Rattle.cdf_format.specs.Chains.{is_in}
+use Rattle.cdf_format.specs.Index.{Nodes, no_node, node, Entries, no_entry, block, lower, Leaf, leaf, nodes_of, lower_nodes, entry_count, used_count}
+use Rattle.cdf_format.specs.IndexOf.{HasNodes, Names}
+use Rattle.cdf_format.specs.Tiles.{In}
+use Rattle.cdf_format.proofs.Members.{either, In-append, In-append_left, In-append_right}
+use Rattle.cdf_format.proofs.Tests.{same_of_bytes_eq}
+
+-- ---- an outline says the same of an index as the index does
+
+-- where a node stands in it
+abbrev pub place_outside : List ℕ → ℕ → ℕ
+place_outside news place = if is_in place news then 0 else place
+
+abbrev pub bare : Leaf → Leaf
+bare l = leaf l.first l.last 0 false
+
+module _ (news : List ℕ) where
+  pub count_outline : (es : Entries) → entry_count (entries_outline news es) ≡ entry_count es
+  unfolding outline
+  count_outline no_entry = refl
+  count_outline (block first last place packed es) = ap suc (count_outline es)
+  count_outline (lower first last nodes es) = ap suc (count_outline es)
+
+  reaches_outline : (f : ℕ) (es : Entries) → reaches f (entries_outline news es) ≡ reaches f es
+  unfolding outline
+  reaches_outline f no_entry = refl
+  reaches_outline f (block first last place packed es) = ap (λ (p : Bool). leb first f || p) (reaches_outline f es)
+  reaches_outline f (lower first last nodes es) = ap (λ (p : Bool). leb first f || p) (reaches_outline f es)
+
+  chain_outline : (f : ℕ) (ns : Nodes) → chain_reaches f (outline news ns) ≡ chain_reaches f ns
+  unfolding outline
+  chain_outline f no_node = refl
+  chain_outline f (node place room es more) = ap (λ (p : Bool). p || chain_reaches f (outline news more)) (reaches_outline f es) ∙ ap (λ (p : Bool). reaches f es || p) (chain_outline f more)
+
+  leads_outline : (f : ℕ) (given : Bool) (es : Entries) → leads_down f given (entries_outline news es) ≡ leads_down f given es
+  unfolding outline
+  leads_outline f given no_entry = refl
+  leads_outline f given (block first last place packed es) = elim (either (leb first f)) [ inl t ↦ rw t (leads_outline f false es) | inr t ↦ rw t refl ]
+  leads_outline f given (lower first last nodes es) = elim (either (leb first f)) [ inl t ↦ rw t (leads_outline f true es) | inr t ↦ rw t refl ]
+
+  past_outline : (f : ℕ) (es : Entries) → past f (entries_outline news es) ≡ entries_outline news (past f es)
+  unfolding outline
+  past_outline f no_entry = refl
+  past_outline f (block first last place packed es) = elim (either (leb first f)) [ inl t ↦ rw t (past_outline f es) | inr t ↦ rw t refl ]
+  past_outline f (lower first last nodes es) = elim (either (leb first f)) [ inl t ↦ rw t (past_outline f es) | inr t ↦ rw t refl ]
+
+  upto_outline : (l : Leaf) (es : Entries) → upto (bare l) (entries_outline news es) ≡ entries_outline news (upto l es)
+  unfolding outline
+  upto_outline l no_entry = refl
+  upto_outline l (block first last place packed es) = elim (either (leb first l.first)) [ inl t ↦ rw t (ap (block first last 0 false) (upto_outline l es)) | inr t ↦ rw t refl ]
+  upto_outline l (lower first last nodes es) = elim (either (leb first l.first)) [ inl t ↦ rw t (ap (lower first last (outline news nodes)) (upto_outline l es)) | inr t ↦ rw t refl ]
+
+  both_outline : (es fs : Entries) → with_both (entries_outline news es) (entries_outline news fs) ≡ entries_outline news (with_both es fs)
+  unfolding outline
+  both_outline no_entry fs = refl
+  both_outline (block first last place packed es) fs = ap (block first last 0 false) (both_outline es fs)
+  both_outline (lower first last nodes es) fs = ap (lower first last (outline news nodes)) (both_outline es fs)
+
+  -- ---- a leaf more
+
+  entry_by : (l : Leaf) (at place room : ℕ) (es es' up pt : Entries) (more : Nodes) → entry_count es' ≡ entry_count es → upto l es' ≡ up → past l.first es' ≡ pt
+      → with_entry l at place room es' more ≡ (if ltb (entry_count es) room then node place room (with_both up pt) more else (if eqb (entry_count pt) 0 then node place room es' (node at (if ltb (entry_count es) room then 0 else max 7 (entry_count pt)) (with_block l no_entry) more) else node place room up (node at (if ltb (entry_count es) room then 0 else max 7 (entry_count pt)) pt more)))
+  entry_by l at place room es es' up pt more c u p = rw (p, u, c) refl
+
+  outline_with_entry : (new : Leaf) (at place room : ℕ) (es : Entries) (more : Nodes) → with_entry (bare new) (place_outside news at) (place_outside news place) room (entries_outline news es) (outline news more) ≡ outline news (with_entry new at place room es more)
+  unfolding outline
+  outline_with_entry new at place room es more =
+      let bk = past new.first es in
+      let same = count_outline bk in
+      entry_by (bare new) (place_outside news at) (place_outside news place) room es (entries_outline news es) (entries_outline news (upto new es)) (entries_outline news bk) (outline news more) (count_outline es) (upto_outline new es) (past_outline new.first es)
+      ∙ elim (either (ltb (entry_count es) room)) [
+        | inl t ↦ rw t (ap (λ (x : Entries). node (place_outside news place) room x (outline news more)) (both_outline (upto new es) bk))
+        | inr t ↦ elim (either (eqb (entry_count bk) 0)) [
+          | inl z ↦ rw (same, t, z) refl
+          | inr z ↦ rw (same, t, z) refl
+        ]
+      ]
+
+  mutual
+    unfolding outline with_leaf with_lower
+
+    pub outline_with_leaf : (new : Leaf) (at : ℕ) (index : Nodes) → with_leaf (bare new) (place_outside news at) (outline news index) ≡ outline news (with_leaf new at index)
+    outline_with_leaf new at no_node = refl
+    outline_with_leaf new at (node place room es more) =
+        let c = chain_outline new.first more in
+        elim (either (chain_reaches new.first more)) [
+          | inl r ↦ rw (c, r) (ap (λ (x : Nodes). node (place_outside news place) room (entries_outline news es) x) (outline_with_leaf new at more))
+          | inr r ↦
+              let d = leads_outline new.first false es in
+              elim (either (leads_down new.first false es)) [
+                | inl t ↦ rw (c, r, d, t) (ap (λ (x : Entries). node (place_outside news place) room x (outline news more)) (outline_with_lower new at es))
+                | inr t ↦ rw (c, r, d, t) (outline_with_entry new at place room es more)
+              ]
+        ]
+
+    pub outline_with_lower : (new : Leaf) (at : ℕ) (es : Entries) → with_lower (bare new) (place_outside news at) (entries_outline news es) ≡ entries_outline news (with_lower new at es)
+    outline_with_lower new at no_entry = refl
+    outline_with_lower new at (block first last place packed es) = ap (block first last 0 false) (outline_with_lower new at es)
+    outline_with_lower new at (lower first last nodes es) =
+        let c = reaches_outline new.first es in
+        elim (either (reaches new.first es)) [
+          | inl r ↦ rw (c, r) (ap (lower first last (outline news nodes)) (outline_with_lower new at es))
+          | inr r ↦ rw (c, r) (ap (λ (x : Nodes). lower first (max last new.last) x (entries_outline news es)) (outline_with_leaf new at nodes))
+        ]
+
+  -- ---- how much room a new node has, Firsts, and which entries are used
+
+  of_new : (f room : ℕ) (es : Entries) → room_of_new f room (entries_outline news es) ≡ room_of_new f room es
+  of_new f room es =
+      let c = count_outline es in
+      let p = past_outline f es in
+      let q = count_outline (past f es) in
+      rw (p, q, c) refl
+
+  mutual
+    unfolding outline new_room new_room_below
+
+    pub room_outline : (f : ℕ) (index : Nodes) → new_room f (outline news index) ≡ new_room f index
+    room_outline f no_node = refl
+    room_outline f (node place room es more) =
+        let c = chain_outline f more in
+        elim (either (chain_reaches f more)) [
+          | inl r ↦ rw (c, r) (room_outline f more)
+          | inr r ↦
+              let d = leads_outline f false es in
+              elim (either (leads_down f false es)) [
+                | inl t ↦ rw (c, r, d, t) (room_below_outline f es)
+                | inr t ↦ rw (c, r, d, t) (of_new f room es)
+              ]
+        ]
+
+    pub room_below_outline : (f : ℕ) (es : Entries) → new_room_below f (entries_outline news es) ≡ new_room_below f es
+    room_below_outline f no_entry = refl
+    room_below_outline f (block first last place packed es) = room_below_outline f es
+    room_below_outline f (lower first last nodes es) =
+        let c = reaches_outline f es in
+        elim (either (reaches f es)) [ inl r ↦ rw (c, r) (room_below_outline f es) | inr r ↦ rw (c, r) (room_outline f nodes) ]
+
+  mutual
+    unfolding outline firsts_of entry_firsts
+
+    pub firsts_outline : (index : Nodes) → firsts_of (outline news index) ≡ firsts_of index
+    firsts_outline no_node = refl
+    firsts_outline (node place room es more) = ap (λ (xs : List ℕ). xs ++ firsts_of (outline news more)) (entry_firsts_outline es) ∙ ap (λ (xs : List ℕ). entry_firsts es ++ xs) (firsts_outline more)
+
+    pub entry_firsts_outline : (es : Entries) → entry_firsts (entries_outline news es) ≡ entry_firsts es
+    entry_firsts_outline no_entry = refl
+    entry_firsts_outline (block first last place packed es) = ap (λ (xs : List ℕ). first ∷ xs) (entry_firsts_outline es)
+    entry_firsts_outline (lower first last nodes es) =
+        ap (λ (xs : List ℕ). first ∷ xs ++ entry_firsts (entries_outline news es)) (firsts_outline nodes) ∙ ap (λ (xs : List ℕ). first ∷ firsts_of nodes ++ xs) (entry_firsts_outline es)
+
+  module _ (vxr i : ℕ) (old : is_in vxr news ≡ false) (stands : vxr ≡ 0 → ⊥) where
+    same_place : (place : ℕ) → eqb (place_outside news place) vxr ≡ eqb place vxr
+    same_place place = elim (either (is_in place news)) [
+      | inl t ↦
+          let far : eqb 0 vxr ≡ false = ne_eqb 0 vxr (λ e. stands (sym e)) in
+          let other : eqb place vxr ≡ false = ne_eqb place vxr (λ e. absurd (clash (is_in vxr news) (subst (λ (m : ℕ). is_in m news ≡ true) e t) old)) in
+          rw (t, other) far
+      | inr t ↦ rw t refl
+    ]
+      where
+        clash : (p : Bool) → p ≡ true → p ≡ false → ⊥
+        clash true a b = cc
+        clash false a b = cc
+
+    any_of : (p p' n n' q q' r r' : Bool) → p ≡ p' → n ≡ n' → q ≡ q' → r ≡ r' → ((p && n) || (q || r)) ≡ ((p' && n') || (q' || r'))
+    any_of p p' n n' q q' r r' a b c d = rw (a, b, c, d) refl
+
+    either_of : (q q' r r' : Bool) → q ≡ q' → r ≡ r' → (q || r) ≡ (q' || r')
+    either_of q q' r r' c d = rw (c, d) refl
+
+    mutual
+      unfolding outline uses_entry uses_entry_below
+
+      pub uses_outline : (index : Nodes) → uses_entry vxr i (outline news index) ≡ uses_entry vxr i index
+      uses_outline no_node = refl
+      uses_outline (node place room es more) =
+          any_of (eqb (place_outside news place) vxr) (eqb place vxr) (ltb i (entry_count (entries_outline news es))) (ltb i (entry_count es)) (uses_entry_below vxr i (entries_outline news es)) (uses_entry_below vxr i es) (uses_entry vxr i (outline news more)) (uses_entry vxr i more)
+          (same_place place) (ap (ltb i) (count_outline es)) (uses_below_outline es) (uses_outline more)
+
+      pub uses_below_outline : (es : Entries) → uses_entry_below vxr i (entries_outline news es) ≡ uses_entry_below vxr i es
+      uses_below_outline no_entry = refl
+      uses_below_outline (block first last place packed es) = uses_below_outline es
+      uses_below_outline (lower first last nodes es) = either_of (uses_entry vxr i (outline news nodes)) (uses_entry vxr i nodes) (uses_entry_below vxr i (entries_outline news es)) (uses_entry_below vxr i es) (uses_outline nodes) (uses_below_outline es)
+
+joined : (p p' room : ℕ) (es es' : Entries) (more more' : Nodes) → p ≡ p' → es ≡ es' → more ≡ more' → node p room es more ≡ node p' room es' more'
+joined p p' room es es' more more' a b c = rw (a, b, c) refl
+
+not_wide : (n : ℕ) → 7 ≤ n → n ≡ 0 → ⊥
+not_wide n l e = absurd (omega arith)
+
+with_entry_anywhere : (new : Leaf) (at at' place room : ℕ) (es : Entries) (more : Nodes) → room_of_new new.first room es ≡ 0 → with_entry new at place room es more ≡ with_entry new at' place room es more
+with_entry_anywhere new at at' place room es more z = elim (either (ltb (entry_count es) room)) [
+  | inl t ↦ rw t refl
+  | inr t ↦ absurd (too_wide (entry_count (past new.first es)) (rw t at z))
+]
+  where
+    too_wide : (n : ℕ) → max 7 n ≡ 0 → ⊥
+    too_wide n e = absurd (omega arith)
+
+-- new places count alike where they do so at the nodes
+mutual
+  unfolding outline nodes_of lower_nodes
+
+  pub outline_agrees : (news news' : List ℕ) (index : Nodes) → ((m : ℕ) → In m (nodes_of index) → is_in m news' ≡ is_in m news) → outline news' index ≡ outline news index
+  outline_agrees news news' no_node same = refl
+  outline_agrees news news' (node place room es more) same =
+      joined (place_outside news' place) (place_outside news place) room (entries_outline news' es) (entries_outline news es) (outline news' more) (outline news more)
+      (ap (λ (p : Bool). if p then 0 else place) (same place (inl refl)))
+      (entries_agree news news' es (λ m i. same m (inr (In-append_left m (lower_nodes es) (nodes_of more) i))))
+      (outline_agrees news news' more (λ m i. same m (inr (In-append_right m (lower_nodes es) (nodes_of more) i))))
+
+  pub entries_agree : (news news' : List ℕ) (es : Entries) → ((m : ℕ) → In m (lower_nodes es) → is_in m news' ≡ is_in m news) → entries_outline news' es ≡ entries_outline news es
+  entries_agree news news' no_entry same = refl
+  entries_agree news news' (block first last place packed es) same = ap (block first last 0 false) (entries_agree news news' es same)
+  entries_agree news news' (lower first last nodes es) same =
+      ap (λ (x : Nodes). lower first last x (entries_outline news' es)) (outline_agrees news news' nodes (λ m i. same m (In-append_left m (nodes_of nodes) (lower_nodes es) i)))
+      ∙ ap (lower first last (outline news nodes)) (entries_agree news news' es (λ m i. same m (In-append_right m (nodes_of nodes) (lower_nodes es) i)))
+
+-- where no node is needed, it does not matter where one would stand
+mutual
+  unfolding with_leaf with_lower new_room new_room_below
+
+  pub with_leaf_anywhere : (new : Leaf) (at at' : ℕ) (index : Nodes) → new_room new.first index ≡ 0 → with_leaf new at index ≡ with_leaf new at' index
+  with_leaf_anywhere new at at' no_node z = absurd (not_wide 7 (omega arith) z)
+  with_leaf_anywhere new at at' (node place room es more) z = elim (either (chain_reaches new.first more)) [
+    | inl r ↦ rw r (ap (λ (x : Nodes). node place room es x) (with_leaf_anywhere new at at' more (rw r at z)))
+    | inr r ↦ elim (either (leads_down new.first false es)) [
+      | inl d ↦ rw (r, d) (ap (λ (x : Entries). node place room x more) (with_lower_anywhere new at at' es (rw (r, d) at z)))
+      | inr d ↦ rw (r, d) (with_entry_anywhere new at at' place room es more (rw (r, d) at z))
+    ]
+  ]
+
+  pub with_lower_anywhere : (new : Leaf) (at at' : ℕ) (es : Entries) → new_room_below new.first es ≡ 0 → with_lower new at es ≡ with_lower new at' es
+  with_lower_anywhere new at at' no_entry z = refl
+  with_lower_anywhere new at at' (block first last place packed es) z = ap (block first last place packed) (with_lower_anywhere new at at' es z)
+  with_lower_anywhere new at at' (lower first last nodes es) z = elim (either (reaches new.first es)) [
+    | inl r ↦ rw r (ap (lower first last nodes) (with_lower_anywhere new at at' es (rw r at z)))
+    | inr r ↦ rw r (ap (λ (x : Nodes). lower first (max last new.last) x es) (with_leaf_anywhere new at at' nodes (rw r at z)))
+  ]
+
+-- ---- two indexes with the same outline, where new nodes stand at 0 in the second
+
+abbrev pub SameOutline : List ℕ → Nodes → Nodes → Type 0
+SameOutline news index index' = outline news index ≡ outline [] index'
+
+pub same_at_first : (news : List ℕ) (index : Nodes) → ((m : ℕ) → In m (nodes_of index) → is_in m news ≡ false) → SameOutline news index index
+same_at_first news index apart = outline_agrees [] news index apart
+
+-- A leaf more keeps it; a node that is needed stands at a new place, and no node that was there does so by that.
+pub same_with_leaf : (news news' : List ℕ) (new : Leaf) (at : ℕ) (index index' : Nodes) → SameOutline news index index' → ((m : ℕ) → In m (nodes_of index) → is_in m news' ≡ is_in m news) → (1 ≤ new_room new.first index → is_in at news' ≡ true)
+    → SameOutline news' (with_leaf new at index) (with_leaf (leaf new.first new.last 0 false) 0 index')
+same_with_leaf news news' new at index index' same agree there =
+    moved (new_room new.first index) refl
+    ∙ ap (with_leaf (bare new) 0) (outline_agrees news news' index agree ∙ same)
+    ∙ outline_with_leaf [] (leaf new.first new.last 0 false) 0 index'
+  where
+    at_zero : (at : ℕ) → place_outside news' at ≡ 0 → outline news' (with_leaf new at index) ≡ with_leaf (bare new) 0 (outline news' index)
+    at_zero at z = sym (outline_with_leaf news' new at index) ∙ ap (λ (n : ℕ). with_leaf (bare new) n (outline news' index)) z
+
+    zero_is : place_outside news' 0 ≡ 0
+    zero_is = elim (either (is_in 0 news')) [ inl t ↦ rw t refl | inr t ↦ rw t refl ]
+
+    some : (n : ℕ) → new_room new.first index ≡ suc n → 1 ≤ new_room new.first index
+    some n e = omega arith
+
+    moved : (n : ℕ) → new_room new.first index ≡ n → outline news' (with_leaf new at index) ≡ with_leaf (bare new) 0 (outline news' index)
+    moved zero e = ap (outline news') (with_leaf_anywhere new at 0 index e) ∙ at_zero 0 zero_is
+    moved (suc n) e = let t = there (some n e) in at_zero at (rw t refl)
+
+pub same_uses : (news : List ℕ) (vxr i : ℕ) (index index' : Nodes) → SameOutline news index index' → is_in vxr news ≡ false → (vxr ≡ 0 → ⊥) → uses_entry vxr i index ≡ uses_entry vxr i index'
+same_uses news vxr i index index' same old stands = sym (uses_outline news vxr i old stands index) ∙ ap (uses_entry vxr i) same ∙ uses_outline [] vxr i refl stands index'
+
+pub same_room : (news : List ℕ) (f : ℕ) (index index' : Nodes) → SameOutline news index index' → new_room f index ≡ new_room f index'
+same_room news f index index' same = sym (room_outline news f index) ∙ ap (new_room f) same ∙ room_outline [] f index'
+
+pub same_firsts : (news : List ℕ) (index index' : Nodes) → SameOutline news index index' → firsts_of index ≡ firsts_of index'
+same_firsts news index index' same = sym (firsts_outline news index) ∙ ap firsts_of same ∙ firsts_outline [] index'
+
+-- ---- an entry that a node uses is used in the index
+
+or_left : (p q : Bool) → p ≡ true → (p || q) ≡ true
+or_left p q e = rw e refl
+
+or_right : (p q : Bool) → q ≡ true → (p || q) ≡ true
+or_right true q e = refl
+or_right false q e = e
+
+or_middle : (p q r : Bool) → q ≡ true → (p || (q || r)) ≡ true
+or_middle p q r e = or_right p (q || r) (or_left q r e)
+
+or_last : (p q r : Bool) → r ≡ true → (p || (q || r)) ≡ true
+or_last p q r e = or_right p (q || r) (or_right q r e)
+
+test_here : (p q : Bool) → p ≡ true → q ≡ true → (p && q) ≡ true
+test_here p q a b = rw (a, b) refl
+
+module _ (b records : List ℕ) (vxr i : ℕ) (used : i < used_count b vxr) where
+  here : (place : ℕ) (es : Entries) → vxr ≡ place → used_count b place ≡ entry_count es → (eqb place vxr && ltb i (entry_count es)) ≡ true
+  here place es e c = test_here (eqb place vxr) (ltb i (entry_count es)) (eq-eqb place vxr (sym e)) (lt-ltb i (entry_count es) (subst (λ (n : ℕ). i < n) (ap (used_count b) e ∙ c) used))
+
+  mutual
+    unfolding HasNodes Names nodes_of lower_nodes uses_entry uses_entry_below
+
+    pub used_in : (levels : ℕ) (index : Nodes) → HasNodes b records levels index → In vxr (nodes_of index) → uses_entry vxr i index ≡ true
+    used_in levels no_node h m = absurd m
+    used_in zero (node place room es more) h m = absurd h
+    used_in (suc levels) (node place room es more) h (inl e) = or_left (eqb place vxr && ltb i (entry_count es)) (uses_entry_below vxr i es || uses_entry vxr i more) (here place es e h.0.used_is)
+    used_in (suc levels) (node place room es more) h (inr m) = elim (In-append vxr (lower_nodes es) (nodes_of more) m) [
+      | inl k ↦ or_middle (eqb place vxr && ltb i (entry_count es)) (uses_entry_below vxr i es) (uses_entry vxr i more) (used_below levels es h.1 k)
+      | inr k ↦ or_last (eqb place vxr && ltb i (entry_count es)) (uses_entry_below vxr i es) (uses_entry vxr i more) (used_in (suc levels) more h.2 k)
+    ]
+
+    pub used_below : (levels : ℕ) (es : Entries) → Names b records levels es → In vxr (lower_nodes es) → uses_entry_below vxr i es ≡ true
+    used_below levels no_entry n m = absurd m
+    used_below levels (block first last place packed es) n m = used_below levels es n.2 m
+    used_below levels (lower first last nodes es) n m = elim (In-append vxr (nodes_of nodes) (lower_nodes es) m) [
+      | inl k ↦ or_left (uses_entry vxr i nodes) (uses_entry_below vxr i es) (used_in levels nodes n.1 k)
+      | inr k ↦ or_right (uses_entry vxr i nodes) (uses_entry_below vxr i es) (used_below levels es n.2 k)
+    ]
+
+-- ---- the indexes that a command goes through
+
+abbrev pub with_range_at_zero : Nodes → Range → Nodes
+with_range_at_zero nodes r = with_leaf (leaf r.first r.last 0 false) 0 nodes
+
+pub with_one_more : (index : Nodes) (rs : List Range) (r : Range) → with_ranges index (rs ++ r ∷ []) ≡ with_range_at_zero (with_ranges index rs) r
+with_one_more index [] r = refl
+with_one_more index (x ∷ rs) r = with_one_more (with_range_at_zero index x) rs r
+
+pub through_one_more : (index : Nodes) (rs : List Range) (r : Range) → indexes_with index (rs ++ r ∷ []) ≡ indexes_with index rs ++ with_range_at_zero (with_ranges index rs) r ∷ []
+unfolding indexes_with
+through_one_more index [] r = refl
+through_one_more index (x ∷ rs) r = ap (λ (xs : List Nodes). index ∷ xs) (through_one_more (with_range_at_zero index x) rs r)
+
+-- what holds of the last of them, or of one, goes on to hold of one
+pub last_of_through : (P : Nodes → Bool) (index : Nodes) (rs : List Range) → P (with_ranges index rs) ≡ true → list_any P (indexes_with index rs) ≡ true
+unfolding indexes_with
+last_of_through P index [] e = or_left (P index) false e
+last_of_through P index (x ∷ rs) e = or_right (P index) (list_any P (indexes_with (with_range_at_zero index x) rs)) (last_of_through P (with_range_at_zero index x) rs e)
+
+pub through_stays : (P : Nodes → Bool) (index : Nodes) (rs : List Range) (r : Range) → list_any P (indexes_with index rs) ≡ true → list_any P (indexes_with index (rs ++ r ∷ [])) ≡ true
+through_stays P index rs r e =
+    ap (list_any P) (through_one_more index rs r) ∙ list_any-append P (indexes_with index rs) (with_range_at_zero (with_ranges index rs) r ∷ [])
+    ∙ or_left (list_any P (indexes_with index rs)) (list_any P (with_range_at_zero (with_ranges index rs) r ∷ [])) e
+
+-- ---- the top chain
+
+-- it stays, or a node that was taken stands in it too
+abbrev pub TopWith : ℕ → ℕ → List ℕ → List ℕ → Type 0
+TopWith at room before after = (after ≡ before) ⊎ (In at after × (1 ≤ room) × (length after ≡ suc (length before)))
+
+top_along : (at room place : ℕ) (before after : List ℕ) → TopWith at room before after → TopWith at room (place ∷ before) (place ∷ after)
+top_along at room place before after (inl e) = inl (ap (λ (xs : List ℕ). place ∷ xs) e)
+top_along at room place before after (inr h) = inr (inr h.0, h.1, ap suc h.2)
+
+top_with_entry : (new : Leaf) (at place room : ℕ) (es : Entries) (more : Nodes) → TopWith at (room_of_new new.first room es) (place ∷ top_chain more) (top_chain (with_entry new at place room es more))
+top_with_entry new at place room es more = elim (either (ltb (entry_count es) room)) [
+  | inl t ↦ rw t (inl refl)
+  | inr t ↦ elim (either (eqb (entry_count (past new.first es)) 0)) [
+    | inl z ↦ rw (t, z) (inr (inr (inl refl), some (entry_count (past new.first es)), refl))
+    | inr z ↦ rw (t, z) (inr (inr (inl refl), some (entry_count (past new.first es)), refl))
+  ]
+]
+  where
+    some : (n : ℕ) → 1 ≤ max 7 n
+    some n = omega arith
+
+pub top_chain_with_leaf : (new : Leaf) (at : ℕ) (index : Nodes) → TopWith at (new_room new.first index) (top_chain index) (top_chain (with_leaf new at index))
+unfolding with_leaf new_room
+top_chain_with_leaf new at no_node = inr (inl refl, omega arith, refl)
+top_chain_with_leaf new at (node place room es more) = elim (either (chain_reaches new.first more)) [
+  | inl r ↦ rw r (top_along at (new_room new.first more) place (top_chain more) (top_chain (with_leaf new at more)) (top_chain_with_leaf new at more))
+  | inr r ↦ elim (either (leads_down new.first false es)) [
+    | inl d ↦ rw (r, d) (inl refl)
+    | inr d ↦ rw (r, d) (top_with_entry new at place room es more)
+  ]
+]
+
+pub top_never_shorter : (new : Leaf) (at : ℕ) (index : Nodes) → length (top_chain index) ≤ length (top_chain (with_leaf new at index))
+top_never_shorter new at index = elim (top_chain_with_leaf new at index) [
+  | inl e ↦ let same = ap length e in at_least (length (top_chain index)) (length (top_chain (with_leaf new at index))) same
+  | inr h ↦ one_longer (length (top_chain index)) (length (top_chain (with_leaf new at index))) h.2
+]
+  where
+    at_least : (n m : ℕ) → m ≡ n → n ≤ m
+    at_least n m e = omega arith
+
+    one_longer : (n m : ℕ) → m ≡ suc n → n ≤ m
+    one_longer n m e = omega arith
+
+-- the top chain stays, or it grows
+pub top_grows : (new : Leaf) (at : ℕ) (index : Nodes) → (top_chain (with_leaf new at index) ≡ top_chain index) ⊎ (length (top_chain index) < length (top_chain (with_leaf new at index)))
+top_grows new at index = elim (top_chain_with_leaf new at index) [
+  | inl e ↦ inl e
+  | inr h ↦ inr (longer (length (top_chain index)) (length (top_chain (with_leaf new at index))) h.2)
+]
+  where
+    longer : (n m : ℕ) → m ≡ suc n → n < m
+    longer n m e = omega arith
+
+pub bytes_same : (xs : List ℕ) → bytes_eq xs xs ≡ true
+bytes_same [] = refl
+bytes_same (x ∷ xs) = let e = eq-eqb x x refl in rw e (bytes_same xs)
+
+pub bytes_longer : (xs ys : List ℕ) → length xs < length ys → bytes_eq xs ys ≡ false
+bytes_longer xs ys l = elim (either (bytes_eq xs ys)) [
+  | inl t ↦ let same = ap length (same_of_bytes_eq xs ys t) in absurd (clash (length xs) (length ys) l same)
+  | inr t ↦ t
+]
+  where
+    clash : (n m : ℕ) → n < m → n ≡ m → ⊥
+    clash n m a b = omega arith
+
+pub bytes_differ : (xs ys : List ℕ) → (xs ≡ ys → ⊥) → bytes_eq xs ys ≡ false
+bytes_differ xs ys other = elim (either (bytes_eq xs ys)) [ inl t ↦ absurd (other (same_of_bytes_eq xs ys t)) | inr t ↦ t ]
+
+pub top_in_nodes : (m : ℕ) (index : Nodes) → In m (top_chain index) → In m (nodes_of index)
+unfolding nodes_of
+top_in_nodes m no_node i = i
+top_in_nodes m (node place room es more) (inl e) = inl e
+top_in_nodes m (node place room es more) (inr i) = inr (In-append_right m (lower_nodes es) (nodes_of more) (top_in_nodes m more i))
+
+pub last_by_top : (index index' : Nodes) → top_chain index ≡ top_chain index' → last_node index ≡ last_node index'
+last_by_top index index' e = ap (λ (xs : List ℕ). unwrap_or (last_or None xs) 0) e
+
+none_taken : (acts : List Act) (xs : List ℕ) → ((m : ℕ) → In m xs → is_taken_at acts m ≡ false) → list_any (is_taken_at acts) xs ≡ false
+none_taken acts [] apart = refl
+none_taken acts (x ∷ xs) apart = let e = apart x (inl refl) in rw e (none_taken acts xs (λ m i. apart m (inr i)))
+
+-- Where nothing was cut before, the top chain stays where it is the same; nodes that were there were not taken.
+pub top_stays_is : (acts : List Act) (before after : Nodes) → ((m : ℕ) → In m (nodes_of before) → is_taken_at acts m ≡ false) → top_stays acts before before after ≡ bytes_eq (top_chain before) (top_chain after)
+top_stays_is acts before after apart =
+    let own = bytes_same (top_chain before) in
+    elim (either (bytes_eq (top_chain before) (top_chain after))) [
+      | inl t ↦
+          let same = same_of_bytes_eq (top_chain before) (top_chain after) t in
+          let free = none_taken acts (top_chain after) (λ m i. apart m (top_in_nodes m before (subst (In m) (sym same) i))) in
+          rw (own, t, free) refl
+      | inr t ↦ rw (own, t) refl
+    ]

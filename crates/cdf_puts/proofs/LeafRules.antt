@@ -1,0 +1,359 @@
+-- An index with a leaf more keeps the rules: its entries are in order, its nodes have room for theirs, and each leaf has a block.
+use Rattle.std.proofs.Common.{◌≡◌, ℕ, ℤ, pos, negsuc, zero, suc, ◌+◌, ◌<◌, ◌≤◌, max, min, List, [], ◌∷◌, ◌++◌, Bool, true, false, Some, None, ltb, leb, eqb, refl, sym, ap, subst, ◌∙◌, arith, inl, inr}
+use Rattle.std.proofs.lemmas.Bool.{eqb-true, ltb-false, leb-true, leb-false, le-leb, lt-ltb}
+use Rattle.std.specs.List.{filter, flat_map, fold}
+use Rattle.std.proofs.Math.IntN.{ -ℤ_one}
+use Rattle.std.specs.Prelude.{find, nat_lt, ◌-ℤ◌, int_lt, ◌||◌}
+use Rattle.cdf_model.specs.Limits.{record_number_limit}
+use Rattle.cdf_edits.specs.Index.Blocks.{range, covers, firsts_of, entry_firsts, next_first}
+use Rattle.cdf_edits.specs.Index.Grown.{reaches, chain_reaches, leads_down, with_block, past, with_both, with_entry, with_leaf, with_lower}
+use Rattle.cdf_edits.proofs.Edits.LeafPieces.{IsOneOf}
+use Rattle.cdf_edits.proofs.Edits.LeafRecords.{signed}
+use Rattle.cdf_format.specs.Fields.{with_sign}
+use Rattle.cdf_format.specs.Index.{Nodes, no_node, node, Entries, no_entry, block, lower, Leaf, leaf, nodes_of, lower_nodes, leaves_of, entry_leaves, entry_count}
+use Rattle.cdf_format.specs.IndexRules.{has_room, is_block, is_between, end_of, nodes_rows, used_rows, leaf_rows, index_rows}
+use Rattle.cdf_format.specs.Rules.{Hold}
+use Rattle.cdf_format.specs.Tiles.{In}
+use Rattle.cdf_format.specs.VariableFields.{number_before}
+use Rattle.cdf_format.proofs.Members.{either, In-append_left, In-append_right}
+use Rattle.cdf_format.proofs.RowLemmas.{Hold-append, Hold-split}
+use Rattle.cdf_index.specs.Order.{past_entries, InOrder, AreInOrder}
+use Rattle.cdf_index.proofs.GoodIndex.{before_number, order_from}
+use Rattle.cdf_index.proofs.LeafMore.{chain_reaches_from, reaches_from}
+use Rattle.cdf_index.proofs.OrderLemmas.{end_after}
+use Rattle.cdf_index.proofs.Saying.{front, front_past, upto_both, upto_is}
+
+-- ---- what a leaf may be added to
+
+-- no leaf has the record, and no entry begins past it up to a last one
+abbrev pub Uncovered : ℕ → List Leaf → Type 0
+Uncovered f [] = Unit {0}
+Uncovered f (x ∷ xs) = (x.first ≤ f → x.last < f) × Uncovered f xs
+
+abbrev pub NoneBegins : ℕ → ℕ → List ℕ → Type 0
+NoneBegins f last [] = Unit {0}
+NoneBegins f last (x ∷ xs) = (f < x → last < x) × NoneBegins f last xs
+
+uncovered_split : (f : ℕ) (xs ys : List Leaf) → Uncovered f (xs ++ ys) → Uncovered f xs × Uncovered f ys
+uncovered_split f [] ys u = (tt, u)
+uncovered_split f (x ∷ xs) ys u = let r = uncovered_split f xs ys u.1 in ((u.0, r.0), r.1)
+
+none_split : (f last : ℕ) (xs ys : List ℕ) → NoneBegins f last (xs ++ ys) → NoneBegins f last xs × NoneBegins f last ys
+none_split f last [] ys u = (tt, u)
+none_split f last (x ∷ xs) ys u = let r = none_split f last xs ys u.1 in ((u.0, r.0), r.1)
+
+pub uncovered_by : (f : ℕ) (xs : List Leaf) → find (λ (leaf : Leaf). covers f (range leaf.first leaf.last)) xs ≡ None → Uncovered f xs
+uncovered_by f [] e = tt
+uncovered_by f (x ∷ xs) e = elim (either (leb x.first f)) [
+  | inl t ↦ elim (either (leb f x.last)) [
+    | inl u ↦ absurd (some_is_none (rw (t, u) at e))
+    | inr u ↦ (λ h. leb-false f x.last u, uncovered_by f xs (rw (t, u) at e))
+  ]
+  | inr t ↦ (λ h. (let g = leb-false x.first f t in absurd (omega arith)), uncovered_by f xs (rw t at e))
+]
+  where
+    some_is_none : {A : Type 0} {a : A} → Some a ≡ None → ⊥
+    some_is_none e = cc
+
+pub least_below : (best : ℕ) (xs : List ℕ) → fold min best xs ≤ best
+least_below best [] = omega arith
+least_below best (x ∷ xs) = let r = least_below (min best x) xs in omega arith
+
+none_before : (f last best : ℕ) (xs : List ℕ) → last < fold min best (filter (nat_lt f) xs) → NoneBegins f last xs
+none_before f last best [] h = tt
+none_before f last best (x ∷ xs) h = elim (either (ltb f x)) [
+  | inl t ↦
+      let k : last < fold min (min best x) (filter (nat_lt f) xs) = rw t at h in
+      ((λ g. (let r = least_below (min best x) (filter (nat_lt f) xs) in omega arith)), none_before f last (min best x) xs k)
+  | inr t ↦ ((λ g. (let le = ltb-false f x t in absurd (omega arith))), none_before f last best xs (rw t at h))
+]
+
+pub none_begins : (f last : ℕ) (firsts : List ℕ) → last < next_first f firsts → NoneBegins f last firsts
+none_begins f last firsts h = none_before f last (record_number_limit + 1) firsts h
+
+pub before_limit : (f last : ℕ) (firsts : List ℕ) → last < next_first f firsts → last ≤ record_number_limit
+before_limit f last firsts h = let r = least_below (record_number_limit + 1) (filter (nat_lt f) firsts) in omega arith
+
+-- ---- entries that go on from another number, and up to one that is higher
+
+past_most : (low low' : ℕ) (es : Entries) → past_entries low' es ≤ max (past_entries low es) low'
+past_most low low' no_entry = omega arith
+past_most low low' (block first last place packed es) = omega arith
+past_most low low' (lower first last nodes es) = omega arith
+
+past_both : (low : ℕ) (es fs : Entries) → past_entries low (with_both es fs) ≡ past_entries (past_entries low es) fs
+past_both low no_entry fs = refl
+past_both low (block first last place packed es) fs = past_both (suc last) es fs
+past_both low (lower first last nodes es) fs = past_both (suc last) es fs
+
+pub widened_entries : (low high high' : ℕ) (es : Entries) → high ≤ high' → AreInOrder low high es → AreInOrder low high' es
+unfolding AreInOrder
+widened_entries low high high' no_entry l o = tt
+widened_entries low high high' (block first last place packed es) l o = let o2 = o.2 in (o.0, o.1, omega arith, widened_entries (suc last) high high' es l o.3)
+widened_entries low high high' (lower first last nodes es) l o = let o2 = o.2 in (o.0, o.1, omega arith, o.3, widened_entries (suc last) high high' es l o.4)
+
+pub widened : (low high high' : ℕ) (ns : Nodes) → high ≤ high' → InOrder low high ns → InOrder low high' ns
+unfolding InOrder
+widened low high high' no_node l o = tt
+widened low high high' (node place room es more) l o = (widened_entries low high high' es l o.0, widened (past_entries low es) high high' more l o.1)
+
+no_true : false ≡ true → ⊥
+no_true e = cc
+
+no_false : true ≡ false → ⊥
+no_false e = cc
+
+not_first : (f first : ℕ) (p : Bool) → (leb first f || p) ≡ false → f < first
+not_first f first p e = elim (either (leb first f)) [ inl t ↦ absurd (no_false (rw t at e)) | inr t ↦ leb-false first f t ]
+
+not_later : (f first : ℕ) (p : Bool) → (leb first f || p) ≡ false → p ≡ false
+not_later f first p e = elim (either (leb first f)) [ inl t ↦ absurd (no_false (rw t at e)) | inr t ↦ rw t at e ]
+
+-- those that begin past a record also begin past the last one of a leaf
+pub raised_entries : (f last low low' high : ℕ) (es : Entries) → AreInOrder low high es → reaches f es ≡ false → NoneBegins f last (entry_firsts es) → low' ≤ max low (suc last) → AreInOrder low' high es
+unfolding AreInOrder entry_firsts
+raised_entries f last low low' high no_entry o r n l = tt
+raised_entries f last low low' high (block first last' place packed es) o r n l = let o0 = o.0 in let g = n.0 (not_first f first (reaches f es) r) in (omega arith, o.1, o.2, o.3)
+raised_entries f last low low' high (lower first last' nodes es) o r n l = let o0 = o.0 in let g = n.0 (not_first f first (reaches f es) r) in (omega arith, o.1, o.2, o.3, o.4)
+
+pub raised : (f last low low' high : ℕ) (ns : Nodes) → InOrder low high ns → chain_reaches f ns ≡ false → NoneBegins f last (firsts_of ns) → low' ≤ max low (suc last) → InOrder low' high ns
+unfolding InOrder firsts_of
+raised f last low low' high no_node o r n l = tt
+raised f last low low' high (node place room es more) o r n l =
+    let s = none_split f last (entry_firsts es) (firsts_of more) n in
+    let here : reaches f es ≡ false = first_false (reaches f es) (chain_reaches f more) r in
+    let there : chain_reaches f more ≡ false = second_false (reaches f es) (chain_reaches f more) r in
+    let p = past_most low low' es in
+    let e = end_after low high es o.0 in
+    (raised_entries f last low low' high es o.0 here s.0 l, raised f last (past_entries low es) (past_entries low' es) high more o.1 there s.1 (omega arith))
+  where
+    first_false : (p q : Bool) → (p || q) ≡ false → p ≡ false
+    first_false true q e = absurd (no_false e)
+    first_false false q e = refl
+
+    second_false : (p q : Bool) → (p || q) ≡ false → q ≡ false
+    second_false true q e = absurd (no_false e)
+    second_false false q e = e
+
+-- ---- the entries of a node that begin at a record or before it, and the others
+
+both_in_order : (low high : ℕ) (es fs : Entries) → AreInOrder low high es → AreInOrder (past_entries low es) high fs → AreInOrder low high (with_both es fs)
+unfolding AreInOrder
+both_in_order low high no_entry fs o p = p
+both_in_order low high (block first last place packed es) fs o p = (o.0, o.1, o.2, both_in_order (suc last) high es fs o.3 p)
+both_in_order low high (lower first last nodes es) fs o p = (o.0, o.1, o.2, o.3, both_in_order (suc last) high es fs o.4 p)
+
+parts_in_order : (low high : ℕ) (es fs : Entries) → AreInOrder low high (with_both es fs) → AreInOrder low high es × AreInOrder (past_entries low es) high fs
+unfolding AreInOrder
+parts_in_order low high no_entry fs o = (tt, o)
+parts_in_order low high (block first last place packed es) fs o = let r = parts_in_order (suc last) high es fs o.3 in ((o.0, o.1, o.2, r.0), r.1)
+parts_in_order low high (lower first last nodes es) fs o = let r = parts_in_order (suc last) high es fs o.4 in ((o.0, o.1, o.2, o.3, r.0), r.1)
+
+-- where the last of them names a block, they end before the record
+front_ends : (f low high : ℕ) (given : Bool) (es : Entries) → AreInOrder low high es → leads_down f given es ≡ false → (given ≡ false → low ≤ f) → Uncovered f (entry_leaves es) → past_entries low (front f es) ≤ f
+unfolding AreInOrder entry_leaves
+front_ends f low high given no_entry o d g u = g d
+front_ends f low high given (block first last place packed es) o d g u = elim (either (leb first f)) [
+  | inl t ↦ let b = u.0 (leb-true first f t) in rw t (front_ends f (suc last) high false es o.3 (rw t at d) (λ e. b) u.1)
+  | inr t ↦ rw t (g (rw t at d))
+]
+front_ends f low high given (lower first last nodes es) o d g u = elim (either (leb first f)) [
+  | inl t ↦ rw t (front_ends f (suc last) high true es o.4 (rw t at d) (λ e. absurd (no_false e)) (uncovered_split f (leaves_of nodes) (entry_leaves es) u).1)
+  | inr t ↦ rw t (g (rw t at d))
+]
+
+firsts_both : (f last : ℕ) (es fs : Entries) → NoneBegins f last (entry_firsts (with_both es fs)) → NoneBegins f last (entry_firsts fs)
+unfolding entry_firsts
+firsts_both f last no_entry fs n = n
+firsts_both f last (block first last' place packed es) fs n = firsts_both f last es fs n.1
+firsts_both f last (lower first last' nodes es) fs n = firsts_both f last es fs (none_split f last (firsts_of nodes) (entry_firsts (with_both es fs)) n.1).1
+
+pub none_behind : (f first last high : ℕ) (es : Entries) → f < first → first ≤ last → AreInOrder (suc last) high es → reaches f es ≡ false
+none_behind f first last high es g l o = elim (either (reaches f es)) [
+  | inl t ↦ let r = reaches_from f (suc last) high es o t in absurd (omega arith)
+  | inr t ↦ t
+]
+
+none_reached : (f low high : ℕ) (es : Entries) → AreInOrder low high es → reaches f (past f es) ≡ false
+unfolding AreInOrder
+none_reached f low high no_entry o = refl
+none_reached f low high (block first last place packed es) o = elim (either (leb first f)) [
+  | inl t ↦ rw t (none_reached f (suc last) high es o.3)
+  | inr t ↦ let b = none_behind f first last high es (leb-false first f t) o.1 o.3 in rw t (rw t b)
+]
+none_reached f low high (lower first last nodes es) o = elim (either (leb first f)) [
+  | inl t ↦ rw t (none_reached f (suc last) high es o.4)
+  | inr t ↦ let b = none_behind f first last high es (leb-false first f t) o.1 o.4 in rw t (rw t b)
+]
+
+not_none : (n : ℕ) → suc n ≡ 0 → ⊥
+not_none n e = absurd (omega arith)
+
+none_left : (low : ℕ) (es : Entries) → eqb (entry_count es) 0 ≡ true → past_entries low es ≡ low
+none_left low no_entry t = refl
+none_left low (block first last place packed es) t = absurd (not_none (entry_count es) (eqb-true (suc (entry_count es)) 0 t))
+none_left low (lower first last nodes es) t = absurd (not_none (entry_count es) (eqb-true (suc (entry_count es)) 0 t))
+
+order_with_entry : (new : Leaf) (at place room low high : ℕ) (es : Entries) (more : Nodes) → InOrder low high (node place room es more) → leads_down new.first false es ≡ false → chain_reaches new.first more ≡ false
+    → low ≤ new.first → new.first ≤ new.last → new.last ≤ high → Uncovered new.first (entry_leaves es) → NoneBegins new.first new.last (entry_firsts es) → NoneBegins new.first new.last (firsts_of more) → InOrder low high (with_entry new at place room es more)
+unfolding InOrder AreInOrder
+order_with_entry new at place room low high es more o d c l k h u n n' =
+    let f = new.first in
+    let fr = front f es in
+    let bk = past f es in
+    let whole = front_past f es in
+    let parts = parts_in_order low high fr bk (subst (AreInOrder low high) (sym whole) o.0) in
+    let ends = front_ends f low high false es o.0 d (λ e. l) u in
+    let begin = firsts_both f new.last fr bk (subst (λ (x : Entries). NoneBegins f new.last (entry_firsts x)) (sym whole) n) in
+    let unreached = none_reached f low high es o.0 in
+    let back = raised_entries f new.last (past_entries low fr) (suc new.last) high bk parts.1 unreached begin (omega arith) in
+    let past_is : past_entries low es ≡ past_entries (past_entries low fr) bk = ap (past_entries low) (sym whole) ∙ past_both low fr bk in
+    let most = past_most (past_entries low fr) (suc new.last) bk in
+    let rest = raised f new.last (past_entries low es) (past_entries (suc new.last) bk) high more o.1 c n' (omega arith) in
+    elim (either (ltb (entry_count es) room)) [
+      | inl t ↦
+          let same = upto_both new es bk in
+          let past_all : past_entries low (with_both fr (with_block new bk)) ≡ past_entries (suc new.last) bk = past_both low fr (with_block new bk) in
+          rw (t, same) (both_in_order low high fr (with_block new bk) parts.0 (ends, k, h, back), rw past_all rest)
+      | inr t ↦ elim (either (eqb (entry_count bk) 0)) [
+        | inl z ↦
+            let none = none_left (past_entries low fr) bk z in
+            let last_ones = raised f new.last (past_entries low es) (suc new.last) high more o.1 c n' (omega arith) in
+            rw (t, z) (o.0, ((omega arith, k, h, tt), last_ones))
+        | inr z ↦
+            let same = upto_is new es in
+            let past_all : past_entries low (with_both fr (with_block new no_entry)) ≡ suc new.last = past_both low fr (with_block new no_entry) in
+            rw (t, z, same) (both_in_order low high fr (with_block new no_entry) parts.0 (ends, k, h, tt), rw past_all (back, rest))
+      ]
+    ]
+
+-- ---- the index
+
+mutual
+  unfolding InOrder AreInOrder leaves_of entry_leaves firsts_of entry_firsts with_leaf with_lower
+
+  pub leaf_in_order : (new : Leaf) (at low high : ℕ) (index : Nodes) → InOrder low high index → low ≤ new.first → new.first ≤ new.last → new.last ≤ high → Uncovered new.first (leaves_of index) → NoneBegins new.first new.last (firsts_of index) → InOrder low high (with_leaf new at index)
+  leaf_in_order new at low high no_node o l k h u n = ((l, k, h, tt), tt)
+  leaf_in_order new at low high (node place room es more) o l k h u n =
+      let us = uncovered_split new.first (entry_leaves es) (leaves_of more) u in
+      let ns = none_split new.first new.last (entry_firsts es) (firsts_of more) n in
+      elim (either (chain_reaches new.first more)) [
+        | inl r ↦ rw r (o.0, leaf_in_order new at (past_entries low es) high more o.1 (chain_reaches_from new.first (past_entries low es) high more o.1 r) k h us.1 ns.1)
+        | inr r ↦ elim (either (leads_down new.first false es)) [
+          | inl d ↦
+              let p = lower_in_order new at low high false es o.0 d (λ e. absurd (no_true e)) k h us.0 ns.0 in
+              rw (r, d) (p.0, raised new.first new.last (past_entries low es) (past_entries low (with_lower new at es)) high more o.1 r ns.1 p.1)
+          | inr d ↦ rw (r, d) (order_with_entry new at place room low high es more o d r l k h us.0 ns.0 ns.1)
+        ]
+      ]
+
+  pub lower_in_order : (new : Leaf) (at low high : ℕ) (given : Bool) (es : Entries) → AreInOrder low high es → leads_down new.first given es ≡ true → (given ≡ true → reaches new.first es ≡ true) → new.first ≤ new.last → new.last ≤ high
+      → Uncovered new.first (entry_leaves es) → NoneBegins new.first new.last (entry_firsts es) → AreInOrder low high (with_lower new at es) × (past_entries low (with_lower new at es) ≤ max (past_entries low es) (suc new.last))
+  lower_in_order new at low high given no_entry o d g k h u n = absurd (no_true (g d))
+  lower_in_order new at low high given (block first last place packed es) o d g k h u n = elim (either (leb first new.first)) [
+    | inl s ↦ let r = lower_in_order new at (suc last) high false es o.3 (rw s at d) (λ e. absurd (no_true e)) k h u.1 n.1 in ((o.0, o.1, o.2, r.0), r.1)
+    | inr s ↦ let is : given ≡ true = rw s at d in let b = none_behind new.first first last high es (leb-false first new.first s) o.1 o.3 in let w : reaches new.first es ≡ true = rw s at (g is) in absurd (no_true (sym b ∙ w))
+  ]
+  lower_in_order new at low high given (lower first last nodes es) o d g k h u n =
+      let us = uncovered_split new.first (leaves_of nodes) (entry_leaves es) u in
+      let ns = none_split new.first new.last (firsts_of nodes) (entry_firsts es) n.1 in
+      elim (either (leb first new.first)) [
+        | inl s ↦ elim (either (reaches new.first es)) [
+          | inl r ↦ let p = lower_in_order new at (suc last) high true es o.4 (rw s at d) (λ e. r) k h us.1 ns.1 in rw r ((o.0, o.1, o.2, o.3, p.0), p.1)
+          | inr r ↦
+              let o1 = o.1 in
+              let o2 = o.2 in
+              let wide = max last new.last in
+              let low_wide = widened first last wide nodes (omega arith) o.3 in
+              let inner = leaf_in_order new at first wide nodes low_wide (leb-true first new.first s) k (omega arith) us.0 ns.0 in
+              let rest = raised_entries new.first new.last (suc last) (suc wide) high es o.4 r ns.1 (omega arith) in
+              let most = past_most (suc last) (suc wide) es in
+              let end = end_after (suc last) high es o.4 in
+              rw r ((o.0, omega arith, omega arith, inner, rest), omega arith)
+        ]
+        | inr s ↦ let is : given ≡ true = rw s at d in let b = none_behind new.first first last high es (leb-false first new.first s) o.1 o.4 in let w : reaches new.first es ≡ true = rw s at (g is) in absurd (no_true (sym b ∙ w))
+      ]
+
+pub order_with_leaf : (new : Leaf) (at : ℕ) (index : Nodes) → InOrder 0 record_number_limit index → new.first ≤ new.last → find (λ (leaf : Leaf). covers new.first (range leaf.first leaf.last)) (leaves_of index) ≡ None → new.last < next_first new.first (firsts_of index)
+    → InOrder 0 record_number_limit (with_leaf new at index)
+order_with_leaf new at index o k u n =
+    leaf_in_order new at 0 record_number_limit index o (omega arith) k (before_limit new.first new.last (firsts_of index) n) (uncovered_by new.first (leaves_of index) u) (none_begins new.first new.last (firsts_of index) n)
+
+-- ---- from the order to the rules
+
+lt_between : (low first : ℕ) → low ≤ first → int_lt (before_number low) (pos first) ≡ true
+lt_between zero first l = refl
+lt_between (suc low) first l = lt-ltb low first l
+
+between_by : (low high first last : ℕ) → high ≤ record_number_limit → low ≤ first → first ≤ last → last ≤ high → is_between (before_number low) (pos high) first last ≡ true
+between_by low high first last m l k h =
+    let a = signed first (omega arith) in
+    let b = signed last (omega arith) in
+    let p = lt_between low first l in
+    let q = le-leb first last k in
+    let r = le-leb last high h in
+    rw (a, b, p, q, r) refl
+
+before_is : (n : ℕ) → n ≤ record_number_limit → number_before n ≡ before_number n
+before_is zero m = ap (λ (z : ℤ). z -ℤ pos 1) (signed zero m)
+before_is (suc n) m = ap (λ (z : ℤ). z -ℤ pos 1) (signed (suc n) m) ∙ -ℤ_one (pos (suc n))
+
+one_left : (l : Leaf) (xs ys : List Leaf) → IsOneOf xs l → IsOneOf (xs ++ ys) l
+one_left l [] ys i = absurd i
+one_left l (x ∷ xs) ys (inl e) = inl e
+one_left l (x ∷ xs) ys (inr i) = inr (one_left l xs ys i)
+
+one_right : (l : Leaf) (xs ys : List Leaf) → IsOneOf ys l → IsOneOf (xs ++ ys) l
+one_right l [] ys i = i
+one_right l (x ∷ xs) ys i = inr (one_right l xs ys i)
+
+module _ (b records : List ℕ) where
+  mutual
+    unfolding nodes_rows used_rows InOrder AreInOrder nodes_of lower_nodes leaves_of entry_leaves
+
+    pub rules_from : (low high : ℕ) (nodes : Nodes) → high ≤ record_number_limit → InOrder low high nodes → ((m : ℕ) → In m (nodes_of nodes) → has_room b m ≡ true) → ((l : Leaf) → IsOneOf (leaves_of nodes) l → is_block b records l.place ≡ true)
+        → Hold (nodes_rows b records (before_number low) (pos high) nodes)
+    rules_from low high no_node m o room is = tt
+    rules_from low high (node place wide entries more) m o room is =
+        let p = entries_rules_from place low high entries m o.0 (λ k i. room k (inr (In-append_left k (lower_nodes entries) (nodes_of more) i))) (λ l i. is l (one_left l (entry_leaves entries) (leaves_of more) i)) in
+        let q = rules_from (past_entries low entries) high more m o.1 (λ k i. room k (inr (In-append_right k (lower_nodes entries) (nodes_of more) i))) (λ l i. is l (one_right l (entry_leaves entries) (leaves_of more) i)) in
+        (room place (inl refl), Hold-append (used_rows b records place (before_number low) (pos high) entries) (nodes_rows b records (end_of (before_number low) entries) (pos high) more) p.0 (subst (λ (z : ℤ). Hold (nodes_rows b records z (pos high) more)) (sym p.1) q))
+
+    entries_rules_from : (vxr low high : ℕ) (entries : Entries) → high ≤ record_number_limit → AreInOrder low high entries → ((m : ℕ) → In m (lower_nodes entries) → has_room b m ≡ true) → ((l : Leaf) → IsOneOf (entry_leaves entries) l → is_block b records l.place ≡ true)
+        → Hold (used_rows b records vxr (before_number low) (pos high) entries) × (end_of (before_number low) entries ≡ before_number (past_entries low entries))
+    entries_rules_from vxr low high no_entry m o room is = (tt, refl)
+    entries_rules_from vxr low high (block first last place packed entries) m o room is =
+        let o2 = o.2 in
+        let s = signed last (omega arith) in
+        let r = entries_rules_from vxr (suc last) high entries m o.3 room (λ l i. is l (inr i)) in
+        ((is (leaf first last place packed) (inl refl), (between_by low high first last m o.0 o.1 o.2, subst (λ (z : ℤ). Hold (used_rows b records vxr z (pos high) entries)) (sym s) r.0)), ap (λ (z : ℤ). end_of z entries) s ∙ r.1)
+    entries_rules_from vxr low high (lower first last nodes entries) m o room is =
+        let o1 = o.1 in
+        let o2 = o.2 in
+        let s = signed last (omega arith) in
+        let f = before_is first (omega arith) in
+        let low_rules = rules_from first last nodes (omega arith) o.3 (λ k i. room k (In-append_left k (nodes_of nodes) (lower_nodes entries) i)) (λ l i. is l (one_left l (leaves_of nodes) (entry_leaves entries) i)) in
+        let r = entries_rules_from vxr (suc last) high entries m o.4 (λ k i. room k (In-append_right k (nodes_of nodes) (lower_nodes entries) i)) (λ l i. is l (one_right l (leaves_of nodes) (entry_leaves entries) i)) in
+        let here = subst (λ (z : ℤ). Hold (nodes_rows b records (number_before first) z nodes)) (sym s) (subst (λ (z : ℤ). Hold (nodes_rows b records z (pos last) nodes)) (sym f) low_rules) in
+        let behind = subst (λ (z : ℤ). Hold (used_rows b records vxr z (pos high) entries)) (sym s) r.0 in
+        ((between_by low high first last m o.0 o.1 o.2, Hold-append (nodes_rows b records (number_before first) (with_sign last) nodes) (used_rows b records vxr (with_sign last) (pos high) entries) here behind), ap (λ (z : ℤ). end_of z entries) s ∙ r.1)
+
+  leaves_rules : (vdr : ℕ) (leaves : List Leaf) → ((l : Leaf) → IsOneOf leaves l → Hold (leaf_rows b records vdr l)) → Hold (flat_map (leaf_rows b records vdr) leaves)
+  leaves_rules vdr [] each = tt
+  leaves_rules vdr (x ∷ xs) each = Hold-append (leaf_rows b records vdr x) (flat_map (leaf_rows b records vdr) xs) (each x (inl refl)) (leaves_rules vdr xs (λ l i. each l (inr i)))
+
+  -- an index in order, of which each node and each block is one
+  pub index_rules : (vdr : ℕ) (index : Nodes) → InOrder 0 record_number_limit index → ((m : ℕ) → In m (nodes_of index) → has_room b m ≡ true) → ((l : Leaf) → IsOneOf (leaves_of index) l → (is_block b records l.place ≡ true) × Hold (leaf_rows b records vdr l))
+      → Hold (index_rows b records vdr index)
+  index_rules vdr index o room each =
+      Hold-append (nodes_rows b records (negsuc 0) (pos record_number_limit) index) (flat_map (leaf_rows b records vdr) (leaves_of index)) (rules_from 0 record_number_limit index (omega arith) o room (λ l i. (each l i).0))
+      (leaves_rules vdr (leaves_of index) (λ l i. (each l i).1))
+
+  pub index_order : (vdr : ℕ) (index : Nodes) → Hold (index_rows b records vdr index) → InOrder 0 record_number_limit index
+  index_order vdr index h = order_from b records 0 record_number_limit index (Hold-split (nodes_rows b records (negsuc 0) (pos record_number_limit) index) (flat_map (leaf_rows b records vdr) (leaves_of index)) h).0
+
+pub index_rules_with_leaf : (b now records records' : List ℕ) (vdr : ℕ) (new : Leaf) (at : ℕ) (index : Nodes) → Hold (index_rows b records vdr index) → new.first ≤ new.last
+    → find (λ (leaf : Leaf). covers new.first (range leaf.first leaf.last)) (leaves_of index) ≡ None → new.last < next_first new.first (firsts_of index)
+    → ((m : ℕ) → In m (nodes_of (with_leaf new at index)) → has_room now m ≡ true) → ((l : Leaf) → IsOneOf (leaves_of (with_leaf new at index)) l → (is_block now records' l.place ≡ true) × Hold (leaf_rows now records' vdr l))
+    → Hold (index_rows now records' vdr (with_leaf new at index))
+index_rules_with_leaf b now records records' vdr new at index h k u n room each = index_rules now records' vdr (with_leaf new at index) (order_with_leaf new at index (index_order b records vdr index h) k u n) room each

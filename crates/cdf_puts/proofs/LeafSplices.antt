@@ -1,0 +1,374 @@
+-- A leaf that is added leaves the file, all attributes and the other variables, and the variable is linked with the index that has it.
+use Rattle.std.proofs.Common.{◌≡◌, ◌≢◌, ◌⊎◌, ℕ, zero, suc, ◌+◌, ◌<◌, ◌≤◌, List, [], ◌∷◌, ◌++◌, length, true, true≢false, refl, sym, ap, subst, ◌∙◌, arith, inl, inr}
+use Rattle.std.proofs.lemmas.Bool.{ne_eqb}
+use Rattle.std.specs.List.{before_first, flat_map}
+use Rattle.std.specs.Prelude.{◌==◌, if◌then◌else◌}
+use Rattle.cdf_model.specs.declared.kinds.Kind.{Kind}
+use Rattle.cdf_model.specs.declared.kinds.Kind.TheVariants.{R, Z}
+use Rattle.cdf_format.specs.Bytes.{Same}
+use Rattle.cdf_format.specs.Chains.{is_a, is_in, IsChain}
+use Rattle.cdf_format.specs.Fields.{number, name_in, has_bit, size_at, type_at, eof}
+use Rattle.cdf_format.specs.Index.{Leaf, nodes_of, leaves_of}
+use Rattle.cdf_format.specs.Owners.{variable_records}
+use Rattle.cdf_format.specs.Records.{Field, gdr_eof, gdr_uir_head, vdr_num, vdr_flags, vdr_name}
+use Rattle.cdf_format.specs.RecordTypes.{gdr_type, r_vdr_type, z_vdr_type, vxr_type, vvr_type, cvvr_type, cpr_type, uir_type, is_record_type, fixed_size}
+use Rattle.cdf_format.specs.Shape.{VariableShape, Shape, vdrs, cpr_of, is_compressed, Each, HasVariable, HasShape, shape}
+use Rattle.cdf_format.specs.Sound.{LeafFits, IsSound}
+use Rattle.cdf_format.specs.Tiles.{In}
+use Rattle.cdf_format.specs.VariableFields.{pad_field}
+use Rattle.cdf_format.specs.WellFormed.{Good}
+use Rattle.cdf_format.proofs.BytesLemmas.{word_kept, piece_kept, size_kept, type_kept}
+use Rattle.cdf_format.proofs.ChainsLemmas.{is_a-type, linkable-in, linkable-type}
+use Rattle.cdf_format.proofs.GoodImageLemmas.{vdrs_append}
+use Rattle.cdf_format.proofs.GoodSound.{good_is_sound}
+use Rattle.cdf_format.proofs.Members.{In-append}
+use Rattle.cdf_format.proofs.TilesLemmas.{tile_lies}
+use Rattle.cdf_edits.specs.Commands.Allowances.{shapes_of}
+use Rattle.cdf_edits.specs.Edits.Edit.{Edit}
+use Rattle.cdf_edits.specs.Edits.Marks.{Mark, Avoids, Away, avoided, unmarked, variable_types, keeps_file}
+use Rattle.cdf_edits.specs.Index.Grown.{with_leaf, new_room}
+use Rattle.cdf_edits.specs.Space.Chains.{head_of, count_of, type_in}
+use Rattle.cdf_edits.specs.Space.VariableChains.{variables_chain}
+use Rattle.cdf_edits.proofs.Edits.Composing.{head_size, head_type, edit_then}
+use Rattle.cdf_edits.proofs.Edits.InRecords.{places_of}
+use Rattle.cdf_edits.proofs.Edits.MadeRecord.{place_in, filled_size, fresh}
+use Rattle.cdf_edits.proofs.Edits.MarkLemmas.{the_one, or_cases, away-avoids, unmarked-away, Avoids-append, Away-append}
+use Rattle.cdf_edits.proofs.Edits.RecordFrame.{kept, kept_away, chain_stays, field_avoids, gdr_field, file_same}
+use Rattle.cdf_edits.proofs.Edits.StepEdits.{gdr_in, gdr_typed, gdr_long, fixed_long}
+use Rattle.cdf_edits.specs.Commands.Room.{vxr_bytes}
+use Rattle.cdf_edits.proofs.Edits.VariableCopied.{node_behind, block_behind}
+use Rattle.cdf_edits.proofs.Edits.VariableFrame.{variable_typed, variables_away, variables_in, remain_from}
+use Rattle.cdf_edits.proofs.Edits.VariableKept.{OnlyVariable, only_variable}
+use Rattle.cdf_edits.proofs.Edits.VariableKinds.{other_kind, keeps_kind, kind_chain, kind_ours, in_gdr}
+use Rattle.cdf_edits.proofs.Edits.VariableSplice.{VariableSplices, keeps_all_attributes}
+use Rattle.cdf_edits.proofs.Edits.VdrEdited.{StandsAmong, through, least_size, tile, typed, long, has, fits, ours, after_ours, behind_in}
+use Rattle.cdf_edits.proofs.Frame.Meaning.{FileSame, Kept}
+use Rattle.cdf_edits.proofs.Frame.OwnersApart.{all_variable_records}
+use Rattle.cdf_edits.proofs.Frame.VdrAlike.{VdrAlike, copied_in_place, cpr_link_alike}
+use Rattle.cdf_edits.proofs.Space.UsedRecords.{apart}
+use Rattle.cdf_edits.specs.Space.Placing.{type_of_body}
+use Rattle.cdf_index.specs.Adding.{NodeTaken, LeafAdded}
+use Rattle.cdf_index.specs.Replacing.{with_index}
+use Rattle.cdf_puts.proofs.LeafEdit.{placing_marks, node_marks, new_nodes, index_marks, leaf_marks, node_stands, space_away, vdr_no_space, first, second, third, edit}
+
+-- ---- which records the marks leave by their types alone
+
+pub record LeafTests (kind : Kind) (marks : List Mark) : Type 0 where
+  pub file_clear : keeps_file marks ≡ true
+  pub attributes_clear : keeps_all_attributes marks ≡ true
+  pub other_clear : keeps_kind marks (other_kind kind) ≡ true
+  pub blocks_clear : unmarked marks vvr_type ≡ true
+  pub packed_clear : unmarked marks cvvr_type ≡ true
+  pub cpr_clear : unmarked marks cpr_type ≡ true
+  pub head_clear : avoided marks gdr_type (head_of (variables_chain kind)).place ((head_of (variables_chain kind)).place + (head_of (variables_chain kind)).width) ≡ true
+  pub count_clear : avoided marks gdr_type (count_of (variables_chain kind)).place ((count_of (variables_chain kind)).place + (count_of (variables_chain kind)).width) ≡ true
+  pub max_clear : avoided marks gdr_type 52 56 ≡ true
+
+pub leaf_tests : (kind : Kind) (v : ℕ) (nodes unused : List ℕ) (place need : ℕ) (unused' : List ℕ) (room at most : ℕ) → LeafTests kind (leaf_marks kind v nodes unused place need unused' room at most)
+leaf_tests R v nodes unused place need unused' zero at most = record { file_clear = refl; attributes_clear = refl; other_clear = refl; blocks_clear = refl; packed_clear = refl; cpr_clear = refl; head_clear = refl; count_clear = refl; max_clear = refl }
+leaf_tests R v nodes unused place need unused' (suc room) at most = record { file_clear = refl; attributes_clear = refl; other_clear = refl; blocks_clear = refl; packed_clear = refl; cpr_clear = refl; head_clear = refl; count_clear = refl; max_clear = refl }
+leaf_tests Z v nodes unused place need unused' zero at most = record { file_clear = refl; attributes_clear = refl; other_clear = refl; blocks_clear = refl; packed_clear = refl; cpr_clear = refl; head_clear = refl; count_clear = refl; max_clear = refl }
+leaf_tests Z v nodes unused place need unused' (suc room) at most = record { file_clear = refl; attributes_clear = refl; other_clear = refl; blocks_clear = refl; packed_clear = refl; cpr_clear = refl; head_clear = refl; count_clear = refl; max_clear = refl }
+
+vdr_no_gdr : (kind : Kind) → type_in (variables_chain kind) ≡ gdr_type → ⊥
+vdr_no_gdr R = apart r_vdr_type gdr_type refl
+vdr_no_gdr Z = apart z_vdr_type gdr_type refl
+
+vdr_no_node : (kind : Kind) → type_in (variables_chain kind) ≡ vxr_type → ⊥
+vdr_no_node R = apart r_vdr_type vxr_type refl
+vdr_no_node Z = apart z_vdr_type vxr_type refl
+
+-- a record of a variable is neither the GDR nor unused
+pub variable_unspaced : (unused : List ℕ) (place need type : ℕ) → is_in type variable_types ≡ true → unmarked (placing_marks unused place need) type ≡ true
+variable_unspaced unused place need type i = rw (ne_eqb type gdr_type no_gdr, ne_eqb type uir_type no_uir) refl
+  where
+    no_gdr : type ≢ gdr_type
+    no_gdr e = true≢false (sym (ap (λ (x : ℕ). is_in x variable_types) (sym e) ∙ i))
+
+    no_uir : type ≢ uir_type
+    no_uir e = true≢false (sym (ap (λ (x : ℕ). is_in x variable_types) (sym e) ∙ i))
+
+vdr_no_uir : (kind : Kind) → type_in (variables_chain kind) ≡ uir_type → ⊥
+vdr_no_uir R = apart r_vdr_type uir_type refl
+vdr_no_uir Z = apart z_vdr_type uir_type refl
+
+-- blocks, by their types
+block_type : (b records : List ℕ) (vdr : ℕ) (leaves : List Leaf) → Each (LeafFits b records vdr) leaves → (m : ℕ) → In m (places_of leaves) → (type_at b m ≡ vvr_type) ⊎ (type_at b m ≡ cvvr_type)
+block_type b records vdr [] each m i = absurd i
+block_type b records vdr (l ∷ more) each m (inl q) = elim (or_cases (is_a b records vvr_type l.place) (is_a b records cvvr_type l.place) each.0.0) [
+  | inl p ↦ inl (ap (type_at b) q ∙ is_a-type b records vvr_type l.place p)
+  | inr p ↦ inr (ap (type_at b) q ∙ is_a-type b records cvvr_type l.place p)
+]
+block_type b records vdr (l ∷ more) each m (inr i) = block_type b records vdr more each.1 m i
+
+-- ---- what is new
+
+-- a node that is taken was unused, or no record
+pub node_fresh : {b : List ℕ} (now : List ℕ) (room at : ℕ) → IsSound b (shape b) → NodeTaken b now room at → (m : ℕ) → In m (new_nodes room at) → In m (shape b).records → type_at b m ≡ uir_type
+node_fresh now zero at sound taken m i stands = absurd i
+node_fresh {b = b} now (suc room) at sound taken m i stands =
+    let q = the_one at m i in
+    ap (type_at b) q ∙ fresh sound taken.fills (subst (λ (x : ℕ). In x (shape b).records) q stands)
+
+module _ {b now : List ℕ} {kind : Kind} {before : List VariableShape} {own : VariableShape} {after : List VariableShape} {new : Leaf} {body : List ℕ} {at : ℕ} (good : Good b) (among : StandsAmong b kind before own after) (w : LeafAdded b now own new body at) where
+  abbrev s : Shape
+  s = shape b
+
+  abbrev v : ℕ
+  v = own.vdr
+
+  abbrev type : ℕ
+  type = type_in (variables_chain kind)
+
+  abbrev need : ℕ
+  need = 8 + length body
+
+  abbrev room : ℕ
+  room = new_room new.first own.index
+
+  abbrev nodes : List ℕ
+  nodes = nodes_of own.index
+
+  abbrev most : ℕ
+  most = length w.roomy
+
+  abbrev marks : List Mark
+  marks = leaf_marks kind v nodes s.unused new.place need (shape w.filled).unused room at most
+
+  abbrev reborn : List ℕ
+  reborn = new.place ∷ new_nodes room at
+
+  abbrev pub with_new : VariableShape
+  with_new = with_index own (with_leaf new at own.index)
+
+  sound : IsSound b s
+  sound = good_is_sound b good
+
+  h : HasShape b s
+  h = sound.has_shape
+
+  e : Edit b now s.records (shape w.roomy).records marks reborn
+  e = edit good among w
+
+  pub tests : LeafTests kind marks
+  tests = leaf_tests kind v nodes s.unused new.place need (shape w.filled).unused room at most
+
+  pub file : FileSame b now
+  file = file_same sound e tests.file_clear
+
+  -- ---- what is new
+
+  -- the block is in use once it is written
+  pub block_in : In new.place (shape w.filled).records
+  block_in = place_in sound w.block.fills
+
+  pub new_apart : In new.place (new_nodes room at) → ⊥
+  new_apart i = w.block.fills.in_use (sym w.block.fills.typed ∙ node_fresh w.roomy room at (first good among w).sound w.node new.place i block_in)
+
+  -- what is reborn was unused, or no record
+  pub new_fresh : (m : ℕ) → In m reborn → In m s.records → type_at b m ≡ uir_type
+  new_fresh m (inl q) stands = ap (type_at b) q ∙ fresh sound w.block.fills (subst (λ (x : ℕ). In x s.records) q stands)
+  new_fresh m (inr i) stands =
+      let unused_by_then = node_fresh w.roomy room at (first good among w).sound w.node m i ((first good among w).edit.sub m stands) in
+      elim ((first good among w).edit.kind m ((first good among w).edit.sub m stands)) [
+        | inl j ↦ sym j.1 ∙ unused_by_then
+        | inr (inl j) ↦ absurd (j.0 stands)
+        | inr (inr r) ↦ absurd (new_apart (subst (λ (x : ℕ). In x (new_nodes room at)) (the_one new.place m r) i))
+      ]
+
+  -- ---- records without marks
+
+  leaf_away : (t m : ℕ) → unmarked (placing_marks s.unused new.place need) t ≡ true → (m ≡ v → ⊥) → (t ≡ vxr_type → In m (new_nodes room at ++ nodes) → ⊥) → Away marks t m
+  leaf_away t m none other out =
+      Away-append (placing_marks s.unused new.place need ++ node_marks (shape w.filled).unused room at) (index_marks kind v (new_nodes room at ++ nodes) most) t m (space_away s.unused new.place need (shape w.filled).unused room at t m none)
+      ((λ same lies. other (the_one v m lies)), ((λ same lies. out same lies), tt))
+
+  -- records of variables that are not of this one
+  pub beside : (xs : List ℕ) → ((m : ℕ) → In m xs → In m (all_variable_records s)) → ((m : ℕ) → In m (variable_records own) → In m xs → ⊥) → (m : ℕ) → In m xs → Away marks (type_at b m) m
+  beside xs sub out m i =
+      leaf_away (type_at b m) m (variable_unspaced s.unused new.place need (type_at b m) (variable_typed b s sound m (sub m i))) (λ q. out m (subst (λ (x : ℕ). In x (variable_records own)) (sym q) (inl refl)) i)
+      (λ t j. elim (In-append m (new_nodes room at) nodes j) [
+        | inl k ↦ apart vxr_type uir_type refl (sym t ∙ new_fresh m (inr k) (variables_in b s sound m (sub m i)))
+        | inr k ↦ out m (inr (node_behind own m k)) i
+      ])
+
+  pub only : (m : ℕ) → In m (variable_records own) → OnlyVariable b s kind before after m
+  only m i = only_variable sound kind before own after among.was m i
+
+  -- its blocks
+  pub block_kept : (m : ℕ) → In m (places_of (leaves_of own.index)) → Kept b now m
+  block_kept m i =
+      let stands = behind_in good among m (block_behind own m i) in
+      elim (block_type b s.records v (leaves_of own.index) (fits good among).2 m i) [ inl t ↦ kept e m vvr_type stands t tests.blocks_clear | inr t ↦ kept e m cvvr_type stands t tests.packed_clear ]
+
+  -- ---- its VDR
+
+  any_avoids : (m lo hi : ℕ) → (hi ≤ 28) ⊎ (44 ≤ lo) → Avoids marks type m lo hi
+  any_avoids m lo hi side =
+      let space = placing_marks s.unused new.place need ++ node_marks (shape w.filled).unused room at in
+      Avoids-append space (index_marks kind v (new_nodes room at ++ nodes) most) type m lo hi (away-avoids space type m lo hi (space_away s.unused new.place need (shape w.filled).unused room at type m (vdr_no_space kind s.unused new.place need)))
+      ((λ same lies. side), ((λ same lies. absurd (vdr_no_node kind same)), tt))
+
+  pub part : (lo hi : ℕ) → (hi ≤ 28) ⊎ (44 ≤ lo) → hi ≤ size_at b v → Same b now (v + lo) (v + hi)
+  part lo hi side fit = e.part v type lo hi (tile good among) (typed good among) (any_avoids v 0 12 (inl (omega arith))) (any_avoids v lo hi side) fit
+
+  pub wide : 340 ≤ size_at b v
+  wide = long good among
+
+  pub part_of : (lo hi : ℕ) → (hi ≤ 28) ⊎ (44 ≤ lo) → hi ≤ 340 → Same b now (v + lo) (v + hi)
+  part_of lo hi side l = part lo hi side (through hi 340 (size_at b v) l wide)
+
+  pub vdr_size : size_at now v ≡ size_at b v
+  vdr_size = head_size b now v (part_of 0 12 (inl (omega arith)) (omega arith))
+
+  pub vdr_type : type_at now v ≡ type_at b v
+  vdr_type = head_type b now v (part_of 0 12 (inl (omega arith)) (omega arith))
+
+  pad_fits : (pad_field b v).place ≤ size_at b v
+  pad_fits = less (pad_field b v).place _ (size_at b v) (fits good among).0
+    where
+      less : (a p s : ℕ) → a + p ≤ s → a ≤ s
+      less a p s h = omega arith
+
+  pub vdr_alike : VdrAlike b now v v
+  vdr_alike = record {
+    typed = vdr_type;
+    type = copied_in_place b now v 20 24 (part_of 20 24 (inl (omega arith)) (omega arith));
+    second = copied_in_place b now v 48 68 (part_of 48 68 (inr (omega arith)) (omega arith));
+    third = copied_in_place b now v 72 80 (part_of 72 80 (inr (omega arith)) (omega arith));
+    behind = copied_in_place b now v 340 (pad_field b v).place (part 340 (pad_field b v).place (inr (omega arith)) pad_fits);
+  }
+
+  pub flags_same : number now v vdr_flags ≡ number b v vdr_flags
+  flags_same = word_kept b now (v + 44) (v + 48) (part_of 44 48 (inr (omega arith)) (omega arith)) (v + 44) 4 (omega arith) (omega arith)
+
+  pub packed_same : is_compressed now v ≡ is_compressed b v
+  packed_same = ap (λ (n : ℕ). has_bit n 2) flags_same
+
+  pub name_same : name_in now v vdr_name ≡ name_in b v vdr_name
+  name_same = ap (before_first (λ (x : ℕ). x == 0)) (piece_kept b now (v + 84) (v + 340) (part_of 84 340 (inr (omega arith)) (omega arith)) (v + 84) 256 (omega arith) (omega arith) (let high = (tile_lies b 8 (length b) s.records v h.tiled (tile good among)).high in let n = wide in omega arith) file.longer)
+
+  pub has_now : HasVariable now (shape w.roomy).records with_new
+  has_now =
+      let link = cpr_link_alike file vdr_alike in
+      let pack = packed_same in
+      let cpr : cpr_of now v ≡ cpr_of b v = λ i. if pack i then link i ∷ [] else [] in
+      record { indexed = w.index; packed_by = cpr ∙ (has good among).packed_by }
+
+  -- ---- the new records
+
+  block_unmarked : (kind : Kind) (v : ℕ) (nodes unused : List ℕ) (room at most : ℕ) (m : ℕ) → Away (node_marks unused room at) vvr_type m × Away (index_marks kind v nodes most) vvr_type m
+  block_unmarked R v nodes unused zero at most m = (tt, unmarked-away (index_marks R v nodes most) vvr_type m refl)
+  block_unmarked R v nodes unused (suc room) at most m = (unmarked-away (node_marks unused (suc room) at) vvr_type m refl, unmarked-away (index_marks R v nodes most) vvr_type m refl)
+  block_unmarked Z v nodes unused zero at most m = (tt, unmarked-away (index_marks Z v nodes most) vvr_type m refl)
+  block_unmarked Z v nodes unused (suc room) at most m = (unmarked-away (node_marks unused (suc room) at) vvr_type m refl, unmarked-away (index_marks Z v nodes most) vvr_type m refl)
+
+  -- nothing of the block is written once it is placed
+  pub placed_kept : type_of_body body ≡ vvr_type → Kept w.filled now new.place
+  placed_kept plain = kept_away (edit_then (second good among w).edit (third good among w)) new.place vvr_type block_in (w.block.fills.typed ∙ plain)
+      (Away-append (node_marks (shape w.filled).unused room at) (index_marks kind v (new_nodes room at ++ nodes) most) vvr_type new.place (block_unmarked kind v (new_nodes room at ++ nodes) (shape w.filled).unused room at most new.place).0 (block_unmarked kind v (new_nodes room at ++ nodes) (shape w.filled).unused room at most new.place).1)
+
+  pub placed_size : size_at w.filled new.place ≡ need
+  placed_size = filled_size sound w.block.fills
+
+  node_head : (kind : Kind) (v : ℕ) (ns : List ℕ) (m most' : ℕ) → Avoids (index_marks kind v ns most') vxr_type m 0 12
+  node_head kind v ns m most' = ((λ same lies. absurd (vdr_no_node kind (sym same))), ((λ same lies. inl (omega arith)), tt))
+
+  -- the new node has its type and its size
+  pub node_now : 0 < room → (type_at now at ≡ vxr_type) × (size_at now at ≡ vxr_bytes room)
+  node_now some =
+      let there = node_stands room at (first good among w).sound w.node some in
+      let avoid = node_head kind v (new_nodes room at ++ nodes) at most in
+      let head = (third good among w).part at vxr_type 0 12 there.inside there.typed avoid avoid (subst (λ (n : ℕ). 12 ≤ n) (sym there.size_is) (omega arith)) in
+      (head_type w.roomy now at head ∙ there.typed, head_size w.roomy now at head ∙ there.size_is)
+
+  new_node_some : (room at m : ℕ) → In m (new_nodes room at) → (0 < room) × (m ≡ at)
+  new_node_some zero at m i = absurd i
+  new_node_some (suc room) at m i = (omega arith, the_one at m i)
+
+  -- their types
+  pub type_now : type_of_body body ≡ vvr_type → (m : ℕ) → In m reborn → ((m ≡ new.place) × (type_at now m ≡ vvr_type)) ⊎ ((0 < room) × (m ≡ at) × (type_at now m ≡ vxr_type))
+  type_now plain m (inl q) =
+      let k = placed_kept plain in
+      inl (q, ap (type_at now) q ∙ type_kept w.filled now new.place k.same k.long ∙ w.block.fills.typed ∙ plain)
+  type_now plain m (inr i) = let x = new_node_some room at m i in inr (x.0, x.1, ap (type_at now) x.1 ∙ (node_now x.0).0)
+
+  typed_now : type_of_body body ≡ vvr_type → (m : ℕ) → In m reborn → (is_record_type (type_at now m) ≡ true) × (fixed_size (type_at now m) ≤ size_at now m)
+  typed_now plain m i = elim (type_now plain m i) [
+    | inl x ↦
+        let k = placed_kept plain in
+        let size : size_at now m ≡ need = ap (size_at now) x.0 ∙ size_kept w.filled now new.place k.same (let l = k.long in omega arith) ∙ placed_size in
+        let fixed_is : fixed_size vvr_type ≤ need = subst (λ (t : ℕ). fixed_size t ≤ need) plain w.block.fills.fixed in
+        (subst (λ (t : ℕ). is_record_type t ≡ true) (sym x.1) refl, subst (λ (t : ℕ). fixed_size t ≤ size_at now m) (sym x.1) (subst (λ (n : ℕ). fixed_size vvr_type ≤ n) (sym size) fixed_is))
+    | inr x ↦
+        let size : size_at now m ≡ vxr_bytes room = ap (size_at now) x.1 ∙ (node_now x.0).1 in
+        (subst (λ (t : ℕ). is_record_type t ≡ true) (sym x.2) refl, subst (λ (t : ℕ). fixed_size t ≤ size_at now m) (sym x.2) (subst (λ (n : ℕ). 28 ≤ n) (sym size) (omega arith)))
+  ]
+
+  -- ---- chains
+
+  gdr_same : (g : Field) → avoided marks gdr_type g.place (g.place + g.width) ≡ true → g.place + g.width ≤ 84 → number now s.gdr g ≡ number b s.gdr g
+  gdr_same g clear l = gdr_field sound e tests.file_clear g clear l
+
+  pub same_vdrs : vdrs (before ++ with_new ∷ after) ≡ vdrs (shapes_of s kind)
+  same_vdrs = vdrs_append before (with_new ∷ after) ∙ sym (vdrs_append before (own ∷ after)) ∙ sym (ap vdrs among.was)
+
+  -- the numbers of all variables of the kind
+  pub nums_same : (m : ℕ) → In m (vdrs (shapes_of s kind)) → number now m vdr_num ≡ number b m vdr_num
+  nums_same m i =
+      let ok = (kind_chain kind h).linkable m i in
+      let inside = linkable-in b s.records type m ok in
+      let is = linkable-type b s.records type m ok in
+      let far = through 340 (fixed_size type) (size_at b m) (least_size kind) (fixed_long b s h type m inside is) in
+      word_kept b now (m + 68) (m + 72) (e.part m type 68 72 inside is (any_avoids m 0 12 (inl (omega arith))) (any_avoids m 68 72 (inr (omega arith))) (omega arith)) (m + vdr_num.place) 4 (omega arith) (omega arith)
+
+  late_unmarked : (kind : Kind) (v : ℕ) (ns : List ℕ) (most' type' m lo hi : ℕ) → (type' ≡ gdr_type) ⊎ (type' ≡ uir_type) → Avoids (index_marks kind v ns most') type' m lo hi
+  late_unmarked kind v ns most' type' m lo hi is = away-avoids (index_marks kind v ns most') type' m lo hi ((λ same lies. no_vdr kind (sym same)), ((λ same lies. no_vxr same), tt))
+    where
+      no_vdr : (kind : Kind) → type_in (variables_chain kind) ≡ type' → ⊥
+      no_vdr kind t = elim is [ inl g ↦ vdr_no_gdr kind (t ∙ g) | inr u ↦ vdr_no_uir kind (t ∙ u) ]
+
+      no_vxr : type' ≡ vxr_type → ⊥
+      no_vxr t = elim is [ inl g ↦ apart vxr_type gdr_type refl (sym t ∙ g) | inr u ↦ apart vxr_type uir_type refl (sym t ∙ u) ]
+
+  sound_roomy : IsSound w.roomy (shape w.roomy)
+  sound_roomy = (second good among w).sound
+
+  pub gdr_is : (shape w.roomy).gdr ≡ s.gdr
+  gdr_is = ap (λ (x : Shape). x.gdr) (second good among w).same_shape ∙ ap (λ (x : Shape). x.gdr) (first good among w).same_shape
+
+  -- a field of the GDR stays where the entries are written
+  gdr_late : (g : Field) → g.place + g.width ≤ 84 → number now s.gdr g ≡ number w.roomy s.gdr g
+  gdr_late g l =
+      let r = shape w.roomy in
+      let at_place = field_avoids (third good among w) r.gdr gdr_type g (gdr_in w.roomy r sound_roomy.has_shape) (gdr_typed w.roomy r sound_roomy.has_shape) (late_unmarked kind v (new_nodes room at ++ nodes) most gdr_type r.gdr 0 12 (inl refl)) (late_unmarked kind v (new_nodes room at ++ nodes) most gdr_type r.gdr g.place (g.place + g.width) (inl refl))
+      (through (g.place + g.width) 84 (size_at w.roomy r.gdr) l (gdr_long w.roomy r sound_roomy.has_shape)) in
+      subst (λ (x : ℕ). number now x g ≡ number w.roomy x g) gdr_is at_place
+
+  pub end_now : eof now s.gdr ≡ length now
+  end_now = gdr_late gdr_eof (omega arith) ∙ subst (λ (x : ℕ). eof w.roomy x ≡ length w.roomy) gdr_is (second good among w).end_is ∙ sym w.as_long
+
+  unused_now : IsChain now (shape w.roomy).records uir_type (number now s.gdr gdr_uir_head) (shape w.roomy).unused
+  unused_now = chain_stays (third good among w) uir_type _ _ (shape w.roomy).unused sound_roomy.has_shape.unused_chain (gdr_late gdr_uir_head (omega arith) ∙ ap (λ (x : ℕ). number w.roomy x gdr_uir_head) (sym gdr_is)) (λ m i. late_unmarked kind v (new_nodes room at ++ nodes) most uir_type m 0 20 (inr refl))
+
+  -- ---- the splice
+
+  abbrev others : List VariableShape
+  others = shapes_of s (other_kind kind)
+
+  pub splices : type_of_body body ≡ vvr_type → VariableSplices b now s kind (shape w.roomy).records (shape w.roomy).unused marks reborn before (own ∷ []) (with_new ∷ []) after
+  splices plain = record {
+    edit = e;
+    was = among.was;
+    file_clear = tests.file_clear;
+    attributes_clear = tests.attributes_clear;
+    other_clear = tests.other_clear;
+    before_remain = remain_from sound e file before (ours good among).0 (variables_away sound e before (ours good among).0 (beside (flat_map variable_records before) (ours good among).0.sub (λ m i. (only m i).in_before)));
+    after_remain = remain_from sound e file after (after_ours good among) (variables_away sound e after (after_ours good among) (beside (flat_map variable_records after) (after_ours good among).sub (λ m i. (only m i).in_after)));
+    others_live = variables_away sound e others (kind_ours b s sound (other_kind kind)) (beside (flat_map variable_records others) (kind_ours b s sound (other_kind kind)).sub (λ m i. (only m i).in_others));
+    typed = typed_now plain;
+    variable_chain = subst (λ (ms : List ℕ). IsChain now (shape w.roomy).records type (number now s.gdr (head_of (variables_chain kind))) ms) (sym same_vdrs)
+        (chain_stays e type _ _ (vdrs (shapes_of s kind)) (kind_chain kind h) (gdr_same (head_of (variables_chain kind)) tests.head_clear (in_gdr kind).0) (λ m i. any_avoids m 0 20 (inl (omega arith))));
+    unused_chain = unused_now;
+    own_have = (has_now, tt);
+  }

@@ -1,0 +1,55 @@
+-- How much longer an image becomes by acts that only take, and that nothing is taken where no bytes are.
+use Rattle.std.proofs.Common.{◌≡◌, ℕ, ◌+◌, ◌≤◌, List, [], ◌∷◌, length, Bool, true, false, refl, ◌∙◌, arith}
+use Rattle.std.specs.List.{fold}
+use Rattle.std.specs.Prelude.{◌==◌, if◌then◌else◌}
+use Rattle.cdf_edits.specs.Index.Cut.{BlocksFreedStay, NodesFreedStay, none_written}
+use Rattle.cdf_edits.specs.Space.Acts.{Act, Took, Gave, SpaceLeft, space_before, after_act, AreActs, ActsFollow}
+use Rattle.cdf_edits.specs.Space.Placement.{place_for, eof_after}
+use Rattle.cdf_format.specs.Shape.{Each}
+use Rattle.cdf_puts.specs.SoFar.{IsTaking, taken_bytes}
+use Rattle.cdf_puts.proofs.SoFarSteps.{taken_sum}
+
+one_taken : (place need : ℕ) (more : List Act) → taken_bytes (Took place need ∷ more) ≡ need + taken_bytes more
+one_taken place need more = taken_sum (Took place need ∷ []) more ∙ alone need (taken_bytes more)
+  where
+    alone : (n m : ℕ) → (0 + n) + m ≡ n + m
+    alone n m = omega arith
+
+end_by : (list : List (ℕ × ℕ)) (end need : ℕ) → eof_after list end need ≤ end + need
+end_by list end need = by (place_for list end need == end)
+  where
+    by : (p : Bool) → (if p then end + need else end) ≤ end + need
+    by true = omega arith
+    by false = omega arith
+
+end_after_acts : (l : SpaceLeft) (acts : List Act) → Each IsTaking acts → (fold after_act l acts).end ≤ l.end + taken_bytes acts
+end_after_acts l [] t = omega arith
+end_after_acts l (Took place need ∷ more) t =
+    let rest = end_after_acts (after_act l (Took place need)) more t.1 in
+    let here = end_by l.listed l.end need in
+    sum (fold after_act (after_act l (Took place need)) more).end (eof_after l.listed l.end need) l.end need (taken_bytes more) (taken_bytes (Took place need ∷ more)) rest here (one_taken place need more)
+  where
+    sum : (f e l n m t : ℕ) → f ≤ e + m → e ≤ l + n → t ≡ n + m → f ≤ l + t
+    sum f e l n m t a c d = omega arith
+end_after_acts l (Gave place size ∷ more) t = absurd t.0
+
+-- an image is longer by no more than was taken
+pub longer_by : (b now : List ℕ) (acts : List Act) → ActsFollow b now acts → Each IsTaking acts → length now ≤ length b + taken_bytes acts
+longer_by b now acts f t = let e = f.left.end_is in let l = end_after_acts (space_before b) acts t in omega arith
+
+pub none_without_bytes : (l : SpaceLeft) (acts : List Act) → AreActs l acts → Each IsTaking acts → taken_bytes acts ≤ 0 → acts ≡ []
+none_without_bytes l [] are t le = refl
+none_without_bytes l (Took place need ∷ more) are t le = let e = one_taken place need more in let some = are.0.0 in absurd (omega arith)
+none_without_bytes l (Gave place size ∷ more) are t le = absurd t.0
+
+-- ---- nothing is freed
+
+pub none_given : (b now : List ℕ) (acts gives : List Act) → Each IsTaking gives → BlocksFreedStay b now none_written acts gives
+none_given b now acts [] t = tt
+none_given b now acts (Took place need ∷ more) t = none_given b now acts more t.1
+none_given b now acts (Gave place size ∷ more) t = absurd t.0
+
+pub no_node_given : (b now : List ℕ) (acts gives : List Act) → Each IsTaking gives → NodesFreedStay b now acts gives
+no_node_given b now acts [] t = tt
+no_node_given b now acts (Took place need ∷ more) t = no_node_given b now acts more t.1
+no_node_given b now acts (Gave place size ∷ more) t = absurd t.0

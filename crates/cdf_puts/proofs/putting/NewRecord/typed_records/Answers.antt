@@ -1,0 +1,11 @@
+use Rattle.cdf_puts.proofs.putting.NewRecord.typed_records.Goals as goal
+use Rattle.std.proofs.Common.{◌++◌, ◌+◌, append_assoc, sym, ap, ◌∙◌}
+use Rattle.cdf_puts.specs.Putting.{block_type, record_put, records_put}
+use Rattle.cdf_puts.proofs.BlockBodies.{one_more}
+
+pub loop-i-preserved : goal.loop-i-preserved
+loop-i-preserved c =
+    let raw = c.args.self.now.raw.items in
+    let pad = c.args.self.now.pad.items in
+    let r = c.args.self.now.rec in
+    c.in_ok-extend_from_slice-2.ensures.items ∙ ap (λ x. x ++ c.bytes_of.result.now) c.loop-i.invariant ∙ ap (λ x. (block_type ++ records_put raw pad r c.loop-i.i c.args.first) ++ x) c.bytes_of.ensures ∙ append_assoc block_type (records_put raw pad r c.loop-i.i c.args.first) (record_put raw pad r (c.args.first + c.loop-i.i)) ∙ ap (λ x. block_type ++ x) (sym (one_more raw pad r c.loop-i.i c.args.first))

@@ -1,0 +1,70 @@
+use Rattle.std.proofs.Common.{◌≡◌, ◌+◌, ◌-◌, ◌∙◌, ℕ, List, None, refl, sym, ap, subst}
+use Rattle.cdf_area.specs.Frame.{Frame}
+use Rattle.cdf_area.proofs.Calls.{edit_done, edit_failed, edit_more, edit_without_memory, edits_by_read, keeps_by_read, read_once}
+use Rattle.cdf_edits.specs.Space.Placing.{IsBody}
+use Rattle.cdf_format.specs.Index.{leaves_of}
+use Rattle.cdf_format.specs.Shape.{shape, variables, vdrs}
+use Rattle.cdf_format.specs.Tiles.{In}
+use Rattle.cdf_format.specs.WellFormed.{Good}
+use Rattle.cdf_index.specs.Finding.{HasIndex, index_at}
+use Rattle.cdf_index.specs.Order.{leaf_of}
+use Rattle.cdf_puts.specs.Putting.{IsPut, last_in_new, records_put}
+use Rattle.cdf_puts.specs.Steps.{IsBlockBody}
+use Rattle.cdf_puts.proofs.PutPieces.{body_is}
+use Rattle.cdf_puts.proofs.PutSpot.{AddsOn, added_on, few_most, good, has_index, room_after, some_most, vdr_in}
+use Rattle.cdf_puts.proofs.putting.add_block.Goals as goal
+
+pub last_of_new-requires-clause-index : goal.last_of_new-requires-clause-index
+last_of_new-requires-clause-index g c =
+    let s = c.requires.some in
+    subst (HasIndex (g.A.Area.image c.args.area.now)) (sym c.requires.head) (has_index s.putting s.is)
+
+pub last_of_new-requires-clause-some : goal.last_of_new-requires-clause-some
+last_of_new-requires-clause-some g c = let s = c.requires.some in some_most s.putting s.is c.requires.more
+
+pub last_of_new-requires-clause-few : goal.last_of_new-requires-clause-few
+last_of_new-requires-clause-few g c = let s = c.requires.some in few_most s.putting s.is c.requires.more
+
+pub returns-in_err-last-clause-area : goal.returns-in_err-last-clause-area
+returns-in_err-last-clause-area g c = edit_failed (record { frame = refl; faults = refl }) (edits_by_read c.in_err-last.ensures.area) c.from_residual.ensures.1
+
+pub returns-in_err-body-clause-area : goal.returns-in_err-body-clause-area
+returns-in_err-body-clause-area g c = edit_without_memory (keeps_by_read (read_once c.in_ok-last.ensures.area)) c.from_residual-in_err-body.ensures.1
+
+pub add_leaf-requires-clause-good : goal.add_leaf-requires-clause-good
+add_leaf-requires-clause-good g c = let s = c.requires.some in subst Good (sym c.last_of_new.ensures.area.image) (good s.putting s.is)
+
+pub add_leaf-requires-clause-vdr : goal.add_leaf-requires-clause-vdr
+add_leaf-requires-clause-vdr g c = let s = c.requires.some in subst (λ (x : List ℕ). In c.args.put.now.vdr (vdrs (variables (shape x)))) (sym c.last_of_new.ensures.area.image) (vdr_in s.putting s.is)
+
+pub add_leaf-requires-clause-body : goal.add_leaf-requires-clause-body
+add_leaf-requires-clause-body g c =
+    let put = c.args.put.now in
+    subst IsBody (sym c.deref.ensures.value) (body_is c.in_ok-body.body.items (records_put put.raw.items put.pad.items put.rec (c.in_ok-last.last + 1 - c.args.k) c.args.k) c.in_ok-body.ensures.body)
+
+pub add_leaf-requires-clause-room : goal.add_leaf-requires-clause-room
+add_leaf-requires-clause-room g c =
+    let s = c.requires.some in
+    let put = c.args.put.now in
+    let old = g.A.Area.image c.args.area.now in
+    let vacant = subst (λ (n : ℕ). leaf_of c.args.k (leaves_of (index_at old n)) ≡ None) c.requires.head c.requires.none in
+    let end_is = c.in_ok-last.ensures.last ∙ ap (λ (n : ℕ). last_in_new put.most (index_at old n) c.args.k) c.requires.head in
+    let says = subst (λ (x : List ℕ). IsBlockBody x (records_put put.raw.items put.pad.items put.rec (c.in_ok-last.last + 1 - c.args.k) c.args.k)) (sym c.deref.ensures.value) c.in_ok-body.ensures.body in
+    room_after s.putting s.is c.requires.more vacant c.in_ok-last.last end_is c.deref.result.now says c.last_of_new.ensures.area.image (ap (λ (f : Frame g.A.Area.Under). f.limit) c.last_of_new.ensures.area.frame)
+
+pub returns-in_err-add_leaf-clause-area : goal.returns-in_err-add_leaf-clause-area
+returns-in_err-add_leaf-clause-area g c = edit_failed (keeps_by_read (read_once c.in_ok-last.ensures.area)) c.in_err-add_leaf.ensures.area c.from_residual-in_err-add_leaf.ensures.1
+
+pub returns-clause-put : goal.returns-clause-put
+returns-clause-put g c =
+    let put = c.args.put.now in
+    let old = g.A.Area.image c.args.area.now in
+    let vacant = subst (λ (n : ℕ). leaf_of c.args.k (leaves_of (index_at old n)) ≡ None) c.requires.head c.requires.none in
+    let end_is = c.in_ok-last.ensures.last ∙ ap (λ (n : ℕ). last_in_new put.most (index_at old n) c.args.k) c.requires.head in
+    let says = subst (λ (x : List ℕ). IsBlockBody x (records_put put.raw.items put.pad.items put.rec (c.in_ok-last.last + 1 - c.args.k) c.args.k)) (sym c.deref.ensures.value) c.in_ok-body.ensures.body in
+    let now = g.A.Area.image c.add_leaf.new.area in
+    let adds = subst (λ (x : List ℕ). AddsOn x now put.vdr c.args.k c.in_ok-last.last c.deref.result.now) c.last_of_new.ensures.area.image c.in_ok-add_leaf.ensures.added in
+    λ b kind before own after putting is. subst (λ (n : ℕ). IsPut b now kind before own after put (n + 1)) (sym c.min.ensures) (added_on putting is c.requires.more vacant c.in_ok-last.last end_is c.deref.result.now says adds c.requires.limit)
+
+pub returns-clause-area : goal.returns-clause-area
+returns-clause-area g c = edit_done (edit_more (keeps_by_read (read_once c.in_ok-last.ensures.area)) c.in_ok-add_leaf.ensures.area)

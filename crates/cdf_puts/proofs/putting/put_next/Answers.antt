@@ -1,0 +1,48 @@
+use Rattle.std.proofs.Common.{arith, refl, sym, ap}
+use Rattle.std.proofs.Math.Path.{transport}
+use Rattle.cdf_area.specs.Frame.{Frame}
+use Rattle.cdf_area.proofs.Calls.{edit_done, edit_failed, edit_more, edits_by_read, keeps_by_read, read_more, read_once}
+use Rattle.cdf_index.specs.Finding.{HasIndex}
+use Rattle.cdf_puts.proofs.EditsThen.{edits_then}
+use Rattle.cdf_puts.proofs.PutSpot.{has_index, lies, on_after, short}
+use Rattle.cdf_puts.proofs.putting.put_next.Goals as goal
+
+pub overflow_add-put : goal.overflow_add-put
+overflow_add-put g c =
+    let s = c.requires.some in
+    let l = lies s.putting s.is in
+    let u = short s.putting s.is in
+    omega (arith, l, u)
+
+pub read_unsigned8-requires : goal.read_unsigned8-requires
+read_unsigned8-requires g c =
+    let s = c.requires.some in
+    let l = lies s.putting s.is in
+    omega (arith, l)
+
+pub returns-in_err-head-clause-area : goal.returns-in_err-head-clause-area
+returns-in_err-head-clause-area g c = edit_failed (record { frame = refl; faults = refl }) (edits_by_read c.in_err-head.ensures.area) c.from_residual.ensures.1
+
+pub find_leaf-requires-clause-index : goal.find_leaf-requires-clause-index
+find_leaf-requires-clause-index g c =
+    let s = c.requires.some in
+    let same = c.read_unsigned8.ensures.area.image in
+    let head = c.in_ok-head.ensures.value in
+    transport (λ i. HasIndex (sym same i) (sym head i)) (has_index s.putting s.is)
+
+pub returns-in_err-found-clause-area : goal.returns-in_err-found-clause-area
+returns-in_err-found-clause-area g c = edit_failed (keeps_by_read (read_once c.in_ok-head.ensures.area)) (edits_by_read c.in_err-found.ensures.area) c.from_residual-in_err-found.ensures.1
+
+pub returns-in_err-write_one-in-Some-clause-area : goal.returns-in_err-write_one-in-Some-clause-area
+returns-in_err-write_one-in-Some-clause-area g c = edit_failed (keeps_by_read (read_more (read_once c.in_ok-head.ensures.area) c.in_ok-found.ensures.area)) c.in_err-write_one-in-Some.ensures.area c.from_residual-in_err-write_one-in-Some.ensures.1
+
+pub returns-in_ok-write_one-in-Some-clause-put : goal.returns-in_ok-write_one-in-Some-clause-put
+returns-in_ok-write_one-in-Some-clause-put g c =
+    let read = read_more (read_once c.in_ok-head.ensures.area) c.in_ok-found.ensures.area in
+    on_after read.image (ap (λ (f : Frame g.A.Area.Under). f.limit) read.frame) c.in_ok-write_one-in-Some.ensures.put
+
+pub returns-in_ok-write_one-in-Some-clause-area : goal.returns-in_ok-write_one-in-Some-clause-area
+returns-in_ok-write_one-in-Some-clause-area g c = edit_done (edit_more (keeps_by_read (read_more (read_once c.in_ok-head.ensures.area) c.in_ok-found.ensures.area)) c.in_ok-write_one-in-Some.ensures.area)
+
+pub returns-in-None-clause-area : goal.returns-in-None-clause-area
+returns-in-None-clause-area g c = edits_then c.add_block.result (keeps_by_read (read_more (read_once c.in_ok-head.ensures.area) c.in_ok-found.ensures.area)) c.add_block.ensures.area

@@ -1,0 +1,31 @@
+use Rattle.std.proofs.Common.{ℕ, arith, refl, sym, ap, subst}
+use Rattle.cdf_area.specs.Frame.{Frame}
+use Rattle.cdf_area.proofs.Calls.{edit_done, edit_failed, edit_more}
+use Rattle.cdf_puts.specs.Putting.{SomePut}
+use Rattle.cdf_puts.proofs.PutSpot.{all_done, all_on, all_start, on_after, some_put}
+use Rattle.cdf_puts.proofs.putting.put_records.Goals as goal
+
+pub loop-k-init : goal.loop-k-init
+loop-k-init g c = record { puts = all_start c.requires.some; area = record { frame = refl; faults = refl } }
+
+pub put_next-requires-clause-some : goal.put_next-requires-clause-some
+put_next-requires-clause-some g c =
+    let i = c.loop-k.invariant in
+    subst (λ (n : ℕ). SomePut (g.A.Area.image c.loop-k.area) c.args.put.now c.loop-k.k n) (sym (ap (λ (f : Frame g.A.Area.Under). f.limit) i.area.frame)) (some_put c.requires.some i.puts)
+
+pub loop-k-preserved : goal.loop-k-preserved
+loop-k-preserved g c =
+    let i = c.loop-k.invariant in
+    record {
+      puts = all_on i.puts (on_after refl (ap (λ (f : Frame g.A.Area.Under). f.limit) i.area.frame) c.in_ok-k.ensures.put);
+      area = edit_more i.area c.in_ok-k.ensures.area;
+    }
+
+pub returns-clause-put : goal.returns-clause-put
+returns-clause-put g c = all_done c.loop-k.invariant.puts (omega (arith, c.loop-k-test.false))
+
+pub returns-clause-area : goal.returns-clause-area
+returns-clause-area g c = edit_done c.loop-k.invariant.area
+
+pub returns-in_err-k-clause-area : goal.returns-in_err-k-clause-area
+returns-in_err-k-clause-area g c = edit_failed c.loop-k.invariant.area c.in_err-k.ensures.area c.from_residual.ensures.1

@@ -1,0 +1,5 @@
+pub mod Covering
+pub mod Going
+pub mod Putting
+pub mod SoFar
+pub mod Steps

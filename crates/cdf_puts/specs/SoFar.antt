@@ -1,0 +1,154 @@
+-- How far record r of a variable is put, where no rule is followed and nothing is packed: the records before k have blocks and are written, and those from k on are not (own: records are written in ascending order, from MaxRec + 1 on where r is past that, and those before r hold the pad).
+use Rattle.std.specs.Prelude.{◌≡◌, ◌⊎◌, ◌≤◌, ◌<◌, ℕ, ◌+◌, ◌-◌, ◌*◌, min, max, List, [], ◌++◌, length, map, take, drop, Bool, true, false, ◌==◌, nat_lt, if◌then◌else◌}
+use Rattle.std.specs.List.{filter, sum}
+use Rattle.cdf_model.specs.declared.kinds.Kind.{Kind}
+use Rattle.cdf_model.specs.declared.kinds.Sparse.TheVariants.{NoRule}
+use Rattle.cdf_model.specs.DataSet.{extent}
+use Rattle.cdf_model.specs.Limits.{image_limit, record_number_limit}
+use Rattle.cdf_edits.specs.Commands.Puts.{PutsLeaves, new_ranges}
+use Rattle.cdf_edits.specs.Frame.Changed.{Touch, touch, Changed}
+use Rattle.cdf_edits.specs.Index.Blocks.{ranges_of, first_written}
+use Rattle.cdf_edits.specs.Index.Grown.{with_ranges, indexes_with, outline}
+use Rattle.cdf_edits.specs.Index.Written.{is_taken_at, NodesFollow, top_chain}
+use Rattle.cdf_edits.specs.Space.Acts.{Act, Took, Gave, taken}
+use Rattle.cdf_edits.proofs.Edits.LeafPieces.{IsOneOf, record_place}
+use Rattle.cdf_edits.proofs.Edits.VdrEdited.{StandsAmong}
+use Rattle.cdf_format.specs.Bytes.{byte}
+use Rattle.cdf_format.specs.Content.{variable_of}
+use Rattle.cdf_format.specs.Fields.{number, size_at}
+use Rattle.cdf_format.specs.Index.{Nodes, Leaf, leaves_of, nodes_of}
+use Rattle.cdf_format.specs.Records.{vdr_max_rec}
+use Rattle.cdf_format.specs.Shape.{VariableShape, Each, is_compressed}
+use Rattle.cdf_format.specs.Tiles.{In}
+use Rattle.cdf_format.specs.VariableFields.{record_bytes, sparse_at, max_rec_at}
+use Rattle.cdf_format.specs.WellFormed.{Good}
+use Rattle.cdf_index.specs.Adding.{TailGoesOn}
+use Rattle.cdf_puts.specs.Covering.{Covering}
+use Rattle.cdf_puts.specs.Going.{GoesOn}
+use Rattle.cdf_puts.specs.Steps.{MaxRecRaised}
+
+-- ---- what is put, and where
+
+-- the bytes that record j gets where record r is put
+abbrev pub record_of : List ℕ → List ℕ → ℕ → ℕ → List ℕ
+record_of raw pad r j = if j == r then raw else pad
+
+-- A variable of a good image in which record r may be put so, as these bytes, and each that it is past as those of a pad.
+pub record PutStart (b : List ℕ) (kind : Kind) (before : List VariableShape) (own : VariableShape) (after : List VariableShape) (raw pad : List ℕ) (r : ℕ) : Type 0 where
+  pub good : Good b
+  pub among : StandsAmong b kind before own after
+  pub loose : is_compressed b own.vdr ≡ false
+  pub no_rule : sparse_at b own.vdr ≡ NoRule
+  pub small : r ≤ record_number_limit
+  pub short : length b ≤ image_limit
+  pub raw_long : length raw ≡ record_bytes b own.vdr
+
+-- how many records of a leaf are among those from a first up to k, and whether one is
+abbrev pub put_count : ℕ → ℕ → Leaf → ℕ
+put_count first k leaf = min k (leaf.last + 1) - max first leaf.first
+
+abbrev pub was_put : ℕ → ℕ → Leaf → Bool
+was_put first k leaf = nat_lt 0 (put_count first k leaf)
+
+-- their bytes in the blocks, of records of so many bytes
+abbrev pub put_from : ℕ → ℕ → Leaf → ℕ
+put_from first size leaf = 12 + (max first leaf.first - leaf.first) * size
+
+abbrev pub put_touches : ℕ → ℕ → ℕ → List Leaf → List Touch
+put_touches first k size leaves = map (λ leaf. touch leaf.place (put_from first size leaf) (put_count first k leaf * size)) leaves
+
+-- record j in the block of a leaf
+abbrev pub RecordIs : List ℕ → ℕ → Leaf → ℕ → List ℕ → Type 0
+RecordIs now size l j bytes = take size (drop (record_place l size j) now) ≡ bytes
+
+-- the records of a block from a first to a last
+pub record BlockRecords (raw pad : List ℕ) (r first last size : ℕ) (records : List ℕ) : Type 0 where
+  pub as_long : length records ≡ (last + 1 - first) * size
+  pub written : (j : ℕ) → first ≤ j → j ≤ last → take size (drop ((j - first) * size) records) ≡ record_of raw pad r j
+
+-- ---- what was taken
+
+abbrev pub IsTaking : Act → Type 0
+IsTaking (Took place need) = Unit {0}
+IsTaking (Gave place size) = ⊥
+
+abbrev pub taken_places : List Act → List ℕ
+taken_places acts = map (λ take. take.0) (taken acts)
+
+abbrev pub taken_bytes : List Act → ℕ
+taken_bytes acts = sum (map (λ take. take.1) (taken acts))
+
+-- ---- the index
+
+-- However a put goes on, the leaves that were put were so before it; of the last image the size of a record alone counts.
+abbrev pub PutsBefore : List ℕ → VariableShape → VariableShape → List Leaf → List Act → Type 0
+PutsBefore b own own' leaves acts = (last : List ℕ) → record_bytes last own.vdr ≡ record_bytes b own.vdr → (more : List Leaf) (acts' : List Act) (end : Nodes)
+    → PutsLeaves b last false own.vdr more own'.index acts' end → PutsLeaves b last false own.vdr (leaves ++ more) own.index (acts ++ acts') end
+
+-- the top chain stays, or it grows
+abbrev pub TopGrows : Nodes → Nodes → Type 0
+TopGrows before after = (top_chain after ≡ top_chain before) ⊎ (length (top_chain before) < length (top_chain after))
+
+-- The nodes: those that were there stay and keep their size, each other was taken.
+pub record NodesSoFar (b now : List ℕ) (own own' : VariableShape) (acts : List Act) : Type 0 where
+  pub stay : (m : ℕ) → In m (nodes_of own.index) → In m (nodes_of own'.index)
+  pub apart : (m : ℕ) → In m (nodes_of own.index) → is_taken_at acts m ≡ false
+  pub come : (m : ℕ) → In m (nodes_of own'.index) → In m (nodes_of own.index) ⊎ (is_taken_at acts m ≡ true)
+  pub sizes : (m : ℕ) → In m (nodes_of own.index) → size_at now m ≡ size_at b m
+  pub outlined : outline (taken_places acts) own'.index ≡ outline [] (with_ranges own.index (new_ranges (ranges_of own.index) (ranges_of own'.index)))
+  pub follow : NodesFollow b now (indexes_with own.index (new_ranges (ranges_of own.index) (ranges_of own'.index))) (nodes_of own.index) (nodes_of own'.index) acts
+
+pub record IndexSoFar (b now : List ℕ) (own own' : VariableShape) (first k : ℕ) (acts : List Act) : Type 0 where
+  pub puts : PutsBefore b own own' (filter (was_put first k) (leaves_of own'.index)) acts
+  pub tail : TailGoesOn b now own.vdr own.index own'.index
+  pub top : TopGrows own.index own'.index
+  pub nodes : NodesSoFar b now own own' acts
+
+-- ---- the blocks
+
+-- A block that was there: records that were put hold what they are to, and each other byte stays.
+pub record OldBlock (b now : List ℕ) (raw pad : List ℕ) (r first k size : ℕ) (l : Leaf) : Type 0 where
+  pub written : (j : ℕ) → first ≤ j → j < k → l.first ≤ j → j ≤ l.last → RecordIs now size l j (record_of raw pad r j)
+  pub kept : (i : ℕ) → i < size_at b l.place → (i < put_from first size l) ⊎ (put_from first size l + put_count first k l * size ≤ i) → byte now (l.place + i) ≡ byte b (l.place + i)
+
+-- A new block: all its records hold what they are to, and behind them there are bytes 0. Where r is before `most`, one past MaxRec, none of them is past r.
+pub record NewBlock (now : List ℕ) (raw pad : List ℕ) (r first most k size : ℕ) (acts : List Act) (l : Leaf) : Type 0 where
+  pub from : first ≤ l.first
+  pub upto : l.first < k
+  pub ends : k < l.last + 1 → r < k
+  pub alone : r < most → l.last ≤ r
+  pub plain : l.packed ≡ false
+  pub was_taken : is_taken_at acts l.place ≡ true
+  pub written : (j : ℕ) → l.first ≤ j → j ≤ l.last → RecordIs now size l j (record_of raw pad r j)
+  pub spare : (i : ℕ) → 12 + (l.last + 1 - l.first) * size ≤ i → i < size_at now l.place → byte now (l.place + i) ≡ 0
+
+pub record BlocksSoFar (b now : List ℕ) (own own' : VariableShape) (raw pad : List ℕ) (r first k : ℕ) (acts : List Act) : Type 0 where
+  pub stay : (l : Leaf) → IsOneOf (leaves_of own.index) l → IsOneOf (leaves_of own'.index) l
+  pub apart : (l : Leaf) → IsOneOf (leaves_of own.index) l → is_taken_at acts l.place ≡ false
+  pub old : (l : Leaf) → IsOneOf (leaves_of own.index) l → OldBlock b now raw pad r first k (record_bytes b own.vdr) l
+  pub new : (l : Leaf) → IsOneOf (leaves_of own'.index) l → IsOneOf (leaves_of own.index) l ⊎ NewBlock now raw pad r first (extent (max_rec_at b own.vdr)) k (record_bytes b own.vdr) acts l
+  pub has : (j : ℕ) → first ≤ j → j < k → (l : Leaf) × (IsOneOf (leaves_of own'.index) l × ((l.first ≤ j) × (j ≤ l.last)))
+  pub quiet : acts ≡ [] → Changed b now (put_touches first k (record_bytes b own.vdr) (leaves_of own.index))
+
+-- ---- together
+
+pub record SoFar (b now : List ℕ) (kind : Kind) (before : List VariableShape) (own own' : VariableShape) (after : List VariableShape) (raw pad : List ℕ) (r k : ℕ) (acts : List Act) : Type 0 where
+  pub start : PutStart b kind before own after raw pad r
+  pub from : first_written (variable_of b own) r ≤ k
+  pub upto : k ≤ r + 1
+  pub goes : GoesOn b now kind before own own' after r acts
+  pub covered : ℕ
+  pub covered_is : k ≤ r → covered ≡ k
+  pub covered_past : r < k → r < covered
+  pub covers : Covering (variable_of b own) own.index own'.index r covered (taken_bytes acts)
+  pub takes : Each IsTaking acts
+  pub short : length now ≤ image_limit
+  pub max_rec_is : number now own.vdr vdr_max_rec ≡ number b own.vdr vdr_max_rec
+  pub index : IndexSoFar b now own own' (first_written (variable_of b own) r) k acts
+  pub blocks : BlocksSoFar b now own own' raw pad r (first_written (variable_of b own) r) k acts
+
+-- ---- at the end
+
+-- MaxRec is raised where r is past it, else nothing is done
+abbrev pub MaxRecDone : List ℕ → List ℕ → List ℕ → Kind → VariableShape → VariableShape → ℕ → Type 0
+MaxRecDone b now last kind own own' r = ((extent (max_rec_at b own.vdr) ≤ r) × MaxRecRaised now last kind own' r) ⊎ ((r < extent (max_rec_at b own.vdr)) × (last ≡ now))
