@@ -1,0 +1,79 @@
+-- New nodes have none behind them, and -1 in the entries that are not used.
+use Rattle.std.proofs.Common.{◌≡◌, ℕ, zero, suc, ◌+◌, ◌-◌, ◌*◌, ◌/◌, min, ◌<◌, ◌≤◌, List, [], ◌∷◌, length, map, refl, sym, ap, subst, ◌∙◌, arith, inl, inr}
+use Rattle.cdf_edits.proofs.Frame.Meaning.{Kept}
+use Rattle.cdf_format.proofs.BytesLemmas.{number_kept, integer_kept, next_kept, size_kept}
+use Rattle.cdf_format.specs.Fields.{counted, number, size_at}
+use Rattle.cdf_format.specs.Index.{room_at, used_count}
+use Rattle.cdf_format.specs.IndexOf.{SaysEntry}
+use Rattle.cdf_format.specs.Records.{vxr_n_entries, vxr_n_used_entries, vxr_first, vxr_last, vxr_offset}
+use Rattle.cdf_format.specs.Shape.{Each, shape}
+use Rattle.cdf_format.specs.Sound.{NodeFits, IsSound}
+use Rattle.cdf_format.specs.Tiles.{In}
+use Rattle.cdf_reindex.specs.Pyramid.{NewNode, places_of}
+use Rattle.cdf_reindex.specs.Rebuilding.{NodeMade, AllMade}
+use Rattle.cdf_reindex.specs.Reindexed.{IsBare}
+use Rattle.cdf_index.specs.Writing.{unused_entry, entry_in}
+use Rattle.cdf_index.specs.declared.entries.Entry.{Entry}
+use Rattle.cdf_reindex.proofs.NodesMade.{IsSmall, grew_once, stands_once, all_made, used_type}
+use Rattle.cdf_reindex.proofs.WordsOfLevels.{words_of, node_words, length_words}
+
+entry_past : (entries : List Entry) (i : ℕ) → length entries ≤ i → entry_in entries i ≡ unused_entry
+entry_past [] zero le = refl
+entry_past [] (suc i) le = refl
+entry_past (entry ∷ more) zero le = absurd (omega arith)
+entry_past (entry ∷ more) (suc i) le = entry_past more i (omega arith)
+
+bare_once : (b now : List ℕ) (entries : List Entry) (place : ℕ) → length entries ≤ 64 → NodeMade b now entries place → IsBare now place
+bare_once b now entries place few made = record {
+  room_is = made.room_is;
+  few = subst (λ (n : ℕ). n ≤ 64) (sym made.counts_is) few;
+  next_is = made.next_is;
+  unused = λ i le lt. subst (λ (e : Entry). SaysEntry now place i e.first e.last e.place) (entry_past entries i (subst (λ (n : ℕ). n ≤ i) made.used_is le)) (made.says i lt);
+}
+
+module _ (b now : List ℕ) (place : ℕ) (k : Kept b now place) (fits : NodeFits b place) (bare : IsBare b place) where
+  long : 1052 ≤ size_at b place
+  long = let l : 28 + 16 * 64 ≤ size_at b place = subst (λ (n : ℕ). 28 + 16 * n ≤ size_at b place) bare.room_is fits.0 in omega arith
+
+  room_same : room_at now place ≡ 64
+  room_same = number_kept b now place k.same vxr_n_entries (let l = long in omega arith) ∙ bare.room_is
+
+  used_same : used_count now place ≡ used_count b place
+  used_same =
+      let u = integer_kept b now place k.same vxr_n_used_entries (let l = long in omega arith) in
+      let n = integer_kept b now place k.same vxr_n_entries (let l = long in omega arith) in
+      let s = size_kept b now place k.same (let l = long in omega arith) in
+      λ i. min (counted (u i)) (min (counted (n i)) ((s i - 28) / 16))
+
+  entry_same : (i first last offset : ℕ) → i < 64 → SaysEntry b place i first last offset → SaysEntry now place i first last offset
+  entry_same i first last offset lt e = record {
+    first_is = number_kept b now place k.same (vxr_first i) (let l = long in omega arith) ∙ e.first_is;
+    last_is =
+        ap (λ (n : ℕ). number now place (vxr_last n i)) room_same ∙ number_kept b now place k.same (vxr_last 64 i) (let l = long in omega arith)
+        ∙ sym (ap (λ (n : ℕ). number b place (vxr_last n i)) bare.room_is) ∙ e.last_is;
+    offset_is =
+        ap (λ (n : ℕ). number now place (vxr_offset n i)) room_same ∙ number_kept b now place k.same (vxr_offset 64 i) (let l = long in omega arith)
+        ∙ sym (ap (λ (n : ℕ). number b place (vxr_offset n i)) bare.room_is) ∙ e.offset_is;
+  }
+
+  pub bare_by : IsBare now place
+  bare_by = record {
+    room_is = room_same;
+    few = subst (λ (n : ℕ). n ≤ 64) (sym (number_kept b now place k.same vxr_n_used_entries (let l = long in omega arith))) bare.few;
+    next_is = next_kept b now place k.same (let l = long in omega arith) ∙ bare.next_is;
+    unused = λ i le lt. entry_same i 0xffffffff 0xffffffff 0xffffffffffffffff lt (bare.unused i (subst (λ (n : ℕ). n ≤ i) used_same le) lt);
+  }
+
+pub all_bare : (b now : List ℕ) (nodes : List NewNode) → IsSound b (shape b) → Each IsSmall nodes → AllMade b now (map node_words nodes) → (m : ℕ) → In m (places_of nodes) → IsBare now m
+all_bare b now [] sound small made m i = absurd i
+all_bare b now (new ∷ more) sound small made m i =
+    let mid = made.0 in
+    let one = grew_once sound new made.1.0 in
+    elim i [
+      | inl e ↦
+          let here = stands_once sound new small.0 made.1.0 in
+          let typed = used_type mid new here in
+          let rest = all_made mid now more one.sound small.1 made.1.1 in
+          subst (IsBare now) (sym e) (bare_by mid now new.place (rest.grew.kept new.place here.inside typed.0 typed.1) here.fits (bare_once b mid (words_of new.entries) new.place (subst (λ (n : ℕ). n ≤ 64) (sym (length_words new.entries)) small.0) made.1.0))
+      | inr j ↦ all_bare mid now more one.sound small.1 made.1.1 m j
+    ]

@@ -1,0 +1,290 @@
+-- An index made anew follows `reindex`.
+use Rattle.std.proofs.Common.{◌≡◌, ◌≢◌, ℕ, zero, suc, ◌+◌, ◌<◌, ◌≤◌, List, [], ◌∷◌, ◌++◌, length, map, Bool, true, false, not, ◌&&◌, Option, Some, None, bytes_eq, true≢false, refl, sym, ap, subst, ◌∙◌, arith, inl, inr}
+use Rattle.std.proofs.lemmas.Option.{same_Some}
+use Rattle.std.specs.List.{list_any, slice_get, sum}
+use Rattle.std.specs.Prelude.{if◌then◌else◌}
+use Rattle.cdf_model.specs.declared.answer.Reply.TheVariants as replies
+use Rattle.cdf_model.specs.declared.command.Command.TheVariants as commands
+use Rattle.cdf_model.specs.declared.kinds.Kind.{Kind}
+use Rattle.cdf_model.specs.Answers.{Go}
+use Rattle.cdf_model.specs.DataSet.{DataSet}
+use Rattle.cdf_model.specs.Limits.{image_limit}
+use Rattle.cdf_model.specs.Names.{Found, variable_named}
+use Rattle.cdf_model.specs.Step.{ByStep}
+use Rattle.cdf_model.specs.VariableSteps.{reindex_step}
+use Rattle.cdf_format.specs.Bytes.{Same}
+use Rattle.cdf_format.specs.Chains.{next_of}
+use Rattle.cdf_format.specs.Content.{content}
+use Rattle.cdf_format.specs.Fields.{number, size_at, type_at}
+use Rattle.cdf_format.specs.Index.{Nodes, no_node, node, leaves_of, nodes_of, room_at}
+use Rattle.cdf_format.specs.IndexOf.{IsNode}
+use Rattle.cdf_format.specs.Owners.{Owner, owned}
+use Rattle.cdf_format.specs.Records.{vdr_vxr_tail}
+use Rattle.cdf_format.specs.RecordTypes.{gdr_type, vxr_type}
+use Rattle.cdf_format.specs.Shape.{VariableShape, shape, vdrs}
+use Rattle.cdf_format.specs.Sound.{IsSound}
+use Rattle.cdf_format.specs.Tiles.{In, AreTiles}
+use Rattle.cdf_format.specs.WellFormed.{Good}
+use Rattle.cdf_format.proofs.BytesLemmas.{size_kept}
+use Rattle.cdf_format.proofs.GoodSound.{good_by_its_shape, good_is_sound}
+use Rattle.cdf_format.proofs.Members.{is_in-true}
+use Rattle.cdf_format.proofs.Owning.{owned_stand}
+use Rattle.cdf_edits.specs.Commands.Allowances.{Allowance, Allowances, AllKeep, Anything, FreedStay, GivenStay, Keeps, Only, allowance, no_fields, shapes_of, stays_all}
+use Rattle.cdf_edits.specs.Commands.Keeps.{allowances}
+use Rattle.cdf_edits.specs.Commands.Named.{OfVariable}
+use Rattle.cdf_edits.specs.Commands.Reindex.{FullFromLeft, IsPyramid, MakesIndex, levels_up, made_acts, nodes_at, AreTight, reindex_changes}
+use Rattle.cdf_edits.specs.Commands.Room.{nodes_above, reindex_room, room, vxr_bytes}
+use Rattle.cdf_edits.specs.Follows.{Follows}
+use Rattle.cdf_edits.specs.Index.Written.{NodeSpareStays, NodesFollow, TailFollows, UnusedEntries, is_taken_at, last_node, top_chain, top_stays}
+use Rattle.cdf_edits.specs.Space.Acts.{Act, gave, links_end, taken}
+use Rattle.cdf_edits.proofs.Commands.ListParts.{got-middle}
+use Rattle.cdf_edits.proofs.Edits.FreedBytes.{freed_stay}
+use Rattle.cdf_edits.proofs.Edits.FreedRecords.{sizes_by_tiles}
+use Rattle.cdf_edits.proofs.Edits.StepEdits.{gdr_typed}
+use Rattle.cdf_edits.proofs.Edits.VariableFrame.{Each-map}
+use Rattle.cdf_edits.proofs.Edits.VdrEdited.{StandsAmong}
+use Rattle.cdf_edits.proofs.Space.ActsLeave.{each, no_acts}
+use Rattle.cdf_edits.proofs.Space.UsedRecords.{apart}
+use Rattle.cdf_reindex.specs.Reindexed.{IsBare, IsRebuilt, Reindexed}
+use Rattle.cdf_reindex.proofs.MadeActs.{made_follow, same_size, taken_nodes, taken_within}
+use Rattle.cdf_reindex.proofs.MadeEdit.{edit, gives_edit, heads_edit, left, may_free, node_linked, node_made, olds, records_now, type_linked}
+use Rattle.cdf_reindex.proofs.MadeGood.{among_now, good_now, vdrs_stay}
+use Rattle.cdf_reindex.proofs.MadeKeeps.{made_keeps}
+use Rattle.cdf_reindex.proofs.MadeSplices.{mine}
+use Rattle.cdf_reindex.proofs.MadeTaken.{node_takes}
+use Rattle.cdf_reindex.proofs.MadeTree.{in_levels}
+
+-- ---- the step of a data set
+
+pub goes_by : (d : DataSet) (name : List ℕ) (found : Found) → variable_named d name ≡ Some found → reindex_step d name ≡ Go d replies.Plain
+goes_by d name found e = rw e refl
+
+-- ---- the nodes that were taken
+
+places_taken : (new : List ℕ) → map (λ (take : ℕ × ℕ). take.0) (map (λ place. (place, vxr_bytes 64)) new) ≡ new
+places_taken [] = refl
+places_taken (place ∷ new) = ap (λ (xs : List ℕ). place ∷ xs) (places_taken new)
+
+taken_there : (b new old : List ℕ) (m : ℕ) → In m new → is_taken_at (node_takes new ++ gave b old) m ≡ true
+taken_there b new old m i = is_in-true m _ (subst (In m) (sym (ap (map (λ (take : ℕ × ℕ). take.0)) (taken_nodes b new old) ∙ places_taken new)) i)
+
+-- ---- what is freed, behind what is taken
+
+given_after : (b now : List ℕ) (acts : List Act) (new : List ℕ) (given : List Act) → GivenStay b now no_fields acts given → GivenStay b now no_fields acts (node_takes new ++ given)
+given_after b now acts [] given g = g
+given_after b now acts (place ∷ new) given g = given_after b now acts new given g
+
+-- ---- another top chain
+
+and_false : (p : Bool) → (p && false) ≡ false
+and_false true = refl
+and_false false = refl
+
+some_any : (test : ℕ → Bool) (x : ℕ) (xs : List ℕ) → test x ≡ true → list_any test (x ∷ xs) ≡ true
+some_any test x xs e = rw e refl
+
+top_moves : (acts : List Act) (old new : Nodes) → IsNode old → ((m : ℕ) → In m (nodes_of new) → is_taken_at acts m ≡ true) → top_stays acts old old new ≡ false
+unfolding nodes_of
+top_moves acts no_node new is all = absurd is
+top_moves acts (node place room entries more) no_node is all = and_false (bytes_eq (place ∷ top_chain more) (place ∷ top_chain more))
+top_moves acts (node place room entries more) (node other wide others next) is all =
+    let any = some_any (is_taken_at acts) other (top_chain next) (all other (inl refl)) in
+    let same = bytes_eq (place ∷ top_chain more) (place ∷ top_chain more) in
+    ap (λ (p : Bool). same && (bytes_eq (place ∷ top_chain more) (other ∷ top_chain next) && not p)) any ∙ ap (λ (p : Bool). same && p) (and_false (bytes_eq (place ∷ top_chain more) (other ∷ top_chain next))) ∙ and_false same
+
+-- ---- the room that the command has
+
+module _ (b name : List ℕ) (found : Found) {own : VariableShape} (named : variable_named (content b) name ≡ Some found) (there : slice_get (shapes_of (shape b) found.kind) found.number ≡ Some own) where
+  pub room_is : room b (commands.Reindex name) ≡ reindex_room own.index
+  room_is = ap by_name named ∙ ap by_shape there
+    where
+      by_shape : Option VariableShape → ℕ
+      by_shape None = 0
+      by_shape (Some x) = reindex_room x.index
+
+      by_name : Option Found → ℕ
+      by_name None = 0
+      by_name (Some f) = by_shape (slice_get (shapes_of (shape b) f.kind) f.number)
+
+  keeps_by : (now : List ℕ) (acts : List Act) → AllKeep b now (reindex_changes b (shape b) found) acts (owned b (shape b)) → AllKeep b now (allowances b (content b) (shape b) (commands.Reindex name)) acts (owned b (shape b))
+  keeps_by now acts keep = subst (λ (o : Option Found). AllKeep b now (elim o as (λ x. Allowances) [ None ↦ stays_all | Some f ↦ reindex_changes b (shape b) f ]) acts (owned b (shape b))) (sym named) keep
+
+  does_by : {now : List ℕ} {own' : VariableShape} {acts : List Act} → slice_get (shapes_of (shape now) found.kind) found.number ≡ Some own' → MakesIndex b now own own' acts → OfVariable b now name (λ other v v'. MakesIndex b now v v' acts)
+  does_by {now = now} {own' = own'} {acts = acts} there' makes other v v' is =
+      let same : found ≡ other = same_Some found other (sym named ∙ is.named) in
+      let was : own ≡ v = same_Some own v (sym there ∙ ap (λ (f : Found). slice_get (shapes_of (shape b) f.kind) f.number) same ∙ is.before) in
+      let by_now : own' ≡ v' = same_Some own' v' (sym there' ∙ ap (λ (f : Found). slice_get (shapes_of (shape now) f.kind) f.number) same ∙ is.after) in
+      subst (λ (x : VariableShape). MakesIndex b now x v' acts) was (subst (λ (x : VariableShape). MakesIndex b now own x acts) by_now makes)
+
+-- ---- an index that was made anew
+
+module _ {b now : List ℕ} (found : Found) {before : List VariableShape} {own : VariableShape} {after : List VariableShape} (good : Good b) (among : StandsAmong b found.kind before own after) (at : found.number ≡ length before) (r : IsRebuilt b now own) (whole : IsSound r.linked (shape r.linked)) (some : IsNode own.index) where
+  abbrev done : List Act
+  done = made_acts b own.index r.index
+
+  abbrev of_own : VariableShape
+  of_own = mine good among r whole
+
+  taken_all : (m : ℕ) → In m (nodes_of r.index) → is_taken_at done m ≡ true
+  taken_all m i = taken_there b (levels_up 7 r.index) (nodes_of own.index) m (in_levels now (shape now).records r.index r.stands.has_nodes m i)
+
+  -- ---- its nodes
+
+  unused_entries : (m : ℕ) → IsBare now m → UnusedEntries b now [] [] done m
+  unused_entries m bare i low high = inl (bare.unused i low (subst (λ (n : ℕ). i < n) bare.room_is high))
+
+  nodes_follow : NodesFollow b now [] [] (nodes_of r.index) done
+  nodes_follow = record {
+    unused = Each-map (IsBare now) (UnusedEntries b now [] [] done) unused_entries (nodes_of r.index) r.bare;
+    spare = each (NodeSpareStays b now done) (nodes_of r.index) (λ m i free. absurd (true≢false (sym (taken_all m i) ∙ free)));
+  }
+
+  tail_follows : TailFollows b now done own.index own of_own
+  tail_follows = r.tail ∙ sym (ap (λ (p : Bool). if p then number b own.vdr vdr_vxr_tail else last_node r.index) (top_moves done own.index r.index some taken_all))
+
+  -- ---- the nodes that were freed
+
+  size_left : (m : ℕ) → In m (olds good among r) → size_at now m ≡ size_at r.linked m
+  size_left m i =
+      let records = records_now good among r whole in
+      let tiled = subst (λ (ts : List ℕ). AreTiles now 8 (length now) ts) records (gives_edit good among r whole).tiled_now in
+      sizes_by_tiles r.linked now 8 8 (length r.linked) _ refl (heads_edit good among r).tiled_now (subst (λ (n : ℕ). AreTiles now 8 n (shape r.made).records) (left good among r whole).long tiled) m (there m i)
+    where
+      there : (m : ℕ) → In m (olds good among r) → In m (shape r.made).records
+      there m i = subst (In m) (records_now good among r whole) (subst (In m) (sym (ap (λ x. x.records) (left good among r whole).shape_is)) ((may_free good among r whole).stand m i))
+
+  size_now : (m : ℕ) → In m (olds good among r) → size_at now m ≡ size_at b m
+  size_now m i = size_left m i ∙ same_size good among r whole m i
+
+  no_gdr : (m : ℕ) → In m (olds good among r) → m ≢ (shape r.linked).gdr
+  no_gdr m i q = apart vxr_type gdr_type refl (sym (type_linked good among r m i) ∙ ap (type_at r.linked) q ∙ gdr_typed r.linked (shape r.linked) whole.has_shape)
+
+  behind : (m : ℕ) → In m (olds good among r) → Same b now (m + links_end (size_at b m)) (m + size_at b m)
+  behind m i =
+      let one = node_made good among r m i in
+      let two = node_linked good among r m i in
+      let last = (left good among r whole).behind m ((may_free good among r whole).stand m i) (no_gdr m i) in
+      let last' : Same r.linked now (m + links_end (size_at b m)) (m + size_at b m) = subst (λ (n : ℕ). Same r.linked now (m + links_end n) (m + n)) (same_size good among r whole m i) last in
+      let middle : size_at r.made m ≡ size_at b m = size_kept b r.made m one.same (let l = one.long in omega arith) in
+      record { each = λ k l u. last'.each k l u ∙ two.same.each k (from k (links_end (size_at b m)) l) (subst (λ (n : ℕ). k < m + n) (sym middle) u) ∙ one.same.each k (from k (links_end (size_at b m)) l) u }
+    where
+      from : (k n : ℕ) → m + n ≤ k → m ≤ k
+      from k n l = omega arith
+
+  freed : FreedStay b now no_fields done
+  freed = given_after b now done (levels_up 7 r.index) (gave b (nodes_of own.index))
+      (freed_stay b now done (nodes_of own.index) no_fields r.sound.has_shape.tiled (λ m i. subst (In m) (sym (ap (λ x. x.records) (left good among r whole).shape_is)) ((may_free good among r whole).stand m i)) size_now behind)
+
+  makes : MakesIndex b now own of_own done
+  makes = record {
+    acts_are = refl;
+    leaves_stay = r.leaves_stay;
+    fewest = r.fewest ∙ ap (λ leaves. nodes_above 8 (length leaves)) (sym r.leaves_stay);
+    filled = r.filled;
+    wide = Each-map (IsBare now) (λ vxr. room_at now vxr ≡ 64) (λ m bare. bare.room_is) (nodes_of r.index) r.bare;
+    alone = Each-map (IsBare now) (λ vxr. next_of now vxr ≡ 0) (λ m bare. bare.next_is) (nodes_of r.index) r.bare;
+    nodes = nodes_follow;
+    tail = tail_follows;
+    freed = freed;
+  }
+
+  -- ---- the command
+
+  module _ (name : List ℕ) (named : variable_named (content b) name ≡ Some found) (short : length now ≤ image_limit) where
+    there : slice_get (shapes_of (shape b) found.kind) found.number ≡ Some own
+    there = ap (slice_get (shapes_of (shape b) found.kind)) at ∙ ap (λ (vs : List VariableShape). slice_get vs (length before)) among.was ∙ got-middle before own after
+
+    there_now : slice_get (shapes_of (shape now) found.kind) found.number ≡ Some of_own
+    there_now = ap (slice_get (shapes_of (shape now) found.kind)) at ∙ ap (λ (vs : List VariableShape). slice_get vs (length before)) (among_now good among r whole short).was ∙ got-middle before of_own after
+
+    pub rebuilt_follows : Follows b (commands.Reindex name) now
+    rebuilt_follows = record {
+      reply = replies.Plain;
+      goes = ap ByStep (goes_by (content b) name found named) ∙ ap (λ (d : DataSet). ByStep (Go d replies.Plain)) (sym r.content_stays);
+      good = good_now good among r whole short;
+      longer = (edit good among r whole).longer;
+      within = subst (λ (n : ℕ). length now ≤ length b + n) (sym (room_is b name found named there)) r.longest;
+      reads = λ e. absurd cc;
+      acts = done;
+      takes_within = subst (λ (n : ℕ). sum (map (λ take. take.1) (taken done)) ≤ n) (sym (room_is b name found named there)) (taken_within good among r);
+      acts_follow = made_follow good among r whole;
+      keeps = keeps_by b name found named there now done (made_keeps found good among at r whole);
+      does = does_by b name found named there there_now makes;
+    }
+
+-- ---- an index without nodes stays, and so does every byte
+
+keeps_itself : (b : List ℕ) (place : ℕ) (a : Allowance) → In place (shape b).records → Keeps b b place a
+keeps_itself b place Anything i = tt
+keeps_itself b place (Only fields) i = record { stands = i; size_is = refl; same = λ n lt out. refl }
+
+all_keep : (b : List ℕ) (may : Allowances) (acts : List Act) (list : List (ℕ × Owner)) → ((m : ℕ) → In m (map (λ (p : ℕ × Owner). p.0) list) → In m (shape b).records) → AllKeep b b may acts list
+all_keep b may acts [] h = tt
+all_keep b may acts ((place, owner) ∷ more) h = (keeps_itself b place (allowance b (shape b) may acts place owner) (h place (inl refl)), all_keep b may acts more (λ m i. h m (inr i)))
+
+none_made : (b : List ℕ) → [] ≡ made_acts b no_node no_node
+unfolding nodes_of nodes_at
+none_made b = refl
+
+none_filled : IsPyramid no_node
+unfolding nodes_at AreTight
+none_filled = record { full = λ levels. none levels; even = λ levels. inl refl; tight = tt }
+  where
+    none : (levels : ℕ) → FullFromLeft (nodes_at levels no_node)
+    none zero = tt
+    none (suc levels) = tt
+
+none_fewest : length (nodes_of no_node) ≡ nodes_above 8 (length (leaves_of no_node))
+unfolding nodes_of leaves_of nodes_above
+none_fewest = refl
+
+none_stays : (b : List ℕ) (vdr : ℕ) (cpr : List ℕ) → MakesIndex b b (record { vdr = vdr; index = no_node; cpr = cpr }) (record { vdr = vdr; index = no_node; cpr = cpr }) []
+unfolding nodes_of
+none_stays b vdr cpr = record {
+  acts_are = none_made b;
+  leaves_stay = refl;
+  fewest = none_fewest;
+  filled = none_filled;
+  wide = tt;
+  alone = tt;
+  nodes = record { unused = tt; spare = tt };
+  tail = refl;
+  freed = tt;
+}
+
+none_makes : (b : List ℕ) (own : VariableShape) → own.index ≡ no_node → MakesIndex b b own own []
+none_makes b own none =
+    let here : own ≡ record { vdr = own.vdr; index = no_node; cpr = own.cpr } = λ i. record { vdr = own.vdr; index = none i; cpr = own.cpr } in
+    subst (λ (x : VariableShape). MakesIndex b b x x []) (sym here) (none_stays b own.vdr own.cpr)
+
+pub none_follows : (b : List ℕ) (found : Found) {own : VariableShape} (name : List ℕ) → Good b → variable_named (content b) name ≡ Some found → slice_get (shapes_of (shape b) found.kind) found.number ≡ Some own → own.index ≡ no_node → Follows b (commands.Reindex name) b
+none_follows b found {own = own} name good named there none = record {
+  reply = replies.Plain;
+  goes = ap ByStep (goes_by (content b) name found named);
+  good = good;
+  longer = omega arith;
+  within = omega arith;
+  reads = λ e. absurd cc;
+  acts = [];
+  takes_within = omega arith;
+  acts_follow = no_acts b b (good_is_sound b good).has_shape (record { records = refl; list = refl; long = refl; size = λ m i. refl; type = λ m i. refl; back = λ m i. refl });
+  keeps = all_keep b (allowances b (content b) (shape b) (commands.Reindex name)) [] (owned b (shape b)) (owned_stand b (shape b) (good_by_its_shape b good));
+  does = does_by b name found named there there (none_makes b own none);
+}
+
+-- ---- what a call that makes an index anew comes to
+
+module _ {b now : List ℕ} (found : Found) {before : List VariableShape} {own : VariableShape} {after : List VariableShape} (name : List ℕ) (good : Good b) (among : StandsAmong b found.kind before own after) (at : found.number ≡ length before) (named : variable_named (content b) name ≡ Some found) (short : length now ≤ image_limit) where
+  pub reindexed_follows : Reindexed b now own → Follows b (commands.Reindex name) now
+  reindexed_follows (inl x) =
+      let there : slice_get (shapes_of (shape b) found.kind) found.number ≡ Some own = ap (slice_get (shapes_of (shape b) found.kind)) at ∙ ap (λ (vs : List VariableShape). slice_get vs (length before)) among.was ∙ got-middle before own after in
+      subst (Follows b (commands.Reindex name)) (sym x.1) (none_follows b found name good named there x.0)
+  reindexed_follows (inr x) = rebuilt_follows found good among at x.1 x.1.linked_sound x.0 name named short
+
+  pub reindexed_content : Reindexed b now own → content now ≡ content b
+  reindexed_content (inl x) = ap content x.1
+  reindexed_content (inr x) = x.1.content_stays
+
+  pub reindexed_places : Reindexed b now own → (k : Kind) → vdrs (shapes_of (shape now) k) ≡ vdrs (shapes_of (shape b) k)
+  reindexed_places (inl x) k = ap (λ (y : List ℕ). vdrs (shapes_of (shape y) k)) x.1
+  reindexed_places (inr x) k = vdrs_stay good among x.1 x.1.linked_sound short k

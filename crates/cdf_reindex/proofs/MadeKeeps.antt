@@ -1,0 +1,248 @@
+-- An index made anew: what it keeps of the records of each owner.
+use Rattle.std.proofs.Common.{◌≡◌, ◌⊎◌, ℕ, suc, ◌+◌, ◌<◌, ◌≤◌, List, [], ◌∷◌, ◌++◌, length, false, true, Option, Some, None, true≢false, eq-eqb, refl, sym, ap, subst, ◌∙◌, arith, inl, inr}
+use Rattle.std.proofs.lemmas.Bool.{ne_eqb}
+use Rattle.std.specs.List.{slice_get}
+use Rattle.std.specs.Prelude.{◌==◌, ◌&&◌, find, nat_le, nat_lt, if◌then◌else◌}
+use Rattle.cdf_model.specs.Names.{Found}
+use Rattle.cdf_model.specs.declared.kinds.Kind.{Kind}
+use Rattle.cdf_model.specs.declared.kinds.Kind.TheVariants.{R, Z}
+use Rattle.cdf_format.specs.Chains.{is_a}
+use Rattle.cdf_format.specs.Fields.{size_at, type_at}
+use Rattle.cdf_format.specs.Index.{Leaf, leaves_of, nodes_of}
+use Rattle.cdf_format.specs.Owners.{OneVariable, owned, variable_records}
+use Rattle.cdf_format.specs.Records.{Field, uir_next_uir, uir_prev_uir, vdr_vxr_head, vdr_vxr_tail}
+use Rattle.cdf_format.specs.RecordTypes.{cdr_type, cpr_type, gdr_type, uir_type, vxr_type, vvr_type, cvvr_type}
+use Rattle.cdf_format.specs.Shape.{VariableShape, HasShape, shape}
+use Rattle.cdf_format.specs.Sound.{IsSound}
+use Rattle.cdf_format.specs.Tiles.{In}
+use Rattle.cdf_format.specs.WellFormed.{Good}
+use Rattle.cdf_format.proofs.ChainsLemmas.{is_a-in, is_a-type, linkable-in}
+use Rattle.cdf_format.proofs.GoodSound.{good_is_sound}
+use Rattle.cdf_format.proofs.Members.{In-append}
+use Rattle.cdf_format.proofs.TilesLemmas.{tile_lies}
+use Rattle.cdf_edits.specs.Commands.Allowances.{Allowance, Allowances, AllKeep, Anything, Keeps, Only, Stays, is_taken, only_of, range_at, same_kind, shapes_of, space_fields, vdr_type}
+use Rattle.cdf_edits.specs.Commands.Reindex.{reindex_changes}
+use Rattle.cdf_edits.specs.Commands.Room.{vxr_bytes}
+use Rattle.cdf_edits.specs.Edits.Edit.{Edit}
+use Rattle.cdf_edits.specs.Edits.Marks.{Mark, Avoids, Away, Within, avoided, unmarked, within}
+use Rattle.cdf_edits.specs.Index.Blocks.{Range, range}
+use Rattle.cdf_edits.specs.Space.Acts.{Act, gave}
+use Rattle.cdf_edits.proofs.Commands.KeptRecords.{Stood, keep_attributes, keep_variables, keeps_stood}
+use Rattle.cdf_edits.proofs.Commands.ListParts.{got-middle}
+use Rattle.cdf_edits.proofs.Edits.InRecords.{places_of}
+use Rattle.cdf_edits.proofs.Edits.MarkLemmas.{Avoids-append, Away-append, Within-append, away-avoids, away-within, unmarked-away}
+use Rattle.cdf_edits.proofs.Edits.OwnedOnce.{all_attributes_in}
+use Rattle.cdf_edits.proofs.Edits.OwnersKept.{keep_all, keep_file, keep_places, keep_unused, keeps_fields, stood}
+use Rattle.cdf_edits.proofs.Edits.RecordFrame.{cdr_kept, kept, kept_away}
+use Rattle.cdf_edits.proofs.Edits.StepEdits.{gdr_in, gdr_typed}
+use Rattle.cdf_edits.proofs.Edits.VariableCopied.{block_behind, cpr_behind}
+use Rattle.cdf_edits.proofs.Edits.VariableFrame.{variables_in}
+use Rattle.cdf_edits.proofs.Edits.VariableKept.{keep_kinds, keep_variable_parts, same_as_itself, vdr_allowance}
+use Rattle.cdf_edits.proofs.Edits.VariableKinds.{kind_ours, kind_type, other_kind}
+use Rattle.cdf_edits.proofs.Edits.VariableSplice.{attributes_kept}
+use Rattle.cdf_edits.proofs.Edits.VdrEdited.{StandsAmong, after_ours, behind_in, fits, no_block, ours, tile, typed}
+use Rattle.cdf_edits.proofs.Frame.Meaning.{Kept}
+use Rattle.cdf_edits.proofs.Frame.OwnerAlone.{Each-in}
+use Rattle.cdf_edits.proofs.Frame.OwnersApart.{all_variable_records}
+use Rattle.cdf_puts.proofs.OnlyTaken.{none_of_both}
+use Rattle.cdf_reindex.specs.Reindexed.{IsRebuilt}
+use Rattle.cdf_reindex.proofs.MadeActs.{acts}
+use Rattle.cdf_reindex.proofs.MadeBlocks.{size_same}
+use Rattle.cdf_reindex.proofs.MadeEdit.{edit, index_made_marks, marks, node_typed, olds, own_marks, places, reborn, t}
+use Rattle.cdf_reindex.proofs.MadeSplices.{beside, block_kept, block_type, but_heads, only, part, splices, tests}
+use Rattle.cdf_reindex.proofs.MadeTaken.{listed_avoids, listed_within, node_takes, taking_all, unlisted_away, untaken}
+
+abbrev links : List Field
+links = uir_next_uir ∷ uir_prev_uir ∷ []
+
+abbrev head_fields : List Field
+head_fields = vdr_vxr_head ∷ vdr_vxr_tail ∷ []
+
+-- ---- by the kind
+
+record KeepTests (kind : Kind) (marks_ : List Mark) : Type 0 where
+  heads : avoided marks_ gdr_type 0 12 ≡ true
+  inside : within marks_ gdr_type space_fields ≡ true
+
+keep_tests : (kind : Kind) (v : ℕ) (unused new nodes : List ℕ) (limit : ℕ) → KeepTests kind (index_made_marks kind v unused new nodes limit)
+keep_tests R v unused new nodes limit = record { heads = refl; inside = refl }
+keep_tests Z v unused new nodes limit = record { heads = refl; inside = refl }
+
+own_unmarked : (kind : Kind) (v : ℕ) (nodes : List ℕ) (limit : ℕ) → unmarked (own_marks kind v nodes limit) uir_type ≡ true
+own_unmarked R v nodes limit = refl
+own_unmarked Z v nodes limit = refl
+
+-- of a record that is no block, by its type
+abbrev by_type : Kind → ℕ → Allowance
+by_type kind type = if type == vdr_type kind then Only head_fields else (if type == vxr_type then Anything else Only [])
+
+of_node : (kind : Kind) → by_type kind vxr_type ≡ Anything
+of_node R = refl
+of_node Z = refl
+
+plain_types : (kind : Kind) → (by_type kind cpr_type ≡ Only []) × (by_type kind vvr_type ≡ Only []) × (by_type kind cvvr_type ≡ Only [])
+plain_types R = (refl, refl, refl)
+plain_types Z = (refl, refl, refl)
+
+find_none : (leaves : List Leaf) (p : ℕ) → (In p (places_of leaves) → ⊥) → find (λ (leaf : Leaf). leaf.place == p) leaves ≡ None
+find_none [] p out = refl
+find_none (leaf ∷ more) p out = rw (ne_eqb leaf.place p (λ e. out (inl (sym e)))) (find_none more p (λ i. out (inr i)))
+
+abbrev in_leaf : Option Leaf → Option Range
+in_leaf None = None
+in_leaf (Some leaf) = Some (range leaf.first leaf.last)
+
+abbrev range_in : ℕ → Option VariableShape → Option Range
+range_in place None = None
+range_in place (Some v) = in_leaf (find (λ (leaf : Leaf). leaf.place == place) (leaves_of v.index))
+
+module _ {b now : List ℕ} (found : Found) {before : List VariableShape} {own : VariableShape} {after : List VariableShape} (good : Good b) (among : StandsAmong b found.kind before own after) (at : found.number ≡ length before) (r : IsRebuilt b now own) (whole : IsSound r.linked (shape r.linked)) where
+  abbrev kind : Kind
+  kind = found.kind
+
+  abbrev ks : List Mark
+  ks = marks good among r whole
+
+  abbrev may : Allowances
+  may = reindex_changes b (shape b) found
+
+  abbrev done : List Act
+  done = acts good among r
+
+  sound : IsSound b (shape b)
+  sound = good_is_sound b good
+
+  h : HasShape b (shape b)
+  h = sound.has_shape
+
+  e : Edit b now (shape b).records (shape now).records ks (reborn good among r whole)
+  e = edit good among r whole
+
+  by_kind : KeepTests kind ks
+  by_kind = keep_tests kind own.vdr (shape b).unused (places good among r) (olds good among r) (length r.linked)
+
+  stands : (m : ℕ) → In m (shape b).records → Kept b now m → Stood b now m
+  stands m i k = stood sound e refl m i k
+
+  -- other variables
+  away_stands : (xs : List ℕ) → ((m : ℕ) → In m xs → In m (all_variable_records (shape b))) → ((m : ℕ) → In m (variable_records own) → In m xs → ⊥) → (m : ℕ) → In m xs → Stood b now m
+  away_stands xs sub out m i =
+      let inside = variables_in b (shape b) sound m (sub m i) in
+      stands m inside (kept_away e m (type_at b m) inside refl (beside good among r whole xs sub out m i))
+
+  -- ---- what its own records may
+
+  abbrev own_may : ℕ → Allowance
+  own_may m = may.variables kind (length before) m
+
+  abbrev by_range : ℕ → Option Range → Allowance
+  by_range m None = by_type kind (type_at b m)
+  by_range m (Some x) = Only []
+
+  there : slice_get (shapes_of (shape b) kind) found.number ≡ Some own
+  there = ap (slice_get (shapes_of (shape b) kind)) at ∙ ap (λ (vs : List VariableShape). slice_get vs (length before)) among.was ∙ got-middle before own after
+
+  allowed : (m : ℕ) (o : Option Range) → range_at (shape b) found m ≡ o → own_may m ≡ by_range m o
+  allowed m o x =
+      let same : same_kind kind kind ≡ true = same_as_itself kind in
+      let number : (found.number == length before) ≡ true = eq-eqb found.number (length before) at in
+      λ i. if same i then (if number i then by_range m (x i) else only_of b m (vdr_type kind) []) else Only []
+
+  -- of a record of another type than those of a descriptor and of a node, whatever stands there
+  stays_by : (m type : ℕ) → type_at b m ≡ type → by_type kind type ≡ Only [] → own_may m ≡ Only []
+  stays_by m type x only_none = allowed m (range_at (shape b) found m) refl ∙ by (range_at (shape b) found m)
+    where
+      by : (o : Option Range) → by_range m o ≡ Only []
+      by None = ap (by_type kind) x ∙ only_none
+      by (Some y) = refl
+
+  no_block_there : (m : ℕ) → In m (olds good among r) → In m (places_of (leaves_of own.index)) → ⊥
+  no_block_there m i j = elim (block_type b (shape b).records own.vdr (leaves_of own.index) (fits good among).2 m j) [
+    | inl x ↦ clash vvr_type refl (sym (node_typed good among r m i) ∙ x)
+    | inr x ↦ clash cvvr_type refl (sym (node_typed good among r m i) ∙ x)
+  ]
+    where
+      clash : (type : ℕ) → (vxr_type == type) ≡ false → vxr_type ≡ type → ⊥
+      clash type f q = true≢false (sym (eq-eqb vxr_type type q) ∙ f)
+
+  node_allowed : (m : ℕ) → In m (olds good among r) → own_may m ≡ Anything
+  node_allowed m i = allowed m None (ap (range_in m) there ∙ ap in_leaf (find_none (leaves_of own.index) m (no_block_there m i))) ∙ ap (by_type kind) (node_typed good among r m i) ∙ of_node kind
+
+  descriptor_allowed : own_may own.vdr ≡ Only head_fields
+  descriptor_allowed = vdr_allowance b found before own after among.was at (typed good among ∙ kind_type kind) (no_block good among) _ []
+
+  -- ---- its own records
+
+  descriptor_stays : Stays b now own.vdr head_fields
+  descriptor_stays = record {
+    stands = e.sub own.vdr (tile good among);
+    size_is = size_same (but_heads good among r whole);
+    same = λ n lt out. (part good among r whole n (n + 1) (aside n out.0 out.1.0) (omega arith)).each (own.vdr + n) (omega arith) (omega arith);
+  }
+    where
+      aside : (n : ℕ) → ((n < 28) ⊎ (36 ≤ n)) → ((n < 36) ⊎ (44 ≤ n)) → (n + 1 ≤ 28) ⊎ (44 ≤ n)
+      aside n (inl x) y = inl (omega arith)
+      aside n (inr x) (inl y) = absurd (omega arith)
+      aside n (inr x) (inr y) = inr y
+
+  kept_as : (m type : ℕ) → In m (shape b).records → Kept b now m → type_at b m ≡ type → by_type kind type ≡ Only [] → Keeps b now m (own_may m)
+  kept_as m type inside k x only_none = subst (Keeps b now m) (sym (stays_by m type x only_none)) (keeps_stood b now m (stands m inside k) (Only []))
+
+  block_keeps : (m : ℕ) → In m (places_of (leaves_of own.index)) → Keeps b now m (own_may m)
+  block_keeps m i =
+      let inside = behind_in good among m (block_behind own m i) in
+      let k = block_kept good among r whole m i in
+      elim (block_type b (shape b).records own.vdr (leaves_of own.index) (fits good among).2 m i) [ inl x ↦ kept_as m vvr_type inside k x (plain_types kind).1 | inr x ↦ kept_as m cvvr_type inside k x (plain_types kind).2 ]
+
+  cpr_keeps : (m : ℕ) → In m own.cpr → Keeps b now m (own_may m)
+  cpr_keeps m c =
+      let inside = behind_in good among m (cpr_behind own m c) in
+      let x = is_a-type b (shape b).records cpr_type m (Each-in (λ y. is_a b (shape b).records cpr_type y ≡ true) own.cpr (fits good among).3 m c) in
+      kept_as m cpr_type inside (kept e m cpr_type inside x (tests good among r whole).cpr_clear) x (plain_types kind).0
+
+  mine_keeps : (m : ℕ) → In m (variable_records own) → Keeps b now m (own_may m)
+  mine_keeps m (inl q) = subst (λ (x : ℕ). Keeps b now x (own_may x)) (sym q) (subst (Keeps b now own.vdr) (sym descriptor_allowed) descriptor_stays)
+  mine_keeps m (inr j) = elim (In-append m (nodes_of own.index ++ places_of (leaves_of own.index)) own.cpr j) [
+    | inl x ↦ elim (In-append m (nodes_of own.index) (places_of (leaves_of own.index)) x) [ inl n ↦ subst (Keeps b now m) (sym (node_allowed m n)) tt | inr n ↦ block_keeps m n ]
+    | inr c ↦ cpr_keeps m c
+  ]
+
+  -- ---- unused records
+
+  abbrev taking : List Mark
+  taking = taking_all (shape b).unused (places good among r) (vxr_bytes 64)
+
+  abbrev mine_alone : List Mark
+  mine_alone = own_marks kind own.vdr (olds good among r) (length r.linked)
+
+  own_away : (m : ℕ) → Away mine_alone uir_type m
+  own_away m = unmarked-away mine_alone uir_type m (own_unmarked kind own.vdr (olds good among r) (length r.linked))
+
+  listed_marks : (m : ℕ) → In m (shape b).unused → is_taken b done m ≡ false → Avoids ks uir_type m 0 12 × Within ks uir_type m links
+  listed_marks m i free =
+      let inside = linkable-in b (shape b).records uir_type m (h.unused_chain.linkable m i) in
+      let long = (tile_lies b 8 (length b) (shape b).records m h.tiled inside).long in
+      let none = none_of_both (λ (take : ℕ × ℕ). nat_le m take.0 && nat_lt take.0 (m + size_at b m)) (node_takes (places good among r)) (gave b (olds good among r)) free in
+      let out = untaken b (places good among r) m long none.0 in (
+        Avoids-append taking mine_alone uir_type m 0 12 (listed_avoids (shape b).unused (places good among r) (vxr_bytes 64) m 0 12 out (omega arith)) (away-avoids mine_alone uir_type m 0 12 (own_away m)),
+        Within-append taking mine_alone uir_type m links (listed_within (shape b).unused (places good among r) (vxr_bytes 64) m out) (away-within mine_alone uir_type m links (own_away m)),
+      )
+
+  unlisted_marks : (m : ℕ) → In m (shape b).records → (In m (shape b).unused → ⊥) → Away ks uir_type m
+  unlisted_marks m i off = Away-append taking mine_alone uir_type m (unlisted_away (shape b).unused (places good among r) (vxr_bytes 64) m off (λ j. off ((t good among r).from_list m j i))) (own_away m)
+
+  -- ---- all of them
+
+  pub made_keeps : AllKeep b now (reindex_changes b (shape b) found) (acts good among r) (owned b (shape b))
+  made_keeps =
+      let front = keep_variables b now may done kind 0 before (away_stands _ (ours good among).0.sub (λ m i. (only good among r whole m i).in_before)) in
+      let back = keep_variables b now may done kind (suc (length before)) after (away_stands _ (after_ours good among).sub (λ m i. (only good among r whole m i).in_after)) in
+      let others = keep_variables b now may done (other_kind kind) 0 (shapes_of (shape b) (other_kind kind)) (away_stands _ (kind_ours b (shape b) sound (other_kind kind)).sub (λ m i. (only good among r whole m i).in_others)) in
+      let of_kind = keep_variable_parts b now may done kind before own after among.was front (keep_places b now may done (OneVariable kind (length before)) (variable_records own) mine_keeps) back in
+      let both = keep_kinds b now may done kind of_kind others in
+      let cdr = is_a-in b (shape b).records cdr_type 8 h.cdr_stands in
+      keep_all b now may done
+      (keep_file b now may done sound (keeps_stood b now 8 (stands 8 cdr (cdr_kept sound e (tests good among r whole).file_clear)) (Only []))
+      (keeps_fields sound e refl (shape b).gdr gdr_type space_fields (gdr_in b (shape b) h) (gdr_typed b (shape b) h) by_kind.heads by_kind.inside))
+      (keep_attributes b now may done 0 (shape b).attributes (λ m i. stands m (all_attributes_in sound m i) (attributes_kept sound (splices good among r whole) m i)))
+      both.0 both.1 (keep_unused sound e refl may done listed_marks unlisted_marks)

@@ -1,0 +1,135 @@
+-- The nodes of an index of so many levels are those of its levels.
+use Rattle.std.proofs.Common.{◌≡◌, ℕ, zero, suc, ◌+◌, ◌≤◌, Bool, List, [], ◌∷◌, ◌++◌, length, map, refl, sym, ap, ap₂, ◌∙◌, arith, inl, inr}
+use Rattle.std.proofs.lemmas.List.{length-append, map-append}
+use Rattle.cdf_format.specs.Index.{Nodes, no_node, node, Entries, no_entry, block, lower, nodes_of, lower_nodes}
+use Rattle.cdf_format.specs.IndexOf.{HasNodes, Names}
+use Rattle.cdf_format.specs.Owners.{times}
+use Rattle.cdf_format.specs.Tiles.{In}
+use Rattle.cdf_format.specs.Chains.{is_in}
+use Rattle.cdf_format.proofs.Members.{either, true-is_in, false-is_in}
+use Rattle.cdf_format.proofs.Owning.{times-none}
+use Rattle.cdf_edits.specs.Commands.Reindex.{nodes_at, nodes_below, levels_up}
+use Rattle.cdf_edits.proofs.Frame.OwnersApart.{times-append, times-in}
+
+-- what counts a list by its parts
+record Adds (f : List ℕ → ℕ) : Type 0 where
+  none : f [] ≡ 0
+  both : (xs ys : List ℕ) → f (xs ++ ys) ≡ f xs + f ys
+
+abbrev places : List (ℕ × ℕ) → List ℕ
+places pairs = map (λ (pair : ℕ × ℕ). pair.0) pairs
+
+-- the nodes of the first levels, and those below some entries
+abbrev upto : ℕ → Nodes → List ℕ
+upto zero nodes = []
+upto (suc levels) nodes = places (nodes_at levels nodes) ++ upto levels nodes
+
+abbrev below : ℕ → Entries → List ℕ
+below zero entries = []
+below (suc levels) entries = places (nodes_below levels entries) ++ below levels entries
+
+module _ {f : List ℕ → ℕ} (adds : Adds f) where
+  upto_none : (levels : ℕ) → f (upto levels no_node) ≡ 0
+  unfolding nodes_at
+  upto_none zero = adds.none
+  upto_none (suc zero) = adds.none
+  upto_none (suc (suc levels)) = upto_none (suc levels)
+
+  below_none : (levels : ℕ) → f (below levels no_entry) ≡ 0
+  unfolding nodes_below
+  below_none zero = adds.none
+  below_none (suc levels) = below_none levels
+
+  below_block : (levels first last place : ℕ) (packed : Bool) (entries : Entries) → below levels (block first last place packed entries) ≡ below levels entries
+  unfolding nodes_below
+  below_block zero first last place packed entries = refl
+  below_block (suc levels) first last place packed entries = ap (λ (r : List ℕ). places (nodes_below levels entries) ++ r) (below_block levels first last place packed entries)
+
+  below_lower : (levels first last : ℕ) (nodes : Nodes) (entries : Entries) → f (below levels (lower first last nodes entries)) ≡ f (upto levels nodes) + f (below levels entries)
+  unfolding nodes_below
+  below_lower zero first last nodes entries = let e = adds.none in omega arith
+  below_lower (suc levels) first last nodes entries =
+      let here = places (nodes_at levels nodes) in
+      let more = places (nodes_below levels entries) in
+      let rest = below levels (lower first last nodes entries) in
+      sums (f here) (f more) (f (upto levels nodes)) (f (below levels entries)) (f rest) (f (here ++ more)) (f (upto (suc levels) nodes)) (f (below (suc levels) entries)) _
+      (below_lower levels first last nodes entries) (adds.both here more) (adds.both here (upto levels nodes)) (adds.both more (below levels entries))
+      (ap (λ (xs : List ℕ). f (xs ++ rest)) (map-append (λ (pair : ℕ × ℕ). pair.0) (nodes_at levels nodes) (nodes_below levels entries)) ∙ adds.both (here ++ more) rest)
+    where
+      sums : (h m u l r hm hu ml a : ℕ) → r ≡ u + l → hm ≡ h + m → hu ≡ h + u → ml ≡ m + l → a ≡ hm + r → a ≡ hu + ml
+      sums h m u l r hm hu ml a p q s t w = omega arith
+
+  upto_node : (levels place room : ℕ) (entries : Entries) (more : Nodes) → f (upto (suc levels) (node place room entries more)) ≡ f (place ∷ []) + (f (below levels entries) + f (upto (suc levels) more))
+  unfolding nodes_at
+  upto_node zero place room entries more =
+      let rest = upto 1 more in
+      let e = adds.both (place ∷ []) rest in
+      let n = adds.none in
+      omega arith
+  upto_node (suc levels) place room entries more =
+      let here = places (nodes_below levels entries) in
+      let next = places (nodes_at (suc levels) more) in
+      let rest = upto (suc levels) (node place room entries more) in
+      sums (f (place ∷ [])) (f here) (f next) (f (below levels entries)) (f (upto (suc levels) more)) (f rest) (f (here ++ next)) (f (below (suc levels) entries)) (f (upto (suc (suc levels)) more)) _
+      (upto_node levels place room entries more) (adds.both here next) (adds.both here (below levels entries)) (adds.both next (upto (suc levels) more))
+      (ap (λ (xs : List ℕ). f (xs ++ rest)) (map-append (λ (pair : ℕ × ℕ). pair.0) (nodes_below levels entries) (nodes_at (suc levels) more)) ∙ adds.both (here ++ next) rest)
+    where
+      sums : (p h n l u r hn hl nu a : ℕ) → r ≡ p + (l + u) → hn ≡ h + n → hl ≡ h + l → nu ≡ n + u → a ≡ hn + r → a ≡ p + (hl + nu)
+      sums p h n l u r hn hl nu a q s t w x = omega arith
+
+  module _ (b records : List ℕ) where
+    mutual
+      unfolding HasNodes Names nodes_of lower_nodes
+
+      all_nodes : (levels : ℕ) (nodes : Nodes) → HasNodes b records levels nodes → f (nodes_of nodes) ≡ f (upto levels nodes)
+      all_nodes levels no_node h = adds.none ∙ sym (upto_none levels)
+      all_nodes zero (node place room entries more) h = absurd h
+      all_nodes (suc levels) (node place room entries more) h =
+          sums (f (place ∷ [])) (f (lower_nodes entries)) (f (nodes_of more)) (f (below levels entries)) (f (upto (suc levels) more)) (f (lower_nodes entries ++ nodes_of more)) _ _
+          (all_below levels entries h.1) (all_nodes (suc levels) more h.2) (adds.both (lower_nodes entries) (nodes_of more)) (adds.both (place ∷ []) (lower_nodes entries ++ nodes_of more)) (upto_node levels place room entries more)
+        where
+          sums : (p l m l' m' lm a c : ℕ) → l ≡ l' → m ≡ m' → lm ≡ l + m → a ≡ p + lm → c ≡ p + (l' + m') → a ≡ c
+          sums p l m l' m' lm a c e q r s t = omega arith
+
+      all_below : (levels : ℕ) (entries : Entries) → Names b records levels entries → f (lower_nodes entries) ≡ f (below levels entries)
+      all_below levels no_entry h = adds.none ∙ sym (below_none levels)
+      all_below levels (block first last place packed entries) h = all_below levels entries h.2 ∙ ap f (sym (below_block levels first last place packed entries))
+      all_below levels (lower first last nodes entries) h =
+          adds.both (nodes_of nodes) (lower_nodes entries) ∙ ap₂ (λ (x y : ℕ). x + y) (all_nodes levels nodes h.1) (all_below levels entries h.2) ∙ sym (below_lower levels first last nodes entries)
+
+  up_from : (levels : ℕ) (nodes : Nodes) → f (levels_up levels nodes) ≡ f (upto (suc levels) nodes)
+  up_from zero nodes = let e = adds.both (places (nodes_at 0 nodes)) [] in let n = adds.none in omega arith
+  up_from (suc levels) nodes = adds.both (places (nodes_at (suc levels) nodes)) (levels_up levels nodes) ∙ ap (λ (n : ℕ). f (places (nodes_at (suc levels) nodes)) + n) (up_from levels nodes) ∙ sym (adds.both (places (nodes_at (suc levels) nodes)) (upto (suc levels) nodes))
+
+times_add : (m : ℕ) → Adds (times m)
+times_add m = record { none = refl; both = times-append m }
+
+lengths_add : Adds length
+lengths_add = record { none = refl; both = length-append }
+
+-- ---- an index has at most 8 levels
+
+module _ (b records : List ℕ) (index : Nodes) (has : HasNodes b records 8 index) where
+  pub level_times : (m : ℕ) → times m (levels_up 7 index) ≡ times m (nodes_of index)
+  level_times m = up_from (times_add m) 7 index ∙ sym (all_nodes (times_add m) b records 8 index has)
+
+  pub level_length : length (levels_up 7 index) ≡ length (nodes_of index)
+  level_length = up_from lengths_add 7 index ∙ sym (all_nodes lengths_add b records 8 index has)
+
+  pub in_levels : (m : ℕ) → In m (nodes_of index) → In m (levels_up 7 index)
+  in_levels m i = elim (either (is_in m (levels_up 7 index))) [
+    | inl e ↦ true-is_in m (levels_up 7 index) e
+    | inr e ↦ absurd (none (times m (levels_up 7 index)) (times m (nodes_of index)) (level_times m) (times-none m (levels_up 7 index) (false-is_in m (levels_up 7 index) e)) (times-in m (nodes_of index) i))
+  ]
+    where
+      none : (a c : ℕ) → a ≡ c → a ≡ 0 → 1 ≤ c → ⊥
+      none a c p q r = omega arith
+
+  pub from_levels : (m : ℕ) → In m (levels_up 7 index) → In m (nodes_of index)
+  from_levels m i = elim (either (is_in m (nodes_of index))) [
+    | inl e ↦ true-is_in m (nodes_of index) e
+    | inr e ↦ absurd (none (times m (levels_up 7 index)) (times m (nodes_of index)) (level_times m) (times-none m (nodes_of index) (false-is_in m (nodes_of index) e)) (times-in m (levels_up 7 index) i))
+  ]
+    where
+      none : (a c : ℕ) → a ≡ c → c ≡ 0 → 1 ≤ a → ⊥
+      none a c p q r = omega arith

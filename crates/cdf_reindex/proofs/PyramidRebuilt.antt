@@ -1,0 +1,183 @@
+-- What an index that was built anew comes to, once the old nodes are freed.
+use Rattle.std.proofs.Common.{◌≡◌, ℕ, ◌+◌, ◌^◌, ◌<◌, ◌≤◌, List, [], ◌∷◌, ◌++◌, length, map, refl, sym, ap, subst, ◌∙◌, arith, inl, inr}
+use Rattle.std.proofs.lemmas.Bool.{le-leb}
+use Rattle.cdf_model.specs.Limits.{record_number_limit}
+use Rattle.cdf_edits.proofs.Edits.FreedBytes.{IsLeft, all_left}
+use Rattle.cdf_edits.proofs.Space.UsedRecords.{apart}
+use Rattle.cdf_edits.specs.Index.Written.{last_node}
+use Rattle.cdf_edits.specs.Space.Acts.{links_end}
+use Rattle.cdf_edits.proofs.Frame.Meaning.{Kept}
+use Rattle.cdf_edits.specs.Commands.Reindex.{AreTight, EntriesTight, IsPyramid, nodes_at, levels_up}
+use Rattle.cdf_edits.specs.Commands.Room.{nodes_above, reindex_room}
+use Rattle.cdf_edits.specs.Edits.Writes.{write, with_writes}
+use Rattle.cdf_edits.specs.Space.Freeing.{AllGiven}
+use Rattle.cdf_format.proofs.BytesLemmas.{word_kept}
+use Rattle.cdf_format.specs.Fields.{number, size_at, with_field}
+use Rattle.cdf_format.specs.Index.{Nodes, no_node, Leaf, nodes_of, leaves_of, link_to}
+use Rattle.cdf_format.specs.IndexOf.{IsIndex}
+use Rattle.cdf_format.specs.Records.{vdr_vxr_head, vdr_vxr_tail, vxr_n_used_entries}
+use Rattle.cdf_format.specs.RecordTypes.{gdr_type, uir_type, vxr_type}
+use Rattle.cdf_format.specs.Shape.{VariableShape, Each, HasVariable, variables, shape}
+use Rattle.cdf_format.specs.Sound.{NodeFits, VariableFits, IsSound}
+use Rattle.cdf_index.specs.Adding.{Counts}
+use Rattle.cdf_index.specs.Order.{InOrder}
+use Rattle.cdf_format.specs.Tiles.{In}
+use Rattle.cdf_reindex.specs.Pyramid.{NewNode, alone, from_below, places_of}
+use Rattle.cdf_reindex.specs.Rebuilding.{AllMade, PyramidMade}
+use Rattle.cdf_reindex.specs.Reindexed.{IsBare, AllTaken, IsRebuilt}
+use Rattle.cdf_reindex.specs.Reindexing.{IndexMade}
+use Rattle.cdf_index.specs.Replacing.{with_index}
+use Rattle.cdf_reindex.proofs.LevelCounts.{fewest, levels_few, levels_up_are}
+use Rattle.cdf_reindex.proofs.BareNodes.{bare_by}
+use Rattle.cdf_reindex.proofs.FreeingKeeps.{kept_still}
+use Rattle.cdf_reindex.proofs.PyramidBuilt.{leaves_order, NewTree, the_one, built, tree_built, no_tree}
+use Rattle.cdf_reindex.proofs.PyramidIs.{is_pyramid}
+use Rattle.cdf_reindex.proofs.PyramidLaw.{makes_pyramid}
+use Rattle.cdf_reindex.proofs.PyramidLinked.{sound_linked, variables_linked, content_linked, as_long, tail_is, old_free, new_bare, new_in, new_typed, new_fits, new_apart, vdr_stands, vdr_no_gdr, vdr_long}
+use Rattle.cdf_reindex.proofs.WordsOfLevels.{node_words, tree_leaf_words}
+
+-- ---- the records that are taken
+
+pub all_taken : (b made : List ℕ) (nodes : List NewNode) → AllMade b made (map node_words nodes) → AllTaken b made (places_of nodes)
+all_taken b made [] m = m
+all_taken b made (new ∷ more) m = (m.0, (record { taken = m.1.0.taken; fills = m.1.0.fills }, all_taken m.0 made more m.1.1))
+
+-- ---- no tree of no leaves
+
+pub no_pyramid : IsPyramid no_node
+unfolding nodes_at AreTight EntriesTight
+no_pyramid = record { full = λ levels. tt; even = λ levels. inl refl; tight = tt }
+
+none_counted : length (nodes_of no_node) ≡ nodes_above 8 0
+unfolding nodes_of nodes_above
+none_counted = refl
+
+no_order : InOrder 0 record_number_limit no_node
+unfolding InOrder
+no_order = tt
+
+none_taken : {b made : List ℕ} → made ≡ b → AllTaken b made (levels_up 7 no_node)
+unfolding nodes_at
+none_taken same = same
+
+-- ---- the image at the end
+
+module _ (b made : List ℕ) (before : List VariableShape) (v : VariableShape) (after : List VariableShape) (was : variables (shape b) ≡ before ++ v ∷ after) (index : Nodes) (top : ℕ) (x : NewTree b made v index top) (first linked now : List ℕ) (small : top < 2 ^ 64) (one : first ≡ with_field made v.vdr vdr_vxr_head top) (two : linked ≡ with_field first v.vdr vdr_vxr_tail top)
+    (given : AllGiven linked now (nodes_of v.index)) where
+  stand : (m : ℕ) → In m (nodes_of v.index) → In m (shape linked).records
+  stand = (old_free b made before v after was index top x first linked small one two).stand
+
+  sound_at : IsSound linked (shape linked)
+  sound_at = sound_linked b made before v after was index top x first linked small one two
+
+  left : IsLeft linked now
+  left = all_left linked now (nodes_of v.index) sound_at stand given
+
+  variables_now : variables (shape now) ≡ before ++ with_index v index ∷ after
+  variables_now = ap variables left.shape_is ∙ variables_linked b made before v after was index top x first linked small one two
+
+  pub index_stands : IsIndex now (shape now).records (number now v.vdr vdr_vxr_head) index
+  index_stands =
+      (the_one (HasVariable now (shape now).records) (variables (shape now)) before (with_index v index) after variables_now left.sound.has_shape.have_variables).indexed
+
+  nodes_fit : Each (NodeFits now) (nodes_of index)
+  nodes_fit = (the_one (VariableFits now (shape now).records) (variables (shape now)) before (with_index v index) after variables_now left.sound.variables_fit).1
+
+  new_kept : (m : ℕ) → In m (nodes_of index) → Kept linked now m
+  new_kept m i =
+      let typed = new_typed b made before v after was index top x first linked small one two m i in
+      kept_still linked now (nodes_of v.index) sound_at stand given m (new_in b made before v after was index top x first linked small one two m i) (λ u. apart vxr_type uir_type refl (sym typed ∙ u)) (λ g. apart vxr_type gdr_type refl (sym typed ∙ g))
+      (new_apart b made before v after was index top x first linked small one two m i)
+
+  fits_linked : (m : ℕ) → In m (nodes_of index) → NodeFits linked m
+  fits_linked m i = new_fits b made before v after was index top x first linked small one two m i
+
+  all_bare_by : (ms : List ℕ) → ((m : ℕ) → In m ms → In m (nodes_of index)) → Each (IsBare linked) ms → Each (IsBare now) ms
+  all_bare_by [] sub bare = tt
+  all_bare_by (m ∷ ms) sub bare = let i = sub m (inl refl) in (bare_by linked now m (new_kept m i) (fits_linked m i) bare.0, all_bare_by ms (λ n j. sub n (inr j)) bare.1)
+
+  bare_now : Each (IsBare now) (nodes_of index)
+  bare_now = all_bare_by (nodes_of index) (λ m i. i) (new_bare b made before v after was index top x first linked small one two)
+
+  counts_by : (ms : List ℕ) → Each (IsBare now) ms → Each (Counts now) ms
+  counts_by [] bare = tt
+  counts_by (m ∷ ms) bare = (subst (λ (n : ℕ). number now m vxr_n_used_entries ≤ n) (sym bare.0.room_is) bare.0.few, counts_by ms bare.1)
+
+  tail_now : number now v.vdr vdr_vxr_tail ≡ top
+  tail_now =
+      let wide = vdr_long b made before v after was index top x first linked small one two in
+      let same = left.behind v.vdr (vdr_stands b made before v after was index top x first linked small one two) (vdr_no_gdr b made before v after was index top x first linked small one two) in
+      let from : links_end (size_at linked v.vdr) ≡ 28 = rw (le-leb 28 (size_at linked v.vdr) (omega arith)) refl in
+      word_kept linked now (v.vdr + links_end (size_at linked v.vdr)) (v.vdr + size_at linked v.vdr) same (v.vdr + 36) 8 (omega arith) (omega arith)
+      ∙ tail_is b made before v after was index top x first linked small one two
+
+  long_now : length now ≡ length made
+  long_now = left.long ∙ as_long b made before v after was index top x first linked small one two
+
+  pub heads_are : linked ≡ with_writes made (write v.vdr vdr_vxr_head (link_to index) ∷ write v.vdr vdr_vxr_tail (link_to index) ∷ [])
+  heads_are = two ∙ ap (λ (y : List ℕ). with_field y v.vdr vdr_vxr_tail top) one ∙ ap (λ (n : ℕ). with_field (with_field made v.vdr vdr_vxr_head n) v.vdr vdr_vxr_tail n) x.link_is
+
+  -- an index that was made so
+  pub rebuilt : leaves_of index ≡ leaves_of v.index → IsPyramid index → length (nodes_of index) ≡ nodes_above 8 (length (leaves_of v.index)) → (InOrder 0 record_number_limit v.index → InOrder 0 record_number_limit index) → last_node index ≡ link_to index → AllTaken b made (levels_up 7 index) → length made ≤ length b + reindex_room v.index
+      → IsRebuilt b now v
+  rebuilt leaves filled count order last taken longest = record {
+    index = index;
+    leaves_stay = leaves;
+    filled = filled;
+    fewest = count;
+    order = order;
+    made = made;
+    taken = taken;
+    linked = linked;
+    heads = heads_are;
+    linked_sound = sound_at;
+    given = given;
+    stands = index_stands;
+    tail = tail_now ∙ x.link_is ∙ sym last;
+    bare = bare_now;
+    fits = nodes_fit;
+    counts = counts_by (nodes_of index) bare_now;
+    sound = left.sound;
+    content_stays = left.content_stays ∙ content_linked b made before v after was index top x first linked small one two;
+    longest = subst (λ (n : ℕ). n ≤ length b + reindex_room v.index) (sym long_now) longest;
+  }
+
+-- ---- by what code did
+
+module _ (b made : List ℕ) (sound : IsSound b (shape b)) (before : List VariableShape) (v : VariableShape) (after : List VariableShape) (was : variables (shape b) ≡ before ++ v ∷ after) (few : length (leaves_of v.index) ≤ 2147483648) (top : ℕ) where
+  -- the tree, and what is asked of it beside
+  pub record TreeMade : Type 0 where
+    pub index : Nodes
+    pub tree : NewTree b made v index top
+    pub filled : IsPyramid index
+    pub count : length (nodes_of index) ≡ nodes_above 8 (length (leaves_of v.index))
+    pub order : InOrder 0 record_number_limit v.index → InOrder 0 record_number_limit index
+    pub last : last_node index ≡ link_to index
+    pub taken : AllTaken b made (levels_up 7 index)
+
+  pub tree_made : IndexMade b made (map tree_leaf_words (leaves_of v.index)) top → TreeMade
+  tree_made made_index = go (leaves_of v.index) refl made_index
+    where
+      go : (leaves : List Leaf) → leaves_of v.index ≡ leaves → IndexMade b made (map tree_leaf_words leaves) top → TreeMade
+      go [] none m = record {
+        index = no_node;
+        tree = no_tree b made sound v top none m.1 m.0;
+        filled = no_pyramid;
+        order = λ o. no_order;
+        last = refl;
+        count = none_counted ∙ sym (ap (λ (ls : List Leaf). nodes_above 8 (length ls)) none);
+        taken = none_taken m.1;
+      }
+      go (leaf ∷ more) some m =
+          let p : PyramidMade b made (map tree_leaf_words (leaves_of v.index)) top = subst (λ (ls : List Leaf). PyramidMade b made (map tree_leaf_words ls) top) (sym some) m in
+          let x = built b made sound (leaves_of v.index) top p in
+          let levels = levels_few (leaves_of v.index) (x.root ∷ []) x.rest x.are few in
+          record {
+            index = alone x.root;
+            tree = tree_built b made sound before v after was few top x;
+            filled = is_pyramid (leaves_of v.index) x.root x.rest x.are;
+            count = fewest (leaves_of v.index) x.root x.rest x.are (subst (λ (ls : List Leaf). 1 ≤ length ls) (sym some) (omega arith)) (omega arith);
+            order = λ o. (makes_pyramid (leaves_of v.index) x.root x.rest x.are).order record_number_limit (leaves_order record_number_limit v.index o);
+            last = refl;
+            taken = subst (AllTaken b made) (sym (levels_up_are (leaves_of v.index) x.root x.rest x.are (omega arith))) (all_taken b made (from_below ((x.root ∷ []) ∷ x.rest)) x.steps);
+          }

@@ -1,0 +1,23 @@
+use Rattle.std.proofs.Common.{◌≡◌, ◌≤◌, ◌+◌, ◌*◌, length}
+use Rattle.std.specs.Slice.Iter.{chunks_rest, chunks_size}
+use Rattle.cdf_area.specs.Calls.{Keeps}
+use Rattle.cdf_edits.specs.Commands.Room.{quotient_up}
+use Rattle.cdf_format.specs.Content.{content}
+use Rattle.cdf_format.specs.Fields.{eof, gdr_offset}
+use Rattle.cdf_format.specs.Shape.{shape}
+use Rattle.cdf_format.specs.Sound.{IsSound}
+use Rattle.cdf_reindex.proofs.LevelSteps.{Goes}
+use Rattle.cdf_reindex.proofs.pyramid.write_level.Given as goal
+
+abbrev pub invariant-loop-node : goal.invariant-loop-node
+invariant-loop-node g l = record {
+  next : (goal.iterator-loop-node g).can_next l.node-iterator;
+  finite : (goal.iterator-loop-node g).is_finite l.node-iterator;
+  size : chunks_size l.node-iterator ≡ 64;
+  sound : IsSound (g.A.Area.image l.area) (shape (g.A.Area.image l.area));
+  content_stays : content (g.A.Area.image l.area) ≡ content (g.A.Area.image l.fn.area);
+  eof_is : eof (g.A.Area.image l.area) (gdr_offset (g.A.Area.image l.area)) ≡ length (g.A.Area.image l.area);
+  room : length (g.A.Area.image l.area) + 1052 * quotient_up (length (chunks_rest l.node-iterator)) 64 ≤ length (g.A.Area.image l.fn.area) + 1052 * quotient_up (length l.fn.entries) 64;
+  goes : Goes (g.A.Area.image l.fn.area) (g.A.Area.image l.area) l.fn.entries (chunks_rest l.node-iterator) l.uppers.items;
+  area : Keeps g.A.Area.frame g.A.Area.faults l.fn.area l.area;
+}

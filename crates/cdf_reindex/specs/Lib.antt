@@ -1,0 +1,4 @@
+pub mod Pyramid
+pub mod Rebuilding
+pub mod Reindexed
+pub mod Reindexing

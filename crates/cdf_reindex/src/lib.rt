@@ -1,0 +1,8 @@
+//! An index made anew: nodes of 64 entries, level by level.
+#![tactic(auto)]
+
+pub mod laws;
+mod pyramid;
+mod reindexing;
+
+pub use reindexing::reindex;
