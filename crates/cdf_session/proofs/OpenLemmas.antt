@@ -171,6 +171,15 @@ ends_on_variables b start made now frame first marked end known after vars vars'
     (attributes_after first.limit b start made c known other was.good was.knows begins done answers)
     (on_err done (subst (λ (x : List ℕ). Knows x (record known { entries = None })) (sym begins) (forgotten b known was.knows))) knows stay kept undone)
 
+-- of a command on variables that leaves their names and places as they are
+pub ends_on_records : {U : Type 0} (b start made now : List ℕ) (frame first marked end : Frame U) (known after : Known) (vars : KnownVariables) (c : Command) → is_on_attributes c ≡ false → (done : Result Outcome AreaError)
+    → IsOpen b frame known vars → start ≡ b → first ≡ with_base frame (Some b) → marked ≡ first → end ≡ with_base marked None → after ≡ record known { entries = None }
+    → IfOk done (λ o. Answers first.limit start c o made) → OnOk done (KnowsVariables made vars)
+    → OnOk done (now ≡ made) → OnErr done (marked.base ≡ Some now) → IsOpen now end after vars
+ends_on_records b start made now frame first marked end known after vars c other done was begins is stays ends forgot answers knows kept undone =
+    ends_on_variables b start made now frame first marked end known after vars vars c other done was begins is stays ends forgot answers knows
+    (on_err done (subst (λ (x : List ℕ). KnowsVariables x vars) (sym begins) was.knows_variables)) kept undone
+
 -- of a command on neither, after which they are forgotten too
 pub ends_on_neither : {U : Type 0} (b start made now : List ℕ) (frame first marked end : Frame U) (known after : Known) (vars : KnownVariables) (c : Command) → is_on_attributes c ≡ false → is_on_variables c ≡ false → (done : Result Outcome AreaError)
     → IsOpen b frame known vars → start ≡ b → first ≡ with_base frame (Some b) → marked ≡ first → end ≡ with_base marked None → after ≡ record known { entries = None }

@@ -12,7 +12,10 @@ built_on_variables (commands.RenameVar from to) = true
 built_on_variables (commands.DelVar name) = true
 built_on_variables (commands.SetPad var words) = true
 built_on_variables (commands.SetBlocking var n) = true
+built_on_variables (commands.Reindex var) = true
+built_on_variables (commands.PutRec var rec words) = true
 built_on_variables (commands.GetRec var rec) = true
+built_on_variables (commands.PutVal var rec index words) = true
 built_on_variables (commands.GetVal var rec index) = true
 built_on_variables c = false
 

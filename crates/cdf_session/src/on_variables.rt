@@ -48,7 +48,15 @@ impl<A: Area> Session<A> {
             Command::DelVar { name } => self.del_var(name.as_slice()),
             Command::SetPad { var, words } => self.set_pad(var.as_slice(), words),
             Command::SetBlocking { var, n } => self.set_blocking(var.as_slice(), *n),
+            Command::Reindex { var } => self.reindex(var.as_slice()),
+            Command::PutRec { var, rec, words } => self.put_rec(var.as_slice(), *rec, words),
             Command::GetRec { var, rec } => self.get_rec(var.as_slice(), *rec),
+            Command::PutVal {
+                var,
+                rec,
+                index,
+                words,
+            } => self.put_val(var.as_slice(), *rec, index, words),
             Command::GetVal { var, rec, index } => self.get_val(var.as_slice(), *rec, index),
             _ => Ok(Outcome::Refused {
                 reason: Reason::BadLine {
@@ -167,12 +175,54 @@ impl<A: Area> Session<A> {
         settle(&mut self.area, done)
     }
 
+    /// The command `reindex`.
+    fn reindex(&mut self, var: &[u8]) -> Result<Outcome, AreaError>
+        ensures answers { IfOk result (λ o. Answers (A.frame self.old).limit (A.image self.old) (Command.Reindex var.now) o (A.image self.new)) }
+        ensures stays { OnErr result (A.image self.new ≡ A.image self.old) }
+        ensures area { Edits A.frame A.faults self.old self.new result }
+    {
+        self.area.mark();
+        let done = self.vars.reindex(&mut self.area, var);
+        self.attrs.forget_entries();
+        settle(&mut self.area, done)
+    }
+
+    /// The command `put-rec`.
+    fn put_rec(&mut self, var: &[u8], rec: u32, words: &Words) -> Result<Outcome, AreaError>
+        ensures answers { IfOk result (λ o. Answers (A.frame self.old).limit (A.image self.old) (Command.PutRec var.now rec words.now) o (A.image self.new)) }
+        ensures stays { OnErr result (A.image self.new ≡ A.image self.old) }
+        ensures area { Edits A.frame A.faults self.old self.new result }
+    {
+        self.area.mark();
+        let done = self.vars.put_rec(&mut self.area, var, rec, words);
+        self.attrs.forget_entries();
+        settle(&mut self.area, done)
+    }
+
     /// The command `get-rec`.
     fn get_rec(&mut self, var: &[u8], rec: u32) -> Result<Outcome, AreaError>
         ensures answers { IfOk result (λ o. Answers (A.frame self.old).limit (A.image self.old) (Command.GetRec var.now rec) o (A.image self.new)) }
         ensures area { Reads A.image A.frame A.faults A.edited self.old self.new result }
     {
         self.vars.get_rec(&mut self.area, var, rec)
+    }
+
+    /// The command `put-val`.
+    fn put_val(
+        &mut self,
+        var: &[u8],
+        rec: u32,
+        index: &Nums,
+        words: &Words,
+    ) -> Result<Outcome, AreaError>
+        ensures answers { IfOk result (λ o. Answers (A.frame self.old).limit (A.image self.old) (Command.PutVal var.now rec index.now words.now) o (A.image self.new)) }
+        ensures stays { OnErr result (A.image self.new ≡ A.image self.old) }
+        ensures area { Edits A.frame A.faults self.old self.new result }
+    {
+        self.area.mark();
+        let done = self.vars.put_val(&mut self.area, var, rec, index, words);
+        self.attrs.forget_entries();
+        settle(&mut self.area, done)
     }
 
     /// The command `get-val`.

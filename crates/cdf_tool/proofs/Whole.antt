@@ -12,7 +12,7 @@ use Rattle.cdf_model.specs.declared.answer.Reason.{Reason}
 use Rattle.cdf_model.specs.declared.answer.Reason.TheVariants as reasons
 use Rattle.cdf_model.specs.declared.answer.Reply.TheVariants as replies
 use Rattle.cdf_model.specs.declared.command.Command.{Command}
-use Rattle.cdf_model.specs.declared.command.Command.TheVariants.{Info, List as Lists, Attr, RenameAttr, DelAttr, PutEntry, GetEntry, DelEntry, Setup, RVar, ZVar, RenameVar, DelVar, SetPad, SetBlocking, GetRec, GetVal, Checksum}
+use Rattle.cdf_model.specs.declared.command.Command.TheVariants.{Info, List as Lists, Attr, RenameAttr, DelAttr, PutEntry, GetEntry, DelEntry, Setup, RVar, ZVar, RenameVar, DelVar, SetPad, SetBlocking, PutRec, GetRec, PutVal, GetVal, Reindex, Checksum}
 use Rattle.cdf_model.specs.declared.head.Majority.{Majority}
 use Rattle.cdf_model.specs.declared.kinds.Kind.{Kind}
 use Rattle.cdf_model.specs.declared.kinds.Kind.TheVariants.{R, Z}
@@ -27,9 +27,11 @@ use Rattle.cdf_model.specs.Limits.{signed_limit}
 use Rattle.cdf_model.specs.Names.{Found, is_bad_name, is_among, attribute_names, attribute_named, variable_named, variable_names, variables_of, with_variables}
 use Rattle.cdf_model.specs.Numbered.{item_at, with_item, without}
 use Rattle.cdf_model.specs.Values.{notation_of, values_in}
-use Rattle.cdf_model.specs.RecordSteps.{get_rec_step, get_val_step}
+use Rattle.cdf_model.specs.Place.{value_count}
+use Rattle.cdf_model.specs.Reading.{read}
+use Rattle.cdf_model.specs.RecordSteps.{cannot_be_put, get_rec_step, get_val_step, place_in_record, put_rec_step, put_record, put_val_step, with_record, with_value}
 use Rattle.cdf_model.specs.Step.{ByStep, step}
-use Rattle.cdf_model.specs.VariableSteps.{are_bad_sizes, del_var_step, is_bad_shape, is_empty_set, new_variable, rename_var_step, set_blocking_step, set_pad_step, setup_step, var_step, with_variable, without_variable}
+use Rattle.cdf_model.specs.VariableSteps.{are_bad_sizes, del_var_step, is_bad_shape, is_empty_set, new_variable, reindex_step, rename_var_step, set_blocking_step, set_pad_step, setup_step, var_step, with_variable, without_variable}
 use Rattle.cdf_session.specs.Built.{built}
 use Rattle.cdf_model.specs.Whole.{CanBeWritten, HasWholeValues}
 use Rattle.cdf_session.specs.Sessions.{AnswersBuilt}
@@ -116,6 +118,25 @@ set_pad_whole d name words =
 set_blocking_whole : (d : DataSet) (name : List ℕ) (n : ℕ) → IsWholeAnswer (set_blocking_step d name n)
 set_blocking_whole d name n = variable_whole d name ((nat_lt signed_limit n, reasons.NumberOutOfRange) ∷ []) (λ found. with_variable d found (record found.variable { blocking = pos n }))
 
+reindex_whole : (d : DataSet) (name : List ℕ) → IsWholeAnswer (reindex_step d name)
+reindex_whole d name = given_whole {A = Found} reasons.NoSuchVar (variable_named d name) (λ found. Go d replies.Plain) (λ found. tt)
+
+put_whole : (d : DataSet) (found : Found) (r : ℕ) (bytes : List ℕ) → IsWholeAnswer (put_record d found r bytes)
+put_whole d found r bytes = unless_whole ((cannot_be_put found.variable r, reasons.RecordOutOfRange) ∷ []) (Go (with_variable d found (with_record found.variable r bytes)) replies.Plain) tt
+
+put_rec_whole : (d : DataSet) (name : List ℕ) (r : ℕ) (words : List (List ℕ)) → IsWholeAnswer (put_rec_step d name r words)
+put_rec_whole d name r words =
+    let values = λ (found : Found). values_in found.variable.type found.variable.elems (value_count found.variable.dims found.variable.varys) words in
+    given_whole {A = Found} reasons.NoSuchVar (variable_named d name) (λ found. valued (values found) (put_record d found r)) (λ found. valued_whole (values found) (put_record d found r) (put_whole d found r))
+
+put_val_whole : (d : DataSet) (name : List ℕ) (r : ℕ) (index : List ℕ) (words : List (List ℕ)) → IsWholeAnswer (put_val_step d name r index words)
+put_val_whole d name r index words =
+    let value = λ (found : Found). values_in found.variable.type found.variable.elems 1 words in
+    let put = λ (found : Found) (bytes : List ℕ) (n : ℕ). put_record d found r (with_value found.variable (read found.variable r) n bytes) in
+    let at_place = λ (found : Found) (bytes : List ℕ). given reasons.IndexOutOfRange (place_in_record d found.variable index) (put found bytes) in
+    given_whole {A = Found} reasons.NoSuchVar (variable_named d name) (λ found. valued (value found) (at_place found)) (λ found. valued_whole (value found) (at_place found) (λ bytes.
+    given_whole {A = ℕ} reasons.IndexOutOfRange (place_in_record d found.variable index) (put found bytes) (λ n. put_whole d found r (with_value found.variable (read found.variable r) n bytes))))
+
 by_step : (x y : Answer) → ByStep x ≡ ByStep y → x ≡ y
 by_step x y same = cc
 
@@ -160,6 +181,10 @@ can_be_written limit b (RenameVar from to) o now a = from_answers limit b (Renam
 can_be_written limit b (DelVar name) o now a = from_answers limit b (DelVar name) o now (del_var_step (content b) name) refl (del_var_whole (content b) name) a
 can_be_written limit b (SetPad var words) o now a = from_answers limit b (SetPad var words) o now (set_pad_step (content b) var words) refl (set_pad_whole (content b) var words) a
 can_be_written limit b (SetBlocking var n) o now a = from_answers limit b (SetBlocking var n) o now (set_blocking_step (content b) var n) refl (set_blocking_whole (content b) var n) a
+can_be_written limit b (Reindex var) o now a = from_answers limit b (Reindex var) o now (reindex_step (content b) var) refl (reindex_whole (content b) var) a
+can_be_written limit b (PutRec name rec words) o now a = from_answers limit b (PutRec name rec words) o now (put_rec_step (content b) name rec words) refl (put_rec_whole (content b) name rec words) a
+can_be_written limit b (PutVal name rec index words) o now a =
+    from_answers limit b (PutVal name rec index words) o now (put_val_step (content b) name rec index words) refl (put_val_whole (content b) name rec index words) a
 can_be_written limit b (GetRec name rec) o now a =
     subst CanBeWritten (sym a.outcome_is) (record_written b name rec now a.answer (is_full limit b (GetRec name rec) a.answer) (by_step (get_rec_step (content b) name rec) a.answer a.step_is) a.moves)
 can_be_written limit b (GetVal name rec index) o now a =

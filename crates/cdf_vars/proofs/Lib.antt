@@ -53,3 +53,15 @@ pub mod SetUpKept
 pub mod SetUpMade
 pub mod SetUpMoved
 pub mod SetUpWrites
+pub mod ReindexAnswers
+pub mod ReindexRoom
+pub mod PutSteps
+pub mod PutTargets
+pub mod PutRequests
+pub mod PutRoomCount
+pub mod PutRoomNeeded
+pub mod PutParts
+pub mod PutRaised
+pub mod PutWhole
+pub mod PutCalls
+pub mod PutAnswered

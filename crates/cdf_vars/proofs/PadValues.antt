@@ -1,12 +1,12 @@
 -- How many bytes the word of a pad value writes.
-use Rattle.std.proofs.Common.{◌≡◌, ℕ, zero, suc, ◌*◌, ◌%◌, List, [], ◌∷◌, ◌++◌, length, take, drop, Bool, true, false, Option, Some, None, Ok, Err, Result, refl, sym, ap, subst, ◌∙◌, arith}
+use Rattle.std.proofs.Common.{◌≡◌, ℕ, zero, suc, ◌+◌, ◌*◌, ◌%◌, ◌≤◌, List, [], ◌∷◌, ◌++◌, length, take, drop, Bool, true, false, Option, Some, None, Ok, Err, Result, refl, sym, ap, subst, ◌∙◌, arith}
 use Rattle.std.proofs.lemmas.Bool.{ne_eqb}
 use Rattle.std.proofs.lemmas.Bool.Decides.{nat_tests}
 use Rattle.std.proofs.lemmas.List.{length-append, take_at}
 use Rattle.std.specs.Int.{bytes_high_first}
-use Rattle.std.specs.List.{flat_map}
+use Rattle.std.specs.List.{flat_map, position_or_len}
 use Rattle.std.specs.Option.{is_none, option_to_list}
-use Rattle.std.specs.Prelude.{◌==◌, if◌then◌else◌, position}
+use Rattle.std.specs.Prelude.{◌==◌, nat_lt, if◌then◌else◌, position}
 use Rattle.byteorder.specs.Numbers.{length-bytes_high_first}
 use Rattle.cdf_model.specs.declared.answer.Reason.{Reason}
 use Rattle.cdf_model.specs.declared.answer.Reason.TheVariants.{BadValue, WrongCount}
@@ -156,3 +156,58 @@ is_value t little elems n words value now one read as_long is =
     let long : length now ≡ length value = ap (λ (xs : List ℕ). length xs) is ∙ size_stays t little value parts in
     let same : take n (now ++ drop (length now) value) ≡ now = take_at now (drop (length now) value) n (long ∙ sym as_long) in
     subst (IsValue little t elems words) (sym same) (record { value = value; read = read; turns = ap (turned t little) is ∙ back t little value parts; long = long ∙ size })
+
+-- ---- of so many words
+
+abbrev bytes_by : (List ℕ → Option (List ℕ)) → List (List ℕ) → List ℕ
+bytes_by f words = flat_map (λ word. flat_map (λ bytes. bytes) (option_to_list (f word))) words
+
+-- none of them writes nothing
+abbrev all_write : (List ℕ → Option (List ℕ)) → List (List ℕ) → ℕ
+all_write f words = position_or_len (λ word. is_none (f word)) words
+
+none_is : {n : ℕ} → Some n ≡ None → ⊥
+none_is e = cc
+
+to_the_end : (f : List ℕ → Option (List ℕ)) (words : List (List ℕ)) → position (λ word. is_none (f word)) words ≡ None → length words ≤ all_write f words
+to_the_end f words e = by (nat_lt (all_write f words) (length words)) refl
+  where
+    by : (p : Bool) → nat_lt (all_write f words) (length words) ≡ p → length words ≤ all_write f words
+    by true is = absurd (none_is (sym (ap (λ (q : Bool). if q then Some (all_write f words) else None) is) ∙ e))
+    by false is = grind (arith, nat_tests, is)
+
+one_more : (a b c d m n : ℕ) → a ≡ b + c → b ≡ d + 0 → d ≡ m → c ≡ m * n → a ≡ m * suc n
+one_more a b c d m n p q r s = omega (arith, p, q, r, s)
+
+each_long : (f : List ℕ → Option (List ℕ)) (m : ℕ) → ((word bytes : List ℕ) → f word ≡ Some bytes → length bytes ≡ m) → (words : List (List ℕ)) → length words ≤ all_write f words → length (bytes_by f words) ≡ m * length words
+each_long f m each [] le = omega arith
+each_long f m each (word ∷ words) le = by (f word) refl (each_long f m each words)
+  where
+    by : (o : Option (List ℕ)) → f word ≡ o → (length words ≤ all_write f words → length (bytes_by f words) ≡ m * length words) → length (bytes_by f (word ∷ words)) ≡ m * suc (length words)
+    by None is rest = let no : suc (length words) ≤ 0 = rw is at le in absurd (omega arith)
+    by (Some bytes) is rest =
+        let behind : suc (length words) ≤ 1 + all_write f words = rw is at le in
+        let here : bytes_by f (word ∷ words) ≡ (bytes ++ []) ++ bytes_by f words = rw is refl in
+        one_more (length (bytes_by f (word ∷ words))) (length (bytes ++ [])) (length (bytes_by f words)) (length bytes) m (length words)
+        (ap length here ∙ length-append (bytes ++ []) (bytes_by f words)) (length-append bytes []) (each word bytes is) (rest (omega (arith, behind)))
+
+all_long : (f : List ℕ → Option (List ℕ)) (m : ℕ) → ((word bytes : List ℕ) → f word ≡ Some bytes → length bytes ≡ m) → (words : List (List ℕ)) (value : List ℕ) → outcome f words ≡ Ok value → length value ≡ m * length words
+all_long f m each words value e = by (position (λ word. is_none (f word)) words) refl
+  where
+    by_position : Option ℕ → Result (List ℕ) Reason
+    by_position None = Ok (bytes_by f words)
+    by_position (Some i) = Err (BadValue i)
+
+    by : (o : Option ℕ) → position (λ word. is_none (f word)) words ≡ o → length value ≡ m * length words
+    by None is = let whole : Ok (bytes_by f words) ≡ Ok value = sym (ap by_position is) ∙ e in ap (λ (r : Result (List ℕ) Reason). length (list_of r)) (sym whole) ∙ each_long f m each words (to_the_end f words is)
+    by (Some i) is = let not : Err (BadValue i) ≡ Ok value = sym (ap by_position is) ∙ e in differ (sym (ap is_read not))
+
+pub values_long : (t : DataType) (elems n : ℕ) (words : List (List ℕ)) (value : List ℕ) → HasElements t elems → values_in t elems n words ≡ Ok value → length value ≡ size_of t * elems * n
+values_long t elems n words value one e = by (length words == n) refl
+  where
+    by : (p : Bool) → (length words == n) ≡ p → length value ≡ size_of t * elems * n
+    by true is =
+        let read : bytes_of_words t elems words ≡ Ok value = rw is at e in
+        let count : length words ≡ n = grind (arith, nat_tests, is) in
+        all_long (bytes_in t elems) (size_of t * elems) (λ word bytes w. whole t elems (length bytes) one (written t elems word bytes w)) words value read ∙ ap (λ (k : ℕ). size_of t * elems * k) count
+    by false is = let not : Err (WrongCount (length words) n) ≡ Ok value = rw is at e in differ (ap is_read (sym not))

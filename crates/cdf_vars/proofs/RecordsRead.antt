@@ -171,7 +171,7 @@ module _ {b : List ℕ} {kind : Kind} {vdr : ℕ} (good : Good b) (v : IsVdr b k
           ap length (pad_by (has_pad b vdr) (network_bytes b vdr (pad_field b vdr) t) (default_value t (elems_at b vdr)) e) ∙ size_stays t (is_little b) field whole ∙ long
       by false e = ap length (pad_none (has_pad b vdr) (network_bytes b vdr (pad_field b vdr) (type_of_variable b vdr)) (default_value (type_of_variable b vdr) (elems_at b vdr)) e) ∙ default_long (type_of_variable b vdr) (elems_at b vdr)
 
-  pad_long : length (pad_record variable) ≡ record_bytes b vdr
+  pub pad_long : length (pad_record variable) ≡ record_bytes b vdr
   pad_long = length-repeat (value_count variable.dims variable.varys) (pad_value variable) ∙ ap (λ (n : ℕ). value_count variable.dims variable.varys * n) value_long ∙ turn (value_count variable.dims variable.varys) (value_bytes b vdr)
     where
       turn : (x y : ℕ) → x * y ≡ y * x

@@ -3,6 +3,7 @@ pub mod Creating
 pub mod Finding
 pub mod Known
 pub mod Padding
+pub mod Puts
 pub mod Reading
 pub mod Records
 pub mod Removing

@@ -38,7 +38,7 @@ pub enum PadRequest {
 }
 
 /// The reason why words are no values.
-fn reason_of(error: ValueError) -> Result<Reason, AreaError>
+pub fn reason_of(error: ValueError) -> Result<Reason, AreaError>
     ensures reason { IfOk result (λ reason. (meaning : Result (List ℕ) Reason) → Explains meaning error → meaning ≡ Err reason) }
     ensures memory { IfErr result (λ e. e ≡ NoMemory) }
 {

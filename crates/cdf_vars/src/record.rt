@@ -43,7 +43,7 @@ pub fn value_size(shape: &Shape) -> u64
 }
 
 /// The bytes of a record.
-fn record_size_of(shape: &Shape) -> u64
+pub fn record_size_of(shape: &Shape) -> u64
     requires { IsRecordShape shape.now }
     ensures { result ≡ record_size shape.now.t shape.now.elems shape.now.dims shape.now.varys }
 {
@@ -64,6 +64,13 @@ fn says_pad(flags: u32) -> bool
     ensures { result ≡ has_bit flags 1 }
 {
     flags / 2 % 2 == 1
+}
+
+/// Whether records vary, by the Flags of a descriptor.
+pub fn says_vary(flags: u32) -> bool
+    ensures { result ≡ has_bit flags 0 }
+{
+    flags % 2 == 1
 }
 
 /// The number of the record that is read, by the Flags of a descriptor: 0 where records do not vary.

@@ -39,7 +39,7 @@ fn extent(max_rec: i32) -> u32
 }
 
 /// The number of the last of so many records, -1 where there is none.
-fn last_number(extent: u32) -> i32
+pub fn last_number(extent: u32) -> i32
     requires { extent ≤ 2 ^ 31 }
     ensures { result ≡ last_number extent }
 {
@@ -60,7 +60,7 @@ pub fn read_extent<A: Area>(area: &mut A, vdr: u64) -> Result<u32, AreaError>
 }
 
 /// The most records that one of the variables has whose descriptors stand at these places, but no fewer than so many.
-fn greatest_extent<A: Area>(area: &mut A, least: u32, places: &[u64]) -> Result<u32, AreaError>
+pub fn greatest_extent<A: Area>(area: &mut A, least: u32, places: &[u64]) -> Result<u32, AreaError>
     requires lie { VdrsLie (A.image area.old) places.now }
     requires few { least ≤ 2 ^ 31 }
     ensures greatest { IfOk result (λ n. n ≡ fold max least (map (λ vdr. extent (max_rec_at (A.image area.old) vdr)) places.now)) }
@@ -112,7 +112,7 @@ fn set_numbers<A: Area>(area: &mut A, first: u32, places: &[u64]) -> Result<(), 
 }
 
 /// Writes rMaxRec, where a variable of this kind went.
-fn set_greatest<A: Area>(area: &mut A, kind: Kind, greatest: i32) -> Result<(), AreaError>
+pub fn set_greatest<A: Area>(area: &mut A, kind: Kind, greatest: i32) -> Result<(), AreaError>
     requires cdr { 28 ≤ length (A.image area.old) }
     requires field { LiesIn (A.image area.old) (gdr_offset (A.image area.old)) gdr_r_max_rec }
     ensures written { OnOk result (A.image area.new ≡ with_writes (A.image area.old) (r_max_writes kind (gdr_offset (A.image area.old)) greatest)) }

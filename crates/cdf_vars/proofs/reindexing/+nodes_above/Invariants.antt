@@ -1,0 +1,4 @@
+use Rattle.cdf_vars.proofs.reindexing.+nodes_above.Given as goal
+
+abbrev pub decreases-nodes_above : goal.decreases-nodes_above
+decreases-nodes_above l = l.levels

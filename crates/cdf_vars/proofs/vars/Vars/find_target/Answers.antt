@@ -1,0 +1,15 @@
+use Rattle.cdf_vars.proofs.PutTargets.{has_target}
+use Rattle.cdf_vars.proofs.RecordAnswers.{is_vdr, missing, placed}
+use Rattle.cdf_vars.proofs.vars.Vars.find_target.Goals as goal
+
+pub returns-in_default-clause-target : goal.returns-in_default-clause-target
+returns-in_default-clause-target g c = missing c.args.name.now c.requires.known c.find.ensures.found c.in_default.is
+
+pub place_of-vdr-requires : goal.place_of-vdr-requires
+place_of-vdr-requires g c = placed c.args.name.now c.requires.known c.find.ensures.found c.requires.good c.in-Some.is
+
+pub read_form-requires-clause-vdr : goal.read_form-requires-clause-vdr
+read_form-requires-clause-vdr g c = is_vdr c.args.name.now c.requires.known c.find.ensures.found c.requires.good c.in-Some.is c.place_of-vdr.ensures
+
+pub returns-clause-target : goal.returns-clause-target
+returns-clause-target g c = has_target c.args.name.now c.requires.known c.find.ensures.found c.requires.good c.in-Some.is c.place_of-vdr.ensures c.in_ok-form.form c.in_ok-form.ensures.form c.in_ok-form.ensures.vdr

@@ -1,0 +1,25 @@
+use Rattle.std.proofs.Common.{◌≤◌, ℕ, inl, subst}
+use Rattle.cdf_model.specs.declared.kinds.Kind.TheVariants.{R}
+use Rattle.cdf_vars.proofs.PutRaised.{cdr_there, greatest_lies, max_rec_lies, mid_good, mid_places, raised, vdrs_lie}
+use Rattle.cdf_vars.proofs.RemovalAnswers.{on_ok}
+use Rattle.cdf_vars.proofs.vars.Vars.raise_max_rec.Goals as goal
+
+pub set_vdr_max_rec-requires : goal.set_vdr_max_rec-requires
+set_vdr_max_rec-requires g c = max_rec_lies c.requires.good c.requires.vdr
+
+pub follow_max_rec-requires-clause-cdr : goal.follow_max_rec-requires-clause-cdr
+follow_max_rec-requires-clause-cdr g c = cdr_there _ (mid_good c.requires.good c.requires.vdr c.requires.within c.requires.short c.in_ok-set_vdr_max_rec.ensures.ok)
+
+pub follow_max_rec-requires-clause-field : goal.follow_max_rec-requires-clause-field
+follow_max_rec-requires-clause-field g c = greatest_lies _ (mid_good c.requires.good c.requires.vdr c.requires.within c.requires.short c.in_ok-set_vdr_max_rec.ensures.ok)
+
+pub follow_max_rec-requires-clause-lie : goal.follow_max_rec-requires-clause-lie
+follow_max_rec-requires-clause-lie g c =
+    let ok = c.in_ok-set_vdr_max_rec.ensures.ok in
+    vdrs_lie _ (mid_good c.requires.good c.requires.vdr c.requires.within c.requires.short ok) R c.args.self.now.r.places (mid_places c.requires.good c.requires.vdr c.requires.within c.requires.short ok R c.args.self.now.r.places c.requires.places)
+
+pub returns-clause-raised : goal.returns-clause-raised
+returns-clause-raised g c =
+    let ok = c.in_ok-set_vdr_max_rec.ensures.ok in
+    let le = subst (λ (n : ℕ). n ≤ c.args.rec) c.requires.count c.if-rec-count.false in
+    on_ok c.follow_max_rec.result (λ follows v e. inl (le, raised c.args.target.now.id.kind c.requires.good c.requires.vdr c.requires.within c.requires.short ok c.args.self.now.r.places c.requires.places follows v e)) c.follow_max_rec.ensures.written

@@ -1,0 +1,187 @@
+//! A record that a command puts, once it is known what is put.
+
+ghost use Rattle.std.specs.Prelude.{◌≡◌, ◌≤◌, ◌%◌, ℕ, ℤ, List, length, IfOk, OnOk};
+ghost use Rattle.cdf_area.specs.Calls.{Edits, Reads};
+ghost use Rattle.cdf_edits.specs.Answers.{Answers};
+ghost use Rattle.cdf_edits.specs.Commands.Allowances.{shapes_of};
+ghost use Rattle.cdf_edits.specs.Edits.RemovesVariable.{greatest_at, r_max_writes};
+ghost use Rattle.cdf_edits.specs.Edits.Writes.{with_writes};
+ghost use Rattle.cdf_edits.specs.Follows.{Follows};
+ghost use Rattle.cdf_format.specs.Fields.{LiesIn, gdr_offset};
+ghost use Rattle.cdf_format.specs.Records.{gdr_r_max_rec};
+ghost use Rattle.cdf_format.specs.Shape.{shape, vdrs};
+ghost use Rattle.cdf_format.specs.VariableFields.{max_rec_at, type_of_variable};
+ghost use Rattle.cdf_format.specs.Stored.{is_little};
+ghost use Rattle.cdf_format.specs.WellFormed.{Good};
+ghost use Rattle.cdf_model.specs.ByteOrder.{turned};
+ghost use Rattle.cdf_model.specs.DataSet.{extent};
+ghost use Rattle.cdf_model.specs.Limits.{image_limit, record_number_limit};
+ghost use Rattle.cdf_model.specs.Types.{size_of};
+ghost use Rattle.cdf_model.specs.declared.command.Command.{Command};
+ghost use Rattle.cdf_model.specs.declared.kinds.Kind.TheVariants.{R};
+ghost use Rattle.cdf_vars.specs.Known.{Knows};
+ghost use Rattle.cdf_vars.specs.Padding.{IsVdr};
+ghost use Rattle.cdf_vars.specs.Puts.{CanPut, HasRoom, IsNewRecord, MaxRecRaises, PutsSo};
+ghost use Rattle.cdf_puts.specs.Putting.{most_in_block};
+ghost use Rattle.cdf_vars.specs.Records.{IsForm, variable_at};
+ghost use Rattle.cdf_vars.specs.Removing.{VdrsLie};
+
+use crate::form::Form;
+use crate::put_room::{read_block_count, read_put_room};
+use crate::puts::Target;
+use crate::record::read_pad_record;
+use crate::removing::{greatest_extent, last_number, read_extent, set_greatest};
+use crate::vars::Vars;
+use cdf_area::{Area, AreaError};
+use cdf_model::{DataType, Encoding, Kind, Outcome, Reason, Reply};
+use cdf_puts::{NewRecord, put_records};
+use cdf_records::set_vdr_max_rec;
+use cdf_values::from_network;
+use std::alloc::Global;
+
+/// The bytes of elements of a type in network order, turned into those that are stored.
+fn as_stored(t: DataType, encoding: Encoding, mut bytes: Vec<u8>) -> Vec<u8>
+    requires { length bytes.items % size_of t ≡ 0 }
+    ensures { result.items ≡ turned t encoding.little bytes.items }
+{
+    from_network(t, encoding, &mut bytes);
+    bytes
+}
+
+/// How many records a new block has, where a record is put: up to MaxRec it has one.
+fn read_most<A: Area>(area: &mut A, form: &Form, rec: u32, count: u32) -> Result<u32, AreaError>
+    requires good { Good (A.image area.old) }
+    requires form { IsForm (A.image area.old) form.now }
+    requires count { count ≡ extent (max_rec_at (A.image area.old) form.now.place.vdr) }
+    ensures most { IfOk result (λ most. most ≡ most_in_block (variable_at (A.image area.old) form.now.place.vdr) rec) }
+    ensures area { Reads A.image A.frame A.faults A.edited area.old area.new result }
+{
+    if rec < count {
+        return Ok(1);
+    }
+    read_block_count(area, form)
+}
+
+/// What is put of a variable, by the bytes of the record in network order.
+fn read_new_record<A: Area>(
+    alloc: Global,
+    area: &mut A,
+    target: &Target,
+    rec: u32,
+    count: u32,
+    bytes: Vec<u8>,
+) -> Result<NewRecord, AreaError>
+    requires good { Good (A.image area.old) }
+    requires can { CanPut (A.image area.old) rec target.now bytes.items }
+    requires count { count ≡ extent (max_rec_at (A.image area.old) target.now.form.place.vdr) }
+    ensures put { IfOk result (IsNewRecord (A.image area.old) target.now rec bytes.items) }
+    ensures area { Reads A.image A.frame A.faults A.edited area.old area.new result }
+{
+    let form = &target.form;
+    let most = read_most(area, form, rec, count)?;
+    let pad = read_pad_record(alloc, area, form)?;
+    Ok(NewRecord {
+        vdr: form.place.vdr,
+        rec,
+        raw: as_stored(form.shape.t, form.encoding, bytes),
+        pad: as_stored(form.shape.t, form.encoding, pad),
+        most,
+    })
+}
+
+impl Vars {
+    /// Writes rMaxRec, where MaxRec of a variable of this kind was raised. After an error a part of it may have been written.
+    fn follow_max_rec<A: Area>(&self, area: &mut A, kind: Kind) -> Result<(), AreaError>
+        requires cdr { 28 ≤ length (A.image area.old) }
+        requires field { LiesIn (A.image area.old) (gdr_offset (A.image area.old)) gdr_r_max_rec }
+        requires lie { VdrsLie (A.image area.old) self.now.r.places }
+        ensures written { OnOk result ((greatest : ℤ) → greatest ≡ greatest_at (A.image area.old) self.now.r.places → A.image area.new ≡ with_writes (A.image area.old) (r_max_writes kind (gdr_offset (A.image area.old)) greatest)) }
+        ensures area { Edits A.frame A.faults area.old area.new result }
+    {
+        match kind {
+            Kind::R => {
+                let greatest = greatest_extent(area, 0, &self.r.places)?;
+                set_greatest(area, kind, last_number(greatest))
+            }
+            Kind::Z => Ok(()),
+        }
+    }
+
+    /// Raises MaxRec of a variable to a record that is past it. After an error a part of this may have been done.
+    fn raise_max_rec<A: Area>(
+        &self,
+        area: &mut A,
+        target: &Target,
+        rec: u32,
+        count: u32,
+    ) -> Result<(), AreaError>
+        requires good { Good (A.image area.old) }
+        requires places { self.now.r.places ≡ vdrs (shapes_of (shape (A.image area.old)) R) }
+        requires short { length (A.image area.old) ≤ image_limit }
+        requires vdr { IsVdr (A.image area.old) target.now.id.kind target.now.form.place.vdr }
+        requires count { count ≡ extent (max_rec_at (A.image area.old) target.now.form.place.vdr) }
+        requires within { rec ≤ record_number_limit }
+        ensures raised { OnOk result (MaxRecRaises (A.image area.old) (A.image area.new) target.now.id.kind target.now.form.place.vdr rec) }
+        ensures area { Edits A.frame A.faults area.old area.new result }
+    {
+        if rec < count {
+            return Ok(());
+        }
+        set_vdr_max_rec(area, target.form.place.vdr, rec as i32)?;
+        self.follow_max_rec(area, target.id.kind)
+    }
+
+    /// Puts a record of a variable, which there is room for. After an error a part of this may have been done.
+    fn write_record<A: Area>(
+        &self,
+        area: &mut A,
+        target: &Target,
+        rec: u32,
+        count: u32,
+        bytes: Vec<u8>,
+    ) -> Result<(), AreaError>
+        requires good { Good (A.image area.old) }
+        requires known { Knows (A.image area.old) self.now }
+        requires can { CanPut (A.image area.old) rec target.now bytes.items }
+        requires count { count ≡ extent (max_rec_at (A.image area.old) target.now.form.place.vdr) }
+        requires room { HasRoom (A.image area.old) target.now rec (A.frame area.old).limit }
+        requires limit { (A.frame area.old).limit ≤ image_limit }
+        ensures follows { OnOk result ((c : Command) (name : List ℕ) → PutsSo (A.image area.old) c name rec target.now bytes.items → Follows (A.image area.old) c (A.image area.new)) }
+        ensures known { OnOk result (Knows (A.image area.new) self.now) }
+        ensures area { Edits A.frame A.faults area.old area.new result }
+    {
+        let put = read_new_record(self.alloc, area, target, rec, count, bytes)?;
+        put_records(self.alloc, area, &put, rec.min(count))?;
+        self.raise_max_rec(area, target, rec, count)
+    }
+
+    /// Puts a record of a variable where there is room for it. After an error a part of this may have been done in the area.
+    pub(crate) fn put_bytes<A: Area>(
+        &self,
+        area: &mut A,
+        target: &Target,
+        rec: u32,
+        bytes: Vec<u8>,
+    ) -> Result<Outcome, AreaError>
+        requires good { Good (A.image area.old) }
+        requires known { Knows (A.image area.old) self.now }
+        requires can { CanPut (A.image area.old) rec target.now bytes.items }
+        requires fits { length (A.image area.old) ≤ (A.frame area.old).limit }
+        requires limit { (A.frame area.old).limit ≤ image_limit }
+        ensures answers { IfOk result (λ o. (c : Command) (name : List ℕ) → PutsSo (A.image area.old) c name rec target.now bytes.items → Answers (A.frame area.old).limit (A.image area.old) c o (A.image area.new)) }
+        ensures known { OnOk result (Knows (A.image area.new) self.now) }
+        ensures area { Edits A.frame A.faults area.old area.new result }
+    {
+        let count = read_extent(area, target.form.place.vdr)?;
+        let room = read_put_room(area, target, rec, rec.min(count))?;
+        if u128::from(area.limit() - area.size()) < room {
+            return Ok(Outcome::Refused {
+                reason: Reason::TooLarge,
+            });
+        }
+        self.write_record(area, target, rec, count, bytes)?;
+        Ok(Outcome::Done {
+            reply: Reply::Plain,
+        })
+    }
+}
