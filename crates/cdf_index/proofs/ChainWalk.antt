@@ -7,13 +7,13 @@ use Rattle.cdf_format.specs.Index.{Nodes, no_node, node, Entries, no_entry, bloc
 use Rattle.cdf_format.specs.IndexOf.{SaysEntry, SayEntries, IsNode, HasNodes, Names}
 use Rattle.cdf_format.specs.RecordTypes.{vxr_type}
 use Rattle.cdf_format.specs.Shape.{Each}
-use Rattle.cdf_format.specs.Sound.{NodeFits}
 use Rattle.cdf_format.specs.Tiles.{In, AreTiles, tiles}
 use Rattle.cdf_format.proofs.ChainsLemmas.{linkable-in, linkable-type}
 use Rattle.cdf_format.proofs.ShapeLemmas.{Each-split}
 use Rattle.cdf_format.proofs.TilesLemmas.{tile_lies}
-use Rattle.cdf_index.specs.Finding.{index_at, HasIndex, IsBlock, Stands, SomeNode}
+use Rattle.cdf_index.specs.Finding.{index_at, HasIndex, IsBlock, IsOrderly, Stands, SomeNode}
 use Rattle.cdf_index.specs.Whole.{through, through_entries, EntriesStand, SomeChain, SomeEntries}
+use Rattle.cdf_index.proofs.Ascending.{index_stands}
 use Rattle.cdf_index.proofs.Looking.{block_type, block_in, no_node_type, node_linkable}
 use Rattle.cdf_index.proofs.Searching.{few_nodes}
 
@@ -74,16 +74,16 @@ record LowerThere (b : List ℕ) (levels place : ℕ) (es : Entries) : Type 0 wh
   link_is : place ≡ link_to nodes
   few : length (nodes_of nodes) ≤ length (lower_nodes es)
 
-lower_there : (b : List ℕ) (levels at i place type : ℕ) (es : Entries) → SayEntries b at i es → Names b (tiles b) levels es → Each (NodeFits b) (lower_nodes es) → Each (IsBlock b) (entry_leaves es) → 1 ≤ entry_count es → place ≡ offset_at b at i → type ≡ type_at b place → type ≡ 6 → LowerThere b levels place es
+lower_there : (b : List ℕ) (levels at i place type : ℕ) (es : Entries) → SayEntries b at i es → Names b (tiles b) levels es → Each (IsOrderly b) (lower_nodes es) → Each (IsBlock b) (entry_leaves es) → 1 ≤ entry_count es → place ≡ offset_at b at i → type ≡ type_at b place → type ≡ 6 → LowerThere b levels place es
 unfolding Names entry_leaves lower_nodes
 lower_there b levels at i place type no_entry s n f k c q qt is = absurd (omega arith)
 lower_there b levels at i place type (block fi la p packed es) s n f k c q qt is =
     let e : place ≡ p = q ∙ s.0.offset_is in
     absurd (no_node_type (type_at b p) (block_type b (leaf fi la p packed) k.0) (ap (type_at b) (sym e) ∙ sym qt ∙ is))
 lower_there b levels at i place type (lower fi la nodes es) s n f k c q qt is =
-    let fs = Each-split (NodeFits b) (nodes_of nodes) (lower_nodes es) f in
+    let fs = Each-split (IsOrderly b) (nodes_of nodes) (lower_nodes es) f in
     let ks = Each-split (IsBlock b) (leaves_of nodes) (entry_leaves es) k in
-    record { nodes = nodes; stands = record { has = n.1; fits = fs.0; blocks = ks.0 }; link_is = q ∙ s.0.offset_is; few = omega (arith, length-append (nodes_of nodes) (lower_nodes es)) }
+    record { nodes = nodes; stands = record { has = n.1; orderly = fs.0; blocks = ks.0 }; link_is = q ∙ s.0.offset_is; few = omega (arith, length-append (nodes_of nodes) (lower_nodes es)) }
 
 -- ---- a value on its way
 
@@ -137,14 +137,14 @@ module _ {S : Type 0} (at_node : S → ℕ → ℕ → ℕ → S) (at_block : S 
   unfolding HasNodes nodes_of leaves_of through
   node_here b levels s no_node st is = absurd is
   node_here b levels s (node place room entries more) st is =
-      let fs = Each-split (NodeFits b) (lower_nodes entries) (nodes_of more) st.fits.1 in
+      let fs = Each-split (IsOrderly b) (lower_nodes entries) (nodes_of more) st.orderly.1 in
       let ks = Each-split (IsBlock b) (entry_leaves entries) (leaves_of more) st.blocks in
       let h = st.has in
       record {
         entries = entries;
         more = more;
-        stand = record { used_is = h.0.used_is; say = h.0.say_entries; names = h.1; fits = fs.0; blocks = ks.0 };
-        more_stands = record { has = h.2; fits = fs.1; blocks = ks.1 };
+        stand = record { used_is = h.0.used_is; say = h.0.say_entries; names = h.1; orderly = fs.0; blocks = ks.0 };
+        more_stands = record { has = h.2; orderly = fs.1; blocks = ks.1 };
         next_is = h.0.next_is;
         same =
             ap (λ (x : ℕ). through at_node at_block (through_entries at_node at_block (at_node s place x (entry_count entries)) entries) more) (sym h.0.room_is)
@@ -192,7 +192,7 @@ module _ {S : Type 0} (at_node : S → ℕ → ℕ → ℕ → S) (at_block : S 
     pub left : Entries
     pub say : SayEntries b at i left
     pub names : Names b (tiles b) levels left
-    pub fits : Each (NodeFits b) (lower_nodes left)
+    pub orderly : Each (IsOrderly b) (lower_nodes left)
     pub blocks : Each (IsBlock b) (entry_leaves left)
     pub many : i + entry_count left ≡ entry_count entries
     pub same : through_entries at_node at_block s left ≡ through_entries at_node at_block was entries
@@ -202,7 +202,7 @@ module _ {S : Type 0} (at_node : S → ℕ → ℕ → ℕ → S) (at_block : S 
     pub left : (entries : Entries) → EntriesStand b at levels entries → BelowLeft b at levels i was s entries
 
   pub below_start : (b : List ℕ) (at levels : ℕ) (was : S) → Gone b at levels 0 was was
-  below_start b at levels was = record { left = λ es st. record { left = es; say = st.say; names = st.names; fits = st.fits; blocks = st.blocks; many = omega arith; same = refl; fewer = omega arith } }
+  below_start b at levels was = record { left = λ es st. record { left = es; say = st.say; names = st.names; orderly = st.orderly; blocks = st.blocks; many = omega arith; same = refl; fewer = omega arith } }
 
   nothing_below : (es : Entries) (s : S) → es ≡ no_entry → through_entries at_node at_block s es ≡ s
   unfolding through_entries
@@ -226,14 +226,14 @@ module _ {S : Type 0} (at_node : S → ℕ → ℕ → ℕ → S) (at_block : S 
   pub lower_chain : (b : List ℕ) (at levels i place type : ℕ) (was s : S) → SomeEntries b at levels → Gone b at levels i was s → i < used_count b at → place ≡ offset_at b at i → type ≡ type_at b place → type ≡ 6 → SomeChain b levels place
   lower_chain b at levels i place type was s some g lt q qt is =
       let l = g.left some.entries some.stand in
-      let t = lower_there b levels at i place type l.left l.say l.names l.fits l.blocks (count_left i (entry_count l.left) (entry_count some.entries) l.many (subst (λ (x : ℕ). i < x) some.stand.used_is lt)) q qt is in
+      let t = lower_there b levels at i place type l.left l.say l.names l.orderly l.blocks (count_left i (entry_count l.left) (entry_count some.entries) l.many (subst (λ (x : ℕ). i < x) some.stand.used_is lt)) q qt is in
       let f1 = t.few in
       let f2 = l.fewer in
       let f3 = some.few in
       record { nodes = t.nodes; tiled = some.tiled; stands = t.stands; link_is = t.link_is; few = omega arith }
 
   -- past a block
-  block_gone : (b : List ℕ) (at levels i first last place type : ℕ) (was s : S) (es left : Entries) → SayEntries b at i left → Names b (tiles b) levels left → Each (NodeFits b) (lower_nodes left) → Each (IsBlock b) (entry_leaves left) → i + entry_count left ≡ entry_count es → through_entries at_node at_block s left ≡ through_entries at_node at_block was es
+  block_gone : (b : List ℕ) (at levels i first last place type : ℕ) (was s : S) (es left : Entries) → SayEntries b at i left → Names b (tiles b) levels left → Each (IsOrderly b) (lower_nodes left) → Each (IsBlock b) (entry_leaves left) → i + entry_count left ≡ entry_count es → through_entries at_node at_block s left ≡ through_entries at_node at_block was es
       → length (lower_nodes left) ≤ length (lower_nodes es) → i < entry_count es → SaysEntry b at i first last place → type ≡ type_at b place → type ≢ 6 → BelowLeft b at levels (i + 1) was (at_block s first last place) es
   unfolding Names entry_leaves lower_nodes through_entries
   block_gone b at levels i first last place type was s es no_entry sa n f k m same few lt q qt is = absurd (omega arith)
@@ -243,18 +243,18 @@ module _ {S : Type 0} (at_node : S → ℕ → ℕ → ℕ → S) (at_block : S 
       let el : last ≡ la = sym q.last_is ∙ sa.0.last_is in
       let ep : place ≡ p = sym q.offset_is ∙ sa.0.offset_is in
       let here : through_entries at_node at_block (at_block s first last place) left ≡ through_entries at_node at_block (at_block s fi la p) left = λ j. through_entries at_node at_block (at_block s (ef j) (el j) (ep j)) left in
-      record { left = left; say = rw z at sa.1; names = n.2; fits = f; blocks = k.1; many = omega arith; same = here ∙ same; fewer = few }
+      record { left = left; say = rw z at sa.1; names = n.2; orderly = f; blocks = k.1; many = omega arith; same = here ∙ same; fewer = few }
   block_gone b at levels i first last place type was s es (lower fi la nodes left) sa n f k m same few lt q qt is =
       let ep : place ≡ link_to nodes = sym q.offset_is ∙ sa.0.offset_is in
       absurd (is (qt ∙ ap (type_at b) ep ∙ linkable-type b (tiles b) vxr_type (link_to nodes) (node_linkable b levels nodes n.0 n.1)))
 
   pub past_block : (b : List ℕ) (at levels i first last place type : ℕ) (was s : S) → Gone b at levels i was s → i < used_count b at → SaysEntry b at i first last place → type ≡ type_at b place → type ≢ 6 → Gone b at levels (i + 1) was (at_block s first last place)
   past_block b at levels i first last place type was s g lt q qt is = record {
-    left = λ es st. (let l = g.left es st in block_gone b at levels i first last place type was s es l.left l.say l.names l.fits l.blocks l.many l.same l.fewer (subst (λ (x : ℕ). i < x) st.used_is lt) q qt is);
+    left = λ es st. (let l = g.left es st in block_gone b at levels i first last place type was s es l.left l.say l.names l.orderly l.blocks l.many l.same l.fewer (subst (λ (x : ℕ). i < x) st.used_is lt) q qt is);
   }
 
   -- past a lower chain
-  lower_gone : (b : List ℕ) (at levels i place type : ℕ) (was s now : S) (es left : Entries) → SayEntries b at i left → Names b (tiles b) levels left → Each (NodeFits b) (lower_nodes left) → Each (IsBlock b) (entry_leaves left) → i + entry_count left ≡ entry_count es → through_entries at_node at_block s left ≡ through_entries at_node at_block was es → length (lower_nodes left) ≤ length (lower_nodes es)
+  lower_gone : (b : List ℕ) (at levels i place type : ℕ) (was s now : S) (es left : Entries) → SayEntries b at i left → Names b (tiles b) levels left → Each (IsOrderly b) (lower_nodes left) → Each (IsBlock b) (entry_leaves left) → i + entry_count left ≡ entry_count es → through_entries at_node at_block s left ≡ through_entries at_node at_block was es → length (lower_nodes left) ≤ length (lower_nodes es)
       → i < entry_count es → place ≡ offset_at b at i → type ≡ type_at b place → type ≡ 6 → ((ns : Nodes) → Stands b levels ns → place ≡ link_to ns → now ≡ through at_node at_block s ns) → BelowLeft b at levels (i + 1) was now es
   unfolding Names entry_leaves lower_nodes through_entries
   lower_gone b at levels i place type was s now es no_entry sa n f k m same few lt q qt is told = absurd (omega arith)
@@ -263,14 +263,14 @@ module _ {S : Type 0} (at_node : S → ℕ → ℕ → ℕ → S) (at_block : S 
       absurd (no_node_type (type_at b p) (block_type b (leaf fi la p packed) k.0) (ap (type_at b) (sym e) ∙ sym qt ∙ is))
   lower_gone b at levels i place type was s now es (lower fi la nodes left) sa n f k m same few lt q qt is told =
       let z : suc i ≡ i + 1 = omega arith in
-      let fs = Each-split (NodeFits b) (nodes_of nodes) (lower_nodes left) f in
+      let fs = Each-split (IsOrderly b) (nodes_of nodes) (lower_nodes left) f in
       let ks = Each-split (IsBlock b) (leaves_of nodes) (entry_leaves left) k in
-      let t = told nodes (record { has = n.1; fits = fs.0; blocks = ks.0 }) (q ∙ sa.0.offset_is) in
+      let t = told nodes (record { has = n.1; orderly = fs.0; blocks = ks.0 }) (q ∙ sa.0.offset_is) in
       record {
         left = left;
         say = rw z at sa.1;
         names = n.2;
-        fits = fs.1;
+        orderly = fs.1;
         blocks = ks.1;
         many = omega arith;
         same = ap (λ (x : S). through_entries at_node at_block x left) t ∙ same;
@@ -279,7 +279,7 @@ module _ {S : Type 0} (at_node : S → ℕ → ℕ → ℕ → S) (at_block : S 
 
   pub past_lower : (b : List ℕ) (at levels i place type : ℕ) (was s now : S) → Gone b at levels i was s → i < used_count b at → place ≡ offset_at b at i → type ≡ type_at b place → type ≡ 6 → ((ns : Nodes) → Stands b levels ns → place ≡ link_to ns → now ≡ through at_node at_block s ns) → Gone b at levels (i + 1) was now
   past_lower b at levels i place type was s now g lt q qt is told = record {
-    left = λ es st. (let l = g.left es st in lower_gone b at levels i place type was s now es l.left l.say l.names l.fits l.blocks l.many l.same l.fewer (subst (λ (x : ℕ). i < x) st.used_is lt) q qt is told);
+    left = λ es st. (let l = g.left es st in lower_gone b at levels i place type was s now es l.left l.say l.names l.orderly l.blocks l.many l.same l.fewer (subst (λ (x : ℕ). i < x) st.used_is lt) q qt is told);
   }
 
   -- ---- of an image that is the same
@@ -298,11 +298,8 @@ chain_now b now levels link e s = subst (λ (x : List ℕ). SomeChain x levels l
 
 -- ---- from the head of an index
 
-pub whole_stands : (b : List ℕ) (head : ℕ) → HasIndex b head → Stands b 8 (index_at b head)
-whole_stands b head has = record { has = has.index.has_nodes; fits = has.fits; blocks = has.blocks }
-
 pub whole_chain : (b : List ℕ) (head : ℕ) → HasIndex b head → SomeChain b 8 head
-whole_chain b head has = record { nodes = index_at b head; tiled = has.tiled; stands = whole_stands b head has; link_is = has.index.link_is; few = few }
+whole_chain b head has = record { nodes = index_at b head; tiled = has.tiled; stands = index_stands b head has; link_is = has.index.link_is; few = few }
   where
     few : length (nodes_of (index_at b head)) ≤ length b
     few = let over = few_nodes b head 0 has in omega (arith, over)

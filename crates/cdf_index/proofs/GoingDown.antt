@@ -6,13 +6,12 @@ use Rattle.cdf_edits.specs.Index.Grown.{reaches, chain_reaches, leads_down}
 use Rattle.cdf_format.specs.Index.{Nodes, no_node, node, Entries, no_entry, block, lower, nodes_of, lower_nodes, leaves_of, entry_leaves, entry_count, link_to, used_count, first_at}
 use Rattle.cdf_format.specs.Fields.{size_at}
 use Rattle.cdf_format.specs.IndexOf.{SayEntries, SaysNode, IsNode, HasNodes}
-use Rattle.cdf_format.specs.Sound.{NodeFits}
 use Rattle.cdf_format.specs.Tiles.{AreTiles, In, tiles}
 use Rattle.cdf_format.proofs.Members.{either, In-append_right, Distinct-front, Distinct-back, length-le_from_distinct}
 use Rattle.cdf_format.proofs.ShapeLemmas.{Each-split}
 use Rattle.cdf_index.specs.Ahead.{Begun, chain_at, chain_before}
 use Rattle.cdf_index.specs.Descent.{IsTree, SeesNode, SpotIs, way_from, end_from}
-use Rattle.cdf_index.specs.Finding.{IsBlock, SomeNode}
+use Rattle.cdf_index.specs.Finding.{IsBlock, IsOrderly, SomeNode}
 use Rattle.cdf_index.specs.Order.{InOrder, AreInOrder, past_entries}
 use Rattle.cdf_index.specs.Way.{way, way_below, spot}
 use Rattle.cdf_index.specs.declared.descending.Spot.{Spot}
@@ -33,7 +32,7 @@ record Parts (b : List ℕ) (levels place room : ℕ) (es : Entries) (more : Nod
 tree_parts : (b : List ℕ) (levels place room : ℕ) (es : Entries) (more : Nodes) → IsTree b (suc levels) (node place room es more) → Parts b levels place room es more
 unfolding HasNodes nodes_of leaves_of InOrder
 tree_parts b levels place room es more t =
-    let fs = Each-split (NodeFits b) (lower_nodes es) (nodes_of more) t.stands.fits.1 in
+    let fs = Each-split (IsOrderly b) (lower_nodes es) (nodes_of more) t.stands.orderly.1 in
     let bs = Each-split (IsBlock b) (entry_leaves es) (leaves_of more) t.stands.blocks in
     record {
       says = t.stands.has.0;
@@ -41,7 +40,7 @@ tree_parts b levels place room es more t =
       high = t.upto;
       order = t.order.0;
       rest_order = t.order.1;
-      rest = λ is. record { stands = record { has = t.stands.has.2; fits = fs.1; blocks = bs.1 }; is_node = is; once = Distinct-back (lower_nodes es) (nodes_of more) t.once.1; from = past_entries t.from es; upto = t.upto; order = t.order.1 };
+      rest = λ is. record { stands = record { has = t.stands.has.2; orderly = fs.1; blocks = bs.1 }; is_node = is; once = Distinct-back (lower_nodes es) (nodes_of more) t.once.1; from = past_entries t.from es; upto = t.upto; order = t.order.1 };
     }
 
 passed_of : (b : List ℕ) (f at n : ℕ) (es : Entries) → used_count b at ≡ entry_count es → Begun b at f n → Passed b f at 0 n (entry_count es)
@@ -57,9 +56,9 @@ passed_of b f at n es u g = record {
 node_led : (b : List ℕ) (f levels place room n : ℕ) (es : Entries) (more : Nodes) → AreTiles b 8 (length b) (tiles b) → IsTree b (suc levels) (node place room es more) → Begun b place f n → Led b f levels place 0 n es
 unfolding HasNodes nodes_of leaves_of InOrder
 node_led b f levels place room n es more tiled t g =
-    let fs = Each-split (NodeFits b) (lower_nodes es) (nodes_of more) t.stands.fits.1 in
+    let fs = Each-split (IsOrderly b) (lower_nodes es) (nodes_of more) t.stands.orderly.1 in
     let bs = Each-split (IsBlock b) (entry_leaves es) (leaves_of more) t.stands.blocks in
-    led b f levels place tiled 0 n t.from t.upto es (record { say = t.stands.has.0.say_entries; names = t.stands.has.1; fits = fs.0; blocks = bs.0; once = Distinct-front (lower_nodes es) (nodes_of more) t.once.1; order = t.order.0 }) (passed_of b f place n es t.stands.has.0.used_is g)
+    led b f levels place tiled 0 n t.from t.upto es (record { say = t.stands.has.0.say_entries; names = t.stands.has.1; orderly = fs.0; blocks = bs.0; once = Distinct-front (lower_nodes es) (nodes_of more) t.once.1; order = t.order.0 }) (passed_of b f place n es t.stands.has.0.used_is g)
 
 -- ---- what was seen of the node tells where it leads
 

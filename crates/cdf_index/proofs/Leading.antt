@@ -7,7 +7,6 @@ use Rattle.cdf_format.specs.Index.{Nodes, no_node, Entries, no_entry, block, low
 use Rattle.cdf_format.specs.IndexOf.{SayEntries, IsNode, HasNodes, Names}
 use Rattle.cdf_format.specs.RecordTypes.{vxr_type}
 use Rattle.cdf_format.specs.Shape.{Each}
-use Rattle.cdf_format.specs.Sound.{NodeFits}
 use Rattle.cdf_format.specs.Tiles.{AreTiles, Distinct, tiles}
 use Rattle.cdf_format.proofs.ChainsLemmas.{linkable-in, linkable-type}
 use Rattle.cdf_format.proofs.Members.{either, Distinct-front, Distinct-back}
@@ -15,7 +14,7 @@ use Rattle.cdf_format.proofs.ShapeLemmas.{Each-split}
 use Rattle.cdf_format.proofs.TilesLemmas.{tile_lies}
 use Rattle.cdf_index.specs.Ahead.{chain_at}
 use Rattle.cdf_index.specs.Descent.{IsTree}
-use Rattle.cdf_index.specs.Finding.{IsBlock}
+use Rattle.cdf_index.specs.Finding.{IsBlock, IsOrderly}
 use Rattle.cdf_index.specs.Order.{InOrder, AreInOrder}
 use Rattle.cdf_index.specs.Way.{down_at, way, way_below, spot, spot_below}
 use Rattle.cdf_index.proofs.LeafMore.{reaches_from, chain_reaches_from}
@@ -64,7 +63,7 @@ pub record Led (b : List ℕ) (f levels at k n : ℕ) (es : Entries) : Type 0 wh
 pub record Stand (b : List ℕ) (levels at k low high : ℕ) (es : Entries) : Type 0 where
   pub say : SayEntries b at k es
   pub names : Names b (tiles b) levels es
-  pub fits : Each (NodeFits b) (lower_nodes es)
+  pub orderly : Each (IsOrderly b) (lower_nodes es)
   pub blocks : Each (IsBlock b) (entry_leaves es)
   pub once : Distinct (lower_nodes es)
   pub order : AreInOrder low high es
@@ -173,7 +172,7 @@ module _ (b : List ℕ) (f levels at : ℕ) (tiled : AreTiles b 8 (length b) (ti
       let z : k + 0 ≡ k = omega arith in
       let by = rw z at (p.before 0 (omega arith)) in
       let le : leb first f ≡ true = test_le first f (omega (arith, s.say.0.first_is)) in
-      let rest = led (suc k) m (suc last) high es (record { say = s.say.1; names = s.names.2; fits = s.fits; blocks = s.blocks.1; once = s.once; order = s.order.3 }) (passed_rest b f at k m (entry_count es) p) in
+      let rest = led (suc k) m (suc last) high es (record { say = s.say.1; names = s.names.2; orderly = s.orderly; blocks = s.blocks.1; once = s.once; order = s.order.3 }) (passed_rest b f at k m (entry_count es) p) in
       record { none = λ e. absurd (omega arith); some = λ j e. block_leads k m j first last place packed es le (block_chain k first last place packed s.blocks.0 s.say.0.offset_is) rest (omega arith) }
   led k zero low high (lower first last nodes es) s p =
       let z : k + 0 ≡ k = omega arith in
@@ -185,8 +184,8 @@ module _ (b : List ℕ) (f levels at : ℕ) (tiled : AreTiles b 8 (length b) (ti
       let z : k + 0 ≡ k = omega arith in
       let by = rw z at (p.before 0 (omega arith)) in
       let le : leb first f ≡ true = test_le first f (omega (arith, s.say.0.first_is)) in
-      let fs = Each-split (NodeFits b) (nodes_of nodes) (lower_nodes es) s.fits in
+      let fs = Each-split (IsOrderly b) (nodes_of nodes) (lower_nodes es) s.orderly in
       let bs = Each-split (IsBlock b) (leaves_of nodes) (entry_leaves es) s.blocks in
-      let rest = led (suc k) m (suc last) high es (record { say = s.say.1; names = s.names.2; fits = fs.1; blocks = bs.1; once = Distinct-back (nodes_of nodes) (lower_nodes es) s.once; order = s.order.4 }) (passed_rest b f at k m (entry_count es) p) in
-      let tree : IsTree b levels nodes = record { stands = record { has = s.names.1; fits = fs.0; blocks = bs.0 }; is_node = s.names.0; once = Distinct-front (nodes_of nodes) (lower_nodes es) s.once; from = first; upto = last; order = s.order.3 } in
+      let rest = led (suc k) m (suc last) high es (record { say = s.say.1; names = s.names.2; orderly = fs.1; blocks = bs.1; once = Distinct-back (nodes_of nodes) (lower_nodes es) s.once; order = s.order.4 }) (passed_rest b f at k m (entry_count es) p) in
+      let tree : IsTree b levels nodes = record { stands = record { has = s.names.1; orderly = fs.0; blocks = bs.0 }; is_node = s.names.0; once = Distinct-front (nodes_of nodes) (lower_nodes es) s.once; from = first; upto = last; order = s.order.3 } in
       record { none = λ e. absurd (omega arith); some = λ j e. lower_leads k m j first last nodes es le (node_chain k nodes s.names.0 s.names.1 s.say.0.offset_is) (some_link nodes s.names.0 s.names.1) tree rest (omega arith) }

@@ -12,6 +12,7 @@ use Rattle.cdf_index.specs.Finding.{index_at, HasIndex, SomeNode}
 use Rattle.cdf_index.specs.Way.{way, spot}
 use Rattle.cdf_index.specs.declared.descending.Spot.{Spot}
 use Rattle.cdf_index.specs.declared.descending.Step.{Step}
+use Rattle.cdf_index.proofs.Ascending.{index_stands}
 use Rattle.cdf_index.proofs.Leading.{test_zero, test_some}
 use Rattle.cdf_index.proofs.WayDown.{AllIn, node_there_by, no_zero, spot_in, way_in}
 
@@ -33,7 +34,7 @@ pub record Descending (b : List ℕ) (f turn : ℕ) (total : Nodes) (passed : Li
 module _ (b : List ℕ) (head : ℕ) (has : HasIndex b head) (some : head ≢ 0) where
   pub index_tree : IsTree b 8 (index_at b head)
   index_tree = record {
-    stands = record { has = has.index.has_nodes; fits = has.fits; blocks = has.blocks };
+    stands = index_stands b head has;
     is_node = node_there_by head (index_at b head) has.index.link_is some;
     once = has.index.once;
     from = 0;

@@ -1,6 +1,7 @@
+pub mod Ascending
 pub mod OrderLemmas
 pub mod Looking
-pub mod Scanning
+pub mod EntriesCut
 pub mod Searching
 pub mod GoodIndex
 pub mod RecordRead

@@ -2,7 +2,6 @@
 use Rattle.std.proofs.Common.{◌≡◌, ◌≢◌, ◌⊎◌, ℕ, zero, suc, ◌+◌, ◌*◌, ◌<◌, ◌≤◌, List, length, Bool, true, false, ◌||◌, ltb, eqb, refl, sym, ap, subst, ◌∙◌, arith, inl, inr, Option, Some, None, if◌then◌else◌}
 use Rattle.std.proofs.lemmas.Bool.Decides.{nat_tests}
 use Rattle.std.proofs.lemmas.List.{length-append}
-use Rattle.cdf_format.specs.Sound.{NodeFits}
 use Rattle.cdf_format.specs.Chains.{is_a, is_linkable, next_of}
 use Rattle.cdf_format.specs.Fields.{word, type_at}
 use Rattle.cdf_format.specs.Index.{Nodes, no_node, node, Entries, no_entry, block, lower, Leaf, leaf, nodes_of, lower_nodes, leaves_of, entry_leaves, entry_count, link_to, room_at, used_count, first_at, last_at, offset_at}
@@ -16,7 +15,7 @@ use Rattle.cdf_format.proofs.ShapeLemmas.{Each-split}
 use Rattle.cdf_format.proofs.TilesLemmas.{tile_lies}
 use Rattle.cdf_index.specs.Ahead.{NamesIn}
 use Rattle.cdf_index.specs.Order.{find_in, find_entry, passed, NextsAreZero, LowerAreZero}
-use Rattle.cdf_index.specs.Finding.{IsBlock, Stands, SomeNode, NodeInside, Onward}
+use Rattle.cdf_index.specs.Finding.{IsBlock, IsOrderly, Stands, SomeNode, NodeInside, Onward}
 
 -- without the first entries that end before a record
 abbrev pub rest : ℕ → Entries → Entries
@@ -35,20 +34,20 @@ pub record Left (b : List ℕ) (rec levels at i n : ℕ) (entries left : Entries
   pub same : (other : Option Leaf) → find_entry rec entries other ≡ find_entry rec left other
   pub say : SayEntries b at i left
   pub names : Names b (tiles b) levels left
-  pub fits : Each (NodeFits b) (lower_nodes left)
+  pub orderly : Each (IsOrderly b) (lower_nodes left)
   pub blocks : Each (IsBlock b) (entry_leaves left)
   pub ends : Ends rec left
   pub many : n + entry_count left ≡ entry_count entries
   pub fewer : length (lower_nodes left) ≤ length (lower_nodes entries)
   pub zero : LowerAreZero entries → LowerAreZero left
 
-left_all : (b : List ℕ) (rec levels at i : ℕ) (entries : Entries) → SayEntries b at i entries → Names b (tiles b) levels entries → Each (NodeFits b) (lower_nodes entries) → Each (IsBlock b) (entry_leaves entries) → Ends rec entries
+left_all : (b : List ℕ) (rec levels at i : ℕ) (entries : Entries) → SayEntries b at i entries → Names b (tiles b) levels entries → Each (IsOrderly b) (lower_nodes entries) → Each (IsBlock b) (entry_leaves entries) → Ends rec entries
     → Left b rec levels at (i + 0) 0 entries entries
 left_all b rec levels at i entries s n f k e =
     let z : i + 0 ≡ i = omega arith in
-    rw z (record { same = λ other. refl; say = s; names = n; fits = f; blocks = k; ends = e; many = omega arith; fewer = omega arith; zero = λ o. o })
+    rw z (record { same = λ other. refl; say = s; names = n; orderly = f; blocks = k; ends = e; many = omega arith; fewer = omega arith; zero = λ o. o })
 
-left_over : (b : List ℕ) (rec levels at i : ℕ) (entries : Entries) → SayEntries b at i entries → Names b (tiles b) levels entries → Each (NodeFits b) (lower_nodes entries) → Each (IsBlock b) (entry_leaves entries)
+left_over : (b : List ℕ) (rec levels at i : ℕ) (entries : Entries) → SayEntries b at i entries → Names b (tiles b) levels entries → Each (IsOrderly b) (lower_nodes entries) → Each (IsBlock b) (entry_leaves entries)
     → Left b rec levels at (i + passed rec entries) (passed rec entries) entries (rest rec entries)
 unfolding Names lower_nodes entry_leaves find_in find_entry LowerAreZero
 left_over b rec levels at i no_entry s n f k = left_all b rec levels at i no_entry s n f k tt
@@ -57,18 +56,18 @@ left_over b rec levels at i (block first last place packed entries) s n f k = el
       let r = left_over b rec levels at (suc i) entries s.1 n.2 f k.1 in
       let e : i + suc (passed rec entries) ≡ suc i + passed rec entries = omega arith in
       let m = r.many in
-      rw t (rw e (record { same = λ other. rw t (r.same other); say = r.say; names = r.names; fits = r.fits; blocks = r.blocks; ends = r.ends; many = omega arith; fewer = r.fewer; zero = r.zero }))
+      rw t (rw e (record { same = λ other. rw t (r.same other); say = r.say; names = r.names; orderly = r.orderly; blocks = r.blocks; ends = r.ends; many = omega arith; fewer = r.fewer; zero = r.zero }))
   | inr t ↦ rw t (left_all b rec levels at i (block first last place packed entries) s n f k t)
 ]
 left_over b rec levels at i (lower first last nodes entries) s n f k = elim (either (ltb last rec)) [
   | inl t ↦
-      let fs = Each-split (NodeFits b) (nodes_of nodes) (lower_nodes entries) f in
+      let fs = Each-split (IsOrderly b) (nodes_of nodes) (lower_nodes entries) f in
       let ks = Each-split (IsBlock b) (leaves_of nodes) (entry_leaves entries) k in
       let r = left_over b rec levels at (suc i) entries s.1 n.2 fs.1 ks.1 in
       let e : i + suc (passed rec entries) ≡ suc i + passed rec entries = omega arith in
       let m = r.many in
       let w = r.fewer in
-      rw t (rw e (record { same = λ other. rw t (r.same other); say = r.say; names = r.names; fits = r.fits; blocks = r.blocks; ends = r.ends; many = omega arith; fewer = omega (arith, length-append (nodes_of nodes) (lower_nodes entries)); zero = λ z. r.zero z.1 }))
+      rw t (rw e (record { same = λ other. rw t (r.same other); say = r.say; names = r.names; orderly = r.orderly; blocks = r.blocks; ends = r.ends; many = omega arith; fewer = omega (arith, length-append (nodes_of nodes) (lower_nodes entries)); zero = λ z. r.zero z.1 }))
   | inr t ↦ rw t (left_all b rec levels at i (lower first last nodes entries) s n f k t)
 ]
 
@@ -95,14 +94,14 @@ looked : (b : List ℕ) (rec levels at i room : ℕ) (entries : Entries) (more :
 unfolding HasNodes nodes_of leaves_of
 looked b rec levels at i room entries more st s =
     let h = st.has in
-    let fs = Each-split (NodeFits b) (lower_nodes entries) (nodes_of more) st.fits.1 in
+    let fs = Each-split (IsOrderly b) (lower_nodes entries) (nodes_of more) st.orderly.1 in
     let ks = Each-split (IsBlock b) (entry_leaves entries) (leaves_of more) st.blocks in
     let e : i ≡ passed rec entries = s.pass entries h.0.used_is h.0.say_entries in
     record {
       says = h.0;
       left = rest rec entries;
       over = rw e (let z : 0 + passed rec entries ≡ passed rec entries = omega arith in rw z at (left_over b rec levels at 0 entries h.0.say_entries h.1 fs.0 ks.0));
-      more_stands = record { has = h.2; fits = fs.1; blocks = ks.1 };
+      more_stands = record { has = h.2; orderly = fs.1; blocks = ks.1 };
     }
 
 zero_entries : (place room : ℕ) (entries : Entries) (more : Nodes) → NextsAreZero (node place room entries more) → LowerAreZero entries
@@ -123,7 +122,7 @@ onward_more : (b : List ℕ) (rec levels at room link : ℕ) (entries : Entries)
     → Onward b rec (suc levels) (node at room entries more) link
 unfolding HasNodes nodes_of lower_nodes leaves_of NextsAreZero LowerAreZero
 onward_more b rec levels at room link entries no_node st e same =
-    record { down = levels; left = no_node; stands = record { has = tt; fits = tt; blocks = tt }; link_is = e; same = same; fewer = omega arith; zero = λ z. (tt, omega arith) }
+    record { down = levels; left = no_node; stands = record { has = tt; orderly = tt; blocks = tt }; link_is = e; same = same; fewer = omega arith; zero = λ z. (tt, omega arith) }
 onward_more b rec levels at room link entries (node place' room' entries' more) st e same =
     record { down = suc levels; left = node place' room' entries' more; stands = st; link_is = e; same = same; fewer = omega (arith, length-append (lower_nodes entries) (nodes_of (node place' room' entries' more))); zero = λ z. absurd z }
 
@@ -194,13 +193,13 @@ onward_lower b rec levels at i room first place type entries (lower f la nodes l
     let e : first ≡ f = qf ∙ l.say.0.first_is in
     let t : ltb la rec ≡ false = l.ends in
     let u : ltb rec f ≡ false = grind (arith, nat_tests) in
-    let fs = Each-split (NodeFits b) (nodes_of nodes) (lower_nodes left) l.fits in
+    let fs = Each-split (IsOrderly b) (nodes_of nodes) (lower_nodes left) l.orderly in
     let ks = Each-split (IsBlock b) (leaves_of nodes) (entry_leaves left) l.blocks in
     let same : find_entry rec entries (find_in rec more) ≡ find_in rec nodes = l.same (find_in rec more) ∙ rw (t, u) refl in
     record {
       down = levels;
       left = nodes;
-      stands = record { has = l.names.1; fits = fs.0; blocks = ks.0 };
+      stands = record { has = l.names.1; orderly = fs.0; blocks = ks.0 };
       link_is = qp ∙ l.say.0.offset_is;
       same = sym same;
       fewer = omega (arith, length-append (lower_nodes entries) (nodes_of more), length-append (nodes_of nodes) (lower_nodes left), l.fewer);
@@ -286,9 +285,17 @@ inside_at b levels no_node t st is = absurd is
 inside_at b zero (node place room entries more) t st is = absurd st.has
 inside_at b (suc levels) (node place room entries more) t st is =
     let lies = tile_lies b 8 (length b) (tiles b) place t (linkable-in b (tiles b) vxr_type place st.has.0.linkable) in
-    let fits = st.fits.0 in
+    let fits = st.orderly.0.fits in
     let f0 = fits.0 in
     record { low = lies.low; inside = lies.high; room = omega (arith, lies.high); entries = f0; fits = fits.1 }
+
+orderly_at : (b : List ℕ) (levels : ℕ) (nodes : Nodes) → Stands b levels nodes → IsNode nodes → IsOrderly b (link_to nodes)
+unfolding nodes_of
+orderly_at b levels no_node st is = absurd is
+orderly_at b levels (node place room entries more) st is = st.orderly.0
+
+pub node_orderly : (b : List ℕ) (at : ℕ) → SomeNode b at → IsOrderly b at
+node_orderly b at n = subst (λ (x : ℕ). IsOrderly b x) (sym n.link) (orderly_at b n.levels n.nodes n.stands n.is_node)
 
 pub node_inside : (b : List ℕ) (at : ℕ) → SomeNode b at → NodeInside b at
 node_inside b at n = subst (λ (x : ℕ). NodeInside b x) (sym n.link) (inside_at b n.levels n.nodes n.tiled n.stands n.is_node)
@@ -297,6 +304,9 @@ node_inside b at n = subst (λ (x : ℕ). NodeInside b x) (sym n.link) (inside_a
 
 pub read_first : (b now : List ℕ) (at i first : ℕ) → now ≡ b → first ≡ word now (at + (28 + 4 * i)) 4 → first ≡ first_at b at i
 read_first b now at i first e w = w ∙ ap (λ (x : List ℕ). word x (at + (28 + 4 * i)) 4) e
+
+pub read_last : (b now : List ℕ) (at room i last : ℕ) → now ≡ b → room ≡ room_at b at → last ≡ word now (at + (28 + 4 * room + 4 * i)) 4 → last ≡ last_at b at i
+read_last b now at room i last e r w = w ∙ ap (λ (x : List ℕ). word x (at + (28 + 4 * room + 4 * i)) 4) e ∙ ap (λ (n : ℕ). word b (at + (28 + 4 * n + 4 * i)) 4) r
 
 pub read_place : (b now : List ℕ) (at room i place : ℕ) → now ≡ b → room ≡ room_at b at → place ≡ word now (at + (28 + 8 * room + 8 * i)) 8 → place ≡ offset_at b at i
 read_place b now at room i place e r w = w ∙ ap (λ (x : List ℕ). word x (at + (28 + 8 * room + 8 * i)) 8) e ∙ ap (λ (n : ℕ). word b (at + (28 + 8 * n + 8 * i)) 8) r

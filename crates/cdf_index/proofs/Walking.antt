@@ -1,5 +1,5 @@
 -- The search for the next First, from node to node.
-use Rattle.std.proofs.Common.{◌≡◌, ◌≢◌, ℕ, zero, suc, ◌+◌, ◌<◌, ◌≤◌, List, ◌++◌, length, true, false, ltb, eqb, leb, append-nil, refl, sym, ap, subst, ◌∙◌, arith, inl, inr, Some, None}
+use Rattle.std.proofs.Common.{◌≡◌, ◌≢◌, ℕ, zero, suc, ◌+◌, ◌<◌, ◌≤◌, List, ◌++◌, length, true, false, ltb, eqb, leb, append-nil, refl, sym, ap, subst, ◌∙◌, arith, Some, None}
 use Rattle.std.proofs.lemmas.Bool.Decides.{nat_tests}
 use Rattle.std.proofs.lemmas.List.{length-append}
 use Rattle.cdf_edits.specs.Index.Blocks.{firsts_of, entry_firsts, next_first}
@@ -9,28 +9,21 @@ use Rattle.cdf_format.specs.Index.{Nodes, no_node, node, Entries, no_entry, bloc
 use Rattle.cdf_format.specs.IndexOf.{SayEntries, IsNode, HasNodes, Names}
 use Rattle.cdf_format.specs.RecordTypes.{vxr_type}
 use Rattle.cdf_format.specs.Shape.{Each}
-use Rattle.cdf_format.specs.Sound.{NodeFits}
 use Rattle.cdf_format.specs.Tiles.{AreTiles, tiles}
 use Rattle.cdf_format.proofs.ChainsLemmas.{linkable-in, linkable-type}
-use Rattle.cdf_format.proofs.Members.{either}
 use Rattle.cdf_format.proofs.ShapeLemmas.{Each-split}
 use Rattle.cdf_format.proofs.TilesLemmas.{tile_lies}
 use Rattle.cdf_model.specs.Limits.{record_number_limit}
 use Rattle.cdf_index.specs.Ahead.{Begun, chain_at, chain_before, IsWalk}
-use Rattle.cdf_index.specs.Finding.{index_at, HasIndex, IsBlock, Stands, SomeNode}
+use Rattle.cdf_index.specs.Finding.{index_at, HasIndex, IsBlock, IsOrderly, Stands, SomeNode}
 use Rattle.cdf_index.specs.Next.{least_from, number_within, least_first_past}
 use Rattle.cdf_index.specs.Order.{past_entries, InOrder, AreInOrder, NextsAreZero, LowerAreZero}
 use Rattle.cdf_index.specs.declared.next.Walk.{Walk}
+use Rattle.cdf_index.proofs.Ascending.{index_stands}
 use Rattle.cdf_index.proofs.Looking.{block_type, no_node_type, node_linkable}
 use Rattle.cdf_index.proofs.NextLemmas.{Between, block_passed, lower_passed, block_decides, lower_decides, firsts_between, between_more}
-use Rattle.cdf_index.proofs.OrderLemmas.{end_after, lt_of, ge_of}
+use Rattle.cdf_index.proofs.OrderLemmas.{end_after}
 use Rattle.cdf_index.proofs.Searching.{few_nodes}
-
-pub begun_more : (b : List ℕ) (at rec i first : ℕ) → ((j : ℕ) → j < i → first_at b at j ≤ rec) → first ≡ first_at b at i → first ≤ rec → (j : ℕ) → j < i + 1 → first_at b at j ≤ rec
-begun_more b at rec i first before e le j lt = elim (either (ltb j i)) [
-  | inl t ↦ before j (lt_of j i t)
-  | inr t ↦ let ge = ge_of j i t in let q : j ≡ i = omega arith in rw q (omega arith)
-]
 
 pub chain_is : (b : List ℕ) (at k : ℕ) → type_at b (offset_at b at k) ≡ 6 → chain_at b at k ≡ offset_at b at k
 chain_is b at k e = let t : eqb (type_at b (offset_at b at k)) 6 ≡ true = grind (arith, nat_tests) in rw t refl
@@ -125,7 +118,7 @@ module _ (b : List ℕ) (rec best high levels at : ℕ) (zs : List ℕ) (most : 
       }
 
   met : (k n middle low_levels from upto : ℕ) (entries : Entries) (low : Nodes) → Stands b low_levels low → InOrder from upto low → upto ≤ middle → upto ≤ high
-      → SayEntries b at k entries → Names b (tiles b) levels entries → Each (NodeFits b) (lower_nodes entries) → Each (IsBlock b) (entry_leaves entries) → AreInOrder middle high entries
+      → SayEntries b at k entries → Names b (tiles b) levels entries → Each (IsOrderly b) (lower_nodes entries) → Each (IsBlock b) (entry_leaves entries) → AreInOrder middle high entries
       → ((first : ℕ) → first ≤ past_entries middle entries → Between first high zs)
       → ((j : ℕ) → j < k + n → first_at b at j ≤ rec) → n ≤ entry_count entries → (n < entry_count entries → rec < first_at b at (k + n))
       → Met b rec best high at k n middle low_levels levels entries low zs
@@ -164,7 +157,7 @@ module _ (b : List ℕ) (rec best high levels at : ℕ) (zs : List ℕ) (most : 
       let h = before k (omega arith) in
       let t : ltb rec fi ≡ false = grind (arith, nat_tests) in
       let c = no_chain b at k (λ y. no_node_type (type_at b p) (block_type b (leaf fi la p packed) q.0) (ap (type_at b) (sym s.0.offset_is) ∙ y)) in
-      let r = met (suc k) m (suc la) 0 0 0 entries no_node (record { has = tt; fits = tt; blocks = tt }) tt (omega arith) (omega arith) s.1 nm.2 f q.1 ao.3 zb (rw z at before) (omega arith) (λ lt. rw z at (stop (omega arith))) in
+      let r = met (suc k) m (suc la) 0 0 0 entries no_node (record { has = tt; orderly = tt; blocks = tt }) tt (omega arith) (omega arith) s.1 nm.2 f q.1 ao.3 zb (rw z at before) (omega arith) (λ lt. rw z at (stop (omega arith))) in
       met_more k m middle la low_levels 0 entries (block fi la p packed entries) no_node low r refl c refl (block_passed rec best low from upto o zs fi la p packed entries t (omega arith)) (omega arith) (omega arith) (λ y. (tt, y))
   met k (suc m) middle low_levels from upto (lower fi la nodes entries) low st o asc lm s nm f q ao zb before le stop =
       let z : k + suc m ≡ suc k + m = omega arith in
@@ -172,11 +165,11 @@ module _ (b : List ℕ) (rec best high levels at : ℕ) (zs : List ℕ) (most : 
       let o0 = ao.0 in
       let h = before k (omega arith) in
       let t : ltb rec fi ≡ false = grind (arith, nat_tests) in
-      let fs = Each-split (NodeFits b) (nodes_of nodes) (lower_nodes entries) f in
+      let fs = Each-split (IsOrderly b) (nodes_of nodes) (lower_nodes entries) f in
       let qs = Each-split (IsBlock b) (leaves_of nodes) (entry_leaves entries) q in
       let y : type_at b (offset_at b at k) ≡ 6 = ap (type_at b) s.0.offset_is ∙ linkable-type b (tiles b) vxr_type (link_to nodes) (node_linkable b levels nodes nm.0 nm.1) in
       let c = chain_is b at k y ∙ s.0.offset_is in
-      let r = met (suc k) m (suc la) levels fi la entries nodes (record { has = nm.1; fits = fs.0; blocks = qs.0 }) ao.3 (omega arith) ao.2 s.1 nm.2 fs.1 qs.1 ao.4 zb (rw z at before) (omega arith) (λ lt. rw z at (stop (omega arith))) in
+      let r = met (suc k) m (suc la) levels fi la entries nodes (record { has = nm.1; orderly = fs.0; blocks = qs.0 }) ao.3 (omega arith) ao.2 s.1 nm.2 fs.1 qs.1 ao.4 zb (rw z at before) (omega arith) (λ lt. rw z at (stop (omega arith))) in
       met_more k m middle la low_levels levels entries (lower fi la nodes entries) nodes low r refl c refl (lower_passed rec best low from upto o zs fi la nodes entries t (omega arith)) (omega (arith, length-append (nodes_of nodes) (lower_nodes entries))) (omega arith) (λ y. y)
 
 -- ---- a node
@@ -247,7 +240,7 @@ module _ (b : List ℕ) (rec : ℕ) (nodes : Nodes) (turn : ℕ) (walk : Walk) (
   unfolding HasNodes nodes_of leaves_of InOrder firsts_of
   turned_at levels at room entries more st o same few zero_left g =
       let h = st.has in
-      let fs = Each-split (NodeFits b) (lower_nodes entries) (nodes_of more) st.fits.1 in
+      let fs = Each-split (IsOrderly b) (lower_nodes entries) (nodes_of more) st.orderly.1 in
       let qs = Each-split (IsBlock b) (entry_leaves entries) (leaves_of more) st.blocks in
       let many = h.0.used_is in
       let le = g.most in
@@ -266,7 +259,7 @@ module _ (b : List ℕ) (rec : ℕ) (nodes : Nodes) (turn : ℕ) (walk : Walk) (
         low_order = m.order;
         more_levels = suc levels;
         more = more;
-        more_stands = record { has = h.2; fits = fs.1; blocks = qs.1 };
+        more_stands = record { has = h.2; orderly = fs.1; blocks = qs.1 };
         next_is = h.0.next_is;
         middle = past_entries w.middle entries;
         high = w.high;
@@ -319,7 +312,7 @@ module _ (b : List ℕ) (rec : ℕ) (nodes : Nodes) (turn : ℕ) (walk : Walk) (
         left = t.low;
         low = no_node;
         stands = t.stands;
-        low_stands = record { has = tt; fits = tt; blocks = tt };
+        low_stands = record { has = tt; orderly = tt; blocks = tt };
         link_is = le ∙ t.chain;
         lower_is = refl;
         ended = λ z. refl;
@@ -356,7 +349,7 @@ module _ (b : List ℕ) (rec : ℕ) (nodes : Nodes) (turn : ℕ) (walk : Walk) (
         left = t.low;
         low = no_node;
         stands = t.stands;
-        low_stands = record { has = tt; fits = tt; blocks = tt };
+        low_stands = record { has = tt; orderly = tt; blocks = tt };
         link_is = le ∙ t.chain;
         lower_is = refl;
         ended = λ z. refl;
@@ -423,8 +416,8 @@ module _ (b : List ℕ) (head rec : ℕ) (has : HasIndex b head) where
         low_levels = 0;
         left = index_at b head;
         low = no_node;
-        stands = record { has = has.index.has_nodes; fits = has.fits; blocks = has.blocks };
-        low_stands = record { has = tt; fits = tt; blocks = tt };
+        stands = index_stands b head has;
+        low_stands = record { has = tt; orderly = tt; blocks = tt };
         link_is = has.index.link_is;
         lower_is = refl;
         ended = λ z. refl;

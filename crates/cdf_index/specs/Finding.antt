@@ -2,7 +2,7 @@
 use Rattle.std.specs.Prelude.{◌≡◌, ◌≤◌, ◌<◌, ℕ, ◌+◌, ◌*◌, List, [], length, true}
 use Rattle.cdf_model.specs.Limits.{record_number_limit}
 use Rattle.cdf_format.specs.Sound.{NodeFits}
-use Rattle.cdf_format.specs.Fields.{size_at}
+use Rattle.cdf_format.specs.Fields.{size_at, word}
 use Rattle.cdf_format.specs.Index.{Nodes, Leaf, nodes_of, leaves_of, link_to, room_at, used_count}
 use Rattle.cdf_format.specs.IndexOf.{IsNode, HasNodes, IsIndex}
 use Rattle.cdf_format.specs.IndexRules.{is_block}
@@ -18,10 +18,30 @@ index_at b head = nodes_met (levels_on 8 b (tiles b) [] 0 head)
 abbrev pub IsBlock : List ℕ → Leaf → Type 0
 IsBlock b l = is_block b (tiles b) l.place ≡ true
 
--- nodes stand in the image, their records are long enough, and their leaves are blocks
+-- First or Last of the entry with a number, by where this field of the first entry stands in a node
+abbrev pub in_column : List ℕ → ℕ → ℕ → ℕ → ℕ
+in_column b at field i = word b (at + (field + 4 * i)) 4
+
+-- the first so many of these numbers ascend
+abbrev pub Ascends : List ℕ → ℕ → ℕ → ℕ → Type 0
+Ascends b at field used = (i : ℕ) → i + 1 < used → in_column b at field i ≤ in_column b at field (i + 1)
+
+-- the first i of them are below a bound, and the one behind these is not
+pub record IsCut (b : List ℕ) (at field used bound i : ℕ) : Type 0 where
+  pub before : (j : ℕ) → j < i → in_column b at field j < bound
+  pub most : i ≤ used
+  pub stop : i < used → bound ≤ in_column b at field i
+
+-- the record of a node is long enough, and its used entries ascend
+pub record IsOrderly (b : List ℕ) (at : ℕ) : Type 0 where
+  pub fits : NodeFits b at
+  pub firsts : Ascends b at 28 (used_count b at)
+  pub lasts : Ascends b at (28 + 4 * room_at b at) (used_count b at)
+
+-- nodes stand in the image, each is orderly, and their leaves are blocks
 pub record Stands (b : List ℕ) (levels : ℕ) (nodes : Nodes) : Type 0 where
   pub has : HasNodes b (tiles b) levels nodes
-  pub fits : Each (NodeFits b) (nodes_of nodes)
+  pub orderly : Each (IsOrderly b) (nodes_of nodes)
   pub blocks : Each (IsBlock b) (leaves_of nodes)
 
 -- an index, in order

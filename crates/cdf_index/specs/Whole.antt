@@ -3,9 +3,8 @@ use Rattle.std.specs.Prelude.{◌≡◌, ◌≤◌, ℕ, List, [], ◌∷◌, �
 use Rattle.cdf_format.specs.Index.{Nodes, no_node, node, Entries, no_entry, block, lower, Leaf, nodes_of, lower_nodes, entry_leaves, entry_count, link_to, used_count}
 use Rattle.cdf_format.specs.IndexOf.{SayEntries, Names}
 use Rattle.cdf_format.specs.Shape.{Each}
-use Rattle.cdf_format.specs.Sound.{NodeFits}
 use Rattle.cdf_format.specs.Tiles.{AreTiles, tiles}
-use Rattle.cdf_index.specs.Finding.{IsBlock, Stands}
+use Rattle.cdf_index.specs.Finding.{IsBlock, IsOrderly, Stands}
 use Rattle.cdf_index.specs.declared.entries.Entry.{Entry}
 
 unfoldable mutual
@@ -41,7 +40,7 @@ pub record EntriesStand (b : List ℕ) (at levels : ℕ) (entries : Entries) : T
   pub used_is : used_count b at ≡ entry_count entries
   pub say : SayEntries b at 0 entries
   pub names : Names b (tiles b) levels entries
-  pub fits : Each (NodeFits b) (lower_nodes entries)
+  pub orderly : Each (IsOrderly b) (lower_nodes entries)
   pub blocks : Each (IsBlock b) (entry_leaves entries)
 
 -- a chain begins at a link

@@ -10,8 +10,9 @@ ghost use Rattle.cdf_index.specs.Descent.{SomeTree, IsTree, IsAmong, SeesNode, S
 ghost use Rattle.cdf_index.specs.Finding.{index_at, HasIndex, SomeNode};
 ghost use Rattle.cdf_index.specs.Way.{way, spot};
 
-use crate::next::{entries_begun, lower_before};
+use crate::next::lower_before;
 use crate::nodes::{LEVELS, read_node};
+use crate::scanning::entries_begun;
 use cdf_area::{Area, AreaError};
 use cdf_records::Steps;
 use std::alloc::Global;

@@ -4,13 +4,14 @@ ghost use Rattle.std.specs.Prelude.{◌≡◌, ◌+◌, ◌≤◌, ℕ, length, 
 ghost use Rattle.std.specs.Option.{option_map};
 ghost use Rattle.cdf_area.specs.Calls.{Reads};
 ghost use Rattle.cdf_model.specs.Limits.{image_limit};
-ghost use Rattle.cdf_format.specs.Index.{Nodes, Entries, entry_count, nodes_of, leaves_of, link_to, used_count};
-ghost use Rattle.cdf_format.specs.IndexOf.{SayEntries, IsNode};
-ghost use Rattle.cdf_index.specs.Order.{leaf_of, passed, NextsAreZero};
+ghost use Rattle.cdf_format.specs.Index.{Nodes, nodes_of, leaves_of, link_to};
+ghost use Rattle.cdf_format.specs.IndexOf.{IsNode};
+ghost use Rattle.cdf_index.specs.Order.{leaf_of, NextsAreZero};
 ghost use Rattle.cdf_index.specs.Finding.{index_at, HasIndex, NodeInside, SomeNode, Stands};
 ghost use Rattle.cdf_index.specs.Sight.{IsHead, SightIs, seen};
 
 use crate::nodes::{Head, Leaf, read_node};
+use crate::scanning::entries_before;
 use cdf_area::{Area, AreaError};
 use cdf_format::fields::{CVVR_TYPE, RECORD_TYPE, VXR_FIRST, VXR_TYPE};
 use cdf_records::{Steps, read_unsigned4, read_unsigned8};
@@ -22,24 +23,6 @@ enum Sight {
     On { link: u64 },
     Found { leaf: Leaf },
     Nothing,
-}
-
-/// The number of the first entry of a node that ends at a record or later.
-fn entries_before<A: Area>(area: &mut A, at: u64, head: &Head, rec: u32) -> Result<u64, AreaError>
-    requires head { IsHead (A.image area.old) at head.now }
-    requires inside { NodeInside (A.image area.old) at }
-    requires short { length (A.image area.old) ≤ image_limit }
-    ensures passed { IfOk result (λ i. (entries : Entries) → used_count (A.image area.old) at ≡ entry_count entries → SayEntries (A.image area.old) at 0 entries → i ≡ passed rec entries) }
-    ensures most { IfOk result (λ i. i ≤ used_count (A.image area.old) at) }
-    ensures area { Reads A.image A.frame A.faults A.edited area.old area.new result }
-{
-    for i in 0..head.used {
-        let last = read_unsigned4(area, at + (VXR_FIRST + 4 * head.room + 4 * i))?;
-        if last >= rec {
-            return Ok(i);
-        }
-    }
-    Ok(head.used)
 }
 
 /// What a node tells of a record.

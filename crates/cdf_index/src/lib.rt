@@ -11,6 +11,7 @@ mod measuring;
 mod next;
 mod nodes;
 mod records;
+mod scanning;
 mod splitting;
 
 pub use collecting::{IndexParts, index_parts, index_records};

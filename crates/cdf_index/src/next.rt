@@ -5,12 +5,13 @@ ghost use Rattle.cdf_area.specs.Calls.{Reads};
 ghost use Rattle.cdf_format.specs.Index.{Nodes, nodes_of, used_count};
 ghost use Rattle.cdf_model.specs.Limits.{image_limit};
 ghost use Rattle.cdf_index.specs.Finding.{index_at, HasIndex, NodeInside, SomeNode};
-ghost use Rattle.cdf_index.specs.Ahead.{Begun, NamesIn, chain_before, IsWalk};
+ghost use Rattle.cdf_index.specs.Ahead.{NamesIn, chain_before, IsWalk};
 ghost use Rattle.cdf_index.specs.Next.{least_first_past};
 ghost use Rattle.cdf_index.specs.Order.{NextsAreZero};
 ghost use Rattle.cdf_index.specs.Sight.{IsHead};
 
 use crate::nodes::{Head, read_node};
+use crate::scanning::entries_begun;
 use cdf_area::{Area, AreaError};
 use cdf_format::fields::{RECORD_TYPE, VXR_FIRST, VXR_TYPE};
 use cdf_records::{Steps, read_unsigned4, read_unsigned8};
@@ -22,28 +23,6 @@ pub struct Walk {
     pub best: Option<u32>,
     pub at: u64,
     pub lower: u64,
-}
-
-/// How many of the first entries of a node begin at a record or before it.
-pub fn entries_begun<A: Area>(
-    area: &mut A,
-    at: u64,
-    head: &Head,
-    rec: u32,
-) -> Result<u64, AreaError>
-    requires head { IsHead (A.image area.old) at head.now }
-    requires inside { NodeInside (A.image area.old) at }
-    requires short { length (A.image area.old) ≤ image_limit }
-    ensures begun { IfOk result (Begun (A.image area.old) at rec) }
-    ensures area { Reads A.image A.frame A.faults A.edited area.old area.new result }
-{
-    for i in 0..head.used {
-        let first = read_unsigned4(area, at + (VXR_FIRST + 4 * i))?;
-        if rec < first {
-            return Ok(i);
-        }
-    }
-    Ok(head.used)
 }
 
 /// The lower chain that the entry before one names, 0 where it names a block; `lower` before the first.

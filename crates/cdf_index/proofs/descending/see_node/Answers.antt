@@ -2,13 +2,14 @@ use Rattle.std.proofs.Common.{ℕ, List, refl, sym, subst, ap, ◌∙◌}
 use Rattle.cdf_index.specs.Ahead.{Begun, NamesIn, chain_before}
 use Rattle.cdf_index.specs.Finding.{NodeInside}
 use Rattle.cdf_index.proofs.Looking.{names_in, node_inside}
+use Rattle.cdf_index.proofs.Searching.{node_now}
 use Rattle.cdf_index.proofs.descending.see_node.Goals as goal
 
 pub read_node-requires-clause-inside : goal.read_node-requires-clause-inside
 read_node-requires-clause-inside g c = node_inside (g.A.Area.image c.args.area.now) c.args.at c.requires.node
 
-pub entries_begun-requires-clause-inside : goal.entries_begun-requires-clause-inside
-entries_begun-requires-clause-inside g c = subst (λ (x : List ℕ). NodeInside x c.args.at) (sym c.in_ok-head.ensures.area.image) (node_inside (g.A.Area.image c.args.area.now) c.args.at c.requires.node)
+pub entries_begun-requires-clause-node : goal.entries_begun-requires-clause-node
+entries_begun-requires-clause-node g c = node_now (g.A.Area.image c.args.area.now) _ c.args.at c.in_ok-head.ensures.area.image c.requires.node
 
 pub lower_before-requires-clause-inside : goal.lower_before-requires-clause-inside
 lower_before-requires-clause-inside g c = subst (λ (x : List ℕ). NodeInside x c.args.at) (sym (c.in_ok-begun.ensures.area.image ∙ c.in_ok-head.ensures.area.image)) (node_inside (g.A.Area.image c.args.area.now) c.args.at c.requires.node)

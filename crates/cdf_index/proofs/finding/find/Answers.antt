@@ -1,7 +1,7 @@
-use Rattle.std.proofs.Common.{arith, ◌∙◌, Some, None}
+use Rattle.std.proofs.Common.{rules, arith, ◌∙◌, Some, None}
 use Rattle.cdf_area.proofs.Calls.{read_more}
 use Rattle.cdf_index.specs.Sight.{seen}
-use Rattle.cdf_index.proofs.Searching.{some_node, cost, cost_zero, goes_on, answer, none_left, over, inside_now, node_now, told_now, onward_now}
+use Rattle.cdf_index.proofs.Searching.{at_start, some_node, cost, cost_zero, goes_on, answer, none_left, over, inside_now, node_now, told_now, onward_now}
 use Rattle.cdf_index.proofs.finding.find.Goals as goal
 
 pub returns-then-at-eq0-clause-value : goal.returns-then-at-eq0-clause-value
@@ -105,6 +105,9 @@ returns-in-Nothing-clause-levels g c = λ z.
     let s = i.steps in
     let t = c.read_node.ensures.step in
     omega arith)
+
+pub loop-turn-init : goal.loop-turn-init
+loop-turn-init g c = record { at = at_start (g.A.Area.image c.args.area.now) c.args.head c.args.rec c.requires.index; area = search rules; steps = omega arith }
 
 pub loop-turn-preserved : goal.loop-turn-preserved
 loop-turn-preserved g c =

@@ -4,7 +4,8 @@ use Rattle.cdf_format.specs.Index.{Nodes, link_to}
 use Rattle.cdf_index.specs.Finding.{index_at, Stands}
 use Rattle.cdf_index.specs.Sizes.{block_counted, node_counted, size_of}
 use Rattle.cdf_index.specs.Whole.{through}
-use Rattle.cdf_index.proofs.ChainWalk.{whole_chain, whole_stands}
+use Rattle.cdf_index.proofs.Ascending.{index_stands}
+use Rattle.cdf_index.proofs.ChainWalk.{whole_chain}
 use Rattle.cdf_index.proofs.Measured.{empty, measured_is}
 use Rattle.cdf_index.proofs.measuring.index_size.Goals as goal
 
@@ -16,4 +17,4 @@ returns-clause-value g c =
     let b = g.A.Area.image c.args.area.now in
     let nodes = index_at b c.args.head in
     IfOk-weaker c.measure.result (λ measured. (chain : Nodes) → Stands b 8 chain → c.args.head ≡ link_to chain → measured ≡ through node_counted block_counted empty chain) (λ size. size ≡ size_of nodes)
-    (λ measured told. measured_is b c.args.head c.requires.index c.requires.short measured (told nodes (whole_stands b c.args.head c.requires.index) c.requires.index.index.link_is)) c.measure.ensures.size
+    (λ measured told. measured_is b c.args.head c.requires.index c.requires.short measured (told nodes (index_stands b c.args.head c.requires.index) c.requires.index.index.link_is)) c.measure.ensures.size

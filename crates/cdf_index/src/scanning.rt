@@ -1,0 +1,86 @@
+//! How many of the entries of a node come before a record. They are in order, so the last one is looked at first, and then one in the middle of those that are left.
+
+ghost use Rattle.std.specs.Prelude.{◌≡◌, ◌+◌, ◌*◌, ◌≤◌, length, IfOk};
+ghost use Rattle.cdf_area.specs.Calls.{Reads};
+ghost use Rattle.cdf_model.specs.Limits.{image_limit};
+ghost use Rattle.cdf_format.specs.Index.{Entries, entry_count, used_count};
+ghost use Rattle.cdf_format.specs.IndexOf.{SayEntries};
+ghost use Rattle.cdf_index.specs.Ahead.{Begun};
+ghost use Rattle.cdf_index.specs.Finding.{Ascends, IsCut, SomeNode};
+ghost use Rattle.cdf_index.specs.Order.{passed};
+ghost use Rattle.cdf_index.specs.Sight.{IsHead};
+
+use crate::nodes::Head;
+use cdf_area::{Area, AreaError};
+use cdf_format::fields::VXR_FIRST;
+use cdf_records::read_unsigned4;
+
+/// How many of the first numbers of a column of a node are below a bound.
+fn count_below<A: Area>(
+    area: &mut A,
+    at: u64,
+    field: u64,
+    used: u64,
+    bound: u64,
+) -> Result<u64, AreaError>
+    requires inside { at + (field + 4 * used) ≤ length (A.image area.old) }
+    requires ascends { Ascends (A.image area.old) at field used }
+    requires short { length (A.image area.old) ≤ image_limit }
+    ensures cut { IfOk result (IsCut (A.image area.old) at field used bound) }
+    ensures area { Reads A.image A.frame A.faults A.edited area.old area.new result }
+{
+    let mut low = 0;
+    let mut high = used;
+    let mut middle = used.saturating_sub(1);
+    while low < high {
+        let number = read_unsigned4(area, at + (field + 4 * middle))?;
+        if u64::from(number) < bound {
+            low = middle + 1;
+        } else {
+            high = middle;
+        }
+        middle = low + (high - low) / 2;
+    }
+    Ok(low)
+}
+
+/// The number of the first entry of a node that ends at a record or later.
+pub fn entries_before<A: Area>(
+    area: &mut A,
+    at: u64,
+    head: &Head,
+    rec: u32,
+) -> Result<u64, AreaError>
+    requires head { IsHead (A.image area.old) at head.now }
+    requires node { SomeNode (A.image area.old) at }
+    requires short { length (A.image area.old) ≤ image_limit }
+    ensures passed { IfOk result (λ i. (entries : Entries) → used_count (A.image area.old) at ≡ entry_count entries → SayEntries (A.image area.old) at 0 entries → i ≡ passed rec entries) }
+    ensures most { IfOk result (λ i. i ≤ used_count (A.image area.old) at) }
+    ensures area { Reads A.image A.frame A.faults A.edited area.old area.new result }
+{
+    let i = count_below(
+        area,
+        at,
+        VXR_FIRST + 4 * head.room,
+        head.used,
+        u64::from(rec),
+    )?;
+    Ok(i)
+}
+
+/// How many of the first entries of a node begin at a record or before it.
+pub fn entries_begun<A: Area>(
+    area: &mut A,
+    at: u64,
+    head: &Head,
+    rec: u32,
+) -> Result<u64, AreaError>
+    requires head { IsHead (A.image area.old) at head.now }
+    requires node { SomeNode (A.image area.old) at }
+    requires short { length (A.image area.old) ≤ image_limit }
+    ensures begun { IfOk result (Begun (A.image area.old) at rec) }
+    ensures area { Reads A.image A.frame A.faults A.edited area.old area.new result }
+{
+    let i = count_below(area, at, VXR_FIRST, head.used, u64::from(rec) + 1)?;
+    Ok(i)
+}
