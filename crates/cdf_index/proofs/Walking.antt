@@ -1,5 +1,5 @@
 -- The search for the next First, from node to node.
-use Rattle.std.proofs.Common.{◌≡◌, ◌≢◌, ℕ, zero, suc, ◌+◌, ◌<◌, ◌≤◌, List, ◌++◌, length, true, false, ltb, eqb, leb, append-nil, refl, sym, ap, subst, ◌∙◌, arith, Some, None}
+use Rattle.std.proofs.Common.{◌≡◌, ◌≢◌, ℕ, zero, suc, ◌+◌, ◌<◌, ◌≤◌, List, ◌++◌, length, true, false, ltb, eqb, leb, append-nil, refl, sym, ap, subst, ◌∙◌, arith, Option, Some, None}
 use Rattle.std.proofs.lemmas.Bool.Decides.{nat_tests}
 use Rattle.std.proofs.lemmas.List.{length-append}
 use Rattle.cdf_edits.specs.Index.Blocks.{firsts_of, entry_firsts, next_first}
@@ -295,80 +295,61 @@ module _ (b : List ℕ) (rec : ℕ) (nodes : Nodes) (turn : ℕ) (walk : Walk) (
   turned : walk.at ≢ 0 → Begun b walk.at rec i → Turned b rec nodes turn w.best walk.at walk.lower i
   turned some g = turned_left w.levels w.left w.link_is some w.stands w.order w.same w.fewer w.zero g
 
-  -- an entry past the record: what stands below the one before it is left
+  -- what stands below the last entry passed is left
+  walk_down : (t : Turned b rec nodes turn w.best walk.at walk.lower i) (shown : Option ℕ) (best under : ℕ) → shown ≡ number_within best → under ≡ chain_before b walk.at walk.lower i → t.upto ≤ best → least_from rec best (firsts_of t.low) ≡ value
+      → IsWalk b rec nodes (turn + 1) (record { best = shown; at = under; lower = 0 })
+  unfolding nodes_of firsts_of InOrder HasNodes leaves_of
+  walk_down t shown best under shows le past same =
+      let most = t.most in
+      let lm = t.low_most in
+      record {
+        levels = t.levels;
+        low_levels = 0;
+        left = t.low;
+        low = no_node;
+        stands = t.stands;
+        low_stands = record { has = tt; orderly = tt; blocks = tt };
+        link_is = le ∙ t.chain;
+        lower_is = refl;
+        ended = λ z. refl;
+        from = 0;
+        upto = 0;
+        middle = t.from;
+        high = t.upto;
+        low_order = tt;
+        order = t.low_order;
+        ascends = omega arith;
+        low_most = omega arith;
+        most = omega arith;
+        best = best;
+        best_is = shows;
+        past = past;
+        same = same;
+        fewer = let f = t.fewer in omega arith;
+        zero = λ z. (let y = t.zero z in (y.0, refl, y.2));
+      }
+
+  -- an entry past the record
   pub walk_decided : walk.at ≢ 0 → Begun b walk.at rec i → i < used_count b walk.at → (first under : ℕ) → first ≡ first_at b walk.at i → under ≡ chain_before b walk.at walk.lower i
       → IsWalk b rec nodes (turn + 1) (record { best = Some first; at = under; lower = 0 })
-  unfolding nodes_of firsts_of InOrder HasNodes leaves_of
   walk_decided some g lt first under fe le =
       let t = turned some g in
       let below = t.below lt in
       let within = t.within lt in
       let most = t.most in
-      let lm = t.low_most in
       let y : leb first record_number_limit ≡ true = grind (arith, nat_tests) in
-      record {
-        levels = t.levels;
-        low_levels = 0;
-        left = t.low;
-        low = no_node;
-        stands = t.stands;
-        low_stands = record { has = tt; orderly = tt; blocks = tt };
-        link_is = le ∙ t.chain;
-        lower_is = refl;
-        ended = λ z. refl;
-        from = 0;
-        upto = 0;
-        middle = t.from;
-        high = t.upto;
-        low_order = tt;
-        order = t.low_order;
-        ascends = omega arith;
-        low_most = omega arith;
-        most = omega arith;
-        best = first;
-        best_is = rw y refl;
-        past = omega arith;
-        same = ap (λ (x : ℕ). least_from rec x (firsts_of t.low)) fe ∙ t.decided lt;
-        fewer = let f = t.fewer in omega arith;
-        zero = λ z. (let y = t.zero z in (y.0, refl, y.2));
-      }
+      walk_down t (Some first) first under (rw y refl) le (omega arith) (ap (λ (x : ℕ). least_from rec x (firsts_of t.low)) fe ∙ t.decided lt)
 
   -- the chain ended, and the walk goes on below
   pub walk_below : AreTiles b 8 (length b) (tiles b) → walk.at ≢ 0 → Begun b walk.at rec i → i ≡ used_count b walk.at → next_of b walk.at ≡ 0 → (under : ℕ) → under ≡ chain_before b walk.at walk.lower i
       → IsWalk b rec nodes (turn + 1) (record { best = walk.best; at = under; lower = 0 })
-  unfolding nodes_of firsts_of InOrder HasNodes leaves_of
+  unfolding firsts_of
   walk_below d some g e next under le =
       let t = turned some g in
       let none = none_of b t.more_levels t.more d t.more_stands (sym t.next_is ∙ next) in
-      let most = t.most in
       let lm = t.low_most in
       let past = t.past in
-      record {
-        levels = t.levels;
-        low_levels = 0;
-        left = t.low;
-        low = no_node;
-        stands = t.stands;
-        low_stands = record { has = tt; orderly = tt; blocks = tt };
-        link_is = le ∙ t.chain;
-        lower_is = refl;
-        ended = λ z. refl;
-        from = 0;
-        upto = 0;
-        middle = t.from;
-        high = t.upto;
-        low_order = tt;
-        order = t.low_order;
-        ascends = omega arith;
-        low_most = omega arith;
-        most = omega arith;
-        best = w.best;
-        best_is = w.best_is;
-        past = omega arith;
-        same = ap (least_from rec w.best) (sym (append-nil (firsts_of t.low))) ∙ ap (λ (x : Nodes). least_from rec w.best (firsts_of t.low ++ firsts_of x)) (sym none) ∙ t.passed e;
-        fewer = let f = t.fewer in omega arith;
-        zero = λ z. (let y = t.zero z in (y.0, refl, y.2));
-      }
+      walk_down t walk.best w.best under w.best_is le (omega arith) (ap (least_from rec w.best) (sym (append-nil (firsts_of t.low))) ∙ ap (λ (x : Nodes). least_from rec w.best (firsts_of t.low ++ firsts_of x)) (sym none) ∙ t.passed e)
 
   -- the walk goes on along the chain
   pub walk_along : walk.at ≢ 0 → Begun b walk.at rec i → i ≡ used_count b walk.at → (next under : ℕ) → next ≡ next_of b walk.at → next ≢ 0 → under ≡ chain_before b walk.at walk.lower i
