@@ -1,6 +1,5 @@
 -- The way down to the place of a new entry, along each chain and from level to level.
 use Rattle.std.proofs.Common.{◌≡◌, ◌≢◌, ◌⊎◌, ℕ, zero, suc, ◌+◌, ◌-◌, ◌<◌, ◌≤◌, List, [], ◌∷◌, length, Bool, true, false, not, eqb, refl, sym, ap, subst, ◌∙◌, arith, inl, inr}
-use Rattle.std.proofs.lemmas.Bool.Decides.{nat_tests}
 use Rattle.std.proofs.lemmas.List.{length-append}
 use Rattle.cdf_edits.specs.Index.Grown.{reaches, chain_reaches, leads_down}
 use Rattle.cdf_format.specs.Index.{Nodes, no_node, node, Entries, no_entry, block, lower, nodes_of, lower_nodes, leaves_of, entry_leaves, entry_count, link_to, used_count, first_at}
@@ -354,14 +353,10 @@ few b levels nodes tiled t =
 pub spot_never : (b : List ℕ) (f turn levels : ℕ) (nodes : Nodes) (best here : Spot) → AreTiles b 8 (length b) (tiles b) → IsTree b levels nodes → ChainAt b f turn levels nodes best here → length b ≤ turn → ⊥
 spot_never b f turn levels nodes best here tiled t c le = let n = few b levels nodes tiled t in let l = c.left in absurd (omega arith)
 
-pub better_chain : (b : List ℕ) (f turn levels : ℕ) (nodes : Nodes) (best here next best' : Spot) → AreTiles b 8 (length b) (tiles b) → ChainAt b f turn levels nodes best here → here.next ≢ 0 → SeesNode b here.next f next → (0 < next.begun → best' ≡ next) → (next.begun ≡ 0 → best' ≡ best) → ChainAt b f (turn + 1) levels nodes best' next
-better_chain b f turn levels nodes best here next best' tiled c some s taken kept = elim (either (eqb next.begun 0)) [
-  | inl e ↦ let z : next.begun ≡ 0 = zero_of next.begun e in subst (λ (x : Spot). ChainAt b f (turn + 1) levels nodes x next) (sym (kept z)) (chain_passed b f turn levels nodes best here next tiled c some s z)
-  | inr e ↦ let lt : 0 < next.begun = some_of next.begun e in subst (λ (x : Spot). ChainAt b f (turn + 1) levels nodes x next) (sym (taken lt)) (chain_taken b f turn levels nodes best here next tiled c some s lt)
-]
-  where
-    zero_of : (n : ℕ) → eqb n 0 ≡ true → n ≡ 0
-    zero_of n t = grind (arith, nat_tests)
+-- what holds of the node that is met now, where it has such an entry, and else of the best one so far
+pub better_of : {S : Type 0} (P : S → Type 0) {best next best' : S} (begun : ℕ) → (0 < begun → best' ≡ next) → (begun ≡ 0 → best' ≡ best) → (0 < begun → P next) → (begun ≡ 0 → P best) → P best'
+better_of P zero taken kept n o = subst P (sym (kept refl)) (o refl)
+better_of P (suc k) taken kept n o = let lt : 0 < suc k = omega arith in subst P (sym (taken lt)) (n lt)
 
-    some_of : (n : ℕ) → eqb n 0 ≡ false → 0 < n
-    some_of n t = grind (arith, nat_tests)
+pub better_chain : (b : List ℕ) (f turn levels : ℕ) (nodes : Nodes) (best here next best' : Spot) → AreTiles b 8 (length b) (tiles b) → ChainAt b f turn levels nodes best here → here.next ≢ 0 → SeesNode b here.next f next → (0 < next.begun → best' ≡ next) → (next.begun ≡ 0 → best' ≡ best) → ChainAt b f (turn + 1) levels nodes best' next
+better_chain b f turn levels nodes best here next best' tiled c some s taken kept = better_of (λ (x : Spot). ChainAt b f (turn + 1) levels nodes x next) next.begun taken kept (chain_taken b f turn levels nodes best here next tiled c some s) (chain_passed b f turn levels nodes best here next tiled c some s)

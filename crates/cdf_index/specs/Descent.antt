@@ -10,6 +10,7 @@ use Rattle.cdf_index.specs.Order.{InOrder}
 use Rattle.cdf_index.specs.Way.{way, spot}
 use Rattle.cdf_index.specs.declared.descending.Spot.{Spot}
 use Rattle.cdf_index.specs.declared.descending.Step.{Step}
+use Rattle.cdf_index.specs.declared.descending.Stop.{Stop}
 
 -- a chain of nodes with all that is below it, in order
 pub record IsTree (b : List ℕ) (levels : ℕ) (nodes : Nodes) : Type 0 where
@@ -36,6 +37,10 @@ pub record SeesNode (b : List ℕ) (at first : ℕ) (seen : Spot) : Type 0 where
   pub next_is : seen.next ≡ next_of b at
   pub begun : Begun b at first seen.begun
   pub lower_is : seen.lower ≡ chain_before b at 0 seen.begun
+
+-- a node as it was met, with the lower chain that it leads on to
+abbrev pub spot_at : List ℕ → Stop → Spot
+spot_at b stop = record { place = stop.place; room = stop.head.room; used = stop.head.used; next = stop.head.next; begun = stop.begun; lower = chain_before b stop.place 0 stop.begun }
 
 abbrev pub step_pair : Step → ℕ × ℕ
 step_pair step = (step.place, step.entry)

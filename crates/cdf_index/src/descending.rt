@@ -6,19 +6,27 @@ ghost use Rattle.cdf_format.specs.Index.{Nodes, nodes_of, link_to};
 ghost use Rattle.cdf_format.specs.Shape.{Each};
 ghost use Rattle.cdf_format.specs.Tiles.{In};
 ghost use Rattle.cdf_model.specs.Limits.{image_limit};
-ghost use Rattle.cdf_index.specs.Descent.{SomeTree, IsTree, IsAmong, SeesNode, SpotIs, StepSays, step_pair};
+ghost use Rattle.cdf_index.specs.Descent.{SomeTree, IsTree, IsAmong, SeesNode, SpotIs, StepSays, spot_at, step_pair};
 ghost use Rattle.cdf_index.specs.Finding.{index_at, HasIndex, SomeNode};
 ghost use Rattle.cdf_index.specs.Way.{way, spot};
 
 use crate::next::lower_before;
-use crate::nodes::{LEVELS, read_node};
+use crate::nodes::{Head, LEVELS, read_node};
 use crate::scanning::entries_begun;
 use cdf_area::{Area, AreaError};
 use cdf_records::Steps;
 use std::alloc::Global;
 use std::sync::ledger::Ledger;
 
-/// A node as it is met on the way: how many entries it has room for and uses, the next node, how many of its entries begin at a record or before it, and the lower chain that the last of these names, 0 for none.
+/// A node as it is met along a chain, and how many of its entries begin at a record or before it.
+#[derive(Clone, Copy)]
+struct Stop {
+    place: u64,
+    head: Head,
+    begun: u64,
+}
+
+/// A node on the way: how many entries it has room for and uses, the next node, how many of its entries begin at a record or before it, and the lower chain that the last of these names, 0 for none.
 #[derive(Clone, Copy)]
 pub struct Spot {
     pub place: u64,
@@ -50,35 +58,31 @@ fn see_node<A: Area, L: Ledger>(
     at: u64,
     first: u32,
     steps: &mut Steps<L>,
-) -> Result<Spot, AreaError>
+) -> Result<Stop, AreaError>
     requires node { SomeNode (A.image area.old) at }
     requires short { length (A.image area.old) ≤ image_limit }
-    ensures sees { IfOk result (SeesNode (A.image area.old) at first) }
+    ensures sees { IfOk result (λ stop. SeesNode (A.image area.old) at first (spot_at (A.image area.old) stop)) }
     ensures area { Reads A.image A.frame A.faults A.edited area.old area.new result }
 {
     let head = read_node(area, at, steps)?;
     let begun = entries_begun(area, at, &head, first)?;
-    let lower = lower_before(area, at, &head, begun, 0)?;
-    Ok(Spot {
+    Ok(Stop {
         place: at,
-        room: head.room,
-        used: head.used,
-        next: head.next,
+        head,
         begun,
-        lower,
     })
 }
 
 /// Whether no later node of a chain has an entry that begins at the record or before it.
-fn ends_search(here: Spot) -> bool
-    ensures ends { result ≡ true → (here.begun < here.used) ⊎ (here.next ≡ 0) }
-    ensures goes_on { result ≡ false → here.next ≢ 0 }
+fn ends_search(here: Stop) -> bool
+    ensures ends { result ≡ true → (here.begun < here.head.used) ⊎ (here.head.next ≡ 0) }
+    ensures goes_on { result ≡ false → here.head.next ≢ 0 }
 {
-    here.begun < here.used || here.next == 0
+    here.begun < here.head.used || here.head.next == 0
 }
 
 /// The one met now, if it has such an entry, else the best one so far.
-fn better(best: Spot, here: Spot) -> Spot
+fn better(best: Stop, here: Stop) -> Stop
     ensures taken { 0 < here.begun → result ≡ here }
     ensures kept { here.begun ≡ 0 → result ≡ best }
 {
@@ -86,6 +90,32 @@ fn better(best: Spot, here: Spot) -> Spot
 }
 
 /// The last node of a chain that has an entry which begins at a record or before it, or else the first node.
+fn stop_of_chain<A: Area, L: Ledger>(
+    area: &mut A,
+    at: u64,
+    first: u32,
+    steps: &mut Steps<L>,
+) -> Result<Stop, AreaError>
+    requires tree { SomeTree (A.image area.old) at }
+    requires short { length (A.image area.old) ≤ image_limit }
+    ensures node { IfOk result (λ stop. SomeNode (A.image area.old) stop.place) }
+    ensures spot { IfOk result (λ stop. (levels : ℕ) (nodes : Nodes) → IsTree (A.image area.old) levels nodes → at ≡ link_to nodes → SpotIs (A.image area.old) first levels nodes (spot_at (A.image area.old) stop)) }
+    ensures area { Reads A.image A.frame A.faults A.edited area.old area.new result }
+{
+    let mut here = see_node(area, at, first, steps)?;
+    let mut best = here;
+    for turn in 0..area.size() {
+        if ends_search(here) {
+            return Ok(best);
+        }
+        let next = see_node(area, here.head.next, first, steps)?;
+        best = better(best, next);
+        here = next;
+    }
+    Ok(best)
+}
+
+/// The same with the lower chain that it leads on to.
 fn spot_of_chain<A: Area, L: Ledger>(
     area: &mut A,
     at: u64,
@@ -97,17 +127,16 @@ fn spot_of_chain<A: Area, L: Ledger>(
     ensures spot { IfOk result (λ spot. (levels : ℕ) (nodes : Nodes) → IsTree (A.image area.old) levels nodes → at ≡ link_to nodes → SpotIs (A.image area.old) first levels nodes spot) }
     ensures area { Reads A.image A.frame A.faults A.edited area.old area.new result }
 {
-    let mut here = see_node(area, at, first, steps)?;
-    let mut best = here;
-    for turn in 0..area.size() {
-        if ends_search(here) {
-            return Ok(best);
-        }
-        let next = see_node(area, here.next, first, steps)?;
-        best = better(best, next);
-        here = next;
-    }
-    Ok(best)
+    let stop = stop_of_chain(area, at, first, steps)?;
+    let lower = lower_before(area, stop.place, &stop.head, stop.begun, 0)?;
+    Ok(Spot {
+        place: stop.place,
+        room: stop.head.room,
+        used: stop.head.used,
+        next: stop.head.next,
+        begun: stop.begun,
+        lower,
+    })
 }
 
 /// The way that an index leads down to the node that gets a new entry.

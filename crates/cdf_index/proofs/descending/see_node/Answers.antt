@@ -1,7 +1,6 @@
-use Rattle.std.proofs.Common.{ℕ, List, refl, sym, subst, ap, ◌∙◌}
-use Rattle.cdf_index.specs.Ahead.{Begun, NamesIn, chain_before}
-use Rattle.cdf_index.specs.Finding.{NodeInside}
-use Rattle.cdf_index.proofs.Looking.{names_in, node_inside}
+use Rattle.std.proofs.Common.{ℕ, List, refl, subst}
+use Rattle.cdf_index.specs.Ahead.{Begun}
+use Rattle.cdf_index.proofs.Looking.{node_inside}
 use Rattle.cdf_index.proofs.Searching.{node_now}
 use Rattle.cdf_index.proofs.descending.see_node.Goals as goal
 
@@ -11,12 +10,6 @@ read_node-requires-clause-inside g c = node_inside (g.A.Area.image c.args.area.n
 pub entries_begun-requires-clause-node : goal.entries_begun-requires-clause-node
 entries_begun-requires-clause-node g c = node_now (g.A.Area.image c.args.area.now) _ c.args.at c.in_ok-head.ensures.area.image c.requires.node
 
-pub lower_before-requires-clause-inside : goal.lower_before-requires-clause-inside
-lower_before-requires-clause-inside g c = subst (λ (x : List ℕ). NodeInside x c.args.at) (sym (c.in_ok-begun.ensures.area.image ∙ c.in_ok-head.ensures.area.image)) (node_inside (g.A.Area.image c.args.area.now) c.args.at c.requires.node)
-
-pub lower_before-requires-clause-names : goal.lower_before-requires-clause-names
-lower_before-requires-clause-names g c = subst (λ (x : List ℕ). NamesIn x c.args.at) (sym (c.in_ok-begun.ensures.area.image ∙ c.in_ok-head.ensures.area.image)) (names_in (g.A.Area.image c.args.area.now) c.args.at c.requires.node)
-
 pub returns-clause-sees : goal.returns-clause-sees
 returns-clause-sees g c = record {
   place_is = refl;
@@ -24,5 +17,5 @@ returns-clause-sees g c = record {
   used_is = c.in_ok-head.ensures.head.used_is;
   next_is = c.in_ok-head.ensures.head.next_is;
   begun = subst (λ (x : List ℕ). Begun x c.args.at c.args.first c.in_ok-begun.begun) c.in_ok-head.ensures.area.image c.in_ok-begun.ensures.begun;
-  lower_is = c.in_ok-lower.ensures.chain ∙ ap (λ (x : List ℕ). chain_before x c.args.at 0 c.in_ok-begun.begun) (c.in_ok-begun.ensures.area.image ∙ c.in_ok-head.ensures.area.image);
+  lower_is = refl;
 }

@@ -1,47 +1,34 @@
-use Rattle.std.proofs.Common.{ℕ, List, length, sym, subst, ap, arith}
-use Rattle.cdf_area.proofs.Calls.{read_more, read_once}
-use Rattle.cdf_index.specs.Descent.{SeesNode}
-use Rattle.cdf_index.specs.Finding.{SomeNode}
-use Rattle.cdf_index.proofs.GoingDown.{chain_start, spot_found, next_tree, better_chain, spot_never}
-use Rattle.cdf_index.proofs.LevelsDown.{some_node}
+use Rattle.std.proofs.Common.{◌≡◌, ◌≤◌, ℕ, List, refl, sym, subst, ap, ◌∙◌}
+use Rattle.cdf_format.specs.Index.{used_count}
+use Rattle.cdf_index.specs.Ahead.{NamesIn, chain_before}
+use Rattle.cdf_index.specs.Descent.{SpotIs, spot_at}
+use Rattle.cdf_index.specs.Sight.{IsHead}
+use Rattle.cdf_index.proofs.Looking.{names_in}
+use Rattle.cdf_index.proofs.Searching.{inside_now}
 use Rattle.cdf_index.proofs.descending.spot_of_chain.Goals as goal
 
-pub see_node-requires-clause-node : goal.see_node-requires-clause-node
-see_node-requires-clause-node g c = some_node (g.A.Area.image c.args.area.now) c.args.at c.requires.tree
+pub lower_before-requires-clause-inside : goal.lower_before-requires-clause-inside
+lower_before-requires-clause-inside g c = inside_now (g.A.Area.image c.args.area.now) _ c.in_ok-stop.stop.place c.in_ok-stop.ensures.area.image c.in_ok-stop.ensures.node
 
-pub loop-turn-init : goal.loop-turn-init
-loop-turn-init g c = record {
-  chain = λ levels nodes t e. chain_start (g.A.Area.image c.args.area.now) c.args.first c.args.at levels nodes c.in_ok-here.here c.requires.tree.tiled t e c.in_ok-here.ensures.sees;
-  area = read_once c.in_ok-here.ensures.area;
-}
+pub lower_before-requires-clause-names : goal.lower_before-requires-clause-names
+lower_before-requires-clause-names g c = subst (λ (x : List ℕ). NamesIn x c.in_ok-stop.stop.place) (sym c.in_ok-stop.ensures.area.image) (names_in (g.A.Area.image c.args.area.now) c.in_ok-stop.stop.place c.in_ok-stop.ensures.node)
 
-pub see_node-requires-in-loop-turn-clause-node : goal.see_node-requires-in-loop-turn-clause-node
-see_node-requires-in-loop-turn-clause-node g c =
-    let b = g.A.Area.image c.args.area.now in
-    let i = c.loop-turn.invariant in
+pub lower_before-requires-clause-head : goal.lower_before-requires-clause-head
+lower_before-requires-clause-head g c =
     let t = c.requires.tree in
-    subst (λ (x : List ℕ). SomeNode x c.loop-turn.here.next) (sym i.area.image) (next_tree b c.args.first c.loop-turn.turn t.levels t.nodes c.loop-turn.best c.loop-turn.here t.tiled (i.chain t.levels t.nodes t.tree t.link) (c.ends_search.ensures.goes_on c.if-ends_search.false))
+    let sees = (c.in_ok-stop.ensures.spot t.levels t.nodes t.tree t.link).sees in
+    subst (λ (x : List ℕ). IsHead x c.in_ok-stop.stop.place c.in_ok-stop.stop.head) (sym c.in_ok-stop.ensures.area.image) (record { room_is = sees.room_is; used_is = sees.used_is; next_is = sees.next_is })
 
-pub loop-turn-preserved : goal.loop-turn-preserved
-loop-turn-preserved g c =
-    let b = g.A.Area.image c.args.area.now in
-    let i = c.loop-turn.invariant in
+pub lower_before-requires-clause-used : goal.lower_before-requires-clause-used
+lower_before-requires-clause-used g c =
     let t = c.requires.tree in
-    let sees = subst (λ (x : List ℕ). SeesNode x c.loop-turn.here.next c.args.first c.in_ok-next.next) i.area.image c.in_ok-next.ensures.sees in
-    record {
-      chain = λ levels nodes tree e. better_chain b c.args.first c.loop-turn.turn levels nodes c.loop-turn.best c.loop-turn.here c.in_ok-next.next c.better-best.result t.tiled (i.chain levels nodes tree e) (c.ends_search.ensures.goes_on c.if-ends_search.false) sees c.better-best.ensures.taken c.better-best.ensures.kept;
-      area = read_more i.area c.in_ok-next.ensures.area;
-    }
+    let sees = (c.in_ok-stop.ensures.spot t.levels t.nodes t.tree t.link).sees in
+    subst (λ (x : List ℕ). c.in_ok-stop.stop.begun ≤ used_count x c.in_ok-stop.stop.place) (sym c.in_ok-stop.ensures.area.image) sees.begun.most
 
 pub returns-clause-spot : goal.returns-clause-spot
 returns-clause-spot g c = λ levels nodes tree e.
-    (let i = c.loop-turn.invariant in
-    let over = c.loop-turn-test.false in
-    let size = c.size-turn-end.ensures in
-    let same = ap (λ (x : List ℕ). length x) c.in_ok-here.ensures.area.image in
-    absurd (spot_never (g.A.Area.image c.args.area.now) c.args.first c.loop-turn.turn levels nodes c.loop-turn.best c.loop-turn.here c.requires.tree.tiled tree (i.chain levels nodes tree e) (omega arith)))
-
-pub returns-then-ends_search-clause-spot : goal.returns-then-ends_search-clause-spot
-returns-then-ends_search-clause-spot g c = λ levels nodes tree e.
-    (let i = c.loop-turn.invariant in
-    spot_found (g.A.Area.image c.args.area.now) c.args.first c.loop-turn.turn levels nodes c.loop-turn.best c.loop-turn.here c.requires.tree.tiled (i.chain levels nodes tree e) (c.ends_search.ensures.ends c.if-ends_search.true))
+    (let b = g.A.Area.image c.args.area.now in
+    let stop = c.in_ok-stop.stop in
+    let chain : c.in_ok-lower.lower ≡ chain_before b stop.place 0 stop.begun = c.in_ok-lower.ensures.chain ∙ ap (λ (x : List ℕ). chain_before x stop.place 0 stop.begun) c.in_ok-stop.ensures.area.image in
+    let same : spot_at b stop ≡ record { place = stop.place; room = stop.head.room; used = stop.head.used; next = stop.head.next; begun = stop.begun; lower = c.in_ok-lower.lower } = rw chain refl in
+    subst (SpotIs b c.args.first levels nodes) same (c.in_ok-stop.ensures.spot levels nodes tree e))
