@@ -2,7 +2,7 @@
 
 ghost use Rattle.std.specs.Prelude.{◌≡◌, ◌≤◌, ℕ, length, IfOk};
 ghost use Rattle.cdf_area.specs.Calls.{Reads};
-ghost use Rattle.cdf_format.specs.Index.{Nodes, Entries, link_to, room_at, used_count};
+ghost use Rattle.cdf_format.specs.Index.{Nodes, Entries, link_to};
 ghost use Rattle.cdf_model.specs.Limits.{image_limit};
 ghost use Rattle.cdf_index.specs.Finding.{index_at, HasIndex, NodeInside, Stands};
 ghost use Rattle.cdf_index.specs.Sight.{IsHead};

@@ -1,6 +1,6 @@
 //! The nodes of an index, read.
 
-ghost use Rattle.std.specs.Prelude.{◌≡◌, ◌+◌, ◌-◌, ◌/◌, ◌≤◌, min, length, IfOk};
+ghost use Rattle.std.specs.Prelude.{◌≡◌, ◌+◌, ◌-◌, ◌/◌, ◌≤◌, ◌<◌, min, length, IfOk};
 ghost use Rattle.cdf_area.specs.Calls.{Reads};
 ghost use Rattle.cdf_model.specs.Limits.{image_limit};
 ghost use Rattle.cdf_format.specs.Fields.{counted};
@@ -8,9 +8,10 @@ ghost use Rattle.cdf_index.specs.Finding.{NodeInside};
 ghost use Rattle.cdf_index.specs.Sight.{IsHead};
 
 use cdf_area::{Area, AreaError};
-use cdf_format::fields::{RECORD_SIZE, VXR_FIRST, VXR_N_ENTRIES, VXR_N_USED_ENTRIES, VXR_VXR_NEXT};
-use cdf_records::{Steps, read_signed4, read_unsigned8, read_vxr};
-use std::sync::ledger::Ledger;
+use cdf_format::fields::VXR_FIRST;
+use cdf_records::{Steps, read_vxr};
+use std::marker::Brand;
+use std::sync::ledger::{Blank, Ledger};
 
 /// The bytes of First, Last and Offset of an entry.
 const ENTRY_SIZE: u64 = 16;
@@ -72,18 +73,26 @@ pub fn read_node<A: Area, L: Ledger>(
     })
 }
 
-/// The same without a step.
+/// The same with a step of a count of its own.
+fn read_counted<A: Area, L: Ledger>(area: &mut A, at: u64, blank: Blank) -> Result<Head, AreaError>
+    requires name { blank.name ≡ L.name }
+    requires parts { blank.parts ≡ L.parts }
+    requires some { 0 < L.parts }
+    requires inside { NodeInside (A.image area.old) at }
+    requires short { length (A.image area.old) ≤ image_limit }
+    ensures head { IfOk result (IsHead (A.image area.old) at) }
+    ensures area { Reads A.image A.frame A.faults A.edited area.old area.new result }
+{
+    let mut steps = Steps::<L>::new(blank);
+    read_node(area, at, &mut steps)
+}
+
+/// The same where no steps are counted.
 pub fn read_head<A: Area>(area: &mut A, at: u64) -> Result<Head, AreaError>
     requires inside { NodeInside (A.image area.old) at }
     requires short { length (A.image area.old) ≤ image_limit }
     ensures head { IfOk result (IsHead (A.image area.old) at) }
     ensures area { Reads A.image A.frame A.faults A.edited area.old area.new result }
 {
-    let size = read_unsigned8(area, at + RECORD_SIZE)?;
-    let next = read_unsigned8(area, at + VXR_VXR_NEXT)?;
-    let n_entries = read_signed4(area, at + VXR_N_ENTRIES)?;
-    let n_used_entries = read_signed4(area, at + VXR_N_USED_ENTRIES)?;
-    let room = count_of(n_entries);
-    let used = used_of(count_of(n_used_entries), room, size);
-    Ok(Head { room, used, next })
+    read_counted::<A, Brand>(area, at, Blank::new(1))
 }
