@@ -30,24 +30,30 @@ read_column b now at field i number e w = w ∙ ap (λ (x : List ℕ). word x (a
 pub below_too : (b : List ℕ) (at field used bound i number : ℕ) → Ascends b at field used → number ≡ in_column b at field i → number < bound → i < used → (j : ℕ) → j < i + 1 → in_column b at field j < bound
 below_too b at field used bound i number a e h lt j le = let r = climbs b at field used a j i (omega arith) lt in omega arith
 
--- the first i of so many entries from number k on end before a record, and the one behind them does not
-record Cuts (b : List ℕ) (at rec k i count : ℕ) : Type 0 where
-  before : (j : ℕ) → j < i → last_at b at (k + j) < rec
-  most : i ≤ count
-  stop : i < count → rec ≤ last_at b at (k + i)
+-- the first n of so many entries from number k on are one thing, and the one behind them is another
+pub record Parted (P Q : ℕ → Type 0) (k n count : ℕ) : Type 0 where
+  pub before : (j : ℕ) → j < n → P (k + j)
+  pub stop : n < count → Q (k + n)
+  pub most : n ≤ count
+
+pub parted_rest : (P Q : ℕ → Type 0) (k n count : ℕ) → Parted P Q k (suc n) (suc count) → Parted P Q (suc k) n count
+parted_rest P Q k n count p = record { before = λ j lt. subst P (shift j) (p.before (suc j) (omega arith)); stop = λ lt. subst Q (shift n) (p.stop (omega arith)); most = let m = p.most in omega arith }
+  where
+    shift : (j : ℕ) → k + suc j ≡ suc k + j
+    shift j = omega arith
+
+pub parted_all : (P Q : ℕ → Type 0) (n count : ℕ) → ((j : ℕ) → j < n → P j) → (n < count → Q n) → n ≤ count → Parted P Q 0 n count
+parted_all P Q n count before stop most = record { before = λ j lt. subst P (same j) (before j lt); stop = λ lt. subst Q (same n) (stop lt); most = most }
+  where
+    same : (j : ℕ) → j ≡ 0 + j
+    same j = omega arith
 
 module _ (b : List ℕ) (at rec : ℕ) where
-  cuts_rest : (k i count : ℕ) → Cuts b at rec k (suc i) (suc count) → Cuts b at rec (suc k) i count
-  cuts_rest k i count c = record {
-    before = λ j lt. subst (λ (x : ℕ). last_at b at x < rec) (shift k j) (c.before (suc j) (omega arith));
-    most = let m = c.most in omega arith;
-    stop = λ lt. subst (λ (x : ℕ). rec ≤ last_at b at x) (shift k i) (c.stop (omega arith));
-  }
-    where
-      shift : (k j : ℕ) → k + suc j ≡ suc k + j
-      shift k j = omega arith
+  -- the first i of so many entries from number k on end before the record
+  abbrev Cuts : ℕ → ℕ → ℕ → Type 0
+  Cuts k i count = Parted (λ j. last_at b at j < rec) (λ j. rec ≤ last_at b at j) k i count
 
-  one_more : (k i count last rest : ℕ) → last_at b at k ≡ last → Cuts b at rec k i (suc count) → ((m : ℕ) → i ≡ suc m → m ≡ rest) → i ≡ (if ltb last rec then suc rest else 0)
+  one_more : (k i count last rest : ℕ) → last_at b at k ≡ last → Cuts k i (suc count) → ((m : ℕ) → i ≡ suc m → m ≡ rest) → i ≡ (if ltb last rec then suc rest else 0)
   one_more k zero count last rest e c r =
       let z : k + 0 ≡ k = omega arith in
       let g = rw z at (c.stop (omega arith)) in
@@ -59,17 +65,19 @@ module _ (b : List ℕ) (at rec : ℕ) where
       let t : ltb last rec ≡ true = grind (arith, nat_tests) in
       rw t (ap suc (r i refl))
 
-  passed_is : (k i : ℕ) (es : Entries) → SayEntries b at k es → Cuts b at rec k i (entry_count es) → i ≡ passed rec es
+  rest : (k i m count : ℕ) → Cuts k i (suc count) → i ≡ suc m → Cuts (suc k) m count
+  rest k i m count c e = parted_rest (λ j. last_at b at j < rec) (λ j. rec ≤ last_at b at j) k m count (subst (λ (x : ℕ). Cuts k x (suc count)) e c)
+
+  passed_is : (k i : ℕ) (es : Entries) → SayEntries b at k es → Cuts k i (entry_count es) → i ≡ passed rec es
   passed_is k i no_entry s c = let m = c.most in omega arith
-  passed_is k i (block first last place packed es) s c = one_more k i (entry_count es) last (passed rec es) s.0.last_is c (λ m e. passed_is (suc k) m es s.1 (cuts_rest k m (entry_count es) (subst (λ (x : ℕ). Cuts b at rec k x (suc (entry_count es))) e c)))
-  passed_is k i (lower first last nodes es) s c = one_more k i (entry_count es) last (passed rec es) s.0.last_is c (λ m e. passed_is (suc k) m es s.1 (cuts_rest k m (entry_count es) (subst (λ (x : ℕ). Cuts b at rec k x (suc (entry_count es))) e c)))
+  passed_is k i (block first last place packed es) s c = one_more k i (entry_count es) last (passed rec es) s.0.last_is c (λ m e. passed_is (suc k) m es s.1 (rest k i m (entry_count es) c e))
+  passed_is k i (lower first last nodes es) s c = one_more k i (entry_count es) last (passed rec es) s.0.last_is c (λ m e. passed_is (suc k) m es s.1 (rest k i m (entry_count es) c e))
 
   pub passed_by : (room used bound i : ℕ) → room ≡ room_at b at → used ≡ used_count b at → bound ≡ rec → IsCut b at (28 + 4 * room) used bound i → (es : Entries) → used_count b at ≡ entry_count es → SayEntries b at 0 es → i ≡ passed rec es
-  passed_by room used bound i r u q c es e s = passed_is 0 i es s (record {
-    before = λ j lt. (let z : 0 + j ≡ j = omega arith in rw z (subst (λ (x : ℕ). in_column b at (28 + 4 * x) j < rec) r (let h = c.before j lt in omega arith)));
-    most = let m = c.most in omega arith;
-    stop = λ lt. (let z : 0 + i ≡ i = omega arith in rw z (subst (λ (x : ℕ). rec ≤ in_column b at (28 + 4 * x) i) r (let h = c.stop (omega arith) in omega arith)));
-  })
+  passed_by room used bound i r u q c es e s =
+      let here : IsCut b at (28 + 4 * room_at b at) used rec i = subst (λ (x : ℕ). IsCut b at (28 + 4 * room_at b at) used x i) q (subst (λ (x : ℕ). IsCut b at (28 + 4 * x) used bound i) r c) in
+      let most = here.most in
+      passed_is 0 i es s (parted_all (λ j. last_at b at j < rec) (λ j. rec ≤ last_at b at j) i (entry_count es) here.before (λ lt. here.stop (omega arith)) (omega arith))
 
 pub begun_by : (b : List ℕ) (at rec used bound i : ℕ) → used ≡ used_count b at → bound ≡ rec → IsCut b at 28 used (bound + 1) i → Begun b at rec i
 begun_by b at rec used bound i u q c = record {

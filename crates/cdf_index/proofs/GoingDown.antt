@@ -14,6 +14,7 @@ use Rattle.cdf_index.specs.Finding.{IsBlock, IsOrderly, SomeNode}
 use Rattle.cdf_index.specs.Order.{InOrder, AreInOrder, past_entries}
 use Rattle.cdf_index.specs.Way.{way, way_below, spot}
 use Rattle.cdf_index.specs.declared.descending.Spot.{Spot}
+use Rattle.cdf_index.proofs.EntriesCut.{parted_all}
 use Rattle.cdf_index.proofs.Leading.{Led, Leads, Passed, led, leads_none, chain_not_reached, test_zero}
 use Rattle.cdf_index.proofs.OrderLemmas.{end_after}
 use Rattle.cdf_index.proofs.WayDown.{nodes_stand, no_zero}
@@ -43,14 +44,7 @@ tree_parts b levels place room es more t =
     }
 
 passed_of : (b : List ℕ) (f at n : ℕ) (es : Entries) → used_count b at ≡ entry_count es → Begun b at f n → Passed b f at 0 n (entry_count es)
-passed_of b f at n es u g = record {
-  before = λ j lt. subst (λ (x : ℕ). first_at b at x ≤ f) (zero_more j) (g.before j lt);
-  stop = λ lt. subst (λ (x : ℕ). f < first_at b at x) (zero_more n) (g.stop (subst (λ (x : ℕ). n < x) (sym u) lt));
-  most = subst (λ (x : ℕ). n ≤ x) u g.most;
-}
-  where
-    zero_more : (j : ℕ) → j ≡ 0 + j
-    zero_more j = omega arith
+passed_of b f at n es u g = let most = g.most in parted_all (λ j. first_at b at j ≤ f) (λ j. f < first_at b at j) n (entry_count es) g.before (λ lt. g.stop (omega arith)) (omega arith)
 
 node_led : (b : List ℕ) (f levels place room n : ℕ) (es : Entries) (more : Nodes) → AreTiles b 8 (length b) (tiles b) → IsTree b (suc levels) (node place room es more) → Begun b place f n → Led b f levels place 0 n es
 unfolding HasNodes nodes_of leaves_of InOrder

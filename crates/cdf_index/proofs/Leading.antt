@@ -17,6 +17,7 @@ use Rattle.cdf_index.specs.Descent.{IsTree}
 use Rattle.cdf_index.specs.Finding.{IsBlock, IsOrderly}
 use Rattle.cdf_index.specs.Order.{InOrder, AreInOrder}
 use Rattle.cdf_index.specs.Way.{down_at, way, way_below, spot, spot_below}
+use Rattle.cdf_index.proofs.EntriesCut.{Parted, parted_rest}
 use Rattle.cdf_index.proofs.LeafMore.{reaches_from, chain_reaches_from}
 use Rattle.cdf_index.proofs.Looking.{block_type, no_node_type, node_linkable}
 use Rattle.cdf_index.proofs.Walking.{chain_is, no_chain}
@@ -68,20 +69,9 @@ pub record Stand (b : List ℕ) (levels at k low high : ℕ) (es : Entries) : Ty
   pub once : Distinct (lower_nodes es)
   pub order : AreInOrder low high es
 
-pub record Passed (b : List ℕ) (f at k n count : ℕ) : Type 0 where
-  pub before : (j : ℕ) → j < n → first_at b at (k + j) ≤ f
-  pub stop : n < count → f < first_at b at (k + n)
-  pub most : n ≤ count
-
-passed_rest : (b : List ℕ) (f at k m count : ℕ) → Passed b f at k (suc m) (suc count) → Passed b f at (suc k) m count
-passed_rest b f at k m count p = record {
-  before = λ j lt. subst (λ (x : ℕ). first_at b at x ≤ f) (shift k j) (p.before (suc j) (omega arith));
-  stop = λ lt. subst (λ (x : ℕ). f < first_at b at x) (shift k m) (p.stop (omega arith));
-  most = let m = p.most in omega arith;
-}
-  where
-    shift : (k j : ℕ) → k + suc j ≡ suc k + j
-    shift k j = omega arith
+-- the first n of so many entries from number k on begin at the record or before it
+abbrev pub Passed : List ℕ → ℕ → ℕ → ℕ → ℕ → ℕ → Type 0
+Passed b f at k n count = Parted (λ j. first_at b at j ≤ f) (λ j. f < first_at b at j) k n count
 
 module _ (b : List ℕ) (f levels at : ℕ) (tiled : AreTiles b 8 (length b) (tiles b)) where
   some_link : (nodes : Nodes) → IsNode nodes → HasNodes b (tiles b) levels nodes → link_to nodes ≢ 0
@@ -172,7 +162,7 @@ module _ (b : List ℕ) (f levels at : ℕ) (tiled : AreTiles b 8 (length b) (ti
       let z : k + 0 ≡ k = omega arith in
       let by = rw z at (p.before 0 (omega arith)) in
       let le : leb first f ≡ true = test_le first f (omega (arith, s.say.0.first_is)) in
-      let rest = led (suc k) m (suc last) high es (record { say = s.say.1; names = s.names.2; orderly = s.orderly; blocks = s.blocks.1; once = s.once; order = s.order.3 }) (passed_rest b f at k m (entry_count es) p) in
+      let rest = led (suc k) m (suc last) high es (record { say = s.say.1; names = s.names.2; orderly = s.orderly; blocks = s.blocks.1; once = s.once; order = s.order.3 }) (parted_rest (λ j. first_at b at j ≤ f) (λ j. f < first_at b at j) k m (entry_count es) p) in
       record { none = λ e. absurd (omega arith); some = λ j e. block_leads k m j first last place packed es le (block_chain k first last place packed s.blocks.0 s.say.0.offset_is) rest (omega arith) }
   led k zero low high (lower first last nodes es) s p =
       let z : k + 0 ≡ k = omega arith in
@@ -186,6 +176,6 @@ module _ (b : List ℕ) (f levels at : ℕ) (tiled : AreTiles b 8 (length b) (ti
       let le : leb first f ≡ true = test_le first f (omega (arith, s.say.0.first_is)) in
       let fs = Each-split (IsOrderly b) (nodes_of nodes) (lower_nodes es) s.orderly in
       let bs = Each-split (IsBlock b) (leaves_of nodes) (entry_leaves es) s.blocks in
-      let rest = led (suc k) m (suc last) high es (record { say = s.say.1; names = s.names.2; orderly = fs.1; blocks = bs.1; once = Distinct-back (nodes_of nodes) (lower_nodes es) s.once; order = s.order.4 }) (passed_rest b f at k m (entry_count es) p) in
+      let rest = led (suc k) m (suc last) high es (record { say = s.say.1; names = s.names.2; orderly = fs.1; blocks = bs.1; once = Distinct-back (nodes_of nodes) (lower_nodes es) s.once; order = s.order.4 }) (parted_rest (λ j. first_at b at j ≤ f) (λ j. f < first_at b at j) k m (entry_count es) p) in
       let tree : IsTree b levels nodes = record { stands = record { has = s.names.1; orderly = fs.0; blocks = bs.0 }; is_node = s.names.0; once = Distinct-front (nodes_of nodes) (lower_nodes es) s.once; from = first; upto = last; order = s.order.3 } in
       record { none = λ e. absurd (omega arith); some = λ j e. lower_leads k m j first last nodes es le (node_chain k nodes s.names.0 s.names.1 s.say.0.offset_is) (some_link nodes s.names.0 s.names.1) tree rest (omega arith) }
