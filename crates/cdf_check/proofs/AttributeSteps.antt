@@ -18,7 +18,7 @@ use Rattle.cdf_format.proofs.Members.{length-le_from_distinct}
 use Rattle.cdf_format.proofs.RowLemmas.{Hold-append, IsBroken-before, IsBroken-after}
 use Rattle.cdf_format.proofs.TilesLemmas.{tile_lies, length_tiles}
 use Rattle.cdf_check.specs.Entries.{IsAttribute, AreAttributes}
-use Rattle.cdf_check.specs.FileChains.{AreLong}
+use Rattle.cdf_structure.specs.FileChains.{AreLong}
 
 -- ---- the Name of an attribute
 

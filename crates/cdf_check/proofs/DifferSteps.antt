@@ -6,9 +6,9 @@ use Rattle.cdf_format.specs.Chains.{is_in}
 use Rattle.cdf_format.specs.Rules.{Row, row, Hold, IsBroken}
 use Rattle.cdf_format.specs.ChainRules.{differ_rows}
 use Rattle.cdf_format.proofs.RowLemmas.{Hold-append, IsBroken-before, IsBroken-after}
-use Rattle.cdf_check.specs.declared.verdict.Finding.{Finding}
-use Rattle.cdf_check.specs.Verdicts.{Finds}
-use Rattle.cdf_check.proofs.NumberSteps.{drop_at}
+use Rattle.cdf_structure.specs.declared.finding.Finding.{Finding}
+use Rattle.cdf_structure.specs.Findings.{Finds}
+use Rattle.cdf_structure.proofs.NumberSteps.{drop_at}
 
 -- what a member is compared by
 module _ {X : Type 0} (key : ℕ → X) (same : X → X → Bool) (rule : ℕ) (ms : List ℕ) (i : ℕ) (lt : i < length ms) (keys : List X) (are : keys ≡ map key (take i ms)) where

@@ -7,11 +7,14 @@ use Rattle.cdf_format.specs.AttributeRules.{has_name}
 use Rattle.cdf_format.specs.Fields.{number}
 use Rattle.cdf_format.specs.Records.{Field, record_type, vdr_data_type, vdr_max_rec, vdr_name, vdr_s_records, vdr_num_elems, vdr_cpr_or_spr_offset}
 use Rattle.cdf_format.specs.Rules.{Hold, IsBroken}
-use Rattle.cdf_format.specs.VariableRules.{variable_rows}
+use Rattle.cdf_format.specs.Shape.{is_compressed}
+use Rattle.cdf_format.specs.VariableRules.{cpr_link, variable_rows}
 use Rattle.cdf_records.specs.Heads.{vdr_at}
 use Rattle.cdf_records.specs.Pieces.{AreBytes}
 use Rattle.cdf_records.specs.declared.vdr.Vdr.{Vdr}
 use Rattle.cdf_records.proofs.Places.{word_fits}
+use Rattle.cdf_structure.specs.Records.{AreRead}
+use Rattle.cdf_structure.proofs.IndexSteps.{no_cpr}
 use Rattle.cdf_check.specs.declared.variable_fields.Fields.{Fields}
 use Rattle.cdf_check.specs.Variables.{AreFields, packing_rows, records_rows, shape_rows, value_rows}
 
@@ -63,3 +66,7 @@ module _ (b ts : List ℕ) (vdr : ℕ) where
   pub all_parts : has_name b vdr vdr_name ≡ true → Hold (value_rows b vdr) → Hold (shape_rows b vdr) → Hold (records_rows b vdr) → Hold (packing_rows b ts vdr) → Hold (variable_rows b ts [] vdr)
   all_parts name values shape records packing =
       (name, (refl, (values.0, (values.1.0, (shape.0, (shape.1.0, (shape.1.1.0, (records.0, (records.1.0, packing)))))))))
+
+-- where no record is of a type that is not read, a variable that is compressed breaks a rule
+pub packed_breaks : (b ts : List ℕ) (vdr : ℕ) → AreRead b ts → is_compressed b vdr ≡ true → IsBroken (packing_rows b ts vdr) 11 vdr
+packed_breaks b ts vdr read packed = inr (inl (refl, refl, rw (packed, no_cpr b ts read (cpr_link b vdr)) refl))

@@ -24,10 +24,11 @@ use Rattle.cdf_format.proofs.Owning.{owned_is}
 use Rattle.cdf_format.proofs.RowLemmas.{Hold-split, Hold-member}
 use Rattle.cdf_format.proofs.Tests.{le_of}
 use Rattle.cdf_format.proofs.TilesLemmas.{tile_lies, tiling_sound}
-use Rattle.cdf_check.specs.declared.file_chains.Chains.{Chains}
-use Rattle.cdf_check.specs.FileChains.{AreLong, AreChains}
-use Rattle.cdf_check.specs.Variables.{AreRead, AreVariables, HasRoomForSizes, HasSizes}
-use Rattle.cdf_check.proofs.TileSteps.{whole_rows}
+use Rattle.cdf_structure.specs.declared.file_chains.Chains.{Chains}
+use Rattle.cdf_structure.specs.FileChains.{AreLong, AreChains}
+use Rattle.cdf_structure.specs.Records.{AreRead}
+use Rattle.cdf_check.specs.Variables.{AreVariables, HasRoomForSizes, HasSizes}
+use Rattle.cdf_structure.proofs.TileSteps.{whole_rows}
 use Rattle.cdf_check.proofs.VariableSteps.{all_variables, all_once, all_few}
 
 module _ (b ts : List ℕ) (is : tiling b ≡ whole ts) where

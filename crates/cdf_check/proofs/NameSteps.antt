@@ -5,11 +5,11 @@ use Rattle.std.specs.Prelude.{is_some}
 use Rattle.std.specs.List.{list_any}
 use Rattle.cdf_format.specs.ChainRules.{differ_rows}
 use Rattle.cdf_check.specs.declared.names.Names.{Names}
-use Rattle.cdf_check.specs.declared.verdict.Finding.{Finding}
+use Rattle.cdf_structure.specs.declared.finding.Finding.{Finding}
 use Rattle.cdf_check.specs.Named.{AreNamed}
-use Rattle.cdf_check.specs.Verdicts.{Finds}
+use Rattle.cdf_structure.specs.Findings.{Finds}
 use Rattle.cdf_check.proofs.DifferSteps.{push_broken, push_met, push_new}
-use Rattle.cdf_check.proofs.Findings.{none_found}
+use Rattle.cdf_structure.proofs.Findings.{none_found}
 
 pub none_broken : (found : Option Finding) → is_some found ≡ false → found ≡ None
 none_broken None none = refl

@@ -19,9 +19,10 @@ use Rattle.cdf_format.proofs.Pieces.{word-piece}
 use Rattle.cdf_format.proofs.RowLemmas.{Hold-asked}
 use Rattle.cdf_format.proofs.Tests.{both, le_of}
 use Rattle.cdf_check.specs.declared.verdict.Broken.{Broken}
-use Rattle.cdf_check.specs.declared.verdict.Finding.{Finding}
+use Rattle.cdf_structure.specs.declared.finding.Finding.{Finding}
 use Rattle.cdf_check.specs.Variables.{HasRoomForSizes}
-use Rattle.cdf_check.specs.Verdicts.{Finds, Judges, JudgesImage}
+use Rattle.cdf_structure.specs.Findings.{Finds}
+use Rattle.cdf_check.specs.Verdicts.{Judges, JudgesImage}
 
 -- ---- phases before others
 

@@ -1,5 +1,6 @@
 -- The variables of an image, one after the other.
 use Rattle.std.proofs.Common.{◌≡◌, ◌≢◌, ℕ, ◌≤◌, List, [], ◌∷◌, ◌++◌, length, true, false, not, ◌||◌, eqb, eq-eqb, true≢false, refl, sym, subst, ◌∙◌, arith, inl, inr, Option, Some, None}
+use Rattle.std.proofs.lemmas.Bool.{ne_eqb}
 use Rattle.std.specs.Prelude.{◌==◌}
 use Rattle.std.specs.List.{flat_map}
 use Rattle.cdf_format.specs.AttributeRules.{same_name}
@@ -16,13 +17,12 @@ use Rattle.cdf_format.proofs.ChainsLemmas.{chain_sound, linkable-in, linkable-ty
 use Rattle.cdf_format.proofs.Members.{either, In-append, length-le_from_distinct}
 use Rattle.cdf_format.proofs.RowLemmas.{Hold-member, Hold-members, IsBroken-before, IsBroken-after}
 use Rattle.cdf_format.proofs.TilesLemmas.{tile_lies, length_tiles}
-use Rattle.cdf_check.specs.FileChains.{AreLong}
+use Rattle.cdf_structure.specs.FileChains.{AreLong}
 use Rattle.cdf_check.specs.Variables.{IsVariable, AreVariables}
-use Rattle.cdf_check.specs.Verdicts.{Finds}
-use Rattle.cdf_check.specs.declared.verdict.Finding.{Finding}
+use Rattle.cdf_structure.specs.Findings.{Finds}
+use Rattle.cdf_structure.specs.declared.finding.Finding.{Finding}
 use Rattle.cdf_check.proofs.Alike.{all_of_each, not_all, bytes_eq-sym, one_is_like, none_is_like}
-use Rattle.cdf_check.proofs.Rows.{IsBroken-split}
-use Rattle.cdf_check.proofs.TileSteps.{other}
+use Rattle.cdf_structure.proofs.Rows.{IsBroken-split}
 
 -- ---- the Name of a variable
 
@@ -104,7 +104,7 @@ module _ (b ts vdrs : List ℕ) where
   names_break : Distinct vdrs → (rule place : ℕ) → IsBroken (differ_rows 2 (same_name b vdr_name) [] vdrs) rule place → IsBroken (phase7 b ts vdrs) rule place
   names_break once rule place p =
       let like = one_is_like (same_name b vdr_name) 2 [] vdrs once rule place p in
-      let apart : eqb like.other place ≡ false = other like.other place like.apart in
+      let apart : eqb like.other place ≡ false = ne_eqb like.other place like.apart in
       let here : (eqb like.other place || not (same_name b vdr_name place like.other)) ≡ false = rw (apart, like.alike) refl in
       let named : is_named_apart b vdrs place ≡ false = not_all (λ o. (o == place) || not (same_name b vdr_name place o)) vdrs like.other like.other_in here in
       breaks_at (variable_rows b ts vdrs) place rule place (inr (inl (like.rule_is, refl, named))) vdrs like.inside

@@ -1,7 +1,7 @@
 -- The Names of records, which are to differ.
 use Rattle.std.specs.Prelude.{◌≡◌, ◌≤◌, ℕ, List, [], length, map, bytes_eq, None}
 use Rattle.cdf_format.specs.ChainRules.{differ_rows}
-use Rattle.cdf_check.specs.Verdicts.{Finds}
+use Rattle.cdf_structure.specs.Findings.{Finds}
 use Rattle.cdf_check.specs.declared.names.Names.{Names}
 
 -- Each record has this Name, and its Name stands in the table as long as none stands twice; or a record has one that stood before it.

@@ -2,9 +2,8 @@
 use Rattle.std.specs.Prelude.{◌≡◌, ◌≤◌, ◌⊎◌, ℕ, ◌+◌, List, [], ◌∷◌, ◌++◌, Bool, true, false, not, is_some, ◌||◌, nat_le, length, map, Some, None}
 use Rattle.std.specs.declared.option.Option.{Option}
 use Rattle.cdf_model.specs.Place.{record_limit}
-use Rattle.cdf_format.specs.Chains.{is_in}
 use Rattle.cdf_format.specs.Fields.{LiesIn, Holds, gdr_offset, name_in, number, r_num_dims, r_sizes, size_at, type_at}
-use Rattle.cdf_format.specs.NotRead.{read_types, unread_sparse}
+use Rattle.cdf_format.specs.NotRead.{unread_sparse}
 use Rattle.cdf_format.specs.Records.{gdr_r_dim_sizes, vdr_data_type, vdr_flags, vdr_max_rec, vdr_name, vdr_num_elems, vdr_r_dim_vary, vdr_s_records, vdr_vxr_head}
 use Rattle.cdf_format.specs.RecordTypes.{r_vdr_type, z_vdr_type}
 use Rattle.cdf_format.specs.Rules.{Row, row, asked}
@@ -18,10 +17,6 @@ use Rattle.cdf_check.specs.declared.variables.Described.{Described}
 use Rattle.cdf_check.specs.declared.variable_fields.Fields.{Fields}
 use Rattle.cdf_check.specs.declared.variable_shape.Dimensions.{Dimensions}
 use Rattle.cdf_check.specs.declared.variable_shape.Value.{Value}
-
--- each record is of a type that is read
-abbrev pub AreRead : List ℕ → List ℕ → Type 0
-AreRead b records = (place : ℕ) → In place records → is_in (type_at b place) read_types ≡ true
 
 -- a record of a variable, with its fixed part
 pub record IsVariable (b : List ℕ) (vdr : ℕ) : Type 0 where

@@ -1,22 +1,10 @@
--- What a check of rules answers.
-use Rattle.std.specs.Prelude.{◌≡◌, ℕ, ◌+◌, List, Some, None, Ok, Err}
+-- What the check of a file answers.
+use Rattle.std.specs.Prelude.{◌≡◌, ℕ, ◌+◌, List, Some, None}
 use Rattle.std.specs.declared.option.Option.{Option}
-use Rattle.std.specs.declared.result.Result.{Result}
 use Rattle.cdf_format.specs.Phases.{first_phases, image_phases}
-use Rattle.cdf_format.specs.Rules.{Row, Hold, IsBroken, AllHold, FirstBroken}
+use Rattle.cdf_format.specs.Rules.{AllHold, FirstBroken}
 use Rattle.cdf_format.specs.WellFormed.{WellFormed, Breaks}
-use Rattle.cdf_check.specs.declared.verdict.Finding.{Finding}
 use Rattle.cdf_check.specs.declared.verdict.Broken.{Broken}
-
--- no rule is broken, or this one is, at its place
-abbrev pub Finds : List Row → Option Finding → Type 0
-Finds rows None = Hold rows
-Finds rows (Some broken) = IsBroken rows broken.rule broken.place
-
--- this holds of what is handed out, and no rule is broken; or this rule is, at its place
-abbrev pub Yields : {T : Type 0} → List Row → (T → Type 0) → Result T Finding → Type 0
-Yields rows P (Ok value) = Hold rows × P value
-Yields rows P (Err broken) = IsBroken rows broken.rule broken.place
 
 -- the file is well formed, or it breaks this rule of the first phase that it breaks
 abbrev pub Judges : List ℕ → Option Broken → Type 0

@@ -11,12 +11,11 @@ ghost use Rattle.cdf_format.specs.Shape.{adr_chain, attribute_shape};
 ghost use Rattle.cdf_format.specs.Tiles.{AreTiles};
 ghost use Rattle.cdf_format.specs.Walks.{whole};
 ghost use Rattle.cdf_check.specs.Entries.{IsAttribute, AreAttributes, Describes};
-ghost use Rattle.cdf_check.specs.FileChains.{AreLong};
-ghost use Rattle.cdf_check.specs.Verdicts.{Yields};
+ghost use Rattle.cdf_structure.specs.FileChains.{AreLong};
+ghost use Rattle.cdf_structure.specs.Findings.{Yields};
 
 use crate::entries::{EntryChain, check_entries};
 use crate::names::Names;
-use crate::verdict::Finding;
 use cdf_area::{Area, AreaError};
 use cdf_format::fields::{
     ADR_AGR_EDR_HEAD, ADR_AZ_EDR_HEAD, ADR_NGR_ENTRIES, ADR_NZ_ENTRIES, ADR_SCOPE, AGR_EDR_TYPE,
@@ -24,6 +23,7 @@ use cdf_format::fields::{
 };
 use cdf_model::Bytes;
 use cdf_records::{read_name, read_unsigned4};
+use cdf_structure::Finding;
 use std::alloc::Global;
 
 /// The chain of an attribute's gr entries.
@@ -90,7 +90,7 @@ fn check_fields<A: Area>(
 }
 
 /// What an attribute has, or a rule on it that is broken.
-#[tactic(auto, using(crate::proofs::Rows::all_of_three, crate::proofs::Rows::first_of_three, crate::proofs::Rows::second_of_three, crate::proofs::Rows::third_of_three))]
+#[tactic(auto, using(cdf_structure::proofs::Rows::all_of_three, cdf_structure::proofs::Rows::first_of_three, cdf_structure::proofs::Rows::second_of_three, cdf_structure::proofs::Rows::third_of_three))]
 fn check_attribute<A: Area>(
     alloc: Global,
     area: &mut A,

@@ -7,14 +7,14 @@ ghost use Rattle.cdf_format.specs.Fields.{encoding, version};
 ghost use Rattle.cdf_format.specs.FileRules.{phase2, is_record};
 ghost use Rattle.cdf_records.specs.Heads.{cdr_at};
 ghost use Rattle.cdf_records.specs.Pieces.{AreBytes};
-ghost use Rattle.cdf_check.specs.Verdicts.{Finds};
+ghost use Rattle.cdf_structure.specs.Findings.{Finds};
 
 use crate::fields::{CHECKSUM, MD5, SINGLE_FILE, has_bit, is_record, unsigned};
-use crate::verdict::Finding;
 use cdf_area::{Area, AreaError};
 use cdf_format::fields::{CDR_PLACE, CDR_SIZE, CDR_TYPE, CDR_VERSION, RECORD_TYPE};
 use cdf_model::Encoding;
 use cdf_records::{Cdr, read_cdr};
+use cdf_structure::Finding;
 
 /// Whether the record is one of its type that ends within the file.
 #[tactic(auto, using(cdf_records::proofs::Places::word4_fits))]

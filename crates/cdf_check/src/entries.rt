@@ -3,20 +3,16 @@
 ghost use Rattle.std.specs.Prelude.{◌≡◌, ◌+◌, ◌≤◌, [], ℕ, length, IfOk};
 ghost use Rattle.std.specs.List.{flat_map};
 ghost use Rattle.cdf_area.specs.Calls.{Reads};
-ghost use Rattle.cdf_format.specs.AttributeRules.{has_value, entry_rows, same_number};
+ghost use Rattle.cdf_format.specs.AttributeRules.{entries_rows, entry_rows, has_value, same_number};
 ghost use Rattle.cdf_format.specs.ChainRules.{differ_rows};
 ghost use Rattle.cdf_format.specs.RecordTypes.{fixed_size};
+ghost use Rattle.cdf_format.specs.Records.{field};
 ghost use Rattle.cdf_format.specs.Tiles.{In, AreTiles};
 ghost use Rattle.cdf_format.specs.Walks.{whole};
 ghost use Rattle.cdf_check.specs.Entries.{entry_walk, entry_chain_rows};
-ghost use Rattle.cdf_check.specs.FileChains.{AreLong};
-ghost use Rattle.cdf_check.specs.Verdicts.{Finds, Yields};
+ghost use Rattle.cdf_structure.specs.FileChains.{AreLong};
+ghost use Rattle.cdf_structure.specs.Findings.{Finds, Yields};
 
-use crate::chains::check_count;
-use crate::fields::read_size;
-use crate::links::walk_chain;
-use crate::met::Met;
-use crate::verdict::Finding;
 use cdf_area::{Area, AreaError};
 use cdf_format::fields::{
     ADR_NUM, AEDR_ATTR_NUM, AEDR_DATA_TYPE, AEDR_NUM, AEDR_NUM_ELEMS, AEDR_VALUE,
@@ -24,10 +20,11 @@ use cdf_format::fields::{
 use cdf_model::DataType;
 use cdf_model::limits::{RECORD_LIMIT, RECORD_NUMBER_LIMIT, SIGNED_LIMIT};
 use cdf_records::{read_signed4, read_unsigned4};
+use cdf_structure::{Finding, Met, check_count, read_size, walk_chain};
 use std::alloc::Global;
 
 /// A kind of chain of entries: the type of its members, and the places of its head and its count in an attribute.
-#[derive(Clone, Copy, Debug)]
+#[derive(Clone, Copy)]
 pub struct EntryChain {
     pub record_type: u32,
     pub head: u64,
@@ -123,8 +120,34 @@ fn check_apart<A: Area>(
     Ok(None)
 }
 
+/// The rules on the entries of a chain, of which a field of the attribute has the count.
+fn check_members<A: Area>(
+    alloc: Global,
+    area: &mut A,
+    adr: u64,
+    count: u64,
+    entries: &[u64],
+) -> Result<Option<Finding>, AreaError>
+    requires adr { adr + 68 ≤ length (A.image area.old) }
+    requires count { count + 4 ≤ 68 }
+    requires entries { (entry : ℕ) → In entry entries.now → entry + 56 ≤ length (A.image area.old) }
+    ensures found { IfOk result (Finds (entries_rows (A.image area.old) adr (field count 4) entries.now)) }
+    ensures area { Reads A.image A.frame A.faults A.edited area.old area.new result }
+{
+    // 6.5
+    if let Some(broken) = check_count(area, 5, adr, count, entries)? {
+        return Ok(Some(broken));
+    }
+    if let Some(broken) = check_each(area, adr, entries)? {
+        return Ok(Some(broken));
+    }
+    if let Some(broken) = check_apart(alloc, area, entries)? {
+        return Ok(Some(broken));
+    }
+    Ok(None)
+}
+
 /// The entries of one kind of an attribute, or a rule on them that is broken.
-#[tactic(auto, using(crate::proofs::EntryRows::entries_hold, crate::proofs::EntryRows::each_breaks, crate::proofs::EntryRows::apart_breaks))]
 pub fn check_entries<A: Area>(
     alloc: Global,
     area: &mut A,
@@ -148,14 +171,7 @@ pub fn check_entries<A: Area>(
         // 6.4
         Err(place) => return Ok(Err(Finding { rule: 4, place })),
     };
-    // 6.5
-    if let Some(broken) = check_count(area, 5, adr, kind.count, &entries)? {
-        return Ok(Err(broken));
-    }
-    if let Some(broken) = check_each(area, adr, &entries)? {
-        return Ok(Err(broken));
-    }
-    if let Some(broken) = check_apart(alloc, area, &entries)? {
+    if let Some(broken) = check_members(alloc, area, adr, kind.count, &entries)? {
         return Ok(Err(broken));
     }
     Ok(Ok(entries))

@@ -1,14 +1,12 @@
 //! Fields that several rules read.
 
-ghost use Rattle.std.specs.Prelude.{◌≡◌, ◌+◌, ◌^◌, ◌<◌, ◌≤◌, length, if◌then◌else◌, IfOk};
-ghost use Rattle.cdf_area.specs.Calls.{Reads};
-ghost use Rattle.cdf_format.specs.Fields.{has_bit, signed4, size_at, type_at, with_sign, word};
+ghost use Rattle.std.specs.Prelude.{◌≡◌, ◌^◌, ◌<◌, ◌≤◌, length, if◌then◌else◌};
+ghost use Rattle.cdf_format.specs.Fields.{has_bit, signed4, size_at, type_at, word};
 ghost use Rattle.cdf_format.specs.FileRules.{is_record};
 ghost use Rattle.cdf_format.specs.Sealed.{trailer_size};
 
-use cdf_area::{Area, AreaError};
-use cdf_format::fields::{RECORD_TYPE, TRAILER_SIZE};
-use cdf_records::{read_unsigned4, read_unsigned8};
+use cdf_area::Area;
+use cdf_format::fields::TRAILER_SIZE;
 
 /// The bit of the Flags that says that the file is a whole data set.
 pub const SINGLE_FILE: u32 = 1;
@@ -61,31 +59,4 @@ pub fn is_record<A: Area>(
 {
     let rest = area.size() - place;
     record_type == wanted_type && record_size >= wanted_size && record_size <= rest
-}
-
-/// A number of 4 bytes with its sign.
-pub fn with_sign(number: u32) -> i64
-    ensures { result ≡ with_sign number }
-{
-    i64::from(number.cast_signed())
-}
-
-/// The RecordSize of the record at a place.
-#[tactic(auto, using(crate::proofs::Readings::first_word))]
-pub fn read_size<A: Area>(area: &mut A, place: u64) -> Result<u64, AreaError>
-    requires { place + 8 ≤ length (A.image area.old) }
-    ensures value { IfOk result (λ size. size ≡ size_at (A.image area.old) place) }
-    ensures area { Reads A.image A.frame A.faults A.edited area.old area.new result }
-{
-    read_unsigned8(area, place)
-}
-
-/// Its RecordType, without a sign.
-pub fn read_type<A: Area>(area: &mut A, place: u64) -> Result<u32, AreaError>
-    requires { place + 12 ≤ length (A.image area.old) }
-    ensures value { IfOk result (λ record_type. record_type ≡ type_at (A.image area.old) place) }
-    ensures area { Reads A.image A.frame A.faults A.edited area.old area.new result }
-{
-    let _size = area.size();
-    read_unsigned4(area, place + RECORD_TYPE)
 }

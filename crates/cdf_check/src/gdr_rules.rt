@@ -9,16 +9,16 @@ ghost use Rattle.cdf_format.specs.Fields.{counted, is_positive, r_sizes};
 ghost use Rattle.cdf_format.specs.FileRules.{phase3, has_gdr, gdr_rows, is_gdr};
 ghost use Rattle.cdf_records.specs.Heads.{cdr_at, gdr_at};
 ghost use Rattle.cdf_records.specs.Pieces.{AreBytes};
-ghost use Rattle.cdf_check.specs.Verdicts.{Finds};
+ghost use Rattle.cdf_structure.specs.Findings.{Finds};
 
 use crate::fields::{is_record, trailer_length, unsigned};
-use crate::verdict::Finding;
 use cdf_area::{Area, AreaError};
 use cdf_format::fields::{
     CDR_PLACE, GDR_R_DIM_SIZE, GDR_R_NUM_DIMS, GDR_SIZE, GDR_TYPE, RECORD_TYPE,
 };
 use cdf_model::limits::{DIMENSION_LIMIT, IMAGE_LIMIT, SIGNED_LIMIT};
 use cdf_records::{Cdr, Gdr, read_cdr, read_gdr, read_nums};
+use cdf_structure::Finding;
 use std::alloc::Global;
 
 /// Whether the record is one of its type that ends within the file, with room for the sizes of its dimensions.

@@ -12,19 +12,16 @@ ghost use Rattle.cdf_format.specs.Rules.{Hold};
 ghost use Rattle.cdf_format.specs.Shape.{attribute_shape};
 ghost use Rattle.cdf_format.specs.Tiles.{tiling};
 ghost use Rattle.cdf_format.specs.Walks.{whole};
-ghost use Rattle.cdf_check.specs.FileChains.{AreChains};
-ghost use Rattle.cdf_check.specs.Records.{unused_of};
+ghost use Rattle.cdf_structure.specs.FileChains.{AreChains};
+ghost use Rattle.cdf_structure.specs.Records.{unused_of};
 ghost use Rattle.cdf_check.specs.Variables.{HasRoomForSizes};
 ghost use Rattle.cdf_check.specs.Verdicts.{JudgesImage};
 
 use crate::attributes::check_attributes;
-use crate::file_chains::{Chains, check_chains};
-use crate::indexes::check_indexes;
-use crate::owners::check_owners;
-use crate::tiles::check_tiles;
 use crate::variables::check_variables;
 use crate::verdict::{Broken, in_phase};
 use cdf_area::{Area, AreaError};
+use cdf_structure::{Chains, check_chains, check_indexes, check_owners, check_tiles};
 use std::alloc::{AllocError, Global};
 
 /// The places of two lists, one after the other.

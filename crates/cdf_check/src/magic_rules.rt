@@ -4,12 +4,12 @@ ghost use Rattle.std.specs.Prelude.{◌≡◌, ◌+◌, ◌≤◌, length, IfOk}
 ghost use Rattle.cdf_area.specs.Calls.{Reads};
 ghost use Rattle.cdf_format.specs.Fields.{word};
 ghost use Rattle.cdf_format.specs.FileRules.{phase0, phase1};
-ghost use Rattle.cdf_check.specs.Verdicts.{Finds};
+ghost use Rattle.cdf_structure.specs.Findings.{Finds};
 
-use crate::verdict::Finding;
 use cdf_area::{Area, AreaError};
 use cdf_format::fields::TRAILER_SIZE;
 use cdf_model::limits::IMAGE_LIMIT;
+use cdf_structure::Finding;
 
 /// The bytes of both magic numbers.
 const MAGIC_LENGTH: u64 = 8;

@@ -3,9 +3,9 @@
 ghost use Rattle.std.specs.Prelude.{◌≡◌, ◌++◌, ◌∷◌, [], ◌<◌, ℕ, List, None, length, IfOk, OnOk};
 ghost use Rattle.cdf_check.specs.Named.{AreNamed};
 
-use crate::verdict::Finding;
 use cdf_model::Bytes;
 use cdf_names::NameTable;
+use cdf_structure::Finding;
 use std::alloc::{AllocError, Global};
 
 /// The Names of records as long as they differ, and the first record whose Name one before it has.

@@ -3,12 +3,12 @@
 ghost use Rattle.std.specs.Prelude.{◌≡◌, ◌+◌, [], ◌∷◌, length, drop, take, bytes_eq, IfOk};
 ghost use Rattle.cdf_area.specs.Calls.{Reads};
 ghost use Rattle.cdf_format.specs.Rules.{row};
-ghost use Rattle.cdf_check.specs.Verdicts.{Finds};
+ghost use Rattle.cdf_structure.specs.Findings.{Finds};
 ghost use Rattle.md5.specs.Md5.{md5};
 
-use crate::verdict::Finding;
 use cdf_area::{Area, AreaError};
 use cdf_seal::digest_of;
+use cdf_structure::Finding;
 
 /// That the last 16 bytes of a file are the MD5 of those before, which are the image.
 pub fn check_trailer<A: Area>(area: &mut A, eof: u64) -> Result<Option<Finding>, AreaError>

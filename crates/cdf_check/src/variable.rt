@@ -7,17 +7,18 @@ ghost use Rattle.cdf_model.specs.VariableSteps.{is_characters};
 ghost use Rattle.cdf_format.specs.Fields.{gdr_offset, is_positive, name_in};
 ghost use Rattle.cdf_format.specs.Records.{vdr_name};
 ghost use Rattle.cdf_format.specs.VariableRules.{variable_rows};
-ghost use Rattle.cdf_check.specs.Variables.{AreFields, AreRead, AreValues, HasSizes, IsVariable, IsVariableOf, packing_rows, records_rows, value_rows};
-ghost use Rattle.cdf_check.specs.Verdicts.{Finds, Yields};
+ghost use Rattle.cdf_structure.specs.Records.{AreRead};
+ghost use Rattle.cdf_check.specs.Variables.{AreFields, AreValues, HasSizes, IsVariable, IsVariableOf, packing_rows, records_rows, value_rows};
+ghost use Rattle.cdf_structure.specs.Findings.{Finds, Yields};
 
 use crate::fields::has_bit;
 use crate::variable_fields::{Fields, read_fields};
 use crate::variable_shape::{Value, check_shape};
-use crate::verdict::Finding;
 use cdf_area::{Area, AreaError};
 use cdf_model::limits::{RECORD_NUMBER_LIMIT, SIGNED_LIMIT};
 use cdf_model::{Bytes, DataType};
 use cdf_records::read_name;
+use cdf_structure::Finding;
 use std::alloc::Global;
 
 /// The bit of the Flags that says that the variable is compressed.

@@ -9,7 +9,7 @@ use cdf_model::DataType;
 use cdf_records::read_vdr;
 
 /// Fields of the record of a variable without their sign, and its DataType if that is known.
-#[derive(Clone, Copy, Debug)]
+#[derive(Clone, Copy)]
 pub struct Fields {
     pub record_size: u64,
     pub record_type: u32,

@@ -10,12 +10,11 @@ ghost use Rattle.cdf_format.specs.Records.{vdr_z_num_dims};
 ghost use Rattle.cdf_format.specs.VariableFields.{counted4, is_z, record_bytes, dimensions_at, vary_field};
 ghost use Rattle.cdf_format.specs.VariableRules.{vdr_end};
 ghost use Rattle.cdf_check.specs.Variables.{AreDimensions, AreFields, AreShared, AreValues, HasSizes, IsVariable, Measures, shape_rows};
-ghost use Rattle.cdf_check.specs.Verdicts.{Yields};
+ghost use Rattle.cdf_structure.specs.Findings.{Yields};
 
 use crate::fields::has_bit;
 use crate::gdr_rules::are_sizes;
 use crate::variable_fields::Fields;
-use crate::verdict::Finding;
 use cdf_area::{Area, AreaError};
 use cdf_format::fields::{
     GDR_R_DIM_SIZE, GDR_R_NUM_DIMS, VDR_R_DIM_VARY, VDR_Z_DIM_SIZE, VDR_Z_NUM_DIMS, Z_VDR_TYPE,
@@ -24,13 +23,14 @@ use cdf_model::limits::DIMENSION_LIMIT;
 use cdf_model::{DataType, Nums, Varys};
 use cdf_records::{read_nums, read_signed4, read_unsigned4};
 use cdf_shape::{Shape, record_bytes};
+use cdf_structure::Finding;
 use std::alloc::{AllocError, Global};
 
 /// The bit of the Flags that says that there is a pad value.
 const HAS_PAD: u32 = 1;
 
 /// What a value of a variable is made of: elements of a type.
-#[derive(Clone, Copy, Debug)]
+#[derive(Clone, Copy)]
 pub struct Value {
     pub data_type: DataType,
     pub elements: u32,

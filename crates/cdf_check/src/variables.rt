@@ -5,13 +5,14 @@ ghost use Rattle.cdf_area.specs.Calls.{Reads};
 ghost use Rattle.cdf_format.specs.Fields.{gdr_offset};
 ghost use Rattle.cdf_format.specs.Tiles.{Distinct};
 ghost use Rattle.cdf_format.specs.VariableRules.{phase7};
-ghost use Rattle.cdf_check.specs.Variables.{AreDescribed, AreRead, AreVariables, HasSizes};
-ghost use Rattle.cdf_check.specs.Verdicts.{Yields};
+ghost use Rattle.cdf_structure.specs.Records.{AreRead};
+ghost use Rattle.cdf_check.specs.Variables.{AreDescribed, AreVariables, HasSizes};
+ghost use Rattle.cdf_structure.specs.Findings.{Yields};
 
 use crate::names::Names;
 use crate::variable::{Variable, check_variable};
-use crate::verdict::Finding;
 use cdf_area::{Area, AreaError};
+use cdf_structure::Finding;
 use std::alloc::Global;
 
 /// What the rules on records ask of variables: how many bytes a record of each takes, and the link to its index.

@@ -2,19 +2,14 @@
 
 ghost use Rattle.std.specs.Prelude.{◌≡◌};
 
+use cdf_structure::Finding;
+
 /// A rule that a file breaks: the first phase of which a rule is broken, the number of the rule in it, and the place in the file.
 #[derive(Clone, Copy, Debug, PartialEq, Eq)]
 pub struct Broken {
     pub phase: u8,
     pub rule: u8,
     pub at: u64,
-}
-
-/// A rule of one phase that is broken, and where.
-#[derive(Clone, Copy, Debug, PartialEq, Eq)]
-pub struct Finding {
-    pub rule: u8,
-    pub place: u64,
 }
 
 /// What was found in this phase, none before it being broken.

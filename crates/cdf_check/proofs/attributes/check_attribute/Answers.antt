@@ -8,8 +8,8 @@ use Rattle.cdf_format.specs.Records.{adr_name, adr_ngr_entries, adr_nz_entries}
 use Rattle.cdf_format.specs.Rules.{Row}
 use Rattle.cdf_format.specs.Shape.{gr_entry_chain, z_entry_chain}
 use Rattle.cdf_format.specs.Walks.{whole}
-use Rattle.cdf_check.specs.Verdicts.{Yields}
-use Rattle.cdf_check.proofs.Rows.{all_of_three, second_of_three}
+use Rattle.cdf_structure.specs.Findings.{Yields}
+use Rattle.cdf_structure.proofs.Rows.{all_of_three, second_of_three}
 use Rattle.cdf_check.proofs.attributes.check_attribute.Goals as goal
 
 gr_rows : List ℕ → List ℕ → ℕ → List Row

@@ -11,10 +11,10 @@ use Rattle.cdf_format.specs.ChainRules.{differ_rows}
 use Rattle.cdf_format.specs.Rules.{Hold}
 use Rattle.cdf_check.specs.Entries.{Describes}
 use Rattle.cdf_check.specs.Named.{AreNamed}
-use Rattle.cdf_check.specs.Verdicts.{Finds, Yields}
+use Rattle.cdf_structure.specs.Findings.{Finds, Yields}
 use Rattle.cdf_area.proofs.Calls.{read_more}
-use Rattle.cdf_check.proofs.Findings.{none_found, one_found}
-use Rattle.cdf_check.proofs.Rows.{In-get_or, broken_member, holds_more}
+use Rattle.cdf_structure.proofs.Findings.{none_found, one_found}
+use Rattle.cdf_structure.proofs.Rows.{In-get_or, broken_member, holds_more}
 use Rattle.cdf_check.proofs.AttributeSteps.{attributes_break, names_break, owned_more, phase6_holds}
 use Rattle.cdf_check.proofs.attributes.check_each.Goals as goal
 

@@ -4,7 +4,7 @@ use Rattle.cdf_format.specs.Chains.{is_in}
 use Rattle.cdf_format.specs.Fields.{number}
 use Rattle.cdf_format.specs.Records.{aedr_num}
 use Rattle.cdf_area.proofs.Calls.{read_more}
-use Rattle.cdf_check.proofs.Rows.{In-get_or}
+use Rattle.cdf_structure.proofs.Rows.{In-get_or}
 use Rattle.cdf_check.proofs.DifferSteps.{key_met, key_new, keys_more, is_in-any}
 use Rattle.cdf_check.proofs.entries.check_apart.Goals as goal
 

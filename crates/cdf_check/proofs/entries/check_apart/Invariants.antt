@@ -4,9 +4,9 @@ use Rattle.cdf_format.specs.AttributeRules.{same_number}
 use Rattle.cdf_format.specs.ChainRules.{differ_rows}
 use Rattle.cdf_format.specs.Fields.{number}
 use Rattle.cdf_format.specs.Records.{aedr_num}
-use Rattle.cdf_check.specs.Met.{Agrees}
-use Rattle.cdf_check.specs.Verdicts.{Finds}
-use Rattle.cdf_check.specs.declared.verdict.Finding.{Finding}
+use Rattle.cdf_structure.specs.Met.{Agrees}
+use Rattle.cdf_structure.specs.Findings.{Finds}
+use Rattle.cdf_structure.specs.declared.finding.Finding.{Finding}
 use Rattle.cdf_check.proofs.entries.check_apart.Given as goal
 
 abbrev pub invariant-loop-entry : goal.invariant-loop-entry

@@ -1,26 +1,15 @@
 use Rattle.std.proofs.Common.{◌≡◌, length}
 use Rattle.cdf_format.specs.Records.{field}
 use Rattle.cdf_format.specs.Walks.{whole}
+use Rattle.cdf_structure.proofs.NumberSteps.{member_fields}
 use Rattle.cdf_check.specs.Entries.{entry_walk}
-use Rattle.cdf_check.proofs.NumberSteps.{member_fields}
 use Rattle.cdf_check.proofs.entries.check_entries.Goals as goal
 
-pub check_each-requires-clause-entries : goal.check_each-requires-clause-entries
-check_each-requires-clause-entries g c =
+pub check_members-requires-clause-entries : goal.check_members-requires-clause-entries
+check_members-requires-clause-entries g c =
     let b = g.A.Area.image c.args.area.now in
     let kind = c.args.kind in
     let is : entry_walk b c.args.tiles.now kind c.args.adr ≡ whole c.in-Ok.entries.items = rw c.in-Ok.is at c.in_ok-walked.ensures.walk in
     λ m i.
-    let inside = member_fields b c.args.tiles.now (length b) kind.record_type c.args.adr (field kind.head 8) 56 c.in-Ok.entries.items c.requires.tiled c.requires.long c.requires.entry is m (rw c.deref-2.ensures.value at i) in
-    rw (c.check_count.ensures.area.image, c.walk_chain.ensures.area.image) inside
-
-pub check_apart-requires : goal.check_apart-requires
-check_apart-requires g c =
-    let b = g.A.Area.image c.args.area.now in
-    let kind = c.args.kind in
-    let is : entry_walk b c.args.tiles.now kind c.args.adr ≡ whole c.in-Ok.entries.items = rw c.in-Ok.is at c.in_ok-walked.ensures.walk in
-    record {
-      entries = λ m i.
-          let inside = member_fields b c.args.tiles.now (length b) kind.record_type c.args.adr (field kind.head 8) 56 c.in-Ok.entries.items c.requires.tiled c.requires.long c.requires.entry is m (rw c.deref-3.ensures.value at i) in
-          rw (c.check_each.ensures.area.image, c.check_count.ensures.area.image, c.walk_chain.ensures.area.image) inside;
-    }
+    let inside = member_fields b c.args.tiles.now (length b) kind.record_type c.args.adr (field kind.head 8) 56 c.in-Ok.entries.items c.requires.tiled c.requires.long c.requires.entry is m (rw c.deref.ensures.value at i) in
+    rw c.walk_chain.ensures.area.image inside

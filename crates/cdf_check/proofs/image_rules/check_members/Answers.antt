@@ -7,7 +7,7 @@ use Rattle.cdf_format.specs.Owners.{attribute_records}
 use Rattle.cdf_format.specs.Rules.{IsBroken}
 use Rattle.cdf_format.specs.Shape.{attribute_shape}
 use Rattle.cdf_format.proofs.TilesLemmas.{tiling_sound}
-use Rattle.cdf_check.specs.Verdicts.{Yields}
+use Rattle.cdf_structure.specs.Findings.{Yields}
 use Rattle.cdf_check.proofs.ImageSteps.{all_long, attributes_break}
 use Rattle.cdf_check.proofs.image_rules.check_members.Goals as goal
 

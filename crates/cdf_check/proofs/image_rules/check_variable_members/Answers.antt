@@ -8,10 +8,10 @@ use Rattle.cdf_format.specs.Phases.{phase9}
 use Rattle.cdf_format.specs.Shape.{variable_shape}
 use Rattle.cdf_format.specs.VariableRules.{phase7}
 use Rattle.cdf_format.proofs.TilesLemmas.{tiling_sound}
-use Rattle.cdf_check.specs.Records.{unused_of}
+use Rattle.cdf_structure.specs.Records.{unused_of}
 use Rattle.cdf_check.specs.Variables.{AreDescribed}
-use Rattle.cdf_check.specs.Verdicts.{Finds, Yields}
-use Rattle.cdf_check.proofs.Tallies.{tiles_climb}
+use Rattle.cdf_structure.specs.Findings.{Finds, Yields}
+use Rattle.cdf_structure.proofs.Tallies.{tiles_climb}
 use Rattle.cdf_check.proofs.ImageSteps.{all_read, sizes_lie, variables, variables_once, variables_few, variables_break, indexes_break, owners_break, all_held}
 use Rattle.cdf_check.proofs.image_rules.check_variable_members.Goals as goal
 
@@ -55,7 +55,6 @@ check_indexes-requires g c =
       tiled = tiling_sound b ts q.tiling;
       small = q.small;
       read = all_read b ts q.tiling q.records;
-      variables = variables b ts q.tiling q.records chains q.chains q.linked;
       described = described.0;
       sizes = described.1.sizes_are;
       heads = described.1.heads_are;

@@ -11,9 +11,9 @@ use Rattle.cdf_format.specs.VariableFields.{record_bytes}
 use Rattle.cdf_format.specs.VariableRules.{phase7, variable_rows}
 use Rattle.cdf_check.specs.Named.{AreNamed}
 use Rattle.cdf_check.specs.Variables.{IsVariableOf}
-use Rattle.cdf_check.specs.Verdicts.{Finds, Yields}
-use Rattle.cdf_check.proofs.Findings.{none_found, one_found}
-use Rattle.cdf_check.proofs.Rows.{In-get_or, broken_member, holds_more, one_more}
+use Rattle.cdf_structure.specs.Findings.{Finds, Yields}
+use Rattle.cdf_structure.proofs.Findings.{none_found, one_found}
+use Rattle.cdf_structure.proofs.Rows.{In-get_or, broken_member, holds_more, one_more}
 use Rattle.cdf_check.proofs.VariableSteps.{each_breaks, all_found}
 use Rattle.cdf_check.proofs.variables.check_variables.Goals as goal
 

@@ -1,0 +1,141 @@
+-- Steps of a walk over an index.
+use Rattle.std.proofs.Common.{◌≡◌, ◌≢◌, ℕ, zero, suc, ◌+◌, List, [], ◌∷◌, ◌++◌, true, false, not, ◌&&◌, eqb, eq-eqb, refl, sym, ap, ◌∙◌, inl, inr, arith}
+use Rattle.std.proofs.lemmas.Bool.{ne_eqb}
+use Rattle.cdf_format.specs.Chains.{is_in, is_linkable, next_of}
+use Rattle.cdf_format.specs.Fields.{type_at}
+use Rattle.cdf_format.specs.Index.{Nodes, no_node, node, Entries, no_entry, block, lower, room_at, used_count, first_at, last_at, offset_at}
+use Rattle.cdf_format.specs.IndexWalk.{Met, met, lost, and_then, entries_on, nodes_on}
+use Rattle.cdf_format.specs.RecordTypes.{vxr_type, cvvr_type}
+use Rattle.cdf_format.proofs.Members.{either}
+use Rattle.cdf_structure.proofs.IndexJoins.{join, link_chains, chains-assoc}
+
+-- ---- entries
+
+same : (x : Met Entries) → and_then x (λ t others. met t (join no_entry others)) ≡ x
+same (met seen entries) = refl
+same (lost place) = refl
+
+-- an entry before others
+module _ (wrap : Entries → Entries) (law : (es others : Entries) → wrap (join es others) ≡ join (wrap es) others) where
+  wrapped_last : (es : Entries) (x : Met Entries) → and_then (and_then x (λ u others. met u (join es others))) (λ t e. met t (wrap e)) ≡ and_then x (λ u others. met u (join (wrap es) others))
+  wrapped_last es (met seen others) = ap (met seen) (law es others)
+  wrapped_last es (lost place) = refl
+
+  wrapped : (x : Met Entries) (more : List ℕ → Met Entries)
+      → and_then (and_then x (λ t es. and_then (more t) (λ u others. met u (join es others)))) (λ t e. met t (wrap e))
+      ≡ and_then (and_then x (λ t es. met t (wrap es))) (λ t es. and_then (more t) (λ u others. met u (join es others)))
+  wrapped (met seen es) more = wrapped_last es (more seen)
+  wrapped (lost place) more = refl
+
+module _ (below : List ℕ → ℕ → ℕ → Met Nodes) (b ts : List ℕ) (place : ℕ) where
+  -- those of a node from a number on
+  abbrev on : ℕ → ℕ → List ℕ → Met Entries
+  on i count seen = entries_on below b ts place i count seen
+
+  -- an entry that names a block
+  pub one_block : (i : ℕ) (seen : List ℕ) → is_linkable b ts vxr_type (offset_at b place i) ≡ false
+      → on i 1 seen ≡ met seen (block (first_at b place i) (last_at b place i) (offset_at b place i) (eqb (type_at b (offset_at b place i)) cvvr_type) no_entry)
+  unfolding entries_on
+  one_block i seen plain = rw plain refl
+
+  -- an entry that names a lower chain
+  pub one_lower : (i : ℕ) (seen now : List ℕ) (nodes : Nodes) → is_linkable b ts vxr_type (offset_at b place i) ≡ true → below seen place (offset_at b place i) ≡ met now nodes
+      → on i 1 seen ≡ met now (lower (first_at b place i) (last_at b place i) nodes no_entry)
+  unfolding entries_on
+  one_lower i seen now nodes leads is = rw (leads, is) refl
+
+  pub one_lost : (i : ℕ) (seen : List ℕ) (at : ℕ) → is_linkable b ts vxr_type (offset_at b place i) ≡ true → below seen place (offset_at b place i) ≡ lost at → on i 1 seen ≡ lost at
+  unfolding entries_on
+  one_lost i seen at leads is = rw (leads, is) refl
+
+  pub no_entries : (i : ℕ) (seen : List ℕ) → on i 0 seen ≡ met seen no_entry
+  unfolding entries_on
+  no_entries i seen = refl
+
+  -- the entries behind others, of which these came first
+  abbrev behind : ℕ → ℕ → Met Entries → Met Entries
+  behind i m x = and_then x (λ t es. and_then (on i m t) (λ u others. met u (join es others)))
+
+  behind_first : (i n m : ℕ) (wrap : Entries → Entries) → ((es others : Entries) → wrap (join es others) ≡ join (wrap es) others) → (s : List ℕ) → on (suc i) (n + m) s ≡ behind (suc i + n) m (on (suc i) n s)
+      → and_then (on (suc i) (n + m) s) (λ t es. met t (wrap es)) ≡ behind (i + suc n) m (and_then (on (suc i) n s) (λ t es. met t (wrap es)))
+  behind_first i n m wrap law s e =
+      let next : suc i + n ≡ i + suc n = omega arith in
+      ap (λ (r : Met Entries). and_then r (λ t es. met t (wrap es))) e
+      ∙ wrapped wrap law (on (suc i) n s) (on (suc i + n) m)
+      ∙ ap (λ (k : ℕ). behind k m (and_then (on (suc i) n s) (λ t es. met t (wrap es)))) next
+
+  behind_chain : (i n m first last : ℕ) (x : Met Nodes) → ((s : List ℕ) → on (suc i) (n + m) s ≡ behind (suc i + n) m (on (suc i) n s))
+      → and_then x (λ s nodes. and_then (on (suc i) (n + m) s) (λ t es. met t (lower first last nodes es))) ≡ behind (i + suc n) m (and_then x (λ s nodes. and_then (on (suc i) n s) (λ t es. met t (lower first last nodes es))))
+  behind_chain i n m first last (met s nodes) e = behind_first i n m (lower first last nodes) (λ es others. refl) s (e s)
+  behind_chain i n m first last (lost at) e = refl
+
+  entries_then : (i n m : ℕ) (seen : List ℕ) → on i (n + m) seen ≡ behind (i + n) m (on i n seen)
+  unfolding entries_on
+  entries_then i zero m seen =
+      let here : i ≡ i + 0 = omega arith in
+      let count : 0 + m ≡ m = omega arith in
+      rw count (ap (λ (k : ℕ). on k m seen) here ∙ sym (same (on (i + 0) m seen)))
+  entries_then i (suc n) m seen =
+      let count : suc n + m ≡ suc (n + m) = omega arith in
+      rw count (elim (either (is_linkable b ts vxr_type (offset_at b place i))) [
+        | inl leads ↦ rw leads (behind_chain i n m (first_at b place i) (last_at b place i) (below seen place (offset_at b place i)) (λ s. entries_then (suc i) n m s))
+        | inr plain ↦ rw plain (behind_first i n m (block (first_at b place i) (last_at b place i) (offset_at b place i) (eqb (type_at b (offset_at b place i)) cvvr_type)) (λ es others. refl) seen (entries_then (suc i) n m seen))
+      ])
+
+  from_first : (n m : ℕ) (seen : List ℕ) → on 0 (n + m) seen ≡ behind n m (on 0 n seen)
+  from_first n m seen = let here : 0 + n ≡ n = omega arith in rw here at (entries_then 0 n m seen)
+
+  -- the walk of more entries, after the first ones, or lost behind them
+  module _ (n m : ℕ) (seen now : List ℕ) (entries : Entries) (before : on 0 n seen ≡ met now entries) where
+    pub more_met : (then : List ℕ) (others : Entries) → on n m now ≡ met then others → on 0 (n + m) seen ≡ met then (join entries others)
+    more_met then others e = from_first n m seen ∙ ap (behind n m) before ∙ ap (λ (x : Met Entries). and_then x (λ t os. met t (join entries os))) e
+
+    pub more_lost : (at : ℕ) → on n m now ≡ lost at → on 0 (n + m) seen ≡ lost at
+    more_lost at e = from_first n m seen ∙ ap (behind n m) before ∙ ap (λ (x : Met Entries). and_then x (λ t os. met t (join entries os))) e
+
+  -- a walk that is lost stays so
+  pub lost_on : (n m : ℕ) (seen : List ℕ) (at : ℕ) → on 0 n seen ≡ lost at → on 0 (n + m) seen ≡ lost at
+  lost_on n m seen at e = from_first n m seen ∙ ap (behind n m) e
+
+-- ---- chains
+
+module _ (below : List ℕ → ℕ → ℕ → Met Nodes) (b ts : List ℕ) where
+  -- what is left of a chain, of at most so many nodes
+  abbrev left : ℕ → List ℕ → ℕ → ℕ → Met Nodes
+  left most seen holder link = nodes_on below most b ts seen holder link
+
+  pub chain_ends : (most : ℕ) (seen : List ℕ) (holder link : ℕ) → link ≡ 0 → left most seen holder link ≡ met seen no_node
+  unfolding nodes_on
+  chain_ends zero seen holder link none = rw (eq-eqb link 0 none) refl
+  chain_ends (suc most) seen holder link none = rw (eq-eqb link 0 none) refl
+
+  pub chain_spent : (most : ℕ) (seen : List ℕ) (holder link : ℕ) → most ≡ 0 → link ≢ 0 → left most seen holder link ≡ lost holder
+  unfolding nodes_on
+  chain_spent zero seen holder link e some = rw (ne_eqb link 0 some) refl
+  chain_spent (suc most) seen holder link e some = absurd (omega (arith, e))
+
+  pub chain_stops : (most : ℕ) (seen : List ℕ) (holder link : ℕ) → link ≢ 0 → (is_linkable b ts vxr_type link && not (is_in link seen)) ≡ false → left most seen holder link ≡ lost holder
+  unfolding nodes_on
+  chain_stops zero seen holder link some stale = rw (ne_eqb link 0 some) refl
+  chain_stops (suc most) seen holder link some stale = rw (ne_eqb link 0 some, stale) refl
+
+  module _ (most less : ℕ) (is : most ≡ suc less) (seen : List ℕ) (holder link : ℕ) (some : link ≢ 0) (fresh : (is_linkable b ts vxr_type link && not (is_in link seen)) ≡ true) where
+    node_step : left most seen holder link ≡ and_then (entries_on below b ts link 0 (used_count b link) (seen ++ link ∷ [])) (λ s entries. and_then (left less s link (next_of b link)) (λ t more. met t (node link (room_at b link) entries more)))
+    unfolding nodes_on
+    node_step = rw (is, ne_eqb link 0 some, fresh) refl
+
+    pub node_lost : (at : ℕ) → entries_on below b ts link 0 (used_count b link) (seen ++ link ∷ []) ≡ lost at → left most seen holder link ≡ lost at
+    node_lost at e = node_step ∙ ap (λ (x : Met Entries). and_then x (λ s entries. and_then (left less s link (next_of b link)) (λ t more. met t (node link (room_at b link) entries more)))) e
+
+    pub node_met : (now : List ℕ) (entries : Entries) → entries_on below b ts link 0 (used_count b link) (seen ++ link ∷ []) ≡ met now entries
+        → left most seen holder link ≡ and_then (left less now link (next_of b link)) (λ t more. met t (node link (room_at b link) entries more))
+    node_met now entries e = node_step ∙ ap (λ (x : Met Entries). and_then x (λ s es. and_then (left less s link (next_of b link)) (λ t more. met t (node link (room_at b link) es more)))) e
+
+-- what is left, behind nodes that were met
+abbrev pub behind_nodes : Nodes → Met Nodes → Met Nodes
+behind_nodes done (met seen more) = met seen (link_chains done more)
+behind_nodes done (lost place) = lost place
+
+pub behind_one : (done : Nodes) (place room : ℕ) (entries : Entries) (x : Met Nodes) → behind_nodes done (and_then x (λ t more. met t (node place room entries more))) ≡ behind_nodes (link_chains done (node place room entries no_node)) x
+behind_one done place room entries (met seen more) = ap (met seen) (sym (chains-assoc done (node place room entries no_node) more))
+behind_one done place room entries (lost at) = refl

@@ -1,0 +1,39 @@
+-- The numbers of the members of a chain, one after the other.
+use Rattle.std.proofs.Common.{◌≡◌, ◌≢◌, ℕ, zero, suc, ◌+◌, ◌<◌, ◌≤◌, List, [], ◌∷◌, length, drop, get_or, eq-eqb, refl, arith, inl, inr, Option, Some, None}
+use Rattle.std.proofs.lemmas.Bool.{ne_eqb}
+use Rattle.cdf_format.specs.Fields.{number}
+use Rattle.cdf_format.specs.Records.{Field}
+use Rattle.cdf_format.specs.RecordTypes.{fixed_size}
+use Rattle.cdf_format.specs.Tiles.{In, AreTiles}
+use Rattle.cdf_format.specs.Rules.{IsBroken}
+use Rattle.cdf_format.specs.Walks.{whole}
+use Rattle.cdf_format.specs.Chains.{chain}
+use Rattle.cdf_format.specs.ChainRules.{number_rows}
+use Rattle.cdf_format.proofs.ChainsLemmas.{chain_sound, linkable-in, linkable-type}
+use Rattle.cdf_format.proofs.TilesLemmas.{tile_lies}
+use Rattle.cdf_structure.specs.declared.finding.Finding.{Finding}
+use Rattle.cdf_structure.specs.FileChains.{AreLong}
+use Rattle.cdf_structure.specs.Findings.{Finds}
+
+pub drop_at : (xs : List ℕ) (i : ℕ) → i < length xs → drop i xs ≡ get_or xs i 0 ∷ drop (suc i) xs
+drop_at [] i lt = absurd (omega arith)
+drop_at (x ∷ xs) zero lt = refl
+drop_at (x ∷ xs) (suc i) lt = drop_at xs i (omega arith)
+
+module _ (rule : ℕ) (b : List ℕ) (num : Field) (ms : List ℕ) (i : ℕ) (lt : i < length ms) where
+  pub number_wrong : number b (get_or ms i 0) num ≢ i → IsBroken (number_rows rule b num i (drop i ms)) rule (get_or ms i 0)
+  number_wrong ne = rw (drop_at ms i lt) (inl (refl, refl, ne_eqb (number b (get_or ms i 0) num) i ne))
+
+  pub number_right : number b (get_or ms i 0) num ≡ i → (found : Option Finding) → Finds (number_rows rule b num (suc i) (drop (suc i) ms)) found → Finds (number_rows rule b num i (drop i ms)) found
+  number_right e None rest = rw (drop_at ms i lt) (eq-eqb (number b (get_or ms i 0) num) i e, rest)
+  number_right e (Some f) rest = rw (drop_at ms i lt) (inr rest)
+
+-- a member of a chain has the fields of its type
+pub member_fields : (b ts : List ℕ) (upto type holder : ℕ) (head : Field) (place : ℕ) (ms : List ℕ) → AreTiles b 8 upto ts → AreLong b ts → place ≤ fixed_size type
+    → chain b ts type holder head ≡ whole ms → (m : ℕ) → In m ms → m + place ≤ upto
+member_fields b ts upto type holder head place ms tiled long fits is m i =
+    let linkable = (chain_sound b ts type holder head ms is).linkable m i in
+    let inside = linkable-in b ts type m linkable in
+    let enough = rw (linkable-type b ts type m linkable) at (long m inside) in
+    let lies = tile_lies b 8 upto ts m tiled inside in
+    omega (arith, enough, lies.high, fits)

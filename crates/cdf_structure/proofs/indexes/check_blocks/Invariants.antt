@@ -1,0 +1,12 @@
+use Rattle.std.proofs.Common.{take}
+use Rattle.std.specs.List.{flat_map}
+use Rattle.cdf_area.specs.Calls.{Stays}
+use Rattle.cdf_format.specs.Rules.{Hold}
+use Rattle.cdf_structure.specs.Indexes.{block_rows}
+use Rattle.cdf_structure.proofs.indexes.check_blocks.Given as goal
+
+abbrev pub invariant-loop-block : goal.invariant-loop-block
+invariant-loop-block g l = record {
+  area : Stays g.A.Area.image g.A.Area.frame g.A.Area.faults g.A.Area.edited l.fn.area l.area;
+  rows : Hold (flat_map (block_rows (g.A.Area.image l.fn.area) l.tiles l.rec_bytes) (take l.block-index l.blocks));
+}

@@ -1,0 +1,80 @@
+use Rattle.std.proofs.Common.{◌≡◌, ◌∙◌, ◌++◌, ℕ, List, length, map, get_or, take, add-one, arith, ap, Ok, Err}
+use Rattle.std.proofs.lemmas.List.{take_all}
+use Rattle.std.specs.List.{flat_map}
+use Rattle.cdf_area.proofs.Calls.{read_more}
+use Rattle.cdf_format.specs.Fields.{number}
+use Rattle.cdf_format.specs.IndexRules.{met_rows, phase8}
+use Rattle.cdf_format.specs.Owners.{variable_records}
+use Rattle.cdf_format.specs.Records.{vdr_vxr_head}
+use Rattle.cdf_format.specs.Rules.{Hold}
+use Rattle.cdf_format.specs.Shape.{index_of, variable_shape}
+use Rattle.cdf_format.specs.VariableFields.{record_bytes}
+use Rattle.cdf_structure.specs.Indexes.{index_records}
+use Rattle.cdf_structure.specs.Findings.{Yields}
+use Rattle.cdf_structure.specs.declared.index_walk.Index.{Index}
+use Rattle.cdf_structure.proofs.IndexLists.{had_at, is_plain, is_small, length_map, list_more}
+use Rattle.cdf_structure.proofs.Rows.{broken_member, holds_more}
+use Rattle.cdf_structure.proofs.indexes.check_indexes.Goals as goal
+
+abbrev IsOf : List ℕ → List ℕ → ℕ → Index → Type 0
+IsOf b ts vdr index = index_records vdr index ≡ variable_records (variable_shape b ts vdr)
+
+pub bounds-record_sizes-i : goal.bounds-record_sizes-i
+bounds-record_sizes-i g c =
+    let b = g.A.Area.image c.args.area.now in
+    omega (arith, c.loop-i-test.true, ap length c.requires.sizes, length_map (record_bytes b) c.args.vdrs.now)
+
+pub bounds-vxr_heads-i : goal.bounds-vxr_heads-i
+bounds-vxr_heads-i g c =
+    let b = g.A.Area.image c.args.area.now in
+    omega (arith, c.loop-i-test.true, ap length c.requires.heads, length_map (λ vdr. number b vdr vdr_vxr_head) c.args.vdrs.now)
+
+pub check_index-requires : goal.check_index-requires
+check_index-requires g c =
+    let l = c.loop-i in
+    let b = g.A.Area.image c.args.area.now in
+    let ts = c.args.tiles.now in
+    let vdrs = c.args.vdrs.now in
+    let lt = c.loop-i-test.true in
+    let bytes = had_at (record_bytes b) vdrs c.args.record_sizes.now l.i lt c.requires.sizes in
+    rw l.invariant.area.image (record {
+      tiled = c.requires.tiled;
+      small = c.requires.small;
+      read = c.requires.read;
+      head = had_at (λ vdr. number b vdr vdr_vxr_head) vdrs c.args.vxr_heads.now l.i lt c.requires.heads;
+      plain = is_plain b ts vdrs c.requires.read c.requires.described l.i lt;
+      bytes = bytes;
+      few = omega (arith, bytes, is_small b ts vdrs c.requires.read c.requires.described l.i lt);
+    })
+
+pub returns-in-Err-clause-found : goal.returns-in-Err-clause-found
+returns-in-Err-clause-found g c =
+    let l = c.loop-i in
+    let b = g.A.Area.image c.args.area.now in
+    let ts = c.args.tiles.now in
+    let m = get_or c.args.vdrs.now l.i 0 in
+    let here : Yields (met_rows b ts m (index_of b ts m)) (IsOf b ts m) (Err c.in-Err.broken) = rw (c.in-Err.is, l.invariant.area.image) at c.in_ok-index.ensures.found in
+    broken_member (λ vdr. met_rows b ts vdr (index_of b ts vdr)) c.args.vdrs.now l.i 0 c.in-Err.broken.rule c.in-Err.broken.place c.loop-i-test.true here
+
+pub loop-i-preserved : goal.loop-i-preserved
+loop-i-preserved g c =
+    let l = c.loop-i in
+    let b = g.A.Area.image c.args.area.now in
+    let ts = c.args.tiles.now in
+    let m = get_or c.args.vdrs.now l.i 0 in
+    let here : Yields (met_rows b ts m (index_of b ts m)) (IsOf b ts m) (Ok c.in-Ok.index) = rw (c.in-Ok.is, l.invariant.area.image) at c.in_ok-index.ensures.found in
+    record {
+      area = read_more l.invariant.area c.in_ok-index.ensures.area;
+      rows = rw add-one (holds_more (λ vdr. met_rows b ts vdr (index_of b ts vdr)) c.args.vdrs.now l.i 0 c.loop-i-test.true l.invariant.rows here.0);
+      owned = list_more variable_records (variable_shape b ts) c.args.vdrs.now l.i l.owned.items c.own.new.owned.items c.loop-i-test.true l.invariant.owned (c.in_ok-own-in-Ok.ensures.owned ∙ ap (λ (xs : List ℕ). l.owned.items ++ xs) here.1);
+    }
+
+pub returns-clause-found : goal.returns-clause-found
+returns-clause-found g c =
+    let l = c.loop-i in
+    let b = g.A.Area.image c.args.area.now in
+    let ts = c.args.tiles.now in
+    let vdrs = c.args.vdrs.now in
+    let all : take l.i vdrs ≡ vdrs = take_all l.i vdrs (omega (arith, c.loop-i-test.false)) in
+    let rows : Hold (phase8 b ts vdrs) = rw all at l.invariant.rows in
+    (rows, l.invariant.owned ∙ ap (λ (xs : List ℕ). flat_map variable_records (map (variable_shape b ts) xs)) all)

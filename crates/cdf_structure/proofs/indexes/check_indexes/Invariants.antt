@@ -1,0 +1,15 @@
+use Rattle.std.proofs.Common.{◌≡◌, map, take}
+use Rattle.std.specs.List.{flat_map}
+use Rattle.cdf_area.specs.Calls.{Stays}
+use Rattle.cdf_format.specs.IndexRules.{met_rows}
+use Rattle.cdf_format.specs.Owners.{variable_records}
+use Rattle.cdf_format.specs.Rules.{Hold}
+use Rattle.cdf_format.specs.Shape.{index_of, variable_shape}
+use Rattle.cdf_structure.proofs.indexes.check_indexes.Given as goal
+
+abbrev pub invariant-loop-i : goal.invariant-loop-i
+invariant-loop-i g l = record {
+  area : Stays g.A.Area.image g.A.Area.frame g.A.Area.faults g.A.Area.edited l.fn.area l.area;
+  rows : Hold (flat_map (λ vdr. met_rows (g.A.Area.image l.fn.area) l.tiles vdr (index_of (g.A.Area.image l.fn.area) l.tiles vdr)) (take l.i l.vdrs));
+  owned : l.owned.items ≡ flat_map variable_records (map (variable_shape (g.A.Area.image l.fn.area) l.tiles) (take l.i l.vdrs));
+}

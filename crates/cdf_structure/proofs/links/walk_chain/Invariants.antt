@@ -1,0 +1,13 @@
+use Rattle.std.proofs.Common.{◌≡◌, ◌-◌, length}
+use Rattle.cdf_area.specs.Calls.{Stays}
+use Rattle.cdf_format.specs.Chains.{chain_on, chain}
+use Rattle.cdf_format.specs.Records.{field}
+use Rattle.cdf_structure.specs.Met.{Agrees}
+use Rattle.cdf_structure.proofs.links.walk_chain.Given as goal
+
+abbrev pub invariant-loop-turn : goal.invariant-loop-turn
+invariant-loop-turn g l = record {
+  area : Stays g.A.Area.image g.A.Area.frame g.A.Area.faults g.A.Area.edited l.fn.area l.area;
+  agrees : Agrees l.met;
+  goes : chain_on (length l.tiles - l.turn) (g.A.Area.image l.fn.area) l.tiles l.record_type l.met.list.items l.last l.link ≡ chain (g.A.Area.image l.fn.area) l.tiles l.record_type l.fn.holder (field l.fn.head 8);
+}
