@@ -3,7 +3,16 @@ use Rattle.std.specs.Prelude.{Bool, true, false}
 use Rattle.cdf_model.specs.declared.command.Command.{Command}
 use Rattle.cdf_model.specs.declared.command.Command.TheVariants as commands
 
--- of the commands on variables, and `setup`, those that there are by now
+-- of the commands on the records of a variable, those that there are by now
+abbrev pub built_on_records : Command → Bool
+built_on_records (commands.Reindex var) = true
+built_on_records (commands.PutRec var rec words) = true
+built_on_records (commands.GetRec var rec) = true
+built_on_records (commands.PutVal var rec index words) = true
+built_on_records (commands.GetVal var rec index) = true
+built_on_records c = false
+
+-- of the commands on variables and on their records, and `setup`, those that there are by now
 abbrev pub built_on_variables : Command → Bool
 built_on_variables (commands.Setup encoding majority dims) = true
 built_on_variables (commands.RVar name t elems vary varys) = true
@@ -12,12 +21,7 @@ built_on_variables (commands.RenameVar from to) = true
 built_on_variables (commands.DelVar name) = true
 built_on_variables (commands.SetPad var words) = true
 built_on_variables (commands.SetBlocking var n) = true
-built_on_variables (commands.Reindex var) = true
-built_on_variables (commands.PutRec var rec words) = true
-built_on_variables (commands.GetRec var rec) = true
-built_on_variables (commands.PutVal var rec index words) = true
-built_on_variables (commands.GetVal var rec index) = true
-built_on_variables c = false
+built_on_variables c = built_on_records c
 
 -- the commands that there are by now
 abbrev pub built : Command → Bool
