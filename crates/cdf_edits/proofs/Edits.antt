@@ -19,7 +19,9 @@ pub mod DeletionCalls
 pub mod EditActs
 pub mod EmptySet
 pub mod EntryBeside
+pub mod EntryFields
 pub mod EntryTakenStep
+pub mod JoinedEntry
 pub mod NumbersFallStep
 pub mod FallenEntries
 pub mod FallenItems
@@ -32,12 +34,9 @@ pub mod FreedVdr
 pub mod PadMoved
 pub mod InRecords
 pub mod LaterCommands
-pub mod MadeEntry
 pub mod MadeRecord
 pub mod LeftEntry
 pub mod MarkLemmas
-pub mod MovedEntry
-pub mod MovedFreed
 pub mod MovedVdr
 pub mod NameWritten
 pub mod NumberedItems
@@ -48,7 +47,6 @@ pub mod OwnersKept
 pub mod OwnVariable
 pub mod PadWritten
 pub mod PlainVariables
-pub mod PushedEntry
 pub mod RecordFrame
 pub mod RemovalCalls
 pub mod RemovedAttribute

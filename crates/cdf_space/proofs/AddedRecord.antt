@@ -1,4 +1,4 @@
--- A record that is taken and written becomes the last one of a chain, and is counted there.
+-- A record that is taken and written becomes the last one of a chain, and is counted there; or it takes the place of another one.
 use Rattle.std.proofs.Common.{◌≡◌, ℕ, ◌+◌, ◌^◌, ◌<◌, ◌≤◌, List, [], ◌∷◌, ◌++◌, length, true, refl, sym, ap, subst, ◌∙◌, arith, inl}
 use Rattle.std.specs.Prelude.{◌==◌}
 use Rattle.std.proofs.Common.{false}
@@ -10,21 +10,22 @@ use Rattle.cdf_format.specs.Shape.{Shape, HasShape, shape}
 use Rattle.cdf_format.specs.Sound.{IsSound}
 use Rattle.cdf_format.specs.Tiles.{In, tiles}
 use Rattle.cdf_format.proofs.ChainsLemmas.{is_a-from, is_a-in, is_a-type, linkable-type, linkable-in}
-use Rattle.cdf_format.proofs.ShapeLemmas.{tiles_are}
+use Rattle.cdf_format.proofs.ShapeLemmas.{shape_is, tiles_are}
 use Rattle.cdf_format.proofs.TilesLemmas.{tile_lies}
 use Rattle.cdf_fields.proofs.Writes.{field_reads, length-with_field, other_bytes}
 use Rattle.cdf_edits.specs.declared.chain.Chain.{Chain}
 use Rattle.cdf_edits.specs.declared.chain.Chain.TheVariants.{Attrs, RVars, ZVars, GrEntries, ZEntries}
 use Rattle.cdf_edits.specs.Edits.Edit.{Edit}
-use Rattle.cdf_edits.specs.Edits.Marks.{Mark, avoided, whole, field_marks, taking_marks, append_marks}
+use Rattle.cdf_edits.specs.Edits.Marks.{Mark, avoided, whole, field_marks, taking_marks, append_marks, replacing_marks}
 use Rattle.cdf_edits.specs.Frame.Changed.{touched_field, Changed}
-use Rattle.cdf_edits.specs.Space.Adding.{Added}
-use Rattle.cdf_edits.specs.Space.Chains.{holder_of, head_of, count_of, counted_in, holder_type, type_in, members_of, HolderStands, HasChain, MayJoin, Appended}
+use Rattle.cdf_edits.specs.Space.Adding.{Added, Exchanged}
+use Rattle.cdf_edits.specs.Space.Chains.{holder_of, head_of, count_of, counted_in, holder_type, type_in, members_of, HolderStands, HasChain, MayJoin, Appended, Replaced}
 use Rattle.cdf_edits.specs.Space.Placement.{with_space}
 use Rattle.cdf_edits.specs.Space.Placing.{Placed, Fills, type_of_body}
-use Rattle.cdf_edits.proofs.Edits.Composing.{edit_then, changed_edit, head_size, head_type}
+use Rattle.cdf_edits.proofs.Edits.Composing.{edit_then, edit_wider, changed_edit, head_size, head_type}
 use Rattle.cdf_edits.proofs.Edits.RecordFrame.{part_clear, field_clear, chain_clear}
-use Rattle.cdf_edits.proofs.Edits.ChainsOfShape.{IsOf, members_are, has_chain, may_join, append_changed, joined_chain}
+use Rattle.cdf_edits.proofs.Edits.ChainEdits.{replaced_edit}
+use Rattle.cdf_edits.proofs.Edits.ChainsOfShape.{IsOf, members_are, has_chain, may_join, append_changed, joined_chain, replaced_chain}
 use Rattle.cdf_edits.proofs.Edits.MadeRecord.{place_in, filled_sound, filled_size, filled_edit, fresh}
 use Rattle.cdf_edits.proofs.Edits.StepEdits.{append_edit}
 use Rattle.cdf_edits.proofs.Space.UsedRecords.{apart}
@@ -268,3 +269,34 @@ module _ (b : List ℕ) (c : Chain) (body : List ℕ) (sound : IsSound b (shape 
         chain = chain_now;
         counted = counted;
       }
+
+  -- ---- once it took the place of a member
+
+  module _ (mid : List ℕ) {old : ℕ} (replaced : Replaced filled mid c old place) where
+    exchanged : Edit filled mid records records (linking s.unused ms place need holder c) []
+    exchanged =
+        let in_its_shape : IsSound filled (shape filled) = subst (IsSound filled) (sym (shape_is filled grown of_filled)) (filled_sound sound fills) in
+        subst (λ (h : ℕ). Edit filled mid records records (linking s.unused ms place need h c) []) same_holder
+        (subst (λ (xs : List ℕ). Edit filled mid records records (replacing_marks (holder_type c) (holder_of filled c) (head_of c) (type_in c) place xs) []) filled_members (replaced_edit filled c in_its_shape filled_stands filled_has_chain filled_joins replaced))
+
+    count_same : number mid holder (count_of c) ≡ counted_in b c
+    count_same =
+        field_clear exchanged holder (holder_type c) (count_of c) (e.sub holder holder_in) holder_then.0 k.holder_stays.1 k.count_stays.1 (subst (λ (n : ℕ). (count_of c).place + (count_of c).width ≤ n) (sym holder_then.1) count_long)
+        ∙ field_clear e holder (holder_type c) (count_of c) holder_in holder_typed k.holder_stays.0 k.count_stays.0 count_long
+
+    holder_still : holder_of mid c ≡ holder
+    holder_still =
+        let i = is_a-in filled records cdr_type 8 of_filled.cdr_stands in
+        let t = is_a-type filled records cdr_type 8 of_filled.cdr_stands in
+        let long : 312 ≤ size_at filled 8 = subst (λ (t : ℕ). fixed_size t ≤ size_at filled 8) t (of_filled.fixed 8 i) in
+        holder_same filled mid c (field_clear exchanged 8 cdr_type cdr_gdr_offset i t k.first_stays.0 k.first_stays.1 (omega arith)) ∙ same_holder
+
+    pub is_exchanged : Exchanged b mid c body old place
+    is_exchanged = record {
+      filled = filled;
+      placed = placed;
+      linked = edit_wider (counting s.unused ms place need holder c) exchanged;
+      as_long = replaced.length_stays;
+      chain = replaced_chain of_filled is_of replaced exchanged.tiled_now holder_still;
+      counted = count_same;
+    }

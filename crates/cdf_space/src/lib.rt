@@ -6,7 +6,7 @@ mod chains;
 mod measuring;
 mod placing;
 
-pub use adding::append_record;
+pub use adding::{append_record, exchange_record};
 pub use cdf_edits::Chain;
 pub use chains::{chain_append, chain_remove, chain_replace, count_down, count_up, read_chain};
 pub use measuring::space_of;

@@ -9,9 +9,9 @@ use Rattle.cdf_format.specs.Owners.{attribute_records, unused_records, times, ow
 use Rattle.cdf_format.specs.RecordTypes.{uir_type}
 use Rattle.cdf_format.specs.Shape.{AttributeShape, Shape}
 use Rattle.cdf_format.specs.Sound.{IsSound}
-use Rattle.cdf_format.specs.Tiles.{In, AreTiles}
+use Rattle.cdf_format.specs.Tiles.{In, AreTiles, Distinct}
 use Rattle.cdf_format.proofs.Members.{either, true-is_in, false-is_in}
-use Rattle.cdf_format.proofs.Owning.{times-none, filter-in}
+use Rattle.cdf_format.proofs.Owning.{times-none, times-once, filter-in}
 use Rattle.cdf_edits.specs.Commands.EntryChains.{chain_of}
 use Rattle.cdf_edits.specs.Edits.Edit.{Edit}
 use Rattle.cdf_edits.specs.Edits.EntryMarks.{with_chain}
@@ -19,7 +19,7 @@ use Rattle.cdf_edits.specs.Edits.Marks.{Mark}
 use Rattle.cdf_edits.specs.Space.Chains.{with_in_place, without}
 use Rattle.cdf_edits.proofs.Edits.OwnedOnce.{used_times, unused_none, unused_once, outside_unowned, unused_unowned, spliced_times}
 use Rattle.cdf_edits.proofs.Edits.Splice.{spliced}
-use Rattle.cdf_edits.proofs.Frame.OwnersApart.{file_records, all_attribute_records, all_variable_records, owned-times, times-append}
+use Rattle.cdf_edits.proofs.Frame.OwnersApart.{file_records, all_attribute_records, all_variable_records, owned-times, times-append, times-in}
 
 -- ---- one chain of an attribute
 
@@ -43,8 +43,32 @@ once_more m x xs = times-append m (x ∷ []) xs
 pub pushed_trades : (es : List ℕ) (e : ℕ) → Trades es (es ++ e ∷ []) [] (e ∷ [])
 pushed_trades es e m = omega (arith, times-append m es (e ∷ []))
 
-pub same_trades : (es : List ℕ) → Trades es es [] []
-same_trades es m = refl
+-- a member then came, or was one that stays
+pub traded_member : (chain chain' gone come : List ℕ) → Distinct chain → Trades chain chain' gone come → (m : ℕ) → In m chain' → In m come ⊎ (In m chain × (In m gone → ⊥))
+traded_member chain chain' gone come once trades m i =
+    let all = trades m in
+    let here = times-in m chain' i in
+    elim (either (is_in m come)) [
+      | inl x ↦ inl (true-is_in m come x)
+      | inr x ↦
+          let new = times-none m come (false-is_in m come x) in
+          elim (either (is_in m chain)) [
+            | inl y ↦ let one = times-once m chain once (true-is_in m chain y) in inr (true-is_in m chain y, (λ j. let went = times-in m gone j in absurd (omega arith)))
+            | inr y ↦ let none = times-none m chain (false-is_in m chain y) in absurd (omega arith)
+          ]
+    ]
+
+-- and what came is a member
+pub came_in : (chain chain' gone come : List ℕ) → Trades chain chain' gone come → (m : ℕ) → In m come → (In m gone → ⊥) → In m chain'
+came_in chain chain' gone come trades m i out = elim (either (is_in m chain')) [
+  | inl x ↦ true-is_in m chain' x
+  | inr x ↦
+      let all = trades m in
+      let new = times-in m come i in
+      let none = times-none m gone out in
+      let absent = times-none m chain' (false-is_in m chain' x) in
+      absurd (omega arith)
+]
 
 pub replaced_trades : (es : List ℕ) (old by : ℕ) → In old es → Trades es (with_in_place old by es) (old ∷ []) (by ∷ [])
 replaced_trades [] old by i m = absurd i

@@ -1,18 +1,21 @@
 -- An entry is changed in its place, and the greatest number of its chain is written.
-use Rattle.std.proofs.Common.{◌≡◌, ◌≢◌, ℕ, ◌+◌, ◌≤◌, List, [], ◌∷◌, ◌++◌, length, true, eq-eqb, refl, sym, ap, subst, ◌∙◌, arith, inl, inr}
-use Rattle.std.proofs.lemmas.Bool.{cases_eq, ne_eqb}
+use Rattle.std.proofs.Common.{◌≡◌, ◌≢◌, ℕ, ◌+◌, ◌≤◌, List, [], ◌∷◌, ◌++◌, length, ℤ, eqb, true, eq-eqb, refl, sym, ap, subst, ◌∙◌, arith, inl, inr}
+use Rattle.std.proofs.lemmas.Bool.{cases_eq, eqb-true, ne_eqb}
+use Rattle.std.specs.Int.{w32, cast_unsigned}
+use Rattle.std.specs.Prelude.{FitsSigned}
 use Rattle.cdf_base.specs.Bytes.{put}
 use Rattle.cdf_model.specs.declared.kinds.EntryKind.{EntryKind}
 use Rattle.cdf_model.specs.declared.kinds.EntryKind.TheVariants as entries
 use Rattle.cdf_format.specs.Bytes.{Same}
 use Rattle.cdf_format.specs.Chains.{IsChain}
-use Rattle.cdf_format.specs.Fields.{number, size_at, type_at, with_field}
-use Rattle.cdf_format.specs.Owners.{attribute_records}
+use Rattle.cdf_format.specs.Fields.{integer4, number, size_at, type_at}
+use Rattle.cdf_format.specs.Owners.{Unused, attribute_records, unused_records}
 use Rattle.cdf_format.specs.Records.{Field, field, gdr_eof, gdr_uir_head}
 use Rattle.cdf_format.specs.RecordTypes.{gdr_type, adr_type, uir_type}
 use Rattle.cdf_format.specs.Shape.{AttributeShape, HasShape, Shape, shape}
 use Rattle.cdf_format.specs.Sound.{IsSound}
 use Rattle.cdf_format.specs.Tiles.{In}
+use Rattle.cdf_format.specs.WellFormed.{Good}
 use Rattle.cdf_format.proofs.BytesLemmas.{length-put}
 use Rattle.cdf_format.proofs.ChainsLemmas.{linkable-in, linkable-type}
 use Rattle.cdf_format.proofs.TilesLemmas.{tile_lies}
@@ -28,14 +31,20 @@ use Rattle.cdf_edits.proofs.Edits.ChainKinds.{chain_has, chain_in}
 use Rattle.cdf_edits.proofs.Edits.ChainOwners.{replaced_trades}
 use Rattle.cdf_edits.proofs.Edits.ChainSpliced.{Rechains}
 use Rattle.cdf_edits.proofs.Edits.Composing.{changed_edit, edit_then, head_size, head_type}
-use Rattle.cdf_edits.proofs.Edits.FieldWritten.{IsField, written_edit, written_long, Stands, still_stands, still_says, field_in}
+use Rattle.cdf_edits.proofs.Edits.FieldWritten.{Stands, still_stands, still_says}
 use Rattle.cdf_edits.proofs.Edits.MarkLemmas.{away-avoids}
-use Rattle.cdf_edits.proofs.Edits.PushedEntry.{max_lies, head_lies, count_is}
-use Rattle.cdf_edits.proofs.Edits.RecordFrame.{field_clear, chain_stays, chain_clear, kept_but_link}
+use Rattle.cdf_edits.proofs.Edits.EntryFields.{MaxWritten, count_is, head_lies, max_edit, max_integer, max_long}
+use Rattle.cdf_edits.proofs.Edits.OneChain.{Settled, end_before}
+use Rattle.cdf_edits.proofs.Edits.OwnersKept.{stood}
+use Rattle.cdf_edits.proofs.Edits.ChainKept.{records_are, list_is}
+use Rattle.cdf_edits.proofs.Edits.EditActs.{acts_none}
+use Rattle.cdf_edits.proofs.Commands.KeptRecords.{keep_owned}
+use Rattle.cdf_edits.proofs.Frame.OwnersApart.{unused_in}
+use Rattle.cdf_edits.proofs.Space.UsedRecords.{apart, filter-says}
+use Rattle.cdf_edits.proofs.Edits.RecordFrame.{field_clear, chain_stays, chain_clear, kept, kept_but_link}
 use Rattle.cdf_edits.proofs.Edits.Splice.{parts_there, adr_stands}
 use Rattle.cdf_edits.proofs.Edits.StepEdits.{gdr_in, gdr_typed, gdr_long, some_bytes}
 use Rattle.cdf_edits.proofs.Frame.ChangedBytes.{changed_put}
-use Rattle.cdf_edits.proofs.Space.UsedRecords.{apart}
 
 -- one takes its own place
 pub in_its_place : (old : ℕ) (es : List ℕ) → with_in_place old old es ≡ es
@@ -72,7 +81,7 @@ pub record ChangesEntry (b now : List ℕ) (kind : EntryKind) (before : List Att
   pub member : In place (chain_of own kind)
   pub room : 20 + length fields ≤ size_at b place
   pub greatest : ℕ
-  pub written : now ≡ with_field (put b (place + 20) fields) own.adr (max_field kind) greatest
+  pub written : MaxWritten (put b (place + 20) fields) now kind own.adr greatest
 
 module _ {b now : List ℕ} {kind : EntryKind} {before : List AttributeShape} {own : AttributeShape} {after : List AttributeShape} {fields : List ℕ} {place : ℕ} (sound : IsSound b (shape b)) (p : ChangesEntry b now kind before own after fields place) where
   abbrev s : Shape
@@ -114,23 +123,23 @@ module _ {b now : List ℕ} {kind : EntryKind} {before : List AttributeShape} {o
   t : Changes kind own.adr place width
   t = changes kind own.adr place width
 
-  pub of_max : IsField mid s.records own.adr adr_type (max_field kind)
-  of_max = field_in first.tiled_now (still_stands first the_adr t.first_only (omega arith)) (max_lies kind).0 (max_lies kind).1
+  mid_adr : Stands mid s.records own.adr adr_type 324
+  mid_adr = still_stands first the_adr t.first_only (omega arith)
 
   second : Edit mid now s.records s.records (field_marks adr_type own.adr (max_field kind)) []
-  second = written_edit mid now s.records own.adr adr_type (max_field kind) p.greatest of_max p.written
+  second = max_edit first.tiled_now mid_adr p.written
 
   pub as_long : length now ≡ length b
-  as_long = written_long mid now s.records own.adr adr_type (max_field kind) p.greatest of_max p.written ∙ mid_long
+  as_long = max_long first.tiled_now mid_adr p.written ∙ mid_long
+
+  pub greatest_now : (z : ℤ) → FitsSigned w32 z → p.greatest ≡ cast_unsigned w32 z → integer4 now own.adr (max_field kind) ≡ z
+  greatest_now z fits same = max_integer first.tiled_now mid_adr p.written z fits same
 
   abbrev pub marks : List Mark
   marks = changing kind own.adr place width
 
   e : Edit b now s.records s.records marks []
   e = edit_then first second
-
-  pub tests : Changes kind own.adr place width
-  tests = t
 
   -- what the writing of the greatest number leaves of the entry
   pub entry_kept : (hi : ℕ) → hi ≤ size_at b place → Same mid now (place + 0) (place + hi)
@@ -186,5 +195,19 @@ module _ {b now : List ℕ} {kind : EntryKind} {before : List AttributeShape} {o
         kept_but_link e m (entry_type kind) (linkable-in b s.records (entry_type kind) m ok) (linkable-type b s.records (entry_type kind) m ok) (away-avoids marks (entry_type kind) m 0 12 away) (away-avoids marks (entry_type kind) m 20 (size_at b m) away);
   }
 
-  pub end_same : number now s.gdr gdr_eof ≡ number b s.gdr gdr_eof
-  end_same = field_clear e s.gdr gdr_type gdr_eof (gdr_in b s h) (gdr_typed b s h) t.heads t.end (let l = gdr_long b s h in omega arith)
+  -- nothing is taken or freed
+  pub settled : {need : ℕ} → Good b → Settled sound rechains need []
+  settled good = record {
+    read = λ m i. absurd i;
+    beside = λ m out. refl;
+    sorted = λ m i. absurd i;
+    end = field_clear e s.gdr gdr_type gdr_eof (gdr_in b s h) (gdr_typed b s h) t.heads t.end (let l = gdr_long b s h in omega arith) ∙ end_before b good ∙ sym as_long;
+    longest = let same = as_long in omega arith;
+    takes_within = omega arith;
+    acts_follow = acts_none sound e t.unused refl (records_are sound rechains) (list_is sound rechains) as_long;
+    gdr_within = t.gdr_within;
+    adr_within = t.adr_within;
+    unused = λ may. keep_owned b now may [] Unused (unused_records b s) (λ m i.
+        let inside = unused_in b s sound m i in
+        stood sound e (records_are sound rechains) m inside (kept e m uir_type inside (eqb-true (type_at b m) uir_type (filter-says (λ (x : ℕ). eqb (type_at b x) uir_type) s.records m i)) t.unused));
+  }

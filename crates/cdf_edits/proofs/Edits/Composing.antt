@@ -67,6 +67,19 @@ module _ {b mid now old between new : List ℕ} {marks more : List Mark} {reborn
     kind = join_kind;
   }
 
+-- an edit of fewer bytes is one of more
+pub edit_wider : {b now old new : List ℕ} {marks : List Mark} {reborn : List ℕ} (more : List Mark) → Edit b now old new marks reborn → Edit b now old new (marks ++ more) reborn
+edit_wider {marks = marks} more e = record {
+  tiled = e.tiled;
+  tiled_now = e.tiled_now;
+  longer = e.longer;
+  front = e.front;
+  sub = e.sub;
+  head = e.head;
+  part = λ m type lo hi i is h a fits. e.part m type lo hi i is (Avoids-split marks more type m 0 12 h).0 (Avoids-split marks more type m lo hi a).0 fits;
+  kind = e.kind;
+}
+
 -- ---- bytes of records are written
 
 module _ (b now old : List ℕ) (ts : List Touch) (marks : List Mark) (reborn : List ℕ) (tiled : AreTiles b 8 (length b) old) (long : length now ≡ length b) (changed : Changed b now ts) (marked : Each (Marked b old marks reborn) ts) where

@@ -25,7 +25,7 @@ use Rattle.cdf_edits.proofs.Edits.ChainsOfShape.{remove_changed}
 use Rattle.cdf_edits.proofs.Edits.Composing.{edit_then, same-then}
 use Rattle.cdf_edits.proofs.Edits.FieldWritten.{Stands}
 use Rattle.cdf_edits.proofs.Edits.LeftEntry.{LeavesChain, second, third}
-use Rattle.cdf_edits.proofs.Edits.PushedEntry.{of_shape}
+use Rattle.cdf_edits.proofs.Edits.EntryFields.{of_shape}
 use Rattle.cdf_edits.proofs.Edits.RecordFrame.{kept}
 use Rattle.cdf_edits.proofs.Edits.Splice.{adr_stands, parts_there}
 use Rattle.cdf_edits.proofs.Edits.StepEdits.{before_in, link_is_behind}

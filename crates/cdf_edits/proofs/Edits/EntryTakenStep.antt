@@ -11,10 +11,9 @@ use Rattle.cdf_model.specs.declared.kinds.Kind.TheVariants as kinds
 use Rattle.cdf_model.specs.AttributeSteps.{entries_of, with_attribute, with_entries}
 use Rattle.cdf_model.specs.Limits.{image_limit}
 use Rattle.cdf_model.specs.Numbered.{without}
-use Rattle.cdf_format.specs.Chains.{is_in, next_field, next_of}
+use Rattle.cdf_format.specs.Chains.{next_field, next_of}
 use Rattle.cdf_format.specs.Content.{attribute_of, content}
 use Rattle.cdf_format.specs.Fields.{integer4, number, size_at, type_at}
-use Rattle.cdf_format.specs.NotRead.{read_types}
 use Rattle.cdf_format.specs.Owners.{attribute_records, variable_records}
 use Rattle.cdf_format.specs.Records.{aedr_num, gdr_r_max_rec, uir_next_uir, uir_prev_uir}
 use Rattle.cdf_format.specs.RecordTypes.{adr_type, cdr_type, gdr_type, uir_type}
@@ -26,7 +25,6 @@ use Rattle.cdf_format.proofs.BytesLemmas.{size_kept, type_kept}
 use Rattle.cdf_format.proofs.ChainsLemmas.{is_a-in, is_a-type, linkable-in, linkable-type}
 use Rattle.cdf_format.proofs.GoodSound.{good_is_sound}
 use Rattle.cdf_format.proofs.Members.{In-append_left, In-append_right}
-use Rattle.cdf_format.proofs.Owning.{times-none}
 use Rattle.cdf_format.proofs.Tests.{both}
 use Rattle.cdf_edits.specs.Commands.Allowances.{Keeps, Only, shapes_of, space_fields}
 use Rattle.cdf_edits.specs.Commands.EntryChains.{chain_fields, chain_of, entry_type}
@@ -46,12 +44,12 @@ use Rattle.cdf_edits.proofs.Edits.ChainKinds.{chain_has, other_has, other_of, ot
 use Rattle.cdf_edits.proofs.Edits.ChainSpliced.{Rechains, adr_in, adr_start, adr_typed, after_away, after_in, before_away, before_in, clear_file, content_rechained, entry_stays, now_is, other_kept, there}
 use Rattle.cdf_edits.proofs.Edits.Composing.{head_type}
 use Rattle.cdf_edits.proofs.Edits.EntryBeside.{beside_kept, kept_then}
-use Rattle.cdf_edits.proofs.Edits.FreedEntry.{Frees, all_marks, as_long_now, count_same, eof_same, freed_behind, freed_rechains, freed_sorted, freed_type, other_kept as entry_kept}
-use Rattle.cdf_edits.proofs.Edits.LeftEntry.{LeavesChain, LeaveTests, as_long, edit, end_same, late_is, leave_tests, leaving, left_acts, left_frees, left_length, left_members, marks, old_in, old_ok, sound_late, tests}
+use Rattle.cdf_edits.proofs.Edits.FreedEntry.{Frees, all_marks, as_long_now, count_same, freed_behind, freed_rechains, freed_settled, freed_type, old_stands, other_kept as entry_kept, sound_late}
+use Rattle.cdf_edits.proofs.Edits.LeftEntry.{LeavesChain, LeaveTests, as_long, edit, late_is, leave_tests, leaving, left_acts, left_frees, left_length, left_members, marks, old_ok, tests}
 use Rattle.cdf_edits.proofs.Edits.MarkLemmas.{Away-append, all_unmarked-away, the_one, unmarked-away, within-within}
 use Rattle.cdf_edits.proofs.Edits.OneChain.{counted_before, differ_before, end_before, good_chained, got_middle, items_of, once_before, rules_live}
 use Rattle.cdf_edits.proofs.Edits.OwnersKept.{keeps_away, keeps_fields, keeps_within, stood}
-use Rattle.cdf_edits.proofs.Edits.PushedEntry.{count_is}
+use Rattle.cdf_edits.proofs.Edits.EntryFields.{count_is}
 use Rattle.cdf_edits.proofs.Edits.RecordFrame.{gdr_field, gdr_place, gdr_start, kept_away}
 use Rattle.cdf_edits.proofs.Edits.StandsBut.{StandsBut}
 use Rattle.cdf_edits.proofs.Edits.StepEdits.{fixed_long, gdr_in, gdr_typed}
@@ -116,20 +114,20 @@ module _ {b late now : List ℕ} {kind : EntryKind} {before : List AttributeShap
   abbrev chain' : List ℕ
   chain' = left_of old chain
 
-  f : Frees b late now (shape b).records (shape b).unused (marks sound q) [] kind before own after chain' [] old
-  f = left_frees sound q gives
+  f : Frees b late (shape b).records (shape b).unused (marks sound q) [] kind before own after chain' [] old 0 []
+  f = left_frees sound q (end_before b good)
 
   abbrev changes : List Mark
   changes = all_marks sound f
 
   r : Rechains b now (shape b) (shape b).records (shape now).unused (all_marks sound f) (old ∷ []) kind before own after chain' (old ∷ []) []
-  r = freed_rechains sound f
+  r = freed_rechains sound f gives
 
   same_records : (shape now).records ≡ (shape b).records
   same_records = records_are sound r
 
   as_long_as : length now ≡ length b
-  as_long_as = as_long_now sound f ∙ as_long sound q
+  as_long_as = as_long_now sound f gives ∙ as_long sound q
 
   left_tests : LeaveTests kind own.adr (members_of b (entries_chain kind own.adr)) (shape b).unused old (size_at late old)
   left_tests = leave_tests kind own.adr (members_of b (entries_chain kind own.adr)) (shape b).unused old (size_at late old)
@@ -152,17 +150,13 @@ module _ {b late now : List ℕ} {kind : EntryKind} {before : List AttributeShap
 
   pub good_now : number late own.adr (count_field kind) + 1 ≡ number b own.adr (count_field kind) → length b ≤ image_limit → Good now
   good_now counted limited =
-      let same = as_long_as in
       let once = once_before sound r good in
+      let st = freed_settled sound f gives in
       good_chained sound r good
-      (counts (number now own.adr (count_field kind)) (number late own.adr (count_field kind)) (number b own.adr (count_field kind)) (length chain) (length chain') (count_same sound f (count_is kind b own.adr).0) counted (counted_before sound r good) (left_length old chain q.member))
+      (counts (number now own.adr (count_field kind)) (number late own.adr (count_field kind)) (number b own.adr (count_field kind)) (length chain) (length chain') (count_same sound f gives (count_is kind b own.adr).0) counted (counted_before sound r good) (left_length old chain q.member))
       (nums_left b now old (number b old aedr_num) refl chain (differ_before sound r good) q.member others).0
       (λ m i. let k = left_members old m chain once i in rules_live sound r good m k.0 (λ j. k.1 (the_one old m j)))
-      (λ m i. ap (λ (type : ℕ). is_in type read_types) (ap (type_at now) (the_one old m i) ∙ freed_type sound f))
-      (λ m out. times-none m (old ∷ []) out)
-      (freed_sorted sound f (λ m i. absurd i))
-      (eof_same sound f ∙ end_same sound q ∙ end_before b good ∙ sym same)
-      (omega (arith, same, limited))
+      st.read st.beside st.sorted st.end (omega (arith, st.longest, limited))
     where
       counts : (n l o c c' : ℕ) → n ≡ l → l + 1 ≡ o → o ≡ c → c' + 1 ≡ c → n ≡ c'
       counts n l o c c' p q r t = omega arith
@@ -205,7 +199,7 @@ module _ {b late now : List ℕ} {kind : EntryKind} {before : List AttributeShap
   late_used u = (tests sound q).in_use (sym (old_ok sound q).1 ∙ sym (late_type b late old f.lives) ∙ u)
 
   unlisted_now : (uir : ℕ) → type_at b uir ≡ uir_type → (In uir (shape b).unused → ⊥) → In uir (shape now).unused → ⊥
-  unlisted_now m typed out i = elim (was_listed h (left_acts sound q) (sound_late sound q) (old_in sound q) late_used gives m i) [
+  unlisted_now m typed out i = elim (was_listed h (left_acts sound q) (sound_late sound f) (old_stands sound f) late_used gives m i) [
     | inl e ↦ (tests sound q).in_use (sym (old_ok sound q).1 ∙ ap (type_at b) (sym e) ∙ typed)
     | inr j ↦ out (subst (In m) (ap (λ (x : Shape). x.unused) (late_is sound q)) j)
   ]
@@ -267,7 +261,7 @@ module _ {b late now : List ℕ} {kind : EntryKind} {before : List AttributeShap
           | inr apart_ ↦
               let one = beside_kept sound q m i apart_ in
               let some = one.long in
-              let two = entry_kept sound f m is ne (type_kept b late m one.same one.long ∙ typed) in
+              let two = entry_kept sound f gives m is ne (type_kept b late m one.same one.long ∙ typed) in
               inl (kept_stays m is (kept_then b late now m one (size_kept b late m one.same (omega arith)) two)).0
         ];
         type_is = late_type b now m live;
@@ -278,8 +272,8 @@ module _ {b late now : List ℕ} {kind : EntryKind} {before : List AttributeShap
   dropped long = record {
     stands = (old_ok sound q).0;
     long = long;
-    freed = freed_type sound f;
-    behind = freed_behind sound f long;
+    freed = freed_type sound f gives;
+    behind = freed_behind sound f gives long;
   }
 
   -- ---- acts that led to the image lead on
@@ -288,4 +282,4 @@ module _ {b late now : List ℕ} {kind : EntryKind} {before : List AttributeShap
   acts_on first acts was so_far =
       let same = late_is sound q in
       let still = acts_still_by sound so_far (edit sound q) (tests sound q).unused (ap (λ (x : Shape). x.records) same) (ap (λ (x : Shape). x.unused) same) (as_long sound q) in
-      subst (λ (n : ℕ). ActsFollow first now (acts ++ Gave old n ∷ [])) (late_size b late old f.lives) (acts_gave was still (sound_late sound q) (old_in sound q) late_used gives)
+      subst (λ (n : ℕ). ActsFollow first now (acts ++ Gave old n ∷ [])) (late_size b late old f.lives) (acts_gave was still (sound_late sound f) (old_stands sound f) late_used gives)

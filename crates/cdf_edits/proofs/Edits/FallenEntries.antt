@@ -43,7 +43,7 @@ use Rattle.cdf_edits.proofs.Edits.Composing.{edit_then, head_size, head_type}
 use Rattle.cdf_edits.proofs.Edits.FallenItems.{EntryFell, entries_closed, fallen_distinct, falls, rests, nums_fell}
 use Rattle.cdf_edits.proofs.Edits.FieldWritten.{IsField, Stands, field_in, still_says, still_stands, written_edit, written_long}
 use Rattle.cdf_edits.proofs.Edits.OneChain.{end_before, items_of}
-use Rattle.cdf_edits.proofs.Edits.PushedEntry.{count_is, head_lies, max_lies, only}
+use Rattle.cdf_edits.proofs.Edits.EntryFields.{count_is, head_lies, max_lies, only}
 use Rattle.cdf_edits.proofs.Edits.RecordFrame.{chain_clear, field_clear, kept_away}
 use Rattle.cdf_edits.proofs.Edits.Splice.{adr_stands, good_image_if, parts_there}
 use Rattle.cdf_edits.proofs.Edits.StepEdits.{gdr_in, gdr_long, gdr_typed, some_bytes}

@@ -1,12 +1,14 @@
 -- An entry is taken out of a chain of an attribute, which then counts one less, and the greatest number is written.
-use Rattle.std.proofs.Common.{◌≡◌, ◌≢◌, ℕ, ◌+◌, ◌≤◌, List, [], ◌∷◌, ◌++◌, length, true, eq-eqb, refl, sym, ap, subst, ◌∙◌, arith, inl, inr}
+use Rattle.std.proofs.Common.{◌≡◌, ◌≢◌, ℕ, ◌+◌, ◌≤◌, List, [], ◌∷◌, ◌++◌, length, ℤ, true, eq-eqb, refl, sym, ap, subst, ◌∙◌, arith, inl, inr}
 use Rattle.std.proofs.lemmas.Bool.{cases_eq, ne_eqb}
+use Rattle.std.specs.Int.{w32, cast_unsigned}
+use Rattle.std.specs.Prelude.{FitsSigned}
 use Rattle.cdf_model.specs.declared.kinds.EntryKind.{EntryKind}
 use Rattle.cdf_model.specs.declared.kinds.EntryKind.TheVariants as entries
 use Rattle.cdf_format.specs.Chains.{IsChain}
-use Rattle.cdf_format.specs.Fields.{number, size_at, type_at, with_field}
+use Rattle.cdf_format.specs.Fields.{eof, number, integer4, size_at, type_at, with_field}
 use Rattle.cdf_format.specs.Owners.{attribute_records, owned_records, times}
-use Rattle.cdf_format.specs.Records.{gdr_eof, gdr_uir_head}
+use Rattle.cdf_format.specs.Records.{gdr_eof, gdr_uir_head, uir_next_uir, uir_prev_uir}
 use Rattle.cdf_format.specs.RecordTypes.{gdr_type, adr_type, uir_type}
 use Rattle.cdf_format.specs.Shape.{AttributeShape, Each, HasShape, Shape, shape}
 use Rattle.cdf_format.specs.Sound.{EntryFits, IsSound}
@@ -30,8 +32,8 @@ use Rattle.cdf_edits.proofs.Edits.Composing.{edit_then}
 use Rattle.cdf_edits.proofs.Edits.EditActs.{acts_none}
 use Rattle.cdf_edits.proofs.Edits.FieldWritten.{IsField, written_edit, written_long, Stands, still_stands, still_says, field_in}
 use Rattle.cdf_edits.proofs.Edits.FreedEntry.{Frees}
-use Rattle.cdf_edits.proofs.Edits.MarkLemmas.{avoided-avoids, ended-avoids}
-use Rattle.cdf_edits.proofs.Edits.PushedEntry.{max_lies, head_lies, count_is, as_chain, of_shape, only}
+use Rattle.cdf_edits.proofs.Edits.MarkLemmas.{avoided-avoids, away-avoids, away-within, ended-avoids, unmarked-away}
+use Rattle.cdf_edits.proofs.Edits.EntryFields.{MaxWritten, head_lies, count_is, as_chain, max_chain, max_count, max_edit, max_integer, max_long, of_shape, only}
 use Rattle.cdf_edits.proofs.Edits.RecordFrame.{field_clear, chain_clear, kept_but_link}
 use Rattle.cdf_edits.proofs.Edits.Splice.{parts_there, adr_stands}
 use Rattle.cdf_edits.proofs.Edits.StepEdits.{gdr_in, gdr_typed, gdr_long}
@@ -74,10 +76,8 @@ pub record LeaveTests (kind : EntryKind) (adr : ℕ) (members list : List ℕ) (
   pub links : avoided (leaving kind adr members) uir_type 0 20 ≡ true
   pub adr_link : avoided (leaving_link kind adr members) adr_type 0 12 ≡ true
   pub adr_count : avoided (field_marks adr_type adr (count_field kind)) adr_type 0 12 ≡ true
-  pub adr_max : avoided (field_marks adr_type adr (max_field kind)) adr_type 0 12 ≡ true
-  pub later_links : (avoided (field_marks adr_type adr (count_field kind)) (entry_type kind) 0 20 ≡ true) × (avoided (field_marks adr_type adr (max_field kind)) (entry_type kind) 0 20 ≡ true)
-  pub later_head : (avoided (field_marks adr_type adr (count_field kind)) adr_type (head_field kind).place ((head_field kind).place + (head_field kind).width) ≡ true) × (avoided (field_marks adr_type adr (max_field kind)) adr_type (head_field kind).place ((head_field kind).place + (head_field kind).width) ≡ true)
-  pub max_count : avoided (field_marks adr_type adr (max_field kind)) adr_type (count_field kind).place ((count_field kind).place + (count_field kind).width) ≡ true
+  pub later_links : avoided (field_marks adr_type adr (count_field kind)) (entry_type kind) 0 20 ≡ true
+  pub later_head : avoided (field_marks adr_type adr (count_field kind)) adr_type (head_field kind).place ((head_field kind).place + (head_field kind).width) ≡ true
   pub count_lies : (12 ≤ (count_field kind).place) × ((count_field kind).place + (count_field kind).width ≤ 324)
   pub all_clear : keeps_but_chain (leaving kind adr members ++ giving_marks list (entry_type kind) old size) kind ≡ true
   pub gdr_within : within (leaving kind adr members ++ giving_marks list (entry_type kind) old size) gdr_type space_fields ≡ true
@@ -85,9 +85,9 @@ pub record LeaveTests (kind : EntryKind) (adr : ℕ) (members list : List ℕ) (
   pub in_use : entry_type kind ≢ uir_type
 
 pub leave_tests : (kind : EntryKind) (adr : ℕ) (members list : List ℕ) (old size : ℕ) → LeaveTests kind adr members list old size
-leave_tests entries.G adr members list old size = record { clear = refl; unused = refl; start = refl; rest = refl; heads = refl; list_head = refl; end = refl; links = refl; adr_link = refl; adr_count = refl; adr_max = refl; later_links = (refl, refl); later_head = (refl, refl); max_count = refl; count_lies = (omega arith, omega arith); all_clear = refl; gdr_within = refl; adr_within = refl; in_use = apart 5 uir_type refl }
-leave_tests entries.R adr members list old size = record { clear = refl; unused = refl; start = refl; rest = refl; heads = refl; list_head = refl; end = refl; links = refl; adr_link = refl; adr_count = refl; adr_max = refl; later_links = (refl, refl); later_head = (refl, refl); max_count = refl; count_lies = (omega arith, omega arith); all_clear = refl; gdr_within = refl; adr_within = refl; in_use = apart 5 uir_type refl }
-leave_tests entries.Z adr members list old size = record { clear = refl; unused = refl; start = refl; rest = refl; heads = refl; list_head = refl; end = refl; links = refl; adr_link = refl; adr_count = refl; adr_max = refl; later_links = (refl, refl); later_head = (refl, refl); max_count = refl; count_lies = (omega arith, omega arith); all_clear = refl; gdr_within = refl; adr_within = refl; in_use = apart 9 uir_type refl }
+leave_tests entries.G adr members list old size = record { clear = refl; unused = refl; start = refl; rest = refl; heads = refl; list_head = refl; end = refl; links = refl; adr_link = refl; adr_count = refl; later_links = refl; later_head = refl; count_lies = (omega arith, omega arith); all_clear = refl; gdr_within = refl; adr_within = refl; in_use = apart 5 uir_type refl }
+leave_tests entries.R adr members list old size = record { clear = refl; unused = refl; start = refl; rest = refl; heads = refl; list_head = refl; end = refl; links = refl; adr_link = refl; adr_count = refl; later_links = refl; later_head = refl; count_lies = (omega arith, omega arith); all_clear = refl; gdr_within = refl; adr_within = refl; in_use = apart 5 uir_type refl }
+leave_tests entries.Z adr members list old size = record { clear = refl; unused = refl; start = refl; rest = refl; heads = refl; list_head = refl; end = refl; links = refl; adr_link = refl; adr_count = refl; later_links = refl; later_head = refl; count_lies = (omega arith, omega arith); all_clear = refl; gdr_within = refl; adr_within = refl; in_use = apart 9 uir_type refl }
 
 as_leaving : (kind : EntryKind) (b mid records : List ℕ) (adr : ℕ) (members : List ℕ) → Edit b mid records records (removing_marks (holder_type (entries_chain kind adr)) (holder_of b (entries_chain kind adr)) (head_of (entries_chain kind adr)) (type_in (entries_chain kind adr)) members) [] → Edit b mid records records (leaving_link kind adr members) []
 as_leaving entries.G b mid records adr members e = e
@@ -106,7 +106,7 @@ pub record LeavesChain (b late : List ℕ) (kind : EntryKind) (before : List Att
   pub counted : List ℕ
   pub count_written : counted ≡ with_field mid own.adr (count_field kind) count
   pub greatest : ℕ
-  pub written : late ≡ with_field counted own.adr (max_field kind) greatest
+  pub written : MaxWritten counted late kind own.adr greatest
 
 module _ {b late : List ℕ} {kind : EntryKind} {before : List AttributeShape} {own : AttributeShape} {after : List AttributeShape} {old : ℕ} (sound : IsSound b (shape b)) (q : LeavesChain b late kind before own after old) where
   abbrev s : Shape
@@ -151,11 +151,11 @@ module _ {b late : List ℕ} {kind : EntryKind} {before : List AttributeShape} {
   counted_adr : Stands q.counted s.records own.adr adr_type 324
   counted_adr = still_stands second mid_adr u.adr_count (omega arith)
 
-  pub of_max : IsField q.counted s.records own.adr adr_type (max_field kind)
-  of_max = field_in second.tiled_now counted_adr (max_lies kind).0 (max_lies kind).1
-
   pub third : Edit q.counted late s.records s.records (field_marks adr_type own.adr (max_field kind)) []
-  third = written_edit q.counted late s.records own.adr adr_type (max_field kind) q.greatest of_max q.written
+  third = max_edit second.tiled_now counted_adr q.written
+
+  pub left_greatest : (z : ℤ) → FitsSigned w32 z → q.greatest ≡ cast_unsigned w32 z → integer4 late own.adr (max_field kind) ≡ z
+  left_greatest z fits same = max_integer second.tiled_now counted_adr q.written z fits same
 
   abbrev pub marks : List Mark
   marks = leaving kind own.adr members
@@ -164,11 +164,11 @@ module _ {b late : List ℕ} {kind : EntryKind} {before : List AttributeShape} {
   edit = edit_then (edit_then first second) third
 
   pub as_long : length late ≡ length b
-  as_long = written_long q.counted late s.records own.adr adr_type (max_field kind) q.greatest of_max q.written ∙ written_long q.mid q.counted s.records own.adr adr_type (count_field kind) q.count of_count q.count_written ∙ q.removed.length_stays
+  as_long = max_long second.tiled_now counted_adr q.written ∙ written_long q.mid q.counted s.records own.adr adr_type (count_field kind) q.count of_count q.count_written ∙ q.removed.length_stays
 
   -- the count that was written
   pub count_now : number late own.adr (count_field kind) ≡ number q.counted own.adr (count_field kind)
-  count_now = still_says third counted_adr u.adr_max (count_field kind) u.max_count u.count_lies.1
+  count_now = max_count second.tiled_now counted_adr q.written
 
   abbrev pub chain' : List ℕ
   chain' = without old (chain_of own kind)
@@ -176,8 +176,8 @@ module _ {b late : List ℕ} {kind : EntryKind} {before : List AttributeShape} {
   chain_late : IsChain late s.records (entry_type kind) (number late own.adr (head_field kind)) chain'
   chain_late =
       let c1 = as_chain kind q.mid q.mid s.records own.adr chain' (at_holder (left_chain h (of_shape kind s own there.have.0) q.removed first.tiled_now (count_is kind q.mid own.adr).3)) in
-      let c2 = chain_clear second (entry_type kind) _ _ chain' c1 (still_says second mid_adr u.adr_count (head_field kind) u.later_head.0 (head_lies kind)) u.later_links.0 in
-      chain_clear third (entry_type kind) _ _ chain' c2 (still_says third counted_adr u.adr_max (head_field kind) u.later_head.1 (head_lies kind)) u.later_links.1
+      let c2 = chain_clear second (entry_type kind) _ _ chain' c1 (still_says second mid_adr u.adr_count (head_field kind) u.later_head (head_lies kind)) u.later_links in
+      max_chain second.tiled_now counted_adr q.written chain' c2
     where
       at_holder : IsChain q.mid s.records (type_in (entries_chain kind own.adr)) (number q.mid own.adr (head_of (entries_chain kind own.adr))) chain' → IsChain q.mid s.records (type_in (entries_chain kind own.adr)) (number q.mid (holder_of q.mid (entries_chain kind own.adr)) (head_of (entries_chain kind own.adr))) chain'
       at_holder x = subst (λ (a : ℕ). IsChain q.mid s.records (type_in (entries_chain kind own.adr)) (number q.mid a (head_of (entries_chain kind own.adr))) chain') (sym (count_is kind q.mid own.adr).3) x
@@ -207,24 +207,8 @@ module _ {b late : List ℕ} {kind : EntryKind} {before : List AttributeShape} {
   pub late_is : shape late ≡ rechained s s.records s.unused before own after kind chain' (old ∷ []) [] q.was left_rechains.trades
   late_is = now_is sound left_rechains
 
-  fit : (es : List ℕ) → ((m : ℕ) → In m es → EntryFits late m) → Each (EntryFits late) es
-  fit [] f = tt
-  fit (m ∷ es) f = (f m (inl refl), fit es (λ x i. f x (inr i)))
-
-  pub sound_late : IsSound late (shape late)
-  sound_late = subst (IsSound late) (sym late_is) (sound_rechained sound left_rechains
-      (fit chain' (λ m i. let r = left_members old m (chain_of own kind) once i in (entry_stays sound left_rechains m r.0 (λ j. elim j [ inl x ↦ r.1 x | inr none ↦ none ])).fits))
-      (λ m out. omega arith) (λ m i. absurd i))
-
   pub old_ok : In old s.records × (type_at b old ≡ entry_type kind)
   old_ok = let ok = (chain_has kind own there.have.0).linkable old q.member in (linkable-in b s.records (entry_type kind) old ok, linkable-type b s.records (entry_type kind) old ok)
-
-  pub old_in : In old (shape late).records
-  old_in = subst (In old) (sym (ap (λ (x : Shape). x.records) late_is)) old_ok.0
-
-  pub old_free : times old (owned_records late (shape late)) ≡ 0
-  old_free = subst (λ (x : Shape). times old (owned_records late x) ≡ 0) (sym late_is)
-      (gone_free b s sound s.records s.unused before own after kind chain' [] old q.was left_rechains.trades (λ none. none) late edit.tiled_now (λ x. u.in_use (sym old_ok.1 ∙ sym (late_type b late old (lives old q.member)) ∙ x)))
 
   -- so far nothing was taken or freed
   pub left_acts : ActsFollow b late []
@@ -233,16 +217,24 @@ module _ {b late : List ℕ} {kind : EntryKind} {before : List AttributeShape} {
   pub end_same : number late s.gdr gdr_eof ≡ number b s.gdr gdr_eof
   end_same = field_clear edit s.gdr gdr_type gdr_eof (gdr_in b s h) (gdr_typed b s h) u.heads u.end (let l = gdr_long b s h in omega arith)
 
-  pub left_frees : {now : List ℕ} → Gives late now (shape late) (shape now) old → Frees b late now s.records s.unused marks [] kind before own after chain' [] old
-  left_frees gives = record {
+  pub left_frees : eof b s.gdr ≡ length b → Frees b late s.records s.unused marks [] kind before own after chain' [] old 0 []
+  left_frees ends = record {
     rechains = left_rechains;
     member = q.member;
     lives = lives old q.member;
     out = λ none. none;
     reborn_in = λ m i. absurd i;
-    others = λ m i. (left_members old m (chain_of own kind) once i).1;
-    not_come = λ none. none;
+    come_in = λ m i. absurd i;
+    fit = λ m i. absurd i;
+    sorted = λ m i. absurd i;
+    read = λ m i. absurd i;
     clear = (t s.unused (size_at late old)).all_clear;
-    sound_late = sound_late;
-    gives = gives;
+    gdr_within = (t s.unused (size_at late old)).gdr_within;
+    adr_within = (t s.unused (size_at late old)).adr_within;
+    end = end_same ∙ ends ∙ sym as_long;
+    longest = let same = as_long in omega arith;
+    takes_within = omega arith;
+    acts_follow = left_acts;
+    listed = λ m i free. (away-avoids marks uir_type m 0 12 (unmarked-away marks uir_type m u.unused), away-within marks uir_type m (uir_next_uir ∷ uir_prev_uir ∷ []) (unmarked-away marks uir_type m u.unused));
+    unlisted = λ m i o. (unmarked-away marks uir_type m u.unused, o);
   }

@@ -98,16 +98,8 @@ module _ {b now new list : List ℕ} {marks : List Mark} {reborn : List ℕ} {ki
       let rows : Hold (entries_rows now own.adr (count_field kind) chain') = (eq-eqb (number now own.adr (count_field kind)) (length chain') counted, Hold-append (flat_map (entry_rows now own.adr) chain') (differ_rows 7 (same_number now) [] chain') (Hold-members (entry_rows now own.adr) chain' rules) (differ_by_nums now chain' differ)) in
       good_image_if sound (splices sound r) (sealed_kept b (good_long b (shape b) image) (rules_of_good b good)).0 image (rules_rechained sound r image rows read beside sorted) end short
 
-  -- what is to be shown: of the entries, of owners, of the space and of the acts
-  pub record Chained (attr : List ℕ) (num need : ℕ) (items : List (ℕ × Entry)) (acts : List Act) : Type 0 where
-    pub found : attribute_named (content b) attr ≡ Some (length before, attribute_of b own)
-    pub items_now : chain_items now chain' ≡ items
-    pub counted : number now own.adr (count_field kind) ≡ length chain'
-    pub differ : Distinct (nums now chain')
-    pub rules : (m : ℕ) → In m chain' → Hold (entry_rows now own.adr m)
-    pub chain_is : chain_of (with_chain own kind chain') kind ≡ chain_after (chain_of own kind) (entry_at b own kind num) (entry_at now (with_chain own kind chain') kind num)
-    pub greatest : integer4 now own.adr (max_field kind) ≡ greatest_number items
-    pub of_gone : (m : ℕ) → In m gone → number b m aedr_num ≡ num
+  -- what is to be shown of owners, of the space and of the acts
+  pub record Settled (need : ℕ) (acts : List Act) : Type 0 where
     pub read : (m : ℕ) → In m reborn → is_in (type_at now m) read_types ≡ true
     pub beside : (m : ℕ) → (In m reborn → ⊥) → times m gone ≡ times m come
     pub sorted : (m : ℕ) → In m reborn → IsSorted now (made sound r) m
@@ -117,7 +109,19 @@ module _ {b now new list : List ℕ} {marks : List Mark} {reborn : List ℕ} {ki
     pub acts_follow : ActsFollow b now acts
     pub gdr_within : within marks gdr_type space_fields ≡ true
     pub adr_within : within marks adr_type (chain_fields kind) ≡ true
-    pub unused : AllKeep b now (entry_changes b (content b) attr kind num) acts (owned_by Unused (unused_records b (shape b)))
+    pub unused : (may : Allowances) → AllKeep b now may acts (owned_by Unused (unused_records b (shape b)))
+
+  -- and of the entries
+  pub record Chained (attr : List ℕ) (num need : ℕ) (items : List (ℕ × Entry)) (acts : List Act) : Type 0 where
+    pub found : attribute_named (content b) attr ≡ Some (length before, attribute_of b own)
+    pub items_now : chain_items now chain' ≡ items
+    pub counted : number now own.adr (count_field kind) ≡ length chain'
+    pub differ : Distinct (nums now chain')
+    pub rules : (m : ℕ) → In m chain' → Hold (entry_rows now own.adr m)
+    pub chain_is : chain_of (with_chain own kind chain') kind ≡ chain_after (chain_of own kind) (entry_at b own kind num) (entry_at now (with_chain own kind chain') kind num)
+    pub greatest : integer4 now own.adr (max_field kind) ≡ greatest_number items
+    pub of_gone : (m : ℕ) → In m gone → number b m aedr_num ≡ num
+    pub settled : Settled need acts
 
   module _ {attr : List ℕ} {num need : ℕ} {items : List (ℕ × Entry)} {acts : List Act} (c : Chained attr num need items acts) where
     pub content_chained : content now ≡ with_attribute (content b) (length before) (with_entries (attribute_of b own) kind items)
@@ -141,13 +145,13 @@ module _ {b now new list : List ℕ} {marks : List Mark} {reborn : List ℕ} {ki
         record {
           reply = Plain;
           goes = goes ∙ ap (λ (d : DataSet). ByStep (Go d Plain)) (sym content_chained);
-          good = good_chained good c.counted c.differ c.rules c.read c.beside c.sorted c.end (omega (arith, c.longest, limited));
+          good = good_chained good c.counted c.differ c.rules c.settled.read c.settled.beside c.settled.sorted c.settled.end (omega (arith, c.settled.longest, limited));
           longer = r.edit.longer;
-          within = subst (λ (n : ℕ). length now ≤ length b + n) (sym roomy) c.longest;
+          within = subst (λ (n : ℕ). length now ≤ length b + n) (sym roomy) c.settled.longest;
           reads = λ q. absurd (true≢false (sym q ∙ writes));
           acts = acts;
-          takes_within = subst (λ (n : ℕ). sum (map (λ take. take.1) (taken acts)) ≤ n) (sym roomy) c.takes_within;
-          acts_follow = c.acts_follow;
-          keeps = subst (λ (may : Allowances). AllKeep b now may acts (owned b (shape b))) (sym allowed) (entry_keeps sound r attr num acts (is_named b attr (length before) (attribute_of b own) c.found) c.gdr_within c.adr_within c.of_gone c.unused);
+          takes_within = subst (λ (n : ℕ). sum (map (λ take. take.1) (taken acts)) ≤ n) (sym roomy) c.settled.takes_within;
+          acts_follow = c.settled.acts_follow;
+          keeps = subst (λ (may : Allowances). AllKeep b now may acts (owned b (shape b))) (sym allowed) (entry_keeps sound r attr num acts (is_named b attr (length before) (attribute_of b own) c.found) c.settled.gdr_within c.settled.adr_within c.of_gone (c.settled.unused (entry_changes b (content b) attr kind num)));
           does = does;
         }
