@@ -27,7 +27,7 @@ use Rattle.cdf_edits.proofs.Edits.ChainFollowed.{chain_now}
 use Rattle.cdf_edits.proofs.Edits.ChainKinds.{adr_of}
 use Rattle.cdf_edits.proofs.Edits.ChainsOfShape.{members_are}
 use Rattle.cdf_edits.proofs.Edits.ChainSpliced.{Rechains, made, splices, now_is, content_rechained}
-use Rattle.cdf_edits.proofs.Edits.PushedEntry.{of_shape}
+use Rattle.cdf_edits.proofs.Edits.EntryFields.{of_shape}
 use Rattle.cdf_edits.proofs.Edits.Splice.{shape_now}
 use Rattle.cdf_attrs.specs.PutValues.{IsAttributeAt}
 use Rattle.cdf_edits.proofs.Commands.ListParts.{got-map, got-middle}

@@ -15,7 +15,7 @@ use Rattle.cdf_edits.specs.Edits.EntryMarks.{entries_chain, count_field}
 use Rattle.cdf_edits.specs.Space.Chains.{HasChain, HolderStands, Removed, members_of}
 use Rattle.cdf_edits.proofs.Edits.ChainsOfShape.{has_chain, is_member}
 use Rattle.cdf_edits.proofs.Edits.LeftEntry.{LeavesChain}
-use Rattle.cdf_edits.proofs.Edits.PushedEntry.{max_lies, count_is, of_shape}
+use Rattle.cdf_edits.proofs.Edits.EntryFields.{max_lies, count_is, of_shape}
 use Rattle.cdf_edits.proofs.Edits.Splice.{parts_there}
 use Rattle.cdf_edits.proofs.Space.ChainHeads.{long_of, end_of}
 use Rattle.cdf_attrs.specs.Putting.{IsEntryOf}

@@ -43,7 +43,7 @@ use Rattle.cdf_edits.proofs.Edits.ChainFollowed.{greatest_integer}
 use Rattle.cdf_edits.proofs.Edits.FieldWritten.{written_integer, written_reads}
 use Rattle.cdf_edits.proofs.Edits.FreedEntry.{greatest_same}
 use Rattle.cdf_edits.proofs.Edits.LeftEntry.{LeavesChain, count_now, left_frees, left_members, of_count, of_max}
-use Rattle.cdf_edits.proofs.Edits.PushedEntry.{max_lies}
+use Rattle.cdf_edits.proofs.Edits.EntryFields.{max_lies}
 use Rattle.cdf_attrs.specs.Finding.{FindsChain, IsRefusedFor}
 use Rattle.cdf_attrs.specs.Known.{KnownEntries, Knows, KnowsEntries}
 use Rattle.cdf_attrs.specs.Putting.{IsEntryOf}

@@ -38,7 +38,7 @@ use Rattle.cdf_edits.proofs.Edits.ChainSpliced.{Rechains, there, entry_stays}
 use Rattle.cdf_edits.proofs.Edits.FreedEntry.{Frees, freed_rechains, freed_type, count_same, eof_same, as_long_now, freed_sorted, freed_acts, freed_bytes, freed_keeps_unused, all_marks}
 use Rattle.cdf_edits.proofs.Edits.LeftEntry.{LeavesChain, LeaveTests, leave_tests, left_members, left_length, marks, as_long, left_frees, left_acts, end_same, tests}
 use Rattle.cdf_edits.proofs.Edits.MarkLemmas.{unmarked-away, away-avoids, away-within, the_one}
-use Rattle.cdf_edits.proofs.Edits.PushedEntry.{count_is}
+use Rattle.cdf_edits.proofs.Edits.EntryFields.{count_is}
 use Rattle.cdf_edits.proofs.Edits.OneChain.{Chained, chain_follows, counted_before, differ_before, end_before, follows_chained, items_of, of_named, once_before, rules_live}
 use Rattle.cdf_attrs.proofs.AttributeParts.{members_rechained, names_rechained, places_rechained}
 

@@ -8,19 +8,13 @@ pub mod DroppingSteps
 pub mod Renamed
 pub mod EntryWritten
 pub mod AttributeParts
-pub mod EntryAdded
 pub mod EntryPut
 pub mod GreatestNumber
 pub mod EntryTakenAt
 pub mod EntryDeleted
 pub mod EntryCalls
 pub mod EntryLeft
-pub mod EntryReplaced
-pub mod EntryReplacing
-pub mod PushedValue
 pub mod PutCalls
-pub mod ChangedValue
-pub mod MovedValue
 pub mod NewAdr
 pub mod NumberedEntries
 pub mod NumberGone
@@ -43,6 +37,7 @@ pub mod GettingAnswers
 pub mod WholeEntries
 pub mod TakenHalf
 pub mod ValueSizes
+pub mod ValuePut
 pub mod ValueWords
 pub mod RangeCounts
 pub mod GreatestPut

@@ -23,7 +23,7 @@ use Rattle.cdf_edits.proofs.Edits.ChainEntries.{nums}
 use Rattle.cdf_edits.proofs.Edits.FallenEntries.{LowersChain, content_lowered, entries_now, good_lowered, later, lowered, nums_now, of_max}
 use Rattle.cdf_edits.proofs.Edits.FallenItems.{falls, rests}
 use Rattle.cdf_edits.proofs.Edits.FieldWritten.{written_integer}
-use Rattle.cdf_edits.proofs.Edits.PushedEntry.{max_lies}
+use Rattle.cdf_edits.proofs.Edits.EntryFields.{max_lies}
 use Rattle.cdf_attrs.specs.Dropping.{LowersNumbers, lower_writes}
 use Rattle.cdf_attrs.specs.Finding.{IsOfAttribute}
 use Rattle.cdf_attrs.specs.Known.{KnownEntries, KnowsEntries}

@@ -11,10 +11,9 @@ use Rattle.cdf_format.specs.Records.{Field, record_type, aedr_aedr_next, aedr_at
 use Rattle.cdf_attrs.specs.declared.entry_bytes.Reserved.{Reserved}
 use Rattle.cdf_edits.specs.Commands.EntryChains.{chain_of, entry_type, max_field}
 use Rattle.cdf_edits.specs.Edits.EntryMarks.{count_field, entries_chain}
-use Rattle.cdf_edits.specs.Space.Adding.{Added}
-use Rattle.cdf_edits.specs.Space.Chains.{Removed, Replaced}
+use Rattle.cdf_edits.specs.Space.Chains.{Removed}
 use Rattle.cdf_edits.specs.Space.Placement.{Gives}
-use Rattle.cdf_edits.specs.Space.Placing.{laid_out, Placed}
+use Rattle.cdf_edits.specs.Space.Placing.{laid_out}
 use Rattle.cdf_format.specs.Shape.{AttributeShape, shape}
 use Rattle.cdf_format.specs.Tiles.{In}
 
@@ -61,24 +60,6 @@ pub record IsStored (t : DataType) (elems : ℕ) (value : List ℕ) : Type 0 whe
   pub few : elems ≤ signed_limit
   pub short : length value ≤ record_limit
 
--- what follows the size of an entry whose numbers fit their fields
-pub record IsEntryBody (kind : EntryKind) (body : List ℕ) : Type 0 where
-  pub attr : ℕ
-  pub t : DataType
-  pub num : ℕ
-  pub elems : ℕ
-  pub reserved : Reserved
-  pub value : List ℕ
-  pub body_is : body ≡ aedr_body kind attr t num elems reserved value
-  pub fit : Fit attr num elems reserved
-  pub stored : IsStored t elems value
-
--- an entry with these bytes behind its size was added to the chain of a kind, and then the greatest number was written
-pub record PushedAs (b now : List ℕ) (kind : EntryKind) (adr : ℕ) (body : List ℕ) (greatest : ℤ) (place : ℕ) : Type 0 where
-  pub mid : List ℕ
-  pub added : Added b mid (entries_chain kind adr) body place
-  pub written : now ≡ with_field mid adr (max_field kind) (cast_unsigned w32 greatest)
-
 -- an entry of the chain of a kind of an attribute, whose ADR stands at a place
 pub record IsEntryOf (b : List ℕ) (kind : EntryKind) (adr entry : ℕ) : Type 0 where
   pub before : List AttributeShape
@@ -97,13 +78,3 @@ pub record RemovedAs (b now : List ℕ) (kind : EntryKind) (adr entry : ℕ) (co
   pub late : List ℕ
   pub written : late ≡ with_field counted adr (max_field kind) (cast_unsigned w32 greatest)
   pub gives : Gives late now (shape late) (shape now) entry
-
--- a record with these bytes behind its size took the place of an entry in its chain, the greatest number was written, and the old one was freed after that
-pub record MovedAs (b now : List ℕ) (kind : EntryKind) (adr : ℕ) (body : List ℕ) (old : ℕ) (greatest : ℤ) (place : ℕ) : Type 0 where
-  pub filled : List ℕ
-  pub placed : Placed b filled body place
-  pub mid : List ℕ
-  pub replaced : Replaced filled mid (entries_chain kind adr) old place
-  pub late : List ℕ
-  pub written : late ≡ with_field mid adr (max_field kind) (cast_unsigned w32 greatest)
-  pub gives : Gives late now (shape late) (shape now) old

@@ -1,22 +1,11 @@
 //! The command `put-entry`: an entry is made or replaced.
 
-ghost use Rattle.std.specs.Prelude.{◌≡◌, ◌==◌, ◌+◌, ◌<◌, ◌≤◌, ◌^◌, length, None, IfOk, OnOk};
-ghost use Rattle.std.specs.Int.{cast_unsigned, w32};
-ghost use Rattle.std.specs.List.{last_or, position};
+ghost use Rattle.std.specs.Prelude.{◌≡◌, ◌==◌, ◌+◌, ◌<◌, ◌≤◌, length, None, IfOk, OnOk};
+ghost use Rattle.std.specs.List.{position};
 ghost use Rattle.cdf_area.specs.Calls.{Edits};
-ghost use Rattle.cdf_base.specs.Bytes.{put};
 ghost use Rattle.cdf_attrs.specs.Known.{KnowsEntries};
 ghost use Rattle.cdf_attrs.specs.PutValues.{HasOld, IsReady, Puts, new_entry};
-ghost use Rattle.cdf_attrs.specs.Putting.{IsEntryBody, IsEntryOf, MovedAs, PushedAs};
-ghost use Rattle.cdf_edits.specs.Commands.EntryChains.{max_field};
-ghost use Rattle.cdf_edits.specs.Edits.EntryMarks.{entries_chain};
-ghost use Rattle.cdf_edits.specs.Space.Chains.{before, HasChain, HolderStands, counted_in, members_of, type_in};
-ghost use Rattle.cdf_edits.specs.Space.Placing.{IsBody, type_of_body};
-ghost use Rattle.cdf_format.specs.Fields.{LiesIn, eof, gdr_offset, with_field};
-ghost use Rattle.cdf_format.specs.Shape.{shape};
-ghost use Rattle.cdf_format.specs.Sound.{IsSound};
 ghost use Rattle.cdf_format.specs.WellFormed.{Good};
-ghost use Rattle.cdf_model.specs.Limits.{image_limit};
 
 use crate::chain_fields::{entries_chain, set_greatest};
 use crate::entry_bytes::{OldEntry, Reserved, StoredValue, aedr_bytes, field_bytes, read_old};
@@ -24,7 +13,7 @@ use crate::entry_chain::EntryChain;
 use cdf_area::{Area, AreaError};
 use cdf_format::fields::{AEDR_ATTR_NUM, AEDR_SIZE};
 use cdf_model::EntryKind;
-use cdf_space::{append_record, chain_replace, free_record, place_record};
+use cdf_space::{append_record, exchange_record, free_record};
 use std::alloc::Global;
 
 /// Where an entry belongs: the chain of a kind of an attribute, by its number and by where its descriptor stands, and the number of the entry.
@@ -42,84 +31,6 @@ pub struct NewEntry {
     pub slot: Slot,
     pub value: StoredValue,
     pub greatest: i32,
-}
-
-/// Makes a last entry in the chain of a kind, behind the one that was the last, with these bytes behind its size, and writes the greatest number.
-/// Gives its place. After an error a part of this may have been done.
-fn push_entry<A: Area>(
-    area: &mut A,
-    kind: EntryKind,
-    adr: u64,
-    last: Option<u64>,
-    bytes: &[u8],
-    greatest: i32,
-) -> Result<u64, AreaError>
-    requires sound { IsSound (A.image area.old) (shape (A.image area.old)) }
-    requires eof { eof (A.image area.old) (gdr_offset (A.image area.old)) ≡ length (A.image area.old) }
-    requires holder { HolderStands (A.image area.old) (entries_chain kind adr) }
-    requires chain { HasChain (A.image area.old) (entries_chain kind adr) }
-    requires last { last ≡ last_or None (members_of (A.image area.old) (entries_chain kind adr)) }
-    requires body { IsBody bytes.now }
-    requires kind { type_of_body bytes.now ≡ type_in (entries_chain kind adr) }
-    requires few { counted_in (A.image area.old) (entries_chain kind adr) + 1 < 2 ^ 32 }
-    requires room { length (A.image area.old) + (8 + length bytes.now) ≤ (A.frame area.old).limit }
-    requires limit { (A.frame area.old).limit ≤ image_limit }
-    ensures pushed { IfOk result (λ place. PushedAs (A.image area.old) (A.image area.new) kind adr bytes.now greatest place) }
-    ensures area { Edits A.frame A.faults area.old area.new result }
-{
-    let place = append_record(area, entries_chain(kind, adr), last, bytes)?;
-    set_greatest(area, kind, adr, greatest)?;
-    Ok(place)
-}
-
-/// Writes what follows the link of an entry in its place, and the greatest number of its chain.
-/// After an error a part of this may have been done.
-fn change_entry<A: Area>(
-    area: &mut A,
-    kind: EntryKind,
-    adr: u64,
-    place: u64,
-    fields: &[u8],
-    greatest: i32,
-) -> Result<(), AreaError>
-    requires inside { place + 20 + length fields.now ≤ length (A.image area.old) }
-    requires greatest { LiesIn (A.image area.old) adr (max_field kind) }
-    ensures changed { OnOk result (A.image area.new ≡ with_field (put (A.image area.old) (place + 20) fields.now) adr (max_field kind) (cast_unsigned w32 greatest)) }
-    ensures area { Edits A.frame A.faults area.old area.new result }
-{
-    // An image has fewer than 2^64 bytes, so no place in it overflows.
-    let _size = area.size();
-    area.set(place + AEDR_ATTR_NUM, fields)?;
-    set_greatest(area, kind, adr, greatest)
-}
-
-/// Makes an entry with this value in the place of one of the chain of a kind, which stands behind another one, or is the first where
-/// none is given; writes the greatest number; and frees the old one after that. Gives the new place.
-/// After an error a part of this may have been done.
-fn move_entry<A: Area>(
-    area: &mut A,
-    kind: EntryKind,
-    adr: u64,
-    bytes: &[u8],
-    behind: Option<u64>,
-    old: u64,
-    greatest: i32,
-) -> Result<u64, AreaError>
-    requires sound { IsSound (A.image area.old) (shape (A.image area.old)) }
-    requires eof { eof (A.image area.old) (gdr_offset (A.image area.old)) ≡ length (A.image area.old) }
-    requires entry { IsEntryOf (A.image area.old) kind adr old }
-    requires behind { behind ≡ last_or None (before old (members_of (A.image area.old) (entries_chain kind adr))) }
-    requires body { IsEntryBody kind bytes.now }
-    requires room { length (A.image area.old) + (8 + length bytes.now) ≤ (A.frame area.old).limit }
-    requires limit { (A.frame area.old).limit ≤ image_limit }
-    ensures moved { IfOk result (λ place. MovedAs (A.image area.old) (A.image area.new) kind adr bytes.now old greatest place) }
-    ensures area { Edits A.frame A.faults area.old area.new result }
-{
-    let place = place_record(area, bytes)?;
-    chain_replace(area, entries_chain(kind, adr), behind, old, place)?;
-    set_greatest(area, kind, adr, greatest)?;
-    free_record(area, old)?;
-    Ok(place)
 }
 
 /// Puts an entry, of a number that there is none of, behind the last one of its chain. Gives the entries as they are then.
@@ -149,7 +60,8 @@ fn put_last<A: Area>(
     )?;
     let mut put = entries;
     let last = put.places.last().copied();
-    let place = push_entry(area, slot.kind, slot.adr, last, &bytes, entry.greatest)?;
+    let place = append_record(area, entries_chain(slot.kind, slot.adr), last, &bytes)?;
+    set_greatest(area, slot.kind, slot.adr, entry.greatest)?;
     put.push(slot.num, place)?;
     Ok(put)
 }
@@ -176,7 +88,10 @@ fn put_in_place<A: Area>(
     let slot = entry.slot;
     let fields = field_bytes(alloc, slot.attribute, slot.num, &entry.value, old.reserved)?;
     let place = entries.places.as_slice()[i];
-    change_entry(area, slot.kind, slot.adr, place, &fields, entry.greatest)?;
+    // An image has fewer than 2^64 bytes, so no place in it overflows.
+    let _size = area.size();
+    area.set(place + AEDR_ATTR_NUM, &fields)?;
+    set_greatest(area, slot.kind, slot.adr, entry.greatest)?;
     Ok(entries)
 }
 
@@ -211,15 +126,10 @@ fn put_anew<A: Area>(
     let mut put = entries;
     let behind = put.places[..i].last().copied();
     let was = put.places.as_slice()[i];
-    let place = move_entry(
-        area,
-        slot.kind,
-        slot.adr,
-        &bytes,
-        behind,
-        was,
-        entry.greatest,
-    )?;
+    let chain = entries_chain(slot.kind, slot.adr);
+    let place = exchange_record(area, chain, behind, was, &bytes)?;
+    set_greatest(area, slot.kind, slot.adr, entry.greatest)?;
+    free_record(area, was)?;
     put.set_place(i, place);
     Ok(put)
 }

@@ -60,32 +60,19 @@ none_in_place : (old : ℕ) (new es : List ℕ) → (In old es → ⊥) → in_i
 none_in_place old new [] out = refl
 none_in_place old new (e ∷ es) out = rw (ne_eqb e old (λ q. out (inl (sym q)))) (ap (λ (x : List ℕ). e ∷ x) (none_in_place old new es (λ i. out (inr i))))
 
-replaced_after : (old by : ℕ) (es : List ℕ) → Distinct es → in_its_place old (by ∷ []) es ≡ with_in_place old by es
+pub replaced_after : (old by : ℕ) (es : List ℕ) → Distinct es → in_its_place old (by ∷ []) es ≡ with_in_place old by es
 replaced_after old by [] d = refl
 replaced_after old by (e ∷ es) d = elim (cases_eq e old) [
   | inl q ↦ rw (eq-eqb e old q) (ap (λ (x : List ℕ). by ∷ x) (none_in_place old (by ∷ []) es (λ i. d.0 (subst (λ (x : ℕ). In x es) (sym q) i))))
   | inr ne ↦ rw (ne_eqb e old ne) (ap (λ (x : List ℕ). e ∷ x) (replaced_after old by es d.1))
 ]
 
-left_after : (old : ℕ) (es : List ℕ) → Distinct es → in_its_place old [] es ≡ without old es
+pub left_after : (old : ℕ) (es : List ℕ) → Distinct es → in_its_place old [] es ≡ without old es
 left_after old [] d = refl
 left_after old (e ∷ es) d = elim (cases_eq e old) [
   | inl q ↦ rw (eq-eqb e old q) (none_in_place old [] es (λ i. d.0 (subst (λ (x : ℕ). In x es) (sym q) i)))
   | inr ne ↦ rw (ne_eqb e old ne) (ap (λ (x : List ℕ). e ∷ x) (left_after old es d.1))
 ]
-
-module _ (b now : List ℕ) (kind : EntryKind) (own : AttributeShape) (num : ℕ) where
-  by_options : (es : List ℕ) (old new : Option ℕ) → entry_at b own kind num ≡ old → entry_at now (with_chain own kind es) kind num ≡ new → es ≡ chain_after (chain_of own kind) old new → chain_of (with_chain own kind es) kind ≡ chain_after (chain_of own kind) (entry_at b own kind num) (entry_at now (with_chain own kind es) kind num)
-  by_options es old new p q is = chain_now kind own es ∙ is ∙ (λ i. chain_after (chain_of own kind) (sym p i) (sym q i))
-
-  pub pushed_follows : (place : ℕ) → entry_at b own kind num ≡ None → entry_at now (with_chain own kind (chain_of own kind ++ place ∷ [])) kind num ≡ Some place → chain_of (with_chain own kind (chain_of own kind ++ place ∷ [])) kind ≡ chain_after (chain_of own kind) (entry_at b own kind num) (entry_at now (with_chain own kind (chain_of own kind ++ place ∷ [])) kind num)
-  pushed_follows place p q = by_options (chain_of own kind ++ place ∷ []) None (Some place) p q refl
-
-  pub replaced_follows : (old by : ℕ) → Distinct (chain_of own kind) → entry_at b own kind num ≡ Some old → entry_at now (with_chain own kind (with_in_place old by (chain_of own kind))) kind num ≡ Some by → chain_of (with_chain own kind (with_in_place old by (chain_of own kind))) kind ≡ chain_after (chain_of own kind) (entry_at b own kind num) (entry_at now (with_chain own kind (with_in_place old by (chain_of own kind))) kind num)
-  replaced_follows old by d p q = by_options (with_in_place old by (chain_of own kind)) (Some old) (Some by) p q (sym (replaced_after old by (chain_of own kind) d))
-
-  pub left_follows : (old : ℕ) → Distinct (chain_of own kind) → entry_at b own kind num ≡ Some old → entry_at now (with_chain own kind (without old (chain_of own kind))) kind num ≡ None → chain_of (with_chain own kind (without old (chain_of own kind))) kind ≡ chain_after (chain_of own kind) (entry_at b own kind num) (entry_at now (with_chain own kind (without old (chain_of own kind))) kind num)
-  left_follows old d p q = by_options (without old (chain_of own kind)) (Some old) None p q (sym (left_after old (chain_of own kind) d))
 
 -- ---- the greatest numbers
 

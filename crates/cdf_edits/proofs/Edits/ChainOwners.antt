@@ -1,5 +1,5 @@
 -- Who owns the records of an image where the entries of one attribute have come to be others.
-use Rattle.std.proofs.Common.{◌≡◌, ◌≢◌, ◌⊎◌, ℕ, ◌+◌, ◌≤◌, List, [], ◌∷◌, ◌++◌, length, eqb, eq-eqb, refl, sym, ap, ◌∙◌, append-nil, arith, inl, inr}
+use Rattle.std.proofs.Common.{◌≡◌, ◌≢◌, ◌⊎◌, ℕ, ◌+◌, ◌≤◌, List, [], ◌∷◌, ◌++◌, length, eqb, eq-eqb, refl, sym, ap, subst, ◌∙◌, append-nil, arith, inl, inr}
 use Rattle.std.proofs.lemmas.Bool.{cases_eq, ne_eqb}
 use Rattle.cdf_model.specs.declared.kinds.EntryKind.{EntryKind}
 use Rattle.cdf_model.specs.declared.kinds.EntryKind.TheVariants as entries
@@ -59,16 +59,14 @@ traded_member chain chain' gone come once trades m i =
     ]
 
 -- and what came is a member
-pub came_in : (chain chain' gone come : List ℕ) → Trades chain chain' gone come → (m : ℕ) → In m come → (In m gone → ⊥) → In m chain'
-came_in chain chain' gone come trades m i out = elim (either (is_in m chain')) [
+pub came_in : (chain chain' gone come : List ℕ) → Trades chain chain' gone come → (m : ℕ) → In m come → times m gone ≤ times m chain → In m chain'
+came_in chain chain' gone come trades m i within = elim (either (is_in m chain')) [
   | inl x ↦ true-is_in m chain' x
-  | inr x ↦
-      let all = trades m in
-      let new = times-in m come i in
-      let none = times-none m gone out in
-      let absent = times-none m chain' (false-is_in m chain' x) in
-      absurd (omega arith)
+  | inr x ↦ let all = trades m in let new = times-in m come i in let absent = times-none m chain' (false-is_in m chain' x) in absurd (omega arith)
 ]
+
+pub one_within : (x : ℕ) (xs : List ℕ) → In x xs → (m : ℕ) → times m (x ∷ []) ≤ times m xs
+one_within x xs i m = elim (cases_eq m x) [ inl q ↦ rw (eq-eqb m x q) (times-in m xs (subst (λ (y : ℕ). In y xs) (sym q) i)) | inr ne ↦ rw (ne_eqb m x ne) (omega arith) ]
 
 pub replaced_trades : (es : List ℕ) (old by : ℕ) → In old es → Trades es (with_in_place old by es) (old ∷ []) (by ∷ [])
 replaced_trades [] old by i m = absurd i

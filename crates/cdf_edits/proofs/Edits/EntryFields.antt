@@ -73,6 +73,9 @@ only own x i m (inr none) = absurd none
 pub record MaxWritten (mid now : List ℕ) (kind : EntryKind) (adr greatest : ℕ) : Type 0 where
   pub is : now ≡ with_field mid adr (max_field kind) greatest
 
+pub max_written : {mid now : List ℕ} {adr adr' : ℕ} (kind : EntryKind) (greatest : ℕ) → adr ≡ adr' → now ≡ with_field mid adr' (max_field kind) greatest → MaxWritten mid now kind adr greatest
+max_written {mid = mid} {now = now} kind greatest same written = record { is = subst (λ (a : ℕ). now ≡ with_field mid a (max_field kind) greatest) (sym same) written }
+
 max_in : {mid records : List ℕ} {adr : ℕ} (kind : EntryKind) → AreTiles mid 8 (length mid) records → Stands mid records adr adr_type 324 → IsField mid records adr adr_type (max_field kind)
 max_in kind tiled is = field_in tiled is (max_lies kind).0 (max_lies kind).1
 
