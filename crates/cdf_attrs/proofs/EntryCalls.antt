@@ -15,7 +15,7 @@ use Rattle.cdf_edits.specs.Edits.EntryMarks.{entries_chain, count_field}
 use Rattle.cdf_edits.specs.Space.Chains.{HasChain, HolderStands, Removed, members_of}
 use Rattle.cdf_edits.proofs.Edits.ChainsOfShape.{has_chain, is_member}
 use Rattle.cdf_edits.proofs.Edits.LeftEntry.{LeavesChain}
-use Rattle.cdf_edits.proofs.Edits.EntryFields.{max_lies, count_is, of_shape}
+use Rattle.cdf_edits.proofs.Edits.EntryFields.{max_lies, count_is, max_written, of_shape}
 use Rattle.cdf_edits.proofs.Edits.Splice.{parts_there}
 use Rattle.cdf_edits.proofs.Space.ChainHeads.{long_of, end_of}
 use Rattle.cdf_attrs.specs.Putting.{IsEntryOf}
@@ -73,5 +73,5 @@ leaves {b = b} {mid = mid} {counted = counted} {late = late} {kind = kind} {adr 
   counted = counted;
   count_written = subst (λ (a : ℕ). counted ≡ with_field mid a (count_field kind) count) (sym i.adr_is) count_written;
   greatest = greatest;
-  written = subst (λ (a : ℕ). late ≡ with_field counted a (max_field kind) greatest) (sym i.adr_is) written;
+  written = max_written kind greatest i.adr_is written;
 }

@@ -40,9 +40,9 @@ use Rattle.cdf_edits.specs.Space.Chains.{counted_in, members_of, without as left
 use Rattle.cdf_edits.proofs.Commands.Answered.{refused, gone}
 use Rattle.cdf_edits.proofs.Edits.ChainEntries.{EntryLives, nums, nums_live, entries_left}
 use Rattle.cdf_edits.proofs.Edits.ChainFollowed.{greatest_integer}
-use Rattle.cdf_edits.proofs.Edits.FieldWritten.{written_integer, written_reads}
+use Rattle.cdf_edits.proofs.Edits.FieldWritten.{written_reads}
 use Rattle.cdf_edits.proofs.Edits.FreedEntry.{greatest_same}
-use Rattle.cdf_edits.proofs.Edits.LeftEntry.{LeavesChain, count_now, left_frees, left_members, of_count, of_max}
+use Rattle.cdf_edits.proofs.Edits.LeftEntry.{LeavesChain, count_now, left_frees, left_greatest, left_members, of_count}
 use Rattle.cdf_edits.proofs.Edits.EntryFields.{max_lies}
 use Rattle.cdf_attrs.specs.Finding.{FindsChain, IsRefusedFor}
 use Rattle.cdf_attrs.specs.Known.{KnownEntries, Knows, KnowsEntries}
@@ -196,8 +196,8 @@ module _ {b attr : List ℕ} {kind : EntryKind} {n : ℕ} {chain : Chain} (good 
     pub greatest : integer4 now found.own.adr (max_field kind) ≡ greatest_number (without num num (chain_items b (chain_of found.own kind)))
     greatest =
         let fits = greatest_fits (remove es.numbers i) taken.greatest (left_small good (of_attribute found) es of knows i within) taken.greatest_is in
-        let stays = greatest_integer kind taken.removed.late now found.own.adr (greatest_same sound (left_frees sound q taken.removed.gives) (max_lies kind).1) in
-        let written = written_integer q.counted taken.removed.late (shape b).records found.own.adr adr_type (max_field kind) taken.greatest (of_max sound q) (max_lies kind).2 fits taken.removed.written in
+        let stays = greatest_integer kind taken.removed.late now found.own.adr (greatest_same sound (left_frees sound q) taken.removed.gives (max_lies kind).1) in
+        let written = left_greatest sound q taken.greatest fits refl in
         let items = entries_left b b place num of_old (chain_of found.own kind) (entries_differ b good chain (of_attribute found)) member (λ m j ne. same_lives m j) in
         stays ∙ written ∙ greatest_of_items b (left_of place (chain_of found.own kind)) taken.greatest (subst (λ (xs : List ℕ). IsGreatest xs taken.greatest) left_numbers taken.greatest_is) ∙ ap greatest_number items
 

@@ -1,5 +1,5 @@
 -- An entry that was taken out of its chain and freed leads from a good image to the one that follows.
-use Rattle.std.proofs.Common.{◌≡◌, ◌≢◌, ℕ, ◌+◌, ◌≤◌, List, [], ◌∷◌, length, find, false, Option, Some, refl, sym, ap, subst, ◌∙◌, arith, eq-eqb, inl, inr}
+use Rattle.std.proofs.Common.{◌≡◌, ◌≢◌, ℕ, ◌+◌, ◌≤◌, List, [], ◌∷◌, length, find, false, None, Option, Some, refl, sym, ap, subst, ◌∙◌, arith, eq-eqb, inl, inr}
 use Rattle.std.proofs.lemmas.Bool.{cases_eq, ne_eqb}
 use Rattle.std.specs.Option.{option_to_list}
 use Rattle.std.specs.Prelude.{◌==◌}
@@ -13,31 +13,27 @@ use Rattle.cdf_model.specs.Limits.{image_limit}
 use Rattle.cdf_model.specs.Names.{attribute_named, attribute_names}
 use Rattle.cdf_model.specs.Numbered.{item_at, without}
 use Rattle.cdf_model.specs.Step.{ByStep}
-use Rattle.cdf_format.specs.Chains.{is_in}
 use Rattle.cdf_format.specs.Content.{content, attribute_of, entries_of as chain_items}
-use Rattle.cdf_format.specs.Fields.{number, integer4, size_at, type_at}
-use Rattle.cdf_format.specs.NotRead.{read_types}
-use Rattle.cdf_format.specs.Records.{aedr_num, uir_next_uir, uir_prev_uir}
-use Rattle.cdf_format.specs.RecordTypes.{uir_type}
+use Rattle.cdf_format.specs.Fields.{number, integer4, size_at}
+use Rattle.cdf_format.specs.Records.{aedr_num}
 use Rattle.cdf_format.specs.Shape.{AttributeShape, shape, adrs}
 use Rattle.cdf_format.specs.Sound.{IsSound}
 use Rattle.cdf_format.specs.Tiles.{In, Distinct}
 use Rattle.cdf_format.specs.WellFormed.{Good}
 use Rattle.cdf_format.proofs.GoodSound.{good_is_sound}
-use Rattle.cdf_format.proofs.Owning.{times-none}
-use Rattle.cdf_edits.specs.Commands.Entries.{DeletesEntry, entry_changes}
+use Rattle.cdf_edits.specs.Commands.Entries.{DeletesEntry, chain_after}
 use Rattle.cdf_edits.specs.Commands.EntryChains.{chain_of, entry_at, max_field, greatest_number}
-use Rattle.cdf_edits.specs.Edits.EntryMarks.{entries_chain, count_field}
+use Rattle.cdf_edits.specs.Edits.EntryMarks.{entries_chain, count_field, with_chain}
 use Rattle.cdf_edits.specs.Follows.{Follows}
 use Rattle.cdf_edits.specs.Space.Acts.{Act, Gave, gave}
 use Rattle.cdf_edits.specs.Space.Chains.{members_of, without as left_of}
 use Rattle.cdf_edits.specs.Space.Placement.{Gives}
 use Rattle.cdf_edits.proofs.Edits.ChainEntries.{EntryLives, nums, nums_live, num_in, nums_left, entries_left}
-use Rattle.cdf_edits.proofs.Edits.ChainFollowed.{chain_now, found_none, found_one, left_follows}
+use Rattle.cdf_edits.proofs.Edits.ChainFollowed.{chain_now, found_none, found_one, left_after}
 use Rattle.cdf_edits.proofs.Edits.ChainSpliced.{Rechains, there, entry_stays}
-use Rattle.cdf_edits.proofs.Edits.FreedEntry.{Frees, freed_rechains, freed_type, count_same, eof_same, as_long_now, freed_sorted, freed_acts, freed_bytes, freed_keeps_unused, all_marks}
-use Rattle.cdf_edits.proofs.Edits.LeftEntry.{LeavesChain, LeaveTests, leave_tests, left_members, left_length, marks, as_long, left_frees, left_acts, end_same, tests}
-use Rattle.cdf_edits.proofs.Edits.MarkLemmas.{unmarked-away, away-avoids, away-within, the_one}
+use Rattle.cdf_edits.proofs.Edits.FreedEntry.{Frees, all_marks, count_same, freed_bytes, freed_rechains, freed_settled}
+use Rattle.cdf_edits.proofs.Edits.LeftEntry.{LeavesChain, left_end, left_frees, left_length, left_members, marks}
+use Rattle.cdf_edits.proofs.Edits.MarkLemmas.{the_one}
 use Rattle.cdf_edits.proofs.Edits.EntryFields.{count_is}
 use Rattle.cdf_edits.proofs.Edits.OneChain.{Chained, chain_follows, counted_before, differ_before, end_before, follows_chained, items_of, of_named, once_before, rules_live}
 use Rattle.cdf_attrs.proofs.AttributeParts.{members_rechained, names_rechained, places_rechained}
@@ -71,7 +67,7 @@ num_left b now old n of_old (e ∷ es) d i live j = elim (cases_eq e old) [
 
 module _ {b late now attr : List ℕ} {kind : EntryKind} {num : ℕ} {before : List AttributeShape} {own : AttributeShape} {after : List AttributeShape} {entry : Entry} {old : ℕ} (good : Good b) (names : Names b attr kind num before own entry) (q : LeavesChain b late kind before own after old) (gives : Gives late now (shape late) (shape now) old)
     (of_old : number b old aedr_num ≡ num) (long : 28 ≤ size_at b old) (counted : number late own.adr (count_field kind) + 1 ≡ number b own.adr (count_field kind)) (greatest : integer4 now own.adr (max_field kind) ≡ greatest_number (without num num (chain_items b (chain_of own kind)))) (limited : length b ≤ image_limit) where
-  pub sound : IsSound b (shape b)
+  abbrev pub sound : IsSound b (shape b)
   sound = good_is_sound b good
 
   abbrev pub chain : List ℕ
@@ -83,11 +79,11 @@ module _ {b late now attr : List ℕ} {kind : EntryKind} {num : ℕ} {before : L
   abbrev acts : List Act
   acts = Gave old (size_at b old) ∷ []
 
-  pub f : Frees b late now (shape b).records (shape b).unused (marks sound q) [] kind before own after chain' [] old
-  f = left_frees sound q gives
+  abbrev pub f : Frees b late (shape b).records (shape b).unused (marks sound q) [] kind before own after chain' [] old 0 []
+  f = left_frees sound q
 
-  pub r : Rechains b now (shape b) (shape b).records (shape now).unused (all_marks sound f) (old ∷ []) kind before own after chain' (old ∷ []) []
-  r = freed_rechains sound f
+  abbrev pub r : Rechains b now (shape b) (shape b).records (shape now).unused (all_marks sound f) (old ∷ []) kind before own after chain' (old ∷ []) []
+  r = freed_rechains sound f gives
 
   pub once : Distinct chain
   once = once_before sound r good
@@ -104,32 +100,21 @@ module _ {b late now attr : List ℕ} {kind : EntryKind} {num : ℕ} {before : L
   gone_now : In num (nums now chain') → ⊥
   gone_now = num_left b now old num of_old chain (differ_before sound r good) q.member others
 
-  all_tests : LeaveTests kind own.adr (members_of b (entries_chain kind own.adr)) (shape b).unused old (size_at late old)
-  all_tests = leave_tests kind own.adr (members_of b (entries_chain kind own.adr)) (shape b).unused old (size_at late old)
+  gone_at : entry_at now (with_chain own kind chain') kind num ≡ None
+  gone_at = ap (find (λ aedr. number now aedr aedr_num == num)) (chain_now kind own chain') ∙ found_none now num chain' gone_now
 
   chained : Chained sound r attr num 0 (without num num (entries_of (attribute_of b own) kind)) acts
   chained =
-      let same = as_long_now sound f ∙ as_long sound q in
-      let none = λ (m : ℕ). unmarked-away (marks sound q) uir_type m (tests sound q).unused in
       record {
         found = names.found;
         items_now = entries_left b now old num of_old chain (differ_before sound r good) q.member others ∙ ap (without num num) (sym (items_of b own kind));
-        counted = counts (number now own.adr (count_field kind)) (number late own.adr (count_field kind)) (number b own.adr (count_field kind)) (length chain) (length chain') (count_same sound f (count_is kind b own.adr).0) counted (counted_before sound r good) (left_length old chain q.member);
+        counted = counts (number now own.adr (count_field kind)) (number late own.adr (count_field kind)) (number b own.adr (count_field kind)) (length chain) (length chain') (count_same sound f gives (count_is kind b own.adr).0) counted (counted_before sound r good) (left_length old chain q.member);
         differ = left_nums.0;
         rules = λ m i. let k = left_members old m chain once i in rules_live sound r good m k.0 (λ j. k.1 (the_one old m j));
-        chain_is = left_follows b now kind own num old once at_before (ap (find (λ aedr. number now aedr aedr_num == num)) (chain_now kind own chain') ∙ found_none now num chain' gone_now);
+        chain_is = chain_now kind own chain' ∙ sym (left_after old chain once) ∙ (λ i. chain_after chain (sym at_before i) (sym gone_at i));
         greatest = greatest ∙ ap (λ (items : List (ℕ × Entry)). greatest_number (without num num items)) (sym (items_of b own kind));
         of_gone = λ m i. ap (λ (x : ℕ). number b x aedr_num) (the_one old m i) ∙ of_old;
-        read = λ m i. ap (λ (type : ℕ). is_in type read_types) (ap (type_at now) (the_one old m i) ∙ freed_type sound f);
-        beside = λ m out. times-none m (old ∷ []) out;
-        sorted = freed_sorted sound f (λ m i. absurd i);
-        end = eof_same sound f ∙ end_same sound q ∙ end_before b good ∙ sym same;
-        longest = omega (arith, same);
-        takes_within = omega arith;
-        acts_follow = freed_acts sound f (left_acts sound q);
-        gdr_within = all_tests.gdr_within;
-        adr_within = all_tests.adr_within;
-        unused = freed_keeps_unused sound f (entry_changes b (content b) attr kind num) acts (λ m i free. (away-avoids (marks sound q) uir_type m 0 12 (none m), away-within (marks sound q) uir_type m (uir_next_uir ∷ uir_prev_uir ∷ []) (none m))) (λ m i out. (none m, out));
+        settled = freed_settled sound f gives (left_end sound q (end_before b good));
       }
     where
       counts : (n l o c c' : ℕ) → n ≡ l → l + 1 ≡ o → o ≡ c → c' + 1 ≡ c → n ≡ c'
@@ -137,7 +122,7 @@ module _ {b late now attr : List ℕ} {kind : EntryKind} {num : ℕ} {before : L
 
   pub left_follow : Follows b (DelEntry attr kind num) now
   left_follow = follows_chained sound r chained good (DelEntry attr kind num) (ap ByStep (del_goes names)) refl refl refl
-      (of_named sound r chained (λ a a'. DeletesEntry b now a a' kind num acts) (record { acts_are = ap (λ (o : Option ℕ). gave b (option_to_list o)) (sym at_before); chain = chain_follows sound r chained; freed = freed_bytes sound f acts long })) (omega (arith, limited))
+      (of_named sound r chained (λ a a'. DeletesEntry b now a a' kind num acts) (record { acts_are = ap (λ (o : Option ℕ). gave b (option_to_list o)) (sym at_before); chain = chain_follows sound r chained; freed = freed_bytes sound f gives acts long })) (omega (arith, limited))
 
   -- what there is of the attributes then
   pub members_left : members_of now (entries_chain kind own.adr) ≡ chain'

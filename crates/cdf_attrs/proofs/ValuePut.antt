@@ -40,7 +40,7 @@ use Rattle.cdf_edits.proofs.Edits.ChangedEntry as changed
 use Rattle.cdf_edits.proofs.Edits.Composing.{same-then}
 use Rattle.cdf_edits.proofs.Edits.EntryFields.{as_count, count_is, max_lies, max_written}
 use Rattle.cdf_edits.proofs.Edits.FreedEntry.{Frees, as_long_now, count_same, freed_bytes, freed_rechains, freed_settled, greatest_same, old_free, old_stands, other_kept, sound_late}
-use Rattle.cdf_edits.proofs.Edits.JoinedEntry.{JoinsEntry, as_long, count_now, exchanges, frees, greatest_now, list, marks, new_size, new_type, new_value, not_old, place_in, pushes, rechains, records, settled}
+use Rattle.cdf_edits.proofs.Edits.JoinedEntry.{JoinsEntry, as_long, count_now, ends, exchanges, frees, greatest_now, list, marks, new_size, new_type, new_value, not_old, place_in, pushes, rechains, records, settled}
 use Rattle.cdf_edits.proofs.Edits.MarkLemmas.{the_one}
 use Rattle.cdf_edits.proofs.Edits.OneChain.{counted_before, differ_before, items_of, once_before}
 use Rattle.cdf_edits.proofs.Space.LaidOut.{says_laid_out, says_kept}
@@ -199,7 +199,7 @@ module _ {b : List ℕ} {limit : ℕ} {new : NewEntry} {known : KnownEntries} (g
           let value = new.value.bytes.items in
           let mid = put b (old + 20) (fields_of new was.reserved) in
           let given = aedr_fields new.slot.attribute new.value.t new.slot.num new.value.elems was.reserved in
-          let ends = entry_ends good w i has.within in
+          let high = entry_ends good w i has.within in
           let inside = fits in
           let l = wide in
           let f = old_fit good w has in
@@ -213,14 +213,14 @@ module _ {b : List ℕ} {limit : ℕ} {new : NewEntry} {known : KnownEntries} (g
           (piece_kept mid now (old + 0) (old + (56 + length value)) same (old + 56) (length value) (omega arith) (omega arith) (omega arith) (omega arith) ∙ ap (take (length value)) says.1 ∙ take_at value more (length value) refl)
           (subst (λ (n : ℕ). 56 + length value ≤ n) (sym (changed.size_stays (sound good w) q)) fits)
 
-      ends : 20 + length (fields_of new was.reserved) ≡ entry_end now old
-      ends = wide ∙ ap (λ (n : ℕ). 56 + n) (sym changed_there.bytes_are)
+      all_ends : 20 + length (fields_of new was.reserved) ≡ entry_end now old
+      all_ends = wide ∙ ap (λ (n : ℕ). 56 + n) (sym changed_there.bytes_are)
 
       moves : EntryMoves b now old old []
       moves = record {
-        acts_are = rw (le-leb (entry_end now old) (size_at b old) (subst (λ (n : ℕ). n ≤ size_at b old) ends q.room)) refl;
+        acts_are = rw (le-leb (entry_end now old) (size_at b old) (subst (λ (n : ℕ). n ≤ size_at b old) all_ends q.room)) refl;
         reserved = subst (λ (x : Reserved). Says now old (reserved_fields x)) has.reserved_is changed_there.reserved;
-        room = λ le. record { place_stays = refl; size_stays = changed.size_stays (sound good w) q; rest_stays = subst (λ (n : ℕ). Same b now (old + n) (old + size_at b old)) ends (behind_stays (sound good w) q) };
+        room = λ le. record { place_stays = refl; size_stays = changed.size_stays (sound good w) q; rest_stays = subst (λ (n : ℕ). Same b now (old + n) (old + size_at b old)) all_ends (behind_stays (sound good w) q) };
       }
 
       pub put_over : Puts b now new.slot (entry good w)
@@ -271,10 +271,10 @@ module _ {b : List ℕ} {limit : ℕ} {new : NewEntry} {known : KnownEntries} (g
 
         anew : EntryMoves b now old by (Took by (8 + length (body_of new was.reserved)) ∷ Gave old (size_at b old) ∷ [])
         anew =
-            let ends : 8 + length (body_of new was.reserved) ≡ entry_end now by = size_is was.reserved ∙ ap (λ (n : ℕ). 56 + n) (sym moved_there.bytes_are) in
+            let wide : 8 + length (body_of new was.reserved) ≡ entry_end now by = size_is was.reserved ∙ ap (λ (n : ℕ). 56 + n) (sym moved_there.bytes_are) in
             let larger : size_at b old < entry_end now by = (let is = has.size_is in let n = size_is was.reserved in omega arith) in
             record {
-              acts_are = rw (lt-leb (entry_end now by) (size_at b old) larger) (ap (λ (n : ℕ). Took by n ∷ Gave old (size_at b old) ∷ []) ends);
+              acts_are = rw (lt-leb (entry_end now by) (size_at b old) larger) (ap (λ (n : ℕ). Took by n ∷ Gave old (size_at b old) ∷ []) wide);
               reserved = subst (λ (x : Reserved). Says now by (reserved_fields x)) has.reserved_is moved_there.reserved;
               room = λ le. absurd (omega arith);
             }
@@ -282,7 +282,7 @@ module _ {b : List ℕ} {limit : ℕ} {new : NewEntry} {known : KnownEntries} (g
         pub put_anew : Puts b now new.slot (entry good w)
         put_anew = puts good w (freed_rechains (sound good w) f gives) moved_there (replaced_has (freed_rechains (sound good w) f gives) moved_there) (size_is was.reserved)
             (counted (freed_rechains (sound good w) f gives) moved_there (count_same (sound good w) f gives (count_is new.slot.kind b w.attribute.own.adr).0 ∙ count_now (sound good w) j ∙ as_count new.slot.kind b b w.attribute.own.adr))
-            (greatest_integer new.slot.kind late now w.attribute.own.adr (greatest_same (sound good w) f gives (max_lies new.slot.kind).1) ∙ greatest_now (sound good w) j new.greatest w.fits is_stored) (freed_settled (sound good w) f gives)
+            (greatest_integer new.slot.kind late now w.attribute.own.adr (greatest_same (sound good w) f gives (max_lies new.slot.kind).1) ∙ greatest_now (sound good w) j new.greatest w.fits is_stored) (freed_settled (sound good w) f gives (ends (sound good w) j))
             (rw (found_old (freed_rechains (sound good w) f gives) moved_there) anew) (freed_bytes (sound good w) f gives (Took by (8 + length (body_of new was.reserved)) ∷ Gave old (size_at b old) ∷ []) (member_long good w i has.within))
 
         pub knows_anew : KnowsEntries now (record known { places = slice_set known.places i by })

@@ -45,7 +45,7 @@ use Rattle.cdf_edits.proofs.Edits.ChainSpliced.{Rechains, adr_in, adr_start, adr
 use Rattle.cdf_edits.proofs.Edits.Composing.{head_type}
 use Rattle.cdf_edits.proofs.Edits.EntryBeside.{beside_kept, kept_then}
 use Rattle.cdf_edits.proofs.Edits.FreedEntry.{Frees, all_marks, as_long_now, count_same, freed_behind, freed_rechains, freed_settled, freed_type, old_stands, other_kept as entry_kept, sound_late}
-use Rattle.cdf_edits.proofs.Edits.LeftEntry.{LeavesChain, LeaveTests, as_long, edit, late_is, leave_tests, leaving, left_acts, left_frees, left_length, left_members, marks, old_ok, tests}
+use Rattle.cdf_edits.proofs.Edits.LeftEntry.{LeavesChain, LeaveTests, as_long, edit, late_is, leave_tests, leaving, left_acts, left_end, left_frees, left_length, left_members, marks, old_ok, tests}
 use Rattle.cdf_edits.proofs.Edits.MarkLemmas.{Away-append, all_unmarked-away, the_one, unmarked-away, within-within}
 use Rattle.cdf_edits.proofs.Edits.OneChain.{counted_before, differ_before, end_before, good_chained, got_middle, items_of, once_before, rules_live}
 use Rattle.cdf_edits.proofs.Edits.OwnersKept.{keeps_away, keeps_fields, keeps_within, stood}
@@ -115,7 +115,7 @@ module _ {b late now : List ℕ} {kind : EntryKind} {before : List AttributeShap
   chain' = left_of old chain
 
   f : Frees b late (shape b).records (shape b).unused (marks sound q) [] kind before own after chain' [] old 0 []
-  f = left_frees sound q (end_before b good)
+  f = left_frees sound q
 
   abbrev changes : List Mark
   changes = all_marks sound f
@@ -151,7 +151,7 @@ module _ {b late now : List ℕ} {kind : EntryKind} {before : List AttributeShap
   pub good_now : number late own.adr (count_field kind) + 1 ≡ number b own.adr (count_field kind) → length b ≤ image_limit → Good now
   good_now counted limited =
       let once = once_before sound r good in
-      let st = freed_settled sound f gives in
+      let st = freed_settled sound f gives (left_end sound q (end_before b good)) in
       good_chained sound r good
       (counts (number now own.adr (count_field kind)) (number late own.adr (count_field kind)) (number b own.adr (count_field kind)) (length chain) (length chain') (count_same sound f gives (count_is kind b own.adr).0) counted (counted_before sound r good) (left_length old chain q.member))
       (nums_left b now old (number b old aedr_num) refl chain (differ_before sound r good) q.member others).0

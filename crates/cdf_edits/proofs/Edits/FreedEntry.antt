@@ -101,7 +101,6 @@ pub record Frees (b late : List ℕ) (records list : List ℕ) (marks : List Mar
   pub clear : keeps_but_chain (marks ++ giving_marks list (entry_type kind) old (size_at late old)) kind ≡ true
   pub gdr_within : within (marks ++ giving_marks list (entry_type kind) old (size_at late old)) gdr_type space_fields ≡ true
   pub adr_within : within (marks ++ giving_marks list (entry_type kind) old (size_at late old)) adr_type (chain_fields kind) ≡ true
-  pub end : eof late (shape b).gdr ≡ length late
   pub longest : length late ≤ length b + need
   pub takes_within : sum (map (λ take. take.1) (taken (acts ++ Gave old (size_at b old) ∷ []))) ≤ need
   pub acts_follow : ActsFollow b late acts
@@ -310,15 +309,15 @@ module _ {b late : List ℕ} {records list : List ℕ} {marks : List Mark} {rebo
         ))
         (λ m i out. let u = f.unlisted m i out in Away-append marks given_marks uir_type m u.0 ((λ q lies. apart uir_type gdr_type refl q), ((λ q lies. u.1 lies), ((λ q lies. g.no_uir (sym q)), tt))))
 
-    pub freed_settled : Settled sound freed_rechains need (acts ++ Gave old (size_at b old) ∷ [])
-    freed_settled = record {
+    pub freed_settled : eof late (shape b).gdr ≡ length late → Settled sound freed_rechains need (acts ++ Gave old (size_at b old) ∷ [])
+    freed_settled ends = record {
       read = λ m i. elim (In-append m reborn (old ∷ []) i) [
         | inl j ↦ ap (λ (type : ℕ). is_in type read_types) (same_types m (f.reborn_in m j) (λ q. f.out (subst (λ (x : ℕ). In x reborn) q j))) ∙ f.read m j
         | inr j ↦ ap (λ (type : ℕ). is_in type read_types) (ap (type_at now) (the_one old m j) ∙ freed_type)
       ];
       beside = λ m out. times-none m (old ∷ []) (λ i. out (In-append_right m reborn (old ∷ []) i)) ∙ sym (none_come m (λ i. out (In-append_left m reborn (old ∷ []) i)));
       sorted = freed_sorted;
-      end = eof_same ∙ f.end ∙ sym gives.length_is;
+      end = eof_same ∙ ends ∙ sym gives.length_is;
       longest = let same = gives.length_is in let l = f.longest in omega arith;
       takes_within = f.takes_within;
       acts_follow = freed_acts;

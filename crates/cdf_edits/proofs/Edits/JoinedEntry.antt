@@ -6,7 +6,7 @@ use Rattle.cdf_model.specs.declared.kinds.EntryKind.{EntryKind}
 use Rattle.cdf_model.specs.declared.kinds.EntryKind.TheVariants as entries
 use Rattle.cdf_format.specs.Bytes.{Same}
 use Rattle.cdf_format.specs.Chains.{is_in, is_linkable}
-use Rattle.cdf_format.specs.Fields.{number, integer4, size_at, type_at, with_field}
+use Rattle.cdf_format.specs.Fields.{eof, number, integer4, size_at, type_at, with_field}
 use Rattle.cdf_format.specs.NotRead.{read_types}
 use Rattle.cdf_format.specs.Owners.{attribute_records, times}
 use Rattle.cdf_format.specs.RecordTypes.{gdr_type, adr_type, uir_type, is_record_type, fixed_size}
@@ -195,13 +195,16 @@ module _ {b now : List ℕ} {kind : EntryKind} {before : List AttributeShape} {o
   acts_then : ActsFollow b now (Took place need ∷ [])
   acts_then = acts_took sound fills later as_long t.late (records_are sound rechains) (list_is sound rechains)
 
+  pub ends : eof now s.gdr ≡ length now
+  ends = end_now sound fills later as_long t.late
+
   -- where no other one went, all is done
   pub settled : ((m : ℕ) → times m gone ≡ 0) → (In place gone → ⊥) → Settled sound rechains need (Took place need ∷ [])
   settled none out = record {
     read = is_read;
     beside = λ m other. none m ∙ sym (times-none m (place ∷ []) other);
     sorted = λ m i. inl (sorted out m i);
-    end = end_now sound fills later as_long t.late;
+    end = ends;
     longest = shorter sound fills later as_long t.late;
     takes_within = omega arith;
     acts_follow = acts_then;
@@ -242,7 +245,6 @@ module _ {b late : List ℕ} {kind : EntryKind} {before : List AttributeShape} {
     clear = ((t sound p).freed (list sound p) old (size_at late old)).0;
     gdr_within = ((t sound p).freed (list sound p) old (size_at late old)).1;
     adr_within = ((t sound p).freed (list sound p) old (size_at late old)).2;
-    end = end_now sound (fills sound p) (later sound p) (as_long sound p) (t sound p).late;
     longest = shorter sound (fills sound p) (later sound p) (as_long sound p) (t sound p).late;
     takes_within = omega arith;
     acts_follow = acts_then sound p;

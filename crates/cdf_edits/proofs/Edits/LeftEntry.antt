@@ -214,11 +214,11 @@ module _ {b late : List ℕ} {kind : EntryKind} {before : List AttributeShape} {
   pub left_acts : ActsFollow b late []
   left_acts = acts_none sound edit u.unused refl (ap (λ (x : Shape). x.records) late_is) (ap (λ (x : Shape). x.unused) late_is) as_long
 
-  pub end_same : number late s.gdr gdr_eof ≡ number b s.gdr gdr_eof
-  end_same = field_clear edit s.gdr gdr_type gdr_eof (gdr_in b s h) (gdr_typed b s h) u.heads u.end (let l = gdr_long b s h in omega arith)
+  pub left_end : eof b s.gdr ≡ length b → eof late s.gdr ≡ length late
+  left_end ends = field_clear edit s.gdr gdr_type gdr_eof (gdr_in b s h) (gdr_typed b s h) u.heads u.end (let l = gdr_long b s h in omega arith) ∙ ends ∙ sym as_long
 
-  pub left_frees : eof b s.gdr ≡ length b → Frees b late s.records s.unused marks [] kind before own after chain' [] old 0 []
-  left_frees ends = record {
+  pub left_frees : Frees b late s.records s.unused marks [] kind before own after chain' [] old 0 []
+  left_frees = record {
     rechains = left_rechains;
     member = q.member;
     lives = lives old q.member;
@@ -231,7 +231,6 @@ module _ {b late : List ℕ} {kind : EntryKind} {before : List AttributeShape} {
     clear = (t s.unused (size_at late old)).all_clear;
     gdr_within = (t s.unused (size_at late old)).gdr_within;
     adr_within = (t s.unused (size_at late old)).adr_within;
-    end = end_same ∙ ends ∙ sym as_long;
     longest = let same = as_long in omega arith;
     takes_within = omega arith;
     acts_follow = left_acts;

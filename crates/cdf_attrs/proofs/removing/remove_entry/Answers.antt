@@ -2,7 +2,8 @@ use Rattle.std.proofs.Common.{◌≡◌, length, true, sym, ap, subst, ◌∙◌
 use Rattle.cdf_format.specs.Chains.{is_in}
 use Rattle.cdf_edits.specs.Space.Chains.{HasChain, HolderStands, Removed, members_of}
 use Rattle.cdf_edits.specs.declared.chain.Chain.{Chain}
-use Rattle.cdf_edits.proofs.Edits.LeftEntry.{sound_late, old_in, old_free}
+use Rattle.cdf_edits.proofs.Edits.FreedEntry.{sound_late, old_stands, old_free}
+use Rattle.cdf_edits.proofs.Edits.LeftEntry.{left_frees}
 use Rattle.cdf_fields.proofs.Writes.{length-with_field}
 use Rattle.cdf_attrs.proofs.EntryCalls.{has_entry, count_lies, greatest_lies, leaves}
 use Rattle.cdf_attrs.proofs.removing.remove_entry.Goals as goal
@@ -28,14 +29,14 @@ set_greatest-requires g c =
 pub free_record-requires-clause-sound : goal.free_record-requires-clause-sound
 free_record-requires-clause-sound g c =
     let removed = subst (λ (x : Chain). Removed (g.A.Area.image c.args.area.now) (g.A.Area.image c.chain_remove.new.area) x c.args.place) c.entries_chain.ensures c.in_ok-chain_remove.ensures.removed in
-    sound_late c.requires.sound (leaves _ _ c.requires.sound c.requires.entry removed c.in_ok-set_count.ensures.written c.in_ok-set_greatest.ensures.written)
+    sound_late c.requires.sound (left_frees c.requires.sound (leaves _ _ c.requires.sound c.requires.entry removed c.in_ok-set_count.ensures.written c.in_ok-set_greatest.ensures.written))
 
 pub free_record-requires-clause-stands : goal.free_record-requires-clause-stands
 free_record-requires-clause-stands g c =
     let removed = subst (λ (x : Chain). Removed (g.A.Area.image c.args.area.now) (g.A.Area.image c.chain_remove.new.area) x c.args.place) c.entries_chain.ensures c.in_ok-chain_remove.ensures.removed in
-    old_in c.requires.sound (leaves _ _ c.requires.sound c.requires.entry removed c.in_ok-set_count.ensures.written c.in_ok-set_greatest.ensures.written)
+    old_stands c.requires.sound (left_frees c.requires.sound (leaves _ _ c.requires.sound c.requires.entry removed c.in_ok-set_count.ensures.written c.in_ok-set_greatest.ensures.written))
 
 pub free_record-requires-clause-free : goal.free_record-requires-clause-free
 free_record-requires-clause-free g c =
     let removed = subst (λ (x : Chain). Removed (g.A.Area.image c.args.area.now) (g.A.Area.image c.chain_remove.new.area) x c.args.place) c.entries_chain.ensures c.in_ok-chain_remove.ensures.removed in
-    old_free c.requires.sound (leaves _ _ c.requires.sound c.requires.entry removed c.in_ok-set_count.ensures.written c.in_ok-set_greatest.ensures.written)
+    old_free c.requires.sound (left_frees c.requires.sound (leaves _ _ c.requires.sound c.requires.entry removed c.in_ok-set_count.ensures.written c.in_ok-set_greatest.ensures.written))
