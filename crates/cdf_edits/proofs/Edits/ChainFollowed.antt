@@ -1,5 +1,5 @@
 -- What is said of a chain of entries after a command on one of them: where the entry of a number stands, the chain, and the greatest numbers.
-use Rattle.std.proofs.Common.{◌≡◌, ℕ, List, [], ◌∷◌, ◌++◌, true, false, Option, Some, None, find, eq-eqb, refl, sym, ap, subst, ◌∙◌, inl, inr}
+use Rattle.std.proofs.Common.{◌≡◌, ℕ, List, [], ◌∷◌, true, false, Option, Some, None, find, eq-eqb, refl, sym, ap, subst, ◌∙◌, inl, inr}
 use Rattle.std.proofs.lemmas.Bool.{cases_eq, eqb-true, ne_eqb}
 use Rattle.std.specs.Int.{w32, cast_signed}
 use Rattle.std.specs.List.{flat_map, slice_get}
@@ -15,8 +15,7 @@ use Rattle.cdf_format.specs.Fields.{number, integer4}
 use Rattle.cdf_format.specs.Records.{aedr_num}
 use Rattle.cdf_format.specs.Shape.{AttributeShape, shape}
 use Rattle.cdf_format.specs.Tiles.{In, Distinct}
-use Rattle.cdf_edits.specs.Commands.Entries.{chain_after}
-use Rattle.cdf_edits.specs.Commands.EntryChains.{chain_of, entry_at, max_field, greatest_number, share_chain, GreatestIs}
+use Rattle.cdf_edits.specs.Commands.EntryChains.{chain_of, max_field, greatest_number, share_chain, GreatestIs}
 use Rattle.cdf_edits.specs.Commands.Named.{is_attribute, OfAttribute}
 use Rattle.cdf_edits.specs.Edits.EntryMarks.{with_chain}
 use Rattle.cdf_edits.specs.Space.Chains.{with_in_place, without}

@@ -6,11 +6,11 @@ use Rattle.cdf_model.specs.declared.kinds.EntryKind.{EntryKind}
 use Rattle.cdf_model.specs.declared.kinds.EntryKind.TheVariants as entries
 use Rattle.cdf_format.specs.Bytes.{Same}
 use Rattle.cdf_format.specs.Chains.{is_in, is_linkable}
-use Rattle.cdf_format.specs.Fields.{eof, number, integer4, size_at, type_at, with_field}
+use Rattle.cdf_format.specs.Fields.{eof, number, integer4, size_at, type_at}
 use Rattle.cdf_format.specs.NotRead.{read_types}
 use Rattle.cdf_format.specs.Owners.{attribute_records, times}
 use Rattle.cdf_format.specs.RecordTypes.{gdr_type, adr_type, uir_type, is_record_type, fixed_size}
-use Rattle.cdf_format.specs.Shape.{AttributeShape, HasShape, Shape, shape}
+use Rattle.cdf_format.specs.Shape.{AttributeShape, Shape, shape}
 use Rattle.cdf_format.specs.Sound.{EntryFits, IsSound}
 use Rattle.cdf_format.specs.Tiles.{In}
 use Rattle.cdf_format.proofs.ChainsLemmas.{linkable-in, linkable-type}

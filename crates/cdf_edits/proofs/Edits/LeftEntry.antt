@@ -7,11 +7,11 @@ use Rattle.cdf_model.specs.declared.kinds.EntryKind.{EntryKind}
 use Rattle.cdf_model.specs.declared.kinds.EntryKind.TheVariants as entries
 use Rattle.cdf_format.specs.Chains.{IsChain}
 use Rattle.cdf_format.specs.Fields.{eof, number, integer4, size_at, type_at, with_field}
-use Rattle.cdf_format.specs.Owners.{attribute_records, owned_records, times}
+use Rattle.cdf_format.specs.Owners.{attribute_records}
 use Rattle.cdf_format.specs.Records.{gdr_eof, gdr_uir_head, uir_next_uir, uir_prev_uir}
 use Rattle.cdf_format.specs.RecordTypes.{gdr_type, adr_type, uir_type}
-use Rattle.cdf_format.specs.Shape.{AttributeShape, Each, HasShape, Shape, shape}
-use Rattle.cdf_format.specs.Sound.{EntryFits, IsSound}
+use Rattle.cdf_format.specs.Shape.{AttributeShape, HasShape, Shape, shape}
+use Rattle.cdf_format.specs.Sound.{IsSound}
 use Rattle.cdf_format.specs.Tiles.{In, Distinct}
 use Rattle.cdf_format.proofs.ChainsLemmas.{linkable-in, linkable-type}
 use Rattle.cdf_edits.specs.Commands.Allowances.{space_fields}
@@ -21,12 +21,11 @@ use Rattle.cdf_edits.specs.Edits.EntryMarks.{entries_chain, head_field, count_fi
 use Rattle.cdf_edits.specs.Edits.Marks.{Mark, avoided, ended, unmarked, within, removing_marks, giving_marks, field_marks}
 use Rattle.cdf_edits.specs.Space.Acts.{ActsFollow}
 use Rattle.cdf_edits.specs.Space.Chains.{HolderStands, Removed, head_of, holder_of, holder_type, members_of, type_in, without}
-use Rattle.cdf_edits.specs.Space.Placement.{Gives}
 use Rattle.cdf_edits.proofs.Edits.AttributeFrame.{AreThere}
 use Rattle.cdf_edits.proofs.Edits.ChainKinds.{chain_has, chain_in}
 use Rattle.cdf_edits.proofs.Edits.ChainEdits.{removed_edit}
-use Rattle.cdf_edits.proofs.Edits.ChainOwners.{left_trades, rechained, gone_free}
-use Rattle.cdf_edits.proofs.Edits.ChainSpliced.{Rechains, now_is, entry_stays, sound_rechained}
+use Rattle.cdf_edits.proofs.Edits.ChainOwners.{left_trades, rechained}
+use Rattle.cdf_edits.proofs.Edits.ChainSpliced.{Rechains, now_is}
 use Rattle.cdf_edits.proofs.Edits.ChainsOfShape.{has_chain, left_chain, members_are}
 use Rattle.cdf_edits.proofs.Edits.Composing.{edit_then}
 use Rattle.cdf_edits.proofs.Edits.EditActs.{acts_none}
@@ -37,7 +36,7 @@ use Rattle.cdf_edits.proofs.Edits.EntryFields.{MaxWritten, head_lies, count_is, 
 use Rattle.cdf_edits.proofs.Edits.RecordFrame.{field_clear, chain_clear, kept_but_link}
 use Rattle.cdf_edits.proofs.Edits.Splice.{parts_there, adr_stands}
 use Rattle.cdf_edits.proofs.Edits.StepEdits.{gdr_in, gdr_typed, gdr_long}
-use Rattle.cdf_edits.proofs.Frame.Meaning.{KeptButLink, late_type}
+use Rattle.cdf_edits.proofs.Frame.Meaning.{KeptButLink}
 use Rattle.cdf_edits.proofs.Space.UsedRecords.{apart}
 
 -- the members of a chain that one left
