@@ -30,7 +30,7 @@ use Rattle.cdf_edits.specs.Space.Chains.{members_of, without as left_of}
 use Rattle.cdf_edits.specs.Space.Placement.{Gives}
 use Rattle.cdf_edits.proofs.Edits.ChainEntries.{EntryLives, nums, nums_live, num_in, nums_left, entries_left}
 use Rattle.cdf_edits.proofs.Edits.ChainFollowed.{chain_now, found_none, found_one, left_after}
-use Rattle.cdf_edits.proofs.Edits.ChainSpliced.{Rechains, there, entry_stays}
+use Rattle.cdf_edits.proofs.Edits.ChainSpliced.{Rechains, entry_stays}
 use Rattle.cdf_edits.proofs.Edits.FreedEntry.{Frees, all_marks, count_same, freed_bytes, freed_rechains, freed_settled}
 use Rattle.cdf_edits.proofs.Edits.LeftEntry.{LeavesChain, left_end, left_frees, left_length, left_members, marks}
 use Rattle.cdf_edits.proofs.Edits.MarkLemmas.{the_one}

@@ -1,5 +1,5 @@
 -- A value that is put as an entry: as a last one, in the record of the one of its number, or in another record in its place.
-use Rattle.std.proofs.Common.{◌≡◌, ◌≢◌, ℕ, zero, suc, ◌+◌, ◌<◌, ◌≤◌, List, [], ◌∷◌, ◌++◌, length, drop, take, true, Some, None, nat_lt, ◌==◌, eq-eqb, w32, refl, sym, ap, subst, ◌∙◌, append_assoc, arith, lit<, inl, inr, Option}
+use Rattle.std.proofs.Common.{◌≡◌, ◌≢◌, ℕ, zero, suc, ◌+◌, ◌<◌, ◌≤◌, List, [], ◌∷◌, ◌++◌, length, drop, take, Some, None, nat_lt, ◌==◌, eq-eqb, w32, refl, sym, ap, subst, ◌∙◌, append_assoc, arith, lit<, inl, inr, Option}
 use Rattle.std.proofs.lemmas.Bool.{cases_eq, le-leb, lt-leb, lt-ltb, ne_eqb}
 use Rattle.std.proofs.lemmas.List.{map-append, length-append, take_at}
 use Rattle.std.proofs.lemmas.Int.{to_z-of_z}
@@ -24,7 +24,7 @@ use Rattle.cdf_edits.specs.Commands.EntryChains.{entry_at, max_field}
 use Rattle.cdf_edits.specs.Commands.NewRecords.{Says}
 use Rattle.cdf_edits.specs.Edits.EntryMarks.{count_field, entries_chain}
 use Rattle.cdf_edits.specs.Edits.Marks.{Mark}
-use Rattle.cdf_edits.specs.Space.Acts.{Act, Gave, Took}
+use Rattle.cdf_edits.specs.Space.Acts.{Gave, Took}
 use Rattle.cdf_edits.specs.Space.Adding.{Added, Exchanged}
 use Rattle.cdf_edits.specs.Space.Chains.{counted_in, with_in_place}
 use Rattle.cdf_edits.specs.Space.Placement.{Gives}

@@ -1,15 +1,14 @@
-use Rattle.std.proofs.Common.{◌≡◌, ◌∙◌, ◌<◌, List, ℕ, None, length, take, true, refl, ap, subst, sym}
+use Rattle.std.proofs.Common.{◌≡◌, ◌∙◌, List, ℕ, None, take, true, refl, ap, subst, sym}
 use Rattle.std.specs.List.{last_or}
 use Rattle.std.specs.Prelude.{slice_index}
 use Rattle.cdf_area.proofs.Calls.{edit_done, edit_failed, edit_more, edit_once}
 use Rattle.cdf_format.specs.Chains.{is_in}
 use Rattle.cdf_format.proofs.GoodSound.{good_is_sound, good_eof}
-use Rattle.cdf_edits.specs.Edits.EntryMarks.{entries_chain}
 use Rattle.cdf_edits.specs.Space.Chains.{before, members_of}
 use Rattle.cdf_edits.proofs.Commands.ListParts.{last_got}
 use Rattle.cdf_attrs.specs.Known.{KnownEntries, KnowsEntries}
 use Rattle.cdf_attrs.proofs.EntryTakenAt.{stands_behind}
-use Rattle.cdf_attrs.proofs.PutCalls.{body_kind, body_of, body_room, chain_at, holder_at, is_body, is_member_at, max_joined, of_slot}
+use Rattle.cdf_attrs.proofs.PutCalls.{body_kind, body_room, chain_at, holder_at, is_body, is_member_at, max_joined, of_slot}
 use Rattle.cdf_attrs.proofs.ValuePut.{knows_anew, late_free, late_sound, late_stands, put_anew}
 use Rattle.cdf_attrs.proofs.putting.put_anew.Goals as goal
 
@@ -29,7 +28,7 @@ pub exchange_record-requires-clause-member : goal.exchange_record-requires-claus
 exchange_record-requires-clause-member g c = subst (λ (m : ℕ). is_in m (members_of (g.A.Area.image c.args.area.now) c.entries_chain-chain.result) ≡ true) (sym (ap (λ (xs : List ℕ). slice_index xs c.args.i) (c.as_slice.ensures.value ∙ ap (λ (e : KnownEntries). e.places) c.put.view_is))) (is_member_at c.requires.good c.requires.ready c.args.i c.requires.old.within c.entries_chain-chain.ensures)
 
 pub exchange_record-requires-clause-behind : goal.exchange_record-requires-clause-behind
-exchange_record-requires-clause-behind g c = 
+exchange_record-requires-clause-behind g c =
     let b = g.A.Area.image c.args.area.now in
     let here = ap (λ (e : KnownEntries). e.places) c.put.view_is in
     c.copied-behind.ensures ∙ c.last.ensures.value ∙ last_got (take c.args.i c.deref.result.now) ∙ ap (λ (xs : List ℕ). last_or None (take c.args.i xs)) (c.deref.ensures.value ∙ here)

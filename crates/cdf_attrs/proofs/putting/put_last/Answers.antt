@@ -1,4 +1,4 @@
-use Rattle.std.proofs.Common.{◌≡◌, ◌∙◌, List, None, ap, subst, sym}
+use Rattle.std.proofs.Common.{◌∙◌, None, ap, subst, sym}
 use Rattle.std.specs.List.{last_or}
 use Rattle.cdf_area.proofs.Calls.{edit_done, edit_failed, edit_more, edit_once, edit_without_memory}
 use Rattle.cdf_format.proofs.GoodSound.{good_is_sound, good_eof}
@@ -23,7 +23,7 @@ pub append_record-requires-clause-chain : goal.append_record-requires-clause-cha
 append_record-requires-clause-chain g c = chain_at c.requires.good c.requires.ready c.entries_chain.ensures
 
 pub append_record-requires-clause-last : goal.append_record-requires-clause-last
-append_record-requires-clause-last g c = 
+append_record-requires-clause-last g c =
     c.copied-last.ensures ∙ c.last.ensures.value ∙ last_got c.deref.result.now ∙ ap (last_or None) (c.deref.ensures.value ∙ ap (λ (k : KnownEntries). k.places) c.put.view_is ∙ places_known c.requires.good c.requires.ready ∙ ap (members_of (g.A.Area.image c.args.area.now)) (sym c.entries_chain.ensures))
 
 pub append_record-requires-clause-body : goal.append_record-requires-clause-body
