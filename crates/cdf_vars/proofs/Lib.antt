@@ -1,6 +1,5 @@
 pub mod CreatedVariable
 pub mod CreatingAnswers
-pub mod DimsRead
 pub mod KindKnown
 pub mod Making
 pub mod MeantVdr
@@ -25,7 +24,6 @@ pub mod PadBytes
 pub mod PadLinked
 pub mod PadReplacing
 pub mod PadMoving
-pub mod PadSites
 pub mod PadValues
 pub mod PadInPlace
 pub mod PadKnown
@@ -35,9 +33,6 @@ pub mod BlockingSteps
 pub mod Blocked
 pub mod BlockingCalls
 pub mod VariableParts
-pub mod RecordForms
-pub mod RecordsRead
-pub mod RecordReading
 pub mod RecordPlaces
 pub mod WholeRecords
 pub mod RecordSteps
@@ -58,10 +53,9 @@ pub mod ReindexRoom
 pub mod PutSteps
 pub mod PutTargets
 pub mod PutRequests
-pub mod PutRoomCount
-pub mod PutRoomNeeded
 pub mod PutParts
 pub mod PutRaised
 pub mod PutWhole
 pub mod PutCalls
 pub mod PutAnswered
+pub mod PutAsked

@@ -34,6 +34,7 @@ use Rattle.cdf_model.specs.Types.{type_of}
 use Rattle.cdf_model.specs.Values.{notation_of}
 use Rattle.cdf_model.specs.VariableSteps.{is_characters, new_variable}
 use Rattle.cdf_vars.specs.Creating.{NewVariable, own_dims, vary_code}
+use Rattle.cdf_var_records.proofs.DimsRead.{small_signed}
 use Rattle.cdf_vars.proofs.NewVdr.{IsNewVdr}
 use Rattle.cdf_vars.proofs.ShapedVariable.{IsShaped, IsSize}
 use Rattle.cdf_edits.proofs.Commands.TypeCodes.{type_back}
@@ -48,9 +49,6 @@ Shares b R dims = r_sizes b (gdr_offset b) ≡ dims
 Shares b Z dims = Unit {0}
 
 -- ---- small numbers
-
-pub small_signed : (n : ℕ) → n ≤ signed_limit → counted (cast_signed w32 n) ≡ n
-small_signed n l = grind arith
 
 counted_sizes : (dims : List ℕ) → Each IsSize dims → map counted4 dims ≡ dims
 counted_sizes [] sizes = refl

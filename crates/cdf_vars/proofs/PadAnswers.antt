@@ -28,15 +28,16 @@ use Rattle.cdf_edits.proofs.Edits.PadMoved.{HoldsPad}
 use Rattle.cdf_edits.proofs.Frame.Meaning.{pad_long}
 use Rattle.cdf_edits.proofs.Edits.PadWritten.{WritesPad, edits}
 use Rattle.cdf_edits.proofs.Edits.VdrEdited.{fits, same_shape, sound, tile}
-use Rattle.cdf_vars.specs.declared.pad_place.PadPlace.{PadPlace}
+use Rattle.cdf_var_records.specs.declared.pad_place.PadPlace.{PadPlace}
 use Rattle.cdf_vars.specs.declared.vars.VarId.{VarId}
 use Rattle.cdf_model.specs.declared.kinds.Kind.{Kind}
 use Rattle.cdf_model.specs.declared.kinds.Kind.TheVariants.{R, Z}
 use Rattle.cdf_vars.specs.Known.{Known, KnownKind, Knows, known_of}
-use Rattle.cdf_vars.specs.Padding.{IsPlace, MayPad, MovedTo, Moves, padded_body, padded_flags}
+use Rattle.cdf_var_records.specs.Descriptors.{IsPlace}
+use Rattle.cdf_vars.specs.Padding.{MayPad, MovedTo, Moves, padded_body, padded_flags}
 use Rattle.cdf_vars.proofs.PadBytes.{length-pad_body}
 use Rattle.cdf_vars.proofs.PadLinked.{holds, moves}
-use Rattle.cdf_vars.proofs.PadReplacing.{inside}
+use Rattle.cdf_var_records.proofs.VdrParts.{inside}
 use Rattle.cdf_vars.proofs.PadRoom.{answers_too_large, room_is}
 use Rattle.cdf_vars.proofs.PadSteps.{pad_goes}
 use Rattle.cdf_vars.proofs.Padded.{content_in_place, content_moved, in_place_follows, moved_follows}

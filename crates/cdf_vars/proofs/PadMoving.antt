@@ -17,10 +17,10 @@ use Rattle.cdf_edits.specs.Space.Chains.{before, members_of}
 use Rattle.cdf_edits.specs.Space.VariableChains.{variables_chain}
 use Rattle.cdf_edits.proofs.Commands.ListParts.{Cut, cut}
 use Rattle.cdf_edits.proofs.Frame.Meaning.{pad_long}
-use Rattle.cdf_vars.specs.declared.pad_place.PadPlace.{PadPlace}
-use Rattle.cdf_vars.specs.Padding.{IsPlace, IsVdr}
+use Rattle.cdf_var_records.specs.declared.pad_place.PadPlace.{PadPlace}
+use Rattle.cdf_var_records.specs.Descriptors.{IsPlace, IsVdr}
 use Rattle.cdf_vars.proofs.PadBytes.{length-pad_body}
-use Rattle.cdf_vars.proofs.PadReplacing.{inside}
+use Rattle.cdf_var_records.proofs.VdrParts.{inside}
 use Rattle.cdf_vars.proofs.VariableChains.{has_variable_chain, variable_members}
 
 index_in : (xs : List ℕ) (i : ℕ) → i < length xs → In (slice_index xs i) xs

@@ -14,7 +14,6 @@ use Rattle.cdf_format.specs.Tiles.{In}
 use Rattle.cdf_format.specs.VariableFields.{dimensions_at, is_z, pad_field, value_bytes}
 use Rattle.cdf_format.specs.WellFormed.{Good}
 use Rattle.cdf_format.proofs.Members.{is_in-true}
-use Rattle.cdf_format.proofs.TilesLemmas.{tile_lies}
 use Rattle.cdf_edits.specs.Commands.Allowances.{shapes_of}
 use Rattle.cdf_edits.specs.Commands.Room.{vdr_bytes}
 use Rattle.cdf_edits.specs.Space.Chains.{HasChain, MayJoin, Replaced, before, members_of, type_in}
@@ -23,14 +22,16 @@ use Rattle.cdf_edits.specs.Space.VariableChains.{variables_chain}
 use Rattle.cdf_edits.specs.declared.chain.Chain.{Chain}
 use Rattle.cdf_edits.proofs.Edits.MovedVdr.{MovesVdr, old_free, old_in, sound_late}
 use Rattle.cdf_edits.proofs.Edits.PadWritten.{padded_flags}
-use Rattle.cdf_edits.proofs.Edits.VdrEdited.{StandsAmong, fits, in_middle, sound, tile, typed}
+use Rattle.cdf_edits.proofs.Edits.VdrEdited.{in_middle, sound, typed}
 use Rattle.cdf_edits.proofs.Frame.Meaning.{pad_long}
 use Rattle.cdf_edits.proofs.Space.UsedRecords.{apart}
 use Rattle.cdf_space.proofs.AddedRecord.{filled_has_chain, filled_joins, filled_members}
-use Rattle.cdf_vars.specs.Padding.{IsPadded, IsVdr}
+use Rattle.cdf_var_records.specs.Descriptors.{IsVdr}
+use Rattle.cdf_vars.specs.Padding.{IsPadded}
 use Rattle.cdf_vars.proofs.PadBytes.{body_type, length-pad_body, pad_body}
 use Rattle.cdf_vars.proofs.PadLinked.{moves}
-use Rattle.cdf_vars.proofs.PadRoom.{pad_place}
+use Rattle.cdf_var_records.proofs.VdrParts.{pad_place}
+use Rattle.cdf_var_records.proofs.VdrParts.{at, inside, own}
 use Rattle.cdf_vars.proofs.VariableChains.{has_variable_chain, holder_stands, variable_members}
 
 -- the image in which the new VDR is linked is ready for the freeing of the old one
@@ -41,23 +42,11 @@ pub record Linked (late : List ℕ) (old by : ℕ) : Type 0 where
   pub long : by + 84 ≤ length late
 
 module _ {b : List ℕ} {kind : Kind} {old : ℕ} (good : Good b) (vdr : IsVdr b kind old) where
-  abbrev pub own : VariableShape
-  own = record vdr.own { vdr = old }
-
-  pub at : StandsAmong b kind vdr.before own vdr.after
-  at = record { was = vdr.was }
-
   abbrev place : ℕ
   place = (pad_field b old).place
 
   late : 340 ≤ place
   late = pad_long (is_z b old) (dimensions_at b old) (value_bytes b old)
-
-  pub inside : old + place ≤ length b
-  inside =
-      let high = (tile_lies b 8 (length b) (shape b).records old (sound good at).has_shape.tiled (tile good at)).high in
-      let room = (fits good at).0 in
-      omega arith
 
 module _ {b body : List ℕ} {kind : Kind} {old : ℕ} (good : Good b) (vdr : IsVdr b kind old) (p : IsPadded b old body) where
   abbrev there : List ℕ

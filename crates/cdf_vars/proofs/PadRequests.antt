@@ -12,12 +12,13 @@ use Rattle.cdf_format.specs.WellFormed.{Good}
 use Rattle.cdf_edits.specs.Answers.{Answers}
 use Rattle.cdf_values.specs.declared.read.ValueError.{ValueError}
 use Rattle.cdf_values.specs.Reading.{Explains}
-use Rattle.cdf_vars.specs.declared.pad_place.PadPlace.{PadPlace}
+use Rattle.cdf_var_records.specs.declared.pad_place.PadPlace.{PadPlace}
 use Rattle.cdf_vars.specs.declared.vars.VarId.{VarId}
 use Rattle.cdf_vars.specs.Finding.{found_among}
 use Rattle.cdf_vars.specs.Known.{Known, Knows, known_of}
-use Rattle.cdf_vars.specs.Padding.{HasElements, IsPlace, IsValue, IsVdr, MayPad}
-use Rattle.cdf_vars.proofs.PadSites.{has_so_many, vdr_lies}
+use Rattle.cdf_var_records.specs.Descriptors.{HasElements, IsPlace, IsVdr}
+use Rattle.cdf_vars.specs.Padding.{IsValue, MayPad}
+use Rattle.cdf_var_records.proofs.PadSites.{has_so_many, vdr_lies}
 use Rattle.cdf_vars.proofs.PadSteps.{answers_missing, answers_no_value}
 use Rattle.cdf_vars.proofs.VariableFound.{none_found}
 use Rattle.cdf_vars.proofs.VariableParts.{Parts, the_parts, within_places}

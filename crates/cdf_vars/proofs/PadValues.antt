@@ -1,5 +1,5 @@
 -- How many bytes the word of a pad value writes.
-use Rattle.std.proofs.Common.{◌≡◌, ℕ, zero, suc, ◌+◌, ◌*◌, ◌%◌, ◌≤◌, List, [], ◌∷◌, ◌++◌, length, take, drop, Bool, true, false, Option, Some, None, Ok, Err, Result, refl, sym, ap, subst, ◌∙◌, arith}
+use Rattle.std.proofs.Common.{◌≡◌, ℕ, zero, suc, ◌+◌, ◌*◌, ◌≤◌, List, [], ◌∷◌, ◌++◌, length, take, drop, Bool, true, false, Option, Some, None, Ok, Err, Result, refl, sym, ap, subst, ◌∙◌, arith}
 use Rattle.std.proofs.lemmas.Bool.{ne_eqb}
 use Rattle.std.proofs.lemmas.Bool.Decides.{nat_tests}
 use Rattle.std.proofs.lemmas.List.{length-append, take_at}
@@ -16,7 +16,9 @@ use Rattle.cdf_model.specs.Types.{size_of}
 use Rattle.cdf_model.specs.Values.{bytes_in, bytes_of_words, characters_in, digits_in, hex_bytes, negative_in, positive_in, signed_in, text_size, values_in}
 use Rattle.cdf_model.specs.ByteOrder.{turned}
 use Rattle.cdf_values.proofs.TurnedLemmas.{back, size_stays}
-use Rattle.cdf_vars.specs.Padding.{HasElements, IsValue}
+use Rattle.cdf_var_records.specs.Descriptors.{HasElements}
+use Rattle.cdf_var_records.proofs.ValueSizes.{whole_elements}
+use Rattle.cdf_vars.specs.Padding.{IsValue}
 
 given : (p : Bool) (x y : List ℕ) → (if p then Some x else None) ≡ Some y → (p ≡ true) × (x ≡ y)
 given true x y e = (refl, cc)
@@ -90,25 +92,6 @@ whole Float elems n one e = grind (arith, nat_tests, one, e)
 whole Double elems n one e = grind (arith, nat_tests, one, e)
 whole Char elems n one e = omega arith
 whole UChar elems n one e = omega arith
-
-pub whole_elements : (t : DataType) (elems n : ℕ) → n ≡ size_of t * elems → n % size_of t ≡ 0
-whole_elements Int1 k n e = omega arith
-whole_elements Int2 k n e = omega arith
-whole_elements Int4 k n e = omega arith
-whole_elements Int8 k n e = omega arith
-whole_elements UInt1 k n e = omega arith
-whole_elements UInt2 k n e = omega arith
-whole_elements UInt4 k n e = omega arith
-whole_elements Real4 k n e = omega arith
-whole_elements Real8 k n e = omega arith
-whole_elements Epoch k n e = omega arith
-whole_elements Epoch16 k n e = omega arith
-whole_elements TimeTt2000 k n e = omega arith
-whole_elements Byte k n e = omega arith
-whole_elements Float k n e = omega arith
-whole_elements Double k n e = omega arith
-whole_elements Char k n e = omega arith
-whole_elements UChar k n e = omega arith
 
 abbrev list_of : Result (List ℕ) Reason → List ℕ
 list_of (Ok x) = x

@@ -28,11 +28,11 @@ use Rattle.cdf_model.specs.VariableSteps.{with_variable}
 use Rattle.cdf_model.specs.RecordSteps.{with_record}
 use Rattle.cdf_puts.proofs.PutRules.{no_rule}
 use Rattle.cdf_vars.specs.declared.puts.Target.{Target}
-use Rattle.cdf_vars.specs.Padding.{IsVdr}
+use Rattle.cdf_var_records.specs.Descriptors.{IsVdr}
 use Rattle.cdf_vars.specs.Puts.{CanPut, PutsAs, PutsSo, target_found}
-use Rattle.cdf_vars.specs.Records.{variable_at}
+use Rattle.cdf_var_records.specs.Records.{variable_at}
 use Rattle.cdf_vars.proofs.PutWhole.{first_is, within}
-use Rattle.cdf_vars.proofs.RecordForms.{index_is}
+use Rattle.cdf_var_records.proofs.RecordForms.{index_is}
 
 module _ {b : List ℕ} {t : Target} {r : ℕ} {bytes : List ℕ} (good : Good b) (can : CanPut b r t bytes) where
   abbrev vdr : ℕ

@@ -12,11 +12,11 @@ use Rattle.cdf_model.specs.Place.{value_count}
 use Rattle.cdf_model.specs.Reading.{pad_record}
 use Rattle.cdf_model.specs.Types.{size_of}
 use Rattle.cdf_puts.specs.Putting.{most_in_block}
-use Rattle.cdf_vars.specs.declared.form.Form.{Form}
-use Rattle.cdf_vars.specs.Records.{IsForm, variable_at}
-use Rattle.cdf_vars.proofs.PadValues.{whole_elements}
-use Rattle.cdf_vars.proofs.RecordReading.{record_size_is}
-use Rattle.cdf_vars.proofs.RecordsRead.{pad_long}
+use Rattle.cdf_var_records.specs.declared.form.Form.{Form}
+use Rattle.cdf_var_records.specs.Records.{IsForm, variable_at}
+use Rattle.cdf_var_records.proofs.ValueSizes.{whole_elements}
+use Rattle.cdf_var_records.proofs.RecordReading.{record_size_is}
+use Rattle.cdf_var_records.proofs.RecordsRead.{pad_long}
 
 module _ (b : List ℕ) (vdr r : ℕ) {count : ℕ} (is : count ≡ extent (max_rec_at b vdr)) where
   pub most_within : r < count → 1 ≡ most_in_block (variable_at b vdr) r

@@ -38,10 +38,10 @@ use Rattle.cdf_model.specs.Limits.{image_limit, record_number_limit}
 use Rattle.cdf_model.specs.RecordSteps.{last_number}
 use Rattle.cdf_puts.specs.Steps.{MaxRecRaised}
 use Rattle.cdf_puts.proofs.RaisedGoes.{vdr_no_gdr}
-use Rattle.cdf_vars.specs.Padding.{IsVdr}
+use Rattle.cdf_var_records.specs.Descriptors.{IsVdr}
 use Rattle.cdf_vars.specs.Removing.{VdrsLie}
-use Rattle.cdf_vars.proofs.PadReplacing.{at, own}
-use Rattle.cdf_vars.proofs.PadSites.{vdr_lies}
+use Rattle.cdf_var_records.proofs.VdrParts.{at, own}
+use Rattle.cdf_var_records.proofs.PadSites.{vdr_lies}
 use Rattle.cdf_vars.proofs.RemovalAnswers.{on_ok}
 
 -- rMaxRec as it is written

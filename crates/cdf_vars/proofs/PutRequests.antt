@@ -28,15 +28,15 @@ use Rattle.cdf_model.specs.VariableSteps.{with_variable}
 use Rattle.cdf_values.specs.declared.read.ValueError.{ValueError}
 use Rattle.cdf_values.specs.Reading.{Explains}
 use Rattle.cdf_vars.specs.declared.puts.Target.{Target}
-use Rattle.cdf_vars.specs.Padding.{HasElements}
+use Rattle.cdf_var_records.specs.Descriptors.{HasElements}
 use Rattle.cdf_vars.specs.Puts.{HasTarget, IsTarget, MayPut, target_found}
-use Rattle.cdf_vars.specs.Records.{IsForm, variable_at}
-use Rattle.cdf_vars.proofs.PadSites.{has_so_many}
+use Rattle.cdf_var_records.specs.Records.{IsForm, variable_at}
+use Rattle.cdf_var_records.proofs.PadSites.{has_so_many}
 use Rattle.cdf_vars.proofs.PadValues.{values_long}
 use Rattle.cdf_vars.proofs.PutSteps as steps
 use Rattle.cdf_vars.proofs.RecordPlaces.{place_below, value_inside}
-use Rattle.cdf_vars.proofs.RecordReading.{record_size_is, value_size_is}
-use Rattle.cdf_vars.proofs.RecordsRead.{read_long}
+use Rattle.cdf_var_records.proofs.RecordReading.{record_size_is, value_size_is}
+use Rattle.cdf_var_records.proofs.RecordsRead.{read_long}
 
 -- an error that was handed on
 pub no_memory : {V : Type 0} {e : AreaError} (result : Result V AreaError) → e ≡ NoMemory → IsErrAnd result (λ x. x ≡ e) → IsErrAnd result (λ x. x ≡ NoMemory)

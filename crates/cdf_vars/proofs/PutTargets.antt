@@ -2,14 +2,14 @@
 use Rattle.std.proofs.Common.{◌≡◌, ℕ, List, ◌∷◌, ◌++◌, Option, Some, get_or, sym, ap, ◌∙◌}
 use Rattle.cdf_format.specs.Content.{variable_of}
 use Rattle.cdf_format.specs.WellFormed.{Good}
-use Rattle.cdf_vars.specs.declared.form.Form.{Form}
+use Rattle.cdf_var_records.specs.declared.form.Form.{Form}
 use Rattle.cdf_vars.specs.declared.vars.VarId.{VarId}
 use Rattle.cdf_vars.specs.Finding.{found_among}
 use Rattle.cdf_vars.specs.Known.{Known, Knows, known_of}
-use Rattle.cdf_vars.specs.Padding.{IsVdr}
+use Rattle.cdf_var_records.specs.Descriptors.{IsVdr}
 use Rattle.cdf_vars.specs.Puts.{HasTarget}
-use Rattle.cdf_vars.specs.Records.{IsForm, variable_at}
-use Rattle.cdf_vars.proofs.RecordForms.{variable_is}
+use Rattle.cdf_var_records.specs.Records.{IsForm, variable_at}
+use Rattle.cdf_var_records.proofs.RecordForms.{variable_is}
 use Rattle.cdf_vars.proofs.VariableParts.{Parts, the_parts}
 
 module _ {b : List ℕ} (name : List ℕ) {known : Known} {result : Option VarId} (knows : Knows b known) (asked : result ≡ found_among known name) {id : VarId} (good : Good b) (some : result ≡ Some id) where

@@ -50,12 +50,12 @@ use Rattle.cdf_puts.proofs.SoFarDone.{put_rec_done, put_val_done}
 use Rattle.cdf_values.proofs.TurnedLemmas.{back, size_stays}
 use Rattle.cdf_vars.specs.declared.puts.Target.{Target}
 use Rattle.cdf_vars.specs.Known.{Known, Knows}
-use Rattle.cdf_vars.specs.Padding.{IsVdr}
+use Rattle.cdf_var_records.specs.Descriptors.{IsVdr}
 use Rattle.cdf_vars.specs.Puts.{CanPut, HasRoom, IsNewRecord, MaxRecRaises, PutsAs, PutsSo, target_found}
-use Rattle.cdf_vars.specs.Records.{variable_at}
+use Rattle.cdf_var_records.specs.Records.{variable_at}
 use Rattle.cdf_vars.proofs.KnownChanged.{same_name_set}
 use Rattle.cdf_vars.proofs.PutParts.{pad_is_long, whole_record}
-use Rattle.cdf_vars.proofs.RecordForms.{index_is}
+use Rattle.cdf_var_records.proofs.RecordForms.{index_is}
 
 -- ---- what is kept of the variables where one has other records
 

@@ -19,16 +19,17 @@ use Rattle.cdf_model.specs.Reading.{read}
 use Rattle.cdf_model.specs.RecordSteps.{place_in_record}
 use Rattle.cdf_model.specs.Step.{ByStep}
 use Rattle.cdf_model.specs.Types.{size_of}
-use Rattle.cdf_vars.specs.declared.form.Form.{Form}
+use Rattle.cdf_var_records.specs.declared.form.Form.{Form}
 use Rattle.cdf_vars.specs.declared.vars.VarId.{VarId}
 use Rattle.cdf_vars.specs.Finding.{found_among}
 use Rattle.cdf_vars.specs.Known.{Known, Knows, known_of}
-use Rattle.cdf_vars.specs.Padding.{IsVdr}
-use Rattle.cdf_vars.specs.Records.{HasForm, IsForm, variable_at}
-use Rattle.cdf_vars.proofs.RecordForms.{variable_is}
+use Rattle.cdf_var_records.specs.Descriptors.{IsVdr}
+use Rattle.cdf_var_records.specs.Records.{IsForm, variable_at}
+use Rattle.cdf_vars.specs.Records.{HasForm}
+use Rattle.cdf_var_records.proofs.RecordForms.{variable_is}
 use Rattle.cdf_vars.proofs.RecordPlaces.{place_below, value_inside}
-use Rattle.cdf_vars.proofs.RecordReading.{record_size_is, value_size_is}
-use Rattle.cdf_vars.proofs.RecordsRead.{read_long}
+use Rattle.cdf_var_records.proofs.RecordReading.{record_size_is, value_size_is}
+use Rattle.cdf_var_records.proofs.RecordsRead.{read_long}
 use Rattle.cdf_vars.proofs.RecordSteps.{rec_goes, rec_missing, rec_over, val_goes, val_missing, val_outside, val_over}
 use Rattle.cdf_vars.proofs.VariableFound.{none_found}
 use Rattle.cdf_vars.proofs.VariableParts.{Parts, the_parts, within_places}

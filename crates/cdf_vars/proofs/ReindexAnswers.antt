@@ -1,5 +1,5 @@
 -- What `reindex` answers, by what is kept as the call meets it.
-use Rattle.std.proofs.Common.{◌≡◌, ℕ, ◌+◌, ◌<◌, ◌≤◌, List, ◌∷◌, ◌++◌, length, map, Option, Some, None, get_or, append_assoc, refl, sym, ap, subst, ◌∙◌, arith, inl, inr}
+use Rattle.std.proofs.Common.{◌≡◌, ℕ, ◌+◌, ◌<◌, ◌≤◌, List, length, map, Option, Some, None, get_or, refl, sym, ap, subst, ◌∙◌, arith, inl, inr}
 use Rattle.std.specs.List.{slice_get}
 use Rattle.cdf_model.specs.declared.answer.Outcome.TheVariants.{Done, Refused}
 use Rattle.cdf_model.specs.declared.answer.Reason.TheVariants as reasons
@@ -19,15 +19,12 @@ use Rattle.cdf_format.specs.Records.{vdr_name, vdr_vxr_head}
 use Rattle.cdf_format.specs.Shape.{VariableShape, shape, variables, vdrs}
 use Rattle.cdf_format.specs.Tiles.{In}
 use Rattle.cdf_format.specs.WellFormed.{Good}
-use Rattle.cdf_format.proofs.GoodImageLemmas.{good_image}
-use Rattle.cdf_format.proofs.GoodSound.{good_by_its_shape, good_is_sound}
 use Rattle.cdf_edits.specs.Answers.{Answers}
 use Rattle.cdf_edits.specs.Commands.Allowances.{shapes_of}
 use Rattle.cdf_edits.specs.Commands.Room.{reindex_room, room}
 use Rattle.cdf_edits.proofs.Commands.Answered.{gone, refused, too_large}
 use Rattle.cdf_edits.proofs.Commands.ListParts.{got-middle}
 use Rattle.cdf_edits.proofs.Edits.VdrEdited.{StandsAmong, in_middle}
-use Rattle.cdf_index.proofs.GoodIndex.{good_index}
 use Rattle.cdf_index.specs.Finding.{index_at}
 use Rattle.cdf_index.specs.Sizes.{size_of}
 use Rattle.cdf_index.specs.declared.measuring.IndexSize.{IndexSize}
@@ -36,6 +33,8 @@ use Rattle.cdf_reindex.proofs.MadeFollows.{goes_by, reindexed_content, reindexed
 use Rattle.cdf_reindex.proofs.PyramidBuilt.{few_leaves}
 use Rattle.cdf_vars.specs.declared.vars.VarId.{VarId}
 use Rattle.cdf_vars.specs.Finding.{found_among}
+use Rattle.cdf_var_records.specs.Descriptors.{IsVdr}
+use Rattle.cdf_var_records.proofs.RecordForms.{index_is}
 use Rattle.cdf_vars.specs.Known.{Known, Knows, known_of}
 use Rattle.cdf_vars.proofs.RemovalRecords.{has_index, vdr_among}
 use Rattle.cdf_vars.proofs.VariableFound.{none_found}
@@ -43,20 +42,6 @@ use Rattle.cdf_vars.proofs.VariableParts.{Parts, the_parts, vdr_there, within_pl
 
 missing_step : (d : DataSet) (name : List ℕ) → variable_named d name ≡ None → reindex_step d name ≡ Refuse reasons.NoSuchVar
 missing_step d name e = rw e refl
-
--- ---- a variable among all of both kinds
-
-record AmongAll (b : List ℕ) (own : VariableShape) : Type 0 where
-  front : List VariableShape
-  back : List VariableShape
-  is : variables (shape b) ≡ front ++ own ∷ back
-
-among_all : (b : List ℕ) (kind : Kind) (before : List VariableShape) (own : VariableShape) (after : List VariableShape) → shapes_of (shape b) kind ≡ before ++ own ∷ after → AmongAll b own
-among_all b R before own after was = let z = (shape b).z_variables in record { front = before; back = after ++ z; is = ap (λ (vs : List VariableShape). vs ++ z) was ∙ append_assoc before (own ∷ after) z }
-among_all b Z before own after was = let r = (shape b).r_variables in record { front = r ++ before; back = after; is = ap (λ (vs : List VariableShape). r ++ vs) was ∙ sym (append_assoc r before (own ∷ after)) }
-
-index_is : {b : List ℕ} {own : VariableShape} → Good b → AmongAll b own → index_at b (number b own.vdr vdr_vxr_head) ≡ own.index
-index_is {b = b} {own = own} good all = (good_index b (shape b) all.front own all.back (good_image b (shape b) (good_by_its_shape b good)) (good_is_sound b good) all.is).1
 
 -- the leaves that were counted are few
 pub few_counted : {b x : List ℕ} → Good b → x ≡ b → (vdr : ℕ) → {head : ℕ} → head ≡ number b vdr vdr_vxr_head → In vdr (vdrs (variables (shape b))) → (size : IndexSize) → size ≡ size_of (index_at x head) → size.leaves ≤ 2147483648
@@ -75,7 +60,7 @@ module _ {b : List ℕ} (name : List ℕ) {known : Known} {id : VarId} (good : G
   vdr_in_kind = subst (λ (vs : List VariableShape). In parts.own.vdr (vdrs vs)) (sym parts.at.was) (in_middle parts.before parts.own parts.after)
 
   own_index : index_at b (number b parts.own.vdr vdr_vxr_head) ≡ parts.own.index
-  own_index = index_is good (among_all b id.kind parts.before parts.own parts.after parts.at.was)
+  own_index = let v : IsVdr b id.kind parts.own.vdr = record { before = parts.before; own = parts.own; after = parts.after; was = parts.at.was } in index_is good v
 
   there : slice_get (shapes_of (shape b) id.kind) (length parts.before) ≡ Some parts.own
   there = ap (λ (vs : List VariableShape). slice_get vs (length parts.before)) parts.at.was ∙ got-middle parts.before parts.own parts.after

@@ -6,12 +6,12 @@ use Rattle.std.specs.List.{list_any}
 use Rattle.std.specs.Prelude.{◌==◌, ◌&&◌, nat_lt}
 use Rattle.cdf_format.specs.Shape.{Each}
 use Rattle.cdf_model.specs.declared.data_type.DataType.{DataType}
-use Rattle.cdf_model.specs.declared.data_type.DataType.TheVariants.{Int1, Int2, Int4, Int8, UInt1, UInt2, UInt4, Real4, Real8, Epoch, Epoch16, TimeTt2000, Byte, Float, Double, Char, UChar}
 use Rattle.cdf_model.specs.Limits.{dimension_limit, signed_limit}
 use Rattle.cdf_model.specs.Place.{record_limit, record_size, value_count}
 use Rattle.cdf_model.specs.Types.{size_of}
 use Rattle.cdf_model.specs.Values.{notation_of}
 use Rattle.cdf_model.specs.VariableSteps.{are_bad_sizes, is_bad_shape, is_characters}
+use Rattle.cdf_var_records.proofs.ValueSizes.{size_some}
 
 abbrev pub IsSize : ℕ → Type 0
 IsSize size = (1 ≤ size) × (size ≤ signed_limit)
@@ -56,25 +56,6 @@ each_size (size ∷ dims) e =
     ((not_zero size q.0, not_less signed_limit size q.1), each_size dims p.1)
 
 -- a value has a byte, and a record a value
-pub size_some : (t : DataType) → 1 ≤ size_of t
-size_some Int1 = omega arith
-size_some Int2 = omega arith
-size_some Int4 = omega arith
-size_some Int8 = omega arith
-size_some UInt1 = omega arith
-size_some UInt2 = omega arith
-size_some UInt4 = omega arith
-size_some Real4 = omega arith
-size_some Real8 = omega arith
-size_some Epoch = omega arith
-size_some Epoch16 = omega arith
-size_some TimeTt2000 = omega arith
-size_some Byte = omega arith
-size_some Float = omega arith
-size_some Double = omega arith
-size_some Char = omega arith
-size_some UChar = omega arith
-
 through : (x y z : ℕ) → x ≤ y → y ≤ z → x ≤ z
 through x y z p q = omega arith
 

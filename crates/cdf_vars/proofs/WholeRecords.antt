@@ -25,10 +25,10 @@ use Rattle.cdf_model.specs.RecordSteps.{get_rec_step, get_val_step, place_in_rec
 use Rattle.cdf_model.specs.Whole.{HasWholeValues, IsWhole}
 use Rattle.cdf_vars.specs.Finding.{id_of}
 use Rattle.cdf_vars.specs.Known.{Known, KnownKind, Knows}
-use Rattle.cdf_vars.specs.Padding.{IsVdr}
-use Rattle.cdf_vars.proofs.RecordForms.{some_elements, variable_is}
+use Rattle.cdf_var_records.specs.Descriptors.{IsVdr}
+use Rattle.cdf_var_records.proofs.RecordForms.{some_elements, variable_is}
 use Rattle.cdf_vars.proofs.RecordPlaces.{place_below, value_inside}
-use Rattle.cdf_vars.proofs.RecordsRead.{read_long}
+use Rattle.cdf_var_records.proofs.RecordsRead.{read_long}
 use Rattle.cdf_vars.proofs.VariableFound.{found_is}
 use Rattle.cdf_vars.proofs.VariableParts.{Parts, the_parts}
 

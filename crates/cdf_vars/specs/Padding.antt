@@ -1,9 +1,8 @@
--- How a variable gets a pad value: what is read of its VDR, the record that is made where the VDR has no room, and how that takes its place (own).
-use Rattle.std.specs.Prelude.{◌≡◌, ◌<◌, ℕ, ◌+◌, ◌-◌, ◌*◌, List, ◌∷◌, ◌++◌, length, take, drop, slice_set, slice_index, Bool, true, ◌||◌, ◌==◌, Some, Ok}
+-- How a variable gets a pad value: the record that is made where the VDR has no room, and how that takes its place (own).
+use Rattle.std.specs.Prelude.{◌≡◌, ◌<◌, ℕ, ◌+◌, ◌-◌, ◌*◌, List, ◌++◌, length, take, drop, slice_set, slice_index, Bool, Some, Ok}
 use Rattle.byteorder.specs.Endian.{big_bytes}
 use Rattle.cdf_base.specs.Bytes.{put}
 use Rattle.cdf_edits.specs.Answers.{Answers}
-use Rattle.cdf_edits.specs.Commands.Allowances.{shapes_of}
 use Rattle.cdf_edits.specs.Commands.NewRecords.{with_bits}
 use Rattle.cdf_edits.specs.Space.Chains.{Replaced}
 use Rattle.cdf_edits.specs.Space.Placement.{Gives}
@@ -11,45 +10,24 @@ use Rattle.cdf_edits.specs.Space.Placing.{Placed}
 use Rattle.cdf_edits.specs.Space.VariableChains.{variables_chain}
 use Rattle.cdf_format.specs.Fields.{number, size_at}
 use Rattle.cdf_format.specs.Records.{vdr_flags}
-use Rattle.cdf_format.specs.Shape.{VariableShape, shape}
+use Rattle.cdf_format.specs.Shape.{shape}
 use Rattle.cdf_format.specs.Stored.{is_little}
-use Rattle.cdf_format.specs.VariableFields.{elems_at, pad_field, type_of_variable, value_bytes}
+use Rattle.cdf_format.specs.VariableFields.{pad_field, value_bytes}
 use Rattle.cdf_model.specs.ByteOrder.{turned}
 use Rattle.cdf_model.specs.declared.answer.Outcome.TheVariants as outcomes
 use Rattle.cdf_model.specs.declared.command.Command.TheVariants.{SetPad}
 use Rattle.cdf_model.specs.declared.data_type.DataType.{DataType}
 use Rattle.cdf_model.specs.declared.kinds.Kind.{Kind}
 use Rattle.cdf_model.specs.Types.{size_of}
-use Rattle.cdf_model.specs.Values.{notation_of, values_in}
-use Rattle.cdf_model.specs.VariableSteps.{is_characters}
+use Rattle.cdf_model.specs.Values.{values_in}
 use Rattle.cdf_records.specs.Pieces.{AreBytes}
 use Rattle.cdf_vars.specs.declared.vars.VarId.{VarId}
 use Rattle.cdf_vars.specs.declared.padding.PadRequest.{PadRequest}
 use Rattle.cdf_vars.specs.declared.padding.PadRequest.TheVariants.{Put, Refused}
-use Rattle.cdf_vars.specs.declared.pad_place.PadPlace.{PadPlace}
+use Rattle.cdf_var_records.specs.Descriptors.{IsPlace}
+use Rattle.cdf_var_records.specs.declared.pad_place.PadPlace.{PadPlace}
 use Rattle.cdf_vars.specs.Finding.{found_among}
 use Rattle.cdf_vars.specs.Known.{Known, known_of}
-
--- the VDR of a variable of a kind stands at a place
-pub record IsVdr (b : List ℕ) (kind : Kind) (vdr : ℕ) : Type 0 where
-  pub before : List VariableShape
-  pub own : VariableShape
-  pub after : List VariableShape
-  pub was : shapes_of (shape b) kind ≡ before ++ record own { vdr = vdr } ∷ after
-
--- what is read of the VDR at a place
-pub record IsPlace (b : List ℕ) (vdr : ℕ) (p : PadPlace) : Type 0 where
-  pub vdr_is : p.vdr ≡ vdr
-  pub t_is : p.t ≡ type_of_variable b vdr
-  pub elems_are : p.elems ≡ elems_at b vdr
-  pub at_is : p.at ≡ (pad_field b vdr).place
-  pub size_is : p.size ≡ size_at b vdr
-  pub flags_are : p.flags ≡ number b vdr vdr_flags
-  pub bytes : AreBytes b vdr 84
-
--- a value has one element, unless they are the letters of a text
-abbrev pub HasElements : DataType → ℕ → Type 0
-HasElements t elems = ((elems == 1) || is_characters (notation_of t)) ≡ true
 
 -- a word writes bytes of a value, in the byte order of a file
 pub record IsValue (little : Bool) (t : DataType) (elems : ℕ) (words : List (List ℕ)) (bytes : List ℕ) : Type 0 where

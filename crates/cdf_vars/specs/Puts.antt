@@ -1,10 +1,8 @@
--- How a command puts a record of a variable: the variable that it finds, what it asks for, and how many of the records that it writes have no block (own).
-use Rattle.std.specs.Prelude.{◌≡◌, ◌⊎◌, ◌≤◌, ◌<◌, ℕ, ◌+◌, ◌-◌, ◌/◌, min, max, List, length, map, Bool, false, if◌then◌else◌, Some, None}
-use Rattle.std.specs.List.{sum}
+-- How a command puts a record of a variable: the variable that it finds, and what it asks for (own).
+use Rattle.std.specs.Prelude.{◌≡◌, ◌⊎◌, ◌≤◌, ◌<◌, ℕ, ◌+◌, ◌-◌, List, length, false, Some, None}
 use Rattle.std.specs.declared.option.Option.{Option}
 use Rattle.cdf_edits.specs.Answers.{Answers}
 use Rattle.cdf_edits.specs.Commands.Room.{put_room}
-use Rattle.cdf_edits.specs.Index.Blocks.{Range}
 use Rattle.cdf_edits.proofs.Edits.VdrEdited.{StandsAmong}
 use Rattle.cdf_format.specs.Content.{content, variable_of}
 use Rattle.cdf_format.specs.Fields.{number}
@@ -32,8 +30,7 @@ use Rattle.cdf_puts.specs.Steps.{MaxRecRaised}
 use Rattle.cdf_vars.specs.declared.puts.Target.{Target}
 use Rattle.cdf_vars.specs.declared.puts.PutRequest.{PutRequest}
 use Rattle.cdf_vars.specs.declared.puts.PutRequest.TheVariants.{Put, Refused}
-use Rattle.cdf_vars.specs.declared.put_room.Stretch.{Stretch}
-use Rattle.cdf_vars.specs.Records.{IsForm, variable_at}
+use Rattle.cdf_var_records.specs.Records.{IsForm, variable_at}
 
 -- ---- the variable
 
@@ -88,22 +85,6 @@ pub record MayPut (b : List ℕ) (c : Command) (name : List ℕ) (r : ℕ) (t : 
 abbrev pub IsPutRequest : List ℕ → Command → List ℕ → ℕ → PutRequest → Type 0
 IsPutRequest b c name r (Put t bytes) = MayPut b c name r t bytes.items
 IsPutRequest b c name r (Refused reason) = (limit : ℕ) → Answers limit b c (outcomes.Refused reason) b
-
--- ---- room
-
--- how many records from a first on and before an end are in these ranges
-abbrev pub covered_before : ℕ → ℕ → List Range → ℕ
-covered_before first end ranges = sum (map (λ r. min end (r.last + 1) - max first r.first) ranges)
-
--- how many records a new block has, by whether records vary, by BlockingFactor and by the bytes of a record
-abbrev pub count_in_block : Bool → ℕ → ℕ → ℕ
-count_in_block vary wanted length = if vary then max 1 (min wanted (1048576 / length)) else 1
-
--- records from k on and before an end, which have a block or have none
-pub record IsStretch (ranges : List Range) (k r : ℕ) (s : Stretch) : Type 0 where
-  pub some : k < s.end
-  pub inside : s.end ≤ r + 1
-  pub counts : covered_before k s.end ranges + s.missing ≡ s.end - k
 
 -- ---- MaxRec
 

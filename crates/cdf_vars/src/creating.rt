@@ -1,7 +1,7 @@
 //! The commands `rvar` and `zvar`: a last variable of a kind is made.
 
 ghost use Rattle.std.specs.Prelude.{◌≡◌, ◌≤◌, ◌+◌, ◌++◌, ◌∷◌, [], ℕ, List, length, false, IfOk, OnOk, OnErr};
-ghost use Rattle.cdf_area.specs.Calls.{Edits, Reads};
+ghost use Rattle.cdf_area.specs.Calls.{Edits};
 ghost use Rattle.cdf_edits.specs.Answers.{Answers};
 ghost use Rattle.cdf_edits.specs.Commands.Allowances.{shapes_of};
 ghost use Rattle.cdf_edits.specs.Commands.Room.{vdr_bytes};
@@ -16,31 +16,16 @@ ghost use Rattle.cdf_model.specs.declared.command.Command.TheVariants.{RVar, ZVa
 ghost use Rattle.cdf_vars.specs.Creating.{HasDims, OthersStay, making, wanted};
 ghost use Rattle.cdf_vars.specs.Known.{Knows, KnowsKind};
 
-use crate::bad_shape::is_bad_shape;
 use crate::chain::chain_of;
 use crate::descriptor::vdr_body;
 use crate::vars::{VarTable, Vars};
 use cdf_area::{Area, AreaError};
-use cdf_format::fields::{
-    CDR_GDR_OFFSET, CDR_PLACE, GDR_R_DIM_SIZE, GDR_R_NUM_DIMS, R_VDR_SIZE, Z_VDR_SIZE,
-};
 use cdf_model::{Bytes, DataType, Kind, Nums, Outcome, Reason, Reply, Varys};
 use cdf_names::is_bad_name;
-use cdf_records::{read_nums, read_unsigned4, read_unsigned8};
 use cdf_shape::Shape;
 use cdf_space::append_record;
+use cdf_var_records::{descriptor_size, is_bad_shape, read_dims};
 use std::alloc::{AllocError, Global};
-
-/// The bytes of a descriptor of a variable of a kind, which has so many dimensions and no pad value.
-pub fn descriptor_size(kind: Kind, dimensions: usize) -> u64
-    requires { dimensions ≤ 10 }
-    ensures { result ≡ vdr_bytes kind dimensions }
-{
-    match kind {
-        Kind::R => R_VDR_SIZE + 4 * dimensions as u64,
-        Kind::Z => Z_VDR_SIZE + 8 * dimensions as u64,
-    }
-}
 
 /// The shape of the records of a variable with these dimensions.
 fn shape_with(
@@ -59,19 +44,6 @@ fn shape_with(
         dims,
         varys,
     })
-}
-
-/// The sizes of the dimensions that the r variables of a good image share.
-pub fn read_dims<A: Area>(alloc: Global, area: &mut A) -> Result<Nums, AreaError>
-    requires { Good (A.image area.old) }
-    ensures dims { IfOk result (λ dims. dims ≡ (content (A.image area.old)).rdims) }
-    ensures area { Reads A.image A.frame A.faults A.edited area.old area.new result }
-{
-    // An image has fewer than 2^64 bytes, so no place in it overflows.
-    let _size = area.size();
-    let gdr = read_unsigned8(area, CDR_PLACE + CDR_GDR_OFFSET)?;
-    let dimensions = read_unsigned4(area, gdr + GDR_R_NUM_DIMS)?;
-    read_nums(alloc, area, gdr + GDR_R_DIM_SIZE, dimensions)
 }
 
 /// Makes a last variable of a kind in the area, whose place becomes the last one.

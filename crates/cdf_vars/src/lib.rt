@@ -1,20 +1,15 @@
 //! The variables of a file: made, changed, deleted and listed in place.
 #![tactic(auto)]
 
-mod bad_shape;
 mod blocking;
 mod chain;
 mod creating;
 mod descriptor;
-mod form;
-mod pad_place;
 mod pad_record;
 mod padding;
 mod put_record;
-mod put_room;
 mod puts;
 mod reading;
-mod record;
 mod records;
 mod reindexing;
 mod removing;

@@ -14,15 +14,16 @@ ghost use Rattle.cdf_format.specs.Shape.{shape, vdrs};
 ghost use Rattle.cdf_format.specs.VariableFields.{value_bytes};
 ghost use Rattle.cdf_format.specs.WellFormed.{Good};
 ghost use Rattle.cdf_model.specs.Limits.{image_limit};
-ghost use Rattle.cdf_vars.specs.Padding.{IsPadded, IsPlace, IsVdr, MovedTo, Moves, padded_flags};
+ghost use Rattle.cdf_var_records.specs.Descriptors.{IsPlace, IsVdr};
+ghost use Rattle.cdf_vars.specs.Padding.{IsPadded, MovedTo, Moves, padded_flags};
 
 use crate::chain::chain_of;
-use crate::pad_place::{PadPlace, read_bytes};
 use cdf_area::{Area, AreaError};
 use cdf_format::fields::{RECORD_TYPE, VDR_FLAGS};
 use cdf_model::Kind;
 use cdf_records::{read_vdr, set_vdr_flags};
 use cdf_space::{chain_replace, free_record, place_record};
+use cdf_var_records::{PadPlace, read_bytes};
 use std::alloc::{AllocError, Global};
 
 /// Flags of a variable that has a pad value, which bit 1 says.

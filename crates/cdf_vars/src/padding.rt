@@ -12,14 +12,15 @@ ghost use Rattle.cdf_model.specs.declared.answer.Reason.{Reason};
 ghost use Rattle.cdf_model.specs.declared.command.Command.TheVariants.{SetPad};
 ghost use Rattle.cdf_values.specs.Reading.{Explains};
 ghost use Rattle.cdf_vars.specs.Known.{Knows};
-ghost use Rattle.cdf_vars.specs.Padding.{HasElements, IsRequest, IsValue};
+ghost use Rattle.cdf_var_records.specs.Descriptors.{HasElements};
+ghost use Rattle.cdf_vars.specs.Padding.{IsRequest, IsValue};
 
-use crate::pad_place::{PadPlace, read_encoding, read_pad_place};
 use crate::pad_record::{move_vdr, write_pad};
 use crate::vars::{VarId, Vars};
 use cdf_area::{Area, AreaError};
 use cdf_model::{DataType, Encoding, Kind, Outcome, Reason, Reply, Words};
 use cdf_values::{ValueError, from_network, read_values};
+use cdf_var_records::{PadPlace, read_encoding, read_pad_place};
 use std::alloc::Global;
 
 /// What a command `set-pad` asks for.

@@ -10,8 +10,7 @@ ghost use Rattle.cdf_edits.specs.Follows.{Follows};
 ghost use Rattle.cdf_format.specs.Fields.{LiesIn, gdr_offset};
 ghost use Rattle.cdf_format.specs.Records.{gdr_r_max_rec};
 ghost use Rattle.cdf_format.specs.Shape.{shape, vdrs};
-ghost use Rattle.cdf_format.specs.VariableFields.{max_rec_at, type_of_variable};
-ghost use Rattle.cdf_format.specs.Stored.{is_little};
+ghost use Rattle.cdf_format.specs.VariableFields.{max_rec_at};
 ghost use Rattle.cdf_format.specs.WellFormed.{Good};
 ghost use Rattle.cdf_model.specs.ByteOrder.{turned};
 ghost use Rattle.cdf_model.specs.DataSet.{extent};
@@ -20,23 +19,21 @@ ghost use Rattle.cdf_model.specs.Types.{size_of};
 ghost use Rattle.cdf_model.specs.declared.command.Command.{Command};
 ghost use Rattle.cdf_model.specs.declared.kinds.Kind.TheVariants.{R};
 ghost use Rattle.cdf_vars.specs.Known.{Knows};
-ghost use Rattle.cdf_vars.specs.Padding.{IsVdr};
+ghost use Rattle.cdf_var_records.specs.Descriptors.{IsVdr};
 ghost use Rattle.cdf_vars.specs.Puts.{CanPut, HasRoom, IsNewRecord, MaxRecRaises, PutsSo};
 ghost use Rattle.cdf_puts.specs.Putting.{most_in_block};
-ghost use Rattle.cdf_vars.specs.Records.{IsForm, variable_at};
+ghost use Rattle.cdf_var_records.specs.Records.{IsForm, variable_at};
 ghost use Rattle.cdf_vars.specs.Removing.{VdrsLie};
 
-use crate::form::Form;
-use crate::put_room::{read_block_count, read_put_room};
 use crate::puts::Target;
-use crate::record::read_pad_record;
-use crate::removing::{greatest_extent, last_number, read_extent, set_greatest};
+use crate::removing::{greatest_extent, last_number, set_greatest};
 use crate::vars::Vars;
 use cdf_area::{Area, AreaError};
 use cdf_model::{DataType, Encoding, Kind, Outcome, Reason, Reply};
 use cdf_puts::{NewRecord, put_records};
 use cdf_records::set_vdr_max_rec;
 use cdf_values::from_network;
+use cdf_var_records::{Form, read_block_count, read_extent, read_pad_record, read_put_room};
 use std::alloc::Global;
 
 /// The bytes of elements of a type in network order, turned into those that are stored.
@@ -173,7 +170,7 @@ impl Vars {
         ensures area { Edits A.frame A.faults area.old area.new result }
     {
         let count = read_extent(area, target.form.place.vdr)?;
-        let room = read_put_room(area, target, rec, rec.min(count))?;
+        let room = read_put_room(area, &target.form, rec, rec.min(count))?;
         if u128::from(area.limit() - area.size()) < room {
             return Ok(Outcome::Refused {
                 reason: Reason::TooLarge,

@@ -5,24 +5,21 @@ ghost use Rattle.cdf_area.specs.Calls.{Edits, Reads};
 ghost use Rattle.cdf_edits.specs.Answers.{Answers};
 ghost use Rattle.cdf_format.specs.WellFormed.{Good};
 ghost use Rattle.cdf_model.specs.Limits.{image_limit};
-ghost use Rattle.cdf_model.specs.Place.{value_count};
-ghost use Rattle.cdf_model.specs.RecordSteps.{cannot_be_put};
 ghost use Rattle.cdf_model.specs.Types.{size_of};
 ghost use Rattle.cdf_model.specs.Values.{values_in};
 ghost use Rattle.cdf_model.specs.declared.command.Command.TheVariants.{PutRec, PutVal};
 ghost use Rattle.cdf_vars.specs.Known.{Knows};
 ghost use Rattle.cdf_vars.specs.Puts.{HasTarget, IsPutRequest, IsTarget, SeesTarget};
-ghost use Rattle.cdf_vars.specs.Records.{IsForm, IsRecordShape, variable_at};
 
-use crate::form::{Form, read_form, read_majority};
 use crate::padding::reason_of;
-use crate::record::{read_record, record_size_of, says_vary, value_size};
 use crate::vars::{VarId, Vars};
 use cdf_area::{Area, AreaError};
-use cdf_model::limits::RECORD_NUMBER_LIMIT;
 use cdf_model::{Nums, Outcome, Reason, Words};
-use cdf_shape::{Shape, place_of};
+use cdf_shape::place_of;
 use cdf_values::read_values;
+use cdf_var_records::{
+    Form, is_out_of_range, read_form, read_majority, read_record, value_size, values_of,
+};
 use std::alloc::{AllocError, Global};
 
 /// The variable of which a record is put.
@@ -40,21 +37,6 @@ pub enum PutRequest {
     Put { target: Target, bytes: Vec<u8> },
     /// It cannot be put.
     Refused { reason: Reason },
-}
-
-/// How many values a record has.
-fn values_of(shape: &Shape) -> u64
-    requires { IsRecordShape shape.now }
-    ensures { result ≡ value_count shape.now.dims shape.now.varys }
-{
-    record_size_of(shape) / value_size(shape)
-}
-
-/// Whether a variable has no record of a number: it is past the greatest one, or records do not vary and it is not 0.
-fn is_out_of_range(form: &Form, rec: u32) -> bool
-    ensures { (b : List ℕ) → IsForm b form.now → result ≡ cannot_be_put (variable_at b form.now.place.vdr) rec }
-{
-    rec > RECORD_NUMBER_LIMIT || !says_vary(form.place.flags) && rec != 0
 }
 
 /// A record with the value of a number replaced.

@@ -9,13 +9,12 @@ ghost use Rattle.cdf_model.specs.declared.command.Command.TheVariants.{GetRec, G
 ghost use Rattle.cdf_vars.specs.Known.{Knows};
 ghost use Rattle.cdf_vars.specs.Records.{Sees};
 
-use crate::form::{Form, read_form, read_majority};
-use crate::record::{read_record, value_size};
 use crate::vars::Vars;
 use cdf_area::{Area, AreaError};
 use cdf_model::limits::RECORD_NUMBER_LIMIT;
 use cdf_model::{Bytes, Nums, Outcome, Reason, Reply};
 use cdf_shape::place_of;
+use cdf_var_records::{Form, read_form, read_majority, read_record, value_size};
 use std::alloc::{AllocError, Global};
 
 /// What a command on records finds of its variable.

@@ -1,13 +1,12 @@
 //! A variable that goes: it leaves the chain of its kind, those behind it get numbers less by one, and its records are freed.
 
 ghost use Rattle.std.specs.Prelude.{◌≡◌, ◌≤◌, ◌<◌, ◌+◌, ◌^◌, length, max, map, IfOk, OnOk, OnErr};
-ghost use Rattle.std.specs.Int.{w32, cast_unsigned};
 ghost use Rattle.std.specs.List.{fold, remove};
 ghost use Rattle.cdf_area.specs.Calls.{Edits, Reads};
 ghost use Rattle.cdf_edits.specs.Commands.Allowances.{shapes_of};
 ghost use Rattle.cdf_edits.specs.Edits.RemovesVariable.{RemovesVariable, greatest_at, numbers_on, r_max_writes};
 ghost use Rattle.cdf_edits.specs.Edits.Writes.{with_writes};
-ghost use Rattle.cdf_format.specs.Fields.{LiesIn, gdr_offset, with_field};
+ghost use Rattle.cdf_format.specs.Fields.{LiesIn, gdr_offset};
 ghost use Rattle.cdf_format.specs.Records.{gdr_r_max_rec, vdr_name};
 ghost use Rattle.cdf_format.specs.Shape.{shape, variables, vdrs};
 ghost use Rattle.cdf_format.specs.Tiles.{In};
@@ -23,20 +22,13 @@ ghost use Rattle.cdf_vars.specs.Removing.{AreRecordsAt, VdrsLie};
 use crate::chain::chain_of;
 use crate::vars::{VarId, VarTable, Vars};
 use cdf_area::{Area, AreaError};
-use cdf_format::fields::{CDR_GDR_OFFSET, CDR_PLACE, VDR_MAX_REC, VDR_NUM, VDR_VXR_HEAD};
+use cdf_format::fields::{CDR_GDR_OFFSET, CDR_PLACE, VDR_NUM, VDR_VXR_HEAD};
 use cdf_index::index_records;
 use cdf_model::Kind;
-use cdf_records::{read_signed4, read_unsigned8, set_gdr_r_max_rec, set_unsigned4};
+use cdf_records::{read_unsigned8, set_gdr_r_max_rec, set_unsigned4};
 use cdf_space::{chain_remove, count_down, free_records};
+use cdf_var_records::read_extent;
 use std::alloc::Global;
-
-/// How many records a variable of a MaxRec has at most.
-fn extent(max_rec: i32) -> u32
-    ensures value { result ≡ extent max_rec }
-    ensures few { result ≤ 2 ^ 31 }
-{
-    if max_rec < 0 { 0 } else { max_rec as u32 + 1 }
-}
 
 /// The number of the last of so many records, -1 where there is none.
 pub fn last_number(extent: u32) -> i32
@@ -44,19 +36,6 @@ pub fn last_number(extent: u32) -> i32
     ensures { result ≡ last_number extent }
 {
     if extent == 0 { -1 } else { (extent - 1) as i32 }
-}
-
-/// How many records the variable has whose descriptor stands at a place, by its MaxRec.
-pub fn read_extent<A: Area>(area: &mut A, vdr: u64) -> Result<u32, AreaError>
-    requires { LiesIn (A.image area.old) vdr vdr_name }
-    ensures extent { IfOk result (λ n. n ≡ extent (max_rec_at (A.image area.old) vdr)) }
-    ensures few { IfOk result (λ n. n ≤ 2 ^ 31) }
-    ensures area { Reads A.image A.frame A.faults A.edited area.old area.new result }
-{
-    // An image has fewer than 2^64 bytes, so no place in it overflows.
-    let _size = area.size();
-    let max_rec = read_signed4(area, vdr + VDR_MAX_REC)?;
-    Ok(extent(max_rec))
 }
 
 /// The most records that one of the variables has whose descriptors stand at these places, but no fewer than so many.

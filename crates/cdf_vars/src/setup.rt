@@ -1,8 +1,7 @@
 //! The command `setup`: the encoding, the majority, and the dimensions that the r variables share.
 
-ghost use Rattle.std.specs.Prelude.{◌≡◌, ◌+◌, ◌*◌, ◌≤◌, ◌++◌, ◌==◌, ◌&&◌, ◌||◌, length, nat_lt, false, is_some, not, true, IfOk, OnOk};
+ghost use Rattle.std.specs.Prelude.{◌≡◌, ◌+◌, ◌*◌, ◌≤◌, ◌++◌, ◌==◌, ◌&&◌, ◌||◌, length, false, is_some, not, true, IfOk, OnOk};
 ghost use Rattle.std.specs.Int.{cast_unsigned, w32};
-ghost use Rattle.std.specs.List.{list_any};
 ghost use Rattle.cdf_area.specs.Calls.{Edits, Reads};
 ghost use Rattle.cdf_base.specs.Bytes.{put};
 ghost use Rattle.cdf_edits.specs.Answers.{Answers};
@@ -14,13 +13,12 @@ ghost use Rattle.cdf_format.specs.Fields.{flags, gdr_offset, size_at};
 ghost use Rattle.cdf_format.specs.NewFile.{of_4_bytes};
 ghost use Rattle.cdf_format.specs.WellFormed.{Good};
 ghost use Rattle.cdf_model.specs.Encodings.{encoding_at};
-ghost use Rattle.cdf_model.specs.Limits.{image_limit, signed_limit};
+ghost use Rattle.cdf_model.specs.Limits.{image_limit};
 ghost use Rattle.cdf_model.specs.VariableSteps.{are_bad_sizes, is_empty_set};
 ghost use Rattle.cdf_model.specs.declared.answer.Outcome.TheVariants.{Refused};
 ghost use Rattle.cdf_model.specs.declared.command.Command.TheVariants.{Setup};
 ghost use Rattle.cdf_vars.specs.Setup.{KeepsGdr, MakesGdr, MovesGdr, WritesCdr, WritesDims, gdr_fields};
 
-use crate::bad_shape::are_bad_sizes;
 use cdf_area::{Area, AreaError};
 use cdf_format::fields::{CDR_PLACE, GDR_R_DIM_SIZE, GDR_SIZE, RECORD_TYPE};
 use cdf_model::{Encoding, Majority, Nums, Outcome, Reason, Reply};
@@ -29,6 +27,7 @@ use cdf_records::{
     set_gdr_r_num_dims,
 };
 use cdf_space::{alloc_record, free_record};
+use cdf_var_records::are_bad_sizes;
 use std::alloc::{AllocError, Global};
 
 /// The bytes of a Global Descriptor Record between its size and the sizes of its dimensions.

@@ -7,7 +7,8 @@ use Rattle.cdf_model.specs.declared.answer.Reason.TheVariants.{NoSuchVar, Record
 use Rattle.cdf_model.specs.declared.answer.Reply.TheVariants.{Values}
 use Rattle.cdf_model.specs.declared.command.Command.TheVariants.{GetRec}
 use Rattle.cdf_model.specs.Reading.{read}
-use Rattle.cdf_vars.specs.Records.{IsForm, Sees, variable_at}
+use Rattle.cdf_var_records.specs.Records.{IsForm, variable_at}
+use Rattle.cdf_vars.specs.Records.{Sees}
 use Rattle.cdf_vars.proofs.RecordAnswers.{missing_rec, over_rec, shown_rec}
 use Rattle.cdf_vars.proofs.vars.Vars.get_rec.Goals as goal
 

@@ -9,9 +9,10 @@ use Rattle.cdf_model.specs.declared.answer.Reply.TheVariants.{Values}
 use Rattle.cdf_model.specs.declared.command.Command.TheVariants.{GetVal}
 use Rattle.cdf_model.specs.Place.{place}
 use Rattle.cdf_model.specs.Reading.{read}
-use Rattle.cdf_vars.specs.Records.{IsForm, Sees, variable_at}
+use Rattle.cdf_var_records.specs.Records.{IsForm, variable_at}
+use Rattle.cdf_vars.specs.Records.{Sees}
 use Rattle.cdf_vars.proofs.RecordAnswers.{inside_record, missing_val, outside, over_val, shown_val}
-use Rattle.cdf_vars.proofs.RecordReading.{values_fit}
+use Rattle.cdf_var_records.proofs.RecordReading.{values_fit}
 use Rattle.cdf_vars.proofs.vars.Vars.get_val.Goals as goal
 
 pub returns-in-Missing-clause-answers : goal.returns-in-Missing-clause-answers

@@ -12,13 +12,13 @@ use Rattle.cdf_index.specs.Finding.{index_at}
 use Rattle.cdf_model.specs.declared.answer.Outcome.TheVariants.{Refused}
 use Rattle.cdf_model.specs.declared.answer.Reason.TheVariants.{TooLarge}
 use Rattle.cdf_vars.specs.Puts.{PutsSo}
-use Rattle.cdf_vars.specs.Records.{variable_at}
+use Rattle.cdf_var_records.specs.Records.{variable_at}
 use Rattle.cdf_vars.proofs.PutAnswered.{can_from, can_small, put_answers, put_refused}
-use Rattle.cdf_vars.proofs.PutRoomNeeded.{head_lies}
+use Rattle.cdf_var_records.proofs.PutRoomNeeded.{head_lies}
 use Rattle.cdf_vars.proofs.vars.Vars.put_bytes.Goals as goal
 
 pub read_extent-requires : goal.read_extent-requires
-read_extent-requires g c = let l = head_lies c.requires.good c.requires.can.is c.args.rec in omega arith
+read_extent-requires g c = let l = head_lies c.requires.good c.requires.can.is.is_form c.args.rec in omega arith
 
 pub returns-in_err-count-clause-area : goal.returns-in_err-count-clause-area
 returns-in_err-count-clause-area g c = edit_failed (record { frame = refl; faults = refl }) (edits_by_read c.in_err-count.ensures.area) c.from_residual.ensures.1

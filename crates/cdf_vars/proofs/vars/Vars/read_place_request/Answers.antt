@@ -3,9 +3,9 @@ use Rattle.cdf_area.proofs.Calls.{read_done, read_failed, read_more, read_once, 
 use Rattle.cdf_format.specs.WellFormed.{Good}
 use Rattle.cdf_model.specs.Place.{place}
 use Rattle.cdf_model.specs.Reading.{read}
-use Rattle.cdf_vars.specs.Records.{IsForm, variable_at}
+use Rattle.cdf_var_records.specs.Records.{IsForm, variable_at}
 use Rattle.cdf_vars.proofs.PutRequests.{val_may, val_outside, val_over, value_within}
-use Rattle.cdf_vars.proofs.RecordReading.{values_fit}
+use Rattle.cdf_var_records.proofs.RecordReading.{values_fit}
 use Rattle.cdf_vars.proofs.vars.Vars.read_place_request.Goals as goal
 
 pub place_of-requires : goal.place_of-requires
@@ -46,8 +46,8 @@ with_value-requires g c =
     let shape = c.args.target.form.shape in
     let at = c.place_of.ensures ∙ ap (place c.in_ok-majority.majority shape.dims shape.varys) c.as_slice.ensures in
     let size = c.value_size-size.result in
-    let record_is = read_so b _ c.in_ok-record.record.items c.args.target.form.place.vdr c.args.rec c.read_majority.ensures.area.image c.in_ok-record.ensures.record in
-    let within = value_within c.requires.target c.requires.good c.args.rec c.args.index.now size c.in_ok-record.record.items c.value_size-size.ensures record_is c.in_ok-majority.majority c.place_of.result c.in-Some.number at c.in-Some.is in
+    let record_is = read_so b _ c.in_ok-record.record.items c.args.target.form.place.vdr _ c.read_majority.ensures.area.image c.in_ok-record.ensures.record in
+    let within = value_within c.requires.target c.requires.good _ c.args.index.now size c.in_ok-record.record.items c.value_size-size.ensures record_is c.in_ok-majority.majority c.place_of.result c.in-Some.number at c.in-Some.is in
     record { inside = subst (λ (xs : List ℕ). c.in-Some.number * size + size ≤ length xs) (sym c.deref.ensures.value) within }
 
 pub returns-clause-request : goal.returns-clause-request

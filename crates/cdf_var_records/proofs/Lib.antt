@@ -1,0 +1,9 @@
+pub mod DimsRead
+pub mod PadSites
+pub mod PutRoomCount
+pub mod PutRoomNeeded
+pub mod RecordForms
+pub mod RecordReading
+pub mod RecordsRead
+pub mod ValueSizes
+pub mod VdrParts

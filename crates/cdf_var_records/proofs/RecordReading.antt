@@ -1,0 +1,165 @@
+-- What a record of a variable reads as, by what was read of its VDR.
+use Rattle.std.proofs.Common.{◌≡◌, ℕ, ◌+◌, ◌-◌, ◌*◌, ◌/◌, ◌%◌, ◌<◌, ◌≤◌, List, ◌++◌, length, take, drop, Bool, true, false, Some, None, refl, sym, ap, ap₂, subst, ◌∙◌, arith}
+use Rattle.std.proofs.Math.Nat.{mul-div_cancel_left, mul-le-mul_right}
+use Rattle.std.specs.Option.{option_map}
+use Rattle.std.proofs.lemmas.Bool.{le-ltb, lt-ltb}
+use Rattle.std.proofs.lemmas.List.{take_at}
+use Rattle.std.specs.Prelude.{nat_lt, if◌then◌else◌}
+use Rattle.cdf_format.specs.Content.{plain_bytes}
+use Rattle.cdf_format.specs.Fields.{has_bit, number}
+use Rattle.cdf_format.specs.Index.{leaves_of}
+use Rattle.cdf_format.specs.Records.{vdr_vxr_head}
+use Rattle.cdf_format.specs.Stored.{network_bytes}
+use Rattle.cdf_format.specs.VariableFields.{dimensions_at, elems_at, has_pad, is_z, max_rec_at, pad_field, record_bytes, type_of_variable, value_bytes}
+use Rattle.cdf_format.specs.WellFormed.{Good}
+use Rattle.cdf_edits.proofs.Frame.Meaning.{pad_width}
+use Rattle.cdf_index.specs.Finding.{HasIndex, index_at}
+use Rattle.cdf_index.specs.Order.{leaf_of}
+use Rattle.cdf_index.specs.Reading.{HoldsRecords, record_in, record_of_leaf}
+use Rattle.cdf_index.specs.Sight.{seen}
+use Rattle.cdf_index.specs.declared.nodes.Leaf.{Leaf}
+use Rattle.cdf_model.specs.declared.data_type.DataType.{DataType}
+use Rattle.cdf_model.specs.ByteOrder.{turned}
+use Rattle.cdf_model.specs.DataSet.{Variable, extent}
+use Rattle.cdf_model.specs.Numbered.{item_at}
+use Rattle.cdf_model.specs.Pads.{default_value}
+use Rattle.cdf_model.specs.Place.{record_limit, record_size, value_count}
+use Rattle.cdf_model.specs.Reading.{number_read, pad_record, pad_value, read}
+use Rattle.cdf_model.specs.Types.{size_of}
+use Rattle.cdf_shape.specs.declared.shape.Shape.{Shape}
+use Rattle.cdf_values.proofs.TurnedLemmas.{size_stays}
+use Rattle.cdf_var_records.specs.declared.form.Form.{Form}
+use Rattle.cdf_var_records.specs.Records.{IsForm, IsRecordShape, leaf_in, variable_at}
+use Rattle.cdf_var_records.proofs.PadSites.{vdr_lies}
+use Rattle.cdf_var_records.proofs.ValueSizes.{whole_elements}
+use Rattle.cdf_var_records.proofs.RecordForms.{has_index, pad_lies}
+use Rattle.cdf_var_records.proofs.RecordsRead.{by_leaf, holding, pad_by, pad_none, piece_long, read_is, stored_whole}
+
+-- a record has no more values than bytes
+pub values_fit : (shape : Shape) → IsRecordShape shape → value_count shape.dims shape.varys ≤ record_limit
+values_fit shape is = fit (size_of shape.t * shape.elems) (value_count shape.dims shape.varys) is.some is.fits
+  where
+    fit : (one count : ℕ) → 1 ≤ one → one * count ≤ record_limit → count ≤ record_limit
+    fit one count some le = omega (arith, mul-le-mul_right count some)
+
+-- elements that were turned in place
+pub turned_in_place : (t : DataType) (little : Bool) (n : ℕ) (bytes now : List ℕ) → length bytes % size_of t ≡ 0 → n ≡ length bytes → now ≡ turned t little bytes → take n (now ++ drop (length now) bytes) ≡ turned t little bytes
+turned_in_place t little n bytes now whole all is = take_at now (drop (length now) bytes) n (ap length is ∙ size_stays t little bytes whole ∙ sym all) ∙ is
+
+-- before MaxRec a record is looked for in the index
+pub past_max : (b : List ℕ) (at rec : ℕ) → extent (max_rec_at b at) ≤ rec → None ≡ leaf_in b at rec
+past_max b at rec le = let past : nat_lt rec (extent (max_rec_at b at)) ≡ false = le-ltb rec (extent (max_rec_at b at)) le in rw past refl
+
+pub before_max : (b : List ℕ) (at rec : ℕ) → rec < extent (max_rec_at b at) → leaf_of rec (leaves_of (index_at b (number b at vdr_vxr_head))) ≡ leaf_in b at rec
+before_max b at rec lt = let within : nat_lt rec (extent (max_rec_at b at)) ≡ true = lt-ltb rec (extent (max_rec_at b at)) lt in rw within refl
+
+module _ {b : List ℕ} {form : Form} (good : Good b) (f : IsForm b form) where
+  abbrev pub vdr : ℕ
+  vdr = form.place.vdr
+
+  abbrev pub variable : Variable
+  variable = variable_at b vdr
+
+  t_here : form.shape.t ≡ type_of_variable b vdr
+  t_here = f.t_is ∙ f.place.t_is
+
+  elems_here : form.shape.elems ≡ elems_at b vdr
+  elems_here = f.elems_are ∙ f.place.elems_are
+
+  pub value_size_is : size_of form.shape.t * form.shape.elems ≡ value_bytes b vdr
+  value_size_is = ap₂ (λ (t : DataType) (n : ℕ). size_of t * n) t_here elems_here
+
+  pub record_size_is : record_size form.shape.t form.shape.elems form.shape.dims form.shape.varys ≡ record_bytes b vdr
+  record_size_is =
+      let t = t_here in
+      let n = elems_here in
+      let d = f.dims_are in
+      let w = f.varys_are in
+      λ i. record_size (t i) (n i) (d i) (w i)
+
+  -- ---- the pad value
+
+  pub value_is_default : has_bit form.place.flags 1 ≡ false → default_value form.shape.t form.shape.elems ≡ pad_value variable
+  value_is_default without =
+      let none : has_pad b vdr ≡ false = ap (λ (n : ℕ). has_bit n 1) (sym f.place.flags_are) ∙ without in
+      ap₂ (λ (t : DataType) (n : ℕ). default_value t n) t_here elems_here ∙ sym (pad_none (has_pad b vdr) (network_bytes b vdr (pad_field b vdr) (type_of_variable b vdr)) (default_value (type_of_variable b vdr) (elems_at b vdr)) none)
+
+  module _ (has : has_bit form.place.flags 1 ≡ true) where
+    some : has_pad b vdr ≡ true
+    some = ap (λ (n : ℕ). has_bit n 1) (sym f.place.flags_are) ∙ has
+
+    pub pad_is_inside : vdr + form.place.at + size_of form.shape.t * form.shape.elems ≤ length b
+    pad_is_inside = let l = pad_lies good f.is_vdr some in let s = value_size_is in let p = f.place.at_is in omega arith
+
+    -- it has whole elements
+    pub pad_whole : (bytes : List ℕ) → bytes ≡ take (size_of form.shape.t * form.shape.elems) (drop (vdr + form.place.at) b) → length bytes % size_of form.place.t ≡ 0
+    pad_whole bytes e =
+        let long : length bytes ≡ size_of form.shape.t * form.shape.elems = ap length e ∙ piece_long b (vdr + form.place.at) (size_of form.shape.t * form.shape.elems) pad_is_inside in
+        whole_elements form.place.t form.shape.elems (length bytes) (long ∙ ap (λ (t : DataType). size_of t * form.shape.elems) f.t_is)
+
+    pub value_is_read : turned form.place.t form.encoding.little (take (size_of form.shape.t * form.shape.elems) (drop (vdr + form.place.at) b)) ≡ pad_value variable
+    value_is_read =
+        let t = f.place.t_is in
+        let o = f.order in
+        let n = value_size_is ∙ sym (pad_width (is_z b vdr) (dimensions_at b vdr) (value_bytes b vdr)) in
+        let p = f.place.at_is in
+        (λ i. turned (t i) (o i) (take (n i) (drop (vdr + p i) b))) ∙ sym (pad_by (has_pad b vdr) (network_bytes b vdr (pad_field b vdr) (type_of_variable b vdr)) (default_value (type_of_variable b vdr) (elems_at b vdr)) some)
+
+  pub count_is : (size value : ℕ) → size ≡ record_size form.shape.t form.shape.elems form.shape.dims form.shape.varys → value ≡ size_of form.shape.t * form.shape.elems → size / value ≡ value_count variable.dims variable.varys
+  count_is size value s w =
+      let n = value_count form.shape.dims form.shape.varys in
+      let some = f.shaped.some in
+      ap₂ (λ (x y : ℕ). x / y) s w ∙ mul-div_cancel_left n (omega arith) ∙ ap₂ (λ (d : List ℕ) (w : List Bool). value_count d w) f.dims_are f.varys_are
+
+  -- ---- records that are stored
+
+  pub lies : vdr + 340 ≤ length b
+  lies = vdr_lies good f.is_vdr
+
+  pub index : HasIndex b (number b vdr vdr_vxr_head)
+  index = has_index good f.is_vdr
+
+  pub no_record : (rec : ℕ) → None ≡ leaf_in b vdr rec → None ≡ item_at rec variable.recs
+  no_record rec e = ap (option_map (record_of_leaf b vdr rec)) e ∙ sym (by_leaf good f.is_vdr rec)
+
+  module _ (rec : ℕ) (leaf : Leaf) (found : Some (seen leaf) ≡ leaf_in b vdr rec) where
+    held : HoldsRecords b leaf (record_bytes b vdr) × (leaf.first ≤ rec) × (rec ≤ leaf.last)
+    held = holding good f.is_vdr rec leaf (sym found)
+
+    pub holds_from : leaf.first ≤ rec
+    holds_from = held.1
+
+    pub holds_upto : rec ≤ leaf.last
+    holds_upto = held.2
+
+    module _ (size : ℕ) (as_read : size ≡ record_size form.shape.t form.shape.elems form.shape.dims form.shape.varys) where
+      sized : record_bytes b vdr ≡ size
+      sized = sym (as_read ∙ record_size_is)
+
+      pub holds : HoldsRecords b leaf size
+      holds = subst (HoldsRecords b leaf) sized held.0
+
+      module _ (bytes : List ℕ) (is : (at : ℕ) → record_bytes b at ≡ size → bytes ≡ record_in (plain_bytes b at (seen leaf)) size (rec - leaf.first)) where
+        is_stored : bytes ≡ record_in (plain_bytes b vdr (seen leaf)) (record_bytes b vdr) (rec - leaf.first)
+        is_stored = is vdr sized ∙ ap (λ (n : ℕ). record_in (plain_bytes b vdr (seen leaf)) n (rec - leaf.first)) (sym sized)
+
+        pub whole : length bytes % size_of form.place.t ≡ 0
+        whole = subst (λ (t : DataType). length bytes % size_of t ≡ 0) (sym f.place.t_is) (ap (λ (xs : List ℕ). length xs % size_of (type_of_variable b vdr)) is_stored ∙ stored_whole good f.is_vdr rec leaf (sym found))
+
+        pub leaf_has : (now : List ℕ) → now ≡ turned form.place.t form.encoding.little bytes → Some now ≡ item_at rec variable.recs
+        leaf_has now turns =
+            let t = f.place.t_is in
+            let o = f.order in
+            let e = is_stored in
+            ap Some turns ∙ (λ i. Some (turned (t i) (o i) (e i))) ∙ ap (option_map (record_of_leaf b vdr rec)) found ∙ sym (by_leaf good f.is_vdr rec)
+
+  -- ---- a record as it reads
+
+  number_is : (rec n : ℕ) → n ≡ (if has_bit form.place.flags 0 then rec else 0) → n ≡ number_read variable rec
+  number_is rec n is = is ∙ ap (λ (flags : ℕ). if has_bit flags 0 then rec else 0) f.place.flags_are
+
+  pub reads_stored : (rec n : ℕ) (bytes : List ℕ) → n ≡ (if has_bit form.place.flags 0 then rec else 0) → Some bytes ≡ item_at n variable.recs → bytes ≡ read variable rec
+  reads_stored rec n bytes is e = sym (read_is good f.is_vdr rec n (Some bytes) (number_is rec n is) (sym e))
+
+  pub reads_pad : (rec n : ℕ) (bytes : List ℕ) → n ≡ (if has_bit form.place.flags 0 then rec else 0) → None ≡ item_at n variable.recs → bytes ≡ pad_record variable → bytes ≡ read variable rec
+  reads_pad rec n bytes is e pad = pad ∙ sym (read_is good f.is_vdr rec n None (number_is rec n is) (sym e))

@@ -1,0 +1,190 @@
+-- What a record of a variable of a good image reads as, and how long it is.
+use Rattle.std.proofs.Common.{◌≡◌, ℕ, ◌+◌, ◌-◌, ◌*◌, ◌%◌, ◌≤◌, List, length, take, drop, Bool, true, false, Option, Some, None, refl, sym, ap, ◌∙◌, arith, inl, inr}
+use Rattle.std.proofs.Math.Nat.{mul-le-mul_right}
+use Rattle.std.proofs.lemmas.List.{length-drop, length-take}
+use Rattle.std.specs.Option.{option_map, unwrap_or}
+use Rattle.std.specs.Prelude.{nat_lt, if◌then◌else◌}
+use Rattle.cdf_format.specs.Content.{plain_bytes}
+use Rattle.cdf_format.specs.Fields.{number}
+use Rattle.cdf_format.specs.Index.{Leaf as TreeLeaf, Nodes, leaves_of}
+use Rattle.cdf_format.specs.Records.{vdr_vxr_head}
+use Rattle.cdf_format.specs.Shape.{shape}
+use Rattle.cdf_format.specs.Stored.{field_bytes, is_little, network_bytes}
+use Rattle.cdf_format.specs.VariableFields.{dimensions_at, dims_at, elems_at, has_pad, is_z, max_rec_at, pad_field, record_bytes, type_of_variable, value_bytes, varys_at}
+use Rattle.cdf_format.specs.WellFormed.{Good}
+use Rattle.cdf_format.proofs.GoodSound.{good_is_sound}
+use Rattle.cdf_format.proofs.Members.{either}
+use Rattle.cdf_edits.proofs.Frame.Meaning.{pad_width}
+use Rattle.cdf_index.specs.Finding.{index_at}
+use Rattle.cdf_index.specs.Order.{leaf_of}
+use Rattle.cdf_index.specs.Reading.{HoldsRecords, record_in, record_of_leaf}
+use Rattle.cdf_index.specs.Sight.{seen}
+use Rattle.cdf_index.specs.declared.nodes.Leaf.{Leaf}
+use Rattle.cdf_index.proofs.GoodBlock.{good_block}
+use Rattle.cdf_index.proofs.PlainBlocks.{plain_block}
+use Rattle.cdf_index.proofs.RecordRead.{record_is}
+use Rattle.cdf_index.proofs.StoredRecords.{stored_record}
+use Rattle.cdf_model.specs.declared.data_type.DataType.{DataType}
+use Rattle.cdf_model.specs.declared.data_type.DataType.TheVariants.{Int1, Int2, Int4, Int8, UInt1, UInt2, UInt4, Real4, Real8, Epoch, Epoch16, TimeTt2000, Byte, Float, Double, Char, UChar}
+use Rattle.cdf_model.specs.declared.kinds.Kind.{Kind}
+use Rattle.cdf_model.specs.declared.kinds.Sparse.{Sparse}
+use Rattle.cdf_model.specs.declared.kinds.Sparse.TheVariants.{NoRule}
+use Rattle.cdf_model.specs.DataSet.{Variable, extent}
+use Rattle.cdf_model.specs.Numbered.{item_at}
+use Rattle.cdf_model.specs.Pads.{default_element, default_value}
+use Rattle.cdf_model.specs.Place.{value_count}
+use Rattle.cdf_model.specs.Reading.{missing, number_read, pad_record, pad_value, read, read_at}
+use Rattle.cdf_model.specs.Types.{size_of}
+use Rattle.cdf_model.proofs.Filled.{length-repeat}
+use Rattle.cdf_values.proofs.TurnedLemmas.{size_stays}
+use Rattle.cdf_var_records.specs.Descriptors.{IsVdr}
+use Rattle.cdf_var_records.specs.Records.{leaf_in, variable_at}
+use Rattle.cdf_var_records.proofs.VdrParts.{own}
+use Rattle.cdf_var_records.proofs.ValueSizes.{whole_elements}
+use Rattle.cdf_var_records.proofs.RecordForms.{among, image, index_is, pad_lies, variable_is, without_rule}
+
+-- ---- any variable
+
+-- without a rule on sparse records, a record is the one that is stored, or else the pad value throughout
+plain_read : (v : Variable) (r : ℕ) → v.sparse ≡ NoRule → (nat_lt r (extent v.max_rec) ≡ false → item_at r v.recs ≡ None) → read_at v r ≡ unwrap_or (item_at r v.recs) (pad_record v)
+plain_read v r none past = elim (either (nat_lt r (extent v.max_rec))) [
+  | inl t ↦ rw t (ap (λ (rule : Sparse). unwrap_or (item_at r v.recs) (missing rule v r)) none)
+  | inr t ↦ rw (t, past t) refl
+]
+
+element_long : (t : DataType) → length (default_element t) ≡ size_of t
+element_long Int1 = refl
+element_long Int2 = refl
+element_long Int4 = refl
+element_long Int8 = refl
+element_long UInt1 = refl
+element_long UInt2 = refl
+element_long UInt4 = refl
+element_long Real4 = refl
+element_long Real8 = refl
+element_long Epoch = refl
+element_long Epoch16 = refl
+element_long TimeTt2000 = refl
+element_long Byte = refl
+element_long Float = refl
+element_long Double = refl
+element_long Char = refl
+element_long UChar = refl
+
+default_long : (t : DataType) (elems : ℕ) → length (default_value t elems) ≡ size_of t * elems
+default_long t elems = length-repeat elems (default_element t) ∙ (let e = element_long t in ap (λ (n : ℕ). elems * n) e ∙ omega arith)
+
+pub pad_by : (p : Bool) (bytes other : List ℕ) → p ≡ true → unwrap_or (if p then Some bytes else None) other ≡ bytes
+pad_by true bytes other e = refl
+pad_by false bytes other e = absurd (cc e)
+
+pub pad_none : (p : Bool) (bytes other : List ℕ) → p ≡ false → unwrap_or (if p then Some bytes else None) other ≡ other
+pad_none true bytes other e = absurd (cc e)
+pad_none false bytes other e = refl
+
+map_if : {A B : Type 0} (p : Bool) (f : A → B) (o : Option A) → (if p then option_map f o else None) ≡ option_map f (if p then o else None)
+map_if true f o = refl
+map_if false f o = refl
+
+some_if : {A : Type 0} (p : Bool) (o : Option A) (a : A) → (if p then o else None) ≡ Some a → o ≡ Some a
+some_if true o a e = e
+some_if false o a e = absurd (cc e)
+
+pub piece_long : (xs : List ℕ) (at n : ℕ) → at + n ≤ length xs → length (take n (drop at xs)) ≡ n
+piece_long xs at n le = omega (arith, length-take n (drop at xs), length-drop at xs)
+
+-- ---- a variable of a good image
+
+module _ {b : List ℕ} {kind : Kind} {vdr : ℕ} (good : Good b) (v : IsVdr b kind vdr) where
+  abbrev variable : Variable
+  variable = variable_at b vdr
+
+  in_index : (rec : ℕ) → leaf_of rec (leaves_of (own good v).index) ≡ leaf_of rec (leaves_of (index_at b (number b vdr vdr_vxr_head)))
+  in_index rec = ap (λ (nodes : Nodes). leaf_of rec (leaves_of nodes)) (sym (index_is good v))
+
+  -- a record that is stored is one of those of its leaf
+  pub by_leaf : (rec : ℕ) → item_at rec variable.recs ≡ option_map (record_of_leaf b vdr rec) (leaf_in b vdr rec)
+  by_leaf rec =
+      let g = among good v in
+      ap (λ (w : Variable). item_at rec w.recs) (variable_is good v)
+      ∙ stored_record b (shape b) g.front (own good v) g.rest (image good v) (good_is_sound b good) g.all rec
+      ∙ ap (λ (l : Option TreeLeaf). if nat_lt rec (extent (max_rec_at b vdr)) then option_map (record_of_leaf b vdr rec) l else None) (in_index rec)
+      ∙ map_if (nat_lt rec (extent (max_rec_at b vdr))) (record_of_leaf b vdr rec) (leaf_of rec (leaves_of (index_at b (number b vdr vdr_vxr_head))))
+
+  module _ (rec : ℕ) (leaf : Leaf) (found : leaf_in b vdr rec ≡ Some (seen leaf)) where
+    pub holding : HoldsRecords b leaf (record_bytes b vdr) × (leaf.first ≤ rec) × (rec ≤ leaf.last)
+    holding =
+        let g = among good v in
+        let sound = good_is_sound b good in
+        let here = in_index rec ∙ some_if (nat_lt rec (extent (max_rec_at b vdr))) (leaf_of rec (leaves_of (index_at b (number b vdr vdr_vxr_head)))) (seen leaf) found in
+        let plain = plain_block b (shape b) g.front (own good v) g.rest (image good v) sound g.all rec (seen leaf) here in
+        good_block b (shape b) g.front (own good v) g.rest (image good v) sound g.all rec leaf here plain
+
+    -- the bytes of the record, as they are stored
+    abbrev pub stored : List ℕ
+    stored = record_in (plain_bytes b vdr (seen leaf)) (record_bytes b vdr) (rec - leaf.first)
+
+    pub stored_long : length stored ≡ record_bytes b vdr
+    stored_long =
+        let size = record_bytes b vdr in
+        let k = rec - leaf.first in
+        let h = holding.0 in
+        let from = holding.1 in
+        let upto = holding.2 in
+        let there : k + 1 ≤ leaf.last + 1 - leaf.first = omega arith in
+        let room = mul-le-mul_right size there in
+        let inside = h.inside in
+        let ends : leaf.at + (12 + k * size) + size ≤ length b = omega arith in
+        ap length (sym (record_is b leaf size rec vdr h from upto refl)) ∙ piece_long b (leaf.at + (12 + k * size)) size ends
+
+    pub stored_whole : length stored % size_of (type_of_variable b vdr) ≡ 0
+    stored_whole =
+        let t = type_of_variable b vdr in
+        let n = value_count (dims_at b vdr) (varys_at b vdr) in
+        whole_elements t (elems_at b vdr * n) (length stored) (stored_long ∙ product (size_of t) (elems_at b vdr) n)
+      where
+        product : (x y z : ℕ) → x * y * z ≡ x * (y * z)
+        product x y z = omega arith
+
+  -- ---- a record as it reads
+
+  reads_as : (rec : ℕ) → read_at variable rec ≡ unwrap_or (item_at rec variable.recs) (pad_record variable)
+  reads_as rec = plain_read variable rec (without_rule good v) (λ past. by_leaf rec ∙ ap (λ (p : Bool). option_map (record_of_leaf b vdr rec) (if p then leaf_of rec (leaves_of (index_at b (number b vdr vdr_vxr_head))) else None)) past)
+
+  pub read_is : (rec n : ℕ) (o : Option (List ℕ)) → n ≡ number_read variable rec → item_at n variable.recs ≡ o → read variable rec ≡ unwrap_or o (pad_record variable)
+  read_is rec n o is e = ap (read_at variable) (sym is) ∙ reads_as n ∙ ap (λ (x : Option (List ℕ)). unwrap_or x (pad_record variable)) e
+
+  -- ---- how long it is
+
+  value_long : length (pad_value variable) ≡ value_bytes b vdr
+  value_long = by (has_pad b vdr) refl
+    where
+      field : List ℕ
+      field = field_bytes b vdr (pad_field b vdr)
+
+      by : (p : Bool) → has_pad b vdr ≡ p → length (pad_value variable) ≡ value_bytes b vdr
+      by true e =
+          let t = type_of_variable b vdr in
+          let wide = pad_width (is_z b vdr) (dimensions_at b vdr) (value_bytes b vdr) in
+          let long : length field ≡ value_bytes b vdr = ap (λ (n : ℕ). length (take n (drop (vdr + (pad_field b vdr).place) b))) wide ∙ piece_long b (vdr + (pad_field b vdr).place) (value_bytes b vdr) (pad_lies good v e) in
+          let whole = whole_elements t (elems_at b vdr) (length field) long in
+          ap length (pad_by (has_pad b vdr) (network_bytes b vdr (pad_field b vdr) t) (default_value t (elems_at b vdr)) e) ∙ size_stays t (is_little b) field whole ∙ long
+      by false e = ap length (pad_none (has_pad b vdr) (network_bytes b vdr (pad_field b vdr) (type_of_variable b vdr)) (default_value (type_of_variable b vdr) (elems_at b vdr)) e) ∙ default_long (type_of_variable b vdr) (elems_at b vdr)
+
+  pub pad_long : length (pad_record variable) ≡ record_bytes b vdr
+  pad_long = length-repeat (value_count variable.dims variable.varys) (pad_value variable) ∙ ap (λ (n : ℕ). value_count variable.dims variable.varys * n) value_long ∙ turn (value_count variable.dims variable.varys) (value_bytes b vdr)
+    where
+      turn : (x y : ℕ) → x * y ≡ y * x
+      turn x y = omega arith
+
+  leaf_long : (rec : ℕ) (l : Option TreeLeaf) → leaf_in b vdr rec ≡ l → length (unwrap_or (option_map (record_of_leaf b vdr rec) l) (pad_record variable)) ≡ record_bytes b vdr
+  leaf_long rec None e = pad_long
+  leaf_long rec (Some l) e =
+      let leaf : Leaf = record { first = l.first; last = l.last; at = l.place; packed = l.packed } in
+      size_stays (type_of_variable b vdr) (is_little b) (stored rec leaf e) (stored_whole rec leaf e) ∙ stored_long rec leaf e
+
+  item_long : (rec : ℕ) → length (unwrap_or (item_at rec variable.recs) (pad_record variable)) ≡ record_bytes b vdr
+  item_long rec = ap (λ (o : Option (List ℕ)). length (unwrap_or o (pad_record variable))) (by_leaf rec) ∙ leaf_long rec (leaf_in b vdr rec) refl
+
+  pub read_long : (rec : ℕ) → length (read variable rec) ≡ record_bytes b vdr
+  read_long rec = ap length (read_is rec (number_read variable rec) (item_at (number_read variable rec) variable.recs) refl refl) ∙ item_long (number_read variable rec)

@@ -1,0 +1,46 @@
+-- Where the VDR of a variable stands, and how long its parts are.
+use Rattle.std.proofs.Common.{◌≡◌, ℕ, zero, suc, ◌+◌, ◌≤◌, List, length, true, false, refl, ap, ◌∙◌, arith, inl, inr}
+use Rattle.std.proofs.lemmas.List.{length-map}
+use Rattle.std.specs.Prelude.{◌==◌}
+use Rattle.cdf_model.specs.declared.kinds.Kind.{Kind}
+use Rattle.cdf_model.specs.declared.kinds.Kind.TheVariants.{R, Z}
+use Rattle.cdf_format.specs.Fields.{type_at, words}
+use Rattle.cdf_format.specs.RecordTypes.{z_vdr_type}
+use Rattle.cdf_format.specs.Shape.{VariableShape, shape}
+use Rattle.cdf_format.specs.VariableFields.{counted4, dimensions_at, dims_at, is_z, pad_field}
+use Rattle.cdf_format.specs.WellFormed.{Good}
+use Rattle.cdf_format.proofs.Members.{either}
+use Rattle.cdf_format.proofs.TilesLemmas.{tile_lies}
+use Rattle.cdf_edits.specs.Commands.Room.{vdr_bytes}
+use Rattle.cdf_edits.specs.Space.Chains.{type_in}
+use Rattle.cdf_edits.specs.Space.VariableChains.{variables_chain}
+use Rattle.cdf_edits.proofs.Edits.VdrEdited.{StandsAmong, fits, sound, tile}
+use Rattle.cdf_var_records.specs.Descriptors.{IsVdr}
+
+pub words_long : (b : List ℕ) (p n : ℕ) → length (words b p n) ≡ n
+words_long b p zero = refl
+words_long b p (suc n) = ap suc (words_long b (p + 4) n)
+
+pub dims_long : (b : List ℕ) (v : ℕ) → length (dims_at b v) ≡ dimensions_at b v
+dims_long b v = elim (either (is_z b v)) [
+  | inl z ↦ rw z (length-map (words b _ _) counted4 ∙ words_long b _ _)
+  | inr z ↦ rw z (words_long b _ _)
+]
+
+pub pad_place : (kind : Kind) (b : List ℕ) (v : ℕ) → type_at b v ≡ type_in (variables_chain kind) → (pad_field b v).place ≡ vdr_bytes kind (dimensions_at b v)
+pad_place R b v e = let z : is_z b v ≡ false = ap (λ (t : ℕ). t == z_vdr_type) e in rw z refl
+pad_place Z b v e = let z : is_z b v ≡ true = ap (λ (t : ℕ). t == z_vdr_type) e in rw z refl
+
+module _ {b : List ℕ} {kind : Kind} {vdr : ℕ} (good : Good b) (v : IsVdr b kind vdr) where
+  abbrev pub own : VariableShape
+  own = record v.own { vdr = vdr }
+
+  pub at : StandsAmong b kind v.before own v.after
+  at = record { was = v.was }
+
+  -- what stands before its pad value lies in the image
+  pub inside : vdr + (pad_field b vdr).place ≤ length b
+  inside =
+      let high = (tile_lies b 8 (length b) (shape b).records vdr (sound good at).has_shape.tiled (tile good at)).high in
+      let room = (fits good at).0 in
+      omega arith

@@ -1,0 +1,26 @@
+use Rattle.std.proofs.Common.{◌∙◌, ◌+◌, ap, length, sym, subst, ◌≤◌, ℕ, arith}
+use Rattle.cdf_format.proofs.GoodHead.{few_dimensions}
+use Rattle.cdf_format.specs.Fields.{word}
+use Rattle.cdf_var_records.proofs.DimsRead.{count_is, count_lies, offset_lies}
+use Rattle.cdf_var_records.proofs.pad_place.read_r_dimensions.Goals as goal
+
+pub read_unsigned8-requires : goal.read_unsigned8-requires
+read_unsigned8-requires g c = offset_lies (g.A.Area.image c.args.area.now) c.requires
+
+pub overflow_add-gdr : goal.overflow_add-gdr
+overflow_add-gdr g c =
+    let l = count_lies (g.A.Area.image c.args.area.now) (g.A.Area.image c.read_unsigned8.new.area) c.requires c.read_unsigned8.ensures.area.image c.in_ok-gdr.gdr c.in_ok-gdr.ensures.value in
+    omega (arith, l, c.size-size.ensures, ap length c.read_unsigned8.ensures.area.image)
+
+pub read_unsigned4-requires : goal.read_unsigned4-requires
+read_unsigned4-requires g c = count_lies (g.A.Area.image c.args.area.now) (g.A.Area.image c.read_unsigned8.new.area) c.requires c.read_unsigned8.ensures.area.image c.in_ok-gdr.gdr c.in_ok-gdr.ensures.value
+
+pub returns-clause-few : goal.returns-clause-few
+returns-clause-few g c =
+    let b = g.A.Area.image c.args.area.now in
+    let same = c.read_unsigned8.ensures.area.image in
+    let there = c.in_ok-gdr.ensures.value in
+    subst (λ (n : ℕ). n ≤ 10) (sym (c.in_ok-dimensions.ensures.value ∙ (λ i. word (same i) (there i + 56) 4))) (few_dimensions b c.requires)
+
+pub returns-clause-dimensions : goal.returns-clause-dimensions
+returns-clause-dimensions g c = count_is (g.A.Area.image c.args.area.now) (g.A.Area.image c.read_unsigned8.new.area) c.requires c.read_unsigned8.ensures.area.image c.in_ok-gdr.gdr c.in_ok-gdr.ensures.value c.in_ok-dimensions.dimensions c.in_ok-dimensions.ensures.value

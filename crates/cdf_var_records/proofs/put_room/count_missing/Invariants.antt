@@ -1,0 +1,18 @@
+use Rattle.std.proofs.Common.{◌≡◌, ◌≤◌, ◌+◌, ◌-◌}
+use Rattle.cdf_area.specs.Calls.{Stays}
+use Rattle.cdf_edits.specs.Index.Blocks.{ranges_of}
+use Rattle.cdf_index.specs.Finding.{index_at}
+use Rattle.cdf_var_records.specs.Room.{covered_before}
+use Rattle.cdf_var_records.proofs.put_room.count_missing.Given as goal
+
+abbrev pub invariant-loop-turn : goal.invariant-loop-turn
+invariant-loop-turn g l =
+    let b = g.A.Area.image l.fn.area in
+    record {
+      begins : l.from ≤ l.k;
+      ends : l.k ≤ l.rec + 1;
+      goes : l.from + l.turn ≤ l.k;
+      counts : covered_before l.from l.k (ranges_of (index_at b l.head)) + l.missing ≡ l.k - l.from;
+      few : l.missing ≤ l.k - l.from;
+      area : Stays g.A.Area.image g.A.Area.frame g.A.Area.faults g.A.Area.edited l.fn.area l.area;
+    }

@@ -1,0 +1,62 @@
+use Rattle.std.proofs.Common.{◌≡◌, ◌-◌, ◌∙◌, ℕ, List, length, refl, sym, ap, subst, arith}
+use Rattle.std.specs.Option.{option_map}
+use Rattle.cdf_area.proofs.Calls.{read_done, read_failed, read_more, read_once}
+use Rattle.cdf_format.specs.Content.{plain_bytes}
+use Rattle.cdf_format.specs.VariableFields.{record_bytes}
+use Rattle.cdf_index.specs.Reading.{HoldsRecords, record_in}
+use Rattle.cdf_index.specs.Sight.{seen}
+use Rattle.cdf_var_records.proofs.RecordReading.{holds, holds_from, holds_upto, index, leaf_has, lies, no_record, whole}
+use Rattle.cdf_var_records.proofs.record.read_stored.Goals as goal
+
+pub find_stored-requires-clause-lies : goal.find_stored-requires-clause-lies
+find_stored-requires-clause-lies g c = lies c.requires.good c.requires.form
+
+pub find_stored-requires-clause-index : goal.find_stored-requires-clause-index
+find_stored-requires-clause-index g c = index c.requires.good c.requires.form
+
+pub returns-in_default-clause-record : goal.returns-in_default-clause-record
+returns-in_default-clause-record g c = no_record c.requires.good c.requires.form c.args.rec (ap (option_map seen) (sym c.in_default.is) ∙ c.in_ok-found.ensures.leaf)
+
+pub returns-in_default-clause-area : goal.returns-in_default-clause-area
+returns-in_default-clause-area g c = read_done (read_once c.in_ok-found.ensures.area)
+
+pub read_rec-requires-clause-block : goal.read_rec-requires-clause-block
+read_rec-requires-clause-block g c =
+    let found = ap (option_map seen) (sym c.in-Some.is) ∙ c.in_ok-found.ensures.leaf in
+    subst (λ (x : List ℕ). HoldsRecords x c.in-Some.leaf c.record_size_of-size.result) (sym c.find_stored.ensures.area.image) (holds c.requires.good c.requires.form c.args.rec c.in-Some.leaf found c.record_size_of-size.result c.record_size_of-size.ensures)
+
+pub read_rec-requires-clause-from : goal.read_rec-requires-clause-from
+read_rec-requires-clause-from g c = holds_from c.requires.good c.requires.form c.args.rec c.in-Some.leaf (ap (option_map seen) (sym c.in-Some.is) ∙ c.in_ok-found.ensures.leaf)
+
+pub read_rec-requires-clause-upto : goal.read_rec-requires-clause-upto
+read_rec-requires-clause-upto g c = holds_upto c.requires.good c.requires.form c.args.rec c.in-Some.leaf (ap (option_map seen) (sym c.in-Some.is) ∙ c.in_ok-found.ensures.leaf)
+
+pub read_rec-requires-clause-short : goal.read_rec-requires-clause-short
+read_rec-requires-clause-short g c = let same = ap (λ (x : List ℕ). length x) c.find_stored.ensures.area.image in let short = c.requires.short in omega arith
+
+pub in_network_order-requires : goal.in_network_order-requires
+in_network_order-requires g c =
+    let b = g.A.Area.image c.args.area.now in
+    let found = ap (option_map seen) (sym c.in-Some.is) ∙ c.in_ok-found.ensures.leaf in
+    let leaf = c.in-Some.leaf in
+    let size = c.record_size_of-size.result in
+    let is = subst (λ (x : List ℕ). (at : ℕ) → record_bytes x at ≡ size → c.in_ok-bytes.bytes.items ≡ record_in (plain_bytes x at (seen leaf)) size (c.args.rec - leaf.first)) c.find_stored.ensures.area.image c.in_ok-bytes.ensures.value in
+    whole c.requires.good c.requires.form c.args.rec leaf found size c.record_size_of-size.ensures c.in_ok-bytes.bytes.items is
+
+pub returns-clause-record : goal.returns-clause-record
+returns-clause-record g c =
+    let b = g.A.Area.image c.args.area.now in
+    let found = ap (option_map seen) (sym c.in-Some.is) ∙ c.in_ok-found.ensures.leaf in
+    let leaf = c.in-Some.leaf in
+    let size = c.record_size_of-size.result in
+    let is = subst (λ (x : List ℕ). (at : ℕ) → record_bytes x at ≡ size → c.in_ok-bytes.bytes.items ≡ record_in (plain_bytes x at (seen leaf)) size (c.args.rec - leaf.first)) c.find_stored.ensures.area.image c.in_ok-bytes.ensures.value in
+    leaf_has c.requires.good c.requires.form c.args.rec leaf found size c.record_size_of-size.ensures c.in_ok-bytes.bytes.items is _ c.in_network_order.ensures
+
+pub returns-clause-area : goal.returns-clause-area
+returns-clause-area g c = read_done (read_more (read_once c.in_ok-found.ensures.area) c.in_ok-bytes.ensures.area)
+
+pub returns-in_err-found-clause-area : goal.returns-in_err-found-clause-area
+returns-in_err-found-clause-area g c = read_failed (record { image = refl; edited = refl; frame = refl; faults = refl }) c.in_err-found.ensures.area c.from_residual.ensures.1
+
+pub returns-in_err-bytes-clause-area : goal.returns-in_err-bytes-clause-area
+returns-in_err-bytes-clause-area g c = read_failed (read_once c.in_ok-found.ensures.area) c.in_err-bytes.ensures.area c.from_residual-in_err-bytes.ensures.1

@@ -1,0 +1,18 @@
+//! What is read of one variable: how its records are laid out, what each reads as, and how many bytes a put of one takes at most.
+#![tactic(auto)]
+
+mod bad_shape;
+mod extent;
+mod form;
+mod pad_place;
+mod put_room;
+mod record;
+
+pub use bad_shape::{are_bad_sizes, is_bad_shape};
+pub use extent::read_extent;
+pub use form::{Form, read_dims, read_form, read_majority};
+pub use pad_place::{PadPlace, descriptor_size, read_bytes, read_encoding, read_pad_place};
+pub use put_room::{read_block_count, read_put_room};
+pub use record::{
+    is_out_of_range, read_pad_record, read_record, record_size_of, value_size, values_of,
+};

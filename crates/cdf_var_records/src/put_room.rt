@@ -1,0 +1,184 @@
+//! How large a put makes the file at most.
+
+ghost use Rattle.std.specs.Prelude.{◌≡◌, ◌≤◌, ◌<◌, ◌+◌, ◌-◌, ◌^◌, suc, length, IfOk};
+ghost use Rattle.cdf_area.specs.Calls.{Reads};
+ghost use Rattle.cdf_edits.proofs.Edits.LeafRecords.{Ascending};
+ghost use Rattle.cdf_edits.specs.Commands.Room.{blocks_room, put_room};
+ghost use Rattle.cdf_edits.specs.Index.Blocks.{block_count, covered, first_written, ranges_of, record_length, wanted_count};
+ghost use Rattle.cdf_format.specs.Fields.{integer4, number};
+ghost use Rattle.cdf_format.specs.Index.{Nodes, leaves_of};
+ghost use Rattle.cdf_format.specs.Records.{vdr_blocking_factor, vdr_vxr_head};
+ghost use Rattle.cdf_format.specs.WellFormed.{Good};
+ghost use Rattle.cdf_index.specs.Finding.{index_at, HasIndex};
+ghost use Rattle.cdf_index.specs.Sizes.{size_of};
+ghost use Rattle.cdf_model.specs.DataSet.{Variable};
+ghost use Rattle.cdf_model.specs.Limits.{image_limit, record_number_limit};
+ghost use Rattle.cdf_model.specs.Place.{record_limit};
+ghost use Rattle.cdf_var_records.specs.Room.{IsStretch, count_in_block};
+ghost use Rattle.cdf_var_records.specs.Records.{IsForm, variable_at};
+
+use crate::form::Form;
+use crate::record::{record_size_of, says_vary};
+use cdf_area::{Area, AreaError};
+use cdf_format::fields::{VDR_BLOCKING_FACTOR, VDR_VXR_HEAD};
+use cdf_index::{IndexSize, index_size};
+use cdf_model::limits::RECORD_NUMBER_LIMIT;
+use cdf_puts::{find_leaf, find_next};
+use cdf_records::{read_signed4, read_unsigned8};
+
+/// The most bytes of the records of a block that has more than one.
+const BLOCK_LIMIT: u64 = 1_048_576;
+
+/// The records of a block where BlockingFactor is not positive.
+const USUAL_COUNT: u64 = 64;
+
+/// Records that stand one after the other and have a block each, or have none.
+#[derive(Clone, Copy)]
+pub struct Stretch {
+    /// The record behind them.
+    pub end: u32,
+    /// How many of them have no block.
+    pub missing: u32,
+}
+
+/// How many records a block is to have, by BlockingFactor.
+fn wanted(blocking: i32) -> u64
+    ensures { result ≡ wanted_count blocking }
+{
+    if blocking > 0 {
+        blocking as u64
+    } else {
+        USUAL_COUNT
+    }
+}
+
+/// How many records a block of the variable is to have whose descriptor stands at a place.
+fn read_wanted<A: Area>(area: &mut A, vdr: u64) -> Result<u64, AreaError>
+    requires { vdr + 340 ≤ length (A.image area.old) }
+    ensures wanted { IfOk result (λ n. n ≡ wanted_count (integer4 (A.image area.old) vdr vdr_blocking_factor)) }
+    ensures area { Reads A.image A.frame A.faults A.edited area.old area.new result }
+{
+    // An image has fewer than 2^64 bytes, so no place in it overflows.
+    let _size = area.size();
+    let blocking = read_signed4(area, vdr + VDR_BLOCKING_FACTOR)?;
+    Ok(wanted(blocking))
+}
+
+/// How many records a new block has, whose records have so many bytes.
+fn count_of(vary: bool, wanted: u64, length: u64) -> u32
+    ensures count { result ≡ count_in_block vary wanted length }
+    ensures some { 1 ≤ result }
+    ensures few { result ≤ 1048576 }
+{
+    if vary {
+        let most = BLOCK_LIMIT.checked_div(length).unwrap_or(0);
+        wanted.min(most).max(1) as u32
+    } else {
+        1
+    }
+}
+
+/// How many records a new block of a variable has.
+pub fn read_block_count<A: Area>(area: &mut A, form: &Form) -> Result<u32, AreaError>
+    requires good { Good (A.image area.old) }
+    requires form { IsForm (A.image area.old) form.now }
+    ensures count { IfOk result (λ count. count ≡ block_count (variable_at (A.image area.old) form.now.place.vdr)) }
+    ensures some { IfOk result (λ count. 1 ≤ count) }
+    ensures few { IfOk result (λ count. count ≤ 1048576) }
+    ensures area { Reads A.image A.frame A.faults A.edited area.old area.new result }
+{
+    let wanted = read_wanted(area, form.place.vdr)?;
+    let vary = says_vary(form.place.flags);
+    Ok(count_of(vary, wanted, record_size_of(&form.shape)))
+}
+
+/// Records from one on up to a last that all have a block, or all have none.
+fn read_stretch<A: Area>(area: &mut A, head: u64, k: u32, rec: u32) -> Result<Stretch, AreaError>
+    requires index { HasIndex (A.image area.old) head }
+    requires order { Ascending 0 (suc record_number_limit) (leaves_of (index_at (A.image area.old) head)) }
+    requires short { length (A.image area.old) ≤ image_limit }
+    requires more { k ≤ rec }
+    requires within { rec ≤ record_number_limit }
+    ensures stretch { IfOk result (IsStretch (ranges_of (index_at (A.image area.old) head)) k rec) }
+    ensures area { Reads A.image A.frame A.faults A.edited area.old area.new result }
+{
+    let found = find_leaf(area, head, k)?;
+    if let Some(leaf) = found {
+        return Ok(Stretch {
+            end: leaf.last.min(rec) + 1,
+            missing: 0,
+        });
+    }
+    let next = find_next(area, head, k)?;
+    let end = next.unwrap_or(RECORD_NUMBER_LIMIT + 1).min(rec + 1);
+    Ok(Stretch {
+        end,
+        missing: end - k,
+    })
+}
+
+/// How many records from one on up to a last have no block.
+fn count_missing<A: Area>(area: &mut A, head: u64, from: u32, rec: u32) -> Result<u32, AreaError>
+    requires index { HasIndex (A.image area.old) head }
+    requires order { Ascending 0 (suc record_number_limit) (leaves_of (index_at (A.image area.old) head)) }
+    requires short { length (A.image area.old) ≤ image_limit }
+    requires more { from ≤ rec }
+    requires within { rec ≤ record_number_limit }
+    ensures count { IfOk result (λ missing. missing ≡ (rec + 1 - from) - covered from rec (ranges_of (index_at (A.image area.old) head))) }
+    ensures few { IfOk result (λ missing. missing ≤ 2 ^ 31) }
+    ensures area { Reads A.image A.frame A.faults A.edited area.old area.new result }
+{
+    let mut k = from;
+    let mut missing = 0;
+    for turn in 0..rec - from + 1 {
+        if rec < k {
+            return Ok(missing);
+        }
+        let stretch = read_stretch(area, head, k, rec)?;
+        missing += stretch.missing;
+        k = stretch.end;
+    }
+    Ok(missing)
+}
+
+/// How many bytes new blocks for so many records take at most.
+fn room_of(count: u32, length: u64, missing: u32, size: IndexSize) -> u128
+    requires some { 1 ≤ count }
+    requires short { length ≤ record_limit }
+    ensures { (v : Variable) (nodes : Nodes) → block_count v ≡ count → record_length v ≡ length → size_of nodes ≡ size → result ≡ blocks_room v nodes missing }
+{
+    if missing == 0 {
+        return 0;
+    }
+    let (count, missing) = (u128::from(count), u128::from(missing));
+    let records = (missing - 1 + count) * u128::from(length);
+    let blocks = (missing + count - 1) / count + u128::from(size.entries) + 1;
+    records + blocks * (28 + (28 + 16 * u128::from(size.widest)))
+}
+
+/// How many bytes a put of a record takes at most, where one is written from a first on.
+pub fn read_put_room<A: Area>(
+    area: &mut A,
+    form: &Form,
+    rec: u32,
+    from: u32,
+) -> Result<u128, AreaError>
+    requires good { Good (A.image area.old) }
+    requires short { length (A.image area.old) ≤ image_limit }
+    requires form { IsForm (A.image area.old) form.now }
+    requires within { rec ≤ record_number_limit }
+    requires from { from ≡ first_written (variable_at (A.image area.old) form.now.place.vdr) rec }
+    ensures room { IfOk result (λ room. room ≡ put_room (variable_at (A.image area.old) form.now.place.vdr) (index_at (A.image area.old) (number (A.image area.old) form.now.place.vdr vdr_vxr_head)) rec) }
+    ensures area { Reads A.image A.frame A.faults A.edited area.old area.new result }
+{
+    // An image has fewer than 2^64 bytes, so no place in it overflows.
+    let _size = area.size();
+    let head = read_unsigned8(area, form.place.vdr + VDR_VXR_HEAD)?;
+    let missing = count_missing(area, head, from, rec)?;
+    if missing == 0 {
+        return Ok(0);
+    }
+    let count = read_block_count(area, form)?;
+    let size = index_size(area, head)?;
+    Ok(room_of(count, record_size_of(&form.shape), missing, size))
+}

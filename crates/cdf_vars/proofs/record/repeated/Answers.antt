@@ -1,6 +1,0 @@
-use Rattle.std.proofs.Common.{◌++◌, ◌∙◌, ℕ, List, sym, ap}
-use Rattle.cdf_model.proofs.Filled.{repeat_more}
-use Rattle.cdf_vars.proofs.record.repeated.Goals as goal
-
-pub loop-preserved : goal.loop-preserved
-loop-preserved c = c.in_ok-extend_from_slice.ensures.items ∙ ap (λ (xs : List ℕ). xs ++ c.args.value.now) c.loop.invariant ∙ sym (repeat_more c.loop.counter c.args.value.now)
