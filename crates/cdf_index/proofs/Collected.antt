@@ -1,9 +1,11 @@
 -- The entries of blocks and the places of nodes that a walk over an index collects.
-use Rattle.std.proofs.Common.{◌≡◌, ℕ, List, [], ◌∷◌, ◌++◌, map, append_assoc, append-nil, refl, sym, ap, ◌∙◌}
+use Rattle.std.proofs.Common.{◌≡◌, ◌+◌, ◌<◌, ◌≤◌, ℕ, List, [], ◌∷◌, ◌++◌, length, map, append_assoc, append-nil, refl, sym, ap, subst, ◌∙◌}
 use Rattle.std.proofs.lemmas.List.{map-append}
-use Rattle.cdf_format.specs.Index.{Nodes, no_node, node, Entries, no_entry, block, lower, Leaf, nodes_of, lower_nodes, leaves_of, entry_leaves}
-use Rattle.cdf_index.specs.Whole.{leaf_words, places_in, through, through_entries, with_block, with_node}
+use Rattle.cdf_format.specs.Index.{Nodes, no_node, node, Entries, no_entry, block, lower, Leaf, nodes_of, lower_nodes, leaves_of, entry_leaves, used_count}
+use Rattle.cdf_format.specs.IndexOf.{SaysEntry}
+use Rattle.cdf_index.specs.Whole.{SomeEntries, leaf_words, places_in, through, through_entries, with_block, with_node}
 use Rattle.cdf_index.specs.declared.entries.Entry.{Entry}
+use Rattle.cdf_index.proofs.ChainWalk.{Gone, named_lies}
 
 abbrev words_of : List Leaf → List Entry
 words_of leaves = map leaf_words leaves
@@ -42,3 +44,12 @@ parts_are bs ns nodes e = let both = e ∙ collected [] [] nodes in (ap (λ (x :
 pub places_of_words : (leaves : List Leaf) → places_in (words_of leaves) ≡ map (λ leaf. leaf.place) leaves
 places_of_words [] = refl
 places_of_words (leaf ∷ more) = ap (λ (ns : List ℕ). leaf.place ∷ ns) (places_of_words more)
+
+-- ---- an entry that code read
+
+module _ (b now : List ℕ) (at levels i : ℕ) (was s : List Entry × List ℕ) (entry : Entry) (same : now ≡ b) (read : SaysEntry now at i entry.first entry.last entry.place) where
+  pub entry_says : SaysEntry b at i entry.first entry.last entry.place
+  entry_says = subst (λ (x : List ℕ). SaysEntry x at i entry.first entry.last entry.place) same read
+
+  pub entry_lies : SomeEntries b at levels → Gone with_node with_block b at levels i was s → i < used_count b at → entry.place + 12 ≤ length b
+  entry_lies some gone lt = named_lies with_node with_block b at levels i entry.place was s some gone lt (sym entry_says.offset_is)

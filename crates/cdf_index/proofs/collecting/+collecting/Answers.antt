@@ -5,13 +5,12 @@ use Rattle.cdf_format.specs.Chains.{next_of}
 use Rattle.cdf_format.specs.Index.{room_at, used_count}
 use Rattle.cdf_index.specs.Finding.{NodeInside}
 use Rattle.cdf_index.specs.Sight.{IsHead}
-use Rattle.cdf_format.specs.IndexOf.{SaysEntry}
 use Rattle.cdf_index.specs.declared.entries.Entry.{Entry}
 use Rattle.cdf_index.specs.Whole.{through_entries, with_block, with_node}
 use Rattle.cdf_index.proofs.Looking.{read_type}
 use Rattle.cdf_index.proofs.Searching.{inside_now}
-use Rattle.cdf_index.proofs.ChainWalk.{Gone, walk_end, walk_over, walk_node, walk_entries, walk_on, below_end, named_lies, lower_chain, past_block, past_lower, entries_now, chain_now, entries_told, chain_told}
-use Rattle.cdf_index.proofs.Collected.{pair_is}
+use Rattle.cdf_index.proofs.ChainWalk.{Gone, walk_end, walk_over, walk_node, walk_entries, walk_on, below_end, lower_chain, past_block, past_lower, entries_now, chain_now, entries_told, chain_told}
+use Rattle.cdf_index.proofs.Collected.{entry_lies, entry_says, pair_is}
 use Rattle.cdf_index.proofs.collecting.+collecting.Goals.{collect_below-then-kind-eq-VXR_TYPE+in_ok-collect, collect_below-else-kind-eq-VXR_TYPE+in_ok-push}
 use Rattle.cdf_index.proofs.collecting.+collecting.Goals as goal
 
@@ -103,30 +102,16 @@ collect_below-read_entry-requires g t c =
 pub collect_below-overflow_add-entry : goal.collect_below-overflow_add-entry
 collect_below-overflow_add-entry g t c =
     let l = c.loop-i in
-    let b = g.A.Area.image c.args.area.now in
-    let was : List Entry × List ℕ = (c.args.blocks.now.items, c.args.nodes.now.items) in
-    let s : List Entry × List ℕ = (l.blocks.items, l.nodes.items) in
-    let h = c.requires.head in
-    let lt = subst (λ (n : ℕ). l.i < n) h.used_is c.loop-i-test.true in
-    let entry = c.in_ok-entry.entry in
-    let says : SaysEntry b c.args.at l.i entry.first entry.last entry.place = subst (λ (x : List ℕ). SaysEntry x c.args.at l.i entry.first entry.last entry.place) l.invariant.area.image c.in_ok-entry.ensures.value in
-    let place = sym says.offset_is in
-    let room = named_lies with_node with_block b c.args.at c.args.levels l.i entry.place was s c.requires.entries l.invariant.gone lt place in
+    let lt = subst (λ (n : ℕ). l.i < n) c.requires.head.used_is c.loop-i-test.true in
+    let room = entry_lies (g.A.Area.image c.args.area.now) _ c.args.at c.args.levels l.i (c.args.blocks.now.items, c.args.nodes.now.items) (l.blocks.items, l.nodes.items) c.in_ok-entry.entry l.invariant.area.image c.in_ok-entry.ensures.value c.requires.entries l.invariant.gone lt in
     let short = c.requires.short in
     omega arith
 
 pub collect_below-read_unsigned4-requires : goal.collect_below-read_unsigned4-requires
 collect_below-read_unsigned4-requires g t c =
     let l = c.loop-i in
-    let b = g.A.Area.image c.args.area.now in
-    let was : List Entry × List ℕ = (c.args.blocks.now.items, c.args.nodes.now.items) in
-    let s : List Entry × List ℕ = (l.blocks.items, l.nodes.items) in
-    let h = c.requires.head in
-    let lt = subst (λ (n : ℕ). l.i < n) h.used_is c.loop-i-test.true in
-    let entry = c.in_ok-entry.entry in
-    let says : SaysEntry b c.args.at l.i entry.first entry.last entry.place = subst (λ (x : List ℕ). SaysEntry x c.args.at l.i entry.first entry.last entry.place) l.invariant.area.image c.in_ok-entry.ensures.value in
-    let place = sym says.offset_is in
-    let room = named_lies with_node with_block b c.args.at c.args.levels l.i entry.place was s c.requires.entries l.invariant.gone lt place in
+    let lt = subst (λ (n : ℕ). l.i < n) c.requires.head.used_is c.loop-i-test.true in
+    let room = entry_lies (g.A.Area.image c.args.area.now) _ c.args.at c.args.levels l.i (c.args.blocks.now.items, c.args.nodes.now.items) (l.blocks.items, l.nodes.items) c.in_ok-entry.entry l.invariant.area.image c.in_ok-entry.ensures.value c.requires.entries l.invariant.gone lt in
     let same = ap length (c.in_ok-entry.ensures.area.image ∙ l.invariant.area.image) in
     omega arith
 
@@ -136,10 +121,9 @@ collect_below-collect-requires g t c =
     let b = g.A.Area.image c.args.area.now in
     let was : List Entry × List ℕ = (c.args.blocks.now.items, c.args.nodes.now.items) in
     let s : List Entry × List ℕ = (l.blocks.items, l.nodes.items) in
-    let h = c.requires.head in
-    let lt = subst (λ (n : ℕ). l.i < n) h.used_is c.loop-i-test.true in
+    let lt = subst (λ (n : ℕ). l.i < n) c.requires.head.used_is c.loop-i-test.true in
     let entry = c.in_ok-entry.entry in
-    let says : SaysEntry b c.args.at l.i entry.first entry.last entry.place = subst (λ (x : List ℕ). SaysEntry x c.args.at l.i entry.first entry.last entry.place) l.invariant.area.image c.in_ok-entry.ensures.value in
+    let says = entry_says b _ c.args.at c.args.levels l.i was s entry l.invariant.area.image c.in_ok-entry.ensures.value in
     let place = sym says.offset_is in
     let type = read_type b _ entry.place c.in_ok-kind.kind (c.in_ok-entry.ensures.area.image ∙ l.invariant.area.image) c.in_ok-kind.ensures.value in
     let e = c.in_ok-kind.ensures.area.image ∙ c.in_ok-entry.ensures.area.image ∙ l.invariant.area.image in
@@ -160,10 +144,9 @@ collect_below-loop-i-preserved g t c =
     let b = g.A.Area.image c.args.area.now in
     let was : List Entry × List ℕ = (c.args.blocks.now.items, c.args.nodes.now.items) in
     let s : List Entry × List ℕ = (l.blocks.items, l.nodes.items) in
-    let h = c.requires.head in
-    let lt = subst (λ (n : ℕ). l.i < n) h.used_is c.loop-i-test.true in
+    let lt = subst (λ (n : ℕ). l.i < n) c.requires.head.used_is c.loop-i-test.true in
     let entry = c.in_ok-entry.entry in
-    let says : SaysEntry b c.args.at l.i entry.first entry.last entry.place = subst (λ (x : List ℕ). SaysEntry x c.args.at l.i entry.first entry.last entry.place) l.invariant.area.image c.in_ok-entry.ensures.value in
+    let says = entry_says b _ c.args.at c.args.levels l.i was s entry l.invariant.area.image c.in_ok-entry.ensures.value in
     let place = sym says.offset_is in
     let type = read_type b _ entry.place c.in_ok-kind.kind (c.in_ok-entry.ensures.area.image ∙ l.invariant.area.image) c.in_ok-kind.ensures.value in
     let e = c.in_ok-kind.ensures.area.image ∙ c.in_ok-entry.ensures.area.image ∙ l.invariant.area.image in
