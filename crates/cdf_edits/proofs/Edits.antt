@@ -33,7 +33,6 @@ pub mod FreedEntry
 pub mod FreedVdr
 pub mod PadMoved
 pub mod InRecords
-pub mod LaterCommands
 pub mod MadeRecord
 pub mod LeftEntry
 pub mod MarkLemmas
@@ -90,7 +89,9 @@ pub mod LeavesOrder
 pub mod RecordsWritten
 pub mod LeafPieces
 pub mod PlainLeaves
-pub mod RecordPut
-pub mod RecordPuts
-pub mod GreatestPut
-pub mod OneRecordPut
+pub mod OnlyTaken
+pub mod ActsJoined
+pub mod RecordPlaced
+pub mod StandsAmong
+pub mod OwnEdited
+pub mod IndexEdited

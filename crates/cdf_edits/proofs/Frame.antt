@@ -5,6 +5,8 @@ pub mod LinksStay
 pub mod Meaning
 pub mod VdrAlike
 pub mod VdrCopied
+pub mod VdrKept
+pub mod VdrStays
 pub mod OwnerAlone
 pub mod OwnersApart
 pub mod SameShape

@@ -99,9 +99,6 @@ module _ {S : Type 0} (at_node : S → ℕ → ℕ → ℕ → S) (at_block : S 
   pub record Walked (b : List ℕ) (levels link at turn : ℕ) (was s : S) : Type 0 where
     pub left : (ns : Nodes) → Stands b levels ns → link ≡ link_to ns → ChainLeft b levels at turn was s ns
 
-  pub walk_start : (b : List ℕ) (levels link : ℕ) (was : S) → Walked b levels link link 0 was was
-  walk_start b levels link was = record { left = λ ns st e. record { left = ns; stands = st; link_is = e; same = refl; fewer = omega arith } }
-
   nothing_through : (ns : Nodes) (s : S) → ns ≡ no_node → through at_node at_block s ns ≡ s
   unfolding through
   nothing_through ns s e = rw e refl
@@ -200,9 +197,6 @@ module _ {S : Type 0} (at_node : S → ℕ → ℕ → ℕ → S) (at_block : S 
 
   pub record Gone (b : List ℕ) (at levels i : ℕ) (was s : S) : Type 0 where
     pub left : (entries : Entries) → EntriesStand b at levels entries → BelowLeft b at levels i was s entries
-
-  pub below_start : (b : List ℕ) (at levels : ℕ) (was : S) → Gone b at levels 0 was was
-  below_start b at levels was = record { left = λ es st. record { left = es; say = st.say; names = st.names; orderly = st.orderly; blocks = st.blocks; many = omega arith; same = refl; fewer = omega arith } }
 
   nothing_below : (es : Entries) (s : S) → es ≡ no_entry → through_entries at_node at_block s es ≡ s
   unfolding through_entries

@@ -1,7 +1,5 @@
 -- The index of a variable of a good image is one that can be searched.
-use Rattle.std.proofs.Common.{◌≡◌, ◌⊎◌, ℕ, ℤ, pos, negsuc, zero, suc, ◌-◌, ◌^◌, ◌≤◌, List, [], ◌∷◌, ◌++◌, length, true, not, ◌&&◌, ltb, eqb, true≢false, refl, sym, ap, subst, ◌∙◌, arith, inl, inr}
-use Rattle.std.specs.Prelude.{◌-ℤ◌, int_lt, int_le}
-use Rattle.std.proofs.Math.IntN.{ -ℤ_one}
+use Rattle.std.proofs.Common.{◌≡◌, ℕ, ℤ, pos, negsuc, zero, suc, List, [], ◌∷◌, ◌++◌, length, not, ◌&&◌, eqb, refl, sym, ap, subst, ◌∙◌, inl, inr}
 use Rattle.std.specs.List.{flat_map}
 use Rattle.cdf_model.specs.Limits.{record_number_limit}
 use Rattle.cdf_format.specs.Chains.{is_in, is_linkable}
@@ -9,7 +7,7 @@ use Rattle.cdf_format.specs.Fields.{with_sign, number}
 use Rattle.cdf_format.specs.GoodImage.{IsGoodImage}
 use Rattle.cdf_format.specs.Index.{Nodes, no_node, node, Entries, no_entry, block, lower, Leaf, nodes_of, leaves_of}
 use Rattle.cdf_format.specs.IndexOf.{IsIndex}
-use Rattle.cdf_format.specs.IndexRules.{end_of, is_between, is_block, nodes_rows, used_rows, leaf_rows, met_rows, phase8}
+use Rattle.cdf_format.specs.IndexRules.{end_of, is_block, nodes_rows, used_rows, leaf_rows, met_rows, phase8}
 use Rattle.cdf_format.specs.IndexWalk.{Met, met, lost, nodes_met, nodes_on, levels_on}
 use Rattle.cdf_format.specs.Records.{vdr_vxr_head}
 use Rattle.cdf_format.specs.RecordTypes.{vxr_type}
@@ -22,51 +20,9 @@ use Rattle.cdf_format.proofs.IndexLemmas.{index_complete}
 use Rattle.cdf_format.proofs.Members.{either}
 use Rattle.cdf_format.proofs.RowLemmas.{Hold-split}
 use Rattle.cdf_format.proofs.ShapeLemmas.{Each-split, tiles_are}
-use Rattle.cdf_format.proofs.Tests.{both, le_of}
+use Rattle.cdf_edits.proofs.Edits.LeavesOrder.{between, before_number, before_is}
 use Rattle.cdf_index.specs.Finding.{index_at, IsBlock, HasIndex}
 use Rattle.cdf_index.specs.Order.{past_entries, InOrder, AreInOrder}
-use Rattle.cdf_index.proofs.OrderLemmas.{lt_of}
-
--- the number before one
-abbrev pub before_number : ℕ → ℤ
-before_number zero = negsuc 0
-before_number (suc n) = pos n
-
-sign_of : (n : ℕ) → (with_sign n ≡ pos n) ⊎ (with_sign n ≡ negsuc (2 ^ 32 - suc n))
-sign_of n = elim (either (ltb n (2 ^ 31))) [ inl t ↦ inl (rw t refl) | inr t ↦ inr (rw t refl) ]
-
-past_before : (low first : ℕ) → int_lt (before_number low) (pos first) ≡ true → low ≤ first
-past_before zero first h = omega arith
-past_before (suc low) first h = lt_of low first h
-
-none_below : (low k : ℕ) → int_lt (before_number low) (negsuc k) ≡ true → ⊥
-none_below zero k h = let less = lt_of k 0 h in omega arith
-none_below (suc low) k h = true≢false (sym h)
-
-first_after : (low first : ℕ) → int_lt (before_number low) (with_sign first) ≡ true → (low ≤ first) × (with_sign first ≡ pos first)
-first_after low first h = elim (sign_of first) [ inl e ↦ (past_before low first (rw e at h), e) | inr e ↦ absurd (none_below low _ (rw e at h)) ]
-
-last_after : (first last : ℕ) → int_le (pos first) (with_sign last) ≡ true → (first ≤ last) × (with_sign last ≡ pos last)
-last_after first last h = elim (sign_of last) [ inl e ↦ (le_of first last (rw e at h), e) | inr e ↦ absurd (true≢false (sym (rw e at h))) ]
-
-record Between (low high first last : ℕ) : Type 0 where
-  low_first : low ≤ first
-  first_last : first ≤ last
-  last_high : last ≤ high
-  first_is : with_sign first ≡ pos first
-  last_is : with_sign last ≡ pos last
-
-between : (low high first last : ℕ) → is_between (before_number low) (pos high) first last ≡ true → Between low high first last
-between low high first last e =
-    let p = both (int_lt (before_number low) (with_sign first)) (int_le (with_sign first) (with_sign last) && int_le (with_sign last) (pos high)) e in
-    let q = both (int_le (with_sign first) (with_sign last)) (int_le (with_sign last) (pos high)) p.1 in
-    let f = first_after low first p.0 in
-    let l = last_after first last (subst (λ (z : ℤ). int_le z (with_sign last) ≡ true) f.1 q.0) in
-    record { low_first = f.0; first_last = l.0; last_high = le_of last high (subst (λ (z : ℤ). int_le z (pos high) ≡ true) l.1 q.1); first_is = f.1; last_is = l.1 }
-
-before_is : (n : ℕ) → with_sign n ≡ pos n → number_before n ≡ before_number n
-before_is zero e = ap (λ (z : ℤ). z -ℤ pos 1) e
-before_is (suc n) e = ap (λ (z : ℤ). z -ℤ pos 1) e ∙ -ℤ_one (pos (suc n))
 
 module _ (b records : List ℕ) where
   mutual

@@ -52,9 +52,6 @@ module _ (b now : List ℕ) (s : Shape) (before : List VariableShape) (v : Varia
   abbrev s' : Shape
   s' = with_variables s rs zs
 
-  total : ℕ → ℕ
-  total m = times m (owned_records b s)
-
   parts : (m : ℕ) → times m (all_variable_records s) ≡ times m (flat_map variable_records before) + (times m mine + times m (flat_map variable_records after))
   parts m = ap (λ (x : List VariableShape). times m (flat_map variable_records x)) shaped.was ∙ times-parts variable_records m before v after
 

@@ -28,3 +28,4 @@ pub mod Saying
 pub mod StoredRecords
 pub mod TreeTouched
 pub mod WayDown
+pub mod LeafRules

@@ -8,7 +8,7 @@ use Rattle.cdf_edits.specs.Commands.Allowances.{shapes_of}
 use Rattle.cdf_edits.specs.Commands.Room.{vxr_bytes, widest}
 use Rattle.cdf_edits.specs.Index.Grown.{with_leaf, new_room}
 use Rattle.cdf_edits.specs.Space.Placing.{Placed, type_of_body}
-use Rattle.cdf_edits.proofs.Edits.VdrEdited.{StandsAmong, sound, tile, has, long}
+use Rattle.cdf_edits.proofs.Edits.StandsAmong.{StandsAmong, sound, tile, has, long}
 use Rattle.cdf_edits.proofs.Space.UsedRecords.{apart}
 use Rattle.cdf_format.specs.Fields.{number, size_at, with_field}
 use Rattle.cdf_format.specs.Index.{Nodes, Leaf, leaf, nodes_of, room_at}

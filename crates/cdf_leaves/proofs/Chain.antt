@@ -1,5 +1,5 @@
 -- A chain of nodes followed to its end.
-use Rattle.std.proofs.Common.{◌≡◌, ◌≢◌, ℕ, zero, suc, ◌+◌, ◌<◌, ◌≤◌, List, length, true, false, eqb, refl, arith}
+use Rattle.std.proofs.Common.{◌≡◌, ◌≢◌, ℕ, zero, suc, ◌+◌, ◌<◌, List, length, true, false, eqb, arith}
 use Rattle.std.proofs.lemmas.Bool.Decides.{nat_tests}
 use Rattle.cdf_format.specs.Chains.{next_of}
 use Rattle.cdf_leaves.specs.Tail.{chain_end, ChainInside}
@@ -11,9 +11,6 @@ pub record Following (b : List ℕ) (at turn here : ℕ) : Type 0 where
   pub inside : ChainInside left b here
   pub same : chain_end left b here ≡ chain_end (length b) b at
 
-pub follow_start : (b : List ℕ) (at : ℕ) → ChainInside (length b) b at → Following b at 0 at
-follow_start b at i = record { left = length b; turns = omega arith; inside = i; same = refl }
-
 pub test_zero : (n : ℕ) → n ≡ 0 → eqb n 0 ≡ true
 test_zero n e = grind (arith, nat_tests)
 
@@ -21,13 +18,6 @@ pub test_some : (n : ℕ) → n ≢ 0 → eqb n 0 ≡ false
 test_some n e = grind (arith, nat_tests)
 
 module _ (b : List ℕ) (at turn here : ℕ) (f : Following b at turn here) where
-  pub follow_lies : turn < length b → here + 20 ≤ length b
-  follow_lies lt = go f.left f.turns f.inside
-    where
-      go : (left : ℕ) → turn + left ≡ length b → ChainInside left b here → here + 20 ≤ length b
-      go zero e i = absurd (omega arith)
-      go (suc left) e i = i.0
-
   pub follow_end : turn < length b → next_of b here ≡ 0 → here ≡ chain_end (length b) b at
   follow_end lt z = go f.left f.turns f.same
     where
@@ -41,10 +31,3 @@ module _ (b : List ℕ) (at turn here : ℕ) (f : Following b at turn here) wher
       go : (left : ℕ) → turn + left ≡ length b → ChainInside left b here → chain_end left b here ≡ chain_end (length b) b at → Following b at (turn + 1) (next_of b here)
       go zero e i s = absurd (omega arith)
       go (suc left) e i s = let t = test_some (next_of b here) n in record { left = left; turns = omega arith; inside = i.1 n; same = rw t at s }
-
-  pub follow_over : length b ≤ turn → here ≡ chain_end (length b) b at
-  follow_over le = go f.left f.turns f.same
-    where
-      go : (left : ℕ) → turn + left ≡ length b → chain_end left b here ≡ chain_end (length b) b at → here ≡ chain_end (length b) b at
-      go zero e s = s
-      go (suc left) e s = absurd (omega arith)

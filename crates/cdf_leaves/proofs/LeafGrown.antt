@@ -8,7 +8,7 @@ use Rattle.cdf_edits.specs.Frame.Changed.{Placed as ChangedPlaced}
 use Rattle.cdf_edits.specs.Index.Grown.{with_leaf, new_room, chain_reaches, leads_down, past}
 use Rattle.cdf_edits.specs.Index.Written.{UnusedEntries, EntryIs, was_unused, top_chain, last_node}
 use Rattle.cdf_edits.specs.Space.Placing.{Placed}
-use Rattle.cdf_edits.proofs.Edits.VdrEdited.{StandsAmong, sound, tile, has, long}
+use Rattle.cdf_edits.proofs.Edits.StandsAmong.{StandsAmong, sound, tile, has, long}
 use Rattle.cdf_edits.proofs.Frame.ChangedBytes.{changed_then, changed_whole}
 use Rattle.cdf_edits.proofs.Frame.LinksStay.{SameHeads, nodes_kept}
 use Rattle.cdf_edits.proofs.Frame.Meaning.{Kept}
@@ -482,9 +482,6 @@ module _ {b : List ℕ} {kind : Kind} {before : List VariableShape} {own : Varia
   -- ---- the nodes on the way are widened
 
   module _ {grown : List ℕ} {at : ℕ} (e : EntryStands b filled grown l at own x need) where
-    abbrev roomy_now : List ℕ
-    roomy_now = e.roomy
-
     abbrev recs : List ℕ
     recs = (shape e.roomy).records
 

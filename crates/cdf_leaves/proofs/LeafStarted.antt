@@ -8,7 +8,7 @@ use Rattle.cdf_edits.specs.Frame.Changed.{touch, Touch, Changed}
 use Rattle.cdf_edits.specs.Index.Grown.{with_block, with_leaf, new_room}
 use Rattle.cdf_edits.specs.Index.Written.{UnusedEntries, top_chain, last_node}
 use Rattle.cdf_edits.specs.Space.Placing.{Placed}
-use Rattle.cdf_edits.proofs.Edits.VdrEdited.{StandsAmong, sound, typed, has, long}
+use Rattle.cdf_edits.proofs.Edits.StandsAmong.{StandsAmong, sound, typed, has, long}
 use Rattle.cdf_edits.proofs.Frame.ChangedBytes.{changed_then, changed_whole}
 use Rattle.cdf_edits.proofs.Frame.Meaning.{Kept}
 use Rattle.cdf_edits.proofs.Space.UsedRecords.{apart}
@@ -54,10 +54,6 @@ seven_new f = refl
 one_node : (l : Leaf) (at : ℕ) → nodes_of (node at 7 (with_block l no_entry) no_node) ≡ at ∷ []
 unfolding nodes_of lower_nodes
 one_node l at = refl
-
-none_of : nodes_of no_node ≡ []
-unfolding nodes_of
-none_of = refl
 
 has_one : (b ts : List ℕ) (l : Leaf) (at : ℕ) → SaysNode b ts at 7 (with_block l no_entry) no_node → Names b ts 7 (with_block l no_entry) → HasNodes b ts 8 (node at 7 (with_block l no_entry) no_node)
 unfolding HasNodes

@@ -46,10 +46,6 @@ taken_is : (room at m : ℕ) → 0 < times m (taken_at room at) → (0 < room) �
 taken_is zero at m lt = absurd (omega arith)
 taken_is (suc room) at m lt = elim (cases_eq m at) [ inl e ↦ (omega arith, e) | inr ne ↦ (let o = single m at ne in absurd (omega arith)) ]
 
-taken_there : (room at : ℕ) → 0 < room → 0 < times at (taken_at room at)
-taken_there zero at lt = absurd (omega arith)
-taken_there (suc room) at lt = let o = once_there at at refl in omega arith
-
 module _ (index : Nodes) (l : Leaf) (at : ℕ) where
   abbrev pub all : List ℕ
   all = nodes_of (with_leaf l at index)
@@ -68,9 +64,6 @@ module _ (index : Nodes) (l : Leaf) (at : ℕ) where
 
   pub old_in : (m : ℕ) → In m (nodes_of index) → In m all
   old_in m i = let n = nodes_more m at l index in let o = times-in m (nodes_of index) i in times_some m all (omega arith)
-
-  pub new_in : 0 < new_room l.first index → In at all
-  new_in some = let n = nodes_more at at l index in let o = taken_there (new_room l.first index) at some in times_some at all (omega arith)
 
   pub all_once : Distinct (nodes_of index) → (0 < new_room l.first index → In at (nodes_of index) → ⊥) → Distinct all
   all_once once out = distinct_if all each

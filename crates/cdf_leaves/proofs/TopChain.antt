@@ -1,5 +1,5 @@
 -- The top chain of an index that gets a leaf, and its end in the bytes.
-use Rattle.std.proofs.Common.{◌≡◌, ◌≢◌, ◌⊎◌, ℕ, zero, suc, ◌+◌, ◌≤◌, max, List, [], ◌∷◌, length, false, ltb, eqb, refl, sym, ap, subst, ◌∙◌, arith, inl, inr, None, Some}
+use Rattle.std.proofs.Common.{◌≡◌, ◌≢◌, ◌⊎◌, ℕ, zero, suc, ◌+◌, ◌≤◌, max, List, [], ◌∷◌, length, false, ltb, eqb, refl, sym, ap, subst, ◌∙◌, arith, inl, inr, Some}
 use Rattle.std.specs.List.{last_or}
 use Rattle.std.specs.Option.{unwrap_or}
 use Rattle.cdf_edits.specs.Index.Grown.{chain_reaches, leads_down, past, with_entry, with_leaf, room_of_new, new_room}
@@ -78,9 +78,6 @@ chain_once : (nodes : Nodes) → Distinct (nodes_of nodes) → Distinct (top_cha
 unfolding nodes_of lower_nodes
 chain_once no_node d = tt
 chain_once (node place room es more) d = ((λ i. d.0 (In-append_right place (lower_nodes es) (nodes_of more) (chain_in more place i))), chain_once more (Distinct-back (lower_nodes es) (nodes_of more) d.1))
-
-last_more : (p : ℕ) (xs : List ℕ) → unwrap_or (last_or None (p ∷ xs)) 0 ≡ unwrap_or (last_or (Some p) xs) 0
-last_more p xs = refl
 
 abbrev last_from : ℕ → Nodes → ℕ
 last_from p nodes = unwrap_or (last_or (Some p) (top_chain nodes)) 0

@@ -14,7 +14,7 @@ use Rattle.cdf_edits.proofs.Edits.LeafPieces.{IsOneOf, find_covering, of_each, p
 use Rattle.cdf_edits.proofs.Edits.LeafRecords.{count_is}
 use Rattle.cdf_edits.proofs.Edits.PlainLeaves.{PlainLeaf, plain_leaf, own_rules, leaves_ascend}
 use Rattle.cdf_edits.proofs.Edits.VariableCopied.{block_behind}
-use Rattle.cdf_edits.proofs.Edits.VdrEdited.{StandsAmong, sound, behind_in}
+use Rattle.cdf_edits.proofs.Edits.StandsAmong.{StandsAmong, sound, behind_in}
 use Rattle.cdf_edits.proofs.Space.UsedRecords.{apart}
 use Rattle.cdf_format.specs.Bytes.{Same}
 use Rattle.cdf_format.specs.Chains.{is_in}
@@ -37,8 +37,10 @@ use Rattle.cdf_puts.proofs.GoesAlike.{later_size, later_packed}
 use Rattle.cdf_puts.proofs.LeafBlocks.{blocks_go_on}
 use Rattle.cdf_puts.proofs.LeafCounts.{leaf_added, leaf_stays, leaf_was_there}
 use Rattle.cdf_puts.proofs.LeafEdit.{new_nodes}
-use Rattle.cdf_puts.proofs.LeafRules.{index_order, before_limit}
-use Rattle.cdf_puts.proofs.LeafSplices.{file, vdr_alike, new_fresh}
+use Rattle.cdf_index.proofs.LeafRules.{index_order, before_limit}
+use Rattle.cdf_edits.proofs.Edits.IndexEdited.{vdr_alike}
+use Rattle.cdf_puts.proofs.LeafSplices.{file, index_edit, new_fresh}
+use Rattle.cdf_puts.proofs.LeafBlocks.{plain_body}
 use Rattle.cdf_puts.proofs.PutBytes.{old_size, old_stays, new_stays}
 use Rattle.cdf_puts.proofs.PutNodes.{taken_first, taken_then, taken_neither}
 use Rattle.cdf_edits.proofs.Frame.VdrAlike.{record_alike}
@@ -138,7 +140,7 @@ module _ {b now now' : List ℕ} {kind : Kind} {before : List VariableShape} {ow
   size_is = later_size so.start.good so.start.among so.goes
 
   size_now : record_bytes now' own'.vdr ≡ size
-  size_now = record_alike (file so.goes.good so.goes.among w) (vdr_alike so.goes.good so.goes.among w) ∙ size_is
+  size_now = record_alike (file so.goes.good so.goes.among w) (vdr_alike so.goes.good so.goes.among (index_edit so.goes.good so.goes.among w (plain_body body records holds))) ∙ size_is
 
   plain : (l : Leaf) → IsOneOf leaves l → PlainLeaf now size l
   plain l i = subst (λ (n : ℕ). PlainLeaf now n l) size_is (plain_leaf so.goes.good so.goes.among (later_packed so.start.good so.start.among so.goes ∙ so.start.loose) l i)

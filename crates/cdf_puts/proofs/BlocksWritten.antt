@@ -13,7 +13,7 @@ use Rattle.cdf_edits.specs.Space.Acts.{Act}
 use Rattle.cdf_edits.proofs.Edits.LeafPieces.{IsOneOf, find_covering, found_in, covers_within, place_in, one_place, record_place}
 use Rattle.cdf_edits.proofs.Edits.PlainLeaves.{PlainLeaf, plain_leaf, leaves_ascend, leaves_apart}
 use Rattle.cdf_edits.proofs.Edits.VariableCopied.{block_behind}
-use Rattle.cdf_edits.proofs.Edits.VdrEdited.{sound, behind_in}
+use Rattle.cdf_edits.proofs.Edits.StandsAmong.{sound, behind_in}
 use Rattle.cdf_format.specs.Bytes.{byte, Same}
 use Rattle.cdf_format.specs.Content.{variable_of}
 use Rattle.cdf_format.specs.Fields.{size_at}

@@ -17,7 +17,7 @@ use Rattle.cdf_puts.specs.Covering.{new_last, block_bytes, node_bytes, count_upt
 use Rattle.cdf_puts.proofs.CoveringRanges.{of_leaves, leaves_ascend, range_found, no_range, one_at_least, next_upto, one_alone, full_or_next, next_past, new_is, new_by_next, Ends, ends, next_record, next_vacant, all_done, covered_with, covered_less}
 use Rattle.cdf_puts.proofs.LeafCounts.{Roomy, widest_with_leaf, new_room_widest}
 use Rattle.cdf_puts.proofs.LeafFirsts.{next_firsts_with_leaf}
-use Rattle.cdf_puts.proofs.LeafRules.{order_with_leaf}
+use Rattle.cdf_index.proofs.LeafRules.{order_with_leaf}
 use Rattle.cdf_puts.proofs.RoomEnough.{count_more, count_most, next_passed, firsts_count, more_blocks, more_bytes, uncovered_is, room_enough, blocks_enough, node_fits}
 
 le_then : (a b c : ℕ) → a ≤ b → b ≤ c → a ≤ c

@@ -6,11 +6,11 @@ use Rattle.cdf_model.specs.declared.kinds.Kind.{Kind}
 use Rattle.cdf_model.specs.declared.kinds.Sparse.{Sparse}
 use Rattle.cdf_model.specs.DataSet.{Variable, extent}
 use Rattle.cdf_edits.specs.Commands.Puts.{CutsFirst, PutsIndex, PutsLeaves, is_written}
-use Rattle.cdf_edits.specs.Index.Blocks.{is_sparse, ranges_of, cuts_before_put, ranges_after_put, first_written}
+use Rattle.cdf_edits.specs.Index.Blocks.{is_sparse, ranges_of, cuts_before_put, ranges_after_put}
 use Rattle.cdf_edits.specs.Index.Written.{is_taken_at, top_chain, last_node, top_stays, TailFollows}
 use Rattle.cdf_edits.specs.Space.Acts.{Act}
 use Rattle.cdf_edits.proofs.Edits.VariableCopied.{node_behind}
-use Rattle.cdf_edits.proofs.Edits.VdrEdited.{fits}
+use Rattle.cdf_edits.proofs.Edits.StandsAmong.{fits}
 use Rattle.cdf_edits.proofs.Frame.OwnerAlone.{Each-in}
 use Rattle.cdf_format.specs.Content.{variable_of}
 use Rattle.cdf_format.specs.Fields.{number}
@@ -27,7 +27,7 @@ use Rattle.cdf_puts.specs.SoFar.{MaxRecDone, SoFar, NodesSoFar}
 use Rattle.cdf_puts.proofs.Covering.{covering_done}
 use Rattle.cdf_puts.proofs.IndexWritten.{nodes_still}
 use Rattle.cdf_puts.proofs.LastImage.{last_image, has_put}
-use Rattle.cdf_puts.proofs.PutMeaning.{record_stays}
+use Rattle.cdf_puts.proofs.GoesAlike.{record_stays}
 use Rattle.cdf_puts.proofs.PutRoom.{none_given, no_node_given}
 
 -- the nodes of the top chain are nodes
@@ -44,9 +44,6 @@ none_taken_in acts (x ∷ xs) f = let here = f x (inl refl) in rw here (none_tak
 module _ {b now last : List ℕ} {kind : Kind} {before : List VariableShape} {own own' : VariableShape} {after : List VariableShape} {raw pad : List ℕ} {r : ℕ} {acts : List Act} (so : SoFar b now kind before own own' after raw pad r (r + 1) acts) (done : MaxRecDone b now last kind own own' r) where
   abbrev v : Variable
   v = variable_of b own
-
-  abbrev first : ℕ
-  first = first_written v r
 
   pub uncut : cuts_before_put v r ≡ false
   uncut = ap (λ (s : Sparse). is_sparse s && nat_lt (extent v.max_rec) r) so.start.no_rule

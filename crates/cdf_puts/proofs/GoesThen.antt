@@ -8,12 +8,12 @@ use Rattle.std.specs.Prelude.{slice_set, ◌==◌, ◌&&◌, nat_le, nat_lt, if�
 use Rattle.cdf_edits.proofs.Edits.InRecords.{places_of}
 use Rattle.cdf_edits.proofs.Edits.LeafPieces.{IsOneOf, leaf_at}
 use Rattle.cdf_edits.proofs.Edits.VariableKeeps.{stays_then, type_stays}
-use Rattle.cdf_edits.proofs.Edits.VariableKinds.{variables_of_are}
-use Rattle.cdf_edits.proofs.Edits.VdrEdited.{StandsAmong, long}
+use Rattle.cdf_edits.proofs.Edits.VariableKinds.{other_kind, variables_of_are}
+use Rattle.cdf_edits.proofs.Edits.StandsAmong.{StandsAmong, long}
 use Rattle.cdf_edits.proofs.Frame.Meaning.{FileSame}
 use Rattle.cdf_edits.proofs.Frame.OwnersApart.{unused_in}
 use Rattle.cdf_edits.proofs.Space.UsedRecords.{filter-says}
-use Rattle.cdf_edits.specs.Commands.Allowances.{Allowance, Anything, Only, Keeps, Stays, OutsideFields, anything_if, is_taken, r_max_rec_field, space_fields, unused_allowance}
+use Rattle.cdf_edits.specs.Commands.Allowances.{AllKeep, shapes_of, Allowance, Anything, Only, Keeps, Stays, OutsideFields, anything_if, is_taken, r_max_rec_field, space_fields, unused_allowance}
 use Rattle.cdf_edits.specs.Commands.Room.{is_rewritten}
 use Rattle.cdf_edits.specs.Index.Blocks.{Range, range}
 use Rattle.cdf_edits.specs.Space.Acts.{Act, ActsFollow, taken}
@@ -28,7 +28,7 @@ use Rattle.cdf_format.specs.Chains.{is_in}
 use Rattle.cdf_format.specs.Content.{content, variable_of}
 use Rattle.cdf_format.specs.Fields.{number, size_at, type_at}
 use Rattle.cdf_format.specs.Index.{Leaf, nodes_of, leaves_of}
-use Rattle.cdf_format.specs.Owners.{attribute_records, variable_records, unused_records}
+use Rattle.cdf_format.specs.Owners.{owned, attribute_records, variable_records, unused_records}
 use Rattle.cdf_format.specs.Records.{Field, uir_next_uir, uir_prev_uir, vdr_max_rec, vdr_s_records, vdr_vxr_head, vdr_vxr_tail}
 use Rattle.cdf_format.specs.RecordTypes.{uir_type}
 use Rattle.cdf_format.specs.Shape.{AttributeShape, VariableShape, shape}
@@ -41,9 +41,11 @@ use Rattle.cdf_model.specs.Names.{variables_of, with_variables}
 use Rattle.cdf_model.specs.declared.kinds.Kind.{Kind}
 use Rattle.cdf_model.specs.declared.kinds.Kind.TheVariants.{R, Z}
 use Rattle.cdf_model.specs.declared.kinds.Sparse.TheVariants.{NoRule, Pad, Previous}
-use Rattle.cdf_puts.specs.Going.{DescriptorStays, GoesOn}
-use Rattle.cdf_puts.proofs.ActsJoined.{ListedStay, acts_joined, listed_before}
-use Rattle.cdf_puts.proofs.OnlyTaken.{OnlyTakes, none_of_both}
+use Rattle.cdf_puts.specs.Going.{DescriptorStays, GoesOn, found_in}
+use Rattle.cdf_edits.specs.Commands.Puts.{put_changes}
+use Rattle.cdf_edits.specs.Commands.GreatestRecord.{r_max_rec}
+use Rattle.cdf_edits.proofs.Edits.ActsJoined.{ListedStay, acts_joined, listed_before}
+use Rattle.cdf_edits.proofs.Edits.OnlyTaken.{OnlyTakes, none_of_both}
 use Rattle.cdf_puts.proofs.OwnAllowed.{own_may, descriptor_allowed, node_allowed, parameters_allowed, block_allowed}
 use Rattle.cdf_puts.proofs.PutKeeps.{PutKeeps, all_kept, put_keeps}
 
@@ -83,9 +85,34 @@ variables_with : (d : DataSet) (kind : Kind) (vs : List Variable) → variables_
 variables_with d R vs = refl
 variables_with d Z vs = refl
 
+-- ---- a step, but for rMaxRec
+
+pub record Passes (b now : List ℕ) (kind : Kind) (before : List VariableShape) (own own' : VariableShape) (after : List VariableShape) (r : ℕ) (acts : List Act) : Type 0 where
+  pub good : Good now
+  pub among : StandsAmong now kind before own' after
+  pub vdr_is : own'.vdr ≡ own.vdr
+  pub cpr_is : own'.cpr ≡ own.cpr
+  pub own_stay : (m : ℕ) → In m (variable_records own) → In m (variable_records own')
+  pub gdr_is : (shape now).gdr ≡ (shape b).gdr
+  pub attributes_are : (shape now).attributes ≡ (shape b).attributes
+  pub others_are : shapes_of (shape now) (other_kind kind) ≡ shapes_of (shape b) (other_kind kind)
+  pub descriptor : DescriptorStays b now own.vdr
+  pub file : FileSame b now
+  pub content_is : content now ≡ with_variables (content b) kind (slice_set (variables_of (content b) kind) (length before) (variable_of now own'))
+  pub follow : ActsFollow b now acts
+  pub keep : AllKeep b now (put_changes b (shape b) (found_in b kind before own) r) acts (owned b (shape b))
+
+module _ {b now : List ℕ} {kind : Kind} {before : List VariableShape} {own own' : VariableShape} {after : List VariableShape} {r : ℕ} {acts : List Act} where
+  pub passes : GoesOn b now kind before own own' after r acts → Passes b now kind before own own' after r acts
+  passes g = record { good = g.good; among = g.among; vdr_is = g.vdr_is; cpr_is = g.cpr_is; own_stay = g.own_stay; gdr_is = g.gdr_is; attributes_are = g.attributes_are; others_are = g.others_are; descriptor = g.descriptor; file = g.file; content_is = g.content_is; follow = g.follow; keep = g.keep }
+
+  -- where rMaxRec stays
+  pub going : Passes b now kind before own own' after r acts → r_max_rec now ≡ r_max_rec b → GoesOn b now kind before own own' after r acts
+  going p same = record { good = p.good; among = p.among; vdr_is = p.vdr_is; cpr_is = p.cpr_is; own_stay = p.own_stay; gdr_is = p.gdr_is; attributes_are = p.attributes_are; others_are = p.others_are; descriptor = p.descriptor; file = p.file; r_max_rec_is = same; content_is = p.content_is; longer = p.file.longer; follow = p.follow; keep = p.keep }
+
 -- ---- the whole
 
-module _ {b mid now : List ℕ} {kind : Kind} {before : List VariableShape} {own own' own'' : VariableShape} {after : List VariableShape} {r : ℕ} {acts acts' : List Act} (good : Good b) (at : StandsAmong b kind before own after) (first : GoesOn b mid kind before own own' after r acts) (second : GoesOn mid now kind before own' own'' after r acts')
+module _ {b mid now : List ℕ} {kind : Kind} {before : List VariableShape} {own own' own'' : VariableShape} {after : List VariableShape} {r : ℕ} {acts acts' : List Act} (good : Good b) (at : StandsAmong b kind before own after) (first : GoesOn b mid kind before own own' after r acts) (second : Passes mid now kind before own' own'' after r acts')
     (takes : OnlyTakes acts) (takes' : OnlyTakes acts') (max_rec_is : number mid own.vdr vdr_max_rec ≡ number b own.vdr vdr_max_rec) (leaves_stay : (l : Leaf) → IsOneOf (leaves_of own.index) l → IsOneOf (leaves_of own'.index) l) where
   sound : IsSound b (shape b)
   sound = good_is_sound b good
@@ -259,8 +286,8 @@ module _ {b mid now : List ℕ} {kind : Kind} {before : List VariableShape} {own
       let m = y.longer in
       record { longer = omega arith; gdr_is = y.gdr_is ∙ x.gdr_is; little = y.little ∙ x.little; dimensions = y.dimensions ∙ x.dimensions; sizes = y.sizes ∙ x.sizes }
 
-  pub goes_then : GoesOn b now kind before own own'' after r (acts ++ acts')
-  goes_then = record {
+  pub passes_then : Passes b now kind before own own'' after r (acts ++ acts')
+  passes_then = record {
     good = second.good;
     among = second.among;
     vdr_is = second.vdr_is ∙ first.vdr_is;
@@ -271,9 +298,11 @@ module _ {b mid now : List ℕ} {kind : Kind} {before : List VariableShape} {own
     others_are = second.others_are ∙ first.others_are;
     descriptor = descriptor_twice;
     file = file_twice;
-    r_max_rec_is = second.r_max_rec_is ∙ first.r_max_rec_is;
     content_is = content_twice;
-    longer = file_twice.longer;
     follow = joined;
     keep = all_kept b now kind before own after r (acts ++ acts') at sound kept;
   }
+
+pub goes_then : {b mid now : List ℕ} {kind : Kind} {before : List VariableShape} {own own' own'' : VariableShape} {after : List VariableShape} {r : ℕ} {acts acts' : List Act} → Good b → StandsAmong b kind before own after → GoesOn b mid kind before own own' after r acts → GoesOn mid now kind before own' own'' after r acts' → OnlyTakes acts → OnlyTakes acts'
+    → number mid own.vdr vdr_max_rec ≡ number b own.vdr vdr_max_rec → ((l : Leaf) → IsOneOf (leaves_of own.index) l → IsOneOf (leaves_of own'.index) l) → GoesOn b now kind before own own'' after r (acts ++ acts')
+goes_then good at first second takes takes' max_rec stay = going (passes_then good at first (passes second) takes takes' max_rec stay) (second.r_max_rec_is ∙ first.r_max_rec_is)

@@ -15,7 +15,7 @@ use Rattle.cdf_edits.specs.Space.Acts.{Act}
 use Rattle.cdf_edits.proofs.Edits.LeafPieces.{IsOneOf, in_order}
 use Rattle.cdf_edits.proofs.Edits.LeafRecords.{Ascending, count_is}
 use Rattle.cdf_edits.proofs.Edits.PlainLeaves.{leaves_ascend}
-use Rattle.cdf_edits.proofs.Edits.VdrEdited.{StandsAmong, sound, has}
+use Rattle.cdf_edits.proofs.Edits.StandsAmong.{StandsAmong, sound, has}
 use Rattle.cdf_format.specs.Content.{variable_of}
 use Rattle.cdf_format.specs.Fields.{number}
 use Rattle.cdf_format.specs.Index.{Leaf, leaf, leaves_of, nodes_of}
@@ -34,7 +34,7 @@ use Rattle.cdf_puts.specs.Steps.{IsVacant, IsBlockBody}
 use Rattle.cdf_puts.proofs.BlocksAdded.{order, beside_new}
 use Rattle.cdf_puts.proofs.LeafEdit.{node_in}
 use Rattle.cdf_puts.proofs.LeafOutlines.{same_with_leaf, same_uses, with_one_more, last_of_through, through_stays, top_grows, bytes_same, bytes_longer}
-use Rattle.cdf_puts.proofs.LeafRules.{before_limit}
+use Rattle.cdf_index.proofs.LeafRules.{before_limit}
 use Rattle.cdf_puts.proofs.NodesAdded.{nodes_step, node_taken}
 use Rattle.cdf_puts.proofs.PutLeaves.{put_new, none_begins, puts_new}
 use Rattle.cdf_puts.proofs.PutNodes.{NodesStep, nodes_then, taken_both, taken_first, taken_then, taken_neither}

@@ -9,7 +9,7 @@ use Rattle.cdf_edits.specs.Space.Acts.{Act}
 use Rattle.cdf_edits.proofs.Edits.InRecords.{places_of}
 use Rattle.cdf_edits.proofs.Edits.LeafPieces.{IsOneOf, find_first, found_in, covers_within, place_in}
 use Rattle.cdf_edits.proofs.Edits.PlainLeaves.{leaves_ascend}
-use Rattle.cdf_edits.proofs.Edits.VdrEdited.{fits, tile, long, no_block}
+use Rattle.cdf_edits.proofs.Edits.StandsAmong.{fits, tile, long, no_block}
 use Rattle.cdf_edits.proofs.Frame.Meaning.{Kept}
 use Rattle.cdf_edits.proofs.Frame.OwnerAlone.{Each-in}
 use Rattle.cdf_format.specs.Content.{variable_of}

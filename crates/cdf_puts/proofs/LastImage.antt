@@ -5,20 +5,27 @@ use Rattle.cdf_model.specs.DataSet.{extent}
 use Rattle.cdf_model.specs.RecordSteps.{last_number, greater}
 use Rattle.cdf_edits.specs.Commands.Puts.{max_rec_touches}
 use Rattle.cdf_edits.specs.Frame.Changed.{Changed}
-use Rattle.cdf_edits.specs.Space.Acts.{Act}
+use Rattle.cdf_edits.specs.Space.Acts.{Act, Took, Gave}
 use Rattle.cdf_edits.proofs.Edits.RecordFrame.{index_records}
-use Rattle.cdf_edits.proofs.Edits.VdrEdited.{sound, behind_in}
+use Rattle.cdf_edits.proofs.Edits.StandsAmong.{sound, behind_in}
 use Rattle.cdf_edits.proofs.Frame.Meaning.{Kept}
 use Rattle.cdf_format.specs.Fields.{number, with_sign}
 use Rattle.cdf_format.specs.Records.{vdr_vxr_tail}
-use Rattle.cdf_format.specs.Shape.{VariableShape, shape}
+use Rattle.cdf_format.specs.Shape.{VariableShape, Each, shape}
 use Rattle.cdf_format.specs.Tiles.{In}
 use Rattle.cdf_format.specs.VariableFields.{max_rec_at}
 use Rattle.cdf_format.proofs.TilesLemmas.{tile_lies}
-use Rattle.cdf_puts.specs.SoFar.{SoFar, MaxRecDone}
+use Rattle.cdf_puts.specs.SoFar.{SoFar, MaxRecDone, IsTaking}
+use Rattle.cdf_edits.proofs.Edits.OnlyTaken.{OnlyTakes}
 use Rattle.cdf_puts.proofs.PutMeaning.{max_rec_raised_to, max_rec_kept_at}
+use Rattle.std.proofs.Common.{[], ◌∷◌}
 use Rattle.cdf_puts.proofs.RaisedGoes.{max_rec_raised, raised_behind, raised_tail}
 use Rattle.cdf_puts.proofs.RaisedThen.{HasPut, raised_then, unraised_then}
+
+pub only_takes : (acts : List Act) → Each IsTaking acts → OnlyTakes acts
+only_takes [] t = tt
+only_takes (Took place need ∷ more) t = only_takes more t.1
+only_takes (Gave place size ∷ more) t = absurd t.0
 
 -- what that leaves
 pub record LastImage (b now last : List ℕ) (kind : Kind) (own own' : VariableShape) (r : ℕ) : Type 0 where
@@ -57,5 +64,5 @@ module _ {b now : List ℕ} {kind : Kind} {before : List VariableShape} {own own
   last_image (inr x) = subst (λ (y : List ℕ). LastImage b now y kind own own' r) (sym x.1) (still x.0)
 
   pub has_put : {last : List ℕ} → MaxRecDone b now last kind own own' r → HasPut b last kind before own own' after r acts
-  has_put (inl x) = raised_then so.start.good so.start.among so.goes x.1 x.0 so.start.small so.short
+  has_put (inl x) = raised_then so.start.good so.start.among so.goes (only_takes acts so.takes) so.max_rec_is so.blocks.stay x.1 x.0 so.start.small so.short
   has_put (inr x) = subst (λ (y : List ℕ). HasPut b y kind before own own' after r acts) (sym x.1) (unraised_then so.start.good so.start.among so.goes (ap with_sign so.max_rec_is))

@@ -9,7 +9,7 @@ use Rattle.cdf_edits.proofs.Edits.MadeRecord.{listed_marks, made_edit}
 use Rattle.cdf_edits.proofs.Edits.MarkLemmas.{unmarked-away}
 use Rattle.cdf_edits.proofs.Edits.OwnersKept.{keeps_away, keeps_within}
 use Rattle.cdf_edits.proofs.Edits.VariableSplice.{shape_now}
-use Rattle.cdf_edits.proofs.Edits.VdrEdited.{StandsAmong}
+use Rattle.cdf_edits.proofs.Edits.StandsAmong.{StandsAmong}
 use Rattle.cdf_edits.specs.Commands.Allowances.{Only}
 use Rattle.cdf_edits.specs.Edits.Edit.{Edit}
 use Rattle.cdf_edits.specs.Edits.Marks.{Mark, avoided, unmarked, is_late}
@@ -27,10 +27,11 @@ use Rattle.cdf_format.specs.Shape.{VariableShape, Shape, shape}
 use Rattle.cdf_format.specs.Sound.{IsSound}
 use Rattle.cdf_format.specs.WellFormed.{Good}
 use Rattle.cdf_index.specs.Adding.{NodeTaken, LeafAdded, node_acts, leaf_acts}
-use Rattle.cdf_puts.proofs.ActsJoined.{ListedStay, acts_joined}
-use Rattle.cdf_puts.proofs.LeafEdit.{index_marks, new_nodes, still_edit, first, second, third, room, nodes, most, need}
+use Rattle.cdf_edits.proofs.Edits.ActsJoined.{ListedStay, acts_joined}
+use Rattle.cdf_edits.proofs.Edits.RecordPlaced.{still_edit}
+use Rattle.cdf_puts.proofs.LeafEdit.{index_marks, new_nodes, first, second, third, room, nodes, most, need}
 use Rattle.cdf_puts.proofs.LeafSplices.{splices}
-use Rattle.cdf_puts.proofs.OnlyTaken.{node_takes}
+use Rattle.cdf_edits.proofs.Edits.OnlyTaken.{OnlyTakes}
 
 abbrev links : List Field
 links = uir_next_uir ∷ uir_prev_uir ∷ []
@@ -53,6 +54,10 @@ index_late Z v ns width = rw (lt-leb (12 + width) 0 (omega arith)) refl
 pub record NodeFollows (b now : List ℕ) (room at : ℕ) : Type 0 where
   pub follow : ActsFollow b now (node_acts room at)
   pub listed : ListedStay b now (node_acts room at)
+
+node_takes : (entries at : ℕ) → OnlyTakes (node_acts entries at)
+node_takes zero at = tt
+node_takes (suc entries) at = tt
 
 node_follows : {b mid now : List ℕ} {late : List Mark} (room at : ℕ) → IsSound b (shape b) → IsSound mid (shape mid) → NodeTaken b mid room at → Edit mid now (shape mid).records (shape mid).records late [] → length now ≡ length mid → is_late late vxr_type ≡ true → unmarked late uir_type ≡ true
     → (shape now).records ≡ (shape mid).records → (shape now).unused ≡ (shape mid).unused → NodeFollows b now room at

@@ -11,7 +11,7 @@ use Rattle.cdf_format.specs.WellFormed.{Good}
 use Rattle.cdf_format.proofs.BytesLemmas.{word-same, size_kept, type_kept, byte-put_inside}
 use Rattle.cdf_edits.specs.Space.Placing.{type_of_body}
 use Rattle.cdf_edits.proofs.Edits.LeafPieces.{place_in, each_of}
-use Rattle.cdf_edits.proofs.Edits.VdrEdited.{StandsAmong}
+use Rattle.cdf_edits.proofs.Edits.StandsAmong.{StandsAmong}
 use Rattle.cdf_edits.proofs.Frame.Meaning.{Kept}
 use Rattle.cdf_index.specs.Adding.{LeafAdded}
 use Rattle.cdf_puts.specs.Steps.{IsBlockBody, BlocksGoOn}

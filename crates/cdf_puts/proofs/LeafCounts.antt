@@ -1,6 +1,6 @@
 -- What a leaf more makes of the nodes and leaves of an index: how often each place stands among them, and how wide the widest node is.
 use Rattle.std.proofs.Common.{◌≡◌, ◌⊎◌, ℕ, zero, suc, ◌+◌, ◌≤◌, max, List, [], ◌∷◌, ◌++◌, Bool, false, ltb, eqb, refl, sym, ap, ◌∙◌, arith, inl, inr}
-use Rattle.std.proofs.lemmas.Bool.{eqb-true, eqb-false, eq-eqb, ne_eqb}
+use Rattle.std.proofs.lemmas.Bool.{eqb-true, eqb-false, ne_eqb}
 use Rattle.std.specs.Prelude.{◌==◌, if◌then◌else◌}
 use Rattle.cdf_edits.specs.Commands.Room.{widest, widest_below}
 use Rattle.cdf_edits.specs.Index.Grown.{reaches, chain_reaches, leads_down, with_block, upto, past, with_both, with_entry, with_leaf, with_lower, room_of_new, new_room, new_room_below}
@@ -181,13 +181,6 @@ node_stays new at index m i = in-times m (nodes_of (with_leaf new at index)) (no
     no_fewer : (t' t x : ℕ) → 1 ≤ t → t' ≡ t + x → 1 ≤ t'
     no_fewer t' t x a b = omega arith
 
--- and a node that is needed stands at `at`
-pub node_added : (new : Leaf) (at : ℕ) (index : Nodes) → 1 ≤ new_room new.first index → In at (nodes_of (with_leaf new at index))
-node_added new at index some = in-times at (nodes_of (with_leaf new at index)) (one_more (times at (nodes_of (with_leaf new at index))) (times at (nodes_of index)) (rw (ne_eqb (new_room new.first index) 0 (λ e. absurd (omega arith)), eq-eqb at at refl) at (nodes_with_leaf new at at index)))
-  where
-    one_more : (t' t : ℕ) → t' ≡ t + 1 → 1 ≤ t'
-    one_more t' t a = omega arith
-
 -- ---- the leaves; the index is in order
 
 places_new : (m : ℕ) (l : Leaf) (xs : List Leaf) → times m (places_of (with_new l xs)) ≡ times m (places_of xs) + times m (l.place ∷ [])
@@ -297,12 +290,6 @@ seven_below no_entry = omega arith
 seven_below (block first last place packed es) = seven_below es
 seven_below (lower first last nodes es) = let r = seven_below es in omega arith
 
-room_of_new_least : (f room : ℕ) (es : Entries) → (room_of_new f room es ≡ 0) ⊎ (7 ≤ room_of_new f room es)
-room_of_new_least f room es = elim (either (ltb (entry_count es) room)) [ inl t ↦ rw t (inl refl) | inr t ↦ rw t (inr (left (entry_count (past f es)))) ]
-  where
-    left : (n : ℕ) → 7 ≤ max 7 n
-    left n = omega arith
-
 room_of_new_most : (f room : ℕ) (es : Entries) → entry_count es ≤ room → room_of_new f room es ≤ max 7 room
 room_of_new_most f room es few = elim (either (ltb (entry_count es) room)) [
   | inl t ↦ rw t (none room)
@@ -332,21 +319,6 @@ mutual
     | inl t ↦ rw t (let a = new_room_below_widest f es r.1 in omega arith)
     | inr t ↦ rw t (let a = new_room_widest f nodes r.0 in omega arith)
   ]
-
-mutual
-  unfolding new_room new_room_below
-
-  pub new_room_least : (f : ℕ) (index : Nodes) → (new_room f index ≡ 0) ⊎ (7 ≤ new_room f index)
-  new_room_least f no_node = inr (omega arith)
-  new_room_least f (node place room es more) = elim (either (chain_reaches f more)) [
-    | inl t ↦ rw t (new_room_least f more)
-    | inr t ↦ elim (either (leads_down f false es)) [ inl d ↦ rw (t, d) (new_room_below_least f es) | inr d ↦ rw (t, d) (room_of_new_least f room es) ]
-  ]
-
-  pub new_room_below_least : (f : ℕ) (es : Entries) → (new_room_below f es ≡ 0) ⊎ (7 ≤ new_room_below f es)
-  new_room_below_least f no_entry = inl refl
-  new_room_below_least f (block first last place packed es) = new_room_below_least f es
-  new_room_below_least f (lower first last nodes es) = elim (either (reaches f es)) [ inl t ↦ rw t (new_room_below_least f es) | inr t ↦ rw t (new_room_least f nodes) ]
 
 widest_both : (es fs : Entries) → widest_below (with_both es fs) ≡ max (widest_below es) (widest_below fs)
 unfolding widest_below

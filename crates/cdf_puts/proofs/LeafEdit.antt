@@ -2,52 +2,43 @@
 use Rattle.std.proofs.Common.{◌≡◌, ℕ, zero, suc, ◌+◌, ◌*◌, ◌<◌, ◌≤◌, List, [], ◌∷◌, ◌++◌, length, true, append-nil, refl, sym, ap, subst, ◌∙◌, arith, inl, inr}
 use Rattle.cdf_model.specs.declared.kinds.Kind.{Kind}
 use Rattle.cdf_model.specs.declared.kinds.Kind.TheVariants.{R, Z}
-use Rattle.cdf_format.specs.Content.{content}
 use Rattle.cdf_format.specs.Fields.{size_at, type_at, eof}
 use Rattle.cdf_format.specs.Index.{Leaf, nodes_of, room_at}
-use Rattle.cdf_format.specs.RecordTypes.{vxr_type, uir_type}
-use Rattle.cdf_format.specs.Shape.{VariableShape, Shape, HasShape, shape}
+use Rattle.cdf_format.specs.RecordTypes.{vxr_type}
+use Rattle.cdf_format.specs.Shape.{VariableShape, shape}
 use Rattle.cdf_format.specs.Sound.{NodeFits, IsSound}
 use Rattle.cdf_format.specs.Tiles.{In}
 use Rattle.cdf_format.specs.WellFormed.{Good}
 use Rattle.cdf_format.proofs.BytesLemmas.{number_kept, size_kept, type_kept}
 use Rattle.cdf_format.specs.Records.{vxr_n_entries}
 use Rattle.cdf_format.proofs.ChainsLemmas.{linkable-type}
-use Rattle.cdf_format.proofs.GoodSound.{good_by_its_shape, good_is_sound, rules_of_good}
+use Rattle.cdf_format.proofs.GoodSound.{good_is_sound}
 use Rattle.cdf_format.proofs.IndexLemmas.{nodes_stand}
 use Rattle.cdf_format.proofs.Members.{In-append_left, In-append_right}
-use Rattle.cdf_format.proofs.SealedRules.{good_long, sealed_kept}
-use Rattle.cdf_format.proofs.ShapeLemmas.{shape_is}
 use Rattle.cdf_format.proofs.TilesLemmas.{tile_lies}
 use Rattle.cdf_edits.specs.Commands.Room.{vxr_bytes}
 use Rattle.cdf_edits.specs.Edits.Edit.{Edit}
-use Rattle.cdf_edits.specs.Edits.Marks.{Mark, whole, Among, Away, Marked, unmarked, taking_marks}
-use Rattle.cdf_edits.specs.Frame.Changed.{Touch, Changed}
+use Rattle.cdf_edits.specs.Edits.Marks.{Mark, Among, Away, Marked, unmarked}
+use Rattle.cdf_edits.specs.Frame.Changed.{Touch}
 use Rattle.cdf_edits.specs.Index.Grown.{new_room}
 use Rattle.cdf_edits.specs.Space.Chains.{type_in}
-use Rattle.cdf_edits.specs.Space.Placement.{with_space}
-use Rattle.cdf_edits.specs.Space.Placing.{Fills}
 use Rattle.cdf_edits.specs.Space.VariableChains.{variables_chain}
 use Rattle.cdf_edits.proofs.Edits.Composing.{changed_edit, edit_then}
-use Rattle.cdf_edits.proofs.Edits.MadeRecord.{place_in, filled_edit, filled_sound, filled_content, filled_size, end_now}
+use Rattle.cdf_edits.proofs.Edits.MadeRecord.{place_in, filled_size}
 use Rattle.cdf_edits.proofs.Edits.MarkLemmas.{unmarked-away, Away-append}
 use Rattle.cdf_edits.proofs.Edits.RecordFrame.{kept_away}
 use Rattle.cdf_edits.proofs.Edits.StepEdits.{some_bytes}
 use Rattle.cdf_edits.proofs.Edits.VariableCopied.{node_behind}
 use Rattle.cdf_edits.proofs.Edits.VariableFrame.{Each-map}
-use Rattle.cdf_edits.proofs.Edits.VdrEdited.{StandsAmong, through, tile, typed, long, has, fits, behind_in}
+use Rattle.cdf_edits.proofs.Edits.StandsAmong.{StandsAmong, through, tile, typed, long, has, fits, behind_in}
 use Rattle.cdf_edits.proofs.Frame.Meaning.{Kept}
 use Rattle.cdf_edits.proofs.Frame.OwnerAlone.{Each-in}
-use Rattle.cdf_edits.proofs.Rules.WithoutLinks.{eof_by_rules}
+use Rattle.cdf_edits.proofs.Edits.RecordPlaced.{placing_marks, links_mark, Grows, NodeStands, grows_not, placed_grows}
 use Rattle.cdf_index.specs.Adding.{NodeTaken, IndexTouch, LeafAdded}
 
 -- ---- marks
 
--- a record of so many bytes is taken, and written with its type
-abbrev pub placing_marks : List ℕ → ℕ → ℕ → List Mark
-placing_marks unused place need = taking_marks unused place need ++ whole uir_type place need ∷ []
-
--- likewise a node, where it has room for one entry at least
+-- a node is taken and written, where it has room for one entry at least
 abbrev pub node_marks : List ℕ → ℕ → ℕ → List Mark
 node_marks unused zero at = []
 node_marks unused (suc room) at = placing_marks unused at (vxr_bytes (suc room))
@@ -56,10 +47,7 @@ abbrev pub new_nodes : ℕ → ℕ → List ℕ
 new_nodes zero at = []
 new_nodes (suc room) at = at ∷ []
 
--- VXRhead and VXRtail of a descriptor, and nodes from the link to the next one on
-abbrev pub links_mark : Kind → ℕ → Mark
-links_mark kind v = record { type = type_in (variables_chain kind); tiles = Among (v ∷ []); place = 28; width = 16 }
-
+-- nodes, from the link to the next one on
 abbrev pub nodes_mark : List ℕ → ℕ → Mark
 nodes_mark nodes most = record { type = vxr_type; tiles = Among nodes; place = 12; width = most }
 
@@ -72,46 +60,11 @@ leaf_marks kind v nodes unused place need unused' room at most = (placing_marks 
 
 -- ---- a record is placed, or nothing is done
 
--- from an image to one with more records, which is sound, has its content, and ends where it says
-pub record Grows (b now : List ℕ) (marks : List Mark) (reborn : List ℕ) : Type 0 where
-  pub edit : Edit b now (shape b).records (shape now).records marks reborn
-  pub sound : IsSound now (shape now)
-  pub same_shape : shape now ≡ with_space (shape b) (shape now).records (shape now).unused
-  pub content_stays : content now ≡ content b
-  pub end_is : eof now (shape now).gdr ≡ length now
-
-nothing_changed : (b : List ℕ) → Changed b b []
-nothing_changed b = record { longer = omega arith; same = λ place l o. refl }
-
-pub still_edit : {b : List ℕ} {s : Shape} → HasShape b s → Edit b b s.records s.records [] []
-still_edit {b = b} {s = s} h = changed_edit b b s.records [] [] [] h.tiled refl (nothing_changed b) tt (some_bytes b s h)
-
-pub grows_not : {b : List ℕ} → IsSound b (shape b) → eof b (shape b).gdr ≡ length b → Grows b b [] []
-grows_not {b = b} sound end = record { edit = still_edit sound.has_shape; sound = sound; same_shape = refl; content_stays = refl; end_is = end }
-
-module _ {b taken now : List ℕ} {need place type : ℕ} (sound : IsSound b (shape b)) (fills : Fills b taken now (shape b) (shape now).records (shape now).unused need place type) where
-  placed_shape : shape now ≡ with_space (shape b) (shape now).records (shape now).unused
-  placed_shape = shape_is now _ (filled_sound sound fills).has_shape
-
-  pub placed_grows : Grows b now (placing_marks (shape b).unused place need) (place ∷ [])
-  placed_grows = record {
-    edit = filled_edit sound fills;
-    sound = subst (IsSound now) (sym placed_shape) (filled_sound sound fills);
-    same_shape = placed_shape;
-    content_stays = filled_content sound fills;
-    end_is = ap (λ (s : Shape). eof now s.gdr) placed_shape ∙ end_now sound fills (still_edit (filled_sound sound fills).has_shape) refl refl;
-  }
-
 pub node_grows : {b now : List ℕ} (room at : ℕ) → IsSound b (shape b) → eof b (shape b).gdr ≡ length b → NodeTaken b now room at → Grows b now (node_marks (shape b).unused room at) (new_nodes room at)
 node_grows {b = b} zero at sound end taken = subst (λ (x : List ℕ). Grows b x [] []) (sym taken.0) (grows_not sound end)
 node_grows (suc room) at sound end taken = placed_grows sound taken.fills
 
 -- ---- the new node
-
-pub record NodeStands (now : List ℕ) (room at : ℕ) : Type 0 where
-  pub inside : In at (shape now).records
-  pub typed : type_at now at ≡ vxr_type
-  pub size_is : size_at now at ≡ vxr_bytes room
 
 pub node_stands : {b now : List ℕ} (room at : ℕ) → IsSound b (shape b) → NodeTaken b now room at → 0 < room → NodeStands now room at
 node_stands zero at sound taken some = absurd (omega arith)
@@ -163,9 +116,6 @@ module _ {b now : List ℕ} {kind : Kind} {before : List VariableShape} {own : V
 
   sound : IsSound b (shape b)
   sound = good_is_sound b good
-
-  end_before : eof b (shape b).gdr ≡ length b
-  end_before = eof_by_rules b (shape b) sound (sealed_kept b (good_long b (shape b) (good_by_its_shape b good)) (rules_of_good b good)).0
 
   -- the block is placed, and then the node
   pub first : Grows b w.filled (placing_marks (shape b).unused new.place need) (new.place ∷ [])

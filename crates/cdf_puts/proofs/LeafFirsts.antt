@@ -1,5 +1,5 @@
 -- The Firsts in an index with a leaf more, and the least of them past a record.
-use Rattle.std.proofs.Common.{◌≡◌, ◌⊎◌, ◌↔◌, ℕ, suc, ◌+◌, ◌<◌, ◌≤◌, max, min, List, [], ◌∷◌, ◌++◌, Bool, true, false, ltb, leb, eqb, refl, sym, ap, ◌∙◌, arith, inl, inr}
+use Rattle.std.proofs.Common.{◌≡◌, ◌⊎◌, ℕ, suc, ◌+◌, ◌<◌, ◌≤◌, max, min, List, [], ◌∷◌, ◌++◌, Bool, true, false, ltb, leb, eqb, refl, sym, ap, ◌∙◌, arith, inl, inr}
 use Rattle.std.proofs.lemmas.Bool.{eqb-true, leb-false, ltb-true, lt-ltb}
 use Rattle.std.specs.List.{filter, fold}
 use Rattle.std.specs.Prelude.{nat_lt}
@@ -14,7 +14,7 @@ use Rattle.cdf_format.proofs.Members.{either}
 use Rattle.cdf_index.specs.Order.{InOrder, AreInOrder, past_entries}
 use Rattle.cdf_index.proofs.Saying.{front, front_past, upto_is}
 use Rattle.cdf_puts.proofs.LeafCounts.{in-times}
-use Rattle.cdf_puts.proofs.LeafRules.{least_below, none_behind}
+use Rattle.cdf_index.proofs.LeafRules.{least_below, none_behind}
 
 -- ---- how often a number is a First
 
@@ -165,12 +165,6 @@ first_stays new at low high index o f i = in-times f (firsts_of (with_leaf new a
     no_fewer : (t' t x : ℕ) → 1 ≤ t → t' ≡ t + x → 1 ≤ t'
     no_fewer t' t x a b = omega arith
 
-pub first_added : (new : Leaf) (at low high : ℕ) (index : Nodes) → InOrder low high index → In new.first (firsts_of (with_leaf new at index))
-first_added new at low high index o = in-times new.first (firsts_of (with_leaf new at index)) (one_more (times new.first (firsts_of (with_leaf new at index))) (times new.first (firsts_of index)) (times new.first (new.first ∷ [])) (times-in new.first (new.first ∷ []) (inl refl)) (times_first new at new.first low high index o))
-  where
-    one_more : (t' t x : ℕ) → 1 ≤ x → t' ≡ t + x → 1 ≤ t'
-    one_more t' t x a b = omega arith
-
 pub first_was_there : (new : Leaf) (at low high : ℕ) (index : Nodes) → InOrder low high index → (f : ℕ) → In f (firsts_of (with_leaf new at index)) → (f ≡ new.first) ⊎ In f (firsts_of index)
 first_was_there new at low high index o f i = elim (either (eqb f new.first)) [
   | inl e ↦ inl (eqb-true f new.first e)
@@ -179,9 +173,6 @@ first_was_there new at low high index o f i = elim (either (eqb f new.first)) [
   where
     as_many : (t' t : ℕ) → 1 ≤ t' → t' ≡ t + 0 → 1 ≤ t
     as_many t' t a b = omega arith
-
-pub firsts_with_leaf : (new : Leaf) (at low high : ℕ) (index : Nodes) → InOrder low high index → (f : ℕ) → In f (firsts_of (with_leaf new at index)) ↔ ((f ≡ new.first) ⊎ In f (firsts_of index))
-firsts_with_leaf new at low high index o f = (first_was_there new at low high index o f, λ i. elim i [ inl e ↦ rw e (first_added new at low high index o) | inr j ↦ first_stays new at low high index o f j ])
 
 least_of : (n best x : ℕ) (xs : List ℕ) → In x xs → n < x → fold min best (filter (nat_lt n) xs) ≤ x
 least_of n best x [] i g = absurd i

@@ -1,71 +1,55 @@
 -- A leaf that is added to the index of a variable leads from one good image to another.
-use Rattle.std.proofs.Common.{◌≡◌, ◌≢◌, ℕ, ℤ, pos, negsuc, zero, suc, ◌+◌, ◌-◌, ◌*◌, ◌≤◌, max, List, [], ◌∷◌, ◌++◌, length, map, Bool, true, false, not, bytes_eq, true≢false, refl, sym, ap, subst, ◌∙◌, arith, inl, inr}
+use Rattle.std.proofs.Common.{◌≡◌, ◌≢◌, ℕ, ℤ, pos, negsuc, zero, suc, ◌+◌, ◌-◌, ◌*◌, ◌≤◌, max, List, [], ◌∷◌, ◌++◌, length, Bool, true, false, refl, sym, ap, subst, ◌∙◌, arith, inl, inr}
 use Rattle.std.proofs.lemmas.Bool.{ne_eqb}
-use Rattle.std.proofs.lemmas.List.{length-map, map-append, set_at}
 use Rattle.std.specs.Int.{w32, cast_signed}
 use Rattle.std.specs.List.{flat_map}
-use Rattle.std.specs.Prelude.{◌==◌, ◌&&◌, ◌||◌, if◌then◌else◌, nat_le, slice_set}
+use Rattle.std.specs.Prelude.{◌==◌, ◌&&◌, ◌||◌, if◌then◌else◌, nat_le}
 use Rattle.cdf_model.specs.declared.kinds.Kind.{Kind}
-use Rattle.cdf_model.specs.declared.kinds.Kind.TheVariants.{R, Z}
-use Rattle.cdf_model.specs.DataSet.{DataSet, Variable}
 use Rattle.cdf_model.specs.Limits.{image_limit, signed_limit, record_number_limit}
-use Rattle.cdf_model.specs.Names.{variables_of, with_variables}
-use Rattle.cdf_format.specs.AttributeRules.{has_name}
 use Rattle.cdf_format.specs.Chains.{is_a, is_in}
-use Rattle.cdf_format.specs.Content.{content, variable_of}
-use Rattle.cdf_format.specs.Fields.{with_sign, number, integer4, name_in, has_bit, size_at, type_at, gdr_offset, holds}
+use Rattle.cdf_format.specs.Fields.{with_sign, number, integer4, size_at, type_at, holds}
 use Rattle.cdf_format.specs.Index.{Nodes, no_node, node, Entries, no_entry, block, lower, Leaf, nodes_of, lower_nodes, leaves_of, room_at}
 use Rattle.cdf_format.specs.IndexRules.{has_room, is_block, nodes_rows, used_rows, vvr_rows, cvvr_rows, leaf_rows, index_rows, end_of}
 use Rattle.cdf_format.specs.NotRead.{read_types}
 use Rattle.cdf_format.specs.Owners.{OwnedOnce, variable_records, times, owned}
-use Rattle.cdf_format.specs.Records.{Field, vdr_max_rec, vdr_name, vxr_n_used_entries, vxr_entries, gdr_r_max_rec}
-use Rattle.cdf_format.specs.RecordTypes.{gdr_type, vxr_type, vvr_type, cvvr_type, uir_type}
+use Rattle.cdf_format.specs.Records.{vdr_max_rec, vxr_n_used_entries, vxr_entries, gdr_r_max_rec}
+use Rattle.cdf_format.specs.RecordTypes.{vxr_type, vvr_type, cvvr_type, uir_type}
 use Rattle.cdf_format.specs.Rules.{Row, Hold, asked}
-use Rattle.cdf_format.specs.Shape.{VariableShape, Shape, vdrs, is_compressed, Each, HasShape, shape}
+use Rattle.cdf_format.specs.Shape.{VariableShape, Shape, is_compressed, Each, HasShape, shape}
 use Rattle.cdf_format.specs.Sound.{NodeFits, IsSound}
 use Rattle.cdf_format.specs.Tiles.{In, Distinct}
 use Rattle.cdf_format.specs.VariableFields.{number_before, record_bytes, plain_size}
-use Rattle.cdf_format.specs.VariableRules.{vdr_end, is_max_rec}
+use Rattle.cdf_format.specs.VariableRules.{is_max_rec}
 use Rattle.cdf_format.specs.WellFormed.{Good}
 use Rattle.cdf_format.proofs.BytesLemmas.{Same-part, word_kept, size_kept, type_kept}
 use Rattle.cdf_format.proofs.ChainsLemmas.{is_a-from, is_a-type, linkable-in}
 use Rattle.cdf_format.proofs.GoodByShape.{IsGoodByShape}
-use Rattle.cdf_format.proofs.GoodSound.{good_by_its_shape, good_is_sound, rules_of_good}
+use Rattle.cdf_format.proofs.GoodSound.{good_by_its_shape, good_is_sound}
 use Rattle.cdf_format.proofs.IndexLemmas.{nodes_stand}
 use Rattle.cdf_format.proofs.Members.{either, In-append, true-is_in, false-is_in}
 use Rattle.cdf_format.proofs.Owning.{times-none, times-once}
 use Rattle.cdf_format.proofs.RowLemmas.{Hold-append, Hold-split}
-use Rattle.cdf_format.proofs.SealedRules.{good_long, sealed_kept}
-use Rattle.cdf_format.proofs.ShapeLemmas.{shape_is, content_is}
 use Rattle.cdf_format.proofs.Tests.{both, le_of, of_le}
 use Rattle.cdf_format.proofs.TilesLemmas.{tile_lies}
-use Rattle.cdf_edits.specs.Commands.Allowances.{AllKeep, shapes_of}
+use Rattle.cdf_edits.specs.Commands.Allowances.{AllKeep}
 use Rattle.cdf_edits.specs.Commands.GreatestRecord.{r_max_rec}
 use Rattle.cdf_edits.specs.Commands.Puts.{put_changes}
 use Rattle.cdf_edits.specs.Space.Acts.{Act, ActsFollow}
 use Rattle.cdf_edits.specs.Index.Blocks.{firsts_of}
-use Rattle.cdf_edits.specs.Index.Grown.{new_room}
+use Rattle.cdf_edits.specs.Index.Grown.{with_leaf, new_room}
 use Rattle.cdf_edits.proofs.Edits.LeafPieces.{IsOneOf, place_in}
 use Rattle.cdf_edits.proofs.Edits.LeafRecords.{count_is}
 use Rattle.cdf_edits.proofs.Edits.PlainLeaves.{plain_leaf, own_rules}
-use Rattle.cdf_edits.proofs.Edits.VdrEdited.{StandsAmong, fits, behind_in}
-use Rattle.cdf_edits.specs.Edits.Marks.{avoided}
-use Rattle.cdf_edits.specs.Space.Chains.{count_of, type_in}
+use Rattle.cdf_edits.proofs.Edits.StandsAmong.{StandsAmong, behind_in}
 use Rattle.cdf_edits.specs.Space.Placing.{type_of_body}
-use Rattle.cdf_edits.specs.Space.VariableChains.{variables_chain}
 use Rattle.cdf_edits.proofs.Edits.InRecords.{places_of}
-use Rattle.cdf_edits.proofs.Edits.MarkLemmas.{the_one}
 use Rattle.cdf_edits.proofs.Edits.OwnedOnce.{used_times, fresh_unowned, owned_once_if}
-use Rattle.cdf_edits.proofs.Edits.RecordFrame.{index_records, gdr_field, gdr_part, gdr_place}
+use Rattle.cdf_edits.proofs.Edits.RecordFrame.{index_records, gdr_part, gdr_place}
 use Rattle.cdf_edits.proofs.Edits.StepEdits.{gdr_long}
 use Rattle.cdf_edits.proofs.Edits.VariableCopied.{block_behind}
-use Rattle.cdf_edits.proofs.Edits.VariableFrame.{IsRuled}
-use Rattle.cdf_edits.proofs.Edits.VariableKinds.{other_kind, variables_of_are, with_shapes, vdrs_rows, in_gdr, counted_before, vdrs_rows_kept, spliced_times}
-use Rattle.cdf_edits.proofs.Edits.VariableNames.{own_names_apart, apart_if}
-use Rattle.cdf_edits.proofs.Edits.VariableSplice.{VariableSplices, OwnRules, shape_now, content_now, good_image_if}
+use Rattle.cdf_edits.proofs.Edits.VariableKinds.{with_shapes, spliced_times}
 use Rattle.cdf_edits.proofs.Frame.OwnersApart.{times-append, times-in}
-use Rattle.cdf_edits.proofs.Frame.VdrAlike.{pad_field_alike, value_alike, record_alike}
-use Rattle.cdf_edits.proofs.Rules.OfVdrCopied.{variable_rules_alike}
+use Rattle.cdf_edits.proofs.Frame.VdrAlike.{record_alike}
 use Rattle.cdf_edits.proofs.Space.UsedRecords.{apart}
 use Rattle.cdf_edits.proofs.Frame.OwnerAlone.{Each-in}
 use Rattle.cdf_index.specs.Adding.{Counts, LeafAdded}
@@ -75,8 +59,12 @@ use Rattle.cdf_puts.specs.Steps.{IsVacant, IsBlockBody}
 use Rattle.cdf_puts.proofs.LeafCounts.{nodes_with_leaf, places_with_leaf, leaf_was_there}
 use Rattle.cdf_puts.proofs.LeafBlocks.{plain_body, block_type, block_size, size_needed}
 use Rattle.cdf_puts.proofs.LeafEdit.{new_nodes, marks, second, edit}
-use Rattle.cdf_puts.proofs.LeafRules.{before_limit, index_order, index_rules_with_leaf}
-use Rattle.cdf_puts.proofs.LeafSplices.{with_new, splices, file, tests, vdr_alike, vdr_size, vdr_type, part, part_of, flags_same, packed_same, name_same, block_kept, block_in, new_apart, new_fresh, type_now, end_now, same_vdrs, nums_same}
+use Rattle.cdf_index.proofs.LeafRules.{before_limit, index_order, index_rules_with_leaf}
+use Rattle.cdf_edits.proofs.Edits.OwnEdited.{OwnEdit}
+use Rattle.cdf_edits.proofs.Edits.OwnEdited as of_own
+use Rattle.cdf_edits.proofs.Edits.IndexEdited.{IndexEdit, vdr_alike, vdr_size, vdr_type, good_now as good_if_ruled}
+use Rattle.cdf_edits.proofs.Edits.IndexEdited as of_index
+use Rattle.cdf_puts.proofs.LeafSplices.{with_new, index_edit, own_edit, file, tests, part_of, block_kept, block_in, new_apart, new_fresh, type_now, end_now}
 
 -- ---- the rooms of nodes, by the rules
 
@@ -128,9 +116,6 @@ module _ {b now : List ℕ} {kind : Kind} {before : List VariableShape} {own : V
   abbrev v : ℕ
   v = own.vdr
 
-  abbrev type : ℕ
-  type = type_in (variables_chain kind)
-
   abbrev mine : VariableShape
   mine = with_new good among w
 
@@ -154,9 +139,6 @@ module _ {b now : List ℕ} {kind : Kind} {before : List VariableShape} {own : V
 
   plain : type_of_body body ≡ vvr_type
   plain = plain_body body records says
-
-  own_now : VariableSplices b now s kind records' (shape w.roomy).unused (marks good among w) reborn before (own ∷ []) (mine ∷ []) after
-  own_now = splices good among w plain
 
   order : InOrder 0 record_number_limit own.index
   order = index_order b s.records v own.index (own_rules good among).1
@@ -184,8 +166,14 @@ module _ {b now : List ℕ} {kind : Kind} {before : List VariableShape} {own : V
 
   -- ---- the blocks
 
+  abbrev x : IndexEdit b now kind own (with_leaf new at own.index) records' (shape w.roomy).unused (marks good among w) reborn
+  x = index_edit good among w plain
+
+  abbrev y : OwnEdit b now kind own (with_leaf new at own.index) records' (shape w.roomy).unused (marks good among w) reborn
+  y = own_edit good among w plain
+
   same_bytes : record_bytes now v ≡ record_bytes b v
-  same_bytes = record_alike (file good among w) (vdr_alike good among w)
+  same_bytes = record_alike (file good among w) (vdr_alike good among x)
 
   block_rows : (l : Leaf) → In l.place records' → type_at now l.place ≡ vvr_type → l.first ≤ l.last → l.last ≤ record_number_limit → 12 + (l.last + 1 - l.first) * record_bytes b v ≤ size_at now l.place → (is_block now records' l.place ≡ true) × Hold (leaf_rows now records' v l)
   block_rows l stands typed ordered small fit =
@@ -225,31 +213,10 @@ module _ {b now : List ℕ} {kind : Kind} {before : List VariableShape} {own : V
   index_ruled : Hold (index_rows now records' v mine.index)
   index_ruled = index_rules_with_leaf b now s.records records' v new at own.index (own_rules good among).1 vacant.ordered vacant.uncovered vacant.before_next node_room each_leaf
 
-  -- ---- its own rules
-
-  own_before : IsRuled b s.records own
-  own_before = own_rules good among
-
-  has_name_now : has_name now v vdr_name ≡ true
-  has_name_now = ap (λ (x : List ℕ). not (length x == 0)) (name_same good among w) ∙ own_before.0.0
-
-  end_same : vdr_end now v ≡ vdr_end b v
-  end_same =
-      let pad = pad_field_alike (file good among w) (vdr_alike good among w) in
-      let flags = flags_same good among w in
-      let value = value_alike (file good among w) (vdr_alike good among w) in
-      λ i. (pad i).place + (if has_bit (flags i) 1 then value i else 0)
+  -- ---- its MaxRec
 
   max_same : number now v vdr_max_rec ≡ number b v vdr_max_rec
   max_same = word_kept b now (v + 24) (v + 28) (part_of good among w 24 28 (inl (omega arith)) (omega arith)) (v + 24) 4 (omega arith) (omega arith)
-
-  ruled : IsRuled now records' mine
-  ruled = (
-    variable_rules_alike (file good among w) (vdr_alike good among w) (subst (λ (n : ℕ). size_at b v ≤ n) (sym (vdr_size good among w)) (omega arith)) s.records records' [] [] own_before.0 has_name_now refl
-        (subst (λ (n : ℕ). vdr_end now v ≤ n) (sym (vdr_size good among w)) (subst (λ (n : ℕ). n ≤ size_at b v) (sym end_same) (fits good among).0)) (packed_same good among w)
-        (λ c is. absurd (true≢false (sym c ∙ loose))) (ap is_max_rec max_same ∙ own_before.0.1.1.1.1.1.1.1.0),
-    index_ruled,
-  )
 
   -- ---- the owners
 
@@ -293,66 +260,11 @@ module _ {b now : List ℕ} {kind : Kind} {before : List VariableShape} {own : V
 
   -- ---- the rules of the image
 
-  gdr_same : (g : Field) → avoided (marks good among w) gdr_type g.place (g.place + g.width) ≡ true → g.place + g.width ≤ 84 → number now s.gdr g ≡ number b s.gdr g
-  gdr_same g clear l = gdr_field sound (edit good among w) (tests good among w).file_clear g clear l
-
-  count_same : number now (gdr_offset now) (count_of (variables_chain kind)) ≡ number b (gdr_offset b) (count_of (variables_chain kind))
-  count_same =
-      let g = count_of (variables_chain kind) in
-      ap (λ (x : ℕ). number now x g) (gdr_place sound (edit good among w) (tests good among w).file_clear) ∙ gdr_same g (tests good among w).count_clear (in_gdr kind).1 ∙ sym (ap (λ (x : ℕ). number b x g) h.gdr_is)
-
-  counted : Hold (vdrs_rows kind now (vdrs (before ++ mine ∷ after)))
-  counted =
-      let same = vdrs_rows_kept kind b now (vdrs (shapes_of s kind)) (gdr_place sound (edit good among w) (tests good among w).file_clear ∙ sym h.gdr_is) count_same (nums_same good among w) in
-      subst (λ (ms : List ℕ). Hold (vdrs_rows kind now ms)) (sym (same_vdrs good among w)) (subst Hold (sym same) (counted_before image kind))
-
   reborn_read : (m : ℕ) → In m reborn → is_in (type_at now m) read_types ≡ true
-  reborn_read m i = elim (type_now good among w plain m i) [ inl x ↦ ap (λ (t : ℕ). is_in t read_types) x.1 | inr x ↦ ap (λ (t : ℕ). is_in t read_types) x.2 ]
-
-  rules : OwnRules sound own_now
-  rules = record {
-    counted = counted;
-    apart = apart_if sound own_now image (λ x y i j differ. absurd (differ (the_one v x i ∙ sym (the_one v y j))))
-        (λ x y i beside. subst (λ (z : ℕ). bytes_eq (name_in now z vdr_name) (name_in b y vdr_name) ≡ false) (sym (the_one v x i)) (subst (λ (n : List ℕ). bytes_eq n (name_in b y vdr_name) ≡ false) (sym (name_same good among w)) (own_names_apart sound own_now image v y (inl refl) beside)));
-    own_ruled = (ruled, tt);
-    read = reborn_read;
-    owned = owned_now;
-  }
+  reborn_read m i = elim (type_now good among w plain m i) [ inl z ↦ ap (λ (t : ℕ). is_in t read_types) z.1 | inr z ↦ ap (λ (t : ℕ). is_in t read_types) z.2 ]
 
   pub good_now : Good now
-  good_now = good_image_if sound own_now (sealed_kept b (good_long b s image) (rules_of_good b good)).0 image rules (end_now good among w) short
-
-  -- ---- the shape and the content
-
-  pub same_shape : shape now ≡ shape_now_is
-  same_shape = shape_is now _ (shape_now sound own_now)
-
-  pub records_are : (shape now).records ≡ records'
-  records_are = ap (λ (x : Shape). x.records) same_shape
-
-  pub unused_are : (shape now).unused ≡ (shape w.roomy).unused
-  unused_are = ap (λ (x : Shape). x.unused) same_shape
-
-  pub among_now : StandsAmong now kind before mine after
-  among_now = record { was = ap (λ (x : Shape). shapes_of x kind) same_shape ∙ by kind }
-    where
-      by : (k : Kind) → shapes_of (with_shapes s k records' (shape w.roomy).unused (before ++ mine ∷ after)) k ≡ before ++ mine ∷ after
-      by R = refl
-      by Z = refl
-
-  pub others_are : shapes_of (shape now) (other_kind kind) ≡ shapes_of s (other_kind kind)
-  others_are = ap (λ (x : Shape). shapes_of x (other_kind kind)) same_shape ∙ by kind
-    where
-      by : (k : Kind) → shapes_of (with_shapes s k records' (shape w.roomy).unused (before ++ mine ∷ after)) (other_kind k) ≡ shapes_of s (other_kind k)
-      by R = refl
-      by Z = refl
-
-  pub content_replaced : content now ≡ with_variables (content b) kind (slice_set (variables_of (content b) kind) (length before) (variable_of now mine))
-  content_replaced =
-      let split : variables_of (content b) kind ≡ map (variable_of b) before ++ variable_of b own ∷ map (variable_of b) after =
-      ap (λ (d : DataSet). variables_of d kind) (content_is b s h) ∙ variables_of_are b s kind ∙ ap (map (variable_of b)) among.was ∙ map-append (variable_of b) before (own ∷ after) in
-      let set = ap (λ (vs : List Variable). slice_set vs (length before) (variable_of now mine)) split ∙ set_at (map (variable_of b) before) (variable_of b own) (map (variable_of b) after) (variable_of now mine) (length before) (length-map before (variable_of b)) in
-      content_now sound own_now ∙ ap (with_variables (content b) kind) (sym set)
+  good_now = good_if_ruled good among x index_ruled (ap is_max_rec max_same ∙ (own_rules good among).0.1.1.1.1.1.1.1.0) reborn_read owned_now (end_now good among w) short
 
   -- ---- how it goes on
 
@@ -374,27 +286,27 @@ module _ {b now : List ℕ} {kind : Kind} {before : List VariableShape} {own : V
 
   descriptor_stays : DescriptorStays b now v
   descriptor_stays = record {
-    size_is = vdr_size good among w;
-    type_is = vdr_type good among w;
-    front = Same-part b now (v + 0) (v + 24) v (v + 24) (part_of good among w 0 24 (inl (omega arith)) (omega arith)) (omega arith) (omega arith);
-    behind = part good among w 44 (size_at b v) (inr (omega arith)) (omega arith);
+    size_is = vdr_size good among x;
+    type_is = vdr_type good among x;
+    front = Same-part b now (v + 0) (v + 24) v (v + 24) (of_index.part_of good among x 0 24 (inl (omega arith)) (omega arith)) (omega arith) (omega arith);
+    behind = of_index.part good among x 44 (size_at b v) (inr (omega arith)) (omega arith);
   }
 
   -- with acts that follow, and that keep what a put keeps
   pub leaf_goes_on : {r : ℕ} {acts : List Act} → ActsFollow b now acts → AllKeep b now (put_changes b s (found_in b kind before own) r) acts (owned b s) → GoesOn b now kind before own mine after r acts
   leaf_goes_on follow keep = record {
     good = good_now;
-    among = among_now;
+    among = of_own.among_now good among y;
     vdr_is = refl;
     cpr_is = refl;
     own_stay = still_own;
-    gdr_is = ap (λ (x : Shape). x.gdr) same_shape;
-    attributes_are = ap (λ (x : Shape). x.attributes) same_shape;
-    others_are = others_are;
+    gdr_is = ap (λ (x : Shape). x.gdr) (of_own.same_shape good among y);
+    attributes_are = ap (λ (x : Shape). x.attributes) (of_own.same_shape good among y);
+    others_are = of_own.others_are good among y;
     descriptor = descriptor_stays;
     file = file good among w;
     r_max_rec_is = r_max_rec_same;
-    content_is = content_replaced;
+    content_is = of_own.content_replaced good among y;
     longer = (file good among w).longer;
     follow = follow;
     keep = keep;

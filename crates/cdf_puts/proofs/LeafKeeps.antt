@@ -15,7 +15,7 @@ use Rattle.cdf_edits.proofs.Edits.VariableCopied.{block_behind, cpr_behind}
 use Rattle.cdf_edits.proofs.Edits.VariableFrame.{variables_in}
 use Rattle.cdf_edits.proofs.Edits.VariableKinds.{kind_ours, other_kind}
 use Rattle.cdf_edits.proofs.Edits.VariableSplice.{attributes_kept}
-use Rattle.cdf_edits.proofs.Edits.VdrEdited.{StandsAmong, after_ours, behind_in, fits, ours, tile}
+use Rattle.cdf_edits.proofs.Edits.StandsAmong.{StandsAmong, after_ours, behind_in, fits, ours, tile}
 use Rattle.cdf_edits.proofs.Frame.Meaning.{Kept}
 use Rattle.cdf_edits.proofs.Frame.OwnerAlone.{Each-in}
 use Rattle.cdf_edits.proofs.Frame.OwnersApart.{all_variable_records}
@@ -45,9 +45,10 @@ use Rattle.cdf_format.specs.WellFormed.{Good}
 use Rattle.cdf_index.specs.Adding.{NodeTaken, LeafAdded, leaf_acts, node_acts}
 use Rattle.cdf_puts.specs.Going.{found_in}
 use Rattle.cdf_puts.proofs.LeafActs.{placed_still, records_are}
-use Rattle.cdf_puts.proofs.LeafEdit.{placing_marks, node_marks, index_marks, leaf_marks, new_nodes, still_edit, edit, first, second, marks, most, need, nodes, reborn, room}
+use Rattle.cdf_edits.proofs.Edits.RecordPlaced.{placing_marks, still_edit}
+use Rattle.cdf_puts.proofs.LeafEdit.{node_marks, index_marks, leaf_marks, new_nodes, edit, first, second, marks, most, need, nodes, reborn, room}
 use Rattle.cdf_puts.proofs.LeafSplices.{LeafTests, leaf_tests, beside, block_kept, only, part, part_of, splices, vdr_size}
-use Rattle.cdf_puts.proofs.OnlyTaken.{none_of_both}
+use Rattle.cdf_edits.proofs.Edits.OnlyTaken.{none_of_both}
 use Rattle.cdf_puts.proofs.OwnAllowed.{own_may, descriptor_allowed, node_allowed}
 use Rattle.cdf_puts.proofs.PutKeeps.{PutKeeps, all_kept, kept_place}
 
@@ -134,7 +135,7 @@ module _ {b now : List ℕ} {kind : Kind} {before : List VariableShape} {own : V
   away_stays : (xs : List ℕ) → ((m : ℕ) → In m xs → In m (all_variable_records (shape b))) → ((m : ℕ) → In m (variable_records own) → In m xs → ⊥) → (m : ℕ) → In m xs → Stays b now m []
   away_stays xs sub out m i =
       let inside = variables_in b (shape b) sound m (sub m i) in
-      stays m inside (kept_away e m (type_at b m) inside refl (beside good among w xs sub out m i)) []
+      stays m inside (kept_away e m (type_at b m) inside refl (beside good among w m (sub m i) (λ j. out m j i))) []
 
   -- ---- the descriptor
 

@@ -1,14 +1,12 @@
 -- An index with a leaf more, but for where its blocks and its new nodes stand; and its top chain.
-use Rattle.std.proofs.Common.{◌≡◌, ◌⊎◌, ℕ, zero, suc, ◌<◌, ◌≤◌, max, List, [], ◌∷◌, ◌++◌, length, Bool, true, false, None, ltb, leb, eqb, refl, sym, ap, subst, ◌∙◌, arith, inl, inr}
+use Rattle.std.proofs.Common.{◌≡◌, ◌⊎◌, ℕ, zero, suc, ◌<◌, ◌≤◌, max, List, [], ◌∷◌, ◌++◌, length, Bool, true, false, ltb, leb, eqb, refl, sym, ap, subst, ◌∙◌, arith, inl, inr}
 use Rattle.std.proofs.lemmas.Bool.{eq-eqb, ne_eqb, lt-ltb}
 use Rattle.std.proofs.lemmas.List.Folds.{list_any-append}
-use Rattle.std.specs.List.{last_or, list_any}
-use Rattle.std.specs.Option.{unwrap_or}
+use Rattle.std.specs.List.{list_any}
 use Rattle.std.specs.Prelude.{bytes_eq, ◌&&◌, ◌||◌, if◌then◌else◌}
-use Rattle.cdf_edits.specs.Index.Blocks.{Range, firsts_of, entry_firsts}
+use Rattle.cdf_edits.specs.Index.Blocks.{Range}
 use Rattle.cdf_edits.specs.Index.Grown.{reaches, chain_reaches, leads_down, with_block, upto, past, with_both, with_entry, with_leaf, with_lower, room_of_new, new_room, new_room_below, with_ranges, indexes_with, outline, entries_outline}
-use Rattle.cdf_edits.specs.Index.Written.{uses_entry, uses_entry_below, is_taken_at, top_chain, last_node, top_stays}
-use Rattle.cdf_edits.specs.Space.Acts.{Act}
+use Rattle.cdf_edits.specs.Index.Written.{uses_entry, uses_entry_below, top_chain}
 use Rattle.cdf_format.specs.Chains.{is_in}
 use Rattle.cdf_format.specs.Index.{Nodes, no_node, node, Entries, no_entry, block, lower, Leaf, leaf, nodes_of, lower_nodes, entry_count, used_count}
 use Rattle.cdf_format.specs.IndexOf.{HasNodes, Names}
@@ -116,50 +114,6 @@ module _ (news : List ℕ) where
 
   -- ---- how much room a new node has, Firsts, and which entries are used
 
-  of_new : (f room : ℕ) (es : Entries) → room_of_new f room (entries_outline news es) ≡ room_of_new f room es
-  of_new f room es =
-      let c = count_outline es in
-      let p = past_outline f es in
-      let q = count_outline (past f es) in
-      rw (p, q, c) refl
-
-  mutual
-    unfolding outline new_room new_room_below
-
-    pub room_outline : (f : ℕ) (index : Nodes) → new_room f (outline news index) ≡ new_room f index
-    room_outline f no_node = refl
-    room_outline f (node place room es more) =
-        let c = chain_outline f more in
-        elim (either (chain_reaches f more)) [
-          | inl r ↦ rw (c, r) (room_outline f more)
-          | inr r ↦
-              let d = leads_outline f false es in
-              elim (either (leads_down f false es)) [
-                | inl t ↦ rw (c, r, d, t) (room_below_outline f es)
-                | inr t ↦ rw (c, r, d, t) (of_new f room es)
-              ]
-        ]
-
-    pub room_below_outline : (f : ℕ) (es : Entries) → new_room_below f (entries_outline news es) ≡ new_room_below f es
-    room_below_outline f no_entry = refl
-    room_below_outline f (block first last place packed es) = room_below_outline f es
-    room_below_outline f (lower first last nodes es) =
-        let c = reaches_outline f es in
-        elim (either (reaches f es)) [ inl r ↦ rw (c, r) (room_below_outline f es) | inr r ↦ rw (c, r) (room_outline f nodes) ]
-
-  mutual
-    unfolding outline firsts_of entry_firsts
-
-    pub firsts_outline : (index : Nodes) → firsts_of (outline news index) ≡ firsts_of index
-    firsts_outline no_node = refl
-    firsts_outline (node place room es more) = ap (λ (xs : List ℕ). xs ++ firsts_of (outline news more)) (entry_firsts_outline es) ∙ ap (λ (xs : List ℕ). entry_firsts es ++ xs) (firsts_outline more)
-
-    pub entry_firsts_outline : (es : Entries) → entry_firsts (entries_outline news es) ≡ entry_firsts es
-    entry_firsts_outline no_entry = refl
-    entry_firsts_outline (block first last place packed es) = ap (λ (xs : List ℕ). first ∷ xs) (entry_firsts_outline es)
-    entry_firsts_outline (lower first last nodes es) =
-        ap (λ (xs : List ℕ). first ∷ xs ++ entry_firsts (entries_outline news es)) (firsts_outline nodes) ∙ ap (λ (xs : List ℕ). first ∷ firsts_of nodes ++ xs) (entry_firsts_outline es)
-
   module _ (vxr i : ℕ) (old : is_in vxr news ≡ false) (stands : vxr ≡ 0 → ⊥) where
     same_place : (place : ℕ) → eqb (place_outside news place) vxr ≡ eqb place vxr
     same_place place = elim (either (is_in place news)) [
@@ -255,9 +209,6 @@ mutual
 abbrev pub SameOutline : List ℕ → Nodes → Nodes → Type 0
 SameOutline news index index' = outline news index ≡ outline [] index'
 
-pub same_at_first : (news : List ℕ) (index : Nodes) → ((m : ℕ) → In m (nodes_of index) → is_in m news ≡ false) → SameOutline news index index
-same_at_first news index apart = outline_agrees [] news index apart
-
 -- A leaf more keeps it; a node that is needed stands at a new place, and no node that was there does so by that.
 pub same_with_leaf : (news news' : List ℕ) (new : Leaf) (at : ℕ) (index index' : Nodes) → SameOutline news index index' → ((m : ℕ) → In m (nodes_of index) → is_in m news' ≡ is_in m news) → (1 ≤ new_room new.first index → is_in at news' ≡ true)
     → SameOutline news' (with_leaf new at index) (with_leaf (leaf new.first new.last 0 false) 0 index')
@@ -281,12 +232,6 @@ same_with_leaf news news' new at index index' same agree there =
 
 pub same_uses : (news : List ℕ) (vxr i : ℕ) (index index' : Nodes) → SameOutline news index index' → is_in vxr news ≡ false → (vxr ≡ 0 → ⊥) → uses_entry vxr i index ≡ uses_entry vxr i index'
 same_uses news vxr i index index' same old stands = sym (uses_outline news vxr i old stands index) ∙ ap (uses_entry vxr i) same ∙ uses_outline [] vxr i refl stands index'
-
-pub same_room : (news : List ℕ) (f : ℕ) (index index' : Nodes) → SameOutline news index index' → new_room f index ≡ new_room f index'
-same_room news f index index' same = sym (room_outline news f index) ∙ ap (new_room f) same ∙ room_outline [] f index'
-
-pub same_firsts : (news : List ℕ) (index index' : Nodes) → SameOutline news index index' → firsts_of index ≡ firsts_of index'
-same_firsts news index index' same = sym (firsts_outline news index) ∙ ap firsts_of same ∙ firsts_outline [] index'
 
 -- ---- an entry that a node uses is used in the index
 
@@ -388,18 +333,6 @@ top_chain_with_leaf new at (node place room es more) = elim (either (chain_reach
   ]
 ]
 
-pub top_never_shorter : (new : Leaf) (at : ℕ) (index : Nodes) → length (top_chain index) ≤ length (top_chain (with_leaf new at index))
-top_never_shorter new at index = elim (top_chain_with_leaf new at index) [
-  | inl e ↦ let same = ap length e in at_least (length (top_chain index)) (length (top_chain (with_leaf new at index))) same
-  | inr h ↦ one_longer (length (top_chain index)) (length (top_chain (with_leaf new at index))) h.2
-]
-  where
-    at_least : (n m : ℕ) → m ≡ n → n ≤ m
-    at_least n m e = omega arith
-
-    one_longer : (n m : ℕ) → m ≡ suc n → n ≤ m
-    one_longer n m e = omega arith
-
 -- the top chain stays, or it grows
 pub top_grows : (new : Leaf) (at : ℕ) (index : Nodes) → (top_chain (with_leaf new at index) ≡ top_chain index) ⊎ (length (top_chain index) < length (top_chain (with_leaf new at index)))
 top_grows new at index = elim (top_chain_with_leaf new at index) [
@@ -422,31 +355,3 @@ bytes_longer xs ys l = elim (either (bytes_eq xs ys)) [
   where
     clash : (n m : ℕ) → n < m → n ≡ m → ⊥
     clash n m a b = omega arith
-
-pub bytes_differ : (xs ys : List ℕ) → (xs ≡ ys → ⊥) → bytes_eq xs ys ≡ false
-bytes_differ xs ys other = elim (either (bytes_eq xs ys)) [ inl t ↦ absurd (other (same_of_bytes_eq xs ys t)) | inr t ↦ t ]
-
-pub top_in_nodes : (m : ℕ) (index : Nodes) → In m (top_chain index) → In m (nodes_of index)
-unfolding nodes_of
-top_in_nodes m no_node i = i
-top_in_nodes m (node place room es more) (inl e) = inl e
-top_in_nodes m (node place room es more) (inr i) = inr (In-append_right m (lower_nodes es) (nodes_of more) (top_in_nodes m more i))
-
-pub last_by_top : (index index' : Nodes) → top_chain index ≡ top_chain index' → last_node index ≡ last_node index'
-last_by_top index index' e = ap (λ (xs : List ℕ). unwrap_or (last_or None xs) 0) e
-
-none_taken : (acts : List Act) (xs : List ℕ) → ((m : ℕ) → In m xs → is_taken_at acts m ≡ false) → list_any (is_taken_at acts) xs ≡ false
-none_taken acts [] apart = refl
-none_taken acts (x ∷ xs) apart = let e = apart x (inl refl) in rw e (none_taken acts xs (λ m i. apart m (inr i)))
-
--- Where nothing was cut before, the top chain stays where it is the same; nodes that were there were not taken.
-pub top_stays_is : (acts : List Act) (before after : Nodes) → ((m : ℕ) → In m (nodes_of before) → is_taken_at acts m ≡ false) → top_stays acts before before after ≡ bytes_eq (top_chain before) (top_chain after)
-top_stays_is acts before after apart =
-    let own = bytes_same (top_chain before) in
-    elim (either (bytes_eq (top_chain before) (top_chain after))) [
-      | inl t ↦
-          let same = same_of_bytes_eq (top_chain before) (top_chain after) t in
-          let free = none_taken acts (top_chain after) (λ m i. apart m (top_in_nodes m before (subst (In m) (sym same) i))) in
-          rw (own, t, free) refl
-      | inr t ↦ rw (own, t) refl
-    ]

@@ -1,29 +1,23 @@
 -- A leaf that is added leaves the file, all attributes and the other variables, and the variable is linked with the index that has it.
 use Rattle.std.proofs.Common.{◌≡◌, ◌≢◌, ◌⊎◌, ℕ, zero, suc, ◌+◌, ◌<◌, ◌≤◌, List, [], ◌∷◌, ◌++◌, length, true, true≢false, refl, sym, ap, subst, ◌∙◌, arith, inl, inr}
 use Rattle.std.proofs.lemmas.Bool.{ne_eqb}
-use Rattle.std.specs.List.{before_first, flat_map}
-use Rattle.std.specs.Prelude.{◌==◌, if◌then◌else◌}
 use Rattle.cdf_model.specs.declared.kinds.Kind.{Kind}
 use Rattle.cdf_model.specs.declared.kinds.Kind.TheVariants.{R, Z}
 use Rattle.cdf_format.specs.Bytes.{Same}
 use Rattle.cdf_format.specs.Chains.{is_a, is_in, IsChain}
-use Rattle.cdf_format.specs.Fields.{number, name_in, has_bit, size_at, type_at, eof}
+use Rattle.cdf_format.specs.Fields.{number, size_at, type_at, eof}
 use Rattle.cdf_format.specs.Index.{Leaf, nodes_of, leaves_of}
 use Rattle.cdf_format.specs.Owners.{variable_records}
-use Rattle.cdf_format.specs.Records.{Field, gdr_eof, gdr_uir_head, vdr_num, vdr_flags, vdr_name}
+use Rattle.cdf_format.specs.Records.{Field, gdr_eof, gdr_uir_head}
 use Rattle.cdf_format.specs.RecordTypes.{gdr_type, r_vdr_type, z_vdr_type, vxr_type, vvr_type, cvvr_type, cpr_type, uir_type, is_record_type, fixed_size}
-use Rattle.cdf_format.specs.Shape.{VariableShape, Shape, vdrs, cpr_of, is_compressed, Each, HasVariable, HasShape, shape}
+use Rattle.cdf_format.specs.Shape.{VariableShape, Shape, Each, HasShape, shape}
 use Rattle.cdf_format.specs.Sound.{LeafFits, IsSound}
 use Rattle.cdf_format.specs.Tiles.{In}
-use Rattle.cdf_format.specs.VariableFields.{pad_field}
 use Rattle.cdf_format.specs.WellFormed.{Good}
-use Rattle.cdf_format.proofs.BytesLemmas.{word_kept, piece_kept, size_kept, type_kept}
-use Rattle.cdf_format.proofs.ChainsLemmas.{is_a-type, linkable-in, linkable-type}
-use Rattle.cdf_format.proofs.GoodImageLemmas.{vdrs_append}
+use Rattle.cdf_format.proofs.BytesLemmas.{size_kept, type_kept}
+use Rattle.cdf_format.proofs.ChainsLemmas.{is_a-type}
 use Rattle.cdf_format.proofs.GoodSound.{good_is_sound}
 use Rattle.cdf_format.proofs.Members.{In-append}
-use Rattle.cdf_format.proofs.TilesLemmas.{tile_lies}
-use Rattle.cdf_edits.specs.Commands.Allowances.{shapes_of}
 use Rattle.cdf_edits.specs.Edits.Edit.{Edit}
 use Rattle.cdf_edits.specs.Edits.Marks.{Mark, Avoids, Away, avoided, unmarked, variable_types, keeps_file}
 use Rattle.cdf_edits.specs.Index.Grown.{with_leaf, new_room}
@@ -33,23 +27,27 @@ use Rattle.cdf_edits.proofs.Edits.Composing.{head_size, head_type, edit_then}
 use Rattle.cdf_edits.proofs.Edits.InRecords.{places_of}
 use Rattle.cdf_edits.proofs.Edits.MadeRecord.{place_in, filled_size, fresh}
 use Rattle.cdf_edits.proofs.Edits.MarkLemmas.{the_one, or_cases, away-avoids, unmarked-away, Avoids-append, Away-append}
-use Rattle.cdf_edits.proofs.Edits.RecordFrame.{kept, kept_away, chain_stays, field_avoids, gdr_field, file_same}
-use Rattle.cdf_edits.proofs.Edits.StepEdits.{gdr_in, gdr_typed, gdr_long, fixed_long}
+use Rattle.cdf_edits.proofs.Edits.RecordFrame.{kept, kept_away, chain_stays, field_avoids, file_same}
+use Rattle.cdf_edits.proofs.Edits.StepEdits.{gdr_in, gdr_typed, gdr_long}
 use Rattle.cdf_edits.specs.Commands.Room.{vxr_bytes}
 use Rattle.cdf_edits.proofs.Edits.VariableCopied.{node_behind, block_behind}
-use Rattle.cdf_edits.proofs.Edits.VariableFrame.{variable_typed, variables_away, variables_in, remain_from}
+use Rattle.cdf_edits.proofs.Edits.VariableFrame.{variable_typed, variables_in}
 use Rattle.cdf_edits.proofs.Edits.VariableKept.{OnlyVariable, only_variable}
-use Rattle.cdf_edits.proofs.Edits.VariableKinds.{other_kind, keeps_kind, kind_chain, kind_ours, in_gdr}
+use Rattle.cdf_edits.proofs.Edits.VariableKinds.{other_kind, keeps_kind}
 use Rattle.cdf_edits.proofs.Edits.VariableSplice.{VariableSplices, keeps_all_attributes}
-use Rattle.cdf_edits.proofs.Edits.VdrEdited.{StandsAmong, through, least_size, tile, typed, long, has, fits, ours, after_ours, behind_in}
+use Rattle.cdf_edits.proofs.Edits.StandsAmong.{StandsAmong, through, tile, typed, long, fits, behind_in}
 use Rattle.cdf_edits.proofs.Frame.Meaning.{FileSame, Kept}
 use Rattle.cdf_edits.proofs.Frame.OwnersApart.{all_variable_records}
-use Rattle.cdf_edits.proofs.Frame.VdrAlike.{VdrAlike, copied_in_place, cpr_link_alike}
 use Rattle.cdf_edits.proofs.Space.UsedRecords.{apart}
 use Rattle.cdf_edits.specs.Space.Placing.{type_of_body}
 use Rattle.cdf_index.specs.Adding.{NodeTaken, LeafAdded}
 use Rattle.cdf_index.specs.Replacing.{with_index}
-use Rattle.cdf_puts.proofs.LeafEdit.{placing_marks, node_marks, new_nodes, index_marks, leaf_marks, node_stands, space_away, vdr_no_space, first, second, third, edit}
+use Rattle.cdf_edits.proofs.Edits.RecordPlaced.{placing_marks}
+use Rattle.cdf_edits.proofs.Edits.OwnEdited.{OwnEdit}
+use Rattle.cdf_edits.proofs.Edits.OwnEdited as of_own
+use Rattle.cdf_edits.proofs.Edits.IndexEdited.{IndexEdit}
+use Rattle.cdf_edits.proofs.Edits.IndexEdited as of_index
+use Rattle.cdf_puts.proofs.LeafEdit.{node_marks, new_nodes, index_marks, leaf_marks, node_stands, space_away, vdr_no_space, first, second, third, edit}
 
 -- ---- which records the marks leave by their types alone
 
@@ -184,12 +182,11 @@ module _ {b now : List ℕ} {kind : Kind} {before : List VariableShape} {own : V
       ((λ same lies. other (the_one v m lies)), ((λ same lies. out same lies), tt))
 
   -- records of variables that are not of this one
-  pub beside : (xs : List ℕ) → ((m : ℕ) → In m xs → In m (all_variable_records s)) → ((m : ℕ) → In m (variable_records own) → In m xs → ⊥) → (m : ℕ) → In m xs → Away marks (type_at b m) m
-  beside xs sub out m i =
-      leaf_away (type_at b m) m (variable_unspaced s.unused new.place need (type_at b m) (variable_typed b s sound m (sub m i))) (λ q. out m (subst (λ (x : ℕ). In x (variable_records own)) (sym q) (inl refl)) i)
-      (λ t j. elim (In-append m (new_nodes room at) nodes j) [
-        | inl k ↦ apart vxr_type uir_type refl (sym t ∙ new_fresh m (inr k) (variables_in b s sound m (sub m i)))
-        | inr k ↦ out m (inr (node_behind own m k)) i
+  pub beside : (m : ℕ) → In m (all_variable_records s) → (In m (variable_records own) → ⊥) → Away marks (type_at b m) m
+  beside m i out =
+      leaf_away (type_at b m) m (variable_unspaced s.unused new.place need (type_at b m) (variable_typed b s sound m i)) (λ q. out (inl q)) (λ t j. elim (In-append m (new_nodes room at) nodes j) [
+        | inl k ↦ apart vxr_type uir_type refl (sym t ∙ new_fresh m (inr k) (variables_in b s sound m i))
+        | inr k ↦ out (inr (node_behind own m k))
       ])
 
   pub only : (m : ℕ) → In m (variable_records own) → OnlyVariable b s kind before after m
@@ -220,40 +217,6 @@ module _ {b now : List ℕ} {kind : Kind} {before : List VariableShape} {own : V
 
   pub vdr_size : size_at now v ≡ size_at b v
   vdr_size = head_size b now v (part_of 0 12 (inl (omega arith)) (omega arith))
-
-  pub vdr_type : type_at now v ≡ type_at b v
-  vdr_type = head_type b now v (part_of 0 12 (inl (omega arith)) (omega arith))
-
-  pad_fits : (pad_field b v).place ≤ size_at b v
-  pad_fits = less (pad_field b v).place _ (size_at b v) (fits good among).0
-    where
-      less : (a p s : ℕ) → a + p ≤ s → a ≤ s
-      less a p s h = omega arith
-
-  pub vdr_alike : VdrAlike b now v v
-  vdr_alike = record {
-    typed = vdr_type;
-    type = copied_in_place b now v 20 24 (part_of 20 24 (inl (omega arith)) (omega arith));
-    second = copied_in_place b now v 48 68 (part_of 48 68 (inr (omega arith)) (omega arith));
-    third = copied_in_place b now v 72 80 (part_of 72 80 (inr (omega arith)) (omega arith));
-    behind = copied_in_place b now v 340 (pad_field b v).place (part 340 (pad_field b v).place (inr (omega arith)) pad_fits);
-  }
-
-  pub flags_same : number now v vdr_flags ≡ number b v vdr_flags
-  flags_same = word_kept b now (v + 44) (v + 48) (part_of 44 48 (inr (omega arith)) (omega arith)) (v + 44) 4 (omega arith) (omega arith)
-
-  pub packed_same : is_compressed now v ≡ is_compressed b v
-  packed_same = ap (λ (n : ℕ). has_bit n 2) flags_same
-
-  pub name_same : name_in now v vdr_name ≡ name_in b v vdr_name
-  name_same = ap (before_first (λ (x : ℕ). x == 0)) (piece_kept b now (v + 84) (v + 340) (part_of 84 340 (inr (omega arith)) (omega arith)) (v + 84) 256 (omega arith) (omega arith) (let high = (tile_lies b 8 (length b) s.records v h.tiled (tile good among)).high in let n = wide in omega arith) file.longer)
-
-  pub has_now : HasVariable now (shape w.roomy).records with_new
-  has_now =
-      let link = cpr_link_alike file vdr_alike in
-      let pack = packed_same in
-      let cpr : cpr_of now v ≡ cpr_of b v = λ i. if pack i then link i ∷ [] else [] in
-      record { indexed = w.index; packed_by = cpr ∙ (has good among).packed_by }
 
   -- ---- the new records
 
@@ -307,21 +270,6 @@ module _ {b now : List ℕ} {kind : Kind} {before : List VariableShape} {own : V
 
   -- ---- chains
 
-  gdr_same : (g : Field) → avoided marks gdr_type g.place (g.place + g.width) ≡ true → g.place + g.width ≤ 84 → number now s.gdr g ≡ number b s.gdr g
-  gdr_same g clear l = gdr_field sound e tests.file_clear g clear l
-
-  pub same_vdrs : vdrs (before ++ with_new ∷ after) ≡ vdrs (shapes_of s kind)
-  same_vdrs = vdrs_append before (with_new ∷ after) ∙ sym (vdrs_append before (own ∷ after)) ∙ sym (ap vdrs among.was)
-
-  -- the numbers of all variables of the kind
-  pub nums_same : (m : ℕ) → In m (vdrs (shapes_of s kind)) → number now m vdr_num ≡ number b m vdr_num
-  nums_same m i =
-      let ok = (kind_chain kind h).linkable m i in
-      let inside = linkable-in b s.records type m ok in
-      let is = linkable-type b s.records type m ok in
-      let far = through 340 (fixed_size type) (size_at b m) (least_size kind) (fixed_long b s h type m inside is) in
-      word_kept b now (m + 68) (m + 72) (e.part m type 68 72 inside is (any_avoids m 0 12 (inl (omega arith))) (any_avoids m 68 72 (inr (omega arith))) (omega arith)) (m + vdr_num.place) 4 (omega arith) (omega arith)
-
   late_unmarked : (kind : Kind) (v : ℕ) (ns : List ℕ) (most' type' m lo hi : ℕ) → (type' ≡ gdr_type) ⊎ (type' ≡ uir_type) → Avoids (index_marks kind v ns most') type' m lo hi
   late_unmarked kind v ns most' type' m lo hi is = away-avoids (index_marks kind v ns most') type' m lo hi ((λ same lies. no_vdr kind (sym same)), ((λ same lies. no_vxr same), tt))
     where
@@ -351,24 +299,26 @@ module _ {b now : List ℕ} {kind : Kind} {before : List VariableShape} {own : V
   unused_now : IsChain now (shape w.roomy).records uir_type (number now s.gdr gdr_uir_head) (shape w.roomy).unused
   unused_now = chain_stays (third good among w) uir_type _ _ (shape w.roomy).unused sound_roomy.has_shape.unused_chain (gdr_late gdr_uir_head (omega arith) ∙ ap (λ (x : ℕ). number w.roomy x gdr_uir_head) (sym gdr_is)) (λ m i. late_unmarked kind v (new_nodes room at ++ nodes) most uir_type m 0 20 (inr refl))
 
-  -- ---- the splice
+  -- ---- the edit of one variable
 
-  abbrev others : List VariableShape
-  others = shapes_of s (other_kind kind)
-
-  pub splices : type_of_body body ≡ vvr_type → VariableSplices b now s kind (shape w.roomy).records (shape w.roomy).unused marks reborn before (own ∷ []) (with_new ∷ []) after
-  splices plain = record {
+  pub index_edit : type_of_body body ≡ vvr_type → IndexEdit b now kind own (with_leaf new at own.index) (shape w.roomy).records (shape w.roomy).unused marks reborn
+  index_edit plain = record {
     edit = e;
-    was = among.was;
     file_clear = tests.file_clear;
     attributes_clear = tests.attributes_clear;
     other_clear = tests.other_clear;
-    before_remain = remain_from sound e file before (ours good among).0 (variables_away sound e before (ours good among).0 (beside (flat_map variable_records before) (ours good among).0.sub (λ m i. (only m i).in_before)));
-    after_remain = remain_from sound e file after (after_ours good among) (variables_away sound e after (after_ours good among) (beside (flat_map variable_records after) (after_ours good among).sub (λ m i. (only m i).in_after)));
-    others_live = variables_away sound e others (kind_ours b s sound (other_kind kind)) (beside (flat_map variable_records others) (kind_ours b s sound (other_kind kind)).sub (λ m i. (only m i).in_others));
+    cpr_clear = tests.cpr_clear;
+    head_clear = tests.head_clear;
+    count_clear = tests.count_clear;
+    beside = beside;
+    avoids = λ m lo hi side. any_avoids m lo hi (elim side [ inl l ↦ inl (omega arith) | inr l ↦ inr l ]);
     typed = typed_now plain;
-    variable_chain = subst (λ (ms : List ℕ). IsChain now (shape w.roomy).records type (number now s.gdr (head_of (variables_chain kind))) ms) (sym same_vdrs)
-        (chain_stays e type _ _ (vdrs (shapes_of s kind)) (kind_chain kind h) (gdr_same (head_of (variables_chain kind)) tests.head_clear (in_gdr kind).0) (λ m i. any_avoids m 0 20 (inl (omega arith))));
     unused_chain = unused_now;
-    own_have = (has_now, tt);
+    index_now = w.index;
   }
+
+  pub own_edit : type_of_body body ≡ vvr_type → OwnEdit b now kind own (with_leaf new at own.index) (shape w.roomy).records (shape w.roomy).unused marks reborn
+  own_edit plain = of_index.own_edit good among (index_edit plain)
+
+  pub splices : type_of_body body ≡ vvr_type → VariableSplices b now s kind (shape w.roomy).records (shape w.roomy).unused marks reborn before (own ∷ []) (with_new ∷ []) after
+  splices plain = of_own.splices good among (own_edit plain)

@@ -1,4 +1,3 @@
-pub mod ActsJoined
 pub mod BlocksAdded
 pub mod BlocksWritten
 pub mod Covering
@@ -7,7 +6,7 @@ pub mod DoneBytes
 pub mod DoneIndex
 pub mod DonePuts
 pub mod GoesAlike
-pub mod GoesStill
+pub mod WritesGo
 pub mod GoesThen
 pub mod IndexAdded
 pub mod IndexWritten
@@ -21,10 +20,8 @@ pub mod LeafGood
 pub mod LeafKeeps
 pub mod LeafOutlines
 pub mod LeafRooms
-pub mod LeafRules
 pub mod LeafSplices
 pub mod NodesAdded
-pub mod OnlyTaken
 pub mod OwnAllowed
 pub mod PutBytes
 pub mod PutKeeps

@@ -6,7 +6,7 @@ use Rattle.cdf_edits.specs.Index.Grown.{with_leaf, new_room}
 use Rattle.cdf_edits.specs.Index.Written.{is_taken_at}
 use Rattle.cdf_edits.specs.Space.Acts.{Act}
 use Rattle.cdf_edits.proofs.Edits.VariableCopied.{node_behind}
-use Rattle.cdf_edits.proofs.Edits.VdrEdited.{StandsAmong, has, fits}
+use Rattle.cdf_edits.proofs.Edits.StandsAmong.{StandsAmong, has, fits}
 use Rattle.cdf_edits.proofs.Frame.ChangedBytes.{changed_part}
 use Rattle.cdf_edits.proofs.Frame.Meaning.{Kept}
 use Rattle.cdf_edits.proofs.Frame.OwnerAlone.{Each-in}

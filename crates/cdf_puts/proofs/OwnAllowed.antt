@@ -10,7 +10,7 @@ use Rattle.cdf_edits.proofs.Edits.MarkLemmas.{or_cases}
 use Rattle.cdf_edits.proofs.Edits.PlainLeaves.{leaves_apart}
 use Rattle.cdf_edits.proofs.Edits.VariableKept.{same_as_itself}
 use Rattle.cdf_edits.proofs.Edits.VariableKinds.{kind_type}
-use Rattle.cdf_edits.proofs.Edits.VdrEdited.{StandsAmong, fits, has, typed}
+use Rattle.cdf_edits.proofs.Edits.StandsAmong.{StandsAmong, fits, has, typed}
 use Rattle.cdf_edits.proofs.Frame.OwnerAlone.{Each-in}
 use Rattle.cdf_edits.specs.Commands.Allowances.{Allowance, Anything, Only, range_at, vdr_type, same_kind, shapes_of, anything_if, only_of}
 use Rattle.cdf_edits.specs.Commands.Puts.{put_changes}

@@ -7,7 +7,7 @@ use Rattle.cdf_edits.proofs.Commands.KeptRecords.{AllKeep-append}
 use Rattle.cdf_edits.proofs.Edits.OwnersKept.{keep_all, keep_file, keep_places}
 use Rattle.cdf_edits.proofs.Edits.VariableKept.{keep_kinds, keep_variable_parts, same_as_itself}
 use Rattle.cdf_edits.proofs.Edits.VariableKinds.{other_kind}
-use Rattle.cdf_edits.proofs.Edits.VdrEdited.{StandsAmong}
+use Rattle.cdf_edits.proofs.Edits.StandsAmong.{StandsAmong}
 use Rattle.cdf_edits.proofs.Frame.OwnersApart.{all_attribute_records}
 use Rattle.cdf_edits.specs.Commands.Allowances.{Only, Allowances, Stays, Keeps, AllKeep, allowance, unused_allowance, same_kind, shapes_of, vdr_type, r_max_rec_field, space_fields}
 use Rattle.cdf_edits.specs.Commands.Puts.{put_changes}

@@ -6,20 +6,17 @@ use Rattle.cdf_model.specs.declared.kinds.Sparse.{Sparse}
 use Rattle.cdf_model.specs.declared.kinds.Sparse.TheVariants.{NoRule}
 use Rattle.cdf_model.specs.DataSet.{extent}
 use Rattle.cdf_format.specs.Content.{variable_of}
-use Rattle.cdf_format.specs.Index.{Leaf, leaves_of}
 use Rattle.cdf_format.specs.NotRead.{unread_sparse}
 use Rattle.cdf_format.specs.Rules.{asked}
 use Rattle.cdf_format.specs.Shape.{VariableShape, is_compressed, shape}
-use Rattle.cdf_format.specs.VariableFields.{record_bytes}
 use Rattle.cdf_format.specs.VariableRules.{cpr_link, cpr_rows}
 use Rattle.cdf_format.specs.WellFormed.{Good}
 use Rattle.cdf_format.proofs.GoodSound.{good_by_its_shape}
 use Rattle.cdf_format.proofs.RowLemmas.{Hold-split}
 use Rattle.cdf_edits.specs.Index.Blocks.{cuts_before_put, is_sparse}
-use Rattle.cdf_edits.proofs.Edits.LeafPieces.{IsOneOf}
-use Rattle.cdf_edits.proofs.Edits.PlainLeaves.{PlainLeaf, own_rules, plain_leaf}
+use Rattle.cdf_edits.proofs.Edits.PlainLeaves.{own_rules}
 use Rattle.cdf_edits.proofs.Edits.PlainVariables.{is_uncompressed}
-use Rattle.cdf_edits.proofs.Edits.VdrEdited.{StandsAmong, has, fits}
+use Rattle.cdf_edits.proofs.Edits.StandsAmong.{StandsAmong, has, fits}
 
 module _ {b : List ℕ} {kind : Kind} {before : List VariableShape} {own : VariableShape} {after : List VariableShape} (good : Good b) (at : StandsAmong b kind before own after) where
   pub loose : is_compressed b own.vdr ≡ false
@@ -37,6 +34,3 @@ module _ {b : List ℕ} {kind : Kind} {before : List VariableShape} {own : Varia
   -- so no put cuts anything
   pub uncut : (r : ℕ) → cuts_before_put (variable_of b own) r ≡ false
   uncut r = ap (λ (s : Sparse). is_sparse s && nat_lt (extent (variable_of b own).max_rec) r) no_rule
-
-  pub plain_leaves : (l : Leaf) → IsOneOf (leaves_of own.index) l → PlainLeaf b (record_bytes b own.vdr) l
-  plain_leaves = plain_leaf good at loose

@@ -9,7 +9,7 @@ use Rattle.cdf_edits.specs.Commands.Room.{put_room, vxr_bytes, widest}
 use Rattle.cdf_edits.specs.Index.Blocks.{range, covers, firsts_of, next_first, block_count, is_sparse, first_written}
 use Rattle.cdf_edits.specs.Index.Grown.{new_room}
 use Rattle.cdf_edits.proofs.Edits.LeafPieces.{times_le}
-use Rattle.cdf_edits.proofs.Edits.VdrEdited.{StandsAmong, fits, has, in_middle, long, tile}
+use Rattle.cdf_edits.proofs.Edits.StandsAmong.{StandsAmong, fits, has, in_middle, long, tile}
 use Rattle.cdf_format.specs.Content.{variable_of}
 use Rattle.cdf_format.specs.Fields.{number}
 use Rattle.cdf_format.specs.GoodImage.{IsGoodImage}
@@ -169,9 +169,6 @@ module _ {b now : List ℕ} {kind : Kind} {before : List VariableShape} {own : V
   short = so.short
 
   module _ (more : k ≤ new.rec) where
-    pub within_limit : k ≤ record_number_limit
-    within_limit = let small = so.start.small in omega arith
-
     pub some_most : 1 ≤ new.most
     some_most = subst (λ (n : ℕ). 1 ≤ n) (sym p.most_is) (most_some (variable_of b own) new.rec)
 

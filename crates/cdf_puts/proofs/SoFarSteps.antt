@@ -18,7 +18,7 @@ use Rattle.cdf_format.specs.Shape.{VariableShape, Each, shape}
 use Rattle.cdf_format.specs.VariableFields.{record_bytes, max_rec_at}
 use Rattle.cdf_index.specs.Adding.{LeafAdded, leaf_acts}
 use Rattle.cdf_edits.proofs.Edits.PlainLeaves.{own_rules}
-use Rattle.cdf_edits.proofs.Edits.VdrEdited.{has, fits}
+use Rattle.cdf_edits.proofs.Edits.StandsAmong.{has, fits}
 use Rattle.cdf_puts.specs.Covering.{Covering, block_bytes, node_bytes}
 use Rattle.cdf_puts.specs.Going.{GoesOn}
 use Rattle.cdf_puts.specs.SoFar.{PutStart, BlockRecords, SoFar, IsTaking, record_of, taken_bytes}
@@ -27,7 +27,8 @@ use Rattle.cdf_puts.proofs.BlocksWritten.{blocks_written}
 use Rattle.cdf_puts.proofs.BlocksAdded.{blocks_added}
 use Rattle.cdf_puts.proofs.Covering.{covering_starts, covering_has, covering_leaf}
 use Rattle.cdf_puts.proofs.GoesAlike.{later_size, later_packed}
-use Rattle.cdf_puts.proofs.GoesStill.{goes_nowhere}
+use Rattle.cdf_puts.proofs.WritesGo.{goes_nowhere}
+use Rattle.cdf_puts.proofs.LastImage.{only_takes}
 use Rattle.cdf_puts.proofs.GoesThen.{goes_then}
 use Rattle.cdf_puts.proofs.IndexAdded.{index_added}
 use Rattle.cdf_puts.proofs.LeafActs.{leaf_follows}
@@ -35,9 +36,8 @@ use Rattle.cdf_puts.proofs.LeafBlocks.{plain_body, size_needed}
 use Rattle.cdf_puts.proofs.LeafCounts.{roomy}
 use Rattle.cdf_puts.proofs.LeafGood.{leaf_goes_on}
 use Rattle.cdf_puts.proofs.LeafKeeps.{leaf_keeps, leaf_max_rec}
-use Rattle.cdf_puts.proofs.LeafRules.{index_order}
+use Rattle.cdf_index.proofs.LeafRules.{index_order}
 use Rattle.cdf_puts.proofs.IndexWritten.{index_written}
-use Rattle.cdf_puts.proofs.OnlyTaken.{OnlyTakes}
 use Rattle.cdf_puts.proofs.PutMeaning.{first_goes}
 use Rattle.cdf_puts.proofs.SoFarStarts.{starts_upto, index_start, blocks_start}
 use Rattle.cdf_puts.proofs.WrittenGoes.{written_goes, long_now, max_rec_kept}
@@ -45,11 +45,6 @@ use Rattle.cdf_puts.proofs.WrittenGoes.{written_goes, long_now, max_rec_kept}
 -- the index of a variable with one leaf more
 abbrev pub with_new_leaf : VariableShape → Leaf → ℕ → VariableShape
 with_new_leaf own new at = record own { index = with_leaf new at own.index }
-
-pub only_takes : (acts : List Act) → Each IsTaking acts → OnlyTakes acts
-only_takes [] t = tt
-only_takes (Took place need ∷ more) t = only_takes more t.1
-only_takes (Gave place size ∷ more) t = absurd t.0
 
 -- ---- how many bytes were taken
 

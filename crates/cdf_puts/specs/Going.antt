@@ -5,7 +5,7 @@ use Rattle.cdf_edits.specs.Commands.GreatestRecord.{r_max_rec}
 use Rattle.cdf_edits.specs.Commands.Puts.{put_changes}
 use Rattle.cdf_edits.specs.Space.Acts.{Act, ActsFollow}
 use Rattle.cdf_edits.proofs.Edits.VariableKinds.{other_kind}
-use Rattle.cdf_edits.proofs.Edits.VdrEdited.{StandsAmong}
+use Rattle.cdf_edits.proofs.Edits.StandsAmong.{StandsAmong}
 use Rattle.cdf_edits.proofs.Frame.Meaning.{FileSame}
 use Rattle.cdf_format.specs.Bytes.{Same}
 use Rattle.cdf_format.specs.Content.{content, variable_of}

@@ -12,7 +12,7 @@ use Rattle.cdf_edits.specs.Index.Grown.{with_ranges, indexes_with, outline}
 use Rattle.cdf_edits.specs.Index.Written.{is_taken_at, NodesFollow, top_chain}
 use Rattle.cdf_edits.specs.Space.Acts.{Act, Took, Gave, taken}
 use Rattle.cdf_edits.proofs.Edits.LeafPieces.{IsOneOf, record_place}
-use Rattle.cdf_edits.proofs.Edits.VdrEdited.{StandsAmong}
+use Rattle.cdf_edits.proofs.Edits.StandsAmong.{StandsAmong}
 use Rattle.cdf_format.specs.Bytes.{byte}
 use Rattle.cdf_format.specs.Content.{variable_of}
 use Rattle.cdf_format.specs.Fields.{number, size_at}

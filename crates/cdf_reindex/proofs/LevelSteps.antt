@@ -191,12 +191,6 @@ room_for_next start before all n limit two r fits = let s = split start before a
     less : (q l a : ℕ) → before + 1052 * (q + l) ≤ start + 1052 * a → start + 1052 * a ≤ limit → before + 1052 * q ≤ limit
     less q l a p f = omega arith
 
-pub room_done : (start now all n : ℕ) → RoomLeft start now all n → now ≤ start + 1052 * nodes_above 8 all
-room_done start now all n r = less (nodes_left r.levels n) (nodes_above 8 all) r.room
-  where
-    less : (l a : ℕ) → now + 1052 * l ≤ start + 1052 * a → now ≤ start + 1052 * a
-    less l a p = omega arith
-
 pub room_level : (start all limit : ℕ) → 1 ≤ all → start + 1052 * nodes_above 8 all ≤ limit → start + 1052 * quotient_up all 64 ≤ limit
 room_level start all limit some fits = less (quotient_up all 64) (nodes_left 7 (quotient_up all 64)) (nodes_above 8 all) (above_is 7 all some) fits
   where

@@ -1,6 +1,5 @@
 pub mod BareNodes
 pub mod FreeingKeeps
-pub mod HeadsWritten
 pub mod LevelCounts
 pub mod LevelLemmas
 pub mod LevelSteps

@@ -18,7 +18,7 @@ use Rattle.cdf_edits.specs.Edits.Marks.{unmarked}
 use Rattle.cdf_edits.specs.Space.Acts.{Act, ActsFollow, gave, taken}
 use Rattle.cdf_edits.proofs.Edits.ActsStill.{acts_still_by}
 use Rattle.cdf_edits.proofs.Edits.ActsThen.{all_gave, gave-same}
-use Rattle.cdf_edits.proofs.Edits.VdrEdited.{StandsAmong}
+use Rattle.cdf_edits.proofs.Edits.StandsAmong.{StandsAmong}
 use Rattle.cdf_reindex.specs.Reindexed.{IsRebuilt}
 use Rattle.cdf_reindex.proofs.MadeEdit.{heads_edit, heads_marks, linked_long, linked_records, linked_unused, may_free, node_linked, node_made, olds, places, sound_made, t}
 use Rattle.cdf_reindex.proofs.MadeTaken.{node_takes}

@@ -1,22 +1,20 @@
--- A VDR that stays but for VXRhead and VXRtail, and the rules of blocks that stay.
-use Rattle.std.proofs.Common.{◌≡◌, ◌⊎◌, ℕ, ◌+◌, ◌≤◌, List, [], ◌∷◌, ◌++◌, length, true, ◌&&◌, ◌||◌, refl, sym, ap, subst, ◌∙◌, arith, inl, inr}
-use Rattle.std.specs.Prelude.{◌==◌, nat_le, if◌then◌else◌}
-use Rattle.std.specs.List.{before_first, flat_map}
+-- The rules of blocks that stay, of a VDR that stays but for MaxRec, VXRhead and VXRtail.
+use Rattle.std.proofs.Common.{◌≡◌, ℕ, ◌+◌, ◌≤◌, List, [], ◌∷◌, ◌++◌, true, ◌&&◌, ◌||◌, refl, sym, subst, ◌∙◌, arith, inl, inr}
+use Rattle.std.specs.Prelude.{◌==◌, nat_le}
+use Rattle.std.specs.List.{flat_map}
 use Rattle.cdf_model.specs.Place.{record_limit}
-use Rattle.cdf_format.specs.Bytes.{Same}
 use Rattle.cdf_format.specs.Chains.{is_a, is_in}
-use Rattle.cdf_format.specs.Fields.{number, name_in, has_bit, size_at, type_at}
+use Rattle.cdf_format.specs.Fields.{number, size_at, type_at}
 use Rattle.cdf_format.specs.Index.{Leaf}
 use Rattle.cdf_format.specs.IndexRules.{is_block, holds_packed, unpacks_to, vvr_rows, cvvr_rows, leaf_rows}
-use Rattle.cdf_format.specs.Records.{Field, vdr_flags, vdr_name, cvvr_c_size}
+use Rattle.cdf_format.specs.Records.{cvvr_c_size}
 use Rattle.cdf_format.specs.RecordTypes.{vvr_type, cvvr_type, fixed_size}
 use Rattle.cdf_format.specs.Rules.{Hold, row, asked}
-use Rattle.cdf_format.specs.Shape.{Each, cpr_of, is_compressed}
+use Rattle.cdf_format.specs.Shape.{Each, is_compressed}
 use Rattle.cdf_format.specs.Sound.{LeafFits}
 use Rattle.cdf_format.specs.Tiles.{In}
-use Rattle.cdf_format.specs.VariableFields.{pad_field, plain_size}
-use Rattle.cdf_format.specs.VariableRules.{vdr_end}
-use Rattle.cdf_format.proofs.BytesLemmas.{number_kept, piece_kept, size_kept, type_kept, word_kept}
+use Rattle.cdf_format.specs.VariableFields.{plain_size}
+use Rattle.cdf_format.proofs.BytesLemmas.{number_kept, size_kept, type_kept}
 use Rattle.cdf_format.proofs.ChainsLemmas.{is_a-type}
 use Rattle.cdf_format.proofs.Members.{is_in-true}
 use Rattle.cdf_format.proofs.RowLemmas.{Hold-asked, Hold-split}
@@ -24,71 +22,13 @@ use Rattle.cdf_format.proofs.Tests.{both, le_of}
 use Rattle.cdf_edits.proofs.Edits.InRecords.{places_of}
 use Rattle.cdf_edits.proofs.Edits.LeafPieces.{IsOneOf}
 use Rattle.cdf_edits.proofs.Frame.Meaning.{FileSame, Kept, packed_same}
-use Rattle.cdf_edits.proofs.Frame.VdrAlike.{VdrAlike, copied_in_place, value_alike, pad_field_alike, cpr_link_alike, plain_alike}
+use Rattle.cdf_edits.proofs.Frame.VdrAlike.{plain_alike}
+use Rattle.cdf_edits.proofs.Frame.VdrStays.{VdrStays, stays_alike, packed_stays}
 use Rattle.cdf_edits.proofs.Rules.OfVariables.{asked_same}
 
--- a VDR stays but for its link, VXRhead and VXRtail
-pub record ButHeads (b now : List ℕ) (v : ℕ) : Type 0 where
-  pub file : FileSame b now
-  pub part : (lo hi : ℕ) → (hi ≤ 28) ⊎ (44 ≤ lo) → hi ≤ size_at b v → Same b now (v + lo) (v + hi)
-  pub wide : 340 ≤ size_at b v
-  pub inside : v + size_at b v ≤ length b
-  pub end : vdr_end b v ≤ size_at b v
-
-module _ {b now : List ℕ} {v : ℕ} (k : ButHeads b now v) where
-  part_of : (lo hi : ℕ) → (hi ≤ 28) ⊎ (44 ≤ lo) → hi ≤ 340 → Same b now (v + lo) (v + hi)
-  part_of lo hi side l = k.part lo hi side (through hi (size_at b v) l k.wide)
-    where
-      through : (x n : ℕ) → x ≤ 340 → 340 ≤ n → x ≤ n
-      through x n p q = omega arith
-
-  pub size_same : size_at now v ≡ size_at b v
-  size_same = word_kept b now (v + 0) (v + 12) (part_of 0 12 (inl (omega arith)) (omega arith)) (v + 0) 8 (omega arith) (omega arith)
-
-  pub type_same : type_at now v ≡ type_at b v
-  type_same = word_kept b now (v + 0) (v + 12) (part_of 0 12 (inl (omega arith)) (omega arith)) (v + 8) 4 (omega arith) (omega arith)
-
-  pad_fits : (pad_field b v).place ≤ size_at b v
-  pad_fits = less (pad_field b v).place _ (size_at b v) k.end
-    where
-      less : (a p s : ℕ) → a + p ≤ s → a ≤ s
-      less a p s h = omega arith
-
-  pub alike : VdrAlike b now v v
-  alike = record {
-    typed = type_same;
-    type = copied_in_place b now v 20 24 (part_of 20 24 (inl (omega arith)) (omega arith));
-    second = copied_in_place b now v 48 68 (part_of 48 68 (inr (omega arith)) (omega arith));
-    third = copied_in_place b now v 72 80 (part_of 72 80 (inr (omega arith)) (omega arith));
-    behind = copied_in_place b now v 340 (pad_field b v).place (k.part 340 (pad_field b v).place (inr (omega arith)) pad_fits);
-  }
-
-  pub field_same : (f : Field) → (f.place + f.width ≤ 28) ⊎ (44 ≤ f.place) → f.place + f.width ≤ 340 → number now v f ≡ number b v f
-  field_same f side l = word_kept b now (v + f.place) (v + (f.place + f.width)) (part_of f.place (f.place + f.width) side l) (v + f.place) f.width (omega arith) (omega arith)
-
-  pub flags_same : number now v vdr_flags ≡ number b v vdr_flags
-  flags_same = field_same vdr_flags (inr (omega arith)) (omega arith)
-
-  pub packed_as : is_compressed now v ≡ is_compressed b v
-  packed_as = ap (λ (n : ℕ). has_bit n 2) flags_same
-
-  pub name_same : name_in now v vdr_name ≡ name_in b v vdr_name
-  name_same = ap (before_first (λ (x : ℕ). x == 0)) (piece_kept b now (v + 84) (v + 340) (part_of 84 340 (inr (omega arith)) (omega arith)) (v + 84) 256 (omega arith) (omega arith) (let i = k.inside in let n = k.wide in omega arith) k.file.longer)
-
-  pub end_same : vdr_end now v ≡ vdr_end b v
-  end_same =
-      let pad = pad_field_alike k.file alike in
-      let flags = flags_same in
-      let value = value_alike k.file alike in
-      λ i. (pad i).place + (if has_bit (flags i) 1 then value i else 0)
-
-  pub cpr_same : cpr_of now v ≡ cpr_of b v
-  cpr_same = let link = cpr_link_alike k.file alike in let pack = packed_as in λ i. if pack i then link i ∷ [] else []
-
+module _ {b now : List ℕ} (file : FileSame b now) {v : ℕ} (k : VdrStays b now v) where
   plain_as : (leaf : Leaf) → plain_size now v leaf ≡ plain_size b v leaf
-  plain_as = plain_alike k.file alike
-
-  -- ---- the rules of its blocks
+  plain_as = plain_alike file (stays_alike file k)
 
   module _ (records records' : List ℕ) (fixed : (m : ℕ) → In m records → fixed_size (type_at b m) ≤ size_at b m) where
     -- a block stands in both images
@@ -117,10 +57,10 @@ module _ {b now : List ℕ} {v : ℕ} (k : ButHeads b now v) where
         let holds = both (is_compressed b v) (holds_packed b leaf.place) rules.0 in
         let room = le_of (24 + number b leaf.place cvvr_c_size) (size_at b leaf.place) (both (nat_le (number b leaf.place cvvr_c_size) 0x7fffffffffffffff) (nat_le (24 + number b leaf.place cvvr_c_size) (size_at b leaf.place)) holds.1).1 in
         let plain = plain_as leaf in
-        let packed = packed_as in
+        let packed = packed_stays file k in
         let count = number_kept b now leaf.place s.kept.same cvvr_c_size (omega arith) in
         let size = size_kept b now leaf.place s.kept.same (omega arith) in
-        let bytes = packed_same b now k.file leaf.place s.kept room in
+        let bytes = packed_same b now file leaf.place s.kept room in
         λ i.
         row 6 leaf.place (packed i && (nat_le (count i) 0x7fffffffffffffff && nat_le (24 + count i) (size i)))
         ∷ row 7 leaf.place (nat_le (plain i) record_limit)

@@ -34,12 +34,12 @@ use Rattle.cdf_edits.proofs.Edits.MarkLemmas.{away-avoids, unmarked-away, Avoids
 use Rattle.cdf_edits.proofs.Edits.RecordFrame.{kept, chain_stays, gdr_field, gdr_place}
 use Rattle.cdf_edits.proofs.Edits.StepEdits.{some_bytes}
 use Rattle.cdf_edits.proofs.Edits.VariableCopied.{node_behind}
-use Rattle.cdf_edits.proofs.Edits.VdrEdited.{StandsAmong, through, tile, typed, long, has, behind_in}
+use Rattle.cdf_edits.proofs.Edits.StandsAmong.{StandsAmong, through, tile, typed, long, has, behind_in}
 use Rattle.cdf_edits.proofs.Edits.WrittenFields.{MayWrite, writes_edit}
 use Rattle.cdf_edits.proofs.Frame.Meaning.{Kept}
 use Rattle.cdf_edits.proofs.Rules.WithoutLinks.{eof_by_rules}
 use Rattle.cdf_edits.proofs.Space.UsedRecords.{apart}
-use Rattle.cdf_puts.proofs.LeafEdit.{links_mark}
+use Rattle.cdf_edits.proofs.Edits.RecordPlaced.{links_mark}
 use Rattle.cdf_reindex.specs.Reindexed.{IsRebuilt}
 use Rattle.cdf_reindex.proofs.MadeTaken.{TakenAll, all_taken, taking_all}
 

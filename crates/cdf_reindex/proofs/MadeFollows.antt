@@ -42,7 +42,7 @@ use Rattle.cdf_edits.proofs.Edits.FreedBytes.{freed_stay}
 use Rattle.cdf_edits.proofs.Edits.FreedRecords.{sizes_by_tiles}
 use Rattle.cdf_edits.proofs.Edits.StepEdits.{gdr_typed}
 use Rattle.cdf_edits.proofs.Edits.VariableFrame.{Each-map}
-use Rattle.cdf_edits.proofs.Edits.VdrEdited.{StandsAmong}
+use Rattle.cdf_edits.proofs.Edits.StandsAmong.{StandsAmong}
 use Rattle.cdf_edits.proofs.Space.ActsLeave.{each, no_acts}
 use Rattle.cdf_edits.proofs.Space.UsedRecords.{apart}
 use Rattle.cdf_reindex.specs.Reindexed.{IsBare, IsRebuilt, Reindexed}

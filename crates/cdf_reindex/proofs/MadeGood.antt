@@ -1,65 +1,58 @@
 -- An index made anew leads from one good image to another, with the same content.
-use Rattle.std.proofs.Common.{◌≡◌, ℕ, pos, negsuc, ◌+◌, ◌*◌, ◌≤◌, List, [], ◌∷◌, ◌++◌, length, Bool, true, false, not, bytes_eq, refl, sym, ap, subst, ◌∙◌, arith, inl, inr}
+use Rattle.cdf_format.proofs.BytesLemmas.{word_kept}
+use Rattle.std.proofs.Common.{◌≡◌, ℕ, pos, negsuc, ◌+◌, ◌*◌, ◌≤◌, List, [], ◌∷◌, ◌++◌, length, true, refl, sym, ap, subst, ◌∙◌, arith, inl, inr}
 use Rattle.std.specs.List.{flat_map}
-use Rattle.std.specs.Prelude.{◌==◌, if◌then◌else◌}
 use Rattle.cdf_model.specs.declared.kinds.Kind.{Kind}
 use Rattle.cdf_model.specs.declared.kinds.Kind.TheVariants.{R, Z}
 use Rattle.cdf_model.specs.Limits.{image_limit, signed_limit, record_number_limit}
-use Rattle.cdf_format.specs.AttributeRules.{has_name}
-use Rattle.cdf_format.specs.Chains.{is_a, is_in}
-use Rattle.cdf_format.specs.Fields.{number, name_in, size_at, type_at, gdr_offset, eof}
+use Rattle.cdf_format.specs.Chains.{is_in}
+use Rattle.cdf_format.specs.Fields.{number, size_at, type_at, eof}
 use Rattle.cdf_format.specs.Index.{leaves_of, nodes_of, room_at}
 use Rattle.cdf_format.specs.IndexRules.{has_room, nodes_rows, leaf_rows, index_rows}
 use Rattle.cdf_format.specs.NotRead.{read_types}
 use Rattle.cdf_format.specs.Owners.{OwnedOnce, variable_records, times}
-use Rattle.cdf_format.specs.Records.{gdr_eof, vdr_max_rec, vdr_name, vxr_n_used_entries}
-use Rattle.cdf_format.specs.RecordTypes.{gdr_type, vxr_type, cpr_type, uir_type}
+use Rattle.cdf_format.specs.Records.{gdr_eof, vdr_max_rec, vxr_n_used_entries}
+use Rattle.cdf_format.specs.RecordTypes.{gdr_type, vxr_type, uir_type}
 use Rattle.cdf_format.specs.Rules.{Hold}
-use Rattle.cdf_format.specs.Shape.{VariableShape, Shape, vdrs, is_compressed, HasShape, shape}
+use Rattle.cdf_format.specs.Shape.{VariableShape, Shape, vdrs, HasShape, shape}
 use Rattle.cdf_format.specs.Sound.{NodeFits, IsSound}
 use Rattle.cdf_format.specs.Tiles.{In}
-use Rattle.cdf_format.specs.VariableRules.{cpr_link, is_max_rec, vdr_end}
+use Rattle.cdf_format.specs.VariableRules.{is_max_rec}
 use Rattle.cdf_format.specs.WellFormed.{Good}
-use Rattle.cdf_format.proofs.ChainsLemmas.{is_a-type, linkable-type}
+use Rattle.cdf_format.proofs.ChainsLemmas.{linkable-type}
 use Rattle.cdf_format.proofs.GoodByShape.{IsGoodByShape}
-use Rattle.cdf_format.proofs.GoodSound.{good_by_its_shape, good_is_sound, rules_of_good}
+use Rattle.cdf_format.proofs.GoodSound.{good_by_its_shape, good_is_sound}
 use Rattle.cdf_format.proofs.IndexLemmas.{nodes_stand}
 use Rattle.cdf_format.proofs.Members.{In-append, In-append_left, In-append_right}
 use Rattle.cdf_format.proofs.Owning.{times-none, times-once}
 use Rattle.cdf_format.proofs.RowLemmas.{Hold-split}
-use Rattle.cdf_format.proofs.SealedRules.{good_long, sealed_kept}
-use Rattle.cdf_format.proofs.ShapeLemmas.{shape_is}
 use Rattle.cdf_format.proofs.Tests.{of_le}
 use Rattle.cdf_edits.specs.Commands.Allowances.{shapes_of}
 use Rattle.cdf_edits.specs.Edits.Edit.{Edit}
 use Rattle.cdf_edits.specs.Edits.ManyMarks.{freeing_marks}
 use Rattle.cdf_edits.specs.Edits.Marks.{avoided, keeps_file}
-use Rattle.cdf_edits.specs.Space.Chains.{count_of}
-use Rattle.cdf_edits.specs.Space.VariableChains.{variables_chain}
 use Rattle.cdf_edits.proofs.Edits.Composing.{edit_then}
 use Rattle.cdf_edits.proofs.Edits.FreedBytes.{all_unused}
 use Rattle.cdf_edits.proofs.Edits.InRecords.{places_of}
 use Rattle.cdf_edits.proofs.Edits.LeafPieces.{IsOneOf}
-use Rattle.cdf_edits.proofs.Edits.MarkLemmas.{the_one}
 use Rattle.cdf_edits.proofs.Edits.OwnedOnce.{IsSorted, used_times, fresh_unowned, owned_once_if, sorted_before}
 use Rattle.cdf_edits.proofs.Edits.PlainLeaves.{own_rules}
-use Rattle.cdf_edits.proofs.Edits.RecordFrame.{index_records, gdr_field, gdr_place, kept}
-use Rattle.cdf_edits.proofs.Edits.VariableCopied.{block_behind, cpr_behind}
+use Rattle.cdf_edits.proofs.Edits.RecordFrame.{index_records, gdr_field}
+use Rattle.cdf_edits.proofs.Edits.VariableCopied.{block_behind}
 use Rattle.cdf_edits.proofs.Edits.VariableFrame.{IsRuled}
-use Rattle.cdf_edits.proofs.Edits.VariableKinds.{by_kind, shapes_with, with_shapes, vdrs_rows, in_gdr, counted_before, vdrs_rows_kept, spliced_times}
-use Rattle.cdf_edits.proofs.Edits.VariableNames.{own_names_apart, apart_if}
-use Rattle.cdf_edits.proofs.Edits.VariableSplice.{VariableSplices, OwnRules, shape_now, good_image_if}
-use Rattle.cdf_edits.proofs.Edits.VdrEdited.{StandsAmong, fits, has, behind_in}
+use Rattle.cdf_edits.proofs.Edits.VariableKinds.{by_kind, shapes_with, with_shapes, spliced_times}
+use Rattle.cdf_edits.proofs.Edits.StandsAmong.{StandsAmong, fits, has, behind_in, long}
 use Rattle.cdf_edits.proofs.Frame.OwnerAlone.{Each-in}
 use Rattle.cdf_edits.proofs.Frame.OwnersApart.{times-append}
-use Rattle.cdf_edits.proofs.Rules.OfVdrCopied.{cpr_stays, variable_rules_alike}
 use Rattle.cdf_edits.proofs.Space.UsedRecords.{apart}
 use Rattle.cdf_index.specs.Adding.{Counts}
-use Rattle.cdf_puts.proofs.LeafRules.{index_order, index_rules}
+use Rattle.cdf_index.proofs.LeafRules.{index_order, index_rules}
 use Rattle.cdf_reindex.specs.Reindexed.{IsBare, IsRebuilt}
-use Rattle.cdf_reindex.proofs.MadeBlocks.{StandsOn, alike, end_same, field_same, leaves_on, name_same, packed_as, size_same}
+use Rattle.cdf_reindex.proofs.MadeBlocks.{StandsOn, leaves_on}
 use Rattle.cdf_reindex.proofs.MadeEdit.{edit, gives_edit, heads_edit, heads_marks, long_now, marks, may_free, node_typed, olds, places, reborn, sound_made, t}
-use Rattle.cdf_reindex.proofs.MadeSplices.{block_kept, but_heads, file, gdr_same, mine, nums_same, same_vdrs, splices, tests}
+use Rattle.cdf_edits.proofs.Edits.OwnEdited as of_own_edit
+use Rattle.cdf_edits.proofs.Edits.IndexEdited.{IndexEdit, stays, good_now as good_if_ruled}
+use Rattle.cdf_reindex.proofs.MadeSplices.{block_kept, file, index_edit, own_edit, mine, part}
 use Rattle.cdf_reindex.proofs.MadeTree.{level_times, from_levels}
 
 -- ---- what is freed leaves the end of the image
@@ -109,8 +102,8 @@ module _ {b now : List ℕ} {kind : Kind} {before : List VariableShape} {own : V
   e : Edit b now s.records records' (marks good among r whole) born
   e = edit good among r whole
 
-  own_now : VariableSplices b now s kind records' (shape now).unused (marks good among r whole) born before (own ∷ []) (of_own ∷ []) after
-  own_now = splices good among r whole
+  abbrev x : IndexEdit b now kind own r.index records' (shape now).unused (marks good among r whole) born
+  x = index_edit good among r whole
 
   -- ---- the nodes
 
@@ -126,7 +119,7 @@ module _ {b now : List ℕ} {kind : Kind} {before : List VariableShape} {own : V
 
   -- ---- the blocks
 
-  stands_on : (m : ℕ) → In m (places_of (leaves_of own.index)) → StandsOn (but_heads good among r whole) s.records records' h.fixed m
+  stands_on : (m : ℕ) → In m (places_of (leaves_of own.index)) → StandsOn (file good among r whole) (stays good among x) s.records records' h.fixed m
   stands_on m i =
       let was = behind_in good among m (block_behind own m i) in
       record { was = was; is = e.sub m was; kept = block_kept good among r whole m i }
@@ -138,34 +131,10 @@ module _ {b now : List ℕ} {kind : Kind} {before : List VariableShape} {own : V
   index_ruled =
       let blocks = (Hold-split (nodes_rows b s.records (negsuc 0) (pos record_number_limit) own.index) (flat_map (leaf_rows b s.records v) (leaves_of own.index)) own_before.1).1 in
       index_rules now records' v r.index (r.order (index_order b s.records v own.index own_before.1)) node_room (λ l i.
-      leaves_on (but_heads good among r whole) s.records records' h.fixed (leaves_of own.index) stands_on blocks (fits good among).2 l (subst (λ ls. IsOneOf ls l) r.leaves_stay i))
+      leaves_on (file good among r whole) (stays good among x) s.records records' h.fixed (leaves_of own.index) stands_on blocks (fits good among).2 l (subst (λ ls. IsOneOf ls l) r.leaves_stay i))
 
-  -- ---- its own rules
-
-  has_name_now : has_name now v vdr_name ≡ true
-  has_name_now = ap (λ (x : List ℕ). not (length x == 0)) (name_same (but_heads good among r whole)) ∙ own_before.0.0
-
-  cpr_own : is_compressed b v ≡ true → In (cpr_link b v) own.cpr
-  cpr_own c =
-      let there : own.cpr ≡ cpr_link b v ∷ [] = sym (has good among).packed_by ∙ ap (λ (p : Bool). if p then cpr_link b v ∷ [] else []) c in
-      subst (λ (x : List ℕ). In (cpr_link b v) x) (sym there) (inl refl)
-
-  same_size : size_at now v ≡ size_at b v
-  same_size = size_same (but_heads good among r whole)
-
-  ruled : IsRuled now records' of_own
-  ruled = (
-    variable_rules_alike (file good among r whole) (alike (but_heads good among r whole)) (subst (λ (n : ℕ). size_at b v ≤ n) (sym same_size) (omega arith)) s.records records' [] [] own_before.0 has_name_now refl
-        (subst (λ (n : ℕ). vdr_end now v ≤ n) (sym same_size) (subst (λ (n : ℕ). n ≤ size_at b v) (sym (end_same (but_heads good among r whole))) (fits good among).0)) (packed_as (but_heads good among r whole))
-        (λ c is.
-        let m = cpr_link b v in
-        let i = cpr_own c in
-        let inside = behind_in good among m (cpr_behind own m i) in
-        let typed = is_a-type b s.records cpr_type m (Each-in (λ x. is_a b s.records cpr_type x ≡ true) own.cpr (fits good among).3 m i) in
-        cpr_stays b now s.records records' m is (kept e m cpr_type inside typed (tests good among r whole).cpr_clear) (e.sub m inside))
-        (ap is_max_rec (field_same (but_heads good among r whole) vdr_max_rec (inl (omega arith)) (omega arith)) ∙ own_before.0.1.1.1.1.1.1.1.0),
-    index_ruled,
-  )
+  max_same : number now v vdr_max_rec ≡ number b v vdr_max_rec
+  max_same = word_kept b now (v + 24) (v + 28) (part good among r whole 24 28 (inl (omega arith)) (let l = long good among in omega arith)) (v + 24) 4 (omega arith) (omega arith)
 
   -- ---- the owners
 
@@ -238,28 +207,8 @@ module _ {b now : List ℕ} {kind : Kind} {before : List VariableShape} {own : V
 
   -- ---- the rules of the image
 
-  count_same : number now (gdr_offset now) (count_of (variables_chain kind)) ≡ number b (gdr_offset b) (count_of (variables_chain kind))
-  count_same =
-      let g = count_of (variables_chain kind) in
-      ap (λ (x : ℕ). number now x g) (gdr_place sound e (tests good among r whole).file_clear) ∙ gdr_same good among r whole g (tests good among r whole).count_clear (in_gdr kind).1 ∙ sym (ap (λ (x : ℕ). number b x g) h.gdr_is)
-
-  counted : Hold (vdrs_rows kind now (vdrs (before ++ of_own ∷ after)))
-  counted =
-      let same = vdrs_rows_kept kind b now (vdrs (shapes_of s kind)) (gdr_place sound e (tests good among r whole).file_clear ∙ sym h.gdr_is) count_same (nums_same good among r whole) in
-      subst (λ (ms : List ℕ). Hold (vdrs_rows kind now ms)) (sym (same_vdrs good among r whole)) (subst Hold (sym same) (counted_before image kind))
-
   reborn_read : (m : ℕ) → In m born → is_in (type_at now m) read_types ≡ true
   reborn_read m i = elim (In-append m ps os i) [ inl j ↦ ap (λ (x : ℕ). is_in x read_types) (new_type m j) | inr j ↦ ap (λ (x : ℕ). is_in x read_types) (old_type m j) ]
-
-  rules : OwnRules sound own_now
-  rules = record {
-    counted = counted;
-    apart = apart_if sound own_now image (λ x y i j differ. absurd (differ (the_one v x i ∙ sym (the_one v y j))))
-        (λ x y i beside. subst (λ (z : ℕ). bytes_eq (name_in now z vdr_name) (name_in b y vdr_name) ≡ false) (sym (the_one v x i)) (subst (λ (n : List ℕ). bytes_eq n (name_in b y vdr_name) ≡ false) (sym (name_same (but_heads good among r whole))) (own_names_apart sound own_now image v y (inl refl) beside)));
-    own_ruled = (ruled, tt);
-    read = reborn_read;
-    owned = owned_now;
-  }
 
   -- ---- the end of the image
 
@@ -271,23 +220,16 @@ module _ {b now : List ℕ} {kind : Kind} {before : List VariableShape} {own : V
       subst (λ (x : ℕ). number now x gdr_eof ≡ number r.made x gdr_eof) g still ∙ subst (λ (x : ℕ). eof r.made x ≡ length r.made) g (t good among r).grows.end_is ∙ sym (long_now good among r whole)
 
   pub good_now : Good now
-  good_now = good_image_if sound own_now (sealed_kept b (good_long b s image) (rules_of_good b good)).0 image rules end_now short
+  good_now = good_if_ruled good among x index_ruled (ap is_max_rec max_same ∙ own_before.0.1.1.1.1.1.1.1.0) reborn_read owned_now end_now short
 
   -- ---- the shape
 
-  pub same_shape : shape now ≡ shape_now_is
-  same_shape = shape_is now _ (shape_now sound own_now)
-
   pub among_now : StandsAmong now kind before of_own after
-  among_now = record { was = ap (λ (x : Shape). shapes_of x kind) same_shape ∙ by kind }
-    where
-      by : (k : Kind) → shapes_of (with_shapes s k records' (shape now).unused (before ++ of_own ∷ after)) k ≡ before ++ of_own ∷ after
-      by R = refl
-      by Z = refl
+  among_now = of_own_edit.among_now good among (own_edit good among r whole)
 
   -- the descriptors of both kinds stay where they are
   pub vdrs_stay : (k : Kind) → vdrs (shapes_of (shape now) k) ≡ vdrs (shapes_of s k)
-  vdrs_stay k = ap (λ (x : Shape). vdrs (shapes_of x k)) same_shape ∙ ap vdrs (as_with k) ∙ by_kind (λ (j : Kind) (vs : List VariableShape). vdrs vs ≡ vdrs (shapes_of s j)) kind s (before ++ of_own ∷ after) (same_vdrs good among r whole) refl k
+  vdrs_stay k = ap (λ (x : Shape). vdrs (shapes_of x k)) (of_own_edit.same_shape good among (own_edit good among r whole)) ∙ ap vdrs (as_with k) ∙ by_kind (λ (j : Kind) (vs : List VariableShape). vdrs vs ≡ vdrs (shapes_of s j)) kind s (before ++ of_own ∷ after) (of_own_edit.same_vdrs good among (own_edit good among r whole)) refl k
     where
       as_with : (k : Kind) → shapes_of (with_shapes s kind records' (shape now).unused (before ++ of_own ∷ after)) k ≡ shapes_with s kind (before ++ of_own ∷ after) k
       as_with R = refl

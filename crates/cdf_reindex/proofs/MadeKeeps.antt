@@ -40,16 +40,17 @@ use Rattle.cdf_edits.proofs.Edits.VariableFrame.{variables_in}
 use Rattle.cdf_edits.proofs.Edits.VariableKept.{keep_kinds, keep_variable_parts, same_as_itself, vdr_allowance}
 use Rattle.cdf_edits.proofs.Edits.VariableKinds.{kind_ours, kind_type, other_kind}
 use Rattle.cdf_edits.proofs.Edits.VariableSplice.{attributes_kept}
-use Rattle.cdf_edits.proofs.Edits.VdrEdited.{StandsAmong, after_ours, behind_in, fits, no_block, ours, tile, typed}
+use Rattle.cdf_edits.proofs.Edits.StandsAmong.{StandsAmong, after_ours, behind_in, fits, no_block, ours, tile, typed}
 use Rattle.cdf_edits.proofs.Frame.Meaning.{Kept}
 use Rattle.cdf_edits.proofs.Frame.OwnerAlone.{Each-in}
 use Rattle.cdf_edits.proofs.Frame.OwnersApart.{all_variable_records}
-use Rattle.cdf_puts.proofs.OnlyTaken.{none_of_both}
+use Rattle.cdf_edits.proofs.Edits.OnlyTaken.{none_of_both}
 use Rattle.cdf_reindex.specs.Reindexed.{IsRebuilt}
 use Rattle.cdf_reindex.proofs.MadeActs.{acts}
-use Rattle.cdf_reindex.proofs.MadeBlocks.{size_same}
+use Rattle.cdf_edits.proofs.Edits.OwnEdited.{splices}
+use Rattle.cdf_edits.proofs.Edits.IndexEdited.{vdr_size}
 use Rattle.cdf_reindex.proofs.MadeEdit.{edit, index_made_marks, marks, node_typed, olds, own_marks, places, reborn, t}
-use Rattle.cdf_reindex.proofs.MadeSplices.{beside, block_kept, block_type, but_heads, only, part, splices, tests}
+use Rattle.cdf_reindex.proofs.MadeSplices.{beside, block_kept, block_type, index_edit, own_edit, only, part, tests}
 use Rattle.cdf_reindex.proofs.MadeTaken.{listed_avoids, listed_within, node_takes, taking_all, unlisted_away, untaken}
 
 abbrev links : List Field
@@ -128,7 +129,7 @@ module _ {b now : List ℕ} (found : Found) {before : List VariableShape} {own :
   away_stands : (xs : List ℕ) → ((m : ℕ) → In m xs → In m (all_variable_records (shape b))) → ((m : ℕ) → In m (variable_records own) → In m xs → ⊥) → (m : ℕ) → In m xs → Stood b now m
   away_stands xs sub out m i =
       let inside = variables_in b (shape b) sound m (sub m i) in
-      stands m inside (kept_away e m (type_at b m) inside refl (beside good among r whole xs sub out m i))
+      stands m inside (kept_away e m (type_at b m) inside refl (beside good among r whole m (sub m i) (λ j. out m j i)))
 
   -- ---- what its own records may
 
@@ -176,7 +177,7 @@ module _ {b now : List ℕ} (found : Found) {before : List VariableShape} {own :
   descriptor_stays : Stays b now own.vdr head_fields
   descriptor_stays = record {
     stands = e.sub own.vdr (tile good among);
-    size_is = size_same (but_heads good among r whole);
+    size_is = vdr_size good among (index_edit good among r whole);
     same = λ n lt out. (part good among r whole n (n + 1) (aside n out.0 out.1.0) (omega arith)).each (own.vdr + n) (omega arith) (omega arith);
   }
     where
@@ -244,5 +245,5 @@ module _ {b now : List ℕ} (found : Found) {before : List VariableShape} {own :
       keep_all b now may done
       (keep_file b now may done sound (keeps_stood b now 8 (stands 8 cdr (cdr_kept sound e (tests good among r whole).file_clear)) (Only []))
       (keeps_fields sound e refl (shape b).gdr gdr_type space_fields (gdr_in b (shape b) h) (gdr_typed b (shape b) h) by_kind.heads by_kind.inside))
-      (keep_attributes b now may done 0 (shape b).attributes (λ m i. stands m (all_attributes_in sound m i) (attributes_kept sound (splices good among r whole) m i)))
+      (keep_attributes b now may done 0 (shape b).attributes (λ m i. stands m (all_attributes_in sound m i) (attributes_kept sound (splices good among (own_edit good among r whole)) m i)))
       both.0 both.1 (keep_unused sound e refl may done listed_marks unlisted_marks)

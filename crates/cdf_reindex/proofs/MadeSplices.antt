@@ -1,7 +1,6 @@
 -- An index made anew leaves the file, all attributes and the other variables, and the variable is linked with it.
-use Rattle.std.proofs.Common.{◌≡◌, ◌≢◌, ◌⊎◌, ℕ, ◌+◌, ◌≤◌, List, [], ◌∷◌, ◌++◌, length, true, true≢false, refl, sym, ap, subst, ◌∙◌, arith, inl, inr}
+use Rattle.std.proofs.Common.{◌≡◌, ◌≢◌, ◌⊎◌, ℕ, ◌+◌, ◌≤◌, List, [], ◌∷◌, length, true, true≢false, refl, sym, ap, subst, ◌∙◌, arith, inl, inr}
 use Rattle.std.proofs.lemmas.Bool.{ne_eqb}
-use Rattle.std.specs.List.{flat_map}
 use Rattle.cdf_model.specs.declared.kinds.Kind.{Kind}
 use Rattle.cdf_model.specs.declared.kinds.Kind.TheVariants.{R, Z}
 use Rattle.cdf_format.specs.Bytes.{Same}
@@ -9,19 +8,15 @@ use Rattle.cdf_format.specs.Chains.{is_a, is_in, IsChain}
 use Rattle.cdf_format.specs.Fields.{number, size_at, type_at}
 use Rattle.cdf_format.specs.Index.{Leaf, leaves_of}
 use Rattle.cdf_format.specs.Owners.{variable_records}
-use Rattle.cdf_format.specs.Records.{Field, gdr_uir_head, vdr_num}
-use Rattle.cdf_format.specs.RecordTypes.{gdr_type, r_vdr_type, z_vdr_type, vxr_type, vvr_type, cvvr_type, cpr_type, uir_type, fixed_size}
-use Rattle.cdf_format.specs.Shape.{VariableShape, Shape, vdrs, Each, HasVariable, HasShape, shape}
+use Rattle.cdf_format.specs.Records.{gdr_uir_head}
+use Rattle.cdf_format.specs.RecordTypes.{gdr_type, r_vdr_type, z_vdr_type, vxr_type, vvr_type, cvvr_type, cpr_type, uir_type}
+use Rattle.cdf_format.specs.Shape.{VariableShape, Shape, Each, HasShape, shape}
 use Rattle.cdf_format.specs.Sound.{LeafFits, IsSound}
 use Rattle.cdf_format.specs.Tiles.{In}
 use Rattle.cdf_format.specs.WellFormed.{Good}
-use Rattle.cdf_format.proofs.BytesLemmas.{word_kept}
-use Rattle.cdf_format.proofs.ChainsLemmas.{is_a-type, linkable-in, linkable-type}
-use Rattle.cdf_format.proofs.GoodImageLemmas.{vdrs_append}
+use Rattle.cdf_format.proofs.ChainsLemmas.{is_a-type}
 use Rattle.cdf_format.proofs.GoodSound.{good_is_sound}
 use Rattle.cdf_format.proofs.Members.{In-append}
-use Rattle.cdf_format.proofs.TilesLemmas.{tile_lies}
-use Rattle.cdf_edits.specs.Commands.Allowances.{shapes_of}
 use Rattle.cdf_edits.specs.Commands.Room.{vxr_bytes}
 use Rattle.cdf_edits.specs.Edits.Edit.{Edit}
 use Rattle.cdf_edits.specs.Edits.Marks.{Mark, Avoids, Away, avoided, unmarked, variable_types, keeps_file}
@@ -29,20 +24,21 @@ use Rattle.cdf_edits.specs.Space.Chains.{head_of, count_of, type_in}
 use Rattle.cdf_edits.specs.Space.VariableChains.{variables_chain}
 use Rattle.cdf_edits.proofs.Edits.InRecords.{places_of}
 use Rattle.cdf_edits.proofs.Edits.MarkLemmas.{the_one, or_cases, away-avoids, unmarked-away, Avoids-append, Away-append}
-use Rattle.cdf_edits.proofs.Edits.RecordFrame.{kept, chain_stays, gdr_field, gdr_place, file_same}
-use Rattle.cdf_edits.proofs.Edits.StepEdits.{fixed_long}
+use Rattle.cdf_edits.proofs.Edits.RecordFrame.{kept, gdr_place, file_same}
 use Rattle.cdf_edits.proofs.Edits.VariableCopied.{node_behind, block_behind}
-use Rattle.cdf_edits.proofs.Edits.VariableFrame.{variable_typed, variables_away, remain_from}
+use Rattle.cdf_edits.proofs.Edits.VariableFrame.{variable_typed}
 use Rattle.cdf_edits.proofs.Edits.VariableKept.{OnlyVariable, only_variable}
-use Rattle.cdf_edits.proofs.Edits.VariableKinds.{other_kind, keeps_kind, kind_chain, kind_ours, in_gdr}
-use Rattle.cdf_edits.proofs.Edits.VariableSplice.{VariableSplices, keeps_all_attributes}
-use Rattle.cdf_edits.proofs.Edits.VdrEdited.{StandsAmong, through, least_size, tile, typed, long, has, fits, ours, after_ours, behind_in}
+use Rattle.cdf_edits.proofs.Edits.VariableKinds.{other_kind, keeps_kind}
+use Rattle.cdf_edits.proofs.Edits.VariableSplice.{keeps_all_attributes}
+use Rattle.cdf_edits.proofs.Edits.StandsAmong.{StandsAmong, tile, typed, fits, behind_in}
 use Rattle.cdf_edits.proofs.Frame.Meaning.{FileSame, Kept}
 use Rattle.cdf_edits.proofs.Frame.OwnersApart.{all_variable_records}
 use Rattle.cdf_edits.proofs.Space.UsedRecords.{apart}
 use Rattle.cdf_index.specs.Replacing.{with_index}
 use Rattle.cdf_reindex.specs.Reindexed.{IsRebuilt}
-use Rattle.cdf_reindex.proofs.MadeBlocks.{ButHeads, cpr_same}
+use Rattle.cdf_edits.proofs.Edits.OwnEdited.{OwnEdit}
+use Rattle.cdf_edits.proofs.Edits.IndexEdited.{IndexEdit}
+use Rattle.cdf_edits.proofs.Edits.IndexEdited as of_index
 use Rattle.cdf_reindex.proofs.MadeEdit.{index_made_marks, own_marks, edit, marks, olds, places, reborn, records_now, t}
 use Rattle.cdf_reindex.proofs.MadeTaken.{taking_all}
 
@@ -133,10 +129,10 @@ module _ {b now : List ℕ} {kind : Kind} {before : List VariableShape} {own : V
   made_away x m none other out = Away-append taking mine_alone x m (unmarked-away taking x m none) ((λ same lies. other (the_one v m lies)), ((λ same lies. out same lies), tt))
 
   -- records of variables that are not of this one
-  pub beside : (xs : List ℕ) → ((m : ℕ) → In m xs → In m (all_variable_records s)) → ((m : ℕ) → In m (variable_records own) → In m xs → ⊥) → (m : ℕ) → In m xs → Away ks (type_at b m) m
-  beside xs sub out m i =
-      made_away (type_at b m) m (variable_unspaced s.unused (places good among r) (vxr_bytes 64) (type_at b m) (variable_typed b s sound m (sub m i))) (λ q. out m (subst (λ (x : ℕ). In x (variable_records own)) (sym q) (inl refl)) i)
-      (λ same j. out m (inr (node_behind own m j)) i)
+  pub beside : (m : ℕ) → In m (all_variable_records s) → (In m (variable_records own) → ⊥) → Away ks (type_at b m) m
+  beside m i out =
+      made_away (type_at b m) m (variable_unspaced s.unused (places good among r) (vxr_bytes 64) (type_at b m) (variable_typed b s sound m i)) (λ q. out (inl q))
+      (λ same j. out (inr (node_behind own m j)))
 
   pub only : (m : ℕ) → In m (variable_records own) → OnlyVariable b s kind before after m
   only m i = only_variable sound kind before own after among.was m i
@@ -157,29 +153,6 @@ module _ {b now : List ℕ} {kind : Kind} {before : List VariableShape} {own : V
   pub part : (lo hi : ℕ) → (hi ≤ 28) ⊎ (44 ≤ lo) → hi ≤ size_at b v → Same b now (v + lo) (v + hi)
   part lo hi side fit = e.part v type lo hi (tile good among) (typed good among) (any_avoids v 0 12 (inl (omega arith))) (any_avoids v lo hi side) fit
 
-  pub but_heads : ButHeads b now v
-  but_heads = record { file = file; part = part; wide = long good among; inside = (tile_lies b 8 (length b) s.records v h.tiled (tile good among)).high; end = (fits good among).0 }
-
-  pub has_now : HasVariable now (shape now).records mine
-  has_now = record { indexed = r.stands; packed_by = cpr_same but_heads ∙ (has good among).packed_by }
-
-  -- ---- chains
-
-  pub gdr_same : (g : Field) → avoided ks gdr_type g.place (g.place + g.width) ≡ true → g.place + g.width ≤ 84 → number now s.gdr g ≡ number b s.gdr g
-  gdr_same g clear l = gdr_field sound e tests.file_clear g clear l
-
-  pub same_vdrs : vdrs (before ++ mine ∷ after) ≡ vdrs (shapes_of s kind)
-  same_vdrs = vdrs_append before (mine ∷ after) ∙ sym (vdrs_append before (own ∷ after)) ∙ sym (ap vdrs among.was)
-
-  -- the numbers of all variables of the kind
-  pub nums_same : (m : ℕ) → In m (vdrs (shapes_of s kind)) → number now m vdr_num ≡ number b m vdr_num
-  nums_same m i =
-      let ok = (kind_chain kind h).linkable m i in
-      let inside = linkable-in b s.records type m ok in
-      let is = linkable-type b s.records type m ok in
-      let far = through 340 (fixed_size type) (size_at b m) (least_size kind) (fixed_long b s h type m inside is) in
-      word_kept b now (m + 68) (m + 72) (e.part m type 68 72 inside is (any_avoids m 0 12 (inl (omega arith))) (any_avoids m 68 72 (inr (omega arith))) (omega arith)) (m + vdr_num.place) 4 (omega arith) (omega arith)
-
   pub gdr_now : (shape now).gdr ≡ s.gdr
   gdr_now = sym r.sound.has_shape.gdr_is ∙ gdr_place sound e tests.file_clear
 
@@ -189,24 +162,23 @@ module _ {b now : List ℕ} {kind : Kind} {before : List VariableShape} {own : V
     | inr j ↦ e.sub m (behind_in good among m (node_behind own m j))
   ]
 
-  -- ---- the splice
+  -- ---- the edit of one variable
 
-  abbrev others : List VariableShape
-  others = shapes_of s (other_kind kind)
-
-  pub splices : VariableSplices b now s kind (shape now).records (shape now).unused ks (reborn good among r whole) before (own ∷ []) (mine ∷ []) after
-  splices = record {
+  pub index_edit : IndexEdit b now kind own r.index (shape now).records (shape now).unused ks (reborn good among r whole)
+  index_edit = record {
     edit = e;
-    was = among.was;
     file_clear = tests.file_clear;
     attributes_clear = tests.attributes_clear;
     other_clear = tests.other_clear;
-    before_remain = remain_from sound e file before (ours good among).0 (variables_away sound e before (ours good among).0 (beside (flat_map variable_records before) (ours good among).0.sub (λ m i. (only m i).in_before)));
-    after_remain = remain_from sound e file after (after_ours good among) (variables_away sound e after (after_ours good among) (beside (flat_map variable_records after) (after_ours good among).sub (λ m i. (only m i).in_after)));
-    others_live = variables_away sound e others (kind_ours b s sound (other_kind kind)) (beside (flat_map variable_records others) (kind_ours b s sound (other_kind kind)).sub (λ m i. (only m i).in_others));
+    cpr_clear = tests.cpr_clear;
+    head_clear = tests.head_clear;
+    count_clear = tests.count_clear;
+    beside = beside;
+    avoids = λ m lo hi side. any_avoids m lo hi (elim side [ inl l ↦ inl (omega arith) | inr l ↦ inr l ]);
     typed = λ m i. (r.sound.has_shape.typed m (reborn_in m i), r.sound.has_shape.fixed m (reborn_in m i));
-    variable_chain = subst (λ (ms : List ℕ). IsChain now (shape now).records type (number now s.gdr (head_of (variables_chain kind))) ms) (sym same_vdrs)
-        (chain_stays e type _ _ (vdrs (shapes_of s kind)) (kind_chain kind h) (gdr_same (head_of (variables_chain kind)) tests.head_clear (in_gdr kind).0) (λ m i. any_avoids m 0 20 (inl (omega arith))));
     unused_chain = subst (λ (g : ℕ). IsChain now (shape now).records uir_type (number now g gdr_uir_head) (shape now).unused) gdr_now r.sound.has_shape.unused_chain;
-    own_have = (has_now, tt);
+    index_now = r.stands;
   }
+
+  pub own_edit : OwnEdit b now kind own r.index (shape now).records (shape now).unused ks (reborn good among r whole)
+  own_edit = of_index.own_edit good among index_edit

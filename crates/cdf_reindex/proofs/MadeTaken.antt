@@ -26,9 +26,9 @@ use Rattle.cdf_edits.proofs.Edits.OwnersKept.{keeps_within, taken_is_taken}
 use Rattle.cdf_edits.proofs.Edits.RecordFrame.{kept}
 use Rattle.cdf_edits.proofs.Frame.Meaning.{Kept}
 use Rattle.cdf_edits.proofs.Space.UsedRecords.{apart}
-use Rattle.cdf_puts.proofs.ActsJoined.{ListedStay, acts_joined}
-use Rattle.cdf_puts.proofs.LeafEdit.{Grows, NodeStands, still_edit, grows_not, placed_grows, placing_marks}
-use Rattle.cdf_puts.proofs.OnlyTaken.{OnlyTakes}
+use Rattle.cdf_edits.proofs.Edits.ActsJoined.{ListedStay, acts_joined}
+use Rattle.cdf_edits.proofs.Edits.RecordPlaced.{Grows, NodeStands, still_edit, grows_not, placed_grows, placing_marks}
+use Rattle.cdf_edits.proofs.Edits.OnlyTaken.{OnlyTakes}
 use Rattle.cdf_reindex.specs.Reindexed.{NodeTaken, AllTaken}
 
 -- ---- marks
@@ -105,9 +105,6 @@ module _ {b mid : List ℕ} {place : ℕ} (sound : IsSound b (shape b)) (node : 
     | inl x ↦ true-is_in place (shape b).unused x
     | inr x ↦ absurd ((loose_away sound node.fills still refl refl place i (false-is_in place (shape b).unused x)).1.1.1.1.0 refl (inl refl))
   ]
-
-  pub one_stands : NodeStands mid 64 place
-  one_stands = record { inside = place_in sound node.fills; typed = node.fills.typed; size_is = filled_size sound node.fills }
 
 -- ---- some, one after the other
 

@@ -1,15 +1,15 @@
 -- The index that was built takes the place of the old one: the image stays sound, and the old nodes are free.
+use Rattle.std.specs.Int.{w32, cast_signed}
 use Rattle.std.proofs.Common.{◌≡◌, ◌≢◌, ◌⊎◌, ℕ, ◌+◌, ◌^◌, ◌<◌, ◌≤◌, List, [], ◌∷◌, ◌++◌, length, map, slice_index, refl, sym, ap, ap₂, subst, ◌∙◌, arith, inl, inr}
 use Rattle.cdf_model.specs.DataSet.{Variable}
-use Rattle.std.specs.List.{before_first, flat_map}
+use Rattle.std.specs.List.{flat_map}
 use Rattle.std.specs.Prelude.{◌&&◌, ◌||◌, ◌==◌, if◌then◌else◌}
 use Rattle.cdf_edits.proofs.Edits.OwnedOnce.{used_times, unused_none, outside_unowned}
 use Rattle.cdf_edits.proofs.Frame.LinksStay.{SameHeads, nodes_kept, node_fits_kept}
-use Rattle.cdf_edits.proofs.Frame.Meaning.{FileSame, Kept, pad_long, pad_width, end_fits}
+use Rattle.cdf_edits.proofs.Frame.Meaning.{FileSame, Kept, pad_long}
 use Rattle.cdf_edits.proofs.Frame.OwnerAlone.{blocks_stand, heads, stays}
 use Rattle.cdf_edits.proofs.Frame.OwnersApart.{times-append, times-in, owned-times, file_records, all_attribute_records, all_variable_records, vdrs_stand, file_same_is}
 use Rattle.cdf_edits.proofs.Frame.SoundStays.{unused_kept}
-use Rattle.cdf_edits.proofs.Frame.VdrCopied.{copied_in_place}
 use Rattle.cdf_edits.proofs.Space.UsedRecords.{apart}
 use Rattle.cdf_edits.specs.Frame.Changed.{touched_field}
 use Rattle.cdf_edits.specs.Frame.Leaves.{after_links, ChangedWithin}
@@ -17,28 +17,29 @@ use Rattle.cdf_edits.specs.Space.Freeing.{AreFree}
 use Rattle.cdf_fields.proofs.Writes.{field_reads, other_words, other_bytes, length-with_field}
 use Rattle.cdf_format.proofs.Members.{either, true-is_in, false-is_in}
 use Rattle.cdf_format.proofs.Owning.{block_in, times-none}
-use Rattle.cdf_format.proofs.BytesLemmas.{piece_kept}
+use Rattle.cdf_format.proofs.BytesLemmas.{word_kept}
 use Rattle.cdf_format.proofs.ShapeLemmas.{shape_is, content_is}
 use Rattle.cdf_format.proofs.TilesLemmas.{tile_lies}
 use Rattle.cdf_format.specs.Bytes.{Same}
 use Rattle.cdf_format.specs.Chains.{is_in, linked_types}
-use Rattle.cdf_format.specs.Content.{majority_of, variable_of, content_of, content}
-use Rattle.cdf_format.specs.Fields.{LiesIn, number, has_bit, name_in, size_at, type_at, with_field}
+use Rattle.cdf_format.specs.Content.{majority_of, variable_of, content_of, content, records_in}
+use Rattle.cdf_format.specs.Fields.{LiesIn, number, has_bit, size_at, type_at, with_field}
 use Rattle.cdf_format.specs.Index.{Nodes, Leaf, nodes_of, leaves_of}
 use Rattle.cdf_format.specs.IndexOf.{IsIndex}
 use Rattle.cdf_format.specs.IndexRules.{is_block}
 use Rattle.cdf_format.specs.Owners.{times, variable_records, unused_records, owned_records}
-use Rattle.cdf_format.specs.Records.{vdr_vxr_head, vdr_vxr_tail, vdr_name}
+use Rattle.cdf_format.specs.Records.{vdr_vxr_head, vdr_vxr_tail, vdr_max_rec}
 use Rattle.cdf_format.specs.RecordTypes.{vxr_type, uir_type, vvr_type, cvvr_type}
 use Rattle.cdf_format.specs.Shape.{VariableShape, Shape, Each, vdrs, variables, shape, HasVariable, HasShape}
 use Rattle.cdf_format.specs.Sound.{NodeFits, LeafFits, VariableFits, IsSound}
 use Rattle.cdf_format.specs.Tiles.{In}
-use Rattle.cdf_format.specs.VariableFields.{is_z, dimensions_at, value_bytes, pad_field, has_pad, pad_at}
+use Rattle.cdf_format.specs.VariableFields.{is_z, dimensions_at, value_bytes, pad_field, has_pad}
 use Rattle.cdf_format.specs.VariableRules.{vdr_end}
 use Rattle.cdf_reindex.specs.Reindexed.{IsBare}
 use Rattle.cdf_index.specs.Replacing.{with_index, with_variables, NewIndex, IsReplaced}
 use Rattle.cdf_reindex.proofs.BareNodes.{bare_by}
-use Rattle.cdf_reindex.proofs.HeadsWritten.{ButHeads, block_fits_copied, end_copied, cpr_copied, flags_copied, pad_copied, variable_same}
+use Rattle.cdf_edits.proofs.Frame.VdrAlike.{block_fits_alike, records_alike}
+use Rattle.cdf_edits.proofs.Frame.VdrStays.{VdrStays, stays_alike, end_stays, cpr_stays, variable_stays}
 use Rattle.cdf_index.proofs.IndexReplaced.{times-parts, index_replaced}
 use Rattle.cdf_reindex.proofs.LevelCounts.{distinct_by_times}
 use Rattle.cdf_reindex.proofs.PyramidBuilt.{NewTree, the_one}
@@ -271,13 +272,11 @@ module _ (b made : List ℕ) (before : List VariableShape) (v : VariableShape) (
     once = distinct_by_times (nodes_of index) x.new_once;
   }
 
-  buts : ButHeads made linked v.vdr
-  buts = record {
-    typed = same_heads.types v.vdr vdr_in;
-    first = copied_in_place made linked v.vdr 20 28 (record { each = λ i l u. same i (inl u) (inl (omega arith)) });
-    second = copied_in_place made linked v.vdr 44 84 (record { each = λ i l u. same i (inr (omega arith)) (inr (omega arith)) });
-    behind = copied_in_place made linked v.vdr 340 (pad_field made v.vdr).place (record { each = λ i l u. same i (inr (omega arith)) (inr (omega arith)) });
-  }
+  rest_same : Same made linked (v.vdr + 44) (v.vdr + size_at made v.vdr)
+  rest_same = record { each = λ i l u. same i (inr (omega arith)) (inr (omega arith)) }
+
+  vdr_stays : VdrStays made linked v.vdr
+  vdr_stays = record { typed = same_heads.types v.vdr vdr_in; type = record { each = λ i l u. same i (inl (omega arith)) (inl (omega arith)) }; behind = rest_same; inside = inside; end = fits.0 }
 
   block_same : (p : ℕ) → In p s.records → is_block linked s.records p ≡ is_block made s.records p
   block_same p i = let t = same_heads.types p i in λ k. (is_in p s.records && (t k == vvr_type)) || (is_in p s.records && (t k == cvvr_type))
@@ -286,7 +285,7 @@ module _ (b made : List ℕ) (before : List VariableShape) (v : VariableShape) (
   leaf_kept [] other f = tt
   leaf_kept (leaf ∷ more) other f =
       let i = block_in made s.records leaf.place f.0.0 in
-      ((block_same leaf.place i ∙ f.0.0, block_fits_copied file buts leaf leaf.packed (kept leaf.place i (other leaf.place (inl refl))) f.0.1), leaf_kept more (λ m j. other m (inr j)) f.1)
+      ((block_same leaf.place i ∙ f.0.0, block_fits_alike file (stays_alike file vdr_stays) leaf leaf.packed (kept leaf.place i (other leaf.place (inl refl))) f.0.1), leaf_kept more (λ m j. other m (inr j)) f.1)
 
   block_differs : (m : ℕ) → In m (map (λ (leaf : Leaf). leaf.place) (leaves_of v.index)) → m ≢ v.vdr
   block_differs m i = others_differ m (some _ _ _ (times-in m (map (λ (leaf : Leaf). leaf.place) (leaves_of v.index)) i))
@@ -327,8 +326,8 @@ module _ (b made : List ℕ) (before : List VariableShape) (v : VariableShape) (
     has = has_linked;
     nodes_fit = each_of (NodeFits linked) (nodes_of index) (λ m i. node_fits_kept made linked s.records s.records same_heads m (new_kept m i) (x.node_at m i).fits);
     leaves_fit = leaves_fit;
-    vdr_fits = subst (λ (n : ℕ). vdr_end linked v.vdr ≤ n) (sym (same_heads.sizes v.vdr vdr_in)) (subst (λ (n : ℕ). n ≤ size_at made v.vdr) (sym (end_copied file buts)) fits.0);
-    packed_by = cpr_copied file buts ∙ has_v.packed_by;
+    vdr_fits = subst (λ (n : ℕ). vdr_end linked v.vdr ≤ n) (sym (same_heads.sizes v.vdr vdr_in)) (subst (λ (n : ℕ). n ≤ size_at made v.vdr) (sym (end_stays file vdr_stays)) fits.0);
+    packed_by = cpr_stays file vdr_stays ∙ has_v.packed_by;
     own = own;
   }
 
@@ -349,9 +348,6 @@ module _ (b made : List ℕ) (before : List VariableShape) (v : VariableShape) (
 
   pub variables_linked : variables (shape linked) ≡ before ++ with_index v index ∷ after
   variables_linked = ap variables is_shape ∙ there.is
-
-  pub index_linked : IsIndex linked (shape linked).records (number linked v.vdr vdr_vxr_head) index
-  index_linked = subst (λ (y : Shape). IsIndex linked y.records (number linked v.vdr vdr_vxr_head) index) (sym is_shape) has_linked
 
   pub new_bare : Each (IsBare linked) (nodes_of index)
   new_bare = each_of (IsBare linked) (nodes_of index) (λ m i. bare_by made linked m (new_kept m i) (x.node_at m i).fits (x.bare m i))
@@ -422,22 +418,11 @@ module _ (b made : List ℕ) (before : List VariableShape) (v : VariableShape) (
 
   -- ---- what the image means
 
-  rest_same : Same made linked (v.vdr + 44) (v.vdr + size_at made v.vdr)
-  rest_same = record { each = λ i l u. same i (inr (omega arith)) (inr (omega arith)) }
-
-  name_same : name_in linked v.vdr vdr_name ≡ name_in made v.vdr vdr_name
-  name_same = ap (before_first (λ (n : ℕ). n == 0)) (piece_kept made linked (v.vdr + 44) (v.vdr + size_at made v.vdr) rest_same (v.vdr + 84) 256 (omega arith) (let l = long in omega arith) inside (omega (arith, as_long)))
-
-  pad_same : pad_at linked v.vdr ≡ pad_at made v.vdr
-  pad_same = pad_copied file buts (flags_copied file buts) (λ e.
-      let wide = pad_width (is_z made v.vdr) (dimensions_at made v.vdr) (value_bytes made v.vdr) in
-      let ends = end_fits (has_pad made v.vdr) (pad_field made v.vdr).place (value_bytes made v.vdr) (size_at made v.vdr) fits.0 e in
-      let ends' : (pad_field made v.vdr).place + (pad_field made v.vdr).width ≤ size_at made v.vdr = subst (λ (w : ℕ). (pad_field made v.vdr).place + w ≤ size_at made v.vdr) (sym wide) ends in
-      let low = pad_long (is_z made v.vdr) (dimensions_at made v.vdr) (value_bytes made v.vdr) in
-      piece_kept made linked (v.vdr + 44) (v.vdr + size_at made v.vdr) rest_same (v.vdr + (pad_field made v.vdr).place) (pad_field made v.vdr).width (omega arith) (omega arith) inside (omega (arith, as_long)))
-
   variable_means : variable_of linked (with_index v index) ≡ variable_of made v
-  variable_means = variable_same file v index s.records buts x.leaves_are (λ m i. kept m (blocks_stand made s.records v.vdr (leaves_of v.index) fits.2 m i) (block_differs m i)) fits.2 name_same pad_same
+  variable_means =
+      let max : number linked v.vdr vdr_max_rec ≡ number made v.vdr vdr_max_rec = word_kept made linked (v.vdr + 24) (v.vdr + 28) (record { each = λ i l u. same i (inl (omega arith)) (inl (omega arith)) }) (v.vdr + 24) 4 (omega arith) (omega arith) in
+      let all = ap (records_in linked v.vdr) x.leaves_are ∙ records_alike file (stays_alike file vdr_stays) max (leaves_of v.index) s.records (λ m i. kept m (blocks_stand made s.records v.vdr (leaves_of v.index) fits.2 m i) (block_differs m i)) fits.2 in
+      variable_stays file v (with_index v index) vdr_stays refl ∙ (λ i. record (variable_of made v) { max_rec = cast_signed w32 (max i); recs = all i })
 
   -- making, linking: the content is the same
   pub content_linked : content linked ≡ content b

@@ -3,7 +3,7 @@ use Rattle.std.proofs.Common.{◌≡◌, ℕ, ◌+◌, ◌*◌, ◌≤◌, List,
 use Rattle.std.proofs.lemmas.List.{length-map}
 use Rattle.cdf_model.specs.declared.kinds.Kind.{Kind}
 use Rattle.cdf_model.specs.declared.kinds.Kind.TheVariants.{R, Z}
-use Rattle.cdf_edits.proofs.Edits.VdrEdited.{StandsAmong, tile, long}
+use Rattle.cdf_edits.proofs.Edits.StandsAmong.{StandsAmong, tile, long}
 use Rattle.cdf_edits.specs.Commands.Room.{nodes_above, reindex_room}
 use Rattle.cdf_format.proofs.GoodImageLemmas.{good_image, vdrs_append}
 use Rattle.cdf_format.proofs.GoodSound.{good_by_its_shape, good_is_sound, good_eof}

@@ -11,7 +11,7 @@ use Rattle.cdf_edits.specs.Index.Blocks.{Range, range, covered, ranges_of, first
 use Rattle.cdf_edits.proofs.Edits.LeafRecords.{Ascending}
 use Rattle.cdf_index.specs.Order.{leaf_of}
 use Rattle.cdf_puts.proofs.CoveringRanges.{of_leaves, next_past}
-use Rattle.cdf_puts.proofs.LeafRules.{NoneBegins, none_begins}
+use Rattle.cdf_index.proofs.LeafRules.{NoneBegins, none_begins}
 use Rattle.cdf_var_records.specs.declared.put_room.Stretch.{Stretch}
 use Rattle.cdf_var_records.specs.Room.{IsStretch, covered_before}
 

@@ -1,16 +1,16 @@
 -- Leaves in order, each with its place: how one is found, and the bytes of its records where it is not packed.
-use Rattle.std.proofs.Common.{◌≡◌, ◌≢◌, ◌⊎◌, ℕ, zero, suc, ◌+◌, ◌-◌, ◌*◌, ◌<◌, ◌≤◌, List, [], ◌∷◌, take, drop, length, Bool, true, false, Option, Some, None, eqb, leb, eq-eqb, true≢false, refl, sym, ap, subst, ◌∙◌, arith, inl, inr}
-use Rattle.std.proofs.lemmas.Bool.{cases_eq, le-leb, lt-leb, ne_eqb}
+use Rattle.std.proofs.Common.{◌≡◌, ◌⊎◌, ℕ, zero, suc, ◌+◌, ◌-◌, ◌*◌, ◌<◌, ◌≤◌, List, [], ◌∷◌, take, drop, Bool, true, false, Some, None, leb, eq-eqb, refl, sym, ap, subst, ◌∙◌, arith, inl, inr}
+use Rattle.std.proofs.lemmas.Bool.{le-leb, lt-leb, ne_eqb}
 use Rattle.std.proofs.lemmas.List.{take-take, drop-take, drop-drop}
 use Rattle.std.proofs.lemmas.Option.{same_Some}
-use Rattle.std.specs.Prelude.{◌==◌, find, ◌&&◌, if◌then◌else◌, max, min}
+use Rattle.std.specs.Prelude.{◌==◌, find, if◌then◌else◌, max}
 use Rattle.cdf_model.specs.Limits.{record_number_limit}
 use Rattle.cdf_format.specs.Content.{plain_bytes}
 use Rattle.cdf_format.specs.Index.{Leaf}
 use Rattle.cdf_format.specs.Owners.{times}
 use Rattle.cdf_format.specs.Shape.{Each}
 use Rattle.cdf_format.specs.Tiles.{In}
-use Rattle.cdf_format.specs.VariableFields.{record_bytes, records_of_leaf}
+use Rattle.cdf_format.specs.VariableFields.{record_bytes}
 use Rattle.cdf_format.proofs.Members.{either}
 use Rattle.cdf_format.proofs.Tests.{both, le_of}
 use Rattle.cdf_edits.specs.Index.Blocks.{range, covers, shared}

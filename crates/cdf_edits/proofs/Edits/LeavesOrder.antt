@@ -28,7 +28,7 @@ ascending_both low mid upto (x ∷ xs) ys a c l h = let a2 = a.2 in (a.0, a.1, o
 -- ---- numbers with a sign
 
 -- the number before one
-abbrev before_number : ℕ → ℤ
+abbrev pub before_number : ℕ → ℤ
 before_number zero = negsuc 0
 before_number (suc n) = pos n
 
@@ -52,14 +52,14 @@ first_after low first h = elim (sign_of first) [ inl e ↦ (past_before low firs
 last_after : (first last : ℕ) → int_le (pos first) (with_sign last) ≡ true → (first ≤ last) × (with_sign last ≡ pos last)
 last_after first last h = elim (sign_of last) [ inl e ↦ (le_of first last (rw e at h), e) | inr e ↦ absurd (true≢false (sym (rw e at h))) ]
 
-record Between (low high first last : ℕ) : Type 0 where
-  low_first : low ≤ first
-  first_last : first ≤ last
-  last_high : last ≤ high
-  first_is : with_sign first ≡ pos first
-  last_is : with_sign last ≡ pos last
+pub record Between (low high first last : ℕ) : Type 0 where
+  pub low_first : low ≤ first
+  pub first_last : first ≤ last
+  pub last_high : last ≤ high
+  pub first_is : with_sign first ≡ pos first
+  pub last_is : with_sign last ≡ pos last
 
-between : (low high first last : ℕ) → is_between (before_number low) (pos high) first last ≡ true → Between low high first last
+pub between : (low high first last : ℕ) → is_between (before_number low) (pos high) first last ≡ true → Between low high first last
 between low high first last e =
     let p = both (int_lt (before_number low) (with_sign first)) (int_le (with_sign first) (with_sign last) && int_le (with_sign last) (pos high)) e in
     let q = both (int_le (with_sign first) (with_sign last)) (int_le (with_sign last) (pos high)) p.1 in
@@ -67,7 +67,7 @@ between low high first last e =
     let l = last_after first last (subst (λ (z : ℤ). int_le z (with_sign last) ≡ true) f.1 q.0) in
     record { low_first = f.0; first_last = l.0; last_high = le_of last high (subst (λ (z : ℤ). int_le z (pos high) ≡ true) l.1 q.1); first_is = f.1; last_is = l.1 }
 
-before_is : (n : ℕ) → with_sign n ≡ pos n → number_before n ≡ before_number n
+pub before_is : (n : ℕ) → with_sign n ≡ pos n → number_before n ≡ before_number n
 before_is zero e = ap (λ (z : ℤ). z -ℤ pos 1) e
 before_is (suc n) e = ap (λ (z : ℤ). z -ℤ pos 1) e ∙ -ℤ_one (pos (suc n))
 

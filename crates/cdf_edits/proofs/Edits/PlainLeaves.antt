@@ -1,6 +1,5 @@
 -- The leaves of a variable of a good image that is not compressed: no block is packed, each has room for its records, and no two stand at one place.
-use Rattle.std.proofs.Common.{◌≡◌, ◌⊎◌, ℕ, zero, suc, ◌+◌, ◌-◌, ◌*◌, ◌≤◌, List, [], ◌∷◌, ◌++◌, length, Bool, true, false, ◌&&◌, ◌||◌, eqb, eq-eqb, true≢false, refl, sym, ap, subst, ◌∙◌, arith, inl, inr}
-use Rattle.std.proofs.lemmas.Bool.{eqb-true}
+use Rattle.std.proofs.Common.{◌≡◌, ℕ, zero, suc, ◌+◌, ◌-◌, ◌*◌, ◌≤◌, List, [], ◌∷◌, ◌++◌, Bool, true, false, true≢false, sym, ap, subst, ◌∙◌, arith, inl, inr}
 use Rattle.std.specs.List.{flat_map}
 use Rattle.std.specs.Prelude.{◌==◌, if◌then◌else◌}
 use Rattle.cdf_model.specs.declared.kinds.Kind.{Kind}
@@ -10,31 +9,29 @@ use Rattle.cdf_format.specs.Chains.{is_a}
 use Rattle.cdf_format.specs.Fields.{size_at, type_at}
 use Rattle.cdf_format.specs.Index.{Nodes, no_node, node, Entries, no_entry, block, lower, Leaf, nodes_of, leaves_of, entry_leaves}
 use Rattle.cdf_format.specs.IndexOf.{HasNodes, Names}
-use Rattle.cdf_format.specs.IndexRules.{is_block, holds_packed, nodes_rows, vvr_rows, cvvr_rows, leaf_rows, index_rows}
+use Rattle.cdf_format.specs.IndexRules.{is_block, holds_packed, nodes_rows, vvr_rows, cvvr_rows, leaf_rows}
 use Rattle.cdf_format.specs.Owners.{times, variable_records, owned_records, unused_records}
 use Rattle.cdf_format.specs.RecordTypes.{vvr_type, cvvr_type}
 use Rattle.cdf_format.specs.Rules.{Hold, asked}
 use Rattle.cdf_format.specs.Shape.{VariableShape, Shape, vdrs, variables, is_compressed, Each, shape}
-use Rattle.cdf_format.specs.Sound.{LeafFits, BlockFits, IsSound}
-use Rattle.cdf_format.specs.VariableFields.{record_bytes, plain_size}
+use Rattle.cdf_format.specs.Sound.{LeafFits, BlockFits}
+use Rattle.cdf_format.specs.VariableFields.{record_bytes}
 use Rattle.cdf_format.specs.WellFormed.{Good}
 use Rattle.cdf_format.proofs.ChainsLemmas.{is_a-type}
 use Rattle.cdf_format.proofs.GoodSound.{good_by_its_shape}
-use Rattle.cdf_format.proofs.Members.{either, is_in-true}
 use Rattle.cdf_format.proofs.RowLemmas.{Hold-split, Hold-asked}
 use Rattle.cdf_format.proofs.ShapeLemmas.{Each-split, Each-append}
 use Rattle.cdf_format.proofs.Tests.{both}
 use Rattle.cdf_edits.specs.Commands.Allowances.{shapes_of}
 use Rattle.cdf_edits.proofs.Edits.InRecords.{places_of}
-use Rattle.cdf_edits.proofs.Edits.LeafPieces.{IsOneOf, InOrder, in_order, PlacedApart, of_each, place_in}
+use Rattle.cdf_edits.proofs.Edits.LeafPieces.{IsOneOf, in_order, PlacedApart, of_each}
 use Rattle.cdf_edits.proofs.Edits.LeafRecords.{Ascending, count_is}
 use Rattle.cdf_edits.proofs.Edits.LeavesOrder.{index_ascends}
 use Rattle.cdf_edits.proofs.Edits.MarkLemmas.{or_cases}
 use Rattle.cdf_edits.proofs.Edits.RecordFrame.{index_records}
-use Rattle.cdf_edits.proofs.Edits.VariableCopied.{block_behind}
 use Rattle.cdf_edits.proofs.Edits.VariableFrame.{IsRuled, all_ruled}
-use Rattle.cdf_edits.proofs.Edits.VariableKinds.{other_kind, of_kind}
-use Rattle.cdf_edits.proofs.Edits.VdrEdited.{StandsAmong, sound, has, fits, behind_in}
+use Rattle.cdf_edits.proofs.Edits.VariableKinds.{of_kind}
+use Rattle.cdf_edits.proofs.Edits.VdrEdited.{StandsAmong, sound, has, fits}
 use Rattle.cdf_edits.proofs.Frame.OwnersApart.{flat-append, times-append, times-three, owned-times, file_records, all_attribute_records, all_variable_records}
 
 -- ---- which blocks are packed

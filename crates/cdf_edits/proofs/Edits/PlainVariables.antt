@@ -2,7 +2,6 @@
 use Rattle.std.proofs.Common.{◌≡◌, ℕ, List, [], ◌∷◌, Bool, true, false, true≢false, refl, sym, ap, ◌∙◌, inl, inr}
 use Rattle.std.specs.Prelude.{◌==◌, if◌then◌else◌}
 use Rattle.cdf_edits.proofs.Edits.MarkLemmas.{or_cases}
-use Rattle.cdf_edits.proofs.Edits.VariableFrame.{AreOurs, ours_parts}
 use Rattle.cdf_edits.proofs.Frame.OwnerAlone.{Each-in}
 use Rattle.cdf_format.specs.Chains.{is_a, is_in}
 use Rattle.cdf_format.specs.Fields.{number, type_at}
@@ -64,7 +63,3 @@ module _ {b : List ℕ} {s : Shape} (good : IsGoodByShape b s) where
         no_flag = no_flag_if (is_compressed b v.vdr) (number b v.vdr vdr_cpr_or_spr_offset) (has.packed_by ∙ none);
         plain_blocks = plain_each v.vdr (leaves_of v.index) fits.2 (leaves_packed b s.records 8 v.index has.indexed.has_nodes);
       }
-
-  pub are_uncompressed : (vs : List VariableShape) → AreOurs b s vs → Each (IsUncompressed b s.records) vs
-  are_uncompressed [] ours = tt
-  are_uncompressed (v ∷ more) ours = (is_uncompressed v ours.has.0 ours.fits.0, are_uncompressed more (ours_parts b s (v ∷ []) more ours).1)

@@ -1,5 +1,5 @@
 -- What an edit leaves: decided by the types of its marks.
-use Rattle.std.proofs.Common.{◌≡◌, ℕ, ◌+◌, ◌*◌, ◌≤◌, List, [], ◌∷◌, ◌++◌, length, true, not, refl, sym, ap, subst, ◌∙◌, arith, inl, inr}
+use Rattle.std.proofs.Common.{◌≡◌, ℕ, ◌+◌, ◌*◌, ◌≤◌, List, [], ◌∷◌, ◌++◌, length, true, not, sym, ap, subst, ◌∙◌, arith, inl, inr}
 use Rattle.std.specs.Int.{w32, cast_signed}
 use Rattle.std.specs.List.{before_first}
 use Rattle.std.specs.Prelude.{◌==◌, ◌&&◌, if◌then◌else◌}
@@ -21,7 +21,9 @@ use Rattle.cdf_edits.proofs.Frame.OwnerAlone.{Each-in, little_code}
 use Rattle.cdf_edits.proofs.Rules.OfAttributes.{attribute_rules_kept}
 use Rattle.cdf_format.proofs.BytesLemmas.{Same-part, word_kept, words_kept, piece_kept, number_kept, integer_kept, next_kept, size_kept, type_kept}
 use Rattle.cdf_format.proofs.ChainsLemmas.{is_a-in, is_a-type, linkable-from, linkable-in, linkable-type, linkable-long}
-use Rattle.cdf_edits.proofs.Frame.Meaning.{FileSame, Kept, KeptButLink, late_size, late_type, late_number, entries_kept, variable_kept, compressed_same, cpr_link_same, index_link_same}
+use Rattle.cdf_edits.proofs.Frame.Meaning.{FileSame, Kept, KeptButLink, late_size, late_type, late_number, entries_kept}
+use Rattle.cdf_edits.proofs.Frame.VdrCopied.{cpr_link_copied, index_link_copied}
+use Rattle.cdf_edits.proofs.Frame.VdrKept.{vdr_kept, variable_kept, compressed_same}
 use Rattle.cdf_edits.proofs.Frame.LinksStay.{SameHeads, leads_same, index_kept}
 use Rattle.cdf_format.proofs.Members.{In-append_left, In-append_right}
 use Rattle.cdf_format.proofs.Tests.{both}
@@ -245,13 +247,13 @@ module _ {b now : List ℕ} {s : Shape} {new : List ℕ} {marks : List Mark} {re
     pub variable_stays : VariableStays b now new v
     variable_stays =
         let compressed = compressed_same b now file v.vdr lives.vdr fits.0 in
-        let link = cpr_link_same b now file v.vdr lives.vdr fits.0 in
+        let link = cpr_link_copied file (vdr_kept b now file v.vdr lives.vdr fits.0) in
         let cpr : cpr_of now v.vdr ≡ cpr_of b v.vdr = λ i. if compressed i then link i ∷ [] else [] in
         let index = index_both b s.records own (number b v.vdr vdr_vxr_head) v.index (λ m i. (stand m (inr (node_own m i)), inr (node_own m i))) (λ m i. (stand m (inr (block_own m i)), inr (block_own m i))) has.indexed in (
           record {
-            indexed = index_kept b now own new (own_heads new own_in) (number b v.vdr vdr_vxr_head) (number now v.vdr vdr_vxr_head) v.index index (index_link_same b now file v.vdr lives.vdr fits.0)
+            indexed = index_kept b now own new (own_heads new own_in) (number b v.vdr vdr_vxr_head) (number now v.vdr vdr_vxr_head) v.index index (index_link_copied file (vdr_kept b now file v.vdr lives.vdr fits.0))
                 (λ m i. lives.behind m (node_own m i)) (Each-in (NodeFits b) (nodes_of v.index) fits.1) (λ m i. inr (block_own m i));
             packed_by = cpr ∙ has.packed_by;
           },
-          variable_kept b now file v.vdr lives.vdr fits.0 v s.records refl (λ m i. lives.behind m (block_own m i)) fits.2,
+          variable_kept b now file v lives.vdr fits.0 s.records (λ m i. lives.behind m (block_own m i)) fits.2,
         )

@@ -1,9 +1,9 @@
 -- The records of a variable once one is put: what its leaves hold then says that they are those of the content.
-use Rattle.std.proofs.Common.{◌≡◌, ◌≢◌, ◌⊎◌, ℕ, zero, suc, ◌+◌, ◌-◌, ◌<◌, ◌≤◌, List, Option, Some, None, refl, sym, ap, ap₂, subst, ◌∙◌, arith, inl, inr}
+use Rattle.std.proofs.Common.{◌≡◌, ◌≢◌, ◌⊎◌, ℕ, zero, suc, ◌+◌, ◌-◌, ◌<◌, ◌≤◌, List, true, false, ◌&&◌, Some, refl, sym, ap, subst, ◌∙◌, arith, inl, inr}
 use Rattle.std.proofs.lemmas.Bool.{cases_eq, cases_lt, lt-ltb, le-ltb}
+use Rattle.std.proofs.lemmas.Bool.Decides.{nat_tests}
 use Rattle.std.specs.Option.{option_map}
-use Rattle.std.specs.Prelude.{nat_lt, if◌then◌else◌}
-use Rattle.cdf_model.specs.declared.data_type.DataType.{DataType}
+use Rattle.std.specs.Prelude.{nat_lt}
 use Rattle.cdf_model.specs.declared.kinds.Sparse.{Sparse}
 use Rattle.cdf_model.specs.declared.kinds.Sparse.TheVariants.{NoRule, Pad, Previous}
 use Rattle.cdf_model.specs.ByteOrder.{turned}
@@ -11,14 +11,15 @@ use Rattle.cdf_model.specs.DataSet.{Variable, extent}
 use Rattle.cdf_model.specs.Limits.{record_number_limit}
 use Rattle.cdf_model.specs.Numbered.{item_at, with_item, with_items}
 use Rattle.cdf_model.specs.Reading.{pad_record}
-use Rattle.cdf_model.specs.RecordSteps.{greater, filled}
+use Rattle.cdf_model.specs.RecordSteps.{last_number, greater, filled}
 use Rattle.cdf_format.specs.Content.{records_in}
 use Rattle.cdf_format.specs.Index.{Leaf}
 use Rattle.cdf_format.specs.Stored.{is_little}
 use Rattle.cdf_format.specs.VariableFields.{type_of_variable, record_bytes, max_rec_at}
+use Rattle.cdf_edits.specs.Index.Blocks.{is_sparse, cuts_before_put}
 use Rattle.cdf_edits.specs.Index.Written.{stored_bytes}
 use Rattle.cdf_edits.proofs.Edits.LeafRecords.{Ascending, rising_records, record_is, record_past}
-use Rattle.cdf_edits.proofs.Edits.NumberedItems.{Rising, rising_with}
+use Rattle.cdf_edits.proofs.Edits.NumberedItems.{rising_with}
 use Rattle.cdf_edits.proofs.Edits.NumberedLookup.{same_items, item_with, item_beside, rising_with_items, item_among, item_before_all, item_past_all}
 
 -- One record is put, of a variable whose VDR says now of each record as much as before: it is stored, each from MaxRec on before it is stored as a pad, and what was stored up to MaxRec stays.
@@ -94,17 +95,28 @@ module _ {b now : List ℕ} {vdr vdr' : ℕ} {leaves leaves' : List Leaf} {r : �
   pub records_put : records_in now vdr' leaves' ≡ with_item r bytes (with_items m (r - m) pad (records_in b vdr leaves))
   records_put = same_items 0 0 (records_in now vdr' leaves') (with_item r bytes filled_up) (rising_records now vdr' leaves' p.ascend_now) (rising_with 0 r bytes filled_up (omega arith) (rising_with_items 0 m (r - m) pad was (omega arith) (rising_records b vdr leaves p.ascend))) each
 
--- what is filled up where there is no rule, and where nothing is to be
-pub filled_plain : (v : Variable) (r : ℕ) → v.sparse ≡ NoRule → filled v.sparse v r ≡ with_items (extent v.max_rec) (r - extent v.max_rec) (pad_record v) v.recs
-filled_plain v r e = ap (λ (s : Sparse). filled s v r) e
+-- what is filled up, where nothing is cut before
+uncut_sparse : (s : Sparse) (m r : ℕ) → (is_sparse s && nat_lt m r) ≡ false → is_sparse s ≡ true → r ≤ m
+uncut_sparse NoRule m r e t = absurd cc
+uncut_sparse Pad m r e t = grind (arith, nat_tests)
+uncut_sparse Previous m r e t = grind (arith, nat_tests)
 
-pub filled_none : (v : Variable) (r : ℕ) → r < extent v.max_rec → filled v.sparse v r ≡ with_items (extent v.max_rec) (r - extent v.max_rec) (pad_record v) v.recs
-filled_none v r lt = by v.sparse ∙ ap (λ (c : ℕ). with_items (extent v.max_rec) c (pad_record v) v.recs) nothing
+pub filled_uncut : (v : Variable) (r : ℕ) → cuts_before_put v r ≡ false → filled v.sparse v r ≡ with_items (extent v.max_rec) (r - extent v.max_rec) (pad_record v) v.recs
+filled_uncut v r e = by v.sparse e
   where
-    nothing : 0 ≡ r - extent v.max_rec
-    nothing = omega arith
+    by : (s : Sparse) → (is_sparse s && nat_lt (extent v.max_rec) r) ≡ false → filled s v r ≡ with_items (extent v.max_rec) (r - extent v.max_rec) (pad_record v) v.recs
+    by NoRule e = refl
+    by Pad e = let l = uncut_sparse Pad (extent v.max_rec) r e refl in let none : 0 ≡ r - extent v.max_rec = omega arith in ap (λ (c : ℕ). with_items (extent v.max_rec) c (pad_record v) v.recs) none
+    by Previous e = let l = uncut_sparse Previous (extent v.max_rec) r e refl in let none : 0 ≡ r - extent v.max_rec = omega arith in ap (λ (c : ℕ). with_items (extent v.max_rec) c (pad_record v) v.recs) none
 
-    by : (s : Sparse) → filled s v r ≡ v.recs
-    by NoRule = ap (λ (c : ℕ). with_items (extent v.max_rec) c (pad_record v) v.recs) (sym nothing)
-    by Pad = refl
-    by Previous = refl
+-- ---- MaxRec
+
+pub extent_last : (n : ℕ) → extent (last_number n) ≡ n
+extent_last zero = refl
+extent_last (suc n) = omega arith
+
+pub greater_is_first : (m r : ℕ) → r < m → greater m (r + 1) ≡ m
+greater_is_first m r lt = rw (le-ltb m (r + 1) (omega arith)) refl
+
+pub greater_is_last : (m r : ℕ) → m ≤ r → greater m (r + 1) ≡ suc r
+greater_is_last m r le = rw (lt-ltb m (r + 1) (omega arith)) (omega arith)

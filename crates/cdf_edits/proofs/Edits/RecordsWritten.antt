@@ -1,77 +1,71 @@
 -- Records of a variable are written where they stand, in blocks that are not packed, and MaxRec with them: the image has its shape and its rules, and all but the variable stays.
-use Rattle.std.proofs.Common.{◌≡◌, ◌⊎◌, ℕ, suc, ◌+◌, ◌≤◌, List, [], ◌∷◌, ◌++◌, length, map, Bool, true, false, not, Option, Some, None, bytes_eq, eqb, true≢false, eq-eqb, refl, sym, ap, subst, ◌∙◌, arith, inl, inr}
+use Rattle.std.proofs.Common.{◌≡◌, ◌⊎◌, ℕ, suc, ◌+◌, ◌≤◌, List, [], ◌∷◌, ◌++◌, length, map, true, Option, Some, None, eqb, true≢false, eq-eqb, refl, sym, ap, subst, ◌∙◌, arith, inl, inr}
 use Rattle.std.proofs.lemmas.Bool.{eqb-true}
-use Rattle.std.proofs.lemmas.List.{length-map, map-append, set_at}
-use Rattle.std.specs.Int.{w32, cast_signed}
-use Rattle.std.specs.List.{before_first, flat_map, slice_get}
+use Rattle.std.specs.List.{flat_map, slice_get}
 use Rattle.std.specs.Prelude.{◌==◌, find, if◌then◌else◌, slice_set}
 use Rattle.cdf_model.specs.declared.kinds.Kind.{Kind}
 use Rattle.cdf_model.specs.declared.kinds.Kind.TheVariants.{R, Z}
-use Rattle.cdf_model.specs.DataSet.{DataSet, Variable}
 use Rattle.cdf_model.specs.Limits.{image_limit}
 use Rattle.cdf_model.specs.Names.{Found, variables_of, with_variables}
-use Rattle.cdf_format.specs.AttributeRules.{has_name}
 use Rattle.cdf_format.specs.Bytes.{Same}
-use Rattle.cdf_format.specs.Chains.{is_a, is_in, IsChain}
+use Rattle.cdf_format.specs.Chains.{is_a, is_in}
 use Rattle.cdf_format.specs.Content.{content, variable_of}
-use Rattle.cdf_format.specs.Fields.{number, name_in, integer4, has_bit, size_at, type_at, gdr_offset}
+use Rattle.cdf_format.specs.Fields.{number, size_at, type_at}
 use Rattle.cdf_format.specs.Index.{Leaf, nodes_of, leaves_of}
 use Rattle.cdf_format.specs.IndexRules.{index_rows}
 use Rattle.cdf_format.specs.Owners.{OneVariable, Unused, variable_records, unused_records, owned}
-use Rattle.cdf_format.specs.Records.{Field, gdr_eof, gdr_uir_head, gdr_r_max_rec, vdr_num, vdr_name, vdr_flags, vdr_max_rec, vdr_vxr_head, vdr_vxr_tail, vdr_blocking_factor}
-use Rattle.cdf_format.specs.RecordTypes.{fixed_size, cdr_type, gdr_type, r_vdr_type, z_vdr_type, vxr_type, vvr_type, cvvr_type, cpr_type, uir_type}
+use Rattle.cdf_format.specs.Records.{gdr_eof, gdr_uir_head, gdr_r_max_rec, vdr_max_rec, vdr_vxr_head, vdr_vxr_tail}
+use Rattle.cdf_format.specs.RecordTypes.{cdr_type, gdr_type, r_vdr_type, z_vdr_type, vxr_type, vvr_type, cvvr_type, cpr_type, uir_type}
 use Rattle.cdf_format.specs.Rules.{Hold}
-use Rattle.cdf_format.specs.Shape.{VariableShape, Shape, vdrs, cpr_of, is_compressed, Each, HasVariable, HasShape, shape}
+use Rattle.cdf_format.specs.Shape.{VariableShape, Shape, Each, HasShape, shape}
 use Rattle.cdf_format.specs.Sound.{IsSound, NodeFits}
-use Rattle.cdf_format.specs.Stored.{field_bytes}
 use Rattle.cdf_format.specs.Tiles.{In}
-use Rattle.cdf_format.specs.VariableFields.{is_z, dimensions_at, value_bytes, has_pad, pad_field, pad_at}
-use Rattle.cdf_format.specs.VariableRules.{vdr_end, cpr_link, is_max_rec, variable_rows}
+use Rattle.cdf_format.specs.VariableRules.{is_max_rec}
 use Rattle.cdf_format.specs.WellFormed.{Good}
-use Rattle.cdf_format.proofs.BytesLemmas.{word_kept, number_kept, piece_kept}
-use Rattle.cdf_format.proofs.ChainsLemmas.{is_a-in, is_a-type, linkable-in, linkable-type}
-use Rattle.cdf_format.proofs.GoodByShape.{IsGoodByShape}
-use Rattle.cdf_format.proofs.GoodSound.{good_by_its_shape, good_is_sound, rules_of_good}
+use Rattle.cdf_format.proofs.ChainsLemmas.{is_a-in, is_a-type, linkable-type}
+use Rattle.cdf_format.proofs.GoodSound.{good_is_sound}
 use Rattle.cdf_format.proofs.IndexLemmas.{nodes_stand}
-use Rattle.cdf_format.proofs.Members.{either, In-append, In-append_left, In-append_right, true-is_in, false-is_in}
-use Rattle.cdf_format.proofs.SealedRules.{good_long, sealed_kept}
-use Rattle.cdf_format.proofs.ShapeLemmas.{Each-append, shape_is, content_is}
+use Rattle.cdf_format.proofs.Members.{either, In-append, In-append_left, true-is_in, false-is_in}
+use Rattle.cdf_format.proofs.ShapeLemmas.{Each-append}
 use Rattle.cdf_format.proofs.TilesLemmas.{tile_lies}
 use Rattle.cdf_edits.specs.Commands.Allowances.{Allowance, Allowances, Anything, Only, Keeps, AllKeep, OwnAllowances, stays_own, space_fields, anything_if, only_of, same_kind, vdr_type, shapes_of, range_at, of_variable, r_max_rec_field}
+use Rattle.cdf_edits.specs.Commands.GreatestRecord.{r_max_rec}
 use Rattle.cdf_edits.specs.Commands.Puts.{max_rec_touches, put_changes}
 use Rattle.cdf_edits.specs.Commands.Room.{is_rewritten}
 use Rattle.cdf_edits.specs.Edits.Edit.{Edit}
-use Rattle.cdf_edits.specs.Edits.Marks.{Mark, mark, Anywhere, Among, Avoids, Away, Within, Covered, Marked, avoided, unmarked, all_unmarked, keeps_file, variable_types}
-use Rattle.cdf_edits.specs.Frame.Changed.{Touch, touched_field, Changed, Misses}
+use Rattle.cdf_edits.specs.Edits.Marks.{Mark, mark, Anywhere, Among, Avoids, Away, Within, Covered, Marked, avoided, unmarked, keeps_file, variable_types}
+use Rattle.cdf_edits.specs.Frame.Changed.{Touch, touched_field, Changed}
 use Rattle.cdf_edits.specs.Index.Blocks.{Range, range}
 use Rattle.cdf_edits.specs.Space.Acts.{ActsFollow}
 use Rattle.cdf_edits.specs.Space.Chains.{head_of, count_of, type_in}
 use Rattle.cdf_edits.specs.Space.VariableChains.{variables_chain}
 use Rattle.cdf_edits.proofs.Commands.KeptRecords.{Stood, keeps_stood, keep_owned, keep_attributes, keep_variables}
 use Rattle.cdf_edits.proofs.Commands.ListParts.{got-middle}
-use Rattle.cdf_edits.proofs.Edits.Composing.{head_size, head_type, part as part_missed, changed_edit}
-use Rattle.cdf_edits.proofs.Edits.EditActs.{acts_none}
+use Rattle.cdf_edits.proofs.Edits.Composing.{head_size, head_type, changed_edit}
 use Rattle.cdf_edits.proofs.Edits.InRecords.{places_of, index_both, index_rows_both}
 use Rattle.cdf_edits.proofs.Edits.MarkLemmas.{the_one}
-use Rattle.cdf_edits.proofs.Edits.OwnedOnce.{used_times, all_attributes_in, owned_once_if}
+use Rattle.cdf_edits.proofs.Edits.OwnedOnce.{all_attributes_in}
 use Rattle.cdf_edits.proofs.Edits.OwnersKept.{stood, keeps_within, keep_places, keep_file, keep_all}
-use Rattle.cdf_edits.proofs.Edits.RecordFrame.{index_records, cdr_kept, kept, kept_away, chain_stays, gdr_field, gdr_place, file_same}
-use Rattle.cdf_edits.proofs.Edits.StepEdits.{gdr_in, gdr_typed, gdr_long, some_bytes, fixed_long}
+use Rattle.cdf_edits.proofs.Edits.RecordFrame.{index_records, cdr_kept, kept, kept_away, chain_stays, gdr_field, file_same}
+use Rattle.cdf_edits.proofs.Edits.StepEdits.{gdr_in, gdr_typed, gdr_long, some_bytes}
 use Rattle.cdf_edits.proofs.Edits.VariableCopied.{node_behind, block_behind, cpr_behind}
-use Rattle.cdf_edits.proofs.Edits.VariableFrame.{IsRuled, variable_typed, variables_away, variables_in, remain_from}
+use Rattle.cdf_edits.proofs.Edits.VariableFrame.{IsRuled, variable_typed, variables_in}
 use Rattle.cdf_edits.proofs.Edits.VariableKept.{OnlyVariable, only_variable, same_as_itself, vdr_allowance, keep_variable_parts, keep_kinds}
-use Rattle.cdf_edits.proofs.Edits.VariableKinds.{other_kind, kind_type, with_shapes, vdrs_rows, keeps_kind, kind_chain, kind_ours, in_gdr, counted_before, vdrs_rows_kept, variables_of_are}
-use Rattle.cdf_edits.proofs.Edits.VariableNames.{own_names_apart, apart_if}
-use Rattle.cdf_edits.proofs.Edits.VariableSplice.{VariableSplices, attributes_kept, OwnRules, keeps_all_attributes, shape_now, content_now, parts_ruled, good_image_if}
-use Rattle.cdf_edits.proofs.Edits.VdrEdited.{StandsAmong, through, in_middle, least_size, tile, typed, long, has, fits, ours, after_ours, behind_in, no_block}
+use Rattle.cdf_edits.proofs.Edits.VariableKinds.{other_kind, kind_type, keeps_kind, kind_ours}
+use Rattle.cdf_edits.proofs.Edits.VariableSplice.{attributes_kept, keeps_all_attributes}
+use Rattle.cdf_format.specs.IndexOf.{IsIndex}
+use Rattle.cdf_edits.proofs.Edits.OwnEdited.{OwnEdit, shape_stays, good_in_place, named_before, r_max_rec_kept}
+use Rattle.cdf_edits.proofs.Edits.OwnEdited as of_own
+use Rattle.cdf_edits.proofs.Edits.IndexEdited.{IndexEdit}
+use Rattle.cdf_edits.proofs.Edits.IndexEdited as of_index
+use Rattle.cdf_edits.proofs.Frame.VdrStays.{packed_stays}
+use Rattle.cdf_edits.proofs.Edits.VdrEdited.{StandsAmong, tile, typed, long, has, fits, ours, after_ours, behind_in, no_block}
 use Rattle.cdf_edits.proofs.Frame.LinksStay.{SameHeads, index_kept}
-use Rattle.cdf_edits.proofs.Frame.Meaning.{FileSame, Kept, pad_long, pad_width, end_fits}
+use Rattle.cdf_edits.proofs.Frame.Meaning.{FileSame, Kept}
 use Rattle.cdf_edits.proofs.Frame.OwnerAlone.{Each-in}
 use Rattle.cdf_edits.proofs.Frame.OwnersApart.{all_variable_records, unused_in}
-use Rattle.cdf_edits.proofs.Frame.VdrAlike.{VdrAlike, Copied, copied_in_place, second_same, pad_alike, pad_field_alike, value_alike, cpr_link_alike, index_link_alike, plain_alike}
+use Rattle.cdf_edits.proofs.Frame.VdrAlike.{VdrAlike, Copied, copied_in_place, word_copied, plain_alike}
 use Rattle.cdf_edits.proofs.Rules.OfIndexes.{index_rules_written}
-use Rattle.cdf_edits.proofs.Rules.OfVdrCopied.{cpr_stays, variable_rules_alike}
-use Rattle.cdf_edits.proofs.Rules.WithoutLinks.{eof_by_rules}
 use Rattle.cdf_edits.proofs.Space.UsedRecords.{apart, filter-says}
 
 -- some bytes of a block of the variable that is not packed, behind its type
@@ -174,9 +168,6 @@ module _ {b now : List ℕ} {kind : Kind} {before : List VariableShape} {own : V
   h : HasShape b s
   h = sound.has_shape
 
-  image : IsGoodByShape b s
-  image = good_by_its_shape b good
-
   block_in : (m : ℕ) → In m places → In m (places_of (leaves_of own.index))
   block_in = tiles_in b own ts w.in_blocks
 
@@ -251,9 +242,6 @@ module _ {b now : List ℕ} {kind : Kind} {before : List VariableShape} {own : V
   cpr_kept : (m : ℕ) → In m own.cpr → Kept b now m
   cpr_kept m i = kept edit m cpr_type (behind_in good at m (cpr_behind own m i)) (is_a-type b s.records cpr_type m (Each-in (λ x. is_a b s.records cpr_type x ≡ true) own.cpr (fits good at).3 m i)) tests.cpr_clear
 
-  vdr_in : In v (variable_records own)
-  vdr_in = inl refl
-
   -- no other variable has a record of this one
   only : (m : ℕ) → In m (variable_records own) → OnlyVariable b s kind before after m
   only m i = only_variable sound kind before own after at.was m i
@@ -271,118 +259,80 @@ module _ {b now : List ℕ} {kind : Kind} {before : List VariableShape} {own : V
       no_vdr : (m : ℕ) → In m (places_of (leaves_of own.index)) → m ≡ v → ⊥
       no_vdr m i e = no_block good at (subst (λ (x : ℕ). In x (places_of (leaves_of own.index))) e i)
 
-  -- no block is the VDR or the GDR
-  pub block_no_vdr : (m : ℕ) → In m (places_of (leaves_of own.index)) → m ≡ v → ⊥
-  block_no_vdr m i e = no_block good at (subst (λ (x : ℕ). In x (places_of (leaves_of own.index))) e i)
-
-  block_no_gdr : (m : ℕ) → In m (places_of (leaves_of own.index)) → m ≡ s.gdr → ⊥
-  block_no_gdr m i e =
-      let all = (ours good at).1.sub m (In-append_left m (variable_records own) (flat_map variable_records after) (inr (block_behind own m i))) in
-      true≢false (sym (ap (λ (x : ℕ). is_in x variable_types) (sym (ap (type_at b) e ∙ gdr_typed b s h)) ∙ variable_typed b s sound m all))
-
-  Misses-append : (xs ys : List Touch) (m lo hi : ℕ) → Misses xs m lo hi → Misses ys m lo hi → Misses (xs ++ ys) m lo hi
-  Misses-append [] ys m lo hi p q = q
-  Misses-append (x ∷ xs) ys m lo hi p q = (p.0, Misses-append xs ys m lo hi p.1 q)
-
-  gdr_missed : (k : Kind) (m lo hi : ℕ) → (m ≡ s.gdr → ⊥) → Misses (map (touched_field s.gdr) (r_max_rec_field k)) m lo hi
-  gdr_missed R m lo hi out = ((λ e. absurd (out e)), tt)
-  gdr_missed Z m lo hi out = tt
-
-  -- bytes of a block that no touch meets
-  pub block_part : (m lo hi : ℕ) → In m (places_of (leaves_of own.index)) → hi ≤ size_at b m → Misses ts m lo hi → Same b now (m + lo) (m + hi)
-  block_part m lo hi i fit miss = part_missed b now s.records (max_rec_touches b kind v ++ ts) marks [] h.tiled w.as_long w.changed all_marked m lo hi (in_records m i) fit
-      (Misses-append (max_rec_touches b kind v) ts m lo hi (Misses-append (map (touched_field s.gdr) (r_max_rec_field kind)) (touched_field v vdr_max_rec ∷ []) m lo hi (gdr_missed kind m lo hi (block_no_gdr m i)) ((λ e. absurd (block_no_vdr m i e)), tt)) miss)
+  -- a record behind its VDR, of which nothing is written
+  pub behind_kept : (m : ℕ) → In m (index_records own) → (In m places → ⊥) → Kept b now m
+  behind_kept m i out = elim (In-append m (nodes_of own.index ++ places_of (leaves_of own.index)) own.cpr i) [
+    | inr c ↦ cpr_kept m c
+    | inl j ↦ elim (In-append m (nodes_of own.index) (places_of (leaves_of own.index)) j) [ inl n ↦ node_kept m n | inr n ↦ block_kept m n out ]
+  ]
 
   -- ---- its VDR
 
-  part : (lo hi : ℕ) → (hi ≤ 24) ⊎ (28 ≤ lo) → hi ≤ size_at b v → Same b now (v + lo) (v + hi)
+  pub part : (lo hi : ℕ) → (hi ≤ 24) ⊎ (28 ≤ lo) → hi ≤ size_at b v → Same b now (v + lo) (v + hi)
   part lo hi side fit = edit.part v type lo hi (tile good at) (typed good at) (early kind v places (length b) type v 0 12 (omega arith)) (put_avoids kind v places (length b) type v lo hi (λ e. absurd (vdr_no_gdr kind e)) (λ e f. side) (λ e i. absurd (vdr_no_block kind e))) fit
 
-  wide : 340 ≤ size_at b v
-  wide = long good at
+  links_same : Copied b now v v 28 44
+  links_same = copied_in_place b now v 28 44 (part 28 44 (inr (omega arith)) (let l = long good at in omega arith))
 
-  front : (lo hi : ℕ) → (hi ≤ 24) ⊎ (28 ≤ lo) → hi ≤ 340 → Same b now (v + lo) (v + hi)
-  front lo hi side l = part lo hi side (through hi 340 (size_at b v) l wide)
-
-  pad_fits : (pad_field b v).place ≤ size_at b v
-  pad_fits = less (pad_field b v).place _ (size_at b v) (fits good at).0
-    where
-      less : (a p s : ℕ) → a + p ≤ s → a ≤ s
-      less a p s h = omega arith
-
-  pad_late : 340 ≤ (pad_field b v).place
-  pad_late = pad_long (is_z b v) (dimensions_at b v) (value_bytes b v)
-
-  pub vdr_alike : VdrAlike b now v v
-  vdr_alike = record {
-    typed = type_same v (tile good at);
-    type = copied_in_place b now v 20 24 (front 20 24 (inl (omega arith)) (omega arith));
-    second = copied_in_place b now v 48 68 (front 48 68 (inr (omega arith)) (omega arith));
-    third = copied_in_place b now v 72 80 (front 72 80 (inr (omega arith)) (omega arith));
-    behind = copied_in_place b now v 340 (pad_field b v).place (part 340 (pad_field b v).place (inr (omega arith)) pad_fits);
-  }
-
-  pub links_same : Copied b now v v 28 44
-  links_same = copied_in_place b now v 28 44 (front 28 44 (inr (omega arith)) (omega arith))
-
-  pub flags_same : number now v vdr_flags ≡ number b v vdr_flags
-  flags_same = word_kept b now (v + 44) (v + 48) (front 44 48 (inr (omega arith)) (omega arith)) (v + 44) 4 (omega arith) (omega arith)
-
-  packed : is_compressed now v ≡ is_compressed b v
-  packed = ap (λ (n : ℕ). has_bit n 2) flags_same
-
-  pub name_same : name_in now v vdr_name ≡ name_in b v vdr_name
-  name_same = ap (before_first (λ (x : ℕ). x == 0)) (piece_kept b now (v + 84) (v + 340) (front 84 340 (inr (omega arith)) (omega arith)) (v + 84) 256 (omega arith) (omega arith) (let high = (tile_lies b 8 (length b) s.records v h.tiled (tile good at)).high in let n = wide in omega arith) (let l = w.as_long in omega arith))
-
-  pub blocking_same : integer4 now v vdr_blocking_factor ≡ integer4 b v vdr_blocking_factor
-  blocking_same = ap (cast_signed w32) (word_kept b now (v + 80) (v + 84) (front 80 84 (inr (omega arith)) (omega arith)) (v + 80) 4 (omega arith) (omega arith))
-
-  pad_bytes : has_pad b v ≡ true → field_bytes now v (pad_field b v) ≡ field_bytes b v (pad_field b v)
-  pad_bytes e =
-      let n = size_at b v in
-      let ends = end_fits (has_pad b v) (pad_field b v).place (value_bytes b v) n (fits good at).0 e in
-      let room : (pad_field b v).place + (pad_field b v).width ≤ n = subst (λ (k : ℕ). (pad_field b v).place + k ≤ n) (sym (pad_width (is_z b v) (dimensions_at b v) (value_bytes b v))) ends in
-      piece_kept b now (v + 340) (v + n) (part 340 n (inr (omega arith)) (omega arith)) (v + (pad_field b v).place) (pad_field b v).width (from v (pad_field b v).place pad_late) (upto v (pad_field b v).place (pad_field b v).width n room)
-      (tile_lies b 8 (length b) s.records v h.tiled (tile good at)).high (let l = w.as_long in omega arith)
-    where
-      from : (v p : ℕ) → 340 ≤ p → v + 340 ≤ v + p
-      from v p l = omega arith
-
-      upto : (v p k n : ℕ) → p + k ≤ n → v + p + k ≤ v + n
-      upto v p k n l = omega arith
-
-  pub pad_same : pad_at now v ≡ pad_at b v
-  pad_same = pad_alike file vdr_alike flags_same pad_bytes
-
-  end_same : vdr_end now v ≡ vdr_end b v
-  end_same =
-      let pad = pad_field_alike file vdr_alike in
-      let flags = flags_same in
-      let value = value_alike file vdr_alike in
-      λ i. (pad i).place + (if has_bit (flags i) 1 then value i else 0)
-
-  -- ---- its links and its rules
+  -- ---- its index and the others
 
   mine_heads : (records : List ℕ) → ((m : ℕ) → In m (index_records own) → In m records) → SameHeads b now (index_records own) records
   mine_heads records sub = record { sizes = λ m i. size_same m (behind_in good at m i); types = λ m i. type_same m (behind_in good at m i); sub = sub }
 
-  has_now : HasVariable now s.records own
-  has_now =
+  index_now : IsIndex now s.records (number now v vdr_vxr_head) own.index
+  index_now =
       let mine = index_records own in
-      let link = cpr_link_alike file vdr_alike in
-      let pack = packed in
-      let cpr : cpr_of now v ≡ cpr_of b v = λ i. if pack i then link i ∷ [] else [] in
       let index = index_both b s.records mine (number b v vdr_vxr_head) own.index (λ m i. (behind_in good at m (node_behind own m i), node_behind own m i)) (λ m i. (behind_in good at m (block_behind own m i), block_behind own m i)) (has good at).indexed in
-      record {
-        indexed = index_kept b now mine s.records (mine_heads s.records (behind_in good at)) (number b v vdr_vxr_head) (number now v vdr_vxr_head) own.index index (index_link_alike file vdr_alike links_same)
-            node_kept (Each-in (NodeFits b) (nodes_of own.index) (fits good at).1) (block_behind own);
-        packed_by = cpr ∙ (has good at).packed_by;
-      }
+      index_kept b now mine s.records (mine_heads s.records (behind_in good at)) (number b v vdr_vxr_head) (number now v vdr_vxr_head) own.index index (word_copied links_same 28 8 (omega arith) (omega arith))
+      node_kept (Each-in (NodeFits b) (nodes_of own.index) (fits good at).1) (block_behind own)
 
-  cpr_own : is_compressed b v ≡ true → In (cpr_link b v) own.cpr
-  cpr_own c =
-      let there : own.cpr ≡ cpr_link b v ∷ [] = sym (has good at).packed_by ∙ ap (λ (p : Bool). if p then cpr_link b v ∷ [] else []) c in
-      subst (λ (x : List ℕ). In (cpr_link b v) x) (sym there) (inl refl)
+  -- records of variables that are not of this one
+  beside : (m : ℕ) → In m (all_variable_records s) → (In m (variable_records own) → ⊥) → Away marks (type_at b m) m
+  beside m i out = put_away kind v places (length b) (type_at b m) m (λ e. true≢false (sym (ap (λ (x : ℕ). is_in x variable_types) (sym e) ∙ variable_typed b s sound m i))) (λ e. out (inl e)) (λ e j. out (inr (block_behind own m (block_in m j))))
+
+  index_edit : IndexEdit b now kind own own.index s.records s.unused marks []
+  index_edit = record {
+    edit = edit;
+    file_clear = tests.file_clear;
+    attributes_clear = tests.attributes_clear;
+    other_clear = tests.other_clear;
+    cpr_clear = tests.cpr_clear;
+    head_clear = tests.head_clear;
+    count_clear = tests.count_clear;
+    beside = beside;
+    avoids = λ m lo hi side. put_avoids kind v places (length b) type m lo hi (λ e. absurd (vdr_no_gdr kind e)) (λ e f. elim side [ inl l ↦ inl l | inr l ↦ inr (omega arith) ]) (λ e i. absurd (vdr_no_block kind e));
+    typed = λ m i. absurd i;
+    unused_chain = chain_stays edit uir_type _ _ s.unused h.unused_chain (gdr_field sound edit tests.file_clear gdr_uir_head tests.list_clear (omega arith))
+        (λ m i. put_avoids kind v places (length b) uir_type m 0 20 (λ e. absurd (apart uir_type gdr_type refl e)) (λ e f. inl (omega arith)) (λ e i. absurd (apart uir_type vvr_type refl e)));
+    index_now = index_now;
+  }
+
+  abbrev own_edit : OwnEdit b now kind own own.index s.records s.unused marks []
+  own_edit = of_index.own_edit good at index_edit
+
+  pub vdr_alike : VdrAlike b now v v
+  vdr_alike = of_index.vdr_alike good at index_edit
+
+  -- ---- the shape and the content
+
+  pub same_shape : shape now ≡ s
+  same_shape = shape_stays good at own_edit w.as_long
+
+  pub records_are : (shape now).records ≡ s.records
+  records_are = ap (λ (x : Shape). x.records) same_shape
+
+  pub content_replaced : content now ≡ with_variables (content b) kind (slice_set (variables_of (content b) kind) (length before) (variable_of now own))
+  content_replaced = of_own.content_replaced good at own_edit
+
+  -- of a z variable rMaxRec stays
+  pub r_max_rec_of_z : kind ≡ Z → r_max_rec now ≡ r_max_rec b
+  r_max_rec_of_z z = r_max_rec_kept good at own_edit (clear kind z)
+    where
+      clear : (k : Kind) → k ≡ Z → avoided (put_marks k v places (length b)) gdr_type 52 56 ≡ true
+      clear R e = absurd cc
+      clear Z e = refl
+
+  -- ---- the rules
 
   kept_or_plain : (m : ℕ) → In m (places_of (leaves_of own.index)) → Kept b now m ⊎ (type_at b m ≡ vvr_type)
   kept_or_plain m i = elim (either (is_in m places)) [
@@ -400,122 +350,22 @@ module _ {b now : List ℕ} {kind : Kind} {before : List VariableShape} {own : V
       let mine = index_records own in
       let there : Hold (index_rows b mine v own.index) = subst Hold (sym (index_rows_both b s.records mine v own.index (λ m i. (behind_in good at m (block_behind own m i), block_behind own m i)))) rules in
       subst Hold (sym (index_rows_both now mine s.records v own.index (λ m i. (block_behind own m i, behind_in good at m (block_behind own m i)))))
-      (index_rules_written b now mine (mine_heads mine (λ m i. i)) file (λ m i. h.fixed m (behind_in good at m i)) v v packed (plain_alike file vdr_alike) own.index node_kept (Each-in (NodeFits b) (nodes_of own.index) (fits good at).1)
+      (index_rules_written b now mine (mine_heads mine (λ m i. i)) file (λ m i. h.fixed m (behind_in good at m i)) v v (packed_stays file (of_index.stays good at index_edit)) (plain_alike file vdr_alike) own.index node_kept (Each-in (NodeFits b) (nodes_of own.index) (fits good at).1)
       (λ m i. (block_behind own m i, kept_or_plain m i)) there)
 
-  ruled : IsRuled b s.records own → has_name now v vdr_name ≡ true → IsRuled now s.records own
-  ruled rules named = (
-    variable_rules_alike file vdr_alike (subst (λ (n : ℕ). size_at b v ≤ n) (sym (size_same v (tile good at))) (omega arith)) s.records s.records [] [] rules.0 named refl
-        (subst (λ (n : ℕ). vdr_end now v ≤ n) (sym (size_same v (tile good at))) (subst (λ (n : ℕ). n ≤ size_at b v) (sym end_same) (fits good at).0)) packed
-        (λ c is. cpr_stays b now s.records s.records (cpr_link b v) is (cpr_kept (cpr_link b v) (cpr_own c)) (behind_in good at (cpr_link b v) (cpr_behind own (cpr_link b v) (cpr_own c)))) w.max_rec_ruled,
-    index_ruled rules.1,
-  )
-
-  -- ---- the others
-
-  -- records of variables that are not of this one
-  beside : (xs : List ℕ) → ((m : ℕ) → In m xs → In m (all_variable_records s)) → ((m : ℕ) → In m (variable_records own) → In m xs → ⊥) → (m : ℕ) → In m xs → Away marks (type_at b m) m
-  beside xs sub out m i =
-      put_away kind v places (length b) (type_at b m) m (λ e. true≢false (sym (ap (λ (x : ℕ). is_in x variable_types) (sym e) ∙ variable_typed b s sound m (sub m i))))
-      (λ e. out m (subst (λ (x : ℕ). In x (variable_records own)) (sym e) vdr_in) i) (λ e j. out m (inr (block_behind own m (block_in m j))) i)
-
-  abbrev others : List VariableShape
-  others = shapes_of s (other_kind kind)
-
-  gdr_same : (g : Field) → avoided marks gdr_type g.place (g.place + g.width) ≡ true → g.place + g.width ≤ 84 → number now s.gdr g ≡ number b s.gdr g
-  gdr_same g clear l = gdr_field sound edit tests.file_clear g clear l
-
-  chain_early : (m : ℕ) → Avoids marks type m 0 20
-  chain_early m = put_avoids kind v places (length b) type m 0 20 (λ e. absurd (vdr_no_gdr kind e)) (λ e f. inl (omega arith)) (λ e i. absurd (vdr_no_block kind e))
-
-  unused_early : (m : ℕ) → Avoids marks uir_type m 0 20
-  unused_early m = put_avoids kind v places (length b) uir_type m 0 20 (λ e. absurd (apart uir_type gdr_type refl e)) (λ e f. inl (omega arith)) (λ e i. absurd (apart uir_type vvr_type refl e))
-
-  pub splices : VariableSplices b now s kind s.records s.unused marks [] before (own ∷ []) (own ∷ []) after
-  splices = record {
-    edit = edit;
-    was = at.was;
-    file_clear = tests.file_clear;
-    attributes_clear = tests.attributes_clear;
-    other_clear = tests.other_clear;
-    before_remain = remain_from sound edit file before (ours good at).0 (variables_away sound edit before (ours good at).0 (beside (flat_map variable_records before) (ours good at).0.sub (λ m i. (only m i).in_before)));
-    after_remain = remain_from sound edit file after (after_ours good at) (variables_away sound edit after (after_ours good at) (beside (flat_map variable_records after) (after_ours good at).sub (λ m i. (only m i).in_after)));
-    others_live = variables_away sound edit others (kind_ours b s sound (other_kind kind)) (beside (flat_map variable_records others) (kind_ours b s sound (other_kind kind)).sub (λ m i. (only m i).in_others));
-    typed = λ m i. absurd i;
-    variable_chain = subst (λ (vs : List VariableShape). IsChain now s.records type (number now s.gdr (head_of (variables_chain kind))) (vdrs vs)) at.was
-        (chain_stays edit type _ _ (vdrs (shapes_of s kind)) (kind_chain kind h) (gdr_same (head_of (variables_chain kind)) tests.head_clear (in_gdr kind).0) (λ m i. chain_early m));
-    unused_chain = chain_stays edit uir_type _ _ s.unused h.unused_chain (gdr_same gdr_uir_head tests.list_clear (omega arith)) (λ m i. unused_early m);
-    own_have = (has_now, tt);
-  }
-
-  -- ---- the shape and the content
-
-  as_was : with_shapes s kind s.records s.unused (before ++ own ∷ after) ≡ s
-  as_was = ap (with_shapes s kind s.records s.unused) (sym at.was) ∙ by_itself kind
-    where
-      by_itself : (kind : Kind) → with_shapes (shape b) kind (shape b).records (shape b).unused (shapes_of (shape b) kind) ≡ shape b
-      by_itself R = refl
-      by_itself Z = refl
-
-  pub same_shape : shape now ≡ s
-  same_shape = shape_is now _ (shape_now sound splices) ∙ as_was
-
-  pub records_are : (shape now).records ≡ s.records
-  records_are = ap (λ (x : Shape). x.records) same_shape
-
-  pub content_replaced : content now ≡ with_variables (content b) kind (slice_set (variables_of (content b) kind) (length before) (variable_of now own))
-  content_replaced =
-      let split : variables_of (content b) kind ≡ map (variable_of b) before ++ variable_of b own ∷ map (variable_of b) after =
-      ap (λ (d : DataSet). variables_of d kind) (content_is b s h) ∙ variables_of_are b s kind ∙ ap (map (variable_of b)) at.was ∙ map-append (variable_of b) before (own ∷ after) in
-      let set = ap (λ (vs : List Variable). slice_set vs (length before) (variable_of now own)) split ∙ set_at (map (variable_of b) before) (variable_of b own) (map (variable_of b) after) (variable_of now own) (length before) (length-map before (variable_of b)) in
-      content_now sound splices ∙ ap (with_variables (content b) kind) (sym set)
-
-  -- ---- the rules
-
-  count_same : number now (gdr_offset now) (count_of (variables_chain kind)) ≡ number b (gdr_offset b) (count_of (variables_chain kind))
-  count_same =
-      let g = count_of (variables_chain kind) in
-      ap (λ (x : ℕ). number now x g) (gdr_place sound edit tests.file_clear) ∙ gdr_same g tests.count_clear (in_gdr kind).1 ∙ sym (ap (λ (x : ℕ). number b x g) h.gdr_is)
-
-  num_same : (m : ℕ) → In m (vdrs (shapes_of s kind)) → number now m vdr_num ≡ number b m vdr_num
-  num_same m i =
-      let ok = (kind_chain kind h).linkable m i in
-      let inside = linkable-in b s.records type m ok in
-      let is = linkable-type b s.records type m ok in
-      let far = through 340 (fixed_size type) (size_at b m) (least_size kind) (fixed_long b s h type m inside is) in
-      word_kept b now (m + 68) (m + 72) (edit.part m type 68 72 inside is (early kind v places (length b) type m 0 12 (omega arith)) (put_avoids kind v places (length b) type m 68 72 (λ e. absurd (vdr_no_gdr kind e)) (λ e f. inr (omega arith)) (λ e j. absurd (vdr_no_block kind e))) (omega arith)) (m + vdr_num.place) 4 (omega arith) (omega arith)
-
-  counted : Hold (vdrs_rows kind now (vdrs (before ++ own ∷ after)))
-  counted =
-      let same = vdrs_rows_kept kind b now (vdrs (shapes_of s kind)) (gdr_place sound edit tests.file_clear ∙ sym h.gdr_is) count_same num_same in
-      subst (λ (vs : List VariableShape). Hold (vdrs_rows kind now (vdrs vs))) at.was (subst Hold (sym same) (counted_before image kind))
-
   pub own_ruled : IsRuled b s.records own
-  own_ruled = (parts_ruled sound splices image).0.1.0.0
-
-  has_name_now : has_name now v vdr_name ≡ true
-  has_name_now = ap (λ (x : List ℕ). not (length x == 0)) name_same ∙ own_ruled.0.0
+  own_ruled = of_own.own_ruled good at own_edit
 
   pub good_now : length b ≤ image_limit → Good now
-  good_now short =
-      let first = (sealed_kept b (good_long b s image) (rules_of_good b good)).0 in
-      let rules : OwnRules sound splices = record {
-        counted = counted;
-        apart = apart_if sound splices image (λ x y i j differ. absurd (differ (the_one v x i ∙ sym (the_one v y j))))
-            (λ x y i beside. subst (λ (z : ℕ). bytes_eq (name_in now z vdr_name) (name_in b y vdr_name) ≡ false) (sym (the_one v x i)) (subst (λ (n : List ℕ). bytes_eq n (name_in b y vdr_name) ≡ false) (sym name_same) (own_names_apart sound splices image v y (inl refl) beside)));
-        own_ruled = (ruled own_ruled has_name_now, tt);
-        read = λ m i. absurd i;
-        owned = owned_once_if b now s (with_shapes s kind s.records s.unused (before ++ own ∷ after)) marks [] sound image.owned_once edit (λ m out. ap (λ (x : Shape). used_times x m) as_was) (λ m i. absurd i);
-      } in
-      good_image_if sound splices first image rules (gdr_same gdr_eof tests.eof_clear (omega arith) ∙ eof_by_rules b s sound first ∙ sym w.as_long) (let l = w.as_long in omega arith)
+  good_now = good_in_place good at own_edit w.as_long tests.eof_clear (of_index.ruled good at index_edit (index_ruled own_ruled.1) w.max_rec_ruled) (named_before good at own_edit (of_index.name_same good at index_edit))
 
   pub no_acts_follow : ActsFollow b now []
-  no_acts_follow = acts_none sound edit tests.unused_clear refl records_are (ap (λ (x : Shape). x.unused) same_shape) w.as_long
+  no_acts_follow = of_own.no_acts_follow good at own_edit w.as_long tests.unused_clear
 
   -- ---- what stays
 
   stands : (xs : List ℕ) → ((m : ℕ) → In m xs → In m (all_variable_records s)) → ((m : ℕ) → In m (variable_records own) → In m xs → ⊥) → (m : ℕ) → In m xs → Stood b now m
-  stands xs sub out m i = let inside = variables_in b s sound m (sub m i) in stood sound edit records_are m inside (kept_away edit m (type_at b m) inside refl (beside xs sub out m i))
+  stands xs sub out m i = let inside = variables_in b s sound m (sub m i) in stood sound edit records_are m inside (kept_away edit m (type_at b m) inside refl (beside m (sub m i) (λ j. out m j i)))
 
   gdr_within : (k : Kind) → Within (put_marks k v places (length b)) gdr_type s.gdr (r_max_rec_field k ++ space_fields)
   gdr_within R = ((λ same lies. refl), ((λ same lies. absurd (vdr_no_gdr R (sym same))), ((λ same lies. absurd (apart gdr_type vvr_type refl same)), tt)))
@@ -593,7 +443,7 @@ module _ {b now : List ℕ} {kind : Kind} {before : List VariableShape} {own : V
         let parts = keep_variable_parts b now may [] kind before own after at.was
         (keep_variables b now may [] kind 0 before (stands (flat_map variable_records before) (ours good at).0.sub (λ m i. (only m i).in_before))) mine
         (keep_variables b now may [] kind (suc (length before)) after (stands (flat_map variable_records after) (after_ours good at).sub (λ m i. (only m i).in_after))) in
-        let both = keep_kinds b now may [] kind parts (keep_variables b now may [] (other_kind kind) 0 others (stands (flat_map variable_records others) (kind_ours b s sound (other_kind kind)).sub (λ m i. (only m i).in_others))) in
+        let both = keep_kinds b now may [] kind parts (keep_variables b now may [] (other_kind kind) 0 (shapes_of s (other_kind kind)) (stands (flat_map variable_records (shapes_of s (other_kind kind))) (kind_ours b s sound (other_kind kind)).sub (λ m i. (only m i).in_others))) in
         keep_all b now may [] (keep_file b now may [] sound keeps_cdr keeps_gdr)
-        (keep_attributes b now may [] 0 s.attributes (λ m i. stood sound edit records_are m (all_attributes_in sound m i) (attributes_kept sound splices m i))) both.0 both.1
+        (keep_attributes b now may [] 0 s.attributes (λ m i. stood sound edit records_are m (all_attributes_in sound m i) (attributes_kept sound (of_own.splices good at own_edit) m i))) both.0 both.1
         (keep_owned b now may [] Unused (unused_records b s) (λ m i. let inside = unused_in b s sound m i in stood sound edit records_are m inside (kept edit m uir_type inside (eqb-true _ _ (filter-says (λ (x : ℕ). eqb (type_at b x) uir_type) s.records m i)) tests.unused_clear)))

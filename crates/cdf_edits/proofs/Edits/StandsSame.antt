@@ -1,5 +1,5 @@
 -- Where nothing was written, all stands.
-use Rattle.std.proofs.Common.{◌≡◌, ◌⊎◌, ℕ, ◌++◌, List, [], ◌∷◌, Some, refl, inl, inr}
+use Rattle.std.proofs.Common.{◌≡◌, ◌⊎◌, ℕ, ◌++◌, List, [], Some, refl, inl, inr}
 use Rattle.std.specs.List.{slice_get}
 use Rattle.cdf_model.specs.declared.kinds.EntryKind.{EntryKind}
 use Rattle.cdf_model.specs.declared.kinds.EntryKind.TheVariants as entries
@@ -13,7 +13,6 @@ use Rattle.cdf_format.proofs.GoodSound.{good_is_sound}
 use Rattle.cdf_format.proofs.Members.{In-append, In-append_left, In-append_right}
 use Rattle.cdf_edits.specs.Commands.Allowances.{Stays}
 use Rattle.cdf_edits.specs.Commands.EntryChains.{chain_of}
-use Rattle.cdf_edits.specs.Commands.Allowances.{Keeps, Only}
 use Rattle.cdf_edits.proofs.Edits.ChainKinds.{other_of}
 use Rattle.cdf_edits.proofs.Edits.DroppedSoFar.{member_in}
 use Rattle.cdf_edits.proofs.Edits.StandsBut.{StandsBut}

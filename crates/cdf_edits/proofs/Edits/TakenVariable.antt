@@ -46,7 +46,7 @@ use Rattle.cdf_edits.proofs.Edits.VariableKinds.{other_kind, with_shapes, vdrs_r
 use Rattle.cdf_edits.proofs.Edits.VariableKept.{OnlyVariable, only_variable}
 use Rattle.cdf_edits.proofs.Edits.VariableNames.{apart_if}
 use Rattle.cdf_edits.proofs.Edits.VariableNumbered.{KeptButNum, numbered_remains}
-use Rattle.cdf_edits.proofs.Edits.VariableSplice.{VariableSplices, keeps_all_attributes, shape_now, content_now, sound_if, good_image_if}
+use Rattle.cdf_edits.proofs.Edits.VariableSplice.{VariableSplices, keeps_all_attributes, content_now, sound_if, good_image_if}
 use Rattle.cdf_edits.proofs.Frame.Meaning.{FileSame, Kept, KeptButLink, but_link}
 use Rattle.cdf_edits.proofs.Frame.OwnersApart.{times-in, owned-times, file_records, all_attribute_records, all_variable_records}
 use Rattle.cdf_edits.proofs.Space.TakenFromList.{distinct_apart}
@@ -285,9 +285,6 @@ module _ {b now : List ℕ} {s : Shape} {kind : Kind} {before : List VariableSha
       unused_chain = says.unused_chain;
       own_have = tt;
     }
-
-    pub shape_taken : HasShape now (without_variable list)
-    shape_taken = shape_now sound splices
 
     pub content_taken : content now ≡ with_variables (content b) kind (remove (variables_of (content b) kind) (length before))
     content_taken =

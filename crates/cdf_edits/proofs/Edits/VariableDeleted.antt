@@ -81,9 +81,6 @@ unused_tests R gdr members later unused places limit = record { start = refl; en
 unused_tests Z gdr members later unused places limit = record { start = refl; end = refl }
 
 module _ {b mid now : List ℕ} {found : Found} (good : Good b) (drops : DropsEntries b found mid) (d : RemovesVariable mid now found.kind found.number) where
-  good_mid : Good mid
-  good_mid = drops.good
-
   attributes_are : (shape now).attributes ≡ (shape mid).attributes
   attributes_are = ap (λ (x : Shape). x.attributes) (shape_after drops.good d)
 

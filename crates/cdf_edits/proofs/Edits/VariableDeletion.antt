@@ -52,9 +52,6 @@ module _ {b mid now : List ℕ} {found : Found} (good : Good b) (drops : DropsEn
   h : HasShape b (shape b)
   h = (good_is_sound b good).has_shape
 
-  abbrev pub acts : List Act
-  acts = gave b (entries_for b (shape b).attributes found ++ freed_with_variable d.own)
-
   acts_are : gave b (entries_for b (shape b).attributes found ++ freed_with_variable d.own) ≡ gave b (entries_for b (shape b).attributes found) ++ gave b (freed_with_variable d.own)
   acts_are = map-append (λ (place : ℕ). Gave place (size_at b place)) (entries_for b (shape b).attributes found) (freed_with_variable d.own)
 

@@ -22,7 +22,9 @@ use Rattle.cdf_format.proofs.ChainsLemmas.{is_a-in, is_a-type, linkable-in, link
 use Rattle.cdf_format.proofs.GoodImageLemmas.{vdrs_append}
 use Rattle.cdf_format.proofs.IndexLemmas.{nodes_stand}
 use Rattle.cdf_edits.proofs.Rules.OfIndexes.{index_rules_kept}
-use Rattle.cdf_edits.proofs.Frame.Meaning.{FileSame, Kept, KeptButLink, but_link, field_same, compressed_same, cpr_link_same, end_kept}
+use Rattle.cdf_edits.proofs.Frame.Meaning.{FileSame, Kept, KeptButLink, but_link}
+use Rattle.cdf_edits.proofs.Frame.VdrCopied.{cpr_link_copied}
+use Rattle.cdf_edits.proofs.Frame.VdrKept.{vdr_kept, field_same, compressed_same, end_kept}
 use Rattle.cdf_format.proofs.Members.{either, In-append, In-append_left, In-append_right}
 use Rattle.cdf_edits.proofs.Frame.OwnersApart.{flat-append, all_variable_records, vdrs_stand}
 use Rattle.cdf_edits.proofs.Frame.LinksStay.{SameHeads}
@@ -253,7 +255,7 @@ module _ {b now : List ℕ} {s : Shape} {new : List ℕ} {marks : List Mark} {re
           inr (In-append_right (cpr_link b v.vdr) (nodes_of v.index ++ places_of (leaves_of v.index)) v.cpr (subst (λ (x : List ℕ). In (cpr_link b v.vdr) x) (sym there) (inl refl)))
 
       cpr_own_now : is_compressed now v.vdr ≡ true → In (cpr_link now v.vdr) (variable_records v)
-      cpr_own_now c = subst (λ (x : ℕ). In x (variable_records v)) (sym (cpr_link_same b now file v.vdr live.vdr fits.0)) (cpr_own (sym (compressed_same b now file v.vdr live.vdr fits.0) ∙ c))
+      cpr_own_now c = subst (λ (x : ℕ). In x (variable_records v)) (sym (cpr_link_copied file (vdr_kept b now file v.vdr live.vdr fits.0))) (cpr_own (sym (compressed_same b now file v.vdr live.vdr fits.0) ∙ c))
 
       -- the VDR itself is no CPR
       cpr_kept : (m : ℕ) → is_a b (variable_records v) cpr_type m ≡ true → Kept b now m

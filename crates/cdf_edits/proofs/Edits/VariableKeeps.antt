@@ -310,9 +310,6 @@ module _ {b mid now : List ℕ} {found : Found} (good : Good b) (drops : DropsEn
 
   -- ---- unused records
 
-  abbrev links : List Field
-  links = uir_next_uir ∷ uir_prev_uir ∷ []
-
   unless_taken : (p : Bool) (m : ℕ) → Keeps b now m (Only (uir_next_uir ∷ uir_prev_uir ∷ [])) → Keeps b now m (if p then Anything else Only (uir_next_uir ∷ uir_prev_uir ∷ []))
   unless_taken true m k = tt
   unless_taken false m k = k

@@ -22,12 +22,6 @@ end_place_is place (m ∷ ms) = elim (end_place_is (m + 12) ms) [
   | inr h ↦ inr (h.0, inr h.1, h.2)
 ]
 
-pub link_after : (c : ChainHead) (front : List ℕ) → (holder : ℕ) × ((place : ℕ) × IsLinkAfter c front holder place)
-link_after c front = elim (end_place_is (head_place c) front) [
-  | inl e ↦ (c.holder, (c.place, (e, inl (refl, refl))))
-  | inr f ↦ (f.0, (12, (f.2, inr (f.1, refl))))
-]
-
 -- links lead on from the end of a front part
 leads_splice : (b now : List ℕ) (place : ℕ) (us ws zs : List ℕ) → Leads b (word b place 8) (us ++ ws) 0 → Distinct us
     → ((m : ℕ) → In m us → place ≢ m + 12)

@@ -1,32 +1,25 @@
 -- What records mean stays where their bytes do.
-use Rattle.std.proofs.Common.{◌≡◌, ℕ, ℤ, ◌+◌, ◌*◌, ◌≤◌, List, [], ◌∷◌, ◌++◌, length, map, Bool, true, false, not, Some, refl, sym, ap, subst, ◌∙◌, arith, inl, inr}
-use Rattle.std.specs.Prelude.{◌==◌, nat_lt, if◌then◌else◌}
+use Rattle.std.proofs.Common.{◌≡◌, ℕ, ℤ, ◌+◌, ◌*◌, ◌≤◌, List, [], ◌∷◌, length, Bool, true, false, refl, sym, ap, subst, ◌∙◌, arith, inl, inr}
+use Rattle.std.specs.Prelude.{◌==◌, if◌then◌else◌}
 use Rattle.std.specs.Int.{w32, w64, cast_signed}
-use Rattle.std.specs.List.{before_first, enumerate_from, filter, flat_map}
+use Rattle.std.specs.List.{before_first}
 use Rattle.std.specs.Option.{unwrap_or}
 use Rattle.cdf_model.specs.declared.data_type.DataType.{DataType}
 use Rattle.cdf_model.specs.declared.data_type.DataType.TheVariants.{Byte}
-use Rattle.cdf_model.specs.declared.kinds.Sparse.TheVariants.{NoRule, Pad, Previous}
-use Rattle.cdf_model.specs.ByteOrder.{parts, turned}
-use Rattle.cdf_model.specs.DataSet.{Entry, extent}
+use Rattle.cdf_model.specs.ByteOrder.{turned}
+use Rattle.cdf_model.specs.DataSet.{Entry}
 use Rattle.cdf_model.specs.Numbered.{with_item}
-use Rattle.cdf_model.specs.Place.{record_size}
-use Rattle.cdf_model.specs.RunLengths.{plain_of}
 use Rattle.cdf_model.specs.Types.{size_of, type_of}
-use Rattle.cdf_format.specs.Records.{Field, adr_name, adr_scope, aedr_data_type, aedr_num, aedr_num_elems, aedr_value, vdr_data_type, vdr_max_rec, vdr_vxr_head, vdr_flags, vdr_s_records, vdr_num_elems, vdr_cpr_or_spr_offset, vdr_blocking_factor, vdr_name, vdr_r_dim_vary, vdr_r_pad_value, vdr_z_num_dims, vdr_z_dim_vary, vdr_z_pad_value, vvr_records, cvvr_c_size, cvvr_packed}
-use Rattle.cdf_format.specs.RecordTypes.{z_vdr_type}
-use Rattle.cdf_format.specs.Fields.{counted, words, number, name_in, integer4, has_bit, size_at, type_at, gdr_offset, r_num_dims, r_sizes}
+use Rattle.cdf_format.specs.Records.{Field, adr_name, adr_scope, aedr_data_type, aedr_num, aedr_num_elems, aedr_value, vdr_r_dim_vary, vdr_r_pad_value, vdr_z_dim_vary, vdr_z_pad_value, cvvr_c_size, cvvr_packed}
+use Rattle.cdf_format.specs.Fields.{counted, number, name_in, integer4, size_at, type_at, gdr_offset, r_num_dims, r_sizes}
 use Rattle.cdf_format.specs.Bytes.{Same}
 use Rattle.cdf_format.specs.Tiles.{In}
-use Rattle.cdf_format.specs.Stored.{field_bytes, packed_bytes, is_little, data_type_in, network_bytes}
-use Rattle.cdf_format.specs.Index.{Leaf, leaves_of}
-use Rattle.cdf_format.specs.Shape.{AttributeShape, VariableShape, Each, is_compressed}
-use Rattle.cdf_format.specs.VariableFields.{is_z, counted4, dimensions_at, dims_at, elems_at, vary_field, varys_at, type_of_variable, value_bytes, record_bytes, has_pad, pad_field, pad_at, sparse_at, max_rec_at, records_of_leaf, plain_size}
-use Rattle.cdf_format.specs.VariableRules.{vdr_end}
+use Rattle.cdf_format.specs.Stored.{field_bytes, packed_bytes, is_little, data_type_in}
+use Rattle.cdf_format.specs.Shape.{AttributeShape, Each}
 use Rattle.cdf_format.specs.AttributeRules.{entry_bytes}
-use Rattle.cdf_format.specs.Content.{scope_of, entry_of, entries_of, attribute_of, plain_bytes, leaf_records, records_in, variable_of}
-use Rattle.cdf_format.specs.Sound.{EntryFits, AttributeFits, BlockFits, LeafFits}
-use Rattle.cdf_format.proofs.BytesLemmas.{Same-part, word_kept, piece_kept, number_kept, integer_kept, bytes_kept, name_kept, words_kept, size_kept}
+use Rattle.cdf_format.specs.Content.{scope_of, entry_of, entries_of, attribute_of}
+use Rattle.cdf_format.specs.Sound.{EntryFits, AttributeFits}
+use Rattle.cdf_format.proofs.BytesLemmas.{Same-part, word_kept, piece_kept, number_kept, integer_kept, bytes_kept, name_kept, size_kept}
 
 -- what the CDR and the GDR say of other records
 pub record FileSame (b now : List ℕ) : Type 0 where
@@ -144,10 +137,6 @@ pub pad_width : (p : Bool) (d n : ℕ) → (if p then vdr_z_pad_value d n else v
 pad_width true d n = refl
 pad_width false d n = refl
 
-vary_late : (p : Bool) (d : ℕ) → 20 ≤ (if p then vdr_z_dim_vary d 0 else vdr_r_dim_vary 0).place
-vary_late true d = omega arith
-vary_late false d = omega arith
-
 pub vary_fits : (p : Bool) (d n : ℕ) → (if p then vdr_z_dim_vary d 0 else vdr_r_dim_vary 0).place + 4 * d ≤ (if p then vdr_z_pad_value d n else vdr_r_pad_value d n).place
 vary_fits true d n = omega arith
 vary_fits false d n = omega arith
@@ -155,9 +144,6 @@ vary_fits false d n = omega arith
 pub end_fits : (q : Bool) (p w s : ℕ) → p + (if q then w else 0) ≤ s → q ≡ true → p + w ≤ s
 end_fits true p w s h e = h
 end_fits false p w s h e = absurd cc
-
-plus : (a b c : ℕ) → a + b ≤ c → (v : ℕ) → v + a + b ≤ v + c
-plus a b c h v = omega arith
 
 -- the packed bytes of a CVVR
 counted_least : (n : ℕ) → counted (cast_signed w64 n) ≤ n
@@ -172,179 +158,3 @@ packed_same b now file place kept fits =
   where
     at_most : (n c s : ℕ) → n ≤ c → 24 + c ≤ s → 24 + n ≤ s
     at_most n c s p q = omega arith
-
-module _ (b now : List ℕ) (file : FileSame b now) (v : ℕ) (k : KeptButLink b now v) (fits : vdr_end b v ≤ size_at b v) where
-  place_fits : (pad_field b v).place ≤ size_at b v
-  place_fits = less (pad_field b v).place (if has_pad b v then value_bytes b v else 0) (size_at b v) fits
-
-  pub long : 340 ≤ size_at b v
-  long = let p = pad_long (is_z b v) (dimensions_at b v) (value_bytes b v) in let q = place_fits in chain_le 340 (pad_field b v).place (size_at b v) p q
-    where
-      chain_le : (x y z : ℕ) → x ≤ y → y ≤ z → x ≤ z
-      chain_le x y z p q = omega arith
-
-  pub long_z : is_z b v ≡ true → 344 + 8 * dimensions_at b v ≤ size_at b v
-  long_z e = subst (λ (x : ℕ). x ≤ size_at b v) (pad_place (is_z b v) (dimensions_at b v) (value_bytes b v) e) place_fits
-
-  pub z_same : is_z now v ≡ is_z b v
-  z_same = ap (λ (t : ℕ). t == z_vdr_type) (late_type b now v k)
-
-  pub field_same : (f : Field) → 20 ≤ f.place → f.place + f.width ≤ 340 → number now v f ≡ number b v f
-  field_same f late h = late_number b now v k f late (let l = long in omega arith)
-
-  pub signed_same : (f : Field) → 20 ≤ f.place → f.place + 4 ≤ 340 → integer4 now v f ≡ integer4 b v f
-  signed_same f late h = late_integer b now v k f late (let l = long in omega arith)
-
-  dimensions_same : dimensions_at now v ≡ dimensions_at b v
-  dimensions_same = if_same (is_z now v) (is_z b v) _ _ _ _ z_same (λ e. ap counted (late_integer b now v k vdr_z_num_dims (omega arith) (let l = long_z e in few (dimensions_at b v) (size_at b v) l))) (λ e. file.dimensions)
-    where
-      few : (d s : ℕ) → 344 + 8 * d ≤ s → 344 ≤ s
-      few d s h = omega arith
-
-  pub dims_same : dims_at now v ≡ dims_at b v
-  dims_same = if_same (is_z now v) (is_z b v) _ _ _ _ z_same
-      (λ e. ap (map counted4) (ap (words now (v + 344)) dimensions_same ∙ words_kept b now (v + 20) (v + size_at b v) k.rest (v + 344) (dimensions_at b v) (omega arith) (let l = long_z e in room v (dimensions_at b v) (size_at b v) l)))
-      (λ e. file.sizes)
-    where
-      room : (v d s : ℕ) → 344 + 8 * d ≤ s → v + 344 + 4 * d ≤ v + s
-      room v d s h = omega arith
-
-  vary_same : (vary_field now v).place ≡ (vary_field b v).place
-  vary_same = let z = z_same in let d = dimensions_same in λ i. (if z i then vdr_z_dim_vary (d i) 0 else vdr_r_dim_vary 0).place
-
-  varys_same : varys_at now v ≡ varys_at b v
-  varys_same =
-      let p = vary_same in
-      let d = dimensions_same in
-      let room = vary_fits (is_z b v) (dimensions_at b v) (value_bytes b v) in
-      let moved : words now (v + (vary_field now v).place) (dimensions_at now v) ≡ words now (v + (vary_field b v).place) (dimensions_at b v) = λ i. words now (v + p i) (d i) in
-      let behind = vary_late (is_z b v) (dimensions_at b v) in
-      let kept = words_kept b now (v + 20) (v + size_at b v) k.rest (v + (vary_field b v).place) (dimensions_at b v) (omega arith) (within v (vary_field b v).place (dimensions_at b v) (pad_field b v).place (size_at b v) room place_fits) in
-      ap (λ (ws : List ℕ). map (λ n. not (n == 0)) ws) (moved ∙ kept)
-    where
-      within : (v p d q s : ℕ) → p + 4 * d ≤ q → q ≤ s → v + p + 4 * d ≤ v + s
-      within v p d q s h l = omega arith
-
-  pub type_same : type_of_variable now v ≡ type_of_variable b v
-  type_same = ap (λ (z : ℤ). unwrap_or (type_of z) Byte) (signed_same vdr_data_type (omega arith) (omega arith))
-
-  pub elems_same : elems_at now v ≡ elems_at b v
-  elems_same = ap counted (signed_same vdr_num_elems (omega arith) (omega arith))
-
-  pub value_same : value_bytes now v ≡ value_bytes b v
-  value_same = let t = type_same in let n = elems_same in λ i. size_of (t i) * n i
-
-  pub record_same : record_bytes now v ≡ record_bytes b v
-  record_same = let t = type_same in let n = elems_same in let d = dims_same in let w = varys_same in λ i. record_size (t i) (n i) (d i) (w i)
-
-  pub flags_same : number now v vdr_flags ≡ number b v vdr_flags
-  flags_same = field_same vdr_flags (omega arith) (omega arith)
-
-  pub pad_field_same : pad_field now v ≡ pad_field b v
-  pad_field_same = let z = z_same in let d = dimensions_same in let w = value_same in λ i. if z i then vdr_z_pad_value (d i) (w i) else vdr_r_pad_value (d i) (w i)
-
-  pad_same : pad_at now v ≡ pad_at b v
-  pad_same = if_same (has_pad now v) (has_pad b v) _ _ _ _ (ap (λ (x : ℕ). has_bit x 1) flags_same)
-      (λ e.
-      let t = type_same in
-      let f = pad_field_same in
-      let wide = pad_width (is_z b v) (dimensions_at b v) (value_bytes b v) in
-      let ends = end_fits (has_pad b v) (pad_field b v).place (value_bytes b v) (size_at b v) fits e in
-      let ends' : (pad_field b v).place + (pad_field b v).width ≤ size_at b v = subst (λ (w : ℕ). (pad_field b v).place + w ≤ size_at b v) (sym wide) ends in
-      let first : network_bytes now v (pad_field now v) (type_of_variable now v) ≡ turned (type_of_variable b v) (is_little b) (field_bytes now v (pad_field b v)) = λ i. turned (t i) (file.little i) (field_bytes now v (f i)) in
-      ap Some (first ∙ ap (turned (type_of_variable b v) (is_little b)) (late_bytes b now v k (pad_field b v) (let l = pad_long (is_z b v) (dimensions_at b v) (value_bytes b v) in omega arith) ends' file.longer)))
-      (λ e. refl)
-
-  sparse_same : sparse_at now v ≡ sparse_at b v
-  sparse_same = let s = field_same vdr_s_records (omega arith) (omega arith) in λ i. if s i == 0 then NoRule else (if s i == 1 then Pad else Previous)
-
-  pub plain_same : (leaf : Leaf) → plain_size now v leaf ≡ plain_size b v leaf
-  plain_same leaf = let r = record_same in λ i. records_of_leaf leaf * r i
-
-  bytes_same : (leaf : Leaf) → Kept b now leaf.place → BlockFits b v leaf leaf.packed → plain_bytes now v leaf ≡ plain_bytes b v leaf
-  bytes_same leaf kept room = if_same leaf.packed leaf.packed _ _ _ _ refl
-      (λ e.
-      let fit : 24 + number b leaf.place cvvr_c_size ≤ size_at b leaf.place = subst (BlockFits b v leaf) e room in
-      ap plain_of (packed_same b now file leaf.place kept fit))
-      (λ e.
-      let fit : 12 + plain_size b v leaf ≤ size_at b leaf.place = subst (BlockFits b v leaf) e room in
-      ap (λ (n : ℕ). field_bytes now leaf.place (vvr_records n)) (plain_same leaf) ∙ bytes_kept b now leaf.place kept.same (vvr_records (plain_size b v leaf)) fit kept.inside file.longer)
-
-  leaf_same : (leaf : Leaf) → Kept b now leaf.place → BlockFits b v leaf leaf.packed → leaf_records now v leaf ≡ leaf_records b v leaf
-  leaf_same leaf kept room =
-      let t = type_same in
-      let r = record_same in
-      let p = bytes_same leaf kept room in
-      λ i. enumerate_from (counted4 leaf.first) (map (turned (t i) (file.little i)) (parts (r i) (records_of_leaf leaf) (p i)))
-
-  leaves_same : (leaves : List Leaf) (records : List ℕ) → ((m : ℕ) → In m (map (λ (leaf : Leaf). leaf.place) leaves) → Kept b now m) → Each (LeafFits b records v) leaves → flat_map (leaf_records now v) leaves ≡ flat_map (leaf_records b v) leaves
-  leaves_same [] records kept room = refl
-  leaves_same (leaf ∷ more) records kept room =
-      let here = leaf_same leaf (kept leaf.place (inl refl)) room.0.1 in
-      let rest = leaves_same more records (λ m i. kept m (inr i)) room.1 in
-      λ i. here i ++ rest i
-
-  max_same : max_rec_at now v ≡ max_rec_at b v
-  max_same = signed_same vdr_max_rec (omega arith) (omega arith)
-
-  pub compressed_same : is_compressed now v ≡ is_compressed b v
-  compressed_same = ap (λ (x : ℕ). has_bit x 2) flags_same
-
-  pub cpr_link_same : number now v vdr_cpr_or_spr_offset ≡ number b v vdr_cpr_or_spr_offset
-  cpr_link_same = field_same vdr_cpr_or_spr_offset (omega arith) (omega arith)
-
-  pub index_link_same : number now v vdr_vxr_head ≡ number b v vdr_vxr_head
-  index_link_same = field_same vdr_vxr_head (omega arith) (omega arith)
-
-  pub end_kept : vdr_end now v ≤ size_at now v
-  end_kept =
-      let f = pad_field_same in
-      let w = value_same in
-      let p = flags_same in
-      let size = late_size b now v k in
-      let end : vdr_end now v ≡ vdr_end b v = λ i. (f i).place + (if has_bit (p i) 1 then w i else 0) in
-      subst (λ (x : ℕ). vdr_end now v ≤ x) (sym size) (subst (λ (x : ℕ). x ≤ size_at b v) (sym end) fits)
-
-  pub block_fits_kept : (leaf : Leaf) (packed : Bool) → Kept b now leaf.place → BlockFits b v leaf packed → BlockFits now v leaf packed
-  block_fits_kept leaf true kept room =
-      let c = number_kept b now leaf.place kept.same cvvr_c_size (less 24 (number b leaf.place cvvr_c_size) (size_at b leaf.place) room) in
-      let size = size_kept b now leaf.place kept.same (let l = kept.long in omega arith) in
-      subst (λ (x : ℕ). 24 + number now leaf.place cvvr_c_size ≤ x) (sym size) (subst (λ (x : ℕ). 24 + x ≤ size_at b leaf.place) (sym c) room)
-  block_fits_kept leaf false kept room =
-      let size = size_kept b now leaf.place kept.same (let l = kept.long in omega arith) in
-      subst (λ (x : ℕ). 12 + plain_size now v leaf ≤ x) (sym size) (subst (λ (x : ℕ). 12 + x ≤ size_at b leaf.place) (sym (plain_same leaf)) room)
-
-  pub records_same : (leaves : List Leaf) (records : List ℕ) → ((m : ℕ) → In m (map (λ (leaf : Leaf). leaf.place) leaves) → Kept b now m) → Each (LeafFits b records v) leaves → records_in now v leaves ≡ records_in b v leaves
-  records_same leaves records kept room =
-      let m = max_same in
-      let all = leaves_same leaves records kept room in
-      λ i. filter (λ pair. nat_lt pair.0 (extent (m i))) (all i)
-
-  pub variable_kept : (shape : VariableShape) (records : List ℕ) → shape.vdr ≡ v → ((m : ℕ) → In m (map (λ (leaf : Leaf). leaf.place) (leaves_of shape.index)) → Kept b now m) → Each (LeafFits b records v) (leaves_of shape.index) → variable_of now shape ≡ variable_of b shape
-  variable_kept shape records e kept room =
-      let name = late_name b now v k vdr_name (omega arith) (let l = long in omega arith) file.longer in
-      let t = type_same in
-      let n = elems_same in
-      let d = dims_same in
-      let w = varys_same in
-      let f = flags_same in
-      let s = sparse_same in
-      let blocking = signed_same vdr_blocking_factor (omega arith) (omega arith) in
-      let m = max_same in
-      let p = pad_same in
-      let rs = records_same (leaves_of shape.index) records kept room in
-      let here : variable_of now (record { vdr = v; index = shape.index; cpr = shape.cpr }) ≡ variable_of b (record { vdr = v; index = shape.index; cpr = shape.cpr }) = λ i. record {
-        name = name i;
-        type = t i;
-        elems = n i;
-        dims = d i;
-        varys = w i;
-        vary = has_bit (f i) 0;
-        sparse = s i;
-        rle = has_bit (f i) 2;
-        blocking = blocking i;
-        max_rec = m i;
-        pad = p i;
-        recs = rs i;
-      } in
-      subst (λ (x : ℕ). variable_of now (record { vdr = x; index = shape.index; cpr = shape.cpr }) ≡ variable_of b (record { vdr = x; index = shape.index; cpr = shape.cpr })) (sym e) here

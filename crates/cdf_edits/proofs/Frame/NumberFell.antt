@@ -1,5 +1,5 @@
 -- What an entry means stays where it gets another number.
-use Rattle.std.proofs.Common.{◌≡◌, ℕ, ◌+◌, ◌*◌, ◌≤◌, List, length, Bool, is_some, ◌&&◌, sym, ap, subst, ◌∙◌, arith}
+use Rattle.std.proofs.Common.{◌≡◌, ℕ, ◌+◌, ◌*◌, ◌≤◌, List, length, Bool, is_some, ◌&&◌, ap, ◌∙◌, arith}
 use Rattle.std.specs.Prelude.{nat_le}
 use Rattle.std.specs.Int.{w32, cast_signed}
 use Rattle.std.specs.Option.{unwrap_or}
@@ -44,17 +44,11 @@ module _ (b now : List ℕ) (file : FileSame b now) (e : ℕ) (k : KeptButNumber
   elems_same : number now e aedr_num_elems ≡ number b e aedr_num_elems
   elems_same = let l = long in word_kept b now (e + 32) (e + size_at b e) k.rest (e + 32) 4 (omega arith) (omega arith)
 
-  bytes_same : entry_bytes now e ≡ entry_bytes b e
-  bytes_same = let t = type_same in let n = elems_same in λ i. size_of (t i) * n i
-
   size_same : size_at now e ≡ size_at b e
   size_same = word_kept b now (e + 0) (e + 28) k.start (e + 0) 8 (omega arith) (omega arith)
 
   pub attribute_stays : number now e aedr_attr_num ≡ number b e aedr_attr_num
   attribute_stays = word_kept b now (e + 0) (e + 28) k.start (e + 20) 4 (omega arith) (omega arith)
-
-  pub fits_still : EntryFits now e
-  fits_still = subst (λ (x : ℕ). 56 + entry_bytes now e ≤ x) (sym size_same) (subst (λ (x : ℕ). 56 + x ≤ size_at b e) (sym bytes_same) fits)
 
   raw_same : field_bytes now e (aedr_value (entry_bytes b e)) ≡ field_bytes b e (aedr_value (entry_bytes b e))
   raw_same = piece_kept b now (e + 32) (e + size_at b e) k.rest (e + 56) (entry_bytes b e) (omega arith) (room e (entry_bytes b e) (size_at b e) fits) k.inside file.longer

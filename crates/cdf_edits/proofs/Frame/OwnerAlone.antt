@@ -23,7 +23,9 @@ use Rattle.cdf_format.proofs.IndexLemmas.{nodes_stand}
 use Rattle.cdf_format.proofs.Owning.{block_in}
 use Rattle.cdf_format.proofs.BytesLemmas.{word_kept, words_kept, number_kept, integer_kept}
 use Rattle.cdf_edits.proofs.Frame.ChangedBytes.{changed_part, changed_whole}
-use Rattle.cdf_edits.proofs.Frame.Meaning.{FileSame, Kept, but_link, attribute_kept, variable_kept, compressed_same, cpr_link_same, index_link_same}
+use Rattle.cdf_edits.proofs.Frame.Meaning.{FileSame, Kept, but_link, attribute_kept}
+use Rattle.cdf_edits.proofs.Frame.VdrCopied.{cpr_link_copied, index_link_copied}
+use Rattle.cdf_edits.proofs.Frame.VdrKept.{vdr_kept, variable_kept, compressed_same}
 use Rattle.cdf_edits.proofs.Frame.LinksStay.{SameHeads, tiles_same, chain_kept, index_kept}
 
 pub Each-in : (P : ℕ → Type 0) (xs : List ℕ) → Each P xs → (m : ℕ) → In m xs → P m
@@ -142,13 +144,13 @@ module _ (b now own : List ℕ) (s : Shape) (h : HasShape b s) (change : Changed
       let stand = blocks_stand b s.records v.vdr (leaves_of v.index) fits.2 in
       let block = λ (m : ℕ) (i : In m blocks). stays m (stand m i) (out m (inr (In-append_left m (nodes ++ blocks) v.cpr (In-append_right m nodes blocks i)))) in
       let compressed = compressed_same b now file v.vdr (but_link b now v.vdr vdr) fits.0 in
-      let link = cpr_link_same b now file v.vdr (but_link b now v.vdr vdr) fits.0 in
+      let link = cpr_link_copied file (vdr_kept b now file v.vdr (but_link b now v.vdr vdr) fits.0) in
       let cpr : cpr_of now v.vdr ≡ cpr_of b v.vdr = λ i. if compressed i then link i ∷ [] else [] in (
         record {
-          indexed = index_kept b now s.records records heads (number b v.vdr vdr_vxr_head) (number now v.vdr vdr_vxr_head) v.index has.indexed (index_link_same b now file v.vdr (but_link b now v.vdr vdr) fits.0) node (Each-in (NodeFits b) nodes fits.1) stand;
+          indexed = index_kept b now s.records records heads (number b v.vdr vdr_vxr_head) (number now v.vdr vdr_vxr_head) v.index has.indexed (index_link_copied file (vdr_kept b now file v.vdr (but_link b now v.vdr vdr) fits.0)) node (Each-in (NodeFits b) nodes fits.1) stand;
           packed_by = cpr ∙ has.packed_by;
         },
-        variable_kept b now file v.vdr (but_link b now v.vdr vdr) fits.0 v s.records refl block fits.2,
+        variable_kept b now file v (but_link b now v.vdr vdr) fits.0 s.records block fits.2,
       )
 
   pub variables_stay : FileSame b now → (vs : List VariableShape) → Each (λ (v : VariableShape). In v.vdr s.records) vs → Each (HasVariable b s.records) vs → Each (VariableFits b s.records) vs → ((m : ℕ) → In m (flat_map variable_records vs) → In m own → ⊥) → Each (VariableStays b now records) vs

@@ -136,9 +136,6 @@ module _ (b : List ℕ) (s : Shape) (sound : IsSound b s) where
   abbrev Apart : List ℕ → List ℕ → Type 0
   Apart own others = (m : ℕ) → In m others → In m own → ⊥
 
-  too_many : (own f a v u : ℕ) → f + (a + (v + u)) ≤ 1 → 1 ≤ own → own ≤ a → 1 ≤ f → ⊥
-  too_many own f a v u l o i p = omega arith
-
   module _ (now own : List ℕ) (change : ChangedWithin b now own) (own_in : (m : ℕ) → In m own → In m s.records) (file_apart : Apart own (file_records s)) (records : List ℕ) (sub : (m : ℕ) → In m s.records → In m records) where
     cdr_kept : Kept b now 8
     cdr_kept = stays b now own s h change own_in records sub 8 cdr_in (file_apart 8 (inl refl))

@@ -14,7 +14,9 @@ use Rattle.cdf_format.specs.Sound.{EntryFits, AttributeFits, NodeFits, LeafFits,
 use Rattle.cdf_format.proofs.Members.{In-append_left, In-append_right, is_in-true}
 use Rattle.cdf_format.proofs.ChainsLemmas.{is_a-in}
 use Rattle.cdf_format.proofs.Owning.{block_in}
-use Rattle.cdf_edits.proofs.Frame.Meaning.{FileSame, Kept, KeptButLink, but_link, entry_fits_kept, end_kept, block_fits_kept}
+use Rattle.cdf_edits.proofs.Frame.Meaning.{FileSame, Kept, KeptButLink, but_link, entry_fits_kept}
+use Rattle.cdf_edits.proofs.Frame.VdrCopied.{block_fits_copied}
+use Rattle.cdf_edits.proofs.Frame.VdrKept.{vdr_kept, end_kept}
 use Rattle.cdf_edits.proofs.Frame.LinksStay.{SameHeads, node_fits_kept}
 use Rattle.cdf_format.specs.VariableRules.{vdr_end}
 
@@ -54,7 +56,7 @@ module _ (b now : List ℕ) (records records' : List ℕ) (file : FileSame b now
   pub leaves_fit_kept : (vdr : ℕ) → KeptButLink b now vdr → vdr_end b vdr ≤ size_at b vdr → (leaves : List Leaf) → ((m : ℕ) → In m (map (λ (leaf : Leaf). leaf.place) leaves) → Kept b now m) → Each (LeafFits b records vdr) leaves → Each (LeafFits now records' vdr) leaves
   leaves_fit_kept vdr kv end [] k fits = tt
   leaves_fit_kept vdr kv end (leaf ∷ more) k fits =
-      ((block_kept leaf.place fits.0.0, block_fits_kept b now file vdr kv end leaf leaf.packed (k leaf.place (inl refl)) fits.0.1), leaves_fit_kept vdr kv end more (λ m i. k m (inr i)) fits.1)
+      ((block_kept leaf.place fits.0.0, block_fits_copied file (vdr_kept b now file vdr kv end) leaf leaf.packed (k leaf.place (inl refl)) fits.0.1), leaves_fit_kept vdr kv end more (λ m i. k m (inr i)) fits.1)
 
   pub cprs_kept : (cs : List ℕ) → Each (λ cpr. is_a b records cpr_type cpr ≡ true) cs → Each (λ cpr. is_a now records' cpr_type cpr ≡ true) cs
   cprs_kept [] h = tt

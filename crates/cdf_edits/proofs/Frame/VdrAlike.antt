@@ -19,7 +19,7 @@ use Rattle.cdf_format.specs.Tiles.{In}
 use Rattle.cdf_format.specs.Stored.{field_bytes, is_little, network_bytes}
 use Rattle.cdf_format.specs.Index.{Leaf, leaves_of}
 use Rattle.cdf_format.specs.Shape.{VariableShape, Each, is_compressed}
-use Rattle.cdf_format.specs.VariableFields.{is_z, counted4, dimensions_at, dims_at, elems_at, vary_field, varys_at, type_of_variable, value_bytes, record_bytes, records_vary, has_pad, pad_field, pad_at, sparse_at, records_of_leaf, plain_size}
+use Rattle.cdf_format.specs.VariableFields.{is_z, counted4, dimensions_at, dims_at, elems_at, vary_field, varys_at, type_of_variable, value_bytes, record_bytes, records_vary, has_pad, pad_field, pad_at, sparse_at, max_rec_at, records_of_leaf, plain_size}
 use Rattle.cdf_format.specs.Content.{plain_bytes, leaf_records, records_in, variable_of}
 use Rattle.cdf_format.specs.Sound.{BlockFits, LeafFits}
 use Rattle.cdf_format.proofs.BytesLemmas.{bytes_kept, number_kept, size_kept}
@@ -162,3 +162,56 @@ module _ {b now : List ℕ} (file : FileSame b now) {v v' : ℕ} (k : VdrAlike b
 
   pub plain_alike : (leaf : Leaf) → plain_size now v' leaf ≡ plain_size b v leaf
   plain_alike leaf = let r = record_alike in λ i. records_of_leaf leaf * r i
+
+  -- ---- its records
+
+  bytes_alike : (leaf : Leaf) → Kept b now leaf.place → BlockFits b v leaf leaf.packed → plain_bytes now v' leaf ≡ plain_bytes b v leaf
+  bytes_alike leaf kept room = if_same leaf.packed leaf.packed _ _ _ _ refl
+      (λ e.
+      let fit : 24 + number b leaf.place cvvr_c_size ≤ size_at b leaf.place = subst (BlockFits b v leaf) e room in
+      ap plain_of (packed_same b now file leaf.place kept fit))
+      (λ e.
+      let fit : 12 + plain_size b v leaf ≤ size_at b leaf.place = subst (BlockFits b v leaf) e room in
+      ap (λ (n : ℕ). field_bytes now leaf.place (vvr_records n)) (plain_alike leaf) ∙ bytes_kept b now leaf.place kept.same (vvr_records (plain_size b v leaf)) fit kept.inside file.longer)
+
+  leaf_alike : (leaf : Leaf) → Kept b now leaf.place → BlockFits b v leaf leaf.packed → leaf_records now v' leaf ≡ leaf_records b v leaf
+  leaf_alike leaf kept room =
+      let t = type_alike in
+      let r = record_alike in
+      let p = bytes_alike leaf kept room in
+      λ i. enumerate_from (counted4 leaf.first) (map (turned (t i) (file.little i)) (parts (r i) (records_of_leaf leaf) (p i)))
+
+  leaves_alike : (leaves : List Leaf) (records : List ℕ) → ((m : ℕ) → In m (map (λ (leaf : Leaf). leaf.place) leaves) → Kept b now m) → Each (LeafFits b records v) leaves → flat_map (leaf_records now v') leaves ≡ flat_map (leaf_records b v) leaves
+  leaves_alike [] records kept room = refl
+  leaves_alike (leaf ∷ more) records kept room =
+      let here = leaf_alike leaf (kept leaf.place (inl refl)) room.0.1 in
+      let rest = leaves_alike more records (λ m i. kept m (inr i)) room.1 in
+      λ i. here i ++ rest i
+
+  -- where its blocks stay, and MaxRec too
+  pub records_alike : number now v' vdr_max_rec ≡ number b v vdr_max_rec → (leaves : List Leaf) (records : List ℕ) → ((m : ℕ) → In m (map (λ (leaf : Leaf). leaf.place) leaves) → Kept b now m) → Each (LeafFits b records v) leaves → records_in now v' leaves ≡ records_in b v leaves
+  records_alike max leaves records kept room = let all = leaves_alike leaves records kept room in λ i. filter (λ pair. nat_lt pair.0 (extent (cast_signed w32 (max i)))) (all i)
+
+  -- a block has room as it had
+  pub block_fits_alike : (leaf : Leaf) (packed : Bool) → Kept b now leaf.place → BlockFits b v leaf packed → BlockFits now v' leaf packed
+  block_fits_alike leaf true kept room =
+      let c = number_kept b now leaf.place kept.same cvvr_c_size (short (number b leaf.place cvvr_c_size) (size_at b leaf.place) room) in
+      let size = size_kept b now leaf.place kept.same (let l = kept.long in omega arith) in
+      subst (λ (x : ℕ). 24 + number now leaf.place cvvr_c_size ≤ x) (sym size) (subst (λ (x : ℕ). 24 + x ≤ size_at b leaf.place) (sym c) room)
+    where
+      short : (p n : ℕ) → 24 + p ≤ n → 24 ≤ n
+      short p n l = omega arith
+  block_fits_alike leaf false kept room =
+      let size = size_kept b now leaf.place kept.same (let l = kept.long in omega arith) in
+      subst (λ (x : ℕ). 12 + plain_size now v' leaf ≤ x) (sym size) (subst (λ (x : ℕ). 12 + x ≤ size_at b leaf.place) (sym (plain_alike leaf)) room)
+
+-- the variable, whose name, flags, blocking factor, MaxRec, pad value and records may be others
+pub variable_alike : {b now : List ℕ} (file : FileSame b now) (own own' : VariableShape) → VdrAlike b now own.vdr own'.vdr
+    → variable_of now own' ≡ record (variable_of b own) { name = name_in now own'.vdr vdr_name; vary = records_vary now own'.vdr; rle = is_compressed now own'.vdr; blocking = integer4 now own'.vdr vdr_blocking_factor; max_rec = max_rec_at now own'.vdr; pad = pad_at now own'.vdr; recs = records_in now own'.vdr (leaves_of own'.index) }
+variable_alike {b = b} {now = now} file own own' k =
+    let t = type_alike file k in
+    let n = elems_alike file k in
+    let d = dims_alike file k in
+    let w = varys_alike file k in
+    let s = sparse_alike file k in
+    λ i. record (variable_of now own') { type = t i; elems = n i; dims = d i; varys = w i; sparse = s i }

@@ -21,7 +21,9 @@ use Rattle.cdf_format.proofs.Tests.{both, le_of}
 use Rattle.cdf_format.proofs.RowLemmas.{Hold-append, Hold-split, Hold-asked}
 use Rattle.cdf_format.proofs.ChainsLemmas.{is_a-in, is_a-type}
 use Rattle.cdf_format.proofs.BytesLemmas.{number_kept, size_kept}
-use Rattle.cdf_edits.proofs.Frame.Meaning.{FileSame, Kept, KeptButLink, compressed_same, plain_same, packed_same}
+use Rattle.cdf_edits.proofs.Frame.Meaning.{FileSame, Kept, KeptButLink, packed_same}
+use Rattle.cdf_edits.proofs.Frame.VdrCopied.{plain_copied}
+use Rattle.cdf_edits.proofs.Frame.VdrKept.{vdr_kept, compressed_same}
 use Rattle.cdf_edits.proofs.Frame.LinksStay.{SameHeads}
 use Rattle.cdf_edits.proofs.Rules.OfVariables.{asked_same, is_a_same, is_block_same}
 
@@ -132,4 +134,4 @@ module _ (b now records : List ℕ) (same : SameHeads b now records records) whe
   -- where it stands but for its link
   pub index_rules_kept : (file : FileSame b now) → ((m : ℕ) → In m records → fixed_size (type_at b m) ≤ size_at b m) → (v : ℕ) → KeptButLink b now v → vdr_end b v ≤ size_at b v → (nodes : Nodes) → ((m : ℕ) → In m (nodes_of nodes) → Kept b now m) → ((m : ℕ) → In m (nodes_of nodes) → NodeFits b m)
       → ((m : ℕ) → In m (map (λ (leaf : Leaf). leaf.place) (leaves_of nodes)) → Kept b now m) → Hold (index_rows b records v nodes) → Hold (index_rows now records v nodes)
-  index_rules_kept file fixed v k fits = index_rules_copied file fixed v v (compressed_same b now file v k fits) (plain_same b now file v k fits)
+  index_rules_kept file fixed v k fits = index_rules_copied file fixed v v (compressed_same b now file v k fits) (plain_copied file (vdr_kept b now file v k fits))

@@ -7,7 +7,7 @@ use Rattle.cdf_model.specs.Place.{record_limit}
 use Rattle.cdf_model.specs.Types.{type_of}
 use Rattle.cdf_model.specs.Values.{notation_of}
 use Rattle.cdf_model.specs.VariableSteps.{is_characters}
-use Rattle.cdf_format.specs.Records.{vdr_data_type, vdr_max_rec, vdr_s_records, vdr_num_elems, vdr_name, vdr_z_num_dims, vdr_z_dim_size, cpr_c_type, cpr_p_count, cpr_parameter}
+use Rattle.cdf_format.specs.Records.{vdr_name, vdr_z_num_dims, vdr_z_dim_size, cpr_c_type, cpr_p_count, cpr_parameter}
 use Rattle.cdf_format.specs.RecordTypes.{cpr_type, vvr_type, cvvr_type, fixed_size}
 use Rattle.cdf_format.specs.Fields.{is_positive, number, name_in, has_bit, size_at, type_at}
 use Rattle.cdf_format.specs.Tiles.{In}
@@ -20,8 +20,10 @@ use Rattle.cdf_format.proofs.Members.{true-is_in}
 use Rattle.cdf_format.proofs.Tests.{both, le_of}
 use Rattle.cdf_format.proofs.ChainsLemmas.{is_a-in, is_a-type}
 use Rattle.cdf_format.proofs.BytesLemmas.{number_kept, size_kept}
-use Rattle.cdf_edits.proofs.Frame.Meaning.{FileSame, Kept, KeptButLink, late_size, late_number, late_name, compressed_same, cpr_link_same}
-use Rattle.cdf_edits.proofs.Frame.Meaning as of_vdr
+use Rattle.cdf_edits.proofs.Frame.Meaning.{FileSame, Kept, KeptButLink, late_size, late_number}
+use Rattle.cdf_edits.proofs.Frame.VdrCopied.{z_copied, dims_copied, raw_type_copied, type_copied, raw_elems_copied, value_copied, record_copied, pad_field_copied, raw_max_copied, raw_sparse_copied, cpr_link_copied}
+use Rattle.cdf_edits.proofs.Frame.VdrStays.{long_z}
+use Rattle.cdf_edits.proofs.Frame.VdrKept.{vdr_kept, flags_same, name_same as vdr_name_same, compressed_same}
 use Rattle.cdf_edits.proofs.Frame.LinksStay.{SameHeads}
 
 -- ---- tests of which a second is asked only after a first
@@ -91,18 +93,15 @@ module _ (b now records : List ℕ) (same : SameHeads b now records records) whe
         λ i. ((m == v) || not (bytes_eq (here i) (there i))) && rest i
 
     module _ (v : ℕ) (k : KeptButLink b now v) (fits : vdr_end b v ≤ size_at b v) where
-      pub name_same : name_in now v vdr_name ≡ name_in b v vdr_name
-      name_same = late_name b now v k vdr_name (omega arith) (let l = of_vdr.long b now file v k fits in omega arith) file.longer
-
       size_same : size_at now v ≡ size_at b v
       size_same = late_size b now v k
 
       dimensions_rule_same : is_z b v ≡ true → has_dimensions now v ≡ has_dimensions b v
       dimensions_rule_same e =
-          let l = of_vdr.long_z b now file v k fits e in
+          let l = long_z b v fits e in
           let count = late_number b now v k vdr_z_num_dims (omega arith) (few (dimensions_at b v) (size_at b v) l) in
           let size = size_same in
-          let dims = of_vdr.dims_same b now file v k fits in
+          let dims = dims_copied file (vdr_kept b now file v k fits) in
           λ i. nat_le (count i) dimension_limit && (nat_le (vdr_z_dim_size (count i)).place (size i) && list_all is_positive (dims i))
         where
           few : (d s : ℕ) → 344 + 8 * d ≤ s → 344 ≤ s
@@ -110,22 +109,23 @@ module _ (b now records : List ℕ) (same : SameHeads b now records records) whe
 
       pub variable_rows_same : (ids : List ℕ) → ((m : ℕ) → In m ids → name_in now m vdr_name ≡ name_in b m vdr_name) → variable_rows now records ids v ≡ variable_rows b records ids v
       variable_rows_same ids names =
-          let name = name_same in
+          let c = vdr_kept b now file v k fits in
+          let name = vdr_name_same b now file v k fits in
           let apart = apart_same ids v name names in
-          let raw_type = of_vdr.signed_same b now file v k fits vdr_data_type (omega arith) (omega arith) in
-          let type = of_vdr.type_same b now file v k fits in
-          let elems = of_vdr.field_same b now file v k fits vdr_num_elems (omega arith) (omega arith) in
-          let z = of_vdr.z_same b now file v k fits in
+          let raw_type = raw_type_copied file c in
+          let type = type_copied file c in
+          let elems = raw_elems_copied file c in
+          let z = z_copied file c in
           let dimensions = unless_same (is_z now v) (is_z b v) (has_dimensions now v) (has_dimensions b v) z dimensions_rule_same in
-          let pad = of_vdr.pad_field_same b now file v k fits in
-          let value = of_vdr.value_same b now file v k fits in
-          let flags = of_vdr.flags_same b now file v k fits in
+          let pad = pad_field_copied file c in
+          let value = value_copied file c in
+          let flags = flags_same b now file v k fits in
           let size = size_same in
-          let bytes = of_vdr.record_same b now file v k fits in
-          let max = of_vdr.field_same b now file v k fits vdr_max_rec (omega arith) (omega arith) in
-          let sparse = of_vdr.field_same b now file v k fits vdr_s_records (omega arith) (omega arith) in
+          let bytes = record_copied file c in
+          let max = raw_max_copied file c in
+          let sparse = raw_sparse_copied file c in
           let packed = compressed_same b now file v k fits in
-          let link = cpr_link_same b now file v k fits in
+          let link = cpr_link_copied file c in
           let cpr : is_cpr now records (cpr_link now v) ≡ is_cpr b records (cpr_link b v) = ap (is_cpr now records) link ∙ is_cpr_same (cpr_link b v) in
           let parameters : cpr_rows now records (cpr_link now v) ≡ cpr_rows b records (cpr_link b v) = ap (cpr_rows now records) link ∙ cpr_rows_same (cpr_link b v) in
           λ i.

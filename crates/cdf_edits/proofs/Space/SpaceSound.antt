@@ -24,7 +24,9 @@ use Rattle.cdf_format.proofs.ChainsLemmas.{is_a-in, is_a-type, linkable-in, link
 use Rattle.cdf_format.proofs.ShapeLemmas.{content_is}
 use Rattle.cdf_format.proofs.Owning.{attributes_in, times-none, times-once, tiles_distinct}
 use Rattle.cdf_format.proofs.BytesLemmas.{Same-part, word_kept, words_kept, number_kept, integer_kept, next_kept}
-use Rattle.cdf_edits.proofs.Frame.Meaning.{FileSame, Kept, but_link, attribute_kept, variable_kept, compressed_same, cpr_link_same, index_link_same}
+use Rattle.cdf_edits.proofs.Frame.Meaning.{FileSame, Kept, but_link, attribute_kept}
+use Rattle.cdf_edits.proofs.Frame.VdrCopied.{cpr_link_copied, index_link_copied}
+use Rattle.cdf_edits.proofs.Frame.VdrKept.{vdr_kept, variable_kept, compressed_same}
 use Rattle.cdf_edits.proofs.Frame.LinksStay.{SameHeads, chain_kept, index_kept}
 use Rattle.cdf_edits.proofs.Frame.OwnerAlone.{Each-in, little_code}
 use Rattle.cdf_edits.proofs.Frame.OwnersApart.{file_records, all_attribute_records, all_variable_records, owned-times, adrs_linked, vdrs_stand, unused_from_file, unused_from_attributes, unused_from_variables, file_in, file_from_attributes, file_from_variables}
@@ -61,14 +63,8 @@ module _ (b now : List ℕ) (s : Shape) (records unused gone : List ℕ) (sound 
   cdr_in : In 8 s.records
   cdr_in = is_a-in b s.records cdr_type 8 h.cdr_stands
 
-  gdr_in : In s.gdr s.records
-  gdr_in = is_a-in b s.records gdr_type s.gdr h.gdr_stands
-
   cdr_long : 312 ≤ size_at b 8
   cdr_long = subst (λ (t : ℕ). fixed_size t ≤ size_at b 8) (is_a-type b s.records cdr_type 8 h.cdr_stands) (h.fixed 8 cdr_in)
-
-  gdr_long : 84 ≤ size_at b s.gdr
-  gdr_long = subst (λ (t : ℕ). fixed_size t ≤ size_at b s.gdr) (is_a-type b s.records gdr_type s.gdr h.gdr_stands) (h.fixed s.gdr gdr_in)
 
   start_same : (m : ℕ) → In m (used_but b gone s.records) → Same b now m (m + 12)
   start_same m i = elim (cases_eq m s.gdr) [
@@ -196,14 +192,14 @@ module _ (b now : List ℕ) (s : Shape) (records unused gone : List ℕ) (sound 
       let vdr = k v.vdr (inl refl) in
       let as_block : (m : ℕ) → In m blocks → In m (variable_records v) = λ m i. inr (In-append_left m (nodes ++ blocks) v.cpr (In-append_right m nodes blocks i)) in
       let compressed = compressed_same b now file v.vdr (but_link b now v.vdr vdr) fits.0 in
-      let link = cpr_link_same b now file v.vdr (but_link b now v.vdr vdr) fits.0 in
+      let link = cpr_link_copied file (vdr_kept b now file v.vdr (but_link b now v.vdr vdr) fits.0) in
       let cpr : cpr_of now v.vdr ≡ cpr_of b v.vdr = λ i. if compressed i then link i ∷ [] else [] in (
         record {
-          indexed = index_kept b now (used_but b gone s.records) records same (number b v.vdr vdr_vxr_head) (number now v.vdr vdr_vxr_head) v.index (variable_used b gone s.records v (λ m i. used-stays b gone s.records m (in_use m i)) has).indexed (index_link_same b now file v.vdr (but_link b now v.vdr vdr) fits.0)
+          indexed = index_kept b now (used_but b gone s.records) records same (number b v.vdr vdr_vxr_head) (number now v.vdr vdr_vxr_head) v.index (variable_used b gone s.records v (λ m i. used-stays b gone s.records m (in_use m i)) has).indexed (index_link_copied file (vdr_kept b now file v.vdr (but_link b now v.vdr vdr) fits.0))
               (λ m i. k m (inr (In-append_left m (nodes ++ blocks) v.cpr (In-append_left m nodes blocks i)))) (Each-in (NodeFits b) nodes fits.1) (λ m i. in_use m (as_block m i));
           packed_by = cpr ∙ has.packed_by;
         },
-        variable_kept b now file v.vdr (but_link b now v.vdr vdr) fits.0 v s.records refl (λ m i. k m (as_block m i)) fits.2,
+        variable_kept b now file v (but_link b now v.vdr vdr) fits.0 s.records (λ m i. k m (as_block m i)) fits.2,
       )
 
   variables_stay : (vs : List VariableShape) → Each (HasVariable b s.records) vs → Each (VariableFits b s.records) vs → ((m : ℕ) → In m (flat_map variable_records vs) → Kept b now m) → ((m : ℕ) → In m (flat_map variable_records vs) → In m (used_but b gone s.records)) → Each (VariableStays b now records) vs

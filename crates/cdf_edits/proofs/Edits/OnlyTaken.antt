@@ -1,12 +1,11 @@
 -- Acts that take records and free none: what they leave of the unused list.
-use Rattle.std.proofs.Common.{◌≡◌, ◌⊎◌, ℕ, zero, suc, ◌+◌, ◌-◌, ◌<◌, ◌≤◌, List, [], ◌∷◌, ◌++◌, Bool, true, false, refl, ap, ◌∙◌, arith, inl, inr}
+use Rattle.std.proofs.Common.{◌≡◌, ◌⊎◌, ℕ, ◌+◌, ◌-◌, ◌<◌, ◌≤◌, List, [], ◌∷◌, ◌++◌, Bool, true, false, refl, ap, ◌∙◌, arith, inl, inr}
 use Rattle.std.proofs.lemmas.Bool.{lt-leb, le-ltb}
 use Rattle.std.specs.List.{fold, list_any}
 use Rattle.std.specs.Prelude.{◌==◌, ◌&&◌, ◌||◌, nat_le, nat_lt, if◌then◌else◌}
 use Rattle.cdf_edits.specs.Space.Acts.{Act, Took, Gave, Among, SpaceLeft, taken, after_act, AreActs}
 use Rattle.cdf_edits.specs.Commands.Allowances.{is_taken}
 use Rattle.cdf_edits.specs.Space.Placement.{fits, place_for, taken_from, eof_after}
-use Rattle.cdf_index.specs.Adding.{leaf_acts, node_acts}
 use Rattle.cdf_format.specs.Fields.{size_at}
 use Rattle.cdf_format.proofs.Members.{either}
 use Rattle.cdf_format.proofs.Tests.{le_of}
@@ -16,19 +15,6 @@ abbrev pub OnlyTakes : List Act → Type 0
 OnlyTakes [] = Unit {0}
 OnlyTakes (Took place need ∷ more) = OnlyTakes more
 OnlyTakes (Gave place size ∷ more) = ⊥
-
-pub only_takes-append : (xs ys : List Act) → OnlyTakes xs → OnlyTakes ys → OnlyTakes (xs ++ ys)
-only_takes-append [] ys p q = q
-only_takes-append (Took place need ∷ xs) ys p q = only_takes-append xs ys p q
-only_takes-append (Gave place size ∷ xs) ys p q = absurd p
-
--- what a leaf more takes
-pub node_takes : (entries at : ℕ) → OnlyTakes (node_acts entries at)
-node_takes zero at = tt
-node_takes (suc entries) at = tt
-
-pub leaf_takes : (place need entries at : ℕ) → OnlyTakes (leaf_acts place need entries at)
-leaf_takes place need entries at = node_takes entries at
 
 -- ---- whether one of the records that were taken passes a test
 

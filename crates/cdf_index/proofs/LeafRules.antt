@@ -18,7 +18,8 @@ use Rattle.cdf_format.specs.VariableFields.{number_before}
 use Rattle.cdf_format.proofs.Members.{either, In-append_left, In-append_right}
 use Rattle.cdf_format.proofs.RowLemmas.{Hold-append, Hold-split}
 use Rattle.cdf_index.specs.Order.{past_entries, InOrder, AreInOrder}
-use Rattle.cdf_index.proofs.GoodIndex.{before_number, order_from}
+use Rattle.cdf_edits.proofs.Edits.LeavesOrder.{before_number}
+use Rattle.cdf_index.proofs.GoodIndex.{order_from}
 use Rattle.cdf_index.proofs.LeafMore.{chain_reaches_from, reaches_from}
 use Rattle.cdf_index.proofs.OrderLemmas.{end_after}
 use Rattle.cdf_index.proofs.Saying.{front, front_past, upto_both, upto_is}
@@ -105,9 +106,6 @@ no_false e = cc
 
 not_first : (f first : ℕ) (p : Bool) → (leb first f || p) ≡ false → f < first
 not_first f first p e = elim (either (leb first f)) [ inl t ↦ absurd (no_false (rw t at e)) | inr t ↦ leb-false first f t ]
-
-not_later : (f first : ℕ) (p : Bool) → (leb first f || p) ≡ false → p ≡ false
-not_later f first p e = elim (either (leb first f)) [ inl t ↦ absurd (no_false (rw t at e)) | inr t ↦ rw t at e ]
 
 -- those that begin past a record also begin past the last one of a leaf
 pub raised_entries : (f last low low' high : ℕ) (es : Entries) → AreInOrder low high es → reaches f es ≡ false → NoneBegins f last (entry_firsts es) → low' ≤ max low (suc last) → AreInOrder low' high es

@@ -16,7 +16,7 @@ use Rattle.cdf_format.specs.Records.{uir_next_uir, uir_prev_uir}
 use Rattle.cdf_format.specs.RecordTypes.{uir_type}
 use Rattle.cdf_format.specs.Shape.{Each, HasShape, shape}
 use Rattle.cdf_format.specs.Tiles.{In, Distinct}
-use Rattle.cdf_puts.proofs.OnlyTaken.{OnlyTakes, none_of_both, AllApart, EndBefore, acts_origin, acts_outside, not_taken}
+use Rattle.cdf_edits.proofs.Edits.OnlyTaken.{OnlyTakes, none_of_both, AllApart, EndBefore, acts_origin, acts_outside, not_taken}
 
 -- ---- a space that has no more than another
 
