@@ -1,14 +1,12 @@
 -- What is kept of attributes and variables while a variable goes with its entries.
-use Rattle.std.proofs.Common.{◌≡◌, ◌<◌, ◌≤◌, ℕ, List, [], ◌∷◌, length, map, refl, sym, ap, subst, ◌∙◌, Some, None, arith}
+use Rattle.std.proofs.Common.{◌≡◌, ◌<◌, ◌≤◌, ℕ, List, length, map, refl, sym, ap, subst, ◌∙◌, Some, None, arith}
 use Rattle.cdf_attrs.specs.Known.{Known, Knows}
 use Rattle.cdf_edits.proofs.Edits.RemovedVariable.{content_after, shape_after}
-use Rattle.cdf_edits.proofs.Edits.VariableKinds.{with_shapes}
 use Rattle.cdf_edits.specs.Edits.DropsEntries.{DropsEntries}
 use Rattle.cdf_edits.specs.Edits.RemovesVariable.{RemovesVariable}
 use Rattle.cdf_format.specs.Content.{content}
-use Rattle.cdf_format.specs.Shape.{Shape, VariableShape, adrs, shape, vdrs}
+use Rattle.cdf_format.specs.Shape.{adrs, vdrs}
 use Rattle.cdf_format.specs.WellFormed.{Good}
-use Rattle.cdf_edits.specs.Commands.Allowances.{shapes_of}
 use Rattle.cdf_model.specs.DataSet.{DataSet, Variable}
 use Rattle.cdf_model.specs.Names.{Found, attribute_names, variables_of, with_variables}
 use Rattle.cdf_model.specs.declared.kinds.Kind.{Kind}

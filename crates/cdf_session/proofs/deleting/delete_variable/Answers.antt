@@ -1,4 +1,4 @@
-use Rattle.std.proofs.Common.{◌≡◌, ◌∙◌, refl, sym, ap, subst, arith}
+use Rattle.std.proofs.Common.{◌∙◌, sym, ap, arith}
 use Rattle.cdf_edits.proofs.Edits.VariableDeletionFollows.{delete_refused}
 use Rattle.cdf_attrs.specs.Known.{Known}
 use Rattle.cdf_vars.proofs.VariableFound.{none_found}
