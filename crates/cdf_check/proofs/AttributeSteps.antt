@@ -1,15 +1,13 @@
 -- The attributes of an image, one after the other.
-use Rattle.std.proofs.Common.{◌≡◌, ℕ, ◌+◌, ◌<◌, ◌≤◌, List, [], ◌∷◌, ◌++◌, length, map, take, get_or, refl, sym, ap, ◌∙◌, arith, append_assoc, append-nil}
-use Rattle.std.proofs.lemmas.List.{take_more, map-append}
+use Rattle.std.proofs.Common.{◌≡◌, ℕ, ◌≤◌, List, [], ◌∷◌, ◌++◌, length, refl, ap, ◌∙◌, arith, append_assoc}
 use Rattle.std.specs.List.{flat_map}
 use Rattle.cdf_format.specs.AttributeRules.{same_name, attribute_rows, phase6}
 use Rattle.cdf_format.specs.ChainRules.{differ_rows}
 use Rattle.cdf_format.specs.Fields.{LiesIn, name_at, name_field, name_in, type_at}
-use Rattle.cdf_format.specs.Owners.{attribute_records}
 use Rattle.cdf_format.specs.Records.{adr_name, gdr_adr_head}
 use Rattle.cdf_format.specs.RecordTypes.{adr_type}
 use Rattle.cdf_format.specs.Rules.{Hold, IsBroken}
-use Rattle.cdf_format.specs.Shape.{AttributeShape, adr_chain, attribute_shape}
+use Rattle.cdf_format.specs.Shape.{adr_chain}
 use Rattle.cdf_format.specs.Fields.{gdr_offset}
 use Rattle.cdf_format.specs.Tiles.{AreTiles}
 use Rattle.cdf_format.specs.Walks.{whole}
@@ -32,17 +30,6 @@ name_is b adr is = rw is.type_is refl
 
 pub pushed : (owned : List ℕ) (adr : ℕ) (gr z : List ℕ) → ((owned ++ adr ∷ []) ++ gr) ++ z ≡ owned ++ (adr ∷ gr ++ z)
 pushed owned adr gr z = ap (λ (xs : List ℕ). xs ++ z) (append_assoc owned (adr ∷ []) gr) ∙ append_assoc owned (adr ∷ gr) z
-
-flat_one : (xs : List AttributeShape) (a : AttributeShape) → flat_map attribute_records (xs ++ a ∷ []) ≡ flat_map attribute_records xs ++ attribute_records a
-flat_one [] a = append-nil (attribute_records a)
-flat_one (x ∷ xs) a = ap (λ (r : List ℕ). attribute_records x ++ r) (flat_one xs a) ∙ sym (append_assoc (attribute_records x) (flat_map attribute_records xs) (attribute_records a))
-
-module _ (b ts adrs : List ℕ) (i : ℕ) (lt : i < length adrs) where
-  pub owned_more : (gr z : List ℕ) → attribute_records (attribute_shape b ts (get_or adrs i 0)) ≡ get_or adrs i 0 ∷ gr ++ z
-      → flat_map attribute_records (map (attribute_shape b ts) (take (i + 1) adrs)) ≡ flat_map attribute_records (map (attribute_shape b ts) (take i adrs)) ++ (get_or adrs i 0 ∷ gr ++ z)
-  owned_more gr z is =
-      let one : map (attribute_shape b ts) (take (i + 1) adrs) ≡ map (attribute_shape b ts) (take i adrs) ++ attribute_shape b ts (get_or adrs i 0) ∷ [] = ap (map (attribute_shape b ts)) (take_more adrs i 0 lt) ∙ map-append (attribute_shape b ts) (take i adrs) (get_or adrs i 0 ∷ []) in
-      ap (flat_map attribute_records) one ∙ flat_one (map (attribute_shape b ts) (take i adrs)) (attribute_shape b ts (get_or adrs i 0)) ∙ ap (λ (r : List ℕ). flat_map attribute_records (map (attribute_shape b ts) (take i adrs)) ++ r) is
 
 -- ---- the attributes of a file
 

@@ -1,6 +1,7 @@
 -- No member of a list is like one before it.
 use Rattle.std.proofs.Common.{◌≡◌, ℕ, ◌+◌, ◌<◌, List, [], ◌∷◌, ◌++◌, length, map, take, drop, get_or, Bool, true, false, not, ◌||◌, eqb, refl, sym, ap, ◌∙◌, inl, inr, Option, Some, None, add-one, append-nil, append_assoc}
 use Rattle.std.proofs.lemmas.List.{take_more, map-append}
+use Rattle.std.proofs.Math.Seq.{drop-cons}
 use Rattle.std.specs.List.{list_any}
 use Rattle.cdf_format.specs.Chains.{is_in}
 use Rattle.cdf_format.specs.Rules.{Row, row, Hold, IsBroken}
@@ -8,7 +9,6 @@ use Rattle.cdf_format.specs.ChainRules.{differ_rows}
 use Rattle.cdf_format.proofs.RowLemmas.{Hold-append, IsBroken-before, IsBroken-after}
 use Rattle.cdf_structure.specs.declared.finding.Finding.{Finding}
 use Rattle.cdf_structure.specs.Findings.{Finds}
-use Rattle.cdf_structure.proofs.NumberSteps.{drop_at}
 
 -- what a member is compared by
 module _ {X : Type 0} (key : ℕ → X) (same : X → X → Bool) (rule : ℕ) (ms : List ℕ) (i : ℕ) (lt : i < length ms) (keys : List X) (are : keys ≡ map key (take i ms)) where
@@ -23,11 +23,11 @@ module _ {X : Type 0} (key : ℕ → X) (same : X → X → Bool) (rule : ℕ) (
   test_is = rw are (any-map (key (get_or ms i 0)) (take i ms))
 
   pub key_met : list_any (same (key (get_or ms i 0))) keys ≡ true → IsBroken (differ_rows rule (λ m other. same (key m) (key other)) (take i ms) (drop i ms)) rule (get_or ms i 0)
-  key_met old = rw (drop_at ms i lt) (inl (refl, refl, ap not (sym test_is ∙ old)))
+  key_met old = rw (drop-cons ms i 0 lt) (inl (refl, refl, ap not (sym test_is ∙ old)))
 
   pub key_new : list_any (same (key (get_or ms i 0))) keys ≡ false → (found : Option Finding) → Finds (differ_rows rule (λ m other. same (key m) (key other)) (take (i + 1) ms) (drop (i + 1) ms)) found → Finds (differ_rows rule (λ m other. same (key m) (key other)) (take i ms) (drop i ms)) found
-  key_new new None rest = rw (drop_at ms i lt) (ap not (sym test_is ∙ new), rw (take_more ms i 0 lt, add-one) at rest)
-  key_new new (Some f) rest = rw (drop_at ms i lt) (inr (rw (take_more ms i 0 lt, add-one) at rest))
+  key_new new None rest = rw (drop-cons ms i 0 lt) (ap not (sym test_is ∙ new), rw (take_more ms i 0 lt, add-one) at rest)
+  key_new new (Some f) rest = rw (drop-cons ms i 0 lt) (inr (rw (take_more ms i 0 lt, add-one) at rest))
 
   pub keys_more : keys ++ key (get_or ms i 0) ∷ [] ≡ map key (take (i + 1) ms)
   keys_more = rw (are, take_more ms i 0 lt) (sym (map-append key (take i ms) (get_or ms i 0 ∷ [])))

@@ -1,5 +1,6 @@
 -- What a VDR says of the values and the dimensions of its variable, as it is read, and what its fields and its record take.
 use Rattle.std.proofs.Common.{◌≡◌, ℕ, zero, suc, ◌+◌, ◌-◌, ◌<◌, ◌≤◌, ◌^◌, List, [], ◌∷◌, length, map, get_or, Bool, true, false, not, ◌&&◌, ◌||◌, refl, sym, ap, ap₂, ◌∙◌, arith, inl, inr, Some, None}
+use Rattle.std.proofs.lemmas.List.{length-map}
 use Rattle.std.specs.Prelude.{◌==◌, nat_le}
 use Rattle.std.proofs.Math.Path.{subst₂}
 use Rattle.std.proofs.lemmas.Bool.{cases_lt}
@@ -86,18 +87,14 @@ length-words : (b : List ℕ) (place n : ℕ) → length (words b place n) ≡ n
 length-words b place zero = refl
 length-words b place (suc n) = ap suc (length-words b (place + 4) n)
 
-length-map : {A B : Type 0} (f : A → B) (xs : List A) → length (map f xs) ≡ length xs
-length-map f [] = refl
-length-map f (x ∷ xs) = ap suc (length-map f xs)
-
 pub length-dims : (b : List ℕ) (vdr : ℕ) → length (dims_at b vdr) ≡ dimensions_at b vdr
 length-dims b vdr = elim (either (is_z b vdr)) [
-  | inl e ↦ rw e (length-map counted4 _ ∙ length-words b _ _)
+  | inl e ↦ rw e (length-map _ counted4 ∙ length-words b _ _)
   | inr e ↦ rw e (length-words b _ _)
 ]
 
 pub length-varys : (b : List ℕ) (place n : ℕ) → length (map (λ n. not (n == 0)) (words b place n)) ≡ n
-length-varys b place n = length-map (λ (m : ℕ). not (m == 0)) (words b place n) ∙ length-words b place n
+length-varys b place n = length-map (words b place n) (λ (m : ℕ). not (m == 0)) ∙ length-words b place n
 
 -- a record that is as small as it has to be, or is not
 pub is_small_enough : (size limit : ℕ) (n : ℕ) → SomeIff (Some n) (size ≤ limit) size → nat_le size limit ≡ true

@@ -1,6 +1,7 @@
 -- The indexes of variables, one after the other.
-use Rattle.std.proofs.Common.{◌≡◌, ℕ, zero, suc, ◌+◌, ◌<◌, ◌≤◌, List, [], ◌∷◌, ◌++◌, length, map, take, get_or, false, refl, sym, ap, ◌∙◌, append_assoc, append-nil, arith}
-use Rattle.std.proofs.lemmas.List.{take_more}
+use Rattle.std.proofs.Common.{◌≡◌, ℕ, ◌+◌, ◌<◌, ◌≤◌, List, [], ◌∷◌, ◌++◌, length, map, take, get_or, false, sym, ap, ◌∙◌, append-nil}
+use Rattle.std.proofs.lemmas.Grind.{flat_map-append}
+use Rattle.std.proofs.lemmas.List.{get_or-map, map-append, take_more}
 use Rattle.std.specs.List.{flat_map}
 use Rattle.cdf_model.specs.Place.{record_limit}
 use Rattle.cdf_format.specs.Rules.{Hold}
@@ -15,25 +16,13 @@ use Rattle.cdf_structure.proofs.Rows.{In-get_or}
 
 -- the members of lists that were made of others
 module _ {X : Type 0} (f : X → List ℕ) (g : ℕ → X) where
-  lists-append : (xs ys : List ℕ) → flat_map f (map g (xs ++ ys)) ≡ flat_map f (map g xs) ++ flat_map f (map g ys)
-  lists-append [] ys = refl
-  lists-append (x ∷ xs) ys = ap (λ (zs : List ℕ). f (g x) ++ zs) (lists-append xs ys) ∙ sym (append_assoc (f (g x)) (flat_map f (map g xs)) (flat_map f (map g ys)))
-
   pub list_more : (xs : List ℕ) (i : ℕ) (before now : List ℕ) → i < length xs → before ≡ flat_map f (map g (take i xs)) → now ≡ before ++ f (g (get_or xs i 0)) → now ≡ flat_map f (map g (take (i + 1) xs))
   list_more xs i before now lt p q =
       q ∙ ap (λ (zs : List ℕ). zs ++ f (g (get_or xs i 0))) p
       ∙ ap (λ (zs : List ℕ). flat_map f (map g (take i xs)) ++ zs) (sym (append-nil (f (g (get_or xs i 0)))))
-      ∙ sym (lists-append (take i xs) (get_or xs i 0 ∷ []))
+      ∙ sym (flat_map-append f (map g (take i xs)) (g (get_or xs i 0) ∷ []))
+      ∙ ap (flat_map f) (sym (map-append g (take i xs) (get_or xs i 0 ∷ [])))
       ∙ ap (λ (zs : List ℕ). flat_map f (map g zs)) (sym (take_more xs i 0 lt))
-
-pub length_map : (f : ℕ → ℕ) (xs : List ℕ) → length (map f xs) ≡ length xs
-length_map f [] = refl
-length_map f (x ∷ xs) = ap suc (length_map f xs)
-
-get-map : (f : ℕ → ℕ) (xs : List ℕ) (i : ℕ) → i < length xs → get_or (map f xs) i 0 ≡ f (get_or xs i 0)
-get-map f [] i lt = absurd (omega arith)
-get-map f (x ∷ xs) zero lt = refl
-get-map f (x ∷ xs) (suc i) lt = get-map f xs i (omega arith)
 
 -- one of the variables, which keep their own rules
 module _ (b ts vdrs : List ℕ) (read : AreRead b ts) (described : Hold (phase7 b ts vdrs)) (i : ℕ) (lt : i < length vdrs) where
@@ -48,4 +37,4 @@ module _ (b ts vdrs : List ℕ) (read : AreRead b ts) (described : Hold (phase7 
 
 -- what each of these variables has, in their order
 pub had_at : (f : ℕ → ℕ) (vdrs xs : List ℕ) (i : ℕ) → i < length vdrs → xs ≡ map f vdrs → get_or xs i 0 ≡ f (get_or vdrs i 0)
-had_at f vdrs xs i lt e = ap (λ (ys : List ℕ). get_or ys i 0) e ∙ get-map f vdrs i lt
+had_at f vdrs xs i lt e = ap (λ (ys : List ℕ). get_or ys i 0) e ∙ get_or-map f vdrs i 0 0 lt

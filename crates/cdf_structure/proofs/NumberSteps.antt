@@ -1,6 +1,7 @@
 -- The numbers of the members of a chain, one after the other.
-use Rattle.std.proofs.Common.{◌≡◌, ◌≢◌, ℕ, zero, suc, ◌+◌, ◌<◌, ◌≤◌, List, [], ◌∷◌, length, drop, get_or, eq-eqb, refl, arith, inl, inr, Option, Some, None}
+use Rattle.std.proofs.Common.{◌≡◌, ◌≢◌, ℕ, suc, ◌+◌, ◌<◌, ◌≤◌, List, length, drop, get_or, eq-eqb, refl, arith, inl, inr, Option, Some, None}
 use Rattle.std.proofs.lemmas.Bool.{ne_eqb}
+use Rattle.std.proofs.Math.Seq.{drop-cons}
 use Rattle.cdf_format.specs.Fields.{number}
 use Rattle.cdf_format.specs.Records.{Field}
 use Rattle.cdf_format.specs.RecordTypes.{fixed_size}
@@ -15,18 +16,13 @@ use Rattle.cdf_structure.specs.declared.finding.Finding.{Finding}
 use Rattle.cdf_structure.specs.FileChains.{AreLong}
 use Rattle.cdf_structure.specs.Findings.{Finds}
 
-pub drop_at : (xs : List ℕ) (i : ℕ) → i < length xs → drop i xs ≡ get_or xs i 0 ∷ drop (suc i) xs
-drop_at [] i lt = absurd (omega arith)
-drop_at (x ∷ xs) zero lt = refl
-drop_at (x ∷ xs) (suc i) lt = drop_at xs i (omega arith)
-
 module _ (rule : ℕ) (b : List ℕ) (num : Field) (ms : List ℕ) (i : ℕ) (lt : i < length ms) where
   pub number_wrong : number b (get_or ms i 0) num ≢ i → IsBroken (number_rows rule b num i (drop i ms)) rule (get_or ms i 0)
-  number_wrong ne = rw (drop_at ms i lt) (inl (refl, refl, ne_eqb (number b (get_or ms i 0) num) i ne))
+  number_wrong ne = rw (drop-cons ms i 0 lt) (inl (refl, refl, ne_eqb (number b (get_or ms i 0) num) i ne))
 
   pub number_right : number b (get_or ms i 0) num ≡ i → (found : Option Finding) → Finds (number_rows rule b num (suc i) (drop (suc i) ms)) found → Finds (number_rows rule b num i (drop i ms)) found
-  number_right e None rest = rw (drop_at ms i lt) (eq-eqb (number b (get_or ms i 0) num) i e, rest)
-  number_right e (Some f) rest = rw (drop_at ms i lt) (inr rest)
+  number_right e None rest = rw (drop-cons ms i 0 lt) (eq-eqb (number b (get_or ms i 0) num) i e, rest)
+  number_right e (Some f) rest = rw (drop-cons ms i 0 lt) (inr rest)
 
 -- a member of a chain has the fields of its type
 pub member_fields : (b ts : List ℕ) (upto type holder : ℕ) (head : Field) (place : ℕ) (ms : List ℕ) → AreTiles b 8 upto ts → AreLong b ts → place ≤ fixed_size type

@@ -1,6 +1,6 @@
 -- The rules of each member of a list, one after the other.
 use Rattle.std.proofs.Common.{◌≡◌, ℕ, zero, suc, ◌+◌, ◌<◌, List, [], ◌∷◌, ◌++◌, length, map, take, get_or, refl, sym, ap, ◌∙◌, inl, inr, ◌⊎◌, arith, append-nil, Option, Some, None}
-use Rattle.std.proofs.lemmas.List.{take_more}
+use Rattle.std.proofs.lemmas.List.{map-append, take_more}
 use Rattle.std.specs.List.{flat_map}
 use Rattle.std.specs.Option.{option_or}
 use Rattle.cdf_format.specs.Rules.{Row, Hold, IsBroken}
@@ -32,10 +32,6 @@ holds_more rows (x ∷ members) (suc i) d lt before here =
 pub one_more : (f : ℕ → ℕ) (members : List ℕ) (i : ℕ) (numbers : List ℕ) (n : ℕ) → i < length members → numbers ≡ map f (take i members) → n ≡ f (get_or members i 0) → numbers ++ n ∷ [] ≡ map f (take (i + 1) members)
 one_more f members i numbers n lt e is =
     ap (λ (xs : List ℕ). xs ++ n ∷ []) e ∙ ap (λ (k : ℕ). map f (take i members) ++ k ∷ []) is ∙ sym (map-append f (take i members) (get_or members i 0 ∷ [])) ∙ ap (map f) (sym (take_more members i 0 lt))
-  where
-    map-append : (h : ℕ → ℕ) (xs ys : List ℕ) → map h (xs ++ ys) ≡ map h xs ++ map h ys
-    map-append h [] ys = refl
-    map-append h (x ∷ xs) ys = ap (λ (zs : List ℕ). h x ∷ zs) (map-append h xs ys)
 
 pub IsBroken-split : (xs ys : List Row) (rule place : ℕ) → IsBroken (xs ++ ys) rule place → IsBroken xs rule place ⊎ IsBroken ys rule place
 IsBroken-split [] ys rule place p = inr p

@@ -1,6 +1,7 @@
 -- The search of a number among the places of records, which ascend.
 use Rattle.std.proofs.Common.{◌≡◌, ℕ, zero, suc, ◌+◌, ◌-◌, ◌<◌, ◌≤◌, List, [], ◌∷◌, length, get_or, true, false, Some, sym, subst, arith, inl, inr}
 use Rattle.std.proofs.lemmas.Bool.{cases_lt}
+use Rattle.std.proofs.lemmas.Option.{get_or_from_slice_get}
 use Rattle.std.specs.Prelude.{slice_get}
 use Rattle.cdf_format.specs.Fields.{size_at}
 use Rattle.cdf_format.specs.Chains.{is_in}
@@ -8,6 +9,7 @@ use Rattle.cdf_format.specs.Tiles.{In, AreTiles}
 use Rattle.cdf_format.proofs.Members.{is_in-true, is_in-false}
 use Rattle.cdf_format.proofs.TilesLemmas.{tile_lies}
 use Rattle.cdf_structure.specs.Met.{Ascends}
+use Rattle.cdf_structure.specs.Walked.{Climbs}
 use Rattle.cdf_structure.proofs.Rows.{In-get_or}
 
 place_of : (x : ℕ) (xs : List ℕ) → In x xs → (i : ℕ) × (i < length xs) × (get_or xs i 0 ≡ x)
@@ -15,15 +17,21 @@ place_of x [] h = absurd h
 place_of x (y ∷ ys) (inl e) = (0, omega arith, sym e)
 place_of x (y ∷ ys) (inr h) = let r = place_of x ys h in (suc r.0, omega (arith, r.1), r.2)
 
-pub tiles_ascend : (b : List ℕ) (from upto : ℕ) (ts : List ℕ) → AreTiles b from upto ts → Ascends ts
-tiles_ascend b from upto [] t i j le lt = absurd (omega arith)
-tiles_ascend b from upto (a ∷ ts) t zero zero le lt = omega arith
-tiles_ascend b from upto (a ∷ ts) t zero (suc j) le lt =
+pub tiles_climb : (b : List ℕ) (from upto : ℕ) (ts : List ℕ) → AreTiles b from upto ts → Climbs ts
+tiles_climb b from upto [] t i j lt within = absurd (omega arith)
+tiles_climb b from upto (a ∷ ts) t i zero lt within = absurd (omega arith)
+tiles_climb b from upto (a ∷ ts) t zero (suc j) lt within =
     let l = tile_lies b (from + size_at b a) upto ts (get_or ts j 0) t.2 (In-get_or ts j (omega arith)) in
     let here : a ≡ from = t.0 in
+    let long : 12 ≤ size_at b a = t.1 in
     omega (arith, l.low)
-tiles_ascend b from upto (a ∷ ts) t (suc i) zero le lt = absurd (omega arith)
-tiles_ascend b from upto (a ∷ ts) t (suc i) (suc j) le lt = tiles_ascend b (from + size_at b a) upto ts t.2 i j (omega arith) (omega arith)
+tiles_climb b from upto (a ∷ ts) t (suc i) (suc j) lt within = tiles_climb b (from + size_at b a) upto ts t.2 i j (omega arith) (omega arith)
+
+pub climbs_ascends : (xs : List ℕ) → Climbs xs → (i j : ℕ) → i ≤ j → j < length xs → get_or xs i 0 ≤ get_or xs j 0
+climbs_ascends xs c i j le lt = elim (cases_lt i j) [ inl l ↦ omega (arith, c i j l lt) | inr l ↦ let e : i ≡ j = omega arith in rw e (omega arith) ]
+
+pub tiles_ascend : (b : List ℕ) (from upto : ℕ) (ts : List ℕ) → AreTiles b from upto ts → Ascends ts
+tiles_ascend b from upto ts t = climbs_ascends ts (tiles_climb b from upto ts t)
 
 pub found_in : (xs : List ℕ) (x i : ℕ) → i < length xs → get_or xs i 0 ≡ x → is_in x xs ≡ true
 found_in xs x i lt e = is_in-true x xs (subst (λ z. In z xs) e (In-get_or xs i lt))
@@ -33,18 +41,10 @@ not_found_in xs x i below above = is_in-false x xs (λ h.
     let r = place_of x xs h in
     elim (cases_lt r.0 i) [ inl l ↦ absurd (omega (arith, below r.0 l, r.2)) | inr l ↦ absurd (omega (arith, above r.0 l r.1, r.2)) ])
 
-stands_at : (xs : List ℕ) (i n : ℕ) → Some n ≡ slice_get xs i → (i < length xs) × (get_or xs i 0 ≡ n)
-stands_at [] i n e = absurd cc
-stands_at (x ∷ xs) zero n e = (omega arith, cc)
-stands_at (x ∷ xs) (suc i) n e = let r = stands_at xs i n e in (omega (arith, r.0), r.1)
-
-stands_last : (xs : List ℕ) (n : ℕ) → Some n ≡ slice_get xs (length xs - 1) → (0 < length xs) × (get_or xs (length xs - 1) 0 ≡ n)
-stands_last xs n e = let r = stands_at xs (length xs - 1) n e in (omega (arith, r.0), r.1)
-
 -- a number past the last one of an ascending list is none of them
 pub past_last : (xs : List ℕ) (n x : ℕ) → Ascends xs → Some n ≡ slice_get xs (length xs - 1) → n < x → is_in x xs ≡ false
 past_last xs n x ascends e less =
-    let last = stands_last xs n e in
+    let last = get_or_from_slice_get xs (length xs - 1) n 0 (sym e) in
     not_found_in xs x (length xs)
-    (λ k lt. let le = ascends k (length xs - 1) (omega (arith, lt)) (omega (arith, last.0)) in omega (arith, le, last.1, less))
+    (λ k lt. let le = ascends k (length xs - 1) (omega (arith, lt)) (omega (arith, lt)) in omega (arith, le, last, less))
     (λ k le lt. absurd (omega (arith, le, lt)))

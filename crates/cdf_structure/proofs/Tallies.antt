@@ -1,27 +1,10 @@
 -- How often records stand in a list.
-use Rattle.std.proofs.Common.{◌≡◌, ◌≢◌, ℕ, zero, suc, ◌+◌, ◌<◌, ◌≤◌, List, [], ◌∷◌, ◌++◌, length, get_or, take, set, cond, eqb, eq-eqb, refl, true≢false, length-set, sym, ap, ◌∙◌, arith, inl, inr, get_or-set_same, get_or-set_other, None}
+use Rattle.std.proofs.Common.{◌≡◌, ◌≢◌, ℕ, ◌+◌, ◌<◌, ◌≤◌, List, [], ◌∷◌, ◌++◌, length, get_or, take, set, cond, eqb, eq-eqb, refl, true≢false, length-set, sym, ap, ◌∙◌, arith, inl, inr, get_or-set_same, get_or-set_other, None}
 use Rattle.std.proofs.lemmas.Bool.{eqb-true, cases_lt, ne_eqb}
-use Rattle.std.proofs.lemmas.List.{take_more}
-use Rattle.cdf_format.specs.Fields.{size_at}
+use Rattle.std.proofs.lemmas.List.{length-take, take_more}
 use Rattle.cdf_format.specs.Owners.{times}
-use Rattle.cdf_format.specs.Tiles.{AreTiles}
 use Rattle.cdf_format.proofs.Members.{either}
-use Rattle.cdf_format.proofs.TilesLemmas.{tile_lies}
 use Rattle.cdf_structure.specs.Walked.{Climbs, StandsAt, Counts}
-use Rattle.cdf_structure.proofs.Rows.{In-get_or}
-
-pub tiles_climb : (b : List ℕ) (from upto : ℕ) (ts : List ℕ) → AreTiles b from upto ts → Climbs ts
-tiles_climb b from upto [] t i j lt within = absurd (omega arith)
-tiles_climb b from upto (a ∷ ts) t i zero lt within = absurd (omega arith)
-tiles_climb b from upto (a ∷ ts) t zero (suc j) lt within =
-    let l = tile_lies b (from + size_at b a) upto ts (get_or ts j 0) t.2 (In-get_or ts j (omega arith)) in
-    let here : a ≡ from = t.0 in
-    let long : 12 ≤ size_at b a = t.1 in
-    omega (arith, l.low)
-tiles_climb b from upto (a ∷ ts) t (suc i) (suc j) lt within = tiles_climb b (from + size_at b a) upto ts t.2 i j (omega arith) (omega arith)
-
-pub climbs_ascends : (xs : List ℕ) → Climbs xs → (i j : ℕ) → i ≤ j → j < length xs → get_or xs i 0 ≤ get_or xs j 0
-climbs_ascends xs c i j le lt = elim (cases_lt i j) [ inl l ↦ omega (arith, c i j l lt) | inr l ↦ let e : i ≡ j = omega arith in rw e (omega arith) ]
 
 times-append : (x : ℕ) (ys zs : List ℕ) → times x (ys ++ zs) ≡ times x ys + times x zs
 times-append x [] zs = omega arith
@@ -34,13 +17,8 @@ times_le : (x : ℕ) (ys : List ℕ) → times x ys ≤ length ys
 times_le x [] = omega arith
 times_le x (y ∷ ys) = let r = times_le x ys in elim (either (eqb x y)) [ inl e ↦ rw e (omega arith) | inr e ↦ rw e (omega arith) ]
 
-length_take_le : (k : ℕ) (ys : List ℕ) → length (take k ys) ≤ k
-length_take_le zero ys = omega arith
-length_take_le (suc k) [] = omega arith
-length_take_le (suc k) (y ∷ ys) = let r = length_take_le k ys in omega arith
-
 pub counts_small : (xs ys counts : List ℕ) (k i : ℕ) → Counts xs (take k ys) counts → i < length xs → get_or counts i 0 ≤ k
-counts_small xs ys counts k i c lt = let e = c.each i lt in let l = times_le (get_or xs i 0) (take k ys) in let m = length_take_le k ys in omega (arith, e, l, m)
+counts_small xs ys counts k i c lt = let e = c.each i lt in let l = times_le (get_or xs i 0) (take k ys) in let m = length-take k ys in omega (arith, e, l, m)
 
 -- one more that stands at i
 pub counts_hit : (xs ys counts : List ℕ) (k i : ℕ) → Climbs xs → Counts xs (take k ys) counts → k < length ys → i < length xs → get_or xs i 0 ≡ get_or ys k 0 → Counts xs (take (k + 1) ys) (set counts i (get_or counts i 0 + 1))
@@ -65,8 +43,3 @@ counts_miss xs ys counts k c lt none = record {
   as_many = c.as_many;
   each = λ j lj. c.each j lj ∙ sym (times_more (get_or xs j 0) ys k lt ∙ rw (ne_eqb (get_or xs j 0) (get_or ys k 0) (none j lj)) (omega arith));
 }
-
-pub at_default : (xs : List ℕ) (i d : ℕ) → i < length xs → get_or xs i d ≡ get_or xs i 0
-at_default [] i d lt = absurd (omega arith)
-at_default (x ∷ xs) zero d lt = refl
-at_default (x ∷ xs) (suc i) d lt = at_default xs i d (omega arith)

@@ -1,6 +1,6 @@
 -- Steps of the walk over the records of an image.
-use Rattle.std.proofs.Common.{◌≡◌, ◌≢◌, ℕ, zero, suc, ◌+◌, ◌≤◌, List, [], ◌∷◌, ◌++◌, length, true, false, eqb, leb, eq-eqb, refl, sym, ap, ◌∙◌, inl, inr, append_assoc, append-nil, arith}
-use Rattle.std.proofs.lemmas.Bool.{eqb-true, and_parts, leb-true, ne_eqb}
+use Rattle.std.proofs.Common.{◌≡◌, ◌≢◌, ℕ, zero, suc, ◌+◌, ◌≤◌, List, [], ◌∷◌, ◌++◌, length, true, false, leb, eq-eqb, refl, sym, ap, ◌∙◌, inl, append_assoc, append-nil, arith}
+use Rattle.std.proofs.lemmas.Bool.{and_parts, leb-true, ne_eqb}
 use Rattle.cdf_format.specs.Fields.{size_at}
 use Rattle.cdf_format.specs.Walks.{Walk, whole, stuck, after_first}
 use Rattle.cdf_format.specs.Tiles.{is_tile, tiles_from}
@@ -9,7 +9,6 @@ use Rattle.cdf_format.specs.Tiles.{tiling}
 use Rattle.cdf_format.specs.NotRead.{unread_type}
 use Rattle.cdf_format.specs.RecordRules.{record_rows, phase4}
 use Rattle.std.specs.List.{flat_map}
-use Rattle.cdf_format.proofs.Members.{either}
 
 -- a walk that begins with these records
 abbrev pub behind : List ℕ → Walk → Walk

@@ -14,8 +14,9 @@ use Rattle.cdf_check.specs.Named.{AreNamed}
 use Rattle.cdf_structure.specs.Findings.{Finds, Yields}
 use Rattle.cdf_area.proofs.Calls.{read_more}
 use Rattle.cdf_structure.proofs.Findings.{none_found, one_found}
+use Rattle.cdf_structure.proofs.IndexLists.{list_more}
 use Rattle.cdf_structure.proofs.Rows.{In-get_or, broken_member, holds_more}
-use Rattle.cdf_check.proofs.AttributeSteps.{attributes_break, names_break, owned_more, phase6_holds}
+use Rattle.cdf_check.proofs.AttributeSteps.{attributes_break, names_break, phase6_holds}
 use Rattle.cdf_check.proofs.attributes.check_each.Goals as goal
 
 pub check_attribute-requires-clause-attribute : goal.check_attribute-requires-clause-attribute
@@ -41,11 +42,10 @@ loop-adr-preserved g c =
     let here : Yields (attribute_rows b ts m) (Describes b ts m) (Ok c.in-Ok.attribute) = rw (c.in-Ok.is, l.invariant.area.image) at c.in_ok-attribute.ensures.found in
     let lists = c.in-Ok.attribute in
     let records : attribute_records (attribute_shape b ts m) ≡ m ∷ lists.gr.items ++ lists.z.items = ap₂ (λ (one two : Walk). m ∷ records_of one ++ records_of two) here.1.gr here.1.z in
-    let before : l.owned.items ≡ flat_map attribute_records (map (attribute_shape b ts) (take l.adr-index c.args.adrs.now)) = l.invariant.owned in
     record {
       area = read_more l.invariant.area c.in_ok-attribute.ensures.area;
       rows = rw add-one (holds_more (attribute_rows b ts) c.args.adrs.now l.adr-index 0 c.loop-adr-test.true l.invariant.rows here.0);
-      owned = c.in_ok-own-in-Ok.ensures.owned ∙ ap (λ (xs : List ℕ). xs ++ (m ∷ lists.gr.items ++ lists.z.items)) before ∙ sym (owned_more b ts c.args.adrs.now l.adr-index c.loop-adr-test.true lists.gr.items lists.z.items records);
+      owned = list_more attribute_records (attribute_shape b ts) c.args.adrs.now l.adr-index l.owned.items c.own.new.owned.items c.loop-adr-test.true l.invariant.owned (c.in_ok-own-in-Ok.ensures.owned ∙ ap (λ (xs : List ℕ). l.owned.items ++ xs) (sym records));
       named = subst (λ (xs : List ℕ). AreNamed (λ adr. name_in b adr adr_name) xs c.add.new.self) (sym (take_more c.args.adrs.now l.adr-index 0 c.loop-adr-test.true)) (c.in_ok-add-in-Ok.ensures.named (λ adr. name_in b adr adr_name) (take l.adr-index c.args.adrs.now) here.1.name l.invariant.named);
     }
 

@@ -11,7 +11,7 @@ use Rattle.cdf_format.proofs.TilesLemmas.{tiling_sound}
 use Rattle.cdf_structure.specs.Records.{unused_of}
 use Rattle.cdf_check.specs.Variables.{AreDescribed}
 use Rattle.cdf_structure.specs.Findings.{Finds, Yields}
-use Rattle.cdf_structure.proofs.Tallies.{tiles_climb}
+use Rattle.cdf_structure.proofs.Searches.{tiles_climb}
 use Rattle.cdf_check.proofs.ImageSteps.{all_read, sizes_lie, variables, variables_once, variables_few, variables_break, indexes_break, owners_break, all_held}
 use Rattle.cdf_check.proofs.image_rules.check_variable_members.Goals as goal
 

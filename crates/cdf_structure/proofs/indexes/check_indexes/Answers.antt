@@ -1,5 +1,5 @@
 use Rattle.std.proofs.Common.{◌≡◌, ◌∙◌, ◌++◌, ℕ, List, length, map, get_or, take, add-one, arith, ap, Ok, Err}
-use Rattle.std.proofs.lemmas.List.{take_all}
+use Rattle.std.proofs.lemmas.List.{length-map, take_all}
 use Rattle.std.specs.List.{flat_map}
 use Rattle.cdf_area.proofs.Calls.{read_more}
 use Rattle.cdf_format.specs.Fields.{number}
@@ -12,7 +12,7 @@ use Rattle.cdf_format.specs.VariableFields.{record_bytes}
 use Rattle.cdf_structure.specs.Indexes.{index_records}
 use Rattle.cdf_structure.specs.Findings.{Yields}
 use Rattle.cdf_structure.specs.declared.index_walk.Index.{Index}
-use Rattle.cdf_structure.proofs.IndexLists.{had_at, is_plain, is_small, length_map, list_more}
+use Rattle.cdf_structure.proofs.IndexLists.{had_at, is_plain, is_small, list_more}
 use Rattle.cdf_structure.proofs.Rows.{broken_member, holds_more}
 use Rattle.cdf_structure.proofs.indexes.check_indexes.Goals as goal
 
@@ -22,12 +22,12 @@ IsOf b ts vdr index = index_records vdr index ≡ variable_records (variable_sha
 pub bounds-record_sizes-i : goal.bounds-record_sizes-i
 bounds-record_sizes-i g c =
     let b = g.A.Area.image c.args.area.now in
-    omega (arith, c.loop-i-test.true, ap length c.requires.sizes, length_map (record_bytes b) c.args.vdrs.now)
+    omega (arith, c.loop-i-test.true, ap length c.requires.sizes, length-map c.args.vdrs.now (record_bytes b))
 
 pub bounds-vxr_heads-i : goal.bounds-vxr_heads-i
 bounds-vxr_heads-i g c =
     let b = g.A.Area.image c.args.area.now in
-    omega (arith, c.loop-i-test.true, ap length c.requires.heads, length_map (λ vdr. number b vdr vdr_vxr_head) c.args.vdrs.now)
+    omega (arith, c.loop-i-test.true, ap length c.requires.heads, length-map c.args.vdrs.now (λ vdr. number b vdr vdr_vxr_head))
 
 pub check_index-requires : goal.check_index-requires
 check_index-requires g c =
