@@ -1,6 +1,5 @@
 -- An entry that was taken out of its chain and freed leads from a good image to the one that follows.
 use Rattle.std.proofs.Common.{◌≡◌, ◌≢◌, ℕ, ◌+◌, ◌≤◌, List, [], ◌∷◌, length, find, false, None, Option, Some, refl, sym, ap, subst, ◌∙◌, arith, eq-eqb, inl, inr}
-use Rattle.std.proofs.lemmas.Bool.{cases_eq, ne_eqb}
 use Rattle.std.specs.Option.{option_to_list}
 use Rattle.std.specs.Prelude.{◌==◌}
 use Rattle.cdf_model.specs.declared.answer.Reply.TheVariants.{Plain}
@@ -28,7 +27,7 @@ use Rattle.cdf_edits.specs.Follows.{Follows}
 use Rattle.cdf_edits.specs.Space.Acts.{Act, Gave, gave}
 use Rattle.cdf_edits.specs.Space.Chains.{members_of, without as left_of}
 use Rattle.cdf_edits.specs.Space.Placement.{Gives}
-use Rattle.cdf_edits.proofs.Edits.ChainEntries.{EntryLives, nums, nums_live, num_in, nums_left, entries_left}
+use Rattle.cdf_edits.proofs.Edits.ChainEntries.{EntryLives, nums, nums_left, entries_left}
 use Rattle.cdf_edits.proofs.Edits.ChainFollowed.{chain_now, found_none, found_one, left_after}
 use Rattle.cdf_edits.proofs.Edits.ChainSpliced.{Rechains, entry_stays}
 use Rattle.cdf_edits.proofs.Edits.FreedEntry.{Frees, all_marks, count_same, freed_bytes, freed_rechains, freed_settled}
@@ -36,6 +35,7 @@ use Rattle.cdf_edits.proofs.Edits.LeftEntry.{LeavesChain, left_end, left_frees, 
 use Rattle.cdf_edits.proofs.Edits.MarkLemmas.{the_one}
 use Rattle.cdf_edits.proofs.Edits.EntryFields.{count_is}
 use Rattle.cdf_edits.proofs.Edits.OneChain.{Chained, chain_follows, counted_before, differ_before, end_before, follows_chained, items_of, of_named, once_before, rules_live}
+use Rattle.cdf_attrs.proofs.EntryTakenAt.{from_map}
 use Rattle.cdf_attrs.proofs.AttributeParts.{members_rechained, names_rechained, places_rechained}
 
 -- what is asked of the command holds: the attribute is the one at a place in the order, and has the entry
@@ -47,23 +47,6 @@ pub record Names (b attr : List ℕ) (kind : EntryKind) (num : ℕ) (before : Li
 pub del_goes : {b attr : List ℕ} {kind : EntryKind} {num : ℕ} {before : List AttributeShape} {own : AttributeShape} {entry : Entry} → Names b attr kind num before own entry
     → del_entry_step (content b) attr kind num ≡ Go (with_attribute (content b) (length before) (with_entries (attribute_of b own) kind (without num num (entries_of (attribute_of b own) kind)))) Plain
 del_goes n = rw (n.found, n.scoped, n.is_there) refl
-
--- its number is none of those that are left
-num_left : (b now : List ℕ) (old n : ℕ) → number b old aedr_num ≡ n → (es : List ℕ) → Distinct (nums b es) → In old es → ((m : ℕ) → In m es → m ≢ old → EntryLives b now m) → In n (nums now (left_of old es)) → ⊥
-num_left b now old n of_old [] d i live j = i
-num_left b now old n of_old (e ∷ es) d i live j = elim (cases_eq e old) [
-  | inl x ↦
-      let k : In n (nums now es) = rw (eq-eqb e old x) at j in
-      let out : In n (nums b es) → ⊥ = subst (λ (y : ℕ). In y (nums b es) → ⊥) (ap (λ (y : ℕ). number b y aedr_num) x ∙ of_old) d.0 in
-      out (subst (In n) (nums_live b now es (λ m l. live m (inr l) (λ y. out (subst (λ (z : ℕ). In z (nums b es)) (ap (λ (z : ℕ). number b z aedr_num) y ∙ of_old) (num_in b es m l))))) k)
-  | inr ne ↦
-      let there : In old es = elim i [ inl x ↦ absurd (ne (sym x)) | inr l ↦ l ] in
-      let k : In n (nums now (e ∷ left_of old es)) = rw (ne_eqb e old ne) at j in
-      elim k [
-        | inl x ↦ d.0 (subst (λ (y : ℕ). In y (nums b es)) (of_old ∙ x ∙ (live e (inl refl) ne).num) (num_in b es old there))
-        | inr l ↦ num_left b now old n of_old es d.1 there (λ m y. live m (inr y)) l
-      ]
-]
 
 module _ {b late now attr : List ℕ} {kind : EntryKind} {num : ℕ} {before : List AttributeShape} {own : AttributeShape} {after : List AttributeShape} {entry : Entry} {old : ℕ} (good : Good b) (names : Names b attr kind num before own entry) (q : LeavesChain b late kind before own after old) (gives : Gives late now (shape late) (shape now) old)
     (of_old : number b old aedr_num ≡ num) (long : 28 ≤ size_at b old) (counted : number late own.adr (count_field kind) + 1 ≡ number b own.adr (count_field kind)) (greatest : integer4 now own.adr (max_field kind) ≡ greatest_number (without num num (chain_items b (chain_of own kind)))) (limited : length b ≤ image_limit) where
@@ -97,8 +80,13 @@ module _ {b late now attr : List ℕ} {kind : EntryKind} {num : ℕ} {before : L
   at_before : entry_at b own kind num ≡ Some old
   at_before = found_one b num old chain of_old q.member (differ_before sound r good)
 
+  -- its number is none of those that are left
   gone_now : In num (nums now chain') → ⊥
-  gone_now = num_left b now old num of_old chain (differ_before sound r good) q.member others
+  gone_now i =
+      let x = from_map (λ (e : ℕ). number now e aedr_num) chain' num i in
+      let k = left_members old x.0 chain once x.1.0 in
+      let same : Some x.0 ≡ Some old = sym (found_one b num x.0 chain (sym (others x.0 k.0 k.1).num ∙ sym x.1.1) k.0 (differ_before sound r good)) ∙ at_before in
+      k.1 cc
 
   gone_at : entry_at now (with_chain own kind chain') kind num ≡ None
   gone_at = ap (find (λ aedr. number now aedr aedr_num == num)) (chain_now kind own chain') ∙ found_none now num chain' gone_now

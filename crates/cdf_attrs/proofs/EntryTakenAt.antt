@@ -59,7 +59,7 @@ index_same (x ∷ xs) (suc i) d lt = index_same xs i d (omega arith)
 pub all_from : (P : ℕ → Type 0) (xs : List ℕ) → ((x : ℕ) → In x xs → P x) → All P xs
 all_from P xs each k d lt = subst P (sym (index_same xs k d lt)) (each (slice_index xs k) (index_in xs k lt))
 
-from_map : (f : ℕ → ℕ) (xs : List ℕ) (n : ℕ) → In n (map f xs) → (x : ℕ) × (In x xs × (n ≡ f x))
+pub from_map : (f : ℕ → ℕ) (xs : List ℕ) (n : ℕ) → In n (map f xs) → (x : ℕ) × (In x xs × (n ≡ f x))
 from_map f [] n i = absurd i
 from_map f (x ∷ xs) n (inl e) = (x, (inl refl, e))
 from_map f (x ∷ xs) n (inr i) = let r = from_map f xs n i in (r.0, (inr r.1.0, r.1.1))
