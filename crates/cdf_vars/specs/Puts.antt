@@ -1,5 +1,5 @@
 -- How a command puts a record of a variable: the variable that it finds, and what it asks for (own).
-use Rattle.std.specs.Prelude.{◌≡◌, ◌⊎◌, ◌≤◌, ◌<◌, ℕ, ◌+◌, ◌-◌, List, length, false, Some, None}
+use Rattle.std.specs.Prelude.{◌≡◌, ◌⊎◌, ◌≤◌, ◌<◌, ℕ, ◌+◌, List, length, false, Some, None}
 use Rattle.std.specs.declared.option.Option.{Option}
 use Rattle.cdf_edits.specs.Answers.{Answers}
 use Rattle.cdf_edits.specs.Commands.Room.{put_room}

@@ -1,7 +1,6 @@
 -- A variable whose records a command reads, by the place of its VDR.
 use Rattle.std.specs.Prelude.{◌≡◌, ℕ, List, Some, None}
 use Rattle.cdf_format.specs.Content.{content}
-use Rattle.cdf_format.specs.Fields.{number}
 use Rattle.cdf_model.specs.declared.kinds.Kind.{Kind}
 use Rattle.cdf_model.specs.Names.{variable_named}
 use Rattle.cdf_var_records.specs.declared.form.Form.{Form}
