@@ -3,9 +3,9 @@
 The files are read one after the other, as cdf_rows reads them: what one tells of files stays for the next. Of each row
 it says whether the editor writes the same text, ends with the same status and leaves the same file. A line to which the
 row answers BadLine counts as no command. A verdict is right where the rule is broken at the place, whichever of several
-is named; of rules 99 it knows nothing. Of the words it knows --new, --check, --no-save and --space. What is told of
-a run on standard error it does not look at. With --after it prints what the run of a row leaves, as lines of a file
-of rows.
+is named; of rules 99 it knows nothing. Of the words it knows --new, --check, --no-save and --space. A row with a limit
+runs its script over a new image that may grow to so many bytes, and leaves this image. What is told of a run on
+standard error it does not look at. With --after it prints what the run of a row leaves, as lines of a file of rows.
 """
 import sys
 from dataclasses import dataclass, field
@@ -14,8 +14,8 @@ from types import SimpleNamespace
 from content import content
 from editor import apply
 from image import Image
-from layout import (ADR, AGREDR, AZEDR, CDR, GDR, RVDR, TEXT_TYPES, TYPES, UIR, VVR, VXR, ZVDR, Adr, Aedr, Cdr, Gdr, Uir,
-                    Vdr, Vxr, fresh_image)
+from layout import (ADR, AGREDR, AZEDR, CDR, GDR, IMAGE_LIMIT, RVDR, TEXT_TYPES, TYPES, UIR, VVR, VXR, ZVDR, Adr, Aedr,
+                    Cdr, Gdr, Uir, Vdr, Vxr, fresh_image)
 from model import READERS, Refused
 from rowscript import command_of, quoted, words_of
 from validator import broken, sealed, unsealed
@@ -40,6 +40,7 @@ class Row:
     under: str = 'a.cdf'
     is_saved: bool = False
     after: str = None
+    limit: int = None
 
 
 def change_of(text):
@@ -128,6 +129,9 @@ class Table:
     def take_saved(self, _):
         self.rows[-1].is_saved = True
 
+    def take_limit(self, text):
+        self.rows[-1].limit = int(text)
+
 
 # Replies
 
@@ -196,7 +200,7 @@ class Run:
     def one_line(self, image, number, line):
         c = command_of(words_of(line))
         try:
-            edited, d, reply = apply(bytes(image), c)
+            edited, d, reply = apply(bytes(image), c, self.row.limit or IMAGE_LIMIT)
         except Refused as refusal:
             self.text += refusal_text(number, refusal).encode()
             self.status = 1
@@ -205,6 +209,9 @@ class Run:
         return image if c.kind in READERS else bytes(edited.data)
 
     def go(self):
+        if self.row.limit is not None:
+            self.after = self.carry_out(bytes(fresh_image()))
+            return
         flags = [word for word in self.row.words if word.startswith('--')]
         if self.before is None and '--new' not in flags:
             self.text, self.status = b'no file\n', 3

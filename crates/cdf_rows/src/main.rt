@@ -3,6 +3,7 @@
 
 mod bytes;
 mod devices;
+mod limited;
 mod report;
 mod row;
 mod table;

@@ -50,6 +50,8 @@ pub struct Row {
     pub after: Option<String>,
     /// The file is saved though it stays as it was.
     pub is_saved: bool,
+    /// How many bytes a new file may grow to, over which the script is run, and not the whole program.
+    pub limit: Option<usize>,
 }
 
 /// Appends a line and its newline.
@@ -88,6 +90,7 @@ impl Row {
             told: None,
             after: None,
             is_saved: false,
+            limit: None,
         })
     }
 
@@ -119,6 +122,7 @@ impl Row {
             "told" => self.told = Some(String::from_str(alloc, text)?),
             "after" => self.after = Some(String::from_str(alloc, text)?),
             "saved" => self.is_saved = true,
+            "limit" => self.limit = Some(number_in(text)?),
             _ => bail!("{key} is no part of a row"),
         }
         Ok(())

@@ -1,6 +1,7 @@
-//! A row is tried: in pieces of several sizes, and with each device failing at each of its calls in turn.
+//! A row is tried: in pieces of several sizes, and with each device failing at each of its calls in turn; one with a limit once, over a session.
 
 use crate::devices::{Devices, Ran, run_row};
+use crate::limited::run_limited;
 use crate::row::Row;
 use crate::table::Table;
 use anyhow::Result;
@@ -143,8 +144,8 @@ impl<'a> Trial<'a> {
         Ok(None)
     }
 
-    /// What is wrong with the row, if anything is.
-    pub fn fault(&self) -> Result<Option<&'static str>> {
+    /// What is wrong with a run of the whole program, if anything is.
+    fn fault_of_program(&self) -> Result<Option<&'static str>> {
         let is_short = self.row.script.len() <= SHORT;
         for most in PIECES {
             if is_short || most > SHORT {
@@ -162,5 +163,14 @@ impl<'a> Trial<'a> {
             }
         }
         Ok(None)
+    }
+
+    /// What is wrong with the row, if anything is.
+    pub fn fault(&self) -> Result<Option<&'static str>> {
+        let Some(limit) = self.row.limit else {
+            return self.fault_of_program();
+        };
+        let ran = run_limited(self.alloc, self.row, limit as u64)?;
+        Ok(self.fault_of_sound(&ran))
     }
 }
