@@ -92,6 +92,7 @@ pub mod PlainLeaves
 pub mod OnlyTaken
 pub mod ActsJoined
 pub mod RecordPlaced
+pub mod RecordGrown
 pub mod StandsAmong
 pub mod OwnEdited
 pub mod IndexEdited

@@ -29,3 +29,4 @@ pub mod StoredRecords
 pub mod TreeTouched
 pub mod WayDown
 pub mod LeafRules
+pub mod NodeFilled

@@ -1,4 +1,5 @@
 -- What the calls ask for that add a leaf, and what they leave.
+use Rattle.cdf_edits.proofs.Edits.RecordGrown as of_grown
 use Rattle.std.proofs.Common.{◌≡◌, ◌≢◌, ◌⊎◌, ℕ, ◌+◌, ◌-◌, ◌*◌, ◌<◌, ◌≤◌, max, List, [], ◌∷◌, ◌++◌, length, map, false, refl, sym, ap, subst, ◌∙◌, arith, inl, inr}
 use Rattle.std.proofs.lemmas.List.{map-append}
 use Rattle.cdf_model.specs.declared.kinds.Kind.{Kind}
@@ -10,7 +11,7 @@ use Rattle.cdf_edits.specs.Index.Grown.{with_leaf, new_room}
 use Rattle.cdf_edits.specs.Space.Placing.{Placed, type_of_body}
 use Rattle.cdf_edits.proofs.Edits.StandsAmong.{StandsAmong, sound, tile, has, long}
 use Rattle.cdf_edits.proofs.Space.UsedRecords.{apart}
-use Rattle.cdf_format.specs.Fields.{number, size_at, with_field}
+use Rattle.cdf_format.specs.Fields.{number, size_at, with_field, eof, gdr_offset}
 use Rattle.cdf_format.specs.Index.{Nodes, Leaf, leaf, nodes_of, room_at}
 use Rattle.cdf_format.specs.Records.{vdr_vxr_head, vdr_vxr_tail, vxr_vxr_next}
 use Rattle.cdf_format.specs.RecordTypes.{uir_type, vxr_type, vvr_type}
@@ -31,7 +32,7 @@ use Rattle.cdf_leaves.specs.Added.{IsStep, IsWay, entry}
 use Rattle.cdf_leaves.specs.Putting.{EntryPut, IndexStarted, MayPut, NodeMade}
 use Rattle.cdf_leaves.specs.Tail.{ChainInside, chain_end}
 use Rattle.cdf_leaves.specs.Widening.{StepStands, WayStands, WidenedAlong}
-use Rattle.cdf_leaves.proofs.Grew.{Grew, grew, stands, unlike}
+use Rattle.cdf_edits.proofs.Edits.RecordGrown.{Grew, grew, stands, unlike}
 use Rattle.cdf_leaves.proofs.LeafGrown.{EntryStands, entry_stands, wide_state, chain_ready, vdr_lies, tail_stays, tail_written}
 use Rattle.cdf_leaves.proofs.Grown.{was}
 use Rattle.cdf_leaves.proofs.NodesOf.{old_in}
@@ -136,6 +137,9 @@ module _ {b : List ℕ} {kind : Kind} {before : List VariableShape} {own : Varia
     pub late : Grew b filled
     late = grew (sound good at_own) block.fills
 
+    pub late_ends : eof filled (gdr_offset filled) ≡ length filled
+    late_ends = of_grown.ends (sound good at_own) block.fills
+
     pub vdr_late : own.vdr + 44 ≤ length filled
     vdr_late = let l = late.longer in let v = vdr_there in omega arith
 
@@ -174,7 +178,7 @@ module _ {b : List ℕ} {kind : Kind} {before : List VariableShape} {own : Varia
           let f = node_fits good at_own found.end.place last_there in
           record {
             sound = late.sound;
-            ends = late.ends;
+            ends = late_ends;
             there = late.sub found.end.place n.0;
             typed = type_kept b filled found.end.place k.same k.long ∙ n.1;
             fits = fits_still b filled found.end.place s f;

@@ -50,7 +50,7 @@ use Rattle.cdf_leaves.specs.Widening.{WidenedAlong}
 use Rattle.cdf_leaves.proofs.TopChain.{top_stays, top_grows, chain_inside, end_is_last, last_in}
 use Rattle.cdf_leaves.specs.Putting.{NodeMade, EntryPut, SplitMade, ChainMade}
 use Rattle.cdf_index.specs.Order.{InOrder}
-use Rattle.cdf_leaves.proofs.Grew.{Grew, grew, grew_none, kept_then, grew_then, stands, unlike}
+use Rattle.cdf_edits.proofs.Edits.RecordGrown.{Grew, grew, grew_none, kept_then, grew_then, stands, unlike}
 use Rattle.cdf_leaves.proofs.Grown.{below, was, was_old, was_new, old_node, new_node, inserted_node, shortened_node, names_leaf, room_with, room_full}
 use Rattle.cdf_leaves.proofs.Linked.{field_changed, field_long, link_changed, link_long, link_reads, link_room, link_used, link_entries, link_spares}
 use Rattle.cdf_leaves.proofs.NodesMore.{places, all_wider}
@@ -273,7 +273,7 @@ module _ {b : List ℕ} {kind : Kind} {before : List VariableShape} {own : Varia
   with_room {grown = grown} lt ins =
       let none : new ≡ 0 = room_with b (shape b).records l.first x new seen.used seen.room spot_here used_is room_is lt in
       let never : 0 < new → ⊥ = λ s. no_room new none s in
-      let self : Grew filled filled = grew_none filled late.sound late.ends in
+      let self : Grew filled filled = grew_none filled late.sound in
       let fit : 24 + (4 + 16 * room_at filled x) ≤ 28 + 16 * room_at filled x = omega arith in
       let heads = heads_roomy filled late self grown 24 (4 + 16 * room_at filled x) (omega arith) fit ins.changed in
       let used = used_roomy filled late self in
@@ -386,8 +386,8 @@ module _ {b : List ℕ} {kind : Kind} {before : List VariableShape} {own : Varia
       let heads = heads_now w grown 12 (16 + 16 * room_at roomy x) (omega arith) fit sh.changed in
       let used = used_roomy roomy g on in
       let most : seen.used ≤ room_at roomy x = subst (λ (n : ℕ). n ≤ room_at roomy x) (sym used) (fits_roomy roomy g on x among).1 in
-      let same_x = all_entries filled roomy x (on.kept x (late.sub x (own_node good stood x among).0) (λ u. apart vxr_type uir_type refl (sym x_type ∙ u)) (λ u. apart vxr_type gdr_type refl (sym x_type ∙ u))) (fits_roomy filled late (grew_none filled late.sound late.ends) x among) in
-      let most_filled : seen.used ≤ room_at filled x = subst (λ (n : ℕ). n ≤ room_at filled x) (sym (used_roomy filled late (grew_none filled late.sound late.ends))) (fits_roomy filled late (grew_none filled late.sound late.ends) x among).1 in
+      let same_x = all_entries filled roomy x (on.kept x (late.sub x (own_node good stood x among).0) (λ u. apart vxr_type uir_type refl (sym x_type ∙ u)) (λ u. apart vxr_type gdr_type refl (sym x_type ∙ u))) (fits_roomy filled late (grew_none filled late.sound) x among) in
+      let most_filled : seen.used ≤ room_at filled x = subst (λ (n : ℕ). n ≤ room_at filled x) (sym (used_roomy filled late (grew_none filled late.sound))) (fits_roomy filled late (grew_none filled late.sound) x among).1 in
       let read : EntriesRead roomy x seen.begun seen.used sp.behind = record { many = sp.read.many; say = λ i less. same_x (seen.begun + i) (let m = sp.read.many in omega arith) _ _ _ (sp.read.say i less) } in
       let itself : NodeWritten roomy roomy at (max 7 (seen.used - seen.begun)) seen.next sp.behind = record { as_long = refl; changed = record { longer = omega arith; same = λ i a o. refl }; type_is = w.written.type_is; next_is = w.written.next_is; room_is = w.written.room_is; used_is = w.written.used_is; count_is = w.written.count_is; inside = w.written.inside; says = w.written.says } in
       let stay_x : Kept roomy roomy x = kept_self roomy (shape roomy).records x (tiled_roomy roomy g on) (in_roomy roomy g on x among) in

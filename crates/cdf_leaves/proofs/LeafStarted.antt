@@ -31,7 +31,7 @@ use Rattle.cdf_edits.specs.Space.Chains.{type_in}
 use Rattle.cdf_edits.specs.Space.VariableChains.{variables_chain}
 use Rattle.cdf_leaves.specs.Added.{entry}
 use Rattle.cdf_leaves.specs.Putting.{IndexStarted}
-use Rattle.cdf_leaves.proofs.Grew.{Grew, grew, grew_then, stands, unlike}
+use Rattle.cdf_edits.proofs.Edits.RecordGrown.{Grew, grew, grew_then, stands, unlike}
 use Rattle.cdf_leaves.proofs.Grown.{was, was_new, new_node, names_leaf}
 use Rattle.cdf_leaves.proofs.Linked.{field_changed, field_long}
 use Rattle.cdf_leaves.proofs.Own.{vdr_kept, vdr_in, vdr_used}

@@ -1,4 +1,3 @@
-pub mod Grew
 pub mod NodeTaking
 pub mod Spares
 pub mod PutSteps

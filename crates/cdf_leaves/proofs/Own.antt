@@ -25,7 +25,7 @@ use Rattle.cdf_format.proofs.Owning.{block_in}
 use Rattle.cdf_format.proofs.ShapeLemmas.{Each-split}
 use Rattle.cdf_index.specs.Finding.{HasIndex, index_at}
 use Rattle.cdf_index.proofs.GoodIndex.{good_index}
-use Rattle.cdf_leaves.proofs.Grew.{Grew}
+use Rattle.cdf_edits.proofs.Edits.RecordGrown.{Grew}
 use Rattle.cdf_leaves.proofs.NodesMore.{places}
 use Rattle.cdf_leaves.proofs.Spares.{Spares, spares_kept}
 use Rattle.cdf_leaves.proofs.SpotNode.{nodes_linkable}
@@ -89,7 +89,7 @@ module _ {b : List ℕ} {kind : Kind} {before : List VariableShape} {own : Varia
 
   module _ {now : List ℕ} (g : Grew b now) where
     now_all : variables (shape now) ≡ among.front ++ own ∷ among.rest
-    now_all = g.variables_are ∙ among.all
+    now_all = ap variables g.shape_is ∙ among.all
 
     pub now_has : HasVariable now (shape now).records own
     now_has = each_in (HasVariable now (shape now).records) (variables (shape now)) among.front own among.rest now_all g.sound.has_shape.have_variables

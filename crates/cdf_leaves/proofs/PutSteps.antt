@@ -10,7 +10,7 @@ use Rattle.cdf_index.specs.Finding.{NodeInside}
 use Rattle.cdf_index.specs.declared.descending.Spot.{Spot}
 use Rattle.cdf_index.specs.declared.entries.Entry.{Entry}
 use Rattle.cdf_leaves.specs.Putting.{MayPut, NodeMade}
-use Rattle.cdf_leaves.proofs.Grew.{Grew, grew}
+use Rattle.cdf_edits.proofs.Edits.RecordGrown.{Grew, grew}
 use Rattle.cdf_leaves.proofs.Spares.{Spares, spares_kept, fits_still, node_inside}
 
 pub node_used : (b : List ℕ) (m : ℕ) → type_at b m ≡ vxr_type → type_at b m ≢ uir_type

@@ -1,4 +1,5 @@
 -- New nodes have none behind them, and -1 in the entries that are not used.
+use Rattle.cdf_edits.proofs.Edits.RecordGrown.{grew}
 use Rattle.std.proofs.Common.{◌≡◌, ℕ, zero, suc, ◌+◌, ◌-◌, ◌*◌, ◌/◌, min, ◌<◌, ◌≤◌, List, [], ◌∷◌, length, map, refl, sym, ap, subst, ◌∙◌, arith, inl, inr}
 use Rattle.cdf_edits.proofs.Frame.Meaning.{Kept}
 use Rattle.cdf_format.proofs.BytesLemmas.{number_kept, integer_kept, next_kept, size_kept}
@@ -14,7 +15,7 @@ use Rattle.cdf_reindex.specs.Rebuilding.{NodeMade, AllMade}
 use Rattle.cdf_reindex.specs.Reindexed.{IsBare}
 use Rattle.cdf_index.specs.Writing.{unused_entry, entry_in}
 use Rattle.cdf_index.specs.declared.entries.Entry.{Entry}
-use Rattle.cdf_reindex.proofs.NodesMade.{IsSmall, grew_once, stands_once, all_made, used_type}
+use Rattle.cdf_reindex.proofs.NodesMade.{IsSmall, stands_once, all_made, used_type}
 use Rattle.cdf_reindex.proofs.WordsOfLevels.{words_of, node_words, length_words}
 
 entry_past : (entries : List Entry) (i : ℕ) → length entries ≤ i → entry_in entries i ≡ unused_entry
@@ -68,7 +69,7 @@ pub all_bare : (b now : List ℕ) (nodes : List NewNode) → IsSound b (shape b)
 all_bare b now [] sound small made m i = absurd i
 all_bare b now (new ∷ more) sound small made m i =
     let mid = made.0 in
-    let one = grew_once sound new made.1.0 in
+    let one = grew sound made.1.0.fills in
     elim i [
       | inl e ↦
           let here = stands_once sound new small.0 made.1.0 in

@@ -1,4 +1,5 @@
 -- The levels that code made, as a tree that stands in the image.
+use Rattle.cdf_edits.proofs.Edits.RecordGrown.{Grew, grew_none}
 use Rattle.std.proofs.Common.{◌≡◌, ℕ, suc, ◌+◌, ◌≤◌, List, [], ◌∷◌, ◌++◌, length, map, append-nil, sym, ap, ap₂, subst, ◌∙◌, arith, inl, inr}
 use Rattle.cdf_model.specs.Limits.{record_number_limit}
 use Rattle.cdf_edits.proofs.Edits.OwnedOnce.{used_times, fresh_unowned}
@@ -23,7 +24,7 @@ use Rattle.cdf_reindex.specs.Rebuilding.{NodeWords, AllMade, PyramidMade, nodes_
 use Rattle.cdf_reindex.proofs.BareNodes.{all_bare}
 use Rattle.cdf_reindex.proofs.LevelCounts.{levels_few, times_nodes, nodes_alone}
 use Rattle.cdf_reindex.proofs.LevelLemmas.{filled_rest, filled_few, leaves_stay}
-use Rattle.cdf_reindex.proofs.NodesMade.{Grew, Stands, Made, IsSmall, all_made, grew_none}
+use Rattle.cdf_reindex.proofs.NodesMade.{Stands, Made, IsSmall, all_made}
 use Rattle.cdf_reindex.proofs.PyramidStands.{leaves_named, has_pyramid}
 use Rattle.cdf_reindex.proofs.WordsOfLevels.{node_words, tree_leaf_words, grown, up_words}
 

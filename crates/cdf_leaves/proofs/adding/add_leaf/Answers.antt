@@ -15,7 +15,7 @@ use Rattle.cdf_format.specs.Shape.{VariableShape}
 use Rattle.cdf_index.specs.Adding.{AddsLeaf}
 use Rattle.cdf_leaves.specs.Added.{entry}
 use Rattle.cdf_leaves.specs.Putting.{IndexStarted}
-use Rattle.cdf_leaves.proofs.AddCalls.{among_kind, late, seven_fit, started, started_long, through, vdr_late, vdr_there}
+use Rattle.cdf_leaves.proofs.AddCalls.{among_kind, seven_fit, started, started_long, through, vdr_late, vdr_there, late_ends}
 use Rattle.cdf_leaves.proofs.LastCall.{edit_last, ok_map}
 use Rattle.cdf_leaves.proofs.adding.add_leaf.Goals as goal
 
@@ -44,7 +44,7 @@ start_index-requires-clause-eof g c =
     let b = g.A.Area.image c.args.area.now in
     let placed = subst (λ (x : List ℕ). Placed x (g.A.Area.image c.place_record.new.area) c.args.body.now c.in_ok-place.place) c.in_ok-head.ensures.area.image c.in_ok-place.ensures.placed in
     let own = among_kind b c.args.vdr c.requires.vdr in
-    (late c.requires.good own placed).ends
+    late_ends c.requires.good own placed
 
 pub start_index-requires-clause-lies : goal.start_index-requires-clause-lies
 start_index-requires-clause-lies g c =
