@@ -1,5 +1,5 @@
 -- What a walk from record to record answers.
-use Rattle.std.specs.Prelude.{◌≡◌, ◌≢◌, ◌<◌, ℕ, List, [], ◌∷◌, ◌++◌, length, get_or, true, false, not, ◌&&◌, Ok, Err, Some, None}
+use Rattle.std.specs.Prelude.{◌≡◌, ◌≢◌, ◌<◌, ℕ, List, [], ◌∷◌, ◌++◌, length, get_or, min, true, false, not, ◌&&◌, Ok, Err, Some, None}
 use Rattle.std.specs.declared.option.Option.{Option}
 use Rattle.std.specs.declared.result.Result.{Result}
 use Rattle.std.specs.declared.vec.Vec.{Vec}
@@ -36,7 +36,7 @@ abbrev pub StandsAt : List ℕ → ℕ → Option ℕ → Type 0
 StandsAt xs n None = (i : ℕ) → i < length xs → get_or xs i 0 ≢ n
 StandsAt xs n (Some i) = (i < length xs) × (get_or xs i 0 ≡ n)
 
--- how often each number stands in a list
+-- how often each number stands in a list, up to 255 times
 pub record Counts (xs ys counts : List ℕ) : Type 0 where
   pub as_many : length counts ≡ length xs
-  pub each : (j : ℕ) → j < length xs → get_or counts j 0 ≡ times (get_or xs j 0) ys
+  pub each : (j : ℕ) → j < length xs → get_or counts j 0 ≡ min (times (get_or xs j 0) ys) 255

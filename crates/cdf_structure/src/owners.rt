@@ -1,6 +1,6 @@
 //! The rule that each record of an image has one owner.
 
-ghost use Rattle.std.specs.Prelude.{◌++◌, ◌∷◌, IfOk};
+ghost use Rattle.std.specs.Prelude.{◌≡◌, ℕ, List, ◌++◌, ◌∷◌, length, IfOk};
 ghost use Rattle.cdf_format.specs.Phases.{phase9};
 ghost use Rattle.cdf_structure.specs.Findings.{Finds};
 ghost use Rattle.cdf_structure.specs.Walked.{Climbs, StandsAt, Counts};
@@ -31,39 +31,38 @@ fn place_near(tiles: &[u64], place: u64, near: usize) -> Option<usize>
     place_in(tiles, place)
 }
 
-/// How often each record stands in a list.
-fn count_owned(alloc: Global, tiles: &[u64], owned: &[u64]) -> Result<Vec<u64>, AllocError>
+/// Counts records once more for each time that they stand in a list, up to 255 times.
+fn count_owned(tiles: &[u64], counts: &mut [u8], owned: &[u64])
     requires climbs { Climbs tiles.now }
-    ensures counts { IfOk result (λ counts. Counts tiles.now owned.now counts.items) }
+    requires as_many { length counts.old ≡ length tiles.now }
+    ensures as_many { length counts.new ≡ length counts.old }
+    ensures counts { (met : List ℕ) → Counts tiles.now met counts.old → Counts tiles.now (met ++ owned.now) counts.new }
 {
-    let mut counts = vec![in alloc; 0u64; tiles.len()]?;
     let mut next = 0;
     for place in owned {
         let stands = place_near(tiles, *place, next);
         if let Some(i) = stands {
-            counts[i] += 1;
+            counts[i] = counts[i].saturating_add(1);
             next = i + 1;
         }
     }
-    Ok(counts)
 }
 
-/// That each record stands once in a list.
-fn check_owned(alloc: Global, tiles: &[u64], owned: &[u64]) -> Result<Option<Finding>, AllocError>
-    requires climbs { Climbs tiles.now }
-    ensures found { IfOk result (Finds (phase9 tiles.now owned.now)) }
+/// That each record was met once.
+fn check_counts(tiles: &[u64], counts: &[u8]) -> Option<Finding>
+    requires as_many { length counts.now ≡ length tiles.now }
+    ensures found { (met : List ℕ) → Counts tiles.now met counts.now → Finds (phase9 tiles.now met) result }
 {
-    let counts = count_owned(alloc, tiles, owned)?;
     for i in 0..tiles.len() {
         if counts[i] != 1 {
             // 9.1
-            return Ok(Some(Finding {
+            return Some(Finding {
                 rule: 1,
                 place: tiles[i],
-            }));
+            });
         }
     }
-    Ok(None)
+    None
 }
 
 /// That each record of an image has one owner: the file, an attribute or a variable, whose records `members` lists, or it is unused.
@@ -77,10 +76,10 @@ pub fn check_owners(
     requires climbs { Climbs tiles.now }
     ensures found { IfOk result (Finds (phase9 tiles.now ((8 ∷ gdr ∷ members.now) ++ unused.now))) }
 {
-    let mut owned = Vec::new(alloc);
-    owned.push(CDR_PLACE)?;
-    owned.push(gdr)?;
-    owned.extend_from_slice(members)?;
-    owned.extend_from_slice(unused)?;
-    check_owned(alloc, tiles, &owned)
+    let mut made = vec![in alloc; 0u8; tiles.len()]?;
+    let counts = made.as_mut_slice();
+    count_owned(tiles, counts, &[CDR_PLACE, gdr]);
+    count_owned(tiles, counts, members);
+    count_owned(tiles, counts, unused);
+    Ok(check_counts(tiles, counts))
 }

@@ -1,16 +1,12 @@
-use Rattle.std.proofs.Common.{ℕ, ◌+◌, take, set, sym, ◌∙◌, arith, subst}
-use Rattle.std.proofs.lemmas.Grind.{get_or_default_zero}
+use Rattle.std.proofs.Common.{ℕ, List, ◌+◌, ◌++◌, take, set, sym, ◌∙◌, subst, length-set, append-nil}
+use Rattle.std.proofs.lemmas.List.{take_all}
 use Rattle.cdf_structure.specs.Walked.{Counts}
-use Rattle.cdf_structure.proofs.Tallies.{counts_small, counts_hit, counts_miss}
+use Rattle.cdf_structure.proofs.Tallies.{counts_hit, counts_miss}
 use Rattle.cdf_structure.proofs.owners.count_owned.Goals.{in-Some, in_default}
 use Rattle.cdf_structure.proofs.owners.count_owned.Goals as goal
 
-pub overflow_add-index_mut : goal.overflow_add-index_mut
-overflow_add-index_mut c =
-    let l = c.loop-place in
-    let i = c.in-Some.i in
-    let small = counts_small c.args.tiles.now c.args.owned.now l.counts.items l.place-index i l.invariant c.in-Some.ensures.0 in
-    omega (arith, c.index_mut.ensures.value, get_or_default_zero l.counts.items i c.index_mut.result.now (omega (arith, l.invariant.as_many, c.in-Some.ensures.0)), small)
+pub loop-place-init : goal.loop-place-init
+loop-place-init c = (c.requires.as_many, λ met so_far. rw (append-nil met) so_far)
 
 pub loop-place-preserved : goal.loop-place-preserved
 loop-place-preserved c =
@@ -18,8 +14,13 @@ loop-place-preserved c =
     elim c.match-stands.branch [
       | in-Some w ↦
           let i = w.in-Some.i in
-          let e = w.index_mut.ensures.value ∙ get_or_default_zero l.counts.items i w.index_mut.result.now (omega (arith, l.invariant.as_many, w.in-Some.ensures.0)) in
-          let hit = counts_hit c.args.tiles.now c.args.owned.now l.counts.items l.place-index i c.requires.climbs l.invariant c.loop-place-test.true w.in-Some.ensures.0 w.in-Some.ensures.1 in
-          rw w.counts-is (subst (λ (z : ℕ). Counts c.args.tiles.now (take (l.place-index + 1) c.args.owned.now) (set l.counts.items i (z + 1))) (sym e) hit)
-      | in_default w ↦ rw w.counts-is (counts_miss c.args.tiles.now c.args.owned.now l.counts.items l.place-index l.invariant c.loop-place-test.true w.in_default.ensures)
+          rw w.counts-is (
+            length-set l.counts i w.saturating_add.result ∙ l.invariant.0,
+            λ met so_far. subst (λ (n : ℕ). Counts c.args.tiles.now (met ++ take (l.place-index + 1) c.args.owned.now) (set l.counts i n)) (sym w.saturating_add.ensures)
+                (counts_hit c.args.tiles.now met c.args.owned.now l.counts l.place-index i c.requires.climbs (l.invariant.1 met so_far) c.loop-place-test.true w.in-Some.ensures.0 w.in-Some.ensures.1),
+          )
+      | in_default w ↦ rw w.counts-is (l.invariant.0, λ met so_far. counts_miss c.args.tiles.now met c.args.owned.now l.counts l.place-index (l.invariant.1 met so_far) c.loop-place-test.true w.in_default.ensures)
     ]
+
+pub returns-clause-counts : goal.returns-clause-counts
+returns-clause-counts c = λ met so_far. subst (λ (xs : List ℕ). Counts c.args.tiles.now (met ++ xs) c.loop-place.counts) (take_all c.loop-place.place-index c.args.owned.now c.loop-place-test.false) (c.loop-place.invariant.1 met so_far)

@@ -1,6 +1,6 @@
-use Rattle.std.proofs.Common.{take}
+use Rattle.std.proofs.Common.{◌≡◌, ℕ, List, ◌++◌, length, take}
 use Rattle.cdf_structure.specs.Walked.{Counts}
 use Rattle.cdf_structure.proofs.owners.count_owned.Given as goal
 
 abbrev pub invariant-loop-place : goal.invariant-loop-place
-invariant-loop-place l = Counts l.tiles (take l.place-index l.owned) l.counts.items
+invariant-loop-place l = (length l.counts ≡ length l.tiles) × ((met : List ℕ) → Counts l.tiles met l.fn.counts → Counts l.tiles (met ++ take l.place-index l.owned) l.counts)
