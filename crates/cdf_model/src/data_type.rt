@@ -2,7 +2,7 @@
 
 ghost use Rattle.std.specs.Prelude.{◌≡◌};
 ghost use Rattle.cdf_model.specs.Arguments.{type_in};
-ghost use Rattle.cdf_model.specs.Types.{name_of, size_of, type_of};
+ghost use Rattle.cdf_model.specs.Types.{code_of, name_of, size_of, type_of};
 
 /// The type of the elements of a value, with the code that stands for it in a file.
 #[derive(Clone, Copy, Debug, PartialEq, Eq)]
@@ -97,6 +97,31 @@ impl DataType {
             .iter()
             .find(|t| t.name().as_bytes() == name)
             .copied()
+    }
+
+    /// The code of the type, as a file stores it.
+    pub fn code(self) -> u32
+        ensures { result ≡ code_of self }
+    {
+        match self {
+            DataType::Int1 => 1,
+            DataType::Int2 => 2,
+            DataType::Int4 => 4,
+            DataType::Int8 => 8,
+            DataType::UInt1 => 11,
+            DataType::UInt2 => 12,
+            DataType::UInt4 => 14,
+            DataType::Real4 => 21,
+            DataType::Real8 => 22,
+            DataType::Epoch => 31,
+            DataType::Epoch16 => 32,
+            DataType::TimeTt2000 => 33,
+            DataType::Byte => 41,
+            DataType::Float => 44,
+            DataType::Double => 45,
+            DataType::Char => 51,
+            DataType::UChar => 52,
+        }
     }
 
     /// The type of a code; none where no type has the code.

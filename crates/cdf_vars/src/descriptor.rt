@@ -6,39 +6,13 @@ ghost use Rattle.byteorder.specs.Endian.{big_bytes};
 ghost use Rattle.cdf_edits.specs.Commands.Allowances.{vdr_type};
 ghost use Rattle.cdf_edits.specs.Space.Placing.{laid_out};
 ghost use Rattle.cdf_format.specs.Records.{record_type, vdr_vdr_next};
-ghost use Rattle.cdf_model.specs.Types.{code_of};
 ghost use Rattle.cdf_vars.specs.Creating.{own_dims, vary_code, vdr_body, vdr_fields, wanted};
 
 use cdf_fields::padded;
 use cdf_format::fields::{R_VDR_TYPE, Z_VDR_TYPE};
-use cdf_model::{DataType, Kind};
+use cdf_model::Kind;
 use cdf_shape::Shape;
 use std::alloc::{AllocError, Global};
-
-/// The code of a type, as it is stored.
-fn code_of(t: DataType) -> u32
-    ensures { result ≡ code_of t }
-{
-    match t {
-        DataType::Int1 => 1,
-        DataType::Int2 => 2,
-        DataType::Int4 => 4,
-        DataType::Int8 => 8,
-        DataType::UInt1 => 11,
-        DataType::UInt2 => 12,
-        DataType::UInt4 => 14,
-        DataType::Real4 => 21,
-        DataType::Real8 => 22,
-        DataType::Epoch => 31,
-        DataType::Epoch16 => 32,
-        DataType::TimeTt2000 => 33,
-        DataType::Byte => 41,
-        DataType::Float => 44,
-        DataType::Double => 45,
-        DataType::Char => 51,
-        DataType::UChar => 52,
-    }
-}
 
 /// The type of the descriptors of a kind.
 fn type_of(kind: Kind) -> u32
@@ -63,7 +37,7 @@ fn front(
     let mut bytes = Vec::new(alloc);
     bytes.extend_from_slice(&type_of(kind).to_be_bytes())?;
     bytes.extend_from_slice(&0u64.to_be_bytes())?;
-    bytes.extend_from_slice(&code_of(shape.t).to_be_bytes())?;
+    bytes.extend_from_slice(&shape.t.code().to_be_bytes())?;
     // MaxRec, and the head and the tail of the index
     bytes.extend_from_slice(&u32::MAX.to_be_bytes())?;
     bytes.extend_from_slice(&0u64.to_be_bytes())?;
