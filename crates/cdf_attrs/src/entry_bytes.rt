@@ -7,7 +7,6 @@ ghost use Rattle.cdf_edits.specs.Commands.EntryChains.{entry_type};
 ghost use Rattle.cdf_format.specs.Fields.{size_at};
 ghost use Rattle.cdf_records.specs.Pieces.{AreBytes};
 ghost use Rattle.cdf_edits.specs.Space.Placing.{laid_out};
-ghost use Rattle.cdf_model.specs.Types.{code_of};
 
 use cdf_area::{Area, AreaError};
 use cdf_format::fields::{AGR_EDR_TYPE, AZ_EDR_TYPE};
@@ -73,31 +72,6 @@ pub fn read_old<A: Area>(area: &mut A, place: u64) -> Result<OldEntry, AreaError
     })
 }
 
-/// The code of a type, as it is stored.
-fn code_of(t: DataType) -> u32
-    ensures { result ≡ code_of t }
-{
-    match t {
-        DataType::Int1 => 1,
-        DataType::Int2 => 2,
-        DataType::Int4 => 4,
-        DataType::Int8 => 8,
-        DataType::UInt1 => 11,
-        DataType::UInt2 => 12,
-        DataType::UInt4 => 14,
-        DataType::Real4 => 21,
-        DataType::Real8 => 22,
-        DataType::Epoch => 31,
-        DataType::Epoch16 => 32,
-        DataType::TimeTt2000 => 33,
-        DataType::Byte => 41,
-        DataType::Float => 44,
-        DataType::Double => 45,
-        DataType::Char => 51,
-        DataType::UChar => 52,
-    }
-}
-
 /// The type of the record of an entry.
 fn record_type(kind: EntryKind) -> u32
     ensures { result ≡ entry_type kind }
@@ -121,7 +95,7 @@ pub fn field_bytes(
 {
     let mut bytes = Vec::new(alloc);
     bytes.extend_from_slice(&attr.to_be_bytes())?;
-    bytes.extend_from_slice(&code_of(value.t).to_be_bytes())?;
+    bytes.extend_from_slice(&value.t.code().to_be_bytes())?;
     bytes.extend_from_slice(&num.to_be_bytes())?;
     bytes.extend_from_slice(&value.elems.to_be_bytes())?;
     // no strings

@@ -1,6 +1,6 @@
 //! The command `get-entry`: an entry of an attribute is shown.
 
-ghost use Rattle.std.specs.Prelude.{◌≡◌, ◌+◌, ◌≤◌, length, take, drop, IfOk};
+ghost use Rattle.std.specs.Prelude.{◌≡◌, ◌+◌, ◌≤◌, length, IfOk};
 ghost use Rattle.cdf_area.specs.Calls.{Reads};
 ghost use Rattle.cdf_attrs.specs.Known.{Knows};
 ghost use Rattle.cdf_attrs.specs.Getting.{entry_reply};
@@ -8,34 +8,18 @@ ghost use Rattle.cdf_edits.specs.Answers.{Answers};
 ghost use Rattle.cdf_format.specs.AttributeRules.{entry_bytes};
 ghost use Rattle.cdf_format.specs.Content.{entry_of};
 ghost use Rattle.cdf_format.specs.Records.{aedr_data_type};
-ghost use Rattle.cdf_format.specs.Stored.{data_type_in, is_little};
+ghost use Rattle.cdf_format.specs.Stored.{data_type_in};
 ghost use Rattle.cdf_format.specs.WellFormed.{Good};
 ghost use Rattle.cdf_model.specs.declared.command.Command.TheVariants.{GetEntry};
 
 use crate::attrs::Attrs;
 use crate::finding::Target;
 use cdf_area::{Area, AreaError};
-use cdf_format::fields::{AEDR_DATA_TYPE, AEDR_NUM_ELEMS, AEDR_VALUE, CDR_ENCODING, CDR_PLACE};
-use cdf_model::{Bytes, DataType, Encoding, EntryKind, Outcome, Reason, Reply};
-use cdf_records::{read_signed4, read_unsigned4};
+use cdf_format::fields::{AEDR_DATA_TYPE, AEDR_NUM_ELEMS, AEDR_VALUE};
+use cdf_model::{Bytes, DataType, EntryKind, Outcome, Reason, Reply};
+use cdf_records::{read_bytes, read_encoding, read_signed4, read_unsigned4};
 use cdf_values::to_network;
 use std::alloc::Global;
-
-/// Values in network order, for a file whose encoding is not known. No well-formed file is one.
-const NETWORK: Encoding = Encoding {
-    code: 1,
-    little: false,
-};
-
-/// The encoding of the values of a file.
-pub fn read_encoding<A: Area>(area: &mut A) -> Result<Encoding, AreaError>
-    requires { 320 ≤ length (A.image area.old) }
-    ensures order { IfOk result (λ encoding. encoding.little ≡ is_little (A.image area.old)) }
-    ensures area { Reads A.image A.frame A.faults A.edited area.old area.new result }
-{
-    let code = read_signed4(area, CDR_PLACE + CDR_ENCODING)?;
-    Ok(Encoding::of_code(code).unwrap_or(NETWORK))
-}
 
 /// The type of the value of the entry whose descriptor stands at a place. Each well-formed file has one that is known.
 fn read_type<A: Area>(area: &mut A, place: u64) -> Result<DataType, AreaError>
@@ -47,23 +31,6 @@ fn read_type<A: Area>(area: &mut A, place: u64) -> Result<DataType, AreaError>
     let _size = area.size();
     let code = read_signed4(area, place + AEDR_DATA_TYPE)?;
     Ok(DataType::of_code(code).unwrap_or(DataType::Byte))
-}
-
-/// So many bytes from a place on.
-fn read_bytes<A: Area>(
-    alloc: Global,
-    area: &mut A,
-    place: u64,
-    count: u64,
-) -> Result<Vec<u8>, AreaError>
-    requires { place + count ≤ length (A.image area.old) }
-    ensures bytes { IfOk result (λ bytes. bytes.items ≡ take count (drop place (A.image area.old))) }
-    ensures area { Reads A.image A.frame A.faults A.edited area.old area.new result }
-{
-    let mut bytes = Vec::new(alloc);
-    bytes.resize(count as usize, 0)?;
-    area.get(place, &mut bytes)?;
-    Ok(bytes)
 }
 
 /// What `get-entry` shows of the entry whose descriptor stands at a place.

@@ -17,7 +17,6 @@ ghost use Rattle.cdf_model.specs.declared.command.Command.TheVariants.{PutEntry}
 use crate::attrs::Attrs;
 use crate::entry_bytes::StoredValue;
 use crate::finding::Target;
-use crate::getting::read_encoding;
 use crate::greatest::greatest_with;
 use crate::putting::{NewEntry, Slot, put_new};
 use crate::range::is_out_of_range;
@@ -25,6 +24,7 @@ use crate::value::read_value;
 use cdf_area::{Area, AreaError};
 use cdf_format::fields::AEDR_SIZE;
 use cdf_model::{DataType, EntryKind, Outcome, Reason, Reply, Words};
+use cdf_records::read_encoding;
 use cdf_space::Chain;
 use cdf_values::ValueError;
 

@@ -1,6 +1,6 @@
 //! Records, read from their blocks and written into them.
 
-ghost use Rattle.std.specs.Prelude.{◌≡◌, ◌+◌, ◌-◌, ◌*◌, ◌≤◌, ℕ, length, take, drop, IfOk, OnOk};
+ghost use Rattle.std.specs.Prelude.{◌≡◌, ◌+◌, ◌-◌, ◌*◌, ◌≤◌, ℕ, length, IfOk, OnOk};
 ghost use Rattle.cdf_area.specs.Calls.{Overwrites, Reads};
 ghost use Rattle.cdf_base.specs.Bytes.{put};
 ghost use Rattle.cdf_format.specs.Content.{plain_bytes};
@@ -12,24 +12,8 @@ ghost use Rattle.cdf_index.specs.Sight.{seen};
 use crate::nodes::Leaf;
 use cdf_area::{Area, AreaError};
 use cdf_format::fields::VVR_RECORDS;
+use cdf_records::read_bytes;
 use std::alloc::Global;
-
-/// So many bytes from a place on.
-fn read_bytes<A: Area>(
-    alloc: Global,
-    area: &mut A,
-    place: u64,
-    count: u64,
-) -> Result<Vec<u8>, AreaError>
-    requires { place + count ≤ length (A.image area.old) }
-    ensures bytes { IfOk result (λ bytes. bytes.items ≡ take count (drop place (A.image area.old))) }
-    ensures area { Reads A.image A.frame A.faults A.edited area.old area.new result }
-{
-    let mut bytes = Vec::new(alloc);
-    bytes.resize(count as usize, 0)?;
-    area.get(place, &mut bytes)?;
-    Ok(bytes)
-}
 
 /// The bytes of a record, as they are stored, from a block that is not packed.
 pub fn read_rec<A: Area>(

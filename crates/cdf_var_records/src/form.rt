@@ -10,13 +10,13 @@ ghost use Rattle.cdf_model.specs.declared.kinds.Kind.TheVariants.{Z};
 ghost use Rattle.cdf_var_records.specs.Descriptors.{IsPlace, IsVdr};
 ghost use Rattle.cdf_var_records.specs.Records.{IsForm};
 
-use crate::pad_place::{PadPlace, read_encoding, read_pad_place, read_z_dimensions};
+use crate::pad_place::{PadPlace, read_pad_place, read_z_dimensions};
 use cdf_area::{Area, AreaError};
 use cdf_format::fields::{
     CDR_FLAGS, CDR_GDR_OFFSET, CDR_PLACE, GDR_R_DIM_SIZE, GDR_R_NUM_DIMS, VDR_Z_DIM_SIZE,
 };
 use cdf_model::{Encoding, Kind, Majority, Nums, Varys};
-use cdf_records::{read_nums, read_unsigned4, read_unsigned8};
+use cdf_records::{read_encoding, read_nums, read_unsigned4, read_unsigned8};
 use cdf_shape::Shape;
 use std::alloc::{AllocError, Global};
 

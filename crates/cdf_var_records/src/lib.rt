@@ -11,7 +11,7 @@ mod record;
 pub use bad_shape::{are_bad_sizes, is_bad_shape};
 pub use extent::read_extent;
 pub use form::{Form, read_dims, read_form, read_majority};
-pub use pad_place::{PadPlace, descriptor_size, read_bytes, read_encoding, read_pad_place};
+pub use pad_place::{PadPlace, descriptor_size, read_pad_place};
 pub use put_room::{read_block_count, read_put_room};
 pub use record::{
     is_out_of_range, read_pad_record, read_record, record_size_of, value_size, values_of,

@@ -1,9 +1,8 @@
 //! Where the pad value of a variable belongs.
 
-ghost use Rattle.std.specs.Prelude.{◌≡◌, ◌+◌, ◌≤◌, length, take, drop, IfOk};
+ghost use Rattle.std.specs.Prelude.{◌≡◌, ◌+◌, ◌≤◌, length, IfOk};
 ghost use Rattle.cdf_area.specs.Calls.{Reads};
 ghost use Rattle.cdf_edits.specs.Commands.Room.{vdr_bytes};
-ghost use Rattle.cdf_format.specs.Stored.{is_little};
 ghost use Rattle.cdf_format.specs.Fields.{gdr_offset, r_num_dims};
 ghost use Rattle.cdf_format.specs.VariableFields.{dimensions_at, pad_field};
 ghost use Rattle.cdf_format.specs.WellFormed.{Good};
@@ -12,11 +11,10 @@ ghost use Rattle.cdf_var_records.specs.Descriptors.{IsPlace, IsVdr};
 
 use cdf_area::{Area, AreaError};
 use cdf_format::fields::{
-    CDR_ENCODING, CDR_GDR_OFFSET, CDR_PLACE, GDR_R_NUM_DIMS, R_VDR_SIZE, VDR_Z_NUM_DIMS, Z_VDR_SIZE,
+    CDR_GDR_OFFSET, CDR_PLACE, GDR_R_NUM_DIMS, R_VDR_SIZE, VDR_Z_NUM_DIMS, Z_VDR_SIZE,
 };
-use cdf_model::{DataType, Encoding, Kind};
-use cdf_records::{read_signed4, read_unsigned4, read_unsigned8, read_vdr};
-use std::alloc::Global;
+use cdf_model::{DataType, Kind};
+use cdf_records::{read_unsigned4, read_unsigned8, read_vdr};
 
 /// Where the pad value of a variable belongs, and what it is to be.
 #[derive(Clone, Copy)]
@@ -30,39 +28,6 @@ pub struct PadPlace {
     pub flags: u32,
     pub t: DataType,
     pub elems: u32,
-}
-
-/// Values in network order, for a file whose encoding is not known. No well-formed file is one.
-const NETWORK: Encoding = Encoding {
-    code: 1,
-    little: false,
-};
-
-/// The encoding of the values of a file.
-pub fn read_encoding<A: Area>(area: &mut A) -> Result<Encoding, AreaError>
-    requires { 320 ≤ length (A.image area.old) }
-    ensures order { IfOk result (λ encoding. encoding.little ≡ is_little (A.image area.old)) }
-    ensures area { Reads A.image A.frame A.faults A.edited area.old area.new result }
-{
-    let code = read_signed4(area, CDR_PLACE + CDR_ENCODING)?;
-    Ok(Encoding::of_code(code).unwrap_or(NETWORK))
-}
-
-/// So many bytes from a place on.
-pub fn read_bytes<A: Area>(
-    alloc: Global,
-    area: &mut A,
-    place: u64,
-    count: u64,
-) -> Result<Vec<u8>, AreaError>
-    requires { place + count ≤ length (A.image area.old) }
-    ensures bytes { IfOk result (λ bytes. bytes.items ≡ take count (drop place (A.image area.old))) }
-    ensures area { Reads A.image A.frame A.faults A.edited area.old area.new result }
-{
-    let mut bytes = Vec::new(alloc);
-    bytes.resize(count as usize, 0)?;
-    area.get(place, &mut bytes)?;
-    Ok(bytes)
 }
 
 /// How many dimensions the r variables of a good image have.

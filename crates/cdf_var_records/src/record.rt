@@ -21,14 +21,13 @@ ghost use Rattle.cdf_var_records.specs.Records.{IsForm, IsRecordShape, leaf_in, 
 
 use crate::extent::read_extent;
 use crate::form::Form;
-use crate::pad_place::read_bytes;
 use cdf_area::{Area, AreaError};
 use cdf_format::fields::VDR_VXR_HEAD;
 use cdf_index::{Leaf, read_rec};
 use cdf_model::limits::RECORD_NUMBER_LIMIT;
 use cdf_model::{DataType, Encoding, default_pad};
 use cdf_puts::find_leaf;
-use cdf_records::read_unsigned8;
+use cdf_records::{read_bytes, read_unsigned8};
 use cdf_shape::{Shape, record_bytes};
 use cdf_values::to_network;
 use std::alloc::{AllocError, Global};

@@ -21,9 +21,9 @@ use crate::chain::chain_of;
 use cdf_area::{Area, AreaError};
 use cdf_format::fields::{RECORD_TYPE, VDR_FLAGS};
 use cdf_model::Kind;
-use cdf_records::{read_vdr, set_vdr_flags};
+use cdf_records::{read_bytes, read_vdr, set_vdr_flags};
 use cdf_space::{chain_replace, free_record, place_record};
-use cdf_var_records::{PadPlace, read_bytes};
+use cdf_var_records::PadPlace;
 use std::alloc::{AllocError, Global};
 
 /// Flags of a variable that has a pad value, which bit 1 says.

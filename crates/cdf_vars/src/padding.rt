@@ -19,8 +19,9 @@ use crate::pad_record::{move_vdr, write_pad};
 use crate::vars::{VarId, Vars};
 use cdf_area::{Area, AreaError};
 use cdf_model::{DataType, Encoding, Kind, Outcome, Reason, Reply, Words};
+use cdf_records::read_encoding;
 use cdf_values::{ValueError, from_network, read_values};
-use cdf_var_records::{PadPlace, read_encoding, read_pad_place};
+use cdf_var_records::{PadPlace, read_pad_place};
 use std::alloc::Global;
 
 /// What a command `set-pad` asks for.
