@@ -1,6 +1,6 @@
 -- The names of the variables of a good image, as they are read where their descriptors stand.
 use Rattle.std.proofs.Common.{◌≡◌, ◌≢◌, ℕ, ◌+◌, List, [], ◌∷◌, map, Bool, true, false, not, ◌||◌, bytes_eq, refl, sym, ap, ap₂, subst, ◌∙◌, arith, inl, inr}
-use Rattle.std.proofs.lemmas.Bool.{and_parts, not-true, or_cases, eqb-true}
+use Rattle.std.proofs.lemmas.Bool.{and_parts, not-true, or_cases, or_parts, eqb-true}
 use Rattle.std.proofs.lemmas.List.{map-append}
 use Rattle.std.specs.List.{AllByRecursion, IsDistinct, list_all}
 use Rattle.std.specs.Prelude.{◌==◌}
@@ -16,8 +16,8 @@ use Rattle.cdf_format.specs.WellFormed.{Good}
 use Rattle.cdf_format.proofs.ChainsLemmas.{linkable-type}
 use Rattle.cdf_format.proofs.GoodByShape.{IsGoodByShape}
 use Rattle.cdf_format.proofs.GoodSound.{good_by_its_shape}
-use Rattle.cdf_format.proofs.Members.{In-append_left, In-append_right}
-use Rattle.cdf_format.proofs.NameRules.{names_at}
+use Rattle.cdf_format.proofs.Members.{In-append, In-append_left, In-append_right}
+use Rattle.cdf_format.proofs.NameRules.{absent-split, names_at}
 use Rattle.cdf_format.proofs.RowLemmas.{Hold-member}
 use Rattle.cdf_format.proofs.ShapeLemmas.{content_is}
 use Rattle.cdf_model.specs.declared.item.Item.{Item}
@@ -26,7 +26,7 @@ use Rattle.cdf_model.specs.declared.kinds.Kind.{Kind}
 use Rattle.cdf_model.specs.declared.kinds.Kind.TheVariants.{R, Z}
 use Rattle.cdf_model.specs.DataSet.{DataSet, Variable}
 use Rattle.cdf_model.specs.Listing.{variable_items}
-use Rattle.cdf_model.specs.Names.{variables_of}
+use Rattle.cdf_model.specs.Names.{is_among, variable_names, variables_of}
 use Rattle.cdf_vars.specs.Reading.{AreNamed, items_at}
 use Rattle.cdf_vars.proofs.VariableChains.{few_places, own_chain, vdr_inside}
 
@@ -41,6 +41,12 @@ one_of_all test (y ∷ xs) x all (inr i) = one_of_all test xs x (and_parts (test
 map_same : (f g : ℕ → List ℕ) (xs : List ℕ) → ((x : ℕ) → In x xs → f x ≡ g x) → map f xs ≡ map g xs
 map_same f g [] same = refl
 map_same f g (x ∷ xs) same = ap₂ (λ (y : List ℕ) (ys : List (List ℕ)). y ∷ ys) (same x (inl refl)) (map_same f g xs (λ y i. same y (inr i)))
+
+-- a name that none of some records has
+not_among : (b name ms : List ℕ) (m : ℕ) → is_among name (names_at b vdr_name ms) ≡ false → In m ms → bytes_eq name (name_in b m vdr_name) ≡ false
+not_among b name [] m e i = absurd i
+not_among b name (x ∷ ms) m e (inl q) = ap (λ (y : ℕ). bytes_eq name (name_in b y vdr_name)) q ∙ (or_parts (bytes_eq name (name_in b x vdr_name)) (is_among name (names_at b vdr_name ms)) e).0
+not_among b name (x ∷ ms) m e (inr i) = not_among b name ms m (or_parts (bytes_eq name (name_in b x vdr_name)) (is_among name (names_at b vdr_name ms)) e).1 i
 
 module _ (name : ℕ → List ℕ) where
   -- records at different places have different names
@@ -125,3 +131,12 @@ module _ (b : List ℕ) (good : Good b) where
     where
       name_lies : (kind : Kind) (m : ℕ) → In m (vdrs (shapes_of s kind)) → LiesIn b m vdr_name
       name_lies kind m i = let l = vdr_inside b s h kind m i in omega arith
+
+  -- no variable has a name that is none of the content
+  pub absent_from : (name : List ℕ) → is_among name (variable_names (content b)) ≡ false → (m : ℕ) → In m (vdrs (variables s)) → bytes_eq name (name_in b m vdr_name) ≡ false
+  absent_from name free m i =
+      let p = absent-split name (map (λ (v : Variable). v.name) (content b).r_variables) (map (λ (v : Variable). v.name) (content b).z_variables) free in
+      elim (In-append m (vdrs s.r_variables) (vdrs s.z_variables) (subst (In m) (map-append (λ (v : VariableShape). v.vdr) s.r_variables s.z_variables) i)) [
+        | inl j ↦ not_among b name (vdrs s.r_variables) m (ap (is_among name) (sym (variable_names_are b s h R)) ∙ p.0) j
+        | inr j ↦ not_among b name (vdrs s.z_variables) m (ap (is_among name) (sym (variable_names_are b s h Z)) ∙ p.1) j
+      ]

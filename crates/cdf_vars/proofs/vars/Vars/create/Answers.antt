@@ -1,10 +1,11 @@
-use Rattle.std.proofs.Common.{◌≡◌, ◌∙◌, ℕ, List, ap, length, refl, sym, arith}
+use Rattle.std.proofs.Common.{◌≡◌, ◌∙◌, ℕ, List, ap, length, sym, arith}
 use Rattle.cdf_edits.specs.Commands.Room.{vdr_bytes}
 use Rattle.cdf_edits.specs.Follows.{Follows}
+use Rattle.cdf_model.specs.declared.kinds.Kind.TheVariants.{R, Z}
 use Rattle.cdf_model.specs.Names.{is_among}
 use Rattle.cdf_vars.specs.Creating.{making, wanted}
 use Rattle.cdf_vars.proofs.CreatingAnswers.{badly_named, badly_shaped, is_done, name_taken, too_large}
-use Rattle.cdf_vars.proofs.KindKnown.{all_names, knows_with_r, knows_with_z}
+use Rattle.cdf_vars.proofs.VariableChanged.{all_names, knows_made}
 use Rattle.cdf_vars.proofs.vars.Vars.create.Goals as goal
 use Rattle.cdf_vars.proofs.vars.Vars.create.Goals.{in-R+in_ok-add-in-R, in-Z+in_ok-add-in-Z}
 
@@ -15,19 +16,19 @@ returns-then-is_bad_name-clause-answers g c =
 pub returns-then-is_some-clause-answers : goal.returns-then-is_some-clause-answers
 returns-then-is_some-clause-answers g c =
     name_taken _ (g.A.Area.image c.args.area.now) c.args.kind (wanted c.args.name.now c.args.form.now c.args.vary) c.requires.dims (sym c.is_bad_name.ensures ∙ c.if-is_bad_name.false)
-    (ap (is_among c.args.name.now) (sym (all_names c.requires.known refl)) ∙ sym c.find.ensures.exact ∙ sym c.is_some.ensures ∙ c.if-is_some.true)
+    (ap (is_among c.args.name.now) (sym (all_names c.requires.known)) ∙ sym c.find.ensures.exact ∙ sym c.is_some.ensures ∙ c.if-is_some.true)
 
 pub returns-then-is_bad_shape-clause-answers : goal.returns-then-is_bad_shape-clause-answers
 returns-then-is_bad_shape-clause-answers g c =
     badly_shaped _ (g.A.Area.image c.args.area.now) c.args.kind (wanted c.args.name.now c.args.form.now c.args.vary) c.requires.dims (sym c.is_bad_name.ensures ∙ c.if-is_bad_name.false)
-    (ap (is_among c.args.name.now) (sym (all_names c.requires.known refl)) ∙ sym c.find.ensures.exact ∙ sym c.is_some.ensures ∙ c.if-is_some.false)
+    (ap (is_among c.args.name.now) (sym (all_names c.requires.known)) ∙ sym c.find.ensures.exact ∙ sym c.is_some.ensures ∙ c.if-is_some.false)
     (sym c.is_bad_shape.ensures ∙ c.if-is_bad_shape.true)
 
 pub returns-then-limit-size-clause-answers : goal.returns-then-limit-size-clause-answers
 returns-then-limit-size-clause-answers g c =
     let size : c.descriptor_size.result ≡ vdr_bytes c.args.kind (length c.args.form.now.dims) = c.descriptor_size.ensures ∙ ap (λ (xs : List ℕ). vdr_bytes c.args.kind (length xs)) c.as_slice.ensures in
     too_large _ (g.A.Area.image c.args.area.now) c.args.kind (wanted c.args.name.now c.args.form.now c.args.vary) c.requires.dims (sym c.is_bad_name.ensures ∙ c.if-is_bad_name.false)
-    (ap (is_among c.args.name.now) (sym (all_names c.requires.known refl)) ∙ sym c.find.ensures.exact ∙ sym c.is_some.ensures ∙ c.if-is_some.false)
+    (ap (is_among c.args.name.now) (sym (all_names c.requires.known)) ∙ sym c.find.ensures.exact ∙ sym c.is_some.ensures ∙ c.if-is_some.false)
     (sym c.is_bad_shape.ensures ∙ c.if-is_bad_shape.false)
     (omega (arith, c.if-limit-size.true, c.limit.ensures, c.size.ensures, size))
 
@@ -41,12 +42,12 @@ returns-clause-answers g c =
       | in-Z+in_ok-add-in-Z w ↦ rw w.area-is w.in_ok-add-in-Z.ensures.follows
     ] in
     is_done _ b c.args.kind v c.requires.dims (sym c.is_bad_name.ensures ∙ c.if-is_bad_name.false)
-    (ap (is_among c.args.name.now) (sym (all_names c.requires.known refl)) ∙ sym c.find.ensures.exact ∙ sym c.is_some.ensures ∙ c.if-is_some.false)
+    (ap (is_among c.args.name.now) (sym (all_names c.requires.known)) ∙ sym c.find.ensures.exact ∙ sym c.is_some.ensures ∙ c.if-is_some.false)
     (sym c.is_bad_shape.ensures ∙ c.if-is_bad_shape.false)
     (omega (arith, c.if-limit-size.false, c.limit.ensures, c.size.ensures, size)) (g.A.Area.image c.match-kind.area) made
 
 pub returns-clause-known : goal.returns-clause-known
 returns-clause-known g c = elim c.match-kind.branch [
-  | in-R+in_ok-add-in-R w ↦ rw (w.area-is, w.self-is) (knows_with_r w.in-R.is c.requires.known c.self.view_is w.in_ok-add-in-R.ensures.known w.in_ok-add-in-R.ensures.others)
-  | in-Z+in_ok-add-in-Z w ↦ rw (w.area-is, w.self-is) (knows_with_z w.in-Z.is c.requires.known c.self.view_is w.in_ok-add-in-Z.ensures.known w.in_ok-add-in-Z.ensures.others)
+  | in-R+in_ok-add-in-R w ↦ rw (w.area-is, w.self-is) (knows_made R w.in-R.is c.requires.known c.self.view_is w.in_ok-add-in-R.ensures.known w.in_ok-add-in-R.ensures.others)
+  | in-Z+in_ok-add-in-Z w ↦ rw (w.area-is, w.self-is) (knows_made Z w.in-Z.is c.requires.known c.self.view_is w.in_ok-add-in-Z.ensures.known w.in_ok-add-in-Z.ensures.others)
 ]
