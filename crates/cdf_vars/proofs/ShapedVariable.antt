@@ -11,7 +11,7 @@ use Rattle.cdf_model.specs.Place.{record_limit, record_size, value_count}
 use Rattle.cdf_model.specs.Types.{size_of}
 use Rattle.cdf_model.specs.Values.{notation_of}
 use Rattle.cdf_model.specs.VariableSteps.{are_bad_sizes, is_bad_shape, is_characters}
-use Rattle.cdf_var_records.proofs.ValueSizes.{size_some}
+use Rattle.cdf_values.proofs.ValueLengths.{size_some}
 
 abbrev pub IsSize : ℕ → Type 0
 IsSize size = (1 ≤ size) × (size ≤ signed_limit)
