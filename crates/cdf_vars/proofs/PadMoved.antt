@@ -6,7 +6,7 @@ use Rattle.byteorder.specs.Numbers.{length-bytes_high_first}
 use Rattle.cdf_base.specs.Bytes.{put}
 use Rattle.cdf_fields.proofs.Writes.{drop-put_there, word-put_number}
 use Rattle.cdf_format.specs.Bytes.{byte, Same}
-use Rattle.cdf_format.specs.Fields.{word, number, name_in, has_bit, size_at}
+use Rattle.cdf_format.specs.Fields.{word, number, has_bit, size_at}
 use Rattle.cdf_format.proofs.BytesLemmas.{length-put, byte-put_before, byte-put_inside, byte-put_after, piece_kept, word_kept}
 use Rattle.cdf_edits.proofs.Frame.VdrCopied.{Copied, word_copied, VdrCopied, pad_field_copied, value_copied}
 use Rattle.std.specs.List.{before_first, last_or}
@@ -14,7 +14,7 @@ use Rattle.std.specs.Prelude.{◌==◌, if◌then◌else◌, slice_index}
 use Rattle.cdf_model.specs.declared.kinds.Kind.{Kind}
 use Rattle.cdf_model.specs.declared.kinds.Kind.TheVariants.{R, Z}
 use Rattle.cdf_format.specs.Chains.{Leads, next_of, next_field, is_in}
-use Rattle.cdf_format.specs.Records.{vdr_flags, vdr_name}
+use Rattle.cdf_format.specs.Records.{vdr_flags}
 use Rattle.cdf_format.specs.Shape.{VariableShape, Shape, vdrs, shape}
 use Rattle.cdf_format.specs.Sound.{IsSound}
 use Rattle.cdf_format.specs.VariableFields.{dimensions_at, has_pad, is_z, pad_field, value_bytes}
@@ -51,7 +51,7 @@ use Rattle.cdf_edits.proofs.Space.UsedRecords.{apart}
 use Rattle.cdf_var_records.specs.Descriptors.{IsVdr, IsPlace}
 use Rattle.cdf_vars.specs.Padding.{IsPadded, padded_body}
 use Rattle.cdf_var_records.proofs.VdrParts.{pad_place, at as vdr_at, inside as vdr_inside}
-use Rattle.std.proofs.lemmas.Bool.{ne_eqb}
+use Rattle.std.proofs.lemmas.Bool.{cases_lt, ne_eqb}
 use Rattle.cdf_format.proofs.GoodSound.{good_is_sound}
 use Rattle.cdf_edits.proofs.Commands.ListParts.{Cut, cut}
 use Rattle.cdf_var_records.specs.declared.pad_place.PadPlace.{PadPlace}
@@ -68,14 +68,19 @@ pieced old value flags n one two three four e1 e2 e3 e4 f =
     let third : three ≡ (take 36 old ++ big_bytes 4 n) ++ drop 40 old = e3 ∙ (λ i. second i ++ all i) in
     e4 ∙ (λ i. third i ++ value) ∙ pieces old value _ _ _ _
 
--- equal bytes at two places make equal pieces
-pub piece_alike : (b now : List ℕ) (v v' n : ℕ) → v + n ≤ length b → v' + n ≤ length now → ((i : ℕ) → i < n → byte now (v' + i) ≡ byte b (v + i)) → take n (drop v' now) ≡ take n (drop v b)
-piece_alike b now v v' n inside there same =
-    let e : length (take n (drop v' now)) ≡ n = simp (length-take, length-drop) (omega arith) in
-    let f : length (take n (drop v b)) ≡ n = simp (length-take, length-drop) (omega arith) in
-    ext_get_or 0 (take n (drop v' now)) (take n (drop v b)) (e ∙ sym f) (λ i lt.
+-- what was copied makes equal pieces
+piece_copied : {b now : List ℕ} {v v' lo hi : ℕ} → Copied b now v v' lo hi → (at n : ℕ) → lo ≤ at → at + n ≤ hi → v + at + n ≤ length b → v' + at + n ≤ length now → take n (drop (v' + at) now) ≡ take n (drop (v + at) b)
+piece_copied {b = b} {now = now} {v = v} {v' = v'} c at n low high inside there =
+    let e : length (take n (drop (v' + at) now)) ≡ n = simp (length-take, length-drop) (omega arith) in
+    let f : length (take n (drop (v + at) b)) ≡ n = simp (length-take, length-drop) (omega arith) in
+    ext_get_or 0 (take n (drop (v' + at) now)) (take n (drop (v + at) b)) (e ∙ sym f) (λ i lt.
     let l : i < n = omega (arith, lt, e) in
-    get_or-take n (drop v' now) i 0 l ∙ get_or-drop v' now i 0 ∙ same i l ∙ sym (get_or-drop v b i 0) ∙ sym (get_or-take n (drop v b) i 0 l))
+    let p : v' + at + i ≡ v' + (at + i) = omega arith in
+    let q : v + at + i ≡ v + (at + i) = omega arith in
+    get_or-take n (drop (v' + at) now) i 0 l ∙ get_or-drop (v' + at) now i 0 ∙ ap (byte now) p ∙ c.each (at + i) (omega arith) (omega arith) ∙ sym (ap (byte b) q) ∙ sym (get_or-drop (v + at) b i 0) ∙ sym (get_or-take n (drop (v + at) b) i 0 l))
+
+pub small_flags : (x : ℕ) → x < 256 ^ 4 → padded_flags x < 256 ^ 4
+small_flags x l = omega arith
 
 -- ---- the bytes of the new VDR, whose pad value stands at another place in it
 
@@ -177,48 +182,21 @@ same_link : (b now : List ℕ) (link link' : ℕ) (xs : List ℕ) → Leads b li
 same_link b now link link' [] l m = m ∙ sym l
 same_link b now link link' (x ∷ xs) l m = m.0 ∙ sym l.0
 
-split_from : (i n : ℕ) → (i < n) ⊎ (n ≤ i)
-split_from i zero = inr (omega arith)
-split_from zero (suc n) = inl (omega arith)
-split_from (suc i) (suc n) = elim (split_from i n) [ inl l ↦ inl (omega arith) | inr m ↦ inr (omega arith) ]
-
 -- equal numbers have equal bytes
-digits_same : (P x y x' y' : ℕ) → y < P → y' < P → x * P + y ≡ x' * P + y' → (x ≡ x') × (y ≡ y')
-digits_same P x y x' y' l l' e = by_first P x x' y y' l l' e
-  where
-    by_first : (P x x' y y' : ℕ) → y < P → y' < P → x * P + y ≡ x' * P + y' → (x ≡ x') × (y ≡ y')
-    by_first P zero zero y y' l l' e = (refl, omega arith)
-    by_first P zero (suc x') y y' l l' e = absurd (omega arith)
-    by_first P (suc x) zero y y' l l' e = absurd (omega arith)
-    by_first P (suc x) (suc x') y y' l l' e = let r = by_first P x x' y y' l l' (omega arith) in (ap suc r.0, r.1)
+digits_same : (P x x' y y' : ℕ) → y < P → y' < P → x * P + y ≡ x' * P + y' → (x ≡ x') × (y ≡ y')
+digits_same P zero zero y y' l l' e = (refl, omega arith)
+digits_same P zero (suc x') y y' l l' e = absurd (omega arith)
+digits_same P (suc x) zero y y' l l' e = absurd (omega arith)
+digits_same P (suc x) (suc x') y y' l l' e = let r = digits_same P x x' y y' l l' (omega arith) in (ap suc r.0, r.1)
 
-bytes_of_words : (b now : List ℕ) (p p' n : ℕ) → AreBytes b p n → AreBytes now p' n → word now p' n ≡ word b p n → (i : ℕ) → i < n → byte now (p' + i) ≡ byte b (p + i)
-bytes_of_words b now p p' zero bs ns e i lt = absurd (omega arith)
-bytes_of_words b now p p' (suc n) bs ns e i lt =
-    let d = digits_same (256 ^ n) (byte now p') (word now (suc p') n) (byte b p) (word b (suc p) n) (word_fits now p' (suc n) (suc p') n ns (omega arith) (omega arith)) (word_fits b p (suc n) (suc p) n bs (omega arith) (omega arith)) e in
-    at_index (λ j l. bytes_of_words b now (suc p) (suc p') n (rest b p bs) (rest now p' ns) d.1 j l) i lt d
-  where
-    rest : (x : List ℕ) (q : ℕ) → AreBytes x q (suc n) → AreBytes x (suc q) n
-    rest x q are = record { below = λ k l. subst (λ (j : ℕ). byte x j < 256) (shift q k) (are.below (suc k) (omega arith)) }
-      where
-        shift : (q k : ℕ) → q + suc k ≡ suc q + k
-        shift q k = omega arith
-
-    at_index : ((j : ℕ) → j < n → byte now (suc p' + j) ≡ byte b (suc p + j)) → (i : ℕ) → i < suc n → (byte now p' ≡ byte b p) × (word now (suc p') n ≡ word b (suc p) n) → byte now (p' + i) ≡ byte b (p + i)
-    at_index more zero lt d = ap (byte now) (flat p') ∙ d.0 ∙ sym (ap (byte b) (flat p))
-      where
-        flat : (x : ℕ) → x + 0 ≡ x
-        flat x = omega arith
-    at_index more (suc i) lt d = ap (byte now) (shift p' i) ∙ more i (omega arith) ∙ sym (ap (byte b) (shift p i))
-      where
-        shift : (q k : ℕ) → q + suc k ≡ suc q + k
-        shift q k = omega arith
-
-part_of : (b : List ℕ) (p m lo n : ℕ) → AreBytes b p m → lo + n ≤ m → AreBytes b (p + lo) n
-part_of b p m lo n are l = record { below = λ i lt. subst (λ (j : ℕ). byte b j < 256) (shift p lo i) (are.below (lo + i) (omega arith)) }
-  where
-    shift : (p lo i : ℕ) → p + (lo + i) ≡ p + lo + i
-    shift p lo i = omega arith
+equal_bytes : {b now : List ℕ} {s s' m : ℕ} → AreBytes b s m → AreBytes now s' m → (p p' n : ℕ) → s ≤ p → p + n ≤ s + m → s' ≤ p' → p' + n ≤ s' + m → word now p' n ≡ word b p n → (k x y : ℕ) → k < n → x ≡ p' + k → y ≡ p + k → byte now x ≡ byte b y
+equal_bytes are there p p' zero a c d f e k x y lt ex ey = absurd (omega arith)
+equal_bytes {b = b} {now = now} {s = s} {s' = s'} {m = m} are there p p' (suc n) a c d f e k x y lt ex ey =
+    let r = digits_same (256 ^ n) (byte now p') (byte b p) (word now (suc p') n) (word b (suc p) n) (word_fits now s' m (suc p') n there (omega arith) (omega arith)) (word_fits b s m (suc p) n are (omega arith) (omega arith)) e in
+    elim k as (λ (i : ℕ). i < suc n → x ≡ p' + i → y ≡ p + i → byte now x ≡ byte b y) [
+      | zero ↦ λ l q w. let left : x ≡ p' = omega arith in let right : y ≡ p = omega arith in ap (byte now) left ∙ r.0 ∙ sym (ap (byte b) right)
+      | suc i ↦ λ l q w. equal_bytes are there (suc p) (suc p') n (omega arith) (omega arith) (omega arith) (omega arith) r.1 i x y (omega arith) (omega arith) (omega arith)
+    ] lt ex ey
 
 -- the image in which the new VDR is linked is ready for the freeing of the old one
 pub record Linked (late : List ℕ) (old by : ℕ) : Type 0 where
@@ -328,34 +306,25 @@ module _ (value : List ℕ) {b : List ℕ} {kind : Kind} {before : List Variable
       file : FileSame b late
       file = file_same (sound good at) (made_edit (sound good at) fills later replaced.length_stays t.lately) t.file_clear
 
-      filled_byte : (i : ℕ) → 8 ≤ i → i < place → (i < 44) ⊎ (48 ≤ i) → byte filled (by + i) ≡ byte b (v + i)
-      filled_byte i low high side = ap (λ (x : List ℕ). byte x (by + i)) placed.written ∙ bytes_copied b value v place n inside pad_late placed.taken by placed.inside i low high side
-
       late_byte : (i : ℕ) → 20 ≤ i → i < place → (i < 44) ⊎ (48 ≤ i) → byte late (by + i) ≡ byte b (v + i)
-      late_byte i low high side = kept.each (by + i) (omega arith) (omega (arith, need_is)) ∙ filled_byte i (omega arith) high side
+      late_byte i low high side = kept.each (by + i) (omega arith) (omega (arith, need_is)) ∙ ap (λ (x : List ℕ). byte x (by + i)) placed.written ∙ bytes_copied b value v place n inside pad_late placed.taken by placed.inside i (omega arith) high side
 
-      small : n < 256 ^ 4
-      small = fit (number b v vdr_flags) (word_fits b v 84 (v + 44) 4 read (omega arith) (omega arith))
-        where
-          fit : (x : ℕ) → x < 256 ^ 4 → padded_flags x < 256 ^ 4
-          fit x l = omega arith
+      behind_flags : Copied b late v by 48 place
+      behind_flags = record { each = λ i l h. late_byte i (omega arith) h (inr l) }
 
       flags_now : number late by vdr_flags ≡ n
       flags_now =
           let first : word late (by + 44) 4 ≡ word filled (by + 44) 4 = word_kept filled late (by + 20) (by + need) kept (by + 44) 4 (omega arith) (omega (arith, need_is, pad_late)) in
-          first ∙ ap (λ (x : List ℕ). word x (by + 44) 4) placed.written ∙ flags_there b value v place n inside pad_late placed.taken by placed.inside small
+          first ∙ ap (λ (x : List ℕ). word x (by + 44) 4) placed.written ∙ flags_there b value v place n inside pad_late placed.taken by placed.inside (small_flags (number b v vdr_flags) (word_fits b v 84 (v + 44) 4 read (omega arith) (omega arith)))
 
       copied_there : VdrCopied b late v by
       copied_there = record {
         typed = made_type (sound good at) fills later replaced.length_stays t.lately ∙ sym (typed good at);
         first = record { each = λ i l h. late_byte i l (omega (arith, pad_late)) (inl h) };
-        second = record { each = λ i l h. late_byte i (omega arith) (omega (arith, pad_late)) (inr l) };
-        third = record { each = λ i l h. late_byte i (omega arith) (omega (arith, pad_late)) (inr (omega arith)) };
-        behind = record { each = λ i l h. late_byte i (omega arith) h (inr (omega arith)) };
+        second = record { each = λ i l h. behind_flags.each i l (omega (arith, pad_late)) };
+        third = record { each = λ i l h. behind_flags.each i (omega arith) (omega (arith, pad_late)) };
+        behind = record { each = λ i l h. behind_flags.each i (omega arith) h };
       }
-
-      num_there : Copied b late v by 68 72
-      num_there = record { each = λ i l h. late_byte i (omega arith) (omega (arith, pad_late)) (inr (omega arith)) }
 
       end_is : vdr_end late by ≡ need
       end_is =
@@ -367,14 +336,6 @@ module _ (value : List ℕ) {b : List ℕ} {kind : Kind} {before : List Variable
       by_lies : by + need ≤ length filled
       by_lies = let high = placed.inside in let l = placed.fills.long in omega (arith, high, l)
 
-      name_same : name_in late by vdr_name ≡ name_in b v vdr_name
-      name_same =
-          ap (before_first (λ (x : ℕ). x == 0)) (piece_alike b late (v + 84) (by + 84) 256 (omega (arith, inside, pad_late)) (omega (arith, by_lies, replaced.length_stays, need_is, pad_late))
-          (λ i lt. ap (byte late) (joined by i) ∙ late_byte (84 + i) (omega arith) (omega (arith, pad_late)) (inr (omega arith)) ∙ sym (ap (byte b) (joined v i))))
-        where
-          joined : (p i : ℕ) → p + 84 + i ≡ p + (84 + i)
-          joined p i = omega arith
-
       pub moves : MovesVdr b late kind own body by
       moves = record {
         filled = filled;
@@ -383,11 +344,11 @@ module _ (value : List ℕ) {b : List ℕ} {kind : Kind} {before : List Variable
         joins = joins;
         replaced = replaced;
         copied = copied_there;
-        num_is = word_copied num_there 68 4 (omega arith) (omega arith);
+        num_is = word_copied behind_flags 68 4 (omega arith) (omega (arith, pad_late));
         packed = ap (λ (k : ℕ). has_bit k 2) flags_now ∙ padded_2 (number b v vdr_flags);
         ends = omega (arith, end_is);
         larger = omega (arith, short, need_is);
-        name_is = name_same;
+        name_is = ap (before_first (λ (x : ℕ). x == 0)) (piece_copied behind_flags 84 256 (omega arith) (omega (arith, pad_late)) (omega (arith, inside, pad_late)) (omega (arith, by_lies, replaced.length_stays, need_is, pad_late)));
       }
 
       pub linked : Linked late v by
@@ -402,16 +363,11 @@ module _ (value : List ℕ) {b : List ℕ} {kind : Kind} {before : List Variable
             let was = subst (λ (vs : List VariableShape). Leads b (number b s.gdr (head_of c)) (vdrs vs) 0) at.was (kind_chain kind h).leads in
             same_link b late (next_of b v) (next_of late by) (vdrs after) (link_after b _ before own after was) (link_after late _ before (record own { vdr = by }) after (chain_late good at moves).leads)
 
-        link_byte : (i : ℕ) → 12 ≤ i → i < 20 → byte late (by + i) ≡ byte b (v + i)
-        link_byte i low high =
-            let e = bytes_of_words b late (v + 12) (by + 12) 8 (part_of b v 84 12 8 read (omega arith)) (part_of late by 84 12 8 there (omega arith)) link_same (i - 12) (omega arith) in
-            ap (byte late) (joined by i low) ∙ e ∙ sym (ap (byte b) (joined v i low))
-          where
-            joined : (p i : ℕ) → 12 ≤ i → p + i ≡ p + 12 + (i - 12)
-            joined p i l = omega arith
-
         alike : (i : ℕ) → 12 ≤ i → i < place → (i < 44) ⊎ (44 + 4 ≤ i) → byte late (by + i) ≡ byte b (v + i)
-        alike i low high side = elim (split_from i 20) [ inl l ↦ link_byte i low l | inr m ↦ late_byte i m high side ]
+        alike i low high side = elim (cases_lt i 20) [
+          | inl l ↦ equal_bytes read there (v + 12) (by + 12) 8 (omega arith) (omega arith) (omega arith) (omega arith) link_same (i - 12) (by + i) (v + i) (omega arith) (omega arith) (omega arith)
+          | inr m ↦ late_byte i m high side
+        ]
 
         pub holds : HoldsPad b late v by need value
         holds = record {

@@ -58,12 +58,9 @@ use Rattle.cdf_vars.specs.declared.padding.PadRequest.TheVariants.{Put}
 use Rattle.cdf_vars.specs.declared.vars.VarId.{VarId}
 use Rattle.cdf_vars.specs.Known.{Known, Knows, known_of}
 use Rattle.cdf_vars.specs.Padding.{IsRequest, MayPad, MovedTo, Moves, padded_body, padded_flags}
-use Rattle.cdf_vars.proofs.PadMoved.{holds, moves, need_is}
+use Rattle.cdf_vars.proofs.PadMoved.{holds, moves, need_is, small_flags}
 use Rattle.cdf_vars.proofs.VariableChanged.{follows_still, knows_still, knows_with, of_found, own_known, may_keep, may_named, same_names, stands_there, still_there, with_known}
 use Rattle.cdf_vars.proofs.VariableFound.{Parts, the_parts, within_places}
-
-small_flags : (x : ℕ) → x < 256 ^ 4 → padded_flags x < 256 ^ 4
-small_flags x l = omega arith
 
 -- ---- the bytes in a VDR which has room for them
 
