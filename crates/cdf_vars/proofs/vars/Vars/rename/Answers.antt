@@ -4,7 +4,7 @@ use Rattle.cdf_model.specs.declared.answer.Reason.TheVariants.{BadName, NameTake
 use Rattle.cdf_model.specs.declared.command.Command.TheVariants.{RenameVar}
 use Rattle.cdf_model.specs.Names.{is_among}
 use Rattle.cdf_vars.proofs.VariableChanged.{all_names, may_rename, rename_done, rename_knows}
-use Rattle.cdf_vars.proofs.VariableFound.{found_view, knows_view, none_found, the_found}
+use Rattle.cdf_vars.proofs.VariableFound.{found_view, knows_view, none_found, the_parts}
 use Rattle.cdf_vars.proofs.vars.Vars.rename.Goals.{in-R+in_ok-rename_in-in-R, in-Z+in_ok-rename_in-in-Z}
 use Rattle.cdf_vars.proofs.vars.Vars.rename.Goals as goal
 
@@ -13,12 +13,12 @@ returns-in_default-clause-answers g c = refused _ _ (RenameVar c.args.from.now c
 
 pub returns-then-is_bad_name-clause-answers : goal.returns-then-is_bad_name-clause-answers
 returns-then-is_bad_name-clause-answers g c =
-    refused _ _ (RenameVar c.args.from.now c.args.to.now) BadName (rw ((the_found c.args.from.now c.requires.good c.requires.known (sym c.find.ensures.found ∙ c.in-Some.is)).named, sym c.is_bad_name.ensures ∙ c.if-is_bad_name.true) refl)
+    refused _ _ (RenameVar c.args.from.now c.args.to.now) BadName (rw ((the_parts c.args.from.now c.requires.good c.requires.known (sym c.find.ensures.found ∙ c.in-Some.is)).named, sym c.is_bad_name.ensures ∙ c.if-is_bad_name.true) refl)
 
 pub returns-then-is_some-clause-answers : goal.returns-then-is_some-clause-answers
 returns-then-is_some-clause-answers g c =
     let taken = ap (is_among c.args.to.now) (sym (all_names c.requires.known)) ∙ sym c.find-2.ensures.exact ∙ sym c.is_some.ensures ∙ c.if-is_some.true in
-    refused _ _ (RenameVar c.args.from.now c.args.to.now) NameTaken (rw ((the_found c.args.from.now c.requires.good c.requires.known (sym c.find.ensures.found ∙ c.in-Some.is)).named, sym c.is_bad_name.ensures ∙ c.if-is_bad_name.false, taken) refl)
+    refused _ _ (RenameVar c.args.from.now c.args.to.now) NameTaken (rw ((the_parts c.args.from.now c.requires.good c.requires.known (sym c.find.ensures.found ∙ c.in-Some.is)).named, sym c.is_bad_name.ensures ∙ c.if-is_bad_name.false, taken) refl)
 
 pub rename_in-requires-clause-may : goal.rename_in-requires-clause-may
 rename_in-requires-clause-may g c =

@@ -6,7 +6,7 @@ use Rattle.cdf_model.specs.declared.command.Command.TheVariants.{SetBlocking}
 use Rattle.cdf_model.specs.Limits.{signed_limit}
 use Rattle.cdf_format.specs.Records.{vdr_blocking_factor}
 use Rattle.cdf_vars.proofs.VariableChanged.{blocking_done, blocking_knows, field_lies}
-use Rattle.cdf_vars.proofs.VariableFound.{none_found, the_found, within_places}
+use Rattle.cdf_vars.proofs.VariableFound.{none_found, the_parts, within_places}
 use Rattle.cdf_vars.proofs.vars.Vars.set_blocking.Goals as goal
 
 pub returns-in_default-clause-answers : goal.returns-in_default-clause-answers
@@ -14,7 +14,7 @@ returns-in_default-clause-answers g c = refused _ _ (SetBlocking c.args.name.now
 
 pub returns-then-n-gt-SIGNED_LIMIT-clause-answers : goal.returns-then-n-gt-SIGNED_LIMIT-clause-answers
 returns-then-n-gt-SIGNED_LIMIT-clause-answers g c =
-    refused _ _ (SetBlocking c.args.name.now c.args.n) NumberOutOfRange (rw ((the_found c.args.name.now c.requires.good c.requires.known (sym c.find.ensures.found ∙ c.in-Some.is)).named, lt-ltb signed_limit c.args.n c.if-n-gt-SIGNED_LIMIT.true) refl)
+    refused _ _ (SetBlocking c.args.name.now c.args.n) NumberOutOfRange (rw ((the_parts c.args.name.now c.requires.good c.requires.known (sym c.find.ensures.found ∙ c.in-Some.is)).named, lt-ltb signed_limit c.args.n c.if-n-gt-SIGNED_LIMIT.true) refl)
 
 pub place_of-requires : goal.place_of-requires
 place_of-requires g c = within_places c.args.name.now c.requires.good c.requires.known (sym c.find.ensures.found ∙ c.in-Some.is)
