@@ -1,14 +1,10 @@
 pub mod CreatedVariable
-pub mod CreatingAnswers
-pub mod Making
-pub mod MeantVdr
 pub mod NamesRead
 pub mod NewVdr
 pub mod RemovalAnswers
 pub mod RemovalKnown
 pub mod RemovalRecords
 pub mod RemovalSteps
-pub mod ShapedVariable
 pub mod VariableChains
 pub mod VariableFound
 pub mod VariableChanged
