@@ -1,6 +1,7 @@
 -- A new VDR: what a shape has that is not refused, that what was written reads back, what it means, and that it keeps the rules.
 use Rattle.std.proofs.Common.{◌≡◌, ℕ, ◌*◌, ◌≤◌, List, [], ◌∷◌, length, Bool, true, false, not, ◌||◌, refl, arith, ◌+◌, ◌-◌, ◌^◌, ◌<◌, ◌++◌, map, take, drop, replicate, sym, ap, ◌∙◌, append_assoc, lit<, ◌≢◌, zero, suc, Option, None, ap₂, subst}
 use Rattle.std.proofs.lemmas.Bool.Decides.{nat_tests}
+use Rattle.std.proofs.lemmas.List.Concat.{flat_map-append}
 use Rattle.std.proofs.Math.Nat.{le-mul_of_pos_right}
 use Rattle.std.specs.List.{list_any, flat_map, All, before_first, list_all}
 use Rattle.std.specs.Prelude.{◌==◌, ◌&&◌, nat_lt, if◌then◌else◌, nat_le, is_some}
@@ -146,19 +147,19 @@ pub tail_size : (kind : Kind) (dims : List ℕ) (n : ℕ) → n ≡ length dims 
 tail_size R dims n e = omega arith
 tail_size Z dims n e = omega arith
 
+signed_small : (n : ℕ) → n ≤ signed_limit → n < 256 ^ 4
+signed_small n l = omega arith
+
+few_signed : (n : ℕ) → n ≤ dimension_limit → n ≤ signed_limit
+few_signed n l = omega arith
+
 each_small : (dims : List ℕ) → Each IsSize dims → Each (λ n. n < 256 ^ 4) dims
 each_small [] sizes = tt
-each_small (n ∷ dims) sizes = (small n sizes.0.1, each_small dims sizes.1)
-  where
-    small : (n : ℕ) → n ≤ signed_limit → n < 256 ^ 4
-    small n l = omega arith
+each_small (n ∷ dims) sizes = (signed_small n sizes.0.1, each_small dims sizes.1)
 
 own_small : (kind : Kind) (dims : List ℕ) → length dims ≤ dimension_limit → Each IsSize dims → Each (λ n. n < 256 ^ 4) (own_dims kind dims)
 own_small R dims few sizes = tt
-own_small Z dims few sizes = (small (length dims) few, each_small dims sizes)
-  where
-    small : (n : ℕ) → n ≤ dimension_limit → n < 256 ^ 4
-    small n l = omega arith
+own_small Z dims few sizes = (signed_small (length dims) (few_signed (length dims) few), each_small dims sizes)
 
 codes_small : (varys : List Bool) → Each (λ n. n < 256 ^ 4) (map vary_code varys)
 codes_small [] = tt
@@ -169,10 +170,6 @@ flag_small : (vary : Bool) → (if vary then 1 else 0) < 256 ^ 4
 flag_small true = lit< tt
 flag_small false = lit< tt
 
-words_parts : (xs ys : List ℕ) → flat_map (big_bytes 4) (xs ++ ys) ≡ flat_map (big_bytes 4) xs ++ flat_map (big_bytes 4) ys
-words_parts [] ys = refl
-words_parts (x ∷ xs) ys = ap (λ (r : List ℕ). big_bytes 4 x ++ r) (words_parts xs ys) ∙ sym (append_assoc (big_bytes 4 x) (flat_map (big_bytes 4) xs) (flat_map (big_bytes 4) ys))
-
 -- it is put together of these parts
 pub body_parts : (kind : Kind) (v : NewVariable) (num : ℕ)
     → ((laid_out ((record_type, vdr_type kind) ∷ (vdr_vdr_next, 0) ∷ vdr_fields v num) ++ (v.name ++ replicate (256 - length v.name) 0)) ++ flat_map (big_bytes 4) (own_dims kind v.dims)) ++ flat_map (big_bytes 4) (map vary_code v.varys) ≡ vdr_body kind v num
@@ -182,7 +179,7 @@ body_parts kind v num =
     let padded = v.name ++ replicate (256 - length v.name) 0 in
     let ds = flat_map (big_bytes 4) (own_dims kind v.dims) in
     let vs = flat_map (big_bytes 4) (map vary_code v.varys) in
-    append_assoc (front ++ padded) ds vs ∙ append_assoc front padded (ds ++ vs) ∙ ap (λ (r : List ℕ). front ++ (padded ++ r)) (sym (words_parts (own_dims kind v.dims) (map vary_code v.varys)))
+    append_assoc (front ++ padded) ds vs ∙ append_assoc front padded (ds ++ vs) ∙ ap (λ (r : List ℕ). front ++ (padded ++ r)) (sym (flat_map-append (big_bytes 4) (own_dims kind v.dims) (map vary_code v.varys)))
 
 type_small : (kind : Kind) → vdr_type kind < 256 ^ 4
 type_small R = lit< tt
@@ -228,13 +225,13 @@ module _ (kind : Kind) (v : NewVariable) (num : ℕ) (short : length v.name ≤ 
       let behind = flat_map (big_bytes 4) (ds ++ vs) in
       let size = tail_size kind v.dims (length v.varys) is.one_each in
       let w = placed_says ((record_type, vdr_type kind) ∷ (vdr_vdr_next, 0) ∷ vdr_fields v num) (padded ++ behind) placed refl refl
-      (type_small kind, (lit< tt, (code_small v.type, (lit< tt, (lit< tt, (lit< tt, (flag_small v.vary, (lit< tt, (lit< tt, (lit< tt, (lit< tt, (elems_small v.elems is.elems_fit, (small_num, (lit< tt, (lit< tt, tt))))))))))))))) in
+      (type_small kind, (lit< tt, (code_small v.type, (lit< tt, (lit< tt, (lit< tt, (flag_small v.vary, (lit< tt, (lit< tt, (lit< tt, (lit< tt, (signed_small v.elems is.elems_fit, (small_num, (lit< tt, (lit< tt, tt))))))))))))))) in
       let more = w.1.0 in
       let at_name : drop (place + 84) filled ≡ padded ++ (behind ++ more) = w.1.1 ∙ append_assoc padded behind more in
       let name = ap (take 256) at_name ∙ take_at padded (behind ++ more) 256 length-padded in
       let at_tail : drop (place + 340) filled ≡ behind ++ more =
       ap (λ (x : ℕ). drop x filled) (past_name place) ∙ sym (drop-drop 256 (place + 84) filled) ∙ ap (drop 256) at_name ∙ ap (λ (k : ℕ). drop k (padded ++ (behind ++ more))) (sym length-padded) ∙ drop-append_seam padded (behind ++ more) in
-      let first = words_laid_out filled (place + 340) ds (flat_map (big_bytes 4) vs ++ more) (at_tail ∙ ap (λ (l : List ℕ). l ++ more) (words_parts ds vs) ∙ append_assoc (flat_map (big_bytes 4) ds) (flat_map (big_bytes 4) vs) more) (own_small kind v.dims is.few is.sizes) in
+      let first = words_laid_out filled (place + 340) ds (flat_map (big_bytes 4) vs ++ more) (at_tail ∙ ap (λ (l : List ℕ). l ++ more) (flat_map-append (big_bytes 4) ds vs) ∙ append_assoc (flat_map (big_bytes 4) ds) (flat_map (big_bytes 4) vs) more) (own_small kind v.dims is.few is.sizes) in
       let second = words_laid_out filled (place + 340 + 4 * length ds) vs more first.1 (codes_small v.varys) in
       let at_varys = behind_dims place (length ds) in
       let varys : words filled (place + (340 + 4 * length ds)) (length v.varys) ≡ vs = ap (λ (x : ℕ). words filled x (length v.varys)) at_varys ∙ ap (words filled (place + 340 + 4 * length ds)) (sym (length-map v.varys vary_code)) ∙ second.0 in
@@ -245,9 +242,6 @@ module _ (kind : Kind) (v : NewVariable) (num : ℕ) (short : length v.name ≤ 
         varys_are = words_kept filled now (place + 20) (place + vdr_bytes kind (length v.dims)) same (place + (340 + 4 * length ds)) (length v.varys) (omega arith) (omega arith) ∙ varys;
       }
     where
-      elems_small : (n : ℕ) → n ≤ signed_limit → n < 256 ^ 4
-      elems_small n l = omega arith
-
       past_name : (p : ℕ) → p + 340 ≡ p + 84 + 256
       past_name p = omega arith
 
@@ -319,7 +313,7 @@ dims_by b place Z v num new is typed shares =
     let d = length v.dims in
     let said : number b place vdr_z_num_dims ≡ d = cc new.dims_are in
     let sizes : words b (place + 340 + 4) d ≡ v.dims = cc new.dims_are in
-    let count : counted (cast_signed w32 (number b place vdr_z_num_dims)) ≡ d = ap (λ (n : ℕ). counted (cast_signed w32 n)) said ∙ small_signed d (few d is.few) in
+    let count : counted (cast_signed w32 (number b place vdr_z_num_dims)) ≡ d = ap (λ (n : ℕ). counted (cast_signed w32 n)) said ∙ small_signed d (few_signed d is.few) in
     let dims : map counted4 (words b (place + 344) (counted (cast_signed w32 (number b place vdr_z_num_dims)))) ≡ v.dims =
     ap (λ (n : ℕ). map counted4 (words b (place + 344) n)) count ∙ ap (λ (p : ℕ). map counted4 (words b p d)) (first place) ∙ ap (map counted4) sizes ∙ counted_sizes v.dims is.sizes in
     let each : map (λ n. not (n == 0)) (words b (place + (344 + 4 * counted (cast_signed w32 (number b place vdr_z_num_dims)) + 4 * 0)) (counted (cast_signed w32 (number b place vdr_z_num_dims)))) ≡ v.varys =
@@ -337,9 +331,6 @@ dims_by b place Z v num new is typed shares =
           or_right (not (is_z b place)) (has_dimensions b place) (and_from _ _ fine (and_from _ _ room (subst (λ (ns : List ℕ). list_all is_positive ns ≡ true) (sym sized) (positive_sizes v.dims is.sizes))));
     }
   where
-    few : (n : ℕ) → n ≤ dimension_limit → n ≤ signed_limit
-    few n l = omega arith
-
     first : (p : ℕ) → p + 344 ≡ p + 340 + 4
     first p = omega arith
 
@@ -418,10 +409,10 @@ module _ {b : List ℕ} {place : ℕ} {kind : Kind} {v : NewVariable} {num : ℕ
     has = record { indexed = record { link_is = new.says.1.1.0; has_nodes = tt; once = tt }; packed_by = rw unpacked refl }
 
     ends : vdr_end b place ≤ size_at b place
-    ends = subst (λ (n : ℕ). vdr_end b place ≤ n) (sym sized) (subst (λ (n : ℕ). n ≤ vdr_bytes kind (length v.dims)) (sym end_is) (itself (vdr_bytes kind (length v.dims))))
+    ends = at_most (vdr_end b place) (size_at b place) (end_is ∙ sym sized)
       where
-        itself : (n : ℕ) → n ≤ n
-        itself n = omega arith
+        at_most : (m n : ℕ) → m ≡ n → m ≤ n
+        at_most m n e = omega arith
 
     pub fits : VariableFits b records (bare_variable place)
     unfolding nodes_of leaves_of
