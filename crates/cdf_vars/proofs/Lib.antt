@@ -19,13 +19,7 @@ pub mod WholeRecords
 pub mod RecordSteps
 pub mod RecordAnswers
 pub mod SetUpAnswers
-pub mod SetUpCalls
-pub mod SetUpEdits
-pub mod SetUpHead
-pub mod SetUpKept
-pub mod SetUpMade
-pub mod SetUpMoved
-pub mod SetUpWrites
+pub mod SetUpFollows
 pub mod ReindexAnswers
 pub mod ReindexRoom
 pub mod PutSteps

@@ -1,30 +1,53 @@
--- What the command `setup` is answered.
-use Rattle.std.proofs.Common.{◌≡◌, ℕ, ◌+◌, ◌*◌, ◌<◌, ◌≤◌, List, length, Bool, Option, Some, None, true, false, not, refl, sym, ap, subst, ◌∙◌}
+-- What the command `setup` is answered, which dimensions it takes, and what its calls ask for.
+use Rattle.std.proofs.Common.{◌≡◌, ℕ, ◌+◌, ◌*◌, ◌^◌, ◌<◌, ◌≤◌, List, [], ◌∷◌, length, Bool, Option, Some, None, true, false, not, refl, sym, ap, subst, ◌∙◌, arith}
+use Rattle.std.proofs.Math.Path.{transport}
+use Rattle.std.proofs.lemmas.Int.{of_z-to_z}
+use Rattle.std.specs.Int.{w32, cast_unsigned}
+use Rattle.std.specs.List.{list_all, list_any}
 use Rattle.std.specs.Option.{is_none}
-use Rattle.std.specs.Prelude.{is_some}
+use Rattle.std.specs.Prelude.{◌==◌, ◌&&◌, ◌||◌, is_some, nat_lt}
 use Rattle.cdf_model.specs.declared.answer.Outcome.{Outcome}
 use Rattle.cdf_model.specs.declared.answer.Outcome.TheVariants.{Done, Refused}
 use Rattle.cdf_model.specs.declared.answer.Reason.TheVariants.{NumberOutOfRange, BadShape, InUse, TooLarge}
 use Rattle.cdf_model.specs.declared.answer.Reply.TheVariants.{Plain}
 use Rattle.cdf_model.specs.declared.command.Command.{Command}
 use Rattle.cdf_model.specs.declared.command.Command.TheVariants.{Setup}
+use Rattle.cdf_model.specs.declared.head.Head.{Head}
 use Rattle.cdf_model.specs.declared.head.Majority.{Majority}
 use Rattle.cdf_model.specs.Answers.{Go}
 use Rattle.cdf_model.specs.DataSet.{DataSet}
 use Rattle.cdf_model.specs.Encodings.{encoding_at}
 use Rattle.cdf_model.specs.Step.{ByStep, step}
 use Rattle.cdf_model.specs.VariableSteps.{are_bad_sizes, is_empty_set}
-use Rattle.cdf_edits.specs.Follows.{Follows}
 use Rattle.cdf_edits.specs.Answers.{Answers}
+use Rattle.cdf_edits.specs.Follows.{Follows}
+use Rattle.cdf_edits.specs.Space.Placement.{Takes}
 use Rattle.cdf_edits.proofs.Commands.Answered.{refused, gone, too_large as no_room}
 use Rattle.cdf_format.specs.Content.{content}
+use Rattle.cdf_format.specs.Fields.{is_positive, word, signed4, size_at, gdr_offset}
+use Rattle.cdf_format.specs.RecordTypes.{uir_type}
+use Rattle.cdf_format.specs.Shape.{Each, shape}
+use Rattle.cdf_format.specs.Sound.{IsSound}
+use Rattle.cdf_format.specs.WellFormed.{Good}
+use Rattle.cdf_format.proofs.ChainsLemmas.{is_a-in}
+use Rattle.cdf_format.proofs.GoodSound.{good_by_its_shape, good_is_sound}
+use Rattle.cdf_format.proofs.HeadOf.{head_of_good}
+use Rattle.cdf_format.proofs.TilesLemmas.{tile_lies}
+use Rattle.cdf_edits.proofs.Edits.StepEdits.{gdr_in}
+use Rattle.cdf_records.specs.declared.cdr.Cdr.{Cdr}
+use Rattle.cdf_records.specs.declared.gdr.Gdr.{Gdr}
+use Rattle.cdf_records.specs.Heads.{cdr_at, gdr_at}
+use Rattle.cdf_records.specs.Pieces.{AreBytes}
+use Rattle.cdf_records.proofs.Places.{word_fits}
+
+-- ---- the answers
 
 none_or_some : {A : Type 0} (x : Option A) (p : Bool) → is_some x ≡ p → is_none x ≡ not p
 none_or_some None p e = ap not e
 none_or_some (Some a) p e = ap not e
 
 -- what setup makes of a data set
-abbrev pub set_up : DataSet → ℕ → Majority → List ℕ → DataSet
+abbrev set_up : DataSet → ℕ → Majority → List ℕ → DataSet
 set_up d code majority dims = record d { encoding = code; majority = majority; rdims = dims }
 
 pub step_goes : (d made : DataSet) (code : ℕ) (majority : Majority) (dims : List ℕ) → is_some (encoding_at code) ≡ true → are_bad_sizes dims ≡ false → is_empty_set d ≡ true → made ≡ set_up d code majority dims → step d (Setup code majority dims) ≡ ByStep (Go made Plain)
@@ -33,42 +56,107 @@ step_goes d made code majority dims read fine empty is =
     let goes : step d (Setup code majority dims) ≡ ByStep (Go (set_up d code majority dims) Plain) = rw (known, fine, empty) refl in
     goes ∙ ap (λ (x : DataSet). ByStep (Go x Plain)) (sym is)
 
-module _ (limit : ℕ) (b : List ℕ) (code : ℕ) (majority : Majority) (dims : List ℕ) where
+-- of an image that was only read so far
+module _ (limit : ℕ) (b mid : List ℕ) (code : ℕ) (majority : Majority) (dims : List ℕ) (same : mid ≡ b) where
   abbrev c : Command
   c = Setup code majority dims
 
-  pub unknown_encoding : is_some (encoding_at code) ≡ false → Answers limit b c (Refused NumberOutOfRange) b
-  unknown_encoding e = let none : is_none (encoding_at code) ≡ true = none_or_some (encoding_at code) false e in refused limit b c NumberOutOfRange (rw none refl)
+  left : {o : Outcome} → Answers limit b c o b → Answers limit b c o mid
+  left a = subst (Answers limit b c _) (sym same) a
+
+  pub unknown_encoding : is_some (encoding_at code) ≡ false → Answers limit b (Setup code majority dims) (Refused NumberOutOfRange) mid
+  unknown_encoding e = let none : is_none (encoding_at code) ≡ true = none_or_some (encoding_at code) false e in left (refused limit b c NumberOutOfRange (rw none refl))
 
   module _ (read : is_some (encoding_at code) ≡ true) where
     known : is_none (encoding_at code) ≡ false
     known = none_or_some (encoding_at code) true read
 
-    pub badly_shaped : are_bad_sizes dims ≡ true → Answers limit b c (Refused BadShape) b
-    badly_shaped e = refused limit b c BadShape (rw (known, e) refl)
+    pub badly_shaped : are_bad_sizes dims ≡ true → Answers limit b (Setup code majority dims) (Refused BadShape) mid
+    badly_shaped e = left (refused limit b c BadShape (rw (known, e) refl))
 
     module _ (fine : are_bad_sizes dims ≡ false) where
-      pub in_use : is_empty_set (content b) ≡ false → Answers limit b c (Refused InUse) b
-      in_use e = refused limit b c InUse (rw (known, fine, e) refl)
+      pub in_use : is_empty_set (content b) ≡ false → Answers limit b (Setup code majority dims) (Refused InUse) mid
+      in_use e = left (refused limit b c InUse (rw (known, fine, e) refl))
 
       module _ (empty : is_empty_set (content b) ≡ true) where
         goes : step (content b) c ≡ ByStep (Go (set_up (content b) code majority dims) Plain)
         goes = step_goes (content b) (set_up (content b) code majority dims) code majority dims read fine empty refl
 
-        pub too_large : limit < length b + (84 + 4 * length dims) → Answers limit b c (Refused TooLarge) b
-        too_large over = no_room limit b c (set_up (content b) code majority dims) Plain goes over
+        pub too_large : limit < length b + (84 + 4 * length dims) → Answers limit b (Setup code majority dims) (Refused TooLarge) mid
+        too_large over = left (no_room limit b c (set_up (content b) code majority dims) Plain goes over)
 
-        pub is_done : length b + (84 + 4 * length dims) ≤ limit → (now : List ℕ) → Follows b c now → Answers limit b c (Done Plain) now
-        is_done room now follows = gone limit b c (set_up (content b) code majority dims) Plain now goes room follows
+        pub is_done : length b + (84 + 4 * length dims) ≤ limit → (now : List ℕ) → Follows mid (Setup code majority dims) now → Answers limit b (Setup code majority dims) (Done Plain) now
+        is_done room now follows = gone limit b c (set_up (content b) code majority dims) Plain now goes room (subst (λ (x : List ℕ). Follows x c now) same follows)
 
--- an image that was only read
-pub answered : {limit : ℕ} {b now : List ℕ} {c : Command} {o o' : Outcome} → Answers limit b c o b → o' ≡ o → now ≡ b → Answers limit b c o' now
-answered {limit = limit} {b = b} {now = now} {c = c} {o = o} a e same = subst (λ (x : Outcome). Answers limit b c x now) (sym e) (subst (λ (x : List ℕ). Answers limit b c o x) (sym same) a)
+-- ---- the sizes of dimensions
 
-pub not_in_use : (p q : Bool) → q ≡ not p → q ≡ false → p ≡ true
-not_in_use true q e f = refl
-not_in_use false q e f = sym f ∙ e
+split_or : (p q : Bool) → (p || q) ≡ false → (p ≡ false) × (q ≡ false)
+split_or false q e = (refl, e)
+split_or true q e = absurd cc
 
-pub is_in_use : (p q : Bool) → q ≡ not p → q ≡ true → p ≡ false
-is_in_use true q e t = sym t ∙ e
-is_in_use false q e t = refl
+abbrev is_bad_size : ℕ → Bool
+is_bad_size size = (size == 0) || nat_lt 2147483647 size
+
+fine_sizes : (dims : List ℕ) → list_any is_bad_size dims ≡ false → Each (λ n. n < 256 ^ 4) dims × (list_all is_positive dims ≡ true)
+fine_sizes [] e = (tt, refl)
+fine_sizes (n ∷ more) e =
+    let p = split_or (is_bad_size n) (list_any is_bad_size more) e in
+    let small : n ≤ 2147483647 = grind (arith, p.0) in
+    let positive : is_positive n ≡ true = grind (arith, p.0) in
+    let rest = fine_sizes more p.1 in
+    ((omega arith, rest.0), rw (positive, rest.1) refl)
+
+module _ (dims : List ℕ) (fine : are_bad_sizes dims ≡ false) where
+  parts : (nat_lt 10 (length dims) ≡ false) × (list_any is_bad_size dims ≡ false)
+  parts = split_or (nat_lt 10 (length dims)) (list_any is_bad_size dims) fine
+
+  pub few_dims : length dims ≤ 10
+  few_dims = let p = parts.0 in grind (arith, p)
+
+  pub small_dims : Each (λ n. n < 256 ^ 4) dims
+  small_dims = (fine_sizes dims parts.1).0
+
+  pub positive_dims : list_all is_positive dims ≡ true
+  positive_dims = (fine_sizes dims parts.1).1
+
+-- ---- the calls
+
+-- what fits the GDR lies in the image
+pub fits_gdr : (b : List ℕ) (g n : ℕ) → Good b → g ≡ gdr_offset b → 84 + 4 * n ≤ size_at b (gdr_offset b) → g + 84 + 4 * n ≤ length b
+fits_gdr b g n good is room =
+    let h = (good_is_sound b good).has_shape in
+    reach g (size_at b (gdr_offset b)) (length b) n (subst (λ (x : ℕ). x + size_at b (gdr_offset b) ≤ length b) (sym is) (subst (λ (x : ℕ). x + size_at b x ≤ length b) (sym h.gdr_is) (tile_lies b 8 (length b) (shape b).records (shape b).gdr h.tiled (gdr_in b (shape b) h)).high)) room
+  where
+    reach : (g k l n : ℕ) → g + k ≤ l → 84 + 4 * n ≤ k → g + 84 + 4 * n ≤ l
+    reach g k l n p q = omega arith
+
+-- a record that was taken lies in the image
+pub taken_lies : {b taken : List ℕ} {need place : ℕ} → Takes b taken (shape b) (shape taken) need place → IsSound taken (shape taken) → place + need ≤ length taken
+taken_lies {taken = taken} {place = place} takes sound =
+    subst (λ (n : ℕ). place + n ≤ length taken) takes.size_is (tile_lies taken 8 (length taken) (shape taken).records place sound.has_shape.tiled (is_a-in taken (shape taken).records uir_type place takes.stands)).high
+
+-- 4 bytes are the same number with and without a sign
+unsigned_is : (b : List ℕ) (start m place : ℕ) → AreBytes b start m → start ≤ place → place + 4 ≤ start + m → cast_unsigned w32 (signed4 b place) ≡ word b place 4
+unsigned_is b start m place bytes le fits = of_z-to_z w32 (word b place 4) (word_fits b start m place 4 bytes le fits)
+
+abbrev is_empty_head : Head → Bool
+is_empty_head h = ((h.attrs == 0) && (h.rvars == 0)) && (h.zvars == 0)
+
+-- what is read of the CDR and the GDR
+module _ {b now : List ℕ} {cdr : Cdr} {gdr : Gdr} (good : Good b) (same : now ≡ b) (first : cdr ≡ cdr_at b 8) (second : gdr ≡ gdr_at now cdr.gdr_offset) where
+  offset : cdr.gdr_offset ≡ gdr_offset b
+  offset = ap (λ (c : Cdr). c.gdr_offset) first
+
+  gdr_is : gdr ≡ gdr_at b (gdr_offset b)
+  gdr_is = second ∙ (λ i. gdr_at (same i) (offset i))
+
+  pub size_read : gdr.record_size ≡ size_at b (gdr_offset b)
+  size_read = ap (λ (g : Gdr). g.record_size) gdr_is
+
+  pub counts_read : AreBytes now cdr.gdr_offset 84 → (((cast_unsigned w32 gdr.num_attr == 0) && (cast_unsigned w32 gdr.nr_vars == 0)) && (cast_unsigned w32 gdr.nz_vars == 0)) ≡ is_empty_set (content b)
+  counts_read bytes =
+      let there : AreBytes b (gdr_offset b) 84 = transport (λ i. AreBytes (same i) (offset i) 84) bytes in
+      let attributes = ap (λ (g : Gdr). cast_unsigned w32 g.num_attr) gdr_is ∙ unsigned_is b (gdr_offset b) 84 (gdr_offset b + 48) there (omega arith) (omega arith) in
+      let r_variables = ap (λ (g : Gdr). cast_unsigned w32 g.nr_vars) gdr_is ∙ unsigned_is b (gdr_offset b) 84 (gdr_offset b + 44) there (omega arith) (omega arith) in
+      let z_variables = ap (λ (g : Gdr). cast_unsigned w32 g.nz_vars) gdr_is ∙ unsigned_is b (gdr_offset b) 84 (gdr_offset b + 60) there (omega arith) (omega arith) in
+      (λ i. ((attributes i == 0) && (r_variables i == 0)) && (z_variables i == 0)) ∙ ap is_empty_head (sym (head_of_good b (shape b) (good_by_its_shape b good)))

@@ -15,9 +15,8 @@ ghost use Rattle.cdf_format.specs.WellFormed.{Good};
 ghost use Rattle.cdf_model.specs.Encodings.{encoding_at};
 ghost use Rattle.cdf_model.specs.Limits.{image_limit};
 ghost use Rattle.cdf_model.specs.VariableSteps.{are_bad_sizes, is_empty_set};
-ghost use Rattle.cdf_model.specs.declared.answer.Outcome.TheVariants.{Refused};
 ghost use Rattle.cdf_model.specs.declared.command.Command.TheVariants.{Setup};
-ghost use Rattle.cdf_vars.specs.Setup.{KeepsGdr, MakesGdr, MovesGdr, WritesCdr, WritesDims, gdr_fields};
+ghost use Rattle.cdf_vars.specs.Setup.{MakesGdr, MovesGdr, WritesHeads, gdr_fields};
 
 use cdf_area::{Area, AreaError};
 use cdf_format::fields::{CDR_PLACE, GDR_R_DIM_SIZE, GDR_SIZE, RECORD_TYPE};
@@ -71,22 +70,20 @@ fn push_sizes(bytes: &mut Vec<u8>, sizes: &[u32]) -> Result<(), AllocError>
     Ok(())
 }
 
-/// Writes GDRoffset, Encoding and Flags. After an error a part of this may have been done.
-fn write_cdr<A: Area>(area: &mut A, gdr: u64, encoding: u32, flags: u32) -> Result<(), AreaError>
-    requires { 320 ≤ length (A.image area.old) }
-    ensures written { OnOk result (WritesCdr (A.image area.old) (A.image area.new) gdr encoding flags) }
-    ensures area { Edits A.frame A.faults area.old area.new result }
-{
-    set_cdr_gdr_offset(area, CDR_PLACE, gdr)?;
-    set_cdr_encoding(area, CDR_PLACE, encoding.cast_signed())?;
-    set_cdr_flags(area, CDR_PLACE, flags)
-}
-
-/// Writes the dimensions into the Global Descriptor Record at a place. After an error a part of this may have been done.
-fn write_dims<A: Area>(alloc: Global, area: &mut A, gdr: u64, dims: &[u32]) -> Result<(), AreaError>
+/// Writes the dimensions into the Global Descriptor Record at a place, and then GDRoffset, which leads to it, Encoding and Flags.
+/// After an error a part of this may have been done.
+fn write_heads<A: Area>(
+    alloc: Global,
+    area: &mut A,
+    gdr: u64,
+    encoding: u32,
+    flags: u32,
+    dims: &[u32],
+) -> Result<(), AreaError>
     requires fine { are_bad_sizes dims.now ≡ false }
+    requires cdr { 320 ≤ length (A.image area.old) }
     requires room { gdr + 84 + 4 * length dims.now ≤ length (A.image area.old) }
-    ensures written { OnOk result (WritesDims (A.image area.old) (A.image area.new) gdr dims.now) }
+    ensures written { OnOk result (WritesHeads (A.image area.old) (A.image area.new) gdr encoding flags dims.now) }
     ensures area { Edits A.frame A.faults area.old area.new result }
 {
     // An image has fewer than 2^64 bytes, so no place in it overflows.
@@ -94,7 +91,10 @@ fn write_dims<A: Area>(alloc: Global, area: &mut A, gdr: u64, dims: &[u32]) -> R
     let mut bytes = Vec::new(alloc);
     push_sizes(&mut bytes, dims)?;
     set_gdr_r_num_dims(area, gdr, dims.len() as i32)?;
-    area.set(gdr + GDR_R_DIM_SIZE, &bytes)
+    area.set(gdr + GDR_R_DIM_SIZE, &bytes)?;
+    set_cdr_gdr_offset(area, CDR_PLACE, gdr)?;
+    set_cdr_encoding(area, CDR_PLACE, encoding.cast_signed())?;
+    set_cdr_flags(area, CDR_PLACE, flags)
 }
 
 /// Copies a Global Descriptor Record over another one, but for its size and the sizes of its dimensions.
@@ -131,8 +131,7 @@ fn make_gdr<A: Area>(
 {
     let place = alloc_record(area, GDR_SIZE + 4 * dims.len() as u64)?;
     copy_gdr(area, old, place)?;
-    write_dims(alloc, area, place, dims)?;
-    write_cdr(area, place, new.encoding, new.flags)?;
+    write_heads(alloc, area, place, new.encoding, new.flags, dims)?;
     Ok(place)
 }
 
@@ -158,25 +157,6 @@ fn move_gdr<A: Area>(
     free_record(area, old)
 }
 
-/// Changes the Global Descriptor Record in its place. After an error a part of this may have been done.
-fn change_gdr<A: Area>(
-    alloc: Global,
-    area: &mut A,
-    gdr: u64,
-    new: NewCdr,
-    dims: &[u32],
-) -> Result<(), AreaError>
-    requires good { Good (A.image area.old) }
-    requires gdr { gdr ≡ gdr_offset (A.image area.old) }
-    requires fine { are_bad_sizes dims.now ≡ false }
-    requires room { 84 + 4 * length dims.now ≤ size_at (A.image area.old) gdr }
-    ensures kept { OnOk result (KeepsGdr (A.image area.old) (A.image area.new) new.encoding new.flags dims.now) }
-    ensures area { Edits A.frame A.faults area.old area.new result }
-{
-    write_dims(alloc, area, gdr, dims)?;
-    write_cdr(area, gdr, new.encoding, new.flags)
-}
-
 /// What is read of the CDF Descriptor Record and the Global Descriptor Record: where the second stands, its size, Flags of the first,
 /// and whether there is an attribute or a variable.
 #[derive(Clone, Copy)]
@@ -189,7 +169,7 @@ struct Heads {
 
 /// Whether there is an attribute or a variable.
 fn is_in_use(gdr: &Gdr) -> bool
-    ensures { result ≡ not (((cast_unsigned w32 gdr.now.num_attr == 0) && (cast_unsigned w32 gdr.now.nr_vars == 0)) && (cast_unsigned w32 gdr.now.nz_vars == 0)) }
+    ensures { (((cast_unsigned w32 gdr.now.num_attr == 0) && (cast_unsigned w32 gdr.now.nr_vars == 0)) && (cast_unsigned w32 gdr.now.nz_vars == 0)) ≡ not result }
 {
     gdr.num_attr != 0 || gdr.nr_vars != 0 || gdr.nz_vars != 0
 }
@@ -200,7 +180,7 @@ fn read_heads<A: Area>(area: &mut A) -> Result<Heads, AreaError>
     ensures gdr { IfOk result (λ heads. heads.gdr ≡ gdr_offset (A.image area.old)) }
     ensures size { IfOk result (λ heads. heads.size ≡ size_at (A.image area.old) (gdr_offset (A.image area.old))) }
     ensures flags { IfOk result (λ heads. heads.flags ≡ flags (A.image area.old)) }
-    ensures in_use { IfOk result (λ heads. heads.in_use ≡ not (is_empty_set (content (A.image area.old)))) }
+    ensures in_use { IfOk result (λ heads. is_empty_set (content (A.image area.old)) ≡ not heads.in_use) }
     ensures area { Reads A.image A.frame A.faults A.edited area.old area.new result }
 {
     let cdr = read_cdr(area, CDR_PLACE)?;
@@ -240,16 +220,10 @@ fn carry_out<A: Area>(
         flags: majority_flags(heads.flags, majority),
     };
     if GDR_SIZE + 4 * dims.len() as u64 <= heads.size {
-        change_gdr(alloc, area, heads.gdr, new, dims)
+        write_heads(alloc, area, heads.gdr, new.encoding, new.flags, dims)
     } else {
         move_gdr(alloc, area, heads.gdr, new, dims)
     }
-}
-
-fn refused(reason: Reason) -> Outcome
-    ensures { result ≡ Refused reason }
-{
-    Outcome::Refused { reason }
 }
 
 /// Sets the encoding, the majority, and the dimensions that the r variables share, where there is no attribute and no variable: the
@@ -269,17 +243,25 @@ pub fn set_up<A: Area>(
 {
     let sizes = dims.as_slice();
     if !is_encoding(encoding) {
-        return Ok(refused(Reason::NumberOutOfRange));
+        return Ok(Outcome::Refused {
+            reason: Reason::NumberOutOfRange,
+        });
     }
     if are_bad_sizes(sizes) {
-        return Ok(refused(Reason::BadShape));
+        return Ok(Outcome::Refused {
+            reason: Reason::BadShape,
+        });
     }
     let heads = read_heads(area)?;
     if heads.in_use {
-        return Ok(refused(Reason::InUse));
+        return Ok(Outcome::Refused {
+            reason: Reason::InUse,
+        });
     }
     if area.limit() < area.size() + (GDR_SIZE + 4 * sizes.len() as u64) {
-        return Ok(refused(Reason::TooLarge));
+        return Ok(Outcome::Refused {
+            reason: Reason::TooLarge,
+        });
     }
     carry_out(alloc, area, heads, encoding, majority, sizes)?;
     Ok(Outcome::Done {

@@ -1,26 +1,29 @@
 -- An image of a data set without attributes and variables: its CDR, its GDR, and unused records.
-use Rattle.std.proofs.Common.{◌≡◌, ◌≢◌, ◌⊎◌, ℕ, ◌+◌, ◌≤◌, List, [], ◌∷◌, ◌++◌, length, map, true, eq-eqb, refl, sym, ap, subst, ◌∙◌, arith, inl, inr}
+use Rattle.std.proofs.Common.{◌≡◌, ◌≢◌, ◌⊎◌, ℕ, suc, ◌+◌, ◌≤◌, List, [], ◌∷◌, ◌++◌, length, map, true, eq-eqb, refl, sym, ap, subst, ◌∙◌, arith, inl, inr}
 use Rattle.std.proofs.lemmas.Bool.{cases_eq, ne_eqb}
 use Rattle.std.specs.List.{flat_map}
-use Rattle.std.specs.Prelude.{◌==◌}
+use Rattle.std.specs.Prelude.{◌==◌, ◌&&◌}
+use Rattle.cdf_model.specs.VariableSteps.{is_empty_set}
 use Rattle.cdf_format.specs.ChainRules.{adrs_rows, r_vdrs_rows, z_vdrs_rows}
-use Rattle.cdf_format.specs.Chains.{is_in, IsChain}
-use Rattle.cdf_format.specs.Fields.{Holds, number, size_at, type_at, gdr_offset, r_num_dims}
+use Rattle.cdf_format.specs.Chains.{is_in}
+use Rattle.cdf_format.specs.Content.{content, content_of, attribute_of, variable_of}
+use Rattle.cdf_format.specs.Fields.{Holds, number, type_at, gdr_offset, r_num_dims}
 use Rattle.cdf_format.specs.NotRead.{read_types, unread_type}
 use Rattle.cdf_format.specs.Owners.{attribute_records, variable_records, times, owned_records, unused_records}
-use Rattle.cdf_format.specs.Records.{Field, gdr_r_vdr_head, gdr_z_vdr_head, gdr_adr_head, gdr_nr_vars, gdr_num_attr, gdr_nz_vars, gdr_uir_head, gdr_r_dim_sizes}
-use Rattle.cdf_format.specs.RecordTypes.{cdr_type, gdr_type, adr_type, r_vdr_type, z_vdr_type, uir_type, is_record_type, fixed_size}
+use Rattle.cdf_format.specs.Records.{Field, gdr_nr_vars, gdr_num_attr, gdr_nz_vars, gdr_r_dim_sizes}
+use Rattle.cdf_format.specs.RecordTypes.{cdr_type, gdr_type, uir_type}
 use Rattle.cdf_format.specs.Shape.{AttributeShape, VariableShape, Shape, adrs, vdrs, HasShape, shape}
 use Rattle.cdf_format.specs.Sound.{IsSound}
-use Rattle.cdf_format.specs.Tiles.{In, AreTiles}
+use Rattle.cdf_format.specs.Tiles.{In}
 use Rattle.cdf_format.specs.WellFormed.{Good}
-use Rattle.cdf_format.proofs.ChainsLemmas.{is_a-from, is_a-in, is_a-type}
+use Rattle.cdf_format.proofs.ChainsLemmas.{is_a-type}
 use Rattle.cdf_format.proofs.GoodByShape.{IsGoodByShape}
 use Rattle.cdf_format.proofs.GoodSound.{good_by_its_shape, good_is_sound}
 use Rattle.cdf_format.proofs.Members.{either, true-is_in, false-is_in}
 use Rattle.cdf_format.proofs.Owning.{times-none, filter-in}
 use Rattle.cdf_format.proofs.RowLemmas.{Hold-members, Hold-split}
-use Rattle.cdf_format.proofs.Tests.{eq_of}
+use Rattle.cdf_format.proofs.ShapeLemmas.{content_is}
+use Rattle.cdf_format.proofs.Tests.{both, eq_of}
 use Rattle.cdf_edits.proofs.Edits.OwnedOnce.{IsSorted, used_times, once_by_sorting, sorted_before, unused_none, unused_once}
 use Rattle.cdf_edits.proofs.Frame.OwnersApart.{file_records, all_attribute_records, all_variable_records, owned-times}
 use Rattle.cdf_edits.proofs.Space.UsedRecords.{apart}
@@ -28,27 +31,11 @@ use Rattle.cdf_edits.proofs.Space.UsedRecords.{apart}
 abbrev pub empty_shape : List ℕ → ℕ → List ℕ → Shape
 empty_shape records gdr list = record { records = records; gdr = gdr; attributes = []; r_variables = []; z_variables = []; unused = list }
 
--- the heads and the counts of its chains
-pub record NoChains (b : List ℕ) (gdr : ℕ) : Type 0 where
-  pub no_adr : number b gdr gdr_adr_head ≡ 0
-  pub no_r_vdr : number b gdr gdr_r_vdr_head ≡ 0
-  pub no_z_vdr : number b gdr gdr_z_vdr_head ≡ 0
+-- no counts of attributes and variables
+pub record NoCounts (b : List ℕ) (gdr : ℕ) : Type 0 where
   pub no_attributes : number b gdr gdr_num_attr ≡ 0
   pub no_r_variables : number b gdr gdr_nr_vars ≡ 0
   pub no_z_variables : number b gdr gdr_nz_vars ≡ 0
-
-pub record IsEmptySet (b records : List ℕ) (gdr : ℕ) (list : List ℕ) : Type 0 where
-  pub tiled : AreTiles b 8 (length b) records
-  pub typed : (m : ℕ) → In m records → is_record_type (type_at b m) ≡ true
-  pub fixed : (m : ℕ) → In m records → fixed_size (type_at b m) ≤ size_at b m
-  pub cdr_in : In 8 records
-  pub cdr_typed : type_at b 8 ≡ cdr_type
-  pub gdr_is : gdr_offset b ≡ gdr
-  pub gdr_in : In gdr records
-  pub gdr_typed : type_at b gdr ≡ gdr_type
-  pub gdr_fits : Holds b gdr (gdr_r_dim_sizes (r_num_dims b gdr))
-  pub none : NoChains b gdr
-  pub unused_chain : IsChain b records uir_type (number b gdr gdr_uir_head) list
 
 -- no other record is in use
 abbrev pub AreAlone : List ℕ → List ℕ → ℕ → Type 0
@@ -60,33 +47,20 @@ no_one n p q = omega arith
 with_none : (f a v : ℕ) (n : ℕ) → f ≡ n → a ≡ 0 → v ≡ 0 → f + (a + v) ≡ n
 with_none f a v n p q r = omega arith
 
-module _ {b records list : List ℕ} {gdr : ℕ} (e : IsEmptySet b records gdr list) where
+module _ {b records list : List ℕ} {gdr : ℕ} (h : HasShape b (empty_shape records gdr list)) where
   abbrev own : Shape
   own = empty_shape records gdr list
 
-  no_chain : (type link : ℕ) → link ≡ 0 → IsChain b records type link []
-  no_chain type link z = record { leads = z; linkable = λ m i. absurd i; once = tt }
+  cdr_typed : type_at b 8 ≡ cdr_type
+  cdr_typed = is_a-type b records cdr_type 8 h.cdr_stands
 
-  pub empty_has_shape : HasShape b own
-  empty_has_shape = record {
-    tiled = e.tiled;
-    typed = e.typed;
-    fixed = e.fixed;
-    cdr_stands = is_a-from b records cdr_type 8 e.cdr_in e.cdr_typed;
-    gdr_is = e.gdr_is;
-    gdr_stands = is_a-from b records gdr_type gdr e.gdr_in e.gdr_typed;
-    attribute_chain = no_chain adr_type _ e.none.no_adr;
-    r_chain = no_chain r_vdr_type _ e.none.no_r_vdr;
-    z_chain = no_chain z_vdr_type _ e.none.no_z_vdr;
-    unused_chain = e.unused_chain;
-    entry_chains = tt;
-    have_variables = tt;
-  }
+  gdr_typed : type_at b gdr ≡ gdr_type
+  gdr_typed = is_a-type b records gdr_type gdr h.gdr_stands
 
   -- ---- their owners
 
-  pub gdr_not_8 : gdr ≢ 8
-  gdr_not_8 q = apart gdr_type cdr_type refl (sym e.gdr_typed ∙ ap (type_at b) q ∙ e.cdr_typed)
+  gdr_not_8 : gdr ≢ 8
+  gdr_not_8 q = apart gdr_type cdr_type refl (sym gdr_typed ∙ ap (type_at b) q ∙ cdr_typed)
 
   file_once : (m : ℕ) → (m ≡ 8) ⊎ (m ≡ gdr) → times m (8 ∷ gdr ∷ []) ≡ 1
   file_once m (inl q) = rw (eq-eqb m 8 q, ne_eqb m gdr (λ r. gdr_not_8 (sym r ∙ q))) refl
@@ -99,10 +73,10 @@ module _ {b records list : List ℕ} {gdr : ℕ} (e : IsEmptySet b records gdr l
   counted_once m n q = with_none (times m (file_records own)) (times m (all_attribute_records own)) (times m (all_variable_records own)) n q refl refl
 
   used_8 : type_at b 8 ≢ uir_type
-  used_8 u = apart cdr_type uir_type refl (sym e.cdr_typed ∙ u)
+  used_8 u = apart cdr_type uir_type refl (sym cdr_typed ∙ u)
 
   used_gdr : type_at b gdr ≢ uir_type
-  used_gdr u = apart gdr_type uir_type refl (sym e.gdr_typed ∙ u)
+  used_gdr u = apart gdr_type uir_type refl (sym gdr_typed ∙ u)
 
   unused_apart : (m : ℕ) → type_at b m ≡ uir_type → (m ≢ 8) × (m ≢ gdr)
   unused_apart m u = ((λ q. used_8 (sym (ap (type_at b) q) ∙ u)), (λ q. used_gdr (sym (ap (type_at b) q) ∙ u)))
@@ -112,11 +86,11 @@ module _ {b records list : List ℕ} {gdr : ℕ} (e : IsEmptySet b records gdr l
     | inl u ↦
         let f = file_none m (unused_apart m u).0 (unused_apart m u).1 in
         elim (either (is_in m records)) [
-          | inl x ↦ first (times m (owned_records b own)) (times m (file_records own)) (times m (all_attribute_records own)) (times m (all_variable_records own)) (times m (unused_records b own)) (owned-times b own m) f refl refl (unused_once b own e.tiled m (true-is_in m records x) u)
+          | inl x ↦ first (times m (owned_records b own)) (times m (file_records own)) (times m (all_attribute_records own)) (times m (all_variable_records own)) (times m (unused_records b own)) (owned-times b own m) f refl refl (unused_once b own h.tiled m (true-is_in m records x) u)
           | inr x ↦ none_at_all m f (times-none m (unused_records b own) (λ j. false-is_in m records x (filter-in (λ (p : ℕ). type_at b p == uir_type) records m j)))
         ]
     | inr used ↦
-        let u = unused_none b own e.tiled m used in
+        let u = unused_none b own h.tiled m used in
         elim (cases_eq m 8) [
           | inl q ↦ second (times m (owned_records b own)) (times m (file_records own)) (times m (all_attribute_records own)) (times m (all_variable_records own)) (times m (unused_records b own)) (owned-times b own m) (file_once m (inl q)) refl refl u
           | inr p ↦ elim (cases_eq m gdr) [
@@ -140,17 +114,17 @@ module _ {b records list : List ℕ} {gdr : ℕ} (e : IsEmptySet b records gdr l
 
   -- a record in use that is another one has no owner
   pub other_unowned : (m : ℕ) → type_at b m ≢ uir_type → m ≢ 8 → m ≢ gdr → times m (owned_records b own) ≡ 0
-  other_unowned m used p q = nobody (times m (owned_records b own)) (times m (file_records own)) (times m (all_attribute_records own)) (times m (all_variable_records own)) (times m (unused_records b own)) (owned-times b own m) (file_none m p q) refl refl (unused_none b own e.tiled m used)
+  other_unowned m used p q = nobody (times m (owned_records b own)) (times m (file_records own)) (times m (all_attribute_records own)) (times m (all_variable_records own)) (times m (unused_records b own)) (owned-times b own m) (file_none m p q) refl refl (unused_none b own h.tiled m used)
     where
       nobody : (n f a v u : ℕ) → n ≡ f + (a + (v + u)) → f ≡ 0 → a ≡ 0 → v ≡ 0 → u ≡ 0 → n ≡ 0
       nobody n f a v u p q r s t = omega arith
 
-  pub empty_sound : IsSound b own
-  empty_sound = record { has_shape = empty_has_shape; gdr_fits = e.gdr_fits; attributes_fit = tt; variables_fit = tt; not_twice = not_twice }
+  pub empty_sound : Holds b gdr (gdr_r_dim_sizes (r_num_dims b gdr)) → IsSound b own
+  empty_sound fits = record { has_shape = h; gdr_fits = fits; attributes_fit = tt; variables_fit = tt; not_twice = not_twice }
 
   -- ---- it is good by its shape
 
-  module _ (alone : AreAlone b records gdr) where
+  module _ (none : NoCounts b gdr) (alone : AreAlone b records gdr) where
     sorted : (m : ℕ) → In m records → IsSorted b own m
     sorted m i = elim (cases_eq (type_at b m) uir_type) [
       | inl u ↦ inr (u, counted_once m 0 (file_none m (unused_apart m u).0 (unused_apart m u).1))
@@ -161,23 +135,23 @@ module _ {b records list : List ℕ} {gdr : ℕ} (e : IsEmptySet b records gdr l
     read m i = elim (cases_eq (type_at b m) uir_type) [
       | inl u ↦ ap (λ (t : ℕ). is_in t read_types) u
       | inr used ↦ elim (alone m i used) [
-        | inl q ↦ ap (λ (x : ℕ). is_in (type_at b x) read_types) q ∙ ap (λ (t : ℕ). is_in t read_types) e.cdr_typed
-        | inr q ↦ ap (λ (x : ℕ). is_in (type_at b x) read_types) q ∙ ap (λ (t : ℕ). is_in t read_types) e.gdr_typed
+        | inl q ↦ ap (λ (x : ℕ). is_in (type_at b x) read_types) q ∙ ap (λ (t : ℕ). is_in t read_types) cdr_typed
+        | inr q ↦ ap (λ (x : ℕ). is_in (type_at b x) read_types) q ∙ ap (λ (t : ℕ). is_in t read_types) gdr_typed
       ]
     ]
 
     no_count : (f : Field) → number b gdr f ≡ 0 → (number b (gdr_offset b) f == 0) ≡ true
-    no_count f z = eq-eqb _ _ (ap (λ (g : ℕ). number b g f) e.gdr_is ∙ z)
+    no_count f z = eq-eqb _ _ (ap (λ (g : ℕ). number b g f) h.gdr_is ∙ z)
 
     pub empty_good : IsGoodByShape b own
     empty_good = record {
-      has_shape = empty_has_shape;
+      has_shape = h;
       read_types = Hold-members (unread_type b) records (λ m i. (read m i, tt));
-      counting = (no_count gdr_num_attr e.none.no_attributes, (no_count gdr_nr_vars e.none.no_r_variables, (no_count gdr_nz_vars e.none.no_z_variables, tt)));
+      counting = (no_count gdr_num_attr none.no_attributes, (no_count gdr_nr_vars none.no_r_variables, (no_count gdr_nz_vars none.no_z_variables, tt)));
       attributes = tt;
       of_variables = tt;
       indexes = tt;
-      owned_once = λ m i. once_by_sorting b own e.tiled m i (sorted m i);
+      owned_once = λ m i. once_by_sorting b own h.tiled m i (sorted m i);
     }
 
 -- ---- a good image of a data set without attributes and variables is such a one
@@ -186,6 +160,18 @@ pub record HasNone (s : Shape) : Type 0 where
   pub attributes : s.attributes ≡ []
   pub r_variables : s.r_variables ≡ []
   pub z_variables : s.z_variables ≡ []
+
+none_mapped : {A B : Type 0} (f : A → B) (xs : List A) → (length (map f xs) == 0) ≡ true → xs ≡ []
+none_mapped f [] e = refl
+none_mapped f (x ∷ xs) e = absurd (let q : suc (length (map f xs)) ≡ 0 = eq_of _ _ e in omega arith)
+
+pub has_none : (b : List ℕ) → Good b → is_empty_set (content b) ≡ true → HasNone (shape b)
+has_none b good empty =
+    let s = shape b in
+    let here : is_empty_set (content_of b s) ≡ true = ap is_empty_set (sym (content_is b s (good_is_sound b good).has_shape)) ∙ empty in
+    let p = both ((length (map (attribute_of b) s.attributes) == 0) && (length (map (variable_of b) s.r_variables) == 0)) (length (map (variable_of b) s.z_variables) == 0) here in
+    let q = both (length (map (attribute_of b) s.attributes) == 0) (length (map (variable_of b) s.r_variables) == 0) p.0 in
+    record { attributes = none_mapped (attribute_of b) s.attributes q.0; r_variables = none_mapped (variable_of b) s.r_variables q.1; z_variables = none_mapped (variable_of b) s.z_variables p.1 }
 
 -- no record is one of an attribute or of a variable
 pub no_attribute : (s : Shape) → HasNone s → (m : ℕ) → In m (all_attribute_records s) → ⊥
@@ -225,42 +211,18 @@ module _ (b : List ℕ) (good : Good b) (has : HasNone (shape b)) where
       alone : (f a v : ℕ) → f + (a + v) ≡ 1 → a ≡ 0 → v ≡ 0 → f ≡ 1
       alone f a v p q r = omega arith
 
-  no_adrs : adrs s ≡ []
-  no_adrs = ap (map (λ (a : AttributeShape). a.adr)) has.attributes
+  pub is_empty : s ≡ empty_shape s.records s.gdr s.unused
+  is_empty = let as_ = has.attributes in let rs = has.r_variables in let zs = has.z_variables in λ i. record { records = s.records; gdr = s.gdr; attributes = as_ i; r_variables = rs i; z_variables = zs i; unused = s.unused }
 
-  no_vdrs : (vs : List VariableShape) → vs ≡ [] → vdrs vs ≡ []
-  no_vdrs vs q = ap vdrs q
+  count_at : (f : Field) (n : ℕ) → n ≡ 0 → (number b (gdr_offset b) f == n) ≡ true → number b s.gdr f ≡ 0
+  count_at f n q e = sym (ap (λ (g : ℕ). number b g f) h.gdr_is) ∙ eq_of _ _ e ∙ q
 
-  none_in : (type link : ℕ) (ms : List ℕ) → ms ≡ [] → IsChain b s.records type link ms → link ≡ 0
-  none_in type link ms q c = (subst (IsChain b s.records type link) q c).leads
-
-  count_at : (f : Field) (ms : List ℕ) → ms ≡ [] → (number b (gdr_offset b) f == length ms) ≡ true → number b s.gdr f ≡ 0
-  count_at f ms q e = sym (ap (λ (g : ℕ). number b g f) h.gdr_is) ∙ eq_of _ _ e ∙ ap length q
-
-  no_chains : NoChains b s.gdr
-  no_chains =
+  pub no_counts : NoCounts b s.gdr
+  no_counts =
       let p = Hold-split (adrs_rows b (adrs s) ++ r_vdrs_rows b (vdrs s.r_variables)) (z_vdrs_rows b (vdrs s.z_variables)) image.counting in
       let q = Hold-split (adrs_rows b (adrs s)) (r_vdrs_rows b (vdrs s.r_variables)) p.0 in
       record {
-        no_adr = none_in adr_type _ (adrs s) no_adrs h.attribute_chain;
-        no_r_vdr = none_in r_vdr_type _ (vdrs s.r_variables) (no_vdrs s.r_variables has.r_variables) h.r_chain;
-        no_z_vdr = none_in z_vdr_type _ (vdrs s.z_variables) (no_vdrs s.z_variables has.z_variables) h.z_chain;
-        no_attributes = count_at gdr_num_attr (adrs s) no_adrs q.0.0;
-        no_r_variables = count_at gdr_nr_vars (vdrs s.r_variables) (no_vdrs s.r_variables has.r_variables) q.1.0;
-        no_z_variables = count_at gdr_nz_vars (vdrs s.z_variables) (no_vdrs s.z_variables has.z_variables) p.1.0;
+        no_attributes = count_at gdr_num_attr _ (ap (λ (as_ : List AttributeShape). length (map (λ (a : AttributeShape). a.adr) as_)) has.attributes) q.0.0;
+        no_r_variables = count_at gdr_nr_vars _ (ap (λ (vs : List VariableShape). length (vdrs vs)) has.r_variables) q.1.0;
+        no_z_variables = count_at gdr_nz_vars _ (ap (λ (vs : List VariableShape). length (vdrs vs)) has.z_variables) p.1.0;
       }
-
-  pub good_is_empty : IsEmptySet b s.records s.gdr s.unused
-  good_is_empty = record {
-    tiled = h.tiled;
-    typed = h.typed;
-    fixed = h.fixed;
-    cdr_in = is_a-in b s.records cdr_type 8 h.cdr_stands;
-    cdr_typed = is_a-type b s.records cdr_type 8 h.cdr_stands;
-    gdr_is = h.gdr_is;
-    gdr_in = is_a-in b s.records gdr_type s.gdr h.gdr_stands;
-    gdr_typed = is_a-type b s.records gdr_type s.gdr h.gdr_stands;
-    gdr_fits = sound.gdr_fits;
-    none = no_chains;
-    unused_chain = h.unused_chain;
-  }

@@ -105,7 +105,7 @@ module _ {b taken filled : List ℕ} {s : Shape} {records list : List ℕ} {need
   first : Edit b taken s.records records (taking_marks s.unused place need) []
   first = takes_edit sound some fills.takes
 
-  second : Edit taken filled records records (whole uir_type place need ∷ []) (place ∷ [])
+  pub second : Edit taken filled records records (whole uir_type place need ∷ []) (place ∷ [])
   second =
       let size = fills.takes.size_is in
       subst (λ (n : ℕ). Edit taken filled records records (whole uir_type place n ∷ []) (place ∷ [])) size

@@ -1,30 +1,29 @@
-use Rattle.std.proofs.Common.{◌≡◌, ℕ, ◌+◌, ◌*◌, ◌<◌, ◌≤◌, length, ap, subst, ◌∙◌, arith}
+use Rattle.std.proofs.Common.{ℕ, ap, ◌∙◌, arith}
 use Rattle.std.proofs.lemmas.Result.{on_ok_weaker}
-use Rattle.cdf_format.specs.Fields.{flags}
-use Rattle.cdf_vars.specs.Setup.{KeepsGdr, MovesGdr}
-use Rattle.cdf_vars.proofs.SetUpHead.{majority_flags}
-use Rattle.cdf_vars.proofs.SetUpKept.{keeps_follows}
-use Rattle.cdf_vars.proofs.SetUpMoved.{moves_follows}
+use Rattle.cdf_format.proofs.GoodHead.{cdr_fits}
+use Rattle.cdf_vars.specs.Setup.{MovesGdr, WritesHeads}
+use Rattle.cdf_vars.proofs.SetUpAnswers.{fits_gdr}
+use Rattle.cdf_vars.proofs.SetUpFollows.{majority_flags, keeps_follows, moves_follows}
 use Rattle.cdf_vars.proofs.setup.carry_out.Goals as goal
+
+pub write_heads-requires-clause-cdr : goal.write_heads-requires-clause-cdr
+write_heads-requires-clause-cdr g c = omega (arith, cdr_fits (g.A.Area.image c.args.area.now) c.requires.good)
+
+pub write_heads-requires-clause-room : goal.write_heads-requires-clause-room
+write_heads-requires-clause-room g c = fits_gdr _ _ _ c.requires.good c.requires.gdr (omega (arith, c.requires.size, c.if-dims-heads.true))
 
 pub returns-then-dims-heads-clause-follows : goal.returns-then-dims-heads-clause-follows
 returns-then-dims-heads-clause-follows g c =
-    let b = g.A.Area.image c.args.area.now in
-    let now = g.A.Area.image c.change_gdr.new.area in
-    let dims = c.args.dims.now in
-    let bits : c.majority_flags.result ≡ majority_flags (flags b) c.args.majority = c.majority_flags.ensures ∙ ap (λ (n : ℕ). majority_flags n c.args.majority) c.requires.flags in
-    let fits = subst (λ (k : ℕ). 84 + 4 * length dims ≤ k) c.requires.size c.if-dims-heads.true in
-    on_ok_weaker _
-    (λ kept. keeps_follows b now c.args.encoding c.args.majority dims c.requires.good c.requires.empty c.requires.fine c.requires.encoding fits (subst (λ (n : ℕ). KeepsGdr b now c.args.encoding n dims) bits kept) (omega (arith, c.requires.room, c.requires.limit)))
-    c.change_gdr.ensures.kept
+    let r = c.requires in
+    let bits = c.majority_flags.ensures ∙ ap (λ (n : ℕ). majority_flags n c.args.majority) r.flags in
+    on_ok_weaker _ (λ (w : WritesHeads (g.A.Area.image c.args.area.now) (g.A.Area.image c.write_heads.new.area) c.args.heads.gdr c.args.encoding c.majority_flags.result c.args.dims.now).
+    keeps_follows _ _ r.good r.empty r.fine _ r.encoding bits r.gdr (omega (arith, r.size)) w (omega (arith, r.room, r.limit)))
+    c.write_heads.ensures.written
 
 pub returns-else-dims-heads-clause-follows : goal.returns-else-dims-heads-clause-follows
 returns-else-dims-heads-clause-follows g c =
-    let b = g.A.Area.image c.args.area.now in
-    let now = g.A.Area.image c.move_gdr.new.area in
-    let dims = c.args.dims.now in
-    let bits : c.majority_flags.result ≡ majority_flags (flags b) c.args.majority = c.majority_flags.ensures ∙ ap (λ (n : ℕ). majority_flags n c.args.majority) c.requires.flags in
-    let large = subst (λ (k : ℕ). k < 84 + 4 * length dims) c.requires.size c.if-dims-heads.false in
-    on_ok_weaker _
-    (λ moved. moves_follows b now c.args.encoding c.args.majority dims c.requires.good c.requires.empty c.requires.fine c.requires.encoding large (subst (λ (n : ℕ). MovesGdr b now c.args.encoding n dims) bits moved) (omega (arith, c.requires.room, c.requires.limit)))
+    let r = c.requires in
+    let bits = c.majority_flags.ensures ∙ ap (λ (n : ℕ). majority_flags n c.args.majority) r.flags in
+    on_ok_weaker _ (λ (moves : MovesGdr (g.A.Area.image c.args.area.now) (g.A.Area.image c.move_gdr.new.area) c.args.encoding c.majority_flags.result c.args.dims.now).
+    moves_follows _ _ r.good r.empty r.fine moves.made _ _ r.encoding bits (omega (arith, r.size)) moves.given (omega (arith, r.room, r.limit)))
     c.move_gdr.ensures.moved

@@ -1,7 +1,7 @@
-use Rattle.std.proofs.Common.{length, not, ap, ◌∙◌, arith}
+use Rattle.std.proofs.Common.{length, sym, ap, ◌∙◌, arith}
 use Rattle.cdf_format.proofs.GoodHead.{cdr_fits, gdr_fits}
 use Rattle.cdf_records.specs.declared.cdr.Cdr.{Cdr}
-use Rattle.cdf_vars.proofs.SetUpCalls.{size_read, counts_read}
+use Rattle.cdf_vars.proofs.SetUpAnswers.{size_read, counts_read}
 use Rattle.cdf_vars.proofs.setup.read_heads.Goals as goal
 
 pub read_cdr-requires : goal.read_cdr-requires
@@ -14,12 +14,10 @@ pub returns-clause-gdr : goal.returns-clause-gdr
 returns-clause-gdr g c = ap (λ (r : Cdr). r.gdr_offset) c.in_ok-cdr.ensures.value
 
 pub returns-clause-size : goal.returns-clause-size
-returns-clause-size g c = size_read (g.A.Area.image c.args.area.now) (g.A.Area.image c.read_cdr.new.area) c.in_ok-cdr.cdr c.in_ok-gdr.gdr c.requires c.in_ok-cdr.ensures.area.image c.in_ok-cdr.ensures.value c.in_ok-gdr.ensures.value c.in_ok-gdr.ensures.bytes
+returns-clause-size g c = size_read c.requires c.in_ok-cdr.ensures.area.image c.in_ok-cdr.ensures.value c.in_ok-gdr.ensures.value
 
 pub returns-clause-flags : goal.returns-clause-flags
 returns-clause-flags g c = ap (λ (r : Cdr). r.flags) c.in_ok-cdr.ensures.value
 
 pub returns-clause-in_use : goal.returns-clause-in_use
-returns-clause-in_use g c =
-    c.is_in_use.ensures
-    ∙ ap not (counts_read (g.A.Area.image c.args.area.now) (g.A.Area.image c.read_cdr.new.area) c.in_ok-cdr.cdr c.in_ok-gdr.gdr c.requires c.in_ok-cdr.ensures.area.image c.in_ok-cdr.ensures.value c.in_ok-gdr.ensures.value c.in_ok-gdr.ensures.bytes)
+returns-clause-in_use g c = sym (counts_read c.requires c.in_ok-cdr.ensures.area.image c.in_ok-cdr.ensures.value c.in_ok-gdr.ensures.value c.in_ok-gdr.ensures.bytes) ∙ c.is_in_use.ensures

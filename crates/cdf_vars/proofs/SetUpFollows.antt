@@ -1,0 +1,798 @@
+-- `setup` follows its command: the dimensions of a GDR and the CDR are written, what the image has by then, whatever became of the GDR, and the two ways, in its place and moved.
+use Rattle.std.proofs.Common.{◌≡◌, ◌≢◌, ◌⊎◌, ℕ, ◌+◌, ◌-◌, ◌*◌, ◌/◌, ◌%◌, ◌<◌, ◌≤◌, List, [], ◌∷◌, ◌++◌, length, map, sum, drop, Bool, true, false, not, ◌||◌, refl, sym, ap, subst, ◌∙◌, arith, inl, inr, ◌^◌}
+use Rattle.std.proofs.lemmas.Bool.{le-leb, lt-leb, leb-true}
+use Rattle.std.proofs.lemmas.List.{length-take, length-drop}
+use Rattle.std.specs.Int.{w32, cast_signed}
+use Rattle.std.specs.List.{list_all}
+use Rattle.std.specs.Prelude.{◌==◌, ◌&&◌, is_some, nat_le, if◌then◌else◌, ◌||◌}
+use Rattle.cdf_base.specs.Bytes.{put}
+use Rattle.cdf_model.specs.declared.answer.Reply.TheVariants as replies
+use Rattle.cdf_model.specs.declared.command.Command.TheVariants as commands
+use Rattle.cdf_model.specs.declared.head.Majority.{Majority}
+use Rattle.cdf_model.specs.declared.head.Majority.TheVariants.{Row, Column}
+use Rattle.cdf_model.specs.DataSet.{DataSet}
+use Rattle.cdf_model.specs.Encodings.{encoding_at}
+use Rattle.cdf_model.specs.Limits.{image_limit}
+use Rattle.cdf_model.specs.VariableSteps.{are_bad_sizes, is_empty_set}
+use Rattle.cdf_edits.specs.Commands.Allowances.{AllKeep, FreedStays, GivenStay, Stays, space_fields}
+use Rattle.cdf_edits.specs.Commands.NewRecords.{with_bits}
+use Rattle.cdf_edits.specs.Commands.Setup.{SetsUp, majority_bit, setup_changes}
+use Rattle.cdf_edits.specs.Edits.Edit.{Edit}
+use Rattle.cdf_edits.specs.Edits.Marks.{Avoids, Mark, Within, avoided, within, giving_marks, is_late, making_marks, Among, mark, field_marks}
+use Rattle.cdf_edits.specs.Follows.{Follows}
+use Rattle.cdf_edits.specs.Frame.Changed.{Changed, touched_field}
+use Rattle.cdf_edits.specs.Space.Acts.{Act, Took, Gave, ActsFollow, links_end, taken as taken_of}
+use Rattle.cdf_edits.specs.Space.Giving.{IsGiven}
+use Rattle.cdf_edits.specs.Space.Placement.{Gives, Takes, unused, with_space}
+use Rattle.cdf_edits.specs.Space.Placing.{Fills}
+use Rattle.cdf_edits.proofs.Commands.KeptRecords.{keep_attributes}
+use Rattle.cdf_edits.proofs.Edits.ActsThen.{acts_gave, each_in}
+use Rattle.cdf_edits.proofs.Edits.Composing.{edit_then, head_type, changed_edit}
+use Rattle.cdf_edits.proofs.Edits.EditActs.{acts_none, acts_took}
+use Rattle.cdf_edits.proofs.Edits.EmptySet.{HasNone, has_none, NoCounts, AreAlone, empty_shape, empty_sound, empty_good, other_unowned, no_attribute, no_variable, is_empty, no_counts, good_is_alone}
+use Rattle.cdf_edits.proofs.Edits.FieldWritten.{Stands, field_in, still_stands, still_says, written_edit, written_long, written_reads}
+use Rattle.cdf_edits.proofs.Edits.FreedBytes.{behind_one, freed_stay}
+use Rattle.cdf_edits.proofs.Edits.FreedRecords.{sizes_by_tiles}
+use Rattle.cdf_edits.proofs.Edits.MadeRecord.{end_now, filled_edit, filled_size, filled_sound, fresh, list_chain, listed_before, listed_marks, loose_away, made_edit, place_in, second, shorter}
+use Rattle.cdf_edits.proofs.Edits.MarkLemmas.{Avoids-append, Away-append, Within-append, avoided-avoids, the_one, unmarked-away, within-within}
+use Rattle.cdf_edits.proofs.Edits.OwnersKept.{all_keep, keep_file, keep_unused, keeps_fields, keeps_within}
+use Rattle.cdf_edits.proofs.Edits.RecordFrame.{field_clear, kept, part_clear, chain_clear}
+use Rattle.cdf_edits.proofs.Edits.RecordPlaced.{placing_marks}
+use Rattle.cdf_edits.proofs.Edits.StepEdits.{fixed_long, gdr_in, gdr_long, gdr_typed, gives_edit, some_bytes}
+use Rattle.cdf_edits.proofs.Frame.ChangedBytes.{changed_put}
+use Rattle.cdf_edits.proofs.Rules.FirstHead.{FirstSays, cdr_said, first_hold}
+use Rattle.cdf_edits.proofs.Space.ActsLeave.{each, places-sized}
+use Rattle.cdf_edits.proofs.Space.UsedRecords.{apart}
+use Rattle.cdf_edits.proofs.Space.LaidOut.{length-words, words_laid_out}
+use Rattle.cdf_space.proofs.Filling.{word-put_inside}
+use Rattle.cdf_format.specs.Bytes.{Same, byte}
+use Rattle.cdf_format.specs.Chains.{IsChain, Leads, next_of}
+use Rattle.cdf_format.specs.Content.{content, content_of, majority_of}
+use Rattle.cdf_format.specs.Fields.{Holds, counted, has_bit, is_positive, number, word, words, size_at, type_at, eof, flags, gdr_offset, r_num_dims, encoding, r_sizes, with_field}
+use Rattle.cdf_format.specs.Owners.{Unused, owned_by, owned_records, times, unused_records}
+use Rattle.cdf_format.specs.Records.{Field, cdr_encoding, cdr_flags, cdr_gdr_offset, gdr_eof, gdr_leap_second_last_updated, gdr_num_attr, gdr_nr_vars, gdr_nz_vars, gdr_r_dim_sizes, gdr_r_max_rec, gdr_r_num_dims, gdr_rfu_c, gdr_rfu_e, gdr_uir_head, record_type, uir_next_uir, uir_prev_uir, gdr_adr_head, gdr_r_vdr_head, gdr_z_vdr_head}
+use Rattle.cdf_format.specs.RecordTypes.{cdr_type, gdr_type, uir_type, fixed_size, is_record_type}
+use Rattle.cdf_format.specs.Shape.{Shape, HasShape, shape}
+use Rattle.cdf_format.specs.Sound.{IsSound}
+use Rattle.cdf_format.specs.Tiles.{In, AreTiles}
+use Rattle.cdf_format.specs.WellFormed.{Good}
+use Rattle.cdf_format.specs.NewFile.{of_4_bytes}
+use Rattle.cdf_format.proofs.BytesLemmas.{length-put, number_kept, word_kept, words_kept}
+use Rattle.cdf_format.proofs.ChainsLemmas.{is_a-in, is_a-type, is_a-from}
+use Rattle.cdf_format.proofs.GoodSound.{good_by_its_shape, good_eof, good_is_sound, rules_of_good}
+use Rattle.cdf_format.proofs.Pieces.{word-piece}
+use Rattle.cdf_format.proofs.SealedRules.{good_long, sealed_keeps, sealed_kept}
+use Rattle.cdf_format.proofs.ShapeLemmas.{content_is, shape_is}
+use Rattle.cdf_format.proofs.Tests.{both}
+use Rattle.cdf_format.proofs.TilesLemmas.{tile_lies}
+use Rattle.cdf_vars.specs.Setup.{MakesGdr, WritesHeads, gdr_fields}
+use Rattle.cdf_var_records.proofs.DimsRead.{small_signed}
+use Rattle.cdf_vars.proofs.SetUpAnswers.{few_dims, positive_dims, small_dims, step_goes, taken_lies}
+use Rattle.cdf_fields.proofs.Writes.{drop-put_there}
+
+-- ---- the edit
+
+abbrev pub heads_marks : ℕ → ℕ → List Mark
+heads_marks gdr n =
+    mark gdr_type (Among (gdr ∷ [])) gdr_r_num_dims
+    ∷ mark gdr_type (Among (gdr ∷ [])) (gdr_r_dim_sizes n)
+    ∷ mark cdr_type (Among (8 ∷ [])) cdr_gdr_offset
+    ∷ mark cdr_type (Among (8 ∷ [])) cdr_encoding
+    ∷ mark cdr_type (Among (8 ∷ [])) cdr_flags
+    ∷ []
+
+pub or_true : (p : Bool) → (p || true) ≡ true
+or_true true = refl
+or_true false = refl
+
+-- bytes of the fixed part of a GDR, but for rNumDims
+abbrev pub is_beside : ℕ → ℕ → Bool
+is_beside lo hi = (nat_le 60 lo || nat_le hi 56) && nat_le hi 84
+
+pub heads_avoided : (gdr n lo hi : ℕ) → is_beside lo hi ≡ true → avoided (heads_marks gdr n) gdr_type lo hi ≡ true
+heads_avoided gdr n lo hi e = let p = both (nat_le 60 lo || nat_le hi 56) (nat_le hi 84) e in rw (p.0, p.1, or_true) refl
+
+-- what the CDR and the GDR at a place say then
+pub record HeadsSay (now : List ℕ) (gdr code bits : ℕ) (dims : List ℕ) : Type 0 where
+  pub encoding_is : encoding now ≡ code
+  pub flags_are : flags now ≡ bits
+  pub count_is : number now gdr gdr_r_num_dims ≡ length dims
+  pub sizes_are : r_sizes now gdr ≡ dims
+
+-- a number was written in a field of a record
+record Wrote (b now records : List ℕ) (m type n : ℕ) (f : Field) (to : ℕ) : Type 0 where
+  edit : Edit b now records records (field_marks type m f) []
+  long : length now ≡ length b
+  stands : Stands now records m type n
+  says : number now m f ≡ to
+
+wrote : {b now records : List ℕ} {m type n : ℕ} {f : Field} {to : ℕ} → AreTiles b 8 (length b) records → Stands b records m type n → now ≡ with_field b m f to → 12 ≤ f.place → f.place + f.width ≤ n → to < 256 ^ f.width → avoided (field_marks type m f) type 0 12 ≡ true → Wrote b now records m type n f to
+wrote {b = b} {now = now} {records = records} {m = m} {type = type} {f = f} {to = to} tiled is written late fits small heads =
+    let at = field_in tiled is late fits in
+    let e = written_edit b now records m type f to at written in
+    record { edit = e; long = written_long b now records m type f to at written; stands = still_stands e is heads (omega arith); says = written_reads b now records m type f to at written small }
+
+module _ {x y records list : List ℕ} {old g code bits : ℕ} {dims : List ℕ} (h : HasShape x (empty_shape records old list)) (fine : are_bad_sizes dims ≡ false) (is : Stands x records g gdr_type (84 + 4 * length dims)) (w : WritesHeads x y g code bits dims) where
+  abbrev n : ℕ
+  n = length dims
+
+  abbrev bytes : List ℕ
+  bytes = of_4_bytes dims
+
+  abbrev one : List ℕ
+  one = with_field x g gdr_r_num_dims n
+
+  cdr : Stands x records 8 cdr_type 312
+  cdr = let i = is_a-in x records cdr_type 8 h.cdr_stands in let t = is_a-type x records cdr_type 8 h.cdr_stands in record { inside = i; typed = t; long = fixed_long x (empty_shape records old list) h cdr_type 8 i t }
+
+  w1 : Wrote x one records g gdr_type (84 + 4 * n) gdr_r_num_dims n
+  w1 = let few = few_dims dims fine in wrote h.tiled is refl (omega arith) (omega arith) (omega arith) refl
+
+  lies : g + 84 + 4 * n ≤ length one
+  lies = reach g (size_at one g) (length one) n (tile_lies one 8 (length one) records g w1.edit.tiled_now w1.stands.inside).high w1.stands.long
+    where
+      reach : (g k l n : ℕ) → g + k ≤ l → 84 + 4 * n ≤ k → g + 84 + 4 * n ≤ l
+      reach g k l n p q = omega arith
+
+  long_2 : length w.mid ≡ length one
+  long_2 = ap length w.dims_are ∙ length-put one (g + 84) bytes (let l = lies in let b = length-words dims in omega arith)
+
+  e2 : Edit one w.mid records records (field_marks gdr_type g (gdr_r_dim_sizes n)) []
+  e2 =
+      let some = some_bytes x (empty_shape records old list) h in
+      let l = w1.long in
+      changed_edit one w.mid records (touched_field g (gdr_r_dim_sizes n) ∷ []) (field_marks gdr_type g (gdr_r_dim_sizes n)) [] w1.edit.tiled_now long_2
+      (subst (λ (m : List ℕ). Changed one m (touched_field g (gdr_r_dim_sizes n) ∷ [])) (sym w.dims_are) (changed_put one g 84 (4 * n) bytes (length-words dims) lies))
+      (record { inside = is.inside; fits = w1.stands.long; behind_size = omega arith; behind_type = inl (omega arith); covered = inl (record { typed = w1.stands.typed; lies = inl refl; low = omega arith; high = omega arith }) }, tt) (omega arith)
+
+  dims_edit : Edit x w.mid records records (field_marks gdr_type g gdr_r_num_dims ++ field_marks gdr_type g (gdr_r_dim_sizes n)) []
+  dims_edit = edit_then w1.edit e2
+
+  gdr_2 : Stands w.mid records g gdr_type (84 + 4 * n)
+  gdr_2 = still_stands e2 w1.stands (rw or_true refl) (omega arith)
+
+  w3 : Wrote w.mid (with_field w.mid 8 cdr_gdr_offset g) records 8 cdr_type 312 cdr_gdr_offset g
+  w3 = wrote dims_edit.tiled_now (still_stands dims_edit cdr refl (omega arith)) refl (omega arith) (omega arith) w.gdr_fits refl
+
+  w4 : Wrote (with_field w.mid 8 cdr_gdr_offset g) (with_field (with_field w.mid 8 cdr_gdr_offset g) 8 cdr_encoding code) records 8 cdr_type 312 cdr_encoding code
+  w4 = wrote w3.edit.tiled_now w3.stands refl (omega arith) (omega arith) w.code_fits refl
+
+  w5 : Wrote (with_field (with_field w.mid 8 cdr_gdr_offset g) 8 cdr_encoding code) y records 8 cdr_type 312 cdr_flags bits
+  w5 = wrote w4.edit.tiled_now w4.stands w.cdr_is (omega arith) (omega arith) w.bits_fit refl
+
+  cdr_edit : Edit w.mid y records records (field_marks cdr_type 8 cdr_gdr_offset ++ (field_marks cdr_type 8 cdr_encoding ++ field_marks cdr_type 8 cdr_flags)) []
+  cdr_edit = edit_then w3.edit (edit_then w4.edit w5.edit)
+
+  pub heads_edit : Edit x y records records (heads_marks g n) []
+  heads_edit = edit_then dims_edit cdr_edit
+
+  pub heads_long : length y ≡ length x
+  heads_long = w5.long ∙ w4.long ∙ w3.long ∙ long_2 ∙ w1.long
+
+  -- ---- what they say then
+
+  count_is : number y g gdr_r_num_dims ≡ n
+  count_is = still_says cdr_edit gdr_2 refl gdr_r_num_dims refl (omega arith) ∙ still_says e2 w1.stands (rw or_true refl) gdr_r_num_dims (rw or_true refl) (omega arith) ∙ w1.says
+
+  dims_counted : r_num_dims y g ≡ n
+  dims_counted = let few = few_dims dims fine in ap (λ (k : ℕ). counted (cast_signed w32 k)) count_is ∙ small_signed n (omega arith)
+
+  sizes_are : words y (g + 84) n ≡ dims
+  sizes_are =
+      words_kept w.mid y (g + 84) (g + (84 + 4 * n)) (part_clear cdr_edit g gdr_type 84 (84 + 4 * n) gdr_2.inside gdr_2.typed refl refl gdr_2.long) (g + 84) n (omega arith) (up g n)
+      ∙ (words_laid_out w.mid (g + 84) dims (drop (g + 84 + length bytes) one) (ap (drop (g + 84)) w.dims_are ∙ drop-put_there one bytes (g + 84) (let l = lies in omega arith)) (small_dims dims fine)).0
+    where
+      up : (g n : ℕ) → g + 84 + 4 * n ≤ g + (84 + 4 * n)
+      up g n = omega arith
+
+  pub heads_say : HeadsSay y g code bits dims
+  heads_say = record {
+    encoding_is = still_says w5.edit w4.stands refl cdr_encoding refl (omega arith) ∙ w4.says;
+    flags_are = w5.says;
+    count_is = count_is;
+    sizes_are = ap (words y (g + 84)) dims_counted ∙ sizes_are;
+  }
+
+  -- another field of the GDR
+  pub gdr_still : (f : Field) → is_beside f.place (f.place + f.width) ≡ true → number y g f ≡ number x g f
+  gdr_still f beside =
+      let high = leb-true (f.place + f.width) 84 (both (nat_le 60 f.place || nat_le (f.place + f.width) 56) (nat_le (f.place + f.width) 84) beside).1 in
+      still_says heads_edit is (heads_avoided g n 0 12 refl) f (heads_avoided g n f.place (f.place + f.width) beside) (omega arith)
+
+  -- ---- the shape
+
+  types : (m : ℕ) → In m records → type_at y m ≡ type_at x m
+  types m i = elim (heads_edit.kind m i) [ inl kept ↦ kept.1 | inr new ↦ elim new [ inl free ↦ absurd (free.0 i) | inr none ↦ absurd none ] ]
+
+  pub heads_sizes : (m : ℕ) → In m records → size_at y m ≡ size_at x m
+  heads_sizes = sizes_by_tiles x y 8 8 (length x) records refl h.tiled (subst (λ (k : ℕ). AreTiles y 8 k records) heads_long heads_edit.tiled_now)
+
+  pub heads_fit : Holds y g (gdr_r_dim_sizes (r_num_dims y g))
+  heads_fit = subst (λ (k : ℕ). 84 + 4 * k ≤ size_at y g) (sym dims_counted) (subst (λ (k : ℕ). 84 + 4 * n ≤ k) (sym (heads_sizes g is.inside)) is.long)
+
+  no_chain : (type link : ℕ) → link ≡ 0 → IsChain y records type link []
+  no_chain type link z = record { leads = z; linkable = λ m i. absurd i; once = tt }
+
+  -- where the GDR has what the old one had
+  pub heads_shape : ((f : Field) → 12 ≤ f.place → f.place + f.width ≤ 84 → number x g f ≡ number x old f) → HasShape y (empty_shape records g list)
+  heads_shape same = record {
+    tiled = heads_edit.tiled_now;
+    typed = λ m i. subst (λ (t : ℕ). is_record_type t ≡ true) (sym (types m i)) (h.typed m i);
+    fixed = λ m i. subst (λ (t : ℕ). fixed_size t ≤ size_at y m) (sym (types m i)) (subst (λ (k : ℕ). fixed_size (type_at x m) ≤ k) (sym (heads_sizes m i)) (h.fixed m i));
+    cdr_stands = is_a-from y records cdr_type 8 cdr.inside (types 8 cdr.inside ∙ cdr.typed);
+    gdr_is = still_says (edit_then w4.edit w5.edit) w3.stands refl cdr_gdr_offset refl (omega arith) ∙ w3.says;
+    gdr_stands = is_a-from y records gdr_type g is.inside (types g is.inside ∙ is.typed);
+    attribute_chain = no_chain _ _ (gdr_still gdr_adr_head refl ∙ same gdr_adr_head (omega arith) (omega arith) ∙ h.attribute_chain.leads);
+    r_chain = no_chain _ _ (gdr_still gdr_r_vdr_head refl ∙ same gdr_r_vdr_head (omega arith) (omega arith) ∙ h.r_chain.leads);
+    z_chain = no_chain _ _ (gdr_still gdr_z_vdr_head refl ∙ same gdr_z_vdr_head (omega arith) (omega arith) ∙ h.z_chain.leads);
+    unused_chain = chain_clear heads_edit uir_type _ _ list h.unused_chain (gdr_still gdr_uir_head refl ∙ same gdr_uir_head (omega arith) (omega arith)) refl;
+    entry_chains = tt;
+    have_variables = tt;
+  }
+
+-- ---- bit 0 of Flags
+
+abbrev pub majority_flags : ℕ → Majority → ℕ
+majority_flags n majority = with_bits n 0 1 (majority_bit majority)
+
+bit_0 : (n : ℕ) (m : Majority) → majority_of (has_bit (majority_flags n m) 0) ≡ m
+bit_0 n Row = let same : (n % 1 + 1 * 1 + 2 * (n / 2)) / 1 % 2 ≡ 1 = omega arith in ap (λ (k : ℕ). majority_of (k == 1)) same
+bit_0 n Column = let same : (n % 1 + 1 * 0 + 2 * (n / 2)) / 1 % 2 ≡ 0 = omega arith in ap (λ (k : ℕ). majority_of (k == 1)) same
+
+half : (n : ℕ) (m : Majority) → majority_flags n m / 2 ≡ n / 2
+half n Row = omega arith
+half n Column = omega arith
+
+-- ---- what `setup` leaves, whatever became of the GDR
+
+-- The CDR and the GDR say what they have to, no other record is in use, and the unused ones and the space are as these acts leave them.
+record IsSetUp (b now records list : List ℕ) (gdr code bits : ℕ) (majority : Majority) (dims : List ℕ) (marks : List Mark) (reborn : List ℕ) (acts : List Act) : Type 0 where
+  edit : Edit b now (shape b).records records marks reborn
+  cdr_start : avoided marks cdr_type 0 12 ≡ true
+  cdr_release : avoided marks cdr_type 20 28 ≡ true
+  cdr_increment : avoided marks cdr_type 44 48 ≡ true
+  cdr_within : within marks cdr_type (cdr_encoding ∷ cdr_flags ∷ cdr_gdr_offset ∷ []) ≡ true
+  has_shape : HasShape now (empty_shape records gdr list)
+  records_are : (shape now).records ≡ records
+  says : HeadsSay now gdr code bits dims
+  fits : Holds now gdr (gdr_r_dim_sizes (r_num_dims now gdr))
+  none : NoCounts now gdr
+  end : eof now gdr ≡ length now
+  longest : length now ≤ length b + (84 + 4 * length dims)
+  alone : (m : ℕ) → type_at now m ≢ uir_type → (m ≡ (shape b).gdr) ⊎ In m reborn → m ≡ gdr
+  takes_within : sum (map (λ take. take.1) (taken_of acts)) ≤ 84 + 4 * length dims
+  acts_follow : ActsFollow b now acts
+  unused_stay : AllKeep b now setup_changes acts (owned_by Unused (unused_records b (shape b)))
+  does : SetsUp b now majority dims acts
+
+-- links that lead through the same list are the same
+same_link : (b now : List ℕ) (x y : ℕ) (ms : List ℕ) → Leads b x ms 0 → Leads now y ms 0 → x ≡ y
+same_link b now x y [] p q = p ∙ sym q
+same_link b now x y (k ∷ ms) p q = p.0 ∙ sym q.0
+
+module _ (b dims : List ℕ) (good : Good b) (empty : is_empty_set (content b) ≡ true) (fine : are_bad_sizes dims ≡ false) where
+  abbrev s : Shape
+  s = shape b
+
+  abbrev old : ℕ
+  old = (shape b).gdr
+
+  abbrev need : ℕ
+  need = 84 + 4 * length dims
+
+  sound : IsSound b s
+  sound = good_is_sound b good
+
+  has : HasNone s
+  has = has_none b good empty
+
+  at : gdr_offset b ≡ old
+  at = sound.has_shape.gdr_is
+
+  bare : HasShape b (empty_shape s.records old s.unused)
+  bare = subst (HasShape b) (is_empty b good has) sound.has_shape
+
+  cdr_in : In 8 s.records
+  cdr_in = is_a-in b s.records cdr_type 8 sound.has_shape.cdr_stands
+
+  cdr_typed : type_at b 8 ≡ cdr_type
+  cdr_typed = is_a-type b s.records cdr_type 8 sound.has_shape.cdr_stands
+
+  old_in : In old s.records
+  old_in = gdr_in b s sound.has_shape
+
+  old_typed : type_at b old ≡ gdr_type
+  old_typed = gdr_typed b s sound.has_shape
+
+  old_long : 84 ≤ size_at b old
+  old_long = gdr_long b s sound.has_shape
+
+  was_none : NoCounts b old
+  was_none = no_counts b good has
+
+  module _ {now records list : List ℕ} {gdr code bits : ℕ} {majority : Majority} {marks : List Mark} {reborn : List ℕ} {acts : List Act} (read : is_some (encoding_at code) ≡ true) (bits_are : bits ≡ majority_flags (flags b) majority) (is : IsSetUp b now records list gdr code bits majority dims marks reborn acts) where
+    abbrev own : Shape
+    own = empty_shape records gdr list
+
+    cdr_part : (lo hi : ℕ) → avoided marks cdr_type lo hi ≡ true → hi ≤ 312 → Same b now (8 + lo) (8 + hi)
+    cdr_part lo hi clear fits = part_clear is.edit 8 cdr_type lo hi cdr_in cdr_typed is.cdr_start clear (let l = fixed_long b s sound.has_shape cdr_type 8 cdr_in cdr_typed in omega arith)
+
+    release : Same b now (8 + 20) (8 + 28)
+    release = cdr_part 20 28 is.cdr_release (omega arith)
+
+    -- what is above bit 0
+    flag_stays : (k : ℕ) → majority_flags (flags b) majority / 2 ^ k % 2 ≡ flags b / 2 ^ k % 2 → has_bit (flags now) k ≡ has_bit (flags b) k
+    flag_stays k same = ap (λ (n : ℕ). has_bit n k) (is.says.flags_are ∙ bits_are) ∙ ap (λ (n : ℕ). n == 1) same
+
+    content_now : content now ≡ record (content b) { encoding = code; majority = majority; rdims = dims }
+    content_now =
+        let increment = ap (cast_signed w32) (word_kept b now (8 + 44) (8 + 48) (cdr_part 44 48 is.cdr_increment (omega arith)) 52 4 (omega arith) (omega arith)) in
+        let released = ap (cast_signed w32) (word_kept b now (8 + 20) (8 + 28) release 32 4 (omega arith) (omega arith)) in
+        let encoding_now = is.says.encoding_is in
+        let major : majority_of (has_bit (flags now) 0) ≡ majority = ap (λ (n : ℕ). majority_of (has_bit n 0)) (is.says.flags_are ∙ bits_are) ∙ bit_0 (flags b) majority in
+        let in_use = flag_stays 2 (omega (arith, half (flags b) majority)) in
+        let sizes = is.says.sizes_are in
+        let before = empty_shape s.records s.gdr s.unused in
+        let whole : content_of now own ≡ record (content_of b before) { encoding = code; majority = majority; rdims = dims } = λ i. record (content_of b before) {
+          release = released i;
+          increment = increment i;
+          encoding = encoding_now i;
+          majority = major i;
+          md5 = in_use i;
+          rdims = sizes i;
+        } in
+        content_is now own is.has_shape ∙ whole ∙ ap (λ (d : DataSet). record d { encoding = code; majority = majority; rdims = dims }) (sym (content_is b s sound.has_shape ∙ ap (content_of b) (is_empty b good has)))
+
+    says : FirstSays now gdr
+    says =
+        let image = good_by_its_shape b good in
+        let was = cdr_said b s sound.has_shape (sealed_kept b (good_long b s image) (rules_of_good b good)).0 in
+        let in_use = flag_stays 2 (omega (arith, half (flags b) majority)) in
+        let is_md5 = flag_stays 3 (omega (arith, half (flags b) majority)) in
+        let test : (not (has_bit (flags now) 2) || has_bit (flags now) 3) ≡ (not (has_bit (flags b) 2) || has_bit (flags b) 3) = λ i. not (in_use i) || is_md5 i in
+        record {
+          first_magic = word_kept b now 0 8 is.edit.front 0 4 (omega arith) (omega arith) ∙ was.first_magic;
+          second_magic = word_kept b now 0 8 is.edit.front 4 4 (omega arith) (omega arith) ∙ was.second_magic;
+          version_is = word_kept b now (8 + 20) (8 + 28) release 28 4 (omega arith) (omega arith) ∙ was.version_is;
+          encoding_read = ap (λ (n : ℕ). is_some (encoding_at n)) is.says.encoding_is ∙ read;
+          single_file = flag_stays 1 (omega (arith, half (flags b) majority)) ∙ was.single_file;
+          md5_used = test ∙ was.md5_used;
+          few = subst (λ (n : ℕ). n ≤ 10) (sym is.says.count_is) (few_dims dims fine);
+          positive = ap (list_all is_positive) is.says.sizes_are ∙ positive_dims dims fine;
+          eof_is = is.end;
+        }
+
+    alone : AreAlone now records gdr
+    alone m i used = elim (is.edit.kind m i) [
+      | inl k ↦ elim (good_is_alone b good has m k.0 (λ u. used (k.1 ∙ u))) [ inl q ↦ inl q | inr q ↦ inr (is.alone m used (inl q)) ]
+      | inr k ↦ elim k [ inl free ↦ absurd (used free.1) | inr r ↦ inr (is.alone m used (inr r)) ]
+    ]
+
+    setup_follows : length b + need ≤ image_limit → Follows b (commands.Setup code majority dims) now
+    setup_follows room =
+        let cdr = keeps_fields sound is.edit is.records_are 8 cdr_type (cdr_encoding ∷ cdr_flags ∷ cdr_gdr_offset ∷ []) cdr_in cdr_typed is.cdr_start is.cdr_within in
+        record {
+          reply = replies.Plain;
+          goes = step_goes (content b) (content now) code majority dims read fine empty content_now;
+          good = sealed_keeps now own (first_hold now own is.has_shape is.fits says (let l = is.longest in omega arith)) (empty_good is.has_shape is.none alone);
+          longer = is.edit.longer;
+          within = is.longest;
+          reads = λ q. absurd cc;
+          acts = acts;
+          takes_within = is.takes_within;
+          acts_follow = is.acts_follow;
+          keeps = all_keep b now setup_changes acts (keep_file b now setup_changes acts sound cdr tt) (keep_attributes b now setup_changes acts 0 s.attributes (λ m i. absurd (no_attribute s has m i))) (λ m i. absurd (no_variable s has m i)) is.unused_stay;
+          does = is.does;
+        }
+
+  -- ---- the GDR has room for the dimensions, and stays in its place
+
+  module _ {now : List ℕ} {place code bits : ℕ} (majority : Majority) (read : is_some (encoding_at code) ≡ true) (bits_are : bits ≡ majority_flags (flags b) majority) (place_is : place ≡ gdr_offset b) (fits : need ≤ size_at b (gdr_offset b)) (w : WritesHeads b now place code bits dims) where
+    gdr : Stands b s.records old gdr_type need
+    gdr = record { inside = old_in; typed = old_typed; long = subst (λ (g : ℕ). need ≤ size_at b g) at fits }
+
+    here : WritesHeads b now old code bits dims
+    here = subst (λ (g : ℕ). WritesHeads b now g code bits dims) (place_is ∙ at) w
+
+    abbrev in_place : List Mark
+    in_place = heads_marks old (length dims)
+
+    e : Edit b now s.records s.records in_place []
+    e = heads_edit bare fine gdr here
+
+    same_long : length now ≡ length b
+    same_long = heads_long bare fine gdr here
+
+    shape_now : HasShape now (empty_shape s.records old s.unused)
+    shape_now = heads_shape bare fine gdr here (λ f low high. refl)
+
+    same_shape : shape now ≡ empty_shape s.records old s.unused
+    same_shape = shape_is now (empty_shape s.records old s.unused) shape_now
+
+    still : (f : Field) → is_beside f.place (f.place + f.width) ≡ true → number now old f ≡ number b old f
+    still = gdr_still bare fine gdr here
+
+    stays : (f : Field) → is_beside f.place (f.place + f.width) ≡ true → number now (gdr_offset now) f ≡ number b (gdr_offset b) f
+    stays f beside = ap (λ (g : ℕ). number now g f) shape_now.gdr_is ∙ still f beside ∙ sym (ap (λ (g : ℕ). number b g f) at)
+
+    behind_dims : Avoids in_place gdr_type old need (size_at b old)
+    behind_dims =
+        let other = λ (q : gdr_type ≡ cdr_type). apart gdr_type cdr_type refl q in
+        ((λ q lies. inr (omega arith)), ((λ q lies. inr (omega arith)), ((λ q lies. absurd (other q)), ((λ q lies. absurd (other q)), ((λ q lies. absurd (other q)), tt)))))
+
+    kept_set : IsSetUp b now s.records s.unused old code bits majority dims in_place [] []
+    kept_set = record {
+      edit = e;
+      cdr_start = refl;
+      cdr_release = refl;
+      cdr_increment = refl;
+      cdr_within = refl;
+      has_shape = shape_now;
+      records_are = ap (λ (x : Shape). x.records) same_shape;
+      says = heads_say bare fine gdr here;
+      fits = heads_fit bare fine gdr here;
+      none = record { no_attributes = still gdr_num_attr refl ∙ was_none.no_attributes; no_r_variables = still gdr_nr_vars refl ∙ was_none.no_r_variables; no_z_variables = still gdr_nz_vars refl ∙ was_none.no_z_variables };
+      end = still gdr_eof refl ∙ ap (eof b) (sym at) ∙ good_eof b good ∙ sym same_long;
+      longest = omega (arith, same_long);
+      alone = λ m used r. elim r [ inl q ↦ q | inr none ↦ absurd none ];
+      takes_within = omega arith;
+      acts_follow = acts_none sound e refl refl (ap (λ (x : Shape). x.records) same_shape) (ap (λ (x : Shape). x.unused) same_shape) same_long;
+      unused_stay =
+          keep_unused sound e (ap (λ (x : Shape). x.records) same_shape) setup_changes [] (λ m i free. (avoided-avoids in_place uir_type m 0 12 refl, within-within in_place uir_type m (uir_next_uir ∷ uir_prev_uir ∷ []) refl)) (λ m i out. unmarked-away in_place uir_type m refl);
+      does = record {
+        acts_are = rw (le-leb need (size_at b (gdr_offset b)) fits) refl;
+        flags_are = (heads_say bare fine gdr here).flags_are ∙ bits_are;
+        fields_stay = (stays gdr_r_max_rec refl, (stays gdr_rfu_c refl, (stays gdr_leap_second_last_updated refl, (stays gdr_rfu_e refl, tt))));
+        room = λ le. record {
+          place_stays = shape_now.gdr_is ∙ sym at;
+          size_stays = ap (size_at now) at ∙ heads_sizes bare fine gdr here old old_in ∙ sym (ap (size_at b) at);
+          rest_stays = subst (λ (g : ℕ). Same b now (g + need) (g + size_at b g)) (sym at) (e.part old gdr_type need (size_at b old) old_in old_typed (avoided-avoids in_place gdr_type old 0 12 (heads_avoided old (length dims) 0 12 refl)) behind_dims (omega arith));
+        };
+        freed = tt;
+        emptied = λ moved. absurd (moved (shape_now.gdr_is ∙ sym at));
+      };
+    }
+
+    pub keeps_follows : length b + need ≤ image_limit → Follows b (commands.Setup code majority dims) now
+    keeps_follows = setup_follows read bits_are kept_set
+
+  -- ---- it has no room: another one is made
+
+  module _ {late : List ℕ} {place code bits : ℕ} (m : MakesGdr b late code bits dims place) where
+    abbrev records : List ℕ
+    records = (shape m.taken).records
+
+    abbrev list : List ℕ
+    list = (shape m.taken).unused
+
+    abbrev grown : Shape
+    grown = with_space (shape b) (shape m.taken).records (shape m.taken).unused
+
+    own_taken : shape m.taken ≡ grown
+    own_taken = m.is_taken.0.space.rest_stays
+
+    takes : Takes b m.taken s grown need place
+    takes = subst (λ (x : Shape). Takes b m.taken s x need place) own_taken m.is_taken.0
+
+    taken_sound : IsSound m.taken grown
+    taken_sound = subst (IsSound m.taken) own_taken m.is_taken.1
+
+    place_ends : place + need ≤ length m.taken
+    place_ends = taken_lies m.is_taken.0 m.is_taken.1
+
+    there : In old records
+    there = gdr_in m.taken grown taken_sound.has_shape
+
+    taken_typed : type_at m.taken old ≡ gdr_type
+    taken_typed = gdr_typed m.taken grown taken_sound.has_shape
+
+    taken_long : 84 ≤ size_at m.taken old
+    taken_long = gdr_long m.taken grown taken_sound.has_shape
+
+    -- ---- the old one is copied
+
+    abbrev piece : List ℕ
+    piece = gdr_fields m.taken (shape b).gdr
+
+    copy_is : m.copied ≡ put m.taken (place + 8) piece
+    copy_is = m.copy ∙ ap (λ (g : ℕ). put m.taken (place + 8) (gdr_fields m.taken g)) at
+
+    piece_long : length piece ≡ 76
+    piece_long =
+        let e = (tile_lies m.taken 8 (length m.taken) records old taken_sound.has_shape.tiled there).high in
+        let w = wide (length m.taken) old (size_at m.taken old) taken_long e in
+        simp (length-take, length-drop) (omega (arith, w))
+      where
+        wide : (x o k : ℕ) → 84 ≤ k → o + k ≤ x → 76 ≤ x - (o + 8)
+        wide x o k l e = omega arith
+
+    copied_field : (f : Field) → 8 ≤ f.place → f.place + f.width ≤ 84 → number m.copied place f ≡ number m.taken old f
+    copied_field f low high =
+        let l = place_ends in
+        let p = piece_long in
+        ap (λ (x : List ℕ). number x place f) copy_is
+        ∙ ap (λ (p : ℕ). word (put m.taken (place + 8) piece) p f.width) (move place)
+        ∙ word-put_inside m.taken piece (place + 8) (f.place - 8) f.width (omega arith) (omega arith)
+        ∙ word-piece m.taken (old + 8) (f.place - 8) f.width 76 (omega arith)
+        ∙ ap (λ (p : ℕ). word m.taken p f.width) (sym (move old))
+      where
+        move : (p : ℕ) → p + f.place ≡ p + 8 + (f.place - 8)
+        move p = omega arith
+
+    fills : Fills b m.taken m.copied s records list need place gdr_type
+    fills =
+        let l = place_ends in
+        let long : length m.copied ≡ length m.taken = ap length copy_is ∙ length-put m.taken (place + 8) piece (let p = piece_long in omega arith) in
+        let change = changed_put m.taken place 8 76 piece piece_long (omega arith) in
+        record {
+          takes = takes;
+          sound = taken_sound;
+          content_stays = m.is_taken.2;
+          fill = record { longer = omega arith; same = λ i lt out. ap (λ (x : List ℕ). byte x i) copy_is ∙ change.same i lt (elim out.0 [ inl low ↦ inl low | inr high ↦ inr (beside i high) ], tt) };
+          long = long;
+          typed = copied_field record_type (omega arith) (omega arith) ∙ taken_typed;
+          real = refl;
+          in_use = apart gdr_type uir_type refl;
+          fixed = omega arith;
+          enough = omega arith;
+        }
+      where
+        beside : (i : ℕ) → place + 8 + (need - 8) ≤ i → place + 8 + 76 ≤ i
+        beside i h = omega arith
+
+    copied_shape : HasShape m.copied (empty_shape records old list)
+    copied_shape = subst (λ (x : Shape). HasShape m.copied (with_space x records list)) (is_empty b good has) (filled_sound sound fills).has_shape
+
+    -- the old one stays whole while it is copied
+    copied_old : (f : Field) → f.place + f.width ≤ 84 → number m.copied old f ≡ number m.taken old f
+    copied_old f high = number_kept m.taken m.copied old (kept (second sound fills) old gdr_type there taken_typed refl).same f (let l = taken_long in omega arith)
+
+    -- ---- the dimensions and the CDR are written
+
+    new : Stands m.copied records place gdr_type need
+    new = record { inside = place_in sound fills; typed = fills.typed; long = omega (arith, filled_size sound fills) }
+
+    abbrev late_marks : List Mark
+    late_marks = heads_marks place (length dims)
+
+    abbrev make_marks : List Mark
+    make_marks = making_marks (shape b).unused place (84 + 4 * length dims) (heads_marks place (length dims))
+
+    later : Edit m.copied late records records late_marks []
+    later = heads_edit copied_shape fine new m.heads
+
+    lately : is_late late_marks gdr_type ≡ true
+    lately = simp or_true
+
+    as_long : length late ≡ length m.copied
+    as_long = heads_long copied_shape fine new m.heads
+
+    made : Edit b late s.records records make_marks (place ∷ [])
+    made = made_edit sound fills later as_long lately
+
+    late_shape : HasShape late (empty_shape records place list)
+    late_shape = heads_shape copied_shape fine new m.heads (λ f low high. copied_field f (omega arith) high ∙ sym (copied_old f high))
+
+    late_is : shape late ≡ empty_shape records place list
+    late_is = shape_is late (empty_shape records place list) late_shape
+
+    late_records : (shape late).records ≡ records
+    late_records = ap (λ (x : Shape). x.records) late_is
+
+    late_fits : Holds late place (gdr_r_dim_sizes (r_num_dims late place))
+    late_fits = heads_fit copied_shape fine new m.heads
+
+    -- the new GDR is none of the records that were in use
+    place_not_old : old ≢ place
+    place_not_old q = apart gdr_type uir_type refl (sym old_typed ∙ ap (type_at b) q ∙ fresh sound fills (subst (λ (x : ℕ). In x s.records) q old_in))
+
+    -- what it has of the old one
+    new_says : (f : Field) → is_beside f.place (f.place + f.width) ≡ true → avoided (placing_marks (shape b).unused place need) gdr_type f.place (f.place + f.width) ≡ true → 8 ≤ f.place → f.place + f.width ≤ 84 → number late place f ≡ number b old f
+    new_says f beside clear low high =
+        gdr_still copied_shape fine new m.heads f beside ∙ copied_field f low high ∙ sym (copied_old f high) ∙ field_clear (filled_edit sound fills) old gdr_type f old_in old_typed refl clear (let l = old_long in omega arith)
+
+    -- ---- the old one
+
+    late_typed : type_at late old ≡ gdr_type
+    late_typed = head_type b late old (made.head old old_in (λ u. apart gdr_type uir_type refl (sym old_typed ∙ u)) (λ r. place_not_old (the_one place old r))) ∙ old_typed
+
+    -- it changed in its fields of the space alone
+    old_stays : Stays b late old space_fields
+    old_stays =
+        let no = λ (lies : In old (place ∷ [])). place_not_old (the_one place old lies) in
+        let other = λ (q : gdr_type ≡ cdr_type). apart gdr_type cdr_type refl q in
+        let heads : Within late_marks gdr_type old space_fields = ((λ q lies. absurd (no lies)), ((λ q lies. absurd (no lies)), ((λ q lies. absurd (other q)), ((λ q lies. absurd (other q)), ((λ q lies. absurd (other q)), tt))))) in
+        keeps_within sound made late_records old gdr_type space_fields old_in old_typed (Avoids-append (placing_marks (shape b).unused place need) late_marks gdr_type old 0 12 (avoided-avoids (placing_marks (shape b).unused place need) gdr_type old 0 12 refl) (avoided-avoids late_marks gdr_type old 0 12 (heads_avoided place (length dims) 0 12 refl)))
+        (Within-append (placing_marks (shape b).unused place need) late_marks gdr_type old space_fields (within-within (placing_marks (shape b).unused place need) gdr_type old space_fields refl) heads)
+
+    -- what a call asks for that frees it
+    pub late_sound : IsSound late (shape late)
+    late_sound = subst (IsSound late) (sym late_is) (empty_sound late_shape late_fits)
+
+    pub old_stands : (g : ℕ) → g ≡ gdr_offset b → In g (shape late).records
+    old_stands g is = subst (λ (x : ℕ). In x (shape late).records) (sym (is ∙ at)) (subst (In old) (sym late_records) there)
+
+    pub old_free : (g : ℕ) → g ≡ gdr_offset b → times g (owned_records late (shape late)) ≡ 0
+    old_free g is =
+        let not_8 : old ≢ 8 = λ q. apart gdr_type cdr_type refl (sym old_typed ∙ ap (type_at b) q ∙ cdr_typed) in
+        subst (λ (x : ℕ). times x (owned_records late (shape late)) ≡ 0) (sym (is ∙ at)) (subst (λ (x : Shape). times old (owned_records late x) ≡ 0) (sym late_is)
+        (other_unowned late_shape old (λ u. apart gdr_type uir_type refl (sym late_typed ∙ u)) not_8 place_not_old))
+
+    -- ---- and the old one is freed
+
+    module _ (now : List ℕ) (majority : Majority) (read : is_some (encoding_at code) ≡ true) (bits_are : bits ≡ majority_flags (flags b) majority) (large : size_at b (gdr_offset b) < need) (free : IsGiven late now (shape late) (shape now) (gdr_offset b)) where
+      abbrev late_own : Shape
+      late_own = empty_shape records place list
+
+      gives : Gives late now late_own (shape now) old
+      gives = subst (λ (x : Shape). Gives late now x (shape now) old) late_is (subst (λ (g : ℕ). Gives late now (shape late) (shape now) g) at free.0)
+
+      abbrev given_marks : List Mark
+      given_marks = giving_marks list gdr_type old (size_at late old)
+
+      given : Edit late now records records given_marks (old ∷ [])
+      given = gives_edit late now late_own (shape now) old gdr_type late_shape there late_typed gives
+
+      all : Edit b now s.records records (make_marks ++ given_marks) (place ∷ old ∷ [])
+      all = edit_then made given
+
+      now_is : shape now ≡ empty_shape records place (shape now).unused
+      now_is = gives.space.rest_stays ∙ ap (λ (r : List ℕ). with_space late_own r (shape now).unused) gives.records_stay
+
+      now_sound : IsSound now (empty_shape records place (shape now).unused)
+      now_sound = subst (IsSound now) now_is free.1
+
+      h : HasShape now (empty_shape records place (shape now).unused)
+      h = now_sound.has_shape
+
+      freed_type : type_at now old ≡ uir_type
+      freed_type = is_a-type now (shape now).records uir_type old gives.stands
+
+      -- ---- the CDR and the new one after that
+
+      place_avoids : (lo hi : ℕ) → (hi ≤ 64) ⊎ (72 ≤ lo) → Avoids given_marks gdr_type place lo hi
+      place_avoids lo hi beside = (
+        (λ q lies. elim beside [ inl x ↦ inl x | inr x ↦ inr x ]),
+        ((λ q lies. absurd (apart gdr_type uir_type refl q)), ((λ q lies. elim lies [ inl x ↦ absurd (place_not_old (sym x)) | inr none ↦ absurd none ]), tt)),
+      )
+
+      place_part : (lo hi : ℕ) → (hi ≤ 64) ⊎ (72 ≤ lo) → hi ≤ size_at late place → Same late now (place + lo) (place + hi)
+      place_part lo hi beside fits = given.part place gdr_type lo hi (gdr_in late late_own late_shape) (gdr_typed late late_own late_shape) (place_avoids 0 12 (inl (omega arith))) (place_avoids lo hi beside) fits
+
+      place_now : (f : Field) → (f.place + f.width ≤ 64) ⊎ (72 ≤ f.place) → f.place + f.width ≤ 84 → number now place f ≡ number late place f
+      place_now f beside fits = word_kept late now (place + f.place) (place + (f.place + f.width)) (place_part f.place (f.place + f.width) beside (let l = gdr_long late late_own late_shape in omega arith)) (place + f.place) f.width (omega arith) (omega arith)
+
+      cdr_now : (f : Field) → f.place + f.width ≤ 312 → number now 8 f ≡ number late 8 f
+      cdr_now f fits =
+          let i = is_a-in late records cdr_type 8 late_shape.cdr_stands in
+          let t = is_a-type late records cdr_type 8 late_shape.cdr_stands in
+          number_kept late now 8 (kept given 8 cdr_type i t refl).same f (let l = fixed_long late late_own late_shape cdr_type 8 i t in omega arith)
+
+      now_says : HeadsSay now place code bits dims
+      now_says =
+          let was = heads_say copied_shape fine new m.heads in
+          let d = r_num_dims late place in
+          let count = place_now gdr_r_num_dims (inl (omega arith)) (omega arith) in
+          record {
+            encoding_is = cdr_now cdr_encoding (omega arith) ∙ was.encoding_is;
+            flags_are = cdr_now cdr_flags (omega arith) ∙ was.flags_are;
+            count_is = count ∙ was.count_is;
+            sizes_are =
+                ap (λ (k : ℕ). words now (place + 84) (counted (cast_signed w32 k))) count
+                ∙ words_kept late now (place + 84) (place + (84 + 4 * d)) (place_part 84 (84 + 4 * d) (inr (omega arith)) late_fits) (place + 84) d (omega arith) (up place d)
+                ∙ was.sizes_are;
+          }
+        where
+          up : (g n : ℕ) → g + 84 + 4 * n ≤ g + (84 + 4 * n)
+          up g n = omega arith
+
+      -- ---- the old one
+
+      abbrev acts : List Act
+      acts = Took place need ∷ Gave old (size_at b old) ∷ []
+
+      sizes : (k : ℕ) → In k records → size_at now k ≡ size_at late k
+      sizes = sizes_by_tiles late now 8 8 (length late) records refl late_shape.tiled (subst (λ (x : ℕ). AreTiles now 8 x records) gives.length_is given.tiled_now)
+
+      behind : (k : ℕ) → In k (old ∷ []) → Same late now (k + links_end (size_at late k)) (k + size_at late k)
+      behind k i = subst (λ (x : ℕ). Same late now (x + links_end (size_at late x)) (x + size_at late x)) (sym (the_one old k i)) (behind_one late_shape gives there old there place_not_old)
+
+      freed : GivenStay b now (λ type. space_fields) acts acts
+      freed =
+          let stand = λ (k : ℕ) (i : In k (old ∷ [])). subst (λ (x : ℕ). In x records) (sym (the_one old k i)) there in
+          let late_stay = freed_stay late now acts (old ∷ []) (λ type. space_fields) (subst (AreTiles now 8 (length now)) (sym gives.records_stay) h.tiled) (λ k i. subst (In k) (sym gives.records_stay) (stand k i)) (λ k i. sizes k (stand k i)) behind in (
+            each (FreedStays b now acts old (size_at b old) space_fields) (unused_records now (shape now)) (λ uir j i lt low high out untaken.
+                each_in (FreedStays late now acts old (size_at late old) space_fields) (unused_records now (shape now)) uir late_stay.0 j i (let e = old_stays.size_is in omega arith) low high out untaken ∙ old_stays.same i lt out),
+            tt,
+          )
+
+      joins : nat_le 28 (size_at late old) ≡ true
+      joins = le-leb 28 (size_at late old) (let l = old_long in let e = old_stays.size_is in omega arith)
+
+      now_list : (shape now).unused ≡ old ∷ list
+      now_list =
+          sym (places-sized now (shape now).unused) ∙ ap (map (λ pair. pair.0)) gives.list_is ∙ ap (λ (p : Bool). map (λ pair. pair.0) (if p then (old, size_at late old) ∷ unused late late_own else unused late late_own)) joins
+          ∙ ap (λ (x : List ℕ). old ∷ x) (places-sized late list)
+
+      old_field : (f : Field) → 28 ≤ f.place → f.place + f.width ≤ 84 → number now old f ≡ number late old f
+      old_field f low high =
+          let b28 : Same late now (old + 28) (old + size_at late old) = subst (λ (p : Bool). Same late now (old + (if p then 28 else 12)) (old + size_at late old)) joins (behind old (inl refl)) in
+          word_kept late now (old + 28) (old + size_at late old) b28 (old + f.place) f.width (omega arith) (let l = old_long in let e = old_stays.size_is in omega arith)
+
+      old_head : number now old gdr_uir_head ≡ next_of now old
+      old_head =
+          let chain : IsChain now records uir_type (number now place gdr_uir_head) (old ∷ list) = subst (IsChain now records uir_type (number now place gdr_uir_head)) now_list h.unused_chain in
+          old_field gdr_uir_head (omega arith) (omega arith) ∙ same_link late now _ _ list (list_chain sound fills later as_long lately).leads chain.leads.1
+
+      old_eof : number now old gdr_eof ≡ length now
+      old_eof = old_field gdr_eof (omega arith) (omega arith) ∙ end_now sound fills later as_long lately ∙ sym gives.length_is
+
+      -- ---- the whole
+
+      copied : (f : Field) → is_beside f.place (f.place + f.width) ≡ true → avoided (placing_marks (shape b).unused place need) gdr_type f.place (f.place + f.width) ≡ true → (f.place + f.width ≤ 64) ⊎ (72 ≤ f.place) → 8 ≤ f.place → f.place + f.width ≤ 84 → number now place f ≡ number b old f
+      copied f beside clear away low fits = place_now f away fits ∙ new_says f beside clear low fits
+
+      moved : (f : Field) → number now place f ≡ number b old f → number now (gdr_offset now) f ≡ number b (gdr_offset b) f
+      moved f same = ap (λ (g : ℕ). number now g f) h.gdr_is ∙ same ∙ sym (ap (λ (g : ℕ). number b g f) at)
+
+      acts_follow : ActsFollow b now acts
+      acts_follow =
+          let took = acts_took sound fills later as_long lately late_records (ap (λ (x : Shape). x.unused) late_is) in
+          let used : type_at late (gdr_offset b) ≢ uir_type = λ u. apart gdr_type uir_type refl (sym (ap (type_at late) at ∙ late_typed) ∙ u) in
+          subst (λ (k : ℕ). ActsFollow b now (Took place need ∷ Gave old k ∷ [])) old_stays.size_is (subst (λ (g : ℕ). ActsFollow b now (Took place need ∷ Gave g (size_at late g) ∷ [])) at
+          (acts_gave sound.has_shape took late_sound (old_stands (gdr_offset b) refl) used free.0))
+
+      unused_stay : AllKeep b now setup_changes acts (owned_by Unused (unused_records b s))
+      unused_stay =
+          let links = uir_next_uir ∷ uir_prev_uir ∷ [] in
+          keep_unused sound all gives.records_stay setup_changes acts
+          (λ k i left.
+          let l = listed_marks sound fills later as_long lately late_records k i left in
+          (Avoids-append make_marks given_marks uir_type k 0 12 l.0 (avoided-avoids given_marks uir_type k 0 12 refl), Within-append make_marks given_marks uir_type k links l.1 (within-within given_marks uir_type k links refl)))
+          (λ k i out.
+          let off = λ (j : In k list). out (listed_before sound fills later as_long lately k i j) in
+          Away-append make_marks given_marks uir_type k (loose_away sound fills later as_long lately k i out) ((λ q lies. apart uir_type gdr_type refl q), ((λ q lies. off lies), ((λ q lies. apart uir_type gdr_type refl q), tt))))
+
+      moved_set : IsSetUp b now records (shape now).unused place code bits majority dims (make_marks ++ given_marks) (place ∷ old ∷ []) acts
+      moved_set = record {
+        edit = all;
+        cdr_start = refl;
+        cdr_release = refl;
+        cdr_increment = refl;
+        cdr_within = refl;
+        has_shape = h;
+        records_are = gives.records_stay;
+        says = now_says;
+        fits = now_sound.gdr_fits;
+        none = record {
+          no_attributes = copied gdr_num_attr refl refl (inl (omega arith)) (omega arith) (omega arith) ∙ was_none.no_attributes;
+          no_r_variables = copied gdr_nr_vars refl refl (inl (omega arith)) (omega arith) (omega arith) ∙ was_none.no_r_variables;
+          no_z_variables = copied gdr_nz_vars refl refl (inl (omega arith)) (omega arith) (omega arith) ∙ was_none.no_z_variables;
+        };
+        end = place_now gdr_eof (inl (omega arith)) (omega arith) ∙ gdr_still copied_shape fine new m.heads gdr_eof refl ∙ copied_field gdr_eof (omega arith) (omega arith) ∙ takes.eof_is ∙ sym (gives.length_is ∙ as_long ∙ fills.long);
+        longest = let l = shorter sound fills later as_long lately in let a = gives.length_is in omega arith;
+        alone = λ k used r. elim r [
+          | inl q ↦ absurd (used (ap (type_at now) q ∙ freed_type))
+          | inr again ↦ elim again [ inl q ↦ q | inr last ↦ absurd (used (ap (type_at now) (the_one old k last) ∙ freed_type)) ]
+        ];
+        takes_within = omega arith;
+        acts_follow = acts_follow;
+        unused_stay = unused_stay;
+        does = record {
+          acts_are = rw (lt-leb need (size_at b (gdr_offset b)) large) (λ i. Took (sym h.gdr_is i) need ∷ Gave (sym at i) (size_at b (sym at i)) ∷ []);
+          flags_are = now_says.flags_are ∙ bits_are;
+          fields_stay = (
+            moved gdr_r_max_rec (copied gdr_r_max_rec refl refl (inl (omega arith)) (omega arith) (omega arith)),
+            (
+              moved gdr_rfu_c (copied gdr_rfu_c refl refl (inr (omega arith)) (omega arith) (omega arith)),
+              (moved gdr_leap_second_last_updated (copied gdr_leap_second_last_updated refl refl (inr (omega arith)) (omega arith) (omega arith)), (moved gdr_rfu_e (copied gdr_rfu_e refl refl (inr (omega arith)) (omega arith) (omega arith)), tt)),
+            ),
+          );
+          room = λ le. absurd (omega (arith, large, le));
+          freed = freed;
+          emptied = λ apart_from. (inr (subst (λ (g : ℕ). number now g gdr_uir_head ≡ next_of now g) (sym at) old_head), (inr (subst (λ (g : ℕ). number now g gdr_eof ≡ length now) (sym at) old_eof), tt));
+        };
+      }
+
+      pub moves_follows : length b + need ≤ image_limit → Follows b (commands.Setup code majority dims) now
+      moves_follows = setup_follows read bits_are moved_set
