@@ -1,7 +1,5 @@
 -- The command `del-entry`: what it is answered, and what is known of the attributes after it.
 use Rattle.std.proofs.Common.{◌≡◌, ℕ, zero, suc, ◌+◌, ◌^◌, ◌<◌, ◌≤◌, List, [], ◌∷◌, ◌++◌, length, map, get_or, true, Some, None, w32, refl, sym, ap, ap₂, subst, ◌∙◌, arith}
-use Rattle.std.proofs.lemmas.Bool.{eqb-true}
-use Rattle.std.proofs.lemmas.List.Quantifiers.{position-Some}
 use Rattle.std.proofs.lemmas.Option.{slice_get_within}
 use Rattle.std.specs.Int.{cast_unsigned}
 use Rattle.std.specs.List.{position, remove, slice_get}
@@ -52,7 +50,7 @@ use Rattle.cdf_attrs.proofs.EntryCalls.{leaves}
 use Rattle.cdf_attrs.proofs.EntryChains.{counted, entries_differ, entry_lies, few_entries, members}
 use Rattle.cdf_attrs.proofs.EntryLeft as left
 use Rattle.cdf_attrs.proofs.EntrySteps.{no_attribute, wrong_scope, no_entry}
-use Rattle.cdf_attrs.proofs.EntryTakenAt.{as_long, left_count, left_small, map-remove, once, places_are, without_at_index}
+use Rattle.cdf_attrs.proofs.EntryTakenAt.{as_long, left_count, left_small, map-remove, numbered_at, once, places_are, without_at_index}
 use Rattle.cdf_attrs.proofs.GettingAnswers.{found_in, is_entry_at, is_item, of_attribute}
 use Rattle.cdf_attrs.proofs.GreatestNumber.{greatest_fits, greatest_of_items}
 use Rattle.cdf_edits.proofs.Commands.ListParts.{Cut, cut, got-middle}
@@ -79,11 +77,6 @@ got_index : (xs : List ℕ) (i : ℕ) → i < length xs → slice_get xs i ≡ S
 got_index [] i lt = absurd (omega arith)
 got_index (x ∷ xs) zero lt = refl
 got_index (x ∷ xs) (suc i) lt = got_index xs i (omega arith)
-
-index_map : (f : ℕ → ℕ) (xs : List ℕ) (i d : ℕ) → i < length xs → get_or (map f xs) i d ≡ f (slice_index xs i)
-index_map f [] i d lt = absurd (omega arith)
-index_map f (x ∷ xs) zero d lt = refl
-index_map f (x ∷ xs) (suc i) d lt = index_map f xs i d (omega arith)
 
 some_same : (x a : AttributeShape) → Some x ≡ Some a → x ≡ a
 some_same x a e = cc e
@@ -118,19 +111,17 @@ module _ {b attr : List ℕ} {kind : EntryKind} {n : ℕ} {chain : Chain} (good 
   abbrev place : ℕ
   place = slice_index es.places i
 
-  stands_in : (i < length es.numbers) × (get_or es.numbers i 0 == num) ≡ true
-  stands_in = let p = position-Some (λ m. m == num) es.numbers i 0 at in (p.0, p.1)
+  numbered : (i < length es.places) × (number b place aedr_num ≡ num)
+  numbered = numbered_at good (of_attribute found) es of knows num i at
 
   pub within : i < length es.places
-  within = let p = stands_in in let e = as_long good (of_attribute found) es of knows in omega arith
+  within = numbered.0
 
   is_place : Some place ≡ option_and_then (λ k. slice_get es.places k) (position (λ m. m == num) es.numbers)
   is_place = sym (ap (option_and_then (λ k. slice_get es.places k)) at ∙ got_index es.places i within)
 
   pub of_old : number b place aedr_num ≡ num
-  of_old =
-      let same : get_or es.numbers i 0 ≡ number b place aedr_num = ap (λ (xs : List ℕ). get_or xs i 0) knows.numbers_are ∙ index_map (λ aedr. number b aedr aedr_num) es.places i 0 within in
-      sym same ∙ eqb-true _ _ stands_in.1
+  of_old = numbered.1
 
   abbrev pub parts : Cut (shape b).attributes n
   parts = cut (shape b).attributes n (slice_get_within (shape b).attributes n found.own found.stands)

@@ -1,193 +1,595 @@
--- The command `put-entry`: its step, and what an image follows in which one chain of an attribute has a new entry of the number.
-use Rattle.std.proofs.Common.{◌≡◌, ℕ, ◌+◌, ◌≤◌, List, [], ◌∷◌, length, find, false, Some, Ok, eq-eqb, refl, sym, ap, subst, ◌∙◌, arith, inl, inr, Bool}
-use Rattle.std.specs.Prelude.{◌==◌, nat_le}
+-- The command `put-entry`: an entry is put as a last one of its chain, in the record of the one of its number, or in another record in its place.
+use Rattle.std.proofs.Common.{◌≡◌, ℕ, ◌+◌, ◌*◌, ◌^◌, ◌<◌, ◌≤◌, List, [], ◌∷◌, length, take, true, is_some, Some, refl, sym, ap, subst, ◌∙◌, arith, lit<, zero, suc, ◌++◌, find, eq-eqb, inl, inr, ◌≢◌, drop, None, append_assoc, Option, FitsSigned, w32}
+use Rattle.std.proofs.lemmas.Bool.{and_from, cases_eq, le-leb, lt-leb, ne_eqb}
+use Rattle.std.proofs.lemmas.List.{take_at, length-map, map-append, length-append}
+use Rattle.std.specs.Int.{w32, cast_signed, cast_unsigned}
+use Rattle.std.specs.Option.{unwrap_or}
+use Rattle.std.specs.Prelude.{nat_le, ◌==◌, slice_index, if◌then◌else◌, slice_set}
+use Rattle.cdf_model.specs.declared.data_type.DataType.{DataType}
+use Rattle.cdf_model.specs.declared.data_type.DataType.TheVariants.{Byte}
+use Rattle.cdf_model.specs.declared.kinds.EntryKind.{EntryKind}
+use Rattle.cdf_model.specs.ByteOrder.{turned}
+use Rattle.cdf_model.specs.DataSet.{Entry}
+use Rattle.cdf_model.specs.Limits.{signed_limit, image_limit, record_number_limit}
+use Rattle.cdf_model.specs.Place.{record_limit}
+use Rattle.cdf_model.specs.Types.{size_of, type_of}
+use Rattle.cdf_format.specs.AttributeRules.{entry_bytes, has_value, entry_rows}
+use Rattle.cdf_format.specs.Bytes.{Same}
+use Rattle.cdf_format.specs.Content.{entry_of, content, attribute_of, entries_of as chain_items}
+use Rattle.cdf_format.specs.Fields.{word, number, is_positive, size_at, LiesIn, integer4, with_field}
+use Rattle.cdf_format.specs.Records.{record_type, aedr_aedr_next, aedr_attr_num, aedr_data_type, aedr_num, aedr_num_strings, aedr_rfu_b, aedr_rfu_c, aedr_rfu_d, aedr_rfu_e, aedr_value, Field}
+use Rattle.cdf_format.specs.RecordTypes.{uir_type}
+use Rattle.cdf_format.specs.Sound.{EntryFits, IsSound}
+use Rattle.cdf_format.specs.Stored.{field_bytes, known_type, data_type_in, is_little}
+use Rattle.cdf_format.proofs.BytesLemmas.{piece_kept, Same-part, length-put, size_kept}
+use Rattle.cdf_format.proofs.Tests.{of_le}
+use Rattle.cdf_edits.specs.Commands.EntryChains.{entry_type, chain_of, max_field, entry_at, greatest_number}
+use Rattle.cdf_edits.specs.Commands.NewRecords.{Says}
+use Rattle.cdf_edits.specs.Space.Placing.{IsBody, Placed, laid_out, type_of_body}
+use Rattle.cdf_edits.proofs.Commands.TypeCodes.{type_back, code_small}
+use Rattle.cdf_edits.proofs.Space.LaidOut.{placed_says, says_kept, says_laid_out}
+use Rattle.cdf_edits.proofs.Space.UsedRecords.{apart}
+use Rattle.cdf_attrs.specs.declared.entry_bytes.Reserved.{Reserved}
+use Rattle.cdf_attrs.specs.Putting.{aedr_fields, aedr_body, Fit, IsStored, new_reserved}
+use Rattle.std.proofs.lemmas.Option.{slice_get_within}
+use Rattle.std.specs.List.{last_or, position}
+use Rattle.cdf_format.specs.Shape.{AttributeShape, shape}
+use Rattle.cdf_format.specs.WellFormed.{Good}
+use Rattle.cdf_format.specs.Chains.{is_in}
+use Rattle.cdf_format.proofs.Members.{is_in-true, In-append_right}
+use Rattle.cdf_format.specs.Tiles.{In, tiles, Distinct}
+use Rattle.cdf_format.proofs.ChainsLemmas.{linkable-in}
+use Rattle.cdf_format.proofs.ShapeLemmas.{tiles_are}
+use Rattle.cdf_format.proofs.TilesLemmas.{tile_lies}
+use Rattle.cdf_records.proofs.Places.{word4_fits}
+use Rattle.cdf_format.proofs.GoodSound.{good_is_sound}
+use Rattle.cdf_edits.specs.Edits.EntryMarks.{entries_chain, count_field, with_chain}
+use Rattle.cdf_edits.specs.Space.Chains.{counted_in, members_of, type_in, HasChain, HolderStands, with_in_place, before}
+use Rattle.cdf_edits.specs.Space.Adding.{Joined, Added, Exchanged}
+use Rattle.cdf_edits.specs.declared.chain.Chain.{Chain}
+use Rattle.cdf_edits.proofs.Edits.EntryFields.{max_lies, as_count, count_is, max_written}
+use Rattle.cdf_edits.proofs.Edits.MadeRecord.{filled_edit}
+use Rattle.cdf_edits.proofs.Edits.Splice.{adr_stands}
+use Rattle.cdf_attrs.specs.declared.entry_bytes.OldEntry.{OldEntry}
+use Rattle.cdf_attrs.specs.declared.putting.NewEntry.{NewEntry}
+use Rattle.cdf_attrs.specs.Finding.{IsOfAttribute}
+use Rattle.cdf_attrs.specs.Known.{KnownEntries}
+use Rattle.cdf_attrs.specs.PutValues.{HasOld, IsPut, IsReady, new_entry}
+use Rattle.cdf_attrs.proofs.AttributeChain.{few_attributes, index_in}
+use Rattle.cdf_attrs.proofs.AttributeParts.{parts, members_at, names_rechained, number_at, places_rechained, Parts}
+use Rattle.cdf_attrs.proofs.EntryChains.{holder_stands, chain_there, counted, entry_inside, entry_lies, few_entries, members}
+use Rattle.cdf_attrs.proofs.EntryTakenAt.{numbered_at, once, places_are, small, stands_behind}
 use Rattle.cdf_model.specs.declared.answer.Reply.TheVariants.{Plain}
 use Rattle.cdf_model.specs.declared.command.Command.TheVariants.{PutEntry}
-use Rattle.cdf_model.specs.declared.data_type.DataType.{DataType}
-use Rattle.cdf_model.specs.declared.kinds.EntryKind.{EntryKind}
 use Rattle.cdf_model.specs.Answers.{Go}
-use Rattle.cdf_model.specs.AttributeSteps.{entries_of, entry_by, is_out_of_range, is_wrong_scope, put_entry_step, with_attribute, with_entries}
-use Rattle.cdf_model.specs.ByteOrder.{turned}
-use Rattle.cdf_model.specs.DataSet.{DataSet, Entry}
-use Rattle.cdf_model.specs.Limits.{record_number_limit}
+use Rattle.cdf_model.specs.AttributeSteps.{entries_of, with_attribute, with_entries}
 use Rattle.cdf_model.specs.Names.{attribute_named}
 use Rattle.cdf_model.specs.Numbered.{with_item}
 use Rattle.cdf_model.specs.Step.{ByStep}
-use Rattle.cdf_model.specs.Values.{notation_of}
-use Rattle.cdf_format.specs.AttributeRules.{entry_rows}
-use Rattle.cdf_format.specs.Bytes.{Same}
-use Rattle.cdf_format.specs.Content.{content, attribute_of, entries_of as chain_items}
-use Rattle.cdf_format.specs.Fields.{integer4, number, size_at}
-use Rattle.cdf_format.specs.Records.{adr_num, aedr_num, aedr_value}
 use Rattle.cdf_format.specs.Rules.{Hold}
-use Rattle.cdf_format.specs.Shape.{AttributeShape, shape}
-use Rattle.cdf_format.specs.Sound.{IsSound}
-use Rattle.cdf_format.specs.Stored.{field_bytes, is_little}
-use Rattle.cdf_format.specs.Tiles.{In, Distinct}
-use Rattle.cdf_format.specs.WellFormed.{Good}
-use Rattle.cdf_format.proofs.GoodSound.{good_is_sound}
-use Rattle.cdf_format.proofs.Tests.{of_le}
 use Rattle.cdf_values.proofs.TurnedLemmas.{size_stays}
 use Rattle.cdf_edits.specs.Commands.Allowances.{FreedStay, no_fields}
-use Rattle.cdf_edits.specs.Commands.Entries.{PutsEntry, EntryFollows, chain_after}
-use Rattle.cdf_edits.specs.Commands.EntryChains.{chain_of, entry_at, greatest_number, max_field}
-use Rattle.cdf_edits.specs.Commands.NewRecords.{Says}
-use Rattle.cdf_edits.specs.Commands.Room.{room, entry_length}
-use Rattle.cdf_edits.specs.Edits.EntryMarks.{count_field, with_chain}
+use Rattle.cdf_edits.specs.Commands.Entries.{PutsEntry, EntryFollows, chain_after, EntryMoves, entry_end}
+use Rattle.cdf_edits.specs.Commands.Room.{room}
 use Rattle.cdf_edits.specs.Edits.Marks.{Mark}
-use Rattle.cdf_edits.specs.Space.Acts.{Act}
-use Rattle.cdf_edits.specs.Space.Chains.{members_of}
-use Rattle.cdf_edits.specs.Space.Placing.{Placed}
-use Rattle.cdf_edits.proofs.Edits.ChainEntries.{nums}
-use Rattle.cdf_edits.proofs.Edits.ChainFollowed.{chain_now, found_one}
-use Rattle.cdf_edits.proofs.Edits.ChainOwners.{traded_member}
-use Rattle.cdf_edits.proofs.Edits.ChainSpliced.{Rechains, num_same, file_now}
+use Rattle.cdf_edits.specs.Space.Acts.{Act, Gave, Took}
+use Rattle.cdf_edits.proofs.Edits.ChainEntries.{nums, EntryLives, entries_live, entries_pushed, entries_replaced, nums_live, nums_pushed, nums_replaced}
+use Rattle.cdf_edits.proofs.Edits.ChainFollowed.{chain_now, found_one, found_none, greatest_integer, replaced_after}
+use Rattle.cdf_edits.proofs.Edits.ChainOwners.{traded_member, came_in, one_within}
+use Rattle.cdf_edits.proofs.Edits.ChainSpliced.{Rechains, num_same, file_now, entry_stays}
 use Rattle.cdf_edits.proofs.Edits.MarkLemmas.{the_one}
-use Rattle.cdf_edits.proofs.Edits.OneChain.{Chained, Settled, chain_follows, follows_chained, items_of, of_named, once_before, rules_live}
-use Rattle.cdf_attrs.specs.declared.entry_bytes.Reserved.{Reserved}
-use Rattle.cdf_attrs.specs.declared.putting.NewEntry.{NewEntry}
-use Rattle.cdf_attrs.specs.declared.putting.Slot.{Slot}
-use Rattle.cdf_attrs.specs.Known.{KnownEntries, KnowsEntries}
-use Rattle.cdf_attrs.specs.Putting.{Fit, aedr_fields}
-use Rattle.cdf_attrs.specs.PutValues.{Asks, IsAttributeAt, IsReady, Puts, new_entry}
-use Rattle.cdf_attrs.proofs.AttributeParts.{members_at, names_rechained, number_at, parts, places_rechained}
-use Rattle.cdf_attrs.proofs.EntryWritten.{IsEntry, entry_written, is_entry, length-body}
-use Rattle.cdf_attrs.proofs.PutCalls.{body_of, places_chain, ready_limit}
+use Rattle.cdf_edits.proofs.Edits.OneChain.{Chained, Settled, chain_follows, follows_chained, items_of, of_named, once_before, rules_live, counted_before, differ_before}
 use Rattle.cdf_attrs.proofs.ValueWords.{whole}
+use Rattle.std.proofs.lemmas.Int.{to_z-of_z}
+use Rattle.cdf_base.specs.Bytes.{put}
+use Rattle.cdf_format.specs.Owners.{owned_records, times}
+use Rattle.cdf_fields.proofs.Writes.{drop-put_there}
+use Rattle.cdf_edits.specs.Space.Placement.{Gives}
+use Rattle.cdf_edits.proofs.Edits.ChangedEntry.{ChangesEntry, behind_stays, entry_kept, in_its_place}
+use Rattle.cdf_edits.proofs.Edits.Composing.{same-then}
+use Rattle.cdf_edits.proofs.Edits.FreedEntry.{Frees, as_long_now, count_same, freed_bytes, freed_rechains, freed_settled, greatest_same, old_free, old_stands, other_kept, sound_late, all_marks}
+use Rattle.cdf_edits.proofs.Edits.JoinedEntry.{JoinsEntry, as_long, count_now, ends, exchanges, frees, greatest_now, list, marks, new_size, new_type, new_value, not_old, place_in, pushes, rechains, records, settled}
+use Rattle.cdf_model.specs.declared.kinds.EntryKind.TheVariants as entries
+use Rattle.cdf_edits.proofs.Edits.ChangedEntry as changed
+use Rattle.cdf_attrs.specs.Removing.{IsGreatest}
+use Rattle.cdf_attrs.proofs.GreatestNumber.{greatest_fits, greatest_put}
+use Rattle.cdf_attrs.proofs.NumberGone.{none_in}
 
--- ---- the step
+-- ---- the bytes of an entry
 
--- what is asked of the command holds: the attribute is the one at a place in the order, and the words write this entry
-pub record Asked (b attr : List ℕ) (kind : EntryKind) (num : ℕ) (t : DataType) (words : List (List ℕ)) (before : List AttributeShape) (own : AttributeShape) (entry : Entry) : Type 0 where
-  pub found : attribute_named (content b) attr ≡ Some (length before, attribute_of b own)
-  pub scoped : is_wrong_scope kind (attribute_of b own).scope ≡ false
-  pub in_range : is_out_of_range (content b) kind num ≡ false
-  pub valued : entry_by (notation_of t) t words ≡ Ok entry
+-- what follows the size of an entry, what follows the link of it, and what that says before the value
+abbrev pub body_of : NewEntry → Reserved → List ℕ
+body_of new r = aedr_body new.slot.kind new.slot.attribute new.value.t new.slot.num new.value.elems r new.value.bytes.items
 
-module _ {b attr : List ℕ} {kind : EntryKind} {num : ℕ} {t : DataType} {words : List (List ℕ)} {before : List AttributeShape} {own : AttributeShape} {entry : Entry} (a : Asked b attr kind num t words before own entry) where
-  abbrev pub put_data : DataSet
-  put_data = with_attribute (content b) (length before) (with_entries (attribute_of b own) kind (with_item num entry (entries_of (attribute_of b own) kind)))
+abbrev said : NewEntry → Reserved → List (Field × ℕ)
+said new r = aedr_fields new.slot.attribute new.value.t new.slot.num new.value.elems r
 
-  put_goes : put_entry_step (content b) attr kind num t words ≡ Go put_data Plain
-  put_goes = rw (a.found, a.scoped, a.in_range, a.valued) refl
+abbrev fields_of : NewEntry → Reserved → List ℕ
+fields_of new r = laid_out (said new r) ++ new.value.bytes.items
 
-  put_room : room b (PutEntry attr kind num t words) ≡ 56 + length entry.bytes
-  put_room = ap (λ r. 56 + entry_length r) a.valued
+abbrev Fits : NewEntry → Reserved → Type 0
+Fits new r = Fit new.slot.attribute new.slot.num new.value.elems r
 
--- what is asked, by the parts of the attributes
-pub asked : {b attr : List ℕ} {slot : Slot} {words : List (List ℕ)} {entry : Entry} (at : IsAttributeAt b slot.attribute slot.adr) → Asks b attr slot words entry → Asked b attr slot.kind slot.num entry.type words (parts at).before at.own entry
-asked {b = b} {slot = slot} at asks =
-    let same : asks.at.own ≡ at.own = got_one asks.at.own at.own (sym asks.at.stands ∙ at.stands) in
-    record {
-      found = asks.named ∙ (λ i. Some (sym (parts at).count i, attribute_of b (same i)));
-      scoped = ap (λ (a : AttributeShape). is_wrong_scope slot.kind (attribute_of b a).scope) (sym same) ∙ asks.in_scope;
-      in_range = asks.in_range;
-      valued = asks.valued;
-    }
-  where
-    got_one : (x a : AttributeShape) → Some x ≡ Some a → x ≡ a
-    got_one x a e = cc
+type_small : (kind : EntryKind) → entry_type kind < 2 ^ 32
+type_small entries.Z = lit< tt
+type_small kind = lit< tt
 
--- ---- an image in which the chain has the entry
+module _ (kind : EntryKind) (attr : ℕ) (t : DataType) (num elems : ℕ) (r : Reserved) (value : List ℕ) where
+  length-body : length (aedr_body kind attr t num elems r value) ≡ 48 + length value
+  unfolding aedr_body
+  length-body = omega arith
+
+  type_in_body : type_of_body (aedr_body kind attr t num elems r value) ≡ entry_type kind
+  unfolding aedr_body
+  type_in_body = by kind
+    where
+      by : (k : EntryKind) → type_of_body (aedr_body k attr t num elems r value) ≡ entry_type k
+      by entries.Z = refl
+      by other = refl
+
+  aedr_is_body : IsBody (aedr_body kind attr t num elems r value)
+  aedr_is_body = by kind type_in_body length-body
+    where
+      by : (k : EntryKind) → type_of_body (aedr_body kind attr t num elems r value) ≡ entry_type k → length (aedr_body kind attr t num elems r value) ≡ 48 + length value → IsBody (aedr_body kind attr t num elems r value)
+      by entries.Z e long = record { enough = omega arith; real = rw e refl; in_use = rw e (apart 9 uir_type refl); fixed = rw e (omega arith) }
+      by other e long = record { enough = omega arith; real = rw e refl; in_use = rw e (apart 5 uir_type refl); fixed = rw e (omega arith) }
+
+-- the type of the records of the chain of a kind
+type_of_kind : (kind : EntryKind) (adr : ℕ) → type_in (entries_chain kind adr) ≡ entry_type kind
+type_of_kind entries.Z adr = refl
+type_of_kind other adr = refl
+
+-- the greatest number as it is written
+abbrev pub stored : NewEntry → ℕ
+stored new = cast_unsigned w32 (cast_signed w32 (cast_unsigned w32 new.greatest))
+
+-- ---- lists
+
+-- another in the place of the one at an index
+set_in_place : (xs : List ℕ) (i by : ℕ) → i < length xs → Distinct xs → with_in_place (slice_index xs i) by xs ≡ slice_set xs i by
+set_in_place [] i by lt d = absurd (omega arith)
+set_in_place (x ∷ xs) zero by lt d = rw (eq-eqb x x refl) refl
+set_in_place (x ∷ xs) (suc i) by lt d =
+    let j = index_in xs i (omega arith) in
+    rw (ne_eqb x (slice_index xs i) (λ e. d.0 (subst (λ (y : ℕ). In y xs) (sym e) j))) (ap (λ (r : List ℕ). x ∷ r) (set_in_place xs i by (omega arith) d.1))
+
+replaced_length : (old by : ℕ) (es : List ℕ) → length (with_in_place old by es) ≡ length es
+replaced_length old by [] = refl
+replaced_length old by (e ∷ es) = elim (cases_eq e old) [ inl q ↦ rw (eq-eqb e old q) refl | inr ne ↦ rw (ne_eqb e old ne) (let r = replaced_length old by es in omega arith) ]
+
+as_meant : (P : Chain → List ℕ → Type 0) {c d : Chain} {xs ys : List ℕ} → c ≡ d → xs ≡ ys → P c xs → P d ys
+as_meant P {d = d} {xs = xs} is are p = subst (P d) are (subst (λ (x : Chain). P x xs) is p)
+
+-- ---- an entry that is written
+
+-- an image has at a place the entry that was put into another one
+record IsEntry (b now : List ℕ) (place : ℕ) (new : NewEntry) (r : Reserved) : Type 0 where
+  attribute : number now place aedr_attr_num ≡ new.slot.attribute
+  num_is : number now place aedr_num ≡ new.slot.num
+  meant : entry_of now place ≡ new_entry b new
+  valued : has_value now place ≡ true
+  fits : EntryFits now place
+  no_strings : number now place aedr_num_strings ≡ 0
+  bytes_are : entry_bytes now place ≡ length new.value.bytes.items
+  reserved : Says now place ((aedr_rfu_b, r.b) ∷ (aedr_rfu_c, r.c) ∷ (aedr_rfu_d, r.d) ∷ (aedr_rfu_e, r.e) ∷ [])
+
+module _ (new : NewEntry) (r : Reserved) {b now : List ℕ} {place : ℕ} (little : is_little now ≡ is_little b) (s : IsStored new.value.t new.value.elems new.value.bytes.items) where
+  is_entry : Says now place (said new r) → field_bytes now place (aedr_value (length new.value.bytes.items)) ≡ new.value.bytes.items → 56 + length new.value.bytes.items ≤ size_at now place → IsEntry b now place new r
+  is_entry (attr_is, (code_is, (num_is, (elems_is, (strings, (rb, (rc, (rd, (re, end))))))))) bytes room =
+      let known : known_type now place aedr_data_type ≡ Some new.value.t = ap (λ (n : ℕ). type_of (cast_signed w32 n)) code_is ∙ type_back new.value.t in
+      let type : data_type_in now place aedr_data_type ≡ new.value.t = ap (λ o. unwrap_or o Byte) known in
+      let long : entry_bytes now place ≡ length new.value.bytes.items = (λ i. size_of (type i) * elems_is i) ∙ s.long in
+      record {
+        attribute = attr_is;
+        num_is = num_is;
+        meant = (λ i. record { type = type i; elems = elems_is i; bytes = turned (type i) (little i) (field_bytes now place (aedr_value (size_of (type i) * elems_is i))) })
+            ∙ ap (λ (n : ℕ). record { type = new.value.t; elems = new.value.elems; bytes = turned new.value.t (is_little b) (field_bytes now place (aedr_value n)) }) s.long
+            ∙ ap (λ (xs : List ℕ). record { type = new.value.t; elems = new.value.elems; bytes = turned new.value.t (is_little b) xs }) bytes;
+        valued = and_from _ _ (and_from _ _ (ap is_some known) (ap is_positive elems_is ∙ and_from _ _ (of_le 1 new.value.elems s.some) (of_le new.value.elems signed_limit s.few)))
+            (and_from _ _ (ap (λ (n : ℕ). nat_le n record_limit) long ∙ of_le (length new.value.bytes.items) record_limit s.short) (ap (λ (n : ℕ). nat_le (56 + n) (size_at now place)) long ∙ of_le (56 + length new.value.bytes.items) (size_at now place) room));
+        fits = subst (λ (n : ℕ). 56 + n ≤ size_at now place) (sym long) room;
+        no_strings = strings;
+        bytes_are = long;
+        reserved = (rb, (rc, (rd, (re, tt))));
+      }
+
+  -- in an image in which it was placed, and after steps that leave what follows its link
+  entry_written : {filled : List ℕ} → Placed b filled (body_of new r) place → Fits new r → Same filled now (place + 20) (place + (56 + length new.value.bytes.items)) → place + (56 + length new.value.bytes.items) ≤ length filled → length filled ≤ length now → 56 + length new.value.bytes.items ≤ size_at now place → IsEntry b now place new r
+  unfolding aedr_body
+  entry_written {filled = filled} placed fit same inside longer room =
+      let w = placed_says ((record_type, entry_type new.slot.kind) ∷ (aedr_aedr_next, 0) ∷ said new r) new.value.bytes.items placed refl refl
+      (type_small new.slot.kind, (lit< tt, (fit.attr_fits, (code_small new.value.t, (fit.num_fits, (fit.elems_fit, (lit< tt, (fit.b_fits, (fit.c_fits, (fit.d_fits, (fit.e_fits, tt))))))))))) in
+      is_entry (says_kept filled now place 20 (56 + length new.value.bytes.items) 20 (said new r) same (omega arith) (omega arith) refl w.0.1.1)
+      (piece_kept filled now (place + 20) (place + (56 + length new.value.bytes.items)) same (place + 56) (length new.value.bytes.items) (omega arith) (omega arith) inside longer ∙ ap (take (length new.value.bytes.items)) w.1.1 ∙ take_at new.value.bytes.items w.1.0 (length new.value.bytes.items) refl)
+      room
+
+-- ---- an entry that may be put
 
 module _ {b : List ℕ} {limit : ℕ} {new : NewEntry} {known : KnownEntries} (good : Good b) (w : IsReady b limit new known) where
-  abbrev pub own : AttributeShape
+  abbrev own : AttributeShape
   own = w.attribute.own
 
-  abbrev pub kind : EntryKind
-  kind = new.slot.kind
+  abbrev chain : List ℕ
+  chain = chain_of own new.slot.kind
 
-  abbrev pub num : ℕ
-  num = new.slot.num
-
-  abbrev pub size : ℕ
+  abbrev size : ℕ
   size = length new.value.bytes.items
 
-  abbrev pub entry : Entry
+  abbrev entry : Entry
   entry = new_entry b new
 
-  abbrev pub chain : List ℕ
-  chain = chain_of own kind
-
-  abbrev pub before : List AttributeShape
-  before = (parts w.attribute).before
-
-  abbrev pub after : List AttributeShape
-  after = (parts w.attribute).after
-
-  abbrev pub sound : IsSound b (shape b)
+  abbrev sound : IsSound b (shape b)
   sound = good_is_sound b good
 
-  -- the chain as it was, with the items that it has then
-  abbrev items : List (ℕ × Entry)
-  items = with_item num entry (entries_of (attribute_of b own) kind)
+  abbrev cut : Parts b new.slot.adr new.slot.attribute own
+  cut = parts w.attribute
 
-  module _ {now records list : List ℕ} {marks : List Mark} {reborn chain' gone : List ℕ} {place : ℕ} (r : Rechains b now (shape b) records list marks reborn kind before own after chain' gone (place ∷ [])) where
+  body_long : (r : Reserved) → 8 + length (body_of new r) ≡ 56 + size
+  body_long r = omega (arith, length-body new.slot.kind new.slot.attribute new.value.t new.slot.num new.value.elems r new.value.bytes.items)
+
+  body_typed : (r : Reserved) → type_of_body (body_of new r) ≡ entry_type new.slot.kind
+  body_typed r = type_in_body new.slot.kind new.slot.attribute new.value.t new.slot.num new.value.elems r new.value.bytes.items
+
+  ready_limit : length b + (56 + size) ≤ image_limit
+  ready_limit = omega (arith, w.room, w.within)
+
+  -- what calls ask for of the chain
+  module _ {c : Chain} (is : c ≡ entries_chain new.slot.kind new.slot.adr) where
+    abbrev pub of_chain : IsOfAttribute b c
+    of_chain = record { number = new.slot.attribute; own = own; stands = w.attribute.stands; kind = new.slot.kind; chain_is = is ∙ ap (entries_chain new.slot.kind) (sym w.attribute.adr_is) }
+
+    pub holder_at : HolderStands b c
+    holder_at = holder_stands b good c of_chain
+
+    pub chain_at : HasChain b c
+    chain_at = chain_there b good c of_chain
+
+    pub few_at : counted_in b c + 1 < 2 ^ 32
+    few_at =
+        let l = few_entries b good c of_chain in
+        let e = counted b good c of_chain in
+        let short = ready_limit in
+        omega arith
+
+    pub known_at : known.places ≡ members_of b c
+    known_at = places_are good of_chain known (w.chain ∙ sym is) w.known
+
+    -- and of the bytes
+    module _ {bytes : List ℕ} (r : Reserved) (body : bytes ≡ body_of new r) where
+      pub is_body : IsBody bytes
+      is_body = subst IsBody (sym body) (aedr_is_body new.slot.kind new.slot.attribute new.value.t new.slot.num new.value.elems r new.value.bytes.items)
+
+      pub body_kind : type_of_body bytes ≡ type_in c
+      body_kind = ap type_of_body body ∙ body_typed r ∙ sym (type_of_kind new.slot.kind new.slot.adr) ∙ ap type_in (sym is)
+
+      pub body_room : length b + (8 + length bytes) ≤ limit
+      body_room = let long = body_long r in omega (arith, ap (λ (xs : List ℕ). length xs) body, w.room)
+
+  -- the greatest number lies in an image that is no shorter
+  pub max_inside : (now : List ℕ) → length b ≤ length now → LiesIn now new.slot.adr (max_field new.slot.kind)
+  max_inside now longer =
+      let adr = adr_stands sound cut.before own cut.after cut.stands in
+      reach (max_field new.slot.kind).place (max_field new.slot.kind).width (size_at b own.adr) (max_lies new.slot.kind).1 adr.long (tile_lies b 8 (length b) (shape b).records own.adr sound.has_shape.tiled adr.inside).high w.attribute.adr_is
+    where
+      reach : {a : ℕ} (p w n : ℕ) → p + w ≤ 324 → 324 ≤ n → a + n ≤ length b → a ≡ new.slot.adr → new.slot.adr + p + w ≤ length now
+      reach p w n x y z e = omega arith
+
+  pub max_joined : {mid body : List ℕ} {c : Chain} {place count : ℕ} {ms : List ℕ} → Joined b mid c body place ms count → LiesIn mid new.slot.adr (max_field new.slot.kind)
+  max_joined {mid = mid} joined = max_inside mid (let one = (filled_edit sound joined.placed.fills).longer in let two = joined.as_long in omega arith)
+
+  -- the numbers fit their fields
+  fits_with : {r : Reserved} → r.b < 2 ^ 32 → r.c < 2 ^ 32 → r.d < 2 ^ 32 → r.e < 2 ^ 32 → Fits new r
+  fits_with b_fits c_fits d_fits e_fits =
+      let lt = slice_get_within (shape b).attributes new.slot.attribute own w.attribute.stands in
+      let f = few_attributes b (shape b) sound.has_shape in
+      let m = length-map (shape b).attributes (λ (a : AttributeShape). a.adr) in
+      record { attr_fits = omega (arith, lt, f, m, ready_limit); num_fits = let n = w.num in omega arith; elems_fit = let f = w.stored.few in omega arith; b_fits = b_fits; c_fits = c_fits; d_fits = d_fits; e_fits = e_fits }
+
+  new_fits : Fits new new_reserved
+  new_fits = fits_with (lit< tt) (lit< tt) (lit< tt) (lit< tt)
+
+  places_chain : known.places ≡ chain
+  places_chain = known_at refl ∙ members b good (entries_chain new.slot.kind new.slot.adr) (of_chain refl)
+
+  numbers_chain : known.numbers ≡ nums b chain
+  numbers_chain = w.known.numbers_are ∙ ap (nums b) places_chain
+
+  -- the entry of the number, and where it begins
+  pub numbered : (i : ℕ) → position (λ n. n == new.slot.num) known.numbers ≡ Some i → (i < length known.places) × (number b (slice_index known.places i) aedr_num ≡ new.slot.num)
+  numbered = numbered_at good (of_chain refl) known w.chain w.known new.slot.num
+
+  pub begins_at : (i : ℕ) → i < length known.places → slice_index known.places i + 56 ≤ length b
+  begins_at i within = let l = entry_inside b good (entries_chain new.slot.kind new.slot.adr) (of_chain refl) (slice_index known.places i) (subst (In (slice_index known.places i)) (known_at refl) (index_in known.places i within)) in omega arith
+
+  -- the greatest number fits its field
+  small_all : (n : ℕ) → In n (new.slot.num ∷ known.numbers) → n ≤ signed_limit
+  small_all n (inl e) = let l = w.num in omega (arith, e)
+  small_all n (inr i) = let l = small good (of_chain refl) known w.chain w.known n i in omega arith
+
+  signed : FitsSigned w32 new.greatest
+  signed = greatest_fits (new.slot.num ∷ known.numbers) new.greatest small_all w.greatest
+
+  is_stored : stored new ≡ cast_unsigned w32 new.greatest
+  is_stored = ap (cast_unsigned w32) (to_z-of_z w32 new.greatest signed)
+
+  -- ---- an image in which the chain has it
+
+  module _ {now records list : List ℕ} {marks : List Mark} {reborn chain' gone : List ℕ} {place : ℕ} (r : Rechains b now (shape b) records list marks reborn new.slot.kind cut.before own cut.after chain' gone (place ∷ [])) where
     -- what is to be shown of the chain
-    pub record ChainHas : Type 0 where
-      pub stands : In place chain'
-      pub items_now : chain_items now chain' ≡ items
-      pub differ : Distinct (nums now chain')
-      pub chain_is : chain' ≡ chain_after chain (entry_at b own kind num) (Some place)
-      pub of_gone : (m : ℕ) → In m gone → number b m aedr_num ≡ num
+    record ChainHas : Type 0 where
+      stands : In place chain'
+      items_now : chain_items now chain' ≡ with_item new.slot.num entry (entries_of (attribute_of b own) new.slot.kind)
+      differ : Distinct (nums now chain')
+      chain_is : chain' ≡ chain_after chain (entry_at b own new.slot.kind new.slot.num) (Some place)
+      of_gone : (m : ℕ) → In m gone → number b m aedr_num ≡ new.slot.num
 
-    -- what is known of the chain then
-    pub knows_now : (numbers places : List ℕ) → places ≡ chain' → numbers ≡ nums now chain' → KnowsEntries now (record { chain = known.chain; numbers = numbers; places = places })
-    knows_now numbers places are say = record {
-      places_are = are ∙ sym (members_at good w.attribute r) ∙ ap (members_of now) (sym w.chain);
-      numbers_are = say ∙ ap (nums now) (sym are);
-    }
+    module _ {reserved : Reserved} (there : IsEntry b now place new reserved) (c : ChainHas) where
+      found_now : entry_at now (with_chain own new.slot.kind chain') new.slot.kind new.slot.num ≡ Some place
+      found_now = ap (find (λ aedr. number now aedr aedr_num == new.slot.num)) (chain_now new.slot.kind own chain') ∙ found_one now new.slot.num place chain' there.num_is c.stands c.differ
 
-    module _ {reserved : Reserved} where
-      -- what is read of it
-      pub read_back : Says now place (aedr_fields new.slot.attribute new.value.t num new.value.elems reserved) → field_bytes now place (aedr_value size) ≡ new.value.bytes.items → 56 + size ≤ size_at now place → IsEntry now place (number b own.adr adr_num) num reserved size entry
-      read_back says bytes room =
-          let t = new.value.t in
-          subst (λ (k : ℕ). IsEntry now place k num reserved size entry) (sym (number_at good w.attribute))
-          (is_entry now place new.slot.attribute t num new.value.elems reserved new.value.bytes.items entry says bytes (record { meant = ap (λ (little : Bool). record { type = t; elems = new.value.elems; bytes = turned t little new.value.bytes.items }) (file_now sound r).little; stored = w.stored }) room)
+      -- each member keeps the rules, the new one and those that stay
+      rules : (m : ℕ) → In m chain' → Hold (entry_rows now own.adr m)
+      rules m i = elim (traded_member chain chain' gone (place ∷ []) (once_before sound r good) r.trades m i) [
+        | inl j ↦ subst (λ (x : ℕ). Hold (entry_rows now own.adr x)) (sym (the_one place m j)) (
+          eq-eqb _ _ (there.attribute ∙ sym (num_same sound r ∙ number_at good w.attribute)),
+          (ap (λ (n : ℕ). nat_le n record_number_limit) there.num_is ∙ of_le new.slot.num record_number_limit w.num, (there.valued, tt)),
+        )
+        | inr old ↦ rules_live sound r good m old.0 old.1
+      ]
 
-      pub written_there : {filled : List ℕ} → Placed b filled (body_of new reserved) place → Fit new.slot.attribute num new.value.elems reserved → Same filled now (place + 20) (place + (56 + size)) → size_at now place ≡ 8 + length (body_of new reserved) → length filled ≤ length now → IsEntry now place (number b own.adr adr_num) num reserved size entry
-      written_there placed fit same sized longer =
-          let long = length-body new.slot.attribute new.value.t num new.value.elems reserved new.value.bytes.items kind in
-          let inside = placed.inside in
-          let kept = placed.fills.long in
-          let says = entry_written new.slot.attribute new.value.t num new.value.elems reserved new.value.bytes.items kind placed fit same (omega arith) longer in
-          read_back says.0 says.1 (omega arith)
+      chained : {attr : List ℕ} {need : ℕ} {acts : List Act} → attribute_named (content b) attr ≡ Some (length cut.before, attribute_of b own) → number now own.adr (count_field new.slot.kind) ≡ length chain' → integer4 now own.adr (max_field new.slot.kind) ≡ new.greatest → Settled sound r need acts
+          → Chained sound r attr new.slot.num need (with_item new.slot.num entry (entries_of (attribute_of b own) new.slot.kind)) acts
+      chained found counted greatest settled = record {
+        found = found;
+        items_now = c.items_now;
+        counted = counted;
+        differ = c.differ;
+        rules = rules;
+        chain_is = chain_now new.slot.kind own chain' ∙ c.chain_is ∙ ap (chain_after chain (entry_at b own new.slot.kind new.slot.num)) (sym found_now);
+        greatest = greatest ∙ greatest_put b chain new.slot.num entry new.greatest (subst (λ (xs : List ℕ). IsGreatest (new.slot.num ∷ xs) new.greatest) numbers_chain w.greatest) ∙ ap (λ (es : List (ℕ × Entry)). greatest_number (with_item new.slot.num entry es)) (sym (items_of b own new.slot.kind));
+        of_gone = c.of_gone;
+        settled = settled;
+      }
 
-      module _ (there : IsEntry now place (number b own.adr adr_num) num reserved size entry) (c : ChainHas) where
-        found_now : entry_at now (with_chain own kind chain') kind num ≡ Some place
-        found_now = ap (find (λ aedr. number now aedr aedr_num == num)) (chain_now kind own chain') ∙ found_one now num place chain' there.num_is c.stands c.differ
-
-        -- each member keeps the rules, the new one and those that stay
-        rules : (m : ℕ) → In m chain' → Hold (entry_rows now own.adr m)
-        rules m i = elim (traded_member chain chain' gone (place ∷ []) (once_before sound r good) r.trades m i) [
-          | inl j ↦ subst (λ (x : ℕ). Hold (entry_rows now own.adr x)) (sym (the_one place m j)) (
-            eq-eqb _ _ (there.attribute ∙ sym (num_same sound r)),
-            (ap (λ (n : ℕ). nat_le n record_number_limit) there.num_is ∙ of_le num record_number_limit w.num, (there.valued, tt)),
-          )
-          | inr old ↦ rules_live sound r good m old.0 old.1
-        ]
-
-        chained : {attr : List ℕ} {need : ℕ} {acts : List Act} → attribute_named (content b) attr ≡ Some (length before, attribute_of b own) → number now own.adr (count_field kind) ≡ length chain' → integer4 now own.adr (max_field kind) ≡ new.greatest → Settled sound r need acts → Chained sound r attr num need items acts
-        chained found counted greatest settled = record {
-          found = found;
-          items_now = c.items_now;
-          counted = counted;
-          differ = c.differ;
-          rules = rules;
-          chain_is = chain_now kind own chain' ∙ c.chain_is ∙ ap (chain_after chain (entry_at b own kind num)) (sym found_now);
-          greatest = greatest ∙ w.greatest ∙ ap (λ (ms : List ℕ). greatest_number (with_item num entry (chain_items b ms))) (places_chain good w) ∙ ap (λ (es : List (ℕ × Entry)). greatest_number (with_item num entry es)) (sym (items_of b own kind));
-          of_gone = c.of_gone;
-          settled = settled;
-        }
-
-        pub puts : {need : ℕ} {acts : List Act} → need ≡ 56 + size → number now own.adr (count_field kind) ≡ length chain' → integer4 now own.adr (max_field kind) ≡ new.greatest → Settled sound r need acts → EntryFollows b now (entry_at b own kind num) place acts → FreedStay b now no_fields acts → Puts b now new.slot entry
-        puts {need = need} {acts = acts} sized counted greatest settled follows freed = record {
+      is_put : {need : ℕ} {acts : List Act} {numbers places : List ℕ} → need ≡ 56 + size → number now own.adr (count_field new.slot.kind) ≡ length chain' → integer4 now own.adr (max_field new.slot.kind) ≡ new.greatest → Settled sound r need acts → EntryFollows b now (entry_at b own new.slot.kind new.slot.num) place acts → FreedStay b now no_fields acts
+          → numbers ≡ nums now chain' → places ≡ chain' → IsPut b now new known (record { chain = known.chain; numbers = numbers; places = places })
+      is_put {acts = acts} sized counted greatest settled follows freed say are = record {
+        puts = record {
           follows = λ attr words asks.
-              let a = asked w.attribute asks in
-              let all = chained a.found counted greatest settled in
-              follows_chained sound r all good (PutEntry attr kind num entry.type words) (ap ByStep (put_goes a)) (put_room a ∙ ap (λ (n : ℕ). 56 + n) (size_stays new.value.t (is_little b) new.value.bytes.items (whole w.stored)) ∙ sym sized) refl refl
-              (of_named sound r all (λ a a'. PutsEntry b now a a' kind num acts) (record { aedr = place; stands = found_now; follows = follows; no_strings = there.no_strings; chain = chain_follows sound r all; freed = freed })) (let l = ready_limit good w in omega arith);
+              let both : Some asks.own ≡ Some own = sym asks.stands ∙ w.attribute.stands in
+              let same : asks.own ≡ own = cc in
+              let goes = asks.goes ∙ (λ i. Go (with_attribute (content b) (sym cut.count i) (with_entries (attribute_of b (same i)) new.slot.kind (with_item new.slot.num entry (entries_of (attribute_of b (same i)) new.slot.kind)))) Plain) in
+              let all = chained (asks.named ∙ (λ i. Some (sym cut.count i, attribute_of b (same i)))) counted greatest settled in
+              follows_chained sound r all good (PutEntry attr new.slot.kind new.slot.num entry.type words) (ap ByStep goes) (asks.takes ∙ ap (λ (n : ℕ). 56 + n) (size_stays new.value.t (is_little b) new.value.bytes.items (whole w.stored)) ∙ sym sized) refl refl
+              (of_named sound r all (λ a a'. PutsEntry b now a a' new.slot.kind new.slot.num acts) (record { aedr = place; stands = found_now; follows = follows; no_strings = there.no_strings; chain = chain_follows sound r all; freed = freed })) (let l = ready_limit in omega arith);
           names_stay = names_rechained sound r;
           places_stay = places_rechained sound r;
-        }
+        };
+        knows = record { places_are = are ∙ sym (members_at good w.attribute r) ∙ ap (members_of now) (sym w.chain); numbers_are = say ∙ ap (nums now) (sym are) };
+        chain_is = refl;
+      }
+
+  -- a record of it was made and linked
+  module _ {now : List ℕ} {place : ℕ} {chain' gone : List ℕ} {count : ℕ} {reserved : Reserved} (p : JoinsEntry b now new.slot.kind cut.before own cut.after (body_of new reserved) place chain' gone count) where
+    joined_there : Fits new reserved → IsEntry b now place new reserved
+    joined_there fit =
+        let long = as_long sound p in
+        let n = body_long reserved in
+        let inside = p.joined.placed.inside in
+        let kept = p.joined.placed.fills.long in
+        let sized = new_size sound p in
+        entry_written new reserved (file_now sound (rechains sound p)).little w.stored p.joined.placed fit (new_value sound p _ (omega arith)) (omega arith) (omega arith) (omega arith)
+
+  -- ---- a last one
+
+  module _ {mid now : List ℕ} {place : ℕ} (absent : position (λ n. n == new.slot.num) known.numbers ≡ None) {c : Chain} {bytes : List ℕ} (is : c ≡ entries_chain new.slot.kind new.slot.adr) (bytes_are : bytes ≡ body_of new new_reserved) (added : Added b mid c bytes place) (written : now ≡ with_field mid new.slot.adr (max_field new.slot.kind) (stored new)) where
+    abbrev p : JoinsEntry b now new.slot.kind cut.before own cut.after (body_of new new_reserved) place (chain ++ place ∷ []) [] (counted_in b (entries_chain new.slot.kind own.adr) + 1)
+    p = pushes sound cut.stands (body_typed new_reserved) (max_written new.slot.kind (stored new) w.attribute.adr_is written) (as_meant (λ (x : Chain) (xs : List ℕ). Added b mid x xs place) (of_chain is).chain_is bytes_are added)
+
+    abbrev r : Rechains b now (shape b) (records sound p) (list sound p) (marks sound p) (place ∷ []) new.slot.kind cut.before own cut.after (chain ++ place ∷ []) [] (place ∷ [])
+    r = rechains sound p
+
+    there : IsEntry b now place new new_reserved
+    there = joined_there p new_fits
+
+    out : In new.slot.num (nums b chain) → ⊥
+    out i = none_in new.slot.num known.numbers absent (subst (In new.slot.num) (sym numbers_chain) i)
+
+    live : (m : ℕ) → In m chain → EntryLives b now m
+    live m i = entry_stays sound r m i (λ none. none)
+
+    out_now : In (number now place aedr_num) (nums now chain) → ⊥
+    out_now i = out (subst (In new.slot.num) (nums_live b now chain live) (subst (λ (n : ℕ). In n (nums now chain)) there.num_is i))
+
+    found : entry_at b own new.slot.kind new.slot.num ≡ None
+    found = found_none b new.slot.num chain out
+
+    pub pushed : IsPut b now new known (record { chain = known.chain; numbers = known.numbers ++ new.slot.num ∷ []; places = known.places ++ place ∷ [] })
+    pushed = is_put r there
+        (record {
+          stands = In-append_right place chain (place ∷ []) (inl refl);
+          items_now = entries_pushed now chain place out_now ∙ (λ i. with_item (there.num_is i) (there.meant i) (entries_live b now chain live i)) ∙ ap (with_item new.slot.num entry) (sym (items_of b own new.slot.kind));
+          differ = nums_pushed now chain place (subst Distinct (sym (nums_live b now chain live)) (differ_before sound r good)) out_now;
+          chain_is = ap (λ (o : Option ℕ). chain_after chain o (Some place)) (sym found);
+          of_gone = λ m i. absurd i;
+        }) (body_long new_reserved)
+        (count_now sound p ∙ ap (λ (n : ℕ). n + 1) (as_count new.slot.kind b b own.adr ∙ counted_before sound r good) ∙ sym (length-append chain (place ∷ [])))
+        (greatest_now sound p new.greatest signed is_stored) (settled sound p (λ m. refl) (λ none. none))
+        (rw found (ap (λ (n : ℕ). Took place n ∷ []) (body_long new_reserved ∙ ap (λ (n : ℕ). 56 + n) (sym there.bytes_are)), there.reserved)) tt
+        ((λ i. (numbers_chain ∙ sym (nums_live b now chain live)) i ++ sym there.num_is i ∷ []) ∙ sym (map-append (λ (e : ℕ). number now e aedr_num) chain (place ∷ [])))
+        (ap (λ (ms : List ℕ). ms ++ place ∷ []) places_chain)
+
+  -- ---- in place of the one of its number
+
+  module _ {i : ℕ} {was : OldEntry} (has : HasOld b known i new.slot.num was) where
+    abbrev old : ℕ
+    old = was.place
+
+    member : In old chain
+    member = subst (λ (x : ℕ). In x chain) (sym has.place_is) (subst (In (slice_index known.places i)) places_chain (index_in known.places i has.within))
+
+    member_in : {c : Chain} → c ≡ entries_chain new.slot.kind new.slot.adr → In old (members_of b c)
+    member_in {c = c} is = subst (In old) (sym (members b good c (of_chain is))) member
+
+    -- it ends in the image, and is long enough for its fields
+    ends_within : old + size_at b old ≤ length b
+    ends_within =
+        let h = sound.has_shape in
+        let ok = (chain_at refl).linkable old (member_in refl) in
+        (tile_lies b 8 (length b) (shape b).records old h.tiled (subst (In old) (tiles_are b (shape b) h) (linkable-in b (tiles b) (type_in (entries_chain new.slot.kind new.slot.adr)) old ok))).high
+
+    pub begins : old + 56 ≤ length b
+    begins = subst (λ (x : ℕ). x + 56 ≤ length b) (sym has.place_is) (begins_at i has.within)
+
+    member_long : 28 ≤ size_at b old
+    member_long = through (entry_bytes b old) (size_at b old) (entry_lies b good (entries_chain new.slot.kind new.slot.adr) (of_chain refl) old (member_in refl))
+      where
+        through : (n size : ℕ) → 56 + n ≤ size → 28 ≤ size
+        through n size l = omega arith
+
+    pub is_member : {c : Chain} → c ≡ entries_chain new.slot.kind new.slot.adr → is_in old (members_of b c) ≡ true
+    is_member {c = c} is = is_in-true old (members_of b c) (member_in is)
+
+    pub behind_at : {c : Chain} → c ≡ entries_chain new.slot.kind new.slot.adr → last_or None (take i known.places) ≡ last_or None (before old (members_of b c))
+    behind_at {c = c} is = stands_behind good (of_chain is) known (w.chain ∙ sym is) w.known i has.within ∙ ap (λ (x : ℕ). last_or None (before x (members_of b c))) (sym has.place_is)
+
+    old_fits : Fits new was.reserved
+    old_fits = subst (Fits new) (sym has.reserved_is) (fits_with (field 40 (omega arith)) (field 44 (omega arith)) (field 48 (omega arith)) (field 52 (omega arith)))
+      where
+        field : (at : ℕ) → at + 4 ≤ 56 → word b (old + at) 4 < 2 ^ 32
+        field at l = word4_fits b old 56 (old + at) has.bytes (omega arith) (omega arith)
+
+    module _ {now records list : List ℕ} {marks : List Mark} {reborn : List ℕ} {by : ℕ} (r : Rechains b now (shape b) records list marks reborn new.slot.kind cut.before own cut.after (with_in_place old by chain) (old ∷ []) (by ∷ [])) (there : IsEntry b now by new was.reserved) where
+      others : (m : ℕ) → In m chain → m ≢ old → EntryLives b now m
+      others m i ne = entry_stays sound r m i (λ j. ne (the_one old m j))
+
+      numbers_same : nums now (with_in_place old by chain) ≡ nums b chain
+      numbers_same = nums_replaced b now old by new.slot.num has.number_is there.num_is chain (differ_before sound r good) member others
+
+      found_old : entry_at b own new.slot.kind new.slot.num ≡ Some old
+      found_old = found_one b new.slot.num old chain has.number_is member (differ_before sound r good)
+
+      replaced : {need : ℕ} {acts : List Act} {places : List ℕ} → need ≡ 56 + size → number now own.adr (count_field new.slot.kind) ≡ number b own.adr (count_field new.slot.kind) → integer4 now own.adr (max_field new.slot.kind) ≡ new.greatest → Settled sound r need acts → EntryMoves b now old by acts → FreedStay b now no_fields acts
+          → places ≡ with_in_place old by chain → IsPut b now new known (record known { places = places })
+      replaced sized same greatest settled moves freed are = is_put r there
+          (record {
+            stands = came_in chain _ (old ∷ []) (by ∷ []) r.trades by (inl refl) (one_within old chain member by);
+            items_now = entries_replaced b now old by new.slot.num has.number_is there.num_is chain (differ_before sound r good) member others ∙ (λ k. with_item new.slot.num (there.meant k) (sym (items_of b own new.slot.kind) k));
+            differ = subst Distinct (sym numbers_same) (differ_before sound r good);
+            chain_is = sym (replaced_after old by chain (once_before sound r good)) ∙ ap (λ (o : Option ℕ). chain_after chain o (Some by)) (sym found_old);
+            of_gone = λ m j. ap (λ (x : ℕ). number b x aedr_num) (the_one old m j) ∙ has.number_is;
+          }) sized (same ∙ counted_before sound r good ∙ sym (replaced_length old by chain)) greatest settled (rw found_old moves) freed (numbers_chain ∙ sym numbers_same) are
+
+      reserved_same : Says now by ((aedr_rfu_b, number b old aedr_rfu_b) ∷ (aedr_rfu_c, number b old aedr_rfu_c) ∷ (aedr_rfu_d, number b old aedr_rfu_d) ∷ (aedr_rfu_e, number b old aedr_rfu_e) ∷ [])
+      reserved_same = subst (λ (x : Reserved). Says now by ((aedr_rfu_b, x.b) ∷ (aedr_rfu_c, x.c) ∷ (aedr_rfu_d, x.d) ∷ (aedr_rfu_e, x.e) ∷ [])) has.reserved_is there.reserved
+
+    -- ---- in its record
+
+    module _ {bytes : List ℕ} (room : 56 + size ≤ was.size) (bytes_are : bytes ≡ fields_of new was.reserved) where
+      fits : 56 + size ≤ size_at b old
+      fits = subst (λ (n : ℕ). 56 + size ≤ n) has.size_is room
+
+      wide : 20 + length (fields_of new was.reserved) ≡ 56 + size
+      wide = omega arith
+
+      pub fields_inside : old + 20 + length bytes ≤ length b
+      fields_inside =
+          let same = ap (λ (xs : List ℕ). length xs) bytes_are in
+          let long = wide in
+          let ends = ends_within in
+          let room = fits in
+          omega arith
+
+      module _ {now : List ℕ} (written : now ≡ with_field (put b (old + 20) bytes) new.slot.adr (max_field new.slot.kind) (stored new)) where
+        abbrev q : ChangesEntry b now new.slot.kind cut.before own cut.after (fields_of new was.reserved) old
+        q = record { was = cut.stands; member = member; room = let f = fits in let l = wide in omega arith; greatest = stored new; written = max_written new.slot.kind (stored new) w.attribute.adr_is (written ∙ ap (λ (xs : List ℕ). with_field (put b (old + 20) xs) new.slot.adr (max_field new.slot.kind) (stored new)) bytes_are) }
+
+        abbrev changed_chain : Rechains b now (shape b) (shape b).records (shape b).unused (changed.marks sound q) [] new.slot.kind cut.before own cut.after (with_in_place old old chain) (old ∷ []) (old ∷ [])
+        changed_chain = changed.rechains sound q
+
+        changed_there : IsEntry b now old new was.reserved
+        changed_there =
+            let value = new.value.bytes.items in
+            let mid = put b (old + 20) (fields_of new was.reserved) in
+            let high = ends_within in
+            let inside = fits in
+            let l = wide in
+            let f = old_fits in
+            let more = drop (old + 20 + length (fields_of new was.reserved)) b in
+            let laid : drop (old + 20) mid ≡ laid_out (said new was.reserved) ++ (value ++ more) = drop-put_there b (fields_of new was.reserved) (old + 20) (omega arith) ∙ append_assoc (laid_out (said new was.reserved)) value more in
+            let says = says_laid_out mid old 20 (said new was.reserved) (value ++ more) laid refl (f.attr_fits, (code_small new.value.t, (f.num_fits, (f.elems_fit, (lit< tt, (f.b_fits, (f.c_fits, (f.d_fits, (f.e_fits, tt))))))))) in
+            let same = entry_kept sound q (56 + length value) fits in
+            let mid_long : length mid ≡ length b = length-put b (old + 20) (fields_of new was.reserved) (omega arith) in
+            let long = changed.as_long sound q in
+            is_entry new was.reserved (file_now sound changed_chain).little w.stored (says_kept mid now old 0 (56 + length value) 20 (said new was.reserved) same (omega arith) (omega arith) refl says.0)
+            (piece_kept mid now (old + 0) (old + (56 + length value)) same (old + 56) (length value) (omega arith) (omega arith) (omega arith) (omega arith) ∙ ap (take (length value)) says.1 ∙ take_at value more (length value) refl)
+            (subst (λ (n : ℕ). 56 + length value ≤ n) (sym (changed.size_stays sound q)) fits)
+
+        all_ends : 20 + length (fields_of new was.reserved) ≡ entry_end now old
+        all_ends = wide ∙ ap (λ (n : ℕ). 56 + n) (sym changed_there.bytes_are)
+
+        pub put_over : IsPut b now new known known
+        put_over = replaced changed_chain changed_there refl (changed.count_now sound q) (changed.greatest_now sound q new.greatest signed is_stored) (changed.settled sound q good)
+            (record {
+              acts_are = rw (le-leb (entry_end now old) (size_at b old) (subst (λ (n : ℕ). n ≤ size_at b old) all_ends q.room)) refl;
+              reserved = reserved_same changed_chain changed_there;
+              room = λ le. record { place_stays = refl; size_stays = changed.size_stays sound q; rest_stays = subst (λ (n : ℕ). Same b now (old + n) (old + size_at b old)) all_ends (behind_stays sound q) };
+            }) tt (places_chain ∙ sym (in_its_place old chain))
+
+    -- ---- in another record
+
+    module _ {mid late : List ℕ} {by : ℕ} {c : Chain} {bytes : List ℕ} (is : c ≡ entries_chain new.slot.kind new.slot.adr) (bytes_are : bytes ≡ body_of new was.reserved) (exchanged : Exchanged b mid c bytes old by) (written : late ≡ with_field mid new.slot.adr (max_field new.slot.kind) (stored new)) where
+      abbrev j : JoinsEntry b late new.slot.kind cut.before own cut.after (body_of new was.reserved) by (with_in_place old by chain) (old ∷ []) (counted_in b (entries_chain new.slot.kind own.adr))
+      j = exchanges sound cut.stands (body_typed was.reserved) (max_written new.slot.kind (stored new) w.attribute.adr_is written) member (as_meant (λ (x : Chain) (xs : List ℕ). Exchanged b mid x xs old by) (of_chain is).chain_is bytes_are exchanged)
+
+      late_there : IsEntry b late by new was.reserved
+      late_there = joined_there j old_fits
+
+      -- the old one may be freed
+      abbrev took : Act
+      took = Took by (8 + length (body_of new was.reserved))
+
+      f : Frees b late (records sound j) (list sound j) (marks sound j) (by ∷ []) new.slot.kind cut.before own cut.after (with_in_place old by chain) (by ∷ []) old (8 + length (body_of new was.reserved)) (took ∷ [])
+      f = frees sound j member late_there.fits
+
+      pub late_sound : IsSound late (shape late)
+      late_sound = sound_late sound f
+
+      pub late_stands : In old (shape late).records
+      late_stands = old_stands sound f
+
+      pub late_free : times old (owned_records late (shape late)) ≡ 0
+      late_free = old_free sound f
+
+      module _ {now : List ℕ} (large : was.size < 56 + size) (gives : Gives late now (shape late) (shape now) old) where
+        abbrev moved : Rechains b now (shape b) (records sound j) (shape now).unused (all_marks sound f) (by ∷ old ∷ []) new.slot.kind cut.before own cut.after (with_in_place old by chain) (old ∷ []) (by ∷ [])
+        moved = freed_rechains sound f gives
+
+        moved_there : IsEntry b now by new was.reserved
+        moved_there =
+            let n = body_long was.reserved in
+            let long = as_long sound j in
+            let freed_long = as_long_now sound f gives in
+            let stays = other_kept sound f gives by (place_in sound j) (not_old sound j member late_there.fits) (new_type sound j) in
+            let sized = new_size sound j in
+            let wide = stays.long in
+            let inside = j.joined.placed.inside in
+            let kept = j.joined.placed.fills.long in
+            let size_now = size_kept late now by stays.same (omega arith) in
+            entry_written new was.reserved (file_now sound moved).little w.stored j.joined.placed old_fits
+            (same-then j.joined.filled late now (by + 20) (by + (56 + size)) (new_value sound j _ (omega arith)) (Same-part late now by (by + size_at late by) (by + 20) (by + (56 + size)) stays.same (omega arith) (omega arith)))
+            (omega arith) (omega arith) (omega arith)
+
+        pub put_anew : IsPut b now new known (record known { places = slice_set known.places i by })
+        put_anew =
+            let n = body_long was.reserved in
+            let wide : 8 + length (body_of new was.reserved) ≡ entry_end now by = n ∙ ap (λ (n : ℕ). 56 + n) (sym moved_there.bytes_are) in
+            let larger : size_at b old < entry_end now by = (let is = has.size_is in omega arith) in
+            let set = set_in_place known.places i by has.within (once good (of_chain refl) known w.chain w.known) in
+            replaced moved moved_there n (count_same sound f gives (count_is new.slot.kind b own.adr).0 ∙ count_now sound j ∙ as_count new.slot.kind b b own.adr)
+            (greatest_integer new.slot.kind late now own.adr (greatest_same sound f gives (max_lies new.slot.kind).1) ∙ greatest_now sound j new.greatest signed is_stored) (freed_settled sound f gives (ends sound j))
+            (record {
+              acts_are = rw (lt-leb (entry_end now by) (size_at b old) larger) (ap (λ (n : ℕ). Took by n ∷ Gave old (size_at b old) ∷ []) wide);
+              reserved = reserved_same moved moved_there;
+              room = λ le. absurd (omega arith);
+            }) (freed_bytes sound f gives (took ∷ Gave old (size_at b old) ∷ []) member_long) (sym (ap (λ (x : ℕ). with_in_place x by known.places) has.place_is ∙ set) ∙ ap (with_in_place old by) places_chain)

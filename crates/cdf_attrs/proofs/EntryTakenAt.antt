@@ -1,12 +1,13 @@
 -- An entry at an index of its chain: what of the chain is before it and without it, and what calls ask for that take it out.
-use Rattle.std.proofs.Common.{◌≡◌, ℕ, zero, suc, ◌+◌, ◌<◌, ◌≤◌, pos, List, [], ◌∷◌, length, map, take, slice_index_or, All, eq-eqb, FitsSigned, w32, None, refl, sym, ap, subst, ◌∙◌, arith, inl, inr}
-use Rattle.std.proofs.lemmas.Bool.{ne_eqb}
+use Rattle.std.proofs.Common.{◌≡◌, ℕ, zero, suc, ◌+◌, ◌<◌, ◌≤◌, pos, List, [], ◌∷◌, length, map, take, get_or, slice_index_or, true, Some, All, eq-eqb, FitsSigned, w32, None, refl, sym, ap, subst, ◌∙◌, arith, inl, inr}
+use Rattle.std.proofs.lemmas.Bool.{eqb-true, ne_eqb}
 use Rattle.std.proofs.lemmas.Int.{ints, of_z-to_z}
 use Rattle.std.specs.Int.{cast_signed, cast_unsigned}
-use Rattle.std.proofs.lemmas.List.{length-map}
+use Rattle.std.proofs.lemmas.List.{get_or-map, length-map}
 use Rattle.std.proofs.lemmas.List.Edits.{length-remove}
-use Rattle.std.specs.List.{last_or, remove, slice_get}
-use Rattle.std.specs.Prelude.{slice_index}
+use Rattle.std.proofs.lemmas.List.Quantifiers.{position-Some}
+use Rattle.std.specs.List.{last_or, position, remove, slice_get}
+use Rattle.std.specs.Prelude.{◌==◌, slice_index}
 use Rattle.cdf_model.specs.declared.kinds.EntryKind.{EntryKind}
 use Rattle.cdf_model.specs.Limits.{image_limit, record_number_limit, signed_limit}
 use Rattle.cdf_format.specs.Fields.{number}
@@ -75,6 +76,14 @@ module _ {b : List ℕ} (good : Good b) {chain : Chain} (of : IsOfAttribute b ch
 
   pub as_long : length entries.numbers ≡ length entries.places
   as_long = ap (λ (xs : List ℕ). length xs) knows.numbers_are ∙ length-map entries.places (λ aedr. number b aedr aedr_num)
+
+  -- the entry of a number
+  pub numbered_at : (num i : ℕ) → position (λ n. n == num) entries.numbers ≡ Some i → (i < length entries.places) × (number b (slice_index entries.places i) aedr_num ≡ num)
+  numbered_at num i at =
+      let here = position-Some (λ n. n == num) entries.numbers i 0 at in
+      let long = as_long in
+      let within : i < length entries.places = let lt = here.0 in omega arith in
+      (within, sym (get_or-map (λ aedr. number b aedr aedr_num) entries.places i 0 0 within) ∙ ap (λ (xs : List ℕ). get_or xs i 0) (sym knows.numbers_are) ∙ eqb-true _ _ here.1)
 
   -- no number is too great
   pub small : (n : ℕ) → In n entries.numbers → n ≤ record_number_limit

@@ -116,3 +116,12 @@ rising_entries b (e ∷ es) = rising_with 0 (number b e aedr_num) (entry_of b e)
 -- the greatest of the numbers of records is that of the items that they mean
 pub greatest_of_items : (b es : List ℕ) (z : ℤ) → IsGreatest (nums b es) z → z ≡ greatest_number (entries_of b es)
 greatest_of_items b es z is = same_greatest (nums b es) (keys (entries_of b es)) z (greatest_number (entries_of b es)) (keys_in b es) (nums_in b es) is (rising_greatest 0 (entries_of b es) (rising_entries b es))
+
+-- that of the numbers of records and of one more is that of the items with its one
+pub greatest_put : (b es : List ℕ) (num : ℕ) (entry : Entry) (z : ℤ) → IsGreatest (num ∷ nums b es) z → z ≡ greatest_number (with_item num entry (entries_of b es))
+greatest_put b es num entry z is =
+    let items = entries_of b es in
+    same_greatest (num ∷ nums b es) (keys (with_item num entry items)) z (greatest_number (with_item num entry items))
+    (λ k i. elim i [ inl e ↦ subst (λ (x : ℕ). In x (keys (with_item num entry items))) (sym e) (key_in num entry items) | inr j ↦ key_stays num entry items k (keys_in b es k j) ])
+    (λ k i. elim (key_from num entry items k i) [ inl e ↦ inl e | inr j ↦ inr (nums_in b es k j) ])
+    is (rising_greatest 0 (with_item num entry items) (rising_with 0 num entry items (omega arith) (rising_entries b es)))

@@ -6,7 +6,6 @@ pub mod DroppingFrom
 pub mod DropHalf
 pub mod DroppingSteps
 pub mod Renamed
-pub mod EntryWritten
 pub mod AttributeParts
 pub mod EntryPut
 pub mod GreatestNumber
@@ -14,7 +13,6 @@ pub mod EntryTakenAt
 pub mod EntryDeleted
 pub mod EntryCalls
 pub mod EntryLeft
-pub mod PutCalls
 pub mod NewAdr
 pub mod NumberedEntries
 pub mod NumberGone
@@ -36,9 +34,6 @@ pub mod EntrySteps
 pub mod GettingAnswers
 pub mod WholeEntries
 pub mod TakenHalf
-pub mod ValuePut
 pub mod ValueWords
 pub mod RangeCounts
-pub mod GreatestPut
-pub mod PutSteps
 pub mod PutAnswers

@@ -1,15 +1,17 @@
 -- A value that is put as the entry of a number into a chain of an attribute, and what an image is then (own).
-use Rattle.std.specs.Prelude.{◌≡◌, ◌+◌, ◌<◌, ◌≤◌, ℕ, List, Some, Ok, false, length, slice_index, FitsSigned}
+use Rattle.std.specs.Prelude.{◌≡◌, ◌+◌, ◌<◌, ◌≤◌, ℕ, List, Some, length, ◌∷◌, slice_index}
 use Rattle.std.specs.List.{slice_get}
 use Rattle.cdf_model.specs.declared.command.Command.TheVariants.{PutEntry}
 use Rattle.cdf_model.specs.declared.data_type.DataType.{DataType}
-use Rattle.cdf_model.specs.AttributeSteps.{entry_by, is_out_of_range, is_wrong_scope}
+use Rattle.cdf_model.specs.declared.answer.Reply.TheVariants.{Plain}
+use Rattle.cdf_model.specs.Answers.{Go}
+use Rattle.cdf_model.specs.AttributeSteps.{entries_of, put_entry_step, with_attribute, with_entries}
 use Rattle.cdf_model.specs.ByteOrder.{turned}
 use Rattle.cdf_model.specs.DataSet.{Entry}
 use Rattle.cdf_model.specs.Names.{attribute_named, attribute_names}
-use Rattle.cdf_model.specs.Values.{notation_of}
+use Rattle.cdf_edits.specs.Commands.Room.{room}
 use Rattle.cdf_edits.specs.Follows.{Follows}
-use Rattle.cdf_format.specs.Content.{content, attribute_of, entries_of}
+use Rattle.cdf_format.specs.Content.{content, attribute_of}
 use Rattle.cdf_format.specs.Shape.{AttributeShape, adrs, shape}
 use Rattle.cdf_format.specs.Stored.{is_little}
 use Rattle.cdf_attrs.specs.declared.putting.Slot.{Slot}
@@ -18,13 +20,12 @@ use Rattle.cdf_attrs.specs.declared.entry_bytes.OldEntry.{OldEntry}
 use Rattle.cdf_attrs.specs.Known.{KnownEntries, KnowsEntries}
 use Rattle.cdf_attrs.specs.Putting.{IsStored, reserved_at}
 use Rattle.cdf_records.specs.Pieces.{AreBytes}
-use Rattle.cdf_edits.specs.Commands.EntryChains.{greatest_number}
+use Rattle.cdf_attrs.specs.Removing.{IsGreatest}
 use Rattle.cdf_edits.specs.Edits.EntryMarks.{entries_chain}
 use Rattle.cdf_format.specs.Fields.{number, size_at}
 use Rattle.cdf_format.specs.Records.{aedr_num}
 use Rattle.cdf_model.specs.Limits.{image_limit, record_number_limit}
 use Rattle.cdf_model.specs.Numbered.{with_item}
-use Rattle.std.specs.Int.{w32}
 
 -- an attribute has this number, and its ADR stands at this place
 pub record IsAttributeAt (b : List ℕ) (number adr : ℕ) : Type 0 where
@@ -36,13 +37,13 @@ pub record IsAttributeAt (b : List ℕ) (number adr : ℕ) : Type 0 where
 abbrev pub stored_entry : List ℕ → DataType → ℕ → List ℕ → Entry
 stored_entry b t elems bytes = record { type = t; elems = elems; bytes = turned t (is_little b) bytes }
 
--- A command `put-entry` asks for an entry that it may make: it names the attribute of the slot, and its words write the value.
+-- A command `put-entry` goes with this entry: it names the attribute of the slot, and takes the room of the entry.
 pub record Asks (b attr : List ℕ) (slot : Slot) (words : List (List ℕ)) (entry : Entry) : Type 0 where
-  pub at : IsAttributeAt b slot.attribute slot.adr
-  pub named : attribute_named (content b) attr ≡ Some (slot.attribute, attribute_of b at.own)
-  pub in_scope : is_wrong_scope slot.kind (attribute_of b at.own).scope ≡ false
-  pub in_range : is_out_of_range (content b) slot.kind slot.num ≡ false
-  pub valued : entry_by (notation_of entry.type) entry.type words ≡ Ok entry
+  pub own : AttributeShape
+  pub stands : slice_get (shape b).attributes slot.attribute ≡ Some own
+  pub named : attribute_named (content b) attr ≡ Some (slot.attribute, attribute_of b own)
+  pub goes : put_entry_step (content b) attr slot.kind slot.num entry.type words ≡ Go (with_attribute (content b) slot.attribute (with_entries (attribute_of b own) slot.kind (with_item slot.num entry (entries_of (attribute_of b own) slot.kind)))) Plain
+  pub takes : room b (PutEntry attr slot.kind slot.num entry.type words) ≡ 56 + length entry.bytes
 
 -- The image follows by each command that asks for the entry, and the attributes have the names and the places that they had.
 pub record Puts (b now : List ℕ) (slot : Slot) (entry : Entry) : Type 0 where
@@ -61,15 +62,21 @@ pub record IsReady (b : List ℕ) (limit : ℕ) (new : NewEntry) (entries : Know
   pub known : KnowsEntries b entries
   pub stored : IsStored new.value.t new.value.elems new.value.bytes.items
   pub num : new.slot.num ≤ record_number_limit
-  pub greatest : new.greatest ≡ greatest_number (with_item new.slot.num (new_entry b new) (entries_of b entries.places))
-  pub fits : FitsSigned w32 new.greatest
+  pub greatest : IsGreatest (new.slot.num ∷ entries.numbers) new.greatest
   pub room : length b + (56 + length new.value.bytes.items) ≤ limit
   pub within : limit ≤ image_limit
+
+-- an entry is put, and these are the entries of its chain then
+pub record IsPut (b now : List ℕ) (new : NewEntry) (entries put : KnownEntries) : Type 0 where
+  pub puts : Puts b now new.slot (new_entry b new)
+  pub knows : KnowsEntries now put
+  pub chain_is : put.chain ≡ entries.chain
 
 -- the entry at an index of a chain has this number, and this is what was read of it
 pub record HasOld (b : List ℕ) (entries : KnownEntries) (i num : ℕ) (old : OldEntry) : Type 0 where
   pub within : i < length entries.places
-  pub number_is : number b (slice_index entries.places i) aedr_num ≡ num
-  pub size_is : old.size ≡ size_at b (slice_index entries.places i)
-  pub reserved_is : old.reserved ≡ reserved_at b (slice_index entries.places i)
-  pub bytes : AreBytes b (slice_index entries.places i) 56
+  pub place_is : old.place ≡ slice_index entries.places i
+  pub number_is : number b old.place aedr_num ≡ num
+  pub size_is : old.size ≡ size_at b old.place
+  pub reserved_is : old.reserved ≡ reserved_at b old.place
+  pub bytes : AreBytes b old.place 56

@@ -45,9 +45,10 @@ pub struct StoredValue {
     pub bytes: Vec<u8>,
 }
 
-/// What of an entry that is replaced is taken: how long its record is, and the numbers in its reserved fields.
+/// What of an entry that is replaced is taken: where it stands, how long its record is, and the numbers in its reserved fields.
 #[derive(Clone, Copy)]
 pub struct OldEntry {
+    pub place: u64,
     pub size: u64,
     pub reserved: Reserved,
 }
@@ -55,6 +56,7 @@ pub struct OldEntry {
 /// That of the entry whose descriptor stands at a place.
 pub fn read_old<A: Area>(area: &mut A, place: u64) -> Result<OldEntry, AreaError>
     requires { place + 56 ≤ length (A.image area.old) }
+    ensures place { IfOk result (λ old. old.place ≡ place) }
     ensures size { IfOk result (λ old. old.size ≡ size_at (A.image area.old) place) }
     ensures reserved { IfOk result (λ old. old.reserved ≡ reserved_at (A.image area.old) place) }
     ensures bytes { OnOk result (AreBytes (A.image area.old) place 56) }
@@ -62,6 +64,7 @@ pub fn read_old<A: Area>(area: &mut A, place: u64) -> Result<OldEntry, AreaError
 {
     let head = read_aedr(area, place)?;
     Ok(OldEntry {
+        place,
         size: head.record_size,
         reserved: Reserved {
             b: head.rfu_b.cast_unsigned(),

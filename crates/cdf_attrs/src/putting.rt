@@ -1,10 +1,9 @@
 //! The command `put-entry`: an entry is made or replaced.
 
-ghost use Rattle.std.specs.Prelude.{◌≡◌, ◌==◌, ◌+◌, ◌<◌, ◌≤◌, length, None, IfOk, OnOk};
+ghost use Rattle.std.specs.Prelude.{◌≡◌, ◌==◌, ◌+◌, ◌<◌, ◌≤◌, length, None, IfOk};
 ghost use Rattle.std.specs.List.{position};
 ghost use Rattle.cdf_area.specs.Calls.{Edits};
-ghost use Rattle.cdf_attrs.specs.Known.{KnowsEntries};
-ghost use Rattle.cdf_attrs.specs.PutValues.{HasOld, IsReady, Puts, new_entry};
+ghost use Rattle.cdf_attrs.specs.PutValues.{HasOld, IsPut, IsReady};
 ghost use Rattle.cdf_format.specs.WellFormed.{Good};
 
 use crate::chain_fields::{entries_chain, set_greatest};
@@ -44,9 +43,7 @@ fn put_last<A: Area>(
     requires good { Good (A.image area.old) }
     requires ready { IsReady (A.image area.old) (A.frame area.old).limit entry.now entries }
     requires absent { position (λ n. n == entry.now.slot.num) entries.numbers ≡ None }
-    ensures put { OnOk result (Puts (A.image area.old) (A.image area.new) entry.now.slot (new_entry (A.image area.old) entry.now)) }
-    ensures known { IfOk result (KnowsEntries (A.image area.new)) }
-    ensures chain { IfOk result (λ put. put.chain ≡ entries.chain) }
+    ensures put { IfOk result (IsPut (A.image area.old) (A.image area.new) entry.now entries) }
     ensures area { Edits A.frame A.faults area.old area.new result }
 {
     let slot = entry.slot;
@@ -80,17 +77,14 @@ fn put_in_place<A: Area>(
     requires ready { IsReady (A.image area.old) (A.frame area.old).limit entry.now entries }
     requires old { HasOld (A.image area.old) entries i entry.now.slot.num old }
     requires fits { 56 + length entry.now.value.bytes.items ≤ old.size }
-    ensures put { OnOk result (Puts (A.image area.old) (A.image area.new) entry.now.slot (new_entry (A.image area.old) entry.now)) }
-    ensures known { IfOk result (KnowsEntries (A.image area.new)) }
-    ensures chain { IfOk result (λ put. put.chain ≡ entries.chain) }
+    ensures put { IfOk result (IsPut (A.image area.old) (A.image area.new) entry.now entries) }
     ensures area { Edits A.frame A.faults area.old area.new result }
 {
     let slot = entry.slot;
     let fields = field_bytes(alloc, slot.attribute, slot.num, &entry.value, old.reserved)?;
-    let place = entries.places.as_slice()[i];
     // An image has fewer than 2^64 bytes, so no place in it overflows.
     let _size = area.size();
-    area.set(place + AEDR_ATTR_NUM, &fields)?;
+    area.set(old.place + AEDR_ATTR_NUM, &fields)?;
     set_greatest(area, slot.kind, slot.adr, entry.greatest)?;
     Ok(entries)
 }
@@ -109,9 +103,7 @@ fn put_anew<A: Area>(
     requires ready { IsReady (A.image area.old) (A.frame area.old).limit entry.now entries }
     requires old { HasOld (A.image area.old) entries i entry.now.slot.num old }
     requires large { old.size < 56 + length entry.now.value.bytes.items }
-    ensures put { OnOk result (Puts (A.image area.old) (A.image area.new) entry.now.slot (new_entry (A.image area.old) entry.now)) }
-    ensures known { IfOk result (KnowsEntries (A.image area.new)) }
-    ensures chain { IfOk result (λ put. put.chain ≡ entries.chain) }
+    ensures put { IfOk result (IsPut (A.image area.old) (A.image area.new) entry.now entries) }
     ensures area { Edits A.frame A.faults area.old area.new result }
 {
     let slot = entry.slot;
@@ -125,7 +117,7 @@ fn put_anew<A: Area>(
     )?;
     let mut put = entries;
     let behind = put.places[..i].last().copied();
-    let was = put.places.as_slice()[i];
+    let was = old.place;
     let chain = entries_chain(slot.kind, slot.adr);
     let place = exchange_record(area, chain, behind, was, &bytes)?;
     set_greatest(area, slot.kind, slot.adr, entry.greatest)?;
@@ -147,9 +139,7 @@ fn put_over<A: Area>(
     requires good { Good (A.image area.old) }
     requires ready { IsReady (A.image area.old) (A.frame area.old).limit entry.now entries }
     requires old { HasOld (A.image area.old) entries i entry.now.slot.num old }
-    ensures put { OnOk result (Puts (A.image area.old) (A.image area.new) entry.now.slot (new_entry (A.image area.old) entry.now)) }
-    ensures known { IfOk result (KnowsEntries (A.image area.new)) }
-    ensures chain { IfOk result (λ put. put.chain ≡ entries.chain) }
+    ensures put { IfOk result (IsPut (A.image area.old) (A.image area.new) entry.now entries) }
     ensures area { Edits A.frame A.faults area.old area.new result }
 {
     if AEDR_SIZE + entry.value.bytes.len() as u64 <= old.size {
@@ -169,9 +159,7 @@ pub(crate) fn put_new<A: Area>(
 ) -> Result<EntryChain, AreaError>
     requires good { Good (A.image area.old) }
     requires ready { IsReady (A.image area.old) (A.frame area.old).limit entry.now entries }
-    ensures put { OnOk result (Puts (A.image area.old) (A.image area.new) entry.now.slot (new_entry (A.image area.old) entry.now)) }
-    ensures known { IfOk result (KnowsEntries (A.image area.new)) }
-    ensures chain { IfOk result (λ put. put.chain ≡ entries.chain) }
+    ensures put { IfOk result (IsPut (A.image area.old) (A.image area.new) entry.now entries) }
     ensures area { Edits A.frame A.faults area.old area.new result }
 {
     let Some(i) = entries.find(entry.slot.num) else {

@@ -1,30 +1,21 @@
-use Rattle.std.proofs.Common.{◌∙◌, ◌<◌, ℕ, List, length, refl, ap, subst, sym, arith}
-use Rattle.std.specs.Prelude.{slice_index}
+use Rattle.std.proofs.Common.{◌∙◌, ℕ, List, refl, ap, arith}
 use Rattle.cdf_area.proofs.Calls.{edit_done, edit_failed, edit_more, edit_once, edits_by_write}
 use Rattle.cdf_format.specs.Fields.{with_field}
 use Rattle.cdf_edits.specs.Commands.EntryChains.{max_field}
-use Rattle.cdf_attrs.specs.Known.{KnownEntries}
-use Rattle.cdf_attrs.proofs.PutCalls.{fields_inside, max_inside, entry_begins}
-use Rattle.cdf_attrs.proofs.ValuePut.{knows_over, put_over, stored}
+use Rattle.cdf_attrs.proofs.EntryPut.{begins, fields_inside, max_inside, put_over, stored}
 use Rattle.cdf_attrs.proofs.putting.put_in_place.Goals as goal
 
-pub bounds-as_slice-i : goal.bounds-as_slice-i
-bounds-as_slice-i g c = subst (λ (xs : List ℕ). c.args.i < length xs) (sym (c.as_slice.ensures.value ∙ ap (λ (e : KnownEntries). e.places) c.entries.view_is)) c.requires.old.within
-
-pub overflow_add-place : goal.overflow_add-place
-overflow_add-place g c = let inside = entry_begins c.requires.good c.requires.ready c.requires.old (ap (λ (xs : List ℕ). slice_index xs c.args.i) (c.as_slice.ensures.value ∙ ap (λ (e : KnownEntries). e.places) c.entries.view_is)) in omega arith
+pub overflow_add-old : goal.overflow_add-old
+overflow_add-old g c = let inside = begins c.requires.good c.requires.ready c.requires.old in omega arith
 
 pub set-requires : goal.set-requires
-set-requires g c = fields_inside c.requires.good c.requires.ready c.requires.old c.requires.fits (c.deref.ensures.value ∙ c.in_ok-fields.ensures) (ap (λ (xs : List ℕ). slice_index xs c.args.i) (c.as_slice.ensures.value ∙ ap (λ (e : KnownEntries). e.places) c.entries.view_is))
+set-requires g c = fields_inside c.requires.good c.requires.ready c.requires.old c.requires.fits (c.deref.ensures.value ∙ c.in_ok-fields.ensures)
 
 pub set_greatest-requires : goal.set_greatest-requires
 set_greatest-requires g c = max_inside c.requires.good c.requires.ready _ (let same = c.in_ok-set.ensures.area.size in omega arith)
 
 pub returns-clause-put : goal.returns-clause-put
-returns-clause-put g c = put_over c.requires.good c.requires.ready c.requires.old c.requires.fits (c.deref.ensures.value ∙ c.in_ok-fields.ensures) (ap (λ (xs : List ℕ). slice_index xs c.args.i) (c.as_slice.ensures.value ∙ ap (λ (e : KnownEntries). e.places) c.entries.view_is)) (c.in_ok-set_greatest.ensures.written ∙ ap (λ (x : List ℕ). with_field x c.args.entry.now.slot.adr (max_field c.args.entry.now.slot.kind) (stored c.args.entry.now)) c.in_ok-set.ensures.written)
-
-pub returns-clause-known : goal.returns-clause-known
-returns-clause-known g c = knows_over c.requires.good c.requires.ready c.requires.old c.requires.fits (c.deref.ensures.value ∙ c.in_ok-fields.ensures) (ap (λ (xs : List ℕ). slice_index xs c.args.i) (c.as_slice.ensures.value ∙ ap (λ (e : KnownEntries). e.places) c.entries.view_is)) (c.in_ok-set_greatest.ensures.written ∙ ap (λ (x : List ℕ). with_field x c.args.entry.now.slot.adr (max_field c.args.entry.now.slot.kind) (stored c.args.entry.now)) c.in_ok-set.ensures.written)
+returns-clause-put g c = put_over c.requires.good c.requires.ready c.requires.old c.requires.fits (c.deref.ensures.value ∙ c.in_ok-fields.ensures) (c.in_ok-set_greatest.ensures.written ∙ ap (λ (x : List ℕ). with_field x c.args.entry.now.slot.adr (max_field c.args.entry.now.slot.kind) (stored c.args.entry.now)) c.in_ok-set.ensures.written)
 
 pub returns-in_err-set-clause-area : goal.returns-in_err-set-clause-area
 returns-in_err-set-clause-area g c = edit_failed (record { frame = refl; faults = refl }) (edits_by_write c.in_err-set.ensures.area) c.from_residual-in_err-set.ensures.1

@@ -6,7 +6,7 @@ use Rattle.cdf_format.proofs.GoodSound.{good_is_sound}
 use Rattle.cdf_model.specs.AttributeSteps.{is_out_of_range}
 use Rattle.cdf_attrs.specs.Finding.{Finds}
 use Rattle.cdf_attrs.specs.Valued.{entry_of_words}
-use Rattle.cdf_attrs.proofs.PutSteps.{no_value}
+use Rattle.cdf_attrs.proofs.PutAnswers.{no_value}
 use Rattle.cdf_attrs.proofs.attrs.Attrs.read_request.Goals as goal
 
 pub is_out_of_range-requires : goal.is_out_of_range-requires
@@ -23,4 +23,4 @@ returns-in_ok-reason_of-in-Err-clause-request g c =
     let b = g.A.Area.image c.args.area.now in
     let found = subst (Finds b c.args.attr.now c.args.kind) c.in-Found.is c.in_ok-number.ensures.target in
     let within = ap (λ (x : List ℕ). is_out_of_range (content x) c.args.kind c.args.num) (sym c.find_chain.ensures.area.image) ∙ sym c.in_ok-is_out_of_range.ensures.range ∙ c.if-branch.false in
-    no_value c.args.num c.args.t c.args.words.now c.in_ok-reason_of-in-Err.field-0 found within (c.in_ok-reason_of-in-Err.ensures.reason (entry_of_words c.args.t c.args.words.now) c.in-Err.ensures.err)
+    no_value found c.args.num c.args.t c.args.words.now c.in_ok-reason_of-in-Err.field-0 within (c.in_ok-reason_of-in-Err.ensures.reason (entry_of_words c.args.t c.args.words.now) c.in-Err.ensures.err)
