@@ -6,9 +6,6 @@ pub mod MeantVdr
 pub mod NamesRead
 pub mod NewVdr
 pub mod RemovalAnswers
-pub mod RemovalKnown
-pub mod RemovalRecords
-pub mod RemovalSteps
 pub mod ShapedVariable
 pub mod VariableChains
 pub mod VariableFound
