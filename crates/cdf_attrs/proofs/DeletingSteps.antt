@@ -5,7 +5,7 @@ use Rattle.cdf_format.specs.RecordTypes.{adr_type}
 use Rattle.cdf_format.specs.Shape.{adrs, shape}
 use Rattle.cdf_format.specs.Tiles.{In, tiles}
 use Rattle.cdf_format.specs.WellFormed.{Good}
-use Rattle.cdf_attrs.specs.Deleting.{AllLie}
+use Rattle.cdf_attrs.specs.Numbering.{AllLie}
 use Rattle.cdf_edits.specs.Edits.Writes.{Write}
 use Rattle.cdf_edits.specs.Space.Chains.{HasChain, counted_in, members_of}
 use Rattle.cdf_edits.specs.declared.chain.Chain.TheVariants.{GrEntries, ZEntries}

@@ -25,7 +25,7 @@ use Rattle.cdf_edits.proofs.Edits.AttributeChains.{Stands, stands_at}
 use Rattle.cdf_edits.proofs.Edits.FallenEntries.{as_long as as_long_lowered, rechains}
 use Rattle.cdf_edits.proofs.Edits.EntryFields.{max_lies}
 use Rattle.cdf_format.proofs.GoodSound.{good_is_sound}
-use Rattle.cdf_attrs.specs.Deleting.{AllLie}
+use Rattle.cdf_attrs.specs.Numbering.{AllLie}
 use Rattle.cdf_attrs.specs.Dropping.{DropsFrom, DropsNumber, IsScoped, KeepsAttributes, Lowers, LowersNumbers, lower_writes}
 use Rattle.cdf_attrs.specs.Finding.{IsOfAttribute}
 use Rattle.cdf_attrs.specs.Known.{KnownEntries, KnowsEntries}

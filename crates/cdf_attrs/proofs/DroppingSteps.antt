@@ -2,7 +2,7 @@
 use Rattle.std.proofs.Common.{◌≡◌, ℕ, ℤ, pos, zero, suc, ◌+◌, ◌-◌, ◌<◌, ◌≤◌, List, [], ◌∷◌, ◌++◌, All, Contains, drop, get_or, length, map, refl, sym, ap, ap₂, subst, ◌∙◌, append_assoc, arith, inl, inr}
 use Rattle.std.proofs.lemmas.Bool.{cases_lt, lt-ltb, le-ltb}
 use Rattle.cdf_model.specs.Limits.{signed_limit}
-use Rattle.cdf_attrs.specs.Deleting.{AllLie}
+use Rattle.cdf_attrs.specs.Numbering.{AllLie}
 use Rattle.cdf_attrs.specs.Dropping.{lower_writes}
 use Rattle.cdf_attrs.specs.Removing.{IsGreatest}
 use Rattle.cdf_attrs.proofs.DeletingSteps.{lie_still}

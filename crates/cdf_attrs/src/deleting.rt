@@ -2,12 +2,13 @@
 
 ghost use Rattle.std.specs.Prelude.{◌≡◌, ◌<◌, ◌≤◌, ◌+◌, ◌++◌, ◌∷◌, [], length, map, drop, IfOk, OnOk, OnErr};
 ghost use Rattle.cdf_area.specs.Calls.{Edits, Reads};
-ghost use Rattle.cdf_attrs.specs.Deleting.{AllLie, entry_numbers, write_of};
+ghost use Rattle.cdf_attrs.specs.Numbering.{entry_numbers, write_of};
 ghost use Rattle.cdf_attrs.specs.Known.{Knows};
 ghost use Rattle.cdf_edits.specs.Answers.{Answers};
 ghost use Rattle.cdf_edits.specs.Edits.Unlinks.{Deletes};
-ghost use Rattle.cdf_edits.specs.Edits.Writes.{numbers_from, with_writes};
+ghost use Rattle.cdf_edits.specs.Edits.Writes.{numbers_from, write};
 ghost use Rattle.cdf_edits.specs.Space.Chains.{members_of};
+ghost use Rattle.cdf_format.specs.Records.{adr_num};
 ghost use Rattle.cdf_format.specs.Shape.{adrs, shape};
 ghost use Rattle.cdf_format.specs.Tiles.{In};
 ghost use Rattle.cdf_format.specs.WellFormed.{Good};
@@ -15,20 +16,12 @@ ghost use Rattle.cdf_model.specs.Limits.{image_limit};
 ghost use Rattle.cdf_model.specs.declared.command.Command.TheVariants.{DelAttr};
 
 use crate::attrs::Attrs;
+use crate::numbering::{Numbered, set_numbers};
 use cdf_area::{Area, AreaError};
 use cdf_format::fields::{ADR_NUM, AEDR_ATTR_NUM};
 use cdf_model::{Outcome, Reason, Reply};
-use cdf_records::set_unsigned4;
-use cdf_space::{Chain, chain_remove, count_down, free_records, read_chain};
+use cdf_space::{Chain, free_records, read_chain, take_out};
 use std::alloc::{AllocError, Global};
-
-/// A number as one record says it: where the record stands, where in it the field, and the number.
-#[derive(Clone, Copy)]
-pub struct Numbered {
-    pub at: u64,
-    pub field: u64,
-    pub number: u32,
-}
 
 /// The entries of an attribute in the order of its chains, gr before z.
 fn read_entries<A: Area>(alloc: Global, area: &mut A, adr: u64) -> Result<Vec<u64>, AreaError>
@@ -55,10 +48,20 @@ fn read_records<A: Area>(alloc: Global, area: &mut A, adr: u64) -> Result<Vec<u6
     Ok(records)
 }
 
-/// Adds that these entries say a number.
-fn push_entries(numbers: &mut Vec<Numbered>, entries: &[u64], number: u32) -> Result<(), AllocError>
-    ensures { OnOk result (map write_of numbers.new.items ≡ map write_of numbers.old.items ++ entry_numbers entries.now number) }
+/// Adds that an attribute and its entries say a number.
+fn push_numbers(
+    numbers: &mut Vec<Numbered>,
+    adr: u64,
+    entries: &[u64],
+    number: u32,
+) -> Result<(), AllocError>
+    ensures { OnOk result (map write_of numbers.new.items ≡ map write_of numbers.old.items ++ write adr adr_num number ∷ entry_numbers entries.now number) }
 {
+    numbers.push(Numbered {
+        at: adr,
+        field: ADR_NUM,
+        number,
+    })?;
     for entry in entries {
         numbers.push(Numbered {
             at: *entry,
@@ -84,29 +87,10 @@ fn read_numbers<A: Area>(
 {
     let mut numbers = Vec::new(alloc);
     for i in number + 1..places.len() {
-        let adr = places[i];
-        let lower = (i - 1) as u32;
-        numbers.push(Numbered {
-            at: adr,
-            field: ADR_NUM,
-            number: lower,
-        })?;
-        let entries = read_entries(alloc, area, adr)?;
-        push_entries(&mut numbers, &entries, lower)?;
+        let entries = read_entries(alloc, area, places[i])?;
+        push_numbers(&mut numbers, places[i], &entries, (i - 1) as u32)?;
     }
     Ok(numbers)
-}
-
-/// Writes numbers in records. After an error a part of them may have been written.
-pub(crate) fn set_numbers<A: Area>(area: &mut A, numbers: &[Numbered]) -> Result<(), AreaError>
-    requires { AllLie (A.image area.old) (map write_of numbers.now) }
-    ensures written { OnOk result (A.image area.new ≡ with_writes (A.image area.old) (map write_of numbers.now)) }
-    ensures area { Edits A.frame A.faults area.old area.new result }
-{
-    for numbered in numbers {
-        set_unsigned4(area, numbered.at, numbered.field, numbered.number)?;
-    }
-    Ok(())
 }
 
 /// Takes an attribute with its entries out of the area.
@@ -123,12 +107,9 @@ fn delete<A: Area>(
     ensures deleted { OnOk result (Deletes (A.image area.old) (A.image area.new) number) }
     ensures area { Edits A.frame A.faults area.old area.new result }
 {
-    let adr = places[number];
-    let records = read_records(alloc, area, adr)?;
+    let records = read_records(alloc, area, places[number])?;
     let numbers = read_numbers(alloc, area, places, number)?;
-    let behind = places[..number].last().copied();
-    chain_remove(area, Chain::Attrs, behind, adr)?;
-    count_down(area, Chain::Attrs)?;
+    take_out(area, Chain::Attrs, places, number)?;
     set_numbers(area, &numbers)?;
     free_records(area, &records)
 }

@@ -2,7 +2,7 @@
 
 ghost use Rattle.std.specs.Prelude.{◌≡◌, ◌<◌, ◌≤◌, length, map, All, Contains, IfOk, IfSome, IsNone, OnErr, OnOk, false, true};
 ghost use Rattle.cdf_area.specs.Calls.{Edits};
-ghost use Rattle.cdf_attrs.specs.Deleting.{AllLie, write_of};
+ghost use Rattle.cdf_attrs.specs.Numbering.{AllLie, write_of};
 ghost use Rattle.cdf_attrs.specs.Dropping.{DropsFrom, DropsNumber, IsScoped, KeepsAttributes, Lowers, lower_writes};
 ghost use Rattle.cdf_attrs.specs.Known.{Knows, KnowsEntries};
 ghost use Rattle.cdf_edits.specs.Commands.EntryChains.{kind_of_entries, max_field};
@@ -20,7 +20,7 @@ ghost use Rattle.cdf_model.specs.Limits.{image_limit, signed_limit};
 
 use crate::attrs::Attrs;
 use crate::chain_fields::{entries_chain, set_greatest};
-use crate::deleting::{Numbered, set_numbers};
+use crate::numbering::{Numbered, set_numbers};
 use crate::entry_chain::EntryChain;
 use crate::finding::is_global;
 use crate::reading::read_scope;

@@ -11,6 +11,7 @@ mod entry_chain;
 mod finding;
 mod getting;
 mod greatest;
+mod numbering;
 mod putting;
 mod putting_entry;
 mod range;

@@ -14,8 +14,6 @@ pub mod ChangedEntry
 pub mod ChecksumSet
 pub mod Composing
 pub mod DeletedAttribute
-pub mod DeletingFollows
-pub mod DeletionCalls
 pub mod EditActs
 pub mod EmptySet
 pub mod EntryBeside
@@ -27,6 +25,7 @@ pub mod FallenEntries
 pub mod FallenItems
 pub mod FieldWritten
 pub mod FirstRecords
+pub mod FreedAfter
 pub mod FreedBytes
 pub mod FreedRecords
 pub mod FreedEntry
@@ -49,7 +48,6 @@ pub mod PlainVariables
 pub mod RecordFrame
 pub mod RemovalCalls
 pub mod RemovedAttribute
-pub mod RemovedKeeps
 pub mod RemovedLives
 pub mod RemovedVariable
 pub mod Renumbered
@@ -58,7 +56,6 @@ pub mod StepEdits
 pub mod TakenVariable
 pub mod UnlinkedAttribute
 pub mod UnlinkedVariable
-pub mod UnlinkingSteps
 pub mod VariableCopied
 pub mod VariableDeleted
 pub mod VariableDeletion

@@ -6,4 +6,5 @@ pub mod Giving
 pub mod Placement
 pub mod Placing
 pub mod Taking
+pub mod TakingOut
 pub mod VariableChains

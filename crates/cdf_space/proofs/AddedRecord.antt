@@ -33,7 +33,7 @@ use Rattle.cdf_edits.proofs.Space.ChainHeads.{holder_stands, head_fits, long_of,
 use Rattle.cdf_space.proofs.Linking.{holder_same}
 
 -- where the count stands in its record
-count_fits : (c : Chain) → (12 ≤ (count_of c).place) × ((count_of c).place + 4 ≤ fixed_size (holder_type c)) × ((count_of c).width ≡ 4) × ((head_of c).width ≡ 8)
+pub count_fits : (c : Chain) → (12 ≤ (count_of c).place) × ((count_of c).place + 4 ≤ fixed_size (holder_type c)) × ((count_of c).width ≡ 4) × ((head_of c).width ≡ 8)
 count_fits Attrs = (omega arith, omega arith, refl, refl)
 count_fits RVars = (omega arith, omega arith, refl, refl)
 count_fits ZVars = (omega arith, omega arith, refl, refl)

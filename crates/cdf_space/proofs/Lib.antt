@@ -7,3 +7,4 @@ pub mod Linking
 pub mod ChainRead
 pub mod AddedRecord
 pub mod Counting
+pub mod TakenOut

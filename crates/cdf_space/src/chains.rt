@@ -1,6 +1,6 @@
 //! Chains of records: read, and members added, taken out and replaced.
 
-ghost use Rattle.std.specs.Prelude.{◌≡◌, ◌+◌, ◌-◌, ◌^◌, ◌<◌, ◌≤◌, true, length, None, IfOk, OnOk};
+ghost use Rattle.std.specs.Prelude.{◌≡◌, ◌+◌, ◌-◌, ◌^◌, ◌<◌, ◌≤◌, true, length, get_or, None, IfOk, OnOk};
 ghost use Rattle.std.specs.List.{last_or};
 ghost use Rattle.cdf_area.specs.Calls.{Edits, Reads};
 ghost use Rattle.cdf_format.specs.Sound.{IsSound};
@@ -9,6 +9,7 @@ ghost use Rattle.cdf_format.specs.Fields.{with_field};
 ghost use Rattle.cdf_format.specs.Shape.{shape};
 ghost use Rattle.cdf_model.specs.Limits.{image_limit};
 ghost use Rattle.cdf_edits.specs.Space.Chains.{Appended, HasChain, HolderStands, MayJoin, Removed, Replaced, before, count_of, counted_in, head_of, holder_of, members_of};
+ghost use Rattle.cdf_edits.specs.Space.TakingOut.{Lists, TakenOut};
 ghost use Rattle.cdf_space.specs.Steps.{link_place};
 
 use crate::Chain;
@@ -198,4 +199,24 @@ pub fn count_down<A: Area>(area: &mut A, chain: Chain) -> Result<(), AreaError>
     let place = count_place(chain);
     let count = read_unsigned4(area, at + place)?;
     set_unsigned4(area, at, place, count - 1)
+}
+
+/// Takes the member of a number out of a chain whose members stand at these places, and counts one record less there.
+/// After an error a part of this may have been done.
+pub fn take_out<A: Area>(
+    area: &mut A,
+    chain: Chain,
+    members: &[u64],
+    number: usize,
+) -> Result<(), AreaError>
+    requires sound { IsSound (A.image area.old) (shape (A.image area.old)) }
+    requires lists { Lists (A.image area.old) chain members.now }
+    requires within { number < length members.now }
+    requires short { length (A.image area.old) ≤ image_limit }
+    ensures taken { OnOk result (TakenOut (A.image area.old) (A.image area.new) chain (get_or members.now number 0)) }
+    ensures area { Edits A.frame A.faults area.old area.new result }
+{
+    let behind = members[..number].last().copied();
+    chain_remove(area, chain, behind, members[number])?;
+    count_down(area, chain)
 }

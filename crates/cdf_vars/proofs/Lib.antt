@@ -2,9 +2,6 @@ pub mod CreatedVariable
 pub mod NamesRead
 pub mod NewVdr
 pub mod RemovalAnswers
-pub mod RemovalKnown
-pub mod RemovalRecords
-pub mod RemovalSteps
 pub mod VariableChains
 pub mod VariableFound
 pub mod VariableChanged

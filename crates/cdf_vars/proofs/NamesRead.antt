@@ -1,20 +1,15 @@
 -- What is read of records with names, one after the other.
-use Rattle.std.proofs.Common.{◌≡◌, ℕ, zero, suc, ◌+◌, ◌<◌, ◌≤◌, List, [], ◌∷◌, ◌++◌, length, map, take, drop, get_or, false, refl, sym, ap, ap₂, subst, ◌∙◌, append_assoc, append-nil, arith, bytes_eq, inl, inr}
+use Rattle.std.proofs.Common.{◌≡◌, ℕ, zero, suc, ◌+◌, ◌<◌, ◌≤◌, List, [], ◌∷◌, ◌++◌, length, map, take, drop, get_or, false, refl, sym, ap, ap₂, subst, ◌∙◌, append_assoc, append-nil, arith, bytes_eq}
 use Rattle.std.proofs.lemmas.List.{length-map, length-take, map-append, map_more, at_drop_more, at_drop_all, take_all}
 use Rattle.std.specs.List.{IsDistinct}
+use Rattle.cdf_edits.proofs.Commands.ListParts.{got_in}
 use Rattle.cdf_format.specs.Fields.{name_at, name_field, type_at, LiesIn}
-use Rattle.cdf_format.specs.Tiles.{In}
 use Rattle.cdf_model.specs.declared.item.Item.{Item}
 use Rattle.cdf_model.specs.declared.item.Item.TheVariants.{Var}
 use Rattle.cdf_model.specs.declared.kinds.Kind.{Kind}
 use Rattle.cdf_names.specs.Names.{has_name}
 use Rattle.cdf_names.proofs.Apart.{distinct_apart}
 use Rattle.cdf_vars.specs.Reading.{AreNamed, items_at}
-
-pub in_list : (xs : List ℕ) (i : ℕ) → i < length xs → In (get_or xs i 0) xs
-in_list [] i lt = absurd (omega arith)
-in_list (x ∷ xs) zero lt = inl refl
-in_list (x ∷ xs) (suc i) lt = inr (in_list xs i (omega arith))
 
 parted : (xs : List ℕ) (i : ℕ) → i < length xs → xs ≡ take i xs ++ get_or xs i 0 ∷ drop (suc i) xs
 parted [] i lt = absurd (omega arith)
@@ -28,7 +23,7 @@ module _ (b places : List ℕ) (named : AreNamed b places) where
 
   module _ (i : ℕ) (lt : i < length places) where
     pub name_lies : (now : List ℕ) → now ≡ b → LiesIn now (get_or places i 0) (name_field (type_at now (get_or places i 0)))
-    name_lies now same = subst (λ (x : List ℕ). LiesIn x (get_or places i 0) (name_field (type_at x (get_or places i 0)))) (sym same) (named.lie (get_or places i 0) (in_list places i lt))
+    name_lies now same = subst (λ (x : List ℕ). LiesIn x (get_or places i 0) (name_field (type_at x (get_or places i 0)))) (sym same) (named.lie (get_or places i 0) (got_in places i lt))
 
     -- the next name is not among those before it
     pub next_is_new : (names : List (List ℕ)) (name : List ℕ) → names ≡ map (name_at b) (take i places) → name ≡ name_at b (get_or places i 0) → has_name names name ≡ false

@@ -36,7 +36,7 @@ use Rattle.cdf_vars.specs.Finding.{found_among}
 use Rattle.cdf_var_records.specs.Descriptors.{IsVdr}
 use Rattle.cdf_var_records.proofs.RecordForms.{index_is}
 use Rattle.cdf_vars.specs.Known.{Known, Knows, known_of}
-use Rattle.cdf_vars.proofs.RemovalRecords.{has_index, vdr_among}
+use Rattle.cdf_vars.proofs.RemovalAnswers.{has_index, vdr_among}
 use Rattle.cdf_vars.proofs.VariableFound.{none_found}
 use Rattle.cdf_vars.proofs.VariableFound.{Parts, the_parts, vdr_there, within_places}
 

@@ -1,37 +1,154 @@
--- What the calls of the removal of a variable ask, one after the other.
-use Rattle.std.proofs.Common.{◌≡◌, ℕ, ℤ, zero, suc, ◌+◌, ◌-◌, ◌<◌, ◌≤◌, List, [], ◌∷◌, length, take, drop, true, Some, None, Result, Ok, Err, OnOk, FitsSigned, get_or, refl, sym, ap, subst, ◌∙◌, arith}
-use Rattle.std.proofs.lemmas.List.{take_all}
-use Rattle.std.proofs.lemmas.Int.{to_z-of_z}
-use Rattle.std.specs.Int.{w32, cast_signed, cast_unsigned}
-use Rattle.std.specs.List.{last_or, remove, slice_get}
-use Rattle.cdf_edits.proofs.Edits.RemovalCalls.{inside, few, sound_there, holder_there, chain_there, member_there, behind_there, cdr_after, room_after, some_after, lie_after, cdr_second, field_second, sound_mid, free_mid, removes_by, places_in, own_at, this}
-use Rattle.cdf_edits.proofs.Edits.RemovedVariable.{greatest_fits}
+-- What the calls of the removal of a variable ask: the greatest MaxRec that is left, the numbers that are written, and the records that go; and what is kept of the variables then.
+use Rattle.std.proofs.Common.{◌≡◌, ℕ, zero, suc, ◌+◌, ◌^◌, ◌<◌, ◌≤◌, List, [], ◌∷◌, ◌++◌, length, map, max, take, drop, get_or, refl, sym, ap, ◌∙◌, arith, inl, inr, subst, append_assoc, ℤ, ◌-◌, Result, Ok, Err, OnOk, FitsSigned}
+use Rattle.std.proofs.lemmas.List.{at_drop_more, take_all, length-map}
+use Rattle.std.specs.List.{fold, remove}
+use Rattle.cdf_edits.specs.Edits.RemovesVariable.{greatest_at, numbers_on, RemovesVariable}
+use Rattle.cdf_edits.specs.Edits.Writes.{with_writes}
+use Rattle.cdf_format.specs.Fields.{with_field, number}
+use Rattle.cdf_format.specs.Records.{vdr_num, vdr_vxr_head}
+use Rattle.cdf_format.specs.Tiles.{In}
+use Rattle.cdf_format.specs.VariableFields.{max_rec_at}
+use Rattle.cdf_model.specs.DataSet.{extent, DataSet, Variable}
+use Rattle.cdf_model.specs.RecordSteps.{last_number}
+use Rattle.cdf_vars.specs.Removing.{VdrsLie, AreRecordsAt}
+use Rattle.cdf_edits.proofs.Edits.OwnVariable.{without_cpr}
+use Rattle.cdf_edits.proofs.Edits.PlainVariables.{is_uncompressed}
 use Rattle.cdf_edits.specs.Commands.Allowances.{shapes_of}
 use Rattle.cdf_edits.specs.Commands.Variables.{freed_with_variable}
-use Rattle.cdf_edits.specs.Edits.RemovesVariable.{RemovesVariable, greatest_at, numbers_on, r_max_writes}
-use Rattle.cdf_edits.specs.Edits.Writes.{with_writes}
-use Rattle.cdf_edits.specs.Space.Chains.{before, count_of, counted_in, holder_of, members_of, HasChain, HolderStands, Removed}
-use Rattle.cdf_edits.specs.Space.Freeing.{AllGiven, AreFree}
-use Rattle.cdf_edits.specs.Space.VariableChains.{variables_chain}
-use Rattle.cdf_edits.specs.declared.chain.Chain.{Chain}
-use Rattle.cdf_format.specs.Chains.{is_in}
-use Rattle.cdf_format.specs.Fields.{gdr_offset, with_field, LiesIn}
-use Rattle.cdf_format.specs.Records.{gdr_r_max_rec, vdr_name}
-use Rattle.cdf_format.specs.Shape.{shape, variables, vdrs}
-use Rattle.cdf_format.specs.Sound.{IsSound}
-use Rattle.cdf_format.specs.Tiles.{In}
+use Rattle.cdf_format.proofs.GoodImageLemmas.{good_image, vdrs_append}
+use Rattle.cdf_format.proofs.GoodSound.{good_by_its_shape, good_is_sound}
+use Rattle.cdf_format.proofs.Members.{In-append_left, In-append_right}
+use Rattle.cdf_format.proofs.ShapeLemmas.{Each-split}
+use Rattle.cdf_format.specs.Index.{Leaf, leaves_of, nodes_of}
+use Rattle.cdf_format.specs.Shape.{VariableShape, Shape, Each, HasVariable, shape, variables, vdrs}
+use Rattle.cdf_format.specs.Sound.{VariableFits, IsSound}
 use Rattle.cdf_format.specs.WellFormed.{Good}
-use Rattle.cdf_model.specs.Limits.{image_limit}
+use Rattle.cdf_index.proofs.GoodIndex.{good_index}
+use Rattle.cdf_index.specs.Finding.{index_at, HasIndex}
 use Rattle.cdf_model.specs.declared.kinds.Kind.{Kind}
 use Rattle.cdf_model.specs.declared.kinds.Kind.TheVariants.{R, Z}
-use Rattle.cdf_vars.specs.Chains.{chain_of}
-use Rattle.cdf_vars.specs.Removing.{AreRecordsAt, VdrsLie}
-use Rattle.cdf_vars.proofs.RemovalRecords.{own_records, vdr_among}
-use Rattle.cdf_vars.proofs.RemovalSteps.{in_dropped}
+use Rattle.std.proofs.lemmas.Int.{to_z-of_z}
+use Rattle.std.specs.Int.{w32, cast_signed, cast_unsigned}
+use Rattle.cdf_edits.proofs.Edits.RemovalCalls.{this}
+use Rattle.cdf_edits.proofs.Edits.RemovedVariable.{greatest_fits, content_after, shape_after}
+use Rattle.cdf_edits.proofs.Commands.ListParts.{map-removed, removed-at}
+use Rattle.cdf_edits.proofs.Edits.VariableKinds.{other_kind, with_shapes}
+use Rattle.cdf_vars.proofs.VariableNames.{variables_are}
+use Rattle.cdf_format.specs.Content.{content, variable_of}
+use Rattle.cdf_model.specs.Names.{variables_of, with_variables}
+use Rattle.cdf_vars.specs.Known.{KnownKind, KnowsKind}
 
-pub same_chain : (kind : Kind) → chain_of kind ≡ variables_chain kind
-same_chain R = refl
-same_chain Z = refl
+-- ---- lists
+
+pub dropped : (xs : List ℕ) (i : ℕ) → i < length xs → drop i xs ≡ get_or xs i 0 ∷ drop (i + 1) xs
+dropped xs i lt = at_drop_more (λ (ys : List ℕ). ys) xs i 0 lt
+
+without_at : (xs : List ℕ) (n : ℕ) → n < length xs → remove xs n ≡ take n xs ++ drop (n + 1) xs
+without_at [] n lt = absurd (omega arith)
+without_at (x ∷ xs) zero lt = refl
+without_at (x ∷ xs) (suc n) lt = let next : suc n + 1 ≡ suc (n + 1) = omega arith in ap (λ (r : List ℕ). x ∷ r) (without_at xs n (omega arith)) ∙ ap (λ (k : ℕ). x ∷ take n xs ++ drop k (x ∷ xs)) (sym next)
+
+pub in_taken : (xs : List ℕ) (n m : ℕ) → In m (take n xs) → In m xs
+in_taken [] zero m i = i
+in_taken [] (suc n) m i = i
+in_taken (x ∷ xs) zero m i = absurd i
+in_taken (x ∷ xs) (suc n) m (inl q) = inl q
+in_taken (x ∷ xs) (suc n) m (inr i) = inr (in_taken xs n m i)
+
+pub in_dropped : (xs : List ℕ) (n m : ℕ) → In m (drop n xs) → In m xs
+in_dropped [] zero m i = i
+in_dropped [] (suc n) m i = i
+in_dropped (x ∷ xs) zero m i = i
+in_dropped (x ∷ xs) (suc n) m i = inr (in_dropped xs n m i)
+
+-- ---- the greatest MaxRec
+
+abbrev pub extents : List ℕ → List ℕ → List ℕ
+extents b places = map (λ vdr. extent (max_rec_at b vdr)) places
+
+-- one more was read
+pub one_read : (b places : List ℕ) (i greatest extent_at all : ℕ) → i < length places → extent_at ≡ extent (max_rec_at b (get_or places i 0)) → fold max greatest (extents b (drop i places)) ≡ all → fold max (max greatest extent_at) (extents b (drop (i + 1) places)) ≡ all
+one_read b places i greatest extent_at all lt is goes =
+    ap (λ (n : ℕ). fold max (max greatest n) (extents b (drop (i + 1) places))) is
+    ∙ ap (λ (xs : List ℕ). fold max greatest (extents b xs)) (sym (dropped places i lt)) ∙ goes
+
+pub max_few : (m n : ℕ) → m ≤ 2 ^ 31 → n ≤ 2 ^ 31 → max m n ≤ 2 ^ 31
+max_few m n l h = grind arith
+
+-- those before one and those behind it
+fold_parts : (n : ℕ) (xs ys : List ℕ) → fold max n (xs ++ ys) ≡ fold max (fold max n xs) ys
+fold_parts n [] ys = refl
+fold_parts n (x ∷ xs) ys = fold_parts (max n x) xs ys
+
+extents_parts : (b xs ys : List ℕ) → extents b (xs ++ ys) ≡ extents b xs ++ extents b ys
+extents_parts b [] ys = refl
+extents_parts b (x ∷ xs) ys = ap (λ (r : List ℕ). extent (max_rec_at b x) ∷ r) (extents_parts b xs ys)
+
+pub greatest_of_parts : (b x : List ℕ) → x ≡ b → (places : List ℕ) (n : ℕ) → n < length places → (front greatest : ℕ) → front ≡ fold max 0 (extents b (take n places)) → greatest ≡ fold max front (extents x (drop (n + 1) places)) → last_number greatest ≡ greatest_at b (remove places n)
+greatest_of_parts b x same places n lt front greatest first second =
+    ap last_number (second ∙ (λ i. fold max (first i) (extents (same i) (drop (n + 1) places)))
+    ∙ sym (fold_parts 0 (extents b (take n places)) (extents b (drop (n + 1) places))) ∙ ap (λ (ns : List ℕ). fold max 0 ns) (sym (extents_parts b (take n places) (drop (n + 1) places))))
+    ∙ ap (greatest_at b) (sym (without_at places n lt))
+
+-- ---- the numbers
+
+pub one_numbered : (before now places : List ℕ) (first i : ℕ) (all : List ℕ) → i < length places → now ≡ with_field before (get_or places i 0) vdr_num (first + i) → with_writes before (numbers_on (first + i) (drop i places)) ≡ all → with_writes now (numbers_on (first + (i + 1)) (drop (i + 1) places)) ≡ all
+one_numbered before now places first i all lt written goes =
+    let next : first + (i + 1) ≡ suc (first + i) = omega arith in
+    (λ k. with_writes (written k) (numbers_on (next k) (drop (i + 1) places))) ∙ ap (λ (xs : List ℕ). with_writes before (numbers_on (first + i) xs)) (sym (dropped places i lt)) ∙ goes
+
+pub lie_still : (b now places : List ℕ) → length now ≡ length b → VdrsLie b places → VdrsLie now places
+lie_still b now places long lie place i = let l = lie place i in omega arith
+
+-- ---- the records that go
+
+-- a variable whose VDR stands at a place
+record StandsAt (vs : List VariableShape) (vdr : ℕ) : Type 0 where
+  pub before : List VariableShape
+  pub own : VariableShape
+  pub after : List VariableShape
+  pub is : vs ≡ before ++ own ∷ after
+  pub vdr_is : own.vdr ≡ vdr
+
+stands_at : (vs : List VariableShape) (m : ℕ) → In m (vdrs vs) → StandsAt vs m
+stands_at [] m i = absurd i
+stands_at (v ∷ vs) m (inl e) = record { before = []; own = v; after = vs; is = refl; vdr_is = sym e }
+stands_at (v ∷ vs) m (inr i) = let at = stands_at vs m i in record { before = v ∷ at.before; own = at.own; after = at.after; is = ap (λ (r : List VariableShape). v ∷ r) at.is; vdr_is = at.vdr_is }
+
+module _ {b : List ℕ} (good : Good b) where
+  sound : IsSound b (shape b)
+  sound = good_is_sound b good
+
+  indexed : (before : List VariableShape) (v : VariableShape) (after : List VariableShape) → variables (shape b) ≡ before ++ v ∷ after → HasIndex b (number b v.vdr vdr_vxr_head) × (index_at b (number b v.vdr vdr_vxr_head) ≡ v.index)
+  indexed before v after is = good_index b (shape b) before v after (good_image b (shape b) (good_by_its_shape b good)) sound is
+
+  pub has_index : {x : List ℕ} → x ≡ b → (vdr : ℕ) → {head : ℕ} → head ≡ number b vdr vdr_vxr_head → In vdr (vdrs (variables (shape b))) → HasIndex x head
+  has_index {x = x} same vdr {head = head} head_is i =
+      let at = stands_at (variables (shape b)) vdr i in
+      let here : HasIndex b (number b vdr vdr_vxr_head) = subst (λ (m : ℕ). HasIndex b (number b m vdr_vxr_head)) at.vdr_is (indexed at.before at.own at.after at.is).0 in
+      subst (λ (y : List ℕ). HasIndex y head) (sym same) (subst (HasIndex b) (sym head_is) here)
+
+  pub are_records : {x : List ℕ} → x ≡ b → (vdr : ℕ) → {head : ℕ} → head ≡ number b vdr vdr_vxr_head → {places records : List ℕ} → places ≡ map (λ (leaf : Leaf). leaf.place) (leaves_of (index_at x head)) ++ nodes_of (index_at x head) → records ≡ places ++ vdr ∷ [] → AreRecordsAt b vdr records
+  are_records {x = x} same vdr {head = head} head_is {places = places} {records = records} places_are all before v after is vdr_is =
+      let here = indexed before v after is in
+      let head_same : head ≡ number b v.vdr vdr_vxr_head = head_is ∙ ap (λ (m : ℕ). number b m vdr_vxr_head) (sym vdr_is) in
+      let index : index_at x head ≡ v.index = (λ i. index_at (same i) (head_same i)) ∙ here.1 in
+      let has = (Each-split (HasVariable b (shape b).records) before (v ∷ after) (subst (Each (HasVariable b (shape b).records)) is sound.has_shape.have_variables)).1.0 in
+      let fits = (Each-split (VariableFits b (shape b).records) before (v ∷ after) (subst (Each (VariableFits b (shape b).records)) is sound.variables_fit)).1.0 in
+      all ∙ ap (λ (xs : List ℕ). xs ++ vdr ∷ []) places_are ∙ (λ i. map (λ (leaf : Leaf). leaf.place) (leaves_of (index i)) ++ nodes_of (index i) ++ sym vdr_is i ∷ [])
+      ∙ sym (without_cpr v (is_uncompressed (good_by_its_shape b good) v has fits).no_cpr)
+
+-- ---- a variable of a kind
+
+pub vdr_among : (kind : Kind) (s : Shape) (m : ℕ) → In m (vdrs (shapes_of s kind)) → In m (vdrs (variables s))
+vdr_among R s m i = subst (In m) (sym (vdrs_append s.r_variables s.z_variables)) (In-append_left m (vdrs s.r_variables) (vdrs s.z_variables) i)
+vdr_among Z s m i = subst (In m) (sym (vdrs_append s.r_variables s.z_variables)) (In-append_right m (vdrs s.r_variables) (vdrs s.z_variables) i)
+
+pub own_records : (b : List ℕ) (kind : Kind) (before : List VariableShape) (own : VariableShape) (after : List VariableShape) → shapes_of (shape b) kind ≡ before ++ own ∷ after → (vdr : ℕ) → own.vdr ≡ vdr → (records : List ℕ) → AreRecordsAt b vdr records → records ≡ freed_with_variable own
+own_records b R before own after was vdr at records are = let z = (shape b).z_variables in are before own (after ++ z) (ap (λ (vs : List VariableShape). vs ++ z) was ∙ append_assoc before (own ∷ after) z) at
+own_records b Z before own after was vdr at records are = let r = (shape b).r_variables in are (r ++ before) own after (ap (λ (vs : List VariableShape). r ++ vs) was ∙ sym (append_assoc r before (own ∷ after))) at
+
+-- ---- calls
 
 -- what holds where a call went well
 pub on_ok_all : {T E P Q S U : Type 0} (r : Result T E) → (P → Q → S → U) → OnOk r P → OnOk r Q → OnOk r S → OnOk r U
@@ -41,15 +158,6 @@ on_ok_all (Err e) f p q s = tt
 pub on_ok : {T E P U : Type 0} (r : Result T E) → (P → U) → OnOk r P → OnOk r U
 on_ok (Ok x) f p = f p
 on_ok (Err e) f p = tt
-
--- the last one of some
-pub last_got : (xs : List ℕ) → slice_get xs (length xs - 1) ≡ last_or None xs
-last_got [] = refl
-last_got (x ∷ xs) = let e : length (x ∷ xs) - 1 ≡ length xs = omega arith in ap (slice_get (x ∷ xs)) e ∙ from x xs
-  where
-    from : (x : ℕ) (xs : List ℕ) → slice_get (x ∷ xs) (length xs) ≡ last_or (Some x) xs
-    from x [] = refl
-    from x (y ∷ xs) = from y xs
 
 -- a slice to the end
 length_dropped : (xs : List ℕ) (k : ℕ) → length (drop k xs) ≡ length xs - k
@@ -64,89 +172,67 @@ to_the_end xs k = take_all (length xs - k) (drop k xs) (let l = length_dropped x
 pub handed_on : (b places : List ℕ) (kind : Kind) (greatest : ℤ) {x : List ℕ} → x ≡ b → (kind ≡ R → greatest ≡ greatest_at x places) → kind ≡ R → cast_signed w32 (cast_unsigned w32 greatest) ≡ greatest_at b places
 handed_on b places kind greatest {x = x} same is e = to_z-of_z w32 greatest (subst (FitsSigned w32) (sym (is e)) (greatest_fits x places)) ∙ is e ∙ ap (λ (y : List ℕ). greatest_at y places) same
 
-module _ (b : List ℕ) (good : Good b) (kind : Kind) (places : List ℕ) (are : places ≡ vdrs (shapes_of (shape b) kind)) (n : ℕ) (lt : n < length places) (short : length b ≤ image_limit) where
-  abbrev place : ℕ
-  place = get_or places n 0
+-- numbers that are written in all of it
+pub numbers_written : {second : List ℕ} (less places : List ℕ) (n : ℕ) → second ≡ with_writes less (numbers_on n (take (length places - (n + 1)) (drop (n + 1) places))) → second ≡ with_writes less (numbers_on n (drop (n + 1) places))
+numbers_written less places n written = written ∙ ap (λ (xs : List ℕ). with_writes less (numbers_on n xs)) (to_the_end places (n + 1))
 
-  abbrev slice : List ℕ
-  slice = take (length places - (n + 1)) (drop (n + 1) places)
+pub few_behind : (places : List ℕ) (n : ℕ) → n < length places → length places < 4294967296 → n + length (take (length places - (n + 1)) (drop (n + 1) places)) ≤ 4294967295
+few_behind places n lt few =
+    let l = ap length (to_the_end places (n + 1)) ∙ length_dropped places (n + 1) in
+    omega arith
 
-  pub place_among : In (get_or places n 0) (vdrs (variables (shape b)))
-  place_among = vdr_among kind (shape b) (get_or places n 0) (subst (In (get_or places n 0)) are (places_in places n lt))
+-- the records that go, as they are read
+pub own_are : (b : List ℕ) (good : Good b) (kind : Kind) (places : List ℕ) (are : places ≡ vdrs (shapes_of (shape b) kind)) (n : ℕ) (lt : n < length places) {records : List ℕ} → AreRecordsAt b (get_or places n 0) records → records ≡ freed_with_variable (this b good kind places are n lt).own
+own_are b good kind places are n lt {records = records} read = let t = this b good kind places are n lt in own_records b kind t.before t.own t.after t.is (get_or places n 0) (sym t.own_at) records read
 
-  pub place_lies : LiesIn b (get_or places n 0) vdr_name
-  place_lies = inside b good kind places are n lt (get_or places n 0) (places_in places n lt)
+-- ---- what is kept of the variables
 
-  pub all_lie : {x : List ℕ} → x ≡ b → VdrsLie x places
-  all_lie same = subst (λ (y : List ℕ). VdrsLie y places) (sym same) (inside b good kind places are n lt)
+own_variables : (d : DataSet) (kind : Kind) (vs : List Variable) → variables_of (with_variables d kind vs) kind ≡ vs
+own_variables d R vs = refl
+own_variables d Z vs = refl
 
-  own_are : {records : List ℕ} → AreRecordsAt b (get_or places n 0) records → records ≡ freed_with_variable (this b good kind places are n lt).own
-  own_are {records = records} read = let t = this b good kind places are n lt in own_records b kind t.before t.own t.after t.is (get_or places n 0) (sym (own_at b good kind places are n lt)) records read
+other_variables : (d : DataSet) (kind : Kind) (vs : List Variable) → variables_of (with_variables d kind vs) (other_kind kind) ≡ variables_of d (other_kind kind)
+other_variables d R vs = refl
+other_variables d Z vs = refl
 
-  pub number_fits : n < 4294967296
-  number_fits = let f = few b good kind places are n lt short in omega arith
+own_shapes : (s : Shape) (kind : Kind) (records list : List ℕ) (vs : List VariableShape) → shapes_of (with_shapes s kind records list vs) kind ≡ vs
+own_shapes s R records list vs = refl
+own_shapes s Z records list vs = refl
 
-  pub few_behind : n + length slice ≤ 4294967295
-  few_behind =
-      let f = few b good kind places are n lt short in
-      let l = ap length (to_the_end places (n + 1)) ∙ length_dropped places (n + 1) in
-      sum n (length places) (length slice) lt f l
-    where
-      sum : (n p s : ℕ) → n < p → p < 4294967296 → s ≡ p - (n + 1) → n + s ≤ 4294967295
-      sum n p s l f e = omega arith
+other_shapes : (s : Shape) (kind : Kind) (records list : List ℕ) (vs : List VariableShape) → shapes_of (with_shapes s kind records list vs) (other_kind kind) ≡ shapes_of s (other_kind kind)
+other_shapes s R records list vs = refl
+other_shapes s Z records list vs = refl
 
-  module _ {x : List ℕ} (same : x ≡ b) {chain : Chain} (is : chain ≡ variables_chain kind) where
-    pub sound_x : IsSound x (shape x)
-    sound_x = sound_there b good kind places are n lt x same
+module _ {b now : List ℕ} {kind : Kind} {n : ℕ} (good : Good b) (d : RemovesVariable b now kind n) where
+  pub variables_after : variables_of (content now) kind ≡ remove (variables_of (content b) kind) n
+  variables_after = ap (λ (x : DataSet). variables_of x kind) (content_after good d) ∙ own_variables (content b) kind (remove (variables_of (content b) kind) n)
 
-    pub holder_x : HolderStands x chain
-    holder_x = subst (HolderStands x) (sym is) (holder_there b good kind places are n lt x same)
+  pub shapes_after : shapes_of (shape now) kind ≡ d.before ++ d.after
+  shapes_after = ap (λ (x : Shape). shapes_of x kind) (shape_after good d) ∙ own_shapes (shape b) kind (shape b).records (shape now).unused (d.before ++ d.after)
 
-    pub chain_x : HasChain x chain
-    chain_x = subst (HasChain x) (sym is) (chain_there b good kind places are n lt x same)
+  pub places_after : remove (vdrs (shapes_of (shape b) kind)) n ≡ vdrs (shapes_of (shape now) kind)
+  places_after = sym (map-removed (λ (v : VariableShape). v.vdr) (shapes_of (shape b) kind) n) ∙ (λ i. vdrs (remove (d.unlinks.was i) (sym d.count i))) ∙ ap vdrs (removed-at d.before d.own d.after ∙ sym shapes_after)
 
-    pub member_x : is_in (get_or places n 0) (members_of x chain) ≡ true
-    member_x = subst (λ (c : Chain). is_in (get_or places n 0) (members_of x c) ≡ true) (sym is) (member_there b good kind places are n lt x same)
+  pub names_after : remove (map (λ (v : Variable). v.name) (variables_of (content b) kind)) n ≡ map (λ (v : Variable). v.name) (variables_of (content now) kind)
+  names_after = sym (map-removed (λ (v : Variable). v.name) (variables_of (content b) kind) n) ∙ ap (map (λ (v : Variable). v.name)) (sym variables_after)
 
-    pub behind_x : last_or None (take n places) ≡ last_or None (before (get_or places n 0) (members_of x chain))
-    behind_x = behind_there b good kind places are n lt x same ∙ ap (λ (c : Chain). last_or None (before (get_or places n 0) (members_of x c))) (sym is)
+  -- those of its kind
+  pub knows_less : {known : KnownKind} → KnowsKind b kind known → (names : List (List ℕ)) (places : List ℕ) → names ≡ remove known.names n → places ≡ remove known.places n → KnowsKind now kind (record { names = names; places = places })
+  knows_less knows names places named placed = record {
+    names_are = named ∙ ap (λ (xs : List (List ℕ)). remove xs n) knows.names_are ∙ names_after;
+    places_are = placed ∙ ap (λ (xs : List ℕ). remove xs n) knows.places_are ∙ places_after;
+  }
 
-    module _ {first : List ℕ} (taken : Removed x first chain (get_or places n 0)) where
-      removed : Removed x first (variables_chain kind) (get_or places n 0)
-      removed = subst (λ (c : Chain). Removed x first c (get_or places n 0)) is taken
+  -- and those of the other kind
+  pub knows_other : {known : KnownKind} → KnowsKind b (other_kind kind) known → KnowsKind now (other_kind kind) known
+  knows_other knows = record {
+    names_are = knows.names_are ∙ ap (map (λ (v : Variable). v.name)) (sym (ap (λ (x : DataSet). variables_of x (other_kind kind)) (content_after good d) ∙ other_variables (content b) kind (remove (variables_of (content b) kind) n)));
+    places_are = knows.places_are ∙ ap vdrs (sym (ap (λ (x : Shape). shapes_of x (other_kind kind)) (shape_after good d) ∙ other_shapes (shape b) kind (shape b).records (shape now).unused (d.before ++ d.after)));
+  }
 
-      pub cdr_first : 28 ≤ length first
-      cdr_first = cdr_after b good kind places are n lt x same short removed
-
-      pub room_first : holder_of first chain + (count_of chain).place + 4 ≤ length first
-      room_first = subst (λ (c : Chain). holder_of first c + (count_of c).place + 4 ≤ length first) (sym is) (room_after b good kind places are n lt x same short removed)
-
-      pub some_first : 0 < counted_in first chain
-      some_first = subst (λ (c : Chain). 0 < counted_in first c) (sym is) (some_after b good kind places are n lt x same short removed)
-
-      module _ {less : List ℕ} (counted : less ≡ with_field first (holder_of first chain) (count_of chain) (counted_in first chain - 1)) where
-        less_is : less ≡ with_field first (holder_of first (variables_chain kind)) (count_of (variables_chain kind)) (counted_in first (variables_chain kind) - 1)
-        less_is = counted ∙ ap (λ (c : Chain). with_field first (holder_of first c) (count_of c) (counted_in first c - 1)) is
-
-        pub lie_less : VdrsLie less (take (length places - (n + 1)) (drop (n + 1) places))
-        lie_less m i = lie_after b good kind places are n lt x same short removed less_is m (in_dropped places (n + 1) m (subst (In m) (to_the_end places (n + 1)) i))
-
-        module _ {second : List ℕ} (written : second ≡ with_writes less (numbers_on n (take (length places - (n + 1)) (drop (n + 1) places)))) where
-          numbered : second ≡ with_writes less (numbers_on n (drop (n + 1) places))
-          numbered = written ∙ ap (λ (xs : List ℕ). with_writes less (numbers_on n xs)) (to_the_end places (n + 1))
-
-          pub cdr_numbered : 28 ≤ length second
-          cdr_numbered = cdr_second b good kind places are n lt x same short removed less_is numbered
-
-          pub field_numbered : LiesIn second (gdr_offset second) gdr_r_max_rec
-          field_numbered = field_second b good kind places are n lt x same short removed less_is numbered
-
-          module _ {mid : List ℕ} {greatest : ℤ} (greatest_is : kind ≡ R → greatest ≡ greatest_at b (remove places n)) (last : mid ≡ with_writes second (r_max_writes kind (gdr_offset second) greatest)) where
-            pub sound_last : IsSound mid (shape mid)
-            sound_last = sound_mid b good kind places are n lt x same short removed less_is numbered greatest_is last
-
-            pub free_last : {records : List ℕ} → AreRecordsAt b (get_or places n 0) records → AreFree mid records
-            free_last read = free_mid b good kind places are n lt x same short removed less_is numbered greatest_is last (own_are read)
-
-            pub removes_last : {records : List ℕ} → AreRecordsAt b (get_or places n 0) records → (now : List ℕ) → AllGiven mid now records → RemovesVariable b now kind n
-            removes_last read now given = removes_by b good kind places are n lt x same short removed less_is numbered greatest_is last (own_are read) now given
+-- there are as many names as places
+pub named_too : {b : List ℕ} {kind : Kind} {known : KnownKind} → Good b → KnowsKind b kind known → length known.names ≡ length known.places
+named_too {b = b} {kind = kind} {known = known} good knows =
+    let names = ap length knows.names_are ∙ length-map (variables_of (content b) kind) (λ (v : Variable). v.name) ∙ ap length (variables_are b (shape b) (good_is_sound b good).has_shape kind) ∙ length-map (shapes_of (shape b) kind) (variable_of b) in
+    let places = ap length knows.places_are ∙ length-map (shapes_of (shape b) kind) (λ (v : VariableShape). v.vdr) in
+    names ∙ sym places

@@ -26,7 +26,7 @@ use cdf_format::fields::{CDR_GDR_OFFSET, CDR_PLACE, VDR_NUM, VDR_VXR_HEAD};
 use cdf_index::index_records;
 use cdf_model::Kind;
 use cdf_records::{read_unsigned8, set_gdr_r_max_rec, set_unsigned4};
-use cdf_space::{chain_remove, count_down, free_records};
+use cdf_space::{free_records, take_out};
 use cdf_var_records::read_extent;
 use std::alloc::Global;
 
@@ -139,13 +139,9 @@ fn remove_at<A: Area>(
     ensures removed { OnOk result (RemovesVariable (A.image area.old) (A.image area.new) kind number) }
     ensures area { Edits A.frame A.faults area.old area.new result }
 {
-    let place = places[number];
-    let records = read_records(alloc, area, place)?;
+    let records = read_records(alloc, area, places[number])?;
     let greatest = greatest_left(area, kind, places, number)?;
-    let chain = chain_of(kind);
-    let behind = places[..number].last().copied();
-    chain_remove(area, chain, behind, place)?;
-    count_down(area, chain)?;
+    take_out(area, chain_of(kind), places, number)?;
     set_numbers(area, number as u32, &places[number + 1..])?;
     set_greatest(area, kind, greatest)?;
     free_records(area, &records)

@@ -1,5 +1,5 @@
 -- What a call answers that carries out a command: the outcome of its step, over the image that the step leads to.
-use Rattle.std.proofs.Common.{◌≡◌, ℕ, ◌+◌, ◌<◌, ◌≤◌, List, length, Bool, true, false, refl, sym, ap, subst}
+use Rattle.std.proofs.Common.{◌≡◌, ℕ, ◌+◌, ◌<◌, ◌≤◌, List, length, Bool, true, false, refl, sym, ap, subst, map, arith}
 use Rattle.std.proofs.lemmas.Bool.{le-ltb, lt-ltb}
 use Rattle.cdf_model.specs.declared.answer.Outcome.TheVariants.{Done, Refused}
 use Rattle.cdf_model.specs.declared.answer.Reason.{Reason}
@@ -10,9 +10,19 @@ use Rattle.cdf_model.specs.Answers.{Go, Refuse, is_accepted, outcome}
 use Rattle.cdf_model.specs.DataSet.{DataSet}
 use Rattle.cdf_model.specs.Step.{ByStep, step}
 use Rattle.cdf_format.specs.Content.{content}
-use Rattle.cdf_edits.specs.Follows.{Follows}
+use Rattle.cdf_edits.specs.Follows.{Follows, only_reads}
 use Rattle.cdf_edits.specs.Answers.{Answers, MovesIf, is_full}
 use Rattle.cdf_edits.specs.Commands.Room.{room}
+use Rattle.std.specs.List.{sum}
+use Rattle.cdf_model.specs.declared.answer.Reply.TheVariants.{Plain}
+use Rattle.cdf_format.specs.Owners.{owned}
+use Rattle.cdf_format.specs.Shape.{shape}
+use Rattle.cdf_format.specs.WellFormed.{Good}
+use Rattle.cdf_edits.specs.Commands.Allowances.{AllKeep}
+use Rattle.cdf_edits.specs.Commands.Does.{Does}
+use Rattle.cdf_edits.specs.Commands.Keeps.{allowances}
+use Rattle.cdf_edits.specs.Space.Acts.{gave, ActsFollow}
+use Rattle.cdf_edits.proofs.Edits.ActsThen.{taken-gave}
 
 -- a step that refuses
 pub refused : (limit : ℕ) (b : List ℕ) (c : Command) (reason : Reason) → step (content b) c ≡ ByStep (Refuse reason) → Answers limit b c (Refused reason) b
@@ -28,6 +38,23 @@ gone limit b c d reply now e fits follows =
       outcome_is = sym (ap (outcome (Go d reply)) all);
       moves = subst (λ (full : Bool). MovesIf (is_accepted (Go d reply) full) b c now) (sym all) follows;
     }
+
+-- one that goes and gives records back, and takes none
+pub gone_by_giving : (limit : ℕ) (b : List ℕ) (c : Command) (now places : List ℕ) → room b c ≡ 0 → only_reads c ≡ false → step (content b) c ≡ ByStep (Go (content now) Plain) → Good now → length now ≡ length b
+    → ActsFollow b now (gave b places) → AllKeep b now (allowances b (content b) (shape b) c) (gave b places) (owned b (shape b)) → Does b c now (gave b places) → length b ≤ limit → Answers limit b c (Done Plain) now
+gone_by_giving limit b c now places none writes goes good long acts keeps does fits = gone limit b c (content now) Plain now goes (omega arith) (record {
+  reply = Plain;
+  goes = goes;
+  good = good;
+  longer = omega arith;
+  within = omega arith;
+  reads = λ e. absurd cc;
+  acts = gave b places;
+  takes_within = subst (λ (xs : List (ℕ × ℕ)). sum (map (λ take. take.1) xs) ≤ room b c) (sym (taken-gave b places)) (omega arith);
+  acts_follow = acts;
+  keeps = keeps;
+  does = does;
+})
 
 -- a step that would go, where there is no room
 pub too_large : (limit : ℕ) (b : List ℕ) (c : Command) (d : DataSet) (reply : Reply) → step (content b) c ≡ ByStep (Go d reply) → limit < length b + room b c → Answers limit b c (Refused TooLarge) b

@@ -230,6 +230,11 @@ module _ {b mid now : List ℕ} {acts : List Act} {place : ℕ} (was : HasShape 
 
 -- ---- records are freed one after the other
 
+-- they are no takes
+pub taken-gave : (b places : List ℕ) → taken (gave b places) ≡ []
+taken-gave b [] = refl
+taken-gave b (p ∷ more) = taken-gave b more
+
 pub gave-same : (b mid places : List ℕ) → ((m : ℕ) → In m places → size_at mid m ≡ size_at b m) → gave mid places ≡ gave b places
 gave-same b mid [] same = refl
 gave-same b mid (p ∷ more) same = ap₂ (λ (n : ℕ) (rest : List Act). Gave p n ∷ rest) (same p (inl refl)) (gave-same b mid more (λ m i. same m (inr i)))

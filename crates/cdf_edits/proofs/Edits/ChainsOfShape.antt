@@ -1,17 +1,19 @@
 -- The chains of an image with a shape as calls speak of them; a record that joined one, one that went, and one that took the place of another.
-use Rattle.std.proofs.Common.{◌≡◌, ℕ, ◌≤◌, List, [], ◌∷◌, ◌++◌, length, true, false, sym, ap, subst, ◌∙◌}
+use Rattle.std.proofs.Common.{◌≡◌, ℕ, ◌<◌, ◌≤◌, ◌^◌, List, [], ◌∷◌, ◌++◌, length, true, false, sym, ap, subst, ◌∙◌, arith}
+use Rattle.cdf_model.specs.Limits.{image_limit}
 use Rattle.cdf_edits.specs.Frame.Changed.{Touch, touched_field, Changed}
 use Rattle.cdf_format.specs.Chains.{next_field, is_in, is_linkable, IsChain, chain}
 use Rattle.cdf_format.specs.Fields.{number, size_at, type_at}
 use Rattle.cdf_format.specs.Shape.{Shape, HasShape}
 use Rattle.cdf_format.specs.Tiles.{In, AreTiles, tiles}
 use Rattle.cdf_format.specs.Walks.{records_of}
-use Rattle.cdf_format.proofs.ChainsLemmas.{linkable-from, chain_complete}
-use Rattle.cdf_format.proofs.Members.{is_in-false, is_in-true}
+use Rattle.cdf_format.proofs.ChainsLemmas.{linkable-from, linkable-in, chain_complete}
+use Rattle.cdf_format.proofs.Members.{is_in-false, is_in-true, length-le_from_distinct}
 use Rattle.cdf_format.proofs.ShapeLemmas.{tiles_are}
-use Rattle.cdf_format.proofs.TilesLemmas.{tiling_complete}
+use Rattle.cdf_format.proofs.TilesLemmas.{length_tiles, tiling_complete}
 use Rattle.cdf_edits.specs.declared.chain.Chain.{Chain}
-use Rattle.cdf_edits.specs.Space.Chains.{holder_of, head_of, type_in, members_of, HasChain, MayJoin, link_behind, before, without, with_in_place, Appended, Removed, Replaced}
+use Rattle.cdf_edits.specs.Space.TakingOut.{Lists}
+use Rattle.cdf_edits.specs.Space.Chains.{holder_of, head_of, counted_in, type_in, members_of, HasChain, HolderStands, MayJoin, link_behind, before, without, with_in_place, Appended, Removed, Replaced}
 
 -- a chain of the image: where the record stands that has its head, and its members
 pub record IsOf (b : List ℕ) (s : Shape) (c : Chain) (holder : ℕ) (ms : List ℕ) : Type 0 where
@@ -36,6 +38,16 @@ module _ {b : List ℕ} {s : Shape} (h : HasShape b s) {c : Chain} {holder : ℕ
 
   pub is_member : (place : ℕ) → In place ms → is_in place (members_of b c) ≡ true
   is_member place i = subst (λ (x : List ℕ). is_in place x ≡ true) (sym members_are) (is_in-true place ms i)
+
+  -- it has few members, and is as a call asks for it that reads or changes it
+  pub few_members : length b ≤ image_limit → length ms < 256 ^ 4
+  few_members short =
+      let l = length-le_from_distinct ms s.records is.chain.once (λ m i. linkable-in b s.records (type_in c) m (is.chain.linkable m i)) in
+      let t = length_tiles b 8 (length b) s.records h.tiled in
+      omega arith
+
+  pub lists : {members : List ℕ} → HolderStands b c → members ≡ ms → counted_in b c ≡ length members → Lists b c members
+  lists holder are counted = record { holder = holder; has = has_chain; are = are ∙ sym members_are; counted = counted }
 
   -- the chain that it is now
   chain_of : (now new : List ℕ) → members_of now c ≡ new → HasChain now c → AreTiles now 8 (length now) s.records → holder_of now c ≡ holder → IsChain now s.records (type_in c) (number now holder (head_of c)) new

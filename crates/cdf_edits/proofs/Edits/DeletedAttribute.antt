@@ -1,47 +1,73 @@
--- An image from which an attribute was deleted: good, with the content without it.
-use Rattle.std.proofs.Common.{◌≡◌, ◌≢◌, ℕ, suc, ◌+◌, ◌≤◌, List, [], ◌∷◌, ◌++◌, length, true, refl, sym, ap, subst, ◌∙◌, arith, inl, inr}
-use Rattle.std.proofs.lemmas.Bool.{le-leb}
+-- An image from which an attribute was deleted: good, with the content without it, what it keeps of each record, and what the calls of the deletion come to.
+use Rattle.std.proofs.Common.{◌≡◌, ℕ, ◌+◌, ◌≤◌, List, [], ◌∷◌, ◌++◌, length, true, refl, sym, ap, subst, ◌∙◌, arith, inl, inr, suc, map, Bool, false, Option, Some, None, eq-eqb, ◌-◌, ◌<◌, drop, get_or, ap₂, append_assoc}
 use Rattle.std.proofs.lemmas.List.{length-append, length-map}
-use Rattle.std.specs.List.{flat_map, remove}
+use Rattle.std.specs.List.{flat_map, remove, slice_get}
 use Rattle.cdf_model.specs.Limits.{image_limit}
 use Rattle.cdf_format.specs.Bytes.{Same}
-use Rattle.cdf_format.specs.Chains.{is_in, IsChain}
+use Rattle.cdf_format.specs.Chains.{is_in, IsChain, next_field}
 use Rattle.cdf_format.specs.Content.{content}
-use Rattle.cdf_format.specs.Fields.{number, size_at, type_at}
-use Rattle.cdf_format.specs.Owners.{attribute_records}
-use Rattle.cdf_format.specs.Records.{gdr_eof, gdr_adr_head, gdr_uir_head, gdr_num_attr, adr_num, aedr_attr_num}
-use Rattle.cdf_format.specs.RecordTypes.{gdr_type, adr_type, agr_edr_type, az_edr_type, uir_type}
-use Rattle.cdf_format.specs.Shape.{AttributeShape, Shape, adrs, shape}
+use Rattle.cdf_format.specs.Fields.{number, size_at, type_at, gdr_offset, with_field, LiesIn}
+use Rattle.cdf_format.specs.Owners.{attribute_records, OneAttribute, owned_by, owned_by_attributes, owned}
+use Rattle.cdf_format.specs.Records.{gdr_eof, gdr_adr_head, gdr_uir_head, gdr_num_attr, adr_num, aedr_attr_num, uir_next_uir, uir_prev_uir}
+use Rattle.cdf_format.specs.RecordTypes.{gdr_type, adr_type, uir_type, cdr_type, agr_edr_type, az_edr_type}
+use Rattle.cdf_format.specs.Shape.{AttributeShape, Shape, adrs, shape, Each, vdrs}
 use Rattle.cdf_format.specs.Sound.{IsSound}
-use Rattle.cdf_format.specs.Tiles.{In, AreTiles}
+use Rattle.cdf_format.specs.Tiles.{In}
 use Rattle.cdf_format.specs.WellFormed.{Good}
-use Rattle.cdf_format.proofs.ChainsLemmas.{linkable-in, linkable-type, linkable-long}
+use Rattle.cdf_format.proofs.ChainsLemmas.{linkable-long, is_a-in, is_a-type, linkable-in, linkable-type}
 use Rattle.cdf_format.proofs.GoodSound.{good_by_its_shape, good_is_sound, rules_of_good}
-use Rattle.cdf_format.proofs.Members.{In-append, In-append_left, In-append_right, Distinct-push}
+use Rattle.cdf_format.proofs.Members.{In-append, In-append_left, In-append_right}
 use Rattle.cdf_format.proofs.SealedRules.{good_long, sealed_kept}
-use Rattle.cdf_edits.specs.Commands.Allowances.{FreedStay, no_fields}
-use Rattle.cdf_edits.specs.Edits.Edit.{Edit}
-use Rattle.cdf_edits.specs.Edits.ManyMarks.{freeing_marks}
-use Rattle.cdf_edits.specs.Edits.Marks.{Avoids, attribute_types}
-use Rattle.cdf_edits.specs.Edits.Unlinks.{Deletes}
-use Rattle.cdf_edits.specs.Space.Acts.{gave, links_end, ActsFollow}
-use Rattle.cdf_edits.specs.Space.Freeing.{AreFree}
-use Rattle.cdf_edits.specs.Space.Placement.{with_space}
+use Rattle.cdf_edits.specs.Commands.Allowances.{FreedStay, no_fields, Allowance, Allowances, Anything, Only, Keeps, AllKeep}
+use Rattle.cdf_edits.specs.Edits.ManyMarks.{unlinking_marks, deleting_marks}
+use Rattle.cdf_edits.specs.Edits.Marks.{attribute_types, Mark, Within}
+use Rattle.cdf_edits.specs.Edits.Unlinks.{Deletes, Unlinks}
+use Rattle.cdf_edits.specs.Space.Acts.{gave, links_end, ActsFollow, Act}
 use Rattle.cdf_edits.proofs.Edits.AttributeFrame.{AreThere, more_there}
-use Rattle.cdf_edits.proofs.Edits.Composing.{head_size, edit_then}
-use Rattle.cdf_edits.proofs.Edits.EditActs.{acts_none}
-use Rattle.cdf_edits.proofs.Edits.FreedBytes.{IsLeft, all_left, all_unused, freed_stay, free_used}
-use Rattle.cdf_edits.proofs.Edits.FreedRecords.{MayFree, sizes_by_tiles, all_given_edit}
-use Rattle.cdf_edits.proofs.Edits.ActsThen.{gave-same, all_gave}
-use Rattle.cdf_edits.proofs.Edits.OwnedOnce.{only_owns, own_in}
-use Rattle.cdf_edits.proofs.Edits.RecordFrame.{field_avoids, field_clear, gdr_field}
-use Rattle.cdf_edits.proofs.Edits.RemovedAttribute.{without_one, SaysRemoved, content_removed, removed_good}
-use Rattle.cdf_edits.proofs.Edits.RemovedLives.{entries_in, adrs_in, adrs_owned, entries_owned, AreNumbered, Removes, adr_avoids, entry_avoids, entry_in, entry_long}
-use Rattle.cdf_edits.proofs.Edits.Splice.{parts_there}
-use Rattle.cdf_edits.proofs.Edits.StepEdits.{gdr_in, gdr_typed, gdr_long, fixed_long}
-use Rattle.cdf_edits.proofs.Edits.UnlinkedAttribute.{unlinked_edit, unlinks_removes, as_long, counted_now, numbered_now, types_stay, left_shape, unlinked_sound, unlinked_shape, own_free, own_once}
-use Rattle.cdf_edits.proofs.Rules.WithoutLinks.{eof_by_rules}
 use Rattle.cdf_edits.proofs.Edits.ChainKinds.{attribute_typed}
+use Rattle.cdf_edits.proofs.Edits.FreedAfter.{Frees, freed_edit, shape_now, sound_now, records_are as freed_records, long_now as freed_long, all_freed, says_still, types_stay as freed_types, acts_after as freed_acts, freed_after as freed_bytes, gdr_still}
+use Rattle.cdf_edits.proofs.Edits.FreedBytes.{behind_kept, behind_link}
+use Rattle.cdf_edits.proofs.Edits.OwnedOnce.{only_owns, back_in}
+use Rattle.cdf_edits.proofs.Edits.RecordFrame.{AttributeLives, gdr_field}
+use Rattle.cdf_edits.proofs.Edits.RemovedAttribute.{without_one, SaysRemoved, content_removed, removed_good}
+use Rattle.cdf_edits.proofs.Edits.RemovedLives.{entries_in, adrs_in, adrs_owned, entries_owned, Removes, lives_beside, adr_avoids, entry_avoids, entry_in, entry_typed}
+use Rattle.cdf_edits.proofs.Edits.Splice.{parts_there}
+use Rattle.cdf_edits.proofs.Edits.StepEdits.{gdr_in, gdr_typed, some_bytes}
+use Rattle.cdf_edits.proofs.Edits.UnlinkedAttribute.{numbers, unlinked_edit, unlinks_removes, as_long, counted_now, may_mid, said, says_numbers, tiles_written, unlinked_shape, mid_sound, own_free, own_mine, own_there, may_number}
+use Rattle.cdf_edits.proofs.Rules.WithoutLinks.{eof_by_rules}
+use Rattle.std.proofs.lemmas.Bool.{eqb-true}
+use Rattle.std.specs.Prelude.{◌==◌, if◌then◌else◌}
+use Rattle.cdf_model.specs.Answers.{Go, Refuse}
+use Rattle.cdf_model.specs.AttributeSteps.{del_attr_step}
+use Rattle.cdf_model.specs.DataSet.{Attribute, DataSet}
+use Rattle.cdf_model.specs.Names.{attribute_named, attribute_names}
+use Rattle.cdf_model.specs.Step.{ByStep}
+use Rattle.cdf_edits.specs.Commands.Attributes.{attributes_gdr_fields, del_attr_changes}
+use Rattle.cdf_edits.specs.Commands.Named.{is_attribute}
+use Rattle.cdf_model.specs.declared.answer.Outcome.TheVariants.{Done, Refused}
+use Rattle.cdf_edits.specs.Answers.{Answers}
+use Rattle.cdf_edits.proofs.Commands.Answered.{refused, gone_by_giving}
+use Rattle.cdf_edits.proofs.Commands.KeptRecords.{AllKeep-append}
+use Rattle.cdf_edits.proofs.Edits.OwnersKept.{stood, keeps_fields, keep_unused, keep_places, keep_file, keep_parts, all_keep, keeps_within}
+use Rattle.cdf_edits.proofs.Edits.VariableFrame.{variables_in, all_variables_kept}
+use Rattle.cdf_edits.proofs.Commands.ListParts.{got-middle, map-removed, removed-at, AtNumber, at_number}
+use Rattle.std.proofs.lemmas.Option.{same_Some}
+use Rattle.cdf_edits.proofs.Edits.MarkLemmas.{avoided-avoids, within-within, away-of_type, within-of_type}
+use Rattle.std.proofs.Math.Seq.{drop-append_seam}
+use Rattle.cdf_format.specs.ChainRules.{adrs_rows, r_vdrs_rows, z_vdrs_rows}
+use Rattle.cdf_format.proofs.RowLemmas.{Hold-split}
+use Rattle.cdf_format.proofs.Tests.{eq_of}
+use Rattle.cdf_edits.specs.Edits.Writes.{Write, write, with_writes, numbers_from}
+use Rattle.cdf_edits.specs.Space.Chains.{counted_in, members_of, Removed}
+use Rattle.cdf_edits.specs.Space.Freeing.{AllGiven, AreFree}
+use Rattle.cdf_edits.specs.Space.TakingOut.{Lists, TakenOut}
+use Rattle.cdf_edits.specs.declared.chain.Chain.TheVariants.{Attrs, GrEntries, ZEntries}
+use Rattle.cdf_edits.proofs.Edits.AttributeChains.{EntryChains, entry_chains}
+use Rattle.cdf_edits.proofs.Edits.ChainsOfShape.{IsOf, few_members, lists}
+use Rattle.cdf_edits.proofs.Edits.WrittenFields.{writes_lie}
+use Rattle.cdf_model.specs.declared.answer.Reason.TheVariants as reasons
+use Rattle.cdf_model.specs.declared.answer.Reply.TheVariants as replies
+use Rattle.cdf_model.specs.declared.command.Command.TheVariants as commands
 
 module _ {b now : List ℕ} {n : ℕ} (good : Good b) (d : Deletes b now n) where
   abbrev s : Shape
@@ -50,124 +76,62 @@ module _ {b now : List ℕ} {n : ℕ} (good : Good b) (d : Deletes b now n) wher
   pub sound : IsSound b s
   sound = good_is_sound b good
 
-  abbrev mid : List ℕ
-  mid = d.mid
-
   abbrev pub places : List ℕ
   places = d.own.gr_entries ++ d.own.z_entries ++ d.own.adr ∷ []
 
   pub mine : (m : ℕ) → In m places → In m (attribute_records d.own)
-  mine m i = elim (In-append m (d.own.gr_entries ++ d.own.z_entries) (d.own.adr ∷ []) i) [ inl j ↦ inr j | inr j ↦ elim j [ inl e ↦ inl e | inr none ↦ absurd none ] ]
+  mine = own_mine sound d.unlinks
 
-  pub all_mine : (m : ℕ) → In m (attribute_records d.own) → In m places
+  all_mine : (m : ℕ) → In m (attribute_records d.own) → In m places
   all_mine m (inl e) = In-append_right m (d.own.gr_entries ++ d.own.z_entries) (d.own.adr ∷ []) (inl e)
   all_mine m (inr i) = In-append_left m (d.own.gr_entries ++ d.own.z_entries) (d.own.adr ∷ []) i
 
-  free : AreFree mid places
-  free = let once = own_once sound d.unlinks in own_free sound d.unlinks places mine (Distinct-push (d.own.gr_entries ++ d.own.z_entries) d.own.adr once.1 once.0)
-
-  abbrev shape_mid : Shape
-  shape_mid = left_shape sound d.unlinks
-
-  mid_sound : IsSound mid (shape mid)
-  mid_sound = subst (IsSound mid) (sym (unlinked_shape sound d.unlinks)) (unlinked_sound sound d.unlinks)
-
-  own_there : AreThere b s.records (d.own ∷ [])
-  own_there = (parts_there b s sound d.before (d.own ∷ []) d.after d.unlinks.was).1.0
-
-  own_typed : (m : ℕ) → In m (attribute_records d.own) → is_in (type_at b m) attribute_types ≡ true
-  own_typed m i = attribute_typed b s.records (d.own ∷ []) own_there m (In-append_left m (attribute_records d.own) [] i)
-
-  may_free : MayFree mid attribute_types places
-  may_free = record {
-    stand = free.stand;
-    typed = λ m i. ap (λ (t : ℕ). is_in t attribute_types) (types_stay sound d.unlinks m (own_in b s sound d.before d.own d.after d.unlinks.was m (mine m i))) ∙ own_typed m (mine m i);
-    used = free_used mid places free;
-    once = free.once;
+  frees : Frees b d.mid now (unlinking_marks s.gdr (adrs_in s.attributes) (adrs_in d.after) (entries_in d.after)) attribute_types places
+  frees = record {
+    sound = sound;
+    edit = unlinked_edit sound d.unlinks;
+    long = as_long sound d.unlinks;
+    mid_sound = mid_sound sound d.unlinks;
+    records = ap (λ (x : Shape). x.records) (unlinked_shape sound d.unlinks);
+    unused = ap (λ (x : Shape). x.unused) (unlinked_shape sound d.unlinks);
+    free = own_free sound d.unlinks;
+    typed = λ m i. attribute_typed b s.records (d.own ∷ []) (own_there sound d.unlinks) m (In-append_left m (attribute_records d.own) [] (mine m i));
+    no_gdr = refl;
+    given = d.given;
   }
 
-  pub left : IsLeft mid now
-  left = all_left mid now places mid_sound free.stand d.given
-
-  freeing : Edit mid now s.records s.records (freeing_marks attribute_types s.unused places (length mid)) places
-  freeing = subst (λ (x : Shape). Edit mid now x.records x.records (freeing_marks attribute_types x.unused places (length mid)) places) (unlinked_shape sound d.unlinks) (all_given_edit mid now attribute_types places mid_sound may_free d.given)
-
-  pub removes : Removes b now s d.before d.own d.after places (length mid)
-  removes = record { edit = edit_then (unlinked_edit sound d.unlinks) freeing; was = d.unlinks.was; mine = mine }
-
-  -- ---- the shape
+  pub removes : Removes b now s d.before d.own d.after places (length d.mid)
+  removes = record { edit = freed_edit frees; was = d.unlinks.was; mine = mine }
 
   pub shape_after : shape now ≡ without_one sound removes (shape now).unused
-  shape_after = left.shape_is ∙ ap (λ (x : Shape). with_space x x.records (shape now).unused) (unlinked_shape sound d.unlinks)
+  shape_after = shape_now frees (unlinked_shape sound d.unlinks)
 
   pub records_are : (shape now).records ≡ s.records
-  records_are = ap (λ (x : Shape). x.records) shape_after
+  records_are = freed_records frees
 
   pub long_now : length now ≡ length b
-  long_now = left.long ∙ as_long sound d.unlinks
+  long_now = freed_long frees
 
-  -- ---- what the records behind say
-
-  there_mid : AreThere mid s.records d.after
-  there_mid = (parts_there mid shape_mid (unlinked_sound sound d.unlinks) d.before [] d.after refl).1.1
-
-  out_of : (m : ℕ) → In m (flat_map attribute_records d.after) → In m places → ⊥
-  out_of m i j = (only_owns b s sound d.before d.own d.after d.unlinks.was m (mine m j)).in_after i
-
-  adr_beside : (m lo hi : ℕ) → (In m places → ⊥) → Avoids (freeing_marks attribute_types s.unused places (length mid)) adr_type m lo hi
-  adr_beside m lo hi out = ((λ same lies. absurd cc), ((λ same lies. absurd cc), ((λ same lies. absurd (out lies)), ((λ same lies. absurd cc), ((λ same lies. absurd cc), tt)))))
-
-  gr_beside : (m lo hi : ℕ) → (In m places → ⊥) → Avoids (freeing_marks attribute_types s.unused places (length mid)) agr_edr_type m lo hi
-  gr_beside m lo hi out = ((λ same lies. absurd cc), ((λ same lies. absurd cc), ((λ same lies. absurd cc), ((λ same lies. absurd (out lies)), ((λ same lies. absurd cc), tt)))))
-
-  z_beside : (m lo hi : ℕ) → (In m places → ⊥) → Avoids (freeing_marks attribute_types s.unused places (length mid)) az_edr_type m lo hi
-  z_beside m lo hi out = ((λ same lies. absurd cc), ((λ same lies. absurd cc), ((λ same lies. absurd cc), ((λ same lies. absurd cc), ((λ same lies. absurd (out lies)), tt)))))
-
-  numbered_still : (k : ℕ) (as_ : List AttributeShape) → AreThere mid s.records as_ → ((m : ℕ) → In m (flat_map attribute_records as_) → In m places → ⊥) → AreNumbered mid k as_ → AreNumbered now k as_
-  numbered_still k [] there out says = tt
-  numbered_still k (a ∷ more) there out says =
-      let ok = there.linked.0 in
-      let inside = linkable-in mid s.records adr_type a.adr ok in
-      let typed = linkable-type mid s.records adr_type a.adr ok in
-      let long = linkable-long mid s.records adr_type a.adr ok in
-      let wide = fixed_long mid shape_mid (unlinked_sound sound d.unlinks).has_shape adr_type a.adr inside typed in
-      let away = out a.adr (inl refl) in (
-        (
-          field_avoids freeing a.adr adr_type adr_num inside typed (adr_beside a.adr 0 12 away) (adr_beside a.adr 32 36 away) (omega arith) ∙ says.0.0,
-          (λ m i. entry m i (out m (inr (In-append_left m (a.gr_entries ++ a.z_entries) (flat_map attribute_records more) i))) ∙ says.0.1 m i),
-        ),
-        numbered_still (suc k) more (more_there mid s.records a more there) (λ m i. out m (In-append_right m (attribute_records a) (flat_map attribute_records more) i)) says.1,
-      )
-    where
-      entry : (m : ℕ) → In m (a.gr_entries ++ a.z_entries) → (In m places → ⊥) → number now m aedr_attr_num ≡ number mid m aedr_attr_num
-      entry m i away = elim (In-append m a.gr_entries a.z_entries i) [
-        | inl j ↦
-            let ok = there.have.0.gr_chain.linkable m j in
-            let long = linkable-long mid s.records agr_edr_type m ok in
-            field_avoids freeing m agr_edr_type aedr_attr_num (linkable-in mid s.records agr_edr_type m ok) (linkable-type mid s.records agr_edr_type m ok) (gr_beside m 0 12 away) (gr_beside m 20 24 away) (omega arith)
-        | inr j ↦
-            let ok = there.have.0.z_chain.linkable m j in
-            let long = linkable-long mid s.records az_edr_type m ok in
-            field_avoids freeing m az_edr_type aedr_attr_num (linkable-in mid s.records az_edr_type m ok) (linkable-type mid s.records az_edr_type m ok) (z_beside m 0 12 away) (z_beside m 20 24 away) (omega arith)
-      ]
+  -- a record of the attributes behind it is none of those that are freed
+  behind_apart : (m : ℕ) → In m (flat_map attribute_records d.after) → (is_in (type_at d.mid m) attribute_types ≡ true) × (In m places → ⊥)
+  behind_apart m i = (
+    ap (λ (t : ℕ). is_in t attribute_types) (freed_types frees m (back_in b s sound d.before d.own d.after d.unlinks.was m i)) ∙ attribute_typed b s.records d.after (parts_there b s sound d.before (d.own ∷ []) d.after d.unlinks.was).1.1 m i,
+    (λ j. (only_owns b s sound d.before d.own d.after d.unlinks.was m (mine m j)).in_after i),
+  )
 
   pub says : SaysRemoved sound removes (shape now).unused
   says = record {
-    numbered = numbered_still (length d.before) d.after there_mid out_of (numbered_now sound d.unlinks);
-    attribute_chain = subst (λ (x : Shape). IsChain now x.records adr_type (number now x.gdr gdr_adr_head) (adrs x)) shape_after left.sound.has_shape.attribute_chain;
-    unused_chain = subst (λ (x : Shape). IsChain now x.records uir_type (number now x.gdr gdr_uir_head) x.unused) shape_after left.sound.has_shape.unused_chain;
-    freed = all_unused mid now places mid_sound free.stand d.given;
+    numbered = says_numbers now (length d.before) d.after (says_still frees (numbers sound d.unlinks) _ (may_mid sound d.unlinks).1 (λ m i. behind_apart m (subst (In m) (tiles_written (length d.before) d.after) i)) (said sound d.unlinks).1);
+    attribute_chain = subst (λ (x : Shape). IsChain now x.records adr_type (number now x.gdr gdr_adr_head) (adrs x)) shape_after (sound_now frees).has_shape.attribute_chain;
+    unused_chain = subst (λ (x : Shape). IsChain now x.records uir_type (number now x.gdr gdr_uir_head) x.unused) shape_after (sound_now frees).has_shape.unused_chain;
+    freed = all_freed frees;
   }
 
   pub content_after : content now ≡ record (content b) { attributes = remove (content b).attributes n }
   content_after = content_removed sound removes says ∙ ap (λ (k : ℕ). record (content b) { attributes = remove (content b).attributes k }) d.count
 
   count_now : number now s.gdr gdr_num_attr ≡ length (adrs_in (d.before ++ d.after))
-  count_now =
-      let h = (unlinked_sound sound d.unlinks).has_shape in
-      let f = λ (a : AttributeShape). a.adr in
-      let total : length d.before + length d.after ≡ length (adrs_in (d.before ++ d.after)) = sym (length-map (d.before ++ d.after) f ∙ length-append d.before d.after) in
-      field_clear freeing s.gdr gdr_type gdr_num_attr (gdr_in mid shape_mid h) (gdr_typed mid shape_mid h) refl refl (let l = gdr_long mid shape_mid h in omega arith) ∙ counted_now sound d.unlinks ∙ total
+  count_now = gdr_still frees gdr_num_attr (omega arith) ∙ counted_now sound d.unlinks ∙ sym (length-map (d.before ++ d.after) (λ (a : AttributeShape). a.adr) ∙ length-append d.before d.after)
 
   pub good_after : length b ≤ image_limit → Good now
   good_after short =
@@ -178,52 +142,197 @@ module _ {b now : List ℕ} {n : ℕ} (good : Good b) (d : Deletes b now n) wher
 
   -- ---- its space
 
-  sizes_before : (m : ℕ) → In m places → size_at mid m ≡ size_at b m
-  sizes_before m i =
-      let inside = own_in b s sound d.before d.own d.after d.unlinks.was m (mine m i) in
-      head_size b mid m ((unlinked_edit sound d.unlinks).head m inside (λ t. free_used mid places free m i (types_stay sound d.unlinks m inside ∙ t)) (λ r. r))
-
   pub acts_after : ActsFollow b now (gave b places)
-  acts_after =
-      let same = unlinked_shape sound d.unlinks in
-      let none = acts_none sound (unlinked_edit sound d.unlinks) refl refl (ap (λ (x : Shape). x.records) same) (ap (λ (x : Shape). x.unused) same) (as_long sound d.unlinks) in
-      subst (ActsFollow b now) (gave-same b mid places sizes_before) (all_gave b mid now [] attribute_types places sound.has_shape none mid_sound may_free d.given)
+  acts_after = freed_acts frees refl
 
-  sizes_after : (m : ℕ) → In m s.records → size_at now m ≡ size_at b m
-  sizes_after = sizes_by_tiles b now 8 8 (length b) s.records refl sound.has_shape.tiled (subst (λ (k : ℕ). AreTiles now 8 k s.records) long_now removes.edit.tiled_now)
+  -- before they are freed, its records stay but for a link
+  own_lives : AttributeLives b d.mid d.own
+  own_lives = (lives_beside sound (unlinks_removes sound d.unlinks 0) (d.own ∷ []) (own_there sound d.unlinks) (λ m i.
+      let out = (only_owns b s sound d.before d.own d.after d.unlinks.was m (elim (In-append m (attribute_records d.own) [] i) [ inl j ↦ j | inr none ↦ absurd none ])).in_after in
+      ((λ x. x), ((λ j. out (adrs_owned d.after m j)), (λ j. out (entries_owned d.after m j)))))).0
 
-  -- its bytes behind the links
-  behind : (m : ℕ) → In m places → Same b now (m + links_end (size_at b m)) (m + size_at b m)
-  behind m i =
-      let one = own_behind m (mine m i) in
-      let size = sizes_before m i in
-      let not_gdr : m ≢ (shape mid).gdr = λ e. (only_owns b s sound d.before d.own d.after d.unlinks.was m (mine m i)).in_file (inr (inl (e ∙ ap (λ (x : Shape). x.gdr) (unlinked_shape sound d.unlinks)))) in
-      let two = subst (λ (k : ℕ). Same mid now (m + links_end k) (m + k)) size (left.behind m (free.stand m i) not_gdr) in
-      record { each = λ k l u. two.each k l u ∙ one.each k l u }
-    where
-      r : Removes b mid s d.before d.own d.after [] 0
-      r = unlinks_removes sound d.unlinks 0
-
-      none : (m : ℕ) → In m [] → ⊥
-      none m i = i
-
-      long_enough : (k : ℕ) → 28 ≤ k → links_end k ≡ 28
-      long_enough k l = rw (le-leb 28 k l) refl
-
-      own_behind : (m : ℕ) → In m (attribute_records d.own) → Same b mid (m + links_end (size_at b m)) (m + size_at b m)
-      own_behind m (inl e) =
-          let ok = own_there.linked.0 in
-          let a = d.own.adr in
-          let long = linkable-long b s.records adr_type a ok in
-          let out : In a (adrs_in d.after) → ⊥ = λ j. (only_owns b s sound d.before d.own d.after d.unlinks.was a (inl refl)).in_after (adrs_owned d.after a j) in
-          let here = r.edit.part a adr_type 28 (size_at b a) (linkable-in b s.records adr_type a ok) (linkable-type b s.records adr_type a ok) (adr_avoids sound r a 0 12 (none a) (inl (omega arith)) (λ j. inl (omega arith))) (adr_avoids sound r a 28 (size_at b a) (none a) (inr (omega arith)) (λ j. absurd (out j))) (omega arith) in
-          subst (λ (x : ℕ). Same b mid (x + links_end (size_at b x)) (x + size_at b x)) (sym e) (subst (λ (k : ℕ). Same b mid (a + k) (a + size_at b a)) (sym (long_enough (size_at b a) long)) here)
-      own_behind m (inr i) =
-          let out : In m (entries_in d.after) → ⊥ = λ j. (only_owns b s sound d.before d.own d.after d.unlinks.was m (inr i)).in_after (entries_owned d.after m j) in
-          let long = entry_long sound r d.own [] own_there m i in
-          let heads = entry_avoids sound r d.own [] own_there m 0 12 i (none m) (λ x. inl (omega arith)) in
-          subst (λ (k : ℕ). Same b mid (m + k) (m + size_at b m)) (sym (long_enough (size_at b m) long))
-          (r.edit.part m (type_at b m) 28 (size_at b m) (entry_in sound r d.own [] own_there m i) refl heads (entry_avoids sound r d.own [] own_there m 28 (size_at b m) i (none m) (λ x. absurd (out x))) (omega arith))
+  own_behind : (m : ℕ) → In m (attribute_records d.own) → Same b d.mid (m + links_end (size_at b m)) (m + size_at b m)
+  own_behind m (inl e) = subst (λ (x : ℕ). Same b d.mid (x + links_end (size_at b x)) (x + size_at b x)) (sym e) (behind_link own_lives.adr (linkable-long b s.records adr_type d.own.adr (own_there sound d.unlinks).linked.0))
+  own_behind m (inr i) = behind_kept (own_lives.entries m i)
 
   pub freed_after : FreedStay b now no_fields (gave b places)
-  freed_after = freed_stay b now (gave b places) places no_fields left.sound.has_shape.tiled (λ m i. subst (In m) (sym records_are) (own_in b s sound d.before d.own d.after d.unlinks.was m (mine m i))) (λ m i. sizes_after m (own_in b s sound d.before d.own d.after d.unlinks.was m (mine m i))) behind
+  freed_after = freed_bytes frees (λ m i. own_behind m (mine m i))
+
+-- ---- what the command may change
+
+-- either of two allowances
+either_keeps : (b now : List ℕ) (p : Bool) (m : ℕ) (a : Allowance) → Keeps b now m a → Keeps b now m (if p then Anything else a)
+either_keeps b now true m a k = tt
+either_keeps b now false m a k = k
+
+module _ {b now : List ℕ} {n : ℕ} (good : Good b) (d : Deletes b now n) (name : List ℕ) (w : Attribute) (found : attribute_named (content b) name ≡ Some (n, w)) where
+  abbrev may : Allowances
+  may = del_attr_changes b (content b) name
+
+  abbrev acts : List Act
+  acts = gave b (places good d)
+
+  abbrev marks : List Mark
+  marks = deleting_marks (shape b).gdr (adrs_in (shape b).attributes) (adrs_in d.after) (entries_in d.after) (shape b).unused (places good d) (length d.mid)
+
+  abbrev branch : Bool → Allowance
+  branch p = if p then Only (next_field ∷ adr_num ∷ []) else Only (aedr_attr_num ∷ [])
+
+  -- a record of an attribute that is not freed
+  one_keeps : (k : ℕ) (a : AttributeShape) → AreThere b (shape b).records (a ∷ []) → (m : ℕ) → In m (attribute_records a) → (In m (places good d) → ⊥) → Keeps b now m (may.attributes k m)
+  one_keeps k a there m (inl e) away =
+      let ok = there.linked.0 in
+      let typed : type_at b m ≡ adr_type = ap (type_at b) e ∙ linkable-type b (shape b).records adr_type a.adr ok in
+      let inside : In m (shape b).records = subst (λ (x : ℕ). In x (shape b).records) (sym e) (linkable-in b (shape b).records adr_type a.adr ok) in
+      let heads = adr_avoids (sound good d) (removes good d) m 0 12 away (inl (omega arith)) (λ x. inl (omega arith)) in
+      let kept = keeps_within (sound good d) (removes good d).edit (records_are good d) m adr_type (next_field ∷ adr_num ∷ []) inside typed heads (within-of_type marks adr_type m (next_field ∷ adr_num ∷ []) ((λ same lies. refl), ((λ same lies. refl), ((λ same lies. absurd (away lies)), tt)))) in
+      either_keeps b now (is_attribute (content b) name k) m _ (subst (λ (p : Bool). Keeps b now m (branch p)) (sym (eq-eqb (type_at b m) adr_type typed)) kept)
+  one_keeps k a there m (inr i) away =
+      let inside = entry_in (sound good d) (removes good d) a [] there m i in
+      let heads = entry_avoids (sound good d) (removes good d) a [] there m 0 12 i away (λ x. inl (omega arith)) in
+      let x : ((type_at b m == adr_type) ≡ false) × Within marks (type_at b m) m (aedr_attr_num ∷ []) = entry_typed (sound good d) (removes good d) (λ (t : ℕ). ((t == adr_type) ≡ false) × Within marks t m (aedr_attr_num ∷ [])) a [] there m i
+      (refl, within-of_type marks agr_edr_type m (aedr_attr_num ∷ []) ((λ same lies. refl), ((λ same lies. absurd (away lies)), tt))) (refl, within-of_type marks az_edr_type m (aedr_attr_num ∷ []) ((λ same lies. refl), ((λ same lies. absurd (away lies)), tt))) in
+      either_keeps b now (is_attribute (content b) name k) m _ (subst (λ (p : Bool). Keeps b now m (branch p)) (sym x.0) (keeps_within (sound good d) (removes good d).edit (records_are good d) m (type_at b m) (aedr_attr_num ∷ []) inside refl heads x.1))
+
+  all_keep_beside : (k : ℕ) (as_ : List AttributeShape) → AreThere b (shape b).records as_ → ((m : ℕ) → In m (flat_map attribute_records as_) → In m (places good d) → ⊥) → AllKeep b now may acts (owned_by_attributes k as_)
+  all_keep_beside k [] there away = tt
+  all_keep_beside k (a ∷ more) there away = AllKeep-append b now may acts (owned_by (OneAttribute k) (attribute_records a)) (owned_by_attributes (suc k) more)
+      (keep_places b now may acts (OneAttribute k) (attribute_records a) (λ m i. one_keeps k a (record { linked = (there.linked.0, tt); have = (there.have.0, tt); fit = (there.fit.0, tt) }) m i (away m (In-append_left m (attribute_records a) (flat_map attribute_records more) i))))
+      (all_keep_beside (suc k) more (more_there b (shape b).records a more there) (λ m i. away m (In-append_right m (attribute_records a) (flat_map attribute_records more) i)))
+
+  named : is_attribute (content b) name (length d.before) ≡ true
+  named = ap (λ (f : Option (ℕ × Attribute)). elim f [ None ↦ false | Some x ↦ x.0 == length d.before ]) found ∙ eq-eqb n (length d.before) (sym d.count)
+
+  keeps : AllKeep b now may acts (owned b (shape b))
+  keeps =
+      let s : Shape = shape b in
+      let ok = sound good d in
+      let h = ok.has_shape in
+      let e = (removes good d).edit in
+      let same = records_are good d in
+      let there = parts_there b s ok d.before (d.own ∷ []) d.after d.unlinks.was in
+      let from = λ (m : ℕ) (j : In m (places good d)). only_owns b s ok d.before d.own d.after d.unlinks.was m (mine good d m j) in
+      let f = keep_file b now may acts ok (keeps_fields ok e same 8 cdr_type [] (is_a-in b s.records cdr_type 8 h.cdr_stands) (is_a-type b s.records cdr_type 8 h.cdr_stands) refl refl) (keeps_fields ok e same s.gdr gdr_type attributes_gdr_fields (gdr_in b s h) (gdr_typed b s h) refl refl) in
+      let a = keep_parts b now may acts d.before (d.own ∷ []) d.after d.unlinks.was
+      (all_keep_beside 0 d.before there.0 (λ m i j. (from m j).in_before i))
+      (AllKeep-append b now may acts (owned_by (OneAttribute (length d.before)) (attribute_records d.own)) [] (keep_places b now may acts (OneAttribute (length d.before)) (attribute_records d.own) (λ m i.
+      subst (λ (p : Bool). Keeps b now m (if p then Anything else branch (type_at b m == adr_type))) (sym named) tt)) tt)
+      (all_keep_beside (length d.before + length (d.own ∷ [])) d.after there.1.1 (λ m i j. (from m j).in_after i)) in
+      let u = keep_unused ok e same may acts (λ m i free. (avoided-avoids marks uir_type m 0 12 refl, within-within marks uir_type m (uir_next_uir ∷ uir_prev_uir ∷ []) refl)) (λ m i out. away-of_type marks uir_type m ((λ same lies. absurd (out lies)), tt)) in
+      all_keep b now may acts f a (λ m i. stood ok e same m (variables_in b s ok m i) (all_variables_kept ok e refl m i)) u
+
+  -- the attribute that has the name is this one
+  own_is : (k : ℕ) (a : AttributeShape) → is_attribute (content b) name k ≡ true → slice_get (shape b).attributes k ≡ Some a → d.own ≡ a
+  own_is k a is at =
+      let number : n ≡ k = eqb-true n k (sym (ap (λ (o : Option (ℕ × Attribute)). elim o [ None ↦ false | Some x ↦ x.0 == k ]) found) ∙ is) in
+      let there : slice_get (shape b).attributes k ≡ Some d.own = ap (λ (as_ : List AttributeShape). slice_get as_ k) d.unlinks.was ∙ ap (slice_get (d.before ++ d.own ∷ d.after)) (sym number ∙ sym d.count) ∙ got-middle d.before d.own d.after in
+      same_Some d.own a (sym there ∙ at)
+
+  pub delete_done : (limit : ℕ) → length b ≤ limit → length b ≤ image_limit → Answers limit b (commands.DelAttr name) (Done replies.Plain) now
+  delete_done limit fits short =
+      let goes : del_attr_step (content b) name ≡ Go (record (content b) { attributes = remove (content b).attributes n }) replies.Plain = rw found refl in
+      gone_by_giving limit b (commands.DelAttr name) now (places good d) refl refl (ap ByStep (goes ∙ ap (λ (x : DataSet). Go x replies.Plain) (sym (content_after good d)))) (good_after good d short) (long_now good d) (acts_after good d) keeps
+      (record { acts_are = λ k a is at. ap (λ (x : AttributeShape). gave b (x.gr_entries ++ x.z_entries ++ x.adr ∷ [])) (own_is k a is at); freed = freed_after good d }) fits
+
+pub delete_refused : (limit : ℕ) (b name : List ℕ) → attribute_named (content b) name ≡ None → Answers limit b (commands.DelAttr name) (Refused reasons.NoSuchAttr) b
+delete_refused limit b name none = refused limit b (commands.DelAttr name) reasons.NoSuchAttr (ap ByStep (missing (content b) none))
+  where
+    missing : (d : DataSet) → attribute_named d name ≡ None → del_attr_step d name ≡ Refuse reasons.NoSuchAttr
+    missing d e = rw e refl
+
+-- ---- names and places
+
+module _ {b now : List ℕ} {n : ℕ} (good : Good b) (d : Deletes b now n) where
+  pub names_after : remove (attribute_names (content b)) n ≡ attribute_names (content now)
+  names_after = sym (map-removed (λ (a : Attribute). a.name) (content b).attributes n) ∙ ap attribute_names (sym (content_after good d))
+
+  pub places_after : remove (adrs (shape b)) n ≡ adrs (shape now)
+  places_after =
+      sym (map-removed (λ (a : AttributeShape). a.adr) (shape b).attributes n)
+      ∙ (λ i. adrs_in (remove (d.unlinks.was i) (sym d.count i))) ∙ ap adrs_in (removed-at d.before d.own d.after) ∙ ap adrs (sym (shape_after good d))
+
+-- ---- what the calls come to, by the places of the attributes and the number of one
+
+module _ (b : List ℕ) (good : Good b) (places : List ℕ) (are : places ≡ adrs (shape b)) where
+  image_sound : IsSound b (shape b)
+  image_sound = good_is_sound b good
+
+  is_of : IsOf b (shape b) Attrs (shape b).gdr (adrs (shape b))
+  is_of = record { holder_is = image_sound.has_shape.gdr_is; chain = image_sound.has_shape.attribute_chain }
+
+  pub attributes_listed : Lists b Attrs places
+  attributes_listed =
+      let image = good_by_its_shape b good in
+      let p = Hold-split (adrs_rows b (adrs (shape b)) ++ r_vdrs_rows b (vdrs (shape b).r_variables)) (z_vdrs_rows b (vdrs (shape b).z_variables)) image.counting in
+      let q = Hold-split (adrs_rows b (adrs (shape b))) (r_vdrs_rows b (vdrs (shape b).r_variables)) p.0 in
+      lists image_sound.has_shape is_of tt are (eq_of (number b (gdr_offset b) gdr_num_attr) (length (adrs (shape b))) q.0.0 ∙ ap length (sym are))
+
+  module _ (n : ℕ) (lt : n < length places) where
+    abbrev pub own : AtNumber (λ (a : AttributeShape). a.adr) (shape b).attributes places n
+    own = at_number (λ (a : AttributeShape). a.adr) (shape b).attributes places are n lt
+
+    chains : EntryChains b own.own
+    chains = entry_chains b good own.before own.own own.after own.is
+
+    own_entries : (entries : List ℕ) → entries ≡ members_of b (GrEntries (get_or places n 0)) ++ members_of b (ZEntries (get_or places n 0)) → entries ≡ own.own.gr_entries ++ own.own.z_entries
+    own_entries entries e =
+        let gr = chains.gr_members in
+        let z = chains.z_members in
+        e ∙ ap (λ (m : ℕ). members_of b (GrEntries m) ++ members_of b (ZEntries m)) own.own_at ∙ (λ i. gr i ++ z i)
+
+    -- the numbers of one attribute more were read
+    pub numbers_more : 1 ≤ n → (entries : List ℕ) → entries ≡ members_of b (GrEntries (get_or places n 0)) ++ members_of b (ZEntries (get_or places n 0)) → (done more all : List Write)
+        → more ≡ done ++ write (get_or places n 0) adr_num (n - 1) ∷ map (λ (entry : ℕ). write entry aedr_attr_num (n - 1)) entries → done ++ numbers_from (n - 1) (drop n (shape b).attributes) ≡ all → more ++ numbers_from (n + 1 - 1) (drop (n + 1) (shape b).attributes) ≡ all
+    numbers_more later entries entries_are done more all more_is before_is =
+        let adr = own.own_at in
+        let ours = own_entries entries entries_are in
+        let here : drop n (shape b).attributes ≡ own.own ∷ own.after = ap₂ (λ (as_ : List AttributeShape) (k : ℕ). drop k as_) own.is (sym own.count) ∙ drop-append_seam own.before (own.own ∷ own.after) in
+        let behind = own.later_are in
+        let next : n + 1 - 1 ≡ suc (n - 1) = omega arith in
+        let numbers = λ (adr : ℕ) (es : List ℕ). write adr adr_num (n - 1) ∷ map (λ (entry : ℕ). write entry aedr_attr_num (n - 1)) es in
+        (λ i. more_is i ++ numbers_from (next i) (behind i)) ∙ (λ i. (done ++ numbers (adr i) (ours i)) ++ numbers_from (suc (n - 1)) own.after)
+        ∙ append_assoc done (numbers own.own.adr (own.own.gr_entries ++ own.own.z_entries)) (numbers_from (suc (n - 1)) own.after) ∙ ap (λ (as_ : List AttributeShape). done ++ numbers_from (n - 1) as_) (sym here) ∙ before_is
+
+    -- it was taken out of the chain, and numbers are written
+    module _ (short : length b ≤ image_limit) {x y second : List ℕ} (same : x ≡ b) (taken : TakenOut x second Attrs (get_or places n 0)) (earlier : y ≡ b) {writes : List Write} (read : writes ≡ numbers_from n (drop (n + 1) (shape y).attributes)) where
+      out : TakenOut b second Attrs (get_or places n 0)
+      out = subst (λ (y : List ℕ). TakenOut y second Attrs (get_or places n 0)) same taken
+
+      numbers_are : writes ≡ numbers_from (length own.before) own.after
+      numbers_are = read ∙ ap (λ (z : List ℕ). numbers_from n (drop (n + 1) (shape z).attributes)) earlier ∙ ap₂ numbers_from (sym own.count) own.later_are
+
+      pub lie_after : Each (λ (w : Write). LiesIn second w.tile w.f) writes
+      lie_after = subst (Each (λ (w : Write). LiesIn second w.tile w.f)) (sym numbers_are)
+          (writes_lie b second (shape b).records _ _ image_sound.has_shape.tiled (some_bytes b (shape b) image_sound.has_shape) out.length_stays
+          (may_number b (shape b) image_sound own.after (length own.before) own.after (parts_there b (shape b) image_sound own.before (own.own ∷ []) own.after own.is).1.1 (λ m i. i) (λ m i. i)))
+
+      module _ {mid : List ℕ} (written : mid ≡ with_writes second writes) {records : List ℕ} (records_are : records ≡ members_of b (GrEntries (get_or places n 0)) ++ members_of b (ZEntries (get_or places n 0)) ++ get_or places n 0 ∷ []) where
+        unlinks : Unlinks b mid (shape b) own.before own.own own.after
+        unlinks =
+            let count = attributes_listed.counted in
+            let total = own.long in
+            let few = few_members image_sound.has_shape is_of short in
+            let gdr = image_sound.has_shape.gdr_is in
+            let less : counted_in b Attrs - 1 ≡ length own.before + length own.after = omega (arith, count, total) in
+            record {
+              was = own.is;
+              first = out.first;
+              removed = subst (Removed b out.first Attrs) own.own_at out.removed;
+              written = written ∙ (λ i. with_writes (out.counted i) (numbers_are i)) ∙ (λ i. with_writes (with_field out.first (gdr i) gdr_num_attr (less i)) (numbers_from (length own.before) own.after));
+              few = omega (arith, ap length are);
+            }
+
+        own_records : records ≡ own.own.gr_entries ++ own.own.z_entries ++ own.own.adr ∷ []
+        own_records =
+            let gr = chains.gr_members in
+            let z = chains.z_members in
+            records_are ∙ ap (λ (m : ℕ). members_of b (GrEntries m) ++ members_of b (ZEntries m) ++ m ∷ []) own.own_at ∙ (λ i. gr i ++ z i ++ own.own.adr ∷ [])
+
+        pub sound_after : IsSound mid (shape mid)
+        sound_after = mid_sound image_sound unlinks
+
+        pub free_after : AreFree mid records
+        free_after = subst (AreFree mid) (sym own_records) (own_free image_sound unlinks)
+
+        pub deletes_by : (now : List ℕ) → AllGiven mid now records → Deletes b now n
+        deletes_by now given = record { before = own.before; own = own.own; after = own.after; count = own.count; mid = mid; unlinks = unlinks; given = subst (AllGiven mid now) own_records given }

@@ -28,12 +28,21 @@ use Rattle.cdf_edits.proofs.Edits.StepEdits.{all_marked}
 use Rattle.cdf_edits.proofs.Frame.OwnersApart.{times-in, owned-times, file_records, all_attribute_records, all_variable_records}
 use Rattle.cdf_edits.proofs.Space.ActsLeave.{each}
 use Rattle.cdf_edits.proofs.Space.UsedRecords.{filter-keeps, filter-says}
+use Rattle.cdf_format.proofs.BytesLemmas.{Same-part}
+use Rattle.cdf_edits.proofs.Frame.Meaning.{Kept, KeptButLink}
 
 end_low : (size : ℕ) → 12 ≤ links_end size
 end_low size = elim (either (nat_le 28 size)) [ inl e ↦ rw e (omega arith) | inr e ↦ rw e (omega arith) ]
 
 end_long : (size : ℕ) → 28 ≤ size → 28 ≤ links_end size
 end_long size long = rw (le-leb 28 size long) (omega arith)
+
+-- a record that is kept, or but for the link to the next one, keeps its bytes behind the links of an unused one
+pub behind_kept : {b now : List ℕ} {m : ℕ} → Kept b now m → Same b now (m + links_end (size_at b m)) (m + size_at b m)
+behind_kept {b = b} {now = now} {m = m} k = Same-part b now m (m + size_at b m) (m + links_end (size_at b m)) (m + size_at b m) k.same (omega arith) (omega arith)
+
+pub behind_link : {b now : List ℕ} {m : ℕ} → KeptButLink b now m → 28 ≤ size_at b m → Same b now (m + links_end (size_at b m)) (m + size_at b m)
+behind_link {b = b} {now = now} {m = m} k long = Same-part b now (m + 20) (m + size_at b m) (m + links_end (size_at b m)) (m + size_at b m) k.rest (let l = end_long (size_at b m) long in omega arith) (omega arith)
 
 -- ---- one record
 

@@ -30,6 +30,7 @@ use Rattle.cdf_format.proofs.ShapeLemmas.{content_is}
 use Rattle.cdf_format.proofs.TilesLemmas.{tile_lies}
 use Rattle.cdf_edits.specs.Edits.ManyMarks.{deleting_marks}
 use Rattle.cdf_edits.specs.Edits.Marks.{Mark}
+use Rattle.cdf_edits.proofs.Commands.ListParts.{removed-at}
 use Rattle.cdf_edits.proofs.Edits.AttributeFrame.{AreThere, names_stay, nums_stay}
 use Rattle.cdf_edits.specs.Frame.Leaves.{AttributeStays}
 use Rattle.cdf_edits.proofs.Edits.OwnedOnce.{used_times, owned_once_if, spliced_times, own_in}
@@ -41,10 +42,6 @@ use Rattle.cdf_edits.proofs.Frame.Meaning.{FileSame}
 use Rattle.cdf_edits.proofs.Frame.OwnersApart.{times-in, owned-times, file_records, all_attribute_records, all_variable_records}
 
 -- ---- lists of which one member goes
-
-pub removed-at : {A : Type 0} (xs : List A) (x : A) (ys : List A) → remove (xs ++ x ∷ ys) (length xs) ≡ xs ++ ys
-removed-at [] x ys = refl
-removed-at (z ∷ xs) x ys = ap (λ (r : List _). z ∷ r) (removed-at xs x ys)
 
 -- names stay new where fewer came before
 seen_less : (before : List (List ℕ)) (old : List ℕ) (mid names : List (List ℕ)) → AreNew (before ++ old ∷ mid) names → AreNew (before ++ mid) names

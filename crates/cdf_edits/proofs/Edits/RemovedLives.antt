@@ -84,11 +84,14 @@ module _ {b now : List ℕ} {s : Shape} {before : List AttributeShape} {own : At
   z_avoids m lo hi out num = avoids-of_type marks az_edr_type m lo hi ((λ same lies. num lies), ((λ same lies. absurd (out lies)), tt))
 
   -- an entry has one of two types
-  pub entry_avoids : (a : AttributeShape) (as_ : List AttributeShape) → AreThere b s.records (a ∷ as_) → (m lo hi : ℕ) → In m (a.gr_entries ++ a.z_entries) → (In m places → ⊥) → (In m (entries_in after) → (hi ≤ 20) ⊎ (24 ≤ lo)) → Avoids marks (type_at b m) m lo hi
-  entry_avoids a as_ there m lo hi i out num = elim (In-append m a.gr_entries a.z_entries i) [
-    | inl j ↦ subst (λ (t : ℕ). Avoids marks t m lo hi) (sym (linkable-type b s.records agr_edr_type m (there.have.0.gr_chain.linkable m j))) (gr_avoids m lo hi out num)
-    | inr j ↦ subst (λ (t : ℕ). Avoids marks t m lo hi) (sym (linkable-type b s.records az_edr_type m (there.have.0.z_chain.linkable m j))) (z_avoids m lo hi out num)
+  pub entry_typed : (P : ℕ → Type 0) (a : AttributeShape) (as_ : List AttributeShape) → AreThere b s.records (a ∷ as_) → (m : ℕ) → In m (a.gr_entries ++ a.z_entries) → P agr_edr_type → P az_edr_type → P (type_at b m)
+  entry_typed P a as_ there m i gr z = elim (In-append m a.gr_entries a.z_entries i) [
+    | inl j ↦ subst P (sym (linkable-type b s.records agr_edr_type m (there.have.0.gr_chain.linkable m j))) gr
+    | inr j ↦ subst P (sym (linkable-type b s.records az_edr_type m (there.have.0.z_chain.linkable m j))) z
   ]
+
+  pub entry_avoids : (a : AttributeShape) (as_ : List AttributeShape) → AreThere b s.records (a ∷ as_) → (m lo hi : ℕ) → In m (a.gr_entries ++ a.z_entries) → (In m places → ⊥) → (In m (entries_in after) → (hi ≤ 20) ⊎ (24 ≤ lo)) → Avoids marks (type_at b m) m lo hi
+  entry_avoids a as_ there m lo hi i out num = entry_typed (λ (t : ℕ). Avoids marks t m lo hi) a as_ there m i (gr_avoids m lo hi out num) (z_avoids m lo hi out num)
 
   pub entry_in : (a : AttributeShape) (as_ : List AttributeShape) → AreThere b s.records (a ∷ as_) → (m : ℕ) → In m (a.gr_entries ++ a.z_entries) → In m s.records
   entry_in a as_ there m i = elim (In-append m a.gr_entries a.z_entries i) [
@@ -110,7 +113,7 @@ module _ {b now : List ℕ} {s : Shape} {before : List AttributeShape} {own : At
   -- ---- before
 
   -- of none of these records is a mark but in the link to the next one
-  lives_beside : (as_ : List AttributeShape) → AreThere b s.records as_ → ((m : ℕ) → In m (flat_map attribute_records as_) → (In m places → ⊥) × ((In m (adrs_in after) → ⊥) × (In m (entries_in after) → ⊥))) → Each (AttributeLives b now) as_
+  pub lives_beside : (as_ : List AttributeShape) → AreThere b s.records as_ → ((m : ℕ) → In m (flat_map attribute_records as_) → (In m places → ⊥) × ((In m (adrs_in after) → ⊥) × (In m (entries_in after) → ⊥))) → Each (AttributeLives b now) as_
   lives_beside [] there out = tt
   lives_beside (a ∷ more) there out =
       let ok = there.linked.0 in

@@ -1,5 +1,5 @@
 -- The image after a variable went: its shape, its content, its rules and its space.
-use Rattle.std.proofs.Common.{◌≡◌, ◌≢◌, ℕ, zero, suc, ◌+◌, ◌≤◌, List, [], ◌∷◌, ◌++◌, length, map, max, true, refl, sym, ap, subst, ◌∙◌, arith, inl, inr}
+use Rattle.std.proofs.Common.{◌≡◌, ℕ, zero, suc, ◌+◌, ◌≤◌, List, [], ◌∷◌, ◌++◌, length, map, max, refl, sym, ap, subst, ◌∙◌, arith, inl, inr, false}
 use Rattle.std.proofs.lemmas.List.{length-append, length-map}
 use Rattle.std.specs.Int.{w32, cast_signed}
 use Rattle.std.specs.Int.RustNames.{FitsSigned}
@@ -11,12 +11,12 @@ use Rattle.cdf_model.specs.Limits.{image_limit}
 use Rattle.cdf_model.specs.Names.{variables_of, with_variables}
 use Rattle.cdf_model.specs.RecordSteps.{last_number}
 use Rattle.cdf_format.specs.Bytes.{Same}
-use Rattle.cdf_format.specs.Chains.{IsChain}
+use Rattle.cdf_format.specs.Chains.{IsChain, is_in}
 use Rattle.cdf_format.specs.Content.{content, variable_of}
-use Rattle.cdf_format.specs.Fields.{number, integer4, size_at, type_at, gdr_offset}
+use Rattle.cdf_format.specs.Fields.{number, integer4, size_at, gdr_offset}
 use Rattle.cdf_format.specs.Owners.{variable_records}
 use Rattle.cdf_format.specs.Records.{gdr_eof, gdr_uir_head, gdr_r_max_rec, vdr_num}
-use Rattle.cdf_format.specs.RecordTypes.{gdr_type, r_vdr_type, z_vdr_type, uir_type}
+use Rattle.cdf_format.specs.RecordTypes.{gdr_type, uir_type}
 use Rattle.cdf_format.specs.Shape.{VariableShape, Shape, vdrs, shape}
 use Rattle.cdf_format.specs.Sound.{IsSound}
 use Rattle.cdf_format.specs.Tiles.{In}
@@ -27,43 +27,29 @@ use Rattle.cdf_format.proofs.SealedRules.{good_long, sealed_kept}
 use Rattle.cdf_edits.specs.Commands.Allowances.{shapes_of}
 use Rattle.cdf_edits.specs.Commands.GreatestRecord.{r_extents}
 use Rattle.cdf_edits.specs.Commands.Variables.{RMaxRecOf, freed_with_variable}
-use Rattle.cdf_edits.specs.Edits.Edit.{Edit}
-use Rattle.cdf_edits.specs.Edits.ManyMarks.{freeing_marks}
-use Rattle.cdf_edits.specs.Edits.Marks.{Avoids, avoided, index_types}
-use Rattle.cdf_edits.specs.Edits.RemovesVariable.{RemovesVariable, greatest_at}
+use Rattle.cdf_edits.specs.Edits.Marks.{index_types}
+use Rattle.cdf_edits.specs.Edits.RemovesVariable.{RemovesVariable, greatest_at, variable_unlinking_marks}
 use Rattle.cdf_edits.specs.Space.Acts.{links_end}
 use Rattle.cdf_edits.specs.Space.Chains.{head_of, count_of, type_in}
-use Rattle.cdf_edits.specs.Space.Freeing.{AreFree}
-use Rattle.cdf_edits.specs.Space.Placement.{with_space}
 use Rattle.cdf_edits.specs.Space.VariableChains.{variables_chain}
-use Rattle.cdf_edits.proofs.Edits.Composing.{head_size, head_type, edit_then}
-use Rattle.cdf_edits.proofs.Edits.FreedBytes.{IsLeft, all_left, all_unused, free_used}
-use Rattle.cdf_edits.proofs.Edits.FreedRecords.{MayFree, all_given_edit}
-use Rattle.cdf_edits.proofs.Edits.MarkLemmas.{avoids-of_type}
-use Rattle.cdf_edits.proofs.Edits.OwnVariable.{freed_mine, mine_freed}
-use Rattle.cdf_edits.proofs.Edits.RecordFrame.{field_avoids, field_clear, gdr_field, gdr_place, through}
+use Rattle.cdf_edits.proofs.Edits.Composing.{head_size}
+use Rattle.cdf_edits.proofs.Edits.OwnVariable.{freed_mine, mine_freed, own_typed}
+use Rattle.cdf_edits.proofs.Edits.RecordFrame.{field_clear, gdr_field, gdr_place}
 use Rattle.cdf_edits.proofs.Edits.StepEdits.{gdr_in, gdr_typed, gdr_long}
 use Rattle.cdf_edits.proofs.Edits.TakenVariable.{TakesVariable, SaysTaken, tests, without_variable, content_taken, taken_good, splices, vdr_there, back_in, back_out}
-use Rattle.cdf_edits.proofs.Edits.UnlinkedVariable.{e_second, e_early, some_second, may_last, unlinked_edit, as_long, counted_now, numbered_now, numbered_still, types_stay, unlinked_shape, mid_sound, own_free, mine_in, mine_sized, mine_typed, unlinked_behind}
-use Rattle.cdf_edits.proofs.Edits.VariableKept.{only_variable}
-use Rattle.cdf_edits.proofs.Edits.VariableKinds.{in_gdr, kind_chain, with_shapes}
+use Rattle.cdf_edits.proofs.Edits.UnlinkedVariable.{e_second, e_early, some_second, may_last, unlinked_edit, as_long, counted_now, numbered_now, numbered_still, unlinked_shape, mid_sound, own_free, unlinked_behind, unlinking_tests}
+use Rattle.cdf_edits.proofs.Edits.VariableKinds.{kind_chain, with_shapes}
 use Rattle.cdf_edits.proofs.Edits.VariableSplice.{content_now}
 use Rattle.cdf_edits.proofs.Edits.WrittenFields.{write_lies}
 use Rattle.cdf_fields.proofs.Writes.{field_reads4}
 use Rattle.std.proofs.lemmas.Int.{ints}
 use Rattle.cdf_edits.proofs.Rules.WithoutLinks.{eof_by_rules}
+use Rattle.cdf_format.proofs.BytesLemmas.{number_kept}
+use Rattle.cdf_edits.proofs.Edits.FreedAfter.{Frees, freed_edit, shape_now, sound_now, records_are as freed_records, long_now as freed_long, types_stay as freed_types, others_kept, all_freed, gdr_still, behind_links}
 
--- ---- by the kind
-
-pub record FreeingTests (kind : Kind) (list places : List ℕ) (limit : ℕ) : Type 0 where
-  pub start : avoided (freeing_marks (type_in (variables_chain kind) ∷ index_types) list places limit) gdr_type 0 12 ≡ true
-  pub count : avoided (freeing_marks (type_in (variables_chain kind) ∷ index_types) list places limit) gdr_type (count_of (variables_chain kind)).place ((count_of (variables_chain kind)).place + (count_of (variables_chain kind)).width) ≡ true
-  pub r_max : avoided (freeing_marks (type_in (variables_chain kind) ∷ index_types) list places limit) gdr_type 52 56 ≡ true
-  pub vdr : (m lo hi : ℕ) → (In m places → ⊥) → Avoids (freeing_marks (type_in (variables_chain kind) ∷ index_types) list places limit) (type_in (variables_chain kind)) m lo hi
-
-pub freeing_tests : (kind : Kind) (list places : List ℕ) (limit : ℕ) → FreeingTests kind list places limit
-freeing_tests R list places limit = record { start = refl; count = refl; r_max = refl; vdr = λ m lo hi out. avoids-of_type (freeing_marks (r_vdr_type ∷ index_types) list places limit) r_vdr_type m lo hi ((λ same lies. absurd (out lies)), tt) }
-freeing_tests Z list places limit = record { start = refl; count = refl; r_max = refl; vdr = λ m lo hi out. avoids-of_type (freeing_marks (z_vdr_type ∷ index_types) list places limit) z_vdr_type m lo hi ((λ same lies. absurd (out lies)), tt) }
+no_gdr : (kind : Kind) → is_in gdr_type (type_in (variables_chain kind) ∷ index_types) ≡ false
+no_gdr R = refl
+no_gdr Z = refl
 
 module _ {b now : List ℕ} {kind : Kind} {n : ℕ} (good : Good b) (d : RemovesVariable b now kind n) where
   abbrev pub s : Shape
@@ -82,75 +68,57 @@ module _ {b now : List ℕ} {kind : Kind} {n : ℕ} (good : Good b) (d : Removes
   abbrev pub places : List ℕ
   places = freed_with_variable d.own
 
-  pub mine : (m : ℕ) → In m places → In m (variable_records d.own)
+  mine : (m : ℕ) → In m places → In m (variable_records d.own)
   mine = freed_mine d.own
 
-  free : AreFree mid places
-  free = own_free good d.unlinks
-
-  pub places_in : (m : ℕ) → In m places → In m s.records
-  places_in m i = mine_in good d.unlinks m (mine m i)
-
-  pub may_free : MayFree mid (type_in (variables_chain kind) ∷ index_types) places
-  may_free = record {
-    stand = free.stand;
-    typed = λ m i. mine_typed good d.unlinks m (mine m i);
-    used = free_used mid places free;
-    once = free.once;
+  pub frees : Frees b mid now (variable_unlinking_marks kind s.gdr (vdrs (shapes_of s kind)) (vdrs d.after)) (type_in (variables_chain kind) ∷ index_types) places
+  frees = record {
+    sound = sound;
+    edit = unlinked_edit good d.unlinks;
+    long = as_long good d.unlinks;
+    mid_sound = mid_sound good d.unlinks;
+    records = ap (λ (x : Shape). x.records) (unlinked_shape good d.unlinks);
+    unused = ap (λ (x : Shape). x.unused) (unlinked_shape good d.unlinks);
+    free = own_free good d.unlinks;
+    typed = λ m i. own_typed sound kind d.before d.own d.after d.unlinks.was m (mine m i);
+    no_gdr = no_gdr kind;
+    given = d.given;
   }
 
-  pub left : IsLeft mid now
-  left = all_left mid now places (mid_sound good d.unlinks) free.stand d.given
-
-  freeing : Edit mid now s.records s.records (freeing_marks (type_in (variables_chain kind) ∷ index_types) s.unused places (length mid)) places
-  freeing = subst (λ (x : Shape). Edit mid now x.records x.records (freeing_marks (type_in (variables_chain kind) ∷ index_types) x.unused places (length mid)) places) (unlinked_shape good d.unlinks)
-      (all_given_edit mid now (type_in (variables_chain kind) ∷ index_types) places (mid_sound good d.unlinks) may_free d.given)
-
-  free_tests : FreeingTests kind s.unused places (length mid)
-  free_tests = freeing_tests kind s.unused places (length mid)
-
   pub takes : TakesVariable b now s kind d.before d.own d.after places (length mid)
-  takes = record { edit = edit_then (unlinked_edit good d.unlinks) freeing; was = d.unlinks.was; mine = mine }
+  takes = record { edit = freed_edit frees; was = d.unlinks.was; mine = mine }
 
   -- ---- the shape
 
   pub shape_after : shape now ≡ without_variable sound takes (shape now).unused
-  shape_after = left.shape_is ∙ ap (λ (x : Shape). with_space x x.records (shape now).unused) (unlinked_shape good d.unlinks)
+  shape_after = shape_now frees (unlinked_shape good d.unlinks)
 
   pub records_are : (shape now).records ≡ s.records
-  records_are = ap (λ (x : Shape). x.records) shape_after
+  records_are = freed_records frees
 
   pub long_now : length now ≡ length b
-  long_now = left.long ∙ as_long good d.unlinks
+  long_now = freed_long frees
 
   -- ---- what the records behind say
-
-  head_stays : (m : ℕ) → In m s.records → type_at b m ≢ uir_type → Same b mid (m + 0) (m + 12)
-  head_stays m i used = (unlinked_edit good d.unlinks).head m i used (λ r. r)
-
-  no_uir : (k : Kind) → type_in (variables_chain k) ≢ uir_type
-  no_uir R e = absurd cc
-  no_uir Z e = absurd cc
 
   numbered : (m : ℕ) → In m (vdrs d.after) → number now m vdr_num ≡ number mid m vdr_num
   numbered m i =
       let v = vdr_there sound takes m (back_in sound takes m i) in
-      let same = head_stays m v.0 (λ x. no_uir kind (sym v.1.0 ∙ x)) in
-      let size = head_size b mid m same in
-      let long = v.1.1 in
-      let out = back_out sound takes m i in
-      field_avoids freeing m type vdr_num v.0 (head_type b mid m same ∙ v.1.0) (free_tests.vdr m 0 12 out) (free_tests.vdr m 68 72 out) (omega arith)
+      let t = unlinking_tests kind s.gdr [] [] in
+      let typed = freed_types frees m v.0 ∙ v.1.0 in
+      let size = head_size b mid m (frees.edit.head m v.0 (λ x. t.no_uir (sym v.1.0 ∙ x)) (λ r. r)) in
+      number_kept mid now m (others_kept frees m v.0 (λ x. t.no_gdr (sym typed ∙ x)) (λ x. t.no_uir (sym typed ∙ x)) (back_out sound takes m i)).same vdr_num (let l = v.1.1 in omega arith)
 
   pub says : SaysTaken sound takes (shape now).unused
   says = record {
     numbered = numbered_still mid now (length d.before) (vdrs d.after) numbered (numbered_now good d.unlinks);
     variable_chain = chain_after;
-    unused_chain = subst (λ (x : Shape). IsChain now x.records uir_type (number now x.gdr gdr_uir_head) x.unused) shape_after left.sound.has_shape.unused_chain;
-    freed = all_unused mid now places (mid_sound good d.unlinks) free.stand d.given;
+    unused_chain = subst (λ (x : Shape). IsChain now x.records uir_type (number now x.gdr gdr_uir_head) x.unused) shape_after (sound_now frees).has_shape.unused_chain;
+    freed = all_freed frees;
   }
     where
       chain_of_shape : (k : Kind) → IsChain now (shape now).records (type_in (variables_chain k)) (number now (shape now).gdr (head_of (variables_chain k))) (vdrs (shapes_of (shape now) k))
-      chain_of_shape k = kind_chain k left.sound.has_shape
+      chain_of_shape k = kind_chain k (sound_now frees).has_shape
 
       of_kind : (k : Kind) (vs : List VariableShape) (records list : List ℕ) → shapes_of (with_shapes s k records list vs) k ≡ vs
       of_kind R vs records list = refl
@@ -163,16 +131,12 @@ module _ {b now : List ℕ} {kind : Kind} {n : ℕ} (good : Good b) (d : Removes
   pub content_after : content now ≡ with_variables (content b) kind (remove (variables_of (content b) kind) n)
   content_after = content_taken sound takes says ∙ ap (λ (k : ℕ). with_variables (content b) kind (remove (variables_of (content b) kind) k)) d.count
 
-  gdr_mid : type_at mid s.gdr ≡ gdr_type
-  gdr_mid = types_stay good d.unlinks s.gdr (gdr_in b s sound.has_shape) ∙ gdr_typed b s sound.has_shape
-
-  gdr_mid_long : 84 ≤ size_at mid s.gdr
-  gdr_mid_long = subst (λ (k : ℕ). 84 ≤ k) (sym (head_size b mid s.gdr (head_stays s.gdr (gdr_in b s sound.has_shape) (λ x. (let e : gdr_type ≡ uir_type = sym (gdr_typed b s sound.has_shape) ∙ x in absurd cc))))) (gdr_long b s sound.has_shape)
-
   pub count_now : number now s.gdr (count_of (variables_chain kind)) ≡ length (vdrs (d.before ++ d.after))
-  count_now =
-      let total : length d.before + length d.after ≡ length (vdrs (d.before ++ d.after)) = sym (length-map (d.before ++ d.after) (λ (v : VariableShape). v.vdr) ∙ length-append d.before d.after) in
-      field_clear freeing s.gdr gdr_type (count_of (variables_chain kind)) (gdr_in b s sound.has_shape) gdr_mid free_tests.start free_tests.count (through _ 84 (size_at mid s.gdr) (in_gdr kind).1 gdr_mid_long) ∙ counted_now good d.unlinks ∙ total
+  count_now = gdr_still frees (count_of (variables_chain kind)) (count_low kind) ∙ counted_now good d.unlinks ∙ sym (length-map (d.before ++ d.after) (λ (v : VariableShape). v.vdr) ∙ length-append d.before d.after)
+    where
+      count_low : (kind : Kind) → (count_of (variables_chain kind)).place + (count_of (variables_chain kind)).width ≤ 64
+      count_low R = omega arith
+      count_low Z = omega arith
 
   pub good_after : length b ≤ image_limit → Good now
   good_after short =
@@ -184,20 +148,11 @@ module _ {b now : List ℕ} {kind : Kind} {n : ℕ} (good : Good b) (d : Removes
 
   -- rMaxRec is not written by freeing
   pub r_max_mid : number now s.gdr gdr_r_max_rec ≡ number mid s.gdr gdr_r_max_rec
-  r_max_mid = field_clear freeing s.gdr gdr_type gdr_r_max_rec (gdr_in b s sound.has_shape) gdr_mid free_tests.start free_tests.r_max (let l = gdr_mid_long in omega arith)
-
-  -- ---- its space
-
-  pub sizes_before : (m : ℕ) → In m places → size_at mid m ≡ size_at b m
-  sizes_before m i = mine_sized good d.unlinks m (mine m i)
+  r_max_mid = gdr_still frees gdr_r_max_rec (omega arith)
 
   -- its bytes behind the links
   pub behind : (m : ℕ) → In m places → Same b now (m + links_end (size_at b m)) (m + size_at b m)
-  behind m i =
-      let one = unlinked_behind good d.unlinks m (mine m i) in
-      let not_gdr : m ≢ (shape mid).gdr = λ e. (only_variable sound kind d.before d.own d.after d.unlinks.was m (mine m i)).in_file (inr (inl (e ∙ ap (λ (x : Shape). x.gdr) (unlinked_shape good d.unlinks)))) in
-      let two = subst (λ (k : ℕ). Same mid now (m + links_end k) (m + k)) (sizes_before m i) (left.behind m (free.stand m i) not_gdr) in
-      record { each = λ k l u. two.each k l u ∙ one.each k l u }
+  behind m i = behind_links frees m i (unlinked_behind good d.unlinks m (mine m i))
 
 -- ---- rMaxRec
 

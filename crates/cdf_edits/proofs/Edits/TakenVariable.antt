@@ -37,6 +37,7 @@ use Rattle.cdf_edits.specs.Edits.Marks.{Mark, Avoids, Confined, avoided, unmarke
 use Rattle.cdf_edits.specs.Edits.RemovesVariable.{variable_removing_marks}
 use Rattle.cdf_edits.specs.Space.Chains.{head_of, count_of, type_in}
 use Rattle.cdf_edits.specs.Space.VariableChains.{variables_chain}
+use Rattle.cdf_edits.proofs.Commands.ListParts.{removed-at}
 use Rattle.cdf_edits.proofs.Edits.MarkLemmas.{avoids-of_type, confined-away, unmarked-away}
 use Rattle.cdf_edits.proofs.Edits.OwnedOnce.{used_times, owned_once_if}
 use Rattle.cdf_edits.proofs.Edits.RecordFrame.{VariableLives, file_same, gdr_place, index_records, kept_away, kept_but_link, through}
@@ -52,10 +53,6 @@ use Rattle.cdf_edits.proofs.Frame.OwnersApart.{times-in, owned-times, file_recor
 use Rattle.cdf_edits.proofs.Space.TakenFromList.{distinct_apart}
 
 -- ---- lists
-
-pub removed-at : {A : Type 0} (xs : List A) (x : A) (ys : List A) → remove (xs ++ x ∷ ys) (length xs) ≡ xs ++ ys
-removed-at [] x ys = refl
-removed-at (z ∷ xs) x ys = ap (λ (r : List _). z ∷ r) (removed-at xs x ys)
 
 -- VDRs have the numbers from one on
 abbrev pub AreNumberedOn : List ℕ → ℕ → List ℕ → Type 0

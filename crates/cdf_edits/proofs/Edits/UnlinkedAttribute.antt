@@ -13,7 +13,7 @@ use Rattle.cdf_format.specs.Shape.{AttributeShape, Shape, Each, HasShape, adrs, 
 use Rattle.cdf_format.specs.Sound.{IsSound}
 use Rattle.cdf_format.specs.Tiles.{In, AreTiles, Distinct}
 use Rattle.cdf_format.proofs.ChainsLemmas.{linkable-in, linkable-type, linkable-long}
-use Rattle.cdf_format.proofs.Members.{either, In-append, In-append_left, In-append_right, Distinct-middle}
+use Rattle.cdf_format.proofs.Members.{either, In-append, In-append_left, In-append_right, Distinct-middle, Distinct-push}
 use Rattle.cdf_format.proofs.ShapeLemmas.{Each-split, Each-append, shape_is}
 use Rattle.cdf_edits.specs.Edits.Edit.{Edit}
 use Rattle.cdf_edits.specs.Edits.ManyMarks.{numbering_marks, unlinking_marks, deleting_marks, freeing_marks}
@@ -59,7 +59,7 @@ front-middle (z ∷ xs) x ys out = elim (either (z == x)) [
 
 -- ---- the numbers that are written
 
-tiles_written : (n : ℕ) (as_ : List AttributeShape) → written_tiles (numbers_from n as_) ≡ flat_map attribute_records as_
+pub tiles_written : (n : ℕ) (as_ : List AttributeShape) → written_tiles (numbers_from n as_) ≡ flat_map attribute_records as_
 tiles_written n [] = refl
 tiles_written n (a ∷ more) = ap (λ (r : List ℕ). a.adr ∷ r) (map-append (λ (w : Write). w.tile) (map (λ entry. write entry aedr_attr_num n) (a.gr_entries ++ a.z_entries)) (numbers_from (suc n) more) ∙ (let one = entries (a.gr_entries ++ a.z_entries) in let rest = tiles_written (suc n) more in λ i. one i ++ rest i))
   where
@@ -67,7 +67,7 @@ tiles_written n (a ∷ more) = ap (λ (r : List ℕ). a.adr ∷ r) (map-append (
     entries [] = refl
     entries (e ∷ es) = ap (λ (r : List ℕ). e ∷ r) (entries es)
 
-says_numbers : (now : List ℕ) (n : ℕ) (as_ : List AttributeShape) → Each (λ (w : Write). number now w.tile w.f ≡ w.to) (numbers_from n as_) → AreNumbered now n as_
+pub says_numbers : (now : List ℕ) (n : ℕ) (as_ : List AttributeShape) → Each (λ (w : Write). number now w.tile w.f ≡ w.to) (numbers_from n as_) → AreNumbered now n as_
 says_numbers now n [] h = tt
 says_numbers now n (a ∷ more) h =
     let p = Each-split (λ (w : Write). number now w.tile w.f ≡ w.to) (map (λ entry. write entry aedr_attr_num n) (a.gr_entries ++ a.z_entries)) (numbers_from (suc n) more) h.1 in
@@ -154,7 +154,7 @@ module _ {b mid : List ℕ} {s : Shape} {before : List AttributeShape} {own : At
   there : AreThere b s.records before × (AreThere b s.records (own ∷ []) × AreThere b s.records after)
   there = parts_there b s sound before (own ∷ []) after u.was
 
-  abbrev writes : List Write
+  abbrev pub writes : List Write
   writes = write s.gdr gdr_num_attr (length before + length after) ∷ numbers_from (length before) after
 
   -- the chain of the attributes, as calls speak of it
@@ -167,7 +167,7 @@ module _ {b mid : List ℕ} {s : Shape} {before : List AttributeShape} {own : At
   pub e_first : Edit b u.first s.records s.records (removing_marks gdr_type s.gdr gdr_adr_head adr_type (adrs s)) []
   e_first = remove_edit b s gdr_type s.gdr gdr_adr_head adr_type (number b s.gdr gdr_adr_head) (adrs s) u.first h linked u.removed.length_stays own.adr (remove_changed h is_of u.removed)
 
-  abbrev numbers : List Mark
+  abbrev pub numbers : List Mark
   numbers = counting_marks s.gdr (adrs_in after) (entries_in after)
 
   pub may : Each (MayWrite b s.records numbers) writes
@@ -218,9 +218,12 @@ module _ {b mid : List ℕ} {s : Shape} {before : List AttributeShape} {own : At
       back : (x o y : ℕ) → x + (o + y) ≤ 1 → y ≤ 1
       back x o y l = omega arith
 
-  said : Each (λ (w : Write). number mid w.tile w.f ≡ w.to) writes
+  pub said : Each (λ (w : Write). number mid w.tile w.f ≡ w.to) writes
   said = subst (λ (x : List ℕ). Each (λ (w : Write). number x w.tile w.f ≡ w.to) writes) (sym u.written)
       (writes_say u.first s.records numbers writes e_first.tiled_now some may_first once_each (let f = u.few in omega arith, small_numbers (length before) after u.few))
+
+  pub may_mid : Each (MayWrite mid s.records numbers) writes
+  may_mid = may_after e_second numbers writes may_first
 
   pub counted_now : number mid s.gdr gdr_num_attr ≡ length before + length after
   counted_now = said.0
@@ -286,16 +289,26 @@ module _ {b mid : List ℕ} {s : Shape} {before : List AttributeShape} {own : At
   pub unlinked_shape : shape mid ≡ left_shape
   unlinked_shape = shape_is mid left_shape unlinked_sound.has_shape
 
-  -- its records can be freed, in any order in which none stands twice
-  pub own_free : (places : List ℕ) → ((m : ℕ) → In m places → In m (attribute_records own)) → Distinct places → AreFree mid places
-  own_free places mine once = record {
-    stand = λ m i. subst (λ (x : Shape). In m x.records) (sym unlinked_shape) (own_in b s sound before own after u.was m (mine m i));
+  pub mid_sound : IsSound mid (shape mid)
+  mid_sound = subst (IsSound mid) (sym unlinked_shape) unlinked_sound
+
+  pub own_there : AreThere b s.records (own ∷ [])
+  own_there = there.1.0
+
+  pub own_mine : (m : ℕ) → In m (own.gr_entries ++ own.z_entries ++ own.adr ∷ []) → In m (attribute_records own)
+  own_mine m i = elim (In-append m (own.gr_entries ++ own.z_entries) (own.adr ∷ []) i) [ inl j ↦ inr j | inr j ↦ elim j [ inl e ↦ inl e | inr none ↦ absurd none ] ]
+
+  -- its records can be freed
+  pub own_free : AreFree mid (own.gr_entries ++ own.z_entries ++ own.adr ∷ [])
+  own_free = record {
+    stand = λ m i. subst (λ (x : Shape). In m x.records) (sym unlinked_shape) (own_in b s sound before own after u.was m (own_mine m i));
     unowned = λ m i.
-        let used : type_at mid m ≢ uir_type = λ t. used_own m (mine m i) (sym (types_stay m (own_in b s sound before own after u.was m (mine m i))) ∙ t) in
+        let mine = own_mine m i in
+        let used : type_at mid m ≢ uir_type = λ t. used_own m mine (sym (types_stay m (own_in b s sound before own after u.was m mine)) ∙ t) in
         let none = times-none m (unused_records mid left_shape) (λ j. used (eqb-true (type_at mid m) uir_type (filter-says (λ (p : ℕ). type_at mid p == uir_type) s.records m j))) in
         subst (λ (x : Shape). times m (owned_records mid x) ≡ 0) (sym unlinked_shape)
-        (gone (times m (owned_records mid left_shape)) (times m (file_records left_shape)) (times m (all_attribute_records left_shape)) (times m (all_variable_records left_shape)) (times m (unused_records mid left_shape)) (owned-times mid left_shape m) (none_left sound (unlinks_removes 0) (unlinks_says 0) m (mine m i)) none);
-    once = once;
+        (gone (times m (owned_records mid left_shape)) (times m (file_records left_shape)) (times m (all_attribute_records left_shape)) (times m (all_variable_records left_shape)) (times m (unused_records mid left_shape)) (owned-times mid left_shape m) (none_left sound (unlinks_removes 0) (unlinks_says 0) m mine) none);
+    once = Distinct-push (own.gr_entries ++ own.z_entries) own.adr own_once.1 own_once.0;
   }
     where
       gone : (n f a v r : ℕ) → n ≡ f + (a + (v + r)) → f + (a + v) ≡ 0 → r ≡ 0 → n ≡ 0
@@ -304,9 +317,8 @@ module _ {b mid : List ℕ} {s : Shape} {before : List AttributeShape} {own : At
       used_own : (m : ℕ) → In m (attribute_records own) → type_at b m ≢ uir_type
       used_own m i t = (only_owns b s sound before own after u.was m i).in_unused (filter-keeps (λ (p : ℕ). type_at b p == uir_type) s.records m (own_in b s sound before own after u.was m i) (eq-eqb (type_at b m) uir_type t))
 
-  -- and none of them stands twice
-  pub own_once : Distinct (attribute_records own)
-  own_once = distinct_if (attribute_records own) (λ m. mid_once (times m (flat_map attribute_records before)) (times m (attribute_records own)) (times m (flat_map attribute_records after)) (parts_once b s sound before own after u.was m))
-    where
       mid_once : (x o y : ℕ) → x + (o + y) ≤ 1 → o ≤ 1
       mid_once x o y l = omega arith
+
+      own_once : Distinct (attribute_records own)
+      own_once = distinct_if (attribute_records own) (λ m. mid_once (times m (flat_map attribute_records before)) (times m (attribute_records own)) (times m (flat_map attribute_records after)) (parts_once b s sound before own after u.was m))

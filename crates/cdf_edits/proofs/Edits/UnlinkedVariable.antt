@@ -1,12 +1,11 @@
 -- A variable that is taken out of the chain, counted no more, and those behind it numbered anew: the image is sound, and its VDR has no owner.
 use Rattle.std.proofs.Common.{◌≡◌, ◌≢◌, ℕ, ℤ, suc, ◌+◌, ◌^◌, ◌<◌, ◌≤◌, List, [], ◌∷◌, ◌++◌, length, true, eq-eqb, refl, sym, ap, subst, ◌∙◌, arith, inl, inr}
-use Rattle.std.proofs.lemmas.Bool.{le-leb}
 use Rattle.std.specs.List.{filter}
 use Rattle.std.specs.Prelude.{◌==◌, if◌then◌else◌}
 use Rattle.cdf_model.specs.declared.kinds.Kind.{Kind}
 use Rattle.cdf_model.specs.declared.kinds.Kind.TheVariants.{R, Z}
 use Rattle.cdf_format.specs.Bytes.{Same}
-use Rattle.cdf_format.specs.Chains.{is_in, IsChain}
+use Rattle.cdf_format.specs.Chains.{IsChain}
 use Rattle.cdf_format.specs.Fields.{number, size_at, type_at, gdr_offset, with_field}
 use Rattle.cdf_format.specs.Owners.{variable_records, times, owned_records, unused_records}
 use Rattle.cdf_format.specs.Records.{Field, gdr_uir_head, vdr_num}
@@ -15,7 +14,6 @@ use Rattle.cdf_format.specs.Shape.{VariableShape, Shape, vdrs, Each, HasShape, s
 use Rattle.cdf_format.specs.Sound.{IsSound}
 use Rattle.cdf_format.specs.Tiles.{In, AreTiles, Distinct}
 use Rattle.cdf_format.specs.WellFormed.{Good}
-use Rattle.cdf_format.proofs.BytesLemmas.{Same-part}
 use Rattle.cdf_format.proofs.GoodImageLemmas.{vdrs_append}
 use Rattle.cdf_format.proofs.GoodSound.{good_is_sound}
 use Rattle.cdf_format.proofs.Members.{Distinct-back, Distinct-middle}
@@ -34,11 +32,12 @@ use Rattle.cdf_edits.specs.Space.Freeing.{AreFree}
 use Rattle.cdf_edits.specs.Space.VariableChains.{variables_chain}
 use Rattle.cdf_edits.proofs.Edits.ChainsOfShape.{IsOf, remove_changed, left_chain}
 use Rattle.cdf_edits.proofs.Edits.Composing.{head_size, head_type, edit_then}
+use Rattle.cdf_edits.proofs.Edits.FreedBytes.{behind_kept, behind_link}
 use Rattle.cdf_edits.proofs.Edits.FreedRecords.{edit_under}
 use Rattle.cdf_edits.proofs.Edits.MarkLemmas.{Avoids-split, all_unmarked-away}
 use Rattle.cdf_edits.proofs.Edits.OwnedOnce.{unused_none}
-use Rattle.cdf_edits.proofs.Edits.OwnVariable.{freed_mine, freed_once, own_typed}
-use Rattle.cdf_edits.proofs.Edits.RecordFrame.{chain_clear, field_clear, gdr_place, kept_away, through}
+use Rattle.cdf_edits.proofs.Edits.OwnVariable.{freed_mine, freed_once}
+use Rattle.cdf_edits.proofs.Edits.RecordFrame.{chain_clear, field_clear, gdr_place, kept_away, kept_but_link, through}
 use Rattle.cdf_edits.proofs.Edits.StepEdits.{Linked, gdr_in, gdr_typed, gdr_long, some_bytes, remove_edit}
 use Rattle.cdf_edits.proofs.Edits.TakenVariable.{AreNumberedOn, TakesVariable, SaysTaken, without_variable, vdr_there, back_in, own_in, own_stand, ours, vdr_avoids, vdr_record, vdrs_were, sound_taken, less_twice, none_left}
 use Rattle.cdf_edits.proofs.Edits.UnlinkedAttribute.{without-middle}
@@ -351,38 +350,24 @@ module _ {b mid : List ℕ} {kind : Kind} {before : List VariableShape} {own : V
   own_there = vdr_there sound stands own.vdr (own_in sound stands)
 
   -- a record of it still stands, and has the bytes of its head
-  pub mine_in : (m : ℕ) → In m (variable_records own) → In m s.records
+  mine_in : (m : ℕ) → In m (variable_records own) → In m s.records
   mine_in = own_stand sound stands
 
-  pub mine_used : (m : ℕ) → In m (variable_records own) → type_at b m ≢ uir_type
+  mine_used : (m : ℕ) → In m (variable_records own) → type_at b m ≢ uir_type
   mine_used m i t = (only_variable sound kind before own after u.was m i).in_unused (filter-keeps (λ (p : ℕ). type_at b p == uir_type) s.records m (mine_in m i) (eq-eqb (type_at b m) uir_type t))
-
-  pub mine_sized : (m : ℕ) → In m (variable_records own) → size_at mid m ≡ size_at b m
-  mine_sized m i = head_size b mid m (unlinked_edit.head m (mine_in m i) (mine_used m i) (λ r. r))
-
-  pub mine_typed : (m : ℕ) → In m (variable_records own) → is_in (type_at mid m) (type_in (variables_chain kind) ∷ index_types) ≡ true
-  mine_typed m i = ap (λ (x : ℕ). is_in x (type_in (variables_chain kind) ∷ index_types)) (types_stay m (mine_in m i)) ∙ own_typed sound kind before own after u.was m i
 
   -- behind the links of an unused record it has its bytes
   pub unlinked_behind : (m : ℕ) → In m (variable_records own) → Same b mid (m + links_end (size_at b m)) (m + size_at b m)
-  unlinked_behind m (inl e) = subst (λ (x : ℕ). Same b mid (x + links_end (size_at b x)) (x + size_at b x)) (sym e) vdr_behind
-    where
-      long_enough : (k : ℕ) → 28 ≤ k → links_end k ≡ 28
-      long_enough k l = rw (le-leb 28 k l) refl
-
-      vdr_behind : Same b mid (own.vdr + links_end (size_at b own.vdr)) (own.vdr + size_at b own.vdr)
-      vdr_behind =
-          let v = own.vdr in
-          let long = own_there.1.1 in
-          let out : In v (vdrs after) → ⊥ = λ i. (only_variable sound kind before own after u.was v (inl refl)).in_after (vdr_record after v i) in
-          let avoids = vdr_avoids kind s.gdr members (vdrs after) s.unused [] 0 v in
-          let here : Same b mid (v + 28) (v + size_at b v) = (unlinks_takes 0).edit.part v type 28 (size_at b v) own_there.0 own_there.1.0 (avoids 0 12 (λ i. i) (inl (omega arith)) (λ i. absurd (out i))) (avoids 28 (size_at b v) (λ i. i) (inr (omega arith)) (λ i. absurd (out i))) (omega arith) in
-          subst (λ (k : ℕ). Same b mid (v + k) (v + size_at b v)) (sym (long_enough (size_at b v) (omega arith))) here
+  unlinked_behind m (inl e) =
+      let v = own.vdr in
+      let out : In v (vdrs after) → ⊥ = λ i. (only_variable sound kind before own after u.was v (inl refl)).in_after (vdr_record after v i) in
+      let avoids = vdr_avoids kind s.gdr members (vdrs after) s.unused [] 0 v in
+      let kept = kept_but_link (unlinks_takes 0).edit v type own_there.0 own_there.1.0 (avoids 0 12 (λ i. i) (inl (omega arith)) (λ i. absurd (out i))) (avoids 20 (size_at b v) (λ i. i) (inr (omega arith)) (λ i. absurd (out i))) in
+      subst (λ (x : ℕ). Same b mid (x + links_end (size_at b x)) (x + size_at b x)) (sym e) (behind_link kept (let l = own_there.1.1 in omega arith))
   unlinked_behind m (inr i) =
       let ours_own = (ours sound stands).1 in
       let away = all_unmarked-away (variable_unlinking_marks kind s.gdr members (vdrs after)) index_types (type_at b m) m t.index_clear (index_typed b s own ours_own.has.0 ours_own.fits.0 m i) in
-      let kept = kept_away unlinked_edit m (type_at b m) (mine_in m (inr i)) refl away in
-      Same-part b mid m (m + size_at b m) (m + links_end (size_at b m)) (m + size_at b m) kept.same (omega arith) (omega arith)
+      behind_kept (kept_away unlinked_edit m (type_at b m) (mine_in m (inr i)) refl away)
 
   -- and can be freed
   mine_unowned : (m : ℕ) → In m (variable_records own) → times m (owned_records mid (shape mid)) ≡ 0

@@ -1,5 +1,5 @@
 -- The deletion of a variable follows: its entries went, and then the variable.
-use Rattle.std.proofs.Common.{◌≡◌, ℕ, ◌≤◌, List, [], ◌∷◌, ◌++◌, length, map, true, Some, refl, sym, ap, subst, ◌∙◌, arith}
+use Rattle.std.proofs.Common.{◌≡◌, ℕ, ◌≤◌, List, ◌∷◌, ◌++◌, length, map, true, Some, refl, sym, ap, subst, ◌∙◌, arith}
 use Rattle.std.proofs.lemmas.List.{map-append}
 use Rattle.std.specs.List.{remove}
 use Rattle.cdf_model.specs.declared.answer.Reply.TheVariants as replies
@@ -24,11 +24,12 @@ use Rattle.cdf_edits.specs.Edits.RemovesVariable.{RemovesVariable, variable_unli
 use Rattle.cdf_edits.specs.Commands.Allowances.{shapes_of}
 use Rattle.cdf_edits.specs.Space.Chains.{type_in}
 use Rattle.cdf_edits.specs.Space.VariableChains.{variables_chain}
-use Rattle.cdf_edits.specs.Space.Acts.{Act, Gave, gave, taken, ActsFollow}
+use Rattle.cdf_edits.specs.Space.Acts.{Act, Gave, gave, ActsFollow}
 use Rattle.cdf_edits.proofs.Edits.ActsStill.{acts_still_by}
 use Rattle.cdf_edits.proofs.Edits.ActsThen.{all_gave, gave-same}
+use Rattle.cdf_edits.proofs.Edits.FreedAfter.{may_free, places_in, sizes_before}
 use Rattle.cdf_edits.proofs.Edits.FreedRecords.{sizes_by_tiles}
-use Rattle.cdf_edits.proofs.Edits.RemovedVariable.{may_free, places_in, sizes_before, content_after, good_after, long_now, records_are, r_max_after}
+use Rattle.cdf_edits.proofs.Edits.RemovedVariable.{frees, content_after, good_after, long_now, records_are, r_max_after}
 use Rattle.cdf_edits.proofs.Edits.UnlinkedVariable.{as_long, mid_sound, unlinked_edit, unlinked_shape}
 
 -- ---- the step
@@ -39,10 +40,6 @@ delete_goes d name found e = rw e refl
 attributes_apart : (d : DataSet) (as_ : List Attribute) (kind : Kind) → variables_of (record d { attributes = as_ }) kind ≡ variables_of d kind
 attributes_apart d as_ R = refl
 attributes_apart d as_ Z = refl
-
-pub taken_none : (b places : List ℕ) → taken (gave b places) ≡ []
-taken_none b [] = refl
-taken_none b (p ∷ more) = taken_none b more
 
 free_of_unused : (kind : Kind) (gdr : ℕ) (members later : List ℕ) → unmarked (variable_unlinking_marks kind gdr members later) uir_type ≡ true
 free_of_unused R gdr members later = refl
@@ -81,7 +78,7 @@ module _ {b mid now : List ℕ} {found : Found} (good : Good b) (drops : DropsEn
   sizes_mid = sizes_by_tiles b mid 8 8 (length b) (shape b).records refl h.tiled (subst (λ (k : ℕ). AreTiles mid 8 k (shape b).records) drops.long (subst (AreTiles mid 8 (length mid)) drops.records_are (good_is_sound mid drops.good).has_shape.tiled))
 
   pub own_in : (m : ℕ) → In m (freed_with_variable d.own) → In m (shape b).records
-  own_in m i = subst (In m) drops.records_are (places_in drops.good d m i)
+  own_in m i = subst (In m) drops.records_are (places_in (frees drops.good d) m i)
 
   unlinked_acts : ActsFollow b d.mid (gave b (entries_for b (shape b).attributes found))
   unlinked_acts =
@@ -90,8 +87,8 @@ module _ {b mid now : List ℕ} {found : Found} (good : Good b) (drops : DropsEn
 
   pub acts_deleted : ActsFollow b now (gave b (entries_for b (shape b).attributes found ++ freed_with_variable d.own))
   acts_deleted =
-      let all = all_gave b d.mid now (gave b (entries_for b (shape b).attributes found)) (type_in (variables_chain found.kind) ∷ index_types) (freed_with_variable d.own) h unlinked_acts (mid_sound drops.good d.unlinks) (may_free drops.good d) d.given in
-      let sizes = gave-same b d.mid (freed_with_variable d.own) (λ m i. sizes_before drops.good d m i ∙ sizes_mid m (own_in m i)) in
+      let all = all_gave b d.mid now (gave b (entries_for b (shape b).attributes found)) (type_in (variables_chain found.kind) ∷ index_types) (freed_with_variable d.own) h unlinked_acts (mid_sound drops.good d.unlinks) (may_free (frees drops.good d)) d.given in
+      let sizes = gave-same b d.mid (freed_with_variable d.own) (λ m i. sizes_before (frees drops.good d) m i ∙ sizes_mid m (own_in m i)) in
       subst (ActsFollow b now) (ap (λ (xs : List Act). gave b (entries_for b (shape b).attributes found) ++ xs) sizes ∙ sym acts_are) all
 
   -- ---- rMaxRec

@@ -1,7 +1,7 @@
 -- The two calls of a deletion together follow the command.
-use Rattle.std.proofs.Common.{◌≡◌, ℕ, ◌≤◌, List, ◌++◌, length, map, Option, Some, None, refl, sym, ap, subst, ◌∙◌, arith}
+use Rattle.std.proofs.Common.{◌≡◌, ℕ, ◌≤◌, List, ◌++◌, length, Option, Some, None, refl, sym, ap, subst, ◌∙◌}
 use Rattle.std.proofs.lemmas.Option.{same_Some}
-use Rattle.std.specs.List.{slice_get, sum}
+use Rattle.std.specs.List.{slice_get}
 use Rattle.cdf_model.specs.declared.answer.Outcome.TheVariants.{Done, Refused}
 use Rattle.cdf_model.specs.declared.answer.Reason.TheVariants as reasons
 use Rattle.cdf_model.specs.declared.answer.Reply.TheVariants as replies
@@ -11,7 +11,7 @@ use Rattle.cdf_model.specs.DataSet.{DataSet}
 use Rattle.cdf_model.specs.Limits.{image_limit}
 use Rattle.cdf_model.specs.Names.{Found, variable_named}
 use Rattle.cdf_model.specs.Step.{ByStep}
-use Rattle.cdf_model.specs.VariableSteps.{del_var_step, without_variable}
+use Rattle.cdf_model.specs.VariableSteps.{del_var_step}
 use Rattle.cdf_format.specs.Content.{content}
 use Rattle.cdf_format.specs.Owners.{owned}
 use Rattle.cdf_format.specs.Shape.{VariableShape, shape}
@@ -21,12 +21,11 @@ use Rattle.cdf_edits.specs.Commands.Allowances.{AllKeep, Allowances, shapes_of, 
 use Rattle.cdf_edits.specs.Commands.Variables.{DeletesNamed, DeletesVariable, del_var_changes, entries_for, freed_with_variable}
 use Rattle.cdf_edits.specs.Edits.DropsEntries.{DropsEntries}
 use Rattle.cdf_edits.specs.Edits.RemovesVariable.{RemovesVariable}
-use Rattle.cdf_edits.specs.Follows.{Follows}
 use Rattle.cdf_edits.specs.Space.Acts.{gave}
-use Rattle.cdf_edits.proofs.Commands.Answered.{gone, refused}
+use Rattle.cdf_edits.proofs.Commands.Answered.{gone_by_giving, refused}
 use Rattle.cdf_edits.proofs.Commands.ListParts.{got-middle}
 use Rattle.cdf_edits.proofs.Edits.VariableDeleted.{attribute_follows, freed_deleted}
-use Rattle.cdf_edits.proofs.Edits.VariableDeletion.{acts_deleted, delete_goes, good_deleted, goes_deleted, long_deleted, r_max_deleted, taken_none}
+use Rattle.cdf_edits.proofs.Edits.VariableDeletion.{acts_deleted, good_deleted, goes_deleted, long_deleted, r_max_deleted}
 use Rattle.cdf_edits.proofs.Edits.RemovedVariable.{takes, records_are}
 use Rattle.cdf_edits.proofs.Edits.VariableKeeps.{all_kept}
 
@@ -49,25 +48,12 @@ module _ {b mid now : List ℕ} {found : Found} (good : Good b) (drops : DropsEn
       let same : found ≡ other = same_Some found other (sym named ∙ is) in
       subst (λ (x : Found). DeletesVariable b now x v (gave b (entries_for b (shape b).attributes found ++ freed_with_variable d.own))) same (deletes v (subst (λ (x : Found). slice_get (shapes_of (shape b) x.kind) x.number ≡ Some v) (sym same) at))
 
-  pub delete_follows : length b ≤ image_limit → Follows b (commands.DelVar name) now
-  delete_follows short =
-      let acts = gave b (entries_for b (shape b).attributes found ++ freed_with_variable d.own) in
-      record {
-        reply = replies.Plain;
-        goes = ap ByStep (goes_deleted good drops d name named);
-        good = good_deleted good drops d short;
-        longer = let l = long_deleted good drops d in omega arith;
-        within = let l = long_deleted good drops d in omega arith;
-        reads = λ e. absurd cc;
-        acts = acts;
-        takes_within = subst (λ (xs : List (ℕ × ℕ)). sum (map (λ take. take.1) xs) ≤ 0) (sym (taken_none b (entries_for b (shape b).attributes found ++ freed_with_variable d.own))) (omega arith);
-        acts_follow = acts_deleted good drops d;
-        keeps = subst (λ (o : Option Found). AllKeep b now (elim o as (λ x. Allowances) [ None ↦ stays_all | Some f ↦ del_var_changes b (content b) (shape b) f ]) acts (owned b (shape b))) (sym named) (all_kept good drops d (takes drops.good d) (records_are drops.good d));
-        does = does;
-      }
-
   pub delete_done : (limit : ℕ) → length b ≤ limit → length b ≤ image_limit → Answers limit b (commands.DelVar name) (Done replies.Plain) now
-  delete_done limit fits short = gone limit b (commands.DelVar name) (without_variable (content b) found) replies.Plain now (ap ByStep (delete_goes (content b) name found named)) (omega arith) (delete_follows short)
+  delete_done limit fits short =
+      let places = entries_for b (shape b).attributes found ++ freed_with_variable d.own in
+      gone_by_giving limit b (commands.DelVar name) now places refl refl (ap ByStep (goes_deleted good drops d name named)) (good_deleted good drops d short) (long_deleted good drops d) (acts_deleted good drops d)
+      (subst (λ (o : Option Found). AllKeep b now (elim o as (λ x. Allowances) [ None ↦ stays_all | Some f ↦ del_var_changes b (content b) (shape b) f ]) (gave b places) (owned b (shape b))) (sym named) (all_kept good drops d (takes drops.good d) (records_are drops.good d)))
+      does fits
 
 pub delete_refused : (limit : ℕ) (b name : List ℕ) → variable_named (content b) name ≡ None → Answers limit b (commands.DelVar name) (Refused reasons.NoSuchVar) b
 delete_refused limit b name none = refused limit b (commands.DelVar name) reasons.NoSuchVar (ap ByStep (missing (content b) name none))

@@ -72,6 +72,11 @@ module _ (b records : List ℕ) (tiled : AreTiles b 8 (length b) records) (some 
   heads_stay : (marks : List Mark) (w : Write) → MayWrite b records marks w → (m : ℕ) → In m records → type_at b m ≢ uir_type → Same b (with_field b w.tile w.f w.to) (m + 0) (m + 12)
   heads_stay marks w may m i used = (write_edit marks w may).head m i used (λ r. r)
 
+-- they lie in an image that is as long
+pub writes_lie : (b now records : List ℕ) (marks : List Mark) (ws : List Write) → AreTiles b 8 (length b) records → 8 ≤ length b → length now ≡ length b → Each (MayWrite b records marks) ws → Each (λ (w : Write). LiesIn now w.tile w.f) ws
+writes_lie b now records marks [] tiled some long all = tt
+writes_lie b now records marks (w ∷ ws) tiled some long all = (let l = write_lies b records tiled some w.tile w.f all.0.inside all.0.fits in omega arith, writes_lie b now records marks ws tiled some long all.1)
+
 -- all of them
 pub writes_edit : (b records : List ℕ) (marks : List Mark) (ws : List Write) → AreTiles b 8 (length b) records → 8 ≤ length b → Each (MayWrite b records marks) ws → Edit b (with_writes b ws) records records marks []
 writes_edit b records marks [] tiled some all = same_edit b records marks tiled

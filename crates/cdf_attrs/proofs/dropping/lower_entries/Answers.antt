@@ -2,7 +2,7 @@ use Rattle.std.proofs.Common.{◌∙◌, ◌-◌, ◌≤◌, ℕ, List, All, Con
 use Rattle.std.proofs.lemmas.Int.{to_z_pos}
 use Rattle.std.proofs.lemmas.Result.{on_ok_weaker}
 use Rattle.std.specs.Int.{cast_signed, cast_unsigned}
-use Rattle.cdf_attrs.specs.Deleting.{write_of}
+use Rattle.cdf_attrs.specs.Numbering.{write_of}
 use Rattle.cdf_attrs.specs.Dropping.{lower_writes}
 use Rattle.cdf_attrs.specs.Known.{KnownEntries}
 use Rattle.cdf_attrs.proofs.GreatestNumber.{is_member}

@@ -1,5 +1,5 @@
 use Rattle.std.proofs.Common.{◌≡◌, ◌++◌, drop, map}
-use Rattle.cdf_attrs.specs.Deleting.{write_of}
+use Rattle.cdf_attrs.specs.Numbering.{write_of}
 use Rattle.cdf_attrs.specs.Dropping.{lower_writes}
 use Rattle.cdf_attrs.proofs.dropping.lower_numbers.Given as goal
 

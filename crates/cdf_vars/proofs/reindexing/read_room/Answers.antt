@@ -1,5 +1,5 @@
 use Rattle.std.proofs.Common.{arith}
-use Rattle.cdf_vars.proofs.RemovalRecords.{has_index}
+use Rattle.cdf_vars.proofs.RemovalAnswers.{has_index}
 use Rattle.cdf_vars.proofs.ReindexAnswers.{few_counted}
 use Rattle.cdf_vars.proofs.reindexing.read_room.Goals as goal
 

@@ -6,14 +6,14 @@ use Rattle.cdf_format.specs.Fields.{LiesIn}
 use Rattle.cdf_format.specs.Records.{vdr_name}
 use Rattle.cdf_format.specs.VariableFields.{max_rec_at}
 use Rattle.cdf_model.specs.DataSet.{extent}
-use Rattle.cdf_vars.proofs.NamesRead.{in_list}
-use Rattle.cdf_vars.proofs.RemovalSteps.{extents, max_few, one_read}
+use Rattle.cdf_edits.proofs.Commands.ListParts.{got_in}
+use Rattle.cdf_vars.proofs.RemovalAnswers.{extents, max_few, one_read}
 use Rattle.cdf_vars.proofs.removing.greatest_extent.Goals as goal
 
 pub read_extent-requires : goal.read_extent-requires
 read_extent-requires g c =
     let l = c.loop-place in
-    subst (λ (x : List ℕ). LiesIn x (get_or c.args.places.now l.place-index 0) vdr_name) (sym l.invariant.area.image) (c.requires.lie _ (in_list c.args.places.now l.place-index c.loop-place-test.true))
+    subst (λ (x : List ℕ). LiesIn x (get_or c.args.places.now l.place-index 0) vdr_name) (sym l.invariant.area.image) (c.requires.lie _ (got_in c.args.places.now l.place-index c.loop-place-test.true))
 
 pub loop-place-preserved : goal.loop-place-preserved
 loop-place-preserved g c =

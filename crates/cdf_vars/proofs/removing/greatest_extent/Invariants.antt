@@ -1,7 +1,7 @@
 use Rattle.std.proofs.Common.{◌≡◌, ◌≤◌, ◌^◌, max, drop}
 use Rattle.std.specs.List.{fold}
 use Rattle.cdf_area.specs.Calls.{Stays}
-use Rattle.cdf_vars.proofs.RemovalSteps.{extents}
+use Rattle.cdf_vars.proofs.RemovalAnswers.{extents}
 use Rattle.cdf_vars.proofs.removing.greatest_extent.Given as goal
 
 abbrev pub invariant-loop-place : goal.invariant-loop-place

@@ -4,8 +4,7 @@ use Rattle.std.specs.Int.{w32}
 use Rattle.std.specs.List.{fold}
 use Rattle.cdf_edits.proofs.Edits.RemovedVariable.{last_fits}
 use Rattle.cdf_vars.specs.Removing.{VdrsLie}
-use Rattle.cdf_vars.proofs.RemovalAnswers.{to_the_end}
-use Rattle.cdf_vars.proofs.RemovalSteps.{extents, greatest_of_parts, in_taken, in_dropped}
+use Rattle.cdf_vars.proofs.RemovalAnswers.{to_the_end, extents, greatest_of_parts, in_taken, in_dropped}
 use Rattle.cdf_vars.proofs.removing.greatest_left.Goals as goal
 
 pub greatest_extent-requires-clause-lie : goal.greatest_extent-requires-clause-lie

@@ -1,4 +1,4 @@
-use Rattle.cdf_vars.proofs.RemovalRecords.{has_index, are_records}
+use Rattle.cdf_vars.proofs.RemovalAnswers.{has_index, are_records}
 use Rattle.cdf_vars.proofs.removing.read_records.Goals as goal
 
 pub index_records-requires-clause-index : goal.index_records-requires-clause-index

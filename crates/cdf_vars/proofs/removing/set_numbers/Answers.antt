@@ -1,11 +1,11 @@
 use Rattle.std.proofs.Common.{arith}
 use Rattle.cdf_area.proofs.Calls.{edit_more, edits_by_write}
-use Rattle.cdf_vars.proofs.NamesRead.{in_list}
-use Rattle.cdf_vars.proofs.RemovalSteps.{lie_still, one_numbered}
+use Rattle.cdf_edits.proofs.Commands.ListParts.{got_in}
+use Rattle.cdf_vars.proofs.RemovalAnswers.{lie_still, one_numbered}
 use Rattle.cdf_vars.proofs.removing.set_numbers.Goals as goal
 
 pub set_unsigned4-requires : goal.set_unsigned4-requires
-set_unsigned4-requires g c = let l = c.loop-i.invariant.lie _ (in_list c.args.places.now c.loop-i.i c.loop-i-test.true) in omega arith
+set_unsigned4-requires g c = let l = c.loop-i.invariant.lie _ (got_in c.args.places.now c.loop-i.i c.loop-i-test.true) in omega arith
 
 pub loop-i-preserved : goal.loop-i-preserved
 loop-i-preserved g c =

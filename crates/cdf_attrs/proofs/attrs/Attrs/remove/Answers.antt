@@ -4,7 +4,7 @@ use Rattle.cdf_format.specs.Content.{content}
 use Rattle.cdf_attrs.proofs.KnownAttributes.{names_known, places_known, none_known}
 use Rattle.cdf_attrs.proofs.NamesChanged.{none_named, number_within, some_named}
 use Rattle.cdf_attrs.proofs.RenamingSteps.{number_is_adr}
-use Rattle.cdf_edits.proofs.Edits.DeletingFollows.{delete_refused, delete_done, names_after, places_after}
+use Rattle.cdf_edits.proofs.Edits.DeletedAttribute.{delete_refused, delete_done, names_after, places_after}
 use Rattle.cdf_attrs.proofs.attrs.Attrs.remove.Goals as goal
 
 pub returns-in_default-clause-answers : goal.returns-in_default-clause-answers
@@ -26,7 +26,7 @@ pub returns-clause-answers : goal.returns-clause-answers
 returns-clause-answers g c =
     let b = g.A.Area.image c.args.area.now in
     let a = some_named (content b) c.self.inside.names c.args.name.now c.in-Some.number (names_known c.requires.known c.self.view_is) (sym c.in-Some.ensures.number) in
-    delete_done _ c.requires.good c.in_ok-delete.ensures.deleted c.args.name.now a.0 a.1 c.requires.fits (omega (arith, c.requires.fits, c.requires.limit))
+    delete_done c.requires.good c.in_ok-delete.ensures.deleted c.args.name.now a.0 a.1 _ c.requires.fits (omega (arith, c.requires.fits, c.requires.limit))
 
 pub returns-clause-known : goal.returns-clause-known
 returns-clause-known g c =

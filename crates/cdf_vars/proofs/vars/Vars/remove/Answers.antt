@@ -1,8 +1,7 @@
 use Rattle.std.proofs.Common.{sym, ap, subst}
 use Rattle.cdf_model.specs.declared.kinds.Kind.TheVariants.{R, Z}
 use Rattle.cdf_vars.specs.Known.{Known, KnowsKind}
-use Rattle.cdf_vars.proofs.RemovalAnswers.{on_ok_all}
-use Rattle.cdf_vars.proofs.RemovalKnown.{knows_other}
+use Rattle.cdf_vars.proofs.RemovalAnswers.{on_ok_all, knows_other}
 use Rattle.cdf_vars.proofs.vars.Vars.remove.Goals as goal
 
 pub returns-in-R-clause-known : goal.returns-in-R-clause-known

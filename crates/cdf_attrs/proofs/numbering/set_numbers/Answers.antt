@@ -1,11 +1,11 @@
 use Rattle.std.proofs.Common.{◌∙◌, ◌+◌, ℕ, List, map, drop, sym, ap, subst}
 use Rattle.std.proofs.lemmas.List.{at_drop_more}
 use Rattle.cdf_area.proofs.Calls.{edit_more, edits_by_write}
-use Rattle.cdf_attrs.specs.Deleting.{AllLie, write_of}
-use Rattle.cdf_attrs.specs.declared.deleting.Numbered.{Numbered}
+use Rattle.cdf_attrs.specs.Numbering.{AllLie, write_of}
+use Rattle.cdf_attrs.specs.declared.numbering.Numbered.{Numbered}
 use Rattle.cdf_edits.specs.Edits.Writes.{with_writes}
 use Rattle.cdf_attrs.proofs.DeletingSteps.{lie_still}
-use Rattle.cdf_attrs.proofs.deleting.set_numbers.Goals as goal
+use Rattle.cdf_attrs.proofs.numbering.set_numbers.Goals as goal
 
 pub loop-numbered-preserved : goal.loop-numbered-preserved
 loop-numbered-preserved g c =

@@ -1,6 +1,6 @@
--- What the deletion of an attribute writes and frees.
+-- Numbers that are written in records.
 use Rattle.std.specs.Prelude.{ℕ, List, map}
-use Rattle.cdf_attrs.specs.declared.deleting.Numbered.{Numbered}
+use Rattle.cdf_attrs.specs.declared.numbering.Numbered.{Numbered}
 use Rattle.cdf_edits.specs.Edits.Writes.{Write, write}
 use Rattle.cdf_format.specs.Fields.{LiesIn}
 use Rattle.cdf_format.specs.Records.{field, aedr_attr_num}
