@@ -13,7 +13,6 @@ pub mod ShapedVariable
 pub mod VariableChains
 pub mod VariableFound
 pub mod VariableNames
-pub mod VariablesRead
 pub mod RenamingSteps
 pub mod Renamed
 pub mod RenameCalls
