@@ -8,7 +8,6 @@ pub mod VariableChanged
 pub mod PadMoved
 pub mod PadSet
 pub mod VariableNames
-pub mod VariablesRead
 pub mod PadValues
 pub mod PadRequests
 pub mod RecordPlaces

@@ -1,20 +1,30 @@
--- What is read of records with names, one after the other.
-use Rattle.std.proofs.Common.{◌≡◌, ℕ, zero, suc, ◌+◌, ◌<◌, ◌≤◌, List, [], ◌∷◌, ◌++◌, length, map, take, drop, get_or, false, refl, sym, ap, ap₂, subst, ◌∙◌, append_assoc, append-nil, arith, bytes_eq}
+-- What is read of records with names, one after the other, and so of the variables of a kind of a good image.
+use Rattle.std.proofs.Common.{◌≡◌, ℕ, zero, suc, ◌+◌, ◌<◌, ◌≤◌, List, [], ◌∷◌, ◌++◌, length, map, take, drop, take-append-drop, drop-cons, get_or, false, refl, sym, ap, ap₂, subst, ◌∙◌, append_assoc, append-nil, arith, bytes_eq}
 use Rattle.std.proofs.lemmas.List.{length-map, length-take, map-append, map_more, at_drop_more, at_drop_all, take_all}
 use Rattle.std.specs.List.{IsDistinct}
 use Rattle.cdf_edits.proofs.Commands.ListParts.{got_in}
+use Rattle.cdf_edits.specs.Commands.Allowances.{shapes_of}
+use Rattle.cdf_edits.specs.declared.chain.Chain.{Chain}
+use Rattle.cdf_edits.specs.Space.Chains.{members_of}
+use Rattle.cdf_format.specs.Content.{content}
 use Rattle.cdf_format.specs.Fields.{name_at, name_field, type_at, LiesIn}
+use Rattle.cdf_format.specs.Shape.{shape, vdrs, HasShape}
+use Rattle.cdf_format.specs.Tiles.{In}
+use Rattle.cdf_format.specs.WellFormed.{Good}
+use Rattle.cdf_format.proofs.GoodSound.{good_is_sound}
 use Rattle.cdf_model.specs.declared.item.Item.{Item}
 use Rattle.cdf_model.specs.declared.item.Item.TheVariants.{Var}
 use Rattle.cdf_model.specs.declared.kinds.Kind.{Kind}
+use Rattle.cdf_model.specs.Listing.{variable_items}
+use Rattle.cdf_model.specs.Names.{variables_of}
 use Rattle.cdf_names.specs.Names.{has_name}
 use Rattle.cdf_names.proofs.Apart.{distinct_apart}
+use Rattle.cdf_vars.specs.Chains.{chain_of}
+use Rattle.cdf_vars.specs.Known.{KnowsKind}
 use Rattle.cdf_vars.specs.Reading.{AreNamed, items_at}
+use Rattle.cdf_vars.proofs.VariableChains.{variable_members}
+use Rattle.cdf_vars.proofs.VariableNames.{are_named, items_read, names_read, variable_names_are}
 
-parted : (xs : List ℕ) (i : ℕ) → i < length xs → xs ≡ take i xs ++ get_or xs i 0 ∷ drop (suc i) xs
-parted [] i lt = absurd (omega arith)
-parted (x ∷ xs) zero lt = refl
-parted (x ∷ xs) (suc i) lt = ap (λ (r : List ℕ). x ∷ r) (parted xs i (omega arith))
 
 module _ (b places : List ℕ) (named : AreNamed b places) where
   -- all names
@@ -29,7 +39,7 @@ module _ (b places : List ℕ) (named : AreNamed b places) where
     pub next_is_new : (names : List (List ℕ)) (name : List ℕ) → names ≡ map (name_at b) (take i places) → name ≡ name_at b (get_or places i 0) → has_name names name ≡ false
     next_is_new names name is read =
         let whole : map (name_at b) places ≡ map (name_at b) (take i places) ++ name_at b (get_or places i 0) ∷ map (name_at b) (drop (suc i) places) =
-        ap (map (name_at b)) (parted places i lt) ∙ map-append (name_at b) (take i places) (get_or places i 0 ∷ drop (suc i) places) in
+        ap (map (name_at b)) (sym (take-append-drop i places) ∙ ap (λ (r : List ℕ). take i places ++ r) (drop-cons places i 0 lt)) ∙ map-append (name_at b) (take i places) (get_or places i 0 ∷ drop (suc i) places) in
         ap₂ has_name is read ∙ distinct_apart (map (name_at b) (take i places)) (name_at b (get_or places i 0)) (map (name_at b) (drop (suc i) places)) (subst (IsDistinct bytes_eq) whole named.differ)
 
     pub few_names : (names : List (List ℕ)) → names ≡ map (name_at b) (take i places) → length names < 4294967295
@@ -58,3 +68,24 @@ module _ (b : List ℕ) (kind : Kind) (places : List ℕ) (whole : List Item) wh
       ∙ append_assoc items (Var kind i (name_at b (get_or places i 0)) ∷ []) rest
       ∙ ap (λ (xs : List Item). items ++ xs) (sym (at_drop_more (items_at b kind i) places i 0 lt))
       ∙ is
+
+-- ---- the variables of a good image
+
+module _ (b : List ℕ) (good : Good b) (kind : Kind) where
+  h : HasShape b (shape b)
+  h = (good_is_sound b good).has_shape
+
+  pub places_read : (chain : Chain) → chain ≡ chain_of kind → (places : List ℕ) → places ≡ members_of b chain → places ≡ vdrs (shapes_of (shape b) kind)
+  places_read chain is places read = read ∙ ap (members_of b) is ∙ variable_members b (shape b) h kind
+
+  pub named_at : (now : List ℕ) → now ≡ b → (places : List ℕ) → places ≡ vdrs (shapes_of (shape b) kind) → AreNamed now places
+  named_at now same places is = subst (λ (x : List ℕ). AreNamed x places) (sym same) (subst (AreNamed b) (sym is) (are_named b good kind))
+
+  pub kind_known : (names : List (List ℕ)) (places : List ℕ) → places ≡ vdrs (shapes_of (shape b) kind) → names ≡ map (name_at b) places → KnowsKind b kind (record { names = names; places = places })
+  kind_known names places placed named = record {
+    names_are = named ∙ ap (map (name_at b)) placed ∙ names_read b (shape b) h kind ∙ sym (variable_names_are b (shape b) h kind);
+    places_are = placed;
+  }
+
+  pub items_listed : (now : List ℕ) → now ≡ b → (old items : List Item) (places : List ℕ) → places ≡ vdrs (shapes_of (shape b) kind) → items ≡ old ++ items_at now kind 0 places → items ≡ old ++ variable_items kind 0 (variables_of (content b) kind)
+  items_listed now same old items places is pushed = pushed ∙ (λ i. old ++ items_at (same i) kind 0 (is i)) ∙ ap (λ (xs : List Item). old ++ xs) (items_read b (shape b) h kind)

@@ -1,10 +1,11 @@
 use Rattle.std.proofs.Common.{◌≡◌, length, sym, subst}
+use Rattle.std.proofs.lemmas.Result.{IfOk-weaker}
 use Rattle.cdf_edits.specs.declared.chain.Chain.{Chain}
 use Rattle.cdf_edits.specs.Space.Chains.{counted_in, members_of, HasChain, HolderStands}
 use Rattle.cdf_format.specs.Shape.{shape}
 use Rattle.cdf_format.proofs.GoodSound.{good_is_sound}
 use Rattle.cdf_vars.proofs.VariableChains.{counted_members, has_variable_chain, holder_stands}
-use Rattle.cdf_vars.proofs.VariablesRead.{if_ok, places_read}
+use Rattle.cdf_vars.proofs.NamesRead.{places_read}
 use Rattle.cdf_vars.proofs.vars.read_places.Goals as goal
 
 pub read_chain-requires-clause-sound : goal.read_chain-requires-clause-sound
@@ -20,4 +21,4 @@ pub read_chain-requires-clause-counted : goal.read_chain-requires-clause-counted
 read_chain-requires-clause-counted g c = let b = g.A.Area.image c.args.area.now in subst (λ (chain : Chain). counted_in b chain ≡ length (members_of b chain)) (sym c.chain_of.ensures) (counted_members b c.requires c.args.kind)
 
 pub returns-clause-places : goal.returns-clause-places
-returns-clause-places g c = if_ok c.read_chain.result (λ places. places_read (g.A.Area.image c.args.area.now) c.requires c.args.kind c.chain_of.result c.chain_of.ensures places.items) c.read_chain.ensures.members
+returns-clause-places g c = IfOk-weaker c.read_chain.result _ _ (λ places. places_read (g.A.Area.image c.args.area.now) c.requires c.args.kind c.chain_of.result c.chain_of.ensures places.items) c.read_chain.ensures.members

@@ -1,6 +1,6 @@
 use Rattle.std.proofs.Common.{◌∙◌, map}
 use Rattle.cdf_format.specs.Fields.{name_at}
-use Rattle.cdf_vars.proofs.VariablesRead.{kind_known, named_at}
+use Rattle.cdf_vars.proofs.NamesRead.{kind_known, named_at}
 use Rattle.cdf_vars.proofs.vars.VarTable.load.Goals as goal
 
 pub read_names-requires : goal.read_names-requires
