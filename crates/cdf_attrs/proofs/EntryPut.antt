@@ -1,10 +1,10 @@
 -- The command `put-entry`: an entry is put as a last one of its chain, in the record of the one of its number, or in another record in its place.
 use Rattle.std.proofs.Common.{◌≡◌, ℕ, ◌+◌, ◌*◌, ◌^◌, ◌<◌, ◌≤◌, List, [], ◌∷◌, length, take, true, is_some, Some, refl, sym, ap, subst, ◌∙◌, arith, lit<, zero, suc, ◌++◌, find, eq-eqb, inl, inr, ◌≢◌, drop, None, append_assoc, Option, FitsSigned, w32}
-use Rattle.std.proofs.lemmas.Bool.{and_from, cases_eq, le-leb, lt-leb, ne_eqb}
+use Rattle.std.proofs.lemmas.Bool.{and_from, le-leb, lt-leb, ne_eqb}
 use Rattle.std.proofs.lemmas.List.{take_at, length-map, map-append, length-append}
 use Rattle.std.specs.Int.{w32, cast_signed, cast_unsigned}
 use Rattle.std.specs.Option.{unwrap_or}
-use Rattle.std.specs.Prelude.{nat_le, ◌==◌, slice_index, if◌then◌else◌, slice_set}
+use Rattle.std.specs.Prelude.{nat_le, ◌==◌, slice_index, slice_set}
 use Rattle.cdf_model.specs.declared.data_type.DataType.{DataType}
 use Rattle.cdf_model.specs.declared.data_type.DataType.TheVariants.{Byte}
 use Rattle.cdf_model.specs.declared.kinds.EntryKind.{EntryKind}
@@ -151,10 +151,6 @@ set_in_place (x ∷ xs) (suc i) by lt d =
     let j = index_in xs i (omega arith) in
     rw (ne_eqb x (slice_index xs i) (λ e. d.0 (subst (λ (y : ℕ). In y xs) (sym e) j))) (ap (λ (r : List ℕ). x ∷ r) (set_in_place xs i by (omega arith) d.1))
 
-replaced_length : (old by : ℕ) (es : List ℕ) → length (with_in_place old by es) ≡ length es
-replaced_length old by [] = refl
-replaced_length old by (e ∷ es) = elim (cases_eq e old) [ inl q ↦ rw (eq-eqb e old q) refl | inr ne ↦ rw (ne_eqb e old ne) (let r = replaced_length old by es in omega arith) ]
-
 as_meant : (P : Chain → List ℕ → Type 0) {c d : Chain} {xs ys : List ℕ} → c ≡ d → xs ≡ ys → P c xs → P d ys
 as_meant P {d = d} {xs = xs} is are p = subst (P d) are (subst (λ (x : Chain). P x xs) is p)
 
@@ -270,10 +266,10 @@ module _ {b : List ℕ} {limit : ℕ} {new : NewEntry} {known : KnownEntries} (g
   pub max_inside : (now : List ℕ) → length b ≤ length now → LiesIn now new.slot.adr (max_field new.slot.kind)
   max_inside now longer =
       let adr = adr_stands sound cut.before own cut.after cut.stands in
-      reach (max_field new.slot.kind).place (max_field new.slot.kind).width (size_at b own.adr) (max_lies new.slot.kind).1 adr.long (tile_lies b 8 (length b) (shape b).records own.adr sound.has_shape.tiled adr.inside).high w.attribute.adr_is
-    where
-      reach : {a : ℕ} (p w n : ℕ) → p + w ≤ 324 → 324 ≤ n → a + n ≤ length b → a ≡ new.slot.adr → new.slot.adr + p + w ≤ length now
-      reach p w n x y z e = omega arith
+      let high = (tile_lies b 8 (length b) (shape b).records own.adr sound.has_shape.tiled adr.inside).high in
+      let low = (max_lies new.slot.kind).1 in
+      let at_slot = w.attribute.adr_is in
+      omega (arith, adr.long, high, low, at_slot)
 
   pub max_joined : {mid body : List ℕ} {c : Chain} {place count : ℕ} {ms : List ℕ} → Joined b mid c body place ms count → LiesIn mid new.slot.adr (max_field new.slot.kind)
   max_joined {mid = mid} joined = max_inside mid (let one = (filled_edit sound joined.placed.fills).longer in let two = joined.as_long in omega arith)
@@ -443,10 +439,7 @@ module _ {b : List ℕ} {limit : ℕ} {new : NewEntry} {known : KnownEntries} (g
     begins = subst (λ (x : ℕ). x + 56 ≤ length b) (sym has.place_is) (begins_at i has.within)
 
     member_long : 28 ≤ size_at b old
-    member_long = through (entry_bytes b old) (size_at b old) (entry_lies b good (entries_chain new.slot.kind new.slot.adr) (of_chain refl) old (member_in refl))
-      where
-        through : (n size : ℕ) → 56 + n ≤ size → 28 ≤ size
-        through n size l = omega arith
+    member_long = let l = entry_lies b good (entries_chain new.slot.kind new.slot.adr) (of_chain refl) old (member_in refl) in omega (arith, l)
 
     pub is_member : {c : Chain} → c ≡ entries_chain new.slot.kind new.slot.adr → is_in old (members_of b c) ≡ true
     is_member {c = c} is = is_in-true old (members_of b c) (member_in is)
@@ -479,7 +472,7 @@ module _ {b : List ℕ} {limit : ℕ} {new : NewEntry} {known : KnownEntries} (g
             differ = subst Distinct (sym numbers_same) (differ_before sound r good);
             chain_is = sym (replaced_after old by chain (once_before sound r good)) ∙ ap (λ (o : Option ℕ). chain_after chain o (Some by)) (sym found_old);
             of_gone = λ m j. ap (λ (x : ℕ). number b x aedr_num) (the_one old m j) ∙ has.number_is;
-          }) sized (same ∙ counted_before sound r good ∙ sym (replaced_length old by chain)) greatest settled (rw found_old moves) freed (numbers_chain ∙ sym numbers_same) are
+          }) sized (same ∙ counted_before sound r good ∙ sym (length-map chain (λ (m : ℕ). number b m aedr_num)) ∙ ap (λ (xs : List ℕ). length xs) (sym numbers_same) ∙ length-map (with_in_place old by chain) (λ (m : ℕ). number now m aedr_num)) greatest settled (rw found_old moves) freed (numbers_chain ∙ sym numbers_same) are
 
       reserved_same : Says now by ((aedr_rfu_b, number b old aedr_rfu_b) ∷ (aedr_rfu_c, number b old aedr_rfu_c) ∷ (aedr_rfu_d, number b old aedr_rfu_d) ∷ (aedr_rfu_e, number b old aedr_rfu_e) ∷ [])
       reserved_same = subst (λ (x : Reserved). Says now by ((aedr_rfu_b, x.b) ∷ (aedr_rfu_c, x.c) ∷ (aedr_rfu_d, x.d) ∷ (aedr_rfu_e, x.e) ∷ [])) has.reserved_is there.reserved
