@@ -1,5 +1,5 @@
 -- The command `del-entry`: what it is answered, and what is known of the attributes after it.
-use Rattle.std.proofs.Common.{◌≡◌, ℕ, zero, suc, ◌+◌, ◌^◌, ◌<◌, ◌≤◌, List, [], ◌∷◌, ◌++◌, length, map, get_or, true, Some, None, w32, refl, sym, ap, ap₂, subst, ◌∙◌, arith}
+use Rattle.std.proofs.Common.{◌≡◌, ℕ, zero, suc, ◌+◌, ◌^◌, ◌<◌, ◌≤◌, List, [], ◌∷◌, ◌++◌, length, Some, None, w32, refl, sym, ap, ap₂, subst, ◌∙◌, arith}
 use Rattle.std.proofs.lemmas.Option.{slice_get_within}
 use Rattle.std.specs.Int.{cast_unsigned}
 use Rattle.std.specs.List.{position, remove, slice_get}
@@ -50,7 +50,7 @@ use Rattle.cdf_attrs.proofs.EntryCalls.{leaves}
 use Rattle.cdf_attrs.proofs.EntryChains.{counted, entries_differ, entry_lies, few_entries, members}
 use Rattle.cdf_attrs.proofs.EntryLeft as left
 use Rattle.cdf_attrs.proofs.EntrySteps.{no_attribute, wrong_scope, no_entry}
-use Rattle.cdf_attrs.proofs.EntryTakenAt.{as_long, left_count, left_small, map-remove, numbered_at, once, places_are, without_at_index}
+use Rattle.cdf_attrs.proofs.EntryTakenAt.{left_count, left_small, map-remove, numbered_at, once, places_are, without_at_index}
 use Rattle.cdf_attrs.proofs.GettingAnswers.{found_in, is_entry_at, is_item, of_attribute}
 use Rattle.cdf_attrs.proofs.GreatestNumber.{greatest_fits, greatest_of_items}
 use Rattle.cdf_edits.proofs.Commands.ListParts.{Cut, cut, got-middle}

@@ -1,10 +1,10 @@
 -- The command `put-entry`: an entry is put as a last one of its chain, in the record of the one of its number, or in another record in its place.
 use Rattle.std.proofs.Common.{◌≡◌, ℕ, ◌+◌, ◌*◌, ◌^◌, ◌<◌, ◌≤◌, List, [], ◌∷◌, length, take, true, is_some, Some, refl, sym, ap, subst, ◌∙◌, arith, lit<, zero, suc, ◌++◌, find, eq-eqb, inl, inr, ◌≢◌, drop, None, append_assoc, Option, FitsSigned, w32}
-use Rattle.std.proofs.lemmas.Bool.{and_from, cases_eq, le-leb, lt-leb, ne_eqb}
+use Rattle.std.proofs.lemmas.Bool.{and_from, le-leb, lt-leb, ne_eqb}
 use Rattle.std.proofs.lemmas.List.{take_at, length-map, map-append, length-append}
 use Rattle.std.specs.Int.{w32, cast_signed, cast_unsigned}
 use Rattle.std.specs.Option.{unwrap_or}
-use Rattle.std.specs.Prelude.{nat_le, ◌==◌, slice_index, if◌then◌else◌, slice_set}
+use Rattle.std.specs.Prelude.{nat_le, ◌==◌, slice_index, slice_set}
 use Rattle.cdf_model.specs.declared.data_type.DataType.{DataType}
 use Rattle.cdf_model.specs.declared.data_type.DataType.TheVariants.{Byte}
 use Rattle.cdf_model.specs.declared.kinds.EntryKind.{EntryKind}
@@ -85,12 +85,10 @@ use Rattle.cdf_base.specs.Bytes.{put}
 use Rattle.cdf_format.specs.Owners.{owned_records, times}
 use Rattle.cdf_fields.proofs.Writes.{drop-put_there}
 use Rattle.cdf_edits.specs.Space.Placement.{Gives}
-use Rattle.cdf_edits.proofs.Edits.ChangedEntry.{ChangesEntry, behind_stays, entry_kept, in_its_place}
 use Rattle.cdf_edits.proofs.Edits.Composing.{same-then}
 use Rattle.cdf_edits.proofs.Edits.FreedEntry.{Frees, as_long_now, count_same, freed_bytes, freed_rechains, freed_settled, greatest_same, old_free, old_stands, other_kept, sound_late, all_marks}
-use Rattle.cdf_edits.proofs.Edits.JoinedEntry.{JoinsEntry, as_long, count_now, ends, exchanges, frees, greatest_now, list, marks, new_size, new_type, new_value, not_old, place_in, pushes, rechains, records, settled}
+use Rattle.cdf_edits.proofs.Edits.PutEntry.{ChangesEntry, IsAmong, JoinsEntry, as_long, count_now, ends, exchanges, frees, greatest_now, in_its_place, list, marks, new_size, new_type, new_value, not_old, over_behind, over_count, over_greatest, over_kept, over_long, over_marks, over_rechains, over_settled, over_size, place_in, pushes, rechains, records, settled}
 use Rattle.cdf_model.specs.declared.kinds.EntryKind.TheVariants as entries
-use Rattle.cdf_edits.proofs.Edits.ChangedEntry as changed
 use Rattle.cdf_attrs.specs.Removing.{IsGreatest}
 use Rattle.cdf_attrs.proofs.GreatestNumber.{greatest_fits, greatest_put}
 use Rattle.cdf_attrs.proofs.NumberGone.{none_in}
@@ -152,10 +150,6 @@ set_in_place (x ∷ xs) zero by lt d = rw (eq-eqb x x refl) refl
 set_in_place (x ∷ xs) (suc i) by lt d =
     let j = index_in xs i (omega arith) in
     rw (ne_eqb x (slice_index xs i) (λ e. d.0 (subst (λ (y : ℕ). In y xs) (sym e) j))) (ap (λ (r : List ℕ). x ∷ r) (set_in_place xs i by (omega arith) d.1))
-
-replaced_length : (old by : ℕ) (es : List ℕ) → length (with_in_place old by es) ≡ length es
-replaced_length old by [] = refl
-replaced_length old by (e ∷ es) = elim (cases_eq e old) [ inl q ↦ rw (eq-eqb e old q) refl | inr ne ↦ rw (ne_eqb e old ne) (let r = replaced_length old by es in omega arith) ]
 
 as_meant : (P : Chain → List ℕ → Type 0) {c d : Chain} {xs ys : List ℕ} → c ≡ d → xs ≡ ys → P c xs → P d ys
 as_meant P {d = d} {xs = xs} is are p = subst (P d) are (subst (λ (x : Chain). P x xs) is p)
@@ -224,6 +218,9 @@ module _ {b : List ℕ} {limit : ℕ} {new : NewEntry} {known : KnownEntries} (g
   abbrev cut : Parts b new.slot.adr new.slot.attribute own
   cut = parts w.attribute
 
+  abbrev at : IsAmong b own
+  at = record { before = cut.before; after = cut.after; was = cut.stands }
+
   body_long : (r : Reserved) → 8 + length (body_of new r) ≡ 56 + size
   body_long r = omega (arith, length-body new.slot.kind new.slot.attribute new.value.t new.slot.num new.value.elems r new.value.bytes.items)
 
@@ -269,10 +266,10 @@ module _ {b : List ℕ} {limit : ℕ} {new : NewEntry} {known : KnownEntries} (g
   pub max_inside : (now : List ℕ) → length b ≤ length now → LiesIn now new.slot.adr (max_field new.slot.kind)
   max_inside now longer =
       let adr = adr_stands sound cut.before own cut.after cut.stands in
-      reach (max_field new.slot.kind).place (max_field new.slot.kind).width (size_at b own.adr) (max_lies new.slot.kind).1 adr.long (tile_lies b 8 (length b) (shape b).records own.adr sound.has_shape.tiled adr.inside).high w.attribute.adr_is
-    where
-      reach : {a : ℕ} (p w n : ℕ) → p + w ≤ 324 → 324 ≤ n → a + n ≤ length b → a ≡ new.slot.adr → new.slot.adr + p + w ≤ length now
-      reach p w n x y z e = omega arith
+      let high = (tile_lies b 8 (length b) (shape b).records own.adr sound.has_shape.tiled adr.inside).high in
+      let low = (max_lies new.slot.kind).1 in
+      let at_slot = w.attribute.adr_is in
+      omega (arith, adr.long, high, low, at_slot)
 
   pub max_joined : {mid body : List ℕ} {c : Chain} {place count : ℕ} {ms : List ℕ} → Joined b mid c body place ms count → LiesIn mid new.slot.adr (max_field new.slot.kind)
   max_joined {mid = mid} joined = max_inside mid (let one = (filled_edit sound joined.placed.fills).longer in let two = joined.as_long in omega arith)
@@ -370,24 +367,24 @@ module _ {b : List ℕ} {limit : ℕ} {new : NewEntry} {known : KnownEntries} (g
       }
 
   -- a record of it was made and linked
-  module _ {now : List ℕ} {place : ℕ} {chain' gone : List ℕ} {count : ℕ} {reserved : Reserved} (p : JoinsEntry b now new.slot.kind cut.before own cut.after (body_of new reserved) place chain' gone count) where
+  module _ {now : List ℕ} {place : ℕ} {chain' gone : List ℕ} {count : ℕ} {reserved : Reserved} (p : JoinsEntry b now new.slot.kind own (body_of new reserved) place chain' gone count) where
     joined_there : Fits new reserved → IsEntry b now place new reserved
     joined_there fit =
-        let long = as_long sound p in
+        let long = as_long new.slot.kind sound at p in
         let n = body_long reserved in
         let inside = p.joined.placed.inside in
         let kept = p.joined.placed.fills.long in
-        let sized = new_size sound p in
-        entry_written new reserved (file_now sound (rechains sound p)).little w.stored p.joined.placed fit (new_value sound p _ (omega arith)) (omega arith) (omega arith) (omega arith)
+        let sized = new_size new.slot.kind sound at p in
+        entry_written new reserved (file_now sound (rechains new.slot.kind sound at p)).little w.stored p.joined.placed fit (new_value new.slot.kind sound at p _ (omega arith)) (omega arith) (omega arith) (omega arith)
 
   -- ---- a last one
 
   module _ {mid now : List ℕ} {place : ℕ} (absent : position (λ n. n == new.slot.num) known.numbers ≡ None) {c : Chain} {bytes : List ℕ} (is : c ≡ entries_chain new.slot.kind new.slot.adr) (bytes_are : bytes ≡ body_of new new_reserved) (added : Added b mid c bytes place) (written : now ≡ with_field mid new.slot.adr (max_field new.slot.kind) (stored new)) where
-    abbrev p : JoinsEntry b now new.slot.kind cut.before own cut.after (body_of new new_reserved) place (chain ++ place ∷ []) [] (counted_in b (entries_chain new.slot.kind own.adr) + 1)
-    p = pushes sound cut.stands (body_typed new_reserved) (max_written new.slot.kind (stored new) w.attribute.adr_is written) (as_meant (λ (x : Chain) (xs : List ℕ). Added b mid x xs place) (of_chain is).chain_is bytes_are added)
+    abbrev p : JoinsEntry b now new.slot.kind own (body_of new new_reserved) place (chain ++ place ∷ []) [] (counted_in b (entries_chain new.slot.kind own.adr) + 1)
+    p = pushes new.slot.kind sound at (body_typed new_reserved) (max_written new.slot.kind (stored new) w.attribute.adr_is written) (as_meant (λ (x : Chain) (xs : List ℕ). Added b mid x xs place) (of_chain is).chain_is bytes_are added)
 
-    abbrev r : Rechains b now (shape b) (records sound p) (list sound p) (marks sound p) (place ∷ []) new.slot.kind cut.before own cut.after (chain ++ place ∷ []) [] (place ∷ [])
-    r = rechains sound p
+    abbrev r : Rechains b now (shape b) (records new.slot.kind sound at p) (list new.slot.kind sound at p) (marks new.slot.kind sound at p) (place ∷ []) new.slot.kind cut.before own cut.after (chain ++ place ∷ []) [] (place ∷ [])
+    r = rechains new.slot.kind sound at p
 
     there : IsEntry b now place new new_reserved
     there = joined_there p new_fits
@@ -413,8 +410,8 @@ module _ {b : List ℕ} {limit : ℕ} {new : NewEntry} {known : KnownEntries} (g
           chain_is = ap (λ (o : Option ℕ). chain_after chain o (Some place)) (sym found);
           of_gone = λ m i. absurd i;
         }) (body_long new_reserved)
-        (count_now sound p ∙ ap (λ (n : ℕ). n + 1) (as_count new.slot.kind b b own.adr ∙ counted_before sound r good) ∙ sym (length-append chain (place ∷ [])))
-        (greatest_now sound p new.greatest signed is_stored) (settled sound p (λ m. refl) (λ none. none))
+        (count_now new.slot.kind sound at p ∙ ap (λ (n : ℕ). n + 1) (as_count new.slot.kind b b own.adr ∙ counted_before sound r good) ∙ sym (length-append chain (place ∷ [])))
+        (greatest_now new.slot.kind sound at p new.greatest signed is_stored) (settled new.slot.kind sound at p (λ m. refl) (λ none. none))
         (rw found (ap (λ (n : ℕ). Took place n ∷ []) (body_long new_reserved ∙ ap (λ (n : ℕ). 56 + n) (sym there.bytes_are)), there.reserved)) tt
         ((λ i. (numbers_chain ∙ sym (nums_live b now chain live)) i ++ sym there.num_is i ∷ []) ∙ sym (map-append (λ (e : ℕ). number now e aedr_num) chain (place ∷ [])))
         (ap (λ (ms : List ℕ). ms ++ place ∷ []) places_chain)
@@ -442,10 +439,7 @@ module _ {b : List ℕ} {limit : ℕ} {new : NewEntry} {known : KnownEntries} (g
     begins = subst (λ (x : ℕ). x + 56 ≤ length b) (sym has.place_is) (begins_at i has.within)
 
     member_long : 28 ≤ size_at b old
-    member_long = through (entry_bytes b old) (size_at b old) (entry_lies b good (entries_chain new.slot.kind new.slot.adr) (of_chain refl) old (member_in refl))
-      where
-        through : (n size : ℕ) → 56 + n ≤ size → 28 ≤ size
-        through n size l = omega arith
+    member_long = let l = entry_lies b good (entries_chain new.slot.kind new.slot.adr) (of_chain refl) old (member_in refl) in omega (arith, l)
 
     pub is_member : {c : Chain} → c ≡ entries_chain new.slot.kind new.slot.adr → is_in old (members_of b c) ≡ true
     is_member {c = c} is = is_in-true old (members_of b c) (member_in is)
@@ -478,7 +472,7 @@ module _ {b : List ℕ} {limit : ℕ} {new : NewEntry} {known : KnownEntries} (g
             differ = subst Distinct (sym numbers_same) (differ_before sound r good);
             chain_is = sym (replaced_after old by chain (once_before sound r good)) ∙ ap (λ (o : Option ℕ). chain_after chain o (Some by)) (sym found_old);
             of_gone = λ m j. ap (λ (x : ℕ). number b x aedr_num) (the_one old m j) ∙ has.number_is;
-          }) sized (same ∙ counted_before sound r good ∙ sym (replaced_length old by chain)) greatest settled (rw found_old moves) freed (numbers_chain ∙ sym numbers_same) are
+          }) sized (same ∙ counted_before sound r good ∙ sym (length-map chain (λ (m : ℕ). number b m aedr_num)) ∙ ap (λ (xs : List ℕ). length xs) (sym numbers_same) ∙ length-map (with_in_place old by chain) (λ (m : ℕ). number now m aedr_num)) greatest settled (rw found_old moves) freed (numbers_chain ∙ sym numbers_same) are
 
       reserved_same : Says now by ((aedr_rfu_b, number b old aedr_rfu_b) ∷ (aedr_rfu_c, number b old aedr_rfu_c) ∷ (aedr_rfu_d, number b old aedr_rfu_d) ∷ (aedr_rfu_e, number b old aedr_rfu_e) ∷ [])
       reserved_same = subst (λ (x : Reserved). Says now by ((aedr_rfu_b, x.b) ∷ (aedr_rfu_c, x.c) ∷ (aedr_rfu_d, x.d) ∷ (aedr_rfu_e, x.e) ∷ [])) has.reserved_is there.reserved
@@ -501,11 +495,11 @@ module _ {b : List ℕ} {limit : ℕ} {new : NewEntry} {known : KnownEntries} (g
           omega arith
 
       module _ {now : List ℕ} (written : now ≡ with_field (put b (old + 20) bytes) new.slot.adr (max_field new.slot.kind) (stored new)) where
-        abbrev q : ChangesEntry b now new.slot.kind cut.before own cut.after (fields_of new was.reserved) old
-        q = record { was = cut.stands; member = member; room = let f = fits in let l = wide in omega arith; greatest = stored new; written = max_written new.slot.kind (stored new) w.attribute.adr_is (written ∙ ap (λ (xs : List ℕ). with_field (put b (old + 20) xs) new.slot.adr (max_field new.slot.kind) (stored new)) bytes_are) }
+        abbrev q : ChangesEntry b now new.slot.kind own (fields_of new was.reserved) old
+        q = record { member = member; room = let f = fits in let l = wide in omega arith; greatest = stored new; written = max_written new.slot.kind (stored new) w.attribute.adr_is (written ∙ ap (λ (xs : List ℕ). with_field (put b (old + 20) xs) new.slot.adr (max_field new.slot.kind) (stored new)) bytes_are) }
 
-        abbrev changed_chain : Rechains b now (shape b) (shape b).records (shape b).unused (changed.marks sound q) [] new.slot.kind cut.before own cut.after (with_in_place old old chain) (old ∷ []) (old ∷ [])
-        changed_chain = changed.rechains sound q
+        abbrev changed_chain : Rechains b now (shape b) (shape b).records (shape b).unused (over_marks new.slot.kind sound at q) [] new.slot.kind cut.before own cut.after (with_in_place old old chain) (old ∷ []) (old ∷ [])
+        changed_chain = over_rechains new.slot.kind sound at q
 
         changed_there : IsEntry b now old new was.reserved
         changed_there =
@@ -518,29 +512,29 @@ module _ {b : List ℕ} {limit : ℕ} {new : NewEntry} {known : KnownEntries} (g
             let more = drop (old + 20 + length (fields_of new was.reserved)) b in
             let laid : drop (old + 20) mid ≡ laid_out (said new was.reserved) ++ (value ++ more) = drop-put_there b (fields_of new was.reserved) (old + 20) (omega arith) ∙ append_assoc (laid_out (said new was.reserved)) value more in
             let says = says_laid_out mid old 20 (said new was.reserved) (value ++ more) laid refl (f.attr_fits, (code_small new.value.t, (f.num_fits, (f.elems_fit, (lit< tt, (f.b_fits, (f.c_fits, (f.d_fits, (f.e_fits, tt))))))))) in
-            let same = entry_kept sound q (56 + length value) fits in
+            let same = over_kept new.slot.kind sound at q (56 + length value) fits in
             let mid_long : length mid ≡ length b = length-put b (old + 20) (fields_of new was.reserved) (omega arith) in
-            let long = changed.as_long sound q in
+            let long = over_long new.slot.kind sound at q in
             is_entry new was.reserved (file_now sound changed_chain).little w.stored (says_kept mid now old 0 (56 + length value) 20 (said new was.reserved) same (omega arith) (omega arith) refl says.0)
             (piece_kept mid now (old + 0) (old + (56 + length value)) same (old + 56) (length value) (omega arith) (omega arith) (omega arith) (omega arith) ∙ ap (take (length value)) says.1 ∙ take_at value more (length value) refl)
-            (subst (λ (n : ℕ). 56 + length value ≤ n) (sym (changed.size_stays sound q)) fits)
+            (subst (λ (n : ℕ). 56 + length value ≤ n) (sym (over_size new.slot.kind sound at q)) fits)
 
         all_ends : 20 + length (fields_of new was.reserved) ≡ entry_end now old
         all_ends = wide ∙ ap (λ (n : ℕ). 56 + n) (sym changed_there.bytes_are)
 
         pub put_over : IsPut b now new known known
-        put_over = replaced changed_chain changed_there refl (changed.count_now sound q) (changed.greatest_now sound q new.greatest signed is_stored) (changed.settled sound q good)
+        put_over = replaced changed_chain changed_there refl (over_count new.slot.kind sound at q) (over_greatest new.slot.kind sound at q new.greatest signed is_stored) (over_settled new.slot.kind sound at q good)
             (record {
               acts_are = rw (le-leb (entry_end now old) (size_at b old) (subst (λ (n : ℕ). n ≤ size_at b old) all_ends q.room)) refl;
               reserved = reserved_same changed_chain changed_there;
-              room = λ le. record { place_stays = refl; size_stays = changed.size_stays sound q; rest_stays = subst (λ (n : ℕ). Same b now (old + n) (old + size_at b old)) all_ends (behind_stays sound q) };
+              room = λ le. record { place_stays = refl; size_stays = over_size new.slot.kind sound at q; rest_stays = subst (λ (n : ℕ). Same b now (old + n) (old + size_at b old)) all_ends (over_behind new.slot.kind sound at q) };
             }) tt (places_chain ∙ sym (in_its_place old chain))
 
     -- ---- in another record
 
     module _ {mid late : List ℕ} {by : ℕ} {c : Chain} {bytes : List ℕ} (is : c ≡ entries_chain new.slot.kind new.slot.adr) (bytes_are : bytes ≡ body_of new was.reserved) (exchanged : Exchanged b mid c bytes old by) (written : late ≡ with_field mid new.slot.adr (max_field new.slot.kind) (stored new)) where
-      abbrev j : JoinsEntry b late new.slot.kind cut.before own cut.after (body_of new was.reserved) by (with_in_place old by chain) (old ∷ []) (counted_in b (entries_chain new.slot.kind own.adr))
-      j = exchanges sound cut.stands (body_typed was.reserved) (max_written new.slot.kind (stored new) w.attribute.adr_is written) member (as_meant (λ (x : Chain) (xs : List ℕ). Exchanged b mid x xs old by) (of_chain is).chain_is bytes_are exchanged)
+      abbrev j : JoinsEntry b late new.slot.kind own (body_of new was.reserved) by (with_in_place old by chain) (old ∷ []) (counted_in b (entries_chain new.slot.kind own.adr))
+      j = exchanges new.slot.kind sound at (body_typed was.reserved) (max_written new.slot.kind (stored new) w.attribute.adr_is written) member (as_meant (λ (x : Chain) (xs : List ℕ). Exchanged b mid x xs old by) (of_chain is).chain_is bytes_are exchanged)
 
       late_there : IsEntry b late by new was.reserved
       late_there = joined_there j old_fits
@@ -549,8 +543,8 @@ module _ {b : List ℕ} {limit : ℕ} {new : NewEntry} {known : KnownEntries} (g
       abbrev took : Act
       took = Took by (8 + length (body_of new was.reserved))
 
-      f : Frees b late (records sound j) (list sound j) (marks sound j) (by ∷ []) new.slot.kind cut.before own cut.after (with_in_place old by chain) (by ∷ []) old (8 + length (body_of new was.reserved)) (took ∷ [])
-      f = frees sound j member late_there.fits
+      f : Frees b late (records new.slot.kind sound at j) (list new.slot.kind sound at j) (marks new.slot.kind sound at j) (by ∷ []) new.slot.kind cut.before own cut.after (with_in_place old by chain) (by ∷ []) old (8 + length (body_of new was.reserved)) (took ∷ [])
+      f = frees new.slot.kind sound at j member late_there.fits
 
       pub late_sound : IsSound late (shape late)
       late_sound = sound_late sound f
@@ -562,22 +556,22 @@ module _ {b : List ℕ} {limit : ℕ} {new : NewEntry} {known : KnownEntries} (g
       late_free = old_free sound f
 
       module _ {now : List ℕ} (large : was.size < 56 + size) (gives : Gives late now (shape late) (shape now) old) where
-        abbrev moved : Rechains b now (shape b) (records sound j) (shape now).unused (all_marks sound f) (by ∷ old ∷ []) new.slot.kind cut.before own cut.after (with_in_place old by chain) (old ∷ []) (by ∷ [])
+        abbrev moved : Rechains b now (shape b) (records new.slot.kind sound at j) (shape now).unused (all_marks sound f) (by ∷ old ∷ []) new.slot.kind cut.before own cut.after (with_in_place old by chain) (old ∷ []) (by ∷ [])
         moved = freed_rechains sound f gives
 
         moved_there : IsEntry b now by new was.reserved
         moved_there =
             let n = body_long was.reserved in
-            let long = as_long sound j in
+            let long = as_long new.slot.kind sound at j in
             let freed_long = as_long_now sound f gives in
-            let stays = other_kept sound f gives by (place_in sound j) (not_old sound j member late_there.fits) (new_type sound j) in
-            let sized = new_size sound j in
+            let stays = other_kept sound f gives by (place_in new.slot.kind sound at j) (not_old new.slot.kind sound at j member late_there.fits) (new_type new.slot.kind sound at j) in
+            let sized = new_size new.slot.kind sound at j in
             let wide = stays.long in
             let inside = j.joined.placed.inside in
             let kept = j.joined.placed.fills.long in
             let size_now = size_kept late now by stays.same (omega arith) in
             entry_written new was.reserved (file_now sound moved).little w.stored j.joined.placed old_fits
-            (same-then j.joined.filled late now (by + 20) (by + (56 + size)) (new_value sound j _ (omega arith)) (Same-part late now by (by + size_at late by) (by + 20) (by + (56 + size)) stays.same (omega arith) (omega arith)))
+            (same-then j.joined.filled late now (by + 20) (by + (56 + size)) (new_value new.slot.kind sound at j _ (omega arith)) (Same-part late now by (by + size_at late by) (by + 20) (by + (56 + size)) stays.same (omega arith) (omega arith)))
             (omega arith) (omega arith) (omega arith)
 
         pub put_anew : IsPut b now new known (record known { places = slice_set known.places i by })
@@ -586,8 +580,8 @@ module _ {b : List ℕ} {limit : ℕ} {new : NewEntry} {known : KnownEntries} (g
             let wide : 8 + length (body_of new was.reserved) ≡ entry_end now by = n ∙ ap (λ (n : ℕ). 56 + n) (sym moved_there.bytes_are) in
             let larger : size_at b old < entry_end now by = (let is = has.size_is in omega arith) in
             let set = set_in_place known.places i by has.within (once good (of_chain refl) known w.chain w.known) in
-            replaced moved moved_there n (count_same sound f gives (count_is new.slot.kind b own.adr).0 ∙ count_now sound j ∙ as_count new.slot.kind b b own.adr)
-            (greatest_integer new.slot.kind late now own.adr (greatest_same sound f gives (max_lies new.slot.kind).1) ∙ greatest_now sound j new.greatest signed is_stored) (freed_settled sound f gives (ends sound j))
+            replaced moved moved_there n (count_same sound f gives (count_is new.slot.kind b own.adr).0 ∙ count_now new.slot.kind sound at j ∙ as_count new.slot.kind b b own.adr)
+            (greatest_integer new.slot.kind late now own.adr (greatest_same sound f gives (max_lies new.slot.kind).1) ∙ greatest_now new.slot.kind sound at j new.greatest signed is_stored) (freed_settled sound f gives (ends new.slot.kind sound at j))
             (record {
               acts_are = rw (lt-leb (entry_end now by) (size_at b old) larger) (ap (λ (n : ℕ). Took by n ∷ Gave old (size_at b old) ∷ []) wide);
               reserved = reserved_same moved moved_there;

@@ -1,5 +1,5 @@
 -- An entry at an index of its chain: what of the chain is before it and without it, and what calls ask for that take it out.
-use Rattle.std.proofs.Common.{◌≡◌, ℕ, zero, suc, ◌+◌, ◌<◌, ◌≤◌, pos, List, [], ◌∷◌, length, map, take, get_or, slice_index_or, true, Some, All, eq-eqb, FitsSigned, w32, None, refl, sym, ap, subst, ◌∙◌, arith, inl, inr}
+use Rattle.std.proofs.Common.{◌≡◌, ℕ, zero, suc, ◌+◌, ◌<◌, ◌≤◌, pos, List, [], ◌∷◌, length, map, take, get_or, slice_index_or, Some, All, eq-eqb, FitsSigned, w32, None, refl, sym, ap, subst, ◌∙◌, arith, inl, inr}
 use Rattle.std.proofs.lemmas.Bool.{eqb-true, ne_eqb}
 use Rattle.std.proofs.lemmas.Int.{ints, of_z-to_z}
 use Rattle.std.specs.Int.{cast_signed, cast_unsigned}

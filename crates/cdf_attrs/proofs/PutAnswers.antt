@@ -1,5 +1,5 @@
 -- What the command that puts an entry is answered.
-use Rattle.std.proofs.Common.{◌≡◌, ℕ, ◌+◌, ◌<◌, ◌≤◌, max, List, [], ◌∷◌, length, Err, Ok, false, refl, sym, ap, subst, ◌∙◌, arith, inl, inr}
+use Rattle.std.proofs.Common.{◌≡◌, ℕ, ◌+◌, ◌<◌, ◌≤◌, max, List, [], ◌∷◌, length, Err, false, refl, sym, ap, subst, ◌∙◌, arith, inl, inr}
 use Rattle.std.proofs.lemmas.Bool.{cases_lt}
 use Rattle.std.specs.List.{fold}
 use Rattle.std.specs.Prelude.{slice_index}
@@ -13,7 +13,6 @@ use Rattle.cdf_model.specs.declared.data_type.DataType.{DataType}
 use Rattle.cdf_model.specs.declared.kinds.EntryKind.{EntryKind}
 use Rattle.cdf_model.specs.Answers.{Go, Refuse}
 use Rattle.cdf_model.specs.AttributeSteps.{entries_of, is_out_of_range, put_entry_step, with_attribute, with_entries}
-use Rattle.cdf_model.specs.ByteOrder.{turned}
 use Rattle.cdf_model.specs.DataSet.{DataSet, Entry}
 use Rattle.cdf_model.specs.Limits.{record_number_limit, signed_limit}
 use Rattle.cdf_model.specs.Numbered.{with_item}
@@ -28,7 +27,6 @@ use Rattle.cdf_edits.specs.declared.chain.Chain.{Chain}
 use Rattle.cdf_edits.specs.Answers.{Answers}
 use Rattle.cdf_edits.specs.Commands.Room.{room, entry_length}
 use Rattle.cdf_edits.specs.Edits.EntryMarks.{entries_chain}
-use Rattle.cdf_edits.specs.Follows.{Follows}
 use Rattle.cdf_edits.proofs.Commands.Answered.{gone, too_large}
 use Rattle.cdf_attrs.specs.declared.entry_bytes.StoredValue.{StoredValue}
 use Rattle.cdf_attrs.specs.declared.putting.Slot.{Slot}

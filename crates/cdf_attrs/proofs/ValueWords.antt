@@ -1,5 +1,5 @@
 -- What words come to as the value of an entry.
-use Rattle.std.proofs.Common.{◌≡◌, ℕ, ◌+◌, ◌*◌, ◌%◌, ◌≤◌, List, ◌++◌, length, take, drop, Bool, false, Ok, refl, sym, ap, subst, ◌∙◌, arith}
+use Rattle.std.proofs.Common.{◌≡◌, ℕ, ◌%◌, ◌≤◌, List, ◌++◌, length, take, drop, Bool, false, Ok, refl, sym, ap, subst, ◌∙◌, arith}
 use Rattle.cdf_model.specs.declared.data_type.DataType.{DataType}
 use Rattle.cdf_model.specs.declared.data_type.DataType.TheVariants.{Char, UChar}
 use Rattle.cdf_model.specs.AttributeSteps.{number_entry}

@@ -10,7 +10,6 @@ pub mod ChainKinds
 pub mod ChainOwners
 pub mod ChainSpliced
 pub mod ChainsOfShape
-pub mod ChangedEntry
 pub mod ChecksumSet
 pub mod Composing
 pub mod DeletedAttribute
@@ -19,7 +18,6 @@ pub mod EmptySet
 pub mod EntryBeside
 pub mod EntryFields
 pub mod EntryTakenStep
-pub mod JoinedEntry
 pub mod NumbersFallStep
 pub mod FallenEntries
 pub mod FallenItems
@@ -45,6 +43,7 @@ pub mod OwnersKept
 pub mod OwnVariable
 pub mod PadWritten
 pub mod PlainVariables
+pub mod PutEntry
 pub mod RecordFrame
 pub mod RemovalCalls
 pub mod RemovedAttribute

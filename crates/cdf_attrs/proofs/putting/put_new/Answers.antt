@@ -1,4 +1,4 @@
-use Rattle.std.proofs.Common.{◌≡◌, ◌∙◌, ◌+◌, ◌<◌, ◌≤◌, ℕ, List, length, ap, subst, sym}
+use Rattle.std.proofs.Common.{◌∙◌, ◌+◌, ◌<◌, ◌≤◌, ℕ, List, length, ap, subst, sym}
 use Rattle.std.specs.Prelude.{slice_index}
 use Rattle.cdf_format.specs.Fields.{number, size_at}
 use Rattle.cdf_format.specs.Records.{aedr_num}
