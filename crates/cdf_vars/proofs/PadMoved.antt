@@ -20,28 +20,21 @@ use Rattle.cdf_format.specs.Sound.{IsSound}
 use Rattle.cdf_format.specs.VariableFields.{dimensions_at, has_pad, is_z, pad_field, value_bytes}
 use Rattle.cdf_format.specs.VariableRules.{vdr_end}
 use Rattle.cdf_format.specs.WellFormed.{Good}
-use Rattle.cdf_format.proofs.ShapeLemmas.{shape_is}
 use Rattle.cdf_edits.specs.Commands.Allowances.{shapes_of}
-use Rattle.cdf_edits.specs.Edits.Edit.{Edit}
-use Rattle.cdf_edits.specs.Edits.Marks.{Mark, avoided, is_late, keeps_file, making_marks, replacing_marks}
-use Rattle.cdf_edits.specs.Space.Chains.{HolderStands, MayJoin, Replaced, head_of, holder_of, holder_type, members_of, type_in, HasChain, before}
-use Rattle.cdf_edits.specs.Space.Placement.{with_space}
-use Rattle.cdf_edits.specs.Space.Placing.{Fills, Placed, type_of_body, IsBody}
+use Rattle.cdf_edits.specs.Space.Adding.{Exchanged}
+use Rattle.cdf_edits.specs.Space.Chains.{head_of, members_of, type_in, before}
+use Rattle.cdf_edits.specs.Space.Placing.{type_of_body, IsBody}
 use Rattle.cdf_edits.specs.Space.VariableChains.{variables_chain}
 use Rattle.cdf_edits.specs.declared.chain.Chain.{Chain}
-use Rattle.cdf_edits.proofs.Edits.ChainEdits.{replaced_edit}
-use Rattle.cdf_edits.proofs.Edits.MadeRecord.{filled_sound, made_edit, made_part, made_type}
-use Rattle.cdf_edits.proofs.Edits.MovedVdr.{MovesVdr, chain_late, old_free, old_in, sound_late}
+use Rattle.cdf_edits.proofs.Edits.MovedVdr.{CopiesVdr, MovesVdr, behind_link, by_type, chain_late, file, old_free, old_in, sound_late}
 use Rattle.cdf_edits.proofs.Edits.PadMoved.{HoldsPad}
 use Rattle.cdf_edits.proofs.Edits.PadWritten.{padded_flags, padded_1, padded_2}
-use Rattle.cdf_edits.proofs.Edits.RecordFrame.{file_same}
 use Rattle.cdf_edits.proofs.Edits.VariableKinds.{kind_chain}
 use Rattle.cdf_edits.proofs.Edits.VdrEdited.{StandsAmong, sound, typed, in_middle}
-use Rattle.cdf_edits.proofs.Frame.Meaning.{FileSame, pad_long, pad_width}
+use Rattle.cdf_edits.proofs.Frame.Meaning.{pad_long, pad_width}
 use Rattle.cdf_records.specs.Pieces.{AreBytes}
 use Rattle.cdf_records.proofs.Places.{word_fits}
-use Rattle.cdf_space.proofs.AddedRecord.{filled_joins, filled_has_chain, filled_members}
-use Rattle.cdf_vars.proofs.VariableChains.{has_variable_chain, holder_stands, variable_members}
+use Rattle.cdf_vars.proofs.VariableChains.{has_variable_chain, variable_members}
 use Rattle.cdf_format.specs.Owners.{owned_records, times}
 use Rattle.cdf_format.specs.RecordTypes.{uir_type}
 use Rattle.cdf_format.specs.Tiles.{In, Distinct}
@@ -50,7 +43,7 @@ use Rattle.cdf_edits.specs.Commands.Room.{vdr_bytes}
 use Rattle.cdf_edits.proofs.Space.UsedRecords.{apart}
 use Rattle.cdf_var_records.specs.Descriptors.{IsVdr, IsPlace}
 use Rattle.cdf_vars.specs.Padding.{IsPadded, padded_body}
-use Rattle.cdf_var_records.proofs.VdrParts.{pad_place, at as vdr_at, inside as vdr_inside}
+use Rattle.cdf_var_records.proofs.VdrParts.{pad_place, at as vdr_at, inside as vdr_inside, own as vdr_own}
 use Rattle.std.proofs.lemmas.Bool.{cases_lt, ne_eqb}
 use Rattle.cdf_format.proofs.GoodSound.{good_is_sound}
 use Rattle.cdf_edits.proofs.Commands.ListParts.{Cut, cut}
@@ -207,19 +200,6 @@ pub record Linked (late : List ℕ) (old by : ℕ) : Type 0 where
 
 -- ---- the VDR that is made, and that takes the place of the old one
 
-module _ (filled unused : List ℕ) (by need : ℕ) (members : List ℕ) where
-  abbrev moving : Kind → List Mark
-  moving kind = replacing_marks (holder_type (variables_chain kind)) (holder_of filled (variables_chain kind)) (head_of (variables_chain kind)) (type_in (variables_chain kind)) by members
-
-  record LinkTests (kind : Kind) : Type 0 where
-    lately : is_late (moving kind) (type_in (variables_chain kind)) ≡ true
-    file_clear : keeps_file (making_marks unused by need (moving kind)) ≡ true
-    fields_clear : (hi : ℕ) → avoided (moving kind) (type_in (variables_chain kind)) 20 hi ≡ true
-
-  tests : (kind : Kind) → LinkTests kind
-  tests R = record { lately = refl; file_clear = refl; fields_clear = λ hi. refl }
-  tests Z = record { lately = refl; file_clear = refl; fields_clear = λ hi. refl }
-
 module _ (value : List ℕ) {b : List ℕ} {kind : Kind} {before : List VariableShape} {own : VariableShape} {after : List VariableShape} (good : Good b) (at : StandsAmong b kind before own after) (sized : length value ≡ value_bytes b own.vdr) (short : size_at b own.vdr < (pad_field b own.vdr).place + length value) (read : AreBytes b own.vdr 84) where
   abbrev v : ℕ
   v = own.vdr
@@ -261,156 +241,101 @@ module _ (value : List ℕ) {b : List ℕ} {kind : Kind} {before : List Variable
       by_kind R e f = record { enough = omega (arith, need_is, pad_late); real = rw e refl; in_use = rw e (apart 3 uir_type refl); fixed = rw e (omega (arith, need_is, f)) }
       by_kind Z e f = record { enough = omega (arith, need_is, pad_late); real = rw e refl; in_use = rw e (apart 8 uir_type refl); fixed = rw e (omega (arith, need_is, f)) }
 
-  has : HasChain b c
-  has = has_variable_chain b s (sound good at).has_shape kind
+  module _ {late : List ℕ} {by : ℕ} (exchanged : Exchanged b late c body v by) where
+    abbrev pub made : MovesVdr b late kind own body by
+    made = record { exchanged = exchanged; type_is = type_is }
 
-  module _ {filled : List ℕ} {by : ℕ} (placed : Placed b filled body by) where
-    pub chain : HasChain filled c
-    chain = filled_has_chain b c body (sound good at) (holder_stands b kind) has type_is filled by placed
+    kept : Same exchanged.filled late (by + 20) (by + need)
+    kept = behind_link good at made
 
-    pub joins : MayJoin filled c by
-    joins = filled_joins b c body (sound good at) (holder_stands b kind) has type_is filled by placed
+    late_byte : (i : ℕ) → 20 ≤ i → i < place → (i < 44) ⊎ (48 ≤ i) → byte late (by + i) ≡ byte b (v + i)
+    late_byte i low high side = kept.each (by + i) (omega arith) (omega (arith, need_is)) ∙ ap (λ (x : List ℕ). byte x (by + i)) exchanged.placed.written ∙ bytes_copied b value v place n inside pad_late exchanged.placed.taken by exchanged.placed.inside i (omega arith) high side
 
-    pub same_members : members_of filled c ≡ members_of b c
-    same_members = filled_members b c body (sound good at) (holder_stands b kind) has type_is filled by placed
+    behind_flags : Copied b late v by 48 place
+    behind_flags = record { each = λ i l h. late_byte i (omega arith) h (inr l) }
 
-    pub member : is_in v (members_of filled c) ≡ true
-    member =
-        let among : In v (vdrs (shapes_of s kind)) = subst (λ (vs : List VariableShape). In v (vdrs vs)) (sym at.was) (in_middle before own after) in
-        is_in-true v (members_of filled c) (subst (In v) (sym (same_members ∙ variable_members b s (sound good at).has_shape kind)) among)
+    flags_now : number late by vdr_flags ≡ n
+    flags_now =
+        let first : word late (by + 44) 4 ≡ word exchanged.filled (by + 44) 4 = word_kept exchanged.filled late (by + 20) (by + need) kept (by + 44) 4 (omega arith) (omega (arith, need_is, pad_late)) in
+        first ∙ ap (λ (x : List ℕ). word x (by + 44) 4) exchanged.placed.written ∙ flags_there b value v place n inside pad_late exchanged.placed.taken by exchanged.placed.inside (small_flags (number b v vdr_flags) (word_fits b v 84 (v + 44) 4 read (omega arith) (omega arith)))
 
-    module _ {late : List ℕ} (replaced : Replaced filled late c v by) where
-      abbrev records : List ℕ
-      records = (shape filled).records
+    copied_there : VdrCopied b late v by
+    copied_there = record {
+      typed = by_type good at made ∙ sym (typed good at);
+      first = record { each = λ i l h. late_byte i l (omega (arith, pad_late)) (inl h) };
+      second = record { each = λ i l h. behind_flags.each i l (omega (arith, pad_late)) };
+      third = record { each = λ i l h. behind_flags.each i (omega arith) (omega (arith, pad_late)) };
+      behind = record { each = λ i l h. behind_flags.each i (omega arith) h };
+    }
 
-      abbrev list : List ℕ
-      list = (shape filled).unused
+    end_is : vdr_end late by ≡ need
+    end_is =
+        let f = pad_field_copied (file good at made) copied_there in
+        let bytes = value_copied (file good at made) copied_there in
+        let flag : has_pad late by ≡ true = ap (λ (k : ℕ). has_bit k 1) flags_now ∙ padded_1 (number b v vdr_flags) in
+        (λ i. (f i).place + (if flag i then bytes i else 0)) ∙ sym (need_is ∙ ap (λ (k : ℕ). place + k) sized)
 
-      fills : Fills b placed.taken filled s records list need by (type_in c)
-      fills = subst (λ (t : ℕ). Fills b placed.taken filled s records list need by t) type_is placed.fills
+    by_lies : by + need ≤ length exchanged.filled
+    by_lies = let high = exchanged.placed.inside in let l = exchanged.placed.fills.long in omega (arith, high, l)
 
-      abbrev members : List ℕ
-      members = members_of filled c
+    pub copies : CopiesVdr b late own body by
+    copies = record {
+      copied = copied_there;
+      num_is = word_copied behind_flags 68 4 (omega arith) (omega (arith, pad_late));
+      packed = ap (λ (k : ℕ). has_bit k 2) flags_now ∙ padded_2 (number b v vdr_flags);
+      ends = omega (arith, end_is);
+      larger = omega (arith, short, need_is);
+      name_is = ap (λ (xs : List ℕ). before_first (λ (x : ℕ). x == 0) xs) (piece_copied behind_flags 84 256 (omega arith) (omega (arith, pad_late)) (omega (arith, inside, pad_late)) (omega (arith, by_lies, exchanged.as_long, need_is, pad_late)));
+    }
 
-      t : LinkTests filled s.unused by need members kind
-      t = tests filled s.unused by need members kind
+    pub linked : Linked late v by
+    linked = record { sound_now = sound_late good at made copies; stands = old_in good at made copies; free = old_free good at made copies; long = let l = by_lies in let k = exchanged.as_long in omega (arith, need_is, pad_late, l, k) }
 
-      later : Edit filled late records records (moving filled s.unused by need members kind) []
-      later =
-          let grown = filled_sound (sound good at) fills in
-          replaced_edit filled c (subst (IsSound filled) (sym (shape_is filled (with_space s records list) grown.has_shape)) grown) (holder_stands filled kind) chain joins replaced
+    -- ---- the new VDR, with the bytes of its link
 
-      kept : Same filled late (by + 20) (by + need)
-      kept = made_part (sound good at) fills later replaced.length_stays t.lately 20 need (t.fields_clear need) (omega arith)
+    module _ (there : AreBytes late by 84) where
+      link_same : number late by next_field ≡ number b v next_field
+      link_same =
+          let h = (sound good at).has_shape in
+          let was = subst (λ (vs : List VariableShape). Leads b (number b s.gdr (head_of c)) (vdrs vs) 0) at.was (kind_chain kind h).leads in
+          same_link b late (next_of b v) (next_of late by) (vdrs after) (link_after b _ before own after was) (link_after late _ before (record own { vdr = by }) after (chain_late good at made).leads)
 
-      file : FileSame b late
-      file = file_same (sound good at) (made_edit (sound good at) fills later replaced.length_stays t.lately) t.file_clear
+      alike : (i : ℕ) → 12 ≤ i → i < place → (i < 44) ⊎ (44 + 4 ≤ i) → byte late (by + i) ≡ byte b (v + i)
+      alike i low high side = elim (cases_lt i 20) [
+        | inl l ↦ equal_bytes read there (v + 12) (by + 12) 8 (omega arith) (omega arith) (omega arith) (omega arith) link_same (i - 12) (by + i) (v + i) (omega arith) (omega arith) (omega arith)
+        | inr m ↦ late_byte i m high side
+      ]
 
-      late_byte : (i : ℕ) → 20 ≤ i → i < place → (i < 44) ⊎ (48 ≤ i) → byte late (by + i) ≡ byte b (v + i)
-      late_byte i low high side = kept.each (by + i) (omega arith) (omega (arith, need_is)) ∙ ap (λ (x : List ℕ). byte x (by + i)) placed.written ∙ bytes_copied b value v place n inside pad_late placed.taken by placed.inside i (omega arith) high side
-
-      behind_flags : Copied b late v by 48 place
-      behind_flags = record { each = λ i l h. late_byte i (omega arith) h (inr l) }
-
-      flags_now : number late by vdr_flags ≡ n
-      flags_now =
-          let first : word late (by + 44) 4 ≡ word filled (by + 44) 4 = word_kept filled late (by + 20) (by + need) kept (by + 44) 4 (omega arith) (omega (arith, need_is, pad_late)) in
-          first ∙ ap (λ (x : List ℕ). word x (by + 44) 4) placed.written ∙ flags_there b value v place n inside pad_late placed.taken by placed.inside (small_flags (number b v vdr_flags) (word_fits b v 84 (v + 44) 4 read (omega arith) (omega arith)))
-
-      copied_there : VdrCopied b late v by
-      copied_there = record {
-        typed = made_type (sound good at) fills later replaced.length_stays t.lately ∙ sym (typed good at);
-        first = record { each = λ i l h. late_byte i l (omega (arith, pad_late)) (inl h) };
-        second = record { each = λ i l h. behind_flags.each i l (omega (arith, pad_late)) };
-        third = record { each = λ i l h. behind_flags.each i (omega arith) (omega (arith, pad_late)) };
-        behind = record { each = λ i l h. behind_flags.each i (omega arith) h };
+      pub holds : HoldsPad b late v by need value
+      holds = record {
+        alike = λ i low high out. alike i low high out.0;
+        flags_are = flags_now;
+        pad_is =
+            let wide : (pad_field b v).width ≡ length value = pad_width (is_z b v) (dimensions_at b v) (value_bytes b v) ∙ sym sized in
+            let first : take (length value) (drop (by + place) late) ≡ take (length value) (drop (by + place) exchanged.filled) = piece_kept exchanged.filled late (by + 20) (by + need) kept (by + place) (length value) (omega (arith, pad_late)) (omega (arith, need_is)) by_lies (omega (arith, exchanged.as_long)) in
+            ap (λ (k : ℕ). take k (drop (by + place) late)) wide ∙ first ∙ ap (λ (x : List ℕ). take (length value) (drop (by + place) x)) exchanged.placed.written ∙ value_there b value v place n inside pad_late exchanged.placed.taken by exchanged.placed.inside;
+        whole = end_is;
+        short = omega (arith, short, need_is);
       }
-
-      end_is : vdr_end late by ≡ need
-      end_is =
-          let f = pad_field_copied file copied_there in
-          let bytes = value_copied file copied_there in
-          let flag : has_pad late by ≡ true = ap (λ (k : ℕ). has_bit k 1) flags_now ∙ padded_1 (number b v vdr_flags) in
-          (λ i. (f i).place + (if flag i then bytes i else 0)) ∙ sym (need_is ∙ ap (λ (k : ℕ). place + k) sized)
-
-      by_lies : by + need ≤ length filled
-      by_lies = let high = placed.inside in let l = placed.fills.long in omega (arith, high, l)
-
-      pub moves : MovesVdr b late kind own body by
-      moves = record {
-        filled = filled;
-        placed = placed;
-        type_is = type_is;
-        joins = joins;
-        replaced = replaced;
-        copied = copied_there;
-        num_is = word_copied behind_flags 68 4 (omega arith) (omega (arith, pad_late));
-        packed = ap (λ (k : ℕ). has_bit k 2) flags_now ∙ padded_2 (number b v vdr_flags);
-        ends = omega (arith, end_is);
-        larger = omega (arith, short, need_is);
-        name_is = ap (before_first (λ (x : ℕ). x == 0)) (piece_copied behind_flags 84 256 (omega arith) (omega (arith, pad_late)) (omega (arith, inside, pad_late)) (omega (arith, by_lies, replaced.length_stays, need_is, pad_late)));
-      }
-
-      pub linked : Linked late v by
-      linked = record { sound_now = sound_late good at moves; stands = old_in good at moves; free = old_free good at moves; long = let l = by_lies in let k = replaced.length_stays in omega (arith, need_is, pad_late, l, k) }
-
-      -- ---- the new VDR, with the bytes of its link
-
-      module _ (there : AreBytes late by 84) where
-        link_same : number late by next_field ≡ number b v next_field
-        link_same =
-            let h = (sound good at).has_shape in
-            let was = subst (λ (vs : List VariableShape). Leads b (number b s.gdr (head_of c)) (vdrs vs) 0) at.was (kind_chain kind h).leads in
-            same_link b late (next_of b v) (next_of late by) (vdrs after) (link_after b _ before own after was) (link_after late _ before (record own { vdr = by }) after (chain_late good at moves).leads)
-
-        alike : (i : ℕ) → 12 ≤ i → i < place → (i < 44) ⊎ (44 + 4 ≤ i) → byte late (by + i) ≡ byte b (v + i)
-        alike i low high side = elim (cases_lt i 20) [
-          | inl l ↦ equal_bytes read there (v + 12) (by + 12) 8 (omega arith) (omega arith) (omega arith) (omega arith) link_same (i - 12) (by + i) (v + i) (omega arith) (omega arith) (omega arith)
-          | inr m ↦ late_byte i m high side
-        ]
-
-        pub holds : HoldsPad b late v by need value
-        holds = record {
-          alike = λ i low high out. alike i low high out.0;
-          flags_are = flags_now;
-          pad_is =
-              let wide : (pad_field b v).width ≡ length value = pad_width (is_z b v) (dimensions_at b v) (value_bytes b v) ∙ sym sized in
-              let first : take (length value) (drop (by + place) late) ≡ take (length value) (drop (by + place) filled) = piece_kept filled late (by + 20) (by + need) kept (by + place) (length value) (omega (arith, pad_late)) (omega (arith, need_is)) by_lies (omega (arith, replaced.length_stays)) in
-              ap (λ (k : ℕ). take k (drop (by + place) late)) wide ∙ first ∙ ap (λ (x : List ℕ). take (length value) (drop (by + place) x)) placed.written ∙ value_there b value v place n inside pad_late placed.taken by placed.inside;
-          whole = end_is;
-          short = omega (arith, short, need_is);
-        }
 
 -- ---- what the calls ask for that put it in the place of one
-
--- the image in which the new VDR stands, and the old one is a member still
-pub record Ready (b filled : List ℕ) (kind : Kind) (chain : Chain) (old by : ℕ) : Type 0 where
-  pub holder : HolderStands filled chain
-  pub has : HasChain filled chain
-  pub member : is_in old (members_of filled chain) ≡ true
-  pub joins : MayJoin filled chain by
-  pub same : members_of filled chain ≡ members_of b (variables_chain kind)
 
 module _ {b body : List ℕ} {kind : Kind} {old : ℕ} (good : Good b) (vdr : IsVdr b kind old) (p : IsPadded b old body) where
   pub may_place : IsBody body
   may_place = subst IsBody (sym p.is) (is_body p.bytes good (vdr_at good vdr) p.long p.short p.read)
 
-  module _ {filled : List ℕ} {by : ℕ} (placed : Placed b filled body by) {which : Chain} (is : which ≡ variables_chain kind) where
-    stands : Placed b filled (padded_body b old p.bytes) by
-    stands = subst (λ (x : List ℕ). Placed b filled x by) p.is placed
+  pub of_chain : type_of_body body ≡ type_in (variables_chain kind)
+  of_chain = ap type_of_body p.is ∙ type_is p.bytes good (vdr_at good vdr) p.long p.short p.read
 
-    pub ready : Ready b filled kind which old by
-    ready = subst (λ (x : Chain). Ready b filled kind x old by) (sym is) (record {
-      holder = holder_stands filled kind;
-      has = chain p.bytes good (vdr_at good vdr) p.long p.short p.read stands;
-      member = member p.bytes good (vdr_at good vdr) p.long p.short p.read stands;
-      joins = joins p.bytes good (vdr_at good vdr) p.long p.short p.read stands;
-      same = same_members p.bytes good (vdr_at good vdr) p.long p.short p.read stands;
-    })
+  pub is_member : is_in old (members_of b (variables_chain kind)) ≡ true
+  is_member =
+      let among : In old (vdrs (shapes_of (shape b) kind)) = subst (λ (vs : List VariableShape). In old (vdrs vs)) (sym vdr.was) (in_middle vdr.before (vdr_own good vdr) vdr.after) in
+      is_in-true old _ (subst (In old) (sym (variable_members b (shape b) (good_is_sound b good).has_shape kind)) among)
 
-    -- after a call that reads
-    pub then_linked : {now late : List ℕ} → Replaced filled now which old by → late ≡ now → Linked late old by
-    then_linked {now = now} replaced same = subst (λ (x : List ℕ). Linked x old by) (sym same) (linked p.bytes good (vdr_at good vdr) p.long p.short p.read stands (subst (λ (x : Chain). Replaced filled now x old by) is replaced))
+  -- after a call that reads
+  pub then_linked : {now late : List ℕ} {by : ℕ} {which : Chain} → which ≡ variables_chain kind → Exchanged b now which body old by → late ≡ now → Linked late old by
+  then_linked {now = now} {by = by} is exchanged same =
+      subst (λ (x : List ℕ). Linked x old by) (sym same) (linked p.bytes good (vdr_at good vdr) p.long p.short p.read (subst (λ (x : List ℕ). Exchanged b now (variables_chain kind) x old by) p.is (subst (λ (x : Chain). Exchanged b now x body old by) is exchanged)))
 
 -- ---- at an index of the places of its kind
 

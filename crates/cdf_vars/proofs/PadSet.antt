@@ -43,7 +43,7 @@ use Rattle.cdf_edits.proofs.Commands.Answered.{gone, too_large}
 use Rattle.cdf_edits.proofs.Commands.ListParts.{got-middle}
 use Rattle.cdf_edits.proofs.Edits.FreedVdr.{as_long_now, freed_acts, freed_content, freed_edit, freed_good, freed_is, freed_keep}
 use Rattle.cdf_edits.proofs.Edits.MadeRecord.{shorter}
-use Rattle.cdf_edits.proofs.Edits.MovedVdr.{MovesVdr, as_long, fills, lately, later, need, own'}
+use Rattle.cdf_edits.proofs.Edits.MovedVdr.{CopiesVdr, MovesVdr, as_long, fills, lately, later, need, own'}
 use Rattle.cdf_edits.proofs.Edits.PadMoved.{HoldsPad, moved_sets_pad, pad_means}
 use Rattle.cdf_edits.proofs.Edits.PadWritten.{WritesPad, edits, meaning, pads_in_place}
 use Rattle.cdf_edits.proofs.Edits.VariableKinds.{with_shapes}
@@ -58,7 +58,7 @@ use Rattle.cdf_vars.specs.declared.padding.PadRequest.TheVariants.{Put}
 use Rattle.cdf_vars.specs.declared.vars.VarId.{VarId}
 use Rattle.cdf_vars.specs.Known.{Known, Knows, known_of}
 use Rattle.cdf_vars.specs.Padding.{IsRequest, MayPad, MovedTo, Moves, padded_body, padded_flags}
-use Rattle.cdf_vars.proofs.PadMoved.{holds, moves, need_is, small_flags}
+use Rattle.cdf_vars.proofs.PadMoved.{copies, holds, made, need_is, small_flags}
 use Rattle.cdf_vars.proofs.VariableChanged.{follows_still, knows_still, knows_with, of_found, own_known, may_keep, may_named, same_names, stands_there, still_there, with_known}
 use Rattle.cdf_vars.proofs.VariableFound.{Parts, the_parts, within_places}
 
@@ -207,22 +207,25 @@ module _ {b : List ℕ} (name : List ℕ) (words : List (List ℕ)) {known : Kno
     short : size_at b v < (pad_field b v).place + length bytes
     short = omega (arith, less, place.size_is, place.at_is)
 
-    linked : MovesVdr b mv.late id.kind parts.own (padded_body b v bytes) m.by
-    linked = moves bytes good parts.at long short place.bytes mv.placed mv.replaced
+    abbrev linked : MovesVdr b mv.late id.kind parts.own (padded_body b v bytes) m.by
+    linked = made bytes good parts.at long short place.bytes mv.exchanged
+
+    says : CopiesVdr b mv.late parts.own (padded_body b v bytes) m.by
+    says = copies bytes good parts.at long short place.bytes mv.exchanged
 
     held : HoldsPad b mv.late v m.by (8 + length (padded_body b v bytes)) bytes
-    held = holds bytes good parts.at long short place.bytes mv.placed mv.replaced mv.read
+    held = holds bytes good parts.at long short place.bytes mv.exchanged mv.read
 
     abbrev acts : List Act
     acts = Took m.by (need good parts.at linked) ∷ Gave v (size_at b v) ∷ []
 
     content_moved : content now ≡ with_variable (content b) mine padded
-    content_moved = freed_content good parts.at linked mv.gives ∙ ap (with_variable (content b) mine) (pad_means good parts.at linked mv.gives held ∙ (λ i. record (variable_of b parts.own) { pad = turns i }))
+    content_moved = freed_content good parts.at linked says mv.gives ∙ ap (with_variable (content b) mine) (pad_means good parts.at linked says mv.gives held ∙ (λ i. record (variable_of b parts.own) { pad = turns i }))
 
     there_now : slice_get (shapes_of (shape now) id.kind) (length parts.before) ≡ Some (own' good parts.at linked)
-    there_now = ap (λ (s : Shape). slice_get (shapes_of s id.kind) (length parts.before)) (freed_is good parts.at linked mv.gives) ∙ of_kind id.kind ∙ got-middle parts.before (own' good parts.at linked) parts.after
+    there_now = ap (λ (s : Shape). slice_get (shapes_of s id.kind) (length parts.before)) (freed_is good parts.at linked says mv.gives) ∙ of_kind id.kind ∙ got-middle parts.before (own' good parts.at linked) parts.after
       where
-        of_kind : (k : Kind) → slice_get (shapes_of (with_shapes (shape b) k (shape linked.filled).records (shape now).unused (parts.before ++ own' good parts.at linked ∷ parts.after)) k) (length parts.before) ≡ slice_get (parts.before ++ own' good parts.at linked ∷ parts.after) (length parts.before)
+        of_kind : (k : Kind) → slice_get (shapes_of (with_shapes (shape b) k (shape mv.exchanged.filled).records (shape now).unused (parts.before ++ own' good parts.at linked ∷ parts.after)) k) (length parts.before) ≡ slice_get (parts.before ++ own' good parts.at linked ∷ parts.after) (length parts.before)
         of_kind R = refl
         of_kind Z = refl
 
@@ -232,24 +235,24 @@ module _ {b : List ℕ} (name : List ℕ) (words : List (List ℕ)) {known : Kno
         let body_is : 8 + length (padded_body b v bytes) ≡ (pad_field b v).place + length bytes = need_is bytes good parts.at long short place.bytes in
         let same = place.at_is in
         let grown = shorter (sound good parts.at) (fills good parts.at linked) (later good parts.at linked) (as_long good parts.at linked) (lately good parts.at linked) in
-        let as_long = as_long_now good parts.at linked mv.gives in
+        let as_long = as_long_now good parts.at linked says mv.gives in
         gone limit b (SetPad name words) _ Plain now goes (omega (arith, size, under, fit)) (record {
           reply = Plain;
           goes = goes ∙ ap (λ (d : DataSet). ByStep (Go d Plain)) (sym content_moved);
-          good = freed_good good parts.at linked mv.gives (omega (arith, grown, body_is, same, under, fit, above));
-          longer = (freed_edit good parts.at linked mv.gives).longer;
+          good = freed_good good parts.at linked says mv.gives (omega (arith, grown, body_is, same, under, fit, above));
+          longer = (freed_edit good parts.at linked says mv.gives).longer;
           within = omega (arith, as_long, grown, body_is, same, size);
           reads = λ e. absurd (true≢false (sym e));
           acts = acts;
           takes_within = omega (arith, body_is, same, size);
-          acts_follow = freed_acts good parts.at linked mv.gives;
-          keeps = subst (λ (a : Allowances). AllKeep b now a acts (owned b (shape b))) (sym (may_named name good knows may.found (set_pad_changes b (shape b)))) (freed_keep good parts.at linked mv.gives mine refl refl);
-          does = of_found name good knows may.found (λ u u'. SetsPad b now u.vdr u'.vdr acts) there_now (moved_sets_pad good parts.at linked mv.gives held);
+          acts_follow = freed_acts good parts.at linked says mv.gives;
+          keeps = subst (λ (a : Allowances). AllKeep b now a acts (owned b (shape b))) (sym (may_named name good knows may.found (set_pad_changes b (shape b)))) (freed_keep good parts.at linked says mv.gives mine refl refl);
+          does = of_found name good knows may.found (λ u u'. SetsPad b now u.vdr u'.vdr acts) there_now (moved_sets_pad good parts.at linked says mv.gives held);
         })
 
     pub moved_knows : {kind : Kind} → id.kind ≡ kind → places ≡ (known_of known kind).places → num ≡ id.num → Knows now (with_known known kind (record (known_of known kind) { places = places' }))
     moved_knows of old at =
         let places_are = (own_known name good knows may.found).places_are ∙ ap vdrs parts.at.was in
         subst (λ (k : Kind). Knows now (with_known known k (record (known_of known k) { places = places' }))) of
-        (knows_with _ _ knows id.kind content_moved (freed_is good parts.at linked mv.gives) (same_names name good knows may.found padded refl)
+        (knows_with _ _ knows id.kind content_moved (freed_is good parts.at linked says mv.gives) (same_names name good knows may.found padded refl)
         (m.places_are ∙ (λ i. slice_set (old i) (at i) m.by) ∙ (λ i. slice_set (known_of known (sym of i)).places (sym parts.count i) m.by) ∙ ap (λ (xs : List ℕ). slice_set xs (length parts.before) m.by) places_are ∙ sym (vdrs_set parts.before parts.own (own' good parts.at linked) parts.after)))
