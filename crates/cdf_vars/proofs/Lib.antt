@@ -7,8 +7,6 @@ pub mod RemovalRecords
 pub mod RemovalSteps
 pub mod VariableChains
 pub mod VariableFound
-pub mod VariableChanged
-pub mod PadMoved
 pub mod PadSet
 pub mod VariableNames
 pub mod VariablesRead

@@ -6,7 +6,7 @@ use Rattle.cdf_format.specs.Chains.{is_in}
 use Rattle.cdf_format.specs.Shape.{shape}
 use Rattle.cdf_edits.specs.Space.Chains.{HasChain, HolderStands, before, members_of, type_in}
 use Rattle.cdf_edits.specs.declared.chain.Chain.{Chain}
-use Rattle.cdf_vars.proofs.PadMoved.{is_member, may_place, of_chain, then_linked}
+use Rattle.cdf_vars.proofs.PadSet.{is_member, may_place, of_chain, then_linked}
 use Rattle.cdf_vars.proofs.VariableChains.{has_variable_chain, holder_stands}
 use Rattle.cdf_vars.proofs.pad_record.replace_vdr.Goals as goal
 
