@@ -24,7 +24,6 @@ use Rattle.cdf_format.specs.Rules.{Hold}
 use Rattle.cdf_format.specs.Shape.{VariableShape, Shape, vdrs, variables, Each, HasShape, shape}
 use Rattle.cdf_format.specs.Sound.{IsSound}
 use Rattle.cdf_format.specs.Tiles.{In}
-use Rattle.cdf_format.specs.VariableRules.{vdr_end}
 use Rattle.cdf_format.specs.WellFormed.{Good}
 use Rattle.cdf_format.proofs.ChainsLemmas.{is_a-in, is_a-type}
 use Rattle.cdf_format.proofs.GoodByShape.{IsGoodByShape}
@@ -54,6 +53,7 @@ use Rattle.cdf_edits.proofs.Commands.ListParts.{got-middle}
 use Rattle.cdf_edits.proofs.Edits.EditActs.{acts_took}
 use Rattle.cdf_edits.proofs.Edits.MadeRecord.{place_in, filled_sound, filled_size, unowned, made_edit, made_part, made_type, made_size, shorter, end_now, list_chain, made_keeps_unused}
 use Rattle.cdf_edits.proofs.Edits.MarkLemmas.{the_one, unmarked-away}
+use Rattle.cdf_edits.proofs.Edits.MovedVdr.{holder_is}
 use Rattle.cdf_edits.proofs.Edits.OwnedOnce.{used_times, IsSorted, all_attributes_in, owned_once_if}
 use Rattle.cdf_edits.proofs.Edits.OwnersKept.{stood, keeps_fields, keeps_away, keep_file, keep_all}
 use Rattle.cdf_edits.proofs.Edits.RecordFrame.{VariableLives, file_same, gdr_place}
@@ -72,7 +72,7 @@ use Rattle.cdf_edits.proofs.Commands.Answered.{gone, too_large}
 use Rattle.cdf_model.specs.declared.answer.Outcome.TheVariants.{Done, Refused}
 use Rattle.cdf_model.specs.declared.answer.Reason.TheVariants.{TooLarge}
 use Rattle.cdf_vars.proofs.NewVdr.{IsNewVdr, IsShaped, Shares, bare_variable, end_is, has, length-body, means, name_is, ruled, shaped, type_in_body, varys_written, vdr_is_body, vdr_written}
-use Rattle.cdf_vars.proofs.VariableChanged.{kind_with, others_with}
+use Rattle.cdf_vars.proofs.VariableFound.{kind_with, others_with}
 use Rattle.cdf_vars.proofs.VariableNames.{absent_from}
 
 -- ---- what the marks leave, by the kind
@@ -96,10 +96,6 @@ clears b unused R place need = record { lately = refl; behind = refl; file = ref
 clears b unused Z place need = record { lately = refl; behind = refl; file = refl; attributes = refl; other = refl; indexes = refl; cdr = refl; gdr = refl; gdr_head = refl; vdr = refl; vdr_head = refl; others = refl }
 
 -- ---- what is said by the kind
-
-holder_is : (b : List ℕ) (kind : Kind) → holder_of b (variables_chain kind) ≡ gdr_offset b
-holder_is b R = refl
-holder_is b Z = refl
 
 real_type : (kind : Kind) (n d : ℕ) → n ≡ vdr_bytes kind d → (is_record_type (vdr_type kind) ≡ true) × (fixed_size (vdr_type kind) ≤ n)
 real_type R n d e = (refl, omega arith)
@@ -132,6 +128,9 @@ does_from b now Z v acts m = m
 no_reading : (kind : Kind) (v : NewVariable) → only_reads (making kind v) ≡ true → ⊥
 no_reading R v e = absurd cc
 no_reading Z v e = absurd cc
+
+swap : (n : ℕ) → n + 0 ≡ 0 + n
+swap n = omega arith
 
 bare_records : (place : ℕ) → flat_map variable_records (bare_variable place ∷ []) ≡ place ∷ []
 unfolding nodes_of leaves_of
@@ -217,36 +216,30 @@ module _ (b : List ℕ) (kind : Kind) (v : NewVariable) (limit : ℕ) (image : G
         subst (λ (n : ℕ). Fills b added.placed.taken added.filled s records list n place (vdr_type kind)) (length-body kind v num short is)
         (subst (λ (t : ℕ). Fills b added.placed.taken added.filled s records list (8 + length body) place t) (type_in_body kind v num short is) added.placed.fills)
 
-    later : Edit added.filled now records records late []
-    later = added.linked
-
-    as_long : length now ≡ length added.filled
-    as_long = added.as_long
-
     gdr_is : holder_of b (variables_chain kind) ≡ s.gdr
-    gdr_is = holder_is b kind ∙ h.gdr_is
+    gdr_is = holder_is kind b ∙ h.gdr_is
 
     chain : IsChain now records (type_in (variables_chain kind)) (number now s.gdr (head_of (variables_chain kind))) (vdrs own ++ place ∷ [])
     chain = subst (λ (g : ℕ). IsChain now records (type_in (variables_chain kind)) (number now g (head_of (variables_chain kind))) (vdrs own ++ place ∷ [])) gdr_is
         (subst (λ (ms : List ℕ). IsChain now records (type_in (variables_chain kind)) (number now (holder_of b (variables_chain kind)) (head_of (variables_chain kind))) (ms ++ place ∷ [])) (variable_members b s h kind) added.chain)
 
     e : Edit b now s.records records marks (place ∷ [])
-    e = made_edit sound fills later as_long clear.lately
+    e = made_edit sound fills added.linked added.as_long clear.lately
 
     lives : Each (VariableLives b now) (variables s)
     lives = clear_live sound e clear.indexes
 
     new_type : type_at now place ≡ vdr_type kind
-    new_type = made_type sound fills later as_long clear.lately
+    new_type = made_type sound fills added.linked added.as_long clear.lately
 
     new_size : size_at now place ≡ need
-    new_size = made_size sound fills later as_long clear.lately
+    new_size = made_size sound fills added.linked added.as_long clear.lately
 
     new : IsNewVdr now place kind v num
     new =
         let lies = tile_lies added.filled 8 (length added.filled) records place (filled_sound sound fills).has_shape.tiled (place_in sound fills) in
-        vdr_written kind v num short is added.placed few (made_part sound fills later as_long clear.lately 20 need clear.behind (itself need))
-        (subst (λ (n : ℕ). place + n ≤ length added.filled) (filled_size sound fills) lies.high) (omega (arith, as_long))
+        vdr_written kind v num short is added.placed few (made_part sound fills added.linked added.as_long clear.lately 20 need clear.behind (itself need))
+        (subst (λ (n : ℕ). place + n ≤ length added.filled) (filled_size sound fills) lies.high) (omega (arith, added.as_long))
       where
         itself : (n : ℕ) → n ≤ n
         itself n = omega arith
@@ -280,7 +273,7 @@ module _ (b : List ℕ) (kind : Kind) (v : NewVariable) (limit : ℕ) (image : G
       typed = λ m i. subst (λ (x : ℕ). (is_record_type (type_at now x) ≡ true) × (fixed_size (type_at now x) ≤ size_at now x)) (sym (the_one place m i))
           (subst (λ (t : ℕ). (is_record_type t ≡ true) × (fixed_size t ≤ size_at now place)) (sym new_type) (real_type kind (size_at now place) (length v.dims) new_size));
       variable_chain = subst (IsChain now records (type_in (variables_chain kind)) (number now s.gdr (head_of (variables_chain kind)))) (sym vdrs_are) chain;
-      unused_chain = list_chain sound fills later as_long clear.lately;
+      unused_chain = list_chain sound fills added.linked added.as_long clear.lately;
       own_have = (has new is new_type shares records new_size, tt);
     }
 
@@ -308,9 +301,6 @@ module _ (b : List ℕ) (kind : Kind) (v : NewVariable) (limit : ℕ) (image : G
       where
         once : (x y n : ℕ) → x + 0 ≡ y + n → y ≡ 0 → n ≡ 1 → x ≡ 1
         once x y n p q r = omega arith
-
-        swap : (n : ℕ) → n + 0 ≡ 0 + n
-        swap n = omega arith
     sorted m (inr none) = absurd none
 
     beside : (m : ℕ) → (In m (place ∷ []) → ⊥) → used_times made m ≡ used_times s m
@@ -321,9 +311,6 @@ module _ (b : List ℕ) (kind : Kind) (v : NewVariable) (limit : ℕ) (image : G
       where
         same : (x y n : ℕ) → x + 0 ≡ y + n → n ≡ 0 → x ≡ y
         same x y n p q = omega arith
-
-        swap : (n : ℕ) → n + 0 ≡ 0 + n
-        swap n = omega arith
 
     count_now : number now (gdr_offset now) (count_of (variables_chain kind)) ≡ length (vdrs own) + 1
     count_now =
@@ -362,12 +349,9 @@ module _ (b : List ℕ) (kind : Kind) (v : NewVariable) (limit : ℕ) (image : G
         let of_variables = keep_kind sound e records_are may acts (λ k n m i. linked k m i) lives in
         keep_all b now may acts (keep_file b now may acts sound cdr gdr)
         (keep_attributes b now may acts 0 s.attributes (λ m i. stood sound e records_are m (all_attributes_in sound m i) (attributes_kept sound splices m i)))
-        (of_variables R) (of_variables Z) (made_keeps_unused sound fills later as_long clear.lately records_are may)
+        (of_variables R) (of_variables Z) (made_keeps_unused sound fills added.linked added.as_long clear.lately records_are may)
 
     -- ---- what it makes
-
-    ended : vdr_end now place ≡ need
-    ended = end_is new is new_type shares
 
     made_of : (kind : Kind) (x : Shape) → shapes_of (with_shapes x kind records list (shapes_of x kind ++ bare ∷ [])) kind ≡ shapes_of x kind ++ bare ∷ []
     made_of R x = refl
@@ -377,7 +361,7 @@ module _ (b : List ℕ) (kind : Kind) (v : NewVariable) (limit : ℕ) (image : G
     makes = record {
       made = bare;
       made_last = subst (λ (vs : List VariableShape). slice_get vs (length own) ≡ Some bare) (sym (ap (λ (x : Shape). shapes_of x kind) now_is ∙ made_of kind s)) (got-middle own bare []);
-      acts_are = ap (λ (n : ℕ). Took place n ∷ []) (sym ended);
+      acts_are = ap (λ (n : ℕ). Took place n ∷ []) (sym (end_is new is new_type shares));
       says = (new.says.1.1.1.0, (new.says.1.1.1.1.0, (new.says.1.1.1.1.1.1.0, (new.says.1.1.1.1.1.1.1.0, (new.says.1.1.1.1.1.1.1.1.0, (new.says.1.1.1.1.1.1.1.1.1.1.1.0, tt))))));
       named = new.filled;
       varys_are = varys_written new is new_type shares;
@@ -386,18 +370,18 @@ module _ (b : List ℕ) (kind : Kind) (v : NewVariable) (limit : ℕ) (image : G
     pub follows : is_among v.name (variable_names (content b)) ≡ false → Follows b (making kind v) now
     follows free =
         let rules = own_rules free in
-        let longest = shorter sound fills later as_long clear.lately in
+        let longest = shorter sound fills added.linked added.as_long clear.lately in
         let size = room_is b kind v dims in
         record {
           reply = Plain;
           goes = step_is b kind v dims ∙ rw (well_named, free, fine) (ap (λ (d : DataSet). ByStep (Go d Plain)) (sym content_is_made));
-          good = good_image_if sound splices (sealed_kept b (good_long b s good) (rules_of_good b image)).0 good rules (end_now sound fills later as_long clear.lately) (omega arith);
+          good = good_image_if sound splices (sealed_kept b (good_long b s good) (rules_of_good b image)).0 good rules (end_now sound fills added.linked added.as_long clear.lately) (omega arith);
           longer = e.longer;
           within = subst (λ (n : ℕ). length now ≤ length b + n) (sym size) longest;
           reads = λ q. absurd (no_reading kind v q);
           acts = acts;
           takes_within = subst (λ (n : ℕ). 0 + need ≤ n) (sym size) (none need);
-          acts_follow = acts_took sound fills later as_long clear.lately records_are (ap (λ (x : Shape). x.unused) now_is);
+          acts_follow = acts_took sound fills added.linked added.as_long clear.lately records_are (ap (λ (x : Shape). x.unused) now_is);
           keeps = subst (λ (a : Allowances). AllKeep b now a acts (owned b s)) (sym (may_is b kind v)) keeps;
           does = does_from b now kind v acts makes;
         }

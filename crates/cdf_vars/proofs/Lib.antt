@@ -4,8 +4,6 @@ pub mod NewVdr
 pub mod RemovalAnswers
 pub mod VariableChains
 pub mod VariableFound
-pub mod VariableChanged
-pub mod PadMoved
 pub mod PadSet
 pub mod VariableNames
 pub mod PadValues

@@ -1,16 +1,58 @@
--- The command `set-pad`: what it answers, and what is kept of the variables, where the pad value is written in the VDR, and where that moves.
-use Rattle.std.proofs.Common.{◌≡◌, ◌⊎◌, ℕ, ◌+◌, ◌-◌, ◌*◌, ◌^◌, ◌<◌, ◌≤◌, List, [], ◌∷◌, ◌++◌, length, take, drop, Option, Some, None, Ok, true≢false, refl, sym, ap, ap₂, subst, ◌∙◌, arith, inl, inr}
-use Rattle.std.proofs.lemmas.List.{take_at}
-use Rattle.std.specs.List.{slice_get}
-use Rattle.std.specs.Prelude.{slice_set}
+-- The command `set-pad`: the bytes of a VDR with a pad value, the one that takes the place of the old one where that has no room for it, what the command answers, and what is kept of the variables.
+use Rattle.std.proofs.Common.{◌≡◌, ◌⊎◌, ℕ, ◌+◌, ◌-◌, ◌^◌, ◌<◌, ◌≤◌, List, [], ◌∷◌, ◌++◌, length, take, drop, refl, sym, ap, ◌∙◌, append_assoc, arith, inl, inr, zero, suc, ◌*◌, true, subst, None, eq-eqb, Option, Some, Ok, true≢false, ap₂}
+use Rattle.std.proofs.lemmas.List.{take_all, length-append, length-map, length-take, length-drop, get_or-drop, get_or-take, get_or_append_left, ext_get_or, take_at, drop_at, drop-drop}
+use Rattle.byteorder.specs.Endian.{big_bytes}
+use Rattle.byteorder.specs.Numbers.{length-bytes_high_first}
 use Rattle.cdf_base.specs.Bytes.{put}
+use Rattle.cdf_fields.proofs.Writes.{drop-put_there, word-put_number, field_reads, length-with_field, other_bytes, word-put_outside}
+use Rattle.cdf_format.specs.Bytes.{byte, Same}
+use Rattle.cdf_format.specs.Fields.{word, number, has_bit, size_at, LiesIn, with_field}
+use Rattle.cdf_format.proofs.BytesLemmas.{length-put, byte-put_before, byte-put_inside, byte-put_after, piece_kept, word_kept}
+use Rattle.cdf_edits.proofs.Frame.VdrCopied.{Copied, word_copied, VdrCopied, pad_field_copied, value_copied}
+use Rattle.std.specs.List.{before_first, last_or, slice_get}
+use Rattle.std.specs.Prelude.{◌==◌, if◌then◌else◌, slice_index, slice_set}
+use Rattle.cdf_model.specs.declared.kinds.Kind.{Kind}
+use Rattle.cdf_model.specs.declared.kinds.Kind.TheVariants.{R, Z}
+use Rattle.cdf_format.specs.Chains.{Leads, next_of, next_field, is_in}
+use Rattle.cdf_format.specs.Records.{vdr_flags}
+use Rattle.cdf_format.specs.Shape.{VariableShape, Shape, vdrs, shape}
+use Rattle.cdf_format.specs.Sound.{IsSound}
+use Rattle.cdf_format.specs.VariableFields.{dimensions_at, has_pad, is_z, pad_field, value_bytes, dims_at, elems_at, type_of_variable}
+use Rattle.cdf_format.specs.VariableRules.{vdr_end}
+use Rattle.cdf_format.specs.WellFormed.{Good}
+use Rattle.cdf_edits.specs.Commands.Allowances.{shapes_of, AllKeep, Allowances, Anything, stays_own}
+use Rattle.cdf_edits.specs.Space.Adding.{Exchanged}
+use Rattle.cdf_edits.specs.Space.Chains.{head_of, members_of, type_in, before}
+use Rattle.cdf_edits.specs.Space.Placing.{type_of_body, IsBody}
+use Rattle.cdf_edits.specs.Space.VariableChains.{variables_chain}
+use Rattle.cdf_edits.specs.declared.chain.Chain.{Chain}
+use Rattle.cdf_edits.proofs.Edits.MovedVdr.{CopiesVdr, MovesVdr, behind_link, by_type, chain_late, file, old_free, old_in, sound_late, as_long, fills, lately, later, own'}
+use Rattle.cdf_edits.proofs.Edits.PadMoved.{HoldsPad, moved_sets_pad, pad_means}
+use Rattle.cdf_edits.proofs.Edits.PadWritten.{padded_1, padded_2, WritesPad, edits, meaning, pads_in_place}
+use Rattle.cdf_edits.proofs.Edits.VariableKinds.{kind_chain, with_shapes}
+use Rattle.cdf_edits.proofs.Edits.VdrEdited.{StandsAmong, sound, typed, in_middle, fits, tile}
+use Rattle.cdf_edits.proofs.Frame.Meaning.{pad_long, pad_width}
+use Rattle.cdf_records.specs.Pieces.{AreBytes}
+use Rattle.cdf_records.proofs.Places.{word_fits}
+use Rattle.cdf_vars.proofs.VariableChains.{has_variable_chain, variable_members}
+use Rattle.cdf_format.specs.Owners.{owned_records, times, owned}
+use Rattle.cdf_format.specs.RecordTypes.{uir_type}
+use Rattle.cdf_format.specs.Tiles.{In, Distinct}
+use Rattle.cdf_format.proofs.Members.{is_in-true}
+use Rattle.cdf_edits.specs.Commands.Room.{vdr_bytes, room}
+use Rattle.cdf_edits.proofs.Space.UsedRecords.{apart}
+use Rattle.cdf_var_records.specs.Descriptors.{IsVdr, IsPlace}
+use Rattle.cdf_vars.specs.Padding.{IsPadded, padded_body, IsRequest, MayPad, MovedTo, Moves, padded_flags}
+use Rattle.cdf_var_records.proofs.VdrParts.{pad_place, at as vdr_at, inside as vdr_inside, own as vdr_own, dims_long}
+use Rattle.std.proofs.lemmas.Bool.{cases_lt, ne_eqb}
+use Rattle.cdf_format.proofs.GoodSound.{good_is_sound}
+use Rattle.cdf_edits.proofs.Commands.ListParts.{Cut, cut, got-middle}
+use Rattle.cdf_var_records.specs.declared.pad_place.PadPlace.{PadPlace}
 use Rattle.cdf_model.specs.declared.answer.Outcome.TheVariants.{Done, Refused}
 use Rattle.cdf_model.specs.declared.answer.Reason.TheVariants.{TooLarge}
 use Rattle.cdf_model.specs.declared.answer.Reply.TheVariants.{Plain}
 use Rattle.cdf_model.specs.declared.command.Command.TheVariants.{SetPad}
 use Rattle.cdf_model.specs.declared.data_type.DataType.{DataType}
-use Rattle.cdf_model.specs.declared.kinds.Kind.{Kind}
-use Rattle.cdf_model.specs.declared.kinds.Kind.TheVariants.{R, Z}
 use Rattle.cdf_model.specs.Answers.{Go}
 use Rattle.cdf_model.specs.ByteOrder.{turned}
 use Rattle.cdf_model.specs.DataSet.{DataSet, Variable}
@@ -21,88 +63,401 @@ use Rattle.cdf_model.specs.Step.{ByStep, step}
 use Rattle.cdf_model.specs.Types.{size_of}
 use Rattle.cdf_model.specs.Values.{values_in}
 use Rattle.cdf_model.specs.VariableSteps.{with_variable}
-use Rattle.cdf_fields.proofs.Writes.{drop-put_there, field_reads, length-with_field, other_bytes, word-put_outside}
-use Rattle.cdf_format.specs.Bytes.{byte}
-use Rattle.cdf_format.specs.Chains.{next_field}
 use Rattle.cdf_format.specs.Content.{content, variable_of}
-use Rattle.cdf_format.specs.Fields.{LiesIn, number, size_at, with_field}
-use Rattle.cdf_format.specs.Owners.{owned}
-use Rattle.cdf_format.specs.Records.{vdr_flags}
-use Rattle.cdf_format.specs.Shape.{Shape, VariableShape, shape, vdrs}
 use Rattle.cdf_format.specs.Stored.{is_little}
-use Rattle.cdf_format.specs.VariableFields.{dimensions_at, dims_at, elems_at, is_z, pad_field, type_of_variable, value_bytes}
-use Rattle.cdf_format.specs.WellFormed.{Good}
-use Rattle.cdf_format.proofs.BytesLemmas.{length-put, byte-put_before, byte-put_after}
 use Rattle.cdf_format.proofs.TilesLemmas.{tile_lies}
 use Rattle.cdf_edits.specs.Answers.{Answers}
-use Rattle.cdf_edits.specs.Commands.Allowances.{AllKeep, Allowances, Anything, shapes_of, stays_own}
-use Rattle.cdf_edits.specs.Commands.Room.{room, vdr_bytes}
 use Rattle.cdf_edits.specs.Commands.Variables.{SetsPad, set_pad_changes}
 use Rattle.cdf_edits.specs.Space.Acts.{Act, Gave, Took}
 use Rattle.cdf_edits.proofs.Commands.Answered.{gone, too_large}
-use Rattle.cdf_edits.proofs.Commands.ListParts.{got-middle}
 use Rattle.cdf_edits.proofs.Edits.FreedVdr.{as_long_now, freed_acts, freed_content, freed_edit, freed_good, freed_is, freed_keep}
 use Rattle.cdf_edits.proofs.Edits.MadeRecord.{shorter}
-use Rattle.cdf_edits.proofs.Edits.MovedVdr.{MovesVdr, as_long, fills, lately, later, need, own'}
-use Rattle.cdf_edits.proofs.Edits.PadMoved.{HoldsPad, moved_sets_pad, pad_means}
-use Rattle.cdf_edits.proofs.Edits.PadWritten.{WritesPad, edits, meaning, pads_in_place}
-use Rattle.cdf_edits.proofs.Edits.VariableKinds.{with_shapes}
-use Rattle.cdf_edits.proofs.Edits.VdrEdited.{fits, sound, tile, typed}
-use Rattle.cdf_edits.proofs.Frame.Meaning.{pad_long, pad_width}
-use Rattle.cdf_records.proofs.Places.{word_fits}
-use Rattle.cdf_var_records.specs.declared.pad_place.PadPlace.{PadPlace}
-use Rattle.cdf_var_records.specs.Descriptors.{IsPlace}
-use Rattle.cdf_var_records.proofs.VdrParts.{dims_long, pad_place}
 use Rattle.cdf_vars.specs.declared.padding.PadRequest.{PadRequest}
 use Rattle.cdf_vars.specs.declared.padding.PadRequest.TheVariants.{Put}
 use Rattle.cdf_vars.specs.declared.vars.VarId.{VarId}
 use Rattle.cdf_vars.specs.Known.{Known, Knows, known_of}
-use Rattle.cdf_vars.specs.Padding.{IsRequest, MayPad, MovedTo, Moves, padded_body, padded_flags}
-use Rattle.cdf_vars.proofs.PadMoved.{holds, moves, need_is, small_flags}
-use Rattle.cdf_vars.proofs.VariableChanged.{follows_still, knows_still, knows_with, of_found, own_known, may_keep, may_named, same_names, stands_there, still_there, with_known}
-use Rattle.cdf_vars.proofs.VariableFound.{Parts, the_parts, within_places}
+use Rattle.cdf_vars.proofs.VariableFound.{follows_still, knows_still, knows_with, of_found, own_known, may_keep, may_named, same_names, stands_there, still_there, with_known, Parts, the_parts, within_places}
+
+-- pieces that are appended one by one
+pub pieces : (old value : List ℕ) (w x y z : ℕ) → ((take 36 old ++ w ∷ x ∷ y ∷ z ∷ []) ++ drop 40 old) ++ value ≡ put old 36 (w ∷ x ∷ y ∷ z ∷ []) ++ value
+unfolding put
+pieces old value w x y z = ap (λ (xs : List ℕ). xs ++ value) (append_assoc (take 36 old) (w ∷ x ∷ y ∷ z ∷ []) (drop 40 old))
+
+pub pieced : (old value flags : List ℕ) (n : ℕ) (one two three four : List ℕ) → one ≡ take 36 old → two ≡ one ++ flags → three ≡ two ++ take (length old - 40) (drop 40 old) → four ≡ three ++ value → flags ≡ big_bytes 4 n → four ≡ put old 36 (big_bytes 4 n) ++ value
+pieced old value flags n one two three four e1 e2 e3 e4 f =
+    let all : take (length old - 40) (drop 40 old) ≡ drop 40 old = take_all (length old - 40) (drop 40 old) (simp length-drop (omega arith)) in
+    let second : two ≡ take 36 old ++ big_bytes 4 n = e2 ∙ (λ i. e1 i ++ f i) in
+    let third : three ≡ (take 36 old ++ big_bytes 4 n) ++ drop 40 old = e3 ∙ (λ i. second i ++ all i) in
+    e4 ∙ (λ i. third i ++ value) ∙ pieces old value _ _ _ _
+
+-- what was copied makes equal pieces
+piece_copied : {b now : List ℕ} {v v' lo hi : ℕ} → Copied b now v v' lo hi → (at n : ℕ) → lo ≤ at → at + n ≤ hi → v + at + n ≤ length b → v' + at + n ≤ length now → take n (drop (v' + at) now) ≡ take n (drop (v + at) b)
+piece_copied {b = b} {now = now} {v = v} {v' = v'} c at n low high inside there =
+    let e : length (take n (drop (v' + at) now)) ≡ n = simp (length-take, length-drop) (omega arith) in
+    let f : length (take n (drop (v + at) b)) ≡ n = simp (length-take, length-drop) (omega arith) in
+    ext_get_or 0 (take n (drop (v' + at) now)) (take n (drop (v + at) b)) (e ∙ sym f) (λ i lt.
+    let l : i < n = omega (arith, lt, e) in
+    let p : v' + at + i ≡ v' + (at + i) = omega arith in
+    let q : v + at + i ≡ v + (at + i) = omega arith in
+    get_or-take n (drop (v' + at) now) i 0 l ∙ get_or-drop (v' + at) now i 0 ∙ ap (byte now) p ∙ c.each (at + i) (omega arith) (omega arith) ∙ sym (ap (byte b) q) ∙ sym (get_or-drop (v + at) b i 0) ∙ sym (get_or-take n (drop (v + at) b) i 0 l))
+
+pub small_flags : (x : ℕ) → x < 256 ^ 4 → padded_flags x < 256 ^ 4
+small_flags x l = omega arith
+
+-- ---- the bytes of the new VDR, whose pad value stands at another place in it
+
+module _ (b value : List ℕ) (v at n : ℕ) (inside : v + at ≤ length b) (late : 340 ≤ at) where
+  abbrev was : List ℕ
+  was = take (at - 8) (drop (v + 8) b)
+
+  abbrev flags : List ℕ
+  flags = big_bytes 4 n
+
+  abbrev front : List ℕ
+  front = put was 36 flags
+
+  abbrev new : List ℕ
+  new = front ++ value
+
+  length-was : length was ≡ at - 8
+  length-was = simp (length-take, length-drop) (omega arith)
+
+  length-flags : length flags ≡ 4
+  length-flags = length-bytes_high_first 4 n
+
+  pub length-front : length front ≡ at - 8
+  length-front = length-put was 36 flags (omega (arith, length-was, length-flags)) ∙ length-was
+
+  pub length-new : 8 + length new ≡ at + length value
+  length-new = omega (arith, length-append front value, length-front)
+
+  was_byte : (i : ℕ) → i < at - 8 → byte was i ≡ byte b (v + 8 + i)
+  was_byte i lt = get_or-take (at - 8) (drop (v + 8) b) i 0 lt ∙ get_or-drop (v + 8) b i 0
+
+  front_byte : (i : ℕ) → i < at - 8 → (i < 36) ⊎ (40 ≤ i) → byte front i ≡ byte was i
+  front_byte i lt (inl l) = byte-put_before was 36 flags i (omega (arith, length-was)) l
+  front_byte i lt (inr m) = byte-put_after was 36 flags i (omega (arith, length-was)) (omega (arith, length-flags))
+
+  new_byte : (i : ℕ) → i < at - 8 → byte new i ≡ byte front i
+  new_byte i lt = get_or_append_left front value 0 i (omega (arith, length-front))
+
+  -- the type stands first
+  pub new_type : word new 0 4 ≡ word b (v + 8) 4
+  new_type =
+      let c : Copied b new (v + 8) 0 0 4 = record { each = λ i l h. ap (byte new) (bare i) ∙ new_byte i (omega arith) ∙ front_byte i (omega arith) (inl (omega arith)) ∙ was_byte i (omega arith) } in
+      word_copied c 0 4 (omega arith) (omega arith) ∙ ap (λ (p : ℕ). word b p 4) (none (v + 8))
+    where
+      none : (x : ℕ) → x + 0 ≡ x
+      none x = omega arith
+
+      bare : (x : ℕ) → 0 + x ≡ x
+      bare x = omega arith
+
+  -- where it is placed
+  module _ (taken : List ℕ) (by : ℕ) (room : by + (8 + length new) ≤ length taken) where
+    abbrev written : List ℕ
+    written = put taken (by + 8) new
+
+    front_there : (k : ℕ) → k < at - 8 → byte written (by + 8 + k) ≡ byte front k
+    front_there k lt = byte-put_inside taken (by + 8) new k (omega arith) (omega (arith, length-append front value, length-front)) ∙ new_byte k lt
+
+    pub bytes_copied : (i : ℕ) → 8 ≤ i → i < at → (i < 44) ⊎ (48 ≤ i) → byte written (by + i) ≡ byte b (v + i)
+    bytes_copied i low high side =
+        let k : 8 + (i - 8) ≡ i = omega arith in
+        let here : byte written (by + 8 + (i - 8)) ≡ byte b (v + 8 + (i - 8)) = front_there (i - 8) (omega arith) ∙ front_byte (i - 8) (omega arith) (beside i low side) ∙ was_byte (i - 8) (omega arith) in
+        ap (byte written) (joined by i low) ∙ here ∙ sym (ap (byte b) (joined v i low))
+      where
+        joined : (p i : ℕ) → 8 ≤ i → p + i ≡ p + 8 + (i - 8)
+        joined p i l = omega arith
+
+        beside : (i : ℕ) → 8 ≤ i → (i < 44) ⊎ (48 ≤ i) → (i - 8 < 36) ⊎ (40 ≤ i - 8)
+        beside i low (inl x) = inl (omega arith)
+        beside i low (inr x) = inr (omega arith)
+
+    pub flags_there : n < 256 ^ 4 → word written (by + 44) 4 ≡ n
+    flags_there small =
+        let c : Copied front written 0 (by + 8) 36 40 = record { each = λ i l h. front_there i (omega arith) ∙ sym (ap (byte front) (bare i)) } in
+        ap (λ (p : ℕ). word written p 4) (moved by) ∙ word_copied c 36 4 (omega arith) (omega arith) ∙ word-put_number was 36 4 n (omega (arith, length-was)) small
+      where
+        moved : (p : ℕ) → p + 44 ≡ p + 8 + 36
+        moved p = omega arith
+
+        bare : (x : ℕ) → 0 + x ≡ x
+        bare x = omega arith
+
+    pub value_there : take (length value) (drop (by + at) written) ≡ value
+    value_there =
+        let more = drop (by + 8 + length new) taken in
+        let whole : drop (by + 8) written ≡ front ++ (value ++ more) = drop-put_there taken new (by + 8) (omega arith) ∙ append_assoc front value more in
+        let behind : drop (by + at) written ≡ value ++ more = ap (λ (p : ℕ). drop p written) (moved by at late) ∙ sym (drop-drop (at - 8) (by + 8) written) ∙ ap (drop (at - 8)) whole ∙ drop_at front (value ++ more) (at - 8) length-front in
+        ap (take (length value)) behind ∙ take_at value more (length value) refl
+      where
+        moved : (p a : ℕ) → 340 ≤ a → p + a ≡ p + 8 + (a - 8)
+        moved p a l = omega arith
+
+-- the link behind one of a chain
+link_after : (b : List ℕ) (link : ℕ) (before : List VariableShape) (own : VariableShape) (after : List VariableShape) → Leads b link (vdrs (before ++ own ∷ after)) 0 → Leads b (next_of b own.vdr) (vdrs after) 0
+link_after b link [] own after l = subst (λ (x : ℕ). Leads b (next_of b own.vdr) (vdrs after) 0) l.0 l.1
+link_after b link (v ∷ before) own after l = link_after b (next_of b v.vdr) before own after l.1
+
+same_link : (b now : List ℕ) (link link' : ℕ) (xs : List ℕ) → Leads b link xs 0 → Leads now link' xs 0 → link' ≡ link
+same_link b now link link' [] l m = m ∙ sym l
+same_link b now link link' (x ∷ xs) l m = m.0 ∙ sym l.0
+
+-- equal numbers have equal bytes
+digits_same : (P x x' y y' : ℕ) → y < P → y' < P → x * P + y ≡ x' * P + y' → (x ≡ x') × (y ≡ y')
+digits_same P zero zero y y' l l' e = (refl, omega arith)
+digits_same P zero (suc x') y y' l l' e = absurd (omega arith)
+digits_same P (suc x) zero y y' l l' e = absurd (omega arith)
+digits_same P (suc x) (suc x') y y' l l' e = let r = digits_same P x x' y y' l l' (omega arith) in (ap suc r.0, r.1)
+
+equal_bytes : {b now : List ℕ} {s s' m : ℕ} → AreBytes b s m → AreBytes now s' m → (p p' n : ℕ) → s ≤ p → p + n ≤ s + m → s' ≤ p' → p' + n ≤ s' + m → word now p' n ≡ word b p n → (k x y : ℕ) → k < n → x ≡ p' + k → y ≡ p + k → byte now x ≡ byte b y
+equal_bytes are there p p' zero a c d f e k x y lt ex ey = absurd (omega arith)
+equal_bytes {b = b} {now = now} {s = s} {s' = s'} {m = m} are there p p' (suc n) a c d f e k x y lt ex ey =
+    let r = digits_same (256 ^ n) (byte now p') (byte b p) (word now (suc p') n) (word b (suc p) n) (word_fits now s' m (suc p') n there (omega arith) (omega arith)) (word_fits b s m (suc p) n are (omega arith) (omega arith)) e in
+    elim k as (λ (i : ℕ). i < suc n → x ≡ p' + i → y ≡ p + i → byte now x ≡ byte b y) [
+      | zero ↦ λ l q w. let left : x ≡ p' = omega arith in let right : y ≡ p = omega arith in ap (byte now) left ∙ r.0 ∙ sym (ap (byte b) right)
+      | suc i ↦ λ l q w. equal_bytes are there (suc p) (suc p') n (omega arith) (omega arith) (omega arith) (omega arith) r.1 i x y (omega arith) (omega arith) (omega arith)
+    ] lt ex ey
+
+-- the image in which the new VDR is linked is ready for the freeing of the old one
+pub record Linked (late : List ℕ) (old by : ℕ) : Type 0 where
+  pub sound_now : IsSound late (shape late)
+  pub stands : In old (shape late).records
+  pub free : times old (owned_records late (shape late)) ≡ 0
+  pub long : by + 84 ≤ length late
+
+-- ---- the VDR that is made, and that takes the place of the old one
+
+module _ (value : List ℕ) {b : List ℕ} {kind : Kind} {before : List VariableShape} {own : VariableShape} {after : List VariableShape} (good : Good b) (at : StandsAmong b kind before own after) (sized : length value ≡ value_bytes b own.vdr) (short : size_at b own.vdr < (pad_field b own.vdr).place + length value) (read : AreBytes b own.vdr 84) where
+  abbrev v : ℕ
+  v = own.vdr
+
+  abbrev place : ℕ
+  place = (pad_field b v).place
+
+  abbrev n : ℕ
+  n = padded_flags (number b v vdr_flags)
+
+  abbrev body : List ℕ
+  body = padded_body b v value
+
+  abbrev s : Shape
+  s = shape b
+
+  abbrev c : Chain
+  c = variables_chain kind
+
+  abbrev need : ℕ
+  need = 8 + length body
+
+  pad_late : 340 ≤ place
+  pad_late = pad_long (is_z b v) (dimensions_at b v) (value_bytes b v)
+
+  inside : v + place ≤ length b
+  inside = vdr_inside good (record { before = before; own = own; after = after; was = at.was })
+
+  pub need_is : need ≡ place + length value
+  need_is = length-new b value v place n inside pad_late
+
+  pub type_is : type_of_body body ≡ type_in c
+  type_is = new_type b value v place n inside pad_late ∙ typed good at
+
+  pub is_body : IsBody body
+  is_body = by_kind kind type_is (pad_place kind b v (typed good at))
+    where
+      by_kind : (kind : Kind) → type_of_body body ≡ type_in (variables_chain kind) → place ≡ vdr_bytes kind (dimensions_at b v) → IsBody body
+      by_kind R e f = record { enough = omega (arith, need_is, pad_late); real = rw e refl; in_use = rw e (apart 3 uir_type refl); fixed = rw e (omega (arith, need_is, f)) }
+      by_kind Z e f = record { enough = omega (arith, need_is, pad_late); real = rw e refl; in_use = rw e (apart 8 uir_type refl); fixed = rw e (omega (arith, need_is, f)) }
+
+  module _ {late : List ℕ} {by : ℕ} (exchanged : Exchanged b late c body v by) where
+    abbrev pub made : MovesVdr b late kind own body by
+    made = record { exchanged = exchanged; type_is = type_is }
+
+    kept : Same exchanged.filled late (by + 20) (by + need)
+    kept = behind_link good at made
+
+    late_byte : (i : ℕ) → 20 ≤ i → i < place → (i < 44) ⊎ (48 ≤ i) → byte late (by + i) ≡ byte b (v + i)
+    late_byte i low high side = kept.each (by + i) (omega arith) (omega (arith, need_is)) ∙ ap (λ (x : List ℕ). byte x (by + i)) exchanged.placed.written ∙ bytes_copied b value v place n inside pad_late exchanged.placed.taken by exchanged.placed.inside i (omega arith) high side
+
+    behind_flags : Copied b late v by 48 place
+    behind_flags = record { each = λ i l h. late_byte i (omega arith) h (inr l) }
+
+    flags_now : number late by vdr_flags ≡ n
+    flags_now =
+        let first : word late (by + 44) 4 ≡ word exchanged.filled (by + 44) 4 = word_kept exchanged.filled late (by + 20) (by + need) kept (by + 44) 4 (omega arith) (omega (arith, need_is, pad_late)) in
+        first ∙ ap (λ (x : List ℕ). word x (by + 44) 4) exchanged.placed.written ∙ flags_there b value v place n inside pad_late exchanged.placed.taken by exchanged.placed.inside (small_flags (number b v vdr_flags) (word_fits b v 84 (v + 44) 4 read (omega arith) (omega arith)))
+
+    copied_there : VdrCopied b late v by
+    copied_there = record {
+      typed = by_type good at made ∙ sym (typed good at);
+      first = record { each = λ i l h. late_byte i l (omega (arith, pad_late)) (inl h) };
+      second = record { each = λ i l h. behind_flags.each i l (omega (arith, pad_late)) };
+      third = record { each = λ i l h. behind_flags.each i (omega arith) (omega (arith, pad_late)) };
+      behind = record { each = λ i l h. behind_flags.each i (omega arith) h };
+    }
+
+    end_is : vdr_end late by ≡ need
+    end_is =
+        let f = pad_field_copied (file good at made) copied_there in
+        let bytes = value_copied (file good at made) copied_there in
+        let flag : has_pad late by ≡ true = ap (λ (k : ℕ). has_bit k 1) flags_now ∙ padded_1 (number b v vdr_flags) in
+        (λ i. (f i).place + (if flag i then bytes i else 0)) ∙ sym (need_is ∙ ap (λ (k : ℕ). place + k) sized)
+
+    by_lies : by + need ≤ length exchanged.filled
+    by_lies = let high = exchanged.placed.inside in let l = exchanged.placed.fills.long in omega (arith, high, l)
+
+    pub copies : CopiesVdr b late own body by
+    copies = record {
+      copied = copied_there;
+      num_is = word_copied behind_flags 68 4 (omega arith) (omega (arith, pad_late));
+      packed = ap (λ (k : ℕ). has_bit k 2) flags_now ∙ padded_2 (number b v vdr_flags);
+      ends = omega (arith, end_is);
+      larger = omega (arith, short, need_is);
+      name_is = ap (λ (xs : List ℕ). before_first (λ (x : ℕ). x == 0) xs) (piece_copied behind_flags 84 256 (omega arith) (omega (arith, pad_late)) (omega (arith, inside, pad_late)) (omega (arith, by_lies, exchanged.as_long, need_is, pad_late)));
+    }
+
+    pub linked : Linked late v by
+    linked = record { sound_now = sound_late good at made copies; stands = old_in good at made copies; free = old_free good at made copies; long = let l = by_lies in let k = exchanged.as_long in omega (arith, need_is, pad_late, l, k) }
+
+    -- ---- the new VDR, with the bytes of its link
+
+    module _ (there : AreBytes late by 84) where
+      link_same : number late by next_field ≡ number b v next_field
+      link_same =
+          let h = (sound good at).has_shape in
+          let was = subst (λ (vs : List VariableShape). Leads b (number b s.gdr (head_of c)) (vdrs vs) 0) at.was (kind_chain kind h).leads in
+          same_link b late (next_of b v) (next_of late by) (vdrs after) (link_after b _ before own after was) (link_after late _ before (record own { vdr = by }) after (chain_late good at made).leads)
+
+      alike : (i : ℕ) → 12 ≤ i → i < place → (i < 44) ⊎ (44 + 4 ≤ i) → byte late (by + i) ≡ byte b (v + i)
+      alike i low high side = elim (cases_lt i 20) [
+        | inl l ↦ equal_bytes read there (v + 12) (by + 12) 8 (omega arith) (omega arith) (omega arith) (omega arith) link_same (i - 12) (by + i) (v + i) (omega arith) (omega arith) (omega arith)
+        | inr m ↦ late_byte i m high side
+      ]
+
+      pub holds : HoldsPad b late v by need value
+      holds = record {
+        alike = λ i low high out. alike i low high out.0;
+        flags_are = flags_now;
+        pad_is =
+            let wide : (pad_field b v).width ≡ length value = pad_width (is_z b v) (dimensions_at b v) (value_bytes b v) ∙ sym sized in
+            let first : take (length value) (drop (by + place) late) ≡ take (length value) (drop (by + place) exchanged.filled) = piece_kept exchanged.filled late (by + 20) (by + need) kept (by + place) (length value) (omega (arith, pad_late)) (omega (arith, need_is)) by_lies (omega (arith, exchanged.as_long)) in
+            ap (λ (k : ℕ). take k (drop (by + place) late)) wide ∙ first ∙ ap (λ (x : List ℕ). take (length value) (drop (by + place) x)) exchanged.placed.written ∙ value_there b value v place n inside pad_late exchanged.placed.taken by exchanged.placed.inside;
+        whole = end_is;
+        short = omega (arith, short, need_is);
+      }
+
+-- ---- what the calls ask for that put it in the place of one
+
+module _ {b body : List ℕ} {kind : Kind} {old : ℕ} (good : Good b) (vdr : IsVdr b kind old) (p : IsPadded b old body) where
+  pub may_place : IsBody body
+  may_place = subst IsBody (sym p.is) (is_body p.bytes good (vdr_at good vdr) p.long p.short p.read)
+
+  pub of_chain : type_of_body body ≡ type_in (variables_chain kind)
+  of_chain = ap type_of_body p.is ∙ type_is p.bytes good (vdr_at good vdr) p.long p.short p.read
+
+  pub is_member : is_in old (members_of b (variables_chain kind)) ≡ true
+  is_member =
+      let among : In old (vdrs (shapes_of (shape b) kind)) = subst (λ (vs : List VariableShape). In old (vdrs vs)) (sym vdr.was) (in_middle vdr.before (vdr_own good vdr) vdr.after) in
+      is_in-true old _ (subst (In old) (sym (variable_members b (shape b) (good_is_sound b good).has_shape kind)) among)
+
+  -- after a call that reads
+  pub then_linked : {now late : List ℕ} {by : ℕ} {which : Chain} → which ≡ variables_chain kind → Exchanged b now which body old by → late ≡ now → Linked late old by
+  then_linked {now = now} {by = by} is exchanged same =
+      subst (λ (x : List ℕ). Linked x old by) (sym same) (linked p.bytes good (vdr_at good vdr) p.long p.short p.read (subst (λ (x : List ℕ). Exchanged b now (variables_chain kind) x old by) p.is (subst (λ (x : Chain). Exchanged b now x body old by) is exchanged)))
+
+-- ---- at an index of the places of its kind
+
+-- those before it
+before_own : (vs : List VariableShape) (own : VariableShape) (after : List VariableShape) → Distinct (vdrs (vs ++ own ∷ after)) → take (length vs) (vdrs (vs ++ own ∷ after)) ≡ before own.vdr (vdrs (vs ++ own ∷ after))
+before_own [] own after d = rw (eq-eqb own.vdr own.vdr refl) refl
+before_own (v ∷ vs) own after d = rw (ne_eqb v.vdr own.vdr (λ e. d.0 (subst (λ (x : ℕ). In x (vdrs (vs ++ own ∷ after))) (sym e) (in_middle vs own after)))) (ap (λ (r : List ℕ). v.vdr ∷ r) (before_own vs own after d.1))
+
+index_middle : (vs : List VariableShape) (own : VariableShape) (after : List VariableShape) → slice_index (vdrs (vs ++ own ∷ after)) (length vs) ≡ own.vdr
+index_middle [] own after = refl
+index_middle (v ∷ vs) own after = index_middle vs own after
+
+module _ (b : List ℕ) (kind : Kind) {places : List ℕ} {num vdr : ℕ} (good : Good b) (are : places ≡ vdrs (shapes_of (shape b) kind)) (within : num < length places) (is : vdr ≡ slice_index places num) where
+  abbrev vs : List VariableShape
+  vs = shapes_of (shape b) kind
+
+  there : Cut vs num
+  there = cut vs num (subst (λ (k : ℕ). num < k) (ap (λ (xs : List ℕ). length xs) are ∙ length-map vs (λ (v : VariableShape). v.vdr)) within)
+
+  all_are : places ≡ vdrs (there.before ++ there.own ∷ there.after)
+  all_are = are ∙ ap vdrs there.is
+
+  vdr_is : there.own.vdr ≡ vdr
+  vdr_is = sym (index_middle there.before there.own there.after) ∙ (λ i. slice_index (sym all_are i) (there.count i)) ∙ sym is
+
+  pub is_vdr : IsVdr b kind vdr
+  is_vdr = record { before = there.before; own = there.own; after = there.after; was = there.is ∙ ap (λ (k : ℕ). there.before ++ record there.own { vdr = k } ∷ there.after) vdr_is }
+
+  pub stands_behind : last_or None (take num places) ≡ last_or None (before vdr (members_of b (variables_chain kind)))
+  stands_behind =
+      let h = (good_is_sound b good).has_shape in
+      let members : members_of b (variables_chain kind) ≡ vdrs (there.before ++ there.own ∷ there.after) = variable_members b (shape b) h kind ∙ ap vdrs there.is in
+      let front = before_own there.before there.own there.after (subst Distinct members (has_variable_chain b (shape b) h kind).once) in
+      ap (last_or None) ((λ i. take (sym there.count i) (all_are i)) ∙ front ∙ (λ i. before (vdr_is i) (sym members i)))
+
+  module _ {p : PadPlace} (place : IsPlace b vdr p) where
+    pub place_late : 340 ≤ p.at
+    place_late = subst (λ (k : ℕ). 340 ≤ k) (sym place.at_is) (pad_long (is_z b vdr) (dimensions_at b vdr) (value_bytes b vdr))
+
+    pub place_lies : vdr + p.at ≤ length b
+    place_lies = subst (λ (k : ℕ). vdr + k ≤ length b) (sym place.at_is) (vdr_inside good is_vdr)
+
+    pub old_long : (xs : List ℕ) → xs ≡ take (p.at - 8) (drop (vdr + 8) b) → 40 ≤ length xs
+    old_long xs e =
+        let l = place_lies in
+        let late = place_late in
+        let long : length xs ≡ p.at - 8 = ap (λ (ys : List ℕ). length ys) e ∙ simp (length-take, length-drop) (omega arith) in
+        omega (arith, long, late)
+
+    pub body_long : (xs ys value : List ℕ) (n : ℕ) → xs ≡ take (p.at - 8) (drop (vdr + 8) b) → ys ≡ put xs 36 (big_bytes 4 n) ++ value → 8 + length ys ≡ p.at + length value
+    body_long xs ys value n e f = ap (λ (zs : List ℕ). 8 + length zs) (f ∙ ap (λ (old : List ℕ). put old 36 (big_bytes 4 n) ++ value) e) ∙ length-new b value vdr p.at n place_lies place_late
 
 -- ---- the bytes in a VDR which has room for them
 
-module _ (b value : List ℕ) (v : ℕ) (long : length value ≡ value_bytes b v) (room : (pad_field b v).place + value_bytes b v ≤ size_at b v) (inside : v + size_at b v ≤ length b) (small : number b v vdr_flags < 256 ^ 4) where
+module _ (b value : List ℕ) (vdr : ℕ) (long : length value ≡ value_bytes b vdr) (room : (pad_field b vdr).place + value_bytes b vdr ≤ size_at b vdr) (inside : vdr + size_at b vdr ≤ length b) (small : number b vdr vdr_flags < 256 ^ 4) where
   abbrev at : ℕ
-  at = (pad_field b v).place
+  at = (pad_field b vdr).place
 
   abbrev flagged : List ℕ
-  flagged = with_field b v vdr_flags (padded_flags (number b v vdr_flags))
+  flagged = with_field b vdr vdr_flags (padded_flags (number b vdr vdr_flags))
 
   late : 340 ≤ at
-  late = pad_long (is_z b v) (dimensions_at b v) (value_bytes b v)
+  late = pad_long (is_z b vdr) (dimensions_at b vdr) (value_bytes b vdr)
 
-  wide : (pad_field b v).width ≡ value_bytes b v
-  wide = pad_width (is_z b v) (dimensions_at b v) (value_bytes b v)
+  wide : (pad_field b vdr).width ≡ value_bytes b vdr
+  wide = pad_width (is_z b vdr) (dimensions_at b vdr) (value_bytes b vdr)
 
-  lies : LiesIn b v vdr_flags
+  lies : LiesIn b vdr vdr_flags
   lies = omega (arith, room, inside, late)
 
   same_length : length flagged ≡ length b
-  same_length = length-with_field b v vdr_flags (padded_flags (number b v vdr_flags)) lies
+  same_length = length-with_field b vdr vdr_flags (padded_flags (number b vdr vdr_flags)) lies
 
-  in_flagged : v + at + length value ≤ length flagged
+  in_flagged : vdr + at + length value ≤ length flagged
   in_flagged = omega (arith, same_length, room, inside, long)
 
-  writes : WritesPad b (put flagged (v + at) value) v value
+  writes : WritesPad b (put flagged (vdr + at) value) vdr value
   writes = record {
     room = room;
     bytes_are =
-        ap (λ (k : ℕ). take k (drop (v + at) (put flagged (v + at) value))) (wide ∙ sym long) ∙ ap (take (length value)) (drop-put_there flagged value (v + at) (omega (arith, in_flagged)))
-        ∙ take_at value (drop (v + at + length value) flagged) (length value) refl;
-    flags_are = word-put_outside flagged value (v + at) (v + 44) 4 in_flagged (inl (omega (arith, late))) ∙ field_reads b v vdr_flags (padded_flags (number b v vdr_flags)) lies (small_flags (number b v vdr_flags) small);
+        ap (λ (k : ℕ). take k (drop (vdr + at) (put flagged (vdr + at) value))) (wide ∙ sym long) ∙ ap (take (length value)) (drop-put_there flagged value (vdr + at) (omega (arith, in_flagged)))
+        ∙ take_at value (drop (vdr + at + length value) flagged) (length value) refl;
+    flags_are = word-put_outside flagged value (vdr + at) (vdr + 44) 4 in_flagged (inl (omega (arith, late))) ∙ field_reads b vdr vdr_flags (padded_flags (number b vdr vdr_flags)) lies (small_flags (number b vdr vdr_flags) small);
     changed = record {
-      longer = omega (arith, length-put flagged (v + at) value in_flagged, same_length);
-      same = λ i lt out. beside i out.0 ∙ other_bytes b v vdr_flags (padded_flags (number b v vdr_flags)) i lies out.1.0;
+      longer = omega (arith, length-put flagged (vdr + at) value in_flagged, same_length);
+      same = λ i lt out. beside i out.0 ∙ other_bytes b vdr vdr_flags (padded_flags (number b vdr vdr_flags)) i lies out.1.0;
     };
-    as_long = length-put flagged (v + at) value in_flagged ∙ same_length;
+    as_long = length-put flagged (vdr + at) value in_flagged ∙ same_length;
   }
     where
-      beside : (i : ℕ) → (i < v + at) ⊎ (v + at + (pad_field b v).width ≤ i) → byte (put flagged (v + at) value) i ≡ byte flagged i
-      beside i (inl l) = byte-put_before flagged (v + at) value i (omega (arith, in_flagged)) l
-      beside i (inr m) = byte-put_after flagged (v + at) value i (omega (arith, in_flagged)) (omega (arith, m, wide, long))
+      beside : (i : ℕ) → (i < vdr + at) ⊎ (vdr + at + (pad_field b vdr).width ≤ i) → byte (put flagged (vdr + at) value) i ≡ byte flagged i
+      beside i (inl l) = byte-put_before flagged (vdr + at) value i (omega (arith, in_flagged)) l
+      beside i (inr m) = byte-put_after flagged (vdr + at) value i (omega (arith, in_flagged)) (omega (arith, m, wide, long))
 
 -- ---- what is asked for
 
@@ -116,16 +471,16 @@ pub moves_there : {b before now raw places places' : List ℕ} {bytes : List ℕ
 moves_there {b = b} {now = now} {raw = raw} {places = places} {places' = places'} {kind = kind} {p = p} {num = num} same is m = subst (λ (x : List ℕ). Moves b now kind p x places places' num) is (subst (λ (x : List ℕ). Moves x now kind p raw places places' num) same m)
 
 -- the places with another one in the middle
-vdrs_set : (before : List VariableShape) (own new : VariableShape) (after : List VariableShape) → vdrs (before ++ new ∷ after) ≡ slice_set (vdrs (before ++ own ∷ after)) (length before) new.vdr
-vdrs_set [] own new after = refl
-vdrs_set (v ∷ before) own new after = ap (λ (r : List ℕ). v.vdr ∷ r) (vdrs_set before own new after)
+vdrs_set : (before : List VariableShape) (own other : VariableShape) (after : List VariableShape) → vdrs (before ++ other ∷ after) ≡ slice_set (vdrs (before ++ own ∷ after)) (length before) other.vdr
+vdrs_set [] own other after = refl
+vdrs_set (vdr ∷ before) own other after = ap (λ (r : List ℕ). vdr.vdr ∷ r) (vdrs_set before own other after)
 
 module _ {b : List ℕ} (name : List ℕ) (words : List (List ℕ)) {known : Known} (good : Good b) (knows : Knows b known) {id : VarId} {p : PadPlace} {bytes : List ℕ} (may : MayPad b known name words id p bytes) where
   abbrev parts : Parts b known name id
   parts = the_parts name good knows may.found
 
-  abbrev v : ℕ
-  v = parts.own.vdr
+  abbrev vdr : ℕ
+  vdr = parts.own.vdr
 
   abbrev mine : Found
   mine = record { kind = id.kind; number = length parts.before; variable = variable_of b parts.own }
@@ -133,41 +488,41 @@ module _ {b : List ℕ} (name : List ℕ) (words : List (List ℕ)) {known : Kno
   abbrev padded : Variable
   padded = record (variable_of b parts.own) { pad = Some may.value.value }
 
-  vdr_is : p.vdr ≡ v
-  vdr_is = may.vdr_is ∙ parts.place_is
+  site_is : p.vdr ≡ vdr
+  site_is = may.vdr_is ∙ parts.place_is
 
-  place : IsPlace b v p
-  place = subst (λ (k : ℕ). IsPlace b k p) vdr_is may.place
+  site : IsPlace b vdr p
+  site = subst (λ (k : ℕ). IsPlace b k p) site_is may.place
 
-  long : length bytes ≡ value_bytes b v
-  long = may.value.long ∙ ap₂ (λ (t : DataType) (n : ℕ). size_of t * n) place.t_is place.elems_are
+  long : length bytes ≡ value_bytes b vdr
+  long = may.value.long ∙ ap₂ (λ (t : DataType) (n : ℕ). size_of t * n) site.t_is site.elems_are
 
-  turns : Some (turned (type_of_variable b v) (is_little b) bytes) ≡ Some may.value.value
-  turns = ap Some (ap (λ (t : DataType). turned t (is_little b) bytes) (sym place.t_is) ∙ may.value.turns)
+  turns : Some (turned (type_of_variable b vdr) (is_little b) bytes) ≡ Some may.value.value
+  turns = ap Some (ap (λ (t : DataType). turned t (is_little b) bytes) (sym site.t_is) ∙ may.value.turns)
 
-  vdr_inside : v + size_at b v ≤ length b
-  vdr_inside = (tile_lies b 8 (length b) (shape b).records v (sound good parts.at).has_shape.tiled (tile good parts.at)).high
+  own_inside : vdr + size_at b vdr ≤ length b
+  own_inside = (tile_lies b 8 (length b) (shape b).records vdr (sound good parts.at).has_shape.tiled (tile good parts.at)).high
 
   goes : step (content b) (SetPad name words) ≡ ByStep (Go (with_variable (content b) mine padded) Plain)
   goes =
-      let read : values_in (type_of_variable b v) (elems_at b v) 1 words ≡ Ok may.value.value = ap₂ (λ (t : DataType) (n : ℕ). values_in t n 1 words) (sym place.t_is) (sym place.elems_are) ∙ may.value.read in
+      let read : values_in (type_of_variable b vdr) (elems_at b vdr) 1 words ≡ Ok may.value.value = ap₂ (λ (t : DataType) (n : ℕ). values_in t n 1 words) (sym site.t_is) (sym site.elems_are) ∙ may.value.read in
       rw (parts.named, read) refl
 
   -- the room that it asks for is that of a VDR up to the end of its pad value
   room_is : room b (SetPad name words) ≡ p.at + length bytes
   room_is =
       ap (λ (o : Option Found). elim o as (λ x. ℕ) [ None ↦ 0 | Some f ↦ elim (slice_get (shapes_of (shape b) f.kind) f.number) as (λ x. ℕ) [ None ↦ 0 | Some u ↦ vdr_bytes f.kind (length f.variable.dims) + value_size f.variable ] ]) parts.named
-      ∙ ap (λ (o : Option VariableShape). elim o as (λ x. ℕ) [ None ↦ 0 | Some u ↦ vdr_bytes id.kind (length (dims_at b v)) + value_bytes b v ]) (stands_there name good knows may.found)
-      ∙ ap₂ (λ (m n : ℕ). m + n) (ap (vdr_bytes id.kind) (dims_long b v) ∙ sym (pad_place id.kind b v (typed good parts.at)) ∙ sym place.at_is) (sym long)
+      ∙ ap (λ (o : Option VariableShape). elim o as (λ x. ℕ) [ None ↦ 0 | Some u ↦ vdr_bytes id.kind (length (dims_at b vdr)) + value_bytes b vdr ]) (stands_there name good knows may.found)
+      ∙ ap₂ (λ (m n : ℕ). m + n) (ap (vdr_bytes id.kind) (dims_long b vdr) ∙ sym (pad_place id.kind b vdr (typed good parts.at)) ∙ sym site.at_is) (sym long)
 
   pub within_known : {kind : Kind} → id.kind ≡ kind → id.num < length (known_of known kind).places
   within_known of = subst (λ (k : Kind). id.num < length (known_of known k).places) of (within_places name good knows may.found)
 
   pub at_inside : p.at ≤ length b
-  at_inside = let fit = (fits good parts.at).0 in let l = vdr_inside in omega (arith, fit, l, place.at_is)
+  at_inside = let fit = (fits good parts.at).0 in let l = own_inside in omega (arith, fit, l, site.at_is)
 
   pub need_inside : p.at + length bytes ≤ p.size → p.vdr + (p.at + length bytes) ≤ length b
-  need_inside fit = let l = vdr_inside in omega (arith, l, fit, vdr_is, place.size_is)
+  need_inside fit = let l = own_inside in omega (arith, l, fit, site_is, site.size_is)
 
   pub over : (limit : ℕ) → limit - length b < p.at + length bytes → length b ≤ limit → Answers limit b (SetPad name words) (Refused TooLarge) b
   over limit test fit = let size = room_is in too_large limit b (SetPad name words) _ Plain goes (omega (arith, size, test, fit))
@@ -175,13 +530,13 @@ module _ {b : List ℕ} (name : List ℕ) (words : List (List ℕ)) {known : Kno
   -- ---- in its place
 
   module _ {now : List ℕ} (written : now ≡ put (with_field b p.vdr vdr_flags (padded_flags p.flags)) (p.vdr + p.at) bytes) (fit : p.at + length bytes ≤ p.size) where
-    written_there : WritesPad b now v bytes
+    written_there : WritesPad b now vdr bytes
     written_there =
-        let vs = vdr_is in
-        let fs = place.flags_are in
-        let ats = place.at_is in
-        subst (λ (x : List ℕ). WritesPad b x v bytes) (sym (written ∙ (λ i. put (with_field b (vs i) vdr_flags (padded_flags (fs i))) (vs i + ats i) bytes)))
-        (writes b bytes v long (omega (arith, fit, long, place.at_is, place.size_is)) vdr_inside (word_fits b v 84 (v + 44) 4 place.bytes (omega arith) (omega arith)))
+        let vs = site_is in
+        let fs = site.flags_are in
+        let ats = site.at_is in
+        subst (λ (x : List ℕ). WritesPad b x vdr bytes) (sym (written ∙ (λ i. put (with_field b (vs i) vdr_flags (padded_flags (fs i))) (vs i + ats i) bytes)))
+        (writes b bytes vdr long (omega (arith, fit, long, site.at_is, site.size_is)) own_inside (word_fits b vdr 84 (vdr + 44) 4 site.bytes (omega arith) (omega arith)))
 
     here : variable_of now parts.own ≡ padded
     here = meaning good parts.at written_there ∙ (λ i. record (variable_of b parts.own) { pad = turns i })
@@ -201,55 +556,58 @@ module _ {b : List ℕ} (name : List ℕ) (words : List (List ℕ)) {known : Kno
   -- ---- where the VDR moved
 
   module _ {now places places' : List ℕ} {num : ℕ} (m : Moves b now id.kind p bytes places places' num) (less : p.size < p.at + length bytes) where
-    mv : MovedTo b now id.kind v (padded_body b v bytes) m.by
-    mv = subst (λ (k : ℕ). MovedTo b now id.kind k (padded_body b k bytes) m.by) vdr_is m.moved
+    mv : MovedTo b now id.kind vdr (padded_body b vdr bytes) m.by
+    mv = subst (λ (k : ℕ). MovedTo b now id.kind k (padded_body b k bytes) m.by) site_is m.moved
 
-    short : size_at b v < (pad_field b v).place + length bytes
-    short = omega (arith, less, place.size_is, place.at_is)
+    short : size_at b vdr < (pad_field b vdr).place + length bytes
+    short = omega (arith, less, site.size_is, site.at_is)
 
-    linked : MovesVdr b mv.late id.kind parts.own (padded_body b v bytes) m.by
-    linked = moves bytes good parts.at long short place.bytes mv.placed mv.replaced
+    abbrev moved : MovesVdr b mv.late id.kind parts.own (padded_body b vdr bytes) m.by
+    moved = made bytes good parts.at long short site.bytes mv.exchanged
 
-    held : HoldsPad b mv.late v m.by (8 + length (padded_body b v bytes)) bytes
-    held = holds bytes good parts.at long short place.bytes mv.placed mv.replaced mv.read
+    says : CopiesVdr b mv.late parts.own (padded_body b vdr bytes) m.by
+    says = copies bytes good parts.at long short site.bytes mv.exchanged
+
+    held : HoldsPad b mv.late vdr m.by (8 + length (padded_body b vdr bytes)) bytes
+    held = holds bytes good parts.at long short site.bytes mv.exchanged mv.read
 
     abbrev acts : List Act
-    acts = Took m.by (need good parts.at linked) ∷ Gave v (size_at b v) ∷ []
+    acts = Took m.by (8 + length (padded_body b vdr bytes)) ∷ Gave vdr (size_at b vdr) ∷ []
 
     content_moved : content now ≡ with_variable (content b) mine padded
-    content_moved = freed_content good parts.at linked mv.gives ∙ ap (with_variable (content b) mine) (pad_means good parts.at linked mv.gives held ∙ (λ i. record (variable_of b parts.own) { pad = turns i }))
+    content_moved = freed_content good parts.at moved says mv.gives ∙ ap (with_variable (content b) mine) (pad_means good parts.at moved says mv.gives held ∙ (λ i. record (variable_of b parts.own) { pad = turns i }))
 
-    there_now : slice_get (shapes_of (shape now) id.kind) (length parts.before) ≡ Some (own' good parts.at linked)
-    there_now = ap (λ (s : Shape). slice_get (shapes_of s id.kind) (length parts.before)) (freed_is good parts.at linked mv.gives) ∙ of_kind id.kind ∙ got-middle parts.before (own' good parts.at linked) parts.after
+    there_now : slice_get (shapes_of (shape now) id.kind) (length parts.before) ≡ Some (own' good parts.at moved)
+    there_now = ap (λ (s : Shape). slice_get (shapes_of s id.kind) (length parts.before)) (freed_is good parts.at moved says mv.gives) ∙ of_kind id.kind ∙ got-middle parts.before (own' good parts.at moved) parts.after
       where
-        of_kind : (k : Kind) → slice_get (shapes_of (with_shapes (shape b) k (shape linked.filled).records (shape now).unused (parts.before ++ own' good parts.at linked ∷ parts.after)) k) (length parts.before) ≡ slice_get (parts.before ++ own' good parts.at linked ∷ parts.after) (length parts.before)
+        of_kind : (k : Kind) → slice_get (shapes_of (with_shapes (shape b) k (shape mv.exchanged.filled).records (shape now).unused (parts.before ++ own' good parts.at moved ∷ parts.after)) k) (length parts.before) ≡ slice_get (parts.before ++ own' good parts.at moved ∷ parts.after) (length parts.before)
         of_kind R = refl
         of_kind Z = refl
 
     pub moved_done : (limit : ℕ) → p.at + length bytes ≤ limit - length b → length b ≤ limit → limit ≤ image_limit → Answers limit b (SetPad name words) (Done Plain) now
     moved_done limit under fit above =
         let size = room_is in
-        let body_is : 8 + length (padded_body b v bytes) ≡ (pad_field b v).place + length bytes = need_is bytes good parts.at long short place.bytes in
-        let same = place.at_is in
-        let grown = shorter (sound good parts.at) (fills good parts.at linked) (later good parts.at linked) (as_long good parts.at linked) (lately good parts.at linked) in
-        let as_long = as_long_now good parts.at linked mv.gives in
+        let body_is : 8 + length (padded_body b vdr bytes) ≡ (pad_field b vdr).place + length bytes = need_is bytes good parts.at long short site.bytes in
+        let same = site.at_is in
+        let grown = shorter (sound good parts.at) (fills good parts.at moved) (later good parts.at moved) (as_long good parts.at moved) (lately good parts.at moved) in
+        let as_long = as_long_now good parts.at moved says mv.gives in
         gone limit b (SetPad name words) _ Plain now goes (omega (arith, size, under, fit)) (record {
           reply = Plain;
           goes = goes ∙ ap (λ (d : DataSet). ByStep (Go d Plain)) (sym content_moved);
-          good = freed_good good parts.at linked mv.gives (omega (arith, grown, body_is, same, under, fit, above));
-          longer = (freed_edit good parts.at linked mv.gives).longer;
+          good = freed_good good parts.at moved says mv.gives (omega (arith, grown, body_is, same, under, fit, above));
+          longer = (freed_edit good parts.at moved says mv.gives).longer;
           within = omega (arith, as_long, grown, body_is, same, size);
           reads = λ e. absurd (true≢false (sym e));
           acts = acts;
           takes_within = omega (arith, body_is, same, size);
-          acts_follow = freed_acts good parts.at linked mv.gives;
-          keeps = subst (λ (a : Allowances). AllKeep b now a acts (owned b (shape b))) (sym (may_named name good knows may.found (set_pad_changes b (shape b)))) (freed_keep good parts.at linked mv.gives mine refl refl);
-          does = of_found name good knows may.found (λ u u'. SetsPad b now u.vdr u'.vdr acts) there_now (moved_sets_pad good parts.at linked mv.gives held);
+          acts_follow = freed_acts good parts.at moved says mv.gives;
+          keeps = subst (λ (a : Allowances). AllKeep b now a acts (owned b (shape b))) (sym (may_named name good knows may.found (set_pad_changes b (shape b)))) (freed_keep good parts.at moved says mv.gives mine refl refl);
+          does = of_found name good knows may.found (λ u u'. SetsPad b now u.vdr u'.vdr acts) there_now (moved_sets_pad good parts.at moved says mv.gives held);
         })
 
     pub moved_knows : {kind : Kind} → id.kind ≡ kind → places ≡ (known_of known kind).places → num ≡ id.num → Knows now (with_known known kind (record (known_of known kind) { places = places' }))
     moved_knows of old at =
         let places_are = (own_known name good knows may.found).places_are ∙ ap vdrs parts.at.was in
         subst (λ (k : Kind). Knows now (with_known known k (record (known_of known k) { places = places' }))) of
-        (knows_with _ _ knows id.kind content_moved (freed_is good parts.at linked mv.gives) (same_names name good knows may.found padded refl)
-        (m.places_are ∙ (λ i. slice_set (old i) (at i) m.by) ∙ (λ i. slice_set (known_of known (sym of i)).places (sym parts.count i) m.by) ∙ ap (λ (xs : List ℕ). slice_set xs (length parts.before) m.by) places_are ∙ sym (vdrs_set parts.before parts.own (own' good parts.at linked) parts.after)))
+        (knows_with _ _ knows id.kind content_moved (freed_is good parts.at moved says mv.gives) (same_names name good knows may.found padded refl)
+        (m.places_are ∙ (λ i. slice_set (old i) (at i) m.by) ∙ (λ i. slice_set (known_of known (sym of i)).places (sym parts.count i) m.by) ∙ ap (λ (xs : List ℕ). slice_set xs (length parts.before) m.by) places_are ∙ sym (vdrs_set parts.before parts.own (own' good parts.at moved) parts.after)))

@@ -4,9 +4,8 @@ use Rattle.byteorder.specs.Endian.{big_bytes}
 use Rattle.cdf_base.specs.Bytes.{put}
 use Rattle.cdf_edits.specs.Answers.{Answers}
 use Rattle.cdf_edits.specs.Commands.NewRecords.{with_bits}
-use Rattle.cdf_edits.specs.Space.Chains.{Replaced}
+use Rattle.cdf_edits.specs.Space.Adding.{Exchanged}
 use Rattle.cdf_edits.specs.Space.Placement.{Gives}
-use Rattle.cdf_edits.specs.Space.Placing.{Placed}
 use Rattle.cdf_edits.specs.Space.VariableChains.{variables_chain}
 use Rattle.cdf_format.specs.Fields.{number, size_at}
 use Rattle.cdf_format.specs.Records.{vdr_flags}
@@ -65,10 +64,8 @@ pub record IsPadded (b : List ℕ) (vdr : ℕ) (body : List ℕ) : Type 0 where
 
 -- A record with these bytes behind its size took the place of the VDR, which was freed.
 pub record MovedTo (b now : List ℕ) (kind : Kind) (vdr : ℕ) (body : List ℕ) (by : ℕ) : Type 0 where
-  pub filled : List ℕ
   pub late : List ℕ
-  pub placed : Placed b filled body by
-  pub replaced : Replaced filled late (variables_chain kind) vdr by
+  pub exchanged : Exchanged b late (variables_chain kind) body vdr by
   pub read : AreBytes late by 84
   pub gives : Gives late now (shape late) (shape now) vdr
 

@@ -22,7 +22,7 @@ use cdf_area::{Area, AreaError};
 use cdf_format::fields::{RECORD_TYPE, VDR_FLAGS};
 use cdf_model::Kind;
 use cdf_records::{read_bytes, read_vdr, set_vdr_flags};
-use cdf_space::{chain_replace, free_record, place_record};
+use cdf_space::{exchange_record, free_record};
 use cdf_var_records::PadPlace;
 use std::alloc::{AllocError, Global};
 
@@ -79,8 +79,7 @@ fn replace_vdr<A: Area>(
     ensures moved { IfOk result (MovedTo (A.image area.old) (A.image area.new) kind old bytes.now) }
     ensures area { Edits A.frame A.faults area.old area.new result }
 {
-    let place = place_record(area, bytes)?;
-    chain_replace(area, chain_of(kind), behind, old, place)?;
+    let place = exchange_record(area, chain_of(kind), behind, old, bytes)?;
     // What is freed next has to leave the new record whole, and that its fields are bytes is known of what was read.
     let _linked = read_vdr(area, place)?;
     free_record(area, old)?;

@@ -37,9 +37,10 @@ use Rattle.cdf_format.proofs.TilesLemmas.{tile_lies}
 use Rattle.cdf_edits.specs.Commands.Allowances.{Allowances, AllKeep, Keeps, Anything, Only, GivenStay, no_fields, same_kind, shapes_of, stays_own, vdr_type}
 use Rattle.cdf_edits.specs.Commands.Variables.{set_pad_changes, variables_gdr_fields}
 use Rattle.cdf_edits.specs.Edits.Edit.{Edit}
-use Rattle.cdf_edits.specs.Edits.Marks.{Mark, Away, all_unmarked, avoided, within, index_types, keeps_file, making_marks, giving_marks, replacing_marks}
+use Rattle.cdf_edits.specs.Edits.Marks.{Mark, Away, all_unmarked, avoided, within, index_types, keeps_file, making_marks, giving_marks}
+use Rattle.cdf_edits.specs.Space.Adding.{adding_marks}
 use Rattle.cdf_edits.specs.Space.Acts.{Act, ActsFollow, Gave, Took, gave, links_end, sized}
-use Rattle.cdf_edits.specs.Space.Chains.{holder_of, holder_type, head_of, count_of, type_in, members_of}
+use Rattle.cdf_edits.specs.Space.Chains.{head_of, count_of, type_in}
 use Rattle.cdf_edits.specs.Space.Placement.{Gives, giving, taken_from}
 use Rattle.cdf_edits.specs.Space.VariableChains.{variables_chain}
 use Rattle.cdf_edits.proofs.Edits.Composing.{edit_then, same-then, sizes}
@@ -49,14 +50,14 @@ use Rattle.cdf_edits.proofs.Edits.EditActs.{acts_took}
 use Rattle.cdf_edits.proofs.Edits.FreedEntry.{link_then}
 use Rattle.cdf_edits.proofs.Edits.MadeRecord.{place_in, end_now, listed, listed_marks, loose_away, rest_or_old}
 use Rattle.cdf_edits.proofs.Edits.MarkLemmas.{the_one, away-avoids, all_unmarked-away, Avoids-append, Away-append, Within-append}
-use Rattle.cdf_edits.proofs.Edits.MovedVdr.{MovesVdr, c, type, need, records, list, file, fills, later, as_long, marks, made, lately, lives, by_not_old, by_type, by_size, splices, own', chain_late, late_shape, late_is, traded, old_unowned, by_once, by_used, sound_late, old_in, old_type}
+use Rattle.cdf_edits.proofs.Edits.MovedVdr.{CopiesVdr, MovesVdr, gdr_is, holder_is, c, type, need, records, list, file, fills, later, as_long, marks, made, lately, lives, by_not_old, by_type, by_size, splices, own', chain_late, late_shape, late_is, traded, old_unowned, by_once, by_used, sound_late, old_in, old_type}
 use Rattle.cdf_edits.proofs.Edits.OwnedOnce.{all_attributes_in, used_times, IsSorted, owned_once_if}
 use Rattle.cdf_edits.proofs.Edits.OwnersKept.{stood, keep_all, keep_file, keep_unused, keeps_fields}
 use Rattle.cdf_edits.proofs.Edits.FreedBytes.{behind_one, freed_stay}
 use Rattle.cdf_edits.proofs.Edits.VariableKept.{keep_kinds, keep_own, keep_variable_parts, vdr_allowance}
 use Rattle.cdf_edits.proofs.Space.ActsLeave.{no_rest, places-sized}
 use Rattle.cdf_edits.proofs.Space.UsedRecords.{apart}
-use Rattle.cdf_edits.proofs.Edits.RecordFrame.{index_records, VariableLives, chain_stays, field_clear, gdr_field, gdr_place, file_same, kept_away}
+use Rattle.cdf_edits.proofs.Edits.RecordFrame.{index_records, VariableLives, chain_stays, field_clear, gdr_place, file_same, kept_away}
 use Rattle.cdf_edits.proofs.Edits.StepEdits.{gives_edit, all_marked, gdr_in, gdr_typed, gdr_long}
 use Rattle.cdf_edits.proofs.Edits.VariableCopied.{links_copied, content_copied, rules_stay, index_rules_stay}
 use Rattle.cdf_edits.proofs.Edits.VariableFrame.{AreOurs, IsRuled, nums_from, rest_ours, index_typed, remain_from, variables_in}
@@ -75,7 +76,7 @@ record GiveTests (kind : Kind) (marks_ : List Mark) (list_ : List ℕ) (old size
   other_clear : keeps_kind (marks_ ++ giving_marks list_ (type_in (variables_chain kind)) old size) (other_kind kind) ≡ true
   gdr_start : avoided (giving_marks list_ (type_in (variables_chain kind)) old size) gdr_type 0 12 ≡ true
   gdr_head : avoided (giving_marks list_ (type_in (variables_chain kind)) old size) gdr_type (head_of (variables_chain kind)).place ((head_of (variables_chain kind)).place + (head_of (variables_chain kind)).width) ≡ true
-  count_clear : avoided (marks_ ++ giving_marks list_ (type_in (variables_chain kind)) old size) gdr_type (count_of (variables_chain kind)).place ((count_of (variables_chain kind)).place + (count_of (variables_chain kind)).width) ≡ true
+  count_clear : avoided (giving_marks list_ (type_in (variables_chain kind)) old size) gdr_type (count_of (variables_chain kind)).place ((count_of (variables_chain kind)).place + (count_of (variables_chain kind)).width) ≡ true
   others_clear : all_unmarked (marks_ ++ giving_marks list_ (type_in (variables_chain kind)) old size) (type_in (variables_chain (other_kind kind)) ∷ index_types) ≡ true
   cdr_start : avoided (marks_ ++ giving_marks list_ (type_in (variables_chain kind)) old size) cdr_type 0 12 ≡ true
   cdr_within : within (marks_ ++ giving_marks list_ (type_in (variables_chain kind)) old size) cdr_type [] ≡ true
@@ -83,10 +84,9 @@ record GiveTests (kind : Kind) (marks_ : List Mark) (list_ : List ℕ) (old size
   gdr_within : within (marks_ ++ giving_marks list_ (type_in (variables_chain kind)) old size) gdr_type (variables_gdr_fields kind) ≡ true
   gdr_end : avoided (giving_marks list_ (type_in (variables_chain kind)) old size) gdr_type 36 44 ≡ true
 
-give_tests : (kind : Kind) (filled unused : List ℕ) (by needed : ℕ) (members list_ : List ℕ) (old size : ℕ)
-    → GiveTests kind (making_marks unused by needed (replacing_marks (holder_type (variables_chain kind)) (holder_of filled (variables_chain kind)) (head_of (variables_chain kind)) (type_in (variables_chain kind)) by members)) list_ old size
-give_tests R filled unused by needed members list_ old size = record { file_clear = refl; attributes_clear = refl; other_clear = refl; gdr_start = refl; gdr_head = refl; count_clear = refl; others_clear = refl; cdr_start = refl; cdr_within = refl; gdr_front = refl; gdr_within = refl; gdr_end = refl }
-give_tests Z filled unused by needed members list_ old size = record { file_clear = refl; attributes_clear = refl; other_clear = refl; gdr_start = refl; gdr_head = refl; count_clear = refl; others_clear = refl; cdr_start = refl; cdr_within = refl; gdr_front = refl; gdr_within = refl; gdr_end = refl }
+give_tests : (kind : Kind) (b unused : List ℕ) (by needed : ℕ) (list_ : List ℕ) (old size : ℕ) → GiveTests kind (making_marks unused by needed (adding_marks b (variables_chain kind) by)) list_ old size
+give_tests R b unused by needed list_ old size = record { file_clear = refl; attributes_clear = refl; other_clear = refl; gdr_start = refl; gdr_head = refl; count_clear = refl; others_clear = refl; cdr_start = refl; cdr_within = refl; gdr_front = refl; gdr_within = refl; gdr_end = refl }
+give_tests Z b unused by needed list_ old size = record { file_clear = refl; attributes_clear = refl; other_clear = refl; gdr_start = refl; gdr_head = refl; count_clear = refl; others_clear = refl; cdr_start = refl; cdr_within = refl; gdr_front = refl; gdr_within = refl; gdr_end = refl }
 
 -- a type of variables
 record IsPlain (type_ : ℕ) : Type 0 where
@@ -161,7 +161,7 @@ rows_replaced Z b now before own after by count front back mine rules = let many
 
 -- ---- the image
 
-module _ {b late now : List ℕ} {kind : Kind} {before : List VariableShape} {own : VariableShape} {after : List VariableShape} {body : List ℕ} {by : ℕ} (good : Good b) (at : StandsAmong b kind before own after) (m : MovesVdr b late kind own body by) (gives : Gives late now (shape late) (shape now) own.vdr) where
+module _ {b late now : List ℕ} {kind : Kind} {before : List VariableShape} {own : VariableShape} {after : List VariableShape} {body : List ℕ} {by : ℕ} (good : Good b) (at : StandsAmong b kind before own after) (m : MovesVdr b late kind own body by) (says : CopiesVdr b late own body by) (gives : Gives late now (shape late) (shape now) own.vdr) where
   abbrev old : ℕ
   old = own.vdr
 
@@ -178,13 +178,13 @@ module _ {b late now : List ℕ} {kind : Kind} {before : List VariableShape} {ow
   sb = shape b
 
   abbrev shaped : Shape
-  shaped = late_shape good at m
+  shaped = late_shape good at m says
 
   h_late : HasShape late shaped
-  h_late = subst (HasShape late) (late_is good at m) (sound_late good at m).has_shape
+  h_late = subst (HasShape late) (late_is good at m says) (sound_late good at m says).has_shape
 
   gives' : Gives late now shaped (shape now) old
-  gives' = subst (λ (x : Shape). Gives late now x (shape now) old) (late_is good at m) gives
+  gives' = subst (λ (x : Shape). Gives late now x (shape now) old) (late_is good at m says) gives
 
   old_tile : In old rs
   old_tile = (made good at m).sub old (tile good at)
@@ -205,7 +205,7 @@ module _ {b late now : List ℕ} {kind : Kind} {before : List VariableShape} {ow
   freed_edit = edit_then (made good at m) given
 
   t : GiveTests kind (marks good at m) ls old size
-  t = give_tests kind m.filled sb.unused by (need good at m) (members_of m.filled (variables_chain kind)) ls old size
+  t = give_tests kind b sb.unused by (need good at m) ls old size
 
   plain : IsPlain ty
   plain = plain_kind kind
@@ -275,20 +275,20 @@ module _ {b late now : List ℕ} {kind : Kind} {before : List VariableShape} {ow
   file_now = file_same (sound good at) freed_edit t.file_clear
 
   pub by_long : 340 ≤ size_at late by
-  by_long = through 340 (fixed_size ty) (size_at late by) (least_size kind) (subst (λ (x : ℕ). fixed_size x ≤ size_at late by) (by_type good at m) ((splices good at m).typed by (inl refl)).1)
+  by_long = through 340 (fixed_size ty) (size_at late by) (least_size kind) (subst (λ (x : ℕ). fixed_size x ≤ size_at late by) (by_type good at m) ((splices good at m says).typed by (inl refl)).1)
 
   pub copied_now : VdrCopied b now old by
-  copied_now = copied_then m.copied by_kept (let l = by_long in omega arith) pad_within
+  copied_now = copied_then says.copied by_kept (let l = by_long in omega arith) pad_within
     where
       sum_least : (p q n : ℕ) → p + q ≤ n → p ≤ n
       sum_least p q n l = omega arith
 
       pad_within : (pad_field b old).place ≤ size_at late by
-      pad_within = subst (λ (f : Field). f.place ≤ size_at late by) (pad_field_copied (file good at m) m.copied)
-          (sum_least (pad_field late by).place _ (size_at late by) (subst (λ (n : ℕ). vdr_end late by ≤ n) (sym (by_size good at m)) m.ends))
+      pad_within = subst (λ (f : Field). f.place ≤ size_at late by) (pad_field_copied (file good at m) says.copied)
+          (sum_least (pad_field late by).place _ (size_at late by) (subst (λ (n : ℕ). vdr_end late by ≤ n) (sym (by_size good at m)) says.ends))
 
   pub packed_now : is_compressed now by ≡ is_compressed b old
-  packed_now = ap (λ (n : ℕ). has_bit n 2) (number_kept late now by by_kept.same vdr_flags (let l = by_long in omega arith)) ∙ m.packed
+  packed_now = ap (λ (n : ℕ). has_bit n 2) (number_kept late now by by_kept.same vdr_flags (let l = by_long in omega arith)) ∙ says.packed
 
   pub freed_type : type_at now old ≡ uir_type
   freed_type = is_a-type now (shape now).records uir_type old gives.stands
@@ -343,7 +343,7 @@ module _ {b late now : List ℕ} {kind : Kind} {before : List VariableShape} {ow
     where
       by_real : (is_record_type (type_at now by) ≡ true) × (fixed_size (type_at now by) ≤ size_at now by)
       by_real =
-          let was = (splices good at m).typed by (inl refl) in
+          let was = (splices good at m says).typed by (inl refl) in
           let kind_same = type_kept late now by by_kept.same by_kept.long in
           let size_same = size_kept late now by by_kept.same (let l = by_kept.long in omega arith) in
           (ap is_record_type kind_same ∙ was.0, subst (λ (k : ℕ). fixed_size k ≤ size_at now by) (sym kind_same) (subst (λ (n : ℕ). fixed_size (type_at late by) ≤ n) (sym size_same) was.1))
@@ -368,24 +368,26 @@ module _ {b late now : List ℕ} {kind : Kind} {before : List VariableShape} {ow
   moved_means = content_copied (sound good at) freed_edit file_now own (has good at) (fits good at) (behind_in good at) behind_now copied_now packed_now
 
   pub name_now : name_in now by vdr_name ≡ name_in b old vdr_name
-  name_now = name_kept late now by by_kept.same vdr_name (let l = by_long in omega arith) by_kept.inside (let l = gives'.length_is in omega arith) ∙ m.name_is
+  name_now = name_kept late now by by_kept.same vdr_name (let l = by_long in omega arith) by_kept.inside (let l = gives'.length_is in omega arith) ∙ says.name_is
 
   -- ---- the rules
 
-  gdr_kept : (f : Field) → avoided all_marks gdr_type f.place (f.place + f.width) ≡ true → f.place + f.width ≤ 84 → number now (gdr_offset now) f ≡ number b (gdr_offset b) f
-  gdr_kept f clear l = ap (λ (x : ℕ). number now x f) (gdr_place (sound good at) freed_edit t.file_clear) ∙ gdr_field (sound good at) freed_edit t.file_clear f clear l ∙ sym (ap (λ (x : ℕ). number b x f) h.gdr_is)
+  count_now : number now (gdr_offset now) (count_of (variables_chain kind)) ≡ number b (gdr_offset b) (count_of (variables_chain kind))
+  count_now =
+      let f = count_of (variables_chain kind) in
+      ap (λ (x : ℕ). number now x f) (gdr_place (sound good at) freed_edit t.file_clear) ∙ gdr_same f t.count_clear (in_gdr kind).1 ∙ ap (λ (x : ℕ). number late x f) (sym (gdr_is good at m)) ∙ m.exchanged.counted ∙ ap (λ (x : ℕ). number b x f) (holder_is kind b)
 
   counted : IsGoodByShape b sb → Hold (vdrs_rows kind now (vdrs (before ++ own' good at m ∷ after)))
   counted image =
-      rows_replaced kind b now before own after by (gdr_kept (count_of (variables_chain kind)) t.count_clear (in_gdr kind).1)
+      rows_replaced kind b now before own after by count_now
       (nums_from (sound good at) freed_edit file_now before (ours good at).0 front_live) (nums_from (sound good at) freed_edit file_now after (after_ours good at) back_live)
-      (number_kept late now by by_kept.same vdr_num (let l = by_long in omega arith) ∙ m.num_is)
+      (number_kept late now by by_kept.same vdr_num (let l = by_long in omega arith) ∙ says.num_is)
       (subst (λ (vs : List VariableShape). Hold (vdrs_rows kind b (vdrs vs))) at.was (counted_before image kind))
 
   pub same_end : vdr_end now by ≡ vdr_end late by
   same_end =
-      let f = pad_field_copied file_now copied_now ∙ sym (pad_field_copied (file good at m) m.copied) in
-      let w = value_copied file_now copied_now ∙ sym (value_copied (file good at m) m.copied) in
+      let f = pad_field_copied file_now copied_now ∙ sym (pad_field_copied (file good at m) says.copied) in
+      let w = value_copied file_now copied_now ∙ sym (value_copied (file good at m) says.copied) in
       let p = ap (λ (n : ℕ). has_bit n 1) (number_kept late now by by_kept.same vdr_flags (let l = by_long in omega arith)) in
       λ i. (f i).place + (if p i then w i else 0)
 
@@ -397,18 +399,18 @@ module _ {b late now : List ℕ} {kind : Kind} {before : List VariableShape} {ow
       let rules : IsRuled b sb.records own = (parts_ruled (sound good at) freed_splices image).0.1.0.0 in (
         rules_stay (sound good at) freed_edit file_now own (has good at) (fits good at) (behind_in good at) behind_now copied_now packed_now [] [] rules.0
             (ap (λ (name : List ℕ). not (length name == 0)) name_now ∙ rules.0.0) refl
-            (subst (λ (n : ℕ). n ≤ size_at now by) (sym same_end) (subst (λ (n : ℕ). vdr_end late by ≤ n) (sym size_now) m.ends))
-            (subst (λ (n : ℕ). size_at b old ≤ n) (sym size_now) m.larger),
+            (subst (λ (n : ℕ). n ≤ size_at now by) (sym same_end) (subst (λ (n : ℕ). vdr_end late by ≤ n) (sym size_now) says.ends))
+            (subst (λ (n : ℕ). size_at b old ≤ n) (sym size_now) says.larger),
         index_rules_stay (sound good at) freed_edit file_now own (has good at) (fits good at) (behind_in good at) behind_now copied_now packed_now rules.1,
       )
 
   sorted : (x : ℕ) → In x (by ∷ old ∷ []) → IsSorted now (with_shapes sb kind rs (shape now).unused (before ++ own' good at m ∷ after)) x
-  sorted x (inl q) = subst (IsSorted now (with_shapes sb kind rs (shape now).unused (before ++ own' good at m ∷ after))) (sym q) (inl ((λ u. by_used good at m (sym (type_kept late now by by_kept.same by_kept.long) ∙ u)), by_once good at m))
-  sorted x (inr j) = subst (IsSorted now (with_shapes sb kind rs (shape now).unused (before ++ own' good at m ∷ after))) (sym (the_one old x j)) (inr (freed_type, old_unowned good at m))
+  sorted x (inl q) = subst (IsSorted now (with_shapes sb kind rs (shape now).unused (before ++ own' good at m ∷ after))) (sym q) (inl ((λ u. by_used good at m (sym (type_kept late now by by_kept.same by_kept.long) ∙ u)), by_once good at m says))
+  sorted x (inr j) = subst (IsSorted now (with_shapes sb kind rs (shape now).unused (before ++ own' good at m ∷ after))) (sym (the_one old x j)) (inr (freed_type, old_unowned good at m says))
 
   same_owners : (x : ℕ) → (In x (by ∷ old ∷ []) → ⊥) → used_times (with_shapes sb kind rs (shape now).unused (before ++ own' good at m ∷ after)) x ≡ used_times sb x
   same_owners x out =
-      same (used_times (late_shape good at m) x) (used_times sb x) (times x (old ∷ [])) (times x (by ∷ [])) (traded good at m x) (times-none x (old ∷ []) (λ i. out (inr i))) (times-none x (by ∷ []) (λ i. out (inl (the_one by x i))))
+      same (used_times (late_shape good at m says) x) (used_times sb x) (times x (old ∷ [])) (times x (by ∷ [])) (traded good at m says x) (times-none x (old ∷ []) (λ i. out (inr i))) (times-none x (by ∷ []) (λ i. out (inl (the_one by x i))))
     where
       same : (u' u g k : ℕ) → u' + g ≡ u + k → g ≡ 0 → k ≡ 0 → u' ≡ u
       same u' u g k p q r = omega arith
@@ -442,8 +444,8 @@ module _ {b late now : List ℕ} {kind : Kind} {before : List VariableShape} {ow
 
   pub freed_acts : ActsFollow b now (Took by (need good at m) ∷ Gave old (size_at b old) ∷ [])
   freed_acts = subst (λ (n : ℕ). ActsFollow b now (Took by (need good at m) ∷ Gave old n ∷ [])) old_size
-      (acts_gave h (acts_took (sound good at) (fills good at m) (later good at m) (as_long good at m) (lately good at m) (ap (λ (x : Shape). x.records) (late_is good at m)) (ap (λ (x : Shape). x.unused) (late_is good at m)))
-      (sound_late good at m) (old_in good at m) (λ u. plain.no_uir (sym (old_type good at m) ∙ u)) gives)
+      (acts_gave h (acts_took (sound good at) (fills good at m) (later good at m) (as_long good at m) (lately good at m) (ap (λ (x : Shape). x.records) (late_is good at m says)) (ap (λ (x : Shape). x.unused) (late_is good at m says)))
+      (sound_late good at m says) (old_in good at m says) (λ u. plain.no_uir (sym (old_type good at m) ∙ u)) gives)
 
   pub freed_bytes : (acts : List Act) → GivenStay b now no_fields acts (gave b (old ∷ []))
   freed_bytes acts = freed_stay b now acts (old ∷ []) no_fields (subst (AreTiles now 8 (length now)) (sym records_now) given.tiled_now)
@@ -486,7 +488,7 @@ module _ {b late now : List ℕ} {kind : Kind} {before : List VariableShape} {ow
   unused_keep : (may : Allowances) → AllKeep b now may acts (owned_by Unused (unused_records b sb))
   unused_keep may = keep_unused (sound good at) freed_edit records_now may acts
       (λ x i free.
-      let l = listed_marks (sound good at) (fills good at m) (later good at m) (as_long good at m) (lately good at m) (ap (λ (y : Shape). y.records) (late_is good at m)) x i free in (
+      let l = listed_marks (sound good at) (fills good at m) (later good at m) (as_long good at m) (lately good at m) (ap (λ (y : Shape). y.records) (late_is good at m says)) x i free in (
         Avoids-append (marks good at m) given_marks uir_type x 0 12 l.0 ((λ q lies. absurd (apart uir_type gdr_type refl q)), ((λ q lies. inl (omega arith)), ((λ q lies. absurd (plain.no_uir (sym q))), tt))),
         Within-append (marks good at m) given_marks uir_type x (uir_next_uir ∷ uir_prev_uir ∷ []) l.1 ((λ q lies. absurd (apart uir_type gdr_type refl q)), ((λ q lies. refl), ((λ q lies. absurd (plain.no_uir (sym q))), tt))),
       ))

@@ -16,19 +16,19 @@ use Rattle.cdf_format.specs.WellFormed.{Good}
 use Rattle.cdf_format.proofs.ShapeLemmas.{Each-split, shape_is}
 use Rattle.cdf_edits.specs.Commands.Allowances.{shapes_of}
 use Rattle.cdf_edits.specs.Edits.Edit.{Edit}
-use Rattle.cdf_edits.specs.Edits.Marks.{Mark, is_late, keeps_file, keeps_index_records, making_marks, replacing_marks}
-use Rattle.cdf_edits.specs.Space.Chains.{HolderStands, MayJoin, Replaced, head_of, holder_of, holder_type, members_of, type_in, with_in_place}
-use Rattle.cdf_edits.specs.Space.Placement.{with_space}
-use Rattle.cdf_edits.specs.Space.Placing.{Fills, Placed, type_of_body}
+use Rattle.cdf_edits.specs.Edits.Marks.{Mark, avoided, is_late, keeps_file, keeps_index_records, making_marks}
+use Rattle.cdf_edits.specs.Space.Adding.{Exchanged, adding_marks}
+use Rattle.cdf_edits.specs.Space.Chains.{head_of, holder_of, type_in, with_in_place}
+use Rattle.cdf_edits.specs.Space.Placing.{Fills, type_of_body}
 use Rattle.cdf_edits.specs.Space.VariableChains.{variables_chain}
 use Rattle.cdf_edits.specs.declared.chain.Chain.{Chain}
-use Rattle.cdf_edits.proofs.Edits.ChainEdits.{replaced_edit}
+use Rattle.cdf_format.specs.Bytes.{Same}
 use Rattle.cdf_edits.proofs.Edits.ChainOwners.{IsHeld, not_twice_kept}
-use Rattle.cdf_edits.proofs.Edits.ChainsOfShape.{IsOf, has_chain, replaced_chain}
-use Rattle.cdf_edits.proofs.Edits.MadeRecord.{filled_sound, fresh, unowned, made_edit, made_type, made_size, list_chain}
+use Rattle.cdf_edits.proofs.Edits.ChainsOfShape.{IsOf, members_are}
+use Rattle.cdf_edits.proofs.Edits.MadeRecord.{fresh, unowned, made_edit, made_part, made_type, made_size, list_chain}
 use Rattle.cdf_edits.proofs.Edits.MarkLemmas.{the_one}
 use Rattle.cdf_edits.proofs.Edits.OwnedOnce.{used_times, unused_none}
-use Rattle.cdf_edits.proofs.Edits.RecordFrame.{index_records, VariableLives, gdr_place, file_same}
+use Rattle.cdf_edits.proofs.Edits.RecordFrame.{index_records, VariableLives, file_same}
 use Rattle.cdf_edits.proofs.Edits.VariableCopied.{links_copied, fits_copied}
 use Rattle.cdf_edits.proofs.Edits.VariableFrame.{clear_live, remain_from}
 use Rattle.cdf_edits.proofs.Edits.VariableKinds.{other_kind, keeps_kind, with_shapes, kind_chain, of_kind, spliced_times}
@@ -38,13 +38,13 @@ use Rattle.cdf_edits.proofs.Frame.Meaning.{FileSame, late_type}
 use Rattle.cdf_edits.proofs.Frame.OwnersApart.{times-append, owned-times}
 use Rattle.cdf_edits.proofs.Frame.VdrCopied.{VdrCopied}
 
--- a record with these bytes behind its size took the place of the VDR of a variable, of which it says the same but for its flags and its pad value
+-- a record with these bytes behind its size took the place of the VDR of a variable
 pub record MovesVdr (b late : List ℕ) (kind : Kind) (own : VariableShape) (body : List ℕ) (by : ℕ) : Type 0 where
-  pub filled : List ℕ
-  pub placed : Placed b filled body by
+  pub exchanged : Exchanged b late (variables_chain kind) body own.vdr by
   pub type_is : type_of_body body ≡ type_in (variables_chain kind)
-  pub joins : MayJoin filled (variables_chain kind) by
-  pub replaced : Replaced filled late (variables_chain kind) own.vdr by
+
+-- and says the same of it but for its flags and its pad value
+pub record CopiesVdr (b late : List ℕ) (own : VariableShape) (body : List ℕ) (by : ℕ) : Type 0 where
   pub copied : VdrCopied b late own.vdr by
   pub num_is : number late by vdr_num ≡ number b own.vdr vdr_num
   pub packed : is_compressed late by ≡ is_compressed b own.vdr
@@ -54,28 +54,21 @@ pub record MovesVdr (b late : List ℕ) (kind : Kind) (own : VariableShape) (bod
 
 -- ---- by the kind
 
-record MoveTests (kind : Kind) (filled unused : List ℕ) (by need : ℕ) (members : List ℕ) : Type 0 where
-  lately : is_late (replacing_marks (holder_type (variables_chain kind)) (holder_of filled (variables_chain kind)) (head_of (variables_chain kind)) (type_in (variables_chain kind)) by members) (type_in (variables_chain kind)) ≡ true
-  file_clear : keeps_file (making_marks unused by need (replacing_marks (holder_type (variables_chain kind)) (holder_of filled (variables_chain kind)) (head_of (variables_chain kind)) (type_in (variables_chain kind)) by members)) ≡ true
-  attributes_clear : keeps_all_attributes (making_marks unused by need (replacing_marks (holder_type (variables_chain kind)) (holder_of filled (variables_chain kind)) (head_of (variables_chain kind)) (type_in (variables_chain kind)) by members)) ≡ true
-  other_clear : keeps_kind (making_marks unused by need (replacing_marks (holder_type (variables_chain kind)) (holder_of filled (variables_chain kind)) (head_of (variables_chain kind)) (type_in (variables_chain kind)) by members)) (other_kind kind) ≡ true
-  indexes_clear : keeps_index_records (making_marks unused by need (replacing_marks (holder_type (variables_chain kind)) (holder_of filled (variables_chain kind)) (head_of (variables_chain kind)) (type_in (variables_chain kind)) by members)) ≡ true
+record MoveTests (kind : Kind) (b unused : List ℕ) (by need : ℕ) : Type 0 where
+  lately : is_late (adding_marks b (variables_chain kind) by) (type_in (variables_chain kind)) ≡ true
+  file_clear : keeps_file (making_marks unused by need (adding_marks b (variables_chain kind) by)) ≡ true
+  attributes_clear : keeps_all_attributes (making_marks unused by need (adding_marks b (variables_chain kind) by)) ≡ true
+  other_clear : keeps_kind (making_marks unused by need (adding_marks b (variables_chain kind) by)) (other_kind kind) ≡ true
+  indexes_clear : keeps_index_records (making_marks unused by need (adding_marks b (variables_chain kind) by)) ≡ true
+  fields_clear : (hi : ℕ) → avoided (adding_marks b (variables_chain kind) by) (type_in (variables_chain kind)) 20 hi ≡ true
 
-tests : (kind : Kind) (filled unused : List ℕ) (by need : ℕ) (members : List ℕ) → MoveTests kind filled unused by need members
-tests R filled unused by need members = record { lately = refl; file_clear = refl; attributes_clear = refl; other_clear = refl; indexes_clear = refl }
-tests Z filled unused by need members = record { lately = refl; file_clear = refl; attributes_clear = refl; other_clear = refl; indexes_clear = refl }
+tests : (kind : Kind) (b unused : List ℕ) (by need : ℕ) → MoveTests kind b unused by need
+tests R b unused by need = record { lately = refl; file_clear = refl; attributes_clear = refl; other_clear = refl; indexes_clear = refl; fields_clear = λ hi. refl }
+tests Z b unused by need = record { lately = refl; file_clear = refl; attributes_clear = refl; other_clear = refl; indexes_clear = refl; fields_clear = λ hi. refl }
 
-holds : (kind : Kind) (b : List ℕ) → HolderStands b (variables_chain kind)
-holds R b = tt
-holds Z b = tt
-
-holder_is : (kind : Kind) (b : List ℕ) → holder_of b (variables_chain kind) ≡ gdr_offset b
+pub holder_is : (kind : Kind) (b : List ℕ) → holder_of b (variables_chain kind) ≡ gdr_offset b
 holder_is R b = refl
 holder_is Z b = refl
-
-same_shapes : (s : Shape) (records list : List ℕ) (kind : Kind) → shapes_of (with_space s records list) kind ≡ shapes_of s kind
-same_shapes s records list R = refl
-same_shapes s records list Z = refl
 
 -- another in the place of one of some variables
 vdrs_replaced : (before : List VariableShape) (own : VariableShape) (after : List VariableShape) (by : ℕ) → (In own.vdr (vdrs before) → ⊥) → with_in_place own.vdr by (vdrs (before ++ own ∷ after)) ≡ vdrs (before ++ record own { vdr = by } ∷ after)
@@ -96,52 +89,41 @@ module _ {b late : List ℕ} {kind : Kind} {before : List VariableShape} {own : 
   need = 8 + length body
 
   abbrev pub records : List ℕ
-  records = (shape m.filled).records
+  records = (shape m.exchanged.filled).records
 
   abbrev pub list : List ℕ
-  list = (shape m.filled).unused
-
-  abbrev grown : Shape
-  grown = with_space s records list
+  list = (shape m.exchanged.filled).unused
 
   h : HasShape b s
   h = (sound good at).has_shape
 
-  pub fills : Fills b m.placed.taken m.filled s records list need by type
-  fills = subst (λ (t : ℕ). Fills b m.placed.taken m.filled s records list need by t) m.type_is m.placed.fills
+  pub fills : Fills b m.exchanged.placed.taken m.exchanged.filled s records list need by type
+  fills = subst (λ (t : ℕ). Fills b m.exchanged.placed.taken m.exchanged.filled s records list need by t) m.type_is m.exchanged.placed.fills
 
-  sound_filled : IsSound m.filled grown
-  sound_filled = filled_sound (sound good at) fills
+  pub gdr_is : holder_of b c ≡ s.gdr
+  gdr_is = holder_is kind b ∙ h.gdr_is
 
-  filled_is : shape m.filled ≡ grown
-  filled_is = shape_is m.filled grown sound_filled.has_shape
-
-  abbrev ms : List ℕ
-  ms = vdrs (shapes_of s kind)
-
-  is_of : IsOf m.filled grown c s.gdr ms
-  is_of = record {
-    holder_is = holder_is kind m.filled ∙ sound_filled.has_shape.gdr_is;
-    chain = subst (λ (vs : List VariableShape). IsChain m.filled records type (number m.filled s.gdr (head_of c)) (vdrs vs)) (same_shapes s records list kind) (kind_chain kind sound_filled.has_shape);
-  }
-
-  abbrev members : List ℕ
-  members = members_of m.filled c
+  is_of : IsOf b s c s.gdr (vdrs (shapes_of s kind))
+  is_of = record { holder_is = gdr_is; chain = kind_chain kind h }
 
   abbrev pub moving : List Mark
-  moving = replacing_marks (holder_type c) (holder_of m.filled c) (head_of c) type by members
+  moving = adding_marks b c by
 
-  t : MoveTests kind m.filled s.unused by need members
-  t = tests kind m.filled s.unused by need members
+  t : MoveTests kind b s.unused by need
+  t = tests kind b s.unused by need
 
   pub lately : is_late moving type ≡ true
   lately = t.lately
 
-  pub later : Edit m.filled late records records moving []
-  later = replaced_edit m.filled c (subst (IsSound m.filled) (sym filled_is) sound_filled) (holds kind m.filled) (has_chain sound_filled.has_shape is_of) m.joins m.replaced
+  pub later : Edit m.exchanged.filled late records records moving []
+  later = m.exchanged.linked
 
-  pub as_long : length late ≡ length m.filled
-  as_long = m.replaced.length_stays
+  pub as_long : length late ≡ length m.exchanged.filled
+  as_long = m.exchanged.as_long
+
+  -- behind its link it is what was written
+  pub behind_link : Same m.exchanged.filled late (by + 20) (by + need)
+  behind_link = made_part (sound good at) fills later as_long lately 20 need (t.fields_clear need) (omega arith)
 
   abbrev pub marks : List Mark
   marks = making_marks s.unused by need moving
@@ -192,9 +174,8 @@ module _ {b late : List ℕ} {kind : Kind} {before : List VariableShape} {own : 
 
   pub chain_late : IsChain late records type (number late s.gdr (head_of c)) (vdrs (before ++ own' ∷ after))
   chain_late =
-      let holder = holder_is kind late ∙ gdr_place (sound good at) made t.file_clear in
-      subst (IsChain late records type (number late s.gdr (head_of c))) (ap (λ (vs : List VariableShape). with_in_place own.vdr by (vdrs vs)) at.was ∙ vdrs_replaced before own after by out)
-      (replaced_chain sound_filled.has_shape is_of m.replaced later.tiled_now holder)
+      subst (λ (g : ℕ). IsChain late records type (number late g (head_of c)) (vdrs (before ++ own' ∷ after))) gdr_is
+      (subst (IsChain late records type (number late (holder_of b c) (head_of c))) (ap (with_in_place own.vdr by) (members_are h is_of ∙ ap vdrs at.was) ∙ vdrs_replaced before own after by out) m.exchanged.chain)
 
   real : (is_record_type (type_at late by) ≡ true) × (fixed_size (type_at late by) ≤ size_at late by)
   real = (
@@ -202,45 +183,11 @@ module _ {b late : List ℕ} {kind : Kind} {before : List VariableShape} {own : 
     subst (λ (x : ℕ). fixed_size x ≤ size_at late by) (sym by_type) (subst (λ (n : ℕ). fixed_size type ≤ n) (sym by_size) fills.fixed),
   )
 
-  pub splices : VariableSplices b late s kind records list marks (by ∷ []) before (own ∷ []) (own' ∷ []) after
-  splices = record {
-    edit = made;
-    was = at.was;
-    file_clear = t.file_clear;
-    attributes_clear = t.attributes_clear;
-    other_clear = t.other_clear;
-    before_remain = remain_from (sound good at) made file before (ours good at).0 own_lives.0;
-    after_remain = remain_from (sound good at) made file after (after_ours good at) own_lives.1.1;
-    others_live = of_kind (VariableLives b late) (other_kind kind) s lives;
-    typed = λ x i. subst (λ (y : ℕ). (is_record_type (type_at late y) ≡ true) × (fixed_size (type_at late y) ≤ size_at late y)) (sym (the_one by x i)) real;
-    variable_chain = chain_late;
-    unused_chain = list_chain (sound good at) fills later as_long lately;
-    own_have = (links_copied (sound good at) made file own (has good at) (fits good at) (behind_in good at) old_lives.behind m.copied m.packed, tt);
-  }
+  pub by_used : type_at late by ≢ uir_type
+  by_used u = fills.in_use (sym by_type ∙ u)
 
-  abbrev pub late_shape : Shape
-  late_shape = with_shapes s kind records list (before ++ own' ∷ after)
-
-  pub late_is : shape late ≡ late_shape
-  late_is = shape_is late late_shape (shape_now (sound good at) splices)
-
-  -- ---- who owns what
-
-  -- the new VDR comes, and the old one goes
-  pub traded : (x : ℕ) → used_times late_shape x + times x (own.vdr ∷ []) ≡ used_times s x + times x (by ∷ [])
-  traded x =
-      spliced_times s kind records list before (own ∷ []) (own' ∷ []) after at.was x (times x (by ∷ [])) (times x (own.vdr ∷ []))
-      (sums (times x (variable_records own' ++ [])) (times x (variable_records own ++ [])) (times x (by ∷ index_records own)) (times x (own.vdr ∷ index_records own)) (times x (index_records own)) (times x (by ∷ [])) (times x (own.vdr ∷ []))
-      (flat (variable_records own')) (flat (variable_records own)) (times-append x (by ∷ []) (index_records own)) (times-append x (own.vdr ∷ []) (index_records own)))
-    where
-      flat : (xs : List ℕ) → times x (xs ++ []) ≡ times x xs
-      flat xs = times-append x xs [] ∙ none (times x xs)
-        where
-          none : (n : ℕ) → n + 0 ≡ n
-          none n = omega arith
-
-      sums : (f' f o' o r y v : ℕ) → f' ≡ o' → f ≡ o → o' ≡ y + r → o ≡ v + r → f' + v ≡ f + y
-      sums f' f o' o r y v p q e g = omega arith
+  pub old_type : type_at late own.vdr ≡ type
+  old_type = late_type b late own.vdr old_lives.vdr ∙ typed good at
 
   none_of : (x y : ℕ) → (x ≡ y → ⊥) → times x (y ∷ []) ≡ 0
   none_of x y other = rw (ne_eqb x y other) refl
@@ -251,48 +198,85 @@ module _ {b late : List ℕ} {kind : Kind} {before : List VariableShape} {own : 
       at_most : (o f a v u : ℕ) → o ≡ f + (a + (v + u)) → o ≤ 1 → f + (a + v) ≤ 1
       at_most o f a v u p q = omega arith
 
-  pub old_unowned : used_times late_shape own.vdr ≡ 0
-  old_unowned = gone (used_times late_shape own.vdr) (used_times s own.vdr) (times own.vdr (own.vdr ∷ [])) (times own.vdr (by ∷ [])) (traded own.vdr) once_before (rw (eq-eqb own.vdr own.vdr refl) refl) (none_of own.vdr by (λ q. by_not_old (sym q)))
-    where
-      gone : (u' u g h : ℕ) → u' + g ≡ u + h → u ≤ 1 → g ≡ 1 → h ≡ 0 → u' ≡ 0
-      gone u' u g h p q r e = omega arith
+  -- ---- it says the same
 
-  pub by_once : used_times late_shape by ≡ 1
-  by_once = came (used_times late_shape by) (used_times s by) (times by (own.vdr ∷ [])) (times by (by ∷ [])) (traded by) (unowned (sound good at) fills) (none_of by own.vdr by_not_old) (rw (eq-eqb by by refl) refl)
-    where
-      came : (u' u g h : ℕ) → u' + g ≡ u + h → u ≡ 0 → g ≡ 0 → h ≡ 1 → u' ≡ 1
-      came u' u g h p q r e = omega arith
+  module _ (says : CopiesVdr b late own body by) where
+    pub splices : VariableSplices b late s kind records list marks (by ∷ []) before (own ∷ []) (own' ∷ []) after
+    splices = record {
+      edit = made;
+      was = at.was;
+      file_clear = t.file_clear;
+      attributes_clear = t.attributes_clear;
+      other_clear = t.other_clear;
+      before_remain = remain_from (sound good at) made file before (ours good at).0 own_lives.0;
+      after_remain = remain_from (sound good at) made file after (after_ours good at) own_lives.1.1;
+      others_live = of_kind (VariableLives b late) (other_kind kind) s lives;
+      typed = λ x i. subst (λ (y : ℕ). (is_record_type (type_at late y) ≡ true) × (fixed_size (type_at late y) ≤ size_at late y)) (sym (the_one by x i)) real;
+      variable_chain = chain_late;
+      unused_chain = list_chain (sound good at) fills later as_long lately;
+      own_have = (links_copied (sound good at) made file own (has good at) (fits good at) (behind_in good at) old_lives.behind says.copied says.packed, tt);
+    }
 
-  pub by_used : type_at late by ≢ uir_type
-  by_used u = fills.in_use (sym by_type ∙ u)
+    abbrev pub late_shape : Shape
+    late_shape = with_shapes s kind records list (before ++ own' ∷ after)
 
-  fewer : (x : ℕ) → (In x (by ∷ []) → ⊥) → used_times late_shape x ≤ used_times s x
-  fewer x outside = less (used_times late_shape x) (used_times s x) (times x (own.vdr ∷ [])) (times x (by ∷ [])) (traded x) (none_of x by (λ q. outside (inl q)))
-    where
-      less : (u' u g h : ℕ) → u' + g ≡ u + h → h ≡ 0 → u' ≤ u
-      less u' u g h p q = omega arith
+    pub late_is : shape late ≡ late_shape
+    late_is = shape_is late late_shape (shape_now (sound good at) splices)
 
-  held : (x : ℕ) → In x (by ∷ []) → IsHeld late late_shape x
-  held x i = subst (IsHeld late late_shape) (sym (the_one by x i)) (inl (by_used, most (used_times late_shape by) by_once))
-    where
-      most : (n : ℕ) → n ≡ 1 → n ≤ 1
-      most n e = omega arith
+    -- ---- who owns what
 
-  pub sound_late : IsSound late (shape late)
-  sound_late = subst (IsSound late) (sym late_is) (sound_if (sound good at) splices
-      (fits_copied (sound good at) made file own (has good at) (fits good at) (behind_in good at) old_lives.behind m.copied m.packed (subst (λ (n : ℕ). vdr_end late by ≤ n) (sym by_size) m.ends), tt)
-      (not_twice_kept b late s late_shape marks (by ∷ []) (sound good at) made fewer held))
+    -- the new VDR comes, and the old one goes
+    pub traded : (x : ℕ) → used_times late_shape x + times x (own.vdr ∷ []) ≡ used_times s x + times x (by ∷ [])
+    traded x =
+        spliced_times s kind records list before (own ∷ []) (own' ∷ []) after at.was x (times x (by ∷ [])) (times x (own.vdr ∷ []))
+        (sums (times x (variable_records own' ++ [])) (times x (variable_records own ++ [])) (times x (by ∷ index_records own)) (times x (own.vdr ∷ index_records own)) (times x (index_records own)) (times x (by ∷ [])) (times x (own.vdr ∷ []))
+        (flat (variable_records own')) (flat (variable_records own)) (times-append x (by ∷ []) (index_records own)) (times-append x (own.vdr ∷ []) (index_records own)))
+      where
+        flat : (xs : List ℕ) → times x (xs ++ []) ≡ times x xs
+        flat xs = times-append x xs [] ∙ none (times x xs)
+          where
+            none : (n : ℕ) → n + 0 ≡ n
+            none n = omega arith
 
-  -- the old one may be freed
-  pub old_in : In own.vdr (shape late).records
-  old_in = subst (In own.vdr) (sym (ap (λ (x : Shape). x.records) late_is)) (made.sub own.vdr (tile good at))
+        sums : (f' f o' o r y v : ℕ) → f' ≡ o' → f ≡ o → o' ≡ y + r → o ≡ v + r → f' + v ≡ f + y
+        sums f' f o' o r y v p q e g = omega arith
 
-  pub old_type : type_at late own.vdr ≡ type
-  old_type = late_type b late own.vdr old_lives.vdr ∙ typed good at
+    pub old_unowned : used_times late_shape own.vdr ≡ 0
+    old_unowned = gone (used_times late_shape own.vdr) (used_times s own.vdr) (times own.vdr (own.vdr ∷ [])) (times own.vdr (by ∷ [])) (traded own.vdr) once_before (rw (eq-eqb own.vdr own.vdr refl) refl) (none_of own.vdr by (λ q. by_not_old (sym q)))
+      where
+        gone : (u' u g h : ℕ) → u' + g ≡ u + h → u ≤ 1 → g ≡ 1 → h ≡ 0 → u' ≡ 0
+        gone u' u g h p q r e = omega arith
 
-  pub old_free : times own.vdr (owned_records late (shape late)) ≡ 0
-  old_free = subst (λ (x : Shape). times own.vdr (owned_records late x) ≡ 0) (sym late_is)
-      (sums _ _ _ _ _ (owned-times late late_shape own.vdr) old_unowned (unused_none late late_shape made.tiled_now own.vdr (λ u. fills.in_use (sym old_type ∙ u))))
-    where
-      sums : (o f a v u : ℕ) → o ≡ f + (a + (v + u)) → f + (a + v) ≡ 0 → u ≡ 0 → o ≡ 0
-      sums o f a v u p q r = omega arith
+    pub by_once : used_times late_shape by ≡ 1
+    by_once = came (used_times late_shape by) (used_times s by) (times by (own.vdr ∷ [])) (times by (by ∷ [])) (traded by) (unowned (sound good at) fills) (none_of by own.vdr by_not_old) (rw (eq-eqb by by refl) refl)
+      where
+        came : (u' u g h : ℕ) → u' + g ≡ u + h → u ≡ 0 → g ≡ 0 → h ≡ 1 → u' ≡ 1
+        came u' u g h p q r e = omega arith
+
+    fewer : (x : ℕ) → (In x (by ∷ []) → ⊥) → used_times late_shape x ≤ used_times s x
+    fewer x outside = less (used_times late_shape x) (used_times s x) (times x (own.vdr ∷ [])) (times x (by ∷ [])) (traded x) (none_of x by (λ q. outside (inl q)))
+      where
+        less : (u' u g h : ℕ) → u' + g ≡ u + h → h ≡ 0 → u' ≤ u
+        less u' u g h p q = omega arith
+
+    held : (x : ℕ) → In x (by ∷ []) → IsHeld late late_shape x
+    held x i = subst (IsHeld late late_shape) (sym (the_one by x i)) (inl (by_used, most (used_times late_shape by) by_once))
+      where
+        most : (n : ℕ) → n ≡ 1 → n ≤ 1
+        most n e = omega arith
+
+    pub sound_late : IsSound late (shape late)
+    sound_late = subst (IsSound late) (sym late_is) (sound_if (sound good at) splices
+        (fits_copied (sound good at) made file own (has good at) (fits good at) (behind_in good at) old_lives.behind says.copied says.packed (subst (λ (n : ℕ). vdr_end late by ≤ n) (sym by_size) says.ends), tt)
+        (not_twice_kept b late s late_shape marks (by ∷ []) (sound good at) made fewer held))
+
+    -- the old one may be freed
+    pub old_in : In own.vdr (shape late).records
+    old_in = subst (In own.vdr) (sym (ap (λ (x : Shape). x.records) late_is)) (made.sub own.vdr (tile good at))
+
+    pub old_free : times own.vdr (owned_records late (shape late)) ≡ 0
+    old_free = subst (λ (x : Shape). times own.vdr (owned_records late x) ≡ 0) (sym late_is)
+        (sums _ _ _ _ _ (owned-times late late_shape own.vdr) old_unowned (unused_none late late_shape made.tiled_now own.vdr (λ u. fills.in_use (sym old_type ∙ u))))
+      where
+        sums : (o f a v u : ℕ) → o ≡ f + (a + (v + u)) → f + (a + v) ≡ 0 → u ≡ 0 → o ≡ 0
+        sums o f a v u p q r = omega arith

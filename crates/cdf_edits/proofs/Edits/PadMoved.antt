@@ -22,7 +22,7 @@ use Rattle.cdf_edits.specs.Commands.Variables.{SetsPad}
 use Rattle.cdf_edits.specs.Space.Acts.{Took, Gave}
 use Rattle.cdf_edits.specs.Space.Placement.{Gives}
 use Rattle.cdf_edits.proofs.Edits.FreedVdr.{by_kept, by_long, copied_now, file_now, freed_bytes, moved_means, name_now, packed_now, same_end}
-use Rattle.cdf_edits.proofs.Edits.MovedVdr.{MovesVdr, by_size, file, need, own'}
+use Rattle.cdf_edits.proofs.Edits.MovedVdr.{CopiesVdr, MovesVdr, by_size, file, need, own'}
 use Rattle.cdf_edits.proofs.Edits.PadWritten.{padded_0, padded_1}
 use Rattle.cdf_edits.proofs.Edits.VdrEdited.{StandsAmong}
 use Rattle.cdf_edits.proofs.Frame.Meaning.{pad_long, pad_width}
@@ -36,7 +36,7 @@ pub record HoldsPad (b late : List ℕ) (old by need : ℕ) (bytes : List ℕ) :
   pub whole : vdr_end late by ≡ need
   pub short : size_at b old < need
 
-module _ {b late now : List ℕ} {kind : Kind} {before : List VariableShape} {own : VariableShape} {after : List VariableShape} {body : List ℕ} {by : ℕ} {bytes : List ℕ} (good : Good b) (at : StandsAmong b kind before own after) (m : MovesVdr b late kind own body by) (gives : Gives late now (shape late) (shape now) own.vdr)
+module _ {b late now : List ℕ} {kind : Kind} {before : List VariableShape} {own : VariableShape} {after : List VariableShape} {body : List ℕ} {by : ℕ} {bytes : List ℕ} (good : Good b) (at : StandsAmong b kind before own after) (m : MovesVdr b late kind own body by) (says : CopiesVdr b late own body by) (gives : Gives late now (shape late) (shape now) own.vdr)
     (p : HoldsPad b late own.vdr by (8 + length body) bytes) where
   abbrev old : ℕ
   old = own.vdr
@@ -54,18 +54,18 @@ module _ {b late now : List ℕ} {kind : Kind} {before : List VariableShape} {ow
       under i n l k = omega arith
 
   flags_now : number now by vdr_flags ≡ with_bits (number b old vdr_flags) 1 1 1
-  flags_now = number_kept late now by (by_kept good at m gives).same vdr_flags (let l = by_long good at m gives in omega arith) ∙ p.flags_are
+  flags_now = number_kept late now by (by_kept good at m says gives).same vdr_flags (let l = by_long good at m says gives in omega arith) ∙ p.flags_are
 
   blocking_now : integer4 now by vdr_blocking_factor ≡ integer4 b old vdr_blocking_factor
-  blocking_now = ap (cast_signed w32) (number_kept late now by (by_kept good at m gives).same vdr_blocking_factor (let l = by_long good at m gives in omega arith) ∙ word_copied fields_alike 80 4 (omega arith) (omega arith))
+  blocking_now = ap (cast_signed w32) (number_kept late now by (by_kept good at m says gives).same vdr_blocking_factor (let l = by_long good at m says gives in omega arith) ∙ word_copied fields_alike 80 4 (omega arith) (omega arith))
 
   padded_late : has_pad late by ≡ true
   padded_late = ap (λ (n : ℕ). has_bit n 1) p.flags_are ∙ padded_1 (number b old vdr_flags)
 
   end_late : vdr_end late by ≡ pad.place + value_bytes b old
   end_late =
-      let f = pad_field_copied (file good at m) m.copied in
-      let value = value_copied (file good at m) m.copied in
+      let f = pad_field_copied (file good at m) says.copied in
+      let value = value_copied (file good at m) says.copied in
       let flag = padded_late in
       λ i. (f i).place + (if flag i then value i else 0)
 
@@ -77,13 +77,13 @@ module _ {b late now : List ℕ} {kind : Kind} {before : List VariableShape} {ow
 
   bytes_now : field_bytes now by pad ≡ bytes
   bytes_now =
-      let k = by_kept good at m gives in
+      let k = by_kept good at m says gives in
       bytes_kept late now by k.same pad pad_fits k.inside (let l = gives.length_is in omega arith) ∙ p.pad_is
 
   value_now : pad_at now by ≡ Some (turned (type_of_variable b old) (is_little b) bytes)
   value_now =
-      let same_file = file_now good at m gives in
-      let copied = copied_now good at m gives in
+      let same_file = file_now good at m says gives in
+      let copied = copied_now good at m says gives in
       let t = type_copied same_file copied in
       let f = pad_field_copied same_file copied in
       let flag : has_pad now by ≡ true = ap (λ (n : ℕ). has_bit n 1) flags_now ∙ padded_1 (number b old vdr_flags) in
@@ -92,24 +92,24 @@ module _ {b late now : List ℕ} {kind : Kind} {before : List VariableShape} {ow
 
   pub pad_means : variable_of now (own' good at m) ≡ record (variable_of b own) { pad = Some (turned (type_of_variable b old) (is_little b) bytes) }
   pad_means =
-      let name = name_now good at m gives in
+      let name = name_now good at m says gives in
       let blocking = blocking_now in
       let vary : records_vary now by ≡ records_vary b old = ap (λ (n : ℕ). has_bit n 0) flags_now ∙ padded_0 (number b old vdr_flags) in
-      let rle = packed_now good at m gives in
+      let rle = packed_now good at m says gives in
       let value = value_now in
       let rest : record (variable_of b own) { name = name_in now by vdr_name; vary = records_vary now by; rle = is_compressed now by; blocking = integer4 now by vdr_blocking_factor; pad = pad_at now by } ≡ record (variable_of b own) { pad = Some (turned (type_of_variable b old) (is_little b) bytes) } =
       λ i. record (variable_of b own) { name = name i; vary = vary i; rle = rle i; blocking = blocking i; pad = value i } in
-      moved_means good at m gives ∙ rest
+      moved_means good at m says gives ∙ rest
 
   pub moved_sets_pad : SetsPad b now old by (Took by (need good at m) ∷ Gave old (size_at b old) ∷ [])
   moved_sets_pad =
-      let ends = same_end good at m gives ∙ p.whole in
+      let ends = same_end good at m says gives ∙ p.whole in
       record {
         acts_are = acts_of (vdr_end now by) ends;
-        copied = λ i low high out. (by_kept good at m gives).same.each (by + i) (omega arith) (inside i pad.place pad.width (size_at late by) high pad_fits) ∙ p.alike i low high out;
+        copied = λ i low high out. (by_kept good at m says gives).same.each (by + i) (omega arith) (inside i pad.place pad.width (size_at late by) high pad_fits) ∙ p.alike i low high out;
         flags_are = flags_now;
         room = λ l. absurd (never (vdr_end now by) ends l);
-        freed = freed_bytes good at m gives (Took by (need good at m) ∷ Gave old (size_at b old) ∷ []);
+        freed = freed_bytes good at m says gives (Took by (need good at m) ∷ Gave old (size_at b old) ∷ []);
       }
     where
       never : (n : ℕ) → n ≡ 8 + length body → n ≤ size_at b old → ⊥

@@ -2,7 +2,7 @@ use Rattle.std.proofs.Common.{◌≡◌, ◌∙◌, ℕ, List, [], ◌∷◌, �
 use Rattle.std.specs.List.{remove}
 use Rattle.cdf_edits.proofs.Commands.ListParts.{last_removed}
 use Rattle.cdf_vars.specs.Known.{KnowsKind}
-use Rattle.cdf_vars.proofs.VariableChanged.{kind_absent, kind_few, kind_view}
+use Rattle.cdf_vars.proofs.VariableFound.{kind_absent, kind_few, kind_view}
 use Rattle.cdf_vars.proofs.vars.VarTable.add.Goals as goal
 
 pub add-requires-clause-absent : goal.add-requires-clause-absent

@@ -7,7 +7,7 @@ use Rattle.cdf_model.specs.declared.kinds.Kind.TheVariants.{R, Z}
 use Rattle.cdf_model.specs.Names.{is_among}
 use Rattle.cdf_vars.specs.Creating.{making, wanted}
 use Rattle.cdf_vars.proofs.CreatedVariable.{is_done, no_room, step_is}
-use Rattle.cdf_vars.proofs.VariableChanged.{all_names, knows_made}
+use Rattle.cdf_vars.proofs.VariableFound.{all_names, knows_made}
 use Rattle.cdf_vars.proofs.vars.Vars.create.Goals as goal
 use Rattle.cdf_vars.proofs.vars.Vars.create.Goals.{in-R+in_ok-add-in-R, in-Z+in_ok-add-in-Z}
 

@@ -5,8 +5,7 @@ use Rattle.cdf_model.specs.declared.answer.Reason.TheVariants.{NoSuchVar, Number
 use Rattle.cdf_model.specs.declared.command.Command.TheVariants.{SetBlocking}
 use Rattle.cdf_model.specs.Limits.{signed_limit}
 use Rattle.cdf_format.specs.Records.{vdr_blocking_factor}
-use Rattle.cdf_vars.proofs.VariableChanged.{blocking_done, blocking_knows, field_lies}
-use Rattle.cdf_vars.proofs.VariableFound.{none_found, the_parts, within_places}
+use Rattle.cdf_vars.proofs.VariableFound.{blocking_done, blocking_knows, field_lies, none_found, the_parts, within_places}
 use Rattle.cdf_vars.proofs.vars.Vars.set_blocking.Goals as goal
 
 pub returns-in_default-clause-answers : goal.returns-in_default-clause-answers
