@@ -1,6 +1,8 @@
 -- Places of bytes that are compared one by one, computed.
-use Rattle.std.proofs.Common.{◌≡◌, ◌≤◌, ◌<◌, ◌⊎◌, ℕ, zero, suc, ◌+◌, Bool, true, false, ◌&&◌, ◌||◌, ◌==◌, nat_le, nat_lt, List, [], ◌∷◌, length, refl, inl, inr, subst, arith}
+use Rattle.std.proofs.Common.{◌≡◌, ◌≤◌, ◌<◌, ◌⊎◌, ℕ, zero, suc, ◌+◌, ◌-◌, Bool, true, false, ◌&&◌, ◌||◌, ◌==◌, nat_le, nat_lt, List, [], ◌∷◌, length, drop, refl, inl, inr, subst, ap, ◌∙◌, arith}
+use Rattle.std.specs.Prelude.{slice_index}
 use Rattle.std.proofs.lemmas.Bool.{eqb-true, leb-true, cases_lt}
+use Rattle.std.proofs.lemmas.List.{get_or-drop}
 use Rattle.cdf_format.specs.Bytes.{byte}
 use Rattle.cdf_edits.specs.Frame.Changed.{Touch, Outside, Changed}
 
@@ -21,6 +23,36 @@ below test (suc n) e i less =
       | inl before ↦ below test n two.1 i before
       | inr at ↦ let same : n ≡ i = omega (arith, less, at) in subst (λ (k : ℕ). test k ≡ true) same two.0
     ]
+
+-- Of n numbers from i on each is skipped, or the bytes of two lists are the same there: one walk along both, since a place far back in a file is dear to read.
+abbrev pub agree : (ℕ → Bool) → ℕ → List ℕ → List ℕ → ℕ → Bool
+agree skip i xs ys zero = true
+agree skip i [] ys (suc n) = false
+agree skip i (x ∷ xs) [] (suc n) = false
+agree skip i (x ∷ xs) (y ∷ ys) (suc n) = (skip i || (x == y)) && agree skip (suc i) xs ys n
+
+agree_at : (skip : ℕ → Bool) (i : ℕ) (xs ys : List ℕ) (n : ℕ) → agree skip i xs ys n ≡ true → (k m : ℕ) → k < n → i + k ≡ m → (skip m || (slice_index xs k == slice_index ys k)) ≡ true
+agree_at skip i xs ys zero e k m less at = absurd (omega (arith, less))
+agree_at skip i [] ys (suc n) e k m less at = absurd cc
+agree_at skip i (x ∷ xs) [] (suc n) e k m less at = absurd cc
+agree_at skip i (x ∷ xs) (y ∷ ys) (suc n) e zero m less at =
+    let here : i ≡ m = omega (arith, at) in
+    subst (λ (j : ℕ). (skip j || (x == y)) ≡ true) here (both (skip i || (x == y)) (agree skip (suc i) xs ys n) e).0
+agree_at skip i (x ∷ xs) (y ∷ ys) (suc n) e (suc k) m less at = agree_at skip (suc i) xs ys n (both (skip i || (x == y)) (agree skip (suc i) xs ys n) e).1 k m (omega (arith, less)) (omega (arith, at))
+
+-- the bytes of two images from a place on, those of the record at `place` from number i on
+abbrev pub agree_in : List ℕ → List ℕ → (ℕ → Bool) → ℕ → ℕ → ℕ → Bool
+agree_in b now skip place i n = agree skip i (drop (place + i) now) (drop (place + i) b) n
+
+pub agreed : (b now : List ℕ) (skip : ℕ → Bool) (place i n : ℕ) → agree_in b now skip place i n ≡ true → (m : ℕ) → i ≤ m → m < i + n → (skip m || (byte now (place + m) == byte b (place + m))) ≡ true
+agreed b now skip place i n e m from upto =
+    let at : place + i + (m - i) ≡ place + m = omega arith in
+    let k : m - i < n = omega arith in
+    let sum : i + (m - i) ≡ m = omega arith in
+    let of_now : slice_index (drop (place + i) now) (m - i) ≡ byte now (place + m) = get_or-drop (place + i) now (m - i) 0 ∙ ap (λ (p : ℕ). byte now p) at in
+    let of_b : slice_index (drop (place + i) b) (m - i) ≡ byte b (place + m) = get_or-drop (place + i) b (m - i) 0 ∙ ap (λ (p : ℕ). byte b p) at in
+    subst (λ (x : ℕ). (skip m || (x == byte b (place + m))) ≡ true) of_now
+    (subst (λ (y : ℕ). (skip m || (slice_index (drop (place + i) now) (m - i) == y)) ≡ true) of_b (agree_at skip i (drop (place + i) now) (drop (place + i) b) n e (m - i) m k sum))
 
 -- a place among these bytes
 abbrev pub is_inside : List Touch → ℕ → Bool
@@ -44,11 +76,11 @@ not_inside (t ∷ more) place outside q e =
     one_of_two (nat_le (t.tile + t.place) place && nat_lt place (t.tile + t.place + t.width)) (is_inside more place) q
     (apart (t.tile + t.place) (t.tile + t.place + t.width) place outside.0) (not_inside more place outside.1 q) e
 
-pub changed_by : (b now : List ℕ) (touches : List Touch) → length b ≤ length now → all_below (λ place. is_inside touches place || (byte now place == byte b place)) (length b) ≡ true → Changed b now touches
+pub changed_by : (b now : List ℕ) (touches : List Touch) → length b ≤ length now → agree (is_inside touches) 0 now b (length b) ≡ true → Changed b now touches
 changed_by b now touches longer e = record {
   longer = longer;
   same = λ place less outside. eqb-true (byte now place) (byte b place)
-      (not_inside touches place outside (byte now place == byte b place) (below (λ place. is_inside touches place || (byte now place == byte b place)) (length b) e place less));
+      (not_inside touches place outside (byte now place == byte b place) (agree_at (is_inside touches) 0 now b (length b) e place place less (omega arith)));
 }
 
 -- bytes 0 from one number to another

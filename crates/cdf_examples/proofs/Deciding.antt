@@ -1,12 +1,15 @@
 -- What acts leave and what records keep, computed as truth values over the bytes of two images.
-use Rattle.std.proofs.Common.{◌≡◌, ◌⊎◌, ◌<◌, ◌≤◌, ℕ, zero, suc, ◌+◌, ◌-◌, ◌*◌, Bool, true, false, not, ◌&&◌, ◌||◌, ◌==◌, List, [], ◌∷◌, length, refl, inl, inr, subst, sym, eq-eqb, ap, ap₂, ◌∙◌, arith}
+use Rattle.std.proofs.Common.{◌≡◌, ◌⊎◌, ◌<◌, ◌≤◌, ℕ, zero, suc, ◌+◌, ◌-◌, ◌*◌, ◌^◌, Bool, true, false, not, ◌&&◌, ◌||◌, ◌==◌, List, [], ◌∷◌, length, map, drop, min, refl, inl, inr, subst, sym, eq-eqb, ap, ap₂, ◌∙◌, arith}
 use Rattle.std.proofs.lemmas.Bool.{eqb-true, leb-true, lt-ltb}
-use Rattle.std.specs.Prelude.{nat_le, nat_lt, Some, None}
+use Rattle.std.proofs.lemmas.List.{get_or-drop}
+use Rattle.std.specs.Prelude.{nat_le, nat_lt, slice_index, Some, None}
 use Rattle.std.specs.declared.option.Option.{Option}
-use Rattle.std.specs.List.{fold, slice_get}
+use Rattle.std.specs.List.{filter, fold, slice_get}
 use Rattle.cdf_edits.specs.Commands.Allowances.{FreedStay, FreedStays, GivenStay, shapes_of, Allowance, Anything, Only, OutsideFields, Keeps, Allowances, allowance, AllKeep}
-use Rattle.cdf_edits.specs.Space.Acts.{Act, Took, Gave, SpaceLeft, Among, AreActs, ActsFollow, RestStays, after_act, used_records, loose_records, space_before, back_of, links_end}
+use Rattle.cdf_edits.specs.Commands.Keeps.{allowances}
+use Rattle.cdf_edits.specs.Space.Acts.{Act, Took, Gave, SpaceLeft, Among, AreActs, ActsFollow, RestStays, after_act, sized, used_records, loose_records, space_before, back_of, links_end}
 use Rattle.cdf_edits.specs.Space.Placement.{place_for, unused}
+use Rattle.cdf_model.specs.declared.command.Command.{Command}
 use Rattle.cdf_model.specs.DataSet.{Attribute}
 use Rattle.cdf_model.specs.Names.{Found, attribute_named, variable_named}
 use Rattle.cdf_edits.specs.Commands.Named.{OfAttribute, OfVariable}
@@ -14,17 +17,17 @@ use Rattle.cdf_edits.specs.Commands.Variables.{DeletesVariable, DeletesNamed}
 use Rattle.cdf_edits.specs.Index.Cut.{NodesFreedStay}
 use Rattle.cdf_edits.specs.Index.Written.{EntryIs, UnusedEntries, NodeSpareStays, NodesFollow, was_unused, is_taken_at}
 use Rattle.cdf_format.specs.Bytes.{byte, Same}
-use Rattle.cdf_format.specs.Content.{content}
+use Rattle.cdf_format.specs.Content.{content_of, content}
 use Rattle.cdf_format.specs.Index.{Nodes, used_count, room_at, first_at, last_at, offset_at}
 use Rattle.cdf_format.specs.IndexOf.{SaysEntry}
 use Rattle.cdf_format.specs.Chains.{is_in}
-use Rattle.cdf_format.specs.Fields.{size_at, type_at}
-use Rattle.cdf_format.specs.Owners.{Owner, unused_records}
-use Rattle.cdf_format.specs.Records.{Field, field}
-use Rattle.cdf_format.specs.RecordTypes.{vxr_type}
-use Rattle.cdf_format.specs.Shape.{AttributeShape, VariableShape, Each, shape}
+use Rattle.cdf_format.specs.Fields.{word, number, size_at, type_at}
+use Rattle.cdf_format.specs.Owners.{Owner, owned, unused_records}
+use Rattle.cdf_format.specs.Records.{Field, field, uir_prev_uir}
+use Rattle.cdf_format.specs.RecordTypes.{vxr_type, uir_type}
+use Rattle.cdf_format.specs.Shape.{AttributeShape, VariableShape, Shape, Each, shape}
 use Rattle.cdf_format.proofs.Members.{true-is_in}
-use Rattle.cdf_examples.proofs.BytesKept.{all_below, below}
+use Rattle.cdf_examples.proofs.BytesKept.{all_below, below, agree_in, agreed}
 use Rattle.cdf_examples.proofs.Refusing.{has}
 
 both : (p q : Bool) → (p && q) ≡ true → (p ≡ true) × (q ≡ true)
@@ -71,7 +74,7 @@ outside-fields (f ∷ more) i q out e = choose (nat_le f.place i && nat_lt i (f.
     choose false is e later = later e
 
 abbrev pub same_by : List ℕ → List ℕ → ℕ → List Field → Bool
-same_by b now place fields = all_below (λ i. in_fields fields i || (byte now (place + i) == byte b (place + i))) (size_at b place)
+same_by b now place fields = agree_in b now (in_fields fields) place 0 (size_at b place)
 
 abbrev pub keeps_by : List ℕ → List ℕ → List ℕ → ℕ → Allowance → Bool
 keeps_by b now records place Anything = true
@@ -86,18 +89,28 @@ keeps_if b now place (Only fields) e =
       stands = true-is_in place (shape now).records two.0;
       size_is = eqb-true (size_at now place) (size_at b place) more.0;
       same = λ i less out. eqb-true (byte now (place + i)) (byte b (place + i))
-          (outside-fields fields i (byte now (place + i) == byte b (place + i)) out (below (λ i. in_fields fields i || (byte now (place + i) == byte b (place + i))) (size_at b place) more.1 i less));
+          (outside-fields fields i (byte now (place + i) == byte b (place + i)) out (agreed b now (in_fields fields) place 0 (size_at b place) more.1 i (omega arith) (omega (arith, less))));
     }
 
-abbrev pub all_keep_by : List ℕ → List ℕ → List ℕ → Allowances → List Act → List (ℕ × Owner) → Bool
-all_keep_by b now records may acts [] = true
-all_keep_by b now records may acts ((place, owner) ∷ more) = keeps_by b now records place (allowance b (shape b) may acts place owner) && all_keep_by b now records may acts more
+abbrev pub all_keep_by : List ℕ → Shape → List ℕ → List ℕ → Allowances → List Act → List (ℕ × Owner) → Bool
+all_keep_by b s now records may acts [] = true
+all_keep_by b s now records may acts ((place, owner) ∷ more) = keeps_by b now records place (allowance b s may acts place owner) && all_keep_by b s now records may acts more
 
-pub all_keep_if : (b now : List ℕ) (may : Allowances) (acts : List Act) (list : List (ℕ × Owner)) → all_keep_by b now (shape now).records may acts list ≡ true → AllKeep b now may acts list
+pub all_keep_if : (b now : List ℕ) (may : Allowances) (acts : List Act) (list : List (ℕ × Owner)) → all_keep_by b (shape b) now (shape now).records may acts list ≡ true → AllKeep b now may acts list
 all_keep_if b now may acts [] e = tt
 all_keep_if b now may acts ((place, owner) ∷ more) e =
-    let two = both (keeps_by b now (shape now).records place (allowance b (shape b) may acts place owner)) (all_keep_by b now (shape now).records may acts more) e in
+    let two = both (keeps_by b now (shape now).records place (allowance b (shape b) may acts place owner)) (all_keep_by b (shape b) now (shape now).records may acts more) e in
     (keeps_if b now place (allowance b (shape b) may acts place owner) two.0, all_keep_if b now may acts more two.1)
+
+-- likewise of two images whose shapes are these
+pub keep_in : (b now : List ℕ) (s s' : Shape) (c : Command) (acts : List Act) → shape b ≡ s → shape now ≡ s' → all_keep_by b s now s'.records (allowances b (content_of b s) s c) acts (owned b s) ≡ true
+    → AllKeep b now (allowances b (content b) (shape b) c) acts (owned b (shape b))
+unfolding content
+keep_in b now s s' c acts is is' e =
+    let now_known : all_keep_by b s now (shape now).records (allowances b (content_of b s) s c) acts (owned b s) ≡ true =
+    subst (λ (x : Shape). all_keep_by b s now x.records (allowances b (content_of b s) s c) acts (owned b s) ≡ true) (sym is') e in
+    all_keep_if b now (allowances b (content b) (shape b) c) acts (owned b (shape b))
+    (subst (λ (x : Shape). all_keep_by b x now (shape now).records (allowances b (content_of b x) x c) acts (owned b x) ≡ true) (sym is) now_known)
 
 -- ---- what acts leave
 
@@ -126,26 +139,18 @@ left_if : (now places : List ℕ) (list : List (ℕ × ℕ)) → left_by now pla
 left_if now places list e = each_if (λ place. Among (place, size_at now place) list) (λ place. has (place, size_at now place) list) (λ place h. has-among (place, size_at now place) list h) places e
 
 abbrev pub rest_by : List ℕ → List ℕ → ℕ → ℕ → Bool
-rest_by b now split rest = not (nat_lt split rest && nat_lt rest (split + size_at b split)) || all_below (λ i. nat_lt i 28 || (byte now (rest + i) == byte b (rest + i))) (size_at now rest)
+rest_by b now split rest = not (nat_lt split rest && nat_lt rest (split + size_at b split)) || agree_in b now (λ i. false) rest 28 (size_at now rest - 28)
 
 rest_if : (b now : List ℕ) (acts : List Act) (split rest : ℕ) → rest_by b now split rest ≡ true → RestStays b now acts split rest
-rest_if b now acts split rest e low high i from upto untaken = one i from upto (below (λ i. nat_lt i 28 || (byte now (rest + i) == byte b (rest + i))) (size_at now rest) (tests (nat_lt split rest) (nat_lt rest (split + size_at b split)) _ (lt-ltb split rest low) (lt-ltb rest (split + size_at b split) high) e))
+rest_if b now acts split rest e low high i from upto untaken =
+    let at : rest + (i - rest) ≡ i = omega arith in
+    let same = agreed b now (λ i. false) rest 28 (size_at now rest - 28) (tests (nat_lt split rest) (nat_lt rest (split + size_at b split)) _ (lt-ltb split rest low) (lt-ltb rest (split + size_at b split) high) e) (i - rest) (omega arith) (omega arith) in
+    subst (λ (n : ℕ). byte now n ≡ byte b n) at (eqb-true (byte now (rest + (i - rest))) (byte b (rest + (i - rest))) same)
   where
     tests : (p q r : Bool) → p ≡ true → q ≡ true → (not (p && q) || r) ≡ true → r ≡ true
     tests true true r x y f = f
     tests true false r x y f = absurd cc
     tests false q r x y f = absurd cc
-
-    later : (k : ℕ) → 28 ≤ k → (p : Bool) → nat_lt k 28 ≡ p → (p || (byte now (rest + k) == byte b (rest + k))) ≡ true → (byte now (rest + k) == byte b (rest + k)) ≡ true
-    later k long true is e = let low : k < 28 = leb-true (suc k) 28 is in absurd (omega (arith, low, long))
-    later k long false is e = e
-
-    one : (i : ℕ) → rest + 28 ≤ i → i < rest + size_at now rest → ((k : ℕ) → k < size_at now rest → (nat_lt k 28 || (byte now (rest + k) == byte b (rest + k))) ≡ true) → byte now i ≡ byte b i
-    one i from upto all =
-        let k = i - rest in
-        let at : rest + k ≡ i = omega arith in
-        let here = all k (omega arith) in
-        subst (λ (n : ℕ). byte now n ≡ byte b n) at (eqb-true (byte now (rest + k)) (byte b (rest + k)) (later k (omega arith) (nat_lt k 28) refl here))
 
 pub acts_follow_if : (b now : List ℕ) (acts : List Act) → are_by (space_before b) acts ≡ true → left_by now (used_records now) (fold after_act (space_before b) acts).used ≡ true → unused now (shape now) ≡ (fold after_act (space_before b) acts).listed
     → back_of now ≡ (fold after_act (space_before b) acts).back → left_by now (loose_records now) (fold after_act (space_before b) acts).loose ≡ true → length now ≡ (fold after_act (space_before b) acts).end
@@ -162,6 +167,28 @@ acts_follow_if b now acts are used listed back loose end rests = record {
   rests = each_if (λ split. Each (RestStays b now acts split) (shape now).unused) (λ split. each_by (rest_by b now split) (shape now).unused)
       (λ split e. each_if (RestStays b now acts split) (rest_by b now split) (λ rest h. rest_if b now acts split rest h) (shape now).unused e) (shape b).unused rests;
 }
+
+-- likewise of two images whose shapes are these
+abbrev pub used_in : List ℕ → Shape → List ℕ
+used_in b s = filter (λ place. not (type_at b place == uir_type)) s.records
+
+abbrev pub loose_in : List ℕ → Shape → List ℕ
+loose_in b s = filter (λ place. not (is_in place s.unused)) (unused_records b s)
+
+abbrev pub back_in : List ℕ → Shape → List (ℕ × ℕ)
+back_in b s = map (λ uir. (uir, number b uir uir_prev_uir)) s.unused
+
+abbrev pub space_in : List ℕ → Shape → SpaceLeft
+space_in b s = record { used = sized b (used_in b s); listed = unused b s; back = back_in b s; loose = sized b (loose_in b s); end = length b }
+
+abbrev pub FollowIf : List ℕ → List ℕ → List Act → Shape → Shape → Type 0
+FollowIf b now acts s s' =
+    are_by (space_in b s) acts ≡ true → left_by now (used_in now s') (fold after_act (space_in b s) acts).used ≡ true → unused now s' ≡ (fold after_act (space_in b s) acts).listed
+    → back_in now s' ≡ (fold after_act (space_in b s) acts).back → left_by now (loose_in now s') (fold after_act (space_in b s) acts).loose ≡ true → length now ≡ (fold after_act (space_in b s) acts).end
+    → each_by (λ split. each_by (rest_by b now split) s'.unused) s.unused ≡ true → ActsFollow b now acts
+
+pub follow_in : (b now : List ℕ) (s s' : Shape) (acts : List Act) → shape b ≡ s → shape now ≡ s' → FollowIf b now acts s s'
+follow_in b now s s' acts is is' = subst (λ (x : Shape). FollowIf b now acts x s') is (subst (λ (x : Shape). FollowIf b now acts (shape b) x) is' (acts_follow_if b now acts))
 
 -- ---- nodes
 
@@ -208,25 +235,82 @@ nodes_if b now through before after acts e = record {
   spare = each_if (NodeSpareStays b now acts) (node_by b now before acts) (λ vxr h. spare_if b now acts vxr (both (all_below (λ i. nat_lt i (used_count now vxr) || entry_by b now vxr i (was_unused b before acts vxr i)) (room_at now vxr)) (is_taken_at acts vxr || nat_le (size_at b vxr) (28 + 16 * room_at now vxr)) h).1) after e;
 }
 
+-- the first n bytes of a list are 255
+abbrev pub all_ones : List ℕ → ℕ → Bool
+all_ones bytes zero = true
+all_ones [] (suc n) = false
+all_ones (byte ∷ more) (suc n) = (byte == 255) && all_ones more n
+
+ones_at : (bytes : List ℕ) (n k : ℕ) → all_ones bytes n ≡ true → k < n → slice_index bytes k ≡ 255
+ones_at bytes zero k e less = absurd (omega (arith, less))
+ones_at [] (suc n) k e less = absurd cc
+ones_at (byte ∷ more) (suc n) zero e less = eqb-true byte 255 (both (byte == 255) (all_ones more n) e).0
+ones_at (byte ∷ more) (suc n) (suc k) e less = ones_at more n k (both (byte == 255) (all_ones more n) e).1 (omega (arith, less))
+
+-- so a number of 4 or of 8 bytes among n of these is -1
+module _ (b : List ℕ) (from n : ℕ) (ones : all_ones (drop from b) n ≡ true) where
+  one_byte : (k : ℕ) → from ≤ k → k < from + n → byte b k ≡ 255
+  one_byte k low high =
+      let on : from + (k - from) ≡ k = omega (arith, low) in
+      ap (λ (i : ℕ). byte b i) (sym on) ∙ sym (get_or-drop from b (k - from) 0) ∙ ones_at (drop from b) n (k - from) ones (omega (arith, low, high))
+
+  four_ones : (at : ℕ) → from ≤ at → at + 4 ≤ from + n → word b at 4 ≡ 0xffffffff
+  four_ones at low high = made (byte b at) (byte b (suc at)) (byte b (suc (suc at))) (byte b (suc (suc (suc at)))) (one_byte at low (omega (arith, high))) (one_byte (suc at) (omega (arith, low)) (omega (arith, high)))
+      (one_byte (suc (suc at)) (omega (arith, low)) (omega (arith, high))) (one_byte (suc (suc (suc at))) (omega (arith, low)) (omega (arith, high)))
+    where
+      made : (w x y z : ℕ) → w ≡ 255 → x ≡ 255 → y ≡ 255 → z ≡ 255 → w * 256 ^ 3 + (x * 256 ^ 2 + (y * 256 ^ 1 + (z * 256 ^ 0 + 0))) ≡ 0xffffffff
+      made w x y z ew ex ey ez = rw (ew, ex, ey, ez) refl
+
+  eight_ones : (at : ℕ) → from ≤ at → at + 8 ≤ from + n → word b at 8 ≡ 0xffffffffffffffff
+  eight_ones at low high =
+      made (byte b at) (byte b (suc at)) (byte b (suc (suc at))) (byte b (suc (suc (suc at)))) (word b (suc (suc (suc (suc at)))) 4)
+      (one_byte at low (omega (arith, high))) (one_byte (suc at) (omega (arith, low)) (omega (arith, high))) (one_byte (suc (suc at)) (omega (arith, low)) (omega (arith, high)))
+      (one_byte (suc (suc (suc at))) (omega (arith, low)) (omega (arith, high))) (four_ones (suc (suc (suc (suc at)))) (omega (arith, low)) (omega (arith, high)))
+    where
+      made : (w x y z more : ℕ) → w ≡ 255 → x ≡ 255 → y ≡ 255 → z ≡ 255 → more ≡ 0xffffffff → w * 256 ^ 7 + (x * 256 ^ 6 + (y * 256 ^ 5 + (z * 256 ^ 4 + more))) ≡ 0xffffffffffffffff
+      made w x y z more ew ex ey ez e = rw (ew, ex, ey, ez, e) refl
+
+-- a node that was taken has room for so many entries, of which so many are used, and the others are -1 throughout
+abbrev pub is_bare : List ℕ → List Act → ℕ → ℕ → ℕ → Bool
+is_bare now acts room used vxr =
+    (is_taken_at acts vxr && ((room_at now vxr == room) && (used_count now vxr == used)))
+    && (all_ones (drop (vxr + (28 + 4 * used)) now) (4 * (room - used))
+    && (all_ones (drop (vxr + (28 + 4 * room + 4 * used)) now) (4 * (room - used)) && all_ones (drop (vxr + (28 + 8 * room + 8 * used)) now) (8 * (room - used))))
+
+bare_entry : (now : List ℕ) (vxr room used : ℕ) → room_at now vxr ≡ room → all_ones (drop (vxr + (28 + 4 * used)) now) (4 * (room - used)) ≡ true → all_ones (drop (vxr + (28 + 4 * room + 4 * used)) now) (4 * (room - used)) ≡ true
+    → all_ones (drop (vxr + (28 + 8 * room + 8 * used)) now) (8 * (room - used)) ≡ true → (i : ℕ) → used ≤ i → i < room → SaysEntry now vxr i 0xffffffff 0xffffffff 0xffffffffffffffff
+bare_entry now vxr room used is firsts lasts offsets i from upto = record {
+  first_is = four_ones now (vxr + (28 + 4 * used)) (4 * (room - used)) firsts (vxr + (28 + 4 * i)) (omega (arith, from)) (omega (arith, from, upto));
+  last_is = ap (λ (n : ℕ). word now (vxr + (28 + 4 * n + 4 * i)) 4) is ∙ four_ones now (vxr + (28 + 4 * room + 4 * used)) (4 * (room - used)) lasts (vxr + (28 + 4 * room + 4 * i)) (omega (arith, from)) (omega (arith, from, upto));
+  offset_is = ap (λ (n : ℕ). word now (vxr + (28 + 8 * n + 8 * i)) 8) is ∙ eight_ones now (vxr + (28 + 8 * room + 8 * used)) (8 * (room - used)) offsets (vxr + (28 + 8 * room + 8 * i)) (omega (arith, from)) (omega (arith, from, upto));
+}
+
+pub bare_if : (b now : List ℕ) (acts : List Act) (room used vxr : ℕ) → is_bare now acts room used vxr ≡ true → UnusedEntries b now [] [] acts vxr × NodeSpareStays b now acts vxr
+bare_if b now acts room used vxr e =
+    let parts = both (is_taken_at acts vxr && ((room_at now vxr == room) && (used_count now vxr == used))) (all_ones (drop (vxr + (28 + 4 * used)) now) (4 * (room - used)) && (all_ones (drop (vxr + (28 + 4 * room + 4 * used)) now) (4 * (room - used)) && all_ones (drop (vxr + (28 + 8 * room + 8 * used)) now) (8 * (room - used)))) e in
+    let head = both (is_taken_at acts vxr) ((room_at now vxr == room) && (used_count now vxr == used)) parts.0 in
+    let counts = both (room_at now vxr == room) (used_count now vxr == used) head.1 in
+    let ones = both (all_ones (drop (vxr + (28 + 4 * used)) now) (4 * (room - used))) (all_ones (drop (vxr + (28 + 4 * room + 4 * used)) now) (4 * (room - used)) && all_ones (drop (vxr + (28 + 8 * room + 8 * used)) now) (8 * (room - used))) parts.1 in
+    let more = both (all_ones (drop (vxr + (28 + 4 * room + 4 * used)) now) (4 * (room - used))) (all_ones (drop (vxr + (28 + 8 * room + 8 * used)) now) (8 * (room - used))) ones.1 in
+    let room_is = eqb-true (room_at now vxr) room counts.0 in
+    let used_is = eqb-true (used_count now vxr) used counts.1 in
+    (λ i from upto. inl (bare_entry now vxr room used room_is ones.0 more.0 more.1 i (subst (λ (n : ℕ). n ≤ i) used_is from) (subst (λ (n : ℕ). i < n) room_is upto)), λ untaken. absurd (clash (is_taken_at acts vxr) head.0 untaken))
+  where
+    clash : (p : Bool) → p ≡ true → p ≡ false → ⊥
+    clash true is other = absurd cc
+    clash false is other = absurd cc
+
 -- ---- records that are freed
 
+-- what lies behind the links of the unused record, from the first such byte of the freed one on
 abbrev pub freed_by : List ℕ → List ℕ → ℕ → ℕ → List Field → ℕ → Bool
 freed_by b now place size fields uir =
-    all_below (λ i. nat_lt (place + i) (uir + links_end (size_at now uir)) || (nat_le (uir + size_at now uir) (place + i) || (in_fields fields i || (byte now (place + i) == byte b (place + i))))) size
+    agree_in b now (in_fields fields) place (uir + links_end (size_at now uir) - place) (min size (uir + size_at now uir - place) - (uir + links_end (size_at now uir) - place))
 
 freed_one : (b now : List ℕ) (acts : List Act) (place size : ℕ) (fields : List Field) (uir : ℕ) → freed_by b now place size fields uir ≡ true → FreedStays b now acts place size fields uir
 freed_one b now acts place size fields uir e i less from upto out untaken =
     eqb-true (byte now (place + i)) (byte b (place + i)) (outside-fields fields i (byte now (place + i) == byte b (place + i)) out
-    (before_end (nat_le (uir + size_at now uir) (place + i)) refl (behind_links (nat_lt (place + i) (uir + links_end (size_at now uir))) refl
-    (below (λ i. nat_lt (place + i) (uir + links_end (size_at now uir)) || (nat_le (uir + size_at now uir) (place + i) || (in_fields fields i || (byte now (place + i) == byte b (place + i))))) size e i less))))
-  where
-    behind_links : (p : Bool) → nat_lt (place + i) (uir + links_end (size_at now uir)) ≡ p → {q : Bool} → (p || q) ≡ true → q ≡ true
-    behind_links true is e = let low : place + i < uir + links_end (size_at now uir) = leb-true (suc (place + i)) (uir + links_end (size_at now uir)) is in absurd (omega (arith, low, from))
-    behind_links false is e = e
-
-    before_end : (p : Bool) → nat_le (uir + size_at now uir) (place + i) ≡ p → {q : Bool} → (p || q) ≡ true → q ≡ true
-    before_end true is e = let high : uir + size_at now uir ≤ place + i = leb-true (uir + size_at now uir) (place + i) is in absurd (omega (arith, high, upto))
-    before_end false is e = e
+    (agreed b now (in_fields fields) place (uir + links_end (size_at now uir) - place) (min size (uir + size_at now uir - place) - (uir + links_end (size_at now uir) - place)) e i (omega arith) (omega arith)))
 
 abbrev pub freed_stay_by : List ℕ → List ℕ → List ℕ → (ℕ → List Field) → List Act → Bool
 freed_stay_by b now uirs but [] = true
@@ -243,6 +327,10 @@ given_if b now but acts (Gave place size ∷ more) e =
 
 pub freed_if : (b now : List ℕ) (but : ℕ → List Field) (acts : List Act) → freed_stay_by b now (unused_records now (shape now)) but acts ≡ true → FreedStay b now but acts
 freed_if b now but acts e = given_if b now but acts acts e
+
+-- likewise of an image whose shape is this
+pub freed_in : (b now : List ℕ) (but : ℕ → List Field) (s : Shape) (acts : List Act) → shape now ≡ s → freed_stay_by b now (unused_records now s) but acts ≡ true → FreedStay b now but acts
+freed_in b now but s acts is e = freed_if b now but acts (subst (λ (x : Shape). freed_stay_by b now (unused_records now x) but acts ≡ true) (sym is) e)
 
 abbrev pub nodes_freed_by : List ℕ → List ℕ → List ℕ → List Act → Bool
 nodes_freed_by b now uirs [] = true
@@ -296,12 +384,11 @@ of_attribute b now name F pair a a' named before after f n w w' is =
 
 -- ---- records, one after the other
 
-pub same_if : (b now : List ℕ) (from upto : ℕ) → all_below (λ i. nat_lt i from || (byte now i == byte b i)) upto ≡ true → Same b now from upto
-same_if b now from upto e = record { each = λ i low high. eqb-true (byte now i) (byte b i) (past i low (nat_lt i from) refl (below (λ i. nat_lt i from || (byte now i == byte b i)) upto e i high)) }
+pub same_if : (b now : List ℕ) (from upto : ℕ) → agree_in b now (λ i. false) 0 from (upto - from) ≡ true → Same b now from upto
+same_if b now from upto e = record { each = λ i low high. subst (λ (n : ℕ). byte now n ≡ byte b n) (zero_more i) (eqb-true (byte now (0 + i)) (byte b (0 + i)) (agreed b now (λ i. false) 0 from (upto - from) e i low (omega arith))) }
   where
-    past : (i : ℕ) → from ≤ i → (p : Bool) → nat_lt i from ≡ p → (p || (byte now i == byte b i)) ≡ true → (byte now i == byte b i) ≡ true
-    past i low true is e = let less : i < from = leb-true (suc i) from is in absurd (omega (arith, less, low))
-    past i low false is e = e
+    zero_more : (i : ℕ) → 0 + i ≡ i
+    zero_more i = omega arith
 
 -- of a number that a range of one, of two or of four covers
 covered_last : (k last : ℕ) → ((nat_le 0 k && nat_le k last) || false) ≡ true → k ≤ last

@@ -4,6 +4,7 @@ pub mod BytesKept
 pub mod Refusing
 pub mod PutLemmas
 pub mod CutLemmas
+pub mod Walking
 pub mod Deciding
 pub mod Packing
 pub mod Reindexing

@@ -1,20 +1,19 @@
-use Rattle.std.proofs.Common.{◌≡◌, true, [], ◌∷◌, codes, refl, sym, subst}
+use Rattle.std.proofs.Common.{◌≡◌, true, [], ◌∷◌, codes, refl, sym, subst, ap}
 use Rattle.cdf_edits.specs.Commands.Reindex.{FullFromLeft, nodes_at, nodes_below}
 use Rattle.cdf_format.specs.Chains.{chain_on}
 use Rattle.cdf_format.specs.Index.{leaves_of, entry_leaves}
-use Rattle.cdf_format.specs.IndexWalk.{entries_on, nodes_on, levels_on}
-use Rattle.cdf_format.specs.Shape.{shape}
-use Rattle.cdf_format.specs.Tiles.{tiles_from}
+use Rattle.cdf_format.specs.Shape.{Shape, shape}
 use Rattle.cdf_examples.specs.Claimed.{Refused}
 use Rattle.cdf_examples.specs.WideIndexes.{reindex_w, w_shape, wide_node_file, wide_node_index, from_the_right_file, from_the_right_index}
 use Rattle.cdf_examples.proofs.Refusing.{unequal}
 use Rattle.cdf_examples.proofs.Reindexing.{has_gap, no_gap, makes_none}
-use Rattle.cdf_examples.proofs.WideNodes.{names_w, wide_index_is}
+use Rattle.cdf_examples.proofs.WideNodes.{reindexed_records, reindexed_shape, names_w, wide_index_is}
+use Rattle.cdf_examples.proofs.Walking.{shape_by}
 use Rattle.cdf_examples.proofs.refused_indexes.not_from_the_left.Goals as goal
 
 index : (shape from_the_right_file).z_variables ≡ w_shape from_the_right_index ∷ []
-unfolding from_the_right_file shape tiles_from chain_on entries_on nodes_on levels_on
-index = refl
+unfolding from_the_right_file chain_on
+index = ap (λ (s : Shape). s.z_variables) (shape_by from_the_right_file 5817 reindexed_records (reindexed_shape from_the_right_index) refl refl refl)
 
 gap : has_gap (nodes_at 1 from_the_right_index) ≡ true
 unfolding nodes_at nodes_below

@@ -1,19 +1,18 @@
-use Rattle.std.proofs.Common.{◌≡◌, true, [], ◌∷◌, codes, refl}
+use Rattle.std.proofs.Common.{◌≡◌, true, [], ◌∷◌, codes, refl, ap}
 use Rattle.cdf_edits.specs.Commands.Reindex.{nodes_at, nodes_below, levels_up}
 use Rattle.cdf_format.specs.Chains.{chain_on}
 use Rattle.cdf_format.specs.Index.{leaves_of, entry_leaves}
-use Rattle.cdf_format.specs.IndexWalk.{entries_on, nodes_on, levels_on}
-use Rattle.cdf_format.specs.Shape.{shape}
-use Rattle.cdf_format.specs.Tiles.{tiles_from}
+use Rattle.cdf_format.specs.Shape.{Shape, shape}
 use Rattle.cdf_examples.specs.Claimed.{Refused}
 use Rattle.cdf_examples.specs.WideIndexes.{reindex_w, w_shape, wide_node_file, wide_node_index, root_first_file, root_first_index}
 use Rattle.cdf_examples.proofs.Reindexing.{first_at_end, begins_elsewhere, begins_at_end, makes_none}
-use Rattle.cdf_examples.proofs.WideNodes.{names_w, wide_index_is, wide_end_is, none_unused}
+use Rattle.cdf_examples.proofs.WideNodes.{reindexed_records, reindexed_shape, names_w, wide_index_is, wide_end_is, none_unused}
+use Rattle.cdf_examples.proofs.Walking.{shape_by}
 use Rattle.cdf_examples.proofs.refused_indexes.not_root_first.Goals as goal
 
 index : (shape root_first_file).z_variables ≡ w_shape root_first_index ∷ []
-unfolding root_first_file shape tiles_from chain_on entries_on nodes_on levels_on
-index = refl
+unfolding root_first_file chain_on
+index = ap (λ (s : Shape). s.z_variables) (shape_by root_first_file 5817 reindexed_records (reindexed_shape root_first_index) refl refl refl)
 
 elsewhere : begins_elsewhere 2661 (levels_up 7 root_first_index) ≡ true
 unfolding nodes_at nodes_below
