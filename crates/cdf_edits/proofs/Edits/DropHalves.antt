@@ -1,5 +1,5 @@
 -- The two halves of what an attribute drops: its entry of a number is taken out, and then the greater numbers fall.
-use Rattle.std.specs.Prelude.{◌≡◌, ◌⊎◌, ◌<◌, ◌≤◌, ℕ, ◌+◌, List, [], ◌∷◌, ◌++◌, length, Some, not, ◌&&◌, ◌==◌, nat_lt, if◌then◌else◌}
+use Rattle.std.specs.Prelude.{◌≡◌, ◌⊎◌, ◌<◌, ◌≤◌, ℕ, ◌+◌, List, [], ◌∷◌, ◌++◌, Some, not, ◌&&◌, ◌==◌, nat_lt, if◌then◌else◌}
 use Rattle.std.specs.List.{filter, slice_get}
 use Rattle.cdf_model.specs.AttributeSteps.{entries_of, with_attribute, with_entries}
 use Rattle.cdf_model.specs.Numbered.{closed_up, without}

@@ -29,11 +29,12 @@ use Rattle.cdf_format.proofs.SealedRules.{good_long, sealed_kept}
 use Rattle.cdf_format.proofs.Tests.{eq_of}
 use Rattle.cdf_format.proofs.TilesLemmas.{tile_lies}
 use Rattle.cdf_fields.proofs.Writes.{length-with_field}
-use Rattle.cdf_edits.specs.Commands.EntryChains.{chain_of, entry_type, max_field}
+use Rattle.cdf_edits.specs.Commands.Allowances.{space_fields}
+use Rattle.cdf_edits.specs.Commands.EntryChains.{chain_fields, chain_of, entry_type, max_field}
 use Rattle.cdf_edits.specs.Edits.Edit.{Edit}
 use Rattle.cdf_edits.specs.Edits.EntryMarks.{count_field, head_field, keeps_but_chain}
 use Rattle.cdf_edits.specs.Edits.FallenNumbers.{fallen}
-use Rattle.cdf_edits.specs.Edits.Marks.{Among, Mark, Avoids, avoided, field_marks, mark, unmarked}
+use Rattle.cdf_edits.specs.Edits.Marks.{Among, Mark, Avoids, avoided, field_marks, mark, unmarked, within}
 use Rattle.cdf_edits.specs.Edits.Writes.{Write, write, with_writes}
 use Rattle.cdf_edits.proofs.Edits.AttributeFrame.{AreThere}
 use Rattle.cdf_edits.proofs.Edits.ChainEntries.{nums, nums_differ, differ_by_nums}
@@ -54,28 +55,36 @@ use Rattle.cdf_edits.proofs.Space.UsedRecords.{apart}
 
 -- ---- by the kind
 
-abbrev pub falling : EntryKind → ℕ → List ℕ → List Mark
-falling kind adr es = mark (entry_type kind) (Among es) aedr_num ∷ field_marks adr_type adr (max_field kind)
+-- a field of entries, and the greatest number
+abbrev pub writing : EntryKind → ℕ → List ℕ → Field → List Mark
+writing kind adr es f = mark (entry_type kind) (Among es) f ∷ field_marks adr_type adr (max_field kind)
 
-pub record FallTests (kind : EntryKind) (adr : ℕ) (es : List ℕ) : Type 0 where
-  pub clear : keeps_but_chain (falling kind adr es) kind ≡ true
-  pub heads : avoided (falling kind adr es) gdr_type 0 12 ≡ true
-  pub list : avoided (falling kind adr es) gdr_type 64 72 ≡ true
-  pub end : avoided (falling kind adr es) gdr_type 36 44 ≡ true
-  pub unused : unmarked (falling kind adr es) uir_type ≡ true
-  pub links : avoided (falling kind adr es) uir_type 0 20 ≡ true
-  pub start : avoided (falling kind adr es) adr_type 0 12 ≡ true
-  pub head : avoided (falling kind adr es) adr_type (head_field kind).place ((head_field kind).place + (head_field kind).width) ≡ true
-  pub count : avoided (falling kind adr es) adr_type (count_field kind).place ((count_field kind).place + (count_field kind).width) ≡ true
-  pub first_only : avoided (mark (entry_type kind) (Among es) aedr_num ∷ []) adr_type 0 12 ≡ true
-  pub entry_links : avoided (falling kind adr es) (entry_type kind) 0 20 ≡ true
+abbrev pub falling : EntryKind → ℕ → List ℕ → List Mark
+falling kind adr es = writing kind adr es aedr_num
+
+pub record WriteTests (kind : EntryKind) (adr : ℕ) (es : List ℕ) (f : Field) : Type 0 where
+  pub clear : keeps_but_chain (writing kind adr es f) kind ≡ true
+  pub gdr_within : within (writing kind adr es f) gdr_type space_fields ≡ true
+  pub adr_within : within (writing kind adr es f) adr_type (chain_fields kind) ≡ true
+  pub heads : avoided (writing kind adr es f) gdr_type 0 12 ≡ true
+  pub list : avoided (writing kind adr es f) gdr_type 64 72 ≡ true
+  pub end : avoided (writing kind adr es f) gdr_type 36 44 ≡ true
+  pub unused : unmarked (writing kind adr es f) uir_type ≡ true
+  pub links : avoided (writing kind adr es f) uir_type 0 20 ≡ true
+  pub start : avoided (writing kind adr es f) adr_type 0 12 ≡ true
+  pub head : avoided (writing kind adr es f) adr_type (head_field kind).place ((head_field kind).place + (head_field kind).width) ≡ true
+  pub count : avoided (writing kind adr es f) adr_type (count_field kind).place ((count_field kind).place + (count_field kind).width) ≡ true
+  pub first_only : avoided (mark (entry_type kind) (Among es) f ∷ []) adr_type 0 12 ≡ true
   pub other : entry_type kind ≢ adr_type
   pub in_use : entry_type kind ≢ uir_type
 
-pub fall_tests : (kind : EntryKind) (adr : ℕ) (es : List ℕ) → FallTests kind adr es
-fall_tests entries.G adr es = record { clear = refl; heads = refl; list = refl; end = refl; unused = refl; links = refl; start = refl; head = refl; count = refl; first_only = refl; entry_links = refl; other = apart 5 4 refl; in_use = apart 5 uir_type refl }
-fall_tests entries.R adr es = record { clear = refl; heads = refl; list = refl; end = refl; unused = refl; links = refl; start = refl; head = refl; count = refl; first_only = refl; entry_links = refl; other = apart 5 4 refl; in_use = apart 5 uir_type refl }
-fall_tests entries.Z adr es = record { clear = refl; heads = refl; list = refl; end = refl; unused = refl; links = refl; start = refl; head = refl; count = refl; first_only = refl; entry_links = refl; other = apart 9 4 refl; in_use = apart 9 uir_type refl }
+pub write_tests : (kind : EntryKind) (adr : ℕ) (es : List ℕ) (f : Field) → WriteTests kind adr es f
+write_tests entries.Z adr es f = record { clear = refl; gdr_within = refl; adr_within = refl; heads = refl; list = refl; end = refl; unused = refl; links = refl; start = refl; head = refl; count = refl; first_only = refl; other = apart 9 4 refl; in_use = apart 9 uir_type refl }
+write_tests other adr es f = record { clear = refl; gdr_within = refl; adr_within = refl; heads = refl; list = refl; end = refl; unused = refl; links = refl; start = refl; head = refl; count = refl; first_only = refl; other = apart 5 4 refl; in_use = apart 5 uir_type refl }
+
+falling_links : (kind : EntryKind) (adr : ℕ) (es : List ℕ) → avoided (falling kind adr es) (entry_type kind) 0 20 ≡ true
+falling_links entries.Z adr es = refl
+falling_links other adr es = refl
 
 -- ---- what is written
 
@@ -154,8 +163,8 @@ module _ {b now : List ℕ} {kind : EntryKind} {before : List AttributeShape} {o
   the_adr : Stands b s.records own.adr adr_type 324
   the_adr = adr_stands sound before own after q.was
 
-  pub t : FallTests kind own.adr those
-  t = fall_tests kind own.adr those
+  pub t : WriteTests kind own.adr those aedr_num
+  t = write_tests kind own.adr those aedr_num
 
   pub entry_in : (m : ℕ) → In m chain → In m s.records
   entry_in m i = linkable-in b s.records (entry_type kind) m ((chain_has kind own there.have.0).linkable m i)
@@ -236,7 +245,7 @@ module _ {b now : List ℕ} {kind : EntryKind} {before : List AttributeShape} {o
     confined = (inr (λ m i. inr (chain_in kind own m (of_those m i))), (inr (only (attribute_records own) own.adr (inl refl)), tt));
     fresh = λ m i typed stands. absurd i;
     typed = λ m i. absurd i;
-    chain_now = chain_clear edit (entry_type kind) _ _ chain (chain_has kind own there.have.0) (adr_same (head_field kind) t.head (head_lies kind)) t.entry_links;
+    chain_now = chain_clear edit (entry_type kind) _ _ chain (chain_has kind own there.have.0) (adr_same (head_field kind) t.head (head_lies kind)) (falling_links kind own.adr those);
     unused_chain = chain_clear edit uir_type _ _ s.unused h.unused_chain (field_clear edit s.gdr gdr_type gdr_uir_head (gdr_in b s h) (gdr_typed b s h) t.heads t.list (let l = gdr_long b s h in omega arith)) t.links;
     trades = λ m. refl;
     live = λ m i out. absurd (out i);

@@ -1,5 +1,5 @@
 -- The greater numbers of one chain of an attribute fall: the image is good, all beside the chain stands, and the acts before go on.
-use Rattle.std.proofs.Common.{◌≡◌, ◌⊎◌, ℕ, ◌+◌, ◌-◌, ◌<◌, ◌≤◌, List, [], ◌∷◌, ◌++◌, length, true, Some, refl, sym, ap, subst, ◌∙◌, arith, inl, inr}
+use Rattle.std.proofs.Common.{◌≡◌, ℕ, ◌+◌, ◌<◌, ◌≤◌, List, [], ◌∷◌, ◌++◌, length, true, Some, refl, sym, ap, subst, ◌∙◌, arith, inl, inr}
 use Rattle.std.proofs.lemmas.Bool.{cases_lt, lt-ltb, le-ltb}
 use Rattle.std.specs.Int.{cast_signed, w32}
 use Rattle.std.specs.List.{slice_get, flat_map}
@@ -9,7 +9,7 @@ use Rattle.cdf_model.specs.declared.kinds.EntryKind.TheVariants as entries
 use Rattle.cdf_model.specs.declared.kinds.Kind.{Kind}
 use Rattle.cdf_model.specs.declared.kinds.Kind.TheVariants as kinds
 use Rattle.cdf_model.specs.Limits.{image_limit}
-use Rattle.cdf_format.specs.Fields.{integer4, number, size_at, type_at}
+use Rattle.cdf_format.specs.Fields.{integer4, number, type_at}
 use Rattle.cdf_format.specs.Owners.{attribute_records, variable_records}
 use Rattle.cdf_format.specs.Records.{aedr_num, gdr_r_max_rec, uir_next_uir, uir_prev_uir}
 use Rattle.cdf_format.specs.RecordTypes.{adr_type, cdr_type, gdr_type, uir_type}
@@ -33,8 +33,8 @@ use Rattle.cdf_edits.proofs.Edits.ChainKept.{records_are}
 use Rattle.cdf_edits.proofs.Edits.ChainKinds.{other_has, other_of, other_type}
 use Rattle.cdf_edits.proofs.Edits.ChainSpliced.{Rechains, adr_in, adr_start, adr_typed, after_away, after_in, before_away, before_in, clear_file, now_is, other_kept, there}
 use Rattle.cdf_edits.proofs.Edits.Composing.{head_type}
-use Rattle.cdf_edits.proofs.Edits.EntryTakenStep.{beside_got, beside_in, beside_long}
-use Rattle.cdf_edits.proofs.Edits.FallenEntries.{LowersChain, as_long, edit, entry_in, entry_typed, falling, fell, good_lowered, later, later_above, long_enough, rechains, t, those}
+use Rattle.cdf_edits.proofs.Edits.EntryTakenStep.{beside_in}
+use Rattle.cdf_edits.proofs.Edits.FallenEntries.{LowersChain, as_long, edit, entry_in, entry_typed, falling, fell, good_lowered, later_above, long_enough, rechains, t, those}
 use Rattle.cdf_edits.proofs.Edits.FallenItems.{falls}
 use Rattle.cdf_edits.proofs.Edits.MarkLemmas.{all_unmarked-away, unmarked-away, within-within}
 use Rattle.cdf_edits.proofs.Edits.OneChain.{got_middle}

@@ -9,7 +9,7 @@ use Rattle.cdf_format.specs.Fields.{eof, number, integer4, size_at, type_at}
 use Rattle.cdf_format.specs.NotRead.{read_types}
 use Rattle.cdf_format.specs.Owners.{attribute_records, times, Unused, unused_records}
 use Rattle.cdf_format.specs.RecordTypes.{gdr_type, adr_type, uir_type, is_record_type, fixed_size}
-use Rattle.cdf_format.specs.Shape.{AttributeShape, Shape, shape}
+use Rattle.cdf_format.specs.Shape.{AttributeShape, shape}
 use Rattle.cdf_format.specs.Sound.{EntryFits, IsSound}
 use Rattle.cdf_format.specs.Tiles.{In}
 use Rattle.cdf_format.proofs.ChainsLemmas.{linkable-in, linkable-type}
@@ -18,7 +18,7 @@ use Rattle.cdf_edits.specs.Commands.Allowances.{space_fields}
 use Rattle.cdf_edits.specs.Commands.EntryChains.{chain_of, chain_fields, entry_type, max_field}
 use Rattle.cdf_edits.specs.Edits.Edit.{Edit}
 use Rattle.cdf_edits.specs.Edits.EntryMarks.{entries_chain, count_field, keeps_but_chain, head_field}
-use Rattle.cdf_edits.specs.Edits.Marks.{Mark, Confined, attribute_types, avoided, ended, within, making_marks, giving_marks, field_marks, is_late, Avoids, Away, unmarked}
+use Rattle.cdf_edits.specs.Edits.Marks.{Mark, Confined, attribute_types, avoided, ended, within, making_marks, giving_marks, field_marks, is_late, Avoids, Away}
 use Rattle.cdf_edits.specs.Space.Acts.{ActsFollow, Took}
 use Rattle.cdf_edits.specs.Space.Adding.{Added, Exchanged, Joined, adding_marks}
 use Rattle.cdf_edits.specs.Space.Chains.{counted_in, members_of, with_in_place}
@@ -32,6 +32,7 @@ use Rattle.cdf_edits.proofs.Edits.ChainsOfShape.{members_are}
 use Rattle.cdf_edits.proofs.Edits.Composing.{edit_then, changed_edit, head_size, head_type}
 use Rattle.cdf_edits.proofs.Edits.EditActs.{acts_took, acts_none}
 use Rattle.cdf_edits.proofs.Edits.EntryFields.{MaxWritten, as_chain, as_count, max_chain, max_count, max_edit, max_integer, max_long, of_shape, only, count_is, head_lies}
+use Rattle.cdf_edits.proofs.Edits.FallenEntries.{WriteTests, write_tests, writing}
 use Rattle.cdf_edits.proofs.Edits.FieldWritten.{Stands, still_stands, still_says}
 use Rattle.cdf_edits.proofs.Edits.FreedEntry.{Frees}
 use Rattle.cdf_edits.proofs.Edits.MadeRecord.{end_now, filled_edit, fresh, list_chain, listed_before, listed_marks, loose_away, made_edit, made_keeps_unused, made_part, made_size, made_type, place_in as place_there, shorter, unowned}
@@ -51,7 +52,7 @@ use Rattle.cdf_edits.specs.Frame.Changed.{touched_field}
 use Rattle.cdf_edits.proofs.Edits.OwnersKept.{stood}
 use Rattle.cdf_edits.proofs.Commands.KeptRecords.{keep_owned}
 use Rattle.cdf_edits.proofs.Frame.OwnersApart.{unused_in}
-use Rattle.cdf_edits.proofs.Space.UsedRecords.{apart, filter-says}
+use Rattle.cdf_edits.proofs.Space.UsedRecords.{filter-says}
 use Rattle.cdf_edits.proofs.Edits.StepEdits.{gdr_in, gdr_typed, gdr_long, some_bytes}
 use Rattle.cdf_edits.proofs.Frame.ChangedBytes.{changed_put}
 use Rattle.cdf_model.specs.declared.kinds.EntryKind.TheVariants as entries
@@ -88,29 +89,6 @@ first own x ms i sub m (inr j) = sub m j
 join_tests : (b unused : List ℕ) (adr place need : ℕ) (kind : EntryKind) → JoinTests b unused adr place need kind
 join_tests b unused adr place need entries.Z = record { late = refl; linked = refl; clear = refl; gdr_within = refl; adr_within = refl; start = refl; rest = refl; value = λ hi. refl; read = refl; confined = λ own p a ms. (inl refl, (inl refl, (inl refl, (inl refl, (inl refl, (inl refl, (inr (only own adr a), (inr (first own place _ p ms), (inr (only own adr a), (inr (only own adr a), tt)))))))))); freed = λ list old size. (refl, refl, refl) }
 join_tests b unused adr place need other = record { late = refl; linked = refl; clear = refl; gdr_within = refl; adr_within = refl; start = refl; rest = refl; value = λ hi. refl; read = refl; confined = λ own p a ms. (inl refl, (inl refl, (inl refl, (inl refl, (inl refl, (inl refl, (inr (only own adr a), (inr (first own place _ p ms), (inr (only own adr a), (inr (only own adr a), tt)))))))))); freed = λ list old size. (refl, refl, refl) }
-
--- what follows the link of an entry, and the greatest number
-abbrev changing : EntryKind → ℕ → ℕ → ℕ → List Mark
-changing kind adr place width = field_marks (entry_type kind) place (field 20 width) ++ field_marks adr_type adr (max_field kind)
-
-record Changes (kind : EntryKind) (adr place width : ℕ) : Type 0 where
-  clear : keeps_but_chain (changing kind adr place width) kind ≡ true
-  gdr_within : within (changing kind adr place width) gdr_type space_fields ≡ true
-  adr_within : within (changing kind adr place width) adr_type (chain_fields kind) ≡ true
-  unused : unmarked (changing kind adr place width) uir_type ≡ true
-  links : avoided (changing kind adr place width) uir_type 0 20 ≡ true
-  heads : avoided (changing kind adr place width) gdr_type 0 12 ≡ true
-  list : avoided (changing kind adr place width) gdr_type 64 72 ≡ true
-  end : avoided (changing kind adr place width) gdr_type 36 44 ≡ true
-  start : avoided (changing kind adr place width) adr_type 0 12 ≡ true
-  head : avoided (changing kind adr place width) adr_type (head_field kind).place ((head_field kind).place + (head_field kind).width) ≡ true
-  count : avoided (changing kind adr place width) adr_type (count_field kind).place ((count_field kind).place + (count_field kind).width) ≡ true
-  first_only : avoided (field_marks (entry_type kind) place (field 20 width)) adr_type 0 12 ≡ true
-  other : entry_type kind ≢ adr_type
-
-changes : (kind : EntryKind) (adr place width : ℕ) → Changes kind adr place width
-changes entries.Z adr place width = record { clear = refl; gdr_within = refl; adr_within = refl; unused = refl; links = refl; heads = refl; list = refl; end = refl; start = refl; head = refl; count = refl; first_only = refl; other = apart 9 4 refl }
-changes other adr place width = record { clear = refl; gdr_within = refl; adr_within = refl; unused = refl; links = refl; heads = refl; list = refl; end = refl; start = refl; head = refl; count = refl; first_only = refl; other = apart 5 4 refl }
 
 -- ---- the images
 
@@ -327,8 +305,8 @@ module _ {b : List ℕ} {own : AttributeShape} (kind : EntryKind) (sound : IsSou
       tt,
     ) (some_bytes b (shape b) sound.has_shape)
 
-    tests : Changes kind own.adr place width
-    tests = changes kind own.adr place width
+    tests : WriteTests kind own.adr (place ∷ []) (field 20 width)
+    tests = write_tests kind own.adr (place ∷ []) (field 20 width)
 
     over_adr : Stands over_mid (shape b).records own.adr adr_type 324
     over_adr = still_stands over_first the_adr tests.first_only (omega arith)
@@ -343,7 +321,7 @@ module _ {b : List ℕ} {own : AttributeShape} (kind : EntryKind) (sound : IsSou
     over_greatest z fits same = max_integer over_first.tiled_now over_adr q.written z fits same
 
     abbrev pub over_marks : List Mark
-    over_marks = changing kind own.adr place width
+    over_marks = writing kind own.adr (place ∷ []) (field 20 width)
 
     over : Edit b now (shape b).records (shape b).records over_marks []
     over = edit_then over_first over_second
