@@ -42,12 +42,12 @@ use Rattle.cdf_var_records.specs.Descriptors.{IsVdr}
 use Rattle.cdf_vars.specs.Removing.{VdrsLie}
 use Rattle.cdf_var_records.proofs.VdrParts.{at, own}
 use Rattle.cdf_var_records.proofs.PadSites.{vdr_lies}
-use Rattle.cdf_vars.proofs.RemovalAnswers.{on_ok}
+use Rattle.std.proofs.lemmas.Result.{on_ok_weaker}
 
 -- rMaxRec as it is written
 pub greatest_written : {b mid : List ℕ} (now : List ℕ) (kind : Kind) {places xs : List ℕ} {n : ℕ} {last : ℤ} (result : Result (Unit {0}) AreaError) → mid ≡ b → xs ≡ places → n ≡ fold max 0 (map (λ (vdr : ℕ). extent (max_rec_at b vdr)) xs) → last ≡ last_number n
     → OnOk result (now ≡ with_writes mid (r_max_writes kind (gdr_offset mid) last)) → OnOk result ((greatest : ℤ) → greatest ≡ greatest_at b places → now ≡ with_writes b (r_max_writes kind (gdr_offset b) greatest))
-greatest_written {b} {mid} now kind {places} {xs} {n} {last} result same are n_is last_is = on_ok result (λ w greatest is.
+greatest_written {b} {mid} now kind {places} {xs} {n} {last} result same are n_is last_is = on_ok_weaker result (λ w greatest is.
     let all : last ≡ greatest = last_is ∙ ap last_number (n_is ∙ ap (λ (ys : List ℕ). fold max 0 (map (λ (vdr : ℕ). extent (max_rec_at b vdr)) ys)) are) ∙ sym is in
     w ∙ (λ i. with_writes (same i) (r_max_writes kind (gdr_offset (same i)) (all i))))
 

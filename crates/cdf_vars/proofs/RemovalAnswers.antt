@@ -1,6 +1,7 @@
 -- What the calls of the removal of a variable ask: the greatest MaxRec that is left, the numbers that are written, and the records that go; and what is kept of the variables then.
 use Rattle.std.proofs.Common.{◌≡◌, ℕ, zero, suc, ◌+◌, ◌^◌, ◌<◌, ◌≤◌, List, [], ◌∷◌, ◌++◌, length, map, max, take, drop, get_or, refl, sym, ap, ◌∙◌, arith, inl, inr, subst, append_assoc, ℤ, ◌-◌, Result, Ok, Err, OnOk, FitsSigned}
-use Rattle.std.proofs.lemmas.List.{at_drop_more, take_all, length-map}
+use Rattle.std.proofs.lemmas.List.{at_drop_more, take_all, length-map, take-append-drop, length-drop, map-append}
+use Rattle.std.proofs.lemmas.List.Sums.{fold-append}
 use Rattle.std.specs.List.{fold, remove}
 use Rattle.cdf_edits.specs.Edits.RemovesVariable.{greatest_at, numbers_on, RemovesVariable}
 use Rattle.cdf_edits.specs.Edits.Writes.{with_writes}
@@ -43,23 +44,11 @@ use Rattle.cdf_vars.specs.Known.{KnownKind, KnowsKind}
 pub dropped : (xs : List ℕ) (i : ℕ) → i < length xs → drop i xs ≡ get_or xs i 0 ∷ drop (i + 1) xs
 dropped xs i lt = at_drop_more (λ (ys : List ℕ). ys) xs i 0 lt
 
-without_at : (xs : List ℕ) (n : ℕ) → n < length xs → remove xs n ≡ take n xs ++ drop (n + 1) xs
-without_at [] n lt = absurd (omega arith)
-without_at (x ∷ xs) zero lt = refl
-without_at (x ∷ xs) (suc n) lt = let next : suc n + 1 ≡ suc (n + 1) = omega arith in ap (λ (r : List ℕ). x ∷ r) (without_at xs n (omega arith)) ∙ ap (λ (k : ℕ). x ∷ take n xs ++ drop k (x ∷ xs)) (sym next)
-
 pub in_taken : (xs : List ℕ) (n m : ℕ) → In m (take n xs) → In m xs
-in_taken [] zero m i = i
-in_taken [] (suc n) m i = i
-in_taken (x ∷ xs) zero m i = absurd i
-in_taken (x ∷ xs) (suc n) m (inl q) = inl q
-in_taken (x ∷ xs) (suc n) m (inr i) = inr (in_taken xs n m i)
+in_taken xs n m i = subst (In m) (take-append-drop n xs) (In-append_left m (take n xs) (drop n xs) i)
 
 pub in_dropped : (xs : List ℕ) (n m : ℕ) → In m (drop n xs) → In m xs
-in_dropped [] zero m i = i
-in_dropped [] (suc n) m i = i
-in_dropped (x ∷ xs) zero m i = i
-in_dropped (x ∷ xs) (suc n) m i = inr (in_dropped xs n m i)
+in_dropped xs n m i = subst (In m) (take-append-drop n xs) (In-append_right m (take n xs) (drop n xs) i)
 
 -- ---- the greatest MaxRec
 
@@ -76,19 +65,11 @@ pub max_few : (m n : ℕ) → m ≤ 2 ^ 31 → n ≤ 2 ^ 31 → max m n ≤ 2 ^ 
 max_few m n l h = grind arith
 
 -- those before one and those behind it
-fold_parts : (n : ℕ) (xs ys : List ℕ) → fold max n (xs ++ ys) ≡ fold max (fold max n xs) ys
-fold_parts n [] ys = refl
-fold_parts n (x ∷ xs) ys = fold_parts (max n x) xs ys
-
-extents_parts : (b xs ys : List ℕ) → extents b (xs ++ ys) ≡ extents b xs ++ extents b ys
-extents_parts b [] ys = refl
-extents_parts b (x ∷ xs) ys = ap (λ (r : List ℕ). extent (max_rec_at b x) ∷ r) (extents_parts b xs ys)
-
-pub greatest_of_parts : (b x : List ℕ) → x ≡ b → (places : List ℕ) (n : ℕ) → n < length places → (front greatest : ℕ) → front ≡ fold max 0 (extents b (take n places)) → greatest ≡ fold max front (extents x (drop (n + 1) places)) → last_number greatest ≡ greatest_at b (remove places n)
-greatest_of_parts b x same places n lt front greatest first second =
-    ap last_number (second ∙ (λ i. fold max (first i) (extents (same i) (drop (n + 1) places)))
-    ∙ sym (fold_parts 0 (extents b (take n places)) (extents b (drop (n + 1) places))) ∙ ap (λ (ns : List ℕ). fold max 0 ns) (sym (extents_parts b (take n places) (drop (n + 1) places))))
-    ∙ ap (greatest_at b) (sym (without_at places n lt))
+pub greatest_of_parts : (b x : List ℕ) → x ≡ b → (places : List ℕ) (n front greatest : ℕ) → front ≡ fold max 0 (extents b (take n places)) → greatest ≡ fold max front (extents x (drop (n + 1) places)) → last_number greatest ≡ greatest_at b (remove places n)
+greatest_of_parts b x same places n front greatest first second =
+    let next : n + 1 ≡ suc n = omega arith in
+    ap last_number (second ∙ (λ i. fold max (first i) (extents (same i) (drop (next i) places))) ∙ sym (fold-append max 0 (extents b (take n places)) (extents b (drop (suc n) places))))
+    ∙ ap (λ (ns : List ℕ). last_number (fold max 0 ns)) (sym (map-append (λ vdr. extent (max_rec_at b vdr)) (take n places) (drop (suc n) places)))
 
 -- ---- the numbers
 
@@ -155,18 +136,9 @@ pub on_ok_all : {T E P Q S U : Type 0} (r : Result T E) → (P → Q → S → U
 on_ok_all (Ok x) f p q s = f p q s
 on_ok_all (Err e) f p q s = tt
 
-pub on_ok : {T E P U : Type 0} (r : Result T E) → (P → U) → OnOk r P → OnOk r U
-on_ok (Ok x) f p = f p
-on_ok (Err e) f p = tt
-
 -- a slice to the end
-length_dropped : (xs : List ℕ) (k : ℕ) → length (drop k xs) ≡ length xs - k
-length_dropped xs zero = omega arith
-length_dropped [] (suc k) = omega arith
-length_dropped (x ∷ xs) (suc k) = let l = length_dropped xs k in omega arith
-
 pub to_the_end : (xs : List ℕ) (k : ℕ) → take (length xs - k) (drop k xs) ≡ drop k xs
-to_the_end xs k = take_all (length xs - k) (drop k xs) (let l = length_dropped xs k in omega arith)
+to_the_end xs k = take_all (length xs - k) (drop k xs) (let l = length-drop k xs in omega arith)
 
 -- rMaxRec as it is handed on
 pub handed_on : (b places : List ℕ) (kind : Kind) (greatest : ℤ) {x : List ℕ} → x ≡ b → (kind ≡ R → greatest ≡ greatest_at x places) → kind ≡ R → cast_signed w32 (cast_unsigned w32 greatest) ≡ greatest_at b places
@@ -178,7 +150,7 @@ numbers_written less places n written = written ∙ ap (λ (xs : List ℕ). with
 
 pub few_behind : (places : List ℕ) (n : ℕ) → n < length places → length places < 4294967296 → n + length (take (length places - (n + 1)) (drop (n + 1) places)) ≤ 4294967295
 few_behind places n lt few =
-    let l = ap length (to_the_end places (n + 1)) ∙ length_dropped places (n + 1) in
+    let l = ap length (to_the_end places (n + 1)) ∙ length-drop (n + 1) places in
     omega arith
 
 -- the records that go, as they are read

@@ -22,4 +22,4 @@ returns-in_ok-greatest-in-R-clause-greatest g c = λ kind.
     let places = c.args.places.now in
     let back = to_z-of_z w32 c.last_number.result (subst (FitsSigned w32) (sym c.last_number.ensures) (last_fits c.in_ok-greatest-in-R.greatest c.in_ok-greatest-in-R.ensures.few)) in
     let second = c.in_ok-greatest-in-R.ensures.greatest ∙ ap (λ (xs : List ℕ). fold max c.in_ok-front-in-R.front (extents (g.A.Area.image c.greatest_extent.new.area) xs)) (to_the_end places (c.args.number + 1)) in
-    back ∙ c.last_number.ensures ∙ greatest_of_parts b (g.A.Area.image c.greatest_extent.new.area) c.in_ok-front-in-R.ensures.area.image places c.args.number c.requires.within c.in_ok-front-in-R.front c.in_ok-greatest-in-R.greatest c.in_ok-front-in-R.ensures.greatest second
+    back ∙ c.last_number.ensures ∙ greatest_of_parts b (g.A.Area.image c.greatest_extent.new.area) c.in_ok-front-in-R.ensures.area.image places c.args.number c.in_ok-front-in-R.front c.in_ok-greatest-in-R.greatest c.in_ok-front-in-R.ensures.greatest second

@@ -5,7 +5,8 @@ use Rattle.cdf_edits.proofs.Edits.RemovalCalls.{this, inside, few, variables_lis
 use Rattle.cdf_format.proofs.GoodSound.{good_is_sound}
 use Rattle.cdf_format.specs.Shape.{shape}
 use Rattle.cdf_format.specs.Tiles.{In}
-use Rattle.cdf_vars.proofs.RemovalAnswers.{handed_on, on_ok, to_the_end, numbers_written, few_behind, own_are, vdr_among, in_dropped}
+use Rattle.cdf_vars.proofs.RemovalAnswers.{handed_on, to_the_end, numbers_written, few_behind, own_are, vdr_among, in_dropped}
+use Rattle.std.proofs.lemmas.Result.{on_ok_weaker}
 use Rattle.cdf_vars.proofs.removing.remove_at.Goals as goal
 
 pub read_records-requires-clause-vdr : goal.read_records-requires-clause-vdr
@@ -50,7 +51,7 @@ free_records-requires-clause-free g c =
     (own_are _ c.requires.good c.args.kind c.args.places.now c.requires.places c.args.number c.requires.within (λ before v after is at. c.deref.ensures.value ∙ c.in_ok-records.ensures.records before v after is at))
 
 pub returns-clause-removed : goal.returns-clause-removed
-returns-clause-removed g c = on_ok c.free_records.result (λ given.
+returns-clause-removed g c = on_ok_weaker c.free_records.result (λ given.
     removes_by _ c.requires.good c.args.kind c.args.places.now c.requires.places c.args.number c.requires.within c.requires.short (c.in_ok-greatest.ensures.area.image ∙ c.in_ok-records.ensures.area.image) c.chain_of.ensures c.in_ok-take_out.ensures.taken (numbers_written _ c.args.places.now c.args.number c.in_ok-set_numbers.ensures.written)
     (handed_on (g.A.Area.image c.args.area.now) (remove c.args.places.now c.args.number) c.args.kind c.in_ok-greatest.greatest c.in_ok-records.ensures.area.image c.in_ok-greatest.ensures.greatest) c.in_ok-set_greatest.ensures.written
     (own_are _ c.requires.good c.args.kind c.args.places.now c.requires.places c.args.number c.requires.within (λ before v after is at. c.deref.ensures.value ∙ c.in_ok-records.ensures.records before v after is at)) _ given) c.free_records.ensures.given

@@ -3,7 +3,7 @@ use Rattle.cdf_format.specs.VariableFields.{max_rec_at}
 use Rattle.cdf_model.specs.DataSet.{extent}
 use Rattle.cdf_model.specs.declared.kinds.Kind.TheVariants.{R}
 use Rattle.cdf_vars.proofs.PutRaised.{cdr_there, greatest_lies, max_rec_lies, mid_good, mid_places, raised, vdrs_lie}
-use Rattle.cdf_vars.proofs.RemovalAnswers.{on_ok}
+use Rattle.std.proofs.lemmas.Result.{on_ok_weaker}
 use Rattle.cdf_vars.proofs.vars.Vars.raise_max_rec.Goals as goal
 
 pub set_vdr_max_rec-requires : goal.set_vdr_max_rec-requires
@@ -24,4 +24,4 @@ pub returns-clause-raised : goal.returns-clause-raised
 returns-clause-raised g c =
     let ok = c.in_ok-set_vdr_max_rec.ensures.ok in
     let le : extent (max_rec_at (g.A.Area.image c.args.area.now) c.args.target.now.form.place.vdr) ≤ c.args.rec = omega (arith, c.requires.count, c.if-rec-count.false) in
-    on_ok c.follow_max_rec.result (λ follows v e. inl (le, raised c.args.target.now.id.kind c.requires.good c.requires.vdr c.requires.within c.requires.short ok c.args.self.now.r.places c.requires.places follows v e)) c.follow_max_rec.ensures.written
+    on_ok_weaker c.follow_max_rec.result (λ follows v e. inl (le, raised c.args.target.now.id.kind c.requires.good c.requires.vdr c.requires.within c.requires.short ok c.args.self.now.r.places c.requires.places follows v e)) c.follow_max_rec.ensures.written

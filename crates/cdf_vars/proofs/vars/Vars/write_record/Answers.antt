@@ -7,7 +7,7 @@ use Rattle.cdf_format.specs.Shape.{shape, vdrs}
 use Rattle.cdf_model.specs.declared.kinds.Kind.TheVariants.{R}
 use Rattle.cdf_vars.proofs.PutCalls.{count_there, follows_there, knows_there, ready, rec_small, some_there}
 use Rattle.cdf_vars.proofs.PutWhole.{now_count, now_good, now_places, now_short, now_vdr}
-use Rattle.cdf_vars.proofs.RemovalAnswers.{on_ok}
+use Rattle.std.proofs.lemmas.Result.{on_ok_weaker}
 use Rattle.cdf_vars.proofs.vars.Vars.write_record.Goals as goal
 
 pub returns-in_err-put-clause-area : goal.returns-in_err-put-clause-area
@@ -72,14 +72,14 @@ returns-clause-follows g c =
     let same = c.read_new_record.ensures.area.image in
     let frame : (g.A.Area.frame c.read_new_record.new.area).limit ≡ (g.A.Area.frame c.args.area.now).limit = λ i. (c.read_new_record.ensures.area.frame i).limit in
     let k = ready same frame c.requires.good c.requires.can c.requires.room c.requires.limit c.in_ok-put.ensures.put in
-    on_ok c.raise_max_rec.result (λ raises. follows_there same frame c.requires.good c.requires.can c.requires.room c.requires.limit c.in_ok-put.ensures.put c.in_ok-put_records.ensures.put raises) c.raise_max_rec.ensures.raised
+    on_ok_weaker c.raise_max_rec.result (λ raises. follows_there same frame c.requires.good c.requires.can c.requires.room c.requires.limit c.in_ok-put.ensures.put c.in_ok-put_records.ensures.put raises) c.raise_max_rec.ensures.raised
 
 pub returns-clause-known : goal.returns-clause-known
 returns-clause-known g c =
     let same = c.read_new_record.ensures.area.image in
     let frame : (g.A.Area.frame c.read_new_record.new.area).limit ≡ (g.A.Area.frame c.args.area.now).limit = λ i. (c.read_new_record.ensures.area.frame i).limit in
     let k = ready same frame c.requires.good c.requires.can c.requires.room c.requires.limit c.in_ok-put.ensures.put in
-    on_ok c.raise_max_rec.result (λ raises. knows_there same frame c.requires.good c.requires.can c.requires.room c.requires.limit c.in_ok-put.ensures.put c.in_ok-put_records.ensures.put raises c.requires.known) c.raise_max_rec.ensures.raised
+    on_ok_weaker c.raise_max_rec.result (λ raises. knows_there same frame c.requires.good c.requires.can c.requires.room c.requires.limit c.in_ok-put.ensures.put c.in_ok-put_records.ensures.put raises c.requires.known) c.raise_max_rec.ensures.raised
 
 pub returns-clause-area : goal.returns-clause-area
 returns-clause-area g c =
