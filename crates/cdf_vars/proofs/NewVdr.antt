@@ -31,7 +31,7 @@ use Rattle.cdf_model.specs.declared.kinds.Kind.{Kind}
 use Rattle.cdf_model.specs.declared.kinds.Kind.TheVariants.{R, Z}
 use Rattle.cdf_vars.specs.Creating.{NewVariable, own_dims, vary_code, vdr_body, vdr_fields}
 use Rattle.cdf_edits.proofs.Commands.TypeCodes.{code_small, type_back}
-use Rattle.std.proofs.lemmas.Bool.{and_from, le-leb, or_parts, or_right}
+use Rattle.std.proofs.lemmas.Bool.{eqb-true, ltb-false, and_from, le-leb, or_parts, or_right}
 use Rattle.std.specs.Int.{w32, cast_signed}
 use Rattle.std.specs.Option.{unwrap_or}
 use Rattle.cdf_edits.specs.Commands.Variables.{VarysWritten}
@@ -75,18 +75,12 @@ of_not false e = cc e
 not_zero : (n : ℕ) → (n == 0) ≡ false → 1 ≤ n
 not_zero n e = grind (arith, nat_tests)
 
-not_less : (m n : ℕ) → nat_lt m n ≡ false → n ≤ m
-not_less m n e = grind (arith, nat_tests)
-
-equal : (m n : ℕ) → (m == n) ≡ true → m ≡ n
-equal m n e = grind (arith, nat_tests)
-
 each_size : (dims : List ℕ) → list_any (λ size. (size == 0) || nat_lt signed_limit size) dims ≡ false → Each IsSize dims
 each_size [] e = tt
 each_size (size ∷ dims) e =
     let p = or_parts ((size == 0) || nat_lt signed_limit size) (list_any (λ size. (size == 0) || nat_lt signed_limit size) dims) e in
     let q = or_parts (size == 0) (nat_lt signed_limit size) p.0 in
-    ((not_zero size q.0, not_less signed_limit size q.1), each_size dims p.1)
+    ((not_zero size q.0, ltb-false signed_limit size q.1), each_size dims p.1)
 
 -- a value has a byte, and a record a value
 through : (x y z : ℕ) → x ≤ y → y ≤ z → x ≤ z
@@ -121,13 +115,13 @@ shaped t elems dims varys e =
     let s = or_parts (are_bad_sizes dims) (not (length varys == length dims)) q.1 in
     let d = or_parts (nat_lt dimension_limit (length dims)) (list_any (λ size. (size == 0) || nat_lt signed_limit size) dims) s.0 in
     let sizes = each_size dims d.1 in
-    let fits = not_less record_limit (record_size t elems dims varys) p.1 in
+    let fits = ltb-false record_limit (record_size t elems dims varys) p.1 in
     record {
       some = not_zero elems r.0;
       single = not_not (elems == 1) (is_characters (notation_of t)) r.1;
-      few = not_less dimension_limit (length dims) d.0;
+      few = ltb-false dimension_limit (length dims) d.0;
       sizes = sizes;
-      one_each = equal (length varys) (length dims) (of_not (length varys == length dims) s.1);
+      one_each = eqb-true (length varys) (length dims) (of_not (length varys == length dims) s.1);
       fits = fits;
       elems_fit = elems_few t elems dims varys sizes fits;
     }

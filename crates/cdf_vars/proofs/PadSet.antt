@@ -473,7 +473,7 @@ moves_there {b = b} {now = now} {raw = raw} {places = places} {places' = places'
 -- the places with another one in the middle
 vdrs_set : (before : List VariableShape) (own other : VariableShape) (after : List VariableShape) → vdrs (before ++ other ∷ after) ≡ slice_set (vdrs (before ++ own ∷ after)) (length before) other.vdr
 vdrs_set [] own other after = refl
-vdrs_set (vdr ∷ before) own other after = ap (λ (r : List ℕ). vdr.vdr ∷ r) (vdrs_set before own other after)
+vdrs_set (first ∷ before) own other after = ap (λ (r : List ℕ). first.vdr ∷ r) (vdrs_set before own other after)
 
 module _ {b : List ℕ} (name : List ℕ) (words : List (List ℕ)) {known : Known} (good : Good b) (knows : Knows b known) {id : VarId} {p : PadPlace} {bytes : List ℕ} (may : MayPad b known name words id p bytes) where
   abbrev parts : Parts b known name id
