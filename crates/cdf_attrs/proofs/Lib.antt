@@ -36,7 +36,6 @@ pub mod EntrySteps
 pub mod GettingAnswers
 pub mod WholeEntries
 pub mod TakenHalf
-pub mod ValueSizes
 pub mod ValuePut
 pub mod ValueWords
 pub mod RangeCounts

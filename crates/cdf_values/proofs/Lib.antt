@@ -6,4 +6,5 @@ pub mod NumberLemmas
 pub mod RangeLemmas
 pub mod ReadLemmas
 pub mod TurnedLemmas
+pub mod ValueLengths
 pub mod WriteLemmas

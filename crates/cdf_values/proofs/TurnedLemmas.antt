@@ -59,3 +59,7 @@ back t true bytes h =
     let whole = whole_units t (length bytes) h in
     ap (λ len. flat_map reverse (parts n (len / n) once)) (turned_size n bytes whole) ∙ twice n (length bytes / n) bytes (whole_parts n (length bytes) whole)
 back t false bytes h = refl
+
+-- written back over the value
+pub in_place : (t : DataType) (little : Bool) (n : ℕ) (value now : List ℕ) → length value % size_of t ≡ 0 → n ≡ length value → now ≡ turned t little value → take n (now ++ drop (length now) value) ≡ turned t little value
+in_place t little n value now whole long is = take_at now (drop (length now) value) n (ap length is ∙ size_stays t little value whole ∙ sym long) ∙ is

@@ -5,5 +5,4 @@ pub mod PutRoomNeeded
 pub mod RecordForms
 pub mod RecordReading
 pub mod RecordsRead
-pub mod ValueSizes
 pub mod VdrParts

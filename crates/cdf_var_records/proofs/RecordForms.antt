@@ -43,7 +43,7 @@ use Rattle.cdf_var_records.proofs.DimsRead.{small_signed}
 use Rattle.cdf_var_records.proofs.VdrParts.{at, inside, own}
 use Rattle.cdf_var_records.proofs.VdrParts.{dims_long, words_long}
 use Rattle.cdf_var_records.proofs.PadSites.{at_is, positive, r_count, r_typed, ruled, z_count, z_few, z_typed}
-use Rattle.cdf_var_records.proofs.ValueSizes.{size_some}
+use Rattle.cdf_values.proofs.ValueLengths.{size_some}
 
 -- ---- sizes as they are read
 

@@ -31,7 +31,7 @@ use Rattle.cdf_values.proofs.TurnedLemmas.{size_stays}
 use Rattle.cdf_var_records.specs.declared.form.Form.{Form}
 use Rattle.cdf_var_records.specs.Records.{IsForm, IsRecordShape, leaf_in, variable_at}
 use Rattle.cdf_var_records.proofs.PadSites.{vdr_lies}
-use Rattle.cdf_var_records.proofs.ValueSizes.{whole_elements}
+use Rattle.cdf_values.proofs.ValueLengths.{whole_elements}
 use Rattle.cdf_var_records.proofs.RecordForms.{has_index, pad_lies}
 use Rattle.cdf_var_records.proofs.RecordsRead.{by_leaf, holding, pad_by, pad_none, piece_long, read_is, stored_whole}
 

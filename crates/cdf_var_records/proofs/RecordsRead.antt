@@ -40,7 +40,7 @@ use Rattle.cdf_values.proofs.TurnedLemmas.{size_stays}
 use Rattle.cdf_var_records.specs.Descriptors.{IsVdr}
 use Rattle.cdf_var_records.specs.Records.{leaf_in, variable_at}
 use Rattle.cdf_var_records.proofs.VdrParts.{own}
-use Rattle.cdf_var_records.proofs.ValueSizes.{whole_elements}
+use Rattle.cdf_values.proofs.ValueLengths.{whole_elements}
 use Rattle.cdf_var_records.proofs.RecordForms.{among, image, index_is, pad_lies, variable_is, without_rule}
 
 -- ---- any variable

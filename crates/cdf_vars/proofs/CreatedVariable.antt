@@ -1,5 +1,5 @@
--- The making of a variable, as an edit, leads from a good image to the one that follows.
-use Rattle.std.proofs.Common.{◌≡◌, ◌≢◌, ℕ, ◌+◌, ◌^◌, ◌<◌, ◌≤◌, List, [], ◌∷◌, ◌++◌, length, map, Bool, true, false, ◌||◌, bytes_eq, eqb, eq-eqb, Some, refl, sym, ap, subst, ◌∙◌, append-nil, arith, inl, inr}
+-- A new variable: the making of its VDR leads from a good image to the one that follows, what is known of the variables then, and what the command is answered.
+use Rattle.std.proofs.Common.{◌≡◌, ◌≢◌, ℕ, ◌+◌, ◌^◌, ◌<◌, ◌≤◌, List, [], ◌∷◌, ◌++◌, length, map, true, false, bytes_eq, eqb, eq-eqb, Some, refl, sym, ap, subst, ◌∙◌, append-nil, arith, inl, inr}
 use Rattle.std.proofs.lemmas.Bool.{eqb-true}
 use Rattle.std.proofs.lemmas.List.{map-append}
 use Rattle.std.specs.List.{All, flat_map, slice_get}
@@ -35,6 +35,7 @@ use Rattle.cdf_format.proofs.SealedRules.{good_long, sealed_kept}
 use Rattle.cdf_format.proofs.ShapeLemmas.{content_is, shape_is}
 use Rattle.cdf_format.proofs.TilesLemmas.{tile_lies}
 use Rattle.cdf_edits.specs.Commands.Allowances.{AllKeep, Allowances, Only, shapes_of, vdr_type}
+use Rattle.cdf_edits.specs.declared.chain.Chain.{Chain}
 use Rattle.cdf_edits.specs.Commands.Does.{Does}
 use Rattle.cdf_edits.specs.Commands.Keeps.{allowances}
 use Rattle.cdf_edits.specs.Commands.Room.{room, vdr_bytes}
@@ -44,30 +45,35 @@ use Rattle.cdf_edits.specs.Edits.Marks.{Mark, avoided, is_late, keeps_file, keep
 use Rattle.cdf_edits.specs.Follows.{Follows, only_reads}
 use Rattle.cdf_edits.specs.Space.Acts.{Act, Took}
 use Rattle.cdf_edits.specs.Space.Adding.{Added, adding_marks}
-use Rattle.cdf_edits.specs.Space.Chains.{count_of, head_of, holder_of, type_in}
-use Rattle.cdf_edits.specs.Space.Placing.{Fills}
+use Rattle.cdf_edits.specs.Space.Chains.{count_of, head_of, holder_of, type_in, counted_in}
+use Rattle.cdf_edits.specs.Space.Placing.{Fills, IsBody, type_of_body}
 use Rattle.cdf_edits.specs.Space.VariableChains.{variables_chain}
-use Rattle.cdf_edits.proofs.Commands.FineNames.{fine_is_some}
+use Rattle.cdf_edits.proofs.Commands.FineNames.{fine_is_some, fine_has_no_zeros, fine_is_short}
 use Rattle.cdf_edits.proofs.Commands.KeptRecords.{keep_attributes}
 use Rattle.cdf_edits.proofs.Commands.ListParts.{got-middle}
 use Rattle.cdf_edits.proofs.Edits.EditActs.{acts_took}
 use Rattle.cdf_edits.proofs.Edits.MadeRecord.{place_in, filled_sound, filled_size, unowned, made_edit, made_part, made_type, made_size, shorter, end_now, list_chain, made_keeps_unused}
-use Rattle.cdf_edits.proofs.Edits.MarkLemmas.{unmarked-away}
+use Rattle.cdf_edits.proofs.Edits.MarkLemmas.{the_one, unmarked-away}
 use Rattle.cdf_edits.proofs.Edits.OwnedOnce.{used_times, IsSorted, all_attributes_in, owned_once_if}
 use Rattle.cdf_edits.proofs.Edits.OwnersKept.{stood, keeps_fields, keeps_away, keep_file, keep_all}
 use Rattle.cdf_edits.proofs.Edits.RecordFrame.{VariableLives, file_same, gdr_place}
 use Rattle.cdf_edits.proofs.Edits.StepEdits.{gdr_in, gdr_typed}
 use Rattle.cdf_edits.proofs.Edits.VariableFrame.{clear_live, nums_from, remain_from}
-use Rattle.cdf_edits.proofs.Edits.VariableKinds.{kind_ours, numbers_kept, of_kind, other_kind, keeps_kind, spliced_times, variables_of_are, vdrs_rows, vdrs_rows-push, counted_before, with_shapes}
+use Rattle.cdf_edits.proofs.Edits.VariableKinds.{kind_ours, numbers_kept, of_kind, other_kind, keeps_kind, spliced_times, variables_of_are, vdrs_rows, vdrs_rows-push, counted_before, with_shapes, kind_type}
 use Rattle.cdf_edits.proofs.Edits.VariableNames.{apart_if, beside_in}
 use Rattle.cdf_edits.proofs.Edits.VariablesLinked.{keep_kind, linked_keeps}
 use Rattle.cdf_edits.proofs.Edits.VariableSplice.{VariableSplices, OwnRules, attributes_kept, content_now, good_image_if, keeps_all_attributes, shape_now}
 use Rattle.cdf_edits.proofs.Space.UsedRecords.{apart}
-use Rattle.cdf_vars.specs.Creating.{HasDims, NewVariable, making, vdr_body}
-use Rattle.cdf_vars.proofs.MeantVdr.{Shares, bare_variable, end_is, has, means, name_is, ruled, varys_written}
-use Rattle.cdf_vars.proofs.NewVdr.{IsNewVdr, length-body, type_in_body, vdr_written}
-use Rattle.cdf_vars.proofs.ShapedVariable.{IsShaped}
-use Rattle.cdf_vars.proofs.VariableChains.{counted_members, variable_members}
+use Rattle.cdf_vars.specs.Creating.{HasDims, NewVariable, making, vdr_body, OthersStay}
+use Rattle.cdf_vars.proofs.VariableChains.{counted_members, variable_members, few_variables}
+use Rattle.cdf_vars.specs.Known.{KnowsKind}
+use Rattle.cdf_edits.specs.Answers.{Answers}
+use Rattle.cdf_edits.proofs.Commands.Answered.{gone, too_large}
+use Rattle.cdf_model.specs.declared.answer.Outcome.TheVariants.{Done, Refused}
+use Rattle.cdf_model.specs.declared.answer.Reason.TheVariants.{TooLarge}
+use Rattle.cdf_vars.proofs.NewVdr.{IsNewVdr, IsShaped, Shares, bare_variable, end_is, has, length-body, means, name_is, ruled, shaped, type_in_body, varys_written, vdr_is_body, vdr_written}
+use Rattle.cdf_vars.proofs.VariableChanged.{kind_with, others_with}
+use Rattle.cdf_vars.proofs.VariableNames.{absent_from}
 
 -- ---- what the marks leave, by the kind
 
@@ -131,38 +137,9 @@ bare_records : (place : ℕ) → flat_map variable_records (bare_variable place 
 unfolding nodes_of leaves_of
 bare_records place = refl
 
--- ---- names
-
-variable_names_are : (b : List ℕ) (s : Shape) → HasShape b s → variable_names (content b) ≡ map (λ (m : ℕ). name_in b m vdr_name) (vdrs (variables s))
-variable_names_are b s h =
-    ap variable_names (content_is b s h)
-    ∙ (λ i. each s.r_variables i ++ each s.z_variables i)
-    ∙ sym (ap (map (λ (m : ℕ). name_in b m vdr_name)) (vdrs_append s.r_variables s.z_variables) ∙ map-append (λ (m : ℕ). name_in b m vdr_name) (vdrs s.r_variables) (vdrs s.z_variables))
-  where
-    each : (vs : List VariableShape) → map (λ (v : Variable). v.name) (map (variable_of b) vs) ≡ map (λ (m : ℕ). name_in b m vdr_name) (vdrs vs)
-    each [] = refl
-    each (v ∷ vs) = ap (λ (r : List (List ℕ)). name_in b v.vdr vdr_name ∷ r) (each vs)
-
-not_among : (b : List ℕ) (name : List ℕ) (ms : List ℕ) (m : ℕ) → is_among name (map (λ (x : ℕ). name_in b x vdr_name) ms) ≡ false → In m ms → bytes_eq name (name_in b m vdr_name) ≡ false
-not_among b name [] m e i = absurd i
-not_among b name (x ∷ ms) m e (inl q) = subst (λ (y : ℕ). bytes_eq name (name_in b y vdr_name) ≡ false) (sym q) (neither (bytes_eq name (name_in b x vdr_name)) (is_among name (map (λ (y : ℕ). name_in b y vdr_name) ms)) e).0
-  where
-    neither : (p q : Bool) → (p || q) ≡ false → (p ≡ false) × (q ≡ false)
-    neither true q e = cc e
-    neither false q e = (refl, e)
-not_among b name (x ∷ ms) m e (inr i) = not_among b name ms m (other (bytes_eq name (name_in b x vdr_name)) (is_among name (map (λ (y : ℕ). name_in b y vdr_name) ms)) e) i
-  where
-    other : (p q : Bool) → (p || q) ≡ false → q ≡ false
-    other true q e = cc e
-    other false q e = e
-
-only_one : (place m : ℕ) → In m (place ∷ []) → m ≡ place
-only_one place m (inl q) = q
-only_one place m (inr none) = absurd none
-
 -- ---- the record is taken, written, linked and counted
 
-module _ {b now : List ℕ} {place : ℕ} (kind : Kind) (v : NewVariable) (image : Good b) (well_named : is_bad_name v.name ≡ false) (short : length v.name ≤ 256) (no_zero : All (λ (byte : ℕ). byte ≢ 0) v.name) (is : IsShaped v.type v.elems v.dims v.varys) (few : length (vdrs (shapes_of (shape b) kind)) < 2 ^ 32) (dims : HasDims b kind v.dims) (added : Added b now (variables_chain kind) (vdr_body kind v (length (vdrs (shapes_of (shape b) kind)))) place) where
+module _ (b : List ℕ) (kind : Kind) (v : NewVariable) (limit : ℕ) (image : Good b) (well_named : is_bad_name v.name ≡ false) (fine : is_bad_shape v.type v.elems v.dims v.varys ≡ false) (roomy : length b + vdr_bytes kind (length v.dims) ≤ limit) (limited : limit ≤ image_limit) where
   abbrev s : Shape
   s = shape b
 
@@ -184,239 +161,268 @@ module _ {b now : List ℕ} {place : ℕ} (kind : Kind) (v : NewVariable) (image
   h : HasShape b s
   h = sound.has_shape
 
-  abbrev records : List ℕ
-  records = (shape added.filled).records
+  short : length v.name ≤ 256
+  short = fine_is_short v.name well_named
 
-  abbrev list : List ℕ
-  list = (shape added.filled).unused
+  no_zero : All (λ (byte : ℕ). byte ≢ 0) v.name
+  no_zero = fine_has_no_zeros v.name well_named
 
-  abbrev late : List Mark
-  late = adding_marks b (variables_chain kind) place
+  is : IsShaped v.type v.elems v.dims v.varys
+  is = shaped v.type v.elems v.dims v.varys fine
 
-  abbrev marks : List Mark
-  marks = making_marks s.unused place need late
+  pub few : num < 2 ^ 32
+  few = let l = few_variables b s h kind in omega (arith, l, roomy, limited)
 
-  clear : Clears b s.unused kind place need
-  clear = clears b s.unused kind place need
+  pub few_counted : counted_in b (variables_chain kind) + 1 < 2 ^ 32
+  few_counted =
+      let l = few_variables b s h kind in
+      let count : counted_in b (variables_chain kind) ≡ num = counted_members b image kind ∙ ap (λ (ms : List ℕ). length ms) (variable_members b s h kind) in
+      omega (arith, l, count, roomy, limited)
 
-  fills : Fills b added.placed.taken added.filled s records list need place (vdr_type kind)
-  fills =
-      let body = vdr_body kind v num in
-      subst (λ (n : ℕ). Fills b added.placed.taken added.filled s records list n place (vdr_type kind)) (length-body kind v num short is)
-      (subst (λ (t : ℕ). Fills b added.placed.taken added.filled s records list (8 + length body) place t) (type_in_body kind v num short is) added.placed.fills)
+  -- the bytes that are written
+  module _ {bytes : List ℕ} (n : ℕ) (are : bytes ≡ vdr_body kind v n) where
+    pub is_body : IsBody bytes
+    is_body = subst IsBody (sym are) (vdr_is_body kind v n short is)
 
-  later : Edit added.filled now records records late []
-  later = added.linked
+    pub is_typed : type_of_body bytes ≡ type_in (variables_chain kind)
+    is_typed = ap type_of_body are ∙ type_in_body kind v n short is ∙ sym (kind_type kind)
 
-  as_long : length now ≡ length added.filled
-  as_long = added.as_long
+    pub has_room : length b + (8 + length bytes) ≤ limit
+    has_room = let size = length-body kind v n short is in let same = ap (λ (x : List ℕ). length x) are in omega (arith, size, same, roomy)
 
-  gdr_is : holder_of b (variables_chain kind) ≡ s.gdr
-  gdr_is = holder_is b kind ∙ h.gdr_is
+    pub made_there : {now : List ℕ} {chain : Chain} {place : ℕ} → n ≡ num → chain ≡ variables_chain kind → Added b now chain bytes place → Added b now (variables_chain kind) (vdr_body kind v num) place
+    made_there {now = now} {chain = chain} {place = place} counted is_chain added = subst (λ (c : Chain). Added b now c (vdr_body kind v num) place) is_chain (subst (λ (x : List ℕ). Added b now chain x place) (are ∙ ap (vdr_body kind v) counted) added)
 
-  chain : IsChain now records (type_in (variables_chain kind)) (number now s.gdr (head_of (variables_chain kind))) (vdrs own ++ place ∷ [])
-  chain = subst (λ (g : ℕ). IsChain now records (type_in (variables_chain kind)) (number now g (head_of (variables_chain kind))) (vdrs own ++ place ∷ [])) gdr_is
-      (subst (λ (ms : List ℕ). IsChain now records (type_in (variables_chain kind)) (number now (holder_of b (variables_chain kind)) (head_of (variables_chain kind))) (ms ++ place ∷ [])) (variable_members b s h kind) added.chain)
+  -- ---- once it is linked and counted
 
-  e : Edit b now s.records records marks (place ∷ [])
-  e = made_edit sound fills later as_long clear.lately
+  module _ {now : List ℕ} {place : ℕ} (dims : HasDims b kind v.dims) (added : Added b now (variables_chain kind) (vdr_body kind v num) place) where
+    abbrev records : List ℕ
+    records = (shape added.filled).records
 
-  lives : Each (VariableLives b now) (variables s)
-  lives = clear_live sound e clear.indexes
+    abbrev list : List ℕ
+    list = (shape added.filled).unused
 
-  new_type : type_at now place ≡ vdr_type kind
-  new_type = made_type sound fills later as_long clear.lately
+    abbrev late : List Mark
+    late = adding_marks b (variables_chain kind) place
 
-  new_size : size_at now place ≡ need
-  new_size = made_size sound fills later as_long clear.lately
+    abbrev marks : List Mark
+    marks = making_marks s.unused place need late
 
-  new : IsNewVdr now place kind v num
-  new =
-      let lies = tile_lies added.filled 8 (length added.filled) records place (filled_sound sound fills).has_shape.tiled (place_in sound fills) in
-      vdr_written kind v num short is added.placed few (made_part sound fills later as_long clear.lately 20 need clear.behind (itself need))
-      (subst (λ (n : ℕ). place + n ≤ length added.filled) (filled_size sound fills) lies.high) (omega (arith, as_long))
-    where
-      itself : (n : ℕ) → n ≤ n
-      itself n = omega arith
+    clear : Clears b s.unused kind place need
+    clear = clears b s.unused kind place need
 
-  abbrev bare : VariableShape
-  bare = bare_variable place
+    fills : Fills b added.placed.taken added.filled s records list need place (vdr_type kind)
+    fills =
+        let body = vdr_body kind v num in
+        subst (λ (n : ℕ). Fills b added.placed.taken added.filled s records list n place (vdr_type kind)) (length-body kind v num short is)
+        (subst (λ (t : ℕ). Fills b added.placed.taken added.filled s records list (8 + length body) place t) (type_in_body kind v num short is) added.placed.fills)
 
-  abbrev made : Shape
-  made = with_shapes s kind records list (own ++ (bare ∷ [] ++ []))
+    later : Edit added.filled now records records late []
+    later = added.linked
 
-  vdrs_are : vdrs (own ++ (bare ∷ [] ++ [])) ≡ vdrs own ++ place ∷ []
-  vdrs_are = vdrs_append own (bare ∷ [])
+    as_long : length now ≡ length added.filled
+    as_long = added.as_long
 
-  shares : Shares now kind v.dims
-  shares = by kind dims
-    where
-      by : (kind : Kind) → HasDims b kind v.dims → Shares now kind v.dims
-      by R d = (file_same sound e clear.file).sizes ∙ ap (r_sizes b) h.gdr_is ∙ sym (ap (λ (x : DataSet). x.rdims) (content_is b s h)) ∙ sym d
-      by Z d = tt
+    gdr_is : holder_of b (variables_chain kind) ≡ s.gdr
+    gdr_is = holder_is b kind ∙ h.gdr_is
 
-  splices : VariableSplices b now s kind records list marks (place ∷ []) own [] (bare ∷ []) []
-  splices = record {
-    edit = e;
-    was = sym (append-nil own);
-    file_clear = clear.file;
-    attributes_clear = clear.attributes;
-    other_clear = clear.other;
-    before_remain = remain_from sound e (file_same sound e clear.file) own (kind_ours b s sound kind) (of_kind (VariableLives b now) kind s lives);
-    after_remain = tt;
-    others_live = of_kind (VariableLives b now) (other_kind kind) s lives;
-    typed = λ m i. subst (λ (x : ℕ). (is_record_type (type_at now x) ≡ true) × (fixed_size (type_at now x) ≤ size_at now x)) (sym (only_one place m i))
-        (subst (λ (t : ℕ). (is_record_type t ≡ true) × (fixed_size t ≤ size_at now place)) (sym new_type) (real_type kind (size_at now place) (length v.dims) new_size));
-    variable_chain = subst (IsChain now records (type_in (variables_chain kind)) (number now s.gdr (head_of (variables_chain kind)))) (sym vdrs_are) chain;
-    unused_chain = list_chain sound fills later as_long clear.lately;
-    own_have = (has new is new_type shares records new_size, tt);
-  }
+    chain : IsChain now records (type_in (variables_chain kind)) (number now s.gdr (head_of (variables_chain kind))) (vdrs own ++ place ∷ [])
+    chain = subst (λ (g : ℕ). IsChain now records (type_in (variables_chain kind)) (number now g (head_of (variables_chain kind))) (vdrs own ++ place ∷ [])) gdr_is
+        (subst (λ (ms : List ℕ). IsChain now records (type_in (variables_chain kind)) (number now (holder_of b (variables_chain kind)) (head_of (variables_chain kind))) (ms ++ place ∷ [])) (variable_members b s h kind) added.chain)
 
-  pub now_is : shape now ≡ made
-  now_is = shape_is now made (shape_now sound splices)
+    e : Edit b now s.records records marks (place ∷ [])
+    e = made_edit sound fills later as_long clear.lately
 
-  abbrev fresh : Variable
-  fresh = new_variable v.name v.type v.elems v.dims v.varys v.vary
+    lives : Each (VariableLives b now) (variables s)
+    lives = clear_live sound e clear.indexes
 
-  pub content_is_made : content now ≡ with_variables (content b) kind (variables_of (content b) kind ++ fresh ∷ [])
-  content_is_made =
-      let here = means new is new_type shares no_zero in
-      let old : map (variable_of b) own ≡ variables_of (content b) kind = sym (ap (λ (d : DataSet). variables_of d kind) (content_is b s h) ∙ variables_of_are b s kind) in
-      content_now sound splices ∙ (λ i. with_variables (content b) kind (old i ++ here i ∷ []))
+    new_type : type_at now place ≡ vdr_type kind
+    new_type = made_type sound fills later as_long clear.lately
 
-  -- ---- the rules
+    new_size : size_at now place ≡ need
+    new_size = made_size sound fills later as_long clear.lately
 
-  sorted : (m : ℕ) → In m (place ∷ []) → IsSorted now made m
-  sorted m (inl q) = subst (IsSorted now made) (sym q) (inl (
-    (λ u. used_type kind (sym new_type ∙ u)),
-    once (used_times made place) (used_times s place) (times place (flat_map variable_records (bare ∷ [])))
-        (spliced_times s kind records list own [] (bare ∷ []) [] (sym (append-nil own)) place (times place (flat_map variable_records (bare ∷ []))) 0 (swap (times place (flat_map variable_records (bare ∷ [])))))
-        (unowned sound fills) (ap (times place) (bare_records place) ∙ rw (eq-eqb place place refl) refl),
-  ))
-    where
-      once : (x y n : ℕ) → x + 0 ≡ y + n → y ≡ 0 → n ≡ 1 → x ≡ 1
-      once x y n p q r = omega arith
+    new : IsNewVdr now place kind v num
+    new =
+        let lies = tile_lies added.filled 8 (length added.filled) records place (filled_sound sound fills).has_shape.tiled (place_in sound fills) in
+        vdr_written kind v num short is added.placed few (made_part sound fills later as_long clear.lately 20 need clear.behind (itself need))
+        (subst (λ (n : ℕ). place + n ≤ length added.filled) (filled_size sound fills) lies.high) (omega (arith, as_long))
+      where
+        itself : (n : ℕ) → n ≤ n
+        itself n = omega arith
 
-      swap : (n : ℕ) → n + 0 ≡ 0 + n
-      swap n = omega arith
-  sorted m (inr none) = absurd none
+    abbrev bare : VariableShape
+    bare = bare_variable place
 
-  beside : (m : ℕ) → (In m (place ∷ []) → ⊥) → used_times made m ≡ used_times s m
-  beside m out =
-      let other : eqb m place ≡ false = elim (either (eqb m place)) [ inl q ↦ absurd (out (inl (eqb-true m place q))) | inr q ↦ q ] in
-      same (used_times made m) (used_times s m) (times m (flat_map variable_records (bare ∷ [])))
-      (spliced_times s kind records list own [] (bare ∷ []) [] (sym (append-nil own)) m (times m (flat_map variable_records (bare ∷ []))) 0 (swap (times m (flat_map variable_records (bare ∷ []))))) (ap (times m) (bare_records place) ∙ rw other refl)
-    where
-      same : (x y n : ℕ) → x + 0 ≡ y + n → n ≡ 0 → x ≡ y
-      same x y n p q = omega arith
+    abbrev made : Shape
+    made = with_shapes s kind records list (own ++ (bare ∷ [] ++ []))
 
-      swap : (n : ℕ) → n + 0 ≡ 0 + n
-      swap n = omega arith
+    vdrs_are : vdrs (own ++ (bare ∷ [] ++ [])) ≡ vdrs own ++ place ∷ []
+    vdrs_are = vdrs_append own (bare ∷ [])
 
-  count_now : number now (gdr_offset now) (count_of (variables_chain kind)) ≡ length (vdrs own) + 1
-  count_now =
-      ap (λ (g : ℕ). number now g (count_of (variables_chain kind))) (gdr_place sound e clear.file ∙ sym gdr_is) ∙ added.counted
-      ∙ ap (λ (n : ℕ). n + 1) (counted_members b image kind ∙ ap (λ (ms : List ℕ). length ms) (variable_members b s h kind))
+    shares : Shares now kind v.dims
+    shares = by kind dims
+      where
+        by : (kind : Kind) → HasDims b kind v.dims → Shares now kind v.dims
+        by R d = (file_same sound e clear.file).sizes ∙ ap (r_sizes b) h.gdr_is ∙ sym (ap (λ (x : DataSet). x.rdims) (content_is b s h)) ∙ sym d
+        by Z d = tt
 
-  own_rules : is_among v.name (variable_names (content b)) ≡ false → OwnRules sound splices
-  own_rules free =
-      let named = name_is new is new_type shares no_zero in
-      let nums = nums_from sound e (file_same sound e clear.file) own (kind_ours b s sound kind) (of_kind (VariableLives b now) kind s lives) in
-      let absent : is_among v.name (map (λ (m : ℕ). name_in b m vdr_name) (vdrs (variables s))) ≡ false = ap (is_among v.name) (sym (variable_names_are b s h)) ∙ free in
-      record {
-        counted = subst (λ (ms : List ℕ). Hold (vdrs_rows kind now ms)) (sym vdrs_are) (vdrs_rows-push kind now (vdrs own) place count_now new.says.1.1.1.1.1.1.1.1.1.1.0 (numbers_kept kind b now (vdrs own) nums (counted_before good kind)));
-        apart = apart_if sound splices good (λ x y i j ne. absurd (ne (only_one place x i ∙ sym (only_one place y j))))
-            (λ x y i j. subst (λ (n : List ℕ). bytes_eq n (name_in b y vdr_name) ≡ false) (sym (ap (λ (m : ℕ). name_in now m vdr_name) (only_one place x i) ∙ named)) (not_among b v.name (vdrs (variables s)) y absent (beside_in sound splices y j)));
-        own_ruled = (ruled new is new_type shares records new_size no_zero (fine_is_some v.name well_named), tt);
-        read = λ m i. ap (λ (t : ℕ). is_in t read_types) (ap (type_at now) (only_one place m i) ∙ new_type) ∙ read_type kind;
-        owned = owned_once_if b now s made marks (place ∷ []) sound good.owned_once e beside sorted;
-      }
+    splices : VariableSplices b now s kind records list marks (place ∷ []) own [] (bare ∷ []) []
+    splices = record {
+      edit = e;
+      was = sym (append-nil own);
+      file_clear = clear.file;
+      attributes_clear = clear.attributes;
+      other_clear = clear.other;
+      before_remain = remain_from sound e (file_same sound e clear.file) own (kind_ours b s sound kind) (of_kind (VariableLives b now) kind s lives);
+      after_remain = tt;
+      others_live = of_kind (VariableLives b now) (other_kind kind) s lives;
+      typed = λ m i. subst (λ (x : ℕ). (is_record_type (type_at now x) ≡ true) × (fixed_size (type_at now x) ≤ size_at now x)) (sym (the_one place m i))
+          (subst (λ (t : ℕ). (is_record_type t ≡ true) × (fixed_size t ≤ size_at now place)) (sym new_type) (real_type kind (size_at now place) (length v.dims) new_size));
+      variable_chain = subst (IsChain now records (type_in (variables_chain kind)) (number now s.gdr (head_of (variables_chain kind)))) (sym vdrs_are) chain;
+      unused_chain = list_chain sound fills later as_long clear.lately;
+      own_have = (has new is new_type shares records new_size, tt);
+    }
 
-  -- ---- what stays
+    pub now_is : shape now ≡ made
+    now_is = shape_is now made (shape_now sound splices)
 
-  abbrev may : Allowances
-  may = variable_changes b kind
+    abbrev fresh : Variable
+    fresh = new_variable v.name v.type v.elems v.dims v.varys v.vary
 
-  abbrev acts : List Act
-  acts = Took place need ∷ []
+    pub content_is_made : content now ≡ with_variables (content b) kind (variables_of (content b) kind ++ fresh ∷ [])
+    content_is_made =
+        let here = means new is new_type shares no_zero in
+        let old : map (variable_of b) own ≡ variables_of (content b) kind = sym (ap (λ (d : DataSet). variables_of d kind) (content_is b s h) ∙ variables_of_are b s kind) in
+        content_now sound splices ∙ (λ i. with_variables (content b) kind (old i ++ here i ∷ []))
 
-  records_are : (shape now).records ≡ records
-  records_are = ap (λ (x : Shape). x.records) now_is
+    -- ---- the rules
 
-  keeps : AllKeep b now may acts (owned b s)
-  keeps =
-      let cdr = keeps_away sound e records_are 8 cdr_type (Only []) (is_a-in b s.records cdr_type 8 h.cdr_stands) (is_a-type b s.records cdr_type 8 h.cdr_stands) (unmarked-away marks cdr_type 8 clear.cdr) in
-      let gdr = keeps_fields sound e records_are s.gdr gdr_type (variables_gdr_fields kind) (gdr_in b s h) (gdr_typed b s h) clear.gdr_head clear.gdr in
-      let linked = linked_keeps sound e records_are kind clear.vdr_head clear.vdr clear.others in
-      let of_variables = keep_kind sound e records_are may acts (λ k n m i. linked k m i) lives in
-      keep_all b now may acts (keep_file b now may acts sound cdr gdr)
-      (keep_attributes b now may acts 0 s.attributes (λ m i. stood sound e records_are m (all_attributes_in sound m i) (attributes_kept sound splices m i)))
-      (of_variables R) (of_variables Z) (made_keeps_unused sound fills later as_long clear.lately records_are may)
+    sorted : (m : ℕ) → In m (place ∷ []) → IsSorted now made m
+    sorted m (inl q) = subst (IsSorted now made) (sym q) (inl (
+      (λ u. used_type kind (sym new_type ∙ u)),
+      once (used_times made place) (used_times s place) (times place (flat_map variable_records (bare ∷ [])))
+          (spliced_times s kind records list own [] (bare ∷ []) [] (sym (append-nil own)) place (times place (flat_map variable_records (bare ∷ []))) 0 (swap (times place (flat_map variable_records (bare ∷ [])))))
+          (unowned sound fills) (ap (times place) (bare_records place) ∙ rw (eq-eqb place place refl) refl),
+    ))
+      where
+        once : (x y n : ℕ) → x + 0 ≡ y + n → y ≡ 0 → n ≡ 1 → x ≡ 1
+        once x y n p q r = omega arith
 
-  -- ---- what it makes
+        swap : (n : ℕ) → n + 0 ≡ 0 + n
+        swap n = omega arith
+    sorted m (inr none) = absurd none
 
-  ended : vdr_end now place ≡ need
-  ended = end_is new is new_type shares
+    beside : (m : ℕ) → (In m (place ∷ []) → ⊥) → used_times made m ≡ used_times s m
+    beside m out =
+        let other : eqb m place ≡ false = elim (either (eqb m place)) [ inl q ↦ absurd (out (inl (eqb-true m place q))) | inr q ↦ q ] in
+        same (used_times made m) (used_times s m) (times m (flat_map variable_records (bare ∷ [])))
+        (spliced_times s kind records list own [] (bare ∷ []) [] (sym (append-nil own)) m (times m (flat_map variable_records (bare ∷ []))) 0 (swap (times m (flat_map variable_records (bare ∷ []))))) (ap (times m) (bare_records place) ∙ rw other refl)
+      where
+        same : (x y n : ℕ) → x + 0 ≡ y + n → n ≡ 0 → x ≡ y
+        same x y n p q = omega arith
 
-  made_of : (kind : Kind) (x : Shape) → shapes_of (with_shapes x kind records list (shapes_of x kind ++ bare ∷ [])) kind ≡ shapes_of x kind ++ bare ∷ []
-  made_of R x = refl
-  made_of Z x = refl
+        swap : (n : ℕ) → n + 0 ≡ 0 + n
+        swap n = omega arith
 
-  makes : MakesVariable b now kind v.name v.vary v.varys acts
-  makes = record {
-    made = bare;
-    made_last = subst (λ (vs : List VariableShape). slice_get vs (length own) ≡ Some bare) (sym (ap (λ (x : Shape). shapes_of x kind) now_is ∙ made_of kind s)) (got-middle own bare []);
-    acts_are = ap (λ (n : ℕ). Took place n ∷ []) (sym ended);
-    says = (new.says.1.1.1.0, (new.says.1.1.1.1.0, (new.says.1.1.1.1.1.1.0, (new.says.1.1.1.1.1.1.1.0, (new.says.1.1.1.1.1.1.1.1.0, (new.says.1.1.1.1.1.1.1.1.1.1.1.0, tt))))));
-    named = new.filled;
-    varys_are = varys_written new is new_type shares;
-  }
+    count_now : number now (gdr_offset now) (count_of (variables_chain kind)) ≡ length (vdrs own) + 1
+    count_now =
+        ap (λ (g : ℕ). number now g (count_of (variables_chain kind))) (gdr_place sound e clear.file ∙ sym gdr_is) ∙ added.counted
+        ∙ ap (λ (n : ℕ). n + 1) (counted_members b image kind ∙ ap (λ (ms : List ℕ). length ms) (variable_members b s h kind))
 
-  pub follows : is_among v.name (variable_names (content b)) ≡ false → is_bad_shape v.type v.elems v.dims v.varys ≡ false → length b + need ≤ image_limit → Follows b (making kind v) now
-  follows free fine limited =
-      let rules = own_rules free in
-      let longest = shorter sound fills later as_long clear.lately in
-      let size = room_is b kind v dims in
-      record {
-        reply = Plain;
-        goes = step_is b kind v dims ∙ rw (well_named, free, fine) (ap (λ (d : DataSet). ByStep (Go d Plain)) (sym content_is_made));
-        good = good_image_if sound splices (sealed_kept b (good_long b s good) (rules_of_good b image)).0 good rules (end_now sound fills later as_long clear.lately) (omega arith);
-        longer = e.longer;
-        within = subst (λ (n : ℕ). length now ≤ length b + n) (sym size) longest;
-        reads = λ q. absurd (no_reading kind v q);
-        acts = acts;
-        takes_within = subst (λ (n : ℕ). 0 + need ≤ n) (sym size) (none need);
-        acts_follow = acts_took sound fills later as_long clear.lately records_are (ap (λ (x : Shape). x.unused) now_is);
-        keeps = subst (λ (a : Allowances). AllKeep b now a acts (owned b s)) (sym (may_is b kind v)) keeps;
-        does = does_from b now kind v acts makes;
-      }
-    where
-      none : (n : ℕ) → 0 + n ≤ n
-      none n = omega arith
+    own_rules : is_among v.name (variable_names (content b)) ≡ false → OwnRules sound splices
+    own_rules free =
+        let named = name_is new is new_type shares no_zero in
+        let nums = nums_from sound e (file_same sound e clear.file) own (kind_ours b s sound kind) (of_kind (VariableLives b now) kind s lives) in
+        record {
+          counted = subst (λ (ms : List ℕ). Hold (vdrs_rows kind now ms)) (sym vdrs_are) (vdrs_rows-push kind now (vdrs own) place count_now new.says.1.1.1.1.1.1.1.1.1.1.0 (numbers_kept kind b now (vdrs own) nums (counted_before good kind)));
+          apart = apart_if sound splices good (λ x y i j ne. absurd (ne (the_one place x i ∙ sym (the_one place y j))))
+              (λ x y i j. subst (λ (n : List ℕ). bytes_eq n (name_in b y vdr_name) ≡ false) (sym (ap (λ (m : ℕ). name_in now m vdr_name) (the_one place x i) ∙ named)) (absent_from b image v.name free y (beside_in sound splices y j)));
+          own_ruled = (ruled new is new_type shares records new_size no_zero (fine_is_some v.name well_named), tt);
+          read = λ m i. ap (λ (t : ℕ). is_in t read_types) (ap (type_at now) (the_one place m i) ∙ new_type) ∙ read_type kind;
+          owned = owned_once_if b now s made marks (place ∷ []) sound good.owned_once e beside sorted;
+        }
 
-  -- ---- what is known of the variables
+    -- ---- what stays
 
-  pub names_now : map (λ (x : Variable). x.name) (variables_of (content now) kind) ≡ map (λ (x : Variable). x.name) (variables_of (content b) kind) ++ v.name ∷ []
-  names_now = ap (λ (d : DataSet). map (λ (x : Variable). x.name) (variables_of d kind)) content_is_made ∙ ap (map (λ (x : Variable). x.name)) (given kind (content b)) ∙ map-append (λ (x : Variable). x.name) (variables_of (content b) kind) (fresh ∷ [])
-    where
-      given : (kind : Kind) (d : DataSet) → variables_of (with_variables d kind (variables_of d kind ++ fresh ∷ [])) kind ≡ variables_of d kind ++ fresh ∷ []
-      given R d = refl
-      given Z d = refl
+    abbrev may : Allowances
+    may = variable_changes b kind
 
-  pub places_now : vdrs (shapes_of (shape now) kind) ≡ vdrs own ++ place ∷ []
-  places_now = ap (λ (x : Shape). vdrs (shapes_of x kind)) now_is ∙ ap vdrs (made_of kind s) ∙ vdrs_are
+    abbrev acts : List Act
+    acts = Took place need ∷ []
 
-  -- those of the other kind are known as they were
-  pub other_names : map (λ (x : Variable). x.name) (variables_of (content now) (other_kind kind)) ≡ map (λ (x : Variable). x.name) (variables_of (content b) (other_kind kind))
-  other_names = ap (λ (d : DataSet). map (λ (x : Variable). x.name) (variables_of d (other_kind kind))) content_is_made ∙ ap (map (λ (x : Variable). x.name)) (given kind (content b))
-    where
-      given : (kind : Kind) (d : DataSet) → variables_of (with_variables d kind (variables_of d kind ++ fresh ∷ [])) (other_kind kind) ≡ variables_of d (other_kind kind)
-      given R d = refl
-      given Z d = refl
+    records_are : (shape now).records ≡ records
+    records_are = ap (λ (x : Shape). x.records) now_is
 
-  pub other_places : vdrs (shapes_of (shape now) (other_kind kind)) ≡ vdrs (shapes_of s (other_kind kind))
-  other_places = ap (λ (x : Shape). vdrs (shapes_of x (other_kind kind))) now_is ∙ ap vdrs (given kind s)
-    where
-      given : (kind : Kind) (x : Shape) → shapes_of (with_shapes x kind records list (shapes_of x kind ++ bare ∷ [])) (other_kind kind) ≡ shapes_of x (other_kind kind)
-      given R x = refl
-      given Z x = refl
+    keeps : AllKeep b now may acts (owned b s)
+    keeps =
+        let cdr = keeps_away sound e records_are 8 cdr_type (Only []) (is_a-in b s.records cdr_type 8 h.cdr_stands) (is_a-type b s.records cdr_type 8 h.cdr_stands) (unmarked-away marks cdr_type 8 clear.cdr) in
+        let gdr = keeps_fields sound e records_are s.gdr gdr_type (variables_gdr_fields kind) (gdr_in b s h) (gdr_typed b s h) clear.gdr_head clear.gdr in
+        let linked = linked_keeps sound e records_are kind clear.vdr_head clear.vdr clear.others in
+        let of_variables = keep_kind sound e records_are may acts (λ k n m i. linked k m i) lives in
+        keep_all b now may acts (keep_file b now may acts sound cdr gdr)
+        (keep_attributes b now may acts 0 s.attributes (λ m i. stood sound e records_are m (all_attributes_in sound m i) (attributes_kept sound splices m i)))
+        (of_variables R) (of_variables Z) (made_keeps_unused sound fills later as_long clear.lately records_are may)
+
+    -- ---- what it makes
+
+    ended : vdr_end now place ≡ need
+    ended = end_is new is new_type shares
+
+    made_of : (kind : Kind) (x : Shape) → shapes_of (with_shapes x kind records list (shapes_of x kind ++ bare ∷ [])) kind ≡ shapes_of x kind ++ bare ∷ []
+    made_of R x = refl
+    made_of Z x = refl
+
+    makes : MakesVariable b now kind v.name v.vary v.varys acts
+    makes = record {
+      made = bare;
+      made_last = subst (λ (vs : List VariableShape). slice_get vs (length own) ≡ Some bare) (sym (ap (λ (x : Shape). shapes_of x kind) now_is ∙ made_of kind s)) (got-middle own bare []);
+      acts_are = ap (λ (n : ℕ). Took place n ∷ []) (sym ended);
+      says = (new.says.1.1.1.0, (new.says.1.1.1.1.0, (new.says.1.1.1.1.1.1.0, (new.says.1.1.1.1.1.1.1.0, (new.says.1.1.1.1.1.1.1.1.0, (new.says.1.1.1.1.1.1.1.1.1.1.1.0, tt))))));
+      named = new.filled;
+      varys_are = varys_written new is new_type shares;
+    }
+
+    pub follows : is_among v.name (variable_names (content b)) ≡ false → Follows b (making kind v) now
+    follows free =
+        let rules = own_rules free in
+        let longest = shorter sound fills later as_long clear.lately in
+        let size = room_is b kind v dims in
+        record {
+          reply = Plain;
+          goes = step_is b kind v dims ∙ rw (well_named, free, fine) (ap (λ (d : DataSet). ByStep (Go d Plain)) (sym content_is_made));
+          good = good_image_if sound splices (sealed_kept b (good_long b s good) (rules_of_good b image)).0 good rules (end_now sound fills later as_long clear.lately) (omega arith);
+          longer = e.longer;
+          within = subst (λ (n : ℕ). length now ≤ length b + n) (sym size) longest;
+          reads = λ q. absurd (no_reading kind v q);
+          acts = acts;
+          takes_within = subst (λ (n : ℕ). 0 + need ≤ n) (sym size) (none need);
+          acts_follow = acts_took sound fills later as_long clear.lately records_are (ap (λ (x : Shape). x.unused) now_is);
+          keeps = subst (λ (a : Allowances). AllKeep b now a acts (owned b s)) (sym (may_is b kind v)) keeps;
+          does = does_from b now kind v acts makes;
+        }
+      where
+        none : (n : ℕ) → 0 + n ≤ n
+        none n = omega arith
+
+    -- ---- what is known of the variables
+
+    pub known : {names : List (List ℕ)} {places places' : List ℕ} → places' ≡ places ++ place ∷ [] → KnowsKind b kind (record { names = names; places = places }) → KnowsKind now kind (record { names = names ++ v.name ∷ []; places = places' })
+    known pushed k =
+        kind_with b now _ _ kind content_is_made now_is (ap (λ (xs : List (List ℕ)). xs ++ v.name ∷ []) k.names_are ∙ sym (map-append (λ (x : Variable). x.name) (variables_of (content b) kind) (fresh ∷ [])))
+        (pushed ∙ ap (λ (xs : List ℕ). xs ++ place ∷ []) k.places_are ∙ sym vdrs_are)
+
+    pub others : OthersStay b now kind
+    others = others_with b now _ _ kind content_is_made now_is
+
+-- ---- the answers
+
+module _ (limit : ℕ) (b : List ℕ) (kind : Kind) (v : NewVariable) (dims : HasDims b kind v.dims) (named : is_bad_name v.name ≡ false) (free : is_among v.name (variable_names (content b)) ≡ false) (fine : is_bad_shape v.type v.elems v.dims v.varys ≡ false) where
+  goes : step (content b) (making kind v) ≡ ByStep (Go (with_variables (content b) kind (variables_of (content b) kind ++ new_variable v.name v.type v.elems v.dims v.varys v.vary ∷ [])) Plain)
+  goes = step_is b kind v dims ∙ rw (named, free, fine) refl
+
+  pub no_room : limit < length b + vdr_bytes kind (length v.dims) → Answers limit b (making kind v) (Refused TooLarge) b
+  no_room over = too_large limit b (making kind v) _ Plain goes (subst (λ (n : ℕ). limit < length b + n) (sym (room_is b kind v dims)) over)
+
+  pub is_done : length b + vdr_bytes kind (length v.dims) ≤ limit → {now : List ℕ} → Follows b (making kind v) now → Answers limit b (making kind v) (Done Plain) now
+  is_done fits {now = now} follows = gone limit b (making kind v) _ Plain now goes (subst (λ (n : ℕ). length b + n ≤ limit) (sym (room_is b kind v dims)) fits) follows

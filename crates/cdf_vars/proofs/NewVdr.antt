@@ -1,9 +1,20 @@
--- A new VDR: what was written of it reads back.
-use Rattle.std.proofs.Common.{◌≡◌, ℕ, ◌+◌, ◌-◌, ◌*◌, ◌^◌, ◌<◌, ◌≤◌, List, [], ◌∷◌, ◌++◌, length, map, take, drop, replicate, Bool, true, false, refl, sym, ap, ◌∙◌, append_assoc, arith, lit<}
+-- A new VDR: what a shape has that is not refused, that what was written reads back, what it means, and that it keeps the rules.
+use Rattle.std.proofs.Common.{◌≡◌, ℕ, ◌*◌, ◌≤◌, List, [], ◌∷◌, length, Bool, true, false, not, ◌||◌, refl, arith, ◌+◌, ◌-◌, ◌^◌, ◌<◌, ◌++◌, map, take, drop, replicate, sym, ap, ◌∙◌, append_assoc, lit<, ◌≢◌, zero, suc, Option, None, ap₂, subst}
+use Rattle.std.proofs.lemmas.Bool.Decides.{nat_tests}
+use Rattle.std.proofs.lemmas.List.Concat.{flat_map-append}
+use Rattle.std.proofs.Math.Nat.{le-mul_of_pos_right}
+use Rattle.std.specs.List.{list_any, flat_map, All, before_first, list_all}
+use Rattle.std.specs.Prelude.{◌==◌, ◌&&◌, nat_lt, if◌then◌else◌, nat_le, is_some}
+use Rattle.cdf_format.specs.Shape.{Each, HasVariable, VariableShape, is_compressed}
+use Rattle.cdf_model.specs.declared.data_type.DataType.{DataType}
+use Rattle.cdf_model.specs.Limits.{dimension_limit, signed_limit}
+use Rattle.cdf_model.specs.Place.{record_limit, record_size, value_count}
+use Rattle.cdf_model.specs.Types.{size_of, type_of}
+use Rattle.cdf_model.specs.Values.{notation_of}
+use Rattle.cdf_model.specs.VariableSteps.{are_bad_sizes, is_bad_shape, is_characters, new_variable}
+use Rattle.cdf_values.proofs.ValueLengths.{size_some}
 use Rattle.std.proofs.lemmas.List.{drop-drop, length-append, length-map, length-replicate, take_at}
 use Rattle.std.proofs.Math.Seq.{drop-append_seam}
-use Rattle.std.specs.List.{flat_map}
-use Rattle.std.specs.Prelude.{if◌then◌else◌}
 use Rattle.byteorder.specs.Endian.{big_bytes}
 use Rattle.cdf_edits.specs.Commands.Allowances.{vdr_type}
 use Rattle.cdf_edits.specs.Commands.NewRecords.{Says, IsFilled}
@@ -12,17 +23,114 @@ use Rattle.cdf_edits.specs.Space.Placing.{IsBody, Placed, laid_out}
 use Rattle.cdf_edits.proofs.Space.LaidOut.{length-words, placed_says, says_kept, words_laid_out}
 use Rattle.cdf_edits.proofs.Space.UsedRecords.{apart}
 use Rattle.cdf_format.specs.Bytes.{Same}
-use Rattle.cdf_format.specs.Fields.{word, words}
-use Rattle.cdf_format.specs.Records.{record_type, vdr_vdr_next, vdr_name}
+use Rattle.cdf_format.specs.Fields.{word, words, counted, is_positive, name_in, number, gdr_offset, r_num_dims, r_sizes, size_at, type_at, has_bit}
+use Rattle.cdf_format.specs.Records.{record_type, vdr_vdr_next, vdr_name, vdr_data_type, vdr_flags, vdr_num_elems, vdr_z_num_dims}
 use Rattle.cdf_format.specs.RecordTypes.{uir_type, r_vdr_type, z_vdr_type}
-use Rattle.cdf_format.specs.Shape.{Each}
 use Rattle.cdf_format.proofs.BytesLemmas.{piece_kept, words_kept}
 use Rattle.cdf_model.specs.declared.kinds.Kind.{Kind}
 use Rattle.cdf_model.specs.declared.kinds.Kind.TheVariants.{R, Z}
-use Rattle.cdf_model.specs.Limits.{dimension_limit, signed_limit}
 use Rattle.cdf_vars.specs.Creating.{NewVariable, own_dims, vary_code, vdr_body, vdr_fields}
-use Rattle.cdf_vars.proofs.ShapedVariable.{IsShaped, IsSize}
-use Rattle.cdf_edits.proofs.Commands.TypeCodes.{code_small}
+use Rattle.cdf_edits.proofs.Commands.TypeCodes.{code_small, type_back}
+use Rattle.std.proofs.lemmas.Bool.{and_from, le-leb, or_parts, or_right}
+use Rattle.std.specs.Int.{w32, cast_signed}
+use Rattle.std.specs.Option.{unwrap_or}
+use Rattle.cdf_edits.specs.Commands.Variables.{VarysWritten}
+use Rattle.cdf_edits.proofs.Edits.VariableFrame.{IsRuled}
+use Rattle.cdf_fields.proofs.NamesWritten.{before_zeros}
+use Rattle.cdf_format.specs.Content.{variable_of}
+use Rattle.cdf_format.specs.Index.{no_node, nodes_of, leaves_of}
+use Rattle.cdf_format.specs.IndexOf.{HasNodes}
+use Rattle.cdf_format.specs.IndexRules.{nodes_rows}
+use Rattle.cdf_format.specs.Rules.{Hold}
+use Rattle.cdf_format.specs.Sound.{VariableFits}
+use Rattle.cdf_format.specs.Stored.{known_type}
+use Rattle.cdf_format.specs.VariableFields.{counted4, dimensions_at, dims_at, elems_at, has_pad, is_z, pad_at, pad_field, record_bytes, type_of_variable, value_bytes, vary_field, varys_at}
+use Rattle.cdf_format.specs.VariableRules.{has_dimensions, is_max_rec, is_no_link, vdr_end, variable_rows}
+use Rattle.cdf_model.specs.declared.data_type.DataType.TheVariants.{Byte}
+use Rattle.cdf_model.specs.declared.kinds.Sparse.TheVariants.{NoRule, Pad, Previous}
+use Rattle.cdf_var_records.proofs.DimsRead.{small_signed}
+
+abbrev pub IsSize : ℕ → Type 0
+IsSize size = (1 ≤ size) × (size ≤ signed_limit)
+
+-- elements, dimensions with sizes, one variance for each, and records that are not too large
+pub record IsShaped (t : DataType) (elems : ℕ) (dims : List ℕ) (varys : List Bool) : Type 0 where
+  pub some : 1 ≤ elems
+  pub single : ((elems == 1) || is_characters (notation_of t)) ≡ true
+  pub few : length dims ≤ dimension_limit
+  pub sizes : Each IsSize dims
+  pub one_each : length varys ≡ length dims
+  pub fits : record_size t elems dims varys ≤ record_limit
+  pub elems_fit : elems ≤ signed_limit
+
+not_not : (p q : Bool) → (not p && not q) ≡ false → (p || q) ≡ true
+not_not true q e = refl
+not_not false true e = refl
+not_not false false e = cc e
+
+of_not : (p : Bool) → not p ≡ false → p ≡ true
+of_not true e = refl
+of_not false e = cc e
+
+not_zero : (n : ℕ) → (n == 0) ≡ false → 1 ≤ n
+not_zero n e = grind (arith, nat_tests)
+
+not_less : (m n : ℕ) → nat_lt m n ≡ false → n ≤ m
+not_less m n e = grind (arith, nat_tests)
+
+equal : (m n : ℕ) → (m == n) ≡ true → m ≡ n
+equal m n e = grind (arith, nat_tests)
+
+each_size : (dims : List ℕ) → list_any (λ size. (size == 0) || nat_lt signed_limit size) dims ≡ false → Each IsSize dims
+each_size [] e = tt
+each_size (size ∷ dims) e =
+    let p = or_parts ((size == 0) || nat_lt signed_limit size) (list_any (λ size. (size == 0) || nat_lt signed_limit size) dims) e in
+    let q = or_parts (size == 0) (nat_lt signed_limit size) p.0 in
+    ((not_zero size q.0, not_less signed_limit size q.1), each_size dims p.1)
+
+-- a value has a byte, and a record a value
+through : (x y z : ℕ) → x ≤ y → y ≤ z → x ≤ z
+through x y z p q = omega arith
+
+count_some : (dims : List ℕ) (varys : List Bool) → Each IsSize dims → 1 ≤ value_count dims varys
+count_some [] [] sizes = omega arith
+count_some [] (v ∷ varys) sizes = omega arith
+count_some (size ∷ dims) [] sizes = omega arith
+count_some (size ∷ dims) (true ∷ varys) sizes = through 1 size (size * value_count dims varys) sizes.0.0 (le-mul_of_pos_right size (count_some dims varys sizes.1))
+count_some (size ∷ dims) (false ∷ varys) sizes = count_some dims varys sizes.1
+
+turned : (x y : ℕ) → x * y ≡ y * x
+turned x y = grind arith
+
+elems_few : (t : DataType) (elems : ℕ) (dims : List ℕ) (varys : List Bool) → Each IsSize dims → record_size t elems dims varys ≤ record_limit → elems ≤ signed_limit
+elems_few t elems dims varys sizes fits =
+    let a : elems ≤ elems * size_of t = le-mul_of_pos_right elems (size_some t) in
+    let c : size_of t * elems ≤ size_of t * elems * value_count dims varys = le-mul_of_pos_right (size_of t * elems) (count_some dims varys sizes) in
+    let e = turned (size_of t) elems in
+    ends elems (elems * size_of t) (size_of t * elems) (size_of t * elems * value_count dims varys) a e c fits
+  where
+    ends : (e x y z : ℕ) → e ≤ x → y ≡ x → y ≤ z → z ≤ 67108864 → e ≤ 2147483647
+    ends e x y z p q r s = omega arith
+
+pub shaped : (t : DataType) (elems : ℕ) (dims : List ℕ) (varys : List Bool) → is_bad_shape t elems dims varys ≡ false → IsShaped t elems dims varys
+shaped t elems dims varys e =
+    let odd = not (elems == 1) && not (is_characters (notation_of t)) in
+    let p = or_parts ((((elems == 0) || odd)) || (are_bad_sizes dims || not (length varys == length dims))) (nat_lt record_limit (record_size t elems dims varys)) e in
+    let q = or_parts ((elems == 0) || odd) (are_bad_sizes dims || not (length varys == length dims)) p.0 in
+    let r = or_parts (elems == 0) odd q.0 in
+    let s = or_parts (are_bad_sizes dims) (not (length varys == length dims)) q.1 in
+    let d = or_parts (nat_lt dimension_limit (length dims)) (list_any (λ size. (size == 0) || nat_lt signed_limit size) dims) s.0 in
+    let sizes = each_size dims d.1 in
+    let fits = not_less record_limit (record_size t elems dims varys) p.1 in
+    record {
+      some = not_zero elems r.0;
+      single = not_not (elems == 1) (is_characters (notation_of t)) r.1;
+      few = not_less dimension_limit (length dims) d.0;
+      sizes = sizes;
+      one_each = equal (length varys) (length dims) (of_not (length varys == length dims) s.1);
+      fits = fits;
+      elems_fit = elems_few t elems dims varys sizes fits;
+    }
 
 -- what the fields of a new VDR say
 pub record IsNewVdr (b : List ℕ) (place : ℕ) (kind : Kind) (v : NewVariable) (num : ℕ) : Type 0 where
@@ -39,19 +147,19 @@ pub tail_size : (kind : Kind) (dims : List ℕ) (n : ℕ) → n ≡ length dims 
 tail_size R dims n e = omega arith
 tail_size Z dims n e = omega arith
 
+signed_small : (n : ℕ) → n ≤ signed_limit → n < 256 ^ 4
+signed_small n l = omega arith
+
+few_signed : (n : ℕ) → n ≤ dimension_limit → n ≤ signed_limit
+few_signed n l = omega arith
+
 each_small : (dims : List ℕ) → Each IsSize dims → Each (λ n. n < 256 ^ 4) dims
 each_small [] sizes = tt
-each_small (n ∷ dims) sizes = (small n sizes.0.1, each_small dims sizes.1)
-  where
-    small : (n : ℕ) → n ≤ signed_limit → n < 256 ^ 4
-    small n l = omega arith
+each_small (n ∷ dims) sizes = (signed_small n sizes.0.1, each_small dims sizes.1)
 
 own_small : (kind : Kind) (dims : List ℕ) → length dims ≤ dimension_limit → Each IsSize dims → Each (λ n. n < 256 ^ 4) (own_dims kind dims)
 own_small R dims few sizes = tt
-own_small Z dims few sizes = (small (length dims) few, each_small dims sizes)
-  where
-    small : (n : ℕ) → n ≤ dimension_limit → n < 256 ^ 4
-    small n l = omega arith
+own_small Z dims few sizes = (signed_small (length dims) (few_signed (length dims) few), each_small dims sizes)
 
 codes_small : (varys : List Bool) → Each (λ n. n < 256 ^ 4) (map vary_code varys)
 codes_small [] = tt
@@ -62,10 +170,6 @@ flag_small : (vary : Bool) → (if vary then 1 else 0) < 256 ^ 4
 flag_small true = lit< tt
 flag_small false = lit< tt
 
-words_parts : (xs ys : List ℕ) → flat_map (big_bytes 4) (xs ++ ys) ≡ flat_map (big_bytes 4) xs ++ flat_map (big_bytes 4) ys
-words_parts [] ys = refl
-words_parts (x ∷ xs) ys = ap (λ (r : List ℕ). big_bytes 4 x ++ r) (words_parts xs ys) ∙ sym (append_assoc (big_bytes 4 x) (flat_map (big_bytes 4) xs) (flat_map (big_bytes 4) ys))
-
 -- it is put together of these parts
 pub body_parts : (kind : Kind) (v : NewVariable) (num : ℕ)
     → ((laid_out ((record_type, vdr_type kind) ∷ (vdr_vdr_next, 0) ∷ vdr_fields v num) ++ (v.name ++ replicate (256 - length v.name) 0)) ++ flat_map (big_bytes 4) (own_dims kind v.dims)) ++ flat_map (big_bytes 4) (map vary_code v.varys) ≡ vdr_body kind v num
@@ -75,7 +179,7 @@ body_parts kind v num =
     let padded = v.name ++ replicate (256 - length v.name) 0 in
     let ds = flat_map (big_bytes 4) (own_dims kind v.dims) in
     let vs = flat_map (big_bytes 4) (map vary_code v.varys) in
-    append_assoc (front ++ padded) ds vs ∙ append_assoc front padded (ds ++ vs) ∙ ap (λ (r : List ℕ). front ++ (padded ++ r)) (sym (words_parts (own_dims kind v.dims) (map vary_code v.varys)))
+    append_assoc (front ++ padded) ds vs ∙ append_assoc front padded (ds ++ vs) ∙ ap (λ (r : List ℕ). front ++ (padded ++ r)) (sym (flat_map-append (big_bytes 4) (own_dims kind v.dims) (map vary_code v.varys)))
 
 type_small : (kind : Kind) → vdr_type kind < 256 ^ 4
 type_small R = lit< tt
@@ -121,13 +225,13 @@ module _ (kind : Kind) (v : NewVariable) (num : ℕ) (short : length v.name ≤ 
       let behind = flat_map (big_bytes 4) (ds ++ vs) in
       let size = tail_size kind v.dims (length v.varys) is.one_each in
       let w = placed_says ((record_type, vdr_type kind) ∷ (vdr_vdr_next, 0) ∷ vdr_fields v num) (padded ++ behind) placed refl refl
-      (type_small kind, (lit< tt, (code_small v.type, (lit< tt, (lit< tt, (lit< tt, (flag_small v.vary, (lit< tt, (lit< tt, (lit< tt, (lit< tt, (elems_small v.elems is.elems_fit, (small_num, (lit< tt, (lit< tt, tt))))))))))))))) in
+      (type_small kind, (lit< tt, (code_small v.type, (lit< tt, (lit< tt, (lit< tt, (flag_small v.vary, (lit< tt, (lit< tt, (lit< tt, (lit< tt, (signed_small v.elems is.elems_fit, (small_num, (lit< tt, (lit< tt, tt))))))))))))))) in
       let more = w.1.0 in
       let at_name : drop (place + 84) filled ≡ padded ++ (behind ++ more) = w.1.1 ∙ append_assoc padded behind more in
       let name = ap (take 256) at_name ∙ take_at padded (behind ++ more) 256 length-padded in
       let at_tail : drop (place + 340) filled ≡ behind ++ more =
       ap (λ (x : ℕ). drop x filled) (past_name place) ∙ sym (drop-drop 256 (place + 84) filled) ∙ ap (drop 256) at_name ∙ ap (λ (k : ℕ). drop k (padded ++ (behind ++ more))) (sym length-padded) ∙ drop-append_seam padded (behind ++ more) in
-      let first = words_laid_out filled (place + 340) ds (flat_map (big_bytes 4) vs ++ more) (at_tail ∙ ap (λ (l : List ℕ). l ++ more) (words_parts ds vs) ∙ append_assoc (flat_map (big_bytes 4) ds) (flat_map (big_bytes 4) vs) more) (own_small kind v.dims is.few is.sizes) in
+      let first = words_laid_out filled (place + 340) ds (flat_map (big_bytes 4) vs ++ more) (at_tail ∙ ap (λ (l : List ℕ). l ++ more) (flat_map-append (big_bytes 4) ds vs) ∙ append_assoc (flat_map (big_bytes 4) ds) (flat_map (big_bytes 4) vs) more) (own_small kind v.dims is.few is.sizes) in
       let second = words_laid_out filled (place + 340 + 4 * length ds) vs more first.1 (codes_small v.varys) in
       let at_varys = behind_dims place (length ds) in
       let varys : words filled (place + (340 + 4 * length ds)) (length v.varys) ≡ vs = ap (λ (x : ℕ). words filled x (length v.varys)) at_varys ∙ ap (words filled (place + 340 + 4 * length ds)) (sym (length-map v.varys vary_code)) ∙ second.0 in
@@ -138,11 +242,209 @@ module _ (kind : Kind) (v : NewVariable) (num : ℕ) (short : length v.name ≤ 
         varys_are = words_kept filled now (place + 20) (place + vdr_bytes kind (length v.dims)) same (place + (340 + 4 * length ds)) (length v.varys) (omega arith) (omega arith) ∙ varys;
       }
     where
-      elems_small : (n : ℕ) → n ≤ signed_limit → n < 256 ^ 4
-      elems_small n l = omega arith
-
       past_name : (p : ℕ) → p + 340 ≡ p + 84 + 256
       past_name p = omega arith
 
       behind_dims : (p k : ℕ) → p + (340 + 4 * k) ≡ p + 340 + 4 * k
       behind_dims p k = omega arith
+
+-- a variable without records
+abbrev pub bare_variable : ℕ → VariableShape
+bare_variable place = record { vdr = place; index = no_node; cpr = [] }
+
+-- r variables have the dimensions of the GDR
+abbrev pub Shares : List ℕ → Kind → List ℕ → Type 0
+Shares b R dims = r_sizes b (gdr_offset b) ≡ dims
+Shares b Z dims = Unit {0}
+
+-- ---- small numbers
+
+counted_sizes : (dims : List ℕ) → Each IsSize dims → map counted4 dims ≡ dims
+counted_sizes [] sizes = refl
+counted_sizes (n ∷ dims) sizes = ap₂ (λ (x : ℕ) (xs : List ℕ). x ∷ xs) (small_signed n sizes.0.1) (counted_sizes dims sizes.1)
+
+positive_sizes : (dims : List ℕ) → Each IsSize dims → list_all is_positive dims ≡ true
+positive_sizes [] sizes = refl
+positive_sizes (n ∷ dims) sizes = and_from _ _ (and_from _ _ (le-leb 1 n sizes.0.0) (le-leb n signed_limit sizes.0.1)) (positive_sizes dims sizes.1)
+
+varys_back : (varys : List Bool) → map (λ n. not (n == 0)) (map vary_code varys) ≡ varys
+varys_back [] = refl
+varys_back (true ∷ varys) = ap (λ (r : List Bool). true ∷ r) (varys_back varys)
+varys_back (false ∷ varys) = ap (λ (r : List Bool). false ∷ r) (varys_back varys)
+
+length-words_at : (b : List ℕ) (at n : ℕ) → length (words b at n) ≡ n
+length-words_at b at zero = refl
+length-words_at b at (suc n) = ap suc (length-words_at b (at + 4) n)
+
+flag_says : (vary : Bool) → has_bit (if vary then 1 else 0) 0 ≡ vary
+flag_says true = refl
+flag_says false = refl
+
+no_flag : (vary : Bool) → (has_bit (if vary then 1 else 0) 1 ≡ false) × (has_bit (if vary then 1 else 0) 2 ≡ false)
+no_flag true = (refl, refl)
+no_flag false = (refl, refl)
+
+-- ---- dimensions, by the kind
+
+record HasOwnDims (b : List ℕ) (place : ℕ) (kind : Kind) (v : NewVariable) : Type 0 where
+  count : dimensions_at b place ≡ length v.dims
+  dims : dims_at b place ≡ v.dims
+  varys : varys_at b place ≡ v.varys
+  vary_place : (vary_field b place).place ≡ 340 + 4 * length (own_dims kind v.dims)
+  ends : (pad_field b place).place ≡ vdr_bytes kind (length v.dims)
+  rule : vdr_bytes kind (length v.dims) ≡ size_at b place → (not (is_z b place) || has_dimensions b place) ≡ true
+
+dims_by : (b : List ℕ) (place : ℕ) (kind : Kind) (v : NewVariable) (num : ℕ) → IsNewVdr b place kind v num → IsShaped v.type v.elems v.dims v.varys → type_at b place ≡ vdr_type kind → Shares b kind v.dims → HasOwnDims b place kind v
+dims_by b place R v num new is typed shares =
+    let z : is_z b place ≡ false = ap (λ (t : ℕ). t == z_vdr_type) typed in
+    let count : r_num_dims b (gdr_offset b) ≡ length v.dims = sym (length-words_at b (gdr_offset b + 84) (r_num_dims b (gdr_offset b))) ∙ ap length shares in
+    let each : map (λ n. not (n == 0)) (words b (place + 340) (r_num_dims b (gdr_offset b))) ≡ v.varys =
+    ap (λ (n : ℕ). map (λ m. not (m == 0)) (words b (place + 340) n)) (count ∙ sym is.one_each) ∙ ap (map (λ n. not (n == 0))) new.varys_are ∙ varys_back v.varys in
+    record {
+      count = rw z count;
+      dims = rw z shares;
+      varys = rw z each;
+      vary_place = rw z refl;
+      ends = rw z (ap (λ (n : ℕ). 340 + 4 * n) count);
+      rule = λ e. rw z refl;
+    }
+dims_by b place Z v num new is typed shares =
+    let z : is_z b place ≡ true = ap (λ (t : ℕ). t == z_vdr_type) typed in
+    let d = length v.dims in
+    let said : number b place vdr_z_num_dims ≡ d = cc new.dims_are in
+    let sizes : words b (place + 340 + 4) d ≡ v.dims = cc new.dims_are in
+    let count : counted (cast_signed w32 (number b place vdr_z_num_dims)) ≡ d = ap (λ (n : ℕ). counted (cast_signed w32 n)) said ∙ small_signed d (few_signed d is.few) in
+    let dims : map counted4 (words b (place + 344) (counted (cast_signed w32 (number b place vdr_z_num_dims)))) ≡ v.dims =
+    ap (λ (n : ℕ). map counted4 (words b (place + 344) n)) count ∙ ap (λ (p : ℕ). map counted4 (words b p d)) (first place) ∙ ap (map counted4) sizes ∙ counted_sizes v.dims is.sizes in
+    let each : map (λ n. not (n == 0)) (words b (place + (344 + 4 * counted (cast_signed w32 (number b place vdr_z_num_dims)) + 4 * 0)) (counted (cast_signed w32 (number b place vdr_z_num_dims)))) ≡ v.varys =
+    ap (λ (n : ℕ). map (λ m. not (m == 0)) (words b (place + (344 + 4 * n + 4 * 0)) n)) count ∙ ap (λ (p : ℕ). map (λ m. not (m == 0)) (words b (place + p) d)) (second d) ∙ ap (λ (n : ℕ). map (λ m. not (m == 0)) (words b (place + (340 + 4 * suc d)) n)) (sym is.one_each) ∙ ap (map (λ n. not (n == 0))) new.varys_are ∙ varys_back v.varys in
+    record {
+      count = rw z count;
+      dims = rw z dims;
+      varys = rw z each;
+      vary_place = rw z (ap (λ (n : ℕ). 344 + 4 * n + 4 * 0) count ∙ second d);
+      ends = rw z (ap (λ (n : ℕ). 344 + 8 * n) count);
+      rule = λ e.
+          let room : nat_le (344 + 4 * number b place vdr_z_num_dims) (size_at b place) ≡ true = le-leb _ _ (subst (λ (x : ℕ). 344 + 4 * number b place vdr_z_num_dims ≤ x) e (subst (λ (n : ℕ). 344 + 4 * n ≤ 344 + 8 * d) (sym said) (half d))) in
+          let fine : nat_le (number b place vdr_z_num_dims) dimension_limit ≡ true = le-leb _ _ (subst (λ (n : ℕ). n ≤ dimension_limit) (sym said) is.few) in
+          let sized : dims_at b place ≡ v.dims = rw z dims in
+          or_right (not (is_z b place)) (has_dimensions b place) (and_from _ _ fine (and_from _ _ room (subst (λ (ns : List ℕ). list_all is_positive ns ≡ true) (sym sized) (positive_sizes v.dims is.sizes))));
+    }
+  where
+    first : (p : ℕ) → p + 344 ≡ p + 340 + 4
+    first p = omega arith
+
+    second : (n : ℕ) → 344 + 4 * n + 4 * 0 ≡ 340 + 4 * suc n
+    second n = omega arith
+
+    half : (n : ℕ) → 344 + 4 * n ≤ 344 + 8 * n
+    half n = omega arith
+
+-- ---- a new VDR that stands in an image
+
+module _ {b : List ℕ} {place : ℕ} {kind : Kind} {v : NewVariable} {num : ℕ} (new : IsNewVdr b place kind v num) (is : IsShaped v.type v.elems v.dims v.varys) (typed : type_at b place ≡ vdr_type kind) (shares : Shares b kind v.dims) where
+  own : HasOwnDims b place kind v
+  own = dims_by b place kind v num new is typed shares
+
+  type_is : type_of_variable b place ≡ v.type
+  type_is = ap (λ (n : ℕ). unwrap_or (type_of (cast_signed w32 n)) Byte) new.says.0 ∙ ap (λ (o : Option DataType). unwrap_or o Byte) (type_back v.type)
+
+  elems_are : elems_at b place ≡ v.elems
+  elems_are = ap (λ (n : ℕ). counted (cast_signed w32 n)) new.says.1.1.1.1.1.1.1.1.1.0 ∙ small_signed v.elems is.elems_fit
+
+  flags_are : number b place vdr_flags ≡ (if v.vary then 1 else 0)
+  flags_are = new.says.1.1.1.1.0
+
+  unpadded : has_pad b place ≡ false
+  unpadded = ap (λ (n : ℕ). has_bit n 1) flags_are ∙ (no_flag v.vary).0
+
+  unpacked : is_compressed b place ≡ false
+  unpacked = ap (λ (n : ℕ). has_bit n 2) flags_are ∙ (no_flag v.vary).1
+
+  pub end_is : vdr_end b place ≡ vdr_bytes kind (length v.dims)
+  end_is = ap (λ (p : Bool). (pad_field b place).place + (if p then value_bytes b place else 0)) unpadded ∙ last (pad_field b place).place ∙ own.ends
+    where
+      last : (n : ℕ) → n + 0 ≡ n
+      last n = omega arith
+
+  -- DimVarys
+  pub varys_written : VarysWritten b place v.varys
+  varys_written = ap (λ (p : ℕ). words b (place + p) (length v.varys)) own.vary_place ∙ new.varys_are
+
+  pub name_is : (All (λ (byte : ℕ). byte ≢ 0) v.name) → name_in b place vdr_name ≡ v.name
+  name_is no_zero = ap (before_first (λ (x : ℕ). x == 0)) new.filled ∙ before_zeros v.name (256 - length v.name) no_zero
+
+  pub means : All (λ (byte : ℕ). byte ≢ 0) v.name → variable_of b (bare_variable place) ≡ new_variable v.name v.type v.elems v.dims v.varys v.vary
+  unfolding leaves_of
+  means no_zero =
+      let name = name_is no_zero in
+      let type = type_is in
+      let elems = elems_are in
+      let dims = own.dims in
+      let varys = own.varys in
+      let vary : has_bit (number b place vdr_flags) 0 ≡ v.vary = ap (λ (n : ℕ). has_bit n 0) flags_are ∙ flag_says v.vary in
+      let packed = unpacked in
+      let max = new.says.1.0 in
+      let rule = new.says.1.1.1.1.1.0 in
+      let blocking = new.says.1.1.1.1.1.1.1.1.1.1.1.1.0 in
+      let pad : pad_at b place ≡ None = rw unpadded refl in
+      λ i. record {
+        name = name i;
+        type = type i;
+        elems = elems i;
+        dims = dims i;
+        varys = varys i;
+        vary = vary i;
+        sparse = if rule i == 0 then NoRule else (if rule i == 1 then Pad else Previous);
+        rle = packed i;
+        blocking = cast_signed w32 (blocking i);
+        max_rec = cast_signed w32 (max i);
+        pad = pad i;
+        recs = [];
+      }
+
+  module _ (records : List ℕ) (sized : size_at b place ≡ vdr_bytes kind (length v.dims)) where
+    pub has : HasVariable b records (bare_variable place)
+    unfolding HasNodes nodes_of
+    has = record { indexed = record { link_is = new.says.1.1.0; has_nodes = tt; once = tt }; packed_by = rw unpacked refl }
+
+    ends : vdr_end b place ≤ size_at b place
+    ends = at_most (vdr_end b place) (size_at b place) (end_is ∙ sym sized)
+      where
+        at_most : (m n : ℕ) → m ≡ n → m ≤ n
+        at_most m n e = omega arith
+
+    pub fits : VariableFits b records (bare_variable place)
+    unfolding nodes_of leaves_of
+    fits = (ends, tt, tt, tt)
+
+    bytes_are : record_bytes b place ≡ record_size v.type v.elems v.dims v.varys
+    bytes_are = let t = type_is in let n = elems_are in let d = own.dims in let w = own.varys in λ i. record_size (t i) (n i) (d i) (w i)
+
+    pub ruled : All (λ (byte : ℕ). byte ≢ 0) v.name → (length v.name == 0) ≡ false → IsRuled b records (bare_variable place)
+    unfolding nodes_rows leaves_of
+    ruled no_zero some = (rows, tt)
+      where
+        elems_number : number b place vdr_num_elems ≡ v.elems
+        elems_number = new.says.1.1.1.1.1.1.1.1.1.0
+
+        known : is_some (known_type b place vdr_data_type) ≡ true
+        known = ap (λ (n : ℕ). is_some (type_of (cast_signed w32 n))) new.says.0 ∙ ap (λ (o : Option DataType). is_some o) (type_back v.type)
+
+        positive : is_positive (number b place vdr_num_elems) ≡ true
+        positive = subst (λ (n : ℕ). is_positive n ≡ true) (sym elems_number) (and_from _ _ (le-leb 1 v.elems is.some) (le-leb v.elems signed_limit is.elems_fit))
+
+        single : ((number b place vdr_num_elems == 1) || is_characters (notation_of (type_of_variable b place))) ≡ true
+        single = let n = elems_number in let t = type_is in subst (λ (p : Bool). p ≡ true) (λ i. (sym n i == 1) || is_characters (notation_of (sym t i))) is.single
+
+        small : nat_le (record_bytes b place) record_limit ≡ true
+        small = le-leb _ _ (subst (λ (n : ℕ). n ≤ record_limit) (sym bytes_are) is.fits)
+
+        rows : Hold (variable_rows b records [] place)
+        rows =
+            let named = ap (λ (n : List ℕ). not (length n == 0)) (name_is no_zero) ∙ ap not some in
+            let max = ap is_max_rec new.says.1.0 in
+            let rule = ap (λ (n : ℕ). nat_le n 2) new.says.1.1.1.1.1.0 in
+            let link = ap is_no_link new.says.1.1.1.1.1.1.1.1.1.1.1.0 in
+            let none = ap (λ (n : ℕ). n == 0) new.says.1.1.1.1.1.0 in
+            (named, (refl, (known, (and_from _ _ positive single, (own.rule (sym sized), (le-leb _ _ ends, (small, (max, (rule, (rw unpacked link, (rw unpacked refl, rw unpacked (none, tt))))))))))))

@@ -1,5 +1,5 @@
 -- What `set-pad` asks for: the variable of a name, where its pad value belongs, and what the word says.
-use Rattle.std.proofs.Common.{◌≡◌, ℕ, ◌<◌, ◌≤◌, List, ◌∷◌, ◌++◌, length, Bool, Option, Some, None, Result, Err, get_or, sym, ap, ap₂, subst, ◌∙◌, arith}
+use Rattle.std.proofs.Common.{◌≡◌, ℕ, ◌<◌, ◌≤◌, List, ◌∷◌, ◌++◌, length, Bool, Option, Some, None, Result, Err, get_or, refl, sym, ap, ap₂, subst, ◌∙◌, arith}
 use Rattle.cdf_model.specs.declared.answer.Outcome.TheVariants.{Refused}
 use Rattle.cdf_model.specs.declared.answer.Reason.{Reason}
 use Rattle.cdf_model.specs.declared.answer.Reason.TheVariants as reasons
@@ -19,13 +19,12 @@ use Rattle.cdf_vars.specs.Known.{Known, Knows, known_of}
 use Rattle.cdf_var_records.specs.Descriptors.{HasElements, IsPlace, IsVdr}
 use Rattle.cdf_vars.specs.Padding.{IsValue, MayPad}
 use Rattle.cdf_var_records.proofs.PadSites.{has_so_many, vdr_lies}
-use Rattle.cdf_vars.proofs.PadSteps.{answers_missing, answers_no_value}
-use Rattle.cdf_vars.proofs.VariableFound.{none_found}
-use Rattle.cdf_vars.proofs.VariableParts.{Parts, the_parts, within_places}
+use Rattle.cdf_edits.proofs.Commands.Answered.{refused}
+use Rattle.cdf_vars.proofs.VariableFound.{Parts, none_found, the_parts, within_places}
 
 module _ {b : List ℕ} (name : List ℕ) (words : List (List ℕ)) {known : Known} {result : Option VarId} (knows : Knows b known) (asked : result ≡ found_among known name) where
   pub missing : result ≡ None → (limit : ℕ) → Answers limit b (commands.SetPad name words) (Refused reasons.NoSuchVar) b
-  missing none limit = answers_missing limit b name words (none_found b known name knows (sym asked ∙ none))
+  missing none limit = refused limit b (commands.SetPad name words) reasons.NoSuchVar (rw (none_found b known name knows (sym asked ∙ none)) refl)
 
   module _ {id : VarId} (good : Good b) (some : result ≡ Some id) where
     found : found_among known name ≡ Some id
@@ -57,4 +56,4 @@ module _ {b : List ℕ} (name : List ℕ) (words : List (List ℕ)) {known : Kno
         pub no_value : (error : ValueError) (why : Reason) → Explains (values_in p.t p.elems 1 words) error → ((meaning : Result (List ℕ) Reason) → Explains meaning error → meaning ≡ Err why) → (limit : ℕ) → Answers limit b (commands.SetPad name words) (Refused why) b
         no_value error why says reason limit =
             let same = ap (λ (v : ℕ). values_in (type_of_variable b v) (elems_at b v) 1 words) own_is ∙ ap₂ (λ (t : DataType) (n : ℕ). values_in t n 1 words) (sym there.t_is) (sym there.elems_are) in
-            answers_no_value limit b name words _ why parts.named (same ∙ reason (values_in p.t p.elems 1 words) says)
+            refused limit b (commands.SetPad name words) why (rw (parts.named, same ∙ reason (values_in p.t p.elems 1 words) says) refl)

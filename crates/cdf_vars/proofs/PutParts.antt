@@ -14,7 +14,7 @@ use Rattle.cdf_model.specs.Types.{size_of}
 use Rattle.cdf_puts.specs.Putting.{most_in_block}
 use Rattle.cdf_var_records.specs.declared.form.Form.{Form}
 use Rattle.cdf_var_records.specs.Records.{IsForm, variable_at}
-use Rattle.cdf_var_records.proofs.ValueSizes.{whole_elements}
+use Rattle.cdf_values.proofs.ValueLengths.{whole_elements}
 use Rattle.cdf_var_records.proofs.RecordReading.{record_size_is}
 use Rattle.cdf_var_records.proofs.RecordsRead.{pad_long}
 

@@ -32,7 +32,7 @@ use Rattle.cdf_var_records.specs.Descriptors.{HasElements}
 use Rattle.cdf_vars.specs.Puts.{HasTarget, IsTarget, MayPut, target_found}
 use Rattle.cdf_var_records.specs.Records.{IsForm, variable_at}
 use Rattle.cdf_var_records.proofs.PadSites.{has_so_many}
-use Rattle.cdf_vars.proofs.PadValues.{values_long}
+use Rattle.cdf_values.proofs.ValueLengths.{values_long}
 use Rattle.cdf_vars.proofs.PutSteps as steps
 use Rattle.cdf_vars.proofs.RecordPlaces.{place_below, value_inside}
 use Rattle.cdf_var_records.proofs.RecordReading.{record_size_is, value_size_is}

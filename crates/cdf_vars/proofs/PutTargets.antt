@@ -10,7 +10,7 @@ use Rattle.cdf_var_records.specs.Descriptors.{IsVdr}
 use Rattle.cdf_vars.specs.Puts.{HasTarget}
 use Rattle.cdf_var_records.specs.Records.{IsForm, variable_at}
 use Rattle.cdf_var_records.proofs.RecordForms.{variable_is}
-use Rattle.cdf_vars.proofs.VariableParts.{Parts, the_parts}
+use Rattle.cdf_vars.proofs.VariableFound.{Parts, the_parts}
 
 module _ {b : List ℕ} (name : List ℕ) {known : Known} {result : Option VarId} (knows : Knows b known) (asked : result ≡ found_among known name) {id : VarId} (good : Good b) (some : result ≡ Some id) where
   found : found_among known name ≡ Some id

@@ -53,7 +53,7 @@ use Rattle.cdf_vars.specs.Known.{Known, Knows}
 use Rattle.cdf_var_records.specs.Descriptors.{IsVdr}
 use Rattle.cdf_vars.specs.Puts.{CanPut, HasRoom, IsNewRecord, MaxRecRaises, PutsAs, PutsSo, target_found}
 use Rattle.cdf_var_records.specs.Records.{variable_at}
-use Rattle.cdf_vars.proofs.KnownChanged.{same_name_set}
+use Rattle.cdf_vars.proofs.VariableChanged.{same_name_set}
 use Rattle.cdf_vars.proofs.PutParts.{pad_is_long, whole_record}
 use Rattle.cdf_var_records.proofs.RecordForms.{index_is}
 

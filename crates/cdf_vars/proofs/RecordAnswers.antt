@@ -32,7 +32,7 @@ use Rattle.cdf_var_records.proofs.RecordReading.{record_size_is, value_size_is}
 use Rattle.cdf_var_records.proofs.RecordsRead.{read_long}
 use Rattle.cdf_vars.proofs.RecordSteps.{rec_goes, rec_missing, rec_over, val_goes, val_missing, val_outside, val_over}
 use Rattle.cdf_vars.proofs.VariableFound.{none_found}
-use Rattle.cdf_vars.proofs.VariableParts.{Parts, the_parts, within_places}
+use Rattle.cdf_vars.proofs.VariableFound.{Parts, the_parts, within_places}
 
 -- ---- the variable of a name
 

@@ -38,7 +38,7 @@ use Rattle.cdf_var_records.proofs.RecordForms.{index_is}
 use Rattle.cdf_vars.specs.Known.{Known, Knows, known_of}
 use Rattle.cdf_vars.proofs.RemovalRecords.{has_index, vdr_among}
 use Rattle.cdf_vars.proofs.VariableFound.{none_found}
-use Rattle.cdf_vars.proofs.VariableParts.{Parts, the_parts, vdr_there, within_places}
+use Rattle.cdf_vars.proofs.VariableFound.{Parts, the_parts, vdr_there, within_places}
 
 missing_step : (d : DataSet) (name : List ℕ) → variable_named d name ≡ None → reindex_step d name ≡ Refuse reasons.NoSuchVar
 missing_step d name e = rw e refl

@@ -1,5 +1,5 @@
--- The variable of a name, by what is kept of the variables, and in the data set.
-use Rattle.std.proofs.Common.{◌≡◌, ℕ, zero, suc, ◌<◌, List, [], ◌∷◌, length, map, true, Option, Some, None, is_some, get_or, bytes_eq, refl, sym, ap, ap₂, subst, ◌∙◌, arith}
+-- The variable of a name, by what is kept of the variables, in the data set, and among those of its kind.
+use Rattle.std.proofs.Common.{◌≡◌, ℕ, zero, suc, ◌<◌, List, [], ◌∷◌, length, map, true, Option, Some, None, is_some, get_or, bytes_eq, refl, sym, ap, ap₂, subst, ◌∙◌, arith, ◌+◌, ◌≤◌}
 use Rattle.std.proofs.lemmas.List.{length-map}
 use Rattle.std.proofs.lemmas.List.Quantifiers.{position-Some}
 use Rattle.std.proofs.lemmas.Option.{same_Some, slice_get_within}
@@ -20,6 +20,10 @@ use Rattle.cdf_vars.specs.declared.vars.VarId.{VarId}
 use Rattle.cdf_vars.specs.Finding.{found_among, found_of, id_of}
 use Rattle.cdf_vars.specs.Known.{Known, Knows, KnowsKind, known_of}
 use Rattle.cdf_vars.proofs.VariableNames.{variables_are}
+use Rattle.cdf_edits.proofs.Commands.ListParts.{cut, got-map, got-middle}
+use Rattle.cdf_edits.proofs.Edits.VdrEdited.{StandsAmong, in_middle}
+use Rattle.cdf_format.specs.Tiles.{In}
+use Rattle.cdf_vars.proofs.VariableChains.{vdr_inside}
 
 -- ---- which variable of the data set it is
 
@@ -94,29 +98,10 @@ item_found d name f e = in_either (found_in d name R) (found_in d name Z) refl r
     in_either None q is other e = of_kind Z (other ∙ e)
     in_either (Some g) q is other e = of_kind R (is ∙ e)
 
--- the variable of the image
-record ShapeOf (b : List ℕ) (vs : List VariableShape) (n : ℕ) (v : Variable) : Type 0 where
-  own : VariableShape
-  stands : slice_get vs n ≡ Some own
-  is : v ≡ variable_of b own
-
-shape_of : (b : List ℕ) (vs : List VariableShape) (n : ℕ) (v : Variable) → slice_get (map (variable_of b) vs) n ≡ Some v → ShapeOf b vs n v
-shape_of b [] n v e = absurd cc
-shape_of b (own ∷ vs) zero v e = record { own = own; stands = refl; is = sym (same_Some (variable_of b own) v e) }
-shape_of b (own ∷ vs) (suc n) v e = let r = shape_of b vs n v e in record { own = r.own; stands = r.stands; is = r.is }
-
 vdr_at : (vs : List VariableShape) (n : ℕ) (own : VariableShape) → slice_get vs n ≡ Some own → get_or (vdrs vs) n 0 ≡ own.vdr
 vdr_at [] n own e = absurd cc
 vdr_at (v ∷ vs) zero own e = ap (λ (x : VariableShape). x.vdr) (same_Some v own e)
 vdr_at (v ∷ vs) (suc n) own e = vdr_at vs n own e
-
--- A variable that is found by its name: what it is in the data set, and where its VDR stands.
-pub record IsFound (b : List ℕ) (known : Known) (name : List ℕ) (id : VarId) : Type 0 where
-  pub own : VariableShape
-  pub stands : slice_get (shapes_of (shape b) id.kind) id.num ≡ Some own
-  pub named : variable_named (content b) name ≡ Some (record { kind = id.kind; number = id.num; variable = variable_of b own })
-  pub within : id.num < length (known_of known id.kind).places
-  pub place_is : get_or (known_of known id.kind).places id.num 0 ≡ own.vdr
 
 pub knows_kind : (b : List ℕ) (known : Known) → Knows b known → (kind : Kind) → KnowsKind b kind (known_of known kind)
 knows_kind b known knows R = knows.r_known
@@ -129,25 +114,6 @@ id_is b name id e = from (variable_named (content b) name) refl e
     from None is e = absurd cc
     from (Some f) is e = (f, is, same_Some (id_of f) id e)
 
-pub found_stands : (b : List ℕ) (known : Known) (name : List ℕ) (id : VarId) → Good b → Knows b known → found_among known name ≡ Some id → IsFound b known name id
-found_stands b known name id good knows e =
-    let h = (good_is_sound b good).has_shape in
-    let r = id_is b name id (found_is b known name knows ∙ e) in
-    let at = item_found (content b) name r.0 r.1 in
-    let there : slice_get (map (variable_of b) (shapes_of (shape b) r.0.kind)) r.0.number ≡ Some r.0.variable = subst (λ (vs : List Variable). slice_get vs r.0.number ≡ Some r.0.variable) (variables_are b (shape b) h r.0.kind) at in
-    let own = shape_of b (shapes_of (shape b) r.0.kind) r.0.number r.0.variable there in
-    let places = (knows_kind b known knows r.0.kind).places_are in
-    let lt = slice_get_within (shapes_of (shape b) r.0.kind) r.0.number own.own own.stands in
-    let long : length (known_of known r.0.kind).places ≡ length (shapes_of (shape b) r.0.kind) = ap (λ (xs : List ℕ). length xs) places ∙ length-map (shapes_of (shape b) r.0.kind) (λ (v : VariableShape). v.vdr) in
-    let mine : IsFound b known name (id_of r.0) = record {
-      own = own.own;
-      stands = own.stands;
-      named = r.1 ∙ ap (λ (v : Variable). Some (of_pair r.0.kind (r.0.number, v))) own.is;
-      within = omega arith;
-      place_is = ap (λ (xs : List ℕ). get_or xs r.0.number 0) places ∙ vdr_at (shapes_of (shape b) r.0.kind) r.0.number own.own own.stands;
-    } in
-    subst (IsFound b known name) r.2 mine
-
 -- no variable has the name
 pub none_found : (b : List ℕ) (known : Known) (name : List ℕ) → Knows b known → found_among known name ≡ None → variable_named (content b) name ≡ None
 none_found b known name knows e = nothing (variable_named (content b) name) (found_is b known name knows ∙ e)
@@ -155,3 +121,52 @@ none_found b known name knows e = nothing (variable_named (content b) name) (fou
     nothing : (o : Option Found) → option_map id_of o ≡ None → o ≡ None
     nothing None e = refl
     nothing (Some f) e = absurd cc
+
+-- the variables in front of it, it, and those behind it
+pub record Parts (b : List ℕ) (known : Known) (name : List ℕ) (id : VarId) : Type 0 where
+  pub before : List VariableShape
+  pub own : VariableShape
+  pub after : List VariableShape
+  pub at : StandsAmong b id.kind before own after
+  pub count : length before ≡ id.num
+  pub named : variable_named (content b) name ≡ Some (record { kind = id.kind; number = length before; variable = variable_of b own })
+  pub within : id.num < length (known_of known id.kind).places
+  pub place_is : get_or (known_of known id.kind).places id.num 0 ≡ own.vdr
+
+module _ {b : List ℕ} (name : List ℕ) {known : Known} {id : VarId} (good : Good b) (knows : Knows b known) (found : found_among known name ≡ Some id) where
+  pub the_parts : Parts b known name id
+  the_parts =
+      let r = id_is b name id (found_is b known name knows ∙ found) in
+      let n = r.0.number in
+      let vs = shapes_of (shape b) r.0.kind in
+      let there : slice_get (map (variable_of b) vs) n ≡ Some r.0.variable = subst (λ (xs : List Variable). slice_get xs n ≡ Some r.0.variable) (variables_are b (shape b) (good_is_sound b good).has_shape r.0.kind) (item_found (content b) name r.0 r.1) in
+      let within : n < length vs = let lt = slice_get_within (map (variable_of b) vs) n r.0.variable there in omega (arith, lt, length-map vs (variable_of b)) in
+      let c = cut vs n within in
+      let stands : slice_get vs n ≡ Some c.own = ap₂ (λ (xs : List VariableShape) (k : ℕ). slice_get xs k) c.is (sym c.count) ∙ got-middle c.before c.own c.after in
+      let same : r.0.variable ≡ variable_of b c.own = same_Some r.0.variable (variable_of b c.own) (sym there ∙ got-map (variable_of b) vs n c.own stands) in
+      let count = c.count in
+      let places = (knows_kind b known knows r.0.kind).places_are in
+      let mine : Parts b known name (id_of r.0) = record {
+        before = c.before;
+        own = c.own;
+        after = c.after;
+        at = record { was = c.is };
+        count = count;
+        named = r.1 ∙ (λ i. Some (record { kind = r.0.kind; number = sym count i; variable = same i }));
+        within = let long = ap (λ (xs : List ℕ). length xs) places in omega (arith, within, long, length-map vs (λ (v : VariableShape). v.vdr));
+        place_is = ap (λ (xs : List ℕ). get_or xs n 0) places ∙ vdr_at vs n c.own stands;
+      } in
+      subst (Parts b known name) r.2 mine
+
+  pub vdr_there : the_parts.own.vdr + 340 ≤ length b
+  vdr_there = vdr_inside b (shape b) (good_is_sound b good).has_shape id.kind the_parts.own.vdr (subst (λ (vs : List VariableShape). In the_parts.own.vdr (vdrs vs)) (sym the_parts.at.was) (in_middle the_parts.before the_parts.own the_parts.after))
+
+  pub within_places : id.num < length (known_of known id.kind).places
+  within_places = the_parts.within
+
+-- as a call meets it, by the parts of what is kept
+pub knows_view : {b : List ℕ} {view known : Known} → view ≡ known → Knows b known → Knows b view
+knows_view {b = b} is knows = subst (Knows b) (sym is) knows
+
+pub found_view : {view known : Known} {result : Option VarId} {id : VarId} (name : List ℕ) → view ≡ known → result ≡ found_among known name → result ≡ Some id → found_among view name ≡ Some id
+found_view name is asked some = ap (λ (k : Known). found_among k name) is ∙ sym asked ∙ some

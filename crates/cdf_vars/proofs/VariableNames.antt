@@ -1,24 +1,21 @@
 -- The names of the variables of a good image, as they are read where their descriptors stand.
-use Rattle.std.proofs.Common.{◌≡◌, ◌≢◌, ℕ, ◌+◌, List, [], ◌∷◌, map, Bool, true, false, not, ◌||◌, bytes_eq, refl, sym, ap, ap₂, subst, ◌∙◌, arith, inl, inr}
-use Rattle.std.proofs.lemmas.Bool.{and_parts, not-true, or_cases, eqb-true}
+use Rattle.std.proofs.Common.{◌≡◌, ◌≢◌, ℕ, ◌+◌, List, [], ◌∷◌, map, false, bytes_eq, refl, sym, ap, ap₂, subst, ◌∙◌, arith, inl, inr}
+use Rattle.std.proofs.lemmas.Bool.{or_parts}
 use Rattle.std.proofs.lemmas.List.{map-append}
-use Rattle.std.specs.List.{AllByRecursion, IsDistinct, list_all}
-use Rattle.std.specs.Prelude.{◌==◌}
+use Rattle.std.specs.List.{AllByRecursion, IsDistinct}
 use Rattle.cdf_edits.specs.Commands.Allowances.{shapes_of, vdr_type}
-use Rattle.cdf_format.specs.AttributeRules.{same_name}
+use Rattle.cdf_edits.proofs.Edits.VariableNames.{names_apart}
 use Rattle.cdf_format.specs.Content.{content, variable_of}
 use Rattle.cdf_format.specs.Fields.{name_at, name_field, name_in, type_at, LiesIn}
 use Rattle.cdf_format.specs.Records.{vdr_name}
 use Rattle.cdf_format.specs.Shape.{Shape, VariableShape, shape, variables, vdrs, HasShape}
 use Rattle.cdf_format.specs.Tiles.{In, Distinct}
-use Rattle.cdf_format.specs.VariableRules.{is_named_apart, variable_rows}
 use Rattle.cdf_format.specs.WellFormed.{Good}
 use Rattle.cdf_format.proofs.ChainsLemmas.{linkable-type}
 use Rattle.cdf_format.proofs.GoodByShape.{IsGoodByShape}
 use Rattle.cdf_format.proofs.GoodSound.{good_by_its_shape}
-use Rattle.cdf_format.proofs.Members.{In-append_left, In-append_right}
-use Rattle.cdf_format.proofs.NameRules.{names_at}
-use Rattle.cdf_format.proofs.RowLemmas.{Hold-member}
+use Rattle.cdf_format.proofs.Members.{In-append, In-append_left, In-append_right}
+use Rattle.cdf_format.proofs.NameRules.{absent-split, names_at}
 use Rattle.cdf_format.proofs.ShapeLemmas.{content_is}
 use Rattle.cdf_model.specs.declared.item.Item.{Item}
 use Rattle.cdf_model.specs.declared.item.Item.TheVariants as items
@@ -26,21 +23,21 @@ use Rattle.cdf_model.specs.declared.kinds.Kind.{Kind}
 use Rattle.cdf_model.specs.declared.kinds.Kind.TheVariants.{R, Z}
 use Rattle.cdf_model.specs.DataSet.{DataSet, Variable}
 use Rattle.cdf_model.specs.Listing.{variable_items}
-use Rattle.cdf_model.specs.Names.{variables_of}
+use Rattle.cdf_model.specs.Names.{is_among, variable_names, variables_of}
 use Rattle.cdf_vars.specs.Reading.{AreNamed, items_at}
 use Rattle.cdf_vars.proofs.VariableChains.{few_places, own_chain, vdr_inside}
 
 -- ---- lists
 
--- a test that all pass
-one_of_all : (test : ℕ → Bool) (xs : List ℕ) (x : ℕ) → list_all test xs ≡ true → In x xs → test x ≡ true
-one_of_all test [] x all i = absurd i
-one_of_all test (y ∷ xs) x all (inl e) = ap test e ∙ (and_parts (test y) (list_all test xs) all).0
-one_of_all test (y ∷ xs) x all (inr i) = one_of_all test xs x (and_parts (test y) (list_all test xs) all).1 i
-
 map_same : (f g : ℕ → List ℕ) (xs : List ℕ) → ((x : ℕ) → In x xs → f x ≡ g x) → map f xs ≡ map g xs
 map_same f g [] same = refl
 map_same f g (x ∷ xs) same = ap₂ (λ (y : List ℕ) (ys : List (List ℕ)). y ∷ ys) (same x (inl refl)) (map_same f g xs (λ y i. same y (inr i)))
+
+-- a name that none of some records has
+not_among : (b name ms : List ℕ) (m : ℕ) → is_among name (names_at b vdr_name ms) ≡ false → In m ms → bytes_eq name (name_in b m vdr_name) ≡ false
+not_among b name [] m e i = absurd i
+not_among b name (x ∷ ms) m e (inl q) = ap (λ (y : ℕ). bytes_eq name (name_in b y vdr_name)) q ∙ (or_parts (bytes_eq name (name_in b x vdr_name)) (is_among name (names_at b vdr_name ms)) e).0
+not_among b name (x ∷ ms) m e (inr i) = not_among b name ms m (or_parts (bytes_eq name (name_in b x vdr_name)) (is_among name (names_at b vdr_name ms)) e).1 i
 
 module _ (name : ℕ → List ℕ) where
   -- records at different places have different names
@@ -104,24 +101,22 @@ module _ (b : List ℕ) (good : Good b) where
   h : HasShape b s
   h = isgood.has_shape
 
-  -- by rule 7.2
-  apart : (m other : ℕ) → In m (vdrs (variables s)) → In other (vdrs (variables s)) → m ≢ other → same_name b vdr_name m other ≡ false
-  apart m other i j differ =
-      let rows = Hold-member (variable_rows b s.records (vdrs (variables s))) (vdrs (variables s)) m isgood.of_variables i in
-      let all : is_named_apart b (vdrs (variables s)) m ≡ true = rows.1.0 in
-      let one = one_of_all (λ (x : ℕ). (x == m) || not (same_name b vdr_name m x)) (vdrs (variables s)) other all j in
-      elim (or_cases (other == m) (not (same_name b vdr_name m other)) one) [
-        | inl e ↦ absurd (differ (sym (eqb-true other m e)))
-        | inr e ↦ not-true (same_name b vdr_name m other) e
-      ]
-
   pub are_named : (kind : Kind) → AreNamed b (vdrs (shapes_of s kind))
   are_named kind =
       let vs = vdrs (shapes_of s kind) in record {
         lie = λ m i. subst (LiesIn b m) (sym (named_where b s h kind m i)) (name_lies kind m i);
-        differ = subst (IsDistinct bytes_eq) (sym (names_read b s h kind)) (names_distinct (λ (place : ℕ). name_in b place vdr_name) vs (own_chain b s h kind).once (λ x y i j ne. apart x y (in_all b s h kind x i) (in_all b s h kind y j) ne));
+        differ = subst (IsDistinct bytes_eq) (sym (names_read b s h kind)) (names_distinct (λ (place : ℕ). name_in b place vdr_name) vs (own_chain b s h kind).once (λ x y i j ne. names_apart b s isgood x y (in_all b s h kind x i) (in_all b s h kind y j) ne));
         few = few_places b good kind;
       }
     where
       name_lies : (kind : Kind) (m : ℕ) → In m (vdrs (shapes_of s kind)) → LiesIn b m vdr_name
       name_lies kind m i = let l = vdr_inside b s h kind m i in omega arith
+
+  -- no variable has a name that is none of the content
+  pub absent_from : (name : List ℕ) → is_among name (variable_names (content b)) ≡ false → (m : ℕ) → In m (vdrs (variables s)) → bytes_eq name (name_in b m vdr_name) ≡ false
+  absent_from name free m i =
+      let p = absent-split name (map (λ (v : Variable). v.name) (content b).r_variables) (map (λ (v : Variable). v.name) (content b).z_variables) free in
+      elim (In-append m (vdrs s.r_variables) (vdrs s.z_variables) (subst (In m) (map-append (λ (v : VariableShape). v.vdr) s.r_variables s.z_variables) i)) [
+        | inl j ↦ not_among b name (vdrs s.r_variables) m (ap (is_among name) (sym (variable_names_are b s h R)) ∙ p.0) j
+        | inr j ↦ not_among b name (vdrs s.z_variables) m (ap (is_among name) (sym (variable_names_are b s h Z)) ∙ p.1) j
+      ]

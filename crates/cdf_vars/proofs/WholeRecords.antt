@@ -30,7 +30,7 @@ use Rattle.cdf_var_records.proofs.RecordForms.{some_elements, variable_is}
 use Rattle.cdf_vars.proofs.RecordPlaces.{place_below, value_inside}
 use Rattle.cdf_var_records.proofs.RecordsRead.{read_long}
 use Rattle.cdf_vars.proofs.VariableFound.{found_is}
-use Rattle.cdf_vars.proofs.VariableParts.{Parts, the_parts}
+use Rattle.cdf_vars.proofs.VariableFound.{Parts, the_parts}
 
 module _ (b : List ℕ) (good : Good b) where
   -- all that there is to know of the variables

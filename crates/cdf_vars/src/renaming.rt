@@ -1,15 +1,14 @@
 //! The command `rename-var`: a variable gets another name.
 
-ghost use Rattle.std.specs.Prelude.{◌≡◌, ◌<◌, ◌≤◌, false, length, slice_index, slice_set, IfOk, OnOk, OnErr};
+ghost use Rattle.std.specs.Prelude.{◌≡◌, ◌≤◌, length, slice_index, slice_set, IfOk, OnOk, OnErr};
 ghost use Rattle.cdf_area.specs.Calls.{Edits};
 ghost use Rattle.cdf_edits.specs.Answers.{Answers};
-ghost use Rattle.cdf_format.specs.Fields.{LiesIn, with_name};
+ghost use Rattle.cdf_format.specs.Fields.{with_name};
 ghost use Rattle.cdf_format.specs.Records.{vdr_name};
 ghost use Rattle.cdf_format.specs.WellFormed.{Good};
 ghost use Rattle.cdf_model.specs.Limits.{image_limit};
 ghost use Rattle.cdf_model.specs.declared.command.Command.TheVariants.{RenameVar};
-ghost use Rattle.cdf_names.specs.Names.{has_name};
-ghost use Rattle.cdf_vars.specs.Known.{Knows};
+ghost use Rattle.cdf_vars.specs.Known.{Knows, MayRename};
 
 use crate::vars::{VarTable, Vars};
 use cdf_area::{Area, AreaError};
@@ -26,11 +25,7 @@ fn rename_in<A: Area>(
     num: u32,
     to: &[u8],
 ) -> Result<(), AreaError>
-    requires named { num < length table.old.names }
-    requires placed { num < length table.old.places }
-    requires absent { has_name table.old.names to.now ≡ false }
-    requires few { length table.old.names < u32.MAX }
-    requires field { LiesIn (A.image area.old) (slice_index table.old.places num) vdr_name }
+    requires may { MayRename (A.image area.old) table.old num to.now }
     requires fits { length to.now ≤ 256 }
     ensures written { OnOk result (A.image area.new ≡ with_name (A.image area.old) (slice_index table.old.places num) vdr_name to.now) }
     ensures renamed { OnOk result (table.new ≡ record table.old { names = slice_set table.old.names num to.now }) }

@@ -8,7 +8,7 @@ use Rattle.cdf_edits.specs.Space.VariableChains.{variables_chain}
 use Rattle.cdf_edits.proofs.Commands.ListParts.{last_got}
 use Rattle.cdf_var_records.specs.Descriptors.{IsVdr}
 use Rattle.cdf_vars.specs.Padding.{padded_flags}
-use Rattle.cdf_vars.proofs.PadMoving.{body_long, is_vdr, old_long, place_late, place_lies, stands_behind}
+use Rattle.cdf_vars.proofs.PadMoved.{body_long, is_vdr, old_long, place_late, place_lies, stands_behind}
 use Rattle.cdf_vars.proofs.pad_record.move_vdr.Goals as goal
 
 pub overflow_add-place : goal.overflow_add-place

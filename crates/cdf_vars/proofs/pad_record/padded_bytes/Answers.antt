@@ -2,7 +2,7 @@ use Rattle.std.proofs.Common.{◌∙◌, ◌++◌, ℕ, List, take, sym, ap, ari
 use Rattle.std.proofs.lemmas.List.{length-take}
 use Rattle.byteorder.specs.Endian.{big_bytes}
 use Rattle.cdf_vars.specs.Padding.{padded_flags}
-use Rattle.cdf_vars.proofs.PadBytes.{pieced}
+use Rattle.cdf_vars.proofs.PadMoved.{pieced}
 use Rattle.cdf_vars.proofs.pad_record.padded_bytes.Goals as goal
 
 pub slice_bounds-extend_from_slice-end : goal.slice_bounds-extend_from_slice-end

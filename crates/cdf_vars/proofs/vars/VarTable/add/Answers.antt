@@ -2,25 +2,25 @@ use Rattle.std.proofs.Common.{◌≡◌, ◌∙◌, ℕ, List, [], ◌∷◌, �
 use Rattle.std.specs.List.{remove}
 use Rattle.cdf_edits.proofs.Commands.ListParts.{last_removed}
 use Rattle.cdf_vars.specs.Known.{KnowsKind}
-use Rattle.cdf_vars.proofs.KindKnown.{kind_absent, kind_few, knows_view}
+use Rattle.cdf_vars.proofs.VariableChanged.{kind_absent, kind_few, kind_view}
 use Rattle.cdf_vars.proofs.vars.VarTable.add.Goals as goal
 
 pub add-requires-clause-absent : goal.add-requires-clause-absent
-add-requires-clause-absent g c = kind_absent c.requires.known c.self.view_is c.args.name.now c.new.result (c.new.ensures ∙ c.in_ok-to_vec.ensures.items_if_clones_equal (λ x y e. e)) c.requires.free
+add-requires-clause-absent g c = rw (c.new.ensures ∙ c.in_ok-to_vec.ensures.items_if_clones_equal (λ x y e. e)) (kind_absent (kind_view c.self.view_is c.requires.known) c.args.name.now c.requires.free)
 
 pub add-requires-clause-few : goal.add-requires-clause-few
-add-requires-clause-few g c = kind_few c.requires.known c.self.view_is c.requires.good
+add-requires-clause-few g c = kind_few (kind_view c.self.view_is c.requires.known) c.requires.good
 
 pub returns-in-Ok-clause-known : goal.returns-in-Ok-clause-known
 returns-in-Ok-clause-known g c =
     let name : c.new.result ≡ c.args.name.now = c.new.ensures ∙ c.in_ok-to_vec.ensures.items_if_clones_equal (λ x y e. e) in
     let added = c.in_ok-add.ensures.added ∙ ap (λ (x : List ℕ). c.self.inside.names ++ x ∷ []) name in
     subst (λ (names : List (List ℕ)). KnowsKind (g.A.Area.image c.make.new.area) c.args.kind (record { names = names; places = c.make.new.places.items })) (sym added)
-    (c.in-Ok.ensures.known c.self.inside.names (knows_view c.requires.known c.self.view_is))
+    (c.in-Ok.ensures.known c.self.inside.names (kind_view c.self.view_is c.requires.known))
 
 pub returns-in-Err-clause-stays : goal.returns-in-Err-clause-stays
 returns-in-Err-clause-stays g c =
-    let before = knows_view c.requires.known c.self.view_is in
+    let before = kind_view c.self.view_is c.requires.known in
     record {
       names_are = c.remove.ensures ∙ ap (λ (xs : List (List ℕ)). remove xs c.len-last.result) c.in_ok-add.ensures.added ∙ last_removed c.self.inside.names c.new.result c.len-last.result c.len-last.ensures.count ∙ before.names_are;
       places_are = c.in-Err.ensures.stays ∙ before.places_are;

@@ -1,52 +1,47 @@
 use Rattle.std.proofs.Common.{◌≡◌, ◌∙◌, ℕ, List, ap, length, refl, sym, arith}
 use Rattle.cdf_edits.specs.Commands.Room.{vdr_bytes}
 use Rattle.cdf_edits.specs.Follows.{Follows}
+use Rattle.cdf_edits.proofs.Commands.Answered.{refused}
+use Rattle.cdf_model.specs.declared.answer.Reason.TheVariants.{BadName, BadShape, NameTaken}
+use Rattle.cdf_model.specs.declared.kinds.Kind.TheVariants.{R, Z}
 use Rattle.cdf_model.specs.Names.{is_among}
 use Rattle.cdf_vars.specs.Creating.{making, wanted}
-use Rattle.cdf_vars.proofs.CreatingAnswers.{badly_named, badly_shaped, is_done, name_taken, too_large}
-use Rattle.cdf_vars.proofs.KindKnown.{all_names, knows_with_r, knows_with_z}
+use Rattle.cdf_vars.proofs.CreatedVariable.{is_done, no_room, step_is}
+use Rattle.cdf_vars.proofs.VariableChanged.{all_names, knows_made}
 use Rattle.cdf_vars.proofs.vars.Vars.create.Goals as goal
 use Rattle.cdf_vars.proofs.vars.Vars.create.Goals.{in-R+in_ok-add-in-R, in-Z+in_ok-add-in-Z}
 
 pub returns-then-is_bad_name-clause-answers : goal.returns-then-is_bad_name-clause-answers
-returns-then-is_bad_name-clause-answers g c =
-    badly_named _ (g.A.Area.image c.args.area.now) c.args.kind (wanted c.args.name.now c.args.form.now c.args.vary) c.requires.dims (sym c.is_bad_name.ensures ∙ c.if-is_bad_name.true)
+returns-then-is_bad_name-clause-answers g c = let bad = sym c.is_bad_name.ensures ∙ c.if-is_bad_name.true in refused _ _ (making c.args.kind (wanted c.args.name.now c.args.form.now c.args.vary)) BadName (step_is _ c.args.kind (wanted c.args.name.now c.args.form.now c.args.vary) c.requires.dims ∙ rw bad refl)
 
 pub returns-then-is_some-clause-answers : goal.returns-then-is_some-clause-answers
 returns-then-is_some-clause-answers g c =
-    name_taken _ (g.A.Area.image c.args.area.now) c.args.kind (wanted c.args.name.now c.args.form.now c.args.vary) c.requires.dims (sym c.is_bad_name.ensures ∙ c.if-is_bad_name.false)
-    (ap (is_among c.args.name.now) (sym (all_names c.requires.known refl)) ∙ sym c.find.ensures.exact ∙ sym c.is_some.ensures ∙ c.if-is_some.true)
+    let taken = ap (is_among c.args.name.now) (sym (all_names c.requires.known)) ∙ sym c.find.ensures.exact ∙ sym c.is_some.ensures ∙ c.if-is_some.true in
+    refused _ _ (making c.args.kind (wanted c.args.name.now c.args.form.now c.args.vary)) NameTaken (step_is _ c.args.kind (wanted c.args.name.now c.args.form.now c.args.vary) c.requires.dims ∙ rw (sym c.is_bad_name.ensures ∙ c.if-is_bad_name.false, taken) refl)
 
 pub returns-then-is_bad_shape-clause-answers : goal.returns-then-is_bad_shape-clause-answers
 returns-then-is_bad_shape-clause-answers g c =
-    badly_shaped _ (g.A.Area.image c.args.area.now) c.args.kind (wanted c.args.name.now c.args.form.now c.args.vary) c.requires.dims (sym c.is_bad_name.ensures ∙ c.if-is_bad_name.false)
-    (ap (is_among c.args.name.now) (sym (all_names c.requires.known refl)) ∙ sym c.find.ensures.exact ∙ sym c.is_some.ensures ∙ c.if-is_some.false)
-    (sym c.is_bad_shape.ensures ∙ c.if-is_bad_shape.true)
+    let free = ap (is_among c.args.name.now) (sym (all_names c.requires.known)) ∙ sym c.find.ensures.exact ∙ sym c.is_some.ensures ∙ c.if-is_some.false in
+    refused _ _ (making c.args.kind (wanted c.args.name.now c.args.form.now c.args.vary)) BadShape (step_is _ c.args.kind (wanted c.args.name.now c.args.form.now c.args.vary) c.requires.dims ∙ rw (sym c.is_bad_name.ensures ∙ c.if-is_bad_name.false, free, sym c.is_bad_shape.ensures ∙ c.if-is_bad_shape.true) refl)
 
 pub returns-then-limit-size-clause-answers : goal.returns-then-limit-size-clause-answers
 returns-then-limit-size-clause-answers g c =
     let size : c.descriptor_size.result ≡ vdr_bytes c.args.kind (length c.args.form.now.dims) = c.descriptor_size.ensures ∙ ap (λ (xs : List ℕ). vdr_bytes c.args.kind (length xs)) c.as_slice.ensures in
-    too_large _ (g.A.Area.image c.args.area.now) c.args.kind (wanted c.args.name.now c.args.form.now c.args.vary) c.requires.dims (sym c.is_bad_name.ensures ∙ c.if-is_bad_name.false)
-    (ap (is_among c.args.name.now) (sym (all_names c.requires.known refl)) ∙ sym c.find.ensures.exact ∙ sym c.is_some.ensures ∙ c.if-is_some.false)
-    (sym c.is_bad_shape.ensures ∙ c.if-is_bad_shape.false)
+    no_room _ (g.A.Area.image c.args.area.now) c.args.kind (wanted c.args.name.now c.args.form.now c.args.vary) c.requires.dims (sym c.is_bad_name.ensures ∙ c.if-is_bad_name.false) (ap (is_among c.args.name.now) (sym (all_names c.requires.known)) ∙ sym c.find.ensures.exact ∙ sym c.is_some.ensures ∙ c.if-is_some.false) (sym c.is_bad_shape.ensures ∙ c.if-is_bad_shape.false)
     (omega (arith, c.if-limit-size.true, c.limit.ensures, c.size.ensures, size))
 
 pub returns-clause-answers : goal.returns-clause-answers
 returns-clause-answers g c =
     let size : c.descriptor_size.result ≡ vdr_bytes c.args.kind (length c.args.form.now.dims) = c.descriptor_size.ensures ∙ ap (λ (xs : List ℕ). vdr_bytes c.args.kind (length xs)) c.as_slice.ensures in
-    let b = g.A.Area.image c.args.area.now in
-    let v = wanted c.args.name.now c.args.form.now c.args.vary in
-    let made : Follows b (making c.args.kind v) (g.A.Area.image c.match-kind.area) = elim c.match-kind.branch [
+    let made : Follows (g.A.Area.image c.args.area.now) (making c.args.kind (wanted c.args.name.now c.args.form.now c.args.vary)) (g.A.Area.image c.match-kind.area) = elim c.match-kind.branch [
       | in-R+in_ok-add-in-R w ↦ rw w.area-is w.in_ok-add-in-R.ensures.follows
       | in-Z+in_ok-add-in-Z w ↦ rw w.area-is w.in_ok-add-in-Z.ensures.follows
     ] in
-    is_done _ b c.args.kind v c.requires.dims (sym c.is_bad_name.ensures ∙ c.if-is_bad_name.false)
-    (ap (is_among c.args.name.now) (sym (all_names c.requires.known refl)) ∙ sym c.find.ensures.exact ∙ sym c.is_some.ensures ∙ c.if-is_some.false)
-    (sym c.is_bad_shape.ensures ∙ c.if-is_bad_shape.false)
-    (omega (arith, c.if-limit-size.false, c.limit.ensures, c.size.ensures, size)) (g.A.Area.image c.match-kind.area) made
+    is_done _ (g.A.Area.image c.args.area.now) c.args.kind (wanted c.args.name.now c.args.form.now c.args.vary) c.requires.dims (sym c.is_bad_name.ensures ∙ c.if-is_bad_name.false) (ap (is_among c.args.name.now) (sym (all_names c.requires.known)) ∙ sym c.find.ensures.exact ∙ sym c.is_some.ensures ∙ c.if-is_some.false) (sym c.is_bad_shape.ensures ∙ c.if-is_bad_shape.false)
+    (omega (arith, c.if-limit-size.false, c.limit.ensures, c.size.ensures, size)) made
 
 pub returns-clause-known : goal.returns-clause-known
 returns-clause-known g c = elim c.match-kind.branch [
-  | in-R+in_ok-add-in-R w ↦ rw (w.area-is, w.self-is) (knows_with_r w.in-R.is c.requires.known c.self.view_is w.in_ok-add-in-R.ensures.known w.in_ok-add-in-R.ensures.others)
-  | in-Z+in_ok-add-in-Z w ↦ rw (w.area-is, w.self-is) (knows_with_z w.in-Z.is c.requires.known c.self.view_is w.in_ok-add-in-Z.ensures.known w.in_ok-add-in-Z.ensures.others)
+  | in-R+in_ok-add-in-R w ↦ rw (w.area-is, w.self-is) (knows_made R w.in-R.is c.requires.known c.self.view_is w.in_ok-add-in-R.ensures.known w.in_ok-add-in-R.ensures.others)
+  | in-Z+in_ok-add-in-Z w ↦ rw (w.area-is, w.self-is) (knows_made Z w.in-Z.is c.requires.known c.self.view_is w.in_ok-add-in-Z.ensures.known w.in_ok-add-in-Z.ensures.others)
 ]

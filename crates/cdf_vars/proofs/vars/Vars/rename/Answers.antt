@@ -1,67 +1,52 @@
-use Rattle.std.proofs.Common.{sym, ap, subst, ◌∙◌}
-use Rattle.cdf_model.specs.declared.kinds.Kind.TheVariants.{R, Z}
-use Rattle.cdf_vars.specs.Known.{KnownKind, Knows}
-use Rattle.cdf_vars.proofs.RenameAnswers.{missing, bad, taken, placed, named, field, few, absent, renamed, knows_now}
+use Rattle.std.proofs.Common.{sym, ap, ◌∙◌, refl}
+use Rattle.cdf_edits.proofs.Commands.Answered.{refused}
+use Rattle.cdf_model.specs.declared.answer.Reason.TheVariants.{BadName, NameTaken, NoSuchVar}
+use Rattle.cdf_model.specs.declared.command.Command.TheVariants.{RenameVar}
+use Rattle.cdf_model.specs.Names.{is_among}
+use Rattle.cdf_vars.proofs.VariableChanged.{all_names, may_rename, rename_done, rename_knows}
+use Rattle.cdf_vars.proofs.VariableFound.{found_view, knows_view, none_found, the_parts}
 use Rattle.cdf_vars.proofs.vars.Vars.rename.Goals.{in-R+in_ok-rename_in-in-R, in-Z+in_ok-rename_in-in-Z}
 use Rattle.cdf_vars.proofs.vars.Vars.rename.Goals as goal
 
 pub returns-in_default-clause-answers : goal.returns-in_default-clause-answers
-returns-in_default-clause-answers g c = missing c.args.from.now c.requires.known c.self.view_is c.find.ensures.found _ c.args.to.now c.in_default.is
+returns-in_default-clause-answers g c = refused _ _ (RenameVar c.args.from.now c.args.to.now) NoSuchVar (rw (none_found _ c.args.self.now c.args.from.now c.requires.known (sym c.find.ensures.found ∙ c.in_default.is)) refl)
 
 pub returns-then-is_bad_name-clause-answers : goal.returns-then-is_bad_name-clause-answers
-returns-then-is_bad_name-clause-answers g c = bad c.args.from.now c.requires.known c.self.view_is c.find.ensures.found c.requires.good c.in-Some.is _ c.args.to.now (sym c.is_bad_name.ensures ∙ c.if-is_bad_name.true)
+returns-then-is_bad_name-clause-answers g c =
+    refused _ _ (RenameVar c.args.from.now c.args.to.now) BadName (rw ((the_parts c.args.from.now c.requires.good c.requires.known (sym c.find.ensures.found ∙ c.in-Some.is)).named, sym c.is_bad_name.ensures ∙ c.if-is_bad_name.true) refl)
 
 pub returns-then-is_some-clause-answers : goal.returns-then-is_some-clause-answers
 returns-then-is_some-clause-answers g c =
-    taken c.args.from.now c.requires.known c.self.view_is c.find.ensures.found c.requires.good c.in-Some.is _ c.args.to.now (sym c.is_bad_name.ensures ∙ c.if-is_bad_name.false) (sym c.find-2.ensures.exact ∙ sym c.is_some.ensures ∙ c.if-is_some.true)
+    let taken = ap (is_among c.args.to.now) (sym (all_names c.requires.known)) ∙ sym c.find-2.ensures.exact ∙ sym c.is_some.ensures ∙ c.if-is_some.true in
+    refused _ _ (RenameVar c.args.from.now c.args.to.now) NameTaken (rw ((the_parts c.args.from.now c.requires.good c.requires.known (sym c.find.ensures.found ∙ c.in-Some.is)).named, sym c.is_bad_name.ensures ∙ c.if-is_bad_name.false, taken) refl)
 
-pub rename_in-requires-clause-named : goal.rename_in-requires-clause-named
-rename_in-requires-clause-named g c = named c.args.from.now c.requires.known c.self.view_is c.find.ensures.found c.requires.good c.in-Some.is R c.in-R.is
+pub rename_in-requires-clause-may : goal.rename_in-requires-clause-may
+rename_in-requires-clause-may g c =
+    may_rename c.args.from.now c.requires.good (knows_view c.self.view_is c.requires.known) (found_view c.args.from.now c.self.view_is c.find.ensures.found c.in-Some.is) c.in-R.is c.args.to.now
+    (ap (is_among c.args.to.now) (sym (all_names c.requires.known)) ∙ sym c.find-2.ensures.exact ∙ sym c.is_some.ensures ∙ c.if-is_some.false)
 
-pub rename_in-requires-clause-placed : goal.rename_in-requires-clause-placed
-rename_in-requires-clause-placed g c = placed c.args.from.now c.requires.known c.self.view_is c.find.ensures.found c.requires.good c.in-Some.is R c.in-R.is
-
-pub rename_in-requires-clause-absent : goal.rename_in-requires-clause-absent
-rename_in-requires-clause-absent g c = absent c.args.from.now c.requires.known c.self.view_is c.find.ensures.found c.requires.good c.in-Some.is R c.args.to.now (sym c.find-2.ensures.exact ∙ sym c.is_some.ensures ∙ c.if-is_some.false)
-
-pub rename_in-requires-clause-few : goal.rename_in-requires-clause-few
-rename_in-requires-clause-few g c = few c.args.from.now c.requires.known c.self.view_is c.find.ensures.found c.requires.good c.in-Some.is R
-
-pub rename_in-requires-clause-field : goal.rename_in-requires-clause-field
-rename_in-requires-clause-field g c = field c.args.from.now c.requires.known c.self.view_is c.find.ensures.found c.requires.good c.in-Some.is R c.in-R.is
-
-pub rename_in-requires-in-Z-clause-named : goal.rename_in-requires-in-Z-clause-named
-rename_in-requires-in-Z-clause-named g c = named c.args.from.now c.requires.known c.self.view_is c.find.ensures.found c.requires.good c.in-Some.is Z c.in-Z.is
-
-pub rename_in-requires-in-Z-clause-placed : goal.rename_in-requires-in-Z-clause-placed
-rename_in-requires-in-Z-clause-placed g c = placed c.args.from.now c.requires.known c.self.view_is c.find.ensures.found c.requires.good c.in-Some.is Z c.in-Z.is
-
-pub rename_in-requires-in-Z-clause-absent : goal.rename_in-requires-in-Z-clause-absent
-rename_in-requires-in-Z-clause-absent g c = absent c.args.from.now c.requires.known c.self.view_is c.find.ensures.found c.requires.good c.in-Some.is Z c.args.to.now (sym c.find-2.ensures.exact ∙ sym c.is_some.ensures ∙ c.if-is_some.false)
-
-pub rename_in-requires-in-Z-clause-few : goal.rename_in-requires-in-Z-clause-few
-rename_in-requires-in-Z-clause-few g c = few c.args.from.now c.requires.known c.self.view_is c.find.ensures.found c.requires.good c.in-Some.is Z
-
-pub rename_in-requires-in-Z-clause-field : goal.rename_in-requires-in-Z-clause-field
-rename_in-requires-in-Z-clause-field g c = field c.args.from.now c.requires.known c.self.view_is c.find.ensures.found c.requires.good c.in-Some.is Z c.in-Z.is
+pub rename_in-requires-in-Z-clause-may : goal.rename_in-requires-in-Z-clause-may
+rename_in-requires-in-Z-clause-may g c =
+    may_rename c.args.from.now c.requires.good (knows_view c.self.view_is c.requires.known) (found_view c.args.from.now c.self.view_is c.find.ensures.found c.in-Some.is) c.in-Z.is c.args.to.now
+    (ap (is_among c.args.to.now) (sym (all_names c.requires.known)) ∙ sym c.find-2.ensures.exact ∙ sym c.is_some.ensures ∙ c.if-is_some.false)
 
 pub returns-clause-answers : goal.returns-clause-answers
 returns-clause-answers g c =
+    let knows = knows_view c.self.view_is c.requires.known in
+    let found = found_view c.args.from.now c.self.view_is c.find.ensures.found c.in-Some.is in
     let fine = sym c.is_bad_name.ensures ∙ c.if-is_bad_name.false in
-    let free = sym c.find-2.ensures.exact ∙ sym c.is_some.ensures ∙ c.if-is_some.false in
+    let free = ap (is_among c.args.to.now) (sym (all_names c.requires.known)) ∙ sym c.find-2.ensures.exact ∙ sym c.is_some.ensures ∙ c.if-is_some.false in
     elim c.match-found.branch [
-      | in-R+in_ok-rename_in-in-R w ↦ renamed c.args.from.now c.requires.known c.self.view_is c.find.ensures.found c.requires.good c.in-Some.is c.args.to.now R w.in-R.is fine (ap g.A.Area.image w.area-is ∙ w.in_ok-rename_in-in-R.ensures.written) _ free c.requires.fits c.requires.limit
-      | in-Z+in_ok-rename_in-in-Z w ↦ renamed c.args.from.now c.requires.known c.self.view_is c.find.ensures.found c.requires.good c.in-Some.is c.args.to.now Z w.in-Z.is fine (ap g.A.Area.image w.area-is ∙ w.in_ok-rename_in-in-Z.ensures.written) _ free c.requires.fits c.requires.limit
+      | in-R+in_ok-rename_in-in-R w ↦ rw w.area-is (rename_done c.args.from.now c.requires.good knows found c.args.to.now fine w.in-R.is w.in_ok-rename_in-in-R.ensures.written free _ c.requires.fits c.requires.limit)
+      | in-Z+in_ok-rename_in-in-Z w ↦ rw w.area-is (rename_done c.args.from.now c.requires.good knows found c.args.to.now fine w.in-Z.is w.in_ok-rename_in-in-Z.ensures.written free _ c.requires.fits c.requires.limit)
     ]
 
 pub returns-clause-known : goal.returns-clause-known
 returns-clause-known g c =
+    let knows = knows_view c.self.view_is c.requires.known in
+    let found = found_view c.args.from.now c.self.view_is c.find.ensures.found c.in-Some.is in
     let fine = sym c.is_bad_name.ensures ∙ c.if-is_bad_name.false in
     elim c.match-found.branch [
-      | in-R+in_ok-rename_in-in-R w ↦
-          let knows = knows_now c.args.from.now c.requires.known c.self.view_is c.find.ensures.found c.requires.good c.in-Some.is c.args.to.now R w.in-R.is fine (ap g.A.Area.image w.area-is ∙ w.in_ok-rename_in-in-R.ensures.written) in
-          subst (Knows (g.A.Area.image c.match-found.area)) (sym (w.self-is ∙ ap (λ (k : KnownKind). record { r = k; z = c.self.inside.z }) w.in_ok-rename_in-in-R.ensures.renamed)) knows
-      | in-Z+in_ok-rename_in-in-Z w ↦
-          let knows = knows_now c.args.from.now c.requires.known c.self.view_is c.find.ensures.found c.requires.good c.in-Some.is c.args.to.now Z w.in-Z.is fine (ap g.A.Area.image w.area-is ∙ w.in_ok-rename_in-in-Z.ensures.written) in
-          subst (Knows (g.A.Area.image c.match-found.area)) (sym (w.self-is ∙ ap (λ (k : KnownKind). record { r = c.self.inside.r; z = k }) w.in_ok-rename_in-in-Z.ensures.renamed)) knows
+      | in-R+in_ok-rename_in-in-R w ↦ rw (w.area-is, w.self-is, w.in_ok-rename_in-in-R.ensures.renamed) (rename_knows c.args.from.now c.requires.good knows found c.args.to.now fine w.in-R.is w.in_ok-rename_in-in-R.ensures.written)
+      | in-Z+in_ok-rename_in-in-Z w ↦ rw (w.area-is, w.self-is, w.in_ok-rename_in-in-Z.ensures.renamed) (rename_knows c.args.from.now c.requires.good knows found c.args.to.now fine w.in-Z.is w.in_ok-rename_in-in-Z.ensures.written)
     ]

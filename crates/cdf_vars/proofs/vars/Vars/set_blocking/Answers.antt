@@ -1,20 +1,29 @@
-use Rattle.cdf_vars.proofs.BlockingAnswers.{missing, over, placed, field, changed, knows_now}
+use Rattle.std.proofs.Common.{◌∙◌, refl, sym, arith}
+use Rattle.std.proofs.lemmas.Bool.{lt-ltb}
+use Rattle.cdf_edits.proofs.Commands.Answered.{refused}
+use Rattle.cdf_model.specs.declared.answer.Reason.TheVariants.{NoSuchVar, NumberOutOfRange}
+use Rattle.cdf_model.specs.declared.command.Command.TheVariants.{SetBlocking}
+use Rattle.cdf_model.specs.Limits.{signed_limit}
+use Rattle.cdf_format.specs.Records.{vdr_blocking_factor}
+use Rattle.cdf_vars.proofs.VariableChanged.{blocking_done, blocking_knows, field_lies}
+use Rattle.cdf_vars.proofs.VariableFound.{none_found, the_parts, within_places}
 use Rattle.cdf_vars.proofs.vars.Vars.set_blocking.Goals as goal
 
 pub returns-in_default-clause-answers : goal.returns-in_default-clause-answers
-returns-in_default-clause-answers g c = missing c.args.name.now c.requires.known c.find.ensures.found _ c.args.n c.in_default.is
+returns-in_default-clause-answers g c = refused _ _ (SetBlocking c.args.name.now c.args.n) NoSuchVar (rw (none_found _ c.args.self.now c.args.name.now c.requires.known (sym c.find.ensures.found ∙ c.in_default.is)) refl)
 
 pub returns-then-n-gt-SIGNED_LIMIT-clause-answers : goal.returns-then-n-gt-SIGNED_LIMIT-clause-answers
-returns-then-n-gt-SIGNED_LIMIT-clause-answers g c = over c.args.name.now c.requires.known c.find.ensures.found c.requires.good c.in-Some.is _ c.args.n c.if-n-gt-SIGNED_LIMIT.true
+returns-then-n-gt-SIGNED_LIMIT-clause-answers g c =
+    refused _ _ (SetBlocking c.args.name.now c.args.n) NumberOutOfRange (rw ((the_parts c.args.name.now c.requires.good c.requires.known (sym c.find.ensures.found ∙ c.in-Some.is)).named, lt-ltb signed_limit c.args.n c.if-n-gt-SIGNED_LIMIT.true) refl)
 
 pub place_of-requires : goal.place_of-requires
-place_of-requires g c = placed c.args.name.now c.requires.known c.find.ensures.found c.requires.good c.in-Some.is
+place_of-requires g c = within_places c.args.name.now c.requires.good c.requires.known (sym c.find.ensures.found ∙ c.in-Some.is)
 
 pub set_vdr_blocking_factor-requires : goal.set_vdr_blocking_factor-requires
-set_vdr_blocking_factor-requires g c = field c.args.name.now c.requires.known c.find.ensures.found c.requires.good c.in-Some.is c.place_of.result c.place_of.ensures
+set_vdr_blocking_factor-requires g c = rw c.place_of.ensures (field_lies c.args.name.now c.requires.good c.requires.known (sym c.find.ensures.found ∙ c.in-Some.is) vdr_blocking_factor (omega arith))
 
 pub returns-clause-answers : goal.returns-clause-answers
-returns-clause-answers g c = changed c.args.name.now c.requires.known c.find.ensures.found c.requires.good c.in-Some.is c.place_of.result c.place_of.ensures c.args.n c.if-n-gt-SIGNED_LIMIT.false c.in_ok-set_vdr_blocking_factor.ensures.ok _ c.requires.fits c.requires.limit
+returns-clause-answers g c = blocking_done c.args.name.now c.requires.good c.requires.known (sym c.find.ensures.found ∙ c.in-Some.is) c.args.n c.if-n-gt-SIGNED_LIMIT.false c.place_of.ensures c.in_ok-set_vdr_blocking_factor.ensures.ok _ c.requires.fits c.requires.limit
 
 pub returns-clause-known : goal.returns-clause-known
-returns-clause-known g c = knows_now c.args.name.now c.requires.known c.find.ensures.found c.requires.good c.in-Some.is c.place_of.result c.place_of.ensures c.args.n c.if-n-gt-SIGNED_LIMIT.false c.in_ok-set_vdr_blocking_factor.ensures.ok
+returns-clause-known g c = blocking_knows c.args.name.now c.requires.good c.requires.known (sym c.find.ensures.found ∙ c.in-Some.is) c.args.n c.if-n-gt-SIGNED_LIMIT.false c.place_of.ensures c.in_ok-set_vdr_blocking_factor.ensures.ok

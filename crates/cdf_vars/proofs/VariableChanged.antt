@@ -1,0 +1,287 @@
+-- A variable of a good image that is found by its name becomes another one: what is kept of the variables, and the commands that change it where its VDR stands.
+use Rattle.std.proofs.Common.{◌≡◌, ℕ, zero, suc, ◌+◌, ◌<◌, ◌≤◌, List, [], ◌∷◌, ◌++◌, length, map, true, false, not, Option, Some, None, bytes_eq, get_or, pos, w32, refl, sym, ap, ap₂, subst, ◌∙◌, arith, inl}
+use Rattle.std.proofs.lemmas.Bool.{le-ltb}
+use Rattle.std.proofs.lemmas.Int.{to_z_pos}
+use Rattle.std.proofs.lemmas.List.{length-map, map-set}
+use Rattle.std.proofs.lemmas.Option.{same_Some}
+use Rattle.std.specs.Int.{cast_signed, cast_unsigned}
+use Rattle.std.specs.List.{slice_get}
+use Rattle.std.specs.Prelude.{◌==◌, nat_lt, slice_set}
+use Rattle.cdf_model.specs.declared.answer.Outcome.TheVariants.{Done}
+use Rattle.cdf_model.specs.declared.answer.Reply.TheVariants.{Plain}
+use Rattle.cdf_model.specs.declared.command.Command.{Command}
+use Rattle.cdf_model.specs.declared.command.Command.TheVariants.{RenameVar, SetBlocking}
+use Rattle.cdf_model.specs.declared.kinds.Kind.{Kind}
+use Rattle.cdf_model.specs.declared.kinds.Kind.TheVariants.{R, Z}
+use Rattle.cdf_model.specs.Answers.{Go}
+use Rattle.cdf_model.specs.DataSet.{DataSet, Variable}
+use Rattle.cdf_model.specs.Limits.{image_limit, signed_limit}
+use Rattle.cdf_model.specs.Names.{Found, is_among, is_bad_name, variable_names, variables_of, with_variables}
+use Rattle.cdf_model.specs.Step.{ByStep, step}
+use Rattle.cdf_model.specs.VariableSteps.{with_variable}
+use Rattle.cdf_names.specs.Names.{has_name as has_name_among}
+use Rattle.cdf_fields.proofs.NamesWritten.{name_reads}
+use Rattle.cdf_fields.proofs.Writes.{field_reads4, length-with_field, other_bytes}
+use Rattle.cdf_format.specs.AttributeRules.{has_name}
+use Rattle.cdf_format.specs.Content.{content, variable_of}
+use Rattle.cdf_format.specs.Fields.{LiesIn, integer4, name_in, with_field, with_name}
+use Rattle.cdf_format.specs.Records.{Field, vdr_blocking_factor, vdr_name}
+use Rattle.cdf_format.specs.Shape.{Shape, VariableShape, shape, vdrs}
+use Rattle.cdf_format.specs.WellFormed.{Good}
+use Rattle.cdf_format.proofs.GoodSound.{good_by_its_shape, good_is_sound}
+use Rattle.cdf_format.proofs.NameRules.{absent-split}
+use Rattle.cdf_edits.specs.Answers.{Answers}
+use Rattle.cdf_edits.specs.Commands.Allowances.{Allowances, Keeps, Only, OwnAllowances, of_named, of_variable, shapes_of, stays_all, stays_own}
+use Rattle.cdf_edits.specs.Commands.Does.{Does}
+use Rattle.cdf_edits.specs.Commands.Keeps.{allowances}
+use Rattle.cdf_edits.specs.Commands.Named.{IsVariable}
+use Rattle.cdf_edits.specs.Commands.NewRecords.{IsFilled}
+use Rattle.cdf_edits.specs.Commands.Variables.{RenamesVariable, rename_var_changes, set_blocking_changes}
+use Rattle.cdf_edits.specs.Edits.Marks.{Mark}
+use Rattle.cdf_edits.specs.Follows.{Follows, only_reads}
+use Rattle.cdf_edits.proofs.Commands.Answered.{gone}
+use Rattle.cdf_edits.proofs.Commands.FineNames.{fine_has_no_zeros, fine_is_short, fine_is_some}
+use Rattle.cdf_edits.proofs.Commands.ListParts.{got-middle}
+use Rattle.cdf_edits.proofs.Edits.NameWritten.{length-with_name, name_changed, name_filled}
+use Rattle.cdf_edits.proofs.Edits.VariableKept.{vdr_allowance}
+use Rattle.cdf_edits.proofs.Edits.VariableKinds.{kind_type, with_shapes}
+use Rattle.cdf_edits.proofs.Edits.VariableNames.{IsBeside, beside_in, own_names_apart}
+use Rattle.cdf_edits.proofs.Edits.VdrEdited.{EditsVdr, content_replaced, follows_by, good_now, keeps_vdr, no_block, own_ruled, same_shape, sound, splices, typed}
+use Rattle.cdf_edits.proofs.Edits.VdrWritten.{WritesVdr, blocking_same, edits, marks_within, meaning, name_same}
+use Rattle.cdf_vars.specs.declared.vars.VarId.{VarId}
+use Rattle.cdf_vars.specs.Creating.{OthersStay}
+use Rattle.cdf_vars.specs.Finding.{found_among, names_of}
+use Rattle.cdf_vars.specs.Known.{Known, KnownKind, Knows, KnowsKind, MayRename, known_of}
+use Rattle.cdf_vars.proofs.VariableFound.{Parts, item_found, knows_kind, the_parts, vdr_there, within_places}
+use Rattle.cdf_vars.proofs.VariableNames.{absent_from, variables_are}
+use Rattle.cdf_vars.proofs.VariableChains.{few_places}
+
+-- ---- of one kind, and of both
+
+-- a name that no variable has is none of the kind
+free_of_kind : (d : DataSet) (kind : Kind) (name : List ℕ) → is_among name (variable_names d) ≡ false → is_among name (map (λ (v : Variable). v.name) (variables_of d kind)) ≡ false
+free_of_kind d R name free = (absent-split name (map (λ (v : Variable). v.name) d.r_variables) (map (λ (v : Variable). v.name) d.z_variables) free).0
+free_of_kind d Z name free = (absent-split name (map (λ (v : Variable). v.name) d.r_variables) (map (λ (v : Variable). v.name) d.z_variables) free).1
+
+pub kind_view : {b : List ℕ} {kind : Kind} {view known : KnownKind} → view ≡ known → KnowsKind b kind known → KnowsKind b kind view
+kind_view {b = b} {kind = kind} is knows = subst (KnowsKind b kind) (sym is) knows
+
+module _ {b : List ℕ} {kind : Kind} {known : KnownKind} (knows : KnowsKind b kind known) where
+  pub kind_absent : (name : List ℕ) → is_among name (variable_names (content b)) ≡ false → has_name_among known.names name ≡ false
+  kind_absent name free = ap (λ (xs : List (List ℕ)). has_name_among xs name) knows.names_are ∙ free_of_kind (content b) kind name free
+
+  as_many : Good b → length known.names ≡ length known.places
+  as_many good =
+      let vs = shapes_of (shape b) kind in
+      ap (λ (xs : List (List ℕ)). length xs) knows.names_are ∙ length-map (variables_of (content b) kind) (λ (v : Variable). v.name)
+      ∙ ap (λ (xs : List Variable). length xs) (variables_are b (shape b) (good_is_sound b good).has_shape kind) ∙ length-map vs (variable_of b) ∙ sym (length-map vs (λ (v : VariableShape). v.vdr)) ∙ ap (λ (xs : List ℕ). length xs) (sym knows.places_are)
+
+  pub kind_few : Good b → length known.names < 4294967295
+  kind_few good = let few = few_places b good kind in let many = as_many good in let places = ap (λ (xs : List ℕ). length xs) knows.places_are in omega (arith, few, many, places)
+
+pub all_names : {b : List ℕ} {known : Known} → Knows b known → names_of known ≡ variable_names (content b)
+all_names knows = ap₂ (λ (xs ys : List (List ℕ)). xs ++ ys) knows.r_known.names_are knows.z_known.names_are
+
+-- ---- what is kept
+
+-- where those of one kind are others
+abbrev pub with_known : Known → Kind → KnownKind → Known
+with_known known R k = record known { r = k }
+with_known known Z k = record known { z = k }
+
+-- of an image with other variables of a kind
+pub kind_with : (b now : List ℕ) {k : KnownKind} {records unused : List ℕ} (xs : List Variable) (ws : List VariableShape) (kind : Kind) → content now ≡ with_variables (content b) kind xs → shape now ≡ with_shapes (shape b) kind records unused ws → k.names ≡ map (λ (v : Variable). v.name) xs → k.places ≡ vdrs ws → KnowsKind now kind k
+kind_with b now xs ws R made is names places = record { names_are = names ∙ ap (λ (d : DataSet). map (λ (v : Variable). v.name) d.r_variables) (sym made); places_are = places ∙ ap (λ (s : Shape). vdrs s.r_variables) (sym is) }
+kind_with b now xs ws Z made is names places = record { names_are = names ∙ ap (λ (d : DataSet). map (λ (v : Variable). v.name) d.z_variables) (sym made); places_are = places ∙ ap (λ (s : Shape). vdrs s.z_variables) (sym is) }
+
+pub others_with : (b now : List ℕ) {records unused : List ℕ} (xs : List Variable) (ws : List VariableShape) (kind : Kind) → content now ≡ with_variables (content b) kind xs → shape now ≡ with_shapes (shape b) kind records unused ws → OthersStay b now kind
+others_with b now xs ws R made is = λ known k. record { names_are = k.names_are ∙ ap (λ (d : DataSet). map (λ (v : Variable). v.name) d.z_variables) (sym made); places_are = k.places_are ∙ ap (λ (s : Shape). vdrs s.z_variables) (sym is) }
+others_with b now xs ws Z made is = λ known k. record { names_are = k.names_are ∙ ap (λ (d : DataSet). map (λ (v : Variable). v.name) d.r_variables) (sym made); places_are = k.places_are ∙ ap (λ (s : Shape). vdrs s.r_variables) (sym is) }
+
+-- of both kinds, where those of one are others
+pub knows_made : {b now : List ℕ} {kind : Kind} {view known : Known} {k : KnownKind} (of : Kind) → kind ≡ of → Knows b known → view ≡ known → KnowsKind now kind k → OthersStay b now kind → Knows now (with_known view of k)
+knows_made {b = b} {now = now} {view = view} {k = k} R e knows is mine others = record { r_known = subst (λ (x : Kind). KnowsKind now x k) e mine; z_known = subst (OthersStay b now) e others view.z (subst (Knows b) (sym is) knows).z_known }
+knows_made {b = b} {now = now} {view = view} {k = k} Z e knows is mine others = record { r_known = subst (OthersStay b now) e others view.r (subst (Knows b) (sym is) knows).r_known; z_known = subst (λ (x : Kind). KnowsKind now x k) e mine }
+
+pub knows_with : {b now : List ℕ} {known : Known} {k : KnownKind} {records unused : List ℕ} (xs : List Variable) (ws : List VariableShape) → Knows b known → (kind : Kind) → content now ≡ with_variables (content b) kind xs → shape now ≡ with_shapes (shape b) kind records unused ws → k.names ≡ map (λ (v : Variable). v.name) xs → k.places ≡ vdrs ws → Knows now (with_known known kind k)
+knows_with xs ws knows kind made is names places = knows_made kind refl knows refl (kind_with _ _ xs ws kind made is names places) (others_with _ _ xs ws kind made is)
+
+as_known : (known : Known) (kind : Kind) → with_known known kind (known_of known kind) ≡ known
+as_known known R = refl
+as_known known Z = refl
+
+with_own : (s : Shape) (kind : Kind) → s ≡ with_shapes s kind s.records s.unused (shapes_of s kind)
+with_own s R = refl
+with_own s Z = refl
+
+-- one with the name that it had
+pub same_name_set : (vs : List Variable) (n : ℕ) (x v : Variable) → slice_get vs n ≡ Some v → x.name ≡ v.name → map (λ (v : Variable). v.name) vs ≡ map (λ (v : Variable). v.name) (slice_set vs n x)
+same_name_set [] n x v there e = refl
+same_name_set (w ∷ vs) zero x v there e = ap (λ (name : List ℕ). name ∷ map (λ (v : Variable). v.name) vs) (ap (λ (y : Variable). y.name) (same_Some w v there) ∙ sym e)
+same_name_set (w ∷ vs) (suc n) x v there e = ap (λ (r : List (List ℕ)). w.name ∷ r) (same_name_set vs n x v there e)
+
+-- ---- its VDR is another
+
+module _ {b : List ℕ} (name : List ℕ) {known : Known} {id : VarId} (good : Good b) (knows : Knows b known) (found : found_among known name ≡ Some id) where
+  abbrev parts : Parts b known name id
+  parts = the_parts name good knows found
+
+  abbrev v : ℕ
+  v = parts.own.vdr
+
+  abbrev old : Variable
+  old = variable_of b parts.own
+
+  abbrev mine : Found
+  mine = record { kind = id.kind; number = length parts.before; variable = old }
+
+  -- what a command may change of it
+  vdr_may : (may : OwnAllowances) (others : List Field) → of_variable b (shape b) mine may others id.kind (length parts.before) v ≡ may.vdr
+  vdr_may = vdr_allowance b mine parts.before parts.own parts.after parts.at.was refl (typed good parts.at ∙ kind_type id.kind) (no_block good parts.at)
+
+  pub may_named : (all : Found → Allowances) → of_named (content b) name all ≡ all mine
+  may_named all = ap (λ (o : Option Found). elim o as (λ x. Allowances) [ None ↦ stays_all | Some f ↦ all f ]) parts.named
+
+  pub may_keep : (now : List ℕ) (all : Found → Allowances) (may : OwnAllowances) (others : List Field) → (all mine).variables id.kind (length parts.before) v ≡ of_variable b (shape b) mine may others id.kind (length parts.before) v → Keeps b now v may.vdr → Keeps b now v ((of_named (content b) name all).variables id.kind (length parts.before) v)
+  may_keep now all may others is keeps =
+      subst (λ (a : Allowances). Keeps b now v (a.variables id.kind (length parts.before) v)) (sym (may_named all)) (subst (Keeps b now v) (sym (is ∙ vdr_may may others)) keeps)
+
+  pub stands_there : slice_get (shapes_of (shape b) id.kind) (length parts.before) ≡ Some parts.own
+  stands_there = ap (λ (vs : List VariableShape). slice_get vs (length parts.before)) parts.at.was ∙ got-middle parts.before parts.own parts.after
+
+  -- what is said of it in both images is said of the one of its name
+  pub of_found : {now : List ℕ} {own' : VariableShape} (P : VariableShape → VariableShape → Type 0) → slice_get (shapes_of (shape now) id.kind) (length parts.before) ≡ Some own' → P parts.own own' → (f : Found) (w w' : VariableShape) → IsVariable b now name f w w' → P w w'
+  of_found {now = now} {own' = own'} P there holds f w w' is =
+      let same = same_Some mine f (sym parts.named ∙ is.named) in
+      let was = same_Some parts.own w (sym stands_there ∙ (λ i. slice_get (shapes_of (shape b) (same i).kind) (same i).number) ∙ is.before) in
+      let by = same_Some own' w' (sym there ∙ (λ i. slice_get (shapes_of (shape now) (same i).kind) (same i).number) ∙ is.after) in
+      subst (λ (u : VariableShape). P u w') was (subst (P parts.own) by holds)
+
+  pub own_known : KnowsKind b id.kind (known_of known id.kind)
+  own_known = knows_kind b known knows id.kind
+
+  -- it has the name that it had
+  pub same_names : (x : Variable) → x.name ≡ old.name → (known_of known id.kind).names ≡ map (λ (w : Variable). w.name) (slice_set (variables_of (content b) id.kind) (length parts.before) x)
+  same_names x same = own_known.names_are ∙ same_name_set (variables_of (content b) id.kind) (length parts.before) x old (item_found (content b) name _ parts.named) same
+
+  -- ---- where it stands
+
+  module _ {now : List ℕ} {marks : List Mark} (e : EditsVdr b now id.kind parts.own marks) {x : Variable} (here : variable_of now parts.own ≡ x) where
+    content_now : content now ≡ with_variable (content b) mine x
+    content_now = content_replaced good parts.at e ∙ ap (with_variable (content b) mine) here
+
+    shape_now : shape now ≡ with_shapes (shape b) id.kind (shape b).records (shape b).unused (shapes_of (shape b) id.kind)
+    shape_now = same_shape good parts.at e ∙ with_own (shape b) id.kind
+
+    pub still_there : slice_get (shapes_of (shape now) id.kind) (length parts.before) ≡ Some parts.own
+    still_there = ap (λ (s : Shape). slice_get (shapes_of s id.kind) (length parts.before)) (same_shape good parts.at e) ∙ stands_there
+
+    pub knows_named : Knows now (with_known known id.kind (record (known_of known id.kind) { names = slice_set (known_of known id.kind).names id.num x.name }))
+    knows_named =
+        let vs = variables_of (content b) id.kind in
+        knows_with _ _ knows id.kind content_now shape_now
+        (ap (λ (names : List (List ℕ)). slice_set names id.num x.name) own_known.names_are ∙ sym (map-set (λ (w : Variable). w.name) vs id.num x) ∙ ap (λ (n : ℕ). map (λ (w : Variable). w.name) (slice_set vs n x)) (sym parts.count)) own_known.places_are
+
+    pub knows_still : x.name ≡ old.name → Knows now known
+    knows_still same = subst (Knows now) (as_known known id.kind) (knows_with _ _ knows id.kind content_now shape_now (same_names x same) own_known.places_are)
+
+    module _ (c : Command) (changes : only_reads c ≡ false) (goes : step (content b) c ≡ ByStep (Go (with_variable (content b) mine x) Plain)) (keeps : Keeps b now v ((allowances b (content b) (shape b) c).variables id.kind (length parts.before) v)) (does : Does b c now []) (short : length b ≤ image_limit) where
+      pub follows_named : has_name now v vdr_name ≡ true → ((m : ℕ) → IsBeside (sound good parts.at) (splices good parts.at e) m → bytes_eq (name_in now v vdr_name) (name_in b m vdr_name) ≡ false) → Follows b c now
+      follows_named some apart = follows_by good parts.at e c Plain changes (goes ∙ ap (λ (d : DataSet). ByStep (Go d Plain)) (sym content_now)) (good_now good parts.at e short some apart) keeps does
+
+      pub follows_still : x.name ≡ old.name → Follows b c now
+      follows_still same =
+          let image = good_by_its_shape b good in
+          let named : name_in now v vdr_name ≡ name_in b v vdr_name = ap (λ (w : Variable). w.name) here ∙ same in
+          follows_named (ap (λ (n : List ℕ). not (length n == 0)) named ∙ (own_ruled good parts.at e image).0.0)
+          (λ m beside. ap (λ (n : List ℕ). bytes_eq n (name_in b m vdr_name)) named ∙ own_names_apart (sound good parts.at) (splices good parts.at e) image v m (inl refl) beside)
+
+  -- ---- a field of its VDR is written
+
+  pub field_lies : (f : Field) → f.place + f.width ≤ 340 → LiesIn b (get_or (known_of known id.kind).places id.num 0) f
+  field_lies f early = let there = vdr_there name good knows found in let is = parts.place_is in omega (arith, there, is, early)
+
+  place_in : {kind : Kind} → id.kind ≡ kind → get_or (known_of known kind).places id.num 0 ≡ v
+  place_in of = ap (λ (k : Kind). get_or (known_of known k).places id.num 0) (sym of) ∙ parts.place_is
+
+  own_lies : (f : Field) → f.place + f.width ≤ 340 → LiesIn b v f
+  own_lies f early = let there = vdr_there name good knows found in omega (arith, there, early)
+
+  -- `rename-var`
+  pub may_rename : {kind : Kind} → id.kind ≡ kind → (to : List ℕ) → is_among to (variable_names (content b)) ≡ false → MayRename b (known_of known kind) id.num to
+  may_rename of to free = subst (λ (k : Kind). MayRename b (known_of known k) id.num to) of (record {
+    named = let many = as_many own_known good in let within = within_places name good knows found in omega (arith, many, within);
+    placed = within_places name good knows found;
+    absent = kind_absent own_known to free;
+    few = kind_few own_known good;
+    field = field_lies vdr_name (omega arith);
+  })
+
+  module _ {now : List ℕ} (to : List ℕ) (fine : is_bad_name to ≡ false) {kind : Kind} (of : id.kind ≡ kind) (written : now ≡ with_name b (get_or (known_of known kind).places id.num 0) vdr_name to) where
+    named_there : with_name b v vdr_name to ≡ now
+    named_there = ap (λ (p : ℕ). with_name b p vdr_name to) (sym (place_in of)) ∙ sym written
+
+    lies : LiesIn b v vdr_name
+    lies = own_lies vdr_name (omega arith)
+
+    writes_name : WritesVdr b now v vdr_name
+    writes_name = subst (λ (x : List ℕ). WritesVdr b x v vdr_name) named_there (record { late = omega arith; early = omega arith; changed = name_changed b v vdr_name to lies (fine_is_short to fine); as_long = length-with_name b v vdr_name to lies (fine_is_short to fine) })
+
+    named : name_in now v vdr_name ≡ to
+    named = subst (λ (x : List ℕ). name_in x v vdr_name ≡ to) named_there (name_reads b v vdr_name to lies (fine_is_short to fine) (fine_has_no_zeros to fine))
+
+    filled : IsFilled now v vdr_name to
+    filled = subst (λ (x : List ℕ). IsFilled x v vdr_name to) named_there (name_filled b v vdr_name to lies (fine_is_short to fine))
+
+    renamed : variable_of now parts.own ≡ record old { name = to }
+    renamed = let blocking = blocking_same good parts.at writes_name (omega arith) in meaning good parts.at writes_name ∙ (λ i. record old { name = named i; blocking = blocking i })
+
+    pub rename_knows : Knows now (with_known known kind (record (known_of known kind) { names = slice_set (known_of known kind).names id.num to }))
+    rename_knows = subst (λ (k : Kind). Knows now (with_known known k (record (known_of known k) { names = slice_set (known_of known k).names id.num to }))) of (knows_named (edits good parts.at writes_name) renamed)
+
+    pub rename_done : is_among to (variable_names (content b)) ≡ false → (limit : ℕ) → length b ≤ limit → limit ≤ image_limit → Answers limit b (RenameVar name to) (Done Plain) now
+    rename_done free limit fits short =
+        let e = edits good parts.at writes_name in
+        let goes : step (content b) (RenameVar name to) ≡ ByStep (Go (with_variable (content b) mine (record old { name = to })) Plain) = rw (parts.named, fine, free) refl in
+        gone limit b (RenameVar name to) _ Plain now goes (omega arith) (follows_named e renamed (RenameVar name to) refl goes
+        (may_keep now (rename_var_changes b (shape b)) (record stays_own { vdr = Only (vdr_name ∷ []) }) [] refl (keeps_vdr good parts.at e (vdr_name ∷ []) (marks_within good parts.at writes_name)))
+        (of_found (λ u u'. RenamesVariable now to u' []) (still_there e renamed) (record { acts_are = refl; named = filled }))
+        (omega arith) (ap (λ (n : List ℕ). not (length n == 0)) named ∙ ap not (fine_is_some to fine))
+        (λ m beside. ap (λ (n : List ℕ). bytes_eq n (name_in b m vdr_name)) named ∙ absent_from b good to free m (beside_in (sound good parts.at) (splices good parts.at e) m beside)))
+
+  -- `set-blocking`
+  module _ {now : List ℕ} (n : ℕ) (within : n ≤ signed_limit) {place : ℕ} (is : place ≡ get_or (known_of known id.kind).places id.num 0) (written : now ≡ with_field b place vdr_blocking_factor (cast_unsigned w32 (cast_signed w32 n))) where
+    blocked_there : with_field b v vdr_blocking_factor (cast_unsigned w32 (pos n)) ≡ now
+    blocked_there =
+        let place_is = sym parts.place_is ∙ sym is in
+        let number = sym (to_z_pos w32 n (omega arith)) in
+        (λ i. with_field b (place_is i) vdr_blocking_factor (cast_unsigned w32 (number i))) ∙ sym written
+
+    factor_lies : LiesIn b v vdr_blocking_factor
+    factor_lies = own_lies vdr_blocking_factor (omega arith)
+
+    writes_factor : WritesVdr b now v vdr_blocking_factor
+    writes_factor = subst (λ (x : List ℕ). WritesVdr b x v vdr_blocking_factor) blocked_there (record {
+      late = omega arith;
+      early = omega arith;
+      changed = record { longer = omega (arith, length-with_field b v vdr_blocking_factor (cast_unsigned w32 (pos n)) factor_lies); same = λ i lt out. other_bytes b v vdr_blocking_factor (cast_unsigned w32 (pos n)) i factor_lies out.0 };
+      as_long = length-with_field b v vdr_blocking_factor (cast_unsigned w32 (pos n)) factor_lies;
+    })
+
+    blocked : variable_of now parts.own ≡ record old { blocking = pos n }
+    blocked =
+        let says : integer4 now v vdr_blocking_factor ≡ pos n = subst (λ (x : List ℕ). integer4 x v vdr_blocking_factor ≡ pos n) blocked_there (field_reads4 b v vdr_blocking_factor (pos n) refl factor_lies (omega arith)) in
+        let same = name_same good parts.at writes_factor (omega arith) in
+        meaning good parts.at writes_factor ∙ (λ i. record old { name = same i; blocking = says i })
+
+    pub blocking_knows : Knows now known
+    blocking_knows = knows_still (edits good parts.at writes_factor) blocked refl
+
+    pub blocking_done : (limit : ℕ) → length b ≤ limit → limit ≤ image_limit → Answers limit b (SetBlocking name n) (Done Plain) now
+    blocking_done limit fits short =
+        let e = edits good parts.at writes_factor in
+        let test : nat_lt signed_limit n ≡ false = le-ltb signed_limit n within in
+        let goes : step (content b) (SetBlocking name n) ≡ ByStep (Go (with_variable (content b) mine (record old { blocking = pos n })) Plain) = rw (parts.named, test) refl in
+        gone limit b (SetBlocking name n) _ Plain now goes (omega arith) (follows_still e blocked (SetBlocking name n) refl goes
+        (may_keep now (set_blocking_changes b (shape b)) (record stays_own { vdr = Only (vdr_blocking_factor ∷ []) }) [] refl (keeps_vdr good parts.at e (vdr_blocking_factor ∷ []) (marks_within good parts.at writes_factor)))
+        refl (omega arith) refl)
