@@ -14,7 +14,7 @@ use Rattle.cdf_model.specs.DataSet.{DataSet}
 use Rattle.cdf_model.specs.Encodings.{encoding_at}
 use Rattle.cdf_model.specs.Limits.{image_limit}
 use Rattle.cdf_model.specs.VariableSteps.{are_bad_sizes, is_empty_set}
-use Rattle.cdf_edits.specs.Commands.Allowances.{AllKeep, FreedStays, GivenStay, Stays, space_fields}
+use Rattle.cdf_edits.specs.Commands.Allowances.{AllKeep, FreedStays, Stays, space_fields}
 use Rattle.cdf_edits.specs.Commands.NewRecords.{with_bits}
 use Rattle.cdf_edits.specs.Commands.Setup.{SetsUp, majority_bit, setup_changes}
 use Rattle.cdf_edits.specs.Edits.Edit.{Edit}
@@ -129,10 +129,7 @@ module _ {x y records list : List ℕ} {old g code bits : ℕ} {dims : List ℕ}
   w1 = let few = few_dims dims fine in wrote h.tiled is refl (omega arith) (omega arith) (omega arith) refl
 
   lies : g + 84 + 4 * n ≤ length one
-  lies = reach g (size_at one g) (length one) n (tile_lies one 8 (length one) records g w1.edit.tiled_now w1.stands.inside).high w1.stands.long
-    where
-      reach : (g k l n : ℕ) → g + k ≤ l → 84 + 4 * n ≤ k → g + 84 + 4 * n ≤ l
-      reach g k l n p q = omega arith
+  lies = let l = w1.long in let r = w.lies in omega arith
 
   long_2 : length w.mid ≡ length one
   long_2 = ap length w.dims_are ∙ length-put one (g + 84) bytes (let l = lies in let b = length-words dims in omega arith)
@@ -177,21 +174,22 @@ module _ {x y records list : List ℕ} {old g code bits : ℕ} {dims : List ℕ}
   dims_counted : r_num_dims y g ≡ n
   dims_counted = let few = few_dims dims fine in ap (λ (k : ℕ). counted (cast_signed w32 k)) count_is ∙ small_signed n (omega arith)
 
-  sizes_are : words y (g + 84) n ≡ dims
-  sizes_are =
-      words_kept w.mid y (g + 84) (g + (84 + 4 * n)) (part_clear cdr_edit g gdr_type 84 (84 + 4 * n) gdr_2.inside gdr_2.typed refl refl gdr_2.long) (g + 84) n (omega arith) (up g n)
-      ∙ (words_laid_out w.mid (g + 84) dims (drop (g + 84 + length bytes) one) (ap (drop (g + 84)) w.dims_are ∙ drop-put_there one bytes (g + 84) (let l = lies in omega arith)) (small_dims dims fine)).0
+  pub heads_say : HeadsSay y g code bits dims
+  heads_say =
+      let kept = part_clear cdr_edit g gdr_type 84 (84 + 4 * n) gdr_2.inside gdr_2.typed refl refl gdr_2.long in
+      let there = ap (drop (g + 84)) w.dims_are ∙ drop-put_there one bytes (g + 84) (let l = lies in omega arith) in
+      record {
+        encoding_is = still_says w5.edit w4.stands refl cdr_encoding refl (omega arith) ∙ w4.says;
+        flags_are = w5.says;
+        count_is = count_is;
+        sizes_are =
+            ap (words y (g + 84)) dims_counted
+            ∙ words_kept w.mid y (g + 84) (g + (84 + 4 * n)) kept (g + 84) n (omega arith) (up g n)
+            ∙ (words_laid_out w.mid (g + 84) dims (drop (g + 84 + length bytes) one) there (small_dims dims fine)).0;
+      }
     where
       up : (g n : ℕ) → g + 84 + 4 * n ≤ g + (84 + 4 * n)
       up g n = omega arith
-
-  pub heads_say : HeadsSay y g code bits dims
-  heads_say = record {
-    encoding_is = still_says w5.edit w4.stands refl cdr_encoding refl (omega arith) ∙ w4.says;
-    flags_are = w5.says;
-    count_is = count_is;
-    sizes_are = ap (words y (g + 84)) dims_counted ∙ sizes_are;
-  }
 
   -- another field of the GDR
   pub gdr_still : (f : Field) → is_beside f.place (f.place + f.width) ≡ true → number y g f ≡ number x g f
@@ -636,11 +634,8 @@ module _ (b dims : List ℕ) (good : Good b) (empty : is_empty_set (content b) �
       all : Edit b now s.records records (make_marks ++ given_marks) (place ∷ old ∷ [])
       all = edit_then made given
 
-      now_is : shape now ≡ empty_shape records place (shape now).unused
-      now_is = gives.space.rest_stays ∙ ap (λ (r : List ℕ). with_space late_own r (shape now).unused) gives.records_stay
-
       now_sound : IsSound now (empty_shape records place (shape now).unused)
-      now_sound = subst (IsSound now) now_is free.1
+      now_sound = subst (IsSound now) (gives.space.rest_stays ∙ ap (λ (r : List ℕ). with_space late_own r (shape now).unused) gives.records_stay) free.1
 
       h : HasShape now (empty_shape records place (shape now).unused)
       h = now_sound.has_shape
@@ -691,20 +686,8 @@ module _ (b dims : List ℕ) (good : Good b) (empty : is_empty_set (content b) �
       abbrev acts : List Act
       acts = Took place need ∷ Gave old (size_at b old) ∷ []
 
-      sizes : (k : ℕ) → In k records → size_at now k ≡ size_at late k
-      sizes = sizes_by_tiles late now 8 8 (length late) records refl late_shape.tiled (subst (λ (x : ℕ). AreTiles now 8 x records) gives.length_is given.tiled_now)
-
       behind : (k : ℕ) → In k (old ∷ []) → Same late now (k + links_end (size_at late k)) (k + size_at late k)
       behind k i = subst (λ (x : ℕ). Same late now (x + links_end (size_at late x)) (x + size_at late x)) (sym (the_one old k i)) (behind_one late_shape gives there old there place_not_old)
-
-      freed : GivenStay b now (λ type. space_fields) acts acts
-      freed =
-          let stand = λ (k : ℕ) (i : In k (old ∷ [])). subst (λ (x : ℕ). In x records) (sym (the_one old k i)) there in
-          let late_stay = freed_stay late now acts (old ∷ []) (λ type. space_fields) (subst (AreTiles now 8 (length now)) (sym gives.records_stay) h.tiled) (λ k i. subst (In k) (sym gives.records_stay) (stand k i)) (λ k i. sizes k (stand k i)) behind in (
-            each (FreedStays b now acts old (size_at b old) space_fields) (unused_records now (shape now)) (λ uir j i lt low high out untaken.
-                each_in (FreedStays late now acts old (size_at late old) space_fields) (unused_records now (shape now)) uir late_stay.0 j i (let e = old_stays.size_is in omega arith) low high out untaken ∙ old_stays.same i lt out),
-            tt,
-          )
 
       joins : nat_le 28 (size_at late old) ≡ true
       joins = le-leb 28 (size_at late old) (let l = old_long in let e = old_stays.size_is in omega arith)
@@ -721,7 +704,7 @@ module _ (b dims : List ℕ) (good : Good b) (empty : is_empty_set (content b) �
 
       old_head : number now old gdr_uir_head ≡ next_of now old
       old_head =
-          let chain : IsChain now records uir_type (number now place gdr_uir_head) (old ∷ list) = subst (IsChain now records uir_type (number now place gdr_uir_head)) now_list h.unused_chain in
+          let chain = subst (IsChain now records uir_type (number now place gdr_uir_head)) now_list h.unused_chain in
           old_field gdr_uir_head (omega arith) (omega arith) ∙ same_link late now _ _ list (list_chain sound fills later as_long lately).leads chain.leads.1
 
       old_eof : number now old gdr_eof ≡ length now
@@ -734,24 +717,6 @@ module _ (b dims : List ℕ) (good : Good b) (empty : is_empty_set (content b) �
 
       moved : (f : Field) → number now place f ≡ number b old f → number now (gdr_offset now) f ≡ number b (gdr_offset b) f
       moved f same = ap (λ (g : ℕ). number now g f) h.gdr_is ∙ same ∙ sym (ap (λ (g : ℕ). number b g f) at)
-
-      acts_follow : ActsFollow b now acts
-      acts_follow =
-          let took = acts_took sound fills later as_long lately late_records (ap (λ (x : Shape). x.unused) late_is) in
-          let used : type_at late (gdr_offset b) ≢ uir_type = λ u. apart gdr_type uir_type refl (sym (ap (type_at late) at ∙ late_typed) ∙ u) in
-          subst (λ (k : ℕ). ActsFollow b now (Took place need ∷ Gave old k ∷ [])) old_stays.size_is (subst (λ (g : ℕ). ActsFollow b now (Took place need ∷ Gave g (size_at late g) ∷ [])) at
-          (acts_gave sound.has_shape took late_sound (old_stands (gdr_offset b) refl) used free.0))
-
-      unused_stay : AllKeep b now setup_changes acts (owned_by Unused (unused_records b s))
-      unused_stay =
-          let links = uir_next_uir ∷ uir_prev_uir ∷ [] in
-          keep_unused sound all gives.records_stay setup_changes acts
-          (λ k i left.
-          let l = listed_marks sound fills later as_long lately late_records k i left in
-          (Avoids-append make_marks given_marks uir_type k 0 12 l.0 (avoided-avoids given_marks uir_type k 0 12 refl), Within-append make_marks given_marks uir_type k links l.1 (within-within given_marks uir_type k links refl)))
-          (λ k i out.
-          let off = λ (j : In k list). out (listed_before sound fills later as_long lately k i j) in
-          Away-append make_marks given_marks uir_type k (loose_away sound fills later as_long lately k i out) ((λ q lies. apart uir_type gdr_type refl q), ((λ q lies. off lies), ((λ q lies. apart uir_type gdr_type refl q), tt))))
 
       moved_set : IsSetUp b now records (shape now).unused place code bits majority dims (make_marks ++ given_marks) (place ∷ old ∷ []) acts
       moved_set = record {
@@ -776,8 +741,20 @@ module _ (b dims : List ℕ) (good : Good b) (empty : is_empty_set (content b) �
           | inr again ↦ elim again [ inl q ↦ q | inr last ↦ absurd (used (ap (type_at now) (the_one old k last) ∙ freed_type)) ]
         ];
         takes_within = omega arith;
-        acts_follow = acts_follow;
-        unused_stay = unused_stay;
+        acts_follow =
+            let took = acts_took sound fills later as_long lately late_records (ap (λ (x : Shape). x.unused) late_is) in
+            let used : type_at late (gdr_offset b) ≢ uir_type = λ u. apart gdr_type uir_type refl (sym (ap (type_at late) at ∙ late_typed) ∙ u) in
+            subst (λ (k : ℕ). ActsFollow b now (Took place need ∷ Gave old k ∷ [])) old_stays.size_is (subst (λ (g : ℕ). ActsFollow b now (Took place need ∷ Gave g (size_at late g) ∷ [])) at
+            (acts_gave sound.has_shape took late_sound (old_stands (gdr_offset b) refl) used free.0));
+        unused_stay =
+            let links = uir_next_uir ∷ uir_prev_uir ∷ [] in
+            keep_unused sound all gives.records_stay setup_changes acts
+            (λ k i left.
+            let l = listed_marks sound fills later as_long lately late_records k i left in
+            (Avoids-append make_marks given_marks uir_type k 0 12 l.0 (avoided-avoids given_marks uir_type k 0 12 refl), Within-append make_marks given_marks uir_type k links l.1 (within-within given_marks uir_type k links refl)))
+            (λ k i out.
+            let off = λ (j : In k list). out (listed_before sound fills later as_long lately k i j) in
+            Away-append make_marks given_marks uir_type k (loose_away sound fills later as_long lately k i out) ((λ q lies. apart uir_type gdr_type refl q), ((λ q lies. off lies), ((λ q lies. apart uir_type gdr_type refl q), tt))));
         does = record {
           acts_are = rw (lt-leb need (size_at b (gdr_offset b)) large) (λ i. Took (sym h.gdr_is i) need ∷ Gave (sym at i) (size_at b (sym at i)) ∷ []);
           flags_are = now_says.flags_are ∙ bits_are;
@@ -789,7 +766,14 @@ module _ (b dims : List ℕ) (good : Good b) (empty : is_empty_set (content b) �
             ),
           );
           room = λ le. absurd (omega (arith, large, le));
-          freed = freed;
+          freed =
+              let sizes = sizes_by_tiles late now 8 8 (length late) records refl late_shape.tiled (subst (λ (x : ℕ). AreTiles now 8 x records) gives.length_is given.tiled_now) in
+              let stand = λ (k : ℕ) (i : In k (old ∷ [])). subst (λ (x : ℕ). In x records) (sym (the_one old k i)) there in
+              let late_stay = freed_stay late now acts (old ∷ []) (λ type. space_fields) (subst (AreTiles now 8 (length now)) (sym gives.records_stay) h.tiled) (λ k i. subst (In k) (sym gives.records_stay) (stand k i)) (λ k i. sizes k (stand k i)) behind in (
+                each (FreedStays b now acts old (size_at b old) space_fields) (unused_records now (shape now)) (λ uir j i lt low high out untaken.
+                    each_in (FreedStays late now acts old (size_at late old) space_fields) (unused_records now (shape now)) uir late_stay.0 j i (let e = old_stays.size_is in omega arith) low high out untaken ∙ old_stays.same i lt out),
+                tt,
+              );
           emptied = λ apart_from. (inr (subst (λ (g : ℕ). number now g gdr_uir_head ≡ next_of now g) (sym at) old_head), (inr (subst (λ (g : ℕ). number now g gdr_eof ≡ length now) (sym at) old_eof), tt));
         };
       }

@@ -1,5 +1,5 @@
 -- What the steps of `setup` leave of an image (own).
-use Rattle.std.specs.Prelude.{◌≡◌, ℕ, ◌+◌, ◌*◌, ◌^◌, ◌<◌, List, length, take, drop}
+use Rattle.std.specs.Prelude.{◌≡◌, ℕ, ◌+◌, ◌*◌, ◌^◌, ◌<◌, ◌≤◌, List, length, take, drop}
 use Rattle.cdf_base.specs.Bytes.{put}
 use Rattle.cdf_edits.specs.Space.Giving.{IsGiven}
 use Rattle.cdf_edits.specs.Space.Taking.{IsTaken}
@@ -16,11 +16,12 @@ with_dims b gdr dims = put (with_field b gdr gdr_r_num_dims (length dims)) (gdr 
 abbrev pub with_cdr : List ℕ → ℕ → ℕ → ℕ → List ℕ
 with_cdr b gdr code bits = with_field (with_field (with_field b 8 cdr_gdr_offset gdr) 8 cdr_encoding code) 8 cdr_flags bits
 
--- The dimensions are written into the GDR at a place, and then the CDR, which leads to it; each number has room in its field.
+-- The dimensions are written into the GDR at a place, and then the CDR, which leads to it; they lie in the image, and each number has room in its field.
 pub record WritesHeads (b now : List ℕ) (gdr code bits : ℕ) (dims : List ℕ) : Type 0 where
   pub mid : List ℕ
   pub dims_are : mid ≡ with_dims b gdr dims
   pub cdr_is : now ≡ with_cdr mid gdr code bits
+  pub lies : gdr + 84 + 4 * length dims ≤ length b
   pub gdr_fits : gdr < 256 ^ 8
   pub code_fits : code < 256 ^ 4
   pub bits_fit : bits < 256 ^ 4

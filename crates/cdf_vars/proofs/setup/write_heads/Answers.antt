@@ -29,6 +29,7 @@ returns-clause-written g c =
       mid = g.A.Area.image c.set.new.self;
       dims_are = c.in_ok-set.ensures.written ∙ (λ i. put (count i) (c.args.gdr + 84) (bytes i));
       cdr_is = third ∙ ap (λ (x : List ℕ). with_field x 8 cdr_flags c.args.flags) second;
+      lies = c.requires.room;
       gdr_fits = c.ranges.gdr.fits;
       code_fits = c.ranges.encoding.fits;
       bits_fit = c.ranges.flags.fits;
