@@ -2,27 +2,36 @@
 use Rattle.std.proofs.Common.{◌≡◌, ◌≢◌, ℕ, ℤ, ◌+◌, ◌≤◌, List, [], ◌∷◌, ◌++◌, length, eq-eqb, true, true≢false, refl, sym, ap, subst, ◌∙◌, arith, inl, inr, eqb}
 use Rattle.std.specs.Int.{w32, cast_unsigned}
 use Rattle.std.specs.Prelude.{FitsSigned}
+use Rattle.std.proofs.lemmas.Bool.{cases_eq, eqb-true, ne_eqb}
+use Rattle.cdf_base.specs.Bytes.{put}
 use Rattle.cdf_model.specs.declared.kinds.EntryKind.{EntryKind}
+use Rattle.cdf_model.specs.declared.kinds.EntryKind.TheVariants as entries
 use Rattle.cdf_format.specs.Bytes.{Same}
 use Rattle.cdf_format.specs.Chains.{is_in, IsChain}
 use Rattle.cdf_format.specs.Fields.{eof, number, integer4, size_at, type_at}
 use Rattle.cdf_format.specs.NotRead.{read_types}
 use Rattle.cdf_format.specs.Owners.{attribute_records, times, Unused, unused_records}
 use Rattle.cdf_format.specs.RecordTypes.{gdr_type, adr_type, uir_type, is_record_type, fixed_size}
+use Rattle.cdf_format.specs.Records.{Field, field, gdr_eof, gdr_uir_head}
 use Rattle.cdf_format.specs.Shape.{AttributeShape, shape}
 use Rattle.cdf_format.specs.Sound.{EntryFits, IsSound}
 use Rattle.cdf_format.specs.Tiles.{In}
+use Rattle.cdf_format.specs.WellFormed.{Good}
+use Rattle.cdf_format.proofs.BytesLemmas.{length-put}
 use Rattle.cdf_format.proofs.ChainsLemmas.{linkable-in, linkable-type}
 use Rattle.cdf_format.proofs.Owning.{times-none}
+use Rattle.cdf_format.proofs.TilesLemmas.{tile_lies}
 use Rattle.cdf_edits.specs.Commands.Allowances.{space_fields}
 use Rattle.cdf_edits.specs.Commands.EntryChains.{chain_of, chain_fields, entry_type, max_field}
 use Rattle.cdf_edits.specs.Edits.Edit.{Edit}
 use Rattle.cdf_edits.specs.Edits.EntryMarks.{entries_chain, count_field, keeps_but_chain, head_field}
 use Rattle.cdf_edits.specs.Edits.Marks.{Mark, Confined, attribute_types, avoided, ended, within, making_marks, giving_marks, field_marks, is_late, Avoids, Away}
+use Rattle.cdf_edits.specs.Frame.Changed.{touched_field}
 use Rattle.cdf_edits.specs.Space.Acts.{ActsFollow, Took}
 use Rattle.cdf_edits.specs.Space.Adding.{Added, Exchanged, Joined, adding_marks}
 use Rattle.cdf_edits.specs.Space.Chains.{counted_in, members_of, with_in_place}
 use Rattle.cdf_edits.specs.Space.Placing.{Fills, type_of_body}
+use Rattle.cdf_edits.proofs.Commands.KeptRecords.{keep_owned}
 use Rattle.cdf_edits.proofs.Edits.AttributeFrame.{AreThere}
 use Rattle.cdf_edits.proofs.Edits.ChainKept.{records_are, list_is}
 use Rattle.cdf_edits.proofs.Edits.ChainKinds.{chain_has, chain_in}
@@ -39,23 +48,14 @@ use Rattle.cdf_edits.proofs.Edits.MadeRecord.{end_now, filled_edit, fresh, list_
 use Rattle.cdf_edits.proofs.Edits.MarkLemmas.{avoided-avoids, ended-avoids, the_one, away-avoids}
 use Rattle.cdf_edits.proofs.Edits.OneChain.{Settled, end_before}
 use Rattle.cdf_edits.proofs.Edits.OwnedOnce.{used_times}
+use Rattle.cdf_edits.proofs.Edits.OwnersKept.{stood}
 use Rattle.cdf_edits.proofs.Edits.RecordFrame.{kept_but_link, field_clear, chain_stays, chain_clear, kept}
 use Rattle.cdf_edits.proofs.Edits.Splice.{parts_there, adr_stands}
-use Rattle.cdf_edits.proofs.Frame.Meaning.{KeptButLink}
-use Rattle.std.proofs.lemmas.Bool.{cases_eq, eqb-true, ne_eqb}
-use Rattle.cdf_base.specs.Bytes.{put}
-use Rattle.cdf_format.specs.Records.{Field, field, gdr_eof, gdr_uir_head}
-use Rattle.cdf_format.specs.WellFormed.{Good}
-use Rattle.cdf_format.proofs.BytesLemmas.{length-put}
-use Rattle.cdf_format.proofs.TilesLemmas.{tile_lies}
-use Rattle.cdf_edits.specs.Frame.Changed.{touched_field}
-use Rattle.cdf_edits.proofs.Edits.OwnersKept.{stood}
-use Rattle.cdf_edits.proofs.Commands.KeptRecords.{keep_owned}
-use Rattle.cdf_edits.proofs.Frame.OwnersApart.{unused_in}
-use Rattle.cdf_edits.proofs.Space.UsedRecords.{filter-says}
 use Rattle.cdf_edits.proofs.Edits.StepEdits.{gdr_in, gdr_typed, gdr_long, some_bytes}
 use Rattle.cdf_edits.proofs.Frame.ChangedBytes.{changed_put}
-use Rattle.cdf_model.specs.declared.kinds.EntryKind.TheVariants as entries
+use Rattle.cdf_edits.proofs.Frame.Meaning.{KeptButLink}
+use Rattle.cdf_edits.proofs.Frame.OwnersApart.{unused_in}
+use Rattle.cdf_edits.proofs.Space.UsedRecords.{filter-says}
 
 -- one takes its own place
 pub in_its_place : (old : ℕ) (es : List ℕ) → with_in_place old old es ≡ es
