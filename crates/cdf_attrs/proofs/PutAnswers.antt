@@ -46,9 +46,10 @@ use Rattle.cdf_attrs.proofs.ValueWords.{whole}
 pub greatest_of : (n : ℕ) (xs : List ℕ) → In (fold max n xs) (n ∷ xs) × ((k : ℕ) → In k (n ∷ xs) → k ≤ fold max n xs)
 greatest_of n [] = (inl refl, λ k i. elim i [ inl e ↦ omega (arith, e) | inr none ↦ absurd none ])
 greatest_of n (x ∷ xs) =
-    let r = greatest_of (max n x) xs in
-    (elim r.0 [ inl e ↦ elim (cases_lt x n) [ inl lt ↦ inl (omega (arith, e)) | inr ge ↦ inr (inl (omega (arith, e))) ] | inr i ↦ inr (inr i) ],
-      λ k i. let top = r.1 (max n x) (inl refl) in elim i [ inl e ↦ omega (arith, e) | inr j ↦ elim j [ inl e ↦ omega (arith, e) | inr l ↦ r.1 k (inr l) ] ])
+    let r = greatest_of (max n x) xs in (
+      elim r.0 [ inl e ↦ elim (cases_lt x n) [ inl lt ↦ inl (omega (arith, e)) | inr ge ↦ inr (inl (omega (arith, e))) ] | inr i ↦ inr (inr i) ],
+      λ k i. let top = r.1 (max n x) (inl refl) in elim i [ inl e ↦ omega (arith, e) | inr j ↦ elim j [ inl e ↦ omega (arith, e) | inr l ↦ r.1 k (inr l) ] ],
+    )
 
 module _ {b attr : List ℕ} {kind : EntryKind} {n : ℕ} {chain : Chain} (found : FindsChain b attr kind n chain) where
   -- the greatest of them and of a number fits a field

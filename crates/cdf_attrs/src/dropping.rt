@@ -20,9 +20,9 @@ ghost use Rattle.cdf_model.specs.Limits.{image_limit, signed_limit};
 
 use crate::attrs::Attrs;
 use crate::chain_fields::{entries_chain, set_greatest};
-use crate::numbering::{Numbered, set_numbers};
 use crate::entry_chain::EntryChain;
 use crate::finding::is_global;
+use crate::numbering::{Numbered, set_numbers};
 use crate::reading::read_scope;
 use crate::removing::{greatest, remove_at};
 use cdf_area::{Area, AreaError};

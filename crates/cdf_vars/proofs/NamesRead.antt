@@ -25,7 +25,6 @@ use Rattle.cdf_vars.specs.Reading.{AreNamed, items_at}
 use Rattle.cdf_vars.proofs.VariableChains.{variable_members}
 use Rattle.cdf_vars.proofs.VariableNames.{are_named, items_read, names_read, variable_names_are}
 
-
 module _ (b places : List ℕ) (named : AreNamed b places) where
   -- all names
   pub all_named : (names : List (List ℕ)) (i : ℕ) → names ≡ map (name_at b) (take i places) → length places ≤ i → names ≡ map (name_at b) places
