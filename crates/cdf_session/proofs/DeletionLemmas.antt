@@ -8,7 +8,7 @@ use Rattle.cdf_format.specs.Content.{content}
 use Rattle.cdf_format.specs.Shape.{adrs, vdrs}
 use Rattle.cdf_format.specs.WellFormed.{Good}
 use Rattle.cdf_model.specs.DataSet.{DataSet, Variable}
-use Rattle.cdf_model.specs.Names.{Found, attribute_names, variables_of, with_variables}
+use Rattle.cdf_model.specs.Names.{Found, attribute_names, variable_named, variables_of, with_variables}
 use Rattle.cdf_model.specs.declared.kinds.Kind.{Kind}
 use Rattle.cdf_model.specs.declared.kinds.Kind.TheVariants.{R, Z}
 use Rattle.cdf_edits.specs.Answers.{Answers}
@@ -21,7 +21,7 @@ use Rattle.cdf_model.specs.declared.command.Command.TheVariants.{DelVar}
 use Rattle.cdf_vars.specs.Finding.{found_among}
 use Rattle.cdf_vars.specs.Known.{Known as KnownVariables, KnownKind, KnowsKind, Knows as KnowsVariables, known_of}
 use Rattle.cdf_vars.specs.declared.vars.VarId.{VarId}
-use Rattle.cdf_vars.proofs.VariableFound.{IsFound, found_stands}
+use Rattle.cdf_vars.proofs.VariableFound.{Parts, the_parts}
 
 same_names : (d : DataSet) (kind : Kind) (vs : List Variable) → attribute_names (with_variables d kind vs) ≡ attribute_names d
 same_names d R vs = refl
@@ -61,11 +61,14 @@ module _ {b now : List ℕ} {found : Found} (drops : DropsEntries b found now) w
 -- ---- a variable that is found by its name, and whose entries went
 
 module _ {b mid : List ℕ} {known : KnownVariables} (name : List ℕ) {id : VarId} (good : Good b) (knows : KnowsVariables b known) (is : found_among known name ≡ Some id) (dropped : (found : Found) → found.kind ≡ id.kind → found.number ≡ id.num → DropsEntries b found mid) where
-  there : IsFound b known name id
-  there = found_stands b known name id good knows is
+  there : Parts b known name id
+  there = the_parts name good knows is
 
   abbrev found : Found
   found = record { kind = id.kind; number = id.num; variable = variable_of b there.own }
+
+  named : variable_named (content b) name ≡ Some found
+  named = there.named ∙ (λ i. Some (record { kind = id.kind; number = there.count i; variable = variable_of b there.own }))
 
   drops : DropsEntries b found mid
   drops = dropped found refl refl
@@ -86,7 +89,7 @@ module _ {b mid : List ℕ} {known : KnownVariables} (name : List ℕ) {id : Var
   short_between short = let l = drops.long in omega arith
 
   pub is_deleted : {now : List ℕ} (limit : ℕ) → length b ≤ limit → limit ≤ image_limit → RemovesVariable mid now id.kind id.num → Answers limit b (DelVar name) (Done Plain) now
-  is_deleted limit fits most removes = delete_done good drops removes name there.named limit fits (omega arith)
+  is_deleted limit fits most removes = delete_done good drops removes name named limit fits (omega arith)
 
 -- nothing but the entries of one chain was let go
 pub forgets : {b : List ℕ} {known after : Known} → Knows b known → after ≡ record known { entries = None } → Knows b after
