@@ -1,22 +1,9 @@
 -- The chain of the attributes, as an image with a shape has it.
 use Rattle.std.proofs.Common.{◌≡◌, ℕ, zero, suc, ◌+◌, ◌<◌, ◌≤◌, List, [], ◌∷◌, length, slice_index, refl, sym, ap, subst, ◌∙◌, arith, inl, inr}
-use Rattle.std.proofs.lemmas.List.{length-map}
-use Rattle.cdf_model.specs.Names.{attribute_names}
-use Rattle.cdf_format.specs.Fields.{number, size_at, gdr_offset, LiesIn}
-use Rattle.cdf_format.specs.Records.{gdr_adr_head, adr_name}
-use Rattle.cdf_format.specs.RecordTypes.{adr_type, fixed_size}
-use Rattle.cdf_format.specs.Tiles.{In, tiles}
+use Rattle.cdf_attrs.proofs.Common.{length-map, attribute_names, number, size_at, gdr_offset, LiesIn, gdr_adr_head, adr_name, adr_type, fixed_size, In, tiles, IsChain, content, Shape, adrs, HasShape, length-le_from_distinct, tile_lies, length_tiles, linkable-in, linkable-type, tiles_are, attribute_names_are, HasChain, members_of, Attrs}
 use Rattle.cdf_format.specs.Walks.{records_of}
-use Rattle.cdf_format.specs.Chains.{IsChain, chain}
-use Rattle.cdf_format.specs.Content.{content}
-use Rattle.cdf_format.specs.Shape.{Shape, adrs, HasShape}
-use Rattle.cdf_format.proofs.Members.{length-le_from_distinct}
-use Rattle.cdf_format.proofs.TilesLemmas.{tile_lies, length_tiles}
-use Rattle.cdf_format.proofs.ChainsLemmas.{linkable-in, linkable-type}
-use Rattle.cdf_format.proofs.ShapeLemmas.{tiles_are, adr_chain_is}
-use Rattle.cdf_format.proofs.NameRules.{attribute_names_are}
-use Rattle.cdf_edits.specs.Space.Chains.{HasChain, members_of}
-use Rattle.cdf_edits.specs.declared.chain.Chain.TheVariants.{Attrs}
+use Rattle.cdf_format.specs.Chains.{chain}
+use Rattle.cdf_format.proofs.ShapeLemmas.{adr_chain_is}
 
 module _ (b : List ℕ) (s : Shape) (h : HasShape b s) where
   pub attribute_members : members_of b Attrs ≡ adrs s

@@ -1,28 +1,9 @@
 -- The attribute with a name, by what is kept of the attributes.
 use Rattle.std.proofs.Common.{◌≡◌, ℕ, zero, suc, ◌+◌, ◌<◌, ◌≤◌, List, [], ◌∷◌, length, map, get_or, true, false, Some, sym, ap, ap₂, subst, ◌∙◌, arith}
-use Rattle.std.proofs.lemmas.List.{length-map}
-use Rattle.std.specs.List.{slice_get}
-use Rattle.cdf_edits.specs.declared.chain.Chain.{Chain}
-use Rattle.cdf_format.specs.Content.{content, attribute_of, scope_of}
-use Rattle.cdf_format.specs.Fields.{number}
-use Rattle.cdf_format.specs.Records.{adr_scope}
-use Rattle.cdf_format.specs.Shape.{AttributeShape, adrs, shape, HasShape}
-use Rattle.cdf_format.specs.Tiles.{In}
-use Rattle.cdf_format.specs.WellFormed.{Good}
-use Rattle.cdf_format.proofs.GoodSound.{good_is_sound}
-use Rattle.cdf_format.proofs.ShapeLemmas.{content_is}
-use Rattle.cdf_model.specs.declared.kinds.EntryKind.{EntryKind}
-use Rattle.cdf_model.specs.declared.kinds.Scope.{Scope}
-use Rattle.cdf_model.specs.AttributeSteps.{is_wrong_scope}
-use Rattle.cdf_model.specs.DataSet.{DataSet}
-use Rattle.cdf_model.specs.Names.{attribute_names, attribute_named}
-use Rattle.cdf_names.specs.Names.{number_of}
-use Rattle.cdf_attrs.specs.Finding.{FindsChain, HasWrongScope}
-use Rattle.cdf_edits.specs.Edits.EntryMarks.{entries_chain}
+use Rattle.cdf_attrs.proofs.Common.{length-map, slice_get, Chain, content, attribute_of, scope_of, number, adr_scope, AttributeShape, adrs, shape, HasShape, In, Good, good_is_sound, content_is, EntryKind, Scope, is_wrong_scope, DataSet, attribute_names, attribute_named, number_of, FindsChain, entries_chain, Cut, cut, got-map, got-middle, slice_get_within}
+use Rattle.cdf_attrs.specs.Finding.{HasWrongScope}
 use Rattle.cdf_attrs.proofs.AttributeChain.{adr_inside, index_in, names_count}
-use Rattle.cdf_edits.proofs.Commands.ListParts.{Cut, cut, got-map, got-middle}
 use Rattle.cdf_attrs.proofs.NamesChanged.{named_there, number_within}
-use Rattle.std.proofs.lemmas.Option.{slice_get_within}
 
 pub adr_got : (as_ : List AttributeShape) (n : ℕ) (a : AttributeShape) → slice_get as_ n ≡ Some a → get_or (map (λ (x : AttributeShape). x.adr) as_) n 0 ≡ a.adr
 adr_got [] n a e = absurd cc

@@ -1,22 +1,8 @@
 -- An attribute at a place in the order is the one of its name.
 use Rattle.std.proofs.Common.{◌≡◌, ℕ, zero, suc, ◌<◌, List, [], ◌∷◌, length, map, Option, Some, bytes_eq, true, false, refl, sym, ap, subst, ◌∙◌, arith}
-use Rattle.std.proofs.lemmas.Bool.{lt-ltb}
+use Rattle.cdf_attrs.proofs.Common.{lt-ltb, AllByRecursion, position_or_len, slice_get, EntryKind, is_wrong_scope, Attribute, DataSet, attribute_named, attribute_names, number_of, content, attribute_of, AttributeShape, shape, Good, good_is_sound, differ-turned, content_is, entries_chain, got-map, FindsChain}
 use Rattle.std.proofs.lemmas.Slice.Eq.{bytes_eq-Decides}
-use Rattle.std.specs.List.{AllByRecursion, IsDistinct, position_or_len, slice_get}
-use Rattle.cdf_model.specs.declared.kinds.EntryKind.{EntryKind}
-use Rattle.cdf_model.specs.AttributeSteps.{is_wrong_scope}
-use Rattle.cdf_model.specs.DataSet.{Attribute, DataSet}
-use Rattle.cdf_model.specs.Names.{attribute_named, attribute_names}
-use Rattle.cdf_names.specs.Names.{number_of}
-use Rattle.cdf_format.specs.Content.{content, attribute_of}
-use Rattle.cdf_format.specs.Shape.{AttributeShape, shape}
-use Rattle.cdf_format.specs.WellFormed.{Good}
-use Rattle.cdf_format.proofs.GoodSound.{good_is_sound}
-use Rattle.cdf_format.proofs.NameRules.{differ-turned}
-use Rattle.cdf_format.proofs.ShapeLemmas.{content_is}
-use Rattle.cdf_edits.specs.Edits.EntryMarks.{entries_chain}
-use Rattle.cdf_edits.proofs.Commands.ListParts.{got-map}
-use Rattle.cdf_attrs.specs.Finding.{FindsChain}
+use Rattle.std.specs.List.{IsDistinct}
 use Rattle.cdf_attrs.proofs.NamesChanged.{named_there}
 use Rattle.cdf_attrs.proofs.NamesDiffer.{good_names}
 

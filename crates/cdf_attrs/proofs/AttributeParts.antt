@@ -1,36 +1,10 @@
 -- An attribute of an image, with those before it and those after it; and an image in which one of its chains is another.
 use Rattle.std.proofs.Common.{◌≡◌, ℕ, zero, suc, ◌+◌, List, [], ◌∷◌, ◌++◌, length, map, Some, refl, sym, ap, ◌∙◌, arith}
-use Rattle.std.proofs.lemmas.List.{map-append, map-set}
-use Rattle.std.specs.List.{slice_get}
-use Rattle.std.specs.Prelude.{slice_set}
-use Rattle.cdf_model.specs.declared.kinds.EntryKind.{EntryKind}
+use Rattle.cdf_attrs.proofs.Common.{map-append, map-set, slice_get, slice_set, EntryKind, with_entries, Attribute, DataSet, Entry, attribute_names, content, attribute_of, adrs_rows, count_rows, r_vdrs_rows, z_vdrs_rows, number, gdr_offset, adr_num, gdr_num_attr, Hold, AttributeShape, Shape, adrs, shape, vdrs, IsSound, Good, good_by_its_shape, good_is_sound, Hold-split, content_is, eq_of, entries_chain, with_chain, Mark, members_of, chain_now, adr_of, members_are, Rechains, of_shape, shape_now, IsAttributeAt, got-map, got-middle}
 use Rattle.cdf_model.specs.declared.kinds.EntryKind.TheVariants as entries
-use Rattle.cdf_model.specs.AttributeSteps.{with_entries}
-use Rattle.cdf_model.specs.DataSet.{Attribute, DataSet, Entry}
-use Rattle.cdf_model.specs.Names.{attribute_names}
-use Rattle.cdf_format.specs.Content.{content, attribute_of, entries_of as chain_items}
-use Rattle.cdf_format.specs.ChainRules.{adrs_rows, count_rows, number_rows, r_vdrs_rows, z_vdrs_rows}
-use Rattle.cdf_format.specs.Fields.{number, gdr_offset}
-use Rattle.cdf_format.specs.Records.{adr_num, gdr_num_attr}
-use Rattle.cdf_format.specs.Rules.{Hold}
-use Rattle.cdf_format.specs.Shape.{AttributeShape, Shape, adrs, shape, vdrs}
-use Rattle.cdf_format.specs.Sound.{IsSound}
-use Rattle.cdf_format.specs.WellFormed.{Good}
-use Rattle.cdf_format.proofs.GoodSound.{good_by_its_shape, good_is_sound}
-use Rattle.cdf_format.proofs.RowLemmas.{Hold-split}
-use Rattle.cdf_format.proofs.ShapeLemmas.{content_is}
-use Rattle.cdf_format.proofs.Tests.{eq_of}
-use Rattle.cdf_edits.specs.Edits.EntryMarks.{entries_chain, with_chain}
-use Rattle.cdf_edits.specs.Edits.Marks.{Mark}
-use Rattle.cdf_edits.specs.Space.Chains.{members_of}
-use Rattle.cdf_edits.proofs.Edits.ChainFollowed.{chain_now}
-use Rattle.cdf_edits.proofs.Edits.ChainKinds.{adr_of}
-use Rattle.cdf_edits.proofs.Edits.ChainsOfShape.{members_are}
-use Rattle.cdf_edits.proofs.Edits.ChainSpliced.{Rechains, made, splices, now_is, content_rechained}
-use Rattle.cdf_edits.proofs.Edits.EntryFields.{of_shape}
-use Rattle.cdf_edits.proofs.Edits.Splice.{shape_now}
-use Rattle.cdf_attrs.specs.PutValues.{IsAttributeAt}
-use Rattle.cdf_edits.proofs.Commands.ListParts.{got-map, got-middle}
+use Rattle.cdf_format.specs.Content.{entries_of as chain_items}
+use Rattle.cdf_format.specs.ChainRules.{number_rows}
+use Rattle.cdf_edits.proofs.Edits.ChainSpliced.{made, splices, now_is, content_rechained}
 
 -- ---- the parts
 

@@ -1,33 +1,11 @@
 -- What is read of the attributes of a good image where their ADRs stand: their names, and the listing of them.
 use Rattle.std.proofs.Common.{◌≡◌, ℕ, zero, suc, ◌+◌, ◌<◌, ◌≤◌, List, [], ◌∷◌, ◌++◌, length, map, take, drop, get_or, false, refl, sym, ap, ap₂, subst, ◌∙◌, append_assoc, append-nil, add-one, arith, bytes_eq}
-use Rattle.std.proofs.lemmas.List.{length-map, length-append, map-append}
-use Rattle.std.proofs.Math.Seq.{take-suc}
+use Rattle.cdf_attrs.proofs.Common.{length-map, length-append, map-append, take-suc, Scope, DataSet, attribute_items, attribute_names, has_name, number, name_in, name_at, type_at, LiesIn, adr_scope, adr_name, adr_type, In, content, attribute_of, scope_of, AttributeShape, Shape, adrs, vdrs, shape, HasShape, adrs_rows, r_vdrs_rows, z_vdrs_rows, IsGoodByShape, Good, le_of, eq_of, Hold-split, linkable-type, names_at, attribute_names_are, content_is, good_by_its_shape, rules_of_good, Attrs, counted_in, members_of}
 use Rattle.std.specs.List.{IsDistinct}
 use Rattle.cdf_model.specs.declared.item.Item.{Item}
 use Rattle.cdf_model.specs.declared.item.Item.TheVariants.{Attr}
-use Rattle.cdf_model.specs.declared.kinds.Scope.{Scope}
-use Rattle.cdf_model.specs.DataSet.{DataSet}
-use Rattle.cdf_model.specs.Listing.{attribute_items}
-use Rattle.cdf_model.specs.Names.{attribute_names}
-use Rattle.cdf_names.specs.Names.{has_name}
-use Rattle.cdf_format.specs.Fields.{number, name_in, name_at, name_field, type_at, LiesIn}
-use Rattle.cdf_format.specs.Records.{adr_scope, adr_name}
-use Rattle.cdf_format.specs.RecordTypes.{adr_type}
-use Rattle.cdf_format.specs.Tiles.{In}
+use Rattle.cdf_format.specs.Fields.{name_field}
 use Rattle.cdf_format.specs.Sealed.{trailer, sealed}
-use Rattle.cdf_format.specs.Content.{content, attribute_of, scope_of}
-use Rattle.cdf_format.specs.Shape.{AttributeShape, Shape, adrs, vdrs, shape, HasShape}
-use Rattle.cdf_format.specs.ChainRules.{adrs_rows, r_vdrs_rows, z_vdrs_rows}
-use Rattle.cdf_format.proofs.GoodByShape.{IsGoodByShape}
-use Rattle.cdf_format.specs.WellFormed.{Good}
-use Rattle.cdf_format.proofs.Tests.{le_of, eq_of}
-use Rattle.cdf_format.proofs.RowLemmas.{Hold-split}
-use Rattle.cdf_format.proofs.ChainsLemmas.{linkable-type}
-use Rattle.cdf_format.proofs.NameRules.{names_at, attribute_names_are}
-use Rattle.cdf_format.proofs.ShapeLemmas.{content_is}
-use Rattle.cdf_format.proofs.GoodSound.{good_by_its_shape, rules_of_good}
-use Rattle.cdf_edits.specs.declared.chain.Chain.TheVariants.{Attrs}
-use Rattle.cdf_edits.specs.Space.Chains.{counted_in, members_of}
 use Rattle.cdf_attrs.proofs.AttributeChain.{adr_inside, attribute_members, few_attributes, index_in, name_lies}
 use Rattle.cdf_names.proofs.Apart.{distinct_apart}
 use Rattle.cdf_attrs.proofs.NamesDiffer.{good_names}

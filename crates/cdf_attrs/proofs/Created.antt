@@ -1,72 +1,30 @@
 -- The making of an attribute, as an edit, leads from a good image to the one that follows.
 use Rattle.std.proofs.Common.{◌≡◌, ◌≢◌, ℕ, suc, ◌+◌, ◌^◌, ◌-◌, ◌<◌, ◌≤◌, List, [], ◌∷◌, ◌++◌, length, map, Bool, true, false, not, eqb, eq-eqb, Some, refl, sym, ap, subst, ◌∙◌, append-nil, arith, inl, inr}
-use Rattle.std.proofs.lemmas.Bool.{and_from, eqb-true}
-use Rattle.std.proofs.lemmas.List.{length-append, map-append}
-use Rattle.std.specs.List.{All, flat_map, before_first, slice_get}
-use Rattle.std.specs.Prelude.{◌==◌, ◌&&◌, nat_le, if◌then◌else◌}
-use Rattle.cdf_model.specs.declared.answer.Reply.TheVariants.{Plain}
-use Rattle.cdf_model.specs.declared.command.Command.{Command}
-use Rattle.cdf_model.specs.declared.command.Command.TheVariants.{Attr}
-use Rattle.cdf_model.specs.declared.kinds.Scope.{Scope}
+use Rattle.cdf_attrs.proofs.Common.{and_from, eqb-true, length-append, map-append, flat_map, slice_get, ◌==◌, ◌&&◌, nat_le, if◌then◌else◌, Plain, Command, Attr, Scope, Go, new_attribute, Attribute, DataSet, image_limit, is_bad_name, is_among, attribute_names, ByStep, IsSound, AllKeep, Allowances, Only, Keeps, only_of, same_name, adrs_rows, differ_rows, r_vdrs_rows, z_vdrs_rows, next_field, is_in, IsChain, content, scope_of, attribute_of, number, name_in, size_at, type_at, gdr_offset, IsGoodByShape, attribute_shape_rows, Follows, Act, Took, OneAttribute, attribute_records, owned_by, times, owned, Field, gdr_adr_head, gdr_num_attr, adr_name, adr_scope, adr_num, adr_type, agr_edr_type, az_edr_type, uir_type, fixed_size, Hold, AttributeShape, Shape, adrs, vdrs, HasShape, shape, In, Good, linkable-in, linkable-type, good_by_its_shape, good_is_sound, rules_of_good, AllKeep-append, either, stands_in, AreNew, names_at, names_differ, differ_by_names, attribute_names_are, Hold-append, Hold-split, good_long, sealed_kept, content_is, shape_is, of_le, tile_lies, apart, Attrs, Mark, Edit, AreThere, stood, keeps_fields, all_keep, used_times, IsSorted, owned_once_if, spliced, Splices, shape_now, OwnRules, good_image_if, variables_in, Added, scope_code, adr_body, fine_is_some, got-middle}
+use Rattle.std.specs.List.{All, before_first}
 use Rattle.cdf_model.specs.declared.kinds.Scope.TheVariants.{Global, Variable, GlobalAssumed, VariableAssumed}
-use Rattle.cdf_model.specs.Answers.{Go}
-use Rattle.cdf_model.specs.AttributeSteps.{new_attribute}
-use Rattle.cdf_model.specs.DataSet.{Attribute, DataSet}
-use Rattle.cdf_model.specs.Limits.{image_limit}
-use Rattle.cdf_model.specs.Names.{is_bad_name, is_among, attribute_names}
-use Rattle.cdf_model.specs.Step.{ByStep}
-use Rattle.cdf_format.specs.Sound.{IsSound}
-use Rattle.cdf_edits.specs.Commands.Allowances.{AllKeep, Allowances, Only, Keeps, only_of}
-use Rattle.cdf_format.specs.AttributeRules.{same_name}
-use Rattle.cdf_format.specs.ChainRules.{adrs_rows, differ_rows, r_vdrs_rows, z_vdrs_rows}
-use Rattle.cdf_format.specs.Chains.{next_field, is_in, IsChain}
-use Rattle.cdf_format.specs.Content.{content, scope_of, attribute_of}
-use Rattle.cdf_format.specs.Fields.{number, name_in, size_at, type_at, gdr_offset}
-use Rattle.cdf_format.proofs.GoodByShape.{IsGoodByShape, attribute_shape_rows}
-use Rattle.cdf_edits.specs.Follows.{Follows}
-use Rattle.cdf_edits.specs.Space.Acts.{Act, Took}
 use Rattle.cdf_edits.specs.Commands.Attributes.{MakesAttribute, attr_changes, attributes_gdr_fields}
-use Rattle.cdf_format.specs.Owners.{OneAttribute, attribute_records, owned_by, owned_by_attributes, times, owned}
-use Rattle.cdf_format.specs.Records.{Field, gdr_adr_head, gdr_num_attr, adr_name, adr_scope, adr_num}
-use Rattle.cdf_format.specs.RecordTypes.{cdr_type, gdr_type, adr_type, agr_edr_type, az_edr_type, uir_type, is_record_type, fixed_size}
+use Rattle.cdf_format.specs.Owners.{owned_by_attributes}
+use Rattle.cdf_format.specs.RecordTypes.{cdr_type, gdr_type, is_record_type}
 use Rattle.cdf_format.specs.NotRead.{read_types}
-use Rattle.cdf_format.specs.Rules.{Hold}
-use Rattle.cdf_format.specs.Shape.{AttributeShape, Shape, adrs, vdrs, HasShape, shape}
-use Rattle.cdf_format.specs.Tiles.{In}
-use Rattle.cdf_format.specs.WellFormed.{Good}
-use Rattle.cdf_format.proofs.ChainsLemmas.{is_a-in, is_a-type, linkable-in, linkable-type}
-use Rattle.cdf_format.proofs.GoodSound.{good_by_its_shape, good_is_sound, rules_of_good}
-use Rattle.cdf_edits.proofs.Commands.KeptRecords.{AllKeep-append}
-use Rattle.cdf_format.proofs.Members.{either}
-use Rattle.cdf_format.proofs.NameRules.{stands_in, AreNew, names_at, names_differ, differ_by_names, new_pushed, attribute_names_are}
+use Rattle.cdf_format.proofs.ChainsLemmas.{is_a-in, is_a-type}
+use Rattle.cdf_format.proofs.NameRules.{new_pushed}
 use Rattle.cdf_edits.proofs.Frame.OwnersApart.{adrs_linked}
-use Rattle.cdf_format.proofs.RowLemmas.{Hold-append, Hold-split}
 use Rattle.cdf_edits.proofs.Rules.WithoutLinks.{number_rows_kept, number_rows-push}
-use Rattle.cdf_format.proofs.SealedRules.{good_long, sealed_kept}
-use Rattle.cdf_format.proofs.ShapeLemmas.{content_is, shape_is}
-use Rattle.cdf_format.proofs.Tests.{of_le}
-use Rattle.cdf_format.proofs.TilesLemmas.{tile_lies}
-use Rattle.cdf_edits.proofs.Space.UsedRecords.{apart}
-use Rattle.cdf_edits.specs.declared.chain.Chain.TheVariants.{Attrs}
-use Rattle.cdf_edits.specs.Edits.Marks.{Mark, making_marks}
-use Rattle.cdf_edits.specs.Edits.Edit.{Edit}
-use Rattle.cdf_edits.proofs.Edits.AttributeFrame.{AreThere, entry, lives_clear, names_stay, nums_stay, more_there}
+use Rattle.cdf_edits.specs.Edits.Marks.{making_marks}
+use Rattle.cdf_edits.proofs.Edits.AttributeFrame.{entry, lives_clear, names_stay, nums_stay, more_there}
 use Rattle.cdf_edits.proofs.Edits.EditActs.{acts_took}
 use Rattle.cdf_edits.proofs.Edits.RecordFrame.{gdr_place}
-use Rattle.cdf_edits.proofs.Edits.OwnersKept.{stood, keeps_fields, keeps_away, keep_file, keep_places, all_keep}
+use Rattle.cdf_edits.proofs.Edits.OwnersKept.{keeps_away, keep_file, keep_places}
 use Rattle.cdf_edits.specs.Space.Placing.{Fills}
 use Rattle.cdf_edits.proofs.Edits.MadeRecord.{place_in, filled_sound, filled_size, unowned, made_edit, made_part, made_type, made_size, shorter, end_now, list_chain, made_keeps_unused}
 use Rattle.cdf_edits.proofs.Edits.MarkLemmas.{unmarked-away, all_unmarked-away}
-use Rattle.cdf_edits.proofs.Edits.OwnedOnce.{used_times, IsSorted, spliced_times, owned_once_if}
-use Rattle.cdf_edits.proofs.Edits.Splice.{spliced, Splices, shape_now, content_now, OwnRules, good_image_if, file, variables_kept}
+use Rattle.cdf_edits.proofs.Edits.OwnedOnce.{spliced_times}
+use Rattle.cdf_edits.proofs.Edits.Splice.{content_now, file, variables_kept}
 use Rattle.cdf_edits.proofs.Edits.StepEdits.{gdr_in, gdr_typed}
-use Rattle.cdf_edits.proofs.Edits.VariableFrame.{variables_in}
-use Rattle.cdf_edits.specs.Space.Adding.{Added, adding_marks}
-use Rattle.cdf_attrs.specs.Creating.{scope_code, adr_body}
+use Rattle.cdf_edits.specs.Space.Adding.{adding_marks}
 use Rattle.cdf_attrs.proofs.AttributeChain.{attribute_members}
 use Rattle.cdf_attrs.proofs.AttributesRead.{counted_is}
-use Rattle.cdf_edits.proofs.Commands.FineNames.{fine_is_some}
-use Rattle.cdf_edits.proofs.Commands.ListParts.{got-middle}
 use Rattle.cdf_attrs.proofs.NewAdr.{IsNewAdr, length-body, type_in_body, adr_written}
 use Rattle.cdf_fields.proofs.NamesWritten.{before_zeros}
 use Rattle.cdf_attrs.proofs.CreatingAnswers.{with_last}

@@ -1,20 +1,9 @@
 -- What the command on a new attribute is answered.
 use Rattle.std.proofs.Common.{◌≡◌, ℕ, ◌+◌, ◌<◌, ◌≤◌, List, [], ◌∷◌, ◌++◌, length, true, false, refl}
-use Rattle.cdf_model.specs.declared.answer.Outcome.TheVariants.{Done, Refused}
-use Rattle.cdf_model.specs.declared.answer.Reason.TheVariants.{BadName, NameTaken, TooLarge}
-use Rattle.cdf_model.specs.declared.answer.Reply.TheVariants.{Plain}
-use Rattle.cdf_model.specs.declared.command.Command.{Command}
-use Rattle.cdf_model.specs.declared.command.Command.TheVariants.{Attr}
-use Rattle.cdf_model.specs.declared.kinds.Scope.{Scope}
-use Rattle.cdf_model.specs.Answers.{Go}
-use Rattle.cdf_model.specs.AttributeSteps.{new_attribute}
-use Rattle.cdf_model.specs.DataSet.{Attribute, DataSet}
-use Rattle.cdf_model.specs.Names.{is_bad_name, is_among, attribute_names}
-use Rattle.cdf_model.specs.Step.{ByStep, step}
-use Rattle.cdf_format.specs.Content.{content}
-use Rattle.cdf_edits.specs.Follows.{Follows}
-use Rattle.cdf_edits.specs.Answers.{Answers}
-use Rattle.cdf_edits.proofs.Commands.Answered.{refused, gone, too_large as no_room}
+use Rattle.cdf_attrs.proofs.Common.{Done, Refused, TooLarge, Plain, Command, Attr, Scope, Go, new_attribute, Attribute, DataSet, is_bad_name, is_among, attribute_names, ByStep, content, Follows, Answers, refused, gone}
+use Rattle.cdf_model.specs.declared.answer.Reason.TheVariants.{BadName, NameTaken}
+use Rattle.cdf_model.specs.Step.{step}
+use Rattle.cdf_edits.proofs.Commands.Answered.{too_large as no_room}
 
 -- a data set with an attribute more
 abbrev pub with_last : DataSet → Attribute → DataSet

@@ -1,15 +1,7 @@
 -- What the calls of a deletion come to.
 use Rattle.std.proofs.Common.{◌≡◌, ℕ, List, [], ◌∷◌, length, true, subst, arith}
-use Rattle.cdf_format.specs.Chains.{is_a}
-use Rattle.cdf_format.specs.RecordTypes.{adr_type}
-use Rattle.cdf_format.specs.Shape.{adrs, shape}
-use Rattle.cdf_format.specs.Tiles.{In, tiles}
-use Rattle.cdf_format.specs.WellFormed.{Good}
-use Rattle.cdf_attrs.specs.Numbering.{AllLie}
-use Rattle.cdf_edits.specs.Edits.Writes.{Write}
-use Rattle.cdf_edits.specs.Space.Chains.{HasChain, counted_in, members_of}
-use Rattle.cdf_edits.specs.declared.chain.Chain.TheVariants.{GrEntries, ZEntries}
-use Rattle.cdf_edits.proofs.Edits.AttributeChains.{stands_at, entry_chains}
+use Rattle.cdf_attrs.proofs.Common.{is_a, adr_type, adrs, shape, In, tiles, Good, AllLie, Write, HasChain, counted_in, members_of, GrEntries, ZEntries, stands_at}
+use Rattle.cdf_edits.proofs.Edits.AttributeChains.{entry_chains}
 
 -- the chains of an ADR
 pub record ChainsAt (b : List ℕ) (adr : ℕ) : Type 0 where

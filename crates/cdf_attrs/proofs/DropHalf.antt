@@ -1,42 +1,8 @@
 -- Both halves of what an attribute of variables drops, from what was written.
 use Rattle.std.proofs.Common.{◌≡◌, ◌⊎◌, ℕ, zero, suc, ◌+◌, ◌-◌, ◌<◌, ◌≤◌, List, [], ◌∷◌, ◌++◌, length, map, Bool, true, false, Some, None, refl, sym, ap, ap₂, subst, ◌∙◌, append-nil, arith, inl, inr}
-use Rattle.std.proofs.lemmas.Bool.{cases_lt, lt-ltb, le-ltb, le-leb}
-use Rattle.std.proofs.lemmas.Bool.Decides.{nat_tests}
-use Rattle.std.proofs.lemmas.Option.{same_Some}
-use Rattle.std.specs.List.{position, slice_get}
-use Rattle.std.specs.Prelude.{◌&&◌, ◌==◌, nat_le, nat_lt, not, if◌then◌else◌, slice_set}
-use Rattle.cdf_model.specs.AttributeSteps.{entries_of, is_global, with_attribute, with_entries}
-use Rattle.cdf_model.specs.DataSet.{Attribute, DataSet, Entry}
-use Rattle.cdf_model.specs.Limits.{image_limit}
-use Rattle.cdf_model.specs.Names.{Found}
-use Rattle.cdf_model.specs.Numbered.{closed_up, without}
-use Rattle.cdf_model.specs.declared.kinds.EntryKind.{EntryKind}
+use Rattle.cdf_attrs.proofs.Common.{cases_lt, lt-ltb, le-ltb, le-leb, nat_tests, same_Some, position, slice_get, ◌&&◌, ◌==◌, nat_le, nat_lt, not, if◌then◌else◌, slice_set, entries_of, is_global, with_attribute, with_entries, Attribute, DataSet, Entry, image_limit, Found, closed_up, without, EntryKind, attribute_of, content, number, aedr_num, AttributeShape, HasShape, shape, In, Good, good_is_sound, chain_of, greatest_number, kind_of_entries, entries_chain, gave, ActsFollow, members_of, Cut, got-map, nums, chain_in, attributes_of, member_in, LowersHalf, TakesHalf, link_field, number_field, numbered, DropsOne, LowersChain, items_of, StandsBut, stands_same, stays_same, DropsFrom, DropsNumber, IsScoped, Lowers, LowersNumbers, IsOfAttribute, KnownEntries, KnowsEntries}
 use Rattle.cdf_model.specs.declared.kinds.EntryKind.TheVariants as entries
-use Rattle.cdf_format.specs.Content.{attribute_of, content}
-use Rattle.cdf_format.specs.Fields.{number}
-use Rattle.cdf_format.specs.Records.{aedr_num}
-use Rattle.cdf_format.specs.Shape.{AttributeShape, HasShape, shape}
-use Rattle.cdf_format.specs.Tiles.{In}
-use Rattle.cdf_format.specs.WellFormed.{Good}
-use Rattle.cdf_format.proofs.GoodSound.{good_is_sound}
-use Rattle.cdf_edits.specs.Commands.EntryChains.{chain_of, greatest_number, kind_of_entries}
-use Rattle.cdf_edits.specs.Edits.EntryMarks.{entries_chain}
-use Rattle.cdf_edits.specs.Space.Acts.{gave, ActsFollow}
-use Rattle.cdf_edits.specs.Space.Chains.{members_of}
-use Rattle.cdf_edits.proofs.Commands.ListParts.{Cut, got-map}
-use Rattle.cdf_edits.proofs.Edits.ChainEntries.{nums}
-use Rattle.cdf_edits.proofs.Edits.ChainKinds.{chain_in}
-use Rattle.cdf_edits.proofs.Edits.DroppedSoFar.{attributes_of, member_in}
-use Rattle.cdf_edits.proofs.Edits.DropHalves.{LowersHalf, TakesHalf, link_field, number_field, numbered}
-use Rattle.cdf_edits.proofs.Edits.DropsOne.{DropsOne}
-use Rattle.cdf_edits.proofs.Edits.FallenEntries.{LowersChain}
 use Rattle.cdf_edits.proofs.Edits.NumbersFallStep as fall
-use Rattle.cdf_edits.proofs.Edits.OneChain.{items_of}
-use Rattle.cdf_edits.proofs.Edits.StandsBut.{StandsBut}
-use Rattle.cdf_edits.proofs.Edits.StandsSame.{stands_same, stays_same}
-use Rattle.cdf_attrs.specs.Dropping.{DropsFrom, DropsNumber, IsScoped, Lowers, LowersNumbers}
-use Rattle.cdf_attrs.specs.Finding.{IsOfAttribute}
-use Rattle.cdf_attrs.specs.Known.{KnownEntries, KnowsEntries}
 use Rattle.cdf_attrs.proofs.EntryChains.{members}
 use Rattle.cdf_attrs.proofs.EntryTakenAt.{places_are}
 use Rattle.cdf_attrs.proofs.GreatestNumber.{each_of, keys, nums_in}

@@ -1,20 +1,7 @@
 -- The entry of a number that was taken out of a known chain: what the image comes to, and what is known of it then.
 use Rattle.std.proofs.Common.{◌≡◌, ◌∙◌, ◌<◌, ◌≤◌, ℕ, List, length, Result, Ok, Err, Some, refl, sym, ap, subst, arith}
-use Rattle.std.specs.List.{position}
-use Rattle.std.specs.Result.{IfOk, OnOk}
-use Rattle.std.specs.Prelude.{◌==◌, slice_index}
-use Rattle.cdf_model.specs.declared.kinds.EntryKind.{EntryKind}
-use Rattle.cdf_model.specs.Limits.{image_limit}
-use Rattle.cdf_model.specs.Names.{attribute_names}
-use Rattle.cdf_format.specs.Content.{attribute_of, content}
-use Rattle.cdf_format.specs.Shape.{adrs, shape}
-use Rattle.cdf_format.specs.WellFormed.{Good}
-use Rattle.cdf_edits.specs.Edits.EntryMarks.{entries_chain}
-use Rattle.cdf_attrs.specs.Dropping.{IsScoped}
-use Rattle.cdf_attrs.specs.Finding.{FindsChain}
-use Rattle.cdf_attrs.specs.Known.{KnownEntries, KnowsEntries}
-use Rattle.cdf_attrs.specs.Putting.{IsEntryOf}
-use Rattle.cdf_attrs.specs.Removing.{TakenAt, without_at}
+use Rattle.cdf_attrs.proofs.Common.{position, OnOk, ◌==◌, slice_index, EntryKind, image_limit, attribute_names, attribute_of, content, adrs, shape, Good, entries_chain, IsScoped, FindsChain, KnownEntries, KnowsEntries, IsEntryOf, TakenAt, without_at}
+use Rattle.std.specs.Result.{IfOk}
 use Rattle.cdf_attrs.proofs.AttributeNamed.{finds_chain}
 use Rattle.cdf_attrs.proofs.EntryDeleted as deleted
 

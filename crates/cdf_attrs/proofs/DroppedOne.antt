@@ -1,53 +1,19 @@
 -- One attribute of variables dropped its entry for a variable, in two halves.
 use Rattle.std.proofs.Common.{◌≡◌, ◌⊎◌, ℕ, ℤ, zero, suc, ◌+◌, ◌-◌, ◌≤◌, ◌<◌, List, [], ◌∷◌, ◌++◌, length, map, Bool, true, false, Option, Some, None, eq-eqb, refl, sym, ap, ap₂, subst, ◌∙◌, arith, inl, inr}
-use Rattle.std.proofs.lemmas.Bool.{cases_eq, cases_lt, lt-ltb, le-ltb, le-leb, ne_eqb}
-use Rattle.std.proofs.lemmas.Bool.Decides.{nat_tests}
+use Rattle.cdf_attrs.proofs.Common.{cases_eq, cases_lt, lt-ltb, le-ltb, le-leb, ne_eqb, nat_tests, same_Some, cast_signed, w32, filter, list_any, slice_get, ◌&&◌, ◌==◌, nat_le, nat_lt, not, if◌then◌else◌, slice_set, EntryKind, Kind, entries_of, is_global, with_attribute, with_entries, Attribute, DataSet, Entry, Found, closed_up, without, Same, attribute_of, content, scope_of, integer4, number, size_at, type_at, word, attribute_records, Field, adr_scope, aedr_num, adr_type, agr_edr_type, az_edr_type, AttributeShape, Each, HasEntries, HasShape, shape, In, Good, word_kept, linkable-in, linkable-type, good_is_sound, either, In-append, In-append_left, In-append_right, Anything, Keeps, Only, GreatestIs, chain_of, entry_type, greatest_number, kind_of_entries, max_field, share_chain, entries_allowance, entries_for, is_global_attribute, is_renumbered, AttributeDropped, AttributeKeeps, IsDropped, Act, gave, ActsFollow, got-map, nums, chain_in, other_of, attributes_of, LowersHalf, TakesHalf, link_field, number_field, numbered, DropsOne, items_of, StandsBut, fixed_long, apart}
 use Rattle.std.proofs.lemmas.List.{append-nil}
-use Rattle.std.proofs.lemmas.Option.{same_Some}
-use Rattle.std.specs.Int.{cast_signed, w32}
-use Rattle.std.specs.List.{filter, list_any, slice_get}
-use Rattle.std.specs.Prelude.{◌&&◌, ◌==◌, nat_le, nat_lt, not, if◌then◌else◌, slice_set}
-use Rattle.cdf_model.specs.declared.kinds.EntryKind.{EntryKind}
 use Rattle.cdf_model.specs.declared.kinds.EntryKind.TheVariants as entries
-use Rattle.cdf_model.specs.declared.kinds.Kind.{Kind}
 use Rattle.cdf_model.specs.declared.kinds.Kind.TheVariants as kinds
-use Rattle.cdf_model.specs.AttributeSteps.{entries_of, is_global, with_attribute, with_entries}
-use Rattle.cdf_model.specs.DataSet.{Attribute, DataSet, Entry}
-use Rattle.cdf_model.specs.Names.{Found}
-use Rattle.cdf_model.specs.Numbered.{closed_up, without}
 use Rattle.cdf_model.specs.VariableSteps.{attribute_without}
-use Rattle.cdf_format.specs.Bytes.{Same, byte}
-use Rattle.cdf_format.specs.Content.{attribute_of, content, scope_of}
-use Rattle.cdf_format.specs.Fields.{integer4, number, size_at, type_at, word}
-use Rattle.cdf_format.specs.Owners.{attribute_records}
-use Rattle.cdf_format.specs.Records.{Field, adr_scope, aedr_num}
-use Rattle.cdf_format.specs.RecordTypes.{adr_type, agr_edr_type, az_edr_type}
-use Rattle.cdf_format.specs.Shape.{AttributeShape, Each, HasEntries, HasShape, shape}
-use Rattle.cdf_format.specs.Tiles.{In}
-use Rattle.cdf_format.specs.WellFormed.{Good}
-use Rattle.cdf_format.proofs.BytesLemmas.{word_kept}
-use Rattle.cdf_format.proofs.ChainsLemmas.{linkable-in, linkable-type}
-use Rattle.cdf_format.proofs.GoodSound.{good_is_sound}
-use Rattle.cdf_format.proofs.Members.{either, In-append, In-append_left, In-append_right}
-use Rattle.cdf_edits.specs.Commands.Allowances.{Allowance, Anything, Keeps, Only, OutsideFields, Stays}
-use Rattle.cdf_edits.specs.Commands.EntryChains.{GreatestIs, chain_fields, chain_of, entry_allowance, entry_type, greatest_number, kind_of_entries, max_field, share_chain}
-use Rattle.cdf_edits.specs.Commands.Variables.{AttributeFollows, entries_allowance, entries_for, fields_beside, is_global_attribute, is_renumbered}
-use Rattle.cdf_edits.specs.Edits.DropsEntries.{AttributeDropped, AttributeKeeps, IsDropped}
-use Rattle.cdf_edits.specs.Space.Acts.{Act, gave, ActsFollow}
-use Rattle.cdf_edits.proofs.Commands.ListParts.{got-map}
-use Rattle.cdf_edits.proofs.Edits.ChainEntries.{nums}
-use Rattle.cdf_edits.proofs.Edits.ChainKinds.{chain_has, chain_in, other_has, other_of, other_type}
-use Rattle.cdf_edits.proofs.Edits.DroppedSoFar.{attributes_of}
-use Rattle.cdf_edits.proofs.Edits.DropHalves.{LowersHalf, TakesHalf, link_field, number_field, numbered}
-use Rattle.cdf_edits.proofs.Edits.DropsOne.{DropsOne}
-use Rattle.cdf_edits.proofs.Edits.OneChain.{items_of}
-use Rattle.cdf_edits.proofs.Edits.StandsBut.{StandsBut}
+use Rattle.cdf_format.specs.Bytes.{byte}
+use Rattle.cdf_edits.specs.Commands.Allowances.{Allowance, OutsideFields, Stays}
+use Rattle.cdf_edits.specs.Commands.EntryChains.{chain_fields, entry_allowance}
+use Rattle.cdf_edits.specs.Commands.Variables.{AttributeFollows, fields_beside}
+use Rattle.cdf_edits.proofs.Edits.ChainKinds.{chain_has, other_has, other_type}
 use Rattle.cdf_edits.proofs.Edits.StandsSame.{chain_or_other, other_in}
 use Rattle.cdf_edits.proofs.Edits.StandsThen.{dropped_then, stands_then}
-use Rattle.cdf_edits.proofs.Edits.StepEdits.{fixed_long}
 use Rattle.cdf_edits.proofs.Edits.VariableDeleted.{adr_at, each_at, greatest_field}
 use Rattle.cdf_edits.proofs.Edits.VariableKeeps.{stays_then}
-use Rattle.cdf_edits.proofs.Space.UsedRecords.{apart}
 use Rattle.cdf_attrs.proofs.GreatestNumber.{keys, keys_in, nums_in}
 use Rattle.cdf_attrs.proofs.NumberedEntries.{nums_has, nums_of, set_same}
 

@@ -1,37 +1,10 @@
 -- The entries for a variable go from one attribute after the other.
 use Rattle.std.proofs.Common.{◌≡◌, ◌∙◌, ℕ, zero, suc, ◌+◌, ◌<◌, ◌≤◌, List, [], ◌∷◌, ◌++◌, length, map, Bool, true, false, Option, Some, None, append-nil, refl, sym, ap, subst, arith, inl, inr}
-use Rattle.std.specs.List.{slice_get}
-use Rattle.std.specs.Prelude.{◌&&◌, slice_index, slice_index_or, slice_set}
-use Rattle.std.proofs.lemmas.List.{length-map}
-use Rattle.cdf_model.specs.AttributeSteps.{is_global, is_wrong_scope}
-use Rattle.cdf_model.specs.DataSet.{Attribute, DataSet}
-use Rattle.cdf_model.specs.Limits.{image_limit}
-use Rattle.cdf_model.specs.Names.{Found}
-use Rattle.cdf_model.specs.declared.kinds.EntryKind.{EntryKind}
-use Rattle.cdf_model.specs.declared.kinds.Kind.{Kind}
+use Rattle.cdf_attrs.proofs.Common.{slice_get, ◌&&◌, slice_index, slice_index_or, slice_set, length-map, is_global, is_wrong_scope, Attribute, DataSet, image_limit, Found, EntryKind, Kind, attribute_of, content, scope_of, number, attribute_records, adr_scope, aedr_num, AttributeShape, HasShape, adrs, shape, In, Good, good_is_sound, either, Anything, Keeps, Only, GreatestIs, chain_of, kind_of_entries, share_chain, entries_allowance, entries_for, is_global_attribute, is_renumbered, AttributeDropped, AttributeKeeps, gave, ActsFollow, got-map, DropsUpTo, attributes_of, member_in, DropsOne, StandsBut, stands_same, stays_same, same_Some, DropsFrom, IsScoped, KeepsAttributes}
 use Rattle.cdf_model.specs.declared.kinds.Kind.TheVariants as kinds
-use Rattle.cdf_format.specs.Content.{attribute_of, content, scope_of}
-use Rattle.cdf_format.specs.Fields.{number}
-use Rattle.cdf_format.specs.Owners.{attribute_records}
-use Rattle.cdf_format.specs.Records.{adr_scope, aedr_num}
-use Rattle.cdf_format.specs.Shape.{AttributeShape, HasShape, adrs, shape}
-use Rattle.cdf_format.specs.Tiles.{In}
-use Rattle.cdf_format.specs.WellFormed.{Good}
-use Rattle.cdf_format.proofs.GoodSound.{good_is_sound}
-use Rattle.cdf_format.proofs.Members.{either}
-use Rattle.cdf_edits.specs.Commands.Allowances.{Anything, Keeps, Only}
-use Rattle.cdf_edits.specs.Commands.EntryChains.{GreatestIs, chain_of, kind_of_entries, share_chain}
-use Rattle.cdf_edits.specs.Commands.Variables.{entries_allowance, entries_for, is_global_attribute, is_renumbered}
-use Rattle.cdf_edits.specs.Edits.DropsEntries.{AttributeDropped, AttributeKeeps, DropsEntries}
-use Rattle.cdf_edits.specs.Space.Acts.{gave, ActsFollow}
-use Rattle.cdf_edits.proofs.Commands.ListParts.{got-map}
+use Rattle.cdf_edits.specs.Edits.DropsEntries.{DropsEntries}
 use Rattle.cdf_edits.proofs.Edits.DroppedNext.{step}
-use Rattle.cdf_edits.proofs.Edits.DroppedSoFar.{DropsUpTo, attributes_of, finish, member_in}
-use Rattle.cdf_edits.proofs.Edits.DropsOne.{DropsOne}
-use Rattle.cdf_edits.proofs.Edits.StandsBut.{StandsBut}
-use Rattle.cdf_edits.proofs.Edits.StandsSame.{stands_same, stays_same}
-use Rattle.std.proofs.lemmas.Option.{same_Some}
-use Rattle.cdf_attrs.specs.Dropping.{DropsFrom, IsScoped, KeepsAttributes}
+use Rattle.cdf_edits.proofs.Edits.DroppedSoFar.{finish}
 use Rattle.cdf_attrs.proofs.AttributeChain.{index_in}
 use Rattle.cdf_attrs.proofs.EntryTakenAt.{index_same}
 use Rattle.cdf_attrs.proofs.DropHalf.{dropped}

@@ -1,34 +1,9 @@
 -- What dropping from one attribute asks of its chain, and what it comes to.
 use Rattle.std.proofs.Common.{◌≡◌, ◌∙◌, ◌+◌, ◌≤◌, ℕ, List, [], ◌∷◌, All, length, Result, Ok, Err, Some, false, refl, sym, ap, subst, arith, inl, inr}
-use Rattle.std.proofs.lemmas.Bool.{cases_lt, lt-ltb, le-ltb}
-use Rattle.std.specs.List.{slice_get}
-use Rattle.std.specs.Result.{OnOk}
-use Rattle.cdf_model.specs.AttributeSteps.{is_global}
-use Rattle.cdf_model.specs.Limits.{image_limit, signed_limit}
-use Rattle.cdf_model.specs.Names.{attribute_names}
-use Rattle.cdf_model.specs.declared.kinds.Kind.{Kind}
-use Rattle.cdf_model.specs.declared.kinds.Scope.{Scope}
+use Rattle.cdf_attrs.proofs.Common.{cases_lt, lt-ltb, le-ltb, slice_get, OnOk, is_global, image_limit, signed_limit, attribute_names, Kind, Scope, EntryKind, entry_bytes, attribute_of, content, scope_of, LiesIn, number, adr_scope, AttributeShape, adrs, shape, In, Good, Chain, kind_of_entries, max_field, entries_chain, got-middle, stands_at, max_lies, good_is_sound, AllLie, DropsFrom, DropsNumber, IsScoped, KeepsAttributes, Lowers, LowersNumbers, lower_writes, IsOfAttribute, KnownEntries, KnowsEntries}
 use Rattle.cdf_model.specs.declared.kinds.Kind.TheVariants.{R, Z}
-use Rattle.cdf_model.specs.declared.kinds.EntryKind.{EntryKind}
-use Rattle.cdf_format.specs.AttributeRules.{entry_bytes}
-use Rattle.cdf_format.specs.Content.{attribute_of, content, scope_of}
-use Rattle.cdf_format.specs.Fields.{LiesIn, number}
-use Rattle.cdf_format.specs.Records.{adr_scope}
-use Rattle.cdf_format.specs.Shape.{AttributeShape, adrs, shape}
-use Rattle.cdf_format.specs.Tiles.{In}
-use Rattle.cdf_format.specs.WellFormed.{Good}
-use Rattle.cdf_edits.specs.declared.chain.Chain.{Chain}
-use Rattle.cdf_edits.specs.Commands.EntryChains.{kind_of_entries, max_field}
-use Rattle.cdf_edits.specs.Edits.EntryMarks.{entries_chain}
-use Rattle.cdf_edits.proofs.Commands.ListParts.{got-middle}
-use Rattle.cdf_edits.proofs.Edits.AttributeChains.{Stands, stands_at}
+use Rattle.cdf_edits.proofs.Edits.AttributeChains.{Stands}
 use Rattle.cdf_edits.proofs.Edits.FallenEntries.{as_long as as_long_lowered, rechains}
-use Rattle.cdf_edits.proofs.Edits.EntryFields.{max_lies}
-use Rattle.cdf_format.proofs.GoodSound.{good_is_sound}
-use Rattle.cdf_attrs.specs.Numbering.{AllLie}
-use Rattle.cdf_attrs.specs.Dropping.{DropsFrom, DropsNumber, IsScoped, KeepsAttributes, Lowers, LowersNumbers, lower_writes}
-use Rattle.cdf_attrs.specs.Finding.{IsOfAttribute}
-use Rattle.cdf_attrs.specs.Known.{KnownEntries, KnowsEntries}
 use Rattle.cdf_attrs.proofs.AttributeChain.{adr_inside}
 use Rattle.cdf_attrs.proofs.AttributeParts.{names_rechained, places_rechained}
 use Rattle.cdf_attrs.proofs.DroppedNumber.{adrs_now, long_now, names_now}

@@ -1,18 +1,8 @@
 -- The numbers of entries that are less by one, index by index.
 use Rattle.std.proofs.Common.{◌≡◌, ℕ, ℤ, pos, zero, suc, ◌+◌, ◌-◌, ◌<◌, ◌≤◌, List, [], ◌∷◌, ◌++◌, All, Contains, drop, get_or, length, map, refl, sym, ap, ap₂, subst, ◌∙◌, append_assoc, arith, inl, inr}
-use Rattle.std.proofs.lemmas.Bool.{cases_lt, lt-ltb, le-ltb}
-use Rattle.cdf_model.specs.Limits.{signed_limit}
-use Rattle.cdf_attrs.specs.Numbering.{AllLie}
-use Rattle.cdf_attrs.specs.Dropping.{lower_writes}
-use Rattle.cdf_attrs.specs.Removing.{IsGreatest}
+use Rattle.cdf_attrs.proofs.Common.{cases_lt, lt-ltb, le-ltb, signed_limit, AllLie, lower_writes, IsGreatest, fallen, length-with_field, LiesIn, with_field, In, Write, with_writes, write, Field, aedr_num}
 use Rattle.cdf_attrs.proofs.DeletingSteps.{lie_still}
 use Rattle.cdf_attrs.proofs.GreatestNumber.{each_of, is_member}
-use Rattle.cdf_edits.specs.Edits.FallenNumbers.{fallen}
-use Rattle.cdf_fields.proofs.Writes.{length-with_field}
-use Rattle.cdf_format.specs.Fields.{LiesIn, with_field}
-use Rattle.cdf_format.specs.Tiles.{In}
-use Rattle.cdf_edits.specs.Edits.Writes.{Write, with_writes, write}
-use Rattle.cdf_format.specs.Records.{Field, aedr_num}
 
 pub lower_falls : (num : ℕ) (ns ps : List ℕ) (i : ℕ) → i < length ns → length ns ≡ length ps → num < get_or ns i 0 → lower_writes num (drop i ns) (drop i ps) ≡ write (get_or ps i 0) aedr_num (get_or ns i 0 - 1) ∷ lower_writes num (drop (suc i) ns) (drop (suc i) ps)
 lower_falls num [] ps i lt long falls = absurd (omega arith)

@@ -1,24 +1,9 @@
 -- What calls ask for that take an entry out of its chain, and what they leave.
 use Rattle.std.proofs.Common.{◌≡◌, ℕ, ◌+◌, ◌≤◌, List, [], ◌∷◌, length, true, sym, subst, arith}
-use Rattle.cdf_model.specs.declared.kinds.EntryKind.{EntryKind}
+use Rattle.cdf_attrs.proofs.Common.{EntryKind, is_a, is_in, LiesIn, with_field, size_at, adr_type, HasShape, shape, IsSound, tiles, linkable-is_a, tiles_are, max_field, entries_chain, count_field, HasChain, HolderStands, Removed, members_of, has_chain, LeavesChain, max_lies, count_is, max_written, of_shape, parts_there, IsEntryOf}
 use Rattle.cdf_model.specs.declared.kinds.EntryKind.TheVariants as entries
-use Rattle.cdf_format.specs.Chains.{is_a, is_in}
-use Rattle.cdf_format.specs.Fields.{LiesIn, with_field, size_at}
-use Rattle.cdf_format.specs.RecordTypes.{adr_type}
-use Rattle.cdf_format.specs.Shape.{HasShape, shape}
-use Rattle.cdf_format.specs.Sound.{IsSound}
-use Rattle.cdf_format.specs.Tiles.{tiles}
-use Rattle.cdf_format.proofs.ChainsLemmas.{linkable-is_a}
-use Rattle.cdf_format.proofs.ShapeLemmas.{tiles_are}
-use Rattle.cdf_edits.specs.Commands.EntryChains.{max_field}
-use Rattle.cdf_edits.specs.Edits.EntryMarks.{entries_chain, count_field}
-use Rattle.cdf_edits.specs.Space.Chains.{HasChain, HolderStands, Removed, members_of}
-use Rattle.cdf_edits.proofs.Edits.ChainsOfShape.{has_chain, is_member}
-use Rattle.cdf_edits.proofs.Edits.LeftEntry.{LeavesChain}
-use Rattle.cdf_edits.proofs.Edits.EntryFields.{max_lies, count_is, max_written, of_shape}
-use Rattle.cdf_edits.proofs.Edits.Splice.{parts_there}
+use Rattle.cdf_edits.proofs.Edits.ChainsOfShape.{is_member}
 use Rattle.cdf_edits.proofs.Space.ChainHeads.{long_of, end_of}
-use Rattle.cdf_attrs.specs.Putting.{IsEntryOf}
 
 -- what the image has of the chain of an entry
 pub record HasEntry (b : List ℕ) (kind : EntryKind) (adr entry : ℕ) : Type 0 where

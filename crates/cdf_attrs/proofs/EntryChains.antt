@@ -1,36 +1,11 @@
 -- The chains of the entries of an attribute of a good image.
 use Rattle.std.proofs.Common.{◌≡◌, ℕ, zero, suc, ◌+◌, ◌≤◌, List, [], ◌∷◌, ◌++◌, length, map, true, Option, Some, None, refl, sym, ap, subst, ◌∙◌, arith, inl, inr}
-use Rattle.std.specs.List.{flat_map, slice_get}
-use Rattle.cdf_model.specs.declared.kinds.EntryKind.{EntryKind}
-use Rattle.cdf_model.specs.declared.kinds.EntryKind.TheVariants.{G, R, Z}
-use Rattle.cdf_model.specs.Limits.{record_number_limit}
-use Rattle.cdf_edits.specs.declared.chain.Chain.{Chain}
-use Rattle.cdf_edits.specs.declared.chain.Chain.TheVariants.{GrEntries, ZEntries}
-use Rattle.cdf_edits.specs.Commands.EntryChains.{chain_of}
-use Rattle.cdf_edits.specs.Space.Chains.{counted_in, members_of, type_in, HasChain, HolderStands}
-use Rattle.cdf_edits.proofs.Edits.ChainEntries.{nums, nums_differ}
-use Rattle.cdf_edits.proofs.Edits.ChainsOfShape.{IsOf, members_are, has_chain}
-use Rattle.cdf_format.specs.AttributeRules.{adr_rows, entries_rows, entry_bytes, entry_rows, has_value, same_number, same_name}
-use Rattle.cdf_format.specs.ChainRules.{count_rows, differ_rows}
-use Rattle.cdf_format.specs.Chains.{is_a}
-use Rattle.cdf_format.specs.Fields.{number, size_at}
-use Rattle.cdf_format.specs.Records.{Field, adr_name, adr_ngr_entries, adr_nz_entries, aedr_num}
-use Rattle.cdf_format.specs.RecordTypes.{adr_type}
-use Rattle.cdf_format.specs.Rules.{Hold}
-use Rattle.cdf_format.specs.Shape.{AttributeShape, Shape, adrs, shape, Each, HasEntries, HasShape}
-use Rattle.cdf_format.specs.Sound.{AttributeFits, EntryFits, IsSound}
-use Rattle.cdf_format.specs.Tiles.{Distinct, In, tiles}
-use Rattle.cdf_format.specs.WellFormed.{Good}
-use Rattle.cdf_format.proofs.ChainsLemmas.{linkable-in, linkable-is_a}
-use Rattle.cdf_format.proofs.GoodByShape.{attribute_shape_rows}
-use Rattle.cdf_format.proofs.GoodSound.{good_by_its_shape, good_is_sound}
-use Rattle.cdf_format.proofs.Members.{length-le_from_distinct}
-use Rattle.cdf_format.proofs.RowLemmas.{Hold-split, Hold-member}
-use Rattle.cdf_format.proofs.ShapeLemmas.{tiles_are}
-use Rattle.cdf_format.proofs.Tests.{eq_of, le_of}
-use Rattle.cdf_format.proofs.TilesLemmas.{length_tiles, tile_lies}
-use Rattle.cdf_attrs.specs.Finding.{IsOfAttribute}
-use Rattle.cdf_edits.specs.Edits.EntryMarks.{entries_chain}
+use Rattle.cdf_attrs.proofs.Common.{flat_map, slice_get, EntryKind, G, R, Z, record_number_limit, Chain, GrEntries, ZEntries, chain_of, counted_in, members_of, type_in, HasChain, HolderStands, nums, members_are, has_chain, entry_bytes, entry_rows, has_value, same_name, count_rows, differ_rows, is_a, number, size_at, Field, adr_name, adr_ngr_entries, adr_nz_entries, aedr_num, adr_type, Hold, AttributeShape, Shape, adrs, shape, Each, HasEntries, HasShape, EntryFits, IsSound, Distinct, In, tiles, Good, linkable-in, linkable-is_a, attribute_shape_rows, good_by_its_shape, good_is_sound, length-le_from_distinct, Hold-split, tiles_are, eq_of, le_of, length_tiles, tile_lies, IsOfAttribute, entries_chain}
+use Rattle.cdf_edits.proofs.Edits.ChainEntries.{nums_differ}
+use Rattle.cdf_edits.proofs.Edits.ChainsOfShape.{IsOf}
+use Rattle.cdf_format.specs.AttributeRules.{adr_rows, entries_rows, same_number}
+use Rattle.cdf_format.specs.Sound.{AttributeFits}
+use Rattle.cdf_format.proofs.RowLemmas.{Hold-member}
 
 -- what there is of an attribute that stands in a good image
 record Stands (b : List ℕ) (s : Shape) (a : AttributeShape) : Type 0 where

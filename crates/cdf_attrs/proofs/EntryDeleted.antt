@@ -1,51 +1,11 @@
 -- The command `del-entry`: what it is answered, and what is known of the attributes after it.
 use Rattle.std.proofs.Common.{◌≡◌, ℕ, zero, suc, ◌+◌, ◌^◌, ◌<◌, ◌≤◌, List, [], ◌∷◌, ◌++◌, length, Some, None, w32, refl, sym, ap, ap₂, subst, ◌∙◌, arith}
-use Rattle.std.proofs.lemmas.Option.{slice_get_within}
-use Rattle.std.specs.Int.{cast_unsigned}
-use Rattle.std.specs.List.{position, remove, slice_get}
-use Rattle.std.specs.Option.{option_and_then}
-use Rattle.std.specs.Prelude.{◌==◌, slice_index}
-use Rattle.cdf_model.specs.declared.answer.Outcome.TheVariants.{Done, Refused}
-use Rattle.cdf_model.specs.declared.answer.Reason.{Reason}
-use Rattle.cdf_model.specs.declared.answer.Reason.TheVariants.{NoSuchAttr, WrongScope, NoSuchEntry}
-use Rattle.cdf_model.specs.declared.answer.Reply.TheVariants.{Plain}
-use Rattle.cdf_model.specs.declared.command.Command.TheVariants.{DelEntry}
-use Rattle.cdf_model.specs.declared.kinds.EntryKind.{EntryKind}
+use Rattle.cdf_attrs.proofs.Common.{slice_get_within, cast_unsigned, position, remove, slice_get, option_and_then, ◌==◌, slice_index, Done, Refused, Reason, NoSuchAttr, WrongScope, NoSuchEntry, Plain, DelEntry, EntryKind, Answer, Go, entries_of, with_attribute, with_entries, Attribute, Entry, image_limit, attribute_names, attribute_named, without, ByStep, entry_bytes, content, attribute_of, entry_of, number, integer4, size_at, adr_type, aedr_num, AttributeShape, adrs, shape, IsSound, In, Good, good_is_sound, Chain, Answers, chain_of, max_field, greatest_number, entries_chain, count_field, Follows, counted_in, members_of, refused, gone, EntryLives, nums, nums_live, entries_left, greatest_integer, greatest_same, LeavesChain, left_frees, left_members, max_lies, FindsChain, IsRefusedFor, KnownEntries, Knows, KnowsEntries, IsEntryOf, IsGreatest, TakenAt, without_at, Cut, cut, got-middle}
 use Rattle.cdf_model.specs.declared.kinds.EntryKind.TheVariants as entries
-use Rattle.cdf_model.specs.Answers.{Answer, Go}
-use Rattle.cdf_model.specs.AttributeSteps.{entries_of, with_attribute, with_entries}
-use Rattle.cdf_model.specs.DataSet.{Attribute, Entry}
-use Rattle.cdf_model.specs.Limits.{image_limit}
-use Rattle.cdf_model.specs.Names.{attribute_names, attribute_named}
-use Rattle.cdf_model.specs.Numbered.{without}
-use Rattle.cdf_model.specs.Step.{ByStep}
-use Rattle.cdf_format.specs.AttributeRules.{entry_bytes}
-use Rattle.cdf_format.specs.Content.{content, attribute_of, entry_of, entries_of as chain_items}
-use Rattle.cdf_format.specs.Fields.{number, integer4, size_at}
-use Rattle.cdf_format.specs.RecordTypes.{adr_type}
-use Rattle.cdf_format.specs.Records.{aedr_num}
-use Rattle.cdf_format.specs.Shape.{AttributeShape, adrs, shape}
-use Rattle.cdf_format.specs.Sound.{IsSound}
-use Rattle.cdf_format.specs.Tiles.{In}
-use Rattle.cdf_format.specs.WellFormed.{Good}
-use Rattle.cdf_format.proofs.GoodSound.{good_is_sound}
-use Rattle.cdf_edits.specs.declared.chain.Chain.{Chain}
-use Rattle.cdf_edits.specs.Answers.{Answers}
-use Rattle.cdf_edits.specs.Commands.EntryChains.{chain_of, max_field, greatest_number}
-use Rattle.cdf_edits.specs.Edits.EntryMarks.{entries_chain, count_field}
-use Rattle.cdf_edits.specs.Follows.{Follows}
-use Rattle.cdf_edits.specs.Space.Chains.{counted_in, members_of, without as left_of}
-use Rattle.cdf_edits.proofs.Commands.Answered.{refused, gone}
-use Rattle.cdf_edits.proofs.Edits.ChainEntries.{EntryLives, nums, nums_live, entries_left}
-use Rattle.cdf_edits.proofs.Edits.ChainFollowed.{greatest_integer}
+use Rattle.cdf_format.specs.Content.{entries_of as chain_items}
+use Rattle.cdf_edits.specs.Space.Chains.{without as left_of}
 use Rattle.cdf_edits.proofs.Edits.FieldWritten.{written_reads}
-use Rattle.cdf_edits.proofs.Edits.FreedEntry.{greatest_same}
-use Rattle.cdf_edits.proofs.Edits.LeftEntry.{LeavesChain, count_now, left_frees, left_greatest, left_members, of_count}
-use Rattle.cdf_edits.proofs.Edits.EntryFields.{max_lies}
-use Rattle.cdf_attrs.specs.Finding.{FindsChain, IsRefusedFor}
-use Rattle.cdf_attrs.specs.Known.{KnownEntries, Knows, KnowsEntries}
-use Rattle.cdf_attrs.specs.Putting.{IsEntryOf}
-use Rattle.cdf_attrs.specs.Removing.{IsGreatest, TakenAt, without_at}
+use Rattle.cdf_edits.proofs.Edits.LeftEntry.{count_now, left_greatest, of_count}
 use Rattle.cdf_attrs.proofs.EntryCalls.{leaves}
 use Rattle.cdf_attrs.proofs.EntryChains.{counted, entries_differ, entry_lies, few_entries, members}
 use Rattle.cdf_attrs.proofs.EntryLeft as left
@@ -53,7 +13,6 @@ use Rattle.cdf_attrs.proofs.EntrySteps.{no_attribute, wrong_scope, no_entry}
 use Rattle.cdf_attrs.proofs.EntryTakenAt.{left_count, left_small, map-remove, numbered_at, once, places_are, without_at_index}
 use Rattle.cdf_attrs.proofs.GettingAnswers.{found_in, is_entry_at, is_item, of_attribute}
 use Rattle.cdf_attrs.proofs.GreatestNumber.{greatest_fits, greatest_of_items}
-use Rattle.cdf_edits.proofs.Commands.ListParts.{Cut, cut, got-middle}
 
 -- ---- the refusals
 

@@ -1,40 +1,15 @@
 -- An entry that was taken out of its chain and freed leads from a good image to the one that follows.
 use Rattle.std.proofs.Common.{◌≡◌, ◌≢◌, ℕ, ◌+◌, ◌≤◌, List, [], ◌∷◌, length, find, false, None, Option, Some, refl, sym, ap, ◌∙◌, arith}
+use Rattle.cdf_attrs.proofs.Common.{◌==◌, Plain, DelEntry, EntryKind, Go, entries_of, is_wrong_scope, with_attribute, with_entries, Entry, image_limit, attribute_named, attribute_names, item_at, without, ByStep, content, attribute_of, number, integer4, size_at, aedr_num, AttributeShape, shape, adrs, IsSound, In, Distinct, Good, good_is_sound, chain_after, chain_of, entry_at, max_field, greatest_number, entries_chain, count_field, with_chain, Follows, Act, Gave, gave, members_of, Gives, EntryLives, nums, entries_left, chain_now, found_none, found_one, Rechains, entry_stays, Frees, all_marks, count_same, freed_bytes, freed_rechains, freed_settled, LeavesChain, left_frees, left_members, the_one, count_is, Chained, chain_follows, counted_before, differ_before, follows_chained, items_of, of_named, once_before, rules_live}
 use Rattle.std.specs.Option.{option_to_list}
-use Rattle.std.specs.Prelude.{◌==◌}
-use Rattle.cdf_model.specs.declared.answer.Reply.TheVariants.{Plain}
-use Rattle.cdf_model.specs.declared.command.Command.TheVariants.{DelEntry}
-use Rattle.cdf_model.specs.declared.kinds.EntryKind.{EntryKind}
-use Rattle.cdf_model.specs.Answers.{Go}
-use Rattle.cdf_model.specs.AttributeSteps.{del_entry_step, entries_of, is_wrong_scope, with_attribute, with_entries}
-use Rattle.cdf_model.specs.DataSet.{Entry}
-use Rattle.cdf_model.specs.Limits.{image_limit}
-use Rattle.cdf_model.specs.Names.{attribute_named, attribute_names}
-use Rattle.cdf_model.specs.Numbered.{item_at, without}
-use Rattle.cdf_model.specs.Step.{ByStep}
-use Rattle.cdf_format.specs.Content.{content, attribute_of, entries_of as chain_items}
-use Rattle.cdf_format.specs.Fields.{number, integer4, size_at}
-use Rattle.cdf_format.specs.Records.{aedr_num}
-use Rattle.cdf_format.specs.Shape.{AttributeShape, shape, adrs}
-use Rattle.cdf_format.specs.Sound.{IsSound}
-use Rattle.cdf_format.specs.Tiles.{In, Distinct}
-use Rattle.cdf_format.specs.WellFormed.{Good}
-use Rattle.cdf_format.proofs.GoodSound.{good_is_sound}
-use Rattle.cdf_edits.specs.Commands.Entries.{DeletesEntry, chain_after}
-use Rattle.cdf_edits.specs.Commands.EntryChains.{chain_of, entry_at, max_field, greatest_number}
-use Rattle.cdf_edits.specs.Edits.EntryMarks.{entries_chain, count_field, with_chain}
-use Rattle.cdf_edits.specs.Follows.{Follows}
-use Rattle.cdf_edits.specs.Space.Acts.{Act, Gave, gave}
-use Rattle.cdf_edits.specs.Space.Chains.{members_of, without as left_of}
-use Rattle.cdf_edits.specs.Space.Placement.{Gives}
-use Rattle.cdf_edits.proofs.Edits.ChainEntries.{EntryLives, nums, nums_left, entries_left}
-use Rattle.cdf_edits.proofs.Edits.ChainFollowed.{chain_now, found_none, found_one, left_after}
-use Rattle.cdf_edits.proofs.Edits.ChainSpliced.{Rechains, entry_stays}
-use Rattle.cdf_edits.proofs.Edits.FreedEntry.{Frees, all_marks, count_same, freed_bytes, freed_rechains, freed_settled}
-use Rattle.cdf_edits.proofs.Edits.LeftEntry.{LeavesChain, left_end, left_frees, left_length, left_members, marks}
-use Rattle.cdf_edits.proofs.Edits.MarkLemmas.{the_one}
-use Rattle.cdf_edits.proofs.Edits.EntryFields.{count_is}
-use Rattle.cdf_edits.proofs.Edits.OneChain.{Chained, chain_follows, counted_before, differ_before, end_before, follows_chained, items_of, of_named, once_before, rules_live}
+use Rattle.cdf_model.specs.AttributeSteps.{del_entry_step}
+use Rattle.cdf_format.specs.Content.{entries_of as chain_items}
+use Rattle.cdf_edits.specs.Commands.Entries.{DeletesEntry}
+use Rattle.cdf_edits.specs.Space.Chains.{without as left_of}
+use Rattle.cdf_edits.proofs.Edits.ChainEntries.{nums_left}
+use Rattle.cdf_edits.proofs.Edits.ChainFollowed.{left_after}
+use Rattle.cdf_edits.proofs.Edits.LeftEntry.{left_end, left_length, marks}
+use Rattle.cdf_edits.proofs.Edits.OneChain.{end_before}
 use Rattle.cdf_attrs.proofs.EntryTakenAt.{from_map}
 use Rattle.cdf_attrs.proofs.AttributeParts.{members_rechained, names_rechained, places_rechained}
 

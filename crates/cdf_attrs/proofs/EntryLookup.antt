@@ -1,15 +1,7 @@
 -- The entry with a number: among the numbers and the places of a chain, and among the entries that the chain means.
 use Rattle.std.proofs.Common.{◌≡◌, ℕ, zero, suc, ◌+◌, ◌≤◌, List, [], ◌∷◌, length, map, Bool, true, false, not, cond, Option, Some, None, nat_lt, refl, sym, ap, ◌∙◌, arith, inl, inr}
-use Rattle.std.proofs.lemmas.List.{length-map}
-use Rattle.std.specs.Prelude.{◌==◌, if◌then◌else◌, find}
-use Rattle.std.specs.List.{position, position_or_len, slice_get}
-use Rattle.std.specs.Option.{option_and_then, option_map}
-use Rattle.cdf_model.specs.Numbered.{item_at, with_item}
-use Rattle.cdf_format.specs.Content.{entry_of, entries_of}
-use Rattle.cdf_format.specs.Fields.{number}
-use Rattle.cdf_format.specs.Records.{aedr_num}
-use Rattle.cdf_format.proofs.Members.{either}
-use Rattle.cdf_format.proofs.Tests.{eq_of}
+use Rattle.cdf_attrs.proofs.Common.{length-map, ◌==◌, if◌then◌else◌, find, position, position_or_len, slice_get, option_and_then, option_map, item_at, with_item, entry_of, number, aedr_num, either, eq_of}
+use Rattle.cdf_format.specs.Content.{entries_of}
 
 -- ---- a place by its number
 

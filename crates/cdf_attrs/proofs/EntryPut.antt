@@ -1,90 +1,39 @@
 -- The command `put-entry`: an entry is put as a last one of its chain, in the record of the one of its number, or in another record in its place.
 use Rattle.std.proofs.Common.{◌≡◌, ℕ, ◌+◌, ◌*◌, ◌^◌, ◌<◌, ◌≤◌, List, [], ◌∷◌, length, take, true, is_some, Some, refl, sym, ap, subst, ◌∙◌, arith, lit<, zero, suc, ◌++◌, find, eq-eqb, inl, inr, ◌≢◌, drop, None, append_assoc, Option, FitsSigned, w32}
-use Rattle.std.specs.Int.{w32, cast_signed, cast_unsigned}
-use Rattle.std.specs.List.{last_or, position}
-use Rattle.std.specs.Option.{unwrap_or}
-use Rattle.std.specs.Prelude.{nat_le, ◌==◌, slice_index, slice_set}
-use Rattle.std.proofs.lemmas.Bool.{and_from, le-leb, lt-leb, ne_eqb}
-use Rattle.std.proofs.lemmas.Int.{to_z-of_z}
-use Rattle.std.proofs.lemmas.List.{take_at, length-map, map-append, length-append}
-use Rattle.std.proofs.lemmas.Option.{slice_get_within}
+use Rattle.cdf_attrs.proofs.Common.{w32, cast_signed, cast_unsigned, last_or, position, unwrap_or, nat_le, ◌==◌, slice_index, slice_set, and_from, le-leb, ne_eqb, to_z-of_z, take_at, length-map, map-append, length-append, slice_get_within, Go, entries_of, with_attribute, with_entries, turned, Entry, signed_limit, image_limit, record_number_limit, attribute_named, with_item, record_limit, ByStep, size_of, Plain, PutEntry, DataType, EntryKind, size_stays, entry_bytes, has_value, entry_rows, Same, is_in, entry_of, content, attribute_of, word, number, is_positive, size_at, LiesIn, integer4, with_field, times, uir_type, record_type, aedr_data_type, aedr_num, aedr_value, Field, Hold, AttributeShape, shape, EntryFits, IsSound, field_bytes, known_type, data_type_in, is_little, In, tiles, Distinct, Good, piece_kept, linkable-in, good_is_sound, In-append_right, tiles_are, of_le, tile_lies, word4_fits, chain_after, entry_type, chain_of, max_field, entry_at, greatest_number, Says, room, entries_chain, count_field, with_chain, Mark, Act, Gave, Took, Added, counted_in, members_of, type_in, HasChain, HolderStands, before, Gives, IsBody, Placed, type_of_body, Chain, nums, EntryLives, nums_live, chain_now, found_one, found_none, greatest_integer, Rechains, entry_stays, max_lies, count_is, max_written, Frees, count_same, freed_bytes, freed_rechains, freed_settled, greatest_same, old_free, old_stands, sound_late, all_marks, the_one, Chained, chain_follows, follows_chained, items_of, of_named, once_before, rules_live, counted_before, differ_before, placed_says, says_kept, apart, IsOfAttribute, KnownEntries, HasOld, IsPut, IsReady, IsStored, new_reserved, IsGreatest, NewEntry}
+use Rattle.std.proofs.lemmas.Bool.{lt-leb}
 use Rattle.cdf_base.specs.Bytes.{put}
-use Rattle.cdf_model.specs.Answers.{Go}
-use Rattle.cdf_model.specs.AttributeSteps.{entries_of, with_attribute, with_entries}
-use Rattle.cdf_model.specs.ByteOrder.{turned}
-use Rattle.cdf_model.specs.DataSet.{Entry}
-use Rattle.cdf_model.specs.Limits.{signed_limit, image_limit, record_number_limit}
-use Rattle.cdf_model.specs.Names.{attribute_named}
-use Rattle.cdf_model.specs.Numbered.{with_item}
-use Rattle.cdf_model.specs.Place.{record_limit}
-use Rattle.cdf_model.specs.Step.{ByStep}
-use Rattle.cdf_model.specs.Types.{size_of, type_of}
-use Rattle.cdf_model.specs.declared.answer.Reply.TheVariants.{Plain}
-use Rattle.cdf_model.specs.declared.command.Command.TheVariants.{PutEntry}
-use Rattle.cdf_model.specs.declared.data_type.DataType.{DataType}
+use Rattle.cdf_model.specs.Types.{type_of}
 use Rattle.cdf_model.specs.declared.data_type.DataType.TheVariants.{Byte}
-use Rattle.cdf_model.specs.declared.kinds.EntryKind.{EntryKind}
 use Rattle.cdf_model.specs.declared.kinds.EntryKind.TheVariants as entries
-use Rattle.cdf_values.proofs.TurnedLemmas.{size_stays}
-use Rattle.cdf_format.specs.AttributeRules.{entry_bytes, has_value, entry_rows}
-use Rattle.cdf_format.specs.Bytes.{Same}
-use Rattle.cdf_format.specs.Chains.{is_in}
-use Rattle.cdf_format.specs.Content.{entry_of, content, attribute_of, entries_of as chain_items}
-use Rattle.cdf_format.specs.Fields.{word, number, is_positive, size_at, LiesIn, integer4, with_field}
-use Rattle.cdf_format.specs.Owners.{owned_records, times}
-use Rattle.cdf_format.specs.RecordTypes.{uir_type}
-use Rattle.cdf_format.specs.Records.{record_type, aedr_aedr_next, aedr_attr_num, aedr_data_type, aedr_num, aedr_num_strings, aedr_rfu_b, aedr_rfu_c, aedr_rfu_d, aedr_rfu_e, aedr_value, Field}
-use Rattle.cdf_format.specs.Rules.{Hold}
-use Rattle.cdf_format.specs.Shape.{AttributeShape, shape}
-use Rattle.cdf_format.specs.Sound.{EntryFits, IsSound}
-use Rattle.cdf_format.specs.Stored.{field_bytes, known_type, data_type_in, is_little}
-use Rattle.cdf_format.specs.Tiles.{In, tiles, Distinct}
-use Rattle.cdf_format.specs.WellFormed.{Good}
-use Rattle.cdf_format.proofs.BytesLemmas.{piece_kept, Same-part, length-put, size_kept}
-use Rattle.cdf_format.proofs.ChainsLemmas.{linkable-in}
-use Rattle.cdf_format.proofs.GoodSound.{good_is_sound}
-use Rattle.cdf_format.proofs.Members.{is_in-true, In-append_right}
-use Rattle.cdf_format.proofs.ShapeLemmas.{tiles_are}
-use Rattle.cdf_format.proofs.Tests.{of_le}
-use Rattle.cdf_format.proofs.TilesLemmas.{tile_lies}
+use Rattle.cdf_format.specs.Content.{entries_of as chain_items}
+use Rattle.cdf_format.specs.Owners.{owned_records}
+use Rattle.cdf_format.specs.Records.{aedr_aedr_next, aedr_attr_num, aedr_num_strings, aedr_rfu_b, aedr_rfu_c, aedr_rfu_d, aedr_rfu_e}
+use Rattle.cdf_format.proofs.BytesLemmas.{Same-part, length-put, size_kept}
+use Rattle.cdf_format.proofs.Members.{is_in-true}
 use Rattle.cdf_fields.proofs.Writes.{drop-put_there}
-use Rattle.cdf_records.proofs.Places.{word4_fits}
 use Rattle.cdf_edits.specs.Commands.Allowances.{FreedStay, no_fields}
-use Rattle.cdf_edits.specs.Commands.Entries.{PutsEntry, EntryFollows, chain_after, EntryMoves, entry_end}
-use Rattle.cdf_edits.specs.Commands.EntryChains.{entry_type, chain_of, max_field, entry_at, greatest_number}
-use Rattle.cdf_edits.specs.Commands.NewRecords.{Says}
-use Rattle.cdf_edits.specs.Commands.Room.{room}
-use Rattle.cdf_edits.specs.Edits.EntryMarks.{entries_chain, count_field, with_chain}
-use Rattle.cdf_edits.specs.Edits.Marks.{Mark}
-use Rattle.cdf_edits.specs.Space.Acts.{Act, Gave, Took}
-use Rattle.cdf_edits.specs.Space.Adding.{Joined, Added, Exchanged}
-use Rattle.cdf_edits.specs.Space.Chains.{counted_in, members_of, type_in, HasChain, HolderStands, with_in_place, before}
-use Rattle.cdf_edits.specs.Space.Placement.{Gives}
-use Rattle.cdf_edits.specs.Space.Placing.{IsBody, Placed, laid_out, type_of_body}
-use Rattle.cdf_edits.specs.declared.chain.Chain.{Chain}
+use Rattle.cdf_edits.specs.Commands.Entries.{PutsEntry, EntryFollows, EntryMoves, entry_end}
+use Rattle.cdf_edits.specs.Space.Adding.{Joined, Exchanged}
+use Rattle.cdf_edits.specs.Space.Chains.{with_in_place}
+use Rattle.cdf_edits.specs.Space.Placing.{laid_out}
 use Rattle.cdf_edits.proofs.Commands.TypeCodes.{type_back, code_small}
-use Rattle.cdf_edits.proofs.Edits.ChainEntries.{nums, EntryLives, entries_live, entries_pushed, entries_replaced, nums_live, nums_pushed, nums_replaced}
-use Rattle.cdf_edits.proofs.Edits.ChainFollowed.{chain_now, found_one, found_none, greatest_integer, replaced_after}
+use Rattle.cdf_edits.proofs.Edits.ChainEntries.{entries_live, entries_pushed, entries_replaced, nums_pushed, nums_replaced}
+use Rattle.cdf_edits.proofs.Edits.ChainFollowed.{replaced_after}
 use Rattle.cdf_edits.proofs.Edits.ChainOwners.{traded_member, came_in, one_within}
-use Rattle.cdf_edits.proofs.Edits.ChainSpliced.{Rechains, num_same, file_now, entry_stays}
+use Rattle.cdf_edits.proofs.Edits.ChainSpliced.{num_same, file_now}
 use Rattle.cdf_edits.proofs.Edits.Composing.{same-then}
-use Rattle.cdf_edits.proofs.Edits.EntryFields.{max_lies, as_count, count_is, max_written}
-use Rattle.cdf_edits.proofs.Edits.FreedEntry.{Frees, as_long_now, count_same, freed_bytes, freed_rechains, freed_settled, greatest_same, old_free, old_stands, other_kept, sound_late, all_marks}
+use Rattle.cdf_edits.proofs.Edits.EntryFields.{as_count}
+use Rattle.cdf_edits.proofs.Edits.FreedEntry.{as_long_now, other_kept}
 use Rattle.cdf_edits.proofs.Edits.MadeRecord.{filled_edit}
-use Rattle.cdf_edits.proofs.Edits.MarkLemmas.{the_one}
-use Rattle.cdf_edits.proofs.Edits.OneChain.{Chained, Settled, chain_follows, follows_chained, items_of, of_named, once_before, rules_live, counted_before, differ_before}
+use Rattle.cdf_edits.proofs.Edits.OneChain.{Settled}
 use Rattle.cdf_edits.proofs.Edits.PutEntry.{ChangesEntry, IsAmong, JoinsEntry, as_long, count_now, ends, exchanges, frees, greatest_now, in_its_place, list, marks, new_size, new_type, new_value, not_old, over_behind, over_count, over_greatest, over_kept, over_long, over_marks, over_rechains, over_settled, over_size, place_in, pushes, rechains, records, settled}
 use Rattle.cdf_edits.proofs.Edits.Splice.{adr_stands}
-use Rattle.cdf_edits.proofs.Space.LaidOut.{placed_says, says_kept, says_laid_out}
-use Rattle.cdf_edits.proofs.Space.UsedRecords.{apart}
-use Rattle.cdf_attrs.specs.Finding.{IsOfAttribute}
-use Rattle.cdf_attrs.specs.Known.{KnownEntries}
-use Rattle.cdf_attrs.specs.PutValues.{HasOld, IsPut, IsReady, new_entry}
-use Rattle.cdf_attrs.specs.Putting.{aedr_fields, aedr_body, Fit, IsStored, new_reserved}
-use Rattle.cdf_attrs.specs.Removing.{IsGreatest}
+use Rattle.cdf_edits.proofs.Space.LaidOut.{says_laid_out}
+use Rattle.cdf_attrs.specs.PutValues.{new_entry}
+use Rattle.cdf_attrs.specs.Putting.{aedr_fields, aedr_body, Fit}
 use Rattle.cdf_attrs.specs.declared.entry_bytes.OldEntry.{OldEntry}
 use Rattle.cdf_attrs.specs.declared.entry_bytes.Reserved.{Reserved}
-use Rattle.cdf_attrs.specs.declared.putting.NewEntry.{NewEntry}
 use Rattle.cdf_attrs.proofs.AttributeChain.{few_attributes, index_in}
 use Rattle.cdf_attrs.proofs.AttributeParts.{parts, members_at, names_rechained, number_at, places_rechained, Parts}
 use Rattle.cdf_attrs.proofs.EntryChains.{holder_stands, chain_there, counted, entry_inside, entry_lies, few_entries, members}

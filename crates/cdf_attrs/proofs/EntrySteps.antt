@@ -1,12 +1,7 @@
 -- What the steps of commands on an entry that is there come to, one reason after the other.
 use Rattle.std.proofs.Common.{◌≡◌, ℕ, List, true, false, Some, None, refl}
-use Rattle.cdf_model.specs.declared.answer.Reason.TheVariants.{NoSuchAttr, WrongScope, NoSuchEntry}
-use Rattle.cdf_model.specs.declared.kinds.EntryKind.{EntryKind}
-use Rattle.cdf_model.specs.Answers.{Answer, Refuse}
-use Rattle.cdf_model.specs.AttributeSteps.{entries_of, is_wrong_scope, on_entry}
-use Rattle.cdf_model.specs.DataSet.{Attribute, DataSet, Entry}
-use Rattle.cdf_model.specs.Names.{attribute_named}
-use Rattle.cdf_model.specs.Numbered.{item_at}
+use Rattle.cdf_attrs.proofs.Common.{NoSuchAttr, WrongScope, NoSuchEntry, EntryKind, Answer, Refuse, entries_of, is_wrong_scope, Attribute, DataSet, Entry, attribute_named, item_at}
+use Rattle.cdf_model.specs.AttributeSteps.{on_entry}
 
 module _ (d : DataSet) (name : List ℕ) (kind : EntryKind) (num : ℕ) (answer : ℕ → Attribute → Entry → Answer) where
   pub no_attribute : attribute_named d name ≡ None → on_entry d name kind num answer ≡ Refuse NoSuchAttr

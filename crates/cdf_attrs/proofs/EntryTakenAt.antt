@@ -1,29 +1,11 @@
 -- An entry at an index of its chain: what of the chain is before it and without it, and what calls ask for that take it out.
 use Rattle.std.proofs.Common.{◌≡◌, ℕ, zero, suc, ◌+◌, ◌<◌, ◌≤◌, pos, List, [], ◌∷◌, length, map, take, get_or, slice_index_or, Some, All, eq-eqb, FitsSigned, w32, None, refl, sym, ap, subst, ◌∙◌, arith, inl, inr}
-use Rattle.std.proofs.lemmas.Bool.{eqb-true, ne_eqb}
-use Rattle.std.proofs.lemmas.Int.{ints, of_z-to_z}
-use Rattle.std.specs.Int.{cast_signed, cast_unsigned}
-use Rattle.std.proofs.lemmas.List.{get_or-map, length-map}
+use Rattle.cdf_attrs.proofs.Common.{eqb-true, ne_eqb, ints, of_z-to_z, cast_signed, cast_unsigned, length-map, position-Some, last_or, position, remove, slice_get, ◌==◌, slice_index, EntryKind, image_limit, record_number_limit, signed_limit, number, aedr_num, AttributeShape, In, Distinct, Good, Chain, entries_chain, before, members_of, IsOfAttribute, KnownEntries, KnowsEntries, IsEntryOf, got-middle}
+use Rattle.std.proofs.lemmas.List.{get_or-map}
 use Rattle.std.proofs.lemmas.List.Edits.{length-remove}
-use Rattle.std.proofs.lemmas.List.Quantifiers.{position-Some}
-use Rattle.std.specs.List.{last_or, position, remove, slice_get}
-use Rattle.std.specs.Prelude.{◌==◌, slice_index}
-use Rattle.cdf_model.specs.declared.kinds.EntryKind.{EntryKind}
-use Rattle.cdf_model.specs.Limits.{image_limit, record_number_limit, signed_limit}
-use Rattle.cdf_format.specs.Fields.{number}
-use Rattle.cdf_format.specs.Records.{aedr_num}
-use Rattle.cdf_format.specs.Shape.{AttributeShape}
-use Rattle.cdf_format.specs.Tiles.{In, Distinct}
-use Rattle.cdf_format.specs.WellFormed.{Good}
-use Rattle.cdf_edits.specs.declared.chain.Chain.{Chain}
-use Rattle.cdf_edits.specs.Edits.EntryMarks.{entries_chain}
-use Rattle.cdf_edits.specs.Space.Chains.{before, members_of, without}
-use Rattle.cdf_attrs.specs.Finding.{IsOfAttribute}
-use Rattle.cdf_attrs.specs.Known.{KnownEntries, KnowsEntries}
-use Rattle.cdf_attrs.specs.Putting.{IsEntryOf}
+use Rattle.cdf_edits.specs.Space.Chains.{without}
 use Rattle.cdf_attrs.proofs.AttributeChain.{index_in}
 use Rattle.cdf_attrs.proofs.EntryChains.{entry_number, chain_there, few_entries}
-use Rattle.cdf_edits.proofs.Commands.ListParts.{got-middle}
 
 -- ---- lists
 

@@ -1,37 +1,8 @@
 -- What the command that shows an entry is answered.
 use Rattle.std.proofs.Common.{◌≡◌, ℕ, ◌+◌, ◌≤◌, List, [], ◌∷◌, length, Bool, true, false, cond, Option, Some, None, refl, sym, ap, subst, ◌∙◌, arith, inl, inr}
-use Rattle.std.specs.Prelude.{◌==◌, find}
-use Rattle.std.specs.List.{position, slice_get}
-use Rattle.std.specs.Option.{option_and_then, option_map}
-use Rattle.cdf_model.specs.declared.answer.Outcome.TheVariants.{Done, Refused}
-use Rattle.cdf_model.specs.declared.answer.Reason.{Reason}
-use Rattle.cdf_model.specs.declared.answer.Reason.TheVariants.{NoSuchAttr, WrongScope, NoSuchEntry}
-use Rattle.cdf_model.specs.declared.answer.Reply.{Reply}
-use Rattle.cdf_model.specs.declared.command.Command.{Command}
-use Rattle.cdf_model.specs.declared.command.Command.TheVariants.{GetEntry}
-use Rattle.cdf_model.specs.declared.kinds.EntryKind.{EntryKind}
-use Rattle.cdf_model.specs.declared.kinds.EntryKind.TheVariants.{G, R, Z}
-use Rattle.cdf_model.specs.Answers.{Answer, Go}
-use Rattle.cdf_model.specs.AttributeSteps.{entries_of}
-use Rattle.cdf_model.specs.DataSet.{Attribute, Entry}
-use Rattle.cdf_model.specs.Numbered.{item_at}
-use Rattle.cdf_model.specs.Step.{ByStep}
-use Rattle.cdf_edits.specs.declared.chain.Chain.{Chain}
-use Rattle.cdf_edits.specs.Answers.{Answers}
-use Rattle.cdf_edits.specs.Commands.EntryChains.{chain_of, entry_at}
-use Rattle.cdf_edits.specs.Space.Chains.{members_of}
-use Rattle.cdf_edits.proofs.Commands.Answered.{refused, gone}
+use Rattle.cdf_attrs.proofs.Common.{◌==◌, find, position, slice_get, option_and_then, option_map, Done, Refused, Reason, NoSuchAttr, WrongScope, NoSuchEntry, Reply, Command, GetEntry, EntryKind, G, R, Z, Answer, Go, entries_of, Attribute, Entry, item_at, ByStep, Chain, Answers, chain_of, entry_at, members_of, refused, gone, entry_bytes, content, attribute_of, entry_of, number, aedr_num, AttributeShape, In, Good, FindsChain, IsOfAttribute, IsRefusedFor, entry_reply, KnownEntries, KnowsEntries}
 use Rattle.cdf_edits.proofs.Commands.ReadingFollows.{reading_follows}
-use Rattle.cdf_format.specs.AttributeRules.{entry_bytes}
-use Rattle.cdf_format.specs.Content.{content, attribute_of, entry_of, entries_of as items_of}
-use Rattle.cdf_format.specs.Fields.{number}
-use Rattle.cdf_format.specs.Records.{aedr_num}
-use Rattle.cdf_format.specs.Shape.{AttributeShape}
-use Rattle.cdf_format.specs.Tiles.{In}
-use Rattle.cdf_format.specs.WellFormed.{Good}
-use Rattle.cdf_attrs.specs.Finding.{FindsChain, IsOfAttribute, IsRefusedFor}
-use Rattle.cdf_attrs.specs.Getting.{entry_reply}
-use Rattle.cdf_attrs.specs.Known.{KnownEntries, KnowsEntries}
+use Rattle.cdf_format.specs.Content.{entries_of as items_of}
 use Rattle.cdf_attrs.proofs.EntryChains.{members, entry_inside}
 use Rattle.cdf_attrs.proofs.EntryLookup.{place_found, item_of_chain}
 use Rattle.cdf_attrs.proofs.EntrySteps.{no_attribute, wrong_scope, no_entry, has_entry}

@@ -1,21 +1,9 @@
 -- The greatest of the numbers of entries is that of the items that they are.
 use Rattle.std.proofs.Common.{◌≡◌, ◌⊎◌, ℕ, zero, suc, ◌+◌, ◌<◌, ◌≤◌, ℤ, pos, List, [], ◌∷◌, length, map, FitsSigned, w32, nat_lt, ◌==◌, slice_index_or, All, Contains, refl, sym, ap, subst, ◌∙◌, arith, inl, inr}
-use Rattle.std.specs.Int.{cast_signed}
-use Rattle.std.proofs.lemmas.Int.{ints, to_z_pos}
+use Rattle.cdf_attrs.proofs.Common.{cast_signed, ints, to_z_pos, Entry, signed_limit, with_item, entry_of, number, aedr_num, In, either, eq_of, greatest_number, nums, IsGreatest}
 use Rattle.std.proofs.lemmas.List.Elements.{All-head, All-tail}
-use Rattle.cdf_model.specs.DataSet.{Entry}
-use Rattle.cdf_model.specs.Limits.{signed_limit}
-use Rattle.cdf_model.specs.Numbered.{with_item}
-use Rattle.cdf_format.specs.Content.{entry_of, entries_of}
-use Rattle.cdf_format.specs.Fields.{number}
-use Rattle.cdf_format.specs.Records.{aedr_num}
-use Rattle.cdf_format.specs.Tiles.{In}
-use Rattle.cdf_format.proofs.Members.{either}
-use Rattle.cdf_format.proofs.Tests.{eq_of}
-use Rattle.cdf_edits.specs.Commands.EntryChains.{greatest_number}
-use Rattle.cdf_edits.proofs.Edits.ChainEntries.{nums}
+use Rattle.cdf_format.specs.Content.{entries_of}
 use Rattle.cdf_edits.proofs.Edits.NumberedItems.{Rising, rising_with}
-use Rattle.cdf_attrs.specs.Removing.{IsGreatest}
 
 -- ---- members
 

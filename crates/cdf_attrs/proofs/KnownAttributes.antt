@@ -1,9 +1,6 @@
 -- What is kept of the attributes, in terms of an image.
 use Rattle.std.proofs.Common.{◌≡◌, ℕ, List, None, ap, ◌∙◌}
-use Rattle.cdf_format.specs.Content.{content}
-use Rattle.cdf_format.specs.Shape.{adrs, shape}
-use Rattle.cdf_model.specs.Names.{attribute_names}
-use Rattle.cdf_attrs.specs.Known.{Known, Knows}
+use Rattle.cdf_attrs.proofs.Common.{content, adrs, shape, attribute_names, Known, Knows}
 
 module _ {b : List ℕ} {v known : Known} (knows : Knows b known) (is : v ≡ known) where
   pub names_known : v.names ≡ attribute_names (content b)

@@ -1,33 +1,9 @@
 -- The numbers of a known chain that were written less by one: what the image comes to.
 use Rattle.std.proofs.Common.{◌≡◌, ℕ, ◌-◌, ◌≤◌, List, [], ◌∷◌, ◌++◌, length, map, Some, w32, refl, sym, ap, ap₂, subst, ◌∙◌, arith, inl, inr}
-use Rattle.std.proofs.lemmas.Bool.{cases_lt, lt-ltb, le-ltb}
-use Rattle.std.proofs.lemmas.Option.{slice_get_within}
-use Rattle.std.specs.Int.{cast_unsigned}
-use Rattle.std.specs.List.{slice_get}
-use Rattle.cdf_model.specs.AttributeSteps.{entries_of, with_attribute, with_entries}
-use Rattle.cdf_model.specs.Limits.{image_limit, signed_limit}
-use Rattle.cdf_model.specs.Numbered.{closed_up}
-use Rattle.cdf_format.specs.Content.{content, attribute_of}
-use Rattle.cdf_format.specs.Fields.{number, integer4, with_field}
-use Rattle.cdf_format.specs.Records.{aedr_num}
-use Rattle.cdf_format.specs.RecordTypes.{adr_type}
-use Rattle.cdf_format.specs.Shape.{AttributeShape, shape}
-use Rattle.cdf_format.specs.Tiles.{In}
-use Rattle.cdf_format.specs.WellFormed.{Good}
-use Rattle.cdf_edits.specs.declared.chain.Chain.{Chain}
-use Rattle.cdf_edits.specs.Commands.EntryChains.{chain_of, max_field, greatest_number}
-use Rattle.cdf_edits.specs.Edits.FallenNumbers.{fallen}
-use Rattle.cdf_edits.specs.Edits.Writes.{Write, with_writes, write}
-use Rattle.cdf_edits.proofs.Commands.ListParts.{Cut, cut, got-middle}
-use Rattle.cdf_edits.proofs.Edits.ChainEntries.{nums}
-use Rattle.cdf_edits.proofs.Edits.FallenEntries.{LowersChain, content_lowered, entries_now, good_lowered, later, lowered, nums_now, of_max}
+use Rattle.cdf_attrs.proofs.Common.{cases_lt, lt-ltb, le-ltb, slice_get_within, cast_unsigned, slice_get, entries_of, with_attribute, with_entries, image_limit, signed_limit, closed_up, content, attribute_of, number, integer4, with_field, aedr_num, adr_type, AttributeShape, shape, In, Good, Chain, chain_of, max_field, greatest_number, fallen, Write, with_writes, write, Cut, cut, got-middle, nums, LowersChain, max_lies, LowersNumbers, lower_writes, IsOfAttribute, KnownEntries, KnowsEntries, IsGreatest}
+use Rattle.cdf_edits.proofs.Edits.FallenEntries.{content_lowered, entries_now, good_lowered, later, lowered, nums_now, of_max}
 use Rattle.cdf_edits.proofs.Edits.FallenItems.{falls, rests}
 use Rattle.cdf_edits.proofs.Edits.FieldWritten.{written_integer}
-use Rattle.cdf_edits.proofs.Edits.EntryFields.{max_lies}
-use Rattle.cdf_attrs.specs.Dropping.{LowersNumbers, lower_writes}
-use Rattle.cdf_attrs.specs.Finding.{IsOfAttribute}
-use Rattle.cdf_attrs.specs.Known.{KnownEntries, KnowsEntries}
-use Rattle.cdf_attrs.specs.Removing.{IsGreatest}
 use Rattle.cdf_attrs.proofs.EntryChains.{members}
 use Rattle.cdf_attrs.proofs.EntryTakenAt.{places_are, small}
 use Rattle.cdf_attrs.proofs.GreatestNumber.{greatest_fits, greatest_of_items}

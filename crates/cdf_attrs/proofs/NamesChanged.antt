@@ -1,15 +1,8 @@
 -- The names of attributes, and what a renaming makes of them.
 use Rattle.std.proofs.Common.{◌≡◌, ℕ, ◌<◌, List, length, None, Some, bytes_eq, sym, ap, ap₂, refl, ◌∙◌, arith}
-use Rattle.std.proofs.lemmas.List.{length-map, map-set}
-use Rattle.std.proofs.lemmas.Option.{slice_get_within}
-use Rattle.std.specs.Prelude.{slice_set}
-use Rattle.std.specs.List.{position, slice_get}
-use Rattle.cdf_model.specs.AttributeSteps.{with_attribute}
-use Rattle.cdf_model.specs.DataSet.{Attribute, DataSet}
-use Rattle.cdf_model.specs.Names.{attribute_names, attribute_named, numbered}
-use Rattle.cdf_names.specs.Names.{number_of}
+use Rattle.cdf_attrs.proofs.Common.{length-map, map-set, slice_get_within, slice_set, position, slice_get, with_attribute, Attribute, DataSet, attribute_names, attribute_named, number_of, cut, got-middle}
+use Rattle.cdf_model.specs.Names.{numbered}
 use Rattle.cdf_names.proofs.Keys.{number_of-keys, found_at}
-use Rattle.cdf_edits.proofs.Commands.ListParts.{cut, got-middle}
 
 -- the number of a name is that of its attribute
 pub numbered_name : (d : DataSet) (names : List (List ℕ)) (name : List ℕ) → names ≡ attribute_names d → position (λ (a : Attribute). bytes_eq name a.name) d.attributes ≡ number_of names name

@@ -1,16 +1,8 @@
 -- The names of the attributes of a good image differ.
 use Rattle.std.proofs.Common.{◌≡◌, ℕ, List, [], ◌∷◌, ◌++◌, Bool, true, false, ◌||◌, bytes_eq, refl, sym, subst, append_assoc}
-use Rattle.std.specs.List.{list_any, AllByRecursion, IsDistinct}
-use Rattle.cdf_model.specs.Names.{attribute_names}
-use Rattle.cdf_format.specs.AttributeRules.{same_name}
-use Rattle.cdf_format.specs.ChainRules.{differ_rows}
-use Rattle.cdf_format.specs.Content.{content}
-use Rattle.cdf_format.specs.Records.{adr_name}
-use Rattle.cdf_format.specs.Shape.{adrs, shape}
-use Rattle.cdf_format.specs.WellFormed.{Good}
-use Rattle.cdf_format.proofs.RowLemmas.{Hold-split}
-use Rattle.cdf_format.proofs.NameRules.{AreNew, absent-split, differ-turned, names_differ, attribute_names_are}
-use Rattle.cdf_format.proofs.GoodSound.{good_by_its_shape}
+use Rattle.cdf_attrs.proofs.Common.{list_any, AllByRecursion, attribute_names, same_name, differ_rows, content, adr_name, adrs, shape, Good, Hold-split, AreNew, differ-turned, names_differ, attribute_names_are, good_by_its_shape}
+use Rattle.std.specs.List.{IsDistinct}
+use Rattle.cdf_format.proofs.NameRules.{absent-split}
 
 first_false : (p q : Bool) → (p || q) ≡ false → p ≡ false
 first_false true q e = absurd cc

@@ -1,16 +1,9 @@
 -- A new ADR: what was written of it reads back.
 use Rattle.std.proofs.Common.{◌≡◌, ℕ, ◌+◌, ◌-◌, ◌^◌, ◌<◌, ◌≤◌, List, ◌∷◌, ◌++◌, length, take, replicate, refl, ap, ◌∙◌, arith, lit<}
-use Rattle.std.proofs.lemmas.List.{length-append, length-replicate, take_at}
-use Rattle.cdf_format.specs.Bytes.{Same}
-use Rattle.cdf_format.specs.Fields.{word, number}
-use Rattle.cdf_format.specs.Records.{record_type, adr_adr_next, adr_agr_edr_head, adr_scope, adr_num, adr_ngr_entries, adr_az_edr_head, adr_nz_entries, adr_name}
-use Rattle.cdf_format.specs.RecordTypes.{uir_type}
-use Rattle.cdf_format.proofs.BytesLemmas.{piece_kept}
+use Rattle.cdf_attrs.proofs.Common.{length-append, take_at, Same, word, number, record_type, adr_agr_edr_head, adr_scope, adr_num, adr_ngr_entries, adr_az_edr_head, adr_nz_entries, adr_name, uir_type, piece_kept, Says, IsFilled, IsBody, Placed, placed_says, says_kept, apart}
+use Rattle.std.proofs.lemmas.List.{length-replicate}
+use Rattle.cdf_format.specs.Records.{adr_adr_next}
 use Rattle.cdf_edits.specs.Commands.Attributes.{new_adr}
-use Rattle.cdf_edits.specs.Commands.NewRecords.{Says, IsFilled}
-use Rattle.cdf_edits.specs.Space.Placing.{IsBody, Placed}
-use Rattle.cdf_edits.proofs.Space.LaidOut.{placed_says, says_kept}
-use Rattle.cdf_edits.proofs.Space.UsedRecords.{apart}
 use Rattle.cdf_attrs.specs.Creating.{adr_fields, adr_body}
 
 -- what the fields of a new ADR say

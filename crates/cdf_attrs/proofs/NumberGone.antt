@@ -1,17 +1,6 @@
 -- A number that stands nowhere in a chain: there was none, or its entry went.
 use Rattle.std.proofs.Common.{◌≡◌, ◌∙◌, ℕ, zero, suc, ◌+◌, ◌<◌, List, [], ◌∷◌, Bool, true, false, Some, None, cond, not, eq-eqb, eqb-true, get_or, length, refl, sym, ap, subst, arith, inl, inr}
-use Rattle.std.proofs.lemmas.Bool.{lt-ltb}
-use Rattle.std.proofs.lemmas.List.Quantifiers.{position-Some}
-use Rattle.std.specs.List.{position, position_or_len, remove}
-use Rattle.std.specs.Prelude.{◌==◌, slice_index}
-use Rattle.cdf_format.specs.Tiles.{Distinct, In}
-use Rattle.cdf_format.specs.WellFormed.{Good}
-use Rattle.cdf_model.specs.declared.kinds.EntryKind.{EntryKind}
-use Rattle.cdf_attrs.specs.Dropping.{DropsNumber}
-use Rattle.cdf_attrs.specs.Finding.{IsOfAttribute}
-use Rattle.cdf_attrs.specs.Known.{KnownEntries, KnowsEntries}
-use Rattle.cdf_edits.specs.declared.chain.Chain.{Chain}
-use Rattle.cdf_edits.proofs.Edits.ChainEntries.{nums}
+use Rattle.cdf_attrs.proofs.Common.{lt-ltb, position-Some, position, position_or_len, remove, ◌==◌, slice_index, Distinct, In, Good, EntryKind, DropsNumber, IsOfAttribute, KnownEntries, KnowsEntries, Chain, nums}
 use Rattle.cdf_attrs.proofs.AttributeChain.{index_in}
 use Rattle.cdf_attrs.proofs.EntryChains.{entries_differ, members}
 use Rattle.cdf_attrs.proofs.EntryTakenAt.{places_are}

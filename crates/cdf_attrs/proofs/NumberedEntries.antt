@@ -1,14 +1,7 @@
 -- Lists of attributes and of entries by their numbers.
 use Rattle.std.proofs.Common.{◌≡◌, ◌≢◌, ℕ, zero, suc, List, [], ◌∷◌, Some, eq-eqb, refl, sym, ap, ap₂, subst, ◌∙◌, inl, inr}
-use Rattle.std.proofs.lemmas.Bool.{cases_eq, ne_eqb}
-use Rattle.std.specs.List.{slice_get}
-use Rattle.std.specs.Prelude.{slice_set}
-use Rattle.cdf_format.specs.Fields.{number}
-use Rattle.cdf_format.specs.Records.{aedr_num}
-use Rattle.cdf_format.specs.Tiles.{Distinct, In}
+use Rattle.cdf_attrs.proofs.Common.{cases_eq, ne_eqb, slice_get, slice_set, number, aedr_num, Distinct, In, nums, numbered}
 use Rattle.cdf_edits.specs.Space.Chains.{without as left_of}
-use Rattle.cdf_edits.proofs.Edits.ChainEntries.{nums}
-use Rattle.cdf_edits.proofs.Edits.DropHalves.{numbered}
 
 -- what was put at a place
 pub set_same : {A : Type 0} (xs : List A) (k : ℕ) (x y : A) → slice_get xs k ≡ Some x → slice_get (slice_set xs k y) k ≡ Some y

@@ -1,40 +1,12 @@
 -- What the command that puts an entry is answered.
 use Rattle.std.proofs.Common.{◌≡◌, ℕ, ◌+◌, ◌<◌, ◌≤◌, max, List, [], ◌∷◌, length, Err, false, refl, sym, ap, subst, ◌∙◌, arith, inl, inr}
-use Rattle.std.specs.List.{fold}
-use Rattle.std.specs.Prelude.{slice_index}
-use Rattle.std.proofs.lemmas.Bool.{cases_lt}
-use Rattle.cdf_model.specs.Answers.{Go, Refuse}
-use Rattle.cdf_model.specs.AttributeSteps.{entries_of, is_out_of_range, put_entry_step, with_attribute, with_entries}
-use Rattle.cdf_model.specs.DataSet.{DataSet, Entry}
-use Rattle.cdf_model.specs.Limits.{record_number_limit, signed_limit}
-use Rattle.cdf_model.specs.Numbered.{with_item}
-use Rattle.cdf_model.specs.Step.{ByStep}
-use Rattle.cdf_model.specs.declared.answer.Outcome.TheVariants.{Done, Refused}
-use Rattle.cdf_model.specs.declared.answer.Reason.{Reason}
-use Rattle.cdf_model.specs.declared.answer.Reason.TheVariants.{TooLarge}
-use Rattle.cdf_model.specs.declared.answer.Reply.TheVariants.{Plain}
-use Rattle.cdf_model.specs.declared.command.Command.{Command}
-use Rattle.cdf_model.specs.declared.command.Command.TheVariants.{PutEntry}
-use Rattle.cdf_model.specs.declared.data_type.DataType.{DataType}
-use Rattle.cdf_model.specs.declared.kinds.EntryKind.{EntryKind}
-use Rattle.cdf_values.proofs.TurnedLemmas.{size_stays}
-use Rattle.cdf_format.specs.Content.{content, attribute_of}
-use Rattle.cdf_format.specs.Shape.{adrs, shape}
-use Rattle.cdf_format.specs.Stored.{is_little}
-use Rattle.cdf_format.specs.Tiles.{In}
-use Rattle.cdf_format.specs.WellFormed.{Good}
-use Rattle.cdf_edits.specs.Answers.{Answers}
-use Rattle.cdf_edits.specs.Commands.Room.{room, entry_length}
-use Rattle.cdf_edits.specs.Edits.EntryMarks.{entries_chain}
-use Rattle.cdf_edits.specs.declared.chain.Chain.{Chain}
-use Rattle.cdf_edits.proofs.Commands.Answered.{gone, too_large}
-use Rattle.cdf_attrs.specs.Finding.{FindsChain}
-use Rattle.cdf_attrs.specs.Known.{KnownEntries, KnowsEntries}
-use Rattle.cdf_attrs.specs.PutValues.{Asks, IsAttributeAt, Puts, stored_entry}
+use Rattle.cdf_attrs.proofs.Common.{fold, slice_index, cases_lt, Go, Refuse, entries_of, is_out_of_range, with_attribute, with_entries, DataSet, Entry, record_number_limit, signed_limit, with_item, ByStep, Done, Refused, Reason, TooLarge, Plain, Command, PutEntry, DataType, EntryKind, size_stays, content, attribute_of, adrs, shape, is_little, In, Good, Answers, room, entries_chain, Chain, gone, FindsChain, KnownEntries, KnowsEntries, IsAttributeAt, Puts, stored_entry, entry_of_words, Slot}
+use Rattle.cdf_model.specs.AttributeSteps.{put_entry_step}
+use Rattle.cdf_edits.specs.Commands.Room.{entry_length}
+use Rattle.cdf_edits.proofs.Commands.Answered.{too_large}
+use Rattle.cdf_attrs.specs.PutValues.{Asks}
 use Rattle.cdf_attrs.specs.Requests.{MayPut}
-use Rattle.cdf_attrs.specs.Valued.{entry_of_words}
 use Rattle.cdf_attrs.specs.declared.entry_bytes.StoredValue.{StoredValue}
-use Rattle.cdf_attrs.specs.declared.putting.Slot.{Slot}
 use Rattle.cdf_attrs.proofs.AttributeFound.{adr_is}
 use Rattle.cdf_attrs.proofs.EntryTakenAt.{small}
 use Rattle.cdf_attrs.proofs.GettingAnswers.{of_attribute}

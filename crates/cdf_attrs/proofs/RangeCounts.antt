@@ -1,28 +1,11 @@
 -- How many variables a good image says that it has, and the numbers that entries may have by it.
 use Rattle.std.proofs.Common.{◌≡◌, ℕ, ◌+◌, ◌<◌, ◌≤◌, List, length, map, false, sym, ap, subst, ◌∙◌, arith}
-use Rattle.std.proofs.lemmas.Bool.Decides.{nat_tests}
-use Rattle.std.proofs.lemmas.List.{length-map}
-use Rattle.std.specs.Prelude.{nat_le}
+use Rattle.cdf_attrs.proofs.Common.{nat_tests, length-map, nat_le, EntryKind, G, R, Z, is_out_of_range, DataSet, image_limit, record_number_limit, IsChain, content, gdr_offset, word, HasShape, shape, vdrs, Good, linkable-in, good_by_its_shape, good_is_sound, length-le_from_distinct, content_is, length_tiles, cdr_room}
 use Rattle.cdf_model.specs.declared.head.Head.{Head}
-use Rattle.cdf_model.specs.declared.kinds.EntryKind.{EntryKind}
-use Rattle.cdf_model.specs.declared.kinds.EntryKind.TheVariants.{G, R, Z}
-use Rattle.cdf_model.specs.AttributeSteps.{is_out_of_range}
-use Rattle.cdf_model.specs.DataSet.{DataSet}
-use Rattle.cdf_model.specs.Limits.{image_limit, record_number_limit}
-use Rattle.cdf_format.specs.Chains.{IsChain}
-use Rattle.cdf_format.specs.Content.{content, content_of, variable_of}
-use Rattle.cdf_format.specs.Fields.{gdr_offset, word}
-use Rattle.cdf_format.specs.Shape.{HasShape, shape, vdrs}
+use Rattle.cdf_format.specs.Content.{content_of, variable_of}
 use Rattle.cdf_format.specs.Tiles.{AreTiles}
-use Rattle.cdf_format.specs.WellFormed.{Good}
-use Rattle.cdf_format.proofs.ChainsLemmas.{linkable-in}
 use Rattle.cdf_format.proofs.GoodHead.{gdr_fits}
-use Rattle.cdf_format.proofs.GoodSound.{good_by_its_shape, good_is_sound}
 use Rattle.cdf_format.proofs.HeadOf.{head_of_good}
-use Rattle.cdf_format.proofs.Members.{length-le_from_distinct}
-use Rattle.cdf_format.proofs.ShapeLemmas.{content_is}
-use Rattle.cdf_format.proofs.TilesLemmas.{length_tiles}
-use Rattle.cdf_edits.proofs.Space.ChainHeads.{cdr_room}
 
 module _ (b : List ℕ) (good : Good b) where
   pub cdr_there : 28 ≤ length b

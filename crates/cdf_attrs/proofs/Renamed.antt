@@ -1,65 +1,29 @@
 -- A renaming leads from a good image to one in which one attribute has another name.
 use Rattle.std.proofs.Common.{◌≡◌, ℕ, ◌+◌, ◌≤◌, List, [], ◌∷◌, ◌++◌, length, map, true, false, not, Option, Some, None, eq-eqb, refl, sym, ap, subst, ◌∙◌, arith, inl, inr}
-use Rattle.std.specs.Prelude.{◌==◌, if◌then◌else◌}
-use Rattle.std.specs.List.{flat_map, slice_get}
+use Rattle.cdf_attrs.proofs.Common.{◌==◌, if◌then◌else◌, flat_map, slice_get, Command, Go, Refuse, with_attribute, Attribute, DataSet, image_limit, is_bad_name, is_among, attribute_names, attribute_named, IsSound, AllKeep, Allowances, Only, Keeps, only_of, same_name, differ_rows, IsGoodByShape, attribute_shape_rows, Hold, IsChain, content, attribute_of, scope_of, number, size_at, type_at, Follows, IsFilled, ByStep, unwrap_or, eqb-true, OneAttribute, owned_by, attribute_records, owned, Field, gdr_adr_head, adr_agr_edr_head, adr_az_edr_head, adr_scope, adr_num, adr_name, adr_type, agr_edr_type, az_edr_type, uir_type, AttributeShape, Shape, adrs, HasShape, shape, In, Good, linkable-in, linkable-type, good_by_its_shape, good_is_sound, rules_of_good, AllKeep-append, In-append, In-append_left, In-append_right, stands_in, AreNew, names_at, names_differ, differ_by_names, attribute_names_are, Hold-append, Hold-split, good_long, sealed_kept, shape_is, Mark, Edit, AreThere, stood, keeps_fields, all_keep, used_times, IsSorted, owned_once_if, variables_in, word_kept, spliced, Splices, parts_there, shape_now, OwnRules, good_image_if, fixed_long, Renamed, fine_is_some, got-middle}
 use Rattle.cdf_model.specs.declared.answer.Reason.TheVariants as reasons
 use Rattle.cdf_model.specs.declared.answer.Reply.TheVariants as replies
-use Rattle.cdf_model.specs.declared.command.Command.{Command}
 use Rattle.cdf_model.specs.declared.command.Command.TheVariants as commands
-use Rattle.cdf_model.specs.Answers.{Go, Refuse}
-use Rattle.cdf_model.specs.AttributeSteps.{with_attribute, rename_attr_step}
-use Rattle.cdf_model.specs.DataSet.{Attribute, DataSet}
-use Rattle.cdf_model.specs.Limits.{image_limit}
-use Rattle.cdf_model.specs.Names.{is_bad_name, is_among, attribute_names, attribute_named}
-use Rattle.cdf_format.specs.Sound.{IsSound}
-use Rattle.cdf_edits.specs.Commands.Allowances.{AllKeep, Allowances, Only, Keeps, only_of}
+use Rattle.cdf_model.specs.AttributeSteps.{rename_attr_step}
 use Rattle.cdf_edits.specs.Commands.Attributes.{rename_attr_changes}
-use Rattle.cdf_format.specs.AttributeRules.{has_name, same_name}
-use Rattle.cdf_format.specs.ChainRules.{differ_rows}
-use Rattle.cdf_format.proofs.GoodByShape.{IsGoodByShape, attribute_shape_rows}
-use Rattle.cdf_format.specs.Rules.{Hold}
-use Rattle.cdf_format.specs.Chains.{IsChain}
-use Rattle.cdf_format.specs.Content.{content, attribute_of, scope_of}
-use Rattle.cdf_format.specs.Fields.{number, size_at, type_at}
-use Rattle.cdf_edits.specs.Follows.{Follows}
+use Rattle.cdf_format.specs.AttributeRules.{has_name}
 use Rattle.cdf_edits.specs.Commands.Named.{is_attribute, IsAttribute}
-use Rattle.cdf_edits.specs.Commands.NewRecords.{IsFilled}
-use Rattle.cdf_model.specs.Step.{ByStep}
-use Rattle.std.specs.Option.{unwrap_or}
-use Rattle.std.proofs.lemmas.Bool.{eqb-true}
-use Rattle.cdf_format.specs.Owners.{File, OneAttribute, Unused, owned_by, attribute_records, unused_records, owned}
-use Rattle.cdf_format.specs.Records.{Field, gdr_eof, gdr_adr_head, gdr_uir_head, adr_agr_edr_head, adr_az_edr_head, adr_scope, adr_num, adr_name}
-use Rattle.cdf_format.specs.RecordTypes.{adr_type, agr_edr_type, az_edr_type, uir_type}
-use Rattle.cdf_format.specs.Shape.{AttributeShape, Shape, adrs, HasShape, shape}
-use Rattle.cdf_format.specs.Tiles.{In}
-use Rattle.cdf_format.specs.WellFormed.{Good}
+use Rattle.cdf_format.specs.Owners.{File, Unused, unused_records}
+use Rattle.cdf_format.specs.Records.{gdr_eof, gdr_uir_head}
 use Rattle.cdf_edits.proofs.Rules.OfAttributes.{attribute_rules_kept}
-use Rattle.cdf_format.proofs.ChainsLemmas.{linkable-in, linkable-type}
 use Rattle.cdf_edits.proofs.Rules.WithoutLinks.{eof_by_rules}
-use Rattle.cdf_format.proofs.GoodSound.{good_by_its_shape, good_is_sound, rules_of_good}
-use Rattle.cdf_edits.proofs.Commands.KeptRecords.{Stood, AllKeep-append, keep_owned, keep_attributes}
+use Rattle.cdf_edits.proofs.Commands.KeptRecords.{Stood, keep_owned, keep_attributes}
 use Rattle.cdf_edits.proofs.Frame.Meaning.{Kept, entries_kept}
-use Rattle.cdf_format.proofs.Members.{In-append, In-append_left, In-append_right}
-use Rattle.cdf_format.proofs.NameRules.{stands_in, AreNew, names_at, names_differ, differ_by_names, new_replaced, attribute_names_are}
+use Rattle.cdf_format.proofs.NameRules.{new_replaced}
 use Rattle.cdf_edits.proofs.Frame.OwnersApart.{flat-append, file_in, unused_in, all_variable_records}
-use Rattle.cdf_format.proofs.RowLemmas.{Hold-append, Hold-split, flat_map-append}
-use Rattle.cdf_format.proofs.SealedRules.{good_long, sealed_kept}
-use Rattle.cdf_format.proofs.ShapeLemmas.{shape_is}
-use Rattle.cdf_edits.specs.Edits.Marks.{Mark, Away, field_marks}
-use Rattle.cdf_edits.specs.Edits.Edit.{Edit}
-use Rattle.cdf_edits.proofs.Edits.AttributeFrame.{AreThere}
+use Rattle.cdf_format.proofs.RowLemmas.{flat_map-append}
+use Rattle.cdf_edits.specs.Edits.Marks.{Away, field_marks}
 use Rattle.cdf_edits.proofs.Edits.EditActs.{acts_none}
 use Rattle.cdf_edits.proofs.Edits.RecordFrame.{part_clear, chain_clear, chain_kept, kept_away, file_same, gdr_field}
-use Rattle.cdf_edits.proofs.Edits.OwnersKept.{stood, keeps_fields, keep_parts, all_keep}
-use Rattle.cdf_edits.proofs.Edits.OwnedOnce.{used_times, IsSorted, only_owns, adr_no_entry, all_attributes_in, owned_once_if}
-use Rattle.cdf_edits.proofs.Edits.VariableFrame.{variables_in}
-use Rattle.cdf_format.proofs.BytesLemmas.{word_kept}
+use Rattle.cdf_edits.proofs.Edits.OwnersKept.{keep_parts}
+use Rattle.cdf_edits.proofs.Edits.OwnedOnce.{only_owns, adr_no_entry, all_attributes_in}
 use Rattle.cdf_edits.proofs.Edits.OneSpliced.{beside_live, content_replaced, counted, names_now, names_before}
-use Rattle.cdf_edits.proofs.Edits.Splice.{spliced, Splices, parts_there, shape_now, OwnRules, good_image_if}
-use Rattle.cdf_edits.proofs.Edits.StepEdits.{fixed_long, field_edit}
-use Rattle.cdf_attrs.specs.Renaming.{Renamed}
-use Rattle.cdf_edits.proofs.Commands.FineNames.{fine_is_some}
-use Rattle.cdf_edits.proofs.Commands.ListParts.{got-middle}
+use Rattle.cdf_edits.proofs.Edits.StepEdits.{field_edit}
 
 -- ---- the step
 

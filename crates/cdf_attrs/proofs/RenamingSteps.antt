@@ -1,34 +1,13 @@
 -- What the calls of a renaming come to.
 use Rattle.std.proofs.Common.{◌≡◌, ℕ, ◌<◌, ◌≤◌, List, [], ◌∷◌, ◌++◌, length, map, true, false, Some, None, refl, sym, ap, ap₂, subst, ◌∙◌, arith, inl, inr}
-use Rattle.std.proofs.lemmas.List.{length-map, map-append}
+use Rattle.cdf_attrs.proofs.Common.{length-map, map-append, slice_index, slice_set, slice_get, Done, Refused, with_attribute, DataSet, image_limit, is_bad_name, attribute_names, attribute_named, ByStep, has_name, number_of, last_to, LiesIn, adr_name, content, attribute_of, Answers, AttributeShape, adrs, shape, In, Good, good_is_sound, content_is, refused, gone, Renamed, fine_is_short, fine_has_no_zeros, Cut, cut, got-middle, got-map}
 use Rattle.std.proofs.Math.Seq.{get_or-append_seam}
-use Rattle.std.specs.Prelude.{slice_index, slice_set}
-use Rattle.std.specs.List.{slice_get}
-use Rattle.cdf_model.specs.declared.answer.Outcome.TheVariants.{Done, Refused}
 use Rattle.cdf_model.specs.declared.answer.Reason.TheVariants as reasons
 use Rattle.cdf_model.specs.declared.answer.Reply.TheVariants as replies
 use Rattle.cdf_model.specs.declared.command.Command.TheVariants as commands
-use Rattle.cdf_model.specs.AttributeSteps.{with_attribute}
-use Rattle.cdf_model.specs.DataSet.{DataSet}
-use Rattle.cdf_model.specs.Limits.{image_limit}
-use Rattle.cdf_model.specs.Names.{is_bad_name, attribute_names, attribute_named}
-use Rattle.cdf_model.specs.Step.{ByStep}
-use Rattle.cdf_names.specs.Names.{has_name, number_of, last_to}
-use Rattle.cdf_format.specs.Fields.{LiesIn, with_name}
-use Rattle.cdf_format.specs.Records.{adr_name}
-use Rattle.cdf_format.specs.Content.{content, attribute_of}
-use Rattle.cdf_edits.specs.Answers.{Answers}
-use Rattle.cdf_format.specs.Shape.{AttributeShape, adrs, shape}
-use Rattle.cdf_format.specs.Tiles.{In}
-use Rattle.cdf_format.specs.WellFormed.{Good}
+use Rattle.cdf_format.specs.Fields.{with_name}
 use Rattle.cdf_edits.proofs.Edits.NameWritten.{name_filled, length-with_name, name_changed}
-use Rattle.cdf_format.proofs.GoodSound.{good_is_sound}
-use Rattle.cdf_format.proofs.ShapeLemmas.{content_is}
-use Rattle.cdf_edits.proofs.Commands.Answered.{refused, gone}
 use Rattle.cdf_fields.proofs.NamesWritten.{name_reads}
-use Rattle.cdf_attrs.specs.Renaming.{Renamed}
-use Rattle.cdf_edits.proofs.Commands.FineNames.{fine_is_short, fine_has_no_zeros}
-use Rattle.cdf_edits.proofs.Commands.ListParts.{Cut, cut, got-middle, got-map}
 use Rattle.cdf_names.proofs.Moved.{last_moved}
 use Rattle.cdf_attrs.proofs.NamesChanged.{none_named, number_within, named_there, some_named, renamed_names}
 use Rattle.cdf_attrs.proofs.AttributeChain.{name_lies, few_attributes, names_count}

@@ -1,43 +1,12 @@
 -- The first half of what an attribute drops: its entry of a number was taken out of the chain, or there is none.
 use Rattle.std.proofs.Common.{◌≡◌, ◌≢◌, ◌⊎◌, ℕ, zero, suc, ◌+◌, ◌<◌, ◌≤◌, List, [], ◌∷◌, ◌++◌, length, Bool, true, false, Some, eq-eqb, eqb-true, refl, sym, ap, ap₂, subst, ◌∙◌, arith, inl, inr}
-use Rattle.std.proofs.lemmas.Bool.{cases_eq, ne_eqb}
-use Rattle.std.proofs.lemmas.Option.{same_Some}
-use Rattle.std.specs.List.{filter, position, slice_get}
-use Rattle.std.specs.Prelude.{◌&&◌, ◌==◌, not, if◌then◌else◌, slice_index, slice_set}
-use Rattle.cdf_model.specs.AttributeSteps.{entries_of, with_attribute, with_entries}
-use Rattle.cdf_model.specs.DataSet.{Attribute, DataSet, Entry}
-use Rattle.cdf_model.specs.Limits.{image_limit}
-use Rattle.cdf_model.specs.Numbered.{without}
-use Rattle.cdf_model.specs.declared.kinds.EntryKind.{EntryKind}
+use Rattle.cdf_attrs.proofs.Common.{cases_eq, ne_eqb, same_Some, filter, position, slice_get, ◌&&◌, ◌==◌, not, if◌then◌else◌, slice_index, slice_set, entries_of, with_attribute, with_entries, Attribute, DataSet, Entry, image_limit, without, EntryKind, next_field, attribute_of, content, integer4, number, size_at, type_at, Field, aedr_num, AttributeShape, HasShape, shape, Distinct, In, Good, good_is_sound, tile_lies, Keeps, Only, chain_of, greatest_number, max_field, IsDropped, count_field, entries_chain, with_chain, Act, gave, ActsFollow, Cut, got-map, nums, adr_of, chain_in, other_of, attributes_of, member_in, TakesHalf, link_field, numbered, LeavesChain, left_members, items_of, StandsBut, IsScoped, FindsChain, IsOfAttribute, KnownEntries, KnowsEntries, TakenAt}
 use Rattle.cdf_model.specs.declared.kinds.EntryKind.TheVariants as entries
-use Rattle.cdf_format.specs.Chains.{next_field, next_of}
-use Rattle.cdf_format.specs.Content.{attribute_of, content, entries_of as chain_items}
-use Rattle.cdf_format.specs.Fields.{integer4, number, size_at, type_at}
-use Rattle.cdf_format.specs.Records.{Field, aedr_num}
-use Rattle.cdf_format.specs.Shape.{AttributeShape, HasShape, shape}
-use Rattle.cdf_format.specs.Tiles.{Distinct, In}
-use Rattle.cdf_format.specs.WellFormed.{Good}
-use Rattle.cdf_format.proofs.GoodSound.{good_is_sound}
-use Rattle.cdf_format.proofs.TilesLemmas.{tile_lies}
-use Rattle.cdf_edits.specs.Commands.Allowances.{Keeps, Only, Stays}
-use Rattle.cdf_edits.specs.Commands.EntryChains.{chain_of, greatest_number, max_field}
-use Rattle.cdf_edits.specs.Edits.DropsEntries.{IsDropped}
-use Rattle.cdf_edits.specs.Edits.EntryMarks.{count_field, entries_chain, with_chain}
-use Rattle.cdf_edits.specs.Space.Acts.{Act, gave, ActsFollow}
+use Rattle.cdf_format.specs.Chains.{next_of}
+use Rattle.cdf_format.specs.Content.{entries_of as chain_items}
+use Rattle.cdf_edits.specs.Commands.Allowances.{Stays}
 use Rattle.cdf_edits.specs.Space.Chains.{without as left_of}
-use Rattle.cdf_edits.proofs.Commands.ListParts.{Cut, got-map}
-use Rattle.cdf_edits.proofs.Edits.ChainEntries.{nums}
-use Rattle.cdf_edits.proofs.Edits.ChainKinds.{adr_of, chain_in, other_of}
-use Rattle.cdf_edits.proofs.Edits.DroppedSoFar.{attributes_of, member_in}
-use Rattle.cdf_edits.proofs.Edits.DropHalves.{TakesHalf, link_field, numbered}
 use Rattle.cdf_edits.proofs.Edits.EntryTakenStep as step
-use Rattle.cdf_edits.proofs.Edits.LeftEntry.{LeavesChain, left_members}
-use Rattle.cdf_edits.proofs.Edits.OneChain.{items_of}
-use Rattle.cdf_edits.proofs.Edits.StandsBut.{StandsBut}
-use Rattle.cdf_attrs.specs.Dropping.{IsScoped}
-use Rattle.cdf_attrs.specs.Finding.{FindsChain, IsOfAttribute}
-use Rattle.cdf_attrs.specs.Known.{KnownEntries, KnowsEntries}
-use Rattle.cdf_attrs.specs.Removing.{TakenAt}
 use Rattle.cdf_attrs.proofs.DroppedNumber as dropped
 use Rattle.cdf_attrs.proofs.EntryChains.{chain_there, entries_differ, members}
 use Rattle.cdf_attrs.proofs.EntryDeleted as deleted

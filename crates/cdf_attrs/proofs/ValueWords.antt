@@ -1,17 +1,14 @@
 -- What words come to as the value of an entry.
 use Rattle.std.proofs.Common.{◌≡◌, ℕ, ◌%◌, ◌≤◌, List, ◌++◌, length, take, drop, Bool, false, Ok, refl, sym, ap, subst, ◌∙◌, arith}
+use Rattle.cdf_attrs.proofs.Common.{turned, size_of, values_in, DataType, size_stays, fewer, IsStored, IsWritten, entry_of_words}
 use Rattle.cdf_model.specs.AttributeSteps.{number_entry}
-use Rattle.cdf_model.specs.ByteOrder.{turned}
 use Rattle.cdf_model.specs.Sayable.{Fit}
-use Rattle.cdf_model.specs.Types.{size_of}
-use Rattle.cdf_model.specs.Values.{bytes_of_words, values_in}
-use Rattle.cdf_model.specs.declared.data_type.DataType.{DataType}
+use Rattle.cdf_model.specs.Values.{bytes_of_words}
 use Rattle.cdf_model.specs.declared.data_type.DataType.TheVariants.{Char, UChar}
 use Rattle.cdf_values.proofs.ReadLemmas.{counted}
-use Rattle.cdf_values.proofs.TurnedLemmas.{back, in_place, size_stays}
-use Rattle.cdf_values.proofs.ValueLengths.{Sizes, fewer, whole_elements, whole_text, words_sized}
-use Rattle.cdf_attrs.specs.Putting.{IsStored}
-use Rattle.cdf_attrs.specs.Valued.{IsWritten, entry_of_words, is_text}
+use Rattle.cdf_values.proofs.TurnedLemmas.{back, in_place}
+use Rattle.cdf_values.proofs.ValueLengths.{Sizes, whole_elements, whole_text, words_sized}
+use Rattle.cdf_attrs.specs.Valued.{is_text}
 
 numbers : (t : DataType) (words : List (List ℕ)) → is_text t ≡ false → entry_of_words t words ≡ number_entry t words
 numbers Char words n = absurd cc

@@ -1,40 +1,17 @@
 -- The value of an entry of a good image has a byte for each of its elements' bytes, and no more.
 use Rattle.std.proofs.Common.{◌≡◌, ℕ, zero, suc, ◌+◌, ◌*◌, ◌%◌, ◌≤◌, List, [], ◌∷◌, length, map, take, drop, Bool, true, false, Option, Some, None, nat_le, ◌&&◌, refl, sym, ap, subst, ◌∙◌, arith}
+use Rattle.cdf_attrs.proofs.Common.{find, ◌==◌, slice_get, option_map, NoSuchAttr, WrongScope, NoSuchEntry, Reply, EntryKind, Answer, Go, entries_of, is_wrong_scope, Attribute, DataSet, Entry, attribute_named, item_at, size_of, Chain, chain_of, members_of, entry_bytes, content, attribute_of, entry_of, number, is_positive, aedr_data_type, aedr_num, aedr_value, AttributeShape, shape, data_type_in, field_bytes, is_little, known_type, In, Good, good_is_sound, content_is, le_of, signed_limit, record_limit, size_stays, IsOfAttribute, entries_chain}
 use Rattle.std.proofs.lemmas.List.{length-drop, length-take-le}
 use Rattle.std.proofs.Math.Nat.{mod_self, mul-mod_right}
-use Rattle.std.specs.Prelude.{find, is_some, ◌==◌}
-use Rattle.std.specs.List.{slice_get}
-use Rattle.std.specs.Option.{option_map}
-use Rattle.cdf_model.specs.declared.answer.Reason.TheVariants.{NoSuchAttr, WrongScope, NoSuchEntry}
-use Rattle.cdf_model.specs.declared.answer.Reply.{Reply}
+use Rattle.std.specs.Prelude.{is_some}
 use Rattle.cdf_model.specs.declared.answer.Reply.TheVariants as replies
-use Rattle.cdf_model.specs.declared.kinds.EntryKind.{EntryKind}
-use Rattle.cdf_model.specs.Answers.{Answer, Go, unless, given}
-use Rattle.cdf_model.specs.AttributeSteps.{entries_of, get_entry_step, is_wrong_scope}
-use Rattle.cdf_model.specs.DataSet.{Attribute, DataSet, Entry}
-use Rattle.cdf_model.specs.Names.{attribute_named, numbered}
-use Rattle.cdf_model.specs.Numbered.{item_at}
-use Rattle.cdf_model.specs.Types.{size_of}
+use Rattle.cdf_model.specs.Answers.{unless, given}
+use Rattle.cdf_model.specs.AttributeSteps.{get_entry_step}
+use Rattle.cdf_model.specs.Names.{numbered}
 use Rattle.cdf_model.specs.Whole.{IsWhole, HasWholeValues}
-use Rattle.cdf_edits.specs.declared.chain.Chain.{Chain}
-use Rattle.cdf_edits.specs.Commands.EntryChains.{chain_of}
-use Rattle.cdf_edits.specs.Space.Chains.{members_of}
-use Rattle.cdf_format.specs.AttributeRules.{entry_bytes}
-use Rattle.cdf_format.specs.Content.{content, attribute_of, entry_of}
-use Rattle.cdf_format.specs.Fields.{number, is_positive, holds}
-use Rattle.cdf_format.specs.Records.{aedr_data_type, aedr_num, aedr_num_elems, aedr_value}
-use Rattle.cdf_format.specs.Shape.{AttributeShape, shape}
-use Rattle.cdf_format.specs.Stored.{data_type_in, field_bytes, is_little, known_type}
-use Rattle.cdf_format.specs.Tiles.{In}
-use Rattle.cdf_format.specs.WellFormed.{Good}
-use Rattle.cdf_format.proofs.GoodSound.{good_is_sound}
-use Rattle.cdf_format.proofs.ShapeLemmas.{content_is}
-use Rattle.cdf_format.proofs.Tests.{both, le_of}
-use Rattle.cdf_model.specs.Limits.{signed_limit}
-use Rattle.cdf_model.specs.Place.{record_limit}
-use Rattle.cdf_values.proofs.TurnedLemmas.{size_stays}
-use Rattle.cdf_attrs.specs.Finding.{IsOfAttribute}
-use Rattle.cdf_edits.specs.Edits.EntryMarks.{entries_chain}
+use Rattle.cdf_format.specs.Fields.{holds}
+use Rattle.cdf_format.specs.Records.{aedr_num_elems}
+use Rattle.cdf_format.proofs.Tests.{both}
 use Rattle.cdf_attrs.proofs.EntryChains.{members, entry_has_value, entry_inside}
 use Rattle.cdf_attrs.proofs.EntryLookup.{item_of_chain}
 use Rattle.cdf_attrs.proofs.GettingAnswers.{entries_by_chain, found_in}

@@ -1,12 +1,8 @@
 -- No two members of a list are alike, or two of them are.
 use Rattle.std.proofs.Common.{◌≡◌, ◌≢◌, ℕ, List, [], ◌∷◌, ◌++◌, Bool, true, false, ◌&&◌, eqb, true≢false, refl, sym, ap, ap₂, subst, ◌∙◌, append_assoc, append-nil, arith, inl, inr, bytes_eq}
+use Rattle.cdf_check.proofs.Common.{nat_tests, list_all, list_any, differ_rows, Hold, IsBroken, In, Distinct, either, In-append}
 use Rattle.std.proofs.lemmas.Bool.{and_from, not-false, not-true}
-use Rattle.std.proofs.lemmas.Bool.Decides.{nat_tests}
-use Rattle.std.specs.List.{list_all, list_any}
-use Rattle.cdf_format.specs.ChainRules.{differ_rows}
-use Rattle.cdf_format.specs.Rules.{Hold, IsBroken}
-use Rattle.cdf_format.specs.Tiles.{In, Distinct}
-use Rattle.cdf_format.proofs.Members.{either, In-append, Distinct-middle}
+use Rattle.cdf_format.proofs.Members.{Distinct-middle}
 
 one_of_any : (p : ℕ → Bool) (xs : List ℕ) → list_any p xs ≡ true → (o : ℕ) × In o xs × (p o ≡ true)
 one_of_any p [] h = absurd cc

@@ -1,22 +1,9 @@
 -- The attributes of an image, one after the other.
 use Rattle.std.proofs.Common.{◌≡◌, ℕ, ◌≤◌, List, [], ◌∷◌, ◌++◌, length, refl, ap, ◌∙◌, arith, append_assoc}
-use Rattle.std.specs.List.{flat_map}
-use Rattle.cdf_format.specs.AttributeRules.{same_name, attribute_rows, phase6}
-use Rattle.cdf_format.specs.ChainRules.{differ_rows}
-use Rattle.cdf_format.specs.Fields.{LiesIn, name_at, name_field, name_in, type_at}
-use Rattle.cdf_format.specs.Records.{adr_name, gdr_adr_head}
+use Rattle.cdf_check.proofs.Common.{flat_map, same_name, attribute_rows, phase6, differ_rows, LiesIn, name_at, name_field, name_in, type_at, adr_name, Hold, IsBroken, adr_chain, gdr_offset, AreTiles, whole, chain_sound, linkable-in, linkable-type, length-le_from_distinct, Hold-append, IsBroken-before, IsBroken-after, tile_lies, length_tiles, AreLong}
+use Rattle.cdf_format.specs.Records.{gdr_adr_head}
 use Rattle.cdf_format.specs.RecordTypes.{adr_type}
-use Rattle.cdf_format.specs.Rules.{Hold, IsBroken}
-use Rattle.cdf_format.specs.Shape.{adr_chain}
-use Rattle.cdf_format.specs.Fields.{gdr_offset}
-use Rattle.cdf_format.specs.Tiles.{AreTiles}
-use Rattle.cdf_format.specs.Walks.{whole}
-use Rattle.cdf_format.proofs.ChainsLemmas.{chain_sound, linkable-in, linkable-type}
-use Rattle.cdf_format.proofs.Members.{length-le_from_distinct}
-use Rattle.cdf_format.proofs.RowLemmas.{Hold-append, IsBroken-before, IsBroken-after}
-use Rattle.cdf_format.proofs.TilesLemmas.{tile_lies, length_tiles}
 use Rattle.cdf_check.specs.Entries.{IsAttribute, AreAttributes}
-use Rattle.cdf_structure.specs.FileChains.{AreLong}
 
 -- ---- the Name of an attribute
 

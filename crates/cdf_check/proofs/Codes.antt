@@ -1,11 +1,6 @@
 -- The code of an encoding is small, so it is the same with a sign and without one.
 use Rattle.std.proofs.Common.{◌≡◌, ℕ, ◌-◌, ◌^◌, ◌<◌, ◌≤◌, suc, ℤ, false, inl, inr, sym, ◌∙◌, ap, arith}
-use Rattle.std.proofs.lemmas.Bool.{cases_lt}
-use Rattle.std.proofs.lemmas.Bool.Decides.{nat_tests}
-use Rattle.std.proofs.lemmas.Int.{to_z_pos, of_z-to_z}
-use Rattle.std.proofs.Math.Facts.{to_z-neg}
-use Rattle.std.specs.Prelude.{is_some}
-use Rattle.std.specs.Int.{w32, cast_signed, cast_unsigned}
+use Rattle.cdf_check.proofs.Common.{cases_lt, nat_tests, to_z_pos, of_z-to_z, to_z-neg, is_some, w32, cast_signed, cast_unsigned}
 use Rattle.cdf_model.specs.Encodings.{encoding_of, encoding_at}
 
 large_is_unknown : (code : ℕ) → 2 ^ 31 ≤ code → is_some (encoding_at code) ≡ false

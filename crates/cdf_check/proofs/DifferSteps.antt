@@ -1,14 +1,7 @@
 -- No member of a list is like one before it.
 use Rattle.std.proofs.Common.{◌≡◌, ℕ, ◌+◌, ◌<◌, List, [], ◌∷◌, ◌++◌, length, map, take, drop, get_or, Bool, true, false, not, ◌||◌, eqb, refl, sym, ap, ◌∙◌, inl, inr, Option, Some, None, add-one, append-nil, append_assoc}
-use Rattle.std.proofs.lemmas.List.{take_more, map-append}
+use Rattle.cdf_check.proofs.Common.{take_more, map-append, list_any, is_in, Row, row, Hold, IsBroken, differ_rows, Hold-append, IsBroken-before, IsBroken-after, Finding, Finds}
 use Rattle.std.proofs.Math.Seq.{drop-cons}
-use Rattle.std.specs.List.{list_any}
-use Rattle.cdf_format.specs.Chains.{is_in}
-use Rattle.cdf_format.specs.Rules.{Row, row, Hold, IsBroken}
-use Rattle.cdf_format.specs.ChainRules.{differ_rows}
-use Rattle.cdf_format.proofs.RowLemmas.{Hold-append, IsBroken-before, IsBroken-after}
-use Rattle.cdf_structure.specs.declared.finding.Finding.{Finding}
-use Rattle.cdf_structure.specs.Findings.{Finds}
 
 -- what a member is compared by
 module _ {X : Type 0} (key : ℕ → X) (same : X → X → Bool) (rule : ℕ) (ms : List ℕ) (i : ℕ) (lt : i < length ms) (keys : List X) (are : keys ≡ map key (take i ms)) where

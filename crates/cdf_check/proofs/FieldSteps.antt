@@ -1,22 +1,16 @@
 -- The fields of a variable, as they are read, and the rules on them among all its rules.
 use Rattle.std.proofs.Common.{◌≡◌, ℕ, ◌+◌, ◌≤◌, List, [], true, inl, inr, ap, ◌∙◌, refl, arith}
-use Rattle.std.proofs.lemmas.Int.{of_z-to_z}
-use Rattle.std.specs.Int.{w32, w64, cast_signed, cast_unsigned}
+use Rattle.cdf_check.proofs.Common.{of_z-to_z, w32, cast_signed, cast_unsigned, has_name, number, Field, vdr_data_type, vdr_name, vdr_num_elems, Hold, IsBroken, is_compressed, variable_rows, AreRead, AreFields, packing_rows, records_rows, shape_rows, value_rows}
+use Rattle.std.specs.Int.{w64}
 use Rattle.cdf_model.specs.Types.{type_of}
-use Rattle.cdf_format.specs.AttributeRules.{has_name}
-use Rattle.cdf_format.specs.Fields.{number}
-use Rattle.cdf_format.specs.Records.{Field, record_type, vdr_data_type, vdr_max_rec, vdr_name, vdr_s_records, vdr_num_elems, vdr_cpr_or_spr_offset}
-use Rattle.cdf_format.specs.Rules.{Hold, IsBroken}
-use Rattle.cdf_format.specs.Shape.{is_compressed}
-use Rattle.cdf_format.specs.VariableRules.{cpr_link, variable_rows}
+use Rattle.cdf_format.specs.Records.{record_type, vdr_max_rec, vdr_s_records, vdr_cpr_or_spr_offset}
+use Rattle.cdf_format.specs.VariableRules.{cpr_link}
 use Rattle.cdf_records.specs.Heads.{vdr_at}
 use Rattle.cdf_records.specs.Pieces.{AreBytes}
 use Rattle.cdf_records.specs.declared.vdr.Vdr.{Vdr}
 use Rattle.cdf_records.proofs.Places.{word_fits}
-use Rattle.cdf_structure.specs.Records.{AreRead}
 use Rattle.cdf_structure.proofs.IndexSteps.{no_cpr}
 use Rattle.cdf_check.specs.declared.variable_fields.Fields.{Fields}
-use Rattle.cdf_check.specs.Variables.{AreFields, packing_rows, records_rows, shape_rows, value_rows}
 
 -- ---- the fields
 

@@ -1,33 +1,21 @@
 -- What follows from the rules on the records of an image for its other rules.
 use Rattle.std.proofs.Common.{◌≡◌, ℕ, ◌+◌, ◌*◌, ◌≤◌, List, [], ◌∷◌, ◌++◌, length, map, refl, sym, ap, ap₂, ◌∙◌, subst, arith, append_assoc}
-use Rattle.std.specs.Prelude.{◌==◌}
-use Rattle.std.specs.List.{filter, flat_map}
-use Rattle.cdf_format.specs.AttributeRules.{phase6}
-use Rattle.cdf_format.specs.ChainRules.{phase5}
-use Rattle.cdf_format.specs.Fields.{gdr_offset, r_num_dims, size_at, type_at}
-use Rattle.cdf_format.specs.IndexRules.{phase8}
+use Rattle.cdf_check.proofs.Common.{◌==◌, flat_map, phase6, phase5, gdr_offset, r_num_dims, size_at, type_at, phase8, attribute_records, variable_records, phase9, image_phases, phase4, phase7, Row, Hold, IsBroken, AllHold, FirstBroken, adr_chain, attribute_shape, variable_shape, Distinct, AreTiles, Walk, whole, records_of, Hold-member, le_of, tile_lies, tiling_sound, AreLong, AreChains, AreRead, AreVariables, HasRoomForSizes}
+use Rattle.std.specs.List.{filter}
 use Rattle.cdf_format.specs.NotRead.{unread_type}
-use Rattle.cdf_format.specs.Owners.{attribute_records, variable_records, owned_records, unused_records}
-use Rattle.cdf_format.specs.Phases.{phase9, image_phases}
+use Rattle.cdf_format.specs.Owners.{owned_records, unused_records}
 use Rattle.cdf_format.specs.Records.{gdr_r_vdr_head, gdr_z_vdr_head}
 use Rattle.cdf_format.specs.RecordTypes.{gdr_type, uir_type}
-use Rattle.cdf_format.specs.RecordRules.{record_rows, phase4}
-use Rattle.cdf_format.specs.VariableRules.{phase7}
-use Rattle.cdf_format.specs.Rules.{Row, Hold, IsBroken, AllHold, FirstBroken}
-use Rattle.cdf_format.specs.Shape.{AttributeShape, adrs, vdrs, shape, adr_chain, r_vdr_chain, z_vdr_chain, attribute_shape, variable_shape}
+use Rattle.cdf_format.specs.RecordRules.{record_rows}
+use Rattle.cdf_format.specs.Shape.{AttributeShape, adrs, vdrs, shape, r_vdr_chain, z_vdr_chain}
 use Rattle.cdf_format.specs.Shape.{variables as shape_variables}
-use Rattle.cdf_format.specs.Tiles.{Distinct, AreTiles, tiles, tiling}
-use Rattle.cdf_format.specs.Walks.{Walk, whole, records_of}
+use Rattle.cdf_format.specs.Tiles.{tiles, tiling}
 use Rattle.cdf_format.proofs.ChainsLemmas.{is_a-in}
 use Rattle.cdf_format.proofs.GoodImageLemmas.{map_adrs, map_vdrs, vdrs_append}
 use Rattle.cdf_format.proofs.Owning.{owned_is}
-use Rattle.cdf_format.proofs.RowLemmas.{Hold-split, Hold-member}
-use Rattle.cdf_format.proofs.Tests.{le_of}
-use Rattle.cdf_format.proofs.TilesLemmas.{tile_lies, tiling_sound}
+use Rattle.cdf_format.proofs.RowLemmas.{Hold-split}
 use Rattle.cdf_structure.specs.declared.file_chains.Chains.{Chains}
-use Rattle.cdf_structure.specs.FileChains.{AreLong, AreChains}
-use Rattle.cdf_structure.specs.Records.{AreRead}
-use Rattle.cdf_check.specs.Variables.{AreVariables, HasRoomForSizes, HasSizes}
+use Rattle.cdf_check.specs.Variables.{HasSizes}
 use Rattle.cdf_structure.proofs.TileSteps.{whole_rows}
 use Rattle.cdf_check.proofs.VariableSteps.{all_variables, all_once, all_few}
 

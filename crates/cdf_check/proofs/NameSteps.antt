@@ -1,15 +1,9 @@
 -- The Names of records, one after the other.
 use Rattle.std.proofs.Common.{◌≡◌, ℕ, List, [], ◌∷◌, ◌++◌, true, false, refl, sym, arith, Option, Some, None, bytes_eq}
-use Rattle.std.proofs.lemmas.List.{length_push, map-append}
-use Rattle.std.specs.Prelude.{is_some}
-use Rattle.std.specs.List.{list_any}
-use Rattle.cdf_format.specs.ChainRules.{differ_rows}
+use Rattle.cdf_check.proofs.Common.{map-append, is_some, list_any, differ_rows, Finding, AreNamed, Finds, none_found}
+use Rattle.std.proofs.lemmas.List.{length_push}
 use Rattle.cdf_check.specs.declared.names.Names.{Names}
-use Rattle.cdf_structure.specs.declared.finding.Finding.{Finding}
-use Rattle.cdf_check.specs.Named.{AreNamed}
-use Rattle.cdf_structure.specs.Findings.{Finds}
 use Rattle.cdf_check.proofs.DifferSteps.{push_broken, push_met, push_new}
-use Rattle.cdf_structure.proofs.Findings.{none_found}
 
 pub none_broken : (found : Option Finding) → is_some found ≡ false → found ≡ None
 none_broken None none = refl

@@ -1,28 +1,23 @@
 -- The phases of a file, put together.
 use Rattle.std.proofs.Common.{◌≡◌, ◌≢◌, ℕ, zero, suc, ◌+◌, ◌*◌, ◌-◌, ◌<◌, ◌≤◌, ◌^◌, List, [], ◌∷◌, ◌++◌, length, length-take, take, drop, Bool, true, false, refl, sym, ap, ◌∙◌, subst, arith}
-use Rattle.std.specs.Prelude.{if◌then◌else◌, bytes_eq, nat_le, Some}
-use Rattle.std.specs.Int.{w32, cast_signed}
+use Rattle.cdf_check.proofs.Common.{nat_le, w32, cast_signed, subst₂, counted, gdr_offset, number, r_num_dims, size_at, image_phases, Row, row, Hold, IsBroken, AllHold, FirstBroken, trailer_length, image_of, both, le_of, Finding, HasRoomForSizes, Finds, JudgesImage}
+use Rattle.std.specs.Prelude.{if◌then◌else◌, bytes_eq, Some}
 use Rattle.std.specs.declared.option.Option.{Option}
-use Rattle.std.proofs.Math.Path.{subst₂}
 use Rattle.md5.specs.Md5.{md5}
 use Rattle.cdf_model.specs.Limits.{image_limit}
-use Rattle.cdf_format.specs.Fields.{Holds, counted, gdr_offset, number, r_num_dims, size_at, word}
+use Rattle.cdf_format.specs.Fields.{Holds, word}
 use Rattle.cdf_format.specs.FileRules.{gdr_rows, has_gdr, is_record}
-use Rattle.cdf_format.specs.Phases.{first_phases, image_phases, phase10}
+use Rattle.cdf_format.specs.Phases.{first_phases, phase10}
 use Rattle.cdf_format.specs.Records.{gdr_r_dim_sizes, gdr_r_num_dims}
-use Rattle.cdf_format.specs.Rules.{Row, row, asked, Hold, IsBroken, AllHold, FirstBroken}
-use Rattle.cdf_format.specs.Sealed.{has_checksum, trailer_size, trailer_length, image_of}
+use Rattle.cdf_format.specs.Rules.{asked}
+use Rattle.cdf_format.specs.Sealed.{has_checksum, trailer_size}
 use Rattle.cdf_format.specs.WellFormed.{WellFormed, Breaks}
 use Rattle.cdf_format.proofs.FileRecords.{record-of}
 use Rattle.cdf_format.proofs.ImageOf.{short_trailer}
 use Rattle.cdf_format.proofs.Pieces.{word-piece}
 use Rattle.cdf_format.proofs.RowLemmas.{Hold-asked}
-use Rattle.cdf_format.proofs.Tests.{both, le_of}
 use Rattle.cdf_check.specs.declared.verdict.Broken.{Broken}
-use Rattle.cdf_structure.specs.declared.finding.Finding.{Finding}
-use Rattle.cdf_check.specs.Variables.{HasRoomForSizes}
-use Rattle.cdf_structure.specs.Findings.{Finds}
-use Rattle.cdf_check.specs.Verdicts.{Judges, JudgesImage}
+use Rattle.cdf_check.specs.Verdicts.{Judges}
 
 -- ---- phases before others
 

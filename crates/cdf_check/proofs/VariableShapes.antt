@@ -1,27 +1,13 @@
 -- What a VDR says of the values and the dimensions of its variable, as it is read, and what its fields and its record take.
 use Rattle.std.proofs.Common.{◌≡◌, ℕ, zero, suc, ◌+◌, ◌-◌, ◌<◌, ◌≤◌, ◌^◌, List, [], ◌∷◌, length, map, get_or, Bool, true, false, not, ◌&&◌, ◌||◌, refl, sym, ap, ap₂, ◌∙◌, arith, inl, inr, Some, None}
+use Rattle.cdf_check.proofs.Common.{◌==◌, nat_le, subst₂, cases_lt, nat_tests, to_z_pos, to_z-neg, w32, cast_signed, list_all, SomeIff, counted, number, words, vdr_data_type, vdr_num_elems, Hold, known_type, either, both, le_of, of_le, AreValues, value_rows}
 use Rattle.std.proofs.lemmas.List.{length-map}
-use Rattle.std.specs.Prelude.{◌==◌, nat_le}
-use Rattle.std.proofs.Math.Path.{subst₂}
-use Rattle.std.proofs.lemmas.Bool.{cases_lt}
-use Rattle.std.proofs.lemmas.Bool.Decides.{nat_tests}
-use Rattle.std.proofs.lemmas.Int.{to_z_pos}
-use Rattle.std.proofs.Math.Facts.{to_z-neg}
-use Rattle.std.specs.Int.{w32, cast_signed}
-use Rattle.std.specs.List.{list_all}
-use Rattle.std.specs.Option.{SomeIff}
 use Rattle.cdf_model.specs.declared.data_type.DataType.{DataType}
 use Rattle.cdf_model.specs.Values.{notation_of}
 use Rattle.cdf_model.specs.VariableSteps.{is_characters}
-use Rattle.cdf_format.specs.Fields.{counted, is_positive, number, words}
-use Rattle.cdf_format.specs.Records.{vdr_data_type, vdr_num_elems}
-use Rattle.cdf_format.specs.Rules.{Hold}
-use Rattle.cdf_format.specs.Stored.{known_type}
+use Rattle.cdf_format.specs.Fields.{is_positive}
 use Rattle.cdf_format.specs.VariableFields.{counted4, is_z, dimensions_at, dims_at, elems_at, type_of_variable}
 use Rattle.cdf_format.specs.VariableRules.{has_elements}
-use Rattle.cdf_format.proofs.Members.{either}
-use Rattle.cdf_format.proofs.Tests.{both, le_of, of_le}
-use Rattle.cdf_check.specs.Variables.{AreValues, value_rows}
 
 -- ---- numbers with a sign
 

@@ -1,26 +1,12 @@
 -- The variables of an image, one after the other.
 use Rattle.std.proofs.Common.{◌≡◌, ◌≢◌, ℕ, ◌≤◌, List, [], ◌∷◌, ◌++◌, length, true, false, not, ◌||◌, eqb, eq-eqb, true≢false, refl, sym, subst, ◌∙◌, arith, inl, inr, Option, Some, None}
+use Rattle.cdf_check.proofs.Common.{◌==◌, flat_map, same_name, differ_rows, LiesIn, name_at, name_field, name_in, size_at, type_at, Field, vdr_name, Row, Hold, IsBroken, In, Distinct, AreTiles, variable_rows, phase7, whole, chain_sound, linkable-in, linkable-type, either, In-append, length-le_from_distinct, Hold-member, IsBroken-before, IsBroken-after, tile_lies, length_tiles, AreLong, AreVariables, Finds, Finding}
 use Rattle.std.proofs.lemmas.Bool.{ne_eqb}
-use Rattle.std.specs.Prelude.{◌==◌}
-use Rattle.std.specs.List.{flat_map}
-use Rattle.cdf_format.specs.AttributeRules.{same_name}
-use Rattle.cdf_format.specs.ChainRules.{differ_rows}
-use Rattle.cdf_format.specs.Fields.{LiesIn, name_at, name_field, name_in, size_at, type_at}
-use Rattle.cdf_format.specs.Records.{Field, vdr_name}
 use Rattle.cdf_format.specs.RecordTypes.{fixed_size, r_vdr_type, z_vdr_type}
-use Rattle.cdf_format.specs.Rules.{Row, Hold, IsBroken}
-use Rattle.cdf_format.specs.Tiles.{In, Distinct, AreTiles}
-use Rattle.cdf_format.specs.VariableRules.{is_named_apart, variable_rows, phase7}
-use Rattle.cdf_format.specs.Walks.{whole}
+use Rattle.cdf_format.specs.VariableRules.{is_named_apart}
 use Rattle.cdf_format.specs.Chains.{chain}
-use Rattle.cdf_format.proofs.ChainsLemmas.{chain_sound, linkable-in, linkable-type}
-use Rattle.cdf_format.proofs.Members.{either, In-append, length-le_from_distinct}
-use Rattle.cdf_format.proofs.RowLemmas.{Hold-member, Hold-members, IsBroken-before, IsBroken-after}
-use Rattle.cdf_format.proofs.TilesLemmas.{tile_lies, length_tiles}
-use Rattle.cdf_structure.specs.FileChains.{AreLong}
-use Rattle.cdf_check.specs.Variables.{IsVariable, AreVariables}
-use Rattle.cdf_structure.specs.Findings.{Finds}
-use Rattle.cdf_structure.specs.declared.finding.Finding.{Finding}
+use Rattle.cdf_format.proofs.RowLemmas.{Hold-members}
+use Rattle.cdf_check.specs.Variables.{IsVariable}
 use Rattle.cdf_check.proofs.Alike.{all_of_each, not_all, bytes_eq-sym, one_is_like, none_is_like}
 use Rattle.cdf_structure.proofs.Rows.{IsBroken-split}
 

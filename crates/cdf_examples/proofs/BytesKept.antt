@@ -1,9 +1,7 @@
 -- Places of bytes that are compared one by one, computed.
 use Rattle.std.proofs.Common.{◌≡◌, ◌≤◌, ◌<◌, ◌⊎◌, ℕ, zero, suc, ◌+◌, ◌-◌, Bool, true, false, ◌&&◌, ◌||◌, ◌==◌, nat_le, nat_lt, List, [], ◌∷◌, length, drop, refl, inl, inr, subst, ap, ◌∙◌, arith}
-use Rattle.std.specs.Prelude.{slice_index}
-use Rattle.std.proofs.lemmas.Bool.{eqb-true, leb-true, cases_lt}
-use Rattle.std.proofs.lemmas.List.{get_or-drop}
-use Rattle.cdf_format.specs.Bytes.{byte}
+use Rattle.cdf_examples.proofs.Common.{slice_index, eqb-true, leb-true, get_or-drop, byte}
+use Rattle.std.proofs.lemmas.Bool.{cases_lt}
 use Rattle.cdf_edits.specs.Frame.Changed.{Touch, Outside, Changed}
 
 -- it holds of each number below n

@@ -1,14 +1,8 @@
 -- What a cut takes, and where a record is taken after records were freed.
 use Rattle.std.proofs.Common.{◌≡◌, ◌≢◌, ℕ, Bool, true, false, not, ◌||◌, ◌==◌, List, [], ◌∷◌, ◌++◌, refl, sym, subst, ap, ◌∙◌, inl, inr, eq-eqb}
-use Rattle.std.specs.Prelude.{nat_le, if◌then◌else◌}
-use Rattle.std.specs.List.{list_any, filter}
-use Rattle.cdf_model.specs.DataSet.{Variable}
-use Rattle.cdf_edits.specs.Index.Cut.{IsNeeded, sized_nodes, sized_blocks}
+use Rattle.cdf_examples.proofs.Common.{nat_le, if◌then◌else◌, list_any, filter, Variable, IsNeeded, Act, Took, Gave, Among, taken, SpaceLeft, AreActs, after_act, fits, place_for, Nodes, Each}
+use Rattle.cdf_edits.specs.Index.Cut.{sized_nodes, sized_blocks}
 use Rattle.cdf_edits.specs.Index.Written.{AnyOf}
-use Rattle.cdf_edits.specs.Space.Acts.{Act, Took, Gave, Among, taken, SpaceLeft, AreActs, after_act}
-use Rattle.cdf_edits.specs.Space.Placement.{fits, place_for}
-use Rattle.cdf_format.specs.Index.{Nodes}
-use Rattle.cdf_format.specs.Shape.{Each}
 use Rattle.cdf_examples.proofs.Refusing.{has, not_among}
 
 clash : (p : Bool) → p ≡ true → p ≡ false → ⊥

@@ -1,31 +1,20 @@
 -- What acts leave and what records keep, computed as truth values over the bytes of two images.
 use Rattle.std.proofs.Common.{◌≡◌, ◌⊎◌, ◌<◌, ◌≤◌, ℕ, zero, suc, ◌+◌, ◌-◌, ◌*◌, ◌^◌, Bool, true, false, not, ◌&&◌, ◌||◌, ◌==◌, List, [], ◌∷◌, length, map, drop, min, refl, inl, inr, subst, sym, eq-eqb, ap, ap₂, ◌∙◌, arith}
-use Rattle.std.proofs.lemmas.Bool.{eqb-true, leb-true, lt-ltb}
-use Rattle.std.proofs.lemmas.List.{get_or-drop}
-use Rattle.std.specs.Prelude.{nat_le, nat_lt, slice_index, Some, None}
-use Rattle.std.specs.declared.option.Option.{Option}
-use Rattle.std.specs.List.{filter, fold, slice_get}
-use Rattle.cdf_edits.specs.Commands.Allowances.{FreedStay, FreedStays, GivenStay, shapes_of, Allowance, Anything, Only, OutsideFields, Keeps, Allowances, allowance, AllKeep}
-use Rattle.cdf_edits.specs.Commands.Keeps.{allowances}
-use Rattle.cdf_edits.specs.Space.Acts.{Act, Took, Gave, SpaceLeft, Among, AreActs, ActsFollow, RestStays, after_act, sized, used_records, loose_records, space_before, back_of, links_end}
-use Rattle.cdf_edits.specs.Space.Placement.{place_for, unused}
-use Rattle.cdf_model.specs.declared.command.Command.{Command}
+use Rattle.cdf_examples.proofs.Common.{eqb-true, leb-true, get_or-drop, nat_le, nat_lt, slice_index, Some, None, Option, filter, fold, slice_get, FreedStay, shapes_of, Anything, Only, Keeps, AllKeep, allowances, Act, Took, Gave, SpaceLeft, Among, AreActs, ActsFollow, after_act, used_records, loose_records, space_before, place_for, unused, Command, Found, variable_named, UnusedEntries, NodeSpareStays, is_taken_at, byte, content_of, Nodes, used_count, room_at, first_at, last_at, offset_at, is_in, word, number, size_at, type_at, owned, Field, uir_prev_uir, vxr_type, uir_type, AttributeShape, VariableShape, Shape, Each, shape}
+use Rattle.std.proofs.lemmas.Bool.{lt-ltb}
+use Rattle.cdf_edits.specs.Commands.Allowances.{FreedStays, GivenStay, Allowance, OutsideFields, Allowances, allowance}
+use Rattle.cdf_edits.specs.Space.Acts.{RestStays, sized, back_of, links_end}
 use Rattle.cdf_model.specs.DataSet.{Attribute}
-use Rattle.cdf_model.specs.Names.{Found, attribute_named, variable_named}
+use Rattle.cdf_model.specs.Names.{attribute_named}
 use Rattle.cdf_edits.specs.Commands.Named.{OfAttribute, OfVariable}
 use Rattle.cdf_edits.specs.Commands.Variables.{DeletesVariable, DeletesNamed}
 use Rattle.cdf_edits.specs.Index.Cut.{NodesFreedStay}
-use Rattle.cdf_edits.specs.Index.Written.{EntryIs, UnusedEntries, NodeSpareStays, NodesFollow, was_unused, is_taken_at}
-use Rattle.cdf_format.specs.Bytes.{byte, Same}
-use Rattle.cdf_format.specs.Content.{content_of, content}
-use Rattle.cdf_format.specs.Index.{Nodes, used_count, room_at, first_at, last_at, offset_at}
+use Rattle.cdf_edits.specs.Index.Written.{EntryIs, NodesFollow, was_unused}
+use Rattle.cdf_format.specs.Bytes.{Same}
+use Rattle.cdf_format.specs.Content.{content}
 use Rattle.cdf_format.specs.IndexOf.{SaysEntry}
-use Rattle.cdf_format.specs.Chains.{is_in}
-use Rattle.cdf_format.specs.Fields.{word, number, size_at, type_at}
-use Rattle.cdf_format.specs.Owners.{Owner, owned, unused_records}
-use Rattle.cdf_format.specs.Records.{Field, field, uir_prev_uir}
-use Rattle.cdf_format.specs.RecordTypes.{vxr_type, uir_type}
-use Rattle.cdf_format.specs.Shape.{AttributeShape, VariableShape, Shape, Each, shape}
+use Rattle.cdf_format.specs.Owners.{Owner, unused_records}
+use Rattle.cdf_format.specs.Records.{field}
 use Rattle.cdf_format.proofs.Members.{true-is_in}
 use Rattle.cdf_examples.proofs.BytesKept.{all_below, below, agree_in, agreed}
 use Rattle.cdf_examples.proofs.Refusing.{has}

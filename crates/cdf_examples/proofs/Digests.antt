@@ -1,10 +1,9 @@
 -- The digests of files with a checksum, computed, and what follows for the files.
 use Rattle.std.proofs.Common.{◌≡◌, ℕ, true, List, ◌++◌, length, refl, sym, ◌∙◌, ap, subst}
+use Rattle.cdf_examples.proofs.Common.{sealed, checksum_digest, Change, Verdict, EachBreaks, usual_digest}
 use Rattle.md5.specs.Md5.{md5, digest_bytes, hash_after, compress, rounds, block_words}
-use Rattle.cdf_format.specs.Sealed.{sealed}
-use Rattle.cdf_examples.specs.ChecksumFile.{checksum_image, checksum_digest}
-use Rattle.cdf_examples.specs.Damage.{Change, Verdict, EachBreaks}
-use Rattle.cdf_examples.specs.Usual.{usual_image, usual_digest}
+use Rattle.cdf_examples.specs.ChecksumFile.{checksum_image}
+use Rattle.cdf_examples.specs.Usual.{usual_image}
 use Rattle.cdf_examples.proofs.Tests.{each_breaks, EachBreaks-by}
 
 pub checksum_digest_is : md5 checksum_image ≡ checksum_digest

@@ -1,12 +1,9 @@
 -- What the acts of a put are that cuts nothing first, one after the other.
 use Rattle.std.proofs.Common.{◌≡◌, ℕ, false, List, [], ◌∷◌, ◌++◌, sym, subst, ap, ◌∙◌}
-use Rattle.std.specs.List.{filter}
-use Rattle.cdf_model.specs.DataSet.{Variable}
+use Rattle.cdf_examples.proofs.Common.{filter, Variable, Act, Took, Gave, Nodes, VariableShape}
 use Rattle.cdf_edits.specs.Commands.Puts.{TakesFirst, FreesFirst, PutsIndex, PutsLeaves, CutsFirst, is_written}
 use Rattle.cdf_edits.specs.Index.Blocks.{cuts_before_put}
-use Rattle.cdf_edits.specs.Space.Acts.{Act, Took, Gave}
-use Rattle.cdf_format.specs.Index.{Nodes, leaves_of}
-use Rattle.cdf_format.specs.Shape.{VariableShape}
+use Rattle.cdf_format.specs.Index.{leaves_of}
 
 -- the first act is this one, and then the others follow
 pub record FirstTake (need : ℕ) (Then : ℕ → List Act → Type 0) (acts : List Act) : Type 0 where

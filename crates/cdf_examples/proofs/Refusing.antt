@@ -1,16 +1,9 @@
 -- What acts leave, whichever they are: records in use were in use or are taken, and unlisted ones were unlisted or have fewer than 28 bytes.
 use Rattle.std.proofs.Common.{◌≡◌, ◌⊎◌, ℕ, suc, Bool, true, false, not, ◌&&◌, ◌||◌, ◌==◌, List, [], ◌∷◌, refl, inl, inr, subst, sym, ap, eq-eqb}
-use Rattle.std.specs.Prelude.{nat_le, if◌then◌else◌, Some, None}
-use Rattle.std.specs.declared.option.Option.{Option}
-use Rattle.std.specs.List.{fold, filter, list_any}
-use Rattle.cdf_model.specs.declared.command.Command.{Command}
+use Rattle.cdf_examples.proofs.Common.{nat_le, if◌then◌else◌, Some, None, Option, fold, filter, list_any, Command, Act, Took, Gave, taken, SpaceLeft, Among, after_act, used_records, loose_records, space_before, ActsFollow, size_at, Nodes, no_node, node, Entries, no_entry, block, lower, Each, Refused}
 use Rattle.cdf_edits.specs.Follows.{Follows}
-use Rattle.cdf_edits.specs.Space.Acts.{Act, Took, Gave, taken, SpaceLeft, Among, after_act, used_records, loose_records, space_before, ActsFollow}
-use Rattle.cdf_format.specs.Fields.{size_at}
-use Rattle.cdf_format.specs.Index.{Nodes, no_node, node, Entries, no_entry, block, lower, entry_count}
-use Rattle.cdf_format.specs.Shape.{Each}
+use Rattle.cdf_format.specs.Index.{entry_count}
 use Rattle.cdf_format.specs.Tiles.{In}
-use Rattle.cdf_examples.specs.Claimed.{Refused}
 
 -- no acts lead to an image that is refused, so the command does not
 pub never_follows : (b : List ℕ) (c : Command) (now : List ℕ) → Refused b c now → Follows b c now → ⊥

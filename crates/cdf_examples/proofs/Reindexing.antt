@@ -1,23 +1,13 @@
 -- What `reindex` makes of the first z variable, and that no acts of it lead to an image, by truth values of its index: the content, the old index and the new one are computed no further than these ask.
 use Rattle.std.proofs.Common.{◌≡◌, ◌++◌, ℕ, Bool, true, false, not, ◌&&◌, ◌==◌, List, [], ◌∷◌, length, map, refl, sym, subst, ap, ◌∙◌, eq-eqb}
-use Rattle.std.proofs.lemmas.Bool.{eqb-true}
-use Rattle.std.specs.Prelude.{Some, None}
-use Rattle.std.specs.declared.option.Option.{Option}
-use Rattle.std.specs.List.{slice_get}
+use Rattle.cdf_examples.proofs.Common.{eqb-true, Some, None, Option, slice_get, Variable, Found, variable_named, shapes_of, Does, MakesIndex, FullFromLeft, levels_up, vxr_bytes, Act, Took, AreActs, ActsFollow, space_before, unused, place_for, Nodes, VariableShape, shape}
 use Rattle.cdf_model.specs.declared.command.Command.TheVariants as commands
 use Rattle.cdf_model.specs.declared.kinds.Kind.{Kind}
 use Rattle.cdf_model.specs.declared.kinds.Kind.TheVariants.{R, Z}
-use Rattle.cdf_model.specs.DataSet.{Variable}
-use Rattle.cdf_model.specs.Names.{Found, variable_named}
-use Rattle.cdf_edits.specs.Commands.Allowances.{shapes_of}
-use Rattle.cdf_edits.specs.Commands.Does.{Does}
-use Rattle.cdf_edits.specs.Commands.Reindex.{MakesIndex, FullFromLeft, nodes_at, levels_up}
-use Rattle.cdf_edits.specs.Commands.Room.{vxr_bytes}
-use Rattle.cdf_edits.specs.Space.Acts.{Act, Took, gave, AreActs, ActsFollow, space_before}
-use Rattle.cdf_edits.specs.Space.Placement.{unused, place_for}
+use Rattle.cdf_edits.specs.Commands.Reindex.{nodes_at}
+use Rattle.cdf_edits.specs.Space.Acts.{gave}
 use Rattle.cdf_format.specs.Content.{content}
-use Rattle.cdf_format.specs.Index.{Nodes, nodes_of}
-use Rattle.cdf_format.specs.Shape.{VariableShape, shape}
+use Rattle.cdf_format.specs.Index.{nodes_of}
 use Rattle.cdf_examples.proofs.Deciding.{or_else}
 
 -- ---- what a command makes of the first z variable

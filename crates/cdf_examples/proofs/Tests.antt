@@ -1,6 +1,6 @@
 -- Rules that are computed: as truth values, and what follows of them.
 use Rattle.std.proofs.Common.{◌≡◌, ◌⊎◌, ℕ, zero, suc, Bool, true, false, not, ◌&&◌, ◌||◌, ◌==◌, List, [], ◌∷◌, map, refl, inl, inr, bytes_eq, subst, sym}
-use Rattle.std.proofs.lemmas.Bool.{eqb-true}
+use Rattle.cdf_examples.proofs.Common.{eqb-true, Row, IsBroken, shape, lasting_phases, KeepsRules, BreaksFirst, Change, Verdict, changed, EachBreaks}
 use Rattle.cdf_format.proofs.Tests.{same_of_bytes_eq}
 use Rattle.cdf_format.specs.AttributeRules.{phase6}
 use Rattle.cdf_format.specs.ChainRules.{phase5}
@@ -9,12 +9,11 @@ use Rattle.cdf_format.specs.IndexRules.{phase8}
 use Rattle.cdf_format.specs.Owners.{owned_records}
 use Rattle.cdf_format.specs.Phases.{phase9, phase10}
 use Rattle.cdf_format.specs.RecordRules.{phase4}
-use Rattle.cdf_format.specs.Rules.{Row, Hold, IsBroken, AllHold, FirstBroken}
+use Rattle.cdf_format.specs.Rules.{Hold, AllHold, FirstBroken}
 use Rattle.cdf_format.specs.Sealed.{image_of}
-use Rattle.cdf_format.specs.Shape.{adrs, vdrs, variables, shape}
+use Rattle.cdf_format.specs.Shape.{adrs, vdrs, variables}
 use Rattle.cdf_format.specs.VariableRules.{phase7}
-use Rattle.cdf_examples.specs.Asked.{lasting, lasting_phases, KeepsRules, BreaksFirst}
-use Rattle.cdf_examples.specs.Damage.{Change, Verdict, changed, EachBreaks}
+use Rattle.cdf_examples.specs.Asked.{lasting}
 
 abbrev pub hold : List Row → Bool
 hold [] = true

@@ -1,14 +1,11 @@
 -- What is computed of the files of 65 leaves, once for all that speak of them.
 use Rattle.std.proofs.Common.{◌≡◌, true, List, [], ◌∷◌, ◌++◌, ℕ, length, map, codes, refl, sym, ap, subst}
+use Rattle.cdf_examples.proofs.Common.{unused, variable_named, content_of, Nodes, Shape, shape, w_shape, wide_node_index}
 use Rattle.std.specs.List.{range_with_len}
-use Rattle.cdf_edits.specs.Space.Placement.{unused}
-use Rattle.cdf_model.specs.Names.{variable_named}
 use Rattle.cdf_format.specs.Chains.{chain_on}
-use Rattle.cdf_format.specs.Content.{content_of, content}
-use Rattle.cdf_format.specs.Index.{Nodes}
-use Rattle.cdf_format.specs.Shape.{Shape, shape}
+use Rattle.cdf_format.specs.Content.{content}
 use Rattle.cdf_examples.specs.OneVariable.{variable_shape}
-use Rattle.cdf_examples.specs.WideIndexes.{w_block_at, w_shape, wide_node_file, wide_node_index}
+use Rattle.cdf_examples.specs.WideIndexes.{w_block_at, wide_node_file}
 use Rattle.cdf_examples.proofs.Reindexing.{names_first_z}
 use Rattle.cdf_examples.proofs.Walking.{shape_by}
 

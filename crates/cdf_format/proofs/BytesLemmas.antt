@@ -1,14 +1,11 @@
 -- Fields of bytes that stay the same.
 use Rattle.std.proofs.Common.{◌≡◌, ℕ, zero, suc, ◌+◌, ◌-◌, ◌*◌, ◌^◌, ◌<◌, ◌≤◌, List, ◌∷◌, ◌++◌, length, take, drop, slice_index, refl, sym, ap, ap₂, ◌∙◌, arith}
-use Rattle.std.proofs.lemmas.List.{length-append, length-take, length-drop, get_or-drop, get_or-take, get_or_append_left, get_or-append_right, ext_get_or}
-use Rattle.std.specs.Int.{w32, cast_signed}
-use Rattle.std.specs.Prelude.{◌==◌}
+use Rattle.cdf_format.proofs.Common.{length-append, length-take, get_or-drop, get_or-take, get_or_append_left, w32, cast_signed, ◌==◌, Field, word, number, name_in, size_at, type_at, Same, next_of}
+use Rattle.std.proofs.lemmas.List.{length-drop, get_or-append_right, ext_get_or}
 use Rattle.std.specs.List.{before_first}
 use Rattle.cdf_base.specs.Bytes.{put}
-use Rattle.cdf_format.specs.Records.{Field}
-use Rattle.cdf_format.specs.Fields.{word, words, number, integer4, name_in, size_at, type_at}
-use Rattle.cdf_format.specs.Bytes.{byte, Same}
-use Rattle.cdf_format.specs.Chains.{next_of}
+use Rattle.cdf_format.specs.Fields.{words, integer4}
+use Rattle.cdf_format.specs.Bytes.{byte}
 use Rattle.cdf_format.specs.Stored.{field_bytes}
 
 pub Same-part : (b now : List ℕ) (from upto from' upto' : ℕ) → Same b now from upto → from ≤ from' → upto' ≤ upto → Same b now from' upto'

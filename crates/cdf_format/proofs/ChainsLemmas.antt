@@ -1,12 +1,7 @@
 -- A chain is computed, it is the only one, and where a link leads wrong the walk says which.
 use Rattle.std.proofs.Common.{◌≡◌, ◌≢◌, ◌⊎◌, ℕ, zero, suc, ◌+◌, ◌≤◌, List, [], ◌∷◌, ◌++◌, length, true, false, eqb, leb, eq-eqb, refl, true≢false, sym, ap, subst, ◌∙◌, append_assoc, append-nil, arith, inl, inr}
-use Rattle.std.proofs.lemmas.Bool.{eqb-true, and_parts, and_from, leb-true, le-leb}
-use Rattle.std.proofs.lemmas.List.{length-append}
-use Rattle.cdf_format.specs.Fields.{number, size_at, type_at}
-use Rattle.cdf_format.specs.Records.{Field}
-use Rattle.cdf_format.specs.Walks.{Walk, whole, stuck}
-use Rattle.cdf_format.specs.Tiles.{In, Distinct, AreTiles}
-use Rattle.cdf_format.specs.Chains.{next_of, is_in, is_a, is_linkable, Leads, IsChain, chain_on, chain}
+use Rattle.cdf_format.proofs.Common.{eqb-true, and_parts, and_from, leb-true, le-leb, length-append, number, size_at, type_at, Field, Walk, whole, stuck, In, Distinct, AreTiles, next_of, is_in, is_a, is_linkable, IsChain}
+use Rattle.cdf_format.specs.Chains.{Leads, chain_on, chain}
 use Rattle.cdf_format.proofs.Members.{either, In-append, Distinct-push, Distinct-middle, length-le_from_distinct, is_in-true, true-is_in, false-is_in, is_in-false}
 use Rattle.cdf_format.proofs.TilesLemmas.{tile_lies}
 

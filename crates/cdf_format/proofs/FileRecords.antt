@@ -1,11 +1,6 @@
 -- The two records that each well-formed file has.
 use Rattle.std.proofs.Common.{◌≡◌, ℕ, ◌+◌, ◌*◌, ◌≤◌, List, length, Bool, true, ◌&&◌, subst, arith}
-use Rattle.std.specs.Prelude.{nat_le, ◌==◌}
-use Rattle.cdf_format.specs.Fields.{number, size_at, type_at, gdr_offset, r_num_dims}
-use Rattle.cdf_format.specs.Records.{gdr_r_num_dims}
-use Rattle.cdf_format.specs.Rules.{Hold, asked}
-use Rattle.cdf_format.specs.WellFormed.{WellFormed}
-use Rattle.cdf_format.specs.FileRules.{is_record, gdr_rows}
+use Rattle.cdf_format.proofs.Common.{nat_le, ◌==◌, number, size_at, type_at, gdr_offset, r_num_dims, gdr_r_num_dims, Hold, asked, WellFormed, is_record, gdr_rows}
 use Rattle.cdf_format.proofs.Tests.{both, le_of, eq_of}
 
 -- a record and its size

@@ -1,14 +1,6 @@
 -- The rules of phases 4 to 9 once more, by the shape of an image: the links are those of the shape, and each rule that follows no link holds of its records.
+use Rattle.cdf_format.proofs.Common.{flat_map, unread_type, Row, Hold, adr_name, adr_ngr_entries, adr_nz_entries, adrs_rows, r_vdrs_rows, z_vdrs_rows, differ_rows, same_name, adr_rows, entries_rows, variable_rows, index_rows, AttributeShape, Shape, adrs, vdrs, variables, HasShape}
 use Rattle.std.specs.Prelude.{ℕ, List, [], ◌++◌}
-use Rattle.std.specs.List.{flat_map}
-use Rattle.cdf_format.specs.NotRead.{unread_type}
-use Rattle.cdf_format.specs.Rules.{Row, Hold}
-use Rattle.cdf_format.specs.Records.{adr_name, adr_ngr_entries, adr_nz_entries}
-use Rattle.cdf_format.specs.ChainRules.{adrs_rows, r_vdrs_rows, z_vdrs_rows, differ_rows}
-use Rattle.cdf_format.specs.AttributeRules.{same_name, adr_rows, entries_rows}
-use Rattle.cdf_format.specs.VariableRules.{variable_rows}
-use Rattle.cdf_format.specs.IndexRules.{index_rows}
-use Rattle.cdf_format.specs.Shape.{AttributeShape, Shape, adrs, vdrs, variables, HasShape}
 use Rattle.cdf_format.specs.Owners.{OwnedOnce}
 
 -- counts and numbers

@@ -1,18 +1,11 @@
 -- What a good image has of its two first records, and how long the image of a file is.
 use Rattle.std.proofs.Common.{◌≡◌, ℕ, ◌+◌, ◌-◌, ◌*◌, ◌^◌, ◌≤◌, ◌<◌, List, length, sym, ap, subst, ◌∙◌, arith}
+use Rattle.cdf_format.proofs.Common.{length-take, get_or_append_left, nat_le, IsSound, word, number, size_at, gdr_offset, eof, r_num_dims, counted, is_record, gdr_r_num_dims, cdr_type, gdr_type, fixed_size, trailer, trailer_length, image_of, sealed, shape, WellFormed, Good}
 use Rattle.std.proofs.lemmas.Int.{to_z_pos}
-use Rattle.std.proofs.lemmas.List.{length-take, get_or_append_left}
 use Rattle.std.specs.Int.{w64}
-use Rattle.std.specs.Prelude.{nat_le}
 use Rattle.cdf_model.specs.Limits.{image_limit}
-use Rattle.cdf_format.specs.Sound.{IsSound}
-use Rattle.cdf_format.specs.Fields.{word, number, size_at, gdr_offset, version, eof, r_num_dims, integer8, counted}
-use Rattle.cdf_format.specs.FileRules.{is_record}
-use Rattle.cdf_format.specs.Records.{gdr_eof, gdr_r_num_dims}
-use Rattle.cdf_format.specs.RecordTypes.{cdr_type, gdr_type, fixed_size}
-use Rattle.cdf_format.specs.Sealed.{trailer, trailer_length, image_of, sealed}
-use Rattle.cdf_format.specs.Shape.{shape}
-use Rattle.cdf_format.specs.WellFormed.{WellFormed, Good}
+use Rattle.cdf_format.specs.Fields.{version, integer8}
+use Rattle.cdf_format.specs.Records.{gdr_eof}
 use Rattle.cdf_format.proofs.BytesLemmas.{word-same}
 use Rattle.cdf_format.proofs.ChainsLemmas.{is_a-in, is_a-type}
 use Rattle.cdf_format.proofs.FileRecords.{gdr_holds}

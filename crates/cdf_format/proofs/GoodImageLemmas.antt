@@ -1,24 +1,13 @@
 -- The rules of phases 4 to 9 hold exactly where an image is good by its shape.
 use Rattle.std.proofs.Common.{◌≡◌, ℕ, ◌<◌, List, [], ◌∷◌, ◌++◌, length, map, true, eq-eqb, refl, sym, ap, subst, ◌∙◌, arith, inl}
-use Rattle.std.proofs.lemmas.Bool.{eqb-true, leb-true, le-leb}
-use Rattle.std.specs.List.{flat_map}
-use Rattle.cdf_format.specs.Fields.{type_at, gdr_offset}
-use Rattle.cdf_format.specs.Records.{gdr_r_vdr_head, gdr_z_vdr_head, gdr_adr_head, gdr_uir_head, adr_agr_edr_head, adr_az_edr_head, adr_name, adr_ngr_entries, adr_nz_entries, vdr_vxr_head}
-use Rattle.cdf_format.specs.RecordTypes.{cdr_type, gdr_type, adr_type, agr_edr_type, az_edr_type, r_vdr_type, z_vdr_type, uir_type}
-use Rattle.cdf_format.specs.NotRead.{unread_type}
-use Rattle.cdf_format.specs.Rules.{Hold, AllHold}
-use Rattle.cdf_format.specs.Walks.{Walk, whole, stuck, met_by, records_of}
-use Rattle.cdf_format.specs.Tiles.{In, AreTiles, tiling, tiles}
-use Rattle.cdf_format.specs.Chains.{is_a}
-use Rattle.cdf_format.specs.Index.{Nodes, nodes_of}
-use Rattle.cdf_format.specs.IndexWalk.{Met, met, lost, nodes_met}
-use Rattle.cdf_format.specs.Shape.{AttributeShape, VariableShape, Shape, adrs, vdrs, variables, Each, HasEntries, HasVariable, adr_chain, r_vdr_chain, z_vdr_chain, uir_chain, gr_entry_chain, z_entry_chain, index_of, attribute_shape, variable_shape, shape}
-use Rattle.cdf_format.specs.Owners.{owned_records}
+use Rattle.cdf_format.proofs.Common.{eqb-true, leb-true, le-leb, flat_map, type_at, gdr_offset, gdr_r_vdr_head, gdr_z_vdr_head, gdr_adr_head, gdr_uir_head, adr_agr_edr_head, adr_az_edr_head, adr_name, adr_ngr_entries, adr_nz_entries, vdr_vxr_head, cdr_type, gdr_type, adr_type, agr_edr_type, az_edr_type, r_vdr_type, z_vdr_type, uir_type, unread_type, Hold, AllHold, Walk, whole, stuck, records_of, In, AreTiles, tiling, tiles, is_a, Nodes, nodes_of, Met, met, lost, nodes_met, AttributeShape, VariableShape, Shape, adrs, vdrs, variables, Each, HasEntries, HasVariable, adr_chain, r_vdr_chain, z_vdr_chain, uir_chain, attribute_shape, variable_shape, owned_records, chain_rows, adrs_rows, r_vdrs_rows, z_vdrs_rows, differ_rows, same_name, adr_rows, entries_rows, index_rows, image_phases}
+use Rattle.cdf_format.specs.Walks.{met_by}
+use Rattle.cdf_format.specs.Shape.{gr_entry_chain, z_entry_chain, index_of, shape}
 use Rattle.cdf_format.specs.RecordRules.{tiling_rows, record_rows}
-use Rattle.cdf_format.specs.ChainRules.{chain_rows, adrs_rows, r_vdrs_rows, z_vdrs_rows, differ_rows, phase5}
-use Rattle.cdf_format.specs.AttributeRules.{same_name, adr_rows, entries_rows, attribute_rows, phase6}
-use Rattle.cdf_format.specs.IndexRules.{index_rows, met_rows, phase8}
-use Rattle.cdf_format.specs.Phases.{owner_rows, phase9, phases_of, image_phases}
+use Rattle.cdf_format.specs.ChainRules.{phase5}
+use Rattle.cdf_format.specs.AttributeRules.{attribute_rows, phase6}
+use Rattle.cdf_format.specs.IndexRules.{met_rows, phase8}
+use Rattle.cdf_format.specs.Phases.{owner_rows, phase9, phases_of}
 use Rattle.cdf_format.specs.GoodImage.{IsGoodImage}
 use Rattle.cdf_format.proofs.GoodByShape.{attribute_shape_rows, IsGoodByShape}
 use Rattle.cdf_format.proofs.TilesLemmas.{tiling_sound, tiling_complete, tile_lies}

@@ -1,15 +1,7 @@
 -- A good image is good by its shape, and sound.
 use Rattle.std.proofs.Common.{◌≡◌, ℕ, ◌+◌, ◌≤◌, List, length, true, sym, ap, subst, ◌∙◌, arith, ◌-◌, take, eqb}
-use Rattle.std.proofs.lemmas.List.{length-append, length-take, get_or_append_left}
-use Rattle.std.proofs.lemmas.Bool.{eqb-true}
-use Rattle.cdf_format.specs.Sound.{IsSound}
-use Rattle.cdf_format.specs.Bytes.{Same}
-use Rattle.cdf_format.specs.Fields.{size_at, eof, gdr_offset}
-use Rattle.cdf_format.specs.RecordTypes.{gdr_type, fixed_size}
+use Rattle.cdf_format.proofs.Common.{length-append, length-take, get_or_append_left, eqb-true, IsSound, Same, size_at, eof, gdr_offset, gdr_type, fixed_size, trailer, trailer_length, sealed, shape, WellFormed, Good}
 use Rattle.cdf_format.proofs.GoodByShape.{IsGoodByShape}
-use Rattle.cdf_format.specs.Sealed.{trailer, trailer_length, sealed}
-use Rattle.cdf_format.specs.Shape.{shape}
-use Rattle.cdf_format.specs.WellFormed.{WellFormed, Good}
 use Rattle.cdf_format.proofs.Tests.{le_of}
 use Rattle.cdf_format.proofs.TilesLemmas.{tile_lies}
 use Rattle.cdf_format.proofs.ChainsLemmas.{is_a-in, is_a-type}

@@ -1,12 +1,10 @@
 -- The head of a good image's content is what its fields say.
 use Rattle.std.proofs.Common.{◌≡◌, ℕ, suc, pos, List, [], ◌∷◌, ◌++◌, length, map, refl, sym, ap, ◌∙◌}
+use Rattle.cdf_format.proofs.Common.{has_bit, gdr_offset, has_checksum, adrs_rows, r_vdrs_rows, z_vdrs_rows, content, attribute_of, AttributeShape, VariableShape, Shape, adrs, vdrs}
 use Rattle.cdf_model.specs.DataSet.{head_of}
-use Rattle.cdf_format.specs.Fields.{has_bit, gdr_offset, release, encoding, flags, increment, r_sizes, num_attr, nr_vars, nz_vars}
-use Rattle.cdf_format.specs.Sealed.{has_checksum}
-use Rattle.cdf_format.specs.ChainRules.{adrs_rows, r_vdrs_rows, z_vdrs_rows}
-use Rattle.cdf_format.specs.Content.{content, majority_of, attribute_of, variable_of, head_by_fields}
+use Rattle.cdf_format.specs.Fields.{release, encoding, flags, increment, r_sizes, num_attr, nr_vars, nz_vars}
+use Rattle.cdf_format.specs.Content.{majority_of, variable_of, head_by_fields}
 use Rattle.cdf_format.proofs.GoodByShape.{IsGoodByShape}
-use Rattle.cdf_format.specs.Shape.{AttributeShape, VariableShape, Shape, adrs, vdrs}
 use Rattle.cdf_format.proofs.Tests.{eq_of}
 use Rattle.cdf_format.proofs.RowLemmas.{Hold-split}
 use Rattle.cdf_format.proofs.ShapeLemmas.{content_is}

@@ -1,30 +1,17 @@
 -- The image of a file that keeps all rules is good.
 use Rattle.std.proofs.Common.{◌≡◌, ℕ, ◌+◌, ◌-◌, ◌≤◌, ◌<◌, List, length, ◌∙◌, arith, inl, inr, ◌*◌, subst, sym, ap, take, Bool, [], ◌∷◌, ◌++◌, false, refl, true, append-nil, drop}
-use Rattle.std.proofs.lemmas.List.{length-take, length-append, get_or_append_left, take-append-drop, take_all}
-use Rattle.std.specs.Prelude.{nat_le, if◌then◌else◌, bytes_eq}
-use Rattle.cdf_format.specs.Fields.{type_at, gdr_offset, counted, number, r_num_dims, word, size_at, has_bit}
-use Rattle.cdf_format.specs.Sealed.{has_checksum, trailer_length, image_of, trailer, sealed}
-use Rattle.cdf_format.specs.Phases.{phase10}
-use Rattle.cdf_format.specs.WellFormed.{WellFormed}
+use Rattle.cdf_format.proofs.Common.{length-take, length-append, get_or_append_left, nat_le, if◌then◌else◌, bytes_eq, type_at, gdr_offset, counted, number, r_num_dims, word, size_at, has_bit, has_checksum, trailer_length, image_of, trailer, sealed, phase10, WellFormed, shape, IsSound, gdr_r_num_dims, gdr_type, fixed_size, Hold, asked, gdr_rows, is_record, w32, cast_signed, Same, md5}
+use Rattle.std.proofs.lemmas.List.{take-append-drop, take_all}
 use Rattle.cdf_format.proofs.GoodByShape.{IsGoodByShape}
-use Rattle.cdf_format.specs.Shape.{shape}
 use Rattle.cdf_format.proofs.Pieces.{word-piece}
 use Rattle.cdf_format.proofs.Tests.{both, le_of, same_of_bytes_eq}
 use Rattle.cdf_format.proofs.Members.{either}
 use Rattle.cdf_format.proofs.FileRecords.{record-of}
 use Rattle.cdf_format.proofs.GoodImageLemmas.{good_by_rules}
-use Rattle.cdf_format.specs.Sound.{IsSound}
-use Rattle.cdf_format.specs.Records.{gdr_r_num_dims}
-use Rattle.cdf_format.specs.RecordTypes.{gdr_type, fixed_size}
-use Rattle.cdf_format.specs.Rules.{Hold, asked}
-use Rattle.cdf_format.specs.FileRules.{gdr_rows, is_record}
 use Rattle.cdf_format.proofs.SoundLemmas.{sound_of_good}
 use Rattle.cdf_format.proofs.ChainsLemmas.{is_a-in, is_a-type}
 use Rattle.cdf_format.proofs.TilesLemmas.{tile_lies}
-use Rattle.std.specs.Int.{w32, cast_signed}
-use Rattle.cdf_format.specs.Bytes.{Same}
 use Rattle.cdf_format.proofs.BytesLemmas.{word-same}
-use Rattle.md5.specs.Md5.{md5}
 use Rattle.md5.proofs.StandardFacts.{length-md5}
 use Rattle.cdf_format.proofs.RowLemmas.{Hold-asked}
 

@@ -1,15 +1,9 @@
 -- An index is computed, and it is the only one.
 use Rattle.std.proofs.Common.{◌≡◌, ◌≢◌, ℕ, zero, suc, ◌≤◌, List, [], ◌∷◌, ◌++◌, length, Bool, true, false, not, ◌&&◌, eqb, eq-eqb, refl, true≢false, sym, ap, subst, ◌∙◌, append_assoc, append-nil, arith, inl, inr}
-use Rattle.std.proofs.lemmas.Bool.{eqb-true, and_parts, and_from}
-use Rattle.std.proofs.lemmas.List.{length-append}
-use Rattle.cdf_format.specs.Fields.{number, type_at}
-use Rattle.cdf_format.specs.Records.{Field}
-use Rattle.cdf_format.specs.RecordTypes.{vxr_type, cvvr_type}
-use Rattle.cdf_format.specs.Tiles.{In, Distinct, AreTiles}
-use Rattle.cdf_format.specs.Chains.{next_of, is_in, is_linkable}
-use Rattle.cdf_format.specs.Index.{Nodes, no_node, node, Entries, no_entry, block, lower, nodes_of, lower_nodes, entry_count, link_to, room_at, used_count, offset_at}
+use Rattle.cdf_format.proofs.Common.{eqb-true, and_parts, and_from, length-append, number, type_at, Field, vxr_type, cvvr_type, In, Distinct, AreTiles, next_of, is_in, is_linkable, Nodes, no_node, node, Entries, no_entry, block, lower, room_at, Met, met, lost}
+use Rattle.cdf_format.specs.Index.{nodes_of, lower_nodes, entry_count, link_to, used_count, offset_at}
 use Rattle.cdf_format.specs.IndexOf.{SayEntries, IsNode, HasNodes, Names, IsIndex}
-use Rattle.cdf_format.specs.IndexWalk.{Met, met, lost, and_then, entries_on, nodes_on, levels_on, index_walk}
+use Rattle.cdf_format.specs.IndexWalk.{and_then, entries_on, nodes_on, levels_on, index_walk}
 use Rattle.cdf_format.proofs.Members.{either, In-append, Distinct-push, Distinct-front, Distinct-back, Distinct-middle, length-le_from_distinct, false-is_in, is_in-false}
 use Rattle.cdf_format.proofs.ChainsLemmas.{linkable-in, some_place}
 

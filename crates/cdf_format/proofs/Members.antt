@@ -1,8 +1,6 @@
 -- Lists of numbers that stand apart.
 use Rattle.std.proofs.Common.{◌≡◌, ◌≢◌, ◌⊎◌, ℕ, suc, ◌≤◌, List, [], ◌∷◌, ◌++◌, length, Bool, true, false, ◌||◌, eqb, eq-eqb, true≢false, refl, sym, ap, subst, ◌∙◌, arith, inl, inr}
-use Rattle.std.proofs.lemmas.Bool.{eqb-true}
-use Rattle.cdf_format.specs.Tiles.{In, Distinct}
-use Rattle.cdf_format.specs.Chains.{is_in}
+use Rattle.cdf_format.proofs.Common.{eqb-true, In, Distinct, is_in}
 
 pub either : (p : Bool) → (p ≡ true) ⊎ (p ≡ false)
 either true = inl refl

@@ -1,14 +1,8 @@
 -- The rule that names differ, over the names alone.
 use Rattle.std.proofs.Common.{◌≡◌, ℕ, List, [], ◌∷◌, ◌++◌, map, Bool, true, false, not, ◌||◌, eq-eqb, bytes_eq, refl, sym, ap, subst, ◌∙◌, append_assoc, append-nil, inl, inr}
+use Rattle.cdf_format.proofs.Common.{same_name, differ_rows, content, attribute_of, name_in, Field, adr_name, Hold, AttributeShape, Shape, adrs, HasShape}
 use Rattle.std.specs.List.{list_any}
 use Rattle.cdf_model.specs.Names.{attribute_names}
-use Rattle.cdf_format.specs.AttributeRules.{same_name}
-use Rattle.cdf_format.specs.ChainRules.{differ_rows}
-use Rattle.cdf_format.specs.Content.{content, attribute_of}
-use Rattle.cdf_format.specs.Fields.{name_in}
-use Rattle.cdf_format.specs.Records.{Field, adr_name}
-use Rattle.cdf_format.specs.Rules.{Hold}
-use Rattle.cdf_format.specs.Shape.{AttributeShape, Shape, adrs, HasShape}
 use Rattle.cdf_format.proofs.Members.{either}
 use Rattle.cdf_format.proofs.ShapeLemmas.{content_is}
 use Rattle.cdf_format.proofs.Tests.{not_false, same_of_bytes_eq}

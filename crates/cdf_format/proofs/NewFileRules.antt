@@ -1,15 +1,12 @@
 -- The new file keeps all rules, by computing them.
 use Rattle.std.proofs.Common.{◌≡◌, List, [], ◌∷◌, Bool, true, ◌&&◌, length, refl}
+use Rattle.cdf_format.proofs.Common.{all_phases, Row, Hold, AllHold, sealed, Good}
 use Rattle.cdf_model.specs.DataSet.{new_data_set}
 use Rattle.cdf_format.specs.Chains.{chain_on}
 use Rattle.cdf_format.specs.Content.{content}
 use Rattle.cdf_format.specs.NewFile.{new_image}
-use Rattle.cdf_format.specs.Phases.{all_phases}
-use Rattle.cdf_format.specs.Rules.{Row, Hold, AllHold}
-use Rattle.cdf_format.specs.Sealed.{sealed}
 use Rattle.cdf_format.specs.Shape.{shape}
 use Rattle.cdf_format.specs.Tiles.{tiles_from}
-use Rattle.cdf_format.specs.WellFormed.{Good}
 use Rattle.cdf_format.proofs.Tests.{both}
 
 abbrev hold : List Row → Bool

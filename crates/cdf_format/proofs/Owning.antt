@@ -1,21 +1,12 @@
 -- The records that an image owns are its records, each once.
 use Rattle.std.proofs.Common.{◌≡◌, ◌⊎◌, ℕ, ℤ, negsuc, suc, ◌+◌, ◌≤◌, List, [], ◌∷◌, ◌++◌, length, map, Bool, true, false, not, ◌||◌, eqb, eq-eqb, refl, sym, ap, ap₂, subst, ◌∙◌, arith, inl, inr}
-use Rattle.std.proofs.lemmas.Bool.{eqb-true}
+use Rattle.cdf_format.proofs.Common.{eqb-true, flat_map, filter, size_at, type_at, with_sign, number_before, vxr_type, vvr_type, cvvr_type, cpr_type, uir_type, adr_type, agr_edr_type, az_edr_type, r_vdr_type, z_vdr_type, cdr_type, gdr_type, Row, Hold, In, Distinct, AreTiles, is_a, is_in, Nodes, no_node, node, Entries, no_entry, block, lower, Leaf, nodes_of, is_block, end_of, leaf_rows, index_rows, cpr_link, is_cpr, variable_rows, AttributeShape, VariableShape, Shape, vdrs, variables, is_compressed, cpr_of, Each, HasEntries, HasVariable, unused_records, owned_records}
 use Rattle.std.proofs.lemmas.List.{map-append}
-use Rattle.std.specs.List.{flat_map, filter}
 use Rattle.cdf_model.specs.declared.kinds.Kind.{Kind}
 use Rattle.cdf_model.specs.declared.kinds.Kind.TheVariants.{R, Z}
-use Rattle.cdf_format.specs.Fields.{size_at, type_at, with_sign}
-use Rattle.cdf_format.specs.VariableFields.{number_before}
-use Rattle.cdf_format.specs.RecordTypes.{vxr_type, vvr_type, cvvr_type, cpr_type, uir_type, adr_type, agr_edr_type, az_edr_type, r_vdr_type, z_vdr_type, cdr_type, gdr_type}
-use Rattle.cdf_format.specs.Rules.{Row, Hold}
-use Rattle.cdf_format.specs.Tiles.{In, Distinct, AreTiles}
-use Rattle.cdf_format.specs.Chains.{is_a, is_in}
-use Rattle.cdf_format.specs.Index.{Nodes, no_node, node, Entries, no_entry, block, lower, Leaf, nodes_of, leaves_of, entry_leaves}
-use Rattle.cdf_format.specs.IndexRules.{is_block, end_of, nodes_rows, used_rows, leaf_rows, index_rows}
-use Rattle.cdf_format.specs.VariableRules.{cpr_link, is_cpr, variable_rows}
-use Rattle.cdf_format.specs.Shape.{AttributeShape, VariableShape, Shape, vdrs, variables, is_compressed, cpr_of, Each, HasEntries, HasVariable}
-use Rattle.cdf_format.specs.Owners.{Owner, File, OneAttribute, OneVariable, Unused, attribute_records, variable_records, unused_records, owned_by, owned_by_attributes, owned_by_variables, times, owned_records}
+use Rattle.cdf_format.specs.Index.{leaves_of, entry_leaves}
+use Rattle.cdf_format.specs.IndexRules.{nodes_rows, used_rows}
+use Rattle.cdf_format.specs.Owners.{Owner, File, OneAttribute, OneVariable, Unused, attribute_records, variable_records, owned_by, owned_by_attributes, owned_by_variables, times}
 use Rattle.cdf_format.proofs.GoodByShape.{IsGoodByShape}
 use Rattle.cdf_format.proofs.Members.{either, In-append, true-is_in, false-is_in}
 use Rattle.cdf_format.proofs.TilesLemmas.{tile_lies}

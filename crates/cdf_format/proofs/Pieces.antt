@@ -1,7 +1,6 @@
 -- A field that is read from a piece of the bytes.
 use Rattle.std.proofs.Common.{◌≡◌, ℕ, zero, suc, ◌+◌, ◌≤◌, List, take, drop, slice_index, refl, ◌∙◌, ap, arith}
-use Rattle.std.proofs.lemmas.List.{get_or-take, get_or-drop}
-use Rattle.cdf_format.specs.Fields.{word}
+use Rattle.cdf_format.proofs.Common.{get_or-take, get_or-drop, word}
 
 pub word-piece : (b : List ℕ) (place i n m : ℕ) → i + n ≤ m → word (take m (drop place b)) i n ≡ word b (place + i) n
 word-piece b place i zero m le = refl

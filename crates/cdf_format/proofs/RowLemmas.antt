@@ -1,10 +1,6 @@
 -- Rules of several lists of rows.
 use Rattle.std.proofs.Common.{◌≡◌, ℕ, List, [], ◌∷◌, ◌++◌, Bool, true, false, refl, sym, ◌∙◌, ap, subst, inl, inr, append_assoc}
-use Rattle.std.specs.List.{flat_map}
-use Rattle.cdf_format.specs.Rules.{Row, asked, Hold, IsBroken}
-use Rattle.cdf_format.specs.Tiles.{In}
-use Rattle.cdf_format.specs.Walks.{Walk, whole, stuck, records_of}
-use Rattle.cdf_format.specs.ChainRules.{chain_rows}
+use Rattle.cdf_format.proofs.Common.{flat_map, Row, asked, Hold, IsBroken, In, Walk, whole, stuck, records_of, chain_rows}
 
 pub Hold-append : (xs ys : List Row) → Hold xs → Hold ys → Hold (xs ++ ys)
 Hold-append [] ys p q = q

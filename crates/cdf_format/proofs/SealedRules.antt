@@ -1,22 +1,14 @@
 -- A sealed image keeps all rules exactly where it does so as a file, as far as its two first records, and is good by its shape.
 use Rattle.std.proofs.Common.{◌≡◌, ℕ, ◌≤◌, List, [], ◌∷◌, length, drop, Bool, true, refl, eqb, eq-eqb, sym, ap, subst, ◌∙◌, arith, inl, inr}
+use Rattle.cdf_format.proofs.Common.{and_from, bytes_eq, if◌then◌else◌, md5, row, Hold, asked, AllHold, has_checksum, trailer, image_of, sealed, phase10, image_phases, WellFormed, Shape, shape, size_at, cdr_type, fixed_size}
 use Rattle.std.proofs.Math.Seq.{drop-append_seam}
-use Rattle.std.proofs.lemmas.Bool.{and_from}
-use Rattle.std.specs.Prelude.{bytes_eq, if◌then◌else◌}
-use Rattle.md5.specs.Md5.{md5}
-use Rattle.cdf_format.specs.Rules.{row, Hold, asked, AllHold}
-use Rattle.cdf_format.specs.Sealed.{has_checksum, trailer, image_of, sealed}
-use Rattle.cdf_format.specs.Phases.{phase10, first_phases, image_phases}
-use Rattle.cdf_format.specs.WellFormed.{WellFormed}
+use Rattle.cdf_format.specs.Phases.{first_phases}
 use Rattle.cdf_format.proofs.GoodByShape.{IsGoodByShape}
-use Rattle.cdf_format.specs.Shape.{Shape, shape}
 use Rattle.cdf_format.proofs.Members.{either}
 use Rattle.cdf_format.proofs.TilesLemmas.{tile_lies}
 use Rattle.cdf_format.proofs.ChainsLemmas.{is_a-in, is_a-type}
 use Rattle.cdf_format.proofs.GoodImageLemmas.{good_image, rules_by_good}
 use Rattle.cdf_format.proofs.ImageOf.{good_image_of, flags_of_front, image_of-sealed}
-use Rattle.cdf_format.specs.Fields.{size_at}
-use Rattle.cdf_format.specs.RecordTypes.{cdr_type, fixed_size}
 
 same_bytes : (xs : List ℕ) → bytes_eq xs xs ≡ true
 same_bytes [] = refl

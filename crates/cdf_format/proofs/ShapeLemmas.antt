@@ -1,14 +1,7 @@
 -- The shape that is computed is the shape of an image, if it has one.
 use Rattle.std.proofs.Common.{◌≡◌, ℕ, List, [], ◌∷◌, ◌++◌, length, map, refl, sym, ap, subst, ◌∙◌}
-use Rattle.cdf_format.specs.Fields.{number, gdr_offset}
-use Rattle.cdf_format.specs.Records.{gdr_r_vdr_head, gdr_z_vdr_head, gdr_adr_head, gdr_uir_head, adr_agr_edr_head, adr_az_edr_head, vdr_vxr_head}
-use Rattle.cdf_format.specs.RecordTypes.{adr_type, agr_edr_type, az_edr_type, r_vdr_type, z_vdr_type, uir_type}
-use Rattle.cdf_format.specs.Walks.{Walk, whole, records_of}
-use Rattle.cdf_format.specs.Tiles.{AreTiles, tiles}
-use Rattle.cdf_format.specs.Chains.{IsChain}
-use Rattle.cdf_format.specs.Index.{Nodes}
-use Rattle.cdf_format.specs.IndexWalk.{nodes_met}
-use Rattle.cdf_format.specs.Shape.{AttributeShape, VariableShape, Shape, adrs, vdrs, Each, HasEntries, HasVariable, HasShape, adr_chain, r_vdr_chain, z_vdr_chain, uir_chain, attribute_shape, variable_shape, shape_in, shape}
+use Rattle.cdf_format.proofs.Common.{number, gdr_offset, gdr_r_vdr_head, gdr_z_vdr_head, gdr_adr_head, gdr_uir_head, adr_agr_edr_head, adr_az_edr_head, vdr_vxr_head, adr_type, agr_edr_type, az_edr_type, r_vdr_type, z_vdr_type, uir_type, Walk, whole, records_of, AreTiles, tiles, IsChain, Nodes, nodes_met, AttributeShape, VariableShape, Shape, adrs, vdrs, Each, HasEntries, HasVariable, HasShape, adr_chain, r_vdr_chain, z_vdr_chain, uir_chain, attribute_shape, variable_shape}
+use Rattle.cdf_format.specs.Shape.{shape_in, shape}
 use Rattle.cdf_format.specs.Content.{content_of, content}
 use Rattle.cdf_format.proofs.TilesLemmas.{tiling_complete}
 use Rattle.cdf_format.proofs.ChainsLemmas.{chain_complete}

@@ -1,24 +1,17 @@
 -- A good image is sound: its records are long enough for what is read of them, and none is owned twice.
 use Rattle.std.proofs.Common.{◌≡◌, ℕ, ℤ, negsuc, zero, suc, ◌+◌, ◌*◌, ◌≤◌, List, [], ◌∷◌, ◌++◌, length, map, Bool, true, false, not, ◌&&◌, ◌||◌, refl, true≢false, sym, subst, ◌∙◌, arith, inl, inr}
-use Rattle.std.specs.Prelude.{nat_le, ◌==◌, min, is_some, if◌then◌else◌}
-use Rattle.std.specs.List.{flat_map}
-use Rattle.std.specs.Int.{w32, cast_signed}
-use Rattle.cdf_format.specs.Fields.{is_positive, counted, with_sign, number, size_at, type_at, r_num_dims}
-use Rattle.cdf_format.specs.Records.{Field, adr_name, adr_ngr_entries, adr_nz_entries, aedr_num_elems, vxr_n_used_entries, cvvr_c_size}
-use Rattle.cdf_format.specs.RecordTypes.{vvr_type, cvvr_type, cpr_type}
-use Rattle.cdf_format.specs.Rules.{Row, row, Hold, asked}
-use Rattle.cdf_format.specs.Tiles.{In}
-use Rattle.cdf_format.specs.Chains.{is_a, is_in}
-use Rattle.cdf_format.specs.Index.{Nodes, no_node, node, Entries, no_entry, block, lower, Leaf, leaf, nodes_of, lower_nodes, leaves_of, entry_leaves, room_at}
+use Rattle.cdf_format.proofs.Common.{nat_le, ◌==◌, if◌then◌else◌, flat_map, w32, cast_signed, counted, with_sign, number, size_at, type_at, r_num_dims, Field, adr_name, adr_ngr_entries, adr_nz_entries, vvr_type, cvvr_type, cpr_type, Row, row, Hold, asked, In, is_a, is_in, Nodes, no_node, node, Entries, no_entry, block, lower, Leaf, room_at, AttributeShape, VariableShape, Shape, adrs, vdrs, variables, is_compressed, cpr_of, Each, HasVariable, differ_rows, same_name, adr_rows, entries_rows, cpr_link, is_cpr, variable_rows, number_before, is_block, leaf_rows, end_of, index_rows, IsSound}
+use Rattle.std.specs.Prelude.{min, is_some}
+use Rattle.cdf_format.specs.Fields.{is_positive}
+use Rattle.cdf_format.specs.Records.{aedr_num_elems, vxr_n_used_entries, cvvr_c_size}
+use Rattle.cdf_format.specs.Index.{leaf, nodes_of, lower_nodes, leaves_of, entry_leaves}
 use Rattle.cdf_format.specs.IndexOf.{HasNodes, Names}
-use Rattle.cdf_format.specs.Shape.{AttributeShape, VariableShape, Shape, adrs, vdrs, variables, is_compressed, cpr_of, Each, HasVariable}
-use Rattle.cdf_format.specs.ChainRules.{count_rows, differ_rows}
-use Rattle.cdf_format.specs.AttributeRules.{entry_bytes, has_value, entry_rows, same_number, same_name, adr_rows, entries_rows}
-use Rattle.cdf_format.specs.VariableRules.{cpr_link, is_cpr, variable_rows}
-use Rattle.cdf_format.specs.VariableFields.{number_before, plain_size}
-use Rattle.cdf_format.specs.IndexRules.{has_room, is_block, holds_packed, vvr_rows, cvvr_rows, leaf_rows, nodes_rows, used_rows, end_of, index_rows}
+use Rattle.cdf_format.specs.ChainRules.{count_rows}
+use Rattle.cdf_format.specs.AttributeRules.{entry_bytes, has_value, entry_rows, same_number}
+use Rattle.cdf_format.specs.VariableFields.{plain_size}
+use Rattle.cdf_format.specs.IndexRules.{has_room, holds_packed, vvr_rows, cvvr_rows, nodes_rows, used_rows}
 use Rattle.cdf_format.proofs.GoodByShape.{attribute_shape_rows, IsGoodByShape}
-use Rattle.cdf_format.specs.Sound.{EntryFits, AttributeFits, NodeFits, BlockFits, LeafFits, VariableFits, IsSound}
+use Rattle.cdf_format.specs.Sound.{EntryFits, AttributeFits, NodeFits, BlockFits, LeafFits, VariableFits}
 use Rattle.cdf_format.proofs.Members.{either, is_in-true, true-is_in, false-is_in}
 use Rattle.cdf_format.proofs.Tests.{both, le_of}
 use Rattle.cdf_format.proofs.RowLemmas.{Hold-split}

@@ -1,13 +1,7 @@
 -- What the records of an image take adds up to the image.
 use Rattle.std.proofs.Common.{◌≡◌, ◌≤◌, ℕ, suc, ◌+◌, List, [], ◌∷◌, length, Bool, true, false, not, eqb, eq-eqb, refl, sym, ap, ap₂, subst, ◌∙◌, arith, inl, inr}
-use Rattle.std.proofs.lemmas.Bool.{eqb-true}
-use Rattle.std.specs.List.{filter}
-use Rattle.cdf_format.specs.Fields.{size_at, type_at}
-use Rattle.cdf_format.specs.RecordTypes.{uir_type}
-use Rattle.cdf_format.specs.Tiles.{In, Distinct, AreTiles}
-use Rattle.cdf_format.specs.Chains.{is_in}
-use Rattle.cdf_format.specs.Shape.{Shape, HasShape}
-use Rattle.cdf_format.specs.Owners.{unused_records, bytes_in, space_of}
+use Rattle.cdf_format.proofs.Common.{eqb-true, filter, size_at, type_at, uir_type, In, Distinct, AreTiles, is_in, Shape, HasShape, unused_records}
+use Rattle.cdf_format.specs.Owners.{bytes_in, space_of}
 use Rattle.cdf_format.proofs.Members.{either, is_in-false, is_in-true, length-le_from_distinct, true-is_in}
 use Rattle.cdf_format.proofs.ChainsLemmas.{linkable-in, linkable-type}
 use Rattle.cdf_format.proofs.Owning.{tiles_distinct, filter-in}

@@ -1,8 +1,7 @@
 -- Tests of numbers, taken apart.
 use Rattle.std.proofs.Common.{◌≡◌, ℕ, ◌≤◌, Bool, true, false, refl, arith, ◌&&◌, not, List, [], ◌∷◌, eqb, ap₂}
+use Rattle.cdf_format.proofs.Common.{nat_le, ◌==◌, bytes_eq, eqb-true}
 use Rattle.std.proofs.lemmas.Bool.Decides.{nat_tests}
-use Rattle.std.specs.Prelude.{nat_le, ◌==◌, bytes_eq}
-use Rattle.std.proofs.lemmas.Bool.{eqb-true}
 
 pub both : (p q : Bool) → (p && q) ≡ true → (p ≡ true) × (q ≡ true)
 both true q e = (refl, e)

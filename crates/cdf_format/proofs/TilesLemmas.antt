@@ -1,9 +1,8 @@
 -- Tiles lie apart; a tiling is computed, and it is the only one.
 use Rattle.std.proofs.Common.{◌≡◌, ◌≢◌, ◌⊎◌, ℕ, zero, suc, ◌+◌, ◌≤◌, List, [], ◌∷◌, length, true, false, eqb, leb, eq-eqb, refl, sym, ap, subst, ◌∙◌, arith, inl, inr}
-use Rattle.std.proofs.lemmas.Bool.{eqb-true, and_parts, and_from, leb-true, le-leb}
-use Rattle.cdf_format.specs.Fields.{size_at}
-use Rattle.cdf_format.specs.Walks.{Walk, whole, stuck, after_first}
-use Rattle.cdf_format.specs.Tiles.{In, AreTiles, is_tile, tiles_from, tiling}
+use Rattle.cdf_format.proofs.Common.{eqb-true, and_parts, and_from, leb-true, le-leb, size_at, Walk, whole, stuck, In, AreTiles, tiling}
+use Rattle.cdf_format.specs.Walks.{after_first}
+use Rattle.cdf_format.specs.Tiles.{is_tile, tiles_from}
 use Rattle.cdf_format.proofs.Members.{either}
 
 -- where a tile lies

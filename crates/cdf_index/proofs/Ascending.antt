@@ -1,14 +1,9 @@
 -- The entries of each node of an index ascend.
 use Rattle.std.proofs.Common.{◌≡◌, ℕ, zero, suc, ◌+◌, ◌<◌, ◌≤◌, List, arith}
-use Rattle.cdf_format.specs.Index.{Nodes, no_node, node, Entries, no_entry, block, lower, nodes_of, lower_nodes, entry_count, used_count, first_at, last_at}
-use Rattle.cdf_format.specs.IndexOf.{SayEntries, HasNodes, Names}
-use Rattle.cdf_format.specs.Shape.{Each}
-use Rattle.cdf_format.specs.Sound.{NodeFits}
-use Rattle.cdf_format.specs.Tiles.{tiles}
-use Rattle.cdf_format.proofs.ShapeLemmas.{Each-append, Each-split}
-use Rattle.cdf_model.specs.Limits.{record_number_limit}
-use Rattle.cdf_index.specs.Finding.{index_at, HasIndex, IsOrderly, Stands}
-use Rattle.cdf_index.specs.Order.{past_entries, InOrder, AreInOrder}
+use Rattle.cdf_index.proofs.Common.{Nodes, no_node, node, Entries, no_entry, block, lower, entry_count, used_count, first_at, last_at, SayEntries, Each, NodeFits, tiles, Each-append, Each-split, record_number_limit, index_at, HasIndex, IsOrderly, Stands, past_entries}
+use Rattle.cdf_format.specs.Index.{nodes_of, lower_nodes}
+use Rattle.cdf_format.specs.IndexOf.{HasNodes, Names}
+use Rattle.cdf_index.specs.Order.{InOrder, AreInOrder}
 
 -- an entry begins and ends at a later one's First and Last or before them
 abbrev Before : List ℕ → ℕ → ℕ → ℕ → Type 0

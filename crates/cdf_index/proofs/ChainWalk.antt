@@ -1,18 +1,9 @@
 -- The walk over a whole chain, with what is below it.
 use Rattle.std.proofs.Common.{◌≡◌, ◌≢◌, ℕ, zero, suc, ◌+◌, ◌-◌, ◌<◌, ◌≤◌, List, length, refl, sym, ap, subst, ◌∙◌, arith}
-use Rattle.std.proofs.lemmas.List.{length-append}
-use Rattle.cdf_format.specs.Chains.{next_of}
-use Rattle.cdf_format.specs.Fields.{type_at}
-use Rattle.cdf_format.specs.Index.{Nodes, no_node, node, Entries, no_entry, block, lower, leaf, nodes_of, lower_nodes, leaves_of, entry_leaves, entry_count, link_to, room_at, used_count, offset_at}
-use Rattle.cdf_format.specs.IndexOf.{SaysEntry, SayEntries, IsNode, HasNodes, Names}
-use Rattle.cdf_format.specs.RecordTypes.{vxr_type}
-use Rattle.cdf_format.specs.Shape.{Each}
-use Rattle.cdf_format.specs.Tiles.{In, AreTiles, tiles}
-use Rattle.cdf_format.proofs.ChainsLemmas.{linkable-in, linkable-type}
-use Rattle.cdf_format.proofs.ShapeLemmas.{Each-split}
-use Rattle.cdf_format.proofs.TilesLemmas.{tile_lies}
-use Rattle.cdf_index.specs.Finding.{index_at, HasIndex, IsBlock, IsOrderly, Stands, SomeNode}
-use Rattle.cdf_index.specs.Whole.{through, through_entries, EntriesStand, SomeChain, SomeEntries}
+use Rattle.cdf_index.proofs.Common.{length-append, next_of, type_at, Nodes, no_node, node, Entries, no_entry, block, lower, leaf, entry_count, link_to, room_at, used_count, offset_at, SaysEntry, SayEntries, IsNode, vxr_type, Each, In, AreTiles, tiles, linkable-in, linkable-type, Each-split, tile_lies, index_at, HasIndex, IsBlock, IsOrderly, Stands, SomeNode, SomeEntries}
+use Rattle.cdf_format.specs.Index.{nodes_of, lower_nodes, leaves_of, entry_leaves}
+use Rattle.cdf_format.specs.IndexOf.{HasNodes, Names}
+use Rattle.cdf_index.specs.Whole.{through, through_entries, EntriesStand, SomeChain}
 use Rattle.cdf_index.proofs.Ascending.{index_stands}
 use Rattle.cdf_index.proofs.Looking.{block_type, block_in, no_node_type, node_linkable}
 use Rattle.cdf_index.proofs.Searching.{few_nodes}

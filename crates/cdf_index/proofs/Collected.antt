@@ -1,10 +1,8 @@
 -- The entries of blocks and the places of nodes that a walk over an index collects.
 use Rattle.std.proofs.Common.{◌≡◌, ◌+◌, ◌<◌, ◌≤◌, ℕ, List, [], ◌∷◌, ◌++◌, length, map, append_assoc, append-nil, refl, sym, ap, subst, ◌∙◌}
-use Rattle.std.proofs.lemmas.List.{map-append}
-use Rattle.cdf_format.specs.Index.{Nodes, no_node, node, Entries, no_entry, block, lower, Leaf, nodes_of, lower_nodes, leaves_of, entry_leaves, used_count}
-use Rattle.cdf_format.specs.IndexOf.{SaysEntry}
-use Rattle.cdf_index.specs.Whole.{SomeEntries, leaf_words, places_in, through, through_entries, with_block, with_node}
-use Rattle.cdf_index.specs.declared.entries.Entry.{Entry}
+use Rattle.cdf_index.proofs.Common.{map-append, Nodes, no_node, node, Entries, no_entry, block, lower, Leaf, used_count, SaysEntry, SomeEntries, places_in, with_block, with_node, Entry}
+use Rattle.cdf_format.specs.Index.{nodes_of, lower_nodes, leaves_of, entry_leaves}
+use Rattle.cdf_index.specs.Whole.{leaf_words, through, through_entries}
 use Rattle.cdf_index.proofs.ChainWalk.{Gone, named_lies}
 
 abbrev words_of : List Leaf → List Entry

@@ -1,13 +1,7 @@
 -- Where the entries of a node are cut in two: those before a record, and the others.
 use Rattle.std.proofs.Common.{◌≡◌, ℕ, zero, suc, ◌+◌, ◌*◌, ◌<◌, ◌≤◌, List, true, false, ltb, if◌then◌else◌, refl, ap, subst, ◌∙◌, arith, inl, inr}
-use Rattle.std.proofs.lemmas.Bool.Decides.{nat_tests}
-use Rattle.cdf_format.specs.Fields.{word}
-use Rattle.cdf_format.specs.Index.{Entries, no_entry, block, lower, entry_count, room_at, used_count, last_at}
-use Rattle.cdf_format.specs.IndexOf.{SayEntries}
-use Rattle.cdf_format.proofs.Members.{either}
-use Rattle.cdf_index.specs.Ahead.{Begun}
-use Rattle.cdf_index.specs.Finding.{in_column, Ascends, IsCut}
-use Rattle.cdf_index.specs.Order.{passed}
+use Rattle.cdf_index.proofs.Common.{nat_tests, word, Entries, no_entry, block, lower, entry_count, room_at, used_count, last_at, SayEntries, either, Begun, in_column, Ascends, passed}
+use Rattle.cdf_index.specs.Finding.{IsCut}
 use Rattle.cdf_index.proofs.OrderLemmas.{lt_of, ge_of}
 
 -- a number of a column is at most a later one

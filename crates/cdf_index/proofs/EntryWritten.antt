@@ -1,13 +1,7 @@
 -- What a write of an entry leaves of a node.
 use Rattle.std.proofs.Common.{◌≡◌, ◌⊎◌, ◌≢◌, ℕ, ◌+◌, ◌*◌, ◌^◌, ◌<◌, ◌≤◌, inl, inr, List, [], ◌∷◌, length, slice_index, sym, ap, subst, ◌∙◌, arith}
+use Rattle.cdf_index.proofs.Common.{Changed, touch, LiesIn, word, number, with_field, room_at, SaysEntry, vxr_first, vxr_last, vxr_offset, field_reads, length-with_field, other_bytes, other_words, StillSays, EntrySet}
 use Rattle.std.proofs.lemmas.Bool.{cases_lt}
-use Rattle.cdf_edits.specs.Frame.Changed.{Changed, touch}
-use Rattle.cdf_format.specs.Fields.{LiesIn, word, number, with_field}
-use Rattle.cdf_format.specs.Index.{room_at}
-use Rattle.cdf_format.specs.IndexOf.{SaysEntry}
-use Rattle.cdf_format.specs.Records.{vxr_first, vxr_last, vxr_offset}
-use Rattle.cdf_fields.proofs.Writes.{field_reads, length-with_field, other_bytes, other_words}
-use Rattle.cdf_index.specs.Writing.{StillSays, EntrySet}
 
 module _ (b b1 b2 now : List ℕ) (at n i first last offset : ℕ) (room_is : n ≡ room_at b at) (below : i < n) (inside : at + (28 + 16 * n) ≤ length b) (first_fits : first < 256 ^ 4) (last_fits : last < 256 ^ 4) (offset_fits : offset < 256 ^ 8)
     (one : b1 ≡ with_field b at (vxr_first i) first) (two : b2 ≡ with_field b1 at (vxr_last n i) last) (three : now ≡ with_field b2 at (vxr_offset n i) offset) where

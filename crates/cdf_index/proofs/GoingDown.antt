@@ -1,19 +1,11 @@
 -- The way down to the place of a new entry, along each chain and from level to level.
 use Rattle.std.proofs.Common.{◌≡◌, ◌≢◌, ◌⊎◌, ℕ, zero, suc, ◌+◌, ◌-◌, ◌<◌, ◌≤◌, List, [], ◌∷◌, length, Bool, true, false, not, eqb, refl, sym, ap, subst, ◌∙◌, arith, inl, inr}
-use Rattle.std.proofs.lemmas.List.{length-append}
-use Rattle.cdf_edits.specs.Index.Grown.{reaches, chain_reaches, leads_down}
-use Rattle.cdf_format.specs.Index.{Nodes, no_node, node, Entries, no_entry, block, lower, nodes_of, lower_nodes, leaves_of, entry_leaves, entry_count, link_to, used_count, first_at}
-use Rattle.cdf_format.specs.Fields.{size_at}
-use Rattle.cdf_format.specs.IndexOf.{SayEntries, SaysNode, IsNode, HasNodes}
-use Rattle.cdf_format.specs.Tiles.{AreTiles, In, tiles}
-use Rattle.cdf_format.proofs.Members.{either, In-append_right, Distinct-front, Distinct-back, length-le_from_distinct}
-use Rattle.cdf_format.proofs.ShapeLemmas.{Each-split}
-use Rattle.cdf_index.specs.Ahead.{Begun, chain_at, chain_before}
-use Rattle.cdf_index.specs.Descent.{IsTree, SeesNode, SpotIs, way_from, end_from}
-use Rattle.cdf_index.specs.Finding.{IsBlock, IsOrderly, SomeNode}
-use Rattle.cdf_index.specs.Order.{InOrder, AreInOrder, past_entries}
+use Rattle.cdf_index.proofs.Common.{length-append, reaches, chain_reaches, leads_down, Nodes, no_node, node, Entries, no_entry, block, lower, entry_count, link_to, used_count, first_at, size_at, SayEntries, SaysNode, IsNode, AreTiles, In, tiles, either, In-append_right, Distinct-front, Distinct-back, length-le_from_distinct, Each-split, Begun, chain_at, chain_before, IsTree, SeesNode, SpotIs, IsBlock, IsOrderly, SomeNode, past_entries, Spot}
+use Rattle.cdf_format.specs.Index.{nodes_of, lower_nodes, leaves_of, entry_leaves}
+use Rattle.cdf_format.specs.IndexOf.{HasNodes}
+use Rattle.cdf_index.specs.Descent.{way_from, end_from}
+use Rattle.cdf_index.specs.Order.{InOrder, AreInOrder}
 use Rattle.cdf_index.specs.Way.{way, way_below, spot}
-use Rattle.cdf_index.specs.declared.descending.Spot.{Spot}
 use Rattle.cdf_index.proofs.EntriesCut.{parted_all}
 use Rattle.cdf_index.proofs.Leading.{Led, Leads, Passed, led, leads_none, chain_not_reached, test_zero}
 use Rattle.cdf_index.proofs.OrderLemmas.{end_after}

@@ -1,21 +1,10 @@
 -- A block of a variable of a good image, not packed, has its records.
 use Rattle.std.proofs.Common.{◌≡◌, ℕ, ◌+◌, ◌-◌, ◌*◌, ◌≤◌, List, [], ◌∷◌, ◌++◌, length, false, leb, sym, ap, subst, arith, inl, inr, Some}
-use Rattle.cdf_edits.specs.Index.Blocks.{range, covers}
-use Rattle.cdf_model.specs.Limits.{record_number_limit}
-use Rattle.cdf_format.specs.Fields.{size_at}
-use Rattle.cdf_format.specs.GoodImage.{IsGoodImage}
-use Rattle.cdf_format.specs.Index.{Leaf as TreeLeaf, leaves_of}
-use Rattle.cdf_format.specs.Shape.{VariableShape, Shape, variables, Each}
-use Rattle.cdf_format.specs.Sound.{LeafFits, BlockFits, VariableFits, IsSound}
-use Rattle.cdf_format.specs.Tiles.{AreTiles, tiles}
-use Rattle.cdf_format.specs.VariableFields.{record_bytes, plain_size}
-use Rattle.cdf_format.proofs.Members.{either}
-use Rattle.cdf_format.proofs.ShapeLemmas.{Each-split, tiles_are}
-use Rattle.cdf_format.proofs.Tests.{both, le_of}
-use Rattle.cdf_format.proofs.TilesLemmas.{tile_lies}
-use Rattle.cdf_index.specs.Order.{InOrder, leaf_of}
-use Rattle.cdf_index.specs.Reading.{HoldsRecords}
-use Rattle.cdf_index.specs.Sight.{seen}
+use Rattle.cdf_index.proofs.Common.{range, covers, record_number_limit, size_at, IsGoodImage, leaves_of, VariableShape, Shape, variables, Each, LeafFits, VariableFits, IsSound, AreTiles, tiles, record_bytes, either, Each-split, tiles_are, le_of, tile_lies, InOrder, leaf_of, HoldsRecords, seen}
+use Rattle.cdf_format.specs.Index.{Leaf as TreeLeaf}
+use Rattle.cdf_format.specs.Sound.{BlockFits}
+use Rattle.cdf_format.specs.VariableFields.{plain_size}
+use Rattle.cdf_format.proofs.Tests.{both}
 use Rattle.cdf_index.specs.declared.nodes.Leaf.{Leaf}
 use Rattle.cdf_index.proofs.GoodIndex.{good_index}
 use Rattle.cdf_index.proofs.Looking.{block_in}

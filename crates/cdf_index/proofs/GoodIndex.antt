@@ -1,28 +1,15 @@
 -- The index of a variable of a good image is one that can be searched.
 use Rattle.std.proofs.Common.{◌≡◌, ℕ, ℤ, pos, negsuc, zero, suc, List, [], ◌∷◌, ◌++◌, length, not, ◌&&◌, eqb, refl, sym, ap, subst, ◌∙◌, inl, inr}
-use Rattle.std.specs.List.{flat_map}
-use Rattle.cdf_model.specs.Limits.{record_number_limit}
-use Rattle.cdf_format.specs.Chains.{is_in, is_linkable}
-use Rattle.cdf_format.specs.Fields.{with_sign, number}
-use Rattle.cdf_format.specs.GoodImage.{IsGoodImage}
-use Rattle.cdf_format.specs.Index.{Nodes, no_node, node, Entries, no_entry, block, lower, Leaf, nodes_of, leaves_of}
+use Rattle.cdf_index.proofs.Common.{flat_map, record_number_limit, is_in, is_linkable, with_sign, number, IsGoodImage, Nodes, no_node, node, Entries, no_entry, block, lower, Leaf, nodes_of, leaves_of, end_of, is_block, leaf_rows, vxr_type, Hold, VariableShape, Shape, variables, Each, HasVariable, NodeFits, LeafFits, VariableFits, IsSound, AreTiles, tiles, number_before, either, Hold-split, Each-split, tiles_are, before_number, index_at, IsBlock, HasIndex, past_entries}
 use Rattle.cdf_format.specs.IndexOf.{IsIndex}
-use Rattle.cdf_format.specs.IndexRules.{end_of, is_block, nodes_rows, used_rows, leaf_rows, met_rows, phase8}
+use Rattle.cdf_format.specs.IndexRules.{nodes_rows, used_rows, met_rows, phase8}
 use Rattle.cdf_format.specs.IndexWalk.{Met, met, lost, nodes_met, nodes_on, levels_on}
 use Rattle.cdf_format.specs.Records.{vdr_vxr_head}
-use Rattle.cdf_format.specs.RecordTypes.{vxr_type}
-use Rattle.cdf_format.specs.Rules.{Row, Hold}
-use Rattle.cdf_format.specs.Shape.{VariableShape, Shape, vdrs, variables, index_of, Each, HasVariable}
-use Rattle.cdf_format.specs.Sound.{NodeFits, LeafFits, VariableFits, IsSound}
-use Rattle.cdf_format.specs.Tiles.{AreTiles, tiles}
-use Rattle.cdf_format.specs.VariableFields.{number_before}
+use Rattle.cdf_format.specs.Rules.{Row}
+use Rattle.cdf_format.specs.Shape.{vdrs, index_of}
 use Rattle.cdf_format.proofs.IndexLemmas.{index_complete}
-use Rattle.cdf_format.proofs.Members.{either}
-use Rattle.cdf_format.proofs.RowLemmas.{Hold-split}
-use Rattle.cdf_format.proofs.ShapeLemmas.{Each-split, tiles_are}
-use Rattle.cdf_edits.proofs.Edits.LeavesOrder.{between, before_number, before_is}
-use Rattle.cdf_index.specs.Finding.{index_at, IsBlock, HasIndex}
-use Rattle.cdf_index.specs.Order.{past_entries, InOrder, AreInOrder}
+use Rattle.cdf_edits.proofs.Edits.LeavesOrder.{between, before_is}
+use Rattle.cdf_index.specs.Order.{InOrder, AreInOrder}
 
 module _ (b records : List ℕ) where
   mutual

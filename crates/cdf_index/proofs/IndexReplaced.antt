@@ -1,24 +1,16 @@
 -- The index of one variable becomes another one: a sound image stays sound, and every other owner is as before.
 use Rattle.std.proofs.Common.{◌≡◌, ◌⊎◌, ℕ, ◌+◌, ◌≤◌, List, [], ◌∷◌, ◌++◌, length, map, true, refl, sym, ap, subst, ap₂, append_assoc, ◌∙◌, arith, inl, inr}
-use Rattle.std.specs.List.{flat_map}
+use Rattle.cdf_index.proofs.Common.{flat_map, VariableFits, IsSound, is_a, number, Nodes, VariableShape, Shape, variables, Each, HasVariable, In, AreTiles, In-append, In-append_left, In-append_right, linkable-in, Each-split, Each-append, Kept, SameHeads}
 use Rattle.cdf_model.specs.DataSet.{Attribute, Variable}
 use Rattle.cdf_edits.specs.Frame.Leaves.{ChangedWithin, FileStays, AttributeStays, VariableStays, Leaves}
-use Rattle.cdf_format.specs.Sound.{VariableFits, IsSound}
-use Rattle.cdf_format.specs.Chains.{is_a, IsChain}
+use Rattle.cdf_format.specs.Chains.{IsChain}
 use Rattle.cdf_format.specs.Content.{attribute_of, variable_of}
-use Rattle.cdf_format.specs.Fields.{number}
-use Rattle.cdf_format.specs.Index.{Nodes}
 use Rattle.cdf_format.specs.Owners.{times, attribute_records, variable_records, unused_records, owned_records}
 use Rattle.cdf_format.specs.Records.{gdr_r_vdr_head, gdr_z_vdr_head}
 use Rattle.cdf_format.specs.RecordTypes.{cdr_type, gdr_type, adr_type, r_vdr_type, z_vdr_type, cpr_type}
-use Rattle.cdf_format.specs.Shape.{AttributeShape, VariableShape, Shape, variables, Each, HasVariable, HasShape}
-use Rattle.cdf_format.specs.Tiles.{In, AreTiles}
-use Rattle.cdf_format.proofs.Members.{In-append, In-append_left, In-append_right}
-use Rattle.cdf_format.proofs.ChainsLemmas.{linkable-in}
-use Rattle.cdf_format.proofs.ShapeLemmas.{Each-split, Each-append}
+use Rattle.cdf_format.specs.Shape.{AttributeShape, HasShape}
 use Rattle.cdf_format.proofs.Owning.{attributes_in}
-use Rattle.cdf_edits.proofs.Frame.Meaning.{FileSame, Kept}
-use Rattle.cdf_edits.proofs.Frame.LinksStay.{SameHeads}
+use Rattle.cdf_edits.proofs.Frame.Meaning.{FileSame}
 use Rattle.cdf_edits.proofs.Frame.OwnerAlone.{heads, stays}
 use Rattle.cdf_edits.proofs.Frame.OwnersApart.{times-append, times-in, owned-times, file_records, all_attribute_records, all_variable_records, vdrs_stand, file_same_is, gdr_room, variable_alone}
 use Rattle.cdf_edits.proofs.Frame.SoundStays.{attributes_fit_kept, variables_fit_kept, unused_kept}

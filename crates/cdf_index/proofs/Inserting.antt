@@ -1,18 +1,8 @@
 -- An entry more in a node: those behind it stand one further.
 use Rattle.std.proofs.Common.{◌≡◌, ◌⊎◌, ◌≢◌, ℕ, suc, ◌+◌, ◌-◌, ◌*◌, ◌/◌, ◌^◌, ◌<◌, ◌≤◌, inl, inr, List, [], ◌∷◌, length, slice_index, refl, sym, ap, subst, ◌∙◌, arith}
-use Rattle.std.specs.Prelude.{min}
+use Rattle.cdf_index.proofs.Common.{min, cases_eq, image_limit, Changed, touch, LiesIn, counted, word, number, with_field, size_at, room_at, used_count, SaysEntry, vxr_n_used_entries, field_reads, length-with_field, other_bytes, other_words, NodeInside, StillSays, EntrySet, Inserted}
 use Rattle.std.specs.Int.{w32, cast_signed}
-use Rattle.std.proofs.lemmas.Bool.{cases_eq}
-use Rattle.cdf_model.specs.Limits.{image_limit}
-use Rattle.cdf_edits.specs.Frame.Changed.{Changed, touch}
-use Rattle.cdf_format.specs.Fields.{LiesIn, counted, word, number, with_field, size_at}
-use Rattle.cdf_format.specs.Index.{room_at, used_count}
-use Rattle.cdf_format.specs.IndexOf.{SaysEntry}
-use Rattle.cdf_format.specs.Records.{vxr_n_used_entries}
 use Rattle.cdf_format.proofs.BytesLemmas.{word-same}
-use Rattle.cdf_fields.proofs.Writes.{field_reads, length-with_field, other_bytes, other_words}
-use Rattle.cdf_index.specs.Finding.{NodeInside}
-use Rattle.cdf_index.specs.Writing.{StillSays, EntrySet, Inserted}
 
 -- ---- what stands before a place in a node stays
 

@@ -1,22 +1,10 @@
 -- The entries of a node, of which so many begin at a record or before it: where they lead to.
 use Rattle.std.proofs.Common.{◌≡◌, ◌≢◌, ℕ, zero, suc, ◌+◌, ◌<◌, ◌≤◌, List, length, Bool, true, false, not, leb, eqb, refl, sym, ap, subst, ◌∙◌, arith, inl, inr}
-use Rattle.std.proofs.lemmas.Bool.Decides.{nat_tests}
-use Rattle.cdf_edits.specs.Index.Grown.{reaches, chain_reaches, leads_down}
-use Rattle.cdf_format.specs.Fields.{type_at}
-use Rattle.cdf_format.specs.Index.{Nodes, no_node, Entries, no_entry, block, lower, leaf, nodes_of, lower_nodes, leaves_of, entry_leaves, entry_count, link_to, first_at, offset_at}
-use Rattle.cdf_format.specs.IndexOf.{SayEntries, IsNode, HasNodes, Names}
-use Rattle.cdf_format.specs.RecordTypes.{vxr_type}
-use Rattle.cdf_format.specs.Shape.{Each}
-use Rattle.cdf_format.specs.Tiles.{AreTiles, Distinct, tiles}
-use Rattle.cdf_format.proofs.ChainsLemmas.{linkable-in, linkable-type}
-use Rattle.cdf_format.proofs.Members.{either, Distinct-front, Distinct-back}
-use Rattle.cdf_format.proofs.ShapeLemmas.{Each-split}
-use Rattle.cdf_format.proofs.TilesLemmas.{tile_lies}
-use Rattle.cdf_index.specs.Ahead.{chain_at}
-use Rattle.cdf_index.specs.Descent.{IsTree}
-use Rattle.cdf_index.specs.Finding.{IsBlock, IsOrderly}
-use Rattle.cdf_index.specs.Order.{InOrder, AreInOrder}
-use Rattle.cdf_index.specs.Way.{down_at, way, way_below, spot, spot_below}
+use Rattle.cdf_index.proofs.Common.{nat_tests, reaches, chain_reaches, leads_down, type_at, Nodes, no_node, Entries, no_entry, block, lower, leaf, entry_count, link_to, first_at, offset_at, SayEntries, IsNode, HasNodes, vxr_type, Each, AreTiles, Distinct, tiles, linkable-in, linkable-type, either, Distinct-front, Distinct-back, Each-split, tile_lies, chain_at, IsTree, IsBlock, IsOrderly, InOrder, down_at, way, spot}
+use Rattle.cdf_format.specs.Index.{nodes_of, lower_nodes, leaves_of, entry_leaves}
+use Rattle.cdf_format.specs.IndexOf.{Names}
+use Rattle.cdf_index.specs.Order.{AreInOrder}
+use Rattle.cdf_index.specs.Way.{way_below, spot_below}
 use Rattle.cdf_index.proofs.EntriesCut.{Parted, parted_rest}
 use Rattle.cdf_index.proofs.LeafMore.{reaches_from, chain_reaches_from}
 use Rattle.cdf_index.proofs.Looking.{block_type, no_node_type, node_linkable}

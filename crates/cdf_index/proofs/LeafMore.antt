@@ -1,12 +1,11 @@
 -- The leaves of an index with one leaf more.
 use Rattle.std.proofs.Common.{◌≡◌, ℕ, suc, ◌<◌, ◌≤◌, List, [], ◌∷◌, ◌++◌, map, Bool, true, false, ltb, leb, eqb, append_assoc, refl, sym, ap, ◌∙◌, arith, inl, inr}
-use Rattle.std.proofs.lemmas.Bool.Decides.{nat_tests}
-use Rattle.cdf_edits.specs.Index.Blocks.{Range, range, with_range}
-use Rattle.cdf_edits.specs.Index.Grown.{reaches, chain_reaches, leads_down, with_block, upto, past, with_both, with_entry, with_leaf, with_lower}
-use Rattle.cdf_format.specs.Index.{Nodes, no_node, node, Entries, no_entry, block, lower, Leaf, leaves_of, entry_leaves, entry_count}
-use Rattle.cdf_format.proofs.Members.{either}
+use Rattle.cdf_index.proofs.Common.{nat_tests, range, reaches, chain_reaches, leads_down, upto, past, with_both, with_entry, Nodes, no_node, node, Entries, no_entry, block, lower, Leaf, entry_count, either, past_entries}
+use Rattle.cdf_edits.specs.Index.Blocks.{Range, with_range}
+use Rattle.cdf_edits.specs.Index.Grown.{with_block, with_leaf, with_lower}
+use Rattle.cdf_format.specs.Index.{leaves_of, entry_leaves}
 use Rattle.cdf_index.specs.Growing.{with_new}
-use Rattle.cdf_index.specs.Order.{past_entries, InOrder, AreInOrder}
+use Rattle.cdf_index.specs.Order.{InOrder, AreInOrder}
 use Rattle.cdf_index.proofs.OrderLemmas.{Within, leaves_within, entries_within, end_after}
 use Rattle.cdf_index.proofs.Saying.{front, front_past, upto_both, both_none}
 

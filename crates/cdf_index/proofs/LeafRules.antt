@@ -1,24 +1,16 @@
 -- An index with a leaf more keeps the rules: its entries are in order, its nodes have room for theirs, and each leaf has a block.
 use Rattle.std.proofs.Common.{◌≡◌, ℕ, ℤ, pos, negsuc, zero, suc, ◌+◌, ◌<◌, ◌≤◌, max, min, List, [], ◌∷◌, ◌++◌, Bool, true, false, Some, None, ltb, leb, eqb, refl, sym, ap, subst, ◌∙◌, arith, inl, inr}
-use Rattle.std.proofs.lemmas.Bool.{eqb-true, ltb-false, leb-true, leb-false, le-leb, lt-ltb}
-use Rattle.std.specs.List.{filter, flat_map, fold}
-use Rattle.std.proofs.Math.IntN.{ -ℤ_one}
-use Rattle.std.specs.Prelude.{find, nat_lt, ◌-ℤ◌, int_lt, ◌||◌}
-use Rattle.cdf_model.specs.Limits.{record_number_limit}
-use Rattle.cdf_edits.specs.Index.Blocks.{range, covers, firsts_of, entry_firsts, next_first}
-use Rattle.cdf_edits.specs.Index.Grown.{reaches, chain_reaches, leads_down, with_block, past, with_both, with_entry, with_leaf, with_lower}
+use Rattle.cdf_index.proofs.Common.{eqb-true, filter, flat_map, fold, -ℤ_one, find, nat_lt, ◌-ℤ◌, record_number_limit, range, covers, next_first, reaches, chain_reaches, leads_down, past, with_both, with_entry, with_sign, Nodes, no_node, node, Entries, no_entry, block, lower, Leaf, leaf, entry_count, is_block, end_of, leaf_rows, Hold, In, number_before, either, In-append_left, In-append_right, Hold-split, past_entries, before_number}
+use Rattle.std.proofs.lemmas.Bool.{ltb-false, leb-true, leb-false, le-leb, lt-ltb}
+use Rattle.std.specs.Prelude.{int_lt, ◌||◌}
+use Rattle.cdf_edits.specs.Index.Blocks.{firsts_of, entry_firsts}
+use Rattle.cdf_edits.specs.Index.Grown.{with_block, with_leaf, with_lower}
 use Rattle.cdf_edits.proofs.Edits.LeafPieces.{IsOneOf}
 use Rattle.cdf_edits.proofs.Edits.LeafRecords.{signed}
-use Rattle.cdf_format.specs.Fields.{with_sign}
-use Rattle.cdf_format.specs.Index.{Nodes, no_node, node, Entries, no_entry, block, lower, Leaf, leaf, nodes_of, lower_nodes, leaves_of, entry_leaves, entry_count}
-use Rattle.cdf_format.specs.IndexRules.{has_room, is_block, is_between, end_of, nodes_rows, used_rows, leaf_rows, index_rows}
-use Rattle.cdf_format.specs.Rules.{Hold}
-use Rattle.cdf_format.specs.Tiles.{In}
-use Rattle.cdf_format.specs.VariableFields.{number_before}
-use Rattle.cdf_format.proofs.Members.{either, In-append_left, In-append_right}
-use Rattle.cdf_format.proofs.RowLemmas.{Hold-append, Hold-split}
-use Rattle.cdf_index.specs.Order.{past_entries, InOrder, AreInOrder}
-use Rattle.cdf_edits.proofs.Edits.LeavesOrder.{before_number}
+use Rattle.cdf_format.specs.Index.{nodes_of, lower_nodes, leaves_of, entry_leaves}
+use Rattle.cdf_format.specs.IndexRules.{has_room, is_between, nodes_rows, used_rows, index_rows}
+use Rattle.cdf_format.proofs.RowLemmas.{Hold-append}
+use Rattle.cdf_index.specs.Order.{InOrder, AreInOrder}
 use Rattle.cdf_index.proofs.GoodIndex.{order_from}
 use Rattle.cdf_index.proofs.LeafMore.{chain_reaches_from, reaches_from}
 use Rattle.cdf_index.proofs.OrderLemmas.{end_after}

@@ -1,17 +1,8 @@
 -- The way down to the place of a new entry, from level to level.
 use Rattle.std.proofs.Common.{◌≡◌, ◌≢◌, ℕ, ◌+◌, ◌-◌, ◌<◌, ◌≤◌, List, [], ◌∷◌, ◌++◌, length, map, append_assoc, append-nil, refl, sym, ap, subst, ◌∙◌, inl, inr, arith}
-use Rattle.std.proofs.lemmas.List.{map-append}
-use Rattle.cdf_format.specs.Index.{Nodes, no_node, node, link_to, nodes_of, room_at, used_count}
+use Rattle.cdf_index.proofs.Common.{map-append, Nodes, no_node, node, link_to, nodes_of, room_at, used_count, AreTiles, In, tiles, Each, Each-append, record_number_limit, IsTree, SomeTree, SpotIs, index_at, HasIndex, SomeNode, way, spot, Spot, Step}
 use Rattle.cdf_format.specs.IndexOf.{HasNodes}
-use Rattle.cdf_format.specs.Tiles.{AreTiles, In, tiles}
-use Rattle.cdf_format.specs.Shape.{Each}
-use Rattle.cdf_format.proofs.ShapeLemmas.{Each-append}
-use Rattle.cdf_model.specs.Limits.{record_number_limit}
-use Rattle.cdf_index.specs.Descent.{IsTree, SomeTree, IsAmong, SpotIs, StepSays, step_pair}
-use Rattle.cdf_index.specs.Finding.{index_at, HasIndex, SomeNode}
-use Rattle.cdf_index.specs.Way.{way, spot}
-use Rattle.cdf_index.specs.declared.descending.Spot.{Spot}
-use Rattle.cdf_index.specs.declared.descending.Step.{Step}
+use Rattle.cdf_index.specs.Descent.{IsAmong, StepSays, step_pair}
 use Rattle.cdf_index.proofs.Ascending.{index_stands}
 use Rattle.cdf_index.proofs.Leading.{test_zero, test_some}
 use Rattle.cdf_index.proofs.WayDown.{AllIn, node_there_by, no_zero, spot_in, way_in}

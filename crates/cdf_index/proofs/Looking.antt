@@ -1,21 +1,11 @@
 -- What is read at one node leads the search on.
 use Rattle.std.proofs.Common.{◌≡◌, ◌≢◌, ◌⊎◌, ℕ, zero, suc, ◌+◌, ◌*◌, ◌<◌, ◌≤◌, List, length, Bool, true, false, ◌||◌, ltb, eqb, refl, sym, ap, subst, ◌∙◌, arith, inl, inr, Option, Some, None, if◌then◌else◌}
-use Rattle.std.proofs.lemmas.Bool.Decides.{nat_tests}
-use Rattle.std.proofs.lemmas.List.{length-append}
-use Rattle.cdf_format.specs.Chains.{is_a, is_linkable, next_of}
-use Rattle.cdf_format.specs.Fields.{word, type_at}
-use Rattle.cdf_format.specs.Index.{Nodes, no_node, node, Entries, no_entry, block, lower, Leaf, leaf, nodes_of, lower_nodes, leaves_of, entry_leaves, entry_count, link_to, room_at, used_count, first_at, last_at, offset_at}
-use Rattle.cdf_format.specs.IndexOf.{SayEntries, SaysNode, IsNode, HasNodes, Names}
-use Rattle.cdf_format.specs.RecordTypes.{vxr_type, vvr_type, cvvr_type}
-use Rattle.cdf_format.specs.Shape.{Each}
-use Rattle.cdf_format.specs.Tiles.{In, AreTiles, tiles}
-use Rattle.cdf_format.proofs.ChainsLemmas.{is_a-in, is_a-type, linkable-in, linkable-type}
-use Rattle.cdf_format.proofs.Members.{either}
-use Rattle.cdf_format.proofs.ShapeLemmas.{Each-split}
-use Rattle.cdf_format.proofs.TilesLemmas.{tile_lies}
-use Rattle.cdf_index.specs.Ahead.{NamesIn}
-use Rattle.cdf_index.specs.Order.{find_in, find_entry, passed, NextsAreZero, LowerAreZero}
-use Rattle.cdf_index.specs.Finding.{IsBlock, IsOrderly, Stands, SomeNode, NodeInside, Onward}
+use Rattle.cdf_index.proofs.Common.{nat_tests, length-append, is_a, is_linkable, next_of, word, type_at, Nodes, no_node, node, Entries, no_entry, block, lower, Leaf, leaf, entry_count, link_to, room_at, used_count, first_at, last_at, offset_at, SayEntries, SaysNode, IsNode, vxr_type, cvvr_type, Each, In, AreTiles, tiles, is_a-in, linkable-in, linkable-type, either, Each-split, tile_lies, NamesIn, passed, IsBlock, IsOrderly, Stands, SomeNode, NodeInside, Onward}
+use Rattle.cdf_format.specs.Index.{nodes_of, lower_nodes, leaves_of, entry_leaves}
+use Rattle.cdf_format.specs.IndexOf.{HasNodes, Names}
+use Rattle.cdf_format.specs.RecordTypes.{vvr_type}
+use Rattle.cdf_format.proofs.ChainsLemmas.{is_a-type}
+use Rattle.cdf_index.specs.Order.{find_in, find_entry, NextsAreZero, LowerAreZero}
 
 -- without the first entries that end before a record
 abbrev pub rest : ℕ → Entries → Entries

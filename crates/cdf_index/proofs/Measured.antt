@@ -1,22 +1,11 @@
 -- The size of an index that a walk over it counts.
 use Rattle.std.proofs.Common.{◌≡◌, ℕ, zero, suc, ◌+◌, ◌-◌, ◌*◌, ◌^◌, ◌≤◌, max, true, List, length, refl, ap, ◌∙◌, arith}
-use Rattle.std.proofs.lemmas.List.{length-append}
+use Rattle.cdf_index.proofs.Common.{length-append, Nodes, no_node, node, Entries, no_entry, block, lower, entry_count, used_count, is_linkable, vxr_type, Each, NodeFits, AreTiles, tiles, linkable-in, Each-split, tile_lies, image_limit, index_at, HasIndex, size_of, node_counted, block_counted, IndexSize}
 use Rattle.cdf_edits.specs.Commands.Room.{entries_in, entries_below, widest, widest_below}
-use Rattle.cdf_format.specs.Index.{Nodes, no_node, node, Entries, no_entry, block, lower, nodes_of, lower_nodes, leaves_of, entry_leaves, entry_count, used_count}
-use Rattle.cdf_format.specs.Chains.{is_linkable}
+use Rattle.cdf_format.specs.Index.{nodes_of, lower_nodes, leaves_of, entry_leaves}
 use Rattle.cdf_format.specs.IndexOf.{HasNodes, Names}
-use Rattle.cdf_format.specs.RecordTypes.{vxr_type}
-use Rattle.cdf_format.specs.Shape.{Each}
-use Rattle.cdf_format.specs.Sound.{NodeFits}
-use Rattle.cdf_format.specs.Tiles.{AreTiles, tiles}
-use Rattle.cdf_format.proofs.ChainsLemmas.{linkable-in}
-use Rattle.cdf_format.proofs.ShapeLemmas.{Each-split}
-use Rattle.cdf_format.proofs.TilesLemmas.{tile_lies}
-use Rattle.cdf_model.specs.Limits.{image_limit}
-use Rattle.cdf_index.specs.Finding.{index_at, HasIndex}
-use Rattle.cdf_index.specs.Sizes.{size_of, more_of, node_counted, block_counted}
+use Rattle.cdf_index.specs.Sizes.{more_of}
 use Rattle.cdf_index.specs.Whole.{through, through_entries}
-use Rattle.cdf_index.specs.declared.measuring.IndexSize.{IndexSize}
 use Rattle.cdf_index.proofs.Searching.{few_nodes}
 
 -- a size with so many leaves and entries more

@@ -1,14 +1,10 @@
 -- The least First past a record: which entries decide it.
 use Rattle.std.proofs.Common.{◌≡◌, ℕ, suc, ◌≤◌, List, [], ◌∷◌, ◌++◌, min, true, false, ltb, append_assoc, refl, sym, ap, ◌∙◌, arith, inl, inr}
-use Rattle.std.specs.List.{filter, fold}
-use Rattle.std.proofs.lemmas.Bool.Decides.{nat_tests}
+use Rattle.cdf_index.proofs.Common.{filter, fold, nat_tests, Nodes, no_node, node, Entries, no_entry, block, lower, either, least_from, past_entries}
 use Rattle.std.proofs.lemmas.List.Sums.{fold-append}
 use Rattle.std.proofs.lemmas.List.Elements.{filter-append}
 use Rattle.cdf_edits.specs.Index.Blocks.{firsts_of, entry_firsts}
-use Rattle.cdf_format.specs.Index.{Nodes, no_node, node, Entries, no_entry, block, lower}
-use Rattle.cdf_format.proofs.Members.{either}
-use Rattle.cdf_index.specs.Next.{least_from}
-use Rattle.cdf_index.specs.Order.{past_entries, InOrder, AreInOrder}
+use Rattle.cdf_index.specs.Order.{InOrder, AreInOrder}
 use Rattle.cdf_index.proofs.OrderLemmas.{ge_of, end_after}
 
 -- each of the numbers lies from low to high

@@ -1,22 +1,16 @@
 -- A record that was taken becomes a node: the image is sound with it, and has its content.
 use Rattle.std.proofs.Common.{◌≡◌, ℕ, ◌+◌, ◌-◌, ◌*◌, ◌≤◌, List, [], ◌∷◌, length, true, refl, sym, subst, ◌∙◌, arith}
+use Rattle.cdf_index.proofs.Common.{touch, Changed, is_a-in, tile_lies, size_at, vxr_type, Shape, IsSound, HasRoomFor, NodeWritten, Entry}
 use Rattle.cdf_edits.proofs.Space.RecordFilled.{filled_stays_sound}
 use Rattle.cdf_edits.proofs.Space.TakenLeaves.{takes_longest}
 use Rattle.cdf_edits.proofs.Space.UsedRecords.{apart}
 use Rattle.cdf_edits.specs.Commands.Room.{vxr_bytes}
-use Rattle.cdf_edits.specs.Frame.Changed.{touch, Changed}
 use Rattle.cdf_edits.specs.Space.Placement.{with_space, Takes}
 use Rattle.cdf_edits.specs.Space.Placing.{Fills}
-use Rattle.cdf_format.proofs.ChainsLemmas.{is_a-in}
 use Rattle.cdf_format.proofs.ShapeLemmas.{shape_is}
-use Rattle.cdf_format.proofs.TilesLemmas.{tile_lies}
 use Rattle.cdf_format.specs.Content.{content}
-use Rattle.cdf_format.specs.Fields.{size_at}
-use Rattle.cdf_format.specs.RecordTypes.{uir_type, vxr_type, is_record_type, fixed_size}
-use Rattle.cdf_format.specs.Shape.{Shape, shape}
-use Rattle.cdf_format.specs.Sound.{IsSound}
-use Rattle.cdf_index.specs.Writing.{HasRoomFor, NodeWritten}
-use Rattle.cdf_index.specs.declared.entries.Entry.{Entry}
+use Rattle.cdf_format.specs.RecordTypes.{uir_type, is_record_type, fixed_size}
+use Rattle.cdf_format.specs.Shape.{shape}
 
 module _ (b taken : List ℕ) (room place : ℕ) (sound : IsSound b (shape b)) (takes : Takes b taken (shape b) (shape taken) (vxr_bytes room) place) (sound_taken : IsSound taken (shape taken)) (stays : content taken ≡ content b) where
   pub has_room : HasRoomFor taken place room

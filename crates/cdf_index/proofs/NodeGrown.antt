@@ -1,17 +1,10 @@
 -- A node with one entry more, or it and a new node behind it, in the tree.
 use Rattle.std.proofs.Common.{◌≡◌, ℕ, suc, ◌+◌, ◌-◌, ◌*◌, ◌<◌, ◌≤◌, max, List, true, false, ltb, eqb, length, refl, sym, ap, subst, ◌∙◌, inl, inr, arith}
-use Rattle.std.proofs.lemmas.Bool.Decides.{nat_tests}
-use Rattle.cdf_edits.specs.Index.Grown.{with_block, upto, past, with_both}
-use Rattle.cdf_edits.proofs.Frame.LinksStay.{SameHeads, linkable_kept}
-use Rattle.cdf_edits.proofs.Index.NodeEdited.{Owed}
-use Rattle.cdf_format.specs.Chains.{is_linkable}
-use Rattle.cdf_format.specs.Index.{Nodes, node, Entries, no_entry, Leaf, entry_count, link_to, room_at, used_count}
-use Rattle.cdf_format.specs.IndexOf.{SaysEntry, SayEntries, SaysNode, IsNode, HasNodes, Names}
-use Rattle.cdf_format.specs.RecordTypes.{vxr_type}
-use Rattle.cdf_format.proofs.Members.{either}
+use Rattle.cdf_index.proofs.Common.{nat_tests, upto, past, with_both, SameHeads, linkable_kept, Owed, is_linkable, Nodes, node, Entries, no_entry, Leaf, entry_count, link_to, room_at, used_count, SaysEntry, SayEntries, SaysNode, IsNode, vxr_type, either, placed, Inserted, Split}
+use Rattle.cdf_edits.specs.Index.Grown.{with_block}
+use Rattle.cdf_format.specs.IndexOf.{HasNodes, Names}
 use Rattle.cdf_index.specs.Growing.{Begins, MayName}
-use Rattle.cdf_index.specs.Way.{placed}
-use Rattle.cdf_index.specs.Writing.{Inserted, Split, Chained}
+use Rattle.cdf_index.specs.Writing.{Chained}
 use Rattle.cdf_index.proofs.Inserting.{front_stays}
 use Rattle.cdf_index.proofs.Saying.{front, front_past, upto_both, upto_is, count_both, say_both, say_parts, names_both, names_parts, say_moved}
 

@@ -1,16 +1,8 @@
 -- A record becomes a node.
 use Rattle.std.proofs.Common.{◌≡◌, ◌⊎◌, ◌≢◌, ℕ, ◌+◌, ◌*◌, ◌^◌, ◌<◌, ◌≤◌, inl, inr, List, [], ◌∷◌, length, slice_index, refl, sym, ap, subst, ◌∙◌, arith}
-use Rattle.std.proofs.lemmas.Bool.{cases_eq}
-use Rattle.cdf_model.specs.Limits.{image_limit}
-use Rattle.cdf_edits.specs.Frame.Changed.{Changed, touch}
-use Rattle.cdf_format.specs.Fields.{LiesIn, word, number, with_field, size_at}
-use Rattle.cdf_format.specs.Index.{room_at, used_count}
-use Rattle.cdf_format.specs.IndexOf.{SaysEntry}
+use Rattle.cdf_index.proofs.Common.{cases_eq, image_limit, Changed, touch, LiesIn, word, number, with_field, size_at, room_at, used_count, SaysEntry, field_reads, length-with_field, other_bytes, other_words, NodeInside, EntrySet, HasRoomFor, entry_in, NodeWritten, Entry}
 use Rattle.cdf_format.specs.Records.{field}
-use Rattle.cdf_fields.proofs.Writes.{field_reads, length-with_field, other_bytes, other_words}
-use Rattle.cdf_index.specs.Finding.{NodeInside}
-use Rattle.cdf_index.specs.Writing.{EntrySet, HeadWritten, HasRoomFor, entry_in, SaysFirst, NodeWritten}
-use Rattle.cdf_index.specs.declared.entries.Entry.{Entry}
+use Rattle.cdf_index.specs.Writing.{HeadWritten, SaysFirst}
 use Rattle.cdf_index.proofs.Inserting.{front_stays, used_stays, room_stays, inside_stays, changed_again, counts, count_is}
 
 module _ (b b1 b2 b3 now : List ℕ) (at room used next : ℕ) (h : HasRoomFor b at room) (few : used ≤ room) (short : length b ≤ image_limit) (next_fits : next < 2 ^ 64)

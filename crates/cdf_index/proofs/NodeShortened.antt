@@ -1,16 +1,8 @@
 -- A full node that gives up entries.
 use Rattle.std.proofs.Common.{◌≡◌, ◌⊎◌, ◌≢◌, ℕ, zero, suc, ◌+◌, ◌*◌, ◌^◌, ◌<◌, ◌≤◌, max, inl, inr, List, [], ◌∷◌, ◌++◌, length, slice_index, refl, sym, ap, subst, ◌∙◌, arith}
-use Rattle.std.proofs.lemmas.Bool.{cases_eq}
-use Rattle.cdf_model.specs.Limits.{image_limit}
-use Rattle.cdf_edits.specs.Frame.Changed.{Changed, touch}
-use Rattle.cdf_format.specs.Fields.{LiesIn, word, number, with_field, size_at}
-use Rattle.cdf_format.specs.Index.{room_at, used_count}
-use Rattle.cdf_format.specs.IndexOf.{SaysEntry}
-use Rattle.cdf_format.specs.Records.{vxr_n_used_entries, vxr_vxr_next}
-use Rattle.cdf_fields.proofs.Writes.{field_reads, length-with_field, other_bytes, other_words}
-use Rattle.cdf_index.specs.Finding.{NodeInside}
-use Rattle.cdf_index.specs.Writing.{entry_in, StillSays, SaysUnused, EntrySet, EntriesRead, Cleared, Shortened, Widened}
-use Rattle.cdf_index.specs.declared.entries.Entry.{Entry}
+use Rattle.cdf_index.proofs.Common.{cases_eq, image_limit, Changed, touch, LiesIn, word, number, with_field, size_at, room_at, used_count, SaysEntry, vxr_n_used_entries, field_reads, length-with_field, other_bytes, other_words, NodeInside, entry_in, StillSays, EntrySet, EntriesRead, Cleared, Shortened, Widened, Entry}
+use Rattle.cdf_format.specs.Records.{vxr_vxr_next}
+use Rattle.cdf_index.specs.Writing.{SaysUnused}
 use Rattle.cdf_index.proofs.Inserting.{front_stays, room_stays, changed_again, counts, count_is}
 
 -- ---- an entry that ends later

@@ -1,15 +1,8 @@
 -- A full node and a new one behind it, in the bytes: what was written of both makes the split.
 use Rattle.std.proofs.Common.{◌≡◌, ℕ, ◌+◌, ◌-◌, ◌*◌, ◌/◌, ◌<◌, ◌≤◌, max, List, length, sym, ap, subst, ◌∙◌, arith}
-use Rattle.std.specs.Prelude.{min}
-use Rattle.cdf_edits.proofs.Frame.Meaning.{Kept}
-use Rattle.cdf_format.specs.Chains.{next_of}
-use Rattle.cdf_format.specs.Fields.{counted, number, size_at}
-use Rattle.cdf_format.specs.Index.{room_at, used_count}
-use Rattle.cdf_format.specs.IndexOf.{SaysEntry}
-use Rattle.cdf_format.specs.Records.{vxr_n_entries, vxr_n_used_entries, vxr_first, vxr_last, vxr_offset}
+use Rattle.cdf_index.proofs.Common.{min, Kept, next_of, counted, number, size_at, room_at, used_count, SaysEntry, vxr_n_used_entries, vxr_first, vxr_last, vxr_offset, entry_in, StillSays, NodeWritten, EntriesRead, Shortened, Split, Entry}
+use Rattle.cdf_format.specs.Records.{vxr_n_entries}
 use Rattle.cdf_format.proofs.BytesLemmas.{number_kept, integer_kept, size_kept, next_kept}
-use Rattle.cdf_index.specs.Writing.{entry_in, StillSays, NodeWritten, EntriesRead, Shortened, Split}
-use Rattle.cdf_index.specs.declared.entries.Entry.{Entry}
 
 -- ---- a node whose record stays
 

@@ -1,12 +1,7 @@
 -- A node on the way whose entry ends later, in the tree.
 use Rattle.std.proofs.Common.{◌≡◌, ◌≢◌, ℕ, zero, suc, ◌+◌, ◌*◌, ◌<◌, ◌≤◌, max, List, length, refl, sym, ap, subst, ◌∙◌, arith}
-use Rattle.cdf_edits.proofs.Frame.LinksStay.{SameHeads, linkable_kept}
-use Rattle.cdf_edits.proofs.Index.NodeEdited.{Owed}
-use Rattle.cdf_format.specs.Index.{Nodes, Entries, no_entry, block, lower, entry_count, link_to, room_at, used_count}
-use Rattle.cdf_format.specs.IndexOf.{SaysEntry, SayEntries, SaysNode, HasNodes, Names}
-use Rattle.cdf_format.specs.RecordTypes.{vxr_type}
-use Rattle.cdf_index.specs.Way.{widened, wider}
-use Rattle.cdf_index.specs.Writing.{StillSays, Widened}
+use Rattle.cdf_index.proofs.Common.{SameHeads, linkable_kept, Owed, Nodes, Entries, no_entry, block, lower, entry_count, link_to, room_at, used_count, SaysEntry, SayEntries, SaysNode, HasNodes, vxr_type, widened, wider, StillSays, Widened}
+use Rattle.cdf_format.specs.IndexOf.{Names}
 use Rattle.cdf_index.proofs.Inserting.{front_stays, room_stays, used_stays}
 use Rattle.cdf_index.proofs.NodeGrown.{node_has}
 use Rattle.cdf_index.proofs.Saying.{say_moved}

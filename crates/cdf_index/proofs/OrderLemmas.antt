@@ -1,9 +1,8 @@
 -- The leaf that has a record, found on the way down.
 use Rattle.std.proofs.Common.{◌≡◌, ℕ, suc, ◌<◌, ◌≤◌, List, [], ◌∷◌, ◌++◌, true, false, ltb, append_assoc, refl, sym, ◌∙◌, arith, inl, inr, Option, None}
-use Rattle.std.proofs.lemmas.Bool.Decides.{nat_tests}
-use Rattle.cdf_format.specs.Index.{Nodes, no_node, node, Entries, no_entry, block, lower, Leaf, leaves_of, entry_leaves}
-use Rattle.cdf_format.proofs.Members.{either}
-use Rattle.cdf_index.specs.Order.{past_entries, InOrder, AreInOrder, leaf_of, find_in, find_entry}
+use Rattle.cdf_index.proofs.Common.{nat_tests, Nodes, no_node, node, Entries, no_entry, block, lower, Leaf, either, past_entries, leaf_of}
+use Rattle.cdf_format.specs.Index.{leaves_of, entry_leaves}
+use Rattle.cdf_index.specs.Order.{InOrder, AreInOrder, find_in, find_entry}
 
 -- each of the leaves has records from low to high alone
 abbrev pub Within : ℕ → ℕ → List Leaf → Type 0

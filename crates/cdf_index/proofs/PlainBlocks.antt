@@ -1,24 +1,10 @@
 -- The blocks that the index of a variable of a good image names are not packed, since no packed one is read so far.
 use Rattle.std.proofs.Common.{◌≡◌, ℕ, zero, suc, List, [], ◌∷◌, ◌++◌, true, false, true≢false, refl, sym, ap, subst, ◌∙◌, Some, inl, inr}
-use Rattle.std.proofs.lemmas.Bool.{eqb-true}
-use Rattle.std.specs.Prelude.{◌==◌}
-use Rattle.std.specs.List.{flat_map}
-use Rattle.cdf_edits.specs.Index.Blocks.{range, covers}
-use Rattle.cdf_format.specs.Chains.{is_in}
-use Rattle.cdf_format.specs.Fields.{type_at}
-use Rattle.cdf_format.specs.GoodImage.{IsGoodImage}
-use Rattle.cdf_format.specs.Index.{Nodes, no_node, node, Entries, no_entry, block, lower, Leaf, leaves_of, entry_leaves}
+use Rattle.cdf_index.proofs.Common.{eqb-true, ◌==◌, flat_map, range, covers, is_in, type_at, IsGoodImage, Nodes, no_node, node, Entries, no_entry, block, lower, Leaf, is_block, cvvr_type, Hold, VariableShape, Shape, variables, Each, HasVariable, LeafFits, VariableFits, IsSound, In, either, Each-append, Each-split, leaf_of}
+use Rattle.cdf_format.specs.Index.{leaves_of, entry_leaves}
 use Rattle.cdf_format.specs.IndexOf.{HasNodes, Names}
-use Rattle.cdf_format.specs.IndexRules.{is_block}
 use Rattle.cdf_format.specs.NotRead.{read_types, unread_type}
-use Rattle.cdf_format.specs.RecordTypes.{cvvr_type}
-use Rattle.cdf_format.specs.Rules.{Hold}
-use Rattle.cdf_format.specs.Shape.{VariableShape, Shape, variables, Each, HasVariable}
-use Rattle.cdf_format.specs.Sound.{LeafFits, VariableFits, IsSound}
-use Rattle.cdf_format.specs.Tiles.{In}
-use Rattle.cdf_format.proofs.Members.{either, true-is_in}
-use Rattle.cdf_format.proofs.ShapeLemmas.{Each-append, Each-split}
-use Rattle.cdf_index.specs.Order.{leaf_of}
+use Rattle.cdf_format.proofs.Members.{true-is_in}
 
 -- what holds of each leaf holds of the one that has a record
 of_found : (P : Leaf → Type 0) (rec : ℕ) (l : Leaf) (leaves : List Leaf) → Each P leaves → leaf_of rec leaves ≡ Some l → P l

@@ -1,17 +1,8 @@
 -- Where a record stands in its block.
 use Rattle.std.proofs.Common.{◌≡◌, ℕ, ℤ, pos, zero, suc, ◌+◌, ◌-◌, ◌*◌, ◌<◌, ◌≤◌, ◌^◌, List, take, drop, true, ltb, leb, refl, sym, ap, ◌∙◌, arith, inl, inr}
-use Rattle.std.proofs.lemmas.List.{take-take, drop-take, drop-drop}
-use Rattle.std.proofs.lemmas.Bool.Decides.{nat_tests}
-use Rattle.std.proofs.Math.IntN.{ -ℤ_one}
-use Rattle.std.specs.Prelude.{◌-ℤ◌}
-use Rattle.cdf_model.specs.Limits.{record_number_limit}
-use Rattle.cdf_format.specs.Content.{plain_bytes}
-use Rattle.cdf_format.specs.Fields.{with_sign, counted}
-use Rattle.cdf_format.specs.VariableFields.{number_before, record_bytes}
-use Rattle.cdf_format.proofs.Members.{either}
+use Rattle.cdf_index.proofs.Common.{drop-drop, nat_tests, -ℤ_one, ◌-ℤ◌, record_number_limit, plain_bytes, with_sign, counted, number_before, record_bytes, either, HoldsRecords, record_in, seen}
+use Rattle.std.proofs.lemmas.List.{take-take, drop-take}
 use Rattle.cdf_index.specs.declared.nodes.Leaf.{Leaf}
-use Rattle.cdf_index.specs.Reading.{HoldsRecords, record_in}
-use Rattle.cdf_index.specs.Sight.{seen}
 
 pub signed : (n : ℕ) → n ≤ record_number_limit → with_sign n ≡ pos n
 signed n h = let t : ltb n (2 ^ 31) ≡ true = grind (arith, nat_tests) in rw t refl

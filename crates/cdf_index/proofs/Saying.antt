@@ -1,10 +1,9 @@
 -- The entries of a node, and what it says of them, taken apart and put together.
 use Rattle.std.proofs.Common.{◌≡◌, ℕ, suc, ◌+◌, ◌<◌, List, leb, refl, ap, sym, ◌∙◌, arith, inl, inr}
-use Rattle.std.specs.Prelude.{nat_le, if◌then◌else◌}
-use Rattle.cdf_edits.specs.Index.Grown.{with_block, upto, past, with_both}
-use Rattle.cdf_format.specs.Index.{Entries, no_entry, block, lower, Leaf, entry_count, link_to}
-use Rattle.cdf_format.specs.IndexOf.{SaysEntry, SayEntries, Names}
-use Rattle.cdf_format.proofs.Members.{either}
+use Rattle.cdf_index.proofs.Common.{if◌then◌else◌, upto, past, with_both, Entries, no_entry, block, lower, Leaf, entry_count, link_to, SaysEntry, SayEntries, either}
+use Rattle.std.specs.Prelude.{nat_le}
+use Rattle.cdf_edits.specs.Index.Grown.{with_block}
+use Rattle.cdf_format.specs.IndexOf.{Names}
 
 -- the entries that begin at a record or before it
 abbrev pub front : ℕ → Entries → Entries

@@ -1,27 +1,15 @@
 -- The record of a number, in the leaf that has it.
 use Rattle.std.proofs.Common.{◌≡◌, ℕ, zero, suc, ◌+◌, ◌-◌, ◌*◌, ◌≤◌, ◌<◌, List, [], ◌∷◌, ◌++◌, take, drop, map, true, false, ltb, leb, eqb, refl, sym, ap, ap₂, subst, ◌∙◌, arith, ◌⊎◌, inl, inr, Option, Some, None}
-use Rattle.std.proofs.lemmas.Bool.Decides.{nat_tests}
-use Rattle.std.proofs.lemmas.List.{drop-drop}
+use Rattle.cdf_index.proofs.Common.{nat_tests, drop-drop, ◌==◌, find, nat_lt, if◌then◌else◌, filter, flat_map, range, covers, record_number_limit, plain_bytes, counted, Leaf, leaves_of, IsGoodImage, VariableShape, Shape, variables, IsSound, record_bytes, either, le_of, InOrder, leaf_of}
 use Rattle.std.proofs.lemmas.List.Folds.{find-append}
-use Rattle.std.specs.Prelude.{◌==◌, find, nat_lt, if◌then◌else◌}
-use Rattle.std.specs.List.{enumerate_from, filter, flat_map}
+use Rattle.std.specs.List.{enumerate_from}
 use Rattle.std.specs.Option.{option_map, option_or}
-use Rattle.cdf_edits.specs.Index.Blocks.{range, covers}
 use Rattle.cdf_model.specs.ByteOrder.{parts, turned}
 use Rattle.cdf_model.specs.DataSet.{extent}
-use Rattle.cdf_model.specs.Limits.{record_number_limit}
 use Rattle.cdf_model.specs.Numbered.{item_at}
-use Rattle.cdf_format.specs.Content.{leaf_records, plain_bytes, records_in}
-use Rattle.cdf_format.specs.Fields.{counted}
-use Rattle.cdf_format.specs.Index.{Leaf, leaves_of}
-use Rattle.cdf_format.specs.GoodImage.{IsGoodImage}
-use Rattle.cdf_format.specs.Shape.{VariableShape, Shape, variables}
-use Rattle.cdf_format.specs.Sound.{IsSound}
+use Rattle.cdf_format.specs.Content.{leaf_records, records_in}
 use Rattle.cdf_format.specs.Stored.{is_little}
-use Rattle.cdf_format.specs.VariableFields.{counted4, max_rec_at, record_bytes, type_of_variable}
-use Rattle.cdf_format.proofs.Members.{either}
-use Rattle.cdf_format.proofs.Tests.{le_of}
-use Rattle.cdf_index.specs.Order.{InOrder, leaf_of}
+use Rattle.cdf_format.specs.VariableFields.{counted4, max_rec_at, type_of_variable}
 use Rattle.cdf_index.specs.Reading.{record_of_leaf, stored_in}
 use Rattle.cdf_index.proofs.GoodIndex.{good_index}
 use Rattle.cdf_index.proofs.OrderLemmas.{Within, leaves_within}

@@ -1,23 +1,11 @@
 -- The search for the next First, from node to node.
 use Rattle.std.proofs.Common.{◌≡◌, ◌≢◌, ℕ, zero, suc, ◌+◌, ◌<◌, ◌≤◌, List, ◌++◌, length, true, false, ltb, eqb, leb, append-nil, refl, sym, ap, subst, ◌∙◌, arith, Option, Some, None}
-use Rattle.std.proofs.lemmas.Bool.Decides.{nat_tests}
-use Rattle.std.proofs.lemmas.List.{length-append}
-use Rattle.cdf_edits.specs.Index.Blocks.{firsts_of, entry_firsts, next_first}
-use Rattle.cdf_format.specs.Chains.{next_of}
-use Rattle.cdf_format.specs.Fields.{type_at}
-use Rattle.cdf_format.specs.Index.{Nodes, no_node, node, Entries, no_entry, block, lower, leaf, nodes_of, lower_nodes, leaves_of, entry_leaves, entry_count, link_to, used_count, first_at, offset_at}
-use Rattle.cdf_format.specs.IndexOf.{SayEntries, IsNode, HasNodes, Names}
-use Rattle.cdf_format.specs.RecordTypes.{vxr_type}
-use Rattle.cdf_format.specs.Shape.{Each}
-use Rattle.cdf_format.specs.Tiles.{AreTiles, tiles}
-use Rattle.cdf_format.proofs.ChainsLemmas.{linkable-in, linkable-type}
-use Rattle.cdf_format.proofs.ShapeLemmas.{Each-split}
-use Rattle.cdf_format.proofs.TilesLemmas.{tile_lies}
-use Rattle.cdf_model.specs.Limits.{record_number_limit}
-use Rattle.cdf_index.specs.Ahead.{Begun, chain_at, chain_before, IsWalk}
-use Rattle.cdf_index.specs.Finding.{index_at, HasIndex, IsBlock, IsOrderly, Stands, SomeNode}
-use Rattle.cdf_index.specs.Next.{least_from, number_within, least_first_past}
-use Rattle.cdf_index.specs.Order.{past_entries, InOrder, AreInOrder, NextsAreZero, LowerAreZero}
+use Rattle.cdf_index.proofs.Common.{nat_tests, length-append, next_first, next_of, type_at, Nodes, no_node, node, Entries, no_entry, block, lower, leaf, entry_count, link_to, used_count, first_at, offset_at, SayEntries, IsNode, vxr_type, Each, AreTiles, tiles, linkable-in, linkable-type, Each-split, tile_lies, record_number_limit, Begun, chain_at, chain_before, IsWalk, index_at, HasIndex, IsBlock, IsOrderly, Stands, SomeNode, least_from, past_entries}
+use Rattle.cdf_edits.specs.Index.Blocks.{firsts_of, entry_firsts}
+use Rattle.cdf_format.specs.Index.{nodes_of, lower_nodes, leaves_of, entry_leaves}
+use Rattle.cdf_format.specs.IndexOf.{HasNodes, Names}
+use Rattle.cdf_index.specs.Next.{number_within, least_first_past}
+use Rattle.cdf_index.specs.Order.{InOrder, AreInOrder, NextsAreZero, LowerAreZero}
 use Rattle.cdf_index.specs.declared.next.Walk.{Walk}
 use Rattle.cdf_index.proofs.Ascending.{index_stands}
 use Rattle.cdf_index.proofs.Looking.{block_type, no_node_type, node_linkable}

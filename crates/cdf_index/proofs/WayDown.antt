@@ -1,16 +1,11 @@
 -- An index with one leaf more, made by one edit at the end of the way and one in each node on it, from the bottom up.
 use Rattle.std.proofs.Common.{◌≡◌, ◌≢◌, ◌⊎◌, ℕ, zero, suc, List, [], ◌∷◌, ◌++◌, max, Bool, true, false, eqb, refl, sym, ap, ap₂, subst, ◌∙◌, inl, inr, eq-eqb, length, ◌+◌, ◌<◌, arith}
-use Rattle.std.proofs.lemmas.Bool.{eqb-true}
-use Rattle.cdf_edits.specs.Index.Grown.{reaches, chain_reaches, leads_down, with_leaf, with_lower}
-use Rattle.cdf_edits.proofs.Index.NodeEdited.{Edit, redo, redo_below}
-use Rattle.cdf_format.specs.Index.{Nodes, no_node, node, Entries, no_entry, block, lower, Leaf, nodes_of, lower_nodes, link_to}
-use Rattle.cdf_format.specs.IndexOf.{IsNode, HasNodes, Names}
-use Rattle.cdf_format.specs.Fields.{size_at}
-use Rattle.cdf_format.specs.RecordTypes.{vxr_type}
-use Rattle.cdf_format.specs.Tiles.{In, Distinct, AreTiles}
-use Rattle.cdf_format.proofs.ChainsLemmas.{linkable-in}
-use Rattle.cdf_format.proofs.Members.{either, In-append, In-append_left, In-append_right, Distinct-front, Distinct-back}
-use Rattle.cdf_index.specs.Way.{down_at, way, way_below, spot, spot_below, widened, wider, placed, widen_all}
+use Rattle.cdf_index.proofs.Common.{eqb-true, reaches, chain_reaches, leads_down, Edit, Nodes, no_node, node, Entries, no_entry, block, lower, Leaf, link_to, IsNode, size_at, vxr_type, In, Distinct, AreTiles, linkable-in, either, In-append, In-append_left, In-append_right, Distinct-front, Distinct-back, down_at, widened, wider, placed}
+use Rattle.cdf_edits.specs.Index.Grown.{with_leaf, with_lower}
+use Rattle.cdf_edits.proofs.Index.NodeEdited.{redo, redo_below}
+use Rattle.cdf_format.specs.Index.{nodes_of, lower_nodes}
+use Rattle.cdf_format.specs.IndexOf.{HasNodes, Names}
+use Rattle.cdf_index.specs.Way.{way, way_below, spot, spot_below, widen_all}
 
 abbrev widen_below : ℕ → List (ℕ × ℕ) → Entries → Entries
 widen_below last [] entries = entries

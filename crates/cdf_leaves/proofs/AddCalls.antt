@@ -1,44 +1,18 @@
 -- What the calls ask for that add a leaf, and what they leave.
 use Rattle.cdf_edits.proofs.Edits.RecordGrown as of_grown
 use Rattle.std.proofs.Common.{◌≡◌, ◌≢◌, ◌⊎◌, ℕ, ◌+◌, ◌-◌, ◌*◌, ◌<◌, ◌≤◌, max, List, [], ◌∷◌, ◌++◌, length, map, false, refl, sym, ap, subst, ◌∙◌, arith, inl, inr}
-use Rattle.std.proofs.lemmas.List.{map-append}
-use Rattle.cdf_model.specs.declared.kinds.Kind.{Kind}
-use Rattle.cdf_model.specs.declared.kinds.Kind.TheVariants.{R, Z}
-use Rattle.cdf_model.specs.Limits.{image_limit}
-use Rattle.cdf_edits.specs.Commands.Allowances.{shapes_of}
-use Rattle.cdf_edits.specs.Commands.Room.{vxr_bytes, widest}
-use Rattle.cdf_edits.specs.Index.Grown.{with_leaf, new_room}
-use Rattle.cdf_edits.specs.Space.Placing.{Placed, type_of_body}
-use Rattle.cdf_edits.proofs.Edits.StandsAmong.{StandsAmong, sound, tile, has, long}
-use Rattle.cdf_edits.proofs.Space.UsedRecords.{apart}
-use Rattle.cdf_format.specs.Fields.{number, size_at, with_field, eof, gdr_offset}
-use Rattle.cdf_format.specs.Index.{Nodes, Leaf, leaf, nodes_of, room_at}
-use Rattle.cdf_format.specs.Records.{vdr_vxr_head, vdr_vxr_tail, vxr_vxr_next}
-use Rattle.cdf_format.specs.RecordTypes.{uir_type, vxr_type, vvr_type}
-use Rattle.cdf_format.specs.Shape.{VariableShape, Each, shape, variables, vdrs}
-use Rattle.cdf_format.specs.Tiles.{In}
-use Rattle.cdf_format.specs.WellFormed.{Good}
-use Rattle.cdf_format.proofs.BytesLemmas.{type_kept, next_kept}
-use Rattle.cdf_format.proofs.Members.{In-append}
-use Rattle.cdf_format.proofs.TilesLemmas.{tile_lies}
-use Rattle.cdf_index.specs.Adding.{AddsLeaf}
-use Rattle.cdf_index.specs.Descent.{IsAmong, StepSays, step_pair}
-use Rattle.cdf_index.specs.Finding.{HasIndex, index_at}
-use Rattle.cdf_index.specs.Way.{way, spot}
-use Rattle.cdf_index.specs.declared.descending.Spot.{Spot}
-use Rattle.cdf_index.specs.declared.descending.Step.{Step}
+use Rattle.cdf_leaves.proofs.Common.{map-append, Kind, R, Z, image_limit, shapes_of, vxr_bytes, widest, with_leaf, new_room, Placed, StandsAmong, sound, tile, has, long, apart, number, size_at, with_field, Nodes, Leaf, nodes_of, room_at, vdr_vxr_head, vdr_vxr_tail, vxr_vxr_next, uir_type, vxr_type, vvr_type, VariableShape, Each, shape, variables, In, Good, type_kept, next_kept, In-append, tile_lies, AddsLeaf, step_pair, HasIndex, index_at, way, spot, Spot, Step, IsStep, entry, EntryPut, IndexStarted, MayPut, NodeMade, ChainInside, chain_end, StepStands, WayStands, WidenedAlong, Grew, grew, stands, unlike, Entry, no_zero}
+use Rattle.cdf_edits.specs.Space.Placing.{type_of_body}
+use Rattle.cdf_format.specs.Fields.{eof, gdr_offset}
+use Rattle.cdf_format.specs.Index.{leaf}
+use Rattle.cdf_format.specs.Shape.{vdrs}
+use Rattle.cdf_index.specs.Descent.{IsAmong, StepSays}
 use Rattle.cdf_index.specs.declared.descending.Way.{Way}
-use Rattle.cdf_leaves.specs.Added.{IsStep, IsWay, entry}
-use Rattle.cdf_leaves.specs.Putting.{EntryPut, IndexStarted, MayPut, NodeMade}
-use Rattle.cdf_leaves.specs.Tail.{ChainInside, chain_end}
-use Rattle.cdf_leaves.specs.Widening.{StepStands, WayStands, WidenedAlong}
-use Rattle.cdf_edits.proofs.Edits.RecordGrown.{Grew, grew, stands, unlike}
+use Rattle.cdf_leaves.specs.Added.{IsWay}
 use Rattle.cdf_leaves.proofs.LeafGrown.{EntryStands, entry_stands, wide_state, chain_ready, vdr_lies, tail_stays, tail_written}
 use Rattle.cdf_leaves.proofs.Grown.{was}
 use Rattle.cdf_leaves.proofs.NodesOf.{old_in}
 use Rattle.cdf_leaves.proofs.Linked.{field_long}
-use Rattle.cdf_index.specs.declared.entries.Entry.{Entry}
-use Rattle.cdf_index.proofs.WayDown.{no_zero}
 use Rattle.cdf_leaves.proofs.LeafStarted.{first_added}
 use Rattle.cdf_leaves.proofs.Own.{searchable, own_node, node_fits, node_kept, node_spares}
 use Rattle.cdf_leaves.proofs.Spares.{fits_still, front_lies, node_inside}

@@ -1,11 +1,6 @@
 -- The nodes on a way are widened one by one, the last one first.
 use Rattle.std.proofs.Common.{◌≡◌, ℕ, zero, suc, ◌<◌, List, [], ◌∷◌, length, map, drop, slice_index_or, sym, subst, ◌∙◌, arith}
-use Rattle.cdf_format.specs.Index.{room_at}
-use Rattle.cdf_format.specs.Shape.{Each}
-use Rattle.cdf_index.specs.Descent.{step_pair}
-use Rattle.cdf_index.specs.Finding.{NodeInside}
-use Rattle.cdf_index.specs.declared.descending.Step.{Step}
-use Rattle.cdf_leaves.specs.Widening.{StepStands, WayStands, WidenedAlong}
+use Rattle.cdf_leaves.proofs.Common.{room_at, Each, step_pair, NodeInside, Step, StepStands, WayStands, WidenedAlong}
 use Rattle.cdf_leaves.proofs.Spares.{StillNodes, still_none, still_widened, fits_still, node_inside}
 
 pub along : (b mid records : List ℕ) (last : ℕ) (steps : List Step) → StillNodes b b records → Each (StepStands b records) steps → WidenedAlong b mid last (map step_pair steps) → StillNodes b mid records

@@ -1,8 +1,6 @@
 -- A chain of nodes followed to its end.
 use Rattle.std.proofs.Common.{◌≡◌, ◌≢◌, ℕ, zero, suc, ◌+◌, ◌<◌, List, length, true, false, eqb, arith}
-use Rattle.std.proofs.lemmas.Bool.Decides.{nat_tests}
-use Rattle.cdf_format.specs.Chains.{next_of}
-use Rattle.cdf_leaves.specs.Tail.{chain_end, ChainInside}
+use Rattle.cdf_leaves.proofs.Common.{nat_tests, next_of, chain_end, ChainInside}
 
 -- so many turns are left
 pub record Following (b : List ℕ) (at turn here : ℕ) : Type 0 where

@@ -1,23 +1,12 @@
 -- The entry of a leaf was put into an index: what the new image has of it.
 use Rattle.std.proofs.Common.{◌≡◌, ◌≢◌, ◌⊎◌, ℕ, zero, suc, ◌+◌, ◌-◌, ◌*◌, ◌<◌, ◌≤◌, max, List, [], ◌∷◌, length, map, Bool, true, false, not, ◌&&◌, ltb, leb, eqb, refl, sym, ap, subst, ◌∙◌, arith, inl, inr}
-use Rattle.std.proofs.lemmas.Bool.Decides.{nat_tests}
-use Rattle.cdf_edits.specs.Index.Grown.{past, room_of_new}
-use Rattle.cdf_edits.specs.Index.Written.{EntryIs, was_unused, is_taken_at}
+use Rattle.cdf_leaves.proofs.Common.{nat_tests, past, room_of_new, EntryIs, was_unused, size_at, type_at, Leaf, entry_count, room_at, used_count, SaysEntry, vxr_type, vvr_type, NodeFits, In, leaf_acts, Begun, MayName, StillSays, Inserted, NodeWritten, Entry, front_stays}
+use Rattle.cdf_edits.specs.Index.Written.{is_taken_at}
 use Rattle.cdf_edits.specs.Space.Acts.{taken}
 use Rattle.cdf_format.specs.Chains.{is_in}
-use Rattle.cdf_format.specs.Fields.{size_at, type_at}
-use Rattle.cdf_format.specs.Index.{Leaf, entry_count, room_at, used_count}
-use Rattle.cdf_format.specs.IndexOf.{SaysEntry}
-use Rattle.cdf_format.specs.RecordTypes.{vxr_type, vvr_type, cvvr_type}
-use Rattle.cdf_format.specs.Sound.{NodeFits}
-use Rattle.cdf_format.specs.Tiles.{In}
+use Rattle.cdf_format.specs.RecordTypes.{cvvr_type}
 use Rattle.cdf_format.proofs.Members.{is_in-true, is_in-false}
-use Rattle.cdf_index.specs.Adding.{leaf_acts}
-use Rattle.cdf_index.specs.Ahead.{Begun}
-use Rattle.cdf_index.specs.Growing.{MayName}
-use Rattle.cdf_index.specs.Writing.{StillSays, SaysUnused, Inserted, Shortened, NodeWritten, entry_in, unused_entry}
-use Rattle.cdf_index.specs.declared.entries.Entry.{Entry}
-use Rattle.cdf_index.proofs.Inserting.{front_stays}
+use Rattle.cdf_index.specs.Writing.{SaysUnused, Shortened, entry_in, unused_entry}
 use Rattle.cdf_leaves.proofs.Spares.{Spares}
 use Rattle.cdf_leaves.proofs.SpotNode.{SpotNode, begins_by}
 use Rattle.cdf_leaves.proofs.State.{NodeNow}

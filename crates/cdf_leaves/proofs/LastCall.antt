@@ -1,10 +1,9 @@
 -- The last call of a function, whose answer is its own.
 use Rattle.std.proofs.Common.{◌≡◌, ℕ, List, [], ◌∷◌, length, Ok, Err, refl, subst, ◌∙◌, arith}
+use Rattle.cdf_leaves.proofs.Common.{OnOk, Keeps, Frame}
 use Rattle.std.specs.declared.result.Result.{Result}
-use Rattle.std.specs.Result.{OnOk}
 use Rattle.cdf_base.specs.Causes.{HasCauseOf}
-use Rattle.cdf_area.specs.Calls.{Edits, Keeps}
-use Rattle.cdf_area.specs.Frame.{Frame}
+use Rattle.cdf_area.specs.Calls.{Edits}
 use Rattle.cdf_area.specs.declared.area.AreaError.{AreaError}
 use Rattle.cdf_area.specs.declared.area.AreaError.TheVariants.{Fault}
 

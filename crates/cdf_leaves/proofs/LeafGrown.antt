@@ -1,56 +1,25 @@
 -- A leaf more in an index that has a node: what was done step by step is what a leaf more makes of the image.
 use Rattle.std.proofs.Common.{◌≡◌, ◌≢◌, ◌⊎◌, ℕ, zero, suc, ◌+◌, ◌-◌, ◌*◌, ◌^◌, ◌<◌, ◌≤◌, max, List, [], ◌∷◌, ◌++◌, length, Bool, true, false, leb, ltb, eqb, refl, sym, ap, subst, ◌∙◌, arith, inl, inr}
-use Rattle.std.specs.Prelude.{if◌then◌else◌, bytes_eq}
-use Rattle.cdf_model.specs.declared.kinds.Kind.{Kind}
-use Rattle.cdf_model.specs.Limits.{image_limit, record_number_limit}
-use Rattle.cdf_edits.specs.Frame.Changed.{touch, Touch, Changed, TouchesNone}
+use Rattle.cdf_leaves.proofs.Common.{if◌then◌else◌, bytes_eq, Kind, image_limit, touch, Touch, Changed, new_room, chain_reaches, leads_down, past, UnusedEntries, EntryIs, was_unused, top_chain, last_node, Placed, StandsAmong, sound, tile, has, long, changed_then, changed_whole, SameHeads, Kept, redo, apart, is_linkable, next_of, LiesIn, number, size_at, type_at, with_field, Nodes, no_node, node, Leaf, entry_count, nodes_of, leaves_of, link_to, room_at, used_count, SaysEntry, IsNode, HasNodes, vdr_vxr_head, vdr_vxr_tail, vxr_n_used_entries, gdr_type, uir_type, vxr_type, vvr_type, VariableShape, Each, shape, NodeFits, AreTiles, Distinct, In, Good, number_kept, type_kept, next_kept, size_kept, field_reads, other_words, linkable-from, either, Each-append, tile_lies, Counts, NodeTaken, LeafAdded, leaf_acts, Begun, with_new, Begins, MayName, way, spot, widen_all, NodeWritten, Inserted, Spot, Entry, heads_stay, others_stay, no_zero, IsStep, entry, ChainInside, chain_end, WidenedAlong, NodeMade, EntryPut, Grew, grew, grew_then, stands, unlike}
+use Rattle.cdf_model.specs.Limits.{record_number_limit}
+use Rattle.cdf_edits.specs.Frame.Changed.{TouchesNone}
 use Rattle.cdf_edits.specs.Frame.Changed.{Placed as ChangedPlaced}
-use Rattle.cdf_edits.specs.Index.Grown.{with_leaf, new_room, chain_reaches, leads_down, past}
-use Rattle.cdf_edits.specs.Index.Written.{UnusedEntries, EntryIs, was_unused, top_chain, last_node}
-use Rattle.cdf_edits.specs.Space.Placing.{Placed}
-use Rattle.cdf_edits.proofs.Edits.StandsAmong.{StandsAmong, sound, tile, has, long}
-use Rattle.cdf_edits.proofs.Frame.ChangedBytes.{changed_then, changed_whole}
-use Rattle.cdf_edits.proofs.Frame.LinksStay.{SameHeads, nodes_kept}
-use Rattle.cdf_edits.proofs.Frame.Meaning.{Kept}
-use Rattle.cdf_edits.proofs.Index.NodeEdited.{redo, redone}
-use Rattle.cdf_edits.proofs.Space.UsedRecords.{apart}
-use Rattle.cdf_format.specs.Chains.{is_linkable, next_of}
-use Rattle.cdf_format.specs.Fields.{LiesIn, number, size_at, type_at, with_field}
-use Rattle.cdf_format.specs.Index.{Nodes, no_node, node, Leaf, entry_count, nodes_of, leaves_of, link_to, room_at, used_count}
-use Rattle.cdf_format.specs.IndexOf.{SaysEntry, IsNode, HasNodes}
-use Rattle.cdf_format.specs.Records.{vdr_vxr_head, vdr_vxr_tail, vxr_n_used_entries}
-use Rattle.cdf_format.specs.RecordTypes.{gdr_type, uir_type, vxr_type, vvr_type}
-use Rattle.cdf_format.specs.Shape.{VariableShape, Each, shape}
-use Rattle.cdf_format.specs.Sound.{NodeFits}
-use Rattle.cdf_format.specs.Tiles.{AreTiles, Distinct, In}
-use Rattle.cdf_format.specs.WellFormed.{Good}
-use Rattle.cdf_format.proofs.BytesLemmas.{number_kept, type_kept, next_kept, size_kept}
-use Rattle.cdf_fields.proofs.Writes.{field_reads, other_words}
-use Rattle.cdf_format.proofs.ChainsLemmas.{linkable-from}
-use Rattle.cdf_format.proofs.Members.{either}
+use Rattle.cdf_edits.specs.Index.Grown.{with_leaf}
+use Rattle.cdf_edits.proofs.Frame.LinksStay.{nodes_kept}
+use Rattle.cdf_edits.proofs.Index.NodeEdited.{redone}
 use Rattle.cdf_format.proofs.NameRules.{bytes_eq-same}
 use Rattle.cdf_format.proofs.Tests.{same_of_bytes_eq}
-use Rattle.cdf_format.proofs.ShapeLemmas.{Each-append}
-use Rattle.cdf_format.proofs.TilesLemmas.{tile_lies}
-use Rattle.cdf_index.specs.Adding.{Counts, NodePlaced, NodeTaken, IndexTouch, TailGoesOn, LeafAdded, leaf_acts}
-use Rattle.cdf_index.specs.Ahead.{Begun}
-use Rattle.cdf_index.specs.Growing.{with_new, Begins, MayName}
-use Rattle.cdf_index.specs.Way.{way, spot, placed, widen_all}
-use Rattle.cdf_index.specs.Writing.{EntriesRead, NodeWritten, Inserted, Split, Chained}
-use Rattle.cdf_index.specs.declared.descending.Spot.{Spot}
-use Rattle.cdf_index.specs.declared.entries.Entry.{Entry}
+use Rattle.cdf_index.specs.Adding.{NodePlaced, IndexTouch, TailGoesOn}
+use Rattle.cdf_index.specs.Way.{placed}
+use Rattle.cdf_index.specs.Writing.{EntriesRead, Split, Chained}
 use Rattle.cdf_index.proofs.LeafMore.{leaves_more}
 use Rattle.cdf_index.proofs.NodeGrown.{grown_owed, split_owed, chained_owed}
 use Rattle.cdf_index.proofs.NodeSplit.{split}
-use Rattle.cdf_index.proofs.TreeTouched.{heads_stay, others_stay}
-use Rattle.cdf_index.proofs.WayDown.{made, node_there_by, no_zero, nodes_stand}
-use Rattle.cdf_leaves.specs.Added.{IsStep, entry}
-use Rattle.cdf_leaves.specs.Tail.{ChainInside, chain_end}
-use Rattle.cdf_leaves.specs.Widening.{WidenedAlong}
+use Rattle.cdf_index.proofs.WayDown.{made, node_there_by, nodes_stand}
 use Rattle.cdf_leaves.proofs.TopChain.{top_stays, top_grows, chain_inside, end_is_last, last_in}
-use Rattle.cdf_leaves.specs.Putting.{NodeMade, EntryPut, SplitMade, ChainMade}
+use Rattle.cdf_leaves.specs.Putting.{SplitMade, ChainMade}
 use Rattle.cdf_index.specs.Order.{InOrder}
-use Rattle.cdf_edits.proofs.Edits.RecordGrown.{Grew, grew, grew_none, kept_then, grew_then, stands, unlike}
+use Rattle.cdf_edits.proofs.Edits.RecordGrown.{grew_none, kept_then}
 use Rattle.cdf_leaves.proofs.Grown.{below, was, was_old, was_new, old_node, new_node, inserted_node, shortened_node, names_leaf, room_with, room_full}
 use Rattle.cdf_leaves.proofs.Linked.{field_changed, field_long, link_changed, link_long, link_reads, link_room, link_used, link_entries, link_spares}
 use Rattle.cdf_leaves.proofs.NodesMore.{places, all_wider}

@@ -1,37 +1,9 @@
 -- The first leaf of an index: its node is taken, and the descriptor leads to it.
 use Rattle.std.proofs.Common.{◌≡◌, ◌≢◌, ℕ, ◌+◌, ◌*◌, ◌^◌, ◌<◌, ◌≤◌, List, [], ◌∷◌, length, Bool, false, refl, sym, ap, subst, ◌∙◌, arith, inl, inr}
-use Rattle.std.specs.Prelude.{if◌then◌else◌, bytes_eq}
-use Rattle.cdf_model.specs.declared.kinds.Kind.{Kind}
-use Rattle.cdf_model.specs.declared.kinds.Kind.TheVariants.{R, Z}
-use Rattle.cdf_model.specs.Limits.{image_limit}
-use Rattle.cdf_edits.specs.Frame.Changed.{touch, Touch, Changed}
-use Rattle.cdf_edits.specs.Index.Grown.{with_block, with_leaf, new_room}
-use Rattle.cdf_edits.specs.Index.Written.{UnusedEntries, top_chain, last_node}
-use Rattle.cdf_edits.specs.Space.Placing.{Placed}
-use Rattle.cdf_edits.proofs.Edits.StandsAmong.{StandsAmong, sound, typed, has, long}
-use Rattle.cdf_edits.proofs.Frame.ChangedBytes.{changed_then, changed_whole}
-use Rattle.cdf_edits.proofs.Frame.Meaning.{Kept}
-use Rattle.cdf_edits.proofs.Space.UsedRecords.{apart}
-use Rattle.cdf_fields.proofs.Writes.{field_reads, other_words}
-use Rattle.cdf_format.specs.Fields.{LiesIn, number, size_at, type_at, with_field}
-use Rattle.cdf_format.specs.Index.{Nodes, no_node, node, no_entry, Leaf, nodes_of, lower_nodes, link_to, room_at}
-use Rattle.cdf_format.specs.IndexOf.{SaysNode, IsIndex, HasNodes, Names}
-use Rattle.cdf_format.specs.Records.{vdr_vxr_head, vdr_vxr_tail}
-use Rattle.cdf_format.specs.RecordTypes.{gdr_type, uir_type, vxr_type, vvr_type}
-use Rattle.cdf_format.specs.Shape.{VariableShape, Each, shape}
-use Rattle.cdf_format.specs.Sound.{NodeFits}
-use Rattle.cdf_format.specs.Tiles.{AreTiles, Distinct, In}
-use Rattle.cdf_format.specs.WellFormed.{Good}
-use Rattle.cdf_format.proofs.BytesLemmas.{type_kept, next_kept, size_kept}
-use Rattle.cdf_format.proofs.ChainsLemmas.{linkable-in, linkable-from, some_place}
-use Rattle.cdf_format.proofs.TilesLemmas.{tile_lies}
-use Rattle.cdf_index.specs.Adding.{Counts, NodeTaken, LeafAdded, leaf_acts}
-use Rattle.cdf_index.specs.Growing.{MayName}
-use Rattle.cdf_edits.specs.Space.Chains.{type_in}
-use Rattle.cdf_edits.specs.Space.VariableChains.{variables_chain}
-use Rattle.cdf_leaves.specs.Added.{entry}
-use Rattle.cdf_leaves.specs.Putting.{IndexStarted}
-use Rattle.cdf_edits.proofs.Edits.RecordGrown.{Grew, grew, grew_then, stands, unlike}
+use Rattle.cdf_leaves.proofs.Common.{if◌then◌else◌, bytes_eq, Kind, R, Z, image_limit, touch, Touch, Changed, with_block, UnusedEntries, top_chain, last_node, Placed, StandsAmong, sound, typed, has, long, changed_then, changed_whole, Kept, apart, field_reads, other_words, LiesIn, number, size_at, type_at, with_field, Nodes, no_node, node, no_entry, Leaf, link_to, room_at, SaysNode, vdr_vxr_head, vdr_vxr_tail, gdr_type, uir_type, vxr_type, vvr_type, VariableShape, Each, shape, NodeFits, AreTiles, Distinct, In, Good, type_kept, next_kept, size_kept, linkable-in, linkable-from, some_place, tile_lies, Counts, NodeTaken, LeafAdded, leaf_acts, MayName, type_in, variables_chain, entry, IndexStarted, Grew, grew, grew_then, stands, unlike}
+use Rattle.cdf_edits.specs.Index.Grown.{with_leaf, new_room}
+use Rattle.cdf_format.specs.Index.{nodes_of, lower_nodes}
+use Rattle.cdf_format.specs.IndexOf.{IsIndex, HasNodes, Names}
 use Rattle.cdf_leaves.proofs.Grown.{was, was_new, new_node, names_leaf}
 use Rattle.cdf_leaves.proofs.Linked.{field_changed, field_long}
 use Rattle.cdf_leaves.proofs.Own.{vdr_kept, vdr_in, vdr_used}

@@ -1,12 +1,9 @@
 -- A field was written of a record: VXRnext of a node, or a link of a descriptor.
 use Rattle.std.proofs.Common.{◌≡◌, ◌⊎◌, ℕ, ◌+◌, ◌*◌, ◌^◌, ◌<◌, ◌≤◌, List, [], ◌∷◌, length, slice_index, ap, ◌∙◌, arith, inl, inr}
-use Rattle.cdf_edits.specs.Frame.Changed.{touch, Changed}
-use Rattle.cdf_format.specs.Chains.{next_of}
-use Rattle.cdf_format.specs.Fields.{LiesIn, word, number, with_field, size_at}
-use Rattle.cdf_format.specs.Index.{room_at, used_count}
-use Rattle.cdf_format.specs.Records.{Field, vxr_vxr_next}
-use Rattle.cdf_fields.proofs.Writes.{field_reads, length-with_field, other_bytes, other_words}
-use Rattle.cdf_index.specs.Writing.{StillSays}
+use Rattle.cdf_leaves.proofs.Common.{touch, Changed, next_of, LiesIn, number, with_field, size_at, room_at, used_count, vxr_vxr_next, field_reads, other_words, StillSays}
+use Rattle.cdf_format.specs.Fields.{word}
+use Rattle.cdf_format.specs.Records.{Field}
+use Rattle.cdf_fields.proofs.Writes.{length-with_field, other_bytes}
 use Rattle.cdf_index.proofs.Inserting.{counts}
 use Rattle.cdf_leaves.proofs.Spares.{Spares}
 

@@ -1,14 +1,10 @@
 -- A record that was taken becomes a node.
 use Rattle.std.proofs.Common.{◌≡◌, ℕ, List}
-use Rattle.cdf_edits.specs.Commands.Room.{vxr_bytes}
+use Rattle.cdf_leaves.proofs.Common.{vxr_bytes, shape, NodeWritten, Entry, NodeMade}
 use Rattle.cdf_edits.specs.Space.Placement.{Takes}
 use Rattle.cdf_format.specs.Content.{content}
-use Rattle.cdf_format.specs.Shape.{shape}
 use Rattle.cdf_format.specs.Sound.{IsSound}
-use Rattle.cdf_index.specs.Writing.{NodeWritten}
-use Rattle.cdf_index.specs.declared.entries.Entry.{Entry}
 use Rattle.cdf_index.proofs.NodeFilled.{fills, node_short}
-use Rattle.cdf_leaves.specs.Putting.{NodeMade}
 
 pub node_made : (b taken : List ℕ) (room place : ℕ) (sound : IsSound b (shape b)) (takes : Takes b taken (shape b) (shape taken) (vxr_bytes room) place) (sound_taken : IsSound taken (shape taken)) (stays : content taken ≡ content b) (now : List ℕ) (next : ℕ) (entries : List Entry) → NodeWritten taken now place room next entries → NodeMade b now room next entries place
 node_made b taken room place sound takes sound_taken stays now next entries w = record { taken = taken; fills = fills b taken room place sound takes sound_taken stays now next entries w; longest = node_short b taken room place sound takes sound_taken stays now next entries w; written = w }

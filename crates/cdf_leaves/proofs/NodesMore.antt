@@ -1,14 +1,11 @@
 -- The nodes of an index with one leaf more, and of one some of whose entries end later.
 use Rattle.std.proofs.Common.{◌≡◌, ℕ, zero, suc, ◌+◌, ◌≤◌, max, List, [], ◌∷◌, ◌++◌, map, false, ltb, eqb, append_assoc, append-nil, refl, sym, ap, ap₂, ◌∙◌, arith, inl, inr}
-use Rattle.std.proofs.lemmas.Bool.{eqb-true}
-use Rattle.std.proofs.lemmas.List.{map-append}
+use Rattle.cdf_leaves.proofs.Common.{eqb-true, map-append, reaches, chain_reaches, leads_down, with_block, past, with_entry, room_of_new, Nodes, no_node, node, Entries, no_entry, block, lower, Leaf, entry_count, times, either, wider, widen_all}
 use Rattle.cdf_edits.proofs.Frame.OwnersApart.{times-append}
 use Rattle.cdf_edits.proofs.Index.NodeEdited.{redo, redo_below}
-use Rattle.cdf_edits.specs.Index.Grown.{reaches, chain_reaches, leads_down, with_block, upto, past, with_both, with_entry, with_leaf, with_lower, room_of_new, new_room, new_room_below}
-use Rattle.cdf_format.specs.Index.{Nodes, no_node, node, Entries, no_entry, block, lower, Leaf, nodes_of, lower_nodes, leaves_of, entry_leaves, entry_count}
-use Rattle.cdf_format.specs.Owners.{times}
-use Rattle.cdf_format.proofs.Members.{either}
-use Rattle.cdf_index.specs.Way.{wider, widened, widen_all}
+use Rattle.cdf_edits.specs.Index.Grown.{upto, with_both, with_leaf, with_lower, new_room, new_room_below}
+use Rattle.cdf_format.specs.Index.{nodes_of, lower_nodes, leaves_of, entry_leaves}
+use Rattle.cdf_index.specs.Way.{widened}
 use Rattle.cdf_index.proofs.Saying.{front, front_past, upto_both, upto_is}
 
 -- the new node, where one is needed

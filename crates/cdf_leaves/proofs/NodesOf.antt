@@ -1,15 +1,9 @@
 -- The nodes and the blocks of an index with a leaf more.
 use Rattle.std.proofs.Common.{◌≡◌, ◌≢◌, ◌⊎◌, ℕ, zero, suc, ◌+◌, ◌<◌, ◌≤◌, List, [], ◌∷◌, Bool, true, false, ltb, refl, subst, arith, inl, inr}
-use Rattle.std.proofs.lemmas.Bool.{cases_eq}
+use Rattle.cdf_leaves.proofs.Common.{cases_eq, with_leaf, new_room, Nodes, Leaf, nodes_of, times, Each, Distinct, In, with_new}
 use Rattle.cdf_edits.proofs.Edits.UnlinkedAttribute.{distinct_if}
 use Rattle.cdf_edits.proofs.Frame.OwnersApart.{times-in}
-use Rattle.cdf_edits.specs.Index.Grown.{with_leaf, new_room}
-use Rattle.cdf_format.specs.Index.{Nodes, Leaf, nodes_of}
-use Rattle.cdf_format.specs.Owners.{times}
-use Rattle.cdf_format.specs.Shape.{Each}
-use Rattle.cdf_format.specs.Tiles.{Distinct, In}
 use Rattle.cdf_format.proofs.Owning.{times-none, times-once}
-use Rattle.cdf_index.specs.Growing.{with_new}
 use Rattle.cdf_leaves.proofs.NodesMore.{places, taken_at, nodes_more, cons_times}
 
 pub each_all : (P : ℕ → Type 0) (xs : List ℕ) → ((m : ℕ) → In m xs → P m) → Each P xs

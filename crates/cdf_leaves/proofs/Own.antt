@@ -1,31 +1,15 @@
 -- The variable whose index gets a leaf, in the images in which records were taken.
 use Rattle.std.proofs.Common.{◌≡◌, ◌≢◌, ℕ, List, [], ◌∷◌, ◌++◌, append_assoc, refl, sym, ap, subst, ◌∙◌, inl, inr}
-use Rattle.cdf_model.specs.declared.kinds.Kind.{Kind}
-use Rattle.cdf_model.specs.declared.kinds.Kind.TheVariants.{R, Z}
-use Rattle.cdf_edits.specs.Commands.Allowances.{shapes_of}
-use Rattle.cdf_edits.proofs.Edits.StandsAmong.{StandsAmong, sound, tile, typed, has}
-use Rattle.cdf_edits.proofs.Frame.Meaning.{Kept}
-use Rattle.cdf_edits.proofs.Space.UsedRecords.{apart}
-use Rattle.cdf_edits.specs.Space.Chains.{type_in}
-use Rattle.cdf_edits.specs.Space.VariableChains.{variables_chain}
-use Rattle.cdf_format.specs.Fields.{number, type_at}
+use Rattle.cdf_leaves.proofs.Common.{Kind, R, Z, shapes_of, StandsAmong, sound, tile, typed, has, Kept, apart, type_in, variables_chain, number, type_at, Leaf, nodes_of, leaves_of, vdr_vxr_head, gdr_type, uir_type, vxr_type, VariableShape, Each, shape, variables, NodeFits, In, Good, type_kept, linkable-in, good_is_sound, HasIndex, index_at, Grew}
 use Rattle.cdf_format.specs.GoodImage.{IsGoodImage}
-use Rattle.cdf_format.specs.Index.{Leaf, nodes_of, leaves_of}
-use Rattle.cdf_format.specs.Records.{vdr_vxr_head}
-use Rattle.cdf_format.specs.RecordTypes.{gdr_type, uir_type, vxr_type}
-use Rattle.cdf_format.specs.Shape.{VariableShape, Each, HasVariable, shape, variables}
-use Rattle.cdf_format.specs.Sound.{NodeFits, LeafFits, VariableFits}
-use Rattle.cdf_format.specs.Tiles.{In}
-use Rattle.cdf_format.specs.WellFormed.{Good}
-use Rattle.cdf_format.proofs.BytesLemmas.{type_kept}
-use Rattle.cdf_format.proofs.ChainsLemmas.{linkable-in, linkable-type}
+use Rattle.cdf_format.specs.Shape.{HasVariable}
+use Rattle.cdf_format.specs.Sound.{LeafFits, VariableFits}
+use Rattle.cdf_format.proofs.ChainsLemmas.{linkable-type}
 use Rattle.cdf_format.proofs.GoodImageLemmas.{good_image}
-use Rattle.cdf_format.proofs.GoodSound.{good_by_its_shape, good_is_sound}
+use Rattle.cdf_format.proofs.GoodSound.{good_by_its_shape}
 use Rattle.cdf_format.proofs.Owning.{block_in}
 use Rattle.cdf_format.proofs.ShapeLemmas.{Each-split}
-use Rattle.cdf_index.specs.Finding.{HasIndex, index_at}
 use Rattle.cdf_index.proofs.GoodIndex.{good_index}
-use Rattle.cdf_edits.proofs.Edits.RecordGrown.{Grew}
 use Rattle.cdf_leaves.proofs.NodesMore.{places}
 use Rattle.cdf_leaves.proofs.Spares.{Spares, spares_kept}
 use Rattle.cdf_leaves.proofs.SpotNode.{nodes_linkable}

@@ -1,16 +1,6 @@
 -- A node that gets an entry, once another record was taken.
 use Rattle.std.proofs.Common.{◌≡◌, ◌≢◌, ℕ, List, refl, sym, ◌∙◌}
-use Rattle.cdf_edits.proofs.Frame.Meaning.{Kept}
-use Rattle.cdf_edits.proofs.Space.UsedRecords.{apart}
-use Rattle.cdf_format.specs.Fields.{type_at}
-use Rattle.cdf_format.specs.Index.{room_at, used_count}
-use Rattle.cdf_format.specs.RecordTypes.{gdr_type, uir_type, vxr_type}
-use Rattle.cdf_format.specs.Shape.{shape}
-use Rattle.cdf_index.specs.Finding.{NodeInside}
-use Rattle.cdf_index.specs.declared.descending.Spot.{Spot}
-use Rattle.cdf_index.specs.declared.entries.Entry.{Entry}
-use Rattle.cdf_leaves.specs.Putting.{MayPut, NodeMade}
-use Rattle.cdf_edits.proofs.Edits.RecordGrown.{Grew, grew}
+use Rattle.cdf_leaves.proofs.Common.{Kept, apart, type_at, room_at, used_count, gdr_type, uir_type, vxr_type, shape, NodeInside, Spot, Entry, MayPut, NodeMade, Grew, grew}
 use Rattle.cdf_leaves.proofs.Spares.{Spares, spares_kept, fits_still, node_inside}
 
 pub node_used : (b : List ℕ) (m : ℕ) → type_at b m ≡ vxr_type → type_at b m ≢ uir_type

@@ -1,19 +1,8 @@
 -- Nodes that stay but for their used entries.
 use Rattle.std.proofs.Common.{◌≡◌, ◌≢◌, ℕ, ◌+◌, ◌*◌, ◌<◌, ◌≤◌, List, [], ◌∷◌, length, refl, sym, subst, ◌∙◌, inl, inr, arith}
-use Rattle.std.proofs.lemmas.Bool.{cases_eq}
-use Rattle.cdf_edits.proofs.Frame.LinksStay.{SameHeads, tiles_same, room_same, used_same, entry_same}
-use Rattle.cdf_edits.proofs.Frame.Meaning.{Kept}
-use Rattle.cdf_format.proofs.BytesLemmas.{number_kept, size_kept, type_kept}
-use Rattle.cdf_format.proofs.TilesLemmas.{tile_lies}
-use Rattle.cdf_format.specs.Fields.{number, size_at, type_at}
-use Rattle.cdf_format.specs.Index.{room_at, used_count}
-use Rattle.cdf_format.specs.Records.{vxr_n_used_entries}
-use Rattle.cdf_format.specs.Sound.{NodeFits}
-use Rattle.cdf_format.specs.Tiles.{AreTiles, In}
-use Rattle.cdf_index.specs.Finding.{NodeInside}
-use Rattle.cdf_index.specs.Writing.{StillSays, Widened}
-use Rattle.cdf_index.proofs.Inserting.{front_stays, room_stays, used_stays}
-use Rattle.cdf_index.proofs.TreeTouched.{heads_stay, others_stay}
+use Rattle.cdf_leaves.proofs.Common.{cases_eq, SameHeads, tiles_same, Kept, number_kept, size_kept, type_kept, tile_lies, number, size_at, type_at, room_at, used_count, vxr_n_used_entries, NodeFits, AreTiles, In, NodeInside, StillSays, Widened, front_stays, heads_stay, others_stay}
+use Rattle.cdf_edits.proofs.Frame.LinksStay.{room_same, used_same, entry_same}
+use Rattle.cdf_index.proofs.Inserting.{room_stays, used_stays}
 
 -- a node is as it was but for its used entries
 pub record Spares (mid now : List ℕ) (m : ℕ) : Type 0 where

@@ -1,16 +1,11 @@
 -- The node at the end of the way.
 use Rattle.std.proofs.Common.{◌≡◌, ◌≢◌, ◌⊎◌, ℕ, zero, suc, ◌+◌, ◌<◌, ◌≤◌, max, List, [], ◌∷◌, true, false, leb, refl, sym, ap, subst, ◌∙◌, arith, inl, inr}
-use Rattle.std.proofs.lemmas.Bool.Decides.{nat_tests}
+use Rattle.cdf_leaves.proofs.Common.{nat_tests, reaches, chain_reaches, leads_down, past, room_of_new, is_linkable, Nodes, no_node, node, Entries, no_entry, block, lower, entry_count, room_at, SaysNode, vxr_type, In, Distinct, either, In-append, In-append_right, Distinct-back, Begun, Begins}
 use Rattle.cdf_edits.specs.Commands.Room.{widest, widest_below}
-use Rattle.cdf_edits.specs.Index.Grown.{reaches, chain_reaches, leads_down, past, room_of_new, new_room, new_room_below}
-use Rattle.cdf_format.specs.Chains.{is_linkable}
-use Rattle.cdf_format.specs.Index.{Nodes, no_node, node, Entries, no_entry, block, lower, nodes_of, lower_nodes, entry_count, room_at, first_at}
-use Rattle.cdf_format.specs.IndexOf.{SayEntries, SaysNode, HasNodes, Names}
-use Rattle.cdf_format.specs.RecordTypes.{vxr_type}
-use Rattle.cdf_format.specs.Tiles.{In, Distinct}
-use Rattle.cdf_format.proofs.Members.{either, In-append, In-append_left, In-append_right, Distinct-front, Distinct-back}
-use Rattle.cdf_index.specs.Ahead.{Begun}
-use Rattle.cdf_index.specs.Growing.{Begins}
+use Rattle.cdf_edits.specs.Index.Grown.{new_room, new_room_below}
+use Rattle.cdf_format.specs.Index.{nodes_of, lower_nodes, first_at}
+use Rattle.cdf_format.specs.IndexOf.{SayEntries, HasNodes, Names}
+use Rattle.cdf_format.proofs.Members.{In-append_left, Distinct-front}
 use Rattle.cdf_index.specs.Way.{way, way_below, spot, spot_below}
 use Rattle.cdf_index.proofs.WayDown.{spot_in}
 

@@ -1,25 +1,8 @@
 -- An index in the making: what holds of an image, from the one in which all records were taken.
 use Rattle.std.proofs.Common.{◌≡◌, ◌≢◌, ℕ, ◌+◌, ◌*◌, ◌<◌, ◌≤◌, List, [], ◌∷◌, ◌++◌, length, Bool, true, false, sym, subst, ◌∙◌, arith, inl, inr}
-use Rattle.std.proofs.lemmas.Bool.{cases_eq}
-use Rattle.cdf_edits.proofs.Frame.ChangedBytes.{changed_then}
-use Rattle.cdf_edits.proofs.Frame.LinksStay.{SameHeads, tiles_same}
-use Rattle.cdf_edits.proofs.Index.NodeEdited.{redo}
-use Rattle.cdf_edits.specs.Frame.Changed.{Touch, touch, Changed}
-use Rattle.cdf_edits.specs.Index.Written.{EntryIs}
-use Rattle.cdf_format.specs.Fields.{number, size_at}
-use Rattle.cdf_format.specs.Index.{Nodes, nodes_of, leaves_of, room_at, used_count}
-use Rattle.cdf_format.specs.IndexOf.{HasNodes}
-use Rattle.cdf_format.specs.Records.{vxr_n_used_entries}
-use Rattle.cdf_format.specs.Shape.{Each}
-use Rattle.cdf_format.specs.Sound.{NodeFits}
-use Rattle.cdf_format.specs.Tiles.{AreTiles, Distinct, In}
-use Rattle.cdf_format.proofs.ShapeLemmas.{Each-append}
-use Rattle.cdf_index.specs.Adding.{Counts}
-use Rattle.cdf_index.specs.Way.{wider, widen_all}
-use Rattle.cdf_index.specs.Writing.{StillSays, Widened}
+use Rattle.cdf_leaves.proofs.Common.{cases_eq, changed_then, SameHeads, tiles_same, redo, Touch, touch, Changed, EntryIs, number, size_at, Nodes, nodes_of, leaves_of, room_at, used_count, HasNodes, vxr_n_used_entries, Each, NodeFits, AreTiles, Distinct, In, Each-append, Counts, wider, widen_all, StillSays, Widened, heads_stay, others_stay, WidenedAlong}
 use Rattle.cdf_index.proofs.NodeWider.{wider_owed}
-use Rattle.cdf_index.proofs.TreeTouched.{edited, heads_stay, others_stay}
-use Rattle.cdf_leaves.specs.Widening.{WidenedAlong}
+use Rattle.cdf_index.proofs.TreeTouched.{edited}
 use Rattle.cdf_leaves.proofs.NodesMore.{places, nodes_wider}
 use Rattle.cdf_leaves.proofs.Spares.{Spares, spares_kept, spares_widened, fits_still, node_inside, front_lies}
 

@@ -1,20 +1,15 @@
 -- The top chain of an index that gets a leaf, and its end in the bytes.
 use Rattle.std.proofs.Common.{◌≡◌, ◌≢◌, ◌⊎◌, ℕ, zero, suc, ◌+◌, ◌≤◌, max, List, [], ◌∷◌, length, false, ltb, eqb, refl, sym, ap, subst, ◌∙◌, arith, inl, inr, Some}
+use Rattle.cdf_leaves.proofs.Common.{chain_reaches, leads_down, past, with_entry, room_of_new, top_chain, last_node, next_of, size_at, Nodes, no_node, node, Entries, Leaf, entry_count, link_to, IsNode, vxr_type, AreTiles, In, Distinct, linkable-in, some_place, either, In-append_right, Distinct-back, tile_lies, chain_end, ChainInside}
 use Rattle.std.specs.List.{last_or}
 use Rattle.std.specs.Option.{unwrap_or}
-use Rattle.cdf_edits.specs.Index.Grown.{chain_reaches, leads_down, past, with_entry, with_leaf, room_of_new, new_room}
-use Rattle.cdf_edits.specs.Index.Written.{top_chain, last_node}
-use Rattle.cdf_format.specs.Chains.{next_of}
-use Rattle.cdf_format.specs.Fields.{size_at}
-use Rattle.cdf_format.specs.Index.{Nodes, no_node, node, Entries, Leaf, entry_count, link_to, nodes_of, lower_nodes}
-use Rattle.cdf_format.specs.IndexOf.{IsNode, HasNodes}
-use Rattle.cdf_format.specs.RecordTypes.{vxr_type}
-use Rattle.cdf_format.specs.Tiles.{AreTiles, In, Distinct}
-use Rattle.cdf_format.proofs.ChainsLemmas.{linkable-in, linkable-long, some_place}
-use Rattle.cdf_format.proofs.Members.{either, In-append_right, length-le_from_distinct, Distinct-back}
-use Rattle.cdf_format.proofs.TilesLemmas.{tile_lies, length_tiles}
+use Rattle.cdf_edits.specs.Index.Grown.{with_leaf, new_room}
+use Rattle.cdf_format.specs.Index.{nodes_of, lower_nodes}
+use Rattle.cdf_format.specs.IndexOf.{HasNodes}
+use Rattle.cdf_format.proofs.ChainsLemmas.{linkable-long}
+use Rattle.cdf_format.proofs.Members.{length-le_from_distinct}
+use Rattle.cdf_format.proofs.TilesLemmas.{length_tiles}
 use Rattle.cdf_index.specs.Way.{way}
-use Rattle.cdf_leaves.specs.Tail.{chain_end, ChainInside}
 use Rattle.cdf_leaves.proofs.Chain.{test_zero, test_some}
 
 -- ---- in the tree

@@ -1,12 +1,10 @@
 -- A file into which parts of a new one are written stays between the old one and the new one.
 use Rattle.std.proofs.Common.{◌≡◌, ◌⊎◌, ℕ, ◌+◌, ◌-◌, ◌*◌, ◌≤◌, ◌<◌, min, max, List, [], ◌++◌, length, take, drop, slice_index, Option, Some, None, refl, sym, ◌∙◌, ap, subst, arith, inl, inr, append_assoc, append-nil, length-append}
-use Rattle.std.proofs.lemmas.Bool.{cases_lt}
-use Rattle.std.proofs.lemmas.List.{length-take-le, length-drop, get_or-take, get_or_append_left, get_or-append_right, take_at, drop_all}
+use Rattle.cdf_pages.proofs.Common.{cases_lt, length-take-le, length-drop, get_or-take, get_or_append_left, take_at, drop_all, byte-put_before, byte-put_inside, byte-put_after, Disk, IsWhole, WrittenPart, cut, file_of, written, IsSome, Holds, HoldsBetween}
+use Rattle.std.proofs.lemmas.List.{get_or-append_right}
 use Rattle.cdf_base.specs.Bytes.{put}
-use Rattle.cdf_base.proofs.Puts.{byte-put_before, byte-put_inside, byte-put_after, take-put}
-use Rattle.cdf_store.specs.Disk.{Disk, IsWhole, WrittenPart, cut, file_of, written}
-use Rattle.std.specs.Prelude.{IsSome}
-use Rattle.cdf_pages.specs.Saving.{Holds, HoldsBetween, IsBetween}
+use Rattle.cdf_base.proofs.Puts.{take-put}
+use Rattle.cdf_pages.specs.Saving.{IsBetween}
 use Rattle.cdf_pages.proofs.Disks.{file_held, holds_cut, holds_first, holds_next}
 
 pub length-written : (b : List ℕ) (place : ℕ) (xs : List ℕ) → place ≤ length b → length (put b place xs) ≡ max (length b) (place + length xs)

@@ -1,11 +1,9 @@
 -- What writes and cuts leave of the disk.
 use Rattle.std.proofs.Common.{◌≡◌, ℕ, List, [], ◌∷◌, ◌++◌, length, take, Bool, true, Option, refl, sym, ◌∙◌, ap, subst, eq-eqb, inl, inr}
-use Rattle.std.proofs.lemmas.Bool.{cases_Bool}
-use Rattle.std.specs.Prelude.{bytes_eq, IsSome, Some, None, IfSome}
-use Rattle.cdf_base.specs.Bytes.{put}
-use Rattle.cdf_store.specs.Disk.{Disk, IsWhole, cut, file_in, file_of, files_with, written}
+use Rattle.cdf_pages.proofs.Common.{cases_Bool, IsSome, IfSome, put, Disk, IsWhole, cut, file_in, file_of, written, Holds}
+use Rattle.std.specs.Prelude.{bytes_eq, Some, None}
+use Rattle.cdf_store.specs.Disk.{files_with}
 use Rattle.cdf_store.specs.Named.{lookup, lookup_in, with_file}
-use Rattle.cdf_pages.specs.Saving.{Holds}
 
 file_stays : (name bytes : List ℕ) (files : List (List ℕ × List ℕ)) → lookup name files ≡ Some bytes → with_file name bytes files ≡ files
 file_stays name bytes [] e = cc e

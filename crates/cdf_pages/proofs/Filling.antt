@@ -1,15 +1,11 @@
 -- A part of a buffer is filled.
 use Rattle.std.proofs.Common.{◌≡◌, ◌∙◌, ℕ, ◌+◌, ◌-◌, ◌≤◌, ◌<◌, List, ◌++◌, length, take, drop, Option, Some, None, sym, ap, ap₂, subst, refl, ◌*◌, min, Bool, true, false, inl, inr, rules, arith}
-use Rattle.std.specs.Option.{is_some}
-use Rattle.std.proofs.lemmas.Bool.{cases_lt}
+use Rattle.cdf_pages.proofs.Common.{is_some, cases_lt, length-take-le, Result, Ok, Err, ReadsAt, ReadsPiece, file_in, TakesAtMost}
 use borrow.Rule.Slice.PartMut.{put_mid, post_of}
 use lib.Seq.{take-append-add, take-add}
-use Rattle.std.proofs.lemmas.List.{take-append-le, length-take-le}
-use Rattle.std.specs.declared.result.Result.{Result}
-use Rattle.std.specs.Prelude.{Ok, Err, OnErr, OnOk}
-use Rattle.cdf_store.specs.Reading.{Counts, ReadsAt, ReadsPiece}
-use Rattle.cdf_store.specs.Disk.{file_in}
-use Rattle.cdf_pages.specs.Pages.{TakesAtMost}
+use Rattle.std.proofs.lemmas.List.{take-append-le}
+use Rattle.std.specs.Prelude.{OnErr, OnOk}
+use Rattle.cdf_store.specs.Reading.{Counts}
 
 pub filled : (out ys src : List ℕ) (done n k : ℕ) → done ≤ length out → n ≤ length ys → take done out ≡ take done src → take n ys ≡ take n (drop done src)
     → take (done + n) (put_mid done k out ys) ≡ take (done + n) src

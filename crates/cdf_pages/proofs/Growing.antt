@@ -1,19 +1,13 @@
 -- Pages become changed ones, one after another.
 use Rattle.std.proofs.Common.{◌≡◌, ◌∙◌, ◌⊎◌, ℕ, zero, suc, ◌+◌, ◌-◌, ◌/◌, ◌*◌, ◌<◌, slice_index, length, ◌≤◌, List, Option, Some, None, IsSome, refl, sym, ap, subst, arith, inl, inr, nat_eq, zero-add, Bool, true, false, cond, [], ◌∷◌, rules}
-use Rattle.std.specs.Option.{is_some}
-use Rattle.std.specs.List.{All}
-use Rattle.std.proofs.lemmas.List.Elements.{All-cons, All-head, All-tail}
-use Rattle.std.proofs.lemmas.Bool.{cases_lt}
-use Rattle.std.specs.Map.{remove_entry, lookup, keys_of}
+use Rattle.cdf_pages.proofs.Common.{is_some, All, All-cons, cases_lt, remove_entry, lookup, keys_of, eqb-true, eq-eqb, LruCache, promoted, put_entries, Grown, Owned, RemovesSome, Backed, Shows, byte_of}
+use Rattle.std.proofs.lemmas.List.Elements.{All-head, All-tail}
 use Rattle.std.specs.List.{IsDistinct}
 use Rattle.std.specs.Cmp.{nat_eq_equiv}
-use Rattle.std.proofs.lemmas.Bool.{eqb-true, eq-eqb}
 use Rattle.std.proofs.lemmas.Map.{lookup-remove_entry}
 use Rattle.std.proofs.lemmas.Map.Views.{lookup-from_Contains, Contains-from_lookup}
-use Rattle.lru.specs.LruCache.{LruCache, promoted, put_entries}
 use Rattle.lru.proofs.CallerLemmas.{Contains-promoted, Contains-put_entries}
-use Rattle.cdf_pages.specs.Grown.{Grown, Owned, RemovesSome, removed}
-use Rattle.cdf_pages.specs.Pages.{Backed, Shows, byte_of}
+use Rattle.cdf_pages.specs.Grown.{removed}
 use Rattle.cdf_pages.proofs.Filling.{false_not_true}
 
 pub grown_refl : (file : List ℕ) (n : ℕ) (m : Option ℕ) (p : ℕ → Option (List ℕ)) (k : ℕ → Option (Option (List ℕ))) → Grown file n m p k p k

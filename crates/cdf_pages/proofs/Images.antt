@@ -1,13 +1,12 @@
 -- Images in pages.
 use Rattle.std.proofs.Common.{◌≡◌, ◌∙◌, ◌⊎◌, min, replicate, ℕ, zero, suc, ◌+◌, ◌-◌, ◌*◌, ◌/◌, ◌%◌, ◌<◌, ◌≤◌, List, [], ◌∷◌, ◌++◌, length, take, drop, get_or, slice_index, Option, Some, None, IsSome, refl, sym, ap, ap₂, subst, arith, inl, inr}
-use Rattle.std.proofs.lemmas.List.{same_lists, get_or_default, get_or-take, get_or-drop, length-take, length-drop, length-take-le, length-replicate, take-append-drop, take_at, drop_all, append-nil, replicate-append-replicate}
-use Rattle.std.proofs.lemmas.Bool.{cases_lt}
+use Rattle.cdf_pages.proofs.Common.{get_or-take, get_or-drop, length-take, length-drop, length-take-le, length-replicate, take_at, drop_all, cases_lt, byte-put_before, byte-put_inside, byte-put_after, is_some, byte_from, byte_of, was, Shows}
+use Rattle.std.proofs.lemmas.List.{same_lists, get_or_default, take-append-drop, append-nil, replicate-append-replicate}
 use Rattle.cdf_base.specs.Bytes.{put}
-use Rattle.cdf_base.proofs.Puts.{length-put, byte-put_before, byte-put_inside, byte-put_after, put_more}
+use Rattle.cdf_base.proofs.Puts.{length-put, put_more}
 use lib.Seq.{take-add}
-use Rattle.std.specs.Option.{is_some}
 use Rattle.cdf_pages.proofs.Filling.{false_not_true}
-use Rattle.cdf_pages.specs.Pages.{byte_from, byte_of, listed, image_of, was, Shows}
+use Rattle.cdf_pages.specs.Pages.{listed, image_of}
 
 pub length-listed : (f : ℕ → ℕ) (i n : ℕ) → length (listed f i n) ≡ n
 unfolding listed

@@ -1,14 +1,10 @@
 -- The numbers of the pages in a cache.
 use Rattle.std.proofs.Common.{◌≡◌, ◌∙◌, ◌⊎◌, ℕ, zero, suc, ◌+◌, ◌-◌, ◌<◌, ◌≤◌, Bool, true, false, cond, List, [], ◌∷◌, length, map, take, Option, Some, None, refl, sym, ap, arith, inl, inr, nat_eq, IsSome, slice_get}
-use Rattle.std.specs.Option.{is_some, option_map, option_map_or}
-use Rattle.std.specs.Map.{keys_of, lookup, lookup_entry, remove_entry}
-use Rattle.std.specs.List.{list_any}
-use Rattle.std.proofs.lemmas.Bool.{cases_Bool, eq-eqb, eqb-true}
-use Rattle.std.proofs.lemmas.List.{take_all}
-use Rattle.std.proofs.lemmas.Option.{same_Some}
+use Rattle.cdf_pages.proofs.Common.{is_some, option_map, keys_of, lookup, remove_entry, list_any, cases_Bool, eq-eqb, eqb-true, take_all, same_Some, LruCache, promoted, put_entries}
+use Rattle.std.specs.Option.{option_map_or}
+use Rattle.std.specs.Map.{lookup_entry}
 use Rattle.std.proofs.lemmas.Map.Made.{is_some-lookup}
 use Rattle.std.proofs.lemmas.Map.Entries.{length-keys_of}
-use Rattle.lru.specs.LruCache.{LruCache, promoted, put_entries}
 use Rattle.lru.proofs.CallerLemmas.{Contains-lookup_entry}
 use Rattle.lru.proofs.Pairs.{lookup-lookup_entry}
 use Rattle.cdf_pages.specs.Grown.{removed}

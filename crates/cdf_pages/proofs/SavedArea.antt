@@ -1,15 +1,9 @@
 -- What a save leaves of an area.
 use Rattle.std.proofs.Common.{◌≡◌, ◌∙◌, ◌⊎◌, ℕ, ◌+◌, ◌*◌, ◌/◌, ◌≤◌, ◌<◌, ◌++◌, max, Bool, true, false, not, List, [], length, take, get_or, slice_index, Option, Some, None, Ok, Err, OnOk, Result, refl, sym, ap, subst, arith, nat_eq, append-nil, length-append}
-use Rattle.std.specs.Prelude.{◌||◌, ◌==◌, IsSome, IsErrOf, IsTrue}
-use Rattle.std.specs.Option.{is_some, option_map}
-use Rattle.std.specs.Map.{lookup}
-use Rattle.std.proofs.lemmas.Bool.{eqb-true}
-use Rattle.std.proofs.lemmas.List.{take_all}
+use Rattle.cdf_pages.proofs.Common.{IsSome, IsErrOf, IsTrue, is_some, option_map, lookup, eqb-true, take_all, Fault, NoMemory, Disk, IsWhole, file_of, AllShow, Backed, byte_from, byte_of, image_of, is_in, HasNothingToSave, Holds, IsSavedAlready}
+use Rattle.std.specs.Prelude.{◌||◌, ◌==◌}
 use Rattle.cdf_area.specs.declared.area.AreaError.{AreaError}
-use Rattle.cdf_area.specs.declared.area.AreaError.TheVariants.{Fault, NoMemory}
-use Rattle.cdf_store.specs.Disk.{Disk, IsWhole, file_of}
-use Rattle.cdf_pages.specs.Pages.{AllShow, Backed, byte_from, byte_of, image_of, is_in}
-use Rattle.cdf_pages.specs.Saving.{HasNothingToSave, Holds, IsSavedAlready, is_edited, most_of}
+use Rattle.cdf_pages.specs.Saving.{is_edited, most_of}
 use Rattle.cdf_pages.proofs.Disks.{file_held, holds_first}
 use Rattle.cdf_pages.proofs.Filling.{none_is}
 use Rattle.cdf_pages.proofs.Images.{byte-image, image_file, image_size}

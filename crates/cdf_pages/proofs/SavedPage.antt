@@ -1,14 +1,7 @@
 -- A page is written to the file.
 use Rattle.std.proofs.Common.{◌≡◌, ◌∙◌, min, ℕ, ◌+◌, ◌-◌, ◌*◌, ◌/◌, ◌%◌, ◌<◌, ◌≤◌, max, ◌++◌, List, length, take, slice_index, Option, Some, None, refl, sym, ap, arith, inl, inr}
-use Rattle.std.proofs.lemmas.List.{get_or-take, get_or_append_left, length-take-le, take_at}
 use Rattle.std.proofs.Common.{length-append}
-use Rattle.std.proofs.lemmas.Bool.{cases_Bool, cases_lt}
-use Rattle.std.specs.Prelude.{IsSome, IsTrue}
-use Rattle.std.specs.Option.{is_some}
-use Rattle.cdf_base.specs.Bytes.{put}
-use Rattle.cdf_base.proofs.Puts.{byte-put_before, byte-put_inside, byte-put_after}
-use Rattle.cdf_store.specs.Disk.{Disk, WrittenPart, file_of, written}
-use Rattle.cdf_pages.specs.Pages.{Backed, byte_from, image_of, is_in}
+use Rattle.cdf_pages.proofs.Common.{get_or-take, get_or_append_left, length-take-le, take_at, cases_Bool, cases_lt, IsSome, IsTrue, is_some, put, byte-put_before, byte-put_inside, byte-put_after, Disk, WrittenPart, file_of, written, Backed, byte_from, image_of, is_in}
 use Rattle.cdf_pages.proofs.Filling.{false_not_true, none_is}
 use Rattle.cdf_pages.proofs.Between.{length-written}
 use Rattle.cdf_pages.proofs.Images.{at_page, byte-image, image_file, image_same, length-image, same_or_not}

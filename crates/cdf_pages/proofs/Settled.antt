@@ -1,14 +1,8 @@
 -- A changed page is compared to the file.
 use Rattle.std.proofs.Common.{◌≡◌, ◌∙◌, ◌⊎◌, ℕ, suc, ◌+◌, ◌-◌, ◌*◌, ◌/◌, ◌%◌, ◌<◌, ◌≤◌, true, false, min, List, [], ◌∷◌, length, take, drop, slice_index, Option, Some, None, refl, sym, ap, subst, arith, inl, inr, nat_eq}
-use Rattle.std.specs.Prelude.{IfNone, IfOk, IfSome, IsSome, IsTrue, Ok, Err, if◌then◌else◌, not}
-use Rattle.std.specs.Option.{is_some}
-use Rattle.std.specs.declared.result.Result.{Result}
+use Rattle.cdf_pages.proofs.Common.{IfSome, IsSome, IsTrue, Ok, Err, if◌then◌else◌, not, is_some, Result, cases_Bool, cases_lt, eq-eqb, eqb-true, get_or-take, get_or-drop, take_all, Backed, Shows, TakesAtMost, byte_from, image_of, is_in, Differs, cost_of_writing, page_cost, pages_in}
+use Rattle.std.specs.Prelude.{IfNone, IfOk}
 use Rattle.std.specs.Cmp.Lexicographic.{pointwise}
-use Rattle.std.proofs.lemmas.Bool.{cases_Bool, cases_lt, eq-eqb, eqb-true}
-use Rattle.std.proofs.lemmas.List.{get_or-take, get_or-drop, take_all}
-use Rattle.cdf_pages.specs.Pages.{Backed, Shows, TakesAtMost, byte_from, image_of, is_in}
-use Rattle.cdf_pages.specs.Saving.{Differs}
-use Rattle.cdf_pages.specs.Standing.{cost_of_writing, page_cost, pages_in}
 use Rattle.cdf_pages.proofs.Costs.{takes_then, write_cost_grows, write_cost_next}
 use Rattle.cdf_pages.proofs.Filling.{false_not_true, takes_less}
 use Rattle.cdf_pages.proofs.Images.{at_page, byte-image, image_same, length-image, load_shows, same_or_not}

@@ -1,11 +1,7 @@
 -- Ranges that writes add to the written ones.
 use Rattle.std.proofs.Common.{◌≡◌, ◌∙◌, ◌⊎◌, ℕ, ◌+◌, ◌≤◌, List, [], ◌∷◌, ◌++◌, length, take, Option, Some, None, refl, sym, ap, subst, inl, inr, append_assoc, append-nil}
-use Rattle.std.specs.List.{All}
-use Rattle.std.specs.Option.{option_map}
-use Rattle.std.proofs.lemmas.List.{length-take-le}
-use Rattle.std.proofs.lemmas.List.Elements.{All-append, All-cons, All-nil, All-weaker}
-use Rattle.cdf_store.specs.Disk.{Disk, WrittenPart, written}
-use Rattle.cdf_pages.specs.Saving.{Touches}
+use Rattle.cdf_pages.proofs.Common.{All, option_map, length-take-le, All-cons, Disk, WrittenPart, written, Touches}
+use Rattle.std.proofs.lemmas.List.Elements.{All-append, All-nil, All-weaker}
 
 pub touches_none : (P : ℕ × ℕ → Type 0) (before after : Option (List (ℕ × ℕ))) → after ≡ before → Touches P before after
 touches_none P before after e = record { ranges = []; all = All-nil P; added = e ∙ same before }

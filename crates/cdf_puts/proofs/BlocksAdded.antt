@@ -1,49 +1,16 @@
 -- The blocks of a variable once a leaf is added: its records are put, and the other blocks stay.
 use Rattle.std.proofs.Common.{◌≡◌, ◌≢◌, ◌⊎◌, ℕ, zero, suc, ◌+◌, ◌-◌, ◌*◌, ◌<◌, ◌≤◌, List, [], ◌∷◌, ◌++◌, length, take, drop, Bool, true, false, Some, None, find, ◌||◌, eq-eqb, refl, sym, ap, subst, ◌∙◌, arith, inl, inr}
-use Rattle.std.proofs.lemmas.Bool.{cases_lt, lt-ltb}
-use Rattle.std.proofs.lemmas.Option.{same_Some}
-use Rattle.std.specs.Prelude.{min, max, ◌==◌}
-use Rattle.cdf_model.specs.DataSet.{extent}
-use Rattle.cdf_model.specs.Limits.{record_number_limit}
-use Rattle.cdf_model.specs.declared.kinds.Kind.{Kind}
-use Rattle.cdf_edits.specs.Index.Blocks.{range, covers, first_written, firsts_of, new_range}
-use Rattle.cdf_edits.specs.Index.Grown.{with_leaf, new_room}
-use Rattle.cdf_edits.specs.Index.Written.{is_taken_at}
-use Rattle.cdf_edits.specs.Space.Acts.{Act}
-use Rattle.cdf_edits.proofs.Edits.LeafPieces.{IsOneOf, find_covering, of_each, place_in, plain_piece}
-use Rattle.cdf_edits.proofs.Edits.LeafRecords.{count_is}
-use Rattle.cdf_edits.proofs.Edits.PlainLeaves.{PlainLeaf, plain_leaf, own_rules, leaves_ascend}
-use Rattle.cdf_edits.proofs.Edits.VariableCopied.{block_behind}
-use Rattle.cdf_edits.proofs.Edits.StandsAmong.{StandsAmong, sound, behind_in}
-use Rattle.cdf_edits.proofs.Space.UsedRecords.{apart}
-use Rattle.cdf_format.specs.Bytes.{Same}
-use Rattle.cdf_format.specs.Chains.{is_in}
-use Rattle.cdf_format.specs.Content.{variable_of, plain_bytes}
-use Rattle.cdf_format.specs.Fields.{size_at, type_at}
-use Rattle.cdf_format.specs.Index.{Leaf, leaf, leaves_of}
-use Rattle.cdf_format.specs.RecordTypes.{uir_type, vvr_type}
-use Rattle.cdf_format.specs.Shape.{VariableShape, shape}
-use Rattle.cdf_format.specs.Tiles.{In}
-use Rattle.cdf_format.specs.VariableFields.{max_rec_at, record_bytes}
-use Rattle.cdf_format.specs.WellFormed.{Good}
-use Rattle.cdf_format.proofs.Members.{is_in-false}
-use Rattle.cdf_format.proofs.TilesLemmas.{tile_lies}
-use Rattle.cdf_index.specs.Adding.{LeafAdded, node_acts, leaf_acts}
-use Rattle.cdf_index.specs.Order.{InOrder}
-use Rattle.cdf_puts.specs.SoFar.{BlockRecords, SoFar, BlocksSoFar, OldBlock, NewBlock, put_count}
-use Rattle.cdf_puts.specs.Steps.{IsVacant, IsBlockBody, BlocksGoOn}
+use Rattle.cdf_puts.proofs.Common.{cases_lt, lt-ltb, same_Some, min, max, ◌==◌, extent, record_number_limit, Kind, range, covers, first_written, firsts_of, new_range, with_leaf, new_room, is_taken_at, Act, IsOneOf, find_covering, place_in, plain_piece, count_is, PlainLeaf, plain_leaf, own_rules, leaves_ascend, block_behind, StandsAmong, sound, behind_in, apart, Same, is_in, variable_of, plain_bytes, size_at, type_at, Leaf, leaf, leaves_of, uir_type, vvr_type, VariableShape, shape, In, max_rec_at, record_bytes, Good, is_in-false, tile_lies, LeafAdded, node_acts, leaf_acts, InOrder, BlockRecords, SoFar, BlocksSoFar, OldBlock, NewBlock, put_count, IsVacant, IsBlockBody, BlocksGoOn, index_order, before_limit, vdr_alike, record_alike}
+use Rattle.cdf_edits.proofs.Edits.LeafPieces.{of_each}
 use Rattle.cdf_puts.proofs.CoveringRanges.{one_alone}
 use Rattle.cdf_puts.proofs.GoesAlike.{later_size, later_packed}
 use Rattle.cdf_puts.proofs.LeafBlocks.{blocks_go_on}
 use Rattle.cdf_puts.proofs.LeafCounts.{leaf_added, leaf_stays, leaf_was_there}
 use Rattle.cdf_puts.proofs.LeafEdit.{new_nodes}
-use Rattle.cdf_index.proofs.LeafRules.{index_order, before_limit}
-use Rattle.cdf_edits.proofs.Edits.IndexEdited.{vdr_alike}
 use Rattle.cdf_puts.proofs.LeafSplices.{file, index_edit, new_fresh}
 use Rattle.cdf_puts.proofs.LeafBlocks.{plain_body}
 use Rattle.cdf_puts.proofs.PutBytes.{old_size, old_stays, new_stays}
 use Rattle.cdf_puts.proofs.PutNodes.{taken_first, taken_then, taken_neither}
-use Rattle.cdf_edits.proofs.Frame.VdrAlike.{record_alike}
 
 through : (x y z : ℕ) → x ≤ y → y ≤ z → x ≤ z
 through x y z p q = omega arith

@@ -1,29 +1,8 @@
 -- The blocks of a variable once one more record is written: the record holds its bytes, and no other byte changes.
 use Rattle.std.proofs.Common.{◌≡◌, ◌≢◌, ◌⊎◌, ℕ, suc, ◌+◌, ◌-◌, ◌*◌, ◌<◌, ◌≤◌, List, [], ◌∷◌, ◌++◌, length, take, drop, refl, sym, ap, subst, ◌∙◌, arith, inl, inr}
-use Rattle.std.proofs.lemmas.Bool.{cases_eq, cases_lt}
-use Rattle.std.proofs.lemmas.Option.{same_Some}
-use Rattle.std.proofs.lemmas.List.{length-take, take_at, drop_at}
+use Rattle.cdf_puts.proofs.Common.{cases_eq, cases_lt, same_Some, length-take, take_at, drop_at, extent, record_number_limit, Kind, Outside, range, covers, first_written, Act, IsOneOf, find_covering, covers_within, place_in, record_place, PlainLeaf, plain_leaf, leaves_ascend, leaves_apart, block_behind, sound, behind_in, byte, Same, variable_of, size_at, Leaf, leaves_of, VariableShape, shape, max_rec_at, record_bytes, byte-put_before, byte-put_after, tile_lies, SoFar, BlocksSoFar, OldBlock, NewBlock, record_of, put_count, put_from, put_touches, RecordWritten}
 use Rattle.cdf_base.specs.Bytes.{put}
-use Rattle.cdf_model.specs.DataSet.{extent}
-use Rattle.cdf_model.specs.Limits.{record_number_limit}
-use Rattle.cdf_model.specs.declared.kinds.Kind.{Kind}
-use Rattle.cdf_edits.specs.Frame.Changed.{Outside}
-use Rattle.cdf_edits.specs.Index.Blocks.{range, covers, first_written}
-use Rattle.cdf_edits.specs.Space.Acts.{Act}
-use Rattle.cdf_edits.proofs.Edits.LeafPieces.{IsOneOf, find_covering, found_in, covers_within, place_in, one_place, record_place}
-use Rattle.cdf_edits.proofs.Edits.PlainLeaves.{PlainLeaf, plain_leaf, leaves_ascend, leaves_apart}
-use Rattle.cdf_edits.proofs.Edits.VariableCopied.{block_behind}
-use Rattle.cdf_edits.proofs.Edits.StandsAmong.{sound, behind_in}
-use Rattle.cdf_format.specs.Bytes.{byte, Same}
-use Rattle.cdf_format.specs.Content.{variable_of}
-use Rattle.cdf_format.specs.Fields.{size_at}
-use Rattle.cdf_format.specs.Index.{Leaf, leaves_of}
-use Rattle.cdf_format.specs.Shape.{VariableShape, shape}
-use Rattle.cdf_format.specs.VariableFields.{max_rec_at, record_bytes}
-use Rattle.cdf_format.proofs.BytesLemmas.{byte-put_before, byte-put_after}
-use Rattle.cdf_format.proofs.TilesLemmas.{tile_lies}
-use Rattle.cdf_puts.specs.SoFar.{SoFar, BlocksSoFar, OldBlock, NewBlock, record_of, put_count, put_from, put_touches}
-use Rattle.cdf_puts.specs.Steps.{RecordWritten}
+use Rattle.cdf_edits.proofs.Edits.LeafPieces.{found_in, one_place}
 use Rattle.cdf_puts.proofs.GoesAlike.{later_size, later_packed}
 use Rattle.cdf_puts.proofs.PutBytes.{starts_before, ends_behind, grows_by, BlockWritten, old_size, old_stays, old_written, new_stays}
 use Rattle.cdf_puts.proofs.WrittenGoes.{record_fits, other_blocks, long_now}

@@ -1,19 +1,11 @@
 -- How a put covers its records, one after the other, and that its room is enough for it.
 use Rattle.std.proofs.Common.{◌≡◌, ◌⊎◌, ℕ, suc, ◌+◌, ◌-◌, ◌*◌, ◌<◌, ◌≤◌, List, false, Some, None, ltb, min, max, refl, sym, ap, subst, ◌∙◌, arith, inl, inr}
-use Rattle.std.specs.Prelude.{find}
-use Rattle.cdf_model.specs.DataSet.{Variable, extent}
-use Rattle.cdf_model.specs.Limits.{record_number_limit}
-use Rattle.cdf_format.specs.Index.{Nodes, Leaf, leaf, leaves_of}
-use Rattle.cdf_format.proofs.Members.{either}
-use Rattle.cdf_edits.specs.Commands.Room.{entries_in, widest, vxr_bytes, uncovered, put_room}
-use Rattle.cdf_edits.specs.Index.Blocks.{Range, range, ranges_of, covers, covered, record_length, block_count, firsts_of, next_first, new_range, with_range, cover, is_sparse, first_written, ranges_after_put}
-use Rattle.cdf_edits.specs.Index.Grown.{with_leaf, new_room}
-use Rattle.cdf_edits.proofs.Edits.LeafPieces.{found_in, find_covering, covers_within, times_le}
-use Rattle.cdf_edits.proofs.Edits.LeafRecords.{Ascending}
-use Rattle.cdf_index.specs.Order.{InOrder}
-use Rattle.cdf_index.proofs.LeafMore.{leaves_more, ranges_new}
-use Rattle.cdf_index.proofs.OrderLemmas.{lt_of, ge_of}
-use Rattle.cdf_puts.specs.Covering.{new_last, block_bytes, node_bytes, count_upto, Counted, Covering}
+use Rattle.cdf_puts.proofs.Common.{find, Variable, extent, record_number_limit, Nodes, Leaf, leaf, leaves_of, either, widest, vxr_bytes, uncovered, put_room, Range, range, ranges_of, covers, covered, record_length, block_count, firsts_of, next_first, new_range, with_range, is_sparse, first_written, ranges_after_put, with_leaf, new_room, find_covering, covers_within, times_le, Ascending, InOrder, leaves_more, lt_of, ge_of, new_last, block_bytes, node_bytes, count_upto, Covering}
+use Rattle.cdf_edits.specs.Commands.Room.{entries_in}
+use Rattle.cdf_edits.specs.Index.Blocks.{cover}
+use Rattle.cdf_edits.proofs.Edits.LeafPieces.{found_in}
+use Rattle.cdf_index.proofs.LeafMore.{ranges_new}
+use Rattle.cdf_puts.specs.Covering.{Counted}
 use Rattle.cdf_puts.proofs.CoveringRanges.{of_leaves, leaves_ascend, range_found, no_range, one_at_least, next_upto, one_alone, full_or_next, next_past, new_is, new_by_next, Ends, ends, next_record, next_vacant, all_done, covered_with, covered_less}
 use Rattle.cdf_puts.proofs.LeafCounts.{Roomy, widest_with_leaf, new_room_widest}
 use Rattle.cdf_puts.proofs.LeafFirsts.{next_firsts_with_leaf}

@@ -1,21 +1,12 @@
 -- Records that get a block one after the other, by their ranges: that a step more changes nothing, and how many are covered.
 use Rattle.std.proofs.Common.{◌≡◌, ◌⊎◌, ℕ, zero, suc, ◌+◌, ◌-◌, ◌<◌, ◌≤◌, List, [], ◌∷◌, ◌++◌, map, Bool, true, false, ltb, leb, min, max, Option, Some, None, refl, sym, ap, ◌∙◌, arith, inl, inr}
-use Rattle.std.proofs.lemmas.Bool.Decides.{nat_tests}
+use Rattle.cdf_puts.proofs.Common.{nat_tests, same_Some, find, ◌&&◌, if◌then◌else◌, filter, fold, option_map, Variable, extent, record_number_limit, Nodes, no_node, node, Entries, no_entry, block, lower, Leaf, either, both, le_of, Range, range, covers, shared, covered, block_count, next_first, new_range, with_range, Ascending, past_entries, lt_of, ge_of}
 use Rattle.std.proofs.lemmas.List.Sums.{sum_by-cons}
-use Rattle.std.proofs.lemmas.Option.{same_Some}
-use Rattle.std.specs.Prelude.{find, ◌&&◌, if◌then◌else◌}
-use Rattle.std.specs.List.{filter, fold}
-use Rattle.std.specs.Option.{option_map}
-use Rattle.cdf_model.specs.DataSet.{Variable, extent}
-use Rattle.cdf_model.specs.Limits.{record_number_limit}
-use Rattle.cdf_format.specs.Index.{Nodes, no_node, node, Entries, no_entry, block, lower, Leaf, leaves_of, entry_leaves}
-use Rattle.cdf_format.proofs.Members.{either}
-use Rattle.cdf_format.proofs.Tests.{both, le_of}
-use Rattle.cdf_edits.specs.Index.Blocks.{Range, range, covers, shared, covered, block_count, next_first, new_range, with_range, cover}
-use Rattle.cdf_edits.proofs.Edits.LeafRecords.{Ascending}
+use Rattle.cdf_format.specs.Index.{leaves_of, entry_leaves}
+use Rattle.cdf_edits.specs.Index.Blocks.{cover}
 use Rattle.cdf_edits.proofs.Edits.LeavesOrder.{ascending_from, ascending_both}
-use Rattle.cdf_index.specs.Order.{past_entries, InOrder, AreInOrder}
-use Rattle.cdf_index.proofs.OrderLemmas.{lt_of, ge_of, end_after}
+use Rattle.cdf_index.specs.Order.{InOrder, AreInOrder}
+use Rattle.cdf_index.proofs.OrderLemmas.{end_after}
 
 abbrev pub of_leaves : List Leaf → List Range
 of_leaves leaves = map (λ (leaf : Leaf). range leaf.first leaf.last) leaves

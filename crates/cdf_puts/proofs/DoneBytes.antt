@@ -1,28 +1,8 @@
 -- All records are put: the bytes of the blocks, as the command says, and what is stored as each record.
 use Rattle.std.proofs.Common.{◌≡◌, ◌≢◌, ◌⊎◌, ℕ, suc, ◌+◌, ◌-◌, ◌*◌, ◌<◌, ◌≤◌, List, length, take, drop, false, Option, Some, None, find, eq-eqb, refl, sym, ap, subst, ◌∙◌, arith, inl, inr}
-use Rattle.std.proofs.lemmas.Bool.{cases_lt, ne_eqb}
-use Rattle.std.specs.Option.{option_map}
-use Rattle.std.specs.Prelude.{min, if◌then◌else◌}
-use Rattle.cdf_model.specs.declared.kinds.Kind.{Kind}
-use Rattle.cdf_model.specs.declared.kinds.Sparse.{Sparse}
-use Rattle.cdf_model.specs.DataSet.{Variable, extent}
-use Rattle.cdf_model.specs.Limits.{record_number_limit}
-use Rattle.cdf_edits.specs.Index.Blocks.{range, covers, first_written, is_sparse}
-use Rattle.cdf_edits.specs.Index.Written.{stored_bytes}
-use Rattle.cdf_edits.specs.Space.Acts.{Act}
-use Rattle.cdf_edits.proofs.Edits.LeafPieces.{IsOneOf, find_covering, found_in, covers_within, place_in, record_place, plain_piece, unwritten_apart}
-use Rattle.cdf_edits.proofs.Edits.PlainLeaves.{PlainLeaf, plain_leaf, leaves_ascend}
-use Rattle.cdf_edits.proofs.Edits.VariableCopied.{block_behind}
-use Rattle.cdf_edits.proofs.Edits.StandsAmong.{sound, long, behind_in}
-use Rattle.cdf_format.specs.Bytes.{byte, Same}
-use Rattle.cdf_format.specs.Content.{variable_of}
-use Rattle.cdf_format.specs.Fields.{size_at, has_bit}
-use Rattle.cdf_format.specs.Index.{Leaf, leaves_of}
-use Rattle.cdf_format.specs.Shape.{VariableShape, is_compressed, shape}
-use Rattle.cdf_format.specs.VariableFields.{record_bytes, max_rec_at}
-use Rattle.cdf_format.proofs.BytesLemmas.{word_kept, piece_kept}
-use Rattle.cdf_format.proofs.TilesLemmas.{tile_lies}
-use Rattle.cdf_puts.specs.SoFar.{MaxRecDone, SoFar, OldBlock, NewBlock, record_of, put_from, put_count}
+use Rattle.cdf_puts.proofs.Common.{cases_lt, ne_eqb, option_map, min, if◌then◌else◌, Kind, Sparse, Variable, extent, record_number_limit, range, covers, first_written, is_sparse, stored_bytes, Act, IsOneOf, find_covering, covers_within, place_in, record_place, plain_piece, PlainLeaf, plain_leaf, leaves_ascend, block_behind, sound, long, behind_in, byte, Same, variable_of, size_at, Leaf, leaves_of, VariableShape, is_compressed, shape, record_bytes, max_rec_at, word_kept, piece_kept, tile_lies, MaxRecDone, SoFar, OldBlock, NewBlock, record_of, put_from, put_count}
+use Rattle.cdf_edits.proofs.Edits.LeafPieces.{found_in, unwritten_apart}
+use Rattle.cdf_format.specs.Fields.{has_bit}
 use Rattle.cdf_puts.proofs.DoneIndex.{last_size}
 use Rattle.cdf_puts.proofs.GoesAlike.{later_size, later_packed}
 use Rattle.cdf_puts.proofs.LastImage.{LastImage, last_image, has_put}

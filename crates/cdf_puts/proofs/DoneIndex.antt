@@ -1,29 +1,9 @@
 -- All records are put: the index and what was taken for it, as the command says.
 use Rattle.std.proofs.Common.{◌≡◌, ℕ, ◌+◌, List, [], ◌∷◌, ◌++◌, append-nil, Bool, true, false, not, ◌&&◌, bytes_eq, refl, sym, ap, subst, ◌∙◌, arith, inl, inr}
-use Rattle.std.specs.List.{filter, list_any}
-use Rattle.std.specs.Prelude.{nat_lt, if◌then◌else◌}
-use Rattle.cdf_model.specs.declared.kinds.Kind.{Kind}
-use Rattle.cdf_model.specs.declared.kinds.Sparse.{Sparse}
-use Rattle.cdf_model.specs.DataSet.{Variable, extent}
-use Rattle.cdf_edits.specs.Commands.Puts.{CutsFirst, PutsIndex, PutsLeaves, is_written}
-use Rattle.cdf_edits.specs.Index.Blocks.{is_sparse, ranges_of, cuts_before_put, ranges_after_put}
-use Rattle.cdf_edits.specs.Index.Written.{is_taken_at, top_chain, last_node, top_stays, TailFollows}
-use Rattle.cdf_edits.specs.Space.Acts.{Act}
-use Rattle.cdf_edits.proofs.Edits.VariableCopied.{node_behind}
-use Rattle.cdf_edits.proofs.Edits.StandsAmong.{fits}
-use Rattle.cdf_edits.proofs.Frame.OwnerAlone.{Each-in}
-use Rattle.cdf_format.specs.Content.{variable_of}
-use Rattle.cdf_format.specs.Fields.{number}
-use Rattle.cdf_format.specs.Index.{Nodes, no_node, node, Leaf, nodes_of, lower_nodes, leaves_of}
-use Rattle.cdf_format.specs.Records.{vdr_vxr_tail}
-use Rattle.cdf_format.specs.Shape.{VariableShape}
-use Rattle.cdf_format.specs.Sound.{NodeFits}
-use Rattle.cdf_format.specs.Tiles.{In}
-use Rattle.cdf_format.specs.VariableFields.{record_bytes}
-use Rattle.cdf_format.proofs.Members.{In-append_right}
-use Rattle.cdf_format.proofs.NameRules.{bytes_eq-same}
-use Rattle.cdf_format.proofs.Tests.{same_of_bytes_eq}
-use Rattle.cdf_puts.specs.SoFar.{MaxRecDone, SoFar, NodesSoFar}
+use Rattle.cdf_puts.proofs.Common.{filter, list_any, nat_lt, if◌then◌else◌, Kind, Sparse, Variable, extent, PutsLeaves, is_sparse, ranges_of, cuts_before_put, ranges_after_put, is_taken_at, top_chain, last_node, Act, node_behind, fits, Each-in, variable_of, number, Nodes, no_node, node, Leaf, leaves_of, vdr_vxr_tail, VariableShape, NodeFits, In, record_bytes, In-append_right, bytes_eq-same, same_of_bytes_eq, MaxRecDone, SoFar, NodesSoFar}
+use Rattle.cdf_edits.specs.Commands.Puts.{CutsFirst, PutsIndex, is_written}
+use Rattle.cdf_edits.specs.Index.Written.{top_stays, TailFollows}
+use Rattle.cdf_format.specs.Index.{nodes_of, lower_nodes}
 use Rattle.cdf_puts.proofs.Covering.{covering_done}
 use Rattle.cdf_puts.proofs.IndexWritten.{nodes_still}
 use Rattle.cdf_puts.proofs.LastImage.{last_image, has_put}

@@ -1,35 +1,14 @@
 -- All records are put: the bytes of the blocks follow the command.
 use Rattle.std.proofs.Common.{◌≡◌, ◌⊎◌, ℕ, zero, suc, ◌+◌, ◌-◌, ◌*◌, ◌<◌, ◌≤◌, List, [], ◌∷◌, ◌++◌, length, take, drop, map, Bool, true, false, Some, find, true≢false, take-append-drop, refl, sym, ap, subst, ◌∙◌, arith, inl, inr}
-use Rattle.std.proofs.lemmas.Bool.{cases_lt, ne_eqb}
-use Rattle.std.proofs.lemmas.List.{length-take, length-drop, drop-drop}
-use Rattle.std.specs.List.{list_any, repeat}
-use Rattle.std.specs.Prelude.{min, max, ◌==◌, if◌then◌else◌}
-use Rattle.cdf_model.specs.declared.kinds.Kind.{Kind}
-use Rattle.cdf_model.specs.ByteOrder.{turned}
-use Rattle.cdf_model.specs.DataSet.{Variable, extent}
-use Rattle.cdf_model.specs.Limits.{record_number_limit}
-use Rattle.cdf_model.specs.Reading.{pad_record}
-use Rattle.cdf_edits.specs.Commands.Allowances.{r_max_rec_field}
-use Rattle.cdf_edits.specs.Commands.Puts.{PutsBytes, StaysUnwritten, UnwrittenStay, HoldsPads, is_changed, was_leaf, written_in, max_rec_touches, stays_in_place, stored_in}
-use Rattle.cdf_edits.specs.Commands.Room.{uncovered, put_room, blocks_room, packed_room}
-use Rattle.cdf_edits.specs.Frame.Changed.{Touch, touched_field, Outside, Changed}
-use Rattle.cdf_edits.specs.Index.Blocks.{range, covers, ranges_of, ranges_before_put, first_written, cut_open, is_sparse}
-use Rattle.cdf_edits.specs.Index.Written.{is_taken_at, block_end, stored_bytes, SpareIs, ReservedIs, BlockFollows}
-use Rattle.cdf_edits.specs.Space.Acts.{Act, space_before}
-use Rattle.cdf_edits.proofs.Edits.LeafPieces.{IsOneOf, each_of, plain_piece, times_le, written_fits}
-use Rattle.cdf_edits.proofs.Edits.LeafRecords.{count_is}
+use Rattle.cdf_puts.proofs.Common.{cases_lt, ne_eqb, length-take, length-drop, drop-drop, list_any, min, max, ◌==◌, if◌then◌else◌, Kind, turned, Variable, extent, record_number_limit, pad_record, r_max_rec_field, max_rec_touches, uncovered, put_room, blocks_room, packed_room, Touch, Outside, Changed, range, covers, ranges_of, ranges_before_put, first_written, is_sparse, is_taken_at, stored_bytes, Act, space_before, IsOneOf, each_of, plain_piece, times_le, count_is, byte, variable_of, plain_bytes, size_at, Leaf, leaves_of, vdr_max_rec, VariableShape, is_little, record_bytes, records_of_leaf, type_of_variable, max_rec_at, either, both, MaxRecDone, SoFar, NewBlock, record_of, put_from, put_count, put_touches, taken_bytes}
+use Rattle.std.specs.List.{repeat}
+use Rattle.cdf_edits.specs.Commands.Puts.{PutsBytes, StaysUnwritten, UnwrittenStay, HoldsPads, is_changed, was_leaf, written_in, stays_in_place, stored_in}
+use Rattle.cdf_edits.specs.Frame.Changed.{touched_field}
+use Rattle.cdf_edits.specs.Index.Blocks.{cut_open}
+use Rattle.cdf_edits.specs.Index.Written.{block_end, SpareIs, ReservedIs, BlockFollows}
+use Rattle.cdf_edits.proofs.Edits.LeafPieces.{written_fits}
 use Rattle.cdf_edits.proofs.Frame.ChangedBytes.{changed_then}
-use Rattle.cdf_format.specs.Bytes.{byte}
-use Rattle.cdf_format.specs.Content.{variable_of, plain_bytes}
-use Rattle.cdf_format.specs.Fields.{size_at}
-use Rattle.cdf_format.specs.Index.{Leaf, leaves_of}
-use Rattle.cdf_format.specs.Records.{vdr_max_rec}
-use Rattle.cdf_format.specs.Shape.{VariableShape}
-use Rattle.cdf_format.specs.Stored.{is_little}
-use Rattle.cdf_format.specs.VariableFields.{record_bytes, records_of_leaf, type_of_variable, max_rec_at}
-use Rattle.cdf_format.proofs.Members.{either}
-use Rattle.cdf_format.proofs.Tests.{both, eq_of}
-use Rattle.cdf_puts.specs.SoFar.{MaxRecDone, SoFar, NewBlock, record_of, put_from, put_count, put_touches, taken_bytes}
+use Rattle.cdf_format.proofs.Tests.{eq_of}
 use Rattle.cdf_puts.proofs.Covering.{covering_total}
 use Rattle.cdf_puts.proofs.DoneBytes.{old_plain, last_plain, inside_last, last_old, last_new, stored_same}
 use Rattle.cdf_puts.proofs.DoneIndex.{uncut, last_size}

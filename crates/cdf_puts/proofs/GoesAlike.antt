@@ -1,17 +1,7 @@
 -- Where one image goes on to another, the descriptor of the variable says as much of it as before, but for MaxRec and its index.
 use Rattle.std.proofs.Common.{◌≡◌, ℕ, ◌+◌, List, length, ap, ◌∙◌, arith}
-use Rattle.cdf_model.specs.declared.kinds.Kind.{Kind}
-use Rattle.cdf_edits.proofs.Edits.StandsAmong.{StandsAmong, sound, tile, fits}
-use Rattle.cdf_edits.proofs.Frame.Meaning.{FileSame}
-use Rattle.cdf_edits.proofs.Frame.VdrAlike.{record_alike}
-use Rattle.cdf_edits.proofs.Frame.VdrStays.{VdrStays, stays_alike, packed_stays}
-use Rattle.cdf_edits.specs.Space.Acts.{Act}
-use Rattle.cdf_format.specs.Shape.{VariableShape, is_compressed, shape}
-use Rattle.cdf_format.specs.VariableFields.{record_bytes}
-use Rattle.cdf_format.specs.WellFormed.{Good}
-use Rattle.cdf_format.proofs.BytesLemmas.{Same-part}
-use Rattle.cdf_format.proofs.TilesLemmas.{tile_lies}
-use Rattle.cdf_puts.specs.Going.{DescriptorStays, GoesOn}
+use Rattle.cdf_puts.proofs.Common.{Kind, StandsAmong, sound, tile, fits, FileSame, record_alike, stays_alike, Act, VariableShape, is_compressed, shape, record_bytes, Good, Same-part, tile_lies, DescriptorStays, GoesOn}
+use Rattle.cdf_edits.proofs.Frame.VdrStays.{VdrStays, packed_stays}
 
 -- the descriptor stays where all but MaxRec, VXRhead and VXRtail of it does
 pub stays : {b now : List ℕ} {kind : Kind} {before : List VariableShape} {own : VariableShape} {after : List VariableShape} → Good b → StandsAmong b kind before own after → DescriptorStays b now own.vdr → VdrStays b now own.vdr

@@ -1,51 +1,14 @@
 -- One image goes on to another and that one to a third, and so the first goes on to the third.
 use Rattle.std.proofs.Common.{◌≡◌, ℕ, ◌+◌, ◌<◌, List, [], ◌∷◌, ◌++◌, length, map, Bool, false, refl, sym, ap, subst, ◌∙◌, arith, inl, inr}
-use Rattle.std.proofs.lemmas.Bool.{eq-eqb, eqb-true}
-use Rattle.std.proofs.lemmas.List.{length-map, map-append, set_at}
-use Rattle.std.specs.Int.{w32, cast_signed}
-use Rattle.std.specs.List.{flat_map, list_any}
-use Rattle.std.specs.Prelude.{slice_set, ◌==◌, ◌&&◌, nat_le, nat_lt, if◌then◌else◌}
-use Rattle.cdf_edits.proofs.Edits.InRecords.{places_of}
-use Rattle.cdf_edits.proofs.Edits.LeafPieces.{IsOneOf, leaf_at}
+use Rattle.cdf_puts.proofs.Common.{eq-eqb, eqb-true, length-map, map-append, set_at, w32, cast_signed, flat_map, list_any, slice_set, ◌==◌, ◌&&◌, nat_le, nat_lt, if◌then◌else◌, places_of, IsOneOf, other_kind, variables_of_are, StandsAmong, long, FileSame, AllKeep, shapes_of, Allowance, Anything, Only, Keeps, Stays, OutsideFields, anything_if, is_taken, r_max_rec_field, space_fields, unused_allowance, is_rewritten, Range, range, Act, ActsFollow, taken, word_kept, linkable-in, linkable-type, good_is_sound, either, false-is_in, is_in-false, true-is_in, is_in-true, In-append, content_is, tile_lies, is_in, content, variable_of, number, size_at, type_at, Leaf, nodes_of, leaves_of, owned, attribute_records, variable_records, unused_records, Field, uir_next_uir, uir_prev_uir, vdr_max_rec, vdr_vxr_head, vdr_vxr_tail, uir_type, AttributeShape, VariableShape, shape, IsSound, In, max_rec_at, sparse_at, Good, DataSet, Variable, variables_of, with_variables, Kind, R, Z, NoRule, DescriptorStays, GoesOn, found_in, put_changes, r_max_rec, ListedStay, acts_joined, OnlyTakes, none_of_both}
+use Rattle.cdf_edits.proofs.Edits.LeafPieces.{leaf_at}
 use Rattle.cdf_edits.proofs.Edits.VariableKeeps.{stays_then, type_stays}
-use Rattle.cdf_edits.proofs.Edits.VariableKinds.{other_kind, variables_of_are}
-use Rattle.cdf_edits.proofs.Edits.StandsAmong.{StandsAmong, long}
-use Rattle.cdf_edits.proofs.Frame.Meaning.{FileSame}
 use Rattle.cdf_edits.proofs.Frame.OwnersApart.{unused_in}
 use Rattle.cdf_edits.proofs.Space.UsedRecords.{filter-says}
-use Rattle.cdf_edits.specs.Commands.Allowances.{AllKeep, shapes_of, Allowance, Anything, Only, Keeps, Stays, OutsideFields, anything_if, is_taken, r_max_rec_field, space_fields, unused_allowance}
-use Rattle.cdf_edits.specs.Commands.Room.{is_rewritten}
-use Rattle.cdf_edits.specs.Index.Blocks.{Range, range}
-use Rattle.cdf_edits.specs.Space.Acts.{Act, ActsFollow, taken}
-use Rattle.cdf_format.proofs.BytesLemmas.{word_kept}
-use Rattle.cdf_format.proofs.ChainsLemmas.{linkable-in, linkable-type}
-use Rattle.cdf_format.proofs.GoodSound.{good_is_sound}
-use Rattle.cdf_format.proofs.Members.{either, false-is_in, is_in-false, true-is_in, is_in-true, In-append}
-use Rattle.cdf_format.proofs.ShapeLemmas.{content_is}
 use Rattle.cdf_format.proofs.SpaceLemmas.{in-filter}
-use Rattle.cdf_format.proofs.TilesLemmas.{tile_lies}
-use Rattle.cdf_format.specs.Chains.{is_in}
-use Rattle.cdf_format.specs.Content.{content, variable_of}
-use Rattle.cdf_format.specs.Fields.{number, size_at, type_at}
-use Rattle.cdf_format.specs.Index.{Leaf, nodes_of, leaves_of}
-use Rattle.cdf_format.specs.Owners.{owned, attribute_records, variable_records, unused_records}
-use Rattle.cdf_format.specs.Records.{Field, uir_next_uir, uir_prev_uir, vdr_max_rec, vdr_s_records, vdr_vxr_head, vdr_vxr_tail}
-use Rattle.cdf_format.specs.RecordTypes.{uir_type}
-use Rattle.cdf_format.specs.Shape.{AttributeShape, VariableShape, shape}
-use Rattle.cdf_format.specs.Sound.{IsSound}
-use Rattle.cdf_format.specs.Tiles.{In}
-use Rattle.cdf_format.specs.VariableFields.{max_rec_at, sparse_at}
-use Rattle.cdf_format.specs.WellFormed.{Good}
-use Rattle.cdf_model.specs.DataSet.{DataSet, Variable}
-use Rattle.cdf_model.specs.Names.{variables_of, with_variables}
-use Rattle.cdf_model.specs.declared.kinds.Kind.{Kind}
-use Rattle.cdf_model.specs.declared.kinds.Kind.TheVariants.{R, Z}
-use Rattle.cdf_model.specs.declared.kinds.Sparse.TheVariants.{NoRule, Pad, Previous}
-use Rattle.cdf_puts.specs.Going.{DescriptorStays, GoesOn, found_in}
-use Rattle.cdf_edits.specs.Commands.Puts.{put_changes}
-use Rattle.cdf_edits.specs.Commands.GreatestRecord.{r_max_rec}
-use Rattle.cdf_edits.proofs.Edits.ActsJoined.{ListedStay, acts_joined, listed_before}
-use Rattle.cdf_edits.proofs.Edits.OnlyTaken.{OnlyTakes, none_of_both}
+use Rattle.cdf_format.specs.Records.{vdr_s_records}
+use Rattle.cdf_model.specs.declared.kinds.Sparse.TheVariants.{Pad, Previous}
+use Rattle.cdf_edits.proofs.Edits.ActsJoined.{listed_before}
 use Rattle.cdf_puts.proofs.OwnAllowed.{own_may, descriptor_allowed, node_allowed, parameters_allowed, block_allowed}
 use Rattle.cdf_puts.proofs.PutKeeps.{PutKeeps, all_kept, put_keeps}
 

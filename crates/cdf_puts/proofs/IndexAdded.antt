@@ -1,40 +1,11 @@
 -- The index once a leaf is added: which leaves were put by then, which ranges are new, the top chain and the nodes.
 use Rattle.std.proofs.Common.{◌≡◌, ◌⊎◌, ℕ, zero, suc, ◌+◌, ◌*◌, ◌<◌, ◌≤◌, List, [], ◌∷◌, ◌++◌, length, map, Bool, true, false, not, ◌||◌, None, bytes_eq, refl, sym, ap, subst, ◌∙◌, arith, inl, inr}
-use Rattle.std.proofs.lemmas.Bool.{cases_lt, lt-ltb, le-ltb, lt-leb}
-use Rattle.std.specs.List.{filter, list_any, last_or}
-use Rattle.std.specs.Option.{unwrap_or}
-use Rattle.std.specs.Prelude.{min, max, nat_le, if◌then◌else◌}
-use Rattle.cdf_model.specs.DataSet.{extent}
-use Rattle.cdf_model.specs.Limits.{record_number_limit}
-use Rattle.cdf_model.specs.declared.kinds.Kind.{Kind}
-use Rattle.cdf_edits.specs.Commands.Puts.{new_ranges}
-use Rattle.cdf_edits.specs.Index.Blocks.{Range, range, covers, ranges_of, first_written, firsts_of, new_range}
-use Rattle.cdf_edits.specs.Index.Grown.{with_leaf, new_room, with_ranges, indexes_with, outline}
-use Rattle.cdf_edits.specs.Index.Written.{is_taken_at, block_need, uses_entry, NodesFollow, top_chain, last_node}
-use Rattle.cdf_edits.specs.Space.Acts.{Act}
-use Rattle.cdf_edits.proofs.Edits.LeafPieces.{IsOneOf, in_order}
-use Rattle.cdf_edits.proofs.Edits.LeafRecords.{Ascending, count_is}
-use Rattle.cdf_edits.proofs.Edits.PlainLeaves.{leaves_ascend}
-use Rattle.cdf_edits.proofs.Edits.StandsAmong.{StandsAmong, sound, has}
-use Rattle.cdf_format.specs.Content.{variable_of}
-use Rattle.cdf_format.specs.Fields.{number}
-use Rattle.cdf_format.specs.Index.{Leaf, leaf, leaves_of, nodes_of}
-use Rattle.cdf_format.specs.Records.{vdr_vxr_tail}
-use Rattle.cdf_format.specs.Shape.{VariableShape, shape}
-use Rattle.cdf_format.specs.Tiles.{In}
-use Rattle.cdf_format.specs.VariableFields.{max_rec_at, record_bytes, records_of_leaf}
-use Rattle.cdf_format.specs.WellFormed.{Good}
-use Rattle.cdf_format.proofs.Members.{either}
-use Rattle.cdf_format.proofs.TilesLemmas.{tile_lies}
-use Rattle.cdf_index.specs.Adding.{LeafAdded, NodeTaken, leaf_acts}
-use Rattle.cdf_index.specs.Growing.{with_new}
-use Rattle.cdf_index.proofs.LeafMore.{leaves_more}
-use Rattle.cdf_puts.specs.SoFar.{BlockRecords, SoFar, IndexSoFar, NodesSoFar, NewBlock, PutsBefore, TopGrows, was_put, taken_places}
-use Rattle.cdf_puts.specs.Steps.{IsVacant, IsBlockBody}
+use Rattle.cdf_puts.proofs.Common.{cases_lt, lt-ltb, le-ltb, lt-leb, filter, list_any, unwrap_or, min, max, nat_le, if◌then◌else◌, extent, record_number_limit, Kind, new_ranges, Range, range, covers, ranges_of, first_written, firsts_of, new_range, with_leaf, new_room, with_ranges, indexes_with, outline, is_taken_at, block_need, uses_entry, NodesFollow, top_chain, last_node, Act, IsOneOf, in_order, Ascending, count_is, leaves_ascend, StandsAmong, sound, has, variable_of, number, Leaf, leaf, leaves_of, nodes_of, vdr_vxr_tail, VariableShape, shape, In, max_rec_at, record_bytes, records_of_leaf, Good, either, tile_lies, LeafAdded, NodeTaken, leaf_acts, with_new, leaves_more, BlockRecords, SoFar, IndexSoFar, NodesSoFar, NewBlock, PutsBefore, was_put, IsVacant, IsBlockBody, before_limit}
+use Rattle.std.specs.List.{last_or}
+use Rattle.cdf_puts.specs.SoFar.{TopGrows, taken_places}
 use Rattle.cdf_puts.proofs.BlocksAdded.{order, beside_new}
 use Rattle.cdf_puts.proofs.LeafEdit.{node_in}
 use Rattle.cdf_puts.proofs.LeafOutlines.{same_with_leaf, same_uses, with_one_more, last_of_through, through_stays, top_grows, bytes_same, bytes_longer}
-use Rattle.cdf_index.proofs.LeafRules.{before_limit}
 use Rattle.cdf_puts.proofs.NodesAdded.{nodes_step, node_taken}
 use Rattle.cdf_puts.proofs.PutLeaves.{put_new, none_begins, puts_new}
 use Rattle.cdf_puts.proofs.PutNodes.{NodesStep, nodes_then, taken_both, taken_first, taken_then, taken_neither}

@@ -1,28 +1,7 @@
 -- The index while a record is written in a block: it stays, and of the leaves that were put the one of the record is the last by then.
 use Rattle.std.proofs.Common.{◌≡◌, ◌≢◌, ◌⊎◌, ℕ, suc, ◌+◌, List, [], ◌∷◌, ◌++◌, Bool, true, false, sym, subst, ◌∙◌, arith, inl, inr}
-use Rattle.std.specs.List.{filter}
-use Rattle.cdf_model.specs.Limits.{record_number_limit}
-use Rattle.cdf_model.specs.declared.kinds.Kind.{Kind}
-use Rattle.cdf_edits.specs.Index.Blocks.{range, covers, first_written}
-use Rattle.cdf_edits.specs.Index.Written.{is_taken_at}
-use Rattle.cdf_edits.specs.Space.Acts.{Act}
-use Rattle.cdf_edits.proofs.Edits.InRecords.{places_of}
-use Rattle.cdf_edits.proofs.Edits.LeafPieces.{IsOneOf, find_first, found_in, covers_within, place_in}
-use Rattle.cdf_edits.proofs.Edits.PlainLeaves.{leaves_ascend}
-use Rattle.cdf_edits.proofs.Edits.StandsAmong.{fits, tile, long, no_block}
-use Rattle.cdf_edits.proofs.Frame.Meaning.{Kept}
-use Rattle.cdf_edits.proofs.Frame.OwnerAlone.{Each-in}
-use Rattle.cdf_format.specs.Content.{variable_of}
-use Rattle.cdf_format.specs.Fields.{number}
-use Rattle.cdf_format.specs.Index.{Leaf, leaves_of, nodes_of}
-use Rattle.cdf_format.specs.Records.{vdr_vxr_tail}
-use Rattle.cdf_format.specs.Shape.{VariableShape}
-use Rattle.cdf_format.specs.Sound.{NodeFits}
-use Rattle.cdf_format.specs.Tiles.{In}
-use Rattle.cdf_format.proofs.BytesLemmas.{word_kept, size_kept}
-use Rattle.cdf_format.proofs.Members.{either}
-use Rattle.cdf_puts.specs.SoFar.{SoFar, IndexSoFar, NodesSoFar, PutsBefore, record_of, was_put}
-use Rattle.cdf_puts.specs.Steps.{RecordWritten}
+use Rattle.cdf_puts.proofs.Common.{filter, record_number_limit, Kind, range, covers, first_written, is_taken_at, Act, places_of, IsOneOf, covers_within, place_in, leaves_ascend, fits, tile, long, no_block, Kept, Each-in, variable_of, number, Leaf, leaves_of, nodes_of, vdr_vxr_tail, VariableShape, NodeFits, In, word_kept, size_kept, either, SoFar, IndexSoFar, NodesSoFar, PutsBefore, record_of, was_put, RecordWritten}
+use Rattle.cdf_edits.proofs.Edits.LeafPieces.{find_first, found_in}
 use Rattle.cdf_puts.proofs.PutLeaves.{put_next, puts_old}
 use Rattle.cdf_puts.proofs.PutNodes.{nodes_same}
 use Rattle.cdf_puts.proofs.WrittenGoes.{nodes_stay, stays}

@@ -1,24 +1,8 @@
 -- The last step of a put: MaxRec is raised, or nothing is done. Blocks and nodes stay, and so does VXRtail.
 use Rattle.std.proofs.Common.{◌≡◌, ℕ, ◌+◌, ◌<◌, List, length, refl, sym, ap, subst, ◌∙◌, arith, inl, inr}
-use Rattle.cdf_model.specs.declared.kinds.Kind.{Kind}
-use Rattle.cdf_model.specs.DataSet.{extent}
-use Rattle.cdf_model.specs.RecordSteps.{last_number, greater}
-use Rattle.cdf_edits.specs.Commands.Puts.{max_rec_touches}
-use Rattle.cdf_edits.specs.Frame.Changed.{Changed}
-use Rattle.cdf_edits.specs.Space.Acts.{Act, Took, Gave}
-use Rattle.cdf_edits.proofs.Edits.RecordFrame.{index_records}
-use Rattle.cdf_edits.proofs.Edits.StandsAmong.{sound, behind_in}
-use Rattle.cdf_edits.proofs.Frame.Meaning.{Kept}
-use Rattle.cdf_format.specs.Fields.{number, with_sign}
-use Rattle.cdf_format.specs.Records.{vdr_vxr_tail}
-use Rattle.cdf_format.specs.Shape.{VariableShape, Each, shape}
-use Rattle.cdf_format.specs.Tiles.{In}
-use Rattle.cdf_format.specs.VariableFields.{max_rec_at}
-use Rattle.cdf_format.proofs.TilesLemmas.{tile_lies}
-use Rattle.cdf_puts.specs.SoFar.{SoFar, MaxRecDone, IsTaking}
-use Rattle.cdf_edits.proofs.Edits.OnlyTaken.{OnlyTakes}
 use Rattle.cdf_puts.proofs.PutMeaning.{max_rec_raised_to, max_rec_kept_at}
 use Rattle.std.proofs.Common.{[], ◌∷◌}
+use Rattle.cdf_puts.proofs.Common.{Kind, extent, last_number, greater, max_rec_touches, Changed, Act, Took, Gave, index_records, sound, behind_in, Kept, number, with_sign, vdr_vxr_tail, VariableShape, Each, shape, In, max_rec_at, tile_lies, SoFar, MaxRecDone, IsTaking, OnlyTakes}
 use Rattle.cdf_puts.proofs.RaisedGoes.{max_rec_raised, raised_behind, raised_tail}
 use Rattle.cdf_puts.proofs.RaisedThen.{HasPut, raised_then, unraised_then}
 

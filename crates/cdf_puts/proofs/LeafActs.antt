@@ -1,37 +1,15 @@
 -- A leaf that is added: the records that are taken are those that its acts take.
 use Rattle.std.proofs.Common.{◌≡◌, ℕ, zero, suc, ◌+◌, List, [], ◌∷◌, ◌++◌, length, true, refl, ap, subst, arith}
-use Rattle.std.proofs.lemmas.Bool.{lt-leb}
-use Rattle.std.specs.Prelude.{◌&&◌}
-use Rattle.cdf_model.specs.declared.kinds.Kind.{Kind}
-use Rattle.cdf_model.specs.declared.kinds.Kind.TheVariants.{R, Z}
+use Rattle.cdf_puts.proofs.Common.{lt-leb, ◌&&◌, Kind, R, Z, unmarked-away, StandsAmong, Only, Edit, Mark, avoided, unmarked, new_room, Took, ActsFollow, type_of_body, linkable-in, linkable-type, good_is_sound, both, Leaf, Field, uir_next_uir, uir_prev_uir, gdr_type, uir_type, vvr_type, vxr_type, VariableShape, Shape, shape, IsSound, Good, NodeTaken, LeafAdded, node_acts, leaf_acts, ListedStay, acts_joined, still_edit, OnlyTakes}
 use Rattle.cdf_edits.proofs.Edits.EditActs.{acts_none, acts_took}
 use Rattle.cdf_edits.proofs.Edits.MadeRecord.{listed_marks, made_edit}
-use Rattle.cdf_edits.proofs.Edits.MarkLemmas.{unmarked-away}
 use Rattle.cdf_edits.proofs.Edits.OwnersKept.{keeps_away, keeps_within}
 use Rattle.cdf_edits.proofs.Edits.VariableSplice.{shape_now}
-use Rattle.cdf_edits.proofs.Edits.StandsAmong.{StandsAmong}
-use Rattle.cdf_edits.specs.Commands.Allowances.{Only}
-use Rattle.cdf_edits.specs.Edits.Edit.{Edit}
-use Rattle.cdf_edits.specs.Edits.Marks.{Mark, avoided, unmarked, is_late}
-use Rattle.cdf_edits.specs.Index.Grown.{new_room}
-use Rattle.cdf_edits.specs.Space.Acts.{Took, ActsFollow}
-use Rattle.cdf_edits.specs.Space.Placing.{Fills, type_of_body}
-use Rattle.cdf_format.proofs.ChainsLemmas.{linkable-in, linkable-type}
-use Rattle.cdf_format.proofs.GoodSound.{good_is_sound}
+use Rattle.cdf_edits.specs.Edits.Marks.{is_late}
+use Rattle.cdf_edits.specs.Space.Placing.{Fills}
 use Rattle.cdf_format.proofs.ShapeLemmas.{shape_is}
-use Rattle.cdf_format.proofs.Tests.{both}
-use Rattle.cdf_format.specs.Index.{Leaf}
-use Rattle.cdf_format.specs.Records.{Field, uir_next_uir, uir_prev_uir}
-use Rattle.cdf_format.specs.RecordTypes.{gdr_type, uir_type, vvr_type, vxr_type}
-use Rattle.cdf_format.specs.Shape.{VariableShape, Shape, shape}
-use Rattle.cdf_format.specs.Sound.{IsSound}
-use Rattle.cdf_format.specs.WellFormed.{Good}
-use Rattle.cdf_index.specs.Adding.{NodeTaken, LeafAdded, node_acts, leaf_acts}
-use Rattle.cdf_edits.proofs.Edits.ActsJoined.{ListedStay, acts_joined}
-use Rattle.cdf_edits.proofs.Edits.RecordPlaced.{still_edit}
 use Rattle.cdf_puts.proofs.LeafEdit.{index_marks, new_nodes, first, second, third, room, nodes, most, need}
 use Rattle.cdf_puts.proofs.LeafSplices.{splices}
-use Rattle.cdf_edits.proofs.Edits.OnlyTaken.{OnlyTakes}
 
 abbrev links : List Field
 links = uir_next_uir ∷ uir_prev_uir ∷ []

@@ -1,20 +1,9 @@
 -- The blocks of a variable once a leaf is added: those that were there stay, and the new one has its records.
 use Rattle.std.proofs.Common.{◌≡◌, ℕ, ◌+◌, ◌-◌, ◌<◌, ◌≤◌, max, List, length, take, drop, sym, ap, subst, ◌∙◌, arith, take-append-drop}
-use Rattle.std.proofs.lemmas.List.{ext_get_or, get_or_append_left, get_or-take, get_or-drop, length-take, length-drop}
-use Rattle.cdf_model.specs.declared.kinds.Kind.{Kind}
-use Rattle.cdf_format.specs.Bytes.{Same, byte}
-use Rattle.cdf_format.specs.Fields.{word, size_at, type_at}
-use Rattle.cdf_format.specs.Index.{Leaf, leaves_of}
-use Rattle.cdf_format.specs.RecordTypes.{vvr_type}
-use Rattle.cdf_format.specs.Shape.{VariableShape}
-use Rattle.cdf_format.specs.WellFormed.{Good}
-use Rattle.cdf_format.proofs.BytesLemmas.{word-same, size_kept, type_kept, byte-put_inside}
-use Rattle.cdf_edits.specs.Space.Placing.{type_of_body}
-use Rattle.cdf_edits.proofs.Edits.LeafPieces.{place_in, each_of}
-use Rattle.cdf_edits.proofs.Edits.StandsAmong.{StandsAmong}
-use Rattle.cdf_edits.proofs.Frame.Meaning.{Kept}
-use Rattle.cdf_index.specs.Adding.{LeafAdded}
-use Rattle.cdf_puts.specs.Steps.{IsBlockBody, BlocksGoOn}
+use Rattle.cdf_puts.proofs.Common.{length-take, length-drop, Kind, Same, byte, size_at, type_at, Leaf, leaves_of, vvr_type, VariableShape, Good, size_kept, type_kept, type_of_body, place_in, each_of, StandsAmong, Kept, LeafAdded, IsBlockBody, BlocksGoOn}
+use Rattle.std.proofs.lemmas.List.{ext_get_or, get_or_append_left, get_or-take, get_or-drop}
+use Rattle.cdf_format.specs.Fields.{word}
+use Rattle.cdf_format.proofs.BytesLemmas.{word-same, byte-put_inside}
 use Rattle.cdf_puts.proofs.LeafEdit.{second}
 use Rattle.cdf_puts.proofs.LeafSplices.{block_kept, placed_kept, placed_size}
 

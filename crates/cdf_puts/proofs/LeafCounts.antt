@@ -1,24 +1,13 @@
 -- What a leaf more makes of the nodes and leaves of an index: how often each place stands among them, and how wide the widest node is.
 use Rattle.std.proofs.Common.{◌≡◌, ◌⊎◌, ℕ, zero, suc, ◌+◌, ◌≤◌, max, List, [], ◌∷◌, ◌++◌, Bool, false, ltb, eqb, refl, sym, ap, ◌∙◌, arith, inl, inr}
-use Rattle.std.proofs.lemmas.Bool.{eqb-true, eqb-false, ne_eqb}
-use Rattle.std.specs.Prelude.{◌==◌, if◌then◌else◌}
+use Rattle.cdf_puts.proofs.Common.{eqb-true, ne_eqb, ◌==◌, if◌then◌else◌, reaches, chain_reaches, leads_down, with_block, upto, past, with_both, with_entry, room_of_new, places_of, IsOneOf, times-append, times-in, Nodes, no_node, node, Entries, no_entry, block, lower, Leaf, leaves_of, entry_count, used_count, room_at, times, Each, NodeFits, In, either, with_new, InOrder, leaves_more, front, front_past, upto_is}
+use Rattle.std.proofs.lemmas.Bool.{eqb-false}
 use Rattle.cdf_edits.specs.Commands.Room.{widest, widest_below}
-use Rattle.cdf_edits.specs.Index.Grown.{reaches, chain_reaches, leads_down, with_block, upto, past, with_both, with_entry, with_leaf, with_lower, room_of_new, new_room, new_room_below}
-use Rattle.cdf_edits.proofs.Edits.InRecords.{places_of}
-use Rattle.cdf_edits.proofs.Edits.LeafPieces.{IsOneOf}
-use Rattle.cdf_edits.proofs.Frame.OwnersApart.{times-append, times-in}
-use Rattle.cdf_format.specs.Index.{Nodes, no_node, node, Entries, no_entry, block, lower, Leaf, nodes_of, lower_nodes, leaves_of, entry_count, used_count, room_at}
+use Rattle.cdf_edits.specs.Index.Grown.{with_leaf, with_lower, new_room, new_room_below}
+use Rattle.cdf_format.specs.Index.{nodes_of, lower_nodes}
 use Rattle.cdf_format.specs.IndexOf.{HasNodes, Names}
-use Rattle.cdf_format.specs.Owners.{times}
-use Rattle.cdf_format.specs.Shape.{Each}
-use Rattle.cdf_format.specs.Sound.{NodeFits}
-use Rattle.cdf_format.specs.Tiles.{In}
-use Rattle.cdf_format.proofs.Members.{either}
 use Rattle.cdf_format.proofs.ShapeLemmas.{Each-split}
-use Rattle.cdf_index.specs.Growing.{with_new}
-use Rattle.cdf_index.specs.Order.{InOrder}
-use Rattle.cdf_index.proofs.LeafMore.{leaves_more}
-use Rattle.cdf_index.proofs.Saying.{front, front_past, upto_is, count_both}
+use Rattle.cdf_index.proofs.Saying.{count_both}
 
 -- ---- how often a place stands among the nodes
 

@@ -1,40 +1,12 @@
 -- A leaf that is added, as one edit: its block is taken and written, then a node where one is needed, and then the entries are.
 use Rattle.std.proofs.Common.{◌≡◌, ℕ, zero, suc, ◌+◌, ◌*◌, ◌<◌, ◌≤◌, List, [], ◌∷◌, ◌++◌, length, true, append-nil, refl, sym, ap, subst, ◌∙◌, arith, inl, inr}
-use Rattle.cdf_model.specs.declared.kinds.Kind.{Kind}
-use Rattle.cdf_model.specs.declared.kinds.Kind.TheVariants.{R, Z}
-use Rattle.cdf_format.specs.Fields.{size_at, type_at, eof}
-use Rattle.cdf_format.specs.Index.{Leaf, nodes_of, room_at}
-use Rattle.cdf_format.specs.RecordTypes.{vxr_type}
-use Rattle.cdf_format.specs.Shape.{VariableShape, shape}
-use Rattle.cdf_format.specs.Sound.{NodeFits, IsSound}
-use Rattle.cdf_format.specs.Tiles.{In}
-use Rattle.cdf_format.specs.WellFormed.{Good}
-use Rattle.cdf_format.proofs.BytesLemmas.{number_kept, size_kept, type_kept}
-use Rattle.cdf_format.specs.Records.{vxr_n_entries}
-use Rattle.cdf_format.proofs.ChainsLemmas.{linkable-type}
-use Rattle.cdf_format.proofs.GoodSound.{good_is_sound}
-use Rattle.cdf_format.proofs.IndexLemmas.{nodes_stand}
-use Rattle.cdf_format.proofs.Members.{In-append_left, In-append_right}
-use Rattle.cdf_format.proofs.TilesLemmas.{tile_lies}
-use Rattle.cdf_edits.specs.Commands.Room.{vxr_bytes}
-use Rattle.cdf_edits.specs.Edits.Edit.{Edit}
-use Rattle.cdf_edits.specs.Edits.Marks.{Mark, Among, Away, Marked, unmarked}
-use Rattle.cdf_edits.specs.Frame.Changed.{Touch}
-use Rattle.cdf_edits.specs.Index.Grown.{new_room}
-use Rattle.cdf_edits.specs.Space.Chains.{type_in}
-use Rattle.cdf_edits.specs.Space.VariableChains.{variables_chain}
-use Rattle.cdf_edits.proofs.Edits.Composing.{changed_edit, edit_then}
-use Rattle.cdf_edits.proofs.Edits.MadeRecord.{place_in, filled_size}
-use Rattle.cdf_edits.proofs.Edits.MarkLemmas.{unmarked-away, Away-append}
-use Rattle.cdf_edits.proofs.Edits.RecordFrame.{kept_away}
+use Rattle.cdf_puts.proofs.Common.{Kind, R, Z, size_at, type_at, eof, Leaf, nodes_of, room_at, vxr_type, VariableShape, shape, NodeFits, IsSound, In, Good, number_kept, size_kept, type_kept, vxr_n_entries, linkable-type, good_is_sound, nodes_stand, In-append_left, In-append_right, tile_lies, vxr_bytes, Edit, Mark, Away, unmarked, Touch, new_room, type_in, variables_chain, edit_then, filled_size, unmarked-away, Away-append, kept_away, node_behind, StandsAmong, through, tile, typed, long, has, fits, behind_in, Kept, Each-in, placing_marks, NodeTaken, IndexTouch, LeafAdded}
+use Rattle.cdf_edits.specs.Edits.Marks.{Among, Marked}
+use Rattle.cdf_edits.proofs.Edits.Composing.{changed_edit}
+use Rattle.cdf_edits.proofs.Edits.MadeRecord.{place_in}
 use Rattle.cdf_edits.proofs.Edits.StepEdits.{some_bytes}
-use Rattle.cdf_edits.proofs.Edits.VariableCopied.{node_behind}
 use Rattle.cdf_edits.proofs.Edits.VariableFrame.{Each-map}
-use Rattle.cdf_edits.proofs.Edits.StandsAmong.{StandsAmong, through, tile, typed, long, has, fits, behind_in}
-use Rattle.cdf_edits.proofs.Frame.Meaning.{Kept}
-use Rattle.cdf_edits.proofs.Frame.OwnerAlone.{Each-in}
-use Rattle.cdf_edits.proofs.Edits.RecordPlaced.{placing_marks, links_mark, Grows, NodeStands, grows_not, placed_grows}
-use Rattle.cdf_index.specs.Adding.{NodeTaken, IndexTouch, LeafAdded}
+use Rattle.cdf_edits.proofs.Edits.RecordPlaced.{links_mark, Grows, NodeStands, grows_not, placed_grows}
 
 -- ---- marks
 

@@ -1,18 +1,10 @@
 -- The Firsts in an index with a leaf more, and the least of them past a record.
 use Rattle.std.proofs.Common.{◌≡◌, ◌⊎◌, ℕ, suc, ◌+◌, ◌<◌, ◌≤◌, max, min, List, [], ◌∷◌, ◌++◌, Bool, true, false, ltb, leb, eqb, refl, sym, ap, ◌∙◌, arith, inl, inr}
-use Rattle.std.proofs.lemmas.Bool.{eqb-true, leb-false, ltb-true, lt-ltb}
-use Rattle.std.specs.List.{filter, fold}
-use Rattle.std.specs.Prelude.{nat_lt}
-use Rattle.cdf_model.specs.Limits.{record_number_limit}
-use Rattle.cdf_edits.specs.Index.Blocks.{firsts_of, entry_firsts, next_first}
-use Rattle.cdf_edits.specs.Index.Grown.{reaches, chain_reaches, leads_down, with_block, upto, past, with_both, with_entry, with_leaf, with_lower}
-use Rattle.cdf_edits.proofs.Frame.OwnersApart.{times-append, times-in}
-use Rattle.cdf_format.specs.Index.{Nodes, no_node, node, Entries, no_entry, block, lower, Leaf, entry_count}
-use Rattle.cdf_format.specs.Owners.{times}
-use Rattle.cdf_format.specs.Tiles.{In}
-use Rattle.cdf_format.proofs.Members.{either}
-use Rattle.cdf_index.specs.Order.{InOrder, AreInOrder, past_entries}
-use Rattle.cdf_index.proofs.Saying.{front, front_past, upto_is}
+use Rattle.cdf_puts.proofs.Common.{eqb-true, ltb-true, lt-ltb, filter, fold, nat_lt, record_number_limit, next_first, reaches, chain_reaches, leads_down, with_block, upto, past, with_both, with_entry, times-append, times-in, Nodes, no_node, node, Entries, no_entry, block, lower, Leaf, entry_count, times, In, either, past_entries, front, front_past, upto_is}
+use Rattle.std.proofs.lemmas.Bool.{leb-false}
+use Rattle.cdf_edits.specs.Index.Blocks.{firsts_of, entry_firsts}
+use Rattle.cdf_edits.specs.Index.Grown.{with_leaf, with_lower}
+use Rattle.cdf_index.specs.Order.{InOrder, AreInOrder}
 use Rattle.cdf_puts.proofs.LeafCounts.{in-times}
 use Rattle.cdf_index.proofs.LeafRules.{least_below, none_behind}
 

@@ -1,68 +1,30 @@
 -- A leaf that is added to the index of a variable leads from one good image to another.
 use Rattle.std.proofs.Common.{◌≡◌, ◌≢◌, ℕ, ℤ, pos, negsuc, zero, suc, ◌+◌, ◌-◌, ◌*◌, ◌≤◌, max, List, [], ◌∷◌, ◌++◌, length, Bool, true, false, refl, sym, ap, subst, ◌∙◌, arith, inl, inr}
-use Rattle.std.proofs.lemmas.Bool.{ne_eqb}
-use Rattle.std.specs.Int.{w32, cast_signed}
-use Rattle.std.specs.List.{flat_map}
-use Rattle.std.specs.Prelude.{◌==◌, ◌&&◌, ◌||◌, if◌then◌else◌, nat_le}
-use Rattle.cdf_model.specs.declared.kinds.Kind.{Kind}
-use Rattle.cdf_model.specs.Limits.{image_limit, signed_limit, record_number_limit}
-use Rattle.cdf_format.specs.Chains.{is_a, is_in}
-use Rattle.cdf_format.specs.Fields.{with_sign, number, integer4, size_at, type_at, holds}
-use Rattle.cdf_format.specs.Index.{Nodes, no_node, node, Entries, no_entry, block, lower, Leaf, nodes_of, lower_nodes, leaves_of, room_at}
+use Rattle.cdf_puts.proofs.Common.{ne_eqb, w32, cast_signed, flat_map, ◌==◌, ◌&&◌, ◌||◌, if◌then◌else◌, nat_le, Kind, image_limit, record_number_limit, is_a, is_in, with_sign, number, integer4, size_at, type_at, Nodes, no_node, node, Entries, no_entry, block, lower, Leaf, leaves_of, room_at, variable_records, times, owned, vdr_max_rec, gdr_r_max_rec, vxr_type, vvr_type, cvvr_type, uir_type, asked, VariableShape, Shape, is_compressed, Each, HasShape, shape, NodeFits, IsSound, In, record_bytes, is_max_rec, Good, Same-part, word_kept, size_kept, type_kept, is_a-type, linkable-in, good_by_its_shape, good_is_sound, nodes_stand, either, In-append, true-is_in, false-is_in, Hold-split, both, le_of, of_le, tile_lies, AllKeep, r_max_rec, put_changes, Act, ActsFollow, firsts_of, with_leaf, new_room, IsOneOf, place_in, count_is, plain_leaf, own_rules, StandsAmong, behind_in, type_of_body, places_of, index_records, gdr_long, block_behind, times-append, times-in, record_alike, apart, Each-in, LeafAdded, InOrder, found_in, DescriptorStays, GoesOn, IsVacant, IsBlockBody, before_limit, index_order, OwnEdit, IndexEdit, vdr_alike}
+use Rattle.cdf_model.specs.Limits.{signed_limit}
+use Rattle.cdf_format.specs.Fields.{holds}
+use Rattle.cdf_format.specs.Index.{nodes_of, lower_nodes}
 use Rattle.cdf_format.specs.IndexRules.{has_room, is_block, nodes_rows, used_rows, vvr_rows, cvvr_rows, leaf_rows, index_rows, end_of}
 use Rattle.cdf_format.specs.NotRead.{read_types}
-use Rattle.cdf_format.specs.Owners.{OwnedOnce, variable_records, times, owned}
-use Rattle.cdf_format.specs.Records.{vdr_max_rec, vxr_n_used_entries, vxr_entries, gdr_r_max_rec}
-use Rattle.cdf_format.specs.RecordTypes.{vxr_type, vvr_type, cvvr_type, uir_type}
-use Rattle.cdf_format.specs.Rules.{Row, Hold, asked}
-use Rattle.cdf_format.specs.Shape.{VariableShape, Shape, is_compressed, Each, HasShape, shape}
-use Rattle.cdf_format.specs.Sound.{NodeFits, IsSound}
-use Rattle.cdf_format.specs.Tiles.{In, Distinct}
-use Rattle.cdf_format.specs.VariableFields.{number_before, record_bytes, plain_size}
-use Rattle.cdf_format.specs.VariableRules.{is_max_rec}
-use Rattle.cdf_format.specs.WellFormed.{Good}
-use Rattle.cdf_format.proofs.BytesLemmas.{Same-part, word_kept, size_kept, type_kept}
-use Rattle.cdf_format.proofs.ChainsLemmas.{is_a-from, is_a-type, linkable-in}
+use Rattle.cdf_format.specs.Owners.{OwnedOnce}
+use Rattle.cdf_format.specs.Records.{vxr_n_used_entries, vxr_entries}
+use Rattle.cdf_format.specs.Rules.{Row, Hold}
+use Rattle.cdf_format.specs.Tiles.{Distinct}
+use Rattle.cdf_format.specs.VariableFields.{number_before, plain_size}
+use Rattle.cdf_format.proofs.ChainsLemmas.{is_a-from}
 use Rattle.cdf_format.proofs.GoodByShape.{IsGoodByShape}
-use Rattle.cdf_format.proofs.GoodSound.{good_by_its_shape, good_is_sound}
-use Rattle.cdf_format.proofs.IndexLemmas.{nodes_stand}
-use Rattle.cdf_format.proofs.Members.{either, In-append, true-is_in, false-is_in}
 use Rattle.cdf_format.proofs.Owning.{times-none, times-once}
-use Rattle.cdf_format.proofs.RowLemmas.{Hold-append, Hold-split}
-use Rattle.cdf_format.proofs.Tests.{both, le_of, of_le}
-use Rattle.cdf_format.proofs.TilesLemmas.{tile_lies}
-use Rattle.cdf_edits.specs.Commands.Allowances.{AllKeep}
-use Rattle.cdf_edits.specs.Commands.GreatestRecord.{r_max_rec}
-use Rattle.cdf_edits.specs.Commands.Puts.{put_changes}
-use Rattle.cdf_edits.specs.Space.Acts.{Act, ActsFollow}
-use Rattle.cdf_edits.specs.Index.Blocks.{firsts_of}
-use Rattle.cdf_edits.specs.Index.Grown.{with_leaf, new_room}
-use Rattle.cdf_edits.proofs.Edits.LeafPieces.{IsOneOf, place_in}
-use Rattle.cdf_edits.proofs.Edits.LeafRecords.{count_is}
-use Rattle.cdf_edits.proofs.Edits.PlainLeaves.{plain_leaf, own_rules}
-use Rattle.cdf_edits.proofs.Edits.StandsAmong.{StandsAmong, behind_in}
-use Rattle.cdf_edits.specs.Space.Placing.{type_of_body}
-use Rattle.cdf_edits.proofs.Edits.InRecords.{places_of}
+use Rattle.cdf_format.proofs.RowLemmas.{Hold-append}
 use Rattle.cdf_edits.proofs.Edits.OwnedOnce.{used_times, fresh_unowned, owned_once_if}
-use Rattle.cdf_edits.proofs.Edits.RecordFrame.{index_records, gdr_part, gdr_place}
-use Rattle.cdf_edits.proofs.Edits.StepEdits.{gdr_long}
-use Rattle.cdf_edits.proofs.Edits.VariableCopied.{block_behind}
+use Rattle.cdf_edits.proofs.Edits.RecordFrame.{gdr_part, gdr_place}
 use Rattle.cdf_edits.proofs.Edits.VariableKinds.{with_shapes, spliced_times}
-use Rattle.cdf_edits.proofs.Frame.OwnersApart.{times-append, times-in}
-use Rattle.cdf_edits.proofs.Frame.VdrAlike.{record_alike}
-use Rattle.cdf_edits.proofs.Space.UsedRecords.{apart}
-use Rattle.cdf_edits.proofs.Frame.OwnerAlone.{Each-in}
-use Rattle.cdf_index.specs.Adding.{Counts, LeafAdded}
-use Rattle.cdf_index.specs.Order.{InOrder}
-use Rattle.cdf_puts.specs.Going.{found_in, DescriptorStays, GoesOn}
-use Rattle.cdf_puts.specs.Steps.{IsVacant, IsBlockBody}
+use Rattle.cdf_index.specs.Adding.{Counts}
 use Rattle.cdf_puts.proofs.LeafCounts.{nodes_with_leaf, places_with_leaf, leaf_was_there}
 use Rattle.cdf_puts.proofs.LeafBlocks.{plain_body, block_type, block_size, size_needed}
 use Rattle.cdf_puts.proofs.LeafEdit.{new_nodes, marks, second, edit}
-use Rattle.cdf_index.proofs.LeafRules.{before_limit, index_order, index_rules_with_leaf}
-use Rattle.cdf_edits.proofs.Edits.OwnEdited.{OwnEdit}
+use Rattle.cdf_index.proofs.LeafRules.{index_rules_with_leaf}
 use Rattle.cdf_edits.proofs.Edits.OwnEdited as of_own
-use Rattle.cdf_edits.proofs.Edits.IndexEdited.{IndexEdit, vdr_alike, vdr_size, vdr_type, good_now as good_if_ruled}
+use Rattle.cdf_edits.proofs.Edits.IndexEdited.{vdr_size, vdr_type, good_now as good_if_ruled}
 use Rattle.cdf_edits.proofs.Edits.IndexEdited as of_index
 use Rattle.cdf_puts.proofs.LeafSplices.{with_new, index_edit, own_edit, file, tests, part_of, block_kept, block_in, new_apart, new_fresh, type_now, end_now}
 

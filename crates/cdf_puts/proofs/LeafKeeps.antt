@@ -1,54 +1,21 @@
 -- A leaf that is added: what it keeps of the records of each owner.
 use Rattle.std.proofs.Common.{◌≡◌, ◌≢◌, ◌⊎◌, ℕ, zero, suc, ◌+◌, ◌<◌, ◌≤◌, List, [], ◌∷◌, ◌++◌, length, false, true, refl, sym, subst, arith, inl, inr}
-use Rattle.std.specs.Prelude.{◌&&◌, nat_le, nat_lt}
-use Rattle.cdf_model.specs.declared.kinds.Kind.{Kind}
-use Rattle.cdf_model.specs.declared.kinds.Kind.TheVariants.{R, Z}
+use Rattle.cdf_puts.proofs.Common.{◌&&◌, nat_le, nat_lt, Kind, R, Z, places_of, Avoids-append, Away-append, away-avoids, unmarked-away, kept, kept_away, gdr_in, gdr_typed, block_behind, variables_in, other_kind, StandsAmong, behind_in, fits, ours, tile, Kept, Each-in, all_variable_records, AllKeep, Keeps, Only, Stays, OutsideFields, is_taken, r_max_rec_field, space_fields, unused_allowance, put_changes, vxr_bytes, Edit, Mark, Avoids, Away, avoided, unmarked, new_room, Act, Took, type_of_body, word_kept, is_a-type, linkable-in, good_is_sound, In-append, tile_lies, is_a, number, size_at, type_at, Leaf, leaves_of, nodes_of, Unused, owned, unused_records, variable_records, Field, uir_next_uir, uir_prev_uir, vdr_max_rec, vdr_vxr_head, vdr_vxr_tail, cdr_type, cpr_type, gdr_type, uir_type, vvr_type, VariableShape, HasShape, shape, IsSound, In, Good, NodeTaken, LeafAdded, leaf_acts, node_acts, found_in, placing_marks, still_edit, none_of_both}
 use Rattle.cdf_edits.proofs.Commands.KeptRecords.{keeps_stood}
-use Rattle.cdf_edits.proofs.Edits.InRecords.{places_of}
 use Rattle.cdf_edits.proofs.Edits.MadeRecord.{listed_before, loose_away, taking_avoids, taking_within}
-use Rattle.cdf_edits.proofs.Edits.MarkLemmas.{Avoids-append, Away-append, Within-append, away-avoids, away-within, unmarked-away}
+use Rattle.cdf_edits.proofs.Edits.MarkLemmas.{Within-append, away-within}
 use Rattle.cdf_edits.proofs.Edits.OwnedOnce.{all_attributes_in}
 use Rattle.cdf_edits.proofs.Edits.OwnersKept.{keep_unused, keeps_fields, stood, taken_is_taken}
-use Rattle.cdf_edits.proofs.Edits.RecordFrame.{cdr_kept, kept, kept_away}
-use Rattle.cdf_edits.proofs.Edits.StepEdits.{gdr_in, gdr_typed}
-use Rattle.cdf_edits.proofs.Edits.VariableCopied.{block_behind, cpr_behind}
-use Rattle.cdf_edits.proofs.Edits.VariableFrame.{variables_in}
-use Rattle.cdf_edits.proofs.Edits.VariableKinds.{kind_ours, other_kind}
+use Rattle.cdf_edits.proofs.Edits.RecordFrame.{cdr_kept}
+use Rattle.cdf_edits.proofs.Edits.VariableCopied.{cpr_behind}
+use Rattle.cdf_edits.proofs.Edits.VariableKinds.{kind_ours}
 use Rattle.cdf_edits.proofs.Edits.VariableSplice.{attributes_kept}
-use Rattle.cdf_edits.proofs.Edits.StandsAmong.{StandsAmong, after_ours, behind_in, fits, ours, tile}
-use Rattle.cdf_edits.proofs.Frame.Meaning.{Kept}
-use Rattle.cdf_edits.proofs.Frame.OwnerAlone.{Each-in}
-use Rattle.cdf_edits.proofs.Frame.OwnersApart.{all_variable_records}
-use Rattle.cdf_edits.specs.Commands.Allowances.{AllKeep, Keeps, Only, Stays, OutsideFields, is_taken, r_max_rec_field, space_fields, unused_allowance}
-use Rattle.cdf_edits.specs.Commands.Puts.{put_changes}
-use Rattle.cdf_edits.specs.Commands.Room.{vxr_bytes}
-use Rattle.cdf_edits.specs.Edits.Edit.{Edit}
-use Rattle.cdf_edits.specs.Edits.Marks.{Mark, Avoids, Away, Within, avoided, unmarked, taking_marks, whole, within}
-use Rattle.cdf_edits.specs.Index.Grown.{new_room}
-use Rattle.cdf_edits.specs.Space.Acts.{Act, Took}
-use Rattle.cdf_edits.specs.Space.Placing.{type_of_body}
-use Rattle.cdf_format.proofs.BytesLemmas.{word_kept}
-use Rattle.cdf_format.proofs.ChainsLemmas.{is_a-in, is_a-type, linkable-in}
-use Rattle.cdf_format.proofs.GoodSound.{good_is_sound}
-use Rattle.cdf_format.proofs.Members.{In-append}
-use Rattle.cdf_format.proofs.TilesLemmas.{tile_lies}
-use Rattle.cdf_format.specs.Chains.{is_a}
-use Rattle.cdf_format.specs.Fields.{number, size_at, type_at}
-use Rattle.cdf_format.specs.Index.{Leaf, leaves_of, nodes_of}
-use Rattle.cdf_format.specs.Owners.{Unused, owned, unused_records, variable_records}
-use Rattle.cdf_format.specs.Records.{Field, uir_next_uir, uir_prev_uir, vdr_max_rec, vdr_vxr_head, vdr_vxr_tail}
-use Rattle.cdf_format.specs.RecordTypes.{cdr_type, cpr_type, gdr_type, uir_type, vvr_type}
-use Rattle.cdf_format.specs.Shape.{VariableShape, HasShape, shape}
-use Rattle.cdf_format.specs.Sound.{IsSound}
-use Rattle.cdf_format.specs.Tiles.{In}
-use Rattle.cdf_format.specs.WellFormed.{Good}
-use Rattle.cdf_index.specs.Adding.{NodeTaken, LeafAdded, leaf_acts, node_acts}
-use Rattle.cdf_puts.specs.Going.{found_in}
+use Rattle.cdf_edits.proofs.Edits.StandsAmong.{after_ours}
+use Rattle.cdf_edits.specs.Edits.Marks.{Within, taking_marks, whole, within}
+use Rattle.cdf_format.proofs.ChainsLemmas.{is_a-in}
 use Rattle.cdf_puts.proofs.LeafActs.{placed_still, records_are}
-use Rattle.cdf_edits.proofs.Edits.RecordPlaced.{placing_marks, still_edit}
 use Rattle.cdf_puts.proofs.LeafEdit.{node_marks, index_marks, leaf_marks, new_nodes, edit, first, second, marks, most, need, nodes, reborn, room}
 use Rattle.cdf_puts.proofs.LeafSplices.{LeafTests, leaf_tests, beside, block_kept, only, part, part_of, splices, vdr_size}
-use Rattle.cdf_edits.proofs.Edits.OnlyTaken.{none_of_both}
 use Rattle.cdf_puts.proofs.OwnAllowed.{own_may, descriptor_allowed, node_allowed}
 use Rattle.cdf_puts.proofs.PutKeeps.{PutKeeps, all_kept, kept_place}
 

@@ -1,18 +1,12 @@
 -- An index with a leaf more, but for where its blocks and its new nodes stand; and its top chain.
 use Rattle.std.proofs.Common.{◌≡◌, ◌⊎◌, ℕ, zero, suc, ◌<◌, ◌≤◌, max, List, [], ◌∷◌, ◌++◌, length, Bool, true, false, ltb, leb, eqb, refl, sym, ap, subst, ◌∙◌, arith, inl, inr}
-use Rattle.std.proofs.lemmas.Bool.{eq-eqb, ne_eqb, lt-ltb}
+use Rattle.cdf_puts.proofs.Common.{eq-eqb, ne_eqb, lt-ltb, list_any, ◌&&◌, ◌||◌, if◌then◌else◌, Range, reaches, chain_reaches, leads_down, with_block, upto, past, with_both, with_entry, room_of_new, with_ranges, top_chain, is_in, Nodes, no_node, node, Entries, no_entry, block, lower, Leaf, leaf, entry_count, used_count, In, either, In-append, In-append_left, In-append_right, same_of_bytes_eq}
 use Rattle.std.proofs.lemmas.List.Folds.{list_any-append}
-use Rattle.std.specs.List.{list_any}
-use Rattle.std.specs.Prelude.{bytes_eq, ◌&&◌, ◌||◌, if◌then◌else◌}
-use Rattle.cdf_edits.specs.Index.Blocks.{Range}
-use Rattle.cdf_edits.specs.Index.Grown.{reaches, chain_reaches, leads_down, with_block, upto, past, with_both, with_entry, with_leaf, with_lower, room_of_new, new_room, new_room_below, with_ranges, indexes_with, outline, entries_outline}
-use Rattle.cdf_edits.specs.Index.Written.{uses_entry, uses_entry_below, top_chain}
-use Rattle.cdf_format.specs.Chains.{is_in}
-use Rattle.cdf_format.specs.Index.{Nodes, no_node, node, Entries, no_entry, block, lower, Leaf, leaf, nodes_of, lower_nodes, entry_count, used_count}
+use Rattle.std.specs.Prelude.{bytes_eq}
+use Rattle.cdf_edits.specs.Index.Grown.{with_leaf, with_lower, new_room, new_room_below, indexes_with, outline, entries_outline}
+use Rattle.cdf_edits.specs.Index.Written.{uses_entry, uses_entry_below}
+use Rattle.cdf_format.specs.Index.{nodes_of, lower_nodes}
 use Rattle.cdf_format.specs.IndexOf.{HasNodes, Names}
-use Rattle.cdf_format.specs.Tiles.{In}
-use Rattle.cdf_format.proofs.Members.{either, In-append, In-append_left, In-append_right}
-use Rattle.cdf_format.proofs.Tests.{same_of_bytes_eq}
 
 -- ---- an outline says the same of an index as the index does
 

@@ -1,11 +1,9 @@
 -- A node keeps its room where a leaf is added to its index.
 use Rattle.std.proofs.Common.{◌≡◌, ◌⊎◌, ℕ, zero, suc, List, false, ltb, eqb, sym, ap, subst, ◌∙◌, inl, inr}
-use Rattle.cdf_edits.specs.Index.Grown.{reaches, chain_reaches, leads_down, with_block, upto, past, with_both, with_entry, with_leaf, with_lower}
-use Rattle.cdf_format.specs.Index.{Nodes, no_node, node, Entries, no_entry, block, lower, Leaf, nodes_of, lower_nodes, entry_count, room_at}
+use Rattle.cdf_puts.proofs.Common.{reaches, chain_reaches, leads_down, with_block, upto, past, with_both, with_entry, Nodes, no_node, node, Entries, no_entry, block, lower, Leaf, entry_count, room_at, In, either, In-append, front, front_past, upto_is}
+use Rattle.cdf_edits.specs.Index.Grown.{with_leaf, with_lower}
+use Rattle.cdf_format.specs.Index.{nodes_of, lower_nodes}
 use Rattle.cdf_format.specs.IndexOf.{HasNodes, Names}
-use Rattle.cdf_format.specs.Tiles.{In}
-use Rattle.cdf_format.proofs.Members.{either, In-append}
-use Rattle.cdf_index.proofs.Saying.{front, front_past, upto_is}
 
 -- a node of an index stands at a place and has room for so many entries
 abbrev mutual

@@ -1,51 +1,21 @@
 -- A leaf that is added leaves the file, all attributes and the other variables, and the variable is linked with the index that has it.
 use Rattle.std.proofs.Common.{◌≡◌, ◌≢◌, ◌⊎◌, ℕ, zero, suc, ◌+◌, ◌<◌, ◌≤◌, List, [], ◌∷◌, ◌++◌, length, true, true≢false, refl, sym, ap, subst, ◌∙◌, arith, inl, inr}
-use Rattle.std.proofs.lemmas.Bool.{ne_eqb}
-use Rattle.cdf_model.specs.declared.kinds.Kind.{Kind}
-use Rattle.cdf_model.specs.declared.kinds.Kind.TheVariants.{R, Z}
-use Rattle.cdf_format.specs.Bytes.{Same}
-use Rattle.cdf_format.specs.Chains.{is_a, is_in, IsChain}
-use Rattle.cdf_format.specs.Fields.{number, size_at, type_at, eof}
-use Rattle.cdf_format.specs.Index.{Leaf, nodes_of, leaves_of}
-use Rattle.cdf_format.specs.Owners.{variable_records}
-use Rattle.cdf_format.specs.Records.{Field, gdr_eof, gdr_uir_head}
-use Rattle.cdf_format.specs.RecordTypes.{gdr_type, r_vdr_type, z_vdr_type, vxr_type, vvr_type, cvvr_type, cpr_type, uir_type, is_record_type, fixed_size}
-use Rattle.cdf_format.specs.Shape.{VariableShape, Shape, Each, HasShape, shape}
-use Rattle.cdf_format.specs.Sound.{LeafFits, IsSound}
-use Rattle.cdf_format.specs.Tiles.{In}
-use Rattle.cdf_format.specs.WellFormed.{Good}
-use Rattle.cdf_format.proofs.BytesLemmas.{size_kept, type_kept}
-use Rattle.cdf_format.proofs.ChainsLemmas.{is_a-type}
-use Rattle.cdf_format.proofs.GoodSound.{good_is_sound}
-use Rattle.cdf_format.proofs.Members.{In-append}
-use Rattle.cdf_edits.specs.Edits.Edit.{Edit}
-use Rattle.cdf_edits.specs.Edits.Marks.{Mark, Avoids, Away, avoided, unmarked, variable_types, keeps_file}
-use Rattle.cdf_edits.specs.Index.Grown.{with_leaf, new_room}
-use Rattle.cdf_edits.specs.Space.Chains.{head_of, count_of, type_in}
-use Rattle.cdf_edits.specs.Space.VariableChains.{variables_chain}
-use Rattle.cdf_edits.proofs.Edits.Composing.{head_size, head_type, edit_then}
-use Rattle.cdf_edits.proofs.Edits.InRecords.{places_of}
-use Rattle.cdf_edits.proofs.Edits.MadeRecord.{place_in, filled_size, fresh}
-use Rattle.cdf_edits.proofs.Edits.MarkLemmas.{the_one, or_cases, away-avoids, unmarked-away, Avoids-append, Away-append}
-use Rattle.cdf_edits.proofs.Edits.RecordFrame.{kept, kept_away, chain_stays, field_avoids, file_same}
-use Rattle.cdf_edits.proofs.Edits.StepEdits.{gdr_in, gdr_typed, gdr_long}
-use Rattle.cdf_edits.specs.Commands.Room.{vxr_bytes}
-use Rattle.cdf_edits.proofs.Edits.VariableCopied.{node_behind, block_behind}
-use Rattle.cdf_edits.proofs.Edits.VariableFrame.{variable_typed, variables_in}
+use Rattle.cdf_puts.proofs.Common.{ne_eqb, Kind, R, Z, Same, is_a, is_in, number, size_at, type_at, eof, Leaf, nodes_of, leaves_of, variable_records, Field, gdr_type, vxr_type, vvr_type, cvvr_type, cpr_type, uir_type, is_record_type, fixed_size, VariableShape, Shape, Each, HasShape, shape, LeafFits, IsSound, In, Good, size_kept, type_kept, is_a-type, good_is_sound, In-append, Edit, Mark, Avoids, Away, avoided, unmarked, with_leaf, new_room, type_in, variables_chain, edit_then, places_of, filled_size, or_cases, away-avoids, unmarked-away, Avoids-append, Away-append, kept, kept_away, gdr_in, gdr_typed, gdr_long, vxr_bytes, node_behind, block_behind, variables_in, other_kind, StandsAmong, through, tile, typed, long, fits, behind_in, FileSame, Kept, all_variable_records, apart, type_of_body, NodeTaken, LeafAdded, placing_marks, OwnEdit, IndexEdit}
+use Rattle.cdf_format.specs.Chains.{IsChain}
+use Rattle.cdf_format.specs.Records.{gdr_eof, gdr_uir_head}
+use Rattle.cdf_format.specs.RecordTypes.{r_vdr_type, z_vdr_type}
+use Rattle.cdf_edits.specs.Edits.Marks.{variable_types, keeps_file}
+use Rattle.cdf_edits.specs.Space.Chains.{head_of, count_of}
+use Rattle.cdf_edits.proofs.Edits.Composing.{head_size, head_type}
+use Rattle.cdf_edits.proofs.Edits.MadeRecord.{place_in, fresh}
+use Rattle.cdf_edits.proofs.Edits.MarkLemmas.{the_one}
+use Rattle.cdf_edits.proofs.Edits.RecordFrame.{chain_stays, field_avoids, file_same}
+use Rattle.cdf_edits.proofs.Edits.VariableFrame.{variable_typed}
 use Rattle.cdf_edits.proofs.Edits.VariableKept.{OnlyVariable, only_variable}
-use Rattle.cdf_edits.proofs.Edits.VariableKinds.{other_kind, keeps_kind}
+use Rattle.cdf_edits.proofs.Edits.VariableKinds.{keeps_kind}
 use Rattle.cdf_edits.proofs.Edits.VariableSplice.{VariableSplices, keeps_all_attributes}
-use Rattle.cdf_edits.proofs.Edits.StandsAmong.{StandsAmong, through, tile, typed, long, fits, behind_in}
-use Rattle.cdf_edits.proofs.Frame.Meaning.{FileSame, Kept}
-use Rattle.cdf_edits.proofs.Frame.OwnersApart.{all_variable_records}
-use Rattle.cdf_edits.proofs.Space.UsedRecords.{apart}
-use Rattle.cdf_edits.specs.Space.Placing.{type_of_body}
-use Rattle.cdf_index.specs.Adding.{NodeTaken, LeafAdded}
 use Rattle.cdf_index.specs.Replacing.{with_index}
-use Rattle.cdf_edits.proofs.Edits.RecordPlaced.{placing_marks}
-use Rattle.cdf_edits.proofs.Edits.OwnEdited.{OwnEdit}
 use Rattle.cdf_edits.proofs.Edits.OwnEdited as of_own
-use Rattle.cdf_edits.proofs.Edits.IndexEdited.{IndexEdit}
 use Rattle.cdf_edits.proofs.Edits.IndexEdited as of_index
 use Rattle.cdf_puts.proofs.LeafEdit.{node_marks, new_nodes, index_marks, leaf_marks, node_stands, space_away, vdr_no_space, first, second, third, edit}
 

@@ -1,15 +1,7 @@
 -- Where a new block ends.
 use Rattle.std.proofs.Common.{◌≡◌, ℕ, ◌+◌, ◌-◌, ◌<◌, ◌≤◌, List, [], ◌∷◌, true, false, Option, ltb, leb, refl, sym, ap, ◌∙◌, arith, inl, inr}
-use Rattle.std.proofs.lemmas.Bool.{cases_lt, le-leb}
-use Rattle.std.proofs.lemmas.Bool.Decides.{nat_tests}
-use Rattle.std.specs.List.{filter, fold}
-use Rattle.std.specs.Option.{unwrap_or}
-use Rattle.std.specs.Prelude.{min}
-use Rattle.cdf_edits.specs.Index.Blocks.{firsts_of, next_first}
-use Rattle.cdf_format.specs.Index.{Nodes}
-use Rattle.cdf_format.proofs.Members.{either}
+use Rattle.cdf_puts.proofs.Common.{cases_lt, le-leb, nat_tests, filter, fold, unwrap_or, min, firsts_of, next_first, Nodes, either, record_number_limit}
 use Rattle.cdf_index.specs.Next.{least_first_past, number_within}
-use Rattle.cdf_model.specs.Limits.{record_number_limit}
 
 past : (n x : ℕ) → ltb n x ≡ true → n < x
 past n x t = grind (arith, nat_tests)

@@ -1,27 +1,7 @@
 -- The nodes of an index once a leaf is added: those that were there keep their size, their room and what stands behind their entries, and one may have been taken.
 use Rattle.std.proofs.Common.{◌≡◌, ◌≢◌, ◌⊎◌, ℕ, zero, suc, ◌+◌, ◌*◌, ◌≤◌, List, [], ◌∷◌, length, Bool, true, false, ◌||◌, ◌==◌, eq-eqb, refl, sym, subst, ◌∙◌, arith, inl, inr}
-use Rattle.cdf_model.specs.declared.kinds.Kind.{Kind}
-use Rattle.cdf_edits.specs.Frame.Changed.{Touch, Misses, Placed as TouchesPlaced}
-use Rattle.cdf_edits.specs.Index.Grown.{with_leaf, new_room}
-use Rattle.cdf_edits.specs.Index.Written.{is_taken_at}
-use Rattle.cdf_edits.specs.Space.Acts.{Act}
-use Rattle.cdf_edits.proofs.Edits.VariableCopied.{node_behind}
-use Rattle.cdf_edits.proofs.Edits.StandsAmong.{StandsAmong, has, fits}
-use Rattle.cdf_edits.proofs.Frame.ChangedBytes.{changed_part}
-use Rattle.cdf_edits.proofs.Frame.Meaning.{Kept}
-use Rattle.cdf_edits.proofs.Frame.OwnerAlone.{Each-in}
-use Rattle.cdf_edits.proofs.Space.UsedRecords.{apart}
-use Rattle.cdf_format.specs.Bytes.{Same}
-use Rattle.cdf_format.specs.Fields.{size_at, type_at}
-use Rattle.cdf_format.specs.Index.{Leaf, nodes_of, room_at}
-use Rattle.cdf_format.specs.Records.{vxr_n_entries}
-use Rattle.cdf_format.specs.RecordTypes.{vxr_type, uir_type}
-use Rattle.cdf_format.specs.Shape.{VariableShape, Each, shape}
-use Rattle.cdf_format.specs.Sound.{NodeFits}
-use Rattle.cdf_format.specs.Tiles.{In}
-use Rattle.cdf_format.specs.WellFormed.{Good}
-use Rattle.cdf_format.proofs.BytesLemmas.{Same-part, word_kept, size_kept, number_kept}
-use Rattle.cdf_index.specs.Adding.{IndexTouch, LeafAdded, leaf_acts}
+use Rattle.cdf_puts.proofs.Common.{Kind, Touch, with_leaf, new_room, is_taken_at, Act, node_behind, StandsAmong, has, fits, changed_part, Kept, Each-in, apart, Same, size_at, type_at, Leaf, nodes_of, room_at, vxr_n_entries, vxr_type, uir_type, VariableShape, Each, shape, NodeFits, In, Good, Same-part, word_kept, size_kept, number_kept, IndexTouch, LeafAdded, leaf_acts}
+use Rattle.cdf_edits.specs.Frame.Changed.{Misses, Placed as TouchesPlaced}
 use Rattle.cdf_puts.proofs.BlocksAdded.{used_apart}
 use Rattle.cdf_puts.proofs.LeafCounts.{in_nodes_with_leaf, node_stays}
 use Rattle.cdf_puts.proofs.LeafEdit.{node_in, node_typed, kept_first, grown, sound_roomy, touch_marked}

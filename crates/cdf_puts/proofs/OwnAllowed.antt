@@ -1,37 +1,8 @@
 -- What a put may change of each record of its variable, by whether it is the descriptor, a node, a block or the parameters.
 use Rattle.std.proofs.Common.{◌≡◌, ℕ, List, [], ◌∷◌, length, true, false, Option, Some, None, true≢false, eq-eqb, refl, sym, ap, ◌∙◌, inl, inr}
-use Rattle.std.proofs.lemmas.Bool.{ne_eqb}
-use Rattle.std.specs.List.{slice_get}
-use Rattle.std.specs.Prelude.{◌==◌, find, if◌then◌else◌}
-use Rattle.cdf_edits.proofs.Commands.ListParts.{got-middle}
-use Rattle.cdf_edits.proofs.Edits.InRecords.{places_of}
-use Rattle.cdf_edits.proofs.Edits.LeafPieces.{IsOneOf, find_place}
-use Rattle.cdf_edits.proofs.Edits.MarkLemmas.{or_cases}
-use Rattle.cdf_edits.proofs.Edits.PlainLeaves.{leaves_apart}
-use Rattle.cdf_edits.proofs.Edits.VariableKept.{same_as_itself}
+use Rattle.cdf_puts.proofs.Common.{ne_eqb, slice_get, ◌==◌, find, if◌then◌else◌, got-middle, places_of, IsOneOf, find_place, or_cases, leaves_apart, same_as_itself, StandsAmong, fits, has, typed, Each-in, Allowance, Anything, Only, vdr_type, same_kind, shapes_of, anything_if, put_changes, is_rewritten, Range, range, is_a-type, linkable-type, nodes_stand, is_a, is_in, variable_of, type_at, Leaf, nodes_of, leaves_of, vdr_max_rec, vdr_vxr_head, vdr_vxr_tail, cpr_type, cvvr_type, vvr_type, vxr_type, VariableShape, Each, shape, LeafFits, In, Good, Found, Kind, R, Z, found_in}
 use Rattle.cdf_edits.proofs.Edits.VariableKinds.{kind_type}
-use Rattle.cdf_edits.proofs.Edits.StandsAmong.{StandsAmong, fits, has, typed}
-use Rattle.cdf_edits.proofs.Frame.OwnerAlone.{Each-in}
-use Rattle.cdf_edits.specs.Commands.Allowances.{Allowance, Anything, Only, range_at, vdr_type, same_kind, shapes_of, anything_if, only_of}
-use Rattle.cdf_edits.specs.Commands.Puts.{put_changes}
-use Rattle.cdf_edits.specs.Commands.Room.{is_rewritten}
-use Rattle.cdf_edits.specs.Index.Blocks.{Range, range}
-use Rattle.cdf_format.proofs.ChainsLemmas.{is_a-type, linkable-type}
-use Rattle.cdf_format.proofs.IndexLemmas.{nodes_stand}
-use Rattle.cdf_format.specs.Chains.{is_a, is_in}
-use Rattle.cdf_format.specs.Content.{variable_of}
-use Rattle.cdf_format.specs.Fields.{type_at}
-use Rattle.cdf_format.specs.Index.{Leaf, nodes_of, leaves_of}
-use Rattle.cdf_format.specs.Records.{vdr_max_rec, vdr_vxr_head, vdr_vxr_tail}
-use Rattle.cdf_format.specs.RecordTypes.{cpr_type, cvvr_type, vvr_type, vxr_type}
-use Rattle.cdf_format.specs.Shape.{VariableShape, Each, shape}
-use Rattle.cdf_format.specs.Sound.{LeafFits}
-use Rattle.cdf_format.specs.Tiles.{In}
-use Rattle.cdf_format.specs.WellFormed.{Good}
-use Rattle.cdf_model.specs.Names.{Found}
-use Rattle.cdf_model.specs.declared.kinds.Kind.{Kind}
-use Rattle.cdf_model.specs.declared.kinds.Kind.TheVariants.{R, Z}
-use Rattle.cdf_puts.specs.Going.{found_in}
+use Rattle.cdf_edits.specs.Commands.Allowances.{range_at, only_of}
 
 abbrev block_types : List ℕ
 block_types = vvr_type ∷ cvvr_type ∷ []

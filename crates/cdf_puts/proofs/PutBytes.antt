@@ -1,15 +1,7 @@
 -- The bytes of the blocks while records are put: what a record that is written leaves of them, and what a leaf that is added does.
 use Rattle.std.proofs.Common.{◌≡◌, ◌⊎◌, ℕ, suc, ◌+◌, ◌-◌, ◌*◌, ◌<◌, ◌≤◌, List, length, true, sym, ap, subst, ◌∙◌, arith, inl, inr}
-use Rattle.std.proofs.lemmas.Bool.{cases_eq}
-use Rattle.std.specs.Prelude.{min, max}
-use Rattle.cdf_edits.specs.Index.Written.{is_taken_at}
-use Rattle.cdf_edits.specs.Space.Acts.{Act}
-use Rattle.cdf_edits.proofs.Edits.LeafPieces.{times_le}
-use Rattle.cdf_format.specs.Bytes.{byte, Same}
-use Rattle.cdf_format.specs.Fields.{size_at}
-use Rattle.cdf_format.specs.Index.{Leaf}
-use Rattle.cdf_format.proofs.BytesLemmas.{Same-part, piece_kept, size_kept, word_kept}
-use Rattle.cdf_puts.specs.SoFar.{put_count, put_from, RecordIs, record_of, OldBlock, NewBlock}
+use Rattle.cdf_puts.proofs.Common.{cases_eq, min, max, is_taken_at, Act, times_le, byte, Same, size_at, Leaf, Same-part, piece_kept, size_kept, word_kept, put_count, put_from, record_of, OldBlock, NewBlock}
+use Rattle.cdf_puts.specs.SoFar.{RecordIs}
 use Rattle.cdf_puts.proofs.WrittenGoes.{record_fits}
 
 -- ---- where a record stands in its block

@@ -1,29 +1,11 @@
 -- What a put keeps, owner by owner, and so of all records.
 use Rattle.std.proofs.Common.{◌≡◌, ℕ, suc, ◌+◌, ◌<◌, ◌≤◌, List, [], ◌∷◌, ◌++◌, length, Bool, true, false, refl, sym, ap, subst, ◌∙◌, append_assoc, arith, inl, inr}
-use Rattle.std.proofs.lemmas.Bool.{eqb-true, ne_eqb}
-use Rattle.std.specs.List.{flat_map}
-use Rattle.std.specs.Prelude.{◌==◌, if◌then◌else◌}
+use Rattle.cdf_puts.proofs.Common.{eqb-true, ne_eqb, flat_map, ◌==◌, if◌then◌else◌, same_as_itself, other_kind, StandsAmong, all_attribute_records, Only, Allowances, Stays, Keeps, AllKeep, unused_allowance, same_kind, shapes_of, vdr_type, r_max_rec_field, space_fields, put_changes, Act, is_a-type, apart, cdr_type, gdr_type, either, In-append, In-append_left, In-append_right, type_at, Unused, attribute_records, variable_records, unused_records, owned, AttributeShape, VariableShape, Shape, shape, IsSound, In, Kind, R, Z, found_in}
 use Rattle.cdf_edits.proofs.Commands.KeptRecords.{AllKeep-append}
 use Rattle.cdf_edits.proofs.Edits.OwnersKept.{keep_all, keep_file, keep_places}
-use Rattle.cdf_edits.proofs.Edits.VariableKept.{keep_kinds, keep_variable_parts, same_as_itself}
-use Rattle.cdf_edits.proofs.Edits.VariableKinds.{other_kind}
-use Rattle.cdf_edits.proofs.Edits.StandsAmong.{StandsAmong}
-use Rattle.cdf_edits.proofs.Frame.OwnersApart.{all_attribute_records}
-use Rattle.cdf_edits.specs.Commands.Allowances.{Only, Allowances, Stays, Keeps, AllKeep, allowance, unused_allowance, same_kind, shapes_of, vdr_type, r_max_rec_field, space_fields}
-use Rattle.cdf_edits.specs.Commands.Puts.{put_changes}
-use Rattle.cdf_edits.specs.Space.Acts.{Act}
-use Rattle.cdf_format.proofs.ChainsLemmas.{is_a-type}
-use Rattle.cdf_edits.proofs.Space.UsedRecords.{apart}
-use Rattle.cdf_format.specs.RecordTypes.{cdr_type, gdr_type}
-use Rattle.cdf_format.proofs.Members.{either, In-append, In-append_left, In-append_right}
-use Rattle.cdf_format.specs.Fields.{type_at}
-use Rattle.cdf_format.specs.Owners.{Owner, File, OneAttribute, OneVariable, Unused, attribute_records, variable_records, owned_by, owned_by_attributes, owned_by_variables, unused_records, owned}
-use Rattle.cdf_format.specs.Shape.{AttributeShape, VariableShape, Shape, shape}
-use Rattle.cdf_format.specs.Sound.{IsSound}
-use Rattle.cdf_format.specs.Tiles.{In}
-use Rattle.cdf_model.specs.declared.kinds.Kind.{Kind}
-use Rattle.cdf_model.specs.declared.kinds.Kind.TheVariants.{R, Z}
-use Rattle.cdf_puts.specs.Going.{found_in}
+use Rattle.cdf_edits.proofs.Edits.VariableKept.{keep_kinds, keep_variable_parts}
+use Rattle.cdf_edits.specs.Commands.Allowances.{allowance}
+use Rattle.cdf_format.specs.Owners.{Owner, File, OneAttribute, OneVariable, owned_by, owned_by_attributes, owned_by_variables}
 
 -- of the records of the variable into which is put, of unused ones, and of all others
 pub record PutKeeps (b now : List ℕ) (kind : Kind) (before : List VariableShape) (own : VariableShape) (after : List VariableShape) (r : ℕ) (acts : List Act) : Type 0 where

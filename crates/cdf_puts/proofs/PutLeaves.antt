@@ -1,23 +1,7 @@
 -- The leaves that were put so far: which one more there is once a record is written or a leaf is added, and that a put goes through them one after the other.
 use Rattle.std.proofs.Common.{◌≡◌, ℕ, zero, suc, ◌+◌, ◌-◌, ◌<◌, ◌≤◌, List, [], ◌∷◌, ◌++◌, Bool, true, false, eqb, Some, None, append_assoc, refl, sym, ap, subst, ◌∙◌, arith, inl, inr}
-use Rattle.std.proofs.lemmas.Bool.{cases_lt, lt-ltb, le-ltb, ne_eqb}
-use Rattle.std.proofs.lemmas.Bool.Decides.{nat_tests}
-use Rattle.std.specs.List.{filter}
-use Rattle.std.specs.Prelude.{min, max, nat_lt, find, ◌==◌, if◌then◌else◌}
-use Rattle.cdf_edits.specs.Commands.Puts.{TakesNode, PutsLeaves}
-use Rattle.cdf_edits.specs.Index.Blocks.{range, covers}
-use Rattle.cdf_edits.specs.Index.Grown.{with_leaf, new_room}
-use Rattle.cdf_edits.specs.Index.Written.{block_need}
-use Rattle.cdf_edits.specs.Space.Acts.{Act}
-use Rattle.cdf_edits.proofs.Edits.LeafPieces.{IsOneOf}
-use Rattle.cdf_edits.proofs.Edits.LeafRecords.{Ascending}
-use Rattle.cdf_format.specs.Index.{Leaf, leaves_of}
-use Rattle.cdf_format.specs.Shape.{VariableShape}
-use Rattle.cdf_format.specs.VariableFields.{record_bytes}
-use Rattle.cdf_format.proofs.Members.{either}
-use Rattle.cdf_index.specs.Adding.{node_acts, leaf_acts}
-use Rattle.cdf_index.specs.Growing.{with_new}
-use Rattle.cdf_puts.specs.SoFar.{put_count, was_put, PutsBefore}
+use Rattle.cdf_puts.proofs.Common.{cases_lt, lt-ltb, le-ltb, ne_eqb, nat_tests, filter, min, max, nat_lt, find, ◌==◌, if◌then◌else◌, PutsLeaves, range, covers, with_leaf, new_room, block_need, Act, IsOneOf, Ascending, Leaf, leaves_of, VariableShape, record_bytes, either, node_acts, leaf_acts, with_new, put_count, was_put, PutsBefore}
+use Rattle.cdf_edits.specs.Commands.Puts.{TakesNode}
 
 -- ---- which leaves were put
 

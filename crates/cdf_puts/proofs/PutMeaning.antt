@@ -1,31 +1,13 @@
 -- What a variable means once a record of it is put, in blocks that may be others by now: it has the record, and pads before it where there were none.
 use Rattle.std.proofs.Common.{◌≡◌, ◌≢◌, ℕ, ◌+◌, ◌<◌, ◌≤◌, List, Some, sym, ap, ◌∙◌, arith, ℤ, pos, negsuc, suc}
-use Rattle.std.specs.Option.{option_map}
-use Rattle.std.specs.Prelude.{min, if◌then◌else◌}
-use Rattle.cdf_model.specs.declared.kinds.Kind.{Kind}
-use Rattle.cdf_model.specs.ByteOrder.{turned}
-use Rattle.cdf_model.specs.DataSet.{extent}
+use Rattle.cdf_puts.proofs.Common.{option_map, min, if◌then◌else◌, Kind, turned, extent, pad_record, last_number, greater, with_record, with_variable, content, variable_of, leaves_of, VariableShape, is_little, type_of_variable, record_bytes, max_rec_at, Good, is_sparse, first_written, stored_bytes, Act, leaves_ascend, StandsAmong, FileSame, stays_alike, DescriptorStays, GoesOn, found_in}
 use Rattle.cdf_model.specs.Numbered.{with_item}
-use Rattle.cdf_model.specs.Reading.{pad_record}
-use Rattle.cdf_model.specs.RecordSteps.{last_number, greater, filled, with_record}
-use Rattle.cdf_model.specs.VariableSteps.{with_variable}
-use Rattle.cdf_format.specs.Content.{content, variable_of, records_in}
-use Rattle.cdf_format.specs.Index.{leaves_of}
-use Rattle.cdf_format.specs.Shape.{VariableShape}
-use Rattle.cdf_format.specs.Stored.{is_little}
-use Rattle.cdf_format.specs.VariableFields.{type_of_variable, record_bytes, max_rec_at}
-use Rattle.cdf_format.specs.WellFormed.{Good}
-use Rattle.cdf_edits.specs.Index.Blocks.{is_sparse, first_written}
-use Rattle.cdf_edits.specs.Index.Written.{stored_bytes}
-use Rattle.cdf_edits.specs.Space.Acts.{Act}
-use Rattle.cdf_edits.proofs.Edits.PlainLeaves.{leaves_ascend}
+use Rattle.cdf_model.specs.RecordSteps.{filled}
+use Rattle.cdf_format.specs.Content.{records_in}
 use Rattle.cdf_edits.proofs.Edits.RecordsPut.{StoresPut, records_put, extent_last, filled_uncut, greater_is_first, greater_is_last}
-use Rattle.cdf_edits.proofs.Edits.StandsAmong.{StandsAmong}
-use Rattle.cdf_edits.proofs.Frame.Meaning.{FileSame}
 use Rattle.cdf_edits.proofs.Frame.VdrAlike.{type_alike}
-use Rattle.cdf_edits.proofs.Frame.VdrStays.{stays_alike, variable_stays}
+use Rattle.cdf_edits.proofs.Frame.VdrStays.{variable_stays}
 use Rattle.cdf_puts.proofs.GoesAlike.{stays, record_stays}
-use Rattle.cdf_puts.specs.Going.{DescriptorStays, GoesOn, found_in}
 use Rattle.cdf_puts.proofs.RaisedThen.{HasPut}
 use Rattle.cdf_puts.proofs.PutRules.{no_rule, uncut}
 

@@ -1,25 +1,11 @@
 -- The nodes of an index that grows leaf by leaf: their unused entries and their spare bytes, from the first image to the last.
 use Rattle.std.proofs.Common.{◌≡◌, ◌⊎◌, ℕ, ◌+◌, ◌*◌, ◌<◌, ◌≤◌, List, [], ◌∷◌, ◌++◌, Bool, true, false, not, ◌&&◌, ◌||◌, true≢false, refl, sym, ap, subst, ◌∙◌, arith, inl, inr}
+use Rattle.cdf_puts.proofs.Common.{le-leb, lt-leb, cases_lt, list_any, ◌==◌, nat_le, is_taken_at, uses_entry, UnusedEntries, NodeSpareStays, NodesFollow, Act, Took, Gave, Kept, Each-in, Same, is_in, size_at, Nodes, nodes_of, room_at, used_count, Each, NodeFits, In, Same-part, is_in-true, true-is_in, both, le_of}
 use Rattle.std.proofs.Math.Bool.{or_assoc}
-use Rattle.std.proofs.lemmas.Bool.{le-leb, lt-leb, cases_lt}
-use Rattle.std.specs.List.{list_any}
-use Rattle.std.specs.Prelude.{◌==◌, nat_le}
-use Rattle.cdf_edits.specs.Index.Written.{is_taken_at, was_unused, EntryIs, uses_entry, UnusedEntries, NodeSpareStays, NodesFollow}
-use Rattle.cdf_edits.specs.Space.Acts.{Act, Took, Gave}
+use Rattle.cdf_edits.specs.Index.Written.{was_unused, EntryIs}
 use Rattle.cdf_edits.proofs.Frame.LinksStay.{SameHeads, room_same, used_same, entry_same}
-use Rattle.cdf_edits.proofs.Frame.Meaning.{Kept}
-use Rattle.cdf_edits.proofs.Frame.OwnerAlone.{Each-in}
-use Rattle.cdf_format.specs.Bytes.{Same}
-use Rattle.cdf_format.specs.Chains.{is_in}
-use Rattle.cdf_format.specs.Fields.{size_at}
-use Rattle.cdf_format.specs.Index.{Nodes, nodes_of, room_at, used_count, first_at, last_at, offset_at}
+use Rattle.cdf_format.specs.Index.{first_at, last_at, offset_at}
 use Rattle.cdf_format.specs.IndexOf.{SaysEntry, HasNodes}
-use Rattle.cdf_format.specs.Shape.{Each}
-use Rattle.cdf_format.specs.Sound.{NodeFits}
-use Rattle.cdf_format.specs.Tiles.{In}
-use Rattle.cdf_format.proofs.BytesLemmas.{Same-part}
-use Rattle.cdf_format.proofs.Members.{is_in-true, true-is_in}
-use Rattle.cdf_format.proofs.Tests.{both, le_of}
 use Rattle.cdf_puts.proofs.LeafOutlines.{used_in}
 
 -- ---- tests

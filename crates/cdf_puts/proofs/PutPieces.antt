@@ -1,13 +1,6 @@
 -- The records of a new block, one after the other, and its bytes as those of a record.
 use Rattle.std.proofs.Common.{◌≡◌, ℕ, zero, suc, ◌+◌, ◌-◌, ◌*◌, ◌<◌, ◌≤◌, List, ◌++◌, length, take, drop, max, sym, ap, subst, ◌∙◌, arith, inl, inr}
-use Rattle.std.proofs.lemmas.List.{length-append, take_at, drop_at, drop-drop}
-use Rattle.std.specs.Prelude.{◌==◌}
-use Rattle.cdf_edits.specs.Space.Placing.{IsBody}
-use Rattle.cdf_format.specs.RecordTypes.{uir_type, vvr_type, is_record_type, fixed_size}
-use Rattle.cdf_format.proofs.Members.{either}
-use Rattle.cdf_puts.specs.Putting.{record_put, records_put}
-use Rattle.cdf_puts.specs.SoFar.{BlockRecords, record_of}
-use Rattle.cdf_puts.specs.Steps.{IsBlockBody}
+use Rattle.cdf_puts.proofs.Common.{length-append, take_at, drop_at, drop-drop, ◌==◌, IsBody, uir_type, vvr_type, is_record_type, fixed_size, either, record_put, records_put, BlockRecords, record_of, IsBlockBody}
 use Rattle.cdf_puts.proofs.LeafBlocks.{plain_body}
 
 module _ (raw pad : List ℕ) (r size : ℕ) (raw_long : length raw ≡ size) (pad_long : length pad ≡ size) where

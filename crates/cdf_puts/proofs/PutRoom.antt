@@ -1,12 +1,9 @@
 -- How much longer an image becomes by acts that only take, and that nothing is taken where no bytes are.
 use Rattle.std.proofs.Common.{◌≡◌, ℕ, ◌+◌, ◌≤◌, List, [], ◌∷◌, length, Bool, true, false, refl, ◌∙◌, arith}
-use Rattle.std.specs.List.{fold}
-use Rattle.std.specs.Prelude.{◌==◌, if◌then◌else◌}
+use Rattle.cdf_puts.proofs.Common.{fold, ◌==◌, if◌then◌else◌, Act, Took, Gave, space_before, ActsFollow, Each, IsTaking, taken_bytes}
 use Rattle.cdf_edits.specs.Index.Cut.{BlocksFreedStay, NodesFreedStay, none_written}
-use Rattle.cdf_edits.specs.Space.Acts.{Act, Took, Gave, SpaceLeft, space_before, after_act, AreActs, ActsFollow}
+use Rattle.cdf_edits.specs.Space.Acts.{SpaceLeft, after_act, AreActs}
 use Rattle.cdf_edits.specs.Space.Placement.{place_for, eof_after}
-use Rattle.cdf_format.specs.Shape.{Each}
-use Rattle.cdf_puts.specs.SoFar.{IsTaking, taken_bytes}
 use Rattle.cdf_puts.proofs.SoFarSteps.{taken_sum}
 
 one_taken : (place need : ℕ) (more : List Act) → taken_bytes (Took place need ∷ more) ≡ need + taken_bytes more

@@ -1,22 +1,9 @@
 -- What the rules say of a variable of a good image in which records are put: so far none is compressed, none has a rule for missing records, and no block is packed (rules 4.99 and 7.99).
 use Rattle.std.proofs.Common.{◌≡◌, ℕ, ◌&&◌, List, false, refl, ap}
-use Rattle.std.specs.Prelude.{nat_lt}
-use Rattle.cdf_model.specs.declared.kinds.Kind.{Kind}
-use Rattle.cdf_model.specs.declared.kinds.Sparse.{Sparse}
-use Rattle.cdf_model.specs.declared.kinds.Sparse.TheVariants.{NoRule}
-use Rattle.cdf_model.specs.DataSet.{extent}
-use Rattle.cdf_format.specs.Content.{variable_of}
+use Rattle.cdf_puts.proofs.Common.{nat_lt, Kind, Sparse, NoRule, extent, variable_of, asked, VariableShape, is_compressed, shape, Good, good_by_its_shape, Hold-split, cuts_before_put, is_sparse, own_rules, StandsAmong, has, fits}
 use Rattle.cdf_format.specs.NotRead.{unread_sparse}
-use Rattle.cdf_format.specs.Rules.{asked}
-use Rattle.cdf_format.specs.Shape.{VariableShape, is_compressed, shape}
 use Rattle.cdf_format.specs.VariableRules.{cpr_link, cpr_rows}
-use Rattle.cdf_format.specs.WellFormed.{Good}
-use Rattle.cdf_format.proofs.GoodSound.{good_by_its_shape}
-use Rattle.cdf_format.proofs.RowLemmas.{Hold-split}
-use Rattle.cdf_edits.specs.Index.Blocks.{cuts_before_put, is_sparse}
-use Rattle.cdf_edits.proofs.Edits.PlainLeaves.{own_rules}
 use Rattle.cdf_edits.proofs.Edits.PlainVariables.{is_uncompressed}
-use Rattle.cdf_edits.proofs.Edits.StandsAmong.{StandsAmong, has, fits}
 
 module _ {b : List ℕ} {kind : Kind} {before : List VariableShape} {own : VariableShape} {after : List VariableShape} (good : Good b) (at : StandsAmong b kind before own after) where
   pub loose : is_compressed b own.vdr ≡ false

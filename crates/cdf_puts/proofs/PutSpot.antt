@@ -1,46 +1,21 @@
 -- Where the next record is put: what an image says of a variable of which some records are put, and each step from there.
 use Rattle.std.proofs.Common.{◌≡◌, ℕ, zero, suc, ◌+◌, ◌-◌, ◌*◌, ◌<◌, ◌≤◌, List, [], ◌∷◌, ◌++◌, length, max, min, append_assoc, false, Some, None, ltb, sym, ap, subst, ◌∙◌, arith, inl, inr}
+use Rattle.cdf_puts.proofs.Common.{lt-ltb, le-ltb, ltb-true, find, if◌then◌else◌, shapes_of, put_room, vxr_bytes, widest, range, covers, firsts_of, next_first, block_count, is_sparse, first_written, new_room, times_le, StandsAmong, fits, has, long, tile, variable_of, number, Nodes, leaf, leaves_of, vdr_vxr_head, VariableShape, is_compressed, shape, variables, vdrs, IsSound, In, record_bytes, max_rec_at, sparse_at, Good, good_by_its_shape, good_is_sound, either, tile_lies, LeafAdded, NodeTaken, leaf_acts, HasIndex, index_at, leaf_of, Variable, extent, image_limit, record_number_limit, Kind, R, Z, Covering, new_last, block_bytes, IsPut, PutsUpTo, SomePut, last_in_new, record_put, records_put, SoFar, taken_bytes, IsBlockBody, IsVacant}
 use Rattle.std.proofs.Math.Nat.{div-le_self}
-use Rattle.std.proofs.lemmas.Bool.{lt-ltb, le-ltb, ltb-true, ltb-false}
-use Rattle.std.specs.Prelude.{find, if◌then◌else◌}
+use Rattle.std.proofs.lemmas.Bool.{ltb-false}
 use Rattle.cdf_base.specs.Bytes.{put as put_at}
-use Rattle.cdf_edits.specs.Commands.Allowances.{shapes_of}
-use Rattle.cdf_edits.specs.Commands.Room.{put_room, vxr_bytes, widest}
-use Rattle.cdf_edits.specs.Index.Blocks.{range, covers, firsts_of, next_first, block_count, is_sparse, first_written}
-use Rattle.cdf_edits.specs.Index.Grown.{new_room}
-use Rattle.cdf_edits.proofs.Edits.LeafPieces.{times_le}
-use Rattle.cdf_edits.proofs.Edits.StandsAmong.{StandsAmong, fits, has, in_middle, long, tile}
-use Rattle.cdf_format.specs.Content.{variable_of}
-use Rattle.cdf_format.specs.Fields.{number}
+use Rattle.cdf_edits.proofs.Edits.StandsAmong.{in_middle}
 use Rattle.cdf_format.specs.GoodImage.{IsGoodImage}
-use Rattle.cdf_format.specs.Index.{Nodes, Leaf as TreeLeaf, leaf, leaves_of}
-use Rattle.cdf_format.specs.Records.{vdr_vxr_head}
-use Rattle.cdf_format.specs.Shape.{VariableShape, is_compressed, shape, variables, vdrs}
-use Rattle.cdf_format.specs.Sound.{IsSound}
-use Rattle.cdf_format.specs.Tiles.{In}
-use Rattle.cdf_format.specs.VariableFields.{record_bytes, max_rec_at, sparse_at}
-use Rattle.cdf_format.specs.WellFormed.{Good}
+use Rattle.cdf_format.specs.Index.{Leaf as TreeLeaf}
 use Rattle.cdf_format.proofs.GoodImageLemmas.{good_image}
-use Rattle.cdf_format.proofs.GoodSound.{good_by_its_shape, good_is_sound}
-use Rattle.cdf_format.proofs.Members.{either}
-use Rattle.cdf_format.proofs.TilesLemmas.{tile_lies}
-use Rattle.cdf_index.specs.Adding.{AddsLeaf, LeafAdded, NodeTaken, leaf_acts}
-use Rattle.cdf_index.specs.Finding.{HasIndex, index_at}
-use Rattle.cdf_index.specs.Order.{leaf_of}
+use Rattle.cdf_index.specs.Adding.{AddsLeaf}
 use Rattle.cdf_index.specs.Reading.{HoldsRecords}
 use Rattle.cdf_index.specs.Sight.{seen}
 use Rattle.cdf_index.specs.declared.nodes.Leaf.{Leaf}
 use Rattle.cdf_index.proofs.GoodBlock.{good_block}
 use Rattle.cdf_index.proofs.GoodIndex.{good_index}
 use Rattle.cdf_index.proofs.PlainBlocks.{plain_block}
-use Rattle.cdf_model.specs.DataSet.{Variable, extent}
-use Rattle.cdf_model.specs.Limits.{image_limit, record_number_limit}
-use Rattle.cdf_model.specs.declared.kinds.Kind.{Kind}
-use Rattle.cdf_model.specs.declared.kinds.Kind.TheVariants.{R, Z}
-use Rattle.cdf_puts.specs.Covering.{Covering, new_last, block_bytes}
-use Rattle.cdf_puts.specs.Putting.{IsPut, Putting, PutsOn, PutsUpTo, SomePut, SomePutting, last_in_new, most_in_block, record_put, records_put}
-use Rattle.cdf_puts.specs.SoFar.{SoFar, taken_bytes}
-use Rattle.cdf_puts.specs.Steps.{IsBlockBody, IsVacant}
+use Rattle.cdf_puts.specs.Putting.{Putting, PutsOn, SomePutting, most_in_block}
 use Rattle.cdf_puts.specs.declared.putting.NewRecord.{NewRecord}
 use Rattle.cdf_puts.proofs.Covering.{covering_room, covering_vacant}
 use Rattle.cdf_puts.proofs.CoveringRanges.{full_or_next, one_alone, one_at_least}

@@ -1,48 +1,13 @@
 -- MaxRec is raised to the record that was put: no byte changes but MaxRec, and rMaxRec of an r variable.
 use Rattle.std.proofs.Common.{◌≡◌, ◌≢◌, ℕ, ℤ, pos, ◌+◌, ◌<◌, ◌≤◌, List, [], ◌∷◌, ◌++◌, length, map, Bool, true, bytes_eq, append-nil, refl, sym, ap, subst, ◌∙◌, arith, inl, inr}
-use Rattle.std.proofs.lemmas.Bool.{le-leb}
-use Rattle.std.proofs.lemmas.List.{length-map, map-append, set_at}
-use Rattle.std.specs.List.{flat_map}
-use Rattle.std.specs.Prelude.{if◌then◌else◌, slice_set}
-use Rattle.cdf_model.specs.declared.kinds.Kind.{Kind}
-use Rattle.cdf_model.specs.declared.kinds.Kind.TheVariants.{R, Z}
-use Rattle.cdf_model.specs.DataSet.{DataSet, Variable, extent}
-use Rattle.cdf_model.specs.Limits.{record_number_limit}
-use Rattle.cdf_model.specs.Names.{variables_of, with_variables}
-use Rattle.cdf_format.specs.Chains.{is_in}
-use Rattle.cdf_format.specs.Content.{content, variable_of}
-use Rattle.cdf_format.specs.Fields.{number, type_at, with_sign}
-use Rattle.cdf_format.specs.Owners.{variable_records, unused_records, owned_records, times}
-use Rattle.cdf_format.specs.Records.{vdr_vxr_tail}
-use Rattle.cdf_format.specs.RecordTypes.{cdr_type, gdr_type}
-use Rattle.cdf_format.specs.Shape.{VariableShape, shape}
-use Rattle.cdf_format.specs.Tiles.{In}
-use Rattle.cdf_format.specs.VariableFields.{max_rec_at}
-use Rattle.cdf_format.specs.VariableRules.{is_max_rec}
-use Rattle.cdf_format.specs.WellFormed.{Good}
-use Rattle.cdf_format.proofs.BytesLemmas.{word_kept}
-use Rattle.cdf_format.proofs.ChainsLemmas.{is_a-type}
-use Rattle.cdf_format.proofs.Members.{either, In-append_left}
-use Rattle.cdf_format.proofs.NameRules.{bytes_eq-same}
-use Rattle.cdf_format.proofs.ShapeLemmas.{content_is}
-use Rattle.cdf_format.proofs.Tests.{same_of_bytes_eq}
-use Rattle.cdf_edits.specs.Commands.GreatestRecord.{RMaxRecFollows, r_extents, r_max_rec, greatest_r_max_rec}
-use Rattle.cdf_edits.specs.Commands.Puts.{max_rec_touches}
+use Rattle.cdf_puts.proofs.Common.{le-leb, length-map, map-append, set_at, flat_map, if◌then◌else◌, slice_set, Kind, R, Z, DataSet, Variable, extent, record_number_limit, variables_of, with_variables, is_in, content, variable_of, number, type_at, with_sign, variable_records, unused_records, times, vdr_vxr_tail, cdr_type, gdr_type, VariableShape, shape, In, max_rec_at, is_max_rec, Good, word_kept, is_a-type, either, In-append_left, bytes_eq-same, content_is, same_of_bytes_eq, RMaxRecFollows, r_max_rec, max_rec_touches, Changed, type_in, variables_chain, index_records, WritesRecords, part, same_shape, gdr_typed, variables_of_are, StandsAmong, sound, typed, long, has, fits, ours, Kept, apart, all_attribute_records, all_variable_records, times-in, MaxRecRaised}
+use Rattle.cdf_format.specs.Owners.{owned_records}
+use Rattle.cdf_edits.specs.Commands.GreatestRecord.{r_extents, greatest_r_max_rec}
 use Rattle.cdf_edits.specs.Edits.Marks.{index_types}
-use Rattle.cdf_edits.specs.Frame.Changed.{Changed}
-use Rattle.cdf_edits.specs.Space.Chains.{type_in}
-use Rattle.cdf_edits.specs.Space.VariableChains.{variables_chain}
 use Rattle.cdf_edits.proofs.Edits.LeafRecords.{signed}
-use Rattle.cdf_edits.proofs.Edits.RecordFrame.{index_records}
-use Rattle.cdf_edits.proofs.Edits.RecordsWritten.{WritesRecords, part, same_shape, behind_kept}
-use Rattle.cdf_edits.proofs.Edits.StepEdits.{gdr_typed}
+use Rattle.cdf_edits.proofs.Edits.RecordsWritten.{behind_kept}
 use Rattle.cdf_edits.proofs.Edits.VariableFrame.{index_typed}
-use Rattle.cdf_edits.proofs.Edits.VariableKinds.{variables_of_are}
-use Rattle.cdf_edits.proofs.Edits.StandsAmong.{StandsAmong, sound, typed, long, has, fits, ours}
-use Rattle.cdf_edits.proofs.Frame.Meaning.{Kept}
-use Rattle.cdf_edits.proofs.Space.UsedRecords.{apart}
-use Rattle.cdf_edits.proofs.Frame.OwnersApart.{file_records, all_attribute_records, all_variable_records, owned-times, times-in}
-use Rattle.cdf_puts.specs.Steps.{MaxRecRaised}
+use Rattle.cdf_edits.proofs.Frame.OwnersApart.{file_records, owned-times}
 
 -- ---- the greatest numbers of the r variables
 

@@ -1,33 +1,11 @@
 -- MaxRec is raised at the end of the steps by which a record is put: what holds from the first image to the last.
 use Rattle.std.proofs.Common.{◌≡◌, ℕ, ℤ, ◌<◌, ◌≤◌, List, length, sym, ap, subst, ◌∙◌, arith}
-use Rattle.std.specs.Prelude.{slice_set}
-use Rattle.cdf_model.specs.declared.kinds.Kind.{Kind}
-use Rattle.cdf_model.specs.DataSet.{extent}
-use Rattle.cdf_model.specs.Limits.{image_limit, record_number_limit}
-use Rattle.cdf_model.specs.Names.{variables_of, with_variables}
-use Rattle.cdf_format.specs.Content.{content, variable_of}
-use Rattle.cdf_format.specs.Owners.{owned}
-use Rattle.cdf_format.specs.Records.{vdr_max_rec}
-use Rattle.cdf_format.specs.Shape.{VariableShape, shape}
-use Rattle.cdf_format.specs.VariableFields.{max_rec_at}
-use Rattle.cdf_format.specs.WellFormed.{Good}
-use Rattle.cdf_edits.specs.Commands.Allowances.{AllKeep}
-use Rattle.cdf_edits.specs.Commands.GreatestRecord.{RMaxRecFollows}
-use Rattle.cdf_edits.specs.Commands.Puts.{put_changes}
-use Rattle.cdf_edits.specs.Space.Acts.{Act, ActsFollow}
-use Rattle.cdf_edits.proofs.Edits.StandsAmong.{StandsAmong}
-use Rattle.cdf_edits.proofs.Frame.Meaning.{FileSame}
-use Rattle.cdf_puts.specs.Going.{DescriptorStays, GoesOn, found_in}
-use Rattle.cdf_puts.specs.Steps.{MaxRecRaised}
 use Rattle.cdf_puts.proofs.GoesThen.{Passes, passes, passes_then}
 use Rattle.cdf_puts.proofs.RaisedGoes.{greatest_stays, greatest_raised, raise_writes, max_rec_raised}
 use Rattle.cdf_puts.proofs.WritesGo.{passes_written}
-use Rattle.cdf_edits.proofs.Edits.RecordsWritten.{good_now, r_max_rec_of_z}
-use Rattle.cdf_edits.proofs.Edits.OnlyTaken.{OnlyTakes}
-use Rattle.cdf_edits.proofs.Edits.LeafPieces.{IsOneOf}
-use Rattle.cdf_format.specs.Index.{Leaf, leaves_of}
-use Rattle.cdf_format.specs.Fields.{number}
+use Rattle.cdf_edits.proofs.Edits.RecordsWritten.{r_max_rec_of_z}
 use Rattle.std.proofs.Common.{append-nil}
+use Rattle.cdf_puts.proofs.Common.{slice_set, Kind, extent, image_limit, record_number_limit, variables_of, with_variables, content, variable_of, owned, vdr_max_rec, VariableShape, shape, max_rec_at, Good, AllKeep, RMaxRecFollows, put_changes, Act, ActsFollow, StandsAmong, FileSame, DescriptorStays, GoesOn, found_in, MaxRecRaised, good_now, OnlyTakes, IsOneOf, Leaf, leaves_of, number}
 
 -- From a good image to that behind a put: like a step that goes on, but MaxRec may be greater by now, and rMaxRec follows it.
 pub record HasPut (b now : List ℕ) (kind : Kind) (before : List VariableShape) (own own' : VariableShape) (after : List VariableShape) (r : ℕ) (acts : List Act) : Type 0 where

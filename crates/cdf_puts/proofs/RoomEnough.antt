@@ -1,20 +1,9 @@
 -- The room of a put is enough for the blocks that it makes, and for the nodes that their entries need.
 use Rattle.std.proofs.Common.{◌≡◌, ◌⊎◌, ℕ, suc, ◌+◌, ◌-◌, ◌*◌, ◌<◌, ◌≤◌, List, [], ◌∷◌, length, true, false, ltb, leb, eqb, min, max, refl, sym, ap, ap₂, subst, ◌∙◌, arith, inl, inr}
+use Rattle.cdf_puts.proofs.Common.{nat_tests, length-append, filter, fold, Variable, record_number_limit, Nodes, no_node, node, Entries, no_entry, block, lower, entry_count, either, le_of, widest, vxr_bytes, uncovered, blocks_room, packed_room, put_room, Range, ranges_of, covered, record_length, block_count, next_first, is_sparse, first_written, ranges_before_put, new_room, times_le, lt_of, ge_of, count_upto, node_bytes}
 use Rattle.std.proofs.Math.Nat.{le-div_iff_mul-le}
-use Rattle.std.proofs.lemmas.Bool.Decides.{nat_tests}
-use Rattle.std.proofs.lemmas.List.{length-append}
-use Rattle.std.specs.List.{filter, fold}
-use Rattle.cdf_model.specs.DataSet.{Variable}
-use Rattle.cdf_model.specs.Limits.{record_number_limit}
-use Rattle.cdf_format.specs.Index.{Nodes, no_node, node, Entries, no_entry, block, lower, entry_count}
-use Rattle.cdf_format.proofs.Members.{either}
-use Rattle.cdf_format.proofs.Tests.{le_of}
-use Rattle.cdf_edits.specs.Commands.Room.{entries_in, entries_below, widest, vxr_bytes, quotient_up, uncovered, blocks_room, packed_room, put_room}
-use Rattle.cdf_edits.specs.Index.Blocks.{Range, ranges_of, covered, record_length, block_count, firsts_of, entry_firsts, next_first, is_sparse, first_written, ranges_before_put}
-use Rattle.cdf_edits.specs.Index.Grown.{new_room}
-use Rattle.cdf_edits.proofs.Edits.LeafPieces.{times_le}
-use Rattle.cdf_index.proofs.OrderLemmas.{lt_of, ge_of}
-use Rattle.cdf_puts.specs.Covering.{count_upto, node_bytes}
+use Rattle.cdf_edits.specs.Commands.Room.{entries_in, entries_below, quotient_up}
+use Rattle.cdf_edits.specs.Index.Blocks.{firsts_of, entry_firsts}
 use Rattle.cdf_puts.proofs.CoveringRanges.{least_past, least_upto}
 
 -- ---- the Firsts that are passed

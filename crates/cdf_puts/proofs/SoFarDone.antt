@@ -1,37 +1,19 @@
 -- Once all records up to r are put, and MaxRec is raised where r is past it, the image follows the command.
 use Rattle.std.proofs.Common.{◌≡◌, ℕ, ◌+◌, ◌<◌, ◌≤◌, List, length, false, Option, Some, None, true≢false, refl, sym, ap, subst, ◌∙◌, arith}
-use Rattle.std.proofs.lemmas.Option.{same_Some}
-use Rattle.std.specs.List.{slice_get}
+use Rattle.cdf_puts.proofs.Common.{same_Some, slice_get, Kind, turned, DataSet, Variable, extent, Found, pad_record, with_record, with_variable, Allowances, AllKeep, shapes_of, put_changes, put_room, Act, got-middle, content, variable_of, Nodes, owned, VariableShape, shape, is_little, max_rec_at, type_of_variable, is_sparse, found_in, MaxRecDone, SoFar, taken_bytes}
 use Rattle.cdf_model.specs.declared.answer.Reply.TheVariants as replies
 use Rattle.cdf_model.specs.declared.command.Command.{Command}
 use Rattle.cdf_model.specs.declared.command.Command.TheVariants as commands
-use Rattle.cdf_model.specs.declared.kinds.Kind.{Kind}
 use Rattle.cdf_model.specs.Answers.{Go}
-use Rattle.cdf_model.specs.ByteOrder.{turned}
-use Rattle.cdf_model.specs.DataSet.{DataSet, Variable, extent}
-use Rattle.cdf_model.specs.Names.{Found, variable_named}
-use Rattle.cdf_model.specs.Reading.{pad_record}
-use Rattle.cdf_model.specs.RecordSteps.{with_record}
+use Rattle.cdf_model.specs.Names.{variable_named}
 use Rattle.cdf_model.specs.Step.{ByStep, step}
-use Rattle.cdf_model.specs.VariableSteps.{with_variable}
-use Rattle.cdf_edits.specs.Commands.Allowances.{Allowances, AllKeep, stays_all, shapes_of}
+use Rattle.cdf_edits.specs.Commands.Allowances.{stays_all}
 use Rattle.cdf_edits.specs.Commands.Does.{Does}
 use Rattle.cdf_edits.specs.Commands.Keeps.{allowances}
 use Rattle.cdf_edits.specs.Commands.Named.{OfVariable}
-use Rattle.cdf_edits.specs.Commands.Puts.{PutsRecord, put_changes}
-use Rattle.cdf_edits.specs.Commands.Room.{put_room, room, room_of_variable}
+use Rattle.cdf_edits.specs.Commands.Puts.{PutsRecord}
+use Rattle.cdf_edits.specs.Commands.Room.{room, room_of_variable}
 use Rattle.cdf_edits.specs.Follows.{Follows, only_reads}
-use Rattle.cdf_edits.specs.Space.Acts.{Act}
-use Rattle.cdf_edits.proofs.Commands.ListParts.{got-middle}
-use Rattle.cdf_format.specs.Content.{content, variable_of}
-use Rattle.cdf_format.specs.Index.{Nodes}
-use Rattle.cdf_format.specs.Owners.{owned}
-use Rattle.cdf_format.specs.Shape.{VariableShape, shape}
-use Rattle.cdf_format.specs.Stored.{is_little}
-use Rattle.cdf_format.specs.VariableFields.{max_rec_at, type_of_variable}
-use Rattle.cdf_edits.specs.Index.Blocks.{is_sparse}
-use Rattle.cdf_puts.specs.Going.{found_in}
-use Rattle.cdf_puts.specs.SoFar.{MaxRecDone, SoFar, taken_bytes}
 use Rattle.cdf_puts.proofs.Covering.{covering_total}
 use Rattle.cdf_puts.proofs.DoneBytes.{is_put}
 use Rattle.cdf_puts.proofs.DoneIndex.{index_done}

@@ -1,27 +1,7 @@
 -- Nothing is put yet: how the loop starts that puts records one after the other.
 use Rattle.std.proofs.Common.{◌≡◌, ℕ, suc, ◌+◌, ◌-◌, ◌<◌, ◌≤◌, List, [], ◌∷◌, map, Bool, true, false, ◌||◌, refl, sym, ap, subst, arith, inl, inr}
-use Rattle.std.specs.List.{filter, list_any}
-use Rattle.std.specs.Prelude.{min, max, nat_le, if◌then◌else◌}
-use Rattle.cdf_model.specs.declared.kinds.Kind.{Kind}
-use Rattle.cdf_model.specs.declared.kinds.Sparse.{Sparse}
-use Rattle.cdf_model.specs.declared.kinds.Sparse.TheVariants.{NoRule}
-use Rattle.cdf_model.specs.DataSet.{extent}
-use Rattle.cdf_model.specs.Limits.{record_number_limit}
-use Rattle.cdf_edits.specs.Commands.Puts.{new_ranges}
-use Rattle.cdf_edits.specs.Index.Blocks.{Range, range, covers, ranges_of, first_written, is_sparse}
-use Rattle.cdf_edits.specs.Index.Grown.{with_ranges, indexes_with, outline}
-use Rattle.cdf_edits.specs.Index.Written.{UnusedEntries, NodeSpareStays, NodesFollow, top_chain}
-use Rattle.cdf_edits.proofs.Edits.LeafPieces.{IsOneOf, covers_from, in_order}
-use Rattle.cdf_edits.proofs.Edits.PlainLeaves.{leaves_ascend}
-use Rattle.cdf_format.specs.Chains.{is_in}
-use Rattle.cdf_format.specs.Content.{variable_of}
-use Rattle.cdf_format.specs.Index.{Nodes, Leaf, leaves_of, nodes_of, used_count}
-use Rattle.cdf_format.specs.Shape.{VariableShape, Each}
-use Rattle.cdf_format.specs.Tiles.{In}
-use Rattle.cdf_format.proofs.Members.{is_in-true}
-use Rattle.cdf_format.proofs.NameRules.{bytes_eq-same}
-use Rattle.cdf_format.proofs.Tests.{of_le}
-use Rattle.cdf_puts.specs.SoFar.{PutStart, IndexSoFar, NodesSoFar, BlocksSoFar, was_put, PutsBefore}
+use Rattle.cdf_puts.proofs.Common.{filter, list_any, min, max, nat_le, if◌then◌else◌, Kind, Sparse, NoRule, extent, record_number_limit, new_ranges, Range, range, covers, ranges_of, first_written, is_sparse, with_ranges, indexes_with, outline, UnusedEntries, NodeSpareStays, NodesFollow, top_chain, IsOneOf, in_order, leaves_ascend, is_in, variable_of, Nodes, Leaf, leaves_of, nodes_of, used_count, VariableShape, Each, In, is_in-true, bytes_eq-same, of_le, PutStart, IndexSoFar, NodesSoFar, BlocksSoFar, was_put, PutsBefore}
+use Rattle.cdf_edits.proofs.Edits.LeafPieces.{covers_from}
 use Rattle.cdf_puts.proofs.PutLeaves.{puts_none_yet}
 
 -- ---- nothing is put, and no range is new

@@ -1,28 +1,8 @@
 -- Records are put one after the other: where that starts, a record that is written in a block, and a leaf that is added.
 use Rattle.std.proofs.Common.{◌≡◌, ℕ, zero, suc, ◌+◌, ◌-◌, ◌*◌, ◌<◌, ◌≤◌, List, [], ◌∷◌, ◌++◌, length, map, append-nil, false, refl, sym, ap, subst, ◌∙◌, arith}
-use Rattle.std.proofs.lemmas.Bool.{ne_eqb}
+use Rattle.cdf_puts.proofs.Common.{ne_eqb, min, max, ◌==◌, if◌then◌else◌, image_limit, Kind, vxr_bytes, firsts_of, new_range, first_written, is_sparse, with_leaf, new_room, Act, Took, Gave, taken, variable_of, number, with_sign, Nodes, Leaf, leaf, vdr_max_rec, VariableShape, Each, shape, record_bytes, max_rec_at, LeafAdded, leaf_acts, own_rules, has, fits, Covering, block_bytes, node_bytes, GoesOn, PutStart, BlockRecords, SoFar, IsTaking, record_of, taken_bytes, RecordWritten, IsVacant, IsBlockBody, index_order}
 use Rattle.std.proofs.lemmas.List.Sums.{sum_by-append, sum-map}
 use Rattle.std.specs.List.{sum}
-use Rattle.std.specs.Prelude.{min, max, ◌==◌, if◌then◌else◌}
-use Rattle.cdf_model.specs.Limits.{image_limit}
-use Rattle.cdf_model.specs.declared.kinds.Kind.{Kind}
-use Rattle.cdf_edits.specs.Commands.Room.{vxr_bytes}
-use Rattle.cdf_edits.specs.Index.Blocks.{firsts_of, new_range, first_written, is_sparse}
-use Rattle.cdf_edits.specs.Index.Grown.{with_leaf, new_room}
-use Rattle.cdf_edits.specs.Space.Acts.{Act, Took, Gave, taken}
-use Rattle.cdf_format.specs.Content.{variable_of}
-use Rattle.cdf_format.specs.Fields.{number, with_sign}
-use Rattle.cdf_format.specs.Index.{Nodes, Leaf, leaf}
-use Rattle.cdf_format.specs.Records.{vdr_max_rec}
-use Rattle.cdf_format.specs.Shape.{VariableShape, Each, shape}
-use Rattle.cdf_format.specs.VariableFields.{record_bytes, max_rec_at}
-use Rattle.cdf_index.specs.Adding.{LeafAdded, leaf_acts}
-use Rattle.cdf_edits.proofs.Edits.PlainLeaves.{own_rules}
-use Rattle.cdf_edits.proofs.Edits.StandsAmong.{has, fits}
-use Rattle.cdf_puts.specs.Covering.{Covering, block_bytes, node_bytes}
-use Rattle.cdf_puts.specs.Going.{GoesOn}
-use Rattle.cdf_puts.specs.SoFar.{PutStart, BlockRecords, SoFar, IsTaking, record_of, taken_bytes}
-use Rattle.cdf_puts.specs.Steps.{RecordWritten, IsVacant, IsBlockBody}
 use Rattle.cdf_puts.proofs.BlocksWritten.{blocks_written}
 use Rattle.cdf_puts.proofs.BlocksAdded.{blocks_added}
 use Rattle.cdf_puts.proofs.Covering.{covering_starts, covering_has, covering_leaf}
@@ -36,7 +16,6 @@ use Rattle.cdf_puts.proofs.LeafBlocks.{plain_body, size_needed}
 use Rattle.cdf_puts.proofs.LeafCounts.{roomy}
 use Rattle.cdf_puts.proofs.LeafGood.{leaf_goes_on}
 use Rattle.cdf_puts.proofs.LeafKeeps.{leaf_keeps, leaf_max_rec}
-use Rattle.cdf_index.proofs.LeafRules.{index_order}
 use Rattle.cdf_puts.proofs.IndexWritten.{index_written}
 use Rattle.cdf_puts.proofs.PutMeaning.{first_goes}
 use Rattle.cdf_puts.proofs.SoFarStarts.{starts_upto, index_start, blocks_start}

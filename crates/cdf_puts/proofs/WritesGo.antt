@@ -1,22 +1,7 @@
 -- Where records are written in place, and MaxRec with them, the image goes on to one of its shape.
 use Rattle.std.proofs.Common.{◌≡◌, ℕ, List, [], map, true, Some, refl, ap, ◌∙◌, arith, inl, inr}
-use Rattle.std.specs.Prelude.{find, ◌==◌}
-use Rattle.cdf_edits.proofs.Edits.RecordsWritten.{WritesRecords, part, file, same_shape, size_same, type_same, content_replaced, no_acts_follow, all_keep_put}
-use Rattle.cdf_edits.proofs.Edits.StandsAmong.{StandsAmong, tile, long}
-use Rattle.cdf_edits.proofs.Edits.PlainLeaves.{own_rules}
-use Rattle.cdf_edits.proofs.Edits.VariableKinds.{other_kind}
-use Rattle.cdf_edits.specs.Commands.Allowances.{shapes_of}
-use Rattle.cdf_edits.specs.Commands.Room.{is_rewritten}
-use Rattle.cdf_edits.specs.Frame.Changed.{Touch}
-use Rattle.cdf_edits.specs.Index.Blocks.{range}
-use Rattle.cdf_format.specs.Content.{variable_of}
-use Rattle.cdf_format.specs.Fields.{size_at}
-use Rattle.cdf_format.specs.Index.{Leaf, leaves_of}
-use Rattle.cdf_format.specs.Shape.{VariableShape, Shape}
-use Rattle.cdf_format.specs.Tiles.{In}
-use Rattle.cdf_format.specs.WellFormed.{Good}
-use Rattle.cdf_model.specs.declared.kinds.Kind.{Kind}
-use Rattle.cdf_puts.specs.Going.{DescriptorStays, GoesOn, found_in}
+use Rattle.cdf_puts.proofs.Common.{find, ◌==◌, WritesRecords, part, file, same_shape, StandsAmong, tile, long, own_rules, other_kind, shapes_of, is_rewritten, Touch, range, variable_of, size_at, Leaf, leaves_of, VariableShape, Shape, In, Good, Kind, DescriptorStays, GoesOn, found_in}
+use Rattle.cdf_edits.proofs.Edits.RecordsWritten.{size_same, type_same, content_replaced, no_acts_follow, all_keep_put}
 use Rattle.cdf_puts.proofs.GoesThen.{Passes, going}
 
 module _ {b now : List ℕ} {kind : Kind} {before : List VariableShape} {own : VariableShape} {after : List VariableShape} {ts : List Touch} (good : Good b) (at : StandsAmong b kind before own after) (w : WritesRecords b now kind own ts) where

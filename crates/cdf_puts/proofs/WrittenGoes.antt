@@ -1,44 +1,14 @@
 -- A record is written in its block: one image goes on to another, and no byte changes but those of the record.
 use Rattle.std.proofs.Common.{◌≡◌, ◌≢◌, ◌⊎◌, ℕ, suc, ◌+◌, ◌-◌, ◌*◌, ◌<◌, ◌≤◌, List, [], ◌∷◌, ◌++◌, length, Bool, true, ◌||◌, Some, w32, refl, sym, ap, subst, ◌∙◌, arith, inl, inr}
-use Rattle.std.proofs.lemmas.Bool.{lt-ltb}
-use Rattle.std.specs.Int.{cast_signed}
-use Rattle.std.specs.Prelude.{◌==◌, nat_lt, find}
+use Rattle.cdf_puts.proofs.Common.{lt-ltb, cast_signed, ◌==◌, nat_lt, find, Kind, Variable, image_limit, record_number_limit, Same, byte, variable_of, number, integer4, size_at, type_at, Leaf, nodes_of, leaves_of, vdr_max_rec, gdr_r_max_rec, gdr_type, vvr_type, VariableShape, Shape, HasShape, shape, In, record_bytes, is_max_rec, Good, word_kept, byte-put_before, byte-put_after, tile_lies, r_max_rec, max_rec_touches, is_rewritten, Touch, Outside, Changed, range, covers, shared, first_written, places_of, IsOneOf, covers_within, place_in, find_place, times_le, PlainLeaf, own_rules, plain_leaf, leaves_apart, WritesRecords, file, good_now, gdr_in, gdr_typed, gdr_long, block_behind, StandsAmong, sound, tile, long, no_block, behind_in, changed_part, Kept, apart, GoesOn, RecordWritten}
 use Rattle.cdf_base.specs.Bytes.{put}
-use Rattle.cdf_model.specs.declared.kinds.Kind.{Kind}
-use Rattle.cdf_model.specs.DataSet.{Variable}
-use Rattle.cdf_model.specs.Limits.{image_limit, record_number_limit}
-use Rattle.cdf_format.specs.Bytes.{Same, byte}
-use Rattle.cdf_format.specs.Content.{variable_of}
-use Rattle.cdf_format.specs.Fields.{number, integer4, size_at, type_at, gdr_offset}
-use Rattle.cdf_format.specs.Index.{Leaf, nodes_of, leaves_of}
-use Rattle.cdf_format.specs.Records.{vdr_max_rec, gdr_r_max_rec}
-use Rattle.cdf_format.specs.RecordTypes.{gdr_type, vvr_type}
-use Rattle.cdf_format.specs.Shape.{VariableShape, Shape, HasShape, shape}
-use Rattle.cdf_format.specs.Tiles.{In}
-use Rattle.cdf_format.specs.VariableFields.{record_bytes}
-use Rattle.cdf_format.specs.VariableRules.{is_max_rec}
-use Rattle.cdf_format.specs.WellFormed.{Good}
-use Rattle.cdf_format.proofs.BytesLemmas.{word_kept, length-put, byte-put_before, byte-put_after}
-use Rattle.cdf_format.proofs.TilesLemmas.{tile_lies}
-use Rattle.cdf_edits.specs.Commands.GreatestRecord.{r_max_rec}
-use Rattle.cdf_edits.specs.Commands.Puts.{max_rec_touches}
-use Rattle.cdf_edits.specs.Commands.Room.{is_rewritten}
-use Rattle.cdf_edits.specs.Frame.Changed.{Touch, touch, Outside, Changed}
-use Rattle.cdf_edits.specs.Index.Blocks.{range, covers, shared, first_written}
-use Rattle.cdf_edits.proofs.Edits.InRecords.{places_of}
-use Rattle.cdf_edits.proofs.Edits.LeafPieces.{IsOneOf, found_in, covers_within, place_in, find_place, times_le}
-use Rattle.cdf_edits.proofs.Edits.PlainLeaves.{PlainLeaf, own_rules, plain_leaf, leaves_apart}
-use Rattle.cdf_edits.proofs.Edits.RecordsWritten.{WritesRecords, file, good_now, node_kept, block_kept}
-use Rattle.cdf_edits.proofs.Edits.StepEdits.{gdr_in, gdr_typed, gdr_long}
-use Rattle.cdf_edits.proofs.Edits.VariableCopied.{block_behind}
-use Rattle.cdf_edits.proofs.Edits.StandsAmong.{StandsAmong, sound, tile, long, no_block, behind_in}
-use Rattle.cdf_edits.proofs.Frame.ChangedBytes.{changed_part}
-use Rattle.cdf_edits.proofs.Frame.Meaning.{Kept}
-use Rattle.cdf_edits.proofs.Space.UsedRecords.{apart}
-use Rattle.cdf_puts.specs.Going.{GoesOn}
+use Rattle.cdf_format.specs.Fields.{gdr_offset}
+use Rattle.cdf_format.proofs.BytesLemmas.{length-put}
+use Rattle.cdf_edits.specs.Frame.Changed.{touch}
+use Rattle.cdf_edits.proofs.Edits.LeafPieces.{found_in}
+use Rattle.cdf_edits.proofs.Edits.RecordsWritten.{node_kept, block_kept}
 use Rattle.cdf_puts.proofs.GoesThen.{going}
 use Rattle.cdf_puts.proofs.WritesGo.{passes_written}
-use Rattle.cdf_puts.specs.Steps.{RecordWritten}
 
 -- a record of a range of which some are written
 rewritten_by : (first r k f t : ℕ) (x : Bool) → first ≤ k → k ≤ r → f ≤ k → k ≤ t → (nat_lt 0 (shared first r (range f t)) || x) ≡ true

@@ -1,20 +1,10 @@
 -- New nodes have none behind them, and -1 in the entries that are not used.
-use Rattle.cdf_edits.proofs.Edits.RecordGrown.{grew}
 use Rattle.std.proofs.Common.{◌≡◌, ℕ, zero, suc, ◌+◌, ◌-◌, ◌*◌, ◌/◌, min, ◌<◌, ◌≤◌, List, [], ◌∷◌, length, map, refl, sym, ap, subst, ◌∙◌, arith, inl, inr}
-use Rattle.cdf_edits.proofs.Frame.Meaning.{Kept}
-use Rattle.cdf_format.proofs.BytesLemmas.{number_kept, integer_kept, next_kept, size_kept}
-use Rattle.cdf_format.specs.Fields.{counted, number, size_at}
-use Rattle.cdf_format.specs.Index.{room_at, used_count}
-use Rattle.cdf_format.specs.IndexOf.{SaysEntry}
-use Rattle.cdf_format.specs.Records.{vxr_n_entries, vxr_n_used_entries, vxr_first, vxr_last, vxr_offset}
-use Rattle.cdf_format.specs.Shape.{Each, shape}
-use Rattle.cdf_format.specs.Sound.{NodeFits, IsSound}
-use Rattle.cdf_format.specs.Tiles.{In}
-use Rattle.cdf_reindex.specs.Pyramid.{NewNode, places_of}
-use Rattle.cdf_reindex.specs.Rebuilding.{NodeMade, AllMade}
-use Rattle.cdf_reindex.specs.Reindexed.{IsBare}
-use Rattle.cdf_index.specs.Writing.{unused_entry, entry_in}
-use Rattle.cdf_index.specs.declared.entries.Entry.{Entry}
+use Rattle.cdf_reindex.proofs.Common.{grew, Kept, number_kept, size_kept, number, size_at, room_at, used_count, SaysEntry, vxr_n_used_entries, Each, shape, NodeFits, IsSound, In, NewNode, places_of, NodeMade, AllMade, IsBare, entry_in, Entry}
+use Rattle.cdf_format.proofs.BytesLemmas.{integer_kept, next_kept}
+use Rattle.cdf_format.specs.Fields.{counted}
+use Rattle.cdf_format.specs.Records.{vxr_n_entries, vxr_first, vxr_last, vxr_offset}
+use Rattle.cdf_index.specs.Writing.{unused_entry}
 use Rattle.cdf_reindex.proofs.NodesMade.{IsSmall, stands_once, all_made, used_type}
 use Rattle.cdf_reindex.proofs.WordsOfLevels.{words_of, node_words, length_words}
 

@@ -1,17 +1,8 @@
 -- What is freed leaves every other record in use as it was.
 use Rattle.cdf_edits.proofs.Edits.RecordGrown.{kept_then}
 use Rattle.std.proofs.Common.{◌≢◌, ℕ, List, [], ◌∷◌, length, refl, sym, subst, ◌∙◌, inl, inr}
+use Rattle.cdf_reindex.proofs.Common.{kept_away, Kept, AllGiven, type_kept, tile_lies, type_at, gdr_type, uir_type, shape, IsSound, In}
 use Rattle.cdf_edits.proofs.Edits.FreedRecords.{one_given}
-use Rattle.cdf_edits.proofs.Edits.RecordFrame.{kept_away}
-use Rattle.cdf_edits.proofs.Frame.Meaning.{Kept}
-use Rattle.cdf_edits.specs.Space.Freeing.{AllGiven}
-use Rattle.cdf_format.proofs.BytesLemmas.{type_kept}
-use Rattle.cdf_format.proofs.TilesLemmas.{tile_lies}
-use Rattle.cdf_format.specs.Fields.{type_at}
-use Rattle.cdf_format.specs.RecordTypes.{gdr_type, uir_type}
-use Rattle.cdf_format.specs.Shape.{shape}
-use Rattle.cdf_format.specs.Sound.{IsSound}
-use Rattle.cdf_format.specs.Tiles.{In}
 
 same_kept : (b : List ℕ) → IsSound b (shape b) → (m : ℕ) → In m (shape b).records → Kept b b m
 same_kept b sound m i = let l = tile_lies b 8 (length b) (shape b).records m sound.has_shape.tiled i in record { same = record { each = λ n p q. refl }; inside = l.high; long = l.long }

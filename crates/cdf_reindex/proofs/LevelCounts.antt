@@ -1,15 +1,8 @@
 -- How many nodes and levels there are, and where the nodes stand.
 use Rattle.std.proofs.Common.{◌≡◌, ◌⊎◌, ℕ, zero, suc, ◌+◌, ◌-◌, ◌*◌, ◌/◌, ◌≤◌, List, [], ◌∷◌, ◌++◌, length, map, eqb, append_assoc, append-nil, refl, sym, ap, ap₂, subst, ◌∙◌, arith, inl, inr}
-use Rattle.std.proofs.lemmas.Bool.{eqb-true}
-use Rattle.std.proofs.lemmas.List.{length-append, map-append}
-use Rattle.cdf_edits.proofs.Frame.OwnersApart.{times-append, times-in}
-use Rattle.cdf_edits.specs.Commands.Reindex.{levels_up}
-use Rattle.cdf_edits.specs.Commands.Room.{quotient_up, nodes_above}
-use Rattle.cdf_format.proofs.Members.{either}
-use Rattle.cdf_format.specs.Index.{Entries, no_entry, block, lower, Leaf, nodes_of, lower_nodes, entry_count}
-use Rattle.cdf_format.specs.Owners.{times}
-use Rattle.cdf_format.specs.Tiles.{Distinct}
-use Rattle.cdf_reindex.specs.Pyramid.{NewNode, entries_for, joined, alone, entries_of, uppers, Filled, AreLevels, from_below, places_of, nodes_left}
+use Rattle.cdf_reindex.proofs.Common.{eqb-true, length-append, map-append, times-append, times-in, levels_up, quotient_up, either, Entries, no_entry, block, lower, Leaf, entry_count, times, Distinct, NewNode, entries_for, joined, alone, entries_of, uppers, Filled, AreLevels, from_below, places_of, nodes_left}
+use Rattle.cdf_edits.specs.Commands.Room.{nodes_above}
+use Rattle.cdf_format.specs.Index.{nodes_of, lower_nodes}
 use Rattle.cdf_reindex.proofs.LevelLemmas.{count_joined, count_leaves, count_uppers}
 use Rattle.cdf_reindex.proofs.PyramidIs.{level_at, counted_nodes, at_is}
 

@@ -1,10 +1,7 @@
 -- The steps by which code makes the levels of an index, one by one.
 use Rattle.std.proofs.Common.{◌≡◌, ◌⊎◌, ℕ, zero, suc, ◌+◌, ◌-◌, ◌*◌, ◌/◌, min, ◌<◌, ◌≤◌, List, [], ◌∷◌, ◌++◌, length, map, get_or, append_assoc, append-nil, refl, sym, ap, subst, ◌∙◌, arith, inl, inr}
-use Rattle.std.proofs.lemmas.List.{length-append}
-use Rattle.cdf_edits.specs.Commands.Room.{quotient_up, nodes_above}
-use Rattle.cdf_reindex.specs.Pyramid.{nodes_left}
-use Rattle.cdf_reindex.specs.Rebuilding.{NodeWords, naming, upper_of, level_entries, AreFilled, AreStacked, nodes_up, NodeMade, AllMade, LevelMade, LevelsMade, PyramidMade}
-use Rattle.cdf_index.specs.declared.entries.Entry.{Entry}
+use Rattle.cdf_reindex.proofs.Common.{length-append, quotient_up, nodes_above, nodes_left, NodeWords, upper_of, level_entries, AreFilled, AreStacked, nodes_up, NodeMade, AllMade, LevelMade, LevelsMade, PyramidMade, Entry}
+use Rattle.cdf_reindex.specs.Rebuilding.{naming}
 use Rattle.cdf_reindex.proofs.LevelCounts.{leaves_under, above_is, left_more}
 
 -- ---- nodes of a level

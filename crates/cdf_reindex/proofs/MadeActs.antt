@@ -1,25 +1,9 @@
 -- The acts by which an index is made anew: the nodes are taken, and then the old ones are freed.
 use Rattle.std.proofs.Common.{◌≡◌, ℕ, ◌+◌, ◌*◌, ◌≤◌, List, [], ◌∷◌, ◌++◌, length, map, true, refl, sym, ap, subst, ◌∙◌, arith}
-use Rattle.std.specs.List.{fold, sum}
-use Rattle.cdf_model.specs.declared.kinds.Kind.{Kind}
-use Rattle.cdf_model.specs.declared.kinds.Kind.TheVariants.{R, Z}
-use Rattle.cdf_format.specs.Fields.{size_at}
-use Rattle.cdf_format.specs.Index.{nodes_of}
-use Rattle.cdf_format.specs.RecordTypes.{vxr_type, uir_type}
-use Rattle.cdf_format.specs.Shape.{VariableShape, shape}
-use Rattle.cdf_format.specs.Sound.{IsSound}
-use Rattle.cdf_format.specs.Tiles.{In}
-use Rattle.cdf_format.specs.WellFormed.{Good}
-use Rattle.cdf_format.proofs.BytesLemmas.{size_kept}
-use Rattle.cdf_format.proofs.GoodSound.{good_is_sound}
-use Rattle.cdf_edits.specs.Commands.Reindex.{levels_up, made_acts}
-use Rattle.cdf_edits.specs.Commands.Room.{reindex_room, vxr_bytes}
-use Rattle.cdf_edits.specs.Edits.Marks.{unmarked}
-use Rattle.cdf_edits.specs.Space.Acts.{Act, ActsFollow, gave, taken}
+use Rattle.cdf_reindex.proofs.Common.{sum, Kind, R, Z, size_at, nodes_of, vxr_type, uir_type, VariableShape, shape, IsSound, In, Good, size_kept, good_is_sound, levels_up, made_acts, reindex_room, vxr_bytes, unmarked, Act, ActsFollow, gave, taken, StandsAmong, IsRebuilt}
+use Rattle.std.specs.List.{fold}
 use Rattle.cdf_edits.proofs.Edits.ActsStill.{acts_still_by}
 use Rattle.cdf_edits.proofs.Edits.ActsThen.{all_gave, gave-same}
-use Rattle.cdf_edits.proofs.Edits.StandsAmong.{StandsAmong}
-use Rattle.cdf_reindex.specs.Reindexed.{IsRebuilt}
 use Rattle.cdf_reindex.proofs.MadeEdit.{heads_edit, heads_marks, linked_long, linked_records, linked_unused, may_free, node_linked, node_made, olds, places, sound_made, t}
 use Rattle.cdf_reindex.proofs.MadeTaken.{node_takes}
 use Rattle.cdf_reindex.proofs.MadeTree.{level_length}

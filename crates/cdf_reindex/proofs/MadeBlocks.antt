@@ -1,29 +1,19 @@
 -- The rules of blocks that stay, of a VDR that stays but for MaxRec, VXRhead and VXRtail.
 use Rattle.std.proofs.Common.{◌≡◌, ℕ, ◌+◌, ◌≤◌, List, [], ◌∷◌, ◌++◌, true, ◌&&◌, ◌||◌, refl, sym, subst, ◌∙◌, arith, inl, inr}
-use Rattle.std.specs.Prelude.{◌==◌, nat_le}
-use Rattle.std.specs.List.{flat_map}
+use Rattle.cdf_reindex.proofs.Common.{◌==◌, nat_le, flat_map, is_a, is_in, number, size_at, type_at, Leaf, is_block, leaf_rows, vvr_type, cvvr_type, Hold, Each, LeafFits, In, number_kept, size_kept, type_kept, is_a-type, is_in-true, Hold-split, IsOneOf, FileSame, Kept, VdrStays, stays_alike}
 use Rattle.cdf_model.specs.Place.{record_limit}
-use Rattle.cdf_format.specs.Chains.{is_a, is_in}
-use Rattle.cdf_format.specs.Fields.{number, size_at, type_at}
-use Rattle.cdf_format.specs.Index.{Leaf}
-use Rattle.cdf_format.specs.IndexRules.{is_block, holds_packed, unpacks_to, vvr_rows, cvvr_rows, leaf_rows}
+use Rattle.cdf_format.specs.IndexRules.{holds_packed, unpacks_to, vvr_rows, cvvr_rows}
 use Rattle.cdf_format.specs.Records.{cvvr_c_size}
-use Rattle.cdf_format.specs.RecordTypes.{vvr_type, cvvr_type, fixed_size}
-use Rattle.cdf_format.specs.Rules.{Hold, row, asked}
-use Rattle.cdf_format.specs.Shape.{Each, is_compressed}
-use Rattle.cdf_format.specs.Sound.{LeafFits}
-use Rattle.cdf_format.specs.Tiles.{In}
+use Rattle.cdf_format.specs.RecordTypes.{fixed_size}
+use Rattle.cdf_format.specs.Rules.{row, asked}
+use Rattle.cdf_format.specs.Shape.{is_compressed}
 use Rattle.cdf_format.specs.VariableFields.{plain_size}
-use Rattle.cdf_format.proofs.BytesLemmas.{number_kept, size_kept, type_kept}
-use Rattle.cdf_format.proofs.ChainsLemmas.{is_a-type}
-use Rattle.cdf_format.proofs.Members.{is_in-true}
-use Rattle.cdf_format.proofs.RowLemmas.{Hold-asked, Hold-split}
+use Rattle.cdf_format.proofs.RowLemmas.{Hold-asked}
 use Rattle.cdf_format.proofs.Tests.{both, le_of}
 use Rattle.cdf_edits.proofs.Edits.InRecords.{places_of}
-use Rattle.cdf_edits.proofs.Edits.LeafPieces.{IsOneOf}
-use Rattle.cdf_edits.proofs.Frame.Meaning.{FileSame, Kept, packed_same}
+use Rattle.cdf_edits.proofs.Frame.Meaning.{packed_same}
 use Rattle.cdf_edits.proofs.Frame.VdrAlike.{plain_alike}
-use Rattle.cdf_edits.proofs.Frame.VdrStays.{VdrStays, stays_alike, packed_stays}
+use Rattle.cdf_edits.proofs.Frame.VdrStays.{packed_stays}
 use Rattle.cdf_edits.proofs.Rules.OfVariables.{asked_same}
 
 module _ {b now : List ℕ} (file : FileSame b now) {v : ℕ} (k : VdrStays b now v) where

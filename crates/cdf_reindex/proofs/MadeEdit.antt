@@ -1,46 +1,19 @@
 -- An index made anew, as one edit: its nodes are taken and written, VXRhead and VXRtail lead to it, and the old nodes are freed.
 use Rattle.std.proofs.Common.{◌≡◌, ◌≢◌, ℕ, ◌+◌, ◌≤◌, List, [], ◌∷◌, ◌++◌, length, true, refl, sym, ap, subst, ◌∙◌, arith, inl}
-use Rattle.cdf_model.specs.declared.kinds.Kind.{Kind}
-use Rattle.cdf_model.specs.declared.kinds.Kind.TheVariants.{R, Z}
-use Rattle.cdf_format.specs.Chains.{is_in, IsChain}
-use Rattle.cdf_format.specs.Fields.{number, size_at, type_at, with_field, eof, LiesIn}
-use Rattle.cdf_format.specs.Index.{nodes_of, link_to}
-use Rattle.cdf_format.specs.Records.{Field, field, gdr_uir_head, vdr_vxr_head, vdr_vxr_tail}
-use Rattle.cdf_format.specs.RecordTypes.{gdr_type, r_vdr_type, z_vdr_type, vxr_type, uir_type}
-use Rattle.cdf_format.specs.Shape.{VariableShape, Shape, Each, HasShape, shape}
-use Rattle.cdf_format.specs.Sound.{IsSound}
-use Rattle.cdf_format.specs.Tiles.{In, AreTiles}
+use Rattle.cdf_reindex.proofs.Common.{Kind, R, Z, is_in, IsChain, number, size_at, type_at, with_field, eof, LiesIn, nodes_of, link_to, Field, field, gdr_uir_head, vdr_vxr_head, vdr_vxr_tail, gdr_type, r_vdr_type, z_vdr_type, vxr_type, uir_type, VariableShape, Shape, Each, HasShape, shape, IsSound, In, AreTiles, Good, size_kept, type_kept, linkable-type, good_by_its_shape, good_is_sound, nodes_stand, length-with_field, levels_up, vxr_bytes, Edit, freeing_marks, Among, Mark, mark, avoided, unmarked, keeps_file, write, type_in, variables_chain, edit_then, IsLeft, all_left, edit_under, away-avoids, unmarked-away, Avoids-append, kept, gdr_field, gdr_place, node_behind, StandsAmong, tile, typed, long, has, behind_in, Kept, apart, IsRebuilt}
 use Rattle.cdf_format.specs.Walks.{records_of}
-use Rattle.cdf_format.specs.WellFormed.{Good}
-use Rattle.cdf_format.proofs.BytesLemmas.{size_kept, type_kept}
-use Rattle.cdf_format.proofs.ChainsLemmas.{chain_complete, linkable-type}
-use Rattle.cdf_format.proofs.GoodSound.{good_by_its_shape, good_is_sound, rules_of_good}
-use Rattle.cdf_format.proofs.IndexLemmas.{nodes_stand}
+use Rattle.cdf_format.proofs.ChainsLemmas.{chain_complete}
+use Rattle.cdf_format.proofs.GoodSound.{rules_of_good}
 use Rattle.cdf_format.proofs.SealedRules.{good_long, sealed_kept}
 use Rattle.cdf_format.proofs.TilesLemmas.{tiling_complete}
-use Rattle.cdf_fields.proofs.Writes.{length-with_field}
-use Rattle.cdf_edits.specs.Commands.Reindex.{levels_up}
-use Rattle.cdf_edits.specs.Commands.Room.{vxr_bytes}
-use Rattle.cdf_edits.specs.Edits.Edit.{Edit}
-use Rattle.cdf_edits.specs.Edits.ManyMarks.{freeing_marks}
-use Rattle.cdf_edits.specs.Edits.Marks.{Among, Mark, mark, avoided, unmarked, keeps_file}
-use Rattle.cdf_edits.specs.Edits.Writes.{Write, write}
-use Rattle.cdf_edits.specs.Space.Chains.{type_in}
-use Rattle.cdf_edits.specs.Space.VariableChains.{variables_chain}
-use Rattle.cdf_edits.proofs.Edits.Composing.{edit_then}
-use Rattle.cdf_edits.proofs.Edits.FreedBytes.{IsLeft, all_left}
-use Rattle.cdf_edits.proofs.Edits.FreedRecords.{MayFree, edit_under, all_given_edit}
-use Rattle.cdf_edits.proofs.Edits.MarkLemmas.{away-avoids, unmarked-away, Avoids-append}
-use Rattle.cdf_edits.proofs.Edits.RecordFrame.{kept, chain_stays, gdr_field, gdr_place}
+use Rattle.cdf_edits.specs.Edits.Writes.{Write}
+use Rattle.cdf_edits.proofs.Edits.FreedRecords.{MayFree, all_given_edit}
+use Rattle.cdf_edits.proofs.Edits.RecordFrame.{chain_stays}
 use Rattle.cdf_edits.proofs.Edits.StepEdits.{some_bytes}
-use Rattle.cdf_edits.proofs.Edits.VariableCopied.{node_behind}
-use Rattle.cdf_edits.proofs.Edits.StandsAmong.{StandsAmong, through, tile, typed, long, has, behind_in}
+use Rattle.cdf_edits.proofs.Edits.StandsAmong.{through}
 use Rattle.cdf_edits.proofs.Edits.WrittenFields.{MayWrite, writes_edit}
-use Rattle.cdf_edits.proofs.Frame.Meaning.{Kept}
 use Rattle.cdf_edits.proofs.Rules.WithoutLinks.{eof_by_rules}
-use Rattle.cdf_edits.proofs.Space.UsedRecords.{apart}
 use Rattle.cdf_edits.proofs.Edits.RecordPlaced.{links_mark}
-use Rattle.cdf_reindex.specs.Reindexed.{IsRebuilt}
 use Rattle.cdf_reindex.proofs.MadeTaken.{TakenAll, all_taken, taking_all}
 
 -- ---- marks

@@ -1,51 +1,30 @@
 -- An index made anew follows `reindex`.
 use Rattle.std.proofs.Common.{◌≡◌, ◌≢◌, ℕ, zero, suc, ◌+◌, ◌<◌, ◌≤◌, List, [], ◌∷◌, ◌++◌, length, map, Bool, true, false, not, ◌&&◌, Option, Some, None, bytes_eq, true≢false, refl, sym, ap, subst, ◌∙◌, arith, inl, inr}
+use Rattle.cdf_reindex.proofs.Common.{slice_get, sum, if◌then◌else◌, Kind, image_limit, Found, Same, content, number, size_at, type_at, Nodes, no_node, node, room_at, IsNode, owned, vdr_vxr_tail, gdr_type, vxr_type, VariableShape, shape, vdrs, IsSound, In, AreTiles, Good, size_kept, good_by_its_shape, good_is_sound, is_in-true, Allowance, Allowances, AllKeep, Anything, Keeps, Only, shapes_of, FullFromLeft, IsPyramid, levels_up, made_acts, reindex_changes, reindex_room, vxr_bytes, last_node, Act, gave, links_end, taken, got-middle, gdr_typed, StandsAmong, apart, IsBare, IsRebuilt, Reindexed}
 use Rattle.std.proofs.lemmas.Option.{same_Some}
-use Rattle.std.specs.List.{list_any, slice_get, sum}
-use Rattle.std.specs.Prelude.{if◌then◌else◌}
+use Rattle.std.specs.List.{list_any}
 use Rattle.cdf_model.specs.declared.answer.Reply.TheVariants as replies
 use Rattle.cdf_model.specs.declared.command.Command.TheVariants as commands
-use Rattle.cdf_model.specs.declared.kinds.Kind.{Kind}
 use Rattle.cdf_model.specs.Answers.{Go}
 use Rattle.cdf_model.specs.DataSet.{DataSet}
-use Rattle.cdf_model.specs.Limits.{image_limit}
-use Rattle.cdf_model.specs.Names.{Found, variable_named}
+use Rattle.cdf_model.specs.Names.{variable_named}
 use Rattle.cdf_model.specs.Step.{ByStep}
 use Rattle.cdf_model.specs.VariableSteps.{reindex_step}
-use Rattle.cdf_format.specs.Bytes.{Same}
 use Rattle.cdf_format.specs.Chains.{next_of}
-use Rattle.cdf_format.specs.Content.{content}
-use Rattle.cdf_format.specs.Fields.{number, size_at, type_at}
-use Rattle.cdf_format.specs.Index.{Nodes, no_node, node, leaves_of, nodes_of, room_at}
-use Rattle.cdf_format.specs.IndexOf.{IsNode}
-use Rattle.cdf_format.specs.Owners.{Owner, owned}
-use Rattle.cdf_format.specs.Records.{vdr_vxr_tail}
-use Rattle.cdf_format.specs.RecordTypes.{gdr_type, vxr_type}
-use Rattle.cdf_format.specs.Shape.{VariableShape, shape, vdrs}
-use Rattle.cdf_format.specs.Sound.{IsSound}
-use Rattle.cdf_format.specs.Tiles.{In, AreTiles}
-use Rattle.cdf_format.specs.WellFormed.{Good}
-use Rattle.cdf_format.proofs.BytesLemmas.{size_kept}
-use Rattle.cdf_format.proofs.GoodSound.{good_by_its_shape, good_is_sound}
-use Rattle.cdf_format.proofs.Members.{is_in-true}
+use Rattle.cdf_format.specs.Index.{leaves_of, nodes_of}
+use Rattle.cdf_format.specs.Owners.{Owner}
 use Rattle.cdf_format.proofs.Owning.{owned_stand}
-use Rattle.cdf_edits.specs.Commands.Allowances.{Allowance, Allowances, AllKeep, Anything, FreedStay, GivenStay, Keeps, Only, allowance, no_fields, shapes_of, stays_all}
+use Rattle.cdf_edits.specs.Commands.Allowances.{FreedStay, GivenStay, allowance, no_fields, stays_all}
 use Rattle.cdf_edits.specs.Commands.Keeps.{allowances}
 use Rattle.cdf_edits.specs.Commands.Named.{OfVariable}
-use Rattle.cdf_edits.specs.Commands.Reindex.{FullFromLeft, IsPyramid, MakesIndex, levels_up, made_acts, nodes_at, AreTight, reindex_changes}
-use Rattle.cdf_edits.specs.Commands.Room.{nodes_above, reindex_room, room, vxr_bytes}
+use Rattle.cdf_edits.specs.Commands.Reindex.{MakesIndex, nodes_at, AreTight}
+use Rattle.cdf_edits.specs.Commands.Room.{nodes_above, room}
 use Rattle.cdf_edits.specs.Follows.{Follows}
-use Rattle.cdf_edits.specs.Index.Written.{NodeSpareStays, NodesFollow, TailFollows, UnusedEntries, is_taken_at, last_node, top_chain, top_stays}
-use Rattle.cdf_edits.specs.Space.Acts.{Act, gave, links_end, taken}
-use Rattle.cdf_edits.proofs.Commands.ListParts.{got-middle}
+use Rattle.cdf_edits.specs.Index.Written.{NodeSpareStays, NodesFollow, TailFollows, UnusedEntries, is_taken_at, top_chain, top_stays}
 use Rattle.cdf_edits.proofs.Edits.FreedBytes.{freed_stay}
 use Rattle.cdf_edits.proofs.Edits.FreedRecords.{sizes_by_tiles}
-use Rattle.cdf_edits.proofs.Edits.StepEdits.{gdr_typed}
 use Rattle.cdf_edits.proofs.Edits.VariableFrame.{Each-map}
-use Rattle.cdf_edits.proofs.Edits.StandsAmong.{StandsAmong}
 use Rattle.cdf_edits.proofs.Space.ActsLeave.{each, no_acts}
-use Rattle.cdf_edits.proofs.Space.UsedRecords.{apart}
-use Rattle.cdf_reindex.specs.Reindexed.{IsBare, IsRebuilt, Reindexed}
 use Rattle.cdf_reindex.proofs.MadeActs.{made_follow, same_size, taken_nodes, taken_within}
 use Rattle.cdf_reindex.proofs.MadeEdit.{edit, gives_edit, heads_edit, left, may_free, node_linked, node_made, olds, records_now, type_linked}
 use Rattle.cdf_reindex.proofs.MadeGood.{among_now, good_now, vdrs_stay}

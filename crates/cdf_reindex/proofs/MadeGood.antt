@@ -1,57 +1,26 @@
 -- An index made anew leads from one good image to another, with the same content.
-use Rattle.cdf_format.proofs.BytesLemmas.{word_kept}
 use Rattle.std.proofs.Common.{◌≡◌, ℕ, pos, negsuc, ◌+◌, ◌*◌, ◌≤◌, List, [], ◌∷◌, ◌++◌, length, true, refl, sym, ap, subst, ◌∙◌, arith, inl, inr}
-use Rattle.std.specs.List.{flat_map}
-use Rattle.cdf_model.specs.declared.kinds.Kind.{Kind}
-use Rattle.cdf_model.specs.declared.kinds.Kind.TheVariants.{R, Z}
-use Rattle.cdf_model.specs.Limits.{image_limit, signed_limit, record_number_limit}
-use Rattle.cdf_format.specs.Chains.{is_in}
-use Rattle.cdf_format.specs.Fields.{number, size_at, type_at, eof}
-use Rattle.cdf_format.specs.Index.{leaves_of, nodes_of, room_at}
-use Rattle.cdf_format.specs.IndexRules.{has_room, nodes_rows, leaf_rows, index_rows}
+use Rattle.cdf_reindex.proofs.Common.{word_kept, flat_map, Kind, R, Z, image_limit, record_number_limit, is_in, number, size_at, type_at, eof, leaves_of, nodes_of, room_at, leaf_rows, variable_records, times, gdr_eof, vdr_max_rec, vxr_n_used_entries, gdr_type, vxr_type, uir_type, Hold, VariableShape, Shape, vdrs, HasShape, shape, NodeFits, IsSound, In, Good, linkable-type, good_by_its_shape, good_is_sound, nodes_stand, In-append, times-none, times-once, Hold-split, shapes_of, Edit, freeing_marks, avoided, keeps_file, edit_then, IsOneOf, used_times, fresh_unowned, gdr_field, block_behind, StandsAmong, fits, has, behind_in, long, Each-in, times-append, apart, Counts, IsBare, IsRebuilt, IndexEdit}
+use Rattle.cdf_model.specs.Limits.{signed_limit}
+use Rattle.cdf_format.specs.IndexRules.{has_room, nodes_rows, index_rows}
 use Rattle.cdf_format.specs.NotRead.{read_types}
-use Rattle.cdf_format.specs.Owners.{OwnedOnce, variable_records, times}
-use Rattle.cdf_format.specs.Records.{gdr_eof, vdr_max_rec, vxr_n_used_entries}
-use Rattle.cdf_format.specs.RecordTypes.{gdr_type, vxr_type, uir_type}
-use Rattle.cdf_format.specs.Rules.{Hold}
-use Rattle.cdf_format.specs.Shape.{VariableShape, Shape, vdrs, HasShape, shape}
-use Rattle.cdf_format.specs.Sound.{NodeFits, IsSound}
-use Rattle.cdf_format.specs.Tiles.{In}
+use Rattle.cdf_format.specs.Owners.{OwnedOnce}
 use Rattle.cdf_format.specs.VariableRules.{is_max_rec}
-use Rattle.cdf_format.specs.WellFormed.{Good}
-use Rattle.cdf_format.proofs.ChainsLemmas.{linkable-type}
 use Rattle.cdf_format.proofs.GoodByShape.{IsGoodByShape}
-use Rattle.cdf_format.proofs.GoodSound.{good_by_its_shape, good_is_sound}
-use Rattle.cdf_format.proofs.IndexLemmas.{nodes_stand}
-use Rattle.cdf_format.proofs.Members.{In-append, In-append_left, In-append_right}
-use Rattle.cdf_format.proofs.Owning.{times-none, times-once}
-use Rattle.cdf_format.proofs.RowLemmas.{Hold-split}
+use Rattle.cdf_format.proofs.Members.{In-append_left, In-append_right}
 use Rattle.cdf_format.proofs.Tests.{of_le}
-use Rattle.cdf_edits.specs.Commands.Allowances.{shapes_of}
-use Rattle.cdf_edits.specs.Edits.Edit.{Edit}
-use Rattle.cdf_edits.specs.Edits.ManyMarks.{freeing_marks}
-use Rattle.cdf_edits.specs.Edits.Marks.{avoided, keeps_file}
-use Rattle.cdf_edits.proofs.Edits.Composing.{edit_then}
 use Rattle.cdf_edits.proofs.Edits.FreedBytes.{all_unused}
 use Rattle.cdf_edits.proofs.Edits.InRecords.{places_of}
-use Rattle.cdf_edits.proofs.Edits.LeafPieces.{IsOneOf}
-use Rattle.cdf_edits.proofs.Edits.OwnedOnce.{IsSorted, used_times, fresh_unowned, owned_once_if, sorted_before}
+use Rattle.cdf_edits.proofs.Edits.OwnedOnce.{IsSorted, owned_once_if, sorted_before}
 use Rattle.cdf_edits.proofs.Edits.PlainLeaves.{own_rules}
-use Rattle.cdf_edits.proofs.Edits.RecordFrame.{index_records, gdr_field}
-use Rattle.cdf_edits.proofs.Edits.VariableCopied.{block_behind}
+use Rattle.cdf_edits.proofs.Edits.RecordFrame.{index_records}
 use Rattle.cdf_edits.proofs.Edits.VariableFrame.{IsRuled}
 use Rattle.cdf_edits.proofs.Edits.VariableKinds.{by_kind, shapes_with, with_shapes, spliced_times}
-use Rattle.cdf_edits.proofs.Edits.StandsAmong.{StandsAmong, fits, has, behind_in, long}
-use Rattle.cdf_edits.proofs.Frame.OwnerAlone.{Each-in}
-use Rattle.cdf_edits.proofs.Frame.OwnersApart.{times-append}
-use Rattle.cdf_edits.proofs.Space.UsedRecords.{apart}
-use Rattle.cdf_index.specs.Adding.{Counts}
 use Rattle.cdf_index.proofs.LeafRules.{index_order, index_rules}
-use Rattle.cdf_reindex.specs.Reindexed.{IsBare, IsRebuilt}
 use Rattle.cdf_reindex.proofs.MadeBlocks.{StandsOn, leaves_on}
 use Rattle.cdf_reindex.proofs.MadeEdit.{edit, gives_edit, heads_edit, heads_marks, long_now, marks, may_free, node_typed, olds, places, reborn, sound_made, t}
 use Rattle.cdf_edits.proofs.Edits.OwnEdited as of_own_edit
-use Rattle.cdf_edits.proofs.Edits.IndexEdited.{IndexEdit, stays, good_now as good_if_ruled}
+use Rattle.cdf_edits.proofs.Edits.IndexEdited.{stays, good_now as good_if_ruled}
 use Rattle.cdf_reindex.proofs.MadeSplices.{block_kept, file, index_edit, own_edit, mine, part}
 use Rattle.cdf_reindex.proofs.MadeTree.{level_times, from_levels}
 

@@ -1,51 +1,27 @@
 -- An index made anew: what it keeps of the records of each owner.
 use Rattle.std.proofs.Common.{◌≡◌, ◌⊎◌, ℕ, suc, ◌+◌, ◌<◌, ◌≤◌, List, [], ◌∷◌, ◌++◌, length, false, true, Option, Some, None, true≢false, eq-eqb, refl, sym, ap, subst, ◌∙◌, arith, inl, inr}
-use Rattle.std.proofs.lemmas.Bool.{ne_eqb}
-use Rattle.std.specs.List.{slice_get}
-use Rattle.std.specs.Prelude.{◌==◌, ◌&&◌, find, nat_le, nat_lt, if◌then◌else◌}
-use Rattle.cdf_model.specs.Names.{Found}
-use Rattle.cdf_model.specs.declared.kinds.Kind.{Kind}
-use Rattle.cdf_model.specs.declared.kinds.Kind.TheVariants.{R, Z}
-use Rattle.cdf_format.specs.Chains.{is_a}
-use Rattle.cdf_format.specs.Fields.{size_at, type_at}
-use Rattle.cdf_format.specs.Index.{Leaf, leaves_of, nodes_of}
-use Rattle.cdf_format.specs.Owners.{OneVariable, owned, variable_records}
-use Rattle.cdf_format.specs.Records.{Field, uir_next_uir, uir_prev_uir, vdr_vxr_head, vdr_vxr_tail}
-use Rattle.cdf_format.specs.RecordTypes.{cdr_type, cpr_type, gdr_type, uir_type, vxr_type, vvr_type, cvvr_type}
-use Rattle.cdf_format.specs.Shape.{VariableShape, HasShape, shape}
-use Rattle.cdf_format.specs.Sound.{IsSound}
-use Rattle.cdf_format.specs.Tiles.{In}
-use Rattle.cdf_format.specs.WellFormed.{Good}
-use Rattle.cdf_format.proofs.ChainsLemmas.{is_a-in, is_a-type, linkable-in}
-use Rattle.cdf_format.proofs.GoodSound.{good_is_sound}
-use Rattle.cdf_format.proofs.Members.{In-append}
-use Rattle.cdf_format.proofs.TilesLemmas.{tile_lies}
-use Rattle.cdf_edits.specs.Commands.Allowances.{Allowance, Allowances, AllKeep, Anything, Keeps, Only, Stays, is_taken, only_of, range_at, same_kind, shapes_of, space_fields, vdr_type}
-use Rattle.cdf_edits.specs.Commands.Reindex.{reindex_changes}
-use Rattle.cdf_edits.specs.Commands.Room.{vxr_bytes}
-use Rattle.cdf_edits.specs.Edits.Edit.{Edit}
-use Rattle.cdf_edits.specs.Edits.Marks.{Mark, Avoids, Away, Within, avoided, unmarked, within}
+use Rattle.cdf_reindex.proofs.Common.{ne_eqb, slice_get, ◌==◌, ◌&&◌, nat_le, if◌then◌else◌, Found, Kind, R, Z, is_a, size_at, type_at, Leaf, leaves_of, nodes_of, owned, variable_records, Field, uir_next_uir, uir_prev_uir, vdr_vxr_head, vdr_vxr_tail, cpr_type, gdr_type, uir_type, vxr_type, vvr_type, cvvr_type, VariableShape, HasShape, shape, IsSound, In, Good, is_a-type, linkable-in, good_is_sound, In-append, tile_lies, Allowance, Allowances, AllKeep, Anything, Keeps, Only, is_taken, shapes_of, reindex_changes, vxr_bytes, Edit, Mark, Avoids, Away, Within, avoided, unmarked, Act, gave, got-middle, Avoids-append, Away-append, away-avoids, unmarked-away, kept, kept_away, gdr_typed, block_behind, other_kind, StandsAmong, behind_in, fits, tile, typed, Kept, Each-in, all_variable_records, IsRebuilt}
+use Rattle.std.specs.Prelude.{find, nat_lt}
+use Rattle.cdf_format.specs.Owners.{OneVariable}
+use Rattle.cdf_format.specs.RecordTypes.{cdr_type}
+use Rattle.cdf_format.proofs.ChainsLemmas.{is_a-in}
+use Rattle.cdf_edits.specs.Commands.Allowances.{Stays, only_of, range_at, same_kind, space_fields, vdr_type}
+use Rattle.cdf_edits.specs.Edits.Marks.{within}
 use Rattle.cdf_edits.specs.Index.Blocks.{Range, range}
-use Rattle.cdf_edits.specs.Space.Acts.{Act, gave}
 use Rattle.cdf_edits.proofs.Commands.KeptRecords.{Stood, keep_attributes, keep_variables, keeps_stood}
-use Rattle.cdf_edits.proofs.Commands.ListParts.{got-middle}
 use Rattle.cdf_edits.proofs.Edits.InRecords.{places_of}
-use Rattle.cdf_edits.proofs.Edits.MarkLemmas.{Avoids-append, Away-append, Within-append, away-avoids, away-within, unmarked-away}
+use Rattle.cdf_edits.proofs.Edits.MarkLemmas.{Within-append, away-within}
 use Rattle.cdf_edits.proofs.Edits.OwnedOnce.{all_attributes_in}
 use Rattle.cdf_edits.proofs.Edits.OwnersKept.{keep_all, keep_file, keep_places, keep_unused, keeps_fields, stood}
-use Rattle.cdf_edits.proofs.Edits.RecordFrame.{cdr_kept, kept, kept_away}
-use Rattle.cdf_edits.proofs.Edits.StepEdits.{gdr_in, gdr_typed}
-use Rattle.cdf_edits.proofs.Edits.VariableCopied.{block_behind, cpr_behind}
+use Rattle.cdf_edits.proofs.Edits.RecordFrame.{cdr_kept}
+use Rattle.cdf_edits.proofs.Edits.StepEdits.{gdr_in}
+use Rattle.cdf_edits.proofs.Edits.VariableCopied.{cpr_behind}
 use Rattle.cdf_edits.proofs.Edits.VariableFrame.{variables_in}
 use Rattle.cdf_edits.proofs.Edits.VariableKept.{keep_kinds, keep_variable_parts, same_as_itself, vdr_allowance}
-use Rattle.cdf_edits.proofs.Edits.VariableKinds.{kind_ours, kind_type, other_kind}
+use Rattle.cdf_edits.proofs.Edits.VariableKinds.{kind_ours, kind_type}
 use Rattle.cdf_edits.proofs.Edits.VariableSplice.{attributes_kept}
-use Rattle.cdf_edits.proofs.Edits.StandsAmong.{StandsAmong, after_ours, behind_in, fits, no_block, ours, tile, typed}
-use Rattle.cdf_edits.proofs.Frame.Meaning.{Kept}
-use Rattle.cdf_edits.proofs.Frame.OwnerAlone.{Each-in}
-use Rattle.cdf_edits.proofs.Frame.OwnersApart.{all_variable_records}
+use Rattle.cdf_edits.proofs.Edits.StandsAmong.{after_ours, no_block, ours}
 use Rattle.cdf_edits.proofs.Edits.OnlyTaken.{none_of_both}
-use Rattle.cdf_reindex.specs.Reindexed.{IsRebuilt}
 use Rattle.cdf_reindex.proofs.MadeActs.{acts}
 use Rattle.cdf_edits.proofs.Edits.OwnEdited.{splices}
 use Rattle.cdf_edits.proofs.Edits.IndexEdited.{vdr_size}

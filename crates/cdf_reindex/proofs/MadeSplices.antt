@@ -1,43 +1,16 @@
 -- An index made anew leaves the file, all attributes and the other variables, and the variable is linked with it.
 use Rattle.std.proofs.Common.{◌≡◌, ◌≢◌, ◌⊎◌, ℕ, ◌+◌, ◌≤◌, List, [], ◌∷◌, length, true, true≢false, refl, sym, ap, subst, ◌∙◌, arith, inl, inr}
-use Rattle.std.proofs.lemmas.Bool.{ne_eqb}
-use Rattle.cdf_model.specs.declared.kinds.Kind.{Kind}
-use Rattle.cdf_model.specs.declared.kinds.Kind.TheVariants.{R, Z}
-use Rattle.cdf_format.specs.Bytes.{Same}
-use Rattle.cdf_format.specs.Chains.{is_a, is_in, IsChain}
-use Rattle.cdf_format.specs.Fields.{number, size_at, type_at}
-use Rattle.cdf_format.specs.Index.{Leaf, leaves_of}
-use Rattle.cdf_format.specs.Owners.{variable_records}
-use Rattle.cdf_format.specs.Records.{gdr_uir_head}
-use Rattle.cdf_format.specs.RecordTypes.{gdr_type, r_vdr_type, z_vdr_type, vxr_type, vvr_type, cvvr_type, cpr_type, uir_type}
-use Rattle.cdf_format.specs.Shape.{VariableShape, Shape, Each, HasShape, shape}
-use Rattle.cdf_format.specs.Sound.{LeafFits, IsSound}
-use Rattle.cdf_format.specs.Tiles.{In}
-use Rattle.cdf_format.specs.WellFormed.{Good}
-use Rattle.cdf_format.proofs.ChainsLemmas.{is_a-type}
-use Rattle.cdf_format.proofs.GoodSound.{good_is_sound}
-use Rattle.cdf_format.proofs.Members.{In-append}
-use Rattle.cdf_edits.specs.Commands.Room.{vxr_bytes}
-use Rattle.cdf_edits.specs.Edits.Edit.{Edit}
-use Rattle.cdf_edits.specs.Edits.Marks.{Mark, Avoids, Away, avoided, unmarked, variable_types, keeps_file}
-use Rattle.cdf_edits.specs.Space.Chains.{head_of, count_of, type_in}
-use Rattle.cdf_edits.specs.Space.VariableChains.{variables_chain}
+use Rattle.cdf_reindex.proofs.Common.{ne_eqb, Kind, R, Z, Same, is_a, is_in, IsChain, number, size_at, type_at, Leaf, leaves_of, variable_records, gdr_uir_head, gdr_type, r_vdr_type, z_vdr_type, vxr_type, vvr_type, cvvr_type, cpr_type, uir_type, VariableShape, Shape, Each, HasShape, shape, LeafFits, IsSound, In, Good, is_a-type, good_is_sound, In-append, vxr_bytes, Edit, Mark, Avoids, Away, avoided, unmarked, keeps_file, type_in, variables_chain, the_one, away-avoids, unmarked-away, Avoids-append, Away-append, kept, gdr_place, node_behind, block_behind, other_kind, StandsAmong, tile, typed, fits, behind_in, FileSame, Kept, all_variable_records, apart, with_index, IsRebuilt, IndexEdit}
+use Rattle.cdf_edits.specs.Edits.Marks.{variable_types}
+use Rattle.cdf_edits.specs.Space.Chains.{head_of, count_of}
 use Rattle.cdf_edits.proofs.Edits.InRecords.{places_of}
-use Rattle.cdf_edits.proofs.Edits.MarkLemmas.{the_one, or_cases, away-avoids, unmarked-away, Avoids-append, Away-append}
-use Rattle.cdf_edits.proofs.Edits.RecordFrame.{kept, gdr_place, file_same}
-use Rattle.cdf_edits.proofs.Edits.VariableCopied.{node_behind, block_behind}
+use Rattle.cdf_edits.proofs.Edits.MarkLemmas.{or_cases}
+use Rattle.cdf_edits.proofs.Edits.RecordFrame.{file_same}
 use Rattle.cdf_edits.proofs.Edits.VariableFrame.{variable_typed}
 use Rattle.cdf_edits.proofs.Edits.VariableKept.{OnlyVariable, only_variable}
-use Rattle.cdf_edits.proofs.Edits.VariableKinds.{other_kind, keeps_kind}
+use Rattle.cdf_edits.proofs.Edits.VariableKinds.{keeps_kind}
 use Rattle.cdf_edits.proofs.Edits.VariableSplice.{keeps_all_attributes}
-use Rattle.cdf_edits.proofs.Edits.StandsAmong.{StandsAmong, tile, typed, fits, behind_in}
-use Rattle.cdf_edits.proofs.Frame.Meaning.{FileSame, Kept}
-use Rattle.cdf_edits.proofs.Frame.OwnersApart.{all_variable_records}
-use Rattle.cdf_edits.proofs.Space.UsedRecords.{apart}
-use Rattle.cdf_index.specs.Replacing.{with_index}
-use Rattle.cdf_reindex.specs.Reindexed.{IsRebuilt}
 use Rattle.cdf_edits.proofs.Edits.OwnEdited.{OwnEdit}
-use Rattle.cdf_edits.proofs.Edits.IndexEdited.{IndexEdit}
 use Rattle.cdf_edits.proofs.Edits.IndexEdited as of_index
 use Rattle.cdf_reindex.proofs.MadeEdit.{index_made_marks, own_marks, edit, marks, olds, places, reborn, records_now, t}
 use Rattle.cdf_reindex.proofs.MadeTaken.{taking_all}

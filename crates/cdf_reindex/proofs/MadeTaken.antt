@@ -1,35 +1,16 @@
 -- Nodes that are taken one after the other: one edit, and acts that follow.
 use Rattle.std.proofs.Common.{◌≡◌, ℕ, ◌≤◌, List, [], ◌∷◌, length, map, Bool, true, false, ◌||◌, refl, sym, ap, subst, ◌∙◌, arith, inl, inr}
-use Rattle.cdf_format.specs.Chains.{is_in}
-use Rattle.cdf_format.specs.Fields.{size_at, type_at, eof}
-use Rattle.cdf_format.specs.Records.{Field, field, gdr_eof, gdr_uir_head, uir_next_uir, uir_prev_uir}
-use Rattle.cdf_format.specs.RecordTypes.{gdr_type, uir_type, vxr_type}
-use Rattle.cdf_format.specs.Shape.{Shape, shape}
-use Rattle.cdf_format.specs.Sound.{IsSound}
-use Rattle.cdf_format.specs.Tiles.{In, Distinct}
-use Rattle.cdf_format.proofs.BytesLemmas.{size_kept, type_kept}
-use Rattle.cdf_format.proofs.ChainsLemmas.{linkable-in, linkable-type}
-use Rattle.cdf_format.proofs.Members.{either, true-is_in, false-is_in}
-use Rattle.cdf_format.proofs.TilesLemmas.{tile_lies}
-use Rattle.cdf_edits.specs.Commands.Allowances.{is_taken}
-use Rattle.cdf_edits.specs.Commands.Room.{vxr_bytes}
-use Rattle.cdf_edits.specs.Edits.Edit.{Edit}
-use Rattle.cdf_edits.specs.Edits.Marks.{Anywhere, Among, Mark, mark, Avoids, Away, Within}
-use Rattle.cdf_edits.specs.Space.Acts.{Act, Took, ActsFollow}
+use Rattle.cdf_reindex.proofs.Common.{is_in, size_at, type_at, eof, Field, field, gdr_eof, gdr_uir_head, uir_next_uir, uir_prev_uir, gdr_type, uir_type, vxr_type, Shape, shape, IsSound, In, Distinct, size_kept, type_kept, linkable-in, linkable-type, either, true-is_in, false-is_in, tile_lies, is_taken, vxr_bytes, Edit, Among, Mark, mark, Avoids, Away, Within, Act, ActsFollow, edit_then, edit_under, place_in, filled_size, fresh, the_one, Avoids-append, kept, Kept, apart, AllTaken}
+use Rattle.cdf_edits.specs.Edits.Marks.{Anywhere}
+use Rattle.cdf_edits.specs.Space.Acts.{Took}
 use Rattle.cdf_edits.specs.Space.Placement.{with_space}
 use Rattle.cdf_edits.proofs.Edits.EditActs.{acts_none, acts_took}
-use Rattle.cdf_edits.proofs.Edits.Composing.{edit_then}
-use Rattle.cdf_edits.proofs.Edits.FreedRecords.{edit_under}
-use Rattle.cdf_edits.proofs.Edits.MadeRecord.{place_in, filled_size, fresh, listed_before, listed_marks, loose_away, made_edit}
-use Rattle.cdf_edits.proofs.Edits.MarkLemmas.{the_one, Avoids-append}
+use Rattle.cdf_edits.proofs.Edits.MadeRecord.{listed_before, listed_marks, loose_away, made_edit}
 use Rattle.cdf_edits.proofs.Edits.OwnersKept.{keeps_within, taken_is_taken}
-use Rattle.cdf_edits.proofs.Edits.RecordFrame.{kept}
-use Rattle.cdf_edits.proofs.Frame.Meaning.{Kept}
-use Rattle.cdf_edits.proofs.Space.UsedRecords.{apart}
 use Rattle.cdf_edits.proofs.Edits.ActsJoined.{ListedStay, acts_joined}
 use Rattle.cdf_edits.proofs.Edits.RecordPlaced.{Grows, NodeStands, still_edit, grows_not, placed_grows, placing_marks}
 use Rattle.cdf_edits.proofs.Edits.OnlyTaken.{OnlyTakes}
-use Rattle.cdf_reindex.specs.Reindexed.{NodeTaken, AllTaken}
+use Rattle.cdf_reindex.specs.Reindexed.{NodeTaken}
 
 -- ---- marks
 

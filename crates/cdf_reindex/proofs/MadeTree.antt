@@ -1,15 +1,9 @@
 -- The nodes of an index of so many levels are those of its levels.
 use Rattle.std.proofs.Common.{◌≡◌, ℕ, zero, suc, ◌+◌, ◌≤◌, Bool, List, [], ◌∷◌, ◌++◌, length, map, refl, sym, ap, ap₂, ◌∙◌, arith, inl, inr}
-use Rattle.std.proofs.lemmas.List.{length-append, map-append}
-use Rattle.cdf_format.specs.Index.{Nodes, no_node, node, Entries, no_entry, block, lower, nodes_of, lower_nodes}
+use Rattle.cdf_reindex.proofs.Common.{length-append, map-append, Nodes, no_node, node, Entries, no_entry, block, lower, times, In, is_in, either, true-is_in, false-is_in, times-none, levels_up, times-append, times-in}
+use Rattle.cdf_format.specs.Index.{nodes_of, lower_nodes}
 use Rattle.cdf_format.specs.IndexOf.{HasNodes, Names}
-use Rattle.cdf_format.specs.Owners.{times}
-use Rattle.cdf_format.specs.Tiles.{In}
-use Rattle.cdf_format.specs.Chains.{is_in}
-use Rattle.cdf_format.proofs.Members.{either, true-is_in, false-is_in}
-use Rattle.cdf_format.proofs.Owning.{times-none}
-use Rattle.cdf_edits.specs.Commands.Reindex.{nodes_at, nodes_below, levels_up}
-use Rattle.cdf_edits.proofs.Frame.OwnersApart.{times-append, times-in}
+use Rattle.cdf_edits.specs.Commands.Reindex.{nodes_at, nodes_below}
 
 -- what counts a list by its parts
 record Adds (f : List ℕ → ℕ) : Type 0 where

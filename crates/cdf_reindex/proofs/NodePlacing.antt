@@ -1,14 +1,9 @@
 -- A record that was taken becomes a node.
 use Rattle.std.proofs.Common.{◌≡◌, ℕ, List, length}
+use Rattle.cdf_reindex.proofs.Common.{content, eof, gdr_offset, shape, IsSound, NodeMade, Entry}
 use Rattle.cdf_edits.proofs.Edits.RecordGrown.{ends}
 use Rattle.cdf_edits.specs.Space.Placement.{Takes}
-use Rattle.cdf_format.specs.Content.{content}
-use Rattle.cdf_format.specs.Fields.{eof, gdr_offset}
-use Rattle.cdf_format.specs.Shape.{shape}
-use Rattle.cdf_format.specs.Sound.{IsSound}
-use Rattle.cdf_reindex.specs.Rebuilding.{NodeMade}
 use Rattle.cdf_index.specs.Writing.{NodeWritten}
-use Rattle.cdf_index.specs.declared.entries.Entry.{Entry}
 use Rattle.cdf_index.proofs.NodeFilled.{fills}
 
 module _ (b taken : List ℕ) (place : ℕ) (sound : IsSound b (shape b)) (takes : Takes b taken (shape b) (shape taken) 1052 place) (sound_taken : IsSound taken (shape taken)) (stays : content taken ≡ content b) (now : List ℕ) (entries : List Entry) (w : NodeWritten taken now place 64 0 entries) where

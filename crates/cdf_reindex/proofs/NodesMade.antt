@@ -1,24 +1,11 @@
 -- What the making of nodes leaves of an image, and that the nodes stand in it.
-use Rattle.cdf_edits.proofs.Edits.RecordGrown.{Grew, grew_none, grew_then, grew}
+use Rattle.cdf_edits.proofs.Edits.RecordGrown.{grew_then}
 use Rattle.std.proofs.Common.{◌≡◌, ◌≢◌, ℕ, ◌+◌, ◌*◌, ◌≤◌, List, [], ◌∷◌, map, refl, sym, ap, subst, ◌∙◌, arith, inl, inr}
+use Rattle.cdf_reindex.proofs.Common.{Grew, grew_none, grew, filled_size, place_in, fresh, SameHeads, node_fits_kept, Kept, apart, size_kept, type_kept, linkable-from, linkable-type, size_at, type_at, no_node, entry_count, used_count, SaysEntry, gdr_type, uir_type, vxr_type, Each, shape, NodeFits, IsSound, In, Distinct, NewNode, places_of, NodeMade, AllMade, entry_in}
 use Rattle.std.proofs.lemmas.Bool.{cases_eq}
 use Rattle.cdf_edits.proofs.Edits.Composing.{head_type}
-use Rattle.cdf_edits.proofs.Edits.MadeRecord.{filled_size, place_in, fresh}
-use Rattle.cdf_edits.proofs.Frame.LinksStay.{SameHeads, node_kept, node_fits_kept}
-use Rattle.cdf_edits.proofs.Frame.Meaning.{Kept}
-use Rattle.cdf_edits.proofs.Space.UsedRecords.{apart}
-use Rattle.cdf_format.proofs.BytesLemmas.{size_kept, type_kept}
-use Rattle.cdf_format.proofs.ChainsLemmas.{linkable-from, linkable-type}
-use Rattle.cdf_format.specs.Fields.{size_at, type_at}
-use Rattle.cdf_format.specs.Index.{no_node, entry_count, used_count}
-use Rattle.cdf_format.specs.IndexOf.{SaysEntry, SaysNode}
-use Rattle.cdf_format.specs.RecordTypes.{gdr_type, uir_type, vxr_type}
-use Rattle.cdf_format.specs.Shape.{Each, shape}
-use Rattle.cdf_format.specs.Sound.{NodeFits, IsSound}
-use Rattle.cdf_format.specs.Tiles.{In, Distinct}
-use Rattle.cdf_reindex.specs.Pyramid.{NewNode, places_of}
-use Rattle.cdf_reindex.specs.Rebuilding.{NodeMade, AllMade}
-use Rattle.cdf_index.specs.Writing.{entry_in}
+use Rattle.cdf_edits.proofs.Frame.LinksStay.{node_kept}
+use Rattle.cdf_format.specs.IndexOf.{SaysNode}
 use Rattle.cdf_reindex.proofs.WordsOfLevels.{words_of, node_words, length_words, say_entries}
 
 -- ---- a new node

@@ -1,26 +1,9 @@
 -- The levels that code made, as a tree that stands in the image.
-use Rattle.cdf_edits.proofs.Edits.RecordGrown.{Grew, grew_none}
 use Rattle.std.proofs.Common.{◌≡◌, ℕ, suc, ◌+◌, ◌≤◌, List, [], ◌∷◌, ◌++◌, length, map, append-nil, sym, ap, ap₂, subst, ◌∙◌, arith, inl, inr}
-use Rattle.cdf_model.specs.Limits.{record_number_limit}
-use Rattle.cdf_edits.proofs.Edits.OwnedOnce.{used_times, fresh_unowned}
-use Rattle.cdf_edits.proofs.Frame.OwnersApart.{times-in}
-use Rattle.cdf_format.proofs.ChainsLemmas.{linkable-type}
-use Rattle.cdf_format.proofs.Members.{either, true-is_in, false-is_in}
-use Rattle.cdf_format.proofs.Owning.{times-none, times-once}
-use Rattle.cdf_format.proofs.ShapeLemmas.{Each-append, Each-split}
-use Rattle.cdf_format.specs.Chains.{is_in}
-use Rattle.cdf_format.specs.Fields.{type_at}
-use Rattle.cdf_format.specs.Index.{Nodes, no_node, node, Entries, no_entry, block, lower, Leaf, nodes_of, leaves_of, entry_leaves, link_to}
+use Rattle.cdf_reindex.proofs.Common.{Grew, grew_none, record_number_limit, used_times, fresh_unowned, times-in, linkable-type, either, true-is_in, false-is_in, times-none, times-once, Each-append, Each-split, is_in, type_at, Nodes, no_node, node, Entries, no_entry, block, lower, Leaf, link_to, times, vxr_type, VariableShape, Shape, Each, HasVariable, variables, shape, NodeFits, IsSound, In, Distinct, past_entries, NewNode, entries_for, alone, Filled, AreLevels, from_below, places_of, IsBare, NodeWords, AllMade, PyramidMade, nodes_up}
+use Rattle.cdf_format.specs.Index.{nodes_of, leaves_of, entry_leaves}
 use Rattle.cdf_format.specs.IndexOf.{HasNodes}
-use Rattle.cdf_format.specs.Owners.{times}
-use Rattle.cdf_format.specs.RecordTypes.{vxr_type}
-use Rattle.cdf_format.specs.Shape.{VariableShape, Shape, Each, HasVariable, variables, shape}
-use Rattle.cdf_format.specs.Sound.{NodeFits, IsSound}
-use Rattle.cdf_format.specs.Tiles.{In, Distinct}
-use Rattle.cdf_index.specs.Order.{past_entries, InOrder, AreInOrder}
-use Rattle.cdf_reindex.specs.Pyramid.{NewNode, entries_for, alone, Filled, AreLevels, from_below, places_of}
-use Rattle.cdf_reindex.specs.Reindexed.{IsBare}
-use Rattle.cdf_reindex.specs.Rebuilding.{NodeWords, AllMade, PyramidMade, nodes_up}
+use Rattle.cdf_index.specs.Order.{InOrder, AreInOrder}
 use Rattle.cdf_reindex.proofs.BareNodes.{all_bare}
 use Rattle.cdf_reindex.proofs.LevelCounts.{levels_few, times_nodes, nodes_alone}
 use Rattle.cdf_reindex.proofs.LevelLemmas.{filled_rest, filled_few, leaves_stay}

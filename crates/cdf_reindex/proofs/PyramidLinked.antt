@@ -1,45 +1,31 @@
 -- The index that was built takes the place of the old one: the image stays sound, and the old nodes are free.
 use Rattle.std.specs.Int.{w32, cast_signed}
 use Rattle.std.proofs.Common.{◌≡◌, ◌≢◌, ◌⊎◌, ℕ, ◌+◌, ◌^◌, ◌<◌, ◌≤◌, List, [], ◌∷◌, ◌++◌, length, map, slice_index, refl, sym, ap, ap₂, subst, ◌∙◌, arith, inl, inr}
+use Rattle.cdf_reindex.proofs.Common.{flat_map, ◌&&◌, ◌==◌, if◌then◌else◌, used_times, SameHeads, node_fits_kept, FileSame, Kept, times-append, times-in, all_variable_records, apart, AreFree, length-with_field, either, true-is_in, false-is_in, times-none, word_kept, tile_lies, Same, is_in, content, LiesIn, number, size_at, type_at, with_field, Nodes, Leaf, nodes_of, leaves_of, IsIndex, is_block, times, variable_records, vdr_vxr_head, vdr_vxr_tail, vdr_max_rec, vxr_type, uir_type, vvr_type, cvvr_type, VariableShape, Shape, Each, vdrs, variables, HasVariable, HasShape, NodeFits, LeafFits, VariableFits, IsSound, In, IsBare, with_index, VdrStays, stays_alike}
 use Rattle.cdf_model.specs.DataSet.{Variable}
-use Rattle.std.specs.List.{flat_map}
-use Rattle.std.specs.Prelude.{◌&&◌, ◌||◌, ◌==◌, if◌then◌else◌}
-use Rattle.cdf_edits.proofs.Edits.OwnedOnce.{used_times, unused_none, outside_unowned}
-use Rattle.cdf_edits.proofs.Frame.LinksStay.{SameHeads, nodes_kept, node_fits_kept}
-use Rattle.cdf_edits.proofs.Frame.Meaning.{FileSame, Kept, pad_long}
+use Rattle.std.specs.Prelude.{◌||◌}
+use Rattle.cdf_edits.proofs.Edits.OwnedOnce.{unused_none, outside_unowned}
+use Rattle.cdf_edits.proofs.Frame.LinksStay.{nodes_kept}
+use Rattle.cdf_edits.proofs.Frame.Meaning.{pad_long}
 use Rattle.cdf_edits.proofs.Frame.OwnerAlone.{blocks_stand, heads, stays}
-use Rattle.cdf_edits.proofs.Frame.OwnersApart.{times-append, times-in, owned-times, file_records, all_attribute_records, all_variable_records, vdrs_stand, file_same_is}
+use Rattle.cdf_edits.proofs.Frame.OwnersApart.{owned-times, file_records, all_attribute_records, vdrs_stand, file_same_is}
 use Rattle.cdf_edits.proofs.Frame.SoundStays.{unused_kept}
-use Rattle.cdf_edits.proofs.Space.UsedRecords.{apart}
 use Rattle.cdf_edits.specs.Frame.Changed.{touched_field}
 use Rattle.cdf_edits.specs.Frame.Leaves.{after_links, ChangedWithin}
-use Rattle.cdf_edits.specs.Space.Freeing.{AreFree}
-use Rattle.cdf_fields.proofs.Writes.{field_reads, other_words, other_bytes, length-with_field}
-use Rattle.cdf_format.proofs.Members.{either, true-is_in, false-is_in}
-use Rattle.cdf_format.proofs.Owning.{block_in, times-none}
-use Rattle.cdf_format.proofs.BytesLemmas.{word_kept}
+use Rattle.cdf_fields.proofs.Writes.{field_reads, other_words, other_bytes}
+use Rattle.cdf_format.proofs.Owning.{block_in}
 use Rattle.cdf_format.proofs.ShapeLemmas.{shape_is, content_is}
-use Rattle.cdf_format.proofs.TilesLemmas.{tile_lies}
-use Rattle.cdf_format.specs.Bytes.{Same}
-use Rattle.cdf_format.specs.Chains.{is_in, linked_types}
-use Rattle.cdf_format.specs.Content.{majority_of, variable_of, content_of, content, records_in}
-use Rattle.cdf_format.specs.Fields.{LiesIn, number, has_bit, size_at, type_at, with_field}
-use Rattle.cdf_format.specs.Index.{Nodes, Leaf, nodes_of, leaves_of}
-use Rattle.cdf_format.specs.IndexOf.{IsIndex}
-use Rattle.cdf_format.specs.IndexRules.{is_block}
-use Rattle.cdf_format.specs.Owners.{times, variable_records, unused_records, owned_records}
-use Rattle.cdf_format.specs.Records.{vdr_vxr_head, vdr_vxr_tail, vdr_max_rec}
-use Rattle.cdf_format.specs.RecordTypes.{vxr_type, uir_type, vvr_type, cvvr_type}
-use Rattle.cdf_format.specs.Shape.{VariableShape, Shape, Each, vdrs, variables, shape, HasVariable, HasShape}
-use Rattle.cdf_format.specs.Sound.{NodeFits, LeafFits, VariableFits, IsSound}
-use Rattle.cdf_format.specs.Tiles.{In}
+use Rattle.cdf_format.specs.Chains.{linked_types}
+use Rattle.cdf_format.specs.Content.{majority_of, variable_of, content_of, records_in}
+use Rattle.cdf_format.specs.Fields.{has_bit}
+use Rattle.cdf_format.specs.Owners.{unused_records, owned_records}
+use Rattle.cdf_format.specs.Shape.{shape}
 use Rattle.cdf_format.specs.VariableFields.{is_z, dimensions_at, value_bytes, pad_field, has_pad}
 use Rattle.cdf_format.specs.VariableRules.{vdr_end}
-use Rattle.cdf_reindex.specs.Reindexed.{IsBare}
-use Rattle.cdf_index.specs.Replacing.{with_index, with_variables, NewIndex, IsReplaced}
+use Rattle.cdf_index.specs.Replacing.{with_variables, NewIndex, IsReplaced}
 use Rattle.cdf_reindex.proofs.BareNodes.{bare_by}
 use Rattle.cdf_edits.proofs.Frame.VdrAlike.{block_fits_alike, records_alike}
-use Rattle.cdf_edits.proofs.Frame.VdrStays.{VdrStays, stays_alike, end_stays, cpr_stays, variable_stays}
+use Rattle.cdf_edits.proofs.Frame.VdrStays.{end_stays, cpr_stays, variable_stays}
 use Rattle.cdf_index.proofs.IndexReplaced.{times-parts, index_replaced}
 use Rattle.cdf_reindex.proofs.LevelCounts.{distinct_by_times}
 use Rattle.cdf_reindex.proofs.PyramidBuilt.{NewTree, the_one}

@@ -1,32 +1,12 @@
 -- What an index that was built anew comes to, once the old nodes are freed.
 use Rattle.std.proofs.Common.{◌≡◌, ℕ, ◌+◌, ◌^◌, ◌<◌, ◌≤◌, List, [], ◌∷◌, ◌++◌, length, map, refl, sym, ap, subst, ◌∙◌, arith, inl, inr}
+use Rattle.cdf_reindex.proofs.Common.{record_number_limit, IsLeft, all_left, apart, last_node, links_end, Kept, IsPyramid, levels_up, reindex_room, write, AllGiven, word_kept, number, size_at, with_field, Nodes, no_node, Leaf, leaves_of, link_to, IsIndex, vdr_vxr_head, vdr_vxr_tail, vxr_n_used_entries, gdr_type, uir_type, vxr_type, VariableShape, Each, HasVariable, variables, shape, NodeFits, VariableFits, IsSound, Counts, In, NewNode, alone, from_below, places_of, AllMade, PyramidMade, IsBare, AllTaken, IsRebuilt, IndexMade, with_index}
 use Rattle.std.proofs.lemmas.Bool.{le-leb}
-use Rattle.cdf_model.specs.Limits.{record_number_limit}
-use Rattle.cdf_edits.proofs.Edits.FreedBytes.{IsLeft, all_left}
-use Rattle.cdf_edits.proofs.Space.UsedRecords.{apart}
-use Rattle.cdf_edits.specs.Index.Written.{last_node}
-use Rattle.cdf_edits.specs.Space.Acts.{links_end}
-use Rattle.cdf_edits.proofs.Frame.Meaning.{Kept}
-use Rattle.cdf_edits.specs.Commands.Reindex.{AreTight, EntriesTight, IsPyramid, nodes_at, levels_up}
-use Rattle.cdf_edits.specs.Commands.Room.{nodes_above, reindex_room}
-use Rattle.cdf_edits.specs.Edits.Writes.{write, with_writes}
-use Rattle.cdf_edits.specs.Space.Freeing.{AllGiven}
-use Rattle.cdf_format.proofs.BytesLemmas.{word_kept}
-use Rattle.cdf_format.specs.Fields.{number, size_at, with_field}
-use Rattle.cdf_format.specs.Index.{Nodes, no_node, Leaf, nodes_of, leaves_of, link_to}
-use Rattle.cdf_format.specs.IndexOf.{IsIndex}
-use Rattle.cdf_format.specs.Records.{vdr_vxr_head, vdr_vxr_tail, vxr_n_used_entries}
-use Rattle.cdf_format.specs.RecordTypes.{gdr_type, uir_type, vxr_type}
-use Rattle.cdf_format.specs.Shape.{VariableShape, Each, HasVariable, variables, shape}
-use Rattle.cdf_format.specs.Sound.{NodeFits, VariableFits, IsSound}
-use Rattle.cdf_index.specs.Adding.{Counts}
+use Rattle.cdf_edits.specs.Commands.Reindex.{AreTight, EntriesTight, nodes_at}
+use Rattle.cdf_edits.specs.Commands.Room.{nodes_above}
+use Rattle.cdf_edits.specs.Edits.Writes.{with_writes}
+use Rattle.cdf_format.specs.Index.{nodes_of}
 use Rattle.cdf_index.specs.Order.{InOrder}
-use Rattle.cdf_format.specs.Tiles.{In}
-use Rattle.cdf_reindex.specs.Pyramid.{NewNode, alone, from_below, places_of}
-use Rattle.cdf_reindex.specs.Rebuilding.{AllMade, PyramidMade}
-use Rattle.cdf_reindex.specs.Reindexed.{IsBare, AllTaken, IsRebuilt}
-use Rattle.cdf_reindex.specs.Reindexing.{IndexMade}
-use Rattle.cdf_index.specs.Replacing.{with_index}
 use Rattle.cdf_reindex.proofs.LevelCounts.{fewest, levels_few, levels_up_are}
 use Rattle.cdf_reindex.proofs.BareNodes.{bare_by}
 use Rattle.cdf_reindex.proofs.FreeingKeeps.{kept_still}

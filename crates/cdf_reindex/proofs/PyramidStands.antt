@@ -1,15 +1,10 @@
 -- Levels whose nodes stand in an image make an index of it.
 use Rattle.std.proofs.Common.{◌≡◌, ℕ, zero, suc, ◌+◌, ◌-◌, ◌≤◌, List, [], ◌∷◌, length, false, sym, subst, arith}
-use Rattle.std.specs.Prelude.{◌==◌}
-use Rattle.cdf_format.proofs.ChainsLemmas.{linkable-from, linkable-type, linkable-long}
-use Rattle.cdf_format.proofs.ShapeLemmas.{Each-split, Each-append}
+use Rattle.cdf_reindex.proofs.Common.{◌==◌, linkable-from, linkable-type, Each-split, Each-append, type_at, Nodes, no_node, node, Entries, no_entry, block, lower, Leaf, vxr_type, cvvr_type, Each, shape, NewNode, entries_for, joined, alone, entries_of, uppers, AreLevels, from_below}
+use Rattle.cdf_format.proofs.ChainsLemmas.{linkable-long}
 use Rattle.cdf_format.specs.Chains.{is_linkable}
-use Rattle.cdf_format.specs.Fields.{type_at}
-use Rattle.cdf_format.specs.Index.{Nodes, no_node, node, Entries, no_entry, block, lower, Leaf, leaves_of, entry_leaves}
+use Rattle.cdf_format.specs.Index.{leaves_of, entry_leaves}
 use Rattle.cdf_format.specs.IndexOf.{HasNodes, Names}
-use Rattle.cdf_format.specs.RecordTypes.{vxr_type, cvvr_type}
-use Rattle.cdf_format.specs.Shape.{Each, shape}
-use Rattle.cdf_reindex.specs.Pyramid.{NewNode, entries_for, joined, alone, entries_of, uppers, AreLevels, from_below}
 use Rattle.cdf_reindex.proofs.NodesMade.{Stands}
 
 -- a leaf names a block

@@ -1,18 +1,8 @@
 -- The calls by which an index is built anew, one by one.
 use Rattle.std.proofs.Common.{◌≡◌, ℕ, suc, ◌+◌, ◌*◌, ◌^◌, ◌<◌, ◌≤◌, List, [], ◌∷◌, length, map, refl, sym, ap, subst, ◌∙◌}
+use Rattle.cdf_reindex.proofs.Common.{nodes_above, AllGiven, AreFree, content, LiesIn, with_field, Leaf, leaves_of, vdr_vxr_head, vdr_vxr_tail, shape, IsSound, IsRebuilt, HasOld, IndexMade, Entry}
 use Rattle.std.specs.Prelude.{OnOk, Ok, Err}
 use Rattle.std.specs.declared.result.Result.{Result}
-use Rattle.cdf_edits.specs.Commands.Room.{nodes_above}
-use Rattle.cdf_edits.specs.Space.Freeing.{AllGiven, AreFree}
-use Rattle.cdf_format.specs.Content.{content}
-use Rattle.cdf_format.specs.Fields.{LiesIn, with_field}
-use Rattle.cdf_format.specs.Index.{Leaf, leaves_of}
-use Rattle.cdf_format.specs.Records.{vdr_vxr_head, vdr_vxr_tail}
-use Rattle.cdf_format.specs.Shape.{shape}
-use Rattle.cdf_format.specs.Sound.{IsSound}
-use Rattle.cdf_reindex.specs.Reindexed.{IsRebuilt}
-use Rattle.cdf_reindex.specs.Reindexing.{HasOld, IndexMade}
-use Rattle.cdf_index.specs.declared.entries.Entry.{Entry}
 use Rattle.cdf_reindex.proofs.PyramidLinked.{lies_head, lies_tail, sound_linked, old_free, content_linked}
 use Rattle.cdf_reindex.proofs.PyramidRebuilt.{TreeMade, tree_made, rebuilt}
 use Rattle.cdf_reindex.proofs.WordsOfLevels.{tree_leaf_words}

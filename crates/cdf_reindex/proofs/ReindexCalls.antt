@@ -1,28 +1,13 @@
 -- What a good image gives for the calls by which the index of one of its variables is made anew.
 use Rattle.std.proofs.Common.{◌≡◌, ℕ, ◌+◌, ◌*◌, ◌≤◌, List, [], ◌∷◌, ◌++◌, length, map, append_assoc, refl, sym, ap, subst, ◌∙◌, arith, inl, inr}
+use Rattle.cdf_reindex.proofs.Common.{Kind, R, Z, StandsAmong, tile, long, nodes_above, reindex_room, good_by_its_shape, good_is_sound, In-append, tile_lies, number, eof, gdr_offset, Nodes, no_node, node, leaves_of, IsNode, vdr_vxr_head, VariableShape, shape, variables, vdrs, IsSound, In, Good, Entry, IsRebuilt, Reindexed, HasOld}
 use Rattle.std.proofs.lemmas.List.{length-map}
-use Rattle.cdf_model.specs.declared.kinds.Kind.{Kind}
-use Rattle.cdf_model.specs.declared.kinds.Kind.TheVariants.{R, Z}
-use Rattle.cdf_edits.proofs.Edits.StandsAmong.{StandsAmong, tile, long}
-use Rattle.cdf_edits.specs.Commands.Room.{nodes_above, reindex_room}
 use Rattle.cdf_format.proofs.GoodImageLemmas.{good_image, vdrs_append}
-use Rattle.cdf_format.proofs.GoodSound.{good_by_its_shape, good_is_sound, good_eof}
-use Rattle.cdf_format.proofs.Members.{In-append}
-use Rattle.cdf_format.proofs.TilesLemmas.{tile_lies}
-use Rattle.cdf_format.specs.Fields.{number, eof, gdr_offset}
-use Rattle.cdf_format.specs.Index.{Nodes, no_node, node, nodes_of, leaves_of}
-use Rattle.cdf_format.specs.IndexOf.{IsNode}
-use Rattle.cdf_format.specs.Records.{vdr_vxr_head}
-use Rattle.cdf_format.specs.Shape.{VariableShape, shape, variables, vdrs}
-use Rattle.cdf_format.specs.Sound.{IsSound}
-use Rattle.cdf_format.specs.Tiles.{In}
-use Rattle.cdf_format.specs.WellFormed.{Good}
+use Rattle.cdf_format.proofs.GoodSound.{good_eof}
+use Rattle.cdf_format.specs.Index.{nodes_of}
 use Rattle.cdf_index.proofs.GoodIndex.{good_index}
 use Rattle.cdf_index.specs.Finding.{index_at, HasIndex}
 use Rattle.cdf_index.specs.Whole.{leaf_words}
-use Rattle.cdf_index.specs.declared.entries.Entry.{Entry}
-use Rattle.cdf_reindex.specs.Reindexed.{IsRebuilt, Reindexed}
-use Rattle.cdf_reindex.specs.Reindexing.{HasOld}
 use Rattle.cdf_reindex.proofs.PyramidBuilt.{few_leaves}
 
 -- ---- a variable by its VDR

@@ -1,13 +1,9 @@
 -- The trees of levels that are known by what their entries say.
 use Rattle.std.proofs.Common.{◌≡◌, ℕ, suc, ◌+◌, ◌-◌, ◌<◌, ◌≤◌, List, [], ◌∷◌, ◌++◌, length, map, get_or, refl, sym, ap, ap₂, subst, ◌∙◌, arith}
-use Rattle.std.proofs.lemmas.List.{map-append}
-use Rattle.cdf_format.specs.Index.{Entries, no_entry, block, lower, entry_count, link_to}
+use Rattle.cdf_reindex.proofs.Common.{map-append, Entries, no_entry, block, lower, entry_count, link_to, SaysEntry, NewNode, entries_for, joined, first_of, last_of, entries_of, uppers, Filled, AreLevels, from_below, NodeWords, upper_of, level_entries, AreFilled, AreStacked, nodes_up, entry_in, Entry}
 use Rattle.cdf_format.specs.Index.{Leaf as TreeLeaf}
-use Rattle.cdf_format.specs.IndexOf.{SaysEntry, SayEntries}
-use Rattle.cdf_reindex.specs.Pyramid.{NewNode, entries_for, joined, first_of, last_of, entries_of, uppers, Filled, AreLevels, from_below}
-use Rattle.cdf_reindex.specs.Rebuilding.{NodeWords, no_words, upper_of, level_entries, AreFilled, AreStacked, nodes_up}
-use Rattle.cdf_index.specs.Writing.{entry_in}
-use Rattle.cdf_index.specs.declared.entries.Entry.{Entry}
+use Rattle.cdf_format.specs.IndexOf.{SayEntries}
+use Rattle.cdf_reindex.specs.Rebuilding.{no_words}
 use Rattle.cdf_reindex.proofs.LevelLemmas.{Some-entry, filled_first, filled_rest}
 
 abbrev pub words : ℕ → ℕ → ℕ → Entry

@@ -1,35 +1,17 @@
 -- A record that is taken and written becomes the last one of a chain, and is counted there; or it takes the place of another one.
 use Rattle.std.proofs.Common.{◌≡◌, ℕ, ◌+◌, ◌^◌, ◌<◌, ◌≤◌, List, [], ◌∷◌, ◌++◌, length, true, refl, sym, ap, subst, ◌∙◌, arith, inl}
-use Rattle.std.specs.Prelude.{◌==◌}
 use Rattle.std.proofs.Common.{false}
-use Rattle.cdf_format.specs.Chains.{is_a, IsChain}
-use Rattle.cdf_format.specs.Fields.{LiesIn, number, with_field, size_at, type_at}
-use Rattle.cdf_format.specs.Records.{cdr_gdr_offset}
-use Rattle.cdf_format.specs.RecordTypes.{cdr_type, uir_type, fixed_size}
-use Rattle.cdf_format.specs.Shape.{Shape, HasShape, shape}
-use Rattle.cdf_format.specs.Sound.{IsSound}
-use Rattle.cdf_format.specs.Tiles.{In, tiles}
-use Rattle.cdf_format.proofs.ChainsLemmas.{is_a-from, is_a-in, is_a-type, linkable-type, linkable-in}
-use Rattle.cdf_format.proofs.ShapeLemmas.{shape_is, tiles_are}
-use Rattle.cdf_format.proofs.TilesLemmas.{tile_lies}
-use Rattle.cdf_fields.proofs.Writes.{field_reads, length-with_field, other_bytes}
-use Rattle.cdf_edits.specs.declared.chain.Chain.{Chain}
-use Rattle.cdf_edits.specs.declared.chain.Chain.TheVariants.{Attrs, RVars, ZVars, GrEntries, ZEntries}
-use Rattle.cdf_edits.specs.Edits.Edit.{Edit}
-use Rattle.cdf_edits.specs.Edits.Marks.{Mark, avoided, whole, field_marks, taking_marks, append_marks, replacing_marks}
-use Rattle.cdf_edits.specs.Frame.Changed.{touched_field, Changed}
+use Rattle.cdf_space.proofs.Common.{◌==◌, IsChain, LiesIn, number, with_field, size_at, type_at, cdr_gdr_offset, cdr_type, uir_type, fixed_size, Shape, HasShape, shape, IsSound, In, tiles, is_a-in, is_a-type, linkable-type, linkable-in, shape_is, tiles_are, tile_lies, field_reads, length-with_field, other_bytes, Chain, Attrs, RVars, ZVars, GrEntries, ZEntries, Edit, avoided, touched_field, Changed, holder_of, head_of, count_of, counted_in, holder_type, type_in, members_of, HolderStands, HasChain, MayJoin, Appended, Replaced, with_space, Placed, Fills, type_of_body, field_clear, IsOf, apart, holder_stands, head_fits, long_of, cdr_room}
+use Rattle.cdf_format.specs.Chains.{is_a}
+use Rattle.cdf_format.proofs.ChainsLemmas.{is_a-from}
+use Rattle.cdf_edits.specs.Edits.Marks.{Mark, whole, field_marks, taking_marks, append_marks, replacing_marks}
 use Rattle.cdf_edits.specs.Space.Adding.{Added, Exchanged}
-use Rattle.cdf_edits.specs.Space.Chains.{holder_of, head_of, count_of, counted_in, holder_type, type_in, members_of, HolderStands, HasChain, MayJoin, Appended, Replaced}
-use Rattle.cdf_edits.specs.Space.Placement.{with_space}
-use Rattle.cdf_edits.specs.Space.Placing.{Placed, Fills, type_of_body}
 use Rattle.cdf_edits.proofs.Edits.Composing.{edit_then, edit_wider, changed_edit, head_size, head_type}
-use Rattle.cdf_edits.proofs.Edits.RecordFrame.{part_clear, field_clear, chain_clear}
+use Rattle.cdf_edits.proofs.Edits.RecordFrame.{part_clear, chain_clear}
 use Rattle.cdf_edits.proofs.Edits.ChainEdits.{replaced_edit}
-use Rattle.cdf_edits.proofs.Edits.ChainsOfShape.{IsOf, members_are, has_chain, may_join, append_changed, joined_chain, replaced_chain}
+use Rattle.cdf_edits.proofs.Edits.ChainsOfShape.{members_are, has_chain, may_join, append_changed, joined_chain, replaced_chain}
 use Rattle.cdf_edits.proofs.Edits.MadeRecord.{place_in, filled_sound, filled_size, filled_edit, fresh}
 use Rattle.cdf_edits.proofs.Edits.StepEdits.{append_edit}
-use Rattle.cdf_edits.proofs.Space.UsedRecords.{apart}
-use Rattle.cdf_edits.proofs.Space.ChainHeads.{holder_stands, head_fits, long_of, cdr_room}
 use Rattle.cdf_space.proofs.Linking.{holder_same}
 
 -- where the count stands in its record

@@ -1,18 +1,7 @@
 -- A chain that is read from its head on, record by record.
 use Rattle.std.proofs.Common.{◌≡◌, ℕ, ◌+◌, ◌<◌, ◌≤◌, List, [], ◌∷◌, ◌++◌, length, Option, Some, None, refl, sym, ap, subst, ◌∙◌, append_assoc, append-nil, arith}
-use Rattle.std.specs.List.{last_or}
-use Rattle.cdf_format.specs.Fields.{word, size_at}
-use Rattle.cdf_format.specs.Chains.{Leads}
-use Rattle.cdf_format.specs.RecordTypes.{fixed_size}
-use Rattle.cdf_format.specs.Shape.{shape}
-use Rattle.cdf_format.specs.Sound.{IsSound}
-use Rattle.cdf_format.specs.Tiles.{In, tiles}
-use Rattle.cdf_format.proofs.Members.{In-append_left}
-use Rattle.cdf_edits.specs.declared.chain.Chain.{Chain}
-use Rattle.cdf_edits.specs.declared.chain.Chain.TheVariants.{Attrs, RVars, ZVars, GrEntries, ZEntries}
-use Rattle.cdf_edits.specs.Space.Chains.{holder_of, head_of, count_of, holder_type, HolderStands, HasChain, members_of}
-use Rattle.cdf_edits.proofs.Space.ChainHeads.{head_width, long_of, end_of, holder_stands}
-use Rattle.cdf_space.specs.Steps.{link_place}
+use Rattle.cdf_space.proofs.Common.{last_or, word, size_at, Leads, fixed_size, shape, IsSound, In, tiles, In-append_left, Chain, Attrs, RVars, ZVars, GrEntries, ZEntries, holder_of, head_of, count_of, holder_type, HolderStands, HasChain, members_of, head_width, long_of, holder_stands, link_place}
+use Rattle.cdf_edits.proofs.Space.ChainHeads.{end_of}
 use Rattle.cdf_space.proofs.Linking.{link_inside}
 
 -- so many records were read, and the link at a place leads to the others

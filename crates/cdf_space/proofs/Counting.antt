@@ -1,21 +1,11 @@
 -- Walks along the records of an image and along its unused list, by what is left of them.
 use Rattle.std.proofs.Common.{◌≡◌, ◌≢◌, ◌<◌, ◌≤◌, ℕ, ◌+◌, ◌-◌, List, [], ◌∷◌, length, Bool, false, eqb, eq-eqb, refl, sym, subst, ◌∙◌, arith, inl, inr}
-use Rattle.std.proofs.lemmas.Bool.{eqb-true}
+use Rattle.cdf_space.proofs.Common.{eqb-true, number, size_at, type_at, gdr_uir_head, uir_type, next_of, Leads, Shape, HasShape, IsSound, In, AreTiles, linkable-in, linkable-long, some_place, either, tile_lies, length_tiles, Tallies}
 use Rattle.std.specs.List.{filter}
-use Rattle.cdf_format.specs.Fields.{number, size_at, type_at}
-use Rattle.cdf_format.specs.Records.{gdr_uir_head}
-use Rattle.cdf_format.specs.RecordTypes.{uir_type}
-use Rattle.cdf_format.specs.Chains.{next_of, Leads}
 use Rattle.cdf_format.specs.Owners.{bytes_in, space_of, unused_records}
-use Rattle.cdf_format.specs.Shape.{Shape, HasShape}
-use Rattle.cdf_format.specs.Sound.{IsSound}
-use Rattle.cdf_format.specs.Tiles.{In, AreTiles}
-use Rattle.cdf_format.proofs.ChainsLemmas.{linkable-in, linkable-long, some_place}
-use Rattle.cdf_format.proofs.Members.{either}
 use Rattle.cdf_format.proofs.SpaceLemmas.{space_adds_up_lem, unused_bytes, unused_count}
-use Rattle.cdf_format.proofs.TilesLemmas.{tile_lies, tiles_end, length_tiles}
+use Rattle.cdf_format.proofs.TilesLemmas.{tiles_end}
 use Rattle.cdf_space.specs.declared.measuring.Tally.{Tally}
-use Rattle.cdf_space.specs.Tallies.{Tallies}
 
 abbrev is_unused : List ℕ → ℕ → Bool
 is_unused b place = eqb (type_at b place) uir_type

@@ -1,21 +1,10 @@
 -- A record that was taken is written.
 use Rattle.std.proofs.Common.{◌≡◌, ℕ, zero, suc, ◌+◌, ◌-◌, ◌*◌, ◌^◌, ◌≤◌, List, [], ◌∷◌, length, true, refl, sym, ap, ap₂, subst, ◌∙◌, arith}
-use Rattle.cdf_base.specs.Bytes.{put}
-use Rattle.cdf_format.specs.Sound.{IsSound}
-use Rattle.cdf_edits.specs.Frame.Changed.{touch, Changed}
-use Rattle.cdf_format.specs.Content.{content}
-use Rattle.cdf_format.specs.Fields.{word, size_at, type_at}
-use Rattle.cdf_edits.specs.Space.Placement.{with_space, Takes}
-use Rattle.cdf_format.specs.RecordTypes.{uir_type, is_record_type, fixed_size}
-use Rattle.cdf_format.specs.Shape.{Shape, shape}
-use Rattle.cdf_format.proofs.BytesLemmas.{byte-put_inside, length-put}
-use Rattle.cdf_format.proofs.ChainsLemmas.{is_a-in}
-use Rattle.cdf_edits.proofs.Frame.ChangedBytes.{changed_put}
+use Rattle.cdf_space.proofs.Common.{put, IsSound, touch, Changed, content, word, size_at, type_at, with_space, Takes, uir_type, fixed_size, Shape, shape, byte-put_inside, length-put, is_a-in, changed_put, shape_is, tile_lies, type_of_body, Fills, Placed}
+use Rattle.cdf_format.specs.RecordTypes.{is_record_type}
 use Rattle.cdf_edits.proofs.Space.RecordFilled.{filled_stays_sound}
-use Rattle.cdf_format.proofs.ShapeLemmas.{shape_is}
 use Rattle.cdf_edits.proofs.Space.TakenLeaves.{takes_longest}
-use Rattle.cdf_format.proofs.TilesLemmas.{tile_lies}
-use Rattle.cdf_edits.specs.Space.Placing.{type_of_body, IsBody, Fills, Placed}
+use Rattle.cdf_edits.specs.Space.Placing.{IsBody}
 
 -- a number within bytes that were written
 pub word-put_inside : (b xs : List ℕ) (place i n : ℕ) → place ≤ length b → i + n ≤ length xs → word (put b place xs) (place + i) n ≡ word xs i n

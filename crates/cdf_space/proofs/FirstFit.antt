@@ -1,21 +1,8 @@
 -- A walk along the unused list, up to the first record that fits.
 use Rattle.std.proofs.Common.{◌≡◌, ◌≢◌, ℕ, ◌+◌, ◌≤◌, List, [], ◌∷◌, ◌++◌, length, true, false, refl, sym, ap, subst, ◌∙◌, append_assoc, append-nil, arith, inl}
-use Rattle.std.proofs.lemmas.List.{length-append}
-use Rattle.cdf_format.specs.Fields.{number, size_at}
-use Rattle.cdf_format.specs.Records.{gdr_uir_head}
-use Rattle.cdf_format.specs.RecordTypes.{uir_type}
-use Rattle.cdf_format.specs.Chains.{next_of, Leads}
-use Rattle.cdf_edits.specs.Frame.Links.{end_place}
-use Rattle.cdf_edits.specs.Space.Placement.{fits}
-use Rattle.cdf_format.specs.Shape.{Shape, HasShape}
-use Rattle.cdf_edits.specs.Space.Taking.{NoneFit, last_of}
-use Rattle.cdf_format.specs.Tiles.{In}
-use Rattle.cdf_format.specs.Sound.{IsSound}
-use Rattle.cdf_format.proofs.Members.{In-append_right, length-le_from_distinct}
-use Rattle.cdf_format.proofs.TilesLemmas.{tile_lies, length_tiles}
-use Rattle.cdf_format.proofs.ChainsLemmas.{linkable-in, linkable-long, some_place}
+use Rattle.cdf_space.proofs.Common.{length-append, number, size_at, gdr_uir_head, uir_type, next_of, Leads, end_place, fits, Shape, HasShape, NoneFit, last_of, In, IsSound, In-append_right, tile_lies, length_tiles, linkable-in, linkable-long, some_place, IsFirstFit}
+use Rattle.cdf_format.proofs.Members.{length-le_from_distinct}
 use Rattle.cdf_edits.proofs.Space.UnusedLists.{last_push}
-use Rattle.cdf_space.specs.Fits.{IsFirstFit}
 
 -- the records of a front part do not fit, and the list goes on behind them
 pub record IsOnTheList (b : List ℕ) (s : Shape) (need link before place turn : ℕ) : Type 0 where

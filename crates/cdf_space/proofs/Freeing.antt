@@ -1,25 +1,9 @@
 -- A record of no owner is freed by writes of fields.
 use Rattle.std.proofs.Common.{◌≡◌, ◌≢◌, ◌⊎◌, ℕ, ◌+◌, ◌<◌, ◌≤◌, List, [], ◌∷◌, length, ◌^◌, refl, sym, ap, subst, ◌∙◌, arith, inl, inr}
+use Rattle.cdf_space.proofs.Common.{LiesIn, word, number, with_field, size_at, record_type, gdr_uir_head, uir_next_uir, uir_prev_uir, gdr_type, uir_type, fixed_size, Touch, touch, touched_field, Outside, In, Leads, first_back_link, Shape, HasShape, shape, prev_of, FirstBack, IsGiven, IsSound, tile_lies, tiles_lie_apart, is_a-in, is_a-type, linkable-in, linkable-long, some_place, shape_is, changed_then, back_link, Relinked, Fit}
 use Rattle.std.proofs.lemmas.Bool.{cases_eq}
-use Rattle.cdf_format.specs.Fields.{LiesIn, word, number, with_field, size_at}
-use Rattle.cdf_format.specs.Records.{record_type, gdr_uir_head, uir_next_uir, uir_prev_uir}
-use Rattle.cdf_format.specs.RecordTypes.{gdr_type, uir_type, fixed_size}
-use Rattle.cdf_edits.specs.Frame.Changed.{Touch, touch, touched_field, Outside}
-use Rattle.cdf_format.specs.Tiles.{In}
-use Rattle.cdf_format.specs.Chains.{Leads}
 use Rattle.cdf_format.specs.Owners.{times, owned_records}
-use Rattle.cdf_edits.specs.Space.Placement.{first_back_link}
-use Rattle.cdf_format.specs.Shape.{Shape, HasShape, shape}
-use Rattle.cdf_edits.specs.Space.Taking.{prev_of, FirstBack}
-use Rattle.cdf_edits.specs.Space.Giving.{IsGiven}
-use Rattle.cdf_format.specs.Sound.{IsSound}
-use Rattle.cdf_format.proofs.TilesLemmas.{tile_lies, tiles_lie_apart}
-use Rattle.cdf_format.proofs.ChainsLemmas.{is_a-in, is_a-type, linkable-in, linkable-long, some_place}
-use Rattle.cdf_format.proofs.ShapeLemmas.{shape_is}
-use Rattle.cdf_edits.proofs.Frame.ChangedBytes.{changed_then}
 use Rattle.cdf_edits.proofs.Space.RecordFreed.{not_gdr, not_listed, gdr_unlisted, unlisted_given, first_given}
-use Rattle.cdf_space.specs.Fits.{back_link, Relinked}
-use Rattle.cdf_space.specs.declared.placing.Fit.{Fit}
 use Rattle.cdf_space.proofs.Writing.{Clear, word_clear, changed_weaker, changed_field, field_is, length_is, back_link_none, back_link_some}
 
 -- what is given makes the shape that the image has

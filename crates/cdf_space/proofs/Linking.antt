@@ -1,34 +1,22 @@
 -- A link of a chain that is written anew: a record joins behind the last one, a member goes, or another record takes its place.
 use Rattle.std.proofs.Common.{◌≡◌, ◌≢◌, ◌⊎◌, ℕ, ◌+◌, ◌^◌, ◌<◌, ◌≤◌, List, [], ◌∷◌, ◌++◌, length, Option, Some, None, true, false, refl, sym, ap, ap₂, subst, ◌∙◌, append-nil, arith, inl, inr}
-use Rattle.std.proofs.lemmas.Bool.{eqb-true}
-use Rattle.std.specs.List.{last_or}
-use Rattle.std.specs.Prelude.{◌==◌}
-use Rattle.cdf_format.specs.Fields.{LiesIn, word, number, with_field, size_at, type_at, gdr_offset}
-use Rattle.cdf_format.specs.Records.{Field, field, uir_next_uir}
-use Rattle.cdf_format.specs.RecordTypes.{cdr_type}
+use Rattle.cdf_space.proofs.Common.{eqb-true, last_or, ◌==◌, LiesIn, word, number, with_field, size_at, type_at, gdr_offset, Field, field, uir_next_uir, cdr_type, is_in, is_linkable, next_of, Leads, IsChain, shape, IsSound, In, Distinct, AreTiles, tiles, either, In-append_left, In-append_right, tile_lies, tiles_lie_apart, is_a-in, is_a-type, linkable-in, linkable-type, linkable-long, Touch, touch, touched_field, Changed, end_place, holder_of, head_of, holder_type, type_in, HolderStands, HasChain, members_of, MayJoin, before, Appended, Removed, Replaced, Chain, Attrs, RVars, ZVars, GrEntries, ZEntries, changed_then, distinct_apart, leads_rest, apart, field_reads, length-with_field, link_place, head_width, long_of, holder_stands, head_fits, head_lies}
 use Rattle.cdf_format.specs.Bytes.{Same}
-use Rattle.cdf_format.specs.Chains.{is_in, is_linkable, next_of, next_field, linked_types, Leads, IsChain}
-use Rattle.cdf_format.specs.Shape.{shape}
-use Rattle.cdf_format.specs.Sound.{IsSound}
-use Rattle.cdf_format.specs.Tiles.{In, Distinct, AreTiles, tiles}
+use Rattle.cdf_format.specs.Chains.{next_field, linked_types}
 use Rattle.cdf_format.specs.Walks.{records_of}
-use Rattle.cdf_format.proofs.Members.{either, In-append, In-append_left, In-append_right, true-is_in, false-is_in}
-use Rattle.cdf_format.proofs.TilesLemmas.{tile_lies, tiles_lie_apart, tiling_complete}
-use Rattle.cdf_format.proofs.ChainsLemmas.{is_a-in, is_a-type, linkable-in, linkable-type, linkable-long, linkable-from, chain_complete}
+use Rattle.cdf_format.proofs.Members.{In-append, true-is_in, false-is_in}
+use Rattle.cdf_format.proofs.TilesLemmas.{tiling_complete}
+use Rattle.cdf_format.proofs.ChainsLemmas.{linkable-from, chain_complete}
 use Rattle.cdf_format.proofs.BytesLemmas.{word_kept}
-use Rattle.cdf_edits.specs.Frame.Changed.{Touch, touch, touched_field, Changed, Placed, Misses}
-use Rattle.cdf_edits.specs.Frame.Links.{ChainHead, chain_head, with_members, IsHead, AllSpare, end_place}
-use Rattle.cdf_edits.specs.Space.Chains.{holder_of, head_of, holder_type, type_in, HolderStands, HasChain, members_of, MayJoin, link_behind, before, without, with_in_place, Appended, Removed, Replaced}
-use Rattle.cdf_edits.specs.declared.chain.Chain.{Chain}
-use Rattle.cdf_edits.specs.declared.chain.Chain.TheVariants.{Attrs, RVars, ZVars, GrEntries, ZEntries}
-use Rattle.cdf_edits.proofs.Frame.ChangedBytes.{changed_then, changed_part}
+use Rattle.cdf_edits.specs.Frame.Changed.{Placed, Misses}
+use Rattle.cdf_edits.specs.Frame.Links.{ChainHead, chain_head, with_members, IsHead, AllSpare}
+use Rattle.cdf_edits.specs.Space.Chains.{link_behind, without, with_in_place}
+use Rattle.cdf_edits.proofs.Frame.ChangedBytes.{changed_part}
 use Rattle.cdf_edits.proofs.Frame.LinksStay.{tiles_same, leads_same}
 use Rattle.cdf_edits.proofs.Frame.LinkWritten.{one_chain}
-use Rattle.cdf_edits.proofs.Space.TakenFromList.{distinct_with, distinct_without, distinct_apart, leads_rest}
-use Rattle.cdf_edits.proofs.Space.UsedRecords.{apart}
-use Rattle.cdf_fields.proofs.Writes.{field_reads, other_words, length-with_field}
-use Rattle.cdf_space.specs.Steps.{link_place}
-use Rattle.cdf_edits.proofs.Space.ChainHeads.{head_width, tiled, cdr_stands, long_of, holder_stands, head_fits, head_lies, member_lies}
+use Rattle.cdf_edits.proofs.Space.TakenFromList.{distinct_with, distinct_without}
+use Rattle.cdf_fields.proofs.Writes.{other_words}
+use Rattle.cdf_edits.proofs.Space.ChainHeads.{tiled, cdr_stands, member_lies}
 use Rattle.cdf_space.proofs.Writing.{changed_field}
 
 -- ---- the link behind a front part of a chain

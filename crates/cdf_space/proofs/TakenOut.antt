@@ -1,31 +1,12 @@
 -- A member that is taken out of a chain, and counted there no more.
 use Rattle.std.proofs.Common.{◌≡◌, ℕ, zero, suc, ◌+◌, ◌-◌, ◌<◌, ◌≤◌, List, [], ◌∷◌, length, take, true, None, get_or, eq-eqb, refl, sym, ap, subst, ◌∙◌, arith, inl, inr}
-use Rattle.std.proofs.lemmas.Bool.{eqb-true}
-use Rattle.std.specs.List.{last_or}
-use Rattle.std.specs.Prelude.{◌==◌}
-use Rattle.cdf_format.specs.Chains.{is_in, IsChain}
-use Rattle.cdf_format.specs.Fields.{number, with_field, size_at, type_at}
-use Rattle.cdf_format.specs.Records.{cdr_gdr_offset}
-use Rattle.cdf_format.specs.RecordTypes.{cdr_type, fixed_size}
-use Rattle.cdf_format.specs.Shape.{shape}
-use Rattle.cdf_format.specs.Sound.{IsSound}
-use Rattle.cdf_format.specs.Tiles.{In, Distinct, tiles}
-use Rattle.cdf_format.proofs.ChainsLemmas.{is_a-in, is_a-type}
-use Rattle.cdf_format.proofs.Members.{either, is_in-true}
-use Rattle.cdf_format.proofs.ShapeLemmas.{tiles_are}
-use Rattle.cdf_format.proofs.TilesLemmas.{tile_lies}
-use Rattle.cdf_fields.proofs.Writes.{length-with_field}
-use Rattle.cdf_edits.specs.declared.chain.Chain.{Chain}
-use Rattle.cdf_edits.specs.declared.chain.Chain.TheVariants.{Attrs, RVars, ZVars, GrEntries, ZEntries}
-use Rattle.cdf_edits.specs.Edits.Edit.{Edit}
-use Rattle.cdf_edits.specs.Edits.Marks.{avoided, removing_marks}
-use Rattle.cdf_edits.specs.Space.Chains.{holder_of, head_of, count_of, counted_in, holder_type, type_in, members_of, before, Removed}
+use Rattle.cdf_space.proofs.Common.{eqb-true, last_or, ◌==◌, is_in, IsChain, number, with_field, size_at, type_at, cdr_gdr_offset, cdr_type, fixed_size, shape, IsSound, In, Distinct, tiles, is_a-in, is_a-type, either, tiles_are, tile_lies, length-with_field, Chain, Attrs, RVars, ZVars, GrEntries, ZEntries, Edit, avoided, holder_of, head_of, count_of, counted_in, holder_type, type_in, members_of, before, Removed, IsOf, field_clear, holder_stands, head_fits, head_width, long_of, cdr_room}
+use Rattle.cdf_format.proofs.Members.{is_in-true}
+use Rattle.cdf_edits.specs.Edits.Marks.{removing_marks}
 use Rattle.cdf_edits.specs.Space.TakingOut.{Lists, TakenOut}
 use Rattle.cdf_edits.proofs.Commands.ListParts.{got_in}
-use Rattle.cdf_edits.proofs.Edits.ChainsOfShape.{IsOf, remove_changed}
-use Rattle.cdf_edits.proofs.Edits.RecordFrame.{field_clear}
+use Rattle.cdf_edits.proofs.Edits.ChainsOfShape.{remove_changed}
 use Rattle.cdf_edits.proofs.Edits.StepEdits.{fixed_long, remove_edit}
-use Rattle.cdf_edits.proofs.Space.ChainHeads.{holder_stands, head_fits, head_width, long_of, cdr_room}
 use Rattle.cdf_space.proofs.AddedRecord.{count_fits}
 use Rattle.cdf_space.proofs.Linking.{holder_same}
 

@@ -1,29 +1,12 @@
 -- A record of the unused list is taken by writes of fields.
 use Rattle.std.proofs.Common.{◌≡◌, ◌≢◌, ◌⊎◌, ℕ, ◌+◌, ◌-◌, ◌<◌, ◌≤◌, List, [], ◌∷◌, ◌++◌, length, Bool, Option, None, Result, Ok, Err, ◌||◌, ◌^◌, true, false, eqb, leb, refl, sym, ap, subst, ◌∙◌, arith, inl, inr}
-use Rattle.std.proofs.lemmas.Bool.{eqb-true, leb-true}
+use Rattle.cdf_space.proofs.Common.{eqb-true, LiesIn, word, number, with_field, size_at, type_at, eof, gdr_offset, Field, record_size, gdr_uir_head, gdr_type, uir_type, fixed_size, byte, Touch, touch, touched_field, Outside, In, Distinct, is_linkable, next_of, Leads, end_place, first_back_link, Shape, HasShape, shape, NoneFit, EndBytes, last_of, prev_of, FirstBack, IsTaken, IsSound, In-append_left, In-append_right, tile_lies, tiles_lie_apart, is_a-in, is_a-type, linkable-in, linkable-type, linkable-long, some_place, shape_is, changed_then, apart, leads_rest, distinct_apart, IsFirstFit, back_link, Relinked, Listed, Cleared, Fit}
+use Rattle.std.proofs.lemmas.Bool.{leb-true}
 use Rattle.std.specs.Prelude.{IfOk, OnOk, MatchOption}
-use Rattle.cdf_format.specs.Fields.{LiesIn, word, number, with_field, size_at, type_at, eof, gdr_offset}
-use Rattle.cdf_format.specs.Records.{Field, record_size, gdr_uir_head}
-use Rattle.cdf_format.specs.RecordTypes.{gdr_type, uir_type, fixed_size}
-use Rattle.cdf_format.specs.Bytes.{byte}
-use Rattle.cdf_edits.specs.Frame.Changed.{Touch, touch, touched_field, Outside}
-use Rattle.cdf_format.specs.Tiles.{In, Distinct}
-use Rattle.cdf_format.specs.Chains.{is_linkable, next_of, Leads}
-use Rattle.cdf_edits.specs.Frame.Links.{end_place}
-use Rattle.cdf_edits.specs.Space.Placement.{first_back_link}
-use Rattle.cdf_format.specs.Shape.{Shape, HasShape, shape}
-use Rattle.cdf_edits.specs.Space.Taking.{NoneFit, EndBytes, link_tile, link_field, last_of, prev_of, FirstBack, touched_by, TakenBytes, RestBytes, IsTaken}
-use Rattle.cdf_format.specs.Sound.{IsSound}
-use Rattle.cdf_format.proofs.Members.{In-append_left, In-append_right, Distinct-back}
-use Rattle.cdf_format.proofs.TilesLemmas.{tile_lies, tiles_lie_apart}
-use Rattle.cdf_format.proofs.ChainsLemmas.{is_a-in, is_a-type, linkable-in, linkable-type, linkable-long, some_place}
-use Rattle.cdf_format.proofs.ShapeLemmas.{shape_is}
-use Rattle.cdf_edits.proofs.Frame.ChangedBytes.{changed_then}
-use Rattle.cdf_edits.proofs.Space.UsedRecords.{apart}
-use Rattle.cdf_edits.proofs.Space.TakenFromList.{link_after, link_wide, leads_rest, member_split, distinct_apart}
+use Rattle.cdf_edits.specs.Space.Taking.{link_tile, link_field, touched_by, TakenBytes, RestBytes}
+use Rattle.cdf_format.proofs.Members.{Distinct-back}
+use Rattle.cdf_edits.proofs.Space.TakenFromList.{link_after, link_wide, member_split}
 use Rattle.cdf_edits.proofs.Space.TakenWays.{whole_taken, split_taken, end_taken}
-use Rattle.cdf_space.specs.Fits.{IsFirstFit, back_link, Relinked, Listed, Cleared}
-use Rattle.cdf_space.specs.declared.placing.Fit.{Fit}
 use Rattle.cdf_space.proofs.Writing.{Clear, word_clear, changed_weaker, changed_field, field_is, length_is, back_link_none, back_link_some}
 
 outside_both : (ts us : List Touch) (i : ℕ) → Outside ts i → Outside us i → Outside (ts ++ us) i

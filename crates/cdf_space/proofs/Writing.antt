@@ -1,20 +1,11 @@
 -- What writes of fields leave of an image.
 use Rattle.std.proofs.Common.{◌≡◌, ◌≢◌, ◌⊎◌, ℕ, ◌+◌, ◌-◌, ◌^◌, ◌<◌, ◌≤◌, List, [], ◌∷◌, ◌++◌, length, replicate, false, eqb, eq-eqb, refl, sym, ap, ap₂, subst, ◌∙◌, arith, inl, inr}
-use Rattle.std.proofs.lemmas.Bool.{cases_lt, eqb-true}
-use Rattle.cdf_format.proofs.Members.{either}
-use Rattle.std.proofs.lemmas.List.{length-append, length-replicate, get_or-append_right, get_or-replicate}
-use Rattle.cdf_base.specs.Bytes.{put}
-use Rattle.cdf_format.specs.Fields.{LiesIn, word, number, with_field, size_at, type_at}
-use Rattle.cdf_format.specs.Records.{Field, field, record_size, record_type, gdr_eof, uir_next_uir, uir_prev_uir}
-use Rattle.cdf_format.specs.RecordTypes.{uir_type}
-use Rattle.cdf_format.specs.Bytes.{byte}
-use Rattle.cdf_edits.specs.Frame.Changed.{Touch, touch, touched_field, Outside, Changed}
-use Rattle.cdf_edits.specs.Space.Taking.{EndBytes}
-use Rattle.cdf_format.proofs.BytesLemmas.{word-same, length-put, byte-put_inside}
-use Rattle.cdf_edits.proofs.Frame.ChangedBytes.{changed_put, changed_more, changed_then}
-use Rattle.cdf_fields.proofs.Writes.{field_reads, other_bytes, length-with_field}
-use Rattle.cdf_space.specs.Fits.{Listed, Cleared, back_link, Relinked}
-use Rattle.cdf_space.specs.declared.placing.Fit.{Fit}
+use Rattle.cdf_space.proofs.Common.{eqb-true, either, length-append, length-replicate, get_or-replicate, put, LiesIn, word, number, with_field, size_at, type_at, Field, field, record_size, record_type, uir_next_uir, uir_prev_uir, uir_type, byte, Touch, touch, touched_field, Outside, Changed, EndBytes, length-put, byte-put_inside, changed_put, changed_then, field_reads, other_bytes, length-with_field, Listed, Cleared, back_link, Relinked, Fit}
+use Rattle.std.proofs.lemmas.Bool.{cases_lt}
+use Rattle.std.proofs.lemmas.List.{get_or-append_right}
+use Rattle.cdf_format.specs.Records.{gdr_eof}
+use Rattle.cdf_format.proofs.BytesLemmas.{word-same}
+use Rattle.cdf_edits.proofs.Frame.ChangedBytes.{changed_more}
 
 -- ---- bytes that no touch meets
 

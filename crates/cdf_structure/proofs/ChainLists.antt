@@ -1,15 +1,8 @@
 -- The rules on the chains of an image, put together, and the record in which they begin.
 use Rattle.std.proofs.Common.{◌≡◌, ℕ, ◌+◌, ◌≤◌, List, length, true, subst, arith}
-use Rattle.cdf_format.specs.Chains.{is_a}
-use Rattle.cdf_format.specs.Fields.{size_at}
-use Rattle.cdf_format.specs.RecordTypes.{fixed_size}
+use Rattle.cdf_structure.proofs.Common.{is_a, size_at, fixed_size, Hold, IsBroken, AreTiles, is_a-in, is_a-type, Hold-append, IsBroken-before, IsBroken-after, tile_lies, AreLong}
 use Rattle.cdf_format.specs.ChainRules.{link_rows}
-use Rattle.cdf_format.specs.Rules.{Hold, IsBroken}
-use Rattle.cdf_format.specs.Tiles.{AreTiles}
-use Rattle.cdf_format.proofs.ChainsLemmas.{is_a-in, is_a-type}
-use Rattle.cdf_format.proofs.RowLemmas.{Hold-append, IsBroken-before, IsBroken-after}
-use Rattle.cdf_format.proofs.TilesLemmas.{tile_lies}
-use Rattle.cdf_structure.specs.FileChains.{AreLong, member_rows, unused_rows}
+use Rattle.cdf_structure.specs.FileChains.{member_rows, unused_rows}
 
 module _ (b ts : List ℕ) where
   pub links_hold : Hold (member_rows b ts) → Hold (unused_rows b ts) → Hold (link_rows b ts)

@@ -1,12 +1,8 @@
 -- Steps of a walk along links.
 use Rattle.std.proofs.Common.{◌≡◌, ℕ, zero, suc, ◌+◌, ◌<◌, ◌≤◌, List, [], ◌∷◌, ◌++◌, true, false, not, ◌&&◌, eqb, refl, sym, ◌∙◌, arith}
-use Rattle.std.proofs.lemmas.Bool.{and_parts}
-use Rattle.std.proofs.lemmas.Bool.Decides.{nat_tests}
-use Rattle.cdf_format.specs.Tiles.{AreTiles}
-use Rattle.cdf_format.specs.Walks.{Walk, whole, stuck}
-use Rattle.cdf_format.specs.Chains.{is_in, is_linkable, next_of, chain_on}
-use Rattle.cdf_format.proofs.ChainsLemmas.{linkable-in, linkable-long}
-use Rattle.cdf_format.proofs.TilesLemmas.{tile_lies}
+use Rattle.cdf_structure.proofs.Common.{and_parts, nat_tests, AreTiles, Walk, whole, stuck, is_in, is_linkable, next_of, linkable-in, tile_lies}
+use Rattle.cdf_format.specs.Chains.{chain_on}
+use Rattle.cdf_format.proofs.ChainsLemmas.{linkable-long}
 
 module _ (b ts : List ℕ) (type : ℕ) (met : List ℕ) (holder link most : ℕ) (w : Walk) (goes : chain_on most b ts type met holder link ≡ w) where
   pub chain_ends : link ≡ 0 → w ≡ whole met

@@ -1,10 +1,6 @@
 -- Rules that were asked one after the other, of which the first broken one is kept.
 use Rattle.std.proofs.Common.{◌≡◌, List, [], ◌++◌, refl, sym, subst, Option, Some, None}
-use Rattle.cdf_format.specs.Rules.{Row}
-use Rattle.cdf_format.proofs.RowLemmas.{Hold-append, IsBroken-before, IsBroken-after}
-use Rattle.cdf_structure.specs.Indexes.{FindsMore}
-use Rattle.cdf_structure.specs.Findings.{Finds}
-use Rattle.cdf_structure.specs.declared.finding.Finding.{Finding}
+use Rattle.cdf_structure.proofs.Common.{Row, Hold-append, IsBroken-before, IsBroken-after, FindsMore, Finds, Finding}
 
 pub more_found : (before then now : Option Finding) (xs ys : List Row) → FindsMore before then xs → FindsMore then now ys → FindsMore before now (xs ++ ys)
 more_found None None None xs ys p q = Hold-append xs ys p q

@@ -1,10 +1,8 @@
 -- Chains and entries, one behind the other, and their blocks and rules.
 use Rattle.std.proofs.Common.{◌≡◌, ℕ, ℤ, List, ◌∷◌, ◌++◌, append_assoc, refl, sym, ap, ◌∙◌}
-use Rattle.cdf_format.specs.Fields.{with_sign}
-use Rattle.cdf_format.specs.Index.{Nodes, no_node, node, Entries, no_entry, block, lower, Leaf, leaves_of, entry_leaves}
-use Rattle.cdf_format.specs.IndexRules.{has_room, is_block, is_between, nodes_rows, used_rows, end_of}
-use Rattle.cdf_format.specs.Rules.{Row, row}
-use Rattle.cdf_format.specs.VariableFields.{number_before}
+use Rattle.cdf_structure.proofs.Common.{with_sign, Nodes, no_node, node, Entries, no_entry, block, lower, Leaf, has_room, is_block, is_between, end_of, Row, row, number_before}
+use Rattle.cdf_format.specs.Index.{leaves_of, entry_leaves}
+use Rattle.cdf_format.specs.IndexRules.{nodes_rows, used_rows}
 
 -- one list of entries behind another
 abbrev pub join : Entries → Entries → Entries

@@ -1,28 +1,16 @@
 -- What a walk over an index has met, entry by entry and node by node.
 use Rattle.std.proofs.Common.{◌≡◌, ◌≢◌, ℕ, ℤ, pos, negsuc, zero, suc, ◌+◌, ◌-◌, ◌<◌, List, [], ◌∷◌, ◌++◌, length, map, true, false, not, ◌&&◌, eqb, eq-eqb, refl, sym, ap, subst, ◌∙◌, append_assoc, append-nil, arith, Ok, Err, None}
-use Rattle.std.proofs.lemmas.Bool.{ne_eqb}
+use Rattle.cdf_structure.proofs.Common.{ne_eqb, is_in, is_linkable, record_number_limit, number, with_sign, type_at, Nodes, no_node, node, Entries, no_entry, block, lower, Leaf, room_at, used_count, first_at, last_at, offset_at, has_room, is_block, is_between, end_of, Met, met, lost, vxr_type, cvvr_type, vdr_vxr_head, Row, row, index_of, number_before, Block, Index, block_of, FindsMore, Enters, WalksEntries, WalksIndex, Agrees, Finds}
 use Rattle.std.specs.declared.result.Result.{Result}
-use Rattle.cdf_format.specs.Chains.{is_in, is_linkable}
-use Rattle.cdf_model.specs.Limits.{record_number_limit}
-use Rattle.cdf_format.specs.Fields.{number, with_sign, type_at}
-use Rattle.cdf_format.specs.Index.{Nodes, no_node, node, Entries, no_entry, block, lower, Leaf, leaves_of, entry_leaves, room_at, used_count, first_at, last_at, offset_at}
-use Rattle.cdf_format.specs.IndexRules.{has_room, is_block, is_between, nodes_rows, used_rows, end_of}
-use Rattle.cdf_format.specs.IndexWalk.{Met, met, lost, entries_on, nodes_on, levels_on}
-use Rattle.cdf_format.specs.RecordTypes.{vxr_type, cvvr_type}
-use Rattle.cdf_format.specs.Records.{vdr_vxr_head}
-use Rattle.cdf_format.specs.Rules.{Row, row}
-use Rattle.cdf_format.specs.Shape.{index_of}
-use Rattle.cdf_format.specs.VariableFields.{number_before}
+use Rattle.cdf_format.specs.Index.{leaves_of, entry_leaves}
+use Rattle.cdf_format.specs.IndexRules.{nodes_rows, used_rows}
+use Rattle.cdf_format.specs.IndexWalk.{entries_on, nodes_on, levels_on}
 use Rattle.cdf_structure.specs.declared.index_walk.Between.{Between}
-use Rattle.cdf_structure.specs.declared.index_walk.Block.{Block}
 use Rattle.cdf_structure.specs.declared.index_walk.Chain.{Chain}
-use Rattle.cdf_structure.specs.declared.index_walk.Index.{Index}
 use Rattle.cdf_structure.specs.declared.met.Met.{Met as MetNodes}
 use Rattle.cdf_structure.specs.declared.nodes.Entry.{Entry}
 use Rattle.cdf_structure.specs.declared.nodes.Node.{Node}
-use Rattle.cdf_structure.specs.Indexes.{IsEntryAt, block_in, block_of, FindsMore, Enters, WalksNodes, WalksEntries, EndsAt, WalksIndex}
-use Rattle.cdf_structure.specs.Met.{Agrees}
-use Rattle.cdf_structure.specs.Findings.{Finds}
+use Rattle.cdf_structure.specs.Indexes.{IsEntryAt, block_in, WalksNodes, EndsAt}
 use Rattle.cdf_structure.proofs.IndexFindings.{more_found, none_asked, from_none}
 use Rattle.cdf_structure.proofs.IndexJoins.{join, leaves-join, end-join, rows-join, link_chains, chain_end, leaves-chains, end-chains, rows-chains}
 use Rattle.cdf_structure.proofs.IndexWalks.{one_block, one_lower, one_lost, no_entries, more_met, more_lost, lost_on, chain_ends, chain_spent, chain_stops, node_lost, node_met, behind_nodes, behind_one}

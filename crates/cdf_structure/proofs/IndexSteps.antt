@@ -1,30 +1,16 @@
 -- The rules on the index of a variable, and its records.
 use Rattle.std.proofs.Common.{◌≡◌, ℕ, pos, negsuc, List, [], ◌∷◌, ◌++◌, length, map, true, false, not, ◌||◌, true≢false, refl, sym, ap, ap₂, subst, ◌∙◌, append-nil, inl, inr, Option, Some, None, Ok}
-use Rattle.std.specs.List.{flat_map}
-use Rattle.cdf_model.specs.Limits.{record_number_limit}
-use Rattle.cdf_format.specs.Chains.{is_a, is_in}
-use Rattle.cdf_format.specs.Index.{Nodes, Leaf, nodes_of, leaves_of}
-use Rattle.cdf_format.specs.IndexRules.{met_rows, nodes_rows, leaf_rows, vvr_rows}
-use Rattle.cdf_format.specs.IndexWalk.{Met, met, lost, nodes_met}
+use Rattle.cdf_structure.proofs.Common.{flat_map, record_number_limit, is_a, is_in, Nodes, Leaf, met_rows, Met, met, lost, variable_records, vdr_vxr_head, cvvr_type, Row, Hold, IsBroken, index_of, is_compressed, variable_shape, AreTiles, record_bytes, variable_rows, is_a-in, is_a-type, either, Hold-append, IsBroken-before, IsBroken-after, WalksIndex, block_of, block_rows, index_records, AreRead, Finds, Block, Index, Finding}
+use Rattle.cdf_format.specs.Index.{nodes_of, leaves_of}
+use Rattle.cdf_format.specs.IndexRules.{nodes_rows, leaf_rows, vvr_rows}
+use Rattle.cdf_format.specs.IndexWalk.{nodes_met}
 use Rattle.cdf_format.specs.NotRead.{read_types}
-use Rattle.cdf_format.specs.Owners.{variable_records}
-use Rattle.cdf_format.specs.Records.{vdr_vxr_head}
-use Rattle.cdf_format.specs.RecordTypes.{vvr_type, cvvr_type, cpr_type}
-use Rattle.cdf_format.specs.Rules.{Row, asked, Hold, IsBroken}
-use Rattle.cdf_format.specs.Shape.{cpr_of, index_of, is_compressed, variable_shape}
-use Rattle.cdf_format.specs.Tiles.{AreTiles}
-use Rattle.cdf_format.specs.VariableFields.{record_bytes}
-use Rattle.cdf_format.specs.VariableRules.{cpr_link, is_cpr, variable_rows}
-use Rattle.cdf_format.proofs.ChainsLemmas.{is_a-in, is_a-type}
+use Rattle.cdf_format.specs.RecordTypes.{vvr_type, cpr_type}
+use Rattle.cdf_format.specs.Rules.{asked}
+use Rattle.cdf_format.specs.Shape.{cpr_of}
+use Rattle.cdf_format.specs.VariableRules.{cpr_link, is_cpr}
 use Rattle.cdf_format.proofs.IndexLemmas.{index_sound, index_complete}
-use Rattle.cdf_format.proofs.Members.{either}
-use Rattle.cdf_format.proofs.RowLemmas.{Hold-append, IsBroken-before, IsBroken-after}
-use Rattle.cdf_structure.specs.Indexes.{MeetsIndex, WalksIndex, block_of, block_rows, index_records}
-use Rattle.cdf_structure.specs.Records.{AreRead}
-use Rattle.cdf_structure.specs.Findings.{Finds}
-use Rattle.cdf_structure.specs.declared.index_walk.Block.{Block}
-use Rattle.cdf_structure.specs.declared.index_walk.Index.{Index}
-use Rattle.cdf_structure.specs.declared.finding.Finding.{Finding}
+use Rattle.cdf_structure.specs.Indexes.{MeetsIndex}
 use Rattle.cdf_structure.proofs.Findings.{none_found, one_found}
 
 module _ (b ts : List ℕ) (read : AreRead b ts) where

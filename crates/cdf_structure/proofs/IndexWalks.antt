@@ -1,12 +1,7 @@
 -- Steps of a walk over an index.
 use Rattle.std.proofs.Common.{◌≡◌, ◌≢◌, ℕ, zero, suc, ◌+◌, List, [], ◌∷◌, ◌++◌, true, false, not, ◌&&◌, eqb, eq-eqb, refl, sym, ap, ◌∙◌, inl, inr, arith}
-use Rattle.std.proofs.lemmas.Bool.{ne_eqb}
-use Rattle.cdf_format.specs.Chains.{is_in, is_linkable, next_of}
-use Rattle.cdf_format.specs.Fields.{type_at}
-use Rattle.cdf_format.specs.Index.{Nodes, no_node, node, Entries, no_entry, block, lower, room_at, used_count, first_at, last_at, offset_at}
-use Rattle.cdf_format.specs.IndexWalk.{Met, met, lost, and_then, entries_on, nodes_on}
-use Rattle.cdf_format.specs.RecordTypes.{vxr_type, cvvr_type}
-use Rattle.cdf_format.proofs.Members.{either}
+use Rattle.cdf_structure.proofs.Common.{ne_eqb, is_in, is_linkable, next_of, type_at, Nodes, no_node, node, Entries, no_entry, block, lower, room_at, used_count, first_at, last_at, offset_at, Met, met, lost, vxr_type, cvvr_type, either}
+use Rattle.cdf_format.specs.IndexWalk.{and_then, entries_on, nodes_on}
 use Rattle.cdf_structure.proofs.IndexJoins.{join, link_chains, chains-assoc}
 
 -- ---- entries

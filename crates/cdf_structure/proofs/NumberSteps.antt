@@ -1,20 +1,9 @@
 -- The numbers of the members of a chain, one after the other.
 use Rattle.std.proofs.Common.{◌≡◌, ◌≢◌, ℕ, suc, ◌+◌, ◌<◌, ◌≤◌, List, length, drop, get_or, eq-eqb, refl, arith, inl, inr, Option, Some, None}
-use Rattle.std.proofs.lemmas.Bool.{ne_eqb}
+use Rattle.cdf_structure.proofs.Common.{ne_eqb, number, fixed_size, In, AreTiles, IsBroken, whole, chain, number_rows, linkable-in, tile_lies, Finding, AreLong, Finds}
 use Rattle.std.proofs.Math.Seq.{drop-cons}
-use Rattle.cdf_format.specs.Fields.{number}
 use Rattle.cdf_format.specs.Records.{Field}
-use Rattle.cdf_format.specs.RecordTypes.{fixed_size}
-use Rattle.cdf_format.specs.Tiles.{In, AreTiles}
-use Rattle.cdf_format.specs.Rules.{IsBroken}
-use Rattle.cdf_format.specs.Walks.{whole}
-use Rattle.cdf_format.specs.Chains.{chain}
-use Rattle.cdf_format.specs.ChainRules.{number_rows}
-use Rattle.cdf_format.proofs.ChainsLemmas.{chain_sound, linkable-in, linkable-type}
-use Rattle.cdf_format.proofs.TilesLemmas.{tile_lies}
-use Rattle.cdf_structure.specs.declared.finding.Finding.{Finding}
-use Rattle.cdf_structure.specs.FileChains.{AreLong}
-use Rattle.cdf_structure.specs.Findings.{Finds}
+use Rattle.cdf_format.proofs.ChainsLemmas.{chain_sound, linkable-type}
 
 module _ (rule : ℕ) (b : List ℕ) (num : Field) (ms : List ℕ) (i : ℕ) (lt : i < length ms) where
   pub number_wrong : number b (get_or ms i 0) num ≢ i → IsBroken (number_rows rule b num i (drop i ms)) rule (get_or ms i 0)

@@ -1,19 +1,11 @@
 -- The records of an image, one after the other in one walk.
 use Rattle.std.proofs.Common.{◌≡◌, ◌≢◌, ℕ, List, [], ◌∷◌, ◌++◌, cond, Bool, sym, ap, ◌∙◌, subst, eq-eqb, append-nil, Option, Some, None, Ok}
-use Rattle.std.proofs.lemmas.Bool.{ne_eqb}
+use Rattle.cdf_structure.proofs.Common.{ne_eqb, flat_map, option_or, size_at, type_at, unread_type, record_rows, phase4, Row, Hold, IsBroken, Finding, WalksTiles, Finds, Yields}
 use Rattle.std.proofs.lemmas.List.Elements.{filter-append}
 use Rattle.std.specs.Prelude.{◌==◌}
-use Rattle.std.specs.List.{flat_map}
-use Rattle.std.specs.Option.{option_or}
-use Rattle.cdf_format.specs.Fields.{size_at, type_at}
-use Rattle.cdf_format.specs.NotRead.{unread_type}
-use Rattle.cdf_format.specs.RecordRules.{record_rows, phase4}
 use Rattle.cdf_format.specs.RecordTypes.{uir_type}
-use Rattle.cdf_format.specs.Rules.{Row, Hold, IsBroken}
 use Rattle.cdf_structure.specs.declared.tiles.Walked.{Walked}
-use Rattle.cdf_structure.specs.declared.finding.Finding.{Finding}
-use Rattle.cdf_structure.specs.Records.{AreRecords, WalksTiles, head_rows, unused_of}
-use Rattle.cdf_structure.specs.Findings.{Finds, Yields}
+use Rattle.cdf_structure.specs.Records.{AreRecords, head_rows, unused_of}
 use Rattle.cdf_structure.proofs.Findings.{none_found, one_found}
 use Rattle.cdf_structure.proofs.Rows.{found_more}
 use Rattle.cdf_structure.proofs.TileSteps.{whole_rows}

@@ -1,13 +1,7 @@
 -- The rules of each member of a list, one after the other.
 use Rattle.std.proofs.Common.{◌≡◌, ℕ, zero, suc, ◌+◌, ◌<◌, List, [], ◌∷◌, ◌++◌, length, map, take, get_or, refl, sym, ap, ◌∙◌, inl, inr, ◌⊎◌, arith, append-nil, Option, Some, None}
-use Rattle.std.proofs.lemmas.List.{map-append, take_more}
-use Rattle.std.specs.List.{flat_map}
-use Rattle.std.specs.Option.{option_or}
-use Rattle.cdf_format.specs.Rules.{Row, Hold, IsBroken}
-use Rattle.cdf_format.specs.Tiles.{In}
-use Rattle.cdf_format.proofs.RowLemmas.{Hold-append, Hold-split, IsBroken-before, IsBroken-after, flat_map-append}
-use Rattle.cdf_structure.specs.declared.finding.Finding.{Finding}
-use Rattle.cdf_structure.specs.Findings.{Finds}
+use Rattle.cdf_structure.proofs.Common.{map-append, take_more, flat_map, option_or, Row, Hold, IsBroken, In, Hold-append, IsBroken-before, IsBroken-after, Finding, Finds}
+use Rattle.cdf_format.proofs.RowLemmas.{Hold-split, flat_map-append}
 
 pub In-get_or : (xs : List ℕ) (i : ℕ) → i < length xs → In (get_or xs i 0) xs
 In-get_or [] i lt = absurd (omega arith)

@@ -1,15 +1,10 @@
 -- The search of a number among the places of records, which ascend.
 use Rattle.std.proofs.Common.{◌≡◌, ℕ, zero, suc, ◌+◌, ◌-◌, ◌<◌, ◌≤◌, List, [], ◌∷◌, length, get_or, true, false, Some, sym, subst, arith, inl, inr}
-use Rattle.std.proofs.lemmas.Bool.{cases_lt}
+use Rattle.cdf_structure.proofs.Common.{cases_lt, size_at, is_in, In, AreTiles, tile_lies, Climbs}
 use Rattle.std.proofs.lemmas.Option.{get_or_from_slice_get}
 use Rattle.std.specs.Prelude.{slice_get}
-use Rattle.cdf_format.specs.Fields.{size_at}
-use Rattle.cdf_format.specs.Chains.{is_in}
-use Rattle.cdf_format.specs.Tiles.{In, AreTiles}
 use Rattle.cdf_format.proofs.Members.{is_in-true, is_in-false}
-use Rattle.cdf_format.proofs.TilesLemmas.{tile_lies}
 use Rattle.cdf_structure.specs.Met.{Ascends}
-use Rattle.cdf_structure.specs.Walked.{Climbs}
 use Rattle.cdf_structure.proofs.Rows.{In-get_or}
 
 place_of : (x : ℕ) (xs : List ℕ) → In x xs → (i : ℕ) × (i < length xs) × (get_or xs i 0 ≡ x)

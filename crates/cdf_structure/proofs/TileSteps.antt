@@ -1,14 +1,9 @@
 -- Steps of the walk over the records of an image.
 use Rattle.std.proofs.Common.{◌≡◌, ◌≢◌, ℕ, zero, suc, ◌+◌, ◌≤◌, List, [], ◌∷◌, ◌++◌, length, true, false, leb, eq-eqb, refl, sym, ap, ◌∙◌, inl, append_assoc, append-nil, arith}
-use Rattle.std.proofs.lemmas.Bool.{and_parts, leb-true, ne_eqb}
-use Rattle.cdf_format.specs.Fields.{size_at}
-use Rattle.cdf_format.specs.Walks.{Walk, whole, stuck, after_first}
+use Rattle.cdf_structure.proofs.Common.{and_parts, ne_eqb, size_at, Walk, whole, stuck, IsBroken, tiling, unread_type, record_rows, phase4, flat_map}
+use Rattle.std.proofs.lemmas.Bool.{leb-true}
+use Rattle.cdf_format.specs.Walks.{after_first}
 use Rattle.cdf_format.specs.Tiles.{is_tile, tiles_from}
-use Rattle.cdf_format.specs.Rules.{IsBroken}
-use Rattle.cdf_format.specs.Tiles.{tiling}
-use Rattle.cdf_format.specs.NotRead.{unread_type}
-use Rattle.cdf_format.specs.RecordRules.{record_rows, phase4}
-use Rattle.std.specs.List.{flat_map}
 
 -- a walk that begins with these records
 abbrev pub behind : List ℕ → Walk → Walk

@@ -1,20 +1,10 @@
 -- How a run over an area ends.
 use Rattle.std.proofs.Common.{◌≡◌, ℕ, Bool, true, false, List, Option, Result, Ok, Err, refl, sym, ◌∙◌, ap, subst, inl, inr}
-use Rattle.std.specs.Prelude.{IfOk}
-use Rattle.cdf_area.specs.declared.area.AreaError.{AreaError}
+use Rattle.cdf_tool.proofs.Common.{IfOk, AreaError, Broken, WellFormed, rejected_text, AdoptError, Disk, file_of, Status, Refuses, EndsOver, EndsUnread, Rejects, SaysRejected, status_of_area}
 use Rattle.cdf_area.specs.declared.area.AreaError.TheVariants as areas
-use Rattle.cdf_check.specs.declared.verdict.Broken.{Broken}
-use Rattle.cdf_format.specs.WellFormed.{WellFormed}
-use Rattle.cdf_model.specs.Texts.{rejected_text}
-use Rattle.cdf_session.specs.declared.refusal.AdoptError.{AdoptError}
 use Rattle.cdf_session.specs.declared.refusal.AdoptError.TheVariants as errors
-use Rattle.cdf_store.specs.Disk.{Disk, file_of}
-use Rattle.cdf_tool.specs.declared.status.Status.{Status}
 use Rattle.cdf_tool.specs.declared.status.Status.TheVariants as statuses
-use Rattle.cdf_tool.specs.Areas.{Refuses, EndsOver}
-use Rattle.cdf_tool.specs.Ends.{EndsUnread}
-use Rattle.cdf_tool.specs.Says.{Rejects, rejection, SaysRejected}
-use Rattle.cdf_tool.specs.Statuses.{status_of_area}
+use Rattle.cdf_tool.specs.Says.{rejection}
 
 -- a rejection ends a run
 rejected_ends : (file : List ℕ) (first now : Option (List ℕ)) (r : Rejects file) (status : Status) → SaysRejected (rejection r) first now status → EndsUnread false file first now status

@@ -1,19 +1,8 @@
 -- What follows of a run by whether a check was asked for.
 use Rattle.std.proofs.Common.{◌≡◌, ℕ, Bool, true, false, List, Option, Some, None, sym, ◌∙◌, ap, inl, inr}
-use Rattle.std.specs.Prelude.{◌||◌, ◌&&◌, not, IfSome}
-use Rattle.std.specs.Option.{option_map}
-use Rattle.cdf_store.specs.Disk.{Disk}
-use Rattle.cdf_store.specs.Named.{lookup}
-use Rattle.cdf_tool.specs.Accepts.{Accepts}
-use Rattle.cdf_tool.specs.Asking.{Asked}
-use Rattle.cdf_tool.specs.declared.status.Status.{Status}
+use Rattle.cdf_tool.proofs.Common.{◌||◌, ◌&&◌, not, IfSome, option_map, Disk, lookup, Accepts, Asked, Status, EndsChecked, EndsNamed, EndsWithout, EndsAsked, IsUnsaved, Attached}
 use Rattle.cdf_tool.specs.declared.status.Status.TheVariants as statuses
 use Rattle.cdf_tool.specs.Due.{FilesStay, Looked, Untouched}
-use Rattle.cdf_tool.specs.Checking.{EndsChecked}
-use Rattle.cdf_tool.specs.Ends.{EndsNamed, EndsWithout}
-use Rattle.cdf_tool.specs.Endings.{EndsAsked}
-use Rattle.cdf_tool.specs.Statuses.{IsUnsaved}
-use Rattle.cdf_tool.specs.Stored.{Attached}
 use Rattle.cdf_tool.proofs.RunStore.{found_lookup_in, kept_attached}
 
 module _ {U : Type 0} (a : Asked) (d d' : Disk U) (before left first now : Option (List ℕ)) (status : Status) where

@@ -1,20 +1,11 @@
 -- What a run wrote of the file under the name.
 use Rattle.std.proofs.Common.{◌≡◌, ℕ, ◌<◌, ◌≤◌, Bool, true, false, List, length, Option, Some, None, refl, sym, ◌∙◌, ap, subst, arith, length-append, inl, inr}
-use Rattle.std.specs.Prelude.{IfSome}
+use Rattle.cdf_tool.proofs.Common.{IfSome, image_of, sealed, Good, Differs, Touches, touches_none, touches_weaker, Disk, file_in, found_or_made, lookup, Asked, Status, EndsNamed, Runs, IsDone, IsRewritten, KeptBy, StoredBy}
 use Rattle.std.proofs.Math.ListN.{get_or-append}
 use Rattle.std.proofs.Math.Seq.{take-append_seam}
-use Rattle.cdf_format.specs.Sealed.{image_of, sealed, trailer}
-use Rattle.cdf_format.specs.WellFormed.{Good}
-use Rattle.cdf_pages.specs.Saving.{Differs, Touches}
-use Rattle.cdf_pages.proofs.Touched.{touches_none, touches_weaker}
-use Rattle.cdf_store.specs.Disk.{Disk, file_in}
-use Rattle.cdf_store.specs.Named.{found_or_made, lookup}
-use Rattle.cdf_tool.specs.Asking.{Asked}
-use Rattle.cdf_tool.specs.declared.status.Status.{Status}
+use Rattle.cdf_format.specs.Sealed.{trailer}
 use Rattle.cdf_tool.specs.declared.status.Status.TheVariants as statuses
-use Rattle.cdf_tool.specs.Ends.{EndsNamed, Runs}
-use Rattle.cdf_tool.specs.Statuses.{IsDone}
-use Rattle.cdf_tool.specs.Stored.{IsChanged, IsRewritten, KeptBy, StoredBy}
+use Rattle.cdf_tool.specs.Stored.{IsChanged}
 use Rattle.cdf_tool.proofs.AskedLemmas.{if_some}
 use Rattle.cdf_tool.proofs.Headline.{unread_not_done, without_not_done}
 use Rattle.cdf_tool.proofs.StoredLemmas.{front_is_image}

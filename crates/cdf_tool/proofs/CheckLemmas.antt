@@ -1,22 +1,11 @@
 -- A file that is checked and no more.
 use Rattle.std.proofs.Common.{◌≡◌, ℕ, Bool, true, false, List, ◌++◌, Option, Some, refl, sym, ◌∙◌, inl, inr, subst}
-use Rattle.cdf_store.specs.Disk.{Disk}
-use Rattle.cdf_format.specs.Phases.{all_phases}
+use Rattle.cdf_tool.proofs.Common.{Disk, all_phases, image_of, shape, WellFormed, excluded, Asked, Status, EndsChecked, EndsOverFile, SaysAccepted, accepted_text, Counted, counts, EndsUnread, EndsWithout, Exactly, Attached, KeptBy}
 use Rattle.cdf_format.specs.Owners.{space_of}
-use Rattle.cdf_format.specs.Sealed.{image_of}
-use Rattle.cdf_format.specs.Shape.{shape}
-use Rattle.cdf_format.specs.WellFormed.{WellFormed}
-use Rattle.cdf_format.proofs.Verdicts.{excluded}
 use Rattle.cdf_model.specs.declared.space.Space.{Space}
 use Rattle.cdf_model.specs.Texts.{space_text}
-use Rattle.cdf_tool.specs.Asking.{Asked}
-use Rattle.cdf_tool.specs.declared.status.Status.{Status}
 use Rattle.cdf_tool.specs.declared.status.Status.TheVariants as statuses
-use Rattle.cdf_tool.specs.Checking.{Checks, EndsChecked, EndsOverFile, IsAnswered, SaysAccepted, accepted_text, yes_text}
-use Rattle.cdf_tool.specs.Counts.{Counted, counts}
-use Rattle.cdf_tool.specs.Ends.{EndsUnread, EndsWithout}
-use Rattle.cdf_tool.specs.Statuses.{Exactly}
-use Rattle.cdf_tool.specs.Stored.{Attached, KeptBy}
+use Rattle.cdf_tool.specs.Checking.{Checks, IsAnswered, yes_text}
 use Rattle.cdf_tool.proofs.RunStore.{kept_attached}
 
 some_same : (x y : List ℕ) → Some x ≡ Some y → x ≡ y

@@ -1,24 +1,19 @@
 -- A whole command line: clap finds no fault in words exactly where they are fine flags and one file, and then finds what they ask for.
 use Rattle.std.proofs.Common.{◌≡◌, ◌∙◌, ℕ, suc, ◌+◌, Bool, true, false, not, ◌||◌, ◌==◌, cond, List, [], ◌∷◌, ◌++◌, append-nil, append_assoc, Option, Some, None, refl, sym, ap, subst, inl, inr, codes, if◌then◌else◌, map, string_bytes, String, one-add, arith}
-use Rattle.std.specs.Prelude.{bytes_eq, fold, is_some, slice_get}
-use Rattle.std.specs.List.{after_first, before_first, position_or_len}
+use Rattle.cdf_tool.proofs.Common.{bytes_eq, fold, is_some, slice_get, before_first, cases_Bool, eqb-true, bundle_fault, long_fault, settle_fault, step_fault, or_else, has_byte, long_of, short_of, Held, Step, Walk, after_flag, after_step, arg_by_long, has_row, idle, long_met, nothing_held, settled, value, with_default, Kinds, Row, Rule, Text, same_of_bytes_eq, is_among, Asked, are_fine, is_end, is_flag, known_flags, command_app}
+use Rattle.std.specs.List.{after_first, position_or_len}
 use Rattle.std.specs.Option.{option_and_then, option_map_or}
 use Rattle.std.specs.Str.{IsUtf8, chars}
 use Rattle.std.specs.Str.{encode_utf8_all as encodes}
-use Rattle.std.proofs.lemmas.Bool.{cases_Bool, eqb-true}
 use Rattle.std.proofs.lemmas.Str.{IsCharBoundary-after_ascii, IsUtf8-drop, IsUtf8-string_bytes, encodes-chars}
 use Rattle.clap.specs.declared.error.kind.ErrorKind.TheVariants.{MissingRequiredArgument}
 use Rattle.clap.specs.Facts.{explicit_source}
-use Rattle.clap.specs.Faults.{check_fault, default_fault, defaults_fault, bundle_fault, flag_word_fault, long_fault, settle_fault, step_fault, turn_fault, walk_fault}
-use Rattle.clap.specs.Kinds.{or_else}
-use Rattle.clap.specs.Lexer.{has_byte, long_of, short_of}
-use Rattle.clap.specs.Walk.{Held, Step, Walk, after_flag, after_step, arg_by_long, finished, first_of, has_row, idle, long_met, long_or_other, nothing_held, one_of, row_text, settled, short_or_plain, trailing, value, walk_from, walked, with_default}
-use Rattle.clap.specs.Words.{Kinds, Row, Rule, Text, built}
+use Rattle.clap.specs.Faults.{check_fault, default_fault, defaults_fault, flag_word_fault, turn_fault, walk_fault}
+use Rattle.clap.specs.Walk.{finished, first_of, long_or_other, one_of, row_text, short_or_plain, trailing, walk_from, walked}
+use Rattle.clap.specs.Words.{built}
 use Rattle.clap.proofs.FaultLemmas.{leaf_fault}
-use Rattle.cdf_format.proofs.Tests.{same_of_bytes_eq}
-use Rattle.cdf_model.specs.Names.{is_among}
-use Rattle.cdf_tool.specs.Asking.{Asked, are_fine, said, said_by, files_in, flags_in, is_end, is_flag, known_flags}
-use Rattle.cdf_tool.specs.CommandLine.{command, command_app, faults, found}
+use Rattle.cdf_tool.specs.Asking.{said, said_by, files_in, flags_in}
+use Rattle.cdf_tool.specs.CommandLine.{command, faults, found}
 use Rattle.cdf_tool.proofs.FlagLemmas.{twice_not_fine, unknown_not_fine}
 use Rattle.cdf_tool.proofs.ClapRows.{added, at, at_defaults, by_default, default_at, flag_arg, with_defaults, yes}
 use Rattle.cdf_tool.proofs.ClapWords.{Fails, Goes, Look, Open, Spelled, all_before, bundle_fails, dashed, ends, file_arg, first_file, first_none, kinds_apart, long, look, names, once_goes, plain, position_of, rules, second_file, short, start, top, twice_fails, unknown_fails, valued_fails, walk_at}

@@ -1,16 +1,11 @@
 -- The rows that clap finds: one for each argument that was used, and at the end one for each flag that was not.
 use Rattle.std.proofs.Common.{◌≡◌, ◌∙◌, true, false, List, [], ◌∷◌, Option, Some, None, refl, sym, ap, codes, if◌then◌else◌, inl, inr, map}
-use Rattle.std.specs.Prelude.{bytes_eq, find, fold, is_some}
-use Rattle.std.proofs.lemmas.Bool.{cases_Bool}
+use Rattle.cdf_tool.proofs.Common.{bytes_eq, fold, is_some, cases_Bool, Row, Rule, Text, filled, has_row, with_default, bytes_eq-same, same_of_bytes_eq, flag_rule}
+use Rattle.std.specs.Prelude.{find}
 use Rattle.clap.specs.declared.parser.matches.ValueSource.TheVariants.{CommandLine, DefaultValue}
 use Rattle.clap.specs.declared.parser.matches.ValueSource.{ValueSource}
 use Rattle.clap.specs.declared.builder.value_parser.Reading.{Reading}
-use Rattle.clap.specs.Words.{Row, Rule, Text}
-use Rattle.clap.specs.Simple.{filled}
-use Rattle.clap.specs.Walk.{has_row, reading_by, with_default, with_values, without}
-use Rattle.cdf_format.proofs.NameRules.{bytes_eq-same}
-use Rattle.cdf_format.proofs.Tests.{same_of_bytes_eq}
-use Rattle.cdf_tool.specs.CommandLine.{flag_rule}
+use Rattle.clap.specs.Walk.{reading_by, with_values, without}
 use Rattle.cdf_tool.proofs.FlagLemmas.{or_parts}
 
 abbrev pub flag_arg : Text → Rule

@@ -1,22 +1,15 @@
 -- One word of a command line, as clap takes it where some flags, and a file or none, were read before.
 use Rattle.std.proofs.Common.{◌≡◌, ◌∙◌, ℕ, Bool, true, false, ◌&&◌, ◌||◌, ◌==◌, List, [], ◌∷◌, ◌++◌, Option, Some, None, refl, ap, ap₂, subst, inl, inr, codes, if◌then◌else◌, one-add}
-use Rattle.std.specs.Prelude.{bytes_eq, is_some, option_map, slice_get}
-use Rattle.std.specs.List.{before_first}
+use Rattle.cdf_tool.proofs.Common.{bytes_eq, is_some, slice_get, before_first, cases_Bool, eqb-true, bundle_fault, long_fault, settle_fault, step_fault, or_else, has_byte, long_of, short_of, filled, Held, Step, Walk, after_flag, after_step, arg_by_long, has_row, idle, long_met, nothing_held, settled, value, Kinds, Row, Rule, Text, differ-turned, same_of_bytes_eq, is_among, are_fine, is_end, is_flag, known_flags, command_app}
+use Rattle.std.specs.Prelude.{option_map}
 use Rattle.std.specs.Str.{chars}
-use Rattle.std.proofs.lemmas.Bool.{cases_Bool, eqb-true}
 use Rattle.clap.specs.declared.error.kind.ErrorKind.{ErrorKind}
 use Rattle.clap.specs.declared.error.kind.ErrorKind.TheVariants.{ArgumentConflict, TooManyValues, UnknownArgument}
-use Rattle.clap.specs.Faults.{bundle_fault, flags_fault, long_fault, settle_fault, step_fault}
-use Rattle.clap.specs.Kinds.{or_else}
-use Rattle.clap.specs.Lexer.{has_byte, long_of, short_of}
-use Rattle.clap.specs.Simple.{Shape, filled, with_index}
-use Rattle.clap.specs.Walk.{Held, Step, Walk, after_flag, after_step, arg_by_long, has_row, idle, is_pending, long_met, nothing_held, settled, reacted, value}
-use Rattle.clap.specs.Words.{Kinds, Row, Rule, Text, built}
-use Rattle.cdf_format.proofs.NameRules.{differ-turned}
-use Rattle.cdf_format.proofs.Tests.{same_of_bytes_eq}
-use Rattle.cdf_model.specs.Names.{is_among}
-use Rattle.cdf_tool.specs.Asking.{are_fine, is_end, is_flag, known_flags}
-use Rattle.cdf_tool.specs.CommandLine.{command_app, file_rule}
+use Rattle.clap.specs.Faults.{flags_fault}
+use Rattle.clap.specs.Simple.{Shape, with_index}
+use Rattle.clap.specs.Walk.{is_pending, reacted}
+use Rattle.clap.specs.Words.{built}
+use Rattle.cdf_tool.specs.CommandLine.{file_rule}
 use Rattle.cdf_tool.proofs.FlagLemmas.{among_later, among_more, and_false, once_fine, or_false, or_parts}
 use Rattle.cdf_tool.proofs.ClapRows.{add, added, at, at_add_other, at_add_same, flag_arg, has_none, has_some, yes}
 

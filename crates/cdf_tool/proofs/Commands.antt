@@ -1,29 +1,19 @@
 -- A command is answered, or is not known.
 use Rattle.std.proofs.Common.{◌≡◌, ℕ, Bool, true, false, List, [], Option, Ok, refl, sym, ◌∙◌, ap, subst}
-use Rattle.std.proofs.Math.Path.{transport}
-use Rattle.std.specs.Prelude.{if◌then◌else◌, Some, None}
-use Rattle.cdf_format.specs.Content.{content}
-use Rattle.cdf_edits.specs.Answers.{Answers, StepLeads, is_full}
-use Rattle.cdf_session.specs.History.{CommandLeads, RouteLeads, LineLeads}
+use Rattle.cdf_tool.proofs.Common.{transport, if◌then◌else◌, content, Answers, is_full, CommandLeads, RouteLeads, LineLeads, UnknownWord, Outcome, Command, Answer, Parsed, Blank, Asks, Faulty, parse, Turn, asked, faulty, Route, ByStep, step, built, AnswersBuilt, turn_over, asked_by, IsShort, Turns}
+use Rattle.std.specs.Prelude.{Some, None}
+use Rattle.cdf_edits.specs.Answers.{StepLeads}
 use Rattle.cdf_model.specs.declared.answer.LineError.{LineError}
-use Rattle.cdf_model.specs.declared.answer.LineError.TheVariants.{UnknownWord}
-use Rattle.cdf_model.specs.declared.answer.Outcome.{Outcome}
 use Rattle.cdf_model.specs.declared.answer.Outcome.TheVariants.{Refused}
 use Rattle.cdf_model.specs.declared.answer.Reason.TheVariants.{BadLine}
-use Rattle.cdf_model.specs.declared.command.Command.{Command}
-use Rattle.cdf_model.specs.Answers.{Answer}
-use Rattle.cdf_model.specs.Grammar.{Parsed, Blank, Asks, Faulty, parse}
-use Rattle.cdf_model.specs.Turns.{Turn, asked, answered, faulty, is_refused}
-use Rattle.cdf_model.specs.Step.{Route, ByStep, step}
-use Rattle.cdf_session.specs.Built.{built}
+use Rattle.cdf_model.specs.Turns.{answered, is_refused}
 use Rattle.cdf_model.specs.Texts.{reply_text}
 use Rattle.cdf_model.specs.Sayable.{Sayable}
 use Rattle.cdf_model.proofs.SayableForms.{sayable-line}
-use Rattle.cdf_session.specs.Sessions.{AnswersBuilt}
 use Rattle.cdf_script.specs.declared.parsing.Parsed.{Parsed as Read}
 use Rattle.cdf_script.specs.declared.parsing.Parsed.TheVariants as forms
 use Rattle.cdf_script.specs.Asking.{Parses}
-use Rattle.cdf_tool.specs.Replay.{turn_over, asked_by, IsSayable, IsShort, Turns}
+use Rattle.cdf_tool.specs.Replay.{IsSayable}
 
 module _ (limit : ℕ) (b : List ℕ) (n : ℕ) (c : Command) (o : Outcome) (end : List ℕ) where
   turn_built : built c ≡ true → (answer : Answer) (full : Bool) → step (content b) c ≡ ByStep answer → turn_over b n (Asks c) full ≡ answered (content b) [] n answer full

@@ -1,18 +1,9 @@
 -- How a run of a named file ends.
 use Rattle.std.proofs.Common.{◌≡◌, ℕ, Bool, true, false, List, [], Option, Result, Ok, Err, refl, sym, subst, inl, inr}
-use Rattle.std.proofs.Math.Path.{transport}
-use Rattle.std.specs.Prelude.{IfOk}
-use Rattle.cdf_store.specs.Disk.{Disk}
-use Rattle.cdf_format.specs.WellFormed.{Good}
-use Rattle.cdf_model.specs.Limits.{image_limit}
-use Rattle.cdf_tool.specs.Asking.{Asked}
-use Rattle.cdf_tool.specs.declared.status.Status.{Status}
+use Rattle.cdf_tool.proofs.Common.{transport, IfOk, Disk, Good, image_limit, Asked, Status, EndsOver, EndsSaving, EndsStored, status_from, Runs, EndsNamed, status_of, Attached, Kept, StoredBy}
 use Rattle.cdf_tool.specs.declared.status.Status.TheVariants as statuses
-use Rattle.cdf_tool.specs.Areas.{EndsOver, EndsSaving, EndsStored, EndsAttached, EndsInMemory, status_from}
-use Rattle.cdf_tool.specs.Ends.{Runs, EndsNamed}
+use Rattle.cdf_tool.specs.Areas.{EndsAttached, EndsInMemory}
 use Rattle.cdf_tool.specs.Script.{FinishesWith, HaltsWith}
-use Rattle.cdf_tool.specs.Statuses.{status_of}
-use Rattle.cdf_tool.specs.Stored.{Attached, Kept, StoredBy}
 use Rattle.cdf_tool.proofs.AreaLemmas.{over_file}
 use Rattle.cdf_tool.proofs.StoredLemmas.{kept, replaced, rewritten, spoiled}
 

@@ -1,12 +1,8 @@
 -- Flags that are known, and of which none stands twice.
 use Rattle.std.proofs.Common.{◌≡◌, ℕ, Bool, true, false, not, ◌&&◌, ◌||◌, List, [], ◌∷◌, ◌++◌, inl, inr, refl, ◌∙◌, ap, subst}
-use Rattle.std.specs.Prelude.{bytes_eq}
-use Rattle.std.proofs.lemmas.Bool.{cases_Bool}
+use Rattle.cdf_tool.proofs.Common.{bytes_eq, cases_Bool, bytes_eq-same, differ-turned, both, same_of_bytes_eq, is_among, are_fine, known_flags}
 use Rattle.std.proofs.lemmas.List.Folds.{list_any-append}
-use Rattle.cdf_format.proofs.NameRules.{bytes_eq-same, differ-turned}
-use Rattle.cdf_format.proofs.Tests.{both, not_false, same_of_bytes_eq}
-use Rattle.cdf_model.specs.Names.{is_among}
-use Rattle.cdf_tool.specs.Asking.{are_fine, known_flags}
+use Rattle.cdf_format.proofs.Tests.{not_false}
 
 pub and_false : (a : Bool) → (a && false) ≡ false
 and_false true = refl

@@ -1,11 +1,8 @@
 -- What was written and what is gathered of a text.
 use Rattle.std.proofs.Common.{◌≡◌, ℕ, List, [], ◌++◌, append_assoc, append-nil, Option, Result, Ok, Err, sym, ◌∙◌, ap, subst}
-use Rattle.std.proofs.KnownBytes.{Appends-nil, Appends-trans}
+use Rattle.cdf_tool.proofs.Common.{Appends-nil, Appends-trans, Appends, AppendsFront, Gathers}
 use Rattle.std.specs.Prelude.{OnOk}
-use Rattle.std.specs.Io.KnownBytes.{Appends}
-use Rattle.cdf_store.specs.Written.{AppendsFront}
 use Rattle.cdf_store.proofs.Fronts.{front_after}
-use Rattle.cdf_tool.specs.Gathering.{Gathers}
 
 -- all was written
 pub gathers_none : (was half now : Option (List ℕ)) (held reply none held' : List ℕ) → Appends was half held → none ≡ [] → held' ≡ none → Appends half now reply → Gathers was (held ++ reply) now held'

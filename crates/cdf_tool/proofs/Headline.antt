@@ -1,22 +1,12 @@
 -- What a run with status 0 or 1 comes to, over devices that tell their bytes.
 use Rattle.std.proofs.Common.{◌≡◌, ℕ, ◌≤◌, Bool, true, false, List, [], ◌∷◌, ◌++◌, append-nil, append_assoc, map, length, Option, Some, None, refl, sym, ◌∙◌, ap, subst, inl, inr}
+use Rattle.cdf_tool.proofs.Common.{Appends, Consumes, IsAtEnd, Disk, content, Moment, image_limit, script_limit, lines, State, run_on, Asked, Status, Accepts, Opens, Completes, Runs, EndsUnread, EndsWithout, EndsNamed, Goes, line_of_moment, flagged_line, tale, Finishes, IsDone}
 use Rattle.std.specs.Prelude.{◌↔◌}
-use Rattle.std.specs.Io.KnownBytes.{Appends, Consumes, IsAtEnd}
-use Rattle.cdf_store.specs.Disk.{Disk}
-use Rattle.cdf_format.specs.Content.{content}
-use Rattle.cdf_session.specs.History.{Moment}
-use Rattle.cdf_model.specs.Limits.{image_limit, script_limit}
-use Rattle.cdf_model.specs.Lines.{lines}
-use Rattle.cdf_model.specs.Turns.{State, start}
-use Rattle.cdf_session.specs.Run.{flagged, run_on, run_of}
-use Rattle.cdf_tool.specs.Asking.{Asked}
-use Rattle.cdf_tool.specs.declared.status.Status.{Status}
+use Rattle.cdf_model.specs.Turns.{start}
+use Rattle.cdf_session.specs.Run.{flagged, run_of}
 use Rattle.cdf_tool.specs.declared.status.Status.TheVariants as statuses
-use Rattle.cdf_tool.specs.Accepts.{Accepted, Accepts}
-use Rattle.cdf_tool.specs.Ends.{Opens, Completes, Runs, EndsUnread, EndsWithout, EndsNamed}
-use Rattle.cdf_tool.specs.Replay.{Goes, line_of_moment, flagged_line, tale}
-use Rattle.cdf_tool.specs.Script.{Finishes, last_line}
-use Rattle.cdf_tool.specs.Statuses.{IsDone}
+use Rattle.cdf_tool.specs.Accepts.{Accepted}
+use Rattle.cdf_tool.specs.Script.{last_line}
 
 -- what was taken to the end was all that was left
 all_taken : (script taken : List ℕ) (left : Option (List ℕ)) → Consumes (Some script) left taken → IsAtEnd left → (left ≡ Some []) × (taken ≡ script)

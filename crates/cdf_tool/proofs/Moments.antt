@@ -1,22 +1,14 @@
 -- Moments one after the other, and the run that they tell.
 use Rattle.std.proofs.Common.{◌≡◌, ℕ, ◌+◌, Bool, true, false, List, [], ◌∷◌, ◌++◌, map, append_assoc, append-nil, length, Option, refl, sym, ◌∙◌, ap, subst, arith}
-use Rattle.std.proofs.KnownBytes.{Appends-trans, Appends-nil}
-use Rattle.std.specs.Prelude.{◌||◌, if◌then◌else◌}
+use Rattle.cdf_tool.proofs.Common.{Appends-trans, Appends-nil, ◌||◌, if◌then◌else◌, UnknownWord, Command, Answer, Go, Refuse, is_accepted, DataSet, Parsed, Blank, Asks, Faulty, parse, Turn, State, asked, faulty, run_on, Route, ByStep, step, built, content, MovesIf, RouteLeads, CommandLeads, LineLeads, Moment, turn_over, line_of_moment, flagged_line, tale, Turns, Goes, Replies, Stops}
 use Rattle.std.proofs.lemmas.List.{map-append, length-map}
-use Rattle.cdf_model.specs.declared.answer.LineError.TheVariants.{UnknownWord}
-use Rattle.cdf_model.specs.declared.command.Command.{Command}
-use Rattle.cdf_model.specs.Answers.{Answer, Go, Refuse, data_after, is_accepted}
-use Rattle.cdf_model.specs.DataSet.{DataSet}
-use Rattle.cdf_model.specs.Grammar.{Parsed, Blank, Asks, Faulty, parse}
-use Rattle.cdf_model.specs.Turns.{Turn, State, asked, faulty}
-use Rattle.cdf_session.specs.Run.{turn, advance, run_on}
-use Rattle.cdf_model.specs.Step.{Route, ByStep, ByContent, ByTaps, step}
-use Rattle.cdf_session.specs.Built.{built}
-use Rattle.cdf_format.specs.Content.{content}
-use Rattle.cdf_edits.specs.Answers.{Moves, MovesIf}
-use Rattle.cdf_session.specs.History.{RouteLeads, CommandLeads, LineLeads, Moment, LinesLead, last_image}
+use Rattle.cdf_model.specs.Answers.{data_after}
+use Rattle.cdf_session.specs.Run.{turn, advance}
+use Rattle.cdf_model.specs.Step.{ByContent, ByTaps}
+use Rattle.cdf_edits.specs.Answers.{Moves}
+use Rattle.cdf_session.specs.History.{LinesLead, last_image}
 use Rattle.cdf_tool.specs.declared.status.Status.TheVariants.{NoMemory}
-use Rattle.cdf_tool.specs.Replay.{turn_over, line_of_moment, flagged_line, begun, tale, Turns, Goes, Replies, Stops}
+use Rattle.cdf_tool.specs.Replay.{begun}
 
 -- ---- the content of the image follows the data set
 

@@ -1,24 +1,10 @@
 -- A script that only reads.
 use Rattle.std.proofs.Common.{◌≡◌, ℕ, Bool, true, false, List, ◌++◌, Option, Some, None, Ok, Err, OnOk, Result, refl, sym, ◌∙◌, ap, inl, inr, append-nil}
-use Rattle.std.specs.Io.KnownBytes.{Consumes}
+use Rattle.cdf_tool.proofs.Common.{Consumes, Stays, Frame, MovesIf, is_full, both, Pending, last_of, new_lines, whole_lines-append, lines-split, Outcome, Command, is_accepted, split, kept, lines, whole_lines, AnswersBuilt, Disk, files_attached, Status, IfReads, all_read, line_reads, GivesNext, Passes}
 use Rattle.std.proofs.lemmas.List.Folds.{list_all-append}
-use Rattle.cdf_area.specs.Calls.{Stays}
-use Rattle.cdf_area.specs.Frame.{Frame}
-use Rattle.cdf_edits.specs.Answers.{MovesIf, is_full}
 use Rattle.cdf_edits.specs.Follows.{only_reads}
-use Rattle.cdf_format.proofs.Tests.{both}
-use Rattle.cdf_lines.specs.Pending.{Pending, last_of, new_lines}
-use Rattle.cdf_lines.proofs.Pieces.{whole_lines-append, lines-split}
-use Rattle.cdf_model.specs.declared.answer.Outcome.{Outcome}
-use Rattle.cdf_model.specs.declared.command.Command.{Command}
-use Rattle.cdf_model.specs.Answers.{is_accepted}
-use Rattle.cdf_model.specs.Lines.{split, kept, lines, whole_lines}
-use Rattle.cdf_session.specs.Sessions.{AnswersBuilt}
-use Rattle.cdf_store.specs.Disk.{Disk}
-use Rattle.cdf_store.specs.Named.{AttachesIn, files_attached}
-use Rattle.cdf_tool.specs.declared.status.Status.{Status}
-use Rattle.cdf_tool.specs.Reading.{IfReads, WritesNothing, all_read, line_reads}
-use Rattle.cdf_tool.specs.Replay.{GivesNext, Passes}
+use Rattle.cdf_store.specs.Named.{AttachesIn}
+use Rattle.cdf_tool.specs.Reading.{WritesNothing}
 use Rattle.cdf_tool.proofs.Standing.{HasTaken, IsReady}
 
 -- ---- one command

@@ -1,24 +1,11 @@
 -- What follows from how a run ends.
 use Rattle.std.proofs.Common.{◌≡◌, ◌⊎◌, ℕ, ◌+◌, ◌-◌, ◌<◌, ◌≤◌, Bool, true, false, List, [], length, Option, Some, None, refl, sym, ◌∙◌, ap, subst, inl, inr, arith, length-append}
-use Rattle.std.specs.Prelude.{IfSome}
-use Rattle.std.specs.Io.KnownBytes.{Consumes}
-use Rattle.cdf_store.specs.Disk.{Disk}
-use Rattle.cdf_store.specs.Named.{lookup}
-use Rattle.cdf_format.specs.WellFormed.{WellFormed}
-use Rattle.cdf_format.specs.Phases.{all_phases}
-use Rattle.cdf_format.proofs.Verdicts.{excluded}
-use Rattle.cdf_model.specs.Limits.{image_limit, script_limit}
-use Rattle.cdf_tool.specs.Asking.{Asked}
-use Rattle.cdf_tool.specs.declared.status.Status.{Status}
+use Rattle.cdf_tool.proofs.Common.{IfSome, Consumes, Disk, lookup, WellFormed, all_phases, excluded, image_limit, script_limit, Asked, Status, Consumes-nil, EndsChecked, Opens, Completes, Runs, EndsUnread, EndsWithout, Without, EndsNamed, Rejects, Finishes, IsDone, Exactly, Attached, Kept, StoredBy}
 use Rattle.cdf_tool.specs.declared.status.Status.TheVariants as statuses
-use Rattle.std.proofs.KnownBytes.{Consumes-nil}
-use Rattle.cdf_tool.specs.Checking.{Accepted, EndsChecked}
+use Rattle.cdf_tool.specs.Checking.{Accepted}
 use Rattle.cdf_tool.specs.Due.{CanBegin, IsGood}
-use Rattle.cdf_tool.specs.Ends.{Opens, Completes, Runs, EndsUnread, EndsWithout, Without, EndsNamed}
-use Rattle.cdf_tool.specs.Says.{Rejects, SaysUsage}
-use Rattle.cdf_tool.specs.Script.{Finishes}
-use Rattle.cdf_tool.specs.Statuses.{IsDone, IsFailure, Exactly}
-use Rattle.cdf_tool.specs.Stored.{Attached, Kept, StoredBy}
+use Rattle.cdf_tool.specs.Says.{SaysUsage}
+use Rattle.cdf_tool.specs.Statuses.{IsFailure}
 use Rattle.cdf_tool.proofs.RunStore.{found_lookup_in, kept_attached}
 
 -- ---- statuses

@@ -1,10 +1,6 @@
 -- A run over a file that is no new one.
 use Rattle.std.proofs.Common.{◌≡◌, ℕ, Bool, true, false, List, Option, Some, None}
-use Rattle.std.specs.Prelude.{IfSome}
-use Rattle.cdf_store.specs.Disk.{Disk}
-use Rattle.cdf_store.specs.Named.{found_or_made, lookup}
-use Rattle.cdf_tool.specs.Asking.{Asked}
-use Rattle.cdf_tool.specs.Stored.{Attached, KeptBy}
+use Rattle.cdf_tool.proofs.Common.{IfSome, Disk, found_or_made, lookup, Asked, Attached, KeptBy}
 
 -- it is the one under the name
 found_lookup : (new : Bool) (under : Option (List ℕ)) (file : List ℕ) → new ≡ false → found_or_made new under ≡ Some file → under ≡ Some file

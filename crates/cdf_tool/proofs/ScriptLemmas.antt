@@ -1,18 +1,12 @@
 -- What the run of a script leaves, at each of its ends.
 use Rattle.std.proofs.Common.{◌≡◌, ℕ, ◌+◌, ◌≤◌, Bool, true, false, List, [], ◌++◌, append-nil, length, Option, refl, sym, ◌∙◌, ap, subst, inl, inr, arith, length-append}
-use Rattle.std.proofs.Math.Path.{transport}
-use Rattle.std.proofs.KnownBytes.{Consumes-nil, Consumes-trans}
-use Rattle.std.specs.Prelude.{◌||◌}
-use Rattle.std.specs.Io.KnownBytes.{Consumes}
-use Rattle.cdf_model.specs.Limits.{script_limit}
-use Rattle.cdf_model.specs.Lines.{lines, split, whole_lines}
-use Rattle.cdf_lines.specs.Pending.{Pending, fed, last_of, new_lines, new_rest, nothing_fed, finished}
-use Rattle.cdf_lines.proofs.Pieces.{whole_lines-append, rest-append, lines-split}
-use Rattle.cdf_tool.specs.declared.status.Status.{Status}
+use Rattle.cdf_tool.proofs.Common.{transport, Consumes-nil, ◌||◌, Consumes, script_limit, lines, split, whole_lines, Pending, last_of, new_lines, whole_lines-append, lines-split, Status, AreShort, IsDrained, IsShort, Replies, Stops, Finishes, piece_limit}
+use Rattle.std.proofs.KnownBytes.{Consumes-trans}
+use Rattle.cdf_lines.specs.Pending.{fed, new_rest, nothing_fed, finished}
+use Rattle.cdf_lines.proofs.Pieces.{rest-append}
 use Rattle.cdf_tool.specs.declared.status.Status.TheVariants as statuses
-use Rattle.cdf_tool.specs.Replay.{AreShort, IsDrained, IsShort, Replies, Stops}
-use Rattle.cdf_tool.specs.Script.{Finishes, Follow, Halts, HaltsAfter, Pieces, StopsIn}
-use Rattle.cdf_tool.specs.Taking.{Takes, TakesLast, TakesNone, TakesPiece, piece_limit}
+use Rattle.cdf_tool.specs.Script.{Follow, Halts, HaltsAfter, Pieces, StopsIn}
+use Rattle.cdf_tool.specs.Taking.{Takes, TakesLast, TakesNone, TakesPiece}
 use Rattle.cdf_tool.proofs.Lines.{kept_short, last_short, new_short}
 use Rattle.cdf_tool.proofs.Moments.{more_replies, no_replies, stops_nowhere}
 use Rattle.cdf_tool.proofs.Standing.{HasTaken, IsAfter, IsReady}

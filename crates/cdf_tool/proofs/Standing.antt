@@ -1,12 +1,6 @@
 -- What stays true while a script is replayed.
 use Rattle.std.proofs.Common.{◌≡◌, ◌≤◌, ℕ, ◌+◌, List, [], ◌++◌, length, Bool, true, false, Option}
-use Rattle.std.specs.Io.KnownBytes.{Consumes, IsAtEnd}
-use Rattle.cdf_model.specs.Limits.{script_limit}
-use Rattle.cdf_model.specs.Lines.{split, kept, lines, whole_lines}
-use Rattle.cdf_lines.specs.Pending.{Pending}
-use Rattle.cdf_tool.specs.Gathering.{Gathers}
-use Rattle.cdf_tool.specs.Replay.{AreShort, Goes, Replies}
-use Rattle.cdf_tool.specs.Taking.{piece_limit}
+use Rattle.cdf_tool.proofs.Common.{Consumes, IsAtEnd, script_limit, split, kept, lines, whole_lines, Pending, Gathers, AreShort, Goes, Replies, piece_limit}
 
 -- on the way through these lines: some are answered, and these are left
 pub record Reached (limit : ℕ) (b : List ℕ) (given : ℕ) (lines : List (Option (List ℕ))) (was : Option (List ℕ)) (given' : ℕ) (ready : List (Option (List ℕ))) (image : List ℕ) (refused : Bool) (now : Option (List ℕ)) (gathered : List ℕ) : Type 0 where

@@ -1,16 +1,13 @@
 -- What becomes of the store.
 use Rattle.std.proofs.Common.{◌≡◌, ℕ, Bool, true, false, List, [], ◌∷◌, ◌++◌, ◌+◌, ◌-◌, ◌≤◌, length, length-append, take, arith, Option, Some, None, Ok, IsTrue, refl, sym, ◌∙◌, ap, subst, inl, inr}
-use Rattle.std.specs.Prelude.{◌&&◌, bytes_eq, is_some, if◌then◌else◌, IfSome, IsSome}
-use Rattle.std.specs.Option.{option_map}
+use Rattle.cdf_tool.proofs.Common.{◌&&◌, bytes_eq, is_some, if◌then◌else◌, IfSome, IsSome, option_map, Disk, file_in, file_of, files_attached, found_or_made, lookup, Differs, Touches, touches_none, touches_weaker, image_of, sealed, shape, Good, WellFormed, Asked, transport, Status, EndsSaving, EndsStored, status_of, Attached, IsRewritten, KeptBy}
 use Rattle.std.proofs.lemmas.Slice.Eq.{bytes_eq-Decides}
-use Rattle.cdf_store.specs.Disk.{Disk, IsWhole, file_in, file_of, files_with}
-use Rattle.cdf_store.specs.Named.{files_attached, found_or_made, lookup, with_file}
-use Rattle.cdf_pages.specs.Saving.{Differs, Holds, HoldsBetween, IsBetween, IsChangedRange, Touches, tail_bytes}
+use Rattle.cdf_store.specs.Disk.{IsWhole, files_with}
+use Rattle.cdf_store.specs.Named.{with_file}
+use Rattle.cdf_pages.specs.Saving.{Holds, HoldsBetween, IsBetween, IsChangedRange, tail_bytes}
 use Rattle.cdf_pages.proofs.Disks.{holds_first}
-use Rattle.cdf_pages.proofs.Touched.{touches_none, touches_weaker}
 use Rattle.cdf_format.specs.Fields.{gdr_offset, eof, word}
-use Rattle.cdf_format.specs.Sealed.{has_checksum, image_of, sealed, trailer_length}
-use Rattle.cdf_format.specs.Shape.{shape}
+use Rattle.cdf_format.specs.Sealed.{has_checksum, trailer_length}
 use Rattle.cdf_format.proofs.FileRecords.{gdr_holds}
 use Rattle.cdf_format.proofs.GoodHead.{gdr_fits}
 use Rattle.cdf_format.proofs.GoodSound.{good_by_its_shape, good_eof}
@@ -20,13 +17,7 @@ use Rattle.cdf_format.proofs.SealedRules.{good_long}
 use Rattle.cdf_format.proofs.Tests.{eq_of}
 use Rattle.md5.specs.Md5.{md5}
 use Rattle.cdf_session.specs.Seals.{seal_of}
-use Rattle.cdf_format.specs.WellFormed.{Good, WellFormed}
-use Rattle.cdf_tool.specs.Asking.{Asked}
-use Rattle.std.proofs.Math.Path.{transport}
-use Rattle.cdf_tool.specs.declared.status.Status.{Status}
-use Rattle.cdf_tool.specs.Areas.{EndsSaving, EndsStored}
-use Rattle.cdf_tool.specs.Statuses.{status_of}
-use Rattle.cdf_tool.specs.Stored.{Attached, IsRewritten, KeptBy, Replaced, Rewrites, Spoiled}
+use Rattle.cdf_tool.specs.Stored.{Replaced, Rewrites, Spoiled}
 
 -- ---- files by name
 

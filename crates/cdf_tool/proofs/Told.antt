@@ -1,19 +1,12 @@
 -- A rule is handed back exactly where a file was rejected.
 use Rattle.std.proofs.Common.{◌≡◌, ℕ, Bool, true, false, List, Option, Some, None, Result, Ok, Err, refl, sym, ◌∙◌, ap, subst}
-use Rattle.std.specs.Prelude.{◌≢◌, IfOk, IfSome}
-use Rattle.cdf_area.specs.declared.area.AreaError.{AreaError}
+use Rattle.cdf_tool.proofs.Common.{IfOk, IfSome, AreaError, Broken, rejected_text, AdoptError, Disk, file_of, Status, EndsSaving, EndsStored, Refuses, status_from, SaysRejected, Tells, status_of, status_of_area}
+use Rattle.std.specs.Prelude.{◌≢◌}
 use Rattle.cdf_area.specs.declared.area.AreaError.TheVariants as areas
-use Rattle.cdf_check.specs.declared.verdict.Broken.{Broken}
 use Rattle.cdf_format.specs.WellFormed.{Breaks}
-use Rattle.cdf_model.specs.Texts.{rejected_text}
-use Rattle.cdf_session.specs.declared.refusal.AdoptError.{AdoptError}
 use Rattle.cdf_session.specs.declared.refusal.AdoptError.TheVariants as errors
-use Rattle.cdf_store.specs.Disk.{Disk, file_of}
-use Rattle.cdf_tool.specs.declared.status.Status.{Status}
 use Rattle.cdf_tool.specs.declared.status.Status.TheVariants as statuses
-use Rattle.cdf_tool.specs.Areas.{EndsSaving, EndsStored, Refuses, status_from}
-use Rattle.cdf_tool.specs.Says.{Names, SaysRejected, Tells, old_file}
-use Rattle.cdf_tool.specs.Statuses.{status_of, status_of_area}
+use Rattle.cdf_tool.specs.Says.{Names, old_file}
 
 -- ---- statuses of no rejected file
 

@@ -1,17 +1,13 @@
 -- What a session answers can be written.
 use Rattle.std.proofs.Common.{◌≡◌, ℕ, Bool, true, false, List, [], ◌∷◌, ◌++◌, Option, Some, None, Result, Ok, Err, refl, sym, ◌∙◌, subst}
-use Rattle.std.specs.Prelude.{if◌then◌else◌, pos, not, nat_lt}
+use Rattle.cdf_tool.proofs.Common.{if◌then◌else◌, not, Answers, MovesIf, is_full, content, Good, Outcome, Command, Answer, Go, Refuse, is_accepted, DataSet, is_among, ByStep, step, built, AnswersBuilt}
+use Rattle.std.specs.Prelude.{pos, nat_lt}
 use Rattle.std.specs.List.{remove}
 use Rattle.std.specs.Option.{is_none}
-use Rattle.cdf_edits.specs.Answers.{Answers, MovesIf, is_full}
-use Rattle.cdf_format.specs.Content.{content}
-use Rattle.cdf_format.specs.WellFormed.{Good}
 use Rattle.cdf_attrs.proofs.WholeEntries.{shown_is_whole}
-use Rattle.cdf_model.specs.declared.answer.Outcome.{Outcome}
 use Rattle.cdf_model.specs.declared.answer.Reason.{Reason}
 use Rattle.cdf_model.specs.declared.answer.Reason.TheVariants as reasons
 use Rattle.cdf_model.specs.declared.answer.Reply.TheVariants as replies
-use Rattle.cdf_model.specs.declared.command.Command.{Command}
 use Rattle.cdf_model.specs.declared.command.Command.TheVariants.{Info, List as Lists, Attr, RenameAttr, DelAttr, PutEntry, GetEntry, DelEntry, Setup, RVar, ZVar, RenameVar, DelVar, SetPad, SetBlocking, PutRec, GetRec, PutVal, GetVal, Reindex, Checksum}
 use Rattle.cdf_model.specs.declared.head.Majority.{Majority}
 use Rattle.cdf_model.specs.declared.kinds.Kind.{Kind}
@@ -20,21 +16,18 @@ use Rattle.cdf_model.specs.declared.kinds.Scope.{Scope}
 use Rattle.cdf_model.specs.declared.data_type.DataType.{DataType}
 use Rattle.cdf_model.specs.declared.kinds.EntryKind.{EntryKind}
 use Rattle.cdf_model.specs.AttributeSteps.{attr_step, rename_attr_step, del_attr_step, put_entry_step, get_entry_step, del_entry_step, entries_of, entry_by, is_out_of_range, is_wrong_scope, new_attribute, with_attribute, with_entries}
-use Rattle.cdf_model.specs.Answers.{Answer, Go, Refuse, is_accepted, outcome, unless, given, valued}
-use Rattle.cdf_model.specs.DataSet.{Attribute, DataSet, Entry}
+use Rattle.cdf_model.specs.Answers.{outcome, unless, given, valued}
+use Rattle.cdf_model.specs.DataSet.{Attribute, Entry}
 use Rattle.cdf_model.specs.Encodings.{encoding_at}
 use Rattle.cdf_model.specs.Limits.{signed_limit}
-use Rattle.cdf_model.specs.Names.{Found, is_bad_name, is_among, attribute_names, attribute_named, variable_named, variable_names, variables_of, with_variables}
+use Rattle.cdf_model.specs.Names.{Found, is_bad_name, attribute_names, attribute_named, variable_named, variable_names, variables_of, with_variables}
 use Rattle.cdf_model.specs.Numbered.{item_at, with_item, without}
 use Rattle.cdf_model.specs.Values.{notation_of, values_in}
 use Rattle.cdf_model.specs.Place.{value_count}
 use Rattle.cdf_model.specs.Reading.{read}
 use Rattle.cdf_model.specs.RecordSteps.{cannot_be_put, get_rec_step, get_val_step, place_in_record, put_rec_step, put_record, put_val_step, with_record, with_value}
-use Rattle.cdf_model.specs.Step.{ByStep, step}
 use Rattle.cdf_model.specs.VariableSteps.{are_bad_sizes, del_var_step, is_bad_shape, is_empty_set, new_variable, reindex_step, rename_var_step, set_blocking_step, set_pad_step, setup_step, var_step, with_variable, without_variable}
-use Rattle.cdf_session.specs.Built.{built}
 use Rattle.cdf_model.specs.Whole.{CanBeWritten, HasWholeValues}
-use Rattle.cdf_session.specs.Sessions.{AnswersBuilt}
 use Rattle.cdf_vars.proofs.WholeRecords.{shown_record, shown_value}
 
 -- if it goes, its reply has only whole values

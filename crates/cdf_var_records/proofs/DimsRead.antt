@@ -1,15 +1,7 @@
 -- The dimensions that r variables share, as they are read.
 use Rattle.std.proofs.Common.{◌≡◌, ℕ, ◌+◌, ◌*◌, ◌≤◌, List, length, sym, ap, ◌∙◌, arith}
-use Rattle.std.specs.Int.{cast_signed, w32}
-use Rattle.cdf_format.specs.Content.{content}
-use Rattle.cdf_format.specs.Fields.{counted, word, words, gdr_offset, r_num_dims}
-use Rattle.cdf_format.specs.Shape.{shape}
-use Rattle.cdf_format.specs.WellFormed.{Good}
-use Rattle.cdf_format.proofs.GoodHead.{cdr_fits, few_dimensions, gdr_fits, sizes_fit}
-use Rattle.cdf_format.proofs.GoodSound.{good_is_sound}
-use Rattle.cdf_format.proofs.ShapeLemmas.{content_is}
-use Rattle.cdf_model.specs.Limits.{signed_limit}
-use Rattle.cdf_model.specs.DataSet.{DataSet}
+use Rattle.cdf_var_records.proofs.Common.{cast_signed, w32, content, counted, word, words, gdr_offset, r_num_dims, shape, Good, cdr_fits, few_dimensions, good_is_sound, content_is, signed_limit, DataSet}
+use Rattle.cdf_format.proofs.GoodHead.{gdr_fits, sizes_fit}
 
 -- a small number that is read with its sign
 pub small_signed : (n : ℕ) → n ≤ signed_limit → counted (cast_signed w32 n) ≡ n

@@ -1,34 +1,23 @@
 -- Where the pad value of a variable belongs, as it is read of its VDR.
 use Rattle.std.proofs.Common.{◌≡◌, ℕ, ℤ, ◌+◌, ◌^◌, ◌<◌, ◌≤◌, List, ◌∷◌, length, Bool, true, false, not, refl, sym, ap, subst, ◌∙◌, arith}
+use Rattle.cdf_var_records.proofs.Common.{cast_signed, w32, ◌==◌, ◌||◌, nat_le, Kind, R, Z, signed_limit, gdr_offset, is_positive, number, r_num_dims, size_at, type_at, word, vdr_num_elems, vdr_z_num_dims, z_vdr_type, shape, variables, dimensions_at, elems_at, is_z, pad_field, type_of_variable, has_dimensions, Good, good_by_its_shape, both, le_of, tile_lies, vdr_bytes, sound, tile, AreBytes, IsVdr}
 use Rattle.std.proofs.lemmas.Int.{of_z-to_z}
-use Rattle.std.specs.Int.{cast_signed, cast_unsigned, w32}
-use Rattle.std.specs.Prelude.{◌==◌, ◌||◌, nat_le}
-use Rattle.cdf_model.specs.declared.kinds.Kind.{Kind}
-use Rattle.cdf_model.specs.declared.kinds.Kind.TheVariants.{R, Z}
-use Rattle.cdf_model.specs.Limits.{signed_limit}
+use Rattle.std.specs.Int.{cast_unsigned}
 use Rattle.cdf_model.specs.Types.{type_of}
 use Rattle.cdf_model.specs.Values.{notation_of}
 use Rattle.cdf_model.specs.VariableSteps.{is_characters}
-use Rattle.cdf_format.specs.Fields.{gdr_offset, is_positive, number, r_num_dims, size_at, type_at, word}
-use Rattle.cdf_format.specs.Records.{Field, vdr_data_type, vdr_num_elems, vdr_z_num_dims}
-use Rattle.cdf_format.specs.RecordTypes.{fixed_size, z_vdr_type}
-use Rattle.cdf_format.specs.Shape.{Each, shape, variables, vdrs}
+use Rattle.cdf_format.specs.Records.{Field, vdr_data_type}
+use Rattle.cdf_format.specs.RecordTypes.{fixed_size}
+use Rattle.cdf_format.specs.Shape.{Each, vdrs}
 use Rattle.cdf_format.specs.Stored.{known_type}
-use Rattle.cdf_format.specs.VariableFields.{dimensions_at, elems_at, is_z, pad_field, type_of_variable}
-use Rattle.cdf_format.specs.VariableRules.{has_dimensions, has_elements}
-use Rattle.cdf_format.specs.WellFormed.{Good}
+use Rattle.cdf_format.specs.VariableRules.{has_elements}
 use Rattle.cdf_format.proofs.GoodByShape.{IsGoodByShape}
-use Rattle.cdf_format.proofs.GoodSound.{good_by_its_shape}
 use Rattle.cdf_format.proofs.ShapeLemmas.{Each-split}
-use Rattle.cdf_format.proofs.Tests.{both, le_of}
-use Rattle.cdf_format.proofs.TilesLemmas.{tile_lies}
-use Rattle.cdf_edits.specs.Commands.Room.{vdr_bytes}
 use Rattle.cdf_edits.proofs.Edits.VariableFrame.{IsRuled, all_ruled}
 use Rattle.cdf_edits.proofs.Edits.VariableKinds.{of_kind}
-use Rattle.cdf_edits.proofs.Edits.VdrEdited.{long, sound, tile, typed}
-use Rattle.cdf_records.specs.Pieces.{AreBytes}
+use Rattle.cdf_edits.proofs.Edits.VdrEdited.{long, typed}
 use Rattle.cdf_records.proofs.Places.{word_fits}
-use Rattle.cdf_var_records.specs.Descriptors.{HasElements, IsVdr}
+use Rattle.cdf_var_records.specs.Descriptors.{HasElements}
 use Rattle.cdf_var_records.proofs.DimsRead.{small_signed}
 use Rattle.cdf_var_records.proofs.VdrParts.{at, own}
 use Rattle.cdf_var_records.proofs.VdrParts.{pad_place}

@@ -1,24 +1,14 @@
 -- How large a put makes the file at most, by what was read of the variable.
 use Rattle.std.proofs.Common.{◌≡◌, ℕ, suc, ◌+◌, ◌-◌, ◌≤◌, List, length, false, refl, sym, ap, ap₂, subst, ◌∙◌, arith, inl, inr}
-use Rattle.cdf_model.specs.DataSet.{Variable}
-use Rattle.cdf_model.specs.Limits.{record_number_limit}
-use Rattle.cdf_format.specs.Fields.{number}
-use Rattle.cdf_format.specs.Index.{Nodes, leaves_of}
-use Rattle.cdf_format.specs.Records.{vdr_vxr_head}
-use Rattle.cdf_format.specs.WellFormed.{Good}
-use Rattle.cdf_format.proofs.Members.{either}
-use Rattle.cdf_edits.specs.Commands.Room.{blocks_room, packed_room, put_room, uncovered}
-use Rattle.cdf_edits.specs.Index.Blocks.{covered, cuts_before_put, first_written, is_sparse, ranges_before_put, ranges_of}
-use Rattle.cdf_edits.proofs.Edits.LeafRecords.{Ascending}
-use Rattle.cdf_index.specs.Finding.{HasIndex, index_at}
+use Rattle.cdf_var_records.proofs.Common.{Variable, record_number_limit, number, Nodes, leaves_of, vdr_vxr_head, Good, either, blocks_room, covered, ranges_of, Ascending, HasIndex, index_at, Form, IsForm, variable_at}
+use Rattle.cdf_edits.specs.Commands.Room.{packed_room, put_room, uncovered}
+use Rattle.cdf_edits.specs.Index.Blocks.{cuts_before_put, first_written, is_sparse, ranges_before_put}
 use Rattle.cdf_index.specs.Sizes.{size_of}
 use Rattle.cdf_index.specs.declared.measuring.IndexSize.{IndexSize}
 use Rattle.cdf_puts.proofs.CoveringRanges.{leaves_ascend}
 use Rattle.cdf_puts.proofs.PutRules.{no_lengths, uncut}
-use Rattle.cdf_var_records.specs.declared.form.Form.{Form}
 use Rattle.cdf_var_records.proofs.RecordForms.{variable_is}
 use Rattle.cdf_var_records.proofs.VdrParts.{at}
-use Rattle.cdf_var_records.specs.Records.{IsForm, variable_at}
 use Rattle.cdf_var_records.proofs.RecordReading.{index, lies}
 
 pub first_within : (v : Variable) (r : ℕ) → first_written v r ≤ r

@@ -1,44 +1,22 @@
 -- What the VDR of a variable of a good image says of its records, and what its index is.
 use Rattle.std.proofs.Common.{◌≡◌, ◌⊎◌, ℕ, ℤ, pos, negsuc, suc, ◌+◌, ◌-◌, ◌*◌, ◌^◌, ◌≤◌, List, [], ◌∷◌, length, map, Bool, true, false, not, refl, sym, ap, ap₂, subst, ◌∙◌, arith, inl, inr, ltb}
-use Rattle.std.proofs.Math.Nat.{mul-le-mul_right}
-use Rattle.std.proofs.lemmas.List.{length-map}
+use Rattle.cdf_var_records.proofs.Common.{mul-le-mul_right, length-map, ◌==◌, ◌||◌, nat_le, if◌then◌else◌, content, counted, gdr_offset, has_bit, is_positive, number, size_at, word, words, Nodes, vdr_num_elems, vdr_vxr_head, vdr_z_num_dims, shape, variables, is_little, counted4, dimensions_at, dims_at, elems_at, has_pad, is_z, pad_field, record_bytes, type_of_variable, value_bytes, varys_at, has_dimensions, Good, few_dimensions, good_by_its_shape, good_is_sound, either, content_is, both, le_of, tile_lies, fits, sound, tile, HasIndex, index_at, DataType, Kind, R, Z, NoRule, DataSet, record_limit, record_size, size_of, Form, IsPlace, IsVdr, IsForm, variable_at}
 use Rattle.std.specs.List.{list_all}
-use Rattle.std.specs.Prelude.{◌==◌, ◌||◌, nat_le, if◌then◌else◌}
-use Rattle.cdf_format.specs.Content.{content, majority_of, variable_of}
-use Rattle.cdf_format.specs.Fields.{counted, gdr_offset, has_bit, is_positive, number, r_sizes, size_at, with_sign, word, words}
+use Rattle.cdf_format.specs.Content.{majority_of, variable_of}
+use Rattle.cdf_format.specs.Fields.{r_sizes, with_sign}
 use Rattle.cdf_format.specs.GoodImage.{IsGoodImage}
-use Rattle.cdf_format.specs.Index.{Nodes}
 use Rattle.cdf_format.specs.NotRead.{unread_sparse}
-use Rattle.cdf_format.specs.Records.{gdr_r_num_dims, vdr_num_elems, vdr_r_dim_vary, vdr_r_pad_value, vdr_s_records, vdr_vxr_head, vdr_z_dim_vary, vdr_z_num_dims, vdr_z_pad_value}
+use Rattle.cdf_format.specs.Records.{gdr_r_num_dims, vdr_r_dim_vary, vdr_r_pad_value, vdr_s_records, vdr_z_dim_vary, vdr_z_pad_value}
 use Rattle.cdf_format.specs.Rules.{asked}
-use Rattle.cdf_format.specs.Shape.{is_compressed, shape, variables}
-use Rattle.cdf_format.specs.Stored.{is_little}
-use Rattle.cdf_format.specs.VariableFields.{counted4, dimensions_at, dims_at, elems_at, has_pad, is_z, pad_field, record_bytes, sparse_at, type_of_variable, value_bytes, vary_field, varys_at}
-use Rattle.cdf_format.specs.VariableRules.{cpr_link, cpr_rows, has_dimensions}
-use Rattle.cdf_format.specs.WellFormed.{Good}
-use Rattle.cdf_format.proofs.GoodHead.{few_dimensions}
+use Rattle.cdf_format.specs.Shape.{is_compressed}
+use Rattle.cdf_format.specs.VariableFields.{sparse_at, vary_field}
+use Rattle.cdf_format.specs.VariableRules.{cpr_link, cpr_rows}
 use Rattle.cdf_format.proofs.GoodImageLemmas.{good_image}
-use Rattle.cdf_format.proofs.GoodSound.{good_by_its_shape, good_is_sound}
-use Rattle.cdf_format.proofs.Members.{either}
 use Rattle.cdf_format.proofs.RowLemmas.{Hold-split}
-use Rattle.cdf_format.proofs.ShapeLemmas.{content_is}
-use Rattle.cdf_format.proofs.Tests.{both, le_of}
-use Rattle.cdf_format.proofs.TilesLemmas.{tile_lies}
-use Rattle.cdf_edits.proofs.Edits.VdrEdited.{fits, sound, tile}
-use Rattle.cdf_index.specs.Finding.{HasIndex, index_at}
 use Rattle.cdf_index.proofs.GoodIndex.{good_index}
 use Rattle.cdf_leaves.proofs.Own.{AmongAll, among_all}
-use Rattle.cdf_model.specs.declared.data_type.DataType.{DataType}
-use Rattle.cdf_model.specs.declared.kinds.Kind.{Kind}
-use Rattle.cdf_model.specs.declared.kinds.Kind.TheVariants.{R, Z}
-use Rattle.cdf_model.specs.declared.kinds.Sparse.TheVariants.{NoRule, Pad, Previous}
-use Rattle.cdf_model.specs.DataSet.{DataSet}
-use Rattle.cdf_model.specs.Place.{record_limit, record_size}
-use Rattle.cdf_model.specs.Types.{size_of}
-use Rattle.cdf_var_records.specs.declared.form.Form.{Form}
+use Rattle.cdf_model.specs.declared.kinds.Sparse.TheVariants.{Pad, Previous}
 use Rattle.cdf_var_records.specs.declared.pad_place.PadPlace.{PadPlace}
-use Rattle.cdf_var_records.specs.Descriptors.{IsPlace, IsVdr}
-use Rattle.cdf_var_records.specs.Records.{IsForm, variable_at}
 use Rattle.cdf_var_records.proofs.DimsRead.{small_signed}
 use Rattle.cdf_var_records.proofs.VdrParts.{at, inside, own}
 use Rattle.cdf_var_records.proofs.VdrParts.{dims_long, words_long}

@@ -1,37 +1,12 @@
 -- What a record of a variable reads as, by what was read of its VDR.
 use Rattle.std.proofs.Common.{◌≡◌, ℕ, ◌+◌, ◌-◌, ◌*◌, ◌/◌, ◌%◌, ◌<◌, ◌≤◌, List, ◌++◌, length, take, drop, Bool, true, false, Some, None, refl, sym, ap, ap₂, subst, ◌∙◌, arith}
-use Rattle.std.proofs.Math.Nat.{mul-div_cancel_left, mul-le-mul_right}
-use Rattle.std.specs.Option.{option_map}
+use Rattle.cdf_var_records.proofs.Common.{mul-le-mul_right, option_map, nat_lt, if◌then◌else◌, plain_bytes, has_bit, number, leaves_of, vdr_vxr_head, network_bytes, dimensions_at, elems_at, has_pad, is_z, max_rec_at, pad_field, record_bytes, type_of_variable, value_bytes, Good, pad_width, HasIndex, index_at, leaf_of, HoldsRecords, record_in, record_of_leaf, seen, Leaf, DataType, turned, Variable, extent, item_at, default_value, record_limit, record_size, value_count, number_read, pad_record, pad_value, read, size_of, size_stays, Form, IsForm, leaf_in, variable_at, whole_elements}
+use Rattle.std.proofs.Math.Nat.{mul-div_cancel_left}
 use Rattle.std.proofs.lemmas.Bool.{le-ltb, lt-ltb}
 use Rattle.std.proofs.lemmas.List.{take_at}
-use Rattle.std.specs.Prelude.{nat_lt, if◌then◌else◌}
-use Rattle.cdf_format.specs.Content.{plain_bytes}
-use Rattle.cdf_format.specs.Fields.{has_bit, number}
-use Rattle.cdf_format.specs.Index.{leaves_of}
-use Rattle.cdf_format.specs.Records.{vdr_vxr_head}
-use Rattle.cdf_format.specs.Stored.{network_bytes}
-use Rattle.cdf_format.specs.VariableFields.{dimensions_at, elems_at, has_pad, is_z, max_rec_at, pad_field, record_bytes, type_of_variable, value_bytes}
-use Rattle.cdf_format.specs.WellFormed.{Good}
-use Rattle.cdf_edits.proofs.Frame.Meaning.{pad_width}
-use Rattle.cdf_index.specs.Finding.{HasIndex, index_at}
-use Rattle.cdf_index.specs.Order.{leaf_of}
-use Rattle.cdf_index.specs.Reading.{HoldsRecords, record_in, record_of_leaf}
-use Rattle.cdf_index.specs.Sight.{seen}
-use Rattle.cdf_index.specs.declared.nodes.Leaf.{Leaf}
-use Rattle.cdf_model.specs.declared.data_type.DataType.{DataType}
-use Rattle.cdf_model.specs.ByteOrder.{turned}
-use Rattle.cdf_model.specs.DataSet.{Variable, extent}
-use Rattle.cdf_model.specs.Numbered.{item_at}
-use Rattle.cdf_model.specs.Pads.{default_value}
-use Rattle.cdf_model.specs.Place.{record_limit, record_size, value_count}
-use Rattle.cdf_model.specs.Reading.{number_read, pad_record, pad_value, read}
-use Rattle.cdf_model.specs.Types.{size_of}
 use Rattle.cdf_shape.specs.declared.shape.Shape.{Shape}
-use Rattle.cdf_values.proofs.TurnedLemmas.{size_stays}
-use Rattle.cdf_var_records.specs.declared.form.Form.{Form}
-use Rattle.cdf_var_records.specs.Records.{IsForm, IsRecordShape, leaf_in, variable_at}
+use Rattle.cdf_var_records.specs.Records.{IsRecordShape}
 use Rattle.cdf_var_records.proofs.PadSites.{vdr_lies}
-use Rattle.cdf_values.proofs.ValueLengths.{whole_elements}
 use Rattle.cdf_var_records.proofs.RecordForms.{has_index, pad_lies}
 use Rattle.cdf_var_records.proofs.RecordsRead.{by_leaf, holding, pad_by, pad_none, piece_long, read_is, stored_whole}
 

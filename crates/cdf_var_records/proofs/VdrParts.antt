@@ -1,21 +1,10 @@
 -- Where the VDR of a variable stands, and how long its parts are.
 use Rattle.std.proofs.Common.{◌≡◌, ℕ, zero, suc, ◌+◌, ◌≤◌, List, length, true, false, refl, ap, ◌∙◌, arith, inl, inr}
-use Rattle.std.proofs.lemmas.List.{length-map}
-use Rattle.std.specs.Prelude.{◌==◌}
-use Rattle.cdf_model.specs.declared.kinds.Kind.{Kind}
-use Rattle.cdf_model.specs.declared.kinds.Kind.TheVariants.{R, Z}
-use Rattle.cdf_format.specs.Fields.{type_at, words}
-use Rattle.cdf_format.specs.RecordTypes.{z_vdr_type}
-use Rattle.cdf_format.specs.Shape.{VariableShape, shape}
-use Rattle.cdf_format.specs.VariableFields.{counted4, dimensions_at, dims_at, is_z, pad_field}
-use Rattle.cdf_format.specs.WellFormed.{Good}
-use Rattle.cdf_format.proofs.Members.{either}
-use Rattle.cdf_format.proofs.TilesLemmas.{tile_lies}
-use Rattle.cdf_edits.specs.Commands.Room.{vdr_bytes}
+use Rattle.cdf_var_records.proofs.Common.{length-map, ◌==◌, Kind, R, Z, type_at, words, z_vdr_type, shape, counted4, dimensions_at, dims_at, is_z, pad_field, Good, either, tile_lies, vdr_bytes, fits, sound, tile, IsVdr}
+use Rattle.cdf_format.specs.Shape.{VariableShape}
 use Rattle.cdf_edits.specs.Space.Chains.{type_in}
 use Rattle.cdf_edits.specs.Space.VariableChains.{variables_chain}
-use Rattle.cdf_edits.proofs.Edits.VdrEdited.{StandsAmong, fits, sound, tile}
-use Rattle.cdf_var_records.specs.Descriptors.{IsVdr}
+use Rattle.cdf_edits.proofs.Edits.VdrEdited.{StandsAmong}
 
 pub words_long : (b : List ℕ) (p n : ℕ) → length (words b p n) ≡ n
 words_long b p zero = refl

@@ -1,76 +1,27 @@
 -- A new variable: the making of its VDR leads from a good image to the one that follows, what is known of the variables then, and what the command is answered.
 use Rattle.std.proofs.Common.{◌≡◌, ◌≢◌, ℕ, ◌+◌, ◌^◌, ◌<◌, ◌≤◌, List, [], ◌∷◌, ◌++◌, length, map, true, false, bytes_eq, eqb, eq-eqb, Some, refl, sym, ap, subst, ◌∙◌, append-nil, arith, inl, inr}
-use Rattle.std.proofs.lemmas.Bool.{eqb-true}
-use Rattle.std.proofs.lemmas.List.{map-append}
-use Rattle.std.specs.List.{All, flat_map, slice_get}
-use Rattle.cdf_model.specs.Answers.{Go}
-use Rattle.cdf_model.specs.DataSet.{DataSet, Variable}
-use Rattle.cdf_model.specs.declared.answer.Reply.TheVariants.{Plain}
-use Rattle.cdf_model.specs.declared.kinds.Kind.{Kind}
-use Rattle.cdf_model.specs.declared.kinds.Kind.TheVariants.{R, Z}
-use Rattle.cdf_model.specs.Limits.{image_limit}
-use Rattle.cdf_model.specs.Names.{is_bad_name, is_among, variable_names, variables_of, with_variables}
-use Rattle.cdf_model.specs.Step.{ByStep, step}
-use Rattle.cdf_model.specs.VariableSteps.{is_bad_shape, new_variable, var_step}
-use Rattle.cdf_format.specs.Chains.{next_field, is_in, IsChain}
-use Rattle.cdf_format.specs.Content.{content, variable_of}
-use Rattle.cdf_format.specs.Fields.{number, name_in, r_sizes, size_at, type_at, gdr_offset}
+use Rattle.cdf_vars.proofs.Common.{eqb-true, map-append, All, flat_map, slice_get, Go, DataSet, Variable, Plain, Kind, R, Z, image_limit, is_bad_name, is_among, variable_names, variables_of, with_variables, ByStep, step, is_bad_shape, new_variable, next_field, is_in, IsChain, content, variable_of, number, name_in, r_sizes, size_at, type_at, gdr_offset, owned, times, vdr_name, cdr_type, gdr_type, r_vdr_type, z_vdr_type, uir_type, is_record_type, fixed_size, Hold, VariableShape, Shape, vdrs, variables, Each, HasShape, shape, IsSound, In, Good, is_a-in, is_a-type, IsGoodByShape, vdrs_append, good_by_its_shape, good_is_sound, rules_of_good, good_long, sealed_kept, content_is, shape_is, tile_lies, AllKeep, Allowances, Only, shapes_of, vdr_type, Chain, Does, allowances, room, vdr_bytes, Edit, Mark, avoided, is_late, making_marks, within, Follows, only_reads, Act, Took, head_of, type_in, counted_in, Fills, IsBody, type_of_body, variables_chain, fine_is_some, fine_has_no_zeros, fine_is_short, keep_attributes, got-middle, acts_took, place_in, filled_sound, filled_size, made_edit, shorter, end_now, list_chain, the_one, unmarked-away, keeps_fields, keep_file, gdr_in, gdr_typed, other_kind, variables_of_are, counted_before, with_shapes, kind_type, beside_in, apart, NewVariable, making, OthersStay, KnowsKind, Answers, gone, too_large, Done, Refused, TooLarge}
+use Rattle.cdf_model.specs.VariableSteps.{var_step}
 use Rattle.cdf_format.specs.Index.{nodes_of, leaves_of}
 use Rattle.cdf_format.specs.NotRead.{read_types}
-use Rattle.cdf_format.specs.Owners.{variable_records, owned, times}
-use Rattle.cdf_format.specs.Records.{vdr_name}
-use Rattle.cdf_format.specs.RecordTypes.{cdr_type, gdr_type, r_vdr_type, z_vdr_type, uir_type, is_record_type, fixed_size}
-use Rattle.cdf_format.specs.Rules.{Hold}
-use Rattle.cdf_format.specs.Shape.{VariableShape, Shape, vdrs, variables, Each, HasShape, shape}
-use Rattle.cdf_format.specs.Sound.{IsSound}
-use Rattle.cdf_format.specs.Tiles.{In}
-use Rattle.cdf_format.specs.WellFormed.{Good}
-use Rattle.cdf_format.proofs.ChainsLemmas.{is_a-in, is_a-type}
-use Rattle.cdf_format.proofs.GoodByShape.{IsGoodByShape}
-use Rattle.cdf_format.proofs.GoodImageLemmas.{vdrs_append}
-use Rattle.cdf_format.proofs.GoodSound.{good_by_its_shape, good_is_sound, rules_of_good}
+use Rattle.cdf_format.specs.Owners.{variable_records}
 use Rattle.cdf_format.proofs.Members.{either}
-use Rattle.cdf_format.proofs.SealedRules.{good_long, sealed_kept}
-use Rattle.cdf_format.proofs.ShapeLemmas.{content_is, shape_is}
-use Rattle.cdf_format.proofs.TilesLemmas.{tile_lies}
-use Rattle.cdf_edits.specs.Commands.Allowances.{AllKeep, Allowances, Only, shapes_of, vdr_type}
-use Rattle.cdf_edits.specs.declared.chain.Chain.{Chain}
-use Rattle.cdf_edits.specs.Commands.Does.{Does}
-use Rattle.cdf_edits.specs.Commands.Keeps.{allowances}
-use Rattle.cdf_edits.specs.Commands.Room.{room, vdr_bytes}
 use Rattle.cdf_edits.specs.Commands.Variables.{MakesVariable, variable_changes, variables_gdr_fields}
-use Rattle.cdf_edits.specs.Edits.Edit.{Edit}
-use Rattle.cdf_edits.specs.Edits.Marks.{Mark, avoided, is_late, keeps_file, keeps_index_records, making_marks, unmarked, within}
-use Rattle.cdf_edits.specs.Follows.{Follows, only_reads}
-use Rattle.cdf_edits.specs.Space.Acts.{Act, Took}
+use Rattle.cdf_edits.specs.Edits.Marks.{keeps_file, keeps_index_records, unmarked}
 use Rattle.cdf_edits.specs.Space.Adding.{Added, adding_marks}
-use Rattle.cdf_edits.specs.Space.Chains.{count_of, head_of, holder_of, type_in, counted_in}
-use Rattle.cdf_edits.specs.Space.Placing.{Fills, IsBody, type_of_body}
-use Rattle.cdf_edits.specs.Space.VariableChains.{variables_chain}
-use Rattle.cdf_edits.proofs.Commands.FineNames.{fine_is_some, fine_has_no_zeros, fine_is_short}
-use Rattle.cdf_edits.proofs.Commands.KeptRecords.{keep_attributes}
-use Rattle.cdf_edits.proofs.Commands.ListParts.{got-middle}
-use Rattle.cdf_edits.proofs.Edits.EditActs.{acts_took}
-use Rattle.cdf_edits.proofs.Edits.MadeRecord.{place_in, filled_sound, filled_size, unowned, made_edit, made_part, made_type, made_size, shorter, end_now, list_chain, made_keeps_unused}
-use Rattle.cdf_edits.proofs.Edits.MarkLemmas.{the_one, unmarked-away}
+use Rattle.cdf_edits.specs.Space.Chains.{count_of, holder_of}
+use Rattle.cdf_edits.proofs.Edits.MadeRecord.{unowned, made_part, made_type, made_size, made_keeps_unused}
 use Rattle.cdf_edits.proofs.Edits.MovedVdr.{holder_is}
 use Rattle.cdf_edits.proofs.Edits.OwnedOnce.{used_times, IsSorted, all_attributes_in, owned_once_if}
-use Rattle.cdf_edits.proofs.Edits.OwnersKept.{stood, keeps_fields, keeps_away, keep_file, keep_all}
+use Rattle.cdf_edits.proofs.Edits.OwnersKept.{stood, keeps_away, keep_all}
 use Rattle.cdf_edits.proofs.Edits.RecordFrame.{VariableLives, file_same, gdr_place}
-use Rattle.cdf_edits.proofs.Edits.StepEdits.{gdr_in, gdr_typed}
 use Rattle.cdf_edits.proofs.Edits.VariableFrame.{clear_live, nums_from, remain_from}
-use Rattle.cdf_edits.proofs.Edits.VariableKinds.{kind_ours, numbers_kept, of_kind, other_kind, keeps_kind, spliced_times, variables_of_are, vdrs_rows, vdrs_rows-push, counted_before, with_shapes, kind_type}
-use Rattle.cdf_edits.proofs.Edits.VariableNames.{apart_if, beside_in}
+use Rattle.cdf_edits.proofs.Edits.VariableKinds.{kind_ours, numbers_kept, of_kind, keeps_kind, spliced_times, vdrs_rows, vdrs_rows-push}
+use Rattle.cdf_edits.proofs.Edits.VariableNames.{apart_if}
 use Rattle.cdf_edits.proofs.Edits.VariablesLinked.{keep_kind, linked_keeps}
 use Rattle.cdf_edits.proofs.Edits.VariableSplice.{VariableSplices, OwnRules, attributes_kept, content_now, good_image_if, keeps_all_attributes, shape_now}
-use Rattle.cdf_edits.proofs.Space.UsedRecords.{apart}
-use Rattle.cdf_vars.specs.Creating.{HasDims, NewVariable, making, vdr_body, OthersStay}
+use Rattle.cdf_vars.specs.Creating.{HasDims, vdr_body}
 use Rattle.cdf_vars.proofs.VariableChains.{counted_members, variable_members, few_variables}
-use Rattle.cdf_vars.specs.Known.{KnowsKind}
-use Rattle.cdf_edits.specs.Answers.{Answers}
-use Rattle.cdf_edits.proofs.Commands.Answered.{gone, too_large}
-use Rattle.cdf_model.specs.declared.answer.Outcome.TheVariants.{Done, Refused}
-use Rattle.cdf_model.specs.declared.answer.Reason.TheVariants.{TooLarge}
 use Rattle.cdf_vars.proofs.NewVdr.{IsNewVdr, IsShaped, Shares, bare_variable, end_is, has, length-body, means, name_is, ruled, shaped, type_in_body, varys_written, vdr_is_body, vdr_written}
 use Rattle.cdf_vars.proofs.VariableFound.{kind_with, others_with}
 use Rattle.cdf_vars.proofs.VariableNames.{absent_from}

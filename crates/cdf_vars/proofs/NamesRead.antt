@@ -1,27 +1,11 @@
 -- What is read of records with names, one after the other, and so of the variables of a kind of a good image.
 use Rattle.std.proofs.Common.{◌≡◌, ℕ, zero, suc, ◌+◌, ◌<◌, ◌≤◌, List, [], ◌∷◌, ◌++◌, length, map, take, drop, take-append-drop, drop-cons, get_or, false, refl, sym, ap, ap₂, subst, ◌∙◌, append_assoc, append-nil, arith, bytes_eq}
-use Rattle.std.proofs.lemmas.List.{length-map, length-take, map-append, map_more, at_drop_more, at_drop_all, take_all}
+use Rattle.cdf_vars.proofs.Common.{length-map, length-take, map-append, at_drop_more, at_drop_all, take_all, got_in, shapes_of, Chain, members_of, content, name_at, name_field, type_at, LiesIn, shape, vdrs, HasShape, In, Good, good_is_sound, Item, Kind, variable_items, variables_of, chain_of, KnowsKind, AreNamed, items_at}
+use Rattle.std.proofs.lemmas.List.{map_more}
 use Rattle.std.specs.List.{IsDistinct}
-use Rattle.cdf_edits.proofs.Commands.ListParts.{got_in}
-use Rattle.cdf_edits.specs.Commands.Allowances.{shapes_of}
-use Rattle.cdf_edits.specs.declared.chain.Chain.{Chain}
-use Rattle.cdf_edits.specs.Space.Chains.{members_of}
-use Rattle.cdf_format.specs.Content.{content}
-use Rattle.cdf_format.specs.Fields.{name_at, name_field, type_at, LiesIn}
-use Rattle.cdf_format.specs.Shape.{shape, vdrs, HasShape}
-use Rattle.cdf_format.specs.Tiles.{In}
-use Rattle.cdf_format.specs.WellFormed.{Good}
-use Rattle.cdf_format.proofs.GoodSound.{good_is_sound}
-use Rattle.cdf_model.specs.declared.item.Item.{Item}
 use Rattle.cdf_model.specs.declared.item.Item.TheVariants.{Var}
-use Rattle.cdf_model.specs.declared.kinds.Kind.{Kind}
-use Rattle.cdf_model.specs.Listing.{variable_items}
-use Rattle.cdf_model.specs.Names.{variables_of}
 use Rattle.cdf_names.specs.Names.{has_name}
 use Rattle.cdf_names.proofs.Apart.{distinct_apart}
-use Rattle.cdf_vars.specs.Chains.{chain_of}
-use Rattle.cdf_vars.specs.Known.{KnowsKind}
-use Rattle.cdf_vars.specs.Reading.{AreNamed, items_at}
 use Rattle.cdf_vars.proofs.VariableChains.{variable_members}
 use Rattle.cdf_vars.proofs.VariableNames.{are_named, items_read, names_read, variable_names_are}
 

@@ -1,25 +1,8 @@
 -- What `set-pad` asks for: the variable of a name, where its pad value belongs, and what the word says.
 use Rattle.std.proofs.Common.{◌≡◌, ℕ, ◌<◌, ◌≤◌, List, ◌∷◌, ◌++◌, length, Bool, Option, Some, None, Result, Err, get_or, refl, sym, ap, ap₂, subst, ◌∙◌, arith}
-use Rattle.cdf_model.specs.declared.answer.Outcome.TheVariants.{Refused}
-use Rattle.cdf_model.specs.declared.answer.Reason.{Reason}
+use Rattle.cdf_vars.proofs.Common.{Refused, Reason, DataType, values_in, is_little, elems_at, type_of_variable, Good, Answers, ValueError, Explains, PadPlace, VarId, found_among, Known, Knows, known_of, HasElements, IsPlace, IsVdr, IsValue, MayPad, has_so_many, vdr_lies, refused}
 use Rattle.cdf_model.specs.declared.answer.Reason.TheVariants as reasons
 use Rattle.cdf_model.specs.declared.command.Command.TheVariants as commands
-use Rattle.cdf_model.specs.declared.data_type.DataType.{DataType}
-use Rattle.cdf_model.specs.Values.{values_in}
-use Rattle.cdf_format.specs.Stored.{is_little}
-use Rattle.cdf_format.specs.VariableFields.{elems_at, type_of_variable}
-use Rattle.cdf_format.specs.WellFormed.{Good}
-use Rattle.cdf_edits.specs.Answers.{Answers}
-use Rattle.cdf_values.specs.declared.read.ValueError.{ValueError}
-use Rattle.cdf_values.specs.Reading.{Explains}
-use Rattle.cdf_var_records.specs.declared.pad_place.PadPlace.{PadPlace}
-use Rattle.cdf_vars.specs.declared.vars.VarId.{VarId}
-use Rattle.cdf_vars.specs.Finding.{found_among}
-use Rattle.cdf_vars.specs.Known.{Known, Knows, known_of}
-use Rattle.cdf_var_records.specs.Descriptors.{HasElements, IsPlace, IsVdr}
-use Rattle.cdf_vars.specs.Padding.{IsValue, MayPad}
-use Rattle.cdf_var_records.proofs.PadSites.{has_so_many, vdr_lies}
-use Rattle.cdf_edits.proofs.Commands.Answered.{refused}
 use Rattle.cdf_vars.proofs.VariableFound.{Parts, none_found, the_parts, within_places}
 
 module _ {b : List ℕ} (name : List ℕ) (words : List (List ℕ)) {known : Known} {result : Option VarId} (knows : Knows b known) (asked : result ≡ found_among known name) where

@@ -1,81 +1,31 @@
 -- The command `set-pad`: the bytes of a VDR with a pad value, the one that takes the place of the old one where that has no room for it, what the command answers, and what is kept of the variables.
 use Rattle.std.proofs.Common.{◌≡◌, ◌⊎◌, ℕ, ◌+◌, ◌-◌, ◌^◌, ◌<◌, ◌≤◌, List, [], ◌∷◌, ◌++◌, length, take, drop, refl, sym, ap, ◌∙◌, append_assoc, arith, inl, inr, zero, suc, ◌*◌, true, subst, None, eq-eqb, Option, Some, Ok, true≢false, ap₂}
-use Rattle.std.proofs.lemmas.List.{take_all, length-append, length-map, length-take, length-drop, get_or-drop, get_or-take, get_or_append_left, ext_get_or, take_at, drop_at, drop-drop}
-use Rattle.byteorder.specs.Endian.{big_bytes}
+use Rattle.cdf_vars.proofs.Common.{take_all, length-append, length-map, length-take, length-drop, take_at, drop-drop, big_bytes, drop-put_there, field_reads, length-with_field, other_bytes, byte, Same, word, number, has_bit, size_at, LiesIn, with_field, length-put, piece_kept, word_kept, before_first, last_or, slice_get, ◌==◌, if◌then◌else◌, slice_set, Kind, R, Z, Leads, next_of, next_field, is_in, vdr_flags, VariableShape, Shape, vdrs, shape, IsSound, dimensions_at, has_pad, is_z, pad_field, value_bytes, dims_at, elems_at, type_of_variable, vdr_end, Good, shapes_of, AllKeep, Allowances, stays_own, head_of, members_of, type_in, before, type_of_body, IsBody, variables_chain, Chain, kind_chain, with_shapes, StandsAmong, sound, typed, in_middle, tile, AreBytes, word_fits, owned_records, times, owned, uir_type, In, Distinct, vdr_bytes, room, apart, IsVdr, IsPlace, MayPad, padded_flags, ne_eqb, good_is_sound, cut, got-middle, PadPlace, Done, Refused, TooLarge, Plain, DataType, Go, turned, DataSet, Variable, image_limit, Found, value_size, ByStep, step, size_of, values_in, with_variable, content, variable_of, is_little, tile_lies, Answers, Act, Gave, Took, gone, too_large, shorter, VarId, Known, Knows, known_of}
+use Rattle.std.proofs.lemmas.List.{get_or-drop, get_or-take, get_or_append_left, ext_get_or, drop_at}
 use Rattle.byteorder.specs.Numbers.{length-bytes_high_first}
 use Rattle.cdf_base.specs.Bytes.{put}
-use Rattle.cdf_fields.proofs.Writes.{drop-put_there, word-put_number, field_reads, length-with_field, other_bytes, word-put_outside}
-use Rattle.cdf_format.specs.Bytes.{byte, Same}
-use Rattle.cdf_format.specs.Fields.{word, number, has_bit, size_at, LiesIn, with_field}
-use Rattle.cdf_format.proofs.BytesLemmas.{length-put, byte-put_before, byte-put_inside, byte-put_after, piece_kept, word_kept}
+use Rattle.cdf_fields.proofs.Writes.{word-put_number, word-put_outside}
+use Rattle.cdf_format.proofs.BytesLemmas.{byte-put_before, byte-put_inside, byte-put_after}
 use Rattle.cdf_edits.proofs.Frame.VdrCopied.{Copied, word_copied, VdrCopied, pad_field_copied, value_copied}
-use Rattle.std.specs.List.{before_first, last_or, slice_get}
-use Rattle.std.specs.Prelude.{◌==◌, if◌then◌else◌, slice_index, slice_set}
-use Rattle.cdf_model.specs.declared.kinds.Kind.{Kind}
-use Rattle.cdf_model.specs.declared.kinds.Kind.TheVariants.{R, Z}
-use Rattle.cdf_format.specs.Chains.{Leads, next_of, next_field, is_in}
-use Rattle.cdf_format.specs.Records.{vdr_flags}
-use Rattle.cdf_format.specs.Shape.{VariableShape, Shape, vdrs, shape}
-use Rattle.cdf_format.specs.Sound.{IsSound}
-use Rattle.cdf_format.specs.VariableFields.{dimensions_at, has_pad, is_z, pad_field, value_bytes, dims_at, elems_at, type_of_variable}
-use Rattle.cdf_format.specs.VariableRules.{vdr_end}
-use Rattle.cdf_format.specs.WellFormed.{Good}
-use Rattle.cdf_edits.specs.Commands.Allowances.{shapes_of, AllKeep, Allowances, Anything, stays_own}
+use Rattle.std.specs.Prelude.{slice_index}
+use Rattle.cdf_edits.specs.Commands.Allowances.{Anything}
 use Rattle.cdf_edits.specs.Space.Adding.{Exchanged}
-use Rattle.cdf_edits.specs.Space.Chains.{head_of, members_of, type_in, before}
-use Rattle.cdf_edits.specs.Space.Placing.{type_of_body, IsBody}
-use Rattle.cdf_edits.specs.Space.VariableChains.{variables_chain}
-use Rattle.cdf_edits.specs.declared.chain.Chain.{Chain}
 use Rattle.cdf_edits.proofs.Edits.MovedVdr.{CopiesVdr, MovesVdr, behind_link, by_type, chain_late, file, old_free, old_in, sound_late, as_long, fills, lately, later, own'}
 use Rattle.cdf_edits.proofs.Edits.PadMoved.{HoldsPad, moved_sets_pad, pad_means}
 use Rattle.cdf_edits.proofs.Edits.PadWritten.{padded_1, padded_2, WritesPad, edits, meaning, pads_in_place}
-use Rattle.cdf_edits.proofs.Edits.VariableKinds.{kind_chain, with_shapes}
-use Rattle.cdf_edits.proofs.Edits.VdrEdited.{StandsAmong, sound, typed, in_middle, fits, tile}
+use Rattle.cdf_edits.proofs.Edits.VdrEdited.{fits}
 use Rattle.cdf_edits.proofs.Frame.Meaning.{pad_long, pad_width}
-use Rattle.cdf_records.specs.Pieces.{AreBytes}
-use Rattle.cdf_records.proofs.Places.{word_fits}
 use Rattle.cdf_vars.proofs.VariableChains.{has_variable_chain, variable_members}
-use Rattle.cdf_format.specs.Owners.{owned_records, times, owned}
-use Rattle.cdf_format.specs.RecordTypes.{uir_type}
-use Rattle.cdf_format.specs.Tiles.{In, Distinct}
 use Rattle.cdf_format.proofs.Members.{is_in-true}
-use Rattle.cdf_edits.specs.Commands.Room.{vdr_bytes, room}
-use Rattle.cdf_edits.proofs.Space.UsedRecords.{apart}
-use Rattle.cdf_var_records.specs.Descriptors.{IsVdr, IsPlace}
-use Rattle.cdf_vars.specs.Padding.{IsPadded, padded_body, IsRequest, MayPad, MovedTo, Moves, padded_flags}
+use Rattle.cdf_vars.specs.Padding.{IsPadded, padded_body, IsRequest, MovedTo, Moves}
 use Rattle.cdf_var_records.proofs.VdrParts.{pad_place, at as vdr_at, inside as vdr_inside, own as vdr_own, dims_long}
-use Rattle.std.proofs.lemmas.Bool.{cases_lt, ne_eqb}
-use Rattle.cdf_format.proofs.GoodSound.{good_is_sound}
-use Rattle.cdf_edits.proofs.Commands.ListParts.{Cut, cut, got-middle}
-use Rattle.cdf_var_records.specs.declared.pad_place.PadPlace.{PadPlace}
-use Rattle.cdf_model.specs.declared.answer.Outcome.TheVariants.{Done, Refused}
-use Rattle.cdf_model.specs.declared.answer.Reason.TheVariants.{TooLarge}
-use Rattle.cdf_model.specs.declared.answer.Reply.TheVariants.{Plain}
+use Rattle.std.proofs.lemmas.Bool.{cases_lt}
+use Rattle.cdf_edits.proofs.Commands.ListParts.{Cut}
 use Rattle.cdf_model.specs.declared.command.Command.TheVariants.{SetPad}
-use Rattle.cdf_model.specs.declared.data_type.DataType.{DataType}
-use Rattle.cdf_model.specs.Answers.{Go}
-use Rattle.cdf_model.specs.ByteOrder.{turned}
-use Rattle.cdf_model.specs.DataSet.{DataSet, Variable}
-use Rattle.cdf_model.specs.Limits.{image_limit}
-use Rattle.cdf_model.specs.Names.{Found}
-use Rattle.cdf_model.specs.RecordSteps.{value_size}
-use Rattle.cdf_model.specs.Step.{ByStep, step}
-use Rattle.cdf_model.specs.Types.{size_of}
-use Rattle.cdf_model.specs.Values.{values_in}
-use Rattle.cdf_model.specs.VariableSteps.{with_variable}
-use Rattle.cdf_format.specs.Content.{content, variable_of}
-use Rattle.cdf_format.specs.Stored.{is_little}
-use Rattle.cdf_format.proofs.TilesLemmas.{tile_lies}
-use Rattle.cdf_edits.specs.Answers.{Answers}
 use Rattle.cdf_edits.specs.Commands.Variables.{SetsPad, set_pad_changes}
-use Rattle.cdf_edits.specs.Space.Acts.{Act, Gave, Took}
-use Rattle.cdf_edits.proofs.Commands.Answered.{gone, too_large}
 use Rattle.cdf_edits.proofs.Edits.FreedVdr.{as_long_now, freed_acts, freed_content, freed_edit, freed_good, freed_is, freed_keep}
-use Rattle.cdf_edits.proofs.Edits.MadeRecord.{shorter}
 use Rattle.cdf_vars.specs.declared.padding.PadRequest.{PadRequest}
 use Rattle.cdf_vars.specs.declared.padding.PadRequest.TheVariants.{Put}
-use Rattle.cdf_vars.specs.declared.vars.VarId.{VarId}
-use Rattle.cdf_vars.specs.Known.{Known, Knows, known_of}
 use Rattle.cdf_vars.proofs.VariableFound.{follows_still, knows_still, knows_with, of_found, own_known, may_keep, may_named, same_names, stands_there, still_there, with_known, Parts, the_parts, within_places}
 
 -- pieces that are appended one by one

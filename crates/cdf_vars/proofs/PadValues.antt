@@ -1,13 +1,7 @@
 -- How many bytes the word of a pad value writes.
 use Rattle.std.proofs.Common.{◌≡◌, ℕ, ◌*◌, List, ◌++◌, length, take, drop, Bool, Ok, sym, subst, ◌∙◌, arith}
-use Rattle.cdf_model.specs.declared.data_type.DataType.{DataType}
-use Rattle.cdf_model.specs.Types.{size_of}
-use Rattle.cdf_model.specs.Values.{values_in}
-use Rattle.cdf_model.specs.ByteOrder.{turned}
-use Rattle.cdf_values.proofs.TurnedLemmas.{back, in_place, size_stays}
-use Rattle.cdf_values.proofs.ValueLengths.{values_long, whole_elements}
-use Rattle.cdf_var_records.specs.Descriptors.{HasElements}
-use Rattle.cdf_vars.specs.Padding.{IsValue}
+use Rattle.cdf_vars.proofs.Common.{DataType, size_of, values_in, turned, back, size_stays, values_long, whole_elements, HasElements, IsValue}
+use Rattle.cdf_values.proofs.TurnedLemmas.{in_place}
 
 -- of one word
 pub value_long : (t : DataType) (elems : ℕ) (words : List (List ℕ)) (value : List ℕ) → HasElements t elems → values_in t elems 1 words ≡ Ok value → length value ≡ size_of t * elems

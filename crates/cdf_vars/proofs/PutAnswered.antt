@@ -1,38 +1,10 @@
 -- What a put answers, by the room that it asks for.
 use Rattle.std.proofs.Common.{◌≡◌, ℕ, ◌+◌, ◌<◌, ◌≤◌, List, ◌∷◌, ◌++◌, length, min, Some, None, Option, sym, ap, subst, ◌∙◌}
-use Rattle.std.specs.List.{slice_get}
-use Rattle.cdf_edits.specs.Answers.{Answers}
-use Rattle.cdf_edits.specs.Commands.Allowances.{shapes_of}
-use Rattle.cdf_edits.specs.Commands.Room.{put_room, room, room_of_variable}
-use Rattle.cdf_edits.specs.Follows.{Follows}
-use Rattle.cdf_edits.specs.Index.Blocks.{first_written}
-use Rattle.cdf_edits.proofs.Commands.Answered.{gone, too_large}
-use Rattle.cdf_edits.proofs.Commands.ListParts.{got-middle}
-use Rattle.cdf_format.specs.Content.{content, variable_of}
-use Rattle.cdf_format.specs.Fields.{number}
-use Rattle.cdf_format.specs.Index.{Nodes}
-use Rattle.cdf_format.specs.Records.{vdr_vxr_head}
-use Rattle.cdf_format.specs.Shape.{VariableShape, shape}
-use Rattle.cdf_format.specs.VariableFields.{max_rec_at}
-use Rattle.cdf_format.specs.WellFormed.{Good}
-use Rattle.cdf_index.specs.Finding.{index_at}
-use Rattle.cdf_model.specs.declared.answer.Outcome.TheVariants.{Done, Refused}
-use Rattle.cdf_model.specs.declared.answer.Reason.TheVariants.{TooLarge}
+use Rattle.cdf_vars.proofs.Common.{slice_get, Answers, shapes_of, put_room, room, Follows, first_written, gone, too_large, got-middle, content, variable_of, number, Nodes, vdr_vxr_head, VariableShape, shape, max_rec_at, Good, index_at, Done, Refused, TooLarge, Command, Variable, extent, record_number_limit, Found, variable_named, with_variable, with_record, no_rule, Target, IsVdr, CanPut, PutsAs, PutsSo, target_found, variable_at, index_is}
+use Rattle.cdf_edits.specs.Commands.Room.{room_of_variable}
 use Rattle.cdf_model.specs.declared.answer.Reply.TheVariants as replies
-use Rattle.cdf_model.specs.declared.command.Command.{Command}
 use Rattle.cdf_model.specs.declared.command.Command.TheVariants as commands
-use Rattle.cdf_model.specs.DataSet.{Variable, extent}
-use Rattle.cdf_model.specs.Limits.{record_number_limit}
-use Rattle.cdf_model.specs.Names.{Found, variable_named}
-use Rattle.cdf_model.specs.VariableSteps.{with_variable}
-use Rattle.cdf_model.specs.RecordSteps.{with_record}
-use Rattle.cdf_puts.proofs.PutRules.{no_rule}
-use Rattle.cdf_vars.specs.declared.puts.Target.{Target}
-use Rattle.cdf_var_records.specs.Descriptors.{IsVdr}
-use Rattle.cdf_vars.specs.Puts.{CanPut, PutsAs, PutsSo, target_found}
-use Rattle.cdf_var_records.specs.Records.{variable_at}
 use Rattle.cdf_vars.proofs.PutWhole.{first_is, within}
-use Rattle.cdf_var_records.proofs.RecordForms.{index_is}
 
 module _ {b : List ℕ} {t : Target} {r : ℕ} {bytes : List ℕ} (good : Good b) (can : CanPut b r t bytes) where
   abbrev vdr : ℕ

@@ -1,14 +1,6 @@
 -- What `put-rec` and `put-val` answer, once it was read what they ask for.
 use Rattle.std.proofs.Common.{◌≡◌, ℕ, List, sym, subst}
-use Rattle.std.proofs.lemmas.Result.{IfOk-weaker}
-use Rattle.std.specs.Prelude.{IfOk}
-use Rattle.std.specs.declared.result.Result.{Result}
-use Rattle.cdf_area.specs.declared.area.AreaError.{AreaError}
-use Rattle.cdf_edits.specs.Answers.{Answers}
-use Rattle.cdf_model.specs.declared.answer.Outcome.{Outcome}
-use Rattle.cdf_model.specs.declared.command.Command.{Command}
-use Rattle.cdf_vars.specs.declared.puts.Target.{Target}
-use Rattle.cdf_vars.specs.Puts.{CanPut, MayPut, PutsSo}
+use Rattle.cdf_vars.proofs.Common.{IfOk-weaker, IfOk, Result, AreaError, Answers, Outcome, Command, Target, CanPut, MayPut, PutsSo}
 
 module _ {b later : List ℕ} {command : Command} {name : List ℕ} {r : ℕ} {target : Target} {bytes : List ℕ} (same : later ≡ b) (may : MayPut b command name r target bytes) where
   pub can_there : CanPut later r target bytes

@@ -1,16 +1,6 @@
 -- What the calls of a put come to, by the image that is read before it.
 use Rattle.std.proofs.Common.{◌≡◌, ℕ, ◌+◌, ◌≤◌, List, length, min, sym, ap, subst, ◌∙◌, arith}
-use Rattle.cdf_edits.specs.Follows.{Follows}
-use Rattle.cdf_format.specs.VariableFields.{max_rec_at}
-use Rattle.cdf_format.specs.WellFormed.{Good}
-use Rattle.cdf_model.specs.declared.command.Command.{Command}
-use Rattle.cdf_model.specs.DataSet.{extent}
-use Rattle.cdf_model.specs.Limits.{image_limit, record_number_limit}
-use Rattle.cdf_puts.specs.Putting.{PutsUpTo, SomePutting}
-use Rattle.cdf_puts.specs.declared.putting.NewRecord.{NewRecord}
-use Rattle.cdf_vars.specs.declared.puts.Target.{Target}
-use Rattle.cdf_vars.specs.Known.{Known, Knows}
-use Rattle.cdf_vars.specs.Puts.{CanPut, HasRoom, IsNewRecord, MaxRecRaises, PutsSo}
+use Rattle.cdf_vars.proofs.Common.{Follows, max_rec_at, Good, Command, extent, image_limit, record_number_limit, PutsUpTo, SomePutting, NewRecord, Target, Known, Knows, CanPut, HasRoom, IsNewRecord, MaxRecRaises, PutsSo}
 use Rattle.cdf_vars.proofs.PutWhole.{follows, known_now, small, some_putting}
 
 -- what holds where the record was read

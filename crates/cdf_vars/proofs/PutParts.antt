@@ -1,21 +1,7 @@
 -- What is put as a record: how many records a new block has, and whole elements.
 use Rattle.std.proofs.Common.{◌≡◌, ℕ, ◌*◌, ◌%◌, ◌<◌, ◌≤◌, List, length, true, false, refl, sym, ap, subst, ◌∙◌, arith}
-use Rattle.std.proofs.lemmas.Bool.{le-ltb, lt-ltb}
-use Rattle.std.specs.Prelude.{nat_lt, IfOk}
-use Rattle.std.specs.declared.result.Result.{Result}
-use Rattle.cdf_area.specs.declared.area.AreaError.{AreaError}
-use Rattle.cdf_format.specs.VariableFields.{max_rec_at, record_bytes}
-use Rattle.cdf_format.specs.WellFormed.{Good}
+use Rattle.cdf_vars.proofs.Common.{le-ltb, lt-ltb, nat_lt, IfOk, Result, AreaError, max_rec_at, record_bytes, Good, extent, value_count, pad_record, size_of, most_in_block, Form, IsForm, variable_at, whole_elements, record_size_is}
 use Rattle.cdf_edits.specs.Index.Blocks.{block_count}
-use Rattle.cdf_model.specs.DataSet.{extent}
-use Rattle.cdf_model.specs.Place.{value_count}
-use Rattle.cdf_model.specs.Reading.{pad_record}
-use Rattle.cdf_model.specs.Types.{size_of}
-use Rattle.cdf_puts.specs.Putting.{most_in_block}
-use Rattle.cdf_var_records.specs.declared.form.Form.{Form}
-use Rattle.cdf_var_records.specs.Records.{IsForm, variable_at}
-use Rattle.cdf_values.proofs.ValueLengths.{whole_elements}
-use Rattle.cdf_var_records.proofs.RecordReading.{record_size_is}
 use Rattle.cdf_var_records.proofs.RecordsRead.{pad_long}
 
 module _ (b : List ℕ) (vdr r : ℕ) {count : ℕ} (is : count ≡ extent (max_rec_at b vdr)) where

@@ -1,48 +1,18 @@
 -- MaxRec of a variable is raised, and of an r variable rMaxRec follows: what may be written, and what that leaves.
 use Rattle.std.proofs.Common.{◌≡◌, ◌⊎◌, ℕ, ℤ, ◌+◌, ◌<◌, ◌≤◌, List, [], ◌∷◌, ◌++◌, length, map, max, append-nil, append_assoc, true, Result, w32, refl, sym, ap, ap₂, subst, ◌∙◌, arith, inl, inr}
-use Rattle.std.proofs.lemmas.Bool.{le-leb}
-use Rattle.std.proofs.lemmas.Int.{of_z-to_z}
-use Rattle.std.specs.Int.{cast_signed, cast_unsigned}
-use Rattle.std.specs.List.{fold}
+use Rattle.cdf_vars.proofs.Common.{le-leb, of_z-to_z, cast_signed, cast_unsigned, fold, AreaError, field_reads, field_reads4, length-with_field, other_bytes, byte, content, variable_of, LiesIn, gdr_offset, integer4, number, with_field, with_sign, gdr_r_max_rec, HasShape, Shape, VariableShape, shape, vdrs, In, max_rec_at, is_max_rec, Good, word_kept, good_is_sound, content_is, tile_lies, shapes_of, greatest_at, with_writes, Changed, touched_field, greatest_fits, gdr_in, gdr_long, StandsAmong, tile, Kind, R, Z, Variable, extent, image_limit, record_number_limit, last_number, MaxRecRaised, IsVdr, VdrsLie, vdr_lies, on_ok_weaker}
 use Rattle.std.specs.Prelude.{OnOk}
-use Rattle.cdf_area.specs.declared.area.AreaError.{AreaError}
-use Rattle.cdf_fields.proofs.Writes.{field_reads, field_reads4, length-with_field, other_bytes}
-use Rattle.cdf_format.specs.Bytes.{byte}
-use Rattle.cdf_format.specs.Content.{content, variable_of}
-use Rattle.cdf_format.specs.Fields.{LiesIn, gdr_offset, integer4, number, with_field, with_sign}
-use Rattle.cdf_format.specs.Records.{gdr_r_max_rec, vdr_max_rec}
-use Rattle.cdf_format.specs.Shape.{HasShape, Shape, VariableShape, shape, vdrs}
-use Rattle.cdf_format.specs.Tiles.{In}
-use Rattle.cdf_format.specs.VariableFields.{max_rec_at}
-use Rattle.cdf_format.specs.VariableRules.{is_max_rec}
-use Rattle.cdf_format.specs.WellFormed.{Good}
-use Rattle.cdf_format.proofs.BytesLemmas.{word_kept}
-use Rattle.cdf_format.proofs.GoodSound.{good_is_sound}
-use Rattle.cdf_format.proofs.ShapeLemmas.{content_is}
-use Rattle.cdf_format.proofs.TilesLemmas.{tile_lies}
-use Rattle.cdf_edits.specs.Commands.Allowances.{r_max_rec_field, shapes_of}
+use Rattle.cdf_format.specs.Records.{vdr_max_rec}
+use Rattle.cdf_edits.specs.Commands.Allowances.{r_max_rec_field}
 use Rattle.cdf_edits.specs.Commands.GreatestRecord.{greatest_r_max_rec, r_extents, r_max_rec}
 use Rattle.cdf_edits.specs.Commands.Puts.{max_rec_touches}
-use Rattle.cdf_edits.specs.Edits.RemovesVariable.{greatest_at, r_max_writes}
-use Rattle.cdf_edits.specs.Edits.Writes.{with_writes}
-use Rattle.cdf_edits.specs.Frame.Changed.{Changed, Placed, touched_field}
+use Rattle.cdf_edits.specs.Edits.RemovesVariable.{r_max_writes}
+use Rattle.cdf_edits.specs.Frame.Changed.{Placed}
 use Rattle.cdf_edits.proofs.Edits.RecordsWritten.{WritesRecords, file, good_now, same_shape}
-use Rattle.cdf_edits.proofs.Edits.RemovedVariable.{greatest_fits}
-use Rattle.cdf_edits.proofs.Edits.StepEdits.{gdr_in, gdr_long}
-use Rattle.cdf_edits.proofs.Edits.VdrEdited.{StandsAmong, long, tile}
+use Rattle.cdf_edits.proofs.Edits.VdrEdited.{long}
 use Rattle.cdf_edits.proofs.Frame.ChangedBytes.{changed_part}
-use Rattle.cdf_model.specs.declared.kinds.Kind.{Kind}
-use Rattle.cdf_model.specs.declared.kinds.Kind.TheVariants.{R, Z}
-use Rattle.cdf_model.specs.DataSet.{Variable, extent}
-use Rattle.cdf_model.specs.Limits.{image_limit, record_number_limit}
-use Rattle.cdf_model.specs.RecordSteps.{last_number}
-use Rattle.cdf_puts.specs.Steps.{MaxRecRaised}
 use Rattle.cdf_puts.proofs.RaisedGoes.{vdr_no_gdr}
-use Rattle.cdf_var_records.specs.Descriptors.{IsVdr}
-use Rattle.cdf_vars.specs.Removing.{VdrsLie}
 use Rattle.cdf_var_records.proofs.VdrParts.{at, own}
-use Rattle.cdf_var_records.proofs.PadSites.{vdr_lies}
-use Rattle.std.proofs.lemmas.Result.{on_ok_weaker}
 
 -- rMaxRec as it is written
 pub greatest_written : {b mid : List ℕ} (now : List ℕ) (kind : Kind) {places xs : List ℕ} {n : ℕ} {last : ℤ} (result : Result (Unit {0}) AreaError) → mid ≡ b → xs ≡ places → n ≡ fold max 0 (map (λ (vdr : ℕ). extent (max_rec_at b vdr)) xs) → last ≡ last_number n

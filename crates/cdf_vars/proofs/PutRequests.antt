@@ -1,42 +1,12 @@
 -- What `put-rec` and `put-val` ask for: the variable of a name, and the bytes that become a record of it.
 use Rattle.std.proofs.Common.{◌≡◌, ℕ, ◌+◌, ◌-◌, ◌*◌, ◌≤◌, min, List, ◌++◌, length, take, drop, Bool, true, false, Option, Some, None, Result, Ok, Err, IsErrAnd, refl, sym, ap, ap₂, subst, ◌∙◌, arith}
-use Rattle.std.proofs.lemmas.List.{length-append, length-drop, length-take}
-use Rattle.cdf_area.specs.declared.area.AreaError.{AreaError}
+use Rattle.cdf_vars.proofs.Common.{length-append, length-drop, length-take, AreaError, Answers, refused, content, record_bytes, Good, Refused, Reason, DataType, Majority, Go, Variable, variable_named, place, value_count, read, cannot_be_put, place_in_record, with_record, with_value, ByStep, size_of, values_in, with_variable, ValueError, Explains, Target, HasElements, HasTarget, IsTarget, MayPut, target_found, IsForm, variable_at, has_so_many, values_long, record_size_is, value_size_is, read_long}
 use Rattle.cdf_area.specs.declared.area.AreaError.TheVariants.{NoMemory}
-use Rattle.cdf_edits.specs.Answers.{Answers}
-use Rattle.cdf_edits.proofs.Commands.Answered.{refused}
-use Rattle.cdf_format.specs.Content.{content}
-use Rattle.cdf_format.specs.VariableFields.{record_bytes}
-use Rattle.cdf_format.specs.WellFormed.{Good}
-use Rattle.cdf_model.specs.declared.answer.Outcome.TheVariants.{Refused}
-use Rattle.cdf_model.specs.declared.answer.Reason.{Reason}
 use Rattle.cdf_model.specs.declared.answer.Reason.TheVariants as reasons
 use Rattle.cdf_model.specs.declared.answer.Reply.TheVariants as replies
 use Rattle.cdf_model.specs.declared.command.Command.TheVariants as commands
-use Rattle.cdf_model.specs.declared.data_type.DataType.{DataType}
-use Rattle.cdf_model.specs.declared.head.Majority.{Majority}
-use Rattle.cdf_model.specs.Answers.{Go}
-use Rattle.cdf_model.specs.DataSet.{Variable}
-use Rattle.cdf_model.specs.Names.{variable_named}
-use Rattle.cdf_model.specs.Place.{place, value_count}
-use Rattle.cdf_model.specs.Reading.{read}
-use Rattle.cdf_model.specs.RecordSteps.{cannot_be_put, place_in_record, with_record, with_value}
-use Rattle.cdf_model.specs.Step.{ByStep}
-use Rattle.cdf_model.specs.Types.{size_of}
-use Rattle.cdf_model.specs.Values.{values_in}
-use Rattle.cdf_model.specs.VariableSteps.{with_variable}
-use Rattle.cdf_values.specs.declared.read.ValueError.{ValueError}
-use Rattle.cdf_values.specs.Reading.{Explains}
-use Rattle.cdf_vars.specs.declared.puts.Target.{Target}
-use Rattle.cdf_var_records.specs.Descriptors.{HasElements}
-use Rattle.cdf_vars.specs.Puts.{HasTarget, IsTarget, MayPut, target_found}
-use Rattle.cdf_var_records.specs.Records.{IsForm, variable_at}
-use Rattle.cdf_var_records.proofs.PadSites.{has_so_many}
-use Rattle.cdf_values.proofs.ValueLengths.{values_long}
 use Rattle.cdf_vars.proofs.PutSteps as steps
 use Rattle.cdf_vars.proofs.RecordPlaces.{place_below, value_inside}
-use Rattle.cdf_var_records.proofs.RecordReading.{record_size_is, value_size_is}
-use Rattle.cdf_var_records.proofs.RecordsRead.{read_long}
 
 -- an error that was handed on
 pub no_memory : {V : Type 0} {e : AreaError} (result : Result V AreaError) → e ≡ NoMemory → IsErrAnd result (λ x. x ≡ e) → IsErrAnd result (λ x. x ≡ NoMemory)

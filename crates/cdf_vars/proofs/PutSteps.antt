@@ -1,16 +1,9 @@
 -- What `put-rec` and `put-val` make of a data set.
 use Rattle.std.proofs.Common.{◌≡◌, ℕ, List, None, Some, Ok, Err, true, false, refl}
-use Rattle.cdf_model.specs.declared.answer.Reason.{Reason}
+use Rattle.cdf_vars.proofs.Common.{Reason, Go, Refuse, DataSet, Found, variable_named, value_count, read, cannot_be_put, place_in_record, with_record, with_value, values_in, with_variable}
 use Rattle.cdf_model.specs.declared.answer.Reason.TheVariants as reasons
 use Rattle.cdf_model.specs.declared.answer.Reply.TheVariants as replies
-use Rattle.cdf_model.specs.Answers.{Go, Refuse}
-use Rattle.cdf_model.specs.DataSet.{DataSet}
-use Rattle.cdf_model.specs.Names.{Found, variable_named}
-use Rattle.cdf_model.specs.Place.{value_count}
-use Rattle.cdf_model.specs.Reading.{read}
-use Rattle.cdf_model.specs.RecordSteps.{cannot_be_put, place_in_record, put_rec_step, put_val_step, with_record, with_value}
-use Rattle.cdf_model.specs.Values.{values_in}
-use Rattle.cdf_model.specs.VariableSteps.{with_variable}
+use Rattle.cdf_model.specs.RecordSteps.{put_rec_step, put_val_step}
 
 module _ (d : DataSet) (name : List ℕ) (r : ℕ) (words : List (List ℕ)) where
   pub rec_missing : variable_named d name ≡ None → put_rec_step d name r words ≡ Refuse reasons.NoSuchVar

@@ -1,15 +1,6 @@
 -- The variable of which a record is put, by its name.
 use Rattle.std.proofs.Common.{◌≡◌, ℕ, List, ◌∷◌, ◌++◌, Option, Some, get_or, sym, ap, ◌∙◌}
-use Rattle.cdf_format.specs.Content.{variable_of}
-use Rattle.cdf_format.specs.WellFormed.{Good}
-use Rattle.cdf_var_records.specs.declared.form.Form.{Form}
-use Rattle.cdf_vars.specs.declared.vars.VarId.{VarId}
-use Rattle.cdf_vars.specs.Finding.{found_among}
-use Rattle.cdf_vars.specs.Known.{Known, Knows, known_of}
-use Rattle.cdf_var_records.specs.Descriptors.{IsVdr}
-use Rattle.cdf_vars.specs.Puts.{HasTarget}
-use Rattle.cdf_var_records.specs.Records.{IsForm, variable_at}
-use Rattle.cdf_var_records.proofs.RecordForms.{variable_is}
+use Rattle.cdf_vars.proofs.Common.{variable_of, Good, Form, VarId, found_among, Known, Knows, known_of, IsVdr, HasTarget, IsForm, variable_at, variable_is}
 use Rattle.cdf_vars.proofs.VariableFound.{Parts, the_parts}
 
 module _ {b : List ℕ} (name : List ℕ) {known : Known} {result : Option VarId} (knows : Knows b known) (asked : result ≡ found_among known name) {id : VarId} (good : Good b) (some : result ≡ Some id) where

@@ -1,61 +1,20 @@
 -- The whole of a put: what is put under way, and that the last image follows the command.
 use Rattle.std.proofs.Common.{◌≡◌, ◌⊎◌, ℕ, ◌+◌, ◌%◌, ◌<◌, ◌≤◌, List, [], ◌∷◌, ◌++◌, length, map, min, Bool, false, true, Some, true≢false, refl, sym, ap, subst, ◌∙◌, arith, inl, inr}
-use Rattle.std.proofs.lemmas.Bool.Decides.{nat_tests}
-use Rattle.std.specs.Prelude.{nat_lt, slice_set, ◌||◌, ◌&&◌, not, ◌==◌}
-use Rattle.std.specs.List.{slice_get}
-use Rattle.cdf_edits.specs.Commands.Allowances.{shapes_of}
-use Rattle.cdf_edits.specs.Commands.Room.{put_room}
-use Rattle.cdf_edits.specs.Follows.{Follows}
-use Rattle.cdf_edits.specs.Index.Blocks.{first_written}
-use Rattle.cdf_edits.proofs.Edits.VariableKinds.{other_kind, variables_of_are}
-use Rattle.cdf_format.specs.Content.{content, variable_of}
-use Rattle.cdf_format.specs.Fields.{number, with_sign}
-use Rattle.cdf_format.specs.Index.{Nodes}
-use Rattle.cdf_format.specs.Records.{vdr_vxr_head}
-use Rattle.cdf_format.specs.Shape.{Shape, VariableShape, shape, vdrs}
-use Rattle.cdf_format.specs.Stored.{is_little}
-use Rattle.cdf_format.specs.VariableFields.{max_rec_at, record_bytes, type_of_variable}
-use Rattle.cdf_format.specs.WellFormed.{Good}
-use Rattle.cdf_format.proofs.GoodSound.{good_is_sound}
-use Rattle.cdf_format.proofs.ShapeLemmas.{content_is}
-use Rattle.cdf_index.specs.Finding.{index_at}
-use Rattle.cdf_model.specs.declared.command.Command.{Command}
+use Rattle.cdf_vars.proofs.Common.{nat_tests, nat_lt, slice_set, ◌||◌, ◌&&◌, ◌==◌, slice_get, shapes_of, put_room, Follows, first_written, other_kind, variables_of_are, content, variable_of, number, with_sign, Nodes, vdr_vxr_head, Shape, VariableShape, shape, vdrs, is_little, max_rec_at, record_bytes, type_of_variable, Good, good_is_sound, content_is, index_at, Command, Kind, R, Z, NoRule, DataType, turned, DataSet, Variable, extent, image_limit, record_number_limit, Go, variable_named, variables_of, with_variables, ByStep, step, with_variable, pad_record, cannot_be_put, with_record, size_of, PutsUpTo, SomePutting, most_in_block, MaxRecRaised, NewRecord, no_rule, back, size_stays, Target, Known, Knows, IsVdr, CanPut, HasRoom, IsNewRecord, MaxRecRaises, PutsAs, PutsSo, target_found, variable_at, index_is}
+use Rattle.std.specs.Prelude.{not}
 use Rattle.cdf_model.specs.declared.command.Command.TheVariants as commands
-use Rattle.cdf_model.specs.declared.kinds.Kind.{Kind}
-use Rattle.cdf_model.specs.declared.kinds.Kind.TheVariants.{R, Z}
-use Rattle.cdf_model.specs.declared.kinds.Sparse.TheVariants.{NoRule}
-use Rattle.cdf_model.specs.declared.data_type.DataType.{DataType}
-use Rattle.cdf_model.specs.ByteOrder.{turned}
-use Rattle.cdf_model.specs.DataSet.{DataSet, Variable, extent}
-use Rattle.cdf_model.specs.Limits.{image_limit, record_number_limit}
 use Rattle.cdf_model.specs.declared.answer.Reply.TheVariants as replies
-use Rattle.cdf_model.specs.Answers.{Go}
-use Rattle.cdf_model.specs.Names.{variable_named, variables_of, with_variables}
-use Rattle.cdf_model.specs.Step.{ByStep, step}
-use Rattle.cdf_model.specs.VariableSteps.{with_variable}
-use Rattle.cdf_model.specs.Reading.{pad_record}
-use Rattle.cdf_model.specs.RecordSteps.{cannot_be_put, with_record}
-use Rattle.cdf_model.specs.Types.{size_of}
 use Rattle.cdf_puts.specs.Going.{found_in}
-use Rattle.cdf_puts.specs.Putting.{IsPut, Putting, PutsUpTo, SomePutting, most_in_block}
+use Rattle.cdf_puts.specs.Putting.{IsPut, Putting}
 use Rattle.cdf_puts.specs.SoFar.{MaxRecDone, PutStart}
-use Rattle.cdf_puts.specs.Steps.{MaxRecRaised}
-use Rattle.cdf_puts.specs.declared.putting.NewRecord.{NewRecord}
-use Rattle.cdf_puts.proofs.PutRules.{loose, no_rule}
+use Rattle.cdf_puts.proofs.PutRules.{loose}
 use Rattle.cdf_puts.proofs.DoneBytes.{is_put}
 use Rattle.cdf_puts.proofs.LastImage.{has_put}
 use Rattle.cdf_puts.proofs.PutMeaning.{put_content}
 use Rattle.cdf_puts.proofs.RaisedGoes.{raised_shape}
 use Rattle.cdf_puts.proofs.SoFarDone.{put_rec_done, put_val_done}
-use Rattle.cdf_values.proofs.TurnedLemmas.{back, size_stays}
-use Rattle.cdf_vars.specs.declared.puts.Target.{Target}
-use Rattle.cdf_vars.specs.Known.{Known, Knows}
-use Rattle.cdf_var_records.specs.Descriptors.{IsVdr}
-use Rattle.cdf_vars.specs.Puts.{CanPut, HasRoom, IsNewRecord, MaxRecRaises, PutsAs, PutsSo, target_found}
-use Rattle.cdf_var_records.specs.Records.{variable_at}
 use Rattle.cdf_vars.proofs.VariableFound.{same_name_set}
 use Rattle.cdf_vars.proofs.PutParts.{pad_is_long, whole_record}
-use Rattle.cdf_var_records.proofs.RecordForms.{index_is}
 
 -- ---- what is kept of the variables where one has other records
 

@@ -1,35 +1,12 @@
 -- What `get-rec` and `get-val` answer, by what is kept and by what was read.
 use Rattle.std.proofs.Common.{◌≡◌, ℕ, ◌+◌, ◌*◌, ◌<◌, ◌≤◌, List, ◌∷◌, ◌++◌, length, take, drop, Option, Some, None, get_or, refl, sym, ap, subst, ◌∙◌, arith}
-use Rattle.cdf_edits.specs.Answers.{Answers}
-use Rattle.cdf_edits.proofs.Commands.Answered.{gone, refused}
+use Rattle.cdf_vars.proofs.Common.{Answers, gone, refused, content, variable_of, Good, Done, Refused, Reply, Majority, Variable, record_number_limit, Found, variable_named, place, value_count, read, place_in_record, ByStep, size_of, Form, VarId, found_among, Known, Knows, known_of, IsVdr, IsForm, variable_at, variable_is, record_size_is, value_size_is, read_long}
 use Rattle.cdf_edits.proofs.Commands.ReadingFollows.{reading_follows}
-use Rattle.cdf_format.specs.Content.{content, variable_of}
-use Rattle.cdf_format.specs.WellFormed.{Good}
-use Rattle.cdf_model.specs.declared.answer.Outcome.TheVariants.{Done, Refused}
 use Rattle.cdf_model.specs.declared.answer.Reason.TheVariants as reasons
-use Rattle.cdf_model.specs.declared.answer.Reply.{Reply}
 use Rattle.cdf_model.specs.declared.answer.Reply.TheVariants as replies
 use Rattle.cdf_model.specs.declared.command.Command.TheVariants as commands
-use Rattle.cdf_model.specs.declared.head.Majority.{Majority}
-use Rattle.cdf_model.specs.DataSet.{Variable}
-use Rattle.cdf_model.specs.Limits.{record_number_limit}
-use Rattle.cdf_model.specs.Names.{Found, variable_named}
-use Rattle.cdf_model.specs.Place.{place, value_count}
-use Rattle.cdf_model.specs.Reading.{read}
-use Rattle.cdf_model.specs.RecordSteps.{place_in_record}
-use Rattle.cdf_model.specs.Step.{ByStep}
-use Rattle.cdf_model.specs.Types.{size_of}
-use Rattle.cdf_var_records.specs.declared.form.Form.{Form}
-use Rattle.cdf_vars.specs.declared.vars.VarId.{VarId}
-use Rattle.cdf_vars.specs.Finding.{found_among}
-use Rattle.cdf_vars.specs.Known.{Known, Knows, known_of}
-use Rattle.cdf_var_records.specs.Descriptors.{IsVdr}
-use Rattle.cdf_var_records.specs.Records.{IsForm, variable_at}
 use Rattle.cdf_vars.specs.Records.{HasForm}
-use Rattle.cdf_var_records.proofs.RecordForms.{variable_is}
 use Rattle.cdf_vars.proofs.RecordPlaces.{place_below, value_inside}
-use Rattle.cdf_var_records.proofs.RecordReading.{record_size_is, value_size_is}
-use Rattle.cdf_var_records.proofs.RecordsRead.{read_long}
 use Rattle.cdf_vars.proofs.RecordSteps.{rec_goes, rec_missing, rec_over, val_goes, val_missing, val_outside, val_over}
 use Rattle.cdf_vars.proofs.VariableFound.{none_found}
 use Rattle.cdf_vars.proofs.VariableFound.{Parts, the_parts, within_places}

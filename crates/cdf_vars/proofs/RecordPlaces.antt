@@ -1,10 +1,8 @@
 -- The place of an index is one of the values of a record.
 use Rattle.std.proofs.Common.{◌≡◌, ℕ, ◌+◌, ◌*◌, ◌<◌, ◌≤◌, List, Bool, true, false, Some, None, refl, subst, arith}
+use Rattle.cdf_vars.proofs.Common.{if◌then◌else◌, Majority, Row, Column, place, value_count}
 use Rattle.std.proofs.Math.Nat.{mul-le-mul_right}
-use Rattle.std.specs.Prelude.{if◌then◌else◌}
-use Rattle.cdf_model.specs.declared.head.Majority.{Majority}
-use Rattle.cdf_model.specs.declared.head.Majority.TheVariants.{Row, Column}
-use Rattle.cdf_model.specs.Place.{has_place, place, place_in, value_count}
+use Rattle.cdf_model.specs.Place.{has_place, place_in}
 use Rattle.cdf_shape.proofs.Places.{column_below, row_below}
 
 pub place_below : (majority : Majority) (dims : List ℕ) (varys : List Bool) (index : List ℕ) (n : ℕ) → place majority dims varys index ≡ Some n → n < value_count dims varys

@@ -1,15 +1,8 @@
 -- What `get-rec` and `get-val` make of a data set.
 use Rattle.std.proofs.Common.{◌≡◌, ℕ, ◌*◌, ◌<◌, ◌≤◌, List, take, drop, Some, None, true, false, refl}
-use Rattle.std.proofs.lemmas.Bool.{le-ltb, lt-ltb}
-use Rattle.std.specs.Prelude.{nat_lt}
+use Rattle.cdf_vars.proofs.Common.{le-ltb, lt-ltb, nat_lt, Go, Refuse, DataSet, record_number_limit, Found, variable_named, read, get_rec_step, get_val_step, place_in_record, value_size}
 use Rattle.cdf_model.specs.declared.answer.Reason.TheVariants as reasons
 use Rattle.cdf_model.specs.declared.answer.Reply.TheVariants as replies
-use Rattle.cdf_model.specs.Answers.{Go, Refuse}
-use Rattle.cdf_model.specs.DataSet.{DataSet}
-use Rattle.cdf_model.specs.Limits.{record_number_limit}
-use Rattle.cdf_model.specs.Names.{Found, variable_named}
-use Rattle.cdf_model.specs.Reading.{read}
-use Rattle.cdf_model.specs.RecordSteps.{get_rec_step, get_val_step, place_in_record, value_size}
 
 module _ (d : DataSet) (name : List ℕ) (rec : ℕ) where
   pub rec_missing : variable_named d name ≡ None → get_rec_step d name rec ≡ Refuse reasons.NoSuchVar

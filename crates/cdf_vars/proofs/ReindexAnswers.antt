@@ -1,41 +1,16 @@
 -- What `reindex` answers, by what is kept as the call meets it.
 use Rattle.std.proofs.Common.{◌≡◌, ℕ, ◌+◌, ◌<◌, ◌≤◌, List, length, map, Option, Some, None, get_or, refl, sym, ap, subst, ◌∙◌, arith, inl, inr}
-use Rattle.std.specs.List.{slice_get}
-use Rattle.cdf_model.specs.declared.answer.Outcome.TheVariants.{Done, Refused}
+use Rattle.cdf_vars.proofs.Common.{slice_get, Done, Refused, Kind, R, Z, Go, Refuse, DataSet, Variable, image_limit, Found, variable_named, ByStep, content, variable_of, LiesIn, number, vdr_name, vdr_vxr_head, VariableShape, shape, variables, vdrs, In, Good, Answers, shapes_of, room, gone, refused, too_large, got-middle, StandsAmong, in_middle, index_at, VarId, found_among, IsVdr, index_is, Known, Knows, known_of}
 use Rattle.cdf_model.specs.declared.answer.Reason.TheVariants as reasons
 use Rattle.cdf_model.specs.declared.answer.Reply.TheVariants as replies
 use Rattle.cdf_model.specs.declared.command.Command.TheVariants as commands
-use Rattle.cdf_model.specs.declared.kinds.Kind.{Kind}
-use Rattle.cdf_model.specs.declared.kinds.Kind.TheVariants.{R, Z}
-use Rattle.cdf_model.specs.Answers.{Go, Refuse}
-use Rattle.cdf_model.specs.DataSet.{DataSet, Variable}
-use Rattle.cdf_model.specs.Limits.{image_limit}
-use Rattle.cdf_model.specs.Names.{Found, variable_named}
-use Rattle.cdf_model.specs.Step.{ByStep}
 use Rattle.cdf_model.specs.VariableSteps.{reindex_step}
-use Rattle.cdf_format.specs.Content.{content, variable_of}
-use Rattle.cdf_format.specs.Fields.{LiesIn, number}
-use Rattle.cdf_format.specs.Records.{vdr_name, vdr_vxr_head}
-use Rattle.cdf_format.specs.Shape.{VariableShape, shape, variables, vdrs}
-use Rattle.cdf_format.specs.Tiles.{In}
-use Rattle.cdf_format.specs.WellFormed.{Good}
-use Rattle.cdf_edits.specs.Answers.{Answers}
-use Rattle.cdf_edits.specs.Commands.Allowances.{shapes_of}
-use Rattle.cdf_edits.specs.Commands.Room.{reindex_room, room}
-use Rattle.cdf_edits.proofs.Commands.Answered.{gone, refused, too_large}
-use Rattle.cdf_edits.proofs.Commands.ListParts.{got-middle}
-use Rattle.cdf_edits.proofs.Edits.VdrEdited.{StandsAmong, in_middle}
-use Rattle.cdf_index.specs.Finding.{index_at}
+use Rattle.cdf_edits.specs.Commands.Room.{reindex_room}
 use Rattle.cdf_index.specs.Sizes.{size_of}
 use Rattle.cdf_index.specs.declared.measuring.IndexSize.{IndexSize}
 use Rattle.cdf_reindex.specs.Reindexed.{Reindexed}
 use Rattle.cdf_reindex.proofs.MadeFollows.{goes_by, reindexed_content, reindexed_follows, reindexed_places, room_is}
 use Rattle.cdf_reindex.proofs.PyramidBuilt.{few_leaves}
-use Rattle.cdf_vars.specs.declared.vars.VarId.{VarId}
-use Rattle.cdf_vars.specs.Finding.{found_among}
-use Rattle.cdf_var_records.specs.Descriptors.{IsVdr}
-use Rattle.cdf_var_records.proofs.RecordForms.{index_is}
-use Rattle.cdf_vars.specs.Known.{Known, Knows, known_of}
 use Rattle.cdf_vars.proofs.RemovalAnswers.{has_index, vdr_among}
 use Rattle.cdf_vars.proofs.VariableFound.{none_found}
 use Rattle.cdf_vars.proofs.VariableFound.{Parts, the_parts, vdr_there, within_places}

@@ -1,43 +1,22 @@
 -- What the calls of the removal of a variable ask: the greatest MaxRec that is left, the numbers that are written, and the records that go; and what is kept of the variables then.
 use Rattle.std.proofs.Common.{◌≡◌, ℕ, zero, suc, ◌+◌, ◌^◌, ◌<◌, ◌≤◌, List, [], ◌∷◌, ◌++◌, length, map, max, take, drop, get_or, refl, sym, ap, ◌∙◌, arith, inl, inr, subst, append_assoc, ℤ, ◌-◌, Result, Ok, Err, OnOk, FitsSigned}
-use Rattle.std.proofs.lemmas.List.{at_drop_more, take_all, length-map, take-append-drop, length-drop, map-append}
+use Rattle.cdf_vars.proofs.Common.{at_drop_more, take_all, length-map, length-drop, map-append, fold, remove, greatest_at, numbers_on, with_writes, with_field, number, vdr_vxr_head, In, max_rec_at, extent, DataSet, Variable, last_number, VdrsLie, shapes_of, vdrs_append, good_by_its_shape, good_is_sound, In-append_left, In-append_right, VariableShape, Shape, Each, HasVariable, shape, variables, vdrs, VariableFits, IsSound, Good, index_at, Kind, R, Z, to_z-of_z, w32, cast_signed, cast_unsigned, this, greatest_fits, other_kind, with_shapes, content, variable_of, variables_of, with_variables, KnownKind, KnowsKind}
+use Rattle.std.proofs.lemmas.List.{take-append-drop}
 use Rattle.std.proofs.lemmas.List.Sums.{fold-append}
-use Rattle.std.specs.List.{fold, remove}
-use Rattle.cdf_edits.specs.Edits.RemovesVariable.{greatest_at, numbers_on, RemovesVariable}
-use Rattle.cdf_edits.specs.Edits.Writes.{with_writes}
-use Rattle.cdf_format.specs.Fields.{with_field, number}
-use Rattle.cdf_format.specs.Records.{vdr_num, vdr_vxr_head}
-use Rattle.cdf_format.specs.Tiles.{In}
-use Rattle.cdf_format.specs.VariableFields.{max_rec_at}
-use Rattle.cdf_model.specs.DataSet.{extent, DataSet, Variable}
-use Rattle.cdf_model.specs.RecordSteps.{last_number}
-use Rattle.cdf_vars.specs.Removing.{VdrsLie, AreRecordsAt}
+use Rattle.cdf_edits.specs.Edits.RemovesVariable.{RemovesVariable}
+use Rattle.cdf_format.specs.Records.{vdr_num}
+use Rattle.cdf_vars.specs.Removing.{AreRecordsAt}
 use Rattle.cdf_edits.proofs.Edits.OwnVariable.{without_cpr}
 use Rattle.cdf_edits.proofs.Edits.PlainVariables.{is_uncompressed}
-use Rattle.cdf_edits.specs.Commands.Allowances.{shapes_of}
 use Rattle.cdf_edits.specs.Commands.Variables.{freed_with_variable}
-use Rattle.cdf_format.proofs.GoodImageLemmas.{good_image, vdrs_append}
-use Rattle.cdf_format.proofs.GoodSound.{good_by_its_shape, good_is_sound}
-use Rattle.cdf_format.proofs.Members.{In-append_left, In-append_right}
+use Rattle.cdf_format.proofs.GoodImageLemmas.{good_image}
 use Rattle.cdf_format.proofs.ShapeLemmas.{Each-split}
 use Rattle.cdf_format.specs.Index.{Leaf, leaves_of, nodes_of}
-use Rattle.cdf_format.specs.Shape.{VariableShape, Shape, Each, HasVariable, shape, variables, vdrs}
-use Rattle.cdf_format.specs.Sound.{VariableFits, IsSound}
-use Rattle.cdf_format.specs.WellFormed.{Good}
 use Rattle.cdf_index.proofs.GoodIndex.{good_index}
-use Rattle.cdf_index.specs.Finding.{index_at, HasIndex}
-use Rattle.cdf_model.specs.declared.kinds.Kind.{Kind}
-use Rattle.cdf_model.specs.declared.kinds.Kind.TheVariants.{R, Z}
-use Rattle.std.proofs.lemmas.Int.{to_z-of_z}
-use Rattle.std.specs.Int.{w32, cast_signed, cast_unsigned}
-use Rattle.cdf_edits.proofs.Edits.RemovalCalls.{this}
-use Rattle.cdf_edits.proofs.Edits.RemovedVariable.{greatest_fits, content_after, shape_after}
+use Rattle.cdf_index.specs.Finding.{HasIndex}
+use Rattle.cdf_edits.proofs.Edits.RemovedVariable.{content_after, shape_after}
 use Rattle.cdf_edits.proofs.Commands.ListParts.{map-removed, removed-at}
-use Rattle.cdf_edits.proofs.Edits.VariableKinds.{other_kind, with_shapes}
 use Rattle.cdf_vars.proofs.VariableNames.{variables_are}
-use Rattle.cdf_format.specs.Content.{content, variable_of}
-use Rattle.cdf_model.specs.Names.{variables_of, with_variables}
-use Rattle.cdf_vars.specs.Known.{KnownKind, KnowsKind}
 
 -- ---- lists
 

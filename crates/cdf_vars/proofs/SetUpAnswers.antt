@@ -1,44 +1,15 @@
 -- What the command `setup` is answered, which dimensions it takes, and what its calls ask for.
 use Rattle.std.proofs.Common.{◌≡◌, ℕ, ◌+◌, ◌*◌, ◌^◌, ◌<◌, ◌≤◌, List, [], ◌∷◌, length, Bool, Option, Some, None, true, false, not, refl, sym, ap, subst, ◌∙◌, arith}
+use Rattle.cdf_vars.proofs.Common.{of_z-to_z, w32, cast_unsigned, list_all, list_any, ◌==◌, ◌&&◌, ◌||◌, is_some, nat_lt, Outcome, Done, Refused, NumberOutOfRange, BadShape, TooLarge, Plain, Command, Setup, Majority, Go, DataSet, encoding_at, ByStep, step, are_bad_sizes, is_empty_set, Answers, Follows, Takes, refused, gone, content, is_positive, word, size_at, gdr_offset, uir_type, Each, shape, IsSound, Good, is_a-in, good_by_its_shape, good_is_sound, tile_lies, gdr_in, Cdr, AreBytes, word_fits}
 use Rattle.std.proofs.Math.Path.{transport}
-use Rattle.std.proofs.lemmas.Int.{of_z-to_z}
-use Rattle.std.specs.Int.{w32, cast_unsigned}
-use Rattle.std.specs.List.{list_all, list_any}
 use Rattle.std.specs.Option.{is_none}
-use Rattle.std.specs.Prelude.{◌==◌, ◌&&◌, ◌||◌, is_some, nat_lt}
-use Rattle.cdf_model.specs.declared.answer.Outcome.{Outcome}
-use Rattle.cdf_model.specs.declared.answer.Outcome.TheVariants.{Done, Refused}
-use Rattle.cdf_model.specs.declared.answer.Reason.TheVariants.{NumberOutOfRange, BadShape, InUse, TooLarge}
-use Rattle.cdf_model.specs.declared.answer.Reply.TheVariants.{Plain}
-use Rattle.cdf_model.specs.declared.command.Command.{Command}
-use Rattle.cdf_model.specs.declared.command.Command.TheVariants.{Setup}
+use Rattle.cdf_model.specs.declared.answer.Reason.TheVariants.{InUse}
 use Rattle.cdf_model.specs.declared.head.Head.{Head}
-use Rattle.cdf_model.specs.declared.head.Majority.{Majority}
-use Rattle.cdf_model.specs.Answers.{Go}
-use Rattle.cdf_model.specs.DataSet.{DataSet}
-use Rattle.cdf_model.specs.Encodings.{encoding_at}
-use Rattle.cdf_model.specs.Step.{ByStep, step}
-use Rattle.cdf_model.specs.VariableSteps.{are_bad_sizes, is_empty_set}
-use Rattle.cdf_edits.specs.Answers.{Answers}
-use Rattle.cdf_edits.specs.Follows.{Follows}
-use Rattle.cdf_edits.specs.Space.Placement.{Takes}
-use Rattle.cdf_edits.proofs.Commands.Answered.{refused, gone, too_large as no_room}
-use Rattle.cdf_format.specs.Content.{content}
-use Rattle.cdf_format.specs.Fields.{is_positive, word, signed4, size_at, gdr_offset}
-use Rattle.cdf_format.specs.RecordTypes.{uir_type}
-use Rattle.cdf_format.specs.Shape.{Each, shape}
-use Rattle.cdf_format.specs.Sound.{IsSound}
-use Rattle.cdf_format.specs.WellFormed.{Good}
-use Rattle.cdf_format.proofs.ChainsLemmas.{is_a-in}
-use Rattle.cdf_format.proofs.GoodSound.{good_by_its_shape, good_is_sound}
+use Rattle.cdf_edits.proofs.Commands.Answered.{too_large as no_room}
+use Rattle.cdf_format.specs.Fields.{signed4}
 use Rattle.cdf_format.proofs.HeadOf.{head_of_good}
-use Rattle.cdf_format.proofs.TilesLemmas.{tile_lies}
-use Rattle.cdf_edits.proofs.Edits.StepEdits.{gdr_in}
-use Rattle.cdf_records.specs.declared.cdr.Cdr.{Cdr}
 use Rattle.cdf_records.specs.declared.gdr.Gdr.{Gdr}
 use Rattle.cdf_records.specs.Heads.{cdr_at, gdr_at}
-use Rattle.cdf_records.specs.Pieces.{AreBytes}
-use Rattle.cdf_records.proofs.Places.{word_fits}
 
 -- ---- the answers
 

@@ -1,74 +1,45 @@
 -- `setup` follows its command: the dimensions of a GDR and the CDR are written, what the image has by then, whatever became of the GDR, and the two ways, in its place and moved.
 use Rattle.std.proofs.Common.{◌≡◌, ◌≢◌, ◌⊎◌, ℕ, ◌+◌, ◌-◌, ◌*◌, ◌/◌, ◌%◌, ◌<◌, ◌≤◌, List, [], ◌∷◌, ◌++◌, length, map, sum, drop, Bool, true, false, not, ◌||◌, refl, sym, ap, subst, ◌∙◌, arith, inl, inr, ◌^◌}
-use Rattle.std.proofs.lemmas.Bool.{le-leb, lt-leb, leb-true}
-use Rattle.std.proofs.lemmas.List.{length-take, length-drop}
-use Rattle.std.specs.Int.{w32, cast_signed}
-use Rattle.std.specs.List.{list_all}
-use Rattle.std.specs.Prelude.{◌==◌, ◌&&◌, is_some, nat_le, if◌then◌else◌, ◌||◌}
-use Rattle.cdf_base.specs.Bytes.{put}
+use Rattle.cdf_vars.proofs.Common.{le-leb, length-take, length-drop, w32, cast_signed, list_all, ◌==◌, ◌&&◌, is_some, nat_le, if◌then◌else◌, ◌||◌, put, Majority, Row, Column, DataSet, encoding_at, image_limit, are_bad_sizes, is_empty_set, AllKeep, Edit, Mark, avoided, within, is_late, making_marks, Follows, Changed, touched_field, Act, Took, Gave, Takes, Fills, keep_attributes, acts_took, end_now, filled_size, filled_sound, list_chain, made_edit, place_in, shorter, the_one, unmarked-away, keep_file, keeps_fields, gdr_in, gdr_long, gdr_typed, apart, length-words, words_laid_out, Same, byte, IsChain, Leads, next_of, content, counted, has_bit, is_positive, number, word, words, size_at, type_at, gdr_offset, r_num_dims, r_sizes, with_field, owned_records, times, Field, cdr_encoding, cdr_flags, gdr_r_max_rec, gdr_r_num_dims, record_type, cdr_type, gdr_type, uir_type, fixed_size, is_record_type, Shape, HasShape, shape, IsSound, In, Good, of_4_bytes, length-put, word_kept, words_kept, is_a-in, is_a-type, good_by_its_shape, good_eof, good_is_sound, rules_of_good, good_long, sealed_kept, content_is, shape_is, tile_lies, WritesHeads, small_signed, drop-put_there}
+use Rattle.std.proofs.lemmas.Bool.{lt-leb, leb-true}
 use Rattle.cdf_model.specs.declared.answer.Reply.TheVariants as replies
 use Rattle.cdf_model.specs.declared.command.Command.TheVariants as commands
-use Rattle.cdf_model.specs.declared.head.Majority.{Majority}
-use Rattle.cdf_model.specs.declared.head.Majority.TheVariants.{Row, Column}
-use Rattle.cdf_model.specs.DataSet.{DataSet}
-use Rattle.cdf_model.specs.Encodings.{encoding_at}
-use Rattle.cdf_model.specs.Limits.{image_limit}
-use Rattle.cdf_model.specs.VariableSteps.{are_bad_sizes, is_empty_set}
-use Rattle.cdf_edits.specs.Commands.Allowances.{AllKeep, FreedStays, Stays, space_fields}
+use Rattle.cdf_edits.specs.Commands.Allowances.{FreedStays, Stays, space_fields}
 use Rattle.cdf_edits.specs.Commands.NewRecords.{with_bits}
 use Rattle.cdf_edits.specs.Commands.Setup.{SetsUp, majority_bit, setup_changes}
-use Rattle.cdf_edits.specs.Edits.Edit.{Edit}
-use Rattle.cdf_edits.specs.Edits.Marks.{Avoids, Mark, Within, avoided, within, giving_marks, is_late, making_marks, Among, mark, field_marks}
-use Rattle.cdf_edits.specs.Follows.{Follows}
-use Rattle.cdf_edits.specs.Frame.Changed.{Changed, touched_field}
-use Rattle.cdf_edits.specs.Space.Acts.{Act, Took, Gave, ActsFollow, links_end, taken as taken_of}
+use Rattle.cdf_edits.specs.Edits.Marks.{Avoids, Within, giving_marks, Among, mark, field_marks}
+use Rattle.cdf_edits.specs.Space.Acts.{ActsFollow, links_end, taken as taken_of}
 use Rattle.cdf_edits.specs.Space.Giving.{IsGiven}
-use Rattle.cdf_edits.specs.Space.Placement.{Gives, Takes, unused, with_space}
-use Rattle.cdf_edits.specs.Space.Placing.{Fills}
-use Rattle.cdf_edits.proofs.Commands.KeptRecords.{keep_attributes}
+use Rattle.cdf_edits.specs.Space.Placement.{Gives, unused, with_space}
 use Rattle.cdf_edits.proofs.Edits.ActsThen.{acts_gave, each_in}
 use Rattle.cdf_edits.proofs.Edits.Composing.{edit_then, head_type, changed_edit}
-use Rattle.cdf_edits.proofs.Edits.EditActs.{acts_none, acts_took}
+use Rattle.cdf_edits.proofs.Edits.EditActs.{acts_none}
 use Rattle.cdf_edits.proofs.Edits.EmptySet.{HasNone, has_none, NoCounts, AreAlone, empty_shape, empty_sound, empty_good, other_unowned, no_attribute, no_variable, is_empty, no_counts, good_is_alone}
 use Rattle.cdf_edits.proofs.Edits.FieldWritten.{Stands, field_in, still_stands, still_says, written_edit, written_long, written_reads}
 use Rattle.cdf_edits.proofs.Edits.FreedBytes.{behind_one, freed_stay}
 use Rattle.cdf_edits.proofs.Edits.FreedRecords.{sizes_by_tiles}
-use Rattle.cdf_edits.proofs.Edits.MadeRecord.{end_now, filled_edit, filled_size, filled_sound, fresh, list_chain, listed_before, listed_marks, loose_away, made_edit, place_in, second, shorter}
-use Rattle.cdf_edits.proofs.Edits.MarkLemmas.{Avoids-append, Away-append, Within-append, avoided-avoids, the_one, unmarked-away, within-within}
-use Rattle.cdf_edits.proofs.Edits.OwnersKept.{all_keep, keep_file, keep_unused, keeps_fields, keeps_within}
+use Rattle.cdf_edits.proofs.Edits.MadeRecord.{filled_edit, fresh, listed_before, listed_marks, loose_away, second}
+use Rattle.cdf_edits.proofs.Edits.MarkLemmas.{Avoids-append, Away-append, Within-append, avoided-avoids, within-within}
+use Rattle.cdf_edits.proofs.Edits.OwnersKept.{all_keep, keep_unused, keeps_within}
 use Rattle.cdf_edits.proofs.Edits.RecordFrame.{field_clear, kept, part_clear, chain_clear}
 use Rattle.cdf_edits.proofs.Edits.RecordPlaced.{placing_marks}
-use Rattle.cdf_edits.proofs.Edits.StepEdits.{fixed_long, gdr_in, gdr_long, gdr_typed, gives_edit, some_bytes}
+use Rattle.cdf_edits.proofs.Edits.StepEdits.{fixed_long, gives_edit, some_bytes}
 use Rattle.cdf_edits.proofs.Frame.ChangedBytes.{changed_put}
 use Rattle.cdf_edits.proofs.Rules.FirstHead.{FirstSays, cdr_said, first_hold}
 use Rattle.cdf_edits.proofs.Space.ActsLeave.{each, places-sized}
-use Rattle.cdf_edits.proofs.Space.UsedRecords.{apart}
-use Rattle.cdf_edits.proofs.Space.LaidOut.{length-words, words_laid_out}
 use Rattle.cdf_space.proofs.Filling.{word-put_inside}
-use Rattle.cdf_format.specs.Bytes.{Same, byte}
-use Rattle.cdf_format.specs.Chains.{IsChain, Leads, next_of}
-use Rattle.cdf_format.specs.Content.{content, content_of, majority_of}
-use Rattle.cdf_format.specs.Fields.{Holds, counted, has_bit, is_positive, number, word, words, size_at, type_at, eof, flags, gdr_offset, r_num_dims, encoding, r_sizes, with_field}
-use Rattle.cdf_format.specs.Owners.{Unused, owned_by, owned_records, times, unused_records}
-use Rattle.cdf_format.specs.Records.{Field, cdr_encoding, cdr_flags, cdr_gdr_offset, gdr_eof, gdr_leap_second_last_updated, gdr_num_attr, gdr_nr_vars, gdr_nz_vars, gdr_r_dim_sizes, gdr_r_max_rec, gdr_r_num_dims, gdr_rfu_c, gdr_rfu_e, gdr_uir_head, record_type, uir_next_uir, uir_prev_uir, gdr_adr_head, gdr_r_vdr_head, gdr_z_vdr_head}
-use Rattle.cdf_format.specs.RecordTypes.{cdr_type, gdr_type, uir_type, fixed_size, is_record_type}
-use Rattle.cdf_format.specs.Shape.{Shape, HasShape, shape}
-use Rattle.cdf_format.specs.Sound.{IsSound}
-use Rattle.cdf_format.specs.Tiles.{In, AreTiles}
-use Rattle.cdf_format.specs.WellFormed.{Good}
-use Rattle.cdf_format.specs.NewFile.{of_4_bytes}
-use Rattle.cdf_format.proofs.BytesLemmas.{length-put, number_kept, word_kept, words_kept}
-use Rattle.cdf_format.proofs.ChainsLemmas.{is_a-in, is_a-type, is_a-from}
-use Rattle.cdf_format.proofs.GoodSound.{good_by_its_shape, good_eof, good_is_sound, rules_of_good}
+use Rattle.cdf_format.specs.Content.{content_of, majority_of}
+use Rattle.cdf_format.specs.Fields.{Holds, eof, flags, encoding}
+use Rattle.cdf_format.specs.Owners.{Unused, owned_by, unused_records}
+use Rattle.cdf_format.specs.Records.{cdr_gdr_offset, gdr_eof, gdr_leap_second_last_updated, gdr_num_attr, gdr_nr_vars, gdr_nz_vars, gdr_r_dim_sizes, gdr_rfu_c, gdr_rfu_e, gdr_uir_head, uir_next_uir, uir_prev_uir, gdr_adr_head, gdr_r_vdr_head, gdr_z_vdr_head}
+use Rattle.cdf_format.specs.Tiles.{AreTiles}
+use Rattle.cdf_format.proofs.BytesLemmas.{number_kept}
+use Rattle.cdf_format.proofs.ChainsLemmas.{is_a-from}
 use Rattle.cdf_format.proofs.Pieces.{word-piece}
-use Rattle.cdf_format.proofs.SealedRules.{good_long, sealed_keeps, sealed_kept}
-use Rattle.cdf_format.proofs.ShapeLemmas.{content_is, shape_is}
+use Rattle.cdf_format.proofs.SealedRules.{sealed_keeps}
 use Rattle.cdf_format.proofs.Tests.{both}
-use Rattle.cdf_format.proofs.TilesLemmas.{tile_lies}
-use Rattle.cdf_vars.specs.Setup.{MakesGdr, WritesHeads, gdr_fields}
-use Rattle.cdf_var_records.proofs.DimsRead.{small_signed}
+use Rattle.cdf_vars.specs.Setup.{MakesGdr, gdr_fields}
 use Rattle.cdf_vars.proofs.SetUpAnswers.{few_dims, positive_dims, small_dims, step_goes, taken_lies}
-use Rattle.cdf_fields.proofs.Writes.{drop-put_there}
 
 -- ---- the edit
 

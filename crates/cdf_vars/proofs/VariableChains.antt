@@ -1,27 +1,13 @@
 -- The chains of the variables, as a good image has them.
 use Rattle.std.proofs.Common.{◌≡◌, ℕ, ◌+◌, ◌<◌, ◌≤◌, List, length, sym, ap, subst, ◌∙◌, arith}
-use Rattle.std.proofs.lemmas.List.{length-append}
-use Rattle.cdf_edits.specs.Commands.Allowances.{shapes_of, vdr_type}
-use Rattle.cdf_edits.specs.Space.Chains.{counted_in, head_of, members_of, HasChain, HolderStands}
+use Rattle.cdf_vars.proofs.Common.{length-append, shapes_of, vdr_type, counted_in, head_of, members_of, HasChain, HolderStands, counted_before, kind_chain, IsChain, number, size_at, fixed_size, Shape, vdrs, shape, HasShape, In, Good, linkable-type, IsGoodByShape, good_by_its_shape, rules_of_good, tile_lies, Kind, R, Z, chain_of}
 use Rattle.cdf_edits.proofs.Edits.ChainsOfShape.{IsOf, has_chain, members_are}
 use Rattle.cdf_edits.proofs.Edits.UnlinkedVariable.{in_holder}
-use Rattle.cdf_edits.proofs.Edits.VariableKinds.{counted_before, kind_chain}
-use Rattle.cdf_format.specs.Chains.{IsChain}
-use Rattle.cdf_format.specs.Fields.{number, size_at}
-use Rattle.cdf_format.specs.RecordTypes.{fixed_size}
 use Rattle.cdf_format.specs.Sealed.{trailer, sealed}
-use Rattle.cdf_format.specs.Shape.{Shape, vdrs, shape, HasShape}
-use Rattle.cdf_format.specs.Tiles.{In}
-use Rattle.cdf_format.specs.WellFormed.{Good}
-use Rattle.cdf_format.proofs.ChainsLemmas.{linkable-in, linkable-type}
-use Rattle.cdf_format.proofs.GoodByShape.{IsGoodByShape}
-use Rattle.cdf_format.proofs.GoodSound.{good_by_its_shape, rules_of_good}
+use Rattle.cdf_format.proofs.ChainsLemmas.{linkable-in}
 use Rattle.cdf_format.proofs.Members.{length-le_from_distinct}
 use Rattle.cdf_format.proofs.Tests.{le_of, eq_of}
-use Rattle.cdf_format.proofs.TilesLemmas.{tile_lies, length_tiles}
-use Rattle.cdf_model.specs.declared.kinds.Kind.{Kind}
-use Rattle.cdf_model.specs.declared.kinds.Kind.TheVariants.{R, Z}
-use Rattle.cdf_vars.specs.Chains.{chain_of}
+use Rattle.cdf_format.proofs.TilesLemmas.{length_tiles}
 
 -- the fixed part of a VDR
 least_size : (kind : Kind) → 340 ≤ fixed_size (vdr_type kind)

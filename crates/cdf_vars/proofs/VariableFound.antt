@@ -1,63 +1,31 @@
 -- The variable of a name, by what is kept of the variables, in the data set, and among those of its kind; and where it becomes another one: what is kept then, and the commands that change it where its VDR stands.
 use Rattle.std.proofs.Common.{◌≡◌, ℕ, zero, suc, ◌<◌, List, [], ◌∷◌, length, map, true, Option, Some, None, is_some, get_or, bytes_eq, refl, sym, ap, ap₂, subst, ◌∙◌, arith, ◌+◌, ◌≤◌, ◌++◌, false, not, pos, w32, inl}
-use Rattle.std.proofs.lemmas.List.{length-map, map-set}
+use Rattle.cdf_vars.proofs.Common.{length-map, same_Some, slice_get, option_map, shapes_of, Allowances, Only, stays_own, content, variable_of, VariableShape, shape, vdrs, Shape, Good, good_is_sound, good_by_its_shape, Kind, R, Z, DataSet, Variable, Found, variable_named, variables_of, is_among, is_bad_name, variable_names, with_variables, VarId, found_among, id_of, Known, Knows, KnowsKind, known_of, KnownKind, cut, got-middle, StandsAmong, in_middle, sound, typed, In, le-ltb, cast_signed, cast_unsigned, ◌==◌, nat_lt, slice_set, Done, Plain, Command, RenameVar, SetBlocking, Go, image_limit, signed_limit, ByStep, step, with_variable, field_reads4, length-with_field, other_bytes, LiesIn, integer4, name_in, with_field, Field, vdr_blocking_factor, vdr_name, absent-split, Answers, Does, allowances, IsFilled, Mark, Follows, only_reads, gone, fine_has_no_zeros, fine_is_short, fine_is_some, kind_type, with_shapes, beside_in, OthersStay}
+use Rattle.std.proofs.lemmas.List.{map-set}
 use Rattle.std.proofs.lemmas.List.Quantifiers.{position-Some}
-use Rattle.std.proofs.lemmas.Option.{same_Some, slice_get_within}
-use Rattle.std.specs.List.{position, slice_get}
-use Rattle.std.specs.Option.{option_map, option_or}
-use Rattle.cdf_edits.specs.Commands.Allowances.{shapes_of, Allowances, Keeps, Only, OwnAllowances, of_named, of_variable, stays_all, stays_own}
-use Rattle.cdf_format.specs.Content.{content, variable_of}
-use Rattle.cdf_format.specs.Shape.{VariableShape, shape, vdrs, Shape}
-use Rattle.cdf_format.specs.WellFormed.{Good}
-use Rattle.cdf_format.proofs.GoodSound.{good_is_sound, good_by_its_shape}
-use Rattle.cdf_model.specs.declared.kinds.Kind.{Kind}
-use Rattle.cdf_model.specs.declared.kinds.Kind.TheVariants.{R, Z}
-use Rattle.cdf_model.specs.DataSet.{DataSet, Variable}
-use Rattle.cdf_model.specs.Names.{Found, found_in, numbered, variable_named, variables_of, is_among, is_bad_name, variable_names, with_variables}
+use Rattle.std.proofs.lemmas.Option.{slice_get_within}
+use Rattle.std.specs.List.{position}
+use Rattle.std.specs.Option.{option_or}
+use Rattle.cdf_edits.specs.Commands.Allowances.{Keeps, OwnAllowances, of_named, of_variable, stays_all}
+use Rattle.cdf_model.specs.Names.{found_in, numbered}
 use Rattle.cdf_names.specs.Names.{number_of, has_name as has_name_among}
 use Rattle.cdf_names.proofs.Keys.{number_of-keys}
-use Rattle.cdf_vars.specs.declared.vars.VarId.{VarId}
-use Rattle.cdf_vars.specs.Finding.{found_among, found_of, id_of, names_of}
-use Rattle.cdf_vars.specs.Known.{Known, Knows, KnowsKind, known_of, KnownKind, MayRename}
+use Rattle.cdf_vars.specs.Finding.{found_of, names_of}
+use Rattle.cdf_vars.specs.Known.{MayRename}
 use Rattle.cdf_vars.proofs.VariableNames.{variables_are, absent_from}
-use Rattle.cdf_edits.proofs.Commands.ListParts.{cut, got-map, got-middle}
-use Rattle.cdf_edits.proofs.Edits.VdrEdited.{StandsAmong, in_middle, EditsVdr, content_replaced, follows_by, good_now, keeps_vdr, no_block, own_ruled, same_shape, sound, splices, typed}
-use Rattle.cdf_format.specs.Tiles.{In}
+use Rattle.cdf_edits.proofs.Commands.ListParts.{got-map}
+use Rattle.cdf_edits.proofs.Edits.VdrEdited.{EditsVdr, content_replaced, follows_by, good_now, keeps_vdr, no_block, own_ruled, same_shape, splices}
 use Rattle.cdf_vars.proofs.VariableChains.{vdr_inside, few_places}
-use Rattle.std.proofs.lemmas.Bool.{le-ltb}
 use Rattle.std.proofs.lemmas.Int.{to_z_pos}
-use Rattle.std.specs.Int.{cast_signed, cast_unsigned}
-use Rattle.std.specs.Prelude.{◌==◌, nat_lt, slice_set}
-use Rattle.cdf_model.specs.declared.answer.Outcome.TheVariants.{Done}
-use Rattle.cdf_model.specs.declared.answer.Reply.TheVariants.{Plain}
-use Rattle.cdf_model.specs.declared.command.Command.{Command}
-use Rattle.cdf_model.specs.declared.command.Command.TheVariants.{RenameVar, SetBlocking}
-use Rattle.cdf_model.specs.Answers.{Go}
-use Rattle.cdf_model.specs.Limits.{image_limit, signed_limit}
-use Rattle.cdf_model.specs.Step.{ByStep, step}
-use Rattle.cdf_model.specs.VariableSteps.{with_variable}
 use Rattle.cdf_fields.proofs.NamesWritten.{name_reads}
-use Rattle.cdf_fields.proofs.Writes.{field_reads4, length-with_field, other_bytes}
 use Rattle.cdf_format.specs.AttributeRules.{has_name}
-use Rattle.cdf_format.specs.Fields.{LiesIn, integer4, name_in, with_field, with_name}
-use Rattle.cdf_format.specs.Records.{Field, vdr_blocking_factor, vdr_name}
-use Rattle.cdf_format.proofs.NameRules.{absent-split}
-use Rattle.cdf_edits.specs.Answers.{Answers}
-use Rattle.cdf_edits.specs.Commands.Does.{Does}
-use Rattle.cdf_edits.specs.Commands.Keeps.{allowances}
+use Rattle.cdf_format.specs.Fields.{with_name}
 use Rattle.cdf_edits.specs.Commands.Named.{IsVariable}
-use Rattle.cdf_edits.specs.Commands.NewRecords.{IsFilled}
 use Rattle.cdf_edits.specs.Commands.Variables.{RenamesVariable, rename_var_changes, set_blocking_changes}
-use Rattle.cdf_edits.specs.Edits.Marks.{Mark}
-use Rattle.cdf_edits.specs.Follows.{Follows, only_reads}
-use Rattle.cdf_edits.proofs.Commands.Answered.{gone}
-use Rattle.cdf_edits.proofs.Commands.FineNames.{fine_has_no_zeros, fine_is_short, fine_is_some}
 use Rattle.cdf_edits.proofs.Edits.NameWritten.{length-with_name, name_changed, name_filled}
 use Rattle.cdf_edits.proofs.Edits.VariableKept.{vdr_allowance}
-use Rattle.cdf_edits.proofs.Edits.VariableKinds.{kind_type, with_shapes}
-use Rattle.cdf_edits.proofs.Edits.VariableNames.{IsBeside, beside_in, own_names_apart}
+use Rattle.cdf_edits.proofs.Edits.VariableNames.{IsBeside, own_names_apart}
 use Rattle.cdf_edits.proofs.Edits.VdrWritten.{WritesVdr, blocking_same, edits, marks_within, meaning, name_same}
-use Rattle.cdf_vars.specs.Creating.{OthersStay}
 
 -- ---- which variable of the data set it is
 

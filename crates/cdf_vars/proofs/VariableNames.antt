@@ -1,30 +1,11 @@
 -- The names of the variables of a good image, as they are read where their descriptors stand.
 use Rattle.std.proofs.Common.{◌≡◌, ◌≢◌, ℕ, ◌+◌, List, [], ◌∷◌, map, false, bytes_eq, refl, sym, ap, ap₂, subst, ◌∙◌, arith, inl, inr}
-use Rattle.std.proofs.lemmas.Bool.{or_parts}
-use Rattle.std.proofs.lemmas.List.{map-append}
+use Rattle.cdf_vars.proofs.Common.{or_parts, map-append, shapes_of, vdr_type, content, variable_of, name_at, name_field, name_in, type_at, LiesIn, vdr_name, Shape, VariableShape, shape, variables, vdrs, HasShape, In, Distinct, Good, linkable-type, IsGoodByShape, good_by_its_shape, In-append_left, In-append_right, absent-split, content_is, Item, Kind, R, Z, DataSet, Variable, variable_items, is_among, variable_names, variables_of, AreNamed, items_at}
 use Rattle.std.specs.List.{AllByRecursion, IsDistinct}
-use Rattle.cdf_edits.specs.Commands.Allowances.{shapes_of, vdr_type}
 use Rattle.cdf_edits.proofs.Edits.VariableNames.{names_apart}
-use Rattle.cdf_format.specs.Content.{content, variable_of}
-use Rattle.cdf_format.specs.Fields.{name_at, name_field, name_in, type_at, LiesIn}
-use Rattle.cdf_format.specs.Records.{vdr_name}
-use Rattle.cdf_format.specs.Shape.{Shape, VariableShape, shape, variables, vdrs, HasShape}
-use Rattle.cdf_format.specs.Tiles.{In, Distinct}
-use Rattle.cdf_format.specs.WellFormed.{Good}
-use Rattle.cdf_format.proofs.ChainsLemmas.{linkable-type}
-use Rattle.cdf_format.proofs.GoodByShape.{IsGoodByShape}
-use Rattle.cdf_format.proofs.GoodSound.{good_by_its_shape}
-use Rattle.cdf_format.proofs.Members.{In-append, In-append_left, In-append_right}
-use Rattle.cdf_format.proofs.NameRules.{absent-split, names_at}
-use Rattle.cdf_format.proofs.ShapeLemmas.{content_is}
-use Rattle.cdf_model.specs.declared.item.Item.{Item}
+use Rattle.cdf_format.proofs.Members.{In-append}
+use Rattle.cdf_format.proofs.NameRules.{names_at}
 use Rattle.cdf_model.specs.declared.item.Item.TheVariants as items
-use Rattle.cdf_model.specs.declared.kinds.Kind.{Kind}
-use Rattle.cdf_model.specs.declared.kinds.Kind.TheVariants.{R, Z}
-use Rattle.cdf_model.specs.DataSet.{DataSet, Variable}
-use Rattle.cdf_model.specs.Listing.{variable_items}
-use Rattle.cdf_model.specs.Names.{is_among, variable_names, variables_of}
-use Rattle.cdf_vars.specs.Reading.{AreNamed, items_at}
 use Rattle.cdf_vars.proofs.VariableChains.{few_places, own_chain, vdr_inside}
 
 -- ---- lists

@@ -1,34 +1,12 @@
 -- What `get-rec` and `get-val` show are whole values.
 use Rattle.std.proofs.Common.{◌≡◌, ℕ, ◌*◌, ◌%◌, ◌≤◌, List, ◌∷◌, [], length, map, take, drop, Bool, true, false, Option, Some, None, refl, sym, ap, subst, ◌∙◌, arith}
+use Rattle.cdf_vars.proofs.Common.{length-drop, length-take, same_Some, option_map, nat_lt, shapes_of, content, variable_of, shape, vdrs, record_bytes, Good, NoSuchVar, IndexOutOfRange, RecordOutOfRange, Reply, Kind, R, Z, Go, DataSet, Variable, record_number_limit, Found, variable_named, variables_of, value_count, read, get_rec_step, get_val_step, place_in_record, value_size, id_of, Known, KnownKind, Knows, IsVdr, variable_is, read_long}
 use Rattle.std.proofs.Math.Nat.{mul-mod_right}
-use Rattle.std.proofs.lemmas.List.{length-drop, length-take}
-use Rattle.std.proofs.lemmas.Option.{same_Some}
-use Rattle.std.specs.Option.{option_map}
-use Rattle.std.specs.Prelude.{nat_lt}
-use Rattle.cdf_edits.specs.Commands.Allowances.{shapes_of}
-use Rattle.cdf_format.specs.Content.{content, variable_of}
-use Rattle.cdf_format.specs.Shape.{shape, vdrs}
-use Rattle.cdf_format.specs.VariableFields.{record_bytes}
-use Rattle.cdf_format.specs.WellFormed.{Good}
-use Rattle.cdf_model.specs.declared.answer.Reason.TheVariants.{NoSuchVar, IndexOutOfRange, RecordOutOfRange}
-use Rattle.cdf_model.specs.declared.answer.Reply.{Reply}
 use Rattle.cdf_model.specs.declared.answer.Reply.TheVariants as replies
-use Rattle.cdf_model.specs.declared.kinds.Kind.{Kind}
-use Rattle.cdf_model.specs.declared.kinds.Kind.TheVariants.{R, Z}
-use Rattle.cdf_model.specs.Answers.{Answer, Go, given, unless}
-use Rattle.cdf_model.specs.DataSet.{DataSet, Variable}
-use Rattle.cdf_model.specs.Limits.{record_number_limit}
-use Rattle.cdf_model.specs.Names.{Found, variable_named, variables_of}
-use Rattle.cdf_model.specs.Place.{value_count}
-use Rattle.cdf_model.specs.Reading.{read}
-use Rattle.cdf_model.specs.RecordSteps.{get_rec_step, get_val_step, place_in_record, value_size}
+use Rattle.cdf_model.specs.Answers.{Answer, given, unless}
 use Rattle.cdf_model.specs.Whole.{HasWholeValues, IsWhole}
-use Rattle.cdf_vars.specs.Finding.{id_of}
-use Rattle.cdf_vars.specs.Known.{Known, KnownKind, Knows}
-use Rattle.cdf_var_records.specs.Descriptors.{IsVdr}
-use Rattle.cdf_var_records.proofs.RecordForms.{some_elements, variable_is}
+use Rattle.cdf_var_records.proofs.RecordForms.{some_elements}
 use Rattle.cdf_vars.proofs.RecordPlaces.{place_below, value_inside}
-use Rattle.cdf_var_records.proofs.RecordsRead.{read_long}
 use Rattle.cdf_vars.proofs.VariableFound.{found_is}
 use Rattle.cdf_vars.proofs.VariableFound.{Parts, the_parts}
 

@@ -1,27 +1,9 @@
 -- What a call answers that carries out a command: the outcome of its step, over the image that the step leads to.
 use Rattle.std.proofs.Common.{◌≡◌, ℕ, ◌+◌, ◌<◌, ◌≤◌, List, length, Bool, true, false, refl, sym, ap, subst, map, arith}
-use Rattle.std.proofs.lemmas.Bool.{le-ltb, lt-ltb}
-use Rattle.cdf_model.specs.declared.answer.Outcome.TheVariants.{Done, Refused}
-use Rattle.cdf_model.specs.declared.answer.Reason.{Reason}
+use Rattle.cdf_edits.proofs.Common.{le-ltb, lt-ltb, Done, Refused, Reason, Reply, Command, Go, Refuse, DataSet, ByStep, step, content, Follows, only_reads, Answers, room, sum, Plain, owned, shape, Good, AllKeep, Does, allowances, gave, ActsFollow}
 use Rattle.cdf_model.specs.declared.answer.Reason.TheVariants.{TooLarge}
-use Rattle.cdf_model.specs.declared.answer.Reply.{Reply}
-use Rattle.cdf_model.specs.declared.command.Command.{Command}
-use Rattle.cdf_model.specs.Answers.{Go, Refuse, is_accepted, outcome}
-use Rattle.cdf_model.specs.DataSet.{DataSet}
-use Rattle.cdf_model.specs.Step.{ByStep, step}
-use Rattle.cdf_format.specs.Content.{content}
-use Rattle.cdf_edits.specs.Follows.{Follows, only_reads}
-use Rattle.cdf_edits.specs.Answers.{Answers, MovesIf, is_full}
-use Rattle.cdf_edits.specs.Commands.Room.{room}
-use Rattle.std.specs.List.{sum}
-use Rattle.cdf_model.specs.declared.answer.Reply.TheVariants.{Plain}
-use Rattle.cdf_format.specs.Owners.{owned}
-use Rattle.cdf_format.specs.Shape.{shape}
-use Rattle.cdf_format.specs.WellFormed.{Good}
-use Rattle.cdf_edits.specs.Commands.Allowances.{AllKeep}
-use Rattle.cdf_edits.specs.Commands.Does.{Does}
-use Rattle.cdf_edits.specs.Commands.Keeps.{allowances}
-use Rattle.cdf_edits.specs.Space.Acts.{gave, ActsFollow}
+use Rattle.cdf_model.specs.Answers.{is_accepted, outcome}
+use Rattle.cdf_edits.specs.Answers.{MovesIf, is_full}
 use Rattle.cdf_edits.proofs.Edits.ActsThen.{taken-gave}
 
 -- a step that refuses

@@ -1,23 +1,8 @@
 -- A chain whose head and links stay, by the allowances of a command, has the same records.
 use Rattle.std.proofs.Common.{◌≡◌, ℕ, suc, ◌+◌, ◌-◌, ◌<◌, ◌≤◌, List, [], ◌∷◌, ◌++◌, length, map, Bool, true, false, ◌||◌, sym, ap, subst, ◌∙◌, arith, inl, inr}
-use Rattle.std.proofs.lemmas.Bool.{and_parts, or_cases, ne_eqb}
-use Rattle.std.specs.List.{list_all}
-use Rattle.std.specs.Prelude.{nat_le, ◌==◌, if◌then◌else◌}
-use Rattle.cdf_model.specs.declared.kinds.Kind.{Kind}
-use Rattle.cdf_model.specs.declared.kinds.Kind.TheVariants.{R, Z}
-use Rattle.cdf_edits.specs.Commands.Allowances.{Allowance, Anything, Only, OutsideFields, Keeps, Allowances, AllKeep, shapes_of, vdr_type}
-use Rattle.cdf_edits.specs.Space.Acts.{Act}
-use Rattle.cdf_format.specs.Bytes.{byte}
-use Rattle.cdf_format.specs.Chains.{IsChain, next_field, next_of}
-use Rattle.cdf_format.specs.Fields.{number, size_at, type_at, gdr_offset}
-use Rattle.cdf_format.specs.Owners.{Owner, OneAttribute, OneVariable, attribute_records, variable_records, unused_records, owned_by, owned_by_attributes, owned_by_variables, owned, Unused}
-use Rattle.cdf_format.specs.Records.{Field, cdr_gdr_offset, gdr_adr_head, gdr_r_vdr_head, gdr_z_vdr_head}
-use Rattle.cdf_format.specs.RecordTypes.{cdr_type, gdr_type, adr_type, r_vdr_type, z_vdr_type}
-use Rattle.cdf_format.specs.Shape.{AttributeShape, VariableShape, Shape, HasShape, adrs, vdrs}
-use Rattle.cdf_format.specs.Tiles.{In, AreTiles}
-use Rattle.cdf_format.proofs.BytesLemmas.{word_kept}
-use Rattle.cdf_format.proofs.ChainsLemmas.{is_a-in, is_a-type, leads_unique, linkable-in, linkable-long, linkable-type, some_place}
-use Rattle.cdf_format.proofs.Tests.{le_of}
+use Rattle.cdf_edits.proofs.Common.{and_parts, ne_eqb, list_all, nat_le, ◌==◌, if◌then◌else◌, Kind, R, Z, Allowance, Anything, Only, OutsideFields, Keeps, Allowances, AllKeep, shapes_of, vdr_type, Act, byte, IsChain, next_field, next_of, number, size_at, type_at, gdr_offset, Owner, OneAttribute, OneVariable, attribute_records, variable_records, unused_records, owned_by, owned_by_attributes, owned_by_variables, owned, Unused, Field, cdr_gdr_offset, gdr_adr_head, gdr_r_vdr_head, gdr_z_vdr_head, cdr_type, gdr_type, adr_type, r_vdr_type, z_vdr_type, AttributeShape, VariableShape, Shape, HasShape, adrs, vdrs, In, AreTiles, word_kept, is_a-in, is_a-type, linkable-in, linkable-long, linkable-type, some_place, le_of}
+use Rattle.std.proofs.lemmas.Bool.{or_cases}
+use Rattle.cdf_format.proofs.ChainsLemmas.{leads_unique}
 use Rattle.cdf_edits.proofs.Edits.StepEdits.{fixed_long, gdr_long, gdr_typed}
 use Rattle.cdf_edits.proofs.Frame.LinksStay.{leads_same}
 

@@ -1,14 +1,6 @@
 -- Records whose bytes stay keep what any command has to leave of them.
 use Rattle.std.proofs.Common.{ℕ, suc, ◌+◌, List, [], ◌∷◌, ◌++◌, refl, arith, inl, inr}
-use Rattle.std.specs.List.{flat_map}
-use Rattle.cdf_model.specs.declared.kinds.Kind.{Kind}
-use Rattle.cdf_format.specs.Tiles.{In}
-use Rattle.cdf_format.specs.Shape.{AttributeShape, VariableShape, shape}
-use Rattle.cdf_format.specs.Owners.{Owner, OneAttribute, OneVariable, attribute_records, variable_records, owned_by, owned_by_attributes, owned_by_variables}
-use Rattle.cdf_edits.specs.Commands.Allowances.{Allowance, Anything, Only, Keeps, Allowances, allowance, AllKeep}
-use Rattle.cdf_edits.specs.Space.Acts.{Act}
-use Rattle.cdf_format.proofs.Members.{In-append_left, In-append_right}
-use Rattle.cdf_format.proofs.BytesLemmas.{size_kept}
+use Rattle.cdf_edits.proofs.Common.{flat_map, Kind, In, AttributeShape, VariableShape, shape, Owner, OneAttribute, OneVariable, attribute_records, variable_records, owned_by, owned_by_attributes, owned_by_variables, Allowance, Anything, Only, Keeps, Allowances, allowance, AllKeep, Act, In-append_left, In-append_right, size_kept}
 use Rattle.cdf_edits.proofs.Frame.Meaning.{Kept}
 
 pub AllKeep-append : (b now : List ℕ) (may : Allowances) (acts : List Act) (xs ys : List (ℕ × Owner)) → AllKeep b now may acts xs → AllKeep b now may acts ys → AllKeep b now may acts (xs ++ ys)

@@ -1,8 +1,7 @@
 -- A list at a number.
 use Rattle.std.proofs.Common.{◌≡◌, ℕ, zero, suc, ◌+◌, ◌-◌, ◌<◌, List, [], ◌∷◌, ◌++◌, length, map, take, drop, get_or, Option, Some, None, refl, sym, ap, ap₂, subst, append-nil, ◌∙◌, arith, inl, inr}
-use Rattle.std.proofs.lemmas.List.{length-append, length-map, map-append, take_at}
-use Rattle.std.specs.List.{last_or, remove, slice_get}
-use Rattle.cdf_format.specs.Tiles.{In}
+use Rattle.cdf_edits.proofs.Common.{length-append, length-map, map-append, take_at, remove, slice_get, In}
+use Rattle.std.specs.List.{last_or}
 
 -- the elements before a number, the one with it, and those after
 pub record Cut {A : Type 0} (xs : List A) (n : ℕ) : Type 0 where

@@ -1,33 +1,18 @@
 -- What the step of a command leaves of the names of the attributes and of the variables where it is not on them.
 use Rattle.std.proofs.Common.{◌≡◌, ℕ, pos, List, [], ◌∷◌, ◌++◌, map, not, Bool, true, false, ◌||◌, Option, Some, None, Result, Ok, Err, refl, ap₂, ◌∙◌}
-use Rattle.std.specs.List.{remove}
+use Rattle.cdf_edits.proofs.Common.{remove, if◌then◌else◌, nat_le, nat_lt, Reason, Reply, Command, DataType, Majority, Kind, R, Z, entries_of, is_global, with_attribute, with_entries, Go, Refuse, Attribute, DataSet, Entry, Variable, extent, encoding_at, signed_limit, Found, attribute_named, attribute_names, is_bad_name, variable_named, variables_of, with_variables, item_at, with_item, without, read, ByStep, step, notation_of, attribute_without, is_empty_set, is_on_attributes, is_on_variables, only_reads}
 use Rattle.std.specs.Option.{is_none}
-use Rattle.std.specs.Prelude.{if◌then◌else◌, nat_le, nat_lt}
-use Rattle.cdf_model.specs.declared.answer.Reason.{Reason}
 use Rattle.cdf_model.specs.declared.answer.Reason.TheVariants as reasons
-use Rattle.cdf_model.specs.declared.answer.Reply.{Reply}
 use Rattle.cdf_model.specs.declared.answer.Reply.TheVariants as replies
-use Rattle.cdf_model.specs.declared.command.Command.{Command}
 use Rattle.cdf_model.specs.declared.command.Command.TheVariants as commands
-use Rattle.cdf_model.specs.declared.data_type.DataType.{DataType}
-use Rattle.cdf_model.specs.declared.head.Majority.{Majority}
-use Rattle.cdf_model.specs.declared.kinds.Kind.{Kind}
-use Rattle.cdf_model.specs.declared.kinds.Kind.TheVariants.{R, Z}
-use Rattle.cdf_model.specs.AttributeSteps.{entries_of, entry_by, is_global, is_out_of_range, is_wrong_scope, new_attribute, with_attribute, with_entries}
-use Rattle.cdf_model.specs.Answers.{Answer, Go, Refuse, unless, given, valued}
-use Rattle.cdf_model.specs.DataSet.{Attribute, DataSet, Entry, Variable, extent}
-use Rattle.cdf_model.specs.Encodings.{encoding_at}
-use Rattle.cdf_model.specs.Limits.{signed_limit}
-use Rattle.cdf_model.specs.Names.{Found, attribute_named, attribute_names, is_among, is_bad_name, variable_named, variable_names, variables_of, with_variables}
-use Rattle.cdf_model.specs.Numbered.{item_at, with_item, without}
+use Rattle.cdf_model.specs.AttributeSteps.{entry_by, is_out_of_range, is_wrong_scope, new_attribute}
+use Rattle.cdf_model.specs.Answers.{Answer, unless, given, valued}
+use Rattle.cdf_model.specs.Names.{is_among, variable_names}
 use Rattle.cdf_model.specs.Place.{value_count}
-use Rattle.cdf_model.specs.Reading.{read}
 use Rattle.cdf_model.specs.RecordSteps.{cannot_be_put, place_in_record, put_rec_step, put_record, put_val_step, with_record, with_value, without_records}
-use Rattle.cdf_model.specs.Step.{Route, ByStep, step}
-use Rattle.cdf_model.specs.Values.{notation_of, values_in}
-use Rattle.cdf_model.specs.VariableSteps.{are_bad_sizes, attribute_without, entries_without, has_records, is_bad_shape, is_empty_set, new_variable, set_pad_step, setup_step, var_step, with_variable, without_variable}
-use Rattle.cdf_edits.specs.Commands.Others.{is_on_attributes, is_on_variables}
-use Rattle.cdf_edits.specs.Follows.{only_reads}
+use Rattle.cdf_model.specs.Step.{Route}
+use Rattle.cdf_model.specs.Values.{values_in}
+use Rattle.cdf_model.specs.VariableSteps.{are_bad_sizes, entries_without, has_records, is_bad_shape, new_variable, set_pad_step, setup_step, var_step, with_variable, without_variable}
 
 -- ---- of the data set that an answer makes
 

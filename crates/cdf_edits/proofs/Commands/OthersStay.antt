@@ -1,34 +1,13 @@
 -- A command leaves the names and the places of the attributes and of the variables where it is not on them.
 use Rattle.std.proofs.Common.{◌≡◌, ℕ, List, [], ◌++◌, length, map, Bool, true, false, ◌&&◌, Option, Some, None, eq-eqb, refl, sym, ap, subst, ◌∙◌, inl, inr}
-use Rattle.std.proofs.lemmas.Bool.{and_parts, cases_Bool, eqb-true}
-use Rattle.std.proofs.lemmas.List.{length-map, nil_from_length}
-use Rattle.std.specs.Prelude.{◌==◌, if◌then◌else◌}
-use Rattle.cdf_model.specs.declared.command.Command.{Command}
+use Rattle.cdf_edits.proofs.Common.{and_parts, eqb-true, length-map, ◌==◌, if◌then◌else◌, Command, Majority, Kind, R, Z, DataSet, Variable, Found, variable_named, variables_of, is_empty_set, Only, Allowances, stays_all, shapes_of, r_max_rec_field, space_fields, entry_allowance, kind_of_entries, allowances, is_on_attributes, is_on_variables, put_changes, del_var_changes, entries_allowance, fields_beside, is_global_attribute, set_pad_changes, variables_gdr_fields, Follows, only_reads, next_field, content, attribute_of, variable_of, type_at, gdr_adr_head, adr_type, AttributeShape, VariableShape, Shape, HasShape, adrs, vdrs, shape, Good, good_is_sound, content_is}
+use Rattle.std.proofs.lemmas.Bool.{cases_Bool}
+use Rattle.std.proofs.lemmas.List.{nil_from_length}
 use Rattle.cdf_model.specs.declared.command.Command.TheVariants as commands
-use Rattle.cdf_model.specs.declared.head.Majority.{Majority}
-use Rattle.cdf_model.specs.declared.kinds.Kind.{Kind}
-use Rattle.cdf_model.specs.declared.kinds.Kind.TheVariants.{R, Z}
-use Rattle.cdf_model.specs.DataSet.{DataSet, Variable}
-use Rattle.cdf_model.specs.Names.{Found, variable_named, variables_of}
-use Rattle.cdf_model.specs.VariableSteps.{is_empty_set}
-use Rattle.cdf_edits.specs.Commands.Allowances.{Only, Allowances, stays_all, shapes_of, r_max_rec_field, space_fields}
 use Rattle.cdf_edits.specs.Commands.Cuts.{del_recs_changes, set_compress_changes, set_sparse_changes}
-use Rattle.cdf_edits.specs.Commands.EntryChains.{entry_allowance, kind_of_entries}
-use Rattle.cdf_edits.specs.Commands.Keeps.{allowances}
-use Rattle.cdf_edits.specs.Commands.Others.{is_on_attributes, is_on_variables, AttributesStay, VariablesStay}
-use Rattle.cdf_edits.specs.Commands.Puts.{put_changes}
+use Rattle.cdf_edits.specs.Commands.Others.{AttributesStay, VariablesStay}
 use Rattle.cdf_edits.specs.Commands.Reindex.{reindex_changes}
-use Rattle.cdf_edits.specs.Commands.Variables.{del_var_changes, entries_allowance, fields_beside, is_global_attribute, rename_var_changes, set_blocking_changes, set_pad_changes, variables_gdr_fields}
-use Rattle.cdf_edits.specs.Follows.{Follows, only_reads}
-use Rattle.cdf_format.specs.Chains.{next_field}
-use Rattle.cdf_format.specs.Content.{content, attribute_of, variable_of}
-use Rattle.cdf_format.specs.Fields.{type_at}
-use Rattle.cdf_format.specs.Records.{gdr_adr_head}
-use Rattle.cdf_format.specs.RecordTypes.{adr_type}
-use Rattle.cdf_format.specs.Shape.{AttributeShape, VariableShape, Shape, HasShape, adrs, vdrs, shape}
-use Rattle.cdf_format.specs.WellFormed.{Good}
-use Rattle.cdf_format.proofs.GoodSound.{good_is_sound}
-use Rattle.cdf_format.proofs.ShapeLemmas.{content_is}
+use Rattle.cdf_edits.specs.Commands.Variables.{rename_var_changes, set_blocking_changes}
 use Rattle.cdf_edits.proofs.Commands.ChainsStay.{spares, SparesAttributes, SparesVariables, adrs_stay, vdrs_stay}
 use Rattle.cdf_edits.proofs.Commands.OtherNames.{OfRoute, SameNames, SameVariables, same_names, same_variables, setup_attributes, setup_empty}
 

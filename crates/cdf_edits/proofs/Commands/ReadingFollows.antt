@@ -1,23 +1,9 @@
 -- A good image is good by its shape, and a command that only reads leaves it.
 use Rattle.std.proofs.Common.{◌≡◌, ℕ, List, [], ◌∷◌, map, true, refl, arith, inl, inr}
-use Rattle.cdf_model.specs.declared.answer.Reply.{Reply}
-use Rattle.cdf_model.specs.declared.command.Command.{Command}
+use Rattle.cdf_edits.proofs.Common.{Reply, Command, Go, ByStep, step, Allowance, Anything, Only, Keeps, Allowances, allowance, AllKeep, content, Does, allowances, Act, only_reads, Follows, Owner, owned, shape, In, Good, good_by_its_shape, good_is_sound}
 use Rattle.cdf_model.specs.declared.command.Command.TheVariants as commands
-use Rattle.cdf_model.specs.Answers.{Go}
-use Rattle.cdf_model.specs.Step.{ByStep, step}
-use Rattle.cdf_edits.specs.Commands.Allowances.{Allowance, Anything, Only, Keeps, Allowances, allowance, AllKeep}
-use Rattle.cdf_format.specs.Content.{content}
-use Rattle.cdf_edits.specs.Commands.Does.{Does}
-use Rattle.cdf_edits.specs.Commands.Keeps.{allowances}
-use Rattle.cdf_edits.specs.Space.Acts.{Act}
-use Rattle.cdf_edits.specs.Follows.{only_reads, Follows}
-use Rattle.cdf_format.specs.Owners.{Owner, owned}
-use Rattle.cdf_format.specs.Shape.{shape}
-use Rattle.cdf_format.specs.Tiles.{In}
-use Rattle.cdf_format.specs.WellFormed.{Good}
 use Rattle.cdf_edits.proofs.Space.ActsLeave.{no_acts}
 use Rattle.cdf_format.proofs.Owning.{owned_stand}
-use Rattle.cdf_format.proofs.GoodSound.{good_by_its_shape, good_is_sound}
 
 -- a record keeps itself, whatever may change
 keeps_itself : (b : List ℕ) (place : ℕ) (a : Allowance) → In place (shape b).records → Keeps b b place a

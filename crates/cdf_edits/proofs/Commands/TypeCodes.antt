@@ -1,9 +1,8 @@
 -- The codes of the types of values, as they are stored.
 use Rattle.std.proofs.Common.{◌≡◌, ◌^◌, ◌<◌, Some, refl, lit<}
-use Rattle.std.specs.Int.{w32, cast_signed}
-use Rattle.cdf_model.specs.declared.data_type.DataType.{DataType}
-use Rattle.cdf_model.specs.declared.data_type.DataType.TheVariants.{Int1, Int2, Int4, Int8, UInt1, UInt2, UInt4, Real4, Real8, Epoch, Epoch16, TimeTt2000, Byte, Float, Double, Char, UChar}
-use Rattle.cdf_model.specs.Types.{code_of, type_of}
+use Rattle.cdf_edits.proofs.Common.{w32, cast_signed, DataType, Byte, type_of}
+use Rattle.cdf_model.specs.declared.data_type.DataType.TheVariants.{Int1, Int2, Int4, Int8, UInt1, UInt2, UInt4, Real4, Real8, Epoch, Epoch16, TimeTt2000, Float, Double, Char, UChar}
+use Rattle.cdf_model.specs.Types.{code_of}
 
 -- a code means its type
 pub type_back : (t : DataType) → type_of (cast_signed w32 (code_of t)) ≡ Some t

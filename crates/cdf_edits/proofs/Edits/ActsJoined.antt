@@ -1,21 +1,9 @@
 -- Acts that follow from one image to another, and from there on to a third, follow from the first to the third, where they only take.
 use Rattle.std.proofs.Common.{◌≡◌, ◌⊎◌, ℕ, ◌+◌, ◌-◌, ◌<◌, ◌≤◌, List, [], ◌∷◌, ◌++◌, length, false, refl, sym, ap, subst, ◌∙◌, arith, inl, inr}
-use Rattle.std.proofs.lemmas.List.Sums.{fold-append}
-use Rattle.std.specs.List.{fold}
-use Rattle.std.specs.Prelude.{◌&&◌, nat_le, nat_lt}
+use Rattle.cdf_edits.proofs.Common.{fold-append, fold, ◌&&◌, nat_le, nat_lt, Stays, is_taken, Act, Took, Gave, SpaceLeft, HasLeft, sized, used_records, loose_records, space_before, after_act, AreActs, Happens, lies_in_taken, RestStays, ActsFollow, unused, place_for, linkable-in, tile_lies, tiles_lie_apart, byte, size_at, uir_next_uir, uir_prev_uir, uir_type, Each, HasShape, shape, In, Distinct}
 use Rattle.cdf_edits.proofs.Edits.ActsThen.{each_in}
 use Rattle.cdf_edits.proofs.Space.ActsLeave.{each, among_sized, no_rest}
-use Rattle.cdf_edits.specs.Commands.Allowances.{Stays, is_taken}
-use Rattle.cdf_edits.specs.Space.Acts.{Act, Took, Gave, Among, SpaceLeft, HasLeft, sized, used_records, loose_records, space_before, after_act, AreActs, Happens, lies_in_taken, RestStays, ActsFollow}
-use Rattle.cdf_edits.specs.Space.Placement.{unused, place_for}
-use Rattle.cdf_format.proofs.ChainsLemmas.{linkable-in}
-use Rattle.cdf_format.proofs.TilesLemmas.{tile_lies, tiles_lie_apart}
-use Rattle.cdf_format.specs.Bytes.{byte}
-use Rattle.cdf_format.specs.Fields.{size_at}
-use Rattle.cdf_format.specs.Records.{uir_next_uir, uir_prev_uir}
-use Rattle.cdf_format.specs.RecordTypes.{uir_type}
-use Rattle.cdf_format.specs.Shape.{Each, HasShape, shape}
-use Rattle.cdf_format.specs.Tiles.{In, Distinct}
+use Rattle.cdf_edits.specs.Space.Acts.{Among}
 use Rattle.cdf_edits.proofs.Edits.OnlyTaken.{OnlyTakes, none_of_both, AllApart, EndBefore, acts_origin, acts_outside, not_taken}
 
 -- ---- a space that has no more than another

@@ -1,26 +1,12 @@
 -- Acts that led to an image lead on to one that an edit makes of it which changes no unused record.
 use Rattle.std.proofs.Common.{◌≡◌, ◌≢◌, ℕ, ◌+◌, ◌≤◌, ◌<◌, List, [], length, true, sym, ap, subst, ◌∙◌, arith, inl, inr}
-use Rattle.std.proofs.lemmas.Bool.{eqb-true}
-use Rattle.std.specs.List.{fold}
-use Rattle.std.specs.Prelude.{◌==◌}
+use Rattle.cdf_edits.proofs.Common.{eqb-true, fold, ◌==◌, Edit, Mark, unmarked, Act, ActsFollow, SpaceLeft, RestStays, after_act, loose_records, sized, space_before, used_records, byte, size_at, type_at, record_size, record_type, uir_prev_uir, uir_type, HasShape, Each, shape, IsSound, In, number_kept, linkable-in, linkable-long, linkable-type, either}
 use Rattle.cdf_edits.proofs.Edits.ActsThen.{each_in}
 use Rattle.cdf_edits.proofs.Edits.Composing.{head_size, head_type}
 use Rattle.cdf_edits.proofs.Edits.EditActs.{differs}
 use Rattle.cdf_edits.proofs.Edits.RecordFrame.{kept}
 use Rattle.cdf_edits.proofs.Space.ActsLeave.{SameHeads, backs, backs_same, each, loose_if, loose_says, sizes_same, used_if, used_says}
-use Rattle.cdf_edits.specs.Edits.Edit.{Edit}
-use Rattle.cdf_edits.specs.Edits.Marks.{Mark, unmarked}
-use Rattle.cdf_edits.specs.Space.Acts.{Act, ActsFollow, Among, SpaceLeft, RestStays, after_act, loose_records, sized, space_before, used_records}
-use Rattle.cdf_format.specs.Bytes.{byte}
-use Rattle.cdf_format.specs.Fields.{size_at, type_at}
-use Rattle.cdf_format.specs.Records.{record_size, record_type, uir_prev_uir}
-use Rattle.cdf_format.specs.RecordTypes.{uir_type}
-use Rattle.cdf_format.specs.Shape.{HasShape, Each, shape}
-use Rattle.cdf_format.specs.Sound.{IsSound}
-use Rattle.cdf_format.specs.Tiles.{In}
-use Rattle.cdf_format.proofs.BytesLemmas.{number_kept}
-use Rattle.cdf_format.proofs.ChainsLemmas.{linkable-in, linkable-long, linkable-type}
-use Rattle.cdf_format.proofs.Members.{either}
+use Rattle.cdf_edits.specs.Space.Acts.{Among}
 
 module _ {b mid now : List ℕ} {acts : List Act} (h : HasShape mid (shape mid)) (before : ActsFollow b mid acts) (same : SameHeads mid now) (bytes : (m : ℕ) → In m (shape mid).unused → (i : ℕ) → m ≤ i → i < m + size_at mid m → byte now i ≡ byte mid i) where
   abbrev so_far : SpaceLeft

@@ -1,26 +1,12 @@
 -- Acts that follow, and then a record is freed, or some one after the other.
 use Rattle.std.proofs.Common.{◌≡◌, ◌≢◌, ◌⊎◌, ℕ, ◌+◌, ◌<◌, ◌≤◌, List, [], ◌∷◌, ◌++◌, map, Bool, true, false, eq-eqb, refl, sym, ap, ap₂, subst, ◌∙◌, arith, inl, inr, append-nil, append_assoc}
-use Rattle.std.proofs.lemmas.Bool.{cases_eq, ne_eqb, le-leb, lt-ltb}
-use Rattle.std.proofs.lemmas.List.Sums.{fold-append}
-use Rattle.std.specs.List.{fold, list_any}
-use Rattle.std.specs.Prelude.{◌&&◌, ◌||◌, nat_le, nat_lt, if◌then◌else◌}
-use Rattle.cdf_format.specs.Bytes.{Same}
-use Rattle.cdf_format.specs.Fields.{size_at, type_at}
-use Rattle.cdf_format.specs.RecordTypes.{gdr_type, uir_type}
-use Rattle.cdf_format.specs.Shape.{Each, HasShape, shape}
-use Rattle.cdf_format.specs.Sound.{IsSound}
-use Rattle.cdf_format.specs.Tiles.{In}
-use Rattle.cdf_format.proofs.ChainsLemmas.{is_a-type, linkable-in, linkable-type}
-use Rattle.cdf_edits.specs.Edits.Edit.{Edit}
-use Rattle.cdf_edits.specs.Edits.Marks.{Avoids, giving_marks}
-use Rattle.cdf_edits.specs.Space.Acts.{Act, Took, Gave, Among, SpaceLeft, HasLeft, sized, used_records, loose_records, space_before, back_after, taken, without, after_act, AreActs, Happens, lies_in_taken, RestStays, ActsFollow, gave}
-use Rattle.cdf_edits.specs.Space.Placement.{unused, given_to, giving, Gives}
+use Rattle.cdf_edits.proofs.Common.{cases_eq, ne_eqb, le-leb, lt-ltb, fold-append, fold, list_any, ◌&&◌, ◌||◌, nat_le, nat_lt, if◌then◌else◌, Same, size_at, type_at, gdr_type, uir_type, Each, HasShape, shape, IsSound, In, is_a-type, linkable-in, linkable-type, Edit, Avoids, giving_marks, Act, Took, Gave, SpaceLeft, HasLeft, sized, used_records, loose_records, space_before, back_after, taken, after_act, AreActs, Happens, lies_in_taken, RestStays, ActsFollow, gave, unused, given_to, giving, Gives, AllGiven}
+use Rattle.cdf_edits.specs.Space.Acts.{Among, without}
 use Rattle.cdf_edits.proofs.Edits.Composing.{sizes}
 use Rattle.cdf_edits.proofs.Edits.StepEdits.{gives_edit, all_marked}
 use Rattle.cdf_edits.proofs.Space.ActsLeave.{each, places-sized, used_says, used_if, loose_says, loose_if, backs_follow, no_rest}
 use Rattle.cdf_edits.proofs.Space.UsedRecords.{apart}
 use Rattle.cdf_edits.proofs.Edits.FreedRecords.{MayFree, still_free, sizes_stay}
-use Rattle.cdf_edits.specs.Space.Freeing.{AllGiven}
 use Rattle.cdf_edits.proofs.Edits.MarkLemmas.{the_one}
 
 pub each_in : (P : ℕ → Type 0) (xs : List ℕ) (m : ℕ) → Each P xs → In m xs → P m

@@ -1,24 +1,6 @@
 -- The chains of entries of an attribute of a good image, as calls ask for them.
 use Rattle.std.proofs.Common.{◌≡◌, ℕ, List, [], ◌∷◌, ◌++◌, length, true, refl, sym, ap, subst, ◌∙◌, inl, inr}
-use Rattle.std.specs.List.{flat_map}
-use Rattle.std.specs.Prelude.{nat_le}
-use Rattle.cdf_format.specs.AttributeRules.{same_name, entries_rows}
-use Rattle.cdf_format.specs.ChainRules.{differ_rows}
-use Rattle.cdf_format.specs.Chains.{is_a}
-use Rattle.cdf_format.specs.Fields.{number, size_at}
-use Rattle.cdf_format.specs.Records.{adr_name, adr_ngr_entries, adr_nz_entries}
-use Rattle.cdf_format.specs.RecordTypes.{adr_type}
-use Rattle.cdf_format.specs.Rules.{Hold}
-use Rattle.cdf_format.specs.Shape.{AttributeShape, Shape, adrs, shape}
-use Rattle.cdf_format.specs.Tiles.{In, tiles}
-use Rattle.cdf_format.specs.WellFormed.{Good}
-use Rattle.cdf_format.proofs.GoodByShape.{attribute_shape_rows}
-use Rattle.cdf_format.proofs.GoodSound.{good_by_its_shape, good_is_sound}
-use Rattle.cdf_format.proofs.RowLemmas.{Hold-split, flat_map-append}
-use Rattle.cdf_format.proofs.ShapeLemmas.{tiles_are}
-use Rattle.cdf_format.proofs.Tests.{both, eq_of}
-use Rattle.cdf_edits.specs.Space.Chains.{HasChain, counted_in, members_of}
-use Rattle.cdf_edits.specs.declared.chain.Chain.TheVariants.{GrEntries, ZEntries}
+use Rattle.cdf_edits.proofs.Common.{flat_map, nat_le, same_name, entries_rows, differ_rows, is_a, number, size_at, adr_name, adr_ngr_entries, adr_nz_entries, adr_type, Hold, AttributeShape, Shape, adrs, shape, In, tiles, Good, attribute_shape_rows, good_by_its_shape, good_is_sound, Hold-split, flat_map-append, tiles_are, both, eq_of, HasChain, counted_in, members_of, GrEntries, ZEntries}
 use Rattle.cdf_edits.proofs.Edits.ChainsOfShape.{IsOf, members_are, has_chain}
 use Rattle.cdf_edits.proofs.Edits.RemovedLives.{adrs_in}
 use Rattle.cdf_edits.proofs.Edits.Splice.{parts_there}

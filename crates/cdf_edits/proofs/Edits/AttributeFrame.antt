@@ -1,26 +1,8 @@
 -- Attributes that an edit leaves.
 use Rattle.std.proofs.Common.{◌≡◌, ℕ, List, [], ◌∷◌, ◌++◌, map, true, refl, sym, ap, subst, arith, inl, inr}
-use Rattle.std.specs.List.{flat_map}
-use Rattle.std.specs.Prelude.{◌&&◌}
-use Rattle.cdf_format.specs.Sound.{EntryFits, AttributeFits, IsSound}
-use Rattle.cdf_edits.specs.Frame.Leaves.{AttributeStays}
-use Rattle.cdf_format.specs.Chains.{is_in, is_linkable}
-use Rattle.cdf_format.specs.Fields.{number, size_at, type_at}
-use Rattle.cdf_format.proofs.GoodByShape.{attribute_shape_rows}
-use Rattle.cdf_format.specs.Owners.{attribute_records}
-use Rattle.cdf_format.specs.Records.{adr_num, adr_name}
-use Rattle.cdf_format.specs.RecordTypes.{adr_type, agr_edr_type, az_edr_type}
-use Rattle.cdf_format.specs.Rules.{Hold}
-use Rattle.cdf_format.specs.Shape.{AttributeShape, Shape, Each, HasEntries}
-use Rattle.cdf_format.specs.Tiles.{In}
-use Rattle.cdf_format.proofs.ChainsLemmas.{linkable-in, linkable-type}
+use Rattle.cdf_edits.proofs.Common.{flat_map, ◌&&◌, EntryFits, AttributeFits, IsSound, AttributeStays, is_in, is_linkable, number, size_at, type_at, attribute_shape_rows, attribute_records, adr_num, adr_name, adr_type, agr_edr_type, az_edr_type, Hold, AttributeShape, Shape, Each, HasEntries, In, linkable-in, linkable-type, In-append, In-append_left, In-append_right, names_at, Hold-append, Hold-split, both, Mark, Away, avoided, ended, all_unmarked, Edit}
 use Rattle.cdf_edits.proofs.Frame.Meaning.{FileSame, Kept, entry_fits_kept}
-use Rattle.cdf_format.proofs.Members.{In-append, In-append_left, In-append_right}
-use Rattle.cdf_format.proofs.NameRules.{names_at}
-use Rattle.cdf_format.proofs.RowLemmas.{Hold-append, Hold-split}
-use Rattle.cdf_format.proofs.Tests.{both}
-use Rattle.cdf_edits.specs.Edits.Marks.{Mark, Away, avoided, ended, all_unmarked, keeps_attributes}
-use Rattle.cdf_edits.specs.Edits.Edit.{Edit}
+use Rattle.cdf_edits.specs.Edits.Marks.{keeps_attributes}
 use Rattle.cdf_edits.proofs.Edits.RecordFrame.{AttributeLives, kept_away, kept_but_link, adr_field, adr_named, attribute_stays, attribute_rules}
 use Rattle.cdf_edits.proofs.Edits.MarkLemmas.{avoided-avoids, ended-avoids, away-avoids, all_unmarked-away}
 

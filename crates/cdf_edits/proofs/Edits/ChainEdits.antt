@@ -1,17 +1,6 @@
 -- What a call leaves that links a record behind a chain, takes a member out of it or puts another in its place: each is an edit.
 use Rattle.std.proofs.Common.{◌≡◌, ℕ, ◌+◌, ◌≤◌, List, [], subst, arith}
-use Rattle.cdf_format.specs.Chains.{IsChain}
-use Rattle.cdf_format.specs.Fields.{number, size_at}
-use Rattle.cdf_format.specs.RecordTypes.{fixed_size}
-use Rattle.cdf_format.specs.Shape.{Shape, HasShape, shape}
-use Rattle.cdf_format.specs.Sound.{IsSound}
-use Rattle.cdf_format.specs.Tiles.{In, tiles}
-use Rattle.cdf_format.proofs.ChainsLemmas.{is_a-in, is_a-type, linkable-in, linkable-type, linkable-long}
-use Rattle.cdf_format.proofs.ShapeLemmas.{tiles_are}
-use Rattle.cdf_edits.specs.declared.chain.Chain.{Chain}
-use Rattle.cdf_edits.specs.Edits.Edit.{Edit}
-use Rattle.cdf_edits.specs.Edits.Marks.{append_marks, removing_marks, replacing_marks}
-use Rattle.cdf_edits.specs.Space.Chains.{holder_of, head_of, holder_type, type_in, members_of, HolderStands, HasChain, MayJoin, Appended, Removed, Replaced}
+use Rattle.cdf_edits.proofs.Common.{IsChain, number, size_at, fixed_size, Shape, HasShape, shape, IsSound, In, tiles, is_a-in, is_a-type, linkable-in, linkable-type, linkable-long, tiles_are, Chain, Edit, append_marks, removing_marks, replacing_marks, holder_of, head_of, holder_type, type_in, members_of, HolderStands, HasChain, MayJoin, Appended, Removed, Replaced}
 use Rattle.cdf_edits.proofs.Edits.StepEdits.{Linked, Joins, append_edit, remove_edit, replace_edit}
 use Rattle.cdf_edits.proofs.Space.ChainHeads.{long_of, holder_stands, head_fits, head_width}
 

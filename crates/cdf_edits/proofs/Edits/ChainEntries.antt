@@ -1,31 +1,8 @@
 -- Entries of a chain: what of them stays where their bytes do, that their numbers differ, and what they mean where one is added to the chain, replaced in it, or goes.
 use Rattle.std.proofs.Common.{◌≡◌, ◌≢◌, ℕ, ℤ, ◌+◌, ◌*◌, ◌≤◌, List, [], ◌∷◌, ◌++◌, map, Bool, true, false, not, is_some, ◌&&◌, ◌||◌, eq-eqb, refl, sym, ap, ap₂, subst, ◌∙◌, append_assoc, append-nil, arith, inl, inr}
-use Rattle.std.proofs.lemmas.Bool.{cases_eq, ne_eqb}
-use Rattle.std.proofs.lemmas.List.{map-append}
-use Rattle.std.specs.List.{list_any}
-use Rattle.std.specs.Option.{unwrap_or}
-use Rattle.std.specs.Prelude.{◌==◌, nat_le}
-use Rattle.cdf_model.specs.declared.data_type.DataType.{DataType}
-use Rattle.cdf_model.specs.declared.data_type.DataType.TheVariants.{Byte}
-use Rattle.cdf_model.specs.ByteOrder.{turned}
-use Rattle.cdf_model.specs.DataSet.{Entry}
-use Rattle.cdf_model.specs.Limits.{record_number_limit}
-use Rattle.cdf_model.specs.Numbered.{with_item, without}
-use Rattle.cdf_model.specs.Place.{record_limit}
-use Rattle.cdf_model.specs.Types.{size_of, type_of}
-use Rattle.cdf_format.specs.AttributeRules.{entry_bytes, has_value, entry_rows, same_number}
-use Rattle.cdf_format.specs.ChainRules.{differ_rows}
-use Rattle.cdf_format.specs.Chains.{is_in}
-use Rattle.cdf_format.specs.Content.{entry_of, entries_of}
-use Rattle.cdf_format.specs.Fields.{is_positive, number, size_at}
-use Rattle.cdf_format.specs.Records.{adr_num, aedr_attr_num, aedr_data_type, aedr_num, aedr_num_elems, aedr_value}
-use Rattle.cdf_format.specs.Rules.{row, Hold}
-use Rattle.cdf_format.specs.Sound.{EntryFits}
-use Rattle.cdf_format.specs.Stored.{field_bytes, is_little, data_type_in}
-use Rattle.cdf_format.specs.Tiles.{In, Distinct}
-use Rattle.cdf_format.proofs.Members.{Distinct-push, Distinct-middle, is_in-true, is_in-false}
-use Rattle.cdf_format.proofs.Tests.{not_false}
-use Rattle.cdf_edits.specs.Space.Chains.{with_in_place, without as left_of}
+use Rattle.cdf_edits.proofs.Common.{cases_eq, ne_eqb, map-append, list_any, unwrap_or, ◌==◌, nat_le, DataType, Byte, turned, Entry, record_number_limit, with_item, without, record_limit, size_of, type_of, entry_bytes, has_value, entry_rows, same_number, differ_rows, is_in, entry_of, is_positive, number, size_at, adr_num, aedr_attr_num, aedr_data_type, aedr_num, aedr_num_elems, aedr_value, row, Hold, EntryFits, field_bytes, is_little, data_type_in, In, Distinct, Distinct-push, Distinct-middle, is_in-true, is_in-false, not_false, with_in_place}
+use Rattle.cdf_format.specs.Content.{entries_of}
+use Rattle.cdf_edits.specs.Space.Chains.{without as left_of}
 use Rattle.cdf_edits.proofs.Edits.NumberedItems.{Rising, rising_with, items_swap, item_again, item_gone, item_stays}
 use Rattle.cdf_edits.proofs.Frame.Meaning.{FileSame, KeptButLink, late_size, late_number, late_integer, late_bytes}
 

@@ -1,24 +1,8 @@
 -- What is said of a chain of entries after a command on one of them: where the entry of a number stands, the chain, and the greatest numbers.
 use Rattle.std.proofs.Common.{◌≡◌, ℕ, List, [], ◌∷◌, true, false, Option, Some, None, find, eq-eqb, refl, sym, ap, subst, ◌∙◌, inl, inr}
-use Rattle.std.proofs.lemmas.Bool.{cases_eq, eqb-true, ne_eqb}
-use Rattle.std.specs.Int.{w32, cast_signed}
-use Rattle.std.specs.List.{flat_map, slice_get}
-use Rattle.std.specs.Option.{unwrap_or}
-use Rattle.std.specs.Prelude.{◌==◌, if◌then◌else◌}
-use Rattle.cdf_model.specs.declared.kinds.EntryKind.{EntryKind}
+use Rattle.cdf_edits.proofs.Common.{cases_eq, eqb-true, ne_eqb, w32, cast_signed, flat_map, slice_get, unwrap_or, ◌==◌, if◌then◌else◌, EntryKind, entries_of, Attribute, attribute_named, content, attribute_of, number, integer4, aedr_num, AttributeShape, shape, In, Distinct, chain_of, max_field, greatest_number, share_chain, GreatestIs, is_attribute, OfAttribute, with_chain, with_in_place}
 use Rattle.cdf_model.specs.declared.kinds.EntryKind.TheVariants as entries
-use Rattle.cdf_model.specs.AttributeSteps.{entries_of}
-use Rattle.cdf_model.specs.DataSet.{Attribute}
-use Rattle.cdf_model.specs.Names.{attribute_named}
-use Rattle.cdf_format.specs.Content.{content, attribute_of}
-use Rattle.cdf_format.specs.Fields.{number, integer4}
-use Rattle.cdf_format.specs.Records.{aedr_num}
-use Rattle.cdf_format.specs.Shape.{AttributeShape, shape}
-use Rattle.cdf_format.specs.Tiles.{In, Distinct}
-use Rattle.cdf_edits.specs.Commands.EntryChains.{chain_of, max_field, greatest_number, share_chain, GreatestIs}
-use Rattle.cdf_edits.specs.Commands.Named.{is_attribute, OfAttribute}
-use Rattle.cdf_edits.specs.Edits.EntryMarks.{with_chain}
-use Rattle.cdf_edits.specs.Space.Chains.{with_in_place, without}
+use Rattle.cdf_edits.specs.Space.Chains.{without}
 use Rattle.cdf_edits.proofs.Edits.ChainEntries.{nums, num_in}
 use Rattle.cdf_edits.proofs.Edits.ChainKinds.{other_max}
 

@@ -1,26 +1,7 @@
 -- What a command on an entry may change of records, where one chain of an attribute is another.
 use Rattle.std.proofs.Common.{◌≡◌, ℕ, ◌+◌, List, [], ◌∷◌, length, Bool, true, false, eq-eqb, refl, sym, ap, subst, ◌∙◌, arith, inl, inr}
-use Rattle.std.specs.Prelude.{◌==◌, if◌then◌else◌}
-use Rattle.cdf_model.specs.declared.kinds.EntryKind.{EntryKind}
+use Rattle.cdf_edits.proofs.Common.{◌==◌, if◌then◌else◌, EntryKind, next_field, content, number, type_at, OneAttribute, Unused, attribute_records, owned, owned_by, unused_records, Field, aedr_num, cdr_type, gdr_type, adr_type, AttributeShape, Shape, shape, IsSound, In, is_a-in, is_a-type, linkable-in, linkable-type, either, In-append, both, Allowances, Anything, Only, Keeps, AllKeep, space_fields, entry_changes, chain_of, chain_fields, entry_allowance, entry_type, is_attribute, Mark, unmarked, within, Act}
 use Rattle.cdf_model.specs.declared.kinds.EntryKind.TheVariants as entries
-use Rattle.cdf_format.specs.Chains.{next_field}
-use Rattle.cdf_format.specs.Content.{content}
-use Rattle.cdf_format.specs.Fields.{number, type_at}
-use Rattle.cdf_format.specs.Owners.{OneAttribute, Unused, attribute_records, owned, owned_by, unused_records}
-use Rattle.cdf_format.specs.Records.{Field, aedr_num}
-use Rattle.cdf_format.specs.RecordTypes.{cdr_type, gdr_type, adr_type}
-use Rattle.cdf_format.specs.Shape.{AttributeShape, Shape, shape}
-use Rattle.cdf_format.specs.Sound.{IsSound}
-use Rattle.cdf_format.specs.Tiles.{In}
-use Rattle.cdf_format.proofs.ChainsLemmas.{is_a-in, is_a-type, linkable-in, linkable-type}
-use Rattle.cdf_format.proofs.Members.{either, In-append}
-use Rattle.cdf_format.proofs.Tests.{both}
-use Rattle.cdf_edits.specs.Commands.Allowances.{Allowances, Anything, Only, Keeps, AllKeep, space_fields}
-use Rattle.cdf_edits.specs.Commands.Entries.{entry_changes}
-use Rattle.cdf_edits.specs.Commands.EntryChains.{chain_of, chain_fields, entry_allowance, entry_type}
-use Rattle.cdf_edits.specs.Commands.Named.{is_attribute}
-use Rattle.cdf_edits.specs.Edits.Marks.{Mark, unmarked, within}
-use Rattle.cdf_edits.specs.Space.Acts.{Act}
 use Rattle.cdf_edits.proofs.Commands.KeptRecords.{AllKeep-append, keeps_stood, keep_attributes}
 use Rattle.cdf_edits.proofs.Edits.ChainKinds.{other_of, other_type, chain_has, other_has}
 use Rattle.cdf_edits.proofs.Edits.ChainSpliced.{Rechains, adr_in, adr_typed, adr_start, there, clear_file, other_kept, before_in, after_in, before_away, after_away, splices, now_is}

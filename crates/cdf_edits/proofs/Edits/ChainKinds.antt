@@ -1,30 +1,9 @@
 -- The two chains of entries of an attribute, by the kind of entries: the one of the kind, and the other.
 use Rattle.std.proofs.Common.{◌≡◌, ℕ, ◌+◌, ◌≤◌, List, [], ◌∷◌, ◌++◌, Bool, true, refl, ap, ◌∙◌, arith, inl, inr}
-use Rattle.std.specs.List.{flat_map}
-use Rattle.std.specs.Prelude.{◌&&◌}
-use Rattle.cdf_model.specs.declared.kinds.EntryKind.{EntryKind}
+use Rattle.cdf_edits.proofs.Common.{flat_map, ◌&&◌, EntryKind, with_entries, Entry, adr_rows, entries_rows, IsChain, is_in, attribute_of, scope_of, number, name_in, type_at, attribute_shape_rows, attribute_records, Field, adr_agr_edr_head, adr_az_edr_head, adr_ngr_entries, adr_nz_entries, adr_scope, adr_name, adr_type, agr_edr_type, az_edr_type, Hold, AttributeShape, Each, HasEntries, AttributeFits, EntryFits, In, linkable-type, In-append, In-append_left, In-append_right, Hold-append, Hold-split, both, chain_of, entry_type, head_field, count_field, with_chain, keeps_other, Mark, avoided, unmarked, attribute_types}
 use Rattle.cdf_model.specs.declared.kinds.EntryKind.TheVariants as entries
-use Rattle.cdf_model.specs.AttributeSteps.{with_entries}
-use Rattle.cdf_model.specs.DataSet.{Entry}
-use Rattle.cdf_format.specs.AttributeRules.{adr_rows, entries_rows}
-use Rattle.cdf_format.specs.Chains.{IsChain, is_in}
-use Rattle.cdf_format.specs.Content.{attribute_of, entries_of, scope_of}
-use Rattle.cdf_format.specs.Fields.{number, name_in, type_at}
-use Rattle.cdf_format.proofs.GoodByShape.{attribute_shape_rows}
-use Rattle.cdf_format.specs.Owners.{attribute_records}
-use Rattle.cdf_format.specs.Records.{Field, adr_agr_edr_head, adr_az_edr_head, adr_ngr_entries, adr_nz_entries, adr_scope, adr_name, adr_max_gr_entry, adr_max_z_entry}
-use Rattle.cdf_format.specs.RecordTypes.{adr_type, agr_edr_type, az_edr_type}
-use Rattle.cdf_format.specs.Rules.{Hold}
-use Rattle.cdf_format.specs.Shape.{AttributeShape, Each, HasEntries}
-use Rattle.cdf_format.specs.Sound.{AttributeFits, EntryFits}
-use Rattle.cdf_format.specs.Tiles.{In}
-use Rattle.cdf_format.proofs.ChainsLemmas.{linkable-type}
-use Rattle.cdf_format.proofs.Members.{In-append, In-append_left, In-append_right}
-use Rattle.cdf_format.proofs.RowLemmas.{Hold-append, Hold-split}
-use Rattle.cdf_format.proofs.Tests.{both}
-use Rattle.cdf_edits.specs.Commands.EntryChains.{chain_of, entry_type}
-use Rattle.cdf_edits.specs.Edits.EntryMarks.{head_field, count_field, with_chain, keeps_other}
-use Rattle.cdf_edits.specs.Edits.Marks.{Mark, avoided, unmarked, attribute_types}
+use Rattle.cdf_format.specs.Content.{entries_of}
+use Rattle.cdf_format.specs.Records.{adr_max_gr_entry, adr_max_z_entry}
 use Rattle.cdf_edits.proofs.Edits.AttributeFrame.{AreThere, more_there}
 
 -- the other chain of an attribute, where its head stands and its count, and what type its entries have

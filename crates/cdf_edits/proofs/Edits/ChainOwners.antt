@@ -1,22 +1,8 @@
 -- Who owns the records of an image where the entries of one attribute have come to be others.
 use Rattle.std.proofs.Common.{◌≡◌, ◌≢◌, ◌⊎◌, ℕ, ◌+◌, ◌≤◌, List, [], ◌∷◌, ◌++◌, length, eqb, eq-eqb, refl, sym, ap, subst, ◌∙◌, append-nil, arith, inl, inr}
-use Rattle.std.proofs.lemmas.Bool.{cases_eq, ne_eqb}
-use Rattle.cdf_model.specs.declared.kinds.EntryKind.{EntryKind}
+use Rattle.cdf_edits.proofs.Common.{cases_eq, ne_eqb, EntryKind, is_in, type_at, attribute_records, unused_records, times, owned_records, uir_type, AttributeShape, Shape, IsSound, In, AreTiles, Distinct, either, true-is_in, false-is_in, times-none, times-once, filter-in, chain_of, Edit, with_chain, Mark, with_in_place}
 use Rattle.cdf_model.specs.declared.kinds.EntryKind.TheVariants as entries
-use Rattle.cdf_format.specs.Chains.{is_in}
-use Rattle.cdf_format.specs.Fields.{type_at}
-use Rattle.cdf_format.specs.Owners.{attribute_records, unused_records, times, owned_records}
-use Rattle.cdf_format.specs.RecordTypes.{uir_type}
-use Rattle.cdf_format.specs.Shape.{AttributeShape, Shape}
-use Rattle.cdf_format.specs.Sound.{IsSound}
-use Rattle.cdf_format.specs.Tiles.{In, AreTiles, Distinct}
-use Rattle.cdf_format.proofs.Members.{either, true-is_in, false-is_in}
-use Rattle.cdf_format.proofs.Owning.{times-none, times-once, filter-in}
-use Rattle.cdf_edits.specs.Commands.EntryChains.{chain_of}
-use Rattle.cdf_edits.specs.Edits.Edit.{Edit}
-use Rattle.cdf_edits.specs.Edits.EntryMarks.{with_chain}
-use Rattle.cdf_edits.specs.Edits.Marks.{Mark}
-use Rattle.cdf_edits.specs.Space.Chains.{with_in_place, without}
+use Rattle.cdf_edits.specs.Space.Chains.{without}
 use Rattle.cdf_edits.proofs.Edits.OwnedOnce.{used_times, unused_none, unused_once, outside_unowned, unused_unowned, spliced_times}
 use Rattle.cdf_edits.proofs.Edits.Splice.{spliced}
 use Rattle.cdf_edits.proofs.Frame.OwnersApart.{file_records, all_attribute_records, all_variable_records, owned-times, times-append, times-in}

@@ -1,38 +1,8 @@
 -- An edit after which one chain of entries of an attribute is another: the image has its shape and its content, and keeps the rules if the chain does.
 use Rattle.std.proofs.Common.{◌≡◌, ℕ, ◌+◌, ◌≤◌, List, [], ◌∷◌, ◌++◌, length, map, true, not, refl, sym, ap, subst, ◌∙◌, arith, inl, inr}
-use Rattle.std.proofs.lemmas.List.{map-append}
-use Rattle.std.specs.List.{before_first, flat_map}
-use Rattle.std.specs.Prelude.{◌==◌, ◌&&◌, nat_le}
-use Rattle.cdf_model.specs.declared.kinds.EntryKind.{EntryKind}
-use Rattle.cdf_model.specs.AttributeSteps.{with_attribute, with_entries}
-use Rattle.cdf_model.specs.DataSet.{Entry}
-use Rattle.cdf_format.specs.AttributeRules.{same_name, adr_rows, entries_rows}
-use Rattle.cdf_format.specs.ChainRules.{differ_rows}
-use Rattle.cdf_format.specs.Chains.{IsChain, is_in}
-use Rattle.cdf_format.specs.Content.{attribute_of, content, entries_of}
-use Rattle.cdf_format.specs.Fields.{number, name_in, size_at, type_at}
-use Rattle.cdf_format.proofs.GoodByShape.{IsGoodByShape, attribute_shape_rows}
-use Rattle.cdf_format.specs.NotRead.{read_types}
-use Rattle.cdf_format.specs.Owners.{attribute_records, times}
-use Rattle.cdf_format.specs.Records.{Field, gdr_adr_head, gdr_uir_head, adr_num, adr_scope, adr_name}
-use Rattle.cdf_format.specs.RecordTypes.{gdr_type, adr_type, uir_type, is_record_type, fixed_size}
-use Rattle.cdf_format.specs.Rules.{row, Hold}
-use Rattle.cdf_format.specs.Shape.{AttributeShape, Shape, adrs, Each, HasShape, shape}
-use Rattle.cdf_format.specs.Sound.{EntryFits, IsSound}
-use Rattle.cdf_format.specs.Tiles.{In}
-use Rattle.cdf_format.specs.Bytes.{Same}
-use Rattle.cdf_format.proofs.BytesLemmas.{word_kept, piece_kept}
-use Rattle.cdf_format.proofs.ChainsLemmas.{linkable-in, linkable-type}
-use Rattle.cdf_format.proofs.Members.{In-append}
-use Rattle.cdf_format.proofs.NameRules.{AreNew, names_at, names_differ, differ_by_names}
-use Rattle.cdf_format.proofs.RowLemmas.{Hold-append, Hold-split, flat_map-append}
-use Rattle.cdf_format.proofs.ShapeLemmas.{shape_is}
-use Rattle.cdf_format.proofs.Tests.{both}
-use Rattle.cdf_format.proofs.TilesLemmas.{tile_lies}
-use Rattle.cdf_edits.specs.Commands.EntryChains.{chain_of, entry_type}
-use Rattle.cdf_edits.specs.Edits.Edit.{Edit}
-use Rattle.cdf_edits.specs.Edits.EntryMarks.{head_field, count_field, with_chain, keeps_other, keeps_adr, keeps_but_chain}
-use Rattle.cdf_edits.specs.Edits.Marks.{Mark, Avoids, Away, avoided, keeps_file, keeps_variables, Confined, attribute_types}
+use Rattle.cdf_edits.proofs.Common.{map-append, before_first, flat_map, ◌==◌, ◌&&◌, nat_le, EntryKind, with_attribute, with_entries, Entry, same_name, adr_rows, entries_rows, differ_rows, IsChain, is_in, attribute_of, content, number, name_in, size_at, type_at, IsGoodByShape, attribute_shape_rows, read_types, attribute_records, times, Field, gdr_adr_head, gdr_uir_head, adr_num, adr_scope, adr_name, gdr_type, adr_type, uir_type, is_record_type, fixed_size, row, Hold, AttributeShape, Shape, adrs, Each, HasShape, shape, EntryFits, IsSound, In, Same, word_kept, piece_kept, linkable-in, linkable-type, In-append, AreNew, names_at, names_differ, differ_by_names, Hold-append, Hold-split, flat_map-append, shape_is, both, tile_lies, chain_of, entry_type, Edit, head_field, count_field, with_chain, keeps_other, keeps_but_chain, Mark, Avoids, Away, avoided, keeps_file, keeps_variables, Confined, attribute_types}
+use Rattle.cdf_format.specs.Content.{entries_of}
+use Rattle.cdf_edits.specs.Edits.EntryMarks.{keeps_adr}
 use Rattle.cdf_edits.proofs.Edits.AttributeFrame.{AreThere, lives_away}
 use Rattle.cdf_edits.proofs.Edits.ChainEntries.{EntryLives, entry_lives}
 use Rattle.cdf_edits.proofs.Edits.ChainOwners.{Trades, rechained, traded, IsHeld, not_twice_kept}

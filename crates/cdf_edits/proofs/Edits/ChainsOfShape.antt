@@ -1,19 +1,12 @@
 -- The chains of an image with a shape as calls speak of them; a record that joined one, one that went, and one that took the place of another.
 use Rattle.std.proofs.Common.{◌≡◌, ℕ, ◌<◌, ◌≤◌, ◌^◌, List, [], ◌∷◌, ◌++◌, length, true, false, sym, ap, subst, ◌∙◌, arith}
-use Rattle.cdf_model.specs.Limits.{image_limit}
-use Rattle.cdf_edits.specs.Frame.Changed.{Touch, touched_field, Changed}
-use Rattle.cdf_format.specs.Chains.{next_field, is_in, is_linkable, IsChain, chain}
-use Rattle.cdf_format.specs.Fields.{number, size_at, type_at}
-use Rattle.cdf_format.specs.Shape.{Shape, HasShape}
-use Rattle.cdf_format.specs.Tiles.{In, AreTiles, tiles}
+use Rattle.cdf_edits.proofs.Common.{image_limit, Touch, touched_field, Changed, next_field, is_in, is_linkable, IsChain, number, size_at, type_at, Shape, HasShape, In, AreTiles, tiles, linkable-from, linkable-in, is_in-false, is_in-true, tiles_are, Chain, Lists, holder_of, head_of, counted_in, type_in, members_of, HasChain, HolderStands, MayJoin, link_behind, before, with_in_place, Appended, Removed, Replaced}
+use Rattle.cdf_format.specs.Chains.{chain}
 use Rattle.cdf_format.specs.Walks.{records_of}
-use Rattle.cdf_format.proofs.ChainsLemmas.{linkable-from, linkable-in, chain_complete}
-use Rattle.cdf_format.proofs.Members.{is_in-false, is_in-true, length-le_from_distinct}
-use Rattle.cdf_format.proofs.ShapeLemmas.{tiles_are}
+use Rattle.cdf_format.proofs.ChainsLemmas.{chain_complete}
+use Rattle.cdf_format.proofs.Members.{length-le_from_distinct}
 use Rattle.cdf_format.proofs.TilesLemmas.{length_tiles, tiling_complete}
-use Rattle.cdf_edits.specs.declared.chain.Chain.{Chain}
-use Rattle.cdf_edits.specs.Space.TakingOut.{Lists}
-use Rattle.cdf_edits.specs.Space.Chains.{holder_of, head_of, counted_in, type_in, members_of, HasChain, HolderStands, MayJoin, link_behind, before, without, with_in_place, Appended, Removed, Replaced}
+use Rattle.cdf_edits.specs.Space.Chains.{without}
 
 -- a chain of the image: where the record stands that has its head, and its members
 pub record IsOf (b : List ℕ) (s : Shape) (c : Chain) (holder : ℕ) (ms : List ℕ) : Type 0 where

@@ -1,50 +1,9 @@
 -- `checksum` writes two bits of Flags: the image is good as before, and its data set says whether a checksum is in use.
 use Rattle.std.proofs.Common.{◌≡◌, ◌≢◌, ℕ, ◌+◌, ◌*◌, ◌/◌, ◌%◌, ◌≤◌, List, [], ◌∷◌, ◌++◌, length, Bool, true, false, not, ◌||◌, refl, sym, ap, subst, ◌∙◌, arith, inl, inr}
-use Rattle.std.proofs.lemmas.Bool.{cases_lt}
-use Rattle.std.specs.Int.{w32, cast_signed}
-use Rattle.std.specs.List.{flat_map}
-use Rattle.std.specs.Prelude.{◌==◌, if◌then◌else◌}
+use Rattle.cdf_edits.proofs.Common.{cases_lt, w32, cast_signed, flat_map, ◌==◌, if◌then◌else◌, Go, DataSet, image_limit, ByStep, same_name, Same, adrs_rows, r_vdrs_rows, z_vdrs_rows, differ_rows, is_in, linked_types, content, content_of, majority_of, number, has_bit, size_at, type_at, gdr_offset, flags, r_num_dims, r_sizes, read_types, unread_type, Unused, unused_records, owned, first_phases, Field, cdr_flags, gdr_eof, gdr_num_attr, gdr_nr_vars, gdr_nz_vars, adr_name, adr_num, vdr_num, cdr_type, gdr_type, row, Hold, AllHold, sealed, Shape, adrs, vdrs, variables, Each, HasShape, shape, IsSound, In, Good, Same-part, number_kept, word_kept, is_a-in, is_a-type, IsGoodByShape, attribute_shape_rows, vdrs_append, good_by_its_shape, good_is_sound, rules_of_good, In-append_left, In-append_right, AreNew, names_differ, differ_by_names, Hold-append, Hold-member, Hold-members, Hold-split, good_long, sealed_keeps, sealed_kept, Each-split, content_is, shape_is, AllKeep, Only, Allowances, with_bits, Edit, Mark, field_marks, Follows, touched_field, Changed, ChangedWithin, Leaves, LeavesFinding, VariableStays}
 use Rattle.cdf_model.specs.declared.answer.Reply.TheVariants as replies
 use Rattle.cdf_model.specs.declared.command.Command.TheVariants as commands
-use Rattle.cdf_model.specs.Answers.{Go}
-use Rattle.cdf_model.specs.DataSet.{DataSet}
-use Rattle.cdf_model.specs.Limits.{image_limit}
-use Rattle.cdf_model.specs.Step.{ByStep}
-use Rattle.cdf_format.specs.AttributeRules.{same_name}
-use Rattle.cdf_format.specs.Bytes.{Same}
-use Rattle.cdf_format.specs.ChainRules.{adrs_rows, r_vdrs_rows, z_vdrs_rows, differ_rows}
-use Rattle.cdf_format.specs.Chains.{is_in, linked_types}
-use Rattle.cdf_format.specs.Content.{content, content_of, majority_of}
-use Rattle.cdf_format.specs.Fields.{number, has_bit, size_at, type_at, gdr_offset, flags, r_num_dims, r_sizes}
-use Rattle.cdf_format.specs.NotRead.{read_types, unread_type}
-use Rattle.cdf_format.specs.Owners.{Unused, unused_records, owned}
-use Rattle.cdf_format.specs.Phases.{first_phases}
-use Rattle.cdf_format.specs.Records.{Field, cdr_flags, gdr_eof, gdr_num_attr, gdr_nr_vars, gdr_nz_vars, adr_name, adr_num, vdr_num}
-use Rattle.cdf_format.specs.RecordTypes.{cdr_type, gdr_type}
-use Rattle.cdf_format.specs.Rules.{row, Hold, AllHold}
-use Rattle.cdf_format.specs.Sealed.{sealed}
-use Rattle.cdf_format.specs.Shape.{Shape, adrs, vdrs, variables, Each, HasShape, shape}
-use Rattle.cdf_format.specs.Sound.{IsSound}
-use Rattle.cdf_format.specs.Tiles.{In}
-use Rattle.cdf_format.specs.WellFormed.{Good}
-use Rattle.cdf_format.proofs.BytesLemmas.{Same-part, number_kept, word_kept}
-use Rattle.cdf_format.proofs.ChainsLemmas.{is_a-in, is_a-type}
-use Rattle.cdf_format.proofs.GoodByShape.{IsGoodByShape, attribute_shape_rows}
-use Rattle.cdf_format.proofs.GoodImageLemmas.{vdrs_append}
-use Rattle.cdf_format.proofs.GoodSound.{good_by_its_shape, good_is_sound, rules_of_good}
-use Rattle.cdf_format.proofs.Members.{In-append_left, In-append_right}
-use Rattle.cdf_format.proofs.NameRules.{AreNew, names_differ, differ_by_names}
-use Rattle.cdf_format.proofs.RowLemmas.{Hold-append, Hold-member, Hold-members, Hold-split}
-use Rattle.cdf_format.proofs.SealedRules.{good_long, sealed_keeps, sealed_kept}
-use Rattle.cdf_format.proofs.ShapeLemmas.{Each-split, content_is, shape_is}
-use Rattle.cdf_edits.specs.Commands.Allowances.{AllKeep, Only, Allowances}
-use Rattle.cdf_edits.specs.Commands.NewRecords.{with_bits}
 use Rattle.cdf_edits.specs.Commands.Setup.{checksum_changes}
-use Rattle.cdf_edits.specs.Edits.Edit.{Edit}
-use Rattle.cdf_edits.specs.Edits.Marks.{Mark, field_marks}
-use Rattle.cdf_edits.specs.Follows.{Follows}
-use Rattle.cdf_edits.specs.Frame.Changed.{touched_field, Changed}
-use Rattle.cdf_edits.specs.Frame.Leaves.{ChangedWithin, Leaves, LeavesFinding, VariableStays}
 use Rattle.cdf_edits.proofs.Commands.KeptRecords.{Stood, keep_attributes, keep_owned, keeps_stood}
 use Rattle.cdf_edits.proofs.Edits.AttributeFrame.{AreThere, lives_clear, all_rules, names_stay, nums_stay}
 use Rattle.cdf_edits.proofs.Edits.EditActs.{acts_none}

@@ -1,19 +1,9 @@
 -- Edits, and what each step of a command is as an edit.
 use Rattle.std.proofs.Common.{◌≡◌, ◌≢◌, ℕ, ◌+◌, ◌<◌, ◌≤◌, List, [], ◌∷◌, ◌++◌, length, sym, subst, ◌∙◌, arith, inl, inr}
-use Rattle.cdf_format.specs.Bytes.{Same}
-use Rattle.cdf_edits.specs.Frame.Changed.{Touch, Outside, Changed, Placed, Misses}
-use Rattle.cdf_format.specs.Fields.{size_at, type_at}
-use Rattle.cdf_format.specs.Shape.{Each}
-use Rattle.cdf_format.specs.RecordTypes.{uir_type}
-use Rattle.cdf_format.specs.Tiles.{In, AreTiles}
-use Rattle.cdf_format.proofs.BytesLemmas.{word_kept}
+use Rattle.cdf_edits.proofs.Common.{Same, Touch, Outside, Changed, Placed, Misses, size_at, type_at, Each, uir_type, In, AreTiles, word_kept, either, In-append_left, In-append_right, true-is_in, false-is_in, is_in, tile_lies, Mark, Avoids, Marked, Edit}
 use Rattle.cdf_edits.proofs.Frame.ChangedBytes.{changed_part}
 use Rattle.cdf_edits.proofs.Frame.LinksStay.{tiles_same}
-use Rattle.cdf_format.proofs.Members.{either, In-append_left, In-append_right, true-is_in, false-is_in}
-use Rattle.cdf_format.specs.Chains.{is_in}
-use Rattle.cdf_format.proofs.TilesLemmas.{tile_lies}
-use Rattle.cdf_edits.specs.Edits.Marks.{Mark, Avoids, Marked}
-use Rattle.cdf_edits.specs.Edits.Edit.{Kind, Edit}
+use Rattle.cdf_edits.specs.Edits.Edit.{Kind}
 use Rattle.cdf_edits.proofs.Edits.MarkLemmas.{Avoids-split, avoids-misses}
 
 pub same-then : (b mid now : List ℕ) (lo hi : ℕ) → Same b mid lo hi → Same mid now lo hi → Same b now lo hi

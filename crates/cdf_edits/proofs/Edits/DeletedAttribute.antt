@@ -1,28 +1,7 @@
 -- An image from which an attribute was deleted: good, with the content without it, what it keeps of each record, and what the calls of the deletion come to.
 use Rattle.std.proofs.Common.{◌≡◌, ℕ, ◌+◌, ◌≤◌, List, [], ◌∷◌, ◌++◌, length, true, refl, sym, ap, subst, ◌∙◌, arith, inl, inr, suc, map, Bool, false, Option, Some, None, eq-eqb, ◌-◌, ◌<◌, drop, get_or, ap₂, append_assoc}
-use Rattle.std.proofs.lemmas.List.{length-append, length-map}
-use Rattle.std.specs.List.{flat_map, remove, slice_get}
-use Rattle.cdf_model.specs.Limits.{image_limit}
-use Rattle.cdf_format.specs.Bytes.{Same}
-use Rattle.cdf_format.specs.Chains.{is_in, IsChain, next_field}
-use Rattle.cdf_format.specs.Content.{content}
-use Rattle.cdf_format.specs.Fields.{number, size_at, type_at, gdr_offset, with_field, LiesIn}
-use Rattle.cdf_format.specs.Owners.{attribute_records, OneAttribute, owned_by, owned_by_attributes, owned}
-use Rattle.cdf_format.specs.Records.{gdr_eof, gdr_adr_head, gdr_uir_head, gdr_num_attr, adr_num, aedr_attr_num, uir_next_uir, uir_prev_uir}
-use Rattle.cdf_format.specs.RecordTypes.{gdr_type, adr_type, uir_type, cdr_type, agr_edr_type, az_edr_type}
-use Rattle.cdf_format.specs.Shape.{AttributeShape, Shape, adrs, shape, Each, vdrs}
-use Rattle.cdf_format.specs.Sound.{IsSound}
-use Rattle.cdf_format.specs.Tiles.{In}
-use Rattle.cdf_format.specs.WellFormed.{Good}
-use Rattle.cdf_format.proofs.ChainsLemmas.{linkable-long, is_a-in, is_a-type, linkable-in, linkable-type}
-use Rattle.cdf_format.proofs.GoodSound.{good_by_its_shape, good_is_sound, rules_of_good}
-use Rattle.cdf_format.proofs.Members.{In-append, In-append_left, In-append_right}
-use Rattle.cdf_format.proofs.SealedRules.{good_long, sealed_kept}
-use Rattle.cdf_edits.specs.Commands.Allowances.{FreedStay, no_fields, Allowance, Allowances, Anything, Only, Keeps, AllKeep}
-use Rattle.cdf_edits.specs.Edits.ManyMarks.{unlinking_marks, deleting_marks}
-use Rattle.cdf_edits.specs.Edits.Marks.{attribute_types, Mark, Within}
-use Rattle.cdf_edits.specs.Edits.Unlinks.{Deletes, Unlinks}
-use Rattle.cdf_edits.specs.Space.Acts.{gave, links_end, ActsFollow, Act}
+use Rattle.cdf_edits.proofs.Common.{length-append, length-map, flat_map, remove, slice_get, image_limit, Same, is_in, IsChain, next_field, content, number, size_at, type_at, gdr_offset, with_field, LiesIn, attribute_records, OneAttribute, owned_by, owned_by_attributes, owned, gdr_eof, gdr_adr_head, gdr_uir_head, gdr_num_attr, adr_num, aedr_attr_num, uir_next_uir, uir_prev_uir, gdr_type, adr_type, uir_type, cdr_type, agr_edr_type, az_edr_type, AttributeShape, Shape, adrs, shape, Each, vdrs, IsSound, In, Good, linkable-long, is_a-in, is_a-type, linkable-in, linkable-type, good_by_its_shape, good_is_sound, rules_of_good, In-append, In-append_left, In-append_right, good_long, sealed_kept, FreedStay, no_fields, Allowance, Allowances, Anything, Only, Keeps, AllKeep, unlinking_marks, deleting_marks, attribute_types, Mark, Within, Unlinks, gave, links_end, ActsFollow, Act, eqb-true, ◌==◌, if◌then◌else◌, Go, Refuse, Attribute, DataSet, attribute_named, attribute_names, ByStep, is_attribute, Done, Refused, Answers, same_Some, drop-append_seam, adrs_rows, r_vdrs_rows, z_vdrs_rows, Hold-split, eq_of, Write, write, with_writes, numbers_from, counted_in, members_of, Removed, AllGiven, AreFree, Lists, TakenOut, Attrs, GrEntries, ZEntries}
+use Rattle.cdf_edits.specs.Edits.Unlinks.{Deletes}
 use Rattle.cdf_edits.proofs.Edits.AttributeFrame.{AreThere, more_there}
 use Rattle.cdf_edits.proofs.Edits.ChainKinds.{attribute_typed}
 use Rattle.cdf_edits.proofs.Edits.FreedAfter.{Frees, freed_edit, shape_now, sound_now, records_are as freed_records, long_now as freed_long, all_freed, says_still, types_stay as freed_types, acts_after as freed_acts, freed_after as freed_bytes, gdr_still}
@@ -35,33 +14,14 @@ use Rattle.cdf_edits.proofs.Edits.Splice.{parts_there}
 use Rattle.cdf_edits.proofs.Edits.StepEdits.{gdr_in, gdr_typed, some_bytes}
 use Rattle.cdf_edits.proofs.Edits.UnlinkedAttribute.{numbers, unlinked_edit, unlinks_removes, as_long, counted_now, may_mid, said, says_numbers, tiles_written, unlinked_shape, mid_sound, own_free, own_mine, own_there, may_number}
 use Rattle.cdf_edits.proofs.Rules.WithoutLinks.{eof_by_rules}
-use Rattle.std.proofs.lemmas.Bool.{eqb-true}
-use Rattle.std.specs.Prelude.{◌==◌, if◌then◌else◌}
-use Rattle.cdf_model.specs.Answers.{Go, Refuse}
 use Rattle.cdf_model.specs.AttributeSteps.{del_attr_step}
-use Rattle.cdf_model.specs.DataSet.{Attribute, DataSet}
-use Rattle.cdf_model.specs.Names.{attribute_named, attribute_names}
-use Rattle.cdf_model.specs.Step.{ByStep}
 use Rattle.cdf_edits.specs.Commands.Attributes.{attributes_gdr_fields, del_attr_changes}
-use Rattle.cdf_edits.specs.Commands.Named.{is_attribute}
-use Rattle.cdf_model.specs.declared.answer.Outcome.TheVariants.{Done, Refused}
-use Rattle.cdf_edits.specs.Answers.{Answers}
 use Rattle.cdf_edits.proofs.Commands.Answered.{refused, gone_by_giving}
 use Rattle.cdf_edits.proofs.Commands.KeptRecords.{AllKeep-append}
 use Rattle.cdf_edits.proofs.Edits.OwnersKept.{stood, keeps_fields, keep_unused, keep_places, keep_file, keep_parts, all_keep, keeps_within}
 use Rattle.cdf_edits.proofs.Edits.VariableFrame.{variables_in, all_variables_kept}
 use Rattle.cdf_edits.proofs.Commands.ListParts.{got-middle, map-removed, removed-at, AtNumber, at_number}
-use Rattle.std.proofs.lemmas.Option.{same_Some}
 use Rattle.cdf_edits.proofs.Edits.MarkLemmas.{avoided-avoids, within-within, away-of_type, within-of_type}
-use Rattle.std.proofs.Math.Seq.{drop-append_seam}
-use Rattle.cdf_format.specs.ChainRules.{adrs_rows, r_vdrs_rows, z_vdrs_rows}
-use Rattle.cdf_format.proofs.RowLemmas.{Hold-split}
-use Rattle.cdf_format.proofs.Tests.{eq_of}
-use Rattle.cdf_edits.specs.Edits.Writes.{Write, write, with_writes, numbers_from}
-use Rattle.cdf_edits.specs.Space.Chains.{counted_in, members_of, Removed}
-use Rattle.cdf_edits.specs.Space.Freeing.{AllGiven, AreFree}
-use Rattle.cdf_edits.specs.Space.TakingOut.{Lists, TakenOut}
-use Rattle.cdf_edits.specs.declared.chain.Chain.TheVariants.{Attrs, GrEntries, ZEntries}
 use Rattle.cdf_edits.proofs.Edits.AttributeChains.{EntryChains, entry_chains}
 use Rattle.cdf_edits.proofs.Edits.ChainsOfShape.{IsOf, few_members, lists}
 use Rattle.cdf_edits.proofs.Edits.WrittenFields.{writes_lie}

@@ -1,21 +1,8 @@
 -- The two halves of what an attribute drops: its entry of a number is taken out, and then the greater numbers fall.
-use Rattle.std.specs.Prelude.{◌≡◌, ◌⊎◌, ◌<◌, ◌≤◌, ℕ, ◌+◌, List, [], ◌∷◌, ◌++◌, Some, not, ◌&&◌, ◌==◌, nat_lt, if◌then◌else◌}
-use Rattle.std.specs.List.{filter, slice_get}
-use Rattle.cdf_model.specs.AttributeSteps.{entries_of, with_attribute, with_entries}
-use Rattle.cdf_model.specs.Numbered.{closed_up, without}
-use Rattle.cdf_model.specs.declared.kinds.EntryKind.{EntryKind}
-use Rattle.cdf_edits.specs.Commands.Allowances.{Keeps, Only}
-use Rattle.cdf_edits.specs.Commands.EntryChains.{chain_of, greatest_number, max_field}
-use Rattle.cdf_edits.specs.Edits.DropsEntries.{IsDropped}
-use Rattle.cdf_edits.specs.Space.Acts.{Act, gave, ActsFollow}
+use Rattle.cdf_edits.proofs.Common.{◌≡◌, ◌⊎◌, ℕ, List, [], ◌∷◌, ◌++◌, Some, not, ◌&&◌, ◌==◌, nat_lt, if◌then◌else◌, filter, slice_get, entries_of, with_attribute, with_entries, closed_up, without, EntryKind, Keeps, Only, chain_of, greatest_number, max_field, IsDropped, Act, gave, ActsFollow, next_field, next_of, attribute_of, content, integer4, number, type_at, Field, aedr_num, AttributeShape, HasShape, shape, In}
+use Rattle.std.specs.Prelude.{◌<◌, ◌≤◌, ◌+◌}
 use Rattle.cdf_edits.proofs.Edits.ChainKinds.{other_of}
 use Rattle.cdf_edits.proofs.Edits.StandsBut.{StandsBut}
-use Rattle.cdf_format.specs.Chains.{next_field, next_of}
-use Rattle.cdf_format.specs.Content.{attribute_of, content}
-use Rattle.cdf_format.specs.Fields.{integer4, number, type_at}
-use Rattle.cdf_format.specs.Records.{Field, aedr_num}
-use Rattle.cdf_format.specs.Shape.{AttributeShape, HasShape, shape}
-use Rattle.cdf_format.specs.Tiles.{In}
 
 -- the fields of an entry that change, since the one behind it goes, or since its number is greater
 abbrev pub link_field : List ℕ → ℕ → ℕ → List Field

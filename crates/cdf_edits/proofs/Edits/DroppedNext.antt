@@ -1,35 +1,7 @@
 -- One attribute more drops its entries for a variable.
 use Rattle.std.proofs.Common.{◌≡◌, ◌≢◌, ◌⊎◌, ℕ, zero, suc, ◌+◌, ◌-◌, ◌≤◌, ◌<◌, List, [], ◌∷◌, ◌++◌, length, Bool, true, false, Some, eqb, refl, sym, ap, ap₂, subst, ◌∙◌, arith, inl, inr}
-use Rattle.std.proofs.lemmas.Bool.{cases_eq}
+use Rattle.cdf_edits.proofs.Common.{cases_eq, map-append, same_Some, filter, slice_get, flat_map, ◌==◌, if◌then◌else◌, slice_set, take, Attribute, DataSet, Found, attribute_without, is_global, Same, byte, is_in, attribute_of, content, scope_of, number, size_at, type_at, attribute_records, variable_records, Field, adr_scope, aedr_num, uir_next_uir, uir_prev_uir, uir_type, AttributeShape, VariableShape, HasShape, shape, In, AreTiles, Good, linkable-in, linkable-type, good_is_sound, either, true-is_in, false-is_in, In-append, filter-in, tile_lies, Allowance, Anything, Keeps, Only, OutsideFields, Stays, space_fields, chain_of, kind_of_entries, entries_allowance, entries_for, AttributeDropped, IsDropped, Act, Gave, gave, ActsFollow}
 use Rattle.std.proofs.lemmas.Grind.{flat_map-append}
-use Rattle.std.proofs.lemmas.List.{map-append}
-use Rattle.std.proofs.lemmas.Option.{same_Some}
-use Rattle.std.specs.List.{filter, slice_get, flat_map}
-use Rattle.std.specs.Prelude.{◌==◌, if◌then◌else◌, slice_set, take}
-use Rattle.cdf_model.specs.DataSet.{Attribute, DataSet}
-use Rattle.cdf_model.specs.Names.{Found}
-use Rattle.cdf_model.specs.VariableSteps.{attribute_without}
-use Rattle.cdf_model.specs.AttributeSteps.{is_global}
-use Rattle.cdf_format.specs.Bytes.{Same, byte}
-use Rattle.cdf_format.specs.Chains.{is_in}
-use Rattle.cdf_format.specs.Content.{attribute_of, content, scope_of}
-use Rattle.cdf_format.specs.Fields.{number, size_at, type_at}
-use Rattle.cdf_format.specs.Owners.{attribute_records, variable_records}
-use Rattle.cdf_format.specs.Records.{Field, adr_scope, aedr_num, uir_next_uir, uir_prev_uir}
-use Rattle.cdf_format.specs.RecordTypes.{uir_type}
-use Rattle.cdf_format.specs.Shape.{AttributeShape, VariableShape, HasShape, shape}
-use Rattle.cdf_format.specs.Tiles.{In, AreTiles}
-use Rattle.cdf_format.specs.WellFormed.{Good}
-use Rattle.cdf_format.proofs.ChainsLemmas.{linkable-in, linkable-type}
-use Rattle.cdf_format.proofs.GoodSound.{good_is_sound}
-use Rattle.cdf_format.proofs.Members.{either, true-is_in, false-is_in, In-append}
-use Rattle.cdf_format.proofs.Owning.{filter-in}
-use Rattle.cdf_format.proofs.TilesLemmas.{tile_lies}
-use Rattle.cdf_edits.specs.Commands.Allowances.{Allowance, Anything, Keeps, Only, OutsideFields, Stays, space_fields}
-use Rattle.cdf_edits.specs.Commands.EntryChains.{chain_of, kind_of_entries}
-use Rattle.cdf_edits.specs.Commands.Variables.{entries_allowance, entries_for}
-use Rattle.cdf_edits.specs.Edits.DropsEntries.{AttributeDropped, IsDropped}
-use Rattle.cdf_edits.specs.Space.Acts.{Act, Gave, gave, ActsFollow}
 use Rattle.cdf_edits.proofs.Commands.ListParts.{got-map}
 use Rattle.cdf_edits.proofs.Edits.ActsThen.{gave-same}
 use Rattle.cdf_edits.proofs.Edits.ChainKinds.{chain_in}

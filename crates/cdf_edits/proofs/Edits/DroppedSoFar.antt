@@ -1,30 +1,7 @@
 -- An image in which the first attributes dropped their entries for a variable, and the others stand: where the way to `DropsEntries` begins and ends.
 use Rattle.std.proofs.Common.{◌≡◌, ◌⊎◌, ℕ, zero, suc, ◌≤◌, ◌<◌, List, [], ◌∷◌, length, map, Some, refl, sym, ap, subst, ◌∙◌, arith, inl, inr}
-use Rattle.std.proofs.lemmas.List.{length-map}
+use Rattle.cdf_edits.proofs.Common.{length-map, slice_get, flat_map, take, Kind, Attribute, DataSet, Found, attribute_without, attribute_of, content, type_at, attribute_records, variable_records, Field, uir_next_uir, uir_prev_uir, adr_type, agr_edr_type, az_edr_type, cdr_type, gdr_type, uir_type, AttributeShape, HasEntries, HasShape, shape, In, Good, is_a-in, linkable-in, good_is_sound, In-append, content_is, Anything, Keeps, Only, Stays, shapes_of, space_fields, r_max_rec, entries_allowance, entries_for, AttributeDropped, DropsEntries, IsDropped, gave, ActsFollow}
 use Rattle.std.proofs.lemmas.Option.{slice_get_within}
-use Rattle.std.specs.List.{slice_get, flat_map}
-use Rattle.std.specs.Prelude.{take}
-use Rattle.cdf_model.specs.declared.kinds.Kind.{Kind}
-use Rattle.cdf_model.specs.DataSet.{Attribute, DataSet}
-use Rattle.cdf_model.specs.Names.{Found}
-use Rattle.cdf_model.specs.VariableSteps.{attribute_without}
-use Rattle.cdf_format.specs.Content.{attribute_of, content}
-use Rattle.cdf_format.specs.Fields.{type_at}
-use Rattle.cdf_format.specs.Owners.{attribute_records, variable_records}
-use Rattle.cdf_format.specs.Records.{Field, uir_next_uir, uir_prev_uir}
-use Rattle.cdf_format.specs.RecordTypes.{adr_type, agr_edr_type, az_edr_type, cdr_type, gdr_type, uir_type}
-use Rattle.cdf_format.specs.Shape.{AttributeShape, HasEntries, HasShape, shape}
-use Rattle.cdf_format.specs.Tiles.{In}
-use Rattle.cdf_format.specs.WellFormed.{Good}
-use Rattle.cdf_format.proofs.ChainsLemmas.{is_a-in, linkable-in}
-use Rattle.cdf_format.proofs.GoodSound.{good_is_sound}
-use Rattle.cdf_format.proofs.Members.{In-append}
-use Rattle.cdf_format.proofs.ShapeLemmas.{content_is}
-use Rattle.cdf_edits.specs.Commands.Allowances.{Anything, Keeps, Only, Stays, shapes_of, space_fields}
-use Rattle.cdf_edits.specs.Commands.GreatestRecord.{r_max_rec}
-use Rattle.cdf_edits.specs.Commands.Variables.{entries_allowance, entries_for}
-use Rattle.cdf_edits.specs.Edits.DropsEntries.{AttributeDropped, DropsEntries, IsDropped}
-use Rattle.cdf_edits.specs.Space.Acts.{gave, ActsFollow}
 use Rattle.cdf_edits.proofs.Edits.VariableDeleted.{adr_at, each_at}
 use Rattle.cdf_edits.proofs.Space.ActsLeave.{no_acts}
 use Rattle.cdf_edits.proofs.Edits.VariableKinds.{kind_in}

@@ -1,22 +1,6 @@
 -- An image in which one attribute dropped its entry for a variable, and all else stands: a step on the way to `DropsEntries`.
-use Rattle.std.specs.Prelude.{◌≡◌, ◌⊎◌, ℕ, List, [], ◌∷◌, ◌++◌, length, Some}
-use Rattle.std.specs.List.{slice_get, slice_set, flat_map}
-use Rattle.cdf_model.specs.Names.{Found}
-use Rattle.cdf_model.specs.VariableSteps.{attribute_without}
-use Rattle.cdf_model.specs.declared.kinds.Kind.{Kind}
-use Rattle.cdf_edits.specs.Commands.Allowances.{Anything, Keeps, Only, shapes_of, space_fields}
-use Rattle.cdf_edits.specs.Commands.GreatestRecord.{r_max_rec}
-use Rattle.cdf_edits.specs.Commands.Variables.{entries_allowance, entries_for}
-use Rattle.cdf_edits.specs.Edits.DropsEntries.{AttributeDropped, IsDropped}
-use Rattle.cdf_edits.specs.Space.Acts.{Act, gave, ActsFollow}
-use Rattle.cdf_format.specs.Content.{attribute_of, content}
-use Rattle.cdf_format.specs.Fields.{type_at}
-use Rattle.cdf_format.specs.Owners.{attribute_records, variable_records}
-use Rattle.cdf_format.specs.Records.{uir_next_uir, uir_prev_uir}
-use Rattle.cdf_format.specs.RecordTypes.{uir_type}
-use Rattle.cdf_format.specs.Shape.{AttributeShape, HasShape, shape}
-use Rattle.cdf_format.specs.Tiles.{In}
-use Rattle.cdf_format.specs.WellFormed.{Good}
+use Rattle.cdf_edits.proofs.Common.{◌≡◌, ◌⊎◌, ℕ, List, [], ◌∷◌, ◌++◌, length, Some, slice_get, flat_map, Found, attribute_without, Kind, Anything, Keeps, Only, shapes_of, space_fields, r_max_rec, entries_allowance, entries_for, AttributeDropped, IsDropped, Act, gave, ActsFollow, attribute_of, content, type_at, attribute_records, variable_records, uir_next_uir, uir_prev_uir, uir_type, AttributeShape, HasShape, shape, In, Good}
+use Rattle.std.specs.List.{slice_set}
 
 -- the attribute of a number, with this shape, dropped its entry for a variable
 pub record DropsOne (b : List ℕ) (found : Found) (k : ℕ) (own : AttributeShape) (now : List ℕ) : Type 0 where

@@ -1,27 +1,11 @@
 -- What an edit leaves of the space of an image: of one that takes nothing, and of one that makes a record.
 use Rattle.std.proofs.Common.{◌≡◌, ◌≢◌, ℕ, ◌+◌, List, [], ◌∷◌, length, map, Bool, true, false, eq-eqb, refl, sym, ap, ap₂, subst, ◌∙◌, arith, inl, inr}
-use Rattle.std.proofs.lemmas.Bool.{eqb-true}
-use Rattle.std.specs.Prelude.{◌==◌, nat_le}
-use Rattle.cdf_edits.specs.Space.Acts.{Took, Among, sized, used_records, loose_records, back_after, RestStays, ActsFollow}
-use Rattle.cdf_format.specs.Sound.{IsSound}
-use Rattle.cdf_format.specs.Bytes.{Same}
-use Rattle.cdf_format.specs.Fields.{size_at, type_at}
-use Rattle.cdf_edits.specs.Space.Placement.{unused, place_for, taken_from}
-use Rattle.cdf_format.specs.Records.{record_size, record_type, uir_prev_uir}
-use Rattle.cdf_format.specs.RecordTypes.{uir_type}
-use Rattle.cdf_format.specs.Shape.{Shape, Each, shape}
-use Rattle.cdf_format.specs.Tiles.{In}
+use Rattle.cdf_edits.proofs.Common.{eqb-true, ◌==◌, nat_le, Took, sized, used_records, loose_records, back_after, RestStays, ActsFollow, IsSound, Same, size_at, type_at, unused, place_for, taken_from, record_size, record_type, uir_prev_uir, uir_type, Shape, Each, shape, In, number_kept, linkable-in, linkable-type, linkable-long, either, false-is_in, tile_lies, Mark, unmarked, making_marks, is_late, Edit, Fills}
+use Rattle.cdf_edits.specs.Space.Acts.{Among}
 use Rattle.cdf_edits.proofs.Space.ActsLeave.{each, places-sized, among_sized, used_says, used_if, loose_says, loose_if, backs, backs_follow, no_rest, no_acts}
-use Rattle.cdf_format.proofs.BytesLemmas.{number_kept}
-use Rattle.cdf_format.proofs.ChainsLemmas.{linkable-in, linkable-type, linkable-long}
-use Rattle.cdf_format.proofs.Members.{either, false-is_in}
-use Rattle.cdf_format.proofs.TilesLemmas.{tile_lies}
-use Rattle.cdf_edits.specs.Edits.Marks.{Mark, unmarked, making_marks, is_late}
-use Rattle.cdf_edits.specs.Edits.Edit.{Edit}
 use Rattle.cdf_edits.proofs.Edits.Composing.{head_size, head_type}
 use Rattle.cdf_edits.proofs.Edits.RecordFrame.{kept}
 use Rattle.cdf_edits.proofs.Edits.MadeRecord.{fresh, made_edit, made_type, made_size, filled_sound, listed, loose_away, made_new, rest_stays}
-use Rattle.cdf_edits.specs.Space.Placing.{Fills}
 use Rattle.cdf_edits.proofs.Edits.MarkLemmas.{away-avoids, the_one}
 
 pub differs : (t : ℕ) → (t == uir_type) ≡ false → t ≢ uir_type

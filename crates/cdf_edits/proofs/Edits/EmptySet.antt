@@ -1,29 +1,6 @@
 -- An image of a data set without attributes and variables: its CDR, its GDR, and unused records.
 use Rattle.std.proofs.Common.{◌≡◌, ◌≢◌, ◌⊎◌, ℕ, suc, ◌+◌, ◌≤◌, List, [], ◌∷◌, ◌++◌, length, map, true, eq-eqb, refl, sym, ap, subst, ◌∙◌, arith, inl, inr}
-use Rattle.std.proofs.lemmas.Bool.{cases_eq, ne_eqb}
-use Rattle.std.specs.List.{flat_map}
-use Rattle.std.specs.Prelude.{◌==◌, ◌&&◌}
-use Rattle.cdf_model.specs.VariableSteps.{is_empty_set}
-use Rattle.cdf_format.specs.ChainRules.{adrs_rows, r_vdrs_rows, z_vdrs_rows}
-use Rattle.cdf_format.specs.Chains.{is_in}
-use Rattle.cdf_format.specs.Content.{content, content_of, attribute_of, variable_of}
-use Rattle.cdf_format.specs.Fields.{Holds, number, type_at, gdr_offset, r_num_dims}
-use Rattle.cdf_format.specs.NotRead.{read_types, unread_type}
-use Rattle.cdf_format.specs.Owners.{attribute_records, variable_records, times, owned_records, unused_records}
-use Rattle.cdf_format.specs.Records.{Field, gdr_nr_vars, gdr_num_attr, gdr_nz_vars, gdr_r_dim_sizes}
-use Rattle.cdf_format.specs.RecordTypes.{cdr_type, gdr_type, uir_type}
-use Rattle.cdf_format.specs.Shape.{AttributeShape, VariableShape, Shape, adrs, vdrs, HasShape, shape}
-use Rattle.cdf_format.specs.Sound.{IsSound}
-use Rattle.cdf_format.specs.Tiles.{In}
-use Rattle.cdf_format.specs.WellFormed.{Good}
-use Rattle.cdf_format.proofs.ChainsLemmas.{is_a-type}
-use Rattle.cdf_format.proofs.GoodByShape.{IsGoodByShape}
-use Rattle.cdf_format.proofs.GoodSound.{good_by_its_shape, good_is_sound}
-use Rattle.cdf_format.proofs.Members.{either, true-is_in, false-is_in}
-use Rattle.cdf_format.proofs.Owning.{times-none, filter-in}
-use Rattle.cdf_format.proofs.RowLemmas.{Hold-members, Hold-split}
-use Rattle.cdf_format.proofs.ShapeLemmas.{content_is}
-use Rattle.cdf_format.proofs.Tests.{both, eq_of}
+use Rattle.cdf_edits.proofs.Common.{cases_eq, ne_eqb, flat_map, ◌==◌, ◌&&◌, is_empty_set, adrs_rows, r_vdrs_rows, z_vdrs_rows, is_in, content, content_of, attribute_of, variable_of, Holds, number, type_at, gdr_offset, r_num_dims, read_types, unread_type, attribute_records, variable_records, times, owned_records, unused_records, Field, gdr_nr_vars, gdr_num_attr, gdr_nz_vars, gdr_r_dim_sizes, cdr_type, gdr_type, uir_type, AttributeShape, VariableShape, Shape, adrs, vdrs, HasShape, shape, IsSound, In, Good, is_a-type, IsGoodByShape, good_by_its_shape, good_is_sound, either, true-is_in, false-is_in, times-none, filter-in, Hold-members, Hold-split, content_is, both, eq_of}
 use Rattle.cdf_edits.proofs.Edits.OwnedOnce.{IsSorted, used_times, once_by_sorting, sorted_before, unused_none, unused_once}
 use Rattle.cdf_edits.proofs.Frame.OwnersApart.{file_records, all_attribute_records, all_variable_records, owned-times}
 use Rattle.cdf_edits.proofs.Space.UsedRecords.{apart}

@@ -1,24 +1,8 @@
 -- A member that goes from a chain of entries changes at most the link of the one before it: each other entry of the chain keeps its bytes.
 use Rattle.std.proofs.Common.{◌≡◌, ◌≢◌, ◌⊎◌, ℕ, ◌+◌, ◌≤◌, List, [], ◌∷◌, ◌++◌, length, true, eq-eqb, refl, sym, ap, subst, ◌∙◌, arith, inl, inr}
-use Rattle.std.proofs.lemmas.Bool.{cases_eq, ne_eqb}
-use Rattle.cdf_model.specs.declared.kinds.EntryKind.{EntryKind}
+use Rattle.cdf_edits.proofs.Common.{cases_eq, ne_eqb, EntryKind, Same, Leads, next_field, next_of, number, size_at, type_at, Field, adr_type, AttributeShape, HasShape, Shape, shape, IsSound, In, Same-part, size_kept, type_kept, linkable-in, linkable-long, linkable-type, tile_lies, chain_of, entry_type, max_field, count_field, entries_chain, field_marks, unmarked, Changed, Placed, Touch, head_of, link_behind}
 use Rattle.cdf_model.specs.declared.kinds.EntryKind.TheVariants as entries
-use Rattle.cdf_format.specs.Bytes.{Same}
-use Rattle.cdf_format.specs.Chains.{Leads, next_field, next_of}
-use Rattle.cdf_format.specs.Fields.{number, size_at, type_at}
-use Rattle.cdf_format.specs.Records.{Field}
-use Rattle.cdf_format.specs.RecordTypes.{adr_type}
-use Rattle.cdf_format.specs.Shape.{AttributeShape, HasShape, Shape, shape}
-use Rattle.cdf_format.specs.Sound.{IsSound}
-use Rattle.cdf_format.specs.Tiles.{In}
-use Rattle.cdf_format.proofs.BytesLemmas.{Same-part, size_kept, type_kept}
-use Rattle.cdf_format.proofs.ChainsLemmas.{linkable-in, linkable-long, linkable-type}
-use Rattle.cdf_format.proofs.TilesLemmas.{tile_lies}
-use Rattle.cdf_edits.specs.Commands.EntryChains.{chain_of, entry_type, max_field}
-use Rattle.cdf_edits.specs.Edits.EntryMarks.{count_field, entries_chain}
-use Rattle.cdf_edits.specs.Edits.Marks.{field_marks, unmarked}
-use Rattle.cdf_edits.specs.Frame.Changed.{Changed, Placed, Touch}
-use Rattle.cdf_edits.specs.Space.Chains.{before as front, head_of, link_behind}
+use Rattle.cdf_edits.specs.Space.Chains.{before as front}
 use Rattle.cdf_edits.proofs.Edits.AttributeFrame.{AreThere}
 use Rattle.cdf_edits.proofs.Edits.ChainKinds.{chain_has}
 use Rattle.cdf_edits.proofs.Edits.ChainsOfShape.{remove_changed}

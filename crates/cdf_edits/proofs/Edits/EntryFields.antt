@@ -1,19 +1,7 @@
 -- The fields of a chain of entries in its ADR, by the kind; and what an image comes to in which its greatest number is written.
 use Rattle.std.proofs.Common.{◌≡◌, ℕ, ℤ, ◌+◌, ◌≤◌, List, [], ◌∷◌, length, true, refl, sym, subst, arith, inl, inr}
-use Rattle.std.specs.Int.{w32, cast_unsigned}
-use Rattle.std.specs.Prelude.{FitsSigned}
-use Rattle.cdf_model.specs.declared.kinds.EntryKind.{EntryKind}
+use Rattle.cdf_edits.proofs.Common.{w32, cast_unsigned, FitsSigned, EntryKind, IsChain, number, integer4, with_field, adr_type, AttributeShape, HasEntries, Shape, AreTiles, In, chain_of, entry_type, max_field, Edit, entries_chain, head_field, count_field, avoided, field_marks, holder_of, head_of, count_of, type_in}
 use Rattle.cdf_model.specs.declared.kinds.EntryKind.TheVariants as entries
-use Rattle.cdf_format.specs.Chains.{IsChain}
-use Rattle.cdf_format.specs.Fields.{number, integer4, with_field}
-use Rattle.cdf_format.specs.RecordTypes.{adr_type}
-use Rattle.cdf_format.specs.Shape.{AttributeShape, HasEntries, Shape}
-use Rattle.cdf_format.specs.Tiles.{AreTiles, In}
-use Rattle.cdf_edits.specs.Commands.EntryChains.{chain_of, entry_type, max_field}
-use Rattle.cdf_edits.specs.Edits.Edit.{Edit}
-use Rattle.cdf_edits.specs.Edits.EntryMarks.{entries_chain, head_field, count_field}
-use Rattle.cdf_edits.specs.Edits.Marks.{avoided, field_marks}
-use Rattle.cdf_edits.specs.Space.Chains.{holder_of, head_of, count_of, type_in}
 use Rattle.cdf_edits.proofs.Edits.ChainsOfShape.{IsOf}
 use Rattle.cdf_edits.proofs.Edits.FieldWritten.{IsField, written_edit, written_long, written_integer, Stands, still_says, field_in}
 use Rattle.cdf_edits.proofs.Edits.RecordFrame.{chain_clear}

@@ -1,40 +1,9 @@
 -- An entry is taken out of one chain of an attribute and freed: the image is good, all beside the chain stands, and the acts before go on.
 use Rattle.std.proofs.Common.{◌≡◌, ◌≢◌, ◌⊎◌, ℕ, zero, suc, ◌+◌, ◌≤◌, List, [], ◌∷◌, ◌++◌, length, true, Some, refl, sym, ap, subst, ◌∙◌, arith, inl, inr}
-use Rattle.std.proofs.lemmas.Bool.{cases_eq}
-use Rattle.std.proofs.lemmas.Option.{same_Some}
-use Rattle.std.specs.Int.{cast_signed, w32}
-use Rattle.std.specs.List.{flat_map, slice_get}
-use Rattle.cdf_model.specs.declared.kinds.EntryKind.{EntryKind}
+use Rattle.cdf_edits.proofs.Common.{cases_eq, same_Some, cast_signed, w32, flat_map, slice_get, EntryKind, Kind, entries_of, with_attribute, with_entries, image_limit, without, next_field, next_of, attribute_of, content, integer4, number, size_at, type_at, attribute_records, variable_records, aedr_num, gdr_r_max_rec, uir_next_uir, uir_prev_uir, adr_type, cdr_type, gdr_type, uir_type, AttributeShape, HasShape, Shape, shape, IsSound, In, Good, size_kept, type_kept, is_a-in, is_a-type, linkable-in, linkable-type, good_is_sound, In-append_left, In-append_right, both, Keeps, Only, shapes_of, space_fields, chain_fields, chain_of, entry_type, r_max_rec, IsDropped, count_field, entries_chain, with_chain, Away, Mark, all_unmarked, avoided, giving_marks, unmarked, variable_types, within, Act, ActsFollow, Gave, gave, members_of, Gives}
 use Rattle.cdf_model.specs.declared.kinds.EntryKind.TheVariants as entries
-use Rattle.cdf_model.specs.declared.kinds.Kind.{Kind}
 use Rattle.cdf_model.specs.declared.kinds.Kind.TheVariants as kinds
-use Rattle.cdf_model.specs.AttributeSteps.{entries_of, with_attribute, with_entries}
-use Rattle.cdf_model.specs.Limits.{image_limit}
-use Rattle.cdf_model.specs.Numbered.{without}
-use Rattle.cdf_format.specs.Chains.{next_field, next_of}
-use Rattle.cdf_format.specs.Content.{attribute_of, content}
-use Rattle.cdf_format.specs.Fields.{integer4, number, size_at, type_at}
-use Rattle.cdf_format.specs.Owners.{attribute_records, variable_records}
-use Rattle.cdf_format.specs.Records.{aedr_num, gdr_r_max_rec, uir_next_uir, uir_prev_uir}
-use Rattle.cdf_format.specs.RecordTypes.{adr_type, cdr_type, gdr_type, uir_type}
-use Rattle.cdf_format.specs.Shape.{AttributeShape, HasShape, Shape, shape}
-use Rattle.cdf_format.specs.Sound.{IsSound}
-use Rattle.cdf_format.specs.Tiles.{In}
-use Rattle.cdf_format.specs.WellFormed.{Good}
-use Rattle.cdf_format.proofs.BytesLemmas.{size_kept, type_kept}
-use Rattle.cdf_format.proofs.ChainsLemmas.{is_a-in, is_a-type, linkable-in, linkable-type}
-use Rattle.cdf_format.proofs.GoodSound.{good_is_sound}
-use Rattle.cdf_format.proofs.Members.{In-append_left, In-append_right}
-use Rattle.cdf_format.proofs.Tests.{both}
-use Rattle.cdf_edits.specs.Commands.Allowances.{Keeps, Only, shapes_of, space_fields}
-use Rattle.cdf_edits.specs.Commands.EntryChains.{chain_fields, chain_of, entry_type}
-use Rattle.cdf_edits.specs.Commands.GreatestRecord.{r_max_rec}
-use Rattle.cdf_edits.specs.Edits.DropsEntries.{IsDropped}
-use Rattle.cdf_edits.specs.Edits.EntryMarks.{count_field, entries_chain, with_chain}
-use Rattle.cdf_edits.specs.Edits.Marks.{Away, Mark, all_unmarked, avoided, giving_marks, unmarked, variable_types, within}
-use Rattle.cdf_edits.specs.Space.Acts.{Act, ActsFollow, Gave, gave}
-use Rattle.cdf_edits.specs.Space.Chains.{members_of, without as left_of}
-use Rattle.cdf_edits.specs.Space.Placement.{Gives}
+use Rattle.cdf_edits.specs.Space.Chains.{without as left_of}
 use Rattle.cdf_edits.proofs.Commands.KeptRecords.{keeps_stood}
 use Rattle.cdf_edits.proofs.Edits.ActsStill.{acts_still_by}
 use Rattle.cdf_edits.proofs.Edits.ActsThen.{acts_gave, was_listed}

@@ -1,41 +1,8 @@
 -- Entries of a chain get numbers less by one, where they are greater than one that none has, and the greatest number of the chain is written.
 use Rattle.std.proofs.Common.{◌≡◌, ◌≢◌, ℕ, ◌+◌, ◌-◌, ◌<◌, ◌≤◌, ◌^◌, List, [], ◌∷◌, ◌++◌, length, map, true, eq-eqb, refl, sym, ap, subst, ◌∙◌, arith, inl, inr}
-use Rattle.std.proofs.lemmas.Bool.{cases_lt, lt-ltb, le-ltb, le-leb, leb-true}
-use Rattle.std.specs.List.{filter, flat_map}
-use Rattle.std.specs.Prelude.{◌==◌, nat_lt}
-use Rattle.cdf_model.specs.declared.kinds.EntryKind.{EntryKind}
+use Rattle.cdf_edits.proofs.Common.{cases_lt, lt-ltb, le-ltb, le-leb, leb-true, filter, flat_map, ◌==◌, nat_lt, EntryKind, entries_of, with_attribute, with_entries, image_limit, record_number_limit, closed_up, entries_rows, entry_rows, same_number, differ_rows, content, attribute_of, number, size_at, type_at, with_field, attribute_records, Field, aedr_num, gdr_eof, gdr_uir_head, gdr_type, adr_type, uir_type, Hold, AttributeShape, Each, HasShape, Shape, shape, EntryFits, IsSound, AreTiles, In, Distinct, Good, number_kept, linkable-in, linkable-type, good_by_its_shape, good_is_sound, rules_of_good, filter-in, Hold-append, Hold-member, Hold-members, Hold-split, good_long, sealed_kept, eq_of, tile_lies, length-with_field, space_fields, chain_fields, chain_of, entry_type, max_field, Edit, count_field, head_field, keeps_but_chain, fallen, Among, Mark, Avoids, avoided, field_marks, mark, unmarked, within, Write, write, with_writes}
 use Rattle.cdf_model.specs.declared.kinds.EntryKind.TheVariants as entries
-use Rattle.cdf_model.specs.AttributeSteps.{entries_of, with_attribute, with_entries}
-use Rattle.cdf_model.specs.Limits.{image_limit, record_number_limit}
-use Rattle.cdf_model.specs.Numbered.{closed_up}
-use Rattle.cdf_format.specs.AttributeRules.{entries_rows, entry_rows, same_number}
-use Rattle.cdf_format.specs.ChainRules.{differ_rows}
-use Rattle.cdf_format.specs.Content.{content, attribute_of, entries_of as chain_items}
-use Rattle.cdf_format.specs.Fields.{number, size_at, type_at, with_field}
-use Rattle.cdf_format.specs.Owners.{attribute_records}
-use Rattle.cdf_format.specs.Records.{Field, aedr_num, gdr_eof, gdr_uir_head}
-use Rattle.cdf_format.specs.RecordTypes.{gdr_type, adr_type, uir_type}
-use Rattle.cdf_format.specs.Rules.{Hold}
-use Rattle.cdf_format.specs.Shape.{AttributeShape, Each, HasShape, Shape, shape}
-use Rattle.cdf_format.specs.Sound.{EntryFits, IsSound}
-use Rattle.cdf_format.specs.Tiles.{AreTiles, In, Distinct}
-use Rattle.cdf_format.specs.WellFormed.{Good}
-use Rattle.cdf_format.proofs.BytesLemmas.{number_kept}
-use Rattle.cdf_format.proofs.ChainsLemmas.{linkable-in, linkable-type}
-use Rattle.cdf_format.proofs.GoodSound.{good_by_its_shape, good_is_sound, rules_of_good}
-use Rattle.cdf_format.proofs.Owning.{filter-in}
-use Rattle.cdf_format.proofs.RowLemmas.{Hold-append, Hold-member, Hold-members, Hold-split}
-use Rattle.cdf_format.proofs.SealedRules.{good_long, sealed_kept}
-use Rattle.cdf_format.proofs.Tests.{eq_of}
-use Rattle.cdf_format.proofs.TilesLemmas.{tile_lies}
-use Rattle.cdf_fields.proofs.Writes.{length-with_field}
-use Rattle.cdf_edits.specs.Commands.Allowances.{space_fields}
-use Rattle.cdf_edits.specs.Commands.EntryChains.{chain_fields, chain_of, entry_type, max_field}
-use Rattle.cdf_edits.specs.Edits.Edit.{Edit}
-use Rattle.cdf_edits.specs.Edits.EntryMarks.{count_field, head_field, keeps_but_chain}
-use Rattle.cdf_edits.specs.Edits.FallenNumbers.{fallen}
-use Rattle.cdf_edits.specs.Edits.Marks.{Among, Mark, Avoids, avoided, field_marks, mark, unmarked, within}
-use Rattle.cdf_edits.specs.Edits.Writes.{Write, write, with_writes}
+use Rattle.cdf_format.specs.Content.{entries_of as chain_items}
 use Rattle.cdf_edits.proofs.Edits.AttributeFrame.{AreThere}
 use Rattle.cdf_edits.proofs.Edits.ChainEntries.{nums, nums_differ, differ_by_nums}
 use Rattle.cdf_edits.proofs.Edits.ChainKinds.{chain_fits, chain_has, chain_in}

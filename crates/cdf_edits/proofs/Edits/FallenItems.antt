@@ -1,13 +1,7 @@
 -- Items by their numbers, and entries of a chain, where the numbers that are greater than one fall by one: they are closed up behind that one.
 use Rattle.std.proofs.Common.{◌≡◌, ◌≢◌, ℕ, ◌+◌, ◌-◌, ◌<◌, ◌≤◌, List, [], ◌∷◌, map, eq-eqb, refl, sym, ap, ap₂, subst, ◌∙◌, arith, inl, inr}
-use Rattle.std.proofs.lemmas.Bool.{cases_lt, lt-ltb, le-ltb, ne_eqb}
-use Rattle.std.specs.Prelude.{nat_lt, if◌then◌else◌}
-use Rattle.cdf_model.specs.Numbered.{with_item, without, closed_up}
-use Rattle.cdf_format.specs.Content.{entry_of, entries_of}
-use Rattle.cdf_format.specs.Fields.{number}
-use Rattle.cdf_format.specs.Records.{aedr_num}
-use Rattle.cdf_format.specs.Tiles.{In, Distinct}
-use Rattle.cdf_edits.specs.Edits.FallenNumbers.{fallen}
+use Rattle.cdf_edits.proofs.Common.{cases_lt, lt-ltb, le-ltb, ne_eqb, nat_lt, if◌then◌else◌, with_item, without, closed_up, entry_of, number, aedr_num, In, Distinct, fallen}
+use Rattle.cdf_format.specs.Content.{entries_of}
 use Rattle.cdf_edits.proofs.Edits.ChainEntries.{nums, none_numbered}
 use Rattle.cdf_edits.proofs.Edits.NumberedItems.{Order, Below, Equal, Above, order}
 

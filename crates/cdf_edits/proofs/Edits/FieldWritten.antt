@@ -1,15 +1,7 @@
 -- A number that is written as a field of a record is an edit.
 use Rattle.std.proofs.Common.{◌≡◌, ℕ, ℤ, ◌+◌, ◌^◌, ◌<◌, ◌≤◌, List, [], ◌∷◌, length, refl, sym, ap, subst, ◌∙◌, arith, inl, true}
-use Rattle.std.specs.Int.{w32, cast_unsigned}
-use Rattle.std.specs.Prelude.{FitsSigned}
-use Rattle.cdf_format.specs.Fields.{LiesIn, number, integer4, size_at, type_at, with_field}
-use Rattle.cdf_format.specs.Records.{Field}
-use Rattle.cdf_format.specs.Tiles.{In, AreTiles}
-use Rattle.cdf_format.proofs.TilesLemmas.{tile_lies}
-use Rattle.cdf_fields.proofs.Writes.{field_reads, field_reads4, length-with_field, other_bytes}
-use Rattle.cdf_edits.specs.Edits.Edit.{Edit}
-use Rattle.cdf_edits.specs.Edits.Marks.{Mark, avoided, field_marks}
-use Rattle.cdf_edits.specs.Frame.Changed.{touched_field, Changed}
+use Rattle.cdf_edits.proofs.Common.{w32, cast_unsigned, FitsSigned, LiesIn, number, integer4, size_at, type_at, with_field, Field, In, AreTiles, tile_lies, field_reads, field_reads4, length-with_field, Edit, Mark, avoided, field_marks, touched_field, Changed}
+use Rattle.cdf_fields.proofs.Writes.{other_bytes}
 use Rattle.cdf_edits.proofs.Edits.Composing.{changed_edit, head_size, head_type}
 use Rattle.cdf_edits.proofs.Edits.RecordFrame.{part_clear, field_clear, through}
 

@@ -1,26 +1,7 @@
 -- What every edit leaves that keeps the CDR and the GDR: the types of all records, and the rules on the file.
 use Rattle.std.proofs.Common.{◌≡◌, ℕ, ◌+◌, ◌*◌, ◌≤◌, List, length, true, not, ◌||◌, refl, sym, ap, subst, ◌∙◌, arith, inl, inr}
-use Rattle.std.proofs.lemmas.Bool.{cases_eq, cases_lt}
-use Rattle.std.specs.List.{flat_map}
-use Rattle.cdf_model.specs.Limits.{image_limit}
-use Rattle.cdf_format.specs.Sound.{IsSound}
-use Rattle.cdf_format.specs.Chains.{is_in}
-use Rattle.cdf_format.specs.Fields.{size_at, type_at, flags, has_bit, eof, r_num_dims}
-use Rattle.cdf_format.specs.NotRead.{read_types, unread_type}
-use Rattle.cdf_format.specs.RecordTypes.{cdr_type, gdr_type, uir_type, is_record_type, fixed_size}
-use Rattle.cdf_format.specs.Rules.{Hold}
-use Rattle.cdf_format.specs.Shape.{Shape, HasShape}
-use Rattle.cdf_format.specs.Tiles.{In}
-use Rattle.cdf_format.specs.Records.{cdr_flags}
-use Rattle.cdf_format.proofs.BytesLemmas.{Same-part, number_kept, type_kept}
-use Rattle.cdf_format.proofs.ChainsLemmas.{is_a-type}
-use Rattle.cdf_format.proofs.TilesLemmas.{tile_lies}
+use Rattle.cdf_edits.proofs.Common.{cases_eq, cases_lt, flat_map, image_limit, IsSound, is_in, size_at, type_at, flags, has_bit, eof, r_num_dims, read_types, unread_type, cdr_type, gdr_type, uir_type, is_record_type, fixed_size, Hold, Shape, HasShape, In, cdr_flags, Same-part, number_kept, type_kept, is_a-type, tile_lies, either, true-is_in, false-is_in, Hold-member, Hold-members, tile_lies, Mark, keeps_file, Edit}
 use Rattle.cdf_edits.proofs.Rules.FirstRules.{FirstStay}
-use Rattle.cdf_format.proofs.Members.{either, true-is_in, false-is_in}
-use Rattle.cdf_format.proofs.RowLemmas.{Hold-member, Hold-members}
-use Rattle.cdf_format.proofs.TilesLemmas.{tile_lies}
-use Rattle.cdf_edits.specs.Edits.Marks.{Mark, keeps_file}
-use Rattle.cdf_edits.specs.Edits.Edit.{Edit}
 use Rattle.cdf_edits.proofs.Edits.RecordFrame.{cdr_kept, cdr_long, gdr_start, gdr_part, gdr_dimensions, dimensions_same, gdr_sizes}
 use Rattle.cdf_edits.proofs.Edits.StepEdits.{gdr_typed, gdr_long}
 use Rattle.cdf_edits.proofs.Edits.Composing.{head_size, head_type}

@@ -1,23 +1,6 @@
 -- Records that nothing leads to any more, which are freed after another edit of the image.
 use Rattle.std.proofs.Common.{arith, ◌≡◌, ◌≢◌, ℕ, ◌+◌, ◌≤◌, List, [], ◌∷◌, ◌++◌, length, Bool, true, false, ◌||◌, eq-eqb, refl, sym, ap, subst, ◌∙◌, inl, inr}
-use Rattle.std.specs.Prelude.{◌==◌}
-use Rattle.cdf_format.specs.Bytes.{Same}
-use Rattle.cdf_format.specs.Chains.{is_in}
-use Rattle.cdf_format.specs.Fields.{number, size_at, type_at}
-use Rattle.cdf_format.specs.Records.{Field}
-use Rattle.cdf_format.specs.RecordTypes.{gdr_type, uir_type}
-use Rattle.cdf_format.specs.Shape.{Shape, Each, shape}
-use Rattle.cdf_format.specs.Sound.{IsSound}
-use Rattle.cdf_format.specs.Tiles.{In, AreTiles}
-use Rattle.cdf_format.proofs.BytesLemmas.{number_kept}
-use Rattle.cdf_edits.specs.Commands.Allowances.{FreedStay, no_fields}
-use Rattle.cdf_edits.specs.Edits.Edit.{Edit}
-use Rattle.cdf_edits.specs.Edits.ManyMarks.{freeing_marks, wholes}
-use Rattle.cdf_edits.specs.Edits.Marks.{Mark, Avoids, Away, unmarked}
-use Rattle.cdf_edits.specs.Edits.Writes.{Write}
-use Rattle.cdf_edits.specs.Space.Acts.{gave, links_end, ActsFollow}
-use Rattle.cdf_edits.specs.Space.Freeing.{AllGiven, AreFree}
-use Rattle.cdf_edits.specs.Space.Placement.{with_space}
+use Rattle.cdf_edits.proofs.Common.{◌==◌, Same, is_in, number, size_at, type_at, Field, gdr_type, uir_type, Shape, Each, shape, IsSound, In, AreTiles, number_kept, FreedStay, no_fields, Edit, freeing_marks, wholes, Mark, Avoids, Away, unmarked, Write, gave, links_end, ActsFollow, AllGiven, AreFree, with_space}
 use Rattle.cdf_edits.proofs.Edits.ActsThen.{gave-same, all_gave}
 use Rattle.cdf_edits.proofs.Edits.Composing.{head_size, edit_then}
 use Rattle.cdf_edits.proofs.Edits.EditActs.{acts_none}

@@ -1,34 +1,13 @@
 -- What is freed keeps its bytes behind the links of an unused record.
 use Rattle.std.proofs.Common.{◌≡◌, ◌≢◌, ℕ, ◌+◌, ◌≤◌, List, [], ◌∷◌, length, eq-eqb, refl, sym, ap, subst, ◌∙◌, arith, inl, inr}
-use Rattle.std.proofs.lemmas.Bool.{cases_eq, eqb-true, leb-true, le-leb}
-use Rattle.std.specs.Prelude.{◌==◌, nat_le}
-use Rattle.cdf_format.specs.Records.{Field}
-use Rattle.cdf_edits.specs.Commands.Allowances.{FreedStays, GivenStay}
-use Rattle.cdf_edits.specs.Edits.Marks.{giving_marks}
-use Rattle.cdf_edits.specs.Frame.Changed.{Misses}
-use Rattle.cdf_edits.specs.Space.Acts.{Act, gave, links_end}
-use Rattle.cdf_edits.specs.Space.Freeing.{AllGiven, AreFree}
-use Rattle.cdf_edits.specs.Space.Giving.{IsGiven}
-use Rattle.cdf_edits.specs.Space.Placement.{first_back_link, giving, with_space, Gives}
-use Rattle.cdf_format.specs.Bytes.{Same}
-use Rattle.cdf_format.specs.Content.{content}
-use Rattle.cdf_format.specs.Fields.{size_at, type_at}
-use Rattle.cdf_format.specs.Owners.{times, owned_records, unused_records}
-use Rattle.cdf_format.specs.RecordTypes.{uir_type}
-use Rattle.cdf_format.specs.Shape.{Shape, shape, HasShape}
-use Rattle.cdf_format.specs.Sound.{IsSound}
-use Rattle.cdf_format.specs.Tiles.{In, AreTiles}
-use Rattle.cdf_format.proofs.ChainsLemmas.{is_a-type, linkable-long}
-use Rattle.cdf_format.proofs.Members.{either}
-use Rattle.cdf_format.proofs.Owning.{times-none, filter-in}
-use Rattle.cdf_format.proofs.TilesLemmas.{tiles_lie_apart}
+use Rattle.cdf_edits.proofs.Common.{cases_eq, eqb-true, leb-true, le-leb, ◌==◌, nat_le, Field, GivenStay, giving_marks, Misses, Act, gave, links_end, AllGiven, AreFree, IsGiven, first_back_link, giving, with_space, Gives, Same, content, size_at, type_at, times, owned_records, unused_records, uir_type, Shape, shape, HasShape, IsSound, In, AreTiles, is_a-type, linkable-long, either, times-none, filter-in, tiles_lie_apart, Same-part}
+use Rattle.cdf_edits.specs.Commands.Allowances.{FreedStays}
 use Rattle.cdf_edits.proofs.Edits.Composing.{head_type, part}
 use Rattle.cdf_edits.proofs.Edits.FreedRecords.{one_given, others_still, sizes_stay}
 use Rattle.cdf_edits.proofs.Edits.StepEdits.{all_marked}
 use Rattle.cdf_edits.proofs.Frame.OwnersApart.{times-in, owned-times, file_records, all_attribute_records, all_variable_records}
 use Rattle.cdf_edits.proofs.Space.ActsLeave.{each}
 use Rattle.cdf_edits.proofs.Space.UsedRecords.{filter-keeps, filter-says}
-use Rattle.cdf_format.proofs.BytesLemmas.{Same-part}
 use Rattle.cdf_edits.proofs.Frame.Meaning.{Kept, KeptButLink}
 
 end_low : (size : ℕ) → 12 ≤ links_end size

@@ -1,31 +1,7 @@
 -- An entry that its chain has no more is freed.
 use Rattle.std.proofs.Common.{◌≡◌, ◌≢◌, ℕ, ◌+◌, ◌≤◌, List, [], ◌∷◌, ◌++◌, length, map, true, false, refl, sym, ap, subst, ◌∙◌, arith, inl, inr}
-use Rattle.std.proofs.lemmas.Bool.{le-leb}
-use Rattle.cdf_model.specs.declared.kinds.EntryKind.{EntryKind}
+use Rattle.cdf_edits.proofs.Common.{le-leb, EntryKind, Same, sum, IsChain, is_in, eof, number, size_at, type_at, read_types, Unused, attribute_records, owned_by, owned_records, times, unused_records, Field, gdr_eof, gdr_uir_head, uir_next_uir, uir_prev_uir, gdr_type, adr_type, uir_type, is_record_type, fixed_size, AttributeShape, Each, HasShape, Shape, shape, EntryFits, IsSound, In, AreTiles, Same-part, is_a-type, linkable-in, linkable-type, In-append, In-append_left, In-append_right, times-none, tile_lies, Allowances, AllKeep, is_taken, GivenStay, no_fields, space_fields, chain_fields, chain_of, entry_type, max_field, Edit, head_field, count_field, keeps_but_chain, Mark, Avoids, Away, Within, Confined, attribute_types, avoided, giving_marks, within, Act, Gave, ActsFollow, gave, links_end, taken, Gives, giving}
 use Rattle.cdf_model.specs.declared.kinds.EntryKind.TheVariants as entries
-use Rattle.cdf_format.specs.Bytes.{Same}
-use Rattle.std.specs.List.{sum}
-use Rattle.cdf_format.specs.Chains.{IsChain, is_in}
-use Rattle.cdf_format.specs.Fields.{eof, number, size_at, type_at}
-use Rattle.cdf_format.specs.NotRead.{read_types}
-use Rattle.cdf_format.specs.Owners.{Unused, attribute_records, owned_by, owned_records, times, unused_records}
-use Rattle.cdf_format.specs.Records.{Field, gdr_eof, gdr_uir_head, uir_next_uir, uir_prev_uir}
-use Rattle.cdf_format.specs.RecordTypes.{gdr_type, adr_type, uir_type, is_record_type, fixed_size}
-use Rattle.cdf_format.specs.Shape.{AttributeShape, Each, HasShape, Shape, shape}
-use Rattle.cdf_format.specs.Sound.{EntryFits, IsSound}
-use Rattle.cdf_format.specs.Tiles.{In, AreTiles}
-use Rattle.cdf_format.proofs.BytesLemmas.{Same-part}
-use Rattle.cdf_format.proofs.ChainsLemmas.{is_a-type, linkable-in, linkable-type}
-use Rattle.cdf_format.proofs.Members.{In-append, In-append_left, In-append_right}
-use Rattle.cdf_format.proofs.Owning.{times-none}
-use Rattle.cdf_format.proofs.TilesLemmas.{tile_lies}
-use Rattle.cdf_edits.specs.Commands.Allowances.{Allowances, AllKeep, is_taken, GivenStay, no_fields, space_fields}
-use Rattle.cdf_edits.specs.Commands.EntryChains.{chain_fields, chain_of, entry_type, max_field}
-use Rattle.cdf_edits.specs.Edits.Edit.{Edit}
-use Rattle.cdf_edits.specs.Edits.EntryMarks.{head_field, count_field, keeps_but_chain}
-use Rattle.cdf_edits.specs.Edits.Marks.{Mark, Avoids, Away, Within, Confined, attribute_types, avoided, giving_marks, within}
-use Rattle.cdf_edits.specs.Space.Acts.{Act, Gave, ActsFollow, gave, links_end, taken}
-use Rattle.cdf_edits.specs.Space.Placement.{Gives, giving}
 use Rattle.cdf_edits.proofs.Edits.ActsThen.{acts_gave}
 use Rattle.cdf_edits.proofs.Edits.ChainKinds.{chain_has, chain_in}
 use Rattle.cdf_edits.proofs.Edits.ChainOwners.{rechained, gone_free, gone_unowned, traded_member}

@@ -1,23 +1,7 @@
 -- Records that are freed one after the other are one edit.
 use Rattle.std.proofs.Common.{◌≡◌, ◌≢◌, ◌⊎◌, ℕ, ◌+◌, ◌≤◌, List, [], ◌∷◌, length, map, true, refl, sym, ap, subst, ◌∙◌, arith, inl, inr}
-use Rattle.std.proofs.lemmas.Bool.{eqb-true}
-use Rattle.std.specs.Prelude.{◌==◌, nat_le}
-use Rattle.cdf_format.specs.Bytes.{Same}
-use Rattle.cdf_format.specs.Chains.{is_in}
-use Rattle.cdf_format.specs.Fields.{size_at, type_at}
-use Rattle.cdf_format.specs.RecordTypes.{uir_type}
-use Rattle.cdf_format.specs.Shape.{Shape, shape}
-use Rattle.cdf_format.specs.Sound.{IsSound}
-use Rattle.cdf_format.specs.Tiles.{In, AreTiles, Distinct}
-use Rattle.cdf_format.proofs.Members.{either}
-use Rattle.cdf_format.proofs.TilesLemmas.{tile_lies}
-use Rattle.cdf_edits.specs.Edits.Edit.{Edit}
-use Rattle.cdf_edits.specs.Edits.ManyMarks.{wholes, freeing_marks}
-use Rattle.cdf_edits.specs.Edits.Marks.{Mark, Avoids, giving_marks}
-use Rattle.cdf_edits.specs.Space.Freeing.{AllGiven}
-use Rattle.cdf_edits.specs.Space.Placement.{unused, given_to}
+use Rattle.cdf_edits.proofs.Common.{eqb-true, ◌==◌, nat_le, Same, is_in, size_at, type_at, uir_type, Shape, shape, IsSound, In, AreTiles, Distinct, either, tile_lies, Edit, wholes, freeing_marks, Mark, Avoids, giving_marks, AllGiven, unused, given_to, IsGiven}
 use Rattle.cdf_edits.proofs.Space.ActsLeave.{places-sized}
-use Rattle.cdf_edits.specs.Space.Giving.{IsGiven}
 use Rattle.cdf_edits.proofs.Edits.Composing.{head_type, edit_then}
 use Rattle.cdf_edits.proofs.Edits.MarkLemmas.{or_cases, Avoids-append}
 use Rattle.cdf_edits.proofs.Edits.StepEdits.{gives_edit}

@@ -1,48 +1,6 @@
 -- The old VDR is freed that another one took the place of: what the image is then.
 use Rattle.std.proofs.Common.{◌≡◌, ◌≢◌, ◌⊎◌, not, ℕ, suc, ◌+◌, ◌<◌, ◌≤◌, List, [], ◌∷◌, ◌++◌, length, map, Bool, true, false, eq-eqb, bytes_eq, refl, sym, ap, subst, ◌∙◌, arith, inl, inr}
-use Rattle.std.proofs.lemmas.Bool.{le-leb, ne_eqb}
-use Rattle.std.proofs.lemmas.List.{length-map, map-append, set_at}
-use Rattle.std.specs.List.{flat_map}
-use Rattle.std.specs.Prelude.{◌==◌, if◌then◌else◌, slice_set}
-use Rattle.cdf_model.specs.declared.kinds.Kind.{Kind}
-use Rattle.cdf_model.specs.declared.kinds.Kind.TheVariants.{R, Z}
-use Rattle.cdf_model.specs.DataSet.{DataSet, Variable}
-use Rattle.cdf_model.specs.Limits.{image_limit}
-use Rattle.cdf_model.specs.Names.{Found, variables_of, with_variables}
-use Rattle.cdf_format.specs.Bytes.{Same}
-use Rattle.cdf_format.specs.ChainRules.{number_rows}
-use Rattle.cdf_format.specs.Chains.{is_in, next_field, IsChain}
-use Rattle.cdf_format.specs.Content.{content, variable_of}
-use Rattle.cdf_format.specs.Fields.{number, name_in, integer4, size_at, type_at, has_bit, gdr_offset}
-use Rattle.cdf_format.specs.NotRead.{read_types, unread_type}
-use Rattle.cdf_format.specs.Owners.{OneVariable, Unused, owned, owned_by, owned_by_variables, unused_records, variable_records, times}
-use Rattle.cdf_format.specs.Records.{Field, gdr_eof, gdr_uir_head, uir_next_uir, uir_prev_uir, vdr_blocking_factor, vdr_flags, vdr_num, vdr_name}
-use Rattle.cdf_format.specs.RecordTypes.{cdr_type, gdr_type, r_vdr_type, z_vdr_type, uir_type, fixed_size, is_record_type}
-use Rattle.cdf_format.specs.Rules.{Hold}
-use Rattle.cdf_format.specs.Shape.{VariableShape, Shape, vdrs, is_compressed, HasShape, Each, shape}
-use Rattle.cdf_format.specs.Tiles.{In, AreTiles}
-use Rattle.cdf_format.specs.VariableFields.{pad_field, pad_at, records_vary}
-use Rattle.cdf_format.specs.VariableRules.{vdr_end}
-use Rattle.cdf_format.specs.WellFormed.{Good}
-use Rattle.cdf_format.proofs.BytesLemmas.{Same-part, size_kept, type_kept, number_kept, name_kept}
-use Rattle.cdf_format.proofs.ChainsLemmas.{is_a-in, is_a-type, linkable-in, linkable-type}
-use Rattle.cdf_format.proofs.GoodByShape.{IsGoodByShape}
-use Rattle.cdf_format.proofs.GoodSound.{good_by_its_shape, rules_of_good}
-use Rattle.cdf_format.proofs.Members.{either, In-append, In-append_left, In-append_right}
-use Rattle.cdf_format.proofs.Owning.{times-none}
-use Rattle.cdf_format.proofs.RowLemmas.{Hold-member}
-use Rattle.cdf_format.proofs.SealedRules.{good_long, sealed_kept}
-use Rattle.cdf_format.proofs.ShapeLemmas.{Each-split, content_is, shape_is}
-use Rattle.cdf_format.proofs.TilesLemmas.{tile_lies}
-use Rattle.cdf_edits.specs.Commands.Allowances.{Allowances, AllKeep, Keeps, Anything, Only, GivenStay, no_fields, same_kind, shapes_of, stays_own, vdr_type}
-use Rattle.cdf_edits.specs.Commands.Variables.{set_pad_changes, variables_gdr_fields}
-use Rattle.cdf_edits.specs.Edits.Edit.{Edit}
-use Rattle.cdf_edits.specs.Edits.Marks.{Mark, Away, all_unmarked, avoided, within, index_types, keeps_file, making_marks, giving_marks}
-use Rattle.cdf_edits.specs.Space.Adding.{adding_marks}
-use Rattle.cdf_edits.specs.Space.Acts.{Act, ActsFollow, Gave, Took, gave, links_end, sized}
-use Rattle.cdf_edits.specs.Space.Chains.{head_of, count_of, type_in}
-use Rattle.cdf_edits.specs.Space.Placement.{Gives, giving, taken_from}
-use Rattle.cdf_edits.specs.Space.VariableChains.{variables_chain}
+use Rattle.cdf_edits.proofs.Common.{le-leb, ne_eqb, length-map, map-append, set_at, flat_map, ◌==◌, if◌then◌else◌, slice_set, Kind, R, Z, DataSet, Variable, image_limit, Found, variables_of, with_variables, Same, number_rows, is_in, next_field, IsChain, content, variable_of, number, name_in, integer4, size_at, type_at, has_bit, gdr_offset, read_types, unread_type, OneVariable, Unused, owned, owned_by, owned_by_variables, unused_records, variable_records, times, Field, gdr_eof, gdr_uir_head, uir_next_uir, uir_prev_uir, vdr_blocking_factor, vdr_flags, vdr_num, vdr_name, cdr_type, gdr_type, r_vdr_type, z_vdr_type, uir_type, fixed_size, is_record_type, Hold, VariableShape, Shape, vdrs, is_compressed, HasShape, Each, shape, In, AreTiles, pad_field, pad_at, records_vary, vdr_end, Good, Same-part, size_kept, type_kept, number_kept, name_kept, is_a-in, is_a-type, linkable-in, linkable-type, IsGoodByShape, good_by_its_shape, rules_of_good, either, In-append, In-append_left, In-append_right, times-none, Hold-member, good_long, sealed_kept, Each-split, content_is, shape_is, tile_lies, Allowances, AllKeep, Keeps, Anything, Only, GivenStay, no_fields, same_kind, shapes_of, stays_own, vdr_type, set_pad_changes, variables_gdr_fields, Edit, Mark, Away, all_unmarked, avoided, within, index_types, keeps_file, making_marks, giving_marks, adding_marks, Act, ActsFollow, Gave, Took, gave, links_end, sized, head_of, count_of, type_in, Gives, giving, taken_from, variables_chain}
 use Rattle.cdf_edits.proofs.Edits.Composing.{edit_then, same-then, sizes}
 use Rattle.cdf_edits.proofs.Commands.KeptRecords.{Stood, AllKeep-append, keep_attributes, keep_owned, keep_variables}
 use Rattle.cdf_edits.proofs.Edits.ActsThen.{acts_gave}

@@ -1,27 +1,12 @@
 -- What is linked through some records of an image is linked through others that hold the same ones.
 use Rattle.std.proofs.Common.{◌≡◌, ℕ, ℤ, pos, negsuc, zero, suc, List, [], ◌∷◌, ◌++◌, map, Bool, true, false, not, ◌&&◌, ◌||◌, ◌+◌, ◌*◌, refl, sym, ap, subst, ◌∙◌, inl, inr}
-use Rattle.std.proofs.lemmas.List.{map-append}
-use Rattle.std.specs.List.{flat_map}
-use Rattle.std.specs.Prelude.{nat_le, is_some, ◌==◌}
-use Rattle.cdf_model.specs.Limits.{record_number_limit}
-use Rattle.cdf_format.specs.Fields.{is_positive, with_sign, number, size_at, type_at}
-use Rattle.cdf_format.specs.RecordTypes.{vxr_type, vvr_type, cvvr_type, cpr_type}
-use Rattle.cdf_format.specs.Tiles.{In}
-use Rattle.cdf_format.specs.Chains.{is_a, is_in, is_linkable}
-use Rattle.cdf_format.specs.Index.{Nodes, no_node, node, Entries, no_entry, block, lower, Leaf, nodes_of, lower_nodes, leaves_of, entry_leaves}
-use Rattle.cdf_format.specs.IndexOf.{HasNodes, Names, IsIndex}
-use Rattle.cdf_format.specs.IndexRules.{is_block, is_between, end_of, has_room, nodes_rows, used_rows, leaf_rows, vvr_rows, cvvr_rows, index_rows}
+use Rattle.cdf_edits.proofs.Common.{map-append, flat_map, nat_le, is_some, ◌==◌, record_number_limit, is_positive, with_sign, number, size_at, type_at, vxr_type, vvr_type, cvvr_type, cpr_type, In, is_a, is_in, is_linkable, Nodes, no_node, node, Entries, no_entry, block, lower, Leaf, IsIndex, is_block, is_between, end_of, has_room, leaf_rows, vvr_rows, cvvr_rows, index_rows, Row, row, asked, Each, is_compressed, LeafFits, has_name, vdr_data_type, vdr_max_rec, vdr_s_records, vdr_name, cpr_p_count, is_z, number_before, record_bytes, has_dimensions, vdr_end, is_max_rec, cpr_link, is_no_link, is_cpr, is_known_packing, cpr_rows, is_named_apart, variable_rows, record_limit, In-append_left, In-append_right, is_in-true}
+use Rattle.cdf_format.specs.Index.{nodes_of, lower_nodes, leaves_of, entry_leaves}
+use Rattle.cdf_format.specs.IndexOf.{HasNodes, Names}
+use Rattle.cdf_format.specs.IndexRules.{nodes_rows, used_rows}
 use Rattle.cdf_format.specs.NotRead.{unread_sparse}
-use Rattle.cdf_format.specs.Rules.{Row, row, asked}
-use Rattle.cdf_format.specs.Shape.{Each, is_compressed}
-use Rattle.cdf_format.specs.Sound.{LeafFits}
-use Rattle.cdf_format.specs.AttributeRules.{has_name}
-use Rattle.cdf_format.specs.Records.{vdr_data_type, vdr_max_rec, vdr_s_records, vdr_name, cpr_p_count}
 use Rattle.cdf_format.specs.Stored.{known_type}
-use Rattle.cdf_format.specs.VariableFields.{is_z, number_before, record_bytes}
-use Rattle.cdf_format.specs.VariableRules.{has_elements, has_dimensions, vdr_end, is_max_rec, cpr_link, is_no_link, is_cpr, is_known_packing, cpr_rows, is_named_apart, variable_rows}
-use Rattle.cdf_model.specs.Place.{record_limit}
-use Rattle.cdf_format.proofs.Members.{In-append_left, In-append_right, is_in-true}
+use Rattle.cdf_format.specs.VariableRules.{has_elements}
 use Rattle.cdf_edits.proofs.Rules.OfVariables.{asked_same}
 
 -- a record that both have

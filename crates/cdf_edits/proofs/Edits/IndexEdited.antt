@@ -11,34 +11,9 @@ use Rattle.cdf_edits.proofs.Frame.OwnerAlone.{Each-in}
 use Rattle.cdf_edits.proofs.Frame.OwnersApart.{all_variable_records}
 use Rattle.cdf_edits.proofs.Frame.VdrAlike.{VdrAlike}
 use Rattle.cdf_edits.proofs.Rules.OfVdrCopied.{cpr_stays, variable_rules_alike}
-use Rattle.cdf_edits.specs.Commands.Allowances.{shapes_of}
-use Rattle.cdf_edits.specs.Edits.Edit.{Edit}
-use Rattle.cdf_edits.specs.Edits.Marks.{unmarked, Mark, Avoids, Away, avoided, keeps_file}
-use Rattle.cdf_edits.specs.Space.Chains.{type_in, count_of, head_of}
-use Rattle.cdf_edits.specs.Space.VariableChains.{variables_chain}
-use Rattle.cdf_format.proofs.BytesLemmas.{word_kept}
-use Rattle.cdf_format.proofs.ChainsLemmas.{linkable-type, is_a-type, linkable-in}
-use Rattle.cdf_format.proofs.TilesLemmas.{tile_lies}
-use Rattle.cdf_format.specs.Bytes.{Same}
-use Rattle.cdf_format.specs.Chains.{is_in, is_a, IsChain}
-use Rattle.cdf_format.specs.Fields.{number, name_in, size_at, type_at, eof}
-use Rattle.cdf_format.specs.Index.{Nodes}
-use Rattle.cdf_format.specs.IndexOf.{IsIndex}
-use Rattle.cdf_format.specs.IndexRules.{index_rows}
-use Rattle.cdf_format.specs.NotRead.{read_types}
-use Rattle.cdf_format.specs.Owners.{owned, variable_records, OwnedOnce}
-use Rattle.cdf_format.specs.RecordTypes.{uir_type, gdr_type, is_record_type, fixed_size, cpr_type}
-use Rattle.cdf_format.specs.Records.{vdr_max_rec, vdr_name, vdr_vxr_head, gdr_uir_head, vdr_num}
-use Rattle.cdf_format.specs.Rules.{Hold}
-use Rattle.cdf_format.specs.Shape.{VariableShape, shape, Shape, HasVariable, HasShape, vdrs, is_compressed}
-use Rattle.cdf_format.specs.Tiles.{In}
-use Rattle.cdf_format.specs.VariableRules.{cpr_link, is_max_rec}
-use Rattle.cdf_format.specs.WellFormed.{Good}
 use Rattle.cdf_model.specs.Forms.{rows}
-use Rattle.cdf_model.specs.Limits.{image_limit}
-use Rattle.cdf_model.specs.Reading.{read}
-use Rattle.cdf_model.specs.declared.kinds.Kind.{Kind}
 use Rattle.std.proofs.Common.{[], ◌≡◌, ℕ, ◌≤◌, Bool, List, length, arith, not, ◌+◌, ◌∷◌, ◌++◌, sym, ◌∙◌, ap, ◌⊎◌, inl, inr, refl, ◌==◌, true, subst, if◌then◌else◌, max}
+use Rattle.cdf_edits.proofs.Common.{shapes_of, Edit, unmarked, Mark, Avoids, Away, avoided, keeps_file, type_in, count_of, head_of, variables_chain, word_kept, linkable-type, is_a-type, linkable-in, tile_lies, Same, is_in, is_a, IsChain, number, name_in, size_at, type_at, eof, Nodes, IsIndex, index_rows, read_types, owned, variable_records, OwnedOnce, uir_type, gdr_type, is_record_type, fixed_size, cpr_type, vdr_max_rec, vdr_name, vdr_vxr_head, gdr_uir_head, vdr_num, Hold, VariableShape, shape, Shape, HasVariable, HasShape, vdrs, is_compressed, In, cpr_link, is_max_rec, Good, image_limit, read, Kind}
 use Rattle.cdf_edits.proofs.Edits.StandsAmong.{StandsAmong, sound, tile, typed, long, has, fits, behind_in, through, least_size}
 use Rattle.cdf_edits.proofs.Edits.OwnEdited.{OwnEdit, named_before, own_ruled}
 use Rattle.cdf_edits.proofs.Edits.OwnEdited as of_own

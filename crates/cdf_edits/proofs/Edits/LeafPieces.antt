@@ -1,19 +1,9 @@
 -- Leaves in order, each with its place: how one is found, and the bytes of its records where it is not packed.
 use Rattle.std.proofs.Common.{◌≡◌, ◌⊎◌, ℕ, zero, suc, ◌+◌, ◌-◌, ◌*◌, ◌<◌, ◌≤◌, List, [], ◌∷◌, take, drop, Bool, true, false, Some, None, leb, eq-eqb, refl, sym, ap, subst, ◌∙◌, arith, inl, inr}
-use Rattle.std.proofs.lemmas.Bool.{le-leb, lt-leb, ne_eqb}
-use Rattle.std.proofs.lemmas.List.{take-take, drop-take, drop-drop}
-use Rattle.std.proofs.lemmas.Option.{same_Some}
-use Rattle.std.specs.Prelude.{◌==◌, find, if◌then◌else◌, max}
-use Rattle.cdf_model.specs.Limits.{record_number_limit}
-use Rattle.cdf_format.specs.Content.{plain_bytes}
-use Rattle.cdf_format.specs.Index.{Leaf}
-use Rattle.cdf_format.specs.Owners.{times}
-use Rattle.cdf_format.specs.Shape.{Each}
-use Rattle.cdf_format.specs.Tiles.{In}
-use Rattle.cdf_format.specs.VariableFields.{record_bytes}
-use Rattle.cdf_format.proofs.Members.{either}
-use Rattle.cdf_format.proofs.Tests.{both, le_of}
-use Rattle.cdf_edits.specs.Index.Blocks.{range, covers, shared}
+use Rattle.cdf_edits.proofs.Common.{le-leb, lt-leb, ne_eqb, drop-drop, same_Some, ◌==◌, find, if◌then◌else◌, record_number_limit, plain_bytes, Leaf, times, Each, In, record_bytes, either, both, le_of, range, covers}
+use Rattle.std.proofs.lemmas.List.{take-take, drop-take}
+use Rattle.std.specs.Prelude.{max}
+use Rattle.cdf_edits.specs.Index.Blocks.{shared}
 use Rattle.cdf_edits.specs.Index.Written.{AnyOf}
 use Rattle.cdf_edits.proofs.Edits.InRecords.{places_of}
 use Rattle.cdf_edits.proofs.Edits.LeafRecords.{Ascending, count_is}

@@ -1,24 +1,6 @@
 -- The records of leaves in order, by their numbers: which record has a number, and that the numbers rise.
 use Rattle.std.proofs.Common.{◌≡◌, ◌⊎◌, ℕ, ℤ, pos, zero, suc, ◌+◌, ◌-◌, ◌*◌, ◌^◌, ◌<◌, ◌≤◌, List, [], ◌∷◌, ◌++◌, map, take, drop, true, false, Option, Some, None, ltb, leb, refl, sym, ap, subst, ◌∙◌, arith, inl, inr}
-use Rattle.std.proofs.lemmas.Bool.{cases_eq, cases_lt, le-leb, lt-leb}
-use Rattle.std.proofs.lemmas.Bool.Decides.{nat_tests}
-use Rattle.std.proofs.lemmas.List.{drop-drop}
-use Rattle.std.proofs.Math.IntN.{ -ℤ_one}
-use Rattle.std.specs.List.{enumerate_from, flat_map}
-use Rattle.std.specs.Option.{option_map}
-use Rattle.std.specs.Prelude.{find, ◌-ℤ◌}
-use Rattle.cdf_model.specs.ByteOrder.{parts, turned}
-use Rattle.cdf_model.specs.DataSet.{extent}
-use Rattle.cdf_model.specs.Limits.{record_number_limit}
-use Rattle.cdf_model.specs.Numbered.{item_at}
-use Rattle.cdf_format.specs.Content.{plain_bytes, leaf_records, records_in}
-use Rattle.cdf_format.specs.Fields.{with_sign, counted}
-use Rattle.cdf_format.specs.Index.{Leaf}
-use Rattle.cdf_format.specs.Stored.{is_little}
-use Rattle.cdf_format.specs.VariableFields.{counted4, number_before, type_of_variable, record_bytes, max_rec_at, records_of_leaf}
-use Rattle.cdf_format.proofs.Members.{either}
-use Rattle.cdf_edits.specs.Index.Blocks.{range, covers}
-use Rattle.cdf_edits.specs.Index.Written.{stored_bytes}
+use Rattle.cdf_edits.proofs.Common.{cases_eq, cases_lt, le-leb, lt-leb, nat_tests, drop-drop, -ℤ_one, enumerate_from, flat_map, option_map, find, ◌-ℤ◌, parts, turned, extent, record_number_limit, item_at, plain_bytes, leaf_records, records_in, with_sign, counted, Leaf, is_little, counted4, number_before, type_of_variable, record_bytes, max_rec_at, records_of_leaf, either, range, covers, stored_bytes}
 use Rattle.cdf_edits.proofs.Edits.NumberedItems.{Rising, none, one}
 use Rattle.cdf_edits.proofs.Edits.NumberedLookup.{item_here, item_later, none_below, below, rising_below, item_below, none_past}
 

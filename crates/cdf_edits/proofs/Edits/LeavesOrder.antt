@@ -1,18 +1,9 @@
 -- The leaves of an index that keeps its rules are in order.
 use Rattle.std.proofs.Common.{◌≡◌, ◌⊎◌, ℕ, ℤ, pos, negsuc, zero, suc, ◌-◌, ◌^◌, ◌<◌, ◌≤◌, List, [], ◌∷◌, ◌++◌, true, ◌&&◌, ltb, true≢false, refl, sym, ap, subst, ◌∙◌, arith, inl, inr}
-use Rattle.std.proofs.lemmas.Bool.Decides.{nat_tests}
-use Rattle.std.proofs.Math.IntN.{ -ℤ_one}
-use Rattle.std.specs.List.{flat_map}
-use Rattle.std.specs.Prelude.{◌-ℤ◌, int_lt, int_le}
-use Rattle.cdf_model.specs.Limits.{record_number_limit}
-use Rattle.cdf_format.specs.Fields.{with_sign}
-use Rattle.cdf_format.specs.Index.{Nodes, no_node, node, Entries, no_entry, block, lower, Leaf, leaves_of, entry_leaves}
-use Rattle.cdf_format.specs.IndexRules.{end_of, is_between, nodes_rows, used_rows, leaf_rows, index_rows}
-use Rattle.cdf_format.specs.Rules.{Hold}
-use Rattle.cdf_format.specs.VariableFields.{number_before}
-use Rattle.cdf_format.proofs.Members.{either}
-use Rattle.cdf_format.proofs.RowLemmas.{Hold-split}
-use Rattle.cdf_format.proofs.Tests.{both, le_of}
+use Rattle.cdf_edits.proofs.Common.{nat_tests, -ℤ_one, flat_map, ◌-ℤ◌, record_number_limit, with_sign, Nodes, no_node, node, Entries, no_entry, block, lower, Leaf, end_of, is_between, leaf_rows, index_rows, Hold, number_before, either, Hold-split, both, le_of}
+use Rattle.std.specs.Prelude.{int_lt, int_le}
+use Rattle.cdf_format.specs.Index.{leaves_of, entry_leaves}
+use Rattle.cdf_format.specs.IndexRules.{nodes_rows, used_rows}
 use Rattle.cdf_edits.proofs.Edits.LeafRecords.{Ascending}
 
 -- ---- leaves in order

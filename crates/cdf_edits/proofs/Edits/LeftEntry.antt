@@ -1,26 +1,8 @@
 -- An entry is taken out of a chain of an attribute, which then counts one less, and the greatest number is written.
 use Rattle.std.proofs.Common.{◌≡◌, ◌≢◌, ℕ, ◌+◌, ◌≤◌, List, [], ◌∷◌, ◌++◌, length, ℤ, true, eq-eqb, refl, sym, ap, subst, ◌∙◌, arith, inl, inr}
-use Rattle.std.proofs.lemmas.Bool.{cases_eq, ne_eqb}
-use Rattle.std.specs.Int.{w32, cast_unsigned}
-use Rattle.std.specs.Prelude.{FitsSigned}
-use Rattle.cdf_model.specs.declared.kinds.EntryKind.{EntryKind}
+use Rattle.cdf_edits.proofs.Common.{cases_eq, ne_eqb, w32, cast_unsigned, FitsSigned, EntryKind, IsChain, eof, number, integer4, size_at, type_at, with_field, attribute_records, gdr_eof, gdr_uir_head, uir_next_uir, uir_prev_uir, gdr_type, adr_type, uir_type, AttributeShape, HasShape, Shape, shape, IsSound, In, Distinct, linkable-in, linkable-type, space_fields, chain_of, chain_fields, entry_type, max_field, Edit, entries_chain, head_field, count_field, keeps_but_chain, Mark, avoided, ended, unmarked, within, removing_marks, giving_marks, field_marks, ActsFollow, HolderStands, Removed, head_of, holder_of, holder_type, members_of, type_in}
 use Rattle.cdf_model.specs.declared.kinds.EntryKind.TheVariants as entries
-use Rattle.cdf_format.specs.Chains.{IsChain}
-use Rattle.cdf_format.specs.Fields.{eof, number, integer4, size_at, type_at, with_field}
-use Rattle.cdf_format.specs.Owners.{attribute_records}
-use Rattle.cdf_format.specs.Records.{gdr_eof, gdr_uir_head, uir_next_uir, uir_prev_uir}
-use Rattle.cdf_format.specs.RecordTypes.{gdr_type, adr_type, uir_type}
-use Rattle.cdf_format.specs.Shape.{AttributeShape, HasShape, Shape, shape}
-use Rattle.cdf_format.specs.Sound.{IsSound}
-use Rattle.cdf_format.specs.Tiles.{In, Distinct}
-use Rattle.cdf_format.proofs.ChainsLemmas.{linkable-in, linkable-type}
-use Rattle.cdf_edits.specs.Commands.Allowances.{space_fields}
-use Rattle.cdf_edits.specs.Commands.EntryChains.{chain_of, chain_fields, entry_type, max_field}
-use Rattle.cdf_edits.specs.Edits.Edit.{Edit}
-use Rattle.cdf_edits.specs.Edits.EntryMarks.{entries_chain, head_field, count_field, keeps_but_chain}
-use Rattle.cdf_edits.specs.Edits.Marks.{Mark, avoided, ended, unmarked, within, removing_marks, giving_marks, field_marks}
-use Rattle.cdf_edits.specs.Space.Acts.{ActsFollow}
-use Rattle.cdf_edits.specs.Space.Chains.{HolderStands, Removed, head_of, holder_of, holder_type, members_of, type_in, without}
+use Rattle.cdf_edits.specs.Space.Chains.{without}
 use Rattle.cdf_edits.proofs.Edits.AttributeFrame.{AreThere}
 use Rattle.cdf_edits.proofs.Edits.ChainKinds.{chain_has, chain_in}
 use Rattle.cdf_edits.proofs.Edits.ChainEdits.{removed_edit}

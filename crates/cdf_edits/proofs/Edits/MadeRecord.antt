@@ -1,33 +1,10 @@
 -- A record is taken and written anew, and then it is linked and counted: what every command has that makes a record.
 use Rattle.std.proofs.Common.{◌≡◌, ◌≢◌, ◌⊎◌, ℕ, ◌+◌, ◌-◌, ◌<◌, ◌≤◌, List, [], ◌∷◌, ◌++◌, length, map, true, false, refl, sym, ap, ap₂, subst, ◌∙◌, arith, inl, inr}
-use Rattle.std.proofs.lemmas.Bool.{leb-true}
-use Rattle.std.specs.Prelude.{◌==◌, ◌&&◌, nat_le}
-use Rattle.cdf_edits.specs.Space.Acts.{Took, sized}
-use Rattle.cdf_format.specs.Sound.{IsSound}
-use Rattle.cdf_edits.specs.Commands.Allowances.{Allowances, is_taken, AllKeep}
-use Rattle.cdf_format.specs.Bytes.{Same}
-use Rattle.cdf_edits.specs.Frame.Changed.{touch, Changed}
-use Rattle.cdf_format.specs.Chains.{is_in, IsChain}
-use Rattle.cdf_format.specs.Content.{content}
-use Rattle.cdf_format.specs.Fields.{number, size_at, type_at, eof}
-use Rattle.cdf_format.specs.Owners.{Unused, owned_by, unused_records}
-use Rattle.cdf_edits.specs.Space.Placement.{unused, place_for, taken_from, eof_after, with_space, back_links}
-use Rattle.cdf_format.specs.Records.{Field, record_size, gdr_eof, gdr_uir_head, uir_next_uir, uir_prev_uir}
-use Rattle.cdf_format.specs.RecordTypes.{gdr_type, uir_type, is_record_type, fixed_size}
-use Rattle.cdf_format.specs.Shape.{Shape, HasShape, shape}
-use Rattle.cdf_format.specs.Tiles.{In}
-use Rattle.cdf_format.proofs.BytesLemmas.{word_kept}
-use Rattle.cdf_format.proofs.ChainsLemmas.{is_a-in, is_a-type, linkable-in, linkable-type, linkable-long}
+use Rattle.cdf_edits.proofs.Common.{leb-true, ◌==◌, ◌&&◌, nat_le, Took, sized, IsSound, Allowances, is_taken, AllKeep, Same, touch, Changed, is_in, IsChain, content, number, size_at, type_at, eof, Unused, owned_by, unused_records, unused, place_for, taken_from, eof_after, with_space, back_links, Field, record_size, gdr_eof, gdr_uir_head, uir_next_uir, uir_prev_uir, gdr_type, uir_type, is_record_type, fixed_size, Shape, HasShape, shape, In, word_kept, is_a-in, is_a-type, linkable-in, linkable-type, linkable-long, either, true-is_in, false-is_in, both, tile_lies, Fills, Mark, whole, Avoids, Away, Within, avoided, unmarked, taking_marks, making_marks, is_late, Edit}
 use Rattle.cdf_edits.proofs.Space.RecordFilled.{filled_stays_sound}
-use Rattle.cdf_format.proofs.Members.{either, true-is_in, false-is_in}
 use Rattle.cdf_edits.proofs.Space.TakenLeaves.{KeepsTaken, IsRest, takes_keep, takes_new, takes_longest}
-use Rattle.cdf_format.proofs.Tests.{both}
-use Rattle.cdf_format.proofs.TilesLemmas.{tile_lies}
 use Rattle.cdf_edits.proofs.Space.ActsLeave.{no_rest, places-sized}
 use Rattle.cdf_edits.proofs.Space.UsedRecords.{apart}
-use Rattle.cdf_edits.specs.Space.Placing.{Fills}
-use Rattle.cdf_edits.specs.Edits.Marks.{Mark, whole, Avoids, Away, Within, avoided, unmarked, taking_marks, making_marks, is_late}
-use Rattle.cdf_edits.specs.Edits.Edit.{Edit}
 use Rattle.cdf_edits.proofs.Edits.Composing.{head_size, head_type, edit_then}
 use Rattle.cdf_edits.proofs.Edits.RecordFrame.{kept, part_clear, field_avoids, field_clear, chain_stays}
 use Rattle.cdf_edits.proofs.Edits.OwnersKept.{keep_unused, taken_is_taken}

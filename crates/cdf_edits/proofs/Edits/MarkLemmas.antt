@@ -1,17 +1,7 @@
 -- What avoids marks.
 use Rattle.std.proofs.Common.{◌≡◌, ◌⊎◌, ℕ, ◌+◌, ◌≤◌, List, [], ◌∷◌, ◌++◌, Bool, true, false, not, ◌||◌, eq-eqb, refl, subst, sym, true≢false, ◌∙◌, arith, inl, inr, ap}
-use Rattle.std.proofs.lemmas.Bool.{leb-true, eqb-true}
-use Rattle.std.specs.Prelude.{◌==◌, nat_le, ◌&&◌, if◌then◌else◌}
-use Rattle.cdf_edits.specs.Commands.Allowances.{OutsideFields}
-use Rattle.cdf_edits.specs.Frame.Changed.{Touch, Misses}
-use Rattle.cdf_format.specs.Chains.{is_in}
-use Rattle.cdf_format.specs.Fields.{type_at}
-use Rattle.cdf_format.specs.Records.{Field}
-use Rattle.cdf_format.specs.Shape.{Each}
-use Rattle.cdf_format.specs.Tiles.{In}
-use Rattle.cdf_format.proofs.Tests.{both}
-use Rattle.cdf_edits.specs.Edits.Marks.{Lies, Mark, Avoids, Away, Within, Confined, has_mark, avoided, ended, unmarked, all_unmarked, within, Covered, Marked}
-use Rattle.cdf_format.proofs.Members.{either}
+use Rattle.cdf_edits.proofs.Common.{leb-true, eqb-true, ◌==◌, nat_le, ◌&&◌, if◌then◌else◌, OutsideFields, Touch, Misses, is_in, type_at, Field, Each, In, both, Lies, Mark, Avoids, Away, Within, Confined, avoided, ended, unmarked, all_unmarked, within, Covered, Marked, either}
+use Rattle.cdf_edits.specs.Edits.Marks.{has_mark}
 
 pub the_one : (x m : ℕ) → In m (x ∷ []) → m ≡ x
 the_one x m (inl q) = q

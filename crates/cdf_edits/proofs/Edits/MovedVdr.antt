@@ -1,28 +1,6 @@
 -- A VDR is placed anew and takes the place of the old one in its chain: the image until the old one is freed.
 use Rattle.std.proofs.Common.{◌≡◌, ◌≢◌, ℕ, ◌+◌, ◌≤◌, List, [], ◌∷◌, ◌++◌, length, true, eq-eqb, refl, sym, ap, subst, ◌∙◌, arith, inl, inr}
-use Rattle.std.proofs.lemmas.Bool.{ne_eqb}
-use Rattle.cdf_model.specs.declared.kinds.Kind.{Kind}
-use Rattle.cdf_model.specs.declared.kinds.Kind.TheVariants.{R, Z}
-use Rattle.cdf_format.specs.Chains.{IsChain}
-use Rattle.cdf_format.specs.Fields.{number, name_in, size_at, type_at, gdr_offset}
-use Rattle.cdf_format.specs.Owners.{variable_records, times, owned_records}
-use Rattle.cdf_format.specs.Records.{vdr_num, vdr_name}
-use Rattle.cdf_format.specs.RecordTypes.{uir_type, fixed_size, is_record_type}
-use Rattle.cdf_format.specs.Shape.{VariableShape, Shape, vdrs, variables, is_compressed, HasShape, Each, shape}
-use Rattle.cdf_format.specs.Sound.{IsSound}
-use Rattle.cdf_format.specs.Tiles.{In, Distinct}
-use Rattle.cdf_format.specs.VariableRules.{vdr_end}
-use Rattle.cdf_format.specs.WellFormed.{Good}
-use Rattle.cdf_format.proofs.ShapeLemmas.{Each-split, shape_is}
-use Rattle.cdf_edits.specs.Commands.Allowances.{shapes_of}
-use Rattle.cdf_edits.specs.Edits.Edit.{Edit}
-use Rattle.cdf_edits.specs.Edits.Marks.{Mark, avoided, is_late, keeps_file, keeps_index_records, making_marks}
-use Rattle.cdf_edits.specs.Space.Adding.{Exchanged, adding_marks}
-use Rattle.cdf_edits.specs.Space.Chains.{head_of, holder_of, type_in, with_in_place}
-use Rattle.cdf_edits.specs.Space.Placing.{Fills, type_of_body}
-use Rattle.cdf_edits.specs.Space.VariableChains.{variables_chain}
-use Rattle.cdf_edits.specs.declared.chain.Chain.{Chain}
-use Rattle.cdf_format.specs.Bytes.{Same}
+use Rattle.cdf_edits.proofs.Common.{ne_eqb, Kind, R, Z, IsChain, number, name_in, size_at, type_at, gdr_offset, variable_records, times, owned_records, vdr_num, vdr_name, uir_type, fixed_size, is_record_type, VariableShape, Shape, vdrs, variables, is_compressed, HasShape, Each, shape, IsSound, In, Distinct, vdr_end, Good, Each-split, shape_is, shapes_of, Edit, Mark, avoided, is_late, keeps_file, keeps_index_records, making_marks, Exchanged, adding_marks, head_of, holder_of, type_in, with_in_place, Fills, type_of_body, variables_chain, Chain, Same}
 use Rattle.cdf_edits.proofs.Edits.ChainOwners.{IsHeld, not_twice_kept}
 use Rattle.cdf_edits.proofs.Edits.ChainsOfShape.{IsOf, members_are}
 use Rattle.cdf_edits.proofs.Edits.MadeRecord.{fresh, unowned, made_edit, made_part, made_type, made_size, list_chain}

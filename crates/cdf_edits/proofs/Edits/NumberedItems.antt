@@ -1,8 +1,6 @@
 -- Items by their numbers: in which order they are put in makes no difference, and what becomes of them where one is put in again or goes.
 use Rattle.std.proofs.Common.{◌≡◌, ◌≢◌, ◌⊎◌, ℕ, ◌+◌, ◌<◌, ◌≤◌, List, [], ◌∷◌, false, eq-eqb, refl, sym, ap, subst, ◌∙◌, arith, inl, inr}
-use Rattle.std.proofs.lemmas.Bool.{cases_eq, cases_lt, lt-ltb, le-ltb, ne_eqb, le-leb, lt-leb}
-use Rattle.std.specs.Prelude.{◌&&◌, nat_le}
-use Rattle.cdf_model.specs.Numbered.{with_item, without}
+use Rattle.cdf_edits.proofs.Common.{cases_eq, cases_lt, lt-ltb, le-ltb, ne_eqb, le-leb, lt-leb, ◌&&◌, nat_le, with_item, without}
 
 -- ---- an item that is put in
 

@@ -1,9 +1,6 @@
 -- Items by their numbers, told by what each number has: of lists whose numbers rise, those that have the same are the same.
 use Rattle.std.proofs.Common.{◌≡◌, ◌≢◌, ℕ, zero, suc, ◌+◌, ◌<◌, ◌≤◌, List, [], ◌∷◌, Some, None, eq-eqb, refl, sym, ap, subst, ◌∙◌, arith, inl, inr}
-use Rattle.std.proofs.lemmas.Bool.{cases_eq, cases_lt, lt-ltb, le-ltb, ne_eqb}
-use Rattle.std.specs.List.{filter}
-use Rattle.std.specs.Prelude.{nat_lt}
-use Rattle.cdf_model.specs.Numbered.{item_at, with_item, with_items}
+use Rattle.cdf_edits.proofs.Common.{cases_eq, cases_lt, lt-ltb, le-ltb, ne_eqb, filter, nat_lt, item_at, with_item, with_items}
 use Rattle.cdf_edits.proofs.Edits.NumberedItems.{Order, Below, Equal, Above, order, Rising, none, one, rising_with}
 
 module _ {A : Type 0} where

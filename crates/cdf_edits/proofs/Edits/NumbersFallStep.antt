@@ -1,32 +1,8 @@
 -- The greater numbers of one chain of an attribute fall: the image is good, all beside the chain stands, and the acts before go on.
 use Rattle.std.proofs.Common.{◌≡◌, ℕ, ◌+◌, ◌<◌, ◌≤◌, List, [], ◌∷◌, ◌++◌, length, true, Some, refl, sym, ap, subst, ◌∙◌, arith, inl, inr}
-use Rattle.std.proofs.lemmas.Bool.{cases_lt, lt-ltb, le-ltb}
-use Rattle.std.specs.Int.{cast_signed, w32}
-use Rattle.std.specs.List.{slice_get, flat_map}
-use Rattle.std.specs.Prelude.{nat_lt, if◌then◌else◌}
-use Rattle.cdf_model.specs.declared.kinds.EntryKind.{EntryKind}
+use Rattle.cdf_edits.proofs.Common.{cases_lt, lt-ltb, le-ltb, cast_signed, w32, slice_get, flat_map, nat_lt, if◌then◌else◌, EntryKind, Kind, image_limit, integer4, number, type_at, attribute_records, variable_records, aedr_num, gdr_r_max_rec, uir_next_uir, uir_prev_uir, adr_type, cdr_type, gdr_type, uir_type, AttributeShape, HasShape, Shape, shape, IsSound, In, Good, type_kept, is_a-in, is_a-type, linkable-in, linkable-type, good_is_sound, both, Keeps, Only, shapes_of, space_fields, chain_fields, chain_of, entry_type, r_max_rec, with_chain, Away, all_unmarked, avoided, unmarked, variable_types, within, Act, ActsFollow}
 use Rattle.cdf_model.specs.declared.kinds.EntryKind.TheVariants as entries
-use Rattle.cdf_model.specs.declared.kinds.Kind.{Kind}
 use Rattle.cdf_model.specs.declared.kinds.Kind.TheVariants as kinds
-use Rattle.cdf_model.specs.Limits.{image_limit}
-use Rattle.cdf_format.specs.Fields.{integer4, number, type_at}
-use Rattle.cdf_format.specs.Owners.{attribute_records, variable_records}
-use Rattle.cdf_format.specs.Records.{aedr_num, gdr_r_max_rec, uir_next_uir, uir_prev_uir}
-use Rattle.cdf_format.specs.RecordTypes.{adr_type, cdr_type, gdr_type, uir_type}
-use Rattle.cdf_format.specs.Shape.{AttributeShape, HasShape, Shape, shape}
-use Rattle.cdf_format.specs.Sound.{IsSound}
-use Rattle.cdf_format.specs.Tiles.{In}
-use Rattle.cdf_format.specs.WellFormed.{Good}
-use Rattle.cdf_format.proofs.BytesLemmas.{type_kept}
-use Rattle.cdf_format.proofs.ChainsLemmas.{is_a-in, is_a-type, linkable-in, linkable-type}
-use Rattle.cdf_format.proofs.GoodSound.{good_is_sound}
-use Rattle.cdf_format.proofs.Tests.{both}
-use Rattle.cdf_edits.specs.Commands.Allowances.{Keeps, Only, shapes_of, space_fields}
-use Rattle.cdf_edits.specs.Commands.EntryChains.{chain_fields, chain_of, entry_type}
-use Rattle.cdf_edits.specs.Commands.GreatestRecord.{r_max_rec}
-use Rattle.cdf_edits.specs.Edits.EntryMarks.{with_chain}
-use Rattle.cdf_edits.specs.Edits.Marks.{Away, all_unmarked, avoided, unmarked, variable_types, within}
-use Rattle.cdf_edits.specs.Space.Acts.{Act, ActsFollow}
 use Rattle.cdf_edits.proofs.Commands.KeptRecords.{keeps_stood}
 use Rattle.cdf_edits.proofs.Edits.ActsStill.{acts_still_by}
 use Rattle.cdf_edits.proofs.Edits.ChainKept.{records_are}

@@ -1,51 +1,16 @@
 -- What an image comes to in which one chain of entries of an attribute is another, for a command on an entry of a number.
 use Rattle.std.proofs.Common.{◌≡◌, ◌≤◌, ◌+◌, ℕ, List, [], ◌∷◌, length, map, true, false, true≢false, Some, refl, sym, ap, subst, ◌∙◌, eq-eqb, ◌++◌, arith}
-use Rattle.std.specs.List.{flat_map, slice_get, sum}
-use Rattle.cdf_model.specs.declared.answer.Reply.TheVariants.{Plain}
-use Rattle.cdf_model.specs.declared.command.Command.{Command}
-use Rattle.cdf_model.specs.declared.kinds.EntryKind.{EntryKind}
+use Rattle.cdf_edits.proofs.Common.{flat_map, slice_get, sum, Plain, Command, EntryKind, Go, entries_of, with_attribute, with_entries, Attribute, DataSet, Entry, image_limit, attribute_named, ByStep, step, entry_rows, same_number, entries_rows, differ_rows, is_in, content, attribute_of, number, integer4, type_at, eof, read_types, Unused, owned_by, times, unused_records, owned, aedr_num, gdr_type, adr_type, Hold, AttributeShape, Shape, shape, IsSound, In, Distinct, Good, good_by_its_shape, rules_of_good, good_is_sound, Hold-append, Hold-members, Hold-split, Hold-member, good_long, sealed_kept, Allowances, AllKeep, space_fields, Does, entry_changes, chain_of, chain_fields, max_field, greatest_number, allowances, OfAttribute, room, count_field, with_chain, Mark, within, Follows, only_reads, Act, ActsFollow, taken, eq_of}
 use Rattle.cdf_model.specs.declared.kinds.EntryKind.TheVariants as entries
-use Rattle.cdf_model.specs.Answers.{Go}
-use Rattle.cdf_model.specs.AttributeSteps.{entries_of, with_attribute, with_entries}
-use Rattle.cdf_model.specs.DataSet.{Attribute, DataSet, Entry}
-use Rattle.cdf_model.specs.Limits.{image_limit}
-use Rattle.cdf_model.specs.Names.{attribute_named}
-use Rattle.cdf_model.specs.Step.{ByStep, step}
-use Rattle.cdf_format.specs.AttributeRules.{entry_rows, same_number, entries_rows}
-use Rattle.cdf_format.specs.ChainRules.{differ_rows}
-use Rattle.cdf_format.specs.Chains.{is_in}
-use Rattle.cdf_format.specs.Content.{content, attribute_of, entries_of as chain_items}
-use Rattle.cdf_format.specs.Fields.{number, integer4, type_at, eof}
-use Rattle.cdf_format.specs.NotRead.{read_types}
-use Rattle.cdf_format.specs.Owners.{Unused, owned_by, times, unused_records, owned}
-use Rattle.cdf_format.specs.Records.{aedr_num}
-use Rattle.cdf_format.specs.RecordTypes.{gdr_type, adr_type}
-use Rattle.cdf_format.specs.Rules.{Hold}
-use Rattle.cdf_format.specs.Shape.{AttributeShape, Shape, shape}
-use Rattle.cdf_format.specs.Sound.{IsSound}
-use Rattle.cdf_format.specs.Tiles.{In, Distinct}
-use Rattle.cdf_format.specs.WellFormed.{Good}
-use Rattle.cdf_format.proofs.GoodSound.{good_by_its_shape, rules_of_good, good_is_sound}
-use Rattle.cdf_format.proofs.RowLemmas.{Hold-append, Hold-members, Hold-split, Hold-member}
-use Rattle.cdf_format.proofs.SealedRules.{good_long, sealed_kept}
-use Rattle.cdf_edits.specs.Commands.Allowances.{Allowances, AllKeep, space_fields}
-use Rattle.cdf_edits.specs.Commands.Does.{Does}
-use Rattle.cdf_edits.specs.Commands.Entries.{ChainFollows, chain_after, entry_changes}
-use Rattle.cdf_edits.specs.Commands.EntryChains.{chain_of, chain_fields, entry_at, max_field, greatest_number}
-use Rattle.cdf_edits.specs.Commands.Keeps.{allowances}
-use Rattle.cdf_edits.specs.Commands.Named.{OfAttribute}
-use Rattle.cdf_edits.specs.Commands.Room.{room}
-use Rattle.cdf_edits.specs.Edits.EntryMarks.{count_field, with_chain}
-use Rattle.cdf_edits.specs.Edits.Marks.{Mark, within}
-use Rattle.cdf_edits.specs.Follows.{Follows, only_reads}
-use Rattle.cdf_edits.specs.Space.Acts.{Act, ActsFollow, taken}
+use Rattle.cdf_format.specs.Content.{entries_of as chain_items}
+use Rattle.cdf_edits.specs.Commands.Entries.{ChainFollows, chain_after}
+use Rattle.cdf_edits.specs.Commands.EntryChains.{entry_at}
 use Rattle.cdf_edits.proofs.Edits.ChainEntries.{nums, differ_by_nums, nums_differ, entry_rules_live}
 use Rattle.cdf_edits.proofs.Edits.ChainFollowed.{of_attribute, is_named, greatest_follow}
 use Rattle.cdf_edits.proofs.Edits.ChainKept.{entry_keeps}
 use Rattle.cdf_edits.proofs.Edits.ChainSpliced.{Rechains, made, splices, now_is, other_max_same, attribute_now, content_rechained, rules_rechained, chain_rules_before, there, num_same, entry_stays}
 use Rattle.cdf_edits.proofs.Edits.OwnedOnce.{IsSorted}
 use Rattle.cdf_edits.proofs.Edits.Splice.{good_image_if}
-use Rattle.cdf_format.proofs.Tests.{eq_of}
 use Rattle.cdf_edits.proofs.Edits.ChainKinds.{chain_has}
 use Rattle.cdf_edits.proofs.Rules.WithoutLinks.{eof_by_rules}
 

@@ -1,29 +1,8 @@
 -- An edit that changes one attribute, which stays in its place.
 use Rattle.std.proofs.Common.{◌≡◌, ℕ, List, [], ◌∷◌, ◌++◌, length, map, true, sym, ap, subst, ◌∙◌, arith, inl, inr}
-use Rattle.std.proofs.lemmas.List.{length-map, map-append, set_at}
-use Rattle.std.specs.List.{flat_map}
-use Rattle.std.specs.Prelude.{slice_set, ◌==◌}
-use Rattle.cdf_model.specs.DataSet.{Attribute, DataSet}
-use Rattle.cdf_model.specs.AttributeSteps.{with_attribute}
-use Rattle.cdf_format.specs.Sound.{IsSound}
-use Rattle.cdf_format.specs.ChainRules.{adrs_rows, r_vdrs_rows, z_vdrs_rows}
-use Rattle.cdf_format.specs.Content.{content, attribute_of}
-use Rattle.cdf_format.specs.Fields.{number, name_in, type_at, gdr_offset}
-use Rattle.cdf_format.proofs.GoodByShape.{IsGoodByShape}
-use Rattle.cdf_format.specs.Owners.{attribute_records}
-use Rattle.cdf_format.specs.Records.{gdr_num_attr, adr_name, adr_num}
-use Rattle.cdf_format.specs.RecordTypes.{gdr_type}
-use Rattle.cdf_format.specs.Rules.{row, Hold}
-use Rattle.cdf_format.specs.Shape.{AttributeShape, Shape, adrs, vdrs, Each}
-use Rattle.cdf_format.specs.Tiles.{In}
-use Rattle.cdf_format.proofs.Members.{In-append, In-append_left, In-append_right}
-use Rattle.cdf_format.proofs.NameRules.{names_at}
-use Rattle.cdf_format.proofs.RowLemmas.{Hold-split}
+use Rattle.cdf_edits.proofs.Common.{length-map, map-append, set_at, flat_map, slice_set, ◌==◌, Attribute, DataSet, with_attribute, IsSound, adrs_rows, r_vdrs_rows, z_vdrs_rows, content, attribute_of, number, name_in, type_at, gdr_offset, IsGoodByShape, attribute_records, gdr_num_attr, adr_name, adr_num, gdr_type, row, Hold, AttributeShape, Shape, adrs, vdrs, Each, In, In-append, In-append_left, In-append_right, names_at, Hold-split, content_is, Mark, Away, avoided, Edit}
 use Rattle.cdf_edits.proofs.Rules.WithoutLinks.{number_rows_kept}
-use Rattle.cdf_format.proofs.ShapeLemmas.{content_is}
-use Rattle.cdf_edits.specs.Edits.Marks.{Mark, Away, avoided}
 use Rattle.cdf_edits.proofs.Edits.AttributeFrame.{AreThere, lives_away, names_stay, nums_stay}
-use Rattle.cdf_edits.specs.Edits.Edit.{Edit}
 use Rattle.cdf_edits.proofs.Edits.RecordFrame.{AttributeLives, gdr_field, gdr_place}
 use Rattle.cdf_edits.proofs.Frame.OwnersApart.{flat-append}
 use Rattle.cdf_edits.proofs.Edits.OwnedOnce.{only_owns, all_attributes_in}

@@ -1,14 +1,7 @@
 -- Acts that take records and free none: what they leave of the unused list.
 use Rattle.std.proofs.Common.{◌≡◌, ◌⊎◌, ℕ, ◌+◌, ◌-◌, ◌<◌, ◌≤◌, List, [], ◌∷◌, ◌++◌, Bool, true, false, refl, ap, ◌∙◌, arith, inl, inr}
-use Rattle.std.proofs.lemmas.Bool.{lt-leb, le-ltb}
-use Rattle.std.specs.List.{fold, list_any}
-use Rattle.std.specs.Prelude.{◌==◌, ◌&&◌, ◌||◌, nat_le, nat_lt, if◌then◌else◌}
-use Rattle.cdf_edits.specs.Space.Acts.{Act, Took, Gave, Among, SpaceLeft, taken, after_act, AreActs}
-use Rattle.cdf_edits.specs.Commands.Allowances.{is_taken}
-use Rattle.cdf_edits.specs.Space.Placement.{fits, place_for, taken_from, eof_after}
-use Rattle.cdf_format.specs.Fields.{size_at}
-use Rattle.cdf_format.proofs.Members.{either}
-use Rattle.cdf_format.proofs.Tests.{le_of}
+use Rattle.cdf_edits.proofs.Common.{lt-leb, le-ltb, fold, list_any, ◌==◌, ◌&&◌, ◌||◌, nat_le, nat_lt, if◌then◌else◌, Act, Took, Gave, SpaceLeft, taken, after_act, AreActs, is_taken, fits, place_for, taken_from, eof_after, size_at, either, le_of}
+use Rattle.cdf_edits.specs.Space.Acts.{Among}
 
 -- no record is freed
 abbrev pub OnlyTakes : List Act → Type 0

@@ -1,16 +1,10 @@
 -- One variable of a kind has another index by now, and may say otherwise of itself, where all other variables stay: the shape, the content and the rules of the image.
-use Rattle.cdf_edits.specs.Commands.GreatestRecord.{r_max_rec}
-use Rattle.std.specs.Int.{w32, cast_signed}
 use Rattle.cdf_edits.proofs.Edits.StepEdits.{gdr_long}
 use Rattle.cdf_edits.proofs.Edits.RecordFrame.{gdr_part, chain_stays, gdr_field, gdr_place, file_same}
-use Rattle.cdf_format.specs.Fields.{integer4, name_in, number, size_at, type_at, eof, gdr_offset}
-use Rattle.cdf_format.specs.Records.{gdr_r_max_rec, gdr_eof, Field, vdr_name, gdr_uir_head, vdr_num}
-use Rattle.cdf_format.proofs.BytesLemmas.{word_kept}
 use Rattle.cdf_edits.proofs.Edits.MarkLemmas.{the_one}
 use Rattle.cdf_edits.proofs.Edits.EditActs.{acts_none}
 use Rattle.cdf_edits.proofs.Edits.OwnedOnce.{used_times, owned_once_if}
 use Rattle.cdf_edits.proofs.Rules.WithoutLinks.{eof_by_rules}
-use Rattle.cdf_edits.specs.Space.Acts.{ActsFollow}
 use Rattle.cdf_edits.proofs.Edits.VariableFrame.{IsRuled, variables_away, remain_from}
 use Rattle.cdf_edits.proofs.Edits.VariableKept.{OnlyVariable, only_variable}
 use Rattle.cdf_edits.proofs.Edits.VariableKinds.{kind_ours, other_kind, with_shapes, vdrs_rows, in_gdr, counted_before, vdrs_rows_kept, keeps_kind, kind_chain, variables_of_are}
@@ -18,36 +12,8 @@ use Rattle.cdf_edits.proofs.Edits.VariableNames.{own_names_apart, apart_if, IsBe
 use Rattle.cdf_edits.proofs.Edits.VariableSplice.{VariableSplices, OwnRules, shape_now, good_image_if, keeps_all_attributes, content_now, parts_ruled}
 use Rattle.cdf_edits.proofs.Frame.Meaning.{FileSame}
 use Rattle.cdf_edits.proofs.Frame.OwnersApart.{all_variable_records}
-use Rattle.cdf_edits.specs.Commands.Allowances.{shapes_of}
-use Rattle.cdf_edits.specs.Edits.Edit.{Edit}
-use Rattle.cdf_edits.specs.Edits.Marks.{Mark, Avoids, Away, avoided, keeps_file, unmarked}
-use Rattle.cdf_edits.specs.Space.Chains.{type_in, count_of, head_of}
-use Rattle.cdf_edits.specs.Space.VariableChains.{variables_chain}
-use Rattle.cdf_format.proofs.GoodByShape.{IsGoodByShape}
-use Rattle.cdf_format.proofs.GoodImageLemmas.{vdrs_append}
-use Rattle.cdf_format.proofs.GoodSound.{good_by_its_shape, rules_of_good}
-use Rattle.cdf_format.proofs.SealedRules.{good_long, sealed_kept}
-use Rattle.cdf_format.proofs.ShapeLemmas.{shape_is, content_is}
-use Rattle.cdf_format.specs.Chains.{is_in, IsChain}
-use Rattle.cdf_format.specs.Content.{variable_of, content}
-use Rattle.cdf_format.specs.Index.{Nodes}
-use Rattle.cdf_format.specs.NotRead.{read_types}
-use Rattle.cdf_format.specs.Owners.{owned, variable_records, OwnedOnce}
-use Rattle.cdf_format.specs.RecordTypes.{uir_type, gdr_type, is_record_type, fixed_size}
-use Rattle.cdf_format.specs.Rules.{Hold}
-use Rattle.cdf_format.specs.Shape.{vdrs, VariableShape, shape, Shape, HasVariable, HasShape}
-use Rattle.cdf_format.specs.Tiles.{In}
-use Rattle.cdf_format.specs.WellFormed.{Good}
-use Rattle.cdf_model.specs.DataSet.{Variable, DataSet}
-use Rattle.cdf_model.specs.Limits.{image_limit}
-use Rattle.cdf_model.specs.Names.{with_variables, variables_of}
-use Rattle.cdf_model.specs.Reading.{read}
-use Rattle.cdf_model.specs.declared.kinds.Kind.{Kind}
-use Rattle.cdf_model.specs.declared.kinds.Kind.TheVariants.{R, Z}
 use Rattle.std.proofs.Common.{ap, [], ◌≡◌, ℕ, ◌≤◌, List, length, ◌+◌, ◌∷◌, ◌++◌, sym, ◌∙◌, inl, refl, true, false, subst, map, bytes_eq, arith}
-use Rattle.std.proofs.lemmas.List.{map-append, length-map, set_at}
-use Rattle.std.specs.List.{flat_map}
-use Rattle.std.specs.Prelude.{slice_set}
+use Rattle.cdf_edits.proofs.Common.{r_max_rec, w32, cast_signed, integer4, name_in, number, size_at, type_at, eof, gdr_offset, gdr_r_max_rec, gdr_eof, Field, vdr_name, gdr_uir_head, vdr_num, word_kept, ActsFollow, shapes_of, Edit, Mark, Avoids, Away, avoided, keeps_file, unmarked, type_in, count_of, head_of, variables_chain, IsGoodByShape, vdrs_append, good_by_its_shape, rules_of_good, good_long, sealed_kept, shape_is, content_is, is_in, IsChain, variable_of, content, Nodes, read_types, owned, variable_records, OwnedOnce, uir_type, gdr_type, is_record_type, fixed_size, Hold, vdrs, VariableShape, shape, Shape, HasVariable, HasShape, In, Good, Variable, DataSet, image_limit, with_variables, variables_of, read, Kind, R, Z, map-append, length-map, set_at, flat_map, slice_set}
 use Rattle.cdf_edits.proofs.Edits.StandsAmong.{StandsAmong, sound, ours, after_ours}
 
 -- The descriptor stays in its place. No mark meets another variable, the links and the numbers of descriptors, the attributes, or what the file says.

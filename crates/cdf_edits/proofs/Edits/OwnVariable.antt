@@ -1,22 +1,6 @@
 -- The records of one variable in the order in which they are freed: those that it has, none twice, each of its types.
 use Rattle.std.proofs.Common.{◌≡◌, ℕ, ◌+◌, ◌≤◌, List, [], ◌∷◌, ◌++◌, true, append-nil, eq-eqb, refl, sym, ap, subst, ◌∙◌, arith, inl, inr}
-use Rattle.std.specs.List.{flat_map}
-use Rattle.std.specs.Prelude.{◌==◌}
-use Rattle.cdf_model.specs.declared.kinds.Kind.{Kind}
-use Rattle.cdf_format.specs.Chains.{is_in}
-use Rattle.cdf_format.specs.Fields.{type_at}
-use Rattle.cdf_format.specs.Index.{nodes_of, leaves_of}
-use Rattle.cdf_format.specs.Owners.{variable_records, unused_records, times, owned_records}
-use Rattle.cdf_format.specs.Shape.{VariableShape, Shape, vdrs}
-use Rattle.cdf_format.specs.Sound.{IsSound}
-use Rattle.cdf_format.specs.Tiles.{In, Distinct}
-use Rattle.cdf_format.proofs.ChainsLemmas.{linkable-type}
-use Rattle.cdf_format.proofs.Members.{either, In-append, In-append_left, In-append_right}
-use Rattle.cdf_edits.specs.Commands.Allowances.{shapes_of}
-use Rattle.cdf_edits.specs.Commands.Variables.{freed_with_variable}
-use Rattle.cdf_edits.specs.Edits.Marks.{index_types}
-use Rattle.cdf_edits.specs.Space.Chains.{type_in}
-use Rattle.cdf_edits.specs.Space.VariableChains.{variables_chain}
+use Rattle.cdf_edits.proofs.Common.{flat_map, ◌==◌, Kind, is_in, type_at, nodes_of, leaves_of, variable_records, unused_records, times, owned_records, VariableShape, Shape, vdrs, IsSound, In, Distinct, linkable-type, either, In-append, In-append_left, In-append_right, shapes_of, freed_with_variable, index_types, type_in, variables_chain}
 use Rattle.cdf_edits.proofs.Edits.InRecords.{places_of}
 use Rattle.cdf_edits.proofs.Edits.OwnedOnce.{used_times}
 use Rattle.cdf_edits.proofs.Edits.UnlinkedAttribute.{distinct_if}

@@ -1,21 +1,8 @@
 -- Which records are owned once an image was edited, and how owners stand apart.
 use Rattle.std.proofs.Common.{◌≡◌, ◌≢◌, ◌⊎◌, ℕ, suc, ◌+◌, ◌≤◌, List, ◌∷◌, ◌++◌, length, eqb, eq-eqb, refl, sym, ap, subst, ◌∙◌, arith, inl, inr}
-use Rattle.std.proofs.lemmas.Bool.{cases_eq, eqb-true}
-use Rattle.std.specs.List.{flat_map}
-use Rattle.cdf_format.specs.Sound.{IsSound}
-use Rattle.cdf_format.specs.Chains.{is_in}
-use Rattle.cdf_format.specs.Fields.{type_at}
-use Rattle.cdf_format.specs.Owners.{attribute_records, unused_records, times, owned_records, OwnedOnce}
-use Rattle.cdf_format.specs.RecordTypes.{adr_type, uir_type}
-use Rattle.cdf_format.specs.Shape.{AttributeShape, Shape, HasShape}
-use Rattle.cdf_format.specs.Tiles.{In, AreTiles}
-use Rattle.cdf_format.proofs.ChainsLemmas.{linkable-in}
-use Rattle.cdf_format.proofs.Members.{either, true-is_in, false-is_in, In-append_right, In-append_left}
+use Rattle.cdf_edits.proofs.Common.{cases_eq, eqb-true, flat_map, IsSound, is_in, type_at, attribute_records, unused_records, times, owned_records, OwnedOnce, adr_type, uir_type, AttributeShape, Shape, HasShape, In, AreTiles, linkable-in, either, true-is_in, false-is_in, In-append_right, In-append_left, times-none, times-once, tiles_distinct, attributes_in, Mark, Edit}
 use Rattle.cdf_edits.proofs.Frame.OwnersApart.{flat-append, times-append, times-three, times-in, owned-times, file_records, all_attribute_records, all_variable_records, unused_from_file, unused_from_attributes, unused_from_variables, file_in}
-use Rattle.cdf_format.proofs.Owning.{times-none, times-once, tiles_distinct, attributes_in}
 use Rattle.cdf_edits.proofs.Space.UsedRecords.{filter-keeps, filter-says, filter-distinct}
-use Rattle.cdf_edits.specs.Edits.Marks.{Mark}
-use Rattle.cdf_edits.specs.Edits.Edit.{Edit}
 use Rattle.cdf_edits.proofs.Edits.VariableFrame.{variables_in}
 
 -- how often the owners that use records have one

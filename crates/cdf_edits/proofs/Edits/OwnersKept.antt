@@ -1,30 +1,10 @@
 -- What a command may change of records, shown by the marks of its edit.
 use Rattle.std.proofs.Common.{◌≡◌, ◌⊎◌, ℕ, suc, ◌+◌, ◌≤◌, List, [], ◌∷◌, ◌++◌, length, Bool, true, false, ◌||◌, eqb, refl, sym, ap, subst, ◌∙◌, append_assoc, arith, inl, inr}
-use Rattle.std.proofs.lemmas.Bool.{eqb-true, le-leb, lt-ltb}
-use Rattle.std.specs.List.{flat_map}
-use Rattle.std.specs.Prelude.{◌==◌, ◌&&◌, nat_le, nat_lt, if◌then◌else◌}
-use Rattle.cdf_model.specs.declared.kinds.Kind.{Kind}
-use Rattle.cdf_model.specs.declared.kinds.Kind.TheVariants.{R, Z}
-use Rattle.cdf_format.specs.Sound.{IsSound}
-use Rattle.cdf_edits.specs.Commands.Allowances.{Allowance, Anything, Only, Keeps, Allowances, is_taken, allowance, AllKeep}
-use Rattle.cdf_format.specs.Chains.{is_in}
-use Rattle.cdf_format.specs.Fields.{size_at, type_at}
-use Rattle.cdf_format.specs.Owners.{Owner, File, OneAttribute, OneVariable, Unused, attribute_records, variable_records, owned_by, owned_by_attributes, owned_by_variables, unused_records, owned}
-use Rattle.cdf_format.specs.Records.{Field, uir_next_uir, uir_prev_uir}
-use Rattle.cdf_format.specs.RecordTypes.{cdr_type, gdr_type, uir_type}
-use Rattle.cdf_format.specs.Shape.{AttributeShape, VariableShape, Shape, vdrs, shape}
-use Rattle.cdf_format.specs.Tiles.{In}
-use Rattle.cdf_edits.specs.Space.Acts.{Act, Took}
-use Rattle.cdf_format.proofs.ChainsLemmas.{is_a-type}
+use Rattle.cdf_edits.proofs.Common.{eqb-true, le-leb, lt-ltb, flat_map, ◌==◌, ◌&&◌, nat_le, nat_lt, if◌then◌else◌, Kind, R, Z, IsSound, Allowance, Anything, Only, Keeps, Allowances, is_taken, allowance, AllKeep, is_in, size_at, type_at, Owner, File, OneAttribute, OneVariable, Unused, attribute_records, variable_records, owned_by, owned_by_attributes, owned_by_variables, unused_records, owned, Field, uir_next_uir, uir_prev_uir, cdr_type, gdr_type, uir_type, AttributeShape, VariableShape, Shape, vdrs, shape, In, Act, Took, is_a-type, either, In-append, In-append_left, In-append_right, true-is_in, false-is_in, filter-in, tile_lies, Mark, Avoids, Away, Within, avoided, within, Edit}
 use Rattle.cdf_edits.proofs.Commands.KeptRecords.{Stood, AllKeep-append, keeps_stood, keep_owned, keep_variables}
 use Rattle.cdf_edits.proofs.Frame.Meaning.{Kept}
-use Rattle.cdf_format.proofs.Members.{either, In-append, In-append_left, In-append_right, true-is_in, false-is_in}
 use Rattle.cdf_edits.proofs.Frame.OwnersApart.{all_variable_records}
-use Rattle.cdf_format.proofs.Owning.{filter-in}
-use Rattle.cdf_format.proofs.TilesLemmas.{tile_lies}
 use Rattle.cdf_edits.proofs.Space.UsedRecords.{apart, filter-says}
-use Rattle.cdf_edits.specs.Edits.Marks.{Mark, Avoids, Away, Within, avoided, within}
-use Rattle.cdf_edits.specs.Edits.Edit.{Edit}
 use Rattle.cdf_edits.proofs.Edits.Composing.{head_size}
 use Rattle.cdf_edits.proofs.Edits.RecordFrame.{index_records, kept_away}
 use Rattle.cdf_edits.proofs.Edits.MarkLemmas.{avoided-avoids, within-within, within-avoids}

@@ -1,26 +1,6 @@
 -- The VDR moved of a variable that got a pad value: what the variable means then, and what `set-pad` says of it.
 use Rattle.std.proofs.Common.{◌≡◌, ℕ, ◌+◌, ◌<◌, ◌≤◌, List, [], ◌∷◌, length, Bool, true, Some, None, sym, ap, subst, ◌∙◌, arith, inl, inr}
-use Rattle.std.specs.Int.{cast_signed, w32}
-use Rattle.std.specs.Prelude.{nat_le, if◌then◌else◌}
-use Rattle.cdf_model.specs.ByteOrder.{turned}
-use Rattle.cdf_model.specs.declared.kinds.Kind.{Kind}
-use Rattle.cdf_format.specs.Bytes.{byte}
-use Rattle.cdf_format.specs.Content.{variable_of}
-use Rattle.cdf_format.specs.Fields.{number, name_in, integer4, size_at, has_bit}
-use Rattle.cdf_format.specs.Records.{Field, vdr_blocking_factor, vdr_flags, vdr_name}
-use Rattle.cdf_format.specs.Shape.{VariableShape, is_compressed, shape}
-use Rattle.cdf_format.specs.Stored.{field_bytes, is_little}
-use Rattle.cdf_format.specs.VariableFields.{dimensions_at, has_pad, is_z, pad_at, pad_field, records_vary, type_of_variable, value_bytes}
-use Rattle.cdf_format.specs.VariableRules.{vdr_end}
-use Rattle.cdf_format.specs.WellFormed.{Good}
-use Rattle.cdf_format.proofs.BytesLemmas.{bytes_kept, number_kept}
-use Rattle.cdf_format.proofs.Members.{either}
-use Rattle.cdf_format.proofs.Tests.{le_of}
-use Rattle.cdf_edits.specs.Commands.Allowances.{OutsideFields}
-use Rattle.cdf_edits.specs.Commands.NewRecords.{with_bits}
-use Rattle.cdf_edits.specs.Commands.Variables.{SetsPad}
-use Rattle.cdf_edits.specs.Space.Acts.{Took, Gave}
-use Rattle.cdf_edits.specs.Space.Placement.{Gives}
+use Rattle.cdf_edits.proofs.Common.{cast_signed, w32, nat_le, if◌then◌else◌, turned, Kind, byte, variable_of, number, name_in, integer4, size_at, has_bit, Field, vdr_blocking_factor, vdr_flags, vdr_name, VariableShape, is_compressed, shape, field_bytes, is_little, dimensions_at, has_pad, is_z, pad_at, pad_field, records_vary, type_of_variable, value_bytes, vdr_end, Good, bytes_kept, number_kept, either, le_of, OutsideFields, with_bits, SetsPad, Took, Gave, Gives}
 use Rattle.cdf_edits.proofs.Edits.FreedVdr.{by_kept, by_long, copied_now, file_now, freed_bytes, moved_means, name_now, packed_now, same_end}
 use Rattle.cdf_edits.proofs.Edits.MovedVdr.{CopiesVdr, MovesVdr, by_size, file, need, own'}
 use Rattle.cdf_edits.proofs.Edits.PadWritten.{padded_0, padded_1}

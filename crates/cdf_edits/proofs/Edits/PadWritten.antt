@@ -1,33 +1,6 @@
 -- A pad value is written in a VDR that has room for it, and the flag that says that there is one.
 use Rattle.std.proofs.Common.{◌≡◌, ◌⊎◌, ℕ, ◌+◌, ◌*◌, ◌/◌, ◌%◌, ◌<◌, ◌≤◌, Bool, List, [], ◌∷◌, length, true, None, Some, refl, sym, ap, subst, ◌∙◌, arith, inl, inr, w32}
-use Rattle.std.specs.Int.{cast_signed}
-use Rattle.std.specs.List.{before_first}
-use Rattle.std.specs.Prelude.{◌==◌, if◌then◌else◌}
-use Rattle.cdf_model.specs.declared.kinds.Kind.{Kind}
-use Rattle.cdf_model.specs.declared.kinds.Kind.TheVariants.{R, Z}
-use Rattle.cdf_model.specs.ByteOrder.{turned}
-use Rattle.cdf_format.specs.Bytes.{Same}
-use Rattle.cdf_format.specs.Content.{variable_of}
-use Rattle.cdf_format.specs.Fields.{number, name_in, integer4, has_bit, size_at}
-use Rattle.cdf_format.specs.Records.{Field, vdr_flags, vdr_blocking_factor, vdr_name}
-use Rattle.cdf_format.specs.Shape.{VariableShape, Shape, is_compressed, HasShape, shape}
-use Rattle.cdf_format.specs.Sound.{IsSound}
-use Rattle.cdf_format.specs.Stored.{field_bytes, is_little}
-use Rattle.cdf_format.specs.VariableFields.{is_z, dimensions_at, value_bytes, has_pad, pad_field, pad_at, type_of_variable}
-use Rattle.cdf_format.specs.VariableRules.{vdr_end}
-use Rattle.cdf_format.specs.WellFormed.{Good}
-use Rattle.cdf_format.proofs.BytesLemmas.{word_kept, piece_kept}
-use Rattle.cdf_format.proofs.GoodSound.{good_is_sound}
-use Rattle.cdf_format.proofs.Tests.{of_le}
-use Rattle.cdf_format.proofs.TilesLemmas.{tile_lies}
-use Rattle.cdf_edits.specs.Commands.NewRecords.{with_bits}
-use Rattle.cdf_edits.specs.Commands.Variables.{SetsPad}
-use Rattle.cdf_edits.specs.Space.Acts.{Took, Gave}
-use Rattle.cdf_edits.specs.Edits.Edit.{Edit}
-use Rattle.cdf_edits.specs.Edits.Marks.{Mark, mark, Among, Avoids}
-use Rattle.cdf_edits.specs.Frame.Changed.{touched_field, Changed}
-use Rattle.cdf_edits.specs.Space.Chains.{type_in}
-use Rattle.cdf_edits.specs.Space.VariableChains.{variables_chain}
+use Rattle.cdf_edits.proofs.Common.{cast_signed, before_first, ◌==◌, if◌then◌else◌, Kind, R, Z, turned, Same, variable_of, number, name_in, integer4, has_bit, size_at, Field, vdr_flags, vdr_blocking_factor, vdr_name, VariableShape, Shape, is_compressed, HasShape, shape, IsSound, field_bytes, is_little, is_z, dimensions_at, value_bytes, has_pad, pad_field, pad_at, type_of_variable, vdr_end, Good, word_kept, piece_kept, good_is_sound, of_le, tile_lies, with_bits, SetsPad, Took, Gave, Edit, Mark, mark, Among, Avoids, touched_field, Changed, type_in, variables_chain}
 use Rattle.cdf_edits.proofs.Edits.Composing.{head_size, head_type, changed_edit}
 use Rattle.cdf_edits.proofs.Edits.RecordFrame.{file_same}
 use Rattle.cdf_edits.proofs.Edits.StepEdits.{some_bytes}

@@ -1,28 +1,9 @@
 -- The leaves of a variable of a good image that is not compressed: no block is packed, each has room for its records, and no two stand at one place.
 use Rattle.std.proofs.Common.{◌≡◌, ℕ, zero, suc, ◌+◌, ◌-◌, ◌*◌, ◌≤◌, List, [], ◌∷◌, ◌++◌, Bool, true, false, true≢false, sym, ap, subst, ◌∙◌, arith, inl, inr}
-use Rattle.std.specs.List.{flat_map}
-use Rattle.std.specs.Prelude.{◌==◌, if◌then◌else◌}
-use Rattle.cdf_model.specs.declared.kinds.Kind.{Kind}
-use Rattle.cdf_model.specs.declared.kinds.Kind.TheVariants.{R, Z}
-use Rattle.cdf_model.specs.Limits.{record_number_limit}
-use Rattle.cdf_format.specs.Chains.{is_a}
-use Rattle.cdf_format.specs.Fields.{size_at, type_at}
-use Rattle.cdf_format.specs.Index.{Nodes, no_node, node, Entries, no_entry, block, lower, Leaf, nodes_of, leaves_of, entry_leaves}
+use Rattle.cdf_edits.proofs.Common.{flat_map, ◌==◌, if◌then◌else◌, Kind, R, Z, record_number_limit, is_a, size_at, type_at, Nodes, no_node, node, Entries, no_entry, block, lower, Leaf, nodes_of, is_block, holds_packed, vvr_rows, cvvr_rows, leaf_rows, times, variable_records, owned_records, unused_records, vvr_type, cvvr_type, Hold, asked, VariableShape, Shape, vdrs, variables, is_compressed, Each, shape, LeafFits, BlockFits, record_bytes, Good, is_a-type, good_by_its_shape, Hold-split, Hold-asked, Each-split, Each-append, both, shapes_of}
+use Rattle.cdf_format.specs.Index.{leaves_of, entry_leaves}
 use Rattle.cdf_format.specs.IndexOf.{HasNodes, Names}
-use Rattle.cdf_format.specs.IndexRules.{is_block, holds_packed, nodes_rows, vvr_rows, cvvr_rows, leaf_rows}
-use Rattle.cdf_format.specs.Owners.{times, variable_records, owned_records, unused_records}
-use Rattle.cdf_format.specs.RecordTypes.{vvr_type, cvvr_type}
-use Rattle.cdf_format.specs.Rules.{Hold, asked}
-use Rattle.cdf_format.specs.Shape.{VariableShape, Shape, vdrs, variables, is_compressed, Each, shape}
-use Rattle.cdf_format.specs.Sound.{LeafFits, BlockFits}
-use Rattle.cdf_format.specs.VariableFields.{record_bytes}
-use Rattle.cdf_format.specs.WellFormed.{Good}
-use Rattle.cdf_format.proofs.ChainsLemmas.{is_a-type}
-use Rattle.cdf_format.proofs.GoodSound.{good_by_its_shape}
-use Rattle.cdf_format.proofs.RowLemmas.{Hold-split, Hold-asked}
-use Rattle.cdf_format.proofs.ShapeLemmas.{Each-split, Each-append}
-use Rattle.cdf_format.proofs.Tests.{both}
-use Rattle.cdf_edits.specs.Commands.Allowances.{shapes_of}
+use Rattle.cdf_format.specs.IndexRules.{nodes_rows}
 use Rattle.cdf_edits.proofs.Edits.InRecords.{places_of}
 use Rattle.cdf_edits.proofs.Edits.LeafPieces.{IsOneOf, in_order, PlacedApart, of_each}
 use Rattle.cdf_edits.proofs.Edits.LeafRecords.{Ascending, count_is}

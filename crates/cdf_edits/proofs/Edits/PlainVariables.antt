@@ -1,20 +1,8 @@
 -- So far no variable of a good image is compressed: records of parameters and of packed blocks are refused (rule 4.99).
 use Rattle.std.proofs.Common.{◌≡◌, ℕ, List, [], ◌∷◌, Bool, true, false, true≢false, refl, sym, ap, ◌∙◌, inl, inr}
-use Rattle.std.specs.Prelude.{◌==◌, if◌then◌else◌}
+use Rattle.cdf_edits.proofs.Common.{◌==◌, if◌then◌else◌, is_a, is_in, number, type_at, Leaf, leaves_of, read_types, unread_type, vdr_cpr_or_spr_offset, vvr_type, cvvr_type, cpr_type, VariableShape, Shape, is_compressed, Each, HasVariable, LeafFits, VariableFits, In, is_a-in, is_a-type, IsGoodByShape, Hold-member}
 use Rattle.cdf_edits.proofs.Edits.MarkLemmas.{or_cases}
 use Rattle.cdf_edits.proofs.Frame.OwnerAlone.{Each-in}
-use Rattle.cdf_format.specs.Chains.{is_a, is_in}
-use Rattle.cdf_format.specs.Fields.{number, type_at}
-use Rattle.cdf_format.specs.Index.{Leaf, leaves_of}
-use Rattle.cdf_format.specs.NotRead.{read_types, unread_type}
-use Rattle.cdf_format.specs.Records.{vdr_cpr_or_spr_offset}
-use Rattle.cdf_format.specs.RecordTypes.{vvr_type, cvvr_type, cpr_type}
-use Rattle.cdf_format.specs.Shape.{VariableShape, Shape, is_compressed, Each, HasVariable}
-use Rattle.cdf_format.specs.Sound.{LeafFits, VariableFits}
-use Rattle.cdf_format.specs.Tiles.{In}
-use Rattle.cdf_format.proofs.ChainsLemmas.{is_a-in, is_a-type}
-use Rattle.cdf_format.proofs.GoodByShape.{IsGoodByShape}
-use Rattle.cdf_format.proofs.RowLemmas.{Hold-member}
 use Rattle.cdf_format.proofs.SoundLemmas.{IsPackedAs, leaves_packed}
 
 -- its records stand in a VVR

@@ -1,36 +1,8 @@
 -- An entry is put into a chain of an attribute: made and linked, behind the last one or in the place of another one, or changed in its place; then the greatest number is written.
 use Rattle.std.proofs.Common.{◌≡◌, ◌≢◌, ℕ, ℤ, ◌+◌, ◌≤◌, List, [], ◌∷◌, ◌++◌, length, eq-eqb, true, true≢false, refl, sym, ap, subst, ◌∙◌, arith, inl, inr, eqb}
-use Rattle.std.specs.Int.{w32, cast_unsigned}
-use Rattle.std.specs.Prelude.{FitsSigned}
-use Rattle.std.proofs.lemmas.Bool.{cases_eq, eqb-true, ne_eqb}
-use Rattle.cdf_base.specs.Bytes.{put}
-use Rattle.cdf_model.specs.declared.kinds.EntryKind.{EntryKind}
+use Rattle.cdf_edits.proofs.Common.{w32, cast_unsigned, FitsSigned, cases_eq, eqb-true, ne_eqb, put, EntryKind, Same, is_in, IsChain, eof, number, integer4, size_at, type_at, read_types, attribute_records, times, Unused, unused_records, gdr_type, adr_type, uir_type, is_record_type, fixed_size, Field, field, gdr_eof, gdr_uir_head, AttributeShape, shape, EntryFits, IsSound, In, Good, length-put, linkable-in, linkable-type, times-none, tile_lies, space_fields, chain_of, chain_fields, entry_type, max_field, Edit, entries_chain, count_field, keeps_but_chain, head_field, Mark, Confined, attribute_types, avoided, ended, within, making_marks, giving_marks, field_marks, is_late, Avoids, Away, touched_field, ActsFollow, Took, Exchanged, adding_marks, counted_in, members_of, with_in_place, Fills, type_of_body}
 use Rattle.cdf_model.specs.declared.kinds.EntryKind.TheVariants as entries
-use Rattle.cdf_format.specs.Bytes.{Same}
-use Rattle.cdf_format.specs.Chains.{is_in, IsChain}
-use Rattle.cdf_format.specs.Fields.{eof, number, integer4, size_at, type_at}
-use Rattle.cdf_format.specs.NotRead.{read_types}
-use Rattle.cdf_format.specs.Owners.{attribute_records, times, Unused, unused_records}
-use Rattle.cdf_format.specs.RecordTypes.{gdr_type, adr_type, uir_type, is_record_type, fixed_size}
-use Rattle.cdf_format.specs.Records.{Field, field, gdr_eof, gdr_uir_head}
-use Rattle.cdf_format.specs.Shape.{AttributeShape, shape}
-use Rattle.cdf_format.specs.Sound.{EntryFits, IsSound}
-use Rattle.cdf_format.specs.Tiles.{In}
-use Rattle.cdf_format.specs.WellFormed.{Good}
-use Rattle.cdf_format.proofs.BytesLemmas.{length-put}
-use Rattle.cdf_format.proofs.ChainsLemmas.{linkable-in, linkable-type}
-use Rattle.cdf_format.proofs.Owning.{times-none}
-use Rattle.cdf_format.proofs.TilesLemmas.{tile_lies}
-use Rattle.cdf_edits.specs.Commands.Allowances.{space_fields}
-use Rattle.cdf_edits.specs.Commands.EntryChains.{chain_of, chain_fields, entry_type, max_field}
-use Rattle.cdf_edits.specs.Edits.Edit.{Edit}
-use Rattle.cdf_edits.specs.Edits.EntryMarks.{entries_chain, count_field, keeps_but_chain, head_field}
-use Rattle.cdf_edits.specs.Edits.Marks.{Mark, Confined, attribute_types, avoided, ended, within, making_marks, giving_marks, field_marks, is_late, Avoids, Away}
-use Rattle.cdf_edits.specs.Frame.Changed.{touched_field}
-use Rattle.cdf_edits.specs.Space.Acts.{ActsFollow, Took}
-use Rattle.cdf_edits.specs.Space.Adding.{Added, Exchanged, Joined, adding_marks}
-use Rattle.cdf_edits.specs.Space.Chains.{counted_in, members_of, with_in_place}
-use Rattle.cdf_edits.specs.Space.Placing.{Fills, type_of_body}
+use Rattle.cdf_edits.specs.Space.Adding.{Added, Joined}
 use Rattle.cdf_edits.proofs.Commands.KeptRecords.{keep_owned}
 use Rattle.cdf_edits.proofs.Edits.AttributeFrame.{AreThere}
 use Rattle.cdf_edits.proofs.Edits.ChainKept.{records_are, list_is}

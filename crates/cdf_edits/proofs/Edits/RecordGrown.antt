@@ -1,19 +1,6 @@
 -- An image has all that another has, but for its unused records and for links and numbers in its GDR: records were taken from the one and written, or nothing was done.
 use Rattle.std.proofs.Common.{◌≡◌, ◌≢◌, ℕ, ◌+◌, ◌≤◌, List, [], ◌∷◌, length, refl, sym, ap, subst, ◌∙◌, arith, inl, inr}
-use Rattle.cdf_format.specs.Bytes.{Same}
-use Rattle.cdf_format.specs.Content.{content}
-use Rattle.cdf_format.specs.Fields.{eof, gdr_offset, size_at, type_at}
-use Rattle.cdf_format.specs.RecordTypes.{gdr_type, uir_type}
-use Rattle.cdf_format.specs.Shape.{Shape, shape}
-use Rattle.cdf_format.specs.Sound.{IsSound}
-use Rattle.cdf_format.specs.Tiles.{In}
-use Rattle.cdf_format.proofs.BytesLemmas.{size_kept}
-use Rattle.cdf_format.proofs.ShapeLemmas.{shape_is}
-use Rattle.cdf_format.proofs.TilesLemmas.{tile_lies}
-use Rattle.cdf_edits.specs.Edits.Edit.{Edit}
-use Rattle.cdf_edits.specs.Edits.Marks.{Away}
-use Rattle.cdf_edits.specs.Space.Placement.{with_space}
-use Rattle.cdf_edits.specs.Space.Placing.{Fills}
+use Rattle.cdf_edits.proofs.Common.{Same, content, eof, gdr_offset, size_at, type_at, gdr_type, uir_type, Shape, shape, IsSound, In, size_kept, shape_is, tile_lies, Edit, Away, with_space, Fills}
 use Rattle.cdf_edits.proofs.Edits.Composing.{head_type, same-then}
 use Rattle.cdf_edits.proofs.Edits.MadeRecord.{place_in, fresh, filled_edit, filled_sound, filled_content, end_now}
 use Rattle.cdf_edits.proofs.Edits.RecordFrame.{kept_away}

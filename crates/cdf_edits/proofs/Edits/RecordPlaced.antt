@@ -1,21 +1,7 @@
 -- An image whose records and unused list alone are others: a record was taken from an image and written, or nothing was done.
 use Rattle.std.proofs.Common.{◌≡◌, ℕ, List, [], ◌∷◌, ◌++◌, length, refl, sym, ap, subst, ◌∙◌, arith}
-use Rattle.cdf_model.specs.declared.kinds.Kind.{Kind}
-use Rattle.cdf_format.specs.Content.{content}
-use Rattle.cdf_format.specs.Fields.{size_at, type_at, eof}
-use Rattle.cdf_format.specs.RecordTypes.{vxr_type, uir_type}
-use Rattle.cdf_format.specs.Shape.{Shape, HasShape, shape}
-use Rattle.cdf_format.specs.Sound.{IsSound}
-use Rattle.cdf_format.specs.Tiles.{In}
-use Rattle.cdf_format.proofs.ShapeLemmas.{shape_is}
+use Rattle.cdf_edits.proofs.Common.{Kind, content, size_at, type_at, eof, vxr_type, uir_type, Shape, HasShape, shape, IsSound, In, shape_is, Edit, Mark, whole, Among, taking_marks, Changed, type_in, with_space, Fills, variables_chain}
 use Rattle.cdf_edits.specs.Commands.Room.{vxr_bytes}
-use Rattle.cdf_edits.specs.Edits.Edit.{Edit}
-use Rattle.cdf_edits.specs.Edits.Marks.{Mark, whole, Among, taking_marks}
-use Rattle.cdf_edits.specs.Frame.Changed.{Changed}
-use Rattle.cdf_edits.specs.Space.Chains.{type_in}
-use Rattle.cdf_edits.specs.Space.Placement.{with_space}
-use Rattle.cdf_edits.specs.Space.Placing.{Fills}
-use Rattle.cdf_edits.specs.Space.VariableChains.{variables_chain}
 use Rattle.cdf_edits.proofs.Edits.Composing.{changed_edit}
 use Rattle.cdf_edits.proofs.Edits.MadeRecord.{filled_edit, filled_sound, filled_content, end_now}
 use Rattle.cdf_edits.proofs.Edits.StepEdits.{some_bytes}

@@ -1,23 +1,10 @@
 -- The records of a variable once one is put: what its leaves hold then says that they are those of the content.
 use Rattle.std.proofs.Common.{◌≡◌, ◌≢◌, ◌⊎◌, ℕ, zero, suc, ◌+◌, ◌-◌, ◌<◌, ◌≤◌, List, true, false, ◌&&◌, Some, refl, sym, ap, subst, ◌∙◌, arith, inl, inr}
-use Rattle.std.proofs.lemmas.Bool.{cases_eq, cases_lt, lt-ltb, le-ltb}
-use Rattle.std.proofs.lemmas.Bool.Decides.{nat_tests}
-use Rattle.std.specs.Option.{option_map}
-use Rattle.std.specs.Prelude.{nat_lt}
+use Rattle.cdf_edits.proofs.Common.{cases_eq, cases_lt, lt-ltb, le-ltb, nat_tests, option_map, nat_lt, NoRule, Pad, Previous, turned, Variable, extent, record_number_limit, item_at, with_item, with_items, last_number, records_in, Leaf, is_little, type_of_variable, record_bytes, max_rec_at, stored_bytes}
 use Rattle.cdf_model.specs.declared.kinds.Sparse.{Sparse}
-use Rattle.cdf_model.specs.declared.kinds.Sparse.TheVariants.{NoRule, Pad, Previous}
-use Rattle.cdf_model.specs.ByteOrder.{turned}
-use Rattle.cdf_model.specs.DataSet.{Variable, extent}
-use Rattle.cdf_model.specs.Limits.{record_number_limit}
-use Rattle.cdf_model.specs.Numbered.{item_at, with_item, with_items}
 use Rattle.cdf_model.specs.Reading.{pad_record}
-use Rattle.cdf_model.specs.RecordSteps.{last_number, greater, filled}
-use Rattle.cdf_format.specs.Content.{records_in}
-use Rattle.cdf_format.specs.Index.{Leaf}
-use Rattle.cdf_format.specs.Stored.{is_little}
-use Rattle.cdf_format.specs.VariableFields.{type_of_variable, record_bytes, max_rec_at}
+use Rattle.cdf_model.specs.RecordSteps.{greater, filled}
 use Rattle.cdf_edits.specs.Index.Blocks.{is_sparse, cuts_before_put}
-use Rattle.cdf_edits.specs.Index.Written.{stored_bytes}
 use Rattle.cdf_edits.proofs.Edits.LeafRecords.{Ascending, rising_records, record_is, record_past}
 use Rattle.cdf_edits.proofs.Edits.NumberedItems.{rising_with}
 use Rattle.cdf_edits.proofs.Edits.NumberedLookup.{same_items, item_with, item_beside, rising_with_items, item_among, item_before_all, item_past_all}

@@ -1,44 +1,11 @@
 -- Records of a variable are written where they stand, in blocks that are not packed, and MaxRec with them: the image has its shape and its rules, and all but the variable stays.
 use Rattle.std.proofs.Common.{◌≡◌, ◌⊎◌, ℕ, suc, ◌+◌, ◌≤◌, List, [], ◌∷◌, ◌++◌, length, map, true, Option, Some, None, eqb, true≢false, eq-eqb, refl, sym, ap, subst, ◌∙◌, arith, inl, inr}
-use Rattle.std.proofs.lemmas.Bool.{eqb-true}
-use Rattle.std.specs.List.{flat_map, slice_get}
-use Rattle.std.specs.Prelude.{◌==◌, find, if◌then◌else◌, slice_set}
-use Rattle.cdf_model.specs.declared.kinds.Kind.{Kind}
-use Rattle.cdf_model.specs.declared.kinds.Kind.TheVariants.{R, Z}
-use Rattle.cdf_model.specs.Limits.{image_limit}
-use Rattle.cdf_model.specs.Names.{Found, variables_of, with_variables}
-use Rattle.cdf_format.specs.Bytes.{Same}
-use Rattle.cdf_format.specs.Chains.{is_a, is_in}
-use Rattle.cdf_format.specs.Content.{content, variable_of}
-use Rattle.cdf_format.specs.Fields.{number, size_at, type_at}
-use Rattle.cdf_format.specs.Index.{Leaf, nodes_of, leaves_of}
-use Rattle.cdf_format.specs.IndexRules.{index_rows}
-use Rattle.cdf_format.specs.Owners.{OneVariable, Unused, variable_records, unused_records, owned}
-use Rattle.cdf_format.specs.Records.{gdr_eof, gdr_uir_head, gdr_r_max_rec, vdr_max_rec, vdr_vxr_head, vdr_vxr_tail}
-use Rattle.cdf_format.specs.RecordTypes.{cdr_type, gdr_type, r_vdr_type, z_vdr_type, vxr_type, vvr_type, cvvr_type, cpr_type, uir_type}
-use Rattle.cdf_format.specs.Rules.{Hold}
-use Rattle.cdf_format.specs.Shape.{VariableShape, Shape, Each, HasShape, shape}
-use Rattle.cdf_format.specs.Sound.{IsSound, NodeFits}
-use Rattle.cdf_format.specs.Tiles.{In}
-use Rattle.cdf_format.specs.VariableRules.{is_max_rec}
-use Rattle.cdf_format.specs.WellFormed.{Good}
-use Rattle.cdf_format.proofs.ChainsLemmas.{is_a-in, is_a-type, linkable-type}
-use Rattle.cdf_format.proofs.GoodSound.{good_is_sound}
-use Rattle.cdf_format.proofs.IndexLemmas.{nodes_stand}
-use Rattle.cdf_format.proofs.Members.{either, In-append, In-append_left, true-is_in, false-is_in}
-use Rattle.cdf_format.proofs.ShapeLemmas.{Each-append}
-use Rattle.cdf_format.proofs.TilesLemmas.{tile_lies}
-use Rattle.cdf_edits.specs.Commands.Allowances.{Allowance, Allowances, Anything, Only, Keeps, AllKeep, OwnAllowances, stays_own, space_fields, anything_if, only_of, same_kind, vdr_type, shapes_of, range_at, of_variable, r_max_rec_field}
-use Rattle.cdf_edits.specs.Commands.GreatestRecord.{r_max_rec}
-use Rattle.cdf_edits.specs.Commands.Puts.{max_rec_touches, put_changes}
+use Rattle.cdf_edits.proofs.Common.{eqb-true, flat_map, slice_get, ◌==◌, find, if◌then◌else◌, slice_set, Kind, R, Z, image_limit, Found, variables_of, with_variables, Same, is_a, is_in, content, variable_of, number, size_at, type_at, Leaf, nodes_of, leaves_of, index_rows, OneVariable, Unused, variable_records, unused_records, owned, gdr_eof, gdr_uir_head, gdr_r_max_rec, vdr_max_rec, vdr_vxr_head, cdr_type, gdr_type, r_vdr_type, z_vdr_type, vxr_type, vvr_type, cvvr_type, cpr_type, uir_type, Hold, VariableShape, Shape, Each, HasShape, shape, IsSound, NodeFits, In, is_max_rec, Good, is_a-in, is_a-type, linkable-type, good_is_sound, nodes_stand, either, In-append, In-append_left, true-is_in, false-is_in, Each-append, tile_lies, Allowance, Allowances, Anything, Only, Keeps, AllKeep, OwnAllowances, stays_own, space_fields, only_of, same_kind, vdr_type, shapes_of, range_at, of_variable, r_max_rec_field, r_max_rec, put_changes, Edit, Mark, mark, Among, Avoids, Away, Within, Covered, Marked, avoided, unmarked, keeps_file, variable_types, Touch, touched_field, Changed, Range, range, ActsFollow, head_of, count_of, type_in, variables_chain, IsIndex}
+use Rattle.cdf_format.specs.Records.{vdr_vxr_tail}
+use Rattle.cdf_edits.specs.Commands.Allowances.{anything_if}
+use Rattle.cdf_edits.specs.Commands.Puts.{max_rec_touches}
 use Rattle.cdf_edits.specs.Commands.Room.{is_rewritten}
-use Rattle.cdf_edits.specs.Edits.Edit.{Edit}
-use Rattle.cdf_edits.specs.Edits.Marks.{Mark, mark, Anywhere, Among, Avoids, Away, Within, Covered, Marked, avoided, unmarked, keeps_file, variable_types}
-use Rattle.cdf_edits.specs.Frame.Changed.{Touch, touched_field, Changed}
-use Rattle.cdf_edits.specs.Index.Blocks.{Range, range}
-use Rattle.cdf_edits.specs.Space.Acts.{ActsFollow}
-use Rattle.cdf_edits.specs.Space.Chains.{head_of, count_of, type_in}
-use Rattle.cdf_edits.specs.Space.VariableChains.{variables_chain}
+use Rattle.cdf_edits.specs.Edits.Marks.{Anywhere}
 use Rattle.cdf_edits.proofs.Commands.KeptRecords.{Stood, keeps_stood, keep_owned, keep_attributes, keep_variables}
 use Rattle.cdf_edits.proofs.Commands.ListParts.{got-middle}
 use Rattle.cdf_edits.proofs.Edits.Composing.{head_size, head_type, changed_edit}
@@ -53,7 +20,6 @@ use Rattle.cdf_edits.proofs.Edits.VariableFrame.{IsRuled, variable_typed, variab
 use Rattle.cdf_edits.proofs.Edits.VariableKept.{OnlyVariable, only_variable, same_as_itself, vdr_allowance, keep_variable_parts, keep_kinds}
 use Rattle.cdf_edits.proofs.Edits.VariableKinds.{other_kind, kind_type, keeps_kind, kind_ours}
 use Rattle.cdf_edits.proofs.Edits.VariableSplice.{attributes_kept, keeps_all_attributes}
-use Rattle.cdf_format.specs.IndexOf.{IsIndex}
 use Rattle.cdf_edits.proofs.Edits.OwnEdited.{OwnEdit, shape_stays, good_in_place, named_before, r_max_rec_kept}
 use Rattle.cdf_edits.proofs.Edits.OwnEdited as of_own
 use Rattle.cdf_edits.proofs.Edits.IndexEdited.{IndexEdit}

@@ -1,26 +1,6 @@
 -- What the calls of the removal of a variable come to, by the places of the VDRs of its kind and its number.
 use Rattle.std.proofs.Common.{◌≡◌, ℕ, ℤ, ◌+◌, ◌-◌, ◌^◌, ◌<◌, ◌≤◌, List, ◌∷◌, ◌++◌, length, drop, get_or, refl, sym, ap, subst, ◌∙◌, arith}
-use Rattle.std.specs.List.{remove}
-use Rattle.cdf_model.specs.declared.kinds.Kind.{Kind}
-use Rattle.cdf_model.specs.declared.kinds.Kind.TheVariants.{R, Z}
-use Rattle.cdf_model.specs.Limits.{image_limit}
-use Rattle.cdf_format.specs.Fields.{number, gdr_offset, with_field, LiesIn}
-use Rattle.cdf_format.specs.Records.{gdr_r_max_rec}
-use Rattle.cdf_format.specs.Shape.{VariableShape, vdrs, shape}
-use Rattle.cdf_format.specs.Sound.{IsSound}
-use Rattle.cdf_format.specs.Tiles.{In}
-use Rattle.cdf_format.specs.WellFormed.{Good}
-use Rattle.cdf_format.proofs.ChainsLemmas.{linkable-in, linkable-type}
-use Rattle.cdf_format.proofs.GoodSound.{good_by_its_shape, good_is_sound}
-use Rattle.cdf_format.proofs.Tests.{eq_of}
-use Rattle.cdf_format.proofs.TilesLemmas.{tile_lies}
-use Rattle.cdf_edits.specs.Commands.Allowances.{shapes_of}
-use Rattle.cdf_edits.specs.Commands.Variables.{freed_with_variable}
-use Rattle.cdf_edits.specs.Edits.RemovesVariable.{UnlinksVariable, RemovesVariable, numbers_on, r_max_writes, greatest_at}
-use Rattle.cdf_edits.specs.Edits.Writes.{write, with_writes}
-use Rattle.cdf_edits.specs.Space.Chains.{count_of, counted_in, type_in, HolderStands}
-use Rattle.cdf_edits.specs.Space.Freeing.{AllGiven, AreFree}
-use Rattle.cdf_edits.specs.Space.VariableChains.{variables_chain}
+use Rattle.cdf_edits.proofs.Common.{remove, Kind, R, Z, image_limit, number, gdr_offset, with_field, LiesIn, gdr_r_max_rec, VariableShape, vdrs, shape, IsSound, In, Good, linkable-in, linkable-type, good_by_its_shape, good_is_sound, eq_of, tile_lies, shapes_of, freed_with_variable, UnlinksVariable, RemovesVariable, numbers_on, r_max_writes, greatest_at, write, with_writes, count_of, counted_in, type_in, HolderStands, AllGiven, AreFree, variables_chain, Hold, Lists, TakenOut, Chain}
 use Rattle.cdf_edits.proofs.Commands.ListParts.{AtNumber, at_number}
 use Rattle.cdf_edits.proofs.Edits.ChainsOfShape.{IsOf, few_members, lists}
 use Rattle.cdf_edits.proofs.Edits.RecordFrame.{gdr_place}
@@ -28,9 +8,6 @@ use Rattle.cdf_edits.proofs.Edits.StepEdits.{gdr_in, gdr_long, fixed_long}
 use Rattle.cdf_edits.proofs.Edits.TakenVariable.{least_size}
 use Rattle.cdf_edits.proofs.Edits.UnlinkedVariable.{in_holder, unlinking_tests, e_early, mid_sound, own_free}
 use Rattle.cdf_edits.proofs.Edits.VariableKinds.{counted_before, kind_chain, vdrs_rows}
-use Rattle.cdf_format.specs.Rules.{Hold}
-use Rattle.cdf_edits.specs.Space.TakingOut.{Lists, TakenOut}
-use Rattle.cdf_edits.specs.declared.chain.Chain.{Chain}
 use Rattle.cdf_edits.proofs.Space.ChainHeads.{cdr_room}
 
 count_of_rows : (kind : Kind) (b ms : List ℕ) → Hold (vdrs_rows kind b ms) → number b (gdr_offset b) (count_of (variables_chain kind)) ≡ length ms

@@ -1,38 +1,9 @@
 -- An image from which one attribute went has its shape, its content and its rules.
 use Rattle.std.proofs.Common.{◌≡◌, ℕ, suc, ◌+◌, ◌≤◌, List, [], ◌∷◌, ◌++◌, length, map, true, eq-eqb, refl, sym, ap, subst, ◌∙◌, append-nil, append_assoc, arith, inl, inr}
-use Rattle.std.proofs.lemmas.List.{length-map, map-append}
-use Rattle.std.specs.List.{flat_map, remove}
-use Rattle.std.specs.Prelude.{◌==◌}
-use Rattle.cdf_model.specs.DataSet.{Attribute, DataSet}
-use Rattle.cdf_model.specs.Limits.{image_limit}
-use Rattle.cdf_format.specs.AttributeRules.{same_name}
-use Rattle.cdf_format.specs.ChainRules.{adrs_rows, number_rows, r_vdrs_rows, z_vdrs_rows, differ_rows}
-use Rattle.cdf_format.specs.Chains.{is_in, IsChain}
-use Rattle.cdf_format.specs.Content.{content, attribute_of}
-use Rattle.cdf_format.specs.Fields.{number, name_in, size_at, type_at, gdr_offset, eof}
-use Rattle.cdf_format.proofs.GoodByShape.{IsGoodByShape, attribute_shape_rows}
-use Rattle.cdf_format.specs.NotRead.{read_types}
-use Rattle.cdf_format.specs.Owners.{OwnedOnce, attribute_records, times, owned_records, unused_records}
-use Rattle.cdf_format.specs.Phases.{first_phases}
-use Rattle.cdf_format.specs.Records.{gdr_adr_head, gdr_uir_head, gdr_num_attr, adr_name, adr_num}
-use Rattle.cdf_format.specs.RecordTypes.{adr_type, uir_type, is_record_type, fixed_size}
-use Rattle.cdf_format.specs.Rules.{Hold, AllHold}
-use Rattle.cdf_format.specs.Sealed.{sealed}
-use Rattle.cdf_format.specs.Shape.{AttributeShape, Shape, adrs, vdrs, Each, HasEntries, HasShape}
-use Rattle.cdf_format.specs.Sound.{IsSound}
-use Rattle.cdf_format.specs.Tiles.{In}
-use Rattle.cdf_format.specs.WellFormed.{Good}
-use Rattle.cdf_format.proofs.Members.{In-append, In-append_left}
-use Rattle.cdf_format.proofs.NameRules.{AreNew, absent-split, absent-append, names_at, names_differ, differ_by_names}
-use Rattle.cdf_format.proofs.Owning.{times-none}
-use Rattle.cdf_format.proofs.RowLemmas.{Hold-split, flat_map-append}
-use Rattle.cdf_format.proofs.ShapeLemmas.{content_is}
-use Rattle.cdf_format.proofs.TilesLemmas.{tile_lies}
-use Rattle.cdf_edits.specs.Edits.ManyMarks.{deleting_marks}
-use Rattle.cdf_edits.specs.Edits.Marks.{Mark}
+use Rattle.cdf_edits.proofs.Common.{length-map, map-append, flat_map, remove, ◌==◌, Attribute, DataSet, image_limit, same_name, adrs_rows, number_rows, r_vdrs_rows, z_vdrs_rows, differ_rows, is_in, IsChain, content, attribute_of, number, name_in, size_at, type_at, gdr_offset, eof, IsGoodByShape, attribute_shape_rows, read_types, OwnedOnce, attribute_records, times, owned_records, unused_records, first_phases, gdr_adr_head, gdr_uir_head, gdr_num_attr, adr_name, adr_num, adr_type, uir_type, is_record_type, fixed_size, Hold, AllHold, sealed, AttributeShape, Shape, adrs, vdrs, Each, HasEntries, HasShape, IsSound, In, Good, In-append, In-append_left, AreNew, names_at, names_differ, differ_by_names, times-none, Hold-split, flat_map-append, content_is, tile_lies, deleting_marks, Mark, AttributeStays}
+use Rattle.cdf_format.proofs.NameRules.{absent-split, absent-append}
 use Rattle.cdf_edits.proofs.Commands.ListParts.{removed-at}
 use Rattle.cdf_edits.proofs.Edits.AttributeFrame.{AreThere, names_stay, nums_stay}
-use Rattle.cdf_edits.specs.Frame.Leaves.{AttributeStays}
 use Rattle.cdf_edits.proofs.Edits.OwnedOnce.{used_times, owned_once_if, spliced_times, own_in}
 use Rattle.cdf_edits.proofs.Edits.RecordFrame.{file_same, gdr_place}
 use Rattle.cdf_edits.proofs.Edits.RemovedLives.{entries_in, adrs_in, AreNumbered, Removes, before_lives, after_numbered}

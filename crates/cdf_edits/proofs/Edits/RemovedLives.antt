@@ -1,19 +1,6 @@
 -- Where one attribute goes, those before it stay, and those behind it stay but for their number.
 use Rattle.std.proofs.Common.{◌≡◌, ◌⊎◌, ℕ, suc, ◌+◌, ◌≤◌, List, [], ◌∷◌, ◌++◌, length, map, refl, sym, subst, ◌∙◌, arith, inl, inr}
-use Rattle.std.specs.List.{flat_map}
-use Rattle.cdf_format.specs.Fields.{number, size_at, type_at}
-use Rattle.cdf_format.specs.Owners.{attribute_records, times}
-use Rattle.cdf_format.specs.Records.{adr_num, aedr_attr_num}
-use Rattle.cdf_format.specs.RecordTypes.{adr_type, agr_edr_type, az_edr_type}
-use Rattle.cdf_format.specs.Shape.{AttributeShape, Shape, Each}
-use Rattle.cdf_format.specs.Sound.{IsSound}
-use Rattle.cdf_format.specs.Tiles.{In}
-use Rattle.cdf_format.proofs.ChainsLemmas.{linkable-in, linkable-type, linkable-long}
-use Rattle.cdf_format.proofs.Members.{In-append, In-append_left, In-append_right}
-use Rattle.cdf_format.proofs.TilesLemmas.{tile_lies}
-use Rattle.cdf_edits.specs.Edits.Edit.{Edit}
-use Rattle.cdf_edits.specs.Edits.ManyMarks.{deleting_marks}
-use Rattle.cdf_edits.specs.Edits.Marks.{Mark, Avoids}
+use Rattle.cdf_edits.proofs.Common.{flat_map, number, size_at, type_at, attribute_records, times, adr_num, aedr_attr_num, adr_type, agr_edr_type, az_edr_type, AttributeShape, Shape, Each, IsSound, In, linkable-in, linkable-type, linkable-long, In-append, In-append_left, In-append_right, tile_lies, Edit, deleting_marks, Mark, Avoids, Same-part}
 use Rattle.cdf_edits.proofs.Edits.AttributeFrame.{AreThere, more_there}
 use Rattle.cdf_edits.proofs.Edits.OwnedOnce.{only_owns, parts_once}
 use Rattle.cdf_edits.proofs.Edits.RecordFrame.{AttributeLives, kept_but_link}
@@ -21,7 +8,6 @@ use Rattle.cdf_edits.proofs.Edits.Renumbered.{AttributeNumbered, EntryNumbered}
 use Rattle.cdf_edits.proofs.Edits.Splice.{parts_there}
 use Rattle.cdf_edits.proofs.Edits.StepEdits.{fixed_long}
 use Rattle.cdf_edits.proofs.Frame.Meaning.{Kept}
-use Rattle.cdf_format.proofs.BytesLemmas.{Same-part}
 use Rattle.cdf_edits.proofs.Frame.OwnersApart.{times-in}
 use Rattle.cdf_edits.proofs.Edits.MarkLemmas.{avoids-of_type}
 

@@ -1,39 +1,7 @@
 -- Attributes that stay but for their number, which their entries say.
 use Rattle.std.proofs.Common.{◌≡◌, ℕ, ◌+◌, ◌*◌, ◌≤◌, List, [], ◌∷◌, ◌++◌, length, map, Bool, true, not, is_some, ◌&&◌, eq-eqb, refl, sym, ap, subst, ◌∙◌, arith, inl, inr}
-use Rattle.std.specs.Prelude.{◌==◌, nat_le}
-use Rattle.std.specs.Int.{w32, cast_signed}
-use Rattle.std.specs.List.{before_first, flat_map}
-use Rattle.std.specs.Option.{unwrap_or}
-use Rattle.cdf_model.specs.declared.data_type.DataType.{DataType}
-use Rattle.cdf_model.specs.declared.data_type.DataType.TheVariants.{Byte}
-use Rattle.cdf_model.specs.ByteOrder.{turned}
-use Rattle.cdf_model.specs.DataSet.{Entry}
-use Rattle.cdf_model.specs.Limits.{record_number_limit}
-use Rattle.cdf_model.specs.Numbered.{with_item}
-use Rattle.cdf_model.specs.Place.{record_limit}
-use Rattle.cdf_model.specs.Types.{size_of, type_of}
-use Rattle.cdf_format.specs.AttributeRules.{entry_bytes, entry_rows, same_number, entries_rows, has_value}
-use Rattle.cdf_format.specs.Bytes.{Same}
-use Rattle.cdf_format.specs.ChainRules.{differ_rows}
-use Rattle.cdf_format.specs.Chains.{is_linkable, Leads, IsChain}
-use Rattle.cdf_format.specs.Content.{scope_of, entry_of, entries_of}
-use Rattle.cdf_format.specs.Fields.{number, is_positive, name_in, size_at}
-use Rattle.cdf_format.proofs.GoodByShape.{attribute_shape_rows}
-use Rattle.cdf_format.specs.Records.{Field, adr_agr_edr_head, adr_az_edr_head, adr_scope, adr_num, adr_name, adr_ngr_entries, adr_nz_entries, aedr_attr_num, aedr_data_type, aedr_num, aedr_num_elems, aedr_value}
-use Rattle.cdf_format.specs.RecordTypes.{adr_type, agr_edr_type, az_edr_type}
-use Rattle.cdf_format.specs.Rules.{Hold}
-use Rattle.cdf_format.specs.Shape.{AttributeShape, Shape, Each, HasEntries}
-use Rattle.cdf_format.specs.Sound.{EntryFits, AttributeFits, IsSound}
-use Rattle.cdf_format.specs.Stored.{field_bytes, is_little, data_type_in}
-use Rattle.cdf_format.specs.Tiles.{In}
-use Rattle.cdf_format.proofs.BytesLemmas.{word_kept, piece_kept}
-use Rattle.cdf_format.proofs.ChainsLemmas.{linkable-from, linkable-in, linkable-type, linkable-long}
-use Rattle.cdf_format.proofs.Members.{In-append_left, In-append_right}
-use Rattle.cdf_format.proofs.NameRules.{names_at}
-use Rattle.cdf_format.proofs.RowLemmas.{Hold-append, Hold-split}
-use Rattle.cdf_edits.specs.Edits.Edit.{Edit}
-use Rattle.cdf_edits.specs.Edits.Marks.{Mark}
-use Rattle.cdf_edits.specs.Frame.Leaves.{AttributeStays}
+use Rattle.cdf_edits.proofs.Common.{◌==◌, nat_le, w32, cast_signed, before_first, flat_map, unwrap_or, DataType, Byte, turned, Entry, record_number_limit, with_item, record_limit, size_of, type_of, entry_bytes, entry_rows, same_number, entries_rows, has_value, Same, differ_rows, is_linkable, Leads, IsChain, scope_of, entry_of, number, is_positive, name_in, size_at, attribute_shape_rows, Field, adr_agr_edr_head, adr_az_edr_head, adr_scope, adr_num, adr_name, adr_ngr_entries, adr_nz_entries, aedr_attr_num, aedr_data_type, aedr_num, aedr_num_elems, aedr_value, adr_type, agr_edr_type, az_edr_type, Hold, AttributeShape, Shape, Each, HasEntries, EntryFits, AttributeFits, IsSound, field_bytes, is_little, data_type_in, In, word_kept, piece_kept, linkable-from, linkable-in, linkable-type, linkable-long, In-append_left, In-append_right, names_at, Hold-append, Hold-split, Edit, Mark, AttributeStays}
+use Rattle.cdf_format.specs.Content.{entries_of}
 use Rattle.cdf_edits.proofs.Edits.AttributeFrame.{AreThere, more_there}
 use Rattle.cdf_edits.proofs.Edits.StepEdits.{fixed_long}
 use Rattle.cdf_edits.proofs.Frame.LinksStay.{leads_same}

@@ -1,31 +1,8 @@
 -- An attribute that has the same records in two images, with the same bytes: what is said of it in the one holds in the other.
 use Rattle.std.proofs.Common.{◌≡◌, ◌⊎◌, ℕ, ℤ, ◌+◌, ◌-◌, ◌≤◌, ◌<◌, List, [], ◌∷◌, ◌++◌, Bool, true, false, Option, Some, None, refl, sym, ap, ap₂, subst, ◌∙◌, arith, inl, inr}
-use Rattle.std.proofs.lemmas.Bool.{eqb-true}
-use Rattle.std.proofs.lemmas.Option.{same_Some}
-use Rattle.std.specs.List.{slice_get}
-use Rattle.std.specs.Prelude.{◌&&◌, ◌==◌, nat_lt, not, if◌then◌else◌}
-use Rattle.cdf_model.specs.declared.kinds.EntryKind.{EntryKind}
+use Rattle.cdf_edits.proofs.Common.{eqb-true, same_Some, slice_get, ◌&&◌, ◌==◌, nat_lt, not, if◌then◌else◌, EntryKind, entries_of, is_global, Attribute, Found, Same, byte, Leads, next_field, next_of, attribute_of, content, scope_of, integer4, number, size_at, type_at, attribute_records, Field, adr_scope, aedr_num, adr_type, agr_edr_type, az_edr_type, AttributeShape, Each, HasEntries, HasShape, shape, In, Good, integer_kept, number_kept, linkable-type, good_is_sound, either, In-append, Allowance, Anything, Keeps, Only, GreatestIs, chain_fields, chain_of, entry_type, greatest_number, kind_of_entries, max_field, share_chain, AttributeFollows, entries_allowance, entries_for, fields_beside, is_global_attribute}
 use Rattle.cdf_model.specs.declared.kinds.EntryKind.TheVariants as entries
-use Rattle.cdf_model.specs.AttributeSteps.{entries_of, is_global}
-use Rattle.cdf_model.specs.DataSet.{Attribute}
-use Rattle.cdf_model.specs.Names.{Found}
-use Rattle.cdf_format.specs.Bytes.{Same, byte}
-use Rattle.cdf_format.specs.Chains.{Leads, next_field, next_of}
-use Rattle.cdf_format.specs.Content.{attribute_of, content, scope_of}
-use Rattle.cdf_format.specs.Fields.{integer4, number, size_at, type_at}
-use Rattle.cdf_format.specs.Owners.{attribute_records}
-use Rattle.cdf_format.specs.Records.{Field, adr_scope, aedr_num}
-use Rattle.cdf_format.specs.RecordTypes.{adr_type, agr_edr_type, az_edr_type}
-use Rattle.cdf_format.specs.Shape.{AttributeShape, Each, HasEntries, HasShape, shape}
-use Rattle.cdf_format.specs.Tiles.{In}
-use Rattle.cdf_format.specs.WellFormed.{Good}
-use Rattle.cdf_format.proofs.BytesLemmas.{integer_kept, number_kept}
-use Rattle.cdf_format.proofs.ChainsLemmas.{linkable-type}
-use Rattle.cdf_format.proofs.GoodSound.{good_is_sound}
-use Rattle.cdf_format.proofs.Members.{either, In-append}
-use Rattle.cdf_edits.specs.Commands.Allowances.{Allowance, Anything, Keeps, Only}
-use Rattle.cdf_edits.specs.Commands.EntryChains.{GreatestIs, chain_fields, chain_of, entry_type, greatest_number, kind_of_entries, max_field, share_chain}
-use Rattle.cdf_edits.specs.Commands.Variables.{AttributeFollows, entries_allowance, entries_for, fields_beside, is_global_attribute, is_renumbered}
+use Rattle.cdf_edits.specs.Commands.Variables.{is_renumbered}
 use Rattle.cdf_edits.proofs.Commands.ListParts.{got-map}
 use Rattle.cdf_edits.proofs.Edits.ChainKinds.{chain_has, chain_in}
 use Rattle.cdf_edits.proofs.Edits.DroppedSoFar.{attributes_of, member_in}

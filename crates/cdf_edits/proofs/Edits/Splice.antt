@@ -1,42 +1,11 @@
 -- An edit that puts some attributes in the place of others: the image has its shape, its content and its rules if these have theirs.
 use Rattle.std.proofs.Common.{◌≡◌, ℕ, ◌+◌, ◌≤◌, List, [], ◌∷◌, ◌++◌, length, map, true, refl, sym, ap, subst, ◌∙◌, arith}
-use Rattle.std.proofs.lemmas.List.{map-append}
-use Rattle.std.specs.List.{flat_map}
-use Rattle.std.specs.Prelude.{◌==◌, ◌&&◌}
-use Rattle.cdf_model.specs.DataSet.{Attribute, DataSet}
-use Rattle.cdf_model.specs.Limits.{image_limit}
-use Rattle.cdf_format.specs.Sound.{IsSound, AttributeFits}
-use Rattle.cdf_edits.specs.Frame.Leaves.{FileStays, AttributeStays, VariableStays}
-use Rattle.cdf_format.specs.AttributeRules.{same_name}
-use Rattle.cdf_format.specs.ChainRules.{adrs_rows, r_vdrs_rows, z_vdrs_rows, differ_rows}
-use Rattle.cdf_format.specs.Chains.{is_in, is_linkable, IsChain}
-use Rattle.cdf_format.specs.Content.{content, content_of, attribute_of, majority_of}
-use Rattle.cdf_format.specs.Fields.{number, size_at, type_at, has_bit, gdr_offset, eof}
-use Rattle.cdf_format.proofs.GoodByShape.{IsGoodByShape, attribute_shape_rows}
-use Rattle.cdf_format.specs.NotRead.{read_types}
-use Rattle.cdf_format.specs.Owners.{OwnedOnce, times, owned_records}
-use Rattle.cdf_format.specs.Phases.{first_phases}
-use Rattle.cdf_format.specs.Records.{Field, gdr_adr_head, gdr_nr_vars, gdr_nz_vars, gdr_r_vdr_head, gdr_z_vdr_head, gdr_uir_head, adr_name, vdr_num}
-use Rattle.cdf_format.specs.RecordTypes.{cdr_type, gdr_type, adr_type, r_vdr_type, z_vdr_type, uir_type, is_record_type, fixed_size}
-use Rattle.cdf_format.specs.Rules.{row, Hold, AllHold}
-use Rattle.cdf_format.specs.Sealed.{sealed}
-use Rattle.cdf_format.specs.Shape.{AttributeShape, Shape, adrs, vdrs, variables, Each, HasEntries, HasShape}
-use Rattle.cdf_format.specs.Tiles.{In}
-use Rattle.cdf_format.specs.WellFormed.{Good}
+use Rattle.cdf_edits.proofs.Common.{map-append, flat_map, ◌==◌, ◌&&◌, Attribute, DataSet, image_limit, IsSound, AttributeFits, FileStays, AttributeStays, VariableStays, same_name, adrs_rows, r_vdrs_rows, z_vdrs_rows, differ_rows, is_in, is_linkable, IsChain, content, content_of, attribute_of, majority_of, number, size_at, type_at, has_bit, gdr_offset, eof, IsGoodByShape, attribute_shape_rows, read_types, OwnedOnce, times, owned_records, first_phases, Field, gdr_adr_head, gdr_nr_vars, gdr_nz_vars, gdr_r_vdr_head, gdr_z_vdr_head, gdr_uir_head, adr_name, vdr_num, cdr_type, gdr_type, adr_type, r_vdr_type, z_vdr_type, uir_type, is_record_type, fixed_size, row, Hold, AllHold, sealed, AttributeShape, Shape, adrs, vdrs, variables, Each, HasEntries, HasShape, In, Good, is_a-from, is_a-in, linkable-in, linkable-type, vdrs_append, In-append_left, In-append_right, Hold-append, Hold-split, flat_map-append, sealed_keeps, Each-split, Each-append, content_is, both, Mark, avoided, all_unmarked, variable_types, keeps_file, keeps_variables, Edit}
 use Rattle.cdf_edits.proofs.Frame.SameShape.{has_entries, has_variables, same_attributes, same_variables}
-use Rattle.cdf_format.proofs.ChainsLemmas.{is_a-from, is_a-in, linkable-in, linkable-type}
 use Rattle.cdf_edits.proofs.Rules.FirstRules.{first_phases_stay}
-use Rattle.cdf_format.proofs.GoodImageLemmas.{vdrs_append}
 use Rattle.cdf_edits.proofs.Frame.Meaning.{FileSame, Kept}
-use Rattle.cdf_format.proofs.Members.{In-append_left, In-append_right}
 use Rattle.cdf_edits.proofs.Frame.OwnersApart.{all_variable_records, adrs_linked}
-use Rattle.cdf_format.proofs.RowLemmas.{Hold-append, Hold-split, flat_map-append}
 use Rattle.cdf_edits.proofs.Rules.WithoutLinks.{number_rows_kept}
-use Rattle.cdf_format.proofs.SealedRules.{sealed_keeps}
-use Rattle.cdf_format.proofs.ShapeLemmas.{Each-split, Each-append, content_is}
-use Rattle.cdf_format.proofs.Tests.{both}
-use Rattle.cdf_edits.specs.Edits.Marks.{Mark, avoided, all_unmarked, variable_types, keeps_file, keeps_variables}
-use Rattle.cdf_edits.specs.Edits.Edit.{Edit}
 use Rattle.cdf_edits.proofs.Edits.AttributeFrame.{AreThere, all_stay, all_rules, all_fit}
 use Rattle.cdf_edits.proofs.Edits.FirstRecords.{gdr_still, cdr_still, typed_now, fixed_now, read_now, gdr_room, first_stay}
 use Rattle.cdf_edits.proofs.Edits.RecordFrame.{AttributeLives, VariableLives, chain_stays, gdr_field, gdr_place, file_same, file_stays}

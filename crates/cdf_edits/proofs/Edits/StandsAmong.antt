@@ -1,24 +1,6 @@
 -- One variable of a good image among those of its kind: where it stands, and that its links, its records and its rules are as they are to be.
 use Rattle.std.proofs.Common.{◌≡◌, ℕ, ◌≤◌, List, [], ◌∷◌, ◌++◌, true, refl, sym, ap, subst, ◌∙◌, arith, inl, inr}
-use Rattle.std.specs.List.{flat_map}
-use Rattle.cdf_model.specs.declared.kinds.Kind.{Kind}
-use Rattle.cdf_model.specs.declared.kinds.Kind.TheVariants.{R, Z}
-use Rattle.cdf_format.specs.Chains.{is_in, is_linkable}
-use Rattle.cdf_format.specs.Fields.{size_at, type_at}
-use Rattle.cdf_format.specs.Index.{leaves_of}
-use Rattle.cdf_format.specs.Owners.{variable_records}
-use Rattle.cdf_format.specs.RecordTypes.{fixed_size}
-use Rattle.cdf_format.specs.Shape.{VariableShape, Shape, vdrs, HasVariable, HasShape, shape}
-use Rattle.cdf_format.specs.Sound.{IsSound, VariableFits}
-use Rattle.cdf_format.specs.Tiles.{In}
-use Rattle.cdf_format.specs.WellFormed.{Good}
-use Rattle.cdf_format.proofs.ChainsLemmas.{linkable-in, linkable-type}
-use Rattle.cdf_format.proofs.GoodSound.{good_is_sound}
-use Rattle.cdf_format.proofs.Members.{In-append_left}
-use Rattle.cdf_edits.specs.Commands.Allowances.{shapes_of}
-use Rattle.cdf_edits.specs.Edits.Marks.{index_types}
-use Rattle.cdf_edits.specs.Space.Chains.{type_in}
-use Rattle.cdf_edits.specs.Space.VariableChains.{variables_chain}
+use Rattle.cdf_edits.proofs.Common.{flat_map, Kind, R, Z, is_in, is_linkable, size_at, type_at, leaves_of, variable_records, fixed_size, VariableShape, Shape, vdrs, HasVariable, HasShape, shape, IsSound, VariableFits, In, Good, linkable-in, linkable-type, good_is_sound, In-append_left, shapes_of, index_types, type_in, variables_chain}
 use Rattle.cdf_edits.proofs.Edits.InRecords.{places_of}
 use Rattle.cdf_edits.proofs.Edits.RecordFrame.{index_records}
 use Rattle.cdf_edits.proofs.Edits.StepEdits.{fixed_long}

@@ -1,19 +1,6 @@
 -- An image in which one chain of entries of an attribute changed, and all else stands.
-use Rattle.std.specs.Prelude.{◌≡◌, ℕ, List, [], ◌∷◌, length, Some}
-use Rattle.std.specs.List.{slice_get, flat_map}
-use Rattle.cdf_model.specs.declared.kinds.Kind.{Kind}
-use Rattle.cdf_model.specs.declared.kinds.EntryKind.{EntryKind}
-use Rattle.cdf_edits.specs.Commands.Allowances.{Keeps, Only, shapes_of, space_fields}
-use Rattle.cdf_edits.specs.Commands.EntryChains.{chain_fields}
-use Rattle.cdf_edits.specs.Commands.GreatestRecord.{r_max_rec}
+use Rattle.cdf_edits.proofs.Common.{◌≡◌, ℕ, List, [], ◌∷◌, length, Some, slice_get, flat_map, Kind, EntryKind, Keeps, Only, shapes_of, space_fields, chain_fields, r_max_rec, type_at, attribute_records, variable_records, uir_next_uir, uir_prev_uir, uir_type, AttributeShape, shape, In, Good}
 use Rattle.cdf_edits.proofs.Edits.ChainKinds.{other_of}
-use Rattle.cdf_format.specs.Fields.{type_at}
-use Rattle.cdf_format.specs.Owners.{attribute_records, variable_records}
-use Rattle.cdf_format.specs.Records.{uir_next_uir, uir_prev_uir}
-use Rattle.cdf_format.specs.RecordTypes.{uir_type}
-use Rattle.cdf_format.specs.Shape.{AttributeShape, shape}
-use Rattle.cdf_format.specs.Tiles.{In}
-use Rattle.cdf_format.specs.WellFormed.{Good}
 
 -- the chain of a kind of the attribute of a number, with this shape
 pub record StandsBut (b : List ℕ) (k : ℕ) (own : AttributeShape) (kind : EntryKind) (now : List ℕ) : Type 0 where

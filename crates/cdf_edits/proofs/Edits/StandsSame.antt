@@ -1,24 +1,12 @@
 -- Where nothing was written, all stands.
 use Rattle.std.proofs.Common.{◌≡◌, ◌⊎◌, ℕ, ◌++◌, List, [], Some, refl, inl, inr}
-use Rattle.std.specs.List.{slice_get}
-use Rattle.cdf_model.specs.declared.kinds.EntryKind.{EntryKind}
+use Rattle.cdf_edits.proofs.Common.{slice_get, EntryKind, Field, cdr_type, uir_type, AttributeShape, HasShape, shape, In, Good, is_a-in, linkable-in, good_is_sound, In-append, In-append_left, In-append_right, Stays, chain_of, IsSound}
 use Rattle.cdf_model.specs.declared.kinds.EntryKind.TheVariants as entries
-use Rattle.cdf_format.specs.Records.{Field}
-use Rattle.cdf_format.specs.RecordTypes.{cdr_type, uir_type}
-use Rattle.cdf_format.specs.Shape.{AttributeShape, HasShape, shape}
-use Rattle.cdf_format.specs.Tiles.{In}
-use Rattle.cdf_format.specs.WellFormed.{Good}
-use Rattle.cdf_format.proofs.ChainsLemmas.{is_a-in, linkable-in}
-use Rattle.cdf_format.proofs.GoodSound.{good_is_sound}
-use Rattle.cdf_format.proofs.Members.{In-append, In-append_left, In-append_right}
-use Rattle.cdf_edits.specs.Commands.Allowances.{Stays}
-use Rattle.cdf_edits.specs.Commands.EntryChains.{chain_of}
 use Rattle.cdf_edits.proofs.Edits.ChainKinds.{other_of}
 use Rattle.cdf_edits.proofs.Edits.DroppedSoFar.{member_in}
 use Rattle.cdf_edits.proofs.Edits.StandsBut.{StandsBut}
 use Rattle.cdf_edits.proofs.Edits.StepEdits.{gdr_in}
 use Rattle.cdf_edits.proofs.Edits.VariableKinds.{kind_in}
-use Rattle.cdf_format.specs.Sound.{IsSound}
 
 -- the records of an attribute are its ADR and those of two chains
 pub chain_or_other : (kind : EntryKind) (a : AttributeShape) (m : ℕ) → In m (a.gr_entries ++ a.z_entries) → In m (chain_of a kind) ⊎ In m (other_of a kind)

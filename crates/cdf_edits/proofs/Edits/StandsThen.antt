@@ -1,23 +1,6 @@
 -- A chain of entries changed twice, and all else stands.
 use Rattle.std.proofs.Common.{◌≡◌, ℕ, ◌+◌, ◌-◌, ◌≤◌, ◌<◌, List, [], ◌∷◌, length, Some, refl, sym, subst, ◌∙◌, arith, inl, inr}
-use Rattle.std.specs.List.{slice_get, flat_map}
-use Rattle.cdf_model.specs.declared.kinds.EntryKind.{EntryKind}
-use Rattle.cdf_format.specs.Bytes.{Same, byte}
-use Rattle.cdf_format.specs.Chains.{is_in}
-use Rattle.cdf_format.specs.Fields.{size_at, type_at}
-use Rattle.cdf_format.specs.Owners.{attribute_records, variable_records}
-use Rattle.cdf_format.specs.Records.{Field, uir_next_uir, uir_prev_uir}
-use Rattle.cdf_format.specs.RecordTypes.{uir_type}
-use Rattle.cdf_format.specs.Shape.{AttributeShape, HasShape, VariableShape, shape}
-use Rattle.cdf_format.specs.Tiles.{AreTiles, In}
-use Rattle.cdf_format.specs.WellFormed.{Good}
-use Rattle.cdf_format.proofs.ChainsLemmas.{linkable-in, linkable-type}
-use Rattle.cdf_format.proofs.GoodSound.{good_is_sound}
-use Rattle.cdf_format.proofs.Members.{either, true-is_in, false-is_in}
-use Rattle.cdf_format.proofs.TilesLemmas.{tile_lies}
-use Rattle.cdf_edits.specs.Commands.Allowances.{Keeps, Only, OutsideFields, Stays, space_fields}
-use Rattle.cdf_edits.specs.Commands.EntryChains.{chain_fields}
-use Rattle.cdf_edits.specs.Edits.DropsEntries.{IsDropped}
+use Rattle.cdf_edits.proofs.Common.{slice_get, flat_map, EntryKind, Same, byte, is_in, size_at, type_at, attribute_records, variable_records, Field, uir_next_uir, uir_prev_uir, uir_type, AttributeShape, HasShape, VariableShape, shape, AreTiles, In, Good, linkable-in, linkable-type, good_is_sound, either, true-is_in, false-is_in, tile_lies, Keeps, Only, OutsideFields, Stays, space_fields, chain_fields, IsDropped}
 use Rattle.cdf_edits.proofs.Edits.ChainKinds.{other_of}
 use Rattle.cdf_edits.proofs.Edits.FreedRecords.{sizes_by_tiles}
 use Rattle.cdf_edits.proofs.Edits.StandsBut.{StandsBut}

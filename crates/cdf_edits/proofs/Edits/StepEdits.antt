@@ -1,26 +1,10 @@
 -- The steps of a command, each as an edit.
 use Rattle.std.proofs.Common.{◌≡◌, ◌≢◌, ◌⊎◌, ℕ, ◌+◌, ◌-◌, ◌≤◌, List, [], ◌∷◌, length, refl, sym, ap, subst, ◌∙◌, arith, inl, inr}
-use Rattle.std.proofs.lemmas.Bool.{cases_eq, leb-true}
-use Rattle.std.specs.Prelude.{nat_le, ◌==◌}
-use Rattle.cdf_format.specs.Sound.{IsSound}
-use Rattle.cdf_format.specs.Bytes.{Same}
-use Rattle.cdf_edits.specs.Frame.Changed.{touch, touched_field, Changed}
-use Rattle.cdf_format.specs.Chains.{next_field, is_in, IsChain}
-use Rattle.cdf_format.specs.Fields.{size_at, type_at}
-use Rattle.cdf_edits.specs.Space.Placement.{first_back_link, giving, Takes, Gives}
-use Rattle.cdf_format.specs.Records.{Field, record_type, gdr_uir_head, uir_next_uir, uir_prev_uir}
-use Rattle.cdf_format.specs.RecordTypes.{gdr_type, uir_type, fixed_size}
-use Rattle.cdf_format.specs.Shape.{Shape, Each, HasShape}
-use Rattle.cdf_format.specs.Tiles.{In}
-use Rattle.cdf_format.proofs.BytesLemmas.{Same-part}
-use Rattle.cdf_format.proofs.ChainsLemmas.{is_a-in, is_a-type, linkable-in, linkable-type, linkable-long}
-use Rattle.cdf_format.proofs.Members.{either, true-is_in, false-is_in}
+use Rattle.cdf_edits.proofs.Common.{cases_eq, leb-true, nat_le, ◌==◌, IsSound, Same, touch, touched_field, Changed, next_field, is_in, IsChain, size_at, type_at, first_back_link, giving, Takes, Gives, Field, record_type, gdr_uir_head, uir_next_uir, uir_prev_uir, gdr_type, uir_type, fixed_size, Shape, Each, HasShape, In, Same-part, is_a-in, is_a-type, linkable-in, linkable-type, linkable-long, either, true-is_in, false-is_in, tile_lies, link_behind, before, Among, Mark, mark, whole, Avoids, Marked, field_marks, taking_marks, giving_marks, append_marks, removing_marks, replacing_marks, Edit}
 use Rattle.cdf_edits.proofs.Space.TakenLeaves.{KeepsTaken, takes_keep}
-use Rattle.cdf_format.proofs.TilesLemmas.{tile_lies}
 use Rattle.cdf_edits.proofs.Space.UsedRecords.{apart}
-use Rattle.cdf_edits.specs.Space.Chains.{link_behind, before}
-use Rattle.cdf_edits.specs.Edits.Marks.{Among, Mark, mark, whole, Avoids, Covers, Marked, field_marks, taking_marks, giving_marks, append_marks, removing_marks, replacing_marks}
-use Rattle.cdf_edits.specs.Edits.Edit.{Kind, Edit}
+use Rattle.cdf_edits.specs.Edits.Marks.{Covers}
+use Rattle.cdf_edits.specs.Edits.Edit.{Kind}
 use Rattle.cdf_edits.proofs.Edits.Composing.{head_type, changed_edit}
 
 -- ---- the GDR and the bytes before it

@@ -1,42 +1,6 @@
 -- An image from which one variable went has its shape, its content and its rules.
 use Rattle.std.proofs.Common.{◌≡◌, ◌⊎◌, ℕ, suc, ◌+◌, ◌≤◌, List, [], ◌∷◌, ◌++◌, length, map, true, eq-eqb, refl, sym, ap, subst, ◌∙◌, arith, inl, inr}
-use Rattle.std.proofs.lemmas.List.{length-map, map-append}
-use Rattle.std.specs.List.{flat_map, remove}
-use Rattle.std.specs.Prelude.{◌==◌}
-use Rattle.cdf_model.specs.DataSet.{DataSet, Variable}
-use Rattle.cdf_model.specs.Limits.{image_limit}
-use Rattle.cdf_model.specs.Names.{variables_of, with_variables}
-use Rattle.cdf_model.specs.declared.kinds.Kind.{Kind}
-use Rattle.cdf_model.specs.declared.kinds.Kind.TheVariants.{R, Z}
-use Rattle.cdf_format.specs.ChainRules.{number_rows}
-use Rattle.cdf_format.specs.Chains.{is_in, IsChain}
-use Rattle.cdf_format.specs.Content.{content, variable_of}
-use Rattle.cdf_format.specs.Fields.{number, size_at, type_at, gdr_offset, eof}
-use Rattle.cdf_format.specs.NotRead.{read_types}
-use Rattle.cdf_format.specs.Owners.{OwnedOnce, variable_records, times, owned_records, unused_records}
-use Rattle.cdf_format.specs.Phases.{first_phases}
-use Rattle.cdf_format.specs.Records.{gdr_uir_head, vdr_num}
-use Rattle.cdf_format.specs.RecordTypes.{gdr_type, r_vdr_type, z_vdr_type, uir_type, is_record_type, fixed_size}
-use Rattle.cdf_format.specs.Rules.{Hold, AllHold}
-use Rattle.cdf_format.specs.Sealed.{sealed}
-use Rattle.cdf_format.specs.Shape.{VariableShape, Shape, vdrs, Each, HasShape}
-use Rattle.cdf_format.specs.Sound.{IsSound}
-use Rattle.cdf_format.specs.Tiles.{In, Distinct}
-use Rattle.cdf_format.specs.WellFormed.{Good}
-use Rattle.cdf_format.proofs.ChainsLemmas.{linkable-in, linkable-type}
-use Rattle.cdf_format.proofs.GoodByShape.{IsGoodByShape}
-use Rattle.cdf_format.proofs.GoodImageLemmas.{vdrs_append}
-use Rattle.cdf_format.proofs.Members.{In-append, In-append_left, In-append_right}
-use Rattle.cdf_format.proofs.Owning.{times-none}
-use Rattle.cdf_format.proofs.ShapeLemmas.{content_is}
-use Rattle.cdf_format.proofs.TilesLemmas.{tile_lies}
-use Rattle.cdf_edits.specs.Commands.Allowances.{shapes_of}
-use Rattle.cdf_edits.specs.Edits.Edit.{Edit}
-use Rattle.cdf_edits.specs.Edits.ManyMarks.{wholes}
-use Rattle.cdf_edits.specs.Edits.Marks.{Mark, Avoids, Confined, avoided, unmarked, index_types, keeps_file}
-use Rattle.cdf_edits.specs.Edits.RemovesVariable.{variable_removing_marks}
-use Rattle.cdf_edits.specs.Space.Chains.{head_of, count_of, type_in}
-use Rattle.cdf_edits.specs.Space.VariableChains.{variables_chain}
+use Rattle.cdf_edits.proofs.Common.{length-map, map-append, flat_map, remove, ◌==◌, DataSet, Variable, image_limit, variables_of, with_variables, Kind, R, Z, number_rows, is_in, IsChain, content, variable_of, number, size_at, type_at, gdr_offset, eof, read_types, OwnedOnce, variable_records, times, owned_records, unused_records, first_phases, gdr_uir_head, vdr_num, gdr_type, r_vdr_type, z_vdr_type, uir_type, is_record_type, fixed_size, Hold, AllHold, sealed, VariableShape, Shape, vdrs, Each, HasShape, IsSound, In, Distinct, Good, linkable-in, linkable-type, IsGoodByShape, vdrs_append, In-append, In-append_left, In-append_right, times-none, content_is, tile_lies, shapes_of, Edit, wholes, Mark, Avoids, Confined, avoided, unmarked, index_types, keeps_file, variable_removing_marks, head_of, count_of, type_in, variables_chain}
 use Rattle.cdf_edits.proofs.Commands.ListParts.{removed-at}
 use Rattle.cdf_edits.proofs.Edits.MarkLemmas.{avoids-of_type, confined-away, unmarked-away}
 use Rattle.cdf_edits.proofs.Edits.OwnedOnce.{used_times, owned_once_if}

@@ -1,30 +1,9 @@
 -- An attribute that is taken out of the chain, counted no more, and those behind it numbered anew: the image is sound, and its records have no owner.
 use Rattle.std.proofs.Common.{◌≡◌, ◌≢◌, ◌⊎◌, ℕ, suc, ◌+◌, ◌^◌, ◌<◌, ◌≤◌, List, [], ◌∷◌, ◌++◌, length, map, true, false, eq-eqb, refl, sym, ap, subst, ◌∙◌, arith, inl, inr}
-use Rattle.std.proofs.lemmas.Bool.{eqb-true}
-use Rattle.std.proofs.lemmas.List.{map-append}
-use Rattle.std.specs.List.{filter, flat_map}
-use Rattle.std.specs.Prelude.{◌==◌, if◌then◌else◌}
-use Rattle.cdf_format.specs.Chains.{IsChain}
-use Rattle.cdf_format.specs.Fields.{number, size_at, type_at, gdr_offset, with_field}
-use Rattle.cdf_format.specs.Owners.{attribute_records, times, owned_records, unused_records}
-use Rattle.cdf_format.specs.Records.{gdr_adr_head, gdr_uir_head, gdr_num_attr, aedr_attr_num}
-use Rattle.cdf_format.specs.RecordTypes.{gdr_type, adr_type, agr_edr_type, az_edr_type, uir_type}
-use Rattle.cdf_format.specs.Shape.{AttributeShape, Shape, Each, HasShape, adrs, shape}
-use Rattle.cdf_format.specs.Sound.{IsSound}
-use Rattle.cdf_format.specs.Tiles.{In, AreTiles, Distinct}
-use Rattle.cdf_format.proofs.ChainsLemmas.{linkable-in, linkable-type, linkable-long}
-use Rattle.cdf_format.proofs.Members.{either, In-append, In-append_left, In-append_right, Distinct-middle, Distinct-push}
-use Rattle.cdf_format.proofs.ShapeLemmas.{Each-split, Each-append, shape_is}
-use Rattle.cdf_edits.specs.Edits.Edit.{Edit}
-use Rattle.cdf_edits.specs.Edits.ManyMarks.{numbering_marks, unlinking_marks, deleting_marks, freeing_marks}
-use Rattle.cdf_edits.specs.Edits.Marks.{Mark, attribute_types, field_marks, removing_marks}
-use Rattle.cdf_edits.specs.Edits.Unlinks.{Unlinks}
-use Rattle.cdf_edits.specs.Edits.Writes.{Write, write, with_writes, numbers_from}
+use Rattle.cdf_edits.proofs.Common.{eqb-true, map-append, filter, flat_map, ◌==◌, if◌then◌else◌, IsChain, number, size_at, type_at, gdr_offset, with_field, attribute_records, times, owned_records, unused_records, gdr_adr_head, gdr_uir_head, gdr_num_attr, aedr_attr_num, gdr_type, adr_type, agr_edr_type, az_edr_type, uir_type, AttributeShape, Shape, Each, HasShape, adrs, shape, IsSound, In, AreTiles, Distinct, linkable-in, linkable-type, linkable-long, either, In-append, In-append_left, In-append_right, Distinct-middle, Distinct-push, Each-split, Each-append, shape_is, Edit, unlinking_marks, deleting_marks, freeing_marks, Mark, attribute_types, field_marks, removing_marks, Unlinks, Write, write, with_writes, numbers_from, AreFree, times-none, Attrs, length-with_field, Same}
+use Rattle.cdf_edits.specs.Edits.ManyMarks.{numbering_marks}
 use Rattle.cdf_edits.specs.Space.Chains.{before as front_of, without}
-use Rattle.cdf_edits.specs.Space.Freeing.{AreFree}
 use Rattle.cdf_edits.proofs.Space.UsedRecords.{filter-keeps, filter-says}
-use Rattle.cdf_format.proofs.Owning.{times-none}
-use Rattle.cdf_edits.specs.declared.chain.Chain.TheVariants.{Attrs}
 use Rattle.cdf_edits.proofs.Edits.AttributeFrame.{AreThere, more_there}
 use Rattle.cdf_edits.proofs.Edits.ChainsOfShape.{IsOf, remove_changed, left_chain}
 use Rattle.cdf_edits.proofs.Edits.Composing.{head_size, head_type, edit_then}
@@ -38,8 +17,6 @@ use Rattle.cdf_edits.proofs.Edits.Splice.{parts_there}
 use Rattle.cdf_edits.proofs.Edits.StepEdits.{Linked, gdr_in, gdr_typed, gdr_long, some_bytes, fixed_long, remove_edit}
 use Rattle.cdf_edits.proofs.Edits.WrittenFields.{MayWrite, written_tiles, may_after, write_lies, write_edit, writes_edit, writes_say}
 use Rattle.cdf_edits.proofs.Frame.OwnersApart.{flat-append, times-in, owned-times, file_records, all_attribute_records, all_variable_records, file_from_attributes}
-use Rattle.cdf_fields.proofs.Writes.{length-with_field}
-use Rattle.cdf_format.specs.Bytes.{Same}
 
 -- ---- lists
 

@@ -1,35 +1,8 @@
 -- A variable that is taken out of the chain, counted no more, and those behind it numbered anew: the image is sound, and its VDR has no owner.
 use Rattle.std.proofs.Common.{◌≡◌, ◌≢◌, ℕ, ℤ, suc, ◌+◌, ◌^◌, ◌<◌, ◌≤◌, List, [], ◌∷◌, ◌++◌, length, true, eq-eqb, refl, sym, ap, subst, ◌∙◌, arith, inl, inr}
-use Rattle.std.specs.List.{filter}
-use Rattle.std.specs.Prelude.{◌==◌, if◌then◌else◌}
-use Rattle.cdf_model.specs.declared.kinds.Kind.{Kind}
-use Rattle.cdf_model.specs.declared.kinds.Kind.TheVariants.{R, Z}
-use Rattle.cdf_format.specs.Bytes.{Same}
-use Rattle.cdf_format.specs.Chains.{IsChain}
-use Rattle.cdf_format.specs.Fields.{number, size_at, type_at, gdr_offset, with_field}
-use Rattle.cdf_format.specs.Owners.{variable_records, times, owned_records, unused_records}
-use Rattle.cdf_format.specs.Records.{Field, gdr_uir_head, vdr_num}
-use Rattle.cdf_format.specs.RecordTypes.{gdr_type, uir_type}
-use Rattle.cdf_format.specs.Shape.{VariableShape, Shape, vdrs, Each, HasShape, shape}
-use Rattle.cdf_format.specs.Sound.{IsSound}
-use Rattle.cdf_format.specs.Tiles.{In, AreTiles, Distinct}
-use Rattle.cdf_format.specs.WellFormed.{Good}
-use Rattle.cdf_format.proofs.GoodImageLemmas.{vdrs_append}
-use Rattle.cdf_format.proofs.GoodSound.{good_is_sound}
-use Rattle.cdf_format.proofs.Members.{Distinct-back, Distinct-middle}
-use Rattle.cdf_format.proofs.ShapeLemmas.{shape_is}
-use Rattle.cdf_fields.proofs.Writes.{length-with_field}
-use Rattle.cdf_edits.specs.Commands.Allowances.{shapes_of}
-use Rattle.cdf_edits.specs.Commands.Variables.{freed_with_variable}
-use Rattle.cdf_edits.specs.Edits.Edit.{Edit}
-use Rattle.cdf_edits.specs.Edits.ManyMarks.{freeing_marks}
-use Rattle.cdf_edits.specs.Edits.Marks.{Among, Mark, mark, all_unmarked, avoided, keeps_file, field_marks, index_types, removing_marks}
-use Rattle.cdf_edits.specs.Edits.RemovesVariable.{UnlinksVariable, numbers_on, r_max_writes, r_max_marks, greatest_at, variable_unlinking_marks, variable_removing_marks}
-use Rattle.cdf_edits.specs.Edits.Writes.{Write, write, with_writes}
-use Rattle.cdf_edits.specs.Space.Acts.{links_end}
-use Rattle.cdf_edits.specs.Space.Chains.{holder_of, head_of, count_of, type_in, without}
-use Rattle.cdf_edits.specs.Space.Freeing.{AreFree}
-use Rattle.cdf_edits.specs.Space.VariableChains.{variables_chain}
+use Rattle.cdf_edits.proofs.Common.{filter, ◌==◌, if◌then◌else◌, Kind, R, Z, Same, IsChain, number, size_at, type_at, gdr_offset, with_field, variable_records, times, owned_records, unused_records, Field, gdr_uir_head, vdr_num, gdr_type, uir_type, VariableShape, Shape, vdrs, Each, HasShape, shape, IsSound, In, AreTiles, Distinct, Good, vdrs_append, good_is_sound, Distinct-back, Distinct-middle, shape_is, length-with_field, shapes_of, freed_with_variable, Edit, freeing_marks, Among, Mark, mark, all_unmarked, avoided, keeps_file, field_marks, index_types, removing_marks, UnlinksVariable, numbers_on, r_max_writes, greatest_at, variable_unlinking_marks, variable_removing_marks, Write, write, with_writes, links_end, holder_of, head_of, count_of, type_in, AreFree, variables_chain}
+use Rattle.cdf_edits.specs.Edits.RemovesVariable.{r_max_marks}
+use Rattle.cdf_edits.specs.Space.Chains.{without}
 use Rattle.cdf_edits.proofs.Edits.ChainsOfShape.{IsOf, remove_changed, left_chain}
 use Rattle.cdf_edits.proofs.Edits.Composing.{head_size, head_type, edit_then}
 use Rattle.cdf_edits.proofs.Edits.FreedBytes.{behind_kept, behind_link}

@@ -1,22 +1,6 @@
 -- A variable whose VDR stands at another place, or is another where it is, and whose other records an edit leaves: its links, its content and its rules.
 use Rattle.std.proofs.Common.{◌≡◌, ℕ, ◌≤◌, List, [], ◌∷◌, ◌++◌, Bool, true, sym, ap, subst, ◌∙◌, arith, inl, inr, refl}
-use Rattle.std.specs.Prelude.{if◌then◌else◌}
-use Rattle.cdf_format.specs.AttributeRules.{has_name}
-use Rattle.cdf_format.specs.Content.{variable_of}
-use Rattle.cdf_format.specs.Fields.{number, name_in, integer4, size_at}
-use Rattle.cdf_format.specs.Index.{Leaf, nodes_of, leaves_of}
-use Rattle.cdf_format.specs.IndexRules.{index_rows}
-use Rattle.cdf_format.specs.Records.{vdr_vxr_head, vdr_blocking_factor, vdr_name}
-use Rattle.cdf_format.specs.Rules.{Hold}
-use Rattle.cdf_format.specs.Shape.{VariableShape, Shape, cpr_of, is_compressed, Each, HasVariable}
-use Rattle.cdf_format.specs.Sound.{LeafFits, NodeFits, VariableFits, IsSound}
-use Rattle.cdf_format.specs.Tiles.{In}
-use Rattle.cdf_format.specs.VariableFields.{records_vary, pad_at}
-use Rattle.cdf_format.specs.VariableRules.{vdr_end, cpr_link, is_named_apart, variable_rows}
-use Rattle.cdf_format.proofs.BytesLemmas.{size_kept, type_kept}
-use Rattle.cdf_format.proofs.Members.{In-append_left, In-append_right}
-use Rattle.cdf_edits.specs.Edits.Edit.{Edit}
-use Rattle.cdf_edits.specs.Edits.Marks.{Mark}
+use Rattle.cdf_edits.proofs.Common.{if◌then◌else◌, has_name, variable_of, number, name_in, integer4, size_at, Leaf, nodes_of, leaves_of, index_rows, vdr_vxr_head, vdr_blocking_factor, vdr_name, Hold, VariableShape, Shape, cpr_of, is_compressed, Each, HasVariable, LeafFits, NodeFits, VariableFits, IsSound, In, records_vary, pad_at, vdr_end, cpr_link, is_named_apart, variable_rows, size_kept, type_kept, In-append_left, In-append_right, Edit, Mark}
 use Rattle.cdf_edits.proofs.Edits.InRecords.{places_of, index_both, index_rows_both, leaves_fit_both, cprs_both}
 use Rattle.cdf_edits.proofs.Edits.RecordFrame.{index_records}
 use Rattle.cdf_edits.proofs.Frame.LinksStay.{SameHeads, index_kept}

@@ -1,37 +1,8 @@
 -- What the deletion of a variable leaves of the attributes, and of the records that it frees.
 use Rattle.std.proofs.Common.{◌≡◌, ◌⊎◌, ℕ, zero, suc, ◌+◌, ◌-◌, ◌<◌, ◌≤◌, List, [], ◌∷◌, ◌++◌, length, map, Bool, true, Some, refl, sym, ap, subst, ◌∙◌, arith, inl, inr}
-use Rattle.std.proofs.lemmas.Bool.{le-leb}
-use Rattle.std.proofs.lemmas.Option.{same_Some}
-use Rattle.std.specs.List.{flat_map, slice_get}
-use Rattle.std.specs.Prelude.{if◌then◌else◌}
-use Rattle.cdf_model.specs.declared.kinds.EntryKind.{EntryKind}
+use Rattle.cdf_edits.proofs.Common.{le-leb, same_Some, flat_map, slice_get, if◌then◌else◌, EntryKind, Kind, R, Z, entries_of, Attribute, Found, Same, byte, attribute_of, number, integer4, size_at, attribute_records, variable_records, aedr_num, adr_type, fixed_size, uir_type, AttributeShape, VariableShape, Shape, Each, HasEntries, shape, vdrs, In, AreTiles, Good, integer_kept, number_kept, linkable-in, linkable-type, good_is_sound, In-append, In-append_left, In-append_right, FreedStay, no_fields, shapes_of, GreatestIs, chain_of, entry_type, greatest_number, kind_of_entries, max_field, AttributeFollows, entries_for, freed_with_variable, DropsEntries, AttributeDropped, avoided, ended, RemovesVariable, variable_removing_marks, AttributeStays, gave, links_end}
 use Rattle.cdf_model.specs.declared.kinds.EntryKind.TheVariants as entries
-use Rattle.cdf_model.specs.declared.kinds.Kind.{Kind}
-use Rattle.cdf_model.specs.declared.kinds.Kind.TheVariants.{R, Z}
-use Rattle.cdf_model.specs.AttributeSteps.{entries_of}
-use Rattle.cdf_model.specs.DataSet.{Attribute}
-use Rattle.cdf_model.specs.Names.{Found}
-use Rattle.cdf_format.specs.Bytes.{Same, byte}
-use Rattle.cdf_format.specs.Content.{attribute_of}
-use Rattle.cdf_format.specs.Fields.{number, integer4, size_at}
-use Rattle.cdf_format.specs.Owners.{attribute_records, variable_records}
-use Rattle.cdf_format.specs.Records.{aedr_num}
-use Rattle.cdf_format.specs.RecordTypes.{adr_type, fixed_size, uir_type}
-use Rattle.cdf_format.specs.Shape.{AttributeShape, VariableShape, Shape, Each, HasEntries, shape, vdrs}
-use Rattle.cdf_format.specs.Tiles.{In, AreTiles}
-use Rattle.cdf_format.specs.WellFormed.{Good}
-use Rattle.cdf_format.proofs.BytesLemmas.{integer_kept, number_kept}
-use Rattle.cdf_format.proofs.ChainsLemmas.{linkable-in, linkable-type}
-use Rattle.cdf_format.proofs.GoodSound.{good_is_sound}
-use Rattle.cdf_format.proofs.Members.{In-append, In-append_left, In-append_right}
-use Rattle.cdf_edits.specs.Commands.Allowances.{FreedStay, no_fields, shapes_of}
-use Rattle.cdf_edits.specs.Commands.EntryChains.{GreatestIs, chain_of, entry_type, greatest_number, kind_of_entries, max_field}
-use Rattle.cdf_edits.specs.Commands.Variables.{AttributeFollows, NumbersFall, entries_for, freed_with_variable}
-use Rattle.cdf_edits.specs.Edits.DropsEntries.{DropsEntries, AttributeDropped}
-use Rattle.cdf_edits.specs.Edits.Marks.{avoided, ended}
-use Rattle.cdf_edits.specs.Edits.RemovesVariable.{RemovesVariable, variable_removing_marks}
-use Rattle.cdf_edits.specs.Frame.Leaves.{AttributeStays}
-use Rattle.cdf_edits.specs.Space.Acts.{gave, links_end}
+use Rattle.cdf_edits.specs.Commands.Variables.{NumbersFall}
 use Rattle.cdf_edits.proofs.Edits.ChainKinds.{chain_has, chain_in}
 use Rattle.cdf_edits.proofs.Edits.FreedBytes.{freed_stay}
 use Rattle.cdf_edits.proofs.Edits.FreedRecords.{sizes_by_tiles}

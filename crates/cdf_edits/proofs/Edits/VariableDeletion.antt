@@ -1,30 +1,8 @@
 -- The deletion of a variable follows: its entries went, and then the variable.
 use Rattle.std.proofs.Common.{◌≡◌, ℕ, ◌≤◌, List, ◌∷◌, ◌++◌, length, map, true, Some, refl, sym, ap, subst, ◌∙◌, arith}
-use Rattle.std.proofs.lemmas.List.{map-append}
-use Rattle.std.specs.List.{remove}
+use Rattle.cdf_edits.proofs.Common.{map-append, remove, Kind, R, Z, Go, Attribute, DataSet, Variable, image_limit, Found, variable_named, variables_of, with_variables, attribute_without, del_var_step, content, size_at, uir_type, Shape, HasShape, shape, vdrs, In, AreTiles, Good, good_is_sound, RMaxRecOf, entries_for, freed_with_variable, DropsEntries, index_types, unmarked, RemovesVariable, variable_unlinking_marks, shapes_of, type_in, variables_chain, Act, Gave, gave, ActsFollow}
 use Rattle.cdf_model.specs.declared.answer.Reply.TheVariants as replies
-use Rattle.cdf_model.specs.declared.kinds.Kind.{Kind}
-use Rattle.cdf_model.specs.declared.kinds.Kind.TheVariants.{R, Z}
-use Rattle.cdf_model.specs.Answers.{Go}
-use Rattle.cdf_model.specs.DataSet.{Attribute, DataSet, Variable}
-use Rattle.cdf_model.specs.Limits.{image_limit}
-use Rattle.cdf_model.specs.Names.{Found, variable_named, variables_of, with_variables}
-use Rattle.cdf_model.specs.VariableSteps.{attribute_without, del_var_step, without_variable as without_found}
-use Rattle.cdf_format.specs.Content.{content}
-use Rattle.cdf_format.specs.Fields.{size_at}
-use Rattle.cdf_format.specs.RecordTypes.{uir_type}
-use Rattle.cdf_format.specs.Shape.{Shape, HasShape, shape, vdrs}
-use Rattle.cdf_format.specs.Tiles.{In, AreTiles}
-use Rattle.cdf_format.specs.WellFormed.{Good}
-use Rattle.cdf_format.proofs.GoodSound.{good_is_sound}
-use Rattle.cdf_edits.specs.Commands.Variables.{RMaxRecOf, entries_for, freed_with_variable}
-use Rattle.cdf_edits.specs.Edits.DropsEntries.{DropsEntries}
-use Rattle.cdf_edits.specs.Edits.Marks.{index_types, unmarked}
-use Rattle.cdf_edits.specs.Edits.RemovesVariable.{RemovesVariable, variable_unlinking_marks}
-use Rattle.cdf_edits.specs.Commands.Allowances.{shapes_of}
-use Rattle.cdf_edits.specs.Space.Chains.{type_in}
-use Rattle.cdf_edits.specs.Space.VariableChains.{variables_chain}
-use Rattle.cdf_edits.specs.Space.Acts.{Act, Gave, gave, ActsFollow}
+use Rattle.cdf_model.specs.VariableSteps.{without_variable as without_found}
 use Rattle.cdf_edits.proofs.Edits.ActsStill.{acts_still_by}
 use Rattle.cdf_edits.proofs.Edits.ActsThen.{all_gave, gave-same}
 use Rattle.cdf_edits.proofs.Edits.FreedAfter.{may_free, places_in, sizes_before}

@@ -1,27 +1,10 @@
 -- The two calls of a deletion together follow the command.
 use Rattle.std.proofs.Common.{◌≡◌, ℕ, ◌≤◌, List, ◌++◌, length, Option, Some, None, refl, sym, ap, subst, ◌∙◌}
-use Rattle.std.proofs.lemmas.Option.{same_Some}
-use Rattle.std.specs.List.{slice_get}
-use Rattle.cdf_model.specs.declared.answer.Outcome.TheVariants.{Done, Refused}
+use Rattle.cdf_edits.proofs.Common.{same_Some, slice_get, Done, Refused, Refuse, DataSet, image_limit, Found, variable_named, ByStep, del_var_step, content, owned, VariableShape, shape, Good, Answers, AllKeep, Allowances, shapes_of, stays_all, del_var_changes, entries_for, freed_with_variable, DropsEntries, RemovesVariable, gave}
 use Rattle.cdf_model.specs.declared.answer.Reason.TheVariants as reasons
 use Rattle.cdf_model.specs.declared.answer.Reply.TheVariants as replies
 use Rattle.cdf_model.specs.declared.command.Command.TheVariants as commands
-use Rattle.cdf_model.specs.Answers.{Refuse}
-use Rattle.cdf_model.specs.DataSet.{DataSet}
-use Rattle.cdf_model.specs.Limits.{image_limit}
-use Rattle.cdf_model.specs.Names.{Found, variable_named}
-use Rattle.cdf_model.specs.Step.{ByStep}
-use Rattle.cdf_model.specs.VariableSteps.{del_var_step}
-use Rattle.cdf_format.specs.Content.{content}
-use Rattle.cdf_format.specs.Owners.{owned}
-use Rattle.cdf_format.specs.Shape.{VariableShape, shape}
-use Rattle.cdf_format.specs.WellFormed.{Good}
-use Rattle.cdf_edits.specs.Answers.{Answers}
-use Rattle.cdf_edits.specs.Commands.Allowances.{AllKeep, Allowances, shapes_of, stays_all}
-use Rattle.cdf_edits.specs.Commands.Variables.{DeletesNamed, DeletesVariable, del_var_changes, entries_for, freed_with_variable}
-use Rattle.cdf_edits.specs.Edits.DropsEntries.{DropsEntries}
-use Rattle.cdf_edits.specs.Edits.RemovesVariable.{RemovesVariable}
-use Rattle.cdf_edits.specs.Space.Acts.{gave}
+use Rattle.cdf_edits.specs.Commands.Variables.{DeletesNamed, DeletesVariable}
 use Rattle.cdf_edits.proofs.Commands.Answered.{gone_by_giving, refused}
 use Rattle.cdf_edits.proofs.Commands.ListParts.{got-middle}
 use Rattle.cdf_edits.proofs.Edits.VariableDeleted.{attribute_follows, freed_deleted}

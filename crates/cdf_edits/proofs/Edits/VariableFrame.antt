@@ -1,43 +1,18 @@
 -- Variables whose records an edit leaves stay, and keep their rules, whatever records an image has beside.
 use Rattle.std.proofs.Common.{◌≡◌, ◌⊎◌, ℕ, ◌≤◌, List, [], ◌∷◌, ◌++◌, Bool, true, refl, sym, ap, subst, ◌∙◌, arith, inl, inr}
-use Rattle.std.specs.List.{flat_map}
-use Rattle.std.specs.Prelude.{◌==◌, ◌&&◌, if◌then◌else◌}
-use Rattle.cdf_format.specs.Sound.{NodeFits, VariableFits, IsSound}
-use Rattle.cdf_edits.specs.Frame.Leaves.{VariableStays}
-use Rattle.cdf_format.specs.Chains.{is_a, is_in, is_linkable}
-use Rattle.cdf_format.specs.Fields.{number, name_in, size_at, type_at}
+use Rattle.cdf_edits.proofs.Common.{flat_map, ◌==◌, ◌&&◌, if◌then◌else◌, NodeFits, VariableFits, IsSound, VariableStays, is_a, is_in, is_linkable, number, name_in, size_at, type_at, Leaf, nodes_of, leaves_of, is_block, index_rows, variable_records, vdr_num, vdr_name, r_vdr_type, z_vdr_type, vxr_type, vvr_type, cvvr_type, cpr_type, fixed_size, Row, Hold, VariableShape, Shape, vdrs, variables, is_compressed, Each, HasVariable, HasShape, In, cpr_link, is_named_apart, variable_rows, LeafFits, is_a-in, is_a-type, linkable-in, linkable-type, vdrs_append, nodes_stand, either, In-append, In-append_left, In-append_right, Each-split, both, Hold-append, Hold-split, Variable, Mark, Away, avoided, ended, all_unmarked, variable_types, index_types, keeps_index_records, Edit}
 use Rattle.cdf_format.proofs.GoodByShape.{variables_shape_rows, indexes_shape_rows}
-use Rattle.cdf_format.specs.Index.{Leaf, nodes_of, leaves_of}
-use Rattle.cdf_format.specs.IndexRules.{is_block, index_rows}
-use Rattle.cdf_format.specs.Owners.{variable_records}
-use Rattle.cdf_format.specs.Records.{vdr_num, vdr_name}
-use Rattle.cdf_format.specs.RecordTypes.{r_vdr_type, z_vdr_type, vxr_type, vvr_type, cvvr_type, cpr_type, fixed_size}
-use Rattle.cdf_format.specs.Rules.{Row, Hold}
-use Rattle.cdf_format.specs.Shape.{VariableShape, Shape, vdrs, variables, is_compressed, Each, HasVariable, HasShape}
-use Rattle.cdf_format.specs.Tiles.{In}
-use Rattle.cdf_format.specs.VariableRules.{cpr_link, is_named_apart, variable_rows}
-use Rattle.cdf_format.specs.Sound.{LeafFits}
 use Rattle.cdf_edits.proofs.Frame.OwnerAlone.{Each-in}
-use Rattle.cdf_format.proofs.ChainsLemmas.{is_a-in, is_a-type, linkable-in, linkable-type}
-use Rattle.cdf_format.proofs.GoodImageLemmas.{vdrs_append}
-use Rattle.cdf_format.proofs.IndexLemmas.{nodes_stand}
 use Rattle.cdf_edits.proofs.Rules.OfIndexes.{index_rules_kept}
 use Rattle.cdf_edits.proofs.Frame.Meaning.{FileSame, Kept, KeptButLink, but_link}
 use Rattle.cdf_edits.proofs.Frame.VdrCopied.{cpr_link_copied}
 use Rattle.cdf_edits.proofs.Frame.VdrKept.{vdr_kept, field_same, compressed_same, end_kept}
-use Rattle.cdf_format.proofs.Members.{either, In-append, In-append_left, In-append_right}
 use Rattle.cdf_edits.proofs.Frame.OwnersApart.{flat-append, all_variable_records, vdrs_stand}
 use Rattle.cdf_edits.proofs.Frame.LinksStay.{SameHeads}
-use Rattle.cdf_format.proofs.ShapeLemmas.{Each-split}
-use Rattle.cdf_format.proofs.Tests.{both}
 use Rattle.cdf_edits.proofs.Space.UsedRecords.{apart}
-use Rattle.cdf_format.proofs.RowLemmas.{Hold-append, Hold-split}
 use Rattle.cdf_edits.proofs.Frame.SoundStays.{nodes_fit_kept, leaves_fit_kept, cprs_kept}
 use Rattle.cdf_edits.proofs.Frame.FileSound.{variables_stand}
 use Rattle.cdf_edits.proofs.Rules.OfVariables.{variable_rows_same}
-use Rattle.cdf_model.specs.DataSet.{Variable}
-use Rattle.cdf_edits.specs.Edits.Marks.{Mark, Away, avoided, ended, all_unmarked, variable_types, index_types, keeps_index_records}
-use Rattle.cdf_edits.specs.Edits.Edit.{Edit}
 use Rattle.cdf_edits.proofs.Edits.RecordFrame.{VariableLives, index_records, kept_away, kept_but_link, own_heads, node_own, block_own, variable_stays}
 use Rattle.cdf_edits.proofs.Edits.InRecords.{places_of, variable_rows_both, index_rows_both, leaves_fit_both, cprs_both}
 use Rattle.cdf_edits.proofs.Edits.MarkLemmas.{or_cases, avoided-avoids, ended-avoids, all_unmarked-away}

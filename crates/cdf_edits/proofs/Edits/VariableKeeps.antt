@@ -1,39 +1,7 @@
 -- What the deletion of a variable keeps of each record, by its owner.
 use Rattle.std.proofs.Common.{◌≡◌, ◌⊎◌, ℕ, zero, suc, ◌+◌, ◌-◌, ◌<◌, ◌≤◌, List, [], ◌∷◌, ◌++◌, length, Bool, true, false, true≢false, Option, Some, None, eq-eqb, eqb, refl, sym, ap, subst, ◌∙◌, arith, inl, inr}
-use Rattle.std.proofs.lemmas.Bool.{eqb-true}
-use Rattle.std.proofs.lemmas.Option.{same_Some}
-use Rattle.std.specs.List.{flat_map, slice_get}
-use Rattle.std.specs.Prelude.{◌==◌, if◌then◌else◌}
-use Rattle.cdf_model.specs.declared.kinds.Kind.{Kind}
-use Rattle.cdf_model.specs.declared.kinds.Kind.TheVariants.{R, Z}
-use Rattle.cdf_model.specs.Names.{Found}
-use Rattle.cdf_format.specs.Bytes.{byte}
-use Rattle.cdf_format.specs.Chains.{is_in, is_linkable, next_field}
-use Rattle.cdf_format.specs.Content.{content}
-use Rattle.cdf_format.specs.Fields.{size_at, type_at}
-use Rattle.cdf_format.specs.Owners.{OneAttribute, OneVariable, Unused, attribute_records, owned, owned_by, owned_by_attributes, owned_by_variables, unused_records, variable_records}
-use Rattle.cdf_format.specs.Records.{Field, uir_next_uir, uir_prev_uir, vdr_num}
-use Rattle.cdf_format.specs.RecordTypes.{cdr_type, gdr_type, r_vdr_type, z_vdr_type, vxr_type, uir_type}
-use Rattle.cdf_format.specs.Shape.{AttributeShape, VariableShape, Shape, HasShape, shape, vdrs}
-use Rattle.cdf_format.specs.Sound.{IsSound}
-use Rattle.cdf_format.specs.Tiles.{In}
-use Rattle.cdf_format.specs.WellFormed.{Good}
-use Rattle.cdf_format.proofs.ChainsLemmas.{is_a-in, is_a-type, linkable-type}
-use Rattle.cdf_format.proofs.GoodSound.{good_is_sound}
-use Rattle.cdf_format.proofs.Members.{either, true-is_in, false-is_in, In-append_left, In-append_right}
-use Rattle.cdf_format.proofs.Owning.{filter-in}
-use Rattle.cdf_format.proofs.Tests.{both}
-use Rattle.cdf_format.proofs.TilesLemmas.{tile_lies}
-use Rattle.cdf_edits.specs.Commands.Allowances.{Allowance, AllKeep, own_allowance, range_at, Allowances, Anything, Keeps, Only, OutsideFields, Stays, is_taken, only_of, r_max_rec_field, same_kind, shapes_of, space_fields, unused_allowance, vdr_type}
-use Rattle.cdf_edits.specs.Commands.Variables.{del_var_changes, entries_allowance, entries_for, freed_with_variable, variables_gdr_fields}
-use Rattle.cdf_edits.specs.Edits.DropsEntries.{DropsEntries}
-use Rattle.cdf_edits.specs.Edits.Edit.{Edit}
-use Rattle.cdf_edits.specs.Edits.Marks.{Mark, Away, Within, all_unmarked, attribute_types, avoided, index_types, within}
-use Rattle.cdf_edits.specs.Edits.RemovesVariable.{RemovesVariable, variable_removing_marks}
-use Rattle.cdf_edits.specs.Index.Blocks.{Range}
-use Rattle.cdf_edits.specs.Space.Acts.{Act, gave}
-use Rattle.cdf_edits.specs.Space.Chains.{type_in}
-use Rattle.cdf_edits.specs.Space.VariableChains.{variables_chain}
+use Rattle.cdf_edits.proofs.Common.{eqb-true, same_Some, flat_map, slice_get, ◌==◌, if◌then◌else◌, Kind, R, Z, Found, byte, is_in, is_linkable, next_field, content, size_at, type_at, OneAttribute, OneVariable, Unused, attribute_records, owned, owned_by, owned_by_attributes, owned_by_variables, unused_records, variable_records, Field, uir_next_uir, uir_prev_uir, vdr_num, cdr_type, gdr_type, r_vdr_type, z_vdr_type, vxr_type, uir_type, AttributeShape, VariableShape, Shape, HasShape, shape, vdrs, IsSound, In, Good, is_a-in, is_a-type, linkable-type, good_is_sound, either, true-is_in, false-is_in, In-append_left, In-append_right, filter-in, both, tile_lies, Allowance, AllKeep, range_at, Allowances, Anything, Keeps, Only, OutsideFields, Stays, is_taken, only_of, r_max_rec_field, same_kind, shapes_of, space_fields, vdr_type, del_var_changes, entries_allowance, entries_for, freed_with_variable, variables_gdr_fields, DropsEntries, Edit, Mark, Away, Within, all_unmarked, attribute_types, avoided, index_types, within, RemovesVariable, variable_removing_marks, Range, Act, gave, type_in, variables_chain}
+use Rattle.cdf_edits.specs.Commands.Allowances.{own_allowance, unused_allowance}
 use Rattle.cdf_edits.proofs.Commands.KeptRecords.{AllKeep-append}
 use Rattle.cdf_edits.proofs.Edits.AttributeFrame.{AreThere}
 use Rattle.cdf_edits.proofs.Edits.ChainKinds.{attribute_typed}

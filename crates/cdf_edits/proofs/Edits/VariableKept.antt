@@ -1,22 +1,6 @@
 -- The records of a variable are those of no other owner; and what a command may change of all records, where it changes the VDR of one variable.
 use Rattle.std.proofs.Common.{◌≡◌, ℕ, suc, ◌+◌, ◌≤◌, List, [], ◌∷◌, ◌++◌, length, true, Option, Some, None, eq-eqb, refl, sym, ap, subst, ◌∙◌, append_assoc, arith, inl, inr}
-use Rattle.std.proofs.lemmas.Bool.{ne_eqb}
-use Rattle.std.specs.List.{flat_map, slice_get}
-use Rattle.std.specs.Prelude.{◌==◌, find, if◌then◌else◌}
-use Rattle.cdf_model.specs.declared.kinds.Kind.{Kind}
-use Rattle.cdf_model.specs.declared.kinds.Kind.TheVariants.{R, Z}
-use Rattle.cdf_model.specs.Names.{Found}
-use Rattle.cdf_format.specs.Fields.{type_at}
-use Rattle.cdf_format.specs.Index.{Leaf, leaves_of}
-use Rattle.cdf_format.specs.Owners.{Owner, File, OneVariable, Unused, variable_records, owned_by, owned_by_attributes, owned_by_variables, unused_records, times, owned_records, owned}
-use Rattle.cdf_format.specs.Records.{Field}
-use Rattle.cdf_format.specs.RecordTypes.{vxr_type}
-use Rattle.cdf_format.specs.Shape.{VariableShape, Shape, shape}
-use Rattle.cdf_format.specs.Sound.{IsSound}
-use Rattle.cdf_format.specs.Tiles.{In}
-use Rattle.cdf_edits.specs.Commands.Allowances.{Allowance, Only, Allowances, only_of, OwnAllowances, Keeps, AllKeep, vdr_type, same_kind, shapes_of, range_at, of_variable}
-use Rattle.cdf_edits.specs.Index.Blocks.{Range, range}
-use Rattle.cdf_edits.specs.Space.Acts.{Act}
+use Rattle.cdf_edits.proofs.Common.{ne_eqb, flat_map, slice_get, ◌==◌, find, if◌then◌else◌, Kind, R, Z, Found, type_at, Leaf, leaves_of, Owner, File, OneVariable, Unused, variable_records, owned_by, owned_by_attributes, owned_by_variables, unused_records, times, owned_records, owned, Field, vxr_type, VariableShape, Shape, shape, IsSound, In, Allowance, Only, Allowances, only_of, OwnAllowances, Keeps, AllKeep, vdr_type, same_kind, shapes_of, range_at, of_variable, Range, range, Act}
 use Rattle.cdf_edits.proofs.Commands.KeptRecords.{Stood, AllKeep-append, keep_owned, keep_variables}
 use Rattle.cdf_edits.proofs.Commands.ListParts.{got-middle}
 use Rattle.cdf_edits.proofs.Edits.InRecords.{places_of}

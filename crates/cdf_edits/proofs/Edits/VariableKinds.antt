@@ -1,34 +1,10 @@
 -- The variables of one kind among those of an image, and others in their place.
 use Rattle.std.proofs.Common.{◌≡◌, ℕ, ◌+◌, ◌≤◌, List, [], ◌∷◌, ◌++◌, length, map, Bool, eq-eqb, refl, sym, ap, subst, ◌∙◌, arith}
-use Rattle.std.proofs.lemmas.List.{length-append}
-use Rattle.std.specs.List.{flat_map}
-use Rattle.std.specs.Prelude.{◌==◌, ◌&&◌}
-use Rattle.cdf_model.specs.DataSet.{DataSet, Variable}
-use Rattle.cdf_model.specs.Names.{variables_of, with_variables}
-use Rattle.cdf_model.specs.declared.kinds.Kind.{Kind}
-use Rattle.cdf_model.specs.declared.kinds.Kind.TheVariants.{R, Z}
+use Rattle.cdf_edits.proofs.Common.{length-append, flat_map, ◌==◌, ◌&&◌, DataSet, Variable, variables_of, with_variables, Kind, R, Z, shapes_of, vdr_type, Mark, avoided, head_of, count_of, type_in, variables_chain, IsGoodByShape, Hold-split, Each-split, Each-append, adrs_rows, number_rows, r_vdrs_rows, z_vdrs_rows, IsChain, content_of, variable_of, number, gdr_offset, variable_records, times, gdr_type, vdr_num, Row, row, Hold, VariableShape, Shape, adrs, vdrs, variables, Each, HasShape, IsSound, In}
 use Rattle.cdf_edits.proofs.Edits.VariableFrame.{AreOurs, all_ours, ours_parts, variables_in}
 use Rattle.cdf_edits.proofs.Frame.OwnersApart.{flat-append, all_variable_records, times-append, times-three, file_records, all_attribute_records}
 use Rattle.cdf_edits.proofs.Edits.OwnedOnce.{used_times}
 use Rattle.cdf_edits.proofs.Rules.WithoutLinks.{number_rows_kept, number_rows-push}
-use Rattle.cdf_edits.specs.Commands.Allowances.{shapes_of, vdr_type}
-use Rattle.cdf_edits.specs.Edits.Marks.{Mark, avoided}
-use Rattle.cdf_edits.specs.Space.Chains.{head_of, count_of, type_in}
-use Rattle.cdf_edits.specs.Space.VariableChains.{variables_chain}
-use Rattle.cdf_format.proofs.GoodByShape.{IsGoodByShape}
-use Rattle.cdf_format.proofs.RowLemmas.{Hold-split}
-use Rattle.cdf_format.proofs.ShapeLemmas.{Each-split, Each-append}
-use Rattle.cdf_format.specs.ChainRules.{adrs_rows, number_rows, r_vdrs_rows, z_vdrs_rows}
-use Rattle.cdf_format.specs.Chains.{IsChain}
-use Rattle.cdf_format.specs.Content.{content_of, variable_of}
-use Rattle.cdf_format.specs.Fields.{number, gdr_offset}
-use Rattle.cdf_format.specs.Owners.{variable_records, times}
-use Rattle.cdf_format.specs.RecordTypes.{gdr_type}
-use Rattle.cdf_format.specs.Records.{vdr_num}
-use Rattle.cdf_format.specs.Rules.{Row, row, Hold}
-use Rattle.cdf_format.specs.Shape.{VariableShape, Shape, adrs, vdrs, variables, Each, HasShape}
-use Rattle.cdf_format.specs.Sound.{IsSound}
-use Rattle.cdf_format.specs.Tiles.{In}
 
 abbrev pub other_kind : Kind → Kind
 other_kind R = Z

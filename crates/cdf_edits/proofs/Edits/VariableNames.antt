@@ -1,28 +1,7 @@
 -- That no two variables have one name, where some were put in the place of others.
 use Rattle.std.proofs.Common.{◌≡◌, ◌≢◌, ◌⊎◌, ℕ, List, [], ◌∷◌, ◌++◌, Bool, true, false, not, ◌||◌, bytes_eq, eq-eqb, refl, sym, ap, subst, ◌∙◌, inl, inr}
-use Rattle.std.proofs.lemmas.Bool.{and_from, cases_eq, eqb-true}
-use Rattle.std.specs.Prelude.{◌==◌}
-use Rattle.cdf_model.specs.declared.kinds.Kind.{Kind}
-use Rattle.cdf_model.specs.declared.kinds.Kind.TheVariants.{R, Z}
-use Rattle.cdf_format.specs.AttributeRules.{same_name}
-use Rattle.cdf_format.specs.Fields.{name_in, type_at}
-use Rattle.cdf_format.specs.Records.{vdr_name}
-use Rattle.cdf_format.specs.RecordTypes.{r_vdr_type, z_vdr_type}
-use Rattle.cdf_format.specs.Shape.{VariableShape, Shape, vdrs, variables}
-use Rattle.cdf_format.specs.Sound.{IsSound}
-use Rattle.cdf_format.specs.Tiles.{In, Distinct}
-use Rattle.cdf_format.specs.VariableRules.{is_named_apart, variable_rows}
-use Rattle.cdf_format.proofs.ChainsLemmas.{linkable-type}
-use Rattle.cdf_format.proofs.GoodByShape.{IsGoodByShape}
-use Rattle.cdf_format.proofs.GoodImageLemmas.{vdrs_append}
-use Rattle.cdf_format.proofs.Members.{either, Distinct-back, In-append, In-append_left, In-append_right}
+use Rattle.cdf_edits.proofs.Common.{and_from, cases_eq, eqb-true, ◌==◌, Kind, R, Z, same_name, name_in, type_at, vdr_name, r_vdr_type, z_vdr_type, VariableShape, Shape, vdrs, variables, IsSound, In, Distinct, is_named_apart, variable_rows, linkable-type, IsGoodByShape, vdrs_append, either, Distinct-back, In-append, In-append_left, In-append_right, Hold-member, both, not_false, shapes_of, Mark, type_in, variables_chain}
 use Rattle.cdf_format.proofs.NameRules.{differ-turned}
-use Rattle.cdf_format.proofs.RowLemmas.{Hold-member}
-use Rattle.cdf_format.proofs.Tests.{both, not_false}
-use Rattle.cdf_edits.specs.Commands.Allowances.{shapes_of}
-use Rattle.cdf_edits.specs.Edits.Marks.{Mark}
-use Rattle.cdf_edits.specs.Space.Chains.{type_in}
-use Rattle.cdf_edits.specs.Space.VariableChains.{variables_chain}
 use Rattle.cdf_edits.proofs.Edits.VariableFrame.{remaining_names}
 use Rattle.cdf_edits.proofs.Edits.VariableKinds.{other_kind, shapes_with, by_kind, kind_chain}
 use Rattle.cdf_edits.proofs.Edits.VariableSplice.{VariableSplices, s', variables', others_remain}

@@ -1,21 +1,6 @@
 -- A variable whose VDR gets another number and another link to the next one, and whose other records an edit leaves: it means what it meant, and keeps its rules.
 use Rattle.std.proofs.Common.{◌≡◌, ℕ, ◌+◌, ◌≤◌, List, [], length, true, not, refl, sym, ap, subst, ◌∙◌, arith}
-use Rattle.std.specs.Int.{w32, cast_signed}
-use Rattle.std.specs.List.{before_first}
-use Rattle.std.specs.Prelude.{◌==◌, if◌then◌else◌}
-use Rattle.cdf_format.specs.Bytes.{Same}
-use Rattle.cdf_format.specs.Content.{variable_of}
-use Rattle.cdf_format.specs.Fields.{number, name_in, integer4, has_bit, size_at}
-use Rattle.cdf_format.specs.Records.{vdr_flags, vdr_blocking_factor, vdr_name}
-use Rattle.cdf_format.specs.Shape.{VariableShape, Shape, is_compressed, HasVariable}
-use Rattle.cdf_format.specs.Sound.{VariableFits, IsSound}
-use Rattle.cdf_format.specs.Stored.{field_bytes}
-use Rattle.cdf_format.specs.Tiles.{In}
-use Rattle.cdf_format.specs.VariableFields.{is_z, dimensions_at, value_bytes, has_pad, pad_field}
-use Rattle.cdf_format.specs.VariableRules.{vdr_end}
-use Rattle.cdf_format.proofs.BytesLemmas.{Same-part, word_kept, piece_kept}
-use Rattle.cdf_edits.specs.Edits.Edit.{Edit}
-use Rattle.cdf_edits.specs.Edits.Marks.{Mark}
+use Rattle.cdf_edits.proofs.Common.{w32, cast_signed, before_first, ◌==◌, if◌then◌else◌, Same, variable_of, number, name_in, integer4, has_bit, size_at, vdr_flags, vdr_blocking_factor, vdr_name, VariableShape, Shape, is_compressed, HasVariable, VariableFits, IsSound, field_bytes, In, is_z, dimensions_at, value_bytes, has_pad, pad_field, vdr_end, Same-part, word_kept, piece_kept, Edit, Mark}
 use Rattle.cdf_edits.proofs.Edits.Composing.{head_size, head_type}
 use Rattle.cdf_edits.proofs.Edits.RecordFrame.{index_records, through}
 use Rattle.cdf_edits.proofs.Edits.VariableCopied.{links_copied, content_copied, index_rules_stay, rules_stay, fits_copied}

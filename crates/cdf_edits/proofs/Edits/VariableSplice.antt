@@ -1,45 +1,6 @@
 -- An edit that puts some variables of a kind in the place of others: the image has its shape, its content and its rules if these have theirs.
 use Rattle.std.proofs.Common.{◌≡◌, ℕ, ◌+◌, ◌≤◌, List, [], ◌∷◌, ◌++◌, length, map, Bool, true, refl, sym, ap, subst, ◌∙◌, arith, inl, inr}
-use Rattle.std.proofs.lemmas.List.{map-append}
-use Rattle.std.specs.List.{flat_map}
-use Rattle.std.specs.Prelude.{◌==◌, ◌&&◌}
-use Rattle.cdf_model.specs.DataSet.{DataSet, Variable}
-use Rattle.cdf_model.specs.Limits.{image_limit}
-use Rattle.cdf_model.specs.Names.{with_variables}
-use Rattle.cdf_model.specs.declared.kinds.Kind.{Kind}
-use Rattle.cdf_model.specs.declared.kinds.Kind.TheVariants.{R, Z}
-use Rattle.cdf_format.specs.AttributeRules.{same_name}
-use Rattle.cdf_format.specs.ChainRules.{adrs_rows, r_vdrs_rows, z_vdrs_rows, differ_rows}
-use Rattle.cdf_format.specs.Chains.{is_in, IsChain}
-use Rattle.cdf_format.specs.Content.{content, content_of, variable_of, majority_of}
-use Rattle.cdf_format.specs.Fields.{number, size_at, type_at, has_bit, gdr_offset, eof}
-use Rattle.cdf_format.specs.IndexRules.{index_rows}
-use Rattle.cdf_format.specs.NotRead.{read_types}
-use Rattle.cdf_format.specs.Owners.{OwnedOnce, attribute_records, times, owned_records}
-use Rattle.cdf_format.specs.Phases.{first_phases}
-use Rattle.cdf_format.specs.Records.{Field, gdr_adr_head, gdr_num_attr, gdr_uir_head, adr_name, adr_num}
-use Rattle.cdf_format.specs.RecordTypes.{cdr_type, gdr_type, adr_type, agr_edr_type, az_edr_type, uir_type, is_record_type, fixed_size}
-use Rattle.cdf_format.specs.Rules.{row, Hold, AllHold}
-use Rattle.cdf_format.specs.Sealed.{sealed}
-use Rattle.cdf_format.specs.Shape.{AttributeShape, VariableShape, Shape, adrs, vdrs, variables, Each, HasVariable, HasShape}
-use Rattle.cdf_format.specs.Sound.{IsSound, VariableFits}
-use Rattle.cdf_format.specs.Tiles.{In}
-use Rattle.cdf_format.specs.VariableRules.{is_named_apart}
-use Rattle.cdf_format.specs.WellFormed.{Good}
-use Rattle.cdf_format.proofs.ChainsLemmas.{is_a-from, is_a-in, linkable-type}
-use Rattle.cdf_format.proofs.GoodByShape.{IsGoodByShape, attribute_shape_rows}
-use Rattle.cdf_format.proofs.Members.{either, In-append}
-use Rattle.cdf_format.proofs.NameRules.{AreNew, names_differ, differ_by_names}
-use Rattle.cdf_format.proofs.RowLemmas.{Hold-append, Hold-split}
-use Rattle.cdf_format.proofs.SealedRules.{sealed_keeps}
-use Rattle.cdf_format.proofs.ShapeLemmas.{Each-split, Each-append, content_is}
-use Rattle.cdf_format.proofs.Tests.{both}
-use Rattle.cdf_edits.specs.Commands.Allowances.{shapes_of}
-use Rattle.cdf_edits.specs.Edits.Edit.{Edit}
-use Rattle.cdf_edits.specs.Edits.Marks.{Mark, avoided, all_unmarked, attribute_types, keeps_file}
-use Rattle.cdf_edits.specs.Frame.Leaves.{FileStays, AttributeStays, VariableStays}
-use Rattle.cdf_edits.specs.Space.Chains.{head_of, count_of, type_in}
-use Rattle.cdf_edits.specs.Space.VariableChains.{variables_chain}
+use Rattle.cdf_edits.proofs.Common.{map-append, flat_map, ◌==◌, ◌&&◌, DataSet, Variable, image_limit, with_variables, Kind, R, Z, same_name, adrs_rows, r_vdrs_rows, z_vdrs_rows, differ_rows, is_in, IsChain, content, content_of, variable_of, majority_of, number, size_at, type_at, has_bit, gdr_offset, eof, index_rows, read_types, OwnedOnce, attribute_records, times, owned_records, first_phases, Field, gdr_adr_head, gdr_num_attr, gdr_uir_head, adr_name, adr_num, cdr_type, gdr_type, adr_type, agr_edr_type, az_edr_type, uir_type, is_record_type, fixed_size, row, Hold, AllHold, sealed, AttributeShape, VariableShape, Shape, adrs, vdrs, variables, Each, HasVariable, HasShape, IsSound, VariableFits, In, is_named_apart, Good, is_a-from, is_a-in, linkable-type, IsGoodByShape, attribute_shape_rows, either, In-append, AreNew, names_differ, differ_by_names, Hold-append, Hold-split, sealed_keeps, Each-split, Each-append, content_is, both, shapes_of, Edit, Mark, avoided, all_unmarked, attribute_types, keeps_file, FileStays, AttributeStays, VariableStays, head_of, count_of, type_in, variables_chain}
 use Rattle.cdf_edits.proofs.Edits.AttributeFrame.{AreThere, more_there, entry, lives_away, all_stay, all_rules, all_fit, names_stay, nums_stay}
 use Rattle.cdf_edits.proofs.Edits.FirstRecords.{gdr_still, cdr_still, typed_now, fixed_now, read_now, gdr_room, first_stay}
 use Rattle.cdf_edits.proofs.Edits.MarkLemmas.{away-avoids, all_unmarked-away}

@@ -1,23 +1,6 @@
 -- What a command may change of variables that stay but for the links from one to the next of a kind.
 use Rattle.std.proofs.Common.{◌≡◌, ℕ, List, [], ◌∷◌, Bool, true, false, eq-eqb, refl, sym, subst, ◌∙◌, inl, inr}
-use Rattle.std.specs.List.{flat_map}
-use Rattle.std.specs.Prelude.{if◌then◌else◌}
-use Rattle.cdf_model.specs.declared.kinds.Kind.{Kind}
-use Rattle.cdf_model.specs.declared.kinds.Kind.TheVariants.{R, Z}
-use Rattle.cdf_format.specs.Chains.{next_field}
-use Rattle.cdf_format.specs.Fields.{type_at}
-use Rattle.cdf_format.specs.Owners.{owned_by_variables, variable_records}
-use Rattle.cdf_format.specs.Shape.{VariableShape, Shape, vdrs, variables, Each, shape}
-use Rattle.cdf_format.specs.Sound.{IsSound}
-use Rattle.cdf_format.specs.Tiles.{In}
-use Rattle.cdf_format.proofs.ChainsLemmas.{linkable-in, linkable-type}
-use Rattle.cdf_format.proofs.Members.{In-append, In-append_left}
-use Rattle.cdf_edits.specs.Commands.Allowances.{AllKeep, Allowances, Keeps, Only, only_of, same_kind, shapes_of, vdr_type}
-use Rattle.cdf_edits.specs.Edits.Edit.{Edit}
-use Rattle.cdf_edits.specs.Edits.Marks.{Mark, avoided, unmarked, within}
-use Rattle.cdf_edits.specs.Space.Acts.{Act}
-use Rattle.cdf_edits.specs.Space.Chains.{type_in}
-use Rattle.cdf_edits.specs.Space.VariableChains.{variables_chain}
+use Rattle.cdf_edits.proofs.Common.{flat_map, if◌then◌else◌, Kind, R, Z, next_field, type_at, owned_by_variables, variable_records, VariableShape, Shape, vdrs, variables, Each, shape, IsSound, In, linkable-in, linkable-type, In-append, In-append_left, AllKeep, Allowances, Keeps, Only, only_of, same_kind, shapes_of, vdr_type, Edit, Mark, avoided, unmarked, within, Act, type_in, variables_chain}
 use Rattle.cdf_edits.proofs.Commands.KeptRecords.{Stood}
 use Rattle.cdf_edits.proofs.Edits.MarkLemmas.{unmarked-away}
 use Rattle.cdf_edits.proofs.Edits.OwnersKept.{keep_each_variable, keeps_away, keeps_fields, stood}

@@ -1,37 +1,7 @@
 -- An edit that changes a VDR where it stands, behind its link and in what leaves the variable its records: the image has its shape and its rules, and the other variables stay.
 use Rattle.std.proofs.Common.{◌≡◌, ℕ, ◌≤◌, List, [], ◌∷◌, length, true, refl, sym, ap, subst, ◌∙◌, arith, inl, inr, bytes_eq, false, true≢false, Some}
-use Rattle.std.proofs.lemmas.Bool.{cases_eq}
-use Rattle.std.proofs.lemmas.Option.{same_Some}
-use Rattle.std.specs.List.{flat_map, slice_get}
-use Rattle.std.specs.Prelude.{slice_set}
-use Rattle.cdf_model.specs.declared.answer.Reply.{Reply}
-use Rattle.cdf_model.specs.declared.command.Command.{Command}
-use Rattle.cdf_model.specs.declared.kinds.Kind.{Kind}
-use Rattle.cdf_model.specs.Answers.{Go}
-use Rattle.cdf_model.specs.Limits.{image_limit}
-use Rattle.cdf_model.specs.Names.{Found, variables_of, with_variables}
-use Rattle.cdf_model.specs.Step.{ByStep, step}
-use Rattle.cdf_format.specs.AttributeRules.{has_name}
-use Rattle.cdf_format.specs.Content.{content, variable_of}
-use Rattle.cdf_format.specs.Fields.{number, name_in, size_at, type_at}
-use Rattle.cdf_format.specs.Owners.{File, Unused, variable_records, unused_records, owned}
-use Rattle.cdf_format.specs.Records.{Field, gdr_uir_head, vdr_num, vdr_name}
-use Rattle.cdf_format.specs.RecordTypes.{gdr_type, uir_type, fixed_size}
-use Rattle.cdf_format.specs.Shape.{VariableShape, Shape, vdrs, is_compressed, HasShape, shape}
-use Rattle.cdf_format.specs.Tiles.{In}
-use Rattle.cdf_format.specs.VariableRules.{vdr_end}
-use Rattle.cdf_format.specs.WellFormed.{Good}
-use Rattle.cdf_format.proofs.BytesLemmas.{number_kept}
-use Rattle.cdf_format.proofs.ChainsLemmas.{linkable-in, linkable-type}
-use Rattle.cdf_format.proofs.GoodByShape.{IsGoodByShape}
-use Rattle.cdf_edits.specs.Commands.Allowances.{Only, Keeps, Allowances, AllKeep, shapes_of}
-use Rattle.cdf_edits.specs.Commands.Does.{Does}
-use Rattle.cdf_edits.specs.Commands.Keeps.{allowances}
-use Rattle.cdf_edits.specs.Edits.Edit.{Edit}
-use Rattle.cdf_edits.specs.Edits.Marks.{Mark, Where, Among, Lies, Avoids, Away, Within, avoided, unmarked, all_unmarked, index_types, keeps_file}
-use Rattle.cdf_edits.specs.Follows.{Follows, only_reads}
-use Rattle.cdf_edits.specs.Space.Chains.{type_in}
-use Rattle.cdf_edits.specs.Space.VariableChains.{variables_chain}
+use Rattle.cdf_edits.proofs.Common.{cases_eq, same_Some, flat_map, slice_get, slice_set, Reply, Command, Kind, Go, image_limit, Found, variables_of, with_variables, ByStep, step, has_name, content, variable_of, number, name_in, size_at, type_at, File, Unused, variable_records, unused_records, owned, Field, gdr_uir_head, vdr_num, vdr_name, gdr_type, uir_type, fixed_size, VariableShape, Shape, vdrs, is_compressed, HasShape, shape, In, vdr_end, Good, number_kept, linkable-in, linkable-type, IsGoodByShape, Only, Keeps, Allowances, AllKeep, shapes_of, Does, allowances, Edit, Mark, Among, Lies, Avoids, Away, Within, avoided, unmarked, all_unmarked, index_types, keeps_file, Follows, only_reads, type_in, variables_chain}
+use Rattle.cdf_edits.specs.Edits.Marks.{Where}
 use Rattle.cdf_edits.proofs.Commands.KeptRecords.{Stood, keep_owned, keep_attributes}
 use Rattle.cdf_edits.proofs.Commands.ListParts.{got-middle}
 use Rattle.cdf_edits.proofs.Edits.Composing.{head_size}

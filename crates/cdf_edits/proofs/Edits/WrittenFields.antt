@@ -1,19 +1,7 @@
 -- Numbers that are written in fields of records, one after the other: one edit, and each field has its number.
 use Rattle.std.proofs.Common.{◌≡◌, ◌≢◌, ℕ, ◌+◌, ◌<◌, ◌≤◌, ◌^◌, List, [], ◌∷◌, length, map, refl, sym, subst, ◌∙◌, arith, inl, inr}
-use Rattle.cdf_format.specs.Bytes.{Same}
-use Rattle.cdf_format.specs.Fields.{number, size_at, type_at, with_field, LiesIn}
-use Rattle.cdf_format.specs.Records.{Field}
-use Rattle.cdf_format.specs.RecordTypes.{uir_type}
-use Rattle.cdf_format.specs.Shape.{Each}
-use Rattle.byteorder.specs.Endian.{big_bytes}
-use Rattle.byteorder.specs.Numbers.{length-bytes_high_first}
-use Rattle.cdf_format.specs.Tiles.{In, AreTiles, Distinct}
-use Rattle.cdf_format.proofs.TilesLemmas.{tile_lies}
-use Rattle.cdf_fields.proofs.Writes.{field_reads, length-with_field}
-use Rattle.cdf_edits.specs.Edits.Edit.{Edit}
-use Rattle.cdf_edits.specs.Edits.Marks.{Among, Mark, mark, Covered}
-use Rattle.cdf_edits.specs.Edits.Writes.{Write, with_writes}
-use Rattle.cdf_edits.specs.Frame.Changed.{Touch, touched_field, Changed}
+use Rattle.cdf_edits.proofs.Common.{Same, number, size_at, type_at, LiesIn, Field, uir_type, Each, big_bytes, length-bytes_high_first, In, AreTiles, Distinct, tile_lies, field_reads, length-with_field, Edit, Among, Mark, mark, Covered, Write, with_writes, Touch, touched_field, Changed}
+use Rattle.cdf_format.specs.Fields.{with_field}
 use Rattle.cdf_edits.proofs.Edits.Composing.{head_size, head_type, edit_then, changed_edit}
 use Rattle.cdf_edits.proofs.Edits.FreedRecords.{edit_under, same_edit}
 use Rattle.cdf_edits.proofs.Edits.MarkLemmas.{Avoids-append}

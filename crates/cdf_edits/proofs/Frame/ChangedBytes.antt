@@ -1,14 +1,7 @@
 -- Changes add up, and what they miss stays.
 use Rattle.std.proofs.Common.{◌≡◌, ◌⊎◌, ℕ, ◌+◌, ◌<◌, ◌≤◌, List, [], ◌∷◌, ◌++◌, length, subst, ◌∙◌, arith, inl, inr}
-use Rattle.std.proofs.lemmas.Bool.{cases_eq}
-use Rattle.std.proofs.lemmas.List.{length-append, get_or_append_left}
-use Rattle.cdf_base.specs.Bytes.{put}
-use Rattle.cdf_format.specs.Fields.{size_at}
-use Rattle.cdf_format.specs.Tiles.{In, AreTiles}
-use Rattle.cdf_format.specs.Bytes.{Same}
-use Rattle.cdf_edits.specs.Frame.Changed.{Touch, touch, Outside, Changed, Placed, Misses, TouchesNone}
-use Rattle.cdf_format.proofs.BytesLemmas.{length-put, byte-put_before, byte-put_after}
-use Rattle.cdf_format.proofs.TilesLemmas.{tile_lies, tiles_lie_apart}
+use Rattle.cdf_edits.proofs.Common.{cases_eq, length-append, get_or_append_left, put, size_at, In, AreTiles, Same, Touch, touch, Outside, Changed, Placed, Misses, TouchesNone, length-put, tile_lies, tiles_lie_apart}
+use Rattle.cdf_format.proofs.BytesLemmas.{byte-put_before, byte-put_after}
 
 pub Outside-append : (ts us : List Touch) (i : ℕ) → Outside (ts ++ us) i → Outside ts i × Outside us i
 Outside-append [] us i o = (tt, o)

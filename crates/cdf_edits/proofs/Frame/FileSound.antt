@@ -1,25 +1,11 @@
 -- A change within unused records, or within the CDR and the GDR, leaves a sound image sound.
 use Rattle.std.proofs.Common.{◌≡◌, ℕ, ◌+◌, ◌*◌, ◌≤◌, List, [], ◌∷◌, ◌++◌, length, map, true, refl, sym, ap, subst, ◌∙◌, inl, inr}
-use Rattle.std.specs.List.{flat_map}
-use Rattle.cdf_format.specs.Fields.{size_at, r_num_dims}
-use Rattle.cdf_format.specs.RecordTypes.{cdr_type, gdr_type, adr_type, vxr_type, cpr_type}
-use Rattle.cdf_format.specs.Tiles.{In, AreTiles}
-use Rattle.cdf_format.specs.Chains.{is_a}
-use Rattle.cdf_format.specs.Index.{Leaf, nodes_of, leaves_of}
-use Rattle.cdf_format.specs.Shape.{VariableShape, Shape, variables, Each, HasVariable}
-use Rattle.cdf_format.specs.Owners.{attribute_records, variable_records, unused_records, times, owned_records}
-use Rattle.cdf_format.specs.Sound.{VariableFits, IsSound}
-use Rattle.cdf_edits.specs.Frame.Leaves.{ChangedWithin, LeavesFinding, Leaves}
-use Rattle.cdf_format.proofs.Members.{In-append}
-use Rattle.cdf_format.proofs.ChainsLemmas.{is_a-in, linkable-in}
-use Rattle.cdf_format.proofs.IndexLemmas.{nodes_stand}
-use Rattle.cdf_format.proofs.Owning.{attributes_in, owned_is}
+use Rattle.cdf_edits.proofs.Common.{flat_map, size_at, r_num_dims, cdr_type, gdr_type, adr_type, vxr_type, cpr_type, In, AreTiles, is_a, Leaf, nodes_of, leaves_of, VariableShape, Shape, variables, Each, HasVariable, attribute_records, variable_records, unused_records, times, owned_records, VariableFits, IsSound, ChangedWithin, LeavesFinding, Leaves, In-append, is_a-in, linkable-in, nodes_stand, attributes_in, owned_is, content}
 use Rattle.cdf_edits.proofs.Frame.Meaning.{FileSame}
 use Rattle.cdf_edits.proofs.Frame.OwnerAlone.{Each-in, blocks_stand, stays, heads}
 use Rattle.cdf_edits.proofs.Frame.OwnersApart.{vdrs_stand, unused_in, unused_from_file, unused_from_attributes, unused_from_variables, unused_are_alone, file_same_is, gdr_room, file_in, file_from_attributes, file_from_variables, file_found, dimensions_found, file_is_alone}
 use Rattle.cdf_edits.proofs.Frame.SoundStays.{attributes_fit_kept, variables_fit_kept, unused_kept}
 use Rattle.cdf_edits.proofs.Frame.SameShape.{shape_stays, typed_kept, fixed_kept, is_a_kept, unused_shape}
-use Rattle.cdf_format.specs.Content.{content}
 
 -- the records of variables are records of the image
 pub variables_stand : (b records : List ℕ) (vs : List VariableShape) → Each (λ (v : VariableShape). In v.vdr records) vs → Each (HasVariable b records) vs → Each (VariableFits b records) vs → (m : ℕ) → In m (flat_map variable_records vs) → In m records

@@ -1,17 +1,7 @@
 -- A link that is written changes one chain, and leaves the others.
 use Rattle.std.proofs.Common.{◌≡◌, ◌≢◌, ◌⊎◌, ℕ, ◌+◌, ◌≤◌, List, [], ◌∷◌, ◌++◌, length, true, refl, true≢false, sym, ap, subst, ◌∙◌, arith, inl, inr}
-use Rattle.std.proofs.lemmas.Bool.{cases_eq}
-use Rattle.cdf_format.specs.Fields.{word, size_at, type_at}
-use Rattle.cdf_format.specs.Bytes.{Same}
-use Rattle.cdf_edits.specs.Frame.Changed.{Touch, touch, Changed, Placed, Misses}
-use Rattle.cdf_format.specs.Tiles.{In, Distinct, AreTiles}
-use Rattle.cdf_format.specs.Chains.{next_of, is_in, is_linkable, Leads, IsChain}
-use Rattle.cdf_format.specs.Chains.{linked_types}
-use Rattle.cdf_edits.specs.Frame.Links.{ChainHead, with_members, head_place, IsHead, AllSpare, end_place, IsLinkAfter, IsOther}
-use Rattle.cdf_format.proofs.Members.{In-append, In-append_left, Distinct-front}
-use Rattle.cdf_format.proofs.TilesLemmas.{tile_lies, tiles_lie_apart}
-use Rattle.cdf_format.proofs.ChainsLemmas.{linkable-in, linkable-type, linkable-long, linkable-from}
-use Rattle.cdf_format.proofs.BytesLemmas.{word_kept}
+use Rattle.cdf_edits.proofs.Common.{cases_eq, word, size_at, type_at, Same, Touch, touch, Changed, Placed, Misses, In, Distinct, AreTiles, next_of, is_in, is_linkable, Leads, IsChain, linked_types, IsHead, AllSpare, end_place, In-append, In-append_left, Distinct-front, tile_lies, tiles_lie_apart, linkable-in, linkable-type, linkable-long, linkable-from, word_kept}
+use Rattle.cdf_edits.specs.Frame.Links.{ChainHead, with_members, head_place, IsLinkAfter, IsOther}
 use Rattle.cdf_edits.proofs.Frame.ChangedBytes.{changed_part}
 use Rattle.cdf_edits.proofs.Frame.LinksStay.{leads_same}
 

@@ -1,18 +1,10 @@
 -- Tilings, chains and indexes stay where sizes, types and links do.
 use Rattle.std.proofs.Common.{◌≡◌, ℕ, zero, suc, ◌+◌, ◌-◌, ◌*◌, ◌/◌, ◌≤◌, List, [], ◌∷◌, map, true, ◌&&◌, refl, sym, ap, subst, ◌∙◌, arith, inl, inr}
-use Rattle.std.proofs.lemmas.List.{map-append}
-use Rattle.std.specs.Prelude.{◌==◌, nat_le, min}
-use Rattle.cdf_format.specs.Fields.{counted, number, size_at, type_at}
-use Rattle.cdf_format.specs.Records.{vxr_n_entries, vxr_n_used_entries, vxr_first, vxr_last, vxr_offset}
-use Rattle.cdf_format.specs.RecordTypes.{vxr_type, cvvr_type}
-use Rattle.cdf_format.specs.Tiles.{In, AreTiles}
-use Rattle.cdf_format.specs.Chains.{next_of, is_in, is_linkable, Leads, IsChain}
-use Rattle.cdf_format.specs.Index.{Nodes, no_node, node, Entries, no_entry, block, lower, Leaf, nodes_of, lower_nodes, leaves_of, entry_leaves, entry_count, link_to, room_at, used_count}
-use Rattle.cdf_format.specs.IndexOf.{SaysEntry, SayEntries, SaysNode, HasNodes, Names, IsIndex}
-use Rattle.cdf_format.specs.Sound.{NodeFits}
-use Rattle.cdf_format.proofs.Members.{In-append_left, In-append_right, is_in-true}
-use Rattle.cdf_format.proofs.ChainsLemmas.{linkable-in}
-use Rattle.cdf_format.proofs.BytesLemmas.{number_kept, integer_kept, size_kept, next_kept}
+use Rattle.cdf_edits.proofs.Common.{map-append, ◌==◌, nat_le, counted, number, size_at, type_at, vxr_n_entries, vxr_n_used_entries, vxr_type, cvvr_type, In, AreTiles, next_of, is_in, is_linkable, Leads, IsChain, Nodes, no_node, node, Entries, no_entry, block, lower, Leaf, entry_count, link_to, room_at, SaysEntry, SayEntries, SaysNode, IsIndex, NodeFits, In-append_left, In-append_right, is_in-true, linkable-in, number_kept, integer_kept, size_kept, next_kept}
+use Rattle.std.specs.Prelude.{min}
+use Rattle.cdf_format.specs.Records.{vxr_first, vxr_last, vxr_offset}
+use Rattle.cdf_format.specs.Index.{nodes_of, lower_nodes, leaves_of, entry_leaves, used_count}
+use Rattle.cdf_format.specs.IndexOf.{HasNodes, Names}
 use Rattle.cdf_edits.proofs.Frame.Meaning.{Kept}
 
 -- the same sizes, the same tiles

@@ -1,25 +1,9 @@
 -- What records mean stays where their bytes do.
 use Rattle.std.proofs.Common.{◌≡◌, ℕ, ℤ, ◌+◌, ◌*◌, ◌≤◌, List, [], ◌∷◌, length, Bool, true, false, refl, sym, ap, subst, ◌∙◌, arith, inl, inr}
-use Rattle.std.specs.Prelude.{◌==◌, if◌then◌else◌}
-use Rattle.std.specs.Int.{w32, w64, cast_signed}
-use Rattle.std.specs.List.{before_first}
-use Rattle.std.specs.Option.{unwrap_or}
-use Rattle.cdf_model.specs.declared.data_type.DataType.{DataType}
-use Rattle.cdf_model.specs.declared.data_type.DataType.TheVariants.{Byte}
-use Rattle.cdf_model.specs.ByteOrder.{turned}
-use Rattle.cdf_model.specs.DataSet.{Entry}
-use Rattle.cdf_model.specs.Numbered.{with_item}
-use Rattle.cdf_model.specs.Types.{size_of, type_of}
-use Rattle.cdf_format.specs.Records.{Field, adr_name, adr_scope, aedr_data_type, aedr_num, aedr_num_elems, aedr_value, vdr_r_dim_vary, vdr_r_pad_value, vdr_z_dim_vary, vdr_z_pad_value, cvvr_c_size, cvvr_packed}
-use Rattle.cdf_format.specs.Fields.{counted, number, name_in, integer4, size_at, type_at, gdr_offset, r_num_dims, r_sizes}
-use Rattle.cdf_format.specs.Bytes.{Same}
-use Rattle.cdf_format.specs.Tiles.{In}
-use Rattle.cdf_format.specs.Stored.{field_bytes, packed_bytes, is_little, data_type_in}
-use Rattle.cdf_format.specs.Shape.{AttributeShape, Each}
-use Rattle.cdf_format.specs.AttributeRules.{entry_bytes}
-use Rattle.cdf_format.specs.Content.{scope_of, entry_of, entries_of, attribute_of}
-use Rattle.cdf_format.specs.Sound.{EntryFits, AttributeFits}
-use Rattle.cdf_format.proofs.BytesLemmas.{Same-part, word_kept, piece_kept, number_kept, integer_kept, bytes_kept, name_kept, size_kept}
+use Rattle.cdf_edits.proofs.Common.{◌==◌, if◌then◌else◌, w32, w64, cast_signed, before_first, unwrap_or, DataType, Byte, turned, Entry, with_item, size_of, type_of, Field, adr_name, adr_scope, aedr_data_type, aedr_num, aedr_num_elems, aedr_value, vdr_r_dim_vary, vdr_r_pad_value, vdr_z_dim_vary, vdr_z_pad_value, cvvr_c_size, counted, number, name_in, integer4, size_at, type_at, gdr_offset, r_num_dims, r_sizes, Same, In, field_bytes, is_little, data_type_in, AttributeShape, Each, entry_bytes, scope_of, entry_of, attribute_of, EntryFits, AttributeFits, Same-part, word_kept, piece_kept, number_kept, integer_kept, bytes_kept, name_kept, size_kept}
+use Rattle.cdf_format.specs.Records.{cvvr_packed}
+use Rattle.cdf_format.specs.Stored.{packed_bytes}
+use Rattle.cdf_format.specs.Content.{entries_of}
 
 -- what the CDR and the GDR say of other records
 pub record FileSame (b now : List ℕ) : Type 0 where

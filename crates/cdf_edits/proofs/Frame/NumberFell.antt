@@ -1,22 +1,6 @@
 -- What an entry means stays where it gets another number.
 use Rattle.std.proofs.Common.{◌≡◌, ℕ, ◌+◌, ◌*◌, ◌≤◌, List, length, Bool, is_some, ◌&&◌, ap, ◌∙◌, arith}
-use Rattle.std.specs.Prelude.{nat_le}
-use Rattle.std.specs.Int.{w32, cast_signed}
-use Rattle.std.specs.Option.{unwrap_or}
-use Rattle.cdf_model.specs.declared.data_type.DataType.{DataType}
-use Rattle.cdf_model.specs.declared.data_type.DataType.TheVariants.{Byte}
-use Rattle.cdf_model.specs.ByteOrder.{turned}
-use Rattle.cdf_model.specs.DataSet.{Entry}
-use Rattle.cdf_model.specs.Place.{record_limit}
-use Rattle.cdf_model.specs.Types.{size_of, type_of}
-use Rattle.cdf_format.specs.AttributeRules.{entry_bytes, has_value}
-use Rattle.cdf_format.specs.Bytes.{Same}
-use Rattle.cdf_format.specs.Content.{entry_of}
-use Rattle.cdf_format.specs.Fields.{number, is_positive, size_at}
-use Rattle.cdf_format.specs.Records.{aedr_attr_num, aedr_data_type, aedr_num_elems, aedr_value}
-use Rattle.cdf_format.specs.Sound.{EntryFits}
-use Rattle.cdf_format.specs.Stored.{field_bytes, is_little, data_type_in}
-use Rattle.cdf_format.proofs.BytesLemmas.{word_kept, piece_kept}
+use Rattle.cdf_edits.proofs.Common.{nat_le, w32, cast_signed, unwrap_or, DataType, Byte, turned, Entry, record_limit, size_of, type_of, entry_bytes, has_value, Same, entry_of, number, is_positive, size_at, aedr_attr_num, aedr_data_type, aedr_num_elems, aedr_value, EntryFits, field_bytes, is_little, data_type_in, word_kept, piece_kept}
 use Rattle.cdf_edits.proofs.Frame.Meaning.{FileSame}
 
 -- the bytes of an entry but for its number

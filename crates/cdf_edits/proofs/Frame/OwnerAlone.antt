@@ -1,27 +1,7 @@
 -- A change within the records of one owner leaves those of every other.
 use Rattle.std.proofs.Common.{◌≡◌, ℕ, ◌+◌, ◌*◌, ◌≤◌, List, [], ◌∷◌, ◌++◌, length, map, Bool, true, false, Some, None, refl, sym, ap, subst, ◌∙◌, arith, inl, inr}
-use Rattle.std.specs.Prelude.{if◌then◌else◌}
-use Rattle.std.specs.List.{flat_map}
-use Rattle.cdf_model.specs.Encodings.{encoding_at}
-use Rattle.cdf_format.specs.Records.{Field, cdr_gdr_offset, cdr_encoding, cdr_flags, cdr_release, cdr_increment, gdr_r_vdr_head, gdr_z_vdr_head, gdr_adr_head, gdr_r_num_dims, gdr_uir_head, adr_agr_edr_head, adr_az_edr_head, vdr_vxr_head}
-use Rattle.cdf_format.specs.RecordTypes.{cdr_type, gdr_type, adr_type, agr_edr_type, az_edr_type, r_vdr_type, z_vdr_type, vxr_type, uir_type, fixed_size}
-use Rattle.cdf_format.specs.Fields.{words, counted, number, size_at, type_at, gdr_offset, encoding, r_num_dims, r_sizes}
-use Rattle.cdf_format.specs.Bytes.{Same}
-use Rattle.cdf_edits.specs.Frame.Changed.{Touch, Placed, Misses, TouchesNone}
-use Rattle.cdf_format.specs.Tiles.{In, AreTiles}
-use Rattle.cdf_format.specs.Chains.{next_of, is_in, is_linkable, IsChain}
-use Rattle.cdf_format.specs.Index.{Leaf, nodes_of, leaves_of}
-use Rattle.cdf_format.specs.Shape.{AttributeShape, VariableShape, Shape, adrs, vdrs, cpr_of, Each, HasEntries, HasVariable, HasShape}
-use Rattle.cdf_format.specs.Owners.{attribute_records, variable_records}
-use Rattle.cdf_format.specs.Sound.{AttributeFits, NodeFits, LeafFits, VariableFits}
-use Rattle.cdf_format.specs.Chains.{linked_types}
-use Rattle.cdf_edits.specs.Frame.Leaves.{after_links, LeavesLinks, ChangedWithin, ChainsStay, FileStays, AttributeStays, VariableStays}
-use Rattle.cdf_format.proofs.Members.{In-append_left, In-append_right}
-use Rattle.cdf_format.proofs.TilesLemmas.{tile_lies}
-use Rattle.cdf_format.proofs.ChainsLemmas.{is_a-in, is_a-type, linkable-in, linkable-type, linkable-long}
-use Rattle.cdf_format.proofs.IndexLemmas.{nodes_stand}
-use Rattle.cdf_format.proofs.Owning.{block_in}
-use Rattle.cdf_format.proofs.BytesLemmas.{word_kept, words_kept, number_kept, integer_kept}
+use Rattle.cdf_edits.proofs.Common.{if◌then◌else◌, flat_map, encoding_at, Field, cdr_gdr_offset, cdr_encoding, cdr_flags, cdr_release, cdr_increment, gdr_r_vdr_head, gdr_z_vdr_head, gdr_adr_head, gdr_r_num_dims, gdr_uir_head, adr_agr_edr_head, adr_az_edr_head, vdr_vxr_head, cdr_type, gdr_type, adr_type, agr_edr_type, az_edr_type, r_vdr_type, z_vdr_type, vxr_type, uir_type, fixed_size, words, counted, number, size_at, type_at, gdr_offset, encoding, r_num_dims, r_sizes, Same, Touch, Placed, Misses, TouchesNone, In, AreTiles, next_of, is_in, is_linkable, IsChain, Leaf, nodes_of, leaves_of, AttributeShape, VariableShape, Shape, adrs, vdrs, cpr_of, Each, HasEntries, HasVariable, HasShape, attribute_records, variable_records, AttributeFits, NodeFits, LeafFits, VariableFits, linked_types, ChangedWithin, FileStays, AttributeStays, VariableStays, In-append_left, In-append_right, tile_lies, is_a-in, is_a-type, linkable-in, linkable-type, linkable-long, nodes_stand, block_in, word_kept, words_kept, number_kept, integer_kept}
+use Rattle.cdf_edits.specs.Frame.Leaves.{after_links, LeavesLinks, ChainsStay}
 use Rattle.cdf_edits.proofs.Frame.ChangedBytes.{changed_part, changed_whole}
 use Rattle.cdf_edits.proofs.Frame.Meaning.{FileSame, Kept, but_link, attribute_kept}
 use Rattle.cdf_edits.proofs.Frame.VdrCopied.{cpr_link_copied, index_link_copied}

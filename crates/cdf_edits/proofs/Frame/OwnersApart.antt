@@ -1,28 +1,8 @@
 -- Owners share no record, so a change within the records of one leaves those of every other.
 use Rattle.std.proofs.Common.{◌≡◌, ℕ, suc, ◌+◌, ◌*◌, ◌≤◌, List, [], ◌∷◌, ◌++◌, map, Bool, true, false, eqb, eq-eqb, refl, sym, ap, subst, ◌∙◌, append_assoc, arith, inl, inr}
-use Rattle.std.specs.List.{flat_map}
-use Rattle.std.specs.Int.{w32, cast_signed}
-use Rattle.cdf_format.specs.RecordTypes.{cdr_type, gdr_type, adr_type, agr_edr_type, az_edr_type, r_vdr_type, z_vdr_type, cpr_type, vxr_type, uir_type}
-use Rattle.cdf_format.specs.Tiles.{In}
-use Rattle.cdf_format.specs.Chains.{is_linkable, is_a}
-use Rattle.cdf_format.specs.Shape.{AttributeShape, VariableShape, Shape, vdrs, variables, Each, HasEntries, HasVariable, HasShape}
-use Rattle.cdf_format.specs.Owners.{attribute_records, variable_records, unused_records, times, owned_records}
-use Rattle.cdf_format.specs.Sound.{AttributeFits, VariableFits, IsSound}
-use Rattle.cdf_edits.specs.Frame.Leaves.{ChangedWithin, FileStays, Leaves, LeavesFinding}
-use Rattle.cdf_format.proofs.Members.{either, In-append}
-use Rattle.cdf_format.proofs.ChainsLemmas.{is_a-in, linkable-in}
-use Rattle.cdf_format.proofs.ShapeLemmas.{Each-split, Each-append}
-use Rattle.cdf_format.proofs.GoodImageLemmas.{vdrs_append}
-use Rattle.cdf_format.proofs.Owning.{owned_is, filter-in}
+use Rattle.cdf_edits.proofs.Common.{flat_map, w32, cast_signed, cdr_type, gdr_type, adr_type, agr_edr_type, az_edr_type, r_vdr_type, z_vdr_type, cpr_type, vxr_type, uir_type, In, is_linkable, is_a, AttributeShape, VariableShape, Shape, vdrs, variables, Each, HasEntries, HasVariable, HasShape, attribute_records, variable_records, unused_records, times, owned_records, AttributeFits, VariableFits, IsSound, ChangedWithin, FileStays, Leaves, LeavesFinding, either, In-append, is_a-in, linkable-in, Each-split, Each-append, vdrs_append, owned_is, filter-in, counted, number, type_at, r_num_dims, words, gdr_offset, encoding, r_sizes, size_at, Leaf, nodes_of, leaves_of, nodes_stand, word_kept, words_kept, size_kept, integer_kept, gdr_r_num_dims, Same, Misses}
 use Rattle.cdf_edits.proofs.Frame.Meaning.{Kept, FileSame}
 use Rattle.cdf_edits.proofs.Frame.OwnerAlone.{stays, tiling_stays, attributes_stay, variables_stay, file_same, chains_stay, file_stays, Each-in, blocks_stand, part, cdr_long, gdr_long, chains_by_links, file_same_by}
-use Rattle.cdf_format.specs.Fields.{counted, number, type_at, r_num_dims, words, gdr_offset, encoding, r_sizes, size_at}
-use Rattle.cdf_format.specs.Index.{Leaf, nodes_of, leaves_of}
-use Rattle.cdf_format.proofs.IndexLemmas.{nodes_stand}
-use Rattle.cdf_format.proofs.BytesLemmas.{word_kept, words_kept, size_kept, integer_kept}
-use Rattle.cdf_format.specs.Records.{gdr_r_num_dims}
-use Rattle.cdf_format.specs.Bytes.{Same}
-use Rattle.cdf_edits.specs.Frame.Changed.{Misses}
 
 -- ---- counts of parts
 

@@ -1,18 +1,7 @@
 -- An image whose chains, attributes and variables stay has the old shape, and the old content.
 use Rattle.std.proofs.Common.{◌≡◌, ℕ, ◌≤◌, List, [], ◌∷◌, length, map, true, refl, sym, ap₂, subst, ◌∙◌}
-use Rattle.cdf_model.specs.DataSet.{Attribute, Variable}
-use Rattle.cdf_format.specs.Fields.{has_bit, size_at, type_at}
-use Rattle.cdf_format.specs.RecordTypes.{cdr_type, gdr_type, is_record_type, fixed_size}
-use Rattle.cdf_format.specs.Tiles.{In, AreTiles}
-use Rattle.cdf_format.specs.Chains.{is_a}
-use Rattle.cdf_format.specs.Shape.{AttributeShape, VariableShape, Shape, variables, with_records, Each, HasEntries, HasVariable, HasShape}
-use Rattle.cdf_format.specs.Owners.{unused_records}
-use Rattle.cdf_format.specs.Content.{content_of, content, attribute_of, variable_of, majority_of}
-use Rattle.cdf_format.specs.Sound.{IsSound}
-use Rattle.cdf_edits.specs.Frame.Leaves.{ChangedWithin, FileStays, AttributeStays, VariableStays, Leaves}
-use Rattle.cdf_format.proofs.ChainsLemmas.{is_a-from, is_a-in, is_a-type}
+use Rattle.cdf_edits.proofs.Common.{Attribute, Variable, has_bit, size_at, type_at, cdr_type, gdr_type, is_record_type, fixed_size, In, AreTiles, is_a, AttributeShape, VariableShape, Shape, variables, with_records, Each, HasEntries, HasVariable, HasShape, unused_records, content_of, content, attribute_of, variable_of, majority_of, IsSound, ChangedWithin, FileStays, AttributeStays, VariableStays, Leaves, is_a-from, is_a-in, is_a-type, Each-split, content_is}
 use Rattle.cdf_edits.proofs.Frame.LinksStay.{SameHeads}
-use Rattle.cdf_format.proofs.ShapeLemmas.{Each-split, content_is}
 use Rattle.cdf_edits.proofs.Frame.OwnerAlone.{heads}
 use Rattle.cdf_edits.proofs.Frame.OwnersApart.{unused_are_alone, unused_in}
 

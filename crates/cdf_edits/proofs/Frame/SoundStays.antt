@@ -1,24 +1,10 @@
 -- A change within the CDR, the GDR and unused records leaves a sound image sound.
 use Rattle.std.proofs.Common.{◌≡◌, ℕ, ◌≤◌, List, [], ◌∷◌, ◌++◌, map, Bool, true, ◌&&◌, ◌||◌, cond, refl, sym, ap, ◌∙◌, inl, inr}
-use Rattle.std.specs.Prelude.{◌==◌}
-use Rattle.std.specs.List.{flat_map, filter}
-use Rattle.cdf_format.specs.Fields.{size_at, type_at}
-use Rattle.cdf_format.specs.RecordTypes.{vvr_type, cvvr_type, cpr_type, uir_type}
-use Rattle.cdf_format.specs.Tiles.{In}
-use Rattle.cdf_format.specs.Chains.{is_a, is_in}
-use Rattle.cdf_format.specs.Index.{Leaf, nodes_of, leaves_of}
-use Rattle.cdf_format.specs.IndexRules.{is_block}
-use Rattle.cdf_format.specs.Shape.{AttributeShape, VariableShape, Shape, Each}
-use Rattle.cdf_format.specs.Owners.{attribute_records, variable_records, unused_records}
-use Rattle.cdf_format.specs.Sound.{EntryFits, AttributeFits, NodeFits, LeafFits, VariableFits}
-use Rattle.cdf_format.proofs.Members.{In-append_left, In-append_right, is_in-true}
-use Rattle.cdf_format.proofs.ChainsLemmas.{is_a-in}
-use Rattle.cdf_format.proofs.Owning.{block_in}
+use Rattle.cdf_edits.proofs.Common.{◌==◌, flat_map, filter, size_at, type_at, vvr_type, cvvr_type, cpr_type, uir_type, In, is_a, is_in, Leaf, nodes_of, leaves_of, is_block, AttributeShape, VariableShape, Shape, Each, attribute_records, variable_records, unused_records, EntryFits, AttributeFits, NodeFits, LeafFits, VariableFits, In-append_left, In-append_right, is_in-true, is_a-in, block_in, vdr_end}
 use Rattle.cdf_edits.proofs.Frame.Meaning.{FileSame, Kept, KeptButLink, but_link, entry_fits_kept}
 use Rattle.cdf_edits.proofs.Frame.VdrCopied.{block_fits_copied}
 use Rattle.cdf_edits.proofs.Frame.VdrKept.{vdr_kept, end_kept}
 use Rattle.cdf_edits.proofs.Frame.LinksStay.{SameHeads, node_fits_kept}
-use Rattle.cdf_format.specs.VariableRules.{vdr_end}
 
 module _ (b now : List ℕ) (records records' : List ℕ) (file : FileSame b now) (same : SameHeads b now records records') where
   entries_fit_kept : (es : List ℕ) → ((m : ℕ) → In m es → Kept b now m) → Each (EntryFits b) es → Each (EntryFits now) es

@@ -1,28 +1,11 @@
 -- What a VDR means that stands at another place, or that has another name, blocking factor, flags, pad value or MaxRec where it is.
 use Rattle.std.proofs.Common.{◌≡◌, ℕ, ℤ, zero, suc, ◌+◌, ◌*◌, ◌^◌, ◌<◌, ◌≤◌, List, [], ◌∷◌, ◌++◌, map, Bool, true, false, not, Some, refl, sym, ap, ap₂, subst, ◌∙◌, arith, inl, inr}
-use Rattle.std.specs.Prelude.{◌==◌, nat_lt, if◌then◌else◌}
-use Rattle.std.specs.Int.{w32, cast_signed}
-use Rattle.std.specs.List.{enumerate_from, filter, flat_map}
-use Rattle.std.specs.Option.{unwrap_or}
-use Rattle.cdf_model.specs.declared.data_type.DataType.TheVariants.{Byte}
-use Rattle.cdf_model.specs.declared.kinds.Sparse.TheVariants.{NoRule, Pad, Previous}
-use Rattle.cdf_model.specs.ByteOrder.{parts, turned}
-use Rattle.cdf_model.specs.DataSet.{extent}
+use Rattle.cdf_edits.proofs.Common.{◌==◌, nat_lt, if◌then◌else◌, w32, cast_signed, enumerate_from, filter, flat_map, unwrap_or, Byte, NoRule, Pad, Previous, parts, turned, extent, size_of, type_of, Field, vdr_data_type, vdr_max_rec, vdr_vxr_head, vdr_flags, vdr_s_records, vdr_num_elems, vdr_cpr_or_spr_offset, vdr_blocking_factor, vdr_name, vdr_r_dim_vary, vdr_r_pad_value, vdr_z_num_dims, vdr_z_dim_vary, vdr_z_pad_value, cvvr_c_size, z_vdr_type, word, words, counted, number, name_in, integer4, has_bit, size_at, type_at, byte, Same, In, field_bytes, is_little, Leaf, leaves_of, VariableShape, Each, is_compressed, is_z, counted4, dimensions_at, dims_at, type_of_variable, value_bytes, record_bytes, records_vary, has_pad, pad_field, pad_at, max_rec_at, records_of_leaf, plain_size, plain_bytes, leaf_records, records_in, variable_of, BlockFits, LeafFits, bytes_kept, number_kept, size_kept}
 use Rattle.cdf_model.specs.Place.{record_size}
 use Rattle.cdf_model.specs.RunLengths.{plain_of}
-use Rattle.cdf_model.specs.Types.{size_of, type_of}
-use Rattle.cdf_format.specs.Records.{Field, vdr_data_type, vdr_max_rec, vdr_vxr_head, vdr_flags, vdr_s_records, vdr_num_elems, vdr_cpr_or_spr_offset, vdr_blocking_factor, vdr_name, vdr_r_dim_vary, vdr_r_pad_value, vdr_z_num_dims, vdr_z_dim_vary, vdr_z_pad_value, vvr_records, cvvr_c_size}
-use Rattle.cdf_format.specs.RecordTypes.{z_vdr_type}
-use Rattle.cdf_format.specs.Fields.{word, words, counted, number, name_in, integer4, has_bit, size_at, type_at}
-use Rattle.cdf_format.specs.Bytes.{byte, Same}
-use Rattle.cdf_format.specs.Tiles.{In}
-use Rattle.cdf_format.specs.Stored.{field_bytes, is_little, network_bytes}
-use Rattle.cdf_format.specs.Index.{Leaf, leaves_of}
-use Rattle.cdf_format.specs.Shape.{VariableShape, Each, is_compressed}
-use Rattle.cdf_format.specs.VariableFields.{is_z, counted4, dimensions_at, dims_at, elems_at, vary_field, varys_at, type_of_variable, value_bytes, record_bytes, records_vary, has_pad, pad_field, pad_at, sparse_at, max_rec_at, records_of_leaf, plain_size}
-use Rattle.cdf_format.specs.Content.{plain_bytes, leaf_records, records_in, variable_of}
-use Rattle.cdf_format.specs.Sound.{BlockFits, LeafFits}
-use Rattle.cdf_format.proofs.BytesLemmas.{bytes_kept, number_kept, size_kept}
+use Rattle.cdf_format.specs.Records.{vvr_records}
+use Rattle.cdf_format.specs.Stored.{network_bytes}
+use Rattle.cdf_format.specs.VariableFields.{elems_at, vary_field, varys_at, sparse_at}
 use Rattle.cdf_edits.proofs.Frame.Meaning.{FileSame, Kept, if_same, pad_place, vary_fits, packed_same}
 
 -- ---- bytes that stand at another place too

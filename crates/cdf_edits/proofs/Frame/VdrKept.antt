@@ -1,16 +1,6 @@
 -- What a VDR means stays where its bytes do, but for its link.
 use Rattle.std.proofs.Common.{◌≡◌, ℕ, ◌+◌, ◌≤◌, List, map, refl, ◌∙◌, arith}
-use Rattle.std.specs.Int.{w32, cast_signed}
-use Rattle.cdf_format.specs.Bytes.{Same}
-use Rattle.cdf_format.specs.Content.{variable_of}
-use Rattle.cdf_format.specs.Fields.{number, name_in, size_at}
-use Rattle.cdf_format.specs.Index.{Leaf, leaves_of}
-use Rattle.cdf_format.specs.Records.{Field, vdr_flags, vdr_name}
-use Rattle.cdf_format.specs.Shape.{VariableShape, Each, is_compressed}
-use Rattle.cdf_format.specs.Sound.{LeafFits}
-use Rattle.cdf_format.specs.Tiles.{In}
-use Rattle.cdf_format.specs.VariableRules.{vdr_end}
-use Rattle.cdf_format.proofs.BytesLemmas.{Same-part}
+use Rattle.cdf_edits.proofs.Common.{w32, cast_signed, Same, variable_of, number, name_in, size_at, Leaf, leaves_of, Field, vdr_flags, vdr_name, VariableShape, Each, is_compressed, LeafFits, In, vdr_end, Same-part}
 use Rattle.cdf_edits.proofs.Frame.Meaning.{FileSame, Kept, KeptButLink, late_size, late_type, late_number}
 use Rattle.cdf_edits.proofs.Frame.VdrAlike.{records_alike}
 use Rattle.cdf_edits.proofs.Frame.VdrCopied.{VdrCopied, alike, copied_in_place, raw_max_copied}

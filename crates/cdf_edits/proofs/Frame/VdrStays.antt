@@ -1,18 +1,6 @@
 -- What a VDR means of which all but its link, MaxRec, VXRhead and VXRtail stays.
 use Rattle.std.proofs.Common.{◌≡◌, ℕ, ◌+◌, ◌*◌, ◌≤◌, List, [], ◌∷◌, length, true, sym, ap, subst, ◌∙◌, arith}
-use Rattle.std.specs.Int.{w32, cast_signed}
-use Rattle.std.specs.List.{before_first}
-use Rattle.std.specs.Prelude.{◌==◌, if◌then◌else◌}
-use Rattle.cdf_format.specs.Bytes.{Same}
-use Rattle.cdf_format.specs.Content.{variable_of, records_in}
-use Rattle.cdf_format.specs.Fields.{number, name_in, has_bit, size_at, type_at}
-use Rattle.cdf_format.specs.Index.{leaves_of}
-use Rattle.cdf_format.specs.Records.{Field, vdr_flags, vdr_blocking_factor, vdr_name}
-use Rattle.cdf_format.specs.Shape.{VariableShape, cpr_of, is_compressed}
-use Rattle.cdf_format.specs.Stored.{field_bytes}
-use Rattle.cdf_format.specs.VariableFields.{is_z, dimensions_at, value_bytes, has_pad, pad_field, pad_at, max_rec_at}
-use Rattle.cdf_format.specs.VariableRules.{vdr_end}
-use Rattle.cdf_format.proofs.BytesLemmas.{Same-part, word_kept, piece_kept}
+use Rattle.cdf_edits.proofs.Common.{w32, cast_signed, before_first, ◌==◌, if◌then◌else◌, Same, variable_of, records_in, number, name_in, has_bit, size_at, type_at, leaves_of, Field, vdr_flags, vdr_blocking_factor, vdr_name, VariableShape, cpr_of, is_compressed, field_bytes, is_z, dimensions_at, value_bytes, has_pad, pad_field, pad_at, max_rec_at, vdr_end, Same-part, word_kept, piece_kept}
 use Rattle.cdf_edits.proofs.Frame.Meaning.{FileSame, pad_place, pad_long, pad_width, end_fits}
 use Rattle.cdf_edits.proofs.Frame.VdrAlike.{VdrAlike, copied_in_place, pad_alike, pad_field_alike, value_alike, cpr_link_alike, variable_alike}
 

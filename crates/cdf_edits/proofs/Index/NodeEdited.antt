@@ -1,13 +1,8 @@
 -- One node of an index is edited, with the chain behind it: where all other nodes stay, the new image has the edited index.
 use Rattle.std.proofs.Common.{◌≡◌, ◌≢◌, ℕ, zero, suc, List, ◌++◌, map, true, false, eqb, eq-eqb, refl, sym, ap, subst, ◌∙◌, inl, inr}
-use Rattle.std.proofs.lemmas.Bool.{cases_eq, eqb-true}
-use Rattle.std.proofs.lemmas.List.{map-append}
-use Rattle.std.specs.Prelude.{◌==◌, if◌then◌else◌}
-use Rattle.cdf_format.specs.Tiles.{In, Distinct}
-use Rattle.cdf_format.specs.Index.{Nodes, no_node, node, Entries, no_entry, block, lower, Leaf, nodes_of, lower_nodes, leaves_of, entry_leaves, entry_count, link_to}
-use Rattle.cdf_format.specs.IndexOf.{SaysEntry, SayEntries, SaysNode, IsNode, HasNodes, Names}
-use Rattle.cdf_format.specs.Sound.{NodeFits}
-use Rattle.cdf_format.proofs.Members.{either, In-append_left, In-append_right, Distinct-front, Distinct-back}
+use Rattle.cdf_edits.proofs.Common.{cases_eq, eqb-true, map-append, ◌==◌, if◌then◌else◌, In, Distinct, Nodes, no_node, node, Entries, no_entry, block, lower, Leaf, entry_count, link_to, SaysEntry, SayEntries, SaysNode, NodeFits, either, In-append_left, In-append_right, Distinct-front, Distinct-back}
+use Rattle.cdf_format.specs.Index.{nodes_of, lower_nodes, leaves_of, entry_leaves}
+use Rattle.cdf_format.specs.IndexOf.{IsNode, HasNodes, Names}
 use Rattle.cdf_edits.proofs.Frame.Meaning.{Kept}
 use Rattle.cdf_edits.proofs.Frame.LinksStay.{SameHeads, node_kept, nodes_kept, names_kept}
 

@@ -1,26 +1,7 @@
 -- The rules on the length, the magic numbers and the two first records of a sealed image, by what the image says.
 use Rattle.std.proofs.Common.{◌≡◌, ℕ, ◌+◌, ◌-◌, ◌*◌, ◌≤◌, List, length, Bool, true, not, ◌||◌, eq-eqb, sym, ap, subst, ◌∙◌, arith}
-use Rattle.std.proofs.lemmas.Bool.{and_from}
-use Rattle.std.proofs.lemmas.List.{length-append, get_or_append_left}
-use Rattle.std.specs.Int.{w32, w64, cast_signed}
-use Rattle.std.specs.List.{list_all}
-use Rattle.std.specs.Prelude.{is_some, nat_le, if◌then◌else◌}
-use Rattle.cdf_model.specs.Encodings.{encoding_at}
-use Rattle.cdf_model.specs.Limits.{image_limit}
-use Rattle.cdf_format.specs.Bytes.{Same}
-use Rattle.cdf_format.specs.Fields.{Holds, word, words, counted, is_positive, number, has_bit, size_at, type_at, gdr_offset, version, encoding, flags, eof, r_num_dims, r_sizes}
-use Rattle.cdf_format.specs.FileRules.{has_gdr, is_record, gdr_rows}
-use Rattle.cdf_format.specs.Phases.{first_phases}
-use Rattle.cdf_format.specs.Records.{gdr_r_num_dims, gdr_r_dim_sizes}
-use Rattle.cdf_format.specs.RecordTypes.{cdr_type, gdr_type, fixed_size}
-use Rattle.cdf_format.specs.Rules.{Hold, AllHold, asked}
-use Rattle.cdf_format.specs.Sealed.{has_checksum, trailer, trailer_length, sealed}
-use Rattle.cdf_format.specs.Shape.{Shape, HasShape}
-use Rattle.cdf_format.proofs.BytesLemmas.{word_kept, words_kept}
-use Rattle.cdf_format.proofs.ChainsLemmas.{is_a-in, is_a-type}
-use Rattle.cdf_format.proofs.ImageOf.{short_trailer, flags_of_front, trailer_is}
-use Rattle.cdf_format.proofs.Tests.{eq_of, of_le}
-use Rattle.cdf_format.proofs.TilesLemmas.{tile_lies}
+use Rattle.cdf_edits.proofs.Common.{and_from, length-append, get_or_append_left, w32, w64, cast_signed, list_all, is_some, nat_le, if◌then◌else◌, encoding_at, image_limit, Same, Holds, word, words, counted, is_positive, number, has_bit, size_at, type_at, gdr_offset, encoding, flags, eof, r_num_dims, r_sizes, has_gdr, is_record, gdr_rows, first_phases, gdr_r_num_dims, gdr_r_dim_sizes, cdr_type, gdr_type, fixed_size, Hold, AllHold, asked, has_checksum, trailer, trailer_length, sealed, Shape, HasShape, word_kept, words_kept, is_a-in, is_a-type, short_trailer, flags_of_front, trailer_is, eq_of, of_le, tile_lies}
+use Rattle.cdf_format.specs.Fields.{version}
 
 -- what the rules ask of the magic numbers, the CDR, and the GDR at a place
 pub record FirstSays (b : List ℕ) (gdr : ℕ) : Type 0 where

@@ -1,28 +1,7 @@
 -- The rules on the two first records stay where these records do, and the end of the image is kept in the GDR.
 use Rattle.std.proofs.Common.{◌≡◌, ℕ, ◌+◌, ◌-◌, ◌*◌, ◌≤◌, ◌<◌, List, ◌++◌, length, Bool, true, not, ◌||◌, eq-eqb, sym, ap, subst, ◌∙◌, arith}
-use Rattle.std.proofs.lemmas.Bool.{and_from, le-leb}
-use Rattle.std.proofs.lemmas.List.{length-append, get_or_append_left}
-use Rattle.std.specs.Int.{w32, w64, cast_signed}
-use Rattle.std.specs.List.{list_all}
-use Rattle.std.specs.Prelude.{nat_le, is_some, ◌==◌, if◌then◌else◌}
-use Rattle.cdf_model.specs.Encodings.{encoding_at}
-use Rattle.cdf_model.specs.Limits.{image_limit}
-use Rattle.cdf_format.specs.Sound.{IsSound}
-use Rattle.cdf_format.specs.Bytes.{Same}
-use Rattle.cdf_format.specs.Fields.{word, words, counted, is_positive, number, has_bit, size_at, type_at, gdr_offset, flags, eof, r_num_dims, r_sizes}
-use Rattle.cdf_format.specs.FileRules.{has_gdr, is_record, gdr_rows}
-use Rattle.cdf_format.specs.Phases.{first_phases}
-use Rattle.cdf_format.specs.Records.{gdr_r_num_dims}
-use Rattle.cdf_format.specs.RecordTypes.{cdr_type, gdr_type, fixed_size}
-use Rattle.cdf_format.specs.Rules.{Hold, AllHold, asked}
-use Rattle.cdf_format.specs.Sealed.{has_checksum, trailer, trailer_length, sealed}
-use Rattle.cdf_format.specs.Shape.{Shape}
-use Rattle.cdf_format.proofs.BytesLemmas.{word_kept, words_kept}
-use Rattle.cdf_format.proofs.ChainsLemmas.{is_a-in, is_a-type}
+use Rattle.cdf_edits.proofs.Common.{and_from, le-leb, length-append, get_or_append_left, w32, w64, cast_signed, list_all, nat_le, is_some, ◌==◌, if◌then◌else◌, encoding_at, image_limit, IsSound, Same, word, words, counted, is_positive, number, has_bit, size_at, type_at, gdr_offset, flags, eof, r_num_dims, r_sizes, has_gdr, is_record, gdr_rows, first_phases, gdr_r_num_dims, cdr_type, gdr_type, fixed_size, Hold, AllHold, asked, has_checksum, trailer, trailer_length, sealed, Shape, word_kept, words_kept, is_a-in, is_a-type, short_trailer, flags_of_front, trailer_is, both, of_le, tile_lies}
 use Rattle.cdf_format.proofs.FileRecords.{record-of}
-use Rattle.cdf_format.proofs.ImageOf.{short_trailer, flags_of_front, trailer_is}
-use Rattle.cdf_format.proofs.Tests.{both, of_le}
-use Rattle.cdf_format.proofs.TilesLemmas.{tile_lies}
 
 -- what the rules read of the two first records stays, but for Flags, which keep their rules, and the end of the image
 pub record FirstStay (b now : List ℕ) (gdr : ℕ) : Type 0 where

@@ -1,23 +1,6 @@
 -- The rules of an attribute and of its entries stay where their fields do.
 use Rattle.std.proofs.Common.{◌≡◌, ℕ, ◌+◌, ◌*◌, ◌≤◌, List, [], ◌∷◌, ◌++◌, length, true, not, is_some, ◌&&◌, ◌||◌, refl, sym, subst, arith, inl, inr}
-use Rattle.std.specs.Prelude.{nat_le, ◌==◌}
-use Rattle.std.specs.List.{flat_map, list_any}
-use Rattle.std.specs.Option.{unwrap_or}
-use Rattle.cdf_model.specs.declared.data_type.DataType.TheVariants.{Byte}
-use Rattle.cdf_model.specs.Limits.{record_number_limit}
-use Rattle.cdf_model.specs.Place.{record_limit}
-use Rattle.cdf_model.specs.Types.{size_of, type_of}
-use Rattle.cdf_format.specs.Records.{Field, adr_name, adr_scope, adr_num, adr_ngr_entries, adr_nz_entries, aedr_attr_num, aedr_data_type, aedr_num, aedr_num_elems}
-use Rattle.cdf_format.specs.Fields.{is_positive, number, size_at}
-use Rattle.cdf_format.specs.Tiles.{In}
-use Rattle.cdf_format.specs.Rules.{Row, row, Hold}
-use Rattle.cdf_format.specs.Shape.{AttributeShape, Each}
-use Rattle.cdf_format.specs.ChainRules.{differ_rows}
-use Rattle.cdf_format.specs.AttributeRules.{has_name, entry_bytes, entry_rows, same_number, entries_rows}
-use Rattle.cdf_format.proofs.GoodByShape.{attribute_shape_rows}
-use Rattle.cdf_format.specs.Sound.{EntryFits, AttributeFits}
-use Rattle.cdf_format.proofs.Members.{In-append_left, In-append_right}
-use Rattle.cdf_format.proofs.BytesLemmas.{number_kept, integer_kept, size_kept}
+use Rattle.cdf_edits.proofs.Common.{nat_le, ◌==◌, flat_map, list_any, unwrap_or, Byte, record_number_limit, record_limit, size_of, type_of, Field, adr_name, adr_scope, adr_num, adr_ngr_entries, adr_nz_entries, aedr_attr_num, aedr_data_type, aedr_num, aedr_num_elems, is_positive, number, size_at, In, Row, row, Hold, AttributeShape, Each, differ_rows, has_name, entry_bytes, entry_rows, same_number, entries_rows, attribute_shape_rows, EntryFits, AttributeFits, In-append_left, In-append_right, number_kept, integer_kept, size_kept}
 use Rattle.cdf_edits.proofs.Frame.Meaning.{Kept}
 
 long_entry : (n s : ℕ) → 56 + n ≤ s → 56 ≤ s

@@ -1,26 +1,8 @@
 -- The rules of indexes and of blocks stay where the bytes of their records do.
 use Rattle.std.proofs.Common.{◌≡◌, ◌⊎◌, true≢false, eq-eqb, ◌∙◌, ℕ, ℤ, pos, negsuc, ◌+◌, ◌*◌, ◌≤◌, List, [], ◌∷◌, ◌++◌, map, ◌&&◌, refl, sym, subst, arith, inl, inr}
-use Rattle.std.specs.Prelude.{nat_le}
-use Rattle.std.specs.List.{flat_map}
-use Rattle.cdf_model.specs.Limits.{record_number_limit, signed_limit}
-use Rattle.cdf_model.specs.Place.{record_limit}
-use Rattle.cdf_format.specs.Records.{vxr_n_entries, vxr_n_used_entries, cvvr_c_size}
-use Rattle.cdf_format.specs.RecordTypes.{vvr_type, cvvr_type, fixed_size}
-use Rattle.cdf_format.specs.Fields.{with_sign, number, size_at, type_at}
-use Rattle.cdf_format.specs.Tiles.{In}
-use Rattle.cdf_format.specs.Chains.{is_a}
-use Rattle.cdf_format.specs.Rules.{row, Hold, asked}
-use Rattle.cdf_format.specs.Index.{Nodes, no_node, node, Entries, no_entry, block, lower, Leaf, nodes_of, lower_nodes, leaves_of, room_at}
-use Rattle.cdf_format.specs.Shape.{is_compressed}
-use Rattle.cdf_format.specs.VariableRules.{vdr_end}
-use Rattle.cdf_format.specs.VariableFields.{number_before, plain_size}
-use Rattle.cdf_format.specs.IndexRules.{has_room, is_between, end_of, nodes_rows, used_rows, unpacks_to, holds_packed, vvr_rows, cvvr_rows, leaf_rows, index_rows}
-use Rattle.cdf_format.specs.Sound.{NodeFits}
-use Rattle.cdf_format.proofs.Members.{In-append_left, In-append_right}
-use Rattle.cdf_format.proofs.Tests.{both, le_of}
-use Rattle.cdf_format.proofs.RowLemmas.{Hold-append, Hold-split, Hold-asked}
-use Rattle.cdf_format.proofs.ChainsLemmas.{is_a-in, is_a-type}
-use Rattle.cdf_format.proofs.BytesLemmas.{number_kept, size_kept}
+use Rattle.cdf_edits.proofs.Common.{nat_le, flat_map, record_number_limit, signed_limit, record_limit, vxr_n_entries, vxr_n_used_entries, cvvr_c_size, vvr_type, cvvr_type, fixed_size, with_sign, number, size_at, type_at, In, is_a, row, Hold, asked, Nodes, no_node, node, Entries, no_entry, block, lower, Leaf, leaves_of, room_at, is_compressed, vdr_end, number_before, plain_size, has_room, is_between, end_of, holds_packed, vvr_rows, cvvr_rows, leaf_rows, index_rows, NodeFits, In-append_left, In-append_right, both, le_of, Hold-append, Hold-split, Hold-asked, is_a-in, is_a-type, number_kept, size_kept}
+use Rattle.cdf_format.specs.Index.{nodes_of, lower_nodes}
+use Rattle.cdf_format.specs.IndexRules.{nodes_rows, used_rows, unpacks_to}
 use Rattle.cdf_edits.proofs.Frame.Meaning.{FileSame, Kept, KeptButLink, packed_same}
 use Rattle.cdf_edits.proofs.Frame.VdrCopied.{plain_copied}
 use Rattle.cdf_edits.proofs.Frame.VdrKept.{vdr_kept, compressed_same}

@@ -1,25 +1,8 @@
 -- The rules of variables stay where the bytes of their records do.
 use Rattle.std.proofs.Common.{◌≡◌, ℕ, ◌+◌, ◌*◌, ◌≤◌, List, [], ◌∷◌, ◌++◌, length, Bool, true, false, not, is_some, ◌&&◌, ◌||◌, refl, ap, subst, ◌∙◌, arith, inl, inr}
-use Rattle.std.specs.Prelude.{nat_le, ◌==◌, bytes_eq, if◌then◌else◌}
-use Rattle.std.specs.List.{list_all}
-use Rattle.cdf_model.specs.Limits.{dimension_limit, signed_limit}
-use Rattle.cdf_model.specs.Place.{record_limit}
-use Rattle.cdf_model.specs.Types.{type_of}
-use Rattle.cdf_model.specs.Values.{notation_of}
-use Rattle.cdf_model.specs.VariableSteps.{is_characters}
-use Rattle.cdf_format.specs.Records.{vdr_name, vdr_z_num_dims, vdr_z_dim_size, cpr_c_type, cpr_p_count, cpr_parameter}
-use Rattle.cdf_format.specs.RecordTypes.{cpr_type, vvr_type, cvvr_type, fixed_size}
-use Rattle.cdf_format.specs.Fields.{is_positive, number, name_in, has_bit, size_at, type_at}
-use Rattle.cdf_format.specs.Tiles.{In}
-use Rattle.cdf_format.specs.Chains.{is_a, is_in}
-use Rattle.cdf_format.specs.Rules.{Row, row, asked}
-use Rattle.cdf_format.specs.VariableFields.{is_z, dimensions_at}
-use Rattle.cdf_format.specs.VariableRules.{has_dimensions, vdr_end, is_max_rec, cpr_link, is_no_link, is_cpr, is_known_packing, cpr_rows, is_named_apart, variable_rows}
-use Rattle.cdf_format.specs.IndexRules.{is_block}
-use Rattle.cdf_format.proofs.Members.{true-is_in}
-use Rattle.cdf_format.proofs.Tests.{both, le_of}
-use Rattle.cdf_format.proofs.ChainsLemmas.{is_a-in, is_a-type}
-use Rattle.cdf_format.proofs.BytesLemmas.{number_kept, size_kept}
+use Rattle.cdf_edits.proofs.Common.{nat_le, ◌==◌, if◌then◌else◌, list_all, dimension_limit, signed_limit, record_limit, type_of, notation_of, is_characters, vdr_name, vdr_z_num_dims, cpr_c_type, cpr_p_count, cpr_parameter, cpr_type, vvr_type, cvvr_type, fixed_size, is_positive, number, name_in, has_bit, size_at, type_at, In, is_a, is_in, Row, row, asked, is_z, dimensions_at, has_dimensions, vdr_end, is_max_rec, cpr_link, is_no_link, is_cpr, is_known_packing, cpr_rows, is_named_apart, variable_rows, is_block, true-is_in, both, le_of, is_a-in, is_a-type, number_kept, size_kept}
+use Rattle.std.specs.Prelude.{bytes_eq}
+use Rattle.cdf_format.specs.Records.{vdr_z_dim_size}
 use Rattle.cdf_edits.proofs.Frame.Meaning.{FileSame, Kept, KeptButLink, late_size, late_number}
 use Rattle.cdf_edits.proofs.Frame.VdrCopied.{z_copied, dims_copied, raw_type_copied, type_copied, raw_elems_copied, value_copied, record_copied, pad_field_copied, raw_max_copied, raw_sparse_copied, cpr_link_copied}
 use Rattle.cdf_edits.proofs.Frame.VdrStays.{long_z}

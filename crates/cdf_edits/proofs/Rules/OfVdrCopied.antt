@@ -1,26 +1,6 @@
 -- The rules of a variable whose VDR stands at another place, or that has another name, flags, pad value or MaxRec where it is.
 use Rattle.std.proofs.Common.{◌≡◌, ℕ, ℤ, ◌+◌, ◌*◌, ◌≤◌, List, [], ◌∷◌, Bool, true, false, not, is_some, ◌&&◌, ◌||◌, refl, sym, ap, subst, ◌∙◌, arith}
-use Rattle.std.specs.Prelude.{nat_le, ◌==◌}
-use Rattle.std.specs.List.{list_all}
-use Rattle.cdf_model.specs.Limits.{dimension_limit, signed_limit}
-use Rattle.cdf_model.specs.Place.{record_limit}
-use Rattle.cdf_model.specs.Types.{type_of}
-use Rattle.cdf_model.specs.Values.{notation_of}
-use Rattle.cdf_model.specs.VariableSteps.{is_characters}
-use Rattle.cdf_format.specs.AttributeRules.{has_name}
-use Rattle.cdf_format.specs.Records.{vdr_max_rec, vdr_s_records, vdr_name, vdr_z_num_dims, cpr_c_type, cpr_p_count, cpr_parameter}
-use Rattle.cdf_format.specs.RecordTypes.{cpr_type}
-use Rattle.cdf_format.specs.Fields.{is_positive, number, size_at}
-use Rattle.cdf_format.specs.Tiles.{In}
-use Rattle.cdf_format.specs.Chains.{is_a}
-use Rattle.cdf_format.specs.Rules.{Row, row, Hold, asked}
-use Rattle.cdf_format.specs.Shape.{is_compressed}
-use Rattle.cdf_format.specs.VariableFields.{is_z, dims_at}
-use Rattle.cdf_format.specs.VariableRules.{has_dimensions, vdr_end, is_max_rec, cpr_link, is_no_link, is_cpr, is_known_packing, cpr_rows, is_named_apart, variable_rows}
-use Rattle.cdf_format.proofs.RowLemmas.{Hold-append, Hold-split, Hold-asked}
-use Rattle.cdf_format.proofs.Tests.{both, le_of, of_le}
-use Rattle.cdf_format.proofs.ChainsLemmas.{is_a-type, is_a-from}
-use Rattle.cdf_format.proofs.BytesLemmas.{number_kept, size_kept, type_kept}
+use Rattle.cdf_edits.proofs.Common.{nat_le, ◌==◌, list_all, dimension_limit, signed_limit, record_limit, type_of, notation_of, is_characters, has_name, vdr_max_rec, vdr_s_records, vdr_name, vdr_z_num_dims, cpr_c_type, cpr_p_count, cpr_parameter, cpr_type, is_positive, number, size_at, In, is_a, Row, row, Hold, asked, is_compressed, is_z, dims_at, has_dimensions, vdr_end, is_max_rec, cpr_link, is_no_link, is_cpr, is_known_packing, cpr_rows, is_named_apart, variable_rows, Hold-append, Hold-split, Hold-asked, both, le_of, of_le, is_a-type, is_a-from, number_kept, size_kept, type_kept}
 use Rattle.cdf_edits.proofs.Frame.Meaning.{FileSame, Kept}
 use Rattle.cdf_edits.proofs.Frame.VdrAlike.{VdrAlike, z_alike, count_alike, dims_alike, raw_type_alike, type_alike, raw_elems_alike, record_alike, raw_sparse_alike, cpr_link_alike}
 use Rattle.cdf_edits.proofs.Frame.VdrCopied.{VdrCopied, alike, raw_max_copied}

@@ -1,24 +1,6 @@
 -- The rules of an image that follow no link stay for records whose sizes and types do, and for variables whose records stay whole.
 use Rattle.std.proofs.Common.{◌≡◌, ℕ, suc, ◌+◌, ◌-◌, ◌≤◌, List, [], ◌∷◌, ◌++◌, length, Bool, eq-eqb, refl, sym, ap, subst, ◌∙◌, arith, inl, inr}
-use Rattle.std.proofs.lemmas.List.{length-append, get_or_append_left}
-use Rattle.std.specs.Prelude.{◌==◌, if◌then◌else◌}
-use Rattle.cdf_format.specs.Records.{Field}
-use Rattle.cdf_format.specs.RecordTypes.{cdr_type, gdr_type, fixed_size}
-use Rattle.cdf_format.specs.Fields.{number, size_at, gdr_offset, eof}
-use Rattle.cdf_format.specs.Bytes.{Same}
-use Rattle.cdf_format.specs.Tiles.{In}
-use Rattle.cdf_format.specs.Rules.{row, Hold, AllHold, asked}
-use Rattle.cdf_format.specs.FileRules.{gdr_rows}
-use Rattle.cdf_format.specs.Phases.{first_phases}
-use Rattle.cdf_format.specs.Sealed.{trailer, trailer_length, sealed}
-use Rattle.cdf_format.specs.Shape.{Shape}
-use Rattle.cdf_format.specs.ChainRules.{number_rows}
-use Rattle.cdf_format.specs.Sound.{IsSound}
-use Rattle.cdf_format.proofs.Tests.{eq_of}
-use Rattle.cdf_format.proofs.TilesLemmas.{tile_lies}
-use Rattle.cdf_format.proofs.ChainsLemmas.{is_a-in, is_a-type}
-use Rattle.cdf_format.proofs.BytesLemmas.{word_kept}
-use Rattle.cdf_format.proofs.ImageOf.{flags_of_front, trailer_is}
+use Rattle.cdf_edits.proofs.Common.{length-append, get_or_append_left, ◌==◌, if◌then◌else◌, Field, cdr_type, gdr_type, fixed_size, number, size_at, gdr_offset, eof, Same, In, row, Hold, AllHold, asked, gdr_rows, first_phases, trailer, trailer_length, sealed, Shape, number_rows, IsSound, eq_of, tile_lies, is_a-in, is_a-type, word_kept, flags_of_front, trailer_is}
 
 -- the numbers of records, in order
 pub number_rows_kept : (rule : ℕ) (b now : List ℕ) (f : Field) (n : ℕ) (ms : List ℕ) → ((m : ℕ) → In m ms → number now m f ≡ number b m f) → number_rows rule now f n ms ≡ number_rows rule b f n ms

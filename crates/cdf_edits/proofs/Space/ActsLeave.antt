@@ -1,21 +1,8 @@
 -- The space that acts leave: of none, and of one that takes a record.
 use Rattle.std.proofs.Common.{◌≡◌, ◌≢◌, ℕ, ◌+◌, ◌<◌, List, [], ◌∷◌, length, map, Bool, true, false, not, ◌&&◌, ◌||◌, eq-eqb, refl, sym, ap, ap₂, subst, ◌∙◌, arith, inl, inr}
-use Rattle.std.proofs.lemmas.Bool.{eqb-true}
-use Rattle.std.specs.Prelude.{◌==◌, if◌then◌else◌}
-use Rattle.cdf_edits.specs.Space.Acts.{Among, sized, used_records, loose_records, back_in, back_after, RestStays, ActsFollow}
-use Rattle.cdf_format.specs.Chains.{is_in}
-use Rattle.cdf_format.specs.Fields.{number, size_at, type_at}
-use Rattle.cdf_format.specs.Owners.{unused_records}
-use Rattle.cdf_edits.specs.Space.Placement.{stands_behind, back_links}
-use Rattle.cdf_format.specs.Records.{uir_prev_uir}
-use Rattle.cdf_format.specs.RecordTypes.{uir_type}
-use Rattle.cdf_format.specs.Shape.{Each, HasShape, shape}
-use Rattle.cdf_format.specs.Tiles.{In}
-use Rattle.cdf_format.proofs.ChainsLemmas.{linkable-in}
-use Rattle.cdf_format.proofs.Members.{either, is_in-false, false-is_in}
-use Rattle.cdf_format.proofs.Owning.{filter-in}
+use Rattle.cdf_edits.proofs.Common.{eqb-true, ◌==◌, if◌then◌else◌, sized, used_records, loose_records, back_after, RestStays, ActsFollow, is_in, number, size_at, type_at, unused_records, stands_behind, back_links, uir_prev_uir, uir_type, Each, HasShape, shape, In, linkable-in, either, is_in-false, false-is_in, filter-in, tiles_lie_apart}
+use Rattle.cdf_edits.specs.Space.Acts.{Among, back_in}
 use Rattle.cdf_format.proofs.SpaceLemmas.{in-filter}
-use Rattle.cdf_format.proofs.TilesLemmas.{tiles_lie_apart}
 use Rattle.cdf_edits.proofs.Space.UsedRecords.{filter-says}
 
 -- it holds of each

@@ -1,18 +1,7 @@
 -- The record that has the head of a chain, and where the head, the count and the members lie in a sound image.
 use Rattle.std.proofs.Common.{◌≡◌, ℕ, ◌+◌, ◌≤◌, List, length, true, refl, sym, subst, arith}
-use Rattle.cdf_format.specs.Fields.{size_at, gdr_offset}
-use Rattle.cdf_format.specs.Records.{field}
-use Rattle.cdf_format.specs.RecordTypes.{cdr_type, gdr_type, fixed_size}
-use Rattle.cdf_format.specs.Chains.{is_a}
-use Rattle.cdf_format.specs.Tiles.{In, AreTiles, tiles}
-use Rattle.cdf_format.specs.Shape.{HasShape, shape}
-use Rattle.cdf_format.specs.Sound.{IsSound}
-use Rattle.cdf_format.proofs.TilesLemmas.{tile_lies}
-use Rattle.cdf_format.proofs.ChainsLemmas.{is_a-in, is_a-type, linkable-in, linkable-long}
-use Rattle.cdf_format.proofs.ShapeLemmas.{tiles_are}
-use Rattle.cdf_edits.specs.Space.Chains.{holder_of, head_of, count_of, holder_type, type_in, HolderStands, HasChain, members_of}
-use Rattle.cdf_edits.specs.declared.chain.Chain.{Chain}
-use Rattle.cdf_edits.specs.declared.chain.Chain.TheVariants.{Attrs, RVars, ZVars, GrEntries, ZEntries}
+use Rattle.cdf_edits.proofs.Common.{size_at, gdr_offset, field, cdr_type, gdr_type, fixed_size, is_a, In, AreTiles, tiles, HasShape, shape, IsSound, tile_lies, is_a-in, is_a-type, linkable-in, linkable-long, tiles_are, holder_of, head_of, count_of, holder_type, type_in, HolderStands, HasChain, members_of, Chain, Attrs, GrEntries, ZEntries}
+use Rattle.cdf_edits.specs.declared.chain.Chain.TheVariants.{RVars, ZVars}
 
 pub head_width : (c : Chain) → (head_of c).width ≡ 8
 head_width Attrs = refl

@@ -1,19 +1,7 @@
 -- A record of type UIR behind the last one, on no list, leaves a sound image sound.
 use Rattle.std.proofs.Common.{◌≡◌, ℕ, ◌+◌, ◌*◌, ◌≤◌, List, [], ◌∷◌, ◌++◌, length, Bool, true, eqb, eq-eqb, refl, sym, ap, subst, ◌∙◌, append_assoc, arith, inl, inr}
-use Rattle.std.proofs.lemmas.Bool.{eqb-true}
-use Rattle.std.specs.List.{flat_map, filter}
-use Rattle.cdf_format.specs.Fields.{size_at, type_at, r_num_dims}
-use Rattle.cdf_format.specs.RecordTypes.{cdr_type, gdr_type, adr_type, uir_type, is_record_type, fixed_size}
-use Rattle.cdf_format.specs.Tiles.{In, AreTiles}
-use Rattle.cdf_format.specs.Shape.{with_records, Shape, variables}
-use Rattle.cdf_format.specs.Owners.{attribute_records, variable_records, unused_records, times, owned_records}
-use Rattle.cdf_format.specs.Sound.{IsSound}
-use Rattle.cdf_edits.specs.Frame.Leaves.{ChangedWithin, LeavesFinding}
-use Rattle.cdf_format.proofs.Members.{either, In-append, In-append_left}
-use Rattle.cdf_format.proofs.TilesLemmas.{tile_lies}
+use Rattle.cdf_edits.proofs.Common.{eqb-true, flat_map, filter, size_at, type_at, r_num_dims, cdr_type, gdr_type, adr_type, uir_type, is_record_type, fixed_size, In, AreTiles, with_records, Shape, variables, attribute_records, variable_records, unused_records, times, owned_records, IsSound, ChangedWithin, LeavesFinding, either, In-append, In-append_left, tile_lies, linkable-in, attributes_in, owned_is, times-none}
 use Rattle.cdf_edits.proofs.Frame.TilesGrow.{tiles_push}
-use Rattle.cdf_format.proofs.ChainsLemmas.{linkable-in}
-use Rattle.cdf_format.proofs.Owning.{attributes_in, owned_is, times-none}
 use Rattle.cdf_edits.proofs.Frame.OwnerAlone.{stays, heads}
 use Rattle.cdf_edits.proofs.Frame.OwnersApart.{times-append, owned-times, file_records, all_attribute_records, all_variable_records, vdrs_stand, unused_in, file_in, file_from_attributes, file_from_variables, file_found, dimensions_found, file_is_alone}
 use Rattle.cdf_edits.proofs.Frame.SoundStays.{attributes_fit_kept, variables_fit_kept, unused_kept}

@@ -1,20 +1,9 @@
 -- Fields that are written one behind the other read back.
 use Rattle.std.proofs.Common.{◌≡◌, ℕ, suc, ◌+◌, ◌*◌, ◌^◌, ◌<◌, ◌≤◌, List, [], ◌∷◌, ◌++◌, length, drop, Bool, true, refl, sym, ap, ap₂, ◌∙◌, append_assoc, arith}
-use Rattle.std.proofs.lemmas.Bool.{eqb-true}
-use Rattle.std.proofs.lemmas.List.{drop-drop, length-append}
-use Rattle.std.proofs.Math.Seq.{drop-append_seam}
-use Rattle.std.specs.List.{flat_map}
-use Rattle.std.specs.Prelude.{◌==◌, ◌&&◌}
-use Rattle.byteorder.specs.Endian.{big_bytes, big_from}
-use Rattle.byteorder.specs.Numbers.{big_number-reads_back, big_from-take, length-bytes_high_first}
-use Rattle.cdf_format.specs.Bytes.{Same}
-use Rattle.cdf_format.specs.Fields.{word, words}
-use Rattle.cdf_format.specs.Records.{Field}
-use Rattle.cdf_format.specs.Shape.{Each}
-use Rattle.cdf_format.proofs.BytesLemmas.{word_kept}
+use Rattle.cdf_edits.proofs.Common.{eqb-true, drop-drop, length-append, drop-append_seam, flat_map, ◌==◌, ◌&&◌, big_bytes, length-bytes_high_first, Same, word, words, Field, Each, word_kept, both, drop-put_there}
+use Rattle.byteorder.specs.Endian.{big_from}
+use Rattle.byteorder.specs.Numbers.{big_number-reads_back, big_from-take}
 use Rattle.cdf_format.proofs.Pieces.{word_of_piece_lem}
-use Rattle.cdf_format.proofs.Tests.{both}
-use Rattle.cdf_fields.proofs.Writes.{drop-put_there}
 use Rattle.cdf_edits.specs.Commands.NewRecords.{Says}
 use Rattle.cdf_edits.specs.Space.Placing.{Placed, laid_out}
 

@@ -1,20 +1,6 @@
 -- An unused record that is on no list is filled anew.
 use Rattle.std.proofs.Common.{◌≡◌, ◌≢◌, ℕ, ◌+◌, ◌-◌, ◌≤◌, List, [], ◌∷◌, length, true, false, refl, sym, ap, subst, ◌∙◌, arith, inl, inr}
-use Rattle.std.proofs.lemmas.Bool.{cases_eq}
-use Rattle.cdf_format.specs.Fields.{number, size_at, type_at}
-use Rattle.cdf_format.specs.Records.{gdr_uir_head}
-use Rattle.cdf_format.specs.RecordTypes.{gdr_type, uir_type, is_record_type, fixed_size}
-use Rattle.cdf_format.specs.Bytes.{Same}
-use Rattle.cdf_edits.specs.Frame.Changed.{Touch, touch, Changed, Placed}
-use Rattle.cdf_format.specs.Tiles.{In, AreTiles}
-use Rattle.cdf_format.specs.Chains.{is_a, is_in, Leads, IsChain}
-use Rattle.cdf_format.specs.Shape.{Shape}
-use Rattle.cdf_format.specs.Content.{content}
-use Rattle.cdf_format.specs.Sound.{IsSound}
-use Rattle.cdf_format.proofs.Members.{false-is_in}
-use Rattle.cdf_format.proofs.TilesLemmas.{tile_lies}
-use Rattle.cdf_format.proofs.ChainsLemmas.{is_a-in, is_a-type, linkable-in, linkable-type, linkable-long, linkable-from}
-use Rattle.cdf_format.proofs.BytesLemmas.{Same-part, word_kept, number_kept, type_kept, next_kept}
+use Rattle.cdf_edits.proofs.Common.{cases_eq, number, size_at, type_at, gdr_uir_head, gdr_type, uir_type, is_record_type, fixed_size, Same, Touch, touch, Changed, Placed, In, AreTiles, is_a, is_in, Leads, IsChain, Shape, content, IsSound, false-is_in, tile_lies, is_a-in, is_a-type, linkable-in, linkable-type, linkable-long, linkable-from, Same-part, word_kept, number_kept, type_kept, next_kept}
 use Rattle.cdf_edits.proofs.Frame.ChangedBytes.{changed_part, changed_whole}
 use Rattle.cdf_edits.proofs.Frame.LinksStay.{tiles_same, leads_same}
 use Rattle.cdf_edits.proofs.Space.UsedRecords.{apart, used-in}

@@ -1,23 +1,7 @@
 -- A record of no owner is freed: a small one is on no list, a larger one becomes the first of the list.
 use Rattle.std.proofs.Common.{◌≡◌, ◌≢◌, ◌⊎◌, ℕ, ◌+◌, ◌<◌, ◌≤◌, List, [], ◌∷◌, length, true, false, refl, sym, ap, ap₂, subst, ◌∙◌, arith, eq-eqb, inl, inr}
-use Rattle.std.proofs.lemmas.Bool.{cases_eq, le-leb, lt-leb}
-use Rattle.std.specs.Prelude.{◌==◌, nat_le}
-use Rattle.cdf_format.specs.Fields.{number, size_at, type_at}
-use Rattle.cdf_format.specs.Records.{record_type, gdr_uir_head, uir_next_uir, uir_prev_uir}
-use Rattle.cdf_format.specs.RecordTypes.{gdr_type, uir_type, is_record_type, fixed_size}
-use Rattle.cdf_format.specs.Bytes.{Same}
-use Rattle.cdf_edits.specs.Frame.Changed.{Touch, touched_field, Changed, Placed, Misses, TouchesNone}
-use Rattle.cdf_format.specs.Tiles.{In, Distinct, AreTiles}
-use Rattle.cdf_format.specs.Chains.{is_linkable, next_of, Leads, IsChain}
-use Rattle.cdf_edits.specs.Space.Placement.{with_space, first_back_link, given_to, unused}
-use Rattle.cdf_format.specs.Shape.{Shape, HasShape}
-use Rattle.cdf_format.specs.Owners.{unused_records, times, owned_records}
-use Rattle.cdf_format.specs.Content.{content}
-use Rattle.cdf_format.specs.Sound.{IsSound}
-use Rattle.cdf_edits.specs.Space.Giving.{UnlistedBytes, FirstBytes, IsGiven}
-use Rattle.cdf_format.proofs.TilesLemmas.{tile_lies}
-use Rattle.cdf_format.proofs.ChainsLemmas.{is_a-in, is_a-type, is_a-from, linkable-in, linkable-type, linkable-long, linkable-from, some_place}
-use Rattle.cdf_format.proofs.BytesLemmas.{Same-part, word_kept}
+use Rattle.cdf_edits.proofs.Common.{cases_eq, le-leb, lt-leb, ◌==◌, nat_le, number, size_at, type_at, record_type, gdr_uir_head, uir_next_uir, uir_prev_uir, gdr_type, uir_type, is_record_type, fixed_size, Same, Touch, touched_field, Changed, Placed, Misses, TouchesNone, In, Distinct, AreTiles, is_linkable, next_of, Leads, IsChain, with_space, first_back_link, given_to, unused, Shape, HasShape, unused_records, times, owned_records, content, IsSound, IsGiven, tile_lies, is_a-in, is_a-type, is_a-from, linkable-in, linkable-type, linkable-long, linkable-from, some_place, Same-part, word_kept}
+use Rattle.cdf_edits.specs.Space.Giving.{UnlistedBytes, FirstBytes}
 use Rattle.cdf_edits.proofs.Frame.ChangedBytes.{changed_part, changed_whole}
 use Rattle.cdf_edits.proofs.Frame.LinksStay.{tiles_same, leads_same}
 use Rattle.cdf_edits.proofs.Space.UsedRecords.{apart, filter-keeps, used-in}

@@ -1,29 +1,6 @@
 -- A change that leaves the used records, and of the GDR all but eof and UIRhead, leaves a sound image sound with the records and the unused list that it now has.
 use Rattle.std.proofs.Common.{◌≡◌, ◌≢◌, ℕ, ◌+◌, ◌*◌, ◌≤◌, List, [], ◌∷◌, ◌++◌, length, map, true, eqb, eq-eqb, refl, sym, ap, subst, ◌∙◌, arith, inl, inr}
-use Rattle.std.proofs.lemmas.Bool.{cases_eq, eqb-true}
-use Rattle.std.specs.Prelude.{if◌then◌else◌}
-use Rattle.std.specs.List.{flat_map}
-use Rattle.std.specs.Int.{w32, cast_signed}
-use Rattle.cdf_format.specs.Fields.{words, counted, number, size_at, type_at, gdr_offset, encoding, r_num_dims, r_sizes}
-use Rattle.cdf_format.specs.Records.{Field, cdr_gdr_offset, cdr_encoding, cdr_flags, cdr_release, cdr_increment, gdr_r_vdr_head, gdr_z_vdr_head, gdr_adr_head, gdr_uir_head, adr_agr_edr_head, adr_az_edr_head, vdr_vxr_head}
-use Rattle.cdf_format.specs.RecordTypes.{cdr_type, gdr_type, adr_type, agr_edr_type, az_edr_type, r_vdr_type, z_vdr_type, uir_type, is_record_type, fixed_size}
-use Rattle.cdf_format.specs.Bytes.{Same}
-use Rattle.cdf_format.specs.Tiles.{In, AreTiles}
-use Rattle.cdf_format.specs.Chains.{is_linkable, IsChain}
-use Rattle.cdf_format.specs.Index.{Leaf, nodes_of, leaves_of}
-use Rattle.cdf_edits.specs.Space.Placement.{with_space}
-use Rattle.cdf_format.specs.Shape.{AttributeShape, VariableShape, Shape, adrs, vdrs, variables, cpr_of, Each, HasEntries, HasVariable, HasShape}
-use Rattle.cdf_format.specs.Owners.{attribute_records, variable_records, unused_records, times, owned_records}
-use Rattle.cdf_format.specs.Content.{content}
-use Rattle.cdf_format.specs.Sound.{AttributeFits, NodeFits, VariableFits, IsSound}
-use Rattle.cdf_edits.specs.Frame.Leaves.{FileStays, AttributeStays, VariableStays}
-use Rattle.cdf_format.proofs.Members.{either, In-append_left, In-append_right, true-is_in, false-is_in}
-use Rattle.cdf_format.specs.Chains.{is_in}
-use Rattle.cdf_format.proofs.TilesLemmas.{tile_lies}
-use Rattle.cdf_format.proofs.ChainsLemmas.{is_a-in, is_a-type, linkable-in, linkable-type, linkable-long}
-use Rattle.cdf_format.proofs.ShapeLemmas.{content_is}
-use Rattle.cdf_format.proofs.Owning.{attributes_in, times-none, times-once, tiles_distinct}
-use Rattle.cdf_format.proofs.BytesLemmas.{Same-part, word_kept, words_kept, number_kept, integer_kept, next_kept}
+use Rattle.cdf_edits.proofs.Common.{cases_eq, eqb-true, if◌then◌else◌, flat_map, w32, cast_signed, words, counted, number, size_at, type_at, gdr_offset, encoding, r_num_dims, r_sizes, Field, cdr_gdr_offset, cdr_encoding, cdr_flags, cdr_release, cdr_increment, gdr_r_vdr_head, gdr_z_vdr_head, gdr_adr_head, gdr_uir_head, adr_agr_edr_head, adr_az_edr_head, vdr_vxr_head, cdr_type, gdr_type, adr_type, agr_edr_type, az_edr_type, r_vdr_type, z_vdr_type, uir_type, is_record_type, fixed_size, Same, In, AreTiles, is_linkable, IsChain, Leaf, nodes_of, leaves_of, with_space, AttributeShape, VariableShape, Shape, adrs, vdrs, variables, cpr_of, Each, HasEntries, HasVariable, HasShape, attribute_records, variable_records, unused_records, times, owned_records, content, AttributeFits, NodeFits, VariableFits, IsSound, FileStays, AttributeStays, VariableStays, either, In-append_left, In-append_right, true-is_in, false-is_in, is_in, tile_lies, is_a-in, is_a-type, linkable-in, linkable-type, linkable-long, content_is, attributes_in, times-none, times-once, tiles_distinct, Same-part, word_kept, words_kept, number_kept, integer_kept, next_kept}
 use Rattle.cdf_edits.proofs.Frame.Meaning.{FileSame, Kept, but_link, attribute_kept}
 use Rattle.cdf_edits.proofs.Frame.VdrCopied.{cpr_link_copied, index_link_copied}
 use Rattle.cdf_edits.proofs.Frame.VdrKept.{vdr_kept, variable_kept, compressed_same}

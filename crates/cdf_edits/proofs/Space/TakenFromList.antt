@@ -1,24 +1,8 @@
 -- A record of the unused list is taken, whole or split.
 use Rattle.std.proofs.Common.{◌≡◌, ◌≢◌, ◌⊎◌, ℕ, ◌+◌, ◌≤◌, List, [], ◌∷◌, ◌++◌, length, Bool, true, false, eqb, refl, sym, ap, subst, ◌∙◌, arith, inl, inr}
-use Rattle.std.proofs.lemmas.Bool.{cases_eq, eqb-true}
-use Rattle.std.specs.Prelude.{if◌then◌else◌}
-use Rattle.cdf_format.specs.Fields.{number, word, size_at, type_at, eof}
-use Rattle.cdf_format.specs.Records.{Field, gdr_uir_head, uir_next_uir}
-use Rattle.cdf_format.specs.RecordTypes.{gdr_type, uir_type, is_record_type, fixed_size}
-use Rattle.cdf_format.specs.Bytes.{Same}
-use Rattle.cdf_edits.specs.Frame.Changed.{Touch, touch, touched_field, Changed, Placed, Misses, TouchesNone}
-use Rattle.cdf_format.specs.Tiles.{In, Distinct, AreTiles}
-use Rattle.cdf_format.specs.Chains.{is_linkable, next_of, Leads, IsChain}
-use Rattle.cdf_edits.specs.Frame.Links.{chain_head, IsHead, AllSpare, end_place}
-use Rattle.cdf_edits.specs.Space.Placement.{with_space, Takes, fits, first_back_link, split_width, taking, unused, place_for, taken_from, eof_after, BackLinksFollow}
-use Rattle.cdf_format.specs.Shape.{Shape, HasShape}
-use Rattle.cdf_format.specs.Content.{content}
-use Rattle.cdf_format.specs.Sound.{IsSound}
-use Rattle.cdf_edits.specs.Space.Taking.{NoneFit, link_tile, link_field, prev_of, touched_by, TakenBytes}
-use Rattle.cdf_format.proofs.Members.{either, In-append, In-append_left, In-append_right, Distinct-back, Distinct-middle, is_in-false}
-use Rattle.cdf_format.proofs.TilesLemmas.{tile_lies}
-use Rattle.cdf_format.proofs.ChainsLemmas.{is_a-in, is_a-type, is_a-from, linkable-in, linkable-type, linkable-long}
-use Rattle.cdf_format.proofs.BytesLemmas.{Same-part, word_kept}
+use Rattle.cdf_edits.proofs.Common.{cases_eq, eqb-true, if◌then◌else◌, number, word, size_at, type_at, eof, Field, gdr_uir_head, uir_next_uir, gdr_type, uir_type, is_record_type, fixed_size, Same, Touch, touch, touched_field, Changed, Placed, Misses, TouchesNone, In, Distinct, AreTiles, is_linkable, next_of, Leads, IsChain, IsHead, AllSpare, end_place, with_space, Takes, fits, first_back_link, split_width, taking, unused, place_for, taken_from, eof_after, BackLinksFollow, Shape, HasShape, content, IsSound, NoneFit, link_tile, link_field, prev_of, TakenBytes, either, In-append, In-append_left, In-append_right, Distinct-back, Distinct-middle, is_in-false, tile_lies, is_a-in, is_a-type, is_a-from, linkable-in, linkable-type, linkable-long, Same-part, word_kept}
+use Rattle.cdf_edits.specs.Frame.Links.{chain_head}
+use Rattle.cdf_edits.specs.Space.Taking.{touched_by}
 use Rattle.cdf_edits.proofs.Frame.ChangedBytes.{changed_part, changed_whole}
 use Rattle.cdf_edits.proofs.Frame.LinksStay.{leads_same}
 use Rattle.cdf_edits.proofs.Frame.LinkWritten.{one_chain}

@@ -1,25 +1,11 @@
 -- What an image keeps where a record was taken, from its unused list or at its end.
 use Rattle.std.proofs.Common.{◌≡◌, ◌≢◌, ◌⊎◌, ℕ, ◌+◌, ◌-◌, ◌<◌, ◌≤◌, List, [], ◌∷◌, ◌++◌, length, map, true, false, eq-eqb, refl, true≢false, sym, ap, subst, ◌∙◌, arith, inl, inr}
-use Rattle.std.proofs.lemmas.Bool.{cases_eq, eqb-true, leb-true}
-use Rattle.std.specs.Prelude.{◌==◌, nat_le}
-use Rattle.cdf_format.specs.Sound.{IsSound}
-use Rattle.cdf_format.specs.Bytes.{Same}
-use Rattle.cdf_edits.specs.Frame.Changed.{Touch, Outside, Changed, Placed, Misses}
-use Rattle.cdf_format.specs.Fields.{size_at, type_at}
-use Rattle.cdf_edits.specs.Space.Placement.{fits, split_width, first_back_link, taking, unused, place_for, taken_from, Takes}
-use Rattle.cdf_format.specs.Records.{Field, gdr_uir_head, uir_next_uir}
-use Rattle.cdf_format.specs.RecordTypes.{gdr_type, uir_type, fixed_size}
-use Rattle.cdf_format.specs.Shape.{Shape, HasShape}
-use Rattle.cdf_format.specs.Tiles.{In, Distinct, AreTiles}
-use Rattle.cdf_format.proofs.BytesLemmas.{Same-part, word_kept}
-use Rattle.cdf_format.proofs.ChainsLemmas.{is_a-in, is_a-type, linkable-in, linkable-type, linkable-long}
+use Rattle.cdf_edits.proofs.Common.{cases_eq, eqb-true, leb-true, ◌==◌, nat_le, IsSound, Same, Touch, Outside, Changed, Placed, Misses, size_at, type_at, fits, split_width, first_back_link, taking, unused, place_for, taken_from, Takes, Field, gdr_uir_head, uir_next_uir, gdr_type, uir_type, fixed_size, Shape, HasShape, In, Distinct, AreTiles, Same-part, word_kept, is_a-in, is_a-type, linkable-in, linkable-type, linkable-long, either, In-append, In-append_left, In-append_right, Distinct-back, Distinct-middle, tiles_distinct, tile_lies}
 use Rattle.cdf_edits.proofs.Frame.ChangedBytes.{changed_part}
 use Rattle.cdf_edits.proofs.Frame.LinksStay.{tiles_same}
-use Rattle.cdf_format.proofs.Members.{either, In-append, In-append_left, In-append_right, Distinct-back, Distinct-middle}
-use Rattle.cdf_format.proofs.Owning.{tiles_distinct}
 use Rattle.cdf_edits.proofs.Space.TakenFromList.{member_split}
 use Rattle.cdf_edits.proofs.Frame.TilesGrow.{tiles_push, tiles_split}
-use Rattle.cdf_format.proofs.TilesLemmas.{tile_lies, tiles_unique}
+use Rattle.cdf_format.proofs.TilesLemmas.{tiles_unique}
 use Rattle.cdf_edits.proofs.Space.UnusedLists.{sized}
 use Rattle.cdf_edits.proofs.Space.UsedRecords.{apart}
 

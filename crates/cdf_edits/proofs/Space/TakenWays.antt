@@ -1,24 +1,8 @@
 -- The three ways in which a record is taken: a record of the unused list whole, one that is split, and one at the end of the image.
 use Rattle.std.proofs.Common.{◌≡◌, ◌≢◌, ◌⊎◌, ℕ, ◌+◌, ◌≤◌, List, [], ◌∷◌, ◌++◌, length, map, Bool, true, false, ◌||◌, eqb, leb, eq-eqb, refl, sym, ap, subst, ◌∙◌, arith, inl, inr}
-use Rattle.std.proofs.lemmas.Bool.{cases_eq, le-leb, eqb-true}
-use Rattle.std.specs.Prelude.{if◌then◌else◌}
-use Rattle.cdf_format.specs.Fields.{number, size_at, type_at, eof}
-use Rattle.cdf_format.specs.Records.{gdr_eof, gdr_uir_head, uir_prev_uir}
-use Rattle.cdf_format.specs.RecordTypes.{gdr_type, uir_type, is_record_type, fixed_size}
-use Rattle.cdf_format.specs.Bytes.{Same}
-use Rattle.cdf_edits.specs.Frame.Changed.{Touch, touched_field, Changed, Placed}
-use Rattle.cdf_format.specs.Tiles.{In, Distinct, AreTiles}
-use Rattle.cdf_format.specs.Chains.{is_linkable, next_of, Leads, IsChain}
-use Rattle.cdf_edits.specs.Space.Placement.{with_space, fits, split_width, unused, place_for, eof_after, back_links, BackLinksFollow}
-use Rattle.cdf_format.specs.Shape.{Shape, HasShape}
-use Rattle.cdf_format.specs.Sound.{IsSound}
-use Rattle.cdf_edits.specs.Space.Taking.{NoneFit, last_of, FirstBack, TakenBytes, RestBytes, EndBytes, IsTaken}
-use Rattle.cdf_format.proofs.Members.{either, In-append, In-append_left, In-append_right, is_in-false}
-use Rattle.cdf_format.proofs.TilesLemmas.{tile_lies, tiles_lie_apart}
+use Rattle.cdf_edits.proofs.Common.{cases_eq, le-leb, eqb-true, if◌then◌else◌, number, size_at, type_at, eof, gdr_eof, gdr_uir_head, uir_prev_uir, gdr_type, uir_type, is_record_type, fixed_size, Same, Touch, touched_field, Changed, Placed, In, Distinct, AreTiles, is_linkable, next_of, Leads, IsChain, with_space, fits, split_width, unused, place_for, eof_after, back_links, BackLinksFollow, Shape, HasShape, IsSound, NoneFit, last_of, FirstBack, TakenBytes, either, In-append, In-append_left, In-append_right, is_in-false, tile_lies, tiles_lie_apart, is_a-in, is_a-type, is_a-from, linkable-in, linkable-type, linkable-long, linkable-from, some_place, tiles_distinct, Same-part, word_kept, next_kept}
+use Rattle.cdf_edits.specs.Space.Taking.{RestBytes, EndBytes, IsTaken}
 use Rattle.cdf_edits.proofs.Frame.TilesGrow.{tiles_push, tiles_split}
-use Rattle.cdf_format.proofs.ChainsLemmas.{is_a-in, is_a-type, is_a-from, linkable-in, linkable-type, linkable-long, linkable-from, some_place}
-use Rattle.cdf_format.proofs.Owning.{tiles_distinct}
-use Rattle.cdf_format.proofs.BytesLemmas.{Same-part, word_kept, next_kept}
 use Rattle.cdf_edits.proofs.Frame.ChangedBytes.{changed_part, changed_whole}
 use Rattle.cdf_edits.proofs.Frame.LinksStay.{tiles_same, leads_same}
 use Rattle.cdf_edits.proofs.Space.UsedRecords.{apart, used-in}

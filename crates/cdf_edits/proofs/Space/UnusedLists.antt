@@ -1,15 +1,6 @@
 -- The unused list where one record of it is taken: lists alone.
 use Rattle.std.proofs.Common.{◌≡◌, ◌≢◌, ℕ, ◌+◌, ◌-◌, ◌≤◌, List, [], ◌∷◌, ◌++◌, map, Bool, true, false, ◌&&◌, ◌||◌, eqb, eq-eqb, refl, sym, ap, ap₂, subst, ◌∙◌, append_assoc, append-nil, arith, inl, inr}
-use Rattle.std.proofs.lemmas.Bool.{eqb-true, le-leb}
-use Rattle.std.proofs.lemmas.List.{map-append}
-use Rattle.std.specs.Prelude.{◌==◌, nat_le}
-use Rattle.cdf_format.specs.Fields.{size_at}
-use Rattle.cdf_format.specs.Records.{Field, uir_next_uir}
-use Rattle.cdf_edits.specs.Frame.Changed.{touch, touched_field}
-use Rattle.cdf_format.specs.Tiles.{In, Distinct}
-use Rattle.cdf_edits.specs.Space.Placement.{fits, place_for, taken_from, stands_behind, back_links, split_width, taking, first_back_link}
-use Rattle.cdf_edits.specs.Space.Taking.{NoneFit, link_tile, link_field, last_of, prev_of, FirstBack}
-use Rattle.cdf_format.proofs.Members.{either, In-append_right}
+use Rattle.cdf_edits.proofs.Common.{eqb-true, le-leb, map-append, ◌==◌, nat_le, size_at, Field, uir_next_uir, touch, touched_field, In, Distinct, fits, place_for, taken_from, stands_behind, back_links, split_width, taking, first_back_link, NoneFit, link_tile, link_field, last_of, prev_of, FirstBack, either, In-append_right}
 
 -- where the records of a list stand, with their sizes
 abbrev pub sized : List ℕ → List ℕ → List (ℕ × ℕ)

@@ -1,21 +1,8 @@
 -- What is linked through the used records of an image is linked through them alone, also where some that it does not lead through are gone.
 use Rattle.std.proofs.Common.{◌≡◌, ◌≢◌, ℕ, zero, suc, List, [], ◌∷◌, ◌++◌, map, Bool, true, false, not, ◌&&◌, ◌||◌, eqb, eq-eqb, refl, true≢false, sym, ap, ◌∙◌, inl, inr}
-use Rattle.std.proofs.lemmas.Bool.{eqb-true}
-use Rattle.std.specs.Prelude.{nat_le}
-use Rattle.std.specs.List.{filter}
-use Rattle.cdf_format.specs.Fields.{size_at, type_at}
-use Rattle.cdf_format.specs.RecordTypes.{vxr_type, vvr_type, cvvr_type, cpr_type, uir_type}
-use Rattle.cdf_format.specs.Tiles.{In, Distinct}
-use Rattle.cdf_format.specs.Chains.{is_a, is_in, is_linkable, IsChain}
-use Rattle.cdf_format.specs.Index.{Nodes, no_node, node, Entries, no_entry, block, lower, Leaf, nodes_of, lower_nodes, leaves_of}
+use Rattle.cdf_edits.proofs.Common.{eqb-true, nat_le, filter, size_at, type_at, vxr_type, vvr_type, cvvr_type, cpr_type, uir_type, In, Distinct, is_a, is_in, is_linkable, IsChain, Nodes, no_node, node, Entries, no_entry, block, lower, Leaf, leaves_of, is_block, VariableShape, Each, HasVariable, LeafFits, VariableFits, variable_records, either, In-append_left, In-append_right, false-is_in, is_in-false, is_a-from, is_a-in, is_a-type, linkable-in, linkable-type, linkable-long, linkable-from, filter-in}
+use Rattle.cdf_format.specs.Index.{nodes_of, lower_nodes}
 use Rattle.cdf_format.specs.IndexOf.{HasNodes, Names}
-use Rattle.cdf_format.specs.IndexRules.{is_block}
-use Rattle.cdf_format.specs.Shape.{VariableShape, Each, HasVariable}
-use Rattle.cdf_format.specs.Sound.{LeafFits, VariableFits}
-use Rattle.cdf_format.specs.Owners.{variable_records}
-use Rattle.cdf_format.proofs.Members.{either, In-append_left, In-append_right, false-is_in, is_in-false}
-use Rattle.cdf_format.proofs.ChainsLemmas.{is_a-from, is_a-in, is_a-type, linkable-in, linkable-type, linkable-long, linkable-from}
-use Rattle.cdf_format.proofs.Owning.{filter-in}
 
 -- ---- members of a list that pass a test
 

@@ -1,16 +1,8 @@
 use Rattle.std.proofs.Common.{◌≡◌, ℕ, List, ◌++◌, ◌∷◌, [], length, None, ap, ap₂, sym, subst, ◌∙◌, arith}
-use Rattle.std.specs.List.{last_or}
-use Rattle.cdf_format.proofs.GoodSound.{good_is_sound, good_eof}
-use Rattle.cdf_format.specs.Shape.{adrs, shape}
-use Rattle.cdf_edits.specs.Space.Adding.{Added}
-use Rattle.cdf_edits.specs.Space.Placing.{IsBody, type_of_body}
-use Rattle.cdf_edits.specs.declared.chain.Chain.TheVariants.{Attrs}
-use Rattle.cdf_attrs.specs.Creating.{scope_code, adr_body}
-use Rattle.cdf_edits.proofs.Commands.ListParts.{last_got}
+use Rattle.cdf_attrs.proofs.Common.{last_or, good_is_sound, good_eof, adrs, shape, Added, IsBody, type_of_body, Attrs, scope_code, adr_body, last_got, fine_is_short, fine_has_no_zeros}
 use Rattle.cdf_attrs.proofs.AttributeChain.{attribute_members, has_attribute_chain, few_attributes}
 use Rattle.cdf_attrs.proofs.AttributesRead.{counted_is}
 use Rattle.cdf_attrs.proofs.Created.{follows, names_now, places_now}
-use Rattle.cdf_edits.proofs.Commands.FineNames.{fine_is_short, fine_has_no_zeros}
 use Rattle.cdf_attrs.proofs.NewAdr.{length-body, type_in_body, adr_is_body}
 use Rattle.cdf_attrs.proofs.creating.make.Goals as goal
 

@@ -1,8 +1,6 @@
 use Rattle.std.proofs.Common.{◌∙◌, map, ap}
-use Rattle.std.proofs.lemmas.Result.{on_ok_weaker}
-use Rattle.cdf_attrs.specs.Numbering.{write_of}
-use Rattle.cdf_edits.proofs.Edits.DeletedAttribute.{own, attributes_listed, lie_after, sound_after, free_after, deletes_by}
-use Rattle.cdf_format.proofs.GoodSound.{good_is_sound}
+use Rattle.cdf_attrs.proofs.Common.{on_ok_weaker, write_of, own, good_is_sound}
+use Rattle.cdf_edits.proofs.Edits.DeletedAttribute.{attributes_listed, lie_after, sound_after, free_after, deletes_by}
 use Rattle.cdf_attrs.proofs.deleting.delete.Goals as goal
 
 pub read_records-requires-clause-adr : goal.read_records-requires-clause-adr

@@ -1,13 +1,9 @@
 use Rattle.std.proofs.Common.{◌∙◌, ◌-◌, ◌++◌, List, map, length, sym, ap, append-nil, arith}
-use Rattle.std.proofs.lemmas.List.{at_drop_all, length-map}
-use Rattle.cdf_area.proofs.Calls.{read_more}
-use Rattle.cdf_attrs.specs.Numbering.{write_of}
+use Rattle.cdf_attrs.proofs.Common.{length-map, read_more, write_of, numbers_from, own, good_is_sound, AttributeShape, shape}
+use Rattle.std.proofs.lemmas.List.{at_drop_all}
 use Rattle.cdf_attrs.proofs.AttributeChain.{few_attributes}
 use Rattle.cdf_attrs.proofs.AttributesRead.{short_image}
-use Rattle.cdf_edits.specs.Edits.Writes.{numbers_from}
-use Rattle.cdf_edits.proofs.Edits.DeletedAttribute.{own, numbers_more}
-use Rattle.cdf_format.proofs.GoodSound.{good_is_sound}
-use Rattle.cdf_format.specs.Shape.{AttributeShape, shape}
+use Rattle.cdf_edits.proofs.Edits.DeletedAttribute.{numbers_more}
 use Rattle.cdf_attrs.proofs.deleting.read_numbers.Goals as goal
 
 pub overflow_cast-i : goal.overflow_cast-i

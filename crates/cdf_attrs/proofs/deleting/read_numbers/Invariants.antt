@@ -1,8 +1,5 @@
 use Rattle.std.proofs.Common.{◌≡◌, ◌++◌, ◌-◌, ◌+◌, drop, map}
-use Rattle.cdf_area.specs.Calls.{Stays}
-use Rattle.cdf_attrs.specs.Numbering.{write_of}
-use Rattle.cdf_edits.specs.Edits.Writes.{numbers_from}
-use Rattle.cdf_format.specs.Shape.{shape}
+use Rattle.cdf_attrs.proofs.Common.{Stays, write_of, numbers_from, shape}
 use Rattle.cdf_attrs.proofs.deleting.read_numbers.Given as goal
 
 abbrev pub invariant-loop-i : goal.invariant-loop-i

@@ -1,14 +1,5 @@
 use Rattle.std.proofs.Common.{◌≡◌, ◌∙◌, ◌≤◌, ℕ, List, All, false, length, sym, ap, subst, arith}
-use Rattle.cdf_format.proofs.GoodSound.{good_is_sound}
-use Rattle.cdf_format.specs.Shape.{shape}
-use Rattle.cdf_format.specs.WellFormed.{Good}
-use Rattle.cdf_model.specs.AttributeSteps.{is_global}
-use Rattle.cdf_model.specs.declared.kinds.Scope.{Scope}
-use Rattle.cdf_model.specs.declared.kinds.EntryKind.{EntryKind}
-use Rattle.cdf_edits.specs.declared.chain.Chain.{Chain}
-use Rattle.cdf_edits.specs.Edits.EntryMarks.{entries_chain}
-use Rattle.cdf_attrs.specs.Dropping.{IsScoped, Lowers}
-use Rattle.cdf_attrs.specs.Finding.{IsOfAttribute}
+use Rattle.cdf_attrs.proofs.Common.{good_is_sound, shape, Good, is_global, Scope, EntryKind, Chain, entries_chain, IsScoped, Lowers, IsOfAttribute}
 use Rattle.cdf_attrs.proofs.AttributeChain.{adr_inside}
 use Rattle.cdf_attrs.proofs.DroppingFrom as from
 use Rattle.cdf_attrs.proofs.dropping.drop_from.Goals as goal

@@ -1,7 +1,5 @@
 use Rattle.std.proofs.Common.{sym}
-use Rattle.std.proofs.lemmas.Result.{on_ok_weaker}
-use Rattle.cdf_attrs.specs.Known.{KnowsEntries}
-use Rattle.cdf_attrs.specs.Removing.{without_at}
+use Rattle.cdf_attrs.proofs.Common.{on_ok_weaker, KnowsEntries, without_at}
 use Rattle.cdf_attrs.proofs.DroppedNumber.{entry_there, good_now, if_given, known_now, within}
 use Rattle.cdf_attrs.proofs.dropping.drop_number.Goals as goal
 

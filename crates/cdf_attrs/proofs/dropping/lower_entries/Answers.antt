@@ -1,15 +1,7 @@
 use Rattle.std.proofs.Common.{◌∙◌, ◌-◌, ◌≤◌, ℕ, List, All, Contains, w32, map, ap, subst, inr, arith}
-use Rattle.std.proofs.lemmas.Int.{to_z_pos}
-use Rattle.std.proofs.lemmas.Result.{on_ok_weaker}
-use Rattle.std.specs.Int.{cast_signed, cast_unsigned}
-use Rattle.cdf_attrs.specs.Numbering.{write_of}
-use Rattle.cdf_attrs.specs.Dropping.{lower_writes}
-use Rattle.cdf_attrs.specs.Known.{KnownEntries}
+use Rattle.cdf_attrs.proofs.Common.{to_z_pos, on_ok_weaker, cast_signed, cast_unsigned, write_of, lower_writes, KnownEntries, max_field, with_writes, with_field}
 use Rattle.cdf_attrs.proofs.GreatestNumber.{is_member}
 use Rattle.cdf_attrs.proofs.DroppingSteps.{lies_after, lowered_greatest, member_small}
-use Rattle.cdf_edits.specs.Commands.EntryChains.{max_field}
-use Rattle.cdf_edits.specs.Edits.Writes.{with_writes}
-use Rattle.cdf_format.specs.Fields.{with_field}
 use Rattle.cdf_attrs.proofs.dropping.lower_entries.Goals as goal
 
 pub set_greatest-requires : goal.set_greatest-requires

@@ -1,9 +1,5 @@
 use Rattle.std.proofs.Common.{◌∙◌, ◌+◌, ◌++◌, List, drop, map, ap}
-use Rattle.std.proofs.lemmas.List.{map-append}
-use Rattle.cdf_attrs.specs.Numbering.{write_of}
-use Rattle.cdf_attrs.specs.Dropping.{lower_writes}
-use Rattle.cdf_attrs.specs.Known.{KnownEntries}
-use Rattle.cdf_attrs.specs.declared.numbering.Numbered.{Numbered}
+use Rattle.cdf_attrs.proofs.Common.{map-append, write_of, lower_writes, KnownEntries, Numbered}
 use Rattle.cdf_attrs.proofs.DroppingSteps.{falls_on, rests_on}
 use Rattle.cdf_attrs.proofs.dropping.lower_numbers.Goals as goal
 use Rattle.cdf_attrs.proofs.dropping.lower_numbers.Goals.{then-number-num+in_ok-push, else-number-num}

@@ -1,11 +1,7 @@
 use Rattle.std.proofs.Common.{◌≡◌, ◌∙◌, ◌+◌, ◌≤◌, ℕ, ℤ, List, w32, ap, arith}
-use Rattle.std.proofs.lemmas.Int.{of_z-to_z}
-use Rattle.std.specs.Int.{cast_signed, cast_unsigned}
+use Rattle.cdf_attrs.proofs.Common.{of_z-to_z, cast_signed, cast_unsigned, word, AreBytes, word4_fits}
 use Rattle.cdf_area.proofs.Calls.{read_done, read_once}
-use Rattle.cdf_format.specs.Fields.{word}
 use Rattle.cdf_records.specs.declared.aedr.Aedr.{Aedr}
-use Rattle.cdf_records.specs.Pieces.{AreBytes}
-use Rattle.cdf_records.proofs.Places.{word4_fits}
 use Rattle.cdf_attrs.proofs.entry_bytes.read_old.Goals as goal
 
 -- a number without a sign, by the one with a sign that was read

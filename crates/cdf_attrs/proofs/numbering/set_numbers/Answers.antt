@@ -1,9 +1,6 @@
 use Rattle.std.proofs.Common.{◌∙◌, ◌+◌, ℕ, List, map, drop, sym, ap, subst}
+use Rattle.cdf_attrs.proofs.Common.{edit_more, edits_by_write, AllLie, write_of, Numbered, with_writes}
 use Rattle.std.proofs.lemmas.List.{at_drop_more}
-use Rattle.cdf_area.proofs.Calls.{edit_more, edits_by_write}
-use Rattle.cdf_attrs.specs.Numbering.{AllLie, write_of}
-use Rattle.cdf_attrs.specs.declared.numbering.Numbered.{Numbered}
-use Rattle.cdf_edits.specs.Edits.Writes.{with_writes}
 use Rattle.cdf_attrs.proofs.DeletingSteps.{lie_still}
 use Rattle.cdf_attrs.proofs.numbering.set_numbers.Goals as goal
 

@@ -1,7 +1,6 @@
 use Rattle.std.proofs.Common.{◌≡◌, drop, map}
+use Rattle.cdf_attrs.proofs.Common.{AllLie, write_of, with_writes}
 use Rattle.cdf_area.specs.Calls.{Keeps}
-use Rattle.cdf_attrs.specs.Numbering.{AllLie, write_of}
-use Rattle.cdf_edits.specs.Edits.Writes.{with_writes}
 use Rattle.cdf_attrs.proofs.numbering.set_numbers.Given as goal
 
 abbrev pub invariant-loop-numbered : goal.invariant-loop-numbered

@@ -1,10 +1,5 @@
 use Rattle.std.proofs.Common.{◌∙◌, List, ℕ, None, take, refl, ap, subst, sym}
-use Rattle.std.specs.List.{last_or}
-use Rattle.cdf_area.proofs.Calls.{edit_done, edit_failed, edit_more, edit_once}
-use Rattle.cdf_format.proofs.GoodSound.{good_is_sound, good_eof}
-use Rattle.cdf_edits.proofs.Commands.ListParts.{last_got}
-use Rattle.cdf_attrs.specs.Known.{KnownEntries}
-use Rattle.cdf_attrs.specs.PutValues.{IsPut}
+use Rattle.cdf_attrs.proofs.Common.{last_or, edit_done, edit_failed, edit_more, edit_once, good_is_sound, good_eof, last_got, KnownEntries, IsPut}
 use Rattle.cdf_attrs.proofs.EntryPut.{behind_at, body_kind, body_room, chain_at, holder_at, is_body, is_member, late_free, late_sound, late_stands, max_joined, put_anew}
 use Rattle.cdf_attrs.proofs.putting.put_anew.Goals as goal
 

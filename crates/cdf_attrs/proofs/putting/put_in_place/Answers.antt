@@ -1,7 +1,5 @@
 use Rattle.std.proofs.Common.{◌∙◌, ℕ, List, refl, ap, arith}
-use Rattle.cdf_area.proofs.Calls.{edit_done, edit_failed, edit_more, edit_once, edits_by_write}
-use Rattle.cdf_format.specs.Fields.{with_field}
-use Rattle.cdf_edits.specs.Commands.EntryChains.{max_field}
+use Rattle.cdf_attrs.proofs.Common.{edit_done, edit_failed, edit_more, edit_once, edits_by_write, with_field, max_field}
 use Rattle.cdf_attrs.proofs.EntryPut.{begins, fields_inside, max_inside, put_over, stored}
 use Rattle.cdf_attrs.proofs.putting.put_in_place.Goals as goal
 

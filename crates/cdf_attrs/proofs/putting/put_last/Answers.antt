@@ -1,11 +1,6 @@
 use Rattle.std.proofs.Common.{◌∙◌, None, ap, subst, sym}
-use Rattle.std.specs.List.{last_or}
-use Rattle.cdf_area.proofs.Calls.{edit_done, edit_failed, edit_more, edit_once, edit_without_memory}
-use Rattle.cdf_format.proofs.GoodSound.{good_is_sound, good_eof}
-use Rattle.cdf_edits.proofs.Commands.ListParts.{last_got}
-use Rattle.cdf_attrs.specs.Known.{KnownEntries}
-use Rattle.cdf_attrs.specs.Putting.{new_reserved}
-use Rattle.cdf_attrs.specs.PutValues.{IsPut}
+use Rattle.cdf_attrs.proofs.Common.{last_or, edit_done, edit_failed, edit_more, edit_once, good_is_sound, good_eof, last_got, KnownEntries, new_reserved, IsPut}
+use Rattle.cdf_area.proofs.Calls.{edit_without_memory}
 use Rattle.cdf_attrs.proofs.EntryPut.{body_kind, body_of, body_room, chain_at, few_at, holder_at, is_body, known_at, max_joined, pushed}
 use Rattle.cdf_attrs.proofs.putting.put_last.Goals as goal
 

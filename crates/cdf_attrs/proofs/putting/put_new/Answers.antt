@@ -1,12 +1,6 @@
 use Rattle.std.proofs.Common.{◌∙◌, ◌+◌, ◌<◌, ◌≤◌, ℕ, List, length, ap, subst, sym}
-use Rattle.std.specs.Prelude.{slice_index}
-use Rattle.cdf_format.specs.Fields.{number, size_at}
-use Rattle.cdf_format.specs.Records.{aedr_num}
-use Rattle.cdf_format.specs.WellFormed.{Good}
-use Rattle.cdf_records.specs.Pieces.{AreBytes}
-use Rattle.cdf_attrs.specs.Known.{KnownEntries}
+use Rattle.cdf_attrs.proofs.Common.{slice_index, number, size_at, aedr_num, Good, AreBytes, KnownEntries, HasOld, IsReady}
 use Rattle.cdf_attrs.specs.Putting.{reserved_at}
-use Rattle.cdf_attrs.specs.PutValues.{HasOld, IsReady}
 use Rattle.cdf_attrs.proofs.EntryPut.{begins_at, numbered}
 use Rattle.cdf_attrs.proofs.putting.put_new.Goals as goal
 

@@ -1,7 +1,5 @@
 use Rattle.std.proofs.Common.{◌∙◌, sym, ap, arith}
-use Rattle.cdf_format.specs.Content.{content}
-use Rattle.cdf_model.specs.AttributeSteps.{is_out_of_range}
-use Rattle.cdf_model.specs.declared.kinds.EntryKind.{EntryKind}
+use Rattle.cdf_attrs.proofs.Common.{content, is_out_of_range, EntryKind}
 use Rattle.cdf_attrs.proofs.RangeCounts.{cdr_there, gdr_there, r_range, z_range}
 use Rattle.cdf_attrs.proofs.range.is_out_of_range.Goals as goal
 

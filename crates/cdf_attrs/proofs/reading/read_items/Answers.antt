@@ -1,8 +1,5 @@
 use Rattle.std.proofs.Common.{rules, ◌∙◌, List, ℕ, get_or, ap, arith}
-use Rattle.cdf_area.proofs.Calls.{read_more}
-use Rattle.cdf_format.specs.Content.{scope_of}
-use Rattle.cdf_format.specs.Fields.{number, name_at}
-use Rattle.cdf_format.specs.Records.{adr_scope}
+use Rattle.cdf_attrs.proofs.Common.{read_more, scope_of, number, name_at, adr_scope}
 use Rattle.cdf_attrs.proofs.AttributesRead.{few_places, items_start, all_listed, name_read, scope_read, next_item}
 use Rattle.cdf_attrs.proofs.reading.read_items.Goals as goal
 

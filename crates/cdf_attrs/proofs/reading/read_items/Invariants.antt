@@ -1,8 +1,5 @@
 use Rattle.std.proofs.Common.{◌≡◌, ◌++◌, map, drop}
-use Rattle.cdf_area.specs.Calls.{Stays}
-use Rattle.cdf_format.specs.Content.{content, attribute_of}
-use Rattle.cdf_format.specs.Shape.{shape}
-use Rattle.cdf_model.specs.Listing.{attribute_items}
+use Rattle.cdf_attrs.proofs.Common.{Stays, content, attribute_of, shape, attribute_items}
 use Rattle.cdf_attrs.proofs.reading.read_items.Given as goal
 
 abbrev pub invariant-loop-number : goal.invariant-loop-number

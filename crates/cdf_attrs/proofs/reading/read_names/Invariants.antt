@@ -1,7 +1,5 @@
 use Rattle.std.proofs.Common.{◌≡◌, take}
-use Rattle.cdf_area.specs.Calls.{Stays}
-use Rattle.cdf_format.specs.Records.{adr_name}
-use Rattle.cdf_format.proofs.NameRules.{names_at}
+use Rattle.cdf_attrs.proofs.Common.{Stays, adr_name, names_at}
 use Rattle.cdf_attrs.proofs.reading.read_names.Given as goal
 
 abbrev pub invariant-loop-place : goal.invariant-loop-place

@@ -1,20 +1,8 @@
 use Rattle.std.proofs.Common.{◌≡◌, ◌∙◌, ◌<◌, ◌≤◌, ℕ, ℤ, pos, List, FitsSigned, w32, All, None, length, take, sym, ap, subst}
-use Rattle.std.proofs.lemmas.Int.{to_z-of_z}
-use Rattle.std.specs.List.{last_or, remove}
-use Rattle.std.specs.Prelude.{slice_index, slice_index_or}
-use Rattle.std.specs.Int.{cast_signed, cast_unsigned}
-use Rattle.cdf_model.specs.Limits.{signed_limit}
-use Rattle.cdf_area.proofs.Calls.{edit_done, edit_once}
-use Rattle.cdf_edits.specs.Space.Chains.{before, members_of}
-use Rattle.cdf_format.proofs.GoodSound.{good_is_sound}
-use Rattle.cdf_attrs.specs.Known.{KnownEntries}
-use Rattle.cdf_attrs.specs.Putting.{IsEntryOf, RemovedAs}
-use Rattle.cdf_edits.specs.Edits.EntryMarks.{entries_chain}
-use Rattle.cdf_attrs.specs.Removing.{IsGreatest}
-use Rattle.cdf_edits.proofs.Commands.ListParts.{last_got}
+use Rattle.cdf_attrs.proofs.Common.{to_z-of_z, last_or, remove, slice_index, slice_index_or, cast_signed, cast_unsigned, signed_limit, edit_done, edit_once, before, members_of, good_is_sound, KnownEntries, IsEntryOf, entries_chain, IsGreatest, last_got, EntryKind}
+use Rattle.cdf_attrs.specs.Putting.{RemovedAs}
 use Rattle.cdf_attrs.proofs.EntryTakenAt.{of_entry, all_from, left_fits, left_small, left_written, stands_behind, index_same}
 use Rattle.cdf_attrs.proofs.GreatestNumber.{greatest_fits}
-use Rattle.cdf_model.specs.declared.kinds.EntryKind.{EntryKind}
 use Rattle.cdf_attrs.proofs.removing.remove_at.Goals as goal
 
 pub overflow_cast-count : goal.overflow_cast-count

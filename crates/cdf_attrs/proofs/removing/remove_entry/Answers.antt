@@ -1,10 +1,5 @@
 use Rattle.std.proofs.Common.{◌≡◌, length, true, sym, ap, subst, ◌∙◌}
-use Rattle.cdf_format.specs.Chains.{is_in}
-use Rattle.cdf_edits.specs.Space.Chains.{HasChain, HolderStands, Removed, members_of}
-use Rattle.cdf_edits.specs.declared.chain.Chain.{Chain}
-use Rattle.cdf_edits.proofs.Edits.FreedEntry.{sound_late, old_stands, old_free}
-use Rattle.cdf_edits.proofs.Edits.LeftEntry.{left_frees}
-use Rattle.cdf_fields.proofs.Writes.{length-with_field}
+use Rattle.cdf_attrs.proofs.Common.{is_in, HasChain, HolderStands, Removed, members_of, Chain, sound_late, old_stands, old_free, left_frees, length-with_field}
 use Rattle.cdf_attrs.proofs.EntryCalls.{has_entry, count_lies, greatest_lies, leaves}
 use Rattle.cdf_attrs.proofs.removing.remove_entry.Goals as goal
 

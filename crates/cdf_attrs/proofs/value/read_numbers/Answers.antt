@@ -1,7 +1,5 @@
 use Rattle.std.proofs.Common.{◌≡◌, Ok, ℕ, sym, subst, arith}
-use Rattle.cdf_model.specs.Values.{values_in}
-use Rattle.cdf_attrs.specs.Valued.{IsWritten}
-use Rattle.cdf_values.proofs.ValueLengths.{fewer}
+use Rattle.cdf_attrs.proofs.Common.{values_in, IsWritten, fewer}
 use Rattle.cdf_attrs.proofs.ValueWords.{numbers_written}
 use Rattle.cdf_attrs.proofs.value.read_numbers.Goals as goal
 

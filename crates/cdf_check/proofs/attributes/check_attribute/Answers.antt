@@ -1,15 +1,9 @@
 use Rattle.std.proofs.Common.{◌≡◌, ℕ, List, Ok, Err}
-use Rattle.std.specs.declared.vec.Vec.{Vec}
-use Rattle.std.specs.declared.alloc.Global.{Global}
+use Rattle.cdf_check.proofs.Common.{Vec, Global, name_in, adr_name, Row, whole, Yields, all_of_three, second_of_three}
 use Rattle.cdf_format.specs.AttributeRules.{adr_rows, entries_rows}
 use Rattle.cdf_format.specs.ChainRules.{chain_rows}
-use Rattle.cdf_format.specs.Fields.{name_in}
-use Rattle.cdf_format.specs.Records.{adr_name, adr_ngr_entries, adr_nz_entries}
-use Rattle.cdf_format.specs.Rules.{Row}
+use Rattle.cdf_format.specs.Records.{adr_ngr_entries, adr_nz_entries}
 use Rattle.cdf_format.specs.Shape.{gr_entry_chain, z_entry_chain}
-use Rattle.cdf_format.specs.Walks.{whole}
-use Rattle.cdf_structure.specs.Findings.{Yields}
-use Rattle.cdf_structure.proofs.Rows.{all_of_three, second_of_three}
 use Rattle.cdf_check.proofs.attributes.check_attribute.Goals as goal
 
 gr_rows : List ℕ → List ℕ → ℕ → List Row

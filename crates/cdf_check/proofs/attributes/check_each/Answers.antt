@@ -1,21 +1,7 @@
 use Rattle.std.proofs.Common.{◌≡◌, ◌++◌, ◌∷◌, ◌∙◌, get_or, map, take, [], sym, ap, ap₂, subst, add-one, arith, Ok, Err, List, ℕ}
-use Rattle.std.proofs.lemmas.List.{take_all, take_more}
-use Rattle.std.specs.List.{flat_map}
-use Rattle.cdf_format.specs.Fields.{name_in}
-use Rattle.cdf_format.specs.Records.{adr_name}
-use Rattle.cdf_format.specs.Owners.{attribute_records}
-use Rattle.cdf_format.specs.Shape.{attribute_shape}
-use Rattle.cdf_format.specs.Walks.{Walk, records_of}
-use Rattle.cdf_format.specs.AttributeRules.{attribute_rows, same_name}
-use Rattle.cdf_format.specs.ChainRules.{differ_rows}
-use Rattle.cdf_format.specs.Rules.{Hold}
+use Rattle.cdf_check.proofs.Common.{take_all, take_more, flat_map, name_in, adr_name, attribute_records, attribute_shape, Walk, records_of, attribute_rows, same_name, differ_rows, Hold, AreNamed, Finds, Yields, read_more, none_found, one_found, In-get_or, broken_member, holds_more}
 use Rattle.cdf_check.specs.Entries.{Describes}
-use Rattle.cdf_check.specs.Named.{AreNamed}
-use Rattle.cdf_structure.specs.Findings.{Finds, Yields}
-use Rattle.cdf_area.proofs.Calls.{read_more}
-use Rattle.cdf_structure.proofs.Findings.{none_found, one_found}
 use Rattle.cdf_structure.proofs.IndexLists.{list_more}
-use Rattle.cdf_structure.proofs.Rows.{In-get_or, broken_member, holds_more}
 use Rattle.cdf_check.proofs.AttributeSteps.{attributes_break, names_break, phase6_holds}
 use Rattle.cdf_check.proofs.attributes.check_each.Goals as goal
 

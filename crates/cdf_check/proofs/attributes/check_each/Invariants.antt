@@ -1,13 +1,5 @@
 use Rattle.std.proofs.Common.{◌≡◌, map, take}
-use Rattle.std.specs.List.{flat_map}
-use Rattle.cdf_area.specs.Calls.{Stays}
-use Rattle.cdf_format.specs.Fields.{name_in}
-use Rattle.cdf_format.specs.Owners.{attribute_records}
-use Rattle.cdf_format.specs.Records.{adr_name}
-use Rattle.cdf_format.specs.Rules.{Hold}
-use Rattle.cdf_format.specs.Shape.{attribute_shape}
-use Rattle.cdf_format.specs.AttributeRules.{attribute_rows}
-use Rattle.cdf_check.specs.Named.{AreNamed}
+use Rattle.cdf_check.proofs.Common.{flat_map, Stays, name_in, attribute_records, adr_name, Hold, attribute_shape, attribute_rows, AreNamed}
 use Rattle.cdf_check.proofs.attributes.check_each.Given as goal
 
 abbrev pub invariant-loop-adr : goal.invariant-loop-adr

@@ -1,10 +1,5 @@
 use Rattle.std.proofs.Common.{◌≡◌, ℕ, get_or, eqb, true, false, sym, ap, ◌∙◌, arith, Some}
-use Rattle.std.specs.List.{list_any}
-use Rattle.cdf_format.specs.Chains.{is_in}
-use Rattle.cdf_format.specs.Fields.{number}
-use Rattle.cdf_format.specs.Records.{aedr_num}
-use Rattle.cdf_area.proofs.Calls.{read_more}
-use Rattle.cdf_structure.proofs.Rows.{In-get_or}
+use Rattle.cdf_check.proofs.Common.{list_any, is_in, number, aedr_num, read_more, In-get_or}
 use Rattle.cdf_check.proofs.DifferSteps.{key_met, key_new, keys_more, is_in-any}
 use Rattle.cdf_check.proofs.entries.check_apart.Goals as goal
 

@@ -1,12 +1,6 @@
 use Rattle.std.proofs.Common.{◌≡◌, [], map, take, drop, Option}
-use Rattle.cdf_area.specs.Calls.{Stays}
-use Rattle.cdf_format.specs.AttributeRules.{same_number}
-use Rattle.cdf_format.specs.ChainRules.{differ_rows}
-use Rattle.cdf_format.specs.Fields.{number}
-use Rattle.cdf_format.specs.Records.{aedr_num}
+use Rattle.cdf_check.proofs.Common.{Stays, same_number, differ_rows, number, aedr_num, Finds, Finding}
 use Rattle.cdf_structure.specs.Met.{Agrees}
-use Rattle.cdf_structure.specs.Findings.{Finds}
-use Rattle.cdf_structure.specs.declared.finding.Finding.{Finding}
 use Rattle.cdf_check.proofs.entries.check_apart.Given as goal
 
 abbrev pub invariant-loop-entry : goal.invariant-loop-entry

@@ -1,8 +1,5 @@
 use Rattle.std.proofs.Common.{get_or, add-one, Some, None}
-use Rattle.cdf_format.specs.AttributeRules.{entry_rows}
-use Rattle.cdf_structure.specs.Findings.{Finds}
-use Rattle.cdf_area.proofs.Calls.{read_more}
-use Rattle.cdf_structure.proofs.Rows.{In-get_or, broken_member, holds_more}
+use Rattle.cdf_check.proofs.Common.{entry_rows, Finds, read_more, In-get_or, broken_member, holds_more}
 use Rattle.cdf_check.proofs.entries.check_each.Goals as goal
 
 pub check_entry-requires-clause-entry : goal.check_entry-requires-clause-entry

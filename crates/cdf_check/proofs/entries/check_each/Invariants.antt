@@ -1,8 +1,5 @@
 use Rattle.std.proofs.Common.{take}
-use Rattle.std.specs.List.{flat_map}
-use Rattle.cdf_area.specs.Calls.{Stays}
-use Rattle.cdf_format.specs.AttributeRules.{entry_rows}
-use Rattle.cdf_format.specs.Rules.{Hold}
+use Rattle.cdf_check.proofs.Common.{flat_map, Stays, entry_rows, Hold}
 use Rattle.cdf_check.proofs.entries.check_each.Given as goal
 
 abbrev pub invariant-loop-entry : goal.invariant-loop-entry

@@ -1,10 +1,7 @@
 use Rattle.std.proofs.Common.{ℕ, List, []}
-use Rattle.std.specs.List.{flat_map}
-use Rattle.cdf_format.specs.AttributeRules.{entry_rows, same_number}
-use Rattle.cdf_format.specs.ChainRules.{count_rows, differ_rows}
-use Rattle.cdf_format.specs.Records.{field}
-use Rattle.cdf_format.specs.Rules.{Row, Hold, IsBroken}
-use Rattle.cdf_structure.proofs.Rows.{all_of_three, first_of_three, second_of_three, third_of_three}
+use Rattle.cdf_check.proofs.Common.{flat_map, entry_rows, same_number, differ_rows, field, Row, Hold, IsBroken, all_of_three, second_of_three}
+use Rattle.cdf_format.specs.ChainRules.{count_rows}
+use Rattle.cdf_structure.proofs.Rows.{first_of_three, third_of_three}
 use Rattle.cdf_check.proofs.entries.check_members.Goals as goal
 
 abbrev counted : List ℕ → ℕ → ℕ → List ℕ → List Row

@@ -1,7 +1,6 @@
 use Rattle.std.proofs.Common.{Ok}
-use Rattle.cdf_format.specs.RecordRules.{phase4}
+use Rattle.cdf_check.proofs.Common.{phase4, Yields}
 use Rattle.cdf_structure.specs.Records.{AreRecords}
-use Rattle.cdf_structure.specs.Findings.{Yields}
 use Rattle.cdf_check.proofs.image_rules.check_image.Goals as goal
 
 pub check_linked-requires-clause-tiling : goal.check_linked-requires-clause-tiling

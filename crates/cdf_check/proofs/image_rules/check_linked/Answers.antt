@@ -1,9 +1,5 @@
 use Rattle.std.proofs.Common.{refl, Ok}
-use Rattle.cdf_format.specs.ChainRules.{phase5}
-use Rattle.cdf_format.specs.Rules.{IsBroken}
-use Rattle.cdf_format.proofs.TilesLemmas.{tiling_sound}
-use Rattle.cdf_structure.specs.FileChains.{AreChains}
-use Rattle.cdf_structure.specs.Findings.{Yields}
+use Rattle.cdf_check.proofs.Common.{phase5, IsBroken, tiling_sound, AreChains, Yields}
 use Rattle.cdf_check.proofs.ImageSteps.{all_long, linked_break}
 use Rattle.cdf_check.proofs.image_rules.check_linked.Goals as goal
 

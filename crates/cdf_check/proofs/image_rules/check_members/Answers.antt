@@ -1,13 +1,5 @@
 use Rattle.std.proofs.Common.{◌≡◌, ℕ, map, refl, Ok}
-use Rattle.std.specs.declared.vec.Vec.{Vec}
-use Rattle.std.specs.declared.alloc.Global.{Global}
-use Rattle.std.specs.List.{flat_map}
-use Rattle.cdf_format.specs.AttributeRules.{phase6}
-use Rattle.cdf_format.specs.Owners.{attribute_records}
-use Rattle.cdf_format.specs.Rules.{IsBroken}
-use Rattle.cdf_format.specs.Shape.{attribute_shape}
-use Rattle.cdf_format.proofs.TilesLemmas.{tiling_sound}
-use Rattle.cdf_structure.specs.Findings.{Yields}
+use Rattle.cdf_check.proofs.Common.{Vec, Global, flat_map, phase6, attribute_records, IsBroken, attribute_shape, tiling_sound, Yields}
 use Rattle.cdf_check.proofs.ImageSteps.{all_long, attributes_break}
 use Rattle.cdf_check.proofs.image_rules.check_members.Goals as goal
 

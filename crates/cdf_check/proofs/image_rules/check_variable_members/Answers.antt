@@ -1,16 +1,7 @@
 use Rattle.std.proofs.Common.{◌≡◌, ℕ, List, ◌∷◌, ◌++◌, length, map, refl, arith, Some, None, Ok, Err}
-use Rattle.std.specs.List.{flat_map}
-use Rattle.std.specs.declared.alloc.Global.{Global}
-use Rattle.std.specs.declared.vec.Vec.{Vec}
-use Rattle.cdf_format.specs.IndexRules.{phase8}
-use Rattle.cdf_format.specs.Owners.{variable_records}
-use Rattle.cdf_format.specs.Phases.{phase9}
-use Rattle.cdf_format.specs.Shape.{variable_shape}
-use Rattle.cdf_format.specs.VariableRules.{phase7}
-use Rattle.cdf_format.proofs.TilesLemmas.{tiling_sound}
+use Rattle.cdf_check.proofs.Common.{flat_map, Global, Vec, phase8, variable_records, phase9, variable_shape, phase7, tiling_sound, Finds, Yields}
 use Rattle.cdf_structure.specs.Records.{unused_of}
 use Rattle.cdf_check.specs.Variables.{AreDescribed}
-use Rattle.cdf_structure.specs.Findings.{Finds, Yields}
 use Rattle.cdf_structure.proofs.Searches.{tiles_climb}
 use Rattle.cdf_check.proofs.ImageSteps.{all_read, sizes_lie, variables, variables_once, variables_few, variables_break, indexes_break, owners_break, all_held}
 use Rattle.cdf_check.proofs.image_rules.check_variable_members.Goals as goal

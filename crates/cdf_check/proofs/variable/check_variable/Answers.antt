@@ -1,10 +1,5 @@
 use Rattle.std.proofs.Common.{◌≡◌, ℕ, true, None, Some, Ok, Err, rules}
-use Rattle.cdf_area.proofs.Calls.{read_done, read_more, read_once}
-use Rattle.cdf_format.specs.AttributeRules.{has_name}
-use Rattle.cdf_format.specs.Records.{vdr_name}
-use Rattle.cdf_format.specs.VariableFields.{record_bytes}
-use Rattle.cdf_check.specs.Variables.{AreFields, AreValues, packing_rows, records_rows, shape_rows, value_rows}
-use Rattle.cdf_structure.specs.Findings.{Finds, Yields}
+use Rattle.cdf_check.proofs.Common.{read_done, read_more, read_once, has_name, vdr_name, record_bytes, AreFields, AreValues, packing_rows, records_rows, shape_rows, value_rows, Finds, Yields}
 use Rattle.cdf_check.proofs.FieldSteps.{all_parts, packing_breaks, records_break, values_break}
 use Rattle.cdf_check.proofs.variable.check_variable.Goals as goal
 

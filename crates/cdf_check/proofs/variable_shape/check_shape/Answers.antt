@@ -1,11 +1,6 @@
 use Rattle.std.proofs.Common.{◌≡◌, ◌≤◌, refl, arith, inl, inr, None, Some}
-use Rattle.std.specs.Option.{SomeIff}
-use Rattle.cdf_area.proofs.Calls.{read_done, read_more, read_once}
-use Rattle.cdf_model.specs.Place.{record_limit}
-use Rattle.cdf_format.specs.Fields.{size_at}
-use Rattle.cdf_format.specs.VariableFields.{record_bytes}
+use Rattle.cdf_check.proofs.Common.{SomeIff, read_done, read_more, read_once, record_limit, size_at, record_bytes, of_le}
 use Rattle.cdf_format.specs.VariableRules.{vdr_end}
-use Rattle.cdf_format.proofs.Tests.{of_le}
 use Rattle.cdf_check.specs.Variables.{Measures}
 use Rattle.cdf_check.proofs.VariableShapes.{is_longer, is_small_enough, is_too_large}
 use Rattle.cdf_check.proofs.variable_shape.check_shape.Goals as goal

@@ -1,9 +1,7 @@
 use Rattle.std.proofs.Common.{◌≡◌, ℕ, ◌+◌, ◌≤◌, ◌∙◌, length, map, not, sym, ap, ap₂, subst}
-use Rattle.std.specs.Prelude.{◌==◌}
-use Rattle.std.specs.Option.{SomeIff}
-use Rattle.cdf_model.specs.Place.{record_limit, record_size}
-use Rattle.cdf_format.specs.Fields.{words}
-use Rattle.cdf_format.specs.VariableFields.{record_bytes, varys_at}
+use Rattle.cdf_check.proofs.Common.{◌==◌, SomeIff, record_limit, words, record_bytes}
+use Rattle.cdf_model.specs.Place.{record_size}
+use Rattle.cdf_format.specs.VariableFields.{varys_at}
 use Rattle.cdf_check.proofs.VariableShapes.{length-dims, length-varys}
 use Rattle.cdf_check.proofs.variable_shape.read_record_bytes.Goals as goal
 

@@ -1,19 +1,8 @@
 use Rattle.std.proofs.Common.{◌≡◌, ◌∙◌, [], get_or, take, map, sym, ap, subst, add-one, arith, Ok, Err, List, ℕ}
-use Rattle.std.proofs.lemmas.List.{take_all, take_more}
-use Rattle.std.specs.List.{flat_map}
-use Rattle.cdf_area.proofs.Calls.{read_done, read_failed, read_more}
-use Rattle.cdf_format.specs.AttributeRules.{same_name}
-use Rattle.cdf_format.specs.ChainRules.{differ_rows}
-use Rattle.cdf_format.specs.Fields.{name_in, number}
-use Rattle.cdf_format.specs.Records.{vdr_name, vdr_vxr_head}
-use Rattle.cdf_format.specs.Rules.{Hold}
-use Rattle.cdf_format.specs.VariableFields.{record_bytes}
-use Rattle.cdf_format.specs.VariableRules.{phase7, variable_rows}
-use Rattle.cdf_check.specs.Named.{AreNamed}
+use Rattle.cdf_check.proofs.Common.{take_all, take_more, flat_map, read_done, read_more, same_name, differ_rows, name_in, number, vdr_name, vdr_vxr_head, Hold, record_bytes, phase7, variable_rows, AreNamed, Finds, Yields, none_found, one_found, In-get_or, broken_member, holds_more}
+use Rattle.cdf_area.proofs.Calls.{read_failed}
 use Rattle.cdf_check.specs.Variables.{IsVariableOf}
-use Rattle.cdf_structure.specs.Findings.{Finds, Yields}
-use Rattle.cdf_structure.proofs.Findings.{none_found, one_found}
-use Rattle.cdf_structure.proofs.Rows.{In-get_or, broken_member, holds_more, one_more}
+use Rattle.cdf_structure.proofs.Rows.{one_more}
 use Rattle.cdf_check.proofs.VariableSteps.{each_breaks, all_found}
 use Rattle.cdf_check.proofs.variables.check_variables.Goals as goal
 

@@ -1,12 +1,5 @@
 use Rattle.std.proofs.Common.{◌≡◌, [], map, take}
-use Rattle.std.specs.List.{flat_map}
-use Rattle.cdf_area.specs.Calls.{Stays}
-use Rattle.cdf_format.specs.Fields.{name_in, number}
-use Rattle.cdf_format.specs.Records.{vdr_name, vdr_vxr_head}
-use Rattle.cdf_format.specs.Rules.{Hold}
-use Rattle.cdf_format.specs.VariableFields.{record_bytes}
-use Rattle.cdf_format.specs.VariableRules.{variable_rows}
-use Rattle.cdf_check.specs.Named.{AreNamed}
+use Rattle.cdf_check.proofs.Common.{flat_map, Stays, name_in, number, vdr_name, vdr_vxr_head, Hold, record_bytes, variable_rows, AreNamed}
 use Rattle.cdf_check.proofs.variables.check_variables.Given as goal
 
 abbrev pub invariant-loop-vdr : goal.invariant-loop-vdr

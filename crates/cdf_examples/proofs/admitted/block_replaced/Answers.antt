@@ -2,38 +2,25 @@ use Rattle.std.proofs.Common.{refl, inl, inr, sym, subst, ◌≡◌, ◌⊎◌, 
 use Rattle.cdf_edits.specs.Index.Blocks.{firsts_of, entry_firsts, cover}
 use Rattle.cdf_edits.specs.Index.Grown.{new_room, with_leaf, new_room_below, with_lower, cut_nodes, cut_entries, outline, entries_outline, with_place, with_place_in}
 use Rattle.cdf_edits.specs.Index.Cut.{sized_nodes, sized_nodes_below}
-use Rattle.cdf_edits.specs.Space.Acts.{Took, Gave}
 use Rattle.cdf_format.specs.Chains.{chain_on}
 use Rattle.cdf_format.specs.Content.{content}
-use Rattle.cdf_format.specs.Index.{nodes_of, lower_nodes, leaves_of, entry_leaves, block, no_entry}
+use Rattle.cdf_format.specs.Index.{nodes_of, lower_nodes, leaves_of, entry_leaves}
 use Rattle.cdf_format.specs.IndexRules.{nodes_rows, used_rows}
 use Rattle.cdf_format.specs.IndexWalk.{entries_on, nodes_on, levels_on}
-use Rattle.cdf_format.specs.Shape.{shape, VariableShape}
+use Rattle.cdf_format.specs.Shape.{shape}
 use Rattle.cdf_format.specs.Tiles.{tiles_from}
-use Rattle.cdf_examples.specs.OneVariable.{one_node}
-use Rattle.cdf_examples.specs.PackedFiles.{packed_file, plain_file, r_data}
-use Rattle.cdf_examples.specs.WrongPuts.{put_r, found_z}
+use Rattle.cdf_examples.specs.PackedFiles.{packed_file, plain_file}
 use Rattle.cdf_examples.proofs.Tests.{keeps_rules}
-use Rattle.std.specs.Prelude.{nat_le, nat_lt}
-use Rattle.std.specs.Prelude.{◌&&◌}
 use Rattle.cdf_examples.proofs.Deciding.{acts_follow_if, all_keep_if}
-use Rattle.cdf_edits.specs.Commands.Keeps.{allowances}
-use Rattle.cdf_format.specs.Owners.{owned}
 use Rattle.cdf_edits.specs.Commands.Room.{entries_in, entries_below, widest, widest_below, nodes_above}
 use Rattle.cdf_examples.specs.Scripts.{run_script}
 use Rattle.std.specs.Fmt.{digits}
-use Rattle.cdf_edits.specs.Commands.Does.{Does}
 use Rattle.cdf_examples.proofs.Deciding.{of_variable, nodes_freed_if, nodes_if, freed_if}
-use Rattle.cdf_edits.specs.Commands.Puts.{PutsRecord}
-use Rattle.cdf_edits.specs.Commands.Allowances.{no_fields}
-use Rattle.cdf_edits.specs.Index.Blocks.{record_length}
-use Rattle.cdf_edits.specs.Index.Written.{stored_bytes}
 use Rattle.std.proofs.Common.{◌<◌}
 use Rattle.cdf_examples.proofs.Deciding.{of_one}
 use Rattle.cdf_examples.proofs.Packing.{ones_packed}
 use Rattle.std.proofs.Common.{◌+◌}
-use Rattle.cdf_edits.specs.Space.Acts.{ActsFollow}
-use Rattle.cdf_edits.specs.Commands.Allowances.{AllKeep}
+use Rattle.cdf_examples.proofs.Common.{Took, Gave, block, no_entry, VariableShape, one_node, r_data, put_r, found_z, nat_le, nat_lt, ◌&&◌, allowances, owned, Does, PutsRecord, no_fields, record_length, stored_bytes, ActsFollow, AllKeep}
 use Rattle.cdf_examples.proofs.admitted.block_replaced.Goals as goal
 
 follow : ActsFollow packed_file plain_file (Took 952 52 ∷ Gave 784 28 ∷ [])

@@ -1,8 +1,8 @@
 use Rattle.std.proofs.Common.{refl, [], ◌∷◌, codes, arith}
+use Rattle.cdf_examples.proofs.Common.{Took, put_second, AttributeShape, allowances, owned, Does, GreatestIs, share_chain, EntryKind, ActsFollow, AllKeep}
 use Rattle.cdf_edits.specs.Index.Blocks.{firsts_of, entry_firsts, cover}
 use Rattle.cdf_edits.specs.Index.Grown.{new_room, with_leaf, new_room_below, with_lower, cut_nodes, cut_entries, outline, entries_outline}
 use Rattle.cdf_edits.specs.Index.Cut.{sized_nodes, sized_nodes_below}
-use Rattle.cdf_edits.specs.Space.Acts.{Took}
 use Rattle.cdf_format.specs.Chains.{chain_on}
 use Rattle.cdf_format.specs.Content.{content}
 use Rattle.cdf_format.specs.Index.{nodes_of, lower_nodes, leaves_of, entry_leaves}
@@ -10,21 +10,13 @@ use Rattle.cdf_format.specs.IndexRules.{nodes_rows, used_rows}
 use Rattle.cdf_format.specs.IndexWalk.{entries_on, nodes_on, levels_on}
 use Rattle.cdf_format.specs.Shape.{shape}
 use Rattle.cdf_format.specs.Tiles.{tiles_from}
-use Rattle.cdf_examples.specs.WrongEntries.{one_entry_file, put_second, entry_last_file}
-use Rattle.cdf_format.specs.Shape.{AttributeShape}
+use Rattle.cdf_examples.specs.WrongEntries.{one_entry_file, entry_last_file}
 use Rattle.cdf_examples.proofs.Deciding.{acts_follow_if, all_keep_if}
-use Rattle.cdf_edits.specs.Commands.Keeps.{allowances}
-use Rattle.cdf_format.specs.Owners.{owned}
 use Rattle.cdf_edits.specs.Commands.Room.{entries_in, entries_below, widest, widest_below, nodes_above}
 use Rattle.cdf_examples.specs.Scripts.{run_script}
 use Rattle.std.specs.Fmt.{digits}
-use Rattle.cdf_edits.specs.Commands.Does.{Does}
 use Rattle.cdf_examples.proofs.Deciding.{of_attribute}
 use Rattle.cdf_edits.specs.Commands.Entries.{PutsEntry}
-use Rattle.cdf_edits.specs.Commands.EntryChains.{GreatestIs, share_chain}
-use Rattle.cdf_model.specs.declared.kinds.EntryKind.{EntryKind}
-use Rattle.cdf_edits.specs.Space.Acts.{ActsFollow}
-use Rattle.cdf_edits.specs.Commands.Allowances.{AllKeep}
 use Rattle.cdf_model.specs.declared.kinds.EntryKind.TheVariants as entries
 use Rattle.cdf_examples.proofs.admitted.entry_appended.Goals as goal
 

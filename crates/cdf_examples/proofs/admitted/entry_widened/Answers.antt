@@ -2,33 +2,23 @@ use Rattle.std.proofs.Common.{refl, inl, ◌≡◌, ◌⊎◌, [], ◌∷◌, co
 use Rattle.cdf_edits.specs.Index.Blocks.{firsts_of, entry_firsts, cover}
 use Rattle.cdf_edits.specs.Index.Grown.{new_room, with_leaf, new_room_below, with_lower, cut_nodes, cut_entries, outline, entries_outline}
 use Rattle.cdf_edits.specs.Index.Cut.{sized_nodes, sized_nodes_below}
-use Rattle.cdf_edits.specs.Space.Acts.{Took}
 use Rattle.cdf_format.specs.Chains.{chain_on}
 use Rattle.cdf_format.specs.Content.{content}
-use Rattle.cdf_format.specs.Index.{nodes_of, lower_nodes, leaves_of, entry_leaves, block, lower, no_entry}
+use Rattle.cdf_format.specs.Index.{nodes_of, lower_nodes, leaves_of, entry_leaves}
 use Rattle.cdf_format.specs.IndexRules.{nodes_rows, used_rows}
 use Rattle.cdf_format.specs.IndexWalk.{entries_on, nodes_on, levels_on}
-use Rattle.cdf_format.specs.Shape.{shape, VariableShape}
+use Rattle.cdf_format.specs.Shape.{shape}
 use Rattle.cdf_format.specs.Tiles.{tiles_from}
-use Rattle.cdf_examples.specs.OneVariable.{one_node}
-use Rattle.cdf_examples.specs.RecordFiles.{t_shape, records_index, records_data}
-use Rattle.cdf_examples.specs.WrongPuts.{put_t, found_z, two_levels_file, widened_file}
+use Rattle.cdf_examples.specs.WrongPuts.{two_levels_file, widened_file}
 use Rattle.cdf_examples.proofs.Tests.{keeps_rules}
 use Rattle.cdf_examples.proofs.Deciding.{acts_follow_if, all_keep_if}
-use Rattle.cdf_edits.specs.Commands.Keeps.{allowances}
-use Rattle.cdf_format.specs.Owners.{owned}
 use Rattle.cdf_edits.specs.Commands.Room.{entries_in, entries_below, widest, widest_below, nodes_above}
 use Rattle.cdf_examples.specs.Scripts.{run_script}
 use Rattle.std.specs.Fmt.{digits}
-use Rattle.cdf_edits.specs.Commands.Does.{Does}
 use Rattle.cdf_examples.proofs.Deciding.{of_variable, nodes_freed_if, nodes_if}
-use Rattle.cdf_edits.specs.Commands.Puts.{PutsRecord}
 use Rattle.cdf_examples.proofs.Deciding.{of_four}
-use Rattle.cdf_edits.specs.Index.Blocks.{first_written, record_length}
-use Rattle.cdf_edits.specs.Index.Written.{stored_bytes}
 use Rattle.std.proofs.Common.{◌<◌}
-use Rattle.cdf_edits.specs.Space.Acts.{ActsFollow}
-use Rattle.cdf_edits.specs.Commands.Allowances.{AllKeep}
+use Rattle.cdf_examples.proofs.Common.{Took, block, lower, no_entry, VariableShape, one_node, t_shape, records_index, records_data, put_t, found_z, allowances, owned, Does, PutsRecord, first_written, record_length, stored_bytes, ActsFollow, AllKeep}
 use Rattle.cdf_examples.proofs.admitted.entry_widened.Goals as goal
 
 follow : ActsFollow two_levels_file widened_file (Took 1056 28 ∷ [])

@@ -2,42 +2,23 @@ use Rattle.std.proofs.Common.{refl, ◌≡◌, [], ◌∷◌, codes, pos, false,
 use Rattle.cdf_edits.specs.Index.Blocks.{firsts_of, entry_firsts, cover}
 use Rattle.cdf_edits.specs.Index.Grown.{new_room, with_leaf, new_room_below, with_lower, cut_nodes, cut_entries, outline, entries_outline}
 use Rattle.cdf_edits.specs.Index.Cut.{sized_nodes, sized_nodes_below}
-use Rattle.cdf_edits.specs.Space.Acts.{Gave}
 use Rattle.cdf_format.specs.Chains.{chain_on}
 use Rattle.cdf_format.specs.Content.{content}
-use Rattle.cdf_format.specs.Index.{nodes_of, lower_nodes, leaves_of, entry_leaves, node, block, no_entry}
+use Rattle.cdf_format.specs.Index.{nodes_of, lower_nodes, leaves_of, entry_leaves}
 use Rattle.cdf_format.specs.IndexRules.{nodes_rows, used_rows}
 use Rattle.cdf_format.specs.IndexWalk.{entries_on, nodes_on, levels_on}
-use Rattle.cdf_format.specs.Shape.{shape, VariableShape}
+use Rattle.cdf_format.specs.Shape.{shape}
 use Rattle.cdf_format.specs.Tiles.{tiles_from}
-use Rattle.cdf_format.specs.Fields.{size_at}
-use Rattle.cdf_examples.specs.OneVariable.{one_node}
-use Rattle.cdf_examples.specs.RecordFiles.{t_data, t_shape, records_index, high_first, pad_high_first}
-use Rattle.cdf_examples.specs.WrongPuts.{found_z}
 use Rattle.cdf_examples.proofs.Tests.{keeps_rules}
-use Rattle.cdf_examples.specs.WrongCuts.{delete_t, two_nodes_file, node_freed_file}
-use Rattle.std.specs.Prelude.{nat_le}
-use Rattle.std.specs.Prelude.{◌&&◌}
+use Rattle.cdf_examples.specs.WrongCuts.{two_nodes_file, node_freed_file}
 use Rattle.cdf_examples.proofs.Deciding.{acts_follow_if, all_keep_if}
-use Rattle.cdf_edits.specs.Commands.Keeps.{allowances}
-use Rattle.cdf_format.specs.Owners.{owned}
 use Rattle.cdf_edits.specs.Commands.Room.{entries_in, entries_below, widest, widest_below, nodes_above}
 use Rattle.cdf_examples.specs.Scripts.{run_script}
 use Rattle.std.specs.Fmt.{digits}
-use Rattle.cdf_edits.specs.Commands.Does.{Does}
 use Rattle.cdf_examples.proofs.Deciding.{of_variable, nodes_freed_if, nodes_if, given_if, each_if}
-use Rattle.cdf_edits.specs.Commands.Cuts.{DeletesRecords}
-use Rattle.cdf_edits.specs.Commands.Allowances.{no_fields}
-use Rattle.cdf_edits.specs.Index.Written.{is_taken_at}
 use Rattle.std.proofs.Common.{not}
-use Rattle.cdf_edits.specs.Index.Blocks.{record_length}
-use Rattle.cdf_edits.specs.Index.Written.{stored_bytes}
-use Rattle.cdf_edits.specs.Commands.Cuts.{is_deleted, number_after_cut}
-use Rattle.cdf_edits.specs.Commands.Room.{vxr_bytes}
-use Rattle.cdf_format.specs.Index.{room_at}
+use Rattle.cdf_examples.proofs.Common.{Gave, node, block, no_entry, VariableShape, size_at, one_node, t_data, t_shape, records_index, high_first, pad_high_first, found_z, delete_t, nat_le, ◌&&◌, allowances, owned, Does, DeletesRecords, no_fields, is_taken_at, record_length, stored_bytes, is_deleted, number_after_cut, vxr_bytes, room_at, ActsFollow, AllKeep}
 use Rattle.cdf_examples.proofs.Deciding.{first_or_second, not_kept}
-use Rattle.cdf_edits.specs.Space.Acts.{ActsFollow}
-use Rattle.cdf_edits.specs.Commands.Allowances.{AllKeep}
 use Rattle.cdf_examples.proofs.admitted.node_freed.Goals as goal
 
 follow : ActsFollow two_nodes_file node_freed_file (Gave 916 28 ∷ Gave 944 140 ∷ [])

@@ -7,28 +7,19 @@ use Rattle.cdf_format.specs.Content.{content}
 use Rattle.cdf_format.specs.Index.{nodes_of, lower_nodes, leaves_of, entry_leaves}
 use Rattle.cdf_format.specs.IndexRules.{nodes_rows, used_rows}
 use Rattle.cdf_format.specs.IndexWalk.{entries_on, nodes_on, levels_on}
-use Rattle.cdf_format.specs.Shape.{shape, VariableShape}
+use Rattle.cdf_format.specs.Shape.{shape}
 use Rattle.cdf_format.specs.Tiles.{tiles_from}
-use Rattle.cdf_examples.specs.RecordFiles.{t_data, t_shape, records_index, high_first}
-use Rattle.cdf_examples.specs.WrongPuts.{put_t, found_z, first_put_file, put_again_file}
+use Rattle.cdf_examples.specs.WrongPuts.{first_put_file, put_again_file}
 use Rattle.cdf_examples.proofs.Tests.{keeps_rules}
 use Rattle.cdf_examples.proofs.Deciding.{acts_follow_if, all_keep_if}
-use Rattle.cdf_edits.specs.Commands.Keeps.{allowances}
-use Rattle.cdf_format.specs.Owners.{owned}
 use Rattle.cdf_edits.specs.Commands.Room.{entries_in, entries_below, widest, widest_below, nodes_above}
 use Rattle.cdf_examples.specs.Scripts.{run_script}
 use Rattle.std.specs.Fmt.{digits}
-use Rattle.cdf_edits.specs.Commands.Does.{Does}
 use Rattle.cdf_examples.proofs.Deciding.{of_variable, nodes_freed_if, nodes_if}
-use Rattle.cdf_edits.specs.Commands.Puts.{PutsRecord}
 use Rattle.cdf_examples.proofs.Deciding.{of_four}
 use Rattle.cdf_examples.proofs.BytesKept.{changed_by}
-use Rattle.cdf_edits.specs.Commands.Puts.{max_rec_touches, written_in}
-use Rattle.cdf_edits.specs.Index.Blocks.{first_written, record_length}
-use Rattle.cdf_edits.specs.Index.Written.{stored_bytes}
 use Rattle.std.proofs.Common.{◌<◌}
-use Rattle.cdf_edits.specs.Space.Acts.{ActsFollow}
-use Rattle.cdf_edits.specs.Commands.Allowances.{AllKeep}
+use Rattle.cdf_examples.proofs.Common.{VariableShape, t_data, t_shape, records_index, high_first, put_t, found_z, allowances, owned, Does, PutsRecord, max_rec_touches, written_in, first_written, record_length, stored_bytes, ActsFollow, AllKeep}
 use Rattle.cdf_model.specs.declared.kinds.Kind.TheVariants as kinds
 use Rattle.cdf_examples.proofs.admitted.record_put_again.Goals as goal
 

@@ -1,40 +1,24 @@
 use Rattle.std.proofs.Common.{refl, ◌≡◌, [], ◌∷◌, codes, pos, replicate, false, true, Bool, arith}
-use Rattle.cdf_model.specs.DataSet.{Variable}
 use Rattle.cdf_edits.specs.Index.Blocks.{firsts_of, entry_firsts, cover}
 use Rattle.cdf_edits.specs.Index.Grown.{new_room, with_leaf, new_room_below, with_lower, cut_nodes, cut_entries, outline, entries_outline}
 use Rattle.cdf_edits.specs.Index.Cut.{sized_nodes, sized_nodes_below}
 use Rattle.cdf_format.specs.Chains.{chain_on}
 use Rattle.cdf_format.specs.Content.{content}
-use Rattle.cdf_format.specs.Index.{nodes_of, lower_nodes, leaves_of, entry_leaves, block, no_entry}
+use Rattle.cdf_format.specs.Index.{nodes_of, lower_nodes, leaves_of, entry_leaves}
 use Rattle.cdf_format.specs.IndexRules.{nodes_rows, used_rows}
 use Rattle.cdf_format.specs.IndexWalk.{entries_on, nodes_on, levels_on}
-use Rattle.cdf_format.specs.Shape.{shape, VariableShape}
+use Rattle.cdf_format.specs.Shape.{shape}
 use Rattle.cdf_format.specs.Tiles.{tiles_from}
-use Rattle.cdf_format.specs.Fields.{size_at}
-use Rattle.cdf_examples.specs.OneVariable.{one_node}
-use Rattle.cdf_examples.specs.RecordFiles.{t_shape}
-use Rattle.cdf_examples.specs.WrongPuts.{found_z}
 use Rattle.cdf_examples.proofs.Tests.{keeps_rules}
-use Rattle.cdf_examples.specs.WrongCuts.{delete_u, u_data, two_of_forty_file, one_of_forty_file}
+use Rattle.cdf_examples.specs.WrongCuts.{two_of_forty_file, one_of_forty_file}
 use Rattle.cdf_examples.proofs.Deciding.{acts_follow_if, all_keep_if}
-use Rattle.cdf_edits.specs.Commands.Keeps.{allowances}
-use Rattle.cdf_format.specs.Owners.{owned}
 use Rattle.cdf_edits.specs.Commands.Room.{entries_in, entries_below, widest, widest_below, nodes_above}
 use Rattle.cdf_examples.specs.Scripts.{run_script}
 use Rattle.std.specs.Fmt.{digits}
-use Rattle.cdf_edits.specs.Commands.Does.{Does}
 use Rattle.cdf_examples.proofs.Deciding.{of_variable, nodes_freed_if, nodes_if, each_if}
-use Rattle.cdf_edits.specs.Commands.Cuts.{DeletesRecords}
-use Rattle.cdf_edits.specs.Index.Written.{is_taken_at}
 use Rattle.std.proofs.Common.{not}
+use Rattle.cdf_examples.proofs.Common.{Variable, block, no_entry, VariableShape, size_at, one_node, t_shape, found_z, delete_u, u_data, allowances, owned, Does, DeletesRecords, is_taken_at, record_length, stored_bytes, is_deleted, number_after_cut, vxr_bytes, room_at, ActsFollow, AllKeep}
 use Rattle.cdf_examples.proofs.Deciding.{same_if, of_two}
-use Rattle.cdf_edits.specs.Index.Blocks.{record_length}
-use Rattle.cdf_edits.specs.Index.Written.{stored_bytes}
-use Rattle.cdf_edits.specs.Commands.Cuts.{is_deleted, number_after_cut}
-use Rattle.cdf_edits.specs.Commands.Room.{vxr_bytes}
-use Rattle.cdf_format.specs.Index.{room_at}
-use Rattle.cdf_edits.specs.Space.Acts.{ActsFollow}
-use Rattle.cdf_edits.specs.Commands.Allowances.{AllKeep}
 use Rattle.cdf_examples.proofs.admitted.second_deleted.Goals as goal
 
 follow : ActsFollow two_of_forty_file one_of_forty_file ([])

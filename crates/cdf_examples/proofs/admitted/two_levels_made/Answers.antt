@@ -1,17 +1,12 @@
 use Rattle.std.proofs.Common.{refl, sym, ap, subst, ◌≡◌, ◌⊎◌, ◌≤◌, ℕ, zero, suc, ◌+◌, List, [], ◌∷◌, length, map, codes, inl, inr, arith}
+use Rattle.cdf_examples.proofs.Common.{AllKeep, FreedStay, no_fields, allowances, MakesIndex, FullFromLeft, UnusedEntries, NodeSpareStays, Act, Took, Gave, ActsFollow, content_of, owned, Shape, shape, reindex_w, w_shape, wide_node_index}
 use Rattle.std.specs.List.{sum}
-use Rattle.cdf_edits.specs.Commands.Allowances.{AllKeep, FreedStay, no_fields}
-use Rattle.cdf_edits.specs.Commands.Keeps.{allowances}
-use Rattle.cdf_edits.specs.Commands.Reindex.{MakesIndex, IsPyramid, FullFromLeft, nodes_at, nodes_below, AreTight, EntriesTight}
+use Rattle.cdf_edits.specs.Commands.Reindex.{IsPyramid, nodes_at, nodes_below, AreTight, EntriesTight}
 use Rattle.cdf_edits.specs.Commands.Room.{room_in, room, nodes_above}
-use Rattle.cdf_edits.specs.Index.Written.{UnusedEntries, NodeSpareStays}
-use Rattle.cdf_edits.specs.Space.Acts.{Act, Took, Gave, ActsFollow}
 use Rattle.cdf_format.specs.Chains.{chain_on}
-use Rattle.cdf_format.specs.Content.{content_of, content}
+use Rattle.cdf_format.specs.Content.{content}
 use Rattle.cdf_format.specs.Index.{nodes_of, lower_nodes, leaves_of, entry_leaves}
-use Rattle.cdf_format.specs.Owners.{owned}
-use Rattle.cdf_format.specs.Shape.{Shape, shape}
-use Rattle.cdf_examples.specs.WideIndexes.{reindex_w, w_shape, wide_node_file, wide_node_index, two_levels_made_file, two_levels_made_index}
+use Rattle.cdf_examples.specs.WideIndexes.{wide_node_file, two_levels_made_file, two_levels_made_index}
 use Rattle.cdf_examples.proofs.Deciding.{follow_in, keep_in, bare_if, freed_in}
 use Rattle.cdf_examples.proofs.Reindexing.{reindexes}
 use Rattle.cdf_examples.proofs.Walking.{shape_by}

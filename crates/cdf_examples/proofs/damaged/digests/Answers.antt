@@ -1,4 +1,5 @@
 use Rattle.std.proofs.Common.{◌≡◌, ◌≢◌, ℕ, Bool, true, false, not, ◌&&◌, ◌||◌, ◌==◌, List, [], ◌∷◌, ◌++◌, refl, sym, ◌∙◌, ap, subst, inl, inr}
+use Rattle.cdf_examples.proofs.Common.{sealed, BreaksFirst, checksum_digest, usual_digest}
 use Rattle.std.proofs.lemmas.Bool.Decides.{eqb_tells}
 use Rattle.md5.specs.Md5.{md5, digest_bytes, hash_after, compress, rounds, block_words}
 use Rattle.cdf_base.specs.Bytes.{put}
@@ -6,12 +7,10 @@ use Rattle.cdf_format.specs.Chains.{chain_on}
 use Rattle.cdf_format.specs.Index.{nodes_of, lower_nodes, leaves_of, entry_leaves}
 use Rattle.cdf_format.specs.IndexRules.{nodes_rows, used_rows}
 use Rattle.cdf_format.specs.IndexWalk.{entries_on, nodes_on, levels_on}
-use Rattle.cdf_format.specs.Sealed.{sealed}
 use Rattle.cdf_format.specs.Shape.{shape}
 use Rattle.cdf_format.specs.Tiles.{tiles_from}
-use Rattle.cdf_examples.specs.Asked.{BreaksFirst}
-use Rattle.cdf_examples.specs.ChecksumFile.{checksum_image, checksum_digest}
-use Rattle.cdf_examples.specs.Usual.{usual_image, usual_digest}
+use Rattle.cdf_examples.specs.ChecksumFile.{checksum_image}
+use Rattle.cdf_examples.specs.Usual.{usual_image}
 use Rattle.cdf_examples.proofs.Digests.{checksum_sealed, usual_sealed}
 use Rattle.cdf_examples.proofs.Tests.{breaks, breaks_first}
 use Rattle.cdf_examples.proofs.damaged.digests.Goals as goal

@@ -1,20 +1,17 @@
 use Rattle.std.proofs.Common.{refl, subst, [], ◌∷◌, negsuc}
+use Rattle.cdf_examples.proofs.Common.{space_before, AreActs, no_node, VariableShape, Refused, t_data, t_shape, found_z, compress_t}
 use Rattle.cdf_edits.specs.Index.Grown.{cut_nodes, cut_entries, outline, entries_outline}
 use Rattle.cdf_edits.specs.Index.Cut.{sized_nodes, sized_nodes_below}
-use Rattle.cdf_edits.specs.Space.Acts.{space_before, AreActs}
 use Rattle.cdf_format.specs.Chains.{chain_on}
 use Rattle.cdf_format.specs.Content.{content}
-use Rattle.cdf_format.specs.Index.{nodes_of, lower_nodes, leaves_of, entry_leaves, no_node}
+use Rattle.cdf_format.specs.Index.{nodes_of, lower_nodes, leaves_of, entry_leaves}
 use Rattle.cdf_format.specs.IndexRules.{nodes_rows, used_rows}
 use Rattle.cdf_format.specs.IndexWalk.{entries_on, nodes_on, levels_on}
-use Rattle.cdf_format.specs.Shape.{shape, VariableShape}
+use Rattle.cdf_format.specs.Shape.{shape}
 use Rattle.cdf_format.specs.Tiles.{tiles_from}
-use Rattle.cdf_examples.specs.Claimed.{Refused}
-use Rattle.cdf_examples.specs.RecordFiles.{t_data, t_shape}
-use Rattle.cdf_examples.specs.WrongPuts.{found_z}
 use Rattle.cdf_examples.proofs.Tests.{keeps_rules}
 use Rattle.cdf_examples.proofs.Refusing.{unequal}
-use Rattle.cdf_examples.specs.WrongCuts.{uncompressed_file, compress_t, cpr_placed_file, cpr_at_end_file}
+use Rattle.cdf_examples.specs.WrongCuts.{uncompressed_file, cpr_placed_file, cpr_at_end_file}
 use Rattle.cdf_examples.proofs.CutLemmas.{not_at_end}
 use Rattle.cdf_examples.proofs.refused_cuts.cpr_at_end.Goals as goal
 

@@ -1,24 +1,18 @@
 use Rattle.std.proofs.Common.{refl, inl, subst, List, [], ◌∷◌, pos, false}
+use Rattle.cdf_examples.proofs.Common.{Act, Gave, Among, space_before, loose_records, after_act, block, no_entry, size_at, Refused, one_node, t_data, t_shape, high_first, found_z, delete_var_t, fold}
 use Rattle.cdf_edits.specs.Index.Grown.{cut_nodes, cut_entries, outline, entries_outline}
 use Rattle.cdf_edits.specs.Index.Cut.{sized_nodes, sized_nodes_below}
-use Rattle.cdf_edits.specs.Space.Acts.{Act, Gave, Among, space_before, loose_records, after_act}
 use Rattle.cdf_format.specs.Chains.{chain_on}
 use Rattle.cdf_format.specs.Content.{content}
-use Rattle.cdf_format.specs.Index.{nodes_of, lower_nodes, leaves_of, entry_leaves, block, no_entry}
+use Rattle.cdf_format.specs.Index.{nodes_of, lower_nodes, leaves_of, entry_leaves}
 use Rattle.cdf_format.specs.IndexRules.{nodes_rows, used_rows}
 use Rattle.cdf_format.specs.IndexWalk.{entries_on, nodes_on, levels_on}
 use Rattle.cdf_format.specs.Shape.{shape}
 use Rattle.cdf_format.specs.Tiles.{tiles_from}
-use Rattle.cdf_format.specs.Fields.{size_at}
-use Rattle.cdf_examples.specs.Claimed.{Refused}
-use Rattle.cdf_examples.specs.OneVariable.{one_node}
-use Rattle.cdf_examples.specs.RecordFiles.{t_data, t_shape, high_first}
-use Rattle.cdf_examples.specs.WrongPuts.{found_z}
 use Rattle.cdf_examples.proofs.Tests.{keeps_rules}
 use Rattle.cdf_examples.proofs.Refusing.{not_among}
-use Rattle.cdf_examples.specs.WrongCuts.{small_block_file, delete_var_t, var_deleted_file, two_pieces_file}
+use Rattle.cdf_examples.specs.WrongCuts.{small_block_file, var_deleted_file, two_pieces_file}
 use Rattle.cdf_examples.proofs.Refusing.{each_in}
-use Rattle.std.specs.List.{fold}
 use Rattle.cdf_examples.proofs.refused_cuts.freed_in_pieces.Goals as goal
 
 refused : Refused small_block_file delete_var_t two_pieces_file

@@ -1,29 +1,19 @@
 use Rattle.std.proofs.Common.{refl, inr, sym, subst, ◌≡◌, List, [], ◌∷◌, false, Bool, arith}
+use Rattle.cdf_examples.proofs.Common.{Act, taken, Nodes, block, no_entry, VariableShape, Refused, one_node, t_shape, records_index, records_data, found_z, delete_t, Each, IsNeeded, nat_le, nat_lt, ◌&&◌, if◌then◌else◌, Keeps, Anything, Only, uir_next_uir, uir_prev_uir}
 use Rattle.cdf_edits.specs.Index.Grown.{cut_nodes, cut_entries, outline, entries_outline}
 use Rattle.cdf_edits.specs.Index.Cut.{sized_nodes, sized_nodes_below}
-use Rattle.cdf_edits.specs.Space.Acts.{Act, taken}
 use Rattle.cdf_format.specs.Chains.{chain_on}
 use Rattle.cdf_format.specs.Content.{content}
-use Rattle.cdf_format.specs.Index.{nodes_of, lower_nodes, leaves_of, entry_leaves, Nodes, block, no_entry}
+use Rattle.cdf_format.specs.Index.{nodes_of, lower_nodes, leaves_of, entry_leaves}
 use Rattle.cdf_format.specs.IndexRules.{nodes_rows, used_rows}
 use Rattle.cdf_format.specs.IndexWalk.{entries_on, nodes_on, levels_on}
-use Rattle.cdf_format.specs.Shape.{shape, VariableShape}
+use Rattle.cdf_format.specs.Shape.{shape}
 use Rattle.cdf_format.specs.Tiles.{tiles_from}
-use Rattle.cdf_examples.specs.Claimed.{Refused}
-use Rattle.cdf_examples.specs.OneVariable.{one_node}
-use Rattle.cdf_examples.specs.RecordFiles.{t_shape, records_index, records_data}
-use Rattle.cdf_examples.specs.WrongPuts.{found_z}
 use Rattle.cdf_examples.proofs.Tests.{keeps_rules}
 use Rattle.cdf_examples.proofs.Refusing.{unequal}
-use Rattle.cdf_examples.specs.WrongCuts.{delete_t, spare_behind_file, spare_stays_file, spare_overwritten_file}
+use Rattle.cdf_examples.specs.WrongCuts.{spare_behind_file, spare_stays_file, spare_overwritten_file}
 use Rattle.cdf_examples.proofs.CutLemmas.{only_cut, none_taken}
-use Rattle.cdf_format.specs.Shape.{Each}
-use Rattle.cdf_edits.specs.Index.Cut.{IsNeeded}
 use Rattle.cdf_edits.specs.Commands.Allowances.{is_taken}
-use Rattle.std.specs.Prelude.{nat_le, nat_lt}
-use Rattle.std.specs.Prelude.{◌&&◌, if◌then◌else◌}
-use Rattle.cdf_edits.specs.Commands.Allowances.{Keeps, Anything, Only}
-use Rattle.cdf_format.specs.Records.{uir_next_uir, uir_prev_uir}
 use Rattle.cdf_examples.proofs.refused_cuts.listed_overwritten.Goals as goal
 
 refused : Refused spare_behind_file (delete_t 3 3) spare_overwritten_file

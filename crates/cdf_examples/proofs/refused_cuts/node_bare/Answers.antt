@@ -1,23 +1,18 @@
 use Rattle.std.proofs.Common.{refl, sym, ap, ◌∙◌, [], ◌∷◌, pos, false}
+use Rattle.cdf_examples.proofs.Common.{taken, node, Nodes, block, no_entry, VariableShape, Refused, one_node, t_data, t_shape, high_first, pad_high_first, found_z, delete_t, map}
 use Rattle.cdf_edits.specs.Index.Grown.{cut_nodes, cut_entries, outline, entries_outline}
 use Rattle.cdf_edits.specs.Index.Cut.{sized_nodes, sized_nodes_below}
-use Rattle.cdf_edits.specs.Space.Acts.{taken}
 use Rattle.cdf_format.specs.Chains.{chain_on}
 use Rattle.cdf_format.specs.Content.{content}
-use Rattle.cdf_format.specs.Index.{nodes_of, lower_nodes, leaves_of, entry_leaves, node, Nodes, block, no_entry}
+use Rattle.cdf_format.specs.Index.{nodes_of, lower_nodes, leaves_of, entry_leaves}
 use Rattle.cdf_format.specs.IndexRules.{nodes_rows, used_rows}
 use Rattle.cdf_format.specs.IndexWalk.{entries_on, nodes_on, levels_on}
-use Rattle.cdf_format.specs.Shape.{shape, VariableShape}
+use Rattle.cdf_format.specs.Shape.{shape}
 use Rattle.cdf_format.specs.Tiles.{tiles_from}
-use Rattle.cdf_examples.specs.Claimed.{Refused}
-use Rattle.cdf_examples.specs.OneVariable.{one_node}
-use Rattle.cdf_examples.specs.RecordFiles.{t_data, t_shape, high_first, pad_high_first}
-use Rattle.cdf_examples.specs.WrongPuts.{found_z}
 use Rattle.cdf_examples.proofs.Tests.{keeps_rules}
 use Rattle.cdf_examples.proofs.Refusing.{unequal}
-use Rattle.cdf_examples.specs.WrongCuts.{delete_t, two_nodes_file, node_freed_file, bare_node_file}
+use Rattle.cdf_examples.specs.WrongCuts.{two_nodes_file, node_freed_file, bare_node_file}
 use Rattle.cdf_examples.proofs.Refusing.{chain_count}
-use Rattle.std.specs.Prelude.{map}
 use Rattle.cdf_examples.proofs.refused_cuts.node_bare.Goals as goal
 
 refused : Refused two_nodes_file (delete_t 4 7) bare_node_file

@@ -1,23 +1,19 @@
 use Rattle.std.proofs.Common.{refl, sym, ap, ◌∙◌, false}
+use Rattle.cdf_examples.proofs.Common.{taken, Nodes, block, no_entry, VariableShape, Refused, one_node, t_shape, records_index, records_data, found_z, delete_t, map}
 use Rattle.cdf_edits.specs.Index.Grown.{cut_nodes, cut_entries, outline, entries_outline}
 use Rattle.cdf_edits.specs.Index.Cut.{sized_nodes, sized_nodes_below}
-use Rattle.cdf_edits.specs.Space.Acts.{taken}
 use Rattle.cdf_format.specs.Chains.{chain_on}
 use Rattle.cdf_format.specs.Content.{content}
-use Rattle.cdf_format.specs.Index.{nodes_of, lower_nodes, leaves_of, entry_leaves, Nodes, block, no_entry}
+use Rattle.cdf_format.specs.Index.{nodes_of, lower_nodes, leaves_of, entry_leaves}
 use Rattle.cdf_format.specs.IndexRules.{nodes_rows, used_rows}
 use Rattle.cdf_format.specs.IndexWalk.{entries_on, nodes_on, levels_on}
-use Rattle.cdf_format.specs.Shape.{shape, VariableShape}
+use Rattle.cdf_format.specs.Shape.{shape}
 use Rattle.cdf_format.specs.Tiles.{tiles_from}
-use Rattle.cdf_examples.specs.Claimed.{Refused}
-use Rattle.cdf_examples.specs.OneVariable.{one_node}
-use Rattle.cdf_examples.specs.RecordFiles.{records_file, t_shape, records_index, records_data}
-use Rattle.cdf_examples.specs.WrongPuts.{found_z}
+use Rattle.cdf_examples.specs.RecordFiles.{records_file}
 use Rattle.cdf_examples.proofs.Tests.{keeps_rules}
 use Rattle.cdf_examples.proofs.Refusing.{unequal}
-use Rattle.cdf_examples.specs.WrongCuts.{delete_t, last_deleted_file, fewer_entries_file}
+use Rattle.cdf_examples.specs.WrongCuts.{last_deleted_file, fewer_entries_file}
 use Rattle.cdf_examples.proofs.Refusing.{first_room}
-use Rattle.std.specs.Prelude.{map}
 use Rattle.cdf_examples.proofs.refused_cuts.node_narrower.Goals as goal
 
 refused : Refused records_file (delete_t 3 3) fewer_entries_file

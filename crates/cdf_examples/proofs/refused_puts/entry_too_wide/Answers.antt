@@ -1,16 +1,14 @@
 use Rattle.std.proofs.Common.{refl, ap, codes, false}
+use Rattle.cdf_examples.proofs.Common.{block, lower, no_entry, VariableShape, Refused, one_node, t_shape, records_index, records_data, put_t, found_z}
 use Rattle.cdf_edits.specs.Index.Grown.{new_room, with_leaf, new_room_below, with_lower}
 use Rattle.cdf_format.specs.Chains.{chain_on}
 use Rattle.cdf_format.specs.Content.{content}
-use Rattle.cdf_format.specs.Index.{nodes_of, lower_nodes, leaves_of, entry_leaves, block, lower, no_entry}
+use Rattle.cdf_format.specs.Index.{nodes_of, lower_nodes, leaves_of, entry_leaves}
 use Rattle.cdf_format.specs.IndexRules.{nodes_rows, used_rows}
 use Rattle.cdf_format.specs.IndexWalk.{entries_on, nodes_on, levels_on}
-use Rattle.cdf_format.specs.Shape.{shape, VariableShape}
+use Rattle.cdf_format.specs.Shape.{shape}
 use Rattle.cdf_format.specs.Tiles.{tiles_from}
-use Rattle.cdf_examples.specs.Claimed.{Refused}
-use Rattle.cdf_examples.specs.OneVariable.{one_node}
-use Rattle.cdf_examples.specs.RecordFiles.{t_shape, records_index, records_data}
-use Rattle.cdf_examples.specs.WrongPuts.{put_t, found_z, two_levels_file, widened_file, too_wide_file}
+use Rattle.cdf_examples.specs.WrongPuts.{two_levels_file, widened_file, too_wide_file}
 use Rattle.cdf_examples.proofs.Tests.{keeps_rules}
 use Rattle.cdf_examples.proofs.Refusing.{unequal, first_last}
 use Rattle.cdf_examples.proofs.PutLemmas.{first_take, puts_only}

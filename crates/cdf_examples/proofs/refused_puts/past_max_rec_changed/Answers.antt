@@ -1,15 +1,14 @@
 use Rattle.std.proofs.Common.{refl, inr, ap, [], ◌∷◌, codes, pos, arith}
+use Rattle.cdf_examples.proofs.Common.{VariableShape, Refused, t_data, t_shape, records_index, high_first, put_t, found_z}
 use Rattle.cdf_edits.specs.Index.Grown.{new_room, with_leaf}
 use Rattle.cdf_format.specs.Chains.{chain_on}
 use Rattle.cdf_format.specs.Content.{content}
 use Rattle.cdf_format.specs.Index.{nodes_of, lower_nodes, leaves_of, entry_leaves}
 use Rattle.cdf_format.specs.IndexRules.{nodes_rows, used_rows}
 use Rattle.cdf_format.specs.IndexWalk.{entries_on, nodes_on, levels_on}
-use Rattle.cdf_format.specs.Shape.{shape, VariableShape}
+use Rattle.cdf_format.specs.Shape.{shape}
 use Rattle.cdf_format.specs.Tiles.{tiles_from}
-use Rattle.cdf_examples.specs.Claimed.{Refused}
-use Rattle.cdf_examples.specs.RecordFiles.{t_data, t_shape, records_index, high_first}
-use Rattle.cdf_examples.specs.WrongPuts.{put_t, found_z, first_put_file, put_again_file, past_changed_file}
+use Rattle.cdf_examples.specs.WrongPuts.{first_put_file, put_again_file, past_changed_file}
 use Rattle.cdf_examples.proofs.Tests.{keeps_rules}
 use Rattle.cdf_examples.proofs.Refusing.{unequal, first_byte}
 use Rattle.cdf_examples.proofs.PutLemmas.{puts_only}

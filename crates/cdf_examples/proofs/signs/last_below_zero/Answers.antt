@@ -1,17 +1,16 @@
 use Rattle.std.proofs.Common.{◌≡◌, ℕ, Bool, true, false, true≢false, ◌&&◌, ◌||◌, ◌==◌, not, ◌++◌, List, [], ◌∷◌, refl, sym, inl, inr, eq-eqb}
+use Rattle.cdf_examples.proofs.Common.{Row, IsBroken, changed, usual_digest}
 use Rattle.cdf_base.specs.Bytes.{put}
 use Rattle.cdf_format.specs.Chains.{chain_on}
 use Rattle.cdf_format.specs.Fields.{with_field, with_name}
 use Rattle.cdf_format.specs.Index.{nodes_of, lower_nodes, leaves_of, entry_leaves}
 use Rattle.cdf_format.specs.IndexRules.{nodes_rows, used_rows}
 use Rattle.cdf_format.specs.IndexWalk.{entries_on, nodes_on, levels_on}
-use Rattle.cdf_format.specs.Rules.{Row, IsBroken}
 use Rattle.cdf_format.specs.Shape.{shape}
 use Rattle.cdf_format.specs.Tiles.{tiles_from}
 use Rattle.cdf_format.proofs.Tests.{both}
-use Rattle.cdf_examples.specs.Damage.{changed}
 use Rattle.cdf_examples.specs.Signs.{HoldsEverywhere, index_rules, last_below_zero, last_broken}
-use Rattle.cdf_examples.specs.Usual.{usual_image, usual_digest}
+use Rattle.cdf_examples.specs.Usual.{usual_image}
 use Rattle.cdf_examples.proofs.Digests.{usual_breaks}
 use Rattle.cdf_examples.proofs.Tests.{each_breaks}
 use Rattle.cdf_examples.proofs.signs.last_below_zero.Goals as goal

@@ -1,11 +1,8 @@
 use Rattle.std.proofs.Common.{[], ◌∷◌, refl, arith}
-use Rattle.cdf_format.proofs.ChainsLemmas.{chain_sound}
-use Rattle.cdf_format.proofs.TilesLemmas.{tiling_sound}
+use Rattle.cdf_examples.proofs.Common.{chain_sound, tiling_sound, gdr_uir_head, uir_type}
 use Rattle.cdf_format.specs.Chains.{chain_on}
 use Rattle.cdf_format.specs.IndexWalk.{entries_on, nodes_on, levels_on}
 use Rattle.cdf_edits.specs.Space.Placement.{giving}
-use Rattle.cdf_format.specs.Records.{gdr_uir_head}
-use Rattle.cdf_format.specs.RecordTypes.{uir_type}
 use Rattle.cdf_format.specs.Shape.{shape}
 use Rattle.cdf_format.specs.Tiles.{tiles_from}
 use Rattle.cdf_examples.specs.DeletedVariable.{two_variables}

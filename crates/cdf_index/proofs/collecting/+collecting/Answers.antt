@@ -1,12 +1,6 @@
 use Rattle.std.proofs.Common.{◌<◌, ◌+◌, ◌-◌, ◌++◌, ℕ, List, [], ◌∷◌, length, arith, ap, sym, subst, ◌∙◌}
-use Rattle.cdf_area.proofs.Calls.{read_more, read_failed, read_without_memory}
-use Rattle.cdf_area.specs.Calls.{Stays}
-use Rattle.cdf_format.specs.Chains.{next_of}
-use Rattle.cdf_format.specs.Index.{room_at, used_count}
-use Rattle.cdf_index.specs.Finding.{NodeInside}
-use Rattle.cdf_index.specs.Sight.{IsHead}
-use Rattle.cdf_index.specs.declared.entries.Entry.{Entry}
-use Rattle.cdf_index.specs.Whole.{through_entries, with_block, with_node}
+use Rattle.cdf_index.proofs.Common.{read_more, read_without_memory, Stays, next_of, room_at, used_count, NodeInside, IsHead, Entry, through_entries, with_block, with_node}
+use Rattle.cdf_area.proofs.Calls.{read_failed}
 use Rattle.cdf_index.proofs.Looking.{read_type}
 use Rattle.cdf_index.proofs.Searching.{inside_now}
 use Rattle.cdf_index.proofs.ChainWalk.{Gone, walk_end, walk_over, walk_node, walk_entries, walk_on, below_end, lower_chain, past_block, past_lower, entries_now, chain_now, entries_told, chain_told}

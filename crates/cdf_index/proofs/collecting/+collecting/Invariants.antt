@@ -1,6 +1,5 @@
 use Rattle.std.proofs.Common.{◌+◌, ◌*◌}
-use Rattle.cdf_area.specs.Calls.{Stays}
-use Rattle.cdf_index.specs.Whole.{with_block, with_node}
+use Rattle.cdf_index.proofs.Common.{Stays, with_block, with_node}
 use Rattle.cdf_index.proofs.ChainWalk.{Walked, Gone}
 use Rattle.cdf_index.proofs.collecting.+collecting.Given as goal
 

@@ -1,7 +1,5 @@
 use Rattle.std.proofs.Common.{◌≡◌, ◌∙◌, ℕ, List, [], ap}
-use Rattle.cdf_index.specs.Finding.{index_at}
-use Rattle.cdf_index.specs.Whole.{through, with_block, with_node}
-use Rattle.cdf_index.specs.declared.entries.Entry.{Entry}
+use Rattle.cdf_index.proofs.Common.{index_at, through, with_block, with_node, Entry}
 use Rattle.cdf_index.proofs.Ascending.{index_stands}
 use Rattle.cdf_index.proofs.ChainWalk.{whole_chain}
 use Rattle.cdf_index.proofs.Collected.{pair_is, parts_are}

@@ -1,7 +1,5 @@
 use Rattle.std.proofs.Common.{◌∙◌, ◌++◌, ℕ, List, ap, ap₂}
-use Rattle.cdf_format.specs.Index.{leaves_of}
-use Rattle.cdf_index.specs.Finding.{index_at}
-use Rattle.cdf_index.specs.Whole.{places_in}
+use Rattle.cdf_index.proofs.Common.{leaves_of, index_at, places_in}
 use Rattle.cdf_index.proofs.Collected.{places_of_words}
 use Rattle.cdf_index.proofs.collecting.index_records.Goals as goal
 

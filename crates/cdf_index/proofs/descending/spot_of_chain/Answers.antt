@@ -1,8 +1,5 @@
 use Rattle.std.proofs.Common.{◌≡◌, ◌≤◌, ℕ, List, refl, sym, subst, ap, ◌∙◌}
-use Rattle.cdf_format.specs.Index.{used_count}
-use Rattle.cdf_index.specs.Ahead.{NamesIn, chain_before}
-use Rattle.cdf_index.specs.Descent.{SpotIs, spot_at}
-use Rattle.cdf_index.specs.Sight.{IsHead}
+use Rattle.cdf_index.proofs.Common.{used_count, NamesIn, chain_before, SpotIs, spot_at, IsHead}
 use Rattle.cdf_index.proofs.Looking.{names_in}
 use Rattle.cdf_index.proofs.Searching.{inside_now}
 use Rattle.cdf_index.proofs.descending.spot_of_chain.Goals as goal

@@ -1,7 +1,5 @@
 use Rattle.std.proofs.Common.{ℕ, List, length, sym, subst, ap, arith}
-use Rattle.cdf_area.proofs.Calls.{read_more, read_once}
-use Rattle.cdf_index.specs.Descent.{SeesNode, spot_at}
-use Rattle.cdf_index.specs.Finding.{SomeNode}
+use Rattle.cdf_index.proofs.Common.{read_more, read_once, SeesNode, spot_at, SomeNode}
 use Rattle.cdf_index.specs.declared.descending.Stop.{Stop}
 use Rattle.cdf_index.proofs.GoingDown.{chain_start, spot_found, next_tree, better_chain, better_of, spot_never}
 use Rattle.cdf_index.proofs.LevelsDown.{some_node}

@@ -1,8 +1,5 @@
 use Rattle.std.proofs.Common.{◌≡◌, ℕ}
-use Rattle.cdf_area.specs.Calls.{Stays}
-use Rattle.cdf_format.specs.Index.{Nodes, link_to}
-use Rattle.cdf_index.specs.Descent.{IsTree, spot_at}
-use Rattle.cdf_index.specs.Finding.{SomeNode}
+use Rattle.cdf_index.proofs.Common.{Stays, Nodes, link_to, IsTree, spot_at, SomeNode}
 use Rattle.cdf_index.proofs.GoingDown.{ChainAt}
 use Rattle.cdf_index.proofs.descending.stop_of_chain.Given as goal
 

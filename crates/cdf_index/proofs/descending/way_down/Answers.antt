@@ -1,9 +1,6 @@
 use Rattle.std.proofs.Common.{◌≡◌, ◌+◌, ◌-◌, ℕ, List, refl, sym, subst, arith}
-use Rattle.cdf_area.proofs.Calls.{read_done, read_more, read_once}
-use Rattle.cdf_format.specs.Index.{Nodes, link_to}
-use Rattle.cdf_index.specs.Descent.{IsTree, SomeTree, SpotIs}
-use Rattle.cdf_index.specs.Finding.{index_at}
-use Rattle.cdf_index.specs.declared.descending.Step.{Step}
+use Rattle.cdf_index.proofs.Common.{read_more, read_once, Nodes, link_to, IsTree, SomeTree, SpotIs, index_at, Step}
+use Rattle.cdf_area.proofs.Calls.{read_done}
 use Rattle.cdf_index.proofs.LevelsDown.{Descending, some_tree, descend_start, next_level, way_done, end_done, last_among, all_among, descend_more, descend_never}
 use Rattle.cdf_index.proofs.descending.way_down.Goals as goal
 

@@ -1,5 +1,4 @@
-use Rattle.cdf_area.specs.Calls.{Stays}
-use Rattle.cdf_index.specs.Finding.{index_at}
+use Rattle.cdf_index.proofs.Common.{Stays, index_at}
 use Rattle.cdf_index.proofs.LevelsDown.{Descending}
 use Rattle.cdf_index.proofs.descending.way_down.Given as goal
 

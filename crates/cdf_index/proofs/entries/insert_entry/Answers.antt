@@ -1,10 +1,6 @@
 use Rattle.std.proofs.Common.{◌≡◌, ◌-◌, ◌<◌, ℕ, List, subst, ap, sym, refl, ◌∙◌, arith}
-use Rattle.std.proofs.lemmas.Result.{on_ok_weaker}
-use Rattle.cdf_area.proofs.Calls.{edit_more, edits_by_read}
-use Rattle.cdf_format.specs.Fields.{with_field}
-use Rattle.cdf_format.specs.Records.{vxr_n_used_entries}
-use Rattle.cdf_index.specs.Finding.{NodeInside}
-use Rattle.cdf_index.specs.Writing.{EntrySet}
+use Rattle.cdf_index.proofs.Common.{on_ok_weaker, edit_more, with_field, vxr_n_used_entries, NodeInside, EntrySet}
+use Rattle.cdf_area.proofs.Calls.{edits_by_read}
 use Rattle.cdf_index.proofs.Inserting.{Shifted, shift_start, inside_stays, shift_more, inserted}
 use Rattle.cdf_index.proofs.entries.insert_entry.Goals as goal
 

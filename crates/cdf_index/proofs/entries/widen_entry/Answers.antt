@@ -1,6 +1,5 @@
 use Rattle.std.proofs.Common.{List, subst, ℕ}
-use Rattle.std.proofs.lemmas.Result.{on_ok_weaker}
-use Rattle.cdf_index.specs.Writing.{EntrySet}
+use Rattle.cdf_index.proofs.Common.{on_ok_weaker, EntrySet}
 use Rattle.cdf_index.proofs.NodeShortened.{widened_by}
 use Rattle.cdf_index.proofs.entries.widen_entry.Goals as goal
 

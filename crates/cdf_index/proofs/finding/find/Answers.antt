@@ -1,6 +1,5 @@
 use Rattle.std.proofs.Common.{rules, arith, ◌∙◌, Some, None}
-use Rattle.cdf_area.proofs.Calls.{read_more}
-use Rattle.cdf_index.specs.Sight.{seen}
+use Rattle.cdf_index.proofs.Common.{read_more, seen}
 use Rattle.cdf_index.proofs.Searching.{at_start, some_node, cost, cost_zero, goes_on, answer, none_left, over, inside_now, node_now, told_now, onward_now}
 use Rattle.cdf_index.proofs.finding.find.Goals as goal
 

@@ -1,6 +1,5 @@
 use Rattle.std.proofs.Common.{◌≡◌, ◌+◌}
-use Rattle.cdf_area.specs.Calls.{Stays}
-use Rattle.cdf_index.specs.Finding.{index_at, At}
+use Rattle.cdf_index.proofs.Common.{Stays, index_at, At}
 use Rattle.cdf_index.proofs.finding.find.Given as goal
 
 abbrev pub invariant-loop-turn : goal.invariant-loop-turn

@@ -1,6 +1,5 @@
 use Rattle.std.proofs.Common.{◌≡◌, ◌≢◌, ℕ, length, arith, ap, sym, subst, ◌∙◌}
-use Rattle.cdf_format.specs.Chains.{next_of}
-use Rattle.cdf_format.specs.Index.{used_count, first_at, offset_at}
+use Rattle.cdf_index.proofs.Common.{next_of, used_count, first_at, offset_at}
 use Rattle.cdf_index.proofs.Looking.{Scanned, ReadEntry, read_first, read_last, read_place, read_type, look_next, look_nothing, look_below, look_found, named_inside}
 use Rattle.cdf_index.proofs.finding.look.Goals as goal
 

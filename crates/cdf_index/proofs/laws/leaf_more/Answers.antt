@@ -1,8 +1,5 @@
 use Rattle.std.proofs.Common.{map, ap, ◌∙◌}
-use Rattle.cdf_edits.specs.Index.Blocks.{range}
-use Rattle.cdf_format.specs.Index.{Leaf, leaves_of}
-use Rattle.cdf_model.specs.Limits.{record_number_limit}
-use Rattle.cdf_index.specs.Finding.{index_at}
+use Rattle.cdf_index.proofs.Common.{range, Leaf, leaves_of, record_number_limit, index_at}
 use Rattle.cdf_index.proofs.LeafMore.{leaves_more, ranges_new}
 use Rattle.cdf_index.proofs.laws.leaf_more.Goals as goal
 

@@ -1,5 +1,4 @@
-use Rattle.cdf_format.specs.Tiles.{tiles}
-use Rattle.cdf_index.specs.Finding.{index_at}
+use Rattle.cdf_index.proofs.Common.{tiles, index_at}
 use Rattle.cdf_index.proofs.WayDown.{made, node_there_by, no_zero}
 use Rattle.cdf_index.proofs.laws.leaf_on_its_way.Goals as goal
 

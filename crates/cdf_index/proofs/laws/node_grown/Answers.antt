@@ -1,5 +1,4 @@
-use Rattle.cdf_edits.proofs.Index.NodeEdited.{redone}
-use Rattle.cdf_index.specs.Way.{placed}
+use Rattle.cdf_index.proofs.Common.{redone, placed}
 use Rattle.cdf_index.proofs.NodeGrown.{grown_owed, split_owed, chained_owed}
 use Rattle.cdf_index.proofs.laws.node_grown.Goals as goal
 

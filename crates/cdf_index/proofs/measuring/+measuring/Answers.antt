@@ -1,12 +1,5 @@
 use Rattle.std.proofs.Common.{◌<◌, ◌+◌, ◌-◌, ℕ, List, length, arith, ap, refl, sym, subst, ◌∙◌}
-use Rattle.cdf_area.specs.Calls.{Stays}
-use Rattle.cdf_area.proofs.Calls.{read_more}
-use Rattle.cdf_format.specs.Chains.{next_of}
-use Rattle.cdf_format.specs.Index.{room_at, used_count, first_at, last_at}
-use Rattle.cdf_index.specs.Sight.{IsHead}
-use Rattle.cdf_index.specs.Sizes.{block_counted, node_counted}
-use Rattle.cdf_index.specs.Whole.{through_entries}
-use Rattle.cdf_index.specs.declared.measuring.IndexSize.{IndexSize}
+use Rattle.cdf_index.proofs.Common.{Stays, read_more, next_of, room_at, used_count, first_at, last_at, IsHead, block_counted, node_counted, through_entries, IndexSize}
 use Rattle.cdf_index.proofs.Looking.{read_place, read_type}
 use Rattle.cdf_index.proofs.Searching.{inside_now}
 use Rattle.cdf_index.proofs.ChainWalk.{Gone, walk_end, walk_over, walk_node, walk_entries, walk_on, below_end, named_lies, lower_chain, past_block, past_lower, entries_now, chain_now, entries_told, chain_told}

@@ -1,6 +1,5 @@
 use Rattle.std.proofs.Common.{◌+◌, ◌*◌}
-use Rattle.cdf_area.specs.Calls.{Stays}
-use Rattle.cdf_index.specs.Sizes.{block_counted, node_counted}
+use Rattle.cdf_index.proofs.Common.{Stays, block_counted, node_counted}
 use Rattle.cdf_index.proofs.ChainWalk.{Walked, Gone}
 use Rattle.cdf_index.proofs.measuring.+measuring.Given as goal
 

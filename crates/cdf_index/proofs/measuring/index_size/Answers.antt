@@ -1,9 +1,5 @@
 use Rattle.std.proofs.Common.{◌≡◌}
-use Rattle.std.proofs.lemmas.Result.{IfOk-weaker}
-use Rattle.cdf_format.specs.Index.{Nodes, link_to}
-use Rattle.cdf_index.specs.Finding.{index_at, Stands}
-use Rattle.cdf_index.specs.Sizes.{block_counted, node_counted, size_of}
-use Rattle.cdf_index.specs.Whole.{through}
+use Rattle.cdf_index.proofs.Common.{IfOk-weaker, Nodes, link_to, index_at, Stands, block_counted, node_counted, size_of, through}
 use Rattle.cdf_index.proofs.Ascending.{index_stands}
 use Rattle.cdf_index.proofs.ChainWalk.{whole_chain}
 use Rattle.cdf_index.proofs.Measured.{empty, measured_is}

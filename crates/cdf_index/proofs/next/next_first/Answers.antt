@@ -1,6 +1,5 @@
 use Rattle.std.proofs.Common.{rules, arith, ◌∙◌}
-use Rattle.cdf_area.proofs.Calls.{read_more}
-use Rattle.cdf_index.specs.Finding.{index_at}
+use Rattle.cdf_index.proofs.Common.{read_more, index_at}
 use Rattle.cdf_index.proofs.Searching.{inside_now, node_now}
 use Rattle.cdf_index.proofs.Walking.{walk_start, walk_over, walk_end, walk_node, walk_cost, walk_cost_zero, walk_cost_end_zero, walk_now}
 use Rattle.cdf_index.proofs.next.next_first.Goals as goal

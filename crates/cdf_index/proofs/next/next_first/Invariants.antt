@@ -1,7 +1,5 @@
 use Rattle.std.proofs.Common.{◌≡◌, ◌+◌}
-use Rattle.cdf_area.specs.Calls.{Stays}
-use Rattle.cdf_index.specs.Ahead.{IsWalk}
-use Rattle.cdf_index.specs.Finding.{index_at}
+use Rattle.cdf_index.proofs.Common.{Stays, IsWalk, index_at}
 use Rattle.cdf_index.proofs.next.next_first.Given as goal
 
 abbrev pub invariant-loop-turn : goal.invariant-loop-turn

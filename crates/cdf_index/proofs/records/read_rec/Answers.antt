@@ -1,9 +1,5 @@
 use Rattle.std.proofs.Common.{◌∙◌, ◌≡◌, ◌+◌, ◌*◌, ◌-◌, ℕ, take, drop}
-use Rattle.std.proofs.lemmas.Result.{IfOk-weaker}
-use Rattle.cdf_format.specs.Content.{plain_bytes}
-use Rattle.cdf_format.specs.VariableFields.{record_bytes}
-use Rattle.cdf_index.specs.Reading.{record_in}
-use Rattle.cdf_index.specs.Sight.{seen}
+use Rattle.cdf_index.proofs.Common.{IfOk-weaker, plain_bytes, record_bytes, record_in, seen}
 use Rattle.cdf_index.proofs.RecordRead.{record_is}
 use Rattle.cdf_index.proofs.records.read_rec.Goals as goal
 

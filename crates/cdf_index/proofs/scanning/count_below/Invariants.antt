@@ -1,6 +1,5 @@
 use Rattle.std.proofs.Common.{◌-◌, ◌<◌, ◌≤◌, ℕ}
-use Rattle.cdf_area.specs.Calls.{Stays}
-use Rattle.cdf_index.specs.Finding.{in_column}
+use Rattle.cdf_index.proofs.Common.{Stays, in_column}
 use Rattle.cdf_index.proofs.scanning.count_below.Given as goal
 
 abbrev pub invariant-loop-low : goal.invariant-loop-low

@@ -1,6 +1,5 @@
 use Rattle.std.proofs.Common.{◌+◌, ◌*◌, ℕ, sym, subst, arith}
-use Rattle.cdf_format.specs.Index.{room_at}
-use Rattle.cdf_index.specs.Finding.{Ascends}
+use Rattle.cdf_index.proofs.Common.{room_at, Ascends}
 use Rattle.cdf_index.proofs.EntriesCut.{passed_by}
 use Rattle.cdf_index.proofs.Looking.{node_inside, node_orderly}
 use Rattle.cdf_index.proofs.scanning.entries_before.Goals as goal

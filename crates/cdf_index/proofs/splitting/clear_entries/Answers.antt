@@ -1,6 +1,5 @@
 use Rattle.std.proofs.Common.{◌≡◌, ◌<◌, ℕ, subst, refl, arith}
-use Rattle.cdf_area.proofs.Calls.{edit_more}
-use Rattle.cdf_index.specs.Writing.{Cleared}
+use Rattle.cdf_index.proofs.Common.{edit_more, Cleared}
 use Rattle.cdf_index.proofs.Inserting.{inside_stays}
 use Rattle.cdf_index.proofs.NodeShortened.{clear_start, clear_more}
 use Rattle.cdf_index.proofs.splitting.clear_entries.Goals as goal

@@ -1,6 +1,5 @@
 use Rattle.std.proofs.Common.{◌≤◌}
-use Rattle.cdf_area.specs.Calls.{Keeps}
-use Rattle.cdf_index.specs.Writing.{Cleared}
+use Rattle.cdf_index.proofs.Common.{Keeps, Cleared}
 use Rattle.cdf_index.proofs.splitting.clear_entries.Given as goal
 
 abbrev pub invariant-loop-i : goal.invariant-loop-i

@@ -1,8 +1,5 @@
 use Rattle.std.proofs.Common.{◌≡◌, ◌+◌, ℕ, List, subst, sym, refl, arith}
-use Rattle.cdf_area.proofs.Calls.{read_more, read_without_memory}
-use Rattle.cdf_format.specs.IndexOf.{SaysEntry}
-use Rattle.cdf_index.specs.Writing.{EntriesRead}
-use Rattle.cdf_index.specs.declared.entries.Entry.{Entry}
+use Rattle.cdf_index.proofs.Common.{read_more, read_without_memory, SaysEntry, EntriesRead, Entry}
 use Rattle.cdf_index.proofs.NodeShortened.{read_none, read_one}
 use Rattle.cdf_index.proofs.splitting.read_entries.Goals as goal
 

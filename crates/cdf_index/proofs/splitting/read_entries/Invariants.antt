@@ -1,5 +1,4 @@
-use Rattle.cdf_area.specs.Calls.{Stays}
-use Rattle.cdf_index.specs.Writing.{EntriesRead}
+use Rattle.cdf_index.proofs.Common.{Stays, EntriesRead}
 use Rattle.cdf_index.proofs.splitting.read_entries.Given as goal
 
 abbrev pub invariant-loop-i : goal.invariant-loop-i

@@ -1,8 +1,5 @@
 use Rattle.std.proofs.Common.{◌≤◌, ℕ, subst, ap, sym, ◌∙◌, arith}
-use Rattle.std.proofs.lemmas.Result.{on_ok_weaker}
-use Rattle.cdf_format.specs.Fields.{with_field}
-use Rattle.cdf_format.specs.Index.{room_at}
-use Rattle.cdf_format.specs.Records.{vxr_n_used_entries}
+use Rattle.cdf_index.proofs.Common.{on_ok_weaker, with_field, room_at, vxr_n_used_entries}
 use Rattle.cdf_index.proofs.NodeShortened.{shortened}
 use Rattle.cdf_index.proofs.splitting.shorten_node.Goals as goal
 

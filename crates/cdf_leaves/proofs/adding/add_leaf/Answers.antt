@@ -1,20 +1,5 @@
 use Rattle.std.proofs.Common.{◌≡◌, ◌+◌, ◌≤◌, ◌∙◌, ℕ, List, length, refl, sym, ap, subst, arith}
-use Rattle.cdf_area.specs.Frame.{Frame}
-use Rattle.cdf_area.proofs.Calls.{edit_more, keeps_by_read, read_once}
-use Rattle.cdf_edits.specs.Space.Placing.{Placed}
-use Rattle.cdf_format.specs.WellFormed.{Good}
-use Rattle.cdf_format.proofs.GoodSound.{good_is_sound, good_eof}
-use Rattle.std.specs.Result.{OnOk}
-use Rattle.cdf_model.specs.declared.kinds.Kind.{Kind}
-use Rattle.cdf_model.specs.Limits.{image_limit}
-use Rattle.cdf_edits.specs.Commands.Room.{vxr_bytes}
-use Rattle.cdf_edits.proofs.Edits.StandsAmong.{StandsAmong}
-use Rattle.cdf_format.specs.Fields.{number}
-use Rattle.cdf_format.specs.Records.{vdr_vxr_head}
-use Rattle.cdf_format.specs.Shape.{VariableShape}
-use Rattle.cdf_index.specs.Adding.{AddsLeaf}
-use Rattle.cdf_leaves.specs.Added.{entry}
-use Rattle.cdf_leaves.specs.Putting.{IndexStarted}
+use Rattle.cdf_leaves.proofs.Common.{Frame, edit_more, keeps_by_read, read_once, Placed, Good, good_is_sound, good_eof, OnOk, Kind, image_limit, vxr_bytes, StandsAmong, number, vdr_vxr_head, VariableShape, AddsLeaf, entry, IndexStarted}
 use Rattle.cdf_leaves.proofs.AddCalls.{among_kind, seven_fit, started, started_long, through, vdr_late, vdr_there, late_ends}
 use Rattle.cdf_leaves.proofs.LastCall.{edit_last, ok_map}
 use Rattle.cdf_leaves.proofs.adding.add_leaf.Goals as goal

@@ -1,20 +1,6 @@
 use Rattle.std.proofs.Common.{rules, ◌≡◌, ◌+◌, ◌≤◌, ◌∙◌, ℕ, List, [], length, map, max, sym, ap, subst, inl, inr}
-use Rattle.std.proofs.lemmas.Bool.{eqb-true}
+use Rattle.cdf_leaves.proofs.Common.{eqb-true, Frame, edit_done, edit_failed, edit_more, keeps_by_read, read_once, widest, Placed, image_limit, Good, good_is_sound, good_eof, index_at, number, with_field, vdr_vxr_head, vdr_vxr_tail, step_pair, Step, chain_end, WayStands, WidenedAlong}
 use Rattle.std.specs.Vec.{vec_len}
-use Rattle.cdf_area.specs.Frame.{Frame}
-use Rattle.cdf_area.proofs.Calls.{edit_done, edit_failed, edit_more, keeps_by_read, read_once}
-use Rattle.cdf_edits.specs.Commands.Room.{widest}
-use Rattle.cdf_edits.specs.Space.Placing.{Placed}
-use Rattle.cdf_model.specs.Limits.{image_limit}
-use Rattle.cdf_format.specs.WellFormed.{Good}
-use Rattle.cdf_format.proofs.GoodSound.{good_is_sound, good_eof}
-use Rattle.cdf_index.specs.Finding.{index_at}
-use Rattle.cdf_format.specs.Fields.{number, with_field}
-use Rattle.cdf_format.specs.Records.{vdr_vxr_head, vdr_vxr_tail}
-use Rattle.cdf_index.specs.Descent.{step_pair}
-use Rattle.cdf_index.specs.declared.descending.Step.{Step}
-use Rattle.cdf_leaves.specs.Tail.{chain_end}
-use Rattle.cdf_leaves.specs.Widening.{WayStands, WidenedAlong}
 use Rattle.cdf_leaves.proofs.AddCalls.{among_kind, fits_room, grown_short, grown_stays, grown_tail, index_there, may_put, tail_chain, tail_lies, wide_enough, wide_long, way_stands}
 use Rattle.cdf_leaves.proofs.LastCall.{edit_last, no_items, ok_map}
 use Rattle.cdf_leaves.proofs.adding.grow_index.Goals.{then-at-eq0-via-then-at-eq0, then-at-eq0-via-else-at-eq0+then-not-is_empty}

@@ -1,7 +1,5 @@
 use Rattle.std.proofs.Common.{◌-◌, length, map, drop}
-use Rattle.cdf_area.specs.Calls.{Keeps}
-use Rattle.cdf_index.specs.Descent.{step_pair}
-use Rattle.cdf_leaves.specs.Widening.{WidenedAlong}
+use Rattle.cdf_leaves.proofs.Common.{Keeps, step_pair, WidenedAlong}
 use Rattle.cdf_leaves.proofs.widening.widen_way.Given as goal
 
 abbrev pub invariant-loop-turn : goal.invariant-loop-turn

@@ -1,19 +1,10 @@
 use Rattle.std.proofs.Common.{rules, ◌≡◌, ◌∙◌, ◌+◌, ◌-◌, ◌≤◌, ◌<◌, ◌⊎◌, ◌*◌, ℕ, List, Option, length, min, refl, sym, ap, subst, arith, nat_eq, inl, inr}
-use Rattle.std.specs.Ordering.{nat_cmp}
-use Rattle.std.specs.BTreeMap.{get}
-use Rattle.std.specs.Map.{keys_of, lookup, remove_entry}
-use Rattle.std.specs.Option.{is_some}
-use Rattle.std.specs.Prelude.{if◌then◌else◌}
-use Rattle.cdf_store.specs.Disk.{file_of}
-use Rattle.cdf_pages.specs.Grown.{Grown, Owned, RemovesSome, removed}
-use Rattle.cdf_pages.specs.Pages.{is_in}
-use Rattle.cdf_pages.specs.Standing.{cost_of_writing, page_cost}
+use Rattle.cdf_pages.proofs.Common.{nat_cmp, get, keys_of, lookup, remove_entry, is_some, if◌then◌else◌, file_of, Grown, Owned, RemovesSome, is_in, cost_of_writing, page_cost, list_any, cases_lt}
+use Rattle.cdf_pages.specs.Grown.{removed}
 use Rattle.cdf_pages.proofs.Costs.{takes_same, takes_then, write_cost_grows, write_cost_next}
 use Rattle.cdf_pages.proofs.Filling.{takes_less}
 use Rattle.cdf_pages.proofs.Keys.{is_there, lookup-removed}
 use Rattle.cdf_pages.proofs.Growing.{grown_refl, grown_trans, removed_next, owned_more, some_not_none, grown_next, others_next, some_removed, out_next}
-use Rattle.std.specs.List.{list_any}
-use Rattle.std.proofs.lemmas.Bool.{cases_lt}
 use Rattle.cdf_pages.proofs.owning.own_pages.Goals as goal
 
 pub loop-number-init : goal.loop-number-init

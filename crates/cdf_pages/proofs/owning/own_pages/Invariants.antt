@@ -1,11 +1,5 @@
 use Rattle.std.proofs.Common.{◌≡◌, ◌+◌, ◌-◌, ◌≤◌, ◌<◌, ◌⊎◌, ℕ, List, length, Some, None, nat_eq}
-use Rattle.std.specs.Ordering.{nat_cmp}
-use Rattle.std.specs.BTreeMap.{get}
-use Rattle.std.specs.Map.{keys_of, lookup}
-use Rattle.cdf_store.specs.Disk.{file_of}
-use Rattle.cdf_pages.specs.Grown.{Grown, Owned, RemovesSome, removed}
-use Rattle.cdf_pages.specs.Pages.{TakesAtMost, is_in}
-use Rattle.cdf_pages.specs.Standing.{cost_of_writing}
+use Rattle.cdf_pages.proofs.Common.{nat_cmp, get, keys_of, lookup, file_of, Grown, Owned, RemovesSome, removed, TakesAtMost, is_in, cost_of_writing}
 use Rattle.cdf_pages.proofs.owning.own_pages.Given as goal
 
 abbrev pub invariant-loop-number : goal.invariant-loop-number

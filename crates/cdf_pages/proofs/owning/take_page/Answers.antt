@@ -1,7 +1,5 @@
 use Rattle.std.proofs.Common.{◌≡◌, ◌∙◌, ◌+◌, ◌*◌, ◌≤◌, ◌<◌, sym, ap, length, None, nat_eq}
-use Rattle.std.specs.Map.{lookup}
-use Rattle.cdf_store.specs.Disk.{file_of}
-use Rattle.cdf_pages.specs.Pages.{Shows, TakesAtMost}
+use Rattle.cdf_pages.proofs.Common.{lookup, file_of, Shows, TakesAtMost}
 use Rattle.cdf_pages.proofs.Filling.{backed_live, takes_live}
 use Rattle.cdf_pages.proofs.owning.take_page.Goals as goal
 

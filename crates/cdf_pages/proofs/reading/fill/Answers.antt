@@ -1,8 +1,7 @@
 use Rattle.std.proofs.Common.{rules, ◌≡◌, ◌∙◌, ◌+◌, ◌-◌, ◌≤◌, ◌<◌, length, take, drop, arith, ap, sym, subst}
+use Rattle.cdf_pages.proofs.Common.{file_of, TakesAtMost}
 use lib.Seq.{drop-drop}
 use borrow.Rule.Slice.PartMut.{put_mid}
-use Rattle.cdf_store.specs.Disk.{file_of}
-use Rattle.cdf_pages.specs.Pages.{TakesAtMost}
 use Rattle.cdf_pages.proofs.Filling.{filled, takes_more, reads_piece}
 use Rattle.cdf_pages.proofs.reading.fill.Goals as goal
 

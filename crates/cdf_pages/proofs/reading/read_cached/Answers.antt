@@ -1,8 +1,7 @@
 use Rattle.std.proofs.Common.{◌≡◌, ◌∙◌, ◌*◌, ◌+◌, ◌≤◌, sym, ap, subst, take, drop, length, Some, None, nat_eq, ℕ, List, IsTrue, slice_get}
-use Rattle.std.specs.Option.{option_map}
-use Rattle.std.specs.Map.{lookup}
+use Rattle.cdf_pages.proofs.Common.{option_map, lookup, promoted}
 use Rattle.std.proofs.lemmas.Option.{none-some}
-use Rattle.lru.specs.LruCache.{lru_cache, promoted}
+use Rattle.lru.specs.LruCache.{lru_cache}
 use Rattle.lru.proofs.Pairs.{promoted_absent}
 use Rattle.cdf_pages.proofs.Keys.{front_promoted, front_value}
 use Rattle.cdf_pages.proofs.reading.read_cached.Goals as goal

@@ -1,8 +1,6 @@
 use Rattle.std.proofs.Common.{◌≡◌, ◌∙◌, ◌+◌, ◌-◌, ◌*◌, ◌≤◌, ◌<◌, sym, ap, arith, length, Some, nat_eq, true, ℕ, inl}
-use Rattle.std.specs.Map.{keys_of, lookup}
-use Rattle.std.specs.Option.{is_some}
+use Rattle.cdf_pages.proofs.Common.{keys_of, lookup, is_some, file_of}
 use Rattle.lru.proofs.Pairs.{promoted_put}
-use Rattle.cdf_store.specs.Disk.{file_of}
 use Rattle.cdf_pages.proofs.Growing.{promoted_old}
 use Rattle.cdf_pages.proofs.Images.{shown_part}
 use Rattle.cdf_pages.proofs.Keys.{used_there}

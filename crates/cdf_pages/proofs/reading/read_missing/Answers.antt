@@ -1,11 +1,6 @@
 use Rattle.std.proofs.Common.{rules, ◌≡◌, ◌∙◌, ◌+◌, ◌-◌, ◌*◌, ◌≤◌, ◌<◌, sym, ap, arith, take, drop, length, None, Some, IsSome, false, nat_eq, ℕ, List, option_copied, inl, inr, subst}
-use Rattle.std.specs.Map.{keys_of, lookup}
-use Rattle.std.specs.List.{list_any}
-use Rattle.std.specs.Option.{is_some}
-use Rattle.lru.specs.LruCache.{put_entries}
+use Rattle.cdf_pages.proofs.Common.{keys_of, lookup, list_any, is_some, put_entries, file_of, Shows, TakesAtMost}
 use Rattle.cdf_pages.proofs.Keys.{is_there, used_missing, used_there}
-use Rattle.cdf_store.specs.Disk.{file_of}
-use Rattle.cdf_pages.specs.Pages.{Shows, TakesAtMost}
 use Rattle.cdf_pages.proofs.Images.{shown_part, load_shows}
 use Rattle.cdf_pages.proofs.Growing.{promoted_old, put_old}
 use Rattle.cdf_pages.proofs.Filling.{backed_live, takes_live}

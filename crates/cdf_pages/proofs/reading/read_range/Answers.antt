@@ -1,13 +1,8 @@
 use Rattle.std.proofs.Common.{rules, ◌≡◌, ◌∙◌, ◌+◌, ◌-◌, ◌*◌, ◌/◌, ◌%◌, ◌≤◌, ◌<◌, sym, ap, arith, take, drop, length, min, slice_index, ℕ, suc, Bool, List, refl, nat_eq, subst}
+use Rattle.cdf_pages.proofs.Common.{nat_cmp, get, file_of, keys_of, IsValid, LruCache, image_of, is_in, page_cost, pages_in, used}
 use Rattle.std.proofs.lemmas.List.{take-take, drop-drop}
-use Rattle.std.specs.Ordering.{nat_cmp}
-use Rattle.std.specs.BTreeMap.{get}
 use borrow.Rule.Slice.PartMut.{put_mid}
-use Rattle.cdf_store.specs.Disk.{file_of}
-use Rattle.std.specs.Map.{keys_of}
-use Rattle.lru.specs.LruCache.{IsValid, LruCache}
-use Rattle.cdf_pages.specs.Pages.{image_of, is_in}
-use Rattle.cdf_pages.specs.Standing.{ReadsSome, cost_of_reading, page_cost, pages_in, used, used_from}
+use Rattle.cdf_pages.specs.Standing.{ReadsSome, cost_of_reading, used_from}
 use Rattle.cdf_pages.proofs.Costs.{page_next, page_now, pages_grow, read_cost_grows, read_cost_next, takes_same, takes_then, used_next}
 use Rattle.cdf_pages.proofs.Filling.{filled, on_err, takes_less}
 use Rattle.cdf_pages.proofs.reading.read_range.Goals as goal

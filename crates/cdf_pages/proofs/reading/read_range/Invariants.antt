@@ -1,11 +1,6 @@
 use Rattle.std.proofs.Common.{◌-◌, ◌≡◌, ◌+◌, ◌/◌, ◌%◌, ◌<◌, ◌≤◌, ℕ, List, length, take, drop, Some, None, nat_eq}
-use Rattle.std.specs.Map.{keys_of}
-use Rattle.lru.specs.LruCache.{IsValid}
-use Rattle.std.specs.Ordering.{nat_cmp}
-use Rattle.std.specs.BTreeMap.{get}
-use Rattle.cdf_store.specs.Disk.{file_of}
-use Rattle.cdf_pages.specs.Pages.{AllShow, TakesAtMost, image_of, is_in}
-use Rattle.cdf_pages.specs.Standing.{cost_of_reading, pages_in, used_from}
+use Rattle.cdf_pages.proofs.Common.{keys_of, IsValid, nat_cmp, get, file_of, AllShow, TakesAtMost, image_of, is_in, pages_in}
+use Rattle.cdf_pages.specs.Standing.{cost_of_reading, used_from}
 use Rattle.cdf_pages.proofs.reading.read_range.Given as goal
 
 abbrev pub invariant-loop-done : goal.invariant-loop-done

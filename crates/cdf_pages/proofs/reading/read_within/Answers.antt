@@ -1,9 +1,5 @@
 use Rattle.std.proofs.Common.{◌≡◌, ◌∙◌, false, ◌+◌, ◌*◌, ◌/◌, ◌≤◌, ◌<◌, sym, ap, arith, length, None, Some, nat_eq, ℕ, option_copied, slice_get}
-use Rattle.std.specs.Map.{keys_of, lookup}
-use Rattle.std.specs.Option.{is_some}
-use Rattle.std.specs.Ordering.{nat_cmp}
-use Rattle.std.specs.BTreeMap.{get}
-use Rattle.cdf_store.specs.Disk.{file_of}
+use Rattle.cdf_pages.proofs.Common.{keys_of, lookup, is_some, nat_cmp, get, file_of}
 use Rattle.cdf_pages.proofs.Images.{file_part, shown_part}
 use Rattle.cdf_pages.proofs.Keys.{first_stays, first_there}
 use Rattle.cdf_pages.proofs.reading.read_within.Goals as goal

@@ -1,10 +1,6 @@
 use Rattle.std.proofs.Common.{rules, ◌≡◌, ◌*◌, ◌≤◌, ◌<◌, ◌∙◌, arith, refl, sym, length, inl, inr}
-use Rattle.std.proofs.lemmas.Bool.{cases_lt}
+use Rattle.cdf_pages.proofs.Common.{cases_lt, nat_cmp, get, file_of, LiesIn}
 use Rattle.cdf_pages.proofs.Filling.{true_not_false}
-use Rattle.std.specs.Ordering.{nat_cmp}
-use Rattle.std.specs.BTreeMap.{get}
-use Rattle.cdf_store.specs.Disk.{file_of}
-use Rattle.cdf_pages.specs.Saving.{LiesIn}
 use Rattle.cdf_pages.proofs.SavedPage.{forgotten_backed, forgotten_same, less_saved, place_in_file}
 use Rattle.cdf_pages.proofs.Touched.{touches_none}
 use Rattle.cdf_pages.proofs.saving.save_first.Goals as goal

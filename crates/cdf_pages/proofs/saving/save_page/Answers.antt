@@ -1,11 +1,5 @@
 use Rattle.std.proofs.Common.{rules, ◌≡◌, ◌∙◌, ◌+◌, ◌-◌, ◌*◌, ◌/◌, ◌%◌, ◌≤◌, ◌<◌, ◌++◌, refl, sym, ap, arith, take, length, min, option_copied, inl, inr, Some, IsSome, ℕ, slice_index}
-use Rattle.std.proofs.lemmas.List.{length-take-le, get_or-take, get_or_append_left}
-use Rattle.std.specs.Option.{is_some}
-use Rattle.std.specs.Ordering.{nat_cmp}
-use Rattle.std.specs.BTreeMap.{get}
-use Rattle.cdf_store.specs.Disk.{file_of}
-use Rattle.cdf_pages.specs.Pages.{image_of}
-use Rattle.cdf_pages.specs.Saving.{LiesIn}
+use Rattle.cdf_pages.proofs.Common.{length-take-le, get_or-take, get_or_append_left, is_some, nat_cmp, get, file_of, image_of, LiesIn}
 use Rattle.cdf_pages.proofs.Between.{length-written, part_between, written_between}
 use Rattle.cdf_pages.proofs.Images.{at_page, byte-image, length-image}
 use Rattle.cdf_pages.proofs.SavedPage.{backed_part, backed_saved, less_saved, part_same, saved_same, page_in_image}

@@ -1,10 +1,5 @@
 use Rattle.std.proofs.Common.{◌≡◌, ◌∙◌, ◌++◌, ℕ, List, Option, None, IsSome, refl, sym, ap, subst, arith}
-use Rattle.std.specs.Prelude.{IsTrue}
-use Rattle.std.specs.Ordering.{nat_cmp}
-use Rattle.std.specs.BTreeMap.{get}
-use Rattle.cdf_store.specs.Disk.{Disk, file_of}
-use Rattle.cdf_pages.specs.Pages.{image_of, is_in}
-use Rattle.cdf_pages.specs.Saving.{HoldsBetween, LiesIn, Touches}
+use Rattle.cdf_pages.proofs.Common.{IsTrue, nat_cmp, get, Disk, file_of, image_of, is_in, HoldsBetween, LiesIn, Touches}
 use Rattle.cdf_pages.proofs.SavedPage.{changed_at_first}
 use Rattle.cdf_pages.proofs.Touched.{touches_none, touches_then, touches_weaker}
 use Rattle.cdf_pages.proofs.saving.save_pages.Goals as goal

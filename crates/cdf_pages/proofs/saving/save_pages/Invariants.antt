@@ -1,10 +1,6 @@
 use Rattle.std.proofs.Common.{◌≡◌, ◌+◌, ◌≤◌, ◌++◌, ℕ, List, length, None, IsSome}
-use Rattle.std.specs.Prelude.{IsTrue}
-use Rattle.std.specs.Ordering.{nat_cmp}
-use Rattle.std.specs.BTreeMap.{btree_map_len, get}
-use Rattle.cdf_store.specs.Disk.{Disk, file_of}
-use Rattle.cdf_pages.specs.Pages.{Backed, image_of, is_in}
-use Rattle.cdf_pages.specs.Saving.{HoldsBetween, LiesIn, Touches}
+use Rattle.cdf_pages.proofs.Common.{IsTrue, nat_cmp, get, Disk, file_of, Backed, image_of, is_in, HoldsBetween, LiesIn, Touches}
+use Rattle.std.specs.BTreeMap.{btree_map_len}
 use Rattle.cdf_pages.proofs.saving.save_pages.Given as goal
 
 abbrev pub invariant-loop-number : goal.invariant-loop-number

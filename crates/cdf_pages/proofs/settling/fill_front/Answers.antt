@@ -1,8 +1,6 @@
 use Rattle.std.proofs.Common.{rules, ◌≡◌, ◌∙◌, ◌+◌, ◌-◌, ◌≤◌, ℕ, List, Option, None, Some, IsSome, Ok, length, take, drop, arith, ap, sym, subst}
+use Rattle.cdf_pages.proofs.Common.{length-take, length-drop, file_in, file_of, ReadsAt, ReadsPiece}
 use lib.Seq.{drop-drop}
-use Rattle.std.proofs.lemmas.List.{length-take, length-drop}
-use Rattle.cdf_store.specs.Disk.{file_in, file_of}
-use Rattle.cdf_store.specs.Reading.{ReadsAt, ReadsPiece}
 use Rattle.cdf_pages.proofs.Filling.{filled, takes_more}
 use Rattle.cdf_pages.proofs.settling.fill_front.Goals as goal
 

@@ -1,9 +1,5 @@
 use Rattle.std.proofs.Common.{◌∙◌, ℕ, List, sym, subst, arith}
-use Rattle.std.proofs.lemmas.Option.{same_Some}
-use Rattle.std.specs.Ordering.{nat_cmp}
-use Rattle.std.specs.BTreeMap.{get}
-use Rattle.cdf_store.specs.Disk.{file_of}
-use Rattle.cdf_pages.specs.Pages.{Shows}
+use Rattle.cdf_pages.proofs.Common.{same_Some, nat_cmp, get, file_of, Shows}
 use Rattle.cdf_pages.proofs.Settled.{beyond, differs_there, if_ok_map, shows_file}
 use Rattle.cdf_pages.proofs.settling.has_page.Goals as goal
 

@@ -1,11 +1,5 @@
 use Rattle.std.proofs.Common.{◌≡◌, ◌∙◌, ◌-◌, ◌*◌, min, ℕ, List, Option, None, Some, sym, ap, ap₂, subst, arith, length}
-use Rattle.std.specs.Prelude.{IfSome, IsSome, IsTrue}
-use Rattle.std.specs.Ordering.{nat_cmp}
-use Rattle.std.specs.BTreeMap.{get}
-use Rattle.cdf_store.specs.Disk.{file_of}
-use Rattle.cdf_pages.specs.Pages.{TakesAtMost, image_of, is_in}
-use Rattle.cdf_pages.specs.Saving.{Differs}
-use Rattle.cdf_pages.specs.Standing.{pages_in}
+use Rattle.cdf_pages.proofs.Common.{IfSome, IsSome, IsTrue, nat_cmp, get, file_of, TakesAtMost, image_of, is_in, Differs, pages_in}
 use Rattle.cdf_pages.proofs.SavedPage.{changed_at_first}
 use Rattle.cdf_pages.proofs.Settled.{compared_cost, compared_upto, differs_next, upto_next}
 use Rattle.cdf_pages.proofs.settling.settle_all.Goals as goal

@@ -1,11 +1,5 @@
 use Rattle.std.proofs.Common.{◌≡◌, ◌⊎◌, ℕ, [], length, None, IsSome}
-use Rattle.std.specs.Prelude.{IfSome, IsTrue, not}
-use Rattle.std.specs.Ordering.{nat_cmp}
-use Rattle.std.specs.BTreeMap.{get}
-use Rattle.cdf_store.specs.Disk.{file_of}
-use Rattle.cdf_pages.specs.Pages.{Backed, TakesAtMost, image_of, is_in}
-use Rattle.cdf_pages.specs.Saving.{Differs}
-use Rattle.cdf_pages.specs.Standing.{cost_of_writing, pages_in}
+use Rattle.cdf_pages.proofs.Common.{IfSome, IsTrue, not, nat_cmp, get, file_of, Backed, TakesAtMost, image_of, is_in, Differs, cost_of_writing, pages_in}
 use Rattle.cdf_pages.proofs.Settled.{Remains, compared_upto, numbers_left}
 use Rattle.cdf_pages.proofs.settling.settle_all.Given as goal
 

@@ -1,7 +1,5 @@
 use Rattle.std.proofs.Common.{◌≡◌, length, true}
-use Rattle.std.specs.Ordering.{nat_cmp}
-use Rattle.std.specs.BTreeMap.{get}
-use Rattle.cdf_store.specs.Disk.{file_of}
+use Rattle.cdf_pages.proofs.Common.{nat_cmp, get, file_of}
 use Rattle.cdf_pages.proofs.Growing.{some_not_none}
 use Rattle.cdf_pages.proofs.Images.{some_of}
 use Rattle.cdf_pages.proofs.Settled.{dropped_backed, dropped_same}

@@ -1,7 +1,5 @@
 use Rattle.std.proofs.Common.{◌≡◌, ℕ, List, length, Some, None, IsSome}
-use Rattle.std.specs.Ordering.{nat_cmp}
-use Rattle.std.specs.BTreeMap.{get}
-use Rattle.cdf_pages.specs.Pages.{was}
+use Rattle.cdf_pages.proofs.Common.{nat_cmp, get, was}
 use Rattle.cdf_pages.proofs.sheets.restore_all.Given as goal
 
 abbrev pub invariant-loop-number : goal.invariant-loop-number

@@ -1,8 +1,5 @@
 use Rattle.std.proofs.Common.{rules, ◌≡◌, ◌∙◌, ◌+◌, ◌-◌, ◌*◌, ◌/◌, ◌%◌, ◌≤◌, ◌<◌, ◌⊎◌, ℕ, List, refl, sym, ap, subst, arith, None, Some, take, drop, min, length, inl, inr}
-use Rattle.std.specs.Ordering.{nat_cmp}
-use Rattle.std.specs.BTreeMap.{get}
-use Rattle.cdf_base.specs.Bytes.{put}
-use Rattle.cdf_pages.specs.Pages.{image_of}
+use Rattle.cdf_pages.proofs.Common.{nat_cmp, get, put, image_of}
 use Rattle.cdf_pages.proofs.Images.{some_of, put_none, write_step, less_step, length-image}
 use Rattle.cdf_pages.proofs.writing.write_range.Goals as goal
 

@@ -1,8 +1,5 @@
 use Rattle.std.proofs.Common.{◌≡◌, ◌+◌, ◌-◌, ◌*◌, ◌/◌, ◌≤◌, ◌<◌, ◌⊎◌, ℕ, List, length, take, None}
-use Rattle.std.specs.Ordering.{nat_cmp}
-use Rattle.std.specs.BTreeMap.{get}
-use Rattle.cdf_base.specs.Bytes.{put}
-use Rattle.cdf_pages.specs.Pages.{image_of}
+use Rattle.cdf_pages.proofs.Common.{nat_cmp, get, put, image_of}
 use Rattle.cdf_pages.proofs.writing.write_range.Given as goal
 
 abbrev pub invariant-loop-done : goal.invariant-loop-done

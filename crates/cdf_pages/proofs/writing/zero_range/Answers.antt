@@ -1,9 +1,5 @@
 use Rattle.std.proofs.Common.{rules, ◌≡◌, ◌∙◌, ◌+◌, ◌-◌, ◌*◌, ◌/◌, ◌≤◌, ◌<◌, ◌⊎◌, ℕ, List, refl, sym, ap, ap₂, arith, take, length, replicate, inl, inr}
-use Rattle.std.proofs.lemmas.List.{length-replicate}
-use Rattle.std.specs.Ordering.{nat_cmp}
-use Rattle.std.specs.BTreeMap.{get}
-use Rattle.cdf_base.specs.Bytes.{put}
-use Rattle.cdf_pages.specs.Pages.{image_of}
+use Rattle.cdf_pages.proofs.Common.{length-replicate, nat_cmp, get, put, image_of}
 use Rattle.cdf_pages.proofs.Images.{put_none, take_zeros, zeros_more, put_end, length-image}
 use Rattle.cdf_pages.proofs.writing.zero_range.Goals as goal
 

@@ -1,15 +1,6 @@
 use Rattle.std.proofs.Common.{◌≡◌, ◌+◌, ◌-◌, ◌∙◌, ℕ, List, None, refl, sym, ap, subst}
-use Rattle.cdf_area.specs.Frame.{Frame}
-use Rattle.cdf_area.proofs.Calls.{edit_done, edit_failed, edit_more, edit_without_memory, edits_by_read, keeps_by_read, read_once}
-use Rattle.cdf_edits.specs.Space.Placing.{IsBody}
-use Rattle.cdf_format.specs.Index.{leaves_of}
-use Rattle.cdf_format.specs.Shape.{shape, variables, vdrs}
-use Rattle.cdf_format.specs.Tiles.{In}
-use Rattle.cdf_format.specs.WellFormed.{Good}
-use Rattle.cdf_index.specs.Finding.{HasIndex, index_at}
-use Rattle.cdf_index.specs.Order.{leaf_of}
-use Rattle.cdf_puts.specs.Putting.{IsPut, last_in_new, records_put}
-use Rattle.cdf_puts.specs.Steps.{IsBlockBody}
+use Rattle.cdf_puts.proofs.Common.{Frame, edit_done, edit_failed, edit_more, edits_by_read, keeps_by_read, read_once, IsBody, leaves_of, shape, variables, vdrs, In, Good, HasIndex, index_at, leaf_of, IsPut, last_in_new, records_put, IsBlockBody}
+use Rattle.cdf_area.proofs.Calls.{edit_without_memory}
 use Rattle.cdf_puts.proofs.PutPieces.{body_is}
 use Rattle.cdf_puts.proofs.PutSpot.{AddsOn, added_on, few_most, good, has_index, room_after, some_most, vdr_in}
 use Rattle.cdf_puts.proofs.putting.add_block.Goals as goal

@@ -1,7 +1,6 @@
 use Rattle.cdf_puts.proofs.putting.last_of_new.Goals as goal
 use Rattle.std.proofs.Common.{◌∙◌}
-use Rattle.cdf_edits.specs.Index.Blocks.{firsts_of, next_first}
-use Rattle.cdf_index.specs.Finding.{index_at}
+use Rattle.cdf_puts.proofs.Common.{firsts_of, next_first, index_at}
 use Rattle.cdf_puts.proofs.NewBlocks.{bound_is, next_past, least_end, least_past, least_is}
 
 pub overflow_sub-result : goal.overflow_sub-result

@@ -1,8 +1,5 @@
 use Rattle.std.proofs.Common.{◌≡◌, ◌≤◌, ◌+◌, ℕ, List, [], ◌∷◌, ◌++◌, min, length, refl, sym, ap, subst, ◌∙◌, rules}
-use Rattle.std.proofs.lemmas.List.{length-append, nil_from_length}
-use Rattle.std.specs.Slice.Iter.{chunks_rest}
-use Rattle.cdf_area.proofs.Calls.{edit_more}
-use Rattle.cdf_index.specs.declared.entries.Entry.{Entry}
+use Rattle.cdf_reindex.proofs.Common.{length-append, nil_from_length, chunks_rest, edit_more, Entry}
 use Rattle.cdf_reindex.proofs.LevelSteps.{Goes, goes_start, goes_more, goes_last, room_start, room_one, room_more, room_last, chunk_few, chunk_some}
 use Rattle.cdf_reindex.proofs.pyramid.write_level.Goals as goal
 

@@ -1,11 +1,7 @@
 use Rattle.std.proofs.Common.{◌≡◌, ◌≤◌, ◌+◌, ◌*◌, length}
-use Rattle.std.specs.Slice.Iter.{chunks_rest, chunks_size}
+use Rattle.cdf_reindex.proofs.Common.{chunks_rest, quotient_up, content, eof, gdr_offset, shape, IsSound}
+use Rattle.std.specs.Slice.Iter.{chunks_size}
 use Rattle.cdf_area.specs.Calls.{Keeps}
-use Rattle.cdf_edits.specs.Commands.Room.{quotient_up}
-use Rattle.cdf_format.specs.Content.{content}
-use Rattle.cdf_format.specs.Fields.{eof, gdr_offset}
-use Rattle.cdf_format.specs.Shape.{shape}
-use Rattle.cdf_format.specs.Sound.{IsSound}
 use Rattle.cdf_reindex.proofs.LevelSteps.{Goes}
 use Rattle.cdf_reindex.proofs.pyramid.write_level.Given as goal
 

@@ -1,9 +1,7 @@
 use Rattle.std.proofs.Common.{◌≡◌, ◌≤◌, ◌+◌, ◌*◌, ℕ, List, length, sym, ap, subst, ◌∙◌, arith}
-use Rattle.cdf_area.proofs.Calls.{edit_once, edit_more}
+use Rattle.cdf_reindex.proofs.Common.{edit_more, quotient_up, Entry, LevelMade}
+use Rattle.cdf_area.proofs.Calls.{edit_once}
 use Rattle.cdf_reindex.proofs.LevelSteps.{levels_first, levels_more, pyramid_last, uppers_count, up_one, room_level, room_first, room_next, room_for_next, fewer}
-use Rattle.cdf_edits.specs.Commands.Room.{quotient_up}
-use Rattle.cdf_index.specs.declared.entries.Entry.{Entry}
-use Rattle.cdf_reindex.specs.Rebuilding.{LevelMade}
 use Rattle.cdf_reindex.proofs.pyramid.write_levels.Goals as goal
 
 pub write_level-requires-clause-room : goal.write_level-requires-clause-room

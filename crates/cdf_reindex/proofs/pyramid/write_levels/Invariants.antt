@@ -1,10 +1,6 @@
 use Rattle.std.proofs.Common.{◌≡◌, ◌≤◌, length}
+use Rattle.cdf_reindex.proofs.Common.{content, eof, gdr_offset, shape, IsSound, LevelsMade}
 use Rattle.cdf_area.specs.Calls.{Keeps}
-use Rattle.cdf_format.specs.Content.{content}
-use Rattle.cdf_format.specs.Fields.{eof, gdr_offset}
-use Rattle.cdf_format.specs.Shape.{shape}
-use Rattle.cdf_format.specs.Sound.{IsSound}
-use Rattle.cdf_reindex.specs.Rebuilding.{LevelsMade}
 use Rattle.cdf_reindex.proofs.LevelSteps.{RoomLeft}
 use Rattle.cdf_reindex.proofs.pyramid.write_levels.Given as goal
 

@@ -1,8 +1,5 @@
 use Rattle.std.proofs.Common.{◌≡◌, ◌∙◌, arith}
-use Rattle.cdf_edits.specs.Space.Freeing.{AllGiven}
-use Rattle.cdf_format.specs.Content.{content}
-use Rattle.cdf_reindex.specs.Reindexed.{IsRebuilt}
-use Rattle.cdf_reindex.specs.Reindexing.{HasOld}
+use Rattle.cdf_reindex.proofs.Common.{AllGiven, content, IsRebuilt, HasOld}
 use Rattle.cdf_reindex.proofs.RebuildingCalls.{on_ok, head_lies, tail_lies, linked_sound, nodes_free, content_same, is_rebuilt}
 use Rattle.cdf_reindex.proofs.reindexing.rebuild.Goals as goal
 

@@ -1,12 +1,5 @@
 use Rattle.std.proofs.Common.{◌≡◌, ◌∙◌, ◌≤◌, ◌+◌, ◌*◌, List, [], length, ap, eq-eqb, true≢false, sym, subst, arith}
-use Rattle.std.proofs.lemmas.Bool.{eqb-true}
-use Rattle.std.proofs.lemmas.List.{nil_from_length}
-use Rattle.cdf_edits.proofs.Edits.StandsAmong.{StandsAmong}
-use Rattle.cdf_edits.specs.Commands.Room.{nodes_above}
-use Rattle.cdf_format.specs.Shape.{VariableShape}
-use Rattle.cdf_model.specs.declared.kinds.Kind.{Kind}
-use Rattle.cdf_reindex.specs.Reindexed.{IsRebuilt, Reindexed}
-use Rattle.cdf_reindex.specs.Reindexing.{HasOld}
+use Rattle.cdf_reindex.proofs.Common.{eqb-true, nil_from_length, StandsAmong, nodes_above, VariableShape, Kind, IsRebuilt, Reindexed, HasOld}
 use Rattle.cdf_reindex.proofs.RebuildingCalls.{on_ok}
 use Rattle.cdf_reindex.proofs.ReindexCalls.{head_lies, has_index, still_sound, still_ends, some_old, few, room, nothing_done, reindexed}
 use Rattle.cdf_reindex.proofs.reindexing.reindex.Goals as goal

@@ -1,7 +1,5 @@
 use Rattle.std.proofs.Common.{◌≡◌, List, ℕ, None, true, ap, subst, sym, ◌∙◌, arith}
-use Rattle.std.specs.List.{last_or}
-use Rattle.cdf_format.specs.Chains.{is_in}
-use Rattle.cdf_edits.specs.Space.Chains.{before}
+use Rattle.cdf_space.proofs.Common.{last_or, is_in, before}
 use Rattle.cdf_space.proofs.AddedRecord.{filled_members, filled_stands, filled_has_chain, filled_joins, is_exchanged}
 use Rattle.cdf_space.proofs.adding.exchange_record.Goals as goal
 

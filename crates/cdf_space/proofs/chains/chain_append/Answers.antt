@@ -1,11 +1,5 @@
 use Rattle.std.proofs.Common.{◌≡◌, ◌+◌, ◌≤◌, arith, length, subst, sym, ◌∙◌, ap, List, ℕ, None}
-use Rattle.std.specs.List.{last_or}
-use Rattle.std.proofs.lemmas.Result.{on_ok_weaker}
-use Rattle.cdf_format.specs.Fields.{LiesIn, with_field}
-use Rattle.cdf_format.specs.Records.{uir_next_uir}
-use Rattle.cdf_edits.specs.Space.Chains.{members_of}
-use Rattle.cdf_space.specs.Steps.{link_place}
-use Rattle.cdf_edits.proofs.Space.ChainHeads.{cdr_room}
+use Rattle.cdf_space.proofs.Common.{last_or, on_ok_weaker, LiesIn, with_field, uir_next_uir, members_of, link_place, cdr_room}
 use Rattle.cdf_space.proofs.Linking.{link_inside, by_lies, appended_by}
 use Rattle.cdf_space.proofs.chains.chain_append.Goals as goal
 

@@ -1,12 +1,5 @@
 use Rattle.std.proofs.Common.{◌≡◌, ◌+◌, ◌≤◌, arith, length, subst, sym, ◌∙◌, ap, List, ℕ, None}
-use Rattle.std.proofs.lemmas.Result.{on_ok_weaker}
-use Rattle.std.specs.List.{last_or}
-use Rattle.cdf_format.specs.Chains.{next_of}
-use Rattle.cdf_format.specs.Fields.{LiesIn, word, with_field}
-use Rattle.cdf_format.specs.Records.{uir_next_uir}
-use Rattle.cdf_edits.specs.Space.Chains.{members_of, before}
-use Rattle.cdf_space.specs.Steps.{link_place}
-use Rattle.cdf_edits.proofs.Space.ChainHeads.{cdr_room}
+use Rattle.cdf_space.proofs.Common.{on_ok_weaker, last_or, next_of, LiesIn, word, with_field, uir_next_uir, members_of, before, link_place, cdr_room}
 use Rattle.cdf_space.proofs.Linking.{place_lies, front_inside, by_lies, replaced_by}
 use Rattle.cdf_space.proofs.chains.chain_replace.Goals as goal
 

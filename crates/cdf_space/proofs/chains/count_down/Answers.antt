@@ -1,9 +1,5 @@
 use Rattle.std.proofs.Common.{◌≡◌, ◌∙◌, ◌+◌, ◌-◌, ap}
-use Rattle.std.proofs.lemmas.Result.{on_ok_weaker}
-use Rattle.cdf_format.specs.Fields.{number, word, with_field}
-use Rattle.cdf_format.specs.Records.{Field, field}
-use Rattle.cdf_edits.specs.Space.Chains.{counted_in, holder_of}
-use Rattle.cdf_edits.proofs.Space.ChainHeads.{count_field}
+use Rattle.cdf_space.proofs.Common.{on_ok_weaker, number, word, with_field, Field, field, counted_in, holder_of, count_field}
 use Rattle.cdf_space.proofs.chains.count_down.Goals as goal
 
 pub returns-clause-counted : goal.returns-clause-counted

@@ -1,9 +1,5 @@
 use Rattle.std.proofs.Common.{◌≡◌, ◌∙◌, ◌+◌, ◌≤◌, ℕ, List, sym, ap, subst, length, arith}
-use Rattle.cdf_area.proofs.Calls.{read_once, read_more}
-use Rattle.cdf_format.specs.Fields.{number, word}
-use Rattle.cdf_edits.specs.Space.Chains.{count_of, counted_in, holder_of}
-use Rattle.cdf_edits.specs.declared.chain.Chain.{Chain}
-use Rattle.cdf_edits.proofs.Space.ChainHeads.{cdr_room, count_field, head_lies}
+use Rattle.cdf_space.proofs.Common.{read_once, read_more, number, word, count_of, counted_in, holder_of, Chain, cdr_room, count_field, head_lies}
 use Rattle.cdf_space.proofs.ChainRead.{count_inside, link_fits, at_head, further, at_end}
 use Rattle.cdf_space.proofs.chains.read_chain.Goals as goal
 

@@ -1,6 +1,5 @@
 use Rattle.std.proofs.Common.{arith, subst}
-use Rattle.cdf_format.specs.Shape.{shape}
-use Rattle.cdf_space.specs.Tallies.{Tallies}
+use Rattle.cdf_space.proofs.Common.{shape, Tallies}
 use Rattle.cdf_space.proofs.Counting.{parts, space_is}
 use Rattle.cdf_space.proofs.measuring.space_of.Goals as goal
 

@@ -1,10 +1,5 @@
 use Rattle.std.proofs.Common.{◌≡◌, ◌∙◌, ◌+◌, ◌≤◌, ℕ, List, ap, arith, length, subst, sym}
-use Rattle.cdf_area.proofs.Calls.{read_done, read_failed, read_more, read_once}
-use Rattle.cdf_edits.proofs.Space.ChainHeads.{cdr_room, gdr_field}
-use Rattle.cdf_format.specs.Chains.{next_of}
-use Rattle.cdf_format.specs.Fields.{number, size_at}
-use Rattle.cdf_format.specs.Records.{gdr_uir_head}
-use Rattle.cdf_format.specs.Shape.{shape}
+use Rattle.cdf_space.proofs.Common.{read_done, read_failed, read_more, read_once, cdr_room, gdr_field, next_of, number, size_at, gdr_uir_head, shape}
 use Rattle.cdf_space.proofs.Counting.{AreListed, all_listed, few_listed, is_next, list_over}
 use Rattle.cdf_space.proofs.measuring.tally_listed.Goals as goal
 

@@ -1,9 +1,6 @@
 use Rattle.std.proofs.Common.{◌≡◌, ◌≢◌, ◌∙◌, ◌+◌, ◌≤◌, ℕ, List, ap, arith, length, refl, subst, sym}
+use Rattle.cdf_space.proofs.Common.{read_done, read_failed, read_more, size_at, type_at, uir_type, shape}
 use Rattle.std.proofs.Math.Path.{transport}
-use Rattle.cdf_area.proofs.Calls.{read_done, read_failed, read_more}
-use Rattle.cdf_format.specs.Fields.{size_at, type_at}
-use Rattle.cdf_format.specs.RecordTypes.{uir_type}
-use Rattle.cdf_format.specs.Shape.{shape}
 use Rattle.cdf_space.proofs.Counting.{AreLeft, all_left, none_left, stands, unused_fits, unused_left, used_left}
 use Rattle.cdf_space.proofs.measuring.tally_unused.Goals as goal
 

@@ -1,6 +1,5 @@
 use Rattle.std.proofs.Common.{◌-◌}
-use Rattle.cdf_area.specs.Calls.{Stays}
-use Rattle.cdf_format.specs.Shape.{shape}
+use Rattle.cdf_space.proofs.Common.{Stays, shape}
 use Rattle.cdf_space.proofs.Counting.{AreLeft}
 use Rattle.cdf_space.proofs.measuring.tally_unused.Given as goal
 

@@ -1,9 +1,5 @@
 use Rattle.std.proofs.Common.{length, arith, sym, ◌∙◌, ap, ℕ, subst}
-use Rattle.std.proofs.lemmas.Result.{on_ok_weaker}
-use Rattle.cdf_edits.specs.Space.Placement.{Takes}
-use Rattle.cdf_format.specs.Shape.{shape}
-use Rattle.cdf_edits.specs.Space.Taking.{EndBytes, IsTaken}
-use Rattle.cdf_edits.proofs.Space.ChainHeads.{cdr_room, gdr_field}
+use Rattle.cdf_space.proofs.Common.{on_ok_weaker, Takes, shape, EndBytes, IsTaken, cdr_room, gdr_field}
 use Rattle.cdf_space.proofs.Taking.{taken_end, none_found, if_both}
 use Rattle.cdf_space.proofs.placing.alloc_record.Goals as goal
 

@@ -1,6 +1,5 @@
 use Rattle.std.proofs.Common.{arith, ℕ, rules, replicate, refl}
-use Rattle.std.proofs.lemmas.List.{length-replicate, get_or-replicate}
-use Rattle.cdf_area.proofs.Calls.{edit_more}
+use Rattle.cdf_space.proofs.Common.{length-replicate, get_or-replicate, edit_more}
 use Rattle.cdf_space.proofs.Writing.{cleared_more, cleared_none}
 use Rattle.cdf_space.proofs.placing.clear.Goals as goal
 

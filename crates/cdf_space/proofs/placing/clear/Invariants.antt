@@ -1,6 +1,5 @@
 use Rattle.std.proofs.Common.{◌≤◌, ◌-◌}
-use Rattle.cdf_area.specs.Calls.{Keeps}
-use Rattle.cdf_space.specs.Fits.{Cleared}
+use Rattle.cdf_space.proofs.Common.{Keeps, Cleared}
 use Rattle.cdf_space.proofs.placing.clear.Given as goal
 
 abbrev pub invariant-loop-done : goal.invariant-loop-done

@@ -1,12 +1,6 @@
 use Rattle.std.proofs.Common.{◌≡◌, ◌≤◌, ◌+◌, length, arith, subst, sym, ◌∙◌, ap, List, ℕ, true, false}
-use Rattle.cdf_area.proofs.Calls.{read_more, read_once}
-use Rattle.cdf_format.specs.Chains.{next_of}
-use Rattle.cdf_format.specs.Fields.{number, size_at}
-use Rattle.cdf_edits.specs.Space.Placement.{fits}
-use Rattle.cdf_format.specs.Records.{gdr_uir_head}
-use Rattle.cdf_format.specs.Shape.{shape}
+use Rattle.cdf_space.proofs.Common.{read_more, read_once, next_of, number, size_at, fits, gdr_uir_head, shape, gdr_field}
 use Rattle.cdf_space.proofs.FirstFit.{IsOnTheList, list_start, listed_lies, place_listed, list_on, list_found, list_ends, list_short}
-use Rattle.cdf_edits.proofs.Space.ChainHeads.{gdr_field}
 use Rattle.cdf_space.proofs.placing.first_fit.Goals as goal
 
 pub read_unsigned8-requires : goal.read_unsigned8-requires

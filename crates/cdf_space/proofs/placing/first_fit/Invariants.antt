@@ -1,5 +1,4 @@
-use Rattle.cdf_area.specs.Calls.{Stays}
-use Rattle.cdf_format.specs.Shape.{shape}
+use Rattle.cdf_space.proofs.Common.{Stays, shape}
 use Rattle.cdf_space.proofs.FirstFit.{IsOnTheList}
 use Rattle.cdf_space.proofs.placing.first_fit.Given as goal
 

@@ -1,13 +1,6 @@
 use Rattle.std.proofs.Common.{◌+◌, ◌<◌, ◌≤◌, ◌^◌, ℕ, length, arith, sym, ap, subst, ◌∙◌, inl, inr}
-use Rattle.std.proofs.lemmas.Result.{on_ok_weaker}
-use Rattle.cdf_format.specs.Fields.{size_at, with_field}
-use Rattle.cdf_edits.specs.Space.Giving.{IsGiven}
-use Rattle.cdf_format.specs.Records.{record_type}
-use Rattle.cdf_format.specs.RecordTypes.{uir_type}
-use Rattle.cdf_format.specs.Shape.{shape}
+use Rattle.cdf_space.proofs.Common.{on_ok_weaker, size_at, with_field, IsGiven, record_type, uir_type, shape, Relinked, cdr_room}
 use Rattle.cdf_space.proofs.Freeing.{ends, long, gdr_ends, head_lies, head_from_gdr, head_small, freed_small, freed_first, size_read, gdr_read, head_read}
-use Rattle.cdf_space.specs.Fits.{Relinked}
-use Rattle.cdf_edits.proofs.Space.ChainHeads.{cdr_room}
 use Rattle.cdf_space.proofs.placing.free_record.Goals as goal
 
 pub read_unsigned8-requires : goal.read_unsigned8-requires

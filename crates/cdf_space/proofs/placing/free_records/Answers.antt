@@ -1,9 +1,6 @@
 use Rattle.std.proofs.Common.{◌≡◌, ◌∙◌, ◌+◌, ◌<◌, ℕ, List, ◌∷◌, [], drop, length, get_or, sym, subst, inl, refl, arith}
+use Rattle.cdf_space.proofs.Common.{edit_more, AllGiven, AreFree, IsGiven, shape}
 use Rattle.std.proofs.lemmas.List.{at_drop_more, at_drop_all}
-use Rattle.cdf_area.proofs.Calls.{edit_more}
-use Rattle.cdf_edits.specs.Space.Freeing.{AllGiven, AreFree}
-use Rattle.cdf_edits.specs.Space.Giving.{IsGiven}
-use Rattle.cdf_format.specs.Shape.{shape}
 use Rattle.cdf_edits.proofs.Edits.FreedBytes.{free_again}
 use Rattle.cdf_space.proofs.placing.free_records.Goals as goal
 

@@ -1,9 +1,5 @@
 use Rattle.std.proofs.Common.{◌≡◌, ℕ, List, drop}
-use Rattle.cdf_area.specs.Calls.{Keeps}
-use Rattle.cdf_edits.specs.Space.Freeing.{AllGiven, AreFree}
-use Rattle.cdf_format.specs.Content.{content}
-use Rattle.cdf_format.specs.Shape.{shape}
-use Rattle.cdf_format.specs.Sound.{IsSound}
+use Rattle.cdf_space.proofs.Common.{Keeps, AllGiven, AreFree, content, shape, IsSound}
 use Rattle.cdf_space.proofs.placing.free_records.Given as goal
 
 abbrev pub invariant-loop-place : goal.invariant-loop-place

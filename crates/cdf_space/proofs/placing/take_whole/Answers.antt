@@ -1,7 +1,5 @@
 use Rattle.std.proofs.Common.{◌≡◌, length, arith, sym, ◌∙◌, ap}
-use Rattle.std.proofs.lemmas.Result.{on_ok_weaker}
-use Rattle.cdf_format.specs.Fields.{eof}
-use Rattle.cdf_format.specs.Shape.{shape}
+use Rattle.cdf_space.proofs.Common.{on_ok_weaker, eof, shape}
 use Rattle.cdf_space.proofs.Taking.{a_ends, link_lies, next_lies, next_apart, taken_whole}
 use Rattle.cdf_space.proofs.placing.take_whole.Goals as goal
 

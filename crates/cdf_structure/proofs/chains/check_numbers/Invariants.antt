@@ -1,9 +1,5 @@
 use Rattle.std.proofs.Common.{drop, Option}
-use Rattle.cdf_area.specs.Calls.{Stays}
-use Rattle.cdf_format.specs.ChainRules.{number_rows}
-use Rattle.cdf_format.specs.Records.{field}
-use Rattle.cdf_structure.specs.Findings.{Finds}
-use Rattle.cdf_structure.specs.declared.finding.Finding.{Finding}
+use Rattle.cdf_structure.proofs.Common.{Stays, number_rows, field, Finds, Finding}
 use Rattle.cdf_structure.proofs.chains.check_numbers.Given as goal
 
 abbrev pub invariant-loop-i : goal.invariant-loop-i

@@ -1,6 +1,5 @@
 use Rattle.std.proofs.Common.{◌+◌, ◌*◌, ◌-◌, length, Ok}
-use Rattle.cdf_area.specs.Calls.{Stays}
-use Rattle.cdf_structure.specs.Indexes.{WalksEntries}
+use Rattle.cdf_structure.proofs.Common.{Stays, WalksEntries}
 use Rattle.cdf_structure.proofs.IndexMet.{ChainMet}
 use Rattle.cdf_structure.proofs.index_walk.+walking.Given as goal
 

@@ -1,6 +1,5 @@
 use Rattle.std.proofs.Common.{length}
-use Rattle.cdf_format.proofs.ChainsLemmas.{linkable-in}
-use Rattle.cdf_format.proofs.TilesLemmas.{tile_lies}
+use Rattle.cdf_structure.proofs.Common.{linkable-in, tile_lies}
 use Rattle.cdf_structure.proofs.index_walk.enter.Goals as goal
 
 pub read_node-requires-clause-fits : goal.read_node-requires-clause-fits

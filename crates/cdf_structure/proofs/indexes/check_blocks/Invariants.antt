@@ -1,8 +1,5 @@
 use Rattle.std.proofs.Common.{take}
-use Rattle.std.specs.List.{flat_map}
-use Rattle.cdf_area.specs.Calls.{Stays}
-use Rattle.cdf_format.specs.Rules.{Hold}
-use Rattle.cdf_structure.specs.Indexes.{block_rows}
+use Rattle.cdf_structure.proofs.Common.{flat_map, Stays, Hold, block_rows}
 use Rattle.cdf_structure.proofs.indexes.check_blocks.Given as goal
 
 abbrev pub invariant-loop-block : goal.invariant-loop-block

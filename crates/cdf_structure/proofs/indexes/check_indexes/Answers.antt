@@ -1,17 +1,7 @@
 use Rattle.std.proofs.Common.{◌≡◌, ◌∙◌, ◌++◌, ℕ, List, length, map, get_or, take, add-one, arith, ap, Ok, Err}
-use Rattle.std.proofs.lemmas.List.{length-map, take_all}
-use Rattle.std.specs.List.{flat_map}
-use Rattle.cdf_area.proofs.Calls.{read_more}
-use Rattle.cdf_format.specs.Fields.{number}
-use Rattle.cdf_format.specs.IndexRules.{met_rows, phase8}
-use Rattle.cdf_format.specs.Owners.{variable_records}
-use Rattle.cdf_format.specs.Records.{vdr_vxr_head}
-use Rattle.cdf_format.specs.Rules.{Hold}
-use Rattle.cdf_format.specs.Shape.{index_of, variable_shape}
-use Rattle.cdf_format.specs.VariableFields.{record_bytes}
-use Rattle.cdf_structure.specs.Indexes.{index_records}
-use Rattle.cdf_structure.specs.Findings.{Yields}
-use Rattle.cdf_structure.specs.declared.index_walk.Index.{Index}
+use Rattle.cdf_structure.proofs.Common.{take_all, flat_map, read_more, number, met_rows, variable_records, vdr_vxr_head, Hold, index_of, variable_shape, record_bytes, index_records, Yields, Index}
+use Rattle.std.proofs.lemmas.List.{length-map}
+use Rattle.cdf_format.specs.IndexRules.{phase8}
 use Rattle.cdf_structure.proofs.IndexLists.{had_at, is_plain, is_small, list_more}
 use Rattle.cdf_structure.proofs.Rows.{broken_member, holds_more}
 use Rattle.cdf_structure.proofs.indexes.check_indexes.Goals as goal

@@ -1,10 +1,5 @@
 use Rattle.std.proofs.Common.{◌≡◌, map, take}
-use Rattle.std.specs.List.{flat_map}
-use Rattle.cdf_area.specs.Calls.{Stays}
-use Rattle.cdf_format.specs.IndexRules.{met_rows}
-use Rattle.cdf_format.specs.Owners.{variable_records}
-use Rattle.cdf_format.specs.Rules.{Hold}
-use Rattle.cdf_format.specs.Shape.{index_of, variable_shape}
+use Rattle.cdf_structure.proofs.Common.{flat_map, Stays, met_rows, variable_records, Hold, index_of, variable_shape}
 use Rattle.cdf_structure.proofs.indexes.check_indexes.Given as goal
 
 abbrev pub invariant-loop-i : goal.invariant-loop-i

@@ -1,6 +1,5 @@
 use Rattle.std.proofs.Common.{length, sym, ◌∙◌, arith}
-use Rattle.cdf_format.proofs.ChainsLemmas.{is_a-in}
-use Rattle.cdf_format.proofs.TilesLemmas.{tile_lies}
+use Rattle.cdf_structure.proofs.Common.{is_a-in, tile_lies}
 use Rattle.cdf_structure.proofs.links.is_linkable.Goals as goal
 
 pub read_size-requires : goal.read_size-requires

@@ -1,8 +1,6 @@
 use Rattle.std.proofs.Common.{◌≡◌, ◌-◌, length}
-use Rattle.cdf_area.specs.Calls.{Stays}
-use Rattle.cdf_format.specs.Chains.{chain_on, chain}
-use Rattle.cdf_format.specs.Records.{field}
-use Rattle.cdf_structure.specs.Met.{Agrees}
+use Rattle.cdf_structure.proofs.Common.{Stays, chain, field, Agrees}
+use Rattle.cdf_format.specs.Chains.{chain_on}
 use Rattle.cdf_structure.proofs.links.walk_chain.Given as goal
 
 abbrev pub invariant-loop-turn : goal.invariant-loop-turn

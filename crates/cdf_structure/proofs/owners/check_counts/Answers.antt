@@ -1,6 +1,5 @@
 use Rattle.std.proofs.Common.{get_or, refl, arith, add-one, inl, eq-eqb, ◌∙◌}
-use Rattle.std.proofs.lemmas.Bool.{ne_eqb}
-use Rattle.cdf_format.specs.Phases.{owner_rows}
+use Rattle.cdf_structure.proofs.Common.{ne_eqb, owner_rows}
 use Rattle.cdf_structure.proofs.Rows.{broken_member, holds_more}
 use Rattle.cdf_structure.proofs.owners.check_counts.Goals as goal
 

@@ -1,6 +1,5 @@
 use Rattle.std.proofs.Common.{ℕ, List, ◌+◌, ◌++◌, take, set, sym, ◌∙◌, subst, length-set, append-nil}
-use Rattle.std.proofs.lemmas.List.{take_all}
-use Rattle.cdf_structure.specs.Walked.{Counts}
+use Rattle.cdf_structure.proofs.Common.{take_all, Counts}
 use Rattle.cdf_structure.proofs.Tallies.{counts_hit, counts_miss}
 use Rattle.cdf_structure.proofs.owners.count_owned.Goals.{in-Some, in_default}
 use Rattle.cdf_structure.proofs.owners.count_owned.Goals as goal

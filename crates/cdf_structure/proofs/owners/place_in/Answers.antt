@@ -1,6 +1,5 @@
 use Rattle.std.proofs.Common.{Ok, Err, arith, inl, inr}
-use Rattle.std.proofs.lemmas.Bool.{cases_lt}
-use Rattle.std.proofs.lemmas.List.Sorted.{searched}
+use Rattle.cdf_structure.proofs.Common.{cases_lt, searched}
 use Rattle.cdf_structure.proofs.Searches.{climbs_ascends}
 use Rattle.cdf_structure.proofs.owners.place_in.Goals as goal
 

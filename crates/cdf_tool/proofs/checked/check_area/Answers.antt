@@ -1,8 +1,5 @@
 use Rattle.std.proofs.Common.{ℕ, List, false, inl, inr, subst, sym}
-use Rattle.std.proofs.Math.Path.{transport}
-use Rattle.cdf_tool.specs.Checking.{SaysAccepted, accepted_text}
-use Rattle.cdf_tool.specs.Counts.{Counted, counts}
-use Rattle.cdf_tool.specs.declared.status.Status.{Status}
+use Rattle.cdf_tool.proofs.Common.{transport, SaysAccepted, accepted_text, Counted, counts, Status}
 use Rattle.cdf_tool.proofs.checked.check_area.Goals as goal
 
 pub returns-in-Ok-clause-ends : goal.returns-in-Ok-clause-ends

@@ -1,10 +1,5 @@
 use Rattle.std.proofs.Common.{ℕ, List, Option, ◌∙◌, ap, subst, sym}
-use Rattle.std.proofs.Math.Path.{transport}
-use Rattle.cdf_area.specs.Frame.{Frame}
-use Rattle.cdf_store.specs.Disk.{Disk, file_in}
-use Rattle.cdf_tool.specs.Checking.{EndsOverFile}
-use Rattle.cdf_tool.specs.Counts.{Counted, counts}
-use Rattle.cdf_tool.specs.Says.{Tells}
+use Rattle.cdf_tool.proofs.Common.{transport, Frame, Disk, file_in, EndsOverFile, Counted, counts, Tells}
 use Rattle.cdf_tool.proofs.CountLemmas.{stopped_counted}
 use Rattle.cdf_tool.proofs.checked.check_attached.Goals as goal
 

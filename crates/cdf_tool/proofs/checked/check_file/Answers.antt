@@ -1,8 +1,5 @@
 use Rattle.std.proofs.Common.{◌≡◌, ◌∙◌, ap, false, refl, Some}
-use Rattle.std.specs.Option.{option_map}
-use Rattle.cdf_store.specs.Disk.{Disk, file_of}
-use Rattle.cdf_tool.specs.Asking.{asked_for}
-use Rattle.cdf_tool.specs.Stored.{Attached}
+use Rattle.cdf_tool.proofs.Common.{option_map, Disk, file_of, asked_for, Attached}
 use Rattle.cdf_tool.proofs.CheckLemmas.{never_six, over_attached}
 use Rattle.cdf_tool.proofs.CountLemmas.{counted_from, writes_stay}
 use Rattle.cdf_tool.proofs.OnlyReads.{attached_files}

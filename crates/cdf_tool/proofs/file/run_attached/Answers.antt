@@ -1,7 +1,5 @@
 use Rattle.std.proofs.Common.{◌≡◌, ◌∙◌, ℕ, List, [], Option, None, Some, Err, IsSome, refl, sym, ap, subst, inl, length}
-use Rattle.std.specs.Option.{option_map}
-use Rattle.cdf_area.specs.Frame.{Frame}
-use Rattle.cdf_store.specs.Disk.{Disk, file_of}
+use Rattle.cdf_tool.proofs.Common.{option_map, Frame, Disk, file_of}
 use Rattle.cdf_tool.specs.declared.status.Status.TheVariants as statuses
 use Rattle.cdf_tool.proofs.AreaLemmas.{attached_holds}
 use Rattle.cdf_tool.proofs.CountLemmas.{counted_attached, no_write}

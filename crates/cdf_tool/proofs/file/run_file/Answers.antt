@@ -1,10 +1,6 @@
 use Rattle.std.proofs.Common.{◌≡◌, ◌∙◌, ap, subst, sym, Some}
-use Rattle.std.specs.Option.{option_map}
-use Rattle.cdf_store.specs.Disk.{file_of}
-use Rattle.cdf_tool.specs.Asking.{asked_for}
-use Rattle.cdf_tool.specs.declared.status.Status.{Status}
+use Rattle.cdf_tool.proofs.Common.{option_map, file_of, asked_for, Status, Attached}
 use Rattle.cdf_tool.specs.Says.{SaysNoFile}
-use Rattle.cdf_tool.specs.Stored.{Attached}
 use Rattle.cdf_tool.proofs.CountLemmas.{counted_from}
 use Rattle.cdf_tool.proofs.EndLemmas.{attached_ends, in_memory_ends}
 use Rattle.cdf_tool.proofs.OnlyReads.{attached_files, if_reads, if_reads_map, nothing_before}

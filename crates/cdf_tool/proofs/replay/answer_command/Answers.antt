@@ -1,6 +1,5 @@
 use Rattle.std.proofs.Common.{refl}
-use Rattle.cdf_model.specs.Grammar.{Asks}
-use Rattle.cdf_session.specs.Built.{built}
+use Rattle.cdf_tool.proofs.Common.{Asks, built}
 use Rattle.cdf_tool.proofs.Commands.{command_turns}
 use Rattle.cdf_tool.proofs.OnlyReads.{reads_same}
 use Rattle.cdf_tool.proofs.Whole.{can_be_written}

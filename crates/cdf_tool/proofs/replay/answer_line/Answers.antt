@@ -1,9 +1,6 @@
 use Rattle.std.proofs.Common.{◌≡◌, true, IfOk, OnOk, sym, subst}
-use Rattle.cdf_area.specs.Calls.{Stays}
-use Rattle.cdf_lines.specs.Pending.{line_of}
-use Rattle.cdf_model.specs.Grammar.{Parsed, parse}
+use Rattle.cdf_tool.proofs.Common.{Stays, line_of, Parsed, parse, Turns, asked_by}
 use Rattle.cdf_tool.specs.Reading.{reads}
-use Rattle.cdf_tool.specs.Replay.{Turns, asked_by}
 use Rattle.cdf_tool.proofs.Commands.{asked_is, asked_sayable}
 use Rattle.cdf_tool.proofs.replay.answer_line.Goals as goal
 

@@ -1,8 +1,6 @@
 use Rattle.std.proofs.Common.{◌∙◌, ap, subst, sym, refl}
+use Rattle.cdf_tool.proofs.Common.{counts, line_reads, GivesNext, IsShort}
 use Rattle.cdf_tool.specs.declared.status.Status.TheVariants as statuses
-use Rattle.cdf_tool.specs.Counts.{counts}
-use Rattle.cdf_tool.specs.Reading.{line_reads}
-use Rattle.cdf_tool.specs.Replay.{GivesNext, IsShort}
 use Rattle.cdf_tool.proofs.CountLemmas.{counted_on, counts_stay, sink_counted, with_source}
 use Rattle.cdf_tool.proofs.Lines.{all_drained, all_replies, next_answered, next_fewer, next_same, next_short, next_stops, starts, stopped_cut}
 use Rattle.cdf_tool.proofs.OnlyReads.{next_read, stays_on, stays_still}

@@ -1,8 +1,5 @@
 use Rattle.std.proofs.Common.{◌≡◌, true, length}
-use Rattle.cdf_area.specs.Calls.{Stays}
-use Rattle.cdf_tool.specs.Counts.{counts}
-use Rattle.cdf_tool.specs.Reading.{all_read}
-use Rattle.cdf_tool.specs.Replay.{AreShort}
+use Rattle.cdf_tool.proofs.Common.{Stays, counts, all_read, AreShort}
 use Rattle.cdf_tool.proofs.Standing.{Reached}
 use Rattle.cdf_tool.proofs.script.answer_lines.Given as goal
 

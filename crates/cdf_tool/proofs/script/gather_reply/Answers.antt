@@ -1,6 +1,5 @@
 use Rattle.std.proofs.Common.{ℕ, List, ◌++◌, inr, refl, subst}
-use Rattle.cdf_store.specs.Written.{AppendsFront}
-use Rattle.cdf_tool.specs.Gathering.{Gathers}
+use Rattle.cdf_tool.proofs.Common.{AppendsFront, Gathers}
 use Rattle.cdf_tool.proofs.CountLemmas.{area_counted, counts_stay, output_counted}
 use Rattle.cdf_tool.proofs.Lines.{stops_before, stops_cut}
 use Rattle.cdf_tool.proofs.script.gather_reply.Goals as goal

@@ -1,8 +1,5 @@
 use Rattle.std.proofs.Common.{◌≡◌, ◌≤◌, []}
-use Rattle.cdf_model.specs.Limits.{script_limit}
-use Rattle.cdf_area.specs.Calls.{Stays}
-use Rattle.cdf_tool.specs.Counts.{counts}
-use Rattle.cdf_tool.specs.Reading.{IfReads}
+use Rattle.cdf_tool.proofs.Common.{script_limit, Stays, counts, IfReads}
 use Rattle.cdf_tool.proofs.Standing.{IsAfter}
 use Rattle.cdf_tool.proofs.script.run_script.Given as goal
 

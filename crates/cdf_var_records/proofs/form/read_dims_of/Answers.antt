@@ -1,9 +1,5 @@
 use Rattle.std.proofs.Common.{◌≡◌, ◌∙◌, ℕ, List, subst}
-use Rattle.std.proofs.lemmas.Result.{IfOk-weaker}
-use Rattle.cdf_format.specs.Content.{content}
-use Rattle.cdf_format.specs.VariableFields.{dims_at}
-use Rattle.cdf_model.specs.declared.kinds.Kind.{Kind}
-use Rattle.cdf_var_records.specs.Descriptors.{IsVdr}
+use Rattle.cdf_var_records.proofs.Common.{IfOk-weaker, content, dims_at, Kind, IsVdr}
 use Rattle.cdf_var_records.proofs.RecordForms.{r_sizes_are}
 use Rattle.cdf_var_records.proofs.form.read_dims_of.Goals as goal
 

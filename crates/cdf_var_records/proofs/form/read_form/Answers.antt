@@ -1,9 +1,5 @@
 use Rattle.std.proofs.Common.{◌∙◌, ℕ, List, length, refl, sym, ap, subst, arith}
-use Rattle.cdf_area.proofs.Calls.{read_done, read_more, read_once}
-use Rattle.cdf_format.specs.Stored.{is_little}
-use Rattle.cdf_format.specs.VariableFields.{dims_at, varys_at}
-use Rattle.cdf_format.specs.WellFormed.{Good}
-use Rattle.cdf_var_records.specs.Descriptors.{IsPlace, IsVdr}
+use Rattle.cdf_var_records.proofs.Common.{read_done, read_more, read_once, is_little, dims_at, varys_at, Good, IsPlace, IsVdr}
 use Rattle.cdf_var_records.proofs.PadSites.{vdr_lies}
 use Rattle.cdf_var_records.proofs.RecordForms.{form_is}
 use Rattle.cdf_var_records.proofs.form.read_form.Goals as goal

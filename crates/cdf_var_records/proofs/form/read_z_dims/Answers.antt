@@ -1,7 +1,5 @@
 use Rattle.std.proofs.Common.{◌≡◌, ◌+◌, ◌∙◌, ℕ, List, length, ap, arith}
-use Rattle.std.proofs.lemmas.Result.{IfOk-weaker}
-use Rattle.cdf_format.specs.Fields.{words}
-use Rattle.cdf_format.specs.VariableFields.{dims_at}
+use Rattle.cdf_var_records.proofs.Common.{IfOk-weaker, words, dims_at}
 use Rattle.cdf_var_records.proofs.RecordForms.{z_sizes_are, z_sizes_lie}
 use Rattle.cdf_var_records.proofs.form.read_z_dims.Goals as goal
 

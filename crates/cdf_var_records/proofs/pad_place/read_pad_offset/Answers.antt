@@ -1,8 +1,5 @@
 use Rattle.std.proofs.Common.{◌≡◌, ◌∙◌, sym, ap, subst}
-use Rattle.cdf_format.specs.VariableFields.{dimensions_at}
-use Rattle.cdf_model.specs.declared.kinds.Kind.{Kind}
-use Rattle.cdf_edits.specs.Commands.Room.{vdr_bytes}
-use Rattle.cdf_var_records.specs.Descriptors.{IsVdr}
+use Rattle.cdf_var_records.proofs.Common.{dimensions_at, Kind, vdr_bytes, IsVdr}
 use Rattle.cdf_var_records.proofs.PadSites.{at_is, r_count}
 use Rattle.cdf_var_records.proofs.pad_place.read_pad_offset.Goals.{in-R+in_ok-dimensions-in-R, in-Z+in_ok-dimensions-in-Z}
 use Rattle.cdf_var_records.proofs.pad_place.read_pad_offset.Goals as goal

@@ -1,6 +1,5 @@
 use Rattle.std.proofs.Common.{◌∙◌, ◌+◌, ap, length, sym, subst, ◌≤◌, ℕ, arith}
-use Rattle.cdf_format.proofs.GoodHead.{few_dimensions}
-use Rattle.cdf_format.specs.Fields.{word}
+use Rattle.cdf_var_records.proofs.Common.{few_dimensions, word}
 use Rattle.cdf_var_records.proofs.DimsRead.{count_is, count_lies, offset_lies}
 use Rattle.cdf_var_records.proofs.pad_place.read_r_dimensions.Goals as goal
 

@@ -1,8 +1,5 @@
 use Rattle.std.proofs.Common.{ℕ, List, refl, subst, arith}
-use Rattle.cdf_area.proofs.Calls.{read_more}
-use Rattle.cdf_edits.specs.Index.Blocks.{ranges_of}
-use Rattle.cdf_index.specs.Finding.{index_at}
-use Rattle.cdf_var_records.specs.Room.{IsStretch}
+use Rattle.cdf_var_records.proofs.Common.{read_more, ranges_of, index_at, IsStretch}
 use Rattle.cdf_var_records.proofs.PutRoomCount.{few_more, none_yet_of, one_more}
 use Rattle.cdf_var_records.proofs.put_room.count_missing.Goals as goal
 

@@ -1,8 +1,6 @@
 use Rattle.std.proofs.Common.{◌≡◌, ◌≤◌, ◌+◌, ◌-◌}
+use Rattle.cdf_var_records.proofs.Common.{ranges_of, index_at, covered_before}
 use Rattle.cdf_area.specs.Calls.{Stays}
-use Rattle.cdf_edits.specs.Index.Blocks.{ranges_of}
-use Rattle.cdf_index.specs.Finding.{index_at}
-use Rattle.cdf_var_records.specs.Room.{covered_before}
 use Rattle.cdf_var_records.proofs.put_room.count_missing.Given as goal
 
 abbrev pub invariant-loop-turn : goal.invariant-loop-turn

@@ -1,14 +1,6 @@
 use Rattle.std.proofs.Common.{◌≡◌, ◌+◌, ◌∙◌, ℕ, List, sym, ap, arith}
+use Rattle.cdf_var_records.proofs.Common.{IfOk-weaker, option_map, number, word, leaves_of, vdr_vxr_head, HasIndex, index_at, leaf_of, seen, leaf_in}
 use Rattle.std.proofs.Math.Path.{transport}
-use Rattle.std.proofs.lemmas.Result.{IfOk-weaker}
-use Rattle.std.specs.Option.{option_map}
-use Rattle.cdf_format.specs.Fields.{number, word}
-use Rattle.cdf_format.specs.Index.{leaves_of}
-use Rattle.cdf_format.specs.Records.{vdr_vxr_head}
-use Rattle.cdf_index.specs.Finding.{HasIndex, index_at}
-use Rattle.cdf_index.specs.Order.{leaf_of}
-use Rattle.cdf_index.specs.Sight.{seen}
-use Rattle.cdf_var_records.specs.Records.{leaf_in}
 use Rattle.cdf_var_records.proofs.RecordReading.{before_max, past_max}
 use Rattle.cdf_var_records.proofs.record.find_stored.Goals as goal
 

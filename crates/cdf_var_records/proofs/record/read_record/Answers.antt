@@ -1,9 +1,5 @@
 use Rattle.std.proofs.Common.{◌≡◌, ◌∙◌, ℕ, List, refl, sym, ap, subst}
-use Rattle.std.proofs.lemmas.Result.{IfOk-weaker}
-use Rattle.cdf_area.proofs.Calls.{read_done, read_failed, read_once}
-use Rattle.cdf_format.specs.WellFormed.{Good}
-use Rattle.cdf_model.specs.Reading.{pad_record, read}
-use Rattle.cdf_var_records.specs.Records.{IsForm, variable_at}
+use Rattle.cdf_var_records.proofs.Common.{IfOk-weaker, read_done, read_failed, read_once, Good, pad_record, read, IsForm, variable_at}
 use Rattle.cdf_var_records.proofs.RecordReading.{reads_pad, reads_stored}
 use Rattle.cdf_var_records.proofs.record.read_record.Goals as goal
 

@@ -1,10 +1,5 @@
 use Rattle.std.proofs.Common.{◌≡◌, ◌-◌, ◌∙◌, ℕ, List, length, refl, sym, ap, subst, arith}
-use Rattle.std.specs.Option.{option_map}
-use Rattle.cdf_area.proofs.Calls.{read_done, read_failed, read_more, read_once}
-use Rattle.cdf_format.specs.Content.{plain_bytes}
-use Rattle.cdf_format.specs.VariableFields.{record_bytes}
-use Rattle.cdf_index.specs.Reading.{HoldsRecords, record_in}
-use Rattle.cdf_index.specs.Sight.{seen}
+use Rattle.cdf_var_records.proofs.Common.{option_map, read_done, read_failed, read_more, read_once, plain_bytes, record_bytes, HoldsRecords, record_in, seen}
 use Rattle.cdf_var_records.proofs.RecordReading.{holds, holds_from, holds_upto, index, leaf_has, lies, no_record, whole}
 use Rattle.cdf_var_records.proofs.record.read_stored.Goals as goal
 

@@ -1,11 +1,5 @@
 use Rattle.std.proofs.Common.{◌+◌, ◌^◌, ◌<◌, length, None, ap, sym, subst, ◌∙◌, arith}
-use Rattle.std.specs.List.{last_or}
-use Rattle.cdf_format.proofs.GoodSound.{good_is_sound, good_eof}
-use Rattle.cdf_format.specs.Shape.{shape}
-use Rattle.cdf_edits.specs.Space.Chains.{HasChain, HolderStands, counted_in, members_of, type_in}
-use Rattle.cdf_edits.specs.declared.chain.Chain.{Chain}
-use Rattle.cdf_edits.proofs.Commands.ListParts.{last_got}
-use Rattle.cdf_vars.specs.Creating.{wanted}
+use Rattle.cdf_vars.proofs.Common.{last_or, good_is_sound, good_eof, shape, HasChain, HolderStands, counted_in, members_of, type_in, Chain, last_got, wanted}
 use Rattle.cdf_vars.proofs.CreatedVariable.{few, few_counted, follows, has_room, is_body, is_typed, known, made_there, others}
 use Rattle.cdf_vars.proofs.VariableChains.{has_variable_chain, holder_stands, variable_members}
 use Rattle.cdf_vars.proofs.creating.make.Goals as goal

@@ -1,6 +1,5 @@
 use Rattle.std.proofs.Common.{◌≡◌, ◌∷◌, ◌++◌, drop, length}
-use Rattle.std.specs.List.{flat_map}
-use Rattle.byteorder.specs.Endian.{big_bytes}
+use Rattle.cdf_vars.proofs.Common.{flat_map, big_bytes}
 use Rattle.cdf_vars.proofs.descriptor.push_sizes.Given as goal
 
 abbrev pub invariant-loop-size : goal.invariant-loop-size

@@ -1,7 +1,5 @@
 use Rattle.std.proofs.Common.{◌≡◌, ◌++◌, drop, map}
-use Rattle.std.specs.List.{flat_map}
-use Rattle.byteorder.specs.Endian.{big_bytes}
-use Rattle.cdf_vars.specs.Creating.{vary_code}
+use Rattle.cdf_vars.proofs.Common.{flat_map, big_bytes, vary_code}
 use Rattle.cdf_vars.proofs.descriptor.push_varys.Given as goal
 
 abbrev pub invariant-loop-varies : goal.invariant-loop-varies

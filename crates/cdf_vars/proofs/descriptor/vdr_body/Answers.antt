@@ -1,7 +1,5 @@
 use Rattle.std.proofs.Common.{◌++◌, ◌∙◌, List, ℕ, ap₂, map}
-use Rattle.std.specs.List.{flat_map}
-use Rattle.byteorder.specs.Endian.{big_bytes}
-use Rattle.cdf_vars.specs.Creating.{own_dims, vary_code, wanted}
+use Rattle.cdf_vars.proofs.Common.{flat_map, big_bytes, own_dims, vary_code, wanted}
 use Rattle.cdf_vars.proofs.NewVdr.{body_parts}
 use Rattle.cdf_vars.proofs.descriptor.vdr_body.Goals as goal
 

@@ -1,13 +1,6 @@
 use Rattle.std.proofs.Common.{◌≡◌, ◌+◌, ◌∙◌, ℕ, List, length, take, None, refl, sym, ap, subst, arith}
-use Rattle.std.specs.List.{last_or}
-use Rattle.cdf_area.specs.Frame.{Frame}
-use Rattle.cdf_area.proofs.Calls.{edit_done, edit_failed, edit_more, edit_without_memory, edits_by_read, keeps_by_read, read_once}
-use Rattle.cdf_format.specs.WellFormed.{Good}
-use Rattle.cdf_edits.specs.Space.Chains.{before, members_of}
-use Rattle.cdf_edits.specs.Space.VariableChains.{variables_chain}
-use Rattle.cdf_edits.proofs.Commands.ListParts.{last_got}
-use Rattle.cdf_var_records.specs.Descriptors.{IsVdr}
-use Rattle.cdf_vars.specs.Padding.{padded_flags}
+use Rattle.cdf_vars.proofs.Common.{last_or, Frame, edit_done, edit_failed, edit_more, edits_by_read, keeps_by_read, read_once, Good, before, members_of, variables_chain, last_got, IsVdr, padded_flags}
+use Rattle.cdf_area.proofs.Calls.{edit_without_memory}
 use Rattle.cdf_vars.proofs.PadSet.{body_long, is_vdr, old_long, place_late, place_lies, stands_behind}
 use Rattle.cdf_vars.proofs.pad_record.move_vdr.Goals as goal
 

@@ -1,7 +1,5 @@
 use Rattle.std.proofs.Common.{◌∙◌, ◌++◌, ℕ, List, take, sym, ap, arith}
-use Rattle.std.proofs.lemmas.List.{length-take}
-use Rattle.byteorder.specs.Endian.{big_bytes}
-use Rattle.cdf_vars.specs.Padding.{padded_flags}
+use Rattle.cdf_vars.proofs.Common.{length-take, big_bytes, padded_flags}
 use Rattle.cdf_vars.proofs.PadSet.{pieced}
 use Rattle.cdf_vars.proofs.pad_record.padded_bytes.Goals as goal
 

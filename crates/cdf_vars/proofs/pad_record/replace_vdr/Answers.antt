@@ -1,11 +1,6 @@
 use Rattle.std.proofs.Common.{◌∙◌, None, refl, sym, ap, subst}
-use Rattle.std.specs.List.{last_or}
-use Rattle.cdf_area.proofs.Calls.{edit_done, edit_failed, edit_more, edit_once, edits_by_read}
-use Rattle.cdf_format.proofs.GoodSound.{good_is_sound, good_eof}
-use Rattle.cdf_format.specs.Chains.{is_in}
-use Rattle.cdf_format.specs.Shape.{shape}
-use Rattle.cdf_edits.specs.Space.Chains.{HasChain, HolderStands, before, members_of, type_in}
-use Rattle.cdf_edits.specs.declared.chain.Chain.{Chain}
+use Rattle.cdf_vars.proofs.Common.{last_or, edit_done, edit_failed, edit_more, edits_by_read, good_is_sound, good_eof, is_in, shape, HasChain, HolderStands, before, members_of, type_in, Chain}
+use Rattle.cdf_area.proofs.Calls.{edit_once}
 use Rattle.cdf_vars.proofs.PadSet.{is_member, may_place, of_chain, then_linked}
 use Rattle.cdf_vars.proofs.VariableChains.{has_variable_chain, holder_stands}
 use Rattle.cdf_vars.proofs.pad_record.replace_vdr.Goals as goal

@@ -1,7 +1,5 @@
 use Rattle.std.proofs.Common.{◌≡◌, ◌∙◌, ◌%◌, ℕ, List, length, sym, ap, subst, arith}
-use Rattle.cdf_model.specs.Types.{size_of}
-use Rattle.cdf_model.specs.ByteOrder.{turned}
-use Rattle.cdf_values.proofs.ValueLengths.{whole_elements}
+use Rattle.cdf_vars.proofs.Common.{size_of, turned, whole_elements}
 use Rattle.cdf_vars.proofs.PadValues.{is_value, value_long}
 use Rattle.cdf_vars.proofs.padding.read_pad.Goals as goal
 

@@ -1,6 +1,5 @@
 use Rattle.std.proofs.Common.{refl, sym, subst}
-use Rattle.cdf_area.proofs.Calls.{read_done, read_failed, read_more, read_once}
-use Rattle.cdf_format.specs.WellFormed.{Good}
+use Rattle.cdf_vars.proofs.Common.{read_done, read_failed, read_more, read_once, Good}
 use Rattle.cdf_vars.proofs.PutParts.{whole_pad, whole_record}
 use Rattle.cdf_vars.proofs.put_record.read_new_record.Goals as goal
 

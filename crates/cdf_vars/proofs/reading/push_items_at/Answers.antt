@@ -1,6 +1,5 @@
 use Rattle.std.proofs.Common.{◌∙◌, List, ℕ, get_or, ap, arith}
-use Rattle.cdf_area.proofs.Calls.{read_more}
-use Rattle.cdf_format.specs.Fields.{name_at}
+use Rattle.cdf_vars.proofs.Common.{read_more, name_at}
 use Rattle.cdf_vars.proofs.NamesRead.{all_listed, name_lies, next_listed}
 use Rattle.cdf_vars.proofs.reading.push_items_at.Goals as goal
 

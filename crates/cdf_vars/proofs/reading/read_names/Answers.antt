@@ -1,6 +1,5 @@
 use Rattle.std.proofs.Common.{◌∙◌, List, ℕ, get_or, ap, arith}
-use Rattle.cdf_area.proofs.Calls.{read_more, read_without_memory}
-use Rattle.cdf_format.specs.Fields.{name_at}
+use Rattle.cdf_vars.proofs.Common.{read_more, read_without_memory, name_at}
 use Rattle.cdf_vars.proofs.NamesRead.{few_names, all_named, name_lies, next_is_new, next_named}
 use Rattle.cdf_vars.proofs.reading.read_names.Goals as goal
 

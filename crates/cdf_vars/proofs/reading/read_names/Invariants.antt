@@ -1,6 +1,5 @@
 use Rattle.std.proofs.Common.{◌≡◌, map, take}
-use Rattle.cdf_area.specs.Calls.{Stays}
-use Rattle.cdf_format.specs.Fields.{name_at}
+use Rattle.cdf_vars.proofs.Common.{Stays, name_at}
 use Rattle.cdf_vars.proofs.reading.read_names.Given as goal
 
 abbrev pub invariant-loop-place : goal.invariant-loop-place

@@ -1,12 +1,5 @@
 use Rattle.std.proofs.Common.{◌∙◌, ◌≤◌, ◌^◌, ℕ, List, ◌+◌, max, drop, get_or, sym, ap, subst, arith}
-use Rattle.std.proofs.lemmas.List.{at_drop_all}
-use Rattle.std.specs.List.{fold}
-use Rattle.cdf_area.proofs.Calls.{read_more}
-use Rattle.cdf_format.specs.Fields.{LiesIn}
-use Rattle.cdf_format.specs.Records.{vdr_name}
-use Rattle.cdf_format.specs.VariableFields.{max_rec_at}
-use Rattle.cdf_model.specs.DataSet.{extent}
-use Rattle.cdf_edits.proofs.Commands.ListParts.{got_in}
+use Rattle.cdf_vars.proofs.Common.{at_drop_all, fold, read_more, LiesIn, vdr_name, max_rec_at, extent, got_in}
 use Rattle.cdf_vars.proofs.RemovalAnswers.{extents, max_few, one_read}
 use Rattle.cdf_vars.proofs.removing.greatest_extent.Goals as goal
 

@@ -1,6 +1,5 @@
 use Rattle.std.proofs.Common.{◌≡◌, ◌≤◌, ◌^◌, max, drop}
-use Rattle.std.specs.List.{fold}
-use Rattle.cdf_area.specs.Calls.{Stays}
+use Rattle.cdf_vars.proofs.Common.{fold, Stays}
 use Rattle.cdf_vars.proofs.RemovalAnswers.{extents}
 use Rattle.cdf_vars.proofs.removing.greatest_extent.Given as goal
 

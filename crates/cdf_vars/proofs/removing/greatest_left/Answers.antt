@@ -1,9 +1,5 @@
 use Rattle.std.proofs.Common.{◌∙◌, ◌+◌, ℕ, List, FitsSigned, max, drop, sym, ap, subst}
-use Rattle.std.proofs.lemmas.Int.{to_z-of_z}
-use Rattle.std.specs.Int.{w32}
-use Rattle.std.specs.List.{fold}
-use Rattle.cdf_edits.proofs.Edits.RemovedVariable.{last_fits}
-use Rattle.cdf_vars.specs.Removing.{VdrsLie}
+use Rattle.cdf_vars.proofs.Common.{to_z-of_z, w32, fold, last_fits, VdrsLie}
 use Rattle.cdf_vars.proofs.RemovalAnswers.{to_the_end, extents, greatest_of_parts, in_taken, in_dropped}
 use Rattle.cdf_vars.proofs.removing.greatest_left.Goals as goal
 

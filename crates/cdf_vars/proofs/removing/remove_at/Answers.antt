@@ -1,12 +1,7 @@
 use Rattle.std.proofs.Common.{◌∙◌, ◌+◌, subst, arith}
-use Rattle.std.specs.List.{remove}
-use Rattle.cdf_edits.proofs.Commands.ListParts.{got_in}
-use Rattle.cdf_edits.proofs.Edits.RemovalCalls.{this, inside, few, variables_listed, lie_after, cdr_second, field_second, sound_mid, free_mid, removes_by}
-use Rattle.cdf_format.proofs.GoodSound.{good_is_sound}
-use Rattle.cdf_format.specs.Shape.{shape}
-use Rattle.cdf_format.specs.Tiles.{In}
+use Rattle.cdf_vars.proofs.Common.{remove, got_in, this, good_is_sound, shape, In, on_ok_weaker}
+use Rattle.cdf_edits.proofs.Edits.RemovalCalls.{inside, few, variables_listed, lie_after, cdr_second, field_second, sound_mid, free_mid, removes_by}
 use Rattle.cdf_vars.proofs.RemovalAnswers.{handed_on, to_the_end, numbers_written, few_behind, own_are, vdr_among, in_dropped}
-use Rattle.std.proofs.lemmas.Result.{on_ok_weaker}
 use Rattle.cdf_vars.proofs.removing.remove_at.Goals as goal
 
 pub read_records-requires-clause-vdr : goal.read_records-requires-clause-vdr

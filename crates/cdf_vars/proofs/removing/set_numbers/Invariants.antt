@@ -1,8 +1,6 @@
 use Rattle.std.proofs.Common.{◌≡◌, ◌+◌, drop}
+use Rattle.cdf_vars.proofs.Common.{numbers_on, with_writes, VdrsLie}
 use Rattle.cdf_area.specs.Calls.{Keeps}
-use Rattle.cdf_edits.specs.Edits.RemovesVariable.{numbers_on}
-use Rattle.cdf_edits.specs.Edits.Writes.{with_writes}
-use Rattle.cdf_vars.specs.Removing.{VdrsLie}
 use Rattle.cdf_vars.proofs.removing.set_numbers.Given as goal
 
 abbrev pub invariant-loop-i : goal.invariant-loop-i

@@ -1,8 +1,7 @@
 use Rattle.std.proofs.Common.{◌≡◌, ◌∙◌, ℕ, ◌<◌, List, [], ◌∷◌, ◌++◌, length, ap, sym, subst}
-use Rattle.std.specs.Prelude.{slice_set}
+use Rattle.cdf_vars.proofs.Common.{slice_set, KnownKind}
 use Rattle.cdf_names.specs.Names.{last_to}
 use Rattle.cdf_names.proofs.Moved.{last_moved}
-use Rattle.cdf_vars.specs.Known.{KnownKind}
 use Rattle.cdf_vars.proofs.renaming.rename_in.Goals as goal
 
 pub returns-in-Ok-clause-renamed : goal.returns-in-Ok-clause-renamed

@@ -1,6 +1,5 @@
 use Rattle.std.proofs.Common.{arith}
-use Rattle.cdf_format.proofs.GoodHead.{cdr_fits, gdr_fits}
-use Rattle.cdf_format.proofs.GoodSound.{good_is_sound, good_eof}
+use Rattle.cdf_vars.proofs.Common.{cdr_fits, gdr_fits, good_is_sound, good_eof}
 use Rattle.cdf_vars.proofs.SetUpAnswers.{taken_lies}
 use Rattle.cdf_vars.proofs.setup.make_gdr.Goals as goal
 

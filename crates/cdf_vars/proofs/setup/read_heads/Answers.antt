@@ -1,6 +1,5 @@
 use Rattle.std.proofs.Common.{length, sym, ap, ◌∙◌, arith}
-use Rattle.cdf_format.proofs.GoodHead.{cdr_fits, gdr_fits}
-use Rattle.cdf_records.specs.declared.cdr.Cdr.{Cdr}
+use Rattle.cdf_vars.proofs.Common.{cdr_fits, gdr_fits, Cdr}
 use Rattle.cdf_vars.proofs.SetUpAnswers.{size_read, counts_read}
 use Rattle.cdf_vars.proofs.setup.read_heads.Goals as goal
 

@@ -1,9 +1,5 @@
 use Rattle.std.proofs.Common.{List, ℕ, length, not, refl, ap, sym, subst, ◌∙◌, arith}
-use Rattle.cdf_area.specs.Frame.{Frame}
-use Rattle.cdf_edits.specs.Follows.{Follows}
-use Rattle.cdf_format.specs.WellFormed.{Good}
-use Rattle.cdf_model.specs.declared.command.Command.TheVariants.{Setup}
-use Rattle.cdf_model.specs.VariableSteps.{are_bad_sizes}
+use Rattle.cdf_vars.proofs.Common.{Frame, Follows, Good, Setup, are_bad_sizes}
 use Rattle.cdf_vars.proofs.SetUpAnswers.{unknown_encoding, badly_shaped, in_use, too_large, is_done}
 use Rattle.cdf_vars.proofs.setup.set_up.Goals as goal
 

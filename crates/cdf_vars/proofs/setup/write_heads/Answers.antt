@@ -1,12 +1,5 @@
 use Rattle.std.proofs.Common.{◌≡◌, ℕ, List, ◌+◌, ◌++◌, length, ap, ◌∙◌, arith, to_z}
-use Rattle.std.proofs.lemmas.Int.{of_z-to_z}
-use Rattle.std.proofs.lemmas.Result.{on_ok_weaker}
-use Rattle.std.specs.Int.{cast_unsigned, w32}
-use Rattle.cdf_base.specs.Bytes.{put}
-use Rattle.cdf_edits.proofs.Space.LaidOut.{length-words}
-use Rattle.cdf_format.specs.Fields.{with_field}
-use Rattle.cdf_format.specs.NewFile.{of_4_bytes}
-use Rattle.cdf_format.specs.Records.{cdr_encoding, cdr_flags, gdr_r_num_dims}
+use Rattle.cdf_vars.proofs.Common.{of_z-to_z, on_ok_weaker, cast_unsigned, w32, put, length-words, with_field, of_4_bytes, cdr_encoding, cdr_flags, gdr_r_num_dims}
 use Rattle.cdf_vars.proofs.SetUpAnswers.{few_dims}
 use Rattle.cdf_vars.proofs.setup.write_heads.Goals as goal
 

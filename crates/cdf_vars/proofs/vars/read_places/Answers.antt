@@ -1,9 +1,5 @@
 use Rattle.std.proofs.Common.{◌≡◌, length, sym, subst}
-use Rattle.std.proofs.lemmas.Result.{IfOk-weaker}
-use Rattle.cdf_edits.specs.declared.chain.Chain.{Chain}
-use Rattle.cdf_edits.specs.Space.Chains.{counted_in, members_of, HasChain, HolderStands}
-use Rattle.cdf_format.specs.Shape.{shape}
-use Rattle.cdf_format.proofs.GoodSound.{good_is_sound}
+use Rattle.cdf_vars.proofs.Common.{IfOk-weaker, Chain, counted_in, members_of, HasChain, HolderStands, shape, good_is_sound}
 use Rattle.cdf_vars.proofs.VariableChains.{counted_members, has_variable_chain, holder_stands}
 use Rattle.cdf_vars.proofs.NamesRead.{places_read}
 use Rattle.cdf_vars.proofs.vars.read_places.Goals as goal

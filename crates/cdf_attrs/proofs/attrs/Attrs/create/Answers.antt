@@ -1,12 +1,8 @@
 use Rattle.std.proofs.Common.{◌≡◌, List, ℕ, [], ◌∷◌, ◌++◌, ap, ap₂, sym, ◌∙◌, arith}
-use Rattle.std.specs.List.{remove}
-use Rattle.cdf_names.specs.Names.{has_name}
-use Rattle.cdf_format.specs.Shape.{shape}
-use Rattle.cdf_format.proofs.GoodSound.{good_is_sound}
+use Rattle.cdf_attrs.proofs.Common.{remove, has_name, shape, good_is_sound, last_removed}
 use Rattle.cdf_attrs.proofs.AttributeChain.{few_attributes, names_count}
 use Rattle.cdf_attrs.proofs.CreatingAnswers.{badly_named, name_taken, too_large, is_done}
 use Rattle.cdf_attrs.proofs.KnownAttributes.{names_known, places_known, none_known}
-use Rattle.cdf_edits.proofs.Commands.ListParts.{last_removed}
 use Rattle.cdf_attrs.proofs.attrs.Attrs.create.Goals as goal
 
 pub returns-then-is_bad_name-clause-answers : goal.returns-then-is_bad_name-clause-answers

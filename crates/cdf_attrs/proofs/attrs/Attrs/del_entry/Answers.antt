@@ -1,12 +1,5 @@
 use Rattle.std.proofs.Common.{◌∙◌, ℕ, List, sym, ap, subst, arith}
-use Rattle.cdf_format.specs.WellFormed.{Good}
-use Rattle.cdf_model.specs.declared.answer.Outcome.TheVariants.{Refused}
-use Rattle.cdf_model.specs.declared.answer.Reason.TheVariants.{NoSuchEntry}
-use Rattle.cdf_model.specs.declared.command.Command.TheVariants.{DelEntry}
-use Rattle.cdf_edits.specs.Answers.{Answers}
-use Rattle.cdf_edits.specs.Edits.EntryMarks.{entries_chain}
-use Rattle.cdf_attrs.specs.Finding.{Finds}
-use Rattle.cdf_attrs.specs.Known.{Known, KnowsEntries}
+use Rattle.cdf_attrs.proofs.Common.{Good, Refused, NoSuchEntry, DelEntry, Answers, entries_chain, Finds, Known, KnowsEntries}
 use Rattle.cdf_attrs.proofs.AttributeFound.{adr_is, place_within}
 use Rattle.cdf_attrs.proofs.EntryDeleted.{refused_for, is_missing, there_in, taken_in, within, entry_there, is_deleted, known_after}
 use Rattle.cdf_attrs.proofs.attrs.Attrs.del_entry.Goals as goal

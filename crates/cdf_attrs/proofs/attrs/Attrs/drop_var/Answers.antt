@@ -1,9 +1,6 @@
 use Rattle.std.proofs.Common.{◌≡◌, ◌∙◌, ℕ, List, refl, sym, ap, subst, arith}
-use Rattle.cdf_area.proofs.Calls.{edit_more}
-use Rattle.cdf_attrs.specs.Known.{Known}
+use Rattle.cdf_attrs.proofs.Common.{edit_more, Known, adrs, shape, In}
 use Rattle.cdf_edits.proofs.Edits.DroppedSoFar.{start}
-use Rattle.cdf_format.specs.Shape.{adrs, shape}
-use Rattle.cdf_format.specs.Tiles.{In}
 use Rattle.cdf_attrs.proofs.DroppedVar.{all_done, at_index, drops_more, keeps_then}
 use Rattle.cdf_attrs.proofs.DroppingFrom.{keeps_same}
 use Rattle.cdf_attrs.proofs.attrs.Attrs.drop_var.Goals as goal

@@ -1,9 +1,6 @@
 use Rattle.std.proofs.Common.{◌≡◌}
+use Rattle.cdf_attrs.proofs.Common.{Found, DropsUpTo, KeepsAttributes, Good}
 use Rattle.cdf_area.specs.Calls.{Keeps}
-use Rattle.cdf_model.specs.Names.{Found}
-use Rattle.cdf_edits.proofs.Edits.DroppedSoFar.{DropsUpTo}
-use Rattle.cdf_attrs.specs.Dropping.{KeepsAttributes}
-use Rattle.cdf_format.specs.WellFormed.{Good}
 use Rattle.cdf_attrs.proofs.attrs.Attrs.drop_var.Given as goal
 
 abbrev pub invariant-loop-adr : goal.invariant-loop-adr

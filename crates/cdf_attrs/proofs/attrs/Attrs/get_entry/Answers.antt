@@ -1,16 +1,5 @@
 use Rattle.std.proofs.Common.{◌∙◌, ◌+◌, ◌≤◌, ℕ, List, length, sym, ap, subst, arith}
-use Rattle.cdf_edits.specs.Answers.{Answers}
-use Rattle.cdf_edits.proofs.Space.ChainHeads.{cdr_room}
-use Rattle.cdf_format.specs.AttributeRules.{entry_bytes}
-use Rattle.cdf_format.specs.Content.{entry_of}
-use Rattle.cdf_format.specs.WellFormed.{Good}
-use Rattle.cdf_format.proofs.GoodSound.{good_is_sound}
-use Rattle.cdf_model.specs.declared.answer.Outcome.TheVariants.{Done, Refused}
-use Rattle.cdf_model.specs.declared.answer.Reason.TheVariants.{NoSuchEntry}
-use Rattle.cdf_model.specs.declared.command.Command.TheVariants.{GetEntry}
-use Rattle.cdf_attrs.specs.Finding.{Finds}
-use Rattle.cdf_attrs.specs.Getting.{entry_reply}
-use Rattle.cdf_attrs.specs.Known.{KnowsEntries}
+use Rattle.cdf_attrs.proofs.Common.{Answers, cdr_room, entry_bytes, entry_of, Good, good_is_sound, Done, Refused, NoSuchEntry, GetEntry, Finds, entry_reply, KnowsEntries}
 use Rattle.cdf_attrs.proofs.GettingAnswers.{entry_fits, refused_for, is_missing, is_shown}
 use Rattle.cdf_attrs.proofs.attrs.Attrs.get_entry.Goals as goal
 

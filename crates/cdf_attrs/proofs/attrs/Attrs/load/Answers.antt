@@ -1,9 +1,5 @@
 use Rattle.std.proofs.Common.{◌∙◌, List, ℕ, sym, ap, subst}
-use Rattle.cdf_format.specs.Content.{content}
-use Rattle.cdf_format.specs.Shape.{adrs, shape}
-use Rattle.cdf_format.specs.WellFormed.{Good}
-use Rattle.cdf_format.proofs.GoodSound.{good_is_sound}
-use Rattle.cdf_model.specs.Names.{attribute_names}
+use Rattle.cdf_attrs.proofs.Common.{content, adrs, shape, Good, good_is_sound, attribute_names}
 use Rattle.cdf_attrs.proofs.AttributeChain.{attribute_members, has_attribute_chain}
 use Rattle.cdf_attrs.proofs.AttributesRead.{counted_members}
 use Rattle.cdf_attrs.proofs.KnownAttributes.{none_known}

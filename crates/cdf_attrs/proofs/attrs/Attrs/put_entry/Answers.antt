@@ -1,21 +1,5 @@
 use Rattle.std.proofs.Common.{◌∙◌, ◌+◌, ◌<◌, ◌≤◌, ℕ, pos, max, List, length, FitsSigned, w32, sym, ap, subst, arith, ℤ}
-use Rattle.std.proofs.lemmas.Int.{ints, to_z-of_z}
-use Rattle.std.specs.List.{fold}
-use Rattle.std.specs.Prelude.{slice_index}
-use Rattle.cdf_model.specs.declared.answer.Outcome.TheVariants.{Refused}
-use Rattle.cdf_model.specs.declared.answer.Reason.TheVariants.{TooLarge}
-use Rattle.cdf_model.specs.declared.command.Command.TheVariants.{PutEntry}
-use Rattle.cdf_model.specs.declared.data_type.DataType.{DataType}
-use Rattle.cdf_model.specs.Limits.{signed_limit}
-use Rattle.cdf_model.specs.Step.{ByStep}
-use Rattle.cdf_format.specs.WellFormed.{Good}
-use Rattle.cdf_edits.specs.Answers.{Answers}
-use Rattle.cdf_edits.proofs.Commands.Answered.{refused}
-use Rattle.cdf_attrs.specs.declared.putting.NewEntry.{NewEntry}
-use Rattle.cdf_attrs.specs.declared.putting.Slot.{Slot}
-use Rattle.cdf_attrs.specs.Known.{Known, KnownEntries, KnowsEntries}
-use Rattle.cdf_attrs.specs.Putting.{IsStored}
-use Rattle.cdf_attrs.specs.PutValues.{IsReady, Puts, stored_entry}
+use Rattle.cdf_attrs.proofs.Common.{ints, to_z-of_z, fold, slice_index, Refused, TooLarge, PutEntry, DataType, signed_limit, ByStep, Good, Answers, refused, NewEntry, Slot, Known, KnownEntries, KnowsEntries, IsStored, IsReady, Puts, stored_entry}
 use Rattle.cdf_attrs.specs.Requests.{IsRequest}
 use Rattle.cdf_attrs.proofs.AttributeFound.{place_within}
 use Rattle.cdf_attrs.proofs.PutAnswers.{attribute_at, chain_at, greatest_of, greatest_small, put_done, put_too_large}

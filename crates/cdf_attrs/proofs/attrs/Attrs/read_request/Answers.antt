@@ -1,11 +1,5 @@
 use Rattle.std.proofs.Common.{◌∙◌, ℕ, List, length, sym, ap, subst, arith}
-use Rattle.cdf_edits.proofs.Space.ChainHeads.{cdr_room}
-use Rattle.cdf_format.specs.Content.{content}
-use Rattle.cdf_format.specs.WellFormed.{Good}
-use Rattle.cdf_format.proofs.GoodSound.{good_is_sound}
-use Rattle.cdf_model.specs.AttributeSteps.{is_out_of_range}
-use Rattle.cdf_attrs.specs.Finding.{Finds}
-use Rattle.cdf_attrs.specs.Valued.{entry_of_words}
+use Rattle.cdf_attrs.proofs.Common.{cdr_room, content, Good, good_is_sound, is_out_of_range, Finds, entry_of_words}
 use Rattle.cdf_attrs.proofs.PutAnswers.{no_value}
 use Rattle.cdf_attrs.proofs.attrs.Attrs.read_request.Goals as goal
 

@@ -1,6 +1,5 @@
 use Rattle.std.proofs.Common.{◌∙◌, ℕ, List, ap, sym, length, arith}
-use Rattle.std.specs.List.{remove}
-use Rattle.cdf_format.specs.Content.{content}
+use Rattle.cdf_attrs.proofs.Common.{remove, content}
 use Rattle.cdf_attrs.proofs.KnownAttributes.{names_known, places_known, none_known}
 use Rattle.cdf_attrs.proofs.NamesChanged.{none_named, number_within, some_named}
 use Rattle.cdf_attrs.proofs.RenamingSteps.{number_is_adr}

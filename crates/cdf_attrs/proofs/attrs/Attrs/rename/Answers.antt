@@ -1,13 +1,7 @@
 use Rattle.std.proofs.Common.{◌≡◌, ◌∙◌, ℕ, List, ◌++◌, ◌∷◌, [], ◌+◌, ◌<◌, refl, ap, sym, subst, length, arith, length-append}
-use Rattle.std.specs.List.{remove}
-use Rattle.std.specs.Prelude.{slice_index}
-use Rattle.cdf_names.specs.Names.{last_to}
-use Rattle.cdf_format.specs.Shape.{shape}
-use Rattle.cdf_format.specs.Tiles.{In}
-use Rattle.cdf_format.proofs.GoodSound.{good_is_sound}
+use Rattle.cdf_attrs.proofs.Common.{remove, slice_index, last_to, shape, In, good_is_sound, last_removed}
 use Rattle.cdf_attrs.proofs.AttributeChain.{name_lies, index_in}
 use Rattle.cdf_attrs.proofs.KnownAttributes.{names_known, places_known, none_known}
-use Rattle.cdf_edits.proofs.Commands.ListParts.{last_removed}
 use Rattle.cdf_attrs.proofs.NamesChanged.{number_within}
 use Rattle.cdf_attrs.proofs.RenamingSteps.{answers_missing, answers_bad, answers_taken, number_is_adr, few_names, answers_done, names_done, places_done}
 use Rattle.cdf_attrs.proofs.attrs.Attrs.rename.Goals as goal

@@ -1,8 +1,5 @@
 use Rattle.std.proofs.Common.{◌≡◌, ◌≤◌, ℕ, zero, suc, List, Option, None, arith, length}
-use Rattle.std.specs.Ordering.{nat_cmp}
-use Rattle.std.specs.BTreeMap.{get}
-use Rattle.cdf_store.specs.Disk.{file_of}
-use Rattle.cdf_pages.specs.Pages.{Backed}
+use Rattle.cdf_pages.proofs.Common.{nat_cmp, get, file_of, Backed}
 use Rattle.cdf_pages.proofs.Images.{image_file, length-image}
 use Rattle.cdf_pages.proofs.paged_area.PagedArea.is_edited.Goals as goal
 

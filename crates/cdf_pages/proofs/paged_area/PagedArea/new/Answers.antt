@@ -1,8 +1,5 @@
 use Rattle.std.proofs.Common.{◌≡◌, ◌∙◌, ◌≤◌, ap, arith, length, take}
-use Rattle.std.specs.Ordering.{nat_cmp}
-use Rattle.std.specs.BTreeMap.{get}
-use Rattle.cdf_store.specs.Disk.{file_of}
-use Rattle.cdf_pages.specs.Pages.{image_of}
+use Rattle.cdf_pages.proofs.Common.{nat_cmp, get, file_of, image_of}
 use Rattle.cdf_pages.proofs.Images.{image_file}
 use Rattle.cdf_pages.proofs.paged_area.PagedArea.new.Goals as goal
 

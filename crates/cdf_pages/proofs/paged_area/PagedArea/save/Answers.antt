@@ -1,12 +1,6 @@
 use Rattle.std.proofs.Common.{rules, ◌≡◌, ◌∙◌, ◌+◌, ◌≤◌, ◌++◌, ℕ, List, [], Option, Some, None, Ok, OnOk, refl, sym, ap, subst, arith, length, true, false}
-use Rattle.std.specs.Prelude.{IsErrOf, IsTrue}
-use Rattle.std.specs.Option.{is_some}
-use Rattle.std.specs.Ordering.{nat_cmp}
-use Rattle.std.specs.BTreeMap.{get}
-use Rattle.cdf_area.specs.declared.area.AreaError.TheVariants.{Fault, NoMemory}
-use Rattle.cdf_store.specs.Disk.{Disk, file_of}
-use Rattle.cdf_pages.specs.Pages.{image_of, is_in, was}
-use Rattle.cdf_pages.specs.Saving.{HasNothingToSave, Holds, HoldsBetween, IsChangedRange, IsSavedAlready, Touches, tail_bytes}
+use Rattle.cdf_pages.proofs.Common.{IsErrOf, IsTrue, is_some, nat_cmp, get, Fault, NoMemory, Disk, file_of, image_of, is_in, was, HasNothingToSave, Holds, HoldsBetween, IsChangedRange, IsSavedAlready, Touches}
+use Rattle.cdf_pages.specs.Saving.{tail_bytes}
 use Rattle.cdf_pages.proofs.Filling.{on_ok_map, true_not_false}
 use Rattle.cdf_pages.proofs.Images.{image_size}
 use Rattle.cdf_pages.proofs.SavedArea.{no_mark, nothing_to_save, saved_already, saved_bound, saved_shows, saved_whole}

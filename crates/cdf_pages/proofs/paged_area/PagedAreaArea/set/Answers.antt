@@ -1,16 +1,8 @@
 use Rattle.std.proofs.Common.{rules, ◌≡◌, ◌∙◌, ◌+◌, ◌-◌, ◌*◌, ◌/◌, ◌%◌, ◌≤◌, ◌<◌, ◌⊎◌, ℕ, List, refl, sym, ap, ap₂, subst, arith, None, Some, length}
-use Rattle.std.specs.Ordering.{nat_cmp}
-use Rattle.std.specs.BTreeMap.{get}
-use Rattle.cdf_base.specs.Bytes.{put}
-use Rattle.cdf_store.specs.Disk.{file_of}
-use Rattle.cdf_pages.specs.Pages.{image_of, was}
-use Rattle.std.proofs.lemmas.Bool.{eqb-true}
+use Rattle.cdf_pages.proofs.Common.{nat_cmp, get, put, file_of, image_of, was, eqb-true, keys_of, TakesAtMost, is_in, Changes, ChangesSome, cost_of_writing, pages_in}
 use Rattle.cdf_pages.proofs.Filling.{on_err, true_not_false}
 use Rattle.cdf_pages.proofs.Images.{image_same, image_size, put_empty}
 use Rattle.cdf_pages.proofs.Growing.{kept_backed, was_backed, kept_shows}
-use Rattle.std.specs.Map.{keys_of}
-use Rattle.cdf_pages.specs.Pages.{TakesAtMost, is_in}
-use Rattle.cdf_pages.specs.Standing.{Changes, ChangesSome, cost_of_writing, pages_in}
 use Rattle.cdf_pages.proofs.Costs.{changes, changes_none, changes_some, pages_between, some_length, takes_same}
 use Rattle.cdf_pages.proofs.paged_area.PagedAreaArea.set.Goals as goal
 

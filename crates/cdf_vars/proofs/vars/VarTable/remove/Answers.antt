@@ -1,6 +1,5 @@
 use Rattle.std.proofs.Common.{◌∙◌, length, ap, arith}
-use Rattle.std.specs.List.{remove}
-use Rattle.cdf_vars.specs.Known.{KnownKind}
+use Rattle.cdf_vars.proofs.Common.{remove, KnownKind}
 use Rattle.cdf_vars.proofs.RemovalAnswers.{knows_less, named_too}
 use Rattle.cdf_vars.proofs.vars.VarTable.remove.Goals as goal
 

@@ -1,11 +1,5 @@
 use Rattle.std.proofs.Common.{◌≡◌, ◌∙◌, ℕ, List, ap, length, refl, sym, arith}
-use Rattle.cdf_edits.specs.Commands.Room.{vdr_bytes}
-use Rattle.cdf_edits.specs.Follows.{Follows}
-use Rattle.cdf_edits.proofs.Commands.Answered.{refused}
-use Rattle.cdf_model.specs.declared.answer.Reason.TheVariants.{BadName, BadShape, NameTaken}
-use Rattle.cdf_model.specs.declared.kinds.Kind.TheVariants.{R, Z}
-use Rattle.cdf_model.specs.Names.{is_among}
-use Rattle.cdf_vars.specs.Creating.{making, wanted}
+use Rattle.cdf_vars.proofs.Common.{vdr_bytes, Follows, refused, BadName, BadShape, NameTaken, R, Z, is_among, making, wanted}
 use Rattle.cdf_vars.proofs.CreatedVariable.{is_done, no_room, step_is}
 use Rattle.cdf_vars.proofs.VariableFound.{all_names, knows_made}
 use Rattle.cdf_vars.proofs.vars.Vars.create.Goals as goal

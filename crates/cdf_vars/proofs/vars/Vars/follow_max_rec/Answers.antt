@@ -1,8 +1,5 @@
 use Rattle.std.proofs.Common.{◌∙◌, FitsSigned, sym, subst}
-use Rattle.std.proofs.lemmas.Int.{to_z-of_z}
-use Rattle.std.specs.Int.{w32}
-use Rattle.cdf_edits.proofs.Edits.RemovedVariable.{last_fits}
-use Rattle.cdf_vars.specs.Removing.{VdrsLie}
+use Rattle.cdf_vars.proofs.Common.{to_z-of_z, w32, last_fits, VdrsLie}
 use Rattle.cdf_vars.proofs.PutRaised.{greatest_written}
 use Rattle.cdf_vars.proofs.vars.Vars.follow_max_rec.Goals as goal
 

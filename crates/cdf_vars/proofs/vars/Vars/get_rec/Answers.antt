@@ -1,14 +1,6 @@
 use Rattle.std.proofs.Common.{◌∙◌, ℕ, List, length, sym, ap, subst, arith}
-use Rattle.cdf_area.proofs.Calls.{read_done, read_failed, read_more, read_once}
-use Rattle.cdf_edits.specs.Answers.{Answers}
-use Rattle.cdf_format.specs.WellFormed.{Good}
-use Rattle.cdf_model.specs.declared.answer.Outcome.TheVariants.{Done, Refused}
-use Rattle.cdf_model.specs.declared.answer.Reason.TheVariants.{NoSuchVar, RecordOutOfRange}
-use Rattle.cdf_model.specs.declared.answer.Reply.TheVariants.{Values}
+use Rattle.cdf_vars.proofs.Common.{read_done, read_failed, read_more, read_once, Answers, Good, Done, Refused, NoSuchVar, RecordOutOfRange, Values, read, IsForm, variable_at, Sees}
 use Rattle.cdf_model.specs.declared.command.Command.TheVariants.{GetRec}
-use Rattle.cdf_model.specs.Reading.{read}
-use Rattle.cdf_var_records.specs.Records.{IsForm, variable_at}
-use Rattle.cdf_vars.specs.Records.{Sees}
 use Rattle.cdf_vars.proofs.RecordAnswers.{missing_rec, over_rec, shown_rec}
 use Rattle.cdf_vars.proofs.vars.Vars.get_rec.Goals as goal
 

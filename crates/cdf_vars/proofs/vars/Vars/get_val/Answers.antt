@@ -1,18 +1,7 @@
 use Rattle.std.proofs.Common.{◌≡◌, ◌+◌, ◌*◌, ◌≤◌, ◌∙◌, ℕ, List, length, take, drop, sym, ap, subst, arith}
-use Rattle.cdf_area.proofs.Calls.{read_done, read_failed, read_more, read_once, read_without_memory}
-use Rattle.cdf_edits.specs.Answers.{Answers}
-use Rattle.cdf_format.specs.Content.{content}
-use Rattle.cdf_format.specs.WellFormed.{Good}
-use Rattle.cdf_model.specs.declared.answer.Outcome.TheVariants.{Done, Refused}
-use Rattle.cdf_model.specs.declared.answer.Reason.TheVariants.{NoSuchVar, IndexOutOfRange, RecordOutOfRange}
-use Rattle.cdf_model.specs.declared.answer.Reply.TheVariants.{Values}
+use Rattle.cdf_vars.proofs.Common.{read_done, read_failed, read_more, read_once, read_without_memory, Answers, content, Good, Done, Refused, NoSuchVar, IndexOutOfRange, RecordOutOfRange, Values, place, read, IsForm, variable_at, Sees, values_fit}
 use Rattle.cdf_model.specs.declared.command.Command.TheVariants.{GetVal}
-use Rattle.cdf_model.specs.Place.{place}
-use Rattle.cdf_model.specs.Reading.{read}
-use Rattle.cdf_var_records.specs.Records.{IsForm, variable_at}
-use Rattle.cdf_vars.specs.Records.{Sees}
 use Rattle.cdf_vars.proofs.RecordAnswers.{inside_record, missing_val, outside, over_val, shown_val}
-use Rattle.cdf_var_records.proofs.RecordReading.{values_fit}
 use Rattle.cdf_vars.proofs.vars.Vars.get_val.Goals as goal
 
 pub returns-in-Missing-clause-answers : goal.returns-in-Missing-clause-answers

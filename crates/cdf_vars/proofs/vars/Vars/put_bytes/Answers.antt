@@ -1,18 +1,5 @@
 use Rattle.std.proofs.Common.{◌≡◌, ◌∙◌, ℕ, List, length, refl, sym, ap, subst, arith}
-use Rattle.cdf_area.specs.Frame.{Frame}
-use Rattle.cdf_area.proofs.Calls.{edit_done, edit_failed, edit_more, edits_by_read, keeps_by_read, read_failed, read_more, read_once}
-use Rattle.cdf_edits.specs.Answers.{Answers}
-use Rattle.cdf_edits.specs.Commands.Room.{put_room}
-use Rattle.cdf_edits.specs.Follows.{Follows}
-use Rattle.cdf_edits.specs.Index.Blocks.{first_written}
-use Rattle.cdf_format.specs.Fields.{number}
-use Rattle.cdf_format.specs.Records.{vdr_vxr_head}
-use Rattle.cdf_format.specs.WellFormed.{Good}
-use Rattle.cdf_index.specs.Finding.{index_at}
-use Rattle.cdf_model.specs.declared.answer.Outcome.TheVariants.{Refused}
-use Rattle.cdf_model.specs.declared.answer.Reason.TheVariants.{TooLarge}
-use Rattle.cdf_vars.specs.Puts.{PutsSo}
-use Rattle.cdf_var_records.specs.Records.{variable_at}
+use Rattle.cdf_vars.proofs.Common.{Frame, edit_done, edit_failed, edit_more, edits_by_read, keeps_by_read, read_failed, read_more, read_once, Answers, put_room, Follows, first_written, number, vdr_vxr_head, Good, index_at, Refused, TooLarge, PutsSo, variable_at}
 use Rattle.cdf_vars.proofs.PutAnswered.{can_from, can_small, put_answers, put_refused}
 use Rattle.cdf_var_records.proofs.PutRoomNeeded.{head_lies}
 use Rattle.cdf_vars.proofs.vars.Vars.put_bytes.Goals as goal

@@ -1,12 +1,6 @@
 use Rattle.std.proofs.Common.{ℕ, List, length, sym, ap, subst, arith}
-use Rattle.cdf_area.specs.Frame.{Frame}
-use Rattle.cdf_edits.specs.Answers.{Answers}
-use Rattle.cdf_format.specs.WellFormed.{Good}
-use Rattle.cdf_model.specs.declared.answer.Outcome.TheVariants.{Refused}
+use Rattle.cdf_vars.proofs.Common.{Frame, Answers, Good, Refused, PutRequest, Knows, IsPutRequest}
 use Rattle.cdf_model.specs.declared.command.Command.TheVariants.{PutRec}
-use Rattle.cdf_vars.specs.declared.puts.PutRequest.{PutRequest}
-use Rattle.cdf_vars.specs.Known.{Knows}
-use Rattle.cdf_vars.specs.Puts.{IsPutRequest}
 use Rattle.cdf_vars.proofs.PutAsked.{answered, can_there}
 use Rattle.cdf_vars.proofs.vars.Vars.put_rec.Goals as goal
 

@@ -1,9 +1,6 @@
 use Rattle.std.proofs.Common.{◌≤◌, arith, inl}
-use Rattle.cdf_format.specs.VariableFields.{max_rec_at}
-use Rattle.cdf_model.specs.DataSet.{extent}
-use Rattle.cdf_model.specs.declared.kinds.Kind.TheVariants.{R}
+use Rattle.cdf_vars.proofs.Common.{max_rec_at, extent, R, on_ok_weaker}
 use Rattle.cdf_vars.proofs.PutRaised.{cdr_there, greatest_lies, max_rec_lies, mid_good, mid_places, raised, vdrs_lie}
-use Rattle.std.proofs.lemmas.Result.{on_ok_weaker}
 use Rattle.cdf_vars.proofs.vars.Vars.raise_max_rec.Goals as goal
 
 pub set_vdr_max_rec-requires : goal.set_vdr_max_rec-requires

@@ -1,11 +1,6 @@
 use Rattle.std.proofs.Common.{◌≡◌, ◌∙◌, ◌+◌, ◌*◌, ◌++◌, ◌≤◌, ℕ, List, length, take, drop, refl, sym, ap, subst, arith}
-use Rattle.cdf_area.proofs.Calls.{read_done, read_failed, read_more, read_once, read_without_memory}
-use Rattle.cdf_format.specs.WellFormed.{Good}
-use Rattle.cdf_model.specs.Place.{place}
-use Rattle.cdf_model.specs.Reading.{read}
-use Rattle.cdf_var_records.specs.Records.{IsForm, variable_at}
+use Rattle.cdf_vars.proofs.Common.{read_done, read_failed, read_more, read_once, read_without_memory, Good, place, read, IsForm, variable_at, values_fit}
 use Rattle.cdf_vars.proofs.PutRequests.{val_may, val_outside, val_over, value_within}
-use Rattle.cdf_var_records.proofs.RecordReading.{values_fit}
 use Rattle.cdf_vars.proofs.vars.Vars.read_place_request.Goals as goal
 
 pub place_of-requires : goal.place_of-requires

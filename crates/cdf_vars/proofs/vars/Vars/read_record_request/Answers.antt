@@ -1,7 +1,5 @@
 use Rattle.std.proofs.Common.{Option, sym, subst, ◌∙◌}
-use Rattle.cdf_area.proofs.Calls.{read_once, read_without_memory}
-use Rattle.cdf_vars.specs.declared.puts.Target.{Target}
-use Rattle.cdf_vars.specs.Puts.{SeesTarget}
+use Rattle.cdf_vars.proofs.Common.{read_once, read_without_memory, Target, SeesTarget}
 use Rattle.cdf_vars.proofs.PutRequests.{no_memory, rec_missing, rec_refused, rec_over, rec_may}
 use Rattle.cdf_vars.proofs.vars.Vars.read_record_request.Goals as goal
 

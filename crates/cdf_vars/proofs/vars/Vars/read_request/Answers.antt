@@ -1,6 +1,5 @@
 use Rattle.std.proofs.Common.{◌≤◌, ◌∙◌, ℕ, List, length, sym, ap, subst}
-use Rattle.cdf_area.proofs.Calls.{read_done, read_more, read_once}
-use Rattle.cdf_format.specs.Stored.{is_little}
+use Rattle.cdf_vars.proofs.Common.{read_done, read_more, read_once, is_little}
 use Rattle.cdf_vars.proofs.PadRequests.{elements, is_vdr, long, may, missing, no_value, placed}
 use Rattle.cdf_vars.proofs.vars.Vars.read_request.Goals as goal
 

@@ -1,12 +1,5 @@
 use Rattle.std.proofs.Common.{◌≡◌, ℕ, List, Option, Ok, length, sym, ap, subst, ◌∙◌, arith}
-use Rattle.std.proofs.lemmas.Result.{IfOk-weaker}
-use Rattle.cdf_area.proofs.Calls.{read_once, read_without_memory}
-use Rattle.cdf_format.specs.WellFormed.{Good}
-use Rattle.cdf_model.specs.declared.command.Command.TheVariants.{PutVal}
-use Rattle.cdf_model.specs.Values.{values_in}
-use Rattle.cdf_vars.specs.declared.puts.PutRequest.{PutRequest}
-use Rattle.cdf_vars.specs.declared.puts.Target.{Target}
-use Rattle.cdf_vars.specs.Puts.{HasTarget, IsPutRequest, IsTarget, SeesTarget}
+use Rattle.cdf_vars.proofs.Common.{IfOk-weaker, read_once, read_without_memory, Good, PutVal, values_in, PutRequest, Target, HasTarget, IsPutRequest, IsTarget, SeesTarget}
 use Rattle.cdf_vars.proofs.PutRequests.{no_memory, one_long, val_missing, val_refused}
 use Rattle.cdf_vars.proofs.vars.Vars.read_value_request.Goals as goal
 

@@ -1,11 +1,5 @@
 use Rattle.std.proofs.Common.{◌≡◌, ◌∙◌, ◌+◌, ◌≤◌, ℕ, List, length, sym, ap, subst, arith}
-use Rattle.cdf_area.specs.Frame.{Frame}
-use Rattle.cdf_edits.specs.Answers.{Answers}
-use Rattle.cdf_format.specs.Shape.{shape, variables, vdrs}
-use Rattle.cdf_format.specs.Tiles.{In}
-use Rattle.cdf_format.specs.WellFormed.{Good}
-use Rattle.cdf_model.specs.declared.answer.Outcome.TheVariants.{Refused}
-use Rattle.cdf_model.specs.declared.answer.Reason.TheVariants.{TooLarge}
+use Rattle.cdf_vars.proofs.Common.{Frame, Answers, shape, variables, vdrs, In, Good, Refused, TooLarge}
 use Rattle.cdf_model.specs.declared.command.Command.TheVariants.{Reindex}
 use Rattle.cdf_vars.proofs.ReindexAnswers.{answers_done, known_done, lies, missing, over, placed, vdr_in}
 use Rattle.cdf_vars.proofs.vars.Vars.reindex.Goals as goal

@@ -1,6 +1,5 @@
 use Rattle.std.proofs.Common.{sym, ap, subst}
-use Rattle.cdf_model.specs.declared.kinds.Kind.TheVariants.{R, Z}
-use Rattle.cdf_vars.specs.Known.{Known, KnowsKind}
+use Rattle.cdf_vars.proofs.Common.{R, Z, Known, KnowsKind}
 use Rattle.cdf_vars.proofs.RemovalAnswers.{on_ok_all, knows_other}
 use Rattle.cdf_vars.proofs.vars.Vars.remove.Goals as goal
 

@@ -1,8 +1,5 @@
 use Rattle.std.proofs.Common.{sym, ap, ◌∙◌, refl}
-use Rattle.cdf_edits.proofs.Commands.Answered.{refused}
-use Rattle.cdf_model.specs.declared.answer.Reason.TheVariants.{BadName, NameTaken, NoSuchVar}
-use Rattle.cdf_model.specs.declared.command.Command.TheVariants.{RenameVar}
-use Rattle.cdf_model.specs.Names.{is_among}
+use Rattle.cdf_vars.proofs.Common.{refused, BadName, NameTaken, NoSuchVar, RenameVar, is_among}
 use Rattle.cdf_vars.proofs.VariableFound.{all_names, may_rename, rename_done, rename_knows, found_view, knows_view, none_found, the_parts}
 use Rattle.cdf_vars.proofs.vars.Vars.rename.Goals.{in-R+in_ok-rename_in-in-R, in-Z+in_ok-rename_in-in-Z}
 use Rattle.cdf_vars.proofs.vars.Vars.rename.Goals as goal

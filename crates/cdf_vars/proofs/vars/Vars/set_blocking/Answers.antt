@@ -1,10 +1,5 @@
 use Rattle.std.proofs.Common.{◌∙◌, refl, sym, arith}
-use Rattle.std.proofs.lemmas.Bool.{lt-ltb}
-use Rattle.cdf_edits.proofs.Commands.Answered.{refused}
-use Rattle.cdf_model.specs.declared.answer.Reason.TheVariants.{NoSuchVar, NumberOutOfRange}
-use Rattle.cdf_model.specs.declared.command.Command.TheVariants.{SetBlocking}
-use Rattle.cdf_model.specs.Limits.{signed_limit}
-use Rattle.cdf_format.specs.Records.{vdr_blocking_factor}
+use Rattle.cdf_vars.proofs.Common.{lt-ltb, refused, NoSuchVar, NumberOutOfRange, SetBlocking, signed_limit, vdr_blocking_factor}
 use Rattle.cdf_vars.proofs.VariableFound.{blocking_done, blocking_knows, field_lies, none_found, the_parts, within_places}
 use Rattle.cdf_vars.proofs.vars.Vars.set_blocking.Goals as goal
 

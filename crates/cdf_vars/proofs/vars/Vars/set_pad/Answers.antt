@@ -1,8 +1,5 @@
 use Rattle.std.proofs.Common.{◌≡◌, ◌∙◌, ◌+◌, ◌-◌, ◌≤◌, ℕ, List, length, refl, sym, ap, subst, arith}
-use Rattle.cdf_area.specs.Frame.{Frame}
-use Rattle.cdf_area.proofs.Calls.{edit_done, edit_more, keeps_by_read, read_once}
-use Rattle.cdf_format.specs.WellFormed.{Good}
-use Rattle.cdf_vars.specs.Known.{Knows}
+use Rattle.cdf_vars.proofs.Common.{Frame, edit_done, edit_more, keeps_by_read, read_once, Good, Knows}
 use Rattle.cdf_vars.proofs.PadSet.{at_inside, moved_done, moved_knows, moves_there, need_inside, over, put_asked, put_done, put_knows, put_there, within_known}
 use Rattle.cdf_vars.proofs.vars.Vars.set_pad.Goals.{then-need-place+in_ok-write_pad, else-need-place+in-R+in_ok-move_vdr-in-R, else-need-place+in-Z+in_ok-move_vdr-in-Z}
 use Rattle.cdf_vars.proofs.vars.Vars.set_pad.Goals as goal

@@ -1,13 +1,9 @@
 use Rattle.std.proofs.Common.{◌≡◌, ◌∙◌, ℕ, List, refl, sym, ap, subst}
-use Rattle.cdf_area.proofs.Calls.{edit_failed, edit_more, edits_by_read, keeps_by_read, read_once}
+use Rattle.cdf_vars.proofs.Common.{edit_failed, edit_more, edits_by_read, keeps_by_read, read_once, shapes_of, shape, vdrs, R, on_ok_weaker}
 use Rattle.cdf_area.specs.declared.area.AreaError.TheVariants.{Fault}
 use Rattle.cdf_base.specs.Causes.{HasCauseOf}
-use Rattle.cdf_edits.specs.Commands.Allowances.{shapes_of}
-use Rattle.cdf_format.specs.Shape.{shape, vdrs}
-use Rattle.cdf_model.specs.declared.kinds.Kind.TheVariants.{R}
 use Rattle.cdf_vars.proofs.PutCalls.{count_there, follows_there, knows_there, ready, rec_small, some_there}
 use Rattle.cdf_vars.proofs.PutWhole.{now_count, now_good, now_places, now_short, now_vdr}
-use Rattle.std.proofs.lemmas.Result.{on_ok_weaker}
 use Rattle.cdf_vars.proofs.vars.Vars.write_record.Goals as goal
 
 pub returns-in_err-put-clause-area : goal.returns-in_err-put-clause-area
