@@ -1,3 +1,4 @@
+pub mod Common
 pub mod DeletingSteps
 pub mod DroppedNumber
 pub mod DroppedOne

@@ -1,3 +1,4 @@
+pub mod Common
 pub mod Between
 pub mod Costs
 pub mod Disks

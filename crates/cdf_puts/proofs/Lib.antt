@@ -1,3 +1,4 @@
+pub mod Common
 pub mod BlocksAdded
 pub mod BlocksWritten
 pub mod Covering

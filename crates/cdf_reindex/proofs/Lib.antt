@@ -1,3 +1,4 @@
+pub mod Common
 pub mod BareNodes
 pub mod FreeingKeeps
 pub mod LevelCounts

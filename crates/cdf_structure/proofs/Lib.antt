@@ -1,3 +1,4 @@
+pub mod Common
 pub mod Findings
 pub mod Rows
 pub mod Readings

@@ -1,3 +1,4 @@
+pub mod Common
 pub mod Gathered
 pub mod Standing
 pub mod Moments

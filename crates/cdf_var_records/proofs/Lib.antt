@@ -1,3 +1,4 @@
+pub mod Common
 pub mod DimsRead
 pub mod PadSites
 pub mod PutRoomCount

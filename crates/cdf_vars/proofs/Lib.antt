@@ -1,3 +1,4 @@
+pub mod Common
 pub mod CreatedVariable
 pub mod NamesRead
 pub mod NewVdr
