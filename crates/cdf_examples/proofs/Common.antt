@@ -11,7 +11,6 @@ pub use Rattle.cdf_edits.specs.Commands.EntryChains.{GreatestIs, share_chain}
 pub use Rattle.cdf_edits.specs.Commands.Keeps.{allowances}
 pub use Rattle.cdf_edits.specs.Commands.Puts.{PutsRecord, max_rec_touches, written_in}
 pub use Rattle.cdf_edits.specs.Commands.Reindex.{FullFromLeft, MakesIndex, levels_up}
-pub use Rattle.cdf_edits.specs.Commands.Room.{vxr_bytes}
 pub use Rattle.cdf_edits.specs.Index.Blocks.{first_written, record_length}
 pub use Rattle.cdf_edits.specs.Index.Cut.{IsNeeded}
 pub use Rattle.cdf_edits.specs.Index.Written.{NodeSpareStays, UnusedEntries, is_taken_at, stored_bytes}
@@ -38,7 +37,7 @@ pub use Rattle.cdf_format.specs.Fields.{number, size_at, type_at, word}
 pub use Rattle.cdf_format.specs.Index.{Entries, Nodes, block, first_at, last_at, lower, no_entry, no_node, node, offset_at, room_at, used_count}
 pub use Rattle.cdf_format.specs.Owners.{owned}
 pub use Rattle.cdf_format.specs.RecordTypes.{uir_type, vxr_type}
-pub use Rattle.cdf_format.specs.Records.{Field, gdr_uir_head, uir_next_uir, uir_prev_uir}
+pub use Rattle.cdf_format.specs.Records.{Field, gdr_uir_head, uir_next_uir, uir_prev_uir, vxr_bytes}
 pub use Rattle.cdf_format.specs.Rules.{IsBroken, Row}
 pub use Rattle.cdf_format.specs.Sealed.{sealed}
 pub use Rattle.cdf_format.specs.Shape.{AttributeShape, Each, Shape, VariableShape, shape}

@@ -23,7 +23,10 @@ record_size = field 0 8
 abbrev pub record_type : Field
 record_type = field 8 4
 
--- "CDF Descriptor Record", which stands at 8
+-- "CDF Descriptor Record", and where it stands
+abbrev pub cdr_place : ℕ
+cdr_place = 8
+
 abbrev pub cdr_gdr_offset : Field
 cdr_gdr_offset = field 12 8
 
@@ -269,9 +272,20 @@ vxr_offset n i = field (28 + 8 * n + 8 * i) 8
 abbrev pub vxr_entries : ℕ → Field
 vxr_entries n = field 28 (16 * n)
 
+-- how many bytes a VXR has with room for n entries
+abbrev pub vxr_bytes : ℕ → ℕ
+vxr_bytes n = past (vxr_entries n)
+
 -- "Variable Values Record": the n bytes of its records
 abbrev pub vvr_records : ℕ → Field
 vvr_records n = field 12 n
+
+-- where the byte i of them stands, and how many bytes a VVR has with n bytes of records
+abbrev pub vvr_place : ℕ → ℕ
+vvr_place i = (vvr_records 0).place + i
+
+abbrev pub vvr_bytes : ℕ → ℕ
+vvr_bytes n = past (vvr_records n)
 
 -- "Compressed Variable Values Record"
 abbrev pub cvvr_rfu_a : Field
@@ -283,6 +297,10 @@ cvvr_c_size = field 16 8
 -- its n packed bytes
 abbrev pub cvvr_packed : ℕ → Field
 cvvr_packed n = field 24 n
+
+-- how many bytes a CVVR has with them
+abbrev pub cvvr_bytes : ℕ → ℕ
+cvvr_bytes n = past (cvvr_packed n)
 
 -- "Compressed Parameters Record"
 abbrev pub cpr_c_type : Field
@@ -307,3 +325,11 @@ uir_next_uir = field 12 8
 
 abbrev pub uir_prev_uir : Field
 uir_prev_uir = field 20 8
+
+-- the least size of a record with a link to the next one of its chain: a UIR has room for its links in so many bytes
+abbrev pub linked_size : ℕ
+linked_size = past uir_prev_uir
+
+-- the bytes of a link to another record
+abbrev pub link_size : ℕ
+link_size = uir_next_uir.width

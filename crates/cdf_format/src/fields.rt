@@ -1,7 +1,7 @@
 //! Where the fields of internal records stand, in bytes from the beginning of the record, and the types and sizes of records.
 
 ghost use Rattle.std.specs.Prelude.{◌≡◌, ◌∷◌, [], map};
-ghost use Rattle.cdf_format.specs.Records.{places, record_size, record_type, cdr_gdr_offset, cdr_version, cdr_release, cdr_encoding, cdr_flags, cdr_rfu_a, cdr_rfu_b, cdr_increment, cdr_identifier, cdr_rfu_e, cdr_copyright, gdr_r_vdr_head, gdr_z_vdr_head, gdr_adr_head, gdr_eof, gdr_nr_vars, gdr_num_attr, gdr_r_max_rec, gdr_r_num_dims, gdr_nz_vars, gdr_uir_head, gdr_rfu_c, gdr_leap_second_last_updated, gdr_rfu_e, gdr_r_dim_size, adr_adr_next, adr_agr_edr_head, adr_scope, adr_num, adr_ngr_entries, adr_max_gr_entry, adr_rfu_a, adr_az_edr_head, adr_nz_entries, adr_max_z_entry, adr_rfu_e, adr_name, aedr_aedr_next, aedr_attr_num, aedr_data_type, aedr_num, aedr_num_elems, aedr_num_strings, aedr_rfu_b, aedr_rfu_c, aedr_rfu_d, aedr_rfu_e, aedr_value, vdr_vdr_next, vdr_data_type, vdr_max_rec, vdr_vxr_head, vdr_vxr_tail, vdr_flags, vdr_s_records, vdr_rfu_b, vdr_rfu_c, vdr_rfu_f, vdr_num_elems, vdr_num, vdr_cpr_or_spr_offset, vdr_blocking_factor, vdr_name, vdr_r_dim_vary, vdr_z_num_dims, vdr_z_dim_size, vxr_vxr_next, vxr_n_entries, vxr_n_used_entries, vxr_first, vvr_records, cvvr_rfu_a, cvvr_c_size, cvvr_packed, cpr_c_type, cpr_rfu_a, cpr_p_count, cpr_parameter, uir_next_uir, uir_prev_uir};
+ghost use Rattle.cdf_format.specs.Records.{places, past, cdr_place, linked_size, record_size, record_type, cdr_gdr_offset, cdr_version, cdr_release, cdr_encoding, cdr_flags, cdr_rfu_a, cdr_rfu_b, cdr_increment, cdr_identifier, cdr_rfu_e, cdr_copyright, gdr_r_vdr_head, gdr_z_vdr_head, gdr_adr_head, gdr_eof, gdr_nr_vars, gdr_num_attr, gdr_r_max_rec, gdr_r_num_dims, gdr_nz_vars, gdr_uir_head, gdr_rfu_c, gdr_leap_second_last_updated, gdr_rfu_e, gdr_r_dim_size, adr_adr_next, adr_agr_edr_head, adr_scope, adr_num, adr_ngr_entries, adr_max_gr_entry, adr_rfu_a, adr_az_edr_head, adr_nz_entries, adr_max_z_entry, adr_rfu_e, adr_name, aedr_aedr_next, aedr_attr_num, aedr_data_type, aedr_num, aedr_num_elems, aedr_num_strings, aedr_rfu_b, aedr_rfu_c, aedr_rfu_d, aedr_rfu_e, aedr_value, vdr_vdr_next, vdr_data_type, vdr_max_rec, vdr_vxr_head, vdr_vxr_tail, vdr_flags, vdr_s_records, vdr_rfu_b, vdr_rfu_c, vdr_rfu_f, vdr_num_elems, vdr_num, vdr_cpr_or_spr_offset, vdr_blocking_factor, vdr_name, vdr_r_dim_vary, vdr_z_num_dims, vdr_z_dim_size, vxr_vxr_next, vxr_n_entries, vxr_n_used_entries, vxr_first, vxr_entries, vvr_records, cvvr_rfu_a, cvvr_c_size, cvvr_packed, cpr_c_type, cpr_rfu_a, cpr_p_count, cpr_parameter, uir_next_uir, uir_prev_uir};
 ghost use Rattle.cdf_format.specs.RecordTypes.{fixed_size, cdr_type, gdr_type, r_vdr_type, adr_type, agr_edr_type, vxr_type, vvr_type, z_vdr_type, az_edr_type, ccr_type, cpr_type, spr_type, cvvr_type, uir_type};
 ghost use Rattle.cdf_format.specs.Sealed.{trailer_size};
 ghost use Rattle.cdf_model.specs.Names.{name_limit};
@@ -222,6 +222,9 @@ pub const VXR_N_USED_ENTRIES: u64 = 24;
 /// First of the first entry; the others follow, then each Last, then each Offset.
 pub const VXR_FIRST: u64 = 28;
 
+/// The bytes of First, Last and Offset of an entry.
+pub const VXR_ENTRY_SIZE: u64 = 16;
+
 /// The records.
 pub const VVR_RECORDS: u64 = 12;
 
@@ -363,6 +366,8 @@ pub fn table_is_defined()
     ensures uir { places (uir_next_uir ∷ uir_prev_uir ∷ []) ≡ UIR_NEXT_UIR ∷ UIR_PREV_UIR ∷ [] }
     ensures types { cdr_type ∷ gdr_type ∷ r_vdr_type ∷ adr_type ∷ agr_edr_type ∷ vxr_type ∷ vvr_type ∷ z_vdr_type ∷ az_edr_type ∷ ccr_type ∷ cpr_type ∷ spr_type ∷ cvvr_type ∷ uir_type ∷ [] ≡ CDR_TYPE ∷ GDR_TYPE ∷ R_VDR_TYPE ∷ ADR_TYPE ∷ AGR_EDR_TYPE ∷ VXR_TYPE ∷ VVR_TYPE ∷ Z_VDR_TYPE ∷ AZ_EDR_TYPE ∷ CCR_TYPE ∷ CPR_TYPE ∷ SPR_TYPE ∷ CVVR_TYPE ∷ UIR_TYPE ∷ [] }
     ensures sizes { map fixed_size (cdr_type ∷ gdr_type ∷ r_vdr_type ∷ adr_type ∷ agr_edr_type ∷ vxr_type ∷ vvr_type ∷ z_vdr_type ∷ az_edr_type ∷ ccr_type ∷ cpr_type ∷ spr_type ∷ cvvr_type ∷ uir_type ∷ []) ≡ CDR_SIZE ∷ GDR_SIZE ∷ R_VDR_SIZE ∷ ADR_SIZE ∷ AEDR_SIZE ∷ VXR_SIZE ∷ VVR_SIZE ∷ Z_VDR_SIZE ∷ AEDR_SIZE ∷ CCR_SIZE ∷ CPR_SIZE ∷ SPR_SIZE ∷ CVVR_SIZE ∷ UIR_SIZE ∷ [] }
+    ensures widths { (vxr_entries 1).width ≡ VXR_ENTRY_SIZE }
+    ensures least { cdr_place ∷ past record_type ∷ linked_size ∷ [] ≡ CDR_PLACE ∷ LEAST_SIZE ∷ LINKED_SIZE ∷ [] }
     ensures names { name_limit ∷ map (λ f. f.width) (adr_name ∷ vdr_name ∷ []) ≡ NAME_SIZE ∷ NAME_SIZE ∷ NAME_SIZE ∷ [] }
     ensures trailer { trailer_size ≡ TRAILER_SIZE }
 {}

@@ -1,6 +1,5 @@
 -- What a leaf more makes of an image: its block is placed, then a node is taken where one is needed, and then entries are written (CDF Internal Format Description, "Variable Index Record"; own: the order).
-use Rattle.std.specs.Prelude.{◌≡◌, ◌⊎◌, ◌≤◌, ◌<◌, ℕ, zero, suc, ◌+◌, ◌*◌, List, [], ◌∷◌, length, false, bytes_eq, if◌then◌else◌}
-use Rattle.cdf_edits.specs.Commands.Room.{vxr_bytes}
+use Rattle.std.specs.Prelude.{◌≡◌, ◌⊎◌, ◌≤◌, ◌<◌, ℕ, zero, suc, ◌+◌, List, [], ◌∷◌, length, false, bytes_eq, if◌then◌else◌}
 use Rattle.cdf_edits.specs.Frame.Changed.{Touch, Changed}
 use Rattle.cdf_edits.specs.Index.Grown.{with_leaf, new_room}
 use Rattle.cdf_edits.specs.Index.Written.{UnusedEntries, top_chain, last_node}
@@ -9,7 +8,7 @@ use Rattle.cdf_edits.specs.Space.Placing.{Fills, Placed}
 use Rattle.cdf_format.specs.Fields.{number}
 use Rattle.cdf_format.specs.Index.{Nodes, Leaf, leaf, nodes_of, room_at}
 use Rattle.cdf_format.specs.IndexOf.{IsIndex}
-use Rattle.cdf_format.specs.Records.{vdr_vxr_head, vdr_vxr_tail, vxr_n_used_entries}
+use Rattle.cdf_format.specs.Records.{vdr_vxr_head, vdr_vxr_tail, vxr_n_used_entries, vxr_bytes, past, record_type}
 use Rattle.cdf_format.specs.RecordTypes.{vxr_type}
 use Rattle.cdf_format.specs.Shape.{VariableShape, Each, shape}
 use Rattle.cdf_format.specs.Sound.{NodeFits}
@@ -36,13 +35,13 @@ NodeTaken b now (suc room) at = NodePlaced b now (suc room) at
 
 -- what follows the type of a node of the index, up to its entries' end, or of the new one
 abbrev pub NodeTouch : List ℕ → VariableShape → ℕ → ℕ → Touch → Type 0
-NodeTouch b own room at t = (In t.tile (nodes_of own.index) × (t.place + t.width ≤ 28 + 16 * room_at b t.tile)) ⊎ ((0 < room) × (t.tile ≡ at) × (t.place + t.width ≤ vxr_bytes room))
+NodeTouch b own room at t = (In t.tile (nodes_of own.index) × (t.place + t.width ≤ vxr_bytes (room_at b t.tile))) ⊎ ((0 < room) × (t.tile ≡ at) × (t.place + t.width ≤ vxr_bytes room))
 
 -- VXRhead and VXRtail of the descriptor, or bytes of a node
 abbrev pub IndexTouch : List ℕ → VariableShape → ℕ → ℕ → Touch → Type 0
 IndexTouch b own room at t =
-    ((t.tile ≡ own.vdr) × (28 ≤ t.place) × (t.place + t.width ≤ 44))
-    ⊎ ((12 ≤ t.place) × NodeTouch b own room at t)
+    ((t.tile ≡ own.vdr) × (vdr_vxr_head.place ≤ t.place) × (t.place + t.width ≤ past vdr_vxr_tail))
+    ⊎ ((past record_type ≤ t.place) × NodeTouch b own room at t)
 
 -- a node counts no more used entries than it has room for
 abbrev pub Counts : List ℕ → ℕ → Type 0

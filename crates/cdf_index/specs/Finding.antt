@@ -9,6 +9,7 @@ use Rattle.cdf_format.specs.IndexRules.{is_block}
 use Rattle.cdf_format.specs.IndexWalk.{levels_on, nodes_met}
 use Rattle.cdf_format.specs.Shape.{Each}
 use Rattle.cdf_format.specs.Tiles.{AreTiles, tiles}
+use Rattle.cdf_format.specs.Records.{vxr_first, vxr_bytes}
 use Rattle.cdf_index.specs.Order.{InOrder, NextsAreZero, find_in}
 
 -- the index that a link leads to
@@ -32,11 +33,11 @@ pub record IsCut (b : List ℕ) (at field used bound i : ℕ) : Type 0 where
   pub most : i ≤ used
   pub stop : i < used → bound ≤ in_column b at field i
 
--- the record of a node is long enough, and its used entries ascend
+-- the record of a node is long enough, and its used entries ascend: each First, and each Last, which stand behind them
 pub record IsOrderly (b : List ℕ) (at : ℕ) : Type 0 where
   pub fits : NodeFits b at
-  pub firsts : Ascends b at 28 (used_count b at)
-  pub lasts : Ascends b at (28 + 4 * room_at b at) (used_count b at)
+  pub firsts : Ascends b at (vxr_first 0).place (used_count b at)
+  pub lasts : Ascends b at (vxr_first (room_at b at)).place (used_count b at)
 
 -- nodes stand in the image, each is orderly, and their leaves are blocks
 pub record Stands (b : List ℕ) (levels : ℕ) (nodes : Nodes) : Type 0 where
@@ -65,8 +66,8 @@ pub record SomeNode (b : List ℕ) (at : ℕ) : Type 0 where
 pub record NodeInside (b : List ℕ) (at : ℕ) : Type 0 where
   pub low : 8 ≤ at
   pub inside : at + size_at b at ≤ length b
-  pub room : at + (28 + 16 * room_at b at) ≤ length b
-  pub entries : 28 + 16 * room_at b at ≤ size_at b at
+  pub room : at + vxr_bytes (room_at b at) ≤ length b
+  pub entries : vxr_bytes (room_at b at) ≤ size_at b at
   pub fits : used_count b at ≤ room_at b at
 
 -- from a link on the search goes on as from these nodes, over fewer nodes

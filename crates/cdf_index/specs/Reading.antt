@@ -9,6 +9,7 @@ use Rattle.cdf_format.specs.Content.{plain_bytes}
 use Rattle.cdf_format.specs.Index.{Leaf as TreeLeaf}
 use Rattle.cdf_format.specs.Stored.{is_little}
 use Rattle.cdf_format.specs.VariableFields.{max_rec_at, record_bytes, type_of_variable}
+use Rattle.cdf_format.specs.Records.{vvr_bytes}
 use Rattle.cdf_index.specs.declared.nodes.Leaf.{Leaf}
 
 -- one of the records of a block, each of so many bytes, by its number in the block from 0
@@ -20,7 +21,7 @@ pub record HoldsRecords (b : List ℕ) (leaf : Leaf) (size : ℕ) : Type 0 where
   pub plain : leaf.packed ≡ false
   pub ordered : leaf.first ≤ leaf.last
   pub small : leaf.last ≤ record_number_limit
-  pub inside : leaf.at + (12 + (leaf.last + 1 - leaf.first) * size) ≤ length b
+  pub inside : leaf.at + vvr_bytes ((leaf.last + 1 - leaf.first) * size) ≤ length b
 
 -- a record of a leaf, in network order
 abbrev pub record_of_leaf : List ℕ → ℕ → ℕ → TreeLeaf → List ℕ

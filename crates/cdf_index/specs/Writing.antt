@@ -1,12 +1,12 @@
 -- What writes of entries leave of a node.
-use Rattle.std.specs.Prelude.{◌≡◌, ◌≢◌, ◌⊎◌, ◌<◌, ◌≤◌, ℕ, suc, ◌+◌, ◌-◌, ◌*◌, max, List, [], ◌∷◌, length, slice_get}
+use Rattle.std.specs.Prelude.{◌≡◌, ◌≢◌, ◌⊎◌, ◌<◌, ◌≤◌, ℕ, suc, ◌+◌, ◌-◌, max, List, [], ◌∷◌, length, slice_get}
 use Rattle.std.specs.Option.{unwrap_or}
-use Rattle.cdf_edits.specs.Frame.Changed.{Changed, touch}
+use Rattle.cdf_edits.specs.Frame.Changed.{Touch, Changed, touch, touched_field}
 use Rattle.cdf_format.specs.Chains.{next_of}
 use Rattle.cdf_format.specs.Fields.{number, size_at, type_at}
 use Rattle.cdf_format.specs.Index.{room_at, used_count}
 use Rattle.cdf_format.specs.IndexOf.{SaysEntry}
-use Rattle.cdf_format.specs.Records.{vxr_n_used_entries}
+use Rattle.cdf_format.specs.Records.{vxr_n_used_entries, Field, record_type, vxr_vxr_next, vxr_entries, vxr_bytes}
 use Rattle.cdf_format.specs.RecordTypes.{vxr_type}
 use Rattle.cdf_index.specs.Finding.{NodeInside}
 use Rattle.cdf_index.specs.declared.entries.Entry.{Entry}
@@ -25,17 +25,21 @@ entry_in entries i = unwrap_or (slice_get entries i) unused_entry
 abbrev pub SaysUnused : List ℕ → ℕ → ℕ → Type 0
 SaysUnused b at i = SaysEntry b at i 0xffffffff 0xffffffff 0xffffffffffffffff
 
+-- a node with room for so many entries, from a field to the end of these
+abbrev pub node_from : ℕ → Field → ℕ → Touch
+node_from at f room = touch at f.place (((vxr_entries room).place - f.place) + (vxr_entries room).width)
+
 -- one entry of a node was written
 pub record EntrySet (b now : List ℕ) (at i first last offset : ℕ) : Type 0 where
   pub as_long : length now ≡ length b
-  pub changed : Changed b now (touch at 28 (16 * room_at b at) ∷ [])
+  pub changed : Changed b now (touched_field at (vxr_entries (room_at b at)) ∷ [])
   pub here : SaysEntry now at i first last offset
   pub others : (j : ℕ) → j < room_at b at → j ≢ i → StillSays b now at j j
 
 -- a node has one entry more, with number p; those behind the used ones stay, but for the first
 pub record Inserted (b now : List ℕ) (at used p first last offset : ℕ) : Type 0 where
   pub as_long : length now ≡ length b
-  pub changed : Changed b now (touch at 24 (4 + 16 * room_at b at) ∷ [])
+  pub changed : Changed b now (node_from at vxr_n_used_entries (room_at b at) ∷ [])
   pub earlier : (j : ℕ) → j < p → StillSays b now at j j
   pub here : SaysEntry now at p first last offset
   pub later : (j : ℕ) → p ≤ j → j < used → StillSays b now at j (suc j)
@@ -47,7 +51,7 @@ pub record Inserted (b now : List ℕ) (at used p first last offset : ℕ) : Typ
 -- the entry with a number of a node has another Last, at least as great as before
 pub record Widened (b now : List ℕ) (at i last : ℕ) : Type 0 where
   pub as_long : length now ≡ length b
-  pub changed : Changed b now (touch at 28 (16 * room_at b at) ∷ [])
+  pub changed : Changed b now (touched_field at (vxr_entries (room_at b at)) ∷ [])
   pub here : (f l o : ℕ) → SaysEntry b at i f l o → SaysEntry now at i f (max l last) o
   pub others : (j : ℕ) → j < room_at b at → j ≢ i → StillSays b now at j j
 
@@ -59,14 +63,14 @@ pub record EntriesRead (b : List ℕ) (at from upto : ℕ) (entries : List Entry
 -- the entries of a node from one number to another are not used
 pub record Cleared (b now : List ℕ) (at from upto : ℕ) : Type 0 where
   pub as_long : length now ≡ length b
-  pub changed : Changed b now (touch at 28 (16 * room_at b at) ∷ [])
+  pub changed : Changed b now (touched_field at (vxr_entries (room_at b at)) ∷ [])
   pub gone : (j : ℕ) → from ≤ j → j < upto → SaysUnused now at j
   pub others : (j : ℕ) → j < room_at b at → (j < from) ⊎ (upto ≤ j) → StillSays b now at j j
 
 -- Of the used entries of a node the first p stayed, one was put behind them, and the others are not used; it has another link.
 pub record Shortened (b now : List ℕ) (at used p first last offset next : ℕ) : Type 0 where
   pub as_long : length now ≡ length b
-  pub changed : Changed b now (touch at 12 (16 + 16 * room_at b at) ∷ [])
+  pub changed : Changed b now (node_from at vxr_vxr_next (room_at b at) ∷ [])
   pub earlier : (j : ℕ) → j < p → StillSays b now at j j
   pub here : SaysEntry now at p first last offset
   pub gone : (j : ℕ) → p < j → j < used → SaysUnused now at j
@@ -103,12 +107,12 @@ pub record Chained (b now : List ℕ) (at new used first last offset : ℕ) : Ty
 pub record HasRoomFor (b : List ℕ) (at room : ℕ) : Type 0 where
   pub low : 8 ≤ at
   pub inside : at + size_at b at ≤ length b
-  pub size_is : size_at b at ≡ 28 + 16 * room
+  pub size_is : size_at b at ≡ vxr_bytes room
 
 -- the fields of a node before its entries were written
 pub record HeadWritten (b now : List ℕ) (at room used next : ℕ) : Type 0 where
   pub as_long : length now ≡ length b
-  pub changed : Changed b now (touch at 8 20 ∷ [])
+  pub changed : Changed b now (node_from at record_type 0 ∷ [])
   pub type_is : type_at now at ≡ vxr_type
   pub next_is : next_of now at ≡ next
   pub room_is : room_at now at ≡ room
@@ -123,7 +127,7 @@ SaysFirst now at entries n = (i : ℕ) → i < n → SaysEntry now at i (entry_i
 -- a record became a node with these entries
 pub record NodeWritten (b now : List ℕ) (at room next : ℕ) (entries : List Entry) : Type 0 where
   pub as_long : length now ≡ length b
-  pub changed : Changed b now (touch at 8 (20 + 16 * room) ∷ [])
+  pub changed : Changed b now (node_from at record_type room ∷ [])
   pub type_is : type_at now at ≡ vxr_type
   pub next_is : next_of now at ≡ next
   pub room_is : room_at now at ≡ room

@@ -8,13 +8,10 @@ ghost use Rattle.cdf_index.specs.Finding.{NodeInside};
 ghost use Rattle.cdf_index.specs.Sight.{IsHead};
 
 use cdf_area::{Area, AreaError};
-use cdf_format::fields::VXR_FIRST;
+use cdf_format::fields::{VXR_ENTRY_SIZE, VXR_FIRST};
 use cdf_records::{Steps, read_vxr};
 use std::marker::Brand;
 use std::sync::ledger::{Blank, Ledger};
-
-/// The bytes of First, Last and Offset of an entry.
-const ENTRY_SIZE: u64 = 16;
 
 /// How many levels an index has at most.
 pub const LEVELS: u64 = 8;
@@ -48,7 +45,7 @@ fn used_of(used: u64, room: u64, size: u64) -> u64
     requires { 28 ≤ size }
     ensures { result ≡ min used (min room ((size - 28) / 16)) }
 {
-    used.min(room.min((size - VXR_FIRST) / ENTRY_SIZE))
+    used.min(room.min((size - VXR_FIRST) / VXR_ENTRY_SIZE))
 }
 
 /// What a node says before its entries. It takes one step.

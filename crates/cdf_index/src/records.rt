@@ -5,6 +5,7 @@ ghost use Rattle.cdf_area.specs.Calls.{Overwrites, Reads};
 ghost use Rattle.cdf_base.specs.Bytes.{put};
 ghost use Rattle.cdf_format.specs.Content.{plain_bytes};
 ghost use Rattle.cdf_format.specs.VariableFields.{record_bytes};
+ghost use Rattle.cdf_format.specs.Records.{vvr_place};
 ghost use Rattle.cdf_model.specs.Limits.{image_limit};
 ghost use Rattle.cdf_index.specs.Reading.{HoldsRecords, record_in};
 ghost use Rattle.cdf_index.specs.Sight.{seen};
@@ -47,7 +48,7 @@ pub fn write_recs<A: Area>(
     requires from { leaf.now.first ≤ rec }
     requires within { (rec - leaf.now.first) * rec_bytes + length bytes.now ≤ (leaf.now.last + 1 - leaf.now.first) * rec_bytes }
     requires short { length (A.image area.old) ≤ image_limit }
-    ensures written { OnOk result (A.image area.new ≡ put (A.image area.old) (leaf.now.at + (12 + (rec - leaf.now.first) * rec_bytes)) bytes.now) }
+    ensures written { OnOk result (A.image area.new ≡ put (A.image area.old) (leaf.now.at + vvr_place ((rec - leaf.now.first) * rec_bytes)) bytes.now) }
     ensures area { Overwrites A.image A.frame A.faults area.old area.new result }
 {
     let number = (rec - leaf.first) as u64;

@@ -15,7 +15,7 @@ pub use Rattle.cdf_edits.proofs.Frame.Meaning.{Kept}
 pub use Rattle.cdf_edits.proofs.Index.NodeEdited.{redo}
 pub use Rattle.cdf_edits.proofs.Space.UsedRecords.{apart}
 pub use Rattle.cdf_edits.specs.Commands.Allowances.{shapes_of}
-pub use Rattle.cdf_edits.specs.Commands.Room.{vxr_bytes, widest}
+pub use Rattle.cdf_edits.specs.Commands.Room.{widest}
 pub use Rattle.cdf_edits.specs.Frame.Changed.{Changed, Touch, touch}
 pub use Rattle.cdf_edits.specs.Index.Grown.{chain_reaches, leads_down, new_room, past, reaches, room_of_new, with_block, with_entry, with_leaf}
 pub use Rattle.cdf_edits.specs.Index.Written.{EntryIs, UnusedEntries, last_node, top_chain, was_unused}
@@ -35,7 +35,7 @@ pub use Rattle.cdf_format.specs.Index.{Entries, Leaf, Nodes, block, entry_count,
 pub use Rattle.cdf_format.specs.IndexOf.{HasNodes, IsNode, SaysEntry, SaysNode}
 pub use Rattle.cdf_format.specs.Owners.{times}
 pub use Rattle.cdf_format.specs.RecordTypes.{gdr_type, uir_type, vvr_type, vxr_type}
-pub use Rattle.cdf_format.specs.Records.{vdr_vxr_head, vdr_vxr_tail, vxr_n_used_entries, vxr_vxr_next}
+pub use Rattle.cdf_format.specs.Records.{vdr_vxr_head, vdr_vxr_tail, vxr_n_used_entries, vxr_vxr_next, vxr_bytes}
 pub use Rattle.cdf_format.specs.Shape.{Each, VariableShape, shape, variables}
 pub use Rattle.cdf_format.specs.Sound.{NodeFits}
 pub use Rattle.cdf_format.specs.Tiles.{AreTiles, Distinct, In}

@@ -1,11 +1,10 @@
 -- An entry that is put into a node or into a new one behind it, step by step (CDF Internal Format Description, "Variable Index Record"; own: where it goes).
 use Rattle.std.specs.Prelude.{◌≡◌, ◌⊎◌, ◌<◌, ◌≤◌, ℕ, ◌+◌, ◌-◌, max, List, [], ◌∷◌, length}
-use Rattle.cdf_edits.specs.Commands.Room.{vxr_bytes}
 use Rattle.cdf_edits.specs.Space.Placing.{Fills}
 use Rattle.cdf_format.specs.Chains.{next_of}
 use Rattle.cdf_format.specs.Fields.{eof, gdr_offset, type_at, with_field}
 use Rattle.cdf_format.specs.Index.{room_at, used_count}
-use Rattle.cdf_format.specs.Records.{vdr_vxr_head, vdr_vxr_tail, vxr_vxr_next}
+use Rattle.cdf_format.specs.Records.{vdr_vxr_head, vdr_vxr_tail, vxr_vxr_next, vxr_bytes}
 use Rattle.cdf_format.specs.RecordTypes.{vxr_type}
 use Rattle.cdf_format.specs.Shape.{shape}
 use Rattle.cdf_format.specs.Sound.{IsSound, NodeFits}

@@ -2,11 +2,11 @@
 
 ghost use Rattle.std.specs.Prelude.{◌≡◌, ◌≢◌, ◌+◌, ◌≤◌, ◌<◌, List, length, IfOk, OnOk};
 ghost use Rattle.cdf_area.specs.Calls.{Edits, Reads};
-ghost use Rattle.cdf_edits.specs.Commands.Room.{vxr_bytes, widest};
+ghost use Rattle.cdf_edits.specs.Commands.Room.{widest};
 ghost use Rattle.cdf_edits.specs.Space.Placing.{IsBody, type_of_body};
 ghost use Rattle.cdf_edits.proofs.Edits.VdrEdited.{StandsAmong};
 ghost use Rattle.cdf_format.specs.Fields.{number};
-ghost use Rattle.cdf_format.specs.Records.{vdr_vxr_head};
+ghost use Rattle.cdf_format.specs.Records.{vdr_vxr_head, vxr_bytes};
 ghost use Rattle.cdf_format.specs.RecordTypes.{vvr_type};
 ghost use Rattle.cdf_format.specs.Shape.{VariableShape, shape, variables, vdrs};
 ghost use Rattle.cdf_format.specs.Tiles.{In};

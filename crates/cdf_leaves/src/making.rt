@@ -2,15 +2,15 @@
 
 ghost use Rattle.std.specs.Prelude.{◌≡◌, ◌+◌, ◌*◌, ◌≤◌, length, IfOk};
 ghost use Rattle.cdf_area.specs.Calls.{Edits};
-ghost use Rattle.cdf_edits.specs.Commands.Room.{vxr_bytes};
 ghost use Rattle.cdf_format.specs.Fields.{eof, gdr_offset};
 ghost use Rattle.cdf_format.specs.Shape.{shape};
 ghost use Rattle.cdf_format.specs.Sound.{IsSound};
+ghost use Rattle.cdf_format.specs.Records.{vxr_bytes};
 ghost use Rattle.cdf_model.specs.Limits.{image_limit};
 ghost use Rattle.cdf_leaves.specs.Putting.{NodeMade};
 
 use cdf_area::{Area, AreaError};
-use cdf_format::fields::VXR_FIRST;
+use cdf_format::fields::{VXR_ENTRY_SIZE, VXR_FIRST};
 use cdf_index::{Entry, write_node};
 use cdf_space::alloc_record;
 
@@ -30,7 +30,7 @@ pub fn make_node<A: Area>(
     ensures made { IfOk result (NodeMade (A.image area.old) (A.image area.new) room next entries.now) }
     ensures area { Edits A.frame A.faults area.old area.new result }
 {
-    let at = alloc_record(area, VXR_FIRST + 16 * room)?;
+    let at = alloc_record(area, VXR_FIRST + VXR_ENTRY_SIZE * room)?;
     write_node(area, at, room, next, entries)?;
     Ok(at)
 }

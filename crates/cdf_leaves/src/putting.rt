@@ -2,10 +2,10 @@
 
 ghost use Rattle.std.specs.Prelude.{◌≡◌, ◌+◌, ◌-◌, ◌≤◌, ◌<◌, length, max, IfOk, OnOk};
 ghost use Rattle.cdf_area.specs.Calls.{Edits};
-ghost use Rattle.cdf_edits.specs.Commands.Room.{vxr_bytes};
 ghost use Rattle.cdf_format.specs.Sound.{IsSound};
 ghost use Rattle.cdf_format.specs.Fields.{eof, gdr_offset};
 ghost use Rattle.cdf_format.specs.Shape.{shape};
+ghost use Rattle.cdf_format.specs.Records.{vxr_bytes};
 ghost use Rattle.cdf_model.specs.Limits.{image_limit};
 ghost use Rattle.cdf_leaves.specs.Putting.{ChainMade, EntryPut, IndexStarted, MayPut, SplitMade};
 

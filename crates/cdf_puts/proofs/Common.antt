@@ -40,7 +40,7 @@ pub use Rattle.cdf_edits.proofs.Space.UsedRecords.{apart}
 pub use Rattle.cdf_edits.specs.Commands.Allowances.{AllKeep, Allowance, Allowances, Anything, Keeps, Only, OutsideFields, Stays, anything_if, is_taken, r_max_rec_field, same_kind, shapes_of, space_fields, unused_allowance, vdr_type}
 pub use Rattle.cdf_edits.specs.Commands.GreatestRecord.{RMaxRecFollows, r_max_rec}
 pub use Rattle.cdf_edits.specs.Commands.Puts.{PutsLeaves, max_rec_touches, new_ranges, put_changes}
-pub use Rattle.cdf_edits.specs.Commands.Room.{blocks_room, is_rewritten, packed_room, put_room, uncovered, vxr_bytes, widest}
+pub use Rattle.cdf_edits.specs.Commands.Room.{blocks_room, is_rewritten, packed_room, put_room, uncovered, widest}
 pub use Rattle.cdf_edits.specs.Edits.Edit.{Edit}
 pub use Rattle.cdf_edits.specs.Edits.Marks.{Avoids, Away, Mark, avoided, unmarked}
 pub use Rattle.cdf_edits.specs.Frame.Changed.{Changed, Outside, Touch}
@@ -68,7 +68,7 @@ pub use Rattle.cdf_format.specs.Fields.{eof, integer4, number, size_at, type_at,
 pub use Rattle.cdf_format.specs.Index.{Entries, Leaf, Nodes, block, entry_count, leaf, leaves_of, lower, no_entry, no_node, node, nodes_of, room_at, used_count}
 pub use Rattle.cdf_format.specs.Owners.{Unused, attribute_records, owned, times, unused_records, variable_records}
 pub use Rattle.cdf_format.specs.RecordTypes.{cdr_type, cpr_type, cvvr_type, fixed_size, gdr_type, is_record_type, uir_type, vvr_type, vxr_type}
-pub use Rattle.cdf_format.specs.Records.{Field, gdr_r_max_rec, uir_next_uir, uir_prev_uir, vdr_max_rec, vdr_vxr_head, vdr_vxr_tail, vxr_n_entries}
+pub use Rattle.cdf_format.specs.Records.{Field, gdr_r_max_rec, uir_next_uir, uir_prev_uir, vdr_max_rec, vdr_vxr_head, vdr_vxr_tail, vxr_n_entries, vxr_bytes}
 pub use Rattle.cdf_format.specs.Rules.{asked}
 pub use Rattle.cdf_format.specs.Shape.{AttributeShape, Each, HasShape, Shape, VariableShape, is_compressed, shape, variables, vdrs}
 pub use Rattle.cdf_format.specs.Sound.{IsSound, LeafFits, NodeFits}

@@ -2,10 +2,11 @@
 use Rattle.std.specs.Prelude.{◌≡◌, ◌≤◌, ℕ, suc, ◌+◌, ◌-◌, ◌*◌, ◌==◌, max, List, [], ◌∷◌, nat_le, if◌then◌else◌}
 use Rattle.cdf_model.specs.DataSet.{Variable}
 use Rattle.cdf_model.specs.Limits.{record_number_limit}
-use Rattle.cdf_edits.specs.Commands.Room.{widest, vxr_bytes, put_room}
+use Rattle.cdf_edits.specs.Commands.Room.{widest, put_room}
 use Rattle.cdf_edits.specs.Index.Blocks.{ranges_of, covered, record_length, block_count, firsts_of, next_first, new_range, cover, first_written, ranges_after_put}
 use Rattle.cdf_edits.specs.Index.Grown.{new_room}
 use Rattle.cdf_format.specs.Index.{Nodes}
+use Rattle.cdf_format.specs.Records.{vxr_bytes, vvr_bytes, linked_size}
 use Rattle.cdf_index.specs.Order.{InOrder}
 
 -- the last record of a block that is made for record k
@@ -14,7 +15,7 @@ new_last v index k = (new_range v (firsts_of index) k).last
 
 -- the bytes of a block of these records, a VVR, and those of the VXR that its entry needs, if it needs one
 abbrev pub block_bytes : Variable → ℕ → ℕ → ℕ
-block_bytes v first last = max 28 (12 + (last + 1 - first) * record_length v)
+block_bytes v first last = max linked_size (vvr_bytes ((last + 1 - first) * record_length v))
 
 abbrev pub node_bytes : ℕ → Nodes → ℕ
 node_bytes first index = if new_room first index == 0 then 0 else vxr_bytes (new_room first index)
@@ -30,7 +31,7 @@ pub record Counted (v : Variable) (index index' : Nodes) (n k taken : ℕ) : Typ
   pub blocks : ℕ
   pub records_are : covered (first_written v n) n (ranges_of index') ≡ covered (first_written v n) n (ranges_of index) + records
   pub blocks_are : blocks * block_count v ≤ records + count_upto k (firsts_of index) * block_count v
-  pub bytes_are : taken ≤ records * record_length v + blocks * (28 + vxr_bytes (widest index))
+  pub bytes_are : taken ≤ records * record_length v + blocks * (linked_size + vxr_bytes (widest index))
 
 -- Record n is put. The index was `index` and is `index'` by now: what is written before record k has its block, and so many bytes were taken for it.
 -- What is left to do leads to the ranges that the put leaves; a First past k is one of `index`; no node is wider than its widest; and the room of the put is enough.

@@ -17,7 +17,7 @@ use Rattle.cdf_format.specs.Bytes.{byte}
 use Rattle.cdf_format.specs.Content.{variable_of}
 use Rattle.cdf_format.specs.Fields.{number, size_at}
 use Rattle.cdf_format.specs.Index.{Nodes, Leaf, leaves_of, nodes_of}
-use Rattle.cdf_format.specs.Records.{vdr_max_rec}
+use Rattle.cdf_format.specs.Records.{vdr_max_rec, vvr_place, vvr_bytes}
 use Rattle.cdf_format.specs.Shape.{VariableShape, Each, is_compressed}
 use Rattle.cdf_format.specs.Tiles.{In}
 use Rattle.cdf_format.specs.VariableFields.{record_bytes, sparse_at, max_rec_at}
@@ -52,7 +52,7 @@ was_put first k leaf = nat_lt 0 (put_count first k leaf)
 
 -- their bytes in the blocks, of records of so many bytes
 abbrev pub put_from : ℕ → ℕ → Leaf → ℕ
-put_from first size leaf = 12 + (max first leaf.first - leaf.first) * size
+put_from first size leaf = vvr_place ((max first leaf.first - leaf.first) * size)
 
 abbrev pub put_touches : ℕ → ℕ → ℕ → List Leaf → List Touch
 put_touches first k size leaves = map (λ leaf. touch leaf.place (put_from first size leaf) (put_count first k leaf * size)) leaves
@@ -120,7 +120,7 @@ pub record NewBlock (now : List ℕ) (raw pad : List ℕ) (r first most k size :
   pub plain : l.packed ≡ false
   pub was_taken : is_taken_at acts l.place ≡ true
   pub written : (j : ℕ) → l.first ≤ j → j ≤ l.last → RecordIs now size l j (record_of raw pad r j)
-  pub spare : (i : ℕ) → 12 + (l.last + 1 - l.first) * size ≤ i → i < size_at now l.place → byte now (l.place + i) ≡ 0
+  pub spare : (i : ℕ) → vvr_bytes ((l.last + 1 - l.first) * size) ≤ i → i < size_at now l.place → byte now (l.place + i) ≡ 0
 
 pub record BlocksSoFar (b now : List ℕ) (own own' : VariableShape) (raw pad : List ℕ) (r first k : ℕ) (acts : List Act) : Type 0 where
   pub stay : (l : Leaf) → IsOneOf (leaves_of own.index) l → IsOneOf (leaves_of own'.index) l

@@ -10,7 +10,7 @@ use Rattle.cdf_format.specs.Bytes.{Same, byte}
 use Rattle.cdf_format.specs.Content.{content}
 use Rattle.cdf_format.specs.Fields.{number, size_at}
 use Rattle.cdf_format.specs.Index.{Leaf, leaves_of}
-use Rattle.cdf_format.specs.Records.{vdr_max_rec}
+use Rattle.cdf_format.specs.Records.{vdr_max_rec, vvr_place, vvr_bytes, linked_size}
 use Rattle.cdf_format.specs.Shape.{VariableShape, Each, is_compressed}
 use Rattle.cdf_format.specs.VariableFields.{record_bytes}
 use Rattle.cdf_model.specs.declared.kinds.Kind.{Kind}
@@ -45,9 +45,9 @@ pub record IsBlockBody (body : List ℕ) (records : List ℕ) : Type 0 where
 -- the blocks that were there stay, and the new one has these records
 pub record BlocksGoOn (b now : List ℕ) (own : VariableShape) (new : Leaf) (records : List ℕ) : Type 0 where
   pub old : Each (λ (l : Leaf). Same b now l.place (l.place + size_at b l.place)) (leaves_of own.index)
-  pub size_is : size_at now new.place ≡ max 28 (12 + length records)
-  pub records_are : take (length records) (drop (new.place + 12) now) ≡ records
-  pub spare : (i : ℕ) → 12 + length records ≤ i → i < size_at now new.place → byte now (new.place + i) ≡ 0
+  pub size_is : size_at now new.place ≡ max linked_size (vvr_bytes (length records))
+  pub records_are : take (length records) (drop (new.place + vvr_place 0) now) ≡ records
+  pub spare : (i : ℕ) → vvr_bytes (length records) ≤ i → i < size_at now new.place → byte now (new.place + i) ≡ 0
 
 -- ---- MaxRec is raised
 

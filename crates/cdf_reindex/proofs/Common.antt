@@ -28,7 +28,7 @@ pub use Rattle.cdf_edits.proofs.Frame.VdrStays.{VdrStays, stays_alike}
 pub use Rattle.cdf_edits.proofs.Space.UsedRecords.{apart}
 pub use Rattle.cdf_edits.specs.Commands.Allowances.{AllKeep, Allowance, Allowances, Anything, Keeps, Only, is_taken, shapes_of}
 pub use Rattle.cdf_edits.specs.Commands.Reindex.{FullFromLeft, IsPyramid, levels_up, made_acts, reindex_changes}
-pub use Rattle.cdf_edits.specs.Commands.Room.{nodes_above, quotient_up, reindex_room, vxr_bytes}
+pub use Rattle.cdf_edits.specs.Commands.Room.{nodes_above, quotient_up, reindex_room}
 pub use Rattle.cdf_edits.specs.Edits.Edit.{Edit}
 pub use Rattle.cdf_edits.specs.Edits.ManyMarks.{freeing_marks}
 pub use Rattle.cdf_edits.specs.Edits.Marks.{Among, Avoids, Away, Mark, Within, avoided, keeps_file, mark, unmarked}
@@ -57,7 +57,7 @@ pub use Rattle.cdf_format.specs.IndexOf.{IsIndex, IsNode, SaysEntry}
 pub use Rattle.cdf_format.specs.IndexRules.{is_block, leaf_rows}
 pub use Rattle.cdf_format.specs.Owners.{owned, times, variable_records}
 pub use Rattle.cdf_format.specs.RecordTypes.{cpr_type, cvvr_type, gdr_type, r_vdr_type, uir_type, vvr_type, vxr_type, z_vdr_type}
-pub use Rattle.cdf_format.specs.Records.{Field, field, gdr_eof, gdr_uir_head, uir_next_uir, uir_prev_uir, vdr_max_rec, vdr_vxr_head, vdr_vxr_tail, vxr_n_used_entries}
+pub use Rattle.cdf_format.specs.Records.{Field, field, gdr_eof, gdr_uir_head, uir_next_uir, uir_prev_uir, vdr_max_rec, vdr_vxr_head, vdr_vxr_tail, vxr_n_used_entries, vxr_bytes}
 pub use Rattle.cdf_format.specs.Rules.{Hold}
 pub use Rattle.cdf_format.specs.Shape.{Each, HasShape, HasVariable, Shape, VariableShape, shape, variables, vdrs}
 pub use Rattle.cdf_format.specs.Sound.{IsSound, LeafFits, NodeFits, VariableFits}

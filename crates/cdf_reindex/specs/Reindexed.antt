@@ -2,7 +2,7 @@
 use Rattle.std.specs.Prelude.{◌≡◌, ◌⊎◌, ◌≤◌, ◌<◌, ℕ, ◌+◌, List, [], ◌∷◌, length}
 use Rattle.cdf_model.specs.Limits.{record_number_limit}
 use Rattle.cdf_edits.specs.Commands.Reindex.{IsPyramid, levels_up}
-use Rattle.cdf_edits.specs.Commands.Room.{nodes_above, reindex_room, vxr_bytes}
+use Rattle.cdf_edits.specs.Commands.Room.{nodes_above, reindex_room}
 use Rattle.cdf_edits.specs.Edits.Writes.{write, with_writes}
 use Rattle.cdf_edits.specs.Index.Written.{last_node}
 use Rattle.cdf_edits.specs.Space.Freeing.{AllGiven}
@@ -12,7 +12,7 @@ use Rattle.cdf_format.specs.Content.{content}
 use Rattle.cdf_format.specs.Fields.{number}
 use Rattle.cdf_format.specs.Index.{Nodes, no_node, nodes_of, leaves_of, link_to, room_at, used_count}
 use Rattle.cdf_format.specs.IndexOf.{IsIndex, IsNode}
-use Rattle.cdf_format.specs.Records.{vdr_vxr_head, vdr_vxr_tail, vxr_n_used_entries}
+use Rattle.cdf_format.specs.Records.{vdr_vxr_head, vdr_vxr_tail, vxr_n_used_entries, vxr_bytes}
 use Rattle.cdf_format.specs.RecordTypes.{vxr_type}
 use Rattle.cdf_format.specs.Shape.{VariableShape, Each, shape}
 use Rattle.cdf_format.specs.Sound.{NodeFits, IsSound}

@@ -4,17 +4,17 @@ ghost use Rattle.std.specs.Prelude.{◌≡◌, ◌+◌, ◌-◌, ◌/◌, ◌≤
 ghost use Rattle.cdf_area.specs.Calls.{Reads};
 ghost use Rattle.cdf_format.specs.Fields.{size_at, with_sign, word};
 ghost use Rattle.cdf_format.specs.VariableFields.{counted4};
+ghost use Rattle.cdf_format.specs.Records.{vxr_bytes};
 ghost use Rattle.cdf_model.specs.Limits.{signed_limit};
 ghost use Rattle.cdf_structure.specs.Indexes.{IsNodeAt, IsEntryAt};
 
 use crate::fields::read_size;
 use cdf_area::{Area, AreaError};
-use cdf_format::fields::{VXR_FIRST, VXR_N_ENTRIES, VXR_N_USED_ENTRIES, VXR_VXR_NEXT};
+use cdf_format::fields::{
+    VXR_ENTRY_SIZE, VXR_FIRST, VXR_N_ENTRIES, VXR_N_USED_ENTRIES, VXR_VXR_NEXT,
+};
 use cdf_model::limits::SIGNED_LIMIT;
 use cdf_records::{read_unsigned4, read_unsigned8};
-
-/// The bytes of First, Last and Offset of an entry.
-const ENTRY_SIZE: u64 = 16;
 
 /// What a node says before its entries: how many it has room for, how many of them are used and lie in its record, whether they
 /// all do, and the next node.
@@ -101,14 +101,14 @@ fn used_of(used: u64, room: u64, size: u64) -> u64
     requires { 28 ≤ size }
     ensures { result ≡ min used (min room ((size - 28) / 16)) }
 {
-    used.min(room.min((size - VXR_FIRST) / ENTRY_SIZE))
+    used.min(room.min((size - VXR_FIRST) / VXR_ENTRY_SIZE))
 }
 
 /// Whether a node of this size has no more used entries than entries, and room for these.
 fn has_room(used: u32, room: u32, size: u64) -> bool
-    ensures { result ≡ ((nat_le used room && nat_le room signed_limit) && nat_le (28 + 16 * room) size) }
+    ensures { result ≡ ((nat_le used room && nat_le room signed_limit) && nat_le (vxr_bytes room) size) }
 {
-    used <= room && room <= SIGNED_LIMIT && VXR_FIRST + ENTRY_SIZE * u64::from(room) <= size
+    used <= room && room <= SIGNED_LIMIT && VXR_FIRST + VXR_ENTRY_SIZE * u64::from(room) <= size
 }
 
 /// What the node at a place says before its entries.

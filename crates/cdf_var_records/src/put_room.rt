@@ -20,7 +20,9 @@ ghost use Rattle.cdf_var_records.specs.Records.{IsForm, variable_at};
 use crate::form::Form;
 use crate::record::{record_size_of, says_vary};
 use cdf_area::{Area, AreaError};
-use cdf_format::fields::{VDR_BLOCKING_FACTOR, VDR_VXR_HEAD};
+use cdf_format::fields::{
+    LINKED_SIZE, VDR_BLOCKING_FACTOR, VDR_VXR_HEAD, VXR_ENTRY_SIZE, VXR_FIRST,
+};
 use cdf_index::{IndexSize, index_size};
 use cdf_model::limits::RECORD_NUMBER_LIMIT;
 use cdf_puts::{find_leaf, find_next};
@@ -153,7 +155,8 @@ fn room_of(count: u32, length: u64, missing: u32, size: IndexSize) -> u128
     let (count, missing) = (u128::from(count), u128::from(missing));
     let records = (missing - 1 + count) * u128::from(length);
     let blocks = (missing + count - 1) / count + u128::from(size.entries) + 1;
-    records + blocks * (28 + (28 + 16 * u128::from(size.widest)))
+    let node = VXR_FIRST as u128 + VXR_ENTRY_SIZE as u128 * u128::from(size.widest);
+    records + blocks * (LINKED_SIZE as u128 + node)
 }
 
 /// How many bytes a put of a record takes at most, where one is written from a first on.

@@ -8,6 +8,7 @@ use Rattle.cdf_edits.specs.Index.Written.{AnyOf}
 use Rattle.cdf_edits.proofs.Edits.InRecords.{places_of}
 use Rattle.cdf_edits.proofs.Edits.LeafRecords.{Ascending, count_is}
 use Rattle.cdf_edits.proofs.Frame.OwnersApart.{times-in}
+use Rattle.cdf_format.specs.Records.{vvr_place}
 
 abbrev pub IsOneOf : List Leaf → Leaf → Type 0
 IsOneOf leaves l = AnyOf (λ (other : Leaf). other ≡ l) leaves
@@ -136,7 +137,7 @@ part_is b place k n size lt =
 
 -- where a record stands in the image
 abbrev pub record_place : Leaf → ℕ → ℕ → ℕ
-record_place l size k = l.place + (12 + (k - l.first) * size)
+record_place l size k = l.place + vvr_place ((k - l.first) * size)
 
 pub plain_piece : (b : List ℕ) (vdr size k : ℕ) (l : Leaf) → l.packed ≡ false → l.last ≤ record_number_limit → record_bytes b vdr ≡ size → l.first ≤ k → k ≤ l.last → take size (drop ((k - l.first) * size) (plain_bytes b vdr l)) ≡ take size (drop (record_place l size k) b)
 plain_piece b vdr size k l plain small is f t =

@@ -7,7 +7,6 @@ use Rattle.cdf_model.specs.Names.{Found}
 use Rattle.cdf_edits.specs.Commands.Allowances.{Allowances, Anything, Only, stays_all, stays_own, space_fields, anything_if, r_max_rec_field, of_variable}
 use Rattle.cdf_edits.specs.Commands.GreatestRecord.{RMaxRecFollows}
 use Rattle.cdf_edits.specs.Commands.NewRecords.{Says, with_bits}
-use Rattle.cdf_edits.specs.Commands.Room.{vxr_bytes}
 use Rattle.cdf_edits.specs.Index.Blocks.{Range, range, covers, shared, fallen, is_sparse, record_length, ranges_of, extent_after}
 use Rattle.cdf_edits.specs.Index.CutTwice.{PartsFollow}
 use Rattle.cdf_edits.specs.Index.Cut.{Part, IsPart, is_whole, CutsIndex, BlockPlaced, BlocksFreedStay, NodesFreedStay, none_written}
@@ -16,7 +15,7 @@ use Rattle.cdf_edits.specs.Index.Written.{is_taken_at, block_need, stays_put, We
 use Rattle.cdf_edits.specs.Space.Acts.{Act, Took, gave, taken}
 use Rattle.cdf_format.specs.Fields.{number, size_at}
 use Rattle.cdf_format.specs.Index.{Nodes, no_node, Leaf, leaves_of, nodes_of, room_at}
-use Rattle.cdf_format.specs.Records.{Field, vdr_max_rec, vdr_vxr_head, vdr_vxr_tail, vdr_flags, vdr_s_records, vdr_cpr_or_spr_offset, cpr_rfu_a, cpr_p_count}
+use Rattle.cdf_format.specs.Records.{Field, vdr_max_rec, vdr_vxr_head, vdr_vxr_tail, vdr_flags, vdr_s_records, vdr_cpr_or_spr_offset, cpr_rfu_a, cpr_p_count, vxr_bytes}
 use Rattle.cdf_format.specs.Shape.{Shape, VariableShape, Each}
 
 -- ---- `del-recs`

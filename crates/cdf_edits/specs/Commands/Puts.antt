@@ -9,7 +9,7 @@ use Rattle.cdf_model.specs.Names.{Found}
 use Rattle.cdf_model.specs.Reading.{pad_record}
 use Rattle.cdf_edits.specs.Commands.Allowances.{Allowances, Anything, Only, stays_all, stays_own, space_fields, anything_if, r_max_rec_field, of_variable}
 use Rattle.cdf_edits.specs.Commands.GreatestRecord.{RMaxRecFollows}
-use Rattle.cdf_edits.specs.Commands.Room.{vxr_bytes, uncovered, is_rewritten}
+use Rattle.cdf_edits.specs.Commands.Room.{uncovered, is_rewritten}
 use Rattle.cdf_edits.specs.Frame.Changed.{Touch, touch, touched_field, Changed}
 use Rattle.cdf_edits.specs.Index.Blocks.{Range, range, covers, shared, ranges_of, first_written, cuts_before_put, record_length, ranges_before_put, ranges_after_put}
 use Rattle.cdf_edits.specs.Index.Cut.{Part, IsPlaced, CutsIndex, BlocksFreedStay, NodesFreedStay, none_written}
@@ -19,7 +19,7 @@ use Rattle.cdf_edits.specs.Space.Acts.{Act, Took, Gave}
 use Rattle.cdf_format.specs.Content.{plain_bytes}
 use Rattle.cdf_format.specs.Fields.{size_at}
 use Rattle.cdf_format.specs.Index.{Nodes, Leaf, leaves_of, nodes_of}
-use Rattle.cdf_format.specs.Records.{vdr_max_rec, vdr_vxr_head, vdr_vxr_tail}
+use Rattle.cdf_format.specs.Records.{vdr_max_rec, vdr_vxr_head, vdr_vxr_tail, vxr_bytes, vvr_place}
 use Rattle.cdf_format.specs.Shape.{Shape, VariableShape, Each, shape}
 use Rattle.cdf_format.specs.Stored.{is_little}
 use Rattle.cdf_format.specs.VariableFields.{records_of_leaf}
@@ -94,7 +94,7 @@ pub record PutsIndex (b now : List ℕ) (v : Variable) (n : ℕ) (before after :
 
 -- the bytes of these records in their blocks
 abbrev pub written_in : Variable → ℕ → ℕ → List Leaf → List Touch
-written_in v first last leaves = map (λ leaf. touch leaf.place (12 + (max first leaf.first - leaf.first) * record_length v) (shared first last (range leaf.first leaf.last) * record_length v)) leaves
+written_in v first last leaves = map (λ leaf. touch leaf.place (vvr_place ((max first leaf.first - leaf.first) * record_length v)) (shared first last (range leaf.first leaf.last) * record_length v)) leaves
 
 -- all records that are written have blocks, which are not packed, and nothing is cut
 abbrev pub stays_in_place : Variable → VariableShape → ℕ → Bool

@@ -4,12 +4,12 @@ use Rattle.std.specs.List.{last_or, slice_get, sum}
 use Rattle.std.specs.Option.{option_map}
 use Rattle.cdf_model.specs.Names.{Found}
 use Rattle.cdf_edits.specs.Commands.Allowances.{FreedStay, no_fields, Allowances, Anything, Only, stays_all, stays_own, space_fields, of_variable}
-use Rattle.cdf_edits.specs.Commands.Room.{vxr_bytes, nodes_above}
+use Rattle.cdf_edits.specs.Commands.Room.{nodes_above}
 use Rattle.cdf_edits.specs.Index.Written.{NodesFollow, TailFollows}
 use Rattle.cdf_edits.specs.Space.Acts.{Act, Took, gave}
 use Rattle.cdf_format.specs.Chains.{next_of}
 use Rattle.cdf_format.specs.Index.{Nodes, no_node, node, Entries, no_entry, block, lower, Leaf, leaves_of, nodes_of, entry_count, room_at}
-use Rattle.cdf_format.specs.Records.{vdr_vxr_head, vdr_vxr_tail}
+use Rattle.cdf_format.specs.Records.{vdr_vxr_head, vdr_vxr_tail, vxr_bytes}
 use Rattle.cdf_format.specs.Shape.{Shape, VariableShape, Each}
 
 abbrev pub reindex_changes : List ℕ → Shape → Found → Allowances

@@ -17,7 +17,9 @@ use Rattle.cdf_edits.specs.Index.Blocks.{Range, ranges_of, covered, shared, reco
 use Rattle.cdf_edits.specs.Commands.Allowances.{shapes_of}
 use Rattle.cdf_format.specs.Content.{content}
 use Rattle.cdf_format.specs.Index.{Nodes, no_node, node, Entries, no_entry, block, lower, leaves_of, entry_count}
+use Rattle.cdf_format.specs.RecordTypes.{adr_type, fixed_size}
 use Rattle.cdf_format.specs.Shape.{Shape, shape}
+use Rattle.cdf_format.specs.Records.{past, gdr_r_dim_sizes, aedr_value, vdr_r_pad_value, vdr_z_pad_value, vxr_bytes, cpr_parameters, linked_size}
 
 unfoldable mutual
   -- the used entries of all nodes
@@ -41,13 +43,10 @@ unfoldable mutual
   widest_below (block first last place packed entries) = widest_below entries
   widest_below (lower first last nodes entries) = max (widest nodes) (widest_below entries)
 
--- a VXR of so many entries, and a VDR of so many dimensions
-abbrev pub vxr_bytes : ℕ → ℕ
-vxr_bytes entries = 28 + 16 * entries
-
+-- a VDR of so many dimensions
 abbrev pub vdr_bytes : Kind → ℕ → ℕ
-vdr_bytes R dimensions = 340 + 4 * dimensions
-vdr_bytes Z dimensions = 344 + 8 * dimensions
+vdr_bytes R dimensions = (vdr_r_pad_value dimensions 0).place
+vdr_bytes Z dimensions = (vdr_z_pad_value dimensions 0).place
 
 abbrev pub quotient_up : ℕ → ℕ → ℕ
 quotient_up n m = (n + m - 1) / m
@@ -60,18 +59,18 @@ range_bytes v r = (r.last + 1 - r.first) * record_length v
 abbrev pub uncovered : Variable → Nodes → ℕ → ℕ
 uncovered v nodes n = (n + 1 - first_written v n) - covered (first_written v n) n (ranges_before_put v nodes n)
 
--- u + 1 records get new blocks: their bytes, the last block filled up; and for each new block, of which there are at most one more than the quotient and one before each used entry of the index, 28 bytes more than a VXR as wide as the widest
+-- u + 1 records get new blocks: their bytes, the last block filled up; and for each new block, of which there are at most one more than the quotient and one before each used entry of the index, the least size of a record and a VXR as wide as the widest
 abbrev pub blocks_room : Variable → Nodes → ℕ → ℕ
 blocks_room v nodes zero = 0
-blocks_room v nodes (suc u) = (u + block_count v) * record_length v + (quotient_up (suc u) (block_count v) + entries_in nodes + 1) * (28 + vxr_bytes (widest nodes))
+blocks_room v nodes (suc u) = (u + block_count v) * record_length v + (quotient_up (suc u) (block_count v) + entries_in nodes + 1) * (linked_size + vxr_bytes (widest nodes))
 
 -- a block of which a put writes a record, or cuts one first
 abbrev pub is_rewritten : Variable → ℕ → Range → Bool
 is_rewritten v n r = nat_lt 0 (shared (first_written v n) n r) || (cuts_before_put v n && nat_lt 0 (shared (extent v.max_rec) record_number_limit r))
 
--- of each block that is rewritten or cut: 28 bytes and its plain bytes
+-- of each block that is rewritten or cut: the least size of a record and its plain bytes
 abbrev pub packed_room : Variable → Nodes → ℕ → ℕ
-packed_room v nodes n = if v.rle then sum (map (λ r. 28 + range_bytes v r) (filter (is_rewritten v n) (ranges_of nodes))) else 0
+packed_room v nodes n = if v.rle then sum (map (λ r. linked_size + range_bytes v r) (filter (is_rewritten v n) (ranges_of nodes))) else 0
 
 abbrev pub put_room : Variable → Nodes → ℕ → ℕ
 put_room v nodes n = blocks_room v nodes (uncovered v nodes n) + packed_room v nodes n
@@ -83,9 +82,9 @@ cuts_in_part first last r = nat_lt 0 (shared first last r) && nat_lt (shared fir
 abbrev pub del_recs_cuts_in_part : Variable → ℕ → ℕ → Range → Bool
 del_recs_cuts_in_part v first last r = cuts_in_part first last r || (is_sparse v.sparse && cuts_in_part (extent_after v first last) record_number_limit r)
 
--- of each range that a cut takes in part: 84 bytes, which are three records of 28, and its bytes twice; and one VXR as wide as the widest
+-- of each range that a cut takes in part: three records of the least size, and its bytes twice; and one VXR as wide as the widest
 abbrev pub cut_room : Variable → Nodes → ℕ → ℕ → ℕ
-cut_room v nodes first last = vxr_bytes (widest nodes) + sum (map (λ r. 84 + 2 * range_bytes v r) (filter (del_recs_cuts_in_part v first last) (ranges_of nodes)))
+cut_room v nodes first last = vxr_bytes (widest nodes) + sum (map (λ r. 3 * linked_size + 2 * range_bytes v r) (filter (del_recs_cuts_in_part v first last) (ranges_of nodes)))
 
 -- the nodes of 64 entries above so many entries, level by level until one is left
 unfoldable pub nodes_above : ℕ → ℕ → ℕ
@@ -110,13 +109,13 @@ room_of_variable d s name room = elim (variable_named d name) [
 ]
 
 abbrev pub room_in : DataSet → Shape → Command → ℕ
-room_in d s (commands.Attr name scope) = 324
-room_in d s (commands.PutEntry attr kind num t words) = 56 + entry_length (entry_by (notation_of t) t words)
-room_in d s (commands.Setup encoding majority dims) = 84 + 4 * length dims
+room_in d s (commands.Attr name scope) = fixed_size adr_type
+room_in d s (commands.PutEntry attr kind num t words) = past (aedr_value (entry_length (entry_by (notation_of t) t words)))
+room_in d s (commands.Setup encoding majority dims) = past (gdr_r_dim_sizes (length dims))
 room_in d s (commands.RVar name t elems vary varys) = vdr_bytes R (length d.rdims)
 room_in d s (commands.ZVar name t elems vary dims varys) = vdr_bytes Z (length dims)
 room_in d s (commands.SetPad var words) = room_of_variable d s var (λ found nodes. vdr_bytes found.kind (length found.variable.dims) + value_size found.variable)
-room_in d s (commands.SetCompress var rle) = if rle then 28 else 0
+room_in d s (commands.SetCompress var rle) = if rle then past (cpr_parameters 1) else 0
 room_in d s (commands.PutRec var rec words) = room_of_variable d s var (λ found nodes. put_room found.variable nodes rec)
 room_in d s (commands.PutVal var rec index words) = room_of_variable d s var (λ found nodes. put_room found.variable nodes rec)
 room_in d s (commands.DelRecs var first last) = room_of_variable d s var (λ found nodes. cut_room found.variable nodes first last)

@@ -1,9 +1,9 @@
 -- What a cut takes and frees, and where the blocks stand that it leaves (CDF Internal Format Description, "Variable Index Record"; own: a block stays in its record where it can). The order in which a cut takes and frees is free.
-use Rattle.std.specs.Prelude.{◌≡◌, ◌⊎◌, ◌≤◌, ℕ, ◌+◌, ◌*◌, max, List, [], ◌∷◌, ◌++◌, map, Bool, true, false, not, ◌&&◌, ◌||◌, ◌==◌}
+use Rattle.std.specs.Prelude.{◌≡◌, ◌⊎◌, ◌≤◌, ℕ, max, List, [], ◌∷◌, ◌++◌, map, Bool, true, false, not, ◌&&◌, ◌||◌, ◌==◌}
 use Rattle.std.specs.List.{filter}
 use Rattle.cdf_model.specs.DataSet.{Variable}
 use Rattle.cdf_edits.specs.Commands.Allowances.{FreedStays, GivenStay, no_fields}
-use Rattle.cdf_edits.specs.Commands.Room.{vxr_bytes, range_bytes}
+use Rattle.cdf_edits.specs.Commands.Room.{range_bytes}
 use Rattle.cdf_edits.specs.Index.Blocks.{Range, range}
 use Rattle.cdf_edits.specs.Index.Grown.{outline}
 use Rattle.cdf_edits.specs.Index.Written.{AnyOf, block_need, is_given_at, stays_put}
@@ -12,7 +12,7 @@ use Rattle.cdf_format.specs.Chains.{is_in}
 use Rattle.cdf_format.specs.Fields.{type_at}
 use Rattle.cdf_format.specs.Index.{Nodes, no_node, node, Entries, no_entry, block, lower, Leaf, leaves_of, nodes_of, room_at}
 use Rattle.cdf_format.specs.Owners.{unused_records}
-use Rattle.cdf_format.specs.Records.{field}
+use Rattle.cdf_format.specs.Records.{vxr_bytes, vvr_bytes, vxr_entries, linked_size}
 use Rattle.cdf_format.specs.RecordTypes.{vxr_type}
 use Rattle.cdf_format.specs.Shape.{Each, shape}
 use Rattle.cdf_format.specs.VariableFields.{records_of_leaf}
@@ -42,7 +42,7 @@ unfoldable mutual
 
 -- and its blocks, each with the size that it has unless it is packed
 abbrev pub sized_blocks : Variable → Nodes → List (ℕ × ℕ)
-sized_blocks v nodes = map (λ leaf. (leaf.place, max 28 (12 + range_bytes v (range leaf.first leaf.last)))) (leaves_of nodes)
+sized_blocks v nodes = map (λ leaf. (leaf.place, max linked_size (vvr_bytes (range_bytes v (range leaf.first leaf.last))))) (leaves_of nodes)
 
 -- where its nodes and blocks stand, and that no two stand at one place
 abbrev pub index_records : Nodes → List ℕ
@@ -96,7 +96,7 @@ abbrev pub NodesFreedStay : List ℕ → List ℕ → List Act → List Act → 
 NodesFreedStay b now acts [] = Unit {0}
 NodesFreedStay b now acts (Took place need ∷ more) = NodesFreedStay b now acts more
 NodesFreedStay b now acts (Gave place size ∷ more) =
-    (type_at b place ≡ vxr_type → Each (FreedStays b now acts place size (field 28 (16 * room_at b place) ∷ [])) (unused_records now (shape now))) × NodesFreedStay b now acts more
+    (type_at b place ≡ vxr_type → Each (FreedStays b now acts place size (vxr_entries (room_at b place) ∷ [])) (unused_records now (shape now))) × NodesFreedStay b now acts more
 
 abbrev pub none_written : ℕ → Bool
 none_written place = false

@@ -13,7 +13,7 @@ use Rattle.cdf_format.specs.Content.{plain_bytes}
 use Rattle.cdf_format.specs.Fields.{number, size_at}
 use Rattle.cdf_format.specs.Index.{Nodes, no_node, node, Entries, no_entry, block, lower, Leaf, entry_count, room_at, used_count, first_at, last_at, offset_at}
 use Rattle.cdf_format.specs.IndexOf.{SaysEntry}
-use Rattle.cdf_format.specs.Records.{cvvr_rfu_a, cvvr_c_size, vdr_vxr_tail}
+use Rattle.cdf_format.specs.Records.{cvvr_rfu_a, cvvr_c_size, vdr_vxr_tail, vvr_bytes, cvvr_bytes, vxr_bytes, linked_size}
 use Rattle.cdf_format.specs.Shape.{VariableShape, Each}
 use Rattle.cdf_format.specs.Stored.{packed_bytes}
 use Rattle.cdf_format.specs.VariableFields.{plain_size}
@@ -36,10 +36,10 @@ is_given_at (Gave at size ∷ more) place = (at == place) || is_given_at more pl
 
 -- where the bytes of a block end, and how many bytes are taken for a new one
 abbrev pub block_end : List ℕ → ℕ → Leaf → ℕ
-block_end b vdr leaf = if leaf.packed then 24 + number b leaf.place cvvr_c_size else 12 + plain_size b vdr leaf
+block_end b vdr leaf = if leaf.packed then cvvr_bytes (number b leaf.place cvvr_c_size) else vvr_bytes (plain_size b vdr leaf)
 
 abbrev pub block_need : List ℕ → ℕ → Leaf → ℕ
-block_need now vdr leaf = max 28 (block_end now vdr leaf)
+block_need now vdr leaf = max linked_size (block_end now vdr leaf)
 
 abbrev pub same_packing : Bool → Bool → Bool
 same_packing true p = p
@@ -55,7 +55,7 @@ stays_put b now rle vdr old new = keeps_record rle old.packed new.packed (block_
 
 -- a block of at most 67,108,864 plain bytes is packed where that makes its record shorter; a longer one never (rule 8.7)
 abbrev pub is_worth_packing : List ℕ → List ℕ → Bool
-is_worth_packing plain packed = nat_le (length plain) record_limit && nat_lt (24 + length packed) (12 + length plain)
+is_worth_packing plain packed = nat_le (length plain) record_limit && nat_lt (cvvr_bytes (length packed)) (vvr_bytes (length plain))
 
 -- packed exactly where its bytes in the longest runs are worth it, and if it is packed, then in these
 pub record WellPacked (now : List ℕ) (vdr : ℕ) (leaf : Leaf) : Type 0 where
@@ -112,7 +112,7 @@ UnusedEntries b now through before acts vxr = (i : ℕ) → used_count now vxr �
 
 -- behind its entries a node that stays keeps its bytes
 abbrev pub NodeSpareStays : List ℕ → List ℕ → List Act → ℕ → Type 0
-NodeSpareStays b now acts vxr = is_taken_at acts vxr ≡ false → Same b now (vxr + (28 + 16 * room_at now vxr)) (vxr + size_at b vxr)
+NodeSpareStays b now acts vxr = is_taken_at acts vxr ≡ false → Same b now (vxr + vxr_bytes (room_at now vxr)) (vxr + size_at b vxr)
 
 -- the nodes of the new index, of which these were there before; a command goes through these indexes on its way
 pub record NodesFollow (b now : List ℕ) (through : List Nodes) (before after : List ℕ) (acts : List Act) : Type 0 where
