@@ -6,7 +6,7 @@ use Rattle.cdf_format.specs.Chains.{next_of}
 use Rattle.cdf_format.specs.Fields.{word, size_at, type_at}
 use Rattle.cdf_edits.specs.Frame.Links.{end_place}
 use Rattle.cdf_edits.specs.Space.Placement.{fits}
-use Rattle.cdf_format.specs.Records.{uir_prev_uir}
+use Rattle.cdf_format.specs.Records.{uir_prev_uir, linked_size, link_size, gdr_uir_head}
 use Rattle.cdf_format.specs.RecordTypes.{uir_type}
 use Rattle.cdf_format.specs.Shape.{Shape}
 use Rattle.cdf_edits.specs.Space.Taking.{NoneFit, last_of, prev_of}
@@ -19,7 +19,7 @@ pub record IsFirstFit (b : List ℕ) (s : Shape) (need : ℕ) (fit : Fit) : Type
   pub list_is : s.unused ≡ front ++ fit.place ∷ more
   pub none_before : NoneFit b need front
   pub it_fits : fits need (size_at b fit.place) ≡ true
-  pub link_is : fit.link ≡ end_place (s.gdr + 64) front
+  pub link_is : fit.link ≡ end_place (s.gdr + gdr_uir_head.place) front
   pub before_is : fit.before ≡ last_of 0 front
   pub size_is : fit.size ≡ size_at b fit.place
   pub next_is : fit.next ≡ next_of b fit.place
@@ -31,14 +31,14 @@ back_link uir = if uir == 0 then [] else touched_field uir uir_prev_uir ∷ []
 -- The link that leads to a record of the list leads past it, and the link back of the next record too.
 pub record Relinked (b now : List ℕ) (fit : Fit) (to back : ℕ) : Type 0 where
   pub length_stays : length now ≡ length b
-  pub changed : Changed b now (touch fit.link 0 8 ∷ back_link fit.next)
-  pub link_is : word now fit.link 8 ≡ to
+  pub changed : Changed b now (touch fit.link 0 link_size ∷ back_link fit.next)
+  pub link_is : word now fit.link link_size ≡ to
   pub back_is : fit.next ≢ 0 → prev_of now fit.next ≡ back
 
--- the first 28 bytes of an unused record
+-- size, type and links of an unused record
 pub record Listed (b now : List ℕ) (place size next before : ℕ) : Type 0 where
   pub length_stays : length now ≡ length b
-  pub changed : Changed b now (touch place 0 28 ∷ [])
+  pub changed : Changed b now (touch place 0 linked_size ∷ [])
   pub size_is : size_at now place ≡ size
   pub type_is : type_at now place ≡ uir_type
   pub next_is : next_of now place ≡ next

@@ -7,6 +7,7 @@ ghost use Rattle.cdf_format.specs.Chains.{is_in};
 ghost use Rattle.cdf_format.specs.Fields.{eof, gdr_offset};
 ghost use Rattle.cdf_format.specs.Shape.{shape};
 ghost use Rattle.cdf_format.specs.Sound.{IsSound};
+ghost use Rattle.cdf_format.specs.Records.{record_size};
 ghost use Rattle.cdf_model.specs.Limits.{image_limit};
 ghost use Rattle.cdf_edits.specs.Space.Adding.{Added, Exchanged};
 ghost use Rattle.cdf_edits.specs.Space.Chains.{HasChain, HolderStands, before, counted_in, members_of, type_in};
@@ -34,7 +35,7 @@ pub fn append_record<A: Area>(
     requires body { IsBody bytes.now }
     requires kind { type_of_body bytes.now ≡ type_in chain }
     requires few { counted_in (A.image area.old) chain + 1 < 2 ^ 32 }
-    requires room { length (A.image area.old) + (8 + length bytes.now) ≤ (A.frame area.old).limit }
+    requires room { length (A.image area.old) + (record_size.width + length bytes.now) ≤ (A.frame area.old).limit }
     requires limit { (A.frame area.old).limit ≤ image_limit }
     ensures added { IfOk result (λ place. Added (A.image area.old) (A.image area.new) chain bytes.now place) }
     ensures area { Edits A.frame A.faults area.old area.new result }
@@ -63,7 +64,7 @@ pub fn exchange_record<A: Area>(
     requires behind { behind ≡ last_or None (before member (members_of (A.image area.old) chain)) }
     requires body { IsBody bytes.now }
     requires kind { type_of_body bytes.now ≡ type_in chain }
-    requires room { length (A.image area.old) + (8 + length bytes.now) ≤ (A.frame area.old).limit }
+    requires room { length (A.image area.old) + (record_size.width + length bytes.now) ≤ (A.frame area.old).limit }
     requires limit { (A.frame area.old).limit ≤ image_limit }
     ensures exchanged { IfOk result (λ place. Exchanged (A.image area.old) (A.image area.new) chain bytes.now member place) }
     ensures area { Edits A.frame A.faults area.old area.new result }

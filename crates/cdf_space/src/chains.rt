@@ -5,8 +5,9 @@ ghost use Rattle.std.specs.List.{last_or};
 ghost use Rattle.cdf_area.specs.Calls.{Edits, Reads};
 ghost use Rattle.cdf_format.specs.Sound.{IsSound};
 ghost use Rattle.cdf_format.specs.Chains.{is_in};
-ghost use Rattle.cdf_format.specs.Fields.{with_field};
+ghost use Rattle.cdf_format.specs.Fields.{with_field, LiesIn};
 ghost use Rattle.cdf_format.specs.Shape.{shape};
+ghost use Rattle.cdf_format.specs.Records.{cdr_place, cdr_gdr_offset, link_size};
 ghost use Rattle.cdf_model.specs.Limits.{image_limit};
 ghost use Rattle.cdf_edits.specs.Space.Chains.{Appended, HasChain, HolderStands, MayJoin, Removed, Replaced, before, count_of, counted_in, head_of, holder_of, members_of};
 ghost use Rattle.cdf_edits.specs.Space.TakingOut.{Lists, TakenOut};
@@ -50,7 +51,7 @@ fn count_place(chain: Chain) -> u64
 
 /// The record that has the link to a chain.
 fn holder<A: Area>(area: &mut A, chain: Chain) -> Result<u64, AreaError>
-    requires cdr { 28 ≤ length (A.image area.old) }
+    requires cdr { LiesIn (A.image area.old) cdr_place cdr_gdr_offset }
     ensures holder { IfOk result (λ holder. holder ≡ holder_of (A.image area.old) chain) }
     ensures area { Reads A.image A.frame A.faults A.edited area.old area.new result }
 {
@@ -65,8 +66,8 @@ fn holder<A: Area>(area: &mut A, chain: Chain) -> Result<u64, AreaError>
 
 /// Where the link stands behind a member of a chain, or the link to its first one where none is given.
 fn link_behind<A: Area>(area: &mut A, chain: Chain, member: Option<u64>) -> Result<u64, AreaError>
-    requires cdr { 28 ≤ length (A.image area.old) }
-    requires inside { link_place (A.image area.old) chain member + 8 ≤ length (A.image area.old) }
+    requires cdr { LiesIn (A.image area.old) cdr_place cdr_gdr_offset }
+    requires inside { link_place (A.image area.old) chain member + link_size ≤ length (A.image area.old) }
     ensures place { IfOk result (λ place. place ≡ link_place (A.image area.old) chain member) }
     ensures area { Reads A.image A.frame A.faults A.edited area.old area.new result }
 {
@@ -171,7 +172,7 @@ pub fn chain_replace<A: Area>(
 
 /// Counts one record more in a chain.
 pub fn count_up<A: Area>(area: &mut A, chain: Chain) -> Result<(), AreaError>
-    requires cdr { 28 ≤ length (A.image area.old) }
+    requires cdr { LiesIn (A.image area.old) cdr_place cdr_gdr_offset }
     requires inside { holder_of (A.image area.old) chain + (count_of chain).place + 4 ≤ length (A.image area.old) }
     requires few { counted_in (A.image area.old) chain + 1 < 2 ^ 32 }
     ensures counted { OnOk result (A.image area.new ≡ with_field (A.image area.old) (holder_of (A.image area.old) chain) (count_of chain) (counted_in (A.image area.old) chain + 1)) }
@@ -187,7 +188,7 @@ pub fn count_up<A: Area>(area: &mut A, chain: Chain) -> Result<(), AreaError>
 
 /// Counts one record less in a chain. After an error nothing has changed.
 pub fn count_down<A: Area>(area: &mut A, chain: Chain) -> Result<(), AreaError>
-    requires cdr { 28 ≤ length (A.image area.old) }
+    requires cdr { LiesIn (A.image area.old) cdr_place cdr_gdr_offset }
     requires inside { holder_of (A.image area.old) chain + (count_of chain).place + 4 ≤ length (A.image area.old) }
     requires some { 0 < counted_in (A.image area.old) chain }
     ensures counted { OnOk result (A.image area.new ≡ with_field (A.image area.old) (holder_of (A.image area.old) chain) (count_of chain) (counted_in (A.image area.old) chain - 1)) }

@@ -12,6 +12,7 @@ ghost use Rattle.cdf_edits.specs.Space.Placement.{Gives, Takes, fits};
 ghost use Rattle.cdf_format.specs.Shape.{shape};
 ghost use Rattle.cdf_edits.specs.Space.Taking.{EndBytes, IsTaken, NoneFit};
 ghost use Rattle.cdf_format.specs.Tiles.{In};
+ghost use Rattle.cdf_format.specs.Records.{past, linked_size, link_size, record_size, uir_prev_uir, gdr_eof};
 ghost use Rattle.cdf_model.specs.Limits.{image_limit};
 ghost use Rattle.cdf_space.specs.Fits.{Cleared, IsFirstFit, Listed, Relinked};
 ghost use Rattle.cdf_edits.specs.Space.Placing.{IsBody, Placed};
@@ -40,7 +41,7 @@ struct Fit {
 
 /// A record of this size is taken whole, or so that the rest is a record of the unused list.
 fn is_fit(need: u64, size: u64) -> bool
-    requires { need + 28 < 2 ^ 64 }
+    requires { need + linked_size < 2 ^ 64 }
     ensures { result ≡ fits need size }
 {
     size == need || need + LINKED_SIZE <= size
@@ -115,7 +116,7 @@ fn list<A: Area>(
     next: u64,
     before: u64,
 ) -> Result<(), AreaError>
-    requires { place + 28 ≤ length (A.image area.old) }
+    requires { place + linked_size ≤ length (A.image area.old) }
     ensures listed { OnOk result (Listed (A.image area.old) (A.image area.new) place size next before) }
     ensures area { Edits A.frame A.faults area.old area.new result }
 {
@@ -127,9 +128,9 @@ fn list<A: Area>(
 
 /// Leads the link to a record of the list past it, and the link back of the next record too.
 fn relink<A: Area>(area: &mut A, fit: Fit, to: u64, back: u64) -> Result<(), AreaError>
-    requires link { fit.link + 8 ≤ length (A.image area.old) }
-    requires next { fit.next ≢ 0 → fit.next + 28 ≤ length (A.image area.old) }
-    requires apart { fit.next ≢ 0 → (fit.link + 8 ≤ fit.next + 20) ⊎ (fit.next + 28 ≤ fit.link) }
+    requires link { fit.link + link_size ≤ length (A.image area.old) }
+    requires next { fit.next ≢ 0 → fit.next + linked_size ≤ length (A.image area.old) }
+    requires apart { fit.next ≢ 0 → (fit.link + link_size ≤ fit.next + uir_prev_uir.place) ⊎ (fit.next + past uir_prev_uir ≤ fit.link) }
     ensures relinked { OnOk result (Relinked (A.image area.old) (A.image area.new) fit to back) }
     ensures area { Edits A.frame A.faults area.old area.new result }
 {
@@ -145,7 +146,7 @@ fn take_whole<A: Area>(area: &mut A, fit: Fit, need: u64) -> Result<(), AreaErro
     requires sound { IsSound (A.image area.old) (shape (A.image area.old)) }
     requires fit { IsFirstFit (A.image area.old) (shape (A.image area.old)) need fit }
     requires size { fit.size ≡ need }
-    requires need { 28 ≤ need }
+    requires need { linked_size ≤ need }
     requires short { length (A.image area.old) ≤ image_limit }
     requires eof { eof (A.image area.old) (gdr_offset (A.image area.old)) ≡ length (A.image area.old) }
     ensures taken { OnOk result (IsTaken (A.image area.old) (A.image area.new) (shape (A.image area.old)) (shape (A.image area.new)) need fit.place) }
@@ -160,7 +161,7 @@ fn take_part<A: Area>(area: &mut A, fit: Fit, need: u64) -> Result<(), AreaError
     requires sound { IsSound (A.image area.old) (shape (A.image area.old)) }
     requires fit { IsFirstFit (A.image area.old) (shape (A.image area.old)) need fit }
     requires size { fit.size ≢ need }
-    requires need { 28 ≤ need }
+    requires need { linked_size ≤ need }
     requires short { length (A.image area.old) ≤ image_limit }
     requires eof { eof (A.image area.old) (gdr_offset (A.image area.old)) ≡ length (A.image area.old) }
     ensures taken { OnOk result (IsTaken (A.image area.old) (A.image area.new) (shape (A.image area.old)) (shape (A.image area.new)) need fit.place) }
@@ -177,7 +178,7 @@ fn take_part<A: Area>(area: &mut A, fit: Fit, need: u64) -> Result<(), AreaError
 fn take_listed<A: Area>(area: &mut A, fit: Fit, need: u64) -> Result<(), AreaError>
     requires sound { IsSound (A.image area.old) (shape (A.image area.old)) }
     requires fit { IsFirstFit (A.image area.old) (shape (A.image area.old)) need fit }
-    requires need { 28 ≤ need }
+    requires need { linked_size ≤ need }
     requires short { length (A.image area.old) ≤ image_limit }
     requires eof { eof (A.image area.old) (gdr_offset (A.image area.old)) ≡ length (A.image area.old) }
     ensures taken { OnOk result (IsTaken (A.image area.old) (A.image area.new) (shape (A.image area.old)) (shape (A.image area.new)) need fit.place) }
@@ -191,8 +192,8 @@ fn take_listed<A: Area>(area: &mut A, fit: Fit, need: u64) -> Result<(), AreaErr
 
 /// Takes a record at the end of the image.
 fn take_end<A: Area>(area: &mut A, gdr: u64, need: u64) -> Result<u64, AreaError>
-    requires gdr { gdr + 44 ≤ length (A.image area.old) }
-    requires need { 28 ≤ need }
+    requires gdr { gdr + past gdr_eof ≤ length (A.image area.old) }
+    requires need { linked_size ≤ need }
     requires room { length (A.image area.old) + need ≤ (A.frame area.old).limit }
     requires limit { (A.frame area.old).limit ≤ image_limit }
     ensures place { IfOk result (λ place. place ≡ length (A.image area.old)) }
@@ -212,7 +213,7 @@ fn take_end<A: Area>(area: &mut A, gdr: u64, need: u64) -> Result<u64, AreaError
 pub fn alloc_record<A: Area>(area: &mut A, need: u64) -> Result<u64, AreaError>
     requires sound { IsSound (A.image area.old) (shape (A.image area.old)) }
     requires eof { eof (A.image area.old) (gdr_offset (A.image area.old)) ≡ length (A.image area.old) }
-    requires need { 28 ≤ need }
+    requires need { linked_size ≤ need }
     requires room { length (A.image area.old) + need ≤ (A.frame area.old).limit }
     requires limit { (A.frame area.old).limit ≤ image_limit }
     ensures takes { IfOk result (λ place. Takes (A.image area.old) (A.image area.new) (shape (A.image area.old)) (shape (A.image area.new)) need place) }
@@ -234,7 +235,7 @@ pub fn place_record<A: Area>(area: &mut A, bytes: &[u8]) -> Result<u64, AreaErro
     requires sound { IsSound (A.image area.old) (shape (A.image area.old)) }
     requires eof { eof (A.image area.old) (gdr_offset (A.image area.old)) ≡ length (A.image area.old) }
     requires body { IsBody bytes.now }
-    requires room { length (A.image area.old) + (8 + length bytes.now) ≤ (A.frame area.old).limit }
+    requires room { length (A.image area.old) + (record_size.width + length bytes.now) ≤ (A.frame area.old).limit }
     requires limit { (A.frame area.old).limit ≤ image_limit }
     ensures placed { IfOk result (λ place. Placed (A.image area.old) (A.image area.new) bytes.now place) }
     ensures sound { OnOk result (IsSound (A.image area.new) (shape (A.image area.new))) }
