@@ -4,9 +4,9 @@ use Rattle.cdf_format.specs.AttributeRules.{entries_rows}
 use Rattle.cdf_format.specs.ChainRules.{chain_rows}
 use Rattle.cdf_format.specs.Chains.{chain}
 use Rattle.cdf_format.specs.Fields.{name_in, type_at}
-use Rattle.cdf_format.specs.RecordTypes.{adr_type}
+use Rattle.cdf_format.specs.RecordTypes.{adr_type, fixed_size}
 use Rattle.cdf_format.specs.Tiles.{In}
-use Rattle.cdf_format.specs.Records.{adr_name, field}
+use Rattle.cdf_format.specs.Records.{adr_name, field, link_size}
 use Rattle.cdf_format.specs.Rules.{Row}
 use Rattle.cdf_format.specs.Shape.{gr_entry_chain, z_entry_chain}
 use Rattle.cdf_format.specs.Walks.{Walk, whole}
@@ -15,7 +15,7 @@ use Rattle.cdf_check.specs.declared.entries.EntryChain.{EntryChain}
 
 -- a chain of entries of this kind
 abbrev pub entry_walk : List ℕ → List ℕ → EntryChain → ℕ → Walk
-entry_walk b records kind adr = chain b records kind.record_type adr (field kind.head 8)
+entry_walk b records kind adr = chain b records kind.record_type adr (field kind.head link_size)
 
 -- the rules on its links, its count, and its entries
 abbrev pub entry_chain_rows : List ℕ → List ℕ → EntryChain → ℕ → List Row
@@ -30,7 +30,7 @@ pub record Describes (b records : List ℕ) (adr : ℕ) (attribute : Attribute) 
 -- a record of an attribute, with all its fields
 pub record IsAttribute (b : List ℕ) (adr : ℕ) : Type 0 where
   pub type_is : type_at b adr ≡ adr_type
-  pub fits : adr + 324 ≤ length b
+  pub fits : adr + fixed_size adr_type ≤ length b
 
 abbrev pub AreAttributes : List ℕ → List ℕ → Type 0
 AreAttributes b adrs = (adr : ℕ) → In adr adrs → IsAttribute b adr

@@ -5,7 +5,7 @@ use Rattle.cdf_model.specs.Place.{record_limit}
 use Rattle.cdf_format.specs.Fields.{LiesIn, Holds, gdr_offset, name_in, number, r_num_dims, r_sizes, size_at, type_at}
 use Rattle.cdf_format.specs.NotRead.{unread_sparse}
 use Rattle.cdf_format.specs.Records.{gdr_r_dim_sizes, vdr_data_type, vdr_flags, vdr_max_rec, vdr_name, vdr_num_elems, vdr_r_dim_vary, vdr_s_records, vdr_vxr_head}
-use Rattle.cdf_format.specs.RecordTypes.{r_vdr_type, z_vdr_type}
+use Rattle.cdf_format.specs.RecordTypes.{r_vdr_type, z_vdr_type, fixed_size}
 use Rattle.cdf_format.specs.Rules.{Row, row, asked}
 use Rattle.cdf_format.specs.Shape.{is_compressed}
 use Rattle.cdf_format.specs.Stored.{known_type}
@@ -21,8 +21,8 @@ use Rattle.cdf_check.specs.declared.variable_shape.Value.{Value}
 -- a record of a variable, with its fixed part
 pub record IsVariable (b : List ℕ) (vdr : ℕ) : Type 0 where
   pub type_is : (type_at b vdr ≡ r_vdr_type) ⊎ (type_at b vdr ≡ z_vdr_type)
-  pub long : 340 ≤ size_at b vdr
-  pub long_z : type_at b vdr ≡ z_vdr_type → 344 ≤ size_at b vdr
+  pub long : fixed_size r_vdr_type ≤ size_at b vdr
+  pub long_z : type_at b vdr ≡ z_vdr_type → fixed_size z_vdr_type ≤ size_at b vdr
   pub fits : vdr + size_at b vdr ≤ length b
 
 abbrev pub AreVariables : List ℕ → List ℕ → Type 0

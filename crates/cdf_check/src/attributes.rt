@@ -6,7 +6,7 @@ ghost use Rattle.cdf_area.specs.Calls.{Reads};
 ghost use Rattle.cdf_format.specs.AttributeRules.{adr_rows, attribute_rows, phase6};
 ghost use Rattle.cdf_format.specs.Fields.{name_in};
 ghost use Rattle.cdf_format.specs.Owners.{attribute_records};
-ghost use Rattle.cdf_format.specs.Records.{adr_name};
+ghost use Rattle.cdf_format.specs.Records.{adr_name, cdr_place};
 ghost use Rattle.cdf_format.specs.Shape.{adr_chain, attribute_shape};
 ghost use Rattle.cdf_format.specs.Tiles.{AreTiles};
 ghost use Rattle.cdf_format.specs.Walks.{whole};
@@ -97,7 +97,7 @@ fn check_attribute<A: Area>(
     tiles: &[u64],
     adr: u64,
 ) -> Result<Result<Attribute, Finding>, AreaError>
-    requires tiled { AreTiles (A.image area.old) 8 (length (A.image area.old)) tiles.now }
+    requires tiled { AreTiles (A.image area.old) cdr_place (length (A.image area.old)) tiles.now }
     requires long { AreLong (A.image area.old) tiles.now }
     requires attribute { IsAttribute (A.image area.old) adr }
     ensures found { IfOk result (Yields (attribute_rows (A.image area.old) tiles.now adr) (Describes (A.image area.old) tiles.now adr)) }
@@ -137,7 +137,7 @@ fn check_each<A: Area>(
     tiles: &[u64],
     adrs: &[u64],
 ) -> Result<Result<Vec<u64>, Finding>, AreaError>
-    requires tiled { AreTiles (A.image area.old) 8 (length (A.image area.old)) tiles.now }
+    requires tiled { AreTiles (A.image area.old) cdr_place (length (A.image area.old)) tiles.now }
     requires long { AreLong (A.image area.old) tiles.now }
     requires attributes { AreAttributes (A.image area.old) adrs.now }
     requires few { length adrs.now < 2 ^ 31 }
@@ -168,7 +168,7 @@ pub fn check_attributes<A: Area>(
     tiles: &[u64],
     adrs: &[u64],
 ) -> Result<Result<Vec<u64>, Finding>, AreaError>
-    requires tiled { AreTiles (A.image area.old) 8 (length (A.image area.old)) tiles.now }
+    requires tiled { AreTiles (A.image area.old) cdr_place (length (A.image area.old)) tiles.now }
     requires long { AreLong (A.image area.old) tiles.now }
     requires chain { adr_chain (A.image area.old) tiles.now ≡ whole adrs.now }
     requires small { length (A.image area.old) < 2 ^ 31 }

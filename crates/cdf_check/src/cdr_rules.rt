@@ -1,10 +1,12 @@
 //! The rules on the CDF Descriptor Record.
 
-ghost use Rattle.std.specs.Prelude.{◌≡◌, ◌+◌, ◌≤◌, ◌==◌, length, is_some, IfOk};
+ghost use Rattle.std.specs.Prelude.{◌≡◌, ◌+◌, ◌==◌, is_some, IfOk};
 ghost use Rattle.cdf_area.specs.Calls.{Reads};
 ghost use Rattle.cdf_model.specs.Encodings.{encoding_at};
-ghost use Rattle.cdf_format.specs.Fields.{encoding, version};
+ghost use Rattle.cdf_format.specs.Fields.{encoding, version, LiesIn};
 ghost use Rattle.cdf_format.specs.FileRules.{phase2, is_record};
+ghost use Rattle.cdf_format.specs.Records.{cdr_place, cdr_copyright};
+ghost use Rattle.cdf_format.specs.RecordTypes.{fixed_size, cdr_type};
 ghost use Rattle.cdf_records.specs.Heads.{cdr_at};
 ghost use Rattle.cdf_records.specs.Pieces.{AreBytes};
 ghost use Rattle.cdf_structure.specs.Findings.{Finds};
@@ -19,10 +21,10 @@ use cdf_structure::Finding;
 /// Whether the record is one of its type that ends within the file.
 #[tactic(auto, using(cdf_records::proofs::Places::word4_fits))]
 fn is_cdr<A: Area>(area: &A, cdr: &Cdr) -> bool
-    requires room { 320 ≤ length (A.image area.now) }
-    requires fields { cdr.now ≡ cdr_at (A.image area.now) 8 }
-    requires bytes { AreBytes (A.image area.now) 8 56 }
-    ensures { result ≡ is_record (A.image area.now) 8 1 312 }
+    requires room { LiesIn (A.image area.now) cdr_place cdr_copyright }
+    requires fields { cdr.now ≡ cdr_at (A.image area.now) cdr_place }
+    requires bytes { AreBytes (A.image area.now) cdr_place cdr_copyright.place }
+    ensures { result ≡ is_record (A.image area.now) cdr_place cdr_type (fixed_size cdr_type) }
 {
     let record_type = unsigned(area, CDR_PLACE + RECORD_TYPE, cdr.record_type);
     is_record(
@@ -38,8 +40,8 @@ fn is_cdr<A: Area>(area: &A, cdr: &Cdr) -> bool
 /// Whether the file has version 3.
 #[tactic(auto, using(cdf_records::proofs::Places::word4_fits))]
 fn is_version_3<A: Area>(area: &A, cdr: &Cdr) -> bool
-    requires fields { cdr.now ≡ cdr_at (A.image area.now) 8 }
-    requires bytes { AreBytes (A.image area.now) 8 56 }
+    requires fields { cdr.now ≡ cdr_at (A.image area.now) cdr_place }
+    requires bytes { AreBytes (A.image area.now) cdr_place cdr_copyright.place }
     ensures { result ≡ (version (A.image area.now) == 3) }
 {
     unsigned(area, CDR_PLACE + CDR_VERSION, cdr.version) == 3
@@ -48,8 +50,8 @@ fn is_version_3<A: Area>(area: &A, cdr: &Cdr) -> bool
 /// Whether the values of the file are in an encoding that is read.
 #[tactic(auto, using(cdf_records::proofs::Places::word4_fits))]
 fn has_encoding<A: Area>(_area: &A, cdr: &Cdr) -> bool
-    requires fields { cdr.now ≡ cdr_at (A.image _area.now) 8 }
-    requires bytes { AreBytes (A.image _area.now) 8 56 }
+    requires fields { cdr.now ≡ cdr_at (A.image _area.now) cdr_place }
+    requires bytes { AreBytes (A.image _area.now) cdr_place cdr_copyright.place }
     ensures { result ≡ is_some (encoding_at (encoding (A.image _area.now))) }
 {
     Encoding::of_code(cdr.encoding).is_some()
@@ -57,9 +59,9 @@ fn has_encoding<A: Area>(_area: &A, cdr: &Cdr) -> bool
 
 /// The rules on the fields of the CDF Descriptor Record.
 fn check_fields<A: Area>(area: &A, cdr: &Cdr) -> Option<Finding>
-    requires room { 320 ≤ length (A.image area.now) }
-    requires fields { cdr.now ≡ cdr_at (A.image area.now) 8 }
-    requires bytes { AreBytes (A.image area.now) 8 56 }
+    requires room { LiesIn (A.image area.now) cdr_place cdr_copyright }
+    requires fields { cdr.now ≡ cdr_at (A.image area.now) cdr_place }
+    requires bytes { AreBytes (A.image area.now) cdr_place cdr_copyright.place }
     ensures { Finds (phase2 (A.image area.now)) result }
 {
     let place = CDR_PLACE;

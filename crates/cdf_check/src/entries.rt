@@ -6,7 +6,7 @@ ghost use Rattle.cdf_area.specs.Calls.{Reads};
 ghost use Rattle.cdf_format.specs.AttributeRules.{entries_rows, entry_rows, has_value, same_number};
 ghost use Rattle.cdf_format.specs.ChainRules.{differ_rows};
 ghost use Rattle.cdf_format.specs.RecordTypes.{fixed_size};
-ghost use Rattle.cdf_format.specs.Records.{field};
+ghost use Rattle.cdf_format.specs.Records.{field, cdr_place, link_size, aedr_value, adr_name};
 ghost use Rattle.cdf_format.specs.Tiles.{In, AreTiles};
 ghost use Rattle.cdf_format.specs.Walks.{whole};
 ghost use Rattle.cdf_check.specs.Entries.{entry_walk, entry_chain_rows};
@@ -33,7 +33,7 @@ pub struct EntryChain {
 
 /// Whether an entry has a value of a known type.
 fn has_value<A: Area>(area: &mut A, place: u64) -> Result<bool, AreaError>
-    requires { place + 56 ≤ length (A.image area.old) }
+    requires { place + (aedr_value 0).place ≤ length (A.image area.old) }
     ensures value { IfOk result (λ has. has ≡ has_value (A.image area.old) place) }
     ensures area { Reads A.image A.frame A.faults A.edited area.old area.new result }
 {
@@ -53,8 +53,8 @@ fn has_value<A: Area>(area: &mut A, place: u64) -> Result<bool, AreaError>
 
 /// The rules on an entry of an attribute.
 fn check_entry<A: Area>(area: &mut A, adr: u64, place: u64) -> Result<Option<Finding>, AreaError>
-    requires adr { adr + 68 ≤ length (A.image area.old) }
-    requires entry { place + 56 ≤ length (A.image area.old) }
+    requires adr { adr + adr_name.place ≤ length (A.image area.old) }
+    requires entry { place + (aedr_value 0).place ≤ length (A.image area.old) }
     ensures found { IfOk result (Finds (entry_rows (A.image area.old) adr place)) }
     ensures area { Reads A.image A.frame A.faults A.edited area.old area.new result }
 {
@@ -83,8 +83,8 @@ fn check_each<A: Area>(
     adr: u64,
     entries: &[u64],
 ) -> Result<Option<Finding>, AreaError>
-    requires adr { adr + 68 ≤ length (A.image area.old) }
-    requires entries { (entry : ℕ) → In entry entries.now → entry + 56 ≤ length (A.image area.old) }
+    requires adr { adr + adr_name.place ≤ length (A.image area.old) }
+    requires entries { (entry : ℕ) → In entry entries.now → entry + (aedr_value 0).place ≤ length (A.image area.old) }
     ensures found { IfOk result (Finds (flat_map (entry_rows (A.image area.old) adr) entries.now)) }
     ensures area { Reads A.image A.frame A.faults A.edited area.old area.new result }
 {
@@ -102,7 +102,7 @@ fn check_apart<A: Area>(
     area: &mut A,
     entries: &[u64],
 ) -> Result<Option<Finding>, AreaError>
-    requires entries { (entry : ℕ) → In entry entries.now → entry + 56 ≤ length (A.image area.old) }
+    requires entries { (entry : ℕ) → In entry entries.now → entry + (aedr_value 0).place ≤ length (A.image area.old) }
     ensures found { IfOk result (Finds (differ_rows 7 (same_number (A.image area.old)) [] entries.now)) }
     ensures area { Reads A.image A.frame A.faults A.edited area.old area.new result }
 {
@@ -128,9 +128,9 @@ fn check_members<A: Area>(
     count: u64,
     entries: &[u64],
 ) -> Result<Option<Finding>, AreaError>
-    requires adr { adr + 68 ≤ length (A.image area.old) }
-    requires count { count + 4 ≤ 68 }
-    requires entries { (entry : ℕ) → In entry entries.now → entry + 56 ≤ length (A.image area.old) }
+    requires adr { adr + adr_name.place ≤ length (A.image area.old) }
+    requires count { count + 4 ≤ adr_name.place }
+    requires entries { (entry : ℕ) → In entry entries.now → entry + (aedr_value 0).place ≤ length (A.image area.old) }
     ensures found { IfOk result (Finds (entries_rows (A.image area.old) adr (field count 4) entries.now)) }
     ensures area { Reads A.image A.frame A.faults A.edited area.old area.new result }
 {
@@ -155,12 +155,12 @@ pub fn check_entries<A: Area>(
     kind: EntryChain,
     adr: u64,
 ) -> Result<Result<Vec<u64>, Finding>, AreaError>
-    requires tiled { AreTiles (A.image area.old) 8 (length (A.image area.old)) tiles.now }
+    requires tiled { AreTiles (A.image area.old) cdr_place (length (A.image area.old)) tiles.now }
     requires long { AreLong (A.image area.old) tiles.now }
-    requires adr { adr + 68 ≤ length (A.image area.old) }
-    requires head { kind.head + 8 ≤ 68 }
-    requires count { kind.count + 4 ≤ 68 }
-    requires entry { 56 ≤ fixed_size kind.record_type }
+    requires adr { adr + adr_name.place ≤ length (A.image area.old) }
+    requires head { kind.head + link_size ≤ adr_name.place }
+    requires count { kind.count + 4 ≤ adr_name.place }
+    requires entry { (aedr_value 0).place ≤ fixed_size kind.record_type }
     ensures found { IfOk result (Yields (entry_chain_rows (A.image area.old) tiles.now kind adr) (λ entries. entry_walk (A.image area.old) tiles.now kind adr ≡ whole entries.items)) }
     ensures area { Reads A.image A.frame A.faults A.edited area.old area.new result }
 {

@@ -5,8 +5,10 @@ ghost use Rattle.std.specs.Int.{w64, cast_signed};
 ghost use Rattle.std.specs.List.{list_all};
 ghost use Rattle.cdf_area.specs.Calls.{Reads};
 ghost use Rattle.cdf_model.specs.Limits.{image_limit};
-ghost use Rattle.cdf_format.specs.Fields.{counted, is_positive, r_sizes};
+ghost use Rattle.cdf_format.specs.Fields.{counted, is_positive, r_sizes, LiesIn};
 ghost use Rattle.cdf_format.specs.FileRules.{phase3, has_gdr, gdr_rows, is_gdr};
+ghost use Rattle.cdf_format.specs.Records.{cdr_place, cdr_copyright};
+ghost use Rattle.cdf_format.specs.RecordTypes.{fixed_size, gdr_type};
 ghost use Rattle.cdf_records.specs.Heads.{cdr_at, gdr_at};
 ghost use Rattle.cdf_records.specs.Pieces.{AreBytes};
 ghost use Rattle.cdf_structure.specs.Findings.{Finds};
@@ -24,9 +26,9 @@ use std::alloc::Global;
 /// Whether the record is one of its type that ends within the file, with room for the sizes of its dimensions.
 #[tactic(auto, using(cdf_records::proofs::Places::word4_fits))]
 fn is_gdr<A: Area>(area: &A, place: u64, gdr: &Gdr) -> bool
-    requires room { place + 84 ≤ length (A.image area.now) }
+    requires room { place + fixed_size gdr_type ≤ length (A.image area.now) }
     requires fields { gdr.now ≡ gdr_at (A.image area.now) place }
-    requires bytes { AreBytes (A.image area.now) place 84 }
+    requires bytes { AreBytes (A.image area.now) place (fixed_size gdr_type) }
     ensures { result ≡ is_gdr (A.image area.now) place }
 {
     let _size = area.size();
@@ -67,7 +69,7 @@ fn check_sizes<A: Area>(
     gdr: &Gdr,
 ) -> Result<bool, AreaError>
     requires fields { gdr.now ≡ gdr_at (A.image area.old) place }
-    requires bytes { AreBytes (A.image area.old) place 84 }
+    requires bytes { AreBytes (A.image area.old) place (fixed_size gdr_type) }
     requires is { IsTrue (is_gdr (A.image area.old) place) }
     ensures value { IfOk result (λ b. b ≡ list_all is_positive (r_sizes (A.image area.old) place)) }
     ensures area { Reads A.image A.frame A.faults A.edited area.old area.new result }
@@ -85,9 +87,9 @@ fn check_at<A: Area>(
     cdr: &Cdr,
     place: u64,
 ) -> Result<Option<Finding>, AreaError>
-    requires length { 320 ≤ length (A.image area.old) }
-    requires room { (8 ≤ place) × (place + 84 ≤ length (A.image area.old)) }
-    requires cdr { cdr.now ≡ cdr_at (A.image area.old) 8 }
+    requires length { LiesIn (A.image area.old) cdr_place cdr_copyright }
+    requires room { (cdr_place ≤ place) × (place + fixed_size gdr_type ≤ length (A.image area.old)) }
+    requires cdr { cdr.now ≡ cdr_at (A.image area.old) cdr_place }
     ensures found { IfOk result (Finds (gdr_rows (A.image area.old) place)) }
     ensures area { Reads A.image A.frame A.faults A.edited area.old area.new result }
 {
@@ -113,8 +115,8 @@ fn check_at<A: Area>(
 
 /// Whether the CDF Descriptor Record leaves room for a record where it says that the other one stands.
 fn has_gdr<A: Area>(area: &A, cdr: &Cdr) -> bool
-    requires room { 320 ≤ length (A.image area.now) }
-    requires cdr { cdr.now ≡ cdr_at (A.image area.now) 8 }
+    requires room { LiesIn (A.image area.now) cdr_place cdr_copyright }
+    requires cdr { cdr.now ≡ cdr_at (A.image area.now) cdr_place }
     ensures { result ≡ has_gdr (A.image area.now) }
 {
     let last = area.size() - GDR_SIZE;
@@ -123,7 +125,7 @@ fn has_gdr<A: Area>(area: &A, cdr: &Cdr) -> bool
 
 /// The rules on the Global Descriptor Record.
 pub fn check_gdr<A: Area>(alloc: Global, area: &mut A) -> Result<Option<Finding>, AreaError>
-    requires { 320 ≤ length (A.image area.old) }
+    requires { LiesIn (A.image area.old) cdr_place cdr_copyright }
     ensures found { IfOk result (Finds (phase3 (A.image area.old))) }
     ensures area { Reads A.image A.frame A.faults A.edited area.old area.new result }
 {

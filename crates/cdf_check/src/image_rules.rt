@@ -12,6 +12,7 @@ ghost use Rattle.cdf_format.specs.Rules.{Hold};
 ghost use Rattle.cdf_format.specs.Shape.{attribute_shape};
 ghost use Rattle.cdf_format.specs.Tiles.{tiling};
 ghost use Rattle.cdf_format.specs.Walks.{whole};
+ghost use Rattle.cdf_format.specs.Records.{cdr_place};
 ghost use Rattle.cdf_structure.specs.FileChains.{AreChains};
 ghost use Rattle.cdf_structure.specs.Records.{unused_of};
 ghost use Rattle.cdf_check.specs.Variables.{HasRoomForSizes};
@@ -138,7 +139,7 @@ pub fn check_image<A: Area>(
     area: &mut A,
     gdr: u64,
 ) -> Result<Option<Broken>, AreaError>
-    requires some { 8 ≤ length (A.image area.old) }
+    requires some { cdr_place ≤ length (A.image area.old) }
     requires small { length (A.image area.old) < 2 ^ 31 }
     requires gdr { gdr ≡ gdr_offset (A.image area.old) }
     requires sizes { HasRoomForSizes (A.image area.old) }

@@ -4,6 +4,7 @@ ghost use Rattle.std.specs.Prelude.{◌≡◌, ◌+◌, ◌≤◌, length, IfOk}
 ghost use Rattle.cdf_area.specs.Calls.{Reads};
 ghost use Rattle.cdf_format.specs.Fields.{word};
 ghost use Rattle.cdf_format.specs.FileRules.{phase0, phase1};
+ghost use Rattle.cdf_format.specs.Records.{cdr_place};
 ghost use Rattle.cdf_structure.specs.Findings.{Finds};
 
 use cdf_area::{Area, AreaError};
@@ -49,7 +50,7 @@ fn read_magic<A: Area>(area: &mut A, place: u64) -> Result<u32, AreaError>
 
 /// The rules on the magic numbers.
 pub fn check_magic<A: Area>(area: &mut A) -> Result<Option<Finding>, AreaError>
-    requires { 8 ≤ length (A.image area.old) }
+    requires { cdr_place ≤ length (A.image area.old) }
     ensures found { IfOk result (Finds (phase1 (A.image area.old))) }
     ensures area { Reads A.image A.frame A.faults A.edited area.old area.new result }
 {

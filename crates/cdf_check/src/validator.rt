@@ -3,6 +3,7 @@
 ghost use Rattle.std.specs.Prelude.{◌≡◌, ◌≤◌, ◌<◌, ◌^◌, length, take, IfOk};
 ghost use Rattle.cdf_area.specs.Calls.{Reads};
 ghost use Rattle.cdf_format.specs.Fields.{gdr_offset};
+ghost use Rattle.cdf_format.specs.Records.{cdr_place};
 ghost use Rattle.cdf_check.specs.Variables.{HasRoomForSizes};
 ghost use Rattle.cdf_check.specs.Verdicts.{Judges, JudgesImage, JudgesStart};
 
@@ -46,7 +47,7 @@ fn check_front<A: Area>(
     eof: u64,
     gdr: u64,
 ) -> Result<Option<Broken>, AreaError>
-    requires some { 8 ≤ length (take eof (A.image area.old)) }
+    requires some { cdr_place ≤ length (take eof (A.image area.old)) }
     requires small { length (take eof (A.image area.old)) < 2 ^ 31 }
     requires gdr { gdr ≡ gdr_offset (take eof (A.image area.old)) }
     requires sizes { HasRoomForSizes (take eof (A.image area.old)) }
