@@ -23,7 +23,7 @@ use Rattle.cdf_records.specs.Pieces.{AreBytes}
 use Rattle.cdf_attrs.specs.Removing.{IsGreatest}
 use Rattle.cdf_edits.specs.Edits.EntryMarks.{entries_chain}
 use Rattle.cdf_format.specs.Fields.{number, size_at}
-use Rattle.cdf_format.specs.Records.{aedr_num}
+use Rattle.cdf_format.specs.Records.{aedr_num, past, aedr_value}
 use Rattle.cdf_model.specs.Limits.{image_limit, record_number_limit}
 use Rattle.cdf_model.specs.Numbered.{with_item}
 
@@ -43,7 +43,7 @@ pub record Asks (b attr : List ℕ) (slot : Slot) (words : List (List ℕ)) (ent
   pub stands : slice_get (shape b).attributes slot.attribute ≡ Some own
   pub named : attribute_named (content b) attr ≡ Some (slot.attribute, attribute_of b own)
   pub goes : put_entry_step (content b) attr slot.kind slot.num entry.type words ≡ Go (with_attribute (content b) slot.attribute (with_entries (attribute_of b own) slot.kind (with_item slot.num entry (entries_of (attribute_of b own) slot.kind)))) Plain
-  pub takes : room b (PutEntry attr slot.kind slot.num entry.type words) ≡ 56 + length entry.bytes
+  pub takes : room b (PutEntry attr slot.kind slot.num entry.type words) ≡ past (aedr_value (length entry.bytes))
 
 -- The image follows by each command that asks for the entry, and the attributes have the names and the places that they had.
 pub record Puts (b now : List ℕ) (slot : Slot) (entry : Entry) : Type 0 where
@@ -63,7 +63,7 @@ pub record IsReady (b : List ℕ) (limit : ℕ) (new : NewEntry) (entries : Know
   pub stored : IsStored new.value.t new.value.elems new.value.bytes.items
   pub num : new.slot.num ≤ record_number_limit
   pub greatest : IsGreatest (new.slot.num ∷ entries.numbers) new.greatest
-  pub room : length b + (56 + length new.value.bytes.items) ≤ limit
+  pub room : length b + past (aedr_value (length new.value.bytes.items)) ≤ limit
   pub within : limit ≤ image_limit
 
 -- an entry is put, and these are the entries of its chain then
@@ -79,4 +79,4 @@ pub record HasOld (b : List ℕ) (entries : KnownEntries) (i num : ℕ) (old : O
   pub number_is : number b old.place aedr_num ≡ num
   pub size_is : old.size ≡ size_at b old.place
   pub reserved_is : old.reserved ≡ reserved_at b old.place
-  pub bytes : AreBytes b old.place 56
+  pub bytes : AreBytes b old.place (aedr_value 0).place

@@ -9,8 +9,9 @@ ghost use Rattle.cdf_edits.specs.Answers.{Answers};
 ghost use Rattle.cdf_edits.specs.Follows.{Follows};
 ghost use Rattle.cdf_format.specs.Shape.{adrs, shape};
 ghost use Rattle.cdf_format.specs.WellFormed.{Good};
+ghost use Rattle.cdf_format.specs.RecordTypes.{fixed_size, adr_type};
 ghost use Rattle.cdf_model.specs.Limits.{image_limit};
-ghost use Rattle.cdf_model.specs.Names.{attribute_names, is_among, is_bad_name};
+ghost use Rattle.cdf_model.specs.Names.{attribute_names, is_among, is_bad_name, name_limit};
 ghost use Rattle.cdf_model.specs.Sayable.{CanBeGiven};
 ghost use Rattle.cdf_model.specs.declared.command.Command.TheVariants.{Attr};
 
@@ -38,7 +39,7 @@ fn code_of(scope: Scope) -> u32
 /// What follows the size of a new Attribute Descriptor Record.
 #[tactic(auto, unfolding(crate::specs::Creating::adr_body))]
 fn adr_bytes(alloc: Global, scope: u32, num: u32, name: &[u8]) -> Result<Vec<u8>, AllocError>
-    requires { length name.now ≤ 256 }
+    requires { length name.now ≤ name_limit }
     ensures { IfOk result (λ bytes. bytes.items ≡ adr_body scope num name.now) }
 {
     let mut bytes = Vec::new(alloc);
@@ -73,7 +74,7 @@ fn make<A: Area>(
     requires places { places.old.items ≡ adrs (shape (A.image area.old)) }
     requires named { is_bad_name name.now ≡ false }
     requires free { is_among name.now (attribute_names (content (A.image area.old))) ≡ false }
-    requires room { length (A.image area.old) + 324 ≤ (A.frame area.old).limit }
+    requires room { length (A.image area.old) + fixed_size adr_type ≤ (A.frame area.old).limit }
     requires limit { (A.frame area.old).limit ≤ image_limit }
     ensures follows { OnOk result (Follows (A.image area.old) (Attr name.now scope) (A.image area.new)) }
     ensures names { OnOk result (attribute_names (content (A.image area.new)) ≡ attribute_names (content (A.image area.old)) ++ name.now ∷ []) }

@@ -5,6 +5,7 @@ ghost use Rattle.cdf_attrs.specs.Putting.{aedr_body, aedr_fields, new_reserved, 
 ghost use Rattle.cdf_area.specs.Calls.{Reads};
 ghost use Rattle.cdf_edits.specs.Commands.EntryChains.{entry_type};
 ghost use Rattle.cdf_format.specs.Fields.{size_at};
+ghost use Rattle.cdf_format.specs.Records.{aedr_value};
 ghost use Rattle.cdf_records.specs.Pieces.{AreBytes};
 ghost use Rattle.cdf_edits.specs.Space.Placing.{laid_out};
 
@@ -55,11 +56,11 @@ pub struct OldEntry {
 
 /// That of the entry whose descriptor stands at a place.
 pub fn read_old<A: Area>(area: &mut A, place: u64) -> Result<OldEntry, AreaError>
-    requires { place + 56 ≤ length (A.image area.old) }
+    requires { place + (aedr_value 0).place ≤ length (A.image area.old) }
     ensures place { IfOk result (λ old. old.place ≡ place) }
     ensures size { IfOk result (λ old. old.size ≡ size_at (A.image area.old) place) }
     ensures reserved { IfOk result (λ old. old.reserved ≡ reserved_at (A.image area.old) place) }
-    ensures bytes { OnOk result (AreBytes (A.image area.old) place 56) }
+    ensures bytes { OnOk result (AreBytes (A.image area.old) place (aedr_value 0).place) }
     ensures area { Reads A.image A.frame A.faults A.edited area.old area.new result }
 {
     let head = read_aedr(area, place)?;

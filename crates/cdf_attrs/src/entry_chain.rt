@@ -6,7 +6,7 @@ ghost use Rattle.cdf_area.specs.Calls.{Reads};
 ghost use Rattle.cdf_attrs.specs.Finding.{IsOfAttribute};
 ghost use Rattle.cdf_attrs.specs.Known.{KnownEntries, Knows, KnowsEntries};
 ghost use Rattle.cdf_format.specs.Fields.{number};
-ghost use Rattle.cdf_format.specs.Records.{aedr_num};
+ghost use Rattle.cdf_format.specs.Records.{aedr_num, aedr_value};
 ghost use Rattle.cdf_format.specs.WellFormed.{Good};
 
 use crate::attrs::Attrs;
@@ -33,7 +33,7 @@ impl Model for EntryChain {
 
 /// The numbers of the entries whose descriptors stand at these places.
 fn read_numbers<A: Area>(alloc: Global, area: &mut A, places: &[u64]) -> Result<Vec<u32>, AreaError>
-    requires { EachIndex places.now (λ k. slice_index places.now k + 56 ≤ length (A.image area.old)) }
+    requires { EachIndex places.now (λ k. slice_index places.now k + (aedr_value 0).place ≤ length (A.image area.old)) }
     ensures numbers { IfOk result (λ numbers. numbers.items ≡ map (λ aedr. number (A.image area.old) aedr aedr_num) places.now) }
     ensures area { Reads A.image A.frame A.faults A.edited area.old area.new result }
 {

@@ -7,9 +7,10 @@ ghost use Rattle.cdf_attrs.specs.Getting.{entry_reply};
 ghost use Rattle.cdf_edits.specs.Answers.{Answers};
 ghost use Rattle.cdf_format.specs.AttributeRules.{entry_bytes};
 ghost use Rattle.cdf_format.specs.Content.{entry_of};
-ghost use Rattle.cdf_format.specs.Records.{aedr_data_type};
+ghost use Rattle.cdf_format.specs.Records.{aedr_data_type, past, cdr_place, cdr_copyright, aedr_value};
 ghost use Rattle.cdf_format.specs.Stored.{data_type_in};
 ghost use Rattle.cdf_format.specs.WellFormed.{Good};
+ghost use Rattle.cdf_format.specs.Fields.{LiesIn};
 ghost use Rattle.cdf_model.specs.declared.command.Command.TheVariants.{GetEntry};
 
 use crate::attrs::Attrs;
@@ -23,7 +24,7 @@ use std::alloc::Global;
 
 /// The type of the value of the entry whose descriptor stands at a place. Each well-formed file has one that is known.
 fn read_type<A: Area>(area: &mut A, place: u64) -> Result<DataType, AreaError>
-    requires { place + 56 ≤ length (A.image area.old) }
+    requires { place + (aedr_value 0).place ≤ length (A.image area.old) }
     ensures value { IfOk result (λ t. t ≡ data_type_in (A.image area.old) place aedr_data_type) }
     ensures area { Reads A.image A.frame A.faults A.edited area.old area.new result }
 {
@@ -35,8 +36,8 @@ fn read_type<A: Area>(area: &mut A, place: u64) -> Result<DataType, AreaError>
 
 /// What `get-entry` shows of the entry whose descriptor stands at a place.
 fn read_entry<A: Area>(alloc: Global, area: &mut A, place: u64) -> Result<Reply, AreaError>
-    requires cdr { 320 ≤ length (A.image area.old) }
-    requires entry { place + (56 + entry_bytes (A.image area.old) place) ≤ length (A.image area.old) }
+    requires cdr { LiesIn (A.image area.old) cdr_place cdr_copyright }
+    requires entry { place + past (aedr_value (entry_bytes (A.image area.old) place)) ≤ length (A.image area.old) }
     ensures reply { IfOk result (λ reply. reply ≡ entry_reply (entry_of (A.image area.old) place)) }
     ensures area { Reads A.image A.frame A.faults A.edited area.old area.new result }
 {

@@ -5,6 +5,7 @@ ghost use Rattle.std.specs.List.{position};
 ghost use Rattle.cdf_area.specs.Calls.{Edits};
 ghost use Rattle.cdf_attrs.specs.PutValues.{HasOld, IsPut, IsReady};
 ghost use Rattle.cdf_format.specs.WellFormed.{Good};
+ghost use Rattle.cdf_format.specs.Records.{past, aedr_value};
 
 use crate::chain_fields::{entries_chain, set_greatest};
 use crate::entry_bytes::{OldEntry, Reserved, StoredValue, aedr_bytes, field_bytes, read_old};
@@ -76,7 +77,7 @@ fn put_in_place<A: Area>(
     requires good { Good (A.image area.old) }
     requires ready { IsReady (A.image area.old) (A.frame area.old).limit entry.now entries }
     requires old { HasOld (A.image area.old) entries i entry.now.slot.num old }
-    requires fits { 56 + length entry.now.value.bytes.items ≤ old.size }
+    requires fits { past (aedr_value (length entry.now.value.bytes.items)) ≤ old.size }
     ensures put { IfOk result (IsPut (A.image area.old) (A.image area.new) entry.now entries) }
     ensures area { Edits A.frame A.faults area.old area.new result }
 {
@@ -102,7 +103,7 @@ fn put_anew<A: Area>(
     requires good { Good (A.image area.old) }
     requires ready { IsReady (A.image area.old) (A.frame area.old).limit entry.now entries }
     requires old { HasOld (A.image area.old) entries i entry.now.slot.num old }
-    requires large { old.size < 56 + length entry.now.value.bytes.items }
+    requires large { old.size < past (aedr_value (length entry.now.value.bytes.items)) }
     ensures put { IfOk result (IsPut (A.image area.old) (A.image area.new) entry.now entries) }
     ensures area { Edits A.frame A.faults area.old area.new result }
 {

@@ -3,8 +3,9 @@
 ghost use Rattle.std.specs.Prelude.{◌≡◌, ◌+◌, ◌≤◌, length, IfOk};
 ghost use Rattle.cdf_area.specs.Calls.{Reads};
 ghost use Rattle.cdf_format.specs.Content.{content};
-ghost use Rattle.cdf_format.specs.Fields.{gdr_offset, word};
+ghost use Rattle.cdf_format.specs.Fields.{gdr_offset, word, LiesIn};
 ghost use Rattle.cdf_format.specs.WellFormed.{Good};
+ghost use Rattle.cdf_format.specs.Records.{cdr_place, cdr_gdr_offset};
 ghost use Rattle.cdf_model.specs.AttributeSteps.{is_out_of_range};
 
 use cdf_area::{Area, AreaError};
@@ -15,7 +16,7 @@ use cdf_records::{read_unsigned4, read_unsigned8};
 
 /// The number in 4 bytes of the Global Descriptor Record, which begin so many bytes behind its first one.
 fn read_count<A: Area>(area: &mut A, field: u64) -> Result<u32, AreaError>
-    requires cdr { 28 ≤ length (A.image area.old) }
+    requires cdr { LiesIn (A.image area.old) cdr_place cdr_gdr_offset }
     requires gdr { gdr_offset (A.image area.old) + field + 4 ≤ length (A.image area.old) }
     ensures count { IfOk result (λ count. count ≡ word (A.image area.old) (gdr_offset (A.image area.old) + field) 4) }
     ensures area { Reads A.image A.frame A.faults A.edited area.old area.new result }

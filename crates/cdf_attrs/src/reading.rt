@@ -4,7 +4,7 @@ ghost use Rattle.std.specs.Prelude.{◌≡◌, ◌≤◌, ◌+◌, length, IfOk}
 ghost use Rattle.cdf_area.specs.Calls.{Reads};
 ghost use Rattle.cdf_format.specs.Content.{content, scope_of};
 ghost use Rattle.cdf_format.specs.Fields.{number};
-ghost use Rattle.cdf_format.specs.Records.{adr_scope};
+ghost use Rattle.cdf_format.specs.Records.{adr_scope, past};
 ghost use Rattle.cdf_format.specs.Shape.{adrs, shape};
 ghost use Rattle.cdf_format.specs.WellFormed.{Good};
 ghost use Rattle.cdf_model.specs.Listing.{attribute_items};
@@ -31,7 +31,7 @@ fn scope_of(code: u32) -> Scope
 
 /// The scope of the attribute whose descriptor stands at a place.
 pub fn read_scope<A: Area>(area: &mut A, place: u64) -> Result<Scope, AreaError>
-    requires { place + 32 ≤ length (A.image area.old) }
+    requires { place + past adr_scope ≤ length (A.image area.old) }
     ensures scope { IfOk result (λ scope. scope ≡ scope_of (number (A.image area.old) place adr_scope)) }
     ensures area { Reads A.image A.frame A.faults A.edited area.old area.new result }
 {

@@ -1,7 +1,9 @@
 -- The new file: the CDR and the GDR of a data set without attributes and variables (CDF Internal Format Description, Magic Numbers, CDF Descriptor Record, Global Descriptor Record).
-use Rattle.std.specs.Prelude.{ℕ, List, [], ◌∷◌, ◌++◌, replicate, codes}
+use Rattle.std.specs.Prelude.{ℕ, ◌+◌, List, [], ◌∷◌, ◌++◌, replicate, codes}
 use Rattle.std.specs.List.{flat_map}
 use Rattle.byteorder.specs.Endian.{big_bytes}
+use Rattle.cdf_format.specs.Records.{cdr_place}
+use Rattle.cdf_format.specs.RecordTypes.{fixed_size, cdr_type, gdr_type}
 
 -- numbers of so many bytes each
 abbrev pub of_4_bytes : List ℕ → List ℕ
@@ -29,6 +31,10 @@ new_cdr = of_8_bytes (312 ∷ []) ++ of_4_bytes (1 ∷ []) ++ of_8_bytes (320 �
 abbrev pub new_gdr : List ℕ
 new_gdr =
     of_8_bytes (84 ∷ []) ++ of_4_bytes (2 ∷ []) ++ of_8_bytes (0 ∷ 0 ∷ 0 ∷ 404 ∷ []) ++ of_4_bytes (0 ∷ 0 ∷ minus_one ∷ 0 ∷ 0 ∷ []) ++ of_8_bytes (0 ∷ []) ++ of_4_bytes (0 ∷ minus_one ∷ minus_one ∷ [])
+
+-- its bytes: the magic numbers and both records
+abbrev pub new_size : ℕ
+new_size = cdr_place + fixed_size cdr_type + fixed_size gdr_type
 
 unfoldable pub new_image : List ℕ
 new_image = magic ++ new_cdr ++ new_gdr

@@ -11,7 +11,7 @@ ghost use Rattle.cdf_format.specs.GoodImage.{IsGoodImage};
 ghost use Rattle.cdf_format.specs.Index.{Nodes, nodes_of};
 ghost use Rattle.cdf_format.specs.IndexOf.{IsIndex};
 ghost use Rattle.cdf_format.specs.IndexWalk.{met, index_walk};
-ghost use Rattle.cdf_format.specs.NewFile.{new_image};
+ghost use Rattle.cdf_format.specs.NewFile.{new_image, new_size};
 ghost use Rattle.cdf_format.specs.Owners.{space_of, times, owned_records};
 ghost use Rattle.cdf_format.specs.Phases.{first_phases, image_phases};
 ghost use Rattle.cdf_format.specs.Records.{Field};
@@ -127,7 +127,7 @@ pub fn good_has_shape()
 pub fn new_file_is_good()
     ensures good { Good new_image }
     ensures content { content new_image ≡ new_data_set }
-    ensures length { length new_image ≡ 404 }
+    ensures length { length new_image ≡ new_size }
 {}
 
 /// The image of a well-formed file is good, and it is not too long.

@@ -5,7 +5,7 @@ ghost use Rattle.cdf_area.specs.Calls.{Overwrites, Reads};
 ghost use Rattle.cdf_edits.specs.Commands.NewRecords.{with_bits};
 ghost use Rattle.cdf_edits.specs.Frame.Changed.{Changed, touched_field};
 ghost use Rattle.cdf_format.specs.Fields.{flags};
-ghost use Rattle.cdf_format.specs.Records.{cdr_flags};
+ghost use Rattle.cdf_format.specs.Records.{cdr_flags, cdr_place};
 ghost use Rattle.cdf_format.specs.WellFormed.{Good};
 ghost use Rattle.cdf_session.specs.Seals.{seal_of};
 
@@ -30,7 +30,7 @@ fn checksum_flags(flags: u32, md5: bool) -> u32
 pub fn set_checksum<A: Area>(area: &mut A, md5: bool) -> Result<(), AreaError>
     requires { Good (A.image area.old) }
     ensures flags { OnOk result (flags (A.image area.new) ≡ with_bits (flags (A.image area.old)) 2 2 (if md5 then 3 else 0)) }
-    ensures changed { OnOk result (Changed (A.image area.old) (A.image area.new) (touched_field 8 cdr_flags ∷ [])) }
+    ensures changed { OnOk result (Changed (A.image area.old) (A.image area.new) (touched_field cdr_place cdr_flags ∷ [])) }
     ensures area { Overwrites A.image A.frame A.faults area.old area.new result }
 {
     let cdr = read_cdr(area, CDR_PLACE)?;

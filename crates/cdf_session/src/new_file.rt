@@ -2,7 +2,7 @@
 
 ghost use Rattle.std.specs.Prelude.{◌≡◌, ◌≤◌, ◌++◌, [], IfOk, OnOk};
 ghost use Rattle.cdf_area.specs.Calls.{Edits};
-ghost use Rattle.cdf_format.specs.NewFile.{copyright, new_image, of_4_bytes, of_8_bytes};
+ghost use Rattle.cdf_format.specs.NewFile.{copyright, new_image, of_4_bytes, of_8_bytes, new_size};
 ghost use Rattle.cdf_session.specs.Loading.{AreOf};
 
 use crate::loading::{Loaded, load};
@@ -71,7 +71,7 @@ fn new_bytes(alloc: Global) -> Result<Vec<u8>, AllocError>
 /// Writes the new file into an empty area, and takes up its attributes and variables, of which there are none. After an error a part of this may have been done in the area.
 pub fn write_new<A: Area>(alloc: Global, area: &mut A) -> Result<Loaded, AreaError>
     requires empty { A.image area.old ≡ [] }
-    requires room { 404 ≤ (A.frame area.old).limit }
+    requires room { new_size ≤ (A.frame area.old).limit }
     ensures image { OnOk result (A.image area.new ≡ new_image) }
     ensures known { IfOk result (AreOf new_image) }
     ensures area { Edits A.frame A.faults area.old area.new result }

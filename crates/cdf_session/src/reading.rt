@@ -1,10 +1,12 @@
 //! The head of the data set, as it is read.
 
-ghost use Rattle.std.specs.Prelude.{◌≡◌, ◌+◌, ◌*◌, ◌≤◌, length, IfOk};
+ghost use Rattle.std.specs.Prelude.{◌≡◌, ◌+◌, ◌≤◌, IfOk};
 ghost use Rattle.cdf_area.specs.Calls.{Reads};
 ghost use Rattle.cdf_format.specs.Content.{content, majority_of};
-ghost use Rattle.cdf_format.specs.Fields.{has_bit, r_num_dims, r_sizes, word};
+ghost use Rattle.cdf_format.specs.Fields.{has_bit, r_num_dims, r_sizes, LiesIn, number};
 ghost use Rattle.cdf_format.specs.WellFormed.{Good};
+ghost use Rattle.cdf_format.specs.Records.{gdr_r_num_dims, gdr_r_dim_sizes};
+ghost use Rattle.cdf_model.specs.Limits.{dimension_limit};
 ghost use Rattle.cdf_model.specs.DataSet.{head_of};
 ghost use Rattle.cdf_records.specs.Heads.{gdr_at};
 ghost use Rattle.cdf_session.specs.Heads.{head_with};
@@ -58,8 +60,8 @@ fn read_sizes<A: Area>(
     place: u64,
 ) -> Result<Nums, AreaError>
     requires gdr { gdr.now ≡ gdr_at (A.image area.old) place }
-    requires few { word (A.image area.old) (place + 56) 4 ≤ 10 }
-    requires fits { place + 84 + 4 * r_num_dims (A.image area.old) place ≤ length (A.image area.old) }
+    requires few { number (A.image area.old) place gdr_r_num_dims ≤ dimension_limit }
+    requires fits { LiesIn (A.image area.old) place (gdr_r_dim_sizes (r_num_dims (A.image area.old) place)) }
     ensures sizes { IfOk result (λ sizes. sizes ≡ r_sizes (A.image area.old) place) }
     ensures area { Reads A.image A.frame A.faults A.edited area.old area.new result }
 {

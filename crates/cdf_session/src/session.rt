@@ -5,7 +5,7 @@ ghost use Rattle.cdf_area.specs.Calls.{Edits, Reads};
 ghost use Rattle.cdf_area.specs.Frame.{with_base};
 ghost use Rattle.cdf_edits.specs.Answers.{Answers};
 ghost use Rattle.cdf_edits.specs.Follows.{only_reads};
-ghost use Rattle.cdf_format.specs.NewFile.{new_image};
+ghost use Rattle.cdf_format.specs.NewFile.{new_image, new_size};
 ghost use Rattle.cdf_format.specs.Owners.{space_of as taken_by};
 ghost use Rattle.cdf_format.specs.Shape.{shape};
 ghost use Rattle.cdf_format.specs.WellFormed.{Good, WellFormed};
@@ -126,7 +126,7 @@ impl<A: Area> Session<A> {
     pub fn create(alloc: Global, area: A) -> Result<Session<A>, Refusal<A>>
         requires empty { A.image area ≡ [] }
         requires unmarked { (A.frame area).base ≡ None }
-        requires room { 404 ≤ (A.frame area).limit }
+        requires room { new_size ≤ (A.frame area).limit }
         requires limit { (A.frame area).limit ≤ image_limit }
         ensures created { IfOk result (λ session. A.image session ≡ new_image) }
         ensures frame { IfOk result (λ session. A.frame session ≡ A.frame area) }
