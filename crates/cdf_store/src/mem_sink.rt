@@ -49,6 +49,7 @@ impl MemSink {
         ensures ok { OnOk result (failing_of self.new ≡ failing_of self.old ++ call ∷ []) }
         ensures err { OnErr result (failing_of self.new ≡ failing_of self.old) }
         ensures calls { calls_of self.new ≡ calls_of self.old }
+        ensures room { room_of self.new ≡ room_of self.old }
         ensures written { ⟦<MemSink as Sink>⟧.written self.new ≡ ⟦<MemSink as Sink>⟧.written self.old }
         ensures faults { ⟦<MemSink as Sink>⟧.faults self.new ≡ ⟦<MemSink as Sink>⟧.faults self.old }
     {
