@@ -25,7 +25,7 @@ use Rattle.cdf_edits.proofs.Edits.RecordFrame.{field_clear, kept, part_clear, ch
 use Rattle.cdf_edits.proofs.Edits.RecordPlaced.{placing_marks}
 use Rattle.cdf_edits.proofs.Edits.StepEdits.{fixed_long, gives_edit, some_bytes}
 use Rattle.cdf_edits.proofs.Frame.ChangedBytes.{changed_put}
-use Rattle.cdf_edits.proofs.Rules.FirstHead.{FirstSays, cdr_said, first_hold}
+use Rattle.cdf_edits.proofs.Rules.FirstHead.{FirstSays, first_said, first_hold}
 use Rattle.cdf_edits.proofs.Space.ActsLeave.{each, places-sized}
 use Rattle.cdf_space.proofs.Filling.{word-put_inside}
 use Rattle.cdf_format.specs.Content.{content_of, majority_of}
@@ -315,7 +315,7 @@ module _ (b dims : List ℕ) (good : Good b) (empty : is_empty_set (content b) �
     says : FirstSays now gdr
     says =
         let image = good_by_its_shape b good in
-        let was = cdr_said b s sound.has_shape (sealed_kept b (good_long b s image) (rules_of_good b good)).0 in
+        let was = first_said b s sound.has_shape sound.gdr_fits (sealed_kept b (good_long b s image) (rules_of_good b good)).0 in
         let in_use = flag_stays 2 (omega (arith, half (flags b) majority)) in
         let is_md5 = flag_stays 3 (omega (arith, half (flags b) majority)) in
         let test : (not (has_bit (flags now) 2) || has_bit (flags now) 3) ≡ (not (has_bit (flags b) 2) || has_bit (flags b) 3) = λ i. not (in_use i) || is_md5 i in
