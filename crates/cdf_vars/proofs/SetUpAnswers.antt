@@ -18,7 +18,7 @@ none_or_some None p e = ap not e
 none_or_some (Some a) p e = ap not e
 
 -- what setup makes of a data set
-abbrev set_up : DataSet → ℕ → Majority → List ℕ → DataSet
+abbrev pub set_up : DataSet → ℕ → Majority → List ℕ → DataSet
 set_up d code majority dims = record d { encoding = code; majority = majority; rdims = dims }
 
 pub step_goes : (d made : DataSet) (code : ℕ) (majority : Majority) (dims : List ℕ) → is_some (encoding_at code) ≡ true → are_bad_sizes dims ≡ false → is_empty_set d ≡ true → made ≡ set_up d code majority dims → step d (Setup code majority dims) ≡ ByStep (Go made Plain)

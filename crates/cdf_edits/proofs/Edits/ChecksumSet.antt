@@ -7,6 +7,7 @@ use Rattle.cdf_edits.specs.Commands.Setup.{checksum_changes}
 use Rattle.cdf_edits.proofs.Commands.KeptRecords.{Stood, keep_attributes, keep_owned, keeps_stood}
 use Rattle.cdf_edits.proofs.Edits.AttributeFrame.{AreThere, lives_clear, all_rules, names_stay, nums_stay}
 use Rattle.cdf_edits.proofs.Edits.EditActs.{acts_none}
+use Rattle.cdf_edits.proofs.Edits.FirstRecords.{read_now}
 use Rattle.cdf_edits.proofs.Edits.OwnedOnce.{all_attributes_in, owned_once_if}
 use Rattle.cdf_edits.proofs.Edits.OwnersKept.{stood, keeps_fields, keep_file, all_keep}
 use Rattle.cdf_edits.proofs.Edits.RecordFrame.{AttributeLives, VariableLives, kept_away, part_clear}
@@ -202,12 +203,6 @@ module _ (b now : List ℕ) (md5 : Bool) (good : Good b) (changed : Changed b no
       let numbers = number_rows_kept 10 b now vdr_num 0 ms (λ m i. nums m (subst (λ (x : List ℕ). In m x) (sym (vdrs_append s.r_variables s.z_variables)) (In-append_right m (vdrs s.r_variables) ms i))) in
       λ i. (row 9 (place i) (count i == length ms) ∷ []) ++ numbers i
 
-  type_stays : (m : ℕ) → In m s.records → type_at now m ≡ type_at b m
-  type_stays m i = elim (e.kind m i) [ inl old ↦ old.1 | inr new ↦ elim new [ inl free ↦ absurd (free.0 i) | inr none ↦ absurd none ] ]
-
-  read_now : Hold (flat_map (unread_type b) s.records) → Hold (flat_map (unread_type now) s.records)
-  read_now rules = Hold-members (unread_type now) s.records (λ m i. (ap (λ (t : ℕ). is_in t read_types) (type_stays m i) ∙ (Hold-member (unread_type b) s.records m rules i).0, tt))
-
   pub good_now : IsGoodByShape b s → IsGoodByShape now s
   good_now image =
       let c = Hold-split (adrs_rows b (adrs s) ++ r_vdrs_rows b (vdrs s.r_variables)) (z_vdrs_rows b (vdrs s.z_variables)) image.counting in
@@ -216,7 +211,7 @@ module _ (b now : List ℕ) (md5 : Bool) (good : Good b) (changed : Changed b no
       let names = names_stay sound e file s.attributes there attributes_live in
       record {
         has_shape = shape_now;
-        read_types = read_now image.read_types;
+        read_types = read_now e image.read_types (λ m i. absurd i);
         counting = Hold-append (adrs_rows now (adrs s) ++ r_vdrs_rows now (vdrs s.r_variables)) (z_vdrs_rows now (vdrs s.z_variables))
             (Hold-append (adrs_rows now (adrs s)) (r_vdrs_rows now (vdrs s.r_variables)) (subst Hold (sym adr_rows_same) d.0) (subst Hold (sym r_rows_same) d.1)) (subst Hold (sym z_rows_same) c.1);
         attributes = Hold-append (flat_map (attribute_shape_rows now) s.attributes) (differ_rows 2 (same_name now adr_name) [] (adrs s))

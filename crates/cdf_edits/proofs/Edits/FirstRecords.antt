@@ -7,6 +7,16 @@ use Rattle.cdf_edits.proofs.Edits.RecordFrame.{cdr_kept, cdr_long, gdr_start, gd
 use Rattle.cdf_edits.proofs.Edits.StepEdits.{gdr_typed, gdr_long}
 use Rattle.cdf_edits.proofs.Edits.Composing.{head_size, head_type}
 
+-- the types of records that are read
+pub read_now : {b now old new : List ℕ} {marks : List Mark} {reborn : List ℕ} → Edit b now old new marks reborn → Hold (flat_map (unread_type b) old) → ((m : ℕ) → In m reborn → is_in (type_at now m) read_types ≡ true) → Hold (flat_map (unread_type now) new)
+read_now {b = b} {now = now} {old = old} {new = new} e rules own = Hold-members (unread_type now) new (λ m i. (
+  elim (e.kind m i) [
+    | inl j ↦ ap (λ (t : ℕ). is_in t read_types) j.1 ∙ (Hold-member (unread_type b) old m rules j.0).0
+    | inr j ↦ elim j [ inl u ↦ ap (λ (t : ℕ). is_in t read_types) u.1 | inr r ↦ own m r ]
+  ],
+  tt,
+))
+
 module _ {b now : List ℕ} {s : Shape} {new : List ℕ} {marks : List Mark} {reborn : List ℕ} (sound : IsSound b s) (e : Edit b now s.records new marks reborn) (clear : keeps_file marks ≡ true) (typed : (m : ℕ) → In m reborn → (is_record_type (type_at now m) ≡ true) × (fixed_size (type_at now m) ≤ size_at now m)) where
   h : HasShape b s
   h = sound.has_shape
@@ -48,15 +58,6 @@ module _ {b now : List ℕ} {s : Shape} {new : List ℕ} {marks : List Mark} {re
       let size = head_size b now s.gdr (gdr_part sound e clear 0 12 (gdr_start sound e clear) (let l = gdr_long b s h in omega arith)) in
       let dims = dimensions_same sound e clear in
       subst (λ (x : ℕ). 84 + 4 * r_num_dims now s.gdr ≤ x) (sym size) (subst (λ (x : ℕ). 84 + 4 * x ≤ size_at b s.gdr) (sym dims) sound.gdr_fits)
-
-  pub read_now : Hold (flat_map (unread_type b) s.records) → ((m : ℕ) → In m reborn → is_in (type_at now m) read_types ≡ true) → Hold (flat_map (unread_type now) new)
-  read_now rules own = Hold-members (unread_type now) new (λ m i. (
-    elim (e.kind m i) [
-      | inl j ↦ of_type (λ t. is_in t read_types ≡ true) m (type_at b m) j.1 (Hold-member (unread_type b) s.records m rules j.0).0
-      | inr j ↦ elim j [ inl u ↦ of_type (λ t. is_in t read_types ≡ true) m uir_type u.1 refl | inr r ↦ own m r ]
-    ],
-    tt,
-  ))
 
   -- what the rules ask of the file is what they asked
   pub first_says : AllHold (first_phases (sealed b)) → eof now s.gdr ≡ length now → FirstSays now s.gdr

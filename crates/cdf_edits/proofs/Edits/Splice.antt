@@ -210,7 +210,7 @@ module _ {b now : List ℕ} {s : Shape} {new list : List ℕ} {marks : List Mark
       let d = Hold-split (adrs_rows b (adrs s)) (r_vdrs_rows b (vdrs s.r_variables)) c.0 in
       record {
         has_shape = shape_now;
-        read_types = read_now sound e splices.file_clear splices.typed good.read_types rules.read;
+        read_types = read_now e good.read_types rules.read;
         counting = Hold-append (adrs_rows now (adrs s') ++ r_vdrs_rows now (vdrs s.r_variables)) (z_vdrs_rows now (vdrs s.z_variables))
             (Hold-append (adrs_rows now (adrs s')) (r_vdrs_rows now (vdrs s.r_variables)) rules.counted (subst Hold (sym r_rows) d.1)) (subst Hold (sym z_rows) c.1);
         attributes = Hold-append (flat_map (attribute_shape_rows now) attributes') (differ_rows 2 (same_name now adr_name) [] (adrs s')) (attribute_rules good rules.own_rules) rules.differ;

@@ -228,7 +228,7 @@ module _ {b now : List ℕ} {s : Shape} {kind : Kind} {new list : List ℕ} {mar
       let ruled = ruled_now good rules in
       record {
         has_shape = shape_now;
-        read_types = read_now sound e splices.file_clear splices.typed good.read_types rules.read;
+        read_types = read_now e good.read_types rules.read;
         counting = Hold-append (adrs_rows now (adrs s) ++ r_vdrs_rows now (vdrs (shapes_with s kind variables' R))) (z_vdrs_rows now (vdrs (shapes_with s kind variables' Z)))
             (Hold-append (adrs_rows now (adrs s)) (r_vdrs_rows now (vdrs (shapes_with s kind variables' R))) (subst Hold (sym adrs_now) d) (counts R)) (counts Z);
         attributes = Hold-append (flat_map (attribute_shape_rows now) s.attributes) (differ_rows 2 (same_name now adr_name) [] (adrs s)) (all_rules sound e file s.attributes there attributes_live p.0)
