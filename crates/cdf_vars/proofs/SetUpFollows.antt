@@ -1,6 +1,6 @@
 -- `setup` follows its command: the dimensions of a GDR and the CDR are written, what the image has by then, whatever became of the GDR, and the two ways, in its place and moved.
 use Rattle.std.proofs.Common.{◌≡◌, ◌≢◌, ◌⊎◌, ℕ, ◌+◌, ◌-◌, ◌*◌, ◌/◌, ◌%◌, ◌<◌, ◌≤◌, List, [], ◌∷◌, ◌++◌, length, map, sum, drop, Bool, true, false, not, ◌||◌, refl, sym, ap, subst, ◌∙◌, arith, inl, inr, ◌^◌}
-use Rattle.cdf_vars.proofs.Common.{IsGoodByShape, is_in, le-leb, length-take, length-drop, w32, cast_signed, list_all, ◌==◌, ◌&&◌, is_some, nat_le, if◌then◌else◌, ◌||◌, put, Majority, Row, Column, DataSet, encoding_at, image_limit, are_bad_sizes, is_empty_set, AllKeep, Edit, Mark, avoided, within, is_late, making_marks, Follows, Changed, touched_field, Act, Took, Gave, Takes, Fills, keep_attributes, acts_took, end_now, filled_size, filled_sound, list_chain, made_edit, place_in, shorter, the_one, unmarked-away, keep_file, keeps_fields, gdr_in, gdr_long, gdr_typed, apart, length-words, words_laid_out, Same, byte, IsChain, Leads, next_of, content, counted, has_bit, is_positive, number, word, words, size_at, type_at, gdr_offset, r_num_dims, r_sizes, with_field, owned_records, times, Field, cdr_encoding, cdr_flags, gdr_r_max_rec, gdr_r_num_dims, record_type, cdr_type, gdr_type, uir_type, fixed_size, is_record_type, Shape, HasShape, shape, IsSound, In, Good, of_4_bytes, length-put, word_kept, words_kept, is_a-in, is_a-type, good_by_its_shape, good_eof, good_is_sound, rules_of_good, good_long, sealed_kept, content_is, shape_is, tile_lies, WritesHeads, small_signed, drop-put_there}
+use Rattle.cdf_vars.proofs.Common.{gdr_fits, IsGoodByShape, is_in, le-leb, length-take, length-drop, w32, cast_signed, list_all, ◌==◌, ◌&&◌, is_some, nat_le, if◌then◌else◌, ◌||◌, put, Majority, Row, Column, DataSet, encoding_at, image_limit, are_bad_sizes, is_empty_set, AllKeep, Edit, Mark, avoided, within, is_late, making_marks, Follows, Changed, touched_field, Act, Took, Gave, Takes, Fills, keep_attributes, acts_took, end_now, filled_size, filled_sound, list_chain, made_edit, place_in, shorter, the_one, unmarked-away, keep_file, keeps_fields, gdr_in, gdr_long, gdr_typed, apart, length-words, words_laid_out, Same, byte, IsChain, Leads, next_of, content, counted, has_bit, is_positive, number, word, words, size_at, type_at, gdr_offset, r_num_dims, r_sizes, with_field, owned_records, times, Field, cdr_encoding, cdr_flags, gdr_r_max_rec, gdr_r_num_dims, record_type, cdr_type, gdr_type, uir_type, fixed_size, is_record_type, Shape, HasShape, shape, IsSound, In, Good, of_4_bytes, length-put, word_kept, words_kept, is_a-in, is_a-type, good_by_its_shape, good_eof, good_is_sound, rules_of_good, good_long, sealed_kept, content_is, shape_is, tile_lies, WritesHeads, small_signed, drop-put_there}
 use Rattle.std.proofs.lemmas.Bool.{lt-leb, leb-true}
 use Rattle.cdf_model.specs.declared.answer.Reply.TheVariants as replies
 use Rattle.cdf_model.specs.declared.command.Command.TheVariants as commands
@@ -10,8 +10,9 @@ use Rattle.cdf_edits.specs.Commands.Setup.{majority_bit, setup_changes, space_ta
 use Rattle.cdf_edits.specs.Edits.Marks.{Avoids, Within, giving_marks, Among, Anywhere, mark, field_marks}
 use Rattle.cdf_edits.specs.Space.Acts.{ActsFollow, links_end, taken as taken_of}
 use Rattle.cdf_edits.specs.Space.Giving.{IsGiven}
+use Rattle.cdf_edits.specs.Space.Taking.{IsTaken}
 use Rattle.cdf_edits.specs.Space.Placement.{Gives, unused, with_space}
-use Rattle.cdf_edits.proofs.Edits.ActsThen.{acts_gave, each_in}
+use Rattle.cdf_edits.proofs.Edits.ActsThen.{acts_gave}
 use Rattle.cdf_edits.proofs.Edits.Composing.{edit_then, head_type, changed_edit}
 use Rattle.cdf_edits.proofs.Edits.EditActs.{acts_none}
 use Rattle.cdf_edits.proofs.Edits.EmptySet.{HasNone, has_none, times_with, as_many, no_more, gdr_once, others_none, empty_shape, empty_sound, no_attribute, no_variable, is_empty}
@@ -19,14 +20,14 @@ use Rattle.cdf_edits.proofs.Edits.ChainOwners.{IsHeld}
 use Rattle.cdf_edits.proofs.Edits.FirstRecords.{read_now}
 use Rattle.cdf_edits.proofs.Edits.OwnedOnce.{IsSorted, none_in_use, owned_once_if}
 use Rattle.cdf_edits.proofs.Edits.FieldWritten.{Stands, stands_fixed, field_in, still_stands, still_says, written_edit, written_long, written_reads}
-use Rattle.cdf_edits.proofs.Edits.FreedBytes.{behind_one, freed_stay}
+use Rattle.cdf_edits.proofs.Edits.FreedBytes.{BytesStay, behind_one, freed_stay_but}
 use Rattle.cdf_edits.proofs.Edits.FreedRecords.{sizes_by_tiles}
 use Rattle.cdf_edits.proofs.Edits.MadeRecord.{filled_content, filled_edit, fresh, listed_before, listed_marks, loose_away, second}
 use Rattle.cdf_edits.proofs.Edits.MarkLemmas.{Avoids-append, Away-append, Within-append, avoided-avoids, within-within}
 use Rattle.cdf_edits.proofs.Edits.OwnersKept.{all_keep, keep_unused, keeps_within}
 use Rattle.cdf_edits.proofs.Edits.RecordFrame.{field_avoids, part_clear, chain_clear}
 use Rattle.cdf_edits.proofs.Edits.RecordPlaced.{placing_marks}
-use Rattle.cdf_edits.proofs.Edits.StepEdits.{fixed_long, gives_edit, some_bytes}
+use Rattle.cdf_edits.proofs.Edits.StepEdits.{gives_edit, some_bytes, takes_edit}
 use Rattle.cdf_edits.proofs.Frame.ChangedBytes.{changed_put}
 use Rattle.cdf_edits.proofs.Rules.FirstHead.{FirstSays, first_said, first_hold}
 use Rattle.cdf_edits.proofs.Space.ActsLeave.{each, places-sized}
@@ -265,12 +266,11 @@ record IsSetUp (b now records list : List ℕ) (gdr code bits : ℕ) (majority :
   content_now : content now ≡ set_up (content b) code majority dims
   flags_now : flags now ≡ bits
   count_now : number now gdr gdr_r_num_dims ≡ length dims
-  stays : (f : Field) → is_copied f ≡ true → number now gdr f ≡ number b (shape b).gdr f
+  stays : (f : Field) → is_copied f ≡ true → number now gdr f ≡ number b (gdr_offset b) f
   end : eof now gdr ≡ length now
   longest : length now ≤ length b + (84 + 4 * length dims)
-  as_owned : (m : ℕ) → (In m reborn → ⊥) → times_with gdr m ≡ times_with (shape b).gdr m
-  sorted : (m : ℕ) → In m reborn → IsSorted now (empty_shape records gdr list) m
-  read : (m : ℕ) → In m reborn → is_in (type_at now m) read_types ≡ true
+  as_owned : (m : ℕ) → (In m reborn → ⊥) → times_with gdr m ≡ times_with (gdr_offset b) m
+  anew : (m : ℕ) → In m reborn → IsSorted now (empty_shape records gdr list) m × (is_in (type_at now m) read_types ≡ true)
   takes_within : sum (map (λ take. take.1) (taken_of acts)) ≤ 84 + 4 * length dims
   acts_follow : ActsFollow b now acts
   unused_stay : AllKeep b now setup_changes acts (owned_by Unused (unused_records b (shape b)))
@@ -289,7 +289,7 @@ module _ (b dims : List ℕ) (good : Good b) (empty : is_empty_set (content b) �
   s = shape b
 
   abbrev old : ℕ
-  old = (shape b).gdr
+  old = gdr_offset b
 
   abbrev need : ℕ
   need = 84 + 4 * length dims
@@ -300,33 +300,33 @@ module _ (b dims : List ℕ) (good : Good b) (empty : is_empty_set (content b) �
   has : HasNone s
   has = has_none b good empty
 
-  at : gdr_offset b ≡ old
-  at = sound.has_shape.gdr_is
-
   abbrev before : Shape
-  before = empty_shape (shape b).records (shape b).gdr (shape b).unused
+  before = empty_shape (shape b).records (gdr_offset b) (shape b).unused
+
+  at : (shape b).gdr ≡ old
+  at = sym sound.has_shape.gdr_is
+
+  before_is : s ≡ before
+  before_is = is_empty s has ∙ ap (λ (g : ℕ). empty_shape s.records g s.unused) at
 
   image : IsGoodByShape b before
-  image = subst (IsGoodByShape b) (is_empty s has) (good_by_its_shape b good)
+  image = subst (IsGoodByShape b) before_is (good_by_its_shape b good)
 
   bare : IsSound b before
-  bare = subst (IsSound b) (is_empty s has) sound
+  bare = subst (IsSound b) before_is sound
 
   cdr_before : Stands b s.records 8 cdr_type 312
   cdr_before = stands_fixed sound.has_shape cdr_type 8 sound.has_shape.cdr_stands
 
   gdr_before : Stands b s.records old gdr_type 84
-  gdr_before = stands_fixed sound.has_shape gdr_type old sound.has_shape.gdr_stands
-
-  unlike_old : (m : ℕ) → type_at b m ≢ gdr_type → m ≢ old
-  unlike_old m other q = other (ap (type_at b) q ∙ gdr_before.typed)
+  gdr_before = stands_fixed bare.has_shape gdr_type old bare.has_shape.gdr_stands
 
   module _ {now records list : List ℕ} {gdr code bits : ℕ} {majority : Majority} {marks : List Mark} {reborn : List ℕ} {acts : List Act} (read : is_some (encoding_at code) ≡ true) (bits_are : bits ≡ majority_flags (flags b) majority) (is : IsSetUp b now records list gdr code bits majority dims marks reborn acts) where
     abbrev own : Shape
     own = empty_shape records gdr list
 
     moved : (f : Field) → is_copied f ≡ true → number now (gdr_offset now) f ≡ number b (gdr_offset b) f
-    moved f copied = ap (λ (g : ℕ). number now g f) is.sound.has_shape.gdr_is ∙ is.stays f copied ∙ sym (ap (λ (g : ℕ). number b g f) at)
+    moved f copied = ap (λ (g : ℕ). number now g f) is.sound.has_shape.gdr_is ∙ is.stays f copied
 
     says : FirstSays now gdr
     says =
@@ -355,12 +355,12 @@ module _ (b dims : List ℕ) (good : Good b) (empty : is_empty_set (content b) �
     good_now : IsGoodByShape now own
     good_now = record {
       has_shape = is.sound.has_shape;
-      read_types = read_now is.edit image.read_types is.read;
+      read_types = read_now is.edit image.read_types (λ m i. (is.anew m i).1);
       counting = (none_counted gdr_num_attr refl image.counting.0, (none_counted gdr_nr_vars refl image.counting.1.0, (none_counted gdr_nz_vars refl image.counting.1.1.0, tt)));
       attributes = tt;
       of_variables = tt;
       indexes = tt;
-      owned_once = owned_once_if b now before own marks reborn bare image.owned_once is.edit is.as_owned is.sorted;
+      owned_once = owned_once_if b now before own marks reborn bare image.owned_once is.edit is.as_owned (λ m i. (is.anew m i).0);
     }
 
     setup_follows : length b + need ≤ image_limit → Follows b (commands.Setup code majority dims) now
@@ -392,10 +392,10 @@ module _ (b dims : List ℕ) (good : Good b) (empty : is_empty_set (content b) �
 
   module _ {now : List ℕ} {place code bits : ℕ} (majority : Majority) (read : is_some (encoding_at code) ≡ true) (bits_are : bits ≡ majority_flags (flags b) majority) (place_is : place ≡ gdr_offset b) (fits : need ≤ size_at b (gdr_offset b)) (w : WritesHeads b now place code bits dims) where
     gdr : Stands b s.records old gdr_type need
-    gdr = record { inside = gdr_before.inside; typed = gdr_before.typed; long = subst (λ (g : ℕ). need ≤ size_at b g) at fits }
+    gdr = record { inside = gdr_before.inside; typed = gdr_before.typed; long = fits }
 
     here : WritesHeads b now old code bits dims
-    here = subst (λ (g : ℕ). WritesHeads b now g code bits dims) (place_is ∙ at) w
+    here = subst (λ (g : ℕ). WritesHeads b now g code bits dims) place_is w
 
     abbrev in_place : List Mark
     in_place = heads_marks old (length dims)
@@ -428,23 +428,22 @@ module _ (b dims : List ℕ) (good : Good b) (empty : is_empty_set (content b) �
       flags_now = (heads_say bare.has_shape fine gdr here).flags_are;
       count_now = (heads_say bare.has_shape fine gdr here).count_is;
       stays = λ f copied. gdr_still bare.has_shape fine gdr here f (copied_parts f copied).0;
-      end = gdr_still bare.has_shape fine gdr here gdr_eof refl ∙ ap (eof b) (sym at) ∙ good_eof b good ∙ sym same_long;
+      end = gdr_still bare.has_shape fine gdr here gdr_eof refl ∙ good_eof b good ∙ sym same_long;
       longest = omega (arith, same_long);
       as_owned = λ m out. refl;
-      sorted = λ m i. absurd i;
-      read = λ m i. absurd i;
+      anew = λ m i. absurd i;
       takes_within = omega arith;
       acts_follow = acts_none sound e refl refl (ap (λ (x : Shape). x.records) same_shape) (ap (λ (x : Shape). x.unused) same_shape) same_long;
       unused_stay =
           keep_unused sound e (ap (λ (x : Shape). x.records) same_shape) setup_changes [] (λ m i free. (avoided-avoids in_place uir_type m 0 12 refl, within-within in_place uir_type m (uir_next_uir ∷ uir_prev_uir ∷ []) refl)) (λ m i out. unmarked-away in_place uir_type m refl);
       acts_are = rw (le-leb need (size_at b (gdr_offset b)) fits) refl;
       room = λ le. record {
-        place_stays = shape_now.gdr_is ∙ sym at;
-        size_stays = ap (size_at now) at ∙ heads_sizes bare.has_shape fine gdr here old gdr_before.inside ∙ sym (ap (size_at b) at);
-        rest_stays = subst (λ (g : ℕ). Same b now (g + need) (g + size_at b g)) (sym at) (e.part old gdr_type need (size_at b old) gdr_before.inside gdr_before.typed (avoided-avoids in_place gdr_type old 0 12 (heads_avoided old (length dims) 0 12 refl)) behind_dims (omega arith));
+        place_stays = shape_now.gdr_is;
+        size_stays = heads_sizes bare.has_shape fine gdr here old gdr_before.inside;
+        rest_stays = e.part old gdr_type need (size_at b old) gdr_before.inside gdr_before.typed (avoided-avoids in_place gdr_type old 0 12 (heads_avoided old (length dims) 0 12 refl)) behind_dims (omega arith);
       };
       freed = tt;
-      emptied = λ moves. absurd (moves (shape_now.gdr_is ∙ sym at));
+      emptied = λ moves. absurd (moves shape_now.gdr_is);
     }
 
     pub keeps_follows : length b + need ≤ image_limit → Follows b (commands.Setup code majority dims) now
@@ -462,43 +461,28 @@ module _ (b dims : List ℕ) (good : Good b) (empty : is_empty_set (content b) �
     abbrev grown : Shape
     grown = with_space (shape b) (shape m.taken).records (shape m.taken).unused
 
-    own_taken : shape m.taken ≡ grown
-    own_taken = m.is_taken.0.space.rest_stays
-
-    takes : Takes b m.taken s grown need place
-    takes = subst (λ (x : Shape). Takes b m.taken s x need place) own_taken m.is_taken.0
-
-    taken_sound : IsSound m.taken grown
-    taken_sound = subst (IsSound m.taken) own_taken m.is_taken.1
+    is_taken : IsTaken b m.taken s grown need place
+    is_taken = subst (λ (x : Shape). IsTaken b m.taken s x need place) m.is_taken.0.space.rest_stays m.is_taken
 
     place_ends : place + need ≤ length m.taken
     place_ends = taken_lies m.is_taken.0 m.is_taken.1
 
     taken_old : Stands m.taken records old gdr_type 84
-    taken_old = stands_fixed taken_sound.has_shape gdr_type old taken_sound.has_shape.gdr_stands
+    taken_old = still_stands (takes_edit sound (omega arith) is_taken.0) gdr_before refl (omega arith)
 
     -- ---- the old one is copied
 
     abbrev piece : List ℕ
-    piece = gdr_fields m.taken (shape b).gdr
-
-    copy_is : m.copied ≡ put m.taken (place + 8) piece
-    copy_is = m.copy ∙ ap (λ (g : ℕ). put m.taken (place + 8) (gdr_fields m.taken g)) at
+    piece = gdr_fields m.taken old
 
     piece_long : length piece ≡ 76
-    piece_long =
-        let e = (tile_lies m.taken 8 (length m.taken) records old taken_sound.has_shape.tiled taken_old.inside).high in
-        let w = wide (length m.taken) old (size_at m.taken old) taken_old.long e in
-        simp (length-take, length-drop) (omega (arith, w))
-      where
-        wide : (x o k : ℕ) → 84 ≤ k → o + k ≤ x → 76 ≤ x - (o + 8)
-        wide x o k l e = omega arith
+    piece_long = let l = gdr_fits b good in let e = is_taken.0.changed.longer in simp (length-take, length-drop) (omega arith)
 
     copied_field : (f : Field) → 8 ≤ f.place → f.place + f.width ≤ 84 → number m.copied place f ≡ number m.taken old f
     copied_field f low high =
         let l = place_ends in
         let p = piece_long in
-        ap (λ (x : List ℕ). number x place f) copy_is
+        ap (λ (x : List ℕ). number x place f) m.copy
         ∙ ap (λ (p : ℕ). word (put m.taken (place + 8) piece) p f.width) (move place)
         ∙ word-put_inside m.taken piece (place + 8) (f.place - 8) f.width (omega arith) (omega arith)
         ∙ word-piece m.taken (old + 8) (f.place - 8) f.width 76 (omega arith)
@@ -510,13 +494,13 @@ module _ (b dims : List ℕ) (good : Good b) (empty : is_empty_set (content b) �
     fills : Fills b m.taken m.copied s records list need place gdr_type
     fills =
         let l = place_ends in
-        let long : length m.copied ≡ length m.taken = ap length copy_is ∙ length-put m.taken (place + 8) piece (let p = piece_long in omega arith) in
+        let long : length m.copied ≡ length m.taken = ap length m.copy ∙ length-put m.taken (place + 8) piece (let p = piece_long in omega arith) in
         let change = changed_put m.taken place 8 76 piece piece_long (omega arith) in
         record {
-          takes = takes;
-          sound = taken_sound;
-          content_stays = m.is_taken.2;
-          fill = record { longer = omega arith; same = λ i lt out. ap (λ (x : List ℕ). byte x i) copy_is ∙ change.same i lt (elim out.0 [ inl low ↦ inl low | inr high ↦ inr (beside i high) ], tt) };
+          takes = is_taken.0;
+          sound = is_taken.1;
+          content_stays = is_taken.2;
+          fill = record { longer = omega arith; same = λ i lt out. ap (λ (x : List ℕ). byte x i) m.copy ∙ change.same i lt (elim out.0 [ inl low ↦ inl low | inr high ↦ inr (beside i high) ], tt) };
           long = long;
           typed = copied_field record_type (omega arith) (omega arith) ∙ taken_old.typed;
           real = refl;
@@ -529,7 +513,7 @@ module _ (b dims : List ℕ) (good : Good b) (empty : is_empty_set (content b) �
         beside i h = omega arith
 
     copied_shape : HasShape m.copied (empty_shape records old list)
-    copied_shape = subst (λ (x : Shape). HasShape m.copied (with_space x records list)) (is_empty s has) (filled_sound sound fills).has_shape
+    copied_shape = subst (λ (x : Shape). HasShape m.copied (with_space x records list)) before_is (filled_sound sound fills).has_shape
 
     -- the old one stays whole while it is copied
     copied_old : Stands m.copied records old gdr_type 84
@@ -617,11 +601,11 @@ module _ (b dims : List ℕ) (good : Good b) (empty : is_empty_set (content b) �
     late_sound = subst (IsSound late) (sym late_is) late_bare
 
     pub old_stands : (g : ℕ) → g ≡ gdr_offset b → In g (shape late).records
-    old_stands g is = subst (λ (x : ℕ). In x (shape late).records) (sym (is ∙ at)) (subst (In old) (sym late_records) late_old.inside)
+    old_stands g is = subst (λ (x : ℕ). In x (shape late).records) (sym is) (subst (In old) (sym late_records) late_old.inside)
 
     pub old_free : (g : ℕ) → g ≡ gdr_offset b → times g (owned_records late (shape late)) ≡ 0
     old_free g is =
-        subst (λ (x : ℕ). times x (owned_records late (shape late)) ≡ 0) (sym (is ∙ at)) (subst (λ (x : Shape). times old (owned_records late x) ≡ 0) (sym late_is)
+        subst (λ (x : ℕ). times x (owned_records late (shape late)) ≡ 0) (sym is) (subst (λ (x : Shape). times old (owned_records late x) ≡ 0) (sym late_is)
         (none_in_use late (empty_shape records place list) late_shape.tiled old (λ u. apart gdr_type uir_type refl (sym late_old.typed ∙ u)) (others_none place old old_not_8 place_not_old)))
 
     -- ---- and the old one is freed
@@ -630,8 +614,11 @@ module _ (b dims : List ℕ) (good : Good b) (empty : is_empty_set (content b) �
       abbrev late_own : Shape
       late_own = empty_shape records place list
 
-      gives : Gives late now late_own (shape now) old
-      gives = subst (λ (x : Shape). Gives late now x (shape now) old) late_is (subst (λ (g : ℕ). Gives late now (shape late) (shape now) g) at free.0)
+      is_given : IsGiven late now late_own (shape now) old
+      is_given = subst (λ (x : Shape). IsGiven late now x (shape now) old) late_is free
+
+      abbrev gives : Gives late now late_own (shape now) old
+      gives = is_given.0
 
       abbrev given_marks : List Mark
       given_marks = giving_marks list gdr_type old (size_at late old)
@@ -646,7 +633,7 @@ module _ (b dims : List ℕ) (good : Good b) (empty : is_empty_set (content b) �
       own_now = empty_shape records place (shape now).unused
 
       now_sound : IsSound now own_now
-      now_sound = subst (IsSound now) (gives.space.rest_stays ∙ ap (λ (r : List ℕ). with_space late_own r (shape now).unused) gives.records_stay) free.1
+      now_sound = subst (IsSound now) (gives.space.rest_stays ∙ ap (λ (r : List ℕ). with_space late_own r (shape now).unused) gives.records_stay) is_given.1
 
       h : HasShape now own_now
       h = now_sound.has_shape
@@ -670,8 +657,8 @@ module _ (b dims : List ℕ) (good : Good b) (empty : is_empty_set (content b) �
       abbrev acts : List Act
       acts = Took place need ∷ Gave old (size_at b old) ∷ []
 
-      behind : (k : ℕ) → In k (old ∷ []) → Same late now (k + links_end (size_at late k)) (k + size_at late k)
-      behind k i = subst (λ (x : ℕ). Same late now (x + links_end (size_at late x)) (x + size_at late x)) (sym (the_one old k i)) (behind_one late_shape gives late_old.inside old late_old.inside place_not_old)
+      behind : Same late now (old + links_end (size_at late old)) (old + size_at late old)
+      behind = behind_one late_shape gives late_old.inside old late_old.inside place_not_old
 
       joins : nat_le 28 (size_at late old) ≡ true
       joins = le-leb 28 (size_at late old) (let l = late_old.long in omega arith)
@@ -683,16 +670,16 @@ module _ (b dims : List ℕ) (good : Good b) (empty : is_empty_set (content b) �
 
       old_field : (f : Field) → 28 ≤ f.place → f.place + f.width ≤ 84 → number now old f ≡ number late old f
       old_field f low high =
-          let b28 : Same late now (old + 28) (old + size_at late old) = subst (λ (p : Bool). Same late now (old + (if p then 28 else 12)) (old + size_at late old)) joins (behind old (inl refl)) in
+          let b28 : Same late now (old + 28) (old + size_at late old) = subst (λ (p : Bool). Same late now (old + (if p then 28 else 12)) (old + size_at late old)) joins behind in
           word_kept late now (old + 28) (old + size_at late old) b28 (old + f.place) f.width (omega arith) (let l = late_old.long in omega arith)
 
       old_head : number now old gdr_uir_head ≡ next_of now old
       old_head =
           let chain = subst (IsChain now records uir_type (number now place gdr_uir_head)) now_list h.unused_chain in
-          old_field gdr_uir_head (omega arith) (omega arith) ∙ same_link late now _ _ list (list_chain sound fills later as_long lately).leads chain.leads.1
+          old_field gdr_uir_head (omega arith) (omega arith) ∙ ap (λ (g : ℕ). number late g gdr_uir_head) (sym at) ∙ same_link late now _ _ list (list_chain sound fills later as_long lately).leads chain.leads.1
 
       old_eof : number now old gdr_eof ≡ length now
-      old_eof = old_field gdr_eof (omega arith) (omega arith) ∙ end_now sound fills later as_long lately ∙ sym gives.length_is
+      old_eof = old_field gdr_eof (omega arith) (omega arith) ∙ ap (eof late) (sym at) ∙ end_now sound fills later as_long lately ∙ sym gives.length_is
 
       -- ---- the whole
 
@@ -703,30 +690,25 @@ module _ (b dims : List ℕ) (good : Good b) (empty : is_empty_set (content b) �
         cdr_version_stays = refl;
         cdr_within = refl;
         sound = now_sound;
-        content_now = free.2 ∙ heads_content copied_shape fine new m.heads late_shape (ap (λ (n : ℕ). majority_of (has_bit n 0)) bits_are ∙ bit_0 (flags b) majority) (ap (λ (n : ℕ). has_bit n 2) bits_are ∙ (bits_stay (flags b) majority).1 ∙ sym (ap (λ (n : ℕ). has_bit n 2) (copied_cdr cdr_flags refl (omega arith))))
+        content_now = is_given.2 ∙ heads_content copied_shape fine new m.heads late_shape (ap (λ (n : ℕ). majority_of (has_bit n 0)) bits_are ∙ bit_0 (flags b) majority) (ap (λ (n : ℕ). has_bit n 2) bits_are ∙ (bits_stay (flags b) majority).1 ∙ sym (ap (λ (n : ℕ). has_bit n 2) (copied_cdr cdr_flags refl (omega arith))))
             ∙ ap (λ (d : DataSet). set_up d code majority dims) (filled_content sound fills);
         flags_now = still_says given (stands_fixed late_shape cdr_type 8 late_shape.cdr_stands) refl cdr_flags refl (omega arith) ∙ (heads_say copied_shape fine new m.heads).flags_are;
         count_now = place_now gdr_r_num_dims refl (omega arith) ∙ (heads_say copied_shape fine new m.heads).count_is;
         stays = λ f copied.
             let p = copied_parts f copied in
             place_now f p.2 (leb-true (f.place + f.width) 84 (both (nat_le 60 f.place || nat_le (f.place + f.width) 56) (nat_le (f.place + f.width) 84) p.0).1) ∙ new_says f copied;
-        end = place_now gdr_eof refl (omega arith) ∙ gdr_still copied_shape fine new m.heads gdr_eof refl ∙ copied_field gdr_eof (omega arith) (omega arith) ∙ takes.eof_is ∙ sym (gives.length_is ∙ as_long ∙ fills.long);
+        end = place_now gdr_eof refl (omega arith) ∙ gdr_still copied_shape fine new m.heads gdr_eof refl ∙ copied_field gdr_eof (omega arith) (omega arith) ∙ ap (eof m.taken) (sym at) ∙ is_taken.0.eof_is ∙ sym (gives.length_is ∙ as_long ∙ fills.long);
         longest = let l = shorter sound fills later as_long lately in let a = gives.length_is in omega arith;
         as_owned = λ k out. as_many old place k (λ q. out (inr (inl q))) (λ q. out (inl q));
-        sorted = λ k i. elim i [
-          | inl q ↦ subst (IsSorted now own_now) (sym q) (inl ((λ u. apart gdr_type uir_type refl (sym (gdr_typed now own_now h) ∙ u)), gdr_once place place_not_8))
-          | inr last ↦ subst (IsSorted now own_now) (sym (the_one old k last)) (inr (freed_type, others_none place old old_not_8 place_not_old))
-        ];
-        read = λ k i. elim i [
-          | inl q ↦ ap (λ (x : ℕ). is_in (type_at now x) read_types) q ∙ ap (λ (t : ℕ). is_in t read_types) (gdr_typed now own_now h)
-          | inr last ↦ ap (λ (x : ℕ). is_in (type_at now x) read_types) (the_one old k last) ∙ ap (λ (t : ℕ). is_in t read_types) freed_type
+        anew = λ k i. elim i [
+          | inl q ↦ subst (λ (x : ℕ). IsSorted now own_now x × (is_in (type_at now x) read_types ≡ true)) (sym q) (inl ((λ u. apart gdr_type uir_type refl (sym (gdr_typed now own_now h) ∙ u)), gdr_once place place_not_8), ap (λ (t : ℕ). is_in t read_types) (gdr_typed now own_now h))
+          | inr last ↦ subst (λ (x : ℕ). IsSorted now own_now x × (is_in (type_at now x) read_types ≡ true)) (sym (the_one old k last)) (inr (freed_type, others_none place old old_not_8 place_not_old), ap (λ (t : ℕ). is_in t read_types) freed_type)
         ];
         takes_within = omega arith;
         acts_follow =
             let took = acts_took sound fills later as_long lately late_records (ap (λ (x : Shape). x.unused) late_is) in
-            let used : type_at late (gdr_offset b) ≢ uir_type = λ u. apart gdr_type uir_type refl (sym (ap (type_at late) at ∙ late_old.typed) ∙ u) in
-            subst (λ (k : ℕ). ActsFollow b now (Took place need ∷ Gave old k ∷ [])) old_stays.size_is (subst (λ (g : ℕ). ActsFollow b now (Took place need ∷ Gave g (size_at late g) ∷ [])) at
-            (acts_gave sound.has_shape took late_sound (old_stands (gdr_offset b) refl) used free.0));
+            subst (λ (k : ℕ). ActsFollow b now (Took place need ∷ Gave old k ∷ [])) old_stays.size_is
+            (acts_gave sound.has_shape took late_sound (old_stands old refl) (λ u. apart gdr_type uir_type refl (sym late_old.typed ∙ u)) free.0);
         unused_stay =
             let links = uir_next_uir ∷ uir_prev_uir ∷ [] in
             keep_unused sound all gives.records_stay setup_changes acts
@@ -736,17 +718,17 @@ module _ (b dims : List ℕ) (good : Good b) (empty : is_empty_set (content b) �
             (λ k i out.
             let off = λ (j : In k list). out (listed_before sound fills later as_long lately k i j) in
             Away-append make_marks given_marks uir_type k (loose_away sound fills later as_long lately k i out) ((λ q lies. apart uir_type gdr_type refl q), ((λ q lies. off lies), ((λ q lies. apart uir_type gdr_type refl q), tt))));
-        acts_are = rw (lt-leb need (size_at b (gdr_offset b)) large) (λ i. Took (sym h.gdr_is i) need ∷ Gave (sym at i) (size_at b (sym at i)) ∷ []);
+        acts_are = rw (lt-leb need (size_at b (gdr_offset b)) large) (λ i. Took (sym h.gdr_is i) need ∷ Gave old (size_at b old) ∷ []);
         room = λ le. absurd (omega (arith, large, le));
         freed =
             let sizes = sizes_by_tiles late now 8 8 (length late) records refl late_shape.tiled (subst (λ (x : ℕ). AreTiles now 8 x records) gives.length_is given.tiled_now) in
-            let stand = λ (k : ℕ) (i : In k (old ∷ [])). subst (λ (x : ℕ). In x records) (sym (the_one old k i)) late_old.inside in
-            let late_stay = freed_stay late now acts (old ∷ []) (λ type. space_fields) (subst (AreTiles now 8 (length now)) (sym gives.records_stay) h.tiled) (λ k i. subst (In k) (sym gives.records_stay) (stand k i)) (λ k i. sizes k (stand k i)) behind in (
-              each (FreedStays b now acts old (size_at b old) space_fields) (unused_records now (shape now)) (λ uir j i lt low high out untaken.
-                  each_in (FreedStays late now acts old (size_at late old) space_fields) (unused_records now (shape now)) uir late_stay.0 j i (let e = old_stays.size_is in omega arith) low high out untaken ∙ old_stays.same i lt out),
-              tt,
-            );
-        emptied = λ apart_from. (inr (subst (λ (g : ℕ). number now g gdr_uir_head ≡ next_of now g) (sym at) old_head), (inr (subst (λ (g : ℕ). number now g gdr_eof ≡ length now) (sym at) old_eof), tt));
+            let size = sizes old late_old.inside ∙ old_stays.size_is in
+            freed_stay_but b now acts (old ∷ []) (λ type. space_fields) (subst (AreTiles now 8 (length now)) (sym gives.records_stay) h.tiled)
+            (λ k i. subst (λ (x : ℕ). In x (shape now).records) (sym (the_one old k i)) (subst (In old) (sym gives.records_stay) late_old.inside))
+            (λ k i. subst (λ (x : ℕ). size_at now x ≡ size_at b x) (sym (the_one old k i)) size)
+            (λ k i. subst (λ (x : ℕ). BytesStay b now x (links_end (size_at b x)) space_fields) (sym (the_one old k i)) (λ n lt low out.
+            behind.each (old + n) (subst (λ (w : ℕ). old + links_end w ≤ old + n) (sym old_stays.size_is) (omega arith)) (let e = old_stays.size_is in omega arith) ∙ old_stays.same n lt out));
+        emptied = λ apart_from. (inr old_head, (inr old_eof, tt));
       }
 
       pub moves_follows : length b + need ≤ image_limit → Follows b (commands.Setup code majority dims) now
