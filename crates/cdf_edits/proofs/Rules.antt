@@ -1,5 +1,4 @@
 pub mod FirstHead
-pub mod FirstRules
 pub mod OfAttributes
 pub mod OfIndexes
 pub mod OfVariables

@@ -1,6 +1,6 @@
 -- What the command `setup` is answered, which dimensions it takes, and what its calls ask for.
 use Rattle.std.proofs.Common.{◌≡◌, ℕ, ◌+◌, ◌*◌, ◌^◌, ◌<◌, ◌≤◌, List, [], ◌∷◌, length, Bool, Option, Some, None, true, false, not, refl, sym, ap, subst, ◌∙◌, arith}
-use Rattle.cdf_vars.proofs.Common.{of_z-to_z, w32, cast_unsigned, list_all, list_any, ◌==◌, ◌&&◌, ◌||◌, is_some, nat_lt, Outcome, Done, Refused, NumberOutOfRange, BadShape, TooLarge, Plain, Command, Setup, Majority, Go, DataSet, encoding_at, ByStep, step, are_bad_sizes, is_empty_set, Answers, Follows, Takes, refused, gone, content, is_positive, word, size_at, gdr_offset, uir_type, Each, shape, IsSound, Good, is_a-in, good_by_its_shape, good_is_sound, tile_lies, gdr_in, Cdr, AreBytes, word_fits}
+use Rattle.cdf_vars.proofs.Common.{or_parts, of_z-to_z, w32, cast_unsigned, list_all, list_any, ◌==◌, ◌&&◌, ◌||◌, is_some, nat_lt, Outcome, Done, Refused, NumberOutOfRange, BadShape, TooLarge, Plain, Command, Setup, Majority, Go, DataSet, encoding_at, ByStep, step, are_bad_sizes, is_empty_set, Answers, Follows, Takes, refused, gone, content, is_positive, word, size_at, gdr_offset, uir_type, Each, shape, IsSound, Good, is_a-in, good_by_its_shape, good_is_sound, tile_lies, gdr_in, Cdr, AreBytes, word_fits}
 use Rattle.std.proofs.Math.Path.{transport}
 use Rattle.std.specs.Option.{is_none}
 use Rattle.cdf_model.specs.declared.answer.Reason.TheVariants.{InUse}
@@ -18,7 +18,7 @@ none_or_some None p e = ap not e
 none_or_some (Some a) p e = ap not e
 
 -- what setup makes of a data set
-abbrev set_up : DataSet → ℕ → Majority → List ℕ → DataSet
+abbrev pub set_up : DataSet → ℕ → Majority → List ℕ → DataSet
 set_up d code majority dims = record d { encoding = code; majority = majority; rdims = dims }
 
 pub step_goes : (d made : DataSet) (code : ℕ) (majority : Majority) (dims : List ℕ) → is_some (encoding_at code) ≡ true → are_bad_sizes dims ≡ false → is_empty_set d ≡ true → made ≡ set_up d code majority dims → step d (Setup code majority dims) ≡ ByStep (Go made Plain)
@@ -61,17 +61,13 @@ module _ (limit : ℕ) (b mid : List ℕ) (code : ℕ) (majority : Majority) (di
 
 -- ---- the sizes of dimensions
 
-split_or : (p q : Bool) → (p || q) ≡ false → (p ≡ false) × (q ≡ false)
-split_or false q e = (refl, e)
-split_or true q e = absurd cc
-
 abbrev is_bad_size : ℕ → Bool
 is_bad_size size = (size == 0) || nat_lt 2147483647 size
 
 fine_sizes : (dims : List ℕ) → list_any is_bad_size dims ≡ false → Each (λ n. n < 256 ^ 4) dims × (list_all is_positive dims ≡ true)
 fine_sizes [] e = (tt, refl)
 fine_sizes (n ∷ more) e =
-    let p = split_or (is_bad_size n) (list_any is_bad_size more) e in
+    let p = or_parts (is_bad_size n) (list_any is_bad_size more) e in
     let small : n ≤ 2147483647 = grind (arith, p.0) in
     let positive : is_positive n ≡ true = grind (arith, p.0) in
     let rest = fine_sizes more p.1 in
@@ -79,7 +75,7 @@ fine_sizes (n ∷ more) e =
 
 module _ (dims : List ℕ) (fine : are_bad_sizes dims ≡ false) where
   parts : (nat_lt 10 (length dims) ≡ false) × (list_any is_bad_size dims ≡ false)
-  parts = split_or (nat_lt 10 (length dims)) (list_any is_bad_size dims) fine
+  parts = or_parts (nat_lt 10 (length dims)) (list_any is_bad_size dims) fine
 
   pub few_dims : length dims ≤ 10
   few_dims = let p = parts.0 in grind (arith, p)

@@ -1,37 +1,42 @@
 -- `setup` follows its command: the dimensions of a GDR and the CDR are written, what the image has by then, whatever became of the GDR, and the two ways, in its place and moved.
 use Rattle.std.proofs.Common.{◌≡◌, ◌≢◌, ◌⊎◌, ℕ, ◌+◌, ◌-◌, ◌*◌, ◌/◌, ◌%◌, ◌<◌, ◌≤◌, List, [], ◌∷◌, ◌++◌, length, map, sum, drop, Bool, true, false, not, ◌||◌, refl, sym, ap, subst, ◌∙◌, arith, inl, inr, ◌^◌}
-use Rattle.cdf_vars.proofs.Common.{le-leb, length-take, length-drop, w32, cast_signed, list_all, ◌==◌, ◌&&◌, is_some, nat_le, if◌then◌else◌, ◌||◌, put, Majority, Row, Column, DataSet, encoding_at, image_limit, are_bad_sizes, is_empty_set, AllKeep, Edit, Mark, avoided, within, is_late, making_marks, Follows, Changed, touched_field, Act, Took, Gave, Takes, Fills, keep_attributes, acts_took, end_now, filled_size, filled_sound, list_chain, made_edit, place_in, shorter, the_one, unmarked-away, keep_file, keeps_fields, gdr_in, gdr_long, gdr_typed, apart, length-words, words_laid_out, Same, byte, IsChain, Leads, next_of, content, counted, has_bit, is_positive, number, word, words, size_at, type_at, gdr_offset, r_num_dims, r_sizes, with_field, owned_records, times, Field, cdr_encoding, cdr_flags, gdr_r_max_rec, gdr_r_num_dims, record_type, cdr_type, gdr_type, uir_type, fixed_size, is_record_type, Shape, HasShape, shape, IsSound, In, Good, of_4_bytes, length-put, word_kept, words_kept, is_a-in, is_a-type, good_by_its_shape, good_eof, good_is_sound, rules_of_good, good_long, sealed_kept, content_is, shape_is, tile_lies, WritesHeads, small_signed, drop-put_there}
+use Rattle.cdf_vars.proofs.Common.{gdr_fits, IsGoodByShape, is_in, le-leb, length-take, length-drop, w32, cast_signed, list_all, ◌==◌, ◌&&◌, is_some, nat_le, if◌then◌else◌, ◌||◌, put, Majority, Row, Column, DataSet, encoding_at, image_limit, are_bad_sizes, is_empty_set, AllKeep, Edit, Mark, avoided, within, is_late, making_marks, Follows, Changed, touched_field, Act, Took, Gave, Takes, Fills, keep_attributes, acts_took, end_now, filled_size, filled_sound, list_chain, made_edit, place_in, shorter, the_one, unmarked-away, keep_file, keeps_fields, gdr_in, gdr_long, gdr_typed, apart, length-words, words_laid_out, Same, byte, IsChain, Leads, next_of, content, counted, has_bit, is_positive, number, word, words, size_at, type_at, gdr_offset, r_num_dims, r_sizes, with_field, owned_records, times, Field, cdr_encoding, cdr_flags, gdr_r_max_rec, gdr_r_num_dims, record_type, cdr_type, gdr_type, uir_type, fixed_size, is_record_type, Shape, HasShape, shape, IsSound, In, Good, of_4_bytes, length-put, word_kept, words_kept, is_a-in, is_a-type, good_by_its_shape, good_eof, good_is_sound, rules_of_good, good_long, sealed_kept, content_is, shape_is, tile_lies, WritesHeads, small_signed, drop-put_there}
 use Rattle.std.proofs.lemmas.Bool.{lt-leb, leb-true}
 use Rattle.cdf_model.specs.declared.answer.Reply.TheVariants as replies
 use Rattle.cdf_model.specs.declared.command.Command.TheVariants as commands
-use Rattle.cdf_edits.specs.Commands.Allowances.{FreedStays, Stays, space_fields}
-use Rattle.cdf_edits.specs.Commands.NewRecords.{with_bits}
-use Rattle.cdf_edits.specs.Commands.Setup.{SetsUp, majority_bit, setup_changes}
-use Rattle.cdf_edits.specs.Edits.Marks.{Avoids, Within, giving_marks, Among, mark, field_marks}
+use Rattle.cdf_edits.specs.Commands.Allowances.{FreedStay, FreedStays, Stays, StaysOrSays, space_fields}
+use Rattle.cdf_edits.specs.Commands.NewRecords.{with_bits, MovesForRoom, moved_for_room}
+use Rattle.cdf_edits.specs.Commands.Setup.{majority_bit, setup_changes, space_taken}
+use Rattle.cdf_edits.specs.Edits.Marks.{Avoids, Within, giving_marks, Among, Anywhere, mark, field_marks}
 use Rattle.cdf_edits.specs.Space.Acts.{ActsFollow, links_end, taken as taken_of}
 use Rattle.cdf_edits.specs.Space.Giving.{IsGiven}
+use Rattle.cdf_edits.specs.Space.Taking.{IsTaken}
 use Rattle.cdf_edits.specs.Space.Placement.{Gives, unused, with_space}
-use Rattle.cdf_edits.proofs.Edits.ActsThen.{acts_gave, each_in}
+use Rattle.cdf_edits.proofs.Edits.ActsThen.{acts_gave}
 use Rattle.cdf_edits.proofs.Edits.Composing.{edit_then, head_type, changed_edit}
 use Rattle.cdf_edits.proofs.Edits.EditActs.{acts_none}
-use Rattle.cdf_edits.proofs.Edits.EmptySet.{HasNone, has_none, NoCounts, AreAlone, empty_shape, empty_sound, empty_good, other_unowned, no_attribute, no_variable, is_empty, no_counts, good_is_alone}
-use Rattle.cdf_edits.proofs.Edits.FieldWritten.{Stands, field_in, still_stands, still_says, written_edit, written_long, written_reads}
-use Rattle.cdf_edits.proofs.Edits.FreedBytes.{behind_one, freed_stay}
+use Rattle.cdf_edits.proofs.Edits.EmptySet.{HasNone, has_none, times_with, as_many, no_more, gdr_once, others_none, empty_shape, empty_sound, no_attribute, no_variable, is_empty}
+use Rattle.cdf_edits.proofs.Edits.ChainOwners.{IsHeld}
+use Rattle.cdf_edits.proofs.Edits.FirstRecords.{read_now}
+use Rattle.cdf_edits.proofs.Edits.OwnedOnce.{IsSorted, none_in_use, owned_once_if}
+use Rattle.cdf_edits.proofs.Edits.FieldWritten.{Stands, stands_fixed, field_in, still_stands, still_says, written_edit, written_long, written_reads}
+use Rattle.cdf_edits.proofs.Edits.FreedBytes.{BytesStay, behind_one, freed_stay_but}
 use Rattle.cdf_edits.proofs.Edits.FreedRecords.{sizes_by_tiles}
-use Rattle.cdf_edits.proofs.Edits.MadeRecord.{filled_edit, fresh, listed_before, listed_marks, loose_away, second}
+use Rattle.cdf_edits.proofs.Edits.MadeRecord.{filled_content, filled_edit, fresh, listed_before, listed_marks, loose_away, second}
 use Rattle.cdf_edits.proofs.Edits.MarkLemmas.{Avoids-append, Away-append, Within-append, avoided-avoids, within-within}
 use Rattle.cdf_edits.proofs.Edits.OwnersKept.{all_keep, keep_unused, keeps_within}
-use Rattle.cdf_edits.proofs.Edits.RecordFrame.{field_clear, kept, part_clear, chain_clear}
+use Rattle.cdf_edits.proofs.Edits.RecordFrame.{field_avoids, part_clear, chain_clear}
 use Rattle.cdf_edits.proofs.Edits.RecordPlaced.{placing_marks}
-use Rattle.cdf_edits.proofs.Edits.StepEdits.{fixed_long, gives_edit, some_bytes}
+use Rattle.cdf_edits.proofs.Edits.StepEdits.{gives_edit, some_bytes, takes_edit}
 use Rattle.cdf_edits.proofs.Frame.ChangedBytes.{changed_put}
-use Rattle.cdf_edits.proofs.Rules.FirstHead.{FirstSays, cdr_said, first_hold}
+use Rattle.cdf_edits.proofs.Rules.FirstHead.{FirstSays, first_said, first_hold}
 use Rattle.cdf_edits.proofs.Space.ActsLeave.{each, places-sized}
 use Rattle.cdf_space.proofs.Filling.{word-put_inside}
 use Rattle.cdf_format.specs.Content.{content_of, majority_of}
 use Rattle.cdf_format.specs.Fields.{Holds, eof, flags, encoding}
 use Rattle.cdf_format.specs.Owners.{Unused, owned_by, unused_records}
-use Rattle.cdf_format.specs.Records.{cdr_gdr_offset, gdr_eof, gdr_leap_second_last_updated, gdr_num_attr, gdr_nr_vars, gdr_nz_vars, gdr_r_dim_sizes, gdr_rfu_c, gdr_rfu_e, gdr_uir_head, uir_next_uir, uir_prev_uir, gdr_adr_head, gdr_r_vdr_head, gdr_z_vdr_head}
+use Rattle.cdf_format.specs.Records.{cdr_increment, cdr_release, cdr_version, cdr_gdr_offset, gdr_eof, gdr_leap_second_last_updated, gdr_num_attr, gdr_nr_vars, gdr_nz_vars, gdr_r_dim_sizes, gdr_rfu_c, gdr_rfu_e, gdr_uir_head, uir_next_uir, uir_prev_uir, gdr_adr_head, gdr_r_vdr_head, gdr_z_vdr_head}
+use Rattle.cdf_format.specs.NotRead.{read_types}
 use Rattle.cdf_format.specs.Tiles.{AreTiles}
 use Rattle.cdf_format.proofs.BytesLemmas.{number_kept}
 use Rattle.cdf_format.proofs.ChainsLemmas.{is_a-from}
@@ -39,7 +44,7 @@ use Rattle.cdf_format.proofs.Pieces.{word-piece}
 use Rattle.cdf_format.proofs.SealedRules.{sealed_keeps}
 use Rattle.cdf_format.proofs.Tests.{both}
 use Rattle.cdf_vars.specs.Setup.{MakesGdr, gdr_fields}
-use Rattle.cdf_vars.proofs.SetUpAnswers.{few_dims, positive_dims, small_dims, step_goes, taken_lies}
+use Rattle.cdf_vars.proofs.SetUpAnswers.{few_dims, positive_dims, set_up, small_dims, step_goes, taken_lies}
 
 -- ---- the edit
 
@@ -94,7 +99,7 @@ module _ {x y records list : List ℕ} {old g code bits : ℕ} {dims : List ℕ}
   one = with_field x g gdr_r_num_dims n
 
   cdr : Stands x records 8 cdr_type 312
-  cdr = let i = is_a-in x records cdr_type 8 h.cdr_stands in let t = is_a-type x records cdr_type 8 h.cdr_stands in record { inside = i; typed = t; long = fixed_long x (empty_shape records old list) h cdr_type 8 i t }
+  cdr = stands_fixed h cdr_type 8 h.cdr_stands
 
   w1 : Wrote x one records g gdr_type (84 + 4 * n) gdr_r_num_dims n
   w1 = let few = few_dims dims fine in wrote h.tiled is refl (omega arith) (omega arith) (omega arith) refl
@@ -199,7 +204,26 @@ module _ {x y records list : List ℕ} {old g code bits : ℕ} {dims : List ℕ}
     have_variables = tt;
   }
 
--- ---- bit 0 of Flags
+  pub heads_content : {majority : Majority} → HasShape y (empty_shape records g list) → majority_of (has_bit bits 0) ≡ majority → has_bit bits 2 ≡ has_bit (flags x) 2 → content y ≡ set_up (content x) code majority dims
+  heads_content {majority = majority} shape major in_use =
+      let release = ap (cast_signed w32) (still_says heads_edit cdr refl cdr_release refl (omega arith)) in
+      let increment = ap (cast_signed w32) (still_says heads_edit cdr refl cdr_increment refl (omega arith)) in
+      let encoding_now = heads_say.encoding_is in
+      let major_now = ap (λ (n : ℕ). majority_of (has_bit n 0)) heads_say.flags_are ∙ major in
+      let md5_now = ap (λ (n : ℕ). has_bit n 2) heads_say.flags_are ∙ in_use in
+      let sizes = heads_say.sizes_are in
+      let before = empty_shape records old list in
+      let whole : content_of y (empty_shape records g list) ≡ set_up (content_of x before) code majority dims = λ i. record (content_of x before) {
+        release = release i;
+        increment = increment i;
+        encoding = encoding_now i;
+        majority = major_now i;
+        md5 = md5_now i;
+        rdims = sizes i;
+      } in
+      content_is y (empty_shape records g list) shape ∙ whole ∙ ap (λ (d : DataSet). set_up d code majority dims) (sym (content_is x before h))
+
+-- ---- bits of Flags
 
 abbrev pub majority_flags : ℕ → Majority → ℕ
 majority_flags n majority = with_bits n 0 1 (majority_bit majority)
@@ -208,31 +232,52 @@ bit_0 : (n : ℕ) (m : Majority) → majority_of (has_bit (majority_flags n m) 0
 bit_0 n Row = let same : (n % 1 + 1 * 1 + 2 * (n / 2)) / 1 % 2 ≡ 1 = omega arith in ap (λ (k : ℕ). majority_of (k == 1)) same
 bit_0 n Column = let same : (n % 1 + 1 * 0 + 2 * (n / 2)) / 1 % 2 ≡ 0 = omega arith in ap (λ (k : ℕ). majority_of (k == 1)) same
 
-half : (n : ℕ) (m : Majority) → majority_flags n m / 2 ≡ n / 2
-half n Row = omega arith
-half n Column = omega arith
+bits_stay : (n : ℕ) (m : Majority) → (has_bit (majority_flags n m) 1 ≡ has_bit n 1) × (has_bit (majority_flags n m) 2 ≡ has_bit n 2) × (has_bit (majority_flags n m) 3 ≡ has_bit n 3)
+bits_stay n m =
+    let first : majority_flags n m / 2 % 2 ≡ n / 2 % 2 = omega (arith, half n m) in
+    let second : majority_flags n m / 4 % 2 ≡ n / 4 % 2 = omega (arith, half n m) in
+    let third : majority_flags n m / 8 % 2 ≡ n / 8 % 2 = omega (arith, half n m) in
+    (ap (λ (k : ℕ). k == 1) first, ap (λ (k : ℕ). k == 1) second, ap (λ (k : ℕ). k == 1) third)
+  where
+    half : (n : ℕ) (m : Majority) → majority_flags n m / 2 ≡ n / 2
+    half n Row = omega arith
+    half n Column = omega arith
 
 -- ---- what `setup` leaves, whatever became of the GDR
+
+-- fields of a GDR that stay: not those of the dimensions, and not those of the space
+abbrev pub is_copied : Field → Bool
+is_copied f = is_beside f.place (f.place + f.width) && ((nat_le 44 f.place || nat_le (f.place + f.width) 36) && ((nat_le 72 f.place || nat_le (f.place + f.width) 64) && nat_le 12 f.place))
+
+copied_parts : (f : Field) → is_copied f ≡ true → (is_beside f.place (f.place + f.width) ≡ true) × ((nat_le 44 f.place || nat_le (f.place + f.width) 36) ≡ true) × ((nat_le 72 f.place || nat_le (f.place + f.width) 64) ≡ true) × (nat_le 12 f.place ≡ true)
+copied_parts f e =
+    let p = both (is_beside f.place (f.place + f.width)) ((nat_le 44 f.place || nat_le (f.place + f.width) 36) && ((nat_le 72 f.place || nat_le (f.place + f.width) 64) && nat_le 12 f.place)) e in
+    let q = both (nat_le 44 f.place || nat_le (f.place + f.width) 36) ((nat_le 72 f.place || nat_le (f.place + f.width) 64) && nat_le 12 f.place) p.1 in
+    let r = both (nat_le 72 f.place || nat_le (f.place + f.width) 64) (nat_le 12 f.place) q.1 in
+    (p.0, q.0, r.0, r.1)
 
 -- The CDR and the GDR say what they have to, no other record is in use, and the unused ones and the space are as these acts leave them.
 record IsSetUp (b now records list : List ℕ) (gdr code bits : ℕ) (majority : Majority) (dims : List ℕ) (marks : List Mark) (reborn : List ℕ) (acts : List Act) : Type 0 where
   edit : Edit b now (shape b).records records marks reborn
   cdr_start : avoided marks cdr_type 0 12 ≡ true
-  cdr_release : avoided marks cdr_type 20 28 ≡ true
-  cdr_increment : avoided marks cdr_type 44 48 ≡ true
+  cdr_version_stays : avoided marks cdr_type 20 24 ≡ true
   cdr_within : within marks cdr_type (cdr_encoding ∷ cdr_flags ∷ cdr_gdr_offset ∷ []) ≡ true
-  has_shape : HasShape now (empty_shape records gdr list)
-  records_are : (shape now).records ≡ records
-  says : HeadsSay now gdr code bits dims
-  fits : Holds now gdr (gdr_r_dim_sizes (r_num_dims now gdr))
-  none : NoCounts now gdr
+  sound : IsSound now (empty_shape records gdr list)
+  content_now : content now ≡ set_up (content b) code majority dims
+  flags_now : flags now ≡ bits
+  count_now : number now gdr gdr_r_num_dims ≡ length dims
+  stays : (f : Field) → is_copied f ≡ true → number now gdr f ≡ number b (gdr_offset b) f
   end : eof now gdr ≡ length now
   longest : length now ≤ length b + (84 + 4 * length dims)
-  alone : (m : ℕ) → type_at now m ≢ uir_type → (m ≡ (shape b).gdr) ⊎ In m reborn → m ≡ gdr
+  as_owned : (m : ℕ) → (In m reborn → ⊥) → times_with gdr m ≡ times_with (gdr_offset b) m
+  anew : (m : ℕ) → In m reborn → IsSorted now (empty_shape records gdr list) m × (is_in (type_at now m) read_types ≡ true)
   takes_within : sum (map (λ take. take.1) (taken_of acts)) ≤ 84 + 4 * length dims
   acts_follow : ActsFollow b now acts
   unused_stay : AllKeep b now setup_changes acts (owned_by Unused (unused_records b (shape b)))
-  does : SetsUp b now majority dims acts
+  acts_are : acts ≡ moved_for_room b (gdr_offset b) (gdr_offset now) (84 + 4 * length dims)
+  room : MovesForRoom b now (gdr_offset b) (gdr_offset now) (84 + 4 * length dims)
+  freed : FreedStay b now (λ type. space_fields) acts
+  emptied : gdr_offset now ≢ gdr_offset b → StaysOrSays b now (gdr_offset b) (space_taken now (gdr_offset b))
 
 -- links that lead through the same list are the same
 same_link : (b now : List ℕ) (x y : ℕ) (ms : List ℕ) → Leads b x ms 0 → Leads now y ms 0 → x ≡ y
@@ -244,7 +289,7 @@ module _ (b dims : List ℕ) (good : Good b) (empty : is_empty_set (content b) �
   s = shape b
 
   abbrev old : ℕ
-  old = (shape b).gdr
+  old = gdr_offset b
 
   abbrev need : ℕ
   need = 84 + 4 * length dims
@@ -255,134 +300,117 @@ module _ (b dims : List ℕ) (good : Good b) (empty : is_empty_set (content b) �
   has : HasNone s
   has = has_none b good empty
 
-  at : gdr_offset b ≡ old
-  at = sound.has_shape.gdr_is
+  abbrev before : Shape
+  before = empty_shape (shape b).records (gdr_offset b) (shape b).unused
 
-  bare : HasShape b (empty_shape s.records old s.unused)
-  bare = subst (HasShape b) (is_empty b good has) sound.has_shape
+  at : (shape b).gdr ≡ old
+  at = sym sound.has_shape.gdr_is
 
-  cdr_in : In 8 s.records
-  cdr_in = is_a-in b s.records cdr_type 8 sound.has_shape.cdr_stands
+  before_is : s ≡ before
+  before_is = is_empty s has ∙ ap (λ (g : ℕ). empty_shape s.records g s.unused) at
 
-  cdr_typed : type_at b 8 ≡ cdr_type
-  cdr_typed = is_a-type b s.records cdr_type 8 sound.has_shape.cdr_stands
+  image : IsGoodByShape b before
+  image = subst (IsGoodByShape b) before_is (good_by_its_shape b good)
 
-  old_in : In old s.records
-  old_in = gdr_in b s sound.has_shape
+  bare : IsSound b before
+  bare = subst (IsSound b) before_is sound
 
-  old_typed : type_at b old ≡ gdr_type
-  old_typed = gdr_typed b s sound.has_shape
+  cdr_before : Stands b s.records 8 cdr_type 312
+  cdr_before = stands_fixed sound.has_shape cdr_type 8 sound.has_shape.cdr_stands
 
-  old_long : 84 ≤ size_at b old
-  old_long = gdr_long b s sound.has_shape
-
-  was_none : NoCounts b old
-  was_none = no_counts b good has
+  gdr_before : Stands b s.records old gdr_type 84
+  gdr_before = stands_fixed bare.has_shape gdr_type old bare.has_shape.gdr_stands
 
   module _ {now records list : List ℕ} {gdr code bits : ℕ} {majority : Majority} {marks : List Mark} {reborn : List ℕ} {acts : List Act} (read : is_some (encoding_at code) ≡ true) (bits_are : bits ≡ majority_flags (flags b) majority) (is : IsSetUp b now records list gdr code bits majority dims marks reborn acts) where
     abbrev own : Shape
     own = empty_shape records gdr list
 
-    cdr_part : (lo hi : ℕ) → avoided marks cdr_type lo hi ≡ true → hi ≤ 312 → Same b now (8 + lo) (8 + hi)
-    cdr_part lo hi clear fits = part_clear is.edit 8 cdr_type lo hi cdr_in cdr_typed is.cdr_start clear (let l = fixed_long b s sound.has_shape cdr_type 8 cdr_in cdr_typed in omega arith)
-
-    release : Same b now (8 + 20) (8 + 28)
-    release = cdr_part 20 28 is.cdr_release (omega arith)
-
-    -- what is above bit 0
-    flag_stays : (k : ℕ) → majority_flags (flags b) majority / 2 ^ k % 2 ≡ flags b / 2 ^ k % 2 → has_bit (flags now) k ≡ has_bit (flags b) k
-    flag_stays k same = ap (λ (n : ℕ). has_bit n k) (is.says.flags_are ∙ bits_are) ∙ ap (λ (n : ℕ). n == 1) same
-
-    content_now : content now ≡ record (content b) { encoding = code; majority = majority; rdims = dims }
-    content_now =
-        let increment = ap (cast_signed w32) (word_kept b now (8 + 44) (8 + 48) (cdr_part 44 48 is.cdr_increment (omega arith)) 52 4 (omega arith) (omega arith)) in
-        let released = ap (cast_signed w32) (word_kept b now (8 + 20) (8 + 28) release 32 4 (omega arith) (omega arith)) in
-        let encoding_now = is.says.encoding_is in
-        let major : majority_of (has_bit (flags now) 0) ≡ majority = ap (λ (n : ℕ). majority_of (has_bit n 0)) (is.says.flags_are ∙ bits_are) ∙ bit_0 (flags b) majority in
-        let in_use = flag_stays 2 (omega (arith, half (flags b) majority)) in
-        let sizes = is.says.sizes_are in
-        let before = empty_shape s.records s.gdr s.unused in
-        let whole : content_of now own ≡ record (content_of b before) { encoding = code; majority = majority; rdims = dims } = λ i. record (content_of b before) {
-          release = released i;
-          increment = increment i;
-          encoding = encoding_now i;
-          majority = major i;
-          md5 = in_use i;
-          rdims = sizes i;
-        } in
-        content_is now own is.has_shape ∙ whole ∙ ap (λ (d : DataSet). record d { encoding = code; majority = majority; rdims = dims }) (sym (content_is b s sound.has_shape ∙ ap (content_of b) (is_empty b good has)))
+    moved : (f : Field) → is_copied f ≡ true → number now (gdr_offset now) f ≡ number b (gdr_offset b) f
+    moved f copied = ap (λ (g : ℕ). number now g f) is.sound.has_shape.gdr_is ∙ is.stays f copied
 
     says : FirstSays now gdr
     says =
-        let image = good_by_its_shape b good in
-        let was = cdr_said b s sound.has_shape (sealed_kept b (good_long b s image) (rules_of_good b good)).0 in
-        let in_use = flag_stays 2 (omega (arith, half (flags b) majority)) in
-        let is_md5 = flag_stays 3 (omega (arith, half (flags b) majority)) in
+        let was = first_said b s sound.has_shape sound.gdr_fits (sealed_kept b (good_long b s (good_by_its_shape b good)) (rules_of_good b good)).0 in
+        let bits_now = is.flags_now ∙ bits_are in
+        let bits = bits_stay (flags b) majority in
+        let in_use = ap (λ (n : ℕ). has_bit n 2) bits_now ∙ bits.1 in
+        let is_md5 = ap (λ (n : ℕ). has_bit n 3) bits_now ∙ bits.2 in
         let test : (not (has_bit (flags now) 2) || has_bit (flags now) 3) ≡ (not (has_bit (flags b) 2) || has_bit (flags b) 3) = λ i. not (in_use i) || is_md5 i in
+        let own_content : content_of now own ≡ set_up (content b) code majority dims = sym (content_is now own is.sound.has_shape) ∙ is.content_now in
         record {
           first_magic = word_kept b now 0 8 is.edit.front 0 4 (omega arith) (omega arith) ∙ was.first_magic;
           second_magic = word_kept b now 0 8 is.edit.front 4 4 (omega arith) (omega arith) ∙ was.second_magic;
-          version_is = word_kept b now (8 + 20) (8 + 28) release 28 4 (omega arith) (omega arith) ∙ was.version_is;
-          encoding_read = ap (λ (n : ℕ). is_some (encoding_at n)) is.says.encoding_is ∙ read;
-          single_file = flag_stays 1 (omega (arith, half (flags b) majority)) ∙ was.single_file;
+          version_is = still_says is.edit cdr_before is.cdr_start cdr_version is.cdr_version_stays (omega arith) ∙ was.version_is;
+          encoding_read = ap (λ (d : DataSet). is_some (encoding_at d.encoding)) own_content ∙ read;
+          single_file = ap (λ (n : ℕ). has_bit n 1) bits_now ∙ bits.0 ∙ was.single_file;
           md5_used = test ∙ was.md5_used;
-          few = subst (λ (n : ℕ). n ≤ 10) (sym is.says.count_is) (few_dims dims fine);
-          positive = ap (list_all is_positive) is.says.sizes_are ∙ positive_dims dims fine;
+          few = subst (λ (n : ℕ). n ≤ 10) (sym is.count_now) (few_dims dims fine);
+          positive = ap (λ (d : DataSet). list_all is_positive d.rdims) own_content ∙ positive_dims dims fine;
           eof_is = is.end;
         }
 
-    alone : AreAlone now records gdr
-    alone m i used = elim (is.edit.kind m i) [
-      | inl k ↦ elim (good_is_alone b good has m k.0 (λ u. used (k.1 ∙ u))) [ inl q ↦ inl q | inr q ↦ inr (is.alone m used (inl q)) ]
-      | inr k ↦ elim k [ inl free ↦ absurd (used free.1) | inr r ↦ inr (is.alone m used (inr r)) ]
-    ]
+    none_counted : (f : Field) → is_copied f ≡ true → (number b (gdr_offset b) f == 0) ≡ true → (number now (gdr_offset now) f == 0) ≡ true
+    none_counted f copied none = ap (λ (n : ℕ). n == 0) (moved f copied) ∙ none
+
+    good_now : IsGoodByShape now own
+    good_now = record {
+      has_shape = is.sound.has_shape;
+      read_types = read_now is.edit image.read_types (λ m i. (is.anew m i).1);
+      counting = (none_counted gdr_num_attr refl image.counting.0, (none_counted gdr_nr_vars refl image.counting.1.0, (none_counted gdr_nz_vars refl image.counting.1.1.0, tt)));
+      attributes = tt;
+      of_variables = tt;
+      indexes = tt;
+      owned_once = owned_once_if b now before own marks reborn bare image.owned_once is.edit is.as_owned (λ m i. (is.anew m i).0);
+    }
 
     setup_follows : length b + need ≤ image_limit → Follows b (commands.Setup code majority dims) now
     setup_follows room =
-        let cdr = keeps_fields sound is.edit is.records_are 8 cdr_type (cdr_encoding ∷ cdr_flags ∷ cdr_gdr_offset ∷ []) cdr_in cdr_typed is.cdr_start is.cdr_within in
+        let records_are = ap (λ (x : Shape). x.records) (shape_is now own is.sound.has_shape) in
+        let heads = keeps_fields sound is.edit records_are 8 cdr_type (cdr_encoding ∷ cdr_flags ∷ cdr_gdr_offset ∷ []) cdr_before.inside cdr_before.typed is.cdr_start is.cdr_within in
         record {
           reply = replies.Plain;
-          goes = step_goes (content b) (content now) code majority dims read fine empty content_now;
-          good = sealed_keeps now own (first_hold now own is.has_shape is.fits says (let l = is.longest in omega arith)) (empty_good is.has_shape is.none alone);
+          goes = step_goes (content b) (content now) code majority dims read fine empty is.content_now;
+          good = sealed_keeps now own (first_hold now own is.sound.has_shape is.sound.gdr_fits says (let l = is.longest in omega arith)) good_now;
           longer = is.edit.longer;
           within = is.longest;
           reads = λ q. absurd cc;
           acts = acts;
           takes_within = is.takes_within;
           acts_follow = is.acts_follow;
-          keeps = all_keep b now setup_changes acts (keep_file b now setup_changes acts sound cdr tt) (keep_attributes b now setup_changes acts 0 s.attributes (λ m i. absurd (no_attribute s has m i))) (λ m i. absurd (no_variable s has m i)) is.unused_stay;
-          does = is.does;
+          keeps = all_keep b now setup_changes acts (keep_file b now setup_changes acts sound heads tt) (keep_attributes b now setup_changes acts 0 s.attributes (λ m i. absurd (no_attribute s has m i))) (λ m i. absurd (no_variable s has m i)) is.unused_stay;
+          does = record {
+            acts_are = is.acts_are;
+            flags_are = is.flags_now ∙ bits_are;
+            fields_stay = (moved gdr_r_max_rec refl, (moved gdr_rfu_c refl, (moved gdr_leap_second_last_updated refl, (moved gdr_rfu_e refl, tt))));
+            room = is.room;
+            freed = is.freed;
+            emptied = is.emptied;
+          };
         }
 
   -- ---- the GDR has room for the dimensions, and stays in its place
 
   module _ {now : List ℕ} {place code bits : ℕ} (majority : Majority) (read : is_some (encoding_at code) ≡ true) (bits_are : bits ≡ majority_flags (flags b) majority) (place_is : place ≡ gdr_offset b) (fits : need ≤ size_at b (gdr_offset b)) (w : WritesHeads b now place code bits dims) where
     gdr : Stands b s.records old gdr_type need
-    gdr = record { inside = old_in; typed = old_typed; long = subst (λ (g : ℕ). need ≤ size_at b g) at fits }
+    gdr = record { inside = gdr_before.inside; typed = gdr_before.typed; long = fits }
 
     here : WritesHeads b now old code bits dims
-    here = subst (λ (g : ℕ). WritesHeads b now g code bits dims) (place_is ∙ at) w
+    here = subst (λ (g : ℕ). WritesHeads b now g code bits dims) place_is w
 
     abbrev in_place : List Mark
     in_place = heads_marks old (length dims)
 
     e : Edit b now s.records s.records in_place []
-    e = heads_edit bare fine gdr here
+    e = heads_edit bare.has_shape fine gdr here
 
     same_long : length now ≡ length b
-    same_long = heads_long bare fine gdr here
+    same_long = heads_long bare.has_shape fine gdr here
 
-    shape_now : HasShape now (empty_shape s.records old s.unused)
-    shape_now = heads_shape bare fine gdr here (λ f low high. refl)
+    shape_now : HasShape now before
+    shape_now = heads_shape bare.has_shape fine gdr here (λ f low high. refl)
 
-    same_shape : shape now ≡ empty_shape s.records old s.unused
-    same_shape = shape_is now (empty_shape s.records old s.unused) shape_now
-
-    still : (f : Field) → is_beside f.place (f.place + f.width) ≡ true → number now old f ≡ number b old f
-    still = gdr_still bare fine gdr here
-
-    stays : (f : Field) → is_beside f.place (f.place + f.width) ≡ true → number now (gdr_offset now) f ≡ number b (gdr_offset b) f
-    stays f beside = ap (λ (g : ℕ). number now g f) shape_now.gdr_is ∙ still f beside ∙ sym (ap (λ (g : ℕ). number b g f) at)
+    same_shape : shape now ≡ before
+    same_shape = shape_is now before shape_now
 
     behind_dims : Avoids in_place gdr_type old need (size_at b old)
     behind_dims =
@@ -393,33 +421,29 @@ module _ (b dims : List ℕ) (good : Good b) (empty : is_empty_set (content b) �
     kept_set = record {
       edit = e;
       cdr_start = refl;
-      cdr_release = refl;
-      cdr_increment = refl;
+      cdr_version_stays = refl;
       cdr_within = refl;
-      has_shape = shape_now;
-      records_are = ap (λ (x : Shape). x.records) same_shape;
-      says = heads_say bare fine gdr here;
-      fits = heads_fit bare fine gdr here;
-      none = record { no_attributes = still gdr_num_attr refl ∙ was_none.no_attributes; no_r_variables = still gdr_nr_vars refl ∙ was_none.no_r_variables; no_z_variables = still gdr_nz_vars refl ∙ was_none.no_z_variables };
-      end = still gdr_eof refl ∙ ap (eof b) (sym at) ∙ good_eof b good ∙ sym same_long;
+      sound = empty_sound b now before [] bare e shape_now (heads_fit bare.has_shape fine gdr here) (λ m out. omega arith) (λ m i. absurd i);
+      content_now = heads_content bare.has_shape fine gdr here shape_now (ap (λ (n : ℕ). majority_of (has_bit n 0)) bits_are ∙ bit_0 (flags b) majority) (ap (λ (n : ℕ). has_bit n 2) bits_are ∙ (bits_stay (flags b) majority).1);
+      flags_now = (heads_say bare.has_shape fine gdr here).flags_are;
+      count_now = (heads_say bare.has_shape fine gdr here).count_is;
+      stays = λ f copied. gdr_still bare.has_shape fine gdr here f (copied_parts f copied).0;
+      end = gdr_still bare.has_shape fine gdr here gdr_eof refl ∙ good_eof b good ∙ sym same_long;
       longest = omega (arith, same_long);
-      alone = λ m used r. elim r [ inl q ↦ q | inr none ↦ absurd none ];
+      as_owned = λ m out. refl;
+      anew = λ m i. absurd i;
       takes_within = omega arith;
       acts_follow = acts_none sound e refl refl (ap (λ (x : Shape). x.records) same_shape) (ap (λ (x : Shape). x.unused) same_shape) same_long;
       unused_stay =
           keep_unused sound e (ap (λ (x : Shape). x.records) same_shape) setup_changes [] (λ m i free. (avoided-avoids in_place uir_type m 0 12 refl, within-within in_place uir_type m (uir_next_uir ∷ uir_prev_uir ∷ []) refl)) (λ m i out. unmarked-away in_place uir_type m refl);
-      does = record {
-        acts_are = rw (le-leb need (size_at b (gdr_offset b)) fits) refl;
-        flags_are = (heads_say bare fine gdr here).flags_are ∙ bits_are;
-        fields_stay = (stays gdr_r_max_rec refl, (stays gdr_rfu_c refl, (stays gdr_leap_second_last_updated refl, (stays gdr_rfu_e refl, tt))));
-        room = λ le. record {
-          place_stays = shape_now.gdr_is ∙ sym at;
-          size_stays = ap (size_at now) at ∙ heads_sizes bare fine gdr here old old_in ∙ sym (ap (size_at b) at);
-          rest_stays = subst (λ (g : ℕ). Same b now (g + need) (g + size_at b g)) (sym at) (e.part old gdr_type need (size_at b old) old_in old_typed (avoided-avoids in_place gdr_type old 0 12 (heads_avoided old (length dims) 0 12 refl)) behind_dims (omega arith));
-        };
-        freed = tt;
-        emptied = λ moved. absurd (moved (shape_now.gdr_is ∙ sym at));
+      acts_are = rw (le-leb need (size_at b (gdr_offset b)) fits) refl;
+      room = λ le. record {
+        place_stays = shape_now.gdr_is;
+        size_stays = heads_sizes bare.has_shape fine gdr here old gdr_before.inside;
+        rest_stays = e.part old gdr_type need (size_at b old) gdr_before.inside gdr_before.typed (avoided-avoids in_place gdr_type old 0 12 (heads_avoided old (length dims) 0 12 refl)) behind_dims (omega arith);
       };
+      freed = tt;
+      emptied = λ moves. absurd (moves shape_now.gdr_is);
     }
 
     pub keeps_follows : length b + need ≤ image_limit → Follows b (commands.Setup code majority dims) now
@@ -437,49 +461,28 @@ module _ (b dims : List ℕ) (good : Good b) (empty : is_empty_set (content b) �
     abbrev grown : Shape
     grown = with_space (shape b) (shape m.taken).records (shape m.taken).unused
 
-    own_taken : shape m.taken ≡ grown
-    own_taken = m.is_taken.0.space.rest_stays
-
-    takes : Takes b m.taken s grown need place
-    takes = subst (λ (x : Shape). Takes b m.taken s x need place) own_taken m.is_taken.0
-
-    taken_sound : IsSound m.taken grown
-    taken_sound = subst (IsSound m.taken) own_taken m.is_taken.1
+    is_taken : IsTaken b m.taken s grown need place
+    is_taken = subst (λ (x : Shape). IsTaken b m.taken s x need place) m.is_taken.0.space.rest_stays m.is_taken
 
     place_ends : place + need ≤ length m.taken
     place_ends = taken_lies m.is_taken.0 m.is_taken.1
 
-    there : In old records
-    there = gdr_in m.taken grown taken_sound.has_shape
-
-    taken_typed : type_at m.taken old ≡ gdr_type
-    taken_typed = gdr_typed m.taken grown taken_sound.has_shape
-
-    taken_long : 84 ≤ size_at m.taken old
-    taken_long = gdr_long m.taken grown taken_sound.has_shape
+    taken_old : Stands m.taken records old gdr_type 84
+    taken_old = still_stands (takes_edit sound (omega arith) is_taken.0) gdr_before refl (omega arith)
 
     -- ---- the old one is copied
 
     abbrev piece : List ℕ
-    piece = gdr_fields m.taken (shape b).gdr
-
-    copy_is : m.copied ≡ put m.taken (place + 8) piece
-    copy_is = m.copy ∙ ap (λ (g : ℕ). put m.taken (place + 8) (gdr_fields m.taken g)) at
+    piece = gdr_fields m.taken old
 
     piece_long : length piece ≡ 76
-    piece_long =
-        let e = (tile_lies m.taken 8 (length m.taken) records old taken_sound.has_shape.tiled there).high in
-        let w = wide (length m.taken) old (size_at m.taken old) taken_long e in
-        simp (length-take, length-drop) (omega (arith, w))
-      where
-        wide : (x o k : ℕ) → 84 ≤ k → o + k ≤ x → 76 ≤ x - (o + 8)
-        wide x o k l e = omega arith
+    piece_long = let l = gdr_fits b good in let e = is_taken.0.changed.longer in simp (length-take, length-drop) (omega arith)
 
     copied_field : (f : Field) → 8 ≤ f.place → f.place + f.width ≤ 84 → number m.copied place f ≡ number m.taken old f
     copied_field f low high =
         let l = place_ends in
         let p = piece_long in
-        ap (λ (x : List ℕ). number x place f) copy_is
+        ap (λ (x : List ℕ). number x place f) m.copy
         ∙ ap (λ (p : ℕ). word (put m.taken (place + 8) piece) p f.width) (move place)
         ∙ word-put_inside m.taken piece (place + 8) (f.place - 8) f.width (omega arith) (omega arith)
         ∙ word-piece m.taken (old + 8) (f.place - 8) f.width 76 (omega arith)
@@ -491,15 +494,15 @@ module _ (b dims : List ℕ) (good : Good b) (empty : is_empty_set (content b) �
     fills : Fills b m.taken m.copied s records list need place gdr_type
     fills =
         let l = place_ends in
-        let long : length m.copied ≡ length m.taken = ap length copy_is ∙ length-put m.taken (place + 8) piece (let p = piece_long in omega arith) in
+        let long : length m.copied ≡ length m.taken = ap length m.copy ∙ length-put m.taken (place + 8) piece (let p = piece_long in omega arith) in
         let change = changed_put m.taken place 8 76 piece piece_long (omega arith) in
         record {
-          takes = takes;
-          sound = taken_sound;
-          content_stays = m.is_taken.2;
-          fill = record { longer = omega arith; same = λ i lt out. ap (λ (x : List ℕ). byte x i) copy_is ∙ change.same i lt (elim out.0 [ inl low ↦ inl low | inr high ↦ inr (beside i high) ], tt) };
+          takes = is_taken.0;
+          sound = is_taken.1;
+          content_stays = is_taken.2;
+          fill = record { longer = omega arith; same = λ i lt out. ap (λ (x : List ℕ). byte x i) m.copy ∙ change.same i lt (elim out.0 [ inl low ↦ inl low | inr high ↦ inr (beside i high) ], tt) };
           long = long;
-          typed = copied_field record_type (omega arith) (omega arith) ∙ taken_typed;
+          typed = copied_field record_type (omega arith) (omega arith) ∙ taken_old.typed;
           real = refl;
           in_use = apart gdr_type uir_type refl;
           fixed = omega arith;
@@ -510,11 +513,17 @@ module _ (b dims : List ℕ) (good : Good b) (empty : is_empty_set (content b) �
         beside i h = omega arith
 
     copied_shape : HasShape m.copied (empty_shape records old list)
-    copied_shape = subst (λ (x : Shape). HasShape m.copied (with_space x records list)) (is_empty b good has) (filled_sound sound fills).has_shape
+    copied_shape = subst (λ (x : Shape). HasShape m.copied (with_space x records list)) before_is (filled_sound sound fills).has_shape
 
     -- the old one stays whole while it is copied
-    copied_old : (f : Field) → f.place + f.width ≤ 84 → number m.copied old f ≡ number m.taken old f
-    copied_old f high = number_kept m.taken m.copied old (kept (second sound fills) old gdr_type there taken_typed refl).same f (let l = taken_long in omega arith)
+    copied_old : Stands m.copied records old gdr_type 84
+    copied_old = still_stands (second sound fills) taken_old refl (omega arith)
+
+    old_says : (f : Field) → f.place + f.width ≤ 84 → number m.copied old f ≡ number m.taken old f
+    old_says f high = still_says (second sound fills) taken_old refl f refl high
+
+    copied_cdr : (f : Field) → avoided (placing_marks (shape b).unused place need) cdr_type f.place (f.place + f.width) ≡ true → f.place + f.width ≤ 312 → number m.copied 8 f ≡ number b 8 f
+    copied_cdr f clear high = still_says (filled_edit sound fills) cdr_before refl f clear high
 
     -- ---- the dimensions and the CDR are written
 
@@ -540,7 +549,7 @@ module _ (b dims : List ℕ) (good : Good b) (empty : is_empty_set (content b) �
     made = made_edit sound fills later as_long lately
 
     late_shape : HasShape late (empty_shape records place list)
-    late_shape = heads_shape copied_shape fine new m.heads (λ f low high. copied_field f (omega arith) high ∙ sym (copied_old f high))
+    late_shape = heads_shape copied_shape fine new m.heads (λ f low high. copied_field f (omega arith) high ∙ sym (old_says f high))
 
     late_is : shape late ≡ empty_shape records place list
     late_is = shape_is late (empty_shape records place list) late_shape
@@ -548,22 +557,31 @@ module _ (b dims : List ℕ) (good : Good b) (empty : is_empty_set (content b) �
     late_records : (shape late).records ≡ records
     late_records = ap (λ (x : Shape). x.records) late_is
 
-    late_fits : Holds late place (gdr_r_dim_sizes (r_num_dims late place))
-    late_fits = heads_fit copied_shape fine new m.heads
-
     -- the new GDR is none of the records that were in use
+    fresh_place : (k type : ℕ) → Stands b s.records k type 84 → type ≢ uir_type → k ≢ place
+    fresh_place k type is used q = used (sym is.typed ∙ ap (type_at b) q ∙ fresh sound fills (subst (λ (x : ℕ). In x s.records) q is.inside))
+
     place_not_old : old ≢ place
-    place_not_old q = apart gdr_type uir_type refl (sym old_typed ∙ ap (type_at b) q ∙ fresh sound fills (subst (λ (x : ℕ). In x s.records) q old_in))
+    place_not_old = fresh_place old gdr_type gdr_before (λ u. apart gdr_type uir_type refl u)
+
+    place_not_8 : place ≢ 8
+    place_not_8 q = fresh_place 8 cdr_type (record { inside = cdr_before.inside; typed = cdr_before.typed; long = let l = cdr_before.long in omega arith }) (λ u. apart cdr_type uir_type refl u) (sym q)
+
+    old_not_8 : old ≢ 8
+    old_not_8 q = apart gdr_type cdr_type refl (sym gdr_before.typed ∙ ap (type_at b) q ∙ cdr_before.typed)
 
     -- what it has of the old one
-    new_says : (f : Field) → is_beside f.place (f.place + f.width) ≡ true → avoided (placing_marks (shape b).unused place need) gdr_type f.place (f.place + f.width) ≡ true → 8 ≤ f.place → f.place + f.width ≤ 84 → number late place f ≡ number b old f
-    new_says f beside clear low high =
-        gdr_still copied_shape fine new m.heads f beside ∙ copied_field f low high ∙ sym (copied_old f high) ∙ field_clear (filled_edit sound fills) old gdr_type f old_in old_typed refl clear (let l = old_long in omega arith)
+    new_says : (f : Field) → is_copied f ≡ true → number late place f ≡ number b old f
+    new_says f copied =
+        let p = copied_parts f copied in
+        let high = leb-true (f.place + f.width) 84 (both (nat_le 60 f.place || nat_le (f.place + f.width) 56) (nat_le (f.place + f.width) 84) p.0).1 in
+        let low = leb-true 12 f.place p.3 in
+        gdr_still copied_shape fine new m.heads f p.0 ∙ copied_field f (omega arith) high ∙ sym (old_says f high) ∙ still_says (filled_edit sound fills) gdr_before refl f (rw (p.1, p.2) refl) high
 
     -- ---- the old one
 
-    late_typed : type_at late old ≡ gdr_type
-    late_typed = head_type b late old (made.head old old_in (λ u. apart gdr_type uir_type refl (sym old_typed ∙ u)) (λ r. place_not_old (the_one place old r))) ∙ old_typed
+    late_old : Stands late records old gdr_type 84
+    late_old = still_stands later copied_old (heads_avoided place (length dims) 0 12 refl) (omega arith)
 
     -- it changed in its fields of the space alone
     old_stays : Stays b late old space_fields
@@ -571,21 +589,24 @@ module _ (b dims : List ℕ) (good : Good b) (empty : is_empty_set (content b) �
         let no = λ (lies : In old (place ∷ [])). place_not_old (the_one place old lies) in
         let other = λ (q : gdr_type ≡ cdr_type). apart gdr_type cdr_type refl q in
         let heads : Within late_marks gdr_type old space_fields = ((λ q lies. absurd (no lies)), ((λ q lies. absurd (no lies)), ((λ q lies. absurd (other q)), ((λ q lies. absurd (other q)), ((λ q lies. absurd (other q)), tt))))) in
-        keeps_within sound made late_records old gdr_type space_fields old_in old_typed (Avoids-append (placing_marks (shape b).unused place need) late_marks gdr_type old 0 12 (avoided-avoids (placing_marks (shape b).unused place need) gdr_type old 0 12 refl) (avoided-avoids late_marks gdr_type old 0 12 (heads_avoided place (length dims) 0 12 refl)))
+        keeps_within sound made late_records old gdr_type space_fields gdr_before.inside gdr_before.typed (Avoids-append (placing_marks (shape b).unused place need) late_marks gdr_type old 0 12 (avoided-avoids (placing_marks (shape b).unused place need) gdr_type old 0 12 refl) (avoided-avoids late_marks gdr_type old 0 12 (heads_avoided place (length dims) 0 12 refl)))
         (Within-append (placing_marks (shape b).unused place need) late_marks gdr_type old space_fields (within-within (placing_marks (shape b).unused place need) gdr_type old space_fields refl) heads)
 
     -- what a call asks for that frees it
+    late_bare : IsSound late (empty_shape records place list)
+    late_bare = empty_sound b late before (place ∷ []) bare made late_shape (heads_fit copied_shape fine new m.heads) (λ k out. no_more old place k (λ q. out (inl q)))
+        (λ k i. subst (IsHeld late (empty_shape records place list)) (sym (the_one place k i)) (inl ((λ u. apart gdr_type uir_type refl (sym (gdr_typed late _ late_shape) ∙ u)), omega (arith, gdr_once place place_not_8))))
+
     pub late_sound : IsSound late (shape late)
-    late_sound = subst (IsSound late) (sym late_is) (empty_sound late_shape late_fits)
+    late_sound = subst (IsSound late) (sym late_is) late_bare
 
     pub old_stands : (g : ℕ) → g ≡ gdr_offset b → In g (shape late).records
-    old_stands g is = subst (λ (x : ℕ). In x (shape late).records) (sym (is ∙ at)) (subst (In old) (sym late_records) there)
+    old_stands g is = subst (λ (x : ℕ). In x (shape late).records) (sym is) (subst (In old) (sym late_records) late_old.inside)
 
     pub old_free : (g : ℕ) → g ≡ gdr_offset b → times g (owned_records late (shape late)) ≡ 0
     old_free g is =
-        let not_8 : old ≢ 8 = λ q. apart gdr_type cdr_type refl (sym old_typed ∙ ap (type_at b) q ∙ cdr_typed) in
-        subst (λ (x : ℕ). times x (owned_records late (shape late)) ≡ 0) (sym (is ∙ at)) (subst (λ (x : Shape). times old (owned_records late x) ≡ 0) (sym late_is)
-        (other_unowned late_shape old (λ u. apart gdr_type uir_type refl (sym late_typed ∙ u)) not_8 place_not_old))
+        subst (λ (x : ℕ). times x (owned_records late (shape late)) ≡ 0) (sym is) (subst (λ (x : Shape). times old (owned_records late x) ≡ 0) (sym late_is)
+        (none_in_use late (empty_shape records place list) late_shape.tiled old (λ u. apart gdr_type uir_type refl (sym late_old.typed ∙ u)) (others_none place old old_not_8 place_not_old)))
 
     -- ---- and the old one is freed
 
@@ -593,22 +614,28 @@ module _ (b dims : List ℕ) (good : Good b) (empty : is_empty_set (content b) �
       abbrev late_own : Shape
       late_own = empty_shape records place list
 
-      gives : Gives late now late_own (shape now) old
-      gives = subst (λ (x : Shape). Gives late now x (shape now) old) late_is (subst (λ (g : ℕ). Gives late now (shape late) (shape now) g) at free.0)
+      is_given : IsGiven late now late_own (shape now) old
+      is_given = subst (λ (x : Shape). IsGiven late now x (shape now) old) late_is free
+
+      abbrev gives : Gives late now late_own (shape now) old
+      gives = is_given.0
 
       abbrev given_marks : List Mark
       given_marks = giving_marks list gdr_type old (size_at late old)
 
       given : Edit late now records records given_marks (old ∷ [])
-      given = gives_edit late now late_own (shape now) old gdr_type late_shape there late_typed gives
+      given = gives_edit late now late_own (shape now) old gdr_type late_shape late_old.inside late_old.typed gives
 
       all : Edit b now s.records records (make_marks ++ given_marks) (place ∷ old ∷ [])
       all = edit_then made given
 
-      now_sound : IsSound now (empty_shape records place (shape now).unused)
-      now_sound = subst (IsSound now) (gives.space.rest_stays ∙ ap (λ (r : List ℕ). with_space late_own r (shape now).unused) gives.records_stay) free.1
+      abbrev own_now : Shape
+      own_now = empty_shape records place (shape now).unused
 
-      h : HasShape now (empty_shape records place (shape now).unused)
+      now_sound : IsSound now own_now
+      now_sound = subst (IsSound now) (gives.space.rest_stays ∙ ap (λ (r : List ℕ). with_space late_own r (shape now).unused) gives.records_stay) is_given.1
+
+      h : HasShape now own_now
       h = now_sound.has_shape
 
       freed_type : type_at now old ≡ uir_type
@@ -616,52 +643,25 @@ module _ (b dims : List ℕ) (good : Good b) (empty : is_empty_set (content b) �
 
       -- ---- the CDR and the new one after that
 
-      place_avoids : (lo hi : ℕ) → (hi ≤ 64) ⊎ (72 ≤ lo) → Avoids given_marks gdr_type place lo hi
+      place_avoids : (lo hi : ℕ) → (nat_le 72 lo || nat_le hi 64) ≡ true → Avoids given_marks gdr_type place lo hi
       place_avoids lo hi beside = (
-        (λ q lies. elim beside [ inl x ↦ inl x | inr x ↦ inr x ]),
-        ((λ q lies. absurd (apart gdr_type uir_type refl q)), ((λ q lies. elim lies [ inl x ↦ absurd (place_not_old (sym x)) | inr none ↦ absurd none ]), tt)),
+        (avoided-avoids (mark gdr_type Anywhere gdr_uir_head ∷ []) gdr_type place lo hi (rw beside refl)).0,
+        ((λ q lies. absurd (apart gdr_type uir_type refl q)), ((λ q lies. absurd (place_not_old (sym (the_one old place lies)))), tt)),
       )
 
-      place_part : (lo hi : ℕ) → (hi ≤ 64) ⊎ (72 ≤ lo) → hi ≤ size_at late place → Same late now (place + lo) (place + hi)
-      place_part lo hi beside fits = given.part place gdr_type lo hi (gdr_in late late_own late_shape) (gdr_typed late late_own late_shape) (place_avoids 0 12 (inl (omega arith))) (place_avoids lo hi beside) fits
-
-      place_now : (f : Field) → (f.place + f.width ≤ 64) ⊎ (72 ≤ f.place) → f.place + f.width ≤ 84 → number now place f ≡ number late place f
-      place_now f beside fits = word_kept late now (place + f.place) (place + (f.place + f.width)) (place_part f.place (f.place + f.width) beside (let l = gdr_long late late_own late_shape in omega arith)) (place + f.place) f.width (omega arith) (omega arith)
-
-      cdr_now : (f : Field) → f.place + f.width ≤ 312 → number now 8 f ≡ number late 8 f
-      cdr_now f fits =
-          let i = is_a-in late records cdr_type 8 late_shape.cdr_stands in
-          let t = is_a-type late records cdr_type 8 late_shape.cdr_stands in
-          number_kept late now 8 (kept given 8 cdr_type i t refl).same f (let l = fixed_long late late_own late_shape cdr_type 8 i t in omega arith)
-
-      now_says : HeadsSay now place code bits dims
-      now_says =
-          let was = heads_say copied_shape fine new m.heads in
-          let d = r_num_dims late place in
-          let count = place_now gdr_r_num_dims (inl (omega arith)) (omega arith) in
-          record {
-            encoding_is = cdr_now cdr_encoding (omega arith) ∙ was.encoding_is;
-            flags_are = cdr_now cdr_flags (omega arith) ∙ was.flags_are;
-            count_is = count ∙ was.count_is;
-            sizes_are =
-                ap (λ (k : ℕ). words now (place + 84) (counted (cast_signed w32 k))) count
-                ∙ words_kept late now (place + 84) (place + (84 + 4 * d)) (place_part 84 (84 + 4 * d) (inr (omega arith)) late_fits) (place + 84) d (omega arith) (up place d)
-                ∙ was.sizes_are;
-          }
-        where
-          up : (g n : ℕ) → g + 84 + 4 * n ≤ g + (84 + 4 * n)
-          up g n = omega arith
+      place_now : (f : Field) → (nat_le 72 f.place || nat_le (f.place + f.width) 64) ≡ true → f.place + f.width ≤ 84 → number now place f ≡ number late place f
+      place_now f beside fits = field_avoids given place gdr_type f (gdr_in late late_own late_shape) (gdr_typed late late_own late_shape) (place_avoids 0 12 refl) (place_avoids f.place (f.place + f.width) beside) (let l = gdr_long late late_own late_shape in omega arith)
 
       -- ---- the old one
 
       abbrev acts : List Act
       acts = Took place need ∷ Gave old (size_at b old) ∷ []
 
-      behind : (k : ℕ) → In k (old ∷ []) → Same late now (k + links_end (size_at late k)) (k + size_at late k)
-      behind k i = subst (λ (x : ℕ). Same late now (x + links_end (size_at late x)) (x + size_at late x)) (sym (the_one old k i)) (behind_one late_shape gives there old there place_not_old)
+      behind : Same late now (old + links_end (size_at late old)) (old + size_at late old)
+      behind = behind_one late_shape gives late_old.inside old late_old.inside place_not_old
 
       joins : nat_le 28 (size_at late old) ≡ true
-      joins = le-leb 28 (size_at late old) (let l = old_long in let e = old_stays.size_is in omega arith)
+      joins = le-leb 28 (size_at late old) (let l = late_old.long in omega arith)
 
       now_list : (shape now).unused ≡ old ∷ list
       now_list =
@@ -670,53 +670,45 @@ module _ (b dims : List ℕ) (good : Good b) (empty : is_empty_set (content b) �
 
       old_field : (f : Field) → 28 ≤ f.place → f.place + f.width ≤ 84 → number now old f ≡ number late old f
       old_field f low high =
-          let b28 : Same late now (old + 28) (old + size_at late old) = subst (λ (p : Bool). Same late now (old + (if p then 28 else 12)) (old + size_at late old)) joins (behind old (inl refl)) in
-          word_kept late now (old + 28) (old + size_at late old) b28 (old + f.place) f.width (omega arith) (let l = old_long in let e = old_stays.size_is in omega arith)
+          let b28 : Same late now (old + 28) (old + size_at late old) = subst (λ (p : Bool). Same late now (old + (if p then 28 else 12)) (old + size_at late old)) joins behind in
+          word_kept late now (old + 28) (old + size_at late old) b28 (old + f.place) f.width (omega arith) (let l = late_old.long in omega arith)
 
       old_head : number now old gdr_uir_head ≡ next_of now old
       old_head =
           let chain = subst (IsChain now records uir_type (number now place gdr_uir_head)) now_list h.unused_chain in
-          old_field gdr_uir_head (omega arith) (omega arith) ∙ same_link late now _ _ list (list_chain sound fills later as_long lately).leads chain.leads.1
+          old_field gdr_uir_head (omega arith) (omega arith) ∙ ap (λ (g : ℕ). number late g gdr_uir_head) (sym at) ∙ same_link late now _ _ list (list_chain sound fills later as_long lately).leads chain.leads.1
 
       old_eof : number now old gdr_eof ≡ length now
-      old_eof = old_field gdr_eof (omega arith) (omega arith) ∙ end_now sound fills later as_long lately ∙ sym gives.length_is
+      old_eof = old_field gdr_eof (omega arith) (omega arith) ∙ ap (eof late) (sym at) ∙ end_now sound fills later as_long lately ∙ sym gives.length_is
 
       -- ---- the whole
-
-      copied : (f : Field) → is_beside f.place (f.place + f.width) ≡ true → avoided (placing_marks (shape b).unused place need) gdr_type f.place (f.place + f.width) ≡ true → (f.place + f.width ≤ 64) ⊎ (72 ≤ f.place) → 8 ≤ f.place → f.place + f.width ≤ 84 → number now place f ≡ number b old f
-      copied f beside clear away low fits = place_now f away fits ∙ new_says f beside clear low fits
-
-      moved : (f : Field) → number now place f ≡ number b old f → number now (gdr_offset now) f ≡ number b (gdr_offset b) f
-      moved f same = ap (λ (g : ℕ). number now g f) h.gdr_is ∙ same ∙ sym (ap (λ (g : ℕ). number b g f) at)
 
       moved_set : IsSetUp b now records (shape now).unused place code bits majority dims (make_marks ++ given_marks) (place ∷ old ∷ []) acts
       moved_set = record {
         edit = all;
         cdr_start = refl;
-        cdr_release = refl;
-        cdr_increment = refl;
+        cdr_version_stays = refl;
         cdr_within = refl;
-        has_shape = h;
-        records_are = gives.records_stay;
-        says = now_says;
-        fits = now_sound.gdr_fits;
-        none = record {
-          no_attributes = copied gdr_num_attr refl refl (inl (omega arith)) (omega arith) (omega arith) ∙ was_none.no_attributes;
-          no_r_variables = copied gdr_nr_vars refl refl (inl (omega arith)) (omega arith) (omega arith) ∙ was_none.no_r_variables;
-          no_z_variables = copied gdr_nz_vars refl refl (inl (omega arith)) (omega arith) (omega arith) ∙ was_none.no_z_variables;
-        };
-        end = place_now gdr_eof (inl (omega arith)) (omega arith) ∙ gdr_still copied_shape fine new m.heads gdr_eof refl ∙ copied_field gdr_eof (omega arith) (omega arith) ∙ takes.eof_is ∙ sym (gives.length_is ∙ as_long ∙ fills.long);
+        sound = now_sound;
+        content_now = is_given.2 ∙ heads_content copied_shape fine new m.heads late_shape (ap (λ (n : ℕ). majority_of (has_bit n 0)) bits_are ∙ bit_0 (flags b) majority) (ap (λ (n : ℕ). has_bit n 2) bits_are ∙ (bits_stay (flags b) majority).1 ∙ sym (ap (λ (n : ℕ). has_bit n 2) (copied_cdr cdr_flags refl (omega arith))))
+            ∙ ap (λ (d : DataSet). set_up d code majority dims) (filled_content sound fills);
+        flags_now = still_says given (stands_fixed late_shape cdr_type 8 late_shape.cdr_stands) refl cdr_flags refl (omega arith) ∙ (heads_say copied_shape fine new m.heads).flags_are;
+        count_now = place_now gdr_r_num_dims refl (omega arith) ∙ (heads_say copied_shape fine new m.heads).count_is;
+        stays = λ f copied.
+            let p = copied_parts f copied in
+            place_now f p.2 (leb-true (f.place + f.width) 84 (both (nat_le 60 f.place || nat_le (f.place + f.width) 56) (nat_le (f.place + f.width) 84) p.0).1) ∙ new_says f copied;
+        end = place_now gdr_eof refl (omega arith) ∙ gdr_still copied_shape fine new m.heads gdr_eof refl ∙ copied_field gdr_eof (omega arith) (omega arith) ∙ ap (eof m.taken) (sym at) ∙ is_taken.0.eof_is ∙ sym (gives.length_is ∙ as_long ∙ fills.long);
         longest = let l = shorter sound fills later as_long lately in let a = gives.length_is in omega arith;
-        alone = λ k used r. elim r [
-          | inl q ↦ absurd (used (ap (type_at now) q ∙ freed_type))
-          | inr again ↦ elim again [ inl q ↦ q | inr last ↦ absurd (used (ap (type_at now) (the_one old k last) ∙ freed_type)) ]
+        as_owned = λ k out. as_many old place k (λ q. out (inr (inl q))) (λ q. out (inl q));
+        anew = λ k i. elim i [
+          | inl q ↦ subst (λ (x : ℕ). IsSorted now own_now x × (is_in (type_at now x) read_types ≡ true)) (sym q) (inl ((λ u. apart gdr_type uir_type refl (sym (gdr_typed now own_now h) ∙ u)), gdr_once place place_not_8), ap (λ (t : ℕ). is_in t read_types) (gdr_typed now own_now h))
+          | inr last ↦ subst (λ (x : ℕ). IsSorted now own_now x × (is_in (type_at now x) read_types ≡ true)) (sym (the_one old k last)) (inr (freed_type, others_none place old old_not_8 place_not_old), ap (λ (t : ℕ). is_in t read_types) freed_type)
         ];
         takes_within = omega arith;
         acts_follow =
             let took = acts_took sound fills later as_long lately late_records (ap (λ (x : Shape). x.unused) late_is) in
-            let used : type_at late (gdr_offset b) ≢ uir_type = λ u. apart gdr_type uir_type refl (sym (ap (type_at late) at ∙ late_typed) ∙ u) in
-            subst (λ (k : ℕ). ActsFollow b now (Took place need ∷ Gave old k ∷ [])) old_stays.size_is (subst (λ (g : ℕ). ActsFollow b now (Took place need ∷ Gave g (size_at late g) ∷ [])) at
-            (acts_gave sound.has_shape took late_sound (old_stands (gdr_offset b) refl) used free.0));
+            subst (λ (k : ℕ). ActsFollow b now (Took place need ∷ Gave old k ∷ [])) old_stays.size_is
+            (acts_gave sound.has_shape took late_sound (old_stands old refl) (λ u. apart gdr_type uir_type refl (sym late_old.typed ∙ u)) free.0);
         unused_stay =
             let links = uir_next_uir ∷ uir_prev_uir ∷ [] in
             keep_unused sound all gives.records_stay setup_changes acts
@@ -726,27 +718,17 @@ module _ (b dims : List ℕ) (good : Good b) (empty : is_empty_set (content b) �
             (λ k i out.
             let off = λ (j : In k list). out (listed_before sound fills later as_long lately k i j) in
             Away-append make_marks given_marks uir_type k (loose_away sound fills later as_long lately k i out) ((λ q lies. apart uir_type gdr_type refl q), ((λ q lies. off lies), ((λ q lies. apart uir_type gdr_type refl q), tt))));
-        does = record {
-          acts_are = rw (lt-leb need (size_at b (gdr_offset b)) large) (λ i. Took (sym h.gdr_is i) need ∷ Gave (sym at i) (size_at b (sym at i)) ∷ []);
-          flags_are = now_says.flags_are ∙ bits_are;
-          fields_stay = (
-            moved gdr_r_max_rec (copied gdr_r_max_rec refl refl (inl (omega arith)) (omega arith) (omega arith)),
-            (
-              moved gdr_rfu_c (copied gdr_rfu_c refl refl (inr (omega arith)) (omega arith) (omega arith)),
-              (moved gdr_leap_second_last_updated (copied gdr_leap_second_last_updated refl refl (inr (omega arith)) (omega arith) (omega arith)), (moved gdr_rfu_e (copied gdr_rfu_e refl refl (inr (omega arith)) (omega arith) (omega arith)), tt)),
-            ),
-          );
-          room = λ le. absurd (omega (arith, large, le));
-          freed =
-              let sizes = sizes_by_tiles late now 8 8 (length late) records refl late_shape.tiled (subst (λ (x : ℕ). AreTiles now 8 x records) gives.length_is given.tiled_now) in
-              let stand = λ (k : ℕ) (i : In k (old ∷ [])). subst (λ (x : ℕ). In x records) (sym (the_one old k i)) there in
-              let late_stay = freed_stay late now acts (old ∷ []) (λ type. space_fields) (subst (AreTiles now 8 (length now)) (sym gives.records_stay) h.tiled) (λ k i. subst (In k) (sym gives.records_stay) (stand k i)) (λ k i. sizes k (stand k i)) behind in (
-                each (FreedStays b now acts old (size_at b old) space_fields) (unused_records now (shape now)) (λ uir j i lt low high out untaken.
-                    each_in (FreedStays late now acts old (size_at late old) space_fields) (unused_records now (shape now)) uir late_stay.0 j i (let e = old_stays.size_is in omega arith) low high out untaken ∙ old_stays.same i lt out),
-                tt,
-              );
-          emptied = λ apart_from. (inr (subst (λ (g : ℕ). number now g gdr_uir_head ≡ next_of now g) (sym at) old_head), (inr (subst (λ (g : ℕ). number now g gdr_eof ≡ length now) (sym at) old_eof), tt));
-        };
+        acts_are = rw (lt-leb need (size_at b (gdr_offset b)) large) (λ i. Took (sym h.gdr_is i) need ∷ Gave old (size_at b old) ∷ []);
+        room = λ le. absurd (omega (arith, large, le));
+        freed =
+            let sizes = sizes_by_tiles late now 8 8 (length late) records refl late_shape.tiled (subst (λ (x : ℕ). AreTiles now 8 x records) gives.length_is given.tiled_now) in
+            let size = sizes old late_old.inside ∙ old_stays.size_is in
+            freed_stay_but b now acts (old ∷ []) (λ type. space_fields) (subst (AreTiles now 8 (length now)) (sym gives.records_stay) h.tiled)
+            (λ k i. subst (λ (x : ℕ). In x (shape now).records) (sym (the_one old k i)) (subst (In old) (sym gives.records_stay) late_old.inside))
+            (λ k i. subst (λ (x : ℕ). size_at now x ≡ size_at b x) (sym (the_one old k i)) size)
+            (λ k i. subst (λ (x : ℕ). BytesStay b now x (links_end (size_at b x)) space_fields) (sym (the_one old k i)) (λ n lt low out.
+            behind.each (old + n) (subst (λ (w : ℕ). old + links_end w ≤ old + n) (sym old_stays.size_is) (omega arith)) (let e = old_stays.size_is in omega arith) ∙ old_stays.same n lt out));
+        emptied = λ apart_from. (inr old_head, (inr old_eof, tt));
       }
 
       pub moves_follows : length b + need ≤ image_limit → Follows b (commands.Setup code majority dims) now

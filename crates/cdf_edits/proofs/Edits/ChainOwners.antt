@@ -3,7 +3,7 @@ use Rattle.std.proofs.Common.{◌≡◌, ◌≢◌, ◌⊎◌, ℕ, ◌+◌, ◌
 use Rattle.cdf_edits.proofs.Common.{cases_eq, ne_eqb, EntryKind, is_in, type_at, attribute_records, unused_records, times, owned_records, uir_type, AttributeShape, Shape, IsSound, In, AreTiles, Distinct, either, true-is_in, false-is_in, times-none, times-once, filter-in, chain_of, Edit, with_chain, Mark, with_in_place}
 use Rattle.cdf_model.specs.declared.kinds.EntryKind.TheVariants as entries
 use Rattle.cdf_edits.specs.Space.Chains.{without}
-use Rattle.cdf_edits.proofs.Edits.OwnedOnce.{used_times, unused_none, unused_once, outside_unowned, unused_unowned, spliced_times}
+use Rattle.cdf_edits.proofs.Edits.OwnedOnce.{none_in_use, used_times, unused_none, unused_once, outside_unowned, unused_unowned, spliced_times}
 use Rattle.cdf_edits.proofs.Edits.Splice.{spliced}
 use Rattle.cdf_edits.proofs.Frame.OwnersApart.{file_records, all_attribute_records, all_variable_records, owned-times, times-append, times-in}
 
@@ -126,12 +126,7 @@ module _ (b : List ℕ) (s : Shape) (sound : IsSound b s) (records list : List �
       none u' u g h p q r t = omega arith
 
   pub gone_free : (now : List ℕ) → AreTiles now 8 (length now) records → type_at now old ≢ uir_type → times old (owned_records now (rechained s records list before own after kind chain' (old ∷ []) come was trades)) ≡ 0
-  gone_free now tiled used =
-      let made : Shape = rechained s records list before own after kind chain' (old ∷ []) come was trades in
-      sums (times old (owned_records now made)) (times old (file_records made)) (times old (all_attribute_records made)) (times old (all_variable_records made)) (times old (unused_records now made)) (owned-times now made old) gone_unowned (unused_none now made tiled old used)
-    where
-      sums : (o x a v u : ℕ) → o ≡ x + (a + (v + u)) → x + (a + v) ≡ 0 → u ≡ 0 → o ≡ 0
-      sums o x a v u p q r = omega arith
+  gone_free now tiled used = none_in_use now (rechained s records list before own after kind chain' (old ∷ []) come was trades) tiled old used gone_unowned
 
 -- ---- an image with records that are for a moment in use and owned by nobody
 

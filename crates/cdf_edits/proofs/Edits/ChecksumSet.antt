@@ -1,12 +1,13 @@
 -- `checksum` writes two bits of Flags: the image is good as before, and its data set says whether a checksum is in use.
 use Rattle.std.proofs.Common.{◌≡◌, ◌≢◌, ℕ, ◌+◌, ◌*◌, ◌/◌, ◌%◌, ◌≤◌, List, [], ◌∷◌, ◌++◌, length, Bool, true, false, not, ◌||◌, refl, sym, ap, subst, ◌∙◌, arith, inl, inr}
-use Rattle.cdf_edits.proofs.Common.{cases_lt, w32, cast_signed, flat_map, ◌==◌, if◌then◌else◌, Go, DataSet, image_limit, ByStep, same_name, Same, adrs_rows, r_vdrs_rows, z_vdrs_rows, differ_rows, is_in, linked_types, content, content_of, majority_of, number, has_bit, size_at, type_at, gdr_offset, flags, r_num_dims, r_sizes, read_types, unread_type, Unused, unused_records, owned, first_phases, Field, cdr_flags, gdr_eof, gdr_num_attr, gdr_nr_vars, gdr_nz_vars, adr_name, adr_num, vdr_num, cdr_type, gdr_type, row, Hold, AllHold, sealed, Shape, adrs, vdrs, variables, Each, HasShape, shape, IsSound, In, Good, Same-part, number_kept, word_kept, is_a-in, is_a-type, IsGoodByShape, attribute_shape_rows, vdrs_append, good_by_its_shape, good_is_sound, rules_of_good, In-append_left, In-append_right, AreNew, names_differ, differ_by_names, Hold-append, Hold-member, Hold-members, Hold-split, good_long, sealed_keeps, sealed_kept, Each-split, content_is, shape_is, AllKeep, Only, Allowances, with_bits, Edit, Mark, field_marks, Follows, touched_field, Changed, ChangedWithin, Leaves, LeavesFinding, VariableStays}
+use Rattle.cdf_edits.proofs.Common.{list_all, is_some, encoding_at, is_positive, encoding, gdr_r_num_dims, w32, cast_signed, flat_map, ◌==◌, if◌then◌else◌, Go, DataSet, image_limit, ByStep, same_name, Same, adrs_rows, r_vdrs_rows, z_vdrs_rows, differ_rows, is_in, linked_types, content, content_of, majority_of, number, has_bit, size_at, type_at, gdr_offset, flags, r_sizes, read_types, unread_type, Unused, unused_records, owned, first_phases, Field, cdr_flags, gdr_eof, gdr_num_attr, gdr_nr_vars, gdr_nz_vars, adr_name, adr_num, vdr_num, cdr_type, gdr_type, row, Hold, AllHold, sealed, Shape, adrs, vdrs, variables, Each, HasShape, shape, IsSound, In, Good, number_kept, word_kept, is_a-in, is_a-type, IsGoodByShape, attribute_shape_rows, vdrs_append, good_by_its_shape, good_is_sound, rules_of_good, In-append_left, In-append_right, AreNew, names_differ, differ_by_names, Hold-append, Hold-member, Hold-members, Hold-split, good_long, sealed_keeps, sealed_kept, Each-split, content_is, shape_is, AllKeep, Only, Allowances, with_bits, Edit, Mark, field_marks, Follows, touched_field, Changed, ChangedWithin, Leaves, LeavesFinding, VariableStays}
 use Rattle.cdf_model.specs.declared.answer.Reply.TheVariants as replies
 use Rattle.cdf_model.specs.declared.command.Command.TheVariants as commands
 use Rattle.cdf_edits.specs.Commands.Setup.{checksum_changes}
 use Rattle.cdf_edits.proofs.Commands.KeptRecords.{Stood, keep_attributes, keep_owned, keeps_stood}
 use Rattle.cdf_edits.proofs.Edits.AttributeFrame.{AreThere, lives_clear, all_rules, names_stay, nums_stay}
 use Rattle.cdf_edits.proofs.Edits.EditActs.{acts_none}
+use Rattle.cdf_edits.proofs.Edits.FirstRecords.{read_now}
 use Rattle.cdf_edits.proofs.Edits.OwnedOnce.{all_attributes_in, owned_once_if}
 use Rattle.cdf_edits.proofs.Edits.OwnersKept.{stood, keeps_fields, keep_file, all_keep}
 use Rattle.cdf_edits.proofs.Edits.RecordFrame.{AttributeLives, VariableLives, kept_away, part_clear}
@@ -16,8 +17,8 @@ use Rattle.cdf_edits.proofs.Frame.FileSound.{file_stays_sound}
 use Rattle.cdf_edits.proofs.Frame.Meaning.{FileSame, Kept}
 use Rattle.cdf_edits.proofs.Frame.OwnersApart.{adrs_linked, file_found, file_from_attributes, file_from_variables, file_is_alone, unused_from_file, unused_in}
 use Rattle.cdf_edits.proofs.Frame.SameShape.{same_attributes, same_variables}
-use Rattle.cdf_edits.proofs.Rules.FirstRules.{FirstStay, first_phases_stay}
-use Rattle.cdf_edits.proofs.Rules.WithoutLinks.{eof_by_rules, number_rows_kept}
+use Rattle.cdf_edits.proofs.Rules.FirstHead.{FirstSays, first_hold, first_said}
+use Rattle.cdf_edits.proofs.Rules.WithoutLinks.{number_rows_kept}
 use Rattle.cdf_edits.proofs.Space.UsedRecords.{apart}
 
 -- ---- bits 2 and 3 of a number, which are both set or both clear
@@ -108,8 +109,11 @@ module _ (b now : List ℕ) (md5 : Bool) (good : Good b) (changed : Changed b no
   leaves : Leaves b now s s.records s.attributes (variables s)
   leaves = file_is_alone b s sound now s.records (λ m i. i) change finding
 
+  now_sound : IsSound now s
+  now_sound = file_stays_sound b now s change sound as_long finding
+
   pub shape_now : HasShape now s
-  shape_now = (file_stays_sound b now s change sound as_long finding).has_shape
+  shape_now = now_sound.has_shape
 
   pub same_shape : shape now ≡ s
   same_shape = shape_is now s shape_now
@@ -128,25 +132,29 @@ module _ (b now : List ℕ) (md5 : Bool) (good : Good b) (changed : Changed b no
   after_flags : Same b now (8 + 36) (8 + 312)
   after_flags = part_clear e 8 cdr_type 36 312 tile typed refl refl long
 
+  encoding_now : encoding now ≡ encoding b
+  encoding_now = word_kept b now (8 + 0) (8 + 32) before_flags 36 4 (omega arith) (omega arith)
+
+  sizes_now : r_sizes now s.gdr ≡ r_sizes b s.gdr
+  sizes_now = ap (r_sizes now) (sym (gdr_found ∙ h.gdr_is)) ∙ file.sizes ∙ ap (r_sizes b) h.gdr_is
+
   pub content_now : content now ≡ record (content b) { md5 = md5 }
   content_now =
       let parts = Each-split (VariableStays b now s.records) s.r_variables s.z_variables leaves.variables_stay in
       let release = ap (cast_signed w32) (word_kept b now (8 + 0) (8 + 32) before_flags 32 4 (omega arith) (omega arith)) in
       let increment = ap (cast_signed w32) (word_kept b now (8 + 36) (8 + 312) after_flags 52 4 (omega arith) (omega arith)) in
-      let encoding = word_kept b now (8 + 0) (8 + 32) before_flags 36 4 (omega arith) (omega arith) in
       let row_major : has_bit (flags now) 0 ≡ has_bit (flags b) 0 = ap (λ (n : ℕ). has_bit n 0) flags_are ∙ bit_0 (flags b) md5 in
       let in_use : has_bit (flags now) 2 ≡ md5 = ap (λ (n : ℕ). has_bit n 2) flags_are ∙ bit_2 (flags b) md5 in
-      let sizes : r_sizes now s.gdr ≡ r_sizes b s.gdr = ap (r_sizes now) (sym (gdr_found ∙ h.gdr_is)) ∙ file.sizes ∙ ap (r_sizes b) h.gdr_is in
       let as_ = same_attributes b now s.records s.attributes leaves.attributes_stay in
       let rs = same_variables b now s.records s.r_variables parts.0 in
       let zs = same_variables b now s.records s.z_variables parts.1 in
       let whole : content_of now s ≡ record (content_of b s) { md5 = md5 } = λ i. record {
         release = release i;
         increment = increment i;
-        encoding = encoding i;
+        encoding = encoding_now i;
         majority = majority_of (row_major i);
         md5 = in_use i;
-        rdims = sizes i;
+        rdims = sizes_now i;
         attributes = as_ i;
         r_variables = rs i;
         z_variables = zs i;
@@ -195,12 +203,6 @@ module _ (b now : List ℕ) (md5 : Bool) (good : Good b) (changed : Changed b no
       let numbers = number_rows_kept 10 b now vdr_num 0 ms (λ m i. nums m (subst (λ (x : List ℕ). In m x) (sym (vdrs_append s.r_variables s.z_variables)) (In-append_right m (vdrs s.r_variables) ms i))) in
       λ i. (row 9 (place i) (count i == length ms) ∷ []) ++ numbers i
 
-  type_stays : (m : ℕ) → In m s.records → type_at now m ≡ type_at b m
-  type_stays m i = elim (e.kind m i) [ inl old ↦ old.1 | inr new ↦ elim new [ inl free ↦ absurd (free.0 i) | inr none ↦ absurd none ] ]
-
-  read_now : Hold (flat_map (unread_type b) s.records) → Hold (flat_map (unread_type now) s.records)
-  read_now rules = Hold-members (unread_type now) s.records (λ m i. (ap (λ (t : ℕ). is_in t read_types) (type_stays m i) ∙ (Hold-member (unread_type b) s.records m rules i).0, tt))
-
   pub good_now : IsGoodByShape b s → IsGoodByShape now s
   good_now image =
       let c = Hold-split (adrs_rows b (adrs s) ++ r_vdrs_rows b (vdrs s.r_variables)) (z_vdrs_rows b (vdrs s.z_variables)) image.counting in
@@ -209,7 +211,7 @@ module _ (b now : List ℕ) (md5 : Bool) (good : Good b) (changed : Changed b no
       let names = names_stay sound e file s.attributes there attributes_live in
       record {
         has_shape = shape_now;
-        read_types = read_now image.read_types;
+        read_types = read_now e image.read_types (λ m i. absurd i);
         counting = Hold-append (adrs_rows now (adrs s) ++ r_vdrs_rows now (vdrs s.r_variables)) (z_vdrs_rows now (vdrs s.z_variables))
             (Hold-append (adrs_rows now (adrs s)) (r_vdrs_rows now (vdrs s.r_variables)) (subst Hold (sym adr_rows_same) d.0) (subst Hold (sym r_rows_same) d.1)) (subst Hold (sym z_rows_same) c.1);
         attributes = Hold-append (flat_map (attribute_shape_rows now) s.attributes) (differ_rows 2 (same_name now adr_name) [] (adrs s))
@@ -219,24 +221,23 @@ module _ (b now : List ℕ) (md5 : Bool) (good : Good b) (changed : Changed b no
         owned_once = owned_once_if b now s s marks [] sound image.owned_once e (λ m out. refl) (λ m i. absurd i);
       }
 
-  first_stay : AllHold (first_phases (sealed b)) → length b ≤ image_limit → FirstStay b now s.gdr
-  first_stay first short =
-      let g = gdr_kept in
-      let room = sound.gdr_fits in
+  first_says : AllHold (first_phases (sealed b)) → FirstSays now s.gdr
+  first_says first =
+      let was = first_said b s h sound.gdr_fits first in
       let l = gdr_long b s h in
       let in_use : has_bit (flags now) 2 ≡ md5 = ap (λ (n : ℕ). has_bit n 2) flags_are ∙ bit_2 (flags b) md5 in
       let is_md5 : has_bit (flags now) 3 ≡ md5 = ap (λ (n : ℕ). has_bit n 3) flags_are ∙ bit_3 (flags b) md5 in
       let test : (not (has_bit (flags now) 2) || has_bit (flags now) 3) ≡ (not md5 || md5) = λ i. not (in_use i) || is_md5 i in
       record {
-        start = record { each = λ i from upto. elim (cases_lt i 8) [ inl first ↦ e.front.each i from first | inr later ↦ before_flags.each i later upto ] };
-        single_file = λ holds. ap (λ (n : ℕ). has_bit n 1) flags_are ∙ bit_1 (flags b) md5 ∙ holds;
-        md5_used = λ holds. test ∙ either_way md5;
-        head = Same-part b now s.gdr (s.gdr + size_at b s.gdr) s.gdr (s.gdr + 12) g.same (omega arith) (omega arith);
-        dimensions = Same-part b now s.gdr (s.gdr + size_at b s.gdr) (s.gdr + 56) (s.gdr + 60) g.same (omega arith) (omega arith);
-        sizes = Same-part b now s.gdr (s.gdr + size_at b s.gdr) (s.gdr + 84) (s.gdr + (84 + 4 * r_num_dims b s.gdr)) g.same (omega arith) (omega arith);
-        eof_is = number_kept b now s.gdr g.same gdr_eof (omega arith) ∙ eof_by_rules b s sound first ∙ sym as_long;
-        longer = omega arith;
-        short = omega arith;
+        first_magic = word_kept b now 0 8 e.front 0 4 (omega arith) (omega arith) ∙ was.first_magic;
+        second_magic = word_kept b now 0 8 e.front 4 4 (omega arith) (omega arith) ∙ was.second_magic;
+        version_is = word_kept b now (8 + 0) (8 + 32) before_flags 28 4 (omega arith) (omega arith) ∙ was.version_is;
+        encoding_read = ap (λ (n : ℕ). is_some (encoding_at n)) encoding_now ∙ was.encoding_read;
+        single_file = ap (λ (n : ℕ). has_bit n 1) flags_are ∙ bit_1 (flags b) md5 ∙ was.single_file;
+        md5_used = test ∙ either_way md5;
+        few = subst (λ (n : ℕ). n ≤ 10) (sym (number_kept b now s.gdr gdr_kept.same gdr_r_num_dims (omega arith))) was.few;
+        positive = ap (list_all is_positive) sizes_now ∙ was.positive;
+        eof_is = number_kept b now s.gdr gdr_kept.same gdr_eof (omega arith) ∙ was.eof_is ∙ sym as_long;
       }
 
   -- ---- what stays
@@ -262,7 +263,7 @@ module _ (b now : List ℕ) (md5 : Bool) (good : Good b) (changed : Changed b no
       record {
         reply = replies.Plain;
         goes = ap (λ (d : DataSet). ByStep (Go d replies.Plain)) (sym content_now);
-        good = sealed_keeps now s (first_phases_stay b now s sound (first_stay first short) first) (good_now image);
+        good = sealed_keeps now s (first_hold now s shape_now now_sound.gdr_fits (first_says first) (omega arith)) (good_now image);
         longer = omega arith;
         within = omega arith;
         reads = λ e. absurd cc;

@@ -1,9 +1,11 @@
 -- A number that is written as a field of a record is an edit.
 use Rattle.std.proofs.Common.{◌≡◌, ℕ, ℤ, ◌+◌, ◌^◌, ◌<◌, ◌≤◌, List, [], ◌∷◌, length, refl, sym, ap, subst, ◌∙◌, arith, inl, true}
-use Rattle.cdf_edits.proofs.Common.{w32, cast_unsigned, FitsSigned, LiesIn, number, integer4, size_at, type_at, with_field, Field, In, AreTiles, tile_lies, field_reads, field_reads4, length-with_field, Edit, Mark, avoided, field_marks, touched_field, Changed}
+use Rattle.cdf_edits.proofs.Common.{w32, cast_unsigned, FitsSigned, LiesIn, number, integer4, size_at, type_at, with_field, Field, Shape, HasShape, fixed_size, is_a-in, is_a-type, In, AreTiles, tile_lies, field_reads, field_reads4, length-with_field, Edit, Mark, avoided, field_marks, touched_field, Changed}
 use Rattle.cdf_fields.proofs.Writes.{other_bytes}
 use Rattle.cdf_edits.proofs.Edits.Composing.{changed_edit, head_size, head_type}
+use Rattle.cdf_format.specs.Chains.{is_a}
 use Rattle.cdf_edits.proofs.Edits.RecordFrame.{part_clear, field_clear, through}
+use Rattle.cdf_edits.proofs.Edits.StepEdits.{fixed_long}
 
 -- a field behind the type, within a record of this type
 pub record IsField (b records : List ℕ) (place type : ℕ) (f : Field) : Type 0 where
@@ -18,6 +20,13 @@ pub record Stands (b records : List ℕ) (m type n : ℕ) : Type 0 where
   pub inside : In m records
   pub typed : type_at b m ≡ type
   pub long : n ≤ size_at b m
+
+-- a record of a shape has the fixed part of its type
+pub stands_fixed : {b : List ℕ} {s : Shape} → HasShape b s → (type m : ℕ) → is_a b s.records type m ≡ true → Stands b s.records m type (fixed_size type)
+stands_fixed {b = b} {s = s} h type m is =
+    let i = is_a-in b s.records type m is in
+    let t = is_a-type b s.records type m is in
+    record { inside = i; typed = t; long = fixed_long b s h type m i t }
 
 pub field_in : {b records : List ℕ} {m type n : ℕ} {f : Field} → AreTiles b 8 (length b) records → Stands b records m type n → 12 ≤ f.place → f.place + f.width ≤ n → IsField b records m type f
 field_in {b = b} {m = m} {n = n} {f = f} tiled is late fits = record { tiled = tiled; inside = is.inside; typed = is.typed; fits = through (f.place + f.width) n (size_at b m) fits is.long; late = late }

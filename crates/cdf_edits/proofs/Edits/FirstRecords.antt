@@ -1,10 +1,21 @@
 -- What every edit leaves that keeps the CDR and the GDR: the types of all records, and the rules on the file.
 use Rattle.std.proofs.Common.{◌≡◌, ℕ, ◌+◌, ◌*◌, ◌≤◌, List, length, true, not, ◌||◌, refl, sym, ap, subst, ◌∙◌, arith, inl, inr}
-use Rattle.cdf_edits.proofs.Common.{cases_eq, cases_lt, flat_map, image_limit, IsSound, is_in, size_at, type_at, flags, has_bit, eof, r_num_dims, read_types, unread_type, cdr_type, gdr_type, uir_type, is_record_type, fixed_size, Hold, Shape, HasShape, In, cdr_flags, Same-part, number_kept, type_kept, is_a-type, tile_lies, either, true-is_in, false-is_in, Hold-member, Hold-members, tile_lies, Mark, keeps_file, Edit}
-use Rattle.cdf_edits.proofs.Rules.FirstRules.{FirstStay}
-use Rattle.cdf_edits.proofs.Edits.RecordFrame.{cdr_kept, cdr_long, gdr_start, gdr_part, gdr_dimensions, dimensions_same, gdr_sizes}
+use Rattle.cdf_edits.proofs.Common.{cases_eq, flat_map, list_all, is_some, encoding_at, IsSound, is_in, is_positive, first_phases, sealed, size_at, type_at, has_bit, eof, r_num_dims, read_types, unread_type, cdr_type, gdr_type, uir_type, is_record_type, fixed_size, AllHold, Hold, Shape, HasShape, In, number_kept, type_kept, word_kept, is_a-type, tile_lies, either, true-is_in, false-is_in, Hold-member, Hold-members, tile_lies, Mark, keeps_file, Edit}
+use Rattle.cdf_format.specs.Records.{cdr_version}
+use Rattle.cdf_edits.proofs.Rules.FirstHead.{FirstSays, first_said}
+use Rattle.cdf_edits.proofs.Edits.RecordFrame.{cdr_kept, cdr_long, gdr_start, gdr_part, gdr_dimensions, dimensions_same, file_stays}
 use Rattle.cdf_edits.proofs.Edits.StepEdits.{gdr_typed, gdr_long}
 use Rattle.cdf_edits.proofs.Edits.Composing.{head_size, head_type}
+
+-- the types of records that are read
+pub read_now : {b now old new : List ℕ} {marks : List Mark} {reborn : List ℕ} → Edit b now old new marks reborn → Hold (flat_map (unread_type b) old) → ((m : ℕ) → In m reborn → is_in (type_at now m) read_types ≡ true) → Hold (flat_map (unread_type now) new)
+read_now {b = b} {now = now} {old = old} {new = new} e rules own = Hold-members (unread_type now) new (λ m i. (
+  elim (e.kind m i) [
+    | inl j ↦ ap (λ (t : ℕ). is_in t read_types) j.1 ∙ (Hold-member (unread_type b) old m rules j.0).0
+    | inr j ↦ elim j [ inl u ↦ ap (λ (t : ℕ). is_in t read_types) u.1 | inr r ↦ own m r ]
+  ],
+  tt,
+))
 
 module _ {b now : List ℕ} {s : Shape} {new : List ℕ} {marks : List Mark} {reborn : List ℕ} (sound : IsSound b s) (e : Edit b now s.records new marks reborn) (clear : keeps_file marks ≡ true) (typed : (m : ℕ) → In m reborn → (is_record_type (type_at now m) ≡ true) × (fixed_size (type_at now m) ≤ size_at now m)) where
   h : HasShape b s
@@ -48,29 +59,20 @@ module _ {b now : List ℕ} {s : Shape} {new : List ℕ} {marks : List Mark} {re
       let dims = dimensions_same sound e clear in
       subst (λ (x : ℕ). 84 + 4 * r_num_dims now s.gdr ≤ x) (sym size) (subst (λ (x : ℕ). 84 + 4 * x ≤ size_at b s.gdr) (sym dims) sound.gdr_fits)
 
-  pub read_now : Hold (flat_map (unread_type b) s.records) → ((m : ℕ) → In m reborn → is_in (type_at now m) read_types ≡ true) → Hold (flat_map (unread_type now) new)
-  read_now rules own = Hold-members (unread_type now) new (λ m i. (
-    elim (e.kind m i) [
-      | inl j ↦ of_type (λ t. is_in t read_types ≡ true) m (type_at b m) j.1 (Hold-member (unread_type b) s.records m rules j.0).0
-      | inr j ↦ elim j [ inl u ↦ of_type (λ t. is_in t read_types ≡ true) m uir_type u.1 refl | inr r ↦ own m r ]
-    ],
-    tt,
-  ))
-
-  pub first_stay : eof now s.gdr ≡ length now → length now ≤ image_limit → FirstStay b now s.gdr
-  first_stay eof_is short =
-      let cdr = cdr_kept sound e clear in
+  -- what the rules ask of the file is what they asked
+  pub first_says : AllHold (first_phases (sealed b)) → eof now s.gdr ≡ length now → FirstSays now s.gdr
+  first_says first eof_is =
+      let was = first_said b s h sound.gdr_fits first in
       let long = cdr_long sound e clear in
-      let start = gdr_part sound e clear 0 12 (gdr_start sound e clear) (let l = gdr_long b s h in omega arith) in
-      let flags_are : flags now ≡ flags b = number_kept b now 8 cdr.same cdr_flags (omega arith) in
+      let stays = file_stays sound e clear in
       record {
-        start = record { each = λ i from upto. elim (cases_lt i 8) [ inl first ↦ e.front.each i from first | inr later ↦ cdr.same.each i later (omega arith) ] };
-        single_file = λ holds. ap (λ (n : ℕ). has_bit n 1) flags_are ∙ holds;
-        md5_used = λ holds. ap (λ (n : ℕ). not (has_bit n 2) || has_bit n 3) flags_are ∙ holds;
-        head = Same-part b now (s.gdr + 0) (s.gdr + 12) s.gdr (s.gdr + 12) start (omega arith) (omega arith);
-        dimensions = gdr_dimensions sound e clear;
-        sizes = gdr_sizes sound e clear;
+        first_magic = word_kept b now 0 8 e.front 0 4 (omega arith) (omega arith) ∙ was.first_magic;
+        second_magic = word_kept b now 0 8 e.front 4 4 (omega arith) (omega arith) ∙ was.second_magic;
+        version_is = number_kept b now 8 (cdr_kept sound e clear).same cdr_version (omega arith) ∙ was.version_is;
+        encoding_read = ap (λ (n : ℕ). is_some (encoding_at n)) stays.encoding_is ∙ was.encoding_read;
+        single_file = ap (λ (n : ℕ). has_bit n 1) stays.flags_are ∙ was.single_file;
+        md5_used = ap (λ (n : ℕ). not (has_bit n 2) || has_bit n 3) stays.flags_are ∙ was.md5_used;
+        few = subst (λ (n : ℕ). n ≤ 10) (sym (word_kept b now (s.gdr + 56) (s.gdr + 60) (gdr_dimensions sound e clear) (s.gdr + 56) 4 (omega arith) (omega arith))) was.few;
+        positive = ap (list_all is_positive) stays.sizes_are ∙ was.positive;
         eof_is = eof_is;
-        longer = e.longer;
-        short = short;
       }

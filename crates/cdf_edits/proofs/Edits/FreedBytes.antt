@@ -1,6 +1,6 @@
 -- What is freed keeps its bytes behind the links of an unused record.
-use Rattle.std.proofs.Common.{◌≡◌, ◌≢◌, ℕ, ◌+◌, ◌≤◌, List, [], ◌∷◌, length, eq-eqb, refl, sym, ap, subst, ◌∙◌, arith, inl, inr}
-use Rattle.cdf_edits.proofs.Common.{cases_eq, eqb-true, leb-true, le-leb, ◌==◌, nat_le, Field, GivenStay, giving_marks, Misses, Act, gave, links_end, AllGiven, AreFree, IsGiven, first_back_link, giving, with_space, Gives, Same, content, size_at, type_at, times, owned_records, unused_records, uir_type, Shape, shape, HasShape, IsSound, In, AreTiles, is_a-type, linkable-long, either, times-none, filter-in, tiles_lie_apart, Same-part}
+use Rattle.std.proofs.Common.{◌≡◌, ◌≢◌, ℕ, ◌+◌, ◌<◌, ◌≤◌, List, [], ◌∷◌, length, eq-eqb, refl, sym, ap, subst, ◌∙◌, arith, inl, inr}
+use Rattle.cdf_edits.proofs.Common.{byte, OutsideFields, cases_eq, eqb-true, leb-true, le-leb, ◌==◌, nat_le, Field, GivenStay, giving_marks, Misses, Act, gave, links_end, AllGiven, AreFree, IsGiven, first_back_link, giving, with_space, Gives, Same, content, size_at, type_at, times, owned_records, unused_records, uir_type, Shape, shape, HasShape, IsSound, In, AreTiles, is_a-type, linkable-long, either, times-none, filter-in, tiles_lie_apart, Same-part}
 use Rattle.cdf_edits.specs.Commands.Allowances.{FreedStays}
 use Rattle.cdf_edits.proofs.Edits.Composing.{head_type, part}
 use Rattle.cdf_edits.proofs.Edits.FreedRecords.{one_given, others_still, sizes_stay}
@@ -117,21 +117,31 @@ all_unused b now (place ∷ more) sound stand all m (inr i) =
 
 -- ---- as a command says it
 
-pub freed_stay : (b now : List ℕ) (acts : List Act) (places : List ℕ) (but : ℕ → List Field) → AreTiles now 8 (length now) (shape now).records → ((m : ℕ) → In m places → In m (shape now).records) → ((m : ℕ) → In m places → size_at now m ≡ size_at b m)
-    → ((m : ℕ) → In m places → Same b now (m + links_end (size_at b m)) (m + size_at b m)) → GivenStay b now but acts (gave b places)
-freed_stay b now acts [] but tiled stand sizes behind = tt
-freed_stay b now acts (place ∷ more) but tiled stand sizes behind = (
+-- the bytes of a record from one on stay, but for some fields
+abbrev pub BytesStay : List ℕ → List ℕ → ℕ → ℕ → List Field → Type 0
+BytesStay b now m from fields = (i : ℕ) → i < size_at b m → from ≤ i → OutsideFields fields i → byte now (m + i) ≡ byte b (m + i)
+
+pub freed_stay_but : (b now : List ℕ) (acts : List Act) (places : List ℕ) (but : ℕ → List Field) → AreTiles now 8 (length now) (shape now).records → ((m : ℕ) → In m places → In m (shape now).records) → ((m : ℕ) → In m places → size_at now m ≡ size_at b m)
+    → ((m : ℕ) → In m places → BytesStay b now m (links_end (size_at b m)) (but (type_at b m))) → GivenStay b now but acts (gave b places)
+freed_stay_but b now acts [] but tiled stand sizes behind = tt
+freed_stay_but b now acts (place ∷ more) but tiled stand sizes behind = (
   each (FreedStays b now acts place (size_at b place) (but (type_at b place))) (unused_records now (shape now)) (λ uir j i lt low high out untaken.
       let size = sizes place (inl refl) in
       elim (cases_eq uir place) [
-        | inl q ↦ (behind place (inl refl)).each (place + i) (subst (λ (n : ℕ). place + links_end n ≤ place + i) size (subst (λ (x : ℕ). x + links_end (size_at now x) ≤ place + i) q low)) (omega arith)
+        | inl q ↦
+            let from : place + links_end (size_at b place) ≤ place + i = subst (λ (n : ℕ). place + links_end n ≤ place + i) size (subst (λ (x : ℕ). x + links_end (size_at now x) ≤ place + i) q low) in
+            behind place (inl refl) i lt (omega arith) out
         | inr ne ↦ elim (tiles_lie_apart now 8 (length now) (shape now).records uir place tiled (filter-in (λ (x : ℕ). type_at now x == uir_type) (shape now).records uir j) (stand place (inl refl)) ne) [
           | inl x ↦ absurd (omega arith)
           | inr x ↦ absurd (let l = end_low (size_at now uir) in omega arith)
         ]
       ]),
-  freed_stay b now acts more but tiled (λ m i. stand m (inr i)) (λ m i. sizes m (inr i)) (λ m i. behind m (inr i)),
+  freed_stay_but b now acts more but tiled (λ m i. stand m (inr i)) (λ m i. sizes m (inr i)) (λ m i. behind m (inr i)),
 )
+
+pub freed_stay : (b now : List ℕ) (acts : List Act) (places : List ℕ) (but : ℕ → List Field) → AreTiles now 8 (length now) (shape now).records → ((m : ℕ) → In m places → In m (shape now).records) → ((m : ℕ) → In m places → size_at now m ≡ size_at b m)
+    → ((m : ℕ) → In m places → Same b now (m + links_end (size_at b m)) (m + size_at b m)) → GivenStay b now but acts (gave b places)
+freed_stay b now acts places but tiled stand sizes behind = freed_stay_but b now acts places but tiled stand sizes (λ m i k lt low out. (behind m i).each (m + k) (omega arith) (omega arith))
 
 -- ---- what a call asks for that frees them
 

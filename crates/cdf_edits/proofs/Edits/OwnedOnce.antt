@@ -38,6 +38,13 @@ pub once_by_sorting : (now : List ℕ) (s : Shape) → AreTiles now 8 (length no
 once_by_sorting now s tiled m i (inl p) = owned-times now s m ∙ sum_once (times m (file_records s)) (times m (all_attribute_records s)) (times m (all_variable_records s)) (times m (unused_records now s)) p.1 (unused_none now s tiled m p.0)
 once_by_sorting now s tiled m i (inr p) = owned-times now s m ∙ sum_unused (times m (file_records s)) (times m (all_attribute_records s)) (times m (all_variable_records s)) (times m (unused_records now s)) p.1 (unused_once now s tiled m i p.0)
 
+-- what is in use, and none of them has, is owned by nobody
+pub none_in_use : (now : List ℕ) (s : Shape) → AreTiles now 8 (length now) s.records → (m : ℕ) → type_at now m ≢ uir_type → used_times s m ≡ 0 → times m (owned_records now s) ≡ 0
+none_in_use now s tiled m used none = sum_none (times m (owned_records now s)) (times m (file_records s)) (times m (all_attribute_records s)) (times m (all_variable_records s)) (times m (unused_records now s)) (owned-times now s m) none (unused_none now s tiled m used)
+  where
+    sum_none : (o f a v u : ℕ) → o ≡ f + (a + (v + u)) → f + (a + v) ≡ 0 → u ≡ 0 → o ≡ 0
+    sum_none o f a v u p q r = omega arith
+
 -- ---- an image before it is edited
 
 module _ {b : List ℕ} {s : Shape} (sound : IsSound b s) where

@@ -2,12 +2,12 @@
 use Rattle.std.proofs.Common.{◌≡◌, ℕ, ◌+◌, ◌≤◌, List, [], ◌∷◌, ◌++◌, length, map, true, refl, sym, ap, subst, ◌∙◌, arith}
 use Rattle.cdf_edits.proofs.Common.{map-append, flat_map, ◌==◌, ◌&&◌, Attribute, DataSet, image_limit, IsSound, AttributeFits, FileStays, AttributeStays, VariableStays, same_name, adrs_rows, r_vdrs_rows, z_vdrs_rows, differ_rows, is_in, is_linkable, IsChain, content, content_of, attribute_of, majority_of, number, size_at, type_at, has_bit, gdr_offset, eof, IsGoodByShape, attribute_shape_rows, read_types, OwnedOnce, times, owned_records, first_phases, Field, gdr_adr_head, gdr_nr_vars, gdr_nz_vars, gdr_r_vdr_head, gdr_z_vdr_head, gdr_uir_head, adr_name, vdr_num, cdr_type, gdr_type, adr_type, r_vdr_type, z_vdr_type, uir_type, is_record_type, fixed_size, row, Hold, AllHold, sealed, AttributeShape, Shape, adrs, vdrs, variables, Each, HasEntries, HasShape, In, Good, is_a-from, is_a-in, linkable-in, linkable-type, vdrs_append, In-append_left, In-append_right, Hold-append, Hold-split, flat_map-append, sealed_keeps, Each-split, Each-append, content_is, both, Mark, avoided, all_unmarked, variable_types, keeps_file, keeps_variables, Edit}
 use Rattle.cdf_edits.proofs.Frame.SameShape.{has_entries, has_variables, same_attributes, same_variables}
-use Rattle.cdf_edits.proofs.Rules.FirstRules.{first_phases_stay}
+use Rattle.cdf_edits.proofs.Rules.FirstHead.{first_hold}
 use Rattle.cdf_edits.proofs.Frame.Meaning.{FileSame, Kept}
 use Rattle.cdf_edits.proofs.Frame.OwnersApart.{all_variable_records, adrs_linked}
 use Rattle.cdf_edits.proofs.Rules.WithoutLinks.{number_rows_kept}
 use Rattle.cdf_edits.proofs.Edits.AttributeFrame.{AreThere, all_stay, all_rules, all_fit}
-use Rattle.cdf_edits.proofs.Edits.FirstRecords.{gdr_still, cdr_still, typed_now, fixed_now, read_now, gdr_room, first_stay}
+use Rattle.cdf_edits.proofs.Edits.FirstRecords.{gdr_still, cdr_still, typed_now, fixed_now, read_now, gdr_room, first_says}
 use Rattle.cdf_edits.proofs.Edits.RecordFrame.{AttributeLives, VariableLives, chain_stays, gdr_field, gdr_place, file_same, file_stays}
 use Rattle.cdf_edits.proofs.Edits.MarkLemmas.{away-avoids, all_unmarked-away}
 use Rattle.cdf_edits.proofs.Edits.StepEdits.{gdr_in, fixed_long}
@@ -210,7 +210,7 @@ module _ {b now : List ℕ} {s : Shape} {new list : List ℕ} {marks : List Mark
       let d = Hold-split (adrs_rows b (adrs s)) (r_vdrs_rows b (vdrs s.r_variables)) c.0 in
       record {
         has_shape = shape_now;
-        read_types = read_now sound e splices.file_clear splices.typed good.read_types rules.read;
+        read_types = read_now e good.read_types rules.read;
         counting = Hold-append (adrs_rows now (adrs s') ++ r_vdrs_rows now (vdrs s.r_variables)) (z_vdrs_rows now (vdrs s.z_variables))
             (Hold-append (adrs_rows now (adrs s')) (r_vdrs_rows now (vdrs s.r_variables)) rules.counted (subst Hold (sym r_rows) d.1)) (subst Hold (sym z_rows) c.1);
         attributes = Hold-append (flat_map (attribute_shape_rows now) attributes') (differ_rows 2 (same_name now adr_name) [] (adrs s')) (attribute_rules good rules.own_rules) rules.differ;
@@ -233,4 +233,4 @@ module _ {b now : List ℕ} {s : Shape} {new list : List ℕ} {marks : List Mark
   -- ---- the file
 
   pub good_image_if : AllHold (first_phases (sealed b)) → IsGoodByShape b s → OwnRules → eof now s.gdr ≡ length now → length now ≤ image_limit → Good now
-  good_image_if first good rules eof_is short = sealed_keeps now s' (first_phases_stay b now s sound (first_stay sound e splices.file_clear splices.typed eof_is short) first) (good_if good rules)
+  good_image_if first good rules eof_is short = sealed_keeps now s' (first_hold now s' shape_now (gdr_room sound e splices.file_clear splices.typed) (first_says sound e splices.file_clear splices.typed first eof_is) short) (good_if good rules)

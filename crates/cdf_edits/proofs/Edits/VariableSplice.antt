@@ -2,7 +2,7 @@
 use Rattle.std.proofs.Common.{◌≡◌, ℕ, ◌+◌, ◌≤◌, List, [], ◌∷◌, ◌++◌, length, map, Bool, true, refl, sym, ap, subst, ◌∙◌, arith, inl, inr}
 use Rattle.cdf_edits.proofs.Common.{map-append, flat_map, ◌==◌, ◌&&◌, DataSet, Variable, image_limit, with_variables, Kind, R, Z, same_name, adrs_rows, r_vdrs_rows, z_vdrs_rows, differ_rows, is_in, IsChain, content, content_of, variable_of, majority_of, number, size_at, type_at, has_bit, gdr_offset, eof, index_rows, read_types, OwnedOnce, attribute_records, times, owned_records, first_phases, Field, gdr_adr_head, gdr_num_attr, gdr_uir_head, adr_name, adr_num, cdr_type, gdr_type, adr_type, agr_edr_type, az_edr_type, uir_type, is_record_type, fixed_size, row, Hold, AllHold, sealed, AttributeShape, VariableShape, Shape, adrs, vdrs, variables, Each, HasVariable, HasShape, IsSound, VariableFits, In, is_named_apart, Good, is_a-from, is_a-in, linkable-type, IsGoodByShape, attribute_shape_rows, either, In-append, AreNew, names_differ, differ_by_names, Hold-append, Hold-split, sealed_keeps, Each-split, Each-append, content_is, both, shapes_of, Edit, Mark, avoided, all_unmarked, attribute_types, keeps_file, FileStays, AttributeStays, VariableStays, head_of, count_of, type_in, variables_chain}
 use Rattle.cdf_edits.proofs.Edits.AttributeFrame.{AreThere, more_there, entry, lives_away, all_stay, all_rules, all_fit, names_stay, nums_stay}
-use Rattle.cdf_edits.proofs.Edits.FirstRecords.{gdr_still, cdr_still, typed_now, fixed_now, read_now, gdr_room, first_stay}
+use Rattle.cdf_edits.proofs.Edits.FirstRecords.{gdr_still, cdr_still, typed_now, fixed_now, read_now, gdr_room, first_says}
 use Rattle.cdf_edits.proofs.Edits.MarkLemmas.{away-avoids, all_unmarked-away}
 use Rattle.cdf_edits.proofs.Edits.OwnedOnce.{all_attributes_in}
 use Rattle.cdf_edits.proofs.Edits.RecordFrame.{AttributeLives, VariableLives, chain_clear, chain_stays, gdr_field, gdr_place, file_same, file_stays, kept_away}
@@ -12,7 +12,7 @@ use Rattle.cdf_edits.proofs.Edits.VariableKinds.{other_kind, shapes_with, with_s
 use Rattle.cdf_edits.proofs.Frame.Meaning.{FileSame, Kept}
 use Rattle.cdf_edits.proofs.Frame.OwnersApart.{adrs_linked, all_attribute_records}
 use Rattle.cdf_edits.proofs.Frame.SameShape.{has_entries, same_attributes, same_variables}
-use Rattle.cdf_edits.proofs.Rules.FirstRules.{first_phases_stay}
+use Rattle.cdf_edits.proofs.Rules.FirstHead.{first_hold}
 use Rattle.cdf_edits.proofs.Rules.WithoutLinks.{number_rows_kept}
 
 -- all attributes, their chain and their count
@@ -228,7 +228,7 @@ module _ {b now : List ℕ} {s : Shape} {kind : Kind} {new list : List ℕ} {mar
       let ruled = ruled_now good rules in
       record {
         has_shape = shape_now;
-        read_types = read_now sound e splices.file_clear splices.typed good.read_types rules.read;
+        read_types = read_now e good.read_types rules.read;
         counting = Hold-append (adrs_rows now (adrs s) ++ r_vdrs_rows now (vdrs (shapes_with s kind variables' R))) (z_vdrs_rows now (vdrs (shapes_with s kind variables' Z)))
             (Hold-append (adrs_rows now (adrs s)) (r_vdrs_rows now (vdrs (shapes_with s kind variables' R))) (subst Hold (sym adrs_now) d) (counts R)) (counts Z);
         attributes = Hold-append (flat_map (attribute_shape_rows now) s.attributes) (differ_rows 2 (same_name now adr_name) [] (adrs s)) (all_rules sound e file s.attributes there attributes_live p.0)
@@ -252,4 +252,4 @@ module _ {b now : List ℕ} {s : Shape} {kind : Kind} {new list : List ℕ} {mar
   -- ---- the file
 
   pub good_image_if : AllHold (first_phases (sealed b)) → IsGoodByShape b s → OwnRules → eof now s.gdr ≡ length now → length now ≤ image_limit → Good now
-  good_image_if first good rules eof_is short = sealed_keeps now s' (first_phases_stay b now s sound (first_stay sound e splices.file_clear splices.typed eof_is short) first) (good_if good rules)
+  good_image_if first good rules eof_is short = sealed_keeps now s' (first_hold now s' shape_now (gdr_room sound e splices.file_clear splices.typed) (first_says sound e splices.file_clear splices.typed first eof_is) short) (good_if good rules)

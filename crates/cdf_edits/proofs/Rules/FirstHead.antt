@@ -1,6 +1,6 @@
 -- The rules on the length, the magic numbers and the two first records of a sealed image, by what the image says.
 use Rattle.std.proofs.Common.{◌≡◌, ℕ, ◌+◌, ◌-◌, ◌*◌, ◌≤◌, List, length, Bool, true, not, ◌||◌, eq-eqb, sym, ap, subst, ◌∙◌, arith}
-use Rattle.cdf_edits.proofs.Common.{and_from, length-append, get_or_append_left, w32, w64, cast_signed, list_all, is_some, nat_le, if◌then◌else◌, encoding_at, image_limit, Same, Holds, word, words, counted, is_positive, number, has_bit, size_at, type_at, gdr_offset, encoding, flags, eof, r_num_dims, r_sizes, has_gdr, is_record, gdr_rows, first_phases, gdr_r_num_dims, gdr_r_dim_sizes, cdr_type, gdr_type, fixed_size, Hold, AllHold, asked, has_checksum, trailer, trailer_length, sealed, Shape, HasShape, word_kept, words_kept, is_a-in, is_a-type, short_trailer, flags_of_front, trailer_is, eq_of, of_le, tile_lies}
+use Rattle.cdf_edits.proofs.Common.{and_from, both, leb-true, length-append, get_or_append_left, w32, w64, cast_signed, list_all, is_some, nat_le, if◌then◌else◌, encoding_at, image_limit, Same, Holds, word, words, counted, is_positive, number, has_bit, size_at, type_at, gdr_offset, encoding, flags, eof, r_num_dims, r_sizes, has_gdr, is_record, gdr_rows, first_phases, gdr_r_num_dims, gdr_r_dim_sizes, cdr_type, gdr_type, fixed_size, Hold, AllHold, asked, has_checksum, trailer, trailer_length, sealed, Shape, HasShape, word_kept, words_kept, is_a-in, is_a-type, short_trailer, flags_of_front, trailer_is, eq_of, of_le, tile_lies}
 use Rattle.cdf_format.specs.Fields.{version}
 
 -- what the rules ask of the magic numbers, the CDR, and the GDR at a place
@@ -15,21 +15,13 @@ pub record FirstSays (b : List ℕ) (gdr : ℕ) : Type 0 where
   pub positive : list_all is_positive (r_sizes b gdr) ≡ true
   pub eof_is : eof b gdr ≡ length b
 
--- what they ask of the CDR alone, but for its encoding
-pub record CdrSays (b : List ℕ) : Type 0 where
-  pub first_magic : word b 0 4 ≡ 0xcdf30001
-  pub second_magic : word b 4 4 ≡ 0x0000ffff
-  pub version_is : version b ≡ 3
-  pub single_file : has_bit (flags b) 1 ≡ true
-  pub md5_used : (not (has_checksum b) || has_bit (flags b) 3) ≡ true
-
 counted8_le : (n : ℕ) → counted (cast_signed w64 n) ≤ n
 counted8_le n = grind arith
 
 record_from : (f : List ℕ) (place type least : ℕ) → type_at f place ≡ type → least ≤ size_at f place → place + size_at f place ≤ length f → is_record f place type least ≡ true
 record_from f place type least t l r = and_from _ _ (eq-eqb _ _ t) (and_from _ _ (of_le _ _ l) (of_le _ _ r))
 
-module _ (b : List ℕ) (s : Shape) (h : HasShape b s) where
+module _ (b : List ℕ) (s : Shape) (h : HasShape b s) (fits : Holds b s.gdr (gdr_r_dim_sizes (r_num_dims b s.gdr))) where
   abbrev f : List ℕ
   f = sealed b
 
@@ -58,79 +50,86 @@ module _ (b : List ℕ) (s : Shape) (h : HasShape b s) where
   flags_here : flags f ≡ flags b
   flags_here = of_image 40 4 (let l = cdr_inside in omega arith)
 
+  gdr_typed : type_at b g ≡ gdr_type
+  gdr_typed = is_a-type b s.records gdr_type g h.gdr_stands
+
+  gdr_low : 8 ≤ g
+  gdr_low = (tile_lies b 8 (length b) s.records g h.tiled (is_a-in b s.records gdr_type g h.gdr_stands)).low
+
+  gdr_ends : g + size_at b g ≤ length b
+  gdr_ends = (tile_lies b 8 (length b) s.records g h.tiled (is_a-in b s.records gdr_type g h.gdr_stands)).high
+
+  inside : (n : ℕ) → n ≤ 84 + 4 * r_num_dims b g → g + n ≤ length b
+  inside n le = within g n (84 + 4 * r_num_dims b g) (size_at b g) (length b) le fits gdr_ends
+    where
+      within : (x n m k l : ℕ) → n ≤ m → m ≤ k → x + k ≤ l → x + n ≤ l
+      within x n m k l p q r = omega arith
+
+  longer : length f ≡ length b + length (trailer b)
+  longer = length-append b (trailer b)
+
+  -- the file ends with its trailer
+  image_end : length f - trailer_length f ≡ length b
+  image_end =
+      let t : trailer_length f ≡ length (trailer b) = ap (λ (p : Bool). if p then 16 else 0) (flags_of_front b (trailer b) (let l = cdr_inside in omega arith)) ∙ sym (trailer_is b) in
+      less (length f) (length b) (length (trailer b)) (trailer_length f) longer t
+    where
+      less : (x l t u : ℕ) → x ≡ l + t → u ≡ t → x - u ≡ l
+      less x l t u p q = omega arith
+
+  reach : (n : ℕ) → n ≤ length b → n ≤ length f
+  reach n le = up n (length b) (length f) (length (trailer b)) le longer
+    where
+      up : (n l x t : ℕ) → n ≤ l → x ≡ l + t → n ≤ x
+      up n l x t p q = omega arith
+
+  offset_here : gdr_offset f ≡ g
+  offset_here = of_image 20 8 (let l = cdr_inside in omega arith) ∙ h.gdr_is
+
+  -- ---- the GDR
+
+  count_here : number f g gdr_r_num_dims ≡ number b g gdr_r_num_dims
+  count_here = of_image (g + 56) 4 (let i = inside 60 (omega arith) in omega arith)
+
+  dimensions_here : r_num_dims f g ≡ r_num_dims b g
+  dimensions_here = ap (λ (n : ℕ). counted (cast_signed w32 n)) count_here
+
+  sizes_here : r_sizes f g ≡ r_sizes b g
+  sizes_here =
+      let d = r_num_dims b g in
+      ap (words f (g + 84)) dimensions_here ∙ words_kept b f 0 (length b) front (g + 84) d (omega arith) (let i = inside (84 + 4 * d) (omega arith) in room g d (length b) i)
+    where
+      room : (x d l : ℕ) → x + (84 + 4 * d) ≤ l → x + 84 + 4 * d ≤ l
+      room x d l p = omega arith
+
+  size_here : size_at f g ≡ size_at b g
+  size_here = of_image (g + 0) 8 (let i = inside 12 (omega arith) in omega arith)
+
   -- what the rules said
-  pub cdr_said : AllHold (first_phases f) → CdrSays b
-  cdr_said rules =
+  pub first_said : AllHold (first_phases f) → FirstSays b g
+  first_said rules =
       let l = cdr_inside in
+      let i = inside 84 (omega arith) in
+      let there = subst (λ (t : Bool). Hold (asked t (gdr_rows f (gdr_offset f)))) rules.1.1.1.0.0 rules.1.1.1.0.1 in
+      let rows = subst (λ (x : ℕ). Hold (gdr_rows f x)) offset_here there in
       record {
         first_magic = sym (of_image 0 4 (omega arith)) ∙ eq_of _ _ rules.1.0.0;
         second_magic = sym (of_image 4 4 (omega arith)) ∙ eq_of _ _ rules.1.0.1.0;
         version_is = sym (of_image 28 4 (omega arith)) ∙ eq_of _ _ rules.1.1.0.1.1.0;
+        encoding_read = ap (λ (n : ℕ). is_some (encoding_at n)) (sym (of_image 36 4 (omega arith))) ∙ rules.1.1.0.1.1.1.0;
         single_file = sym (ap (λ (n : ℕ). has_bit n 1) flags_here) ∙ rules.1.1.0.1.1.1.1.0;
         md5_used = sym (ap (λ (n : ℕ). not (has_bit n 2) || has_bit n 3) flags_here) ∙ rules.1.1.0.1.1.1.1.1.0;
+        few = subst (λ (n : ℕ). n ≤ 10) count_here (leb-true _ _ (both (nat_le (number f g gdr_r_num_dims) 10) (is_record f g 2 (84 + 4 * r_num_dims f g)) rows.0).0);
+        positive = ap (list_all is_positive) (sym sizes_here) ∙ rows.1.0;
+        eof_is = sym (of_image (g + 36) 8 (omega arith)) ∙ eq_of _ _ rows.1.1.0 ∙ image_end;
       }
 
-  module _ (fits : Holds b s.gdr (gdr_r_dim_sizes (r_num_dims b s.gdr))) (says : FirstSays b s.gdr) (short : length b ≤ image_limit) where
-    gdr_typed : type_at b g ≡ gdr_type
-    gdr_typed = is_a-type b s.records gdr_type g h.gdr_stands
-
-    gdr_low : 8 ≤ g
-    gdr_low = (tile_lies b 8 (length b) s.records g h.tiled (is_a-in b s.records gdr_type g h.gdr_stands)).low
-
-    gdr_ends : g + size_at b g ≤ length b
-    gdr_ends = (tile_lies b 8 (length b) s.records g h.tiled (is_a-in b s.records gdr_type g h.gdr_stands)).high
-
-    inside : (n : ℕ) → n ≤ 84 + 4 * r_num_dims b g → g + n ≤ length b
-    inside n le = within g n (84 + 4 * r_num_dims b g) (size_at b g) (length b) le fits gdr_ends
-      where
-        within : (x n m k l : ℕ) → n ≤ m → m ≤ k → x + k ≤ l → x + n ≤ l
-        within x n m k l p q r = omega arith
-
-    longer : length f ≡ length b + length (trailer b)
-    longer = length-append b (trailer b)
-
-    -- the file ends with its trailer
-    image_end : length f - trailer_length f ≡ length b
-    image_end =
-        let t : trailer_length f ≡ length (trailer b) = ap (λ (p : Bool). if p then 16 else 0) (flags_of_front b (trailer b) (let l = cdr_inside in omega arith)) ∙ sym (trailer_is b) in
-        less (length f) (length b) (length (trailer b)) (trailer_length f) longer t
-      where
-        less : (x l t u : ℕ) → x ≡ l + t → u ≡ t → x - u ≡ l
-        less x l t u p q = omega arith
-
+  module _ (says : FirstSays b s.gdr) (short : length b ≤ image_limit) where
     not_longer : length f ≤ image_limit + 16
     not_longer = sum_up (length f) (length b) (length (trailer b)) (trailer_length b) longer (trailer_is b) (short_trailer b) short
       where
         sum_up : (x l t u : ℕ) → x ≡ l + t → t ≡ u → u ≤ 16 → l ≤ image_limit → x ≤ image_limit + 16
         sum_up x l t u p q r e = omega arith
-
-    reach : (n : ℕ) → n ≤ length b → n ≤ length f
-    reach n le = up n (length b) (length f) (length (trailer b)) le longer
-      where
-        up : (n l x t : ℕ) → n ≤ l → x ≡ l + t → n ≤ x
-        up n l x t p q = omega arith
-
-    offset_here : gdr_offset f ≡ g
-    offset_here = of_image 20 8 (let l = cdr_inside in omega arith) ∙ h.gdr_is
-
-    -- ---- the GDR
-
-    count_here : number f g gdr_r_num_dims ≡ number b g gdr_r_num_dims
-    count_here = of_image (g + 56) 4 (let i = inside 60 (omega arith) in omega arith)
-
-    dimensions_here : r_num_dims f g ≡ r_num_dims b g
-    dimensions_here = ap (λ (n : ℕ). counted (cast_signed w32 n)) count_here
-
-    sizes_here : r_sizes f g ≡ r_sizes b g
-    sizes_here =
-        let d = r_num_dims b g in
-        ap (words f (g + 84)) dimensions_here ∙ words_kept b f 0 (length b) front (g + 84) d (omega arith) (let i = inside (84 + 4 * d) (omega arith) in room g d (length b) i)
-      where
-        room : (x d l : ℕ) → x + (84 + 4 * d) ≤ l → x + 84 + 4 * d ≤ l
-        room x d l p = omega arith
-
-    size_here : size_at f g ≡ size_at b g
-    size_here = of_image (g + 0) 8 (let i = inside 12 (omega arith) in omega arith)
 
     gdr_rules : Hold (gdr_rows f g)
     gdr_rules =
