@@ -4,11 +4,9 @@ use Rattle.cdf_puts.proofs.Common.{cases_lt, lt-ltb, same_Some, min, max, ◌==�
 use Rattle.cdf_edits.proofs.Edits.LeafPieces.{of_each}
 use Rattle.cdf_puts.proofs.CoveringRanges.{one_alone}
 use Rattle.cdf_puts.proofs.GoesAlike.{later_size, later_packed}
-use Rattle.cdf_puts.proofs.LeafBlocks.{blocks_go_on}
 use Rattle.cdf_puts.proofs.LeafCounts.{leaf_added, leaf_stays, leaf_was_there}
-use Rattle.cdf_puts.proofs.LeafEdit.{new_nodes}
-use Rattle.cdf_puts.proofs.LeafSplices.{file, index_edit, new_fresh}
-use Rattle.cdf_puts.proofs.LeafBlocks.{plain_body}
+use Rattle.cdf_puts.proofs.LeafEdit.{block_taken, file, index_edit, used_apart}
+use Rattle.cdf_puts.proofs.LeafGood.{blocks_go_on, plain_body}
 use Rattle.cdf_puts.proofs.PutBytes.{old_size, old_stays, new_stays}
 use Rattle.cdf_puts.proofs.PutNodes.{taken_first, taken_then, taken_neither}
 
@@ -17,23 +15,6 @@ through x y z p q = omega arith
 
 none_some : {x : Leaf} → None ≡ Some x → ⊥
 none_some e = cc
-
--- ---- what is taken for a leaf
-
-taken_nodes : (room at m : ℕ) → is_taken_at (node_acts room at) m ≡ is_in m (new_nodes room at)
-taken_nodes zero at m = refl
-taken_nodes (suc room) at m = refl
-
-taken_places_are : (place need room at m : ℕ) → is_taken_at (leaf_acts place need room at) m ≡ is_in m (place ∷ new_nodes room at)
-taken_places_are place need room at m = ap (λ (p : Bool). (m == place) || p) (taken_nodes room at m)
-
-pub block_taken : (place need room at : ℕ) → is_taken_at (leaf_acts place need room at) place ≡ true
-block_taken place need room at = let e : (place == place) ≡ true = eq-eqb place place refl in rw e refl
-
--- a record that is in use is not taken
-pub used_apart : {b now : List ℕ} {kind : Kind} {before : List VariableShape} {own : VariableShape} {after : List VariableShape} {new : Leaf} {body : List ℕ} {at : ℕ} (good : Good b) (among : StandsAmong b kind before own after) (w : LeafAdded b now own new body at)
-    → (m need : ℕ) → In m (shape b).records → type_at b m ≢ uir_type → is_taken_at (leaf_acts new.place need (new_room new.first own.index) at) m ≡ false
-used_apart {own = own} {new = new} {at = at} good among w m need i used = taken_places_are new.place need (new_room new.first own.index) at m ∙ is_in-false m (new.place ∷ new_nodes (new_room new.first own.index) at) (λ j. used (new_fresh good among w m j i))
 
 -- ---- the leaves beside the new one
 
@@ -133,7 +114,7 @@ module _ {b now now' : List ℕ} {kind : Kind} {before : List VariableShape} {ow
   same l i = of_each (λ (l : Leaf). Same now now' l.place (l.place + size_at now l.place)) leaves l goes_on.old i
 
   pub leaf_apart : (l : Leaf) → IsOneOf leaves l → is_taken_at step l.place ≡ false
-  leaf_apart l i = used_apart so.goes.good so.goes.among w l.place (8 + length body) (stands l i) (λ e. absurd (apart vvr_type uir_type refl (sym (plain l i).typed ∙ e)))
+  leaf_apart l i = used_apart so.goes.good so.goes.among w l.place (stands l i) (λ e. absurd (apart vvr_type uir_type refl (sym (plain l i).typed ∙ e)))
 
   more_upto : k < upto
   more_upto = let o = vacant.ordered in omega arith

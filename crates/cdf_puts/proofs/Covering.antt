@@ -7,8 +7,7 @@ use Rattle.cdf_edits.proofs.Edits.LeafPieces.{found_in}
 use Rattle.cdf_index.proofs.LeafMore.{ranges_new}
 use Rattle.cdf_puts.specs.Covering.{Counted}
 use Rattle.cdf_puts.proofs.CoveringRanges.{of_leaves, leaves_ascend, range_found, no_range, one_at_least, next_upto, one_alone, full_or_next, next_past, new_is, new_by_next, Ends, ends, next_record, next_vacant, all_done, covered_with, covered_less}
-use Rattle.cdf_puts.proofs.LeafCounts.{Roomy, widest_with_leaf, new_room_widest}
-use Rattle.cdf_puts.proofs.LeafFirsts.{next_firsts_with_leaf}
+use Rattle.cdf_puts.proofs.LeafCounts.{Roomy, next_firsts_with_leaf, widest_with_leaf, new_room_widest}
 use Rattle.cdf_index.proofs.LeafRules.{order_with_leaf}
 use Rattle.cdf_puts.proofs.RoomEnough.{count_more, count_most, next_passed, firsts_count, more_blocks, more_bytes, uncovered_is, room_enough, blocks_enough, node_fits}
 
@@ -164,7 +163,7 @@ module _ (v : Variable) (index : Nodes) (n : ℕ) (rule : is_sparse v.sparse ≡
             ∙ sym (next_vacant v (firsts_of index) n small k (ranges_of index') le none) ∙ c.ahead
 
         next_same : (m : ℕ) → last + 1 ≤ m → next_first m (firsts_of (with_leaf new at index')) ≡ next_first m (firsts_of index)
-        next_same m lm = next_firsts_with_leaf new at 0 record_number_limit index' c.ordered m (past k last m ending.ordered lm) ∙ c.nexts m (past k last m ending.ordered lm)
+        next_same m lm = next_firsts_with_leaf new at index' m (past k last m ending.ordered lm) ∙ c.nexts m (past k last m ending.ordered lm)
           where
             past : (k last m : ℕ) → k ≤ last → last + 1 ≤ m → k ≤ m
             past k last m a b = omega arith

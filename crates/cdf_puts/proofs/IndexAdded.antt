@@ -1,56 +1,27 @@
 -- The index once a leaf is added: which leaves were put by then, which ranges are new, the top chain and the nodes.
 use Rattle.std.proofs.Common.{◌≡◌, ◌⊎◌, ℕ, zero, suc, ◌+◌, ◌*◌, ◌<◌, ◌≤◌, List, [], ◌∷◌, ◌++◌, length, map, Bool, true, false, not, ◌||◌, None, bytes_eq, refl, sym, ap, subst, ◌∙◌, arith, inl, inr}
-use Rattle.cdf_puts.proofs.Common.{cases_lt, lt-ltb, le-ltb, lt-leb, filter, list_any, unwrap_or, min, max, nat_le, if◌then◌else◌, extent, record_number_limit, Kind, new_ranges, Range, range, covers, ranges_of, first_written, firsts_of, new_range, with_leaf, new_room, with_ranges, indexes_with, outline, is_taken_at, block_need, uses_entry, NodesFollow, top_chain, last_node, Act, IsOneOf, in_order, Ascending, count_is, leaves_ascend, StandsAmong, sound, has, variable_of, number, Leaf, leaf, leaves_of, nodes_of, vdr_vxr_tail, VariableShape, shape, In, max_rec_at, record_bytes, records_of_leaf, Good, either, tile_lies, LeafAdded, NodeTaken, leaf_acts, with_new, leaves_more, BlockRecords, SoFar, IndexSoFar, NodesSoFar, NewBlock, PutsBefore, was_put, IsVacant, IsBlockBody, before_limit}
+use Rattle.cdf_puts.proofs.Common.{cases_lt, lt-ltb, le-ltb, lt-leb, map-append, filter, list_any, unwrap_or, min, max, nat_le, if◌then◌else◌, extent, record_number_limit, Kind, new_ranges, Range, range, covers, ranges_of, first_written, firsts_of, new_range, with_leaf, new_room, with_ranges, indexes_with, outline, is_taken_at, block_need, uses_entry, NodesFollow, top_chain, last_node, Act, IsOneOf, in_order, Ascending, count_is, leaves_ascend, StandsAmong, sound, has, variable_of, number, Leaf, leaf, leaves_of, nodes_of, vdr_vxr_tail, VariableShape, shape, In, max_rec_at, record_bytes, records_of_leaf, Good, either, bytes_eq-same, tile_lies, LeafAdded, NodeTaken, leaf_acts, with_new, leaves_more, BlockRecords, SoFar, IndexSoFar, NodesSoFar, NewBlock, PutsBefore, was_put, IsVacant, IsBlockBody, before_limit}
 use Rattle.std.specs.List.{last_or}
 use Rattle.cdf_puts.specs.SoFar.{TopGrows, taken_places}
 use Rattle.cdf_puts.proofs.BlocksAdded.{order, beside_new}
-use Rattle.cdf_puts.proofs.LeafEdit.{node_in}
-use Rattle.cdf_puts.proofs.LeafOutlines.{same_with_leaf, same_uses, with_one_more, last_of_through, through_stays, top_grows, bytes_same, bytes_longer}
-use Rattle.cdf_puts.proofs.NodesAdded.{nodes_step, node_taken}
-use Rattle.cdf_puts.proofs.PutLeaves.{put_new, none_begins, puts_new}
-use Rattle.cdf_puts.proofs.PutNodes.{NodesStep, nodes_then, taken_both, taken_first, taken_then, taken_neither}
+use Rattle.cdf_puts.proofs.LeafEdit.{node_in, node_taken, nodes_step}
+use Rattle.cdf_puts.proofs.LeafOutlines.{place_outside, same_with_leaf, same_uses, with_one_more, last_of_through, through_stays, top_grows, bytes_longer}
+use Rattle.cdf_puts.proofs.CoveringRanges.{of_leaves}
+use Rattle.cdf_puts.proofs.PutLeaves.{one_more, put_new, none_begins, puts_new}
+use Rattle.cdf_puts.proofs.PutNodes.{NodesStep, nodes_then, taken_both, taken_first, taken_then, taken_neither, or_false}
 use Rattle.cdf_puts.proofs.SoFarStarts.{covers_own}
 
 -- ---- the ranges that are new
 
-abbrev of_leaves : List Leaf → List Range
-of_leaves leaves = map (λ (x : Leaf). range x.first x.last) leaves
-
-none_from : (test : Range → Bool) (k low upto : ℕ) (leaves : List Leaf) → Ascending low upto leaves → k < low → ((l : Leaf) → IsOneOf leaves l → k < l.first → test (range l.first l.last) ≡ false) → filter test (of_leaves leaves) ≡ []
-none_from test k low upto [] a lt old = refl
-none_from test k low upto (x ∷ more) a lt old =
-    let a0 = a.0 in
-    let a1 = a.1 in
-    let here = old x (inl refl) (omega arith) in
-    rw here (none_from test k (suc x.last) upto more a.3 (omega arith) (λ l i. old l (inr i)))
-
-one_more_range : (test : Range → Bool) (low upto : ℕ) (leaves : List Leaf) (new : Leaf) → Ascending low upto leaves → test (range new.first new.last) ≡ true → ((l : Leaf) → IsOneOf leaves l → new.first < l.first → test (range l.first l.last) ≡ false)
-    → filter test (of_leaves (with_new new leaves)) ≡ filter test (of_leaves leaves) ++ range new.first new.last ∷ []
-one_more_range test low upto [] new a is old = rw is refl
-one_more_range test low upto (x ∷ more) new a is old = elim (cases_lt new.first x.first) [
-  | inl lt ↦
-      let here = lt-ltb new.first x.first lt in
-      let none = none_from test new.first x.first upto (x ∷ more) (same x.first, a.1, a.2, a.3) lt old in
-      rw (here, is) (ap (λ (rs : List Range). range new.first new.last ∷ rs) none ∙ ap (λ (rs : List Range). rs ++ range new.first new.last ∷ []) (sym none))
-  | inr le ↦
-      let here = le-ltb new.first x.first le in
-      let rest = one_more_range test (suc x.last) upto more new a.3 is (λ l i. old l (inr i)) in
-      elim (either (test (range x.first x.last))) [
-        | inl t ↦ rw (here, t) (ap (λ (rs : List Range). range x.first x.last ∷ rs) rest)
-        | inr t ↦ rw (here, t) rest
-      ]
-]
-  where
-    same : (n : ℕ) → n ≤ n
-    same n = omega arith
+filter_mapped : {X Y : Type 0} (f : X → Y) (test : Y → Bool) (xs : List X) → filter test (map f xs) ≡ map f (filter (λ x. test (f x)) xs)
+filter_mapped f test [] = refl
+filter_mapped f test (x ∷ xs) = elim (either (test (f x))) [ inl t ↦ rw t (ap (λ ys. f x ∷ ys) (filter_mapped f test xs)) | inr t ↦ rw t (filter_mapped f test xs) ]
 
 none_covers : (k : ℕ) (leaves : List Leaf) → ((l : Leaf) → IsOneOf leaves l → (l.last < k) ⊎ (k < l.first)) → list_any (covers k) (of_leaves leaves) ≡ false
 none_covers k [] f = refl
-none_covers k (x ∷ more) f = let here = out (f x (inl refl)) in rw here (none_covers k more (λ l i. f l (inr i)))
-  where
-    out : (x.last < k) ⊎ (k < x.first) → covers k (range x.first x.last) ≡ false
-    out (inl lt) = elim (either (nat_le x.first k)) [ inl t ↦ rw (t, lt-leb k x.last lt) refl | inr t ↦ rw t refl ]
-    out (inr lt) = rw (lt-leb x.first k lt) refl
+none_covers k (x ∷ more) f =
+    let rest = none_covers k more (λ l i. f l (inr i)) in
+    elim (f x (inl refl)) [ inl lt ↦ elim (either (nat_le x.first k)) [ inl t ↦ rw (t, lt-leb k x.last lt) rest | inr t ↦ rw t rest ] | inr lt ↦ rw (lt-leb x.first k lt) rest ]
 
 -- ---- the top chain
 
@@ -58,26 +29,17 @@ abbrev last_of : List ℕ → ℕ
 last_of xs = unwrap_or (last_or None xs) 0
 
 tail_then : (x y z : List ℕ) (first mid last : ℕ) → (y ≡ x) ⊎ (length x < length y) → (z ≡ y) ⊎ (length y < length z) → mid ≡ (if bytes_eq x y then first else last_of y) → last ≡ (if bytes_eq y z then mid else last_of z) → last ≡ (if bytes_eq x z then first else last_of z)
-tail_then x y z first mid last (inl e) (inl f) p q =
-    let s = bytes_same x in
-    let y' = e in
-    let z' : z ≡ x = f ∙ e in
-    let p' : mid ≡ first = subst (λ (c : Bool). mid ≡ (if c then first else last_of y)) (ap (bytes_eq x) y' ∙ s) p in
-    let q' : last ≡ mid = subst (λ (c : Bool). last ≡ (if c then mid else last_of z)) (ap (bytes_eq y) f ∙ bytes_same y) q in
-    q' ∙ p' ∙ sym (ap (λ (c : Bool). if c then first else last_of z) (ap (bytes_eq x) z' ∙ s))
-tail_then x y z first mid last (inl e) (inr lt) p q =
-    let same = ap length e in
-    subst (λ (c : Bool). last ≡ (if c then mid else last_of z)) (bytes_longer y z lt) q ∙ sym (ap (λ (c : Bool). if c then first else last_of z) (bytes_longer x z (omega arith)))
+tail_then x y z first mid last (inl e) g p q =
+    let same : mid ≡ first = p ∙ ap (λ (c : Bool). if c then first else last_of y) (ap (bytes_eq x) e ∙ bytes_eq-same x) in
+    q ∙ (λ i. if bytes_eq (e i) z then same i else last_of z)
 tail_then x y z first mid last (inr lt) (inl f) p q =
     let same = ap length f in
-    let p' : mid ≡ last_of y = subst (λ (c : Bool). mid ≡ (if c then first else last_of y)) (bytes_longer x y lt) p in
-    let q' : last ≡ mid = subst (λ (c : Bool). last ≡ (if c then mid else last_of z)) (ap (bytes_eq y) f ∙ bytes_same y) q in
-    q' ∙ p' ∙ ap last_of (sym f) ∙ sym (ap (λ (c : Bool). if c then first else last_of z) (bytes_longer x z (omega arith)))
-tail_then x y z first mid last (inr lt) (inr lt') p q = subst (λ (c : Bool). last ≡ (if c then mid else last_of z)) (bytes_longer y z lt') q ∙ sym (ap (λ (c : Bool). if c then first else last_of z) (bytes_longer x z (omega arith)))
+    rw (bytes_longer x z (omega arith))
+    (q ∙ ap (λ (c : Bool). if c then mid else last_of z) (ap (bytes_eq y) f ∙ bytes_eq-same y) ∙ p ∙ ap (λ (c : Bool). if c then first else last_of y) (bytes_longer x y lt) ∙ ap last_of (sym f))
+tail_then x y z first mid last (inr lt) (inr lt') p q = rw (bytes_longer x z (omega arith)) (q ∙ ap (λ (c : Bool). if c then mid else last_of z) (bytes_longer y z lt'))
 
 top_then : (x y z : List ℕ) → (y ≡ x) ⊎ (length x < length y) → (z ≡ y) ⊎ (length y < length z) → (z ≡ x) ⊎ (length x < length z)
-top_then x y z (inl e) (inl f) = inl (f ∙ e)
-top_then x y z (inl e) (inr lt) = let same = ap length e in inr (omega arith)
+top_then x y z (inl e) g = subst (λ (w : List ℕ). (z ≡ w) ⊎ (length w < length z)) e g
 top_then x y z (inr lt) (inl f) = let same = ap length f in inr (omega arith)
 top_then x y z (inr lt) (inr lt') = inr (omega arith)
 
@@ -140,8 +102,7 @@ module _ {b now now' : List ℕ} {kind : Kind} {before : List VariableShape} {ow
 
   puts_added : PutsBefore b own own'' (filter (was_put first upto) (leaves_of own''.index)) (acts ++ step)
   puts_added =
-      let up : Ascending 0 (suc record_number_limit) (with_new new leaves) = subst (Ascending 0 (suc record_number_limit)) leaves_are (leaves_ascend good' among') in
-      let one = put_new first k upto 0 (suc record_number_limit) 0 (suc record_number_limit) leaves new ascend up refl so.from (later k last r vacant.ordered more) (within last r) in
+      let one = put_new first k upto 0 (suc record_number_limit) leaves new ascend (λ l i. beside_new so more is vacant holds says w good' among' l i (ordered l i)) refl so.from (later k last r vacant.ordered more) (within last r) in
       subst (λ (ls : List Leaf). PutsBefore b own own'' ls (acts ++ step)) (sym (ap (filter (was_put first upto)) leaves_are ∙ one))
       (puts_new b own own' (filter (was_put first k) leaves) acts new (8 + length body) at so.index.puts (none_begins k 0 (suc record_number_limit) leaves ascend vacant.uncovered) needs (no_node_zero w.filled w.roomy (new_room k own'.index) at w.node))
     where
@@ -156,11 +117,14 @@ module _ {b now now' : List ℕ} {kind : Kind} {before : List VariableShape} {ow
   abbrev rs : List Range
   rs = new_ranges (ranges_of own.index) (ranges_of own'.index)
 
+  abbrev test : Range → Bool
+  test x = not (list_any (covers x.first) (ranges_of own.index))
+
   one_new : new_ranges (ranges_of own.index) (ranges_of own''.index) ≡ rs ++ range k last ∷ []
   one_new =
-      ap (λ (ls : List Leaf). new_ranges (ranges_of own.index) (of_leaves ls)) leaves_are
-      ∙ one_more_range (λ (x : Range). not (list_any (covers x.first) (ranges_of own.index))) 0 (suc record_number_limit) leaves new ascend (ap not (none_covers k olds (λ l i. out l (so.blocks.stay l i))))
-      (λ l i lt. ap not (was_there l i lt (so.blocks.new l i)))
+      let rng = λ (l : Leaf). range l.first l.last in
+      let one = one_more (λ l. test (rng l)) (λ l. test (rng l)) 0 (suc record_number_limit) leaves new ascend (ap not (none_covers k olds (λ l i. out l (so.blocks.stay l i)))) (λ l i le. refl) (λ l i lt. let e = ap not (was_there l i lt (so.blocks.new l i)) in (e, e)) in
+      ap (λ (ls : List Leaf). filter test (map rng ls)) leaves_are ∙ filter_mapped rng test (with_new new leaves) ∙ ap (map rng) one ∙ map-append rng (filter (λ l. test (rng l)) leaves) (new ∷ []) ∙ ap (λ (xs : List Range). xs ++ range k last ∷ []) (sym (filter_mapped rng test leaves))
     where
       out : (l : Leaf) → IsOneOf leaves l → (l.last < k) ⊎ (k < l.first)
       out l i = elim (beside_new so more is vacant holds says w good' among' l i (ordered l i)) [ inl lt ↦ inl lt | inr lt ↦ inr (let o = vacant.ordered in omega arith) ]
@@ -175,15 +139,18 @@ module _ {b now now' : List ℕ} {kind : Kind} {before : List VariableShape} {ow
   s = nodes_step so.goes.good so.goes.among w
 
   agree : (m : ℕ) → In m (nodes_of own'.index) → is_taken_at (acts ++ step) m ≡ is_taken_at acts m
-  agree m i = taken_both acts step m ∙ ap (λ (p : Bool). is_taken_at acts m || p) (s.apart m i) ∙ or_nothing (is_taken_at acts m)
-    where
-      or_nothing : (p : Bool) → (p || false) ≡ p
-      or_nothing true = refl
-      or_nothing false = refl
+  agree m i = taken_both acts step m ∙ ap (λ (p : Bool). is_taken_at acts m || p) (s.apart m i) ∙ or_false (is_taken_at acts m)
+
+  -- a node that is taken stands at a new place, and else none does
+  outside : place_outside (taken_places (acts ++ step)) at ≡ 0
+  outside = elim (cases_lt 0 (new_room k own'.index)) [
+    | inl some ↦ let t = taken_then acts step at (node_taken place (8 + length body) (new_room k own'.index) at some) in rw t refl
+    | inr none ↦ subst (λ (x : ℕ). place_outside (taken_places (acts ++ step)) x ≡ 0) (sym (no_node_zero w.filled w.roomy (new_room k own'.index) at w.node (omega arith))) (elim (either (is_taken_at (acts ++ step) 0)) [ inl t ↦ rw t refl | inr t ↦ rw t refl ])
+  ]
 
   outlined : outline (taken_places (acts ++ step)) own''.index ≡ outline [] (with_ranges own.index (rs ++ range k last ∷ []))
   outlined =
-      same_with_leaf (taken_places acts) (taken_places (acts ++ step)) new at own'.index (with_ranges own.index rs) n.outlined agree (λ some. taken_then acts step at (node_taken place (8 + length body) (new_room k own'.index) at some))
+      same_with_leaf (taken_places acts) (taken_places (acts ++ step)) new at own'.index (with_ranges own.index rs) n.outlined agree outside
       ∙ ap (outline []) (sym (with_one_more own.index rs (range k last)))
 
   not_zero : (m : ℕ) → In m (nodes_of own'.index) → m ≡ 0 → ⊥

@@ -3,7 +3,7 @@ use Rattle.std.proofs.Common.{◌≡◌, ◌≢◌, ◌⊎◌, ℕ, suc, ◌+◌
 use Rattle.cdf_puts.proofs.Common.{filter, record_number_limit, Kind, range, covers, first_written, is_taken_at, Act, places_of, IsOneOf, covers_within, place_in, leaves_ascend, fits, tile, long, no_block, Kept, Each-in, variable_of, number, Leaf, leaves_of, nodes_of, vdr_vxr_tail, VariableShape, NodeFits, In, word_kept, size_kept, either, SoFar, IndexSoFar, NodesSoFar, PutsBefore, record_of, was_put, RecordWritten}
 use Rattle.cdf_edits.proofs.Edits.LeafPieces.{find_first, found_in}
 use Rattle.cdf_puts.proofs.PutLeaves.{put_next, puts_old}
-use Rattle.cdf_puts.proofs.PutNodes.{nodes_same}
+use Rattle.cdf_puts.proofs.PutNodes.{nodes_same, unless_true}
 use Rattle.cdf_puts.proofs.WrittenGoes.{nodes_stay, stays}
 
 -- no node changes
@@ -14,16 +14,8 @@ nodes_still {b = b} {now = now} {now' = now'} {own = own} {own' = own'} {acts = 
   come = n.come;
   sizes = λ m i. let k = kept m (n.stay m i) in size_kept now now' m k.same (let l = k.long in omega arith) ∙ n.sizes m i;
   outlined = n.outlined;
-  follow = nodes_same b now now' _ (nodes_of own.index) (nodes_of own'.index) acts fit kept (λ m j e. n.sizes m (was m (n.come m j) e)) n.follow;
+  follow = nodes_same b now now' _ (nodes_of own.index) (nodes_of own'.index) acts fit kept (λ m j e. n.sizes m (unless_true (n.come m j) e)) n.follow;
 }
-  where
-    was : (m : ℕ) → In m (nodes_of own.index) ⊎ (is_taken_at acts m ≡ true) → is_taken_at acts m ≡ false → In m (nodes_of own.index)
-    was m (inl j) e = j
-    was m (inr t) e = absurd (clash (is_taken_at acts m) t e)
-      where
-        clash : (p : Bool) → p ≡ true → p ≡ false → ⊥
-        clash true a c = absurd cc
-        clash false a c = absurd cc
 
 module _ {b now now' : List ℕ} {kind : Kind} {before : List VariableShape} {own own' : VariableShape} {after : List VariableShape} {raw pad : List ℕ} {r k : ℕ} {acts : List Act} {l : Leaf} (so : SoFar b now kind before own own' after raw pad r k acts) (w : RecordWritten now now' own' l k (record_of raw pad r k)) where
   abbrev first : ℕ

@@ -1,12 +1,15 @@
 -- An index with a leaf more, but for where its blocks and its new nodes stand; and its top chain.
 use Rattle.std.proofs.Common.{◌≡◌, ◌⊎◌, ℕ, zero, suc, ◌<◌, ◌≤◌, max, List, [], ◌∷◌, ◌++◌, length, Bool, true, false, ltb, leb, eqb, refl, sym, ap, subst, ◌∙◌, arith, inl, inr}
 use Rattle.cdf_puts.proofs.Common.{eq-eqb, ne_eqb, lt-ltb, list_any, ◌&&◌, ◌||◌, if◌then◌else◌, Range, reaches, chain_reaches, leads_down, with_block, upto, past, with_both, with_entry, room_of_new, with_ranges, top_chain, is_in, Nodes, no_node, node, Entries, no_entry, block, lower, Leaf, leaf, entry_count, used_count, In, either, In-append, In-append_left, In-append_right, same_of_bytes_eq}
+use Rattle.std.proofs.lemmas.Bool.{and_from, both_ways, or_left, or_right}
 use Rattle.std.proofs.lemmas.List.Folds.{list_any-append}
 use Rattle.std.specs.Prelude.{bytes_eq}
-use Rattle.cdf_edits.specs.Index.Grown.{with_leaf, with_lower, new_room, new_room_below, indexes_with, outline, entries_outline}
+use Rattle.cdf_edits.specs.Index.Grown.{with_leaf, with_lower, indexes_with, outline, entries_outline}
 use Rattle.cdf_edits.specs.Index.Written.{uses_entry, uses_entry_below}
 use Rattle.cdf_format.specs.Index.{nodes_of, lower_nodes}
 use Rattle.cdf_format.specs.IndexOf.{HasNodes, Names}
+use Rattle.cdf_puts.specs.SoFar.{TopGrows}
+use Rattle.cdf_puts.proofs.LeafCounts.{Grows, by_leaf}
 
 -- ---- an outline says the same of an index as the index does
 
@@ -111,51 +114,21 @@ module _ (news : List ℕ) where
   module _ (vxr i : ℕ) (old : is_in vxr news ≡ false) (stands : vxr ≡ 0 → ⊥) where
     same_place : (place : ℕ) → eqb (place_outside news place) vxr ≡ eqb place vxr
     same_place place = elim (either (is_in place news)) [
-      | inl t ↦
-          let far : eqb 0 vxr ≡ false = ne_eqb 0 vxr (λ e. stands (sym e)) in
-          let other : eqb place vxr ≡ false = ne_eqb place vxr (λ e. absurd (clash (is_in vxr news) (subst (λ (m : ℕ). is_in m news ≡ true) e t) old)) in
-          rw (t, other) far
+      | inl t ↦ rw (t, ne_eqb place vxr (λ e. both_ways (is_in vxr news) old (subst (λ (m : ℕ). is_in m news ≡ true) e t))) (ne_eqb 0 vxr (λ e. stands (sym e)))
       | inr t ↦ rw t refl
     ]
-      where
-        clash : (p : Bool) → p ≡ true → p ≡ false → ⊥
-        clash true a b = cc
-        clash false a b = cc
-
-    any_of : (p p' n n' q q' r r' : Bool) → p ≡ p' → n ≡ n' → q ≡ q' → r ≡ r' → ((p && n) || (q || r)) ≡ ((p' && n') || (q' || r'))
-    any_of p p' n n' q q' r r' a b c d = rw (a, b, c, d) refl
-
-    either_of : (q q' r r' : Bool) → q ≡ q' → r ≡ r' → (q || r) ≡ (q' || r')
-    either_of q q' r r' c d = rw (c, d) refl
 
     mutual
       unfolding outline uses_entry uses_entry_below
 
       pub uses_outline : (index : Nodes) → uses_entry vxr i (outline news index) ≡ uses_entry vxr i index
       uses_outline no_node = refl
-      uses_outline (node place room es more) =
-          any_of (eqb (place_outside news place) vxr) (eqb place vxr) (ltb i (entry_count (entries_outline news es))) (ltb i (entry_count es)) (uses_entry_below vxr i (entries_outline news es)) (uses_entry_below vxr i es) (uses_entry vxr i (outline news more)) (uses_entry vxr i more)
-          (same_place place) (ap (ltb i) (count_outline es)) (uses_below_outline es) (uses_outline more)
+      uses_outline (node place room es more) = rw (same_place place, count_outline es, uses_below_outline es, uses_outline more) refl
 
       pub uses_below_outline : (es : Entries) → uses_entry_below vxr i (entries_outline news es) ≡ uses_entry_below vxr i es
       uses_below_outline no_entry = refl
       uses_below_outline (block first last place packed es) = uses_below_outline es
-      uses_below_outline (lower first last nodes es) = either_of (uses_entry vxr i (outline news nodes)) (uses_entry vxr i nodes) (uses_entry_below vxr i (entries_outline news es)) (uses_entry_below vxr i es) (uses_outline nodes) (uses_below_outline es)
-
-joined : (p p' room : ℕ) (es es' : Entries) (more more' : Nodes) → p ≡ p' → es ≡ es' → more ≡ more' → node p room es more ≡ node p' room es' more'
-joined p p' room es es' more more' a b c = rw (a, b, c) refl
-
-not_wide : (n : ℕ) → 7 ≤ n → n ≡ 0 → ⊥
-not_wide n l e = absurd (omega arith)
-
-with_entry_anywhere : (new : Leaf) (at at' place room : ℕ) (es : Entries) (more : Nodes) → room_of_new new.first room es ≡ 0 → with_entry new at place room es more ≡ with_entry new at' place room es more
-with_entry_anywhere new at at' place room es more z = elim (either (ltb (entry_count es) room)) [
-  | inl t ↦ rw t refl
-  | inr t ↦ absurd (too_wide (entry_count (past new.first es)) (rw t at z))
-]
-  where
-    too_wide : (n : ℕ) → max 7 n ≡ 0 → ⊥
-    too_wide n e = absurd (omega arith)
+      uses_below_outline (lower first last nodes es) = rw (uses_outline nodes, uses_below_outline es) refl
 
 -- new places count alike where they do so at the nodes
 mutual
@@ -164,90 +137,39 @@ mutual
   pub outline_agrees : (news news' : List ℕ) (index : Nodes) → ((m : ℕ) → In m (nodes_of index) → is_in m news' ≡ is_in m news) → outline news' index ≡ outline news index
   outline_agrees news news' no_node same = refl
   outline_agrees news news' (node place room es more) same =
-      joined (place_outside news' place) (place_outside news place) room (entries_outline news' es) (entries_outline news es) (outline news' more) (outline news more)
-      (ap (λ (p : Bool). if p then 0 else place) (same place (inl refl)))
-      (entries_agree news news' es (λ m i. same m (inr (In-append_left m (lower_nodes es) (nodes_of more) i))))
-      (outline_agrees news news' more (λ m i. same m (inr (In-append_right m (lower_nodes es) (nodes_of more) i))))
+      let here = same place (inl refl) in
+      let lower = entries_agree news news' es (λ m i. same m (inr (In-append_left m (lower_nodes es) (nodes_of more) i))) in
+      let rest = outline_agrees news news' more (λ m i. same m (inr (In-append_right m (lower_nodes es) (nodes_of more) i))) in
+      λ k. node (if here k then 0 else place) room (lower k) (rest k)
 
   pub entries_agree : (news news' : List ℕ) (es : Entries) → ((m : ℕ) → In m (lower_nodes es) → is_in m news' ≡ is_in m news) → entries_outline news' es ≡ entries_outline news es
   entries_agree news news' no_entry same = refl
   entries_agree news news' (block first last place packed es) same = ap (block first last 0 false) (entries_agree news news' es same)
   entries_agree news news' (lower first last nodes es) same =
-      ap (λ (x : Nodes). lower first last x (entries_outline news' es)) (outline_agrees news news' nodes (λ m i. same m (In-append_left m (nodes_of nodes) (lower_nodes es) i)))
-      ∙ ap (lower first last (outline news nodes)) (entries_agree news news' es (λ m i. same m (In-append_right m (nodes_of nodes) (lower_nodes es) i)))
-
--- where no node is needed, it does not matter where one would stand
-mutual
-  unfolding with_leaf with_lower new_room new_room_below
-
-  pub with_leaf_anywhere : (new : Leaf) (at at' : ℕ) (index : Nodes) → new_room new.first index ≡ 0 → with_leaf new at index ≡ with_leaf new at' index
-  with_leaf_anywhere new at at' no_node z = absurd (not_wide 7 (omega arith) z)
-  with_leaf_anywhere new at at' (node place room es more) z = elim (either (chain_reaches new.first more)) [
-    | inl r ↦ rw r (ap (λ (x : Nodes). node place room es x) (with_leaf_anywhere new at at' more (rw r at z)))
-    | inr r ↦ elim (either (leads_down new.first false es)) [
-      | inl d ↦ rw (r, d) (ap (λ (x : Entries). node place room x more) (with_lower_anywhere new at at' es (rw (r, d) at z)))
-      | inr d ↦ rw (r, d) (with_entry_anywhere new at at' place room es more (rw (r, d) at z))
-    ]
-  ]
-
-  pub with_lower_anywhere : (new : Leaf) (at at' : ℕ) (es : Entries) → new_room_below new.first es ≡ 0 → with_lower new at es ≡ with_lower new at' es
-  with_lower_anywhere new at at' no_entry z = refl
-  with_lower_anywhere new at at' (block first last place packed es) z = ap (block first last place packed) (with_lower_anywhere new at at' es z)
-  with_lower_anywhere new at at' (lower first last nodes es) z = elim (either (reaches new.first es)) [
-    | inl r ↦ rw r (ap (lower first last nodes) (with_lower_anywhere new at at' es (rw r at z)))
-    | inr r ↦ rw r (ap (λ (x : Nodes). lower first (max last new.last) x es) (with_leaf_anywhere new at at' nodes (rw r at z)))
-  ]
+      let below = outline_agrees news news' nodes (λ m i. same m (In-append_left m (nodes_of nodes) (lower_nodes es) i)) in
+      let rest = entries_agree news news' es (λ m i. same m (In-append_right m (nodes_of nodes) (lower_nodes es) i)) in
+      λ k. lower first last (below k) (rest k)
 
 -- ---- two indexes with the same outline, where new nodes stand at 0 in the second
 
 abbrev pub SameOutline : List ℕ → Nodes → Nodes → Type 0
 SameOutline news index index' = outline news index ≡ outline [] index'
 
--- A leaf more keeps it; a node that is needed stands at a new place, and no node that was there does so by that.
-pub same_with_leaf : (news news' : List ℕ) (new : Leaf) (at : ℕ) (index index' : Nodes) → SameOutline news index index' → ((m : ℕ) → In m (nodes_of index) → is_in m news' ≡ is_in m news) → (1 ≤ new_room new.first index → is_in at news' ≡ true)
-    → SameOutline news' (with_leaf new at index) (with_leaf (leaf new.first new.last 0 false) 0 index')
-same_with_leaf news news' new at index index' same agree there =
-    moved (new_room new.first index) refl
+-- A leaf more keeps it, where a node that is needed stands at a new place, and one that is not at 0; no node that was there is new by that.
+pub same_with_leaf : (news news' : List ℕ) (new : Leaf) (at : ℕ) (index index' : Nodes) → SameOutline news index index' → ((m : ℕ) → In m (nodes_of index) → is_in m news' ≡ is_in m news) → place_outside news' at ≡ 0 → SameOutline news' (with_leaf new at index) (with_leaf (leaf new.first new.last 0 false) 0 index')
+same_with_leaf news news' new at index index' same agree outside =
+    sym (outline_with_leaf news' new at index) ∙ ap (λ (n : ℕ). with_leaf (bare new) n (outline news' index)) outside
     ∙ ap (with_leaf (bare new) 0) (outline_agrees news news' index agree ∙ same)
     ∙ outline_with_leaf [] (leaf new.first new.last 0 false) 0 index'
-  where
-    at_zero : (at : ℕ) → place_outside news' at ≡ 0 → outline news' (with_leaf new at index) ≡ with_leaf (bare new) 0 (outline news' index)
-    at_zero at z = sym (outline_with_leaf news' new at index) ∙ ap (λ (n : ℕ). with_leaf (bare new) n (outline news' index)) z
-
-    zero_is : place_outside news' 0 ≡ 0
-    zero_is = elim (either (is_in 0 news')) [ inl t ↦ rw t refl | inr t ↦ rw t refl ]
-
-    some : (n : ℕ) → new_room new.first index ≡ suc n → 1 ≤ new_room new.first index
-    some n e = omega arith
-
-    moved : (n : ℕ) → new_room new.first index ≡ n → outline news' (with_leaf new at index) ≡ with_leaf (bare new) 0 (outline news' index)
-    moved zero e = ap (outline news') (with_leaf_anywhere new at 0 index e) ∙ at_zero 0 zero_is
-    moved (suc n) e = let t = there (some n e) in at_zero at (rw t refl)
 
 pub same_uses : (news : List ℕ) (vxr i : ℕ) (index index' : Nodes) → SameOutline news index index' → is_in vxr news ≡ false → (vxr ≡ 0 → ⊥) → uses_entry vxr i index ≡ uses_entry vxr i index'
 same_uses news vxr i index index' same old stands = sym (uses_outline news vxr i old stands index) ∙ ap (uses_entry vxr i) same ∙ uses_outline [] vxr i refl stands index'
 
 -- ---- an entry that a node uses is used in the index
 
-or_left : (p q : Bool) → p ≡ true → (p || q) ≡ true
-or_left p q e = rw e refl
-
-or_right : (p q : Bool) → q ≡ true → (p || q) ≡ true
-or_right true q e = refl
-or_right false q e = e
-
-or_middle : (p q r : Bool) → q ≡ true → (p || (q || r)) ≡ true
-or_middle p q r e = or_right p (q || r) (or_left q r e)
-
-or_last : (p q r : Bool) → r ≡ true → (p || (q || r)) ≡ true
-or_last p q r e = or_right p (q || r) (or_right q r e)
-
-test_here : (p q : Bool) → p ≡ true → q ≡ true → (p && q) ≡ true
-test_here p q a b = rw (a, b) refl
-
 module _ (b records : List ℕ) (vxr i : ℕ) (used : i < used_count b vxr) where
   here : (place : ℕ) (es : Entries) → vxr ≡ place → used_count b place ≡ entry_count es → (eqb place vxr && ltb i (entry_count es)) ≡ true
-  here place es e c = test_here (eqb place vxr) (ltb i (entry_count es)) (eq-eqb place vxr (sym e)) (lt-ltb i (entry_count es) (subst (λ (n : ℕ). i < n) (ap (used_count b) e ∙ c) used))
+  here place es e c = and_from (eqb place vxr) (ltb i (entry_count es)) (eq-eqb place vxr (sym e)) (lt-ltb i (entry_count es) (subst (λ (n : ℕ). i < n) (ap (used_count b) e ∙ c) used))
 
   mutual
     unfolding HasNodes Names nodes_of lower_nodes uses_entry uses_entry_below
@@ -257,8 +179,8 @@ module _ (b records : List ℕ) (vxr i : ℕ) (used : i < used_count b vxr) wher
     used_in zero (node place room es more) h m = absurd h
     used_in (suc levels) (node place room es more) h (inl e) = or_left (eqb place vxr && ltb i (entry_count es)) (uses_entry_below vxr i es || uses_entry vxr i more) (here place es e h.0.used_is)
     used_in (suc levels) (node place room es more) h (inr m) = elim (In-append vxr (lower_nodes es) (nodes_of more) m) [
-      | inl k ↦ or_middle (eqb place vxr && ltb i (entry_count es)) (uses_entry_below vxr i es) (uses_entry vxr i more) (used_below levels es h.1 k)
-      | inr k ↦ or_last (eqb place vxr && ltb i (entry_count es)) (uses_entry_below vxr i es) (uses_entry vxr i more) (used_in (suc levels) more h.2 k)
+      | inl k ↦ or_right (eqb place vxr && ltb i (entry_count es)) (uses_entry_below vxr i es || uses_entry vxr i more) (or_left (uses_entry_below vxr i es) (uses_entry vxr i more) (used_below levels es h.1 k))
+      | inr k ↦ or_right (eqb place vxr && ltb i (entry_count es)) (uses_entry_below vxr i es || uses_entry vxr i more) (or_right (uses_entry_below vxr i es) (uses_entry vxr i more) (used_in (suc levels) more h.2 k))
     ]
 
     pub used_below : (levels : ℕ) (es : Entries) → Names b records levels es → In vxr (lower_nodes es) → uses_entry_below vxr i es ≡ true
@@ -296,56 +218,26 @@ through_stays P index rs r e =
 
 -- ---- the top chain
 
--- it stays, or a node that was taken stands in it too
-abbrev pub TopWith : ℕ → ℕ → List ℕ → List ℕ → Type 0
-TopWith at room before after = (after ≡ before) ⊎ (In at after × (1 ≤ room) × (length after ≡ suc (length before)))
-
-top_along : (at room place : ℕ) (before after : List ℕ) → TopWith at room before after → TopWith at room (place ∷ before) (place ∷ after)
-top_along at room place before after (inl e) = inl (ap (λ (xs : List ℕ). place ∷ xs) e)
-top_along at room place before after (inr h) = inr (inr h.0, h.1, ap suc h.2)
-
-top_with_entry : (new : Leaf) (at place room : ℕ) (es : Entries) (more : Nodes) → TopWith at (room_of_new new.first room es) (place ∷ top_chain more) (top_chain (with_entry new at place room es more))
-top_with_entry new at place room es more = elim (either (ltb (entry_count es) room)) [
-  | inl t ↦ rw t (inl refl)
-  | inr t ↦ elim (either (eqb (entry_count (past new.first es)) 0)) [
-    | inl z ↦ rw (t, z) (inr (inr (inl refl), some (entry_count (past new.first es)), refl))
-    | inr z ↦ rw (t, z) (inr (inr (inl refl), some (entry_count (past new.first es)), refl))
-  ]
-]
-  where
-    some : (n : ℕ) → 1 ≤ max 7 n
-    some n = omega arith
-
-pub top_chain_with_leaf : (new : Leaf) (at : ℕ) (index : Nodes) → TopWith at (new_room new.first index) (top_chain index) (top_chain (with_leaf new at index))
-unfolding with_leaf new_room
-top_chain_with_leaf new at no_node = inr (inl refl, omega arith, refl)
-top_chain_with_leaf new at (node place room es more) = elim (either (chain_reaches new.first more)) [
-  | inl r ↦ rw r (top_along at (new_room new.first more) place (top_chain more) (top_chain (with_leaf new at more)) (top_chain_with_leaf new at more))
-  | inr r ↦ elim (either (leads_down new.first false es)) [
-    | inl d ↦ rw (r, d) (inl refl)
-    | inr d ↦ rw (r, d) (top_with_entry new at place room es more)
-  ]
-]
+top_steps : (new : Leaf) (at : ℕ) → Grows new at (λ n a a'. TopGrows a a') (λ n es es'. Unit {0})
+top_steps new at = record {
+  along = λ n place room es more more' h. elim h [ inl e ↦ inl (ap (λ (xs : List ℕ). place ∷ xs) e) | inr lt ↦ inr (omega arith) ];
+  down = λ n place room es es' more h. inl refl;
+  none = tt;
+  past_block = λ n first last place packed es es' h. tt;
+  past_lower = λ n first last nodes es es' h. tt;
+  below = λ n first last nodes nodes' es h. tt;
+  alone = inr (omega arith);
+  fits = λ place room es fs more. inl refl;
+  behind = λ place room es more. inr (omega arith);
+  split = λ n place room es fs more wide. inr (omega arith);
+}
 
 -- the top chain stays, or it grows
-pub top_grows : (new : Leaf) (at : ℕ) (index : Nodes) → (top_chain (with_leaf new at index) ≡ top_chain index) ⊎ (length (top_chain index) < length (top_chain (with_leaf new at index)))
-top_grows new at index = elim (top_chain_with_leaf new at index) [
-  | inl e ↦ inl e
-  | inr h ↦ inr (longer (length (top_chain index)) (length (top_chain (with_leaf new at index))) h.2)
-]
-  where
-    longer : (n m : ℕ) → m ≡ suc n → n < m
-    longer n m e = omega arith
-
-pub bytes_same : (xs : List ℕ) → bytes_eq xs xs ≡ true
-bytes_same [] = refl
-bytes_same (x ∷ xs) = let e = eq-eqb x x refl in rw e (bytes_same xs)
+pub top_grows : (new : Leaf) (at : ℕ) (index : Nodes) → TopGrows index (with_leaf new at index)
+top_grows new at index = by_leaf (top_steps new at) index
 
 pub bytes_longer : (xs ys : List ℕ) → length xs < length ys → bytes_eq xs ys ≡ false
 bytes_longer xs ys l = elim (either (bytes_eq xs ys)) [
-  | inl t ↦ let same = ap length (same_of_bytes_eq xs ys t) in absurd (clash (length xs) (length ys) l same)
+  | inl t ↦ let same = ap length (same_of_bytes_eq xs ys t) in absurd (omega arith)
   | inr t ↦ t
 ]
-  where
-    clash : (n m : ℕ) → n < m → n ≡ m → ⊥
-    clash n m a b = omega arith

@@ -12,17 +12,10 @@ pub mod GoesThen
 pub mod IndexAdded
 pub mod IndexWritten
 pub mod LastImage
-pub mod LeafActs
-pub mod LeafBlocks
 pub mod LeafCounts
 pub mod LeafEdit
-pub mod LeafFirsts
 pub mod LeafGood
-pub mod LeafKeeps
 pub mod LeafOutlines
-pub mod LeafRooms
-pub mod LeafSplices
-pub mod NodesAdded
 pub mod OwnAllowed
 pub mod PutBytes
 pub mod PutKeeps

@@ -1,6 +1,6 @@
 -- The leaves that were put so far: which one more there is once a record is written or a leaf is added, and that a put goes through them one after the other.
-use Rattle.std.proofs.Common.{◌≡◌, ℕ, zero, suc, ◌+◌, ◌-◌, ◌<◌, ◌≤◌, List, [], ◌∷◌, ◌++◌, Bool, true, false, eqb, Some, None, append_assoc, refl, sym, ap, subst, ◌∙◌, arith, inl, inr}
-use Rattle.cdf_puts.proofs.Common.{cases_lt, lt-ltb, le-ltb, ne_eqb, nat_tests, filter, min, max, nat_lt, find, ◌==◌, if◌then◌else◌, PutsLeaves, range, covers, with_leaf, new_room, block_need, Act, IsOneOf, Ascending, Leaf, leaves_of, VariableShape, record_bytes, either, node_acts, leaf_acts, with_new, put_count, was_put, PutsBefore}
+use Rattle.std.proofs.Common.{◌≡◌, ◌⊎◌, ℕ, zero, suc, ◌+◌, ◌-◌, ◌<◌, ◌≤◌, List, [], ◌∷◌, ◌++◌, Bool, true, false, eqb, Some, None, append_assoc, refl, sym, ap, subst, ◌∙◌, arith, inl, inr}
+use Rattle.cdf_puts.proofs.Common.{in_order, cases_lt, lt-ltb, le-ltb, ne_eqb, nat_tests, filter, min, max, nat_lt, find, ◌==◌, if◌then◌else◌, PutsLeaves, range, covers, with_leaf, new_room, block_need, Act, IsOneOf, Ascending, Leaf, leaves_of, VariableShape, record_bytes, either, node_acts, leaf_acts, with_new, put_count, was_put, PutsBefore}
 use Rattle.cdf_edits.specs.Commands.Puts.{TakesNode}
 
 -- ---- which leaves were put
@@ -14,80 +14,60 @@ some_put first k l a c d e = lt-ltb 0 (put_count first k l) (omega arith)
 all_put : (first k k' : ℕ) (l : Leaf) → l.last < k → l.last < k' → was_put first k l ≡ was_put first k' l
 all_put first k k' l a c = let e : min k (l.last + 1) ≡ min k' (l.last + 1) = omega arith in ap (λ (n : ℕ). nat_lt 0 (n - max first l.first)) e
 
--- none of those that begin from a record on
-pub none_later : (first k low upto : ℕ) (leaves : List Leaf) → Ascending low upto leaves → k ≤ low → filter (was_put first k) leaves ≡ []
-none_later first k low upto [] a le = refl
-none_later first k low upto (x ∷ more) a le =
+-- the leaves past a number, where none of them passes a test
+none_past : (test : Leaf → Bool) (k low upto : ℕ) (leaves : List Leaf) → Ascending low upto leaves → k < low → ((l : Leaf) → IsOneOf leaves l → k < l.first → test l ≡ false) → filter test leaves ≡ []
+none_past test k low upto [] a lt out = refl
+none_past test k low upto (x ∷ more) a lt out =
     let a0 = a.0 in
     let a1 = a.1 in
-    rw (none_put first k x (omega arith)) (none_later first k (suc x.last) upto more a.3 (omega arith))
+    rw (out x (inl refl) (omega arith)) (none_past test k (suc x.last) upto more a.3 (omega arith) (λ l i. out l (inr i)))
+
+-- one more leaf passes, and with it none past it does: it comes behind those that did
+pub one_more : (test test' : Leaf → Bool) (low upto : ℕ) (leaves : List Leaf) (new : Leaf) → Ascending low upto leaves → test' new ≡ true → ((l : Leaf) → IsOneOf leaves l → l.first ≤ new.first → test' l ≡ test l)
+    → ((l : Leaf) → IsOneOf leaves l → new.first < l.first → (test l ≡ false) × (test' l ≡ false)) → filter test' (with_new new leaves) ≡ filter test leaves ++ new ∷ []
+one_more test test' low upto [] new a is early late = rw is refl
+one_more test test' low upto (x ∷ more) new a is early late = elim (cases_lt new.first x.first) [
+  | inl lt ↦
+      let up : Ascending x.first upto (x ∷ more) = (omega arith, a.1, a.2, a.3) in
+      let none = none_past test new.first x.first upto (x ∷ more) up lt (λ l i g. (late l i g).0) in
+      let none' = none_past test' new.first x.first upto (x ∷ more) up lt (λ l i g. (late l i g).1) in
+      rw (lt-ltb new.first x.first lt, is) (ap (λ (ys : List Leaf). new ∷ ys) none' ∙ ap (λ (ys : List Leaf). ys ++ new ∷ []) (sym none))
+  | inr le ↦
+      let rest = one_more test test' (suc x.last) upto more new a.3 is (λ l i. early l (inr i)) (λ l i. late l (inr i)) in
+      elim (either (test x)) [
+        | inl t ↦ rw (le-ltb new.first x.first le, early x (inl refl) le, t) (ap (λ (ys : List Leaf). x ∷ ys) rest)
+        | inr t ↦ rw (le-ltb new.first x.first le, early x (inl refl) le, t) rest
+      ]
+]
 
 -- the leaf that has record k was put, or it comes behind those that were
 pub put_next : (first k low upto : ℕ) (leaves : List Leaf) → Ascending low upto leaves → (l : Leaf) → IsOneOf leaves l → first ≤ k → l.first ≤ k → k ≤ l.last
     → filter (was_put first (k + 1)) leaves ≡ (if was_put first k l then filter (was_put first k) leaves else filter (was_put first k) leaves ++ l ∷ [])
 put_next first k low upto [] a l i from f t = absurd i
 put_next first k low upto (x ∷ more) a l (inl q) from f t =
-    let here : was_put first (k + 1) x ≡ true = subst (λ (y : Leaf). was_put first (k + 1) y ≡ true) (sym q) (some_put first (k + 1) l (omega arith) (omega arith) (omega arith) (omega arith)) in
-    let t' : k ≤ x.last = subst (λ (y : Leaf). k ≤ y.last) (sym q) t in
-    let none = none_later first (k + 1) (suc x.last) upto more a.3 (omega arith) in
-    let none' = none_later first k (suc x.last) upto more a.3 (omega arith) in
-    elim (either (was_put first k x)) [
-      | inl p ↦ let p' : was_put first k l ≡ true = ap (was_put first k) (sym q) ∙ p in rw (here, none, p', p, none') refl
-      | inr p ↦ let p' : was_put first k l ≡ false = ap (was_put first k) (sym q) ∙ p in rw (here, none, p', p, none') (ap (λ (y : Leaf). y ∷ []) q)
-    ]
+    let here : was_put first (k + 1) l ≡ true = some_put first (k + 1) l (omega arith) (omega arith) (omega arith) (omega arith) in
+    let below = λ (n : ℕ) (le : n ≤ suc k). none_past (was_put first n) k (suc x.last) upto more a.3 (subst (λ (y : Leaf). k < suc y.last) (sym q) (omega arith)) (λ y j g. none_put first n y (omega arith)) in
+    rw (ap (was_put first (k + 1)) q ∙ here, below (k + 1) (omega arith), below k (omega arith), q) (elim (either (was_put first k l)) [ inl p ↦ rw p refl | inr p ↦ rw p refl ])
 put_next first k low upto (x ∷ more) a l (inr i) from f t =
-    let before = earlier (suc x.last) more a.3 i in
+    let before = (in_order (suc x.last) upto more a.3 l i).from in
     let same : was_put first (k + 1) x ≡ was_put first k x = all_put first (k + 1) k x (omega arith) (omega arith) in
     let rest = put_next first k (suc x.last) upto more a.3 l i from f t in
     elim (either (was_put first k x)) [
-      | inl p ↦ elim (either (was_put first k l)) [
-        | inl u ↦ let r : filter (was_put first (k + 1)) more ≡ filter (was_put first k) more = rw u at rest in rw (same, p, u) (ap (λ (ys : List Leaf). x ∷ ys) r)
-        | inr u ↦ let r : filter (was_put first (k + 1)) more ≡ filter (was_put first k) more ++ l ∷ [] = rw u at rest in rw (same, p, u) (ap (λ (ys : List Leaf). x ∷ ys) r)
-      ]
-      | inr p ↦ elim (either (was_put first k l)) [
-        | inl u ↦ let r : filter (was_put first (k + 1)) more ≡ filter (was_put first k) more = rw u at rest in rw (same, p, u) r
-        | inr u ↦ let r : filter (was_put first (k + 1)) more ≡ filter (was_put first k) more ++ l ∷ [] = rw u at rest in rw (same, p, u) r
-      ]
+      | inl p ↦ rw (same, p) (ap (λ (ys : List Leaf). x ∷ ys) rest ∙ elim (either (was_put first k l)) [ inl u ↦ rw u refl | inr u ↦ rw u refl ])
+      | inr p ↦ rw (same, p) rest
     ]
-  where
-    earlier : (low : ℕ) (leaves : List Leaf) → Ascending low upto leaves → IsOneOf leaves l → low ≤ l.first
-    earlier low [] a i = absurd i
-    earlier low (y ∷ ys) a (inl q) = subst (λ (z : Leaf). low ≤ z.first) q a.0
-    earlier low (y ∷ ys) a (inr i) = let e = earlier (suc y.last) ys a.3 i in let a0 = a.0 in let a1 = a.1 in omega arith
 
 -- a leaf that is added comes behind them
-pub put_new : (first k k' low upto low' upto' : ℕ) (leaves : List Leaf) (new : Leaf) → Ascending low upto leaves → Ascending low' upto' (with_new new leaves) → new.first ≡ k → first ≤ k → k < k' → k' ≤ new.last + 1
+pub put_new : (first k k' low upto : ℕ) (leaves : List Leaf) (new : Leaf) → Ascending low upto leaves → ((l : Leaf) → IsOneOf leaves l → (l.last < k) ⊎ (new.last < l.first)) → new.first ≡ k → first ≤ k → k < k' → k' ≤ new.last + 1
     → filter (was_put first k') (with_new new leaves) ≡ filter (was_put first k) leaves ++ new ∷ []
-put_new first k k' low upto low' upto' [] new a a' is from more within = rw (some_put first k' new (omega arith) (omega arith) (omega arith) (omega arith)) refl
-put_new first k k' low upto low' upto' (x ∷ xs) new a a' is from more within = elim (cases_lt new.first x.first) [
-  | inl lt ↦
-      let here = lt-ltb new.first x.first lt in
-      let up : Ascending low' upto' (new ∷ x ∷ xs) = rw here at a' in
-      let put = some_put first k' new (omega arith) (omega arith) (omega arith) (omega arith) in
-      let none = none_later first k' (suc new.last) upto' (x ∷ xs) up.3 (omega arith) in
-      let none' = none_later first k x.first upto (x ∷ xs) (same x.first, a.1, a.2, a.3) (omega arith) in
-      rw (here, put) (ap (λ (ys : List Leaf). new ∷ ys) none ∙ ap (λ (ys : List Leaf). ys ++ new ∷ []) (sym none'))
-  | inr le ↦
-      let here = le-ltb new.first x.first le in
-      let up : Ascending low' upto' (x ∷ with_new new xs) = rw here at a' in
-      let past = begins (suc x.last) upto' xs up.3 in
-      let rest = put_new first k k' (suc x.last) upto (suc x.last) upto' xs new a.3 up.3 is from more within in
-      let same_put : was_put first k' x ≡ was_put first k x = all_put first k' k x (omega arith) (omega arith) in
-      elim (either (was_put first k x)) [
-        | inl p ↦ rw (here, same_put, p) (ap (λ (ys : List Leaf). x ∷ ys) rest)
-        | inr p ↦ rw (here, same_put, p) rest
-      ]
-]
-  where
-    same : (n : ℕ) → n ≤ n
-    same n = omega arith
-
-    begins : (low upto : ℕ) (ys : List Leaf) → Ascending low upto (with_new new ys) → low ≤ new.first
-    begins low upto [] a = a.0
-    begins low upto (y ∷ ys) a = elim (cases_lt new.first y.first) [
-      | inl lt ↦ let up : Ascending low upto (new ∷ y ∷ ys) = rw (lt-ltb new.first y.first lt) at a in up.0
-      | inr le ↦ let up : Ascending low upto (y ∷ with_new new ys) = rw (le-ltb new.first y.first le) at a in let b = begins (suc y.last) upto ys up.3 in let u0 = up.0 in let u1 = up.1 in omega arith
-    ]
+put_new first k k' low upto leaves new a beside is from more within =
+    one_more (was_put first k) (was_put first k') low upto leaves new a (some_put first k' new (omega arith) (omega arith) (omega arith) (omega arith)) (λ l i le. elim (beside l i) [
+      | inl lt ↦ all_put first k' k l (omega arith) lt
+      | inr lt ↦ absurd (omega arith)
+    ]) (λ l i lt. elim (beside l i) [
+      | inl before ↦ let o = (in_order low upto leaves a l i).ordered in absurd (omega arith)
+      | inr past ↦ (none_put first k l (omega arith), none_put first k' l (omega arith))
+    ])
 
 -- no other leaf begins where none has the record
 pub none_begins : (k low upto : ℕ) (leaves : List Leaf) → Ascending low upto leaves → find (λ (leaf : Leaf). covers k (range leaf.first leaf.last)) leaves ≡ None → find (λ (old : Leaf). old.first == k) leaves ≡ None

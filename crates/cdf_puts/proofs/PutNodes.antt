@@ -2,6 +2,8 @@
 use Rattle.std.proofs.Common.{◌≡◌, ◌⊎◌, ℕ, ◌+◌, ◌*◌, ◌<◌, ◌≤◌, List, [], ◌∷◌, ◌++◌, Bool, true, false, not, ◌&&◌, ◌||◌, true≢false, refl, sym, ap, subst, ◌∙◌, arith, inl, inr}
 use Rattle.cdf_puts.proofs.Common.{le-leb, lt-leb, cases_lt, list_any, ◌==◌, nat_le, is_taken_at, uses_entry, UnusedEntries, NodeSpareStays, NodesFollow, Act, Took, Gave, Kept, Each-in, Same, is_in, size_at, Nodes, nodes_of, room_at, used_count, Each, NodeFits, In, Same-part, is_in-true, true-is_in, both, le_of}
 use Rattle.std.proofs.Math.Bool.{or_assoc}
+use Rattle.std.proofs.lemmas.Bool.{and_right, both_ways, or_from, or_left, or_parts, or_right}
+use Rattle.cdf_edits.proofs.Edits.Composing.{same-then}
 use Rattle.cdf_edits.specs.Index.Written.{was_unused, EntryIs}
 use Rattle.cdf_edits.proofs.Frame.LinksStay.{SameHeads, room_same, used_same, entry_same}
 use Rattle.cdf_format.specs.Index.{first_at, last_at, offset_at}
@@ -10,21 +12,17 @@ use Rattle.cdf_puts.proofs.LeafOutlines.{used_in}
 
 -- ---- tests
 
-or_first : (p q : Bool) → p ≡ true → (p || q) ≡ true
-or_first true q e = refl
-or_first false q e = absurd (true≢false (sym e))
+pub or_false : (p : Bool) → (p || false) ≡ p
+or_false true = refl
+or_false false = refl
 
-or_second : (p q : Bool) → q ≡ true → (p || q) ≡ true
-or_second true q e = refl
-or_second false q e = e
+pub unless_true : {A : Type 0} {p : Bool} → A ⊎ (p ≡ true) → p ≡ false → A
+unless_true (inl a) e = a
+unless_true {p = p} (inr t) e = absurd (both_ways p e t)
 
-or_none : (p q : Bool) → (p || q) ≡ false → (p ≡ false) × (q ≡ false)
-or_none true q e = absurd (true≢false e)
-or_none false q e = (refl, e)
-
-none_or : (p q : Bool) → p ≡ false → q ≡ false → (p || q) ≡ false
-none_or true q e f = absurd (true≢false e)
-none_or false q e f = f
+pub each_in : (P : ℕ → Type 0) (xs : List ℕ) → ((m : ℕ) → In m xs → P m) → Each P xs
+each_in P [] f = tt
+each_in P (x ∷ xs) f = (f x (inl refl), each_in P xs (λ m i. f m (inr i)))
 
 -- ---- what was taken first, and then
 
@@ -34,28 +32,21 @@ taken_both (Took place need ∷ more) acts' m = ap (λ (p : Bool). (m == place) 
 taken_both (Gave place size ∷ more) acts' m = taken_both more acts' m
 
 pub taken_first : (acts acts' : List Act) (m : ℕ) → is_taken_at acts m ≡ true → is_taken_at (acts ++ acts') m ≡ true
-taken_first acts acts' m e = taken_both acts acts' m ∙ or_first (is_taken_at acts m) (is_taken_at acts' m) e
+taken_first acts acts' m e = taken_both acts acts' m ∙ or_left (is_taken_at acts m) (is_taken_at acts' m) e
 
 pub taken_then : (acts acts' : List Act) (m : ℕ) → is_taken_at acts' m ≡ true → is_taken_at (acts ++ acts') m ≡ true
-taken_then acts acts' m e = taken_both acts acts' m ∙ or_second (is_taken_at acts m) (is_taken_at acts' m) e
+taken_then acts acts' m e = taken_both acts acts' m ∙ or_right (is_taken_at acts m) (is_taken_at acts' m) e
 
 pub taken_neither : (acts acts' : List Act) (m : ℕ) → is_taken_at acts m ≡ false → is_taken_at acts' m ≡ false → is_taken_at (acts ++ acts') m ≡ false
-taken_neither acts acts' m e f = taken_both acts acts' m ∙ none_or (is_taken_at acts m) (is_taken_at acts' m) e f
+taken_neither acts acts' m e f = taken_both acts acts' m ∙ or_from (is_taken_at acts m) (is_taken_at acts' m) e f
 
 pub neither_taken : (acts acts' : List Act) (m : ℕ) → is_taken_at (acts ++ acts') m ≡ false → (is_taken_at acts m ≡ false) × (is_taken_at acts' m ≡ false)
-neither_taken acts acts' m e = or_none (is_taken_at acts m) (is_taken_at acts' m) (sym (taken_both acts acts' m) ∙ e)
+neither_taken acts acts' m e = or_parts (is_taken_at acts m) (is_taken_at acts' m) (sym (taken_both acts acts' m) ∙ e)
 
 -- ---- nodes that stay
 
 no_heads : (b now : List ℕ) → SameHeads b now [] []
 no_heads b now = record { sizes = λ m i. absurd i; types = λ m i. absurd i; sub = λ m i. i }
-
-each_in : (P : ℕ → Type 0) (xs : List ℕ) → ((m : ℕ) → In m xs → P m) → Each P xs
-each_in P [] f = tt
-each_in P (x ∷ xs) f = (f x (inl refl), each_in P xs (λ m i. f m (inr i)))
-
-same_then : (b mid now : List ℕ) (from upto : ℕ) → Same b mid from upto → Same mid now from upto → Same b now from upto
-same_then b mid now from upto s t = record { each = λ place low high. t.each place low high ∙ s.each place low high }
 
 entry_stays : (b mid now : List ℕ) (m i : ℕ) (w : Bool) → Kept mid now m → NodeFits mid m → i < room_at mid m → EntryIs b mid m i w → EntryIs b now m i w
 entry_stays b mid now m i true k fit lt e = entry_same mid now [] [] (no_heads mid now) m k fit i _ _ _ lt e
@@ -78,7 +69,7 @@ nodes_same b mid now through before after acts fit kept sizes f = record {
       let size = sizes m j e in
       let was = Each-in (NodeSpareStays b mid acts) after f.spare m j e in
       let k = kept m j in
-      same_then b mid now (m + (28 + 16 * room_at now m)) (m + size_at b m) (Same-part b mid (m + (28 + 16 * room_at mid m)) (m + size_at b m) _ _ was (omega arith) (omega arith))
+      same-then b mid now (m + (28 + 16 * room_at now m)) (m + size_at b m) (Same-part b mid (m + (28 + 16 * room_at mid m)) (m + size_at b m) _ _ was (omega arith) (omega arith))
       (Same-part mid now m (m + size_at mid m) _ _ k.same (omega arith) (omega arith)));
 }
 
@@ -110,19 +101,11 @@ module _ (b mid now : List ℕ) (through through' : List Nodes) (before after : 
 
   same_test : (m i : ℕ) → is_taken_at acts' m ≡ false → was_unused b before (acts ++ acts') m i ≡ was_unused b before acts m i
   same_test m i e =
-      let t : is_taken_at (acts ++ acts') m ≡ is_taken_at acts m = taken_both acts acts' m ∙ ap (λ (p : Bool). is_taken_at acts m || p) e ∙ or_nothing (is_taken_at acts m) in
+      let t : is_taken_at (acts ++ acts') m ≡ is_taken_at acts m = taken_both acts acts' m ∙ ap (λ (p : Bool). is_taken_at acts m || p) e ∙ or_false (is_taken_at acts m) in
       ap (λ (p : Bool). is_in m before && (not p && nat_le (used_count b m) i)) t
-    where
-      or_nothing : (p : Bool) → (p || false) ≡ p
-      or_nothing true = refl
-      or_nothing false = refl
 
   taken_test : (m i : ℕ) (xs : List ℕ) (x : List ℕ) (done : List Act) → is_taken_at done m ≡ true → was_unused x xs done m i ≡ false
-  taken_test m i xs x done e = rw e (no_and (is_in m xs))
-    where
-      no_and : (p : Bool) → (p && false) ≡ false
-      no_and true = refl
-      no_and false = refl
+  taken_test m i xs x done e = rw e (and_right (is_in m xs) false refl)
 
   now_empty : (m i : ℕ) (w : Bool) → w ≡ false → (EntryIs mid now m i w ⊎ ((list_any (uses_entry m i) (index ∷ []) ≡ true) × EntryIs mid now m i false)) → EntryIs b now m i false
   now_empty m i true e s = absurd (true≢false e)
@@ -132,10 +115,6 @@ module _ (b mid now : List ℕ) (through through' : List Nodes) (before after : 
   module _ (f : NodesFollow b mid through before (nodes_of index) acts) (step : NodesStep mid now index after acts') (before_in : (m : ℕ) → In m before → In m (nodes_of index)) (sizes : (m : ℕ) → In m before → size_at mid m ≡ size_at b m)
       (come : (m : ℕ) → In m (nodes_of index) → In m before ⊎ (is_taken_at acts m ≡ true)) (more : (m i : ℕ) → list_any (uses_entry m i) through ≡ true → list_any (uses_entry m i) through' ≡ true)
       (uses : (m i : ℕ) → In m before → uses_entry m i index ≡ true → list_any (uses_entry m i) through' ≡ true) (records : List ℕ) (levels : ℕ) (has : HasNodes mid records levels index) where
-    one_of : (p : Bool) → (p || false) ≡ true → p ≡ true
-    one_of true e = refl
-    one_of false e = e
-
     was_before : (m i : ℕ) (done : List Act) → was_unused b before done m i ≡ true → In m before × (used_count b m ≤ i)
     was_before m i done e =
         let p = both (is_in m before) (not (is_taken_at done m) && nat_le (used_count b m) i) e in
@@ -161,7 +140,7 @@ module _ (b mid now : List ℕ) (through through' : List Nodes) (before after : 
                   | inl was ↦ inl (subst (EntryIs b now m i) (sym w) (says_then b mid now m i (was_unused b before acts m i) says was))
                   | inr was ↦ inr (more m i was.0, says_then b mid now m i false says was.1)
                 ]
-                | inr none ↦ empty_entry m i (was_unused b before (acts ++ acts') m i) (λ w. uses m i (was_before m i (acts ++ acts') w).0 (one_of (uses_entry m i index) none.0)) none.1
+                | inr none ↦ empty_entry m i (was_unused b before (acts ++ acts') m i) (λ w. uses m i (was_before m i (acts ++ acts') w).0 (sym (or_false (uses_entry m i index)) ∙ none.0)) none.1
               ]
         ]
 
@@ -174,20 +153,12 @@ module _ (b mid now : List ℕ) (through through' : List Nodes) (before after : 
     spare_then : (m : ℕ) → In m after → NodeSpareStays b now (acts ++ acts') m
     spare_then m k e =
         let p = neither_taken acts acts' m e in
-        let j = old m (step.come m k) p.1 in
-        let size = sizes m (was m (come m j) p.0) in
+        let j = unless_true (step.come m k) p.1 in
+        let size = sizes m (unless_true (come m j) p.0) in
         let room = step.rooms m j in
         let first = Each-in (NodeSpareStays b mid acts) (nodes_of index) f.spare m j p.0 in
-        same_then b mid now (m + (28 + 16 * room_at now m)) (m + size_at b m) (Same-part b mid (m + (28 + 16 * room_at mid m)) (m + size_at b m) _ _ first (omega arith) (omega arith))
+        same-then b mid now (m + (28 + 16 * room_at now m)) (m + size_at b m) (Same-part b mid (m + (28 + 16 * room_at mid m)) (m + size_at b m) _ _ first (omega arith) (omega arith))
         (Same-part mid now (m + (28 + 16 * room_at mid m)) (m + size_at mid m) _ _ (step.spare m j) (omega arith) (omega arith))
-      where
-        old : (m : ℕ) → In m (nodes_of index) ⊎ (is_taken_at acts' m ≡ true) → is_taken_at acts' m ≡ false → In m (nodes_of index)
-        old m (inl j) e = j
-        old m (inr t) e = absurd (true≢false (sym t ∙ e))
-
-        was : (m : ℕ) → In m before ⊎ (is_taken_at acts m ≡ true) → is_taken_at acts m ≡ false → In m before
-        was m (inl j) e = j
-        was m (inr t) e = absurd (true≢false (sym t ∙ e))
 
     pub nodes_then : NodesFollow b now through' before after (acts ++ acts')
     nodes_then = record {

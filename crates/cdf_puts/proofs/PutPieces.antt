@@ -1,7 +1,7 @@
 -- The records of a new block, one after the other, and its bytes as those of a record.
 use Rattle.std.proofs.Common.{◌≡◌, ℕ, zero, suc, ◌+◌, ◌-◌, ◌*◌, ◌<◌, ◌≤◌, List, ◌++◌, length, take, drop, max, sym, ap, subst, ◌∙◌, arith, inl, inr}
 use Rattle.cdf_puts.proofs.Common.{length-append, take_at, drop_at, drop-drop, ◌==◌, IsBody, uir_type, vvr_type, is_record_type, fixed_size, either, record_put, records_put, BlockRecords, record_of, IsBlockBody}
-use Rattle.cdf_puts.proofs.LeafBlocks.{plain_body}
+use Rattle.cdf_puts.proofs.LeafGood.{plain_body}
 
 module _ (raw pad : List ℕ) (r size : ℕ) (raw_long : length raw ≡ size) (pad_long : length pad ≡ size) where
   pub record_long : (k : ℕ) → length (record_put raw pad r k) ≡ size

@@ -103,7 +103,7 @@ module _ {b : List ℕ} {kind : Kind} {before : List VariableShape} {own : Varia
   pub cdr_no_gdr : 8 ≢ (shape b).gdr
   cdr_no_gdr e = apart cdr_type gdr_type refl (sym (is_a-type b (shape b).records cdr_type 8 (sound good at).has_shape.cdr_stands) ∙ ap (type_at b) e ∙ gdr_typed b (shape b) (sound good at).has_shape)
 
-  own_in_all : (m : ℕ) → In m (variable_records own) → In m (all_variable_records (shape b))
+  pub own_in_all : (m : ℕ) → In m (variable_records own) → In m (all_variable_records (shape b))
   own_in_all m i = (ours good at).1.sub m (In-append_left m (variable_records own) (flat_map variable_records after) i)
 
   pub vdr_no_gdr : own.vdr ≢ (shape b).gdr

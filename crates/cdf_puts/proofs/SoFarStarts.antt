@@ -2,7 +2,10 @@
 use Rattle.std.proofs.Common.{◌≡◌, ℕ, suc, ◌+◌, ◌-◌, ◌<◌, ◌≤◌, List, [], ◌∷◌, map, Bool, true, false, ◌||◌, refl, sym, ap, subst, arith, inl, inr}
 use Rattle.cdf_puts.proofs.Common.{filter, list_any, min, max, nat_le, if◌then◌else◌, Kind, Sparse, NoRule, extent, record_number_limit, new_ranges, Range, range, covers, ranges_of, first_written, is_sparse, with_ranges, indexes_with, outline, UnusedEntries, NodeSpareStays, NodesFollow, top_chain, IsOneOf, in_order, leaves_ascend, is_in, variable_of, Nodes, Leaf, leaves_of, nodes_of, used_count, VariableShape, Each, In, is_in-true, bytes_eq-same, of_le, PutStart, IndexSoFar, NodesSoFar, BlocksSoFar, was_put, PutsBefore}
 use Rattle.cdf_edits.proofs.Edits.LeafPieces.{covers_from}
+use Rattle.cdf_puts.proofs.CoveringRanges.{of_leaves}
 use Rattle.cdf_puts.proofs.PutLeaves.{puts_none_yet}
+use Rattle.cdf_puts.proofs.PutNodes.{each_in}
+use Rattle.std.proofs.lemmas.Bool.{or_right}
 
 -- ---- nothing is put, and no range is new
 
@@ -10,27 +13,16 @@ none_put_yet : (first : ℕ) (leaves : List Leaf) → filter (was_put first firs
 none_put_yet first [] = refl
 none_put_yet first (x ∷ more) = let e : min first (x.last + 1) - max first x.first ≡ 0 = omega arith in rw e (none_put_yet first more)
 
-abbrev of_leaves : List Leaf → List Range
-of_leaves leaves = map (λ (x : Leaf). range x.first x.last) leaves
-
 pub covers_own : (leaves : List Leaf) (l : Leaf) → IsOneOf leaves l → l.first ≤ l.last → list_any (covers l.first) (of_leaves leaves) ≡ true
 covers_own [] l i le = absurd i
 covers_own (x ∷ more) l (inl q) le = let here : covers l.first (range x.first x.last) ≡ true = subst (λ (y : Leaf). covers l.first (range y.first y.last) ≡ true) (sym q) (covers_from l.first l (omega arith) le) in rw here refl
-covers_own (x ∷ more) l (inr i) le = by (covers l.first (range x.first x.last)) (covers_own more l i le)
-  where
-    by : (p : Bool) {q : Bool} → q ≡ true → (p || q) ≡ true
-    by true e = refl
-    by false e = e
+covers_own (x ∷ more) l (inr i) le = or_right (covers l.first (range x.first x.last)) (list_any (covers l.first) (of_leaves more)) (covers_own more l i le)
 
 pub none_new : (before : List Range) (leaves : List Leaf) → ((l : Leaf) → IsOneOf leaves l → list_any (covers l.first) before ≡ true) → new_ranges before (of_leaves leaves) ≡ []
 none_new before [] has = refl
 none_new before (x ∷ more) has = let here = has x (inl refl) in rw here (none_new before more (λ l i. has l (inr i)))
 
 -- ---- nodes
-
-each_in : (P : ℕ → Type 0) (xs : List ℕ) → ((m : ℕ) → In m xs → P m) → Each P xs
-each_in P [] f = tt
-each_in P (x ∷ xs) f = (f x (inl refl), each_in P xs (λ m i. f m (inr i)))
 
 nodes_first : (b : List ℕ) (through : List Nodes) (nodes : List ℕ) → NodesFollow b b through nodes nodes []
 nodes_first b through nodes = record {

@@ -11,11 +11,8 @@ use Rattle.cdf_puts.proofs.WritesGo.{goes_nowhere}
 use Rattle.cdf_puts.proofs.LastImage.{only_takes}
 use Rattle.cdf_puts.proofs.GoesThen.{goes_then}
 use Rattle.cdf_puts.proofs.IndexAdded.{index_added}
-use Rattle.cdf_puts.proofs.LeafActs.{leaf_follows}
-use Rattle.cdf_puts.proofs.LeafBlocks.{plain_body, size_needed}
 use Rattle.cdf_puts.proofs.LeafCounts.{roomy}
-use Rattle.cdf_puts.proofs.LeafGood.{leaf_goes_on}
-use Rattle.cdf_puts.proofs.LeafKeeps.{leaf_keeps, leaf_max_rec}
+use Rattle.cdf_puts.proofs.LeafGood.{leaf_goes_on, leaf_max_rec, plain_body, size_needed}
 use Rattle.cdf_puts.proofs.IndexWritten.{index_written}
 use Rattle.cdf_puts.proofs.PutMeaning.{first_goes}
 use Rattle.cdf_puts.proofs.SoFarStarts.{starts_upto, index_start, blocks_start}
@@ -130,7 +127,7 @@ module _ {b : List ℕ} {kind : Kind} {before : List VariableShape} {own : Varia
         let size = later_size so.start.good so.start.among so.goes in
         let loose = later_packed so.start.good so.start.among so.goes ∙ so.start.loose in
         let as_long : length records ≡ (last + 1 - k) * record_bytes now own'.vdr = says.as_long ∙ ap (λ (n : ℕ). (last + 1 - k) * n) (sym size) in
-        let goes : GoesOn now now' kind before own' (with_new_leaf own' new at) after r step = leaf_goes_on good among w loose vacant holds as_long short (leaf_follows good among w plain) (leaf_keeps good among w plain r) in
+        let goes : GoesOn now now' kind before own' (with_new_leaf own' new at) after r step = leaf_goes_on good among w holds loose vacant as_long short r in
         let need : 8 + length body ≡ block_bytes v k last = size_needed good among w holds ∙ ap (λ (n : ℕ). max 28 (12 + n)) says.as_long in
         let bytes : taken_bytes (acts ++ step) ≡ taken_bytes acts + block_bytes v k last + node_bytes k own'.index =
         taken_sum acts step ∙ ap (λ (n : ℕ). taken_bytes acts + n) (leaf_bytes place (8 + length body) k at own'.index) ∙ ap (λ (n : ℕ). taken_bytes acts + (n + node_bytes k own'.index)) need ∙ regroup (taken_bytes acts) (block_bytes v k last) (node_bytes k own'.index) in
