@@ -98,6 +98,6 @@ pub use Rattle.cdf_model.specs.declared.kinds.Sparse.{Sparse}
 pub use Rattle.cdf_model.specs.declared.kinds.Sparse.TheVariants.{NoRule}
 pub use Rattle.cdf_puts.specs.Covering.{Covering, block_bytes, count_upto, new_last, node_bytes}
 pub use Rattle.cdf_puts.specs.Going.{DescriptorStays, GoesOn, found_in}
-pub use Rattle.cdf_puts.specs.Putting.{IsPut, PutsUpTo, SomePut, block_type, last_in_new, record_put, records_put}
+pub use Rattle.cdf_puts.specs.Putting.{IsPut, PutsUpTo, SomePut, last_in_new, record_put, records_put}
 pub use Rattle.cdf_puts.specs.SoFar.{BlockRecords, BlocksSoFar, IndexSoFar, IsTaking, MaxRecDone, NewBlock, NodesSoFar, OldBlock, PutStart, PutsBefore, SoFar, put_count, put_from, put_touches, record_of, taken_bytes, was_put}
 pub use Rattle.cdf_puts.specs.Steps.{BlocksGoOn, IsBlockBody, IsVacant, MaxRecRaised, RecordWritten}

@@ -1,6 +1,7 @@
 -- Records that get a block one after the other, by their ranges: that a step more changes nothing, and how many are covered.
 use Rattle.std.proofs.Common.{◌≡◌, ◌⊎◌, ℕ, zero, suc, ◌+◌, ◌-◌, ◌<◌, ◌≤◌, List, [], ◌∷◌, ◌++◌, map, Bool, true, false, ltb, leb, min, max, Option, Some, None, refl, sym, ap, ◌∙◌, arith, inl, inr}
-use Rattle.cdf_puts.proofs.Common.{nat_tests, same_Some, find, ◌&&◌, if◌then◌else◌, filter, fold, option_map, Variable, extent, record_number_limit, Nodes, no_node, node, Entries, no_entry, block, lower, Leaf, either, both, le_of, Range, range, covers, shared, covered, block_count, next_first, new_range, with_range, Ascending, past_entries, lt_of, ge_of}
+use Rattle.cdf_puts.proofs.Common.{le-leb, le-ltb, lt-leb, lt-ltb, same_Some, find, if◌then◌else◌, filter, fold, option_map, Variable, extent, record_number_limit, Nodes, no_node, node, Entries, no_entry, block, lower, Leaf, either, both, le_of, Range, range, covers, shared, covered, block_count, next_first, new_range, with_range, Ascending, past_entries, lt_of, ge_of}
+use Rattle.std.proofs.lemmas.Bool.{leb-false}
 use Rattle.std.proofs.lemmas.List.Sums.{sum_by-cons}
 use Rattle.cdf_format.specs.Index.{leaves_of, entry_leaves}
 use Rattle.cdf_edits.specs.Index.Blocks.{cover}
@@ -50,10 +51,7 @@ pub no_range : (k : ℕ) (leaves : List Leaf) → find (λ (leaf : Leaf). covers
 no_range k leaves e = find_mapped (λ (leaf : Leaf). range leaf.first leaf.last) (covers k) leaves ∙ ap (option_map (λ (leaf : Leaf). range leaf.first leaf.last)) e
 
 found_passes : {X : Type 0} (test : X → Bool) (xs : List X) (x : X) → find test xs ≡ Some x → test x ≡ true
-found_passes test [] x e = absurd (none_is e)
-  where
-    none_is : {X : Type 0} {x : X} → None ≡ Some x → ⊥
-    none_is e = cc
+found_passes test [] x e = absurd (cc)
 found_passes test (y ∷ xs) x e = elim (either (test y)) [
   | inl t ↦ let is : Some y ≡ Some x = rw t at e in ap test (sym (same_Some y x is)) ∙ t
   | inr t ↦ let rest : find test xs ≡ Some x = rw t at e in found_passes test xs x rest
@@ -109,25 +107,16 @@ pub record Ends (k next most last : ℕ) : Type 0 where
   pub before_next : last < next
   pub no_more : last + 1 - k ≤ most
 
-alone_ends : (k next most last : ℕ) → last ≡ k → k < next → 1 ≤ most → Ends k next most last
-alone_ends k next most last e p b = record { ordered = omega arith; before_next = omega arith; no_more = omega arith }
-
-least_ends : (k next most last : ℕ) → last ≡ min (k + most) next - 1 → k < next → 1 ≤ most → Ends k next most last
-least_ends k next most last e p b = record { ordered = omega arith; before_next = omega arith; no_more = omega arith }
-
 pub ends : (v : Variable) (fs : List ℕ) (k : ℕ) → k ≤ record_number_limit → Ends k (next_first k fs) (block_count v) (new_range v fs k).last
-ends v fs k le = elim (either (ltb k (extent v.max_rec))) [
-  | inl t ↦ alone_ends k (next_first k fs) (block_count v) (new_range v fs k).last (one_alone v fs k t) (next_past k fs le) (one_at_least v)
-  | inr t ↦ least_ends k (next_first k fs) (block_count v) (new_range v fs k).last (full_or_next v fs k t) (next_past k fs le) (one_at_least v)
-]
+ends v fs k le =
+    let past = next_past k fs le in
+    let one = one_at_least v in
+    elim (either (ltb k (extent v.max_rec))) [
+      | inl t ↦ let e = one_alone v fs k t in record { ordered = omega arith; before_next = omega arith; no_more = omega arith }
+      | inr t ↦ let e = full_or_next v fs k t in record { ordered = omega arith; before_next = omega arith; no_more = omega arith }
+    ]
 
 -- ---- one record after the other
-
-past_end : (n k m : ℕ) → n + 1 ≤ k → ltb n k ≡ true
-past_end n k m a = grind (arith, nat_tests)
-
-not_past : (n k : ℕ) → k ≤ n → ltb n k ≡ false
-not_past n k le = grind (arith, nat_tests)
 
 module _ (v : Variable) (firsts : List ℕ) (n : ℕ) (small : n ≤ record_number_limit) where
   abbrev goes : ℕ → ℕ → List Range → List Range
@@ -138,16 +127,16 @@ module _ (v : Variable) (firsts : List ℕ) (n : ℕ) (small : n ≤ record_numb
 
   found_step : (m k : ℕ) (rs : List Range) (r : Range) → k ≤ n → find (covers k) rs ≡ Some r → goes (suc m) k rs ≡ goes m (r.last + 1) rs
   unfolding cover
-  found_step m k rs r le e = rw (not_past n k le, e) refl
+  found_step m k rs r le e = rw (le-ltb n k le, e) refl
 
   vacant_step : (m k : ℕ) (rs : List Range) → k ≤ n → find (covers k) rs ≡ None → goes (suc m) k rs ≡ goes m (last_of k + 1) (with_range (new_range v firsts k) rs)
   unfolding cover
-  vacant_step m k rs le e = rw (not_past n k le, e) refl
+  vacant_step m k rs le e = rw (le-ltb n k le, e) refl
 
   end_step : (m k : ℕ) (rs : List Range) → n + 1 ≤ k → goes m k rs ≡ rs
   unfolding cover
   end_step zero k rs le = refl
-  end_step (suc m) k rs le = rw (past_end n k m le) refl
+  end_step (suc m) k rs le = rw (lt-ltb n k (omega arith)) refl
 
   -- steps that are not needed change nothing
   enough : (m m' k : ℕ) (rs : List Range) → n + 1 ≤ m + k → n + 1 ≤ m' + k → goes m k rs ≡ goes m' k rs
@@ -165,11 +154,8 @@ module _ (v : Variable) (firsts : List ℕ) (n : ℕ) (small : n ≤ record_numb
               let on = (ends v firsts k (omega arith)).ordered in
               vacant_step m k rs le e ∙ enough m m' (last_of k + 1) (with_range (new_range v firsts k) rs) (omega arith) (omega arith) ∙ sym (vacant_step m' k rs le e)
         ]
-    | inr t ↦ let gt = gt_of k n t in end_step (suc m) k rs (omega arith) ∙ sym (end_step (suc m') k rs (omega arith))
+    | inr t ↦ let gt = leb-false k n t in end_step (suc m) k rs (omega arith) ∙ sym (end_step (suc m') k rs (omega arith))
   ]
-    where
-      gt_of : (k n : ℕ) → leb k n ≡ false → n + 1 ≤ k
-      gt_of k n t = grind (arith, nat_tests)
 
   -- from a record that has a block on to the next
   pub next_record : (k : ℕ) (rs : List Range) (r : Range) → k ≤ n → find (covers k) rs ≡ Some r → (k + 1 ≤ r.last → find (covers (k + 1)) rs ≡ Some r) → goes (n + 1 - k) k rs ≡ goes (n + 1 - (k + 1)) (k + 1) rs
@@ -214,11 +200,8 @@ covered_with s n new (r ∷ rs) = elim (either (ltb new.first r.first)) [
       let later = covered_with s n new rs in
       let whole = covered_more s n r (with_range new rs) in
       let old = covered_more s n r rs in
-      rw t (turn (covered s n (r ∷ with_range new rs)) (covered s n (with_range new rs)) (covered s n (r ∷ rs)) (covered s n rs) (shared s n new) (shared s n r) whole later old)
+      rw t (omega arith)
 ]
-  where
-    turn : (a b c d x y : ℕ) → a ≡ y + b → b ≡ x + d → c ≡ y + d → a ≡ x + c
-    turn a b c d x y p q w = omega arith
 
 -- no more of the records from s to n than are there from `low` on
 pub covered_upto : (s n low upto : ℕ) (xs : List Leaf) → Ascending low upto xs → covered s n (of_leaves xs) ≤ (n + 1) - max s low
@@ -226,41 +209,27 @@ covered_upto s n low upto [] a = omega arith
 covered_upto s n low upto (x ∷ xs) a =
     let rest = covered_upto s n (suc x.last) upto xs a.3 in
     let whole = covered_more s n (range x.first x.last) (of_leaves xs) in
-    fit (covered s n (of_leaves (x ∷ xs))) (covered s n (of_leaves xs)) x.first x.last whole rest a.0 a.1
-  where
-    fit : (c d f t : ℕ) → c ≡ (min (n + 1) (t + 1) - max s f) + d → d ≤ (n + 1) - max s (suc t) → low ≤ f → f ≤ t → c ≤ (n + 1) - max s low
-    fit c d f t e r l o = omega arith
+    let from = a.0 in
+    let ordered = a.1 in
+    omega arith
 
 -- and one less where one of them is not covered
 pub covered_less : (s n k low upto : ℕ) (xs : List Leaf) → Ascending low upto xs → s ≤ k → low ≤ k → k ≤ n → find (covers k) (of_leaves xs) ≡ None → covered s n (of_leaves xs) + 1 ≤ (n + 1) - max s low
 covered_less s n k low upto [] a sk lk kn e = omega arith
 covered_less s n k low upto (x ∷ xs) a sk lk kn e =
     let whole = covered_more s n (range x.first x.last) (of_leaves xs) in
+    let from = a.0 in
+    let ordered = a.1 in
     elim (either (ltb k x.first)) [
-      | inl t ↦ before (covered s n (of_leaves (x ∷ xs))) (covered s n (of_leaves xs)) x.first x.last whole (covered_upto s n (suc x.last) upto xs a.3) a.0 a.1 (lt_of k x.first t)
+      | inl t ↦ let lt = lt_of k x.first t in let rest = covered_upto s n (suc x.last) upto xs a.3 in omega arith
       | inr t ↦
           let ge = ge_of k x.first t in
           elim (either (ltb x.last k)) [
             | inl u ↦
                 let lt = lt_of x.last k u in
-                let miss : covers k (range x.first x.last) ≡ false = by_last k x.first x.last lt in
-                let rest : find (covers k) (of_leaves xs) ≡ None = rw miss at e in
-                behind (covered s n (of_leaves (x ∷ xs))) (covered s n (of_leaves xs)) x.first x.last whole (covered_less s n k (suc x.last) upto xs a.3 sk lt kn rest) a.0 a.1
-            | inr u ↦ let le = ge_of x.last k u in let hit : covers k (range x.first x.last) ≡ true = by_both k x.first x.last ge le in let found : Some (range x.first x.last) ≡ None = rw hit at e in absurd (none_is found)
+                let left : find (covers k) (of_leaves xs) ≡ None = rw (le-leb x.first k ge, lt-leb k x.last lt) at e in
+                let rest = covered_less s n k (suc x.last) upto xs a.3 sk lt kn left in
+                omega arith
+            | inr u ↦ let le = ge_of x.last k u in let found : Some (range x.first x.last) ≡ None = rw (le-leb x.first k ge, le-leb k x.last le) at e in absurd (cc)
           ]
     ]
-  where
-    none_is : {X : Type 0} {x : X} → Some x ≡ None → ⊥
-    none_is e = cc
-
-    by_last : (k f t : ℕ) → t < k → (leb f k && leb k t) ≡ false
-    by_last k f t lt = grind (arith, nat_tests)
-
-    by_both : (k f t : ℕ) → f ≤ k → k ≤ t → (leb f k && leb k t) ≡ true
-    by_both k f t a b = grind (arith, nat_tests)
-
-    before : (c d f t : ℕ) → c ≡ (min (n + 1) (t + 1) - max s f) + d → d ≤ (n + 1) - max s (suc t) → low ≤ f → f ≤ t → k < f → c + 1 ≤ (n + 1) - max s low
-    before c d f t e r l o lt = omega arith
-
-    behind : (c d f t : ℕ) → c ≡ (min (n + 1) (t + 1) - max s f) + d → d + 1 ≤ (n + 1) - max s (suc t) → low ≤ f → f ≤ t → c + 1 ≤ (n + 1) - max s low
-    behind c d f t e r l o = omega arith

@@ -1,14 +1,17 @@
--- The index once a leaf is added: which leaves were put by then, which ranges are new, the top chain and the nodes.
-use Rattle.std.proofs.Common.{◌≡◌, ◌⊎◌, ℕ, zero, suc, ◌+◌, ◌*◌, ◌<◌, ◌≤◌, List, [], ◌∷◌, ◌++◌, length, map, Bool, true, false, not, ◌||◌, None, bytes_eq, refl, sym, ap, subst, ◌∙◌, arith, inl, inr}
-use Rattle.cdf_puts.proofs.Common.{cases_lt, lt-ltb, le-ltb, lt-leb, map-append, filter, list_any, unwrap_or, min, max, nat_le, if◌then◌else◌, extent, record_number_limit, Kind, new_ranges, Range, range, covers, ranges_of, first_written, firsts_of, new_range, with_leaf, new_room, with_ranges, indexes_with, outline, is_taken_at, block_need, uses_entry, NodesFollow, top_chain, last_node, Act, IsOneOf, in_order, Ascending, count_is, leaves_ascend, StandsAmong, sound, has, variable_of, number, Leaf, leaf, leaves_of, nodes_of, vdr_vxr_tail, VariableShape, shape, In, max_rec_at, record_bytes, records_of_leaf, Good, either, bytes_eq-same, tile_lies, LeafAdded, NodeTaken, leaf_acts, with_new, leaves_more, BlockRecords, SoFar, IndexSoFar, NodesSoFar, NewBlock, PutsBefore, was_put, IsVacant, IsBlockBody, before_limit}
+-- A leaf is added while records are put: the blocks of the variable, which leaves were put by then, which ranges are new, the top chain and the nodes.
+use Rattle.std.proofs.Common.{◌≡◌, ◌⊎◌, ℕ, zero, suc, ◌+◌, ◌-◌, ◌*◌, ◌<◌, ◌≤◌, List, [], ◌∷◌, ◌++◌, length, take, drop, Bool, true, false, Some, None, find, ◌||◌, refl, sym, ap, subst, ◌∙◌, arith, inl, inr, map, not, bytes_eq}
+use Rattle.cdf_puts.proofs.Common.{cases_lt, lt-ltb, same_Some, min, extent, record_number_limit, Kind, range, covers, first_written, firsts_of, new_range, with_leaf, new_room, is_taken_at, Act, IsOneOf, find_covering, place_in, plain_piece, count_is, own_rules, leaves_ascend, block_behind, StandsAmong, sound, behind_in, apart, Same, variable_of, plain_bytes, size_at, Leaf, leaf, leaves_of, uir_type, vvr_type, VariableShape, shape, In, max_rec_at, record_bytes, Good, tile_lies, LeafAdded, leaf_acts, InOrder, BlockRecords, SoFar, BlocksSoFar, OldBlock, NewBlock, IsVacant, IsBlockBody, BlocksGoOn, index_order, before_limit, vdr_alike, record_alike, lt-leb, map-append, filter, list_any, unwrap_or, nat_le, if◌then◌else◌, new_ranges, Range, ranges_of, with_ranges, indexes_with, outline, block_need, uses_entry, NodesFollow, top_chain, last_node, in_order, Ascending, has, number, nodes_of, vdr_vxr_tail, records_of_leaf, either, bytes_eq-same, NodeTaken, with_new, leaves_more, IndexSoFar, NodesSoFar, PutsBefore, was_put}
+use Rattle.cdf_edits.proofs.Edits.LeafPieces.{of_each}
+use Rattle.cdf_puts.proofs.CoveringRanges.{one_alone, of_leaves}
+use Rattle.cdf_puts.proofs.LeafCounts.{leaf_added, leaf_stays, leaf_was_there}
+use Rattle.cdf_puts.proofs.LeafEdit.{block_taken, file, index_edit, used_apart, node_in, node_taken, nodes_step}
+use Rattle.cdf_puts.proofs.LeafGood.{blocks_go_on, plain_body}
+use Rattle.cdf_puts.proofs.PutBytes.{size_now, now_plain, old_plain, old_goes_on, new_goes_on}
+use Rattle.cdf_puts.proofs.PutNodes.{taken_first, taken_then, taken_neither, NodesStep, nodes_then, taken_both, or_false}
 use Rattle.std.specs.List.{last_or}
 use Rattle.cdf_puts.specs.SoFar.{TopGrows, taken_places}
-use Rattle.cdf_puts.proofs.BlocksAdded.{order, beside_new}
-use Rattle.cdf_puts.proofs.LeafEdit.{node_in, node_taken, nodes_step}
 use Rattle.cdf_puts.proofs.LeafOutlines.{place_outside, same_with_leaf, same_uses, with_one_more, last_of_through, through_stays, top_grows, bytes_longer}
-use Rattle.cdf_puts.proofs.CoveringRanges.{of_leaves}
 use Rattle.cdf_puts.proofs.PutLeaves.{one_more, put_new, none_begins, puts_new}
-use Rattle.cdf_puts.proofs.PutNodes.{NodesStep, nodes_then, taken_both, taken_first, taken_then, taken_neither, or_false}
 use Rattle.cdf_puts.proofs.SoFarStarts.{covers_own}
 
 -- ---- the ranges that are new
@@ -56,6 +59,9 @@ module _ {b now now' : List ℕ} {kind : Kind} {before : List VariableShape} {ow
   abbrev own'' : VariableShape
   own'' = record own' { index = with_leaf new at own'.index }
 
+  abbrev size : ℕ
+  size = record_bytes b own.vdr
+
   abbrev first : ℕ
   first = first_written (variable_of b own) r
 
@@ -68,17 +74,17 @@ module _ {b now now' : List ℕ} {kind : Kind} {before : List VariableShape} {ow
   abbrev leaves : List Leaf
   leaves = leaves_of own'.index
 
+  abbrev leaves' : List Leaf
+  leaves' = leaves_of own''.index
+
   abbrev upto : ℕ
   upto = min (last + 1) (r + 1)
 
   abbrev step : List Act
   step = leaf_acts place (8 + length body) (new_room k own'.index) at
 
-  abbrev n : NodesSoFar b now own own' acts
-  n = so.index.nodes
-
-  leaves_are : leaves_of own''.index ≡ with_new new leaves
-  leaves_are = leaves_more new at 0 record_number_limit own'.index (order so more is vacant holds says w good' among')
+  order : InOrder 0 record_number_limit own'.index
+  order = index_order now (shape now).records own'.vdr own'.index (own_rules so.goes.good so.goes.among).1
 
   ascend : Ascending 0 (suc record_number_limit) leaves
   ascend = leaves_ascend so.goes.good so.goes.among
@@ -89,28 +95,125 @@ module _ {b now now' : List ℕ} {kind : Kind} {before : List VariableShape} {ow
   small : last ≤ record_number_limit
   small = before_limit k last (firsts_of own'.index) vacant.before_next
 
+  in_new : (l : Leaf) → IsOneOf leaves l → IsOneOf leaves' l
+  in_new l i = leaf_stays new at 0 record_number_limit own'.index order l i
+
+  new_in : IsOneOf leaves' new
+  new_in = leaf_added new at 0 record_number_limit own'.index order
+
+  found_at : (j : ℕ) (l : Leaf) → IsOneOf leaves' l → l.first ≤ j → j ≤ l.last → find (λ (leaf : Leaf). covers j (range leaf.first leaf.last)) leaves' ≡ Some l
+  found_at j l i f t = find_covering j 0 (suc record_number_limit) leaves' (leaves_ascend good' among') l i f t
+
+  -- a leaf that was there ends before the new one, or begins behind it
+  beside_new : (l : Leaf) → IsOneOf leaves l → l.first ≤ l.last → (l.last < k) ⊎ (last < l.first)
+  beside_new l i ordered = elim (cases_lt l.last k) [
+    | inl lt ↦ inl lt
+    | inr t ↦ elim (cases_lt last l.first) [
+      | inl lt ↦ inr lt
+      | inr g ↦ elim (cases_lt k l.first) [
+        | inl lt ↦
+            let same : l ≡ new = same_Some l new (sym (found_at l.first l (in_new l i) (omega arith) ordered) ∙ found_at l.first new new_in (omega arith) g) in
+            let e : l.first ≡ k = ap (λ (y : Leaf). y.first) same in
+            absurd (omega arith)
+        | inr f ↦ let e : None ≡ Some l = sym vacant.uncovered ∙ find_covering k 0 (suc record_number_limit) leaves ascend l i f t in absurd (cc)
+      ]
+    ]
+  ]
+
+  -- ---- their bytes
+
+  goes_on : BlocksGoOn now now' own' new records
+  goes_on = blocks_go_on so.goes.good so.goes.among w holds
+
+  size_after : record_bytes now' own'.vdr ≡ size
+  size_after = record_alike (file so.goes.good so.goes.among w) (vdr_alike so.goes.good so.goes.among (index_edit so.goes.good so.goes.among w (plain_body body records holds))) ∙ size_now so
+
+  longer : length now ≤ length now'
+  longer = (file so.goes.good so.goes.among w).longer
+
+  same : (l : Leaf) → IsOneOf leaves l → Same now now' l.place (l.place + size_at now l.place)
+  same l i = of_each (λ (l : Leaf). Same now now' l.place (l.place + size_at now l.place)) leaves l goes_on.old i
+
+  leaf_apart : (l : Leaf) → IsOneOf leaves l → is_taken_at step l.place ≡ false
+  leaf_apart l i = used_apart so.goes.good so.goes.among w l.place (behind_in so.goes.good so.goes.among l.place (block_behind own' l.place (place_in leaves l i))) (λ e. absurd (apart vvr_type uir_type refl (sym (now_plain so l i).typed ∙ e)))
+
+  more_upto : k < upto
+  more_upto = let o = vacant.ordered in omega arith
+
+  old_block : (l : Leaf) → IsOneOf olds l → OldBlock b now' raw pad r first upto size l
+  old_block l i =
+      let j = so.blocks.stay l i in
+      let x = old_plain so l i in
+      let ordered = x.ordered in
+      let o = vacant.ordered in
+      elim (beside_new l j ordered) [
+        | inl lt ↦ old_goes_on so longer l (same l j) i (let m = more_upto in omega arith) (λ j' from low f t. (omega arith))
+        | inr lt ↦ old_goes_on so longer l (same l j) i (omega arith) (λ j' from low f t. absurd (omega arith))
+      ]
+
+  new_block : NewBlock now' raw pad r first most upto size (acts ++ step) new
+  new_block = record {
+    from = so.from;
+    upto = more_upto;
+    ends = λ lt. omega arith;
+    alone = λ lt. subst (λ (n : ℕ). n ≤ r) (sym (is ∙ one_alone (variable_of b own) (firsts_of own'.index) k (lt-ltb k most (omega arith)))) more;
+    plain = refl;
+    was_taken = taken_then acts step place (block_taken place (8 + length body) (new_room k own'.index) at);
+    written = λ j f t. sym (plain_piece now' own'.vdr size j new refl small size_after f t) ∙ ap (λ (xs : List ℕ). take size (drop ((j - k) * size) xs)) plain_is ∙ says.written j f t;
+    spare = λ i low high. goes_on.spare i (subst (λ (n : ℕ). 12 + n ≤ i) (sym says.as_long) low) high;
+  }
+    where
+      plain_is : plain_bytes now' own'.vdr new ≡ records
+      plain_is =
+          let count = count_is new small vacant.ordered in
+          let bytes = size_after in
+          ap (λ (n : ℕ). take n (drop (place + 12) now')) ((λ i. count i * bytes i) ∙ sym says.as_long) ∙ goes_on.records_are
+
+  pub blocks_added : BlocksSoFar b now' own own'' raw pad r first upto (acts ++ step)
+  blocks_added = record {
+    stay = λ l i. in_new l (so.blocks.stay l i);
+    apart = λ l i. taken_neither acts step l.place (so.blocks.apart l i) (leaf_apart l (so.blocks.stay l i));
+    old = old_block;
+    new = λ l i. elim (leaf_was_there new at 0 record_number_limit own'.index order l i) [
+      | inl q ↦ inr (subst (NewBlock now' raw pad r first most upto size (acts ++ step)) (sym q) new_block)
+      | inr j ↦ elim (so.blocks.new l j) [
+        | inl o ↦ inl o
+        | inr n ↦ inr (new_goes_on so longer l (same l j) j (let m = more_upto in omega arith) (taken_first acts step l.place n.was_taken) n)
+      ]
+    ];
+    has = λ j from low. elim (cases_lt j k) [
+      | inl lt ↦ let x = so.blocks.has j from lt in (x.0, (in_new x.0 x.1.0, x.1.1))
+      | inr le ↦ (new, (new_in, (le, omega arith)))
+    ];
+    quiet = λ e. absurd (some_acts acts e);
+  }
+    where
+      some_acts : (acts : List Act) → acts ++ step ≡ [] → ⊥
+      some_acts [] e = cc
+      some_acts (x ∷ xs) e = cc
+
+  -- ---- the index
+
+  abbrev n : NodesSoFar b now own own' acts
+  n = so.index.nodes
+
+  leaves_are : leaves_of own''.index ≡ with_new new leaves
+  leaves_are = leaves_more new at 0 record_number_limit own'.index order
+
   -- ---- the leaves that were put
 
   needs : (end : List ℕ) → record_bytes end own.vdr ≡ record_bytes b own.vdr → 8 + length body ≡ block_need end own.vdr new
   needs end same =
       let count = count_is new small vacant.ordered in
       let plain : records_of_leaf new * record_bytes end own.vdr ≡ length records = (λ i. count i * same i) ∙ sym says.as_long in
-      long (length body) (length records) holds.as_long ∙ ap (λ (x : ℕ). max 28 (12 + x)) (sym plain)
-    where
-      long : (x y : ℕ) → x ≡ max 20 (4 + y) → 8 + x ≡ max 28 (12 + y)
-      long x y e = omega arith
+      let long = holds.as_long in
+      omega arith
 
   puts_added : PutsBefore b own own'' (filter (was_put first upto) (leaves_of own''.index)) (acts ++ step)
   puts_added =
-      let one = put_new first k upto 0 (suc record_number_limit) leaves new ascend (λ l i. beside_new so more is vacant holds says w good' among' l i (ordered l i)) refl so.from (later k last r vacant.ordered more) (within last r) in
+      let one = put_new first k upto 0 (suc record_number_limit) leaves new ascend (λ l i. beside_new l i (ordered l i)) refl so.from (let o = vacant.ordered in omega arith) (omega arith) in
       subst (λ (ls : List Leaf). PutsBefore b own own'' ls (acts ++ step)) (sym (ap (filter (was_put first upto)) leaves_are ∙ one))
       (puts_new b own own' (filter (was_put first k) leaves) acts new (8 + length body) at so.index.puts (none_begins k 0 (suc record_number_limit) leaves ascend vacant.uncovered) needs (no_node_zero w.filled w.roomy (new_room k own'.index) at w.node))
-    where
-      later : (k last r : ℕ) → k ≤ last → k ≤ r → k < min (last + 1) (r + 1)
-      later k last r a c = omega arith
-
-      within : (last r : ℕ) → min (last + 1) (r + 1) ≤ last + 1
-      within last r = omega arith
 
   -- ---- the ranges
 
@@ -127,7 +230,7 @@ module _ {b now now' : List ℕ} {kind : Kind} {before : List VariableShape} {ow
       ap (λ (ls : List Leaf). filter test (map rng ls)) leaves_are ∙ filter_mapped rng test (with_new new leaves) ∙ ap (map rng) one ∙ map-append rng (filter (λ l. test (rng l)) leaves) (new ∷ []) ∙ ap (λ (xs : List Range). xs ++ range k last ∷ []) (sym (filter_mapped rng test leaves))
     where
       out : (l : Leaf) → IsOneOf leaves l → (l.last < k) ⊎ (k < l.first)
-      out l i = elim (beside_new so more is vacant holds says w good' among' l i (ordered l i)) [ inl lt ↦ inl lt | inr lt ↦ inr (let o = vacant.ordered in omega arith) ]
+      out l i = elim (beside_new l i (ordered l i)) [ inl lt ↦ inl lt | inr lt ↦ inr (let o = vacant.ordered in omega arith) ]
 
       was_there : (l : Leaf) → IsOneOf leaves l → k < l.first → IsOneOf olds l ⊎ NewBlock now raw pad r first most k (record_bytes b own.vdr) acts l → list_any (covers l.first) (ranges_of own.index) ≡ true
       was_there l i lt (inl o) = covers_own olds l o (ordered l i)

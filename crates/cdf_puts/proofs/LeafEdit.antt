@@ -1,7 +1,7 @@
 -- A leaf that is added, as one edit: its block is taken and written, then a node where one is needed, and then the entries are.
 use Rattle.std.proofs.Common.{◌≡◌, ℕ, zero, suc, ◌+◌, ◌*◌, ◌<◌, ◌≤◌, List, [], ◌∷◌, ◌++◌, length, true, append-nil, refl, sym, ap, subst, ◌∙◌, arith, inl, inr, ◌≢◌, ◌⊎◌, true≢false, Bool, false, ◌||◌, ◌==◌, eq-eqb}
-use Rattle.cdf_puts.proofs.Common.{node_acts, is_in-false, Kind, R, Z, size_at, type_at, eof, Leaf, nodes_of, room_at, vxr_type, VariableShape, shape, NodeFits, IsSound, In, Good, number_kept, size_kept, type_kept, vxr_n_entries, linkable-type, good_is_sound, nodes_stand, In-append_left, In-append_right, tile_lies, vxr_bytes, Edit, Mark, Away, unmarked, Touch, new_room, type_in, variables_chain, edit_then, filled_size, unmarked-away, Away-append, kept_away, node_behind, StandsAmong, through, tile, typed, long, has, fits, behind_in, Kept, Each-in, placing_marks, NodeTaken, IndexTouch, LeafAdded, ne_eqb, Same, is_a, is_in, number, leaves_of, variable_records, Field, gdr_type, vvr_type, cvvr_type, cpr_type, uir_type, is_record_type, fixed_size, Shape, Each, HasShape, LeafFits, is_a-type, In-append, Avoids, avoided, with_leaf, places_of, or_cases, away-avoids, Avoids-append, kept, gdr_in, gdr_typed, gdr_long, block_behind, variables_in, other_kind, FileSame, all_variable_records, apart, type_of_body, OwnEdit, IndexEdit, is_taken_at, Act, changed_part, Same-part, word_kept, leaf_acts}
-use Rattle.cdf_edits.specs.Edits.Marks.{Among, Marked, variable_types, keeps_file}
+use Rattle.cdf_puts.proofs.Common.{r_max_rec_field, space_fields, node_acts, is_in-false, Kind, R, Z, size_at, type_at, eof, Leaf, nodes_of, room_at, vxr_type, VariableShape, shape, NodeFits, IsSound, In, Good, number_kept, size_kept, type_kept, vxr_n_entries, linkable-type, good_is_sound, nodes_stand, In-append_left, In-append_right, tile_lies, vxr_bytes, Edit, Mark, Away, unmarked, Touch, new_room, type_in, variables_chain, edit_then, filled_size, unmarked-away, Away-append, kept_away, node_behind, StandsAmong, through, tile, typed, long, has, fits, behind_in, Kept, Each-in, placing_marks, NodeTaken, IndexTouch, LeafAdded, ne_eqb, Same, is_a, is_in, number, leaves_of, variable_records, Field, gdr_type, vvr_type, cvvr_type, cpr_type, uir_type, is_record_type, fixed_size, Shape, Each, HasShape, LeafFits, is_a-type, In-append, Avoids, avoided, with_leaf, places_of, or_cases, away-avoids, Avoids-append, kept, gdr_in, gdr_typed, gdr_long, block_behind, variables_in, other_kind, FileSame, all_variable_records, apart, type_of_body, OwnEdit, IndexEdit, is_taken_at, Act, changed_part, Same-part, leaf_acts}
+use Rattle.cdf_edits.specs.Edits.Marks.{within, Among, Marked, variable_types, keeps_file}
 use Rattle.std.proofs.lemmas.Bool.{both_ways, or_left, or_right}
 use Rattle.cdf_edits.proofs.Edits.Composing.{changed_edit, same-then, head_size, head_type}
 use Rattle.cdf_edits.proofs.Edits.MadeRecord.{place_in, fresh}
@@ -88,12 +88,14 @@ pub record LeafTests (kind : Kind) (marks : List Mark) : Type 0 where
   pub head_clear : avoided marks gdr_type (head_of (variables_chain kind)).place ((head_of (variables_chain kind)).place + (head_of (variables_chain kind)).width) ≡ true
   pub count_clear : avoided marks gdr_type (count_of (variables_chain kind)).place ((count_of (variables_chain kind)).place + (count_of (variables_chain kind)).width) ≡ true
   pub max_clear : avoided marks gdr_type 52 56 ≡ true
+  pub heads_clear : avoided marks gdr_type 0 12 ≡ true
+  pub inside : within marks gdr_type (r_max_rec_field kind ++ space_fields) ≡ true
 
 pub leaf_tests : (kind : Kind) (v : ℕ) (nodes unused : List ℕ) (place need : ℕ) (unused' : List ℕ) (room at most : ℕ) → LeafTests kind (leaf_marks kind v nodes unused place need unused' room at most)
-leaf_tests R v nodes unused place need unused' zero at most = record { file_clear = refl; attributes_clear = refl; other_clear = refl; blocks_clear = refl; packed_clear = refl; cpr_clear = refl; head_clear = refl; count_clear = refl; max_clear = refl }
-leaf_tests R v nodes unused place need unused' (suc room) at most = record { file_clear = refl; attributes_clear = refl; other_clear = refl; blocks_clear = refl; packed_clear = refl; cpr_clear = refl; head_clear = refl; count_clear = refl; max_clear = refl }
-leaf_tests Z v nodes unused place need unused' zero at most = record { file_clear = refl; attributes_clear = refl; other_clear = refl; blocks_clear = refl; packed_clear = refl; cpr_clear = refl; head_clear = refl; count_clear = refl; max_clear = refl }
-leaf_tests Z v nodes unused place need unused' (suc room) at most = record { file_clear = refl; attributes_clear = refl; other_clear = refl; blocks_clear = refl; packed_clear = refl; cpr_clear = refl; head_clear = refl; count_clear = refl; max_clear = refl }
+leaf_tests R v nodes unused place need unused' zero at most = record { file_clear = refl; attributes_clear = refl; other_clear = refl; blocks_clear = refl; packed_clear = refl; cpr_clear = refl; head_clear = refl; count_clear = refl; max_clear = refl; heads_clear = refl; inside = refl }
+leaf_tests R v nodes unused place need unused' (suc room) at most = record { file_clear = refl; attributes_clear = refl; other_clear = refl; blocks_clear = refl; packed_clear = refl; cpr_clear = refl; head_clear = refl; count_clear = refl; max_clear = refl; heads_clear = refl; inside = refl }
+leaf_tests Z v nodes unused place need unused' zero at most = record { file_clear = refl; attributes_clear = refl; other_clear = refl; blocks_clear = refl; packed_clear = refl; cpr_clear = refl; head_clear = refl; count_clear = refl; max_clear = refl; heads_clear = refl; inside = refl }
+leaf_tests Z v nodes unused place need unused' (suc room) at most = record { file_clear = refl; attributes_clear = refl; other_clear = refl; blocks_clear = refl; packed_clear = refl; cpr_clear = refl; head_clear = refl; count_clear = refl; max_clear = refl; heads_clear = refl; inside = refl }
 
 -- a descriptor has none of the other types
 vdr_unlike : (kind : Kind) (type : ℕ) → (r_vdr_type == type) ≡ false → (z_vdr_type == type) ≡ false → type_in (variables_chain kind) ≡ type → ⊥

@@ -1,22 +1,21 @@
 -- A leaf that is added to the index of a variable leads from one good image to another: what its acts take, what stays of the records of each owner, and the blocks.
 use Rattle.std.proofs.Common.{◌≡◌, ℕ, zero, suc, ◌+◌, List, [], ◌∷◌, ◌++◌, length, true, refl, ap, subst, arith, ◌≢◌, ◌⊎◌, ◌<◌, ◌≤◌, false, sym, inl, inr, ◌-◌, max, take, drop, ◌∙◌, take-append-drop, ℤ, pos, negsuc, ◌*◌, Bool}
-use Rattle.cdf_puts.proofs.Common.{lt-leb, ◌&&◌, Kind, R, Z, unmarked-away, StandsAmong, Only, Edit, Mark, avoided, unmarked, new_room, Took, ActsFollow, type_of_body, linkable-in, linkable-type, good_is_sound, both, Leaf, Field, uir_next_uir, uir_prev_uir, gdr_type, uir_type, vvr_type, vxr_type, VariableShape, Shape, shape, IsSound, Good, NodeTaken, LeafAdded, node_acts, leaf_acts, ListedStay, acts_joined, still_edit, OnlyTakes, nat_le, nat_lt, places_of, Avoids-append, Away-append, away-avoids, kept, kept_away, gdr_in, gdr_typed, block_behind, variables_in, other_kind, behind_in, fits, ours, tile, Kept, Each-in, all_variable_records, AllKeep, Keeps, Stays, OutsideFields, is_taken, r_max_rec_field, space_fields, unused_allowance, put_changes, vxr_bytes, Avoids, Away, Act, word_kept, is_a-type, In-append, tile_lies, is_a, number, size_at, type_at, leaves_of, nodes_of, Unused, owned, unused_records, variable_records, vdr_max_rec, vdr_vxr_head, vdr_vxr_tail, cdr_type, cpr_type, HasShape, In, found_in, placing_marks, none_of_both, length-take, length-drop, Same, byte, size_kept, type_kept, place_in, each_of, IsBlockBody, BlocksGoOn, ne_eqb, w32, cast_signed, flat_map, ◌==◌, ◌||◌, if◌then◌else◌, image_limit, record_number_limit, is_in, with_sign, integer4, Nodes, no_node, node, Entries, no_entry, block, lower, room_at, times, gdr_r_max_rec, cvvr_type, asked, is_compressed, Each, NodeFits, record_bytes, is_max_rec, Same-part, good_by_its_shape, nodes_stand, either, true-is_in, false-is_in, Hold-split, le_of, of_le, r_max_rec, firsts_of, with_leaf, IsOneOf, count_is, plain_leaf, own_rules, index_records, gdr_long, times-append, times-in, record_alike, apart, InOrder, DescriptorStays, GoesOn, IsVacant, before_limit, index_order, OwnEdit, IndexEdit, vdr_alike}
+use Rattle.cdf_puts.proofs.Common.{lt-leb, ◌&&◌, Kind, R, Z, unmarked-away, StandsAmong, Only, Edit, Mark, unmarked, new_room, Took, ActsFollow, type_of_body, linkable-in, linkable-type, good_is_sound, both, Leaf, Field, uir_next_uir, uir_prev_uir, gdr_type, uir_type, vvr_type, vxr_type, VariableShape, Shape, shape, IsSound, Good, NodeTaken, LeafAdded, node_acts, leaf_acts, ListedStay, acts_joined, still_edit, OnlyTakes, nat_le, nat_lt, places_of, Avoids-append, Away-append, away-avoids, kept, kept_away, gdr_in, gdr_typed, block_behind, variables_in, other_kind, behind_in, fits, ours, tile, Kept, Each-in, all_variable_records, AllKeep, Keeps, Stays, OutsideFields, is_taken, r_max_rec_field, space_fields, unused_allowance, put_changes, vxr_bytes, Avoids, Away, Act, word_kept, is_a-type, In-append, tile_lies, is_a, number, size_at, type_at, leaves_of, nodes_of, Unused, owned, unused_records, variable_records, vdr_max_rec, vdr_vxr_head, vdr_vxr_tail, cdr_type, cpr_type, HasShape, In, found_in, placing_marks, none_of_both, length-take, length-drop, Same, byte, size_kept, type_kept, place_in, each_of, IsBlockBody, BlocksGoOn, ne_eqb, flat_map, ◌==◌, ◌||◌, if◌then◌else◌, image_limit, record_number_limit, is_in, with_sign, Nodes, no_node, node, Entries, no_entry, block, lower, room_at, times, cvvr_type, asked, is_compressed, Each, NodeFits, record_bytes, is_max_rec, Same-part, good_by_its_shape, nodes_stand, Hold-split, le_of, of_le, firsts_of, with_leaf, IsOneOf, count_is, plain_leaf, own_rules, index_records, times-append, times-in, record_alike, apart, InOrder, DescriptorStays, GoesOn, IsVacant, before_limit, index_order, OwnEdit, IndexEdit, vdr_alike}
 use Rattle.cdf_edits.proofs.Edits.EditActs.{acts_none, acts_took}
 use Rattle.cdf_edits.proofs.Edits.MadeRecord.{listed_marks, made_edit, listed_before, loose_away, taking_avoids, taking_within}
 use Rattle.cdf_edits.proofs.Edits.OwnersKept.{keeps_away, keeps_within, keep_unused, keeps_fields, stood, taken_is_taken}
-use Rattle.cdf_edits.proofs.Edits.VariableSplice.{shape_now, attributes_kept}
+use Rattle.cdf_edits.proofs.Edits.VariableSplice.{attributes_kept}
 use Rattle.cdf_edits.specs.Edits.Marks.{is_late, Within, taking_marks, whole, within}
 use Rattle.cdf_edits.specs.Space.Placing.{Fills}
 use Rattle.cdf_edits.proofs.Commands.KeptRecords.{keeps_stood}
 use Rattle.cdf_edits.proofs.Edits.MarkLemmas.{Within-append, away-within}
 use Rattle.cdf_edits.proofs.Edits.OwnedOnce.{all_attributes_in, used_times, fresh_unowned, owned_once_if}
-use Rattle.cdf_edits.proofs.Edits.RecordFrame.{cdr_kept, gdr_part, gdr_place}
+use Rattle.cdf_edits.proofs.Edits.RecordFrame.{cdr_kept}
 use Rattle.cdf_edits.proofs.Edits.VariableCopied.{cpr_behind}
 use Rattle.cdf_edits.proofs.Edits.VariableKinds.{kind_ours, with_shapes, spliced_times}
 use Rattle.cdf_edits.proofs.Edits.StandsAmong.{after_ours}
 use Rattle.cdf_format.proofs.ChainsLemmas.{is_a-in, is_a-from}
-use Rattle.cdf_puts.proofs.OwnAllowed.{own_may, descriptor_allowed, node_allowed}
-use Rattle.cdf_puts.proofs.PutKeeps.{PutKeeps, all_kept, kept_place}
+use Rattle.cdf_puts.proofs.GoesThen.{own_may, descriptor_allowed, node_allowed, PutKeeps, all_kept, kept_place}
 use Rattle.std.proofs.lemmas.List.{ext_get_or, get_or_append_left, get_or-take, get_or-drop}
 use Rattle.cdf_format.specs.Fields.{word, holds}
 use Rattle.cdf_format.proofs.BytesLemmas.{word-same, byte-put_inside}
@@ -38,7 +37,7 @@ use Rattle.cdf_puts.proofs.LeafCounts.{in-times, nodes_with_leaf, places_with_le
 use Rattle.cdf_puts.proofs.PutNodes.{each_in}
 use Rattle.cdf_index.proofs.LeafRules.{index_rules_with_leaf}
 use Rattle.cdf_edits.proofs.Edits.IndexEdited.{vdr_size, vdr_type, good_now as good_if_ruled}
-use Rattle.cdf_puts.proofs.LeafEdit.{LeafTests, node_marks, index_marks, leaf_marks, new_nodes, edit, block_placed, node_placed, entries_written, marks, reborn, with_new, tests, file, beside, only, block_kept, block_in, new_apart, new_fresh, part, part_of, vdr_size as vdr_long, type_now, end_now, index_edit, own_edit, splices, placed_kept, placed_size}
+use Rattle.cdf_puts.proofs.LeafEdit.{node_marks, index_marks, new_nodes, edit, block_placed, node_placed, entries_written, marks, reborn, with_new, tests, file, beside, only, block_kept, block_in, new_apart, new_fresh, part, part_of, vdr_size as vdr_long, type_now, end_now, index_edit, own_edit, splices, placed_kept, placed_size}
 use Rattle.cdf_edits.proofs.Edits.OwnEdited as of_own
 use Rattle.cdf_edits.proofs.Edits.IndexEdited as of_index
 
@@ -83,18 +82,6 @@ node_follows (suc entries) at sound sound' taken later as_long lately clear reco
   follow = acts_took sound taken.fills later as_long lately records_are list_are;
   listed = took_listed sound taken.fills later as_long lately records_are;
 }
-
--- ---- the GDR changes where the unused list begins and the image ends
-
-record GdrTests (kind : Kind) (marks : List Mark) : Type 0 where
-  heads : avoided marks gdr_type 0 12 ≡ true
-  inside : within marks gdr_type (r_max_rec_field kind ++ space_fields) ≡ true
-
-gdr_tests : (kind : Kind) (v : ℕ) (ns unused : List ℕ) (place size : ℕ) (unused' : List ℕ) (entries at most : ℕ) → GdrTests kind (leaf_marks kind v ns unused place size unused' entries at most)
-gdr_tests R v ns unused place size unused' zero at width = record { heads = refl; inside = refl }
-gdr_tests R v ns unused place size unused' (suc entries) at width = record { heads = refl; inside = refl }
-gdr_tests Z v ns unused place size unused' zero at width = record { heads = refl; inside = refl }
-gdr_tests Z v ns unused place size unused' (suc entries) at width = record { heads = refl; inside = refl }
 
 -- ---- unused records
 
@@ -239,9 +226,6 @@ module _ {b now : List ℕ} {kind : Kind} {before : List VariableShape} {own : V
     pub leaf_follows : ActsFollow b now (leaf_acts new.place (8 + length body) (new_room new.first own.index) at)
     leaf_follows = acts_joined sound.has_shape (block_placed good among w).sound.has_shape block_follows node_part.follow tt (node_takes roomed at) block_listed node_part.listed
 
-    of_gdr : GdrTests kind ks
-    of_gdr = gdr_tests kind own.vdr (nodes_of own.index) (shape b).unused new.place (8 + length body) (shape w.filled).unused roomed at (length w.roomy)
-
     stays : (m : ℕ) → In m (shape b).records → Kept b now m → (fs : List Field) → Stays b now m fs
     stays m i k fs = keeps_stood b now m (stood sound e records_are m i k) (Only fs)
 
@@ -317,7 +301,7 @@ module _ {b now : List ℕ} {kind : Kind} {before : List VariableShape} {own : V
       pub leaf_put_keeps : PutKeeps b now kind before own after r acts
       leaf_put_keeps = record {
         cdr = let inside = is_a-in b (shape b).records cdr_type 8 h.cdr_stands in stays 8 inside (cdr_kept sound e (tests good among w).file_clear) [];
-        gdr = keeps_fields sound e records_are (shape b).gdr gdr_type (r_max_rec_field kind ++ space_fields) (gdr_in b (shape b) h) (gdr_typed b (shape b) h) of_gdr.heads of_gdr.inside;
+        gdr = keeps_fields sound e records_are (shape b).gdr gdr_type (r_max_rec_field kind ++ space_fields) (gdr_in b (shape b) h) (gdr_typed b (shape b) h) (tests good among w).heads_clear (tests good among w).inside;
         attributes = λ m i. stays m (all_attributes_in sound m i) (attributes_kept sound (splices good among w plain) m i) [];
         in_front = away_stays _ (ours good among).0.sub (λ m i. (only good among w m i).in_before);
         behind = away_stays _ (after_ours good among).sub (λ m i. (only good among w m i).in_after);

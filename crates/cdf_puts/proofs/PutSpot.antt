@@ -1,6 +1,6 @@
 -- Where the next record is put: what an image says of a variable of which some records are put, and each step from there.
 use Rattle.std.proofs.Common.{◌≡◌, ℕ, zero, suc, ◌+◌, ◌-◌, ◌*◌, ◌<◌, ◌≤◌, List, [], ◌∷◌, ◌++◌, length, max, min, append_assoc, false, Some, None, ltb, sym, ap, subst, ◌∙◌, arith, inl, inr}
-use Rattle.cdf_puts.proofs.Common.{lt-ltb, le-ltb, ltb-true, find, if◌then◌else◌, shapes_of, put_room, vxr_bytes, widest, range, covers, firsts_of, next_first, block_count, is_sparse, first_written, new_room, times_le, StandsAmong, fits, has, long, tile, variable_of, number, Nodes, leaf, leaves_of, vdr_vxr_head, VariableShape, is_compressed, shape, variables, vdrs, IsSound, In, record_bytes, max_rec_at, sparse_at, Good, good_by_its_shape, good_is_sound, either, tile_lies, LeafAdded, NodeTaken, leaf_acts, HasIndex, index_at, leaf_of, Variable, extent, image_limit, record_number_limit, Kind, R, Z, Covering, new_last, block_bytes, IsPut, PutsUpTo, SomePut, last_in_new, record_put, records_put, SoFar, taken_bytes, IsBlockBody, IsVacant}
+use Rattle.cdf_puts.proofs.Common.{lt-ltb, le-ltb, ltb-true, find, if◌then◌else◌, shapes_of, vxr_bytes, widest, range, covers, firsts_of, next_first, block_count, record_length, is_sparse, first_written, new_room, times_le, StandsAmong, fits, has, long, tile, variable_of, number, Nodes, leaf, leaves_of, vdr_vxr_head, VariableShape, is_compressed, shape, variables, vdrs, IsSound, In, record_bytes, max_rec_at, sparse_at, Good, good_by_its_shape, good_is_sound, either, tile_lies, LeafAdded, NodeTaken, leaf_acts, HasIndex, index_at, leaf_of, Variable, extent, image_limit, record_number_limit, Kind, R, Z, Covering, new_last, block_bytes, IsPut, PutsUpTo, SomePut, last_in_new, record_put, records_put, SoFar, taken_bytes, IsBlockBody, IsVacant}
 use Rattle.std.proofs.Math.Nat.{div-le_self}
 use Rattle.std.proofs.lemmas.Bool.{ltb-false}
 use Rattle.cdf_base.specs.Bytes.{put as put_at}
@@ -19,7 +19,7 @@ use Rattle.cdf_puts.specs.Putting.{Putting, PutsOn, SomePutting, most_in_block}
 use Rattle.cdf_puts.specs.declared.putting.NewRecord.{NewRecord}
 use Rattle.cdf_puts.proofs.Covering.{covering_room, covering_vacant}
 use Rattle.cdf_puts.proofs.CoveringRanges.{full_or_next, one_alone, one_at_least}
-use Rattle.cdf_puts.proofs.GoesAlike.{later_packed, later_size}
+use Rattle.cdf_puts.proofs.GoesThen.{later_packed, later_size}
 use Rattle.cdf_puts.proofs.LeafCounts.{new_room_widest, roomy}
 use Rattle.cdf_puts.proofs.PutRoom.{longer_by}
 use Rattle.cdf_puts.proofs.PutPieces.{block_records, body_long, record_long, records_long}
@@ -50,10 +50,7 @@ most_some : (v : Variable) (r : ℕ) → 1 ≤ most_in_block v r
 most_some v r = elim (either (ltb r (extent v.max_rec))) [ inl t ↦ rw t (omega arith) | inr t ↦ rw t (one_at_least v) ]
 
 count_few : (v : Variable) → block_count v ≤ 1048576
-count_few v = elim (either v.vary) [ inl t ↦ rw t (fewer _ _ (div-le_self 1048576 _)) | inr t ↦ rw t (omega arith) ]
-  where
-    fewer : (a q : ℕ) → q ≤ 1048576 → max 1 (min a q) ≤ 1048576
-    fewer a q l = omega arith
+count_few v = elim (either v.vary) [ inl t ↦ rw t (let q = div-le_self 1048576 (record_length v) in omega arith) | inr t ↦ rw t (omega arith) ]
 
 most_few : (v : Variable) (r : ℕ) → most_in_block v r ≤ 1048576
 most_few v r = elim (either (ltb r (extent v.max_rec))) [ inl t ↦ rw t (omega arith) | inr t ↦ rw t (count_few v) ]
@@ -64,16 +61,14 @@ last_as v index k r most rule is from upto before = elim (either (ltb r (extent 
   | inl t ↦
       let one : most ≡ 1 = rw t at is in
       let past = ltb-true r (extent v.max_rec) t in
-      alone k most (next_first k (firsts_of index)) one before ∙ sym (one_alone v (firsts_of index) k (lt-ltb k (extent v.max_rec) (omega arith)))
+      let alone = one_alone v (firsts_of index) k (lt-ltb k (extent v.max_rec) (omega arith)) in
+      omega arith
   | inr t ↦
       let count : most ≡ block_count v = rw t at is in
       let past = ltb-false r (extent v.max_rec) t in
       let first : min r (extent v.max_rec) ≤ k = rw rule at from in
       ap (λ (n : ℕ). min (k + n) (next_first k (firsts_of index)) - 1) count ∙ sym (full_or_next v (firsts_of index) k (le-ltb k (extent v.max_rec) (omega arith)))
 ]
-  where
-    alone : (k most next : ℕ) → most ≡ 1 → k < next → min (k + most) next - 1 ≡ k
-    alone k most next e l = omega arith
 
 -- a node more is no wider than the widest
 node_long : (b now : List ℕ) (room at wide : ℕ) → NodeTaken b now room at → room ≤ wide → length now ≤ length b + vxr_bytes wide
@@ -174,13 +169,12 @@ module _ {b now : List ℕ} {kind : Kind} {before : List VariableShape} {own : V
           bytes_long = ap length bytes_are ∙ record_long new.raw.items new.pad.items new.rec size p.start.raw_long p.pad_long k
 
           pub held_within : (k - l.first) * n + length bytes ≤ (l.last + 1 - l.first) * n
-          held_within = ends (k - l.first) (l.last + 1 - l.first) n (length bytes) (one_more l.first l.last k held.1 held.2) (bytes_long ∙ sym size_now ∙ sized)
-            where
-              one_more : (f u k : ℕ) → f ≤ k → k ≤ u → suc (k - f) ≤ u + 1 - f
-              one_more f u k a c = omega arith
-
-              ends : (x y n m : ℕ) → suc x ≤ y → m ≡ n → x * n + m ≤ y * n
-              ends x y n m l e = let room = times_le (suc x) y n l in omega arith
+          held_within =
+              let long = bytes_long ∙ sym size_now ∙ sized in
+              let from = held.1 in
+              let upto = held.2 in
+              let room = times_le (suc (k - l.first)) (l.last + 1 - l.first) n (omega arith) in
+              omega arith
 
           pub written_on : {now' : List ℕ} → now' ≡ put_at now (l.at + (12 + (k - l.first) * n)) bytes → IsPut b now' kind before own after new (k + 1)
           written_on w = record {
@@ -215,10 +209,7 @@ module _ {b now : List ℕ} {kind : Kind} {before : List VariableShape} {own : V
     ending = covering_vacant v own.index new.rec rule so.start.small own'.index k taken_now covering more
 
     last_is : last_in_new new.most own'.index k ≡ last
-    last_is = last_as v own'.index k new.rec new.most rule p.most_is so.from more (begins k last (next_first k (firsts_of own'.index)) ending.0 ending.1)
-      where
-        begins : (k last next : ℕ) → k ≤ last → last < next → k < next
-        begins k last next a c = omega arith
+    last_is = last_as v own'.index k new.rec new.most rule p.most_is so.from more (let o = ending.0 in let past = ending.1 in omega arith)
 
     module _ (vacant : leaf_of k (leaves_of (index_at now head)) ≡ None) where
       none : find (λ (leaf : TreeLeaf). covers k (range leaf.first leaf.last)) (leaves_of own'.index) ≡ None
@@ -235,11 +226,11 @@ module _ {b now : List ℕ} {kind : Kind} {before : List VariableShape} {own : V
 
         room_here : length now + (8 + length body) + vxr_bytes (widest own'.index) ≤ limit
         room_here =
-            fit (length now) (length b) taken_now (8 + length body) (block_bytes v k last) (vxr_bytes (widest own'.index)) (put_room v own.index new.rec) limit (longer_by b now is.acts so.goes.follow so.takes) need
-            (covering_room v own.index new.rec rule so.start.small own'.index k taken_now covering more so.start.loose none) p.room
-          where
-            fit : (now was taken need bytes wide room limit : ℕ) → now ≤ was + taken → need ≡ bytes → taken + bytes + wide ≤ room → was + room ≤ limit → now + need + wide ≤ limit
-            fit now was taken need bytes wide room limit a c d e = omega arith
+            let longer = longer_by b now is.acts so.goes.follow so.takes in
+            let long = need in
+            let enough = covering_room v own.index new.rec rule so.start.small own'.index k taken_now covering more so.start.loose none in
+            let room = p.room in
+            omega arith
 
         room_left : length now + (8 + length body) + vxr_bytes (widest (index_at now head)) ≤ limit
         room_left = subst (λ (x : Nodes). length now + (8 + length body) + vxr_bytes (widest x) ≤ limit) (sym index_is) room_here
@@ -256,13 +247,10 @@ module _ {b now : List ℕ} {kind : Kind} {before : List VariableShape} {own : V
             record {
               own' = with_new_leaf own' (leaf k end a.place false) a.at;
               acts = is.acts ++ leaf_acts a.place (8 + length body) (new_room k own'.index) a.at;
-              so = subst (λ (n : ℕ). SoFar b now' kind before own (with_new_leaf own' (leaf k end a.place false) a.at) after new.raw.items new.pad.items new.rec n (is.acts ++ leaf_acts a.place (8 + length body) (new_room k own'.index) a.at)) (least end new.rec)
+              so = subst (λ (n : ℕ). SoFar b now' kind before own (with_new_leaf own' (leaf k end a.place false) a.at) after new.raw.items new.pad.items new.rec n (is.acts ++ leaf_acts a.place (8 + length body) (new_room k own'.index) a.at)) (omega arith)
                   (so_far_added so more ends_at vacancy says (block_records new.raw.items new.pad.items new.rec size p.start.raw_long p.pad_long k end) a.added (not_long a.added));
             }
           where
-            least : (x y : ℕ) → min (x + 1) (y + 1) ≡ min x y + 1
-            least x y = omega arith
-
             vacancy : IsVacant own' k end
             vacancy = record {
               ordered = subst (λ (n : ℕ). k ≤ n) (sym ends_at) ending.0;
@@ -311,7 +299,4 @@ pub all_done : {b now : List ℕ} {new : NewRecord} {k limit : ℕ} → PutsUpTo
 all_done {b = b} {now = now} {new = new} {k = k} all past kind before own after p =
     let is = all kind before own after p in
     let upto = is.so.upto in
-    subst (IsPut b now kind before own after new) (ends k new.rec past upto) is
-  where
-    ends : (k r : ℕ) → r < k → k ≤ r + 1 → k ≡ r + 1
-    ends k r a c = omega arith
+    subst (IsPut b now kind before own after new) (omega arith) is

@@ -45,7 +45,7 @@ module _ {b : List ℕ} {kind : Kind} {before : List VariableShape} {own : Varia
   split : variables_of (content b) kind ≡ front ++ variable_of b own ∷ back
   split = ap (λ (d : DataSet). variables_of d kind) (content_is b (shape b) (sound good at).has_shape) ∙ variables_of_are b (shape b) kind ∙ ap (map (variable_of b)) at.was ∙ map-append (variable_of b) before (own ∷ after)
 
-  set_is : (v : Variable) → slice_set (variables_of (content b) kind) (length before) v ≡ front ++ v ∷ back
+  pub set_is : (v : Variable) → slice_set (variables_of (content b) kind) (length before) v ≡ front ++ v ∷ back
   set_is v = ap (λ (vs : List Variable). slice_set vs (length before) v) split ∙ set_at front (variable_of b own) back v (length before) (length-map before (variable_of b))
 
   -- it is another by now

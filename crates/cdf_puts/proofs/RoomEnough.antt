@@ -1,7 +1,8 @@
 -- The room of a put is enough for the blocks that it makes, and for the nodes that their entries need.
-use Rattle.std.proofs.Common.{◌≡◌, ◌⊎◌, ℕ, suc, ◌+◌, ◌-◌, ◌*◌, ◌<◌, ◌≤◌, List, [], ◌∷◌, length, true, false, ltb, leb, eqb, min, max, refl, sym, ap, ap₂, subst, ◌∙◌, arith, inl, inr}
-use Rattle.cdf_puts.proofs.Common.{nat_tests, length-append, filter, fold, Variable, record_number_limit, Nodes, no_node, node, Entries, no_entry, block, lower, entry_count, either, le_of, widest, vxr_bytes, uncovered, blocks_room, packed_room, put_room, Range, ranges_of, covered, record_length, block_count, next_first, is_sparse, first_written, ranges_before_put, new_room, times_le, lt_of, ge_of, count_upto, node_bytes}
+use Rattle.std.proofs.Common.{◌≡◌, ◌⊎◌, ℕ, suc, ◌+◌, ◌-◌, ◌*◌, ◌<◌, ◌≤◌, List, [], ◌∷◌, length, false, ltb, leb, eqb, min, max, refl, sym, ap₂, subst, ◌∙◌, arith, inl, inr}
+use Rattle.cdf_puts.proofs.Common.{le-leb, lt-leb, length-append, filter, fold, Variable, record_number_limit, Nodes, no_node, node, Entries, no_entry, block, lower, entry_count, either, le_of, widest, vxr_bytes, uncovered, blocks_room, packed_room, put_room, ranges_of, covered, record_length, block_count, next_first, is_sparse, first_written, new_room, times_le, lt_of, ge_of, count_upto, node_bytes}
 use Rattle.std.proofs.Math.Nat.{le-div_iff_mul-le}
+use Rattle.std.proofs.lemmas.Bool.{leb-false}
 use Rattle.cdf_edits.specs.Commands.Room.{entries_in, entries_below, quotient_up}
 use Rattle.cdf_edits.specs.Index.Blocks.{firsts_of, entry_firsts}
 use Rattle.cdf_puts.proofs.CoveringRanges.{least_past, least_upto}
@@ -13,12 +14,9 @@ count_more k k' [] le = omega arith
 count_more k k' (f ∷ fs) le =
     let r = count_more k k' fs le in
     elim (either (leb f k)) [
-      | inl t ↦ let l = le_of f k t in let u : leb f k' ≡ true = reached f l in rw (t, u) (omega arith)
+      | inl t ↦ let l = le_of f k t in rw (t, le-leb f k' (omega arith)) (omega arith)
       | inr t ↦ elim (either (leb f k')) [ inl u ↦ rw (t, u) (omega arith) | inr u ↦ rw (t, u) r ]
     ]
-  where
-    reached : (f : ℕ) → f ≤ k → leb f k' ≡ true
-    reached f l = grind (arith, nat_tests)
 
 pub count_most : (k : ℕ) (fs : List ℕ) → count_upto k fs ≤ length fs
 count_most k [] = omega arith
@@ -29,39 +27,24 @@ one_passed : (k i : ℕ) (fs : List ℕ) → k < i → fold min i (filter (ltb k
 one_passed k i [] lt less = absurd (omega arith)
 one_passed k i (f ∷ fs) lt less = elim (either (ltb k f)) [
   | inl t ↦
+      let least = fold min (min i f) (filter (ltb k) fs) in
+      let is : fold min i (filter (ltb k) (f ∷ fs)) ≡ least = rw t refl in
       let past = lt_of k f t in
-      let least = least_is t in
-      let small = subst (λ (x : ℕ). x < i) least less in
-      let all = taken f (fold min (min i f) (filter (ltb k) fs)) past (least_past k (min i f) fs (omega arith)) (least_upto k (min i f) fs) small (one_passed k (min i f) fs (omega arith)) in
-      subst (λ (x : ℕ). suc (count_upto k (f ∷ fs)) ≤ count_upto x (f ∷ fs)) (sym least) (rw (not_reached f past) all)
+      let above = least_past k (min i f) fs (omega arith) in
+      let within = least_upto k (min i f) fs in
+      let small : least < i = subst (λ (x : ℕ). x < i) is less in
+      subst (λ (x : ℕ). suc (count_upto k (f ∷ fs)) ≤ count_upto x (f ∷ fs)) (sym is) (rw (lt-leb f k past) (elim (either (leb f least)) [
+        | inl u ↦ let r = count_more k least fs (omega arith) in rw u (omega arith)
+        | inr u ↦ let gt = leb-false f least u in rw u (one_passed k (min i f) fs (omega arith) (omega arith))
+      ]))
   | inr t ↦
+      let least = fold min i (filter (ltb k) fs) in
+      let is : fold min i (filter (ltb k) (f ∷ fs)) ≡ least = rw t refl in
       let by = ge_of k f t in
-      let least = other_is t in
       let far = least_past k i fs lt in
-      let more = one_passed k i fs lt (subst (λ (x : ℕ). x < i) least less) in
-      subst (λ (x : ℕ). suc (count_upto k (f ∷ fs)) ≤ count_upto x (f ∷ fs)) (sym least) (rw (reached f k by, reached f (fold min i (filter (ltb k) fs)) (omega arith)) (omega arith))
+      let more = one_passed k i fs lt (subst (λ (x : ℕ). x < i) is less) in
+      subst (λ (x : ℕ). suc (count_upto k (f ∷ fs)) ≤ count_upto x (f ∷ fs)) (sym is) (rw (le-leb f k by, le-leb f least (omega arith)) (omega arith))
 ]
-  where
-    least_is : ltb k f ≡ true → fold min i (filter (ltb k) (f ∷ fs)) ≡ fold min (min i f) (filter (ltb k) fs)
-    least_is t = rw t refl
-
-    other_is : ltb k f ≡ false → fold min i (filter (ltb k) (f ∷ fs)) ≡ fold min i (filter (ltb k) fs)
-    other_is t = rw t refl
-
-    not_reached : (f : ℕ) → k < f → leb f k ≡ false
-    not_reached f lt = grind (arith, nat_tests)
-
-    reached : (f n : ℕ) → f ≤ n → leb f n ≡ true
-    reached f n le = grind (arith, nat_tests)
-
-    taken : (f least : ℕ) → k < f → k < least → least ≤ min i f → least < i → (least < min i f → suc (count_upto k fs) ≤ count_upto least fs) → suc (count_upto k fs) ≤ count_upto least (f ∷ fs)
-    taken f least kf kl le less more = elim (either (leb f least)) [
-      | inl t ↦ let r = count_more k least fs (omega arith) in rw t (omega arith)
-      | inr t ↦ let gt = ge_than f least t in let r = more (omega arith) in rw t r
-    ]
-      where
-        ge_than : (f n : ℕ) → leb f n ≡ false → n < f
-        ge_than f n t = grind (arith, nat_tests)
 
 pub next_passed : (k : ℕ) (fs : List ℕ) → k ≤ record_number_limit → next_first k fs ≤ record_number_limit → suc (count_upto k fs) ≤ count_upto (next_first k fs) fs
 next_passed k fs le small = one_passed k (record_number_limit + 1) fs (omega arith) (omega arith)
@@ -95,15 +78,14 @@ more_blocks j c m q q' most h (inr lt) le = let r = times_le (suc q) q' most lt 
 pub many_blocks : (j c q e u most : ℕ) → 1 ≤ most → j * most ≤ c + q * most → c ≤ u → q ≤ e → suc j ≤ quotient_up (suc u) most + e + 1
 many_blocks j c q e u most one h cu qe = elim (either (leb j q)) [
   | inl t ↦ let le = le_of j q t in omega arith
-  | inr t ↦ let gt = past j q t in let some = full (j - q) c (subst (λ (x : ℕ). x * most ≤ c + q * most) (parts j q gt) h) in let r = (le-div_iff_mul-le one).1 (fit (j - q) c some cu) in omega arith
+  | inr t ↦
+      let gt = leb-false j q t in
+      let parts : j ≡ q + (j - q) = omega arith in
+      let some = full (j - q) c (subst (λ (x : ℕ). x * most ≤ c + q * most) parts h) in
+      let r = (le-div_iff_mul-le one).1 (fit (j - q) c some cu) in
+      omega arith
 ]
   where
-    past : (j q : ℕ) → leb j q ≡ false → q < j
-    past j q t = grind (arith, nat_tests)
-
-    parts : (j q : ℕ) → q < j → j ≡ q + (j - q)
-    parts j q lt = omega arith
-
     full : (d c : ℕ) → (q + d) * most ≤ c + q * most → d * most ≤ c
     full d c le = omega arith
 
@@ -119,36 +101,20 @@ all_bytes c m u most j count size wide cu mm jc = let r = times_le (c + m) (u + 
 
 -- ---- the room of a put
 
-plain_ranges : (v : Variable) (nodes : Nodes) (n : ℕ) → is_sparse v.sparse ≡ false → ranges_before_put v nodes n ≡ ranges_of nodes
-plain_ranges v nodes n rule = rw rule refl
-
 pub uncovered_is : (v : Variable) (nodes : Nodes) (n : ℕ) → is_sparse v.sparse ≡ false → uncovered v nodes n ≡ (n + 1 - first_written v n) - covered (first_written v n) n (ranges_of nodes)
-uncovered_is v nodes n rule = ap (λ (rs : List Range). (n + 1 - first_written v n) - covered (first_written v n) n rs) (plain_ranges v nodes n rule)
+uncovered_is v nodes n rule = rw rule refl
 
-no_packed_room : (v : Variable) (nodes : Nodes) (n : ℕ) → v.rle ≡ false → packed_room v nodes n ≡ 0
-no_packed_room v nodes n loose = rw loose refl
-
-plain_room : (v : Variable) (nodes : Nodes) (n u : ℕ) → v.rle ≡ false → uncovered v nodes n ≡ suc u → put_room v nodes n ≡ blocks_room v nodes (suc u) + 0
-plain_room v nodes n u loose e = ap₂ (λ (x y : ℕ). x + y) (ap (blocks_room v nodes) e) (no_packed_room v nodes n loose)
+plain_room : (v : Variable) (nodes : Nodes) (n u : ℕ) → v.rle ≡ false → uncovered v nodes n ≡ suc u → put_room v nodes n ≡ blocks_room v nodes (suc u)
+plain_room v nodes n u loose e = let packed : packed_room v nodes n ≡ 0 = rw loose refl in (λ i. blocks_room v nodes (e i) + packed i) ∙ omega arith
 
 -- then the bytes of these records and of m more in a block, with the nodes that the blocks need, are no more than the room
 pub room_enough : (v : Variable) (nodes : Nodes) (n c m j : ℕ) → v.rle ≡ false → c + 1 ≤ uncovered v nodes n → m ≤ block_count v → suc j ≤ quotient_up (uncovered v nodes n) (block_count v) + entries_in nodes + 1
     → (c + m) * record_length v + suc j * (28 + vxr_bytes (widest nodes)) ≤ put_room v nodes n
 room_enough v nodes n c m j loose some mm count =
-    let e = less (uncovered v nodes n) some in
-    let room = plain_room v nodes n (uncovered v nodes n - 1) loose e in
-    let r = all_bytes c m (uncovered v nodes n - 1) (block_count v) j (quotient_up (suc (uncovered v nodes n - 1)) (block_count v) + entries_in nodes + 1) (record_length v) (vxr_bytes (widest nodes)) (few (uncovered v nodes n) some) mm
+    let e : uncovered v nodes n ≡ suc (uncovered v nodes n - 1) = omega arith in
+    let r = all_bytes c m (uncovered v nodes n - 1) (block_count v) j (quotient_up (suc (uncovered v nodes n - 1)) (block_count v) + entries_in nodes + 1) (record_length v) (vxr_bytes (widest nodes)) (omega arith) mm
     (subst (λ (x : ℕ). suc j ≤ quotient_up x (block_count v) + entries_in nodes + 1) e count) in
-    subst (λ (x : ℕ). (c + m) * record_length v + suc j * (28 + vxr_bytes (widest nodes)) ≤ x) (sym (room ∙ plus_none (blocks_room v nodes (suc (uncovered v nodes n - 1))))) r
-  where
-    less : (x : ℕ) → c + 1 ≤ x → x ≡ suc (x - 1)
-    less x le = omega arith
-
-    few : (x : ℕ) → c + 1 ≤ x → c ≤ x - 1
-    few x le = omega arith
-
-    plus_none : (x : ℕ) → x + 0 ≡ x
-    plus_none x = omega arith
+    subst (λ (x : ℕ). (c + m) * record_length v + suc j * (28 + vxr_bytes (widest nodes)) ≤ x) (sym (plain_room v nodes n (uncovered v nodes n - 1) loose e)) r
 
 pub node_fits : (k wide : ℕ) (nodes : Nodes) → new_room k nodes ≤ wide → node_bytes k nodes ≤ vxr_bytes wide
 node_fits k wide nodes le = elim (either (eqb (new_room k nodes) 0)) [ inl t ↦ rw t (omega arith) | inr t ↦ rw t (omega arith) ]
@@ -156,10 +122,5 @@ node_fits k wide nodes le = elim (either (eqb (new_room k nodes) 0)) [ inl t ↦
 -- where c of the records that had no block have one, and a record is left, one block more is no more than the room counts
 pub blocks_enough : (v : Variable) (nodes : Nodes) (n c j q : ℕ) → c + 1 ≤ uncovered v nodes n → j * block_count v ≤ c + q * block_count v → q ≤ entries_in nodes → 1 ≤ block_count v → suc j ≤ quotient_up (uncovered v nodes n) (block_count v) + entries_in nodes + 1
 blocks_enough v nodes n c j q some h qe one =
-    subst (λ (x : ℕ). suc j ≤ quotient_up x (block_count v) + entries_in nodes + 1) (back (uncovered v nodes n) some) (many_blocks j c q (entries_in nodes) (uncovered v nodes n - 1) (block_count v) one h (few (uncovered v nodes n) some) qe)
-  where
-    back : (x : ℕ) → c + 1 ≤ x → suc (x - 1) ≡ x
-    back x le = omega arith
-
-    few : (x : ℕ) → c + 1 ≤ x → c ≤ x - 1
-    few x le = omega arith
+    let back : suc (uncovered v nodes n - 1) ≡ uncovered v nodes n = omega arith in
+    subst (λ (x : ℕ). suc j ≤ quotient_up x (block_count v) + entries_in nodes + 1) back (many_blocks j c q (entries_in nodes) (uncovered v nodes n - 1) (block_count v) one h (omega arith) qe)

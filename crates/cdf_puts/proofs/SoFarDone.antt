@@ -15,13 +15,10 @@ use Rattle.cdf_edits.specs.Commands.Puts.{PutsRecord}
 use Rattle.cdf_edits.specs.Commands.Room.{room, room_of_variable}
 use Rattle.cdf_edits.specs.Follows.{Follows, only_reads}
 use Rattle.cdf_puts.proofs.Covering.{covering_total}
-use Rattle.cdf_puts.proofs.DoneBytes.{is_put}
-use Rattle.cdf_puts.proofs.DoneIndex.{index_done}
-use Rattle.cdf_puts.proofs.DonePuts.{bytes_done}
+use Rattle.cdf_puts.proofs.DoneBytes.{is_put, index_done, bytes_done}
 use Rattle.cdf_puts.proofs.LastImage.{has_put}
-use Rattle.cdf_puts.proofs.PutMeaning.{put_content}
+use Rattle.cdf_puts.proofs.PutMeaning.{put_content, HasPut}
 use Rattle.cdf_puts.proofs.PutRoom.{longer_by}
-use Rattle.cdf_puts.proofs.RaisedThen.{HasPut}
 
 module _ {b now last : List ℕ} {kind : Kind} {before : List VariableShape} {own own' : VariableShape} {after : List VariableShape} {raw pad : List ℕ} {r : ℕ} {acts : List Act} (so : SoFar b now kind before own own' after raw pad r (r + 1) acts) (done : MaxRecDone b now last kind own own' r)
     (pad_stored : extent (max_rec_at b own.vdr) ≤ r → pad ≡ turned (type_of_variable b own.vdr) (is_little b) (pad_record (variable_of b own))) where

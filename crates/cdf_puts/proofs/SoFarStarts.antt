@@ -1,6 +1,6 @@
 -- Nothing is put yet: how the loop starts that puts records one after the other.
-use Rattle.std.proofs.Common.{◌≡◌, ℕ, suc, ◌+◌, ◌-◌, ◌<◌, ◌≤◌, List, [], ◌∷◌, map, Bool, true, false, ◌||◌, refl, sym, ap, subst, arith, inl, inr}
-use Rattle.cdf_puts.proofs.Common.{filter, list_any, min, max, nat_le, if◌then◌else◌, Kind, Sparse, NoRule, extent, record_number_limit, new_ranges, Range, range, covers, ranges_of, first_written, is_sparse, with_ranges, indexes_with, outline, UnusedEntries, NodeSpareStays, NodesFollow, top_chain, IsOneOf, in_order, leaves_ascend, is_in, variable_of, Nodes, Leaf, leaves_of, nodes_of, used_count, VariableShape, Each, In, is_in-true, bytes_eq-same, of_le, PutStart, IndexSoFar, NodesSoFar, BlocksSoFar, was_put, PutsBefore}
+use Rattle.std.proofs.Common.{◌≡◌, ℕ, suc, ◌+◌, ◌-◌, ◌<◌, ◌≤◌, List, [], ◌∷◌, true, refl, sym, ap, subst, arith, inl, inr}
+use Rattle.cdf_puts.proofs.Common.{filter, list_any, min, max, nat_le, if◌then◌else◌, Kind, Sparse, NoRule, extent, record_number_limit, new_ranges, Range, range, covers, ranges_of, first_written, is_sparse, with_ranges, indexes_with, outline, UnusedEntries, NodeSpareStays, NodesFollow, top_chain, IsOneOf, in_order, leaves_ascend, is_in, variable_of, Nodes, Leaf, leaves_of, nodes_of, used_count, VariableShape, is_in-true, bytes_eq-same, of_le, PutStart, IndexSoFar, NodesSoFar, BlocksSoFar, was_put, PutsBefore}
 use Rattle.cdf_edits.proofs.Edits.LeafPieces.{covers_from}
 use Rattle.cdf_puts.proofs.CoveringRanges.{of_leaves}
 use Rattle.cdf_puts.proofs.PutLeaves.{puts_none_yet}

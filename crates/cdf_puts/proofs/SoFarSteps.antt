@@ -1,20 +1,15 @@
 -- Records are put one after the other: where that starts, a record that is written in a block, and a leaf that is added.
-use Rattle.std.proofs.Common.{◌≡◌, ℕ, zero, suc, ◌+◌, ◌-◌, ◌*◌, ◌<◌, ◌≤◌, List, [], ◌∷◌, ◌++◌, length, map, append-nil, false, refl, sym, ap, subst, ◌∙◌, arith}
-use Rattle.cdf_puts.proofs.Common.{ne_eqb, min, max, ◌==◌, if◌then◌else◌, image_limit, Kind, vxr_bytes, firsts_of, new_range, first_written, is_sparse, with_leaf, new_room, Act, Took, Gave, taken, variable_of, number, with_sign, Nodes, Leaf, leaf, vdr_max_rec, VariableShape, Each, shape, record_bytes, max_rec_at, LeafAdded, leaf_acts, own_rules, has, fits, Covering, block_bytes, node_bytes, GoesOn, PutStart, BlockRecords, SoFar, IsTaking, record_of, taken_bytes, RecordWritten, IsVacant, IsBlockBody, index_order}
-use Rattle.std.proofs.lemmas.List.Sums.{sum_by-append, sum-map}
-use Rattle.std.specs.List.{sum}
-use Rattle.cdf_puts.proofs.BlocksWritten.{blocks_written}
-use Rattle.cdf_puts.proofs.BlocksAdded.{blocks_added}
+use Rattle.std.proofs.Common.{◌≡◌, ℕ, zero, suc, ◌+◌, ◌-◌, ◌*◌, ◌≤◌, List, [], ◌∷◌, ◌++◌, length, append-nil, false, refl, sym, ap, subst, ◌∙◌, arith}
+use Rattle.cdf_puts.proofs.Common.{ne_eqb, min, max, ◌==◌, if◌then◌else◌, image_limit, Kind, vxr_bytes, firsts_of, new_range, first_written, is_sparse, with_leaf, new_room, Act, variable_of, number, with_sign, Nodes, Leaf, leaf, vdr_max_rec, VariableShape, Each, shape, record_bytes, max_rec_at, LeafAdded, leaf_acts, own_rules, has, fits, Covering, block_bytes, node_bytes, GoesOn, PutStart, BlockRecords, SoFar, IsTaking, record_of, taken_bytes, RecordWritten, IsVacant, IsBlockBody, index_order}
 use Rattle.cdf_puts.proofs.Covering.{covering_starts, covering_has, covering_leaf}
-use Rattle.cdf_puts.proofs.GoesAlike.{later_size, later_packed}
-use Rattle.cdf_puts.proofs.WritesGo.{goes_nowhere}
+use Rattle.cdf_puts.proofs.GoesThen.{later_size, later_packed, goes_nowhere, goes_then}
 use Rattle.cdf_puts.proofs.LastImage.{only_takes}
-use Rattle.cdf_puts.proofs.GoesThen.{goes_then}
-use Rattle.cdf_puts.proofs.IndexAdded.{index_added}
+use Rattle.cdf_puts.proofs.IndexAdded.{blocks_added, index_added}
 use Rattle.cdf_puts.proofs.LeafCounts.{roomy}
 use Rattle.cdf_puts.proofs.LeafGood.{leaf_goes_on, leaf_max_rec, plain_body, size_needed}
-use Rattle.cdf_puts.proofs.IndexWritten.{index_written}
+use Rattle.cdf_puts.proofs.IndexWritten.{blocks_written, index_written}
 use Rattle.cdf_puts.proofs.PutMeaning.{first_goes}
+use Rattle.cdf_puts.proofs.PutRoom.{taken_sum}
 use Rattle.cdf_puts.proofs.SoFarStarts.{starts_upto, index_start, blocks_start}
 use Rattle.cdf_puts.proofs.WrittenGoes.{written_goes, long_now, max_rec_kept}
 
@@ -23,24 +18,6 @@ abbrev pub with_new_leaf : VariableShape → Leaf → ℕ → VariableShape
 with_new_leaf own new at = record own { index = with_leaf new at own.index }
 
 -- ---- how many bytes were taken
-
-abbrev bytes_of : List (ℕ × ℕ) → ℕ
-bytes_of takes = sum (map (λ (take : ℕ × ℕ). take.1) takes)
-
-taken_both_are : (acts acts' : List Act) → taken (acts ++ acts') ≡ taken acts ++ taken acts'
-taken_both_are [] acts' = refl
-taken_both_are (Took place need ∷ more) acts' = ap (λ (xs : List (ℕ × ℕ)). (place, need) ∷ xs) (taken_both_are more acts')
-taken_both_are (Gave place size ∷ more) acts' = taken_both_are more acts'
-
-sum_of : (xs ys : List (ℕ × ℕ)) → bytes_of (xs ++ ys) ≡ bytes_of xs + bytes_of ys
-sum_of xs ys =
-    let both = sum-map (λ (take : ℕ × ℕ). take.1) (xs ++ ys) ∙ sum_by-append (λ (take : ℕ × ℕ). take.1) xs ys in
-    let one = sum-map (λ (take : ℕ × ℕ). take.1) xs in
-    let other = sum-map (λ (take : ℕ × ℕ). take.1) ys in
-    both ∙ (λ i. sym one i + sym other i)
-
-pub taken_sum : (acts acts' : List Act) → taken_bytes (acts ++ acts') ≡ taken_bytes acts + taken_bytes acts'
-taken_sum acts acts' = ap (λ (xs : List (ℕ × ℕ)). sum (map (λ (take : ℕ × ℕ). take.1) xs)) (taken_both_are acts acts') ∙ sum_of (taken acts) (taken acts')
 
 leaf_bytes : (place need k at : ℕ) (index : Nodes) → taken_bytes (leaf_acts place need (new_room k index) at) ≡ need + node_bytes k index
 leaf_bytes place need k at index = by (new_room k index)
@@ -110,7 +87,7 @@ module _ {b : List ℕ} {kind : Kind} {before : List VariableShape} {own : Varia
           takes = so.takes;
           short = omega arith;
           max_rec_is = subst (λ (v : ℕ). number now' v vdr_max_rec ≡ number now v vdr_max_rec) so.goes.vdr_is (max_rec_kept good at w) ∙ so.max_rec_is;
-          index = index_written so w;
+          index = index_written so more w;
           blocks = blocks_written so more w;
         }
 
@@ -130,7 +107,7 @@ module _ {b : List ℕ} {kind : Kind} {before : List VariableShape} {own : Varia
         let goes : GoesOn now now' kind before own' (with_new_leaf own' new at) after r step = leaf_goes_on good among w holds loose vacant as_long short r in
         let need : 8 + length body ≡ block_bytes v k last = size_needed good among w holds ∙ ap (λ (n : ℕ). max 28 (12 + n)) says.as_long in
         let bytes : taken_bytes (acts ++ step) ≡ taken_bytes acts + block_bytes v k last + node_bytes k own'.index =
-        taken_sum acts step ∙ ap (λ (n : ℕ). taken_bytes acts + n) (leaf_bytes place (8 + length body) k at own'.index) ∙ ap (λ (n : ℕ). taken_bytes acts + (n + node_bytes k own'.index)) need ∙ regroup (taken_bytes acts) (block_bytes v k last) (node_bytes k own'.index) in
+        taken_sum acts step ∙ ap (λ (n : ℕ). taken_bytes acts + n) (leaf_bytes place (8 + length body) k at own'.index) ∙ ap (λ (n : ℕ). taken_bytes acts + (n + node_bytes k own'.index)) need ∙ omega arith in
         let covers : Covering v own.index (with_leaf new at own'.index) r (last + 1) (taken_bytes acts + block_bytes v k last + node_bytes k own'.index) =
         subst (λ (x : ℕ). Covering v own.index (with_leaf (leaf k x place false) at own'.index) r (x + 1) (taken_bytes acts + block_bytes v k x + node_bytes k own'.index)) (sym is)
         (covering_leaf v own.index r (ap is_sparse so.start.no_rule) so.start.small own'.index k (taken_bytes acts) covering_now more so.start.loose vacant.uncovered place at (roomy now (shape now).records 8 own'.index (has good among).indexed.has_nodes (fits good among).1)) in
@@ -142,8 +119,8 @@ module _ {b : List ℕ} {kind : Kind} {before : List VariableShape} {own : Varia
           upto = omega arith;
           goes = goes_then so.start.good so.start.among so.goes goes (only_takes acts so.takes) (only_takes step (leaf_takes place (8 + length body) (new_room k own'.index) at)) so.max_rec_is so.blocks.stay;
           covered = last + 1;
-          covered_is = λ le. ends last r le;
-          covered_past = λ lt. past last r lt;
+          covered_is = λ le. omega arith;
+          covered_past = λ lt. omega arith;
           covers = subst (Covering v own.index (with_leaf new at own'.index) r (last + 1)) (sym bytes) covers;
           takes = takes_both acts step so.takes (leaf_takes place (8 + length body) (new_room k own'.index) at);
           short = short;
@@ -151,12 +128,3 @@ module _ {b : List ℕ} {kind : Kind} {before : List VariableShape} {own : Varia
           index = index_added so more is vacant holds says w goes.good goes.among;
           blocks = blocks_added so more is vacant holds says w goes.good goes.among;
         }
-      where
-        regroup : (x y z : ℕ) → x + (y + z) ≡ x + y + z
-        regroup x y z = omega arith
-
-        ends : (last r : ℕ) → min (last + 1) (r + 1) ≤ r → last + 1 ≡ min (last + 1) (r + 1)
-        ends last r le = omega arith
-
-        past : (last r : ℕ) → r < min (last + 1) (r + 1) → r < last + 1
-        past last r lt = omega arith

@@ -7,8 +7,7 @@ use Rattle.cdf_format.proofs.BytesLemmas.{length-put}
 use Rattle.cdf_edits.specs.Frame.Changed.{touch}
 use Rattle.cdf_edits.proofs.Edits.LeafPieces.{found_in}
 use Rattle.cdf_edits.proofs.Edits.RecordsWritten.{node_kept, block_kept}
-use Rattle.cdf_puts.proofs.GoesThen.{going}
-use Rattle.cdf_puts.proofs.WritesGo.{passes_written}
+use Rattle.cdf_puts.proofs.GoesThen.{going, passes_written}
 
 -- a record of a range of which some are written
 rewritten_by : (first r k f t : ℕ) (x : Bool) → first ≤ k → k ≤ r → f ≤ k → k ≤ t → (nat_lt 0 (shared first r (range f t)) || x) ≡ true
