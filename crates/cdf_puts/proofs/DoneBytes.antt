@@ -12,7 +12,7 @@ use Rattle.cdf_puts.proofs.PutMeaning.{IsPut, HasPut}
 use Rattle.cdf_edits.specs.Commands.Puts.{CutsFirst, PutsIndex, is_written, PutsBytes, StaysUnwritten, UnwrittenStay, HoldsPads, is_changed, was_leaf, written_in, stays_in_place, stored_in}
 use Rattle.cdf_edits.specs.Index.Written.{top_stays, TailFollows, block_end, SpareIs, ReservedIs, BlockFollows}
 use Rattle.cdf_format.specs.Index.{nodes_of, lower_nodes}
-use Rattle.cdf_puts.proofs.Covering.{covering_done, covering_total}
+use Rattle.cdf_puts.proofs.CoveringRanges.{covering_done, covering_total}
 use Rattle.cdf_puts.proofs.IndexWritten.{nodes_still}
 use Rattle.cdf_puts.proofs.GoesThen.{record_stays}
 use Rattle.cdf_puts.proofs.PutRoom.{none_given, no_node_given, none_without_bytes}
@@ -264,33 +264,19 @@ module _ {b now last : List ℕ} {kind : Kind} {before : List VariableShape} {ow
   pad_is : (j : ℕ) → j ≢ r → record_of raw pad r j ≡ pad
   pad_is j ne = let e = ne_eqb j r ne in rw e refl
 
-  first_cases : ((r < most) × (first ≡ r)) ⊎ ((most ≤ r) × (first ≡ most))
-  first_cases =
-      let first_is : first ≡ min r most = ap (λ (s : Sparse). if is_sparse s then r else min r most) so.start.no_rule in
-      elim (cases_lt r most) [ inl lt ↦ inl (lt, omega arith) | inr le ↦ inr (le, omega arith) ]
+  first_is : first ≡ min r most
+  first_is = ap (λ (s : Sparse). if is_sparse s then r else min r most) so.start.no_rule
 
   pub is_put : IsPut b last own own' r raw pad
   is_put = record {
     max_rec_is = img.max_rec_is;
-    stored = stored_put r (upto_r first_cases) (omega arith) ∙ ap Some raw_is;
-    padded = λ k le lt. stored_put k (from_first k le first_cases) (omega arith) ∙ ap Some (pad_is k (λ e. absurd (omega arith)));
-    kept = λ k lt ne. beside k lt ne (side k lt ne first_cases);
+    stored = stored_put r (let f = first_is in omega arith) (omega arith) ∙ ap Some raw_is;
+    padded = λ k le lt. stored_put k (let f = first_is in omega arith) (omega arith) ∙ ap Some (pad_is k (λ e. absurd (omega arith)));
+    kept = λ k lt ne. beside k lt (let f = first_is in elim (cases_lt r k) [ inl past ↦ inr past | inr le ↦ inl (omega arith) ]);
   }
     where
-      upto_r : ((r < most) × (first ≡ r)) ⊎ ((most ≤ r) × (first ≡ most)) → first ≤ r
-      upto_r (inl x) = let e = x.1 in omega arith
-      upto_r (inr x) = let e = x.1 in let l = x.0 in omega arith
-
-      from_first : (k : ℕ) → most ≤ k → ((r < most) × (first ≡ r)) ⊎ ((most ≤ r) × (first ≡ most)) → first ≤ k
-      from_first k le (inl x) = let e = x.1 in let l = x.0 in omega arith
-      from_first k le (inr x) = let e = x.1 in omega arith
-
-      side : (k : ℕ) → k < most → k ≢ r → ((r < most) × (first ≡ r)) ⊎ ((most ≤ r) × (first ≡ most)) → (k < first) ⊎ (r < k)
-      side k lt ne (inl x) = let e = x.1 in elim (cases_lt k r) [ inl l ↦ inl (omega arith) | inr g ↦ inr (omega arith) ]
-      side k lt ne (inr x) = let e = x.1 in inl (omega arith)
-
-      beside : (k : ℕ) → k < most → k ≢ r → (k < first) ⊎ (r < k) → stored_bytes last own.vdr size leaves k ≡ stored_bytes b own.vdr size olds k
-      beside k lt ne side = by (find (λ (leaf : Leaf). covers k (range leaf.first leaf.last)) olds) refl
+      beside : (k : ℕ) → k < most → (k < first) ⊎ (r < k) → stored_bytes last own.vdr size leaves k ≡ stored_bytes b own.vdr size olds k
+      beside k lt side = by (find (λ (leaf : Leaf). covers k (range leaf.first leaf.last)) olds) refl
         where
           by : (o : Option Leaf) → find (λ (leaf : Leaf). covers k (range leaf.first leaf.last)) olds ≡ o → stored_bytes last own.vdr size leaves k ≡ stored_bytes b own.vdr size olds k
           by None e = stored_none k e lt side

@@ -1,6 +1,6 @@
 -- One image goes on to another: what a put may change of each record and keeps of each owner, what the descriptor says by then, and that two such steps are one.
 use Rattle.std.proofs.Common.{◌≡◌, ℕ, List, [], ◌∷◌, length, true, false, Option, Some, None, true≢false, eq-eqb, refl, sym, ap, ◌∙◌, inl, inr, suc, ◌+◌, ◌<◌, ◌≤◌, ◌++◌, Bool, subst, append_assoc, arith, map}
-use Rattle.cdf_puts.proofs.Common.{ne_eqb, slice_get, ◌==◌, find, if◌then◌else◌, got-middle, places_of, IsOneOf, find_place, or_cases, leaves_apart, same_as_itself, StandsAmong, fits, has, typed, Each-in, Allowance, Anything, Only, vdr_type, same_kind, shapes_of, anything_if, put_changes, is_rewritten, Range, range, is_a-type, linkable-type, nodes_stand, is_a, is_in, variable_of, type_at, Leaf, nodes_of, leaves_of, vdr_max_rec, vdr_vxr_head, vdr_vxr_tail, cpr_type, cvvr_type, vvr_type, vxr_type, VariableShape, Each, shape, LeafFits, In, Good, Found, Kind, R, Z, found_in, eqb-true, flat_map, other_kind, all_attribute_records, Allowances, Stays, Keeps, AllKeep, unused_allowance, r_max_rec_field, space_fields, Act, apart, cdr_type, gdr_type, either, In-append, In-append_left, In-append_right, Unused, attribute_records, variable_records, unused_records, owned, AttributeShape, Shape, IsSound, tile, FileSame, record_alike, stays_alike, is_compressed, record_bytes, Same-part, tile_lies, DescriptorStays, GoesOn, eq-eqb, length-map, set_at, w32, cast_signed, list_any, slice_set, ◌&&◌, nat_le, nat_lt, long, OutsideFields, is_taken, ActsFollow, taken, word_kept, linkable-in, good_is_sound, false-is_in, is_in-false, true-is_in, is_in-true, content_is, content, number, size_at, Field, uir_next_uir, uir_prev_uir, uir_type, max_rec_at, sparse_at, DataSet, Variable, variables_of, with_variables, NoRule, r_max_rec, ListedStay, acts_joined, OnlyTakes, none_of_both, WritesRecords, part, file, same_shape, own_rules, Touch}
+use Rattle.cdf_puts.proofs.Common.{ne_eqb, slice_get, ◌==◌, find, if◌then◌else◌, got-middle, places_of, IsOneOf, find_place, or_cases, leaves_apart, same_as_itself, StandsAmong, fits, has, typed, Each-in, Allowance, Anything, Only, vdr_type, same_kind, shapes_of, anything_if, put_changes, is_rewritten, Range, range, is_a-type, linkable-type, nodes_stand, is_a, is_in, variable_of, type_at, Leaf, nodes_of, leaves_of, vdr_max_rec, vdr_vxr_head, vdr_vxr_tail, cpr_type, cvvr_type, vvr_type, vxr_type, VariableShape, Each, shape, LeafFits, In, Good, Found, Kind, R, Z, found_in, eqb-true, flat_map, other_kind, all_attribute_records, Allowances, Stays, Keeps, AllKeep, unused_allowance, r_max_rec_field, space_fields, Act, apart, cdr_type, gdr_type, either, In-append, In-append_left, In-append_right, Unused, attribute_records, variable_records, unused_records, owned, AttributeShape, Shape, IsSound, tile, FileSame, record_alike, stays_alike, is_compressed, record_bytes, Same-part, tile_lies, DescriptorStays, GoesOn, eq-eqb, length-map, set_at, w32, cast_signed, list_any, slice_set, ◌&&◌, nat_le, nat_lt, long, OutsideFields, is_taken, ActsFollow, taken, linkable-in, good_is_sound, false-is_in, is_in-false, true-is_in, is_in-true, content_is, content, number, size_at, Field, uir_next_uir, uir_prev_uir, uir_type, DataSet, Variable, variables_of, with_variables, r_max_rec, ListedStay, acts_joined, OnlyTakes, none_of_both, WritesRecords, part, file, same_shape, own_rules, Touch}
 use Rattle.cdf_puts.proofs.RaisedGoes.{set_is}
 use Rattle.cdf_edits.proofs.Edits.VariableKinds.{kind_type}
 use Rattle.cdf_edits.specs.Commands.Allowances.{range_at, only_of, allowance}
@@ -8,14 +8,12 @@ use Rattle.cdf_edits.proofs.Commands.KeptRecords.{AllKeep-append}
 use Rattle.cdf_edits.proofs.Edits.OwnersKept.{keep_all, keep_file, keep_places}
 use Rattle.cdf_edits.proofs.Edits.VariableKept.{keep_kinds, keep_variable_parts}
 use Rattle.cdf_format.specs.Owners.{Owner, File, OneAttribute, OneVariable, owned_by, owned_by_attributes, owned_by_variables}
-use Rattle.cdf_edits.proofs.Frame.VdrStays.{VdrStays, packed_stays}
+use Rattle.cdf_edits.proofs.Frame.VdrStays.{variable_stays, VdrStays, packed_stays}
 use Rattle.cdf_edits.proofs.Edits.LeafPieces.{leaf_at}
 use Rattle.cdf_edits.proofs.Edits.VariableKeeps.{stays_then, type_stays}
 use Rattle.cdf_edits.proofs.Frame.OwnersApart.{unused_in}
 use Rattle.cdf_edits.proofs.Space.UsedRecords.{filter-says}
 use Rattle.cdf_format.proofs.SpaceLemmas.{in-filter}
-use Rattle.cdf_format.specs.Records.{vdr_s_records}
-use Rattle.cdf_model.specs.declared.kinds.Sparse.TheVariants.{Pad, Previous}
 use Rattle.cdf_edits.proofs.Edits.ActsJoined.{listed_before}
 use Rattle.cdf_edits.proofs.Edits.RecordsWritten.{size_same, type_same, content_replaced, no_acts_follow, all_keep_put}
 
@@ -118,16 +116,11 @@ kept_place b now may acts owner (p ∷ places) k m (inl q) = subst (λ (x : ℕ)
 kept_place b now may acts owner (p ∷ places) k m (inr i) = kept_place b now may acts owner places k.1 m i
 
 variables-append : (kind : Kind) (n : ℕ) (xs ys : List VariableShape) → owned_by_variables kind n (xs ++ ys) ≡ owned_by_variables kind n xs ++ owned_by_variables kind (n + length xs) ys
-variables-append kind n [] ys = ap (λ (k : ℕ). owned_by_variables kind k ys) (none n)
-  where
-    none : (n : ℕ) → n ≡ n + 0
-    none n = omega arith
+variables-append kind n [] ys = let same : n ≡ n + 0 = omega arith in ap (λ (k : ℕ). owned_by_variables kind k ys) same
 variables-append kind n (x ∷ xs) ys =
-    ap (λ (r : List (ℕ × Owner)). owned_by (OneVariable kind n) (variable_records x) ++ r) (variables-append kind (suc n) xs ys ∙ ap (λ (k : ℕ). owned_by_variables kind (suc n) xs ++ owned_by_variables kind k ys) (next n (length xs)))
+    let next : suc n + length xs ≡ n + suc (length xs) = omega arith in
+    ap (λ (r : List (ℕ × Owner)). owned_by (OneVariable kind n) (variable_records x) ++ r) (variables-append kind (suc n) xs ys ∙ ap (λ (k : ℕ). owned_by_variables kind (suc n) xs ++ owned_by_variables kind k ys) next)
     ∙ sym (append_assoc (owned_by (OneVariable kind n) (variable_records x)) (owned_by_variables kind (suc n) xs) (owned_by_variables kind (n + length (x ∷ xs)) ys))
-  where
-    next : (n k : ℕ) → suc n + k ≡ n + suc k
-    next n k = omega arith
 
 module _ (b now : List ℕ) (kind : Kind) (before : List VariableShape) (own : VariableShape) (after : List VariableShape) (r : ℕ) (acts : List Act) (at : StandsAmong b kind before own after) where
   abbrev s : Shape
@@ -188,16 +181,10 @@ module _ (b now : List ℕ) (kind : Kind) (before : List VariableShape) (own : V
       ]
 
   front_may : (k m : ℕ) → 0 ≤ k → k < 0 + length before → may.variables kind k m ≡ Only []
-  front_may k m low high = beside_may k (λ e. absurd (clash k e high)) m
-    where
-      clash : (k : ℕ) → length before ≡ k → k < 0 + length before → ⊥
-      clash k e l = omega arith
+  front_may k m low high = beside_may k (λ e. absurd (omega arith)) m
 
   behind_may : (k m : ℕ) → suc (length before) ≤ k → k < suc (length before) + length after → may.variables kind k m ≡ Only []
-  behind_may k m low high = beside_may k (λ e. absurd (clash k e low)) m
-    where
-      clash : (k : ℕ) → length before ≡ k → suc (length before) ≤ k → ⊥
-      clash k e l = omega arith
+  behind_may k m low high = beside_may k (λ e. absurd (omega arith)) m
 
   -- ---- all of them
 
@@ -245,11 +232,8 @@ module _ (b now : List ℕ) (kind : Kind) (before : List VariableShape) (own : V
         unused = kept_place b now may acts Unused (unused_records b s) four.1;
       }
     where
-      none : (n : ℕ) → 0 + n ≡ n
-      none n = omega arith
-
       numbers : owned_by_variables kind 0 (shapes_of s kind) ≡ owned_by_variables kind 0 before ++ owned_by_variables kind (length before) (own ∷ after)
-      numbers = ap (owned_by_variables kind 0) at.was ∙ variables-append kind 0 before (own ∷ after) ∙ ap (λ (k : ℕ). owned_by_variables kind 0 before ++ owned_by_variables kind k (own ∷ after)) (none (length before))
+      numbers = ap (owned_by_variables kind 0) at.was ∙ variables-append kind 0 before (own ∷ after) ∙ ap (λ (k : ℕ). owned_by_variables kind 0 before ++ owned_by_variables kind k (own ∷ after)) (let same : 0 + length before ≡ length before = omega arith in same)
 
 -- the descriptor stays where all but MaxRec, VXRhead and VXRtail of it does
 pub stays : {b now : List ℕ} {kind : Kind} {before : List VariableShape} {own : VariableShape} {after : List VariableShape} → Good b → StandsAmong b kind before own after → DescriptorStays b now own.vdr → VdrStays b now own.vdr
@@ -376,20 +360,10 @@ module _ {b mid now : List ℕ} {kind : Kind} {before : List VariableShape} {own
         behind = record { each = λ p l u. e.behind.each p l (subst (λ (n : ℕ). p < own.vdr + n) (sym size) u) ∙ d.behind.each p l u };
       }
 
-  sparse_same : sparse_at mid own'.vdr ≡ sparse_at b own.vdr
-  sparse_same =
-      let wide = long good at in
-      let kept : number mid own.vdr vdr_s_records ≡ number b own.vdr vdr_s_records = word_kept b mid (own.vdr + 44) (own.vdr + size_at b own.vdr) first.descriptor.behind (own.vdr + 48) 4 (omega arith) (omega arith) in
-      ap (sparse_at mid) first.vdr_is ∙ ap (λ (n : ℕ). if n == 0 then NoRule else (if n == 1 then Pad else Previous)) kept
-
-  max_rec_same : max_rec_at mid own'.vdr ≡ max_rec_at b own.vdr
-  max_rec_same = ap (max_rec_at mid) first.vdr_is ∙ ap (cast_signed w32) max_rec_is
-
   rewritten_same : (rg : Range) → is_rewritten (variable_of mid own') r rg ≡ is_rewritten (variable_of b own) r rg
   rewritten_same rg =
-      let sparse = sparse_same in
-      let max_rec = max_rec_same in
-      λ i. is_rewritten (record (variable_of b own) { sparse = sparse i; max_rec = max_rec i }) r rg
+      let max_rec = ap (λ (n : ℕ). cast_signed w32 n) max_rec_is in
+      ap (λ (x : Variable). is_rewritten x r rg) (variable_stays first.file own own' (stays good at first.descriptor) first.vdr_is) ∙ (λ i. is_rewritten (record (variable_of b own) { max_rec = max_rec i }) r rg)
 
   -- ---- the records of the variable
 

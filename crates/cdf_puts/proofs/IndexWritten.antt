@@ -5,7 +5,7 @@ use Rattle.cdf_base.specs.Bytes.{put}
 use Rattle.cdf_edits.proofs.Edits.LeafPieces.{found_in, one_place, find_first}
 use Rattle.cdf_puts.proofs.PutBytes.{starts_before, ends_behind, grows_by, BlockWritten, old_written, size_now, now_plain, old_plain, inside_now, inside_old, old_goes_on, new_goes_on}
 use Rattle.cdf_puts.proofs.WrittenGoes.{record_fits, other_blocks, long_now, nodes_stay, stays}
-use Rattle.cdf_puts.proofs.PutLeaves.{put_next, puts_old}
+use Rattle.cdf_puts.proofs.SoFarStarts.{put_next, puts_old}
 use Rattle.cdf_puts.proofs.PutNodes.{nodes_same, unless_true}
 
 -- no node changes

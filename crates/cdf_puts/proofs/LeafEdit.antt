@@ -65,12 +65,9 @@ is_new_node (suc room) at some = inl refl
 
 -- ---- what is placed leaves records of other types
 
-pub placing_away : (unused : List ℕ) (place need type m : ℕ) → unmarked (placing_marks unused place need) type ≡ true → Away (placing_marks unused place need) type m
-placing_away unused place need type m none = unmarked-away (placing_marks unused place need) type m none
-
 pub space_away : (unused : List ℕ) (place need : ℕ) (unused' : List ℕ) (room at type m : ℕ) → unmarked (placing_marks unused place need) type ≡ true → Away (placing_marks unused place need ++ node_marks unused' room at) type m
-space_away unused place need unused' zero at type m none = Away-append (placing_marks unused place need) [] type m (placing_away unused place need type m none) tt
-space_away unused place need unused' (suc room) at type m none = Away-append (placing_marks unused place need) (placing_marks unused' at (vxr_bytes (suc room))) type m (placing_away unused place need type m none) (placing_away unused' at (vxr_bytes (suc room)) type m none)
+space_away unused place need unused' zero at type m none = Away-append (placing_marks unused place need) [] type m (unmarked-away (placing_marks unused place need) type m none) tt
+space_away unused place need unused' (suc room) at type m none = Away-append (placing_marks unused place need) (placing_marks unused' at (vxr_bytes (suc room))) type m (unmarked-away (placing_marks unused place need) type m none) (unmarked-away (placing_marks unused' at (vxr_bytes (suc room))) type m none)
 
 pub vdr_no_space : (kind : Kind) (unused : List ℕ) (place need : ℕ) → unmarked (placing_marks unused place need) (type_in (variables_chain kind)) ≡ true
 vdr_no_space R unused place need = refl
@@ -304,18 +301,21 @@ module _ {b now : List ℕ} {kind : Kind} {before : List VariableShape} {own : V
 
   -- ---- records without marks
 
-  leaf_away : (t m : ℕ) → unmarked (placing_marks s.unused new.place need) t ≡ true → (m ≡ v → ⊥) → (t ≡ vxr_type → In m (new_nodes room at ++ nodes) → ⊥) → Away marks t m
-  leaf_away t m none other out =
-      Away-append (placing_marks s.unused new.place need ++ node_marks (shape w.filled).unused room at) (index_marks kind v (new_nodes room at ++ nodes) most) t m (space_away s.unused new.place need (shape w.filled).unused room at t m none)
-      ((λ same lies. other (the_one v m lies)), ((λ same lies. out same lies), tt))
-
   -- records of variables that are not of this one
   pub beside : (m : ℕ) → In m (all_variable_records s) → (In m (variable_records own) → ⊥) → Away marks (type_at b m) m
   beside m i out =
-      leaf_away (type_at b m) m (variable_unspaced s.unused new.place need (type_at b m) (variable_typed b s sound m i)) (λ q. out (inl q)) (λ t j. elim (In-append m (new_nodes room at) nodes j) [
-        | inl k ↦ apart vxr_type uir_type refl (sym t ∙ new_fresh m (inr k) (variables_in b s sound m i))
-        | inr k ↦ out (inr (node_behind own m k))
-      ])
+      let type = type_at b m in
+      Away-append (placing_marks s.unused new.place need ++ node_marks (shape w.filled).unused room at) (index_marks kind v (new_nodes room at ++ nodes) most) type m
+      (space_away s.unused new.place need (shape w.filled).unused room at type m (variable_unspaced s.unused new.place need type (variable_typed b s sound m i))) (
+        (λ same lies. out (inl (the_one v m lies))),
+        (
+          (λ t j. elim (In-append m (new_nodes room at) nodes j) [
+            | inl k ↦ apart vxr_type uir_type refl (sym t ∙ new_fresh m (inr k) (variables_in b s sound m i))
+            | inr k ↦ out (inr (node_behind own m k))
+          ]),
+          tt,
+        ),
+      )
 
   pub only : (m : ℕ) → In m (variable_records own) → OnlyVariable b s kind before after m
   only m i = only_variable sound kind before own after among.was m i

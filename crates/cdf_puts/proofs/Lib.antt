@@ -1,5 +1,4 @@
 pub mod Common
-pub mod Covering
 pub mod CoveringRanges
 pub mod DoneBytes
 pub mod GoesThen
@@ -9,15 +8,12 @@ pub mod LastImage
 pub mod LeafCounts
 pub mod LeafEdit
 pub mod LeafGood
-pub mod LeafOutlines
 pub mod PutBytes
-pub mod PutLeaves
 pub mod PutMeaning
 pub mod PutNodes
 pub mod PutRoom
 pub mod PutRules
 pub mod RaisedGoes
-pub mod RoomEnough
 pub mod SoFarDone
 pub mod SoFarStarts
 pub mod SoFarSteps

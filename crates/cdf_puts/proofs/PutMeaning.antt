@@ -1,6 +1,6 @@
 -- MaxRec is raised at the end of a put, and what the variable means by then: it has the record, in blocks that may be others by now, and pads before it where there were none.
 use Rattle.std.proofs.Common.{◌≡◌, ◌≢◌, ℕ, ◌+◌, ◌<◌, ◌≤◌, List, Some, sym, ap, ◌∙◌, arith, ℤ, pos, negsuc, suc, length, subst, append-nil}
-use Rattle.cdf_puts.proofs.Common.{option_map, min, if◌then◌else◌, Kind, turned, extent, pad_record, last_number, greater, with_record, with_variable, content, variable_of, leaves_of, VariableShape, is_little, type_of_variable, record_bytes, max_rec_at, Good, is_sparse, first_written, stored_bytes, Act, leaves_ascend, StandsAmong, FileSame, stays_alike, DescriptorStays, GoesOn, found_in, slice_set, image_limit, record_number_limit, variables_of, with_variables, owned, vdr_max_rec, shape, AllKeep, RMaxRecFollows, put_changes, ActsFollow, MaxRecRaised, good_now, OnlyTakes, IsOneOf, Leaf, number}
+use Rattle.cdf_puts.proofs.Common.{Variable, option_map, Kind, turned, extent, pad_record, last_number, greater, with_record, with_variable, content, variable_of, leaves_of, VariableShape, is_little, type_of_variable, record_bytes, max_rec_at, Good, first_written, stored_bytes, Act, leaves_ascend, StandsAmong, FileSame, stays_alike, DescriptorStays, GoesOn, found_in, slice_set, image_limit, record_number_limit, variables_of, with_variables, owned, vdr_max_rec, shape, AllKeep, RMaxRecFollows, put_changes, ActsFollow, MaxRecRaised, good_now, OnlyTakes, IsOneOf, Leaf, number}
 use Rattle.cdf_model.specs.Numbered.{with_item}
 use Rattle.cdf_model.specs.RecordSteps.{filled}
 use Rattle.cdf_format.specs.Content.{records_in}
@@ -8,7 +8,7 @@ use Rattle.cdf_edits.proofs.Edits.RecordsPut.{StoresPut, records_put, extent_las
 use Rattle.cdf_edits.proofs.Frame.VdrAlike.{type_alike}
 use Rattle.cdf_edits.proofs.Frame.VdrStays.{variable_stays}
 use Rattle.cdf_puts.proofs.GoesThen.{stays, record_stays, Passes, passes, passes_then, passes_written}
-use Rattle.cdf_puts.proofs.PutRules.{no_rule, uncut}
+use Rattle.cdf_puts.proofs.PutRules.{uncut}
 use Rattle.cdf_puts.proofs.RaisedGoes.{greatest_stays, greatest_raised, raise_writes, max_rec_raised}
 use Rattle.cdf_edits.proofs.Edits.RecordsWritten.{r_max_rec_of_z}
 
@@ -94,10 +94,7 @@ module _ {b mid : List ℕ} {kind : Kind} {before : List VariableShape} {own own
   -- the first record that is written is the same
   pub first_goes : max_rec_at mid own.vdr ≡ max_rec_at b own.vdr → first_written (variable_of mid own') r ≡ first_written (variable_of b own) r
   first_goes same =
-      let here = no_rule goes.good goes.among in
-      let was = no_rule good at in
-      let max_rec : max_rec_at mid own'.vdr ≡ max_rec_at b own.vdr = ap (max_rec_at mid) goes.vdr_is ∙ same in
-      λ i. if is_sparse ((here ∙ sym was) i) then r else min r (extent (max_rec i))
+      ap (λ (v : Variable). first_written v r) (variable_stays goes.file own own' (stays good at goes.descriptor) goes.vdr_is) ∙ (λ i. first_written (record (variable_of b own) { max_rec = same i }) r)
 
 -- ---- the content
 

@@ -17,8 +17,7 @@ use Rattle.cdf_index.proofs.GoodIndex.{good_index}
 use Rattle.cdf_index.proofs.PlainBlocks.{plain_block}
 use Rattle.cdf_puts.specs.Putting.{Putting, PutsOn, SomePutting, most_in_block}
 use Rattle.cdf_puts.specs.declared.putting.NewRecord.{NewRecord}
-use Rattle.cdf_puts.proofs.Covering.{covering_room, covering_vacant}
-use Rattle.cdf_puts.proofs.CoveringRanges.{full_or_next, one_alone, one_at_least}
+use Rattle.cdf_puts.proofs.CoveringRanges.{covering_room, covering_vacant, full_or_next, one_alone, one_at_least}
 use Rattle.cdf_puts.proofs.GoesThen.{later_packed, later_size}
 use Rattle.cdf_puts.proofs.LeafCounts.{new_room_widest, roomy}
 use Rattle.cdf_puts.proofs.PutRoom.{longer_by}

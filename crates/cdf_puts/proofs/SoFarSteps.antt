@@ -1,7 +1,7 @@
 -- Records are put one after the other: where that starts, a record that is written in a block, and a leaf that is added.
 use Rattle.std.proofs.Common.{◌≡◌, ℕ, zero, suc, ◌+◌, ◌-◌, ◌*◌, ◌≤◌, List, [], ◌∷◌, ◌++◌, length, append-nil, false, refl, sym, ap, subst, ◌∙◌, arith}
 use Rattle.cdf_puts.proofs.Common.{ne_eqb, min, max, ◌==◌, if◌then◌else◌, image_limit, Kind, vxr_bytes, firsts_of, new_range, first_written, is_sparse, with_leaf, new_room, Act, variable_of, number, with_sign, Nodes, Leaf, leaf, vdr_max_rec, VariableShape, Each, shape, record_bytes, max_rec_at, LeafAdded, leaf_acts, own_rules, has, fits, Covering, block_bytes, node_bytes, GoesOn, PutStart, BlockRecords, SoFar, IsTaking, record_of, taken_bytes, RecordWritten, IsVacant, IsBlockBody, index_order}
-use Rattle.cdf_puts.proofs.Covering.{covering_starts, covering_has, covering_leaf}
+use Rattle.cdf_puts.proofs.CoveringRanges.{covering_starts, covering_has, covering_leaf}
 use Rattle.cdf_puts.proofs.GoesThen.{later_size, later_packed, goes_nowhere, goes_then}
 use Rattle.cdf_puts.proofs.LastImage.{only_takes}
 use Rattle.cdf_puts.proofs.IndexAdded.{blocks_added, index_added}
