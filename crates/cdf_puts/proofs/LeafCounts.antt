@@ -1,6 +1,6 @@
 -- What a leaf more makes of the nodes, the Firsts and the leaves of an index, and of how wide its nodes are and which room they have.
 use Rattle.std.proofs.Common.{◌≡◌, ◌⊎◌, ℕ, zero, suc, ◌+◌, ◌≤◌, max, List, [], ◌∷◌, ◌++◌, Bool, true, false, ltb, eqb, append_assoc, refl, sym, ap, subst, ◌∙◌, arith, inl, inr}
-use Rattle.cdf_puts.proofs.Common.{eqb-true, eq-eqb, ne_eqb, le-ltb, ◌==◌, if◌then◌else◌, filter, fold, min, nat_lt, record_number_limit, next_first, reaches, chain_reaches, leads_down, with_block, past, with_both, with_entry, room_of_new, places_of, IsOneOf, times-append, times-in, Nodes, no_node, node, Entries, no_entry, block, lower, Leaf, leaf, leaves_of, entry_count, used_count, room_at, times, Each, NodeFits, In, In-append, either, with_new, InOrder, leaves_more, front, front_past, upto_is}
+use Rattle.cdf_puts.proofs.Common.{eqb-true, eq-eqb, ne_eqb, le-ltb, ◌==◌, if◌then◌else◌, filter, fold, min, nat_lt, record_number_limit, next_first, reaches, chain_reaches, leads_down, with_block, past, with_both, with_entry, room_of_new, places_of, IsOneOf, times-append, times-in, Nodes, no_node, node, Entries, no_entry, block, lower, Leaf, leaf, leaves_of, entry_count, room_at, times, Each, NodeFits, In, In-append, either, with_new, InOrder, leaves_more, front, front_past, upto_is}
 use Rattle.std.proofs.lemmas.Bool.{eqb-false}
 use Rattle.std.proofs.lemmas.List.Elements.{filter-append}
 use Rattle.cdf_edits.specs.Commands.Room.{widest, widest_below}
@@ -294,9 +294,6 @@ unfoldable mutual
   RoomyBelow (block first last place packed es) = RoomyBelow es
   RoomyBelow (lower first last nodes es) = Roomy nodes × RoomyBelow es
 
-enough : (u r c room : ℕ) → u ≡ c → r ≡ room → u ≤ r → c ≤ room
-enough u r c room a e l = omega arith
-
 -- as in each image that is sound
 mutual
   unfolding Roomy RoomyBelow HasNodes Names nodes_of lower_nodes
@@ -307,9 +304,9 @@ mutual
   roomy b records (suc levels) (node place room es more) h f =
       let p = Each-split (NodeFits b) (lower_nodes es) (nodes_of more) f.1 in
       let same = h.0.used_is in
-      let wide_as = h.0.room_is in
+      let wide = h.0.room_is in
       let fits = f.0.1 in
-      (enough (used_count b place) (room_at b place) (entry_count es) room same wide_as fits, roomy_below b records levels es h.1 p.0, roomy b records (suc levels) more h.2 p.1)
+      (omega arith, roomy_below b records levels es h.1 p.0, roomy b records (suc levels) more h.2 p.1)
 
   pub roomy_below : (b records : List ℕ) (levels : ℕ) (es : Entries) → Names b records levels es → Each (NodeFits b) (lower_nodes es) → RoomyBelow es
   roomy_below b records levels no_entry n f = tt

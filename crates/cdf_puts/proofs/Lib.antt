@@ -16,9 +16,6 @@ pub mod PutRules
 pub mod RaisedGoes
 pub mod SoFarDone
 pub mod SoFarStarts
-pub mod SoFarSteps
 pub mod WrittenGoes
 pub mod NewBlocks
-pub mod PutPieces
-pub mod EditsThen
 pub mod PutSpot

@@ -70,12 +70,8 @@ module _ {b : List ℕ} {kind : Kind} {before : List VariableShape} {own : Varia
     pub greatest_raised : extent (max_rec_at b own.vdr) < extent v.max_rec → (kind ≡ R → r_max_rec now ≡ greatest_r_max_rec (content now)) → (kind ≡ Z → r_max_rec now ≡ r_max_rec b) → RMaxRecFollows b now
     greatest_raised more follows stays = by kind refl
       where
-        less : (m n : ℕ) → m < n → m ≡ n → ⊥
-        less m n lt e = omega arith
-
         by : (k : Kind) → kind ≡ k → RMaxRecFollows b now
-        by R e = follows e ∙ sym (other_test (r_extents (content now)) (r_extents (content b)) (r_max_rec b) (greatest_r_max_rec (content now)) (λ q.
-            less (extent (max_rec_at b own.vdr)) (extent v.max_rec) more (middle_differs front back (variable_of b own) v (sym (r_was e) ∙ q ∙ r_is e))))
+        by R e = follows e ∙ sym (other_test (r_extents (content now)) (r_extents (content b)) (r_max_rec b) (greatest_r_max_rec (content now)) (λ q. (let same = middle_differs front back (variable_of b own) v (sym (r_was e) ∙ q ∙ r_is e) in absurd (omega arith))))
         by Z e = stays e ∙ sym (same_test (r_extents (content now)) (r_extents (content b)) (r_max_rec b) (greatest_r_max_rec (content now)) (z_same e))
 
 -- ---- whose records are the GDR and the VDR
