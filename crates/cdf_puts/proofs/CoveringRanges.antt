@@ -1,18 +1,18 @@
 -- Records that get a block one after the other: by their ranges, in the room of a put, which is enough for them, and in an index.
 use Rattle.std.proofs.Common.{◌≡◌, ◌⊎◌, ℕ, zero, suc, ◌+◌, ◌-◌, ◌<◌, ◌≤◌, List, [], ◌∷◌, ◌++◌, map, Bool, true, false, ltb, leb, min, max, Option, Some, None, refl, sym, ap, ◌∙◌, arith, inl, inr, ◌*◌, length, eqb, ap₂, subst}
-use Rattle.cdf_puts.proofs.Common.{le-leb, le-ltb, lt-leb, lt-ltb, same_Some, find, if◌then◌else◌, filter, fold, option_map, Variable, extent, record_number_limit, Nodes, no_node, node, Entries, no_entry, block, lower, Leaf, either, both, le_of, Range, range, covers, shared, covered, block_count, next_first, new_range, with_range, Ascending, past_entries, lt_of, ge_of, length-append, entry_count, widest, vxr_bytes, uncovered, blocks_room, packed_room, put_room, ranges_of, record_length, is_sparse, first_written, new_room, times_le, count_upto, node_bytes, leaf, leaves_of, firsts_of, ranges_after_put, with_leaf, find_covering, covers_within, InOrder, leaves_more, new_last, block_bytes, Covering}
+use Rattle.cdf_puts.proofs.Common.{le-leb, le-ltb, lt-leb, lt-ltb, same_Some, find, if◌then◌else◌, filter, fold, option_map, Variable, extent, record_number_limit, Nodes, no_node, node, Entries, no_entry, block, lower, Leaf, either, both, le_of, Range, range, covers, shared, block_count, next_first, new_range, Ascending, length-append, entry_count, widest, vxr_bytes, uncovered, blocks_room, packed_room, put_room, ranges_of, record_length, is_sparse, first_written, new_room, times_le, node_bytes, leaf, leaves_of, firsts_of, ranges_after_put, with_leaf, find_covering, covers_within, InOrder, leaves_more, new_last, block_bytes, Covering}
 use Rattle.std.proofs.lemmas.Bool.{leb-false}
 use Rattle.std.proofs.lemmas.List.Sums.{sum_by-cons}
 use Rattle.cdf_format.specs.Index.{leaves_of, entry_leaves}
-use Rattle.cdf_edits.specs.Index.Blocks.{cover, firsts_of, entry_firsts}
+use Rattle.cdf_edits.specs.Index.Blocks.{cover, firsts_of, entry_firsts, covered, with_range}
 use Rattle.cdf_edits.proofs.Edits.LeavesOrder.{ascending_from, ascending_both}
-use Rattle.cdf_index.specs.Order.{InOrder, AreInOrder}
-use Rattle.cdf_index.proofs.OrderLemmas.{end_after}
+use Rattle.cdf_index.specs.Order.{InOrder, AreInOrder, past_entries}
+use Rattle.cdf_index.proofs.OrderLemmas.{end_after, ge_of, lt_of}
 use Rattle.std.proofs.Math.Nat.{le-div_iff_mul-le}
 use Rattle.cdf_edits.specs.Commands.Room.{entries_in, entries_below, quotient_up}
 use Rattle.cdf_edits.proofs.Edits.LeafPieces.{found_in}
 use Rattle.cdf_index.proofs.LeafMore.{ranges_new}
-use Rattle.cdf_puts.specs.Covering.{Counted}
+use Rattle.cdf_puts.specs.Covering.{Counted, count_upto}
 use Rattle.cdf_puts.proofs.LeafCounts.{Roomy, next_firsts_with_leaf, widest_with_leaf, new_room_widest}
 use Rattle.cdf_index.proofs.LeafRules.{order_with_leaf}
 

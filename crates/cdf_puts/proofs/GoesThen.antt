@@ -1,17 +1,17 @@
 -- One image goes on to another: what a put may change of each record and keeps of each owner, what the descriptor says by then, and that two such steps are one.
 use Rattle.std.proofs.Common.{◌≡◌, ℕ, List, [], ◌∷◌, length, true, false, Option, Some, None, true≢false, eq-eqb, refl, sym, ap, ◌∙◌, inl, inr, suc, ◌+◌, ◌<◌, ◌≤◌, ◌++◌, Bool, subst, append_assoc, arith, map}
-use Rattle.cdf_puts.proofs.Common.{ne_eqb, slice_get, ◌==◌, find, if◌then◌else◌, got-middle, places_of, IsOneOf, find_place, or_cases, leaves_apart, same_as_itself, StandsAmong, fits, has, typed, Each-in, Allowance, Anything, Only, vdr_type, same_kind, shapes_of, anything_if, put_changes, is_rewritten, Range, range, is_a-type, linkable-type, nodes_stand, is_a, is_in, variable_of, type_at, Leaf, nodes_of, leaves_of, vdr_max_rec, vdr_vxr_head, vdr_vxr_tail, cpr_type, cvvr_type, vvr_type, vxr_type, VariableShape, Each, shape, LeafFits, In, Good, Found, Kind, R, Z, found_in, eqb-true, flat_map, other_kind, all_attribute_records, Allowances, Stays, Keeps, AllKeep, unused_allowance, r_max_rec_field, space_fields, Act, apart, cdr_type, gdr_type, either, In-append, In-append_left, In-append_right, Unused, attribute_records, variable_records, unused_records, owned, AttributeShape, Shape, IsSound, tile, FileSame, record_alike, stays_alike, is_compressed, record_bytes, Same-part, tile_lies, DescriptorStays, GoesOn, eq-eqb, length-map, set_at, w32, cast_signed, list_any, slice_set, ◌&&◌, nat_le, nat_lt, long, OutsideFields, is_taken, ActsFollow, taken, linkable-in, good_is_sound, false-is_in, is_in-false, true-is_in, is_in-true, content_is, content, number, size_at, Field, uir_next_uir, uir_prev_uir, uir_type, DataSet, Variable, variables_of, with_variables, r_max_rec, ListedStay, acts_joined, OnlyTakes, none_of_both, WritesRecords, part, file, same_shape, own_rules, Touch}
+use Rattle.cdf_puts.proofs.Common.{ne_eqb, slice_get, ◌==◌, find, if◌then◌else◌, got-middle, places_of, IsOneOf, find_place, or_cases, leaves_apart, StandsAmong, fits, has, typed, Each-in, Only, shapes_of, put_changes, is_rewritten, Range, range, is_a-type, linkable-type, nodes_stand, is_a, is_in, variable_of, type_at, Leaf, nodes_of, leaves_of, vdr_max_rec, vdr_vxr_head, vdr_vxr_tail, cpr_type, cvvr_type, vvr_type, vxr_type, VariableShape, Each, shape, LeafFits, In, Good, Found, Kind, R, Z, found_in, eqb-true, flat_map, other_kind, Allowances, Stays, Keeps, AllKeep, unused_allowance, r_max_rec_field, space_fields, Act, apart, cdr_type, gdr_type, either, In-append, In-append_left, In-append_right, Unused, variable_records, unused_records, owned, AttributeShape, Shape, IsSound, tile, FileSame, record_alike, stays_alike, is_compressed, record_bytes, Same-part, tile_lies, DescriptorStays, GoesOn, eq-eqb, length-map, set_at, w32, cast_signed, list_any, slice_set, ◌&&◌, nat_le, nat_lt, long, OutsideFields, is_taken, ActsFollow, taken, linkable-in, good_is_sound, false-is_in, is_in-false, true-is_in, is_in-true, content_is, content, number, size_at, Field, uir_next_uir, uir_prev_uir, uir_type, DataSet, Variable, variables_of, with_variables, r_max_rec, ListedStay, acts_joined, OnlyTakes, none_of_both, WritesRecords, part, file, same_shape, own_rules, Touch}
 use Rattle.cdf_puts.proofs.RaisedGoes.{set_is}
 use Rattle.cdf_edits.proofs.Edits.VariableKinds.{kind_type}
-use Rattle.cdf_edits.specs.Commands.Allowances.{range_at, only_of, allowance}
+use Rattle.cdf_edits.specs.Commands.Allowances.{range_at, only_of, allowance, Allowance, Anything, anything_if, same_kind, vdr_type}
 use Rattle.cdf_edits.proofs.Commands.KeptRecords.{AllKeep-append}
 use Rattle.cdf_edits.proofs.Edits.OwnersKept.{keep_all, keep_file, keep_places}
-use Rattle.cdf_edits.proofs.Edits.VariableKept.{keep_kinds, keep_variable_parts}
-use Rattle.cdf_format.specs.Owners.{Owner, File, OneAttribute, OneVariable, owned_by, owned_by_attributes, owned_by_variables}
+use Rattle.cdf_edits.proofs.Edits.VariableKept.{keep_kinds, keep_variable_parts, same_as_itself}
+use Rattle.cdf_format.specs.Owners.{Owner, File, OneAttribute, OneVariable, owned_by, owned_by_attributes, owned_by_variables, attribute_records}
 use Rattle.cdf_edits.proofs.Frame.VdrStays.{variable_stays, VdrStays, packed_stays}
 use Rattle.cdf_edits.proofs.Edits.LeafPieces.{leaf_at}
 use Rattle.cdf_edits.proofs.Edits.VariableKeeps.{stays_then, type_stays}
-use Rattle.cdf_edits.proofs.Frame.OwnersApart.{unused_in}
+use Rattle.cdf_edits.proofs.Frame.OwnersApart.{unused_in, all_attribute_records}
 use Rattle.cdf_edits.proofs.Space.UsedRecords.{filter-says}
 use Rattle.cdf_format.proofs.SpaceLemmas.{in-filter}
 use Rattle.cdf_edits.proofs.Edits.ActsJoined.{listed_before}

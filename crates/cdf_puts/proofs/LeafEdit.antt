@@ -1,10 +1,10 @@
 -- A leaf that is added, as one edit: its block is taken and written, then a node where one is needed, and then the entries are.
 use Rattle.std.proofs.Common.{◌≡◌, ℕ, zero, suc, ◌+◌, ◌*◌, ◌<◌, ◌≤◌, List, [], ◌∷◌, ◌++◌, length, true, append-nil, refl, sym, ap, subst, ◌∙◌, arith, inl, inr, ◌≢◌, ◌⊎◌, true≢false, Bool, false, ◌||◌, ◌==◌, eq-eqb}
-use Rattle.cdf_puts.proofs.Common.{r_max_rec_field, space_fields, node_acts, is_in-false, Kind, R, Z, size_at, type_at, eof, Leaf, nodes_of, room_at, vxr_type, VariableShape, shape, NodeFits, IsSound, In, Good, number_kept, size_kept, type_kept, vxr_n_entries, linkable-type, good_is_sound, nodes_stand, In-append_left, In-append_right, tile_lies, vxr_bytes, Edit, Mark, Away, unmarked, Touch, new_room, type_in, variables_chain, edit_then, filled_size, unmarked-away, Away-append, kept_away, node_behind, StandsAmong, through, tile, typed, long, has, fits, behind_in, Kept, Each-in, placing_marks, NodeTaken, IndexTouch, LeafAdded, ne_eqb, Same, is_a, is_in, number, leaves_of, variable_records, Field, gdr_type, vvr_type, cvvr_type, cpr_type, uir_type, is_record_type, fixed_size, Shape, Each, HasShape, LeafFits, is_a-type, In-append, Avoids, avoided, with_leaf, places_of, or_cases, away-avoids, Avoids-append, kept, gdr_in, gdr_typed, gdr_long, block_behind, variables_in, other_kind, FileSame, all_variable_records, apart, type_of_body, OwnEdit, IndexEdit, is_taken_at, Act, changed_part, Same-part, leaf_acts}
-use Rattle.cdf_edits.specs.Edits.Marks.{within, Among, Marked, variable_types, keeps_file}
+use Rattle.cdf_puts.proofs.Common.{vxr_n_entries, r_max_rec_field, space_fields, node_acts, is_in-false, Kind, R, Z, size_at, type_at, eof, Leaf, nodes_of, room_at, vxr_type, VariableShape, shape, NodeFits, IsSound, In, Good, number_kept, size_kept, type_kept, linkable-type, good_is_sound, nodes_stand, In-append_left, In-append_right, tile_lies, vxr_bytes, Edit, Mark, Away, unmarked, Touch, new_room, type_in, variables_chain, unmarked-away, Away-append, kept_away, node_behind, StandsAmong, through, tile, typed, long, has, fits, behind_in, Kept, Each-in, placing_marks, NodeTaken, IndexTouch, LeafAdded, ne_eqb, Same, is_a, is_in, number, leaves_of, variable_records, Field, gdr_type, vvr_type, cvvr_type, cpr_type, uir_type, is_record_type, fixed_size, Shape, Each, HasShape, LeafFits, is_a-type, In-append, Avoids, with_leaf, places_of, or_cases, away-avoids, Avoids-append, kept, gdr_in, gdr_typed, gdr_long, block_behind, variables_in, other_kind, FileSame, all_variable_records, apart, type_of_body, OwnEdit, IndexEdit, is_taken_at, Act, changed_part, Same-part, leaf_acts}
+use Rattle.cdf_edits.specs.Edits.Marks.{within, Among, Marked, variable_types, keeps_file, avoided}
 use Rattle.std.proofs.lemmas.Bool.{both_ways, or_left, or_right}
-use Rattle.cdf_edits.proofs.Edits.Composing.{changed_edit, same-then, head_size, head_type}
-use Rattle.cdf_edits.proofs.Edits.MadeRecord.{place_in, fresh}
+use Rattle.cdf_edits.proofs.Edits.Composing.{changed_edit, same-then, head_size, head_type, edit_then}
+use Rattle.cdf_edits.proofs.Edits.MadeRecord.{place_in, fresh, filled_size}
 use Rattle.cdf_edits.proofs.Edits.StepEdits.{some_bytes}
 use Rattle.cdf_edits.proofs.Edits.VariableFrame.{Each-map, variable_typed}
 use Rattle.cdf_edits.proofs.Edits.RecordPlaced.{links_mark, Grows, NodeStands, grows_not, placed_grows}
