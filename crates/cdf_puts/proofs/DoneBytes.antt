@@ -1,18 +1,78 @@
--- All records are put: the bytes of the blocks, as the command says, and what is stored as each record.
-use Rattle.std.proofs.Common.{◌≡◌, ◌≢◌, ◌⊎◌, ℕ, suc, ◌+◌, ◌-◌, ◌*◌, ◌<◌, ◌≤◌, List, length, take, drop, false, Option, Some, None, find, eq-eqb, refl, sym, ap, subst, ◌∙◌, arith, inl, inr}
-use Rattle.cdf_puts.proofs.Common.{cases_lt, ne_eqb, option_map, min, if◌then◌else◌, Kind, Sparse, Variable, extent, record_number_limit, range, covers, first_written, is_sparse, stored_bytes, Act, IsOneOf, find_covering, covers_within, place_in, record_place, plain_piece, PlainLeaf, plain_leaf, leaves_ascend, block_behind, sound, long, behind_in, byte, Same, variable_of, size_at, Leaf, leaves_of, VariableShape, is_compressed, shape, record_bytes, max_rec_at, word_kept, piece_kept, tile_lies, MaxRecDone, SoFar, OldBlock, NewBlock, record_of, put_from, put_count}
-use Rattle.cdf_edits.proofs.Edits.LeafPieces.{found_in, unwritten_apart}
+-- All records are put: the index, what was taken for it and the bytes of the blocks are as the command says, and what is stored as each record.
+use Rattle.std.proofs.Common.{◌≡◌, ◌≢◌, ◌⊎◌, ℕ, suc, ◌+◌, ◌-◌, ◌*◌, ◌<◌, ◌≤◌, List, length, take, drop, false, Option, Some, None, find, eq-eqb, refl, sym, ap, subst, ◌∙◌, arith, inl, inr, [], ◌∷◌, ◌++◌, append-nil, Bool, true, not, ◌&&◌, bytes_eq, zero, map, true≢false, take-append-drop}
+use Rattle.cdf_puts.proofs.Common.{cases_lt, ne_eqb, option_map, min, if◌then◌else◌, Kind, Sparse, Variable, extent, record_number_limit, range, covers, first_written, is_sparse, stored_bytes, Act, IsOneOf, find_covering, covers_within, place_in, record_place, plain_piece, PlainLeaf, plain_leaf, leaves_ascend, block_behind, sound, long, behind_in, Same, variable_of, size_at, Leaf, leaves_of, VariableShape, is_compressed, shape, record_bytes, max_rec_at, word_kept, piece_kept, tile_lies, MaxRecDone, SoFar, OldBlock, NewBlock, record_of, put_from, put_count, filter, list_any, nat_lt, PutsLeaves, ranges_of, cuts_before_put, ranges_after_put, is_taken_at, top_chain, last_node, node_behind, fits, Each-in, number, Nodes, no_node, node, vdr_vxr_tail, NodeFits, In, In-append_right, bytes_eq-same, same_of_bytes_eq, NodesSoFar, length-take, length-drop, drop-drop, ◌==◌, turned, pad_record, r_max_rec_field, max_rec_touches, uncovered, put_room, blocks_room, packed_room, Touch, Outside, Changed, space_before, each_of, count_is, plain_bytes, vdr_max_rec, is_little, records_of_leaf, type_of_variable, either, both, put_touches, taken_bytes}
+use Rattle.cdf_edits.proofs.Edits.LeafPieces.{found_in, unwritten_apart, written_fits}
+use Rattle.std.proofs.Math.Nat.{mul-sub}
+use Rattle.std.proofs.Math.Path.{transport}
 use Rattle.cdf_format.specs.Fields.{has_bit}
-use Rattle.cdf_puts.proofs.DoneIndex.{last_size}
-use Rattle.cdf_puts.proofs.GoesAlike.{later_size, later_packed}
 use Rattle.cdf_puts.proofs.LastImage.{LastImage, last_image, has_put}
-use Rattle.cdf_puts.proofs.PutBytes.{old_size, old_stays, new_stays}
+use Rattle.cdf_puts.proofs.PutBytes.{by_offsets, old_plain, inside_old, old_goes_on, new_goes_on}
 use Rattle.cdf_puts.proofs.WrittenGoes.{record_fits}
-use Rattle.cdf_puts.proofs.PutMeaning.{IsPut}
-use Rattle.cdf_puts.proofs.RaisedThen.{HasPut}
+use Rattle.cdf_puts.proofs.PutMeaning.{IsPut, HasPut}
+use Rattle.cdf_edits.specs.Commands.Puts.{CutsFirst, PutsIndex, is_written, PutsBytes, StaysUnwritten, UnwrittenStay, HoldsPads, is_changed, was_leaf, written_in, stays_in_place, stored_in}
+use Rattle.cdf_edits.specs.Index.Written.{top_stays, TailFollows, block_end, SpareIs, ReservedIs, BlockFollows}
+use Rattle.cdf_format.specs.Index.{nodes_of, lower_nodes}
+use Rattle.cdf_puts.proofs.CoveringRanges.{covering_done, covering_total}
+use Rattle.cdf_puts.proofs.IndexWritten.{nodes_still}
+use Rattle.cdf_puts.proofs.GoesThen.{record_stays}
+use Rattle.cdf_puts.proofs.PutRoom.{none_given, no_node_given, none_without_bytes}
+use Rattle.std.specs.List.{repeat}
+use Rattle.cdf_edits.specs.Frame.Changed.{touched_field}
+use Rattle.cdf_edits.specs.Index.Blocks.{cut_open, ranges_before_put}
+use Rattle.cdf_edits.proofs.Frame.ChangedBytes.{changed_then}
+use Rattle.cdf_format.proofs.Tests.{eq_of}
+use Rattle.cdf_puts.proofs.SoFarStarts.{covers_own}
 
-through : (x y z : ℕ) → x ≤ y → y ≤ z → x ≤ z
-through x y z p q = omega arith
+-- the nodes of the top chain are nodes
+top_in : (nodes : Nodes) (m : ℕ) → In m (top_chain nodes) → In m (nodes_of nodes)
+unfolding nodes_of lower_nodes
+top_in no_node m i = absurd i
+top_in (node place room es more) m (inl e) = inl e
+top_in (node place room es more) m (inr i) = inr (In-append_right m (lower_nodes es) (nodes_of more) (top_in more m i))
+
+none_taken_in : (acts : List Act) (xs : List ℕ) → ((m : ℕ) → In m xs → is_taken_at acts m ≡ false) → list_any (is_taken_at acts) xs ≡ false
+none_taken_in acts [] f = refl
+none_taken_in acts (x ∷ xs) f = let here = f x (inl refl) in rw here (none_taken_in acts xs (λ m i. f m (inr i)))
+
+-- nothing is written in a block that has none of the records
+unwritten : (first k size : ℕ) (l : Leaf) (i : ℕ) → put_count first k l ≤ 0 → (i < put_from first size l) ⊎ (put_from first size l + put_count first k l * size ≤ i)
+unwritten first k size l i none =
+    let zero_is : put_count first k l ≡ 0 = omega arith in
+    elim (cases_lt i (put_from first size l)) [ inl lt ↦ inl lt | inr le ↦ inr (subst (λ (n : ℕ). put_from first size l + n * size ≤ i) (sym zero_is) (omega arith)) ]
+
+-- ---- pieces that are all the same
+
+pieces_repeat : (n size : ℕ) (pad xs : List ℕ) → length xs ≡ n * size → ((i : ℕ) → i < n → take size (drop (i * size) xs) ≡ pad) → xs ≡ repeat n pad
+pieces_repeat zero size pad [] e f = refl
+pieces_repeat zero size pad (x ∷ xs) e f = absurd (omega arith)
+pieces_repeat (suc n) size pad xs e f =
+    let none : 0 ≡ 0 * size = omega arith in
+    let next : (i : ℕ) → size + i * size ≡ suc i * size = λ i. (omega arith) in
+    let first : take size xs ≡ pad = ap (λ (m : ℕ). take size (drop m xs)) none ∙ f 0 (omega arith) in
+    let left = length-drop size xs in
+    let rest = pieces_repeat n size pad (drop size xs) (omega arith) (λ i lt. ap (take size) (drop-drop (i * size) size xs) ∙ ap (λ (m : ℕ). take size (drop m xs)) (next i) ∙ f (suc i) (omega arith)) in
+    sym (take-append-drop size xs) ∙ (λ i. first i ++ rest i)
+
+-- what stands behind the records of a block is not written
+behind_written : (first r size : ℕ) (l : Leaf) (i : ℕ) → l.first ≤ l.last → 12 + (l.last + 1 - l.first) * size ≤ i → (i < put_from first size l) ⊎ (put_from first size l + put_count first (r + 1) l * size ≤ i)
+behind_written first r size l i ordered le = elim (cases_lt 0 (put_count first (r + 1) l)) [
+  | inl some ↦ let f = written_fits first r l size ordered some in inr (omega arith)
+  | inr none ↦ unwritten first (r + 1) size l i none
+]
+
+-- ---- touches
+
+outside_both : (xs ys : List Touch) (place : ℕ) → Outside (xs ++ ys) place → Outside xs place × Outside ys place
+outside_both [] ys place o = (tt, o)
+outside_both (x ∷ xs) ys place o = let p = outside_both xs ys place o.1 in ((o.0, p.0), p.1)
+
+outside_join : (xs ys : List Touch) (place : ℕ) → Outside xs place → Outside ys place → Outside (xs ++ ys) place
+outside_join [] ys place o p = p
+outside_join (x ∷ xs) ys place o p = (o.0, outside_join xs ys place o.1 p)
+
+-- in another order
+changed_swap : (b now : List ℕ) (xs ys : List Touch) → Changed b now (xs ++ ys) → Changed b now (ys ++ xs)
+changed_swap b now xs ys c = record { longer = c.longer; same = λ place lt o. let p = outside_both ys xs place o in c.same place lt (outside_join xs ys place p.1 p.0) }
 
 module _ {b now last : List ℕ} {kind : Kind} {before : List VariableShape} {own own' : VariableShape} {after : List VariableShape} {raw pad : List ℕ} {r : ℕ} {acts : List Act} (so : SoFar b now kind before own own' after raw pad r (r + 1) acts) (done : MaxRecDone b now last kind own own' r) where
   abbrev v : Variable
@@ -39,16 +99,73 @@ module _ {b now last : List ℕ} {kind : Kind} {before : List VariableShape} {ow
   put : HasPut b last kind before own own' after r acts
   put = has_put so done
 
+  -- ---- the index
+
+  uncut : cuts_before_put v r ≡ false
+  uncut = ap (λ (s : Sparse). is_sparse s && nat_lt (extent v.max_rec) r) so.start.no_rule
+
+  last_size : record_bytes last own.vdr ≡ size
+  last_size = record_stays so.start.good so.start.among put.file put.descriptor
+
+  puts : PutsLeaves b last v.rle own'.vdr (filter (is_written v r) (leaves_of own'.index)) own.index acts own'.index
+  puts =
+      let ls = filter (is_written v r) leaves in
+      let vdr = sym so.goes.vdr_is in
+      let loose = sym so.start.loose in
+      let end = append-nil ls in
+      let acts_end = append-nil acts in
+      transport (λ i. PutsLeaves b last (loose i) (vdr i) (end i) own.index (acts_end i) own'.index) (so.index.puts last last_size [] [] own'.index (refl, refl))
+
+  -- ---- VXRtail
+
+  abbrev tops : Bool
+  tops = bytes_eq (top_chain own.index) (top_chain own'.index)
+
+  top_test : top_stays acts own.index own.index own'.index ≡ tops
+  top_test = let here = bytes_eq-same (top_chain own.index) in rw here (by tops refl)
+    where
+      by : (c : Bool) → tops ≡ c → (tops && not (list_any (is_taken_at acts) (top_chain own'.index))) ≡ tops
+      by true e =
+          let same = same_of_bytes_eq (top_chain own.index) (top_chain own'.index) e in
+          let none : list_any (is_taken_at acts) (top_chain own'.index) ≡ false = none_taken_in acts (top_chain own'.index) (λ m i. so.index.nodes.apart m (top_in own.index m (subst (In m) (sym same) i))) in
+          rw (none, e) refl
+      by false e = rw e refl
+
+  tail : TailFollows b last acts own.index own own'
+  tail =
+      let t = img.tail in
+      let mid : number now own'.vdr vdr_vxr_tail ≡ (if tops then number b own.vdr vdr_vxr_tail else last_node own'.index) = subst (λ (x : ℕ). number now x vdr_vxr_tail ≡ (if tops then number b own.vdr vdr_vxr_tail else last_node own'.index)) (sym so.goes.vdr_is) so.index.tail in
+      t ∙ mid ∙ sym (ap (λ (c : Bool). if c then number b own.vdr vdr_vxr_tail else last_node own'.index) top_test)
+
+  -- ---- the whole
+
+  last_nodes : NodesSoFar b last own own' acts
+  last_nodes = nodes_still so.index.nodes (λ m i. Each-in (NodeFits now) (nodes_of own'.index) (fits so.goes.good so.goes.among).1 m i) (λ m i. img.behind m (node_behind own' m i))
+
+  ranges_done : ranges_of own'.index ≡ ranges_after_put v own.index r
+  ranges_done = covering_done v own.index r (ap is_sparse so.start.no_rule) so.start.small own'.index so.covered _ so.covers (so.covered_past (omega arith))
+
+  pub index_done : PutsIndex b last v r own own' acts
+  index_done = record {
+    ranges = ranges_done;
+    middle = own.index;
+    cut = [];
+    put = acts;
+    acts_are = refl;
+    cuts = subst (CutsFirst b last v own own' own.index []) (sym uncut) (refl, refl);
+    puts = puts;
+    tail = tail;
+    nodes = last_nodes.follow;
+    freed = none_given b last acts acts so.takes;
+    nodes_freed = no_node_given b last acts acts so.takes;
+  }
+
+  -- ---- the bytes
+
   longer : length now ≤ length last
   longer = let e = img.as_long in omega arith
 
   -- ---- the leaves by now
-
-  pub old_plain : (l : Leaf) → IsOneOf olds l → PlainLeaf b size l
-  old_plain = plain_leaf so.start.good so.start.among so.start.loose
-
-  plain : (l : Leaf) → IsOneOf leaves l → PlainLeaf now size l
-  plain l i = subst (λ (n : ℕ). PlainLeaf now n l) (later_size so.start.good so.start.among so.goes) (plain_leaf so.goes.good so.goes.among (later_packed so.start.good so.start.among so.goes ∙ so.start.loose) l i)
 
   last_packed : is_compressed last own'.vdr ≡ false
   last_packed =
@@ -56,35 +173,22 @@ module _ {b now last : List ℕ} {kind : Kind} {before : List VariableShape} {ow
       ap (is_compressed last) put.vdr_is
       ∙ ap (λ (n : ℕ). has_bit n 2) (word_kept b last (own.vdr + 44) (own.vdr + size_at b own.vdr) behind (own.vdr + 44) 4 (omega arith) (let n = long so.start.good so.start.among in omega arith)) ∙ so.start.loose
 
-  pub last_plain : (l : Leaf) → IsOneOf leaves l → PlainLeaf last size l
-  last_plain l i = subst (λ (n : ℕ). PlainLeaf last n l) (ap (record_bytes last) put.vdr_is ∙ last_size so done) (plain_leaf put.good put.among last_packed l i)
+  last_plain : (l : Leaf) → IsOneOf leaves l → PlainLeaf last size l
+  last_plain l i = subst (λ (n : ℕ). PlainLeaf last n l) (ap (record_bytes last) put.vdr_is ∙ last_size) (plain_leaf put.good put.among last_packed l i)
 
-  inside_now : (l : Leaf) → IsOneOf leaves l → l.place + size_at now l.place ≤ length now
-  inside_now l i = (tile_lies now 8 (length now) (shape now).records l.place (sound so.goes.good so.goes.among).has_shape.tiled (behind_in so.goes.good so.goes.among l.place (block_behind own' l.place (place_in leaves l i)))).high
-
-  pub inside_last : (l : Leaf) → IsOneOf leaves l → l.place + size_at last l.place ≤ length last
+  inside_last : (l : Leaf) → IsOneOf leaves l → l.place + size_at last l.place ≤ length last
   inside_last l i = (tile_lies last 8 (length last) (shape last).records l.place (sound put.good put.among).has_shape.tiled (behind_in put.good put.among l.place (block_behind own' l.place (place_in leaves l i)))).high
-
-  inside_old : (l : Leaf) → IsOneOf olds l → l.place + size_at b l.place ≤ length b
-  inside_old l i = (tile_lies b 8 (length b) (shape b).records l.place (sound so.start.good so.start.among).has_shape.tiled (behind_in so.start.good so.start.among l.place (block_behind own l.place (place_in olds l i)))).high
 
   kept : (l : Leaf) → IsOneOf leaves l → Same now last l.place (l.place + size_at now l.place)
   kept l i = (img.behind l.place (block_behind own' l.place (place_in leaves l i))).same
 
-  pub last_old : (l : Leaf) → IsOneOf olds l → OldBlock b last raw pad r first (r + 1) size l
-  last_old l i =
-      let o = so.blocks.old l i in
-      let x = old_plain l i in
-      let size_same = old_size o (long_enough ((l.last + 1 - l.first) * size) (size_at b l.place) x.room) in
-      old_stays longer o x.room (through _ _ _ (inside_old l i) so.goes.longer) (subst (λ (n : ℕ). Same now last l.place (l.place + n)) size_same (kept l (so.blocks.stay l i))) refl (λ j from low f t. low)
-    where
-      long_enough : (x n : ℕ) → 12 + x ≤ n → 12 ≤ n
-      long_enough x n le = omega arith
+  last_old : (l : Leaf) → IsOneOf olds l → OldBlock b last raw pad r first (r + 1) size l
+  last_old l i = old_goes_on so longer l (kept l (so.blocks.stay l i)) i refl (λ j from low f t. low)
 
-  pub last_new : (l : Leaf) → IsOneOf leaves l → IsOneOf olds l ⊎ NewBlock last raw pad r first most (r + 1) size acts l
+  last_new : (l : Leaf) → IsOneOf leaves l → IsOneOf olds l ⊎ NewBlock last raw pad r first most (r + 1) size acts l
   last_new l i = elim (so.blocks.new l i) [
     | inl o ↦ inl o
-    | inr n ↦ let x = plain l i in inr (new_stays longer n x.ordered x.room (inside_now l i) (kept l i) (omega arith) n.was_taken)
+    | inr n ↦ inr (new_goes_on so longer l (kept l i) i (omega arith) n.was_taken n)
   ]
 
   -- ---- what is stored as a record
@@ -92,11 +196,11 @@ module _ {b now last : List ℕ} {kind : Kind} {before : List VariableShape} {ow
   stored_at : (j : ℕ) (l : Leaf) → IsOneOf leaves l → l.first ≤ j → j ≤ l.last → stored_bytes last own.vdr size leaves j ≡ Some (take size (drop (record_place l size j) last))
   stored_at j l i f t =
       let x = last_plain l i in
-      ap (option_map _) (find_covering j 0 (suc record_number_limit) leaves (leaves_ascend put.good put.among) l i f t) ∙ ap Some (plain_piece last own.vdr size j l x.plain x.small (last_size so done) f t)
+      ap (option_map _) (find_covering j 0 (suc record_number_limit) leaves (leaves_ascend put.good put.among) l i f t) ∙ ap Some (plain_piece last own.vdr size j l x.plain x.small last_size f t)
 
   stored_was : (j : ℕ) (l : Leaf) → IsOneOf olds l → l.first ≤ j → j ≤ l.last → stored_bytes b own.vdr size olds j ≡ Some (take size (drop (record_place l size j) b))
   stored_was j l i f t =
-      let x = old_plain l i in
+      let x = old_plain so l i in
       ap (option_map _) (find_covering j 0 (suc record_number_limit) olds (leaves_ascend so.start.good so.start.among) l i f t) ∙ ap Some (plain_piece b own.vdr size j l x.plain x.small refl f t)
 
   -- one that was put
@@ -111,41 +215,25 @@ module _ {b now last : List ℕ} {kind : Kind} {before : List VariableShape} {ow
   -- one that was there, and was not put
   piece_same : (j : ℕ) (l : Leaf) → IsOneOf olds l → l.first ≤ j → j ≤ l.last → (j < first) ⊎ (r < j) → take size (drop (record_place l size j) last) ≡ take size (drop (record_place l size j) b)
   piece_same j l i f t side =
-      let x = old_plain l i in
+      let x = old_plain so l i in
       let o = last_old l i in
-      let lo = 12 + (j - l.first) * size in
-      let fit : lo + size ≤ size_at b l.place = through _ _ _ (record_fits j l.first l.last size f t) x.room in
-      piece_kept b last (l.place + lo) (l.place + (lo + size)) (record { each = λ p low high. at_place p lo (lo + size) low (o.kept (p - l.place) (ahead p lo (lo + size) (size_at b l.place) fit low high) (beside (p - l.place) (from_start p lo low) (to_end p lo (lo + size) low high))) })
-      (l.place + lo) size (omega arith) (omega arith) (far (lo + size) (size_at b l.place) fit (inside_old l i)) (let g = put.longer in omega arith)
+      let fit = record_fits j l.first l.last size f t in
+      let room = x.room in
+      let inside = inside_old so l i in
+      let longer = put.longer in
+      piece_kept b last _ _ (by_offsets b last l.place (12 + (j - l.first) * size) (12 + (j - l.first) * size + size) (λ n low high. o.kept n (omega arith) (beside n low high))) (record_place l size j) size (omega arith) (omega arith) (omega arith) (omega arith)
     where
-      at_place : (p lo hi : ℕ) → l.place + lo ≤ p → byte last (l.place + (p - l.place)) ≡ byte b (l.place + (p - l.place)) → byte last p ≡ byte b p
-      at_place p lo hi le e = let q : l.place + (p - l.place) ≡ p = omega arith in subst (λ (y : ℕ). byte last y ≡ byte b y) q e
-
-      ahead : (p lo hi n : ℕ) → hi ≤ n → l.place + lo ≤ p → p < l.place + hi → p - l.place < n
-      ahead p lo hi n le low high = omega arith
-
-      from_start : (p lo : ℕ) → l.place + lo ≤ p → lo ≤ p - l.place
-      from_start p lo low = omega arith
-
-      to_end : (p lo hi : ℕ) → l.place + lo ≤ p → p < l.place + hi → p - l.place < hi
-      to_end p lo hi low high = omega arith
-
-      far : (e n : ℕ) → e ≤ n → l.place + n ≤ length b → l.place + e ≤ length b
-      far e n a c = omega arith
-
       beside : (i : ℕ) → 12 + (j - l.first) * size ≤ i → i < 12 + (j - l.first) * size + size → (i < put_from first size l) ⊎ (put_from first size l + put_count first (r + 1) l * size ≤ i)
       beside i low high = elim (cases_lt 0 (put_count first (r + 1) l)) [
         | inl some ↦ elim (unwritten_apart first r j l size f t side some) [ inl le ↦ inl (omega arith) | inr le ↦ inr (omega arith) ]
-        | inr none ↦
-            let zero_is : put_count first (r + 1) l ≡ 0 = omega arith in
-            elim (cases_lt i (put_from first size l)) [ inl lt ↦ inl lt | inr le ↦ inr (subst (λ (n : ℕ). put_from first size l + n * size ≤ i) (sym zero_is) (omega arith)) ]
+        | inr none ↦ unwritten first (r + 1) size l i none
       ]
 
   stored_old : (j : ℕ) (l : Leaf) → IsOneOf olds l → l.first ≤ j → j ≤ l.last → (j < first) ⊎ (r < j) → stored_bytes last own.vdr size leaves j ≡ stored_bytes b own.vdr size olds j
   stored_old j l i f t side = stored_at j l (so.blocks.stay l i) f t ∙ ap Some (piece_same j l i f t side) ∙ sym (stored_was j l i f t)
 
   -- a record that a block had
-  pub stored_same : (j : ℕ) (l : Leaf) → find (λ (leaf : Leaf). covers j (range leaf.first leaf.last)) olds ≡ Some l → (j < first) ⊎ (r < j) → stored_bytes last own.vdr size leaves j ≡ stored_bytes b own.vdr size olds j
+  stored_same : (j : ℕ) (l : Leaf) → find (λ (leaf : Leaf). covers j (range leaf.first leaf.last)) olds ≡ Some l → (j < first) ⊎ (r < j) → stored_bytes last own.vdr size leaves j ≡ stored_bytes b own.vdr size olds j
   stored_same j l e side =
       let g = found_in (λ (leaf : Leaf). covers j (range leaf.first leaf.last)) olds l e in
       let c = covers_within j l g.1 in
@@ -155,22 +243,18 @@ module _ {b now last : List ℕ} {kind : Kind} {before : List VariableShape} {ow
   stored_none : (j : ℕ) → find (λ (leaf : Leaf). covers j (range leaf.first leaf.last)) olds ≡ None → j < most → (j < first) ⊎ (r < j) → stored_bytes last own.vdr size leaves j ≡ stored_bytes b own.vdr size olds j
   stored_none j none below side = by (find (λ (leaf : Leaf). covers j (range leaf.first leaf.last)) leaves) refl
     where
-      some_none : {x : Leaf} → Some x ≡ None → ⊥
-      some_none e = cc
-
       by : (o : Option Leaf) → find (λ (leaf : Leaf). covers j (range leaf.first leaf.last)) leaves ≡ o → stored_bytes last own.vdr size leaves j ≡ stored_bytes b own.vdr size olds j
       by None e = ap (option_map _) e ∙ sym (ap (option_map _) none)
       by (Some l) e =
           let g = found_in (λ (leaf : Leaf). covers j (range leaf.first leaf.last)) leaves l e in
           let c = covers_within j l g.1 in
           elim (last_new l g.0) [
-            | inl o ↦ absurd (some_none (sym (find_covering j 0 (suc record_number_limit) olds (leaves_ascend so.start.good so.start.among) l o c.0 c.1) ∙ none))
-            | inr n ↦ absurd (never l n c.0 c.1 side)
+            | inl o ↦ let e : Some l ≡ None = sym (find_covering j 0 (suc record_number_limit) olds (leaves_ascend so.start.good so.start.among) l o c.0 c.1) ∙ none in absurd (cc)
+            | inr n ↦
+                let f = c.0 in
+                let t = c.1 in
+                elim side [ inl lt ↦ (let a = n.from in absurd (omega arith)) | inr lt ↦ (let a = n.alone (omega arith) in absurd (omega arith)) ]
           ]
-        where
-          never : (l : Leaf) → NewBlock last raw pad r first most (r + 1) size acts l → l.first ≤ j → j ≤ l.last → (j < first) ⊎ (r < j) → ⊥
-          never l n f t (inl lt) = let a = n.from in omega arith
-          never l n f t (inr lt) = let a = n.alone (omega arith) in omega arith
 
   -- ---- as the content has it
 
@@ -180,41 +264,146 @@ module _ {b now last : List ℕ} {kind : Kind} {before : List VariableShape} {ow
   pad_is : (j : ℕ) → j ≢ r → record_of raw pad r j ≡ pad
   pad_is j ne = let e = ne_eqb j r ne in rw e refl
 
-  first_cases : ((r < most) × (first ≡ r)) ⊎ ((most ≤ r) × (first ≡ most))
-  first_cases = elim (cases_lt r most) [ inl lt ↦ inl (lt, first_is ∙ least r most lt) | inr le ↦ inr (le, first_is ∙ greatest r most le) ]
-    where
-      first_is : first ≡ min r most
-      first_is = ap (λ (s : Sparse). if is_sparse s then r else min r most) so.start.no_rule
-
-      least : (r m : ℕ) → r < m → min r m ≡ r
-      least r m lt = omega arith
-
-      greatest : (r m : ℕ) → m ≤ r → min r m ≡ m
-      greatest r m le = omega arith
+  first_is : first ≡ min r most
+  first_is = ap (λ (s : Sparse). if is_sparse s then r else min r most) so.start.no_rule
 
   pub is_put : IsPut b last own own' r raw pad
   is_put = record {
     max_rec_is = img.max_rec_is;
-    stored = stored_put r (upto_r first_cases) (omega arith) ∙ ap Some raw_is;
-    padded = λ k le lt. stored_put k (from_first k le first_cases) (omega arith) ∙ ap Some (pad_is k (λ e. absurd (omega arith)));
-    kept = λ k lt ne. beside k lt ne (side k lt ne first_cases);
+    stored = stored_put r (let f = first_is in omega arith) (omega arith) ∙ ap Some raw_is;
+    padded = λ k le lt. stored_put k (let f = first_is in omega arith) (omega arith) ∙ ap Some (pad_is k (λ e. absurd (omega arith)));
+    kept = λ k lt ne. beside k lt (let f = first_is in elim (cases_lt r k) [ inl past ↦ inr past | inr le ↦ inl (omega arith) ]);
   }
     where
-      upto_r : ((r < most) × (first ≡ r)) ⊎ ((most ≤ r) × (first ≡ most)) → first ≤ r
-      upto_r (inl x) = let e = x.1 in omega arith
-      upto_r (inr x) = let e = x.1 in let l = x.0 in omega arith
-
-      from_first : (k : ℕ) → most ≤ k → ((r < most) × (first ≡ r)) ⊎ ((most ≤ r) × (first ≡ most)) → first ≤ k
-      from_first k le (inl x) = let e = x.1 in let l = x.0 in omega arith
-      from_first k le (inr x) = let e = x.1 in omega arith
-
-      side : (k : ℕ) → k < most → k ≢ r → ((r < most) × (first ≡ r)) ⊎ ((most ≤ r) × (first ≡ most)) → (k < first) ⊎ (r < k)
-      side k lt ne (inl x) = let e = x.1 in elim (cases_lt k r) [ inl l ↦ inl (omega arith) | inr g ↦ inr (omega arith) ]
-      side k lt ne (inr x) = let e = x.1 in inl (omega arith)
-
-      beside : (k : ℕ) → k < most → k ≢ r → (k < first) ⊎ (r < k) → stored_bytes last own.vdr size leaves k ≡ stored_bytes b own.vdr size olds k
-      beside k lt ne side = by (find (λ (leaf : Leaf). covers k (range leaf.first leaf.last)) olds) refl
+      beside : (k : ℕ) → k < most → (k < first) ⊎ (r < k) → stored_bytes last own.vdr size leaves k ≡ stored_bytes b own.vdr size olds k
+      beside k lt side = by (find (λ (leaf : Leaf). covers k (range leaf.first leaf.last)) olds) refl
         where
           by : (o : Option Leaf) → find (λ (leaf : Leaf). covers k (range leaf.first leaf.last)) olds ≡ o → stored_bytes last own.vdr size leaves k ≡ stored_bytes b own.vdr size olds k
           by None e = stored_none k e lt side
           by (Some l) e = stored_same k l e side
+
+  before_is : ranges_before_put v own.index r ≡ ranges_of own.index
+  before_is = ap (λ (c : Bool). if c then cut_open (extent v.max_rec) record_number_limit (ranges_of own.index) else ranges_of own.index) uncut
+
+  later_size : record_bytes last own'.vdr ≡ size
+  later_size = ap (record_bytes last) put.vdr_is ∙ last_size
+
+  -- ---- in place
+
+  nothing_taken : uncovered v own.index r ≡ 0 → acts ≡ []
+  nothing_taken e =
+      let fits = covering_total v own.index r (ap is_sparse so.start.no_rule) so.start.small own'.index so.covered (taken_bytes acts) so.covers in
+      let unpacked : packed_room v own.index r ≡ 0 = rw so.start.loose refl in
+      let none : put_room v own.index r ≡ 0 = λ i. blocks_room v own.index (e i) + unpacked i in
+      none_without_bytes (space_before b) acts so.goes.follow.are so.takes (subst (λ (n : ℕ). taken_bytes acts ≤ n) none fits)
+
+  raised_touches : max_rec_touches now kind own'.vdr ≡ max_rec_touches b kind own.vdr
+  raised_touches =
+      let g = so.goes.gdr_is in
+      let e = so.goes.vdr_is in
+      λ i. map (touched_field (g i)) (r_max_rec_field kind) ++ touched_field (e i) vdr_max_rec ∷ []
+
+  in_place : stays_in_place v own r ≡ true → Changed b last (max_rec_touches b kind own.vdr ++ written_in v first r olds)
+  in_place e =
+      let covered = eq_of (uncovered v own.index r) 0 (both (uncovered v own.index r == 0) _ e).0 in
+      let none = nothing_taken covered in
+      changed_swap b last (written_in v first r olds) (max_rec_touches b kind own.vdr)
+      (subst (λ (ts : List Touch). Changed b last (written_in v first r olds ++ ts)) raised_touches (changed_then b now last (put_touches first (r + 1) size olds) (max_rec_touches now kind own'.vdr) (so.blocks.quiet none) img.changed))
+
+  -- ---- what was there
+
+  others_stay : (l : Leaf) → IsOneOf olds l → StaysUnwritten v r leaves l
+  others_stay l i e = so.blocks.stay l i
+
+  some_covers : (k : ℕ) (ls : List Leaf) → list_any (covers k) (map (λ (x : Leaf). range x.first x.last) ls) ≡ true → (l : Leaf) × (find (λ (leaf : Leaf). covers k (range leaf.first leaf.last)) ls ≡ Some l)
+  some_covers k [] e = absurd (true≢false (sym e))
+  some_covers k (x ∷ more) e = elim (either (covers k (range x.first x.last))) [
+    | inl t ↦ (x, rw t refl)
+    | inr t ↦ let rest : list_any (covers k) (map (λ (x : Leaf). range x.first x.last) more) ≡ true = rw t at e in let p = some_covers k more rest in (p.0, rw t p.1)
+  ]
+
+  unwritten_stay : UnwrittenStay b last v r own own'
+  unwritten_stay k c side =
+      let has = some_covers k olds (sym (ap (list_any (covers k)) before_is) ∙ c) in
+      ap (λ (x : ℕ). stored_bytes last x size leaves k) put.vdr_is ∙ stored_same k has.0 has.1 side
+
+  -- ---- pads
+
+  module _ (pad_stored : extent (max_rec_at b own.vdr) ≤ r → pad ≡ turned (type_of_variable b own.vdr) (is_little b) (pad_record v)) where
+    abbrev pad_bytes : List ℕ
+    pad_bytes = turned v.type (is_little last) (pad_record v)
+
+    pad_now : most ≤ r → pad ≡ pad_bytes
+    pad_now le = pad_stored le ∙ ap (λ (c : Bool). turned v.type c (pad_record v)) (sym put.file.little)
+
+    new_pads : (l : Leaf) → IsOneOf leaves l → NewBlock last raw pad r first most (r + 1) size acts l → drop (stored_in v r l * size) (plain_bytes last own'.vdr l) ≡ repeat (records_of_leaf l - stored_in v r l) pad_bytes
+    new_pads l i n =
+        let x = last_plain l i in
+        let count = count_is l x.small x.ordered in
+        let stored = stored_in v r l in
+        let bytes = plain_bytes last own'.vdr l in
+        let whole : bytes ≡ take ((l.last + 1 - l.first) * size) (drop (l.place + 12) last) = rw (x.plain, count, later_size) refl in
+        let high = inside_last l i in
+        let room = x.room in
+        let part = length-drop (l.place + 12) last in
+        let long : length bytes ≡ (l.last + 1 - l.first) * size = ap length whole ∙ length-take ((l.last + 1 - l.first) * size) (drop (l.place + 12) last) ∙ omega arith in
+        let minus = mul-sub size (l.last + 1 - l.first) stored in
+        pieces_repeat (records_of_leaf l - stored) size pad_bytes (drop (stored * size) bytes)
+        (length-drop (stored * size) bytes ∙ ap (λ (m : ℕ). m - stored * size) long ∙ (let e : (l.last + 1 - l.first) * size - stored * size ≡ (l.last + 1 - l.first - stored) * size = omega arith in e) ∙ ap (λ (m : ℕ). (m - stored) * size) (sym count))
+        (λ i' lt.
+        let lt' : i' < (l.last + 1 - l.first) - stored = subst (λ (m : ℕ). i' < m - stored) count lt in
+        let p = n.upto in
+        let j = l.first + (stored + i') in
+        let t : j ≤ l.last = omega arith in
+        let past : r < j = omega arith in
+        let le : most ≤ r = elim (cases_lt r most) [ inl few ↦ (let e = n.alone few in omega arith) | inr le ↦ le ] in
+        let joined : stored * size + i' * size ≡ (l.first + (stored + i') - l.first) * size = joins l.first stored i' size in
+        ap (take size) (drop-drop (i' * size) (stored * size) bytes)
+        ∙ ap (λ (m : ℕ). take size (drop m bytes)) joined
+        ∙ plain_piece last own'.vdr size j l x.plain x.small later_size (omega arith) t
+        ∙ n.written j (omega arith) t
+        ∙ pad_is j (λ e. absurd (omega arith)) ∙ pad_now le)
+      where
+        joins : (f s i n : ℕ) → s * n + i * n ≡ (f + (s + i) - f) * n
+        joins f s i n = let e : f + (s + i) - f ≡ s + i = omega arith in rw e (omega arith)
+
+    padded : (l : Leaf) → IsOneOf leaves l → HoldsPads last v own'.vdr r (ranges_before_put v own.index r) l
+    padded l i none = elim (last_new l i) [
+      | inl o ↦ absurd (true≢false (sym (covers_own olds l o (old_plain so l o).ordered) ∙ sym (ap (list_any (covers l.first)) before_is) ∙ none))
+      | inr n ↦ new_pads l i n
+    ]
+
+    -- ---- the blocks
+
+    end_is : (l : Leaf) → IsOneOf leaves l → block_end last own'.vdr l ≡ 12 + (l.last + 1 - l.first) * size
+    end_is l i = let x = last_plain l i in let count = count_is l x.small x.ordered in rw (x.plain, count, later_size) refl
+
+    spare : (l : Leaf) → IsOneOf leaves l → SpareIs b last own'.vdr l (is_taken_at acts l.place)
+    spare l i = elim (last_new l i) [
+      | inl o ↦
+          let free = so.blocks.apart l o in
+          let k = last_old l o in
+          let x = old_plain so l o in
+          subst (SpareIs b last own'.vdr l) (sym free) (by_offsets b last l.place (block_end last own'.vdr l) (size_at b l.place) (λ n low high. k.kept n high (behind_written first r size l n x.ordered (subst (λ (m : ℕ). m ≤ n) (end_is l i) low))))
+      | inr n ↦ subst (SpareIs b last own'.vdr l) (sym n.was_taken) (λ p low high. n.spare p (subst (λ (m : ℕ). m ≤ p) (end_is l i) low) high)
+    ]
+
+    blocks : (l : Leaf) → IsOneOf leaves l → is_changed v r (ranges_of own.index) l ≡ true → BlockFollows b last v.rle own'.vdr (was_leaf olds l) acts l
+    blocks l i changed = record {
+      packed = λ e. absurd (true≢false (sym e ∙ so.start.loose));
+      spare = spare l i;
+      reserved = reserved (is_taken_at acts l.place);
+    }
+      where
+        reserved : (c : Bool) → ReservedIs b last (was_leaf olds l) l c
+        reserved true = λ e. absurd (true≢false (sym e ∙ (last_plain l i).plain))
+        reserved false = λ e. absurd (true≢false (sym e ∙ (last_plain l i).plain))
+
+    pub bytes_done : PutsBytes b last kind v r own own' acts
+    bytes_done = record {
+      in_place = in_place;
+      others_stay = each_of (StaysUnwritten v r leaves) olds others_stay;
+      unwritten_stay = unwritten_stay;
+      padded = each_of (HoldsPads last v own'.vdr r (ranges_before_put v own.index r)) leaves padded;
+      blocks = each_of (λ (l : Leaf). is_changed v r (ranges_of own.index) l ≡ true → BlockFollows b last v.rle own'.vdr (was_leaf olds l) acts l) leaves blocks;
+    }

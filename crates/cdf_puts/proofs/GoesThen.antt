@@ -1,16 +1,260 @@
--- One image goes on to another and that one to a third, and so the first goes on to the third.
-use Rattle.std.proofs.Common.{◌≡◌, ℕ, ◌+◌, ◌<◌, List, [], ◌∷◌, ◌++◌, length, map, Bool, false, refl, sym, ap, subst, ◌∙◌, arith, inl, inr}
-use Rattle.cdf_puts.proofs.Common.{eq-eqb, eqb-true, length-map, map-append, set_at, w32, cast_signed, flat_map, list_any, slice_set, ◌==◌, ◌&&◌, nat_le, nat_lt, if◌then◌else◌, places_of, IsOneOf, other_kind, variables_of_are, StandsAmong, long, FileSame, AllKeep, shapes_of, Allowance, Anything, Only, Keeps, Stays, OutsideFields, anything_if, is_taken, r_max_rec_field, space_fields, unused_allowance, is_rewritten, Range, range, Act, ActsFollow, taken, word_kept, linkable-in, linkable-type, good_is_sound, either, false-is_in, is_in-false, true-is_in, is_in-true, In-append, content_is, tile_lies, is_in, content, variable_of, number, size_at, type_at, Leaf, nodes_of, leaves_of, owned, attribute_records, variable_records, unused_records, Field, uir_next_uir, uir_prev_uir, vdr_max_rec, vdr_vxr_head, vdr_vxr_tail, uir_type, AttributeShape, VariableShape, shape, IsSound, In, max_rec_at, sparse_at, Good, DataSet, Variable, variables_of, with_variables, Kind, R, Z, NoRule, DescriptorStays, GoesOn, found_in, put_changes, r_max_rec, ListedStay, acts_joined, OnlyTakes, none_of_both}
+-- One image goes on to another: what a put may change of each record and keeps of each owner, what the descriptor says by then, and that two such steps are one.
+use Rattle.std.proofs.Common.{◌≡◌, ℕ, List, [], ◌∷◌, length, true, false, Option, Some, None, true≢false, eq-eqb, refl, sym, ap, ◌∙◌, inl, inr, suc, ◌+◌, ◌<◌, ◌≤◌, ◌++◌, Bool, subst, append_assoc, arith, map}
+use Rattle.cdf_puts.proofs.Common.{ne_eqb, slice_get, ◌==◌, find, if◌then◌else◌, got-middle, places_of, IsOneOf, find_place, or_cases, leaves_apart, StandsAmong, fits, has, typed, Each-in, Only, shapes_of, put_changes, is_rewritten, Range, range, is_a-type, linkable-type, nodes_stand, is_a, is_in, variable_of, type_at, Leaf, nodes_of, leaves_of, vdr_max_rec, vdr_vxr_head, vdr_vxr_tail, cpr_type, cvvr_type, vvr_type, vxr_type, VariableShape, Each, shape, LeafFits, In, Good, Found, Kind, R, Z, found_in, eqb-true, flat_map, other_kind, Allowances, Stays, Keeps, AllKeep, unused_allowance, r_max_rec_field, space_fields, Act, apart, cdr_type, gdr_type, either, In-append, In-append_left, In-append_right, Unused, variable_records, unused_records, owned, AttributeShape, Shape, IsSound, tile, FileSame, record_alike, stays_alike, is_compressed, record_bytes, Same-part, tile_lies, DescriptorStays, GoesOn, eq-eqb, length-map, set_at, w32, cast_signed, list_any, slice_set, ◌&&◌, nat_le, nat_lt, long, OutsideFields, is_taken, ActsFollow, taken, linkable-in, good_is_sound, false-is_in, is_in-false, true-is_in, is_in-true, content_is, content, number, size_at, Field, uir_next_uir, uir_prev_uir, uir_type, DataSet, Variable, variables_of, with_variables, r_max_rec, ListedStay, acts_joined, OnlyTakes, none_of_both, WritesRecords, part, file, same_shape, own_rules, Touch}
+use Rattle.cdf_puts.proofs.RaisedGoes.{set_is}
+use Rattle.cdf_edits.proofs.Edits.VariableKinds.{kind_type}
+use Rattle.cdf_edits.specs.Commands.Allowances.{range_at, only_of, allowance, Allowance, Anything, anything_if, same_kind, vdr_type}
+use Rattle.cdf_edits.proofs.Commands.KeptRecords.{AllKeep-append}
+use Rattle.cdf_edits.proofs.Edits.OwnersKept.{keep_all, keep_file, keep_places}
+use Rattle.cdf_edits.proofs.Edits.VariableKept.{keep_kinds, keep_variable_parts, same_as_itself}
+use Rattle.cdf_format.specs.Owners.{Owner, File, OneAttribute, OneVariable, owned_by, owned_by_attributes, owned_by_variables, attribute_records}
+use Rattle.cdf_edits.proofs.Frame.VdrStays.{variable_stays, VdrStays, packed_stays}
 use Rattle.cdf_edits.proofs.Edits.LeafPieces.{leaf_at}
 use Rattle.cdf_edits.proofs.Edits.VariableKeeps.{stays_then, type_stays}
-use Rattle.cdf_edits.proofs.Frame.OwnersApart.{unused_in}
+use Rattle.cdf_edits.proofs.Frame.OwnersApart.{unused_in, all_attribute_records}
 use Rattle.cdf_edits.proofs.Space.UsedRecords.{filter-says}
 use Rattle.cdf_format.proofs.SpaceLemmas.{in-filter}
-use Rattle.cdf_format.specs.Records.{vdr_s_records}
-use Rattle.cdf_model.specs.declared.kinds.Sparse.TheVariants.{Pad, Previous}
 use Rattle.cdf_edits.proofs.Edits.ActsJoined.{listed_before}
-use Rattle.cdf_puts.proofs.OwnAllowed.{own_may, descriptor_allowed, node_allowed, parameters_allowed, block_allowed}
-use Rattle.cdf_puts.proofs.PutKeeps.{PutKeeps, all_kept, put_keeps}
+use Rattle.cdf_edits.proofs.Edits.RecordsWritten.{size_same, type_same, content_replaced, no_acts_follow, all_keep_put}
+
+abbrev block_types : List ℕ
+block_types = vvr_type ∷ cvvr_type ∷ []
+
+blocks_typed : (b records : List ℕ) (vdr : ℕ) (leaves : List Leaf) → Each (LeafFits b records vdr) leaves → (m : ℕ) → In m (places_of leaves) → is_in (type_at b m) block_types ≡ true
+blocks_typed b records vdr [] f m i = absurd i
+blocks_typed b records vdr (leaf ∷ more) f m (inl e) = elim (or_cases (is_a b records vvr_type leaf.place) (is_a b records cvvr_type leaf.place) f.0.0) [
+  | inl p ↦ ap (λ (x : ℕ). is_in (type_at b x) block_types) e ∙ ap (λ (t : ℕ). is_in t block_types) (is_a-type b records vvr_type leaf.place p)
+  | inr p ↦ ap (λ (x : ℕ). is_in (type_at b x) block_types) e ∙ ap (λ (t : ℕ). is_in t block_types) (is_a-type b records cvvr_type leaf.place p)
+]
+blocks_typed b records vdr (leaf ∷ more) f m (inr i) = blocks_typed b records vdr more f.1 m i
+
+find_none : (leaves : List Leaf) (p : ℕ) → (In p (places_of leaves) → ⊥) → find (λ (leaf : Leaf). leaf.place == p) leaves ≡ None
+find_none [] p out = refl
+find_none (leaf ∷ more) p out = rw (ne_eqb leaf.place p (λ e. out (inl (sym e)))) (find_none more p (λ i. out (inr i)))
+
+abbrev in_leaf : Option Leaf → Option Range
+in_leaf None = None
+in_leaf (Some leaf) = Some (range leaf.first leaf.last)
+
+abbrev range_in : ℕ → Option VariableShape → Option Range
+range_in place None = None
+range_in place (Some v) = in_leaf (find (λ (leaf : Leaf). leaf.place == place) (leaves_of v.index))
+
+-- of a record that is no block, by its type
+abbrev by_type : Kind → ℕ → Allowance
+by_type kind type = if type == vdr_type kind then Only (vdr_max_rec ∷ vdr_vxr_head ∷ vdr_vxr_tail ∷ []) else (if type == vxr_type then Anything else Only [])
+
+by_types : (kind : Kind) → (by_type kind vxr_type ≡ Anything) × (by_type kind cpr_type ≡ Only []) × (by_type kind (vdr_type kind) ≡ Only (vdr_max_rec ∷ vdr_vxr_head ∷ vdr_vxr_tail ∷ [])) × (is_in (vdr_type kind) block_types ≡ false)
+by_types R = (refl, refl, refl, refl)
+by_types Z = (refl, refl, refl, refl)
+
+module _ {b : List ℕ} {kind : Kind} {before : List VariableShape} {own : VariableShape} {after : List VariableShape} (good : Good b) (at : StandsAmong b kind before own after) (r : ℕ) where
+  abbrev found : Found
+  found = found_in b kind before own
+
+  abbrev pub own_may : ℕ → Allowance
+  own_may m = (put_changes b (shape b) found r).variables kind (length before) m
+
+  abbrev by_range : ℕ → Option Range → Allowance
+  by_range m None = by_type kind (type_at b m)
+  by_range m (Some rg) = anything_if (is_rewritten (variable_of b own) r rg)
+
+  there : slice_get (shapes_of (shape b) kind) (length before) ≡ Some own
+  there = ap (λ (vs : List VariableShape). slice_get vs (length before)) at.was ∙ got-middle before own after
+
+  ranged : (m : ℕ) (o : Option Leaf) → find (λ (leaf : Leaf). leaf.place == m) (leaves_of own.index) ≡ o → range_at (shape b) found m ≡ in_leaf o
+  ranged m o e = ap (range_in m) there ∙ ap in_leaf e
+
+  allowed : (m : ℕ) (o : Option Range) → range_at (shape b) found m ≡ o → own_may m ≡ by_range m o
+  allowed m o e =
+      let same : same_kind kind kind ≡ true = same_as_itself kind in
+      let number : (length before == length before) ≡ true = eq-eqb (length before) (length before) refl in
+      λ i. if same i then (if number i then by_range m (e i) else only_of b m (vdr_type kind) []) else Only []
+
+  -- a record of another type is no block
+  no_block_of : (m type : ℕ) → type_at b m ≡ type → is_in type block_types ≡ false → In m (places_of (leaves_of own.index)) → ⊥
+  no_block_of m type t none i = true≢false (sym (blocks_typed b (shape b).records own.vdr (leaves_of own.index) (fits good at).2 m i) ∙ ap (λ (x : ℕ). is_in x block_types) t ∙ none)
+
+  typed_allowed : (m type : ℕ) → type_at b m ≡ type → is_in type block_types ≡ false → own_may m ≡ by_type kind type
+  typed_allowed m type t none = allowed m None (ranged m None (find_none (leaves_of own.index) m (no_block_of m type t none))) ∙ ap (by_type kind) t
+
+  pub descriptor_allowed : own_may own.vdr ≡ Only (vdr_max_rec ∷ vdr_vxr_head ∷ vdr_vxr_tail ∷ [])
+  descriptor_allowed = typed_allowed own.vdr (vdr_type kind) (typed good at ∙ kind_type kind) (by_types kind).3 ∙ (by_types kind).2
+
+  pub node_typed : (m : ℕ) → In m (nodes_of own.index) → type_at b m ≡ vxr_type
+  node_typed m i = linkable-type b (shape b).records vxr_type m (nodes_stand b (shape b).records 8 own.index (has good at).indexed.has_nodes m i)
+
+  pub node_allowed : (m : ℕ) → In m (nodes_of own.index) → own_may m ≡ Anything
+  node_allowed m i = typed_allowed m vxr_type (node_typed m i) refl ∙ (by_types kind).0
+
+  pub parameters_allowed : (m : ℕ) → In m own.cpr → own_may m ≡ Only []
+  parameters_allowed m i = typed_allowed m cpr_type (is_a-type b (shape b).records cpr_type m (Each-in (λ x. is_a b (shape b).records cpr_type x ≡ true) own.cpr (fits good at).3 m i)) refl ∙ (by_types kind).1
+
+  pub block_allowed : (l : Leaf) → IsOneOf (leaves_of own.index) l → own_may l.place ≡ anything_if (is_rewritten (variable_of b own) r (range l.first l.last))
+  block_allowed l i = allowed l.place (Some (range l.first l.last)) (ranged l.place (Some l) (find_place (leaves_of own.index) (leaves_apart good at) l i))
+
+-- of the records of the variable into which is put, of unused ones, and of all others
+pub record PutKeeps (b now : List ℕ) (kind : Kind) (before : List VariableShape) (own : VariableShape) (after : List VariableShape) (r : ℕ) (acts : List Act) : Type 0 where
+  pub cdr : Stays b now 8 []
+  pub gdr : Stays b now (shape b).gdr (r_max_rec_field kind ++ space_fields)
+  pub attributes : (m : ℕ) → In m (all_attribute_records (shape b)) → Stays b now m []
+  pub in_front : (m : ℕ) → In m (flat_map variable_records before) → Stays b now m []
+  pub behind : (m : ℕ) → In m (flat_map variable_records after) → Stays b now m []
+  pub others : (m : ℕ) → In m (flat_map variable_records (shapes_of (shape b) (other_kind kind))) → Stays b now m []
+  pub mine : (m : ℕ) → In m (variable_records own) → Keeps b now m ((put_changes b (shape b) (found_in b kind before own) r).variables kind (length before) m)
+  pub unused : (m : ℕ) → In m (unused_records b (shape b)) → Keeps b now m (unused_allowance b (shape b) acts m)
+
+-- ---- lists of records with one owner
+
+pub AllKeep-split : (b now : List ℕ) (may : Allowances) (acts : List Act) (xs ys : List (ℕ × Owner)) → AllKeep b now may acts (xs ++ ys) → AllKeep b now may acts xs × AllKeep b now may acts ys
+AllKeep-split b now may acts [] ys k = (tt, k)
+AllKeep-split b now may acts ((place, owner) ∷ xs) ys k = let more = AllKeep-split b now may acts xs ys k.1 in ((k.0, more.0), more.1)
+
+pub kept_place : (b now : List ℕ) (may : Allowances) (acts : List Act) (owner : Owner) (places : List ℕ) → AllKeep b now may acts (owned_by owner places) → (m : ℕ) → In m places → Keeps b now m (allowance b (shape b) may acts m owner)
+kept_place b now may acts owner [] k m i = absurd i
+kept_place b now may acts owner (p ∷ places) k m (inl q) = subst (λ (x : ℕ). Keeps b now x (allowance b (shape b) may acts x owner)) (sym q) k.0
+kept_place b now may acts owner (p ∷ places) k m (inr i) = kept_place b now may acts owner places k.1 m i
+
+variables-append : (kind : Kind) (n : ℕ) (xs ys : List VariableShape) → owned_by_variables kind n (xs ++ ys) ≡ owned_by_variables kind n xs ++ owned_by_variables kind (n + length xs) ys
+variables-append kind n [] ys = let same : n ≡ n + 0 = omega arith in ap (λ (k : ℕ). owned_by_variables kind k ys) same
+variables-append kind n (x ∷ xs) ys =
+    let next : suc n + length xs ≡ n + suc (length xs) = omega arith in
+    ap (λ (r : List (ℕ × Owner)). owned_by (OneVariable kind n) (variable_records x) ++ r) (variables-append kind (suc n) xs ys ∙ ap (λ (k : ℕ). owned_by_variables kind (suc n) xs ++ owned_by_variables kind k ys) next)
+    ∙ sym (append_assoc (owned_by (OneVariable kind n) (variable_records x)) (owned_by_variables kind (suc n) xs) (owned_by_variables kind (n + length (x ∷ xs)) ys))
+
+module _ (b now : List ℕ) (kind : Kind) (before : List VariableShape) (own : VariableShape) (after : List VariableShape) (r : ℕ) (acts : List Act) (at : StandsAmong b kind before own after) where
+  abbrev s : Shape
+  s = shape b
+
+  abbrev pub may : Allowances
+  may = put_changes b s (found_in b kind before own) r
+
+  -- the other variables of the kind, and those of the other kind
+  beside_may : (k : ℕ) → (length before ≡ k → ⊥) → (m : ℕ) → may.variables kind k m ≡ Only []
+  beside_may k ne m =
+      let same : same_kind kind kind ≡ true = same_as_itself kind in
+      let other : (length before == k) ≡ false = ne_eqb (length before) k ne in
+      rw (same, other) (by (type_at b m == vdr_type kind))
+    where
+      by : (p : Bool) → (if p then Only [] else Only []) ≡ Only []
+      by true = refl
+      by false = refl
+
+  other_may : (k m : ℕ) → may.variables (other_kind kind) k m ≡ Only []
+  other_may k m = let other = apart kind in rw other refl
+    where
+      apart : (kind : Kind) → same_kind kind (other_kind kind) ≡ false
+      apart R = refl
+      apart Z = refl
+
+  -- variables of which each record stays
+  numbered : (of : Kind) (n : ℕ) (vs : List VariableShape) → ((k m : ℕ) → n ≤ k → k < n + length vs → may.variables of k m ≡ Only []) → ((m : ℕ) → In m (flat_map variable_records vs) → Stays b now m []) → AllKeep b now may acts (owned_by_variables of n vs)
+  numbered of n [] none st = tt
+  numbered of n (v ∷ vs) none st =
+      AllKeep-append b now may acts (owned_by (OneVariable of n) (variable_records v)) (owned_by_variables of (suc n) vs)
+      (keep_places b now may acts (OneVariable of n) (variable_records v) (λ m i. subst (Keeps b now m) (sym (none n m (omega arith) (omega arith))) (st m (In-append_left m (variable_records v) (flat_map variable_records vs) i))))
+      (numbered of (suc n) vs (λ k m low high. none k m (omega arith) (omega arith)) (λ m i. st m (In-append_right m (variable_records v) (flat_map variable_records vs) i)))
+
+  numbered_stay : (of : Kind) (n : ℕ) (vs : List VariableShape) → ((k m : ℕ) → n ≤ k → k < n + length vs → may.variables of k m ≡ Only []) → AllKeep b now may acts (owned_by_variables of n vs) → (m : ℕ) → In m (flat_map variable_records vs) → Stays b now m []
+  numbered_stay of n [] none k m i = absurd i
+  numbered_stay of n (v ∷ vs) none k m i =
+      let parts = AllKeep-split b now may acts (owned_by (OneVariable of n) (variable_records v)) (owned_by_variables of (suc n) vs) k in
+      elim (In-append m (variable_records v) (flat_map variable_records vs) i) [
+        | inl j ↦ subst (Keeps b now m) (none n m (omega arith) (omega arith)) (kept_place b now may acts (OneVariable of n) (variable_records v) parts.0 m j)
+        | inr j ↦ numbered_stay of (suc n) vs (λ x p low high. none x p (omega arith) (omega arith)) parts.1 m j
+      ]
+
+  attributes_keep : (n : ℕ) (as_ : List AttributeShape) → ((m : ℕ) → In m (flat_map attribute_records as_) → Stays b now m []) → AllKeep b now may acts (owned_by_attributes n as_)
+  attributes_keep n [] st = tt
+  attributes_keep n (a ∷ as_) st =
+      AllKeep-append b now may acts (owned_by (OneAttribute n) (attribute_records a)) (owned_by_attributes (suc n) as_)
+      (keep_places b now may acts (OneAttribute n) (attribute_records a) (λ m i. st m (In-append_left m (attribute_records a) (flat_map attribute_records as_) i)))
+      (attributes_keep (suc n) as_ (λ m i. st m (In-append_right m (attribute_records a) (flat_map attribute_records as_) i)))
+
+  attributes_stay : (n : ℕ) (as_ : List AttributeShape) → AllKeep b now may acts (owned_by_attributes n as_) → (m : ℕ) → In m (flat_map attribute_records as_) → Stays b now m []
+  attributes_stay n [] k m i = absurd i
+  attributes_stay n (a ∷ as_) k m i =
+      let parts = AllKeep-split b now may acts (owned_by (OneAttribute n) (attribute_records a)) (owned_by_attributes (suc n) as_) k in
+      elim (In-append m (attribute_records a) (flat_map attribute_records as_) i) [
+        | inl j ↦ kept_place b now may acts (OneAttribute n) (attribute_records a) parts.0 m j
+        | inr j ↦ attributes_stay (suc n) as_ parts.1 m j
+      ]
+
+  front_may : (k m : ℕ) → 0 ≤ k → k < 0 + length before → may.variables kind k m ≡ Only []
+  front_may k m low high = beside_may k (λ e. absurd (omega arith)) m
+
+  behind_may : (k m : ℕ) → suc (length before) ≤ k → k < suc (length before) + length after → may.variables kind k m ≡ Only []
+  behind_may k m low high = beside_may k (λ e. absurd (omega arith)) m
+
+  -- ---- all of them
+
+  pub all_kept : IsSound b s → PutKeeps b now kind before own after r acts → AllKeep b now may acts (owned b s)
+  all_kept sound k =
+      let parts = keep_variable_parts b now may acts kind before own after at.was (numbered kind 0 before front_may k.in_front) (keep_places b now may acts (OneVariable kind (length before)) (variable_records own) k.mine)
+      (numbered kind (suc (length before)) after behind_may k.behind) in
+      let both = keep_kinds b now may acts kind parts (numbered (other_kind kind) 0 (shapes_of s (other_kind kind)) (λ n m low high. other_may n m) k.others) in
+      keep_all b now may acts (keep_file b now may acts sound k.cdr k.gdr) (attributes_keep 0 s.attributes k.attributes) both.0 both.1 (keep_places b now may acts Unused (unused_records b s) k.unused)
+
+  of_kinds : (kind : Kind) → AllKeep b now may acts (owned_by_variables R 0 s.r_variables) → AllKeep b now may acts (owned_by_variables Z 0 s.z_variables)
+      → AllKeep b now may acts (owned_by_variables kind 0 (shapes_of s kind)) × AllKeep b now may acts (owned_by_variables (other_kind kind) 0 (shapes_of s (other_kind kind)))
+  of_kinds R r z = (r, z)
+  of_kinds Z r z = (z, r)
+
+  gdr_apart : IsSound b s → (s.gdr == 8) ≡ false
+  gdr_apart sound =
+      let h = sound.has_shape in
+      elim (either (s.gdr == 8)) [
+        | inl e ↦ absurd (apart gdr_type cdr_type refl (sym (is_a-type b s.records gdr_type s.gdr h.gdr_stands) ∙ ap (type_at b) (eqb-true s.gdr 8 e) ∙ is_a-type b s.records cdr_type 8 h.cdr_stands))
+        | inr e ↦ e
+      ]
+
+  pub put_keeps : IsSound b s → AllKeep b now may acts (owned b s) → PutKeeps b now kind before own after r acts
+  put_keeps sound all =
+      let fs = owned_by File (8 ∷ s.gdr ∷ []) in
+      let as_ = owned_by_attributes 0 s.attributes in
+      let rs = owned_by_variables R 0 s.r_variables in
+      let zs = owned_by_variables Z 0 s.z_variables in
+      let four = AllKeep-split b now may acts (fs ++ as_ ++ rs ++ zs) (owned_by Unused (unused_records b s)) all in
+      let three = AllKeep-split b now may acts (fs ++ as_ ++ rs) zs four.0 in
+      let two = AllKeep-split b now may acts (fs ++ as_) rs three.0 in
+      let one = AllKeep-split b now may acts fs as_ two.0 in
+      let kinds = of_kinds kind two.1 three.1 in
+      let split = AllKeep-split b now may acts (owned_by_variables kind 0 before) (owned_by_variables kind (length before) (own ∷ after)) (subst (AllKeep b now may acts) numbers kinds.0) in
+      let mine = AllKeep-split b now may acts (owned_by (OneVariable kind (length before)) (variable_records own)) (owned_by_variables kind (suc (length before)) after) split.1 in
+      record {
+        cdr = one.0.0;
+        gdr = subst (λ (p : Bool). Keeps b now s.gdr (if p then may.cdr else may.gdr)) (gdr_apart sound) one.0.1.0;
+        attributes = attributes_stay 0 s.attributes one.1;
+        in_front = numbered_stay kind 0 before front_may split.0;
+        behind = numbered_stay kind (suc (length before)) after behind_may mine.1;
+        others = numbered_stay (other_kind kind) 0 (shapes_of s (other_kind kind)) (λ n m low high. other_may n m) kinds.1;
+        mine = kept_place b now may acts (OneVariable kind (length before)) (variable_records own) mine.0;
+        unused = kept_place b now may acts Unused (unused_records b s) four.1;
+      }
+    where
+      numbers : owned_by_variables kind 0 (shapes_of s kind) ≡ owned_by_variables kind 0 before ++ owned_by_variables kind (length before) (own ∷ after)
+      numbers = ap (owned_by_variables kind 0) at.was ∙ variables-append kind 0 before (own ∷ after) ∙ ap (λ (k : ℕ). owned_by_variables kind 0 before ++ owned_by_variables kind k (own ∷ after)) (let same : 0 + length before ≡ length before = omega arith in same)
+
+-- the descriptor stays where all but MaxRec, VXRhead and VXRtail of it does
+pub stays : {b now : List ℕ} {kind : Kind} {before : List VariableShape} {own : VariableShape} {after : List VariableShape} → Good b → StandsAmong b kind before own after → DescriptorStays b now own.vdr → VdrStays b now own.vdr
+stays {b = b} {now = now} {own = own} good at d = record {
+  typed = d.type_is;
+  type = Same-part b now own.vdr (own.vdr + 24) (own.vdr + 20) (own.vdr + 24) d.front (omega arith) (omega arith);
+  behind = d.behind;
+  inside = (tile_lies b 8 (length b) (shape b).records own.vdr (good_is_sound b good).has_shape.tiled (tile good at)).high;
+  end = (fits good at).0;
+}
+
+pub record_stays : {b now : List ℕ} {kind : Kind} {before : List VariableShape} {own : VariableShape} {after : List VariableShape} → Good b → StandsAmong b kind before own after → FileSame b now → DescriptorStays b now own.vdr → record_bytes now own.vdr ≡ record_bytes b own.vdr
+record_stays good at file d = record_alike file (stays_alike file (stays good at d))
+
+module _ {b now : List ℕ} {kind : Kind} {before : List VariableShape} {own own' : VariableShape} {after : List VariableShape} {r : ℕ} {acts : List Act} (good : Good b) (at : StandsAmong b kind before own after) (goes : GoesOn b now kind before own own' after r acts) where
+  -- the same, of the variable with its later index
+  pub later_size : record_bytes now own'.vdr ≡ record_bytes b own.vdr
+  later_size = ap (record_bytes now) goes.vdr_is ∙ record_stays good at goes.file goes.descriptor
+
+  pub later_packed : is_compressed now own'.vdr ≡ is_compressed b own.vdr
+  later_packed = ap (is_compressed now) goes.vdr_is ∙ packed_stays goes.file (stays good at goes.descriptor)
 
 abbrev links : List Field
 links = uir_next_uir ∷ uir_prev_uir ∷ []
@@ -116,20 +360,10 @@ module _ {b mid now : List ℕ} {kind : Kind} {before : List VariableShape} {own
         behind = record { each = λ p l u. e.behind.each p l (subst (λ (n : ℕ). p < own.vdr + n) (sym size) u) ∙ d.behind.each p l u };
       }
 
-  sparse_same : sparse_at mid own'.vdr ≡ sparse_at b own.vdr
-  sparse_same =
-      let wide = long good at in
-      let kept : number mid own.vdr vdr_s_records ≡ number b own.vdr vdr_s_records = word_kept b mid (own.vdr + 44) (own.vdr + size_at b own.vdr) first.descriptor.behind (own.vdr + 48) 4 (omega arith) (omega arith) in
-      ap (sparse_at mid) first.vdr_is ∙ ap (λ (n : ℕ). if n == 0 then NoRule else (if n == 1 then Pad else Previous)) kept
-
-  max_rec_same : max_rec_at mid own'.vdr ≡ max_rec_at b own.vdr
-  max_rec_same = ap (max_rec_at mid) first.vdr_is ∙ ap (cast_signed w32) max_rec_is
-
   rewritten_same : (rg : Range) → is_rewritten (variable_of mid own') r rg ≡ is_rewritten (variable_of b own) r rg
   rewritten_same rg =
-      let sparse = sparse_same in
-      let max_rec = max_rec_same in
-      λ i. is_rewritten (record (variable_of b own) { sparse = sparse i; max_rec = max_rec i }) r rg
+      let max_rec = ap (λ (n : ℕ). cast_signed w32 n) max_rec_is in
+      ap (λ (x : Variable). is_rewritten x r rg) (variable_stays first.file own own' (stays good at first.descriptor) first.vdr_is) ∙ (λ i. is_rewritten (record (variable_of b own) { max_rec = max_rec i }) r rg)
 
   -- ---- the records of the variable
 
@@ -224,11 +458,7 @@ module _ {b mid now : List ℕ} {kind : Kind} {before : List VariableShape} {own
 
   set_twice : (v' v'' : Variable) → slice_set (slice_set (variables_of (content b) kind) (length before) v') (length before) v'' ≡ slice_set (variables_of (content b) kind) (length before) v''
   set_twice v' v'' =
-      let split : variables_of (content b) kind ≡ map (variable_of b) before ++ variable_of b own ∷ map (variable_of b) after =
-      ap (λ (d : DataSet). variables_of d kind) (content_is b (shape b) sound.has_shape) ∙ variables_of_are b (shape b) kind ∙ ap (map (variable_of b)) at.was ∙ map-append (variable_of b) before (own ∷ after) in
-      let n = length-map before (variable_of b) in
-      let set = λ (v : Variable). ap (λ (vs : List Variable). slice_set vs (length before) v) split ∙ set_at (map (variable_of b) before) (variable_of b own) (map (variable_of b) after) v (length before) n in
-      ap (λ (vs : List Variable). slice_set vs (length before) v'') (set v') ∙ set_at (map (variable_of b) before) v' (map (variable_of b) after) v'' (length before) n ∙ sym (set v'')
+      ap (λ (vs : List Variable). slice_set vs (length before) v'') (set_is good at v') ∙ set_at (map (variable_of b) before) v' (map (variable_of b) after) v'' (length before) (length-map before (variable_of b)) ∙ sym (set_is good at v'')
 
   content_twice : content now ≡ with_variables (content b) kind (slice_set (variables_of (content b) kind) (length before) (variable_of now own''))
   content_twice =
@@ -269,3 +499,39 @@ module _ {b mid now : List ℕ} {kind : Kind} {before : List VariableShape} {own
 pub goes_then : {b mid now : List ℕ} {kind : Kind} {before : List VariableShape} {own own' own'' : VariableShape} {after : List VariableShape} {r : ℕ} {acts acts' : List Act} → Good b → StandsAmong b kind before own after → GoesOn b mid kind before own own' after r acts → GoesOn mid now kind before own' own'' after r acts' → OnlyTakes acts → OnlyTakes acts'
     → number mid own.vdr vdr_max_rec ≡ number b own.vdr vdr_max_rec → ((l : Leaf) → IsOneOf (leaves_of own.index) l → IsOneOf (leaves_of own'.index) l) → GoesOn b now kind before own own'' after r (acts ++ acts')
 goes_then good at first second takes takes' max_rec stay = going (passes_then good at first (passes second) takes takes' max_rec stay) (second.r_max_rec_is ∙ first.r_max_rec_is)
+
+module _ {b now : List ℕ} {kind : Kind} {before : List VariableShape} {own : VariableShape} {after : List VariableShape} {ts : List Touch} (good : Good b) (at : StandsAmong b kind before own after) (w : WritesRecords b now kind own ts) where
+  descriptor_stays : DescriptorStays b now own.vdr
+  descriptor_stays = record {
+    size_is = size_same good at w own.vdr (tile good at);
+    type_is = type_same good at w own.vdr (tile good at);
+    front = record { each = λ i low up. (part good at w 0 24 (inl (omega arith)) (let n = long good at in omega arith)).each i (omega arith) up };
+    behind = part good at w 44 (size_at b own.vdr) (inr (omega arith)) (omega arith);
+  }
+
+  -- each block that is written may be
+  pub passes_written : Good now → (r : ℕ) → ((m : ℕ) → In m (map (λ (t : Touch). t.tile) ts) → (l : Leaf) × ((find (λ (leaf : Leaf). leaf.place == m) (leaves_of own.index) ≡ Some l) × (is_rewritten (variable_of b own) r (range l.first l.last) ≡ true))) → Passes b now kind before own own after r []
+  passes_written still r rewritten =
+      let same = same_shape good at w in
+      record {
+        good = still;
+        among = record { was = ap (λ (x : Shape). shapes_of x kind) same ∙ at.was };
+        vdr_is = refl;
+        cpr_is = refl;
+        own_stay = λ m i. i;
+        gdr_is = ap (λ (x : Shape). x.gdr) same;
+        attributes_are = ap (λ (x : Shape). x.attributes) same;
+        others_are = ap (λ (x : Shape). shapes_of x (other_kind kind)) same;
+        descriptor = descriptor_stays;
+        file = file good at w;
+        content_is = content_replaced good at w;
+        follow = no_acts_follow good at w;
+        keep = all_keep_put good at w (found_in b kind before own) refl refl r rewritten;
+      }
+
+-- where nothing is written
+pub goes_nowhere : {b : List ℕ} {kind : Kind} {before : List VariableShape} {own : VariableShape} {after : List VariableShape} → Good b → StandsAmong b kind before own after → (r : ℕ) → GoesOn b b kind before own own after r []
+goes_nowhere {b = b} {kind = kind} {own = own} good at r = going (passes_written good at nothing good r (λ m i. absurd i)) refl
+  where
+    nothing : WritesRecords b b kind own []
+    nothing = record { changed = record { longer = omega arith; same = λ place l o. refl }; as_long = refl; in_blocks = tt; max_rec_ruled = (own_rules good at).0.1.1.1.1.1.1.1.0 }

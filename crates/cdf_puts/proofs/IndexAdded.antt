@@ -1,56 +1,28 @@
--- The index once a leaf is added: which leaves were put by then, which ranges are new, the top chain and the nodes.
-use Rattle.std.proofs.Common.{◌≡◌, ◌⊎◌, ℕ, zero, suc, ◌+◌, ◌*◌, ◌<◌, ◌≤◌, List, [], ◌∷◌, ◌++◌, length, map, Bool, true, false, not, ◌||◌, None, bytes_eq, refl, sym, ap, subst, ◌∙◌, arith, inl, inr}
-use Rattle.cdf_puts.proofs.Common.{cases_lt, lt-ltb, le-ltb, lt-leb, filter, list_any, unwrap_or, min, max, nat_le, if◌then◌else◌, extent, record_number_limit, Kind, new_ranges, Range, range, covers, ranges_of, first_written, firsts_of, new_range, with_leaf, new_room, with_ranges, indexes_with, outline, is_taken_at, block_need, uses_entry, NodesFollow, top_chain, last_node, Act, IsOneOf, in_order, Ascending, count_is, leaves_ascend, StandsAmong, sound, has, variable_of, number, Leaf, leaf, leaves_of, nodes_of, vdr_vxr_tail, VariableShape, shape, In, max_rec_at, record_bytes, records_of_leaf, Good, either, tile_lies, LeafAdded, NodeTaken, leaf_acts, with_new, leaves_more, BlockRecords, SoFar, IndexSoFar, NodesSoFar, NewBlock, PutsBefore, was_put, IsVacant, IsBlockBody, before_limit}
+-- A leaf is added while records are put: the blocks of the variable, which leaves were put by then, which ranges are new, the top chain and the nodes.
+use Rattle.std.proofs.Common.{◌≡◌, ◌⊎◌, ℕ, zero, suc, ◌+◌, ◌-◌, ◌*◌, ◌<◌, ◌≤◌, List, [], ◌∷◌, ◌++◌, length, take, drop, Bool, true, false, Some, None, find, ◌||◌, refl, sym, ap, subst, ◌∙◌, arith, inl, inr, map, not, bytes_eq}
+use Rattle.cdf_puts.proofs.Common.{cases_lt, lt-ltb, same_Some, min, extent, record_number_limit, Kind, range, covers, first_written, firsts_of, new_range, with_leaf, new_room, is_taken_at, Act, IsOneOf, find_covering, place_in, plain_piece, count_is, own_rules, leaves_ascend, block_behind, StandsAmong, sound, behind_in, apart, Same, variable_of, plain_bytes, size_at, Leaf, leaf, leaves_of, uir_type, vvr_type, VariableShape, shape, In, max_rec_at, record_bytes, Good, tile_lies, LeafAdded, leaf_acts, InOrder, BlockRecords, SoFar, BlocksSoFar, OldBlock, NewBlock, IsVacant, IsBlockBody, BlocksGoOn, index_order, before_limit, vdr_alike, record_alike, lt-leb, map-append, filter, list_any, unwrap_or, nat_le, if◌then◌else◌, new_ranges, Range, ranges_of, with_ranges, indexes_with, outline, block_need, uses_entry, NodesFollow, top_chain, last_node, in_order, Ascending, has, number, nodes_of, vdr_vxr_tail, records_of_leaf, either, bytes_eq-same, NodeTaken, with_new, leaves_more, IndexSoFar, NodesSoFar, PutsBefore, was_put}
+use Rattle.cdf_edits.proofs.Edits.LeafPieces.{of_each}
+use Rattle.cdf_puts.proofs.CoveringRanges.{one_alone, of_leaves}
+use Rattle.cdf_puts.proofs.LeafCounts.{leaf_added, leaf_stays, leaf_was_there}
+use Rattle.cdf_puts.proofs.LeafEdit.{block_taken, file, index_edit, used_apart, node_in, node_taken, nodes_step}
+use Rattle.cdf_puts.proofs.LeafGood.{blocks_go_on, plain_body}
+use Rattle.cdf_puts.proofs.PutBytes.{size_now, now_plain, old_plain, old_goes_on, new_goes_on}
+use Rattle.cdf_puts.proofs.PutNodes.{taken_first, taken_then, taken_neither, NodesStep, nodes_then, taken_both, or_false, place_outside, same_with_leaf, same_uses, with_one_more, last_of_through, through_stays, top_grows, bytes_longer}
 use Rattle.std.specs.List.{last_or}
 use Rattle.cdf_puts.specs.SoFar.{TopGrows, taken_places}
-use Rattle.cdf_puts.proofs.BlocksAdded.{order, beside_new}
-use Rattle.cdf_puts.proofs.LeafEdit.{node_in}
-use Rattle.cdf_puts.proofs.LeafOutlines.{same_with_leaf, same_uses, with_one_more, last_of_through, through_stays, top_grows, bytes_same, bytes_longer}
-use Rattle.cdf_puts.proofs.NodesAdded.{nodes_step, node_taken}
-use Rattle.cdf_puts.proofs.PutLeaves.{put_new, none_begins, puts_new}
-use Rattle.cdf_puts.proofs.PutNodes.{NodesStep, nodes_then, taken_both, taken_first, taken_then, taken_neither}
-use Rattle.cdf_puts.proofs.SoFarStarts.{covers_own}
+use Rattle.cdf_puts.proofs.SoFarStarts.{one_more, put_new, none_begins, puts_new, covers_own}
 
 -- ---- the ranges that are new
 
-abbrev of_leaves : List Leaf → List Range
-of_leaves leaves = map (λ (x : Leaf). range x.first x.last) leaves
-
-none_from : (test : Range → Bool) (k low upto : ℕ) (leaves : List Leaf) → Ascending low upto leaves → k < low → ((l : Leaf) → IsOneOf leaves l → k < l.first → test (range l.first l.last) ≡ false) → filter test (of_leaves leaves) ≡ []
-none_from test k low upto [] a lt old = refl
-none_from test k low upto (x ∷ more) a lt old =
-    let a0 = a.0 in
-    let a1 = a.1 in
-    let here = old x (inl refl) (omega arith) in
-    rw here (none_from test k (suc x.last) upto more a.3 (omega arith) (λ l i. old l (inr i)))
-
-one_more_range : (test : Range → Bool) (low upto : ℕ) (leaves : List Leaf) (new : Leaf) → Ascending low upto leaves → test (range new.first new.last) ≡ true → ((l : Leaf) → IsOneOf leaves l → new.first < l.first → test (range l.first l.last) ≡ false)
-    → filter test (of_leaves (with_new new leaves)) ≡ filter test (of_leaves leaves) ++ range new.first new.last ∷ []
-one_more_range test low upto [] new a is old = rw is refl
-one_more_range test low upto (x ∷ more) new a is old = elim (cases_lt new.first x.first) [
-  | inl lt ↦
-      let here = lt-ltb new.first x.first lt in
-      let none = none_from test new.first x.first upto (x ∷ more) (same x.first, a.1, a.2, a.3) lt old in
-      rw (here, is) (ap (λ (rs : List Range). range new.first new.last ∷ rs) none ∙ ap (λ (rs : List Range). rs ++ range new.first new.last ∷ []) (sym none))
-  | inr le ↦
-      let here = le-ltb new.first x.first le in
-      let rest = one_more_range test (suc x.last) upto more new a.3 is (λ l i. old l (inr i)) in
-      elim (either (test (range x.first x.last))) [
-        | inl t ↦ rw (here, t) (ap (λ (rs : List Range). range x.first x.last ∷ rs) rest)
-        | inr t ↦ rw (here, t) rest
-      ]
-]
-  where
-    same : (n : ℕ) → n ≤ n
-    same n = omega arith
+filter_mapped : {X Y : Type 0} (f : X → Y) (test : Y → Bool) (xs : List X) → filter test (map f xs) ≡ map f (filter (λ x. test (f x)) xs)
+filter_mapped f test [] = refl
+filter_mapped f test (x ∷ xs) = elim (either (test (f x))) [ inl t ↦ rw t (ap (λ ys. f x ∷ ys) (filter_mapped f test xs)) | inr t ↦ rw t (filter_mapped f test xs) ]
 
 none_covers : (k : ℕ) (leaves : List Leaf) → ((l : Leaf) → IsOneOf leaves l → (l.last < k) ⊎ (k < l.first)) → list_any (covers k) (of_leaves leaves) ≡ false
 none_covers k [] f = refl
-none_covers k (x ∷ more) f = let here = out (f x (inl refl)) in rw here (none_covers k more (λ l i. f l (inr i)))
-  where
-    out : (x.last < k) ⊎ (k < x.first) → covers k (range x.first x.last) ≡ false
-    out (inl lt) = elim (either (nat_le x.first k)) [ inl t ↦ rw (t, lt-leb k x.last lt) refl | inr t ↦ rw t refl ]
-    out (inr lt) = rw (lt-leb x.first k lt) refl
+none_covers k (x ∷ more) f =
+    let rest = none_covers k more (λ l i. f l (inr i)) in
+    elim (f x (inl refl)) [ inl lt ↦ elim (either (nat_le x.first k)) [ inl t ↦ rw (t, lt-leb k x.last lt) rest | inr t ↦ rw t rest ] | inr lt ↦ rw (lt-leb x.first k lt) rest ]
 
 -- ---- the top chain
 
@@ -58,26 +30,17 @@ abbrev last_of : List ℕ → ℕ
 last_of xs = unwrap_or (last_or None xs) 0
 
 tail_then : (x y z : List ℕ) (first mid last : ℕ) → (y ≡ x) ⊎ (length x < length y) → (z ≡ y) ⊎ (length y < length z) → mid ≡ (if bytes_eq x y then first else last_of y) → last ≡ (if bytes_eq y z then mid else last_of z) → last ≡ (if bytes_eq x z then first else last_of z)
-tail_then x y z first mid last (inl e) (inl f) p q =
-    let s = bytes_same x in
-    let y' = e in
-    let z' : z ≡ x = f ∙ e in
-    let p' : mid ≡ first = subst (λ (c : Bool). mid ≡ (if c then first else last_of y)) (ap (bytes_eq x) y' ∙ s) p in
-    let q' : last ≡ mid = subst (λ (c : Bool). last ≡ (if c then mid else last_of z)) (ap (bytes_eq y) f ∙ bytes_same y) q in
-    q' ∙ p' ∙ sym (ap (λ (c : Bool). if c then first else last_of z) (ap (bytes_eq x) z' ∙ s))
-tail_then x y z first mid last (inl e) (inr lt) p q =
-    let same = ap length e in
-    subst (λ (c : Bool). last ≡ (if c then mid else last_of z)) (bytes_longer y z lt) q ∙ sym (ap (λ (c : Bool). if c then first else last_of z) (bytes_longer x z (omega arith)))
+tail_then x y z first mid last (inl e) g p q =
+    let same : mid ≡ first = p ∙ ap (λ (c : Bool). if c then first else last_of y) (ap (bytes_eq x) e ∙ bytes_eq-same x) in
+    q ∙ (λ i. if bytes_eq (e i) z then same i else last_of z)
 tail_then x y z first mid last (inr lt) (inl f) p q =
     let same = ap length f in
-    let p' : mid ≡ last_of y = subst (λ (c : Bool). mid ≡ (if c then first else last_of y)) (bytes_longer x y lt) p in
-    let q' : last ≡ mid = subst (λ (c : Bool). last ≡ (if c then mid else last_of z)) (ap (bytes_eq y) f ∙ bytes_same y) q in
-    q' ∙ p' ∙ ap last_of (sym f) ∙ sym (ap (λ (c : Bool). if c then first else last_of z) (bytes_longer x z (omega arith)))
-tail_then x y z first mid last (inr lt) (inr lt') p q = subst (λ (c : Bool). last ≡ (if c then mid else last_of z)) (bytes_longer y z lt') q ∙ sym (ap (λ (c : Bool). if c then first else last_of z) (bytes_longer x z (omega arith)))
+    rw (bytes_longer x z (omega arith))
+    (q ∙ ap (λ (c : Bool). if c then mid else last_of z) (ap (bytes_eq y) f ∙ bytes_eq-same y) ∙ p ∙ ap (λ (c : Bool). if c then first else last_of y) (bytes_longer x y lt) ∙ ap last_of (sym f))
+tail_then x y z first mid last (inr lt) (inr lt') p q = rw (bytes_longer x z (omega arith)) (q ∙ ap (λ (c : Bool). if c then mid else last_of z) (bytes_longer y z lt'))
 
 top_then : (x y z : List ℕ) → (y ≡ x) ⊎ (length x < length y) → (z ≡ y) ⊎ (length y < length z) → (z ≡ x) ⊎ (length x < length z)
-top_then x y z (inl e) (inl f) = inl (f ∙ e)
-top_then x y z (inl e) (inr lt) = let same = ap length e in inr (omega arith)
+top_then x y z (inl e) g = subst (λ (w : List ℕ). (z ≡ w) ⊎ (length w < length z)) e g
 top_then x y z (inr lt) (inl f) = let same = ap length f in inr (omega arith)
 top_then x y z (inr lt) (inr lt') = inr (omega arith)
 
@@ -94,6 +57,9 @@ module _ {b now now' : List ℕ} {kind : Kind} {before : List VariableShape} {ow
   abbrev own'' : VariableShape
   own'' = record own' { index = with_leaf new at own'.index }
 
+  abbrev size : ℕ
+  size = record_bytes b own.vdr
+
   abbrev first : ℕ
   first = first_written (variable_of b own) r
 
@@ -106,17 +72,17 @@ module _ {b now now' : List ℕ} {kind : Kind} {before : List VariableShape} {ow
   abbrev leaves : List Leaf
   leaves = leaves_of own'.index
 
+  abbrev leaves' : List Leaf
+  leaves' = leaves_of own''.index
+
   abbrev upto : ℕ
   upto = min (last + 1) (r + 1)
 
   abbrev step : List Act
   step = leaf_acts place (8 + length body) (new_room k own'.index) at
 
-  abbrev n : NodesSoFar b now own own' acts
-  n = so.index.nodes
-
-  leaves_are : leaves_of own''.index ≡ with_new new leaves
-  leaves_are = leaves_more new at 0 record_number_limit own'.index (order so more is vacant holds says w good' among')
+  order : InOrder 0 record_number_limit own'.index
+  order = index_order now (shape now).records own'.vdr own'.index (own_rules so.goes.good so.goes.among).1
 
   ascend : Ascending 0 (suc record_number_limit) leaves
   ascend = leaves_ascend so.goes.good so.goes.among
@@ -127,43 +93,142 @@ module _ {b now now' : List ℕ} {kind : Kind} {before : List VariableShape} {ow
   small : last ≤ record_number_limit
   small = before_limit k last (firsts_of own'.index) vacant.before_next
 
+  in_new : (l : Leaf) → IsOneOf leaves l → IsOneOf leaves' l
+  in_new l i = leaf_stays new at 0 record_number_limit own'.index order l i
+
+  new_in : IsOneOf leaves' new
+  new_in = leaf_added new at 0 record_number_limit own'.index order
+
+  found_at : (j : ℕ) (l : Leaf) → IsOneOf leaves' l → l.first ≤ j → j ≤ l.last → find (λ (leaf : Leaf). covers j (range leaf.first leaf.last)) leaves' ≡ Some l
+  found_at j l i f t = find_covering j 0 (suc record_number_limit) leaves' (leaves_ascend good' among') l i f t
+
+  -- a leaf that was there ends before the new one, or begins behind it
+  beside_new : (l : Leaf) → IsOneOf leaves l → l.first ≤ l.last → (l.last < k) ⊎ (last < l.first)
+  beside_new l i ordered = elim (cases_lt l.last k) [
+    | inl lt ↦ inl lt
+    | inr t ↦ elim (cases_lt last l.first) [
+      | inl lt ↦ inr lt
+      | inr g ↦ elim (cases_lt k l.first) [
+        | inl lt ↦
+            let same : l ≡ new = same_Some l new (sym (found_at l.first l (in_new l i) (omega arith) ordered) ∙ found_at l.first new new_in (omega arith) g) in
+            let e : l.first ≡ k = ap (λ (y : Leaf). y.first) same in
+            absurd (omega arith)
+        | inr f ↦ let e : None ≡ Some l = sym vacant.uncovered ∙ find_covering k 0 (suc record_number_limit) leaves ascend l i f t in absurd (cc)
+      ]
+    ]
+  ]
+
+  -- ---- their bytes
+
+  goes_on : BlocksGoOn now now' own' new records
+  goes_on = blocks_go_on so.goes.good so.goes.among w holds
+
+  size_after : record_bytes now' own'.vdr ≡ size
+  size_after = record_alike (file so.goes.good so.goes.among w) (vdr_alike so.goes.good so.goes.among (index_edit so.goes.good so.goes.among w (plain_body body records holds))) ∙ size_now so
+
+  longer : length now ≤ length now'
+  longer = (file so.goes.good so.goes.among w).longer
+
+  same : (l : Leaf) → IsOneOf leaves l → Same now now' l.place (l.place + size_at now l.place)
+  same l i = of_each (λ (l : Leaf). Same now now' l.place (l.place + size_at now l.place)) leaves l goes_on.old i
+
+  leaf_apart : (l : Leaf) → IsOneOf leaves l → is_taken_at step l.place ≡ false
+  leaf_apart l i = used_apart so.goes.good so.goes.among w l.place (behind_in so.goes.good so.goes.among l.place (block_behind own' l.place (place_in leaves l i))) (λ e. absurd (apart vvr_type uir_type refl (sym (now_plain so l i).typed ∙ e)))
+
+  more_upto : k < upto
+  more_upto = let o = vacant.ordered in omega arith
+
+  old_block : (l : Leaf) → IsOneOf olds l → OldBlock b now' raw pad r first upto size l
+  old_block l i =
+      let j = so.blocks.stay l i in
+      let x = old_plain so l i in
+      let ordered = x.ordered in
+      let o = vacant.ordered in
+      elim (beside_new l j ordered) [
+        | inl lt ↦ old_goes_on so longer l (same l j) i (let m = more_upto in omega arith) (λ j' from low f t. (omega arith))
+        | inr lt ↦ old_goes_on so longer l (same l j) i (omega arith) (λ j' from low f t. absurd (omega arith))
+      ]
+
+  new_block : NewBlock now' raw pad r first most upto size (acts ++ step) new
+  new_block = record {
+    from = so.from;
+    upto = more_upto;
+    ends = λ lt. omega arith;
+    alone = λ lt. subst (λ (n : ℕ). n ≤ r) (sym (is ∙ one_alone (variable_of b own) (firsts_of own'.index) k (lt-ltb k most (omega arith)))) more;
+    plain = refl;
+    was_taken = taken_then acts step place (block_taken place (8 + length body) (new_room k own'.index) at);
+    written = λ j f t. sym (plain_piece now' own'.vdr size j new refl small size_after f t) ∙ ap (λ (xs : List ℕ). take size (drop ((j - k) * size) xs)) plain_is ∙ says.written j f t;
+    spare = λ i low high. goes_on.spare i (subst (λ (n : ℕ). 12 + n ≤ i) (sym says.as_long) low) high;
+  }
+    where
+      plain_is : plain_bytes now' own'.vdr new ≡ records
+      plain_is =
+          let count = count_is new small vacant.ordered in
+          let bytes = size_after in
+          ap (λ (n : ℕ). take n (drop (place + 12) now')) ((λ i. count i * bytes i) ∙ sym says.as_long) ∙ goes_on.records_are
+
+  pub blocks_added : BlocksSoFar b now' own own'' raw pad r first upto (acts ++ step)
+  blocks_added = record {
+    stay = λ l i. in_new l (so.blocks.stay l i);
+    apart = λ l i. taken_neither acts step l.place (so.blocks.apart l i) (leaf_apart l (so.blocks.stay l i));
+    old = old_block;
+    new = λ l i. elim (leaf_was_there new at 0 record_number_limit own'.index order l i) [
+      | inl q ↦ inr (subst (NewBlock now' raw pad r first most upto size (acts ++ step)) (sym q) new_block)
+      | inr j ↦ elim (so.blocks.new l j) [
+        | inl o ↦ inl o
+        | inr n ↦ inr (new_goes_on so longer l (same l j) j (let m = more_upto in omega arith) (taken_first acts step l.place n.was_taken) n)
+      ]
+    ];
+    has = λ j from low. elim (cases_lt j k) [
+      | inl lt ↦ let x = so.blocks.has j from lt in (x.0, (in_new x.0 x.1.0, x.1.1))
+      | inr le ↦ (new, (new_in, (le, omega arith)))
+    ];
+    quiet = λ e. absurd (some_acts acts e);
+  }
+    where
+      some_acts : (acts : List Act) → acts ++ step ≡ [] → ⊥
+      some_acts [] e = cc
+      some_acts (x ∷ xs) e = cc
+
+  -- ---- the index
+
+  abbrev n : NodesSoFar b now own own' acts
+  n = so.index.nodes
+
+  leaves_are : leaves_of own''.index ≡ with_new new leaves
+  leaves_are = leaves_more new at 0 record_number_limit own'.index order
+
   -- ---- the leaves that were put
 
   needs : (end : List ℕ) → record_bytes end own.vdr ≡ record_bytes b own.vdr → 8 + length body ≡ block_need end own.vdr new
   needs end same =
       let count = count_is new small vacant.ordered in
       let plain : records_of_leaf new * record_bytes end own.vdr ≡ length records = (λ i. count i * same i) ∙ sym says.as_long in
-      long (length body) (length records) holds.as_long ∙ ap (λ (x : ℕ). max 28 (12 + x)) (sym plain)
-    where
-      long : (x y : ℕ) → x ≡ max 20 (4 + y) → 8 + x ≡ max 28 (12 + y)
-      long x y e = omega arith
+      let long = holds.as_long in
+      omega arith
 
   puts_added : PutsBefore b own own'' (filter (was_put first upto) (leaves_of own''.index)) (acts ++ step)
   puts_added =
-      let up : Ascending 0 (suc record_number_limit) (with_new new leaves) = subst (Ascending 0 (suc record_number_limit)) leaves_are (leaves_ascend good' among') in
-      let one = put_new first k upto 0 (suc record_number_limit) 0 (suc record_number_limit) leaves new ascend up refl so.from (later k last r vacant.ordered more) (within last r) in
+      let one = put_new first k upto 0 (suc record_number_limit) leaves new ascend (λ l i. beside_new l i (ordered l i)) refl so.from (let o = vacant.ordered in omega arith) (omega arith) in
       subst (λ (ls : List Leaf). PutsBefore b own own'' ls (acts ++ step)) (sym (ap (filter (was_put first upto)) leaves_are ∙ one))
       (puts_new b own own' (filter (was_put first k) leaves) acts new (8 + length body) at so.index.puts (none_begins k 0 (suc record_number_limit) leaves ascend vacant.uncovered) needs (no_node_zero w.filled w.roomy (new_room k own'.index) at w.node))
-    where
-      later : (k last r : ℕ) → k ≤ last → k ≤ r → k < min (last + 1) (r + 1)
-      later k last r a c = omega arith
-
-      within : (last r : ℕ) → min (last + 1) (r + 1) ≤ last + 1
-      within last r = omega arith
 
   -- ---- the ranges
 
   abbrev rs : List Range
   rs = new_ranges (ranges_of own.index) (ranges_of own'.index)
 
+  abbrev test : Range → Bool
+  test x = not (list_any (covers x.first) (ranges_of own.index))
+
   one_new : new_ranges (ranges_of own.index) (ranges_of own''.index) ≡ rs ++ range k last ∷ []
   one_new =
-      ap (λ (ls : List Leaf). new_ranges (ranges_of own.index) (of_leaves ls)) leaves_are
-      ∙ one_more_range (λ (x : Range). not (list_any (covers x.first) (ranges_of own.index))) 0 (suc record_number_limit) leaves new ascend (ap not (none_covers k olds (λ l i. out l (so.blocks.stay l i))))
-      (λ l i lt. ap not (was_there l i lt (so.blocks.new l i)))
+      let rng = λ (l : Leaf). range l.first l.last in
+      let one = one_more (λ l. test (rng l)) (λ l. test (rng l)) 0 (suc record_number_limit) leaves new ascend (ap not (none_covers k olds (λ l i. out l (so.blocks.stay l i)))) (λ l i le. refl) (λ l i lt. let e = ap not (was_there l i lt (so.blocks.new l i)) in (e, e)) in
+      ap (λ (ls : List Leaf). filter test (map rng ls)) leaves_are ∙ filter_mapped rng test (with_new new leaves) ∙ ap (map rng) one ∙ map-append rng (filter (λ l. test (rng l)) leaves) (new ∷ []) ∙ ap (λ (xs : List Range). xs ++ range k last ∷ []) (sym (filter_mapped rng test leaves))
     where
       out : (l : Leaf) → IsOneOf leaves l → (l.last < k) ⊎ (k < l.first)
-      out l i = elim (beside_new so more is vacant holds says w good' among' l i (ordered l i)) [ inl lt ↦ inl lt | inr lt ↦ inr (let o = vacant.ordered in omega arith) ]
+      out l i = elim (beside_new l i (ordered l i)) [ inl lt ↦ inl lt | inr lt ↦ inr (let o = vacant.ordered in omega arith) ]
 
       was_there : (l : Leaf) → IsOneOf leaves l → k < l.first → IsOneOf olds l ⊎ NewBlock now raw pad r first most k (record_bytes b own.vdr) acts l → list_any (covers l.first) (ranges_of own.index) ≡ true
       was_there l i lt (inl o) = covers_own olds l o (ordered l i)
@@ -175,15 +240,18 @@ module _ {b now now' : List ℕ} {kind : Kind} {before : List VariableShape} {ow
   s = nodes_step so.goes.good so.goes.among w
 
   agree : (m : ℕ) → In m (nodes_of own'.index) → is_taken_at (acts ++ step) m ≡ is_taken_at acts m
-  agree m i = taken_both acts step m ∙ ap (λ (p : Bool). is_taken_at acts m || p) (s.apart m i) ∙ or_nothing (is_taken_at acts m)
-    where
-      or_nothing : (p : Bool) → (p || false) ≡ p
-      or_nothing true = refl
-      or_nothing false = refl
+  agree m i = taken_both acts step m ∙ ap (λ (p : Bool). is_taken_at acts m || p) (s.apart m i) ∙ or_false (is_taken_at acts m)
+
+  -- a node that is taken stands at a new place, and else none does
+  outside : place_outside (taken_places (acts ++ step)) at ≡ 0
+  outside = elim (cases_lt 0 (new_room k own'.index)) [
+    | inl some ↦ let t = taken_then acts step at (node_taken place (8 + length body) (new_room k own'.index) at some) in rw t refl
+    | inr none ↦ subst (λ (x : ℕ). place_outside (taken_places (acts ++ step)) x ≡ 0) (sym (no_node_zero w.filled w.roomy (new_room k own'.index) at w.node (omega arith))) (elim (either (is_taken_at (acts ++ step) 0)) [ inl t ↦ rw t refl | inr t ↦ rw t refl ])
+  ]
 
   outlined : outline (taken_places (acts ++ step)) own''.index ≡ outline [] (with_ranges own.index (rs ++ range k last ∷ []))
   outlined =
-      same_with_leaf (taken_places acts) (taken_places (acts ++ step)) new at own'.index (with_ranges own.index rs) n.outlined agree (λ some. taken_then acts step at (node_taken place (8 + length body) (new_room k own'.index) at some))
+      same_with_leaf (taken_places acts) (taken_places (acts ++ step)) new at own'.index (with_ranges own.index rs) n.outlined agree outside
       ∙ ap (outline []) (sym (with_one_more own.index rs (range k last)))
 
   not_zero : (m : ℕ) → In m (nodes_of own'.index) → m ≡ 0 → ⊥

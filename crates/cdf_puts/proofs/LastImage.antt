@@ -1,10 +1,9 @@
 -- The last step of a put: MaxRec is raised, or nothing is done. Blocks and nodes stay, and so does VXRtail.
 use Rattle.std.proofs.Common.{◌≡◌, ℕ, ◌+◌, ◌<◌, List, length, refl, sym, ap, subst, ◌∙◌, arith, inl, inr}
-use Rattle.cdf_puts.proofs.PutMeaning.{max_rec_raised_to, max_rec_kept_at}
+use Rattle.cdf_puts.proofs.PutMeaning.{max_rec_raised_to, max_rec_kept_at, HasPut, raised_then, unraised_then}
 use Rattle.std.proofs.Common.{[], ◌∷◌}
 use Rattle.cdf_puts.proofs.Common.{Kind, extent, last_number, greater, max_rec_touches, Changed, Act, Took, Gave, index_records, sound, behind_in, Kept, number, with_sign, vdr_vxr_tail, VariableShape, Each, shape, In, max_rec_at, tile_lies, SoFar, MaxRecDone, IsTaking, OnlyTakes}
 use Rattle.cdf_puts.proofs.RaisedGoes.{max_rec_raised, raised_behind, raised_tail}
-use Rattle.cdf_puts.proofs.RaisedThen.{HasPut, raised_then, unraised_then}
 
 pub only_takes : (acts : List Act) → Each IsTaking acts → OnlyTakes acts
 only_takes [] t = tt

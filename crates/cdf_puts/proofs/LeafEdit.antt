@@ -1,12 +1,29 @@
 -- A leaf that is added, as one edit: its block is taken and written, then a node where one is needed, and then the entries are.
-use Rattle.std.proofs.Common.{◌≡◌, ℕ, zero, suc, ◌+◌, ◌*◌, ◌<◌, ◌≤◌, List, [], ◌∷◌, ◌++◌, length, true, append-nil, refl, sym, ap, subst, ◌∙◌, arith, inl, inr}
-use Rattle.cdf_puts.proofs.Common.{Kind, R, Z, size_at, type_at, eof, Leaf, nodes_of, room_at, vxr_type, VariableShape, shape, NodeFits, IsSound, In, Good, number_kept, size_kept, type_kept, vxr_n_entries, linkable-type, good_is_sound, nodes_stand, In-append_left, In-append_right, tile_lies, vxr_bytes, Edit, Mark, Away, unmarked, Touch, new_room, type_in, variables_chain, edit_then, filled_size, unmarked-away, Away-append, kept_away, node_behind, StandsAmong, through, tile, typed, long, has, fits, behind_in, Kept, Each-in, placing_marks, NodeTaken, IndexTouch, LeafAdded}
-use Rattle.cdf_edits.specs.Edits.Marks.{Among, Marked}
-use Rattle.cdf_edits.proofs.Edits.Composing.{changed_edit}
-use Rattle.cdf_edits.proofs.Edits.MadeRecord.{place_in}
+use Rattle.std.proofs.Common.{◌≡◌, ℕ, zero, suc, ◌+◌, ◌*◌, ◌<◌, ◌≤◌, List, [], ◌∷◌, ◌++◌, length, true, append-nil, refl, sym, ap, subst, ◌∙◌, arith, inl, inr, ◌≢◌, ◌⊎◌, true≢false, Bool, false, ◌||◌, ◌==◌, eq-eqb}
+use Rattle.cdf_puts.proofs.Common.{vxr_n_entries, r_max_rec_field, space_fields, node_acts, is_in-false, Kind, R, Z, size_at, type_at, eof, Leaf, nodes_of, room_at, vxr_type, VariableShape, shape, NodeFits, IsSound, In, Good, number_kept, size_kept, type_kept, linkable-type, good_is_sound, nodes_stand, In-append_left, In-append_right, tile_lies, vxr_bytes, Edit, Mark, Away, unmarked, Touch, new_room, type_in, variables_chain, unmarked-away, Away-append, kept_away, node_behind, StandsAmong, through, tile, typed, long, has, fits, behind_in, Kept, Each-in, placing_marks, NodeTaken, IndexTouch, LeafAdded, ne_eqb, Same, is_a, is_in, number, leaves_of, variable_records, Field, gdr_type, vvr_type, cvvr_type, cpr_type, uir_type, is_record_type, fixed_size, Shape, Each, HasShape, LeafFits, is_a-type, In-append, Avoids, with_leaf, places_of, or_cases, away-avoids, Avoids-append, kept, gdr_in, gdr_typed, gdr_long, block_behind, variables_in, other_kind, FileSame, all_variable_records, apart, type_of_body, OwnEdit, IndexEdit, is_taken_at, Act, changed_part, Same-part, leaf_acts}
+use Rattle.cdf_edits.specs.Edits.Marks.{within, Among, Marked, variable_types, keeps_file, avoided}
+use Rattle.std.proofs.lemmas.Bool.{both_ways, or_left, or_right}
+use Rattle.cdf_edits.proofs.Edits.Composing.{changed_edit, same-then, head_size, head_type, edit_then}
+use Rattle.cdf_edits.proofs.Edits.MadeRecord.{place_in, fresh, filled_size}
 use Rattle.cdf_edits.proofs.Edits.StepEdits.{some_bytes}
-use Rattle.cdf_edits.proofs.Edits.VariableFrame.{Each-map}
+use Rattle.cdf_edits.proofs.Edits.VariableFrame.{Each-map, variable_typed}
 use Rattle.cdf_edits.proofs.Edits.RecordPlaced.{links_mark, Grows, NodeStands, grows_not, placed_grows}
+use Rattle.cdf_format.specs.Chains.{IsChain}
+use Rattle.cdf_format.specs.Records.{gdr_eof, gdr_uir_head}
+use Rattle.cdf_format.specs.RecordTypes.{r_vdr_type, z_vdr_type}
+use Rattle.cdf_edits.specs.Space.Chains.{head_of, count_of}
+use Rattle.cdf_edits.proofs.Edits.MarkLemmas.{the_one}
+use Rattle.cdf_edits.proofs.Edits.RecordFrame.{chain_stays, field_avoids, file_same}
+use Rattle.cdf_edits.proofs.Edits.VariableKept.{OnlyVariable, only_variable}
+use Rattle.cdf_edits.proofs.Edits.VariableKinds.{keeps_kind}
+use Rattle.cdf_edits.proofs.Edits.VariableSplice.{VariableSplices, keeps_all_attributes}
+use Rattle.cdf_index.specs.Replacing.{with_index}
+use Rattle.cdf_edits.specs.Frame.Changed.{Misses, Placed as TouchesPlaced}
+use Rattle.cdf_puts.proofs.LeafCounts.{in_nodes_with_leaf, node_stays, room_stays}
+use Rattle.cdf_puts.proofs.RaisedGoes.{behind_no_vdr}
+use Rattle.cdf_puts.proofs.PutNodes.{NodesStep}
+use Rattle.cdf_edits.proofs.Edits.OwnEdited as of_own
+use Rattle.cdf_edits.proofs.Edits.IndexEdited as of_index
 
 -- ---- marks
 
@@ -48,20 +65,93 @@ is_new_node (suc room) at some = inl refl
 
 -- ---- what is placed leaves records of other types
 
-pub placing_away : (unused : List ℕ) (place need type m : ℕ) → unmarked (placing_marks unused place need) type ≡ true → Away (placing_marks unused place need) type m
-placing_away unused place need type m none = unmarked-away (placing_marks unused place need) type m none
-
 pub space_away : (unused : List ℕ) (place need : ℕ) (unused' : List ℕ) (room at type m : ℕ) → unmarked (placing_marks unused place need) type ≡ true → Away (placing_marks unused place need ++ node_marks unused' room at) type m
-space_away unused place need unused' zero at type m none = Away-append (placing_marks unused place need) [] type m (placing_away unused place need type m none) tt
-space_away unused place need unused' (suc room) at type m none = Away-append (placing_marks unused place need) (placing_marks unused' at (vxr_bytes (suc room))) type m (placing_away unused place need type m none) (placing_away unused' at (vxr_bytes (suc room)) type m none)
+space_away unused place need unused' zero at type m none = Away-append (placing_marks unused place need) [] type m (unmarked-away (placing_marks unused place need) type m none) tt
+space_away unused place need unused' (suc room) at type m none = Away-append (placing_marks unused place need) (placing_marks unused' at (vxr_bytes (suc room))) type m (unmarked-away (placing_marks unused place need) type m none) (unmarked-away (placing_marks unused' at (vxr_bytes (suc room))) type m none)
 
 pub vdr_no_space : (kind : Kind) (unused : List ℕ) (place need : ℕ) → unmarked (placing_marks unused place need) (type_in (variables_chain kind)) ≡ true
 vdr_no_space R unused place need = refl
 vdr_no_space Z unused place need = refl
 
+-- ---- which records the marks leave by their types alone
+
+pub record LeafTests (kind : Kind) (marks : List Mark) : Type 0 where
+  pub file_clear : keeps_file marks ≡ true
+  pub attributes_clear : keeps_all_attributes marks ≡ true
+  pub other_clear : keeps_kind marks (other_kind kind) ≡ true
+  pub blocks_clear : unmarked marks vvr_type ≡ true
+  pub packed_clear : unmarked marks cvvr_type ≡ true
+  pub cpr_clear : unmarked marks cpr_type ≡ true
+  pub head_clear : avoided marks gdr_type (head_of (variables_chain kind)).place ((head_of (variables_chain kind)).place + (head_of (variables_chain kind)).width) ≡ true
+  pub count_clear : avoided marks gdr_type (count_of (variables_chain kind)).place ((count_of (variables_chain kind)).place + (count_of (variables_chain kind)).width) ≡ true
+  pub max_clear : avoided marks gdr_type 52 56 ≡ true
+  pub heads_clear : avoided marks gdr_type 0 12 ≡ true
+  pub inside : within marks gdr_type (r_max_rec_field kind ++ space_fields) ≡ true
+
+pub leaf_tests : (kind : Kind) (v : ℕ) (nodes unused : List ℕ) (place need : ℕ) (unused' : List ℕ) (room at most : ℕ) → LeafTests kind (leaf_marks kind v nodes unused place need unused' room at most)
+leaf_tests R v nodes unused place need unused' zero at most = record { file_clear = refl; attributes_clear = refl; other_clear = refl; blocks_clear = refl; packed_clear = refl; cpr_clear = refl; head_clear = refl; count_clear = refl; max_clear = refl; heads_clear = refl; inside = refl }
+leaf_tests R v nodes unused place need unused' (suc room) at most = record { file_clear = refl; attributes_clear = refl; other_clear = refl; blocks_clear = refl; packed_clear = refl; cpr_clear = refl; head_clear = refl; count_clear = refl; max_clear = refl; heads_clear = refl; inside = refl }
+leaf_tests Z v nodes unused place need unused' zero at most = record { file_clear = refl; attributes_clear = refl; other_clear = refl; blocks_clear = refl; packed_clear = refl; cpr_clear = refl; head_clear = refl; count_clear = refl; max_clear = refl; heads_clear = refl; inside = refl }
+leaf_tests Z v nodes unused place need unused' (suc room) at most = record { file_clear = refl; attributes_clear = refl; other_clear = refl; blocks_clear = refl; packed_clear = refl; cpr_clear = refl; head_clear = refl; count_clear = refl; max_clear = refl; heads_clear = refl; inside = refl }
+
+-- a descriptor has none of the other types
+vdr_unlike : (kind : Kind) (type : ℕ) → (r_vdr_type == type) ≡ false → (z_vdr_type == type) ≡ false → type_in (variables_chain kind) ≡ type → ⊥
+vdr_unlike R type r z = apart r_vdr_type type r
+vdr_unlike Z type r z = apart z_vdr_type type z
+
+-- a record of a variable is neither the GDR nor unused
+variable_unspaced : (unused : List ℕ) (place need type : ℕ) → is_in type variable_types ≡ true → unmarked (placing_marks unused place need) type ≡ true
+variable_unspaced unused place need type i = rw (ne_eqb type gdr_type (unlike gdr_type refl), ne_eqb type uir_type (unlike uir_type refl)) refl
+  where
+    unlike : (other : ℕ) → is_in other variable_types ≡ false → type ≢ other
+    unlike other out e = true≢false (sym i ∙ ap (λ (x : ℕ). is_in x variable_types) e ∙ out)
+
+late_clear : (kind : Kind) (v : ℕ) (nodes unused : List ℕ) (room at most : ℕ) → unmarked (node_marks unused room at ++ index_marks kind v nodes most) vvr_type ≡ true
+late_clear R v nodes unused zero at most = refl
+late_clear R v nodes unused (suc room) at most = refl
+late_clear Z v nodes unused zero at most = refl
+late_clear Z v nodes unused (suc room) at most = refl
+
+-- blocks, by their types
+block_type : (b records : List ℕ) (vdr : ℕ) (leaves : List Leaf) → Each (LeafFits b records vdr) leaves → (m : ℕ) → In m (places_of leaves) → (type_at b m ≡ vvr_type) ⊎ (type_at b m ≡ cvvr_type)
+block_type b records vdr [] each m i = absurd i
+block_type b records vdr (l ∷ more) each m (inl q) = elim (or_cases (is_a b records vvr_type l.place) (is_a b records cvvr_type l.place) each.0.0) [
+  | inl p ↦ inl (ap (type_at b) q ∙ is_a-type b records vvr_type l.place p)
+  | inr p ↦ inr (ap (type_at b) q ∙ is_a-type b records cvvr_type l.place p)
+]
+block_type b records vdr (l ∷ more) each m (inr i) = block_type b records vdr more each.1 m i
+
+-- ---- what is new
+
+-- a node that is taken was unused, or no record
+pub node_fresh : {b : List ℕ} (now : List ℕ) (room at : ℕ) → IsSound b (shape b) → NodeTaken b now room at → (m : ℕ) → In m (new_nodes room at) → In m (shape b).records → type_at b m ≡ uir_type
+node_fresh now zero at sound taken m i stands = absurd i
+node_fresh {b = b} now (suc room) at sound taken m i stands =
+    let q = the_one at m i in
+    ap (type_at b) q ∙ fresh sound taken.fills (subst (λ (x : ℕ). In x (shape b).records) q stands)
+
+-- ---- what is taken for a leaf
+
+taken_nodes : (room at m : ℕ) → is_taken_at (node_acts room at) m ≡ is_in m (new_nodes room at)
+taken_nodes zero at m = refl
+taken_nodes (suc room) at m = refl
+
+pub taken_places_are : (place need room at m : ℕ) → is_taken_at (leaf_acts place need room at) m ≡ is_in m (place ∷ new_nodes room at)
+taken_places_are place need room at m = ap (λ (p : Bool). (m == place) || p) (taken_nodes room at m)
+
+pub block_taken : (place need room at : ℕ) → is_taken_at (leaf_acts place need room at) place ≡ true
+block_taken place need room at = let e : (place == place) ≡ true = eq-eqb place place refl in rw e refl
+
+pub node_taken : (place need room at : ℕ) → 1 ≤ room → is_taken_at (leaf_acts place need room at) at ≡ true
+node_taken place need zero at some = absurd (omega arith)
+node_taken place need (suc room) at some = or_right (at == place) ((at == at) || false) (or_left (at == at) false (eq-eqb at at refl))
+
 -- ---- the edit
 
 module _ {b now : List ℕ} {kind : Kind} {before : List VariableShape} {own : VariableShape} {after : List VariableShape} {new : Leaf} {body : List ℕ} {at : ℕ} (good : Good b) (among : StandsAmong b kind before own after) (w : LeafAdded b now own new body at) where
+  abbrev s : Shape
+  s = shape b
+
   abbrev pub v : ℕ
   v = own.vdr
 
@@ -90,14 +180,14 @@ module _ {b now : List ℕ} {kind : Kind} {before : List VariableShape} {own : V
   sound = good_is_sound b good
 
   -- the block is placed, and then the node
-  pub first : Grows b w.filled (placing_marks (shape b).unused new.place need) (new.place ∷ [])
-  first = placed_grows sound w.block.fills
+  pub block_placed : Grows b w.filled (placing_marks (shape b).unused new.place need) (new.place ∷ [])
+  block_placed = placed_grows sound w.block.fills
 
-  pub second : Grows w.filled w.roomy (node_marks (shape w.filled).unused room at) (new_nodes room at)
-  second = node_grows room at first.sound first.end_is w.node
+  pub node_placed : Grows w.filled w.roomy (node_marks (shape w.filled).unused room at) (new_nodes room at)
+  node_placed = node_grows room at block_placed.sound block_placed.end_is w.node
 
   pub grown : Edit b w.roomy (shape b).records (shape w.roomy).records (placing_marks (shape b).unused new.place need ++ node_marks (shape w.filled).unused room at) reborn
-  grown = edit_then first.edit second.edit
+  grown = edit_then block_placed.edit node_placed.edit
 
   pub kept_first : (m t : ℕ) → In m (shape b).records → type_at b m ≡ t → unmarked (placing_marks (shape b).unused new.place need) t ≡ true → Kept b w.roomy m
   kept_first m t i is none = kept_away grown m t i is (space_away (shape b).unused new.place need (shape w.filled).unused room at t m none)
@@ -114,22 +204,21 @@ module _ {b now : List ℕ} {kind : Kind} {before : List VariableShape} {own : V
   node_kept : (m : ℕ) → In m nodes → Kept b w.roomy m
   node_kept m i = kept_first m vxr_type (node_in m i) (node_typed m i) refl
 
+  fit : (m : ℕ) → In m nodes → NodeFits b m
+  fit m i = Each-in (NodeFits b) nodes (fits good among).1 m i
+
+  room_kept : (m : ℕ) → In m nodes → room_at w.roomy m ≡ room_at b m
+  room_kept m i = number_kept b w.roomy m (node_kept m i).same vxr_n_entries (let l = (fit m i).0 in omega arith)
+
+  roomy_size : (m : ℕ) → In m nodes → size_at w.roomy m ≡ size_at b m
+  roomy_size m i = let k = node_kept m i in size_kept b w.roomy m k.same (let l = k.long in omega arith)
+
   -- a node has its entries before others are written
   node_fits : (m : ℕ) → In m nodes → 28 + 16 * room_at w.roomy m ≤ size_at w.roomy m
-  node_fits m i =
-      let k = node_kept m i in
-      let fits_before : 28 + 16 * room_at b m ≤ size_at b m = (Each-in (NodeFits b) nodes (fits good among).1 m i).0 in
-      let room_stays = number_kept b w.roomy m k.same vxr_n_entries (at_least (room_at b m) (size_at b m) fits_before) in
-      subst (λ (n : ℕ). 28 + 16 * room_at w.roomy m ≤ n) (sym (size_kept b w.roomy m k.same (let l = k.long in omega arith))) (subst (λ (n : ℕ). 28 + 16 * n ≤ size_at b m) (sym room_stays) fits_before)
-    where
-      at_least : (r s : ℕ) → 28 + 16 * r ≤ s → vxr_n_entries.place + vxr_n_entries.width ≤ s
-      at_least r s l = omega arith
-
-  touch_high : (e n m : ℕ) → e ≤ n → m + n ≤ most → e ≤ 12 + most
-  touch_high e n m p q = omega arith
+  node_fits m i = rw (room_kept m i, roomy_size m i) (fit m i).0
 
   pub sound_roomy : IsSound w.roomy (shape w.roomy)
-  sound_roomy = second.sound
+  sound_roomy = node_placed.sound
 
   in_image : (m : ℕ) → In m (shape w.roomy).records → m + size_at w.roomy m ≤ most
   in_image m i = (tile_lies w.roomy 8 most (shape w.roomy).records m sound_roomy.has_shape.tiled i).high
@@ -154,7 +243,7 @@ module _ {b now : List ℕ} {kind : Kind} {before : List VariableShape} {own : V
         let fits_now = through (t.place + t.width) (28 + 16 * room_at w.roomy t.tile) (size_at w.roomy t.tile) n.1 (node_fits t.tile n.0) in
         marked t x.0 inside fits_now (type_kept b w.roomy t.tile k.same k.long ∙ node_typed t.tile n.0) (In-append_right t.tile (new_nodes room at) nodes n.0)
     | inr n ↦
-        let there = node_stands room at first.sound w.node n.0 in
+        let there = node_stands room at block_placed.sound w.node n.0 in
         let q = n.1 in
         marked t x.0 (subst (λ (m : ℕ). In m (shape w.roomy).records) (sym q) there.inside)
         (subst (λ (m : ℕ). t.place + t.width ≤ size_at w.roomy m) (sym q) (subst (λ (k : ℕ). t.place + t.width ≤ k) (sym there.size_is) n.2))
@@ -167,13 +256,247 @@ module _ {b now : List ℕ} {kind : Kind} {before : List VariableShape} {own : V
         fits = fits_now;
         behind_size = omega arith;
         behind_type = inl low;
-        covered = inr (inl (record { typed = is; lies = lies; low = low; high = touch_high (t.place + t.width) (size_at w.roomy t.tile) t.tile fits_now (in_image t.tile inside) }));
+        covered = inr (inl (record { typed = is; lies = lies; low = low; high = let far = in_image t.tile inside in omega arith }));
       }
 
   -- and then the entries are written
-  pub third : Edit w.roomy now (shape w.roomy).records (shape w.roomy).records (index_marks kind v (new_nodes room at ++ nodes) most) []
-  third = changed_edit w.roomy now (shape w.roomy).records w.touches (index_marks kind v (new_nodes room at ++ nodes) most) [] sound_roomy.has_shape.tiled w.as_long w.changed
+  pub entries_written : Edit w.roomy now (shape w.roomy).records (shape w.roomy).records (index_marks kind v (new_nodes room at ++ nodes) most) []
+  entries_written = changed_edit w.roomy now (shape w.roomy).records w.touches (index_marks kind v (new_nodes room at ++ nodes) most) [] sound_roomy.has_shape.tiled w.as_long w.changed
       (Each-map (IndexTouch w.roomy own room at) (Marked w.roomy (shape w.roomy).records (index_marks kind v (new_nodes room at ++ nodes) most) []) touch_marked w.touches w.within) (some_bytes w.roomy (shape w.roomy) sound_roomy.has_shape)
 
-  pub edit : Edit b now (shape b).records (shape w.roomy).records marks reborn
-  edit = subst (Edit b now (shape b).records (shape w.roomy).records marks) (append-nil reborn) (edit_then grown third)
+  pub edit : Edit b now s.records (shape w.roomy).records marks reborn
+  edit = subst (Edit b now (shape b).records (shape w.roomy).records marks) (append-nil reborn) (edit_then grown entries_written)
+
+  abbrev pub with_new : VariableShape
+  with_new = with_index own (with_leaf new at own.index)
+
+  h : HasShape b s
+  h = sound.has_shape
+
+  pub tests : LeafTests kind marks
+  tests = leaf_tests kind v nodes s.unused new.place need (shape w.filled).unused room at most
+
+  pub file : FileSame b now
+  file = file_same sound edit tests.file_clear
+
+  -- ---- what is new
+
+  -- the block is in use once it is written
+  pub block_in : In new.place (shape w.filled).records
+  block_in = place_in sound w.block.fills
+
+  pub new_apart : In new.place (new_nodes room at) → ⊥
+  new_apart i = w.block.fills.in_use (sym w.block.fills.typed ∙ node_fresh w.roomy room at block_placed.sound w.node new.place i block_in)
+
+  -- what is reborn was unused, or no record
+  pub new_fresh : (m : ℕ) → In m reborn → In m s.records → type_at b m ≡ uir_type
+  new_fresh m (inl q) stands = ap (type_at b) q ∙ fresh sound w.block.fills (subst (λ (x : ℕ). In x s.records) q stands)
+  new_fresh m (inr i) stands =
+      let unused_by_then = node_fresh w.roomy room at block_placed.sound w.node m i (block_placed.edit.sub m stands) in
+      elim (block_placed.edit.kind m (block_placed.edit.sub m stands)) [
+        | inl j ↦ sym j.1 ∙ unused_by_then
+        | inr (inl j) ↦ absurd (j.0 stands)
+        | inr (inr r) ↦ absurd (new_apart (subst (λ (x : ℕ). In x (new_nodes room at)) (the_one new.place m r) i))
+      ]
+
+  -- ---- records without marks
+
+  -- records of variables that are not of this one
+  pub beside : (m : ℕ) → In m (all_variable_records s) → (In m (variable_records own) → ⊥) → Away marks (type_at b m) m
+  beside m i out =
+      let type = type_at b m in
+      Away-append (placing_marks s.unused new.place need ++ node_marks (shape w.filled).unused room at) (index_marks kind v (new_nodes room at ++ nodes) most) type m
+      (space_away s.unused new.place need (shape w.filled).unused room at type m (variable_unspaced s.unused new.place need type (variable_typed b s sound m i))) (
+        (λ same lies. out (inl (the_one v m lies))),
+        (
+          (λ t j. elim (In-append m (new_nodes room at) nodes j) [
+            | inl k ↦ apart vxr_type uir_type refl (sym t ∙ new_fresh m (inr k) (variables_in b s sound m i))
+            | inr k ↦ out (inr (node_behind own m k))
+          ]),
+          tt,
+        ),
+      )
+
+  pub only : (m : ℕ) → In m (variable_records own) → OnlyVariable b s kind before after m
+  only m i = only_variable sound kind before own after among.was m i
+
+  -- its blocks
+  pub block_kept : (m : ℕ) → In m (places_of (leaves_of own.index)) → Kept b now m
+  block_kept m i =
+      let stands = behind_in good among m (block_behind own m i) in
+      elim (block_type b s.records v (leaves_of own.index) (fits good among).2 m i) [ inl t ↦ kept edit m vvr_type stands t tests.blocks_clear | inr t ↦ kept edit m cvvr_type stands t tests.packed_clear ]
+
+  -- ---- its VDR
+
+  any_avoids : (m lo hi : ℕ) → (hi ≤ 28) ⊎ (44 ≤ lo) → Avoids marks type m lo hi
+  any_avoids m lo hi side =
+      let space = placing_marks s.unused new.place need ++ node_marks (shape w.filled).unused room at in
+      Avoids-append space (index_marks kind v (new_nodes room at ++ nodes) most) type m lo hi (away-avoids space type m lo hi (space_away s.unused new.place need (shape w.filled).unused room at type m (vdr_no_space kind s.unused new.place need)))
+      ((λ same lies. side), ((λ same lies. absurd (vdr_unlike kind vxr_type refl refl same)), tt))
+
+  pub part : (lo hi : ℕ) → (hi ≤ 28) ⊎ (44 ≤ lo) → hi ≤ size_at b v → Same b now (v + lo) (v + hi)
+  part lo hi side fit = edit.part v type lo hi (tile good among) (typed good among) (any_avoids v 0 12 (inl (omega arith))) (any_avoids v lo hi side) fit
+
+  pub wide : 340 ≤ size_at b v
+  wide = long good among
+
+  pub part_of : (lo hi : ℕ) → (hi ≤ 28) ⊎ (44 ≤ lo) → hi ≤ 340 → Same b now (v + lo) (v + hi)
+  part_of lo hi side l = part lo hi side (through hi 340 (size_at b v) l wide)
+
+  pub vdr_size : size_at now v ≡ size_at b v
+  vdr_size = head_size b now v (part_of 0 12 (inl (omega arith)) (omega arith))
+
+  -- ---- the new records
+
+  abbrev late : List Mark
+  late = node_marks (shape w.filled).unused room at ++ index_marks kind v (new_nodes room at ++ nodes) most
+
+  -- nothing of the block is written once it is placed
+  pub placed_kept : type_of_body body ≡ vvr_type → Kept w.filled now new.place
+  placed_kept plain = kept_away (edit_then node_placed.edit entries_written) new.place vvr_type block_in (w.block.fills.typed ∙ plain) (unmarked-away late vvr_type new.place (late_clear kind v (new_nodes room at ++ nodes) (shape w.filled).unused room at most))
+
+  pub placed_size : size_at w.filled new.place ≡ need
+  placed_size = filled_size sound w.block.fills
+
+  node_head : (kind : Kind) (v : ℕ) (ns : List ℕ) (m most' : ℕ) → Avoids (index_marks kind v ns most') vxr_type m 0 12
+  node_head kind v ns m most' = ((λ same lies. absurd (vdr_unlike kind vxr_type refl refl (sym same))), ((λ same lies. inl (omega arith)), tt))
+
+  -- the new node has its type and its size
+  pub node_now : 0 < room → (type_at now at ≡ vxr_type) × (size_at now at ≡ vxr_bytes room)
+  node_now some =
+      let there = node_stands room at block_placed.sound w.node some in
+      let avoid = node_head kind v (new_nodes room at ++ nodes) at most in
+      let head = entries_written.part at vxr_type 0 12 there.inside there.typed avoid avoid (subst (λ (n : ℕ). 12 ≤ n) (sym there.size_is) (omega arith)) in
+      (head_type w.roomy now at head ∙ there.typed, head_size w.roomy now at head ∙ there.size_is)
+
+  new_node_some : (room at m : ℕ) → In m (new_nodes room at) → (0 < room) × (m ≡ at)
+  new_node_some zero at m i = absurd i
+  new_node_some (suc room) at m i = (omega arith, the_one at m i)
+
+  -- their types
+  pub type_now : type_of_body body ≡ vvr_type → (m : ℕ) → In m reborn → ((m ≡ new.place) × (type_at now m ≡ vvr_type)) ⊎ ((0 < room) × (m ≡ at) × (type_at now m ≡ vxr_type))
+  type_now plain m (inl q) =
+      let k = placed_kept plain in
+      inl (q, ap (type_at now) q ∙ type_kept w.filled now new.place k.same k.long ∙ w.block.fills.typed ∙ plain)
+  type_now plain m (inr i) = let x = new_node_some room at m i in inr (x.0, x.1, ap (type_at now) x.1 ∙ (node_now x.0).0)
+
+  typed_now : type_of_body body ≡ vvr_type → (m : ℕ) → In m reborn → (is_record_type (type_at now m) ≡ true) × (fixed_size (type_at now m) ≤ size_at now m)
+  typed_now plain m i = elim (type_now plain m i) [
+    | inl x ↦
+        let k = placed_kept plain in
+        let type = x.1 in
+        let size : size_at now m ≡ need = ap (size_at now) x.0 ∙ size_kept w.filled now new.place k.same (let l = k.long in omega arith) ∙ placed_size in
+        rw (type, size) (refl, subst (λ (t : ℕ). fixed_size t ≤ need) plain w.block.fills.fixed)
+    | inr x ↦
+        let type = x.2 in
+        let size : size_at now m ≡ vxr_bytes room = ap (size_at now) x.1 ∙ (node_now x.0).1 in
+        rw (type, size) (refl, omega arith)
+  ]
+
+  -- ---- chains
+
+  late_unmarked : (kind : Kind) (v : ℕ) (ns : List ℕ) (most' type' m lo hi : ℕ) → (type' ≡ gdr_type) ⊎ (type' ≡ uir_type) → Avoids (index_marks kind v ns most') type' m lo hi
+  late_unmarked kind v ns most' type' m lo hi is = away-avoids (index_marks kind v ns most') type' m lo hi (elim is [
+    | inl g ↦ ((λ same lies. vdr_unlike kind gdr_type refl refl (sym same ∙ g)), ((λ same lies. apart vxr_type gdr_type refl (sym same ∙ g)), tt))
+    | inr u ↦ ((λ same lies. vdr_unlike kind uir_type refl refl (sym same ∙ u)), ((λ same lies. apart vxr_type uir_type refl (sym same ∙ u)), tt))
+  ])
+
+  pub gdr_is : (shape w.roomy).gdr ≡ s.gdr
+  gdr_is = ap (λ (x : Shape). x.gdr) node_placed.same_shape ∙ ap (λ (x : Shape). x.gdr) block_placed.same_shape
+
+  -- a field of the GDR stays where the entries are written
+  gdr_late : (g : Field) → g.place + g.width ≤ 84 → number now s.gdr g ≡ number w.roomy s.gdr g
+  gdr_late g l =
+      let r = shape w.roomy in
+      let at_place = field_avoids entries_written r.gdr gdr_type g (gdr_in w.roomy r sound_roomy.has_shape) (gdr_typed w.roomy r sound_roomy.has_shape) (late_unmarked kind v (new_nodes room at ++ nodes) most gdr_type r.gdr 0 12 (inl refl)) (late_unmarked kind v (new_nodes room at ++ nodes) most gdr_type r.gdr g.place (g.place + g.width) (inl refl))
+      (through (g.place + g.width) 84 (size_at w.roomy r.gdr) l (gdr_long w.roomy r sound_roomy.has_shape)) in
+      subst (λ (x : ℕ). number now x g ≡ number w.roomy x g) gdr_is at_place
+
+  pub end_now : eof now s.gdr ≡ length now
+  end_now = gdr_late gdr_eof (omega arith) ∙ subst (λ (x : ℕ). eof w.roomy x ≡ length w.roomy) gdr_is node_placed.end_is ∙ sym w.as_long
+
+  unused_now : IsChain now (shape w.roomy).records uir_type (number now s.gdr gdr_uir_head) (shape w.roomy).unused
+  unused_now = chain_stays entries_written uir_type _ _ (shape w.roomy).unused sound_roomy.has_shape.unused_chain (gdr_late gdr_uir_head (omega arith) ∙ ap (λ (x : ℕ). number w.roomy x gdr_uir_head) (sym gdr_is)) (λ m i. late_unmarked kind v (new_nodes room at ++ nodes) most uir_type m 0 20 (inr refl))
+
+  -- ---- the edit of one variable
+
+  pub index_edit : type_of_body body ≡ vvr_type → IndexEdit b now kind own (with_leaf new at own.index) (shape w.roomy).records (shape w.roomy).unused marks reborn
+  index_edit plain = record {
+    edit = edit;
+    file_clear = tests.file_clear;
+    attributes_clear = tests.attributes_clear;
+    other_clear = tests.other_clear;
+    cpr_clear = tests.cpr_clear;
+    head_clear = tests.head_clear;
+    count_clear = tests.count_clear;
+    beside = beside;
+    avoids = λ m lo hi side. any_avoids m lo hi (elim side [ inl l ↦ inl (omega arith) | inr l ↦ inr l ]);
+    typed = typed_now plain;
+    unused_chain = unused_now;
+    index_now = w.index;
+  }
+
+  pub own_edit : type_of_body body ≡ vvr_type → OwnEdit b now kind own (with_leaf new at own.index) (shape w.roomy).records (shape w.roomy).unused marks reborn
+  own_edit plain = of_index.own_edit good among (index_edit plain)
+
+  pub splices : type_of_body body ≡ vvr_type → VariableSplices b now s kind (shape w.roomy).records (shape w.roomy).unused marks reborn before (own ∷ []) (with_new ∷ []) after
+  splices plain = of_own.splices good among (own_edit plain)
+
+  -- ---- the nodes
+
+  abbrev nodes' : List ℕ
+  nodes' = nodes_of (with_leaf new at own.index)
+
+  abbrev step : List Act
+  step = leaf_acts new.place need room at
+
+  -- a record that is in use is not taken
+  pub used_apart : (m : ℕ) → In m s.records → type_at b m ≢ uir_type → is_taken_at step m ≡ false
+  used_apart m i used = taken_places_are new.place need room at m ∙ is_in-false m reborn (λ j. used (new_fresh m j i))
+
+  node_apart : (m : ℕ) → In m nodes → is_taken_at step m ≡ false
+  node_apart m i = used_apart m (node_in m i) (λ e. apart vxr_type uir_type refl (sym (node_typed m i) ∙ e))
+
+  -- ---- the entries are written
+
+  placed : (ts : List Touch) → Each (IndexTouch w.roomy own room at) ts → TouchesPlaced w.roomy (shape w.roomy).records (length w.roomy) ts
+  placed [] each = tt
+  placed (t ∷ ts) each = let x = touch_marked t each.0 in (inl (x.inside, x.fits), placed ts each.1)
+
+  -- a touch of a node is one of its entries, or before them
+  misses : (m lo hi : ℕ) → In m nodes → (hi ≤ 12) ⊎ (28 + 16 * room_at w.roomy m ≤ lo) → (ts : List Touch) → Each (IndexTouch w.roomy own room at) ts → Misses ts m lo hi
+  misses m lo hi i side [] each = tt
+  misses m lo hi i side (t ∷ ts) each = ((λ e. here e side each.0), misses m lo hi i side ts each.1)
+    where
+      here : m ≡ t.tile → (hi ≤ 12) ⊎ (28 + 16 * room_at w.roomy m ≤ lo) → IndexTouch w.roomy own room at t → (hi ≤ t.place) ⊎ (t.place + t.width ≤ lo)
+      here e side (inl x) = absurd (behind_no_vdr good among m (node_behind own m i) (e ∙ x.0))
+      here e (inl front) (inr x) = let low = x.0 in inl (omega arith)
+      here e (inr back) (inr x) = elim x.1 [
+        | inl n ↦ let l : t.place + t.width ≤ 28 + 16 * room_at w.roomy m = subst (λ (y : ℕ). t.place + t.width ≤ 28 + 16 * room_at w.roomy y) (sym e) n.1 in inr (omega arith)
+        | inr n ↦ absurd (both_ways (is_taken_at step m) (node_apart m i) (subst (λ (y : ℕ). is_taken_at step y ≡ true) (sym (e ∙ n.1)) (node_taken new.place need room at n.0)))
+      ]
+
+  node_part : (m lo hi : ℕ) → In m nodes → (hi ≤ 12) ⊎ (28 + 16 * room_at w.roomy m ≤ lo) → hi ≤ size_at w.roomy m → Same w.roomy now (m + lo) (m + hi)
+  node_part m lo hi i side fits_in = changed_part w.roomy now (shape w.roomy).records (length w.roomy) sound_roomy.has_shape.tiled (omega arith) w.touches w.changed (placed w.touches w.within) m lo hi (grown.sub m (node_in m i)) fits_in (misses m lo hi i side w.touches w.within)
+
+  size_stays : (m : ℕ) → In m nodes → size_at now m ≡ size_at b m
+  size_stays m i = head_size w.roomy now m (node_part m 0 12 i (inl (omega arith)) (let size = roomy_size m i in let l = (node_kept m i).long in omega arith)) ∙ roomy_size m i
+
+  spare_stays : (m : ℕ) → In m nodes → Same b now (m + (28 + 16 * room_at b m)) (m + size_at b m)
+  spare_stays m i =
+      let k = node_kept m i in
+      let size = roomy_size m i in
+      let room = room_kept m i in
+      same-then b w.roomy now (m + (28 + 16 * room_at b m)) (m + size_at b m) (Same-part b w.roomy m (m + size_at b m) (m + (28 + 16 * room_at b m)) (m + size_at b m) k.same (omega arith) (omega arith))
+      (node_part m (28 + 16 * room_at b m) (size_at b m) i (inr (omega arith)) (omega arith))
+
+  pub nodes_step : NodesStep b now own.index nodes' step
+  nodes_step = record {
+    stay = λ m i. node_stays new at own.index m i;
+    apart = node_apart;
+    come = λ m i. elim (in_nodes_with_leaf new at own.index m i) [ inl j ↦ inl j | inr x ↦ inr (subst (λ (y : ℕ). is_taken_at step y ≡ true) (sym x.0) (node_taken new.place need room at x.1)) ];
+    sizes = size_stays;
+    rooms = λ m i. room_stays b now (shape b).records (shape w.roomy).records 8 8 new at m own.index (has good among).indexed.has_nodes w.index.has_nodes i;
+    spare = spare_stays;
+    unused = w.unused;
+  }

@@ -1,8 +1,25 @@
--- A leaf that is added to the index of a variable leads from one good image to another.
-use Rattle.std.proofs.Common.{◌≡◌, ◌≢◌, ℕ, ℤ, pos, negsuc, zero, suc, ◌+◌, ◌-◌, ◌*◌, ◌≤◌, max, List, [], ◌∷◌, ◌++◌, length, Bool, true, false, refl, sym, ap, subst, ◌∙◌, arith, inl, inr}
-use Rattle.cdf_puts.proofs.Common.{ne_eqb, w32, cast_signed, flat_map, ◌==◌, ◌&&◌, ◌||◌, if◌then◌else◌, nat_le, Kind, image_limit, record_number_limit, is_a, is_in, with_sign, number, integer4, size_at, type_at, Nodes, no_node, node, Entries, no_entry, block, lower, Leaf, leaves_of, room_at, variable_records, times, owned, vdr_max_rec, gdr_r_max_rec, vxr_type, vvr_type, cvvr_type, uir_type, asked, VariableShape, Shape, is_compressed, Each, HasShape, shape, NodeFits, IsSound, In, record_bytes, is_max_rec, Good, Same-part, word_kept, size_kept, type_kept, is_a-type, linkable-in, good_by_its_shape, good_is_sound, nodes_stand, either, In-append, true-is_in, false-is_in, Hold-split, both, le_of, of_le, tile_lies, AllKeep, r_max_rec, put_changes, Act, ActsFollow, firsts_of, with_leaf, new_room, IsOneOf, place_in, count_is, plain_leaf, own_rules, StandsAmong, behind_in, type_of_body, places_of, index_records, gdr_long, block_behind, times-append, times-in, record_alike, apart, Each-in, LeafAdded, InOrder, found_in, DescriptorStays, GoesOn, IsVacant, IsBlockBody, before_limit, index_order, OwnEdit, IndexEdit, vdr_alike}
+-- A leaf that is added to the index of a variable leads from one good image to another: what its acts take, what stays of the records of each owner, and the blocks.
+use Rattle.std.proofs.Common.{◌≡◌, ℕ, zero, suc, ◌+◌, List, [], ◌∷◌, ◌++◌, length, true, refl, ap, subst, arith, ◌≢◌, ◌⊎◌, ◌<◌, ◌≤◌, false, sym, inl, inr, ◌-◌, max, take, drop, ◌∙◌, take-append-drop, ℤ, pos, negsuc, ◌*◌, Bool}
+use Rattle.cdf_puts.proofs.Common.{lt-leb, ◌&&◌, Kind, R, Z, unmarked-away, StandsAmong, Only, Edit, Mark, unmarked, new_room, Took, ActsFollow, type_of_body, linkable-in, linkable-type, good_is_sound, both, Leaf, Field, uir_next_uir, uir_prev_uir, gdr_type, uir_type, vvr_type, vxr_type, VariableShape, Shape, shape, IsSound, Good, NodeTaken, LeafAdded, node_acts, leaf_acts, ListedStay, acts_joined, still_edit, OnlyTakes, nat_le, nat_lt, places_of, Avoids-append, Away-append, away-avoids, kept, kept_away, gdr_in, gdr_typed, block_behind, variables_in, other_kind, behind_in, fits, ours, tile, Kept, Each-in, all_variable_records, AllKeep, Keeps, Stays, OutsideFields, is_taken, r_max_rec_field, space_fields, unused_allowance, put_changes, vxr_bytes, Avoids, Away, Act, word_kept, is_a-type, In-append, tile_lies, is_a, number, size_at, type_at, leaves_of, nodes_of, Unused, owned, unused_records, variable_records, vdr_max_rec, vdr_vxr_head, vdr_vxr_tail, cdr_type, cpr_type, HasShape, In, found_in, placing_marks, none_of_both, length-take, length-drop, Same, byte, size_kept, type_kept, place_in, each_of, IsBlockBody, BlocksGoOn, ne_eqb, flat_map, ◌==◌, ◌||◌, if◌then◌else◌, image_limit, record_number_limit, is_in, with_sign, Nodes, no_node, node, Entries, no_entry, block, lower, room_at, times, cvvr_type, asked, is_compressed, Each, NodeFits, record_bytes, is_max_rec, Same-part, good_by_its_shape, nodes_stand, Hold-split, le_of, of_le, firsts_of, with_leaf, IsOneOf, count_is, plain_leaf, own_rules, index_records, times-append, times-in, record_alike, apart, InOrder, DescriptorStays, GoesOn, IsVacant, before_limit, index_order, OwnEdit, IndexEdit, vdr_alike}
+use Rattle.cdf_edits.proofs.Edits.EditActs.{acts_none, acts_took}
+use Rattle.cdf_edits.proofs.Edits.MadeRecord.{listed_marks, made_edit, listed_before, loose_away, taking_avoids, taking_within}
+use Rattle.cdf_edits.proofs.Edits.OwnersKept.{keeps_away, keeps_within, keep_unused, keeps_fields, stood, taken_is_taken}
+use Rattle.cdf_edits.proofs.Edits.VariableSplice.{attributes_kept}
+use Rattle.cdf_edits.specs.Edits.Marks.{is_late, Within, taking_marks, whole, within}
+use Rattle.cdf_edits.specs.Space.Placing.{Fills}
+use Rattle.cdf_edits.proofs.Commands.KeptRecords.{keeps_stood}
+use Rattle.cdf_edits.proofs.Edits.MarkLemmas.{Within-append, away-within}
+use Rattle.cdf_edits.proofs.Edits.OwnedOnce.{all_attributes_in, used_times, fresh_unowned, owned_once_if}
+use Rattle.cdf_edits.proofs.Edits.RecordFrame.{cdr_kept}
+use Rattle.cdf_edits.proofs.Edits.VariableCopied.{cpr_behind}
+use Rattle.cdf_edits.proofs.Edits.VariableKinds.{kind_ours, with_shapes, spliced_times}
+use Rattle.cdf_edits.proofs.Edits.StandsAmong.{after_ours}
+use Rattle.cdf_format.proofs.ChainsLemmas.{is_a-in, is_a-from}
+use Rattle.cdf_puts.proofs.GoesThen.{own_may, descriptor_allowed, node_allowed, PutKeeps, all_kept, kept_place}
+use Rattle.std.proofs.lemmas.List.{ext_get_or, get_or_append_left, get_or-take, get_or-drop}
+use Rattle.cdf_format.specs.Fields.{word, holds}
+use Rattle.cdf_format.proofs.BytesLemmas.{word-same, byte-put_inside}
 use Rattle.cdf_model.specs.Limits.{signed_limit}
-use Rattle.cdf_format.specs.Fields.{holds}
 use Rattle.cdf_format.specs.Index.{nodes_of, lower_nodes}
 use Rattle.cdf_format.specs.IndexRules.{has_room, is_block, nodes_rows, used_rows, vvr_rows, cvvr_rows, leaf_rows, index_rows, end_of}
 use Rattle.cdf_format.specs.NotRead.{read_types}
@@ -11,22 +28,102 @@ use Rattle.cdf_format.specs.Records.{vxr_n_used_entries, vxr_entries}
 use Rattle.cdf_format.specs.Rules.{Row, Hold}
 use Rattle.cdf_format.specs.Tiles.{Distinct}
 use Rattle.cdf_format.specs.VariableFields.{number_before, plain_size}
-use Rattle.cdf_format.proofs.ChainsLemmas.{is_a-from}
 use Rattle.cdf_format.proofs.GoodByShape.{IsGoodByShape}
 use Rattle.cdf_format.proofs.Owning.{times-none, times-once}
 use Rattle.cdf_format.proofs.RowLemmas.{Hold-append}
-use Rattle.cdf_edits.proofs.Edits.OwnedOnce.{used_times, fresh_unowned, owned_once_if}
-use Rattle.cdf_edits.proofs.Edits.RecordFrame.{gdr_part, gdr_place}
-use Rattle.cdf_edits.proofs.Edits.VariableKinds.{with_shapes, spliced_times}
 use Rattle.cdf_index.specs.Adding.{Counts}
-use Rattle.cdf_puts.proofs.LeafCounts.{nodes_with_leaf, places_with_leaf, leaf_was_there}
-use Rattle.cdf_puts.proofs.LeafBlocks.{plain_body, block_type, block_size, size_needed}
-use Rattle.cdf_puts.proofs.LeafEdit.{new_nodes, marks, second, edit}
+use Rattle.cdf_puts.proofs.RaisedGoes.{own_in_all}
+use Rattle.cdf_puts.proofs.LeafCounts.{in-times, nodes_with_leaf, places_with_leaf, leaf_was_there}
+use Rattle.cdf_puts.proofs.PutNodes.{each_in}
 use Rattle.cdf_index.proofs.LeafRules.{index_rules_with_leaf}
-use Rattle.cdf_edits.proofs.Edits.OwnEdited as of_own
 use Rattle.cdf_edits.proofs.Edits.IndexEdited.{vdr_size, vdr_type, good_now as good_if_ruled}
+use Rattle.cdf_puts.proofs.LeafEdit.{node_marks, index_marks, new_nodes, edit, block_placed, node_placed, entries_written, marks, reborn, with_new, tests, file, beside, only, block_kept, block_in, new_apart, new_fresh, part, part_of, vdr_size as vdr_long, type_now, end_now, index_edit, own_edit, splices, placed_kept, placed_size}
+use Rattle.cdf_edits.proofs.Edits.OwnEdited as of_own
 use Rattle.cdf_edits.proofs.Edits.IndexEdited as of_index
-use Rattle.cdf_puts.proofs.LeafSplices.{with_new, index_edit, own_edit, file, tests, part_of, block_kept, block_in, new_apart, new_fresh, type_now, end_now}
+
+abbrev links : List Field
+links = uir_next_uir ∷ uir_prev_uir ∷ []
+
+-- ---- a record is taken
+
+pub took_listed : {b taken filled now records list : List ℕ} {need place type : ℕ} (sound : IsSound b (shape b)) (fills : Fills b taken filled (shape b) records list need place type) {late : List Mark} → Edit filled now records records late [] → length now ≡ length filled → is_late late type ≡ true → (shape now).records ≡ records → ListedStay b now (Took place need ∷ [])
+took_listed {b = b} sound fills later as_long lately records_are m i free =
+    let ok = sound.has_shape.unused_chain.linkable m i in
+    let x = listed_marks sound fills later as_long lately records_are m i free in
+    keeps_within sound (made_edit sound fills later as_long lately) records_are m uir_type links (linkable-in b (shape b).records uir_type m ok) (linkable-type b (shape b).records uir_type m ok) x.0 x.1
+
+-- ---- entries are written after a node was taken, or none was
+
+-- the entries leave the unused list, the end of the image, and heads
+pub index_late : (kind : Kind) (v : ℕ) (ns : List ℕ) (most : ℕ) → is_late (index_marks kind v ns most) vxr_type ≡ true
+index_late R v ns width = rw (lt-leb (12 + width) 0 (omega arith)) refl
+index_late Z v ns width = rw (lt-leb (12 + width) 0 (omega arith)) refl
+
+index_unmarked : (kind : Kind) (v : ℕ) (ns : List ℕ) (most : ℕ) → unmarked (index_marks kind v ns most) uir_type ≡ true
+index_unmarked R v ns width = refl
+index_unmarked Z v ns width = refl
+
+pub record NodeFollows (b now : List ℕ) (room at : ℕ) : Type 0 where
+  pub follow : ActsFollow b now (node_acts room at)
+  pub listed : ListedStay b now (node_acts room at)
+
+node_takes : (entries at : ℕ) → OnlyTakes (node_acts entries at)
+node_takes zero at = tt
+node_takes (suc entries) at = tt
+
+node_follows : {b mid now : List ℕ} {late : List Mark} (room at : ℕ) → IsSound b (shape b) → IsSound mid (shape mid) → NodeTaken b mid room at → Edit mid now (shape mid).records (shape mid).records late [] → length now ≡ length mid → is_late late vxr_type ≡ true → unmarked late uir_type ≡ true
+    → (shape now).records ≡ (shape mid).records → (shape now).unused ≡ (shape mid).unused → NodeFollows b now room at
+node_follows {mid = mid} {now = now} {late = late} zero at sound sound' taken later as_long lately clear records_are list_are =
+    subst (λ (x : List ℕ). NodeFollows x now zero at) taken.0 (record {
+      follow = acts_none sound' later clear refl records_are list_are as_long;
+      listed = λ m i free. let ok = sound'.has_shape.unused_chain.linkable m i in keeps_away sound' later records_are m uir_type (Only links) (linkable-in mid (shape mid).records uir_type m ok) (linkable-type mid (shape mid).records uir_type m ok) (unmarked-away late uir_type m clear);
+    })
+node_follows (suc entries) at sound sound' taken later as_long lately clear records_are list_are = record {
+  follow = acts_took sound taken.fills later as_long lately records_are list_are;
+  listed = took_listed sound taken.fills later as_long lately records_are;
+}
+
+-- ---- unused records
+
+other_one : (place m : ℕ) → m ≢ place → In m (place ∷ []) → ⊥
+other_one place m ne (inl e) = ne e
+other_one place m ne (inr none) = none
+
+-- the marks in a listed record
+abbrev LinksAlone : List Mark → ℕ → Type 0
+LinksAlone marks m = Avoids marks uir_type m 0 12 × Within marks uir_type m links
+
+both_alone : (ks ls : List Mark) (m : ℕ) → LinksAlone ks m → LinksAlone ls m → LinksAlone (ks ++ ls) m
+both_alone ks ls m x y = (Avoids-append ks ls uir_type m 0 12 x.0 y.0, Within-append ks ls uir_type m links x.1 y.1)
+
+away_alone : (ks : List Mark) (m : ℕ) → Away ks uir_type m → LinksAlone ks m
+away_alone ks m away = (away-avoids ks uir_type m 0 12 away, away-within ks uir_type m links away)
+
+placing_alone : (unused : List ℕ) (place size m : ℕ) → m ≢ place → LinksAlone (placing_marks unused place size) m
+placing_alone unused place size m ne =
+    both_alone (taking_marks unused place size) (whole uir_type place size ∷ []) m (taking_avoids unused place size m 0 12 ne (inl (omega arith)), taking_within unused place size m ne)
+    (away_alone (whole uir_type place size ∷ []) m ((λ same lies. other_one place m ne lies), tt))
+
+-- what is not taken is not where a record was taken
+not_there : (b : List ℕ) (place size m : ℕ) → 12 ≤ size_at b m → is_taken b (Took place size ∷ []) m ≡ false → m ≢ place
+not_there b place size m long free q = taken_is_taken b place size [] (subst (λ (x : ℕ). 12 ≤ size_at b x) q long) (subst (λ (x : ℕ). is_taken b (Took place size ∷ []) x ≡ false) q free)
+
+node_alone : (b : List ℕ) (unused : List ℕ) (entries at m : ℕ) → 12 ≤ size_at b m → is_taken b (node_acts entries at) m ≡ false → LinksAlone (node_marks unused entries at) m
+node_alone b unused zero at m long free = (tt, tt)
+node_alone b unused (suc entries) at m long free = placing_alone unused at (vxr_bytes (suc entries)) m (not_there b at (vxr_bytes (suc entries)) m long free)
+
+node_away : {b now : List ℕ} (entries at : ℕ) (sound : IsSound b (shape b)) → NodeTaken b now entries at → IsSound now (shape now) → (m : ℕ) → In m (shape b).records → (In m (shape b).unused → ⊥) → Away (node_marks (shape b).unused entries at) uir_type m
+node_away zero at sound taken sound' m i out = tt
+node_away (suc entries) at sound taken sound' m i out = loose_away sound taken.fills (still_edit sound'.has_shape) refl refl m i out
+
+-- such a body begins with the type of a block that is not packed
+pub plain_body : (body records : List ℕ) → IsBlockBody body records → type_of_body body ≡ vvr_type
+plain_body body records says =
+    let front : word body 0 4 ≡ word (take 4 body) 0 4 = word-same (take 4 body) body 0 4 (record { each = λ i l lt. ap (λ (xs : List ℕ). byte xs i) (sym (take-append-drop 4 body)) ∙ get_or_append_left (take 4 body) (drop 4 body) 0 i (within i lt) }) in
+    front ∙ ap (λ (xs : List ℕ). word xs 0 4) says.type_is
+  where
+    within : (i : ℕ) → i < 0 + 4 → i < length (take 4 body)
+    within i lt = subst (λ (xs : List ℕ). i < length xs) (sym says.type_is) lt
 
 -- ---- the rooms of nodes, by the rules
 
@@ -47,10 +144,6 @@ mutual
       let p = Hold-split (nodes_rows b records (number_before first) (with_sign last) nodes) (used_rows b records vxr (with_sign last) high entries) h.1 in
       elim (In-append m (nodes_of nodes) (lower_nodes entries) i) [ inl j ↦ rooms_hold b records (number_before first) (with_sign last) nodes p.0 m j | inr j ↦ rooms_below b records vxr (with_sign last) high entries p.1 m j ]
 
-each_in : (P : ℕ → Type 0) (xs : List ℕ) → ((m : ℕ) → In m xs → P m) → Each P xs
-each_in P [] f = tt
-each_in P (x ∷ xs) f = (f x (inl refl), each_in P xs (λ m i. f m (inr i)))
-
 asked_hold : (p : Bool) (rows : List Row) → (p ≡ true → Hold rows) → Hold (asked p rows)
 asked_hold true rows f = f refl
 asked_hold false rows f = tt
@@ -70,25 +163,33 @@ parts_times v m =
     times-append m (v.vdr ∷ []) (index_records v)
     ∙ ap (λ (n : ℕ). times m (v.vdr ∷ []) + n) (times-append m (nodes_of v.index ++ places_of (leaves_of v.index)) v.cpr ∙ ap (λ (n : ℕ). n + times m v.cpr) (times-append m (nodes_of v.index) (places_of (leaves_of v.index))))
 
-module _ {b now : List ℕ} {kind : Kind} {before : List VariableShape} {own : VariableShape} {after : List VariableShape} {new : Leaf} {body : List ℕ} {at : ℕ} (good : Good b) (among : StandsAmong b kind before own after) (w : LeafAdded b now own new body at)
-    (loose : is_compressed b own.vdr ≡ false) (vacant : IsVacant own new.first new.last) {records : List ℕ} (says : IsBlockBody body records) (as_long : length records ≡ (new.last + 1 - new.first) * record_bytes b own.vdr) (short : length now ≤ image_limit) where
+module _ {b now : List ℕ} {kind : Kind} {before : List VariableShape} {own : VariableShape} {after : List VariableShape} {new : Leaf} {body : List ℕ} {at : ℕ} (good : Good b) (among : StandsAmong b kind before own after) (w : LeafAdded b now own new body at) where
   abbrev s : Shape
   s = shape b
 
   abbrev v : ℕ
   v = own.vdr
 
-  abbrev mine : VariableShape
-  mine = with_new good among w
+  abbrev ks : List Mark
+  ks = marks good among w
+
+  abbrev born : List ℕ
+  born = reborn good among w
+
+  abbrev roomed : ℕ
+  roomed = new_room new.first own.index
 
   abbrev records' : List ℕ
   records' = (shape w.roomy).records
 
-  abbrev room : ℕ
-  room = new_room new.first own.index
+  abbrev acts : List Act
+  acts = leaf_acts new.place (8 + length body) roomed at
 
-  abbrev reborn : List ℕ
-  reborn = new.place ∷ new_nodes room at
+  abbrev space : List Mark
+  space = placing_marks s.unused new.place (8 + length body) ++ node_marks (shape w.filled).unused roomed at
+
+  abbrev entries : List Mark
+  entries = index_marks kind v (new_nodes roomed at ++ nodes_of own.index) (length w.roomy)
 
   sound : IsSound b s
   sound = good_is_sound b good
@@ -96,180 +197,323 @@ module _ {b now : List ℕ} {kind : Kind} {before : List VariableShape} {own : V
   h : HasShape b s
   h = sound.has_shape
 
-  image : IsGoodByShape b s
-  image = good_by_its_shape b good
+  e : Edit b now s.records records' ks born
+  e = edit good among w
 
-  plain : type_of_body body ≡ vvr_type
-  plain = plain_body body records says
+  -- ---- the block is one that is not packed
 
-  order : InOrder 0 record_number_limit own.index
-  order = index_order b s.records v own.index (own_rules good among).1
+  module _ (plain : type_of_body body ≡ vvr_type) where
+    pub records_are : (shape now).records ≡ records'
+    records_are = of_own.records_are good among (own_edit good among w plain)
 
-  -- ---- the nodes
+    list_is : (shape now).unused ≡ (shape w.roomy).unused
+    list_is = of_own.unused_are good among (own_edit good among w plain)
 
-  counted_before_it : Each (Counts b) (nodes_of own.index)
-  counted_before_it =
-      let rows = (Hold-split (nodes_rows b s.records (negsuc 0) (pos record_number_limit) own.index) (flat_map (leaf_rows b s.records v) (leaves_of own.index)) (own_rules good among).1).0 in
-      each_in (Counts b) (nodes_of own.index) (λ m i.
-      let r = rooms_hold b s.records (negsuc 0) (pos record_number_limit) own.index rows m i in
-      let p = both (nat_le (number b m vxr_n_used_entries) (room_at b m) && nat_le (room_at b m) signed_limit) (holds b m (vxr_entries (room_at b m))) r in
-      le_of (number b m vxr_n_used_entries) (room_at b m) (both (nat_le (number b m vxr_n_used_entries) (room_at b m)) (nat_le (room_at b m) signed_limit) p.0).0)
+    pub placed_still : Edit w.filled w.filled (shape w.filled).records (shape w.filled).records [] []
+    placed_still = still_edit (block_placed good among w).sound.has_shape
 
-  node_room : (m : ℕ) → In m (nodes_of mine.index) → has_room now m ≡ true
-  node_room m i =
-      let fit = (Each-in (NodeFits now) (nodes_of mine.index) w.fits m i).0 in
-      let count : number now m vxr_n_used_entries ≤ room_at now m = Each-in (Counts now) (nodes_of mine.index) (w.counts counted_before_it) m i in
-      let stands = linkable-in now records' vxr_type m (nodes_stand now records' 8 mine.index w.index.has_nodes m i) in
-      let high = (tile_lies now 8 (length now) records' m (edit good among w).tiled_now stands).high in
-      rw (of_le (number now m vxr_n_used_entries) (room_at now m) count, of_le (room_at now m) signed_limit (small (room_at now m) (size_at now m) m (length now) fit high short), of_le (28 + 16 * room_at now m) (size_at now m) fit) refl
-    where
-      small : (r n m l : ℕ) → 28 + 16 * r ≤ n → m + n ≤ l → l ≤ image_limit → r ≤ signed_limit
-      small r n m l p q t = omega arith
+    block_follows : ActsFollow b w.filled (Took new.place (8 + length body) ∷ [])
+    block_follows = acts_took sound w.block.fills placed_still refl refl refl refl
 
-  -- ---- the blocks
+    block_listed : ListedStay b w.filled (Took new.place (8 + length body) ∷ [])
+    block_listed = took_listed sound w.block.fills placed_still refl refl refl
 
-  abbrev x : IndexEdit b now kind own (with_leaf new at own.index) records' (shape w.roomy).unused (marks good among w) reborn
-  x = index_edit good among w plain
+    node_part : NodeFollows w.filled now roomed at
+    node_part =
+        let lately = index_late kind v (new_nodes roomed at ++ nodes_of own.index) (length w.roomy) in
+        node_follows roomed at (block_placed good among w).sound (node_placed good among w).sound w.node (entries_written good among w) w.as_long lately (index_unmarked kind v (new_nodes roomed at ++ nodes_of own.index) (length w.roomy)) records_are list_is
 
-  abbrev y : OwnEdit b now kind own (with_leaf new at own.index) records' (shape w.roomy).unused (marks good among w) reborn
-  y = own_edit good among w plain
+    pub leaf_follows : ActsFollow b now (leaf_acts new.place (8 + length body) (new_room new.first own.index) at)
+    leaf_follows = acts_joined sound.has_shape (block_placed good among w).sound.has_shape block_follows node_part.follow tt (node_takes roomed at) block_listed node_part.listed
 
-  same_bytes : record_bytes now v ≡ record_bytes b v
-  same_bytes = record_alike (file good among w) (vdr_alike good among x)
+    stays : (m : ℕ) → In m (shape b).records → Kept b now m → (fs : List Field) → Stays b now m fs
+    stays m i k fs = keeps_stood b now m (stood sound e records_are m i k) (Only fs)
 
-  block_rows : (l : Leaf) → In l.place records' → type_at now l.place ≡ vvr_type → l.first ≤ l.last → l.last ≤ record_number_limit → 12 + (l.last + 1 - l.first) * record_bytes b v ≤ size_at now l.place → (is_block now records' l.place ≡ true) × Hold (leaf_rows now records' v l)
-  block_rows l stands typed ordered small fit =
-      let is = is_a-from now records' vvr_type l.place stands typed in
-      let plain_bytes : plain_size now v l ≡ (l.last + 1 - l.first) * record_bytes b v = (let c = count_is l small ordered in let n = same_bytes in λ i. c i * n i) in (
-        ap (λ (p : Bool). p || is_a now records' cvvr_type l.place) is,
-        Hold-append (asked (is_a now records' vvr_type l.place) (vvr_rows now v l)) (asked (is_a now records' cvvr_type l.place) (cvvr_rows now v l))
-            (asked_hold (is_a now records' vvr_type l.place) (vvr_rows now v l) (λ e. (of_le (12 + plain_size now v l) (size_at now l.place) (subst (λ (n : ℕ). 12 + n ≤ size_at now l.place) (sym plain_bytes) fit), tt)))
-            (asked_hold (is_a now records' cvvr_type l.place) (cvvr_rows now v l) (λ e. absurd (apart vvr_type cvvr_type refl (sym typed ∙ is_a-type now records' cvvr_type l.place e)))),
-      )
+    -- other variables
+    away_stays : (xs : List ℕ) → ((m : ℕ) → In m xs → In m (all_variable_records (shape b))) → ((m : ℕ) → In m (variable_records own) → In m xs → ⊥) → (m : ℕ) → In m xs → Stays b now m []
+    away_stays xs sub out m i =
+        let inside = variables_in b (shape b) sound m (sub m i) in
+        stays m inside (kept_away e m (type_at b m) inside refl (beside good among w m (sub m i) (λ j. out m j i))) []
 
-  old_leaf : (l : Leaf) → IsOneOf (leaves_of own.index) l → (is_block now records' l.place ≡ true) × Hold (leaf_rows now records' v l)
-  old_leaf l i =
-      let x = plain_leaf good among loose l i in
-      let j = place_in (leaves_of own.index) l i in
-      let k = block_kept good among w l.place j in
-      let stands = (edit good among w).sub l.place (behind_in good among l.place (block_behind own l.place j)) in
-      block_rows l stands (type_kept b now l.place k.same k.long ∙ x.typed) x.ordered x.small (subst (λ (n : ℕ). 12 + (l.last + 1 - l.first) * record_bytes b v ≤ n) (sym (size_kept b now l.place k.same (let t = k.long in omega arith))) x.room)
+    -- ---- the descriptor
 
-  new_leaf : (is_block now records' new.place ≡ true) × Hold (leaf_rows now records' v new)
-  new_leaf =
-      let stands = (second good among w).edit.sub new.place (block_in good among w) in
-      let size = block_size good among w says in
-      let needed = size_needed good among w says in
-      block_rows new stands (block_type good among w says) vacant.ordered (before_limit new.first new.last (firsts_of own.index) vacant.before_next)
-      (subst (λ (n : ℕ). 12 + n ≤ size_at now new.place) as_long (enough (length records) (size_at now new.place) (size ∙ needed)))
-    where
-      enough : (n k : ℕ) → k ≡ max 28 (12 + n) → 12 + n ≤ k
-      enough n k e = omega arith
+    descriptor_stays : Stays b now own.vdr (vdr_max_rec ∷ vdr_vxr_head ∷ vdr_vxr_tail ∷ [])
+    descriptor_stays = record {
+      stands = subst (In own.vdr) (sym records_are) (e.sub own.vdr (tile good among));
+      size_is = vdr_long good among w;
+      same = λ n lt out. (part good among w n (n + 1) (aside n out) (omega arith)).each (own.vdr + n) (omega arith) (omega arith);
+    }
+      where
+        aside : (n : ℕ) → OutsideFields (vdr_max_rec ∷ vdr_vxr_head ∷ vdr_vxr_tail ∷ []) n → (n + 1 ≤ 28) ⊎ (44 ≤ n)
+        aside n out = elim out.1.0 [ inl x ↦ inl (omega arith) | inr x ↦ elim out.1.1.0 [ inl y ↦ absurd (omega arith) | inr y ↦ inr y ] ]
 
-  each_leaf : (l : Leaf) → IsOneOf (leaves_of mine.index) l → (is_block now records' l.place ≡ true) × Hold (leaf_rows now records' v l)
-  each_leaf l i = elim (leaf_was_there new at 0 record_number_limit own.index order l i) [
-    | inl q ↦ subst (λ (x : Leaf). (is_block now records' x.place ≡ true) × Hold (leaf_rows now records' v x)) (sym q) new_leaf
-    | inr j ↦ old_leaf l j
-  ]
+    pub leaf_max_rec : number now own.vdr vdr_max_rec ≡ number b own.vdr vdr_max_rec
+    leaf_max_rec = word_kept b now (own.vdr + 24) (own.vdr + 28) (part_of good among w 24 28 (inl (omega arith)) (omega arith)) (own.vdr + 24) 4 (omega arith) (omega arith)
 
-  index_ruled : Hold (index_rows now records' v mine.index)
-  index_ruled = index_rules_with_leaf b now s.records records' v new at own.index (own_rules good among).1 vacant.ordered vacant.uncovered vacant.before_next node_room each_leaf
+    -- ---- the records of the variable
 
-  -- ---- its MaxRec
+    kept_stands : (r m : ℕ) → In m (variable_records own) → Kept b now m → Keeps b now m (own_may good among r m)
+    kept_stands r m i k = keeps_stood b now m (stood sound e records_are m (variables_in b s sound m (own_in_all good among m i)) k) (own_may good among r m)
 
-  max_same : number now v vdr_max_rec ≡ number b v vdr_max_rec
-  max_same = word_kept b now (v + 24) (v + 28) (part_of good among w 24 28 (inl (omega arith)) (omega arith)) (v + 24) 4 (omega arith) (omega arith)
+    mine_keeps : (r m : ℕ) → In m (variable_records own) → Keeps b now m (own_may good among r m)
+    mine_keeps r m (inl q) = subst (λ (x : ℕ). Keeps b now x (own_may good among r x)) (sym q) (subst (Keeps b now own.vdr) (sym (descriptor_allowed good among r)) descriptor_stays)
+    mine_keeps r m (inr j) = elim (In-append m (nodes_of own.index ++ places_of (leaves_of own.index)) own.cpr j) [
+      | inr c ↦
+          let typed = is_a-type b s.records cpr_type m (Each-in (λ x. is_a b s.records cpr_type x ≡ true) own.cpr (fits good among).3 m c) in
+          kept_stands r m (inr j) (kept e m cpr_type (behind_in good among m (cpr_behind own m c)) typed (tests good among w).cpr_clear)
+      | inl k ↦ elim (In-append m (nodes_of own.index) (places_of (leaves_of own.index)) k) [ inl n ↦ subst (Keeps b now m) (sym (node_allowed good among r m n)) tt | inr n ↦ kept_stands r m (inr j) (block_kept good among w m n) ]
+    ]
 
-  -- ---- the owners
+    -- ---- unused records
 
-  own_times : (m : ℕ) → times m (variable_records mine) ≡ times m (variable_records own) + times m reborn
-  own_times m =
-      sums (times m (v ∷ [])) (times m (nodes_of own.index)) (times m (places_of (leaves_of own.index))) (times m own.cpr) (times m (nodes_of mine.index)) (times m (places_of (leaves_of mine.index))) (times m (new.place ∷ [])) (times m (new_nodes room at)) (times m reborn) (times m (variable_records own)) (times m (variable_records mine))
-      (parts_times own m) (parts_times mine m) (nodes_with_leaf new at m own.index ∙ ap (λ (n : ℕ). times m (nodes_of own.index) + n) (sym (new_times room at m))) (places_with_leaf new at 0 record_number_limit own.index order m) (times-append m (new.place ∷ []) (new_nodes room at))
-    where
-      sums : (v n p c n' p' a d r o o' : ℕ) → o ≡ v + (n + p + c) → o' ≡ v + (n' + p' + c) → n' ≡ n + d → p' ≡ p + a → r ≡ a + d → o' ≡ o + r
-      sums v n p c n' p' a d r o o' e f g i j = omega arith
+    entries_away : (m : ℕ) → Away entries uir_type m
+    entries_away m = unmarked-away entries uir_type m (index_unmarked kind own.vdr (new_nodes roomed at ++ nodes_of own.index) (length w.roomy))
 
-  abbrev shape_now_is : Shape
-  shape_now_is = with_shapes s kind records' (shape w.roomy).unused (before ++ mine ∷ after)
+    listed_alone : (m : ℕ) → In m (shape b).unused → is_taken b acts m ≡ false → LinksAlone ks m
+    listed_alone m i free =
+        let inside = linkable-in b (shape b).records uir_type m (h.unused_chain.linkable m i) in
+        let long = (tile_lies b 8 (length b) (shape b).records m h.tiled inside).long in
+        let none = none_of_both (λ (take : ℕ × ℕ). nat_le m take.0 && nat_lt take.0 (m + size_at b m)) (Took new.place (8 + length body) ∷ []) (node_acts roomed at) free in
+        both_alone space entries m
+        (both_alone (placing_marks (shape b).unused new.place (8 + length body)) (node_marks (shape w.filled).unused roomed at) m
+        (placing_alone (shape b).unused new.place (8 + length body) m (not_there b new.place (8 + length body) m long none.0))
+        (node_alone b (shape w.filled).unused roomed at m long none.1))
+        (away_alone entries m (entries_away m))
 
-  used_after : (m : ℕ) → used_times shape_now_is m ≡ used_times s m + times m reborn
-  used_after m = plain_sum (used_times shape_now_is m) (used_times s m) (times m reborn) (spliced_times s kind records' (shape w.roomy).unused before (own ∷ []) (mine ∷ []) after among.was m (times m reborn) 0
-      (more (times m (flat_map variable_records (mine ∷ []))) (times m (flat_map variable_records (own ∷ []))) (times m (variable_records mine)) (times m (variable_records own)) (times m reborn) (times-append m (variable_records mine) []) (times-append m (variable_records own) []) (own_times m)))
-    where
-      plain_sum : (a c r : ℕ) → a + 0 ≡ c + r → a ≡ c + r
-      plain_sum a c r e = omega arith
+    unlisted_alone : (m : ℕ) → In m (shape b).records → (In m (shape b).unused → ⊥) → Away ks uir_type m
+    unlisted_alone m i out =
+        let still = placed_still in
+        let later = (block_placed good among w).edit.sub m i in
+        let off : In m (shape w.filled).unused → ⊥ = λ j. out (listed_before sound w.block.fills still refl refl m i j) in
+        Away-append space entries uir_type m
+        (Away-append (placing_marks (shape b).unused new.place (8 + length body)) (node_marks (shape w.filled).unused roomed at) uir_type m (loose_away sound w.block.fills still refl refl m i out)
+        (node_away roomed at (block_placed good among w).sound w.node (node_placed good among w).sound m later off))
+        (entries_away m)
 
-      more : (a c x y r : ℕ) → a ≡ x + 0 → c ≡ y + 0 → x ≡ y + r → a + 0 ≡ c + r
-      more a c x y r e f g = omega arith
+    -- ---- all of them
 
-  reborn_once : Distinct reborn
-  reborn_once = (new_apart good among w, new_once room at)
+    module _ (r : ℕ) where
+      unused_keep : (m : ℕ) → In m (unused_records b (shape b)) → Keeps b now m (unused_allowance b (shape b) acts m)
+      unused_keep m i =
+          let may = put_changes b (shape b) (found_in b kind before own) r in
+          kept_place b now may acts Unused (unused_records b (shape b)) (keep_unused sound e records_are may acts listed_alone unlisted_alone) m i
 
-  in_use : (m : ℕ) → In m reborn → type_at now m ≢ uir_type
-  in_use m i u = elim (type_now good among w plain m i) [ inl x ↦ apart vvr_type uir_type refl (sym x.1 ∙ u) | inr x ↦ apart vxr_type uir_type refl (sym x.2 ∙ u) ]
+      pub leaf_put_keeps : PutKeeps b now kind before own after r acts
+      leaf_put_keeps = record {
+        cdr = let inside = is_a-in b (shape b).records cdr_type 8 h.cdr_stands in stays 8 inside (cdr_kept sound e (tests good among w).file_clear) [];
+        gdr = keeps_fields sound e records_are (shape b).gdr gdr_type (r_max_rec_field kind ++ space_fields) (gdr_in b (shape b) h) (gdr_typed b (shape b) h) (tests good among w).heads_clear (tests good among w).inside;
+        attributes = λ m i. stays m (all_attributes_in sound m i) (attributes_kept sound (splices good among w plain) m i) [];
+        in_front = away_stays _ (ours good among).0.sub (λ m i. (only good among w m i).in_before);
+        behind = away_stays _ (after_ours good among).sub (λ m i. (only good among w m i).in_after);
+        others = away_stays _ (kind_ours b (shape b) sound (other_kind kind)).sub (λ m i. (only good among w m i).in_others);
+        mine = mine_keeps r;
+        unused = unused_keep;
+      }
 
-  owned_now : OwnedOnce now shape_now_is
-  owned_now = owned_once_if b now s shape_now_is _ reborn sound image.owned_once (edit good among w)
-      (λ m out. none_more (used_times shape_now_is m) (used_times s m) (times m reborn) (used_after m) (times-none m reborn out))
-      (λ m i. inl (in_use m i, one_more (used_times shape_now_is m) (used_times s m) (times m reborn) (used_after m) (fresh_unowned sound m (new_fresh good among w m i)) (times-once m reborn reborn_once i)))
-    where
-      none_more : (a c r : ℕ) → a ≡ c + r → r ≡ 0 → a ≡ c
-      none_more a c r e f = omega arith
+      pub leaf_keeps : AllKeep b now (put_changes b (shape b) (found_in b kind before own) r) (leaf_acts new.place (8 + length body) (new_room new.first own.index) at) (owned b (shape b))
+      leaf_keeps = all_kept b now kind before own after r acts among sound leaf_put_keeps
 
-      one_more : (a c r : ℕ) → a ≡ c + r → c ≡ 0 → r ≡ 1 → a ≡ 1
-      one_more a c r e f g = omega arith
+  -- ---- its records
 
-  -- ---- the rules of the image
+  module _ {records : List ℕ} (says : IsBlockBody body records) where
+    pub plain : type_of_body body ≡ vvr_type
+    plain = plain_body body records says
 
-  reborn_read : (m : ℕ) → In m reborn → is_in (type_at now m) read_types ≡ true
-  reborn_read m i = elim (type_now good among w plain m i) [ inl z ↦ ap (λ (t : ℕ). is_in t read_types) z.1 | inr z ↦ ap (λ (t : ℕ). is_in t read_types) z.2 ]
+    k : Kept w.filled now new.place
+    k = placed_kept good among w plain
 
-  pub good_now : Good now
-  good_now = good_if_ruled good among x index_ruled (ap is_max_rec max_same ∙ (own_rules good among).0.1.1.1.1.1.1.1.0) reborn_read owned_now (end_now good among w) short
+    pub vvr_now : type_at now new.place ≡ vvr_type
+    vvr_now = type_kept w.filled now new.place k.same k.long ∙ w.block.fills.typed ∙ plain
 
-  -- ---- how it goes on
+    pub block_size : size_at now new.place ≡ 8 + length body
+    block_size = size_kept w.filled now new.place k.same (let l = k.long in omega arith) ∙ placed_size good among w
 
-  still_own : (m : ℕ) → In m (variable_records own) → In m (variable_records mine)
-  still_own m i = elim (either (is_in m (variable_records mine))) [
-    | inl e ↦ true-is_in m (variable_records mine) e
-    | inr e ↦ absurd (none (times m (variable_records mine)) (times m (variable_records own)) (times m reborn) (own_times m) (times-none m (variable_records mine) (false-is_in m (variable_records mine) e)) (times-in m (variable_records own) i))
-  ]
-    where
-      none : (a c r : ℕ) → a ≡ c + r → a ≡ 0 → 1 ≤ c → ⊥
-      none a c r e f l = omega arith
+    pub size_needed : 8 + length body ≡ max 28 (12 + length records)
+    size_needed = let e = says.as_long in omega arith
 
-  r_max_rec_same : r_max_rec now ≡ r_max_rec b
-  r_max_rec_same =
-      let same = gdr_part sound (edit good among w) (tests good among w).file_clear 52 56 (tests good among w).max_clear (let l = gdr_long b s h in omega arith) in
-      ap (λ (x : ℕ). integer4 now x gdr_r_max_rec) (gdr_place sound (edit good among w) (tests good among w).file_clear)
-      ∙ ap (cast_signed w32) (word_kept b now (s.gdr + 52) (s.gdr + 56) same (s.gdr + 52) 4 (omega arith) (omega arith))
-      ∙ sym (ap (λ (x : ℕ). integer4 b x gdr_r_max_rec) h.gdr_is)
+    -- its bytes behind its size
+    body_at : (i : ℕ) → i < length body → byte now (new.place + 8 + i) ≡ byte body i
+    body_at i lt =
+        let size = placed_size good among w in
+        k.same.each (new.place + 8 + i) (omega arith) (omega arith) ∙ ap (λ (xs : List ℕ). byte xs (new.place + 8 + i)) w.block.written ∙ byte-put_inside w.block.taken (new.place + 8) body i (let l = w.block.inside in omega arith) lt
 
-  descriptor_stays : DescriptorStays b now v
-  descriptor_stays = record {
-    size_is = vdr_size good among x;
-    type_is = vdr_type good among x;
-    front = Same-part b now (v + 0) (v + 24) v (v + 24) (of_index.part_of good among x 0 24 (inl (omega arith)) (omega arith)) (omega arith) (omega arith);
-    behind = of_index.part good among x 44 (size_at b v) (inr (omega arith)) (omega arith);
-  }
+    abbrev n : ℕ
+    n = length records
 
-  -- with acts that follow, and that keep what a put keeps
-  pub leaf_goes_on : {r : ℕ} {acts : List Act} → ActsFollow b now acts → AllKeep b now (put_changes b s (found_in b kind before own) r) acts (owned b s) → GoesOn b now kind before own mine after r acts
-  leaf_goes_on follow keep = record {
-    good = good_now;
-    among = of_own.among_now good among y;
-    vdr_is = refl;
-    cpr_is = refl;
-    own_stay = still_own;
-    gdr_is = ap (λ (x : Shape). x.gdr) (of_own.same_shape good among y);
-    attributes_are = ap (λ (x : Shape). x.attributes) (of_own.same_shape good among y);
-    others_are = of_own.others_are good among y;
-    descriptor = descriptor_stays;
-    file = file good among w;
-    r_max_rec_is = r_max_rec_same;
-    content_is = of_own.content_replaced good among y;
-    longer = (file good among w).longer;
-    follow = follow;
-    keep = keep;
-  }
+    records_now : take n (drop (new.place + 12) now) ≡ records
+    records_now =
+        let size = placed_size good among w in
+        let inside : new.place + size_at w.filled new.place ≤ length w.filled = k.inside in
+        let grows : length w.filled ≤ length w.roomy = (node_placed good among w).edit.longer in
+        let as_long : length now ≡ length w.roomy = w.as_long in
+        let body_long : length body ≡ max 20 (4 + length records) = says.as_long in
+        let e : length (take n (drop (new.place + 12) now)) ≡ n = simp (length-take, length-drop) (omega arith) in
+        let f : length (take n (drop 4 body)) ≡ n = simp (length-take, length-drop) (omega arith) in
+        ext_get_or 0 (take n (drop (new.place + 12) now)) (take n (drop 4 body)) (e ∙ sym f) (λ i lt.
+        let l : i < n = subst (λ (x : ℕ). i < x) e lt in
+        get_or-take n (drop (new.place + 12) now) i 0 l ∙ get_or-drop (new.place + 12) now i 0 ∙ ap (λ (x : ℕ). byte now x) (moved new.place i) ∙ body_at (4 + i) (fits_in i l) ∙ sym (get_or-drop 4 body i 0) ∙ sym (get_or-take n (drop 4 body) i 0 l))
+        ∙ says.records_are
+      where
+        moved : (p i : ℕ) → p + 12 + i ≡ p + 8 + (4 + i)
+        moved p i = omega arith
+
+        fits_in : (i : ℕ) → i < n → 4 + i < length body
+        fits_in i l = let body_long : length body ≡ max 20 (4 + length records) = says.as_long in omega arith
+
+    pub blocks_go_on : BlocksGoOn b now own new records
+    blocks_go_on = record {
+      old = each_of (λ (l : Leaf). Same b now l.place (l.place + size_at b l.place)) (leaves_of own.index) (λ l i. (block_kept good among w l.place (place_in (leaves_of own.index) l i)).same);
+      size_is = block_size ∙ size_needed;
+      records_are = records_now;
+      spare = λ i l lt.
+          let e = block_size in
+          let j : 8 + (i - 8) ≡ i = omega arith in
+          ap (λ (x : ℕ). byte now x) (behind i j) ∙ body_at (i - 8) (omega arith) ∙ says.spare (i - 8) (omega arith) (omega arith);
+    }
+      where
+        behind : (i : ℕ) → 8 + (i - 8) ≡ i → new.place + i ≡ new.place + 8 + (i - 8)
+        behind i j = omega arith
+
+    module _ (loose : is_compressed b own.vdr ≡ false) (vacant : IsVacant own new.first new.last) (as_long : length records ≡ (new.last + 1 - new.first) * record_bytes b own.vdr) (short : length now ≤ image_limit) where
+      abbrev mine : VariableShape
+      mine = with_new good among w
+
+      image : IsGoodByShape b s
+      image = good_by_its_shape b good
+
+      order : InOrder 0 record_number_limit own.index
+      order = index_order b s.records v own.index (own_rules good among).1
+
+      -- ---- the nodes
+
+      counted_before_it : Each (Counts b) (nodes_of own.index)
+      counted_before_it =
+          let rows = (Hold-split (nodes_rows b s.records (negsuc 0) (pos record_number_limit) own.index) (flat_map (leaf_rows b s.records v) (leaves_of own.index)) (own_rules good among).1).0 in
+          each_in (Counts b) (nodes_of own.index) (λ m i.
+          let r = rooms_hold b s.records (negsuc 0) (pos record_number_limit) own.index rows m i in
+          let p = both (nat_le (number b m vxr_n_used_entries) (room_at b m) && nat_le (room_at b m) signed_limit) (holds b m (vxr_entries (room_at b m))) r in
+          le_of (number b m vxr_n_used_entries) (room_at b m) (both (nat_le (number b m vxr_n_used_entries) (room_at b m)) (nat_le (room_at b m) signed_limit) p.0).0)
+
+      node_room : (m : ℕ) → In m (nodes_of mine.index) → has_room now m ≡ true
+      node_room m i =
+          let fit = (Each-in (NodeFits now) (nodes_of mine.index) w.fits m i).0 in
+          let count : number now m vxr_n_used_entries ≤ room_at now m = Each-in (Counts now) (nodes_of mine.index) (w.counts counted_before_it) m i in
+          let stands = linkable-in now records' vxr_type m (nodes_stand now records' 8 mine.index w.index.has_nodes m i) in
+          let high = (tile_lies now 8 (length now) records' m e.tiled_now stands).high in
+          rw (of_le (number now m vxr_n_used_entries) (room_at now m) count, of_le (room_at now m) signed_limit (omega arith), of_le (28 + 16 * room_at now m) (size_at now m) fit) refl
+
+      -- ---- the blocks
+
+      abbrev x : IndexEdit b now kind own (with_leaf new at own.index) records' (shape w.roomy).unused ks born
+      x = index_edit good among w plain
+
+      abbrev y : OwnEdit b now kind own (with_leaf new at own.index) records' (shape w.roomy).unused ks born
+      y = own_edit good among w plain
+
+      same_bytes : record_bytes now v ≡ record_bytes b v
+      same_bytes = record_alike (file good among w) (vdr_alike good among x)
+
+      block_rows : (l : Leaf) → In l.place records' → type_at now l.place ≡ vvr_type → l.first ≤ l.last → l.last ≤ record_number_limit → 12 + (l.last + 1 - l.first) * record_bytes b v ≤ size_at now l.place → (is_block now records' l.place ≡ true) × Hold (leaf_rows now records' v l)
+      block_rows l stands typed ordered small fit =
+          let is = is_a-from now records' vvr_type l.place stands typed in
+          let plain_bytes : plain_size now v l ≡ (l.last + 1 - l.first) * record_bytes b v = (let c = count_is l small ordered in let n = same_bytes in λ i. c i * n i) in (
+            ap (λ (p : Bool). p || is_a now records' cvvr_type l.place) is,
+            Hold-append (asked (is_a now records' vvr_type l.place) (vvr_rows now v l)) (asked (is_a now records' cvvr_type l.place) (cvvr_rows now v l))
+                (asked_hold (is_a now records' vvr_type l.place) (vvr_rows now v l) (λ e. (of_le (12 + plain_size now v l) (size_at now l.place) (subst (λ (n : ℕ). 12 + n ≤ size_at now l.place) (sym plain_bytes) fit), tt)))
+                (asked_hold (is_a now records' cvvr_type l.place) (cvvr_rows now v l) (λ e. absurd (apart vvr_type cvvr_type refl (sym typed ∙ is_a-type now records' cvvr_type l.place e)))),
+          )
+
+      old_leaf : (l : Leaf) → IsOneOf (leaves_of own.index) l → (is_block now records' l.place ≡ true) × Hold (leaf_rows now records' v l)
+      old_leaf l i =
+          let x = plain_leaf good among loose l i in
+          let j = place_in (leaves_of own.index) l i in
+          let k = block_kept good among w l.place j in
+          let stands = e.sub l.place (behind_in good among l.place (block_behind own l.place j)) in
+          block_rows l stands (type_kept b now l.place k.same k.long ∙ x.typed) x.ordered x.small (subst (λ (n : ℕ). 12 + (l.last + 1 - l.first) * record_bytes b v ≤ n) (sym (size_kept b now l.place k.same (let t = k.long in omega arith))) x.room)
+
+      new_leaf : (is_block now records' new.place ≡ true) × Hold (leaf_rows now records' v new)
+      new_leaf =
+          block_rows new ((node_placed good among w).edit.sub new.place (block_in good among w)) vvr_now vacant.ordered (before_limit new.first new.last (firsts_of own.index) vacant.before_next)
+          (subst (λ (n : ℕ). 12 + n ≤ size_at now new.place) as_long (let size = block_size ∙ size_needed in omega arith))
+
+      each_leaf : (l : Leaf) → IsOneOf (leaves_of mine.index) l → (is_block now records' l.place ≡ true) × Hold (leaf_rows now records' v l)
+      each_leaf l i = elim (leaf_was_there new at 0 record_number_limit own.index order l i) [
+        | inl q ↦ subst (λ (x : Leaf). (is_block now records' x.place ≡ true) × Hold (leaf_rows now records' v x)) (sym q) new_leaf
+        | inr j ↦ old_leaf l j
+      ]
+
+      index_ruled : Hold (index_rows now records' v mine.index)
+      index_ruled = index_rules_with_leaf b now s.records records' v new at own.index (own_rules good among).1 vacant.ordered vacant.uncovered vacant.before_next node_room each_leaf
+
+      -- ---- the owners
+
+      own_times : (m : ℕ) → times m (variable_records mine) ≡ times m (variable_records own) + times m born
+      own_times m =
+          let was = parts_times own m in
+          let is = parts_times mine m in
+          let nodes = nodes_with_leaf new at m own.index ∙ ap (λ (n : ℕ). times m (nodes_of own.index) + n) (sym (new_times roomed at m)) in
+          let blocks = places_with_leaf new at 0 record_number_limit own.index order m in
+          let both = times-append m (new.place ∷ []) (new_nodes roomed at) in
+          omega arith
+
+      abbrev shape_now_is : Shape
+      shape_now_is = with_shapes s kind records' (shape w.roomy).unused (before ++ mine ∷ after)
+
+      used_after : (m : ℕ) → used_times shape_now_is m ≡ used_times s m + times m born
+      used_after m =
+          let is = times-append m (variable_records mine) [] in
+          let was = times-append m (variable_records own) [] in
+          let more = own_times m in
+          let all = spliced_times s kind records' (shape w.roomy).unused before (own ∷ []) (mine ∷ []) after among.was m (times m born) 0 (omega arith) in
+          omega arith
+
+      born_once : Distinct born
+      born_once = (new_apart good among w, new_once roomed at)
+
+      in_use : (m : ℕ) → In m born → type_at now m ≢ uir_type
+      in_use m i u = elim (type_now good among w plain m i) [ inl x ↦ apart vvr_type uir_type refl (sym x.1 ∙ u) | inr x ↦ apart vxr_type uir_type refl (sym x.2 ∙ u) ]
+
+      owned_now : OwnedOnce now shape_now_is
+      owned_now = owned_once_if b now s shape_now_is _ born sound image.owned_once e
+          (λ m out. let more = used_after m in let none = times-none m born out in omega arith)
+          (λ m i. inl (in_use m i, (let more = used_after m in let none = fresh_unowned sound m (new_fresh good among w m i) in let once = times-once m born born_once i in omega arith)))
+
+      -- ---- the rules of the image
+
+      born_read : (m : ℕ) → In m born → is_in (type_at now m) read_types ≡ true
+      born_read m i = elim (type_now good among w plain m i) [ inl z ↦ ap (λ (t : ℕ). is_in t read_types) z.1 | inr z ↦ ap (λ (t : ℕ). is_in t read_types) z.2 ]
+
+      pub good_now : Good now
+      good_now = good_if_ruled good among x index_ruled (ap is_max_rec (leaf_max_rec plain) ∙ (own_rules good among).0.1.1.1.1.1.1.1.0) born_read owned_now (end_now good among w) short
+
+      -- ---- how it goes on
+
+      still_own : (m : ℕ) → In m (variable_records own) → In m (variable_records mine)
+      still_own m i = in-times m (variable_records mine) (let more = own_times m in let some = times-in m (variable_records own) i in omega arith)
+
+      own_descriptor : DescriptorStays b now v
+      own_descriptor = record {
+        size_is = vdr_size good among x;
+        type_is = vdr_type good among x;
+        front = Same-part b now (v + 0) (v + 24) v (v + 24) (of_index.part_of good among x 0 24 (inl (omega arith)) (omega arith)) (omega arith) (omega arith);
+        behind = of_index.part good among x 44 (size_at b v) (inr (omega arith)) (omega arith);
+      }
+
+      pub leaf_goes_on : (r : ℕ) → GoesOn b now kind before own mine after r acts
+      leaf_goes_on r = record {
+        good = good_now;
+        among = of_own.among_now good among y;
+        vdr_is = refl;
+        cpr_is = refl;
+        own_stay = still_own;
+        gdr_is = ap (λ (x : Shape). x.gdr) (of_own.same_shape good among y);
+        attributes_are = ap (λ (x : Shape). x.attributes) (of_own.same_shape good among y);
+        others_are = of_own.others_are good among y;
+        descriptor = own_descriptor;
+        file = file good among w;
+        r_max_rec_is = of_own.r_max_rec_kept good among y (tests good among w).max_clear;
+        content_is = of_own.content_replaced good among y;
+        longer = (file good among w).longer;
+        follow = leaf_follows plain;
+        keep = leaf_keeps plain r;
+      }

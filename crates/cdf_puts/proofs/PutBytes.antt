@@ -1,8 +1,13 @@
 -- The bytes of the blocks while records are put: what a record that is written leaves of them, and what a leaf that is added does.
 use Rattle.std.proofs.Common.{◌≡◌, ◌⊎◌, ℕ, suc, ◌+◌, ◌-◌, ◌*◌, ◌<◌, ◌≤◌, List, length, true, sym, ap, subst, ◌∙◌, arith, inl, inr}
-use Rattle.cdf_puts.proofs.Common.{cases_eq, min, max, is_taken_at, Act, times_le, byte, Same, size_at, Leaf, Same-part, piece_kept, size_kept, word_kept, put_count, put_from, record_of, OldBlock, NewBlock}
+use Rattle.cdf_puts.proofs.Common.{cases_eq, min, max, is_taken_at, Act, times_le, byte, Same, size_at, Leaf, leaves_of, Same-part, piece_kept, size_kept, word_kept, put_count, put_from, record_of, OldBlock, NewBlock, SoFar, Kind, VariableShape, record_bytes, max_rec_at, extent, first_written, variable_of, IsOneOf, PlainLeaf, plain_leaf, place_in, block_behind, behind_in, sound, tile_lies, shape}
 use Rattle.cdf_puts.specs.SoFar.{RecordIs}
+use Rattle.cdf_puts.proofs.GoesThen.{later_size, later_packed}
 use Rattle.cdf_puts.proofs.WrittenGoes.{record_fits}
+
+-- bytes that stay, counted from a place
+pub by_offsets : (b now : List ℕ) (place lo hi : ℕ) → ((i : ℕ) → lo ≤ i → i < hi → byte now (place + i) ≡ byte b (place + i)) → Same b now (place + lo) (place + hi)
+by_offsets b now place lo hi f = record { each = λ p low high. let q : place + (p - place) ≡ p = omega arith in subst (λ (y : ℕ). byte now y ≡ byte b y) q (f (p - place) (omega arith) (omega arith)) }
 
 -- ---- where a record stands in its block
 
@@ -24,9 +29,6 @@ ends_behind first k f t size a c d = sum (max first f - f) (min (k + 1) (t + 1) 
 pub grows_by : (first k f t size : ℕ) → 12 + (max first f - f) * size + (min k (t + 1) - max first f) * size ≤ 12 + (max first f - f) * size + (min (k + 1) (t + 1) - max first f) * size
 grows_by first k f t size = let p = times_le (min k (t + 1) - max first f) (min (k + 1) (t + 1) - max first f) size (omega arith) in omega arith
 
-through : (x y z : ℕ) → x ≤ y → y ≤ z → x ≤ z
-through x y z p q = omega arith
-
 -- ---- pieces that stay
 
 -- a record that stays
@@ -35,57 +37,37 @@ piece_stays mid now l size j bytes same inside longer e = piece_kept mid now (l.
 
 -- a block keeps its size
 pub old_size : {b now raw pad : List ℕ} {r first k size : ℕ} {l : Leaf} → OldBlock b now raw pad r first k size l → 12 ≤ size_at b l.place → size_at now l.place ≡ size_at b l.place
-old_size {b = b} {now = now} {l = l} o long =
-    let same : Same b now l.place (l.place + 8) = record { each = λ p low high. let e : p ≡ l.place + (p - l.place) = omega arith in subst (λ (x : ℕ). byte now x ≡ byte b x) (sym e) (o.kept (p - l.place) (omega arith) (inl (omega arith))) } in
-    word_kept b now l.place (l.place + 8) same (l.place + 0) 8 (omega arith) (omega arith)
+old_size {b = b} {now = now} {l = l} o long = word_kept b now (l.place + 0) (l.place + 8) (by_offsets b now l.place 0 8 (λ i low high. o.kept i (omega arith) (inl (omega arith)))) (l.place + 0) 8 (omega arith) (omega arith)
 
 -- ---- a block that stays
 
-module _ {b mid now raw pad : List ℕ} {r first k k' size : ℕ} {l : Leaf} (longer : length mid ≤ length now) where
-  pub old_stays : OldBlock b mid raw pad r first k size l → 12 + (l.last + 1 - l.first) * size ≤ size_at b l.place → l.place + size_at b l.place ≤ length mid → Same mid now l.place (l.place + size_at b l.place)
-      → put_count first k' l ≡ put_count first k l → ((j : ℕ) → first ≤ j → j < k' → l.first ≤ j → j ≤ l.last → j < k) → OldBlock b now raw pad r first k' size l
-  old_stays o room inside same count none = record {
-    written = λ j from upto f t.
-        let fit = record_fits j l.first l.last size f t in
-        piece_stays mid now l size j (record_of raw pad r j) (Same-part mid now l.place (l.place + size_at b l.place) _ _ same (omega arith) (ends (12 + (j - l.first) * size + size) (through _ _ _ fit room)))
-        (far (12 + (j - l.first) * size + size) (size_at b l.place) (through _ _ _ fit room) inside) longer (o.written j from (none j from upto f t) f t);
-    kept = λ i lt side. same.each (l.place + i) (omega arith) (omega arith) ∙ o.kept i lt (subst (λ (n : ℕ). (i < put_from first size l) ⊎ (put_from first size l + n * size ≤ i)) count side);
-  }
-    where
-      ends : (e : ℕ) → e ≤ size_at b l.place → l.place + e ≤ l.place + size_at b l.place
-      ends e le = omega arith
-
-      far : (e n : ℕ) → e ≤ n → l.place + n ≤ length mid → l.place + e ≤ length mid
-      far e n a c = omega arith
+pub old_stays : {b mid now raw pad : List ℕ} {r first k k' size : ℕ} {l : Leaf} → length mid ≤ length now → OldBlock b mid raw pad r first k size l → 12 + (l.last + 1 - l.first) * size ≤ size_at b l.place → l.place + size_at b l.place ≤ length mid → Same mid now l.place (l.place + size_at b l.place)
+    → put_count first k' l ≡ put_count first k l → ((j : ℕ) → first ≤ j → j < k' → l.first ≤ j → j ≤ l.last → j < k) → OldBlock b now raw pad r first k' size l
+old_stays {b = b} {mid = mid} {now = now} {raw = raw} {pad = pad} {r = r} {first = first} {size = size} {l = l} longer o room inside same count none = record {
+  written = λ j from upto f t.
+      let fit = record_fits j l.first l.last size f t in
+      piece_stays mid now l size j (record_of raw pad r j) (Same-part mid now l.place (l.place + size_at b l.place) _ _ same (omega arith) (omega arith)) (omega arith) longer (o.written j from (none j from upto f t) f t);
+  kept = λ i lt side. same.each (l.place + i) (omega arith) (omega arith) ∙ o.kept i lt (subst (λ (n : ℕ). (i < put_from first size l) ⊎ (put_from first size l + n * size ≤ i)) count side);
+}
 
 -- a new block stays, in which no other record is written
 pub new_stays : {mid now raw pad : List ℕ} {r first most k k' size : ℕ} {acts acts' : List Act} {l : Leaf} → length mid ≤ length now → NewBlock mid raw pad r first most k size acts l → l.first ≤ l.last → 12 + (l.last + 1 - l.first) * size ≤ size_at mid l.place → l.place + size_at mid l.place ≤ length mid → Same mid now l.place (l.place + size_at mid l.place)
     → k ≤ k' → is_taken_at acts' l.place ≡ true → NewBlock now raw pad r first most k' size acts' l
-new_stays {mid = mid} {now = now} {raw = raw} {pad = pad} {r = r} {first = first} {k = k} {k' = k'} {size = size} {l = l} longer o ordered room inside same more taken = record {
-  from = o.from;
-  upto = let u = o.upto in omega arith;
-  ends = λ lt. let e = o.ends (omega arith) in omega arith;
-  alone = o.alone;
-  plain = o.plain;
-  was_taken = taken;
-  written = λ j f t.
-      let fit = record_fits j l.first l.last size f t in
-      piece_stays mid now l size j (record_of raw pad r j) (Same-part mid now l.place (l.place + size_at mid l.place) _ _ same (omega arith) (ends (12 + (j - l.first) * size + size) (through _ _ _ fit room)))
-      (far (12 + (j - l.first) * size + size) (size_at mid l.place) (through _ _ _ fit room) inside) longer (o.written j f t);
-  spare = λ i low high. let lt : i < size_at mid l.place = subst (λ (n : ℕ). i < n) size_same high in same.each (l.place + i) (omega arith) (omega arith) ∙ o.spare i low lt;
-}
-  where
-    size_same : size_at now l.place ≡ size_at mid l.place
-    size_same = size_kept mid now l.place same (long ((l.last + 1 - l.first) * size) (size_at mid l.place) room)
-      where
-        long : (x n : ℕ) → 12 + x ≤ n → 8 ≤ n
-        long x n le = omega arith
-
-    ends : (e : ℕ) → e ≤ size_at mid l.place → l.place + e ≤ l.place + size_at mid l.place
-    ends e le = omega arith
-
-    far : (e n : ℕ) → e ≤ n → l.place + n ≤ length mid → l.place + e ≤ length mid
-    far e n a c = omega arith
+new_stays {mid = mid} {now = now} {raw = raw} {pad = pad} {r = r} {first = first} {k = k} {k' = k'} {size = size} {l = l} longer o ordered room inside same more taken =
+    let size_same = size_kept mid now l.place same (omega arith) in
+    let upto = o.upto in
+    record {
+      from = o.from;
+      upto = omega arith;
+      ends = λ lt. let e = o.ends (omega arith) in omega arith;
+      alone = o.alone;
+      plain = o.plain;
+      was_taken = taken;
+      written = λ j f t.
+          let fit = record_fits j l.first l.last size f t in
+          piece_stays mid now l size j (record_of raw pad r j) (Same-part mid now l.place (l.place + size_at mid l.place) _ _ same (omega arith) (omega arith)) (omega arith) longer (o.written j f t);
+      spare = λ i low high. let lt : i < size_at mid l.place = subst (λ (n : ℕ). i < n) size_same high in same.each (l.place + i) (omega arith) (omega arith) ∙ o.spare i low lt;
+    }
 
 -- ---- a block in which a record is written
 
@@ -103,28 +85,51 @@ old_written {b = b} {mid = mid} {now = now} {raw = raw} {pad = pad} {r = r} {fir
         let lt : j < k = omega arith in
         let fit = record_fits j l.first l.last size f t in
         let apart = records_apart j k l.first size f lt in
-        piece_stays mid now l size j (record_of raw pad r j) (record { each = λ p a c. at_offset _ p a (w.beside (p - l.place) (within _ p (12 + (j - l.first) * size + size) (through _ _ _ fit room) a c) (inl (before _ _ p (12 + (j - l.first) * size + size) apart a c))) })
-        (far (12 + (j - l.first) * size + size) (size_at b l.place) (through _ _ _ fit room) inside) longer (o.written j low lt f t)
+        piece_stays mid now l size j (record_of raw pad r j) (by_offsets mid now l.place _ _ (λ i a c. w.beside i (omega arith) (inl (omega arith)))) (omega arith) longer (o.written j low lt f t)
   ];
   kept = λ i lt side. w.beside i lt (now_beside i side) ∙ o.kept i lt (was_beside i side);
 }
   where
-    at_offset : (x p : ℕ) → l.place + x ≤ p → byte now (l.place + (p - l.place)) ≡ byte mid (l.place + (p - l.place)) → byte now p ≡ byte mid p
-    at_offset x p a e = let q : l.place + (p - l.place) ≡ p = omega arith in subst (λ (y : ℕ). byte now y ≡ byte mid y) q e
-
-    within : (x p e : ℕ) → e ≤ size_at b l.place → l.place + x ≤ p → p < l.place + e → p - l.place < size_at b l.place
-    within x p e le a c = omega arith
-
-    before : (x y p e : ℕ) → e ≤ y → l.place + x ≤ p → p < l.place + e → p - l.place < y
-    before x y p e le a c = omega arith
-
-    far : (e n : ℕ) → e ≤ n → l.place + n ≤ length mid → l.place + e ≤ length mid
-    far e n a c = omega arith
-
     now_beside : (i : ℕ) → (i < put_from first size l) ⊎ (put_from first size l + put_count first (k + 1) l * size ≤ i) → (i < 12 + (k - l.first) * size) ⊎ (12 + (k - l.first) * size + size ≤ i)
     now_beside i (inl lt) = let s = starts_before first k l.first size begins from in inl (omega arith)
     now_beside i (inr le) = inr (subst (λ (n : ℕ). n ≤ i) (ends_behind first k l.first l.last size begins ends from) le)
 
     was_beside : (i : ℕ) → (i < put_from first size l) ⊎ (put_from first size l + put_count first (k + 1) l * size ≤ i) → (i < put_from first size l) ⊎ (put_from first size l + put_count first k l * size ≤ i)
     was_beside i (inl lt) = inl lt
-    was_beside i (inr le) = inr (through _ _ _ (grows_by first k l.first l.last size) le)
+    was_beside i (inr le) = let g = grows_by first k l.first l.last size in inr (omega arith)
+
+-- ---- the blocks of a variable in which records are put
+
+module _ {b now : List ℕ} {kind : Kind} {before : List VariableShape} {own own' : VariableShape} {after : List VariableShape} {raw pad : List ℕ} {r k : ℕ} {acts : List Act} (so : SoFar b now kind before own own' after raw pad r k acts) where
+  abbrev size : ℕ
+  size = record_bytes b own.vdr
+
+  abbrev first : ℕ
+  first = first_written (variable_of b own) r
+
+  pub size_now : record_bytes now own'.vdr ≡ size
+  size_now = later_size so.start.good so.start.among so.goes
+
+  pub now_plain : (l : Leaf) → IsOneOf (leaves_of own'.index) l → PlainLeaf now size l
+  now_plain l i = subst (λ (n : ℕ). PlainLeaf now n l) size_now (plain_leaf so.goes.good so.goes.among (later_packed so.start.good so.start.among so.goes ∙ so.start.loose) l i)
+
+  pub old_plain : (l : Leaf) → IsOneOf (leaves_of own.index) l → PlainLeaf b size l
+  old_plain = plain_leaf so.start.good so.start.among so.start.loose
+
+  pub inside_now : (l : Leaf) → IsOneOf (leaves_of own'.index) l → l.place + size_at now l.place ≤ length now
+  inside_now l i = (tile_lies now 8 (length now) (shape now).records l.place (sound so.goes.good so.goes.among).has_shape.tiled (behind_in so.goes.good so.goes.among l.place (block_behind own' l.place (place_in (leaves_of own'.index) l i)))).high
+
+  pub inside_old : (l : Leaf) → IsOneOf (leaves_of own.index) l → l.place + size_at b l.place ≤ length b
+  inside_old l i = (tile_lies b 8 (length b) (shape b).records l.place (sound so.start.good so.start.among).has_shape.tiled (behind_in so.start.good so.start.among l.place (block_behind own l.place (place_in (leaves_of own.index) l i)))).high
+
+  -- those in which nothing is written go on to another image
+  module _ {now' : List ℕ} (longer : length now ≤ length now') {k' : ℕ} (l : Leaf) (same : Same now now' l.place (l.place + size_at now l.place)) where
+    pub old_goes_on : IsOneOf (leaves_of own.index) l → put_count first k' l ≡ put_count first k l → ((j : ℕ) → first ≤ j → j < k' → l.first ≤ j → j ≤ l.last → j < k) → OldBlock b now' raw pad r first k' size l
+    old_goes_on i count none =
+        let room = (old_plain l i).room in
+        let inside = inside_old l i in
+        let grows = so.goes.longer in
+        old_stays longer (so.blocks.old l i) room (omega arith) (subst (λ (n : ℕ). Same now now' l.place (l.place + n)) (old_size (so.blocks.old l i) (omega arith)) same) count none
+
+    pub new_goes_on : {acts' : List Act} → IsOneOf (leaves_of own'.index) l → k ≤ k' → is_taken_at acts' l.place ≡ true → NewBlock now raw pad r first (extent (max_rec_at b own.vdr)) k size acts l → NewBlock now' raw pad r first (extent (max_rec_at b own.vdr)) k' size acts' l
+    new_goes_on i more taken n = let x = now_plain l i in new_stays longer n x.ordered x.room (inside_now l i) same more taken

@@ -1,16 +1,22 @@
 -- How much longer an image becomes by acts that only take, and that nothing is taken where no bytes are.
-use Rattle.std.proofs.Common.{◌≡◌, ℕ, ◌+◌, ◌≤◌, List, [], ◌∷◌, length, Bool, true, false, refl, ◌∙◌, arith}
-use Rattle.cdf_puts.proofs.Common.{fold, ◌==◌, if◌then◌else◌, Act, Took, Gave, space_before, ActsFollow, Each, IsTaking, taken_bytes}
+use Rattle.std.proofs.Common.{◌≡◌, ℕ, ◌+◌, ◌≤◌, List, [], ◌∷◌, ◌++◌, length, map, Bool, true, false, refl, arith}
+use Rattle.cdf_puts.proofs.Common.{fold, ◌==◌, if◌then◌else◌, Act, Took, Gave, taken, space_before, ActsFollow, Each, IsTaking, taken_bytes}
 use Rattle.cdf_edits.specs.Index.Cut.{BlocksFreedStay, NodesFreedStay, none_written}
 use Rattle.cdf_edits.specs.Space.Acts.{SpaceLeft, after_act, AreActs}
 use Rattle.cdf_edits.specs.Space.Placement.{place_for, eof_after}
-use Rattle.cdf_puts.proofs.SoFarSteps.{taken_sum}
+use Rattle.std.proofs.lemmas.List.Sums.{sum_by-cons}
 
 one_taken : (place need : ℕ) (more : List Act) → taken_bytes (Took place need ∷ more) ≡ need + taken_bytes more
-one_taken place need more = taken_sum (Took place need ∷ []) more ∙ alone need (taken_bytes more)
-  where
-    alone : (n m : ℕ) → (0 + n) + m ≡ n + m
-    alone n m = omega arith
+one_taken place need more = sum_by-cons (λ x. x) need (map (λ (take : ℕ × ℕ). take.1) (taken more))
+
+pub taken_sum : (acts acts' : List Act) → taken_bytes (acts ++ acts') ≡ taken_bytes acts + taken_bytes acts'
+taken_sum [] acts' = omega arith
+taken_sum (Took place need ∷ more) acts' =
+    let both = one_taken place need (more ++ acts') in
+    let first = one_taken place need more in
+    let rest = taken_sum more acts' in
+    omega arith
+taken_sum (Gave place size ∷ more) acts' = taken_sum more acts'
 
 end_by : (list : List (ℕ × ℕ)) (end need : ℕ) → eof_after list end need ≤ end + need
 end_by list end need = by (place_for list end need == end)
@@ -24,10 +30,8 @@ end_after_acts l [] t = omega arith
 end_after_acts l (Took place need ∷ more) t =
     let rest = end_after_acts (after_act l (Took place need)) more t.1 in
     let here = end_by l.listed l.end need in
-    sum (fold after_act (after_act l (Took place need)) more).end (eof_after l.listed l.end need) l.end need (taken_bytes more) (taken_bytes (Took place need ∷ more)) rest here (one_taken place need more)
-  where
-    sum : (f e l n m t : ℕ) → f ≤ e + m → e ≤ l + n → t ≡ n + m → f ≤ l + t
-    sum f e l n m t a c d = omega arith
+    let all = one_taken place need more in
+    omega arith
 end_after_acts l (Gave place size ∷ more) t = absurd t.0
 
 -- an image is longer by no more than was taken

@@ -1,8 +1,21 @@
--- Where the next record is put: what an image says of a variable of which some records are put, and each step from there.
-use Rattle.std.proofs.Common.{◌≡◌, ℕ, zero, suc, ◌+◌, ◌-◌, ◌*◌, ◌<◌, ◌≤◌, List, [], ◌∷◌, ◌++◌, length, max, min, append_assoc, false, Some, None, ltb, sym, ap, subst, ◌∙◌, arith, inl, inr}
-use Rattle.cdf_puts.proofs.Common.{lt-ltb, le-ltb, ltb-true, find, if◌then◌else◌, shapes_of, put_room, vxr_bytes, widest, range, covers, firsts_of, next_first, block_count, is_sparse, first_written, new_room, times_le, StandsAmong, fits, has, long, tile, variable_of, number, Nodes, leaf, leaves_of, vdr_vxr_head, VariableShape, is_compressed, shape, variables, vdrs, IsSound, In, record_bytes, max_rec_at, sparse_at, Good, good_by_its_shape, good_is_sound, either, tile_lies, LeafAdded, NodeTaken, leaf_acts, HasIndex, index_at, leaf_of, Variable, extent, image_limit, record_number_limit, Kind, R, Z, Covering, new_last, block_bytes, IsPut, PutsUpTo, SomePut, last_in_new, record_put, records_put, SoFar, taken_bytes, IsBlockBody, IsVacant}
+-- Where the next record is put: the records of a new block, each step by which records are put, and what an image says of a variable of which some records are put.
+use Rattle.std.proofs.Common.{◌≡◌, ℕ, zero, suc, ◌+◌, ◌-◌, ◌*◌, ◌<◌, ◌≤◌, List, ◌++◌, append_assoc, append-nil, length, take, drop, max, sym, ap, subst, ◌∙◌, arith, inl, inr, [], ◌∷◌, false, refl, Result, Ok, Err, min, Some, None, ltb}
+use Rattle.cdf_puts.proofs.Common.{length-append, take_at, drop_at, drop-drop, ◌==◌, IsBody, uir_type, vvr_type, is_record_type, fixed_size, either, records_put, BlockRecords, record_of, IsBlockBody, ne_eqb, min, max, if◌then◌else◌, image_limit, Kind, vxr_bytes, firsts_of, new_range, first_written, is_sparse, with_leaf, new_room, Act, variable_of, number, with_sign, Nodes, leaf, vdr_max_rec, VariableShape, Each, shape, record_bytes, max_rec_at, LeafAdded, leaf_acts, own_rules, has, fits, Covering, block_bytes, node_bytes, GoesOn, PutStart, SoFar, IsTaking, taken_bytes, RecordWritten, IsVacant, index_order, Frame, edit_done, edit_failed, edit_more, lt-ltb, le-ltb, find, shapes_of, widest, range, covers, next_first, block_count, record_length, times_le, StandsAmong, long, tile, leaves_of, vdr_vxr_head, is_compressed, variables, vdrs, IsSound, In, sparse_at, Good, good_by_its_shape, good_is_sound, tile_lies, NodeTaken, HasIndex, index_at, leaf_of, Variable, extent, record_number_limit, R, Z, new_last, IsPut, SomePut, last_in_new}
+use Rattle.cdf_puts.proofs.LeafGood.{plain_body, leaf_goes_on, leaf_max_rec, size_needed}
+use Rattle.cdf_puts.proofs.CoveringRanges.{covering_starts, covering_has, covering_leaf, covering_room, covering_vacant, full_or_next, one_alone, one_at_least}
+use Rattle.cdf_puts.proofs.GoesThen.{later_size, later_packed, goes_nowhere, goes_then}
+use Rattle.cdf_puts.proofs.LastImage.{only_takes}
+use Rattle.cdf_puts.proofs.IndexAdded.{blocks_added, index_added}
+use Rattle.cdf_puts.proofs.LeafCounts.{roomy, new_room_widest}
+use Rattle.cdf_puts.proofs.IndexWritten.{blocks_written, index_written}
+use Rattle.cdf_puts.proofs.PutMeaning.{first_goes}
+use Rattle.cdf_puts.proofs.PutRoom.{taken_sum, longer_by}
+use Rattle.cdf_puts.proofs.SoFarStarts.{starts_upto, index_start, blocks_start}
+use Rattle.cdf_puts.proofs.WrittenGoes.{written_goes, long_now, max_rec_kept}
+use Rattle.cdf_area.specs.declared.area.AreaError.{AreaError}
+use Rattle.cdf_area.specs.Calls.{Edits, Keeps}
 use Rattle.std.proofs.Math.Nat.{div-le_self}
-use Rattle.std.proofs.lemmas.Bool.{ltb-false}
+use Rattle.std.proofs.lemmas.Bool.{ltb-false, ltb-true}
 use Rattle.cdf_base.specs.Bytes.{put as put_at}
 use Rattle.cdf_edits.proofs.Edits.StandsAmong.{in_middle}
 use Rattle.cdf_format.specs.GoodImage.{IsGoodImage}
@@ -15,15 +28,190 @@ use Rattle.cdf_index.specs.declared.nodes.Leaf.{Leaf}
 use Rattle.cdf_index.proofs.GoodBlock.{good_block}
 use Rattle.cdf_index.proofs.GoodIndex.{good_index}
 use Rattle.cdf_index.proofs.PlainBlocks.{plain_block}
-use Rattle.cdf_puts.specs.Putting.{Putting, PutsOn, SomePutting, most_in_block}
+use Rattle.cdf_puts.specs.Putting.{Putting, PutsOn, SomePutting, most_in_block, PutsUpTo, record_put}
 use Rattle.cdf_puts.specs.declared.putting.NewRecord.{NewRecord}
-use Rattle.cdf_puts.proofs.Covering.{covering_room, covering_vacant}
-use Rattle.cdf_puts.proofs.CoveringRanges.{full_or_next, one_alone, one_at_least}
-use Rattle.cdf_puts.proofs.GoesAlike.{later_packed, later_size}
-use Rattle.cdf_puts.proofs.LeafCounts.{new_room_widest, roomy}
-use Rattle.cdf_puts.proofs.PutRoom.{longer_by}
-use Rattle.cdf_puts.proofs.PutPieces.{block_records, body_long, record_long, records_long}
-use Rattle.cdf_puts.proofs.SoFarSteps.{so_far_added, so_far_starts, so_far_written, with_new_leaf}
+
+-- one record more behind the others
+records_more : (raw pad : List ℕ) (r count k : ℕ) → records_put raw pad r (suc count) k ≡ records_put raw pad r count k ++ record_put raw pad r (k + count)
+records_more raw pad r zero k = let same : k ≡ k + 0 = omega arith in append-nil (record_put raw pad r k) ∙ ap (record_put raw pad r) same
+records_more raw pad r (suc count) k =
+    let later : suc k + count ≡ k + suc count = omega arith in
+    ap (λ (x : List ℕ). record_put raw pad r k ++ x) (records_more raw pad r count (suc k) ∙ ap (λ (n : ℕ). records_put raw pad r count (suc k) ++ record_put raw pad r n) later)
+    ∙ sym (append_assoc (record_put raw pad r k) (records_put raw pad r count (suc k)) (record_put raw pad r (k + suc count)))
+
+pub one_more : (raw pad : List ℕ) (r count k : ℕ) → records_put raw pad r (count + 1) k ≡ records_put raw pad r count k ++ record_put raw pad r (k + count)
+one_more raw pad r count k = let next : count + 1 ≡ suc count = omega arith in ap (λ (n : ℕ). records_put raw pad r n k) next ∙ records_more raw pad r count k
+
+module _ (raw pad : List ℕ) (r size : ℕ) (raw_long : length raw ≡ size) (pad_long : length pad ≡ size) where
+  pub record_long : (k : ℕ) → length (record_put raw pad r k) ≡ size
+  record_long k = elim (either (k == r)) [ inl t ↦ rw t raw_long | inr t ↦ rw t pad_long ]
+
+  pub records_long : (count k : ℕ) → length (records_put raw pad r count k) ≡ count * size
+  records_long zero k = omega arith
+  records_long (suc count) k =
+      let both = length-append (record_put raw pad r k) (records_put raw pad r count (suc k)) in
+      let here = record_long k in
+      let rest = records_long count (suc k) in
+      omega arith
+
+  pub record_there : (count i k : ℕ) → i < count → take size (drop (i * size) (records_put raw pad r count k)) ≡ record_put raw pad r (k + i)
+  record_there zero i k lt = absurd (omega arith)
+  record_there (suc count) zero k lt =
+      let here = record_put raw pad r k in
+      let rest = records_put raw pad r count (suc k) in
+      let none : 0 * size ≡ 0 = omega arith in
+      let same : k ≡ k + 0 = omega arith in
+      ap (λ (n : ℕ). take size (drop n (here ++ rest))) none ∙ take_at here rest size (record_long k) ∙ ap (record_put raw pad r) same
+  record_there (suc count) (suc i) k lt =
+      let here = record_put raw pad r k in
+      let rest = records_put raw pad r count (suc k) in
+      let further : suc i * size ≡ size + i * size = omega arith in
+      let later : suc k + i ≡ k + suc i = omega arith in
+      ap (λ (n : ℕ). take size (drop n (here ++ rest))) further ∙ ap (take size) (sym (drop-drop (i * size) size (here ++ rest)) ∙ ap (drop (i * size)) (drop_at here rest size (record_long k)))
+      ∙ record_there count i (suc k) (omega arith) ∙ ap (record_put raw pad r) later
+
+  pub block_records : (k last : ℕ) → BlockRecords raw pad r k last size (records_put raw pad r (last + 1 - k) k)
+  block_records k last = record {
+    as_long = records_long (last + 1 - k) k;
+    written = λ j from upto. record_there (last + 1 - k) (j - k) k (omega arith) ∙ (let there : k + (j - k) ≡ j = omega arith in ap (record_of raw pad r) there);
+  }
+
+pub body_is : (body records : List ℕ) → IsBlockBody body records → IsBody body
+body_is body records says =
+    let typed = plain_body body records says in
+    let e = says.as_long in
+    record {
+      enough = omega arith;
+      real = ap is_record_type typed;
+      in_use = λ same. other (sym typed ∙ same);
+      fixed = subst (λ (t : ℕ). fixed_size t ≤ 8 + length body) (sym typed) (omega arith);
+    }
+  where
+    other : vvr_type ≡ uir_type → ⊥
+    other e = cc
+
+pub body_long : (body records : List ℕ) → IsBlockBody body records → 8 + length body ≡ max 28 (12 + length records)
+body_long body records says = let e = says.as_long in omega arith
+
+-- the index of a variable with one leaf more
+abbrev pub with_new_leaf : VariableShape → TreeLeaf → ℕ → VariableShape
+with_new_leaf own new at = record own { index = with_leaf new at own.index }
+
+-- ---- how many bytes were taken
+
+leaf_bytes : (place need k at : ℕ) (index : Nodes) → taken_bytes (leaf_acts place need (new_room k index) at) ≡ need + node_bytes k index
+leaf_bytes place need k at index = by (new_room k index)
+  where
+    by : (room : ℕ) → taken_bytes (leaf_acts place need room at) ≡ need + (if room == 0 then 0 else vxr_bytes room)
+    by zero = omega arith
+    by (suc room) = rw (ne_eqb (suc room) 0 (λ e. absurd (omega arith))) (omega arith)
+
+takes_both : (acts acts' : List Act) → Each IsTaking acts → Each IsTaking acts' → Each IsTaking (acts ++ acts')
+takes_both [] acts' t u = u
+takes_both (act ∷ more) acts' t u = (t.0, takes_both more acts' t.1 u)
+
+leaf_takes : (place need room at : ℕ) → Each IsTaking (leaf_acts place need room at)
+leaf_takes place need zero at = (tt, tt)
+leaf_takes place need (suc room) at = (tt, (tt, tt))
+
+-- ---- the steps
+
+module _ {b : List ℕ} {kind : Kind} {before : List VariableShape} {own : VariableShape} {after : List VariableShape} {raw pad : List ℕ} {r : ℕ} where
+  pub so_far_starts : PutStart b kind before own after raw pad r → SoFar b b kind before own own after raw pad r (first_written (variable_of b own) r) []
+  so_far_starts start = record {
+    start = start;
+    from = omega arith;
+    upto = let l = starts_upto start in omega arith;
+    goes = goes_nowhere start.good start.among r;
+    covered = first_written (variable_of b own) r;
+    covered_is = λ le. refl;
+    covered_past = λ lt. lt;
+    covers = covering_starts (variable_of b own) own.index r (ap is_sparse start.no_rule) start.small (index_order b (shape b).records own.vdr own.index (own_rules start.good start.among).1);
+    takes = tt;
+    short = start.short;
+    max_rec_is = refl;
+    index = index_start start;
+    blocks = blocks_start start;
+  }
+
+  module _ {now : List ℕ} {own' : VariableShape} {k : ℕ} {acts : List Act} (so : SoFar b now kind before own own' after raw pad r k acts) (more : k ≤ r) where
+    -- the blocks that there are by now
+    pub covering_now : Covering (variable_of b own) own.index own'.index r k (taken_bytes acts)
+    covering_now = subst (λ (n : ℕ). Covering (variable_of b own) own.index own'.index r n (taken_bytes acts)) (so.covered_is more) so.covers
+
+    max_rec_same : max_rec_at now own.vdr ≡ max_rec_at b own.vdr
+    max_rec_same = ap with_sign so.max_rec_is
+
+    -- the first record that is written is the same by now
+    from_now : first_written (variable_of now own') r ≤ k
+    from_now = let same = first_goes so.start.good so.start.among so.goes max_rec_same in subst (λ (n : ℕ). n ≤ k) (sym same) so.from
+
+    pub so_far_written : {now' : List ℕ} {l : TreeLeaf} → RecordWritten now now' own' l k (record_of raw pad r k) → SoFar b now' kind before own own' after raw pad r (k + 1) acts
+    so_far_written {now' = now'} {l = l} w =
+        let good = so.goes.good in
+        let at = so.goes.among in
+        let small = so.start.small in
+        let step = written_goes good at w r from_now more small so.short in
+        let long = long_now good at w in
+        let short = so.short in
+        let from = so.from in
+        record {
+          start = so.start;
+          from = omega arith;
+          upto = omega arith;
+          goes = subst (GoesOn b now' kind before own own' after r) (append-nil acts) (goes_then so.start.good so.start.among so.goes step (only_takes acts so.takes) tt so.max_rec_is so.blocks.stay);
+          covered = k + 1;
+          covered_is = λ le. refl;
+          covered_past = λ lt. lt;
+          covers = covering_has (variable_of b own) own.index r (ap is_sparse so.start.no_rule) so.start.small own'.index k (taken_bytes acts) covering_now more l w.found;
+          takes = so.takes;
+          short = omega arith;
+          max_rec_is = subst (λ (v : ℕ). number now' v vdr_max_rec ≡ number now v vdr_max_rec) so.goes.vdr_is (max_rec_kept good at w) ∙ so.max_rec_is;
+          index = index_written so more w;
+          blocks = blocks_written so more w;
+        }
+
+    pub so_far_added : {now' : List ℕ} {last place at : ℕ} {body records : List ℕ} → last ≡ (new_range (variable_of b own) (firsts_of own'.index) k).last → IsVacant own' k last → IsBlockBody body records → BlockRecords raw pad r k last (record_bytes b own.vdr) records
+        → LeafAdded now now' own' (leaf k last place false) body at → length now' ≤ image_limit
+        → SoFar b now' kind before own (with_new_leaf own' (leaf k last place false) at) after raw pad r (min (last + 1) (r + 1)) (acts ++ leaf_acts place (8 + length body) (new_room k own'.index) at)
+    so_far_added {now' = now'} {last = last} {place = place} {at = at} {body = body} {records = records} is vacant holds says w short =
+        let good = so.goes.good in
+        let among = so.goes.among in
+        let v = variable_of b own in
+        let new = leaf k last place false in
+        let step = leaf_acts place (8 + length body) (new_room k own'.index) at in
+        let plain = plain_body body records holds in
+        let size = later_size so.start.good so.start.among so.goes in
+        let loose = later_packed so.start.good so.start.among so.goes ∙ so.start.loose in
+        let as_long : length records ≡ (last + 1 - k) * record_bytes now own'.vdr = says.as_long ∙ ap (λ (n : ℕ). (last + 1 - k) * n) (sym size) in
+        let goes : GoesOn now now' kind before own' (with_new_leaf own' new at) after r step = leaf_goes_on good among w holds loose vacant as_long short r in
+        let need : 8 + length body ≡ block_bytes v k last = size_needed good among w holds ∙ ap (λ (n : ℕ). max 28 (12 + n)) says.as_long in
+        let bytes : taken_bytes (acts ++ step) ≡ taken_bytes acts + block_bytes v k last + node_bytes k own'.index =
+        taken_sum acts step ∙ ap (λ (n : ℕ). taken_bytes acts + n) (leaf_bytes place (8 + length body) k at own'.index) ∙ ap (λ (n : ℕ). taken_bytes acts + (n + node_bytes k own'.index)) need ∙ omega arith in
+        let covers : Covering v own.index (with_leaf new at own'.index) r (last + 1) (taken_bytes acts + block_bytes v k last + node_bytes k own'.index) =
+        subst (λ (x : ℕ). Covering v own.index (with_leaf (leaf k x place false) at own'.index) r (x + 1) (taken_bytes acts + block_bytes v k x + node_bytes k own'.index)) (sym is)
+        (covering_leaf v own.index r (ap is_sparse so.start.no_rule) so.start.small own'.index k (taken_bytes acts) covering_now more so.start.loose vacant.uncovered place at (roomy now (shape now).records 8 own'.index (has good among).indexed.has_nodes (fits good among).1)) in
+        let ordered = vacant.ordered in
+        let from = so.from in
+        record {
+          start = so.start;
+          from = omega arith;
+          upto = omega arith;
+          goes = goes_then so.start.good so.start.among so.goes goes (only_takes acts so.takes) (only_takes step (leaf_takes place (8 + length body) (new_room k own'.index) at)) so.max_rec_is so.blocks.stay;
+          covered = last + 1;
+          covered_is = λ le. omega arith;
+          covered_past = λ lt. omega arith;
+          covers = subst (Covering v own.index (with_leaf new at own'.index) r (last + 1)) (sym bytes) covers;
+          takes = takes_both acts step so.takes (leaf_takes place (8 + length body) (new_room k own'.index) at);
+          short = short;
+          max_rec_is = subst (λ (v : ℕ). number now' v vdr_max_rec ≡ number now v vdr_max_rec) so.goes.vdr_is (leaf_max_rec good among w plain) ∙ so.max_rec_is;
+          index = index_added so more is vacant holds says w goes.good goes.among;
+          blocks = blocks_added so more is vacant holds says w goes.good goes.among;
+        }
+
+pub edits_then : {A U T : Type 0} {frame_of : A → Frame U} {faults_of : A → ℕ} {old mid new : A} (r : Result T AreaError) → Keeps frame_of faults_of old mid → Edits frame_of faults_of mid new r → Edits frame_of faults_of old new r
+edits_then (Ok x) before call = edit_done (edit_more before call)
+edits_then (Err e) before call = edit_failed before call refl
 
 -- ---- a variable among all of them
 
@@ -50,10 +238,7 @@ most_some : (v : Variable) (r : ℕ) → 1 ≤ most_in_block v r
 most_some v r = elim (either (ltb r (extent v.max_rec))) [ inl t ↦ rw t (omega arith) | inr t ↦ rw t (one_at_least v) ]
 
 count_few : (v : Variable) → block_count v ≤ 1048576
-count_few v = elim (either v.vary) [ inl t ↦ rw t (fewer _ _ (div-le_self 1048576 _)) | inr t ↦ rw t (omega arith) ]
-  where
-    fewer : (a q : ℕ) → q ≤ 1048576 → max 1 (min a q) ≤ 1048576
-    fewer a q l = omega arith
+count_few v = elim (either v.vary) [ inl t ↦ rw t (let q = div-le_self 1048576 (record_length v) in omega arith) | inr t ↦ rw t (omega arith) ]
 
 most_few : (v : Variable) (r : ℕ) → most_in_block v r ≤ 1048576
 most_few v r = elim (either (ltb r (extent v.max_rec))) [ inl t ↦ rw t (omega arith) | inr t ↦ rw t (count_few v) ]
@@ -64,16 +249,14 @@ last_as v index k r most rule is from upto before = elim (either (ltb r (extent 
   | inl t ↦
       let one : most ≡ 1 = rw t at is in
       let past = ltb-true r (extent v.max_rec) t in
-      alone k most (next_first k (firsts_of index)) one before ∙ sym (one_alone v (firsts_of index) k (lt-ltb k (extent v.max_rec) (omega arith)))
+      let alone = one_alone v (firsts_of index) k (lt-ltb k (extent v.max_rec) (omega arith)) in
+      omega arith
   | inr t ↦
       let count : most ≡ block_count v = rw t at is in
       let past = ltb-false r (extent v.max_rec) t in
       let first : min r (extent v.max_rec) ≤ k = rw rule at from in
       ap (λ (n : ℕ). min (k + n) (next_first k (firsts_of index)) - 1) count ∙ sym (full_or_next v (firsts_of index) k (le-ltb k (extent v.max_rec) (omega arith)))
 ]
-  where
-    alone : (k most next : ℕ) → most ≡ 1 → k < next → min (k + most) next - 1 ≡ k
-    alone k most next e l = omega arith
 
 -- a node more is no wider than the widest
 node_long : (b now : List ℕ) (room at wide : ℕ) → NodeTaken b now room at → room ≤ wide → length now ≤ length b + vxr_bytes wide
@@ -174,13 +357,12 @@ module _ {b now : List ℕ} {kind : Kind} {before : List VariableShape} {own : V
           bytes_long = ap length bytes_are ∙ record_long new.raw.items new.pad.items new.rec size p.start.raw_long p.pad_long k
 
           pub held_within : (k - l.first) * n + length bytes ≤ (l.last + 1 - l.first) * n
-          held_within = ends (k - l.first) (l.last + 1 - l.first) n (length bytes) (one_more l.first l.last k held.1 held.2) (bytes_long ∙ sym size_now ∙ sized)
-            where
-              one_more : (f u k : ℕ) → f ≤ k → k ≤ u → suc (k - f) ≤ u + 1 - f
-              one_more f u k a c = omega arith
-
-              ends : (x y n m : ℕ) → suc x ≤ y → m ≡ n → x * n + m ≤ y * n
-              ends x y n m l e = let room = times_le (suc x) y n l in omega arith
+          held_within =
+              let long = bytes_long ∙ sym size_now ∙ sized in
+              let from = held.1 in
+              let upto = held.2 in
+              let room = times_le (suc (k - l.first)) (l.last + 1 - l.first) n (omega arith) in
+              omega arith
 
           pub written_on : {now' : List ℕ} → now' ≡ put_at now (l.at + (12 + (k - l.first) * n)) bytes → IsPut b now' kind before own after new (k + 1)
           written_on w = record {
@@ -215,10 +397,7 @@ module _ {b now : List ℕ} {kind : Kind} {before : List VariableShape} {own : V
     ending = covering_vacant v own.index new.rec rule so.start.small own'.index k taken_now covering more
 
     last_is : last_in_new new.most own'.index k ≡ last
-    last_is = last_as v own'.index k new.rec new.most rule p.most_is so.from more (begins k last (next_first k (firsts_of own'.index)) ending.0 ending.1)
-      where
-        begins : (k last next : ℕ) → k ≤ last → last < next → k < next
-        begins k last next a c = omega arith
+    last_is = last_as v own'.index k new.rec new.most rule p.most_is so.from more (let o = ending.0 in let past = ending.1 in omega arith)
 
     module _ (vacant : leaf_of k (leaves_of (index_at now head)) ≡ None) where
       none : find (λ (leaf : TreeLeaf). covers k (range leaf.first leaf.last)) (leaves_of own'.index) ≡ None
@@ -235,11 +414,11 @@ module _ {b now : List ℕ} {kind : Kind} {before : List VariableShape} {own : V
 
         room_here : length now + (8 + length body) + vxr_bytes (widest own'.index) ≤ limit
         room_here =
-            fit (length now) (length b) taken_now (8 + length body) (block_bytes v k last) (vxr_bytes (widest own'.index)) (put_room v own.index new.rec) limit (longer_by b now is.acts so.goes.follow so.takes) need
-            (covering_room v own.index new.rec rule so.start.small own'.index k taken_now covering more so.start.loose none) p.room
-          where
-            fit : (now was taken need bytes wide room limit : ℕ) → now ≤ was + taken → need ≡ bytes → taken + bytes + wide ≤ room → was + room ≤ limit → now + need + wide ≤ limit
-            fit now was taken need bytes wide room limit a c d e = omega arith
+            let longer = longer_by b now is.acts so.goes.follow so.takes in
+            let long = need in
+            let enough = covering_room v own.index new.rec rule so.start.small own'.index k taken_now covering more so.start.loose none in
+            let room = p.room in
+            omega arith
 
         room_left : length now + (8 + length body) + vxr_bytes (widest (index_at now head)) ≤ limit
         room_left = subst (λ (x : Nodes). length now + (8 + length body) + vxr_bytes (widest x) ≤ limit) (sym index_is) room_here
@@ -256,13 +435,10 @@ module _ {b now : List ℕ} {kind : Kind} {before : List VariableShape} {own : V
             record {
               own' = with_new_leaf own' (leaf k end a.place false) a.at;
               acts = is.acts ++ leaf_acts a.place (8 + length body) (new_room k own'.index) a.at;
-              so = subst (λ (n : ℕ). SoFar b now' kind before own (with_new_leaf own' (leaf k end a.place false) a.at) after new.raw.items new.pad.items new.rec n (is.acts ++ leaf_acts a.place (8 + length body) (new_room k own'.index) a.at)) (least end new.rec)
+              so = subst (λ (n : ℕ). SoFar b now' kind before own (with_new_leaf own' (leaf k end a.place false) a.at) after new.raw.items new.pad.items new.rec n (is.acts ++ leaf_acts a.place (8 + length body) (new_room k own'.index) a.at)) (omega arith)
                   (so_far_added so more ends_at vacancy says (block_records new.raw.items new.pad.items new.rec size p.start.raw_long p.pad_long k end) a.added (not_long a.added));
             }
           where
-            least : (x y : ℕ) → min (x + 1) (y + 1) ≡ min x y + 1
-            least x y = omega arith
-
             vacancy : IsVacant own' k end
             vacancy = record {
               ordered = subst (λ (n : ℕ). k ≤ n) (sym ends_at) ending.0;
@@ -311,7 +487,4 @@ pub all_done : {b now : List ℕ} {new : NewRecord} {k limit : ℕ} → PutsUpTo
 all_done {b = b} {now = now} {new = new} {k = k} all past kind before own after p =
     let is = all kind before own after p in
     let upto = is.so.upto in
-    subst (IsPut b now kind before own after new) (ends k new.rec past upto) is
-  where
-    ends : (k r : ℕ) → r < k → k ≤ r + 1 → k ≡ r + 1
-    ends k r a c = omega arith
+    subst (IsPut b now kind before own after new) (omega arith) is

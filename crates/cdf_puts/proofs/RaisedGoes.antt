@@ -1,13 +1,12 @@
 -- MaxRec is raised to the record that was put: no byte changes but MaxRec, and rMaxRec of an r variable.
 use Rattle.std.proofs.Common.{◌≡◌, ◌≢◌, ℕ, ℤ, pos, ◌+◌, ◌<◌, ◌≤◌, List, [], ◌∷◌, ◌++◌, length, map, Bool, true, bytes_eq, append-nil, refl, sym, ap, subst, ◌∙◌, arith, inl, inr}
-use Rattle.cdf_puts.proofs.Common.{le-leb, length-map, map-append, set_at, flat_map, if◌then◌else◌, slice_set, Kind, R, Z, DataSet, Variable, extent, record_number_limit, variables_of, with_variables, is_in, content, variable_of, number, type_at, with_sign, variable_records, unused_records, times, vdr_vxr_tail, cdr_type, gdr_type, VariableShape, shape, In, max_rec_at, is_max_rec, Good, word_kept, is_a-type, either, In-append_left, bytes_eq-same, content_is, same_of_bytes_eq, RMaxRecFollows, r_max_rec, max_rec_touches, Changed, type_in, variables_chain, index_records, WritesRecords, part, same_shape, gdr_typed, variables_of_are, StandsAmong, sound, typed, long, has, fits, ours, Kept, apart, all_attribute_records, all_variable_records, times-in, MaxRecRaised}
-use Rattle.cdf_format.specs.Owners.{owned_records}
+use Rattle.cdf_puts.proofs.Common.{le-leb, length-map, map-append, set_at, flat_map, if◌then◌else◌, slice_set, Kind, R, Z, DataSet, Variable, extent, record_number_limit, variables_of, with_variables, is_in, content, variable_of, number, type_at, with_sign, variable_records, vdr_vxr_tail, VariableShape, shape, In, max_rec_at, is_max_rec, Good, word_kept, either, In-append_left, bytes_eq-same, content_is, same_of_bytes_eq, RMaxRecFollows, r_max_rec, max_rec_touches, Changed, type_in, variables_chain, index_records, WritesRecords, part, same_shape, variables_of_are, StandsAmong, sound, typed, long, has, fits, ours, Kept, all_variable_records, MaxRecRaised}
+use Rattle.cdf_edits.proofs.Edits.VariableKept.{only_variable}
 use Rattle.cdf_edits.specs.Commands.GreatestRecord.{r_extents, greatest_r_max_rec}
 use Rattle.cdf_edits.specs.Edits.Marks.{index_types}
 use Rattle.cdf_edits.proofs.Edits.LeafRecords.{signed}
 use Rattle.cdf_edits.proofs.Edits.RecordsWritten.{behind_kept}
 use Rattle.cdf_edits.proofs.Edits.VariableFrame.{index_typed}
-use Rattle.cdf_edits.proofs.Frame.OwnersApart.{file_records, owned-times}
 
 -- ---- the greatest numbers of the r variables
 
@@ -45,7 +44,7 @@ module _ {b : List ℕ} {kind : Kind} {before : List VariableShape} {own : Varia
   split : variables_of (content b) kind ≡ front ++ variable_of b own ∷ back
   split = ap (λ (d : DataSet). variables_of d kind) (content_is b (shape b) (sound good at).has_shape) ∙ variables_of_are b (shape b) kind ∙ ap (map (variable_of b)) at.was ∙ map-append (variable_of b) before (own ∷ after)
 
-  set_is : (v : Variable) → slice_set (variables_of (content b) kind) (length before) v ≡ front ++ v ∷ back
+  pub set_is : (v : Variable) → slice_set (variables_of (content b) kind) (length before) v ≡ front ++ v ∷ back
   set_is v = ap (λ (vs : List Variable). slice_set vs (length before) v) split ∙ set_at front (variable_of b own) back v (length before) (length-map before (variable_of b))
 
   -- it is another by now
@@ -71,46 +70,18 @@ module _ {b : List ℕ} {kind : Kind} {before : List VariableShape} {own : Varia
     pub greatest_raised : extent (max_rec_at b own.vdr) < extent v.max_rec → (kind ≡ R → r_max_rec now ≡ greatest_r_max_rec (content now)) → (kind ≡ Z → r_max_rec now ≡ r_max_rec b) → RMaxRecFollows b now
     greatest_raised more follows stays = by kind refl
       where
-        less : (m n : ℕ) → m < n → m ≡ n → ⊥
-        less m n lt e = omega arith
-
         by : (k : Kind) → kind ≡ k → RMaxRecFollows b now
-        by R e = follows e ∙ sym (other_test (r_extents (content now)) (r_extents (content b)) (r_max_rec b) (greatest_r_max_rec (content now)) (λ q.
-            less (extent (max_rec_at b own.vdr)) (extent v.max_rec) more (middle_differs front back (variable_of b own) v (sym (r_was e) ∙ q ∙ r_is e))))
+        by R e = follows e ∙ sym (other_test (r_extents (content now)) (r_extents (content b)) (r_max_rec b) (greatest_r_max_rec (content now)) (λ q. (let same = middle_differs front back (variable_of b own) v (sym (r_was e) ∙ q ∙ r_is e) in absurd (omega arith))))
         by Z e = stays e ∙ sym (same_test (r_extents (content now)) (r_extents (content b)) (r_max_rec b) (greatest_r_max_rec (content now)) (z_same e))
 
 -- ---- whose records are the GDR and the VDR
 
 module _ {b : List ℕ} {kind : Kind} {before : List VariableShape} {own : VariableShape} {after : List VariableShape} (good : Good b) (at : StandsAmong b kind before own after) where
-  -- what belongs to the file belongs to no other
-  of_file : (m : ℕ) → In m (file_records (shape b)) → (In m (all_attribute_records (shape b)) → ⊥) × (In m (all_variable_records (shape b)) → ⊥) × (In m (unused_records b (shape b)) → ⊥)
-  of_file m i =
-      let none = alone (times m (file_records (shape b))) (times m (all_attribute_records (shape b))) (times m (all_variable_records (shape b))) (times m (unused_records b (shape b))) (times m (owned_records b (shape b))) (owned-times b (shape b) m) ((sound good at).not_twice m) (times-in m (file_records (shape b)) i) in
-      ((λ j. out m (all_attribute_records (shape b)) none.0 j), (λ j. out m (all_variable_records (shape b)) none.1 j), (λ j. out m (unused_records b (shape b)) none.2 j))
-    where
-      alone : (f a v u n : ℕ) → n ≡ f + (a + (v + u)) → n ≤ 1 → 1 ≤ f → (a ≡ 0) × (v ≡ 0) × (u ≡ 0)
-      alone f a v u n e l t = (omega arith, omega arith, omega arith)
-
-      clash : (n : ℕ) → n ≡ 0 → 1 ≤ n → ⊥
-      clash n e l = omega arith
-
-      out : (m : ℕ) (xs : List ℕ) → times m xs ≡ 0 → In m xs → ⊥
-      out m xs e j = clash (times m xs) e (times-in m xs j)
-
-  pub of_gdr : (In (shape b).gdr (all_attribute_records (shape b)) → ⊥) × (In (shape b).gdr (all_variable_records (shape b)) → ⊥) × (In (shape b).gdr (unused_records b (shape b)) → ⊥)
-  of_gdr = of_file (shape b).gdr (inr (inl refl))
-
-  pub cdr_no_gdr : 8 ≢ (shape b).gdr
-  cdr_no_gdr e = apart cdr_type gdr_type refl (sym (is_a-type b (shape b).records cdr_type 8 (sound good at).has_shape.cdr_stands) ∙ ap (type_at b) e ∙ gdr_typed b (shape b) (sound good at).has_shape)
-
-  own_in_all : (m : ℕ) → In m (variable_records own) → In m (all_variable_records (shape b))
+  pub own_in_all : (m : ℕ) → In m (variable_records own) → In m (all_variable_records (shape b))
   own_in_all m i = (ours good at).1.sub m (In-append_left m (variable_records own) (flat_map variable_records after) i)
 
   pub vdr_no_gdr : own.vdr ≢ (shape b).gdr
-  vdr_no_gdr e = of_gdr.1 (subst (λ (x : ℕ). In x (all_variable_records (shape b))) e (own_in_all own.vdr (inl refl)))
-
-  pub behind_no_gdr : (m : ℕ) → In m (index_records own) → m ≢ (shape b).gdr
-  behind_no_gdr m i e = of_gdr.1 (subst (λ (x : ℕ). In x (all_variable_records (shape b))) e (own_in_all m (inr i)))
+  vdr_no_gdr e = (only_variable (sound good at) kind before own after at.was own.vdr (inl refl)).in_file (inr (inl e))
 
   pub behind_no_vdr : (m : ℕ) → In m (index_records own) → m ≢ own.vdr
   behind_no_vdr m i e = clash kind (ap (λ (x : ℕ). is_in x index_types) (sym (ap (type_at b) e ∙ typed good at)) ∙ index_typed b (shape b) own (has good at) (fits good at) m i)

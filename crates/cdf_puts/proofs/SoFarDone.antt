@@ -14,14 +14,11 @@ use Rattle.cdf_edits.specs.Commands.Named.{OfVariable}
 use Rattle.cdf_edits.specs.Commands.Puts.{PutsRecord}
 use Rattle.cdf_edits.specs.Commands.Room.{room, room_of_variable}
 use Rattle.cdf_edits.specs.Follows.{Follows, only_reads}
-use Rattle.cdf_puts.proofs.Covering.{covering_total}
-use Rattle.cdf_puts.proofs.DoneBytes.{is_put}
-use Rattle.cdf_puts.proofs.DoneIndex.{index_done}
-use Rattle.cdf_puts.proofs.DonePuts.{bytes_done}
+use Rattle.cdf_puts.proofs.CoveringRanges.{covering_total}
+use Rattle.cdf_puts.proofs.DoneBytes.{is_put, index_done, bytes_done}
 use Rattle.cdf_puts.proofs.LastImage.{has_put}
-use Rattle.cdf_puts.proofs.PutMeaning.{put_content}
+use Rattle.cdf_puts.proofs.PutMeaning.{put_content, HasPut}
 use Rattle.cdf_puts.proofs.PutRoom.{longer_by}
-use Rattle.cdf_puts.proofs.RaisedThen.{HasPut}
 
 module _ {b now last : List ℕ} {kind : Kind} {before : List VariableShape} {own own' : VariableShape} {after : List VariableShape} {raw pad : List ℕ} {r : ℕ} {acts : List Act} (so : SoFar b now kind before own own' after raw pad r (r + 1) acts) (done : MaxRecDone b now last kind own own' r)
     (pad_stored : extent (max_rec_at b own.vdr) ≤ r → pad ≡ turned (type_of_variable b own.vdr) (is_little b) (pad_record (variable_of b own))) where
@@ -69,7 +66,7 @@ module _ {b now last : List ℕ} {kind : Kind} {before : List VariableShape} {ow
             goes = goes ∙ ap (λ (d : DataSet). ByStep (Go d replies.Plain)) (sym content_done);
             good = put.good;
             longer = put.longer;
-            within = more (length last) (length b) (taken_bytes acts) (room b c) long fits_in;
+            within = omega arith;
             reads = λ e. absurd (true≢false (sym e ∙ changes));
             acts = acts;
             takes_within = fits_in;
@@ -77,9 +74,6 @@ module _ {b now last : List ℕ} {kind : Kind} {before : List VariableShape} {ow
             keeps = subst (λ (a : Allowances). AllKeep b last a acts (owned b (shape b))) (sym may) put.keep;
             does = does;
           }
-        where
-          more : (l n t m : ℕ) → l ≤ n + t → t ≤ m → l ≤ n + m
-          more l n t m a c = omega arith
 
       may_be : (f : Found → Allowances) → (elim (variable_named (content b) name) as (λ x. Allowances) [ None ↦ stays_all | Some found ↦ f found ]) ≡ f found
       may_be f = ap (λ (o : Option Found). elim o as (λ x. Allowances) [ None ↦ stays_all | Some found ↦ f found ]) named

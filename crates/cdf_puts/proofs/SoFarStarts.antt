@@ -1,8 +1,131 @@
--- Nothing is put yet: how the loop starts that puts records one after the other.
-use Rattle.std.proofs.Common.{◌≡◌, ℕ, suc, ◌+◌, ◌-◌, ◌<◌, ◌≤◌, List, [], ◌∷◌, map, Bool, true, false, ◌||◌, refl, sym, ap, subst, arith, inl, inr}
-use Rattle.cdf_puts.proofs.Common.{filter, list_any, min, max, nat_le, if◌then◌else◌, Kind, Sparse, NoRule, extent, record_number_limit, new_ranges, Range, range, covers, ranges_of, first_written, is_sparse, with_ranges, indexes_with, outline, UnusedEntries, NodeSpareStays, NodesFollow, top_chain, IsOneOf, in_order, leaves_ascend, is_in, variable_of, Nodes, Leaf, leaves_of, nodes_of, used_count, VariableShape, Each, In, is_in-true, bytes_eq-same, of_le, PutStart, IndexSoFar, NodesSoFar, BlocksSoFar, was_put, PutsBefore}
+-- The leaves that were put so far: which one more there is once a record is written or a leaf is added, that a put goes through them one after the other, and how that starts.
+use Rattle.std.proofs.Common.{◌≡◌, ◌⊎◌, ℕ, zero, suc, ◌+◌, ◌-◌, ◌<◌, ◌≤◌, List, [], ◌∷◌, ◌++◌, Bool, true, false, eqb, Some, None, append_assoc, refl, sym, ap, subst, ◌∙◌, arith, inl, inr}
+use Rattle.cdf_puts.proofs.Common.{in_order, cases_lt, lt-ltb, le-ltb, ne_eqb, filter, min, max, nat_lt, find, ◌==◌, if◌then◌else◌, PutsLeaves, range, covers, with_leaf, new_room, block_need, Act, IsOneOf, Ascending, Leaf, leaves_of, VariableShape, record_bytes, either, node_acts, leaf_acts, with_new, put_count, was_put, PutsBefore, list_any, nat_le, Kind, Sparse, NoRule, extent, record_number_limit, new_ranges, Range, ranges_of, first_written, is_sparse, with_ranges, indexes_with, outline, UnusedEntries, NodeSpareStays, NodesFollow, top_chain, leaves_ascend, is_in, variable_of, Nodes, nodes_of, used_count, is_in-true, bytes_eq-same, of_le, PutStart, IndexSoFar, NodesSoFar, BlocksSoFar}
+use Rattle.std.proofs.lemmas.Bool.Decides.{nat_tests}
+use Rattle.cdf_edits.specs.Commands.Puts.{TakesNode}
 use Rattle.cdf_edits.proofs.Edits.LeafPieces.{covers_from}
-use Rattle.cdf_puts.proofs.PutLeaves.{puts_none_yet}
+use Rattle.cdf_puts.proofs.CoveringRanges.{of_leaves}
+use Rattle.cdf_puts.proofs.PutNodes.{each_in}
+use Rattle.std.proofs.lemmas.Bool.{or_right}
+
+-- ---- which leaves were put
+
+none_put : (first k : ℕ) (l : Leaf) → k ≤ max first l.first → was_put first k l ≡ false
+none_put first k l le = let e : min k (l.last + 1) - max first l.first ≡ 0 = omega arith in rw e refl
+
+some_put : (first k : ℕ) (l : Leaf) → first < k → l.first < k → first ≤ l.last → l.first ≤ l.last → was_put first k l ≡ true
+some_put first k l a c d e = lt-ltb 0 (put_count first k l) (omega arith)
+
+all_put : (first k k' : ℕ) (l : Leaf) → l.last < k → l.last < k' → was_put first k l ≡ was_put first k' l
+all_put first k k' l a c = let e : min k (l.last + 1) ≡ min k' (l.last + 1) = omega arith in ap (λ (n : ℕ). nat_lt 0 (n - max first l.first)) e
+
+-- the leaves past a number, where none of them passes a test
+none_past : (test : Leaf → Bool) (k low upto : ℕ) (leaves : List Leaf) → Ascending low upto leaves → k < low → ((l : Leaf) → IsOneOf leaves l → k < l.first → test l ≡ false) → filter test leaves ≡ []
+none_past test k low upto [] a lt out = refl
+none_past test k low upto (x ∷ more) a lt out =
+    let a0 = a.0 in
+    let a1 = a.1 in
+    rw (out x (inl refl) (omega arith)) (none_past test k (suc x.last) upto more a.3 (omega arith) (λ l i. out l (inr i)))
+
+-- one more leaf passes, and with it none past it does: it comes behind those that did
+pub one_more : (test test' : Leaf → Bool) (low upto : ℕ) (leaves : List Leaf) (new : Leaf) → Ascending low upto leaves → test' new ≡ true → ((l : Leaf) → IsOneOf leaves l → l.first ≤ new.first → test' l ≡ test l)
+    → ((l : Leaf) → IsOneOf leaves l → new.first < l.first → (test l ≡ false) × (test' l ≡ false)) → filter test' (with_new new leaves) ≡ filter test leaves ++ new ∷ []
+one_more test test' low upto [] new a is early late = rw is refl
+one_more test test' low upto (x ∷ more) new a is early late = elim (cases_lt new.first x.first) [
+  | inl lt ↦
+      let up : Ascending x.first upto (x ∷ more) = (omega arith, a.1, a.2, a.3) in
+      let none = none_past test new.first x.first upto (x ∷ more) up lt (λ l i g. (late l i g).0) in
+      let none' = none_past test' new.first x.first upto (x ∷ more) up lt (λ l i g. (late l i g).1) in
+      rw (lt-ltb new.first x.first lt, is) (ap (λ (ys : List Leaf). new ∷ ys) none' ∙ ap (λ (ys : List Leaf). ys ++ new ∷ []) (sym none))
+  | inr le ↦
+      let rest = one_more test test' (suc x.last) upto more new a.3 is (λ l i. early l (inr i)) (λ l i. late l (inr i)) in
+      elim (either (test x)) [
+        | inl t ↦ rw (le-ltb new.first x.first le, early x (inl refl) le, t) (ap (λ (ys : List Leaf). x ∷ ys) rest)
+        | inr t ↦ rw (le-ltb new.first x.first le, early x (inl refl) le, t) rest
+      ]
+]
+
+-- the leaf that has record k was put, or it comes behind those that were
+pub put_next : (first k low upto : ℕ) (leaves : List Leaf) → Ascending low upto leaves → (l : Leaf) → IsOneOf leaves l → first ≤ k → l.first ≤ k → k ≤ l.last
+    → filter (was_put first (k + 1)) leaves ≡ (if was_put first k l then filter (was_put first k) leaves else filter (was_put first k) leaves ++ l ∷ [])
+put_next first k low upto [] a l i from f t = absurd i
+put_next first k low upto (x ∷ more) a l (inl q) from f t =
+    let here : was_put first (k + 1) l ≡ true = some_put first (k + 1) l (omega arith) (omega arith) (omega arith) (omega arith) in
+    let below = λ (n : ℕ) (le : n ≤ suc k). none_past (was_put first n) k (suc x.last) upto more a.3 (subst (λ (y : Leaf). k < suc y.last) (sym q) (omega arith)) (λ y j g. none_put first n y (omega arith)) in
+    rw (ap (was_put first (k + 1)) q ∙ here, below (k + 1) (omega arith), below k (omega arith), q) (elim (either (was_put first k l)) [ inl p ↦ rw p refl | inr p ↦ rw p refl ])
+put_next first k low upto (x ∷ more) a l (inr i) from f t =
+    let before = (in_order (suc x.last) upto more a.3 l i).from in
+    let same : was_put first (k + 1) x ≡ was_put first k x = all_put first (k + 1) k x (omega arith) (omega arith) in
+    let rest = put_next first k (suc x.last) upto more a.3 l i from f t in
+    elim (either (was_put first k x)) [
+      | inl p ↦ rw (same, p) (ap (λ (ys : List Leaf). x ∷ ys) rest ∙ elim (either (was_put first k l)) [ inl u ↦ rw u refl | inr u ↦ rw u refl ])
+      | inr p ↦ rw (same, p) rest
+    ]
+
+-- a leaf that is added comes behind them
+pub put_new : (first k k' low upto : ℕ) (leaves : List Leaf) (new : Leaf) → Ascending low upto leaves → ((l : Leaf) → IsOneOf leaves l → (l.last < k) ⊎ (new.last < l.first)) → new.first ≡ k → first ≤ k → k < k' → k' ≤ new.last + 1
+    → filter (was_put first k') (with_new new leaves) ≡ filter (was_put first k) leaves ++ new ∷ []
+put_new first k k' low upto leaves new a beside is from more within =
+    one_more (was_put first k) (was_put first k') low upto leaves new a (some_put first k' new (omega arith) (omega arith) (omega arith) (omega arith)) (λ l i le. elim (beside l i) [
+      | inl lt ↦ all_put first k' k l (omega arith) lt
+      | inr lt ↦ absurd (omega arith)
+    ]) (λ l i lt. elim (beside l i) [
+      | inl before ↦ let o = (in_order low upto leaves a l i).ordered in absurd (omega arith)
+      | inr past ↦ (none_put first k l (omega arith), none_put first k' l (omega arith))
+    ])
+
+-- no other leaf begins where none has the record
+pub none_begins : (k low upto : ℕ) (leaves : List Leaf) → Ascending low upto leaves → find (λ (leaf : Leaf). covers k (range leaf.first leaf.last)) leaves ≡ None → find (λ (old : Leaf). old.first == k) leaves ≡ None
+none_begins k low upto [] a e = refl
+none_begins k low upto (x ∷ more) a e = elim (either (eqb x.first k)) [
+  | inl t ↦ absurd (here x.first x.last a.1 t (covers_none (covers k (range x.first x.last)) e))
+  | inr t ↦ rw t (none_begins k (suc x.last) upto more a.3 (rest (covers k (range x.first x.last)) e))
+]
+  where
+    covers_none : (p : Bool) → (if p then Some x else find (λ (leaf : Leaf). covers k (range leaf.first leaf.last)) more) ≡ None → p ≡ false
+    covers_none true e = absurd (some_none e)
+      where
+        some_none : Some x ≡ None → ⊥
+        some_none e = cc
+    covers_none false e = refl
+
+    rest : (p : Bool) → (if p then Some x else find (λ (leaf : Leaf). covers k (range leaf.first leaf.last)) more) ≡ None → find (λ (leaf : Leaf). covers k (range leaf.first leaf.last)) more ≡ None
+    rest true e = absurd (some_none e)
+      where
+        some_none : Some x ≡ None → ⊥
+        some_none e = cc
+    rest false e = e
+
+    here : (f t : ℕ) → f ≤ t → eqb f k ≡ true → covers k (range f t) ≡ false → ⊥
+    here f t le e c = grind (arith, nat_tests)
+
+-- ---- a put goes through them
+
+takes_node : (room at : ℕ) (Then : ℕ → List Act → Type 0) (rest : List Act) → (room ≡ 0 → at ≡ 0) → Then at rest → TakesNode room Then (node_acts room at ++ rest)
+takes_node zero at Then rest none t = subst (λ (n : ℕ). Then n rest) (none refl) t
+takes_node (suc room) at Then rest none t = rw (ne_eqb (suc room) 0 (λ e. absurd (omega arith)), TakesNode) (refl, t)
+
+-- none was put yet
+pub puts_none_yet : (b : List ℕ) (own : VariableShape) → PutsBefore b own own [] []
+puts_none_yet b own last size more acts' end p = p
+
+-- another leaf that was there
+pub puts_old : (b : List ℕ) (own own' : VariableShape) (leaves : List Leaf) (acts : List Act) (l : Leaf) → PutsBefore b own own' leaves acts → find (λ (old : Leaf). old.first == l.first) (leaves_of own'.index) ≡ Some l → PutsBefore b own own' (leaves ++ l ∷ []) acts
+puts_old b own own' leaves acts l so found last size more acts' end p =
+    subst (λ (ls : List Leaf). PutsLeaves b last false own.vdr ls own.index (acts ++ acts') end) (sym (append_assoc leaves (l ∷ []) more))
+    (so last size (l ∷ more) acts' end (rw (found, PutsLeaves) (refl, p)))
+
+-- a leaf that is added
+pub puts_new : (b : List ℕ) (own own' : VariableShape) (leaves : List Leaf) (acts : List Act) (new : Leaf) (need at : ℕ) → PutsBefore b own own' leaves acts → find (λ (old : Leaf). old.first == new.first) (leaves_of own'.index) ≡ None
+    → ((last : List ℕ) → record_bytes last own.vdr ≡ record_bytes b own.vdr → need ≡ block_need last own.vdr new) → (new_room new.first own'.index ≡ 0 → at ≡ 0)
+    → PutsBefore b own (record own' { index = with_leaf new at own'.index }) (leaves ++ new ∷ []) (acts ++ leaf_acts new.place need (new_room new.first own'.index) at)
+puts_new b own own' leaves acts new need at so none needs no_node last size more acts' end p =
+    let room = new_room new.first own'.index in
+    let after : List Act = leaf_acts new.place need room at ++ acts' in
+    let step : PutsLeaves b last false own.vdr (new ∷ more) own'.index after end =
+    rw (none, PutsLeaves) (needs last size, (refl, takes_node room at (λ at left. PutsLeaves b last false own.vdr more (with_leaf new at own'.index) left end) acts' no_node p)) in
+    subst (λ (xs : List Act). PutsLeaves b last false own.vdr ((leaves ++ new ∷ []) ++ more) own.index xs end) (sym (append_assoc acts (leaf_acts new.place need room at) acts'))
+    (subst (λ (ls : List Leaf). PutsLeaves b last false own.vdr ls own.index (acts ++ after) end) (sym (append_assoc leaves (new ∷ []) more)) (so last size (new ∷ more) after end step))
 
 -- ---- nothing is put, and no range is new
 
@@ -10,27 +133,16 @@ none_put_yet : (first : ℕ) (leaves : List Leaf) → filter (was_put first firs
 none_put_yet first [] = refl
 none_put_yet first (x ∷ more) = let e : min first (x.last + 1) - max first x.first ≡ 0 = omega arith in rw e (none_put_yet first more)
 
-abbrev of_leaves : List Leaf → List Range
-of_leaves leaves = map (λ (x : Leaf). range x.first x.last) leaves
-
 pub covers_own : (leaves : List Leaf) (l : Leaf) → IsOneOf leaves l → l.first ≤ l.last → list_any (covers l.first) (of_leaves leaves) ≡ true
 covers_own [] l i le = absurd i
 covers_own (x ∷ more) l (inl q) le = let here : covers l.first (range x.first x.last) ≡ true = subst (λ (y : Leaf). covers l.first (range y.first y.last) ≡ true) (sym q) (covers_from l.first l (omega arith) le) in rw here refl
-covers_own (x ∷ more) l (inr i) le = by (covers l.first (range x.first x.last)) (covers_own more l i le)
-  where
-    by : (p : Bool) {q : Bool} → q ≡ true → (p || q) ≡ true
-    by true e = refl
-    by false e = e
+covers_own (x ∷ more) l (inr i) le = or_right (covers l.first (range x.first x.last)) (list_any (covers l.first) (of_leaves more)) (covers_own more l i le)
 
 pub none_new : (before : List Range) (leaves : List Leaf) → ((l : Leaf) → IsOneOf leaves l → list_any (covers l.first) before ≡ true) → new_ranges before (of_leaves leaves) ≡ []
 none_new before [] has = refl
 none_new before (x ∷ more) has = let here = has x (inl refl) in rw here (none_new before more (λ l i. has l (inr i)))
 
 -- ---- nodes
-
-each_in : (P : ℕ → Type 0) (xs : List ℕ) → ((m : ℕ) → In m xs → P m) → Each P xs
-each_in P [] f = tt
-each_in P (x ∷ xs) f = (f x (inl refl), each_in P xs (λ m i. f m (inr i)))
 
 nodes_first : (b : List ℕ) (through : List Nodes) (nodes : List ℕ) → NodesFollow b b through nodes nodes []
 nodes_first b through nodes = record {

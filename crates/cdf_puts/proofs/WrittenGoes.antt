@@ -1,21 +1,17 @@
 -- A record is written in its block: one image goes on to another, and no byte changes but those of the record.
 use Rattle.std.proofs.Common.{◌≡◌, ◌≢◌, ◌⊎◌, ℕ, suc, ◌+◌, ◌-◌, ◌*◌, ◌<◌, ◌≤◌, List, [], ◌∷◌, ◌++◌, length, Bool, true, ◌||◌, Some, w32, refl, sym, ap, subst, ◌∙◌, arith, inl, inr}
-use Rattle.cdf_puts.proofs.Common.{lt-ltb, cast_signed, ◌==◌, nat_lt, find, Kind, Variable, image_limit, record_number_limit, Same, byte, variable_of, number, integer4, size_at, type_at, Leaf, nodes_of, leaves_of, vdr_max_rec, gdr_r_max_rec, gdr_type, vvr_type, VariableShape, Shape, HasShape, shape, In, record_bytes, is_max_rec, Good, word_kept, byte-put_before, byte-put_after, tile_lies, r_max_rec, max_rec_touches, is_rewritten, Touch, Outside, Changed, range, covers, shared, first_written, places_of, IsOneOf, covers_within, place_in, find_place, times_le, PlainLeaf, own_rules, plain_leaf, leaves_apart, WritesRecords, file, good_now, gdr_in, gdr_typed, gdr_long, block_behind, StandsAmong, sound, tile, long, no_block, behind_in, changed_part, Kept, apart, GoesOn, RecordWritten}
+use Rattle.cdf_puts.proofs.Common.{lt-ltb, cast_signed, ◌==◌, nat_lt, find, Kind, Variable, image_limit, record_number_limit, Same, byte, variable_of, number, size_at, type_at, Leaf, nodes_of, leaves_of, vdr_max_rec, gdr_r_max_rec, gdr_type, vvr_type, VariableShape, Shape, HasShape, shape, In, record_bytes, is_max_rec, Good, word_kept, byte-put_before, byte-put_after, tile_lies, r_max_rec, max_rec_touches, is_rewritten, Touch, Outside, Changed, range, covers, shared, first_written, places_of, IsOneOf, covers_within, place_in, find_place, times_le, PlainLeaf, own_rules, plain_leaf, leaves_apart, WritesRecords, file, good_now, gdr_in, gdr_typed, gdr_long, block_behind, StandsAmong, sound, tile, long, no_block, behind_in, changed_part, Kept, apart, GoesOn, RecordWritten}
 use Rattle.cdf_base.specs.Bytes.{put}
-use Rattle.cdf_format.specs.Fields.{gdr_offset}
+use Rattle.cdf_format.specs.Fields.{gdr_offset, integer4}
 use Rattle.cdf_format.proofs.BytesLemmas.{length-put}
 use Rattle.cdf_edits.specs.Frame.Changed.{touch}
 use Rattle.cdf_edits.proofs.Edits.LeafPieces.{found_in}
 use Rattle.cdf_edits.proofs.Edits.RecordsWritten.{node_kept, block_kept}
-use Rattle.cdf_puts.proofs.GoesThen.{going}
-use Rattle.cdf_puts.proofs.WritesGo.{passes_written}
+use Rattle.cdf_puts.proofs.GoesThen.{going, passes_written}
 
 -- a record of a range of which some are written
 rewritten_by : (first r k f t : ℕ) (x : Bool) → first ≤ k → k ≤ r → f ≤ k → k ≤ t → (nat_lt 0 (shared first r (range f t)) || x) ≡ true
-rewritten_by first r k f t x a c d e = rw (lt-ltb 0 (shared first r (range f t)) (some first r k f t a c d e)) refl
-  where
-    some : (first r k f t : ℕ) → first ≤ k → k ≤ r → f ≤ k → k ≤ t → 0 < shared first r (range f t)
-    some first r k f t a c d e = omega arith
+rewritten_by first r k f t x a c d e = rw (lt-ltb 0 (shared first r (range f t)) (omega arith)) refl
 
 pub record_fits : (k f t size : ℕ) → f ≤ k → k ≤ t → 12 + (k - f) * size + size ≤ 12 + (t + 1 - f) * size
 record_fits k f t size a c = let p = times_le (suc (k - f)) (t + 1 - f) size (omega arith) in omega arith
@@ -23,9 +19,6 @@ record_fits k f t size a c = let p = times_le (suc (k - f)) (t + 1 - f) size (om
 outside_back : (xs ys : List Touch) (place : ℕ) → Outside (xs ++ ys) place → Outside ys place
 outside_back [] ys place o = o
 outside_back (x ∷ xs) ys place o = outside_back xs ys place o.1
-
-through : (x y z : ℕ) → x ≤ y → y ≤ z → x ≤ z
-through x y z p q = omega arith
 
 module _ {b now : List ℕ} {kind : Kind} {before : List VariableShape} {own : VariableShape} {after : List VariableShape} {l : Leaf} {k : ℕ} {raw : List ℕ} (good : Good b) (at : StandsAmong b kind before own after) (w : RecordWritten b now own l k raw) where
   abbrev s : Shape
@@ -65,13 +58,10 @@ module _ {b now : List ℕ} {kind : Kind} {before : List VariableShape} {own : V
   block = behind_in good at l.place (block_behind own l.place (place_in leaves l is_leaf))
 
   fits_in : offset + size ≤ size_at b l.place
-  fits_in = through (offset + size) (12 + (l.last + 1 - l.first) * size) (size_at b l.place) (record_fits k l.first l.last size has_it.0 has_it.1) (plain l is_leaf).room
+  fits_in = let fit = record_fits k l.first l.last size has_it.0 has_it.1 in let room = (plain l is_leaf).room in omega arith
 
   inside : l.place + offset + size ≤ length b
-  inside = high l.place offset size (size_at b l.place) (length b) fits_in (tile_lies b 8 (length b) s.records l.place h.tiled block).high
-    where
-      high : (q e k n z : ℕ) → e + k ≤ n → q + n ≤ z → q + e + k ≤ z
-      high q e k n z a c = omega arith
+  inside = let fit = fits_in in let high = (tile_lies b 8 (length b) s.records l.place h.tiled block).high in omega arith
 
   small_edge : l.place + offset + length raw ≤ length b
   small_edge = subst (λ (n : ℕ). l.place + offset + n ≤ length b) (sym w.as_long) inside

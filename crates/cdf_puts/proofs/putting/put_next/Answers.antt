@@ -2,8 +2,7 @@ use Rattle.std.proofs.Common.{arith, refl, sym, ap}
 use Rattle.cdf_puts.proofs.Common.{Frame, edit_done, edit_failed, edit_more, edits_by_read, keeps_by_read, read_once, HasIndex}
 use Rattle.std.proofs.Math.Path.{transport}
 use Rattle.cdf_area.proofs.Calls.{read_more}
-use Rattle.cdf_puts.proofs.EditsThen.{edits_then}
-use Rattle.cdf_puts.proofs.PutSpot.{has_index, lies, on_after, short}
+use Rattle.cdf_puts.proofs.PutSpot.{edits_then, has_index, lies, on_after, short}
 use Rattle.cdf_puts.proofs.putting.put_next.Goals as goal
 
 pub overflow_add-put : goal.overflow_add-put
