@@ -1,10 +1,10 @@
 -- `setup` follows its command: the dimensions of a GDR and the CDR are written, what the image has by then, whatever became of the GDR, and the two ways, in its place and moved.
-use Rattle.std.proofs.Common.{◌≡◌, ◌≢◌, ◌⊎◌, ℕ, ◌+◌, ◌-◌, ◌*◌, ◌/◌, ◌%◌, ◌<◌, ◌≤◌, List, [], ◌∷◌, ◌++◌, length, map, sum, drop, Bool, true, false, not, ◌||◌, refl, sym, ap, subst, ◌∙◌, arith, inl, inr, ◌^◌}
-use Rattle.cdf_vars.proofs.Common.{gdr_fits, IsGoodByShape, is_in, le-leb, length-take, length-drop, w32, cast_signed, list_all, ◌==◌, ◌&&◌, is_some, nat_le, if◌then◌else◌, ◌||◌, put, Majority, Row, Column, DataSet, encoding_at, image_limit, are_bad_sizes, is_empty_set, AllKeep, Edit, Mark, avoided, within, is_late, making_marks, Follows, Changed, touched_field, Act, Took, Gave, Takes, Fills, keep_attributes, acts_took, end_now, filled_size, filled_sound, list_chain, made_edit, place_in, shorter, the_one, unmarked-away, keep_file, keeps_fields, gdr_in, gdr_long, gdr_typed, apart, length-words, words_laid_out, Same, byte, IsChain, Leads, next_of, content, counted, has_bit, is_positive, number, word, words, size_at, type_at, gdr_offset, r_num_dims, r_sizes, with_field, owned_records, times, Field, cdr_encoding, cdr_flags, gdr_r_max_rec, gdr_r_num_dims, record_type, cdr_type, gdr_type, uir_type, fixed_size, is_record_type, Shape, HasShape, shape, IsSound, In, Good, of_4_bytes, length-put, word_kept, words_kept, is_a-in, is_a-type, good_by_its_shape, good_eof, good_is_sound, rules_of_good, good_long, sealed_kept, content_is, shape_is, tile_lies, WritesHeads, small_signed, drop-put_there}
+use Rattle.std.proofs.Common.{◌≡◌, ◌≢◌, ℕ, ◌+◌, ◌-◌, ◌*◌, ◌/◌, ◌%◌, ◌<◌, ◌≤◌, List, [], ◌∷◌, ◌++◌, length, map, sum, drop, Bool, true, false, not, ◌||◌, refl, sym, ap, subst, ◌∙◌, arith, inl, inr, ◌^◌}
+use Rattle.cdf_vars.proofs.Common.{gdr_fits, IsGoodByShape, is_in, le-leb, length-take, length-drop, w32, cast_signed, list_all, ◌==◌, ◌&&◌, is_some, nat_le, if◌then◌else◌, ◌||◌, put, Majority, Row, Column, DataSet, encoding_at, image_limit, are_bad_sizes, is_empty_set, AllKeep, Edit, Mark, avoided, within, is_late, making_marks, Follows, Changed, touched_field, Act, Took, Gave, Fills, keep_attributes, acts_took, end_now, filled_size, filled_sound, list_chain, made_edit, place_in, shorter, the_one, unmarked-away, keep_file, keeps_fields, gdr_in, gdr_long, gdr_typed, apart, length-words, words_laid_out, Same, byte, IsChain, Leads, next_of, content, counted, has_bit, is_positive, number, word, words, size_at, type_at, gdr_offset, r_num_dims, r_sizes, with_field, owned_records, times, Field, cdr_encoding, cdr_flags, gdr_r_max_rec, gdr_r_num_dims, record_type, cdr_type, gdr_type, uir_type, fixed_size, is_record_type, Shape, HasShape, shape, IsSound, In, Good, of_4_bytes, length-put, word_kept, words_kept, is_a-type, good_by_its_shape, good_eof, good_is_sound, rules_of_good, good_long, sealed_kept, content_is, shape_is, WritesHeads, small_signed, drop-put_there}
 use Rattle.std.proofs.lemmas.Bool.{lt-leb, leb-true}
 use Rattle.cdf_model.specs.declared.answer.Reply.TheVariants as replies
 use Rattle.cdf_model.specs.declared.command.Command.TheVariants as commands
-use Rattle.cdf_edits.specs.Commands.Allowances.{FreedStay, FreedStays, Stays, StaysOrSays, space_fields}
+use Rattle.cdf_edits.specs.Commands.Allowances.{FreedStay, Stays, StaysOrSays, space_fields}
 use Rattle.cdf_edits.specs.Commands.NewRecords.{with_bits, MovesForRoom, moved_for_room}
 use Rattle.cdf_edits.specs.Commands.Setup.{majority_bit, setup_changes, space_taken}
 use Rattle.cdf_edits.specs.Edits.Marks.{Avoids, Within, giving_marks, Among, Anywhere, mark, field_marks}
@@ -13,7 +13,7 @@ use Rattle.cdf_edits.specs.Space.Giving.{IsGiven}
 use Rattle.cdf_edits.specs.Space.Taking.{IsTaken}
 use Rattle.cdf_edits.specs.Space.Placement.{Gives, unused, with_space}
 use Rattle.cdf_edits.proofs.Edits.ActsThen.{acts_gave}
-use Rattle.cdf_edits.proofs.Edits.Composing.{edit_then, head_type, changed_edit}
+use Rattle.cdf_edits.proofs.Edits.Composing.{edit_then, changed_edit}
 use Rattle.cdf_edits.proofs.Edits.EditActs.{acts_none}
 use Rattle.cdf_edits.proofs.Edits.EmptySet.{HasNone, has_none, times_with, as_many, no_more, gdr_once, others_none, empty_shape, empty_sound, no_attribute, no_variable, is_empty}
 use Rattle.cdf_edits.proofs.Edits.ChainOwners.{IsHeld}
@@ -30,7 +30,7 @@ use Rattle.cdf_edits.proofs.Edits.RecordPlaced.{placing_marks}
 use Rattle.cdf_edits.proofs.Edits.StepEdits.{gives_edit, some_bytes, takes_edit}
 use Rattle.cdf_edits.proofs.Frame.ChangedBytes.{changed_put}
 use Rattle.cdf_edits.proofs.Rules.FirstHead.{FirstSays, first_said, first_hold}
-use Rattle.cdf_edits.proofs.Space.ActsLeave.{each, places-sized}
+use Rattle.cdf_edits.proofs.Space.ActsLeave.{places-sized}
 use Rattle.cdf_space.proofs.Filling.{word-put_inside}
 use Rattle.cdf_format.specs.Content.{content_of, majority_of}
 use Rattle.cdf_format.specs.Fields.{Holds, eof, flags, encoding}
@@ -38,7 +38,6 @@ use Rattle.cdf_format.specs.Owners.{Unused, owned_by, unused_records}
 use Rattle.cdf_format.specs.Records.{cdr_increment, cdr_release, cdr_version, cdr_gdr_offset, gdr_eof, gdr_leap_second_last_updated, gdr_num_attr, gdr_nr_vars, gdr_nz_vars, gdr_r_dim_sizes, gdr_rfu_c, gdr_rfu_e, gdr_uir_head, uir_next_uir, uir_prev_uir, gdr_adr_head, gdr_r_vdr_head, gdr_z_vdr_head}
 use Rattle.cdf_format.specs.NotRead.{read_types}
 use Rattle.cdf_format.specs.Tiles.{AreTiles}
-use Rattle.cdf_format.proofs.BytesLemmas.{number_kept}
 use Rattle.cdf_format.proofs.ChainsLemmas.{is_a-from}
 use Rattle.cdf_format.proofs.Pieces.{word-piece}
 use Rattle.cdf_format.proofs.SealedRules.{sealed_keeps}

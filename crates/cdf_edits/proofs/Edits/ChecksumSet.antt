@@ -1,6 +1,6 @@
 -- `checksum` writes two bits of Flags: the image is good as before, and its data set says whether a checksum is in use.
 use Rattle.std.proofs.Common.{◌≡◌, ◌≢◌, ℕ, ◌+◌, ◌*◌, ◌/◌, ◌%◌, ◌≤◌, List, [], ◌∷◌, ◌++◌, length, Bool, true, false, not, ◌||◌, refl, sym, ap, subst, ◌∙◌, arith, inl, inr}
-use Rattle.cdf_edits.proofs.Common.{list_all, is_some, encoding_at, is_positive, encoding, gdr_r_num_dims, w32, cast_signed, flat_map, ◌==◌, if◌then◌else◌, Go, DataSet, image_limit, ByStep, same_name, Same, adrs_rows, r_vdrs_rows, z_vdrs_rows, differ_rows, is_in, linked_types, content, content_of, majority_of, number, has_bit, size_at, type_at, gdr_offset, flags, r_sizes, read_types, unread_type, Unused, unused_records, owned, first_phases, Field, cdr_flags, gdr_eof, gdr_num_attr, gdr_nr_vars, gdr_nz_vars, adr_name, adr_num, vdr_num, cdr_type, gdr_type, row, Hold, AllHold, sealed, Shape, adrs, vdrs, variables, Each, HasShape, shape, IsSound, In, Good, number_kept, word_kept, is_a-in, is_a-type, IsGoodByShape, attribute_shape_rows, vdrs_append, good_by_its_shape, good_is_sound, rules_of_good, In-append_left, In-append_right, AreNew, names_differ, differ_by_names, Hold-append, Hold-member, Hold-members, Hold-split, good_long, sealed_keeps, sealed_kept, Each-split, content_is, shape_is, AllKeep, Only, Allowances, with_bits, Edit, Mark, field_marks, Follows, touched_field, Changed, ChangedWithin, Leaves, LeavesFinding, VariableStays}
+use Rattle.cdf_edits.proofs.Common.{list_all, is_some, encoding_at, is_positive, encoding, gdr_r_num_dims, w32, cast_signed, flat_map, ◌==◌, if◌then◌else◌, Go, DataSet, image_limit, ByStep, same_name, Same, adrs_rows, r_vdrs_rows, z_vdrs_rows, differ_rows, is_in, linked_types, content, content_of, majority_of, number, has_bit, size_at, type_at, gdr_offset, flags, r_sizes, Unused, unused_records, owned, first_phases, Field, cdr_flags, gdr_eof, gdr_num_attr, gdr_nr_vars, gdr_nz_vars, adr_name, adr_num, vdr_num, cdr_type, gdr_type, row, Hold, AllHold, sealed, Shape, adrs, vdrs, variables, Each, HasShape, shape, IsSound, In, Good, number_kept, word_kept, is_a-in, is_a-type, IsGoodByShape, attribute_shape_rows, vdrs_append, good_by_its_shape, good_is_sound, rules_of_good, In-append_left, In-append_right, AreNew, names_differ, differ_by_names, Hold-append, Hold-split, good_long, sealed_keeps, sealed_kept, Each-split, content_is, shape_is, AllKeep, Only, Allowances, with_bits, Edit, Mark, field_marks, Follows, touched_field, Changed, ChangedWithin, Leaves, LeavesFinding, VariableStays}
 use Rattle.cdf_model.specs.declared.answer.Reply.TheVariants as replies
 use Rattle.cdf_model.specs.declared.command.Command.TheVariants as commands
 use Rattle.cdf_edits.specs.Commands.Setup.{checksum_changes}

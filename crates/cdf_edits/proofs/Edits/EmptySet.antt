@@ -1,10 +1,9 @@
 -- An image of a data set without attributes and variables: its CDR, its GDR, and unused records.
-use Rattle.std.proofs.Common.{◌≡◌, ◌≢◌, ◌⊎◌, ℕ, suc, ◌+◌, ◌≤◌, List, [], ◌∷◌, ◌++◌, length, map, Bool, true, false, eq-eqb, refl, sym, ap, subst, ◌∙◌, arith, inl, inr}
-use Rattle.cdf_edits.proofs.Common.{if◌then◌else◌, Edit, Mark, cases_eq, ne_eqb, flat_map, ◌==◌, ◌&&◌, is_empty_set, adrs_rows, r_vdrs_rows, z_vdrs_rows, is_in, content, content_of, attribute_of, variable_of, Holds, number, type_at, gdr_offset, r_num_dims, read_types, unread_type, attribute_records, variable_records, times, owned_records, unused_records, Field, gdr_nr_vars, gdr_num_attr, gdr_nz_vars, gdr_r_dim_sizes, cdr_type, gdr_type, uir_type, AttributeShape, VariableShape, Shape, adrs, vdrs, HasShape, shape, IsSound, In, Good, is_a-type, IsGoodByShape, good_by_its_shape, good_is_sound, either, true-is_in, false-is_in, times-none, filter-in, Hold-members, Hold-split, content_is, both, eq_of}
+use Rattle.std.proofs.Common.{◌≡◌, ◌≢◌, ℕ, suc, ◌+◌, ◌≤◌, List, [], ◌∷◌, ◌++◌, length, map, Bool, true, false, eq-eqb, refl, sym, ap, subst, ◌∙◌, arith}
+use Rattle.cdf_edits.proofs.Common.{if◌then◌else◌, Edit, Mark, ne_eqb, flat_map, ◌==◌, ◌&&◌, is_empty_set, content, content_of, attribute_of, variable_of, Holds, r_num_dims, attribute_records, variable_records, gdr_r_dim_sizes, AttributeShape, VariableShape, Shape, HasShape, shape, IsSound, In, Good, good_is_sound, content_is, both, eq_of}
 use Rattle.cdf_edits.proofs.Edits.ChainOwners.{IsHeld, not_twice_kept}
 use Rattle.cdf_edits.proofs.Edits.OwnedOnce.{used_times}
 use Rattle.cdf_edits.proofs.Frame.OwnersApart.{all_attribute_records, all_variable_records}
-use Rattle.cdf_edits.proofs.Space.UsedRecords.{apart}
 
 abbrev pub empty_shape : List ℕ → ℕ → List ℕ → Shape
 empty_shape records gdr list = record { records = records; gdr = gdr; attributes = []; r_variables = []; z_variables = []; unused = list }
