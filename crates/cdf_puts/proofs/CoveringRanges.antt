@@ -67,7 +67,7 @@ found_passes test (y ∷ xs) x e = elim (either (test y)) [
 pub found_by : (k : ℕ) (rs : List Range) (r : Range) → find (covers k) rs ≡ Some r → k ≤ r.last
 found_by k rs r e = le_of k r.last (both (leb r.first k) (leb k r.last) (found_passes (covers k) rs r e)).1
 
-some_or_none : {X : Type 0} (o : Option X) → ((x : X) × (o ≡ Some x)) ⊎ (o ≡ None)
+pub some_or_none : {X : Type 0} (o : Option X) → ((x : X) × (o ≡ Some x)) ⊎ (o ≡ None)
 some_or_none None = inr refl
 some_or_none (Some x) = inl (x, refl)
 
