@@ -1,6 +1,6 @@
 -- All records are put: the index, what was taken for it and the bytes of the blocks are as the command says, and what is stored as each record.
 use Rattle.std.proofs.Common.{◌≡◌, ◌≢◌, ◌⊎◌, ℕ, suc, ◌+◌, ◌-◌, ◌*◌, ◌<◌, ◌≤◌, List, length, take, drop, false, Some, None, find, eq-eqb, refl, sym, ap, subst, ◌∙◌, arith, inl, inr, [], ◌∷◌, ◌++◌, append-nil, Bool, true, not, ◌&&◌, bytes_eq, zero, map, true≢false, take-append-drop}
-use Rattle.cdf_puts.proofs.Common.{cases_lt, ne_eqb, option_map, min, if◌then◌else◌, Kind, Sparse, Variable, extent, record_number_limit, range, covers, first_written, is_sparse, stored_bytes, Act, IsOneOf, find_covering, covers_within, place_in, record_place, plain_piece, PlainLeaf, plain_leaf, leaves_ascend, block_behind, sound, long, behind_in, Same, variable_of, size_at, Leaf, leaves_of, VariableShape, is_compressed, shape, record_bytes, max_rec_at, word_kept, piece_kept, tile_lies, MaxRecDone, SoFar, OldBlock, NewBlock, record_of, put_from, put_count, filter, list_any, nat_lt, PutsLeaves, ranges_of, cuts_before_put, ranges_after_put, is_taken_at, top_chain, last_node, node_behind, fits, Each-in, number, Nodes, no_node, node, vdr_vxr_tail, NodeFits, In, In-append_right, bytes_eq-same, same_of_bytes_eq, NodesSoFar, length-take, length-drop, drop-drop, ◌==◌, turned, pad_record, r_max_rec_field, max_rec_touches, uncovered, put_room, blocks_room, packed_room, Touch, Outside, Changed, space_before, each_of, count_is, plain_bytes, vdr_max_rec, is_little, records_of_leaf, type_of_variable, either, both, put_touches, taken_bytes}
+use Rattle.cdf_puts.proofs.Common.{Outside-append, cases_lt, ne_eqb, option_map, min, if◌then◌else◌, Kind, Sparse, Variable, extent, record_number_limit, range, covers, first_written, is_sparse, stored_bytes, Act, IsOneOf, find_covering, covers_within, place_in, record_place, plain_piece, PlainLeaf, plain_leaf, leaves_ascend, block_behind, sound, long, behind_in, Same, variable_of, size_at, Leaf, leaves_of, VariableShape, is_compressed, shape, record_bytes, max_rec_at, word_kept, piece_kept, tile_lies, MaxRecDone, SoFar, OldBlock, NewBlock, record_of, put_from, put_count, filter, list_any, nat_lt, PutsLeaves, ranges_of, cuts_before_put, ranges_after_put, is_taken_at, top_chain, last_node, node_behind, fits, Each-in, number, Nodes, no_node, node, vdr_vxr_tail, NodeFits, In, In-append_right, bytes_eq-same, same_of_bytes_eq, NodesSoFar, length-take, length-drop, drop-drop, ◌==◌, turned, pad_record, r_max_rec_field, max_rec_touches, uncovered, put_room, blocks_room, packed_room, Touch, Outside, Changed, space_before, each_of, count_is, plain_bytes, vdr_max_rec, is_little, records_of_leaf, type_of_variable, either, both, put_touches, taken_bytes}
 use Rattle.cdf_edits.proofs.Edits.LeafPieces.{found_in, unwritten_apart, written_fits}
 use Rattle.std.proofs.Math.Nat.{mul-sub}
 use Rattle.std.proofs.Math.Path.{transport}
@@ -62,17 +62,13 @@ behind_written first r size l i ordered le = elim (cases_lt 0 (put_count first (
 
 -- ---- touches
 
-outside_both : (xs ys : List Touch) (place : ℕ) → Outside (xs ++ ys) place → Outside xs place × Outside ys place
-outside_both [] ys place o = (tt, o)
-outside_both (x ∷ xs) ys place o = let p = outside_both xs ys place o.1 in ((o.0, p.0), p.1)
-
 outside_join : (xs ys : List Touch) (place : ℕ) → Outside xs place → Outside ys place → Outside (xs ++ ys) place
 outside_join [] ys place o p = p
 outside_join (x ∷ xs) ys place o p = (o.0, outside_join xs ys place o.1 p)
 
 -- in another order
 changed_swap : (b now : List ℕ) (xs ys : List Touch) → Changed b now (xs ++ ys) → Changed b now (ys ++ xs)
-changed_swap b now xs ys c = record { longer = c.longer; same = λ place lt o. let p = outside_both ys xs place o in c.same place lt (outside_join xs ys place p.1 p.0) }
+changed_swap b now xs ys c = record { longer = c.longer; same = λ place lt o. let p = Outside-append ys xs place o in c.same place lt (outside_join xs ys place p.1 p.0) }
 
 module _ {b now last : List ℕ} {kind : Kind} {before : List VariableShape} {own own' : VariableShape} {after : List VariableShape} {raw pad : List ℕ} {r : ℕ} {acts : List Act} (so : SoFar b now kind before own own' after raw pad r (r + 1) acts) (done : MaxRecDone b now last kind own own' r) where
   abbrev v : Variable

@@ -1,7 +1,7 @@
 -- One image goes on to another: what a put may change of each record and keeps of each owner, what the descriptor says by then, and that two such steps are one.
 use Rattle.std.proofs.Common.{◌≡◌, ℕ, List, [], ◌∷◌, length, true, false, Option, Some, None, true≢false, eq-eqb, refl, sym, ap, ◌∙◌, inl, inr, suc, ◌+◌, ◌<◌, ◌≤◌, ◌++◌, Bool, subst, append_assoc, arith, map}
-use Rattle.cdf_puts.proofs.Common.{ne_eqb, slice_get, ◌==◌, find, if◌then◌else◌, got-middle, places_of, IsOneOf, find_place, or_cases, leaves_apart, StandsAmong, fits, has, typed, Each-in, Only, shapes_of, put_changes, is_rewritten, Range, range, is_a-type, linkable-type, nodes_stand, is_a, is_in, variable_of, type_at, Leaf, nodes_of, leaves_of, vdr_max_rec, vdr_vxr_head, vdr_vxr_tail, cpr_type, cvvr_type, vvr_type, vxr_type, VariableShape, Each, shape, LeafFits, In, Good, Found, Kind, R, Z, found_in, eqb-true, other_kind, Allowances, Stays, Keeps, AllKeep, unused_allowance, r_max_rec_field, space_fields, Act, either, In-append, Unused, variable_records, unused_records, owned, AttributeShape, Shape, IsSound, tile, FileSame, record_alike, stays_alike, is_compressed, record_bytes, Same-part, tile_lies, DescriptorStays, GoesOn, eq-eqb, length-map, set_at, w32, cast_signed, list_any, slice_set, ◌&&◌, nat_le, nat_lt, long, OutsideFields, is_taken, ActsFollow, taken, linkable-in, good_is_sound, false-is_in, is_in-false, true-is_in, is_in-true, content_is, content, number, size_at, Field, uir_next_uir, uir_prev_uir, uir_type, DataSet, Variable, variables_of, with_variables, r_max_rec, ListedStay, acts_joined, OnlyTakes, none_of_both, WritesRecords, part, file, same_shape, own_rules, Touch}
-use Rattle.cdf_puts.proofs.RaisedGoes.{set_is}
+use Rattle.cdf_puts.proofs.Common.{ne_eqb, slice_get, ◌==◌, find, if◌then◌else◌, got-middle, places_of, IsOneOf, find_place, leaves_apart, StandsAmong, fits, has, typed, Each-in, Only, shapes_of, put_changes, is_rewritten, Range, range, is_a-type, linkable-type, nodes_stand, is_a, is_in, variable_of, type_at, Leaf, nodes_of, leaves_of, vdr_max_rec, vdr_vxr_head, vdr_vxr_tail, cpr_type, cvvr_type, vvr_type, vxr_type, VariableShape, shape, In, Good, Found, Kind, R, Z, found_in, eqb-true, other_kind, Allowances, Stays, Keeps, AllKeep, unused_allowance, r_max_rec_field, space_fields, Act, either, In-append, Unused, variable_records, unused_records, owned, AttributeShape, Shape, IsSound, tile, FileSame, record_alike, stays_alike, is_compressed, record_bytes, Same-part, tile_lies, DescriptorStays, GoesOn, eq-eqb, length-map, set_at, w32, cast_signed, list_any, slice_set, ◌&&◌, nat_le, nat_lt, long, OutsideFields, is_taken, ActsFollow, taken, linkable-in, good_is_sound, false-is_in, is_in-false, true-is_in, is_in-true, content_is, content, number, size_at, Field, uir_next_uir, uir_prev_uir, uir_type, DataSet, Variable, variables_of, with_variables, r_max_rec, ListedStay, acts_joined, OnlyTakes, none_of_both, WritesRecords, part, file, same_shape, own_rules, Touch}
+use Rattle.cdf_puts.proofs.RaisedGoes.{block_type, set_is}
 use Rattle.cdf_edits.proofs.Edits.VariableKinds.{kind_type}
 use Rattle.cdf_edits.specs.Commands.Allowances.{range_at, only_of, allowance, Allowance, Anything, anything_if, same_kind, vdr_type}
 use Rattle.cdf_edits.proofs.Commands.KeptRecords.{AllKeep-append}
@@ -19,14 +19,6 @@ use Rattle.cdf_edits.proofs.Edits.RecordsWritten.{size_same, type_same, content_
 
 abbrev block_types : List ℕ
 block_types = vvr_type ∷ cvvr_type ∷ []
-
-blocks_typed : (b records : List ℕ) (vdr : ℕ) (leaves : List Leaf) → Each (LeafFits b records vdr) leaves → (m : ℕ) → In m (places_of leaves) → is_in (type_at b m) block_types ≡ true
-blocks_typed b records vdr [] f m i = absurd i
-blocks_typed b records vdr (leaf ∷ more) f m (inl e) = elim (or_cases (is_a b records vvr_type leaf.place) (is_a b records cvvr_type leaf.place) f.0.0) [
-  | inl p ↦ ap (λ (x : ℕ). is_in (type_at b x) block_types) e ∙ ap (λ (t : ℕ). is_in t block_types) (is_a-type b records vvr_type leaf.place p)
-  | inr p ↦ ap (λ (x : ℕ). is_in (type_at b x) block_types) e ∙ ap (λ (t : ℕ). is_in t block_types) (is_a-type b records cvvr_type leaf.place p)
-]
-blocks_typed b records vdr (leaf ∷ more) f m (inr i) = blocks_typed b records vdr more f.1 m i
 
 find_none : (leaves : List Leaf) (p : ℕ) → (In p (places_of leaves) → ⊥) → find (λ (leaf : Leaf). leaf.place == p) leaves ≡ None
 find_none [] p out = refl
@@ -73,7 +65,10 @@ module _ {b : List ℕ} {kind : Kind} {before : List VariableShape} {own : Varia
 
   -- a record of another type is no block
   no_block_of : (m type : ℕ) → type_at b m ≡ type → is_in type block_types ≡ false → In m (places_of (leaves_of own.index)) → ⊥
-  no_block_of m type t none i = true≢false (sym (blocks_typed b (shape b).records own.vdr (leaves_of own.index) (fits good at).2 m i) ∙ ap (λ (x : ℕ). is_in x block_types) t ∙ none)
+  no_block_of m type t none i = elim (block_type b (shape b).records own.vdr (leaves_of own.index) (fits good at).2 m i) [
+    | inl e ↦ true≢false (sym (ap (λ (x : ℕ). is_in x block_types) (sym t ∙ e)) ∙ none)
+    | inr e ↦ true≢false (sym (ap (λ (x : ℕ). is_in x block_types) (sym t ∙ e)) ∙ none)
+  ]
 
   typed_allowed : (m type : ℕ) → type_at b m ≡ type → is_in type block_types ≡ false → own_may m ≡ by_type kind type
   typed_allowed m type t none = allowed m None (ranged m None (find_none (leaves_of own.index) m (no_block_of m type t none))) ∙ ap (by_type kind) t
