@@ -1,5 +1,5 @@
 -- All records are put: the index, what was taken for it and the bytes of the blocks are as the command says, and what is stored as each record.
-use Rattle.std.proofs.Common.{◌≡◌, ◌≢◌, ◌⊎◌, ℕ, suc, ◌+◌, ◌-◌, ◌*◌, ◌<◌, ◌≤◌, List, length, take, drop, false, Some, None, find, eq-eqb, refl, sym, ap, subst, ◌∙◌, arith, inl, inr, [], ◌∷◌, ◌++◌, append-nil, Bool, true, not, ◌&&◌, bytes_eq, zero, map, true≢false, take-append-drop}
+use Rattle.std.proofs.Common.{◌≡◌, ◌≢◌, ◌⊎◌, ℕ, suc, ◌+◌, ◌-◌, ◌*◌, ◌<◌, ◌≤◌, List, length, take, drop, false, Some, None, find, eq-eqb, refl, sym, ap, subst, ◌∙◌, arith, inl, inr, [], ◌∷◌, ◌++◌, append-nil, Bool, true, ◌&&◌, bytes_eq, zero, map, true≢false, take-append-drop}
 use Rattle.cdf_puts.proofs.Common.{Outside-append, cases_lt, ne_eqb, option_map, min, if◌then◌else◌, Kind, Sparse, Variable, extent, record_number_limit, range, covers, first_written, is_sparse, stored_bytes, Act, IsOneOf, find_covering, covers_within, place_in, record_place, plain_piece, PlainLeaf, plain_leaf, leaves_ascend, block_behind, sound, long, behind_in, Same, variable_of, size_at, Leaf, leaves_of, VariableShape, is_compressed, shape, record_bytes, max_rec_at, word_kept, piece_kept, tile_lies, MaxRecDone, SoFar, OldBlock, NewBlock, record_of, put_from, put_count, filter, list_any, nat_lt, PutsLeaves, ranges_of, cuts_before_put, ranges_after_put, is_taken_at, top_chain, last_node, node_behind, fits, Each-in, number, Nodes, no_node, node, vdr_vxr_tail, NodeFits, In, In-append_right, bytes_eq-same, same_of_bytes_eq, NodesSoFar, length-take, length-drop, drop-drop, ◌==◌, turned, pad_record, r_max_rec_field, max_rec_touches, uncovered, put_room, blocks_room, packed_room, Touch, Outside, Changed, space_before, each_of, count_is, plain_bytes, vdr_max_rec, is_little, records_of_leaf, type_of_variable, either, both, put_touches, taken_bytes}
 use Rattle.cdf_edits.proofs.Edits.LeafPieces.{found_in, unwritten_apart, written_fits}
 use Rattle.std.proofs.Math.Nat.{mul-sub}
@@ -118,14 +118,13 @@ module _ {b now last : List ℕ} {kind : Kind} {before : List VariableShape} {ow
   tops = bytes_eq (top_chain own.index) (top_chain own'.index)
 
   top_test : top_stays acts own.index own.index own'.index ≡ tops
-  top_test = let here = bytes_eq-same (top_chain own.index) in rw here (by tops refl)
-    where
-      by : (c : Bool) → tops ≡ c → (tops && not (list_any (is_taken_at acts) (top_chain own'.index))) ≡ tops
-      by true e =
-          let same = same_of_bytes_eq (top_chain own.index) (top_chain own'.index) e in
-          let none : list_any (is_taken_at acts) (top_chain own'.index) ≡ false = none_taken_in acts (top_chain own'.index) (λ m i. so.index.nodes.apart m (top_in own.index m (subst (In m) (sym same) i))) in
-          rw (none, e) refl
-      by false e = rw e refl
+  top_test = let here = bytes_eq-same (top_chain own.index) in rw here (elim (either tops) [
+    | inl e ↦
+        let same = same_of_bytes_eq (top_chain own.index) (top_chain own'.index) e in
+        let none : list_any (is_taken_at acts) (top_chain own'.index) ≡ false = none_taken_in acts (top_chain own'.index) (λ m i. so.index.nodes.apart m (top_in own.index m (subst (In m) (sym same) i))) in
+        rw (none, e) refl
+    | inr e ↦ rw e refl
+  ])
 
   tail : TailFollows b last acts own.index own own'
   tail =

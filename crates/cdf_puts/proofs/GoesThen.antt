@@ -198,11 +198,10 @@ module _ (b now : List ℕ) (acts : List Act) (sound : IsSound b (shape b)) (k :
   listed_stays m i free =
       let ok = sound.has_shape.unused_chain.linkable m i in
       let kept = k m (unused_of m (linkable-in b (shape b).records uir_type m ok) (linkable-type b (shape b).records uir_type m ok)) in
-      let listed = subst (λ (p : Bool). Keeps b now m (if p then (if is_taken b acts m then Anything else Only links) else Only [])) (is_in-true m (shape b).unused i) kept in
-      subst (λ (p : Bool). Keeps b now m (if p then Anything else Only links)) free listed
+      rw (is_in-true m (shape b).unused i, free) at kept
 
   pub loose_stays : (m : ℕ) → In m (unused_records b (shape b)) → (In m (shape b).unused → ⊥) → Stays b now m []
-  loose_stays m i out = subst (λ (p : Bool). Keeps b now m (if p then (if is_taken b acts m then Anything else Only links) else Only [])) (is_in-false m (shape b).unused out) (k m i)
+  loose_stays m i out = let kept = k m i in rw (is_in-false m (shape b).unused out) at kept
 
   -- an unused record that is not taken keeps all but its links
   pub free_stays : (m : ℕ) → In m (unused_records b (shape b)) → is_taken b acts m ≡ false → Stays b now m links
@@ -362,16 +361,10 @@ module _ {b mid now : List ℕ} {kind : Kind} {before : List VariableShape} {own
 
   unused_kept : (m : ℕ) → In m (unused_records b (shape b)) → Keeps b now m (unused_allowance b (shape b) (acts ++ acts') m)
   unused_kept m i = elim (either (is_in m (shape b).unused)) [
-    | inl x ↦ subst (λ (p : Bool). Keeps b now m (if p then listed_one else Only [])) (sym x) (elim (either (is_taken b (acts ++ acts') m)) [
-      | inl t ↦ subst (λ (p : Bool). Keeps b now m (if p then Anything else Only links)) (sym t) tt
-      | inr f ↦ subst (λ (p : Bool). Keeps b now m (if p then Anything else Only links)) (sym f) (listed_kept f (true-is_in m (shape b).unused x))
-    ])
-    | inr x ↦ subst (λ (p : Bool). Keeps b now m (if p then listed_one else Only [])) (sym x) (loose_kept (false-is_in m (shape b).unused x))
+    | inl x ↦ elim (either (is_taken b (acts ++ acts') m)) [ inl t ↦ rw (x, t) tt | inr f ↦ rw (x, f) (listed_kept f (true-is_in m (shape b).unused x)) ]
+    | inr x ↦ rw x (loose_kept (false-is_in m (shape b).unused x))
   ]
     where
-      listed_one : Allowance
-      listed_one = if is_taken b (acts ++ acts') m then Anything else Only links
-
       inside : In m (shape b).records
       inside = unused_in b (shape b) sound m i
 

@@ -177,11 +177,8 @@ module _ {b : List ℕ} {kind : Kind} {before : List VariableShape} {own : Varia
   blocks_start = record {
     stay = λ l i. i;
     apart = λ l i. refl;
-    old = λ l i. record { written = λ j from upto f t. absurd (never j from upto); kept = λ i lt side. refl };
+    old = λ l i. record { written = λ j from upto f t. absurd (omega arith); kept = λ i lt side. refl };
     new = λ l i. inl i;
-    has = λ j from upto. absurd (never j from upto);
+    has = λ j from upto. absurd (omega arith);
     quiet = λ e. record { longer = omega arith; same = λ place lt out. refl };
   }
-    where
-      never : {first : ℕ} (j : ℕ) → first ≤ j → j < first → ⊥
-      never j a c = omega arith
