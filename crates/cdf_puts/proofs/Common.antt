@@ -26,7 +26,7 @@ pub use Rattle.cdf_edits.proofs.Edits.StepEdits.{gdr_in, gdr_long, gdr_typed}
 pub use Rattle.cdf_edits.proofs.Edits.VariableCopied.{block_behind, node_behind}
 pub use Rattle.cdf_edits.proofs.Edits.VariableFrame.{variables_in}
 pub use Rattle.cdf_edits.proofs.Edits.VariableKinds.{other_kind, variables_of_are}
-pub use Rattle.cdf_edits.proofs.Frame.ChangedBytes.{changed_part}
+pub use Rattle.cdf_edits.proofs.Frame.ChangedBytes.{Outside-append, changed_part}
 pub use Rattle.cdf_edits.proofs.Frame.Meaning.{FileSame, Kept}
 pub use Rattle.cdf_edits.proofs.Frame.OwnerAlone.{Each-in}
 pub use Rattle.cdf_edits.proofs.Frame.OwnersApart.{all_variable_records, times-append, times-in}

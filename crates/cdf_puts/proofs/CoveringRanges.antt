@@ -67,7 +67,7 @@ found_passes test (y ∷ xs) x e = elim (either (test y)) [
 pub found_by : (k : ℕ) (rs : List Range) (r : Range) → find (covers k) rs ≡ Some r → k ≤ r.last
 found_by k rs r e = le_of k r.last (both (leb r.first k) (leb k r.last) (found_passes (covers k) rs r e)).1
 
-some_or_none : {X : Type 0} (o : Option X) → ((x : X) × (o ≡ Some x)) ⊎ (o ≡ None)
+pub some_or_none : {X : Type 0} (o : Option X) → ((x : X) × (o ≡ Some x)) ⊎ (o ≡ None)
 some_or_none None = inr refl
 some_or_none (Some x) = inl (x, refl)
 
@@ -171,17 +171,16 @@ module _ (v : Variable) (firsts : List ℕ) (n : ℕ) (small : n ≤ record_numb
       let steps : n + 1 - k ≡ suc (n - k) = omega arith in
       let here : goes (n + 1 - k) k rs ≡ goes (n - k) (r.last + 1) rs = ap (λ (m : ℕ). goes m k rs) steps ∙ found_step (n - k) k rs r le e in
       here ∙ elim (either (ltb k r.last)) [
-        | inl t ↦ let lt = lt_of k r.last t in inside (again (omega arith)) lt
-        | inr t ↦ let ge = ge_of k r.last t in let same : r.last ≡ k = omega arith in ap (λ (x : ℕ). goes (n - k) (x + 1) rs) same ∙ enough (n - k) (n + 1 - (k + 1)) (k + 1) rs (omega arith) (omega arith)
-      ]
-    where
-      inside : find (covers (k + 1)) rs ≡ Some r → k < r.last → goes (n - k) (r.last + 1) rs ≡ goes (n + 1 - (k + 1)) (k + 1) rs
-      inside found lt = elim (either (ltb k n)) [
         | inl t ↦
-            let less = lt_of k n t in
-            let steps : n + 1 - (k + 1) ≡ suc (n - (k + 1)) = omega arith in
-            enough (n - k) (n - (k + 1)) (r.last + 1) rs (omega arith) (omega arith) ∙ sym (ap (λ (m : ℕ). goes m (k + 1) rs) steps ∙ found_step (n - (k + 1)) (k + 1) rs r (omega arith) found)
-        | inr t ↦ let ge = ge_of k n t in end_step (n - k) (r.last + 1) rs (omega arith) ∙ sym (end_step (n + 1 - (k + 1)) (k + 1) rs (omega arith))
+            let lt = lt_of k r.last t in
+            elim (either (ltb k n)) [
+              | inl u ↦
+                  let less = lt_of k n u in
+                  let rest : n + 1 - (k + 1) ≡ suc (n - (k + 1)) = omega arith in
+                  enough (n - k) (n - (k + 1)) (r.last + 1) rs (omega arith) (omega arith) ∙ sym (ap (λ (m : ℕ). goes m (k + 1) rs) rest ∙ found_step (n - (k + 1)) (k + 1) rs r (omega arith) (again (omega arith)))
+              | inr u ↦ let ge = ge_of k n u in end_step (n - k) (r.last + 1) rs (omega arith) ∙ sym (end_step (n + 1 - (k + 1)) (k + 1) rs (omega arith))
+            ]
+        | inr t ↦ let ge = ge_of k r.last t in let same : r.last ≡ k = omega arith in ap (λ (x : ℕ). goes (n - k) (x + 1) rs) same ∙ enough (n - k) (n + 1 - (k + 1)) (k + 1) rs (omega arith) (omega arith)
       ]
 
   -- from a record that gets one on to the record behind that

@@ -1,6 +1,6 @@
 -- All records are put: the index, what was taken for it and the bytes of the blocks are as the command says, and what is stored as each record.
-use Rattle.std.proofs.Common.{◌≡◌, ◌≢◌, ◌⊎◌, ℕ, suc, ◌+◌, ◌-◌, ◌*◌, ◌<◌, ◌≤◌, List, length, take, drop, false, Option, Some, None, find, eq-eqb, refl, sym, ap, subst, ◌∙◌, arith, inl, inr, [], ◌∷◌, ◌++◌, append-nil, Bool, true, not, ◌&&◌, bytes_eq, zero, map, true≢false, take-append-drop}
-use Rattle.cdf_puts.proofs.Common.{cases_lt, ne_eqb, option_map, min, if◌then◌else◌, Kind, Sparse, Variable, extent, record_number_limit, range, covers, first_written, is_sparse, stored_bytes, Act, IsOneOf, find_covering, covers_within, place_in, record_place, plain_piece, PlainLeaf, plain_leaf, leaves_ascend, block_behind, sound, long, behind_in, Same, variable_of, size_at, Leaf, leaves_of, VariableShape, is_compressed, shape, record_bytes, max_rec_at, word_kept, piece_kept, tile_lies, MaxRecDone, SoFar, OldBlock, NewBlock, record_of, put_from, put_count, filter, list_any, nat_lt, PutsLeaves, ranges_of, cuts_before_put, ranges_after_put, is_taken_at, top_chain, last_node, node_behind, fits, Each-in, number, Nodes, no_node, node, vdr_vxr_tail, NodeFits, In, In-append_right, bytes_eq-same, same_of_bytes_eq, NodesSoFar, length-take, length-drop, drop-drop, ◌==◌, turned, pad_record, r_max_rec_field, max_rec_touches, uncovered, put_room, blocks_room, packed_room, Touch, Outside, Changed, space_before, each_of, count_is, plain_bytes, vdr_max_rec, is_little, records_of_leaf, type_of_variable, either, both, put_touches, taken_bytes}
+use Rattle.std.proofs.Common.{◌≡◌, ◌≢◌, ◌⊎◌, ℕ, suc, ◌+◌, ◌-◌, ◌*◌, ◌<◌, ◌≤◌, List, length, take, drop, false, Some, None, find, eq-eqb, refl, sym, ap, subst, ◌∙◌, arith, inl, inr, [], ◌∷◌, ◌++◌, append-nil, Bool, true, ◌&&◌, bytes_eq, zero, map, true≢false, take-append-drop}
+use Rattle.cdf_puts.proofs.Common.{Outside-append, cases_lt, ne_eqb, option_map, min, if◌then◌else◌, Kind, Sparse, Variable, extent, record_number_limit, range, covers, first_written, is_sparse, stored_bytes, Act, IsOneOf, find_covering, covers_within, place_in, record_place, plain_piece, PlainLeaf, plain_leaf, leaves_ascend, block_behind, sound, long, behind_in, Same, variable_of, size_at, Leaf, leaves_of, VariableShape, is_compressed, shape, record_bytes, max_rec_at, word_kept, piece_kept, tile_lies, MaxRecDone, SoFar, OldBlock, NewBlock, record_of, put_from, put_count, filter, list_any, nat_lt, PutsLeaves, ranges_of, cuts_before_put, ranges_after_put, is_taken_at, top_chain, last_node, node_behind, fits, Each-in, number, Nodes, no_node, node, vdr_vxr_tail, NodeFits, In, In-append_right, bytes_eq-same, same_of_bytes_eq, NodesSoFar, length-take, length-drop, drop-drop, ◌==◌, turned, pad_record, r_max_rec_field, max_rec_touches, uncovered, put_room, blocks_room, packed_room, Touch, Outside, Changed, space_before, each_of, count_is, plain_bytes, vdr_max_rec, is_little, records_of_leaf, type_of_variable, either, both, put_touches, taken_bytes}
 use Rattle.cdf_edits.proofs.Edits.LeafPieces.{found_in, unwritten_apart, written_fits}
 use Rattle.std.proofs.Math.Nat.{mul-sub}
 use Rattle.std.proofs.Math.Path.{transport}
@@ -8,13 +8,13 @@ use Rattle.cdf_format.specs.Fields.{has_bit}
 use Rattle.cdf_puts.proofs.LastImage.{LastImage, last_image, has_put}
 use Rattle.cdf_puts.proofs.PutBytes.{by_offsets, old_plain, inside_old, old_goes_on, new_goes_on}
 use Rattle.cdf_puts.proofs.WrittenGoes.{record_fits}
-use Rattle.cdf_puts.proofs.PutMeaning.{IsPut, HasPut}
+use Rattle.cdf_puts.proofs.PutMeaning.{IsPut}
 use Rattle.cdf_edits.specs.Commands.Puts.{CutsFirst, PutsIndex, is_written, PutsBytes, StaysUnwritten, UnwrittenStay, HoldsPads, is_changed, was_leaf, written_in, stays_in_place, stored_in}
 use Rattle.cdf_edits.specs.Index.Written.{top_stays, TailFollows, block_end, SpareIs, ReservedIs, BlockFollows}
 use Rattle.cdf_format.specs.Index.{nodes_of, lower_nodes}
-use Rattle.cdf_puts.proofs.CoveringRanges.{covering_done, covering_total}
+use Rattle.cdf_puts.proofs.CoveringRanges.{some_or_none, covering_done, covering_total}
 use Rattle.cdf_puts.proofs.IndexWritten.{nodes_still}
-use Rattle.cdf_puts.proofs.GoesThen.{record_stays}
+use Rattle.cdf_puts.proofs.GoesThen.{Passes, record_stays}
 use Rattle.cdf_puts.proofs.PutRoom.{none_given, no_node_given, none_without_bytes}
 use Rattle.std.specs.List.{repeat}
 use Rattle.cdf_edits.specs.Frame.Changed.{touched_field}
@@ -62,17 +62,13 @@ behind_written first r size l i ordered le = elim (cases_lt 0 (put_count first (
 
 -- ---- touches
 
-outside_both : (xs ys : List Touch) (place : ℕ) → Outside (xs ++ ys) place → Outside xs place × Outside ys place
-outside_both [] ys place o = (tt, o)
-outside_both (x ∷ xs) ys place o = let p = outside_both xs ys place o.1 in ((o.0, p.0), p.1)
-
 outside_join : (xs ys : List Touch) (place : ℕ) → Outside xs place → Outside ys place → Outside (xs ++ ys) place
 outside_join [] ys place o p = p
 outside_join (x ∷ xs) ys place o p = (o.0, outside_join xs ys place o.1 p)
 
 -- in another order
 changed_swap : (b now : List ℕ) (xs ys : List Touch) → Changed b now (xs ++ ys) → Changed b now (ys ++ xs)
-changed_swap b now xs ys c = record { longer = c.longer; same = λ place lt o. let p = outside_both ys xs place o in c.same place lt (outside_join xs ys place p.1 p.0) }
+changed_swap b now xs ys c = record { longer = c.longer; same = λ place lt o. let p = Outside-append ys xs place o in c.same place lt (outside_join xs ys place p.1 p.0) }
 
 module _ {b now last : List ℕ} {kind : Kind} {before : List VariableShape} {own own' : VariableShape} {after : List VariableShape} {raw pad : List ℕ} {r : ℕ} {acts : List Act} (so : SoFar b now kind before own own' after raw pad r (r + 1) acts) (done : MaxRecDone b now last kind own own' r) where
   abbrev v : Variable
@@ -96,8 +92,8 @@ module _ {b now last : List ℕ} {kind : Kind} {before : List VariableShape} {ow
   img : LastImage b now last kind own own' r
   img = last_image so done
 
-  put : HasPut b last kind before own own' after r acts
-  put = has_put so done
+  put : Passes b last kind before own own' after r acts
+  put = (has_put so done).step
 
   -- ---- the index
 
@@ -122,14 +118,13 @@ module _ {b now last : List ℕ} {kind : Kind} {before : List VariableShape} {ow
   tops = bytes_eq (top_chain own.index) (top_chain own'.index)
 
   top_test : top_stays acts own.index own.index own'.index ≡ tops
-  top_test = let here = bytes_eq-same (top_chain own.index) in rw here (by tops refl)
-    where
-      by : (c : Bool) → tops ≡ c → (tops && not (list_any (is_taken_at acts) (top_chain own'.index))) ≡ tops
-      by true e =
-          let same = same_of_bytes_eq (top_chain own.index) (top_chain own'.index) e in
-          let none : list_any (is_taken_at acts) (top_chain own'.index) ≡ false = none_taken_in acts (top_chain own'.index) (λ m i. so.index.nodes.apart m (top_in own.index m (subst (In m) (sym same) i))) in
-          rw (none, e) refl
-      by false e = rw e refl
+  top_test = let here = bytes_eq-same (top_chain own.index) in rw here (elim (either tops) [
+    | inl e ↦
+        let same = same_of_bytes_eq (top_chain own.index) (top_chain own'.index) e in
+        let none : list_any (is_taken_at acts) (top_chain own'.index) ≡ false = none_taken_in acts (top_chain own'.index) (λ m i. so.index.nodes.apart m (top_in own.index m (subst (In m) (sym same) i))) in
+        rw (none, e) refl
+    | inr e ↦ rw e refl
+  ])
 
   tail : TailFollows b last acts own.index own own'
   tail =
@@ -220,7 +215,7 @@ module _ {b now last : List ℕ} {kind : Kind} {before : List VariableShape} {ow
       let fit = record_fits j l.first l.last size f t in
       let room = x.room in
       let inside = inside_old so l i in
-      let longer = put.longer in
+      let longer = put.file.longer in
       piece_kept b last _ _ (by_offsets b last l.place (12 + (j - l.first) * size) (12 + (j - l.first) * size + size) (λ n low high. o.kept n (omega arith) (beside n low high))) (record_place l size j) size (omega arith) (omega arith) (omega arith) (omega arith)
     where
       beside : (i : ℕ) → 12 + (j - l.first) * size ≤ i → i < 12 + (j - l.first) * size + size → (i < put_from first size l) ⊎ (put_from first size l + put_count first (r + 1) l * size ≤ i)
@@ -241,20 +236,19 @@ module _ {b now last : List ℕ} {kind : Kind} {before : List VariableShape} {ow
 
   -- up to MaxRec, one that none had has none by now, where it was not put
   stored_none : (j : ℕ) → find (λ (leaf : Leaf). covers j (range leaf.first leaf.last)) olds ≡ None → j < most → (j < first) ⊎ (r < j) → stored_bytes last own.vdr size leaves j ≡ stored_bytes b own.vdr size olds j
-  stored_none j none below side = by (find (λ (leaf : Leaf). covers j (range leaf.first leaf.last)) leaves) refl
-    where
-      by : (o : Option Leaf) → find (λ (leaf : Leaf). covers j (range leaf.first leaf.last)) leaves ≡ o → stored_bytes last own.vdr size leaves j ≡ stored_bytes b own.vdr size olds j
-      by None e = ap (option_map _) e ∙ sym (ap (option_map _) none)
-      by (Some l) e =
-          let g = found_in (λ (leaf : Leaf). covers j (range leaf.first leaf.last)) leaves l e in
-          let c = covers_within j l g.1 in
-          elim (last_new l g.0) [
-            | inl o ↦ let e : Some l ≡ None = sym (find_covering j 0 (suc record_number_limit) olds (leaves_ascend so.start.good so.start.among) l o c.0 c.1) ∙ none in absurd (cc)
-            | inr n ↦
-                let f = c.0 in
-                let t = c.1 in
-                elim side [ inl lt ↦ (let a = n.from in absurd (omega arith)) | inr lt ↦ (let a = n.alone (omega arith) in absurd (omega arith)) ]
-          ]
+  stored_none j none below side = elim (some_or_none (find (λ (leaf : Leaf). covers j (range leaf.first leaf.last)) leaves)) [
+    | inr e ↦ ap (option_map _) e ∙ sym (ap (option_map _) none)
+    | inl found ↦
+        let l = found.0 in
+        let g = found_in (λ (leaf : Leaf). covers j (range leaf.first leaf.last)) leaves l found.1 in
+        let c = covers_within j l g.1 in
+        let f = c.0 in
+        let t = c.1 in
+        elim (last_new l g.0) [
+          | inl o ↦ let e : Some l ≡ None = sym (find_covering j 0 (suc record_number_limit) olds (leaves_ascend so.start.good so.start.among) l o f t) ∙ none in absurd (cc)
+          | inr n ↦ elim side [ inl lt ↦ (let a = n.from in absurd (omega arith)) | inr lt ↦ (let a = n.alone (omega arith) in absurd (omega arith)) ]
+        ]
+  ]
 
   -- ---- as the content has it
 
@@ -272,15 +266,11 @@ module _ {b now last : List ℕ} {kind : Kind} {before : List VariableShape} {ow
     max_rec_is = img.max_rec_is;
     stored = stored_put r (let f = first_is in omega arith) (omega arith) ∙ ap Some raw_is;
     padded = λ k le lt. stored_put k (let f = first_is in omega arith) (omega arith) ∙ ap Some (pad_is k (λ e. absurd (omega arith)));
-    kept = λ k lt ne. beside k lt (let f = first_is in elim (cases_lt r k) [ inl past ↦ inr past | inr le ↦ inl (omega arith) ]);
+    kept = λ k lt ne.
+        let f = first_is in
+        let side : (k < first) ⊎ (r < k) = elim (cases_lt r k) [ inl past ↦ inr past | inr le ↦ inl (omega arith) ] in
+        elim (some_or_none (find (λ (leaf : Leaf). covers k (range leaf.first leaf.last)) olds)) [ inl l ↦ stored_same k l.0 l.1 side | inr none ↦ stored_none k none lt side ];
   }
-    where
-      beside : (k : ℕ) → k < most → (k < first) ⊎ (r < k) → stored_bytes last own.vdr size leaves k ≡ stored_bytes b own.vdr size olds k
-      beside k lt side = by (find (λ (leaf : Leaf). covers k (range leaf.first leaf.last)) olds) refl
-        where
-          by : (o : Option Leaf) → find (λ (leaf : Leaf). covers k (range leaf.first leaf.last)) olds ≡ o → stored_bytes last own.vdr size leaves k ≡ stored_bytes b own.vdr size olds k
-          by None e = stored_none k e lt side
-          by (Some l) e = stored_same k l e side
 
   before_is : ranges_before_put v own.index r ≡ ranges_of own.index
   before_is = ap (λ (c : Bool). if c then cut_open (extent v.max_rec) record_number_limit (ranges_of own.index) else ranges_of own.index) uncut

@@ -1,17 +1,17 @@
 -- One image goes on to another: what a put may change of each record and keeps of each owner, what the descriptor says by then, and that two such steps are one.
 use Rattle.std.proofs.Common.{◌≡◌, ℕ, List, [], ◌∷◌, length, true, false, Option, Some, None, true≢false, eq-eqb, refl, sym, ap, ◌∙◌, inl, inr, suc, ◌+◌, ◌<◌, ◌≤◌, ◌++◌, Bool, subst, append_assoc, arith, map}
-use Rattle.cdf_puts.proofs.Common.{ne_eqb, slice_get, ◌==◌, find, if◌then◌else◌, got-middle, places_of, IsOneOf, find_place, or_cases, leaves_apart, StandsAmong, fits, has, typed, Each-in, Only, shapes_of, put_changes, is_rewritten, Range, range, is_a-type, linkable-type, nodes_stand, is_a, is_in, variable_of, type_at, Leaf, nodes_of, leaves_of, vdr_max_rec, vdr_vxr_head, vdr_vxr_tail, cpr_type, cvvr_type, vvr_type, vxr_type, VariableShape, Each, shape, LeafFits, In, Good, Found, Kind, R, Z, found_in, eqb-true, flat_map, other_kind, Allowances, Stays, Keeps, AllKeep, unused_allowance, r_max_rec_field, space_fields, Act, apart, cdr_type, gdr_type, either, In-append, In-append_left, In-append_right, Unused, variable_records, unused_records, owned, AttributeShape, Shape, IsSound, tile, FileSame, record_alike, stays_alike, is_compressed, record_bytes, Same-part, tile_lies, DescriptorStays, GoesOn, eq-eqb, length-map, set_at, w32, cast_signed, list_any, slice_set, ◌&&◌, nat_le, nat_lt, long, OutsideFields, is_taken, ActsFollow, taken, linkable-in, good_is_sound, false-is_in, is_in-false, true-is_in, is_in-true, content_is, content, number, size_at, Field, uir_next_uir, uir_prev_uir, uir_type, DataSet, Variable, variables_of, with_variables, r_max_rec, ListedStay, acts_joined, OnlyTakes, none_of_both, WritesRecords, part, file, same_shape, own_rules, Touch}
-use Rattle.cdf_puts.proofs.RaisedGoes.{set_is}
+use Rattle.cdf_puts.proofs.Common.{ne_eqb, slice_get, ◌==◌, find, if◌then◌else◌, got-middle, places_of, IsOneOf, find_place, leaves_apart, StandsAmong, fits, has, typed, Each-in, Only, shapes_of, put_changes, is_rewritten, Range, range, is_a-type, linkable-type, nodes_stand, is_a, is_in, variable_of, type_at, Leaf, nodes_of, leaves_of, vdr_max_rec, vdr_vxr_head, vdr_vxr_tail, cpr_type, cvvr_type, vvr_type, vxr_type, VariableShape, shape, In, Good, Found, Kind, R, Z, found_in, eqb-true, other_kind, Allowances, Stays, Keeps, AllKeep, unused_allowance, r_max_rec_field, space_fields, Act, either, In-append, Unused, variable_records, unused_records, owned, AttributeShape, Shape, IsSound, tile, FileSame, record_alike, stays_alike, is_compressed, record_bytes, Same-part, tile_lies, DescriptorStays, GoesOn, eq-eqb, length-map, set_at, w32, cast_signed, list_any, slice_set, ◌&&◌, nat_le, nat_lt, long, OutsideFields, is_taken, ActsFollow, taken, linkable-in, good_is_sound, false-is_in, is_in-false, true-is_in, is_in-true, content_is, content, number, size_at, Field, uir_next_uir, uir_prev_uir, uir_type, DataSet, Variable, variables_of, with_variables, r_max_rec, ListedStay, acts_joined, OnlyTakes, none_of_both, WritesRecords, part, file, same_shape, own_rules, Touch}
+use Rattle.cdf_puts.proofs.RaisedGoes.{block_type, set_is}
 use Rattle.cdf_edits.proofs.Edits.VariableKinds.{kind_type}
 use Rattle.cdf_edits.specs.Commands.Allowances.{range_at, only_of, allowance, Allowance, Anything, anything_if, same_kind, vdr_type}
 use Rattle.cdf_edits.proofs.Commands.KeptRecords.{AllKeep-append}
-use Rattle.cdf_edits.proofs.Edits.OwnersKept.{keep_all, keep_file, keep_places}
+use Rattle.cdf_edits.proofs.Edits.OwnersKept.{keep_all, keep_places}
 use Rattle.cdf_edits.proofs.Edits.VariableKept.{keep_kinds, keep_variable_parts, same_as_itself}
 use Rattle.cdf_format.specs.Owners.{Owner, File, OneAttribute, OneVariable, owned_by, owned_by_attributes, owned_by_variables, attribute_records}
 use Rattle.cdf_edits.proofs.Frame.VdrStays.{variable_stays, VdrStays, packed_stays}
 use Rattle.cdf_edits.proofs.Edits.LeafPieces.{leaf_at}
 use Rattle.cdf_edits.proofs.Edits.VariableKeeps.{stays_then, type_stays}
-use Rattle.cdf_edits.proofs.Frame.OwnersApart.{unused_in, all_attribute_records}
+use Rattle.cdf_edits.proofs.Frame.OwnersApart.{unused_in}
 use Rattle.cdf_edits.proofs.Space.UsedRecords.{filter-says}
 use Rattle.cdf_format.proofs.SpaceLemmas.{in-filter}
 use Rattle.cdf_edits.proofs.Edits.ActsJoined.{listed_before}
@@ -19,14 +19,6 @@ use Rattle.cdf_edits.proofs.Edits.RecordsWritten.{size_same, type_same, content_
 
 abbrev block_types : List ℕ
 block_types = vvr_type ∷ cvvr_type ∷ []
-
-blocks_typed : (b records : List ℕ) (vdr : ℕ) (leaves : List Leaf) → Each (LeafFits b records vdr) leaves → (m : ℕ) → In m (places_of leaves) → is_in (type_at b m) block_types ≡ true
-blocks_typed b records vdr [] f m i = absurd i
-blocks_typed b records vdr (leaf ∷ more) f m (inl e) = elim (or_cases (is_a b records vvr_type leaf.place) (is_a b records cvvr_type leaf.place) f.0.0) [
-  | inl p ↦ ap (λ (x : ℕ). is_in (type_at b x) block_types) e ∙ ap (λ (t : ℕ). is_in t block_types) (is_a-type b records vvr_type leaf.place p)
-  | inr p ↦ ap (λ (x : ℕ). is_in (type_at b x) block_types) e ∙ ap (λ (t : ℕ). is_in t block_types) (is_a-type b records cvvr_type leaf.place p)
-]
-blocks_typed b records vdr (leaf ∷ more) f m (inr i) = blocks_typed b records vdr more f.1 m i
 
 find_none : (leaves : List Leaf) (p : ℕ) → (In p (places_of leaves) → ⊥) → find (λ (leaf : Leaf). leaf.place == p) leaves ≡ None
 find_none [] p out = refl
@@ -73,7 +65,10 @@ module _ {b : List ℕ} {kind : Kind} {before : List VariableShape} {own : Varia
 
   -- a record of another type is no block
   no_block_of : (m type : ℕ) → type_at b m ≡ type → is_in type block_types ≡ false → In m (places_of (leaves_of own.index)) → ⊥
-  no_block_of m type t none i = true≢false (sym (blocks_typed b (shape b).records own.vdr (leaves_of own.index) (fits good at).2 m i) ∙ ap (λ (x : ℕ). is_in x block_types) t ∙ none)
+  no_block_of m type t none i = elim (block_type b (shape b).records own.vdr (leaves_of own.index) (fits good at).2 m i) [
+    | inl e ↦ true≢false (sym (ap (λ (x : ℕ). is_in x block_types) (sym t ∙ e)) ∙ none)
+    | inr e ↦ true≢false (sym (ap (λ (x : ℕ). is_in x block_types) (sym t ∙ e)) ∙ none)
+  ]
 
   typed_allowed : (m type : ℕ) → type_at b m ≡ type → is_in type block_types ≡ false → own_may m ≡ by_type kind type
   typed_allowed m type t none = allowed m None (ranged m None (find_none (leaves_of own.index) m (no_block_of m type t none))) ∙ ap (by_type kind) t
@@ -93,17 +88,6 @@ module _ {b : List ℕ} {kind : Kind} {before : List VariableShape} {own : Varia
   pub block_allowed : (l : Leaf) → IsOneOf (leaves_of own.index) l → own_may l.place ≡ anything_if (is_rewritten (variable_of b own) r (range l.first l.last))
   block_allowed l i = allowed l.place (Some (range l.first l.last)) (ranged l.place (Some l) (find_place (leaves_of own.index) (leaves_apart good at) l i))
 
--- of the records of the variable into which is put, of unused ones, and of all others
-pub record PutKeeps (b now : List ℕ) (kind : Kind) (before : List VariableShape) (own : VariableShape) (after : List VariableShape) (r : ℕ) (acts : List Act) : Type 0 where
-  pub cdr : Stays b now 8 []
-  pub gdr : Stays b now (shape b).gdr (r_max_rec_field kind ++ space_fields)
-  pub attributes : (m : ℕ) → In m (all_attribute_records (shape b)) → Stays b now m []
-  pub in_front : (m : ℕ) → In m (flat_map variable_records before) → Stays b now m []
-  pub behind : (m : ℕ) → In m (flat_map variable_records after) → Stays b now m []
-  pub others : (m : ℕ) → In m (flat_map variable_records (shapes_of (shape b) (other_kind kind))) → Stays b now m []
-  pub mine : (m : ℕ) → In m (variable_records own) → Keeps b now m ((put_changes b (shape b) (found_in b kind before own) r).variables kind (length before) m)
-  pub unused : (m : ℕ) → In m (unused_records b (shape b)) → Keeps b now m (unused_allowance b (shape b) acts m)
-
 -- ---- lists of records with one owner
 
 pub AllKeep-split : (b now : List ℕ) (may : Allowances) (acts : List Act) (xs ys : List (ℕ × Owner)) → AllKeep b now may acts (xs ++ ys) → AllKeep b now may acts xs × AllKeep b now may acts ys
@@ -122,117 +106,62 @@ variables-append kind n (x ∷ xs) ys =
     ap (λ (r : List (ℕ × Owner)). owned_by (OneVariable kind n) (variable_records x) ++ r) (variables-append kind (suc n) xs ys ∙ ap (λ (k : ℕ). owned_by_variables kind (suc n) xs ++ owned_by_variables kind k ys) next)
     ∙ sym (append_assoc (owned_by (OneVariable kind n) (variable_records x)) (owned_by_variables kind (suc n) xs) (owned_by_variables kind (n + length (x ∷ xs)) ys))
 
-module _ (b now : List ℕ) (kind : Kind) (before : List VariableShape) (own : VariableShape) (after : List VariableShape) (r : ℕ) (acts : List Act) (at : StandsAmong b kind before own after) where
-  abbrev s : Shape
-  s = shape b
+-- ---- what a put keeps of the records of each owner
 
-  abbrev pub may : Allowances
-  may = put_changes b s (found_in b kind before own) r
+abbrev pub put_may : (b : List ℕ) (kind : Kind) (before : List VariableShape) (own : VariableShape) (r : ℕ) → Allowances
+put_may b kind before own r = put_changes b (shape b) (found_in b kind before own) r
 
-  -- the other variables of the kind, and those of the other kind
-  beside_may : (k : ℕ) → (length before ≡ k → ⊥) → (m : ℕ) → may.variables kind k m ≡ Only []
-  beside_may k ne m =
-      let same : same_kind kind kind ≡ true = same_as_itself kind in
-      let other : (length before == k) ≡ false = ne_eqb (length before) k ne in
-      rw (same, other) (by (type_at b m == vdr_type kind))
-    where
-      by : (p : Bool) → (if p then Only [] else Only []) ≡ Only []
-      by true = refl
-      by false = refl
+-- the other variables of the kind stay, and those of the other kind
+beside_may : (b : List ℕ) (kind : Kind) (before : List VariableShape) (own : VariableShape) (r k : ℕ) → (length before ≡ k → ⊥) → (m : ℕ) → (put_may b kind before own r).variables kind k m ≡ Only []
+beside_may b kind before own r k ne m =
+    let same : same_kind kind kind ≡ true = same_as_itself kind in
+    let other : (length before == k) ≡ false = ne_eqb (length before) k ne in
+    rw (same, other) (by (type_at b m == vdr_type kind))
+  where
+    by : (p : Bool) → (if p then Only [] else Only []) ≡ Only []
+    by true = refl
+    by false = refl
 
-  other_may : (k m : ℕ) → may.variables (other_kind kind) k m ≡ Only []
-  other_may k m = let other = apart kind in rw other refl
-    where
-      apart : (kind : Kind) → same_kind kind (other_kind kind) ≡ false
-      apart R = refl
-      apart Z = refl
+other_may : (b : List ℕ) (kind : Kind) (before : List VariableShape) (own : VariableShape) (r k m : ℕ) → (put_may b kind before own r).variables (other_kind kind) k m ≡ Only []
+other_may b R before own r k m = refl
+other_may b Z before own r k m = refl
 
-  -- variables of which each record stays
-  numbered : (of : Kind) (n : ℕ) (vs : List VariableShape) → ((k m : ℕ) → n ≤ k → k < n + length vs → may.variables of k m ≡ Only []) → ((m : ℕ) → In m (flat_map variable_records vs) → Stays b now m []) → AllKeep b now may acts (owned_by_variables of n vs)
-  numbered of n [] none st = tt
-  numbered of n (v ∷ vs) none st =
-      AllKeep-append b now may acts (owned_by (OneVariable of n) (variable_records v)) (owned_by_variables of (suc n) vs)
-      (keep_places b now may acts (OneVariable of n) (variable_records v) (λ m i. subst (Keeps b now m) (sym (none n m (omega arith) (omega arith))) (st m (In-append_left m (variable_records v) (flat_map variable_records vs) i))))
-      (numbered of (suc n) vs (λ k m low high. none k m (omega arith) (omega arith)) (λ m i. st m (In-append_right m (variable_records v) (flat_map variable_records vs) i)))
+pub record Parts (b now : List ℕ) (may : Allowances) (acts : List Act) (kind : Kind) (before : List VariableShape) (own : VariableShape) (after : List VariableShape) : Type 0 where
+  pub file : AllKeep b now may acts (owned_by File (8 ∷ (shape b).gdr ∷ []))
+  pub attributes : AllKeep b now may acts (owned_by_attributes 0 (shape b).attributes)
+  pub in_front : AllKeep b now may acts (owned_by_variables kind 0 before)
+  pub mine : AllKeep b now may acts (owned_by (OneVariable kind (length before)) (variable_records own))
+  pub behind : AllKeep b now may acts (owned_by_variables kind (suc (length before)) after)
+  pub others : AllKeep b now may acts (owned_by_variables (other_kind kind) 0 (shapes_of (shape b) (other_kind kind)))
+  pub unused : AllKeep b now may acts (owned_by Unused (unused_records b (shape b)))
 
-  numbered_stay : (of : Kind) (n : ℕ) (vs : List VariableShape) → ((k m : ℕ) → n ≤ k → k < n + length vs → may.variables of k m ≡ Only []) → AllKeep b now may acts (owned_by_variables of n vs) → (m : ℕ) → In m (flat_map variable_records vs) → Stays b now m []
-  numbered_stay of n [] none k m i = absurd i
-  numbered_stay of n (v ∷ vs) none k m i =
-      let parts = AllKeep-split b now may acts (owned_by (OneVariable of n) (variable_records v)) (owned_by_variables of (suc n) vs) k in
-      elim (In-append m (variable_records v) (flat_map variable_records vs) i) [
-        | inl j ↦ subst (Keeps b now m) (none n m (omega arith) (omega arith)) (kept_place b now may acts (OneVariable of n) (variable_records v) parts.0 m j)
-        | inr j ↦ numbered_stay of (suc n) vs (λ x p low high. none x p (omega arith) (omega arith)) parts.1 m j
-      ]
+module _ (b now : List ℕ) (may : Allowances) (acts : List Act) {kind : Kind} {before : List VariableShape} {own : VariableShape} {after : List VariableShape} (at : StandsAmong b kind before own after) where
+  pub whole_of : Parts b now may acts kind before own after → AllKeep b now may acts (owned b (shape b))
+  whole_of p =
+      let both = keep_kinds b now may acts kind (keep_variable_parts b now may acts kind before own after at.was p.in_front p.mine p.behind) p.others in
+      keep_all b now may acts p.file p.attributes both.0 both.1 p.unused
 
-  attributes_keep : (n : ℕ) (as_ : List AttributeShape) → ((m : ℕ) → In m (flat_map attribute_records as_) → Stays b now m []) → AllKeep b now may acts (owned_by_attributes n as_)
-  attributes_keep n [] st = tt
-  attributes_keep n (a ∷ as_) st =
-      AllKeep-append b now may acts (owned_by (OneAttribute n) (attribute_records a)) (owned_by_attributes (suc n) as_)
-      (keep_places b now may acts (OneAttribute n) (attribute_records a) (λ m i. st m (In-append_left m (attribute_records a) (flat_map attribute_records as_) i)))
-      (attributes_keep (suc n) as_ (λ m i. st m (In-append_right m (attribute_records a) (flat_map attribute_records as_) i)))
-
-  attributes_stay : (n : ℕ) (as_ : List AttributeShape) → AllKeep b now may acts (owned_by_attributes n as_) → (m : ℕ) → In m (flat_map attribute_records as_) → Stays b now m []
-  attributes_stay n [] k m i = absurd i
-  attributes_stay n (a ∷ as_) k m i =
-      let parts = AllKeep-split b now may acts (owned_by (OneAttribute n) (attribute_records a)) (owned_by_attributes (suc n) as_) k in
-      elim (In-append m (attribute_records a) (flat_map attribute_records as_) i) [
-        | inl j ↦ kept_place b now may acts (OneAttribute n) (attribute_records a) parts.0 m j
-        | inr j ↦ attributes_stay (suc n) as_ parts.1 m j
-      ]
-
-  front_may : (k m : ℕ) → 0 ≤ k → k < 0 + length before → may.variables kind k m ≡ Only []
-  front_may k m low high = beside_may k (λ e. absurd (omega arith)) m
-
-  behind_may : (k m : ℕ) → suc (length before) ≤ k → k < suc (length before) + length after → may.variables kind k m ≡ Only []
-  behind_may k m low high = beside_may k (λ e. absurd (omega arith)) m
-
-  -- ---- all of them
-
-  pub all_kept : IsSound b s → PutKeeps b now kind before own after r acts → AllKeep b now may acts (owned b s)
-  all_kept sound k =
-      let parts = keep_variable_parts b now may acts kind before own after at.was (numbered kind 0 before front_may k.in_front) (keep_places b now may acts (OneVariable kind (length before)) (variable_records own) k.mine)
-      (numbered kind (suc (length before)) after behind_may k.behind) in
-      let both = keep_kinds b now may acts kind parts (numbered (other_kind kind) 0 (shapes_of s (other_kind kind)) (λ n m low high. other_may n m) k.others) in
-      keep_all b now may acts (keep_file b now may acts sound k.cdr k.gdr) (attributes_keep 0 s.attributes k.attributes) both.0 both.1 (keep_places b now may acts Unused (unused_records b s) k.unused)
-
-  of_kinds : (kind : Kind) → AllKeep b now may acts (owned_by_variables R 0 s.r_variables) → AllKeep b now may acts (owned_by_variables Z 0 s.z_variables)
-      → AllKeep b now may acts (owned_by_variables kind 0 (shapes_of s kind)) × AllKeep b now may acts (owned_by_variables (other_kind kind) 0 (shapes_of s (other_kind kind)))
+  of_kinds : (kind : Kind) → AllKeep b now may acts (owned_by_variables R 0 (shape b).r_variables) → AllKeep b now may acts (owned_by_variables Z 0 (shape b).z_variables)
+      → AllKeep b now may acts (owned_by_variables kind 0 (shapes_of (shape b) kind)) × AllKeep b now may acts (owned_by_variables (other_kind kind) 0 (shapes_of (shape b) (other_kind kind)))
   of_kinds R r z = (r, z)
   of_kinds Z r z = (z, r)
 
-  gdr_apart : IsSound b s → (s.gdr == 8) ≡ false
-  gdr_apart sound =
-      let h = sound.has_shape in
-      elim (either (s.gdr == 8)) [
-        | inl e ↦ absurd (apart gdr_type cdr_type refl (sym (is_a-type b s.records gdr_type s.gdr h.gdr_stands) ∙ ap (type_at b) (eqb-true s.gdr 8 e) ∙ is_a-type b s.records cdr_type 8 h.cdr_stands))
-        | inr e ↦ e
-      ]
-
-  pub put_keeps : IsSound b s → AllKeep b now may acts (owned b s) → PutKeeps b now kind before own after r acts
-  put_keeps sound all =
-      let fs = owned_by File (8 ∷ s.gdr ∷ []) in
-      let as_ = owned_by_attributes 0 s.attributes in
-      let rs = owned_by_variables R 0 s.r_variables in
-      let zs = owned_by_variables Z 0 s.z_variables in
-      let four = AllKeep-split b now may acts (fs ++ as_ ++ rs ++ zs) (owned_by Unused (unused_records b s)) all in
+  pub parts_of : AllKeep b now may acts (owned b (shape b)) → Parts b now may acts kind before own after
+  parts_of all =
+      let fs = owned_by File (8 ∷ (shape b).gdr ∷ []) in
+      let as_ = owned_by_attributes 0 (shape b).attributes in
+      let rs = owned_by_variables R 0 (shape b).r_variables in
+      let zs = owned_by_variables Z 0 (shape b).z_variables in
+      let four = AllKeep-split b now may acts (fs ++ as_ ++ rs ++ zs) (owned_by Unused (unused_records b (shape b))) all in
       let three = AllKeep-split b now may acts (fs ++ as_ ++ rs) zs four.0 in
       let two = AllKeep-split b now may acts (fs ++ as_) rs three.0 in
       let one = AllKeep-split b now may acts fs as_ two.0 in
       let kinds = of_kinds kind two.1 three.1 in
       let split = AllKeep-split b now may acts (owned_by_variables kind 0 before) (owned_by_variables kind (length before) (own ∷ after)) (subst (AllKeep b now may acts) numbers kinds.0) in
       let mine = AllKeep-split b now may acts (owned_by (OneVariable kind (length before)) (variable_records own)) (owned_by_variables kind (suc (length before)) after) split.1 in
-      record {
-        cdr = one.0.0;
-        gdr = subst (λ (p : Bool). Keeps b now s.gdr (if p then may.cdr else may.gdr)) (gdr_apart sound) one.0.1.0;
-        attributes = attributes_stay 0 s.attributes one.1;
-        in_front = numbered_stay kind 0 before front_may split.0;
-        behind = numbered_stay kind (suc (length before)) after behind_may mine.1;
-        others = numbered_stay (other_kind kind) 0 (shapes_of s (other_kind kind)) (λ n m low high. other_may n m) kinds.1;
-        mine = kept_place b now may acts (OneVariable kind (length before)) (variable_records own) mine.0;
-        unused = kept_place b now may acts Unused (unused_records b s) four.1;
-      }
+      record { file = one.0; attributes = one.1; in_front = split.0; mine = mine.0; behind = mine.1; others = kinds.1; unused = four.1 }
     where
-      numbers : owned_by_variables kind 0 (shapes_of s kind) ≡ owned_by_variables kind 0 before ++ owned_by_variables kind (length before) (own ∷ after)
+      numbers : owned_by_variables kind 0 (shapes_of (shape b) kind) ≡ owned_by_variables kind 0 before ++ owned_by_variables kind (length before) (own ∷ after)
       numbers = ap (owned_by_variables kind 0) at.was ∙ variables-append kind 0 before (own ∷ after) ∙ ap (λ (k : ℕ). owned_by_variables kind 0 before ++ owned_by_variables kind k (own ∷ after)) (let same : 0 + length before ≡ length before = omega arith in same)
 
 -- the descriptor stays where all but MaxRec, VXRhead and VXRtail of it does
@@ -261,19 +190,18 @@ links = uir_next_uir ∷ uir_prev_uir ∷ []
 
 -- ---- unused records
 
-module _ {b now : List ℕ} {kind : Kind} {before : List VariableShape} {own : VariableShape} {after : List VariableShape} {r : ℕ} {acts : List Act} (sound : IsSound b (shape b)) (k : PutKeeps b now kind before own after r acts) where
+module _ (b now : List ℕ) (acts : List Act) (sound : IsSound b (shape b)) (k : (m : ℕ) → In m (unused_records b (shape b)) → Keeps b now m (unused_allowance b (shape b) acts m)) where
   pub unused_of : (m : ℕ) → In m (shape b).records → type_at b m ≡ uir_type → In m (unused_records b (shape b))
   unused_of m i t = in-filter (λ place. type_at b place == uir_type) (shape b).records m i (eq-eqb (type_at b m) uir_type t)
 
   pub listed_stays : ListedStay b now acts
   listed_stays m i free =
       let ok = sound.has_shape.unused_chain.linkable m i in
-      let kept = k.unused m (unused_of m (linkable-in b (shape b).records uir_type m ok) (linkable-type b (shape b).records uir_type m ok)) in
-      let listed = subst (λ (p : Bool). Keeps b now m (if p then (if is_taken b acts m then Anything else Only links) else Only [])) (is_in-true m (shape b).unused i) kept in
-      subst (λ (p : Bool). Keeps b now m (if p then Anything else Only links)) free listed
+      let kept = k m (unused_of m (linkable-in b (shape b).records uir_type m ok) (linkable-type b (shape b).records uir_type m ok)) in
+      rw (is_in-true m (shape b).unused i, free) at kept
 
   pub loose_stays : (m : ℕ) → In m (unused_records b (shape b)) → (In m (shape b).unused → ⊥) → Stays b now m []
-  loose_stays m i out = subst (λ (p : Bool). Keeps b now m (if p then (if is_taken b acts m then Anything else Only links) else Only [])) (is_in-false m (shape b).unused out) (k.unused m i)
+  loose_stays m i out = let kept = k m i in rw (is_in-false m (shape b).unused out) at kept
 
   -- an unused record that is not taken keeps all but its links
   pub free_stays : (m : ℕ) → In m (unused_records b (shape b)) → is_taken b acts m ≡ false → Stays b now m links
@@ -327,14 +255,32 @@ module _ {b mid now : List ℕ} {kind : Kind} {before : List VariableShape} {own
   mid_sound : IsSound mid (shape mid)
   mid_sound = good_is_sound mid first.good
 
-  one : PutKeeps b mid kind before own after r acts
-  one = put_keeps b mid kind before own after r acts at sound first.keep
+  abbrev may : Allowances
+  may = put_may b kind before own r
 
-  two : PutKeeps mid now kind before own' after r acts'
-  two = put_keeps mid now kind before own' after r acts' first.among mid_sound second.keep
+  abbrev may' : Allowances
+  may' = put_may mid kind before own' r
+
+  one : Parts b mid may acts kind before own after
+  one = parts_of b mid may acts at first.keep
+
+  two : Parts mid now may' acts' kind before own' after
+  two = parts_of mid now may' acts' first.among second.keep
+
+  one_mine : (m : ℕ) → In m (variable_records own) → Keeps b mid m (own_may good at r m)
+  one_mine = kept_place b mid may acts (OneVariable kind (length before)) (variable_records own) one.mine
+
+  two_mine : (m : ℕ) → In m (variable_records own') → Keeps mid now m (own_may first.good first.among r m)
+  two_mine = kept_place mid now may' acts' (OneVariable kind (length before)) (variable_records own') two.mine
+
+  one_unused : (m : ℕ) → In m (unused_records b (shape b)) → Keeps b mid m (unused_allowance b (shape b) acts m)
+  one_unused = kept_place b mid may acts Unused (unused_records b (shape b)) one.unused
+
+  two_unused : (m : ℕ) → In m (unused_records mid (shape mid)) → Keeps mid now m (unused_allowance mid (shape mid) acts' m)
+  two_unused = kept_place mid now may' acts' Unused (unused_records mid (shape mid)) two.unused
 
   joined : ActsFollow b now (acts ++ acts')
-  joined = acts_joined sound.has_shape mid_sound.has_shape first.follow second.follow takes takes' (listed_stays sound one) (listed_stays mid_sound two)
+  joined = acts_joined sound.has_shape mid_sound.has_shape first.follow second.follow takes takes' (listed_stays b mid acts sound one_unused) (listed_stays mid now acts' mid_sound two_unused)
 
   twice : (m : ℕ) (fs : List Field) → Stays b mid m fs → Stays mid now m fs → Stays b now m fs
   twice m fs x y = stays_then b mid now m fs fs fs x y (λ i o. (o, o))
@@ -370,22 +316,22 @@ module _ {b mid now : List ℕ} {kind : Kind} {before : List VariableShape} {own
   descriptor_kept : Keeps b now own.vdr (own_may good at r own.vdr)
   descriptor_kept =
       let fs = vdr_max_rec ∷ vdr_vxr_head ∷ vdr_vxr_tail ∷ [] in
-      let x = subst (Keeps b mid own.vdr) (descriptor_allowed good at r) (one.mine own.vdr (inl refl)) in
-      let y = subst (Keeps mid now own'.vdr) (descriptor_allowed first.good first.among r) (two.mine own'.vdr (inl refl)) in
+      let x = subst (Keeps b mid own.vdr) (descriptor_allowed good at r) (one_mine own.vdr (inl refl)) in
+      let y = subst (Keeps mid now own'.vdr) (descriptor_allowed first.good first.among r) (two_mine own'.vdr (inl refl)) in
       subst (Keeps b now own.vdr) (sym (descriptor_allowed good at r)) (twice own.vdr fs x (subst (λ (v : ℕ). Stays mid now v fs) first.vdr_is y))
 
   block_kept : (l : Leaf) → IsOneOf (leaves_of own.index) l → In l.place (variable_records own) → Keeps b now l.place (own_may good at r l.place)
   block_kept l i in_own =
       let rg = range l.first l.last in
-      let x = subst (Keeps b mid l.place) (block_allowed good at r l i) (one.mine l.place in_own) in
-      let y = subst (Keeps mid now l.place) (block_allowed first.good first.among r l (leaves_stay l i)) (two.mine l.place (first.own_stay l.place in_own)) in
+      let x = subst (Keeps b mid l.place) (block_allowed good at r l i) (one_mine l.place in_own) in
+      let y = subst (Keeps mid now l.place) (block_allowed first.good first.among r l (leaves_stay l i)) (two_mine l.place (first.own_stay l.place in_own)) in
       let z = subst (λ (p : Bool). Keeps mid now l.place (anything_if p)) (rewritten_same rg) y in
       subst (Keeps b now l.place) (sym (block_allowed good at r l i)) (keeps_twice l.place (anything_if (is_rewritten (variable_of b own) r rg)) x z)
 
   parameters_kept : (m : ℕ) → In m own.cpr → In m (variable_records own) → Keeps b now m (own_may good at r m)
   parameters_kept m i in_own =
-      let x = subst (Keeps b mid m) (parameters_allowed good at r m i) (one.mine m in_own) in
-      let y = subst (Keeps mid now m) (parameters_allowed first.good first.among r m (subst (In m) (sym first.cpr_is) i)) (two.mine m (first.own_stay m in_own)) in
+      let x = subst (Keeps b mid m) (parameters_allowed good at r m i) (one_mine m in_own) in
+      let y = subst (Keeps mid now m) (parameters_allowed first.good first.among r m (subst (In m) (sym first.cpr_is) i)) (two_mine m (first.own_stay m in_own)) in
       subst (Keeps b now m) (sym (parameters_allowed good at r m i)) (twice m [] x y)
 
   mine_kept : (m : ℕ) → In m (variable_records own) → Keeps b now m (own_may good at r m)
@@ -407,7 +353,7 @@ module _ {b mid now : List ℕ} {kind : Kind} {before : List VariableShape} {own
   unused_later : (m : ℕ) (fs : List Field) → In m (shape b).records → type_at b m ≡ uir_type → Stays b mid m fs → ((i : ℕ) → i < 12 → OutsideFields fs i) → In m (unused_records mid (shape mid))
   unused_later m fs i t s out =
       let wide = (tile_lies b 8 (length b) (shape b).records m sound.has_shape.tiled i).long in
-      unused_of mid_sound two m s.stands (type_stays b mid m fs s wide out ∙ t)
+      unused_of mid now acts' mid_sound two_unused m s.stands (type_stays b mid m fs s wide out ∙ t)
 
   -- whether it is taken later, by its size
   taken_later : (m : ℕ) → size_at mid m ≡ size_at b m → is_taken b acts' m ≡ false → is_taken mid acts' m ≡ false
@@ -415,16 +361,10 @@ module _ {b mid now : List ℕ} {kind : Kind} {before : List VariableShape} {own
 
   unused_kept : (m : ℕ) → In m (unused_records b (shape b)) → Keeps b now m (unused_allowance b (shape b) (acts ++ acts') m)
   unused_kept m i = elim (either (is_in m (shape b).unused)) [
-    | inl x ↦ subst (λ (p : Bool). Keeps b now m (if p then listed_one else Only [])) (sym x) (elim (either (is_taken b (acts ++ acts') m)) [
-      | inl t ↦ subst (λ (p : Bool). Keeps b now m (if p then Anything else Only links)) (sym t) tt
-      | inr f ↦ subst (λ (p : Bool). Keeps b now m (if p then Anything else Only links)) (sym f) (listed_kept f (true-is_in m (shape b).unused x))
-    ])
-    | inr x ↦ subst (λ (p : Bool). Keeps b now m (if p then listed_one else Only [])) (sym x) (loose_kept (false-is_in m (shape b).unused x))
+    | inl x ↦ elim (either (is_taken b (acts ++ acts') m)) [ inl t ↦ rw (x, t) tt | inr f ↦ rw (x, f) (listed_kept f (true-is_in m (shape b).unused x)) ]
+    | inr x ↦ rw x (loose_kept (false-is_in m (shape b).unused x))
   ]
     where
-      listed_one : Allowance
-      listed_one = if is_taken b (acts ++ acts') m then Anything else Only links
-
       inside : In m (shape b).records
       inside = unused_in b (shape b) sound m i
 
@@ -434,25 +374,52 @@ module _ {b mid now : List ℕ} {kind : Kind} {before : List VariableShape} {own
       listed_kept : is_taken b (acts ++ acts') m ≡ false → In m (shape b).unused → Stays b now m links
       listed_kept f j =
           let none = none_of_both (λ (take : ℕ × ℕ). nat_le m take.0 && nat_lt take.0 (m + size_at b m)) acts acts' f in
-          let x = listed_stays sound one m j none.0 in
-          twice m links x (free_stays mid_sound two m (unused_later m links inside typed x (λ n l. (inl (omega arith), (inl (omega arith), tt)))) (taken_later m x.size_is none.1))
+          let x = listed_stays b mid acts sound one_unused m j none.0 in
+          twice m links x (free_stays mid now acts' mid_sound two_unused m (unused_later m links inside typed x (λ n l. (inl (omega arith), (inl (omega arith), tt)))) (taken_later m x.size_is none.1))
 
       loose_kept : (In m (shape b).unused → ⊥) → Stays b now m []
       loose_kept out =
-          let x = loose_stays sound one m i out in
-          twice m [] x (loose_stays mid_sound two m (unused_later m [] inside typed x (λ n l. tt)) (λ j. out (listed_before sound.has_shape mid_sound.has_shape first.follow second.follow takes takes' (listed_stays sound one) (listed_stays mid_sound two) m inside j)))
+          let x = loose_stays b mid acts sound one_unused m i out in
+          twice m [] x (loose_stays mid now acts' mid_sound two_unused m (unused_later m [] inside typed x (λ n l. tt)) (λ j. out (listed_before sound.has_shape mid_sound.has_shape first.follow second.follow takes takes' (listed_stays b mid acts sound one_unused) (listed_stays mid now acts' mid_sound two_unused) m inside j)))
 
-  kept : PutKeeps b now kind before own after r (acts ++ acts')
-  kept = record {
-    cdr = twice 8 [] one.cdr two.cdr;
-    gdr = twice (shape b).gdr (r_max_rec_field kind ++ space_fields) one.gdr (subst (λ (g : ℕ). Stays mid now g (r_max_rec_field kind ++ space_fields)) first.gdr_is two.gdr);
-    attributes = λ m i. twice m [] (one.attributes m i) (two.attributes m (subst (λ (as_ : List AttributeShape). In m (flat_map attribute_records as_)) (sym first.attributes_are) i));
-    in_front = λ m i. twice m [] (one.in_front m i) (two.in_front m i);
-    behind = λ m i. twice m [] (one.behind m i) (two.behind m i);
-    others = λ m i. twice m [] (one.others m i) (two.others m (subst (λ (vs : List VariableShape). In m (flat_map variable_records vs)) (sym first.others_are) i));
-    mine = mine_kept;
-    unused = unused_kept;
-  }
+  -- ---- all of them
+
+  owned_twice : (q : Owner) (ps : List ℕ) → ((m : ℕ) → Keeps b mid m (allowance b (shape b) may acts m q) → Keeps mid now m (allowance mid (shape mid) may' acts' m q) → Keeps b now m (allowance b (shape b) may (acts ++ acts') m q))
+      → AllKeep b mid may acts (owned_by q ps) → AllKeep mid now may' acts' (owned_by q ps) → AllKeep b now may (acts ++ acts') (owned_by q ps)
+  owned_twice q [] f x y = tt
+  owned_twice q (p ∷ ps) f x y = (f p x.0 y.0, owned_twice q ps f x.1 y.1)
+
+  attributes_twice : (n : ℕ) (as_ : List AttributeShape) → AllKeep b mid may acts (owned_by_attributes n as_) → AllKeep mid now may' acts' (owned_by_attributes n as_) → AllKeep b now may (acts ++ acts') (owned_by_attributes n as_)
+  attributes_twice n [] x y = tt
+  attributes_twice n (a ∷ as_) x y =
+      let here = owned_by (OneAttribute n) (attribute_records a) in
+      let p = AllKeep-split b mid may acts here (owned_by_attributes (suc n) as_) x in
+      let q = AllKeep-split mid now may' acts' here (owned_by_attributes (suc n) as_) y in
+      AllKeep-append b now may (acts ++ acts') here (owned_by_attributes (suc n) as_) (owned_twice (OneAttribute n) (attribute_records a) (λ m. twice m []) p.0 q.0) (attributes_twice (suc n) as_ p.1 q.1)
+
+  variables_twice : (of : Kind) (n : ℕ) (vs : List VariableShape) → ((k m : ℕ) → n ≤ k → k < n + length vs → (may.variables of k m ≡ Only []) × (may'.variables of k m ≡ Only [])) → AllKeep b mid may acts (owned_by_variables of n vs) → AllKeep mid now may' acts' (owned_by_variables of n vs) → AllKeep b now may (acts ++ acts') (owned_by_variables of n vs)
+  variables_twice of n [] none x y = tt
+  variables_twice of n (v ∷ vs) none x y =
+      let here = owned_by (OneVariable of n) (variable_records v) in
+      let p = AllKeep-split b mid may acts here (owned_by_variables of (suc n) vs) x in
+      let q = AllKeep-split mid now may' acts' here (owned_by_variables of (suc n) vs) y in
+      AllKeep-append b now may (acts ++ acts') here (owned_by_variables of (suc n) vs)
+      (owned_twice (OneVariable of n) (variable_records v) (λ m u w. (let e = none n m (omega arith) (omega arith) in subst (Keeps b now m) (sym e.0) (twice m [] (subst (Keeps b mid m) e.0 u) (subst (Keeps mid now m) e.1 w)))) p.0 q.0)
+      (variables_twice of (suc n) vs (λ k m low high. none k m (omega arith) (omega arith)) p.1 q.1)
+
+  beside_twice : (k m : ℕ) → (length before ≡ k → ⊥) → (may.variables kind k m ≡ Only []) × (may'.variables kind k m ≡ Only [])
+  beside_twice k m ne = (beside_may b kind before own r k ne m, beside_may mid kind before own' r k ne m)
+
+  kept : AllKeep b now may (acts ++ acts') (owned b (shape b))
+  kept = whole_of b now may (acts ++ acts') at (record {
+    file = owned_twice File (8 ∷ (shape b).gdr ∷ []) (λ m. keeps_twice m (if m == 8 then Only [] else Only (r_max_rec_field kind ++ space_fields))) one.file (subst (λ (g : ℕ). AllKeep mid now may' acts' (owned_by File (8 ∷ g ∷ []))) first.gdr_is two.file);
+    attributes = attributes_twice 0 (shape b).attributes one.attributes (subst (λ (as_ : List AttributeShape). AllKeep mid now may' acts' (owned_by_attributes 0 as_)) first.attributes_are two.attributes);
+    in_front = variables_twice kind 0 before (λ k m low high. beside_twice k m (λ e. absurd (omega arith))) one.in_front two.in_front;
+    mine = keep_places b now may (acts ++ acts') (OneVariable kind (length before)) (variable_records own) mine_kept;
+    behind = variables_twice kind (suc (length before)) after (λ k m low high. beside_twice k m (λ e. absurd (omega arith))) one.behind two.behind;
+    others = variables_twice (other_kind kind) 0 (shapes_of (shape b) (other_kind kind)) (λ k m low high. (other_may b kind before own r k m, other_may mid kind before own' r k m)) one.others (subst (λ (vs : List VariableShape). AllKeep mid now may' acts' (owned_by_variables (other_kind kind) 0 vs)) first.others_are two.others);
+    unused = keep_places b now may (acts ++ acts') Unused (unused_records b (shape b)) unused_kept;
+  })
 
   -- ---- the content
 
@@ -493,7 +460,7 @@ module _ {b mid now : List ℕ} {kind : Kind} {before : List VariableShape} {own
     file = file_twice;
     content_is = content_twice;
     follow = joined;
-    keep = all_kept b now kind before own after r (acts ++ acts') at sound kept;
+    keep = kept;
   }
 
 pub goes_then : {b mid now : List ℕ} {kind : Kind} {before : List VariableShape} {own own' own'' : VariableShape} {after : List VariableShape} {r : ℕ} {acts acts' : List Act} → Good b → StandsAmong b kind before own after → GoesOn b mid kind before own own' after r acts → GoesOn mid now kind before own' own'' after r acts' → OnlyTakes acts → OnlyTakes acts'

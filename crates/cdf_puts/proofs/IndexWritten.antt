@@ -30,20 +30,15 @@ put_there b place xs le =
 
 outside_less : (first k size : ℕ) (leaves : List Leaf) (place : ℕ) → Outside (put_touches first (k + 1) size leaves) place → Outside (put_touches first k size leaves) place
 outside_less first k size [] place o = tt
-outside_less first k size (x ∷ more) place o = (here o.0, outside_less first k size more place o.1)
-  where
-    here : (place < x.place + put_from first size x) ⊎ (x.place + put_from first size x + put_count first (k + 1) x * size ≤ place) → (place < x.place + put_from first size x) ⊎ (x.place + put_from first size x + put_count first k x * size ≤ place)
-    here (inl lt) = inl lt
-    here (inr le) = let g = grows_by first k x.first x.last size in inr (omega arith)
+outside_less first k size (x ∷ more) place o =
+    (elim o.0 [ inl lt ↦ inl lt | inr le ↦ (let g = grows_by first k x.first x.last size in inr (omega arith)) ], outside_less first k size more place o.1)
 
 outside_there : (first k size : ℕ) (leaves : List Leaf) (l : Leaf) (place : ℕ) → IsOneOf leaves l → first ≤ k → l.first ≤ k → k ≤ l.last → Outside (put_touches first (k + 1) size leaves) place → (place < record_place l size k) ⊎ (record_place l size k + size ≤ place)
 outside_there first k size [] l place i from f t o = absurd i
 outside_there first k size (x ∷ more) l place (inr i) from f t o = outside_there first k size more l place i from f t o.1
-outside_there first k size (x ∷ more) l place (inl q) from f t o = here (subst (λ (y : Leaf). (place < y.place + put_from first size y) ⊎ (y.place + put_from first size y + put_count first (k + 1) y * size ≤ place)) q o.0)
-  where
-    here : (place < l.place + put_from first size l) ⊎ (l.place + put_from first size l + put_count first (k + 1) l * size ≤ place) → (place < record_place l size k) ⊎ (record_place l size k + size ≤ place)
-    here (inl lt) = let s = starts_before first k l.first size f from in inl (omega arith)
-    here (inr le) = let e = ends_behind first k l.first l.last size f t from in inr (omega arith)
+outside_there first k size (x ∷ more) l place (inl q) from f t o =
+    let here : (place < l.place + put_from first size l) ⊎ (l.place + put_from first size l + put_count first (k + 1) l * size ≤ place) = subst (λ (y : Leaf). (place < y.place + put_from first size y) ⊎ (y.place + put_from first size y + put_count first (k + 1) y * size ≤ place)) q o.0 in
+    elim here [ inl lt ↦ (let s = starts_before first k l.first size f from in inl (omega arith)) | inr le ↦ (let e = ends_behind first k l.first l.last size f t from in inr (omega arith)) ]
 
 module _ {b now now' : List ℕ} {kind : Kind} {before : List VariableShape} {own own' : VariableShape} {after : List VariableShape} {raw pad : List ℕ} {r k : ℕ} {acts : List Act} {l : Leaf} (so : SoFar b now kind before own own' after raw pad r k acts) (more : k ≤ r) (w : RecordWritten now now' own' l k (record_of raw pad r k)) where
   abbrev bytes : List ℕ

@@ -133,14 +133,10 @@ in_nodes_with_leaf new at index m i =
     elim (either (eqb (new_room new.first index) 0)) [
       | inl t ↦ let same : times m (nodes_of (with_leaf new at index)) ≡ times m (nodes_of index) + 0 = rw t at more in inl (in-times m (nodes_of index) (omega arith))
       | inr t ↦ elim (either (eqb m at)) [
-        | inl e ↦ inr (eqb-true m at e, (let out = eqb-false (new_room new.first index) 0 t in some_room (new_room new.first index) out))
+        | inl e ↦ inr (eqb-true m at e, (let out = eqb-false (new_room new.first index) 0 t in omega arith))
         | inr e ↦ let same : times m (nodes_of (with_leaf new at index)) ≡ times m (nodes_of index) + 0 = rw (t, e) at more in inl (in-times m (nodes_of index) (omega arith))
       ]
     ]
-  where
-    some_room : (n : ℕ) → (n ≡ 0 → ⊥) → 1 ≤ n
-    some_room zero h = absurd (h refl)
-    some_room (suc n) h = omega arith
 
 -- each node of the index stays
 pub node_stays : (new : Leaf) (at : ℕ) (index : Nodes) (m : ℕ) → In m (nodes_of index) → In m (nodes_of (with_leaf new at index))

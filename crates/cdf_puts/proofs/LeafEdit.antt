@@ -1,6 +1,6 @@
 -- A leaf that is added, as one edit: its block is taken and written, then a node where one is needed, and then the entries are.
 use Rattle.std.proofs.Common.{◌≡◌, ℕ, zero, suc, ◌+◌, ◌*◌, ◌<◌, ◌≤◌, List, [], ◌∷◌, ◌++◌, length, true, append-nil, refl, sym, ap, subst, ◌∙◌, arith, inl, inr, ◌≢◌, ◌⊎◌, true≢false, Bool, false, ◌||◌, ◌==◌, eq-eqb}
-use Rattle.cdf_puts.proofs.Common.{vxr_n_entries, r_max_rec_field, space_fields, node_acts, is_in-false, Kind, R, Z, size_at, type_at, eof, Leaf, nodes_of, room_at, vxr_type, VariableShape, shape, NodeFits, IsSound, In, Good, number_kept, size_kept, type_kept, linkable-type, good_is_sound, nodes_stand, In-append_left, In-append_right, tile_lies, vxr_bytes, Edit, Mark, Away, unmarked, Touch, new_room, type_in, variables_chain, unmarked-away, Away-append, kept_away, node_behind, StandsAmong, through, tile, typed, long, has, fits, behind_in, Kept, Each-in, placing_marks, NodeTaken, IndexTouch, LeafAdded, ne_eqb, Same, is_a, is_in, number, leaves_of, variable_records, Field, gdr_type, vvr_type, cvvr_type, cpr_type, uir_type, is_record_type, fixed_size, Shape, Each, HasShape, LeafFits, is_a-type, In-append, Avoids, with_leaf, places_of, or_cases, away-avoids, Avoids-append, kept, gdr_in, gdr_typed, gdr_long, block_behind, variables_in, other_kind, FileSame, all_variable_records, apart, type_of_body, OwnEdit, IndexEdit, is_taken_at, Act, changed_part, Same-part, leaf_acts}
+use Rattle.cdf_puts.proofs.Common.{vxr_n_entries, r_max_rec_field, space_fields, node_acts, is_in-false, Kind, R, Z, size_at, type_at, eof, Leaf, nodes_of, room_at, vxr_type, VariableShape, shape, NodeFits, IsSound, In, Good, number_kept, size_kept, type_kept, linkable-type, good_is_sound, nodes_stand, In-append_left, In-append_right, tile_lies, vxr_bytes, Edit, Mark, Away, unmarked, Touch, new_room, type_in, variables_chain, unmarked-away, Away-append, kept_away, node_behind, StandsAmong, through, tile, typed, long, has, fits, behind_in, Kept, Each-in, placing_marks, NodeTaken, IndexTouch, LeafAdded, ne_eqb, Same, is_in, number, leaves_of, variable_records, Field, gdr_type, vvr_type, cvvr_type, cpr_type, uir_type, is_record_type, fixed_size, Shape, Each, In-append, Avoids, with_leaf, places_of, away-avoids, Avoids-append, kept, gdr_in, gdr_typed, gdr_long, block_behind, variables_in, other_kind, FileSame, all_variable_records, apart, type_of_body, OwnEdit, IndexEdit, is_taken_at, Act, changed_part, Same-part, leaf_acts}
 use Rattle.cdf_edits.specs.Edits.Marks.{within, Among, Marked, variable_types, keeps_file, avoided}
 use Rattle.std.proofs.lemmas.Bool.{both_ways, or_left, or_right}
 use Rattle.cdf_edits.proofs.Edits.Composing.{changed_edit, same-then, head_size, head_type, edit_then}
@@ -20,7 +20,7 @@ use Rattle.cdf_edits.proofs.Edits.VariableSplice.{VariableSplices, keeps_all_att
 use Rattle.cdf_index.specs.Replacing.{with_index}
 use Rattle.cdf_edits.specs.Frame.Changed.{Misses, Placed as TouchesPlaced}
 use Rattle.cdf_puts.proofs.LeafCounts.{in_nodes_with_leaf, node_stays, room_stays}
-use Rattle.cdf_puts.proofs.RaisedGoes.{behind_no_vdr}
+use Rattle.cdf_puts.proofs.RaisedGoes.{block_type, behind_no_vdr}
 use Rattle.cdf_puts.proofs.PutNodes.{NodesStep}
 use Rattle.cdf_edits.proofs.Edits.OwnEdited as of_own
 use Rattle.cdf_edits.proofs.Edits.IndexEdited as of_index
@@ -111,15 +111,6 @@ late_clear R v nodes unused zero at most = refl
 late_clear R v nodes unused (suc room) at most = refl
 late_clear Z v nodes unused zero at most = refl
 late_clear Z v nodes unused (suc room) at most = refl
-
--- blocks, by their types
-block_type : (b records : List ℕ) (vdr : ℕ) (leaves : List Leaf) → Each (LeafFits b records vdr) leaves → (m : ℕ) → In m (places_of leaves) → (type_at b m ≡ vvr_type) ⊎ (type_at b m ≡ cvvr_type)
-block_type b records vdr [] each m i = absurd i
-block_type b records vdr (l ∷ more) each m (inl q) = elim (or_cases (is_a b records vvr_type l.place) (is_a b records cvvr_type l.place) each.0.0) [
-  | inl p ↦ inl (ap (type_at b) q ∙ is_a-type b records vvr_type l.place p)
-  | inr p ↦ inr (ap (type_at b) q ∙ is_a-type b records cvvr_type l.place p)
-]
-block_type b records vdr (l ∷ more) each m (inr i) = block_type b records vdr more each.1 m i
 
 -- ---- what is new
 
@@ -270,9 +261,6 @@ module _ {b now : List ℕ} {kind : Kind} {before : List VariableShape} {own : V
   abbrev pub with_new : VariableShape
   with_new = with_index own (with_leaf new at own.index)
 
-  h : HasShape b s
-  h = sound.has_shape
-
   pub tests : LeafTests kind marks
   tests = leaf_tests kind v nodes s.unused new.place need (shape w.filled).unused room at most
 
@@ -348,12 +336,9 @@ module _ {b now : List ℕ} {kind : Kind} {before : List VariableShape} {own : V
 
   -- ---- the new records
 
-  abbrev late : List Mark
-  late = node_marks (shape w.filled).unused room at ++ index_marks kind v (new_nodes room at ++ nodes) most
-
   -- nothing of the block is written once it is placed
   pub placed_kept : type_of_body body ≡ vvr_type → Kept w.filled now new.place
-  placed_kept plain = kept_away (edit_then node_placed.edit entries_written) new.place vvr_type block_in (w.block.fills.typed ∙ plain) (unmarked-away late vvr_type new.place (late_clear kind v (new_nodes room at ++ nodes) (shape w.filled).unused room at most))
+  placed_kept plain = kept_away (edit_then node_placed.edit entries_written) new.place vvr_type block_in (w.block.fills.typed ∙ plain) (unmarked-away (node_marks (shape w.filled).unused room at ++ index_marks kind v (new_nodes room at ++ nodes) most) vvr_type new.place (late_clear kind v (new_nodes room at ++ nodes) (shape w.filled).unused room at most))
 
   pub placed_size : size_at w.filled new.place ≡ need
   placed_size = filled_size sound w.block.fills
@@ -444,9 +429,6 @@ module _ {b now : List ℕ} {kind : Kind} {before : List VariableShape} {own : V
 
   -- ---- the nodes
 
-  abbrev nodes' : List ℕ
-  nodes' = nodes_of (with_leaf new at own.index)
-
   abbrev step : List Act
   step = leaf_acts new.place need room at
 
@@ -490,7 +472,7 @@ module _ {b now : List ℕ} {kind : Kind} {before : List VariableShape} {own : V
       same-then b w.roomy now (m + (28 + 16 * room_at b m)) (m + size_at b m) (Same-part b w.roomy m (m + size_at b m) (m + (28 + 16 * room_at b m)) (m + size_at b m) k.same (omega arith) (omega arith))
       (node_part m (28 + 16 * room_at b m) (size_at b m) i (inr (omega arith)) (omega arith))
 
-  pub nodes_step : NodesStep b now own.index nodes' step
+  pub nodes_step : NodesStep b now own.index (nodes_of (with_leaf new at own.index)) step
   nodes_step = record {
     stay = λ m i. node_stays new at own.index m i;
     apart = node_apart;

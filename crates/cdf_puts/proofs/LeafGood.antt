@@ -1,13 +1,14 @@
 -- A leaf that is added to the index of a variable leads from one good image to another: what its acts take, what stays of the records of each owner, and the blocks.
 use Rattle.std.proofs.Common.{◌≡◌, ℕ, zero, suc, ◌+◌, List, [], ◌∷◌, ◌++◌, length, true, refl, ap, subst, arith, ◌≢◌, ◌⊎◌, ◌<◌, ◌≤◌, false, sym, inl, inr, ◌-◌, max, take, drop, ◌∙◌, take-append-drop, ℤ, pos, negsuc, ◌*◌, Bool}
-use Rattle.cdf_puts.proofs.Common.{lt-leb, ◌&&◌, Kind, R, Z, unmarked-away, StandsAmong, Only, Edit, Mark, unmarked, new_room, Took, ActsFollow, type_of_body, linkable-in, linkable-type, good_is_sound, both, Leaf, Field, uir_next_uir, uir_prev_uir, gdr_type, uir_type, vvr_type, vxr_type, VariableShape, Shape, shape, IsSound, Good, NodeTaken, LeafAdded, node_acts, leaf_acts, ListedStay, acts_joined, still_edit, OnlyTakes, nat_le, nat_lt, places_of, Avoids-append, Away-append, away-avoids, kept, kept_away, gdr_in, gdr_typed, block_behind, variables_in, other_kind, behind_in, fits, ours, tile, Kept, Each-in, all_variable_records, AllKeep, Keeps, Stays, OutsideFields, is_taken, r_max_rec_field, space_fields, unused_allowance, put_changes, vxr_bytes, Avoids, Away, Act, word_kept, is_a-type, In-append, tile_lies, is_a, number, size_at, type_at, leaves_of, nodes_of, Unused, owned, unused_records, variable_records, vdr_max_rec, vdr_vxr_head, vdr_vxr_tail, cdr_type, cpr_type, HasShape, In, found_in, placing_marks, none_of_both, length-take, length-drop, Same, byte, size_kept, type_kept, place_in, each_of, IsBlockBody, BlocksGoOn, ne_eqb, flat_map, ◌==◌, ◌||◌, if◌then◌else◌, image_limit, record_number_limit, is_in, with_sign, Nodes, no_node, node, Entries, no_entry, block, lower, room_at, times, cvvr_type, asked, is_compressed, Each, NodeFits, record_bytes, is_max_rec, Same-part, good_by_its_shape, nodes_stand, Hold-split, le_of, of_le, firsts_of, with_leaf, IsOneOf, count_is, plain_leaf, own_rules, index_records, times-append, times-in, record_alike, apart, InOrder, DescriptorStays, GoesOn, IsVacant, before_limit, index_order, OwnEdit, IndexEdit, vdr_alike}
+use Rattle.cdf_puts.proofs.Common.{shapes_of, lt-leb, ◌&&◌, Kind, R, Z, unmarked-away, StandsAmong, Only, Edit, Mark, unmarked, new_room, Took, ActsFollow, type_of_body, linkable-in, linkable-type, good_is_sound, both, Leaf, Field, uir_next_uir, uir_prev_uir, gdr_type, uir_type, vvr_type, vxr_type, VariableShape, Shape, shape, IsSound, Good, NodeTaken, LeafAdded, node_acts, leaf_acts, ListedStay, acts_joined, still_edit, OnlyTakes, nat_le, nat_lt, places_of, Avoids-append, Away-append, away-avoids, kept, kept_away, gdr_in, gdr_typed, block_behind, variables_in, other_kind, behind_in, fits, ours, tile, Kept, Each-in, all_variable_records, AllKeep, Keeps, Stays, OutsideFields, is_taken, r_max_rec_field, space_fields, put_changes, vxr_bytes, Avoids, Away, Act, word_kept, is_a-type, In-append, tile_lies, is_a, number, size_at, type_at, leaves_of, nodes_of, owned, variable_records, vdr_max_rec, vdr_vxr_head, vdr_vxr_tail, cdr_type, cpr_type, HasShape, In, found_in, placing_marks, none_of_both, length-take, length-drop, Same, byte, size_kept, type_kept, place_in, each_of, IsBlockBody, BlocksGoOn, ne_eqb, flat_map, ◌==◌, ◌||◌, if◌then◌else◌, image_limit, record_number_limit, is_in, with_sign, Nodes, no_node, node, Entries, no_entry, block, lower, room_at, times, cvvr_type, asked, is_compressed, Each, NodeFits, record_bytes, is_max_rec, Same-part, good_by_its_shape, nodes_stand, Hold-split, le_of, of_le, firsts_of, with_leaf, IsOneOf, count_is, plain_leaf, own_rules, index_records, times-append, times-in, record_alike, apart, InOrder, DescriptorStays, GoesOn, IsVacant, before_limit, index_order, OwnEdit, IndexEdit, vdr_alike}
+use Rattle.cdf_format.specs.Owners.{OneVariable}
 use Rattle.cdf_edits.proofs.Edits.EditActs.{acts_none, acts_took}
 use Rattle.cdf_edits.proofs.Edits.MadeRecord.{listed_marks, made_edit, listed_before, loose_away, taking_avoids, taking_within}
-use Rattle.cdf_edits.proofs.Edits.OwnersKept.{keeps_away, keeps_within, keep_unused, keeps_fields, stood, taken_is_taken}
+use Rattle.cdf_edits.proofs.Edits.OwnersKept.{keep_file, keep_places, keeps_away, keeps_within, keep_unused, keeps_fields, stood, taken_is_taken}
 use Rattle.cdf_edits.proofs.Edits.VariableSplice.{attributes_kept}
 use Rattle.cdf_edits.specs.Edits.Marks.{is_late, Within, taking_marks, whole, within}
 use Rattle.cdf_edits.specs.Space.Placing.{Fills}
-use Rattle.cdf_edits.proofs.Commands.KeptRecords.{keeps_stood}
+use Rattle.cdf_edits.proofs.Commands.KeptRecords.{Stood, keep_attributes, keep_variables, keeps_stood}
 use Rattle.cdf_edits.proofs.Edits.MarkLemmas.{Within-append, away-within}
 use Rattle.cdf_edits.proofs.Edits.OwnedOnce.{all_attributes_in, used_times, fresh_unowned, owned_once_if}
 use Rattle.cdf_edits.proofs.Edits.RecordFrame.{cdr_kept}
@@ -15,7 +16,7 @@ use Rattle.cdf_edits.proofs.Edits.VariableCopied.{cpr_behind}
 use Rattle.cdf_edits.proofs.Edits.VariableKinds.{kind_ours, with_shapes, spliced_times}
 use Rattle.cdf_edits.proofs.Edits.StandsAmong.{after_ours}
 use Rattle.cdf_format.proofs.ChainsLemmas.{is_a-in, is_a-from}
-use Rattle.cdf_puts.proofs.GoesThen.{own_may, descriptor_allowed, node_allowed, PutKeeps, all_kept, kept_place}
+use Rattle.cdf_puts.proofs.GoesThen.{own_may, descriptor_allowed, node_allowed, put_may, whole_of}
 use Rattle.std.proofs.lemmas.List.{ext_get_or, get_or_append_left, get_or-take, get_or-drop}
 use Rattle.cdf_format.specs.Fields.{word, holds}
 use Rattle.cdf_format.proofs.BytesLemmas.{word-same, byte-put_inside}
@@ -226,14 +227,11 @@ module _ {b now : List ℕ} {kind : Kind} {before : List VariableShape} {own : V
     pub leaf_follows : ActsFollow b now (leaf_acts new.place (8 + length body) (new_room new.first own.index) at)
     leaf_follows = acts_joined sound.has_shape (block_placed good among w).sound.has_shape block_follows node_part.follow tt (node_takes roomed at) block_listed node_part.listed
 
-    stays : (m : ℕ) → In m (shape b).records → Kept b now m → (fs : List Field) → Stays b now m fs
-    stays m i k fs = keeps_stood b now m (stood sound e records_are m i k) (Only fs)
-
     -- other variables
-    away_stays : (xs : List ℕ) → ((m : ℕ) → In m xs → In m (all_variable_records (shape b))) → ((m : ℕ) → In m (variable_records own) → In m xs → ⊥) → (m : ℕ) → In m xs → Stays b now m []
-    away_stays xs sub out m i =
-        let inside = variables_in b (shape b) sound m (sub m i) in
-        stays m inside (kept_away e m (type_at b m) inside refl (beside good among w m (sub m i) (λ j. out m j i))) []
+    away_stands : (xs : List ℕ) → ((m : ℕ) → In m xs → In m (all_variable_records s)) → ((m : ℕ) → In m (variable_records own) → In m xs → ⊥) → (m : ℕ) → In m xs → Stood b now m
+    away_stands xs sub out m i =
+        let inside = variables_in b s sound m (sub m i) in
+        stood sound e records_are m inside (kept_away e m (type_at b m) inside refl (beside good among w m (sub m i) (λ j. out m j i)))
 
     -- ---- the descriptor
 
@@ -292,26 +290,20 @@ module _ {b now : List ℕ} {kind : Kind} {before : List VariableShape} {own : V
 
     -- ---- all of them
 
-    module _ (r : ℕ) where
-      unused_keep : (m : ℕ) → In m (unused_records b (shape b)) → Keeps b now m (unused_allowance b (shape b) acts m)
-      unused_keep m i =
-          let may = put_changes b (shape b) (found_in b kind before own) r in
-          kept_place b now may acts Unused (unused_records b (shape b)) (keep_unused sound e records_are may acts listed_alone unlisted_alone) m i
-
-      pub leaf_put_keeps : PutKeeps b now kind before own after r acts
-      leaf_put_keeps = record {
-        cdr = let inside = is_a-in b (shape b).records cdr_type 8 h.cdr_stands in stays 8 inside (cdr_kept sound e (tests good among w).file_clear) [];
-        gdr = keeps_fields sound e records_are (shape b).gdr gdr_type (r_max_rec_field kind ++ space_fields) (gdr_in b (shape b) h) (gdr_typed b (shape b) h) (tests good among w).heads_clear (tests good among w).inside;
-        attributes = λ m i. stays m (all_attributes_in sound m i) (attributes_kept sound (splices good among w plain) m i) [];
-        in_front = away_stays _ (ours good among).0.sub (λ m i. (only good among w m i).in_before);
-        behind = away_stays _ (after_ours good among).sub (λ m i. (only good among w m i).in_after);
-        others = away_stays _ (kind_ours b (shape b) sound (other_kind kind)).sub (λ m i. (only good among w m i).in_others);
-        mine = mine_keeps r;
-        unused = unused_keep;
-      }
-
-      pub leaf_keeps : AllKeep b now (put_changes b (shape b) (found_in b kind before own) r) (leaf_acts new.place (8 + length body) (new_room new.first own.index) at) (owned b (shape b))
-      leaf_keeps = all_kept b now kind before own after r acts among sound leaf_put_keeps
+    pub leaf_keeps : (r : ℕ) → AllKeep b now (put_changes b s (found_in b kind before own) r) acts (owned b s)
+    leaf_keeps r =
+        let may = put_may b kind before own r in
+        let cdr = is_a-in b s.records cdr_type 8 h.cdr_stands in
+        whole_of b now may acts among (record {
+          file = keep_file b now may acts sound (keeps_stood b now 8 (stood sound e records_are 8 cdr (cdr_kept sound e (tests good among w).file_clear)) (Only []))
+              (keeps_fields sound e records_are s.gdr gdr_type (r_max_rec_field kind ++ space_fields) (gdr_in b s h) (gdr_typed b s h) (tests good among w).heads_clear (tests good among w).inside);
+          attributes = keep_attributes b now may acts 0 s.attributes (λ m i. stood sound e records_are m (all_attributes_in sound m i) (attributes_kept sound (splices good among w plain) m i));
+          in_front = keep_variables b now may acts kind 0 before (away_stands _ (ours good among).0.sub (λ m i. (only good among w m i).in_before));
+          mine = keep_places b now may acts (OneVariable kind (length before)) (variable_records own) (mine_keeps r);
+          behind = keep_variables b now may acts kind (suc (length before)) after (away_stands _ (after_ours good among).sub (λ m i. (only good among w m i).in_after));
+          others = keep_variables b now may acts (other_kind kind) 0 (shapes_of s (other_kind kind)) (away_stands _ (kind_ours b s sound (other_kind kind)).sub (λ m i. (only good among w m i).in_others));
+          unused = keep_unused sound e records_are may acts listed_alone unlisted_alone;
+        })
 
   -- ---- its records
 
@@ -351,14 +343,9 @@ module _ {b now : List ℕ} {kind : Kind} {before : List VariableShape} {own : V
         let f : length (take n (drop 4 body)) ≡ n = simp (length-take, length-drop) (omega arith) in
         ext_get_or 0 (take n (drop (new.place + 12) now)) (take n (drop 4 body)) (e ∙ sym f) (λ i lt.
         let l : i < n = subst (λ (x : ℕ). i < x) e lt in
-        get_or-take n (drop (new.place + 12) now) i 0 l ∙ get_or-drop (new.place + 12) now i 0 ∙ ap (λ (x : ℕ). byte now x) (moved new.place i) ∙ body_at (4 + i) (fits_in i l) ∙ sym (get_or-drop 4 body i 0) ∙ sym (get_or-take n (drop 4 body) i 0 l))
+        let moved : new.place + 12 + i ≡ new.place + 8 + (4 + i) = omega arith in
+        get_or-take n (drop (new.place + 12) now) i 0 l ∙ get_or-drop (new.place + 12) now i 0 ∙ ap (λ (x : ℕ). byte now x) moved ∙ body_at (4 + i) (omega arith) ∙ sym (get_or-drop 4 body i 0) ∙ sym (get_or-take n (drop 4 body) i 0 l))
         ∙ says.records_are
-      where
-        moved : (p i : ℕ) → p + 12 + i ≡ p + 8 + (4 + i)
-        moved p i = omega arith
-
-        fits_in : (i : ℕ) → i < n → 4 + i < length body
-        fits_in i l = let body_long : length body ≡ max 20 (4 + length records) = says.as_long in omega arith
 
     pub blocks_go_on : BlocksGoOn b now own new records
     blocks_go_on = record {
@@ -367,12 +354,9 @@ module _ {b now : List ℕ} {kind : Kind} {before : List VariableShape} {own : V
       records_are = records_now;
       spare = λ i l lt.
           let e = block_size in
-          let j : 8 + (i - 8) ≡ i = omega arith in
-          ap (λ (x : ℕ). byte now x) (behind i j) ∙ body_at (i - 8) (omega arith) ∙ says.spare (i - 8) (omega arith) (omega arith);
+          let behind : new.place + i ≡ new.place + 8 + (i - 8) = omega arith in
+          ap (λ (x : ℕ). byte now x) behind ∙ body_at (i - 8) (omega arith) ∙ says.spare (i - 8) (omega arith) (omega arith);
     }
-      where
-        behind : (i : ℕ) → 8 + (i - 8) ≡ i → new.place + i ≡ new.place + 8 + (i - 8)
-        behind i j = omega arith
 
     module _ (loose : is_compressed b own.vdr ≡ false) (vacant : IsVacant own new.first new.last) (as_long : length records ≡ (new.last + 1 - new.first) * record_bytes b own.vdr) (short : length now ≤ image_limit) where
       abbrev mine : VariableShape

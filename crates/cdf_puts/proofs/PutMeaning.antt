@@ -1,6 +1,6 @@
 -- MaxRec is raised at the end of a put, and what the variable means by then: it has the record, in blocks that may be others by now, and pads before it where there were none.
 use Rattle.std.proofs.Common.{◌≡◌, ◌≢◌, ℕ, ◌+◌, ◌<◌, ◌≤◌, List, Some, sym, ap, ◌∙◌, arith, ℤ, pos, negsuc, suc, length, subst, append-nil}
-use Rattle.cdf_puts.proofs.Common.{Variable, option_map, Kind, turned, extent, pad_record, last_number, greater, with_record, with_variable, content, variable_of, leaves_of, VariableShape, is_little, type_of_variable, record_bytes, max_rec_at, Good, first_written, stored_bytes, Act, leaves_ascend, StandsAmong, FileSame, stays_alike, DescriptorStays, GoesOn, found_in, slice_set, image_limit, record_number_limit, variables_of, with_variables, owned, vdr_max_rec, shape, AllKeep, RMaxRecFollows, put_changes, ActsFollow, MaxRecRaised, good_now, OnlyTakes, IsOneOf, Leaf, number}
+use Rattle.cdf_puts.proofs.Common.{Variable, option_map, Kind, turned, extent, pad_record, last_number, greater, with_record, with_variable, content, variable_of, leaves_of, VariableShape, is_little, type_of_variable, record_bytes, max_rec_at, Good, first_written, stored_bytes, Act, leaves_ascend, StandsAmong, FileSame, stays_alike, DescriptorStays, GoesOn, found_in, image_limit, record_number_limit, vdr_max_rec, RMaxRecFollows, MaxRecRaised, good_now, OnlyTakes, IsOneOf, Leaf, number}
 use Rattle.cdf_model.specs.Numbered.{with_item}
 use Rattle.cdf_model.specs.RecordSteps.{filled}
 use Rattle.cdf_format.specs.Content.{records_in}
@@ -14,19 +14,8 @@ use Rattle.cdf_edits.proofs.Edits.RecordsWritten.{r_max_rec_of_z}
 
 -- From a good image to that behind a put: like a step that goes on, but MaxRec may be greater by now, and rMaxRec follows it.
 pub record HasPut (b now : List ℕ) (kind : Kind) (before : List VariableShape) (own own' : VariableShape) (after : List VariableShape) (r : ℕ) (acts : List Act) : Type 0 where
-  pub good : Good now
-  pub among : StandsAmong now kind before own' after
-  pub vdr_is : own'.vdr ≡ own.vdr
-  pub descriptor : DescriptorStays b now own.vdr
-  pub file : FileSame b now
-  pub content_is : content now ≡ with_variables (content b) kind (slice_set (variables_of (content b) kind) (length before) (variable_of now own'))
-  pub longer : length b ≤ length now
-  pub follow : ActsFollow b now acts
-  pub keep : AllKeep b now (put_changes b (shape b) (found_in b kind before own) r) acts (owned b (shape b))
+  pub step : Passes b now kind before own own' after r acts
   pub r_max_rec_follows : RMaxRecFollows b now
-
-put_by : {b now : List ℕ} {kind : Kind} {before : List VariableShape} {own own' : VariableShape} {after : List VariableShape} {r : ℕ} {acts : List Act} → Passes b now kind before own own' after r acts → RMaxRecFollows b now → HasPut b now kind before own own' after r acts
-put_by p follows = record { good = p.good; among = p.among; vdr_is = p.vdr_is; descriptor = p.descriptor; file = p.file; content_is = p.content_is; longer = p.file.longer; follow = p.follow; keep = p.keep; r_max_rec_follows = follows }
 
 -- MaxRec is raised at the end
 pub raised_then : {b mid now : List ℕ} {kind : Kind} {before : List VariableShape} {own own' : VariableShape} {after : List VariableShape} {r : ℕ} {acts : List Act} → Good b → StandsAmong b kind before own after → GoesOn b mid kind before own own' after r acts → OnlyTakes acts → number mid own.vdr vdr_max_rec ≡ number b own.vdr vdr_max_rec
@@ -36,14 +25,14 @@ raised_then {b = b} {now = now} {kind = kind} {before = before} {own = own} {own
     let raise = passes_written goes.good goes.among x (good_now goes.good goes.among x short) r (λ m i. absurd i) in
     let p : Passes b now kind before own own' after r acts = subst (Passes b now kind before own own' after r) (append-nil acts) (passes_then good at goes raise takes tt max_rec stay) in
     let greater : extent (max_rec_at b own.vdr) < extent (max_rec_at now own'.vdr) = subst (λ (z : ℤ). extent (max_rec_at b own.vdr) < extent z) (sym (max_rec_raised goes.good goes.among w small)) (omega arith) in
-    put_by p (greatest_raised good at now (variable_of now own') p.content_is greater w.greatest (λ z. r_max_rec_of_z goes.good goes.among x z ∙ goes.r_max_rec_is))
+    record { step = p; r_max_rec_follows = greatest_raised good at now (variable_of now own') p.content_is greater w.greatest (λ z. r_max_rec_of_z goes.good goes.among x z ∙ goes.r_max_rec_is) }
 
 -- where MaxRec stays, rMaxRec does
 pub no_greater : {b now : List ℕ} {kind : Kind} {before : List VariableShape} {own own' : VariableShape} {after : List VariableShape} {r : ℕ} {acts : List Act} → Good b → StandsAmong b kind before own after → GoesOn b now kind before own own' after r acts → max_rec_at now own.vdr ≡ max_rec_at b own.vdr → RMaxRecFollows b now
 no_greater {b = b} {now = now} {own' = own'} good at goes same = greatest_stays good at now (variable_of now own') goes.content_is (ap (λ (x : ℕ). extent (max_rec_at now x)) goes.vdr_is ∙ ap extent same) goes.r_max_rec_is
 
 pub unraised_then : {b now : List ℕ} {kind : Kind} {before : List VariableShape} {own own' : VariableShape} {after : List VariableShape} {r : ℕ} {acts : List Act} → Good b → StandsAmong b kind before own after → GoesOn b now kind before own own' after r acts → max_rec_at now own.vdr ≡ max_rec_at b own.vdr → HasPut b now kind before own own' after r acts
-unraised_then good at goes same = put_by (passes goes) (no_greater good at goes same)
+unraised_then good at goes same = record { step = passes goes; r_max_rec_follows = no_greater good at goes same }
 
 -- ---- what it means
 
@@ -101,4 +90,5 @@ module _ {b mid : List ℕ} {kind : Kind} {before : List VariableShape} {own own
 pub put_content : {b now : List ℕ} {kind : Kind} {before : List VariableShape} {own own' : VariableShape} {after : List VariableShape} {r : ℕ} {acts : List Act} {raw pad : List ℕ} → Good b → StandsAmong b kind before own after → HasPut b now kind before own own' after r acts → IsPut b now own own' r raw pad
     → (bytes : List ℕ) → turned (type_of_variable b own.vdr) (is_little b) raw ≡ bytes → (extent (max_rec_at b own.vdr) < r → turned (type_of_variable b own.vdr) (is_little b) pad ≡ pad_record (variable_of b own)) → content now ≡ with_variable (content b) (found_in b kind before own) (with_record (variable_of b own) r bytes)
 put_content {b = b} {kind = kind} {before = before} {own = own} good at done p bytes raw_is pad_is =
-    done.content_is ∙ ap (with_variable (content b) (found_in b kind before own)) (put_meaning good at done.good done.among done.file done.descriptor done.vdr_is p bytes raw_is pad_is)
+    let p' = done.step in
+    p'.content_is ∙ ap (with_variable (content b) (found_in b kind before own)) (put_meaning good at p'.good p'.among p'.file p'.descriptor p'.vdr_is p bytes raw_is pad_is)

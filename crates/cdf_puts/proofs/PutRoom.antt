@@ -1,6 +1,6 @@
 -- How much longer an image becomes by acts that only take, and that nothing is taken where no bytes are.
-use Rattle.std.proofs.Common.{◌≡◌, ℕ, ◌+◌, ◌≤◌, List, [], ◌∷◌, ◌++◌, length, map, Bool, true, false, refl, arith}
-use Rattle.cdf_puts.proofs.Common.{fold, ◌==◌, if◌then◌else◌, Act, Took, Gave, taken, space_before, ActsFollow, Each, IsTaking, taken_bytes}
+use Rattle.std.proofs.Common.{inl, inr, ◌≡◌, ℕ, ◌+◌, ◌≤◌, List, [], ◌∷◌, ◌++◌, length, map, refl, arith}
+use Rattle.cdf_puts.proofs.Common.{either, fold, ◌==◌, Act, Took, Gave, taken, space_before, ActsFollow, Each, IsTaking, taken_bytes}
 use Rattle.cdf_edits.specs.Index.Cut.{BlocksFreedStay, NodesFreedStay, none_written}
 use Rattle.cdf_edits.specs.Space.Acts.{SpaceLeft, after_act, AreActs}
 use Rattle.cdf_edits.specs.Space.Placement.{place_for, eof_after}
@@ -19,11 +19,7 @@ taken_sum (Took place need ∷ more) acts' =
 taken_sum (Gave place size ∷ more) acts' = taken_sum more acts'
 
 end_by : (list : List (ℕ × ℕ)) (end need : ℕ) → eof_after list end need ≤ end + need
-end_by list end need = by (place_for list end need == end)
-  where
-    by : (p : Bool) → (if p then end + need else end) ≤ end + need
-    by true = omega arith
-    by false = omega arith
+end_by list end need = elim (either (place_for list end need == end)) [ inl t ↦ rw t (omega arith) | inr t ↦ rw t (omega arith) ]
 
 end_after_acts : (l : SpaceLeft) (acts : List Act) → Each IsTaking acts → (fold after_act l acts).end ≤ l.end + taken_bytes acts
 end_after_acts l [] t = omega arith

@@ -83,12 +83,9 @@ body_is body records says =
     record {
       enough = omega arith;
       real = ap is_record_type typed;
-      in_use = λ same. other (sym typed ∙ same);
+      in_use = λ same. (let e : vvr_type ≡ uir_type = sym typed ∙ same in absurd (cc));
       fixed = subst (λ (t : ℕ). fixed_size t ≤ 8 + length body) (sym typed) (omega arith);
     }
-  where
-    other : vvr_type ≡ uir_type → ⊥
-    other e = cc
 
 pub body_long : (body records : List ℕ) → IsBlockBody body records → 8 + length body ≡ max 28 (12 + length records)
 body_long body records says = let e = says.as_long in omega arith

@@ -1,6 +1,6 @@
 -- MaxRec is raised to the record that was put: no byte changes but MaxRec, and rMaxRec of an r variable.
-use Rattle.std.proofs.Common.{◌≡◌, ◌≢◌, ℕ, ℤ, pos, ◌+◌, ◌<◌, ◌≤◌, List, [], ◌∷◌, ◌++◌, length, map, Bool, true, bytes_eq, append-nil, refl, sym, ap, subst, ◌∙◌, arith, inl, inr}
-use Rattle.cdf_puts.proofs.Common.{le-leb, length-map, map-append, set_at, flat_map, if◌then◌else◌, slice_set, Kind, R, Z, DataSet, Variable, extent, record_number_limit, variables_of, with_variables, is_in, content, variable_of, number, type_at, with_sign, variable_records, vdr_vxr_tail, VariableShape, shape, In, max_rec_at, is_max_rec, Good, word_kept, either, In-append_left, bytes_eq-same, content_is, same_of_bytes_eq, RMaxRecFollows, r_max_rec, max_rec_touches, Changed, type_in, variables_chain, index_records, WritesRecords, part, same_shape, variables_of_are, StandsAmong, sound, typed, long, has, fits, ours, Kept, all_variable_records, MaxRecRaised}
+use Rattle.std.proofs.Common.{◌≡◌, ◌⊎◌, ◌≢◌, ℕ, ℤ, pos, ◌+◌, ◌<◌, ◌≤◌, List, [], ◌∷◌, ◌++◌, length, map, Bool, true, bytes_eq, append-nil, refl, sym, ap, subst, ◌∙◌, arith, inl, inr}
+use Rattle.cdf_puts.proofs.Common.{is_a-type, places_of, or_cases, vvr_type, cvvr_type, is_a, LeafFits, Leaf, Each, le-leb, length-map, map-append, set_at, flat_map, if◌then◌else◌, slice_set, Kind, R, Z, DataSet, Variable, extent, record_number_limit, variables_of, with_variables, is_in, content, variable_of, number, type_at, with_sign, variable_records, vdr_vxr_tail, VariableShape, shape, In, max_rec_at, is_max_rec, Good, word_kept, either, In-append_left, bytes_eq-same, content_is, same_of_bytes_eq, RMaxRecFollows, r_max_rec, max_rec_touches, Changed, type_in, variables_chain, index_records, WritesRecords, part, same_shape, variables_of_are, StandsAmong, sound, typed, long, has, fits, ours, Kept, all_variable_records, MaxRecRaised}
 use Rattle.cdf_edits.proofs.Edits.VariableKept.{only_variable}
 use Rattle.cdf_edits.specs.Commands.GreatestRecord.{r_extents, greatest_r_max_rec}
 use Rattle.cdf_edits.specs.Edits.Marks.{index_types}
@@ -18,14 +18,8 @@ middle_same [] zs y y' e = ap (λ (n : ℕ). n ∷ extents zs) e
 middle_same (x ∷ xs) zs y y' e = ap (λ (ns : List ℕ). extent x.max_rec ∷ ns) (middle_same xs zs y y' e)
 
 middle_differs : (xs zs : List Variable) (y y' : Variable) → extents (xs ++ y ∷ zs) ≡ extents (xs ++ y' ∷ zs) → extent y.max_rec ≡ extent y'.max_rec
-middle_differs [] zs y y' e = first_of e
-  where
-    first_of : {m n : ℕ} {ms ns : List ℕ} → m ∷ ms ≡ n ∷ ns → m ≡ n
-    first_of e = cc
-middle_differs (x ∷ xs) zs y y' e = middle_differs xs zs y y' (rest_of e)
-  where
-    rest_of : {m n : ℕ} {ms ns : List ℕ} → m ∷ ms ≡ n ∷ ns → ms ≡ ns
-    rest_of e = cc
+middle_differs [] zs y y' e = let same : extent y.max_rec ∷ extents zs ≡ extent y'.max_rec ∷ extents zs = e in cc
+middle_differs (x ∷ xs) zs y y' e = let same : extent x.max_rec ∷ extents (xs ++ y ∷ zs) ≡ extent x.max_rec ∷ extents (xs ++ y' ∷ zs) = e in let rest : extents (xs ++ y ∷ zs) ≡ extents (xs ++ y' ∷ zs) = (cc) in middle_differs xs zs y y' rest
 
 same_test : (now_is was : List ℕ) (x y : ℤ) → now_is ≡ was → (if bytes_eq was now_is then x else y) ≡ x
 same_test now_is was x y e = ap (λ (c : Bool). if c then x else y) (ap (bytes_eq was) e ∙ bytes_eq-same was)
@@ -73,6 +67,16 @@ module _ {b : List ℕ} {kind : Kind} {before : List VariableShape} {own : Varia
         by : (k : Kind) → kind ≡ k → RMaxRecFollows b now
         by R e = follows e ∙ sym (other_test (r_extents (content now)) (r_extents (content b)) (r_max_rec b) (greatest_r_max_rec (content now)) (λ q. (let same = middle_differs front back (variable_of b own) v (sym (r_was e) ∙ q ∙ r_is e) in absurd (omega arith))))
         by Z e = stays e ∙ sym (same_test (r_extents (content now)) (r_extents (content b)) (r_max_rec b) (greatest_r_max_rec (content now)) (z_same e))
+
+-- ---- blocks, by their types
+
+pub block_type : (b records : List ℕ) (vdr : ℕ) (leaves : List Leaf) → Each (LeafFits b records vdr) leaves → (m : ℕ) → In m (places_of leaves) → (type_at b m ≡ vvr_type) ⊎ (type_at b m ≡ cvvr_type)
+block_type b records vdr [] each m i = absurd i
+block_type b records vdr (l ∷ more) each m (inl q) = elim (or_cases (is_a b records vvr_type l.place) (is_a b records cvvr_type l.place) each.0.0) [
+  | inl p ↦ inl (ap (type_at b) q ∙ is_a-type b records vvr_type l.place p)
+  | inr p ↦ inr (ap (type_at b) q ∙ is_a-type b records cvvr_type l.place p)
+]
+block_type b records vdr (l ∷ more) each m (inr i) = block_type b records vdr more each.1 m i
 
 -- ---- whose records are the GDR and the VDR
 

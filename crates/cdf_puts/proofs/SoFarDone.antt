@@ -17,7 +17,8 @@ use Rattle.cdf_edits.specs.Follows.{Follows, only_reads}
 use Rattle.cdf_puts.proofs.CoveringRanges.{covering_total}
 use Rattle.cdf_puts.proofs.DoneBytes.{is_put, index_done, bytes_done}
 use Rattle.cdf_puts.proofs.LastImage.{has_put}
-use Rattle.cdf_puts.proofs.PutMeaning.{put_content, HasPut}
+use Rattle.cdf_puts.proofs.PutMeaning.{put_content}
+use Rattle.cdf_puts.proofs.GoesThen.{Passes}
 use Rattle.cdf_puts.proofs.PutRoom.{longer_by}
 
 module _ {b now last : List ℕ} {kind : Kind} {before : List VariableShape} {own own' : VariableShape} {after : List VariableShape} {raw pad : List ℕ} {r : ℕ} {acts : List Act} (so : SoFar b now kind before own own' after raw pad r (r + 1) acts) (done : MaxRecDone b now last kind own own' r)
@@ -28,11 +29,11 @@ module _ {b now last : List ℕ} {kind : Kind} {before : List VariableShape} {ow
   abbrev found : Found
   found = found_in b kind before own
 
-  put : HasPut b last kind before own own' after r acts
-  put = has_put so done
+  put : Passes b last kind before own own' after r acts
+  put = (has_put so done).step
 
   pub so_far_done : PutsRecord b last kind v r own own' acts
-  so_far_done = record { index = index_done so done; bytes = bytes_done so done pad_stored; r_max_rec = put.r_max_rec_follows }
+  so_far_done = record { index = index_done so done; bytes = bytes_done so done pad_stored; r_max_rec = (has_put so done).r_max_rec_follows }
 
   -- ---- of the variable that has a name
 
@@ -55,7 +56,7 @@ module _ {b now last : List ℕ} {kind : Kind} {before : List VariableShape} {ow
 
     module _ (bytes : List ℕ) (raw_is : turned (type_of_variable b own.vdr) (is_little b) raw ≡ bytes) (pad_is : extent (max_rec_at b own.vdr) < r → turned (type_of_variable b own.vdr) (is_little b) pad ≡ pad_record v) where
       pub content_done : content last ≡ with_variable (content b) found (with_record v r bytes)
-      content_done = put_content so.start.good so.start.among put (is_put so done) bytes raw_is pad_is
+      content_done = put_content so.start.good so.start.among (has_put so done) (is_put so done) bytes raw_is pad_is
 
       follows_by : (c : Command) → only_reads c ≡ false → step (content b) c ≡ ByStep (Go (with_variable (content b) found (with_record v r bytes)) replies.Plain) → room b c ≡ put_room v own.index r → allowances b (content b) (shape b) c ≡ put_changes b (shape b) found r → Does b c last acts → Follows b c last
       follows_by c changes goes room_is may does =
@@ -65,7 +66,7 @@ module _ {b now last : List ℕ} {kind : Kind} {before : List VariableShape} {ow
             reply = replies.Plain;
             goes = goes ∙ ap (λ (d : DataSet). ByStep (Go d replies.Plain)) (sym content_done);
             good = put.good;
-            longer = put.longer;
+            longer = put.file.longer;
             within = omega arith;
             reads = λ e. absurd (true≢false (sym e ∙ changes));
             acts = acts;

@@ -1,12 +1,11 @@
 -- The leaves that were put so far: which one more there is once a record is written or a leaf is added, that a put goes through them one after the other, and how that starts.
 use Rattle.std.proofs.Common.{◌≡◌, ◌⊎◌, ℕ, zero, suc, ◌+◌, ◌-◌, ◌<◌, ◌≤◌, List, [], ◌∷◌, ◌++◌, Bool, true, false, eqb, Some, None, append_assoc, refl, sym, ap, subst, ◌∙◌, arith, inl, inr}
 use Rattle.cdf_puts.proofs.Common.{in_order, cases_lt, lt-ltb, le-ltb, ne_eqb, filter, min, max, nat_lt, find, ◌==◌, if◌then◌else◌, PutsLeaves, range, covers, with_leaf, new_room, block_need, Act, IsOneOf, Ascending, Leaf, leaves_of, VariableShape, record_bytes, either, node_acts, leaf_acts, with_new, put_count, was_put, PutsBefore, list_any, nat_le, Kind, Sparse, NoRule, extent, record_number_limit, new_ranges, Range, ranges_of, first_written, is_sparse, with_ranges, indexes_with, outline, UnusedEntries, NodeSpareStays, NodesFollow, top_chain, leaves_ascend, is_in, variable_of, Nodes, nodes_of, used_count, is_in-true, bytes_eq-same, of_le, PutStart, IndexSoFar, NodesSoFar, BlocksSoFar}
-use Rattle.std.proofs.lemmas.Bool.Decides.{nat_tests}
 use Rattle.cdf_edits.specs.Commands.Puts.{TakesNode}
 use Rattle.cdf_edits.proofs.Edits.LeafPieces.{covers_from}
 use Rattle.cdf_puts.proofs.CoveringRanges.{of_leaves}
 use Rattle.cdf_puts.proofs.PutNodes.{each_in}
-use Rattle.std.proofs.lemmas.Bool.{or_right}
+use Rattle.std.proofs.lemmas.Bool.{both_ways, eqb-true, or_right}
 
 -- ---- which leaves were put
 
@@ -77,27 +76,15 @@ put_new first k k' low upto leaves new a beside is from more within =
 -- no other leaf begins where none has the record
 pub none_begins : (k low upto : ℕ) (leaves : List Leaf) → Ascending low upto leaves → find (λ (leaf : Leaf). covers k (range leaf.first leaf.last)) leaves ≡ None → find (λ (old : Leaf). old.first == k) leaves ≡ None
 none_begins k low upto [] a e = refl
-none_begins k low upto (x ∷ more) a e = elim (either (eqb x.first k)) [
-  | inl t ↦ absurd (here x.first x.last a.1 t (covers_none (covers k (range x.first x.last)) e))
-  | inr t ↦ rw t (none_begins k (suc x.last) upto more a.3 (rest (covers k (range x.first x.last)) e))
+none_begins k low upto (x ∷ more) a e = elim (either (covers k (range x.first x.last))) [
+  | inl t ↦ let found : Some x ≡ None = rw t at e in absurd (cc)
+  | inr t ↦
+      let rest : find (λ (leaf : Leaf). covers k (range leaf.first leaf.last)) more ≡ None = rw t at e in
+      elim (either (eqb x.first k)) [
+        | inl u ↦ let same = eqb-true x.first k u in let le = a.1 in absurd (both_ways (covers k (range x.first x.last)) t (covers_from k x (omega arith) (omega arith)))
+        | inr u ↦ rw u (none_begins k (suc x.last) upto more a.3 rest)
+      ]
 ]
-  where
-    covers_none : (p : Bool) → (if p then Some x else find (λ (leaf : Leaf). covers k (range leaf.first leaf.last)) more) ≡ None → p ≡ false
-    covers_none true e = absurd (some_none e)
-      where
-        some_none : Some x ≡ None → ⊥
-        some_none e = cc
-    covers_none false e = refl
-
-    rest : (p : Bool) → (if p then Some x else find (λ (leaf : Leaf). covers k (range leaf.first leaf.last)) more) ≡ None → find (λ (leaf : Leaf). covers k (range leaf.first leaf.last)) more ≡ None
-    rest true e = absurd (some_none e)
-      where
-        some_none : Some x ≡ None → ⊥
-        some_none e = cc
-    rest false e = e
-
-    here : (f t : ℕ) → f ≤ t → eqb f k ≡ true → covers k (range f t) ≡ false → ⊥
-    here f t le e c = grind (arith, nat_tests)
 
 -- ---- a put goes through them
 
@@ -190,11 +177,8 @@ module _ {b : List ℕ} {kind : Kind} {before : List VariableShape} {own : Varia
   blocks_start = record {
     stay = λ l i. i;
     apart = λ l i. refl;
-    old = λ l i. record { written = λ j from upto f t. absurd (never j from upto); kept = λ i lt side. refl };
+    old = λ l i. record { written = λ j from upto f t. absurd (omega arith); kept = λ i lt side. refl };
     new = λ l i. inl i;
-    has = λ j from upto. absurd (never j from upto);
+    has = λ j from upto. absurd (omega arith);
     quiet = λ e. record { longer = omega arith; same = λ place lt out. refl };
   }
-    where
-      never : {first : ℕ} (j : ℕ) → first ≤ j → j < first → ⊥
-      never j a c = omega arith

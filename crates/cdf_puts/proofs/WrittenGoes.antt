@@ -1,6 +1,6 @@
 -- A record is written in its block: one image goes on to another, and no byte changes but those of the record.
-use Rattle.std.proofs.Common.{◌≡◌, ◌≢◌, ◌⊎◌, ℕ, suc, ◌+◌, ◌-◌, ◌*◌, ◌<◌, ◌≤◌, List, [], ◌∷◌, ◌++◌, length, Bool, true, ◌||◌, Some, w32, refl, sym, ap, subst, ◌∙◌, arith, inl, inr}
-use Rattle.cdf_puts.proofs.Common.{lt-ltb, cast_signed, ◌==◌, nat_lt, find, Kind, Variable, image_limit, record_number_limit, Same, byte, variable_of, number, size_at, type_at, Leaf, nodes_of, leaves_of, vdr_max_rec, gdr_r_max_rec, gdr_type, vvr_type, VariableShape, Shape, HasShape, shape, In, record_bytes, is_max_rec, Good, word_kept, byte-put_before, byte-put_after, tile_lies, r_max_rec, max_rec_touches, is_rewritten, Touch, Outside, Changed, range, covers, shared, first_written, places_of, IsOneOf, covers_within, place_in, find_place, times_le, PlainLeaf, own_rules, plain_leaf, leaves_apart, WritesRecords, file, good_now, gdr_in, gdr_typed, gdr_long, block_behind, StandsAmong, sound, tile, long, no_block, behind_in, changed_part, Kept, apart, GoesOn, RecordWritten}
+use Rattle.std.proofs.Common.{◌≡◌, ◌≢◌, ◌⊎◌, ℕ, suc, ◌+◌, ◌-◌, ◌*◌, ◌<◌, ◌≤◌, List, [], ◌∷◌, length, Bool, true, ◌||◌, Some, w32, refl, sym, ap, subst, ◌∙◌, arith, inl, inr}
+use Rattle.cdf_puts.proofs.Common.{Outside-append, lt-ltb, cast_signed, ◌==◌, nat_lt, find, Kind, Variable, image_limit, record_number_limit, Same, byte, variable_of, number, size_at, type_at, Leaf, nodes_of, leaves_of, vdr_max_rec, gdr_r_max_rec, gdr_type, vvr_type, VariableShape, Shape, HasShape, shape, In, record_bytes, is_max_rec, Good, word_kept, byte-put_before, byte-put_after, tile_lies, r_max_rec, max_rec_touches, is_rewritten, Touch, Changed, range, covers, shared, first_written, places_of, IsOneOf, covers_within, place_in, find_place, times_le, PlainLeaf, own_rules, plain_leaf, leaves_apart, WritesRecords, file, good_now, gdr_in, gdr_typed, gdr_long, block_behind, StandsAmong, sound, tile, long, no_block, behind_in, changed_part, Kept, apart, GoesOn, RecordWritten}
 use Rattle.cdf_base.specs.Bytes.{put}
 use Rattle.cdf_format.specs.Fields.{gdr_offset, integer4}
 use Rattle.cdf_format.proofs.BytesLemmas.{length-put}
@@ -15,10 +15,6 @@ rewritten_by first r k f t x a c d e = rw (lt-ltb 0 (shared first r (range f t))
 
 pub record_fits : (k f t size : ℕ) → f ≤ k → k ≤ t → 12 + (k - f) * size + size ≤ 12 + (t + 1 - f) * size
 record_fits k f t size a c = let p = times_le (suc (k - f)) (t + 1 - f) size (omega arith) in omega arith
-
-outside_back : (xs ys : List Touch) (place : ℕ) → Outside (xs ++ ys) place → Outside ys place
-outside_back [] ys place o = o
-outside_back (x ∷ xs) ys place o = outside_back xs ys place o.1
 
 module _ {b now : List ℕ} {kind : Kind} {before : List VariableShape} {own : VariableShape} {after : List VariableShape} {l : Leaf} {k : ℕ} {raw : List ℕ} (good : Good b) (at : StandsAmong b kind before own after) (w : RecordWritten b now own l k raw) where
   abbrev s : Shape
@@ -94,7 +90,7 @@ module _ {b now : List ℕ} {kind : Kind} {before : List VariableShape} {own : V
 
   pub writes : WritesRecords b now kind own ts
   writes = record {
-    changed = record { longer = changed_here.longer; same = λ place lt out. changed_here.same place lt (outside_back (max_rec_touches b kind vdr) ts place out) };
+    changed = record { longer = changed_here.longer; same = λ place lt out. changed_here.same place lt (Outside-append (max_rec_touches b kind vdr) ts place out).1 };
     as_long = long_now;
     in_blocks = (record { block = place_in leaves l is_leaf; typed = (plain l is_leaf).typed; later = omega arith; fits = fits_in }, tt);
     max_rec_ruled = ap is_max_rec max_rec_kept ∙ (own_rules good at).0.1.1.1.1.1.1.1.0;
