@@ -1,35 +1,15 @@
 -- The walk over a whole chain, with what is below it.
-use Rattle.std.proofs.Common.{◌≡◌, ◌≢◌, ℕ, zero, suc, ◌+◌, ◌-◌, ◌<◌, ◌≤◌, List, length, refl, sym, ap, subst, ◌∙◌, arith}
-use Rattle.cdf_index.proofs.Common.{length-append, next_of, type_at, Nodes, no_node, node, Entries, no_entry, block, lower, leaf, entry_count, link_to, room_at, used_count, offset_at, SaysEntry, SayEntries, IsNode, vxr_type, Each, In, AreTiles, tiles, linkable-in, linkable-type, Each-split, tile_lies, index_at, HasIndex, IsBlock, IsOrderly, Stands, SomeNode, SomeEntries}
+use Rattle.std.proofs.Common.{◌≡◌, ◌≢◌, ℕ, suc, ◌+◌, ◌-◌, ◌<◌, ◌≤◌, List, length, refl, sym, ap, subst, ◌∙◌, arith}
+use Rattle.cdf_index.proofs.Common.{length-append, next_of, type_at, Nodes, no_node, node, Entries, no_entry, block, lower, leaf, entry_count, link_to, room_at, used_count, offset_at, SaysEntry, SayEntries, IsNode, vxr_type, Each, In, tiles, linkable-in, linkable-type, Each-split, tile_lies, index_at, HasIndex, IsBlock, IsOrderly, Stands, SomeNode, SomeEntries}
 use Rattle.cdf_format.specs.Index.{nodes_of, lower_nodes, leaves_of, entry_leaves}
 use Rattle.cdf_format.specs.IndexOf.{HasNodes, Names}
 use Rattle.cdf_index.specs.Whole.{through, through_entries, EntriesStand, SomeChain}
 use Rattle.cdf_index.proofs.Ascending.{index_stands}
-use Rattle.cdf_index.proofs.Looking.{block_type, block_in, no_node_type, node_linkable}
+use Rattle.cdf_index.proofs.Looking.{block_type, block_in, no_node_type, node_linkable, node_there, none_there, a_level, one_node}
 use Rattle.cdf_index.proofs.Searching.{few_nodes}
+use Rattle.cdf_index.proofs.Saying.{no_entries}
 
 -- ---- nodes and entries
-
-some_there : (ns : Nodes) → link_to ns ≢ 0 → IsNode ns
-some_there no_node ne = absurd (ne refl)
-some_there (node place room entries more) ne = tt
-
-none_there : (b : List ℕ) (levels : ℕ) (ns : Nodes) → AreTiles b 8 (length b) (tiles b) → HasNodes b (tiles b) levels ns → link_to ns ≡ 0 → ns ≡ no_node
-unfolding HasNodes
-none_there b levels no_node t h e = refl
-none_there b zero (node place room entries more) t h e = absurd h
-none_there b (suc levels) (node place room entries more) t h e = let lies = tile_lies b 8 (length b) (tiles b) place t (linkable-in b (tiles b) vxr_type place h.0.linkable) in absurd (omega (arith, lies.low))
-
-a_level : (b : List ℕ) (levels : ℕ) (ns : Nodes) → IsNode ns → HasNodes b (tiles b) levels ns → 1 ≤ levels
-unfolding HasNodes
-a_level b levels no_node is h = absurd is
-a_level b zero (node place room entries more) is h = absurd h
-a_level b (suc levels) (node place room entries more) is h = omega arith
-
-one_node : (ns : Nodes) → IsNode ns → 1 ≤ length (nodes_of ns)
-unfolding nodes_of
-one_node no_node is = absurd is
-one_node (node place room entries more) is = omega arith
 
 one_less : (levels : ℕ) → 1 ≤ levels → suc (levels - 1) ≡ levels
 one_less levels h = omega arith
@@ -39,7 +19,7 @@ none_of_none n h = omega arith
 
 no_link : (ns : Nodes) → length (nodes_of ns) ≡ 0 → link_to ns ≡ 0
 no_link no_node e = refl
-no_link (node place room entries more) e = let o = one_node (node place room entries more) tt in absurd (omega arith)
+no_link (node place room entries more) e = absurd (omega (arith, one_node (node place room entries more) tt))
 
 named_there : (b : List ℕ) (levels at i place : ℕ) (es : Entries) → SayEntries b at i es → Names b (tiles b) levels es → Each (IsBlock b) (entry_leaves es) → 1 ≤ entry_count es → place ≡ offset_at b at i → In place (tiles b)
 unfolding Names entry_leaves
@@ -52,11 +32,6 @@ count_left i n k e h = omega arith
 
 none_left : (i n k : ℕ) → i + n ≡ k → k ≤ i → n ≡ 0
 none_left i n k e h = omega arith
-
-no_entries : (es : Entries) → entry_count es ≡ 0 → es ≡ no_entry
-no_entries no_entry e = refl
-no_entries (block first last place packed es) e = absurd (omega arith)
-no_entries (lower first last nodes es) e = absurd (omega arith)
 
 -- the lower chain of an entry that names a node
 record LowerThere (b : List ℕ) (levels place : ℕ) (es : Entries) : Type 0 where
@@ -90,27 +65,6 @@ module _ {S : Type 0} (at_node : S → ℕ → ℕ → ℕ → S) (at_block : S 
   pub record Walked (b : List ℕ) (levels link at turn : ℕ) (was s : S) : Type 0 where
     pub left : (ns : Nodes) → Stands b levels ns → link ≡ link_to ns → ChainLeft b levels at turn was s ns
 
-  nothing_through : (ns : Nodes) (s : S) → ns ≡ no_node → through at_node at_block s ns ≡ s
-  unfolding through
-  nothing_through ns s e = rw e refl
-
-  pub walk_end : (b : List ℕ) (levels link at turn : ℕ) (was s : S) → SomeChain b levels link → Walked b levels link at turn was s → at ≡ 0 → (ns : Nodes) → Stands b levels ns → link ≡ link_to ns → s ≡ through at_node at_block was ns
-  walk_end b levels link at turn was s some w z ns st e =
-      let l = w.left ns st e in
-      sym (nothing_through l.left s (none_there b levels l.left some.tiled l.stands.has (sym l.link_is ∙ z))) ∙ l.same
-
-  pub walk_over : (b : List ℕ) (levels link at turn : ℕ) (was s : S) → SomeChain b levels link → Walked b levels link at turn was s → length b ≤ turn → at ≡ 0
-  walk_over b levels link at turn was s some w le =
-      let l = w.left some.nodes some.stands some.link_is in
-      l.link_is ∙ no_link l.left (let f = l.fewer in let g = some.few in none_of_none (length (nodes_of l.left)) (omega arith))
-
-  -- a node of the chain
-  pub walk_node : (b : List ℕ) (levels link at turn : ℕ) (was s : S) → SomeChain b levels link → Walked b levels link at turn was s → at ≢ 0 → SomeNode b at × (1 ≤ levels)
-  walk_node b levels link at turn was s some w ne =
-      let l = w.left some.nodes some.stands some.link_is in
-      let is = some_there l.left (λ z. ne (l.link_is ∙ z)) in
-      (record { levels = levels; nodes = l.left; tiled = some.tiled; stands = l.stands; is_node = is; link = l.link_is }, a_level b levels l.left is l.stands.has)
-
   -- its entries
   record NodeLeft (b : List ℕ) (levels at : ℕ) (s : S) (ns : Nodes) : Type 0 where
     entries : Entries
@@ -121,7 +75,54 @@ module _ {S : Type 0} (at_node : S → ℕ → ℕ → ℕ → S) (at_block : S 
     same : through at_node at_block s ns ≡ through at_node at_block (through_entries at_node at_block (at_node s at (room_at b at) (used_count b at)) entries) more
     length_is : length (nodes_of ns) ≡ suc (length (lower_nodes entries) + length (nodes_of more))
 
-  node_here : (b : List ℕ) (levels : ℕ) (s : S) (ns : Nodes) → Stands b (suc levels) ns → IsNode ns → NodeLeft b levels (link_to ns) s ns
+  pub record BelowLeft (b : List ℕ) (at levels i : ℕ) (was s : S) (entries : Entries) : Type 0 where
+    pub left : Entries
+    pub say : SayEntries b at i left
+    pub names : Names b (tiles b) levels left
+    pub orderly : Each (IsOrderly b) (lower_nodes left)
+    pub blocks : Each (IsBlock b) (entry_leaves left)
+    pub many : i + entry_count left ≡ entry_count entries
+    pub same : through_entries at_node at_block s left ≡ through_entries at_node at_block was entries
+    pub fewer : length (lower_nodes left) ≤ length (lower_nodes entries)
+
+  pub record Gone (b : List ℕ) (at levels i : ℕ) (was s : S) : Type 0 where
+    pub left : (entries : Entries) → EntriesStand b at levels entries → BelowLeft b at levels i was s entries
+
+  -- ---- of an image that is the same
+
+  pub entries_told : (b now : List ℕ) (at levels : ℕ) (was s : S) → now ≡ b → ((es : Entries) → EntriesStand now at levels es → s ≡ through_entries at_node at_block was es) → (es : Entries) → EntriesStand b at levels es → s ≡ through_entries at_node at_block was es
+  entries_told b now at levels was s e told = subst (λ (x : List ℕ). (es : Entries) → EntriesStand x at levels es → s ≡ through_entries at_node at_block was es) e told
+
+  pub chain_told : (b now : List ℕ) (levels link : ℕ) (was s : S) → now ≡ b → ((ns : Nodes) → Stands now levels ns → link ≡ link_to ns → s ≡ through at_node at_block was ns) → (ns : Nodes) → Stands b levels ns → link ≡ link_to ns → s ≡ through at_node at_block was ns
+  chain_told b now levels link was s e told = subst (λ (x : List ℕ). (ns : Nodes) → Stands x levels ns → link ≡ link_to ns → s ≡ through at_node at_block was ns) e told
+
+  nothing_through : (ns : Nodes) (s : S) → ns ≡ no_node → through at_node at_block s ns ≡ s
+  unfolding through
+  nothing_through ns s e = rw e refl
+
+  nothing_below : (es : Entries) (s : S) → es ≡ no_entry → through_entries at_node at_block s es ≡ s
+  unfolding through_entries
+  nothing_below es s e = rw e refl
+
+module _ {S : Type 0} {at_node : S → ℕ → ℕ → ℕ → S} {at_block : S → ℕ → ℕ → ℕ → S} where
+  pub walk_end : {b : List ℕ} {levels link at turn : ℕ} {was s : S} → SomeChain b levels link → Walked at_node at_block b levels link at turn was s → at ≡ 0 → (ns : Nodes) → Stands b levels ns → link ≡ link_to ns → s ≡ through at_node at_block was ns
+  walk_end {b = b} {levels = levels} {s = s} some w z ns st e =
+      let l = w.left ns st e in
+      sym (nothing_through at_node at_block l.left s (none_there b levels l.left some.tiled l.stands.has (sym l.link_is ∙ z))) ∙ l.same
+
+  pub walk_over : {b : List ℕ} {levels link at turn : ℕ} {was s : S} → SomeChain b levels link → Walked at_node at_block b levels link at turn was s → length b ≤ turn → at ≡ 0
+  walk_over some w le =
+      let l = w.left some.nodes some.stands some.link_is in
+      l.link_is ∙ no_link l.left (let f = l.fewer in let g = some.few in none_of_none (length (nodes_of l.left)) (omega arith))
+
+  -- a node of the chain
+  pub walk_node : {b : List ℕ} {levels link at turn : ℕ} {was s : S} → SomeChain b levels link → Walked at_node at_block b levels link at turn was s → at ≢ 0 → SomeNode b at × (1 ≤ levels)
+  walk_node {b = b} {levels = levels} {link = link} some w ne =
+      let l = w.left some.nodes some.stands some.link_is in
+      let is = node_there l.left (λ z. ne (l.link_is ∙ z)) in
+      (record { levels = levels; nodes = l.left; tiled = some.tiled; stands = l.stands; is_node = is; link = l.link_is }, a_level b levels l.left is l.stands.has)
+
+  node_here : (b : List ℕ) (levels : ℕ) (s : S) (ns : Nodes) → Stands b (suc levels) ns → IsNode ns → NodeLeft at_node at_block b levels (link_to ns) s ns
   unfolding HasNodes nodes_of leaves_of through
   node_here b levels s no_node st is = absurd is
   node_here b levels s (node place room entries more) st is =
@@ -140,26 +141,26 @@ module _ {S : Type 0} (at_node : S → ℕ → ℕ → ℕ → S) (at_block : S 
         length_is = ap suc (length-append (lower_nodes entries) (nodes_of more));
       }
 
-  node_left : (b : List ℕ) (levels at : ℕ) (s : S) (ns : Nodes) → Stands b (suc levels) ns → IsNode ns → at ≡ link_to ns → NodeLeft b levels at s ns
-  node_left b levels at s ns st is e = subst (λ (x : ℕ). NodeLeft b levels x s ns) (sym e) (node_here b levels s ns st is)
+  node_left : (b : List ℕ) (levels at : ℕ) (s : S) (ns : Nodes) → Stands b (suc levels) ns → IsNode ns → at ≡ link_to ns → NodeLeft at_node at_block b levels at s ns
+  node_left b levels at s ns st is e = subst (λ (x : ℕ). NodeLeft at_node at_block b levels x s ns) (sym e) (node_here b levels s ns st is)
 
-  at_one : (b : List ℕ) (levels link at turn : ℕ) (was s : S) (ns : Nodes) → ChainLeft b levels at turn was s ns → at ≢ 0 → (l : ChainLeft b levels at turn was s ns) × NodeLeft b (levels - 1) at s l.left × (1 ≤ levels)
+  at_one : (b : List ℕ) (levels link at turn : ℕ) (was s : S) (ns : Nodes) → ChainLeft at_node at_block b levels at turn was s ns → at ≢ 0 → (l : ChainLeft at_node at_block b levels at turn was s ns) × NodeLeft at_node at_block b (levels - 1) at s l.left × (1 ≤ levels)
   at_one b levels link at turn was s ns l ne =
-      let is = some_there l.left (λ z. ne (l.link_is ∙ z)) in
+      let is = node_there l.left (λ z. ne (l.link_is ∙ z)) in
       let lv = a_level b levels l.left is l.stands.has in
       (l, node_left b (levels - 1) at s l.left (subst (λ (x : ℕ). Stands b x l.left) (sym (one_less levels lv)) l.stands) is l.link_is, lv)
 
-  pub walk_entries : (b : List ℕ) (levels link at turn : ℕ) (was s : S) → SomeChain b levels link → Walked b levels link at turn was s → at ≢ 0 → SomeEntries b at (levels - 1)
-  walk_entries b levels link at turn was s some w ne =
+  pub walk_entries : {b : List ℕ} {levels link at turn : ℕ} {was s : S} → SomeChain b levels link → Walked at_node at_block b levels link at turn was s → at ≢ 0 → SomeEntries b at (levels - 1)
+  walk_entries {b = b} {levels = levels} {link = link} {at = at} {turn = turn} {was = was} {s = s} some w ne =
       let q = at_one b levels link at turn was s some.nodes (w.left some.nodes some.stands some.link_is) ne in
       let f = q.0.fewer in
       let g = some.few in
       let n = q.1.length_is in
       record { entries = q.1.entries; tiled = some.tiled; stand = q.1.stand; few = omega arith }
 
-  pub walk_on : (b : List ℕ) (levels link at turn next : ℕ) (was s now : S) → Walked b levels link at turn was s → at ≢ 0 → next ≡ next_of b at
-      → ((entries : Entries) → EntriesStand b at (levels - 1) entries → now ≡ through_entries at_node at_block (at_node s at (room_at b at) (used_count b at)) entries) → Walked b levels link next (turn + 1) was now
-  walk_on b levels link at turn next was s now w ne nx told = record {
+  pub walk_on : {b : List ℕ} {levels link at turn next : ℕ} {was s now : S} → Walked at_node at_block b levels link at turn was s → at ≢ 0 → next ≡ next_of b at
+      → ((entries : Entries) → EntriesStand b at (levels - 1) entries → now ≡ through_entries at_node at_block (at_node s at (room_at b at) (used_count b at)) entries) → Walked at_node at_block b levels link next (turn + 1) was now
+  walk_on {b = b} {levels = levels} {link = link} {at = at} {turn = turn} {was = was} {s = s} w ne nx told = record {
     left = λ ns st e.
         (let q = at_one b levels link at turn was s ns (w.left ns st e) ne in
         let n = q.1 in
@@ -174,42 +175,23 @@ module _ {S : Type 0} (at_node : S → ℕ → ℕ → ℕ → S) (at_block : S 
         });
   }
 
-  -- ---- over the entries of a node
-
-  pub record BelowLeft (b : List ℕ) (at levels i : ℕ) (was s : S) (entries : Entries) : Type 0 where
-    pub left : Entries
-    pub say : SayEntries b at i left
-    pub names : Names b (tiles b) levels left
-    pub orderly : Each (IsOrderly b) (lower_nodes left)
-    pub blocks : Each (IsBlock b) (entry_leaves left)
-    pub many : i + entry_count left ≡ entry_count entries
-    pub same : through_entries at_node at_block s left ≡ through_entries at_node at_block was entries
-    pub fewer : length (lower_nodes left) ≤ length (lower_nodes entries)
-
-  pub record Gone (b : List ℕ) (at levels i : ℕ) (was s : S) : Type 0 where
-    pub left : (entries : Entries) → EntriesStand b at levels entries → BelowLeft b at levels i was s entries
-
-  nothing_below : (es : Entries) (s : S) → es ≡ no_entry → through_entries at_node at_block s es ≡ s
-  unfolding through_entries
-  nothing_below es s e = rw e refl
-
-  pub below_end : (b : List ℕ) (at levels i : ℕ) (was s : S) → Gone b at levels i was s → used_count b at ≤ i → (entries : Entries) → EntriesStand b at levels entries → s ≡ through_entries at_node at_block was entries
-  below_end b at levels i was s g le es st =
+  pub below_end : {b : List ℕ} {at levels i : ℕ} {was s : S} → Gone at_node at_block b at levels i was s → used_count b at ≤ i → (entries : Entries) → EntriesStand b at levels entries → s ≡ through_entries at_node at_block was entries
+  below_end {i = i} {s = s} g le es st =
       let l = g.left es st in
       let m = l.many in
       let u = st.used_is in
-      sym (nothing_below l.left s (no_entries l.left (none_left i (entry_count l.left) (entry_count es) m (omega arith)))) ∙ l.same
+      sym (nothing_below at_node at_block l.left s (no_entries l.left (none_left i (entry_count l.left) (entry_count es) m (omega arith)))) ∙ l.same
 
   -- the block or the node that an entry names lies in the image
-  pub named_lies : (b : List ℕ) (at levels i place : ℕ) (was s : S) → SomeEntries b at levels → Gone b at levels i was s → i < used_count b at → place ≡ offset_at b at i → place + 12 ≤ length b
-  named_lies b at levels i place was s some g lt q =
+  pub named_lies : {b : List ℕ} {at levels i place : ℕ} {was s : S} → SomeEntries b at levels → Gone at_node at_block b at levels i was s → i < used_count b at → place ≡ offset_at b at i → place + 12 ≤ length b
+  named_lies {b = b} {at = at} {levels = levels} {i = i} {place = place} some g lt q =
       let l = g.left some.entries some.stand in
       let there = named_there b levels at i place l.left l.say l.names l.blocks (count_left i (entry_count l.left) (entry_count some.entries) l.many (subst (λ (x : ℕ). i < x) some.stand.used_is lt)) q in
       let lies = tile_lies b 8 (length b) (tiles b) place some.tiled there in
       omega (arith, lies.high, lies.long)
 
-  pub lower_chain : (b : List ℕ) (at levels i place type : ℕ) (was s : S) → SomeEntries b at levels → Gone b at levels i was s → i < used_count b at → place ≡ offset_at b at i → type ≡ type_at b place → type ≡ 6 → SomeChain b levels place
-  lower_chain b at levels i place type was s some g lt q qt is =
+  pub lower_chain : {b : List ℕ} {at levels i place type : ℕ} {was s : S} → SomeEntries b at levels → Gone at_node at_block b at levels i was s → i < used_count b at → place ≡ offset_at b at i → type ≡ type_at b place → type ≡ 6 → SomeChain b levels place
+  lower_chain {b = b} {at = at} {levels = levels} {i = i} {place = place} {type = type} some g lt q qt is =
       let l = g.left some.entries some.stand in
       let t = lower_there b levels at i place type l.left l.say l.names l.orderly l.blocks (count_left i (entry_count l.left) (entry_count some.entries) l.many (subst (λ (x : ℕ). i < x) some.stand.used_is lt)) q qt is in
       let f1 = t.few in
@@ -219,7 +201,7 @@ module _ {S : Type 0} (at_node : S → ℕ → ℕ → ℕ → S) (at_block : S 
 
   -- past a block
   block_gone : (b : List ℕ) (at levels i first last place type : ℕ) (was s : S) (es left : Entries) → SayEntries b at i left → Names b (tiles b) levels left → Each (IsOrderly b) (lower_nodes left) → Each (IsBlock b) (entry_leaves left) → i + entry_count left ≡ entry_count es → through_entries at_node at_block s left ≡ through_entries at_node at_block was es
-      → length (lower_nodes left) ≤ length (lower_nodes es) → i < entry_count es → SaysEntry b at i first last place → type ≡ type_at b place → type ≢ 6 → BelowLeft b at levels (i + 1) was (at_block s first last place) es
+      → length (lower_nodes left) ≤ length (lower_nodes es) → i < entry_count es → SaysEntry b at i first last place → type ≡ type_at b place → type ≢ 6 → BelowLeft at_node at_block b at levels (i + 1) was (at_block s first last place) es
   unfolding Names entry_leaves lower_nodes through_entries
   block_gone b at levels i first last place type was s es no_entry sa n f k m same few lt q qt is = absurd (omega arith)
   block_gone b at levels i first last place type was s es (block fi la p packed left) sa n f k m same few lt q qt is =
@@ -233,14 +215,14 @@ module _ {S : Type 0} (at_node : S → ℕ → ℕ → ℕ → S) (at_block : S 
       let ep : place ≡ link_to nodes = sym q.offset_is ∙ sa.0.offset_is in
       absurd (is (qt ∙ ap (type_at b) ep ∙ linkable-type b (tiles b) vxr_type (link_to nodes) (node_linkable b levels nodes n.0 n.1)))
 
-  pub past_block : (b : List ℕ) (at levels i first last place type : ℕ) (was s : S) → Gone b at levels i was s → i < used_count b at → SaysEntry b at i first last place → type ≡ type_at b place → type ≢ 6 → Gone b at levels (i + 1) was (at_block s first last place)
-  past_block b at levels i first last place type was s g lt q qt is = record {
+  pub past_block : {b : List ℕ} {at levels i first last place type : ℕ} {was s : S} → Gone at_node at_block b at levels i was s → i < used_count b at → SaysEntry b at i first last place → type ≡ type_at b place → type ≢ 6 → Gone at_node at_block b at levels (i + 1) was (at_block s first last place)
+  past_block {b = b} {at = at} {levels = levels} {i = i} {first = first} {last = last} {place = place} {type = type} {was = was} {s = s} g lt q qt is = record {
     left = λ es st. (let l = g.left es st in block_gone b at levels i first last place type was s es l.left l.say l.names l.orderly l.blocks l.many l.same l.fewer (subst (λ (x : ℕ). i < x) st.used_is lt) q qt is);
   }
 
   -- past a lower chain
   lower_gone : (b : List ℕ) (at levels i place type : ℕ) (was s now : S) (es left : Entries) → SayEntries b at i left → Names b (tiles b) levels left → Each (IsOrderly b) (lower_nodes left) → Each (IsBlock b) (entry_leaves left) → i + entry_count left ≡ entry_count es → through_entries at_node at_block s left ≡ through_entries at_node at_block was es → length (lower_nodes left) ≤ length (lower_nodes es)
-      → i < entry_count es → place ≡ offset_at b at i → type ≡ type_at b place → type ≡ 6 → ((ns : Nodes) → Stands b levels ns → place ≡ link_to ns → now ≡ through at_node at_block s ns) → BelowLeft b at levels (i + 1) was now es
+      → i < entry_count es → place ≡ offset_at b at i → type ≡ type_at b place → type ≡ 6 → ((ns : Nodes) → Stands b levels ns → place ≡ link_to ns → now ≡ through at_node at_block s ns) → BelowLeft at_node at_block b at levels (i + 1) was now es
   unfolding Names entry_leaves lower_nodes through_entries
   lower_gone b at levels i place type was s now es no_entry sa n f k m same few lt q qt is told = absurd (omega arith)
   lower_gone b at levels i place type was s now es (block fi la p packed left) sa n f k m same few lt q qt is told =
@@ -262,18 +244,10 @@ module _ {S : Type 0} (at_node : S → ℕ → ℕ → ℕ → S) (at_block : S 
         fewer = omega (arith, length-append (nodes_of nodes) (lower_nodes left));
       }
 
-  pub past_lower : (b : List ℕ) (at levels i place type : ℕ) (was s now : S) → Gone b at levels i was s → i < used_count b at → place ≡ offset_at b at i → type ≡ type_at b place → type ≡ 6 → ((ns : Nodes) → Stands b levels ns → place ≡ link_to ns → now ≡ through at_node at_block s ns) → Gone b at levels (i + 1) was now
-  past_lower b at levels i place type was s now g lt q qt is told = record {
+  pub past_lower : {b : List ℕ} {at levels i place type : ℕ} {was s now : S} → Gone at_node at_block b at levels i was s → i < used_count b at → place ≡ offset_at b at i → type ≡ type_at b place → type ≡ 6 → ((ns : Nodes) → Stands b levels ns → place ≡ link_to ns → now ≡ through at_node at_block s ns) → Gone at_node at_block b at levels (i + 1) was now
+  past_lower {b = b} {at = at} {levels = levels} {i = i} {place = place} {type = type} {was = was} {s = s} {now = now} g lt q qt is told = record {
     left = λ es st. (let l = g.left es st in lower_gone b at levels i place type was s now es l.left l.say l.names l.orderly l.blocks l.many l.same l.fewer (subst (λ (x : ℕ). i < x) st.used_is lt) q qt is told);
   }
-
-  -- ---- of an image that is the same
-
-  pub entries_told : (b now : List ℕ) (at levels : ℕ) (was s : S) → now ≡ b → ((es : Entries) → EntriesStand now at levels es → s ≡ through_entries at_node at_block was es) → (es : Entries) → EntriesStand b at levels es → s ≡ through_entries at_node at_block was es
-  entries_told b now at levels was s e told = subst (λ (x : List ℕ). (es : Entries) → EntriesStand x at levels es → s ≡ through_entries at_node at_block was es) e told
-
-  pub chain_told : (b now : List ℕ) (levels link : ℕ) (was s : S) → now ≡ b → ((ns : Nodes) → Stands now levels ns → link ≡ link_to ns → s ≡ through at_node at_block was ns) → (ns : Nodes) → Stands b levels ns → link ≡ link_to ns → s ≡ through at_node at_block was ns
-  chain_told b now levels link was s e told = subst (λ (x : List ℕ). (ns : Nodes) → Stands x levels ns → link ≡ link_to ns → s ≡ through at_node at_block was ns) e told
 
 pub entries_now : (b now : List ℕ) (at levels : ℕ) → now ≡ b → SomeEntries b at levels → SomeEntries now at levels
 entries_now b now at levels e s = subst (λ (x : List ℕ). SomeEntries x at levels) (sym e) s
@@ -287,4 +261,4 @@ pub whole_chain : (b : List ℕ) (head : ℕ) → HasIndex b head → SomeChain 
 whole_chain b head has = record { nodes = index_at b head; tiled = has.tiled; stands = index_stands b head has; link_is = has.index.link_is; few = few }
   where
     few : length (nodes_of (index_at b head)) ≤ length b
-    few = let over = few_nodes b head 0 has in omega (arith, over)
+    few = let over = few_nodes has in omega (arith, over)

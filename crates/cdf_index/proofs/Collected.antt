@@ -45,9 +45,8 @@ places_of_words (leaf ∷ more) = ap (λ (ns : List ℕ). leaf.place ∷ ns) (pl
 
 -- ---- an entry that code read
 
-module _ (b now : List ℕ) (at levels i : ℕ) (was s : List Entry × List ℕ) (entry : Entry) (same : now ≡ b) (read : SaysEntry now at i entry.first entry.last entry.place) where
-  pub entry_says : SaysEntry b at i entry.first entry.last entry.place
-  entry_says = subst (λ (x : List ℕ). SaysEntry x at i entry.first entry.last entry.place) same read
+pub entry_says : {b now : List ℕ} {at i first last place : ℕ} → now ≡ b → SaysEntry now at i first last place → SaysEntry b at i first last place
+entry_says {at = at} {i = i} {first = first} {last = last} {place = place} same read = subst (λ (x : List ℕ). SaysEntry x at i first last place) same read
 
-  pub entry_lies : SomeEntries b at levels → Gone with_node with_block b at levels i was s → i < used_count b at → entry.place + 12 ≤ length b
-  entry_lies some gone lt = named_lies with_node with_block b at levels i entry.place was s some gone lt (sym entry_says.offset_is)
+pub entry_lies : {b now : List ℕ} {at levels i first last place : ℕ} {was s : List Entry × List ℕ} → now ≡ b → SaysEntry now at i first last place → SomeEntries b at levels → Gone with_node with_block b at levels i was s → i < used_count b at → place + 12 ≤ length b
+entry_lies same read some gone lt = named_lies some gone lt (sym (entry_says same read).offset_is)

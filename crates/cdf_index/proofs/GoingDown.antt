@@ -1,15 +1,20 @@
 -- The way down to the place of a new entry, along each chain and from level to level.
-use Rattle.std.proofs.Common.{◌≡◌, ◌≢◌, ◌⊎◌, ℕ, zero, suc, ◌+◌, ◌-◌, ◌<◌, ◌≤◌, List, [], ◌∷◌, length, Bool, true, false, not, eqb, refl, sym, ap, subst, ◌∙◌, arith, inl, inr}
-use Rattle.cdf_index.proofs.Common.{length-append, reaches, chain_reaches, leads_down, Nodes, no_node, node, Entries, no_entry, block, lower, entry_count, link_to, used_count, first_at, size_at, SayEntries, SaysNode, IsNode, AreTiles, In, tiles, either, In-append_right, Distinct-front, Distinct-back, length-le_from_distinct, Each-split, Begun, chain_at, chain_before, IsTree, SeesNode, SpotIs, IsBlock, IsOrderly, SomeNode, past_entries, Spot}
+use Rattle.std.proofs.Common.{◌≡◌, ◌≢◌, ◌⊎◌, ℕ, zero, suc, ◌+◌, ◌-◌, ◌<◌, ◌≤◌, List, ◌∷◌, length, Bool, true, false, not, eqb, refl, sym, ap, subst, ◌∙◌, arith, inl, inr}
+use Rattle.cdf_index.proofs.Common.{length-append, reaches, chain_reaches, leads_down, Nodes, no_node, node, Entries, no_entry, block, lower, entry_count, link_to, used_count, first_at, SayEntries, SaysNode, IsNode, AreTiles, In, tiles, either, In-append_right, Distinct-front, Distinct-back, length-le_from_distinct, Each-split, Begun, chain_at, chain_before, IsTree, SeesNode, SpotIs, IsBlock, IsOrderly, SomeNode, past_entries, Spot, linkable-in, vxr_type}
 use Rattle.cdf_format.specs.Index.{nodes_of, lower_nodes, leaves_of, entry_leaves}
 use Rattle.cdf_format.specs.IndexOf.{HasNodes}
 use Rattle.cdf_index.specs.Descent.{way_from, end_from}
 use Rattle.cdf_index.specs.Order.{InOrder, AreInOrder}
 use Rattle.cdf_index.specs.Way.{way, way_below, spot}
 use Rattle.cdf_index.proofs.EntriesCut.{parted_all}
-use Rattle.cdf_index.proofs.Leading.{Led, Leads, Passed, led, leads_none, chain_not_reached, test_zero}
+use Rattle.cdf_index.proofs.Leading.{Led, Leads, Passed, led}
 use Rattle.cdf_index.proofs.OrderLemmas.{end_after}
-use Rattle.cdf_index.proofs.WayDown.{nodes_stand, no_zero}
+use Rattle.cdf_index.proofs.WayDown.{no_zero}
+use Rattle.cdf_index.proofs.Looking.{node_there}
+use Rattle.cdf_format.proofs.IndexLemmas.{nodes_stand}
+use Rattle.cdf_format.proofs.TilesLemmas.{length_tiles}
+use Rattle.cdf_index.proofs.LeafMore.{leads_none, chain_not_reached}
+use Rattle.std.proofs.lemmas.Bool.{eq-eqb}
 
 -- ---- a tree, its first node, and the rest of its chain
 
@@ -66,8 +71,8 @@ here_by b f levels place room zero es more seen l g p c = record {
   leads = λ x. absurd (x c);
   reached = λ lt. absurd (omega arith);
   not_reached = λ e. l.none refl;
-  way_is = λ t. (let d = leads_none f false es (l.none refl) in rw (t, d, test_zero seen.lower c) refl);
-  end_is = λ t. (let d = leads_none f false es (l.none refl) in rw (t, d, test_zero seen.lower c) (sym p));
+  way_is = λ t. (let d = leads_none f false es (l.none refl) in rw (t, d, eq-eqb seen.lower 0 c) refl);
+  end_is = λ t. (let d = leads_none f false es (l.none refl) in rw (t, d, eq-eqb seen.lower 0 c) (sym p));
 }
 here_by b f levels place room (suc j) es more seen l g p c =
     let w : Leads b f levels place (0 + j) j es = l.some j refl in
@@ -98,7 +103,7 @@ here_by b f levels place room (suc j) es more seen l g p c =
     }
   where
     no_both : (n : ℕ) → n ≡ 0 → eqb n 0 ≡ false → ⊥
-    no_both n e t = let u = test_zero n e in absurd (cc)
+    no_both n e t = let u = eq-eqb n 0 e in absurd (cc)
 
 here_is : (b : List ℕ) (f levels place room : ℕ) (es : Entries) (more : Nodes) (seen : Spot) → AreTiles b 8 (length b) (tiles b) → IsTree b (suc levels) (node place room es more) → SeesNode b place f seen → Here b f levels place room es more seen
 here_is b f levels place room es more seen tiled t s = here_by b f levels place room seen.begun es more seen (node_led b f levels place room seen.begun es more tiled t s.begun) refl s.place_is s.lower_is
@@ -228,12 +233,8 @@ next_tree b f turn zero nodes best here tiled c n = absurd (no_levels b here.pla
 next_tree b f turn (suc levels) nodes best here tiled c n =
     let p = tree_parts b levels here.place c.room c.es c.more c.tree in
     let e : here.next ≡ link_to c.more = c.sees.next_is ∙ p.says.next_is in
-    let is : IsNode c.more = node_by c.more (λ z. n (e ∙ z)) in
+    let is = node_there c.more (λ z. n (e ∙ z)) in
     record { levels = suc levels; nodes = c.more; tiled = tiled; stands = (p.rest is).stands; is_node = is; link = e }
-  where
-    node_by : (ns : Nodes) → link_to ns ≢ 0 → IsNode ns
-    node_by no_node x = absurd (x refl)
-    node_by (node place room es more) x = tt
 
 chain_on : (b : List ℕ) (f turn levels : ℕ) (nodes : Nodes) (best here next : Spot) → AreTiles b 8 (length b) (tiles b) → (c : ChainAt b f turn (suc levels) nodes best here) → (place room : ℕ) (es : Entries) (more : Nodes) → c.more ≡ node place room es more → SeesNode b here.next f next
     → (0 < next.begun → ChainAt b f (turn + 1) (suc levels) nodes next next) × (next.begun ≡ 0 → ChainAt b f (turn + 1) (suc levels) nodes best next)
@@ -326,15 +327,10 @@ module _ (b : List ℕ) (f turn levels : ℕ) (nodes : Nodes) (best here next : 
 
 -- ---- fuel
 
-tiles_count : (b : List ℕ) (from upto : ℕ) (ts : List ℕ) → AreTiles b from upto ts → length ts + from ≤ upto
-tiles_count b from upto [] e = omega arith
-tiles_count b from upto (x ∷ ts) t = let w = t.1 in let q = tiles_count b (from + size_at b x) upto ts t.2 in omega arith
-
 pub few : (b : List ℕ) (levels : ℕ) (nodes : Nodes) → AreTiles b 8 (length b) (tiles b) → IsTree b levels nodes → length (nodes_of nodes) < length b
 few b levels nodes tiled t =
-    let le = length-le_from_distinct (nodes_of nodes) (tiles b) t.once (λ m j. nodes_stand b (tiles b) levels m nodes t.stands.has j) in
-    let n = tiles_count b 8 (length b) (tiles b) tiled in
-    omega arith
+    let le = length-le_from_distinct (nodes_of nodes) (tiles b) t.once (λ m j. linkable-in b (tiles b) vxr_type m (nodes_stand b (tiles b) levels nodes t.stands.has m j)) in
+    omega (arith, le, length_tiles b 8 (length b) (tiles b) tiled)
 
 pub spot_never : (b : List ℕ) (f turn levels : ℕ) (nodes : Nodes) (best here : Spot) → AreTiles b 8 (length b) (tiles b) → IsTree b levels nodes → ChainAt b f turn levels nodes best here → length b ≤ turn → ⊥
 spot_never b f turn levels nodes best here tiled t c le = let n = few b levels nodes tiled t in let l = c.left in absurd (omega arith)

@@ -2,7 +2,7 @@
 use Rattle.std.proofs.Common.{◌≡◌, ℕ, ℤ, pos, negsuc, zero, suc, List, [], ◌∷◌, ◌++◌, length, not, ◌&&◌, eqb, refl, sym, ap, subst, ◌∙◌, inl, inr}
 use Rattle.cdf_index.proofs.Common.{flat_map, record_number_limit, is_in, is_linkable, with_sign, number, IsGoodImage, Nodes, no_node, node, Entries, no_entry, block, lower, Leaf, nodes_of, leaves_of, end_of, is_block, leaf_rows, vxr_type, Hold, VariableShape, Shape, variables, Each, HasVariable, NodeFits, LeafFits, VariableFits, IsSound, AreTiles, tiles, number_before, either, Hold-split, Each-split, tiles_are, before_number, index_at, IsBlock, HasIndex, past_entries}
 use Rattle.cdf_format.specs.IndexOf.{IsIndex}
-use Rattle.cdf_format.specs.IndexRules.{nodes_rows, used_rows, met_rows, phase8}
+use Rattle.cdf_format.specs.IndexRules.{nodes_rows, used_rows, index_rows, met_rows, phase8}
 use Rattle.cdf_format.specs.IndexWalk.{Met, met, lost, nodes_met, nodes_on, levels_on}
 use Rattle.cdf_format.specs.Records.{vdr_vxr_head}
 use Rattle.cdf_format.specs.Rules.{Row}
@@ -66,6 +66,13 @@ index_at_is : (b : List ℕ) (upto vdr : ℕ) (nodes : Nodes) → AreTiles b 8 u
 unfolding levels_on
 index_at_is b upto vdr nodes t x = ap nodes_met (any_holder (levels_on 7 b (tiles b)) (length (tiles b)) b (tiles b) [] vdr 0 (number b vdr vdr_vxr_head) (nodes_of nodes) nodes (index_complete b (tiles b) upto vdr vdr_vxr_head nodes t x))
 
+-- the rules of its index hold
+pub index_ruled : (b : List ℕ) (s : Shape) (before : List VariableShape) (v : VariableShape) (after : List VariableShape) → IsGoodImage b s → variables s ≡ before ++ v ∷ after → Hold (index_rows b s.records v.vdr v.index)
+index_ruled b s before v after good all =
+    let has = (Each-split (HasVariable b s.records) before (v ∷ after) (subst (Each (HasVariable b s.records)) all good.has_shape.have_variables)).1.0 in
+    let found = index_complete b s.records (length b) v.vdr vdr_vxr_head v.index good.has_shape.tiled has.indexed in
+    subst (λ (m : Met Nodes). Hold (met_rows b s.records v.vdr m)) found (rows_of (λ vdr. met_rows b s.records vdr (index_of b s.records vdr)) before v after (subst (λ (x : List VariableShape). Hold (phase8 b s.records (vdrs x))) all good.phases.1.1.1.0))
+
 pub good_index : (b : List ℕ) (s : Shape) (before : List VariableShape) (v : VariableShape) (after : List VariableShape) → IsGoodImage b s → IsSound b s → variables s ≡ before ++ v ∷ after → HasIndex b (number b v.vdr vdr_vxr_head) × (index_at b (number b v.vdr vdr_vxr_head) ≡ v.index)
 good_index b s before v after good sound all =
     let h = good.has_shape in
@@ -75,9 +82,7 @@ good_index b s before v after good sound all =
     let fits = (Each-split (VariableFits b s.records) before (v ∷ after) (subst (Each (VariableFits b s.records)) all sound.variables_fit)).1.0 in
     let index : IsIndex b (tiles b) (number b v.vdr vdr_vxr_head) v.index = subst (λ (x : List ℕ). IsIndex b x (number b v.vdr vdr_vxr_head) v.index) (sym t) has.indexed in
     let same = index_at_is b (length b) v.vdr v.index tiled index in
-    let found = index_complete b s.records (length b) v.vdr vdr_vxr_head v.index h.tiled has.indexed in
-    let rows = subst (λ (m : Met Nodes). Hold (met_rows b s.records v.vdr m)) found (rows_of (λ vdr. met_rows b s.records vdr (index_of b s.records vdr)) before v after (subst (λ (x : List VariableShape). Hold (phase8 b s.records (vdrs x))) all good.phases.1.1.1.0)) in
-    let order = order_from b s.records 0 record_number_limit v.index (Hold-split (nodes_rows b s.records (negsuc 0) (pos record_number_limit) v.index) (flat_map (leaf_rows b s.records v.vdr) (leaves_of v.index)) rows).0 in (
+    let order = order_from b s.records 0 record_number_limit v.index (Hold-split (nodes_rows b s.records (negsuc 0) (pos record_number_limit) v.index) (flat_map (leaf_rows b s.records v.vdr) (leaves_of v.index)) (index_ruled b s before v after good all)).0 in (
       record {
         tiled = tiled;
         index = subst (λ (x : Nodes). IsIndex b (tiles b) (number b v.vdr vdr_vxr_head) x) (sym same) index;

@@ -1,37 +1,15 @@
 -- The entries of a node, of which so many begin at a record or before it: where they lead to.
-use Rattle.std.proofs.Common.{◌≡◌, ◌≢◌, ℕ, zero, suc, ◌+◌, ◌<◌, ◌≤◌, List, length, Bool, true, false, not, leb, eqb, refl, sym, ap, subst, ◌∙◌, arith, inl, inr}
-use Rattle.cdf_index.proofs.Common.{nat_tests, reaches, chain_reaches, leads_down, type_at, Nodes, no_node, Entries, no_entry, block, lower, leaf, entry_count, link_to, first_at, offset_at, SayEntries, IsNode, HasNodes, vxr_type, Each, AreTiles, Distinct, tiles, linkable-in, linkable-type, either, Distinct-front, Distinct-back, Each-split, tile_lies, chain_at, IsTree, IsBlock, IsOrderly, InOrder, down_at, way, spot}
+use Rattle.std.proofs.Common.{◌≡◌, ◌≢◌, ℕ, zero, suc, ◌+◌, ◌<◌, ◌≤◌, List, length, Bool, true, false, not, leb, eqb, refl, sym, ap, subst, ◌∙◌, arith}
+use Rattle.cdf_index.proofs.Common.{reaches, leads_down, type_at, Nodes, no_node, Entries, no_entry, block, lower, leaf, entry_count, link_to, first_at, offset_at, SayEntries, IsNode, HasNodes, vxr_type, Each, AreTiles, Distinct, tiles, linkable-in, linkable-type, Distinct-front, Distinct-back, Each-split, tile_lies, chain_at, IsTree, IsBlock, IsOrderly, down_at, way, spot}
 use Rattle.cdf_format.specs.Index.{nodes_of, lower_nodes, leaves_of, entry_leaves}
 use Rattle.cdf_format.specs.IndexOf.{Names}
 use Rattle.cdf_index.specs.Order.{AreInOrder}
 use Rattle.cdf_index.specs.Way.{way_below, spot_below}
 use Rattle.cdf_index.proofs.EntriesCut.{Parted, parted_rest}
-use Rattle.cdf_index.proofs.LeafMore.{reaches_from, chain_reaches_from}
+use Rattle.cdf_index.proofs.LeafMore.{not_reached, leads_none}
 use Rattle.cdf_index.proofs.Looking.{block_type, no_node_type, node_linkable}
 use Rattle.cdf_index.proofs.Walking.{chain_is, no_chain}
-
-pub not_reached : (f low high : ℕ) (es : Entries) → AreInOrder low high es → f < low → reaches f es ≡ false
-not_reached f low high es o lt = elim (either (reaches f es)) [ inl t ↦ absurd (omega (arith, reaches_from f low high es o t)) | inr t ↦ t ]
-
-pub chain_not_reached : (f low high : ℕ) (ns : Nodes) → InOrder low high ns → f < low → chain_reaches f ns ≡ false
-chain_not_reached f low high ns o lt = elim (either (chain_reaches f ns)) [ inl t ↦ absurd (omega (arith, chain_reaches_from f low high ns o t)) | inr t ↦ t ]
-
-pub leads_none : (f : ℕ) (g : Bool) (es : Entries) → reaches f es ≡ false → leads_down f g es ≡ g
-leads_none f g no_entry t = refl
-leads_none f g (block first last place packed es) t = elim (either (leb first f)) [ inl s ↦ let u : true ≡ false = rw s at t in absurd (cc) | inr s ↦ rw s refl ]
-leads_none f g (lower first last nodes es) t = elim (either (leb first f)) [ inl s ↦ let u : true ≡ false = rw s at t in absurd (cc) | inr s ↦ rw s refl ]
-
-test_le : (m n : ℕ) → m ≤ n → leb m n ≡ true
-test_le m n h = grind (arith, nat_tests)
-
-test_gt : (m n : ℕ) → n < m → leb m n ≡ false
-test_gt m n h = grind (arith, nat_tests)
-
-pub test_zero : (n : ℕ) → n ≡ 0 → eqb n 0 ≡ true
-test_zero n h = grind (arith, nat_tests)
-
-pub test_some : (n : ℕ) → n ≢ 0 → eqb n 0 ≡ false
-test_some n h = grind (arith, nat_tests)
+use Rattle.std.proofs.lemmas.Bool.{le-leb, lt-leb, eq-eqb, ne_eqb}
 
 -- the last of the entries passed, with number j, which is number i of the node
 pub record Leads (b : List ℕ) (f levels at i j : ℕ) (es : Entries) : Type 0 where
@@ -86,7 +64,7 @@ module _ (b : List ℕ) (f levels at : ℕ) (tiled : AreTiles b 8 (length b) (ti
         low = no_node;
         chain = c0;
         tree = λ x. absurd (x c0);
-        down = λ g. rw (le, test_zero (chain_at b at (k + 0)) c0) (leads_none f false es n);
+        down = λ g. rw (le, eq-eqb (chain_at b at (k + 0)) 0 c0) (leads_none f false es n);
         entry_is = λ x. absurd (x c0);
         way_is = λ x. absurd (x c0);
         spot_is = λ x. absurd (x c0);
@@ -117,7 +95,7 @@ module _ (b : List ℕ) (f levels at : ℕ) (tiled : AreTiles b 8 (length b) (ti
         low = nodes;
         chain = c0;
         tree = λ x. tree;
-        down = λ g. rw (le, test_some (chain_at b at (k + 0)) (λ q. some (sym c0 ∙ q))) (leads_none f true es n);
+        down = λ g. rw (le, ne_eqb (chain_at b at (k + 0)) 0 (λ q. some (sym c0 ∙ q))) (leads_none f true es n);
         entry_is = λ x. rw n refl;
         way_is = λ x. rw n refl;
         spot_is = λ x. rw n refl;
@@ -145,11 +123,11 @@ module _ (b : List ℕ) (f levels at : ℕ) (tiled : AreTiles b 8 (length b) (ti
       let past = rw z at (p.stop (omega arith)) in
       let gt : f < first = omega (arith, s.say.0.first_is) in
       let o1 = s.order.1 in
-      record { none = λ e. rw (test_gt first f gt) (not_reached f (suc last) high es s.order.3 (omega arith)); some = λ j e. absurd (omega arith) }
+      record { none = λ e. rw (lt-leb first f gt) (not_reached f (suc last) high es s.order.3 (omega arith)); some = λ j e. absurd (omega arith) }
   led k (suc m) low high (block first last place packed es) s p =
       let z : k + 0 ≡ k = omega arith in
       let by = rw z at (p.before 0 (omega arith)) in
-      let le : leb first f ≡ true = test_le first f (omega (arith, s.say.0.first_is)) in
+      let le : leb first f ≡ true = le-leb first f (omega (arith, s.say.0.first_is)) in
       let rest = led (suc k) m (suc last) high es (record { say = s.say.1; names = s.names.2; orderly = s.orderly; blocks = s.blocks.1; once = s.once; order = s.order.3 }) (parted_rest (λ j. first_at b at j ≤ f) (λ j. f < first_at b at j) k m (entry_count es) p) in
       record { none = λ e. absurd (omega arith); some = λ j e. block_leads k m j first last place packed es le (block_chain k first last place packed s.blocks.0 s.say.0.offset_is) rest (omega arith) }
   led k zero low high (lower first last nodes es) s p =
@@ -157,11 +135,11 @@ module _ (b : List ℕ) (f levels at : ℕ) (tiled : AreTiles b 8 (length b) (ti
       let past = rw z at (p.stop (omega arith)) in
       let gt : f < first = omega (arith, s.say.0.first_is) in
       let o1 = s.order.1 in
-      record { none = λ e. rw (test_gt first f gt) (not_reached f (suc last) high es s.order.4 (omega arith)); some = λ j e. absurd (omega arith) }
+      record { none = λ e. rw (lt-leb first f gt) (not_reached f (suc last) high es s.order.4 (omega arith)); some = λ j e. absurd (omega arith) }
   led k (suc m) low high (lower first last nodes es) s p =
       let z : k + 0 ≡ k = omega arith in
       let by = rw z at (p.before 0 (omega arith)) in
-      let le : leb first f ≡ true = test_le first f (omega (arith, s.say.0.first_is)) in
+      let le : leb first f ≡ true = le-leb first f (omega (arith, s.say.0.first_is)) in
       let fs = Each-split (IsOrderly b) (nodes_of nodes) (lower_nodes es) s.orderly in
       let bs = Each-split (IsBlock b) (leaves_of nodes) (entry_leaves es) s.blocks in
       let rest = led (suc k) m (suc last) high es (record { say = s.say.1; names = s.names.2; orderly = fs.1; blocks = bs.1; once = Distinct-back (nodes_of nodes) (lower_nodes es) s.once; order = s.order.4 }) (parted_rest (λ j. first_at b at j ≤ f) (λ j. f < first_at b at j) k m (entry_count es) p) in

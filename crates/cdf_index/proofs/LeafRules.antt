@@ -1,8 +1,8 @@
 -- An index with a leaf more keeps the rules: its entries are in order, its nodes have room for theirs, and each leaf has a block.
-use Rattle.std.proofs.Common.{◌≡◌, ℕ, ℤ, pos, negsuc, zero, suc, ◌+◌, ◌<◌, ◌≤◌, max, min, List, [], ◌∷◌, ◌++◌, Bool, true, false, Some, None, ltb, leb, eqb, refl, sym, ap, subst, ◌∙◌, arith, inl, inr}
-use Rattle.cdf_index.proofs.Common.{eqb-true, filter, flat_map, fold, -ℤ_one, find, nat_lt, ◌-ℤ◌, record_number_limit, range, covers, next_first, reaches, chain_reaches, leads_down, past, with_both, with_entry, with_sign, Nodes, no_node, node, Entries, no_entry, block, lower, Leaf, leaf, entry_count, is_block, end_of, leaf_rows, Hold, In, number_before, either, In-append_left, In-append_right, Hold-split, past_entries, before_number}
-use Rattle.std.proofs.lemmas.Bool.{ltb-false, leb-true, leb-false, le-leb, lt-ltb}
-use Rattle.std.specs.Prelude.{int_lt, ◌||◌}
+use Rattle.std.proofs.Common.{◌≡◌, ℕ, ℤ, pos, negsuc, zero, suc, ◌+◌, ◌<◌, ◌≤◌, max, min, List, [], ◌∷◌, ◌++◌, Bool, true, false, Some, None, ltb, leb, eqb, refl, sym, ap, subst, ◌∙◌, arith, inl, inr, true≢false}
+use Rattle.cdf_index.proofs.Common.{eqb-true, filter, flat_map, fold, find, nat_lt, record_number_limit, range, covers, next_first, reaches, chain_reaches, leads_down, past, with_both, with_entry, with_sign, Nodes, no_node, node, Entries, no_entry, block, lower, Leaf, leaf, entry_count, is_block, end_of, leaf_rows, Hold, In, number_before, either, In-append_left, In-append_right, Hold-split, past_entries, before_number, Each, Each-split}
+use Rattle.std.proofs.lemmas.Bool.{ltb-false, leb-true, leb-false, le-leb, lt-ltb, or_parts}
+use Rattle.std.specs.Prelude.{int_lt}
 use Rattle.cdf_edits.specs.Index.Blocks.{firsts_of, entry_firsts}
 use Rattle.cdf_edits.specs.Index.Grown.{with_block, with_leaf, with_lower}
 use Rattle.cdf_edits.proofs.Edits.LeafPieces.{IsOneOf}
@@ -12,41 +12,38 @@ use Rattle.cdf_format.specs.IndexRules.{has_room, is_between, nodes_rows, used_r
 use Rattle.cdf_format.proofs.RowLemmas.{Hold-append}
 use Rattle.cdf_index.specs.Order.{InOrder, AreInOrder}
 use Rattle.cdf_index.proofs.GoodIndex.{order_from}
-use Rattle.cdf_index.proofs.LeafMore.{chain_reaches_from, reaches_from}
+use Rattle.cdf_index.proofs.LeafMore.{chain_reaches_from, reaches_from, not_reached, none_reached, parts_in_order}
 use Rattle.cdf_index.proofs.OrderLemmas.{end_after}
-use Rattle.cdf_index.proofs.Saying.{front, front_past, upto_both, upto_is}
+use Rattle.cdf_index.proofs.Saying.{front, front_past, upto_both, upto_is, no_entries}
+use Rattle.cdf_edits.proofs.Edits.LeavesOrder.{before_is}
 
 -- ---- what a leaf may be added to
 
 -- no leaf has the record, and no entry begins past it up to a last one
+abbrev Misses : ℕ → Leaf → Type 0
+Misses f x = x.first ≤ f → x.last < f
+
 abbrev pub Uncovered : ℕ → List Leaf → Type 0
-Uncovered f [] = Unit {0}
-Uncovered f (x ∷ xs) = (x.first ≤ f → x.last < f) × Uncovered f xs
+Uncovered f xs = Each (Misses f) xs
+
+abbrev BeginsBehind : ℕ → ℕ → ℕ → Type 0
+BeginsBehind f last x = f < x → last < x
 
 abbrev pub NoneBegins : ℕ → ℕ → List ℕ → Type 0
-NoneBegins f last [] = Unit {0}
-NoneBegins f last (x ∷ xs) = (f < x → last < x) × NoneBegins f last xs
-
-uncovered_split : (f : ℕ) (xs ys : List Leaf) → Uncovered f (xs ++ ys) → Uncovered f xs × Uncovered f ys
-uncovered_split f [] ys u = (tt, u)
-uncovered_split f (x ∷ xs) ys u = let r = uncovered_split f xs ys u.1 in ((u.0, r.0), r.1)
-
-none_split : (f last : ℕ) (xs ys : List ℕ) → NoneBegins f last (xs ++ ys) → NoneBegins f last xs × NoneBegins f last ys
-none_split f last [] ys u = (tt, u)
-none_split f last (x ∷ xs) ys u = let r = none_split f last xs ys u.1 in ((u.0, r.0), r.1)
+NoneBegins f last xs = Each (BeginsBehind f last) xs
 
 pub uncovered_by : (f : ℕ) (xs : List Leaf) → find (λ (leaf : Leaf). covers f (range leaf.first leaf.last)) xs ≡ None → Uncovered f xs
 uncovered_by f [] e = tt
 uncovered_by f (x ∷ xs) e = elim (either (leb x.first f)) [
   | inl t ↦ elim (either (leb f x.last)) [
-    | inl u ↦ absurd (some_is_none (rw (t, u) at e))
+    | inl u ↦ absurd (none_is (rw (t, u) at e))
     | inr u ↦ (λ h. leb-false f x.last u, uncovered_by f xs (rw (t, u) at e))
   ]
   | inr t ↦ (λ h. (let g = leb-false x.first f t in absurd (omega arith)), uncovered_by f xs (rw t at e))
 ]
   where
-    some_is_none : {A : Type 0} {a : A} → Some a ≡ None → ⊥
-    some_is_none e = cc
+    none_is : {a : Leaf} → Some a ≡ None → ⊥
+    none_is e = cc
 
 pub least_below : (best : ℕ) (xs : List ℕ) → fold min best xs ≤ best
 least_below best [] = omega arith
@@ -90,40 +87,22 @@ unfolding InOrder
 widened low high high' no_node l o = tt
 widened low high high' (node place room es more) l o = (widened_entries low high high' es l o.0, widened (past_entries low es) high high' more l o.1)
 
-no_true : false ≡ true → ⊥
-no_true e = cc
-
-no_false : true ≡ false → ⊥
-no_false e = cc
-
-not_first : (f first : ℕ) (p : Bool) → (leb first f || p) ≡ false → f < first
-not_first f first p e = elim (either (leb first f)) [ inl t ↦ absurd (no_false (rw t at e)) | inr t ↦ leb-false first f t ]
-
 -- those that begin past a record also begin past the last one of a leaf
 pub raised_entries : (f last low low' high : ℕ) (es : Entries) → AreInOrder low high es → reaches f es ≡ false → NoneBegins f last (entry_firsts es) → low' ≤ max low (suc last) → AreInOrder low' high es
 unfolding AreInOrder entry_firsts
 raised_entries f last low low' high no_entry o r n l = tt
-raised_entries f last low low' high (block first last' place packed es) o r n l = let o0 = o.0 in let g = n.0 (not_first f first (reaches f es) r) in (omega arith, o.1, o.2, o.3)
-raised_entries f last low low' high (lower first last' nodes es) o r n l = let o0 = o.0 in let g = n.0 (not_first f first (reaches f es) r) in (omega arith, o.1, o.2, o.3, o.4)
+raised_entries f last low low' high (block first last' place packed es) o r n l = let g = n.0 (leb-false first f (or_parts (leb first f) (reaches f es) r).0) in (omega (arith, o.0), o.1, o.2, o.3)
+raised_entries f last low low' high (lower first last' nodes es) o r n l = let g = n.0 (leb-false first f (or_parts (leb first f) (reaches f es) r).0) in (omega (arith, o.0), o.1, o.2, o.3, o.4)
 
 pub raised : (f last low low' high : ℕ) (ns : Nodes) → InOrder low high ns → chain_reaches f ns ≡ false → NoneBegins f last (firsts_of ns) → low' ≤ max low (suc last) → InOrder low' high ns
 unfolding InOrder firsts_of
 raised f last low low' high no_node o r n l = tt
 raised f last low low' high (node place room es more) o r n l =
-    let s = none_split f last (entry_firsts es) (firsts_of more) n in
-    let here : reaches f es ≡ false = first_false (reaches f es) (chain_reaches f more) r in
-    let there : chain_reaches f more ≡ false = second_false (reaches f es) (chain_reaches f more) r in
+    let s = Each-split (BeginsBehind f last) (entry_firsts es) (firsts_of more) n in
+    let u = or_parts (reaches f es) (chain_reaches f more) r in
     let p = past_most low low' es in
     let e = end_after low high es o.0 in
-    (raised_entries f last low low' high es o.0 here s.0 l, raised f last (past_entries low es) (past_entries low' es) high more o.1 there s.1 (omega arith))
-  where
-    first_false : (p q : Bool) → (p || q) ≡ false → p ≡ false
-    first_false true q e = absurd (no_false e)
-    first_false false q e = refl
-
-    second_false : (p q : Bool) → (p || q) ≡ false → q ≡ false
-    second_false true q e = absurd (no_false e)
-    second_false false q e = e
+    (raised_entries f last low low' high es o.0 u.0 s.0 l, raised f last (past_entries low es) (past_entries low' es) high more o.1 u.1 s.1 (omega arith))
 
 -- ---- the entries of a node that begin at a record or before it, and the others
 
@@ -132,12 +111,6 @@ unfolding AreInOrder
 both_in_order low high no_entry fs o p = p
 both_in_order low high (block first last place packed es) fs o p = (o.0, o.1, o.2, both_in_order (suc last) high es fs o.3 p)
 both_in_order low high (lower first last nodes es) fs o p = (o.0, o.1, o.2, o.3, both_in_order (suc last) high es fs o.4 p)
-
-parts_in_order : (low high : ℕ) (es fs : Entries) → AreInOrder low high (with_both es fs) → AreInOrder low high es × AreInOrder (past_entries low es) high fs
-unfolding AreInOrder
-parts_in_order low high no_entry fs o = (tt, o)
-parts_in_order low high (block first last place packed es) fs o = let r = parts_in_order (suc last) high es fs o.3 in ((o.0, o.1, o.2, r.0), r.1)
-parts_in_order low high (lower first last nodes es) fs o = let r = parts_in_order (suc last) high es fs o.4 in ((o.0, o.1, o.2, o.3, r.0), r.1)
 
 -- where the last of them names a block, they end before the record
 front_ends : (f low high : ℕ) (given : Bool) (es : Entries) → AreInOrder low high es → leads_down f given es ≡ false → (given ≡ false → low ≤ f) → Uncovered f (entry_leaves es) → past_entries low (front f es) ≤ f
@@ -148,7 +121,7 @@ front_ends f low high given (block first last place packed es) o d g u = elim (e
   | inr t ↦ rw t (g (rw t at d))
 ]
 front_ends f low high given (lower first last nodes es) o d g u = elim (either (leb first f)) [
-  | inl t ↦ rw t (front_ends f (suc last) high true es o.4 (rw t at d) (λ e. absurd (no_false e)) (uncovered_split f (leaves_of nodes) (entry_leaves es) u).1)
+  | inl t ↦ rw t (front_ends f (suc last) high true es o.4 (rw t at d) (λ e. absurd (true≢false e)) (Each-split (Misses f) (leaves_of nodes) (entry_leaves es) u).1)
   | inr t ↦ rw t (g (rw t at d))
 ]
 
@@ -156,33 +129,7 @@ firsts_both : (f last : ℕ) (es fs : Entries) → NoneBegins f last (entry_firs
 unfolding entry_firsts
 firsts_both f last no_entry fs n = n
 firsts_both f last (block first last' place packed es) fs n = firsts_both f last es fs n.1
-firsts_both f last (lower first last' nodes es) fs n = firsts_both f last es fs (none_split f last (firsts_of nodes) (entry_firsts (with_both es fs)) n.1).1
-
-pub none_behind : (f first last high : ℕ) (es : Entries) → f < first → first ≤ last → AreInOrder (suc last) high es → reaches f es ≡ false
-none_behind f first last high es g l o = elim (either (reaches f es)) [
-  | inl t ↦ let r = reaches_from f (suc last) high es o t in absurd (omega arith)
-  | inr t ↦ t
-]
-
-none_reached : (f low high : ℕ) (es : Entries) → AreInOrder low high es → reaches f (past f es) ≡ false
-unfolding AreInOrder
-none_reached f low high no_entry o = refl
-none_reached f low high (block first last place packed es) o = elim (either (leb first f)) [
-  | inl t ↦ rw t (none_reached f (suc last) high es o.3)
-  | inr t ↦ let b = none_behind f first last high es (leb-false first f t) o.1 o.3 in rw t (rw t b)
-]
-none_reached f low high (lower first last nodes es) o = elim (either (leb first f)) [
-  | inl t ↦ rw t (none_reached f (suc last) high es o.4)
-  | inr t ↦ let b = none_behind f first last high es (leb-false first f t) o.1 o.4 in rw t (rw t b)
-]
-
-not_none : (n : ℕ) → suc n ≡ 0 → ⊥
-not_none n e = absurd (omega arith)
-
-none_left : (low : ℕ) (es : Entries) → eqb (entry_count es) 0 ≡ true → past_entries low es ≡ low
-none_left low no_entry t = refl
-none_left low (block first last place packed es) t = absurd (not_none (entry_count es) (eqb-true (suc (entry_count es)) 0 t))
-none_left low (lower first last nodes es) t = absurd (not_none (entry_count es) (eqb-true (suc (entry_count es)) 0 t))
+firsts_both f last (lower first last' nodes es) fs n = firsts_both f last es fs (Each-split (BeginsBehind f last) (firsts_of nodes) (entry_firsts (with_both es fs)) n.1).1
 
 order_with_entry : (new : Leaf) (at place room low high : ℕ) (es : Entries) (more : Nodes) → InOrder low high (node place room es more) → leads_down new.first false es ≡ false → chain_reaches new.first more ≡ false
     → low ≤ new.first → new.first ≤ new.last → new.last ≤ high → Uncovered new.first (entry_leaves es) → NoneBegins new.first new.last (entry_firsts es) → NoneBegins new.first new.last (firsts_of more) → InOrder low high (with_entry new at place room es more)
@@ -207,7 +154,7 @@ order_with_entry new at place room low high es more o d c l k h u n n' =
           rw (t, same) (both_in_order low high fr (with_block new bk) parts.0 (ends, k, h, back), rw past_all rest)
       | inr t ↦ elim (either (eqb (entry_count bk) 0)) [
         | inl z ↦
-            let none = none_left (past_entries low fr) bk z in
+            let none = ap (past_entries (past_entries low fr)) (no_entries bk (eqb-true (entry_count bk) 0 z)) in
             let last_ones = raised f new.last (past_entries low es) (suc new.last) high more o.1 c n' (omega arith) in
             rw (t, z) (o.0, ((omega arith, k, h, tt), last_ones))
         | inr z ↦
@@ -217,6 +164,9 @@ order_with_entry new at place room low high es more o d c l k h u n n' =
       ]
     ]
 
+pub none_behind : (f first last high : ℕ) (es : Entries) → f < first → first ≤ last → AreInOrder (suc last) high es → reaches f es ≡ false
+none_behind f first last high es g l o = not_reached f (suc last) high es o (omega arith)
+
 -- ---- the index
 
 mutual
@@ -225,13 +175,13 @@ mutual
   pub leaf_in_order : (new : Leaf) (at low high : ℕ) (index : Nodes) → InOrder low high index → low ≤ new.first → new.first ≤ new.last → new.last ≤ high → Uncovered new.first (leaves_of index) → NoneBegins new.first new.last (firsts_of index) → InOrder low high (with_leaf new at index)
   leaf_in_order new at low high no_node o l k h u n = ((l, k, h, tt), tt)
   leaf_in_order new at low high (node place room es more) o l k h u n =
-      let us = uncovered_split new.first (entry_leaves es) (leaves_of more) u in
-      let ns = none_split new.first new.last (entry_firsts es) (firsts_of more) n in
+      let us = Each-split (Misses new.first) (entry_leaves es) (leaves_of more) u in
+      let ns = Each-split (BeginsBehind new.first new.last) (entry_firsts es) (firsts_of more) n in
       elim (either (chain_reaches new.first more)) [
         | inl r ↦ rw r (o.0, leaf_in_order new at (past_entries low es) high more o.1 (chain_reaches_from new.first (past_entries low es) high more o.1 r) k h us.1 ns.1)
         | inr r ↦ elim (either (leads_down new.first false es)) [
           | inl d ↦
-              let p = lower_in_order new at low high false es o.0 d (λ e. absurd (no_true e)) k h us.0 ns.0 in
+              let p = lower_in_order new at low high false es o.0 d (λ e. absurd (true≢false (sym e))) k h us.0 ns.0 in
               rw (r, d) (p.0, raised new.first new.last (past_entries low es) (past_entries low (with_lower new at es)) high more o.1 r ns.1 p.1)
           | inr d ↦ rw (r, d) (order_with_entry new at place room low high es more o d r l k h us.0 ns.0 ns.1)
         ]
@@ -239,14 +189,14 @@ mutual
 
   pub lower_in_order : (new : Leaf) (at low high : ℕ) (given : Bool) (es : Entries) → AreInOrder low high es → leads_down new.first given es ≡ true → (given ≡ true → reaches new.first es ≡ true) → new.first ≤ new.last → new.last ≤ high
       → Uncovered new.first (entry_leaves es) → NoneBegins new.first new.last (entry_firsts es) → AreInOrder low high (with_lower new at es) × (past_entries low (with_lower new at es) ≤ max (past_entries low es) (suc new.last))
-  lower_in_order new at low high given no_entry o d g k h u n = absurd (no_true (g d))
+  lower_in_order new at low high given no_entry o d g k h u n = absurd (true≢false (sym (g d)))
   lower_in_order new at low high given (block first last place packed es) o d g k h u n = elim (either (leb first new.first)) [
-    | inl s ↦ let r = lower_in_order new at (suc last) high false es o.3 (rw s at d) (λ e. absurd (no_true e)) k h u.1 n.1 in ((o.0, o.1, o.2, r.0), r.1)
-    | inr s ↦ let is : given ≡ true = rw s at d in let b = none_behind new.first first last high es (leb-false first new.first s) o.1 o.3 in let w : reaches new.first es ≡ true = rw s at (g is) in absurd (no_true (sym b ∙ w))
+    | inl s ↦ let r = lower_in_order new at (suc last) high false es o.3 (rw s at d) (λ e. absurd (true≢false (sym e))) k h u.1 n.1 in ((o.0, o.1, o.2, r.0), r.1)
+    | inr s ↦ absurd (omega (arith, leb-false first new.first s, reaches_from new.first (suc last) high es o.3 (rw s at (g (rw s at d))), o.1))
   ]
   lower_in_order new at low high given (lower first last nodes es) o d g k h u n =
-      let us = uncovered_split new.first (leaves_of nodes) (entry_leaves es) u in
-      let ns = none_split new.first new.last (firsts_of nodes) (entry_firsts es) n.1 in
+      let us = Each-split (Misses new.first) (leaves_of nodes) (entry_leaves es) u in
+      let ns = Each-split (BeginsBehind new.first new.last) (firsts_of nodes) (entry_firsts es) n.1 in
       elim (either (leb first new.first)) [
         | inl s ↦ elim (either (reaches new.first es)) [
           | inl r ↦ let p = lower_in_order new at (suc last) high true es o.4 (rw s at d) (λ e. r) k h us.1 ns.1 in rw r ((o.0, o.1, o.2, o.3, p.0), p.1)
@@ -261,7 +211,7 @@ mutual
               let end = end_after (suc last) high es o.4 in
               rw r ((o.0, omega arith, omega arith, inner, rest), omega arith)
         ]
-        | inr s ↦ let is : given ≡ true = rw s at d in let b = none_behind new.first first last high es (leb-false first new.first s) o.1 o.4 in let w : reaches new.first es ≡ true = rw s at (g is) in absurd (no_true (sym b ∙ w))
+        | inr s ↦ absurd (omega (arith, leb-false first new.first s, reaches_from new.first (suc last) high es o.4 (rw s at (g (rw s at d))), o.1))
       ]
 
 pub order_with_leaf : (new : Leaf) (at : ℕ) (index : Nodes) → InOrder 0 record_number_limit index → new.first ≤ new.last → find (λ (leaf : Leaf). covers new.first (range leaf.first leaf.last)) (leaves_of index) ≡ None → new.last < next_first new.first (firsts_of index)
@@ -283,10 +233,6 @@ between_by low high first last m l k h =
     let q = le-leb first last k in
     let r = le-leb last high h in
     rw (a, b, p, q, r) refl
-
-before_is : (n : ℕ) → n ≤ record_number_limit → number_before n ≡ before_number n
-before_is zero m = ap (λ (z : ℤ). z -ℤ pos 1) (signed zero m)
-before_is (suc n) m = ap (λ (z : ℤ). z -ℤ pos 1) (signed (suc n) m) ∙ -ℤ_one (pos (suc n))
 
 one_left : (l : Leaf) (xs ys : List Leaf) → IsOneOf xs l → IsOneOf (xs ++ ys) l
 one_left l [] ys i = absurd i
@@ -321,7 +267,7 @@ module _ (b records : List ℕ) where
         let o1 = o.1 in
         let o2 = o.2 in
         let s = signed last (omega arith) in
-        let f = before_is first (omega arith) in
+        let f = before_is first (signed first (omega arith)) in
         let low_rules = rules_from first last nodes (omega arith) o.3 (λ k i. room k (In-append_left k (nodes_of nodes) (lower_nodes entries) i)) (λ l i. is l (one_left l (leaves_of nodes) (entry_leaves entries) i)) in
         let r = entries_rules_from vxr (suc last) high entries m o.4 (λ k i. room k (In-append_right k (nodes_of nodes) (lower_nodes entries) i)) (λ l i. is l (one_right l (leaves_of nodes) (entry_leaves entries) i)) in
         let here = subst (λ (z : ℤ). Hold (nodes_rows b records (number_before first) z nodes)) (sym s) (subst (λ (z : ℤ). Hold (nodes_rows b records z (pos last) nodes)) (sym f) low_rules) in

@@ -4,8 +4,8 @@ use Rattle.cdf_index.proofs.Common.{map-append, Nodes, no_node, node, link_to, n
 use Rattle.cdf_format.specs.IndexOf.{HasNodes}
 use Rattle.cdf_index.specs.Descent.{IsAmong, StepSays, step_pair}
 use Rattle.cdf_index.proofs.Ascending.{index_stands}
-use Rattle.cdf_index.proofs.Leading.{test_zero, test_some}
 use Rattle.cdf_index.proofs.WayDown.{AllIn, node_there_by, no_zero, spot_in, way_in}
+use Rattle.std.proofs.lemmas.Bool.{eq-eqb, ne_eqb}
 
 no_nodes : (b : List ℕ) (nodes : Nodes) → IsTree b 0 nodes → ⊥
 unfolding HasNodes
@@ -39,18 +39,18 @@ module _ (b : List ℕ) (head : ℕ) (has : HasIndex b head) (some : head ≢ 0)
   pub descend_start : (f : ℕ) (end : Spot) → ((levels : ℕ) (nodes : Nodes) → IsTree b levels nodes → head ≡ link_to nodes → SpotIs b f levels nodes end) → Descending b f 0 (index_at b head) [] end
   descend_start f end s = record { levels = 8; nodes = index_at b head; tree = index_tree; deep = omega arith; ends = s 8 (index_at b head) index_tree has.index.link_is; way_is = refl; end_is = refl; say = tt }
 
-module _ (b : List ℕ) (f turn : ℕ) (total : Nodes) (passed : List Step) (end : Spot) (d : Descending b f turn total passed end) where
+module _ {b : List ℕ} {f turn : ℕ} {total : Nodes} {passed : List Step} {end : Spot} (d : Descending b f turn total passed end) where
   pub next_level : AreTiles b 8 (length b) (tiles b) → end.lower ≢ 0 → SomeTree b end.lower
   next_level tiled n = record { levels = d.ends.down; nodes = d.ends.low; tiled = tiled; tree = d.ends.below n; link = d.ends.lower_is }
 
   pub way_done : end.lower ≡ 0 → map step_pair passed ≡ way f total
   way_done e =
-      let t = test_zero end.lower e in
+      let t = eq-eqb end.lower 0 e in
       let none : way f d.nodes ≡ [] = d.ends.way_is ∙ rw t refl in
       sym (d.way_is ∙ ap (λ (xs : List (ℕ × ℕ)). map step_pair passed ++ xs) none ∙ append-nil (map step_pair passed))
 
   pub end_done : end.lower ≡ 0 → end.place ≡ spot f total
-  end_done e = let t = test_zero end.lower e in let here : spot f d.nodes ≡ end.place = d.ends.end_is ∙ rw t refl in sym (d.end_is ∙ here)
+  end_done e = let t = eq-eqb end.lower 0 e in let here : spot f d.nodes ≡ end.place = d.ends.end_is ∙ rw t refl in sym (d.end_is ∙ here)
 
   pub last_among : AreTiles b 8 (length b) (tiles b) → end.lower ≡ 0 → In end.place (nodes_of total)
   last_among tiled e = elim (spot_in f total) [
@@ -67,16 +67,15 @@ module _ (b : List ℕ) (f turn : ℕ) (total : Nodes) (passed : List Step) (end
 
   pub descend_more : (step : Step) (next : Spot) → end.lower ≢ 0 → step.place ≡ end.place → step.entry ≡ end.begun - 1 → step.room ≡ end.room → ((levels : ℕ) (nodes : Nodes) → IsTree b levels nodes → end.lower ≡ link_to nodes → SpotIs b f levels nodes next) → Descending b f (turn + 1) total (passed ++ step ∷ []) next
   descend_more step next n p i r s =
-      let t = test_some end.lower n in
+      let t = ne_eqb end.lower 0 n in
       let here : way f d.nodes ≡ (end.place, end.begun - 1) ∷ way f d.ends.low = d.ends.way_is ∙ rw t refl in
       let mine : step_pair step ≡ (end.place, end.begun - 1) = ap (λ (x : ℕ). (x, step.entry)) p ∙ ap (λ (x : ℕ). (end.place, x)) i in
       let there : spot f d.nodes ≡ spot f d.ends.low = d.ends.end_is ∙ rw t refl in
-      let less = d.ends.fewer n in
       record {
         levels = d.ends.down;
         nodes = d.ends.low;
         tree = d.ends.below n;
-        deep = let e = d.deep in omega arith;
+        deep = omega (arith, d.deep, d.ends.fewer n);
         ends = s d.ends.down d.ends.low (d.ends.below n) d.ends.lower_is;
         way_is =
             d.way_is ∙ ap (λ (xs : List (ℕ × ℕ)). map step_pair passed ++ xs) (here ∙ ap (λ (x : ℕ × ℕ). x ∷ way f d.ends.low) (sym mine))

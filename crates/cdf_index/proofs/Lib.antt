@@ -31,3 +31,5 @@ pub mod TreeTouched
 pub mod WayDown
 pub mod LeafRules
 pub mod NodeFilled
+pub mod OneNode
+pub mod OneVariable

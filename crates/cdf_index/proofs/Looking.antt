@@ -1,11 +1,13 @@
 -- What is read at one node leads the search on.
-use Rattle.std.proofs.Common.{◌≡◌, ◌≢◌, ◌⊎◌, ℕ, zero, suc, ◌+◌, ◌*◌, ◌<◌, ◌≤◌, List, length, Bool, true, false, ◌||◌, ltb, eqb, refl, sym, ap, subst, ◌∙◌, arith, inl, inr, Option, Some, None, if◌then◌else◌}
-use Rattle.cdf_index.proofs.Common.{nat_tests, length-append, is_a, is_linkable, next_of, word, type_at, Nodes, no_node, node, Entries, no_entry, block, lower, Leaf, leaf, entry_count, link_to, room_at, used_count, first_at, last_at, offset_at, SayEntries, SaysNode, IsNode, vxr_type, cvvr_type, Each, In, AreTiles, tiles, is_a-in, linkable-in, linkable-type, either, Each-split, tile_lies, NamesIn, passed, IsBlock, IsOrderly, Stands, SomeNode, NodeInside, Onward}
+use Rattle.std.proofs.Common.{◌≡◌, ◌≢◌, ◌⊎◌, ℕ, zero, suc, ◌+◌, ◌*◌, ◌<◌, ◌≤◌, List, length, true, false, ltb, eqb, refl, sym, ap, subst, ◌∙◌, arith, inl, inr, Option, Some, None, if◌then◌else◌}
+use Rattle.cdf_index.proofs.Common.{nat_tests, length-append, is_a, is_linkable, next_of, word, type_at, Nodes, no_node, node, Entries, no_entry, block, lower, Leaf, leaf, entry_count, link_to, room_at, used_count, first_at, last_at, offset_at, SayEntries, SaysNode, IsNode, vxr_type, cvvr_type, Each, In, AreTiles, tiles, linkable-in, linkable-type, either, Each-split, tile_lies, NamesIn, passed, IsBlock, IsOrderly, Stands, SomeNode, NodeInside, Onward}
 use Rattle.cdf_format.specs.Index.{nodes_of, lower_nodes, leaves_of, entry_leaves}
 use Rattle.cdf_format.specs.IndexOf.{HasNodes, Names}
 use Rattle.cdf_format.specs.RecordTypes.{vvr_type}
-use Rattle.cdf_format.proofs.ChainsLemmas.{is_a-type}
+use Rattle.cdf_format.proofs.ChainsLemmas.{is_a-type, some_place}
 use Rattle.cdf_index.specs.Order.{find_in, find_entry, NextsAreZero, LowerAreZero}
+use Rattle.cdf_edits.proofs.Edits.MarkLemmas.{or_cases}
+use Rattle.cdf_format.proofs.Owning.{block_in as block_stands}
 
 -- without the first entries that end before a record
 abbrev pub rest : ℕ → Entries → Entries
@@ -151,16 +153,12 @@ look_nothing b rec (suc levels) i first (node place room entries more) st is s n
     let l = looked b rec levels place i room entries more st s in
     nothing_there b rec levels place i first entries l.left l.over (below_used i (used_count b place) (entry_count entries) ne s.most l.says.used_is) q h (find_in rec more)
 
-or_cases : (p q : Bool) → (p || q) ≡ true → (p ≡ true) ⊎ (q ≡ true)
-or_cases true q e = inl refl
-or_cases false q e = inr e
-
 -- a block is a VVR or a CVVR, and it stands in the image
 pub block_type : (b : List ℕ) (l : Leaf) → IsBlock b l → (type_at b l.place ≡ vvr_type) ⊎ (type_at b l.place ≡ cvvr_type)
 block_type b l e = elim (or_cases (is_a b (tiles b) vvr_type l.place) (is_a b (tiles b) cvvr_type l.place) e) [ inl p ↦ inl (is_a-type b (tiles b) vvr_type l.place p) | inr p ↦ inr (is_a-type b (tiles b) cvvr_type l.place p) ]
 
 pub block_in : (b : List ℕ) (l : Leaf) → IsBlock b l → In l.place (tiles b)
-block_in b l e = elim (or_cases (is_a b (tiles b) vvr_type l.place) (is_a b (tiles b) cvvr_type l.place) e) [ inl p ↦ is_a-in b (tiles b) vvr_type l.place p | inr p ↦ is_a-in b (tiles b) cvvr_type l.place p ]
+block_in b l e = block_stands b (tiles b) l.place e
 
 pub no_node_type : (t : ℕ) → (t ≡ vvr_type) ⊎ (t ≡ cvvr_type) → t ≡ 6 → ⊥
 no_node_type t (inl e) z = omega arith
@@ -289,6 +287,29 @@ node_orderly b at n = subst (λ (x : ℕ). IsOrderly b x) (sym n.link) (orderly_
 
 pub node_inside : (b : List ℕ) (at : ℕ) → SomeNode b at → NodeInside b at
 node_inside b at n = subst (λ (x : ℕ). NodeInside b x) (sym n.link) (inside_at b n.levels n.nodes n.tiled n.stands n.is_node)
+
+-- ---- the first node of a chain
+
+pub node_there : (ns : Nodes) → link_to ns ≢ 0 → IsNode ns
+node_there no_node ne = absurd (ne refl)
+node_there (node place room entries more) ne = tt
+
+pub none_there : (b : List ℕ) (levels : ℕ) (ns : Nodes) → AreTiles b 8 (length b) (tiles b) → HasNodes b (tiles b) levels ns → link_to ns ≡ 0 → ns ≡ no_node
+unfolding HasNodes
+none_there b levels no_node t h e = refl
+none_there b zero (node place room entries more) t h e = absurd h
+none_there b (suc levels) (node place room entries more) t h e = absurd (some_place b (tiles b) (length b) place t (linkable-in b (tiles b) vxr_type place h.0.linkable) e)
+
+pub a_level : (b : List ℕ) (levels : ℕ) (ns : Nodes) → IsNode ns → HasNodes b (tiles b) levels ns → 1 ≤ levels
+unfolding HasNodes
+a_level b levels no_node is h = absurd is
+a_level b zero (node place room entries more) is h = absurd h
+a_level b (suc levels) (node place room entries more) is h = omega arith
+
+pub one_node : (ns : Nodes) → IsNode ns → 1 ≤ length (nodes_of ns)
+unfolding nodes_of
+one_node no_node is = absurd is
+one_node (node place room entries more) is = omega arith
 
 -- ---- what code read
 

@@ -116,7 +116,7 @@ measured_is b head has short size e =
     let nodes = index_at b head in
     let all = measured empty nodes (record { leaves = omega arith; entries = omega arith; widest = omega arith }) in
     let few = few_in b has.tiled short 8 nodes has.index.has_nodes has.fits in
-    let over = few_nodes b head 0 has in
+    let over = few_nodes has in
     let leaves = leaves_few nodes in
     let wide = wide_enough nodes in
     e ∙ all ∙ size_is _ _ _ _ _ _ (omega arith) (omega arith) (omega arith)

@@ -1,12 +1,13 @@
 -- A node with one entry more, or it and a new node behind it, in the tree.
-use Rattle.std.proofs.Common.{◌≡◌, ℕ, suc, ◌+◌, ◌-◌, ◌*◌, ◌<◌, ◌≤◌, max, List, true, false, ltb, eqb, length, refl, sym, ap, subst, ◌∙◌, inl, inr, arith}
-use Rattle.cdf_index.proofs.Common.{nat_tests, upto, past, with_both, SameHeads, linkable_kept, Owed, is_linkable, Nodes, node, Entries, no_entry, Leaf, entry_count, link_to, room_at, used_count, SaysEntry, SayEntries, SaysNode, IsNode, vxr_type, either, placed, Inserted, Split}
+use Rattle.std.proofs.Common.{◌≡◌, ℕ, suc, ◌+◌, ◌-◌, ◌*◌, ◌<◌, ◌≤◌, max, List, true, ltb, eqb, length, refl, sym, ap, subst, ◌∙◌, inl, inr, arith}
+use Rattle.cdf_index.proofs.Common.{upto, past, with_both, SameHeads, linkable_kept, Owed, is_linkable, Nodes, node, Entries, no_entry, Leaf, entry_count, link_to, room_at, used_count, SaysEntry, SayEntries, SaysNode, IsNode, vxr_type, either, placed, Inserted, Split}
 use Rattle.cdf_edits.specs.Index.Grown.{with_block}
 use Rattle.cdf_format.specs.IndexOf.{HasNodes, Names}
 use Rattle.cdf_index.specs.Growing.{Begins, MayName}
 use Rattle.cdf_index.specs.Writing.{Chained}
 use Rattle.cdf_index.proofs.Inserting.{front_stays}
 use Rattle.cdf_index.proofs.Saying.{front, front_past, upto_both, upto_is, count_both, say_both, say_parts, names_both, names_parts, say_moved}
+use Rattle.std.proofs.lemmas.Bool.{lt-ltb, le-ltb, ne_eqb, eq-eqb}
 
 no_names : (now records : List ℕ) (levels : ℕ) → Names now records levels no_entry
 unfolding Names
@@ -41,25 +42,13 @@ parts b at f used p used_is begins es u s =
     let z : 0 + entry_count fr ≡ p = omega arith in
     record { front_count = omega arith; count = e ∙ sym u ∙ sym used_is; say_front = q.0; say_past = rw z at q.1 }
 
-test_true : (m n : ℕ) → m < n → ltb m n ≡ true
-test_true m n h = grind (arith, nat_tests)
-
-test_false : (m n : ℕ) → n ≤ m → ltb m n ≡ false
-test_false m n h = grind (arith, nat_tests)
-
-zero_true : (m : ℕ) → m ≡ 0 → eqb m 0 ≡ true
-zero_true m h = grind (arith, nat_tests)
-
-zero_false : (m : ℕ) → 0 < m → eqb m 0 ≡ false
-zero_false m h = grind (arith, nat_tests)
-
-placed_link : (l : Leaf) (new at room : ℕ) (es : Entries) (more : Nodes) → link_to (placed l new at room es more) ≡ at
+pub placed_link : (l : Leaf) (new at room : ℕ) (es : Entries) (more : Nodes) → link_to (placed l new at room es more) ≡ at
 placed_link l new at room es more = elim (either (ltb (entry_count es) room)) [
   | inl t ↦ rw t refl
   | inr t ↦ elim (either (eqb (entry_count (past l.first es)) 0)) [ inl u ↦ rw (t, u) refl | inr u ↦ rw (t, u) refl ]
 ]
 
-placed_node : (l : Leaf) (new at room : ℕ) (es : Entries) (more : Nodes) → IsNode (placed l new at room es more)
+pub placed_node : (l : Leaf) (new at room : ℕ) (es : Entries) (more : Nodes) → IsNode (placed l new at room es more)
 placed_node l new at room es more = elim (either (ltb (entry_count es) room)) [
   | inl t ↦ rw t tt
   | inr t ↦ elim (either (eqb (entry_count (past l.first es)) 0)) [ inl u ↦ rw (t, u) tt | inr u ↦ rw (t, u) tt ]
@@ -94,7 +83,7 @@ module _ (b now records records' : List ℕ) (heads : SameHeads b now records re
       let k = names_cut now records' levels l.first es n in
       let u = h.used_is in
       let rr = h.room_is in
-      let test = test_true (entry_count es) r (omega arith) in
+      let test = lt-ltb (entry_count es) r (omega arith) in
       let bk = past l.first es in
       rw test (node_has now records' levels at r (with_both (upto l es) bk) more (record {
         linkable = linkable_kept b now records records' heads vxr_type at h.linkable;
@@ -122,8 +111,8 @@ module _ (b now records records' : List ℕ) (heads : SameHeads b now records re
         let e = q.front_count in
         let u = h.used_is in
         let rr = h.room_is in
-        let test = test_false (entry_count es) r (omega arith) in
-        let some = zero_false (entry_count bk) (omega arith) in
+        let test = le-ltb (entry_count es) r (omega arith) in
+        let some = ne_eqb (entry_count bk) 0 (λ e. absurd (omega arith)) in
         let first = say_moved b now at at 0 0 fr q.say_front (λ j f o w lt says. sp.earlier (0 + j) (omega arith) f o w says) in
         let last = say_moved b now at new p 0 bk q.say_past (λ j f o w lt says. (let x : (p + j) - p ≡ 0 + j = omega arith in subst (λ (y : ℕ). SaysEntry now new y f o w) x (sp.moved (p + j) f o w (omega arith) (omega arith) says))) in
         let z : p ≡ 0 + entry_count fr = omega arith in
@@ -157,9 +146,9 @@ module _ (b now records records' : List ℕ) (heads : SameHeads b now records re
         let c = q.count in
         let u = h.used_is in
         let rr = h.room_is in
-        let test = test_false (entry_count es) r (omega arith) in
+        let test = le-ltb (entry_count es) r (omega arith) in
         let empty : entry_count bk ≡ 0 = omega arith in
-        let none = zero_true (entry_count bk) empty in
+        let none = eq-eqb (entry_count bk) 0 empty in
         rw (test, none) (node_has now records' levels at r es (node new (max 7 (entry_count bk)) (with_block l no_entry) more) (record {
           linkable = linkable_kept b now records records' heads vxr_type at h.linkable;
           next_is = ch.next_is;

@@ -1,8 +1,9 @@
 -- A full node and a new one behind it, in the bytes: what was written of both makes the split.
-use Rattle.std.proofs.Common.{◌≡◌, ℕ, ◌+◌, ◌-◌, ◌*◌, ◌/◌, ◌<◌, ◌≤◌, max, List, length, sym, ap, subst, ◌∙◌, arith}
-use Rattle.cdf_index.proofs.Common.{min, Kept, next_of, counted, number, size_at, room_at, used_count, SaysEntry, vxr_n_used_entries, vxr_first, vxr_last, vxr_offset, entry_in, StillSays, NodeWritten, EntriesRead, Shortened, Split, Entry}
-use Rattle.cdf_format.specs.Records.{vxr_n_entries}
-use Rattle.cdf_format.proofs.BytesLemmas.{number_kept, integer_kept, size_kept, next_kept}
+use Rattle.std.proofs.Common.{◌≡◌, ℕ, ◌+◌, ◌-◌, ◌*◌, ◌<◌, ◌≤◌, max, List, length, sym, subst, ◌∙◌, arith, [], ◌∷◌}
+use Rattle.cdf_index.proofs.Common.{Kept, next_of, size_at, room_at, used_count, SaysEntry, entry_in, StillSays, NodeWritten, EntriesRead, Shortened, Split, Entry, NodeFits}
+use Rattle.cdf_format.proofs.BytesLemmas.{next_kept}
+use Rattle.cdf_edits.proofs.Frame.LinksStay.{room_same, used_same, entry_same}
+use Rattle.cdf_index.proofs.OneNode.{one_head}
 
 -- ---- a node whose record stays
 
@@ -12,35 +13,18 @@ record SameNode (b now : List ℕ) (m : ℕ) : Type 0 where
   pub next_is : next_of now m ≡ next_of b m
   pub entries : (j : ℕ) → j < room_at b m → StillSays b now m j j
 
-same_node : (b now : List ℕ) (m : ℕ) → Kept b now m → 28 + 16 * room_at b m ≤ size_at b m → SameNode b now m
+same_node : (b now : List ℕ) (m : ℕ) → Kept b now m → NodeFits b m → SameNode b now m
 same_node b now m k fits =
-    let long : 28 ≤ size_at b m = enough (room_at b m) (size_at b m) fits in
-    let r : room_at now m ≡ room_at b m = number_kept b now m k.same vxr_n_entries (omega arith) in
-    let u = integer_kept b now m k.same vxr_n_used_entries (omega arith) in
-    let n = integer_kept b now m k.same vxr_n_entries (omega arith) in
-    let s = size_kept b now m k.same (omega arith) in
+    let h = one_head b now m k in
     record {
-      room_is = r;
-      used_is = λ i. min (counted (u i)) (min (counted (n i)) ((s i - 28) / 16));
-      next_is = next_kept b now m k.same (omega arith);
-      entries = λ j lt f l o e. record {
-        first_is = number_kept b now m k.same (vxr_first j) (first_fits j (room_at b m) (size_at b m) lt fits) ∙ e.first_is;
-        last_is = ap (λ (x : ℕ). number now m (vxr_last x j)) r ∙ number_kept b now m k.same (vxr_last (room_at b m) j) (last_fits j (room_at b m) (size_at b m) lt fits) ∙ e.last_is;
-        offset_is = ap (λ (x : ℕ). number now m (vxr_offset x j)) r ∙ number_kept b now m k.same (vxr_offset (room_at b m) j) (offset_fits j (room_at b m) (size_at b m) lt fits) ∙ e.offset_is;
-      };
+      room_is = room_same b now (m ∷ []) (m ∷ []) h m k fits;
+      used_is = used_same b now (m ∷ []) (m ∷ []) h m k fits;
+      next_is = next_kept b now m k.same (long (room_at b m) (size_at b m) fits.0);
+      entries = λ j lt f l o e. entry_same b now (m ∷ []) (m ∷ []) h m k fits j f l o lt e;
     }
   where
-    enough : (r s : ℕ) → 28 + 16 * r ≤ s → 28 ≤ s
-    enough r s h = omega arith
-
-    first_fits : (i r s : ℕ) → i < r → 28 + 16 * r ≤ s → 28 + 4 * i + 4 ≤ s
-    first_fits i r s l h = omega arith
-
-    last_fits : (i r s : ℕ) → i < r → 28 + 16 * r ≤ s → 28 + 4 * r + 4 * i + 4 ≤ s
-    last_fits i r s l h = omega arith
-
-    offset_fits : (i r s : ℕ) → i < r → 28 + 16 * r ≤ s → 28 + 8 * r + 8 * i + 8 ≤ s
-    offset_fits i r s l h = omega arith
+    long : (r s : ℕ) → 28 + 16 * r ≤ s → 20 ≤ s
+    long r s h = omega arith
 
 -- what two sayings of one entry have in common
 module _ (b : List ℕ) (at i f l o f' l' o' : ℕ) (s : SaysEntry b at i f l o) (t : SaysEntry b at i f' l' o') where
@@ -57,16 +41,13 @@ module _ (b : List ℕ) (at i f l o f' l' o' : ℕ) (s : SaysEntry b at i f l o)
 
 module _ (b made now : List ℕ) (at new room next used p first last offset : ℕ) (entries : List Entry)
     (full_stays : Kept b made at) (new_stays : Kept made now new)
-    (fits : 28 + 16 * room_at b at ≤ size_at b at) (most : used ≤ room_at b at) (below : used - p ≤ room)
+    (fits : NodeFits b at) (most : used ≤ room_at b at) (below : used - p ≤ room)
     (w : NodeWritten b made new room next entries) (r : EntriesRead b at p used entries) (next_is : next ≡ next_of b at) where
   at_made : SameNode b made at
   at_made = same_node b made at full_stays fits
 
-  new_fits : 28 + 16 * room_at made new ≤ size_at made new
-  new_fits = w.inside.entries
-
   new_now : SameNode made now new
-  new_now = same_node made now new new_stays new_fits
+  new_now = same_node made now new new_stays (w.inside.entries, w.inside.fits)
 
   many : length entries ≡ used - p
   many = let m = r.many in omega arith

@@ -1,21 +1,19 @@
 -- The leaf that has a record, found on the way down.
 use Rattle.std.proofs.Common.{◌≡◌, ℕ, suc, ◌<◌, ◌≤◌, List, [], ◌∷◌, ◌++◌, true, false, ltb, append_assoc, refl, sym, ◌∙◌, arith, inl, inr, Option, None}
-use Rattle.cdf_index.proofs.Common.{nat_tests, Nodes, no_node, node, Entries, no_entry, block, lower, Leaf, either, past_entries, leaf_of}
+use Rattle.cdf_index.proofs.Common.{nat_tests, Nodes, no_node, node, Entries, no_entry, block, lower, Leaf, either, past_entries, leaf_of, Each, Each-append}
 use Rattle.cdf_format.specs.Index.{leaves_of, entry_leaves}
 use Rattle.cdf_index.specs.Order.{InOrder, AreInOrder, find_in, find_entry}
+use Rattle.cdf_edits.proofs.Edits.VariableFrame.{Each-map}
 
 -- each of the leaves has records from low to high alone
+abbrev pub InRange : ℕ → ℕ → Leaf → Type 0
+InRange low high x = (low ≤ x.first) × (x.first ≤ x.last) × (x.last ≤ high)
+
 abbrev pub Within : ℕ → ℕ → List Leaf → Type 0
-Within low high [] = Unit {0}
-Within low high (x ∷ xs) = (low ≤ x.first) × (x.first ≤ x.last) × (x.last ≤ high) × Within low high xs
+Within low high xs = Each (InRange low high) xs
 
-pub within_append : (low high : ℕ) (xs ys : List Leaf) → Within low high xs → Within low high ys → Within low high (xs ++ ys)
-within_append low high [] ys v w = w
-within_append low high (x ∷ xs) ys v w = (v.0, v.1, v.2, within_append low high xs ys v.3 w)
-
-pub within_more : (low high low' high' : ℕ) (xs : List Leaf) → Within low high xs → low' ≤ low → high ≤ high' → Within low' high' xs
-within_more low high low' high' [] w l h = tt
-within_more low high low' high' (x ∷ xs) w l h = let w0 = w.0 in let w2 = w.2 in (omega arith, w.1, omega arith, within_more low high low' high' xs w.3 l h)
+within_more : (low high low' high' : ℕ) (xs : List Leaf) → Within low high xs → low' ≤ low → high ≤ high' → Within low' high' xs
+within_more low high low' high' xs w l h = Each-map (InRange low high) (InRange low' high') (λ x i. (omega (arith, i.0), i.1, omega (arith, i.2))) xs w
 
 mutual
   unfolding InOrder AreInOrder leaves_of entry_leaves
@@ -23,19 +21,16 @@ mutual
   pub leaves_within : (low high : ℕ) (nodes : Nodes) → InOrder low high nodes → Within low high (leaves_of nodes)
   leaves_within low high no_node o = tt
   leaves_within low high (node place room entries more) o =
-      within_append low high (entry_leaves entries) (leaves_of more) (entries_within low high entries o.0) (within_more (past_entries low entries) high low high (leaves_of more) (leaves_within (past_entries low entries) high more o.1) (end_after low high entries o.0) (omega arith))
+      Each-append (InRange low high) (entry_leaves entries) (leaves_of more) (entries_within low high entries o.0) (within_more (past_entries low entries) high low high (leaves_of more) (leaves_within (past_entries low entries) high more o.1) (end_after low high entries o.0) (omega arith))
 
   pub entries_within : (low high : ℕ) (entries : Entries) → AreInOrder low high entries → Within low high (entry_leaves entries)
   entries_within low high no_entry o = tt
   entries_within low high (block first last place packed entries) o =
-      let o0 = o.0 in let o1 = o.1 in (o.0, o.1, o.2, within_more (suc last) high low high (entry_leaves entries) (entries_within (suc last) high entries o.3) (omega arith) (omega arith))
+      ((o.0, o.1, o.2), within_more (suc last) high low high (entry_leaves entries) (entries_within (suc last) high entries o.3) (omega (arith, o.0, o.1)) (omega arith))
   entries_within low high (lower first last nodes entries) o =
-      let o0 = o.0 in
-      let o1 = o.1 in
-      let o2 = o.2 in
-      within_append low high (leaves_of nodes) (entry_leaves entries)
-      (within_more first last low high (leaves_of nodes) (leaves_within first last nodes o.3) o0 o2)
-      (within_more (suc last) high low high (entry_leaves entries) (entries_within (suc last) high entries o.4) (omega arith) (omega arith))
+      Each-append (InRange low high) (leaves_of nodes) (entry_leaves entries)
+      (within_more first last low high (leaves_of nodes) (leaves_within first last nodes o.3) o.0 o.2)
+      (within_more (suc last) high low high (entry_leaves entries) (entries_within (suc last) high entries o.4) (omega (arith, o.0, o.1)) (omega arith))
 
   pub end_after : (low high : ℕ) (entries : Entries) → AreInOrder low high entries → low ≤ past_entries low entries
   end_after low high no_entry o = omega arith
@@ -45,11 +40,11 @@ mutual
 -- leaves before a record, and leaves past it, do not have it
 pub leaf_behind : (rec low high : ℕ) (xs ys : List Leaf) → Within low high xs → high < rec → leaf_of rec (xs ++ ys) ≡ leaf_of rec ys
 leaf_behind rec low high [] ys w h = refl
-leaf_behind rec low high (x ∷ xs) ys w h = let r = leaf_behind rec low high xs ys w.3 h in let w2 = w.2 in grind (arith, nat_tests)
+leaf_behind rec low high (x ∷ xs) ys w h = let r = leaf_behind rec low high xs ys w.1 h in let w2 = w.0.2 in grind (arith, nat_tests)
 
 pub no_leaf : (rec low high : ℕ) (xs : List Leaf) → Within low high xs → rec < low → leaf_of rec xs ≡ None
 no_leaf rec low high [] w h = refl
-no_leaf rec low high (x ∷ xs) w h = let r = no_leaf rec low high xs w.3 h in let w0 = w.0 in grind (arith, nat_tests)
+no_leaf rec low high (x ∷ xs) w h = let r = no_leaf rec low high xs w.1 h in let w0 = w.0.0 in grind (arith, nat_tests)
 
 pub leaf_before : (rec low high : ℕ) (xs ys : List Leaf) → Within low high ys → rec < low → leaf_of rec (xs ++ ys) ≡ leaf_of rec xs
 leaf_before rec low high [] ys w h = no_leaf rec low high ys w h
@@ -63,7 +58,7 @@ ge_of m n t = grind (arith, nat_tests)
 
 -- what comes behind entries, with them
 behind : (low high : ℕ) (entries : Entries) (zs : List Leaf) → AreInOrder low high entries → Within (past_entries low entries) high zs → Within low high (entry_leaves entries ++ zs)
-behind low high entries zs o w = let e = end_after low high entries o in within_append low high (entry_leaves entries) zs (entries_within low high entries o) (within_more (past_entries low entries) high low high zs w e (omega arith))
+behind low high entries zs o w = let e = end_after low high entries o in Each-append (InRange low high) (entry_leaves entries) zs (entries_within low high entries o) (within_more (past_entries low entries) high low high zs w e (omega arith))
 
 mutual
   unfolding InOrder AreInOrder leaves_of entry_leaves find_in find_entry

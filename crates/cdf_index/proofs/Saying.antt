@@ -1,9 +1,10 @@
 -- The entries of a node, and what it says of them, taken apart and put together.
-use Rattle.std.proofs.Common.{◌≡◌, ℕ, suc, ◌+◌, ◌<◌, List, leb, refl, ap, sym, ◌∙◌, arith, inl, inr}
+use Rattle.std.proofs.Common.{◌≡◌, ℕ, suc, ◌+◌, ◌<◌, List, leb, refl, ap, sym, ◌∙◌, arith, inl, inr, ◌++◌, append_assoc}
 use Rattle.cdf_index.proofs.Common.{if◌then◌else◌, upto, past, with_both, Entries, no_entry, block, lower, Leaf, entry_count, link_to, SaysEntry, SayEntries, either}
 use Rattle.std.specs.Prelude.{nat_le}
 use Rattle.cdf_edits.specs.Index.Grown.{with_block}
 use Rattle.cdf_format.specs.IndexOf.{Names}
+use Rattle.cdf_format.specs.Index.{nodes_of, lower_nodes}
 
 -- the entries that begin at a record or before it
 abbrev pub front : ℕ → Entries → Entries
@@ -33,6 +34,17 @@ pub count_both : (es fs : Entries) → entry_count (with_both es fs) ≡ entry_c
 count_both no_entry fs = omega arith
 count_both (block first last place packed es) fs = let r = count_both es fs in omega arith
 count_both (lower first last nodes es) fs = let r = count_both es fs in omega arith
+
+pub lower_both : (es fs : Entries) → lower_nodes (with_both es fs) ≡ lower_nodes es ++ lower_nodes fs
+unfolding nodes_of lower_nodes
+lower_both no_entry fs = refl
+lower_both (block first last place packed es) fs = lower_both es fs
+lower_both (lower first last nodes es) fs = ap (λ (xs : List ℕ). nodes_of nodes ++ xs) (lower_both es fs) ∙ sym (append_assoc (nodes_of nodes) (lower_nodes es) (lower_nodes fs))
+
+pub no_entries : (es : Entries) → entry_count es ≡ 0 → es ≡ no_entry
+no_entries no_entry e = refl
+no_entries (block first last place packed es) e = absurd (omega arith)
+no_entries (lower first last nodes es) e = absurd (omega arith)
 
 pub say_both : (b : List ℕ) (at i : ℕ) (es fs : Entries) → SayEntries b at i es → SayEntries b at (i + entry_count es) fs → SayEntries b at i (with_both es fs)
 say_both b at i no_entry fs s t = let z : i + 0 ≡ i = omega arith in rw z at t

@@ -1,6 +1,6 @@
 -- The search for the next First, from node to node.
 use Rattle.std.proofs.Common.{◌≡◌, ◌≢◌, ℕ, zero, suc, ◌+◌, ◌<◌, ◌≤◌, List, ◌++◌, length, true, false, ltb, eqb, leb, append-nil, refl, sym, ap, subst, ◌∙◌, arith, Option, Some, None}
-use Rattle.cdf_index.proofs.Common.{nat_tests, length-append, next_first, next_of, type_at, Nodes, no_node, node, Entries, no_entry, block, lower, leaf, entry_count, link_to, used_count, first_at, offset_at, SayEntries, IsNode, vxr_type, Each, AreTiles, tiles, linkable-in, linkable-type, Each-split, tile_lies, record_number_limit, Begun, chain_at, chain_before, IsWalk, index_at, HasIndex, IsBlock, IsOrderly, Stands, SomeNode, least_from, past_entries}
+use Rattle.cdf_index.proofs.Common.{nat_tests, length-append, next_first, next_of, type_at, Nodes, no_node, node, Entries, no_entry, block, lower, leaf, entry_count, link_to, used_count, first_at, offset_at, SayEntries, IsNode, vxr_type, Each, AreTiles, tiles, linkable-type, Each-split, record_number_limit, Begun, chain_at, chain_before, IsWalk, index_at, HasIndex, IsBlock, IsOrderly, Stands, SomeNode, least_from, past_entries}
 use Rattle.cdf_edits.specs.Index.Blocks.{firsts_of, entry_firsts}
 use Rattle.cdf_format.specs.Index.{nodes_of, lower_nodes, leaves_of, entry_leaves}
 use Rattle.cdf_format.specs.IndexOf.{HasNodes, Names}
@@ -8,7 +8,7 @@ use Rattle.cdf_index.specs.Next.{number_within, least_first_past}
 use Rattle.cdf_index.specs.Order.{InOrder, AreInOrder, NextsAreZero, LowerAreZero}
 use Rattle.cdf_index.specs.declared.next.Walk.{Walk}
 use Rattle.cdf_index.proofs.Ascending.{index_stands}
-use Rattle.cdf_index.proofs.Looking.{block_type, no_node_type, node_linkable}
+use Rattle.cdf_index.proofs.Looking.{block_type, no_node_type, node_linkable, node_there, none_there, a_level, one_node}
 use Rattle.cdf_index.proofs.NextLemmas.{Between, block_passed, lower_passed, block_decides, lower_decides, firsts_between, between_more}
 use Rattle.cdf_index.proofs.OrderLemmas.{end_after}
 use Rattle.cdf_index.proofs.Searching.{few_nodes}
@@ -202,13 +202,6 @@ pub record Turned (b : List ℕ) (rec : ℕ) (nodes : Nodes) (turn best at under
   pub fewer : length (nodes_of low) + length (nodes_of more) + (turn + 1) ≤ length (nodes_of nodes)
   pub zero : NextsAreZero nodes → NextsAreZero low × (more ≡ no_node) × (levels + (turn + 1) ≤ 8)
 
-none_of : (b : List ℕ) (levels : ℕ) (nodes : Nodes) → AreTiles b 8 (length b) (tiles b) → Stands b levels nodes → link_to nodes ≡ 0 → nodes ≡ no_node
-unfolding HasNodes
-none_of b levels no_node d st e = refl
-none_of b zero (node at room entries more) d st e = absurd st.has
-none_of b (suc levels) (node at room entries more) d st e =
-    let lies = tile_lies b 8 (length b) (tiles b) at d (linkable-in b (tiles b) vxr_type at st.has.0.linkable) in absurd (omega (arith, lies.low))
-
 chain_from : (b : List ℕ) (at under i link : ℕ) → (i ≡ 0 → link ≡ under) → ((j : ℕ) → i ≡ suc j → chain_at b at (0 + j) ≡ link) → chain_before b at under i ≡ link
 chain_from b at under zero link start chain = sym (start refl)
 chain_from b at under (suc j) link start chain = let z : 0 + j ≡ j = omega arith in rw z at (chain j refl)
@@ -334,7 +327,7 @@ module _ (b : List ℕ) (rec : ℕ) (nodes : Nodes) (turn : ℕ) (walk : Walk) (
   unfolding firsts_of
   walk_below d some g e next under le =
       let t = turned some g in
-      let none = none_of b t.more_levels t.more d t.more_stands (sym t.next_is ∙ next) in
+      let none = none_there b t.more_levels t.more d t.more_stands.has (sym t.next_is ∙ next) in
       let lm = t.low_most in
       let past = t.past in
       walk_down t walk.best w.best under w.best_is le (omega arith) (ap (least_from rec w.best) (sym (append-nil (firsts_of t.low))) ∙ ap (λ (x : Nodes). least_from rec w.best (firsts_of t.low ++ firsts_of x)) (sym none) ∙ t.passed e)
@@ -373,11 +366,8 @@ module _ (b : List ℕ) (rec : ℕ) (nodes : Nodes) (turn : ℕ) (walk : Walk) (
 
 -- ---- the walk over an index
 
-module _ (b : List ℕ) (head rec : ℕ) (has : HasIndex b head) where
-  abbrev pub WalkOf : ℕ → Walk → Type 0
-  WalkOf turn walk = IsWalk b rec (index_at b head) turn walk
-
-  pub walk_start : WalkOf 0 (record { best = None; at = head; lower = 0 })
+module _ {b : List ℕ} {head rec : ℕ} (has : HasIndex b head) where
+  pub walk_start : IsWalk b rec (index_at b head) 0 (record { best = None; at = head; lower = 0 })
   unfolding nodes_of firsts_of InOrder HasNodes leaves_of
   walk_start =
       record {
@@ -407,42 +397,30 @@ module _ (b : List ℕ) (head rec : ℕ) (has : HasIndex b head) where
         zero = λ z. (z, refl, omega arith);
       }
 
-  module _ (turn : ℕ) (walk : Walk) (w : WalkOf turn walk) where
+  module _ {turn : ℕ} {walk : Walk} (w : IsWalk b rec (index_at b head) turn walk) where
     pub walk_over : length b ≤ turn → ⊥
-    walk_over le = few_nodes b head rec has (omega (arith, w.fewer))
+    walk_over le = few_nodes has (omega (arith, w.fewer))
 
     pub walk_end : walk.at ≡ 0 → walk.best ≡ least_first_past rec (index_at b head)
     unfolding firsts_of
     walk_end e =
-        let none = none_of b w.levels w.left has.tiled w.stands (sym w.link_is ∙ e) in
-        let none_low = none_of b w.low_levels w.low has.tiled w.low_stands (sym w.lower_is ∙ w.ended e) in
+        let none = none_there b w.levels w.left has.tiled w.stands.has (sym w.link_is ∙ e) in
+        let none_low = none_there b w.low_levels w.low has.tiled w.low_stands.has (sym w.lower_is ∙ w.ended e) in
         let same : w.best ≡ next_first rec (firsts_of (index_at b head)) = rw (none, none_low) at w.same in
         w.best_is ∙ ap number_within same
 
     module _ (some : walk.at ≢ 0) where
-      there : (ns : Nodes) → link_to ns ≢ 0 → IsNode ns
-      there no_node ne = absurd (ne refl)
-      there (node place room entries more) ne = tt
-
-      one : (ns : Nodes) → IsNode ns → 1 ≤ length (nodes_of ns)
-      unfolding nodes_of
-      one no_node is = absurd is
-      one (node place room entries more) is = omega arith
+      is_node : IsNode w.left
+      is_node = node_there w.left (λ z. some (w.link_is ∙ z))
 
       pub walk_node : SomeNode b walk.at
-      walk_node = record { levels = w.levels; nodes = w.left; tiled = has.tiled; stands = w.stands; is_node = there w.left (λ z. some (w.link_is ∙ z)); link = w.link_is }
+      walk_node = record { levels = w.levels; nodes = w.left; tiled = has.tiled; stands = w.stands; is_node = is_node; link = w.link_is }
 
       pub walk_cost : turn + 1 ≤ length (nodes_of (index_at b head))
-      walk_cost = let o = one w.left (there w.left (λ z. some (w.link_is ∙ z))) in omega (arith, w.fewer)
-
-      level : (levels : ℕ) (ns : Nodes) → IsNode ns → HasNodes b (tiles b) levels ns → 1 ≤ levels
-      unfolding HasNodes
-      level levels no_node is h = absurd is
-      level zero (node place room entries more) is h = absurd h
-      level (suc levels) (node place room entries more) is h = omega arith
+      walk_cost = omega (arith, one_node w.left is_node, w.fewer)
 
       pub walk_cost_zero : NextsAreZero (index_at b head) → turn + 1 ≤ 8
-      walk_cost_zero z = let l = level w.levels w.left (there w.left (λ y. some (w.link_is ∙ y))) w.stands.has in let d = (w.zero z).2 in omega arith
+      walk_cost_zero z = omega (arith, a_level b w.levels w.left is_node w.stands.has, (w.zero z).2)
 
     pub walk_cost_end_zero : NextsAreZero (index_at b head) → turn ≤ 8
     walk_cost_end_zero z = let d = (w.zero z).2 in omega arith

@@ -1,18 +1,20 @@
 -- An index with one leaf more, made by one edit at the end of the way and one in each node on it, from the bottom up.
-use Rattle.std.proofs.Common.{◌≡◌, ◌≢◌, ◌⊎◌, ℕ, zero, suc, List, [], ◌∷◌, ◌++◌, max, Bool, true, false, eqb, refl, sym, ap, ap₂, subst, ◌∙◌, inl, inr, eq-eqb, length, ◌+◌, ◌<◌, arith}
-use Rattle.cdf_index.proofs.Common.{eqb-true, reaches, chain_reaches, leads_down, Edit, Nodes, no_node, node, Entries, no_entry, block, lower, Leaf, link_to, IsNode, size_at, vxr_type, In, Distinct, AreTiles, linkable-in, either, In-append, In-append_left, In-append_right, Distinct-front, Distinct-back, down_at, widened, wider, placed}
+use Rattle.std.proofs.Common.{◌≡◌, ◌≢◌, ◌⊎◌, ℕ, zero, suc, List, [], ◌∷◌, ◌++◌, max, Bool, true, false, eqb, refl, sym, ap, ap₂, subst, ◌∙◌, inl, inr, eq-eqb, length}
+use Rattle.cdf_index.proofs.Common.{reaches, chain_reaches, leads_down, Edit, Nodes, no_node, node, Entries, no_entry, block, lower, Leaf, link_to, IsNode, vxr_type, In, Distinct, AreTiles, linkable-in, either, In-append_left, In-append_right, Distinct-front, Distinct-back, down_at, widened, wider, placed, Each}
 use Rattle.cdf_edits.specs.Index.Grown.{with_leaf, with_lower}
 use Rattle.cdf_edits.proofs.Index.NodeEdited.{redo, redo_below}
 use Rattle.cdf_format.specs.Index.{nodes_of, lower_nodes}
 use Rattle.cdf_format.specs.IndexOf.{HasNodes, Names}
 use Rattle.cdf_index.specs.Way.{way, way_below, spot, spot_below, widen_all}
+use Rattle.std.proofs.lemmas.Bool.{ne_eqb}
+use Rattle.cdf_edits.proofs.Edits.VariableFrame.{Each-map}
+use Rattle.cdf_index.proofs.Looking.{node_there}
+use Rattle.cdf_format.proofs.IndexLemmas.{nodes_stand}
+use Rattle.cdf_format.proofs.ChainsLemmas.{some_place}
 
 abbrev widen_below : ℕ → List (ℕ × ℕ) → Entries → Entries
 widen_below last [] entries = entries
 widen_below last (step ∷ more) entries = redo_below step.0 (wider last step.0 step.1) (widen_below last more entries)
-
-other : (m n : ℕ) → m ≢ n → eqb m n ≡ false
-other m n ne = elim (either (eqb m n)) [ inl e ↦ absurd (ne (eqb-true m n e)) | inr e ↦ e ]
 
 -- ---- an edit of no node of an index
 
@@ -22,7 +24,7 @@ mutual
   redo_none : (x : ℕ) (edit : Edit) (nodes : Nodes) → (In x (nodes_of nodes) → ⊥) → redo x edit nodes ≡ nodes
   redo_none x edit no_node n = refl
   redo_none x edit (node place room es more) n =
-      let test : eqb place x ≡ false = other place x (λ e. n (inl (sym e))) in
+      let test : eqb place x ≡ false = ne_eqb place x (λ e. n (inl (sym e))) in
       rw test (ap₂ (λ (a : Entries) (c : Nodes). node place room a c) (redo_below_none x edit es (λ i. n (inr (In-append_left x (lower_nodes es) (nodes_of more) i)))) (redo_none x edit more (λ i. n (inr (In-append_right x (lower_nodes es) (nodes_of more) i)))))
 
   redo_below_none : (x : ℕ) (edit : Edit) (es : Entries) → (In x (lower_nodes es) → ⊥) → redo_below x edit es ≡ es
@@ -33,21 +35,17 @@ mutual
 
 -- each node of the way is none of these
 abbrev Apart : List (ℕ × ℕ) → List ℕ → Type 0
-Apart [] xs = Unit {0}
-Apart (step ∷ more) xs = (In step.0 xs → ⊥) × Apart more xs
+Apart steps xs = Each (λ (step : ℕ × ℕ). In step.0 xs → ⊥) steps
 
 -- all of them are among these
 abbrev pub AllIn : List (ℕ × ℕ) → List ℕ → Type 0
-AllIn [] xs = Unit {0}
-AllIn (step ∷ more) xs = In step.0 xs × AllIn more xs
+AllIn steps xs = Each (λ (step : ℕ × ℕ). In step.0 xs) steps
 
 in_more : (w : List (ℕ × ℕ)) (xs ys : List ℕ) → AllIn w xs → ((m : ℕ) → In m xs → In m ys) → AllIn w ys
-in_more [] xs ys a f = tt
-in_more (step ∷ more) xs ys a f = (f step.0 a.0, in_more more xs ys a.1 f)
+in_more w xs ys a f = Each-map (λ (step : ℕ × ℕ). In step.0 xs) (λ (step : ℕ × ℕ). In step.0 ys) (λ step. f step.0) w a
 
 apart_from : (w : List (ℕ × ℕ)) (xs ys : List ℕ) → AllIn w xs → ((m : ℕ) → In m xs → In m ys → ⊥) → Apart w ys
-apart_from [] xs ys a f = tt
-apart_from (step ∷ more) xs ys a f = (f step.0 a.0, apart_from more xs ys a.1 f)
+apart_from w xs ys a f = Each-map (λ (step : ℕ × ℕ). In step.0 xs) (λ (step : ℕ × ℕ). In step.0 ys → ⊥) (λ step. f step.0) w a
 
 -- ---- widening below a node
 
@@ -56,7 +54,7 @@ module _ (last place room : ℕ) where
   unfolding redo redo_below
   widen_more [] es more a = refl
   widen_more (step ∷ w) es more a =
-      let test : eqb place step.0 ≡ false = other place step.0 (λ e. a.0 (inl (sym e))) in
+      let test : eqb place step.0 ≡ false = ne_eqb place step.0 (λ e. a.0 (inl (sym e))) in
       ap (redo step.0 (wider last step.0 step.1)) (widen_more w es more a.1)
       ∙ rw test (ap (λ (x : Entries). node place room x (redo step.0 (wider last step.0 step.1) (widen_all last w more))) (redo_below_none step.0 (wider last step.0 step.1) es (λ i. a.0 (inr i))))
 
@@ -64,7 +62,7 @@ module _ (last place room : ℕ) where
   unfolding redo redo_below
   widen_low [] es more a = refl
   widen_low (step ∷ w) es more a =
-      let test : eqb place step.0 ≡ false = other place step.0 (λ e. a.0 (inl (sym e))) in
+      let test : eqb place step.0 ≡ false = ne_eqb place step.0 (λ e. a.0 (inl (sym e))) in
       ap (redo step.0 (wider last step.0 step.1)) (widen_low w es more a.1)
       ∙ rw test (ap (λ (x : Nodes). node place room (redo_below step.0 (wider last step.0 step.1) (widen_below last w es)) x) (redo_none step.0 (wider last step.0 step.1) more (λ i. a.0 (inr i))))
 
@@ -129,7 +127,7 @@ mutual
         ]
       ]
 
-  spot_below_in : (f : ℕ) (es : Entries) → (spot_below f es ≡ 0) ⊎ In (spot_below f es) (lower_nodes es)
+  pub spot_below_in : (f : ℕ) (es : Entries) → (spot_below f es ≡ 0) ⊎ In (spot_below f es) (lower_nodes es)
   spot_below_in f no_entry = inl refl
   spot_below_in f (block first last place packed es) = spot_below_in f es
   spot_below_in f (lower first last nodes es) =
@@ -148,9 +146,9 @@ apart_lists [] ys d m i j = i
 apart_lists (x ∷ xs) ys d m (inl e) j = d.0 (subst (λ (y : ℕ). In y (xs ++ ys)) e (In-append_right m xs ys j))
 apart_lists (x ∷ xs) ys d m (inr i) j = apart_lists xs ys d.1 m i j
 
-node_there : (f : ℕ) (nodes : Nodes) → chain_reaches f nodes ≡ true → IsNode nodes
-node_there f no_node t = absurd (cc)
-node_there f (node place room es more) t = tt
+chain_there : (f : ℕ) (nodes : Nodes) → chain_reaches f nodes ≡ true → IsNode nodes
+chain_there f no_node t = absurd (cc)
+chain_there f (node place room es more) t = tt
 
 -- ---- the law
 
@@ -168,14 +166,14 @@ mutual
           | inl q ↦ z (subst (λ (y : ℕ). In y (place ∷ lower_nodes es ++ nodes_of more)) q (elim k [ inl e ↦ inl e | inr j ↦ inr (In-append_left x (lower_nodes es) (nodes_of more) j) ]))
           | inr j ↦ elim k [ inl e ↦ d.0 (subst (λ (y : ℕ). In y (lower_nodes es ++ nodes_of more)) e (In-append_right x (lower_nodes es) (nodes_of more) j)) | inr u ↦ apart_lists (lower_nodes es) (nodes_of more) d.1 x u j ]
         ] in
-        let test : eqb place x ≡ false = other place x (λ e. x_apart (inl (sym e))) in
+        let test : eqb place x ≡ false = ne_eqb place x (λ e. x_apart (inl (sym e))) in
         let w_apart : Apart (way l.first more) (place ∷ lower_nodes es) = apart_from (way l.first more) (nodes_of more) (place ∷ lower_nodes es) (way_in l.first more) (λ m u v. elim v [
           | inl e ↦ d.0 (subst (λ (y : ℕ). In y (lower_nodes es ++ nodes_of more)) e (In-append_right m (lower_nodes es) (nodes_of more) u))
           | inr v ↦ apart_lists (lower_nodes es) (nodes_of more) d.1 m v u
         ]) in
         rw (t, test) (ap (λ (e : Entries). widen_all l.last (way l.first more) (node place room e (redo x edit more))) (redo_below_none x edit es (λ j. x_apart (inr j)))
         ∙ widen_more l.last place room (way l.first more) es (redo x edit more) w_apart
-        ∙ ap (node place room es) (made b ts (suc levels) at l more h.2 (node_there l.first more t) (Distinct-back (lower_nodes es) (nodes_of more) d.1) (λ j. z (inr (In-append_right 0 (lower_nodes es) (nodes_of more) j)))))
+        ∙ ap (node place room es) (made b ts (suc levels) at l more h.2 (chain_there l.first more t) (Distinct-back (lower_nodes es) (nodes_of more) d.1) (λ j. z (inr (In-append_right 0 (lower_nodes es) (nodes_of more) j)))))
     | inr t ↦ elim (either (leads_down l.first false es)) [
       | inl u ↦
           let x = spot_below l.first es in
@@ -184,7 +182,7 @@ mutual
             | inl q ↦ z (subst (λ (y : ℕ). In y (place ∷ lower_nodes es ++ nodes_of more)) q (elim k [ inl e ↦ inl e | inr j ↦ inr (In-append_right x (lower_nodes es) (nodes_of more) j) ]))
             | inr j ↦ elim k [ inl e ↦ d.0 (subst (λ (y : ℕ). In y (lower_nodes es ++ nodes_of more)) e (In-append_left x (lower_nodes es) (nodes_of more) j)) | inr v ↦ apart_lists (lower_nodes es) (nodes_of more) d.1 x j v ]
           ] in
-          let test : eqb place x ≡ false = other place x (λ e. x_apart (inl (sym e))) in
+          let test : eqb place x ≡ false = ne_eqb place x (λ e. x_apart (inl (sym e))) in
           let w_apart : Apart (way_below l.first es) (place ∷ nodes_of more) = apart_from (way_below l.first es) (lower_nodes es) (place ∷ nodes_of more) (way_below_in l.first es) (λ m i j. elim j [
             | inl e ↦ d.0 (subst (λ (y : ℕ). In y (lower_nodes es ++ nodes_of more)) e (In-append_left m (lower_nodes es) (nodes_of more) i))
             | inr j ↦ apart_lists (lower_nodes es) (nodes_of more) d.1 m i j
@@ -232,33 +230,7 @@ mutual
 -- ---- an index that a link leads to
 
 pub node_there_by : (head : ℕ) (nodes : Nodes) → head ≡ link_to nodes → head ≢ 0 → IsNode nodes
-node_there_by head no_node e n = absurd (n e)
-node_there_by head (node place room es more) e n = tt
-
-no_tile : (b : List ℕ) (from upto : ℕ) (ts : List ℕ) → AreTiles b from upto ts → 0 < from → In 0 ts → ⊥
-no_tile b from upto [] t p i = absurd i
-no_tile b from upto (x ∷ ts) t p (inl e) = let z : x ≡ from = t.0 in absurd (omega arith)
-no_tile b from upto (x ∷ ts) t p (inr i) = no_tile b (from + size_at b x) upto ts t.2 (omega arith) i
-
-mutual
-  unfolding nodes_of lower_nodes HasNodes Names
-
-  pub nodes_stand : (b ts : List ℕ) (levels m : ℕ) (nodes : Nodes) → HasNodes b ts levels nodes → In m (nodes_of nodes) → In m ts
-  nodes_stand b ts levels m no_node h i = absurd i
-  nodes_stand b ts zero m (node place room es more) h i = absurd h
-  nodes_stand b ts (suc levels) m (node place room es more) h (inl e) = subst (λ (x : ℕ). In x ts) (sym e) (linkable-in b ts vxr_type place h.0.linkable)
-  nodes_stand b ts (suc levels) m (node place room es more) h (inr i) = elim (In-append m (lower_nodes es) (nodes_of more) i) [
-    | inl j ↦ lower_stand b ts levels m es h.1 j
-    | inr j ↦ nodes_stand b ts (suc levels) m more h.2 j
-  ]
-
-  lower_stand : (b ts : List ℕ) (levels m : ℕ) (es : Entries) → Names b ts levels es → In m (lower_nodes es) → In m ts
-  lower_stand b ts levels m no_entry n i = absurd i
-  lower_stand b ts levels m (block first last place packed es) n i = lower_stand b ts levels m es n.2 i
-  lower_stand b ts levels m (lower first last nodes es) n i = elim (In-append m (nodes_of nodes) (lower_nodes es) i) [
-    | inl j ↦ nodes_stand b ts levels m nodes n.1 j
-    | inr j ↦ lower_stand b ts levels m es n.2 j
-  ]
+node_there_by head nodes e n = node_there nodes (λ z. n (e ∙ z))
 
 pub no_zero : (b ts : List ℕ) (levels : ℕ) (nodes : Nodes) → AreTiles b 8 (length b) ts → HasNodes b ts levels nodes → In 0 (nodes_of nodes) → ⊥
-no_zero b ts levels nodes t h i = no_tile b 8 (length b) ts t (omega arith) (nodes_stand b ts levels 0 nodes h i)
+no_zero b ts levels nodes t h i = some_place b ts (length b) 0 t (linkable-in b ts vxr_type 0 (nodes_stand b ts levels nodes h 0 i)) refl

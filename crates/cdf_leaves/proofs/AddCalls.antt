@@ -1,7 +1,7 @@
 -- What the calls ask for that add a leaf, and what they leave.
 use Rattle.cdf_edits.proofs.Edits.RecordGrown as of_grown
 use Rattle.std.proofs.Common.{◌≡◌, ◌≢◌, ◌⊎◌, ℕ, ◌+◌, ◌-◌, ◌*◌, ◌<◌, ◌≤◌, max, List, [], ◌∷◌, ◌++◌, length, map, false, refl, sym, ap, subst, ◌∙◌, arith, inl, inr}
-use Rattle.cdf_leaves.proofs.Common.{map-append, Kind, R, Z, image_limit, shapes_of, vxr_bytes, widest, with_leaf, new_room, Placed, StandsAmong, sound, tile, has, long, apart, number, size_at, with_field, Nodes, Leaf, nodes_of, room_at, vdr_vxr_head, vdr_vxr_tail, vxr_vxr_next, uir_type, vxr_type, vvr_type, VariableShape, Each, shape, variables, In, Good, type_kept, next_kept, In-append, tile_lies, AddsLeaf, step_pair, HasIndex, index_at, way, spot, Spot, Step, IsStep, entry, EntryPut, IndexStarted, MayPut, NodeMade, ChainInside, chain_end, StepStands, WayStands, WidenedAlong, Grew, grew, stands, unlike, Entry, no_zero}
+use Rattle.cdf_leaves.proofs.Common.{Kind, image_limit, vxr_bytes, widest, with_leaf, new_room, Placed, StandsAmong, sound, tile, has, long, apart, number, size_at, with_field, Nodes, Leaf, nodes_of, room_at, vdr_vxr_head, vdr_vxr_tail, vxr_vxr_next, uir_type, vxr_type, vvr_type, VariableShape, Each, shape, variables, In, Good, type_kept, next_kept, tile_lies, AddsLeaf, step_pair, HasIndex, index_at, way, spot, Spot, Step, IsStep, entry, EntryPut, IndexStarted, MayPut, NodeMade, ChainInside, chain_end, StepStands, WayStands, WidenedAlong, Grew, grew, stands, unlike, Entry, no_zero}
 use Rattle.cdf_edits.specs.Space.Placing.{type_of_body}
 use Rattle.cdf_format.specs.Fields.{eof, gdr_offset}
 use Rattle.cdf_format.specs.Index.{leaf}
@@ -15,37 +15,11 @@ use Rattle.cdf_leaves.proofs.NodesOf.{old_in}
 use Rattle.cdf_leaves.proofs.Linked.{field_long}
 use Rattle.cdf_leaves.proofs.LeafStarted.{first_added}
 use Rattle.cdf_leaves.proofs.Own.{searchable, own_node, node_fits, node_kept, node_spares}
-use Rattle.cdf_leaves.proofs.Spares.{fits_still, front_lies, node_inside}
+use Rattle.cdf_leaves.proofs.Spares.{fits_still, front_lies, node_inside, node_long}
 use Rattle.cdf_leaves.proofs.SpotNode.{NotAt, nodes_linkable, way_apart, widest_least}
 use Rattle.cdf_leaves.proofs.State.{State}
-
--- ---- the variable
-
-pub record OwnStands (b : List ℕ) (vdr : ℕ) : Type 0 where
-  pub kind : Kind
-  pub before : List VariableShape
-  pub own : VariableShape
-  pub after : List VariableShape
-  pub was : shapes_of (shape b) kind ≡ before ++ own ∷ after
-  pub vdr_is : own.vdr ≡ vdr
-
-record StandsIn (vs : List VariableShape) (vdr : ℕ) : Type 0 where
-  before : List VariableShape
-  own : VariableShape
-  after : List VariableShape
-  is : vs ≡ before ++ own ∷ after
-  vdr_is : own.vdr ≡ vdr
-
-stands_in : (vs : List VariableShape) (m : ℕ) → In m (vdrs vs) → StandsIn vs m
-stands_in [] m i = absurd i
-stands_in (v ∷ vs) m (inl e) = record { before = []; own = v; after = vs; is = refl; vdr_is = sym e }
-stands_in (v ∷ vs) m (inr i) = let at = stands_in vs m i in record { before = v ∷ at.before; own = at.own; after = at.after; is = ap (λ (r : List VariableShape). v ∷ r) at.is; vdr_is = at.vdr_is }
-
-pub own_stands : (b : List ℕ) (vdr : ℕ) → In vdr (vdrs (variables (shape b))) → OwnStands b vdr
-own_stands b vdr i = elim (In-append vdr (vdrs (shape b).r_variables) (vdrs (shape b).z_variables) (subst (In vdr) (map-append (λ (v : VariableShape). v.vdr) (shape b).r_variables (shape b).z_variables) i)) [
-  | inl j ↦ let s = stands_in (shape b).r_variables vdr j in record { kind = R; before = s.before; own = s.own; after = s.after; was = s.is; vdr_is = s.vdr_is }
-  | inr j ↦ let s = stands_in (shape b).z_variables vdr j in record { kind = Z; before = s.before; own = s.own; after = s.after; was = s.is; vdr_is = s.vdr_is }
-]
+use Rattle.cdf_index.proofs.OneVariable.{one_of}
+use Rattle.cdf_edits.proofs.Edits.RecordFrame.{through}
 
 -- ---- how long an image gets
 
@@ -82,12 +56,9 @@ started_long {filled = filled} {now = now} {vdr = vdr} lies st =
 pub fits_room : (f b n w m lim lim' : ℕ) → f ≤ b + n → m ≤ w → b + n + (28 + 16 * w) ≤ lim → lim' ≡ lim → f + (28 + 16 * m) ≤ lim'
 fits_room f b n w m lim lim' a c d e = omega arith
 
-pub through : (x y z : ℕ) → x ≤ y → y ≤ z → x ≤ z
-through x y z p q = omega arith
-
 -- it is a variable of its kind
-pub among_kind : (b : List ℕ) (vdr : ℕ) (i : In vdr (vdrs (variables (shape b)))) → StandsAmong b (own_stands b vdr i).kind (own_stands b vdr i).before (record (own_stands b vdr i).own { vdr = vdr }) (own_stands b vdr i).after
-among_kind b vdr i = let o = own_stands b vdr i in record { was = o.was ∙ ap (λ (k : ℕ). o.before ++ record o.own { vdr = k } ∷ o.after) o.vdr_is }
+pub among_kind : (b : List ℕ) (vdr : ℕ) (i : In vdr (vdrs (variables (shape b)))) → StandsAmong b (one_of b vdr i).kind (one_of b vdr i).before (record (one_of b vdr i).own { vdr = vdr }) (one_of b vdr i).after
+among_kind b vdr i = let o = one_of b vdr i in record { was = o.among.was ∙ ap (λ (k : ℕ). o.before ++ record o.own { vdr = k } ∷ o.after) o.vdr_is }
 
 module _ {b : List ℕ} {kind : Kind} {before : List VariableShape} {own : VariableShape} {after : List VariableShape} (good : Good b) (at_own : StandsAmong b kind before own after) where
   pub index_there : {head : ℕ} → head ≡ number b own.vdr vdr_vxr_head → HasIndex b head
@@ -158,12 +129,9 @@ module _ {b : List ℕ} {kind : Kind} {before : List VariableShape} {own : Varia
             fits = fits_still b filled found.end.place s f;
             room_is = w.sees.room_is ∙ sym s.room_is;
             used_is = w.sees.used_is ∙ sym s.used_is;
-            next_is = w.sees.next_is ∙ sym (next_kept b filled found.end.place k.same (far (room_at b found.end.place) (size_at b found.end.place) f.0));
+            next_is = w.sees.next_is ∙ sym (next_kept b filled found.end.place k.same (through 20 28 (size_at b found.end.place) (omega arith) (node_long (room_at b found.end.place) (size_at b found.end.place) f.0)));
             most = subst (λ (u : ℕ). found.end.begun ≤ u) (sym w.sees.used_is) w.sees.begun.most;
           }
-        where
-          far : (r s : ℕ) → 28 + 16 * r ≤ s → 20 ≤ s
-          far r s h = omega arith
 
       pub wide_enough : max 7 found.end.room ≤ widest (index_at b head)
       wide_enough =

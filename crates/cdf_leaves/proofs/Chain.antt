@@ -1,6 +1,7 @@
 -- A chain of nodes followed to its end.
-use Rattle.std.proofs.Common.{◌≡◌, ◌≢◌, ℕ, zero, suc, ◌+◌, ◌<◌, List, length, true, false, eqb, arith}
-use Rattle.cdf_leaves.proofs.Common.{nat_tests, next_of, chain_end, ChainInside}
+use Rattle.std.proofs.Common.{◌≡◌, ◌≢◌, ℕ, zero, suc, ◌+◌, ◌<◌, List, length, arith}
+use Rattle.cdf_leaves.proofs.Common.{next_of, chain_end, ChainInside}
+use Rattle.std.proofs.lemmas.Bool.{eq-eqb, ne_eqb}
 
 -- so many turns are left
 pub record Following (b : List ℕ) (at turn here : ℕ) : Type 0 where
@@ -9,23 +10,17 @@ pub record Following (b : List ℕ) (at turn here : ℕ) : Type 0 where
   pub inside : ChainInside left b here
   pub same : chain_end left b here ≡ chain_end (length b) b at
 
-pub test_zero : (n : ℕ) → n ≡ 0 → eqb n 0 ≡ true
-test_zero n e = grind (arith, nat_tests)
-
-pub test_some : (n : ℕ) → n ≢ 0 → eqb n 0 ≡ false
-test_some n e = grind (arith, nat_tests)
-
 module _ (b : List ℕ) (at turn here : ℕ) (f : Following b at turn here) where
   pub follow_end : turn < length b → next_of b here ≡ 0 → here ≡ chain_end (length b) b at
   follow_end lt z = go f.left f.turns f.same
     where
       go : (left : ℕ) → turn + left ≡ length b → chain_end left b here ≡ chain_end (length b) b at → here ≡ chain_end (length b) b at
       go zero e s = absurd (omega arith)
-      go (suc left) e s = let t = test_zero (next_of b here) z in rw t at s
+      go (suc left) e s = let t = eq-eqb (next_of b here) 0 z in rw t at s
 
   pub follow_more : turn < length b → next_of b here ≢ 0 → Following b at (turn + 1) (next_of b here)
   follow_more lt n = go f.left f.turns f.inside f.same
     where
       go : (left : ℕ) → turn + left ≡ length b → ChainInside left b here → chain_end left b here ≡ chain_end (length b) b at → Following b at (turn + 1) (next_of b here)
       go zero e i s = absurd (omega arith)
-      go (suc left) e i s = let t = test_some (next_of b here) n in record { left = left; turns = omega arith; inside = i.1 n; same = rw t at s }
+      go (suc left) e i s = let t = ne_eqb (next_of b here) 0 n in record { left = left; turns = omega arith; inside = i.1 n; same = rw t at s }

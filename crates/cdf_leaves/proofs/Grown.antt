@@ -6,10 +6,11 @@ use Rattle.cdf_edits.specs.Space.Acts.{taken}
 use Rattle.cdf_format.specs.Chains.{is_in}
 use Rattle.cdf_format.specs.RecordTypes.{cvvr_type}
 use Rattle.cdf_format.proofs.Members.{is_in-true, is_in-false}
-use Rattle.cdf_index.specs.Writing.{SaysUnused, Shortened, entry_in, unused_entry}
+use Rattle.cdf_index.specs.Writing.{SaysUnused, Shortened}
 use Rattle.cdf_leaves.proofs.Spares.{Spares}
 use Rattle.cdf_leaves.proofs.SpotNode.{SpotNode, begins_by}
 use Rattle.cdf_leaves.proofs.State.{NodeNow}
+use Rattle.cdf_index.proofs.OneNode.{entry_past}
 
 -- ---- what counts as unused before
 
@@ -52,11 +53,6 @@ pub below : (m n : ℕ) → n < m → leb m n ≡ false
 below m n h = grind (arith, nat_tests)
 
 -- ---- a node where nothing was written yet
-
-pub entry_past : (entries : List Entry) (i : ℕ) → length entries ≤ i → entry_in entries i ≡ unused_entry
-entry_past [] i le = refl
-entry_past (e ∷ entries) zero le = absurd (omega arith)
-entry_past (e ∷ entries) (suc i) le = entry_past entries i (omega arith)
 
 pub old_node : (b roomy : List ℕ) (was : ℕ → ℕ → Bool) (x m : ℕ) → Spares b roomy m → NodeFits roomy m → ((i : ℕ) → was m i ≡ leb (used_count b m) i) → NodeNow b roomy roomy was x m
 old_node b roomy was x m s fits is = record {

@@ -1,19 +1,11 @@
 -- The last call of a function, whose answer is its own.
-use Rattle.std.proofs.Common.{◌≡◌, ℕ, List, [], ◌∷◌, length, Ok, Err, refl, subst, ◌∙◌, arith}
-use Rattle.cdf_leaves.proofs.Common.{OnOk, Keeps, Frame}
+use Rattle.std.proofs.Common.{ℕ, subst, ◌∙◌}
+use Rattle.cdf_leaves.proofs.Common.{Keeps, Frame}
 use Rattle.std.specs.declared.result.Result.{Result}
 use Rattle.cdf_base.specs.Causes.{HasCauseOf}
 use Rattle.cdf_area.specs.Calls.{Edits}
 use Rattle.cdf_area.specs.declared.area.AreaError.{AreaError}
 use Rattle.cdf_area.specs.declared.area.AreaError.TheVariants.{Fault}
 
-pub ok_map : {T E P Q : Type 0} → (r : Result T E) → (P → Q) → OnOk r P → OnOk r Q
-ok_map (Ok x) f p = f p
-ok_map (Err e) f p = p
-
 pub edit_last : {A U T : Type 0} {frame_of : A → Frame U} {faults_of : A → ℕ} {old mid new : A} {r : Result T AreaError} → Keeps frame_of faults_of old mid → Edits frame_of faults_of mid new r → Edits frame_of faults_of old new r
 edit_last {faults_of = faults_of} {new = new} {r = r} k e = record { frame = e.frame ∙ k.frame; cause = subst (λ (n : ℕ). HasCauseOf Fault n (faults_of new) r) k.faults e.cause }
-
-pub no_items : {A : Type 0} (xs : List A) → length xs ≡ 0 → xs ≡ []
-no_items [] e = refl
-no_items (x ∷ xs) e = absurd (omega arith)

@@ -1,6 +1,6 @@
 -- A leaf more in an index that has a node: what was done step by step is what a leaf more makes of the image.
-use Rattle.std.proofs.Common.{◌≡◌, ◌≢◌, ◌⊎◌, ℕ, zero, suc, ◌+◌, ◌-◌, ◌*◌, ◌^◌, ◌<◌, ◌≤◌, max, List, [], ◌∷◌, ◌++◌, length, Bool, true, false, leb, ltb, eqb, refl, sym, ap, subst, ◌∙◌, arith, inl, inr}
-use Rattle.cdf_leaves.proofs.Common.{if◌then◌else◌, bytes_eq, Kind, image_limit, touch, Touch, Changed, new_room, chain_reaches, leads_down, past, UnusedEntries, EntryIs, was_unused, top_chain, last_node, Placed, StandsAmong, sound, tile, has, long, changed_then, changed_whole, SameHeads, Kept, redo, apart, is_linkable, next_of, LiesIn, number, size_at, type_at, with_field, Nodes, no_node, node, Leaf, entry_count, nodes_of, leaves_of, link_to, room_at, used_count, SaysEntry, IsNode, HasNodes, vdr_vxr_head, vdr_vxr_tail, vxr_n_used_entries, gdr_type, uir_type, vxr_type, vvr_type, VariableShape, Each, shape, NodeFits, AreTiles, Distinct, In, Good, number_kept, type_kept, next_kept, size_kept, field_reads, other_words, linkable-from, either, Each-append, tile_lies, Counts, NodeTaken, LeafAdded, leaf_acts, Begun, with_new, Begins, MayName, way, spot, widen_all, NodeWritten, Inserted, Spot, Entry, heads_stay, others_stay, no_zero, IsStep, entry, ChainInside, chain_end, WidenedAlong, NodeMade, EntryPut, Grew, grew, grew_then, stands, unlike}
+use Rattle.std.proofs.Common.{◌≡◌, ◌≢◌, ◌⊎◌, ℕ, zero, suc, ◌+◌, ◌-◌, ◌*◌, ◌^◌, ◌<◌, ◌≤◌, max, List, [], ◌∷◌, ◌++◌, length, Bool, true, false, leb, refl, sym, ap, subst, ◌∙◌, arith, inl, inr}
+use Rattle.cdf_leaves.proofs.Common.{if◌then◌else◌, bytes_eq, Kind, image_limit, touch, Touch, Changed, new_room, chain_reaches, leads_down, UnusedEntries, EntryIs, was_unused, top_chain, last_node, Placed, StandsAmong, sound, tile, has, long, changed_then, changed_whole, SameHeads, Kept, redo, apart, is_linkable, next_of, LiesIn, number, size_at, type_at, with_field, Nodes, no_node, node, Leaf, nodes_of, leaves_of, link_to, room_at, used_count, SaysEntry, IsNode, HasNodes, vdr_vxr_head, vdr_vxr_tail, vxr_n_used_entries, gdr_type, uir_type, vxr_type, vvr_type, VariableShape, Each, shape, NodeFits, AreTiles, Distinct, In, Good, number_kept, type_kept, next_kept, size_kept, field_reads, other_words, linkable-from, either, Each-append, tile_lies, Counts, NodeTaken, LeafAdded, leaf_acts, Begun, with_new, Begins, MayName, way, spot, widen_all, NodeWritten, Inserted, Spot, Entry, heads_stay, others_stay, no_zero, IsStep, entry, ChainInside, chain_end, WidenedAlong, NodeMade, EntryPut, Grew, grew, grew_then, stands, unlike, linkable-in}
 use Rattle.cdf_model.specs.Limits.{record_number_limit}
 use Rattle.cdf_edits.specs.Frame.Changed.{TouchesNone}
 use Rattle.cdf_edits.specs.Frame.Changed.{Placed as ChangedPlaced}
@@ -13,9 +13,9 @@ use Rattle.cdf_index.specs.Adding.{NodePlaced, IndexTouch, TailGoesOn}
 use Rattle.cdf_index.specs.Way.{placed}
 use Rattle.cdf_index.specs.Writing.{EntriesRead, Split, Chained}
 use Rattle.cdf_index.proofs.LeafMore.{leaves_more}
-use Rattle.cdf_index.proofs.NodeGrown.{grown_owed, split_owed, chained_owed}
+use Rattle.cdf_index.proofs.NodeGrown.{grown_owed, split_owed, chained_owed, placed_link, placed_node as entry_placed}
 use Rattle.cdf_index.proofs.NodeSplit.{split}
-use Rattle.cdf_index.proofs.WayDown.{made, node_there_by, nodes_stand}
+use Rattle.cdf_index.proofs.WayDown.{made, node_there_by}
 use Rattle.cdf_leaves.proofs.TopChain.{top_stays, top_grows, chain_inside, end_is_last, last_in}
 use Rattle.cdf_leaves.specs.Putting.{SplitMade, ChainMade}
 use Rattle.cdf_index.specs.Order.{InOrder}
@@ -23,11 +23,14 @@ use Rattle.cdf_edits.proofs.Edits.RecordGrown.{grew_none, kept_then}
 use Rattle.cdf_leaves.proofs.Grown.{below, was, was_old, was_new, old_node, new_node, inserted_node, shortened_node, names_leaf, room_with, room_full}
 use Rattle.cdf_leaves.proofs.Linked.{field_changed, field_long, link_changed, link_long, link_reads, link_room, link_used, link_entries, link_spares}
 use Rattle.cdf_leaves.proofs.NodesMore.{places, all_wider}
-use Rattle.cdf_leaves.proofs.NodesOf.{each_all, in_new, node_of, old_in, all_once}
+use Rattle.cdf_leaves.proofs.NodesOf.{in_new, node_of, old_in, all_once}
 use Rattle.cdf_leaves.proofs.Own.{node_each, searchable, own_node, node_fits, vdr_apart, now_has, now_blocks, node_kept, node_spares, vdr_kept, vdr_in, vdr_used}
-use Rattle.cdf_leaves.proofs.Spares.{Spares, spares_kept, all_entries, fits_still, node_inside, front_lies}
+use Rattle.cdf_leaves.proofs.Spares.{Spares, spares_kept, all_entries, fits_still, node_inside, front_lies, node_long}
 use Rattle.cdf_leaves.proofs.SpotNode.{SpotNode, NotAt, spot_node, way_apart, begins_by}
 use Rattle.cdf_leaves.proofs.State.{NodeNow, node_then, NodeTouch, State, OnWay, first_step, widened_all}
+use Rattle.cdf_format.proofs.IndexLemmas.{nodes_stand}
+use Rattle.cdf_edits.proofs.Edits.RecordFrame.{through}
+use Rattle.cdf_edits.proofs.Space.ActsLeave.{each}
 
 -- ---- small things
 
@@ -37,13 +40,7 @@ unfolding with_leaf
 link_leaf l at no_node is = absurd is
 link_leaf l at (node place room es more) is = elim (either (chain_reaches l.first more)) [
   | inl t ↦ rw t refl
-  | inr t ↦ elim (either (leads_down l.first false es)) [
-    | inl u ↦ rw (t, u) refl
-    | inr u ↦ rw (t, u) (elim (either (ltb (entry_count es) room)) [
-      | inl v ↦ rw v refl
-      | inr v ↦ elim (either (eqb (entry_count (past l.first es)) 0)) [ inl w ↦ rw (v, w) refl | inr w ↦ rw (v, w) refl ]
-    ])
-  ]
+  | inr t ↦ elim (either (leads_down l.first false es)) [ inl u ↦ rw (t, u) refl | inr u ↦ rw (t, u) (placed_link l at place room es more) ]
 ]
 
 node_leaf : (l : Leaf) (at : ℕ) (nodes : Nodes) → IsNode (with_leaf l at nodes)
@@ -51,13 +48,7 @@ unfolding with_leaf
 node_leaf l at no_node = tt
 node_leaf l at (node place room es more) = elim (either (chain_reaches l.first more)) [
   | inl t ↦ rw t tt
-  | inr t ↦ elim (either (leads_down l.first false es)) [
-    | inl u ↦ rw (t, u) tt
-    | inr u ↦ rw (t, u) (elim (either (ltb (entry_count es) room)) [
-      | inl v ↦ rw v tt
-      | inr v ↦ elim (either (eqb (entry_count (past l.first es)) 0)) [ inl w ↦ rw (v, w) tt | inr w ↦ rw (v, w) tt ]
-    ])
-  ]
+  | inr t ↦ elim (either (leads_down l.first false es)) [ inl u ↦ rw (t, u) tt | inr u ↦ rw (t, u) (entry_placed l at place room es more) ]
 ]
 
 kept_self : (b records : List ℕ) (m : ℕ) → AreTiles b 8 (length b) records → In m records → Kept b b m
@@ -159,23 +150,17 @@ module _ {b : List ℕ} {kind : Kind} {before : List VariableShape} {own : Varia
           before = λ j lt. subst (λ (n : ℕ). n ≤ l.first) (sym (k j (fit j lt) _ _ _ (record { first_is = refl; last_is = refl; offset_is = refl })).first_is) (begun.before j lt);
           most = subst (λ (n : ℕ). seen.begun ≤ n) (sym (node_spares good stood g x among).used_is) begun.most;
           stop = λ lt. (let lt' : seen.begun < used_count b x = subst (λ (n : ℕ). seen.begun < n) (node_spares good stood g x among).used_is lt in
-              subst (λ (n : ℕ). l.first < n) (sym (k seen.begun (through seen.begun (used_count b x) (room_at b x) lt' (node_fits good stood x among).1) _ _ _ (record { first_is = refl; last_is = refl; offset_is = refl })).first_is) (begun.stop lt'));
+              subst (λ (n : ℕ). l.first < n) (sym (k seen.begun (less seen.begun (used_count b x) (room_at b x) lt' (node_fits good stood x among).1) _ _ _ (record { first_is = refl; last_is = refl; offset_is = refl })).first_is) (begun.stop lt'));
         }) es u s
       where
-        through : (j u r : ℕ) → j < u → u ≤ r → j < r
-        through j u r a c = omega arith
+        less : (j u r : ℕ) → j < u → u ≤ r → j < r
+        less j u r a c = omega arith
 
         fit : (j : ℕ) → j < seen.begun → j < room_at b x
-        fit j lt = let m = begun.most in let f = (node_fits good stood x among).1 in early j seen.begun (used_count b x) (room_at b x) lt m f
-          where
-            early : (j p u r : ℕ) → j < p → p ≤ u → u ≤ r → j < r
-            early j p u r a c d = omega arith
+        fit j lt = let m = begun.most in let f = (node_fits good stood x among).1 in less j (used_count b x) (room_at b x) (less j seen.begun (used_count b x) lt m) f
 
     next_roomy : seen.next ≡ next_of roomy x
-    next_roomy = next_is ∙ sym (next_kept b roomy x (node_kept good stood g x among).same (far (room_at b x) (size_at b x) (node_fits good stood x among).0))
-      where
-        far : (r s : ℕ) → 28 + 16 * r ≤ s → 20 ≤ s
-        far r s h = omega arith
+    next_roomy = next_is ∙ sym (next_kept b roomy x (node_kept good stood g x among).same (through 20 28 (size_at b x) (omega arith) (node_long (room_at b x) (size_at b x) (node_fits good stood x among).0)))
 
     has_roomy : HasNodes roomy records 8 index
     has_roomy = (now_has good stood g).indexed.has_nodes
@@ -223,15 +208,9 @@ module _ {b : List ℕ} {kind : Kind} {before : List VariableShape} {own : Varia
 
     heads_roomy : (now : List ℕ) (from n : ℕ) → 12 ≤ from → from + n ≤ 28 + 16 * room_at roomy x → Changed roomy now (touch x from n ∷ []) → SameHeads roomy now records records
     heads_roomy now from n late fit changed = heads_stay roomy now records tiled_roomy x from n (in_roomy x among) late (through (from + n) (28 + 16 * room_at roomy x) (size_at roomy x) fit (fits_roomy x among).0) changed
-      where
-        through : (p q r : ℕ) → p ≤ q → q ≤ r → p ≤ r
-        through p q r a c = omega arith
 
     others_roomy : (now : List ℕ) (from n : ℕ) → 12 ≤ from → from + n ≤ 28 + 16 * room_at roomy x → Changed roomy now (touch x from n ∷ []) → (m : ℕ) → In m (nodes_of index) → m ≢ x → Kept roomy now m × NodeFits roomy m
     others_roomy now from n late fit changed m i ne = (others_stay roomy now records tiled_roomy x from n (in_roomy x among) late (through (from + n) (28 + 16 * room_at roomy x) (size_at roomy x) fit (fits_roomy x among).0) changed m (in_roomy m i) ne, fits_roomy m i)
-      where
-        through : (p q r : ℕ) → p ≤ q → q ≤ r → p ≤ r
-        through p q r a c = omega arith
 
     names_now : (now : List ℕ) → SameHeads roomy now records records → MayName now records l
     names_now now heads = names_leaf now records l (heads.types l.place place_roomy ∙ block_roomy) plain
@@ -241,7 +220,7 @@ module _ {b : List ℕ} {kind : Kind} {before : List VariableShape} {own : Varia
   pub with_room : {grown : List ℕ} → seen.used < seen.room → Inserted filled grown x seen.used seen.begun l.first l.last l.place → EntryStands b filled grown l 0 own x need
   with_room {grown = grown} lt ins =
       let none : new ≡ 0 = room_with b (shape b).records l.first x new seen.used seen.room spot_here used_is room_is lt in
-      let never : 0 < new → ⊥ = λ s. no_room new none s in
+      let never : 0 < new → ⊥ = λ s. no_none new none s in
       let self : Grew filled filled = grew_none filled late.sound in
       let fit : 24 + (4 + 16 * room_at filled x) ≤ 28 + 16 * room_at filled x = omega arith in
       let heads = heads_roomy filled late self grown 24 (4 + 16 * room_at filled x) (omega arith) fit ins.changed in
@@ -264,9 +243,6 @@ module _ {b : List ℕ} {kind : Kind} {before : List VariableShape} {own : Varia
         state = the_first filled late self 0 (λ s. absurd (never s)) (λ s. absurd (never s)) (λ s. absurd (never s)) grown 24 (4 + 16 * room_at filled x) (omega arith) fit ins.changed ins.as_long h
             (inserted_node b filled grown (was b (nodes_of index) l.place need new 0) x x_old (inside_x filled late self) seen.used seen.begun l.first l.last l.place ins used less);
       }
-    where
-      no_room : (n : ℕ) → n ≡ 0 → 0 < n → ⊥
-      no_room n e s = absurd (omega arith)
 
   -- ---- it is full, and a new node was made
 
@@ -324,15 +300,9 @@ module _ {b : List ℕ} {kind : Kind} {before : List VariableShape} {own : Varia
 
       at_stays : Kept roomy grown at
       at_stays = others_stay roomy grown (shape roomy).records (tiled_roomy roomy all_made on_made) x from n (in_roomy roomy all_made on_made x among) behind (through (from + n) (28 + 16 * room_at roomy x) (size_at roomy x) fit (fits_roomy roomy all_made on_made x among).0) changed at at_there at_other
-        where
-          through : (p q r : ℕ) → p ≤ q → q ≤ r → p ≤ r
-          through p q r a c = omega arith
 
       at_linked : is_linkable grown (shape roomy).records vxr_type at ≡ true
-      at_linked = linkable-from grown (shape roomy).records vxr_type at at_there (heads_now.types at at_there ∙ made_node.fills.typed) (subst (λ (k : ℕ). 28 ≤ k) (sym (heads_now.sizes at at_there)) (long_node (room_at roomy at) (size_at roomy at) made_node.written.inside.entries))
-        where
-          long_node : (r s : ℕ) → 28 + 16 * r ≤ s → 28 ≤ s
-          long_node r s h = omega arith
+      at_linked = linkable-from grown (shape roomy).records vxr_type at at_there (heads_now.types at at_there ∙ made_node.fills.typed) (subst (λ (k : ℕ). 28 ≤ k) (sym (heads_now.sizes at at_there)) (node_long (room_at roomy at) (size_at roomy at) made_node.written.inside.entries))
 
     old_x : NodeNow b roomy roomy (was b (nodes_of index) l.place need new at) x x
     old_x = old_node b roomy (was b (nodes_of index) l.place need new at) x x (node_spares good stood all_made x among) (fits_roomy roomy all_made on_made x among) (is_old roomy all_made on_made at (λ s. at_there) (λ s. at_apart) at_new x among)
@@ -361,7 +331,7 @@ module _ {b : List ℕ} {kind : Kind} {before : List VariableShape} {own : Varia
       let itself : NodeWritten roomy roomy at (max 7 (seen.used - seen.begun)) seen.next sp.behind = record { as_long = refl; changed = record { longer = omega arith; same = λ i a o. refl }; type_is = w.written.type_is; next_is = w.written.next_is; room_is = w.written.room_is; used_is = w.written.used_is; count_is = w.written.count_is; inside = w.written.inside; says = w.written.says } in
       let stay_x : Kept roomy roomy x = kept_self roomy (shape roomy).records x (tiled_roomy roomy g on) (in_roomy roomy g on x among) in
       let made_split : Split roomy grown x at seen.used seen.begun l.first l.last l.place =
-      split roomy roomy grown x at (max 7 (seen.used - seen.begun)) seen.next seen.used seen.begun l.first l.last l.place sp.behind stay_x (at_stays w grown 12 (16 + 16 * room_at roomy x) (omega arith) fit sh.changed) (fits_roomy roomy g on x among).0 most (most_of (seen.used - seen.begun)) itself read (next_roomy roomy g on) refl sh in
+      split roomy roomy grown x at (max 7 (seen.used - seen.begun)) seen.next seen.used seen.begun l.first l.last l.place sp.behind stay_x (at_stays w grown 12 (16 + 16 * room_at roomy x) (omega arith) fit sh.changed) (fits_roomy roomy g on x among) most (most_of (seen.used - seen.begun)) itself read (next_roomy roomy g on) refl sh in
       let h = redone roomy grown (shape roomy).records (shape roomy).records heads x (placed l at x)
       (split_owed roomy grown (shape roomy).records (shape roomy).records heads x at seen.used seen.begun l used (begins_roomy roomy g on) (names_now roomy g on grown heads) (subst (λ (n : ℕ). n ≤ seen.used) (room_roomy roomy g on) le) (at_linked w grown 12 (16 + 16 * room_at roomy x) (omega arith) fit sh.changed) made_split lt)
       8 index (has_roomy roomy g on) once (others_roomy roomy g on grown 12 (16 + 16 * room_at roomy x) (omega arith) fit sh.changed) (now_blocks good stood g) in
@@ -422,7 +392,7 @@ module _ {b : List ℕ} {kind : Kind} {before : List VariableShape} {own : Varia
         here = all_entries roomy grown at at_kept (at_fits w) 0 (subst (λ (n : ℕ). 0 < n) (sym w.written.room_is) (omega arith)) l.first l.last l.place first;
         new_room = spares.room_is ∙ w.written.room_is;
         new_used = spares.used_is ∙ w.written.used_is;
-        new_next = next_kept roomy grown at at_kept.same (long_node (room_at roomy at) (size_at roomy at) w.written.inside.entries) ∙ w.written.next_is ∙ next_roomy roomy g on;
+        new_next = next_kept roomy grown at at_kept.same (through 20 28 (size_at roomy at) (omega arith) (node_long (room_at roomy at) (size_at roomy at) w.written.inside.entries)) ∙ w.written.next_is ∙ next_roomy roomy g on;
       } in
       let h = redone roomy grown (shape roomy).records (shape roomy).records heads x (placed l at x)
       (chained_owed roomy grown (shape roomy).records (shape roomy).records heads x at seen.used seen.begun l used (begins_roomy roomy g on) (names_now roomy g on grown heads) (subst (λ (n : ℕ). n ≤ seen.used) (room_roomy roomy g on) le) (at_linked w grown 12 8 (omega arith) fit changed) chained p_is)
@@ -440,9 +410,6 @@ module _ {b : List ℕ} {kind : Kind} {before : List VariableShape} {own : Varia
         state = the_first roomy g on at (λ s. at_there w) (λ s. at_apart w) (at_new w) grown 12 8 (omega arith) fit changed as_long h
             (node_then b roomy roomy grown (was b (nodes_of index) l.place need new at) x x (old_x w) (link_spares roomy grown x at inside ch.linked));
       }
-    where
-      long_node : (r s : ℕ) → 28 + 16 * r ≤ s → 20 ≤ s
-      long_node r s h = omega arith
 
   pub entry_stands : {grown : List ℕ} {at : ℕ} → length grown ≤ image_limit → EntryPut filled grown seen (entry l.first l.last l.place) at → EntryStands b filled grown l at own x need
   entry_stands {grown = grown} {at = at} short (inl p) = subst (λ (y : ℕ). EntryStands b filled grown l y own x need) (sym p.1) (with_room p.0 p.2)
@@ -464,7 +431,7 @@ module _ {b : List ℕ} {kind : Kind} {before : List VariableShape} {own : Varia
     spare_was = was b (nodes_of index) l.place need new at
 
     stand_every : (m : ℕ) → In m every → In m recs
-    stand_every m i = nodes_stand grown recs 8 m (redo x (placed l at x) index) e.state.has (subst (In m) (sym e.state.nodes_are) i)
+    stand_every m i = linkable-in grown recs vxr_type m (nodes_stand grown recs 8 (redo x (placed l at x) index) e.state.has m (subst (In m) (sym e.state.nodes_are) i))
 
     once_every : Distinct every
     once_every = all_once index l at once e.fresh
@@ -487,9 +454,6 @@ module _ {b : List ℕ} {kind : Kind} {before : List VariableShape} {own : Varia
       touches_in : (ts : List Touch) → Each (NodeTouch e.roomy every) ts → ChangedPlaced e.roomy recs (length e.roomy) ts
       touches_in [] s = tt
       touches_in (t ∷ ts) s = (inl (stand_every t.tile s.0.0, through (t.place + t.width) (28 + 16 * room_at e.roomy t.tile) (size_at e.roomy t.tile) s.0.2 (fits_first t.tile s.0.0)), touches_in ts s.1)
-        where
-          through : (p q r : ℕ) → p ≤ q → q ≤ r → p ≤ r
-          through p q r a c = omega arith
 
       node_apart : (m : ℕ) → In m every → m ≢ own.vdr
       node_apart m i q = elim (node_of index l at m i) [
@@ -590,10 +554,10 @@ module _ {b : List ℕ} {kind : Kind} {before : List VariableShape} {own : Varia
             has_nodes = nodes_kept wide now recs recs heads 8 after_leaf st.has stay (λ m i. (st.each m i).fits) st.blocks;
             once = once_every;
           };
-          fits = each_all (NodeFits now) every (λ m i. (last_node_now m i).fits);
-          counts = λ c. each_all (Counts now) every (counts_now c);
+          fits = each (NodeFits now) every (λ m i. (last_node_now m i).fits);
+          counts = λ c. each (Counts now) every (counts_now c);
           tail = tail;
-          unused = each_all (UnusedEntries b now (index ∷ []) (nodes_of index) (leaf_acts l.place (8 + length body) new at)) every unused_now;
+          unused = each (UnusedEntries b now (index ∷ []) (nodes_of index) (leaf_acts l.place (8 + length body) new at)) every unused_now;
         }
 
       -- ---- VXRtail stays

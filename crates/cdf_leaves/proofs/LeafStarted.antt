@@ -1,5 +1,5 @@
 -- The first leaf of an index: its node is taken, and the descriptor leads to it.
-use Rattle.std.proofs.Common.{◌≡◌, ◌≢◌, ℕ, ◌+◌, ◌*◌, ◌^◌, ◌<◌, ◌≤◌, List, [], ◌∷◌, length, Bool, false, refl, sym, ap, subst, ◌∙◌, arith, inl, inr}
+use Rattle.std.proofs.Common.{◌≡◌, ◌≢◌, ℕ, ◌+◌, ◌^◌, ◌<◌, ◌≤◌, List, [], ◌∷◌, length, Bool, false, refl, sym, ap, subst, ◌∙◌, arith, inl, inr}
 use Rattle.cdf_leaves.proofs.Common.{if◌then◌else◌, bytes_eq, Kind, R, Z, image_limit, touch, Touch, Changed, with_block, UnusedEntries, top_chain, last_node, Placed, StandsAmong, sound, typed, has, long, changed_then, changed_whole, Kept, apart, field_reads, other_words, LiesIn, number, size_at, type_at, with_field, Nodes, no_node, node, no_entry, Leaf, link_to, room_at, SaysNode, vdr_vxr_head, vdr_vxr_tail, gdr_type, uir_type, vxr_type, vvr_type, VariableShape, Each, shape, NodeFits, AreTiles, Distinct, In, Good, type_kept, next_kept, size_kept, linkable-in, linkable-from, some_place, tile_lies, Counts, NodeTaken, LeafAdded, leaf_acts, MayName, type_in, variables_chain, entry, IndexStarted, Grew, grew, grew_then, stands, unlike}
 use Rattle.cdf_edits.specs.Index.Grown.{with_leaf, new_room}
 use Rattle.cdf_format.specs.Index.{nodes_of, lower_nodes}
@@ -7,8 +7,9 @@ use Rattle.cdf_format.specs.IndexOf.{IsIndex, HasNodes, Names}
 use Rattle.cdf_leaves.proofs.Grown.{was, was_new, new_node, names_leaf}
 use Rattle.cdf_leaves.proofs.Linked.{field_changed, field_long}
 use Rattle.cdf_leaves.proofs.Own.{vdr_kept, vdr_in, vdr_used}
-use Rattle.cdf_leaves.proofs.Spares.{Spares, spares_kept, all_entries}
+use Rattle.cdf_leaves.proofs.Spares.{Spares, spares_kept, all_entries, node_long}
 use Rattle.cdf_leaves.proofs.State.{NodeNow, node_then}
+use Rattle.cdf_edits.proofs.Edits.RecordFrame.{through}
 
 no_nodes : (b ts : List ℕ) (nodes : Nodes) → AreTiles b 8 (length b) ts → HasNodes b ts 8 nodes → 0 ≡ link_to nodes → nodes ≡ no_node
 unfolding HasNodes
@@ -155,18 +156,12 @@ module _ {b : List ℕ} {kind : Kind} {before : List VariableShape} {own : Varia
 
   says : SaysNode now records at 7 (with_block l no_entry) no_node
   says = record {
-    linkable = linkable-from now records vxr_type at at_in (type_kept roomy now at at_kept.same at_kept.long ∙ st.made.fills.typed) (subst (λ (n : ℕ). 28 ≤ n) (sym spares.size_is) (far (room_at roomy at) (size_at roomy at) fits_roomy.0));
-    next_is = next_kept roomy now at at_kept.same (near (room_at roomy at) (size_at roomy at) fits_roomy.0) ∙ st.made.written.next_is;
+    linkable = linkable-from now records vxr_type at at_in (type_kept roomy now at at_kept.same at_kept.long ∙ st.made.fills.typed) (subst (λ (n : ℕ). 28 ≤ n) (sym spares.size_is) (node_long (room_at roomy at) (size_at roomy at) fits_roomy.0));
+    next_is = next_kept roomy now at at_kept.same (through 20 28 (size_at roomy at) (omega arith) (node_long (room_at roomy at) (size_at roomy at) fits_roomy.0)) ∙ st.made.written.next_is;
     room_is = spares.room_is ∙ st.made.written.room_is;
     used_is = spares.used_is ∙ st.made.written.used_is;
     say_entries = (all_entries roomy now at at_kept fits_roomy 0 (subst (λ (n : ℕ). 0 < n) (sym st.made.written.room_is) (omega arith)) l.first l.last l.place (st.made.written.says 0 (omega arith)), tt);
   }
-    where
-      far : (r s : ℕ) → 28 + 16 * r ≤ s → 28 ≤ s
-      far r s h = omega arith
-
-      near : (r s : ℕ) → 28 + 16 * r ≤ s → 20 ≤ s
-      near r s h = omega arith
 
   head_reads : number now v vdr_vxr_head ≡ at
   head_reads = ap (λ (y : List ℕ). number y v vdr_vxr_head) st.linked ∙ other_words mid v vdr_vxr_tail at (v + 28) 8 lies_tail (inl (omega arith)) ∙ field_reads roomy v vdr_vxr_head at lies_head at_small

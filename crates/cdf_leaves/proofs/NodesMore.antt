@@ -1,12 +1,12 @@
 -- The nodes of an index with one leaf more, and of one some of whose entries end later.
-use Rattle.std.proofs.Common.{◌≡◌, ℕ, zero, suc, ◌+◌, ◌≤◌, max, List, [], ◌∷◌, ◌++◌, map, false, ltb, eqb, append_assoc, append-nil, refl, sym, ap, ap₂, ◌∙◌, arith, inl, inr}
+use Rattle.std.proofs.Common.{◌≡◌, ℕ, zero, suc, ◌+◌, ◌≤◌, max, List, [], ◌∷◌, ◌++◌, map, false, ltb, eqb, append-nil, refl, sym, ap, ap₂, ◌∙◌, arith, inl, inr}
 use Rattle.cdf_leaves.proofs.Common.{eqb-true, map-append, reaches, chain_reaches, leads_down, with_block, past, with_entry, room_of_new, Nodes, no_node, node, Entries, no_entry, block, lower, Leaf, entry_count, times, either, wider, widen_all}
 use Rattle.cdf_edits.proofs.Frame.OwnersApart.{times-append}
 use Rattle.cdf_edits.proofs.Index.NodeEdited.{redo, redo_below}
 use Rattle.cdf_edits.specs.Index.Grown.{upto, with_both, with_leaf, with_lower, new_room, new_room_below}
 use Rattle.cdf_format.specs.Index.{nodes_of, lower_nodes, leaves_of, entry_leaves}
 use Rattle.cdf_index.specs.Way.{widened}
-use Rattle.cdf_index.proofs.Saying.{front, front_past, upto_both, upto_is}
+use Rattle.cdf_index.proofs.Saying.{front, front_past, upto_both, upto_is, lower_both}
 
 -- the new node, where one is needed
 abbrev pub taken_at : ℕ → ℕ → List ℕ
@@ -16,12 +16,6 @@ taken_at (suc room) at = at ∷ []
 taken_some : (n at : ℕ) → 7 ≤ n → taken_at n at ≡ at ∷ []
 taken_some zero at le = absurd (omega arith)
 taken_some (suc n) at le = refl
-
-lower_both : (es fs : Entries) → lower_nodes (with_both es fs) ≡ lower_nodes es ++ lower_nodes fs
-unfolding nodes_of lower_nodes
-lower_both no_entry fs = refl
-lower_both (block first last place packed es) fs = lower_both es fs
-lower_both (lower first last nodes es) fs = ap (λ (xs : List ℕ). nodes_of nodes ++ xs) (lower_both es fs) ∙ sym (append_assoc (nodes_of nodes) (lower_nodes es) (lower_nodes fs))
 
 lower_block : (l : Leaf) (es : Entries) → lower_nodes (with_block l es) ≡ lower_nodes es
 unfolding nodes_of lower_nodes

@@ -1,14 +1,10 @@
 -- The nodes and the blocks of an index with a leaf more.
 use Rattle.std.proofs.Common.{◌≡◌, ◌≢◌, ◌⊎◌, ℕ, zero, suc, ◌+◌, ◌<◌, ◌≤◌, List, [], ◌∷◌, Bool, true, false, ltb, refl, subst, arith, inl, inr}
-use Rattle.cdf_leaves.proofs.Common.{cases_eq, with_leaf, new_room, Nodes, Leaf, nodes_of, times, Each, Distinct, In, with_new}
+use Rattle.cdf_leaves.proofs.Common.{cases_eq, with_leaf, new_room, Nodes, Leaf, nodes_of, times, Distinct, In, with_new}
 use Rattle.cdf_edits.proofs.Edits.UnlinkedAttribute.{distinct_if}
 use Rattle.cdf_edits.proofs.Frame.OwnersApart.{times-in}
 use Rattle.cdf_format.proofs.Owning.{times-none, times-once}
 use Rattle.cdf_leaves.proofs.NodesMore.{places, taken_at, nodes_more, cons_times}
-
-pub each_all : (P : ℕ → Type 0) (xs : List ℕ) → ((m : ℕ) → In m xs → P m) → Each P xs
-each_all P [] f = tt
-each_all P (x ∷ xs) f = (f x (inl refl), each_all P xs (λ m i. f m (inr i)))
 
 single : (m x : ℕ) → m ≢ x → times m (x ∷ []) ≡ 0
 single m x ne = times-none m (x ∷ []) (λ i. elim i [ inl e ↦ ne e | inr none ↦ none ])

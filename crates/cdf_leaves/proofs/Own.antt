@@ -1,6 +1,6 @@
 -- The variable whose index gets a leaf, in the images in which records were taken.
-use Rattle.std.proofs.Common.{◌≡◌, ◌≢◌, ℕ, List, [], ◌∷◌, ◌++◌, append_assoc, refl, sym, ap, subst, ◌∙◌, inl, inr}
-use Rattle.cdf_leaves.proofs.Common.{Kind, R, Z, shapes_of, StandsAmong, sound, tile, typed, has, Kept, apart, type_in, variables_chain, number, type_at, Leaf, nodes_of, leaves_of, vdr_vxr_head, gdr_type, uir_type, vxr_type, VariableShape, Each, shape, variables, NodeFits, In, Good, type_kept, linkable-in, good_is_sound, HasIndex, index_at, Grew}
+use Rattle.std.proofs.Common.{◌≡◌, ◌≢◌, ℕ, List, [], ◌∷◌, ◌++◌, refl, sym, ap, subst, ◌∙◌, inl, inr}
+use Rattle.cdf_leaves.proofs.Common.{Kind, R, Z, StandsAmong, sound, tile, typed, has, Kept, apart, type_in, variables_chain, number, type_at, Leaf, nodes_of, leaves_of, vdr_vxr_head, gdr_type, uir_type, vxr_type, VariableShape, Each, shape, variables, NodeFits, In, Good, type_kept, linkable-in, good_is_sound, HasIndex, index_at, Grew}
 use Rattle.cdf_format.specs.GoodImage.{IsGoodImage}
 use Rattle.cdf_format.specs.Shape.{HasVariable}
 use Rattle.cdf_format.specs.Sound.{LeafFits, VariableFits}
@@ -13,16 +13,7 @@ use Rattle.cdf_index.proofs.GoodIndex.{good_index}
 use Rattle.cdf_leaves.proofs.NodesMore.{places}
 use Rattle.cdf_leaves.proofs.Spares.{Spares, spares_kept}
 use Rattle.cdf_leaves.proofs.SpotNode.{nodes_linkable}
-
--- a variable among all of them
-pub record AmongAll (vs : List VariableShape) (own : VariableShape) : Type 0 where
-  pub front : List VariableShape
-  pub rest : List VariableShape
-  pub all : vs ≡ front ++ own ∷ rest
-
-pub among_all : (b : List ℕ) (kind : Kind) (before : List VariableShape) (own : VariableShape) (after : List VariableShape) → shapes_of (shape b) kind ≡ before ++ own ∷ after → AmongAll (variables (shape b)) own
-among_all b R before own after was = record { front = before; rest = after ++ (shape b).z_variables; all = ap (λ (vs : List VariableShape). vs ++ (shape b).z_variables) was ∙ append_assoc before (own ∷ after) (shape b).z_variables }
-among_all b Z before own after was = record { front = (shape b).r_variables ++ before; rest = after; all = ap (λ (vs : List VariableShape). (shape b).r_variables ++ vs) was ∙ sym (append_assoc (shape b).r_variables before (own ∷ after)) }
+pub use Rattle.cdf_index.proofs.OneVariable.{AmongAll, among_all}
 
 each_in : {A : Type 0} (P : A → Type 0) (vs front : List A) (own : A) (rest : List A) → vs ≡ front ++ own ∷ rest → Each P vs → P own
 each_in P vs front own rest all e = (Each-split P front (own ∷ rest) (subst (Each P) all e)).1.0

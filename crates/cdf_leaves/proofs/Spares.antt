@@ -1,8 +1,9 @@
 -- Nodes that stay but for their used entries.
 use Rattle.std.proofs.Common.{◌≡◌, ◌≢◌, ℕ, ◌+◌, ◌*◌, ◌<◌, ◌≤◌, List, [], ◌∷◌, length, refl, sym, subst, ◌∙◌, inl, inr, arith}
-use Rattle.cdf_leaves.proofs.Common.{cases_eq, SameHeads, tiles_same, Kept, number_kept, size_kept, type_kept, tile_lies, number, size_at, type_at, room_at, used_count, vxr_n_used_entries, NodeFits, AreTiles, In, NodeInside, StillSays, Widened, front_stays, heads_stay, others_stay}
+use Rattle.cdf_leaves.proofs.Common.{cases_eq, SameHeads, tiles_same, Kept, number_kept, size_kept, tile_lies, number, size_at, room_at, used_count, vxr_n_used_entries, NodeFits, AreTiles, In, NodeInside, StillSays, Widened, front_stays, heads_stay, others_stay}
 use Rattle.cdf_edits.proofs.Frame.LinksStay.{room_same, used_same, entry_same}
 use Rattle.cdf_index.proofs.Inserting.{room_stays, used_stays}
+use Rattle.cdf_index.proofs.OneNode.{one_head}
 
 -- a node is as it was but for its used entries
 pub record Spares (mid now : List ℕ) (m : ℕ) : Type 0 where
@@ -30,15 +31,7 @@ fits_still mid now m s fits = (
   subst (λ (n : ℕ). used_count now m ≤ n) (sym s.room_is) (subst (λ (n : ℕ). n ≤ room_at mid m) (sym s.used_is) fits.1),
 )
 
--- a record whose bytes stay
-pub one_head : (mid now : List ℕ) (m : ℕ) → Kept mid now m → SameHeads mid now (m ∷ []) (m ∷ [])
-one_head mid now m k = record {
-  sizes = λ x i. elim i [ inl e ↦ subst (λ (y : ℕ). size_at now y ≡ size_at mid y) (sym e) (size_kept mid now m k.same (let l = k.long in omega arith)) | inr none ↦ absurd none ];
-  types = λ x i. elim i [ inl e ↦ subst (λ (y : ℕ). type_at now y ≡ type_at mid y) (sym e) (type_kept mid now m k.same k.long) | inr none ↦ absurd none ];
-  sub = λ x i. i;
-}
-
-node_long : (r s : ℕ) → 28 + 16 * r ≤ s → 24 + 4 ≤ s
+pub node_long : (r s : ℕ) → 28 + 16 * r ≤ s → 24 + 4 ≤ s
 node_long r s h = omega arith
 
 pub spares_kept : (mid now : List ℕ) (m : ℕ) → Kept mid now m → NodeFits mid m → Spares mid now m

@@ -1,13 +1,14 @@
 -- The node at the end of the way.
 use Rattle.std.proofs.Common.{◌≡◌, ◌≢◌, ◌⊎◌, ℕ, zero, suc, ◌+◌, ◌<◌, ◌≤◌, max, List, [], ◌∷◌, true, false, leb, refl, sym, ap, subst, ◌∙◌, arith, inl, inr}
-use Rattle.cdf_leaves.proofs.Common.{nat_tests, reaches, chain_reaches, leads_down, past, room_of_new, is_linkable, Nodes, no_node, node, Entries, no_entry, block, lower, entry_count, room_at, SaysNode, vxr_type, In, Distinct, either, In-append, In-append_right, Distinct-back, Begun, Begins}
+use Rattle.cdf_leaves.proofs.Common.{reaches, chain_reaches, leads_down, past, room_of_new, is_linkable, Nodes, no_node, node, Entries, no_entry, block, lower, entry_count, room_at, SaysNode, vxr_type, In, Distinct, either, In-append, In-append_right, Distinct-back, Begun, Begins}
 use Rattle.cdf_edits.specs.Commands.Room.{widest, widest_below}
 use Rattle.cdf_edits.specs.Index.Grown.{new_room, new_room_below}
 use Rattle.cdf_format.specs.Index.{nodes_of, lower_nodes, first_at}
 use Rattle.cdf_format.specs.IndexOf.{SayEntries, HasNodes, Names}
 use Rattle.cdf_format.proofs.Members.{In-append_left, Distinct-front}
 use Rattle.cdf_index.specs.Way.{way, way_below, spot, spot_below}
-use Rattle.cdf_index.proofs.WayDown.{spot_in}
+use Rattle.cdf_index.proofs.WayDown.{spot_below_in}
+use Rattle.std.proofs.lemmas.Bool.{lt-leb, le-leb}
 
 -- a node is at the end of the way, and the new one has so much room
 pub record SpotNode (b ts : List ℕ) (f at new : ℕ) : Type 0 where
@@ -54,7 +55,7 @@ mutual
     | inl t ↦ rw t (way_apart f more (Distinct-back (lower_nodes es) (nodes_of more) d.1) (λ i. z (inr (In-append_right 0 (lower_nodes es) (nodes_of more) i))))
     | inr t ↦ elim (either (leads_down f false es)) [
       | inl u ↦ rw (t, u) (
-        (λ e. elim (below_in f es) [
+        (λ e. elim (spot_below_in f es) [
           | inl q ↦ z (inl (sym (e ∙ q)))
           | inr i ↦ d.0 (In-append_left place (lower_nodes es) (nodes_of more) (subst (λ (x : ℕ). In x (lower_nodes es)) (sym e) i))
         ]),
@@ -72,15 +73,13 @@ mutual
     | inr t ↦ rw t (way_apart f nodes (Distinct-front (nodes_of nodes) (lower_nodes es) d) (λ i. z (In-append_left 0 (nodes_of nodes) (lower_nodes es) i)))
   ]
 
-  below_in : (f : ℕ) (es : Entries) → (spot_below f es ≡ 0) ⊎ In (spot_below f es) (lower_nodes es)
-  below_in f no_entry = inl refl
-  below_in f (block first last place packed es) = below_in f es
-  below_in f (lower first last nodes es) = elim (either (reaches f es)) [
-    | inl t ↦ rw t (elim (below_in f es) [ inl q ↦ inl q | inr i ↦ inr (In-append_right (spot_below f es) (nodes_of nodes) (lower_nodes es) i) ])
-    | inr t ↦ rw t (elim (spot_in f nodes) [ inl q ↦ inl q | inr i ↦ inr (In-append_left (spot f nodes) (nodes_of nodes) (lower_nodes es) i) ])
-  ]
-
 -- ---- all nodes
+
+most_left : (a c n : ℕ) → n ≤ a → n ≤ max a c
+most_left a c n l = grind arith
+
+most_right : (a c n : ℕ) → n ≤ c → n ≤ max a c
+most_right a c n l = grind arith
 
 mutual
   unfolding HasNodes Names nodes_of lower_nodes widest widest_below
@@ -89,42 +88,25 @@ mutual
   nodes_linkable b ts levels m no_node h i = absurd i
   nodes_linkable b ts zero m (node place room es more) h i = absurd h
   nodes_linkable b ts (suc levels) m (node place room es more) h (inl e) =
-      (subst (λ (x : ℕ). is_linkable b ts vxr_type x ≡ true) (sym e) h.0.linkable, subst (λ (x : ℕ). room_at b x ≤ max room (max (widest_below es) (widest more))) (sym e) (subst (λ (r : ℕ). r ≤ max room (max (widest_below es) (widest more))) (sym h.0.room_is) (first room (widest_below es) (widest more))))
-    where
-      first : (a c d : ℕ) → a ≤ max a (max c d)
-      first a c d = grind arith
+      let here : room_at b place ≤ room = subst (λ (r : ℕ). room_at b place ≤ r) h.0.room_is (omega arith) in
+      subst (λ (x : ℕ). (is_linkable b ts vxr_type x ≡ true) × (room_at b x ≤ max room (max (widest_below es) (widest more)))) (sym e) (h.0.linkable, most_left room (max (widest_below es) (widest more)) (room_at b place) here)
   nodes_linkable b ts (suc levels) m (node place room es more) h (inr i) = elim (In-append m (lower_nodes es) (nodes_of more) i) [
-    | inl j ↦ let r = lower_linkable b ts levels m es h.1 j in (r.0, second room (widest_below es) (widest more) (room_at b m) r.1)
-    | inr j ↦ let r = nodes_linkable b ts (suc levels) m more h.2 j in (r.0, third room (widest_below es) (widest more) (room_at b m) r.1)
+    | inl j ↦ let r = lower_linkable b ts levels m es h.1 j in (r.0, most_right room (max (widest_below es) (widest more)) (room_at b m) (most_left (widest_below es) (widest more) (room_at b m) r.1))
+    | inr j ↦ let r = nodes_linkable b ts (suc levels) m more h.2 j in (r.0, most_right room (max (widest_below es) (widest more)) (room_at b m) (most_right (widest_below es) (widest more) (room_at b m) r.1))
   ]
-    where
-      second : (a c d n : ℕ) → n ≤ c → n ≤ max a (max c d)
-      second a c d n l = grind arith
-
-      third : (a c d n : ℕ) → n ≤ d → n ≤ max a (max c d)
-      third a c d n l = grind arith
 
   lower_linkable : (b ts : List ℕ) (levels m : ℕ) (es : Entries) → Names b ts levels es → In m (lower_nodes es) → (is_linkable b ts vxr_type m ≡ true) × (room_at b m ≤ widest_below es)
   lower_linkable b ts levels m no_entry n i = absurd i
   lower_linkable b ts levels m (block first last place packed es) n i = lower_linkable b ts levels m es n.2 i
   lower_linkable b ts levels m (lower first last nodes es) n i = elim (In-append m (nodes_of nodes) (lower_nodes es) i) [
-    | inl j ↦ let r = nodes_linkable b ts levels m nodes n.1 j in (r.0, left (widest nodes) (widest_below es) (room_at b m) r.1)
-    | inr j ↦ let r = lower_linkable b ts levels m es n.2 j in (r.0, right (widest nodes) (widest_below es) (room_at b m) r.1)
+    | inl j ↦ let r = nodes_linkable b ts levels m nodes n.1 j in (r.0, most_left (widest nodes) (widest_below es) (room_at b m) r.1)
+    | inr j ↦ let r = lower_linkable b ts levels m es n.2 j in (r.0, most_right (widest nodes) (widest_below es) (room_at b m) r.1)
   ]
-    where
-      left : (a c n : ℕ) → n ≤ a → n ≤ max a c
-      left a c n l = grind arith
-
-      right : (a c n : ℕ) → n ≤ c → n ≤ max a c
-      right a c n l = grind arith
 
 pub widest_least : (nodes : Nodes) → 7 ≤ widest nodes
 unfolding widest widest_below
 widest_least no_node = omega arith
-widest_least (node place room es more) = third room (widest_below es) (widest more) (widest_least more)
-  where
-    third : (a c d : ℕ) → 7 ≤ d → 7 ≤ max a (max c d)
-    third a c d l = grind arith
+widest_least (node place room es more) = most_right room (max (widest_below es) (widest more)) 7 (most_right (widest_below es) (widest more) 7 (widest_least more))
 
 -- ---- its entries that begin at a record or before it
 
@@ -136,37 +118,25 @@ past_count b at f k p no_entry s most before stop = omega arith
 past_count b at f k zero (block first last place packed es) s most before stop =
     let z : k + 0 ≡ k = omega arith in
     let g : f < first_at b at (k + 0) = stop (omega arith) in
-    let t : leb first f ≡ false = above first f (subst (λ (n : ℕ). f < n) (ap (first_at b at) z ∙ s.0.first_is) g) in
+    let t : leb first f ≡ false = lt-leb first f (subst (λ (n : ℕ). f < n) (ap (first_at b at) z ∙ s.0.first_is) g) in
     rw t (omega arith)
-  where
-    above : (m n : ℕ) → n < m → leb m n ≡ false
-    above m n h = grind (arith, nat_tests)
 past_count b at f k zero (lower first last nodes es) s most before stop =
     let z : k + 0 ≡ k = omega arith in
     let g : f < first_at b at (k + 0) = stop (omega arith) in
-    let t : leb first f ≡ false = above first f (subst (λ (n : ℕ). f < n) (ap (first_at b at) z ∙ s.0.first_is) g) in
+    let t : leb first f ≡ false = lt-leb first f (subst (λ (n : ℕ). f < n) (ap (first_at b at) z ∙ s.0.first_is) g) in
     rw t (omega arith)
-  where
-    above : (m n : ℕ) → n < m → leb m n ≡ false
-    above m n h = grind (arith, nat_tests)
 past_count b at f k (suc p) (block first last place packed es) s most before stop =
     let z : k + 0 ≡ k = omega arith in
     let g : first_at b at (k + 0) ≤ f = before 0 (omega arith) in
-    let t : leb first f ≡ true = within first f (subst (λ (n : ℕ). n ≤ f) (ap (first_at b at) z ∙ s.0.first_is) g) in
+    let t : leb first f ≡ true = le-leb first f (subst (λ (n : ℕ). n ≤ f) (ap (first_at b at) z ∙ s.0.first_is) g) in
     let r = past_count b at f (suc k) p es s.1 (omega arith) (λ j lt. subst (λ (n : ℕ). first_at b at n ≤ f) (shift k j) (before (suc j) (omega arith))) (λ lt. subst (λ (n : ℕ). f < first_at b at n) (shift k p) (stop (omega arith))) in
     rw t (omega arith)
-  where
-    within : (m n : ℕ) → m ≤ n → leb m n ≡ true
-    within m n h = grind (arith, nat_tests)
 past_count b at f k (suc p) (lower first last nodes es) s most before stop =
     let z : k + 0 ≡ k = omega arith in
     let g : first_at b at (k + 0) ≤ f = before 0 (omega arith) in
-    let t : leb first f ≡ true = within first f (subst (λ (n : ℕ). n ≤ f) (ap (first_at b at) z ∙ s.0.first_is) g) in
+    let t : leb first f ≡ true = le-leb first f (subst (λ (n : ℕ). n ≤ f) (ap (first_at b at) z ∙ s.0.first_is) g) in
     let r = past_count b at f (suc k) p es s.1 (omega arith) (λ j lt. subst (λ (n : ℕ). first_at b at n ≤ f) (shift k j) (before (suc j) (omega arith))) (λ lt. subst (λ (n : ℕ). f < first_at b at n) (shift k p) (stop (omega arith))) in
     rw t (omega arith)
-  where
-    within : (m n : ℕ) → m ≤ n → leb m n ≡ true
-    within m n h = grind (arith, nat_tests)
 
 pub begins_by : (b : List ℕ) (at f p : ℕ) → Begun b at f p → Begins b at f p
 begins_by b at f p g es u s = past_count b at f 0 p es s (subst (λ (n : ℕ). p ≤ n) u g.most) (λ j lt. subst (λ (n : ℕ). first_at b at n ≤ f) (from_zero j) (g.before j lt)) (λ lt. subst (λ (n : ℕ). f < first_at b at n) (from_zero p) (g.stop (subst (λ (n : ℕ). p < n) (sym u) lt)))

@@ -5,6 +5,7 @@ use Rattle.cdf_index.proofs.NodeWider.{wider_owed}
 use Rattle.cdf_index.proofs.TreeTouched.{edited}
 use Rattle.cdf_leaves.proofs.NodesMore.{places, nodes_wider}
 use Rattle.cdf_leaves.proofs.Spares.{Spares, spares_kept, spares_widened, fits_still, node_inside, front_lies}
+use Rattle.cdf_edits.proofs.Edits.RecordFrame.{through}
 
 -- a node: only the one at `x` may use more entries or fewer; its unused ones are as they have to be
 pub record NodeNow (b roomy now : List ℕ) (was : ℕ → ℕ → Bool) (x m : ℕ) : Type 0 where
@@ -69,9 +70,6 @@ module _ (b roomy records all : List ℕ) (was : ℕ → ℕ → Bool) (x : ℕ)
           | inr ne ↦ node_then b roomy roomy now was x m (start m i) (spares_kept roomy now m (others_stay roomy now records tiled x from n (stand x there) late whole changed m (stand m i) ne) (start m i).fits)
         ];
       }
-    where
-      through : (p q r : ℕ) → p ≤ q → q ≤ r → p ≤ r
-      through p q r l k = omega arith
 
   -- ---- a node is widened
 

@@ -10,7 +10,8 @@ use Rattle.cdf_format.proofs.ChainsLemmas.{linkable-long}
 use Rattle.cdf_format.proofs.Members.{length-le_from_distinct}
 use Rattle.cdf_format.proofs.TilesLemmas.{length_tiles}
 use Rattle.cdf_index.specs.Way.{way}
-use Rattle.cdf_leaves.proofs.Chain.{test_zero, test_some}
+use Rattle.std.proofs.lemmas.Bool.{eq-eqb, ne_eqb}
+use Rattle.cdf_index.proofs.Looking.{node_there}
 
 -- ---- in the tree
 
@@ -86,23 +87,19 @@ module _ (b ts : List ℕ) (tiled : AreTiles b 8 (length b) ts) where
   chain_inside (suc most) (suc levels) (node place room es more) h is =
       let l = tile_lies b 8 (length b) ts place tiled (linkable-in b ts vxr_type place h.0.linkable) in
       let long = linkable-long b ts vxr_type place h.0.linkable in
-      (reach (size_at b place) l.high long, λ n. subst (λ (x : ℕ). ChainInside most b x) (sym h.0.next_is) (chain_inside most (suc levels) more h.2 (behind more (λ e. n (h.0.next_is ∙ e)))))
+      (reach (size_at b place) l.high long, λ n. subst (λ (x : ℕ). ChainInside most b x) (sym h.0.next_is) (chain_inside most (suc levels) more h.2 (node_there more (λ e. n (h.0.next_is ∙ e)))))
     where
       reach : (s : ℕ) → place + s ≤ length b → 28 ≤ s → place + 20 ≤ length b
       reach s p q = omega arith
 
-      behind : (more : Nodes) → link_to more ≢ 0 → IsNode more
-      behind no_node n = n refl
-      behind (node place room es more) n = tt
-
   end_from : (most levels p : ℕ) (nodes : Nodes) → HasNodes b ts levels nodes → length (top_chain nodes) ≤ most → next_of b p ≡ link_to nodes → chain_end (suc most) b p ≡ last_from p nodes
   unfolding HasNodes
-  end_from most levels p no_node h le e = let t = test_zero (next_of b p) e in rw t refl
+  end_from most levels p no_node h le e = let t = eq-eqb (next_of b p) 0 e in rw t refl
   end_from most zero p (node place room es more) h le e = absurd h
   end_from zero (suc levels) p (node place room es more) h le e = absurd (omega arith)
   end_from (suc most) (suc levels) p (node place room es more) h le e =
       let some : place ≢ 0 = some_place b ts (length b) place tiled (linkable-in b ts vxr_type place h.0.linkable) in
-      let t = test_some (next_of b p) (λ z. some (sym e ∙ z)) in
+      let t = ne_eqb (next_of b p) 0 (λ z. some (sym e ∙ z)) in
       rw t (ap (chain_end (suc most) b) e ∙ end_from most (suc levels) place more h.2 (omega arith) h.0.next_is)
 
   pub end_is_last : (levels : ℕ) (nodes : Nodes) → HasNodes b ts levels nodes → IsNode nodes → Distinct (nodes_of nodes) → ((m : ℕ) → In m (nodes_of nodes) → In m ts) → chain_end (length b) b (link_to nodes) ≡ last_node nodes

@@ -1,18 +1,11 @@
 -- New nodes have none behind them, and -1 in the entries that are not used.
-use Rattle.std.proofs.Common.{◌≡◌, ℕ, zero, suc, ◌+◌, ◌-◌, ◌*◌, ◌/◌, min, ◌<◌, ◌≤◌, List, [], ◌∷◌, length, map, refl, sym, ap, subst, ◌∙◌, arith, inl, inr}
-use Rattle.cdf_reindex.proofs.Common.{grew, Kept, number_kept, size_kept, number, size_at, room_at, used_count, SaysEntry, vxr_n_used_entries, Each, shape, NodeFits, IsSound, In, NewNode, places_of, NodeMade, AllMade, IsBare, entry_in, Entry}
-use Rattle.cdf_format.proofs.BytesLemmas.{integer_kept, next_kept}
-use Rattle.cdf_format.specs.Fields.{counted}
-use Rattle.cdf_format.specs.Records.{vxr_n_entries, vxr_first, vxr_last, vxr_offset}
-use Rattle.cdf_index.specs.Writing.{unused_entry}
+use Rattle.std.proofs.Common.{◌≡◌, ℕ, ◌+◌, ◌*◌, ◌<◌, ◌≤◌, List, [], ◌∷◌, length, map, sym, subst, ◌∙◌, arith, inl, inr}
+use Rattle.cdf_reindex.proofs.Common.{grew, Kept, number_kept, size_at, room_at, SaysEntry, vxr_n_used_entries, Each, shape, NodeFits, IsSound, In, NewNode, places_of, NodeMade, AllMade, IsBare, Entry, SameHeads}
+use Rattle.cdf_format.proofs.BytesLemmas.{next_kept}
 use Rattle.cdf_reindex.proofs.NodesMade.{IsSmall, stands_once, all_made, used_type}
 use Rattle.cdf_reindex.proofs.WordsOfLevels.{words_of, node_words, length_words}
-
-entry_past : (entries : List Entry) (i : ℕ) → length entries ≤ i → entry_in entries i ≡ unused_entry
-entry_past [] zero le = refl
-entry_past [] (suc i) le = refl
-entry_past (entry ∷ more) zero le = absurd (omega arith)
-entry_past (entry ∷ more) (suc i) le = entry_past more i (omega arith)
+use Rattle.cdf_index.proofs.OneNode.{entry_past, one_head}
+use Rattle.cdf_edits.proofs.Frame.LinksStay.{room_same, used_same, entry_same}
 
 bare_once : (b now : List ℕ) (entries : List Entry) (place : ℕ) → length entries ≤ 64 → NodeMade b now entries place → IsBare now place
 bare_once b now entries place few made = record {
@@ -26,33 +19,18 @@ module _ (b now : List ℕ) (place : ℕ) (k : Kept b now place) (fits : NodeFit
   long : 1052 ≤ size_at b place
   long = let l : 28 + 16 * 64 ≤ size_at b place = subst (λ (n : ℕ). 28 + 16 * n ≤ size_at b place) bare.room_is fits.0 in omega arith
 
-  room_same : room_at now place ≡ 64
-  room_same = number_kept b now place k.same vxr_n_entries (let l = long in omega arith) ∙ bare.room_is
+  heads : SameHeads b now (place ∷ []) (place ∷ [])
+  heads = one_head b now place k
 
-  used_same : used_count now place ≡ used_count b place
-  used_same =
-      let u = integer_kept b now place k.same vxr_n_used_entries (let l = long in omega arith) in
-      let n = integer_kept b now place k.same vxr_n_entries (let l = long in omega arith) in
-      let s = size_kept b now place k.same (let l = long in omega arith) in
-      λ i. min (counted (u i)) (min (counted (n i)) ((s i - 28) / 16))
-
-  entry_same : (i first last offset : ℕ) → i < 64 → SaysEntry b place i first last offset → SaysEntry now place i first last offset
-  entry_same i first last offset lt e = record {
-    first_is = number_kept b now place k.same (vxr_first i) (let l = long in omega arith) ∙ e.first_is;
-    last_is =
-        ap (λ (n : ℕ). number now place (vxr_last n i)) room_same ∙ number_kept b now place k.same (vxr_last 64 i) (let l = long in omega arith)
-        ∙ sym (ap (λ (n : ℕ). number b place (vxr_last n i)) bare.room_is) ∙ e.last_is;
-    offset_is =
-        ap (λ (n : ℕ). number now place (vxr_offset n i)) room_same ∙ number_kept b now place k.same (vxr_offset 64 i) (let l = long in omega arith)
-        ∙ sym (ap (λ (n : ℕ). number b place (vxr_offset n i)) bare.room_is) ∙ e.offset_is;
-  }
+  room_stays : room_at now place ≡ 64
+  room_stays = room_same b now (place ∷ []) (place ∷ []) heads place k fits ∙ bare.room_is
 
   pub bare_by : IsBare now place
   bare_by = record {
-    room_is = room_same;
+    room_is = room_stays;
     few = subst (λ (n : ℕ). n ≤ 64) (sym (number_kept b now place k.same vxr_n_used_entries (let l = long in omega arith))) bare.few;
     next_is = next_kept b now place k.same (let l = long in omega arith) ∙ bare.next_is;
-    unused = λ i le lt. entry_same i 0xffffffff 0xffffffff 0xffffffffffffffff lt (bare.unused i (subst (λ (n : ℕ). n ≤ i) used_same le) lt);
+    unused = λ i le lt. entry_same b now (place ∷ []) (place ∷ []) heads place k fits i 0xffffffff 0xffffffff 0xffffffffffffffff (subst (λ (n : ℕ). i < n) (sym bare.room_is) lt) (bare.unused i (subst (λ (n : ℕ). n ≤ i) (used_same b now (place ∷ []) (place ∷ []) heads place k fits) le) lt);
   }
 
 pub all_bare : (b now : List ℕ) (nodes : List NewNode) → IsSound b (shape b) → Each IsSmall nodes → AllMade b now (map node_words nodes) → (m : ℕ) → In m (places_of nodes) → IsBare now m

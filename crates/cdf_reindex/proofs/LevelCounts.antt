@@ -1,10 +1,12 @@
 -- How many nodes and levels there are, and where the nodes stand.
 use Rattle.std.proofs.Common.{◌≡◌, ◌⊎◌, ℕ, zero, suc, ◌+◌, ◌-◌, ◌*◌, ◌/◌, ◌≤◌, List, [], ◌∷◌, ◌++◌, length, map, eqb, append_assoc, append-nil, refl, sym, ap, ap₂, subst, ◌∙◌, arith, inl, inr}
-use Rattle.cdf_reindex.proofs.Common.{eqb-true, length-append, map-append, times-append, times-in, levels_up, quotient_up, either, Entries, no_entry, block, lower, Leaf, entry_count, times, Distinct, NewNode, entries_for, joined, alone, entries_of, uppers, Filled, AreLevels, from_below, places_of, nodes_left}
+use Rattle.cdf_reindex.proofs.Common.{eqb-true, length-append, map-append, times-append, times-in, levels_up, quotient_up, either, Entries, no_entry, Leaf, entry_count, times, NewNode, entries_for, joined, alone, entries_of, uppers, Filled, AreLevels, from_below, places_of, nodes_left, In, is_in, true-is_in, false-is_in, times-none}
 use Rattle.cdf_edits.specs.Commands.Room.{nodes_above}
 use Rattle.cdf_format.specs.Index.{nodes_of, lower_nodes}
-use Rattle.cdf_reindex.proofs.LevelLemmas.{count_joined, count_leaves, count_uppers}
+use Rattle.cdf_reindex.proofs.LevelLemmas.{count_joined, count_leaves, count_uppers, joined_is}
 use Rattle.cdf_reindex.proofs.PyramidIs.{level_at, counted_nodes, at_is}
+use Rattle.std.proofs.lemmas.List.{length-map}
+use Rattle.cdf_index.proofs.Saying.{lower_both}
 
 -- ---- the nodes of a level are as few as can be
 
@@ -19,11 +21,11 @@ count_filled (new ∷ next ∷ more) f =
     let f0 = f.0 in
     (omega arith, omega arith)
 
+pub up : (l k : ℕ) → l * 64 ≤ k + 63 → k ≤ 64 * l → l ≡ (k + 64 - 1) / 64
+up l k p q = omega arith
+
 pub level_length : (level : List NewNode) (n : ℕ) → Filled level → entry_count (entries_of level) ≡ n → length level ≡ quotient_up n 64
 level_length level n f e = let c = count_filled level f in up (length level) (entry_count (entries_of level)) c.0 c.1 ∙ ap (λ (k : ℕ). quotient_up k 64) e
-  where
-    up : (l k : ℕ) → l * 64 ≤ k + 63 → k ≤ 64 * l → l ≡ (k + 64 - 1) / 64
-    up l k p q = omega arith
 
 -- ---- how many nodes in all
 
@@ -70,6 +72,9 @@ abbrev pub leaves_under : ℕ → ℕ
 leaves_under zero = 1
 leaves_under (suc levels) = 64 * leaves_under levels
 
+least : (l k n p : ℕ) → l * 64 ≤ k + 63 → k ≡ n → n ≤ 64 * p → l ≤ p
+least l k n p a b c = omega arith
+
 pub level_small : (leaves : List Leaf) (level : List NewNode) (more : List (List NewNode)) (m : ℕ) → AreLevels leaves (level ∷ more) → length leaves ≤ leaves_under (length (level ∷ more) + m) → length level ≤ leaves_under m
 level_small leaves level [] m l few =
     let c = count_filled level l.1 in
@@ -77,17 +82,11 @@ level_small leaves level [] m l few =
     let c0 = c.0 in
     let f : length leaves ≤ 64 * leaves_under m = subst (λ (n : ℕ). length leaves ≤ leaves_under n) (one_more m) few in
     least (length level) (entry_count (entries_of level)) (length leaves) (leaves_under m) c0 n f
-  where
-    least : (l k n p : ℕ) → l * 64 ≤ k + 63 → k ≡ n → n ≤ 64 * p → l ≤ p
-    least l k n p a b c = omega arith
 level_small leaves level (below ∷ more) m l few =
     let c = count_filled level l.1 in
     let n : entry_count (entries_of level) ≡ length below = ap entry_count l.0 ∙ count_uppers below in
     let r : length below ≤ 64 * leaves_under m = level_small leaves below more (suc m) l.3 (subst (λ (k : ℕ). length leaves ≤ leaves_under k) (shifted (length (below ∷ more)) m) few) in
     least (length level) (entry_count (entries_of level)) (length below) (leaves_under m) c.0 n r
-  where
-    least : (l k n p : ℕ) → l * 64 ≤ k + 63 → k ≡ n → n ≤ 64 * p → l ≤ p
-    least l k n p a b c = omega arith
 
 least_under : (d m : ℕ) → leaves_under m ≤ leaves_under (d + m)
 least_under zero m = subst (λ (n : ℕ). leaves_under m ≤ leaves_under n) (none m) (omega arith)
@@ -155,66 +154,56 @@ levels_up_are leaves top more l few = ups_are 7 leaves top more l ∙ ups_all 7 
 -- ---- the nodes of the tree
 
 lower_joined : (entries others : Entries) → lower_nodes (joined entries others) ≡ lower_nodes entries ++ lower_nodes others
-unfolding nodes_of lower_nodes
-lower_joined no_entry others = refl
-lower_joined (block first last place packed entries) others = lower_joined entries others
-lower_joined (lower first last nodes entries) others = ap (λ (ps : List ℕ). nodes_of nodes ++ ps) (lower_joined entries others) ∙ sym (append_assoc (nodes_of nodes) (lower_nodes entries) (lower_nodes others))
+lower_joined entries others = ap lower_nodes (joined_is entries others) ∙ lower_both entries others
 
 lower_for : (leaves : List Leaf) → lower_nodes (entries_for leaves) ≡ []
 unfolding nodes_of lower_nodes
 lower_for [] = refl
 lower_for (leaf ∷ more) = lower_for more
 
-times_level : (m : ℕ) (level : List NewNode) → times m (lower_nodes (uppers level)) ≡ times m (places_of level) + times m (lower_nodes (entries_of level))
-unfolding nodes_of lower_nodes
-times_level m [] = refl
-times_level m (new ∷ more) =
-    rw (append-nil (lower_nodes new.entries))
-    (times-append m (new.place ∷ lower_nodes new.entries) (lower_nodes (uppers more))
-    ∙ sum (times m (new.place ∷ [])) (times m (lower_nodes new.entries)) (times m (places_of more)) (times m (lower_nodes (entries_of more))) _ _ _ _
-    (times-append m (new.place ∷ []) (lower_nodes new.entries)) (times_level m more) (times-append m (new.place ∷ []) (places_of more)) (ap (times m) (lower_joined new.entries (entries_of more)) ∙ times-append m (lower_nodes new.entries) (lower_nodes (entries_of more))))
-  where
-    sum : (p e ps es x y z w : ℕ) → x ≡ p + e → y ≡ ps + es → z ≡ p + ps → w ≡ e + es → x + y ≡ z + w
-    sum p e ps es x y z w a b c d = omega arith
+-- what counts a list by its parts
+pub record Adds (f : List ℕ → ℕ) : Type 0 where
+  pub none : f [] ≡ 0
+  pub both : (xs ys : List ℕ) → f (xs ++ ys) ≡ f xs + f ys
+
+pub times_add : (m : ℕ) → Adds (times m)
+times_add m = record { none = refl; both = times-append m }
+
+pub lengths_add : Adds length
+lengths_add = record { none = refl; both = length-append }
+
+right : (n : ℕ) → n + 0 ≡ n
+right n = omega arith
+
+module _ {f : List ℕ → ℕ} (adds : Adds f) where
+  in_level : (level : List NewNode) → f (lower_nodes (uppers level)) ≡ f (places_of level) + f (lower_nodes (entries_of level))
+  unfolding nodes_of lower_nodes
+  in_level [] = sym (right (f [])) ∙ ap (λ (n : ℕ). f [] + n) (sym adds.none)
+  in_level (new ∷ more) =
+      rw (append-nil (lower_nodes new.entries))
+      (adds.both (new.place ∷ lower_nodes new.entries) (lower_nodes (uppers more))
+      ∙ sum (f (new.place ∷ [])) (f (lower_nodes new.entries)) (f (places_of more)) (f (lower_nodes (entries_of more))) _ _ _ _
+      (adds.both (new.place ∷ []) (lower_nodes new.entries)) (in_level more) (adds.both (new.place ∷ []) (places_of more)) (ap f (lower_joined new.entries (entries_of more)) ∙ adds.both (lower_nodes new.entries) (lower_nodes (entries_of more))))
+    where
+      sum : (p e ps es x y z w : ℕ) → x ≡ p + e → y ≡ ps + es → z ≡ p + ps → w ≡ e + es → x + y ≡ z + w
+      sum p e ps es x y z w a b c d = omega arith
+
+  in_levels : (leaves : List Leaf) (level : List NewNode) (more : List (List NewNode)) → AreLevels leaves (level ∷ more) → f (lower_nodes (uppers level)) ≡ f (places_of (from_below (level ∷ more)))
+  in_levels leaves level [] l = in_level level ∙ ap (λ (n : ℕ). f (places_of level) + n) (ap f (ap lower_nodes l.0 ∙ lower_for leaves) ∙ adds.none) ∙ right (f (places_of level))
+  in_levels leaves level (below ∷ more) l =
+      in_level level
+      ∙ ap (λ (n : ℕ). f (places_of level) + n) (ap (λ (es : Entries). f (lower_nodes es)) l.0 ∙ in_levels leaves below more l.3)
+      ∙ swap (f (places_of level)) (f (places_of (from_below (below ∷ more))))
+      ∙ sym (ap f (map-append (λ (new : NewNode). new.place) (from_below (below ∷ more)) level) ∙ adds.both (places_of (from_below (below ∷ more))) (places_of level))
+    where
+      swap : (x y : ℕ) → x + y ≡ y + x
+      swap x y = omega arith
 
 pub times_nodes : (m : ℕ) (leaves : List Leaf) (level : List NewNode) (more : List (List NewNode)) → AreLevels leaves (level ∷ more) → times m (lower_nodes (uppers level)) ≡ times m (places_of (from_below (level ∷ more)))
-times_nodes m leaves level [] l = times_level m level ∙ ap (λ (ps : List ℕ). times m (places_of level) + times m ps) (ap lower_nodes l.0 ∙ lower_for leaves) ∙ right (times m (places_of level))
-  where
-    right : (n : ℕ) → n + 0 ≡ n
-    right n = omega arith
-times_nodes m leaves level (below ∷ more) l =
-    times_level m level
-    ∙ ap (λ (n : ℕ). times m (places_of level) + n) (ap (λ (es : Entries). times m (lower_nodes es)) l.0 ∙ times_nodes m leaves below more l.3)
-    ∙ swap (times m (places_of level)) (times m (places_of (from_below (below ∷ more))))
-    ∙ sym (ap (times m) (map-append (λ (new : NewNode). new.place) (from_below (below ∷ more)) level) ∙ times-append m (places_of (from_below (below ∷ more))) (places_of level))
-  where
-    swap : (x y : ℕ) → x + y ≡ y + x
-    swap x y = omega arith
-
-length_level : (level : List NewNode) → length (lower_nodes (uppers level)) ≡ length level + length (lower_nodes (entries_of level))
-unfolding nodes_of lower_nodes
-length_level [] = refl
-length_level (new ∷ more) =
-    rw (append-nil (lower_nodes new.entries))
-    (sum (length (lower_nodes new.entries)) (length more) (length (lower_nodes (entries_of more))) _ _ _
-    (length-append (lower_nodes new.entries) (lower_nodes (uppers more))) (length_level more) (ap length (lower_joined new.entries (entries_of more)) ∙ length-append (lower_nodes new.entries) (lower_nodes (entries_of more))))
-  where
-    sum : (e n es x y w : ℕ) → x ≡ e + y → y ≡ n + es → w ≡ e + es → suc x ≡ suc n + w
-    sum e n es x y w a b c = omega arith
+times_nodes m leaves level more l = in_levels (times_add m) leaves level more l
 
 pub length_nodes : (leaves : List Leaf) (level : List NewNode) (more : List (List NewNode)) → AreLevels leaves (level ∷ more) → length (lower_nodes (uppers level)) ≡ length (from_below (level ∷ more))
-length_nodes leaves level [] l = length_level level ∙ ap (λ (ps : List ℕ). length level + length ps) (ap lower_nodes l.0 ∙ lower_for leaves) ∙ right (length level)
-  where
-    right : (n : ℕ) → n + 0 ≡ n
-    right n = omega arith
-length_nodes leaves level (below ∷ more) l =
-    length_level level
-    ∙ ap (λ (n : ℕ). length level + n) (ap (λ (es : Entries). length (lower_nodes es)) l.0 ∙ length_nodes leaves below more l.3)
-    ∙ swap (length level) (length (from_below (below ∷ more)))
-    ∙ sym (length-append (from_below (below ∷ more)) level)
-  where
-    swap : (x y : ℕ) → x + y ≡ y + x
-    swap x y = omega arith
+length_nodes leaves level more l = in_levels lengths_add leaves level more l ∙ length-map (from_below (level ∷ more)) (λ (new : NewNode). new.place)
 
 -- those of the whole tree
 pub nodes_alone : (top : NewNode) → nodes_of (alone top) ≡ lower_nodes (uppers (top ∷ []))
@@ -229,20 +218,13 @@ fewest leaves top more l some few =
     whole : (n : ℕ) → n ≤ 8 → 8 ≡ n + (8 - n)
     whole n h = omega arith
 
-    right : (n : ℕ) → n + 0 ≡ n
-    right n = omega arith
+-- ---- lists with the same members
 
--- ---- lists
-
-pub distinct_by_times : (xs : List ℕ) → ((m : ℕ) → times m xs ≤ 1) → Distinct xs
-distinct_by_times [] once = tt
-distinct_by_times (x ∷ xs) once = (
-  (λ i. no_more (times x (x ∷ [])) (times x xs) _ (times-in x (x ∷ []) (inl refl)) (times-in x xs i) (times-append x (x ∷ []) xs) (once x)),
-  distinct_by_times xs (λ m. fewer (times m (x ∷ [])) (times m xs) _ (times-append m (x ∷ []) xs) (once m)),
-)
+pub in_by_times : (xs ys : List ℕ) → ((m : ℕ) → times m xs ≡ times m ys) → (m : ℕ) → In m xs → In m ys
+in_by_times xs ys same m i = elim (either (is_in m ys)) [
+  | inl e ↦ true-is_in m ys e
+  | inr e ↦ absurd (none (times m xs) (times m ys) (same m) (times-none m ys (false-is_in m ys e)) (times-in m xs i))
+]
   where
-    no_more : (a b c : ℕ) → 1 ≤ a → 1 ≤ b → c ≡ a + b → c ≤ 1 → ⊥
-    no_more a b c p q e l = absurd (omega arith)
-
-    fewer : (a b c : ℕ) → c ≡ a + b → c ≤ 1 → b ≤ 1
-    fewer a b c e l = omega arith
+    none : (a c : ℕ) → a ≡ c → c ≡ 0 → 1 ≤ a → ⊥
+    none a c p q r = omega arith

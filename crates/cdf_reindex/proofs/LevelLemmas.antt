@@ -1,8 +1,19 @@
 -- A level of an index and the one above it: the same leaves, in order, in as few nodes as can be.
-use Rattle.std.proofs.Common.{◌≡◌, ℕ, suc, ◌+◌, ◌≤◌, List, [], ◌∷◌, ◌++◌, length, append_assoc, append-nil, refl, sym, ap, subst, ◌∙◌, arith}
+use Rattle.std.proofs.Common.{◌≡◌, ℕ, suc, ◌+◌, ◌≤◌, List, [], ◌∷◌, ◌++◌, length, append-nil, refl, sym, ap, subst, ◌∙◌, arith}
 use Rattle.cdf_format.specs.Index.{Entries, no_entry, block, lower, Leaf, leaves_of, entry_leaves, entry_count}
 use Rattle.cdf_index.specs.Order.{past_entries, InOrder, AreInOrder, NextsAreZero, LowerAreZero}
 use Rattle.cdf_reindex.specs.Pyramid.{NewNode, entries_for, joined, first_of, last_of, entries_of, uppers, Filled, AreLevels}
+use Rattle.cdf_edits.specs.Index.Grown.{with_both}
+use Rattle.cdf_index.proofs.Saying.{count_both}
+use Rattle.cdf_index.proofs.LeafMore.{leaves_both, parts_in_order}
+
+-- ---- lists that begin alike
+
+pub same_head : {A : Type 0} {x y : A} {xs ys : List A} → x ∷ xs ≡ y ∷ ys → x ≡ y
+same_head e = cc
+
+pub same_tail : {A : Type 0} {x y : A} {xs ys : List A} → x ∷ xs ≡ y ∷ ys → xs ≡ ys
+same_tail e = cc
 
 -- ---- some entries
 
@@ -28,10 +39,13 @@ pub filled_few : (new : NewNode) (more : List NewNode) → Filled (new ∷ more)
 filled_few new [] f = f.1
 filled_few new (next ∷ more) f = let e = f.0 in omega arith
 
+pub joined_is : (entries others : Entries) → joined entries others ≡ with_both entries others
+joined_is no_entry others = refl
+joined_is (block first last place packed entries) others = ap (block first last place packed) (joined_is entries others)
+joined_is (lower first last nodes entries) others = ap (lower first last nodes) (joined_is entries others)
+
 pub count_joined : (entries others : Entries) → entry_count (joined entries others) ≡ entry_count entries + entry_count others
-count_joined no_entry others = omega arith
-count_joined (block first last place packed entries) others = let r = count_joined entries others in omega arith
-count_joined (lower first last nodes entries) others = let r = count_joined entries others in omega arith
+count_joined entries others = ap entry_count (joined_is entries others) ∙ count_both entries others
 
 pub count_leaves : (leaves : List Leaf) → entry_count (entries_for leaves) ≡ length leaves
 count_leaves [] = refl
@@ -44,10 +58,7 @@ count_uppers (new ∷ more) = ap suc (count_uppers more)
 -- ---- leaves
 
 pub leaves_joined : (entries others : Entries) → entry_leaves (joined entries others) ≡ entry_leaves entries ++ entry_leaves others
-unfolding leaves_of entry_leaves
-leaves_joined no_entry others = refl
-leaves_joined (block first last place packed entries) others = ap (λ (ls : List Leaf). record { first = first; last = last; place = place; packed = packed } ∷ ls) (leaves_joined entries others)
-leaves_joined (lower first last nodes entries) others = ap (λ (ls : List Leaf). leaves_of nodes ++ ls) (leaves_joined entries others) ∙ sym (append_assoc (leaves_of nodes) (entry_leaves entries) (entry_leaves others))
+leaves_joined entries others = ap entry_leaves (joined_is entries others) ∙ leaves_both entries others
 
 pub leaves_for : (leaves : List Leaf) → entry_leaves (entries_for leaves) ≡ leaves
 unfolding leaves_of entry_leaves
@@ -67,10 +78,7 @@ leaves_stay leaves level (below ∷ more) l = leaves_uppers level ∙ ap entry_l
 -- ---- order
 
 pub order_parted : (low high : ℕ) (entries others : Entries) → AreInOrder low high (joined entries others) → AreInOrder low high entries × AreInOrder (past_entries low entries) high others
-unfolding InOrder AreInOrder
-order_parted low high no_entry others o = (tt, o)
-order_parted low high (block first last place packed entries) others o = let r = order_parted (suc last) high entries others o.3 in ((o.0, o.1, o.2, r.0), r.1)
-order_parted low high (lower first last nodes entries) others o = let r = order_parted (suc last) high entries others o.4 in ((o.0, o.1, o.2, o.3, r.0), r.1)
+order_parted low high entries others o = parts_in_order low high entries others (subst (AreInOrder low high) (joined_is entries others) o)
 
 -- none ends past the last one
 last_most : (last high : ℕ) (entries : Entries) → AreInOrder (suc last) high entries → last ≤ last_of last entries

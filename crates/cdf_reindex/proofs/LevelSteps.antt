@@ -2,7 +2,8 @@
 use Rattle.std.proofs.Common.{◌≡◌, ◌⊎◌, ℕ, zero, suc, ◌+◌, ◌-◌, ◌*◌, ◌/◌, min, ◌<◌, ◌≤◌, List, [], ◌∷◌, ◌++◌, length, map, get_or, append_assoc, append-nil, refl, sym, ap, subst, ◌∙◌, arith, inl, inr}
 use Rattle.cdf_reindex.proofs.Common.{length-append, quotient_up, nodes_above, nodes_left, NodeWords, upper_of, level_entries, AreFilled, AreStacked, nodes_up, NodeMade, AllMade, LevelMade, LevelsMade, PyramidMade, Entry}
 use Rattle.cdf_reindex.specs.Rebuilding.{naming}
-use Rattle.cdf_reindex.proofs.LevelCounts.{leaves_under, above_is, left_more}
+use Rattle.cdf_reindex.proofs.LevelCounts.{leaves_under, above_is, left_more, up}
+use Rattle.std.proofs.lemmas.List.{length-map}
 
 -- ---- nodes of a level
 
@@ -86,12 +87,8 @@ pub all_then : (b mid now : List ℕ) (nodes more : List NodeWords) → AllMade 
 all_then b mid now [] more m n = subst (λ (x : List ℕ). AllMade x now more) m n
 all_then b mid now (node ∷ nodes) more m n = (m.0, (m.1.0, all_then m.0 mid now nodes more m.1.1 n))
 
-length_map : (nodes : List NodeWords) → length (map upper_of nodes) ≡ length nodes
-length_map [] = refl
-length_map (node ∷ more) = ap suc (length_map more)
-
 length_uppers : (nodes : List NodeWords) (uppers : List Entry) → map upper_of nodes ≡ uppers → length uppers ≡ length nodes
-length_uppers nodes uppers e = sym (ap length e) ∙ length_map nodes
+length_uppers nodes uppers e = sym (ap length e) ∙ length-map nodes upper_of
 
 counted : (nodes : List NodeWords) → AreFilled nodes → (length nodes * 64 ≤ length (level_entries nodes) + 63) × (length (level_entries nodes) ≤ 64 * length nodes)
 counted [] f = (omega arith, omega arith)
@@ -109,9 +106,6 @@ pub uppers_count : (b now : List ℕ) (entries uppers : List Entry) → LevelMad
 uppers_count b now entries uppers m =
     let c = counted m.nodes m.filled in
     length_uppers m.nodes uppers m.uppers_are ∙ up (length m.nodes) (length (level_entries m.nodes)) c.0 c.1 ∙ ap (λ (xs : List Entry). quotient_up (length xs) 64) m.entries_are
-  where
-    up : (l k : ℕ) → l * 64 ≤ k + 63 → k ≤ 64 * l → l ≡ (k + 64 - 1) / 64
-    up l k p q = omega arith
 
 pub levels_first : (b now : List ℕ) (entries uppers : List Entry) → LevelMade b now entries uppers → LevelsMade b now entries uppers
 levels_first b now entries uppers m = record { level = m.nodes; more = []; stacked = (m.entries_are, m.filled); uppers_are = m.uppers_are; made = m.made }

@@ -1,6 +1,6 @@
 -- An index made anew follows `reindex`.
-use Rattle.std.proofs.Common.{◌≡◌, ◌≢◌, ℕ, zero, suc, ◌+◌, ◌<◌, ◌≤◌, List, [], ◌∷◌, ◌++◌, length, map, Bool, true, false, not, ◌&&◌, Option, Some, None, bytes_eq, true≢false, refl, sym, ap, subst, ◌∙◌, arith, inl, inr}
-use Rattle.cdf_reindex.proofs.Common.{slice_get, sum, if◌then◌else◌, Kind, image_limit, Found, Same, content, number, size_at, type_at, Nodes, no_node, node, room_at, IsNode, owned, vdr_vxr_tail, gdr_type, vxr_type, VariableShape, shape, vdrs, IsSound, In, AreTiles, Good, size_kept, good_by_its_shape, good_is_sound, is_in-true, Allowance, Allowances, AllKeep, Anything, Keeps, Only, shapes_of, FullFromLeft, IsPyramid, levels_up, made_acts, reindex_changes, reindex_room, vxr_bytes, last_node, Act, gave, links_end, taken, got-middle, gdr_typed, StandsAmong, apart, IsBare, IsRebuilt, Reindexed}
+use Rattle.std.proofs.Common.{◌≡◌, ◌≢◌, ℕ, ◌+◌, ◌<◌, ◌≤◌, List, [], ◌∷◌, ◌++◌, length, map, Bool, true, false, not, ◌&&◌, Option, Some, None, bytes_eq, true≢false, refl, sym, ap, subst, ◌∙◌, arith, inl, inr}
+use Rattle.cdf_reindex.proofs.Common.{slice_get, sum, if◌then◌else◌, Kind, image_limit, Found, Same, content, number, size_at, type_at, Nodes, no_node, node, room_at, IsNode, owned, vdr_vxr_tail, gdr_type, vxr_type, VariableShape, shape, vdrs, IsSound, In, AreTiles, Good, size_kept, good_by_its_shape, good_is_sound, is_in-true, Allowance, Allowances, AllKeep, Anything, Keeps, Only, shapes_of, levels_up, made_acts, reindex_changes, reindex_room, vxr_bytes, last_node, Act, gave, links_end, taken, got-middle, gdr_typed, StandsAmong, apart, IsBare, IsRebuilt, Reindexed}
 use Rattle.std.proofs.lemmas.Option.{same_Some}
 use Rattle.std.specs.List.{list_any}
 use Rattle.cdf_model.specs.declared.answer.Reply.TheVariants as replies
@@ -17,7 +17,7 @@ use Rattle.cdf_format.proofs.Owning.{owned_stand}
 use Rattle.cdf_edits.specs.Commands.Allowances.{FreedStay, GivenStay, allowance, no_fields, stays_all}
 use Rattle.cdf_edits.specs.Commands.Keeps.{allowances}
 use Rattle.cdf_edits.specs.Commands.Named.{OfVariable}
-use Rattle.cdf_edits.specs.Commands.Reindex.{MakesIndex, nodes_at, AreTight}
+use Rattle.cdf_edits.specs.Commands.Reindex.{MakesIndex, nodes_at}
 use Rattle.cdf_edits.specs.Commands.Room.{nodes_above, room}
 use Rattle.cdf_edits.specs.Follows.{Follows}
 use Rattle.cdf_edits.specs.Index.Written.{NodeSpareStays, NodesFollow, TailFollows, UnusedEntries, is_taken_at, top_chain, top_stays}
@@ -32,6 +32,7 @@ use Rattle.cdf_reindex.proofs.MadeKeeps.{made_keeps}
 use Rattle.cdf_reindex.proofs.MadeSplices.{mine}
 use Rattle.cdf_reindex.proofs.MadeTaken.{node_takes}
 use Rattle.cdf_reindex.proofs.MadeTree.{in_levels}
+use Rattle.cdf_reindex.proofs.PyramidRebuilt.{no_pyramid}
 
 -- ---- the step of a data set
 
@@ -205,14 +206,6 @@ none_made : (b : List ℕ) → [] ≡ made_acts b no_node no_node
 unfolding nodes_of nodes_at
 none_made b = refl
 
-none_filled : IsPyramid no_node
-unfolding nodes_at AreTight
-none_filled = record { full = λ levels. none levels; even = λ levels. inl refl; tight = tt }
-  where
-    none : (levels : ℕ) → FullFromLeft (nodes_at levels no_node)
-    none zero = tt
-    none (suc levels) = tt
-
 none_fewest : length (nodes_of no_node) ≡ nodes_above 8 (length (leaves_of no_node))
 unfolding nodes_of leaves_of nodes_above
 none_fewest = refl
@@ -223,7 +216,7 @@ none_stays b vdr cpr = record {
   acts_are = none_made b;
   leaves_stay = refl;
   fewest = none_fewest;
-  filled = none_filled;
+  filled = no_pyramid;
   wide = tt;
   alone = tt;
   nodes = record { unused = tt; spare = tt };

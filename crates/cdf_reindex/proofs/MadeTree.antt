@@ -1,14 +1,10 @@
 -- The nodes of an index of so many levels are those of its levels.
-use Rattle.std.proofs.Common.{◌≡◌, ℕ, zero, suc, ◌+◌, ◌≤◌, Bool, List, [], ◌∷◌, ◌++◌, length, map, refl, sym, ap, ap₂, ◌∙◌, arith, inl, inr}
-use Rattle.cdf_reindex.proofs.Common.{length-append, map-append, Nodes, no_node, node, Entries, no_entry, block, lower, times, In, is_in, either, true-is_in, false-is_in, times-none, levels_up, times-append, times-in}
+use Rattle.std.proofs.Common.{◌≡◌, ℕ, zero, suc, ◌+◌, Bool, List, [], ◌∷◌, ◌++◌, length, map, refl, sym, ap, ap₂, ◌∙◌, arith}
+use Rattle.cdf_reindex.proofs.Common.{map-append, Nodes, no_node, node, Entries, no_entry, block, lower, times, In, levels_up}
 use Rattle.cdf_format.specs.Index.{nodes_of, lower_nodes}
 use Rattle.cdf_format.specs.IndexOf.{HasNodes, Names}
 use Rattle.cdf_edits.specs.Commands.Reindex.{nodes_at, nodes_below}
-
--- what counts a list by its parts
-record Adds (f : List ℕ → ℕ) : Type 0 where
-  none : f [] ≡ 0
-  both : (xs ys : List ℕ) → f (xs ++ ys) ≡ f xs + f ys
+use Rattle.cdf_reindex.proofs.LevelCounts.{Adds, times_add, lengths_add, in_by_times}
 
 abbrev places : List (ℕ × ℕ) → List ℕ
 places pairs = map (λ (pair : ℕ × ℕ). pair.0) pairs
@@ -95,12 +91,6 @@ module _ {f : List ℕ → ℕ} (adds : Adds f) where
   up_from zero nodes = let e = adds.both (places (nodes_at 0 nodes)) [] in let n = adds.none in omega arith
   up_from (suc levels) nodes = adds.both (places (nodes_at (suc levels) nodes)) (levels_up levels nodes) ∙ ap (λ (n : ℕ). f (places (nodes_at (suc levels) nodes)) + n) (up_from levels nodes) ∙ sym (adds.both (places (nodes_at (suc levels) nodes)) (upto (suc levels) nodes))
 
-times_add : (m : ℕ) → Adds (times m)
-times_add m = record { none = refl; both = times-append m }
-
-lengths_add : Adds length
-lengths_add = record { none = refl; both = length-append }
-
 -- ---- an index has at most 8 levels
 
 module _ (b records : List ℕ) (index : Nodes) (has : HasNodes b records 8 index) where
@@ -111,19 +101,7 @@ module _ (b records : List ℕ) (index : Nodes) (has : HasNodes b records 8 inde
   level_length = up_from lengths_add 7 index ∙ sym (all_nodes lengths_add b records 8 index has)
 
   pub in_levels : (m : ℕ) → In m (nodes_of index) → In m (levels_up 7 index)
-  in_levels m i = elim (either (is_in m (levels_up 7 index))) [
-    | inl e ↦ true-is_in m (levels_up 7 index) e
-    | inr e ↦ absurd (none (times m (levels_up 7 index)) (times m (nodes_of index)) (level_times m) (times-none m (levels_up 7 index) (false-is_in m (levels_up 7 index) e)) (times-in m (nodes_of index) i))
-  ]
-    where
-      none : (a c : ℕ) → a ≡ c → a ≡ 0 → 1 ≤ c → ⊥
-      none a c p q r = omega arith
+  in_levels m i = in_by_times (nodes_of index) (levels_up 7 index) (λ k. sym (level_times k)) m i
 
   pub from_levels : (m : ℕ) → In m (levels_up 7 index) → In m (nodes_of index)
-  from_levels m i = elim (either (is_in m (nodes_of index))) [
-    | inl e ↦ true-is_in m (nodes_of index) e
-    | inr e ↦ absurd (none (times m (levels_up 7 index)) (times m (nodes_of index)) (level_times m) (times-none m (nodes_of index) (false-is_in m (nodes_of index) e)) (times-in m (levels_up 7 index) i))
-  ]
-    where
-      none : (a c : ℕ) → a ≡ c → c ≡ 0 → 1 ≤ a → ⊥
-      none a c p q r = omega arith
+  from_levels m i = in_by_times (levels_up 7 index) (nodes_of index) level_times m i

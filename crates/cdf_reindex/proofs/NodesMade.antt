@@ -1,12 +1,13 @@
 -- What the making of nodes leaves of an image, and that the nodes stand in it.
 use Rattle.cdf_edits.proofs.Edits.RecordGrown.{grew_then}
 use Rattle.std.proofs.Common.{◌≡◌, ◌≢◌, ℕ, ◌+◌, ◌*◌, ◌≤◌, List, [], ◌∷◌, map, refl, sym, ap, subst, ◌∙◌, arith, inl, inr}
-use Rattle.cdf_reindex.proofs.Common.{Grew, grew_none, grew, filled_size, place_in, fresh, SameHeads, node_fits_kept, Kept, apart, size_kept, type_kept, linkable-from, linkable-type, size_at, type_at, no_node, entry_count, used_count, SaysEntry, gdr_type, uir_type, vxr_type, Each, shape, NodeFits, IsSound, In, Distinct, NewNode, places_of, NodeMade, AllMade, entry_in}
+use Rattle.cdf_reindex.proofs.Common.{Grew, grew_none, grew, filled_size, place_in, fresh, node_fits_kept, Kept, apart, linkable-from, linkable-type, size_at, type_at, no_node, entry_count, used_count, SaysEntry, gdr_type, uir_type, vxr_type, Each, shape, NodeFits, IsSound, In, Distinct, NewNode, places_of, NodeMade, AllMade, entry_in}
 use Rattle.std.proofs.lemmas.Bool.{cases_eq}
 use Rattle.cdf_edits.proofs.Edits.Composing.{head_type}
 use Rattle.cdf_edits.proofs.Frame.LinksStay.{node_kept}
 use Rattle.cdf_format.specs.IndexOf.{SaysNode}
 use Rattle.cdf_reindex.proofs.WordsOfLevels.{words_of, node_words, length_words, say_entries}
+use Rattle.cdf_index.proofs.OneNode.{one_head}
 
 -- ---- a new node
 
@@ -42,13 +43,6 @@ stands_once {b = b} {now = now} sound new few made =
         subst (λ (n : ℕ). used_count now new.place ≤ n) (sym made.room_is) (subst (λ (n : ℕ). n ≤ 64) (sym count) few),
       );
     }
-
-one_head : (mid now : List ℕ) (place : ℕ) → Kept mid now place → SameHeads mid now (place ∷ []) (place ∷ [])
-one_head mid now place k = record {
-  sizes = λ m i. elim i [ inl e ↦ subst (λ (x : ℕ). size_at now x ≡ size_at mid x) (sym e) (size_kept mid now place k.same (let l = k.long in omega arith)) | inr none ↦ absurd none ];
-  types = λ m i. elim i [ inl e ↦ subst (λ (x : ℕ). type_at now x ≡ type_at mid x) (sym e) (type_kept mid now place k.same k.long) | inr none ↦ absurd none ];
-  sub = λ m i. i;
-}
 
 pub stands_by : (mid now : List ℕ) (new : NewNode) → Kept mid now new.place → In new.place (shape now).records → Stands mid new → Stands now new
 stands_by mid now new k inside s = record {

@@ -1,15 +1,16 @@
 -- The levels that code made, as a tree that stands in the image.
 use Rattle.std.proofs.Common.{◌≡◌, ℕ, suc, ◌+◌, ◌≤◌, List, [], ◌∷◌, ◌++◌, length, map, append-nil, sym, ap, ap₂, subst, ◌∙◌, arith, inl, inr}
-use Rattle.cdf_reindex.proofs.Common.{Grew, grew_none, record_number_limit, used_times, fresh_unowned, times-in, linkable-type, either, true-is_in, false-is_in, times-none, times-once, Each-append, Each-split, is_in, type_at, Nodes, no_node, node, Entries, no_entry, block, lower, Leaf, link_to, times, vxr_type, VariableShape, Shape, Each, HasVariable, variables, shape, NodeFits, IsSound, In, Distinct, past_entries, NewNode, entries_for, alone, Filled, AreLevels, from_below, places_of, IsBare, NodeWords, AllMade, PyramidMade, nodes_up}
+use Rattle.cdf_reindex.proofs.Common.{Grew, grew_none, record_number_limit, used_times, fresh_unowned, linkable-type, either, true-is_in, false-is_in, times-none, times-once, Each-append, Each-split, is_in, type_at, Nodes, no_node, node, Entries, no_entry, block, lower, Leaf, link_to, times, vxr_type, VariableShape, Shape, Each, HasVariable, variables, shape, NodeFits, IsSound, In, Distinct, past_entries, NewNode, entries_for, alone, Filled, AreLevels, from_below, places_of, IsBare, NodeWords, AllMade, PyramidMade, nodes_up}
 use Rattle.cdf_format.specs.Index.{nodes_of, leaves_of, entry_leaves}
 use Rattle.cdf_format.specs.IndexOf.{HasNodes}
 use Rattle.cdf_index.specs.Order.{InOrder, AreInOrder}
 use Rattle.cdf_reindex.proofs.BareNodes.{all_bare}
-use Rattle.cdf_reindex.proofs.LevelCounts.{levels_few, times_nodes, nodes_alone}
+use Rattle.cdf_reindex.proofs.LevelCounts.{levels_few, times_nodes, nodes_alone, in_by_times}
 use Rattle.cdf_reindex.proofs.LevelLemmas.{filled_rest, filled_few, leaves_stay}
 use Rattle.cdf_reindex.proofs.NodesMade.{Stands, Made, IsSmall, all_made}
-use Rattle.cdf_reindex.proofs.PyramidStands.{leaves_named, has_pyramid}
+use Rattle.cdf_reindex.proofs.PyramidStands.{has_pyramid}
 use Rattle.cdf_reindex.proofs.WordsOfLevels.{node_words, tree_leaf_words, grown, up_words}
+use Rattle.cdf_index.proofs.PlainBlocks.{leaves_named}
 
 -- ---- leaves in order are few
 
@@ -166,13 +167,7 @@ module _ (b made : List ℕ) (sound : IsSound b (shape b)) (before : List Variab
   times_new m = ap (times m) (nodes_alone x.root) ∙ times_nodes m (leaves_of v.index) (x.root ∷ []) x.rest x.are
 
   in_new : (m : ℕ) → In m (nodes_of index) → In m all_new
-  in_new m i = elim (either (is_in m all_new)) [
-    | inl y ↦ true-is_in m all_new y
-    | inr y ↦ absurd (none (times m (nodes_of index)) (times m all_new) (times-in m (nodes_of index) i) (times_new m) (times-none m all_new (false-is_in m all_new y)))
-  ]
-    where
-      none : (p q : ℕ) → 1 ≤ p → p ≡ q → q ≡ 0 → ⊥
-      none p q l e z = absurd (omega arith)
+  in_new m i = in_by_times (nodes_of index) all_new times_new m i
 
   pub tree_built : NewTree b made v index top
   tree_built = record {

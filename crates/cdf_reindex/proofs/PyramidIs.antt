@@ -7,6 +7,7 @@ use Rattle.cdf_edits.specs.Commands.Reindex.{nodes_at, nodes_below, FullFromLeft
 use Rattle.cdf_format.specs.Index.{Entries, no_entry, block, lower, Leaf, leaves_of, entry_leaves, entry_count}
 use Rattle.cdf_reindex.specs.Pyramid.{NewNode, entries_for, joined, first_of, last_of, alone, entries_of, uppers, Filled, AreLevels}
 use Rattle.cdf_reindex.proofs.LevelLemmas.{Some-entry, filled_first, filled_rest, count_joined, count_uppers}
+use Rattle.std.proofs.lemmas.List.{length-map}
 
 -- ---- the nodes of a level
 
@@ -87,10 +88,6 @@ even_at leaves level [] levels l = inl refl
 even_at leaves level (below ∷ more) zero l = inr (sym (count_uppers below) ∙ ap entry_count (sym l.0) ∙ sym (sum_counts level))
 even_at leaves level (below ∷ more) (suc levels) l = even_at leaves below more levels l.3
 
-length_counted : (level : List NewNode) → length (counted_nodes level) ≡ length level
-length_counted [] = refl
-length_counted (new ∷ more) = ap suc (length_counted more)
-
 -- ---- each entry is as wide as what is below it
 
 first_append : (n : ℕ) (xs ys : List Leaf) → option_map (λ (l : Leaf). l.first) (slice_get xs 0) ≡ Some n → option_map (λ (l : Leaf). l.first) (slice_get (xs ++ ys) 0) ≡ Some n
@@ -159,7 +156,7 @@ is_pyramid leaves top more l = record {
       let next = at_is leaves top more (suc levels) l in
       elim (even_at leaves (top ∷ []) more levels l) [
         | inl none ↦ inl (next ∙ ap counted_nodes none)
-        | inr e ↦ inr (ap length next ∙ length_counted (level_at (suc levels) ((top ∷ []) ∷ more)) ∙ e ∙ ap (λ (ps : List (ℕ × ℕ)). sum (map (λ pair. pair.1) ps)) (sym here))
+        | inr e ↦ inr (ap length next ∙ length-map (level_at (suc levels) ((top ∷ []) ∷ more)) counted_node ∙ e ∙ ap (λ (ps : List (ℕ × ℕ)). sum (map (λ pair. pair.1) ps)) (sym here))
       ];
   tight = (tight_stays leaves (top ∷ []) more l).1;
 }

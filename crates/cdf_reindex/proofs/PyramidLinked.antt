@@ -27,8 +27,10 @@ use Rattle.cdf_reindex.proofs.BareNodes.{bare_by}
 use Rattle.cdf_edits.proofs.Frame.VdrAlike.{block_fits_alike, records_alike}
 use Rattle.cdf_edits.proofs.Frame.VdrStays.{end_stays, cpr_stays, variable_stays}
 use Rattle.cdf_index.proofs.IndexReplaced.{times-parts, index_replaced}
-use Rattle.cdf_reindex.proofs.LevelCounts.{distinct_by_times}
 use Rattle.cdf_reindex.proofs.PyramidBuilt.{NewTree, the_one}
+use Rattle.cdf_edits.proofs.Edits.UnlinkedAttribute.{distinct_if}
+use Rattle.cdf_reindex.proofs.LevelLemmas.{same_head, same_tail}
+use Rattle.cdf_edits.proofs.Space.ActsLeave.{each}
 
 -- ---- the variable among the others
 
@@ -40,12 +42,6 @@ record Placed (rs zs before : List VariableShape) (v : VariableShape) (after : L
   rs_are : vdrs new_rs ≡ vdrs rs
   zs_are : vdrs new_zs ≡ vdrs zs
 
-first_same : (x y : VariableShape) (xs ys : List VariableShape) → x ∷ xs ≡ y ∷ ys → x ≡ y
-first_same x y xs ys e = cc
-
-rest_same_list : (x y : VariableShape) (xs ys : List VariableShape) → x ∷ xs ≡ y ∷ ys → xs ≡ ys
-rest_same_list x y xs ys e = cc
-
 vdrs_parted : (before : List VariableShape) (v : VariableShape) (after : List VariableShape) (index : Nodes) → vdrs (before ++ with_index v index ∷ after) ≡ vdrs (before ++ v ∷ after)
 vdrs_parted [] v after index = refl
 vdrs_parted (x ∷ before) v after index = ap (λ (ns : List ℕ). x.vdr ∷ ns) (vdrs_parted before v after index)
@@ -55,45 +51,39 @@ placed [] zs before v after index e = record { new_rs = []; new_zs = before ++ w
 placed (r ∷ rs) zs [] v after index e = record {
   new_rs = with_index v index ∷ rs;
   new_zs = zs;
-  is = ap (λ (xs : List VariableShape). with_index v index ∷ xs) (rest_same_list r v (rs ++ zs) after e);
-  rs_are = ap (λ (x : VariableShape). x.vdr ∷ vdrs rs) (sym (first_same r v (rs ++ zs) after e));
+  is = ap (λ (xs : List VariableShape). with_index v index ∷ xs) (same_tail e);
+  rs_are = ap (λ (x : VariableShape). x.vdr ∷ vdrs rs) (sym (same_head e));
   zs_are = refl;
 }
 placed (r ∷ rs) zs (x ∷ before) v after index e =
-    let p = placed rs zs before v after index (rest_same_list r x (rs ++ zs) (before ++ v ∷ after) e) in
+    let p = placed rs zs before v after index (same_tail e) in
     record {
       new_rs = r ∷ p.new_rs;
       new_zs = p.new_zs;
-      is = ap₂ (λ (y : VariableShape) (ys : List VariableShape). y ∷ ys) (first_same r x (rs ++ zs) (before ++ v ∷ after) e) p.is;
+      is = ap₂ (λ (y : VariableShape) (ys : List VariableShape). y ∷ ys) (same_head e) p.is;
       rs_are = ap (λ (ns : List ℕ). r.vdr ∷ ns) p.rs_are;
       zs_are = p.zs_are;
     }
 
-head_mean : (x y : Variable) (xs ys : List Variable) → x ∷ xs ≡ y ∷ ys → x ≡ y
-head_mean x y xs ys e = cc
-
-tail_mean : (x y : Variable) (xs ys : List Variable) → x ∷ xs ≡ y ∷ ys → xs ≡ ys
-tail_mean x y xs ys e = cc
-
 all_mean : (f g : VariableShape → Variable) (before : List VariableShape) (v : VariableShape) (after : List VariableShape) (index : Nodes) → f (with_index v index) ≡ g v → map f (before ++ after) ≡ map g (before ++ after) → map f (before ++ with_index v index ∷ after) ≡ map g (before ++ v ∷ after)
 all_mean f g [] v after index own others = ap₂ (λ (y : Variable) (ys : List Variable). y ∷ ys) own others
-all_mean f g (x ∷ before) v after index own others = ap₂ (λ (y : Variable) (ys : List Variable). y ∷ ys) (head_mean (f x) (g x) _ _ others) (all_mean f g before v after index own (tail_mean (f x) (g x) _ _ others))
+all_mean f g (x ∷ before) v after index own others = ap₂ (λ (y : Variable) (ys : List Variable). y ∷ ys) (same_head others) (all_mean f g before v after index own (same_tail others))
 
 parts_mean : (f g : VariableShape → Variable) (xs ys : List VariableShape) → map f (xs ++ ys) ≡ map g (xs ++ ys) → (map f xs ≡ map g xs) × (map f ys ≡ map g ys)
 parts_mean f g [] ys e = (refl, e)
-parts_mean f g (x ∷ xs) ys e = let r = parts_mean f g xs ys (tail_mean (f x) (g x) _ _ e) in (ap₂ (λ (z : Variable) (zs : List Variable). z ∷ zs) (head_mean (f x) (g x) _ _ e) r.0, r.1)
+parts_mean f g (x ∷ xs) ys e = let r = parts_mean f g xs ys (same_tail e) in (ap₂ (λ (z : Variable) (zs : List Variable). z ∷ zs) (same_head e) r.0, r.1)
 
 placed_mean : (f g : VariableShape → Variable) (rs zs before : List VariableShape) (v : VariableShape) (after : List VariableShape) (index : Nodes) (e : rs ++ zs ≡ before ++ v ∷ after) → f (with_index v index) ≡ g v → map f (before ++ after) ≡ map g (before ++ after)
     → (map f (placed rs zs before v after index e).new_rs ≡ map g rs) × (map f (placed rs zs before v after index e).new_zs ≡ map g zs)
 unfolding placed
 placed_mean f g [] zs before v after index e own others = (refl, all_mean f g before v after index own others ∙ ap (map g) (sym e))
 placed_mean f g (r ∷ rs) zs [] v after index e own others =
-    let all : rs ++ zs ≡ after = rest_same_list r v (rs ++ zs) after e in
+    let all : rs ++ zs ≡ after = same_tail e in
     let parts = parts_mean f g rs zs (subst (λ (ys : List VariableShape). map f ys ≡ map g ys) (sym all) others) in
-    (ap₂ (λ (y : Variable) (ys : List Variable). y ∷ ys) (own ∙ ap g (sym (first_same r v (rs ++ zs) after e))) parts.0, parts.1)
+    (ap₂ (λ (y : Variable) (ys : List Variable). y ∷ ys) (own ∙ ap g (sym (same_head e))) parts.0, parts.1)
 placed_mean f g (r ∷ rs) zs (x ∷ before) v after index e own others =
-    let p = placed_mean f g rs zs before v after index (rest_same_list r x (rs ++ zs) (before ++ v ∷ after) e) own (tail_mean (f x) (g x) _ _ others) in
-    let here : f r ≡ g r = subst (λ (y : VariableShape). f y ≡ g y) (sym (first_same r x (rs ++ zs) (before ++ v ∷ after) e)) (head_mean (f x) (g x) _ _ others) in
+    let p = placed_mean f g rs zs before v after index (same_tail e) own (same_tail others) in
+    let here : f r ≡ g r = subst (λ (y : VariableShape). f y ≡ g y) (sym (same_head e)) (same_head others) in
     (ap₂ (λ (y : Variable) (ys : List Variable). y ∷ ys) here p.0, p.1)
 
 -- ---- counts
@@ -109,9 +99,8 @@ own_times m w =
     sum : (n l c x y : ℕ) → x ≡ n + l → y ≡ x + c → y ≡ n + (l + c)
     sum n l c x y e f = omega arith
 
-each_of : (P : ℕ → Type 0) (xs : List ℕ) → ((m : ℕ) → In m xs → P m) → Each P xs
-each_of P [] h = tt
-each_of P (x ∷ xs) h = (h x (inl refl), each_of P xs (λ m i. h m (inr i)))
+some_there : (o d n l : ℕ) → o ≡ 0 → o ≡ d + (n + l) → 1 ≤ n → ⊥
+some_there o d n l z e k = absurd (omega arith)
 
 -- ---- the image after VXRhead and VXRtail were written
 
@@ -255,7 +244,7 @@ module _ (b made : List ℕ) (before : List VariableShape) (v : VariableShape) (
   has_linked = record {
     link_is = head_is ∙ x.link_is;
     has_nodes = nodes_kept made linked s.records s.records same_heads 8 index x.has_nodes new_kept (λ m i. (x.node_at m i).fits) blocks;
-    once = distinct_by_times (nodes_of index) x.new_once;
+    once = distinct_if (nodes_of index) x.new_once;
   }
 
   rest_same : Same made linked (v.vdr + 44) (v.vdr + size_at made v.vdr)
@@ -310,7 +299,7 @@ module _ (b made : List ℕ) (before : List VariableShape) (v : VariableShape) (
   new_index : NewIndex made linked s v index
   new_index = record {
     has = has_linked;
-    nodes_fit = each_of (NodeFits linked) (nodes_of index) (λ m i. node_fits_kept made linked s.records s.records same_heads m (new_kept m i) (x.node_at m i).fits);
+    nodes_fit = each (NodeFits linked) (nodes_of index) (λ m i. node_fits_kept made linked s.records s.records same_heads m (new_kept m i) (x.node_at m i).fits);
     leaves_fit = leaves_fit;
     vdr_fits = subst (λ (n : ℕ). vdr_end linked v.vdr ≤ n) (sym (same_heads.sizes v.vdr vdr_in)) (subst (λ (n : ℕ). n ≤ size_at made v.vdr) (sym (end_stays file vdr_stays)) fits.0);
     packed_by = cpr_stays file vdr_stays ∙ has_v.packed_by;
@@ -335,8 +324,8 @@ module _ (b made : List ℕ) (before : List VariableShape) (v : VariableShape) (
   pub variables_linked : variables (shape linked) ≡ before ++ with_index v index ∷ after
   variables_linked = ap variables is_shape ∙ there.is
 
-  pub new_bare : Each (IsBare linked) (nodes_of index)
-  new_bare = each_of (IsBare linked) (nodes_of index) (λ m i. bare_by made linked m (new_kept m i) (x.node_at m i).fits (x.bare m i))
+  pub new_bare : (m : ℕ) → In m (nodes_of index) → IsBare linked m
+  new_bare m i = bare_by made linked m (new_kept m i) (x.node_at m i).fits (x.bare m i)
 
   -- ---- the old nodes
 
@@ -368,10 +357,7 @@ module _ (b made : List ℕ) (before : List VariableShape) (v : VariableShape) (
   }
     where
       not_new : (m : ℕ) → In m (nodes_of v.index) → times m (nodes_of index) ≡ 0
-      not_new m i = times-none m (nodes_of index) (λ j. some _ _ _ _ (not_mine m j) (own_times m v) (times-in m (nodes_of v.index) i))
-        where
-          some : (o d n l : ℕ) → o ≡ 0 → o ≡ d + (n + l) → 1 ≤ n → ⊥
-          some o d n l z e k = absurd (omega arith)
+      not_new m i = times-none m (nodes_of index) (λ j. some_there _ _ _ _ (not_mine m j) (own_times m v) (times-in m (nodes_of v.index) i))
 
       none_left : (f a w u p o q w' o' d n l c i : ℕ) → f + (a + (w + u)) ≤ 1 → w ≡ p + (o + q) → o ≡ d + (n + (l + c)) → w' ≡ p + (o' + q) → o' ≡ d + (i + (l + c)) → i ≡ 0 → 1 ≤ n → f + (a + (w' + u)) ≡ 0
       none_left f a w u p o q w' o' d n l c i lim e g e' g' z k = omega arith
@@ -381,10 +367,7 @@ module _ (b made : List ℕ) (before : List VariableShape) (v : VariableShape) (
 
   -- no new node is an old one
   pub new_apart : (m : ℕ) → In m (nodes_of index) → In m (nodes_of v.index) → ⊥
-  new_apart m i j = some _ _ _ _ (not_mine m i) (own_times m v) (times-in m (nodes_of v.index) j)
-    where
-      some : (o d n l : ℕ) → o ≡ 0 → o ≡ d + (n + l) → 1 ≤ n → ⊥
-      some o d n l z e k = absurd (omega arith)
+  new_apart m i j = some_there _ _ _ _ (not_mine m i) (own_times m v) (times-in m (nodes_of v.index) j)
 
   -- the new nodes stand, and their type is that of nodes
   pub new_in : (m : ℕ) → In m (nodes_of index) → In m (shape linked).records

@@ -1,5 +1,5 @@
 -- What an index that was built anew comes to, once the old nodes are freed.
-use Rattle.std.proofs.Common.{◌≡◌, ℕ, ◌+◌, ◌^◌, ◌<◌, ◌≤◌, List, [], ◌∷◌, ◌++◌, length, map, refl, sym, ap, subst, ◌∙◌, arith, inl, inr}
+use Rattle.std.proofs.Common.{◌≡◌, ℕ, ◌+◌, ◌^◌, ◌<◌, ◌≤◌, List, [], ◌∷◌, ◌++◌, length, map, refl, sym, ap, subst, ◌∙◌, arith, inl}
 use Rattle.cdf_reindex.proofs.Common.{record_number_limit, IsLeft, all_left, apart, last_node, links_end, Kept, IsPyramid, levels_up, reindex_room, write, AllGiven, word_kept, number, size_at, with_field, Nodes, no_node, Leaf, leaves_of, link_to, IsIndex, vdr_vxr_head, vdr_vxr_tail, vxr_n_used_entries, gdr_type, uir_type, vxr_type, VariableShape, Each, HasVariable, variables, shape, NodeFits, VariableFits, IsSound, Counts, In, NewNode, alone, from_below, places_of, AllMade, PyramidMade, IsBare, AllTaken, IsRebuilt, IndexMade, with_index}
 use Rattle.std.proofs.lemmas.Bool.{le-leb}
 use Rattle.cdf_edits.specs.Commands.Reindex.{AreTight, EntriesTight, nodes_at}
@@ -15,6 +15,8 @@ use Rattle.cdf_reindex.proofs.PyramidIs.{is_pyramid}
 use Rattle.cdf_reindex.proofs.PyramidLaw.{makes_pyramid}
 use Rattle.cdf_reindex.proofs.PyramidLinked.{sound_linked, variables_linked, content_linked, as_long, tail_is, old_free, new_bare, new_in, new_typed, new_fits, new_apart, vdr_stands, vdr_no_gdr, vdr_long}
 use Rattle.cdf_reindex.proofs.WordsOfLevels.{node_words, tree_leaf_words}
+use Rattle.cdf_edits.proofs.Space.ActsLeave.{each}
+use Rattle.cdf_edits.proofs.Edits.VariableFrame.{Each-map}
 
 -- ---- the records that are taken
 
@@ -72,16 +74,11 @@ module _ (b made : List ℕ) (before : List VariableShape) (v : VariableShape) (
   fits_linked : (m : ℕ) → In m (nodes_of index) → NodeFits linked m
   fits_linked m i = new_fits b made before v after was index top x first linked small one two m i
 
-  all_bare_by : (ms : List ℕ) → ((m : ℕ) → In m ms → In m (nodes_of index)) → Each (IsBare linked) ms → Each (IsBare now) ms
-  all_bare_by [] sub bare = tt
-  all_bare_by (m ∷ ms) sub bare = let i = sub m (inl refl) in (bare_by linked now m (new_kept m i) (fits_linked m i) bare.0, all_bare_by ms (λ n j. sub n (inr j)) bare.1)
-
   bare_now : Each (IsBare now) (nodes_of index)
-  bare_now = all_bare_by (nodes_of index) (λ m i. i) (new_bare b made before v after was index top x first linked small one two)
+  bare_now = each (IsBare now) (nodes_of index) (λ m i. bare_by linked now m (new_kept m i) (fits_linked m i) (new_bare b made before v after was index top x first linked small one two m i))
 
-  counts_by : (ms : List ℕ) → Each (IsBare now) ms → Each (Counts now) ms
-  counts_by [] bare = tt
-  counts_by (m ∷ ms) bare = (subst (λ (n : ℕ). number now m vxr_n_used_entries ≤ n) (sym bare.0.room_is) bare.0.few, counts_by ms bare.1)
+  counted : (m : ℕ) → IsBare now m → Counts now m
+  counted m bare = subst (λ (n : ℕ). number now m vxr_n_used_entries ≤ n) (sym bare.room_is) bare.few
 
   tail_now : number now v.vdr vdr_vxr_tail ≡ top
   tail_now =
@@ -116,7 +113,7 @@ module _ (b made : List ℕ) (before : List VariableShape) (v : VariableShape) (
     tail = tail_now ∙ x.link_is ∙ sym last;
     bare = bare_now;
     fits = nodes_fit;
-    counts = counts_by (nodes_of index) bare_now;
+    counts = Each-map (IsBare now) (Counts now) counted (nodes_of index) bare_now;
     sound = left.sound;
     content_stays = left.content_stays ∙ content_linked b made before v after was index top x first linked small one two;
     longest = subst (λ (n : ℕ). n ≤ length b + reindex_room v.index) (sym long_now) longest;

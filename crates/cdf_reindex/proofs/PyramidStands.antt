@@ -1,40 +1,21 @@
 -- Levels whose nodes stand in an image make an index of it.
-use Rattle.std.proofs.Common.{◌≡◌, ℕ, zero, suc, ◌+◌, ◌-◌, ◌≤◌, List, [], ◌∷◌, length, false, sym, subst, arith}
-use Rattle.cdf_reindex.proofs.Common.{◌==◌, linkable-from, linkable-type, Each-split, Each-append, type_at, Nodes, no_node, node, Entries, no_entry, block, lower, Leaf, vxr_type, cvvr_type, Each, shape, NewNode, entries_for, joined, alone, entries_of, uppers, AreLevels, from_below}
+use Rattle.std.proofs.Common.{◌≡◌, ℕ, suc, ◌+◌, ◌-◌, ◌≤◌, List, [], ◌∷◌, length, sym, subst, arith}
+use Rattle.cdf_reindex.proofs.Common.{linkable-from, linkable-type, Each-split, Entries, Leaf, vxr_type, Each, shape, NewNode, entries_for, joined, alone, entries_of, uppers, AreLevels, from_below}
 use Rattle.cdf_format.proofs.ChainsLemmas.{linkable-long}
-use Rattle.cdf_format.specs.Chains.{is_linkable}
-use Rattle.cdf_format.specs.Index.{leaves_of, entry_leaves}
 use Rattle.cdf_format.specs.IndexOf.{HasNodes, Names}
 use Rattle.cdf_reindex.proofs.NodesMade.{Stands}
-
--- a leaf names a block
-abbrev pub Named : List ℕ → List ℕ → Leaf → Type 0
-Named now records leaf = (is_linkable now records vxr_type leaf.place ≡ false) × ((type_at now leaf.place == cvvr_type) ≡ leaf.packed)
+use Rattle.cdf_index.proofs.PlainBlocks.{Named}
+use Rattle.cdf_index.proofs.Saying.{names_parts}
+use Rattle.cdf_reindex.proofs.LevelLemmas.{joined_is}
 
 module _ (now records : List ℕ) where
-  mutual
-    unfolding HasNodes Names leaves_of entry_leaves
-
-    pub leaves_named : (levels : ℕ) (nodes : Nodes) → HasNodes now records levels nodes → Each (Named now records) (leaves_of nodes)
-    leaves_named levels no_node h = tt
-    leaves_named zero (node place room entries more) h = absurd h
-    leaves_named (suc levels) (node place room entries more) h = Each-append (Named now records) (entry_leaves entries) (leaves_of more) (entries_named levels entries h.1) (leaves_named (suc levels) more h.2)
-
-    pub entries_named : (levels : ℕ) (entries : Entries) → Names now records levels entries → Each (Named now records) (entry_leaves entries)
-    entries_named levels no_entry h = tt
-    entries_named levels (block first last place packed entries) h = ((h.0, h.1), entries_named levels entries h.2)
-    entries_named levels (lower first last nodes entries) h = Each-append (Named now records) (leaves_of nodes) (entry_leaves entries) (leaves_named levels nodes h.1) (entries_named levels entries h.2)
-
   names_for : (levels : ℕ) (leaves : List Leaf) → Each (Named now records) leaves → Names now records levels (entries_for leaves)
   unfolding HasNodes Names
   names_for levels [] e = tt
   names_for levels (leaf ∷ more) e = (e.0.0, e.0.1, names_for levels more e.1)
 
   names_parted : (levels : ℕ) (entries others : Entries) → Names now records levels (joined entries others) → Names now records levels entries × Names now records levels others
-  unfolding HasNodes Names
-  names_parted levels no_entry others h = (tt, h)
-  names_parted levels (block first last place packed entries) others h = let r = names_parted levels entries others h.2 in ((h.0, h.1, r.0), r.1)
-  names_parted levels (lower first last nodes entries) others h = let r = names_parted levels entries others h.2 in ((h.0, h.1, r.0), r.1)
+  names_parted levels entries others h = names_parts now records levels entries others (subst (Names now records levels) (joined_is entries others) h)
 
 one_more : (k : ℕ) → 1 + k ≡ suc k
 one_more k = omega arith

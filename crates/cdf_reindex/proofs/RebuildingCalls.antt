@@ -1,23 +1,14 @@
 -- The calls by which an index is built anew, one by one.
-use Rattle.std.proofs.Common.{◌≡◌, ℕ, suc, ◌+◌, ◌*◌, ◌^◌, ◌<◌, ◌≤◌, List, [], ◌∷◌, length, map, refl, sym, ap, subst, ◌∙◌}
-use Rattle.cdf_reindex.proofs.Common.{nodes_above, AllGiven, AreFree, content, LiesIn, with_field, Leaf, leaves_of, vdr_vxr_head, vdr_vxr_tail, shape, IsSound, IsRebuilt, HasOld, IndexMade, Entry}
-use Rattle.std.specs.Prelude.{OnOk, Ok, Err}
-use Rattle.std.specs.declared.result.Result.{Result}
+use Rattle.std.proofs.Common.{◌≡◌, ℕ, ◌+◌, ◌*◌, ◌^◌, ◌<◌, ◌≤◌, List, length, refl, sym, ap, subst, ◌∙◌}
+use Rattle.cdf_reindex.proofs.Common.{nodes_above, AllGiven, AreFree, content, LiesIn, with_field, leaves_of, vdr_vxr_head, vdr_vxr_tail, shape, IsSound, IsRebuilt, HasOld, IndexMade, Entry}
 use Rattle.cdf_reindex.proofs.PyramidLinked.{lies_head, lies_tail, sound_linked, old_free, content_linked}
 use Rattle.cdf_reindex.proofs.PyramidRebuilt.{TreeMade, tree_made, rebuilt}
 use Rattle.cdf_reindex.proofs.WordsOfLevels.{tree_leaf_words}
-
-pub on_ok : {T E P Q : Type 0} (r : Result T E) → (P → Q) → OnOk r P → OnOk r Q
-on_ok (Ok x) f p = f p
-on_ok (Err e) f p = tt
-
-length_words : (leaves : List Leaf) → length (map tree_leaf_words leaves) ≡ length leaves
-length_words [] = refl
-length_words (leaf ∷ more) = ap suc (length_words more)
+use Rattle.std.proofs.lemmas.List.{length-map}
 
 module _ {b : List ℕ} {vdr : ℕ} {leaves : List Entry} {nodes : List ℕ} (old : HasOld b vdr leaves nodes) (few : length leaves ≤ 2147483648) where
   few_leaves : length (leaves_of old.variable.index) ≤ 2147483648
-  few_leaves = subst (λ (n : ℕ). n ≤ 2147483648) (ap length old.leaves_are ∙ length_words (leaves_of old.variable.index)) few
+  few_leaves = subst (λ (n : ℕ). n ≤ 2147483648) (ap length old.leaves_are ∙ length-map (leaves_of old.variable.index) tree_leaf_words) few
 
 module _ {b : List ℕ} {vdr : ℕ} {leaves : List Entry} {nodes : List ℕ} (old : HasOld b vdr leaves nodes) (sound : IsSound b (shape b)) (few : length leaves ≤ 2147483648) (made : List ℕ) (top : ℕ) (index_made : IndexMade b made leaves top) (small : top < 2 ^ 64) where
   t : TreeMade b made sound old.before old.variable old.after old.was (few_leaves old few) top
@@ -53,4 +44,4 @@ module _ {b : List ℕ} {vdr : ℕ} {leaves : List Entry} {nodes : List ℕ} (ol
       is_rebuilt now longest given =
           rebuilt b made old.before old.variable old.after old.was t.index top t.tree first linked now small own_first own_linked (subst (AllGiven linked now) old.nodes_are given)
           t.tree.leaves_are t.filled t.count t.order t.last t.taken
-          (subst (λ (n : ℕ). length made ≤ length b + 1052 * nodes_above 8 n) (ap length old.leaves_are ∙ length_words (leaves_of old.variable.index)) longest)
+          (subst (λ (n : ℕ). length made ≤ length b + 1052 * nodes_above 8 n) (ap length old.leaves_are ∙ length-map (leaves_of old.variable.index) tree_leaf_words) longest)

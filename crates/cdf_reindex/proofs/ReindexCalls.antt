@@ -1,54 +1,15 @@
 -- What a good image gives for the calls by which the index of one of its variables is made anew.
-use Rattle.std.proofs.Common.{◌≡◌, ℕ, ◌+◌, ◌*◌, ◌≤◌, List, [], ◌∷◌, ◌++◌, length, map, append_assoc, refl, sym, ap, subst, ◌∙◌, arith, inl, inr}
-use Rattle.cdf_reindex.proofs.Common.{Kind, R, Z, StandsAmong, tile, long, nodes_above, reindex_room, good_by_its_shape, good_is_sound, In-append, tile_lies, number, eof, gdr_offset, Nodes, no_node, node, leaves_of, IsNode, vdr_vxr_head, VariableShape, shape, variables, vdrs, IsSound, In, Good, Entry, IsRebuilt, Reindexed, HasOld}
+use Rattle.std.proofs.Common.{◌≡◌, ℕ, ◌+◌, ◌*◌, ◌≤◌, List, [], length, map, refl, sym, ap, subst, ◌∙◌, arith, inl, inr}
+use Rattle.cdf_reindex.proofs.Common.{Kind, StandsAmong, tile, long, nodes_above, reindex_room, good_by_its_shape, good_is_sound, tile_lies, number, eof, gdr_offset, Nodes, no_node, node, leaves_of, IsNode, vdr_vxr_head, VariableShape, shape, variables, vdrs, IsSound, In, Good, Entry, IsRebuilt, Reindexed, HasOld}
 use Rattle.std.proofs.lemmas.List.{length-map}
-use Rattle.cdf_format.proofs.GoodImageLemmas.{good_image, vdrs_append}
+use Rattle.cdf_format.proofs.GoodImageLemmas.{good_image}
 use Rattle.cdf_format.proofs.GoodSound.{good_eof}
 use Rattle.cdf_format.specs.Index.{nodes_of}
 use Rattle.cdf_index.proofs.GoodIndex.{good_index}
 use Rattle.cdf_index.specs.Finding.{index_at, HasIndex}
 use Rattle.cdf_index.specs.Whole.{leaf_words}
 use Rattle.cdf_reindex.proofs.PyramidBuilt.{few_leaves}
-
--- ---- a variable by its VDR
-
-record StandsAt (vs : List VariableShape) (vdr : ℕ) : Type 0 where
-  before : List VariableShape
-  own : VariableShape
-  after : List VariableShape
-  is : vs ≡ before ++ own ∷ after
-  vdr_is : own.vdr ≡ vdr
-
-stands_at : (vs : List VariableShape) (m : ℕ) → In m (vdrs vs) → StandsAt vs m
-stands_at [] m i = absurd i
-stands_at (v ∷ vs) m (inl e) = record { before = []; own = v; after = vs; is = refl; vdr_is = sym e }
-stands_at (v ∷ vs) m (inr i) = let at = stands_at vs m i in record { before = v ∷ at.before; own = at.own; after = at.after; is = ap (λ (r : List VariableShape). v ∷ r) at.is; vdr_is = at.vdr_is }
-
-record OneOf (b : List ℕ) (vdr : ℕ) : Type 0 where
-  kind : Kind
-  before : List VariableShape
-  own : VariableShape
-  after : List VariableShape
-  among : StandsAmong b kind before own after
-  vdr_is : own.vdr ≡ vdr
-
-one_of : (b : List ℕ) (vdr : ℕ) → In vdr (vdrs (variables (shape b))) → OneOf b vdr
-one_of b vdr i =
-    let s = shape b in
-    elim (In-append vdr (vdrs s.r_variables) (vdrs s.z_variables) (subst (In vdr) (vdrs_append s.r_variables s.z_variables) i)) [
-      | inl j ↦ let at = stands_at s.r_variables vdr j in record { kind = R; before = at.before; own = at.own; after = at.after; among = record { was = at.is }; vdr_is = at.vdr_is }
-      | inr j ↦ let at = stands_at s.z_variables vdr j in record { kind = Z; before = at.before; own = at.own; after = at.after; among = record { was = at.is }; vdr_is = at.vdr_is }
-    ]
-
--- among the variables of both kinds
-record AmongAll (b : List ℕ) (own : VariableShape) : Type 0 where
-  before : List VariableShape
-  after : List VariableShape
-  was : variables (shape b) ≡ before ++ own ∷ after
-
-among_all : (b : List ℕ) (kind : Kind) (before : List VariableShape) (own : VariableShape) (after : List VariableShape) → StandsAmong b kind before own after → AmongAll b own
-among_all b R before own after at = let z = (shape b).z_variables in record { before = before; after = after ++ z; was = ap (λ (vs : List VariableShape). vs ++ z) at.was ∙ append_assoc before (own ∷ after) z }
-among_all b Z before own after at = let r = (shape b).r_variables in record { before = r ++ before; after = after; was = ap (λ (vs : List VariableShape). r ++ vs) at.was ∙ sym (append_assoc r before (own ∷ after)) }
+use Rattle.cdf_index.proofs.OneVariable.{AmongAll, among_all, one_of}
 
 -- an index of no nodes
 no_nodes : (nodes : Nodes) → nodes_of nodes ≡ [] → nodes ≡ no_node
@@ -74,18 +35,18 @@ module _ (b : List ℕ) (good : Good b) where
   sound : IsSound b (shape b)
   sound = good_is_sound b good
 
-  indexed : {own : VariableShape} → AmongAll b own → HasIndex b (number b own.vdr vdr_vxr_head) × (index_at b (number b own.vdr vdr_vxr_head) ≡ own.index)
-  indexed {own = own} at = good_index b (shape b) at.before own at.after (good_image b (shape b) (good_by_its_shape b good)) sound at.was
+  indexed : {own : VariableShape} → AmongAll (variables (shape b)) own → HasIndex b (number b own.vdr vdr_vxr_head) × (index_at b (number b own.vdr vdr_vxr_head) ≡ own.index)
+  indexed {own = own} at = good_index b (shape b) at.front own at.rest (good_image b (shape b) (good_by_its_shape b good)) sound at.all
 
   -- where VXRhead was read
   module _ (y : List ℕ) (here : y ≡ b) (vdr head : ℕ) (head_is : head ≡ number b vdr vdr_vxr_head) where
     pub has_index : In vdr (vdrs (variables (shape b))) → HasIndex y head
     has_index i =
         let one = one_of b vdr i in
-        let has : HasIndex b (number b vdr vdr_vxr_head) = subst (λ (m : ℕ). HasIndex b (number b m vdr_vxr_head)) one.vdr_is (indexed (among_all b one.kind one.before one.own one.after one.among)).0 in
+        let has : HasIndex b (number b vdr vdr_vxr_head) = subst (λ (m : ℕ). HasIndex b (number b m vdr_vxr_head)) one.vdr_is (indexed (among_all b one.kind one.before one.own one.after one.among.was)).0 in
         subst (λ (z : List ℕ). HasIndex z head) (sym here) (subst (HasIndex b) (sym head_is) has)
 
-    index_is : {own : VariableShape} → AmongAll b own → own.vdr ≡ vdr → index_at y head ≡ own.index
+    index_is : {own : VariableShape} → AmongAll (variables (shape b)) own → own.vdr ≡ vdr → index_at y head ≡ own.index
     index_is {own = own} at is =
         let head_same : head ≡ number b own.vdr vdr_vxr_head = head_is ∙ ap (λ (m : ℕ). number b m vdr_vxr_head) (sym is) in
         (λ i. index_at (here i) (head_same i)) ∙ (indexed at).1
@@ -102,19 +63,19 @@ module _ (b : List ℕ) (good : Good b) where
       still_ends = subst (λ (z : List ℕ). eof z (gdr_offset z) ≡ length z) (sym still) (good_eof b good)
 
       module _ (leaves : List Entry) (nodes : List ℕ) (leaves_are : leaves ≡ map leaf_words (leaves_of (index_at y head))) (nodes_are : nodes ≡ nodes_of (index_at y head)) where
-        old_of : {own : VariableShape} → AmongAll b own → own.vdr ≡ vdr → HasOld x vdr leaves nodes
+        old_of : {own : VariableShape} → AmongAll (variables (shape b)) own → own.vdr ≡ vdr → HasOld x vdr leaves nodes
         old_of {own = own} at is = record {
-          before = at.before;
+          before = at.front;
           variable = own;
-          after = at.after;
-          was = ap (λ (z : List ℕ). variables (shape z)) still ∙ at.was;
+          after = at.rest;
+          was = ap (λ (z : List ℕ). variables (shape z)) still ∙ at.all;
           vdr_is = is;
           leaves_are = leaves_are ∙ ap (λ (n : Nodes). map leaf_words (leaves_of n)) (index_is at is);
           nodes_are = nodes_are ∙ ap nodes_of (index_is at is);
         }
 
         pub some_old : In vdr (vdrs (variables (shape b))) → HasOld x vdr leaves nodes
-        some_old i = let one = one_of b vdr i in old_of (among_all b one.kind one.before one.own one.after one.among) one.vdr_is
+        some_old i = let one = one_of b vdr i in old_of (among_all b one.kind one.before one.own one.after one.among.was) one.vdr_is
 
         count : length leaves ≡ length (leaves_of (index_at y head))
         count = ap length leaves_are ∙ length-map (leaves_of (index_at y head)) leaf_words
@@ -131,9 +92,9 @@ module _ (b : List ℕ) (good : Good b) where
 
         -- there were no nodes
         pub nothing_done : nodes ≡ [] → (kind : Kind) (before : List VariableShape) (own : VariableShape) (after : List VariableShape) → StandsAmong b kind before own after → own.vdr ≡ vdr → Reindexed b x own
-        nothing_done none kind before own after at is = inl (no_nodes own.index (sym (ap nodes_of (index_is (among_all b kind before own after at) is)) ∙ sym nodes_are ∙ none), still)
+        nothing_done none kind before own after at is = inl (no_nodes own.index (sym (ap nodes_of (index_is (among_all b kind before own after at.was) is)) ∙ sym nodes_are ∙ none), still)
 
         -- the index was built anew
         pub reindexed : (nodes ≡ [] → ⊥) → (now : List ℕ) → ((old : HasOld x vdr leaves nodes) → IsRebuilt x now old.variable) → (kind : Kind) (before : List VariableShape) (own : VariableShape) (after : List VariableShape) → StandsAmong b kind before own after → own.vdr ≡ vdr → Reindexed b now own
         unfolding old_of
-        reindexed some now by kind before own after at is = inr (some_node own.index (λ e. some (nodes_are ∙ ap nodes_of (index_is (among_all b kind before own after at) is) ∙ e)), subst (λ (z : List ℕ). IsRebuilt z now own) still (by (old_of (among_all b kind before own after at) is)))
+        reindexed some now by kind before own after at is = inr (some_node own.index (λ e. some (nodes_are ∙ ap nodes_of (index_is (among_all b kind before own after at.was) is) ∙ e)), subst (λ (z : List ℕ). IsRebuilt z now own) still (by (old_of (among_all b kind before own after at.was) is)))

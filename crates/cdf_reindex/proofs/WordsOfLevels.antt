@@ -4,7 +4,8 @@ use Rattle.cdf_reindex.proofs.Common.{map-append, Entries, no_entry, block, lowe
 use Rattle.cdf_format.specs.Index.{Leaf as TreeLeaf}
 use Rattle.cdf_format.specs.IndexOf.{SayEntries}
 use Rattle.cdf_reindex.specs.Rebuilding.{no_words}
-use Rattle.cdf_reindex.proofs.LevelLemmas.{Some-entry, filled_first, filled_rest}
+use Rattle.cdf_reindex.proofs.LevelLemmas.{Some-entry, filled_first, filled_rest, same_head, same_tail}
+use Rattle.std.proofs.lemmas.List.{length-map}
 
 abbrev pub words : ℕ → ℕ → ℕ → Entry
 words first last place = record { first = first; last = last; place = place }
@@ -21,21 +22,18 @@ node_words new = record { place = new.place; entries = words_of new.entries }
 abbrev pub tree_leaf_words : TreeLeaf → Entry
 tree_leaf_words leaf = words leaf.first leaf.last leaf.place
 
+on : (i j : ℕ) → i + suc j ≡ suc i + j
+on i j = omega arith
+
 -- words that a node says one by one
 pub say_entries : (b : List ℕ) (place i : ℕ) (entries : Entries) → ((j : ℕ) → j < entry_count entries → SaysEntry b place (i + j) (entry_in (words_of entries) j).first (entry_in (words_of entries) j).last (entry_in (words_of entries) j).place) → SayEntries b place i entries
 say_entries b place i no_entry s = tt
 say_entries b place i (block first last at packed entries) s =
     let here : i + 0 ≡ i = omega arith in
     (subst (λ (k : ℕ). SaysEntry b place k first last at) here (s 0 (omega arith)), say_entries b place (suc i) entries (λ j lt. subst (λ (k : ℕ). SaysEntry b place k (entry_in (words_of entries) j).first (entry_in (words_of entries) j).last (entry_in (words_of entries) j).place) (on i j) (s (suc j) (omega arith))))
-  where
-    on : (i j : ℕ) → i + suc j ≡ suc i + j
-    on i j = omega arith
 say_entries b place i (lower first last nodes entries) s =
     let here : i + 0 ≡ i = omega arith in
     (subst (λ (k : ℕ). SaysEntry b place k first last (link_to nodes)) here (s 0 (omega arith)), say_entries b place (suc i) entries (λ j lt. subst (λ (k : ℕ). SaysEntry b place k (entry_in (words_of entries) j).first (entry_in (words_of entries) j).last (entry_in (words_of entries) j).place) (on i j) (s (suc j) (omega arith))))
-  where
-    on : (i j : ℕ) → i + suc j ≡ suc i + j
-    on i j = omega arith
 
 pub length_words : (entries : Entries) → length (words_of entries) ≡ entry_count entries
 length_words no_entry = refl
@@ -55,31 +53,25 @@ record Parted (entries : Entries) (xs ys : List Entry) : Type 0 where
   front_is : words_of front ≡ xs
   back_is : words_of back ≡ ys
 
-same_head : (x y : Entry) (xs ys : List Entry) → x ∷ xs ≡ y ∷ ys → x ≡ y
-same_head x y xs ys e = cc
-
-same_tail : (x y : Entry) (xs ys : List Entry) → x ∷ xs ≡ y ∷ ys → xs ≡ ys
-same_tail x y xs ys e = cc
-
 parted : (xs ys : List Entry) (entries : Entries) → words_of entries ≡ xs ++ ys → Parted entries xs ys
 parted [] ys entries e = record { front = no_entry; back = entries; whole = refl; front_is = refl; back_is = e }
 parted (x ∷ xs) ys no_entry e = absurd cc
 parted (x ∷ xs) ys (block first last place packed entries) e =
-    let r = parted xs ys entries (same_tail (words first last place) x (words_of entries) (xs ++ ys) e) in
+    let r = parted xs ys entries (same_tail e) in
     record {
       front = block first last place packed r.front;
       back = r.back;
       whole = ap (block first last place packed) r.whole;
-      front_is = ap₂ (λ (w : Entry) (ws : List Entry). w ∷ ws) (same_head (words first last place) x (words_of entries) (xs ++ ys) e) r.front_is;
+      front_is = ap₂ (λ (w : Entry) (ws : List Entry). w ∷ ws) (same_head e) r.front_is;
       back_is = r.back_is;
     }
 parted (x ∷ xs) ys (lower first last nodes entries) e =
-    let r = parted xs ys entries (same_tail (words first last (link_to nodes)) x (words_of entries) (xs ++ ys) e) in
+    let r = parted xs ys entries (same_tail e) in
     record {
       front = lower first last nodes r.front;
       back = r.back;
       whole = ap (lower first last nodes) r.whole;
-      front_is = ap₂ (λ (w : Entry) (ws : List Entry). w ∷ ws) (same_head (words first last (link_to nodes)) x (words_of entries) (xs ++ ys) e) r.front_is;
+      front_is = ap₂ (λ (w : Entry) (ws : List Entry). w ∷ ws) (same_head e) r.front_is;
       back_is = r.back_is;
     }
 
@@ -151,10 +143,6 @@ pub record Grown (leaves : List TreeLeaf) (level : List NodeWords) (more : List 
   pub top_is : map node_words top ≡ level
   pub rest_is : map (map node_words) rest ≡ more
 
-length_map : (nodes : List NewNode) → length (map node_words nodes) ≡ length nodes
-length_map [] = refl
-length_map (new ∷ more) = ap suc (length_map more)
-
 top_filled : (leaves : List TreeLeaf) (level : List NewNode) (more : List (List NewNode)) → AreLevels leaves (level ∷ more) → Filled level
 top_filled leaves level [] l = l.1
 top_filled leaves level (below ∷ more) l = l.1
@@ -170,7 +158,7 @@ grown leaves level (below ∷ more) s =
     record {
       top = r.nodes;
       rest = g.top ∷ g.rest;
-      are = (r.whole, filled_nodes r.nodes (subst AreFilled (sym r.words_are) s.1), subst (λ (n : ℕ). 2 ≤ n) (sym (ap length g.top_is) ∙ length_map g.top) s.2, g.are);
+      are = (r.whole, filled_nodes r.nodes (subst AreFilled (sym r.words_are) s.1), subst (λ (n : ℕ). 2 ≤ n) (sym (ap length g.top_is) ∙ length-map g.top node_words) s.2, g.are);
       top_is = r.words_are;
       rest_is = ap₂ (λ (x : List NodeWords) (xs : List (List NodeWords)). x ∷ xs) g.top_is g.rest_is;
     }

@@ -9,50 +9,26 @@ use Rattle.cdf_index.proofs.collecting.+collecting.Goals.{collect_below-then-kin
 use Rattle.cdf_index.proofs.collecting.+collecting.Goals as goal
 
 pub collect-returns-then-at-eq0-clause-places : goal.collect-returns-then-at-eq0-clause-places
-collect-returns-then-at-eq0-clause-places g t c =
-    let l = c.loop-turn in
-    let b = g.A.Area.image c.args.area.now in
-    let was : List Entry × List ℕ = (c.args.blocks.now.items, c.args.nodes.now.items) in
-    let s : List Entry × List ℕ = (l.blocks.items, l.nodes.items) in
-    walk_end with_node with_block b c.args.levels c.args.link l.at l.turn was s c.requires.chain l.invariant.walked c.if-at-eq0.true
+collect-returns-then-at-eq0-clause-places g t c = walk_end c.requires.chain c.loop-turn.invariant.walked c.if-at-eq0.true
 
 pub collect-read_head-requires-clause-inside : goal.collect-read_head-requires-clause-inside
-collect-read_head-requires-clause-inside g t c =
-    let l = c.loop-turn in
-    let b = g.A.Area.image c.args.area.now in
-    let was : List Entry × List ℕ = (c.args.blocks.now.items, c.args.nodes.now.items) in
-    let s : List Entry × List ℕ = (l.blocks.items, l.nodes.items) in
-    inside_now b _ l.at l.invariant.area.image (walk_node with_node with_block b c.args.levels c.args.link l.at l.turn was s c.requires.chain l.invariant.walked c.if-at-eq0.false).0
+collect-read_head-requires-clause-inside g t c = inside_now _ _ c.loop-turn.at c.loop-turn.invariant.area.image (walk_node c.requires.chain c.loop-turn.invariant.walked c.if-at-eq0.false).0
 
 pub collect-overflow_sub-levels : goal.collect-overflow_sub-levels
-collect-overflow_sub-levels g t c =
-    let l = c.loop-turn in
-    let b = g.A.Area.image c.args.area.now in
-    let was : List Entry × List ℕ = (c.args.blocks.now.items, c.args.nodes.now.items) in
-    let s : List Entry × List ℕ = (l.blocks.items, l.nodes.items) in
-    (walk_node with_node with_block b c.args.levels c.args.link l.at l.turn was s c.requires.chain l.invariant.walked c.if-at-eq0.false).1
+collect-overflow_sub-levels g t c = (walk_node c.requires.chain c.loop-turn.invariant.walked c.if-at-eq0.false).1
 
 pub collect-collect_below-requires : goal.collect-collect_below-requires
 collect-collect_below-requires g t c =
     let l = c.loop-turn in
-    let b = g.A.Area.image c.args.area.now in
-    let was : List Entry × List ℕ = (c.args.blocks.now.items, c.args.nodes.now.items) in
-    let s : List Entry × List ℕ = (l.blocks.items, l.nodes.items) in
     let e = c.in_ok-head.ensures.area.image ∙ l.invariant.area.image in
-    let n = walk_node with_node with_block b c.args.levels c.args.link l.at l.turn was s c.requires.chain l.invariant.walked c.if-at-eq0.false in
+    let n = walk_node c.requires.chain l.invariant.walked c.if-at-eq0.false in
     λ κs w. (
-      let d = c.decreases in let one = n.1 in omega arith,
+      omega (arith, c.decreases, n.1),
       (
         w,
         (
           subst (λ (x : List ℕ). IsHead x l.at c.in_ok-head.head) (sym c.in_ok-head.ensures.area.image) c.in_ok-head.ensures.head,
-          (
-            inside_now b _ l.at e n.0,
-            (
-              entries_now b _ l.at (c.args.levels - 1) e (walk_entries with_node with_block b c.args.levels c.args.link l.at l.turn was s c.requires.chain l.invariant.walked c.if-at-eq0.false),
-              (let f = c.requires.few in omega arith, let q = c.requires.short in let z = ap length e in omega arith),
-            ),
-          ),
+          (inside_now _ _ l.at e n.0, (entries_now _ _ l.at (c.args.levels - 1) e (walk_entries c.requires.chain l.invariant.walked c.if-at-eq0.false), (omega (arith, c.requires.few), omega (arith, c.requires.short, ap length e)))),
         ),
       ),
     )
@@ -60,24 +36,17 @@ collect-collect_below-requires g t c =
 pub collect-loop-turn-preserved : goal.collect-loop-turn-preserved
 collect-loop-turn-preserved g t c =
     let l = c.loop-turn in
-    let b = g.A.Area.image c.args.area.now in
-    let was : List Entry × List ℕ = (c.args.blocks.now.items, c.args.nodes.now.items) in
-    let s : List Entry × List ℕ = (l.blocks.items, l.nodes.items) in
     let e = c.in_ok-head.ensures.area.image ∙ l.invariant.area.image in
     record {
-      walked = walk_on with_node with_block b c.args.levels c.args.link l.at l.turn c.in_ok-head.head.next was s (c.collect_below.new.blocks.items, c.collect_below.new.nodes.items) l.invariant.walked c.if-at-eq0.false (c.in_ok-head.ensures.head.next_is ∙ ap (λ (x : List ℕ). next_of x l.at) l.invariant.area.image)
-          (entries_told with_node with_block b _ l.at (c.args.levels - 1) (l.blocks.items, l.nodes.items ++ l.at ∷ []) (c.collect_below.new.blocks.items, c.collect_below.new.nodes.items) e (λ es st. c.in_ok-collect_below.ensures.places es st ∙ ap (λ (x : List ℕ). through_entries with_node with_block (l.blocks.items, x) es) c.in_ok-push.ensures.items));
+      walked = walk_on l.invariant.walked c.if-at-eq0.false (c.in_ok-head.ensures.head.next_is ∙ ap (λ (x : List ℕ). next_of x l.at) l.invariant.area.image)
+          (entries_told with_node with_block _ _ l.at (c.args.levels - 1) (l.blocks.items, l.nodes.items ++ l.at ∷ []) (c.collect_below.new.blocks.items, c.collect_below.new.nodes.items) e (λ es st. c.in_ok-collect_below.ensures.places es st ∙ ap (λ (x : List ℕ). through_entries with_node with_block (l.blocks.items, x) es) c.in_ok-push.ensures.items));
       area = read_more (read_more l.invariant.area c.in_ok-head.ensures.area) c.in_ok-collect_below.ensures.area;
     }
 
 pub collect-returns-clause-places : goal.collect-returns-clause-places
 collect-returns-clause-places g t c =
     let l = c.loop-turn in
-    let b = g.A.Area.image c.args.area.now in
-    let was : List Entry × List ℕ = (c.args.blocks.now.items, c.args.nodes.now.items) in
-    let s : List Entry × List ℕ = (l.blocks.items, l.nodes.items) in
-    let z = walk_over with_node with_block b c.args.levels c.args.link l.at l.turn was s c.requires.chain l.invariant.walked (omega (arith, c.size-turn-end.ensures, c.loop-turn-test.false)) in
-    walk_end with_node with_block b c.args.levels c.args.link l.at l.turn was s c.requires.chain l.invariant.walked z
+    walk_end c.requires.chain l.invariant.walked (walk_over c.requires.chain l.invariant.walked (omega (arith, c.size-turn-end.ensures, c.loop-turn-test.false)))
 
 pub collect_below-read_entry-requires : goal.collect_below-read_entry-requires
 collect_below-read_entry-requires g t c =
@@ -97,39 +66,25 @@ pub collect_below-overflow_add-entry : goal.collect_below-overflow_add-entry
 collect_below-overflow_add-entry g t c =
     let l = c.loop-i in
     let lt = subst (λ (n : ℕ). l.i < n) c.requires.head.used_is c.loop-i-test.true in
-    let room = entry_lies (g.A.Area.image c.args.area.now) _ c.args.at c.args.levels l.i (c.args.blocks.now.items, c.args.nodes.now.items) (l.blocks.items, l.nodes.items) c.in_ok-entry.entry l.invariant.area.image c.in_ok-entry.ensures.value c.requires.entries l.invariant.gone lt in
-    let short = c.requires.short in
-    omega arith
+    omega (arith, entry_lies l.invariant.area.image c.in_ok-entry.ensures.value c.requires.entries l.invariant.gone lt, c.requires.short)
 
 pub collect_below-read_unsigned4-requires : goal.collect_below-read_unsigned4-requires
 collect_below-read_unsigned4-requires g t c =
     let l = c.loop-i in
     let lt = subst (λ (n : ℕ). l.i < n) c.requires.head.used_is c.loop-i-test.true in
-    let room = entry_lies (g.A.Area.image c.args.area.now) _ c.args.at c.args.levels l.i (c.args.blocks.now.items, c.args.nodes.now.items) (l.blocks.items, l.nodes.items) c.in_ok-entry.entry l.invariant.area.image c.in_ok-entry.ensures.value c.requires.entries l.invariant.gone lt in
-    let same = ap length (c.in_ok-entry.ensures.area.image ∙ l.invariant.area.image) in
-    omega arith
+    omega (arith, entry_lies l.invariant.area.image c.in_ok-entry.ensures.value c.requires.entries l.invariant.gone lt, ap length (c.in_ok-entry.ensures.area.image ∙ l.invariant.area.image))
 
 pub collect_below-collect-requires : goal.collect_below-collect-requires
 collect_below-collect-requires g t c =
     let l = c.loop-i in
-    let b = g.A.Area.image c.args.area.now in
-    let was : List Entry × List ℕ = (c.args.blocks.now.items, c.args.nodes.now.items) in
-    let s : List Entry × List ℕ = (l.blocks.items, l.nodes.items) in
     let lt = subst (λ (n : ℕ). l.i < n) c.requires.head.used_is c.loop-i-test.true in
     let entry = c.in_ok-entry.entry in
-    let says = entry_says b _ c.args.at c.args.levels l.i was s entry l.invariant.area.image c.in_ok-entry.ensures.value in
-    let place = sym says.offset_is in
-    let type = read_type b _ entry.place c.in_ok-kind.kind (c.in_ok-entry.ensures.area.image ∙ l.invariant.area.image) c.in_ok-kind.ensures.value in
+    let says = entry_says l.invariant.area.image c.in_ok-entry.ensures.value in
+    let type = read_type _ _ entry.place c.in_ok-kind.kind (c.in_ok-entry.ensures.area.image ∙ l.invariant.area.image) c.in_ok-kind.ensures.value in
     let e = c.in_ok-kind.ensures.area.image ∙ c.in_ok-entry.ensures.area.image ∙ l.invariant.area.image in
     λ κs w. (
-      let d = c.decreases in omega arith,
-      (
-        w,
-        (
-          chain_now b _ c.args.levels entry.place e (lower_chain with_node with_block b c.args.at c.args.levels l.i entry.place c.in_ok-kind.kind was s c.requires.entries l.invariant.gone lt place type c.if-kind-eq-VXR_TYPE.true),
-          (c.requires.few, let q = c.requires.short in let z = ap length e in omega arith),
-        ),
-      ),
+      omega (arith, c.decreases),
+      (w, (chain_now _ _ c.args.levels entry.place e (lower_chain c.requires.entries l.invariant.gone lt (sym says.offset_is) type c.if-kind-eq-VXR_TYPE.true), (c.requires.few, omega (arith, c.requires.short, ap length e)))),
     )
 
 pub collect_below-loop-i-preserved : goal.collect_below-loop-i-preserved
@@ -140,8 +95,7 @@ collect_below-loop-i-preserved g t c =
     let s : List Entry × List ℕ = (l.blocks.items, l.nodes.items) in
     let lt = subst (λ (n : ℕ). l.i < n) c.requires.head.used_is c.loop-i-test.true in
     let entry = c.in_ok-entry.entry in
-    let says = entry_says b _ c.args.at c.args.levels l.i was s entry l.invariant.area.image c.in_ok-entry.ensures.value in
-    let place = sym says.offset_is in
+    let says = entry_says l.invariant.area.image c.in_ok-entry.ensures.value in
     let type = read_type b _ entry.place c.in_ok-kind.kind (c.in_ok-entry.ensures.area.image ∙ l.invariant.area.image) c.in_ok-kind.ensures.value in
     let e = c.in_ok-kind.ensures.area.image ∙ c.in_ok-entry.ensures.area.image ∙ l.invariant.area.image in
     let a = read_more (read_more l.invariant.area c.in_ok-entry.ensures.area) c.in_ok-kind.ensures.area in
@@ -150,20 +104,17 @@ collect_below-loop-i-preserved g t c =
           let now : List Entry × List ℕ = (w.collect.new.blocks.items, w.collect.new.nodes.items) in
           let told = chain_told with_node with_block b _ c.args.levels entry.place s now e w.in_ok-collect.ensures.places in
           record {
-            gone = subst (λ (x : List Entry × List ℕ). Gone with_node with_block b c.args.at c.args.levels (l.i + 1) was x) (sym (pair_is _ _ _ _ (ap (λ v. v.items) w.blocks-is) (ap (λ v. v.items) w.nodes-is))) (past_lower with_node with_block b c.args.at c.args.levels l.i entry.place c.in_ok-kind.kind was s now l.invariant.gone lt place type w.if-kind-eq-VXR_TYPE.true told);
+            gone = subst (λ (x : List Entry × List ℕ). Gone with_node with_block b c.args.at c.args.levels (l.i + 1) was x) (sym (pair_is _ _ _ _ (ap (λ v. v.items) w.blocks-is) (ap (λ v. v.items) w.nodes-is))) (past_lower l.invariant.gone lt (sym says.offset_is) type w.if-kind-eq-VXR_TYPE.true told);
             area = subst (λ x. Stays g.A.Area.image g.A.Area.frame g.A.Area.faults g.A.Area.edited c.args.area.now x) (sym w.area-is) (read_more a w.in_ok-collect.ensures.area);
           }
       | collect_below-else-kind-eq-VXR_TYPE+in_ok-push w ↦ record {
-        gone = subst (λ (x : List Entry × List ℕ). Gone with_node with_block b c.args.at c.args.levels (l.i + 1) was x) (sym (pair_is _ _ _ _ (ap (λ v. v.items) w.blocks-is ∙ w.in_ok-push.ensures.items) (ap (λ v. v.items) w.nodes-is))) (past_block with_node with_block b c.args.at c.args.levels l.i entry.first entry.last entry.place c.in_ok-kind.kind was s l.invariant.gone lt says type w.if-kind-eq-VXR_TYPE.false);
+        gone = subst (λ (x : List Entry × List ℕ). Gone with_node with_block b c.args.at c.args.levels (l.i + 1) was x) (sym (pair_is _ _ _ _ (ap (λ v. v.items) w.blocks-is ∙ w.in_ok-push.ensures.items) (ap (λ v. v.items) w.nodes-is))) (past_block l.invariant.gone lt says type w.if-kind-eq-VXR_TYPE.false);
         area = subst (λ x. Stays g.A.Area.image g.A.Area.frame g.A.Area.faults g.A.Area.edited c.args.area.now x) (sym w.area-is) a;
       }
     ]
 
 pub collect_below-returns-clause-places : goal.collect_below-returns-clause-places
-collect_below-returns-clause-places g t c =
-    let l = c.loop-i in
-    λ es st.
-    below_end with_node with_block (g.A.Area.image c.args.area.now) c.args.at c.args.levels l.i (c.args.blocks.now.items, c.args.nodes.now.items) (l.blocks.items, l.nodes.items) l.invariant.gone (let h = c.requires.head.used_is in let f = c.loop-i-test.false in omega arith) es st
+collect_below-returns-clause-places g t c = λ es st. below_end c.loop-i.invariant.gone (omega (arith, c.requires.head.used_is, c.loop-i-test.false)) es st
 
 pub collect_below-returns-in_err-kind-clause-area : goal.collect_below-returns-in_err-kind-clause-area
 collect_below-returns-in_err-kind-clause-area g t c = read_failed (read_more c.loop-i.invariant.area c.in_ok-entry.ensures.area) c.in_err-kind.ensures.area c.from_residual-in_err-kind.ensures.1

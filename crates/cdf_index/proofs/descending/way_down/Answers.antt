@@ -1,6 +1,5 @@
 use Rattle.std.proofs.Common.{◌≡◌, ◌+◌, ◌-◌, ℕ, List, refl, sym, subst, arith}
 use Rattle.cdf_index.proofs.Common.{read_more, read_once, Nodes, link_to, IsTree, SomeTree, SpotIs, index_at, Step}
-use Rattle.cdf_area.proofs.Calls.{read_done}
 use Rattle.cdf_index.proofs.LevelsDown.{Descending, some_tree, descend_start, next_level, way_done, end_done, last_among, all_among, descend_more, descend_never}
 use Rattle.cdf_index.proofs.descending.way_down.Goals as goal
 
@@ -17,9 +16,8 @@ loop-turn-init g c =
 
 pub spot_of_chain-requires-in-loop-turn-clause-tree : goal.spot_of_chain-requires-in-loop-turn-clause-tree
 spot_of_chain-requires-in-loop-turn-clause-tree g c =
-    let b = g.A.Area.image c.args.area.now in
     let i = c.loop-turn.invariant in
-    subst (λ (x : List ℕ). SomeTree x c.loop-turn.end.lower) (sym i.area.image) (next_level b c.args.first c.loop-turn.turn (index_at b c.args.head) c.loop-turn.passed.items c.loop-turn.end i.descending c.requires.index.tiled c.if-end-eq0.false)
+    subst (λ (x : List ℕ). SomeTree x c.loop-turn.end.lower) (sym i.area.image) (next_level i.descending c.requires.index.tiled c.if-end-eq0.false)
 
 pub loop-turn-preserved : goal.loop-turn-preserved
 loop-turn-preserved g c =
@@ -29,53 +27,27 @@ loop-turn-preserved g c =
     subst (λ (x : List ℕ). (levels : ℕ) (nodes : Nodes) → IsTree x levels nodes → c.loop-turn.end.lower ≡ link_to nodes → SpotIs x c.args.first levels nodes c.in_ok-below.below) i.area.image c.in_ok-below.ensures.spot in
     record {
       descending = subst (λ (xs : List Step). Descending b c.args.first (c.loop-turn.turn + 1) (index_at b c.args.head) xs c.in_ok-below.below) (sym c.in_ok-push.ensures.items)
-          (descend_more b c.args.first c.loop-turn.turn (index_at b c.args.head) c.loop-turn.passed.items c.loop-turn.end i.descending (record { place = c.loop-turn.end.place; room = c.loop-turn.end.room; entry = c.loop-turn.end.begun - 1 }) c.in_ok-below.below c.if-end-eq0.false refl refl refl spot);
+          (descend_more i.descending (record { place = c.loop-turn.end.place; room = c.loop-turn.end.room; entry = c.loop-turn.end.begun - 1 }) c.in_ok-below.below c.if-end-eq0.false refl refl refl spot);
       area = read_more i.area c.in_ok-below.ensures.area;
     }
 
 pub returns-then-end-eq0-clause-steps : goal.returns-then-end-eq0-clause-steps
-returns-then-end-eq0-clause-steps g c =
-    let b = g.A.Area.image c.args.area.now in
-    way_done b c.args.first c.loop-turn.turn (index_at b c.args.head) c.loop-turn.passed.items c.loop-turn.end c.loop-turn.invariant.descending c.if-end-eq0.true
+returns-then-end-eq0-clause-steps g c = way_done c.loop-turn.invariant.descending c.if-end-eq0.true
 
 pub returns-then-end-eq0-clause-end : goal.returns-then-end-eq0-clause-end
-returns-then-end-eq0-clause-end g c =
-    let b = g.A.Area.image c.args.area.now in
-    end_done b c.args.first c.loop-turn.turn (index_at b c.args.head) c.loop-turn.passed.items c.loop-turn.end c.loop-turn.invariant.descending c.if-end-eq0.true
+returns-then-end-eq0-clause-end g c = end_done c.loop-turn.invariant.descending c.if-end-eq0.true
 
 pub returns-then-end-eq0-clause-sees : goal.returns-then-end-eq0-clause-sees
 returns-then-end-eq0-clause-sees g c = c.loop-turn.invariant.descending.ends.sees
 
 pub returns-then-end-eq0-clause-last : goal.returns-then-end-eq0-clause-last
-returns-then-end-eq0-clause-last g c =
-    let b = g.A.Area.image c.args.area.now in
-    last_among b c.args.first c.loop-turn.turn (index_at b c.args.head) c.loop-turn.passed.items c.loop-turn.end c.loop-turn.invariant.descending c.requires.index.tiled c.if-end-eq0.true
+returns-then-end-eq0-clause-last g c = last_among c.loop-turn.invariant.descending c.requires.index.tiled c.if-end-eq0.true
 
 pub returns-then-end-eq0-clause-among : goal.returns-then-end-eq0-clause-among
-returns-then-end-eq0-clause-among g c =
-    let b = g.A.Area.image c.args.area.now in
-    all_among b c.args.first c.loop-turn.turn (index_at b c.args.head) c.loop-turn.passed.items c.loop-turn.end c.loop-turn.invariant.descending c.if-end-eq0.true
+returns-then-end-eq0-clause-among g c = all_among c.loop-turn.invariant.descending c.if-end-eq0.true
 
 pub returns-then-end-eq0-clause-say : goal.returns-then-end-eq0-clause-say
 returns-then-end-eq0-clause-say g c = c.loop-turn.invariant.descending.say
 
-pub returns-clause-steps : goal.returns-clause-steps
-returns-clause-steps g c = absurd (descend_never (g.A.Area.image c.args.area.now) c.args.first c.loop-turn.turn (index_at (g.A.Area.image c.args.area.now) c.args.head) c.loop-turn.passed.items c.loop-turn.end c.loop-turn.invariant.descending (let over = c.loop-turn-test.false in omega arith))
-
-pub returns-clause-end : goal.returns-clause-end
-returns-clause-end g c = absurd (descend_never (g.A.Area.image c.args.area.now) c.args.first c.loop-turn.turn (index_at (g.A.Area.image c.args.area.now) c.args.head) c.loop-turn.passed.items c.loop-turn.end c.loop-turn.invariant.descending (let over = c.loop-turn-test.false in omega arith))
-
-pub returns-clause-sees : goal.returns-clause-sees
-returns-clause-sees g c = absurd (descend_never (g.A.Area.image c.args.area.now) c.args.first c.loop-turn.turn (index_at (g.A.Area.image c.args.area.now) c.args.head) c.loop-turn.passed.items c.loop-turn.end c.loop-turn.invariant.descending (let over = c.loop-turn-test.false in omega arith))
-
-pub returns-clause-last : goal.returns-clause-last
-returns-clause-last g c = absurd (descend_never (g.A.Area.image c.args.area.now) c.args.first c.loop-turn.turn (index_at (g.A.Area.image c.args.area.now) c.args.head) c.loop-turn.passed.items c.loop-turn.end c.loop-turn.invariant.descending (let over = c.loop-turn-test.false in omega arith))
-
-pub returns-clause-among : goal.returns-clause-among
-returns-clause-among g c = absurd (descend_never (g.A.Area.image c.args.area.now) c.args.first c.loop-turn.turn (index_at (g.A.Area.image c.args.area.now) c.args.head) c.loop-turn.passed.items c.loop-turn.end c.loop-turn.invariant.descending (let over = c.loop-turn-test.false in omega arith))
-
-pub returns-clause-say : goal.returns-clause-say
-returns-clause-say g c = absurd (descend_never (g.A.Area.image c.args.area.now) c.args.first c.loop-turn.turn (index_at (g.A.Area.image c.args.area.now) c.args.head) c.loop-turn.passed.items c.loop-turn.end c.loop-turn.invariant.descending (let over = c.loop-turn-test.false in omega arith))
-
-pub returns-clause-area : goal.returns-clause-area
-returns-clause-area g c = read_done c.loop-turn.invariant.area
+pub returns : goal.returns
+returns g c = absurd (descend_never c.loop-turn.invariant.descending (omega (arith, c.loop-turn-test.false)))

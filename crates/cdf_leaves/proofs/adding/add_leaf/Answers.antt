@@ -1,8 +1,10 @@
 use Rattle.std.proofs.Common.{◌≡◌, ◌+◌, ◌≤◌, ◌∙◌, ℕ, List, length, refl, sym, ap, subst, arith}
 use Rattle.cdf_leaves.proofs.Common.{Frame, edit_more, keeps_by_read, read_once, Placed, Good, good_is_sound, good_eof, OnOk, Kind, image_limit, vxr_bytes, StandsAmong, number, vdr_vxr_head, VariableShape, AddsLeaf, entry, IndexStarted}
-use Rattle.cdf_leaves.proofs.AddCalls.{among_kind, seven_fit, started, started_long, through, vdr_late, vdr_there, late_ends}
-use Rattle.cdf_leaves.proofs.LastCall.{edit_last, ok_map}
+use Rattle.cdf_leaves.proofs.AddCalls.{among_kind, seven_fit, started, started_long, vdr_late, vdr_there, late_ends}
+use Rattle.cdf_leaves.proofs.LastCall.{edit_last}
 use Rattle.cdf_leaves.proofs.adding.add_leaf.Goals as goal
+use Rattle.cdf_edits.proofs.Edits.RecordFrame.{through}
+use Rattle.std.proofs.lemmas.Result.{on_ok_weaker}
 
 pub read_unsigned8-requires : goal.read_unsigned8-requires
 read_unsigned8-requires g c = let v = vdr_there c.requires.good (among_kind (g.A.Area.image c.args.area.now) c.args.vdr c.requires.vdr) in omega arith
@@ -53,7 +55,7 @@ returns-clause-added g c =
     let lies = vdr_late c.requires.good own placed in
     let fits : length (g.A.Area.image c.place_record.new.area) + vxr_bytes 7 ≤ (g.A.Area.frame c.args.area.now).limit = seven_fit c.requires.good own placed refl (g.A.Area.frame c.args.area.now).limit (g.A.Area.frame c.args.area.now).limit c.requires.room refl in
     let zero : c.in_ok-head.head ≡ 0 = c.if-head-ne0.false in
-    ok_map c.start_index.result (λ st kind before own' after stood is.
+    on_ok_weaker c.start_index.result (λ st kind before own' after stood is.
     (let none : number b own'.vdr vdr_vxr_head ≡ 0 = ap (λ (v : ℕ). number b v vdr_vxr_head) is ∙ sym c.in_ok-head.ensures.value ∙ zero in
     let short : length (g.A.Area.image c.start_index.new.area) ≤ image_limit =
     through (length (g.A.Area.image c.start_index.new.area)) (length (g.A.Area.image c.place_record.new.area) + vxr_bytes 7) image_limit (started_long lies st) (through (length (g.A.Area.image c.place_record.new.area) + vxr_bytes 7) (g.A.Area.frame c.args.area.now).limit image_limit fits c.requires.limit) in

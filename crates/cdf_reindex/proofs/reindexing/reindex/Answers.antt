@@ -1,8 +1,8 @@
 use Rattle.std.proofs.Common.{◌≡◌, ◌∙◌, ◌≤◌, ◌+◌, ◌*◌, List, [], length, ap, eq-eqb, true≢false, sym, subst, arith}
 use Rattle.cdf_reindex.proofs.Common.{eqb-true, nil_from_length, StandsAmong, nodes_above, VariableShape, Kind, IsRebuilt, Reindexed, HasOld}
-use Rattle.cdf_reindex.proofs.RebuildingCalls.{on_ok}
 use Rattle.cdf_reindex.proofs.ReindexCalls.{head_lies, has_index, still_sound, still_ends, some_old, few, room, nothing_done, reindexed}
 use Rattle.cdf_reindex.proofs.reindexing.reindex.Goals as goal
+use Rattle.std.proofs.lemmas.Result.{on_ok_weaker}
 
 pub overflow_add-vdr : goal.overflow_add-vdr
 overflow_add-vdr g c = let l = head_lies (g.A.Area.image c.args.area.now) c.requires.good c.args.vdr c.requires.vdr in let r = c.requires.room in let m = c.requires.limit in omega arith
@@ -46,4 +46,4 @@ returns-clause-made g c =
     let some : c.deref-2.result.now ≡ [] → ⊥ = λ e. true≢false (sym (eq-eqb nodes.len 0 (omega (arith, nodes.ok, ap length (sym c.deref-2.ensures.value ∙ e)))) ∙ sym c.is_empty.ensures ∙ c.if-is_empty.false) in
     let by : ((old : HasOld x c.args.vdr c.deref.result.now c.deref-2.result.now) → IsRebuilt x now old.variable) → (kind : Kind) (before : List VariableShape) (own : VariableShape) (after : List VariableShape) → StandsAmong b kind before own after → own.vdr ≡ c.args.vdr → Reindexed b now own =
     reindexed (g.A.Area.image c.args.area.now) c.requires.good (g.A.Area.image c.read_unsigned8.new.area) c.in_ok-head.ensures.area.image c.args.vdr c.in_ok-head.head c.in_ok-head.ensures.value (g.A.Area.image c.index_parts.new.area) c.in_ok-parts.ensures.area.image c.deref.result.now c.deref-2.result.now (c.deref.ensures.value ∙ c.in_ok-parts.ensures.leaves) (c.deref-2.ensures.value ∙ c.in_ok-parts.ensures.nodes) some now in
-    on_ok c.rebuild.result by c.rebuild.ensures.rebuilt
+    on_ok_weaker c.rebuild.result by c.rebuild.ensures.rebuilt

@@ -1,0 +1,45 @@
+-- A variable among those of its kind, by its VDR, and among all variables.
+use Rattle.std.proofs.Common.{◌≡◌, ℕ, List, [], ◌∷◌, ◌++◌, append_assoc, refl, sym, ap, subst, ◌∙◌, inl, inr}
+use Rattle.cdf_index.proofs.Common.{VariableShape, variables, In, In-append, map-append}
+use Rattle.cdf_edits.specs.Commands.Allowances.{shapes_of}
+use Rattle.cdf_edits.proofs.Edits.StandsAmong.{StandsAmong}
+use Rattle.cdf_format.specs.Shape.{shape, vdrs}
+use Rattle.cdf_model.specs.declared.kinds.Kind.{Kind}
+use Rattle.cdf_model.specs.declared.kinds.Kind.TheVariants.{R, Z}
+
+record StandsIn (vs : List VariableShape) (vdr : ℕ) : Type 0 where
+  before : List VariableShape
+  own : VariableShape
+  after : List VariableShape
+  is : vs ≡ before ++ own ∷ after
+  vdr_is : own.vdr ≡ vdr
+
+stands_in : (vs : List VariableShape) (m : ℕ) → In m (vdrs vs) → StandsIn vs m
+stands_in [] m i = absurd i
+stands_in (v ∷ vs) m (inl e) = record { before = []; own = v; after = vs; is = refl; vdr_is = sym e }
+stands_in (v ∷ vs) m (inr i) = let at = stands_in vs m i in record { before = v ∷ at.before; own = at.own; after = at.after; is = ap (λ (r : List VariableShape). v ∷ r) at.is; vdr_is = at.vdr_is }
+
+pub record OneOf (b : List ℕ) (vdr : ℕ) : Type 0 where
+  pub kind : Kind
+  pub before : List VariableShape
+  pub own : VariableShape
+  pub after : List VariableShape
+  pub among : StandsAmong b kind before own after
+  pub vdr_is : own.vdr ≡ vdr
+
+pub one_of : (b : List ℕ) (vdr : ℕ) → In vdr (vdrs (variables (shape b))) → OneOf b vdr
+one_of b vdr i =
+    let s = shape b in
+    elim (In-append vdr (vdrs s.r_variables) (vdrs s.z_variables) (subst (In vdr) (map-append (λ (v : VariableShape). v.vdr) s.r_variables s.z_variables) i)) [
+      | inl j ↦ let at = stands_in s.r_variables vdr j in record { kind = R; before = at.before; own = at.own; after = at.after; among = record { was = at.is }; vdr_is = at.vdr_is }
+      | inr j ↦ let at = stands_in s.z_variables vdr j in record { kind = Z; before = at.before; own = at.own; after = at.after; among = record { was = at.is }; vdr_is = at.vdr_is }
+    ]
+
+pub record AmongAll (vs : List VariableShape) (own : VariableShape) : Type 0 where
+  pub front : List VariableShape
+  pub rest : List VariableShape
+  pub all : vs ≡ front ++ own ∷ rest
+
+pub among_all : (b : List ℕ) (kind : Kind) (before : List VariableShape) (own : VariableShape) (after : List VariableShape) → shapes_of (shape b) kind ≡ before ++ own ∷ after → AmongAll (variables (shape b)) own
+among_all b R before own after was = record { front = before; rest = after ++ (shape b).z_variables; all = ap (λ (vs : List VariableShape). vs ++ (shape b).z_variables) was ∙ append_assoc before (own ∷ after) (shape b).z_variables }
+among_all b Z before own after was = record { front = (shape b).r_variables ++ before; rest = after; all = ap (λ (vs : List VariableShape). (shape b).r_variables ++ vs) was ∙ sym (append_assoc (shape b).r_variables before (own ∷ after)) }
