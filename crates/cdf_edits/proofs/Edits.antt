@@ -25,6 +25,7 @@ pub mod FieldWritten
 pub mod FirstRecords
 pub mod FreedAfter
 pub mod FreedBytes
+pub mod FreedRecord
 pub mod FreedRecords
 pub mod FreedEntry
 pub mod FreedVdr
@@ -83,6 +84,7 @@ pub mod LeafRecords
 pub mod RecordsPut
 pub mod LeavesOrder
 pub mod RecordsWritten
+pub mod JoinedVdr
 pub mod LeafPieces
 pub mod PlainLeaves
 pub mod OnlyTaken

@@ -2,6 +2,7 @@ pub mod Common
 pub mod CreatedVariable
 pub mod NamesRead
 pub mod NewVdr
+pub mod OwnShapes
 pub mod RemovalAnswers
 pub mod VariableChains
 pub mod VariableFound

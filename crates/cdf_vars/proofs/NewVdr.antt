@@ -18,10 +18,13 @@ use Rattle.cdf_edits.proofs.Space.LaidOut.{placed_says, says_kept}
 use Rattle.cdf_format.specs.Records.{vdr_vdr_next, vdr_data_type, vdr_num_elems, vdr_z_num_dims}
 use Rattle.cdf_vars.specs.Creating.{vdr_body, vdr_fields}
 use Rattle.cdf_edits.proofs.Commands.TypeCodes.{code_small, type_back}
-use Rattle.std.proofs.lemmas.Bool.{ltb-false, and_from, or_right}
+use Rattle.std.proofs.lemmas.Bool.{ltb-false, and_from, not-false, or_right}
 use Rattle.std.specs.Option.{unwrap_or}
 use Rattle.cdf_edits.specs.Commands.Variables.{VarysWritten}
-use Rattle.cdf_edits.proofs.Edits.VariableFrame.{IsRuled}
+use Rattle.cdf_edits.proofs.Edits.JoinedVdr.{is_vdr_body}
+use Rattle.cdf_edits.proofs.Edits.VariableFrame.{Each-map, IsRuled}
+use Rattle.cdf_edits.proofs.Edits.VariableKinds.{kind_type}
+use Rattle.cdf_var_records.proofs.VdrParts.{pad_place, words_long}
 use Rattle.cdf_fields.proofs.NamesWritten.{before_zeros}
 use Rattle.cdf_format.specs.Index.{no_node, nodes_of, leaves_of}
 use Rattle.cdf_format.specs.IndexOf.{HasNodes}
@@ -49,10 +52,6 @@ not_not : (p q : Bool) → (not p && not q) ≡ false → (p || q) ≡ true
 not_not true q e = refl
 not_not false true e = refl
 not_not false false e = cc e
-
-of_not : (p : Bool) → not p ≡ false → p ≡ true
-of_not true e = refl
-of_not false e = cc e
 
 not_zero : (n : ℕ) → (n == 0) ≡ false → 1 ≤ n
 not_zero n e = grind (arith, nat_tests)
@@ -83,10 +82,7 @@ elems_few t elems dims varys sizes fits =
     let a : elems ≤ elems * size_of t = le-mul_of_pos_right elems (size_some t) in
     let c : size_of t * elems ≤ size_of t * elems * value_count dims varys = le-mul_of_pos_right (size_of t * elems) (count_some dims varys sizes) in
     let e = turned (size_of t) elems in
-    ends elems (elems * size_of t) (size_of t * elems) (size_of t * elems * value_count dims varys) a e c fits
-  where
-    ends : (e x y z : ℕ) → e ≤ x → y ≡ x → y ≤ z → z ≤ 67108864 → e ≤ 2147483647
-    ends e x y z p q r s = omega arith
+    through elems 67108864 2147483647 (through elems (elems * size_of t) 67108864 a (subst (λ (n : ℕ). n ≤ 67108864) e (through _ _ 67108864 c fits))) (omega arith)
 
 pub shaped : (t : DataType) (elems : ℕ) (dims : List ℕ) (varys : List Bool) → is_bad_shape t elems dims varys ≡ false → IsShaped t elems dims varys
 shaped t elems dims varys e =
@@ -103,7 +99,7 @@ shaped t elems dims varys e =
       single = not_not (elems == 1) (is_characters (notation_of t)) r.1;
       few = ltb-false dimension_limit (length dims) d.0;
       sizes = sizes;
-      one_each = eqb-true (length varys) (length dims) (of_not (length varys == length dims) s.1);
+      one_each = eqb-true (length varys) (length dims) (not-false _ s.1);
       fits = fits;
       elems_fit = elems_few t elems dims varys sizes fits;
     }
@@ -126,16 +122,9 @@ tail_size Z dims n e = omega arith
 signed_small : (n : ℕ) → n ≤ signed_limit → n < 256 ^ 4
 signed_small n l = omega arith
 
-few_signed : (n : ℕ) → n ≤ dimension_limit → n ≤ signed_limit
-few_signed n l = omega arith
-
-each_small : (dims : List ℕ) → Each IsSize dims → Each (λ n. n < 256 ^ 4) dims
-each_small [] sizes = tt
-each_small (n ∷ dims) sizes = (signed_small n sizes.0.1, each_small dims sizes.1)
-
 own_small : (kind : Kind) (dims : List ℕ) → length dims ≤ dimension_limit → Each IsSize dims → Each (λ n. n < 256 ^ 4) (own_dims kind dims)
 own_small R dims few sizes = tt
-own_small Z dims few sizes = (signed_small (length dims) (few_signed (length dims) few), each_small dims sizes)
+own_small Z dims few sizes = (signed_small (length dims) (omega arith), Each-map IsSize (λ n. n < 256 ^ 4) (λ n size. signed_small n size.1) dims sizes)
 
 codes_small : (varys : List Bool) → Each (λ n. n < 256 ^ 4) (map vary_code varys)
 codes_small [] = tt
@@ -186,11 +175,7 @@ module _ (kind : Kind) (v : NewVariable) (num : ℕ) (short : length v.name ≤ 
       by Z = refl
 
   pub vdr_is_body : IsBody (vdr_body kind v num)
-  vdr_is_body = of_type (vdr_body kind v num) kind (length v.dims) type_in_body length-body
-    where
-      of_type : (body : List ℕ) (kind : Kind) (d : ℕ) → word body 0 4 ≡ vdr_type kind → 8 + length body ≡ vdr_bytes kind d → IsBody body
-      of_type body R d t l = record { enough = omega arith; real = rw t refl; in_use = rw t (apart r_vdr_type uir_type refl); fixed = rw t (omega arith) }
-      of_type body Z d t l = record { enough = omega arith; real = rw t refl; in_use = rw t (apart z_vdr_type uir_type refl); fixed = rw t (omega arith) }
+  vdr_is_body = is_vdr_body kind (vdr_body kind v num) (length v.dims) (type_in_body ∙ sym (kind_type kind)) (omega (arith, length-body))
 
   -- in an image in which it was placed, and after steps that leave what follows its link
   pub vdr_written : {b filled now : List ℕ} {place : ℕ} → Placed b filled (vdr_body kind v num) place → num < 2 ^ 32 → Same filled now (place + 20) (place + vdr_bytes kind (length v.dims)) → place + vdr_bytes kind (length v.dims) ≤ length filled → length filled ≤ length now → IsNewVdr now place kind v num
@@ -205,11 +190,12 @@ module _ (kind : Kind) (v : NewVariable) (num : ℕ) (short : length v.name ≤ 
       let more = w.1.0 in
       let at_name : drop (place + 84) filled ≡ padded ++ (behind ++ more) = w.1.1 ∙ append_assoc padded behind more in
       let name = ap (take 256) at_name ∙ take_at padded (behind ++ more) 256 length-padded in
+      let past_name : place + 340 ≡ place + 84 + 256 = omega arith in
       let at_tail : drop (place + 340) filled ≡ behind ++ more =
-      ap (λ (x : ℕ). drop x filled) (past_name place) ∙ sym (drop-drop 256 (place + 84) filled) ∙ ap (drop 256) at_name ∙ ap (λ (k : ℕ). drop k (padded ++ (behind ++ more))) (sym length-padded) ∙ drop-append_seam padded (behind ++ more) in
+      ap (λ (x : ℕ). drop x filled) past_name ∙ sym (drop-drop 256 (place + 84) filled) ∙ ap (drop 256) at_name ∙ ap (λ (k : ℕ). drop k (padded ++ (behind ++ more))) (sym length-padded) ∙ drop-append_seam padded (behind ++ more) in
       let first = words_laid_out filled (place + 340) ds (flat_map (big_bytes 4) vs ++ more) (at_tail ∙ ap (λ (l : List ℕ). l ++ more) (flat_map-append (big_bytes 4) ds vs) ∙ append_assoc (flat_map (big_bytes 4) ds) (flat_map (big_bytes 4) vs) more) (own_small kind v.dims is.few is.sizes) in
       let second = words_laid_out filled (place + 340 + 4 * length ds) vs more first.1 (codes_small v.varys) in
-      let at_varys = behind_dims place (length ds) in
+      let at_varys : place + (340 + 4 * length ds) ≡ place + 340 + 4 * length ds = omega arith in
       let varys : words filled (place + (340 + 4 * length ds)) (length v.varys) ≡ vs = ap (λ (x : ℕ). words filled x (length v.varys)) at_varys ∙ ap (words filled (place + 340 + 4 * length ds)) (sym (length-map v.varys vary_code)) ∙ second.0 in
       record {
         says = says_kept filled now place 20 (vdr_bytes kind (length v.dims)) 20 (vdr_fields v num) same (omega arith) (omega arith) refl w.0.1.1;
@@ -217,12 +203,6 @@ module _ (kind : Kind) (v : NewVariable) (num : ℕ) (short : length v.name ≤ 
         dims_are = words_kept filled now (place + 20) (place + vdr_bytes kind (length v.dims)) same (place + 340) (length ds) (omega arith) (omega arith) ∙ first.0;
         varys_are = words_kept filled now (place + 20) (place + vdr_bytes kind (length v.dims)) same (place + (340 + 4 * length ds)) (length v.varys) (omega arith) (omega arith) ∙ varys;
       }
-    where
-      past_name : (p : ℕ) → p + 340 ≡ p + 84 + 256
-      past_name p = omega arith
-
-      behind_dims : (p k : ℕ) → p + (340 + 4 * k) ≡ p + 340 + 4 * k
-      behind_dims p k = omega arith
 
 -- a variable without records
 abbrev pub bare_variable : ℕ → VariableShape
@@ -248,17 +228,9 @@ varys_back [] = refl
 varys_back (true ∷ varys) = ap (λ (r : List Bool). true ∷ r) (varys_back varys)
 varys_back (false ∷ varys) = ap (λ (r : List Bool). false ∷ r) (varys_back varys)
 
-length-words_at : (b : List ℕ) (at n : ℕ) → length (words b at n) ≡ n
-length-words_at b at zero = refl
-length-words_at b at (suc n) = ap suc (length-words_at b (at + 4) n)
-
-flag_says : (vary : Bool) → has_bit (if vary then 1 else 0) 0 ≡ vary
-flag_says true = refl
-flag_says false = refl
-
-no_flag : (vary : Bool) → (has_bit (if vary then 1 else 0) 1 ≡ false) × (has_bit (if vary then 1 else 0) 2 ≡ false)
-no_flag true = (refl, refl)
-no_flag false = (refl, refl)
+flag_says : (vary : Bool) → (has_bit (if vary then 1 else 0) 0 ≡ vary) × (has_bit (if vary then 1 else 0) 1 ≡ false) × (has_bit (if vary then 1 else 0) 2 ≡ false)
+flag_says true = (refl, refl, refl)
+flag_says false = (refl, refl, refl)
 
 -- ---- dimensions, by the kind
 
@@ -267,13 +239,12 @@ record HasOwnDims (b : List ℕ) (place : ℕ) (kind : Kind) (v : NewVariable) :
   dims : dims_at b place ≡ v.dims
   varys : varys_at b place ≡ v.varys
   vary_place : (vary_field b place).place ≡ 340 + 4 * length (own_dims kind v.dims)
-  ends : (pad_field b place).place ≡ vdr_bytes kind (length v.dims)
   rule : vdr_bytes kind (length v.dims) ≡ size_at b place → (not (is_z b place) || has_dimensions b place) ≡ true
 
 dims_by : (b : List ℕ) (place : ℕ) (kind : Kind) (v : NewVariable) (num : ℕ) → IsNewVdr b place kind v num → IsShaped v.type v.elems v.dims v.varys → type_at b place ≡ vdr_type kind → Shares b kind v.dims → HasOwnDims b place kind v
 dims_by b place R v num new is typed shares =
     let z : is_z b place ≡ false = ap (λ (t : ℕ). t == z_vdr_type) typed in
-    let count : r_num_dims b (gdr_offset b) ≡ length v.dims = sym (length-words_at b (gdr_offset b + 84) (r_num_dims b (gdr_offset b))) ∙ ap length shares in
+    let count : r_num_dims b (gdr_offset b) ≡ length v.dims = sym (words_long b (gdr_offset b + 84) (r_num_dims b (gdr_offset b))) ∙ ap length shares in
     let each : map (λ n. not (n == 0)) (words b (place + 340) (r_num_dims b (gdr_offset b))) ≡ v.varys =
     ap (λ (n : ℕ). map (λ m. not (m == 0)) (words b (place + 340) n)) (count ∙ sym is.one_each) ∙ ap (map (λ n. not (n == 0))) new.varys_are ∙ varys_back v.varys in
     record {
@@ -281,40 +252,32 @@ dims_by b place R v num new is typed shares =
       dims = rw z shares;
       varys = rw z each;
       vary_place = rw z refl;
-      ends = rw z (ap (λ (n : ℕ). 340 + 4 * n) count);
       rule = λ e. rw z refl;
     }
 dims_by b place Z v num new is typed shares =
     let z : is_z b place ≡ true = ap (λ (t : ℕ). t == z_vdr_type) typed in
     let d = length v.dims in
+    let first : place + 344 ≡ place + 340 + 4 = omega arith in
+    let second : 344 + 4 * d + 4 * 0 ≡ 340 + 4 * suc d = omega arith in
+    let half : 344 + 4 * d ≤ 344 + 8 * d = omega arith in
     let said : number b place vdr_z_num_dims ≡ d = cc new.dims_are in
     let sizes : words b (place + 340 + 4) d ≡ v.dims = cc new.dims_are in
-    let count : counted (cast_signed w32 (number b place vdr_z_num_dims)) ≡ d = ap (λ (n : ℕ). counted (cast_signed w32 n)) said ∙ small_signed d (few_signed d is.few) in
+    let count : counted (cast_signed w32 (number b place vdr_z_num_dims)) ≡ d = ap (λ (n : ℕ). counted (cast_signed w32 n)) said ∙ small_signed d (omega (arith, is.few)) in
     let dims : map counted4 (words b (place + 344) (counted (cast_signed w32 (number b place vdr_z_num_dims)))) ≡ v.dims =
-    ap (λ (n : ℕ). map counted4 (words b (place + 344) n)) count ∙ ap (λ (p : ℕ). map counted4 (words b p d)) (first place) ∙ ap (map counted4) sizes ∙ counted_sizes v.dims is.sizes in
+    ap (λ (n : ℕ). map counted4 (words b (place + 344) n)) count ∙ ap (λ (p : ℕ). map counted4 (words b p d)) first ∙ ap (map counted4) sizes ∙ counted_sizes v.dims is.sizes in
     let each : map (λ n. not (n == 0)) (words b (place + (344 + 4 * counted (cast_signed w32 (number b place vdr_z_num_dims)) + 4 * 0)) (counted (cast_signed w32 (number b place vdr_z_num_dims)))) ≡ v.varys =
-    ap (λ (n : ℕ). map (λ m. not (m == 0)) (words b (place + (344 + 4 * n + 4 * 0)) n)) count ∙ ap (λ (p : ℕ). map (λ m. not (m == 0)) (words b (place + p) d)) (second d) ∙ ap (λ (n : ℕ). map (λ m. not (m == 0)) (words b (place + (340 + 4 * suc d)) n)) (sym is.one_each) ∙ ap (map (λ n. not (n == 0))) new.varys_are ∙ varys_back v.varys in
+    ap (λ (n : ℕ). map (λ m. not (m == 0)) (words b (place + (344 + 4 * n + 4 * 0)) n)) count ∙ ap (λ (p : ℕ). map (λ m. not (m == 0)) (words b (place + p) d)) second ∙ ap (λ (n : ℕ). map (λ m. not (m == 0)) (words b (place + (340 + 4 * suc d)) n)) (sym is.one_each) ∙ ap (map (λ n. not (n == 0))) new.varys_are ∙ varys_back v.varys in
     record {
       count = rw z count;
       dims = rw z dims;
       varys = rw z each;
-      vary_place = rw z (ap (λ (n : ℕ). 344 + 4 * n + 4 * 0) count ∙ second d);
-      ends = rw z (ap (λ (n : ℕ). 344 + 8 * n) count);
+      vary_place = rw z (ap (λ (n : ℕ). 344 + 4 * n + 4 * 0) count ∙ second);
       rule = λ e.
-          let room : nat_le (344 + 4 * number b place vdr_z_num_dims) (size_at b place) ≡ true = le-leb _ _ (subst (λ (x : ℕ). 344 + 4 * number b place vdr_z_num_dims ≤ x) e (subst (λ (n : ℕ). 344 + 4 * n ≤ 344 + 8 * d) (sym said) (half d))) in
+          let room : nat_le (344 + 4 * number b place vdr_z_num_dims) (size_at b place) ≡ true = le-leb _ _ (subst (λ (x : ℕ). 344 + 4 * number b place vdr_z_num_dims ≤ x) e (subst (λ (n : ℕ). 344 + 4 * n ≤ 344 + 8 * d) (sym said) half)) in
           let fine : nat_le (number b place vdr_z_num_dims) dimension_limit ≡ true = le-leb _ _ (subst (λ (n : ℕ). n ≤ dimension_limit) (sym said) is.few) in
           let sized : dims_at b place ≡ v.dims = rw z dims in
           or_right (not (is_z b place)) (has_dimensions b place) (and_from _ _ fine (and_from _ _ room (subst (λ (ns : List ℕ). list_all is_positive ns ≡ true) (sym sized) (positive_sizes v.dims is.sizes))));
     }
-  where
-    first : (p : ℕ) → p + 344 ≡ p + 340 + 4
-    first p = omega arith
-
-    second : (n : ℕ) → 344 + 4 * n + 4 * 0 ≡ 340 + 4 * suc n
-    second n = omega arith
-
-    half : (n : ℕ) → 344 + 4 * n ≤ 344 + 8 * n
-    half n = omega arith
 
 -- ---- a new VDR that stands in an image
 
@@ -332,16 +295,15 @@ module _ {b : List ℕ} {place : ℕ} {kind : Kind} {v : NewVariable} {num : ℕ
   flags_are = new.says.1.1.1.1.0
 
   unpadded : has_pad b place ≡ false
-  unpadded = ap (λ (n : ℕ). has_bit n 1) flags_are ∙ (no_flag v.vary).0
+  unpadded = ap (λ (n : ℕ). has_bit n 1) flags_are ∙ (flag_says v.vary).1
 
   unpacked : is_compressed b place ≡ false
-  unpacked = ap (λ (n : ℕ). has_bit n 2) flags_are ∙ (no_flag v.vary).1
+  unpacked = ap (λ (n : ℕ). has_bit n 2) flags_are ∙ (flag_says v.vary).2
 
   pub end_is : vdr_end b place ≡ vdr_bytes kind (length v.dims)
-  end_is = ap (λ (p : Bool). (pad_field b place).place + (if p then value_bytes b place else 0)) unpadded ∙ last (pad_field b place).place ∙ own.ends
-    where
-      last : (n : ℕ) → n + 0 ≡ n
-      last n = omega arith
+  end_is =
+      let last : (pad_field b place).place + 0 ≡ (pad_field b place).place = omega arith in
+      ap (λ (p : Bool). (pad_field b place).place + (if p then value_bytes b place else 0)) unpadded ∙ last ∙ pad_place kind b place (typed ∙ sym (kind_type kind)) ∙ ap (vdr_bytes kind) own.count
 
   -- DimVarys
   pub varys_written : VarysWritten b place v.varys
@@ -358,7 +320,7 @@ module _ {b : List ℕ} {place : ℕ} {kind : Kind} {v : NewVariable} {num : ℕ
       let elems = elems_are in
       let dims = own.dims in
       let varys = own.varys in
-      let vary : has_bit (number b place vdr_flags) 0 ≡ v.vary = ap (λ (n : ℕ). has_bit n 0) flags_are ∙ flag_says v.vary in
+      let vary : has_bit (number b place vdr_flags) 0 ≡ v.vary = ap (λ (n : ℕ). has_bit n 0) flags_are ∙ (flag_says v.vary).0 in
       let packed = unpacked in
       let max = new.says.1.0 in
       let rule = new.says.1.1.1.1.1.0 in
@@ -385,10 +347,7 @@ module _ {b : List ℕ} {place : ℕ} {kind : Kind} {v : NewVariable} {num : ℕ
     has = record { indexed = record { link_is = new.says.1.1.0; has_nodes = tt; once = tt }; packed_by = rw unpacked refl }
 
     ends : vdr_end b place ≤ size_at b place
-    ends = at_most (vdr_end b place) (size_at b place) (end_is ∙ sym sized)
-      where
-        at_most : (m n : ℕ) → m ≡ n → m ≤ n
-        at_most m n e = omega arith
+    ends = let e = end_is in omega (arith, e, sized)
 
     pub fits : VariableFits b records (bare_variable place)
     unfolding nodes_of leaves_of

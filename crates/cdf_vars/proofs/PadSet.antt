@@ -10,12 +10,17 @@ use Rattle.cdf_edits.proofs.Frame.VdrCopied.{Copied, word_copied, VdrCopied, pad
 use Rattle.std.specs.Prelude.{slice_index}
 use Rattle.cdf_edits.specs.Commands.Allowances.{Anything}
 use Rattle.cdf_edits.specs.Space.Adding.{Exchanged}
-use Rattle.cdf_edits.proofs.Edits.MovedVdr.{CopiesVdr, MovesVdr, behind_link, by_type, chain_late, file, old_free, old_in, sound_late, as_long, fills, lately, later, own'}
+use Rattle.cdf_edits.proofs.Edits.JoinedVdr.{behind_link, file, is_vdr_body, joined_type}
+use Rattle.cdf_edits.proofs.Edits.MovedVdr.{CopiesVdr, MovesVdr, chain_late, members, old_free, old_in, sound_late, own'}
 use Rattle.cdf_edits.proofs.Edits.PadMoved.{HoldsPad, moved_sets_pad, pad_means}
-use Rattle.cdf_edits.proofs.Edits.PadWritten.{padded_1, padded_2, WritesPad, edits, meaning, pads_in_place}
+use Rattle.cdf_edits.proofs.Edits.PadWritten.{WritesPad, edits, meaning, packed, padded_end, pads_in_place}
 use Rattle.cdf_edits.proofs.Edits.VdrEdited.{fits}
 use Rattle.cdf_edits.proofs.Frame.Meaning.{pad_long, pad_width}
 use Rattle.cdf_vars.proofs.VariableChains.{has_variable_chain, variable_members}
+use Rattle.cdf_base.proofs.Puts.{put-append}
+use Rattle.cdf_edits.proofs.Space.TakenFromList.{leads_rest}
+use Rattle.cdf_format.proofs.GoodImageLemmas.{vdrs_append}
+use Rattle.cdf_space.proofs.Filling.{word-put_inside}
 use Rattle.cdf_format.proofs.Members.{is_in-true}
 use Rattle.cdf_vars.specs.Padding.{IsPadded, padded_body, IsRequest, MovedTo, Moves}
 use Rattle.cdf_var_records.proofs.VdrParts.{pad_place, at as vdr_at, inside as vdr_inside, own as vdr_own, dims_long}
@@ -23,9 +28,10 @@ use Rattle.std.proofs.lemmas.Bool.{cases_lt}
 use Rattle.cdf_edits.proofs.Commands.ListParts.{Cut}
 use Rattle.cdf_model.specs.declared.command.Command.TheVariants.{SetPad}
 use Rattle.cdf_edits.specs.Commands.Variables.{SetsPad, set_pad_changes}
-use Rattle.cdf_edits.proofs.Edits.FreedVdr.{as_long_now, freed_acts, freed_content, freed_edit, freed_good, freed_is, freed_keep}
+use Rattle.cdf_edits.proofs.Edits.FreedVdr.{acts, acts_now, edit_now, freed_content, freed_good, freed_is, keeps_now, long_now}
 use Rattle.cdf_vars.specs.declared.padding.PadRequest.{PadRequest}
 use Rattle.cdf_vars.specs.declared.padding.PadRequest.TheVariants.{Put}
+use Rattle.cdf_vars.proofs.OwnShapes.{own_now}
 use Rattle.cdf_vars.proofs.VariableFound.{follows_still, knows_still, knows_with, of_found, own_known, may_keep, may_named, same_names, stands_there, still_there, with_known, Parts, the_parts, within_places}
 
 -- pieces that are appended one by one
@@ -81,74 +87,45 @@ module _ (b value : List ℕ) (v at n : ℕ) (inside : v + at ≤ length b) (lat
   pub length-new : 8 + length new ≡ at + length value
   length-new = omega (arith, length-append front value, length-front)
 
-  was_byte : (i : ℕ) → i < at - 8 → byte was i ≡ byte b (v + 8 + i)
-  was_byte i lt = get_or-take (at - 8) (drop (v + 8) b) i 0 lt ∙ get_or-drop (v + 8) b i 0
-
-  front_byte : (i : ℕ) → i < at - 8 → (i < 36) ⊎ (40 ≤ i) → byte front i ≡ byte was i
-  front_byte i lt (inl l) = byte-put_before was 36 flags i (omega (arith, length-was)) l
-  front_byte i lt (inr m) = byte-put_after was 36 flags i (omega (arith, length-was)) (omega (arith, length-flags))
-
-  new_byte : (i : ℕ) → i < at - 8 → byte new i ≡ byte front i
-  new_byte i lt = get_or_append_left front value 0 i (omega (arith, length-front))
+  new_byte : (i : ℕ) → 8 ≤ i → i < at → (i < 44) ⊎ (48 ≤ i) → byte new (i - 8) ≡ byte b (v + i)
+  new_byte i low high side =
+      let from : v + 8 + (i - 8) ≡ v + i = omega arith in
+      let kept : byte front (i - 8) ≡ byte was (i - 8) = elim side [
+        | inl l ↦ byte-put_before was 36 flags (i - 8) (omega (arith, length-was)) (omega arith)
+        | inr l ↦ byte-put_after was 36 flags (i - 8) (omega (arith, length-was)) (omega (arith, length-flags))
+      ] in
+      get_or_append_left front value 0 (i - 8) (omega (arith, length-front)) ∙ kept ∙ get_or-take (at - 8) (drop (v + 8) b) (i - 8) 0 (omega arith) ∙ get_or-drop (v + 8) b (i - 8) 0 ∙ ap (byte b) from
 
   -- the type stands first
   pub new_type : word new 0 4 ≡ word b (v + 8) 4
   new_type =
-      let c : Copied b new (v + 8) 0 0 4 = record { each = λ i l h. ap (byte new) (bare i) ∙ new_byte i (omega arith) ∙ front_byte i (omega arith) (inl (omega arith)) ∙ was_byte i (omega arith) } in
-      word_copied c 0 4 (omega arith) (omega arith) ∙ ap (λ (p : ℕ). word b p 4) (none (v + 8))
-    where
-      none : (x : ℕ) → x + 0 ≡ x
-      none x = omega arith
-
-      bare : (x : ℕ) → 0 + x ≡ x
-      bare x = omega arith
+      let bare : v + 8 + 0 ≡ v + 8 = omega arith in
+      let copied : Copied b new (v + 8) 0 0 4 = record { each = λ i l h. let same : 0 + i ≡ (8 + i) - 8 = omega arith in let to : v + (8 + i) ≡ v + 8 + i = omega arith in ap (byte new) same ∙ new_byte (8 + i) (omega arith) (omega arith) (inl (omega arith)) ∙ ap (byte b) to } in
+      word_copied copied 0 4 (omega arith) (omega arith) ∙ ap (λ (p : ℕ). word b p 4) bare
 
   -- where it is placed
   module _ (taken : List ℕ) (by : ℕ) (room : by + (8 + length new) ≤ length taken) where
     abbrev written : List ℕ
     written = put taken (by + 8) new
 
-    front_there : (k : ℕ) → k < at - 8 → byte written (by + 8 + k) ≡ byte front k
-    front_there k lt = byte-put_inside taken (by + 8) new k (omega arith) (omega (arith, length-append front value, length-front)) ∙ new_byte k lt
-
     pub bytes_copied : (i : ℕ) → 8 ≤ i → i < at → (i < 44) ⊎ (48 ≤ i) → byte written (by + i) ≡ byte b (v + i)
     bytes_copied i low high side =
-        let k : 8 + (i - 8) ≡ i = omega arith in
-        let here : byte written (by + 8 + (i - 8)) ≡ byte b (v + 8 + (i - 8)) = front_there (i - 8) (omega arith) ∙ front_byte (i - 8) (omega arith) (beside i low side) ∙ was_byte (i - 8) (omega arith) in
-        ap (byte written) (joined by i low) ∙ here ∙ sym (ap (byte b) (joined v i low))
-      where
-        joined : (p i : ℕ) → 8 ≤ i → p + i ≡ p + 8 + (i - 8)
-        joined p i l = omega arith
-
-        beside : (i : ℕ) → 8 ≤ i → (i < 44) ⊎ (48 ≤ i) → (i - 8 < 36) ⊎ (40 ≤ i - 8)
-        beside i low (inl x) = inl (omega arith)
-        beside i low (inr x) = inr (omega arith)
+        let to : by + i ≡ by + 8 + (i - 8) = omega arith in
+        ap (byte written) to ∙ byte-put_inside taken (by + 8) new (i - 8) (omega arith) (omega (arith, length-new)) ∙ new_byte i low high side
 
     pub flags_there : n < 256 ^ 4 → word written (by + 44) 4 ≡ n
     flags_there small =
-        let c : Copied front written 0 (by + 8) 36 40 = record { each = λ i l h. front_there i (omega arith) ∙ sym (ap (byte front) (bare i)) } in
-        ap (λ (p : ℕ). word written p 4) (moved by) ∙ word_copied c 36 4 (omega arith) (omega arith) ∙ word-put_number was 36 4 n (omega (arith, length-was)) small
-      where
-        moved : (p : ℕ) → p + 44 ≡ p + 8 + 36
-        moved p = omega arith
-
-        bare : (x : ℕ) → 0 + x ≡ x
-        bare x = omega arith
+        let to : by + 44 ≡ by + 8 + 36 = omega arith in
+        let whole : new ≡ put (was ++ value) 36 flags = sym (put-append was value 36 flags (omega (arith, length-was, length-flags))) in
+        ap (λ (p : ℕ). word written p 4) to ∙ word-put_inside taken new (by + 8) 36 4 (omega arith) (omega (arith, length-new)) ∙ ap (λ (xs : List ℕ). word xs 36 4) whole ∙ word-put_number (was ++ value) 36 4 n (omega (arith, length-was, length-append was value)) small
 
     pub value_there : take (length value) (drop (by + at) written) ≡ value
     value_there =
         let more = drop (by + 8 + length new) taken in
+        let to : by + at ≡ by + 8 + (at - 8) = omega arith in
         let whole : drop (by + 8) written ≡ front ++ (value ++ more) = drop-put_there taken new (by + 8) (omega arith) ∙ append_assoc front value more in
-        let behind : drop (by + at) written ≡ value ++ more = ap (λ (p : ℕ). drop p written) (moved by at late) ∙ sym (drop-drop (at - 8) (by + 8) written) ∙ ap (drop (at - 8)) whole ∙ drop_at front (value ++ more) (at - 8) length-front in
+        let behind : drop (by + at) written ≡ value ++ more = ap (λ (p : ℕ). drop p written) to ∙ sym (drop-drop (at - 8) (by + 8) written) ∙ ap (drop (at - 8)) whole ∙ drop_at front (value ++ more) (at - 8) length-front in
         ap (take (length value)) behind ∙ take_at value more (length value) refl
-      where
-        moved : (p a : ℕ) → 340 ≤ a → p + a ≡ p + 8 + (a - 8)
-        moved p a l = omega arith
-
--- the link behind one of a chain
-link_after : (b : List ℕ) (link : ℕ) (before : List VariableShape) (own : VariableShape) (after : List VariableShape) → Leads b link (vdrs (before ++ own ∷ after)) 0 → Leads b (next_of b own.vdr) (vdrs after) 0
-link_after b link [] own after l = subst (λ (x : ℕ). Leads b (next_of b own.vdr) (vdrs after) 0) l.0 l.1
-link_after b link (v ∷ before) own after l = link_after b (next_of b v.vdr) before own after l.1
 
 same_link : (b now : List ℕ) (link link' : ℕ) (xs : List ℕ) → Leads b link xs 0 → Leads now link' xs 0 → link' ≡ link
 same_link b now link link' [] l m = m ∙ sym l
@@ -214,18 +191,14 @@ module _ (value : List ℕ) {b : List ℕ} {kind : Kind} {before : List Variable
   type_is = new_type b value v place n inside pad_late ∙ typed good at
 
   pub is_body : IsBody body
-  is_body = by_kind kind type_is (pad_place kind b v (typed good at))
-    where
-      by_kind : (kind : Kind) → type_of_body body ≡ type_in (variables_chain kind) → place ≡ vdr_bytes kind (dimensions_at b v) → IsBody body
-      by_kind R e f = record { enough = omega (arith, need_is, pad_late); real = rw e refl; in_use = rw e (apart 3 uir_type refl); fixed = rw e (omega (arith, need_is, f)) }
-      by_kind Z e f = record { enough = omega (arith, need_is, pad_late); real = rw e refl; in_use = rw e (apart 8 uir_type refl); fixed = rw e (omega (arith, need_is, f)) }
+  is_body = is_vdr_body kind body (dimensions_at b v) type_is (let e = pad_place kind b v (typed good at) in omega (arith, need_is, e))
 
   module _ {late : List ℕ} {by : ℕ} (exchanged : Exchanged b late c body v by) where
     abbrev pub made : MovesVdr b late kind own body by
-    made = record { exchanged = exchanged; type_is = type_is }
+    made = record { joined = exchanged; type_is = type_is }
 
     kept : Same exchanged.filled late (by + 20) (by + need)
-    kept = behind_link good at made
+    kept = behind_link (sound good at) made
 
     late_byte : (i : ℕ) → 20 ≤ i → i < place → (i < 44) ⊎ (48 ≤ i) → byte late (by + i) ≡ byte b (v + i)
     late_byte i low high side = kept.each (by + i) (omega arith) (omega (arith, need_is)) ∙ ap (λ (x : List ℕ). byte x (by + i)) exchanged.placed.written ∙ bytes_copied b value v place n inside pad_late exchanged.placed.taken by exchanged.placed.inside i (omega arith) high side
@@ -240,7 +213,7 @@ module _ (value : List ℕ) {b : List ℕ} {kind : Kind} {before : List Variable
 
     copied_there : VdrCopied b late v by
     copied_there = record {
-      typed = by_type good at made ∙ sym (typed good at);
+      typed = joined_type (sound good at) made ∙ sym (typed good at);
       first = record { each = λ i l h. late_byte i l (omega (arith, pad_late)) (inl h) };
       second = record { each = λ i l h. behind_flags.each i l (omega (arith, pad_late)) };
       third = record { each = λ i l h. behind_flags.each i (omega arith) (omega (arith, pad_late)) };
@@ -248,11 +221,7 @@ module _ (value : List ℕ) {b : List ℕ} {kind : Kind} {before : List Variable
     }
 
     end_is : vdr_end late by ≡ need
-    end_is =
-        let f = pad_field_copied (file good at made) copied_there in
-        let bytes = value_copied (file good at made) copied_there in
-        let flag : has_pad late by ≡ true = ap (λ (k : ℕ). has_bit k 1) flags_now ∙ padded_1 (number b v vdr_flags) in
-        (λ i. (f i).place + (if flag i then bytes i else 0)) ∙ sym (need_is ∙ ap (λ (k : ℕ). place + k) sized)
+    end_is = padded_end own (record own { vdr = by }) (file (sound good at) made) copied_there flags_now ∙ sym (need_is ∙ ap (λ (k : ℕ). place + k) sized)
 
     by_lies : by + need ≤ length exchanged.filled
     by_lies = let high = exchanged.placed.inside in let l = exchanged.placed.fills.long in omega (arith, high, l)
@@ -261,7 +230,7 @@ module _ (value : List ℕ) {b : List ℕ} {kind : Kind} {before : List Variable
     copies = record {
       copied = copied_there;
       num_is = word_copied behind_flags 68 4 (omega arith) (omega (arith, pad_late));
-      packed = ap (λ (k : ℕ). has_bit k 2) flags_now ∙ padded_2 (number b v vdr_flags);
+      packed = packed own (record own { vdr = by }) (file (sound good at) made) copied_there flags_now;
       ends = omega (arith, end_is);
       larger = omega (arith, short, need_is);
       name_is = ap (λ (xs : List ℕ). before_first (λ (x : ℕ). x == 0) xs) (piece_copied behind_flags 84 256 (omega arith) (omega (arith, pad_late)) (omega (arith, inside, pad_late)) (omega (arith, by_lies, exchanged.as_long, need_is, pad_late)));
@@ -275,9 +244,10 @@ module _ (value : List ℕ) {b : List ℕ} {kind : Kind} {before : List Variable
     module _ (there : AreBytes late by 84) where
       link_same : number late by next_field ≡ number b v next_field
       link_same =
-          let h = (sound good at).has_shape in
-          let was = subst (λ (vs : List VariableShape). Leads b (number b s.gdr (head_of c)) (vdrs vs) 0) at.was (kind_chain kind h).leads in
-          same_link b late (next_of b v) (next_of late by) (vdrs after) (link_after b _ before own after was) (link_after late _ before (record own { vdr = by }) after (chain_late good at made).leads)
+          let link = number b s.gdr (head_of c) in
+          let was = subst (λ (ms : List ℕ). Leads b link ms 0) (members good at made) (kind_chain kind (sound good at).has_shape).leads in
+          let is = subst (λ (ms : List ℕ). Leads late (number late s.gdr (head_of c)) ms 0) (vdrs_append before (record own { vdr = by } ∷ after)) (chain_late good at made).leads in
+          same_link b late (next_of b v) (next_of late by) (vdrs after) (leads_rest b link (vdrs before) v (vdrs after) was) (leads_rest late _ (vdrs before) by (vdrs after) is)
 
       alike : (i : ℕ) → 12 ≤ i → i < place → (i < 44) ⊎ (44 + 4 ≤ i) → byte late (by + i) ≡ byte b (v + i)
       alike i low high side = elim (cases_lt i 20) [
@@ -521,38 +491,31 @@ module _ {b : List ℕ} (name : List ℕ) (words : List (List ℕ)) {known : Kno
     held : HoldsPad b mv.late vdr m.by (8 + length (padded_body b vdr bytes)) bytes
     held = holds bytes good parts.at long short site.bytes mv.exchanged mv.read
 
-    abbrev acts : List Act
-    acts = Took m.by (8 + length (padded_body b vdr bytes)) ∷ Gave vdr (size_at b vdr) ∷ []
-
     content_moved : content now ≡ with_variable (content b) mine padded
     content_moved = freed_content good parts.at moved says mv.gives ∙ ap (with_variable (content b) mine) (pad_means good parts.at moved says mv.gives held ∙ (λ i. record (variable_of b parts.own) { pad = turns i }))
 
     there_now : slice_get (shapes_of (shape now) id.kind) (length parts.before) ≡ Some (own' good parts.at moved)
-    there_now = ap (λ (s : Shape). slice_get (shapes_of s id.kind) (length parts.before)) (freed_is good parts.at moved says mv.gives) ∙ of_kind id.kind ∙ got-middle parts.before (own' good parts.at moved) parts.after
-      where
-        of_kind : (k : Kind) → slice_get (shapes_of (with_shapes (shape b) k (shape mv.exchanged.filled).records (shape now).unused (parts.before ++ own' good parts.at moved ∷ parts.after)) k) (length parts.before) ≡ slice_get (parts.before ++ own' good parts.at moved ∷ parts.after) (length parts.before)
-        of_kind R = refl
-        of_kind Z = refl
+    there_now = ap (λ (vs : List VariableShape). slice_get vs (length parts.before)) (own_now b now _ id.kind (freed_is good parts.at moved says mv.gives)) ∙ got-middle parts.before (own' good parts.at moved) parts.after
 
     pub moved_done : (limit : ℕ) → p.at + length bytes ≤ limit - length b → length b ≤ limit → limit ≤ image_limit → Answers limit b (SetPad name words) (Done Plain) now
     moved_done limit under fit above =
         let size = room_is in
         let body_is : 8 + length (padded_body b vdr bytes) ≡ (pad_field b vdr).place + length bytes = need_is bytes good parts.at long short site.bytes in
         let same = site.at_is in
-        let grown = shorter (sound good parts.at) (fills good parts.at moved) (later good parts.at moved) (as_long good parts.at moved) (lately good parts.at moved) in
-        let as_long = as_long_now good parts.at moved says mv.gives in
+        let grown : length mv.late ≤ length b + (8 + length (padded_body b vdr bytes)) = (let l = mv.exchanged.placed.longest in omega (arith, l, mv.exchanged.as_long)) in
+        let as_long = long_now good parts.at moved says mv.gives in
         gone limit b (SetPad name words) _ Plain now goes (omega (arith, size, under, fit)) (record {
           reply = Plain;
           goes = goes ∙ ap (λ (d : DataSet). ByStep (Go d Plain)) (sym content_moved);
           good = freed_good good parts.at moved says mv.gives (omega (arith, grown, body_is, same, under, fit, above));
-          longer = (freed_edit good parts.at moved says mv.gives).longer;
+          longer = (edit_now good parts.at moved says mv.gives).longer;
           within = omega (arith, as_long, grown, body_is, same, size);
           reads = λ e. absurd (true≢false (sym e));
-          acts = acts;
+          acts = acts good parts.at moved says mv.gives;
           takes_within = omega (arith, body_is, same, size);
-          acts_follow = freed_acts good parts.at moved says mv.gives;
-          keeps = subst (λ (a : Allowances). AllKeep b now a acts (owned b (shape b))) (sym (may_named name good knows may.found (set_pad_changes b (shape b)))) (freed_keep good parts.at moved says mv.gives mine refl refl);
-          does = of_found name good knows may.found (λ u u'. SetsPad b now u.vdr u'.vdr acts) there_now (moved_sets_pad good parts.at moved says mv.gives held);
+          acts_follow = acts_now good parts.at moved says mv.gives;
+          keeps = subst (λ (a : Allowances). AllKeep b now a (acts good parts.at moved says mv.gives) (owned b (shape b))) (sym (may_named name good knows may.found (set_pad_changes b (shape b)))) (keeps_now good parts.at moved says mv.gives (variable_of b parts.own));
+          does = of_found name good knows may.found (λ u u'. SetsPad b now u.vdr u'.vdr (acts good parts.at moved says mv.gives)) there_now (moved_sets_pad good parts.at moved says mv.gives held);
         })
 
     pub moved_knows : {kind : Kind} → id.kind ≡ kind → places ≡ (known_of known kind).places → num ≡ id.num → Knows now (with_known known kind (record (known_of known kind) { places = places' }))

@@ -1,12 +1,13 @@
 -- The VDR moved of a variable that got a pad value: what the variable means then, and what `set-pad` says of it.
-use Rattle.std.proofs.Common.{◌≡◌, ℕ, ◌+◌, ◌<◌, ◌≤◌, List, [], ◌∷◌, length, Bool, true, Some, None, sym, ap, subst, ◌∙◌, arith, inl, inr}
-use Rattle.cdf_edits.proofs.Common.{cast_signed, w32, nat_le, if◌then◌else◌, turned, Kind, byte, variable_of, number, name_in, integer4, size_at, has_bit, Field, vdr_blocking_factor, vdr_flags, vdr_name, VariableShape, is_compressed, shape, field_bytes, is_little, dimensions_at, has_pad, is_z, pad_at, pad_field, records_vary, type_of_variable, value_bytes, vdr_end, Good, bytes_kept, number_kept, either, le_of, OutsideFields, with_bits, SetsPad, Took, Gave, Gives}
-use Rattle.cdf_edits.proofs.Edits.FreedVdr.{by_kept, by_long, copied_now, file_now, freed_bytes, moved_means, name_now, packed_now, same_end}
-use Rattle.cdf_edits.proofs.Edits.MovedVdr.{CopiesVdr, MovesVdr, by_size, file, need, own'}
-use Rattle.cdf_edits.proofs.Edits.PadWritten.{padded_0, padded_1}
-use Rattle.cdf_edits.proofs.Edits.VdrEdited.{StandsAmong}
+use Rattle.std.proofs.Common.{◌≡◌, ℕ, ◌+◌, ◌<◌, ◌≤◌, List, [], ◌∷◌, length, Bool, Some, sym, ap, subst, ◌∙◌, arith, inl, inr}
+use Rattle.cdf_edits.proofs.Common.{cast_signed, w32, nat_le, if◌then◌else◌, turned, Kind, byte, variable_of, number, integer4, size_at, Field, vdr_blocking_factor, vdr_flags, VariableShape, shape, field_bytes, is_little, dimensions_at, is_z, pad_field, type_of_variable, value_bytes, vdr_end, Good, bytes_kept, number_kept, either, le_of, OutsideFields, with_bits, SetsPad, Took, Gave, Gives}
+use Rattle.cdf_edits.proofs.Edits.FreedVdr.{acts, by_kept, by_long, bytes_left, copied_now, file_now, moved_means, name_now, same_end}
+use Rattle.cdf_edits.proofs.Edits.JoinedVdr.{file, joined_size}
+use Rattle.cdf_edits.proofs.Edits.MovedVdr.{CopiesVdr, MovesVdr, own'}
+use Rattle.cdf_edits.proofs.Edits.PadWritten.{padded_end, padded_means}
+use Rattle.cdf_edits.proofs.Edits.VdrEdited.{StandsAmong, sound}
 use Rattle.cdf_edits.proofs.Frame.Meaning.{pad_long, pad_width}
-use Rattle.cdf_edits.proofs.Frame.VdrCopied.{Copied, word_copied, pad_field_copied, type_copied, value_copied}
+use Rattle.cdf_edits.proofs.Frame.VdrCopied.{Copied, word_copied}
 
 -- the new VDR is the old one up to the pad value but for its flags, and ends with these bytes, for which the old one had no room
 pub record HoldsPad (b late : List ℕ) (old by need : ℕ) (bytes : List ℕ) : Type 0 where
@@ -39,18 +40,11 @@ module _ {b late now : List ℕ} {kind : Kind} {before : List VariableShape} {ow
   blocking_now : integer4 now by vdr_blocking_factor ≡ integer4 b old vdr_blocking_factor
   blocking_now = ap (cast_signed w32) (number_kept late now by (by_kept good at m says gives).same vdr_blocking_factor (let l = by_long good at m says gives in omega arith) ∙ word_copied fields_alike 80 4 (omega arith) (omega arith))
 
-  padded_late : has_pad late by ≡ true
-  padded_late = ap (λ (n : ℕ). has_bit n 1) p.flags_are ∙ padded_1 (number b old vdr_flags)
-
   end_late : vdr_end late by ≡ pad.place + value_bytes b old
-  end_late =
-      let f = pad_field_copied (file good at m) says.copied in
-      let value = value_copied (file good at m) says.copied in
-      let flag = padded_late in
-      λ i. (f i).place + (if flag i then value i else 0)
+  end_late = padded_end own (own' good at m) (file (sound good at) m) says.copied p.flags_are
 
   pad_fits : pad.place + pad.width ≤ size_at late by
-  pad_fits = subst (λ (k : ℕ). pad.place + k ≤ size_at late by) (sym (pad_width (is_z b old) (dimensions_at b old) (value_bytes b old))) (same (size_at late by) (by_size good at m ∙ sym p.whole ∙ end_late))
+  pad_fits = subst (λ (k : ℕ). pad.place + k ≤ size_at late by) (sym (pad_width (is_z b old) (dimensions_at b old) (value_bytes b old))) (same (size_at late by) (joined_size (sound good at) m ∙ sym p.whole ∙ end_late))
     where
       same : (n : ℕ) → n ≡ pad.place + value_bytes b old → pad.place + value_bytes b old ≤ n
       same n e = omega arith
@@ -60,28 +54,10 @@ module _ {b late now : List ℕ} {kind : Kind} {before : List VariableShape} {ow
       let k = by_kept good at m says gives in
       bytes_kept late now by k.same pad pad_fits k.inside (let l = gives.length_is in omega arith) ∙ p.pad_is
 
-  value_now : pad_at now by ≡ Some (turned (type_of_variable b old) (is_little b) bytes)
-  value_now =
-      let same_file = file_now good at m says gives in
-      let copied = copied_now good at m says gives in
-      let t = type_copied same_file copied in
-      let f = pad_field_copied same_file copied in
-      let flag : has_pad now by ≡ true = ap (λ (n : ℕ). has_bit n 1) flags_now ∙ padded_1 (number b old vdr_flags) in
-      let first : pad_at now by ≡ Some (turned (type_of_variable b old) (is_little b) (field_bytes now by pad)) = λ i. if flag i then Some (turned (t i) (same_file.little i) (field_bytes now by (f i))) else None in
-      first ∙ ap (λ (x : List ℕ). Some (turned (type_of_variable b old) (is_little b) x)) bytes_now
-
   pub pad_means : variable_of now (own' good at m) ≡ record (variable_of b own) { pad = Some (turned (type_of_variable b old) (is_little b) bytes) }
-  pad_means =
-      let name = name_now good at m says gives in
-      let blocking = blocking_now in
-      let vary : records_vary now by ≡ records_vary b old = ap (λ (n : ℕ). has_bit n 0) flags_now ∙ padded_0 (number b old vdr_flags) in
-      let rle = packed_now good at m says gives in
-      let value = value_now in
-      let rest : record (variable_of b own) { name = name_in now by vdr_name; vary = records_vary now by; rle = is_compressed now by; blocking = integer4 now by vdr_blocking_factor; pad = pad_at now by } ≡ record (variable_of b own) { pad = Some (turned (type_of_variable b old) (is_little b) bytes) } =
-      λ i. record (variable_of b own) { name = name i; vary = vary i; rle = rle i; blocking = blocking i; pad = value i } in
-      moved_means good at m says gives ∙ rest
+  pad_means = padded_means own (own' good at m) (file_now good at m says gives) (copied_now good at m says gives) flags_now bytes_now (name_now good at m says gives) blocking_now (moved_means good at m says gives)
 
-  pub moved_sets_pad : SetsPad b now old by (Took by (need good at m) ∷ Gave old (size_at b old) ∷ [])
+  pub moved_sets_pad : SetsPad b now old by (acts good at m says gives)
   moved_sets_pad =
       let ends = same_end good at m says gives ∙ p.whole in
       record {
@@ -89,13 +65,13 @@ module _ {b late now : List ℕ} {kind : Kind} {before : List VariableShape} {ow
         copied = λ i low high out. (by_kept good at m says gives).same.each (by + i) (omega arith) (inside i pad.place pad.width (size_at late by) high pad_fits) ∙ p.alike i low high out;
         flags_are = flags_now;
         room = λ l. absurd (never (vdr_end now by) ends l);
-        freed = freed_bytes good at m says gives (Took by (need good at m) ∷ Gave old (size_at b old) ∷ []);
+        freed = bytes_left good at m says gives;
       }
     where
       never : (n : ℕ) → n ≡ 8 + length body → n ≤ size_at b old → ⊥
       never n e l = let s = p.short in omega arith
 
-      acts_of : (n : ℕ) → n ≡ need good at m → (Took by (need good at m) ∷ Gave old (size_at b old) ∷ []) ≡ (if nat_le n (size_at b old) then [] else Took by n ∷ Gave old (size_at b old) ∷ [])
+      acts_of : (n : ℕ) → n ≡ 8 + length body → (acts good at m says gives) ≡ (if nat_le n (size_at b old) then [] else Took by n ∷ Gave old (size_at b old) ∷ [])
       acts_of n e = elim (either (nat_le n (size_at b old))) [ inl fit ↦ absurd (never n e (le_of n (size_at b old) fit)) | inr over ↦ sym (ap (λ (q : Bool). if q then [] else Took by n ∷ Gave old (size_at b old) ∷ []) over ∙ ap (λ (k : ℕ). Took by k ∷ Gave old (size_at b old) ∷ []) e) ]
 
       inside : (i place width n : ℕ) → i < place → place + width ≤ n → by + i < by + n

@@ -1,6 +1,6 @@
 -- A pad value is written in a VDR that has room for it, and the flag that says that there is one.
 use Rattle.std.proofs.Common.{◌≡◌, ◌⊎◌, ℕ, ◌+◌, ◌*◌, ◌/◌, ◌%◌, ◌<◌, ◌≤◌, Bool, List, [], ◌∷◌, length, true, None, Some, refl, sym, ap, subst, ◌∙◌, arith, inl, inr, w32}
-use Rattle.cdf_edits.proofs.Common.{cast_signed, before_first, ◌==◌, if◌then◌else◌, Kind, R, Z, turned, Same, variable_of, number, name_in, integer4, has_bit, size_at, Field, vdr_flags, vdr_blocking_factor, vdr_name, VariableShape, Shape, is_compressed, HasShape, shape, IsSound, field_bytes, is_little, is_z, dimensions_at, value_bytes, has_pad, pad_field, pad_at, type_of_variable, vdr_end, Good, word_kept, piece_kept, good_is_sound, of_le, tile_lies, with_bits, SetsPad, Took, Gave, Edit, Mark, mark, Among, Avoids, touched_field, Changed, type_in, variables_chain}
+use Rattle.cdf_edits.proofs.Common.{cast_signed, before_first, ◌==◌, if◌then◌else◌, Kind, R, Z, turned, Same, variable_of, number, name_in, integer4, has_bit, size_at, Field, vdr_flags, vdr_blocking_factor, vdr_name, VariableShape, Shape, is_compressed, records_vary, HasShape, shape, IsSound, field_bytes, is_little, is_z, dimensions_at, value_bytes, has_pad, pad_field, pad_at, type_of_variable, vdr_end, Good, word_kept, piece_kept, good_is_sound, of_le, tile_lies, with_bits, SetsPad, Took, Gave, Edit, Mark, mark, Among, Avoids, touched_field, Changed, type_in, variables_chain}
 use Rattle.cdf_edits.proofs.Edits.Composing.{head_size, head_type, changed_edit}
 use Rattle.cdf_edits.proofs.Edits.RecordFrame.{file_same}
 use Rattle.cdf_edits.proofs.Edits.StepEdits.{some_bytes}
@@ -22,6 +22,37 @@ padded_1 n = let same : (n % 2 + 2 * 1 + 4 * (n / 4)) / 2 % 2 ≡ 1 = omega arit
 
 pub padded_2 : (n : ℕ) → has_bit (padded_flags n) 2 ≡ has_bit n 2
 padded_2 n = let same : (n % 2 + 2 * 1 + 4 * (n / 4)) / 4 % 2 ≡ n / 4 % 2 = omega arith in ap (λ (k : ℕ). k == 1) same
+
+-- ---- a VDR with another pad value and these flags, at its place or another one
+
+module _ {b now : List ℕ} (own own' : VariableShape) (file : FileSame b now) (copied : VdrCopied b now own.vdr own'.vdr) (flags_are : number now own'.vdr vdr_flags ≡ padded_flags (number b own.vdr vdr_flags)) where
+  abbrev flags : ℕ
+  flags = number b own.vdr vdr_flags
+
+  padded : has_pad now own'.vdr ≡ true
+  padded = ap (λ (n : ℕ). has_bit n 1) flags_are ∙ padded_1 flags
+
+  pub packed : is_compressed now own'.vdr ≡ is_compressed b own.vdr
+  packed = ap (λ (n : ℕ). has_bit n 2) flags_are ∙ padded_2 flags
+
+  pub padded_end : vdr_end now own'.vdr ≡ (pad_field b own.vdr).place + value_bytes b own.vdr
+  padded_end =
+      let f = pad_field_copied file copied in
+      let value = value_copied file copied in
+      let flag = padded in
+      λ i. (f i).place + (if flag i then value i else 0)
+
+  pub padded_means : {bytes : List ℕ} → field_bytes now own'.vdr (pad_field b own.vdr) ≡ bytes → name_in now own'.vdr vdr_name ≡ name_in b own.vdr vdr_name → integer4 now own'.vdr vdr_blocking_factor ≡ integer4 b own.vdr vdr_blocking_factor
+      → variable_of now own' ≡ record (variable_of b own) { name = name_in now own'.vdr vdr_name; vary = records_vary now own'.vdr; rle = is_compressed now own'.vdr; blocking = integer4 now own'.vdr vdr_blocking_factor; pad = pad_at now own'.vdr }
+      → variable_of now own' ≡ record (variable_of b own) { pad = Some (turned (type_of_variable b own.vdr) (is_little b) bytes) }
+  padded_means bytes_are name blocking is =
+      let vary : records_vary now own'.vdr ≡ records_vary b own.vdr = ap (λ (n : ℕ). has_bit n 0) flags_are ∙ padded_0 flags in
+      let rle = packed in
+      let t = type_copied file copied in
+      let f = pad_field_copied file copied in
+      let flag = padded in
+      is ∙ (λ i. record (variable_of b own) { name = name i; vary = vary i; rle = rle i; blocking = blocking i; pad = if flag i then Some (turned (t i) (file.little i) (field_bytes now own'.vdr (f i))) else None })
+      ∙ ap (λ (x : List ℕ). record (variable_of b own) { pad = Some (turned (type_of_variable b own.vdr) (is_little b) x) }) bytes_are
 
 -- ---- the edit
 
@@ -104,18 +135,8 @@ module _ {b now : List ℕ} {kind : Kind} {before : List VariableShape} {own : V
     behind = copied_in_place b now v 340 pad.place (part 340 pad.place (omega arith) (inr (omega arith)));
   }
 
-  packed : is_compressed now v ≡ is_compressed b v
-  packed = ap (λ (n : ℕ). has_bit n 2) w.flags_are ∙ padded_2 (number b v vdr_flags)
-
-  padded : has_pad now v ≡ true
-  padded = ap (λ (n : ℕ). has_bit n 1) w.flags_are ∙ padded_1 (number b v vdr_flags)
-
-  pub end_is : vdr_end now v ≡ pad.place + value_bytes b v
-  end_is =
-      let f = pad_field_copied same_file copied in
-      let value = value_copied same_file copied in
-      let flag = padded in
-      λ i. (f i).place + (if flag i then value i else 0)
+  end_is : vdr_end now v ≡ pad.place + value_bytes b v
+  end_is = padded_end own own same_file copied w.flags_are
 
   pub edits : EditsVdr b now kind own marks
   edits = record {
@@ -125,7 +146,7 @@ module _ {b now : List ℕ} {kind : Kind} {before : List VariableShape} {own : V
     tests = pad_tests kind v pad;
     copied = copied;
     num_is = word_kept b now (v + 68) (v + 72) (front 68 72 (omega arith) (inr (omega arith))) (v + 68) 4 (omega arith) (omega arith);
-    packed = packed;
+    packed = packed own own same_file copied w.flags_are;
     end_fits = subst (λ (n : ℕ). n ≤ size_at b v) (sym end_is) w.room;
   }
 
@@ -135,24 +156,8 @@ module _ {b now : List ℕ} {kind : Kind} {before : List VariableShape} {own : V
   blocking_same : integer4 now v vdr_blocking_factor ≡ integer4 b v vdr_blocking_factor
   blocking_same = ap (cast_signed w32) (word_kept b now (v + 80) (v + 84) (front 80 84 (omega arith) (inr (omega arith))) (v + 80) 4 (omega arith) (omega arith))
 
-  pad_is : pad_at now v ≡ Some (turned (type_of_variable b v) (is_little b) bytes)
-  pad_is =
-      let t = type_copied same_file copied in
-      let f = pad_field_copied same_file copied in
-      let flag = padded in
-      let first : pad_at now v ≡ Some (turned (type_of_variable b v) (is_little b) (field_bytes now v pad)) = λ i. if flag i then Some (turned (t i) (same_file.little i) (field_bytes now v (f i))) else None in
-      first ∙ ap (λ (x : List ℕ). Some (turned (type_of_variable b v) (is_little b) x)) w.bytes_are
-
   pub meaning : variable_of now own ≡ record (variable_of b own) { pad = Some (turned (type_of_variable b v) (is_little b) bytes) }
-  meaning =
-      let name = name_same in
-      let blocking = blocking_same in
-      let vary : has_bit (number now v vdr_flags) 0 ≡ has_bit (number b v vdr_flags) 0 = ap (λ (n : ℕ). has_bit n 0) w.flags_are ∙ padded_0 (number b v vdr_flags) in
-      let rle = packed in
-      let value = pad_is in
-      let rest : record (variable_of b own) { name = name_in now v vdr_name; vary = has_bit (number now v vdr_flags) 0; rle = is_compressed now v; blocking = integer4 now v vdr_blocking_factor; pad = pad_at now v } ≡ record (variable_of b own) { pad = Some (turned (type_of_variable b v) (is_little b) bytes) } =
-      λ i. record (variable_of b own) { name = name i; vary = vary i; rle = rle i; blocking = blocking i; pad = value i } in
-      content_copied sound edit (file good at edits) own (has good at) (fits good at) (behind_in good at) (behind_kept good at edits) copied packed ∙ rest
+  meaning = padded_means own own same_file copied w.flags_are w.bytes_are name_same blocking_same (content_copied sound edit (file good at edits) own (has good at) (fits good at) (behind_in good at) (behind_kept good at edits) copied (packed own own same_file copied w.flags_are))
 
   -- ---- what `set-pad` does where the VDR stays
 

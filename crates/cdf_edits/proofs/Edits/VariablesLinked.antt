@@ -1,47 +1,75 @@
--- What a command may change of variables that stay but for the links from one to the next of a kind.
-use Rattle.std.proofs.Common.{◌≡◌, ℕ, List, [], ◌∷◌, Bool, true, false, eq-eqb, refl, sym, subst, ◌∙◌, inl, inr}
-use Rattle.cdf_edits.proofs.Common.{flat_map, if◌then◌else◌, Kind, R, Z, next_field, type_at, owned_by_variables, variable_records, VariableShape, Shape, vdrs, variables, Each, shape, IsSound, In, linkable-in, linkable-type, In-append, In-append_left, AllKeep, Allowances, Keeps, Only, only_of, same_kind, shapes_of, vdr_type, Edit, Mark, avoided, unmarked, within, Act, type_in, variables_chain}
-use Rattle.cdf_edits.proofs.Commands.KeptRecords.{Stood}
-use Rattle.cdf_edits.proofs.Edits.MarkLemmas.{unmarked-away}
-use Rattle.cdf_edits.proofs.Edits.OwnersKept.{keep_each_variable, keeps_away, keeps_fields, stood}
-use Rattle.cdf_edits.proofs.Edits.RecordFrame.{VariableLives, index_records}
-use Rattle.cdf_edits.proofs.Edits.VariableFrame.{AreOurs, ours_parts, variables_in}
-use Rattle.cdf_edits.proofs.Edits.VariableKinds.{kind_chain, kind_ours, kind_type, of_kind, other_kind}
+-- What a command may change of variables of one kind that stay but for the links from one to the next, where those of the other kind stay.
+use Rattle.std.proofs.Common.{◌≡◌, ℕ, suc, ◌+◌, ◌<◌, ◌≤◌, List, [], ◌∷◌, length, refl, sym, subst, arith, inl, inr}
+use Rattle.cdf_edits.proofs.Common.{flat_map, Kind, next_field, type_at, variable_records, VariableShape, Shape, vdrs, shape, IsSound, In, linkable-in, linkable-type, In-append_left, gdr_type, cdr_type, is_a-in, Each, index_types, HasVariable, VariableFits, AllKeep, Allowance, Allowances, Keeps, Only, shapes_of, stays_all, variables_gdr_fields, OneVariable, Unused, owned, owned_by, owned_by_variables, unused_records, Edit, Mark, Act, type_in, variables_chain}
+use Rattle.cdf_edits.proofs.Commands.KeptRecords.{AllKeep-append, keep_attributes, keeps_stood}
+use Rattle.cdf_edits.proofs.Edits.JoinedVdr.{KindTests}
+use Rattle.cdf_edits.proofs.Edits.MarkLemmas.{all_unmarked-away}
+use Rattle.cdf_edits.proofs.Edits.OwnedOnce.{all_attributes_in}
+use Rattle.cdf_edits.proofs.Edits.OwnersKept.{keep_all, keep_file, keeps_fields, stood}
+use Rattle.cdf_edits.proofs.Edits.RecordFrame.{VariableLives, cdr_kept, gdr_start, index_records, kept, kept_away}
+use Rattle.cdf_edits.proofs.Edits.StepEdits.{gdr_in, gdr_typed}
+use Rattle.cdf_edits.proofs.Edits.VariableFrame.{AreOurs, index_typed, rest_ours, variables_in}
+use Rattle.cdf_edits.proofs.Edits.VariableKept.{keep_kinds, keep_own}
+use Rattle.cdf_edits.proofs.Edits.VariableKinds.{kind_chain, kind_ours, other_kind}
+use Rattle.cdf_edits.proofs.Frame.Meaning.{Kept, KeptButLink, but_link, late_size}
+use Rattle.cdf_edits.proofs.Frame.OwnersApart.{all_attribute_records}
 
--- one kind, or the other
-by_two : (kind k : Kind) (P : Bool → Type 0) → (k ≡ kind → P true) → (k ≡ other_kind kind → P false) → P (same_kind kind k)
-by_two R R P own other = own refl
-by_two R Z P own other = other refl
-by_two Z R P own other = other refl
-by_two Z Z P own other = own refl
-
-module _ {b now new : List ℕ} {marks : List Mark} {reborn : List ℕ} (sound : IsSound b (shape b)) (e : Edit b now (shape b).records new marks reborn) (records_are : (shape now).records ≡ new) where
+module _ {b now new : List ℕ} {marks : List Mark} {reborn : List ℕ} {kind : Kind} (sound : IsSound b (shape b)) (e : Edit b now (shape b).records new marks reborn) (t : KindTests kind marks) where
   abbrev s : Shape
   s = shape b
 
   -- what is behind a VDR stays
-  pub index_stood : (vs : List VariableShape) → AreOurs b s vs → Each (VariableLives b now) vs → (m : ℕ) → In m (flat_map index_records vs) → Stood b now m
-  index_stood [] ours live m i = absurd i
-  index_stood (v ∷ vs) ours live m i = elim (In-append m (index_records v) (flat_map index_records vs) i) [
-    | inl j ↦ stood sound e records_are m (variables_in b s sound m (ours.sub m (In-append_left m (variable_records v) (flat_map variable_records vs) (inr j)))) (live.0.behind m j)
-    | inr j ↦ index_stood vs (ours_parts b s (v ∷ []) vs ours).1 live.1 m j
-  ]
+  pub behind_kept : (v : VariableShape) → HasVariable b s.records v → VariableFits b s.records v → (m : ℕ) → In m (index_records v) → In m s.records → Kept b now m
+  behind_kept v has fits m i inside = kept_away e m (type_at b m) inside refl (all_unmarked-away marks index_types (type_at b m) m t.index_clear (index_typed b s v has fits m i))
 
-  -- a VDR of the kind stays but for its link, and one of the other kind stays
-  module _ (kind : Kind) (head : avoided marks (vdr_type kind) 0 12 ≡ true) (link : within marks (vdr_type kind) (next_field ∷ []) ≡ true) (others : unmarked marks (vdr_type (other_kind kind)) ≡ true) where
-    typed : (k : Kind) (m : ℕ) → In m (vdrs (shapes_of s k)) → In m s.records × (type_at b m ≡ vdr_type k)
-    typed k m i =
-        let ok = (kind_chain k sound.has_shape).linkable m i in
-        (linkable-in b s.records (type_in (variables_chain k)) m ok, linkable-type b s.records (type_in (variables_chain k)) m ok ∙ kind_type k)
+  records_in : (v : VariableShape) (more : List VariableShape) → AreOurs b s (v ∷ more) → (m : ℕ) → In m (variable_records v) → In m s.records
+  records_in v more ours m i = variables_in b s sound m (ours.sub m (In-append_left m (variable_records v) (flat_map variable_records more) i))
 
-    pub linked_keeps : (k : Kind) (m : ℕ) → In m (vdrs (shapes_of s k)) → Keeps b now m (if same_kind kind k then only_of b m (vdr_type kind) (next_field ∷ []) else Only [])
-    linked_keeps k m i = by_two kind k (λ p. Keeps b now m (if p then only_of b m (vdr_type kind) (next_field ∷ []) else Only []))
-        (λ q.
-        let x = typed kind m (subst (λ (z : Kind). In m (vdrs (shapes_of s z))) q i) in
-        subst (λ (p : Bool). Keeps b now m (if p then Only (next_field ∷ []) else Only [])) (sym (eq-eqb _ _ x.1)) (keeps_fields sound e records_are m (vdr_type kind) (next_field ∷ []) x.0 x.1 head link))
-        (λ q.
-        let x = typed (other_kind kind) m (subst (λ (z : Kind). In m (vdrs (shapes_of s z))) q i) in
-        keeps_away sound e records_are m (vdr_type (other_kind kind)) (Only []) x.0 x.1 (unmarked-away marks (vdr_type (other_kind kind)) m others))
+  pub live : (vs : List VariableShape) → AreOurs b s vs → ((m : ℕ) → In m (vdrs vs) → KeptButLink b now m) → Each (VariableLives b now) vs
+  live [] ours linked = tt
+  live (v ∷ more) ours linked = (
+    record { vdr = linked v.vdr (inl refl); behind = λ m i. behind_kept v ours.has.0 ours.fits.0 m i (records_in v more ours m (inr i)) },
+    live more (rest_ours b s v more ours) (λ m i. linked m (inr i)),
+  )
 
-  pub keep_kind : (may : Allowances) (acts : List Act) → ((k : Kind) (n m : ℕ) → In m (vdrs (shapes_of s k)) → Keeps b now m (may.variables k n m)) → Each (VariableLives b now) (variables s) → (k : Kind) → AllKeep b now may acts (owned_by_variables k 0 (shapes_of s k))
-  keep_kind may acts says lives k = keep_each_variable b now may acts k 0 (shapes_of s k) (λ n m i. says k n m i) (index_stood (shapes_of s k) (kind_ours b s sound k) (of_kind (VariableLives b now) k s lives))
+  other_kept : (m : ℕ) → In m (vdrs (shapes_of s (other_kind kind))) → Kept b now m
+  other_kept m i =
+      let other = type_in (variables_chain (other_kind kind)) in
+      let ok = (kind_chain (other_kind kind) sound.has_shape).linkable m i in
+      kept e m other (linkable-in b s.records other m ok) (linkable-type b s.records other m ok) t.others_clear
+
+  pub others_live : Each (VariableLives b now) (shapes_of s (other_kind kind))
+  others_live = live (shapes_of s (other_kind kind)) (kind_ours b s sound (other_kind kind)) (λ m i. but_link b now m (other_kept m i))
+
+  module _ (records_are : (shape now).records ≡ new) where
+    -- a record that stays but for its link
+    pub next_keeps : (m : ℕ) → In m s.records → KeptButLink b now m → Keeps b now m (Only (next_field ∷ []))
+    next_keeps m i k = record {
+      stands = subst (In m) (sym records_are) (e.sub m i);
+      size_is = late_size b now m k;
+      same = λ n l out. elim out.0 [ inl low ↦ k.start.each (m + n) (omega arith) (omega arith) | inr high ↦ k.rest.each (m + n) (omega arith) (omega arith) ];
+    }
+
+    pub keep_numbered : (may : Allowances) (acts : List Act) (k : Kind) (n : ℕ) (vs : List VariableShape) → AreOurs b s vs → ((i m : ℕ) → n ≤ i → i < n + length vs → In m (vdrs vs) → In m s.records → Keeps b now m (may.variables k i m)) → AllKeep b now may acts (owned_by_variables k n vs)
+    keep_numbered may acts k n [] ours says = tt
+    keep_numbered may acts k n (v ∷ more) ours says = AllKeep-append b now may acts (owned_by (OneVariable k n) (variable_records v)) (owned_by_variables k (suc n) more)
+        (keep_own b now may acts k n v (says n v.vdr (omega arith) (omega arith) (inl refl) (records_in v more ours v.vdr (inl refl)))
+        (λ m i. stood sound e records_are m (records_in v more ours m (inr i)) (behind_kept v ours.has.0 ours.fits.0 m i (records_in v more ours m (inr i)))))
+        (keep_numbered may acts k (suc n) more (rest_ours b s v more ours) (λ i m low high j. says i m (omega arith) (omega arith) (inr j)))
+
+    -- the whole
+    module _ (variables : Kind → ℕ → ℕ → Allowance) (acts : List Act) where
+      abbrev may : Allowances
+      may = record stays_all { gdr = Only (variables_gdr_fields kind); variables = variables }
+
+      pub keep_with_kind : ((i m : ℕ) → variables (other_kind kind) i m ≡ Only []) → AllKeep b now may acts (owned_by_variables kind 0 (shapes_of s kind)) → ((m : ℕ) → In m (all_attribute_records s) → Kept b now m) → AllKeep b now may acts (owned_by Unused (unused_records b s)) → AllKeep b now may acts (owned b s)
+      keep_with_kind none own attributes unused =
+          let h = sound.has_shape in
+          let others = keep_numbered may acts (other_kind kind) 0 (shapes_of s (other_kind kind)) (kind_ours b s sound (other_kind kind)) (λ i m low high j inside. subst (Keeps b now m) (sym (none i m)) (keeps_stood b now m (stood sound e records_are m inside (other_kept m j)) (Only []))) in
+          let both = keep_kinds b now may acts kind own others in
+          keep_all b now may acts
+          (keep_file b now may acts sound
+          (keeps_stood b now 8 (stood sound e records_are 8 (is_a-in b s.records cdr_type 8 h.cdr_stands) (cdr_kept sound e t.file_clear)) (Only []))
+          (keeps_fields sound e records_are s.gdr gdr_type (variables_gdr_fields kind) (gdr_in b s h) (gdr_typed b s h) (gdr_start sound e t.file_clear) t.gdr_within))
+          (keep_attributes b now may acts 0 s.attributes (λ m i. stood sound e records_are m (all_attributes_in sound m i) (attributes m i)))
+          both.0 both.1 unused

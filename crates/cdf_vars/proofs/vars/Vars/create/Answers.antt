@@ -1,22 +1,22 @@
 use Rattle.std.proofs.Common.{◌≡◌, ◌∙◌, ℕ, List, ap, length, refl, sym, arith}
 use Rattle.cdf_vars.proofs.Common.{vdr_bytes, Follows, refused, BadName, BadShape, NameTaken, R, Z, is_among, making, wanted}
-use Rattle.cdf_vars.proofs.CreatedVariable.{is_done, no_room, step_is}
+use Rattle.cdf_vars.proofs.CreatedVariable.{is_done, is_making, no_room}
 use Rattle.cdf_vars.proofs.VariableFound.{all_names, knows_made}
 use Rattle.cdf_vars.proofs.vars.Vars.create.Goals as goal
 use Rattle.cdf_vars.proofs.vars.Vars.create.Goals.{in-R+in_ok-add-in-R, in-Z+in_ok-add-in-Z}
 
 pub returns-then-is_bad_name-clause-answers : goal.returns-then-is_bad_name-clause-answers
-returns-then-is_bad_name-clause-answers g c = let bad = sym c.is_bad_name.ensures ∙ c.if-is_bad_name.true in refused _ _ (making c.args.kind (wanted c.args.name.now c.args.form.now c.args.vary)) BadName (step_is _ c.args.kind (wanted c.args.name.now c.args.form.now c.args.vary) c.requires.dims ∙ rw bad refl)
+returns-then-is_bad_name-clause-answers g c = let bad = sym c.is_bad_name.ensures ∙ c.if-is_bad_name.true in refused _ _ (making c.args.kind (wanted c.args.name.now c.args.form.now c.args.vary)) BadName ((is_making _ c.args.kind (wanted c.args.name.now c.args.form.now c.args.vary) c.requires.dims).step_is ∙ rw bad refl)
 
 pub returns-then-is_some-clause-answers : goal.returns-then-is_some-clause-answers
 returns-then-is_some-clause-answers g c =
     let taken = ap (is_among c.args.name.now) (sym (all_names c.requires.known)) ∙ sym c.find.ensures.exact ∙ sym c.is_some.ensures ∙ c.if-is_some.true in
-    refused _ _ (making c.args.kind (wanted c.args.name.now c.args.form.now c.args.vary)) NameTaken (step_is _ c.args.kind (wanted c.args.name.now c.args.form.now c.args.vary) c.requires.dims ∙ rw (sym c.is_bad_name.ensures ∙ c.if-is_bad_name.false, taken) refl)
+    refused _ _ (making c.args.kind (wanted c.args.name.now c.args.form.now c.args.vary)) NameTaken ((is_making _ c.args.kind (wanted c.args.name.now c.args.form.now c.args.vary) c.requires.dims).step_is ∙ rw (sym c.is_bad_name.ensures ∙ c.if-is_bad_name.false, taken) refl)
 
 pub returns-then-is_bad_shape-clause-answers : goal.returns-then-is_bad_shape-clause-answers
 returns-then-is_bad_shape-clause-answers g c =
     let free = ap (is_among c.args.name.now) (sym (all_names c.requires.known)) ∙ sym c.find.ensures.exact ∙ sym c.is_some.ensures ∙ c.if-is_some.false in
-    refused _ _ (making c.args.kind (wanted c.args.name.now c.args.form.now c.args.vary)) BadShape (step_is _ c.args.kind (wanted c.args.name.now c.args.form.now c.args.vary) c.requires.dims ∙ rw (sym c.is_bad_name.ensures ∙ c.if-is_bad_name.false, free, sym c.is_bad_shape.ensures ∙ c.if-is_bad_shape.true) refl)
+    refused _ _ (making c.args.kind (wanted c.args.name.now c.args.form.now c.args.vary)) BadShape ((is_making _ c.args.kind (wanted c.args.name.now c.args.form.now c.args.vary) c.requires.dims).step_is ∙ rw (sym c.is_bad_name.ensures ∙ c.if-is_bad_name.false, free, sym c.is_bad_shape.ensures ∙ c.if-is_bad_shape.true) refl)
 
 pub returns-then-limit-size-clause-answers : goal.returns-then-limit-size-clause-answers
 returns-then-limit-size-clause-answers g c =

@@ -1,0 +1,141 @@
+-- A record that an edit left in use, and no owner has, is freed: what the image is then.
+use Rattle.std.proofs.Common.{◌≡◌, ◌≢◌, ℕ, ◌+◌, ◌≤◌, List, [], ◌∷◌, ◌++◌, length, true, false, refl, sym, ap, subst, ◌∙◌, arith, inl, inr}
+use Rattle.cdf_edits.proofs.Common.{le-leb, Same, IsChain, number, size_at, type_at, Unused, owned_by, unused_records, Field, gdr_uir_head, uir_next_uir, uir_prev_uir, gdr_type, uir_type, is_record_type, fixed_size, Shape, HasShape, shape, IsSound, In, AreTiles, Same-part, is_a-type, tile_lies, Allowances, AllKeep, is_taken, GivenStay, no_fields, Edit, Mark, Avoids, Away, Within, giving_marks, Act, Gave, ActsFollow, gave, links_end, Gives, giving}
+use Rattle.cdf_edits.proofs.Edits.ActsThen.{acts_gave}
+use Rattle.cdf_edits.proofs.Edits.Composing.{edit_then, same-then, sizes}
+use Rattle.cdf_edits.proofs.Edits.FreedBytes.{behind_one, freed_stay}
+use Rattle.cdf_edits.proofs.Edits.MarkLemmas.{Avoids-append, Within-append, Away-append, away-avoids, the_one}
+use Rattle.cdf_edits.proofs.Edits.OwnersKept.{keep_unused}
+use Rattle.cdf_edits.proofs.Edits.RecordFrame.{chain_stays, field_avoids, kept_away}
+use Rattle.cdf_edits.proofs.Edits.StepEdits.{gives_edit, all_marked, gdr_in, gdr_typed, gdr_long}
+use Rattle.cdf_edits.proofs.Frame.Meaning.{Kept, KeptButLink, late_type, late_size}
+use Rattle.cdf_edits.proofs.Space.UsedRecords.{apart}
+
+pub link_then : (b mid now : List ℕ) (m : ℕ) → KeptButLink b mid m → Kept mid now m → KeptButLink b now m
+link_then b mid now m k l =
+    let size = late_size b mid m k in
+    record {
+      start = same-then b mid now (m + 0) (m + 12) k.start (Same-part mid now m (m + size_at mid m) (m + 0) (m + 12) l.same (omega arith) (let w = l.long in omega arith));
+      rest = same-then b mid now (m + 20) (m + size_at b m) k.rest (Same-part mid now m (m + size_at mid m) (m + 20) (m + size_at b m) l.same (omega arith) (omega arith));
+      inside = k.inside;
+      long = k.long;
+    }
+
+-- the type of a record that is freed
+pub record IsPlain (type : ℕ) : Type 0 where
+  pub no_gdr : type ≢ gdr_type
+  pub no_uir : type ≢ uir_type
+
+-- an image before an edit, after it, and once a record of this type is freed that only lost its place in a chain
+pub record FreesRecord (b late now : List ℕ) (made : Shape) (marks : List Mark) (reborn : List ℕ) (old type : ℕ) : Type 0 where
+  pub sound : IsSound b (shape b)
+  pub edit : Edit b late (shape b).records made.records marks reborn
+  pub late_sound : IsSound late (shape late)
+  pub late_is : shape late ≡ made
+  pub inside : In old (shape b).records
+  pub typed : type_at b old ≡ type
+  pub plain : IsPlain type
+  pub lives : KeptButLink b late old
+  pub frees : Gives late now (shape late) (shape now) old
+
+module _ {b late now : List ℕ} {made : Shape} {marks : List Mark} {reborn : List ℕ} {old type : ℕ} (f : FreesRecord b late now made marks reborn old type) where
+  abbrev size : ℕ
+  size = size_at late old
+
+  h_late : HasShape late made
+  h_late = subst (HasShape late) f.late_is f.late_sound.has_shape
+
+  gives : Gives late now made (shape now) old
+  gives = subst (λ (x : Shape). Gives late now x (shape now) old) f.late_is f.frees
+
+  pub old_in : In old made.records
+  old_in = f.edit.sub old f.inside
+
+  pub old_typed : type_at late old ≡ type
+  old_typed = late_type b late old f.lives ∙ f.typed
+
+  old_size : size ≡ size_at b old
+  old_size = late_size b late old f.lives
+
+  abbrev pub given_marks : List Mark
+  given_marks = giving_marks made.unused type old size
+
+  pub given : Edit late now made.records made.records given_marks (old ∷ [])
+  given = gives_edit late now made (shape now) old type h_late old_in old_typed gives
+
+  pub freed_edit : Edit b now (shape b).records made.records (marks ++ given_marks) (reborn ++ old ∷ [])
+  freed_edit = edit_then f.edit given
+
+  pub same_sizes : (m : ℕ) → In m made.records → size_at now m ≡ size_at late m
+  same_sizes m i = sizes late now made.records (giving made.gdr made.unused old size) given_marks (old ∷ []) h_late.tiled gives.length_is gives.changed (all_marked late now made (shape now) old type h_late old_in old_typed gives) m i
+
+  pub same_types : (m : ℕ) → In m made.records → m ≢ old → type_at now m ≡ type_at late m
+  same_types m i ne = elim (given.kind m i) [ inl j ↦ j.1 | inr j ↦ elim j [ inl new ↦ absurd (new.0 i) | inr x ↦ absurd (ne (the_one old m x)) ] ]
+
+  pub freed_type : type_at now old ≡ uir_type
+  freed_type = is_a-type now (shape now).records uir_type old gives.stands
+
+  pub freed_real : (is_record_type (type_at now old) ≡ true) × (fixed_size (type_at now old) ≤ size_at now old)
+  freed_real = subst (λ (t : ℕ). (is_record_type t ≡ true) × (fixed_size t ≤ size_at now old)) (sym freed_type) (refl, (tile_lies now 8 (length now) made.records old given.tiled_now old_in).long)
+
+  pub records_now : (shape now).records ≡ made.records
+  records_now = gives.records_stay
+
+  pub as_long_now : length now ≡ length late
+  as_long_now = gives.length_is
+
+  -- another record stays
+  pub given_away : (t m : ℕ) → IsPlain t → m ≢ old → Away given_marks t m
+  given_away t m p ne = ((λ same lies. p.no_gdr same), ((λ same lies. p.no_uir same), ((λ same lies. ne (the_one old m lies)), tt)))
+
+  pub other_kept : (t m : ℕ) → IsPlain t → type_at late m ≡ t → In m made.records → m ≢ old → Kept late now m
+  other_kept t m p is i ne = kept_away given m t i is (given_away t m p ne)
+
+  pub other_links : (t m : ℕ) → IsPlain t → type_at b m ≡ t → In m (shape b).records → m ≢ old → KeptButLink b late m → KeptButLink b now m
+  other_links t m p is i ne k = link_then b late now m k (other_kept t m p (late_type b late m k ∙ is) (f.edit.sub m i) ne)
+
+  pub other_chain : (t link link' : ℕ) (ms : List ℕ) → IsPlain t → IsChain late made.records t link ms → link' ≡ link → ((m : ℕ) → In m ms → m ≢ old) → IsChain now made.records t link' ms
+  other_chain t link link' ms p c same others = chain_stays given t link link' ms c same (λ m i. away-avoids given_marks t m 0 20 (given_away t m p (others m i)))
+
+  -- and the GDR but for the head of the unused list
+  pub gdr_same : (g : Field) → g.place + g.width ≤ 64 → number now made.gdr g ≡ number late made.gdr g
+  gdr_same g low = field_avoids given made.gdr gdr_type g (gdr_in late made h_late) (gdr_typed late made h_late) (avoids 0 12 (omega arith)) (avoids g.place (g.place + g.width) low) (let l = gdr_long late made h_late in omega arith)
+    where
+      avoids : (lo hi : ℕ) → hi ≤ 64 → Avoids given_marks gdr_type made.gdr lo hi
+      avoids lo hi l = ((λ same lies. inl l), ((λ same lies. absurd (apart gdr_type uir_type refl same)), ((λ same lies. absurd (f.plain.no_gdr (sym same))), tt)))
+
+  -- ---- the space
+
+  pub freed_list : IsChain now made.records uir_type (number now made.gdr gdr_uir_head) (shape now).unused
+  freed_list =
+      let gdr : (shape now).gdr ≡ made.gdr = ap (λ (x : Shape). x.gdr) gives.space.rest_stays in
+      subst (λ (x : ℕ). IsChain now made.records uir_type (number now x gdr_uir_head) (shape now).unused) gdr (subst (λ (ts : List ℕ). IsChain now ts uir_type (number now (shape now).gdr gdr_uir_head) (shape now).unused) records_now gives.space.unused_chain)
+
+  pub freed_acts : {acts : List Act} → ActsFollow b late acts → ActsFollow b now (acts ++ Gave old (size_at b old) ∷ [])
+  freed_acts {acts = acts} before = subst (λ (n : ℕ). ActsFollow b now (acts ++ Gave old n ∷ [])) old_size
+      (acts_gave f.sound.has_shape before f.late_sound (subst (λ (x : Shape). In old x.records) (sym f.late_is) old_in) (λ u. f.plain.no_uir (sym old_typed ∙ u)) f.frees)
+
+  -- behind the links of an unused record it has its bytes
+  pub freed_behind : 28 ≤ size_at b old → Same b now (old + 28) (old + size_at b old)
+  freed_behind long =
+      let wide : links_end size ≡ 28 = rw (old_size, le-leb 28 (size_at b old) long) refl in
+      let left = behind_one h_late gives old_in old old_in (λ q. f.plain.no_gdr (sym old_typed ∙ ap (type_at late) q ∙ gdr_typed late made h_late)) in
+      same-then b late now (old + 28) (old + size_at b old) (Same-part b late (old + 20) (old + size_at b old) (old + 28) (old + size_at b old) f.lives.rest (omega arith) (omega arith))
+      (subst (λ (n : ℕ). Same late now (old + 28) (old + n)) old_size (subst (λ (n : ℕ). Same late now (old + n) (old + size)) wide left))
+
+  pub freed_bytes : (before : List Act) → 28 ≤ size_at b old → GivenStay b now no_fields before (gave b (old ∷ []))
+  freed_bytes before long = freed_stay b now before (old ∷ []) no_fields (subst (AreTiles now 8 (length now)) (sym records_now) given.tiled_now)
+      (λ m i. subst (λ (x : ℕ). In x (shape now).records) (sym (the_one old m i)) (subst (In old) (sym records_now) old_in))
+      (λ m i. subst (λ (x : ℕ). size_at now x ≡ size_at b x) (sym (the_one old m i)) (same_sizes old old_in ∙ old_size))
+      (λ m i. subst (λ (x : ℕ). Same b now (x + links_end (size_at b x)) (x + size_at b x)) (sym (the_one old m i)) (rw (le-leb 28 (size_at b old) long) (freed_behind long)))
+
+  -- what a command may change of unused records
+  pub freed_keeps_unused : (may : Allowances) (acts : List Act) → ((m : ℕ) → In m (shape b).unused → is_taken b acts m ≡ false → Avoids marks uir_type m 0 12 × Within marks uir_type m (uir_next_uir ∷ uir_prev_uir ∷ []))
+      → ((m : ℕ) → In m (shape b).records → (In m (shape b).unused → ⊥) → Away marks uir_type m × (In m made.unused → ⊥)) → AllKeep b now may acts (owned_by Unused (unused_records b (shape b)))
+  freed_keeps_unused may acts listed unlisted = keep_unused f.sound freed_edit records_now may acts
+      (λ m i free.
+      let l = listed m i free in (
+        Avoids-append marks given_marks uir_type m 0 12 l.0 ((λ q lies. absurd (apart uir_type gdr_type refl q)), ((λ q lies. inl (omega arith)), ((λ q lies. absurd (f.plain.no_uir (sym q))), tt))),
+        Within-append marks given_marks uir_type m (uir_next_uir ∷ uir_prev_uir ∷ []) l.1 ((λ q lies. absurd (apart uir_type gdr_type refl q)), ((λ q lies. refl), ((λ q lies. absurd (f.plain.no_uir (sym q))), tt))),
+      ))
+      (λ m i out. let u = unlisted m i out in Away-append marks given_marks uir_type m u.0 ((λ q lies. apart uir_type gdr_type refl q), ((λ q lies. u.1 lies), ((λ q lies. f.plain.no_uir (sym q)), tt))))
