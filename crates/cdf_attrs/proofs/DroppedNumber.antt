@@ -1,6 +1,6 @@
 -- The entry of a number that was taken out of a known chain: what the image comes to, and what is known of it then.
 use Rattle.std.proofs.Common.{◌≡◌, ◌∙◌, ◌<◌, ◌≤◌, ℕ, List, length, Result, Ok, Err, Some, refl, sym, ap, subst, arith}
-use Rattle.cdf_attrs.proofs.Common.{position, OnOk, ◌==◌, slice_index, EntryKind, image_limit, attribute_names, attribute_of, content, adrs, shape, Good, entries_chain, IsScoped, FindsChain, KnownEntries, KnowsEntries, IsEntryOf, TakenAt, without_at}
+use Rattle.cdf_attrs.proofs.Common.{position, OnOk, ◌==◌, slice_index, EntryKind, image_limit, attribute_names, attribute_of, content, adrs, shape, Good, entries_chain, IsScoped, KeepsAttributes, FindsChain, KnownEntries, KnowsEntries, IsEntryOf, TakenAt, without_at}
 use Rattle.std.specs.Result.{IfOk}
 use Rattle.cdf_attrs.proofs.AttributeNamed.{finds_chain}
 use Rattle.cdf_attrs.proofs.EntryDeleted as deleted
@@ -34,11 +34,10 @@ module _ {b : List ℕ} {kind : EntryKind} {adr : ℕ} (good : Good b) (has : Is
     known_now = deleted.left_known good found es of knows num i at own_taken short
 
     -- each attribute stands in its place, with its name
-    pub adrs_now : adrs (shape now) ≡ adrs (shape b)
-    adrs_now = sym (deleted.known_after good found es of knows num i at own_taken short (attribute_names (content b)) (adrs (shape b)) (without_at es i) refl refl refl).places_are
-
-    pub names_now : attribute_names (content now) ≡ attribute_names (content b)
-    names_now = sym (deleted.known_after good found es of knows num i at own_taken short (attribute_names (content b)) (adrs (shape b)) (without_at es i) refl refl refl).names_are
-
-    pub long_now : length now ≡ length b
-    long_now = let f = deleted.follow good found es of knows num i at own_taken short in let l = f.longer in let w = f.within in omega arith
+    pub keeps_now : KeepsAttributes b now
+    keeps_now =
+        let f = deleted.follow good found es of knows num i at own_taken short in
+        let known = deleted.known_after good found es of knows num i at own_taken short (attribute_names (content b)) (adrs (shape b)) (without_at es i) refl refl refl in
+        let l = f.longer in
+        let w = f.within in
+        record { names = sym known.names_are; places = sym known.places_are; long = omega arith }

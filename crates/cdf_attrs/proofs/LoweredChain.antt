@@ -1,7 +1,7 @@
 -- The numbers of a known chain that were written less by one: what the image comes to.
 use Rattle.std.proofs.Common.{◌≡◌, ℕ, ◌-◌, ◌≤◌, List, [], ◌∷◌, ◌++◌, length, map, Some, w32, refl, sym, ap, ap₂, subst, ◌∙◌, arith, inl, inr}
-use Rattle.cdf_attrs.proofs.Common.{cases_lt, lt-ltb, le-ltb, slice_get_within, cast_unsigned, slice_get, entries_of, with_attribute, with_entries, image_limit, signed_limit, closed_up, content, attribute_of, number, integer4, with_field, aedr_num, adr_type, AttributeShape, shape, In, Good, Chain, chain_of, max_field, greatest_number, fallen, Write, with_writes, write, Cut, cut, got-middle, nums, LowersChain, max_lies, LowersNumbers, lower_writes, IsOfAttribute, KnownEntries, KnowsEntries, IsGreatest}
-use Rattle.cdf_edits.proofs.Edits.FallenEntries.{content_lowered, entries_now, good_lowered, later, lowered, nums_now, of_max}
+use Rattle.cdf_attrs.proofs.Common.{cases_lt, lt-ltb, le-ltb, slice_get_within, cast_unsigned, slice_get, entries_of, image_limit, signed_limit, closed_up, attribute_of, number, integer4, with_field, aedr_num, adr_type, AttributeShape, shape, In, Good, Chain, chain_of, max_field, greatest_number, fallen, Write, with_writes, write, Cut, cut, got-middle, nums, LowersChain, max_lies, LowersNumbers, lower_writes, IsOfAttribute, KnownEntries, KnowsEntries, IsGreatest}
+use Rattle.cdf_edits.proofs.Edits.FallenEntries.{entries_now, later, lowered, nums_now, of_max}
 use Rattle.cdf_edits.proofs.Edits.FallenItems.{falls, rests}
 use Rattle.cdf_edits.proofs.Edits.FieldWritten.{written_integer}
 use Rattle.cdf_attrs.proofs.EntryChains.{members}
@@ -56,12 +56,6 @@ module _ {b : List ℕ} (good : Good b) {chain : Chain} (of : IsOfAttribute b ch
 
     pub lowers_chain : LowersChain b now of.kind parts.before of.own parts.after num
     lowers_chain = q
-
-    pub good_now : Good now
-    good_now = good_lowered good short q
-
-    pub content_now : content now ≡ with_attribute (content b) of.number (with_entries (attribute_of b of.own) of.kind (closed_up num num (entries_of (attribute_of b of.own) of.kind)))
-    content_now = content_lowered good short q ∙ ap (λ (k : ℕ). with_attribute (content b) k (with_entries (attribute_of b of.own) of.kind (closed_up num num (entries_of (attribute_of b of.own) of.kind)))) parts.count
 
     -- the greatest number is that of the entries as they are
     pub greatest_now : integer4 now of.own.adr (max_field of.kind) ≡ greatest_number (closed_up num num (entries_of (attribute_of b of.own) of.kind))

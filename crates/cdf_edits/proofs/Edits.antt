@@ -92,3 +92,6 @@ pub mod RecordGrown
 pub mod StandsAmong
 pub mod OwnEdited
 pub mod IndexEdited
+pub mod ChainEdited
+pub mod RechainedStands
+pub mod NumberedRecords
