@@ -114,12 +114,11 @@ record Taken (b : List ℕ) (k : ℕ) (own : AttributeShape) (kind : EntryKind) 
 module _ {b mid : List ℕ} {kind : EntryKind} {adr num : ℕ} {es : KnownEntries} (good : Good b) (has : IsScoped b kind adr) (is : es.chain ≡ entries_chain kind adr) (knows : KnowsEntries b es) (short : length b ≤ image_limit) where
   taken_some : (i : ℕ) → position (λ n. n == num) es.numbers ≡ Some i → TakenAt b mid kind adr es i → TakesHalf b has.number has.own kind num mid (with_chain has.own kind (left_of (slice_index es.places i) (chain_of has.own kind)))
   taken_some i at taken =
-      let found = removed.found good has es is knows num i at in
-      let of = removed.of good has es is knows num i at in
+      let of = removed.of_own good has es is knows num i at in
       let here = removed.own_taken good has es is knows num i at taken short in
-      subst (λ (n : ℕ). TakesHalf b n has.own kind num mid (with_chain has.own kind (left_of (slice_index es.places i) (chain_of has.own kind)))) (deleted.parts good found es of knows num i at).count
-      (step.taken_half good (deleted.q good found es of knows num i at here short) here.removed.gives num (deleted.of_old good found es of knows num i at) (deleted.counts good found es of knows num i at here short) short (deleted.long good found es of knows num i at here short)
-        (deleted.greatest good found es of knows num i at here short ∙ ap (λ (x : List (ℕ × Entry)). greatest_number (without num num x)) (sym (items_of b has.own kind))))
+      subst (λ (n : ℕ). TakesHalf b n has.own kind num mid (with_chain has.own kind (left_of (slice_index es.places i) (chain_of has.own kind)))) (deleted.parts good of es is knows num i at).count
+      (step.taken_half good (deleted.q good of es is knows num i at here short) here.removed.gives num (deleted.of_old good of es is knows num i at) (deleted.counts good of es is knows num i at here short) short (deleted.long good of es is knows num i at here short)
+        (deleted.greatest good of es is knows num i at here short ∙ ap (λ (x : List (ℕ × Entry)). greatest_number (without num num x)) (sym (items_of b has.own kind))))
 
   taken : {left : KnownEntries} → DropsNumber b mid kind adr es num left → Taken b has.number has.own kind num mid
   taken drops = elim drops [

@@ -26,7 +26,6 @@ pub mod RenamingSteps
 pub mod NamesDiffer
 pub mod AttributesRead
 pub mod AttributeFound
-pub mod AttributeNamed
 pub mod EntryChains
 pub mod EntriesRead
 pub mod EntryLookup

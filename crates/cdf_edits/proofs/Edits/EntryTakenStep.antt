@@ -49,13 +49,13 @@ module _ {b late now : List ℕ} {kind : EntryKind} {before : List AttributeShap
   r : Rechains b now (shape b) (shape b).records (shape now).unused (all_marks sound f) (old ∷ []) kind before own after chain' (old ∷ []) []
   r = freed_rechains sound f gives
 
-  long_now : length now ≡ length b
+  pub long_now : length now ≡ length b
   long_now = as_long_now sound f gives ∙ as_long sound q
 
   others : (m : ℕ) → In m chain → m ≢ old → EntryLives b now m
   others m i ne = entry_stays sound r m i (λ j. ne (the_one old m j))
 
-  good_now : number late own.adr (count_field kind) + 1 ≡ number b own.adr (count_field kind) → length b ≤ image_limit → Good now
+  pub good_now : number late own.adr (count_field kind) + 1 ≡ number b own.adr (count_field kind) → length b ≤ image_limit → Good now
   good_now counted limited =
       let once = once_before sound r good in
       let st = freed_settled sound f gives (left_end sound q (end_before b good)) in
