@@ -17,7 +17,7 @@ use Rattle.cdf_attrs.proofs.DroppedOne.{drops_one}
 use Rattle.cdf_attrs.proofs.DroppingFrom.{chain_left, keeps_taken}
 use Rattle.cdf_attrs.proofs.EntryChains.{members}
 use Rattle.cdf_attrs.proofs.EntryDeleted as deleted
-use Rattle.cdf_attrs.proofs.EntryTakenAt.{from_map, places_are}
+use Rattle.cdf_attrs.proofs.EntryTakenAt.{from_map, parts, places_are}
 use Rattle.cdf_attrs.proofs.GreatestNumber.{each_of}
 use Rattle.cdf_attrs.proofs.LoweredChain as lowered
 use Rattle.cdf_attrs.proofs.NumberGone.{none_in, number_gone, numbers_differ}
@@ -95,7 +95,7 @@ module _ {b : List ℕ} (good : Good b) (k : ℕ) (own : AttributeShape) (kind :
     lowers_some : {now : List ℕ} → length b ≤ image_limit → LowersNumbers b now kind own.adr es num → LowersHalf b k own kind num now
     lowers_some {now} short l =
         let r = from_map (λ (m : ℕ). number b m aedr_num) chain l.some.0 (subst (In l.some.0) numbers_are l.some.1.0) in
-        subst (λ (n : ℕ). LowersHalf b n own kind num now) (lowered.parts good of_own es is knows).count
+        subst (λ (n : ℕ). LowersHalf b n own kind num now) (parts of_own).count
         (lowers_half good short (lowered.lowers_chain good of_own es is knows short none l) (r.0, (r.1.0, subst (λ (n : ℕ). num < n) r.1.1 l.some.1.1)) (lowered.greatest_now good of_own es is knows short none l))
 
     lowers : {now : List ℕ} → length b ≤ image_limit → Lowers b now kind own.adr es num → LowersHalf b k own kind num now
@@ -116,9 +116,9 @@ module _ {b mid : List ℕ} {kind : EntryKind} {adr num : ℕ} {es : KnownEntrie
   taken_some i at taken =
       let of = removed.of_own good has es is knows num i at in
       let here = removed.own_taken good has es is knows num i at taken short in
-      subst (λ (n : ℕ). TakesHalf b n has.own kind num mid (with_chain has.own kind (left_of (slice_index es.places i) (chain_of has.own kind)))) (deleted.parts good of es is knows num i at).count
+      subst (λ (n : ℕ). TakesHalf b n has.own kind num mid (with_chain has.own kind (left_of (slice_index es.places i) (chain_of has.own kind)))) (parts of).count
       (step.taken_half good (deleted.q good of es is knows num i at here short) here.removed.gives num (deleted.of_old good of es is knows num i at) (deleted.counts good of es is knows num i at here short) short (deleted.long good of es is knows num i at here short)
-        (deleted.greatest good of es is knows num i at here short ∙ ap (λ (x : List (ℕ × Entry)). greatest_number (without num num x)) (sym (items_of b has.own kind))))
+      (deleted.greatest good of es is knows num i at here short ∙ ap (λ (x : List (ℕ × Entry)). greatest_number (without num num x)) (sym (items_of b has.own kind))))
 
   taken : {left : KnownEntries} → DropsNumber b mid kind adr es num left → Taken b has.number has.own kind num mid
   taken drops = elim drops [

@@ -1,6 +1,6 @@
 -- The command `del-entry`: what it is answered, and what is known of the attributes after it.
-use Rattle.std.proofs.Common.{◌≡◌, ℕ, zero, suc, ◌+◌, ◌^◌, ◌<◌, ◌≤◌, List, [], ◌∷◌, ◌++◌, length, Some, None, w32, refl, sym, ap, ap₂, subst, ◌∙◌, arith}
-use Rattle.cdf_attrs.proofs.Common.{slice_get_within, cast_unsigned, position, remove, slice_get, option_and_then, ◌==◌, slice_index, Done, Refused, Reason, NoSuchAttr, WrongScope, NoSuchEntry, Plain, DelEntry, EntryKind, Answer, Go, entries_of, with_attribute, with_entries, Attribute, Entry, image_limit, attribute_names, attribute_named, without, ByStep, entry_bytes, content, attribute_of, entry_of, number, integer4, size_at, adr_type, aedr_num, AttributeShape, adrs, shape, IsSound, In, Good, good_is_sound, Chain, Answers, chain_of, max_field, greatest_number, entries_chain, count_field, Follows, counted_in, members_of, refused, gone, EntryLives, nums, nums_live, entries_left, greatest_integer, greatest_same, LeavesChain, left_frees, left_members, max_lies, FindsChain, IsOfAttribute, IsRefusedFor, KnownEntries, Knows, KnowsEntries, IsEntryOf, IsGreatest, TakenAt, without_at, Cut, cut, got-middle}
+use Rattle.std.proofs.Common.{◌≡◌, ℕ, zero, suc, ◌+◌, ◌^◌, ◌<◌, ◌≤◌, List, [], ◌∷◌, length, Some, None, w32, refl, sym, ap, subst, ◌∙◌, arith}
+use Rattle.cdf_attrs.proofs.Common.{cast_unsigned, position, remove, slice_get, option_and_then, ◌==◌, slice_index, Done, Refused, Reason, NoSuchAttr, WrongScope, NoSuchEntry, Plain, DelEntry, EntryKind, Answer, Go, entries_of, with_attribute, with_entries, Attribute, Entry, image_limit, attribute_names, attribute_named, without, ByStep, entry_bytes, content, attribute_of, entry_of, number, integer4, size_at, adr_type, aedr_num, AttributeShape, adrs, shape, IsSound, In, Good, good_is_sound, Chain, Answers, chain_of, max_field, greatest_number, entries_chain, count_field, Follows, counted_in, members_of, refused, gone, EntryLives, nums, nums_live, entries_left, greatest_integer, greatest_same, LeavesChain, left_frees, left_members, max_lies, FindsChain, IsOfAttribute, IsRefusedFor, KnownEntries, Knows, KnowsEntries, IsEntryOf, IsGreatest, TakenAt, without_at}
 use Rattle.cdf_model.specs.declared.kinds.EntryKind.TheVariants as entries
 use Rattle.cdf_format.specs.Content.{entries_of as chain_items}
 use Rattle.cdf_edits.specs.Space.Chains.{without as left_of}
@@ -11,7 +11,7 @@ use Rattle.cdf_attrs.proofs.EntryCalls.{leaves}
 use Rattle.cdf_attrs.proofs.EntryChains.{counted, entries_differ, entry_lies, few_entries, members}
 use Rattle.cdf_attrs.proofs.EntryLeft as left
 use Rattle.cdf_attrs.proofs.EntrySteps.{no_attribute, wrong_scope, no_entry}
-use Rattle.cdf_attrs.proofs.EntryTakenAt.{left_count, left_small, map-remove, numbered_at, once, places_are, without_at_index}
+use Rattle.cdf_attrs.proofs.EntryTakenAt.{cut_is, left_count, left_small, map-remove, numbered_at, once, parts, places_are, without_at_index}
 use Rattle.cdf_attrs.proofs.GettingAnswers.{is_item, of_attribute}
 use Rattle.cdf_attrs.proofs.GreatestNumber.{greatest_fits, greatest_of_items}
 
@@ -37,9 +37,6 @@ got_index : (xs : List ℕ) (i : ℕ) → i < length xs → slice_get xs i ≡ S
 got_index [] i lt = absurd (omega arith)
 got_index (x ∷ xs) zero lt = refl
 got_index (x ∷ xs) (suc i) lt = got_index xs i (omega arith)
-
-some_same : (x a : AttributeShape) → Some x ≡ Some a → x ≡ a
-some_same x a e = cc e
 
 -- ---- fields
 
@@ -83,15 +80,6 @@ module _ {b : List ℕ} {chain : Chain} (good : Good b) (of : IsOfAttribute b ch
   pub of_old : number b place aedr_num ≡ num
   of_old = numbered.1
 
-  abbrev pub parts : Cut (shape b).attributes of.number
-  parts = cut (shape b).attributes of.number (slice_get_within (shape b).attributes of.number own of.stands)
-
-  own_is : parts.own ≡ own
-  own_is = some_same parts.own own (sym (ap₂ (λ (as_ : List AttributeShape) (k : ℕ). slice_get as_ k) parts.is (sym parts.count) ∙ got-middle parts.before parts.own parts.after) ∙ of.stands)
-
-  pub cut_is : (shape b).attributes ≡ parts.before ++ own ∷ parts.after
-  cut_is = parts.is ∙ ap (λ (a : AttributeShape). parts.before ++ a ∷ parts.after) own_is
-
   places_of : es.places ≡ chain_of own kind
   places_of = places_are good of es is knows ∙ members b good chain of
 
@@ -99,13 +87,13 @@ module _ {b : List ℕ} {chain : Chain} (good : Good b) (of : IsOfAttribute b ch
   member = subst (In place) places_of (index_in es.places i within)
 
   abbrev pub entry_there : IsEntryOf b kind own.adr place
-  entry_there = record { before = parts.before; own = own; after = parts.after; stands = cut_is; adr_is = refl; member = member }
+  entry_there = record { before = (parts of).before; own = own; after = (parts of).after; stands = cut_is of; adr_is = refl; member = member }
 
   module _ {now : List ℕ} (taken : TakenAt b now kind own.adr es i) (short : length b ≤ image_limit) where
     pub sound : IsSound b (shape b)
     sound = good_is_sound b good
 
-    abbrev pub q : LeavesChain b taken.removed.late kind parts.before own parts.after place
+    abbrev pub q : LeavesChain b taken.removed.late kind (parts of).before own (parts of).after place
     q = leaves (cast_unsigned w32 taken.count) (cast_unsigned w32 taken.greatest) sound entry_there taken.removed.removed taken.removed.count_written taken.removed.written
 
     left_places : remove es.places i ≡ left_of place (chain_of own kind)
@@ -171,12 +159,9 @@ module _ {b attr : List ℕ} {kind : EntryKind} {n : ℕ} {chain : Chain} (good 
   is_place : Some (slice_index es.places i) ≡ option_and_then (λ k. slice_get es.places k) (position (λ m. m == num) es.numbers)
   is_place = sym (ap (option_and_then (λ k. slice_get es.places k)) at ∙ got_index es.places i (within good (of_attribute found) es is knows num i at))
 
-  abbrev cut_at : Cut (shape b).attributes n
-  cut_at = parts good (of_attribute found) es is knows num i at
-
-  names : left.Names b attr kind num cut_at.before found.own (entry_of b (slice_index es.places i))
+  names : left.Names b attr kind num (parts (of_attribute found)).before found.own (entry_of b (slice_index es.places i))
   names = record {
-    found = subst (λ (k : ℕ). attribute_named (content b) attr ≡ Some (k, attribute_of b found.own)) (sym cut_at.count) found.named;
+    found = subst (λ (k : ℕ). attribute_named (content b) attr ≡ Some (k, attribute_of b found.own)) (sym (parts (of_attribute found)).count) found.named;
     scoped = found.in_scope;
     is_there = is_item good found es is knows num (Some (slice_index es.places i)) is_place;
   }

@@ -15,7 +15,6 @@ pub mod Composing
 pub mod DeletedAttribute
 pub mod EditActs
 pub mod EmptySet
-pub mod EntryBeside
 pub mod EntryFields
 pub mod EntryTakenStep
 pub mod NumbersFallStep

@@ -1,25 +1,28 @@
 -- An entry is taken out of one chain of an attribute and freed: the image is good, all beside the chain stands, and the acts before go on.
-use Rattle.std.proofs.Common.{◌≡◌, ◌≢◌, ℕ, ◌+◌, ◌≤◌, List, [], ◌∷◌, ◌++◌, length, eq-eqb, refl, sym, ap, subst, ◌∙◌, arith, inl, inr}
-use Rattle.cdf_edits.proofs.Common.{cases_eq, ne_eqb, EntryKind, entries_of, image_limit, without, next_field, next_of, attribute_of, integer4, number, size_at, type_at, aedr_num, gdr_type, uir_type, AttributeShape, HasShape, Shape, shape, IsSound, In, Good, size_kept, type_kept, linkable-in, linkable-type, good_is_sound, tile_lies, Stays, chain_of, entry_type, greatest_number, max_field, IsDropped, count_field, entries_chain, with_chain, Away, giving_marks, ActsFollow, Act, Gave, gave, members_of, Gives}
+use Rattle.std.proofs.Common.{◌≡◌, ◌≢◌, ℕ, ◌+◌, ◌≤◌, List, [], ◌∷◌, ◌++◌, length, true, eq-eqb, refl, sym, ap, subst, ◌∙◌, arith, inl, inr}
+use Rattle.cdf_edits.proofs.Common.{cases_eq, ne_eqb, Same, adr_type, field_marks, holder_type, linkable-long, type_in, unmarked, EntryKind, entries_of, image_limit, without, next_field, next_of, attribute_of, integer4, number, size_at, type_at, aedr_num, gdr_type, uir_type, AttributeShape, HasShape, Shape, shape, IsSound, In, Good, size_kept, type_kept, linkable-in, linkable-type, good_is_sound, tile_lies, Stays, chain_of, entry_type, greatest_number, max_field, IsDropped, count_field, entries_chain, with_chain, Away, giving_marks, ActsFollow, Act, Gave, gave, members_of, Gives}
 use Rattle.cdf_model.specs.declared.kinds.EntryKind.TheVariants as entries
 use Rattle.cdf_edits.specs.Space.Chains.{without as left_of}
 use Rattle.cdf_edits.proofs.Edits.ActsStill.{acts_still_by}
 use Rattle.cdf_edits.proofs.Edits.ActsThen.{acts_gave, was_listed}
 use Rattle.cdf_edits.proofs.Edits.ChainEdited.{EntryEdited, stays_more}
+use Rattle.cdf_edits.proofs.Edits.ChainEdits.{removed_keeps}
 use Rattle.cdf_edits.proofs.Edits.ChainEntries.{EntryLives, entries_left, nums_left}
 use Rattle.cdf_edits.proofs.Edits.ChainKept.{link_allowed}
 use Rattle.cdf_edits.proofs.Edits.ChainKinds.{chain_has}
 use Rattle.cdf_edits.proofs.Edits.ChainSpliced.{Rechains, attribute_now, entry_stays, there}
 use Rattle.cdf_edits.proofs.Edits.DropHalves.{TakesHalf, link_field, numbered}
-use Rattle.cdf_edits.proofs.Edits.EntryBeside.{beside_kept, kept_then}
-use Rattle.cdf_edits.proofs.Edits.EntryFields.{count_is}
+use Rattle.cdf_edits.proofs.Edits.ChainsOfShape.{has_chain, members_are}
+use Rattle.cdf_edits.proofs.Edits.Composing.{edit_then, same-then}
+use Rattle.cdf_edits.proofs.Edits.EntryFields.{count_is, of_shape}
+use Rattle.cdf_edits.proofs.Edits.RecordFrame.{kept}
 use Rattle.cdf_edits.proofs.Edits.FreedEntry.{Frees, all_marks, as_long_now, count_same, freed_behind, freed_rechains, freed_settled, freed_type, old_stands, other_kept as entry_kept, sound_late}
-use Rattle.cdf_edits.proofs.Edits.LeftEntry.{LeavesChain, as_long, edit, late_is, leaving, left_acts, left_end, left_frees, left_length, left_members, marks, old_ok, tests}
+use Rattle.cdf_edits.proofs.Edits.LeftEntry.{LeavesChain, as_long, edit, late_is, leaving, left_acts, left_end, left_frees, left_length, left_members, marks, old_ok, second, tests, third}
 use Rattle.cdf_edits.proofs.Edits.MarkLemmas.{Away-append, the_one, unmarked-away}
 use Rattle.cdf_edits.proofs.Edits.NumberedRecords.{one_numbered, stays_left}
 use Rattle.cdf_edits.proofs.Edits.OneChain.{counted_before, differ_before, end_before, good_chained, items_of, once_before, rules_live}
 use Rattle.cdf_edits.proofs.Edits.RechainedStands.{StandTests, chain_is, edited, kept_stays}
-use Rattle.cdf_edits.proofs.Frame.Meaning.{KeptButLink, late_size, late_type}
+use Rattle.cdf_edits.proofs.Frame.Meaning.{Kept, KeptButLink, late_size, late_type}
 use Rattle.cdf_edits.proofs.Space.UsedRecords.{apart}
 
 -- ---- the marks, by the kind
@@ -27,6 +30,14 @@ use Rattle.cdf_edits.proofs.Space.UsedRecords.{apart}
 taken_tests : (kind : EntryKind) (adr : ℕ) (members list : List ℕ) (old size : ℕ) → StandTests (leaving kind adr members ++ giving_marks list (entry_type kind) old size) kind
 taken_tests entries.Z adr members list old size = record { adr_within = refl; gdr_within = refl; uir_start = refl; uir_within = refl; r_max = refl; variables = refl }
 taken_tests kind adr members list old size = record { adr_within = refl; gdr_within = refl; uir_start = refl; uir_within = refl; r_max = refl; variables = refl }
+
+-- the holder of the chain is no member, and later edits leave the members
+no_holder : (kind : EntryKind) (adr : ℕ) → (type_in (entries_chain kind adr) ≢ holder_type (entries_chain kind adr)) × (unmarked (field_marks adr_type adr (count_field kind) ++ field_marks adr_type adr (max_field kind)) (entry_type kind) ≡ true)
+no_holder entries.Z adr = ((λ e. absurd cc), refl)
+no_holder kind adr = ((λ e. absurd cc), refl)
+
+kept_then : (b mid now : List ℕ) (m : ℕ) → Kept b mid m → size_at mid m ≡ size_at b m → Kept mid now m → Kept b now m
+kept_then b mid now m one size two = record { same = same-then b mid now m (m + size_at b m) one.same (subst (λ (n : ℕ). Same mid now m (m + n)) size two.same); inside = one.inside; long = one.long }
 
 -- ---- the image
 
@@ -83,6 +94,19 @@ module _ {b late now : List ℕ} {kind : EntryKind} {before : List AttributeShap
     ],
   )
 
+  -- ---- an entry that does not lead to the one that went
+
+  beside_kept : (m : ℕ) → In m chain → next_of b m ≢ old → Kept b late m
+  beside_kept m i out =
+      let c = entries_chain kind own.adr in
+      let has = (there sound r).1.0.have.0 in
+      let members : chain ≡ members_of b c = sym (members_are h (of_shape kind (shape b) own has)) in
+      let ok = (chain_has kind own has).linkable m i in
+      let one = removed_keeps b c sound q.holder (has_chain h (of_shape kind (shape b) own has)) q.removed (subst (In old) members q.member) (no_holder kind own.adr).0 m (subst (In m) members i) out in
+      let long = linkable-long b (shape b).records (entry_type kind) m ok in
+      let two = kept (edit_then (second sound q) (third sound q)) m (entry_type kind) (linkable-in b (shape b).records (entry_type kind) m ok) (type_kept b q.mid m one.same (omega arith) ∙ linkable-type b (shape b).records (entry_type kind) m ok) (no_holder kind own.adr).1 in
+      kept_then b q.mid late m one (size_kept b q.mid m one.same (omega arith)) two
+
   -- ---- its number is the one that the items have no more
 
   module _ (num : ℕ) (of_old : number b old aedr_num ≡ num) where
@@ -106,7 +130,7 @@ module _ {b late now : List ℕ} {kind : EntryKind} {before : List AttributeShap
           kept = elim (cases_eq (next_of b m) old) [
             | inl e ↦ subst (Stays b now m) (sym (links m e)) (link_allowed sound r m is live)
             | inr apart_ ↦
-                let one = beside_kept sound q m i apart_ in
+                let one = beside_kept m i apart_ in
                 let some = one.long in
                 let two = entry_kept sound f gives m is ne (type_kept b late m one.same one.long ∙ linkable-type b (shape b).records (entry_type kind) m ok) in
                 stays_more (link_field b num m) (kept_stays good r m is (kept_then b late now m one (size_kept b late m one.same (omega arith)) two)).0

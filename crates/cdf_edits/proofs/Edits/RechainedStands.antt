@@ -1,6 +1,6 @@
 -- One chain of entries of an attribute was edited, with marks that leave all else: all beside it stands.
 use Rattle.std.proofs.Common.{◌≡◌, ◌≢◌, ◌⊎◌, ℕ, zero, suc, ◌+◌, List, [], ◌∷◌, ◌++◌, length, true, Some, refl, sym, ap, subst, ◌∙◌, arith, inl, inr}
-use Rattle.cdf_edits.proofs.Common.{same_Some, cast_signed, w32, flat_map, slice_get, slice_set, DataSet, EntryKind, Kind, integer4, type_at, attribute_records, Field, aedr_num, gdr_r_max_rec, uir_next_uir, uir_prev_uir, adr_type, cdr_type, gdr_type, uir_type, AttributeShape, HasShape, Shape, shape, IsSound, In, Good, content, number, type_kept, is_a-in, is_a-type, linkable-in, linkable-type, good_is_sound, In-append_left, In-append_right, both, Only, Stays, shapes_of, space_fields, chain_fields, chain_of, with_chain, Away, Mark, all_unmarked, avoided, unmarked, variable_types, within}
+use Rattle.cdf_edits.proofs.Common.{length-append, set_at, same_Some, cast_signed, w32, flat_map, slice_get, slice_set, DataSet, EntryKind, Kind, integer4, type_at, attribute_records, Field, aedr_num, gdr_r_max_rec, uir_next_uir, uir_prev_uir, adr_type, cdr_type, gdr_type, uir_type, AttributeShape, HasShape, Shape, shape, IsSound, In, Good, content, number, type_kept, is_a-in, is_a-type, linkable-in, linkable-type, good_is_sound, In-append_left, In-append_right, both, Only, Stays, shapes_of, space_fields, chain_fields, chain_of, with_chain, Away, Mark, all_unmarked, avoided, unmarked, variable_types, within}
 use Rattle.cdf_model.specs.declared.kinds.EntryKind.TheVariants as entries
 use Rattle.cdf_model.specs.declared.kinds.Kind.TheVariants as kinds
 use Rattle.cdf_edits.proofs.Commands.KeptRecords.{keeps_stood}
@@ -22,16 +22,6 @@ use Rattle.cdf_edits.proofs.Edits.VariableKinds.{kind_in, kind_ours}
 use Rattle.cdf_edits.proofs.Frame.Meaning.{Kept}
 
 -- ---- lists in which one is another
-
-beside_got : {A : Type 0} (xs : List A) (x y : A) (ys : List A) (j : ℕ) → j ≢ length xs → slice_get (xs ++ x ∷ ys) j ≡ slice_get (xs ++ y ∷ ys) j
-beside_got [] x y ys zero ne = absurd (ne refl)
-beside_got [] x y ys (suc j) ne = refl
-beside_got (z ∷ xs) x y ys zero ne = refl
-beside_got (z ∷ xs) x y ys (suc j) ne = beside_got xs x y ys j (λ e. ne (ap suc e))
-
-beside_long : {A : Type 0} (xs : List A) (x y : A) (ys : List A) → length (xs ++ x ∷ ys) ≡ length (xs ++ y ∷ ys)
-beside_long [] x y ys = refl
-beside_long (z ∷ xs) x y ys = ap suc (beside_long xs x y ys)
 
 beside_in : (xs : List AttributeShape) (x : AttributeShape) (ys : List AttributeShape) (j : ℕ) (a : AttributeShape) (m : ℕ) → j ≢ length xs → slice_get (xs ++ x ∷ ys) j ≡ Some a → In m (attribute_records a) → In m (flat_map attribute_records xs) ⊎ In m (flat_map attribute_records ys)
 beside_in [] x ys zero a m ne at i = absurd (ne refl)
@@ -116,8 +106,8 @@ module _ {b now : List ℕ} {list : List ℕ} {marks : List Mark} {reborn : List
           records_are = same_records;
           gdr_is = ap (λ (x : Shape). x.gdr) (now_is sound r);
           variables_are = variables_stay;
-          attributes_kept = ap length attributes_now ∙ beside_long before own' own after ∙ ap length (sym r.was);
-          others = λ j ne. ap (λ (as_ : List AttributeShape). slice_get as_ j) attributes_now ∙ beside_got before own' own after j ne ∙ ap (λ (as_ : List AttributeShape). slice_get as_ j) (sym r.was);
+          attributes_kept = ap length attributes_now ∙ length-append before (own' ∷ after) ∙ sym (length-append before (own ∷ after)) ∙ ap length (sym r.was);
+          others = λ j ne. ap (λ (as_ : List AttributeShape). slice_get as_ j) (attributes_now ∙ sym (set_at before own after own' (length before) refl)) ∙ set_other (before ++ own ∷ after) (length before) j own' ne ∙ ap (λ (as_ : List AttributeShape). slice_get as_ j) (sym r.was);
           contents = λ j ne. ap (λ (d : DataSet). slice_get d.attributes j) replaced ∙ set_other (content b).attributes (length before) j _ ne;
           others_kept = others_stay;
           cdr_kept = keeps_away sound r.edit same_records 8 cdr_type (Only []) (is_a-in b s.records cdr_type 8 h.cdr_stands) (is_a-type b s.records cdr_type 8 h.cdr_stands) (unmarked-away marks cdr_type 8 (both (unmarked marks cdr_type) _ file).0);

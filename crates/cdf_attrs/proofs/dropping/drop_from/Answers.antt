@@ -32,7 +32,7 @@ drop_number-requires-clause-attribute g c =
 pub lower_entries-requires : goal.lower_entries-requires
 lower_entries-requires g c =
     let d = from.dropping c.args.kind c.requires.good c.requires.adr c.requires.short c.in_ok-scope.ensures.area.image c.in_ok-scope.ensures.scope (sym c.if-is_global.ensures) c.entries_of-kind.ensures c.entries_chain.ensures
-        c.in_ok-entries.ensures.area.image c.in_ok-entries.ensures.chain c.in_ok-entries.ensures.entries c.in_ok-left.ensures.drops c.in_ok-left.ensures.good c.in_ok-left.ensures.left in
+    c.in_ok-entries.ensures.area.image c.in_ok-entries.ensures.chain c.in_ok-entries.ensures.entries c.in_ok-left.ensures.drops c.in_ok-left.ensures.good c.in_ok-left.ensures.left in
     record { long = d.long; small = d.small; lie = d.lie; field = d.field }
 
 pub returns-clause-dropped : goal.returns-clause-dropped
