@@ -41,8 +41,7 @@ pub use Rattle.cdf_edits.proofs.Edits.ChainSpliced.{Rechains, entry_stays}
 pub use Rattle.cdf_edits.proofs.Edits.ChainsOfShape.{has_chain, members_are}
 pub use Rattle.cdf_edits.proofs.Edits.DeletedAttribute.{own}
 pub use Rattle.cdf_edits.proofs.Edits.DropHalves.{LowersHalf, TakesHalf, link_field, number_field, numbered}
-pub use Rattle.cdf_edits.proofs.Edits.DroppedSoFar.{DropsUpTo, attributes_of, member_in}
-pub use Rattle.cdf_edits.proofs.Edits.DropsOne.{DropsOne}
+pub use Rattle.cdf_edits.proofs.Edits.DropsOne.{DropsOne, DropsUpTo}
 pub use Rattle.cdf_edits.proofs.Edits.EntryFields.{count_is, max_lies, max_written, of_shape}
 pub use Rattle.cdf_edits.proofs.Edits.FallenEntries.{LowersChain}
 pub use Rattle.cdf_edits.proofs.Edits.FreedEntry.{Frees, all_marks, count_same, freed_bytes, freed_rechains, freed_settled, greatest_same, old_free, old_stands, sound_late}
@@ -52,8 +51,7 @@ pub use Rattle.cdf_edits.proofs.Edits.OneChain.{Chained, chain_follows, counted_
 pub use Rattle.cdf_edits.proofs.Edits.OwnedOnce.{IsSorted, owned_once_if, used_times}
 pub use Rattle.cdf_edits.proofs.Edits.OwnersKept.{all_keep, keeps_fields, stood}
 pub use Rattle.cdf_edits.proofs.Edits.Splice.{OwnRules, Splices, good_image_if, parts_there, shape_now, spliced}
-pub use Rattle.cdf_edits.proofs.Edits.StandsBut.{StandsBut}
-pub use Rattle.cdf_edits.proofs.Edits.StandsSame.{stands_same, stays_same}
+pub use Rattle.cdf_edits.proofs.Edits.StandsSame.{stands_same}
 pub use Rattle.cdf_edits.proofs.Edits.StepEdits.{fixed_long}
 pub use Rattle.cdf_edits.proofs.Edits.VariableFrame.{variables_in}
 pub use Rattle.cdf_edits.proofs.Space.ChainHeads.{cdr_room}

@@ -1,15 +1,15 @@
 -- What dropping from one attribute asks of its chain, and what it comes to.
-use Rattle.std.proofs.Common.{◌≡◌, ◌∙◌, ◌+◌, ◌≤◌, ℕ, List, [], ◌∷◌, All, length, Result, Ok, Err, Some, false, refl, sym, ap, subst, arith, inl, inr}
-use Rattle.cdf_attrs.proofs.Common.{cases_lt, lt-ltb, le-ltb, slice_get, OnOk, is_global, image_limit, signed_limit, attribute_names, Kind, Scope, EntryKind, entry_bytes, attribute_of, content, scope_of, LiesIn, number, adr_scope, AttributeShape, adrs, shape, In, Good, Chain, kind_of_entries, max_field, entries_chain, got-middle, stands_at, max_lies, good_is_sound, AllLie, DropsFrom, DropsNumber, IsScoped, KeepsAttributes, Lowers, LowersNumbers, lower_writes, IsOfAttribute, KnownEntries, KnowsEntries}
+use Rattle.std.proofs.Common.{◌≡◌, ◌∙◌, ◌+◌, ◌≤◌, ℕ, List, [], ◌∷◌, All, length, Some, false, refl, sym, ap, subst, arith, inl, inr}
+use Rattle.cdf_attrs.proofs.Common.{cases_lt, lt-ltb, le-ltb, slice_get, is_global, image_limit, signed_limit, attribute_names, Kind, Scope, EntryKind, entry_bytes, attribute_of, content, scope_of, LiesIn, number, adr_scope, AttributeShape, adrs, shape, In, Good, Chain, kind_of_entries, max_field, entries_chain, got-middle, stands_at, max_lies, good_is_sound, AllLie, DropsFrom, DropsNumber, IsScoped, KeepsAttributes, Lowers, LowersNumbers, lower_writes, IsOfAttribute, KnownEntries, KnowsEntries}
 use Rattle.cdf_model.specs.declared.kinds.Kind.TheVariants.{R, Z}
 use Rattle.cdf_edits.proofs.Edits.AttributeChains.{Stands}
-use Rattle.cdf_edits.proofs.Edits.FallenEntries.{as_long as as_long_lowered, rechains}
+use Rattle.cdf_edits.proofs.Edits.FallenEntries.{as_long as as_long_lowered, good_lowered, rechains}
 use Rattle.cdf_attrs.proofs.AttributeChain.{adr_inside}
 use Rattle.cdf_attrs.proofs.AttributeParts.{names_rechained, places_rechained}
-use Rattle.cdf_attrs.proofs.DroppedNumber.{adrs_now, long_now, names_now}
+use Rattle.cdf_attrs.proofs.DroppedNumber.{keeps_now}
 use Rattle.cdf_attrs.proofs.EntryChains.{entry_inside}
 use Rattle.cdf_attrs.proofs.EntryTakenAt.{all_from, as_long, places_are, small}
-use Rattle.cdf_attrs.proofs.LoweredChain.{good_now, lowers_chain}
+use Rattle.cdf_attrs.proofs.LoweredChain.{lowers_chain}
 use Rattle.cdf_attrs.proofs.NumberGone.{number_gone, numbers_differ}
 
 module _ (b : List ℕ) (adr : ℕ) (there : In adr (adrs (shape b))) where
@@ -28,13 +28,6 @@ module _ (b : List ℕ) (adr : ℕ) (there : In adr (adrs (shape b))) where
   pub scoped : (kind : Kind) → is_global (scope_of (number b adr adr_scope)) ≡ false → IsScoped b (kind_of_entries kind) adr
   scoped R e = record { number = length parts.fronts; own = parts.own; stands = stands; adr_is = parts.adr_is; in_scope = own_scope e }
   scoped Z e = record { number = length parts.fronts; own = parts.own; stands = stands; adr_is = parts.adr_is; in_scope = own_scope e }
-
--- the attribute stands where it stood when the entry of a number went
-pub there_after : {b now : List ℕ} {kind : EntryKind} {adr num : ℕ} {entries left : KnownEntries} → Good b → IsScoped b kind adr → entries.chain ≡ entries_chain kind adr → KnowsEntries b entries → length b ≤ image_limit → DropsNumber b now kind adr entries num left → In adr (adrs (shape b)) → In adr (adrs (shape now))
-there_after {adr = adr} {num = num} {entries = entries} good scoped is knows short drops there = elim drops [
-  | inl none ↦ subst (λ (x : List ℕ). In adr (adrs (shape x))) (sym none.stays) there
-  | inr takes ↦ subst (In adr) (sym (adrs_now good scoped entries is knows num takes.index takes.at takes.taken short)) there
-]
 
 pub chain_left : {b now : List ℕ} {kind : EntryKind} {adr num : ℕ} {entries left : KnownEntries} → entries.chain ≡ entries_chain kind adr → DropsNumber b now kind adr entries num left → left.chain ≡ entries_chain kind adr
 chain_left is drops = elim drops [
@@ -56,9 +49,6 @@ writes_lie b num (n ∷ ns) (p ∷ ps) all =
 
 -- what is asked of a chain whose numbers fall
 module _ {b : List ℕ} (good : Good b) (kind : EntryKind) (adr : ℕ) (there : In adr (adrs (shape b))) (es : KnownEntries) (is : es.chain ≡ entries_chain kind adr) (knows : KnowsEntries b es) where
-  pub numbers_long : length es.numbers ≡ length es.places
-  numbers_long = as_long good (of_attribute b adr there kind) es is knows
-
   pub numbers_small : All (λ n. n ≤ signed_limit) es.numbers
   numbers_small = all_from (λ n. n ≤ signed_limit) es.numbers (λ n i. let le = small good (of_attribute b adr there kind) es is knows n i in omega arith)
 
@@ -75,70 +65,39 @@ module _ {b : List ℕ} (good : Good b) (kind : EntryKind) (adr : ℕ) (there : 
   pub greatest_lies : LiesIn b adr (max_field kind)
   greatest_lies = let l = adr_inside b (shape b) (good_is_sound b good).has_shape adr there in let m = max_lies kind in omega arith
 
--- the image when the numbers fell
-pub good_lowered : {mid now : List ℕ} (good : Good mid) {kind : EntryKind} {adr num : ℕ} (there : In adr (adrs (shape mid))) (left : KnownEntries) → left.chain ≡ entries_chain kind adr → KnowsEntries mid left → length mid ≤ image_limit → (In num left.numbers → ⊥) → Lowers mid now kind adr left num → Good now
-unfolding of_attribute
-good_lowered {mid} {now} good {kind} {adr} {num} there left is knows short none lowers = elim lowers [
-  | inl rests ↦ subst Good (sym rests.1) good
-  | inr falls ↦ let of = of_attribute mid adr there kind in good_now good of left is knows short none (subst (λ (a : ℕ). LowersNumbers mid now kind a left num) (sym (parts mid adr there).adr_is) falls)
-]
-
-pub long_dropped : {b now : List ℕ} {kind : EntryKind} {adr num : ℕ} {entries left : KnownEntries} → Good b → IsScoped b kind adr → entries.chain ≡ entries_chain kind adr → KnowsEntries b entries → length b ≤ image_limit → DropsNumber b now kind adr entries num left → length now ≡ length b
-long_dropped {num = num} {entries = entries} good scoped is knows short drops = elim drops [
-  | inl none ↦ ap (λ (x : List ℕ). length x) none.stays
-  | inr takes ↦ long_now good scoped entries is knows num takes.index takes.at takes.taken short
-]
-
 -- ---- the attributes beside their entries
 
 pub keeps_same : {b now : List ℕ} → now ≡ b → KeepsAttributes b now
 keeps_same same = record { names = ap (λ (x : List ℕ). attribute_names (content x)) same; places = ap (λ (x : List ℕ). adrs (shape x)) same; long = ap (λ (x : List ℕ). length x) same }
 
-keeps_lowered : {mid now : List ℕ} (good : Good mid) {kind : EntryKind} {adr num : ℕ} (there : In adr (adrs (shape mid))) (left : KnownEntries) → left.chain ≡ entries_chain kind adr → KnowsEntries mid left → length mid ≤ image_limit → (In num left.numbers → ⊥) → Lowers mid now kind adr left num → KeepsAttributes mid now
+pub keeps_taken : {b now : List ℕ} {kind : EntryKind} {adr num : ℕ} {entries left : KnownEntries} → Good b → IsScoped b kind adr → entries.chain ≡ entries_chain kind adr → KnowsEntries b entries → length b ≤ image_limit → DropsNumber b now kind adr entries num left → KeepsAttributes b now
+keeps_taken {num = num} {entries = entries} good scoped is knows short drops = elim drops [
+  | inl none ↦ keeps_same none.stays
+  | inr takes ↦ keeps_now good scoped entries is knows num takes.index takes.at takes.taken short
+]
+
+-- the image when the numbers fell
+lowered : {mid now : List ℕ} (good : Good mid) {kind : EntryKind} {adr num : ℕ} (there : In adr (adrs (shape mid))) (left : KnownEntries) → left.chain ≡ entries_chain kind adr → KnowsEntries mid left → length mid ≤ image_limit → (In num left.numbers → ⊥) → Lowers mid now kind adr left num → Good now × KeepsAttributes mid now
 unfolding of_attribute
-keeps_lowered {mid} {now} good {kind} {adr} {num} there left is knows short none lowers = elim lowers [
-  | inl rests ↦ keeps_same rests.1
+lowered {mid} {now} good {kind} {adr} {num} there left is knows short none lowers = elim lowers [
+  | inl rests ↦ (subst Good (sym rests.1) good, keeps_same rests.1)
   | inr falls ↦
       let of = of_attribute mid adr there kind in
       let q = lowers_chain good of left is knows short none (subst (λ (a : ℕ). LowersNumbers mid now kind a left num) (sym (parts mid adr there).adr_is) falls) in
       let sound = good_is_sound mid good in
-      record { names = names_rechained sound (rechains good short q); places = places_rechained sound (rechains good short q); long = as_long_lowered good short q }
-]
-
-keeps_taken : {b now : List ℕ} {kind : EntryKind} {adr num : ℕ} {entries left : KnownEntries} → Good b → IsScoped b kind adr → entries.chain ≡ entries_chain kind adr → KnowsEntries b entries → length b ≤ image_limit → DropsNumber b now kind adr entries num left → KeepsAttributes b now
-keeps_taken {num = num} {entries = entries} good scoped is knows short drops = elim drops [
-  | inl none ↦ keeps_same none.stays
-  | inr takes ↦ record {
-    names = names_now good scoped entries is knows num takes.index takes.at takes.taken short;
-    places = adrs_now good scoped entries is knows num takes.index takes.at takes.taken short;
-    long = long_now good scoped entries is knows num takes.index takes.at takes.taken short;
-  }
+      (good_lowered good short q, record { names = names_rechained sound (rechains good short q); places = places_rechained sound (rechains good short q); long = as_long_lowered good short q })
 ]
 
 -- ---- what all of it comes to
 
 -- the entry of a number was taken out of the chain, and these are left
 pub record Dropping (b mid : List ℕ) (kind : Kind) (k : EntryKind) (adr num : ℕ) (left : KnownEntries) : Type 0 where
+  pub long : length left.numbers ≡ length left.places
   pub small : All (λ n. n ≤ signed_limit) left.numbers
   pub lie : AllLie mid (lower_writes num left.numbers left.places)
   pub field : LiesIn mid adr (max_field k)
-  pub drops : (now : List ℕ) → Lowers mid now k adr left num → DropsFrom b now (kind_of_entries kind) adr num
-  pub good : (now : List ℕ) → Lowers mid now k adr left num → Good now
-  pub keeps : (now : List ℕ) → Lowers mid now k adr left num → KeepsAttributes b now
-
--- where the numbers fell, and where they could not
-module _ {X E : Type 0} {b mid : List ℕ} {kind : Kind} {k : EntryKind} {adr num : ℕ} {left : KnownEntries} (d : Dropping b mid kind k adr num left) (now : List ℕ) where
-  pub drops_on : (r : Result X E) → OnOk r (Lowers mid now k adr left num) → OnOk r (is_global (scope_of (number b adr adr_scope)) ≡ false → DropsFrom b now (kind_of_entries kind) adr num)
-  drops_on (Ok x) lowers = λ own. d.drops now lowers
-  drops_on (Err e) lowers = tt
-
-  pub good_on : (r : Result X E) → OnOk r (Lowers mid now k adr left num) → OnOk r (Good now)
-  good_on (Ok x) lowers = d.good now lowers
-  good_on (Err e) lowers = tt
-
-  pub keeps_on : (r : Result X E) → OnOk r (Lowers mid now k adr left num) → OnOk r (KeepsAttributes b now)
-  keeps_on (Ok x) lowers = d.keeps now lowers
-  keeps_on (Err e) lowers = tt
+  pub drops : (now : List ℕ) → Lowers mid now k adr left num → is_global (scope_of (number b adr adr_scope)) ≡ false → DropsFrom b now (kind_of_entries kind) adr num
+  pub keeps : (now : List ℕ) → Lowers mid now k adr left num → Good now × KeepsAttributes b now
 
 module _ {b read loaded mid : List ℕ} (kind : Kind) {k : EntryKind} {adr num : ℕ} {chain : Chain} {scope : Scope} {entries left : KnownEntries} (good : Good b) (there : In adr (adrs (shape b))) (short : length b ≤ image_limit)
     (same : read ≡ b) (scope_is : scope ≡ scope_of (number b adr adr_scope)) (own : is_global scope ≡ false) (k_is : k ≡ kind_of_entries kind) (chain_is : chain ≡ entries_chain k adr)
@@ -155,8 +114,11 @@ module _ {b read loaded mid : List ℕ} (kind : Kind) {k : EntryKind} {adr num :
   dropped : DropsNumber b mid k adr entries num left
   dropped = subst (λ (x : List ℕ). DropsNumber x mid k adr entries num left) (same_loaded ∙ same) drops
 
+  taken : KeepsAttributes b mid
+  taken = keeps_taken good of_kind of_chain known short dropped
+
   there_mid : In adr (adrs (shape mid))
-  there_mid = there_after good of_kind of_chain known short dropped there
+  there_mid = subst (In adr) (sym taken.places) there
 
   left_is : left.chain ≡ entries_chain k adr
   left_is = chain_left of_chain dropped
@@ -166,13 +128,13 @@ module _ {b read loaded mid : List ℕ} (kind : Kind) {k : EntryKind} {adr num :
 
   pub dropping : Dropping b mid kind k adr num left
   dropping = record {
+    long = as_long good_mid (of_attribute mid adr there_mid k) left left_is left_knows;
     small = numbers_small good_mid k adr there_mid left left_is left_knows;
     lie = entries_lie good_mid k adr there_mid left left_is left_knows num;
     field = greatest_lies good_mid k adr there_mid left left_is left_knows;
-    drops = λ now lowers. subst (λ (x : EntryKind). DropsFrom b now x adr num) k_is (record { entries = entries; chain_is = of_chain; known = known; mid = mid; left = left; drops = dropped; good = good_mid; left_known = left_knows; lowers = lowers });
-    good = λ now lowers. good_lowered good_mid there_mid left left_is left_knows (let l = long_dropped good of_kind of_chain known short dropped in omega arith) none_left lowers;
+    drops = λ now lowers own. subst (λ (x : EntryKind). DropsFrom b now x adr num) k_is (record { entries = entries; chain_is = of_chain; known = known; mid = mid; left = left; drops = dropped; good = good_mid; left_known = left_knows; lowers = lowers });
     keeps = λ now lowers.
-        let one = keeps_taken good of_kind of_chain known short dropped in
-        let two = keeps_lowered good_mid there_mid left left_is left_knows (let l = one.long in omega arith) none_left lowers in
-        record { names = two.names ∙ one.names; places = two.places ∙ one.places; long = two.long ∙ one.long };
+        let long = taken.long in
+        let r = lowered good_mid there_mid left left_is left_knows (omega arith) none_left lowers in
+        (r.0, record { names = r.1.names ∙ taken.names; places = r.1.places ∙ taken.places; long = r.1.long ∙ taken.long });
   }

@@ -2,6 +2,7 @@
 use Rattle.std.proofs.Common.{◌≡◌, ℕ, ℤ, pos, zero, suc, ◌+◌, ◌-◌, ◌<◌, ◌≤◌, List, [], ◌∷◌, ◌++◌, All, Contains, drop, get_or, length, map, refl, sym, ap, ap₂, subst, ◌∙◌, append_assoc, arith, inl, inr}
 use Rattle.cdf_attrs.proofs.Common.{cases_lt, lt-ltb, le-ltb, signed_limit, AllLie, lower_writes, IsGreatest, fallen, length-with_field, LiesIn, with_field, In, Write, with_writes, write, Field, aedr_num}
 use Rattle.cdf_attrs.proofs.DeletingSteps.{lie_still}
+use Rattle.cdf_attrs.proofs.EntryTakenAt.{from_map}
 use Rattle.cdf_attrs.proofs.GreatestNumber.{each_of, is_member}
 
 pub lower_falls : (num : ℕ) (ns ps : List ℕ) (i : ℕ) → i < length ns → length ns ≡ length ps → num < get_or ns i 0 → lower_writes num (drop i ns) (drop i ps) ≡ write (get_or ps i 0) aedr_num (get_or ns i 0 - 1) ∷ lower_writes num (drop (suc i) ns) (drop (suc i) ps)
@@ -41,9 +42,7 @@ fallen_most num m n lt le = elim (cases_lt num n) [
 ]
 
 fallen_all : (num m : ℕ) (ns : List ℕ) → num < m → ((n : ℕ) → In n ns → n ≤ m) → (k : ℕ) → In k (map (fallen num) ns) → k ≤ m - 1
-fallen_all num m [] lt all k i = absurd i
-fallen_all num m (n ∷ ns) lt all k (inl e) = subst (λ (x : ℕ). x ≤ m - 1) (sym e) (fallen_most num m n lt (all n (inl refl)))
-fallen_all num m (n ∷ ns) lt all k (inr i) = fallen_all num m ns lt (λ x j. all x (inr j)) k i
+fallen_all num m ns lt all k i = let r = from_map (fallen num) ns k i in subst (λ (x : ℕ). x ≤ m - 1) (sym r.1.1) (fallen_most num m r.0 lt (all r.0 r.1.0))
 
 fallen_in : (num m : ℕ) (ns : List ℕ) → num < m → In m ns → In (m - 1) (map (fallen num) ns)
 fallen_in num m [] lt i = absurd i

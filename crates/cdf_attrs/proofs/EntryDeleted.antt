@@ -1,17 +1,18 @@
 -- The command `del-entry`: what it is answered, and what is known of the attributes after it.
-use Rattle.std.proofs.Common.{◌≡◌, ℕ, zero, suc, ◌+◌, ◌^◌, ◌<◌, ◌≤◌, List, [], ◌∷◌, ◌++◌, length, Some, None, w32, refl, sym, ap, ap₂, subst, ◌∙◌, arith}
-use Rattle.cdf_attrs.proofs.Common.{slice_get_within, cast_unsigned, position, remove, slice_get, option_and_then, ◌==◌, slice_index, Done, Refused, Reason, NoSuchAttr, WrongScope, NoSuchEntry, Plain, DelEntry, EntryKind, Answer, Go, entries_of, with_attribute, with_entries, Attribute, Entry, image_limit, attribute_names, attribute_named, without, ByStep, entry_bytes, content, attribute_of, entry_of, number, integer4, size_at, adr_type, aedr_num, AttributeShape, adrs, shape, IsSound, In, Good, good_is_sound, Chain, Answers, chain_of, max_field, greatest_number, entries_chain, count_field, Follows, counted_in, members_of, refused, gone, EntryLives, nums, nums_live, entries_left, greatest_integer, greatest_same, LeavesChain, left_frees, left_members, max_lies, FindsChain, IsRefusedFor, KnownEntries, Knows, KnowsEntries, IsEntryOf, IsGreatest, TakenAt, without_at, Cut, cut, got-middle}
+use Rattle.std.proofs.Common.{◌≡◌, ℕ, zero, suc, ◌+◌, ◌^◌, ◌<◌, ◌≤◌, List, [], ◌∷◌, length, Some, None, w32, refl, sym, ap, subst, ◌∙◌, arith}
+use Rattle.cdf_attrs.proofs.Common.{cast_unsigned, position, remove, slice_get, option_and_then, ◌==◌, slice_index, Done, Refused, Reason, NoSuchAttr, WrongScope, NoSuchEntry, Plain, DelEntry, EntryKind, Answer, Go, entries_of, with_attribute, with_entries, Attribute, Entry, image_limit, attribute_names, attribute_named, without, ByStep, entry_bytes, content, attribute_of, entry_of, number, integer4, size_at, adr_type, aedr_num, AttributeShape, adrs, shape, IsSound, In, Good, good_is_sound, Chain, Answers, chain_of, max_field, greatest_number, entries_chain, count_field, Follows, counted_in, members_of, refused, gone, EntryLives, nums, nums_live, entries_left, greatest_integer, greatest_same, LeavesChain, left_frees, left_members, max_lies, FindsChain, IsOfAttribute, IsRefusedFor, KnownEntries, Knows, KnowsEntries, IsEntryOf, IsGreatest, TakenAt, without_at}
 use Rattle.cdf_model.specs.declared.kinds.EntryKind.TheVariants as entries
 use Rattle.cdf_format.specs.Content.{entries_of as chain_items}
 use Rattle.cdf_edits.specs.Space.Chains.{without as left_of}
 use Rattle.cdf_edits.proofs.Edits.FieldWritten.{written_reads}
 use Rattle.cdf_edits.proofs.Edits.LeftEntry.{count_now, left_greatest, of_count}
+use Rattle.cdf_attrs.proofs.AttributeChain.{index_in}
 use Rattle.cdf_attrs.proofs.EntryCalls.{leaves}
 use Rattle.cdf_attrs.proofs.EntryChains.{counted, entries_differ, entry_lies, few_entries, members}
 use Rattle.cdf_attrs.proofs.EntryLeft as left
 use Rattle.cdf_attrs.proofs.EntrySteps.{no_attribute, wrong_scope, no_entry}
-use Rattle.cdf_attrs.proofs.EntryTakenAt.{left_count, left_small, map-remove, numbered_at, once, places_are, without_at_index}
-use Rattle.cdf_attrs.proofs.GettingAnswers.{found_in, is_entry_at, is_item, of_attribute}
+use Rattle.cdf_attrs.proofs.EntryTakenAt.{cut_is, left_count, left_small, map-remove, numbered_at, once, parts, places_are, without_at_index}
+use Rattle.cdf_attrs.proofs.GettingAnswers.{is_item, of_attribute}
 use Rattle.cdf_attrs.proofs.GreatestNumber.{greatest_fits, greatest_of_items}
 
 -- ---- the refusals
@@ -37,9 +38,6 @@ got_index [] i lt = absurd (omega arith)
 got_index (x ∷ xs) zero lt = refl
 got_index (x ∷ xs) (suc i) lt = got_index xs i (omega arith)
 
-some_same : (x a : AttributeShape) → Some x ≡ Some a → x ≡ a
-some_same x a e = cc e
-
 -- ---- fields
 
 count_in : (b : List ℕ) (kind : EntryKind) (adr : ℕ) → counted_in b (entries_chain kind adr) ≡ number b adr (count_field kind)
@@ -61,118 +59,118 @@ module _ (b x : List ℕ) (same : x ≡ b) {kind : EntryKind} {adr own : ℕ} (a
   pub taken_in : {now : List ℕ} {es : KnownEntries} {i : ℕ} → TakenAt x now kind adr es i → TakenAt b now kind own es i
   taken_in {now = now} {es = es} {i = i} taken = subst (λ (y : List ℕ). TakenAt y now kind own es i) same (subst (λ (a : ℕ). TakenAt x now kind a es i) at taken)
 
--- ---- the entry that is deleted
+-- ---- the entry that goes
 
-module _ {b attr : List ℕ} {kind : EntryKind} {n : ℕ} {chain : Chain} (good : Good b) (found : FindsChain b attr kind n chain) (es : KnownEntries) (of : es.chain ≡ chain) (knows : KnowsEntries b es) (num i : ℕ) (at : position (λ m. m == num) es.numbers ≡ Some i) where
+module _ {b : List ℕ} {chain : Chain} (good : Good b) (of : IsOfAttribute b chain) (es : KnownEntries) (is : es.chain ≡ chain) (knows : KnowsEntries b es) (num i : ℕ) (at : position (λ m. m == num) es.numbers ≡ Some i) where
+  abbrev kind : EntryKind
+  kind = of.kind
+
   abbrev own : AttributeShape
-  own = found.own
+  own = of.own
 
   abbrev place : ℕ
   place = slice_index es.places i
 
   numbered : (i < length es.places) × (number b place aedr_num ≡ num)
-  numbered = numbered_at good (of_attribute found) es of knows num i at
+  numbered = numbered_at good of es is knows num i at
 
   pub within : i < length es.places
   within = numbered.0
 
-  is_place : Some place ≡ option_and_then (λ k. slice_get es.places k) (position (λ m. m == num) es.numbers)
-  is_place = sym (ap (option_and_then (λ k. slice_get es.places k)) at ∙ got_index es.places i within)
-
   pub of_old : number b place aedr_num ≡ num
   of_old = numbered.1
 
-  abbrev pub parts : Cut (shape b).attributes n
-  parts = cut (shape b).attributes n (slice_get_within (shape b).attributes n found.own found.stands)
+  places_of : es.places ≡ chain_of own kind
+  places_of = places_are good of es is knows ∙ members b good chain of
 
-  own_is : parts.own ≡ found.own
-  own_is = some_same parts.own found.own (sym (ap₂ (λ (as_ : List AttributeShape) (k : ℕ). slice_get as_ k) parts.is (sym parts.count) ∙ got-middle parts.before parts.own parts.after) ∙ found.stands)
+  pub member : In place (chain_of own kind)
+  member = subst (In place) places_of (index_in es.places i within)
 
-  pub cut_is : (shape b).attributes ≡ parts.before ++ found.own ∷ parts.after
-  cut_is = parts.is ∙ ap (λ (a : AttributeShape). parts.before ++ a ∷ parts.after) own_is
+  abbrev pub entry_there : IsEntryOf b kind own.adr place
+  entry_there = record { before = (parts of).before; own = own; after = (parts of).after; stands = cut_is of; adr_is = refl; member = member }
 
-  pub member : In place (chain_of found.own kind)
-  member = found_in (λ aedr. number b aedr aedr_num == num) (chain_of found.own kind) place (sym (is_entry_at good found es of knows num (Some place) is_place))
-
-  abbrev pub entry_there : IsEntryOf b kind found.own.adr place
-  entry_there = record { before = parts.before; own = found.own; after = parts.after; stands = cut_is; adr_is = refl; member = member }
-
-  names : left.Names b attr kind num parts.before found.own (entry_of b place)
-  names = record {
-    found = subst (λ (k : ℕ). attribute_named (content b) attr ≡ Some (k, attribute_of b found.own)) (sym parts.count) found.named;
-    scoped = found.in_scope;
-    is_there = is_item good found es of knows num (Some place) is_place;
-  }
-
-  module _ {now : List ℕ} (taken : TakenAt b now kind found.own.adr es i) (short : length b ≤ image_limit) where
+  module _ {now : List ℕ} (taken : TakenAt b now kind own.adr es i) (short : length b ≤ image_limit) where
     pub sound : IsSound b (shape b)
     sound = good_is_sound b good
 
-    abbrev pub q : LeavesChain b taken.removed.late kind parts.before found.own parts.after place
+    abbrev pub q : LeavesChain b taken.removed.late kind (parts of).before own (parts of).after place
     q = leaves (cast_unsigned w32 taken.count) (cast_unsigned w32 taken.greatest) sound entry_there taken.removed.removed taken.removed.count_written taken.removed.written
 
-    places_of : es.places ≡ chain_of found.own kind
-    places_of = places_are good (of_attribute found) es of knows ∙ members b good chain (of_attribute found)
+    left_places : remove es.places i ≡ left_of place (chain_of own kind)
+    left_places = sym (without_at_index es.places i within (once good of es is knows)) ∙ ap (left_of place) places_of
 
-    left_places : remove es.places i ≡ left_of place (chain_of found.own kind)
-    left_places = sym (without_at_index es.places i within (once good (of_attribute found) es of knows)) ∙ ap (left_of place) places_of
-
-    left_numbers : remove es.numbers i ≡ nums b (left_of place (chain_of found.own kind))
+    left_numbers : remove es.numbers i ≡ nums b (left_of place (chain_of own kind))
     left_numbers = ap (λ (xs : List ℕ). remove xs i) knows.numbers_are ∙ map-remove (λ aedr. number b aedr aedr_num) es.places i within ∙ ap (nums b) left_places
 
-    pub counts : number taken.removed.late found.own.adr (count_field kind) + 1 ≡ number b found.own.adr (count_field kind)
+    pub counts : number taken.removed.late own.adr (count_field kind) + 1 ≡ number b own.adr (count_field kind)
     counts =
-        let few = few_entries b good chain (of_attribute found) in
-        let long = ap (λ (xs : List ℕ). length xs) (places_are good (of_attribute found) es of knows) in
-        let less = left_count good (of_attribute found) es of knows i within in
-        let all = counted b good chain (of_attribute found) in
-        let one : counted_in b chain ≡ number b found.own.adr (count_field kind) = ap (counted_in b) found.chain_is ∙ count_in b kind found.own.adr in
+        let few = few_entries b good chain of in
+        let long = ap (λ (xs : List ℕ). length xs) (places_are good of es is knows) in
+        let less = left_count good of es is knows i within in
+        let all = counted b good chain of in
+        let one : counted_in b chain ≡ number b own.adr (count_field kind) = ap (counted_in b) of.chain_is ∙ count_in b kind own.adr in
         let fits : cast_unsigned w32 taken.count < 2 ^ 32 = subst (λ (k : ℕ). k < 2 ^ 32) (sym taken.count_is) (omega arith) in
-        let reads = written_reads q.mid q.counted (shape b).records found.own.adr adr_type (count_field kind) q.count (of_count sound q) q.count_written (count_small kind (cast_unsigned w32 taken.count) fits) in
-        sums (number taken.removed.late found.own.adr (count_field kind)) (length (remove es.numbers i)) (length es.places) (length (members_of b chain)) (counted_in b chain) (number b found.own.adr (count_field kind)) (count_now sound q ∙ reads ∙ taken.count_is) less long all one
+        let reads = written_reads q.mid q.counted (shape b).records own.adr adr_type (count_field kind) q.count (of_count sound q) q.count_written (count_small kind (cast_unsigned w32 taken.count) fits) in
+        sums (number taken.removed.late own.adr (count_field kind)) (length (remove es.numbers i)) (length es.places) (length (members_of b chain)) (counted_in b chain) (number b own.adr (count_field kind)) (count_now sound q ∙ reads ∙ taken.count_is) less long all one
       where
         sums : (l r p m c f : ℕ) → l ≡ r → r + 1 ≡ p → p ≡ m → c ≡ m → c ≡ f → l + 1 ≡ f
         sums l r p m c f x y z t u = omega arith
 
     pub long : 28 ≤ size_at b place
-    long = reach (entry_bytes b place) (size_at b place) (entry_lies b good chain (of_attribute found) place (subst (In place) (sym (members b good chain (of_attribute found))) member))
+    long = reach (entry_bytes b place) (size_at b place) (entry_lies b good chain of place (subst (In place) (sym (members b good chain of)) member))
       where
         reach : (k size : ℕ) → 56 + k ≤ size → 28 ≤ size
         reach k size fits = omega arith
 
-    same_lives : (m : ℕ) → In m (chain_of found.own kind) → EntryLives b b m
-    same_lives m j = record { attribute = refl; num = refl; meant = refl; valued = refl; fits = entry_lies b good chain (of_attribute found) m (subst (In m) (sym (members b good chain (of_attribute found))) j) }
+    same_lives : (m : ℕ) → In m (chain_of own kind) → EntryLives b b m
+    same_lives m j = record { attribute = refl; num = refl; meant = refl; valued = refl; fits = entry_lies b good chain of m (subst (In m) (sym (members b good chain of)) j) }
 
-    pub greatest : integer4 now found.own.adr (max_field kind) ≡ greatest_number (without num num (chain_items b (chain_of found.own kind)))
+    pub greatest : integer4 now own.adr (max_field kind) ≡ greatest_number (without num num (chain_items b (chain_of own kind)))
     greatest =
-        let fits = greatest_fits (remove es.numbers i) taken.greatest (left_small good (of_attribute found) es of knows i within) taken.greatest_is in
-        let stays = greatest_integer kind taken.removed.late now found.own.adr (greatest_same sound (left_frees sound q) taken.removed.gives (max_lies kind).1) in
+        let fits = greatest_fits (remove es.numbers i) taken.greatest (left_small good of es is knows i within) taken.greatest_is in
+        let stays = greatest_integer kind taken.removed.late now own.adr (greatest_same sound (left_frees sound q) taken.removed.gives (max_lies kind).1) in
         let written = left_greatest sound q taken.greatest fits refl in
-        let items = entries_left b b place num of_old (chain_of found.own kind) (entries_differ b good chain (of_attribute found)) member (λ m j ne. same_lives m j) in
-        stays ∙ written ∙ greatest_of_items b (left_of place (chain_of found.own kind)) taken.greatest (subst (λ (xs : List ℕ). IsGreatest xs taken.greatest) left_numbers taken.greatest_is) ∙ ap greatest_number items
-
-    pub follow : Follows b (DelEntry attr kind num) now
-    follow = left.left_follow good names q taken.removed.gives of_old long counts greatest short
-
-    pub is_deleted : (limit : ℕ) → length b ≤ limit → Answers limit b (DelEntry attr kind num) (Done Plain) now
-    is_deleted limit fits = gone limit b (DelEntry attr kind num) _ Plain now (ap ByStep (left.del_goes names)) (omega arith) follow
+        let items = entries_left b b place num of_old (chain_of own kind) (entries_differ b good chain of) member (λ m j ne. same_lives m j) in
+        stays ∙ written ∙ greatest_of_items b (left_of place (chain_of own kind)) taken.greatest (subst (λ (xs : List ℕ). IsGreatest xs taken.greatest) left_numbers taken.greatest_is) ∙ ap greatest_number items
 
     -- ---- what is known after it
 
     pub left_known : KnowsEntries now (without_at es i)
     left_known = record {
-      places_are = left_places ∙ sym (left.members_left good names q taken.removed.gives of_old long counts greatest short) ∙ ap (members_of now) (sym (of ∙ found.chain_is));
-      numbers_are = left_numbers ∙ sym (nums_live b now (left_of place (chain_of found.own kind)) live) ∙ ap (nums now) (sym left_places);
+      places_are = left_places ∙ sym (left.members_left good q taken.removed.gives) ∙ ap (members_of now) (sym (is ∙ of.chain_is));
+      numbers_are = left_numbers ∙ sym (nums_live b now (left_of place (chain_of own kind)) live) ∙ ap (nums now) (sym left_places);
     }
       where
-        live : (m : ℕ) → In m (left_of place (chain_of found.own kind)) → EntryLives b now m
+        live : (m : ℕ) → In m (left_of place (chain_of own kind)) → EntryLives b now m
         live m j =
-            let x = left_members place m (chain_of found.own kind) (left.once good names q taken.removed.gives of_old long counts greatest short) j in
-            left.others good names q taken.removed.gives of_old long counts greatest short m x.0 x.1
+            let x = left_members place m (chain_of own kind) (left.once good q taken.removed.gives) j in
+            left.others good q taken.removed.gives m x.0 x.1
 
     pub known_after : (table : List (List ℕ)) (places : List ℕ) (rest : KnownEntries) → table ≡ attribute_names (content b) → places ≡ adrs (shape b) → rest ≡ without_at es i → Knows now (record { names = table; places = places; entries = Some rest })
-    known_after table places rest named placed is = record {
-      names_are = named ∙ sym (left.names_left good names q taken.removed.gives of_old long counts greatest short);
-      places_are = placed ∙ sym (left.places_left good names q taken.removed.gives of_old long counts greatest short);
-      entries_are = λ e same. let other : rest ≡ e = cc in subst (KnowsEntries now) (sym is ∙ other) left_known;
+    known_after table places rest named placed is_rest = record {
+      names_are = named ∙ sym (left.names_left good q taken.removed.gives);
+      places_are = placed ∙ sym (left.places_left good q taken.removed.gives);
+      entries_are = λ e same. let other : rest ≡ e = cc in subst (KnowsEntries now) (sym is_rest ∙ other) left_known;
     }
+
+-- ---- the command
+
+module _ {b attr : List ℕ} {kind : EntryKind} {n : ℕ} {chain : Chain} (good : Good b) (found : FindsChain b attr kind n chain) (es : KnownEntries) (is : es.chain ≡ chain) (knows : KnowsEntries b es) (num i : ℕ) (at : position (λ m. m == num) es.numbers ≡ Some i) where
+  is_place : Some (slice_index es.places i) ≡ option_and_then (λ k. slice_get es.places k) (position (λ m. m == num) es.numbers)
+  is_place = sym (ap (option_and_then (λ k. slice_get es.places k)) at ∙ got_index es.places i (within good (of_attribute found) es is knows num i at))
+
+  names : left.Names b attr kind num (parts (of_attribute found)).before found.own (entry_of b (slice_index es.places i))
+  names = record {
+    found = subst (λ (k : ℕ). attribute_named (content b) attr ≡ Some (k, attribute_of b found.own)) (sym (parts (of_attribute found)).count) found.named;
+    scoped = found.in_scope;
+    is_there = is_item good found es is knows num (Some (slice_index es.places i)) is_place;
+  }
+
+  module _ {now : List ℕ} (taken : TakenAt b now kind found.own.adr es i) (short : length b ≤ image_limit) where
+    follow : Follows b (DelEntry attr kind num) now
+    follow =
+        let of = of_attribute found in
+        left.left_follow good (q good of es is knows num i at taken short) taken.removed.gives names (of_old good of es is knows num i at) (long good of es is knows num i at taken short) (counts good of es is knows num i at taken short) (greatest good of es is knows num i at taken short) short
+
+    pub is_deleted : (limit : ℕ) → length b ≤ limit → Answers limit b (DelEntry attr kind num) (Done Plain) now
+    is_deleted limit fits = gone limit b (DelEntry attr kind num) _ Plain now (ap ByStep (left.del_goes names)) (omega arith) follow

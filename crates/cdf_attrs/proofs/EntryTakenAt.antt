@@ -1,6 +1,6 @@
 -- An entry at an index of its chain: what of the chain is before it and without it, and what calls ask for that take it out.
-use Rattle.std.proofs.Common.{◌≡◌, ℕ, zero, suc, ◌+◌, ◌<◌, ◌≤◌, pos, List, [], ◌∷◌, length, map, take, get_or, slice_index_or, Some, All, eq-eqb, FitsSigned, w32, None, refl, sym, ap, subst, ◌∙◌, arith, inl, inr}
-use Rattle.cdf_attrs.proofs.Common.{eqb-true, ne_eqb, ints, of_z-to_z, cast_signed, cast_unsigned, length-map, position-Some, last_or, position, remove, slice_get, ◌==◌, slice_index, EntryKind, image_limit, record_number_limit, signed_limit, number, aedr_num, AttributeShape, In, Distinct, Good, Chain, entries_chain, before, members_of, IsOfAttribute, KnownEntries, KnowsEntries, IsEntryOf, got-middle}
+use Rattle.std.proofs.Common.{◌≡◌, ℕ, zero, suc, ◌+◌, ◌<◌, ◌≤◌, pos, List, [], ◌∷◌, ◌++◌, length, map, take, get_or, slice_index_or, Some, All, eq-eqb, FitsSigned, w32, None, refl, sym, ap, ap₂, subst, ◌∙◌, arith, inl, inr}
+use Rattle.cdf_attrs.proofs.Common.{eqb-true, ne_eqb, same_Some, slice_get_within, shape, Cut, cut, ints, of_z-to_z, cast_signed, cast_unsigned, length-map, position-Some, last_or, position, remove, slice_get, ◌==◌, slice_index, EntryKind, image_limit, record_number_limit, signed_limit, number, aedr_num, AttributeShape, In, Distinct, Good, Chain, entries_chain, before, members_of, IsOfAttribute, KnownEntries, KnowsEntries, IsEntryOf, got-middle}
 use Rattle.std.proofs.lemmas.List.{get_or-map}
 use Rattle.std.proofs.lemmas.List.Edits.{length-remove}
 use Rattle.cdf_edits.specs.Space.Chains.{without}
@@ -46,6 +46,18 @@ pub from_map : (f : ℕ → ℕ) (xs : List ℕ) (n : ℕ) → In n (map f xs) �
 from_map f [] n i = absurd i
 from_map f (x ∷ xs) n (inl e) = (x, (inl refl, e))
 from_map f (x ∷ xs) n (inr i) = let r = from_map f xs n i in (r.0, (inr r.1.0, r.1.1))
+
+-- ---- the attribute of a chain
+
+module _ {b : List ℕ} {chain : Chain} (of : IsOfAttribute b chain) where
+  abbrev pub parts : Cut (shape b).attributes of.number
+  parts = cut (shape b).attributes of.number (slice_get_within (shape b).attributes of.number of.own of.stands)
+
+  own_is : parts.own ≡ of.own
+  own_is = same_Some parts.own of.own (sym (ap₂ (λ (as_ : List AttributeShape) (k : ℕ). slice_get as_ k) parts.is (sym parts.count) ∙ got-middle parts.before parts.own parts.after) ∙ of.stands)
+
+  pub cut_is : (shape b).attributes ≡ parts.before ++ of.own ∷ parts.after
+  cut_is = parts.is ∙ ap (λ (a : AttributeShape). parts.before ++ a ∷ parts.after) own_is
 
 -- ---- the entries of a chain
 

@@ -15,7 +15,6 @@ pub mod EntryDeleted
 pub mod EntryCalls
 pub mod EntryLeft
 pub mod NewAdr
-pub mod NumberedEntries
 pub mod NumberGone
 pub mod Created
 pub mod CreatingAnswers
@@ -27,14 +26,12 @@ pub mod RenamingSteps
 pub mod NamesDiffer
 pub mod AttributesRead
 pub mod AttributeFound
-pub mod AttributeNamed
 pub mod EntryChains
 pub mod EntriesRead
 pub mod EntryLookup
 pub mod EntrySteps
 pub mod GettingAnswers
 pub mod WholeEntries
-pub mod TakenHalf
 pub mod ValueWords
 pub mod RangeCounts
 pub mod PutAnswers

@@ -15,7 +15,6 @@ pub mod Composing
 pub mod DeletedAttribute
 pub mod EditActs
 pub mod EmptySet
-pub mod EntryBeside
 pub mod EntryFields
 pub mod EntryTakenStep
 pub mod NumbersFallStep
@@ -94,3 +93,6 @@ pub mod RecordGrown
 pub mod StandsAmong
 pub mod OwnEdited
 pub mod IndexEdited
+pub mod ChainEdited
+pub mod RechainedStands
+pub mod NumberedRecords

@@ -158,7 +158,7 @@ module _ (b : List ℕ) (s : Shape) (holder_type holder : ℕ) (head : Field) (t
 
   module _ (a : Linked) (all : List ℕ) (sub : (m : ℕ) → In m ms → In m all) (front : List ℕ) (front_in : (m : ℕ) → In m front → In m ms) where
     -- the link behind some of its members
-    link_marked : Marked b s.records (removing_marks holder_type holder head type all) [] (link_behind holder head front)
+    pub link_marked : Marked b s.records (removing_marks holder_type holder head type all) [] (link_behind holder head front)
     link_marked = elim (link_is_behind holder head front) [
       | inl e ↦ subst (Marked b s.records (removing_marks holder_type holder head type all) []) (sym e) (record {
         inside = a.holder_in;

@@ -1,5 +1,5 @@
-use Rattle.std.proofs.Common.{◌≡◌, ◌∙◌, ◌≤◌, ℕ, List, All, false, length, sym, ap, subst, arith}
-use Rattle.cdf_attrs.proofs.Common.{good_is_sound, shape, Good, is_global, Scope, EntryKind, Chain, entries_chain, IsScoped, Lowers, IsOfAttribute}
+use Rattle.std.proofs.Common.{◌≡◌, ◌∙◌, ℕ, List, false, sym, subst, arith}
+use Rattle.cdf_attrs.proofs.Common.{on_ok_weaker, good_is_sound, shape, Good, is_global, Scope, EntryKind, entries_chain, IsScoped, IsOfAttribute}
 use Rattle.cdf_attrs.proofs.AttributeChain.{adr_inside}
 use Rattle.cdf_attrs.proofs.DroppingFrom as from
 use Rattle.cdf_attrs.proofs.dropping.drop_from.Goals as goal
@@ -29,29 +29,23 @@ drop_number-requires-clause-attribute g c =
     let scoped = from.scoped b c.args.adr c.requires.adr c.args.kind (subst (λ (s : Scope). is_global s ≡ false) c.in_ok-scope.ensures.scope own) in
     subst (λ (x : List ℕ). IsScoped x c.entries_of-kind.result c.args.adr) (sym (c.in_ok-entries.ensures.area.image ∙ c.in_ok-scope.ensures.area.image)) (subst (λ (k : EntryKind). IsScoped b k c.args.adr) (sym c.entries_of-kind.ensures) scoped)
 
-pub lower_entries-requires-clause-small : goal.lower_entries-requires-clause-small
-lower_entries-requires-clause-small g c = (from.dropping c.args.kind c.requires.good c.requires.adr c.requires.short c.in_ok-scope.ensures.area.image c.in_ok-scope.ensures.scope (sym c.if-is_global.ensures) c.entries_of-kind.ensures c.entries_chain.ensures
-    c.in_ok-entries.ensures.area.image c.in_ok-entries.ensures.chain c.in_ok-entries.ensures.entries c.in_ok-left.ensures.drops c.in_ok-left.ensures.good c.in_ok-left.ensures.left).small
-
-pub lower_entries-requires-clause-lie : goal.lower_entries-requires-clause-lie
-lower_entries-requires-clause-lie g c = (from.dropping c.args.kind c.requires.good c.requires.adr c.requires.short c.in_ok-scope.ensures.area.image c.in_ok-scope.ensures.scope (sym c.if-is_global.ensures) c.entries_of-kind.ensures c.entries_chain.ensures
-    c.in_ok-entries.ensures.area.image c.in_ok-entries.ensures.chain c.in_ok-entries.ensures.entries c.in_ok-left.ensures.drops c.in_ok-left.ensures.good c.in_ok-left.ensures.left).lie
-
-pub lower_entries-requires-clause-field : goal.lower_entries-requires-clause-field
-lower_entries-requires-clause-field g c = (from.dropping c.args.kind c.requires.good c.requires.adr c.requires.short c.in_ok-scope.ensures.area.image c.in_ok-scope.ensures.scope (sym c.if-is_global.ensures) c.entries_of-kind.ensures c.entries_chain.ensures
-    c.in_ok-entries.ensures.area.image c.in_ok-entries.ensures.chain c.in_ok-entries.ensures.entries c.in_ok-left.ensures.drops c.in_ok-left.ensures.good c.in_ok-left.ensures.left).field
+pub lower_entries-requires : goal.lower_entries-requires
+lower_entries-requires g c =
+    let d = from.dropping c.args.kind c.requires.good c.requires.adr c.requires.short c.in_ok-scope.ensures.area.image c.in_ok-scope.ensures.scope (sym c.if-is_global.ensures) c.entries_of-kind.ensures c.entries_chain.ensures
+    c.in_ok-entries.ensures.area.image c.in_ok-entries.ensures.chain c.in_ok-entries.ensures.entries c.in_ok-left.ensures.drops c.in_ok-left.ensures.good c.in_ok-left.ensures.left in
+    record { long = d.long; small = d.small; lie = d.lie; field = d.field }
 
 pub returns-clause-dropped : goal.returns-clause-dropped
-returns-clause-dropped g c = from.drops_on (from.dropping c.args.kind c.requires.good c.requires.adr c.requires.short c.in_ok-scope.ensures.area.image c.in_ok-scope.ensures.scope (sym c.if-is_global.ensures) c.entries_of-kind.ensures c.entries_chain.ensures
-    c.in_ok-entries.ensures.area.image c.in_ok-entries.ensures.chain c.in_ok-entries.ensures.entries c.in_ok-left.ensures.drops c.in_ok-left.ensures.good c.in_ok-left.ensures.left) (g.A.Area.image c.lower_entries.new.area) c.lower_entries.result c.lower_entries.ensures.lowers
+returns-clause-dropped g c = on_ok_weaker c.lower_entries.result (λ lowers. (from.dropping c.args.kind c.requires.good c.requires.adr c.requires.short c.in_ok-scope.ensures.area.image c.in_ok-scope.ensures.scope (sym c.if-is_global.ensures) c.entries_of-kind.ensures c.entries_chain.ensures
+    c.in_ok-entries.ensures.area.image c.in_ok-entries.ensures.chain c.in_ok-entries.ensures.entries c.in_ok-left.ensures.drops c.in_ok-left.ensures.good c.in_ok-left.ensures.left).drops (g.A.Area.image c.lower_entries.new.area) lowers) c.lower_entries.ensures.lowers
 
 pub returns-clause-good : goal.returns-clause-good
-returns-clause-good g c = from.good_on (from.dropping c.args.kind c.requires.good c.requires.adr c.requires.short c.in_ok-scope.ensures.area.image c.in_ok-scope.ensures.scope (sym c.if-is_global.ensures) c.entries_of-kind.ensures c.entries_chain.ensures
-    c.in_ok-entries.ensures.area.image c.in_ok-entries.ensures.chain c.in_ok-entries.ensures.entries c.in_ok-left.ensures.drops c.in_ok-left.ensures.good c.in_ok-left.ensures.left) (g.A.Area.image c.lower_entries.new.area) c.lower_entries.result c.lower_entries.ensures.lowers
+returns-clause-good g c = on_ok_weaker c.lower_entries.result (λ lowers. ((from.dropping c.args.kind c.requires.good c.requires.adr c.requires.short c.in_ok-scope.ensures.area.image c.in_ok-scope.ensures.scope (sym c.if-is_global.ensures) c.entries_of-kind.ensures c.entries_chain.ensures
+    c.in_ok-entries.ensures.area.image c.in_ok-entries.ensures.chain c.in_ok-entries.ensures.entries c.in_ok-left.ensures.drops c.in_ok-left.ensures.good c.in_ok-left.ensures.left).keeps (g.A.Area.image c.lower_entries.new.area) lowers).0) c.lower_entries.ensures.lowers
 
 pub returns-then-is_global-clause-keeps : goal.returns-then-is_global-clause-keeps
 returns-then-is_global-clause-keeps g c = from.keeps_same c.in_ok-scope.ensures.area.image
 
 pub returns-clause-keeps : goal.returns-clause-keeps
-returns-clause-keeps g c = from.keeps_on (from.dropping c.args.kind c.requires.good c.requires.adr c.requires.short c.in_ok-scope.ensures.area.image c.in_ok-scope.ensures.scope (sym c.if-is_global.ensures) c.entries_of-kind.ensures c.entries_chain.ensures
-    c.in_ok-entries.ensures.area.image c.in_ok-entries.ensures.chain c.in_ok-entries.ensures.entries c.in_ok-left.ensures.drops c.in_ok-left.ensures.good c.in_ok-left.ensures.left) (g.A.Area.image c.lower_entries.new.area) c.lower_entries.result c.lower_entries.ensures.lowers
+returns-clause-keeps g c = on_ok_weaker c.lower_entries.result (λ lowers. ((from.dropping c.args.kind c.requires.good c.requires.adr c.requires.short c.in_ok-scope.ensures.area.image c.in_ok-scope.ensures.scope (sym c.if-is_global.ensures) c.entries_of-kind.ensures c.entries_chain.ensures
+    c.in_ok-entries.ensures.area.image c.in_ok-entries.ensures.chain c.in_ok-entries.ensures.entries c.in_ok-left.ensures.drops c.in_ok-left.ensures.good c.in_ok-left.ensures.left).keeps (g.A.Area.image c.lower_entries.new.area) lowers).1) c.lower_entries.ensures.lowers

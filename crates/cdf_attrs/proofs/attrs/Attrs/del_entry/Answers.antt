@@ -2,6 +2,7 @@ use Rattle.std.proofs.Common.{◌∙◌, ℕ, List, sym, ap, subst, arith}
 use Rattle.cdf_attrs.proofs.Common.{Good, Refused, NoSuchEntry, DelEntry, Answers, entries_chain, Finds, Known, KnowsEntries}
 use Rattle.cdf_attrs.proofs.AttributeFound.{adr_is, place_within}
 use Rattle.cdf_attrs.proofs.EntryDeleted.{refused_for, is_missing, there_in, taken_in, within, entry_there, is_deleted, known_after}
+use Rattle.cdf_attrs.proofs.GettingAnswers.{of_attribute}
 use Rattle.cdf_attrs.proofs.attrs.Attrs.del_entry.Goals as goal
 
 pub returns-in-Refused-clause-answers : goal.returns-in-Refused-clause-answers
@@ -42,7 +43,7 @@ remove_at-requires-clause-within g c =
     let b = g.A.Area.image c.args.area.now in
     let found = subst (Finds b c.args.attr.now c.args.kind) c.in-Found.is c.in_ok-number.ensures.target in
     let knows = subst (λ (x : List ℕ). KnowsEntries x c.in_ok-entries.entries) c.find_chain.ensures.area.image c.in_ok-entries.ensures.entries in
-    within c.requires.good found c.in_ok-entries.entries c.in_ok-entries.ensures.chain knows c.args.num c.in-Some.i (sym c.find.ensures ∙ c.in-Some.is)
+    within c.requires.good (of_attribute found) c.in_ok-entries.entries c.in_ok-entries.ensures.chain knows c.args.num c.in-Some.i (sym c.find.ensures ∙ c.in-Some.is)
 
 pub remove_at-requires-clause-entry : goal.remove_at-requires-clause-entry
 remove_at-requires-clause-entry g c =
@@ -51,7 +52,7 @@ remove_at-requires-clause-entry g c =
     let knows = subst (λ (x : List ℕ). KnowsEntries x c.in_ok-entries.entries) c.find_chain.ensures.area.image c.in_ok-entries.ensures.entries in
     let adr = adr_is found c.as_slice-places.result.now (c.as_slice-places.ensures.value ∙ ap (λ (k : Known). k.places) (c.self.view_is ∙ c.take_entries.ensures.given) ∙ c.requires.known.places_are) in
     there_in b (g.A.Area.image c.take_entries.new.area) (c.take_entries.ensures.area.image ∙ c.find_chain.ensures.area.image) adr
-    (entry_there c.requires.good found c.in_ok-entries.entries c.in_ok-entries.ensures.chain knows c.args.num c.in-Some.i (sym c.find.ensures ∙ c.in-Some.is))
+    (entry_there c.requires.good (of_attribute found) c.in_ok-entries.entries c.in_ok-entries.ensures.chain knows c.args.num c.in-Some.i (sym c.find.ensures ∙ c.in-Some.is))
 
 pub returns-clause-answers : goal.returns-clause-answers
 returns-clause-answers g c =
@@ -70,5 +71,5 @@ returns-clause-known g c =
     let known = c.self.view_is ∙ c.take_entries.ensures.given in
     let adr = adr_is found c.as_slice-places.result.now (c.as_slice-places.ensures.value ∙ ap (λ (k : Known). k.places) known ∙ c.requires.known.places_are) in
     let taken = taken_in b (g.A.Area.image c.take_entries.new.area) (c.take_entries.ensures.area.image ∙ c.find_chain.ensures.area.image) adr c.in_ok-left.ensures.removed in
-    known_after c.requires.good found c.in_ok-entries.entries c.in_ok-entries.ensures.chain knows c.args.num c.in-Some.i (sym c.find.ensures ∙ c.in-Some.is) taken (omega (arith, c.requires.fits, c.requires.limit))
+    known_after c.requires.good (of_attribute found) c.in_ok-entries.entries c.in_ok-entries.ensures.chain knows c.args.num c.in-Some.i (sym c.find.ensures ∙ c.in-Some.is) taken (omega (arith, c.requires.fits, c.requires.limit))
     c.self.inside.names c.self.inside.places.items c.in_ok-left.left (ap (λ (k : Known). k.names) known ∙ c.requires.known.names_are) (ap (λ (k : Known). k.places) known ∙ c.requires.known.places_are) c.in_ok-left.ensures.left
