@@ -10,7 +10,7 @@ use Rattle.cdf_attrs.proofs.EntryCalls.{leaves}
 use Rattle.cdf_attrs.proofs.EntryChains.{counted, entries_differ, entry_lies, few_entries, members}
 use Rattle.cdf_attrs.proofs.EntryLeft as left
 use Rattle.cdf_attrs.proofs.EntrySteps.{no_attribute, wrong_scope, no_entry}
-use Rattle.cdf_attrs.proofs.EntryTakenAt.{left_count, left_small, map-remove, numbered_at, once, places_are, without_at_index}
+use Rattle.cdf_attrs.proofs.EntryTakenAt.{left_count, left_small, map-remove, numbered_at, once, places_are, at_index}
 use Rattle.cdf_attrs.proofs.GettingAnswers.{found_in, is_entry_at, is_item, of_attribute}
 use Rattle.cdf_attrs.proofs.GreatestNumber.{greatest_fits, greatest_of_items}
 
@@ -115,7 +115,7 @@ module _ {b attr : List ℕ} {kind : EntryKind} {n : ℕ} {chain : Chain} (good 
     places_of = places_are good (of_attribute found) es of knows ∙ members b good chain (of_attribute found)
 
     left_places : remove es.places i ≡ left_of place (chain_of found.own kind)
-    left_places = sym (without_at_index es.places i within (once good (of_attribute found) es of knows)) ∙ ap (left_of place) places_of
+    left_places = sym (at_index es.places i 0 within (once good (of_attribute found) es of knows)).1 ∙ ap (left_of place) places_of
 
     left_numbers : remove es.numbers i ≡ nums b (left_of place (chain_of found.own kind))
     left_numbers = ap (λ (xs : List ℕ). remove xs i) knows.numbers_are ∙ map-remove (λ aedr. number b aedr aedr_num) es.places i within ∙ ap (nums b) left_places
