@@ -1,6 +1,7 @@
 -- The chain of the attributes, as an image with a shape has it.
 use Rattle.std.proofs.Common.{◌≡◌, ℕ, zero, suc, ◌+◌, ◌<◌, ◌≤◌, List, [], ◌∷◌, length, slice_index, refl, sym, ap, subst, ◌∙◌, arith, inl, inr}
-use Rattle.cdf_attrs.proofs.Common.{length-map, attribute_names, number, size_at, gdr_offset, LiesIn, gdr_adr_head, adr_name, adr_type, fixed_size, In, tiles, IsChain, content, Shape, adrs, HasShape, length-le_from_distinct, tile_lies, length_tiles, linkable-in, linkable-type, tiles_are, attribute_names_are, HasChain, members_of, Attrs}
+use Rattle.cdf_attrs.proofs.Common.{length-map, attribute_names, number, size_at, gdr_offset, LiesIn, gdr_adr_head, adr_name, adr_type, In, tiles, IsChain, content, Shape, adrs, HasShape, length-le_from_distinct, tile_lies, length_tiles, linkable-in, linkable-type, tiles_are, attribute_names_are, HasChain, members_of, Attrs}
+use Rattle.cdf_format.specs.RecordTypes.{fixed_size}
 use Rattle.cdf_format.specs.Walks.{records_of}
 use Rattle.cdf_format.specs.Chains.{chain}
 use Rattle.cdf_format.proofs.ShapeLemmas.{adr_chain_is}

@@ -3,7 +3,7 @@ pub use Rattle.std.proofs.Math.Seq.{take-suc}
 pub use Rattle.std.proofs.lemmas.Bool.{and_from, cases_eq, cases_lt, eqb-true, le-leb, le-ltb, lt-ltb, ne_eqb}
 pub use Rattle.std.proofs.lemmas.Bool.Decides.{nat_tests}
 pub use Rattle.std.proofs.lemmas.Int.{ints, of_z-to_z, to_z-of_z, to_z_pos}
-pub use Rattle.std.proofs.lemmas.List.{length-append, length-map, map-append, map-set, take_at}
+pub use Rattle.std.proofs.lemmas.List.{length-append, length-map, map-append, map-set}
 pub use Rattle.std.proofs.lemmas.List.Quantifiers.{position-Some}
 pub use Rattle.std.proofs.lemmas.Option.{same_Some, slice_get_within}
 pub use Rattle.std.proofs.lemmas.Result.{on_ok_weaker}
@@ -45,17 +45,18 @@ pub use Rattle.cdf_edits.proofs.Edits.DropsOne.{DropsOne, DropsUpTo}
 pub use Rattle.cdf_edits.proofs.Edits.EntryFields.{count_is, max_lies, max_written, of_shape}
 pub use Rattle.cdf_edits.proofs.Edits.FallenEntries.{LowersChain}
 pub use Rattle.cdf_edits.proofs.Edits.FreedEntry.{Frees, all_marks, count_same, freed_bytes, freed_rechains, freed_settled, greatest_same, old_free, old_stands, sound_late}
+pub use Rattle.cdf_edits.proofs.Edits.JoinedRecord.{ends, new_in, new_type}
 pub use Rattle.cdf_edits.proofs.Edits.LeftEntry.{LeavesChain, left_frees, left_members}
 pub use Rattle.cdf_edits.proofs.Edits.MarkLemmas.{the_one}
 pub use Rattle.cdf_edits.proofs.Edits.OneChain.{Chained, chain_follows, counted_before, differ_before, follows_chained, items_of, of_named, once_before, rules_live}
-pub use Rattle.cdf_edits.proofs.Edits.OwnedOnce.{IsSorted, owned_once_if, used_times}
+pub use Rattle.cdf_edits.proofs.Edits.OwnedOnce.{owned_once_if, used_times}
 pub use Rattle.cdf_edits.proofs.Edits.OwnersKept.{all_keep, keeps_fields, stood}
 pub use Rattle.cdf_edits.proofs.Edits.Splice.{OwnRules, Splices, good_image_if, parts_there, shape_now, spliced}
 pub use Rattle.cdf_edits.proofs.Edits.StandsSame.{stands_same}
 pub use Rattle.cdf_edits.proofs.Edits.StepEdits.{fixed_long}
 pub use Rattle.cdf_edits.proofs.Edits.VariableFrame.{variables_in}
 pub use Rattle.cdf_edits.proofs.Space.ChainHeads.{cdr_room}
-pub use Rattle.cdf_edits.proofs.Space.LaidOut.{placed_says, says_kept}
+pub use Rattle.cdf_edits.proofs.Space.LaidOut.{placed_says, typed_body}
 pub use Rattle.cdf_edits.proofs.Space.UsedRecords.{apart}
 pub use Rattle.cdf_edits.specs.Answers.{Answers}
 pub use Rattle.cdf_edits.specs.Commands.Allowances.{AllKeep, Allowances, Anything, Keeps, Only, only_of}
@@ -73,13 +74,13 @@ pub use Rattle.cdf_edits.specs.Edits.Writes.{Write, numbers_from, with_writes, w
 pub use Rattle.cdf_edits.specs.Follows.{Follows}
 pub use Rattle.cdf_edits.specs.Space.Acts.{Act, ActsFollow, Gave, Took, gave}
 pub use Rattle.cdf_edits.specs.Space.Adding.{Added}
-pub use Rattle.cdf_edits.specs.Space.Chains.{HasChain, HolderStands, Removed, before, counted_in, members_of, type_in}
+pub use Rattle.cdf_edits.specs.Space.Chains.{HasChain, HolderStands, Removed, before, counted_in, members_of, type_in, with_in_place}
 pub use Rattle.cdf_edits.specs.Space.Placement.{Gives}
 pub use Rattle.cdf_edits.specs.Space.Placing.{IsBody, Placed, type_of_body}
 pub use Rattle.cdf_edits.specs.declared.chain.Chain.{Chain}
 pub use Rattle.cdf_edits.specs.declared.chain.Chain.TheVariants.{Attrs, GrEntries, ZEntries}
 pub use Rattle.cdf_fields.proofs.Writes.{length-with_field}
-pub use Rattle.cdf_format.proofs.BytesLemmas.{piece_kept, word_kept}
+pub use Rattle.cdf_format.proofs.BytesLemmas.{word_kept}
 pub use Rattle.cdf_format.proofs.ChainsLemmas.{linkable-in, linkable-is_a, linkable-type}
 pub use Rattle.cdf_format.proofs.GoodByShape.{IsGoodByShape, attribute_shape_rows}
 pub use Rattle.cdf_format.proofs.GoodSound.{good_by_its_shape, good_eof, good_is_sound, rules_of_good}
@@ -96,8 +97,8 @@ pub use Rattle.cdf_format.specs.ChainRules.{adrs_rows, count_rows, differ_rows, 
 pub use Rattle.cdf_format.specs.Chains.{IsChain, is_a, is_in, next_field}
 pub use Rattle.cdf_format.specs.Content.{attribute_of, content, entry_of, scope_of}
 pub use Rattle.cdf_format.specs.Fields.{LiesIn, gdr_offset, integer4, is_positive, name_at, name_in, number, size_at, type_at, with_field, word}
-pub use Rattle.cdf_format.specs.Owners.{OneAttribute, attribute_records, owned, owned_by, times}
-pub use Rattle.cdf_format.specs.RecordTypes.{adr_type, agr_edr_type, az_edr_type, fixed_size, uir_type}
+pub use Rattle.cdf_format.specs.Owners.{OneAttribute, attribute_records, owned, owned_by}
+pub use Rattle.cdf_format.specs.RecordTypes.{adr_type, agr_edr_type, az_edr_type, uir_type}
 pub use Rattle.cdf_format.specs.Records.{Field, adr_agr_edr_head, adr_az_edr_head, adr_name, adr_ngr_entries, adr_num, adr_nz_entries, adr_scope, aedr_data_type, aedr_num, aedr_value, gdr_adr_head, gdr_num_attr, record_type}
 pub use Rattle.cdf_format.specs.Rules.{Hold}
 pub use Rattle.cdf_format.specs.Shape.{AttributeShape, Each, HasEntries, HasShape, Shape, adrs, shape, vdrs}

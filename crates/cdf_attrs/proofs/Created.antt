@@ -1,11 +1,11 @@
 -- The making of an attribute, as an edit, leads from a good image to the one that follows.
-use Rattle.std.proofs.Common.{◌≡◌, ◌≢◌, ℕ, suc, ◌+◌, ◌^◌, ◌-◌, ◌<◌, ◌≤◌, List, [], ◌∷◌, ◌++◌, length, map, Bool, true, false, not, eqb, eq-eqb, Some, refl, sym, ap, subst, ◌∙◌, append-nil, arith, inl, inr}
-use Rattle.cdf_attrs.proofs.Common.{and_from, eqb-true, length-append, map-append, flat_map, slice_get, ◌==◌, ◌&&◌, nat_le, if◌then◌else◌, Plain, Command, Attr, Scope, Go, new_attribute, Attribute, DataSet, image_limit, is_bad_name, is_among, attribute_names, ByStep, IsSound, AllKeep, Allowances, Only, Keeps, only_of, same_name, adrs_rows, differ_rows, r_vdrs_rows, z_vdrs_rows, next_field, is_in, IsChain, content, scope_of, attribute_of, number, name_in, size_at, type_at, gdr_offset, IsGoodByShape, attribute_shape_rows, Follows, Act, Took, OneAttribute, attribute_records, owned_by, times, owned, Field, gdr_adr_head, gdr_num_attr, adr_name, adr_scope, adr_num, adr_type, agr_edr_type, az_edr_type, uir_type, fixed_size, Hold, AttributeShape, Shape, adrs, vdrs, HasShape, shape, In, Good, linkable-in, linkable-type, good_by_its_shape, good_is_sound, rules_of_good, AllKeep-append, either, stands_in, AreNew, names_at, names_differ, differ_by_names, attribute_names_are, Hold-append, Hold-split, good_long, sealed_kept, content_is, shape_is, of_le, tile_lies, apart, Attrs, Mark, Edit, AreThere, stood, keeps_fields, all_keep, used_times, IsSorted, owned_once_if, spliced, Splices, shape_now, OwnRules, good_image_if, variables_in, Added, scope_code, adr_body, fine_is_some, got-middle}
+use Rattle.std.proofs.Common.{◌≡◌, ◌≢◌, ℕ, suc, ◌+◌, ◌^◌, ◌-◌, ◌<◌, ◌≤◌, List, [], ◌∷◌, ◌++◌, length, map, Bool, false, not, eqb, eq-eqb, Some, refl, sym, ap, subst, ◌∙◌, append-nil, arith, inl, inr}
+use Rattle.cdf_attrs.proofs.Common.{ends, new_in, new_type, and_from, eqb-true, length-append, map-append, flat_map, slice_get, ◌==◌, ◌&&◌, nat_le, if◌then◌else◌, Plain, Command, Attr, Scope, Go, new_attribute, Attribute, DataSet, image_limit, is_bad_name, is_among, attribute_names, ByStep, IsSound, AllKeep, Allowances, Only, Keeps, only_of, same_name, adrs_rows, differ_rows, r_vdrs_rows, z_vdrs_rows, next_field, is_in, IsChain, content, scope_of, attribute_of, number, name_in, type_at, gdr_offset, IsGoodByShape, attribute_shape_rows, Follows, Act, Took, OneAttribute, attribute_records, owned_by, owned, gdr_adr_head, gdr_num_attr, adr_name, adr_scope, adr_num, adr_type, agr_edr_type, az_edr_type, Hold, AttributeShape, Shape, adrs, vdrs, HasShape, shape, In, Good, linkable-in, linkable-type, good_by_its_shape, good_is_sound, rules_of_good, AllKeep-append, either, stands_in, AreNew, names_at, names_differ, differ_by_names, attribute_names_are, Hold-append, Hold-split, good_long, sealed_kept, content_is, shape_is, of_le, tile_lies, Attrs, Mark, Edit, AreThere, stood, keeps_fields, all_keep, used_times, owned_once_if, spliced, Splices, shape_now, OwnRules, good_image_if, variables_in, Added, scope_code, adr_body, fine_is_some, got-middle}
 use Rattle.std.specs.List.{All, before_first}
 use Rattle.cdf_model.specs.declared.kinds.Scope.TheVariants.{Global, Variable, GlobalAssumed, VariableAssumed}
 use Rattle.cdf_edits.specs.Commands.Attributes.{MakesAttribute, attr_changes, attributes_gdr_fields}
-use Rattle.cdf_format.specs.Owners.{owned_by_attributes}
-use Rattle.cdf_format.specs.RecordTypes.{cdr_type, gdr_type, is_record_type}
+use Rattle.cdf_format.specs.Owners.{owned_by_attributes, times}
+use Rattle.cdf_format.specs.RecordTypes.{cdr_type, gdr_type}
 use Rattle.cdf_format.specs.NotRead.{read_types}
 use Rattle.cdf_format.proofs.ChainsLemmas.{is_a-in, is_a-type}
 use Rattle.cdf_format.proofs.NameRules.{new_pushed}
@@ -13,11 +13,10 @@ use Rattle.cdf_edits.proofs.Frame.OwnersApart.{adrs_linked}
 use Rattle.cdf_edits.proofs.Rules.WithoutLinks.{number_rows_kept, number_rows-push}
 use Rattle.cdf_edits.specs.Edits.Marks.{making_marks}
 use Rattle.cdf_edits.proofs.Edits.AttributeFrame.{entry, lives_clear, names_stay, nums_stay, more_there}
-use Rattle.cdf_edits.proofs.Edits.EditActs.{acts_took}
 use Rattle.cdf_edits.proofs.Edits.RecordFrame.{gdr_place}
 use Rattle.cdf_edits.proofs.Edits.OwnersKept.{keeps_away, keep_file, keep_places}
-use Rattle.cdf_edits.specs.Space.Placing.{Fills}
-use Rattle.cdf_edits.proofs.Edits.MadeRecord.{place_in, filled_sound, filled_size, unowned, made_edit, made_part, made_type, made_size, shorter, end_now, list_chain, made_keeps_unused}
+use Rattle.cdf_edits.proofs.Edits.JoinedRecord.{IsJoined, acts_then, edit, fills, longest, new_once, new_part, new_typed, unused_chain, unused_kept}
+use Rattle.cdf_edits.proofs.Edits.MadeRecord.{filled_size, filled_sound}
 use Rattle.cdf_edits.proofs.Edits.MarkLemmas.{unmarked-away, all_unmarked-away}
 use Rattle.cdf_edits.proofs.Edits.OwnedOnce.{spliced_times}
 use Rattle.cdf_edits.proofs.Edits.Splice.{content_now, file, variables_kept}
@@ -25,7 +24,7 @@ use Rattle.cdf_edits.proofs.Edits.StepEdits.{gdr_in, gdr_typed}
 use Rattle.cdf_edits.specs.Space.Adding.{adding_marks}
 use Rattle.cdf_attrs.proofs.AttributeChain.{attribute_members}
 use Rattle.cdf_attrs.proofs.AttributesRead.{counted_is}
-use Rattle.cdf_attrs.proofs.NewAdr.{IsNewAdr, length-body, type_in_body, adr_written}
+use Rattle.cdf_attrs.proofs.NewAdr.{IsNewAdr, body_made, length-body, adr_written}
 use Rattle.cdf_fields.proofs.NamesWritten.{before_zeros}
 use Rattle.cdf_attrs.proofs.CreatingAnswers.{with_last}
 
@@ -83,36 +82,23 @@ module _ {b now : List ℕ} {place : ℕ} (name : List ℕ) (scope : Scope) (ima
   h : HasShape b s
   h = sound.has_shape
 
+  abbrev j : IsJoined b now adr_type 324 (adr_body code num name) place (adding_marks b Attrs place)
+  j = record { filled = added.filled; placed = added.placed; typed = (body_made code num name short).0; wide = omega (arith, length-body code num name short); later = added.linked; long = added.as_long; lately = refl }
+
   abbrev records : List ℕ
   records = (shape added.filled).records
 
   abbrev list : List ℕ
   list = (shape added.filled).unused
 
-  fills : Fills b added.placed.taken added.filled s records list 324 place adr_type
-  fills =
-      let body = adr_body code num name in
-      let size : 8 + length body ≡ 324 = omega (arith, length-body code num name short) in
-      subst (λ (n : ℕ). Fills b added.placed.taken added.filled s records list n place adr_type) size
-      (subst (λ (t : ℕ). Fills b added.placed.taken added.filled s records list (8 + length body) place t) (type_in_body code num name short) added.placed.fills)
-
-  abbrev late : List Mark
-  late = adding_marks b Attrs place
-
-  later : Edit added.filled now records records late []
-  later = added.linked
-
-  as_long : length now ≡ length added.filled
-  as_long = added.as_long
-
   chain : IsChain now records adr_type (number now s.gdr gdr_adr_head) (adrs s ++ place ∷ [])
   chain = subst (λ (g : ℕ). IsChain now records adr_type (number now g gdr_adr_head) (adrs s ++ place ∷ [])) h.gdr_is (subst (λ (ms : List ℕ). IsChain now records adr_type (number now (gdr_offset b) gdr_adr_head) (ms ++ place ∷ [])) (attribute_members b s h) added.chain)
 
   abbrev marks : List Mark
-  marks = making_marks s.unused place 324 late
+  marks = making_marks s.unused place 324 (adding_marks b Attrs place)
 
   e : Edit b now s.records records marks (place ∷ [])
-  e = made_edit sound fills later as_long refl
+  e = edit sound j
 
   there : AreThere b s.records s.attributes
   there = record { linked = adrs_linked b s sound; have = h.entry_chains; fit = sound.attributes_fit }
@@ -123,19 +109,13 @@ module _ {b now : List ℕ} {place : ℕ} (name : List ℕ) (scope : Scope) (ima
   abbrev made : Shape
   made = spliced s records list attributes'
 
-  new_type : type_at now place ≡ adr_type
-  new_type = made_type sound fills later as_long refl
-
-  pub new_size : size_at now place ≡ 324
-  new_size = made_size sound fills later as_long refl
-
   -- ---- the new ADR
 
   new : IsNewAdr now place code num name
   new =
-      let lies = tile_lies added.filled 8 (length added.filled) records place (filled_sound sound fills).has_shape.tiled (place_in sound fills) in
-      adr_written code num name short added.placed (small_code scope) (omega arith) (made_part sound fills later as_long refl 20 324 refl (omega arith))
-      (subst (λ (n : ℕ). place + n ≤ length added.filled) (filled_size sound fills) lies.high) (omega (arith, as_long))
+      let lies = tile_lies added.filled 8 (length added.filled) records place (filled_sound sound (fills sound j)).has_shape.tiled (new_in sound j) in
+      adr_written code num name short added.placed (small_code scope) (omega arith) (new_part sound j 20 324 refl (omega arith))
+      (subst (λ (n : ℕ). place + n ≤ length added.filled) (filled_size sound (fills sound j)) lies.high) (omega (arith, added.as_long))
 
   name_now : name_in now place adr_name ≡ name
   name_now = ap (before_first (λ (x : ℕ). x == 0)) new.filled ∙ before_zeros name (256 - length name) no_zero
@@ -154,16 +134,11 @@ module _ {b now : List ℕ} {place : ℕ} (name : List ℕ) (scope : Scope) (ima
     variables_clear = refl;
     before_live = lives_clear sound e s.attributes there refl;
     after_live = tt;
-    typed = λ m i. subst (λ (x : ℕ). (is_record_type (type_at now x) ≡ true) × (fixed_size (type_at now x) ≤ size_at now x)) (sym (only_one place m i))
-        (subst (λ (t : ℕ). (is_record_type t ≡ true) × (fixed_size t ≤ size_at now place)) (sym new_type) (refl, subst (λ (n : ℕ). 324 ≤ n) (sym new_size) (omega arith)));
+    typed = new_typed sound j;
     attribute_chain = subst (IsChain now records adr_type (number now s.gdr gdr_adr_head)) (sym adrs_are) chain;
-    unused_chain = list_chain sound fills later as_long refl;
+    unused_chain = unused_chain sound j;
     own_entries = (record { gr_chain = no_chain agr_edr_type _ new.no_gr; z_chain = no_chain az_edr_type _ new.no_z }, tt);
   }
-    where
-      only_one : (place m : ℕ) → In m (place ∷ []) → m ≡ place
-      only_one place m (inl q) = q
-      only_one place m (inr none) = absurd none
 
   pub now_is : shape now ≡ made
   now_is = shape_is now made (shape_now sound splices)
@@ -181,30 +156,19 @@ module _ {b now : List ℕ} {place : ℕ} (name : List ℕ) (scope : Scope) (ima
   count_now : number now s.gdr gdr_num_attr ≡ num + 1
   count_now = ap (λ (g : ℕ). number now g gdr_num_attr) (sym h.gdr_is) ∙ added.counted ∙ ap (λ (n : ℕ). n + 1) (counted_is b image)
 
-  sorted : (m : ℕ) → In m (place ∷ []) → IsSorted now made m
-  sorted m (inl q) = subst (IsSorted now made) (sym q) (inl (
-    (λ u. apart adr_type uir_type refl (sym new_type ∙ u)),
-    once (used_times made place) (used_times s place) (times place (place ∷ [])) (spliced_times s records list s.attributes [] (bare_attribute place ∷ []) [] (sym (append-nil s.attributes)) place (times place (place ∷ [])) 0 (swap (times place (place ∷ []))))
-        (unowned sound fills) (rw (eq-eqb place place refl) refl),
-  ))
+  owners : (m : ℕ) → used_times made m + 0 ≡ used_times s m + times m (place ∷ [])
+  owners m = spliced_times s records list s.attributes [] (bare_attribute place ∷ []) [] (sym (append-nil s.attributes)) m (times m (place ∷ [])) 0 (swap (times m (place ∷ [])))
     where
-      once : (x y n : ℕ) → x + 0 ≡ y + n → y ≡ 0 → n ≡ 1 → x ≡ 1
-      once x y n p q r = omega arith
-
       swap : (n : ℕ) → n + 0 ≡ 0 + n
       swap n = omega arith
-  sorted m (inr none) = absurd none
 
   beside : (m : ℕ) → (In m (place ∷ []) → ⊥) → used_times made m ≡ used_times s m
   beside m out =
       let other : eqb m place ≡ false = elim (either (eqb m place)) [ inl q ↦ absurd (out (inl (eqb-true m place q))) | inr q ↦ q ] in
-      same (used_times made m) (used_times s m) (times m (place ∷ [])) (spliced_times s records list s.attributes [] (bare_attribute place ∷ []) [] (sym (append-nil s.attributes)) m (times m (place ∷ [])) 0 (swap (times m (place ∷ [])))) (rw other refl)
+      same (used_times made m) (used_times s m) (times m (place ∷ [])) (owners m) (rw other refl)
     where
       same : (x y n : ℕ) → x + 0 ≡ y + n → n ≡ 0 → x ≡ y
       same x y n p q = omega arith
-
-      swap : (n : ℕ) → n + 0 ≡ 0 + n
-      swap n = omega arith
 
   own_rules : (length name == 0) ≡ false → stands_in name (names_at b adr_name (adrs s)) ≡ false → OwnRules sound splices
   own_rules some absent =
@@ -221,8 +185,8 @@ module _ {b now : List ℕ} {place : ℕ} (name : List ℕ) (scope : Scope) (ima
         counted = subst (λ (ms : List ℕ). Hold (adrs_rows now ms)) (sym adrs_are) (eq-eqb _ _ counted, numbered);
         own_rules = Hold-append (attribute_shape_rows now (bare_attribute place)) [] (new_rows now place code num name new name_now some (low_code scope) (high_code scope)) tt;
         differ = subst (λ (ms : List ℕ). Hold (differ_rows 2 (same_name now adr_name) [] ms)) (sym adrs_are) (differ_by_names 2 now adr_name (adrs s ++ place ∷ []) (subst (AreNew []) all (new_pushed [] (names_at b adr_name (adrs s)) name (names_differ 2 b adr_name (adrs s) p.1) absent)));
-        read = λ m i. elim i [ inl q ↦ ap (λ (t : ℕ). is_in t read_types) (ap (type_at now) q ∙ new_type) | inr none ↦ absurd none ];
-        owned = owned_once_if b now s made marks (place ∷ []) sound good.owned_once e beside sorted;
+        read = λ m i. elim i [ inl q ↦ ap (λ (t : ℕ). is_in t read_types) (ap (type_at now) q ∙ new_type sound j) | inr none ↦ absurd none ];
+        owned = owned_once_if b now s made marks (place ∷ []) sound good.owned_once e beside (λ m i. inl (new_once sound j made 0 (owners place) refl m i));
       }
     where
       zero_first : (n : ℕ) → n ≡ 0 + n
@@ -264,7 +228,7 @@ module _ {b now : List ℕ} {place : ℕ} (name : List ℕ) (scope : Scope) (ima
       let gdr = keeps_fields sound e records_are s.gdr gdr_type attributes_gdr_fields (gdr_in b s h) (gdr_typed b s h) refl refl in
       all_keep b now may acts (keep_file b now may acts sound cdr gdr) (keep_attributes 0 s.attributes there)
       (λ m i. stood sound e records_are m (variables_in b s sound m i) (variables_kept sound splices m i))
-      (made_keeps_unused sound fills later as_long refl records_are may)
+      (unused_kept sound j records_are may)
 
   -- ---- what it makes
 
@@ -280,17 +244,17 @@ module _ {b now : List ℕ} {place : ℕ} (name : List ℕ) (scope : Scope) (ima
   pub follows : is_bad_name name ≡ false → is_among name (attribute_names (content b)) ≡ false → length b + 324 ≤ image_limit → Follows b c now
   follows well_named free limited =
       let rules = own_rules (fine_is_some name well_named) (ap (is_among name) (sym (attribute_names_are b s h)) ∙ free) in
-      let longest = shorter sound fills later as_long refl in
+      let within = longest sound j in
       record {
         reply = Plain;
         goes = rw (well_named, free) (ap (λ (d : DataSet). ByStep (Go d Plain)) (sym content_is_made));
-        good = good_image_if sound splices (sealed_kept b (good_long b s good) (rules_of_good b image)).0 good rules (end_now sound fills later as_long refl) (omega arith);
+        good = good_image_if sound splices (sealed_kept b (good_long b s good) (rules_of_good b image)).0 good rules (ends sound j) (omega arith);
         longer = e.longer;
-        within = longest;
+        within = within;
         reads = λ q. absurd cc;
         acts = acts;
         takes_within = omega arith;
-        acts_follow = acts_took sound fills later as_long refl records_are (ap (λ (x : Shape). x.unused) now_is);
+        acts_follow = acts_then sound j records_are (ap (λ (x : Shape). x.unused) now_is);
         keeps = keeps;
         does = makes;
       }

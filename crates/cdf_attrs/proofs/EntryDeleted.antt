@@ -11,8 +11,8 @@ use Rattle.cdf_attrs.proofs.EntryCalls.{leaves}
 use Rattle.cdf_attrs.proofs.EntryChains.{counted, entries_differ, entry_lies, few_entries, members}
 use Rattle.cdf_attrs.proofs.EntryLeft as left
 use Rattle.cdf_attrs.proofs.EntrySteps.{no_attribute, wrong_scope, no_entry}
-use Rattle.cdf_attrs.proofs.EntryTakenAt.{cut_is, left_count, left_small, map-remove, numbered_at, once, parts, places_are, without_at_index}
-use Rattle.cdf_attrs.proofs.GettingAnswers.{is_item, of_attribute}
+use Rattle.cdf_attrs.proofs.EntryTakenAt.{cut_is, left_count, left_small, map-remove, numbered_at, once, parts, places_are, at_index}
+use Rattle.cdf_attrs.proofs.GettingAnswers.{is_item, of_attribute, found_in, is_entry_at}
 use Rattle.cdf_attrs.proofs.GreatestNumber.{greatest_fits, greatest_of_items}
 
 -- ---- the refusals
@@ -97,7 +97,7 @@ module _ {b : List ℕ} {chain : Chain} (good : Good b) (of : IsOfAttribute b ch
     q = leaves (cast_unsigned w32 taken.count) (cast_unsigned w32 taken.greatest) sound entry_there taken.removed.removed taken.removed.count_written taken.removed.written
 
     left_places : remove es.places i ≡ left_of place (chain_of own kind)
-    left_places = sym (without_at_index es.places i within (once good of es is knows)) ∙ ap (left_of place) places_of
+    left_places = sym (at_index es.places i 0 within (once good of es is knows)).1 ∙ ap (left_of place) places_of
 
     left_numbers : remove es.numbers i ≡ nums b (left_of place (chain_of own kind))
     left_numbers = ap (λ (xs : List ℕ). remove xs i) knows.numbers_are ∙ map-remove (λ aedr. number b aedr aedr_num) es.places i within ∙ ap (nums b) left_places

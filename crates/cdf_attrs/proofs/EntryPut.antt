@@ -1,21 +1,19 @@
 -- The command `put-entry`: an entry is put as a last one of its chain, in the record of the one of its number, or in another record in its place.
-use Rattle.std.proofs.Common.{◌≡◌, ℕ, ◌+◌, ◌*◌, ◌^◌, ◌<◌, ◌≤◌, List, [], ◌∷◌, length, take, true, is_some, Some, refl, sym, ap, subst, ◌∙◌, arith, lit<, zero, suc, ◌++◌, find, eq-eqb, inl, inr, ◌≢◌, drop, None, append_assoc, Option, FitsSigned, w32}
-use Rattle.cdf_attrs.proofs.Common.{w32, cast_signed, cast_unsigned, last_or, position, unwrap_or, nat_le, ◌==◌, slice_index, slice_set, and_from, le-leb, ne_eqb, to_z-of_z, take_at, length-map, map-append, length-append, slice_get_within, Go, entries_of, with_attribute, with_entries, turned, Entry, signed_limit, image_limit, record_number_limit, attribute_named, with_item, record_limit, ByStep, size_of, Plain, PutEntry, DataType, EntryKind, size_stays, entry_bytes, has_value, entry_rows, Same, is_in, entry_of, content, attribute_of, word, number, is_positive, size_at, LiesIn, integer4, with_field, times, uir_type, record_type, aedr_data_type, aedr_num, aedr_value, Field, Hold, AttributeShape, shape, EntryFits, IsSound, field_bytes, known_type, data_type_in, is_little, In, tiles, Distinct, Good, piece_kept, linkable-in, good_is_sound, In-append_right, tiles_are, of_le, tile_lies, word4_fits, chain_after, entry_type, chain_of, max_field, entry_at, greatest_number, Says, room, entries_chain, count_field, with_chain, Mark, Act, Gave, Took, Added, counted_in, members_of, type_in, HasChain, HolderStands, before, Gives, IsBody, Placed, type_of_body, Chain, nums, EntryLives, nums_live, chain_now, found_one, found_none, greatest_integer, Rechains, entry_stays, max_lies, count_is, max_written, Frees, count_same, freed_bytes, freed_rechains, freed_settled, greatest_same, old_free, old_stands, sound_late, all_marks, the_one, Chained, chain_follows, follows_chained, items_of, of_named, once_before, rules_live, counted_before, differ_before, placed_says, says_kept, apart, IsOfAttribute, KnownEntries, HasOld, IsPut, IsReady, IsStored, new_reserved, IsGreatest, NewEntry}
+use Rattle.std.proofs.Common.{◌≡◌, ℕ, ◌+◌, ◌*◌, ◌^◌, ◌<◌, ◌≤◌, List, [], ◌∷◌, length, take, true, is_some, Some, refl, sym, ap, subst, ◌∙◌, arith, lit<, ◌++◌, find, eq-eqb, inl, inr, ◌≢◌, drop, None, append_assoc, Option, FitsSigned, w32}
+use Rattle.cdf_attrs.proofs.Common.{with_in_place, ends, new_in, new_type, typed_body, w32, cast_signed, cast_unsigned, last_or, position, unwrap_or, nat_le, ◌==◌, slice_index, slice_set, and_from, le-leb, to_z-of_z, length-map, map-append, length-append, slice_get_within, Go, entries_of, with_attribute, with_entries, turned, Entry, signed_limit, image_limit, record_number_limit, attribute_named, with_item, record_limit, ByStep, size_of, Plain, PutEntry, EntryKind, size_stays, entry_bytes, has_value, entry_rows, Same, is_in, entry_of, content, attribute_of, word, number, is_positive, size_at, LiesIn, integer4, with_field, uir_type, record_type, aedr_data_type, aedr_num, aedr_value, Field, Hold, AttributeShape, shape, EntryFits, IsSound, field_bytes, known_type, data_type_in, is_little, In, Distinct, Good, good_is_sound, In-append_right, of_le, tile_lies, word4_fits, chain_after, entry_type, chain_of, max_field, entry_at, greatest_number, Says, room, entries_chain, count_field, with_chain, Mark, Act, Gave, Took, Added, counted_in, members_of, type_in, before, Gives, IsBody, Placed, type_of_body, Chain, nums, EntryLives, nums_live, chain_now, found_one, found_none, greatest_integer, Rechains, entry_stays, max_lies, count_is, max_written, Frees, count_same, freed_bytes, freed_rechains, freed_settled, greatest_same, all_marks, the_one, Chained, chain_follows, follows_chained, items_of, of_named, once_before, rules_live, counted_before, differ_before, placed_says, apart, IsOfAttribute, KnownEntries, HasOld, IsPut, IsReady, IsStored, new_reserved, IsGreatest, NewEntry}
 use Rattle.std.proofs.lemmas.Bool.{lt-leb}
 use Rattle.cdf_base.specs.Bytes.{put}
 use Rattle.cdf_model.specs.Types.{type_of}
 use Rattle.cdf_model.specs.declared.data_type.DataType.TheVariants.{Byte}
 use Rattle.cdf_model.specs.declared.kinds.EntryKind.TheVariants as entries
 use Rattle.cdf_format.specs.Content.{entries_of as chain_items}
-use Rattle.cdf_format.specs.Owners.{owned_records}
-use Rattle.cdf_format.specs.Records.{aedr_aedr_next, aedr_attr_num, aedr_num_strings, aedr_rfu_b, aedr_rfu_c, aedr_rfu_d, aedr_rfu_e}
-use Rattle.cdf_format.proofs.BytesLemmas.{Same-part, length-put, size_kept}
+use Rattle.cdf_format.specs.Records.{field, aedr_aedr_next, aedr_attr_num, aedr_num_strings, aedr_rfu_b, aedr_rfu_c, aedr_rfu_d, aedr_rfu_e}
+use Rattle.cdf_format.proofs.BytesLemmas.{Same-part, size_kept}
 use Rattle.cdf_format.proofs.Members.{is_in-true}
 use Rattle.cdf_fields.proofs.Writes.{drop-put_there}
 use Rattle.cdf_edits.specs.Commands.Allowances.{FreedStay, no_fields}
 use Rattle.cdf_edits.specs.Commands.Entries.{PutsEntry, EntryFollows, EntryMoves, entry_end}
 use Rattle.cdf_edits.specs.Space.Adding.{Joined, Exchanged}
-use Rattle.cdf_edits.specs.Space.Chains.{with_in_place}
 use Rattle.cdf_edits.specs.Space.Placing.{laid_out}
 use Rattle.cdf_edits.proofs.Commands.TypeCodes.{type_back, code_small}
 use Rattle.cdf_edits.proofs.Edits.ChainEntries.{entries_live, entries_pushed, entries_replaced, nums_pushed, nums_replaced}
@@ -27,17 +25,21 @@ use Rattle.cdf_edits.proofs.Edits.EntryFields.{as_count}
 use Rattle.cdf_edits.proofs.Edits.FreedEntry.{as_long_now, other_kept}
 use Rattle.cdf_edits.proofs.Edits.MadeRecord.{filled_edit}
 use Rattle.cdf_edits.proofs.Edits.OneChain.{Settled}
-use Rattle.cdf_edits.proofs.Edits.PutEntry.{ChangesEntry, IsAmong, JoinsEntry, as_long, count_now, ends, exchanges, frees, greatest_now, in_its_place, list, marks, new_size, new_type, new_value, not_old, over_behind, over_count, over_greatest, over_kept, over_long, over_marks, over_rechains, over_settled, over_size, place_in, pushes, rechains, records, settled}
+use Rattle.cdf_edits.proofs.Edits.ChainMembers.{IsAmong, member as stands}
+use Rattle.cdf_edits.proofs.Edits.FieldWritten.{Stands}
+use Rattle.cdf_edits.proofs.Edits.PutEntry.{JoinsEntry, changes, count_now, exchanges, frees, greatest_now, in_its_place, new_record, new_value, not_old, pushes, rechains, settled}
+use Rattle.cdf_edits.proofs.Edits.JoinedRecord.{list, marks, new_size, records}
+use Rattle.cdf_edits.proofs.Edits.WrittenEntries.{WritesChain, as_long as over_long, count_now as over_count, greatest_now as over_greatest, mid_kept, mid_size, part_beside, rechains as over_rechains, settled as over_settled, size_now}
 use Rattle.cdf_edits.proofs.Edits.Splice.{adr_stands}
-use Rattle.cdf_edits.proofs.Space.LaidOut.{says_laid_out}
+use Rattle.cdf_edits.proofs.Space.LaidOut.{IsType, fields_kept}
 use Rattle.cdf_attrs.specs.PutValues.{new_entry}
 use Rattle.cdf_attrs.specs.Putting.{aedr_fields, aedr_body, Fit}
 use Rattle.cdf_attrs.specs.declared.entry_bytes.OldEntry.{OldEntry}
 use Rattle.cdf_attrs.specs.declared.entry_bytes.Reserved.{Reserved}
 use Rattle.cdf_attrs.proofs.AttributeChain.{few_attributes, index_in}
 use Rattle.cdf_attrs.proofs.AttributeParts.{parts, members_at, names_rechained, number_at, places_rechained, Parts}
-use Rattle.cdf_attrs.proofs.EntryChains.{holder_stands, chain_there, counted, entry_inside, entry_lies, few_entries, members}
-use Rattle.cdf_attrs.proofs.EntryTakenAt.{numbered_at, once, places_are, small, stands_behind}
+use Rattle.cdf_attrs.proofs.EntryChains.{counted, entry_inside, few_entries, members}
+use Rattle.cdf_attrs.proofs.EntryTakenAt.{at_index, numbered_at, once, places_are, small, stands_behind}
 use Rattle.cdf_attrs.proofs.GreatestNumber.{greatest_fits, greatest_put}
 use Rattle.cdf_attrs.proofs.NumberGone.{none_in}
 use Rattle.cdf_attrs.proofs.ValueWords.{whole}
@@ -57,29 +59,23 @@ fields_of new r = laid_out (said new r) ++ new.value.bytes.items
 abbrev Fits : NewEntry → Reserved → Type 0
 Fits new r = Fit new.slot.attribute new.slot.num new.value.elems r
 
-type_small : (kind : EntryKind) → entry_type kind < 2 ^ 32
-type_small entries.Z = lit< tt
-type_small kind = lit< tt
+entry_types : (kind : EntryKind) → IsType (entry_type kind) 56
+entry_types entries.Z = record { small = lit< tt; real = refl; in_use = apart 9 uir_type refl; fixed = omega arith; enough = omega arith }
+entry_types other = record { small = lit< tt; real = refl; in_use = apart 5 uir_type refl; fixed = omega arith; enough = omega arith }
 
-module _ (kind : EntryKind) (attr : ℕ) (t : DataType) (num elems : ℕ) (r : Reserved) (value : List ℕ) where
-  length-body : length (aedr_body kind attr t num elems r value) ≡ 48 + length value
+module _ (new : NewEntry) (r : Reserved) where
+  pub body_long : 8 + length (body_of new r) ≡ 56 + length new.value.bytes.items
   unfolding aedr_body
-  length-body = omega arith
+  body_long = omega arith
 
-  type_in_body : type_of_body (aedr_body kind attr t num elems r value) ≡ entry_type kind
+  pub body_made : (type_of_body (body_of new r) ≡ entry_type new.slot.kind) × IsBody (body_of new r)
   unfolding aedr_body
-  type_in_body = by kind
-    where
-      by : (k : EntryKind) → type_of_body (aedr_body k attr t num elems r value) ≡ entry_type k
-      by entries.Z = refl
-      by other = refl
+  body_made = typed_body ((aedr_aedr_next, 0) ∷ said new r) new.value.bytes.items (body_of new r) (entry_types new.slot.kind) refl (let long = body_long in omega arith)
 
-  aedr_is_body : IsBody (aedr_body kind attr t num elems r value)
-  aedr_is_body = by kind type_in_body length-body
-    where
-      by : (k : EntryKind) → type_of_body (aedr_body kind attr t num elems r value) ≡ entry_type k → length (aedr_body kind attr t num elems r value) ≡ 48 + length value → IsBody (aedr_body kind attr t num elems r value)
-      by entries.Z e long = record { enough = omega arith; real = rw e refl; in_use = rw e (apart 9 uir_type refl); fixed = rw e (omega arith) }
-      by other e long = record { enough = omega arith; real = rw e refl; in_use = rw e (apart 5 uir_type refl); fixed = rw e (omega arith) }
+  -- behind the link
+  placed_fields : {b filled : List ℕ} {place : ℕ} → Placed b filled (body_of new r) place → (more : List ℕ) × (drop (place + 20) filled ≡ fields_of new r ++ more)
+  unfolding aedr_body
+  placed_fields placed = (placed_says ((record_type, entry_type new.slot.kind) ∷ (aedr_aedr_next, 0) ∷ []) (fields_of new r) placed refl refl ((entry_types new.slot.kind).small, (lit< tt, tt))).1
 
 -- the type of the records of the chain of a kind
 type_of_kind : (kind : EntryKind) (adr : ℕ) → type_in (entries_chain kind adr) ≡ entry_type kind
@@ -90,17 +86,7 @@ type_of_kind other adr = refl
 abbrev pub stored : NewEntry → ℕ
 stored new = cast_unsigned w32 (cast_signed w32 (cast_unsigned w32 new.greatest))
 
--- ---- lists
-
--- another in the place of the one at an index
-set_in_place : (xs : List ℕ) (i by : ℕ) → i < length xs → Distinct xs → with_in_place (slice_index xs i) by xs ≡ slice_set xs i by
-set_in_place [] i by lt d = absurd (omega arith)
-set_in_place (x ∷ xs) zero by lt d = rw (eq-eqb x x refl) refl
-set_in_place (x ∷ xs) (suc i) by lt d =
-    let j = index_in xs i (omega arith) in
-    rw (ne_eqb x (slice_index xs i) (λ e. d.0 (subst (λ (y : ℕ). In y xs) (sym e) j))) (ap (λ (r : List ℕ). x ∷ r) (set_in_place xs i by (omega arith) d.1))
-
-as_meant : (P : Chain → List ℕ → Type 0) {c d : Chain} {xs ys : List ℕ} → c ≡ d → xs ≡ ys → P c xs → P d ys
+pub as_meant : (P : Chain → List ℕ → Type 0) {c d : Chain} {xs ys : List ℕ} → c ≡ d → xs ≡ ys → P c xs → P d ys
 as_meant P {d = d} {xs = xs} is are p = subst (P d) are (subst (λ (x : Chain). P x xs) is p)
 
 -- ---- an entry that is written
@@ -136,15 +122,13 @@ module _ (new : NewEntry) (r : Reserved) {b now : List ℕ} {place : ℕ} (littl
         reserved = (rb, (rc, (rd, (re, tt))));
       }
 
-  -- in an image in which it was placed, and after steps that leave what follows its link
-  entry_written : {filled : List ℕ} → Placed b filled (body_of new r) place → Fits new r → Same filled now (place + 20) (place + (56 + length new.value.bytes.items)) → place + (56 + length new.value.bytes.items) ≤ length filled → length filled ≤ length now → 56 + length new.value.bytes.items ≤ size_at now place → IsEntry b now place new r
-  unfolding aedr_body
-  entry_written {filled = filled} placed fit same inside longer room =
-      let w = placed_says ((record_type, entry_type new.slot.kind) ∷ (aedr_aedr_next, 0) ∷ said new r) new.value.bytes.items placed refl refl
-      (type_small new.slot.kind, (lit< tt, (fit.attr_fits, (code_small new.value.t, (fit.num_fits, (fit.elems_fit, (lit< tt, (fit.b_fits, (fit.c_fits, (fit.d_fits, (fit.e_fits, tt))))))))))) in
-      is_entry (says_kept filled now place 20 (56 + length new.value.bytes.items) 20 (said new r) same (omega arith) (omega arith) refl w.0.1.1)
-      (piece_kept filled now (place + 20) (place + (56 + length new.value.bytes.items)) same (place + 56) (length new.value.bytes.items) (omega arith) (omega arith) inside longer ∙ ap (take (length new.value.bytes.items)) w.1.1 ∙ take_at new.value.bytes.items w.1.0 (length new.value.bytes.items) refl)
-      room
+  -- after steps that leave what was written behind the link
+  entry_written : {mid : List ℕ} (more : List ℕ) → drop (place + 20) mid ≡ fields_of new r ++ more → Fits new r → Same mid now (place + 20) (place + (56 + length new.value.bytes.items)) → place + (56 + length new.value.bytes.items) ≤ length mid → length mid ≤ length now → 56 + length new.value.bytes.items ≤ size_at now place → IsEntry b now place new r
+  entry_written {mid = mid} more laid fit same inside longer room =
+      let value = new.value.bytes.items in
+      let w = fields_kept mid now place 20 (56 + length value) (said new r) value more (laid ∙ append_assoc (laid_out (said new r)) value more) refl
+      (fit.attr_fits, (code_small new.value.t, (fit.num_fits, (fit.elems_fit, (lit< tt, (fit.b_fits, (fit.c_fits, (fit.d_fits, (fit.e_fits, tt))))))))) same refl inside longer in
+      is_entry w.0 w.1 room
 
 -- ---- an entry that may be put
 
@@ -167,14 +151,8 @@ module _ {b : List ℕ} {limit : ℕ} {new : NewEntry} {known : KnownEntries} (g
   abbrev cut : Parts b new.slot.adr new.slot.attribute own
   cut = parts w.attribute
 
-  abbrev at : IsAmong b own
-  at = record { before = cut.before; after = cut.after; was = cut.stands }
-
-  body_long : (r : Reserved) → 8 + length (body_of new r) ≡ 56 + size
-  body_long r = omega (arith, length-body new.slot.kind new.slot.attribute new.value.t new.slot.num new.value.elems r new.value.bytes.items)
-
-  body_typed : (r : Reserved) → type_of_body (body_of new r) ≡ entry_type new.slot.kind
-  body_typed r = type_in_body new.slot.kind new.slot.attribute new.value.t new.slot.num new.value.elems r new.value.bytes.items
+  abbrev at : IsAmong b cut.before own cut.after
+  at = record { was = cut.stands }
 
   ready_limit : length b + (56 + size) ≤ image_limit
   ready_limit = omega (arith, w.room, w.within)
@@ -184,18 +162,8 @@ module _ {b : List ℕ} {limit : ℕ} {new : NewEntry} {known : KnownEntries} (g
     abbrev pub of_chain : IsOfAttribute b c
     of_chain = record { number = new.slot.attribute; own = own; stands = w.attribute.stands; kind = new.slot.kind; chain_is = is ∙ ap (entries_chain new.slot.kind) (sym w.attribute.adr_is) }
 
-    pub holder_at : HolderStands b c
-    holder_at = holder_stands b good c of_chain
-
-    pub chain_at : HasChain b c
-    chain_at = chain_there b good c of_chain
-
     pub few_at : counted_in b c + 1 < 2 ^ 32
-    few_at =
-        let l = few_entries b good c of_chain in
-        let e = counted b good c of_chain in
-        let short = ready_limit in
-        omega arith
+    few_at = omega (arith, few_entries b good c of_chain, counted b good c of_chain, ready_limit)
 
     pub known_at : known.places ≡ members_of b c
     known_at = places_are good of_chain known (w.chain ∙ sym is) w.known
@@ -203,22 +171,20 @@ module _ {b : List ℕ} {limit : ℕ} {new : NewEntry} {known : KnownEntries} (g
     -- and of the bytes
     module _ {bytes : List ℕ} (r : Reserved) (body : bytes ≡ body_of new r) where
       pub is_body : IsBody bytes
-      is_body = subst IsBody (sym body) (aedr_is_body new.slot.kind new.slot.attribute new.value.t new.slot.num new.value.elems r new.value.bytes.items)
+      is_body = subst IsBody (sym body) (body_made new r).1
 
       pub body_kind : type_of_body bytes ≡ type_in c
-      body_kind = ap type_of_body body ∙ body_typed r ∙ sym (type_of_kind new.slot.kind new.slot.adr) ∙ ap type_in (sym is)
+      body_kind = ap type_of_body body ∙ (body_made new r).0 ∙ sym (type_of_kind new.slot.kind new.slot.adr) ∙ ap type_in (sym is)
 
       pub body_room : length b + (8 + length bytes) ≤ limit
-      body_room = let long = body_long r in omega (arith, ap (λ (xs : List ℕ). length xs) body, w.room)
+      body_room = let long = body_long new r in omega (arith, ap (λ (xs : List ℕ). length xs) body, w.room)
 
   -- the greatest number lies in an image that is no shorter
   pub max_inside : (now : List ℕ) → length b ≤ length now → LiesIn now new.slot.adr (max_field new.slot.kind)
   max_inside now longer =
       let adr = adr_stands sound cut.before own cut.after cut.stands in
       let high = (tile_lies b 8 (length b) (shape b).records own.adr sound.has_shape.tiled adr.inside).high in
-      let low = (max_lies new.slot.kind).1 in
-      let at_slot = w.attribute.adr_is in
-      omega (arith, adr.long, high, low, at_slot)
+      omega (arith, adr.long, high, (max_lies new.slot.kind).1, w.attribute.adr_is)
 
   pub max_joined : {mid body : List ℕ} {c : Chain} {place count : ℕ} {ms : List ℕ} → Joined b mid c body place ms count → LiesIn mid new.slot.adr (max_field new.slot.kind)
   max_joined {mid = mid} joined = max_inside mid (let one = (filled_edit sound joined.placed.fills).longer in let two = joined.as_long in omega arith)
@@ -283,8 +249,8 @@ module _ {b : List ℕ} {limit : ℕ} {new : NewEntry} {known : KnownEntries} (g
         | inr old ↦ rules_live sound r good m old.0 old.1
       ]
 
-      chained : {attr : List ℕ} {need : ℕ} {acts : List Act} → attribute_named (content b) attr ≡ Some (length cut.before, attribute_of b own) → number now own.adr (count_field new.slot.kind) ≡ length chain' → integer4 now own.adr (max_field new.slot.kind) ≡ new.greatest → Settled sound r need acts
-          → Chained sound r attr new.slot.num need (with_item new.slot.num entry (entries_of (attribute_of b own) new.slot.kind)) acts
+      chained : {attr : List ℕ} {acts : List Act} → attribute_named (content b) attr ≡ Some (length cut.before, attribute_of b own) → number now own.adr (count_field new.slot.kind) ≡ length chain' → integer4 now own.adr (max_field new.slot.kind) ≡ new.greatest → Settled sound r (56 + size) acts
+          → Chained sound r attr new.slot.num (56 + size) (with_item new.slot.num entry (entries_of (attribute_of b own) new.slot.kind)) acts
       chained found counted greatest settled = record {
         found = found;
         items_now = c.items_now;
@@ -297,16 +263,15 @@ module _ {b : List ℕ} {limit : ℕ} {new : NewEntry} {known : KnownEntries} (g
         settled = settled;
       }
 
-      is_put : {need : ℕ} {acts : List Act} {numbers places : List ℕ} → need ≡ 56 + size → number now own.adr (count_field new.slot.kind) ≡ length chain' → integer4 now own.adr (max_field new.slot.kind) ≡ new.greatest → Settled sound r need acts → EntryFollows b now (entry_at b own new.slot.kind new.slot.num) place acts → FreedStay b now no_fields acts
+      is_put : {acts : List Act} {numbers places : List ℕ} → number now own.adr (count_field new.slot.kind) ≡ length chain' → integer4 now own.adr (max_field new.slot.kind) ≡ new.greatest → Settled sound r (56 + size) acts → EntryFollows b now (entry_at b own new.slot.kind new.slot.num) place acts → FreedStay b now no_fields acts
           → numbers ≡ nums now chain' → places ≡ chain' → IsPut b now new known (record { chain = known.chain; numbers = numbers; places = places })
-      is_put {acts = acts} sized counted greatest settled follows freed say are = record {
+      is_put {acts = acts} counted greatest settled follows freed say are = record {
         puts = record {
           follows = λ attr words asks.
-              let both : Some asks.own ≡ Some own = sym asks.stands ∙ w.attribute.stands in
-              let same : asks.own ≡ own = cc in
+              let same : asks.own ≡ own = cc (asks.stands, w.attribute.stands) in
               let goes = asks.goes ∙ (λ i. Go (with_attribute (content b) (sym cut.count i) (with_entries (attribute_of b (same i)) new.slot.kind (with_item new.slot.num entry (entries_of (attribute_of b (same i)) new.slot.kind)))) Plain) in
               let all = chained (asks.named ∙ (λ i. Some (sym cut.count i, attribute_of b (same i)))) counted greatest settled in
-              follows_chained sound r all good (PutEntry attr new.slot.kind new.slot.num entry.type words) (ap ByStep goes) (asks.takes ∙ ap (λ (n : ℕ). 56 + n) (size_stays new.value.t (is_little b) new.value.bytes.items (whole w.stored)) ∙ sym sized) refl refl
+              follows_chained sound r all good (PutEntry attr new.slot.kind new.slot.num entry.type words) (ap ByStep goes) (asks.takes ∙ ap (λ (n : ℕ). 56 + n) (size_stays new.value.t (is_little b) new.value.bytes.items (whole w.stored))) refl refl
               (of_named sound r all (λ a a'. PutsEntry b now a a' new.slot.kind new.slot.num acts) (record { aedr = place; stands = found_now; follows = follows; no_strings = there.no_strings; chain = chain_follows sound r all; freed = freed })) (let l = ready_limit in omega arith);
           names_stay = names_rechained sound r;
           places_stay = places_rechained sound r;
@@ -316,23 +281,31 @@ module _ {b : List ℕ} {limit : ℕ} {new : NewEntry} {known : KnownEntries} (g
       }
 
   -- a record of it was made and linked
-  module _ {now : List ℕ} {place : ℕ} {chain' gone : List ℕ} {count : ℕ} {reserved : Reserved} (p : JoinsEntry b now new.slot.kind own (body_of new reserved) place chain' gone count) where
-    joined_there : Fits new reserved → IsEntry b now place new reserved
-    joined_there fit =
-        let long = as_long new.slot.kind sound at p in
-        let n = body_long reserved in
+  module _ {now : List ℕ} {place : ℕ} {chain' gone : List ℕ} {count : ℕ} {reserved : Reserved} (p : JoinsEntry b now new.slot.kind own (56 + size) (body_of new reserved) place chain' gone count) where
+    -- it is in an image that leaves it
+    stays_there : {next : List ℕ} → Fits new reserved → is_little next ≡ is_little b → Same now next place (place + size_at now place) → length now ≤ length next → IsEntry b next place new reserved
+    stays_there {next = next} fit little same longer =
+        let laid = placed_fields new reserved p.joined.placed in
+        let n = body_long new reserved in
+        let long = (new_record new.slot.kind sound at p).long in
         let inside = p.joined.placed.inside in
         let kept = p.joined.placed.fills.long in
-        let sized = new_size new.slot.kind sound at p in
-        entry_written new reserved (file_now sound (rechains new.slot.kind sound at p)).little w.stored p.joined.placed fit (new_value new.slot.kind sound at p _ (omega arith)) (omega arith) (omega arith) (omega arith)
+        let sized = new_size sound (new_record new.slot.kind sound at p) in
+        let size_next = size_kept now next place same (omega arith) in
+        entry_written new reserved little w.stored laid.0 laid.1 fit
+        (same-then p.joined.filled now next (place + 20) (place + (56 + size)) (new_value new.slot.kind sound at p (56 + size) (omega arith)) (Same-part now next place (place + size_at now place) (place + 20) (place + (56 + size)) same (omega arith) (omega arith)))
+        (omega arith) (omega arith) (omega arith)
+
+    joined_there : Fits new reserved → IsEntry b now place new reserved
+    joined_there fit = stays_there fit (file_now sound (rechains new.slot.kind sound at p)).little (record { each = λ i l u. refl }) (omega arith)
 
   -- ---- a last one
 
   module _ {mid now : List ℕ} {place : ℕ} (absent : position (λ n. n == new.slot.num) known.numbers ≡ None) {c : Chain} {bytes : List ℕ} (is : c ≡ entries_chain new.slot.kind new.slot.adr) (bytes_are : bytes ≡ body_of new new_reserved) (added : Added b mid c bytes place) (written : now ≡ with_field mid new.slot.adr (max_field new.slot.kind) (stored new)) where
-    abbrev p : JoinsEntry b now new.slot.kind own (body_of new new_reserved) place (chain ++ place ∷ []) [] (counted_in b (entries_chain new.slot.kind own.adr) + 1)
-    p = pushes new.slot.kind sound at (body_typed new_reserved) (max_written new.slot.kind (stored new) w.attribute.adr_is written) (as_meant (λ (x : Chain) (xs : List ℕ). Added b mid x xs place) (of_chain is).chain_is bytes_are added)
+    abbrev p : JoinsEntry b now new.slot.kind own (56 + size) (body_of new new_reserved) place (chain ++ place ∷ []) [] (counted_in b (entries_chain new.slot.kind own.adr) + 1)
+    p = pushes new.slot.kind sound at (body_made new new_reserved).0 (body_long new new_reserved) (max_written new.slot.kind (stored new) w.attribute.adr_is written) (as_meant (λ (x : Chain) (xs : List ℕ). Added b mid x xs place) (of_chain is).chain_is bytes_are added)
 
-    abbrev r : Rechains b now (shape b) (records new.slot.kind sound at p) (list new.slot.kind sound at p) (marks new.slot.kind sound at p) (place ∷ []) new.slot.kind cut.before own cut.after (chain ++ place ∷ []) [] (place ∷ [])
+    abbrev r : Rechains b now (shape b) (records sound (new_record new.slot.kind sound at p)) (list sound (new_record new.slot.kind sound at p)) (marks sound (new_record new.slot.kind sound at p)) (place ∷ []) new.slot.kind cut.before own cut.after (chain ++ place ∷ []) [] (place ∷ [])
     r = rechains new.slot.kind sound at p
 
     there : IsEntry b now place new new_reserved
@@ -358,10 +331,10 @@ module _ {b : List ℕ} {limit : ℕ} {new : NewEntry} {known : KnownEntries} (g
           differ = nums_pushed now chain place (subst Distinct (sym (nums_live b now chain live)) (differ_before sound r good)) out_now;
           chain_is = ap (λ (o : Option ℕ). chain_after chain o (Some place)) (sym found);
           of_gone = λ m i. absurd i;
-        }) (body_long new_reserved)
+        })
         (count_now new.slot.kind sound at p ∙ ap (λ (n : ℕ). n + 1) (as_count new.slot.kind b b own.adr ∙ counted_before sound r good) ∙ sym (length-append chain (place ∷ [])))
         (greatest_now new.slot.kind sound at p new.greatest signed is_stored) (settled new.slot.kind sound at p (λ m. refl) (λ none. none))
-        (rw found (ap (λ (n : ℕ). Took place n ∷ []) (body_long new_reserved ∙ ap (λ (n : ℕ). 56 + n) (sym there.bytes_are)), there.reserved)) tt
+        (rw found (ap (λ (n : ℕ). Took place (56 + n) ∷ []) (sym there.bytes_are), there.reserved)) tt
         ((λ i. (numbers_chain ∙ sym (nums_live b now chain live)) i ++ sym there.num_is i ∷ []) ∙ sym (map-append (λ (e : ℕ). number now e aedr_num) chain (place ∷ [])))
         (ap (λ (ms : List ℕ). ms ++ place ∷ []) places_chain)
 
@@ -371,24 +344,17 @@ module _ {b : List ℕ} {limit : ℕ} {new : NewEntry} {known : KnownEntries} (g
     abbrev old : ℕ
     old = was.place
 
-    member : In old chain
+    pub member : In old chain
     member = subst (λ (x : ℕ). In x chain) (sym has.place_is) (subst (In (slice_index known.places i)) places_chain (index_in known.places i has.within))
 
     member_in : {c : Chain} → c ≡ entries_chain new.slot.kind new.slot.adr → In old (members_of b c)
     member_in {c = c} is = subst (In old) (sym (members b good c (of_chain is))) member
 
-    -- it ends in the image, and is long enough for its fields
-    ends_within : old + size_at b old ≤ length b
-    ends_within =
-        let h = sound.has_shape in
-        let ok = (chain_at refl).linkable old (member_in refl) in
-        (tile_lies b 8 (length b) (shape b).records old h.tiled (subst (In old) (tiles_are b (shape b) h) (linkable-in b (tiles b) (type_in (entries_chain new.slot.kind new.slot.adr)) old ok))).high
+    in_image : Stands b (shape b).records old (entry_type new.slot.kind) 28
+    in_image = stands new.slot.kind sound at old member
 
     pub begins : old + 56 ≤ length b
     begins = subst (λ (x : ℕ). x + 56 ≤ length b) (sym has.place_is) (begins_at i has.within)
-
-    member_long : 28 ≤ size_at b old
-    member_long = let l = entry_lies b good (entries_chain new.slot.kind new.slot.adr) (of_chain refl) old (member_in refl) in omega (arith, l)
 
     pub is_member : {c : Chain} → c ≡ entries_chain new.slot.kind new.slot.adr → is_in old (members_of b c) ≡ true
     is_member {c = c} is = is_in-true old (members_of b c) (member_in is)
@@ -402,26 +368,26 @@ module _ {b : List ℕ} {limit : ℕ} {new : NewEntry} {known : KnownEntries} (g
         field : (at : ℕ) → at + 4 ≤ 56 → word b (old + at) 4 < 2 ^ 32
         field at l = word4_fits b old 56 (old + at) has.bytes (omega arith) (omega arith)
 
-    module _ {now records list : List ℕ} {marks : List Mark} {reborn : List ℕ} {by : ℕ} (r : Rechains b now (shape b) records list marks reborn new.slot.kind cut.before own cut.after (with_in_place old by chain) (old ∷ []) (by ∷ [])) (there : IsEntry b now by new was.reserved) where
+    module _ {now records list : List ℕ} {marks : List Mark} {reborn chain' : List ℕ} {by : ℕ} (is : chain' ≡ with_in_place old by chain) (r : Rechains b now (shape b) records list marks reborn new.slot.kind cut.before own cut.after chain' (old ∷ []) (by ∷ [])) (there : IsEntry b now by new was.reserved) where
       others : (m : ℕ) → In m chain → m ≢ old → EntryLives b now m
       others m i ne = entry_stays sound r m i (λ j. ne (the_one old m j))
 
-      numbers_same : nums now (with_in_place old by chain) ≡ nums b chain
-      numbers_same = nums_replaced b now old by new.slot.num has.number_is there.num_is chain (differ_before sound r good) member others
+      numbers_same : nums now chain' ≡ nums b chain
+      numbers_same = ap (nums now) is ∙ nums_replaced b now old by new.slot.num has.number_is there.num_is chain (differ_before sound r good) member others
 
       found_old : entry_at b own new.slot.kind new.slot.num ≡ Some old
       found_old = found_one b new.slot.num old chain has.number_is member (differ_before sound r good)
 
-      replaced : {need : ℕ} {acts : List Act} {places : List ℕ} → need ≡ 56 + size → number now own.adr (count_field new.slot.kind) ≡ number b own.adr (count_field new.slot.kind) → integer4 now own.adr (max_field new.slot.kind) ≡ new.greatest → Settled sound r need acts → EntryMoves b now old by acts → FreedStay b now no_fields acts
-          → places ≡ with_in_place old by chain → IsPut b now new known (record known { places = places })
-      replaced sized same greatest settled moves freed are = is_put r there
+      replaced : {acts : List Act} {places : List ℕ} → number now own.adr (count_field new.slot.kind) ≡ number b own.adr (count_field new.slot.kind) → integer4 now own.adr (max_field new.slot.kind) ≡ new.greatest → Settled sound r (56 + size) acts → EntryMoves b now old by acts → FreedStay b now no_fields acts
+          → places ≡ chain' → IsPut b now new known (record known { places = places })
+      replaced same greatest settled moves freed are = is_put r there
           (record {
             stands = came_in chain _ (old ∷ []) (by ∷ []) r.trades by (inl refl) (one_within old chain member by);
-            items_now = entries_replaced b now old by new.slot.num has.number_is there.num_is chain (differ_before sound r good) member others ∙ (λ k. with_item new.slot.num (there.meant k) (sym (items_of b own new.slot.kind) k));
+            items_now = ap (chain_items now) is ∙ entries_replaced b now old by new.slot.num has.number_is there.num_is chain (differ_before sound r good) member others ∙ (λ k. with_item new.slot.num (there.meant k) (sym (items_of b own new.slot.kind) k));
             differ = subst Distinct (sym numbers_same) (differ_before sound r good);
-            chain_is = sym (replaced_after old by chain (once_before sound r good)) ∙ ap (λ (o : Option ℕ). chain_after chain o (Some by)) (sym found_old);
+            chain_is = is ∙ sym (replaced_after old by chain (once_before sound r good)) ∙ ap (λ (o : Option ℕ). chain_after chain o (Some by)) (sym found_old);
             of_gone = λ m j. ap (λ (x : ℕ). number b x aedr_num) (the_one old m j) ∙ has.number_is;
-          }) sized (same ∙ counted_before sound r good ∙ sym (length-map chain (λ (m : ℕ). number b m aedr_num)) ∙ ap (λ (xs : List ℕ). length xs) (sym numbers_same) ∙ length-map (with_in_place old by chain) (λ (m : ℕ). number now m aedr_num)) greatest settled (rw found_old moves) freed (numbers_chain ∙ sym numbers_same) are
+          }) (same ∙ counted_before sound r good ∙ sym (length-map chain (λ (m : ℕ). number b m aedr_num)) ∙ ap (λ (xs : List ℕ). length xs) (sym numbers_same) ∙ length-map chain' (λ (m : ℕ). number now m aedr_num)) greatest settled (rw found_old moves) freed (numbers_chain ∙ sym numbers_same) are
 
       reserved_same : Says now by ((aedr_rfu_b, number b old aedr_rfu_b) ∷ (aedr_rfu_c, number b old aedr_rfu_c) ∷ (aedr_rfu_d, number b old aedr_rfu_d) ∷ (aedr_rfu_e, number b old aedr_rfu_e) ∷ [])
       reserved_same = subst (λ (x : Reserved). Says now by ((aedr_rfu_b, x.b) ∷ (aedr_rfu_c, x.c) ∷ (aedr_rfu_d, x.d) ∷ (aedr_rfu_e, x.e) ∷ [])) has.reserved_is there.reserved
@@ -432,107 +398,68 @@ module _ {b : List ℕ} {limit : ℕ} {new : NewEntry} {known : KnownEntries} (g
       fits : 56 + size ≤ size_at b old
       fits = subst (λ (n : ℕ). 56 + size ≤ n) has.size_is room
 
-      wide : 20 + length (fields_of new was.reserved) ≡ 56 + size
-      wide = omega arith
-
       pub fields_inside : old + 20 + length bytes ≤ length b
       fields_inside =
           let same = ap (λ (xs : List ℕ). length xs) bytes_are in
-          let long = wide in
-          let ends = ends_within in
+          let ends = (tile_lies b 8 (length b) (shape b).records old sound.has_shape.tiled in_image.inside).high in
           let room = fits in
           omega arith
 
       module _ {now : List ℕ} (written : now ≡ with_field (put b (old + 20) bytes) new.slot.adr (max_field new.slot.kind) (stored new)) where
-        abbrev q : ChangesEntry b now new.slot.kind own (fields_of new was.reserved) old
-        q = record { member = member; room = let f = fits in let l = wide in omega arith; greatest = stored new; written = max_written new.slot.kind (stored new) w.attribute.adr_is (written ∙ ap (λ (xs : List ℕ). with_field (put b (old + 20) xs) new.slot.adr (max_field new.slot.kind) (stored new)) bytes_are) }
-
-        abbrev changed_chain : Rechains b now (shape b) (shape b).records (shape b).unused (over_marks new.slot.kind sound at q) [] new.slot.kind cut.before own cut.after (with_in_place old old chain) (old ∷ []) (old ∷ [])
-        changed_chain = over_rechains new.slot.kind sound at q
+        abbrev q : WritesChain b now new.slot.kind cut.before own cut.after (old ∷ []) (field 20 (length (fields_of new was.reserved)))
+        q = changes new.slot.kind sound at (fields_of new was.reserved) member (let f = fits in omega arith) (max_written new.slot.kind (stored new) w.attribute.adr_is (written ∙ ap (λ (xs : List ℕ). with_field (put b (old + 20) xs) new.slot.adr (max_field new.slot.kind) (stored new)) bytes_are))
 
         changed_there : IsEntry b now old new was.reserved
         changed_there =
-            let value = new.value.bytes.items in
-            let mid = put b (old + 20) (fields_of new was.reserved) in
-            let high = ends_within in
             let inside = fits in
-            let l = wide in
-            let f = old_fits in
-            let more = drop (old + 20 + length (fields_of new was.reserved)) b in
-            let laid : drop (old + 20) mid ≡ laid_out (said new was.reserved) ++ (value ++ more) = drop-put_there b (fields_of new was.reserved) (old + 20) (omega arith) ∙ append_assoc (laid_out (said new was.reserved)) value more in
-            let says = says_laid_out mid old 20 (said new was.reserved) (value ++ more) laid refl (f.attr_fits, (code_small new.value.t, (f.num_fits, (f.elems_fit, (lit< tt, (f.b_fits, (f.c_fits, (f.d_fits, (f.e_fits, tt))))))))) in
-            let same = over_kept new.slot.kind sound at q (56 + length value) fits in
-            let mid_long : length mid ≡ length b = length-put b (old + 20) (fields_of new was.reserved) (omega arith) in
-            let long = over_long new.slot.kind sound at q in
-            is_entry new was.reserved (file_now sound changed_chain).little w.stored (says_kept mid now old 0 (56 + length value) 20 (said new was.reserved) same (omega arith) (omega arith) refl says.0)
-            (piece_kept mid now (old + 0) (old + (56 + length value)) same (old + 56) (length value) (omega arith) (omega arith) (omega arith) (omega arith) ∙ ap (take (length value)) says.1 ∙ take_at value more (length value) refl)
-            (subst (λ (n : ℕ). 56 + length value ≤ n) (sym (over_size new.slot.kind sound at q)) fits)
-
-        all_ends : 20 + length (fields_of new was.reserved) ≡ entry_end now old
-        all_ends = wide ∙ ap (λ (n : ℕ). 56 + n) (sym changed_there.bytes_are)
+            let ends = (tile_lies b 8 (length b) (shape b).records old sound.has_shape.tiled in_image.inside).high in
+            let mid_long = q.long in
+            let long = over_long sound q in
+            let mid_sized = mid_size sound q old member in
+            let sized = size_now sound q old member in
+            entry_written new was.reserved (file_now sound (over_rechains sound q)).little w.stored (drop (old + 20 + length (fields_of new was.reserved)) b) (drop-put_there b (fields_of new was.reserved) (old + 20) (omega arith)) old_fits
+            (Same-part q.mid now old (old + size_at q.mid old) (old + 20) (old + (56 + size)) (mid_kept sound q old member).same (omega arith) (omega arith))
+            (omega arith) (omega arith) (omega arith)
 
         pub put_over : IsPut b now new known known
-        put_over = replaced changed_chain changed_there refl (over_count new.slot.kind sound at q) (over_greatest new.slot.kind sound at q new.greatest signed is_stored) (over_settled new.slot.kind sound at q good)
+        put_over = replaced (sym (in_its_place old chain)) (over_rechains sound q) changed_there (over_count sound q) (over_greatest sound q new.greatest signed is_stored) (over_settled sound q good)
             (record {
-              acts_are = rw (le-leb (entry_end now old) (size_at b old) (subst (λ (n : ℕ). n ≤ size_at b old) all_ends q.room)) refl;
-              reserved = reserved_same changed_chain changed_there;
-              room = λ le. record { place_stays = refl; size_stays = over_size new.slot.kind sound at q; rest_stays = subst (λ (n : ℕ). Same b now (old + n) (old + size_at b old)) all_ends (over_behind new.slot.kind sound at q) };
-            }) tt (places_chain ∙ sym (in_its_place old chain))
+              acts_are = rw (le-leb (entry_end now old) (size_at b old) (let e = changed_there.bytes_are in let f = fits in omega arith)) refl;
+              reserved = reserved_same (sym (in_its_place old chain)) (over_rechains sound q) changed_there;
+              room = λ le. record { place_stays = refl; size_stays = size_now sound q old member; rest_stays = part_beside sound q old (entry_end now old) (size_at b old) member (inr (let e = changed_there.bytes_are in omega arith)) (omega arith) };
+            }) tt places_chain
 
     -- ---- in another record
 
     module _ {mid late : List ℕ} {by : ℕ} {c : Chain} {bytes : List ℕ} (is : c ≡ entries_chain new.slot.kind new.slot.adr) (bytes_are : bytes ≡ body_of new was.reserved) (exchanged : Exchanged b mid c bytes old by) (written : late ≡ with_field mid new.slot.adr (max_field new.slot.kind) (stored new)) where
-      abbrev j : JoinsEntry b late new.slot.kind own (body_of new was.reserved) by (with_in_place old by chain) (old ∷ []) (counted_in b (entries_chain new.slot.kind own.adr))
-      j = exchanges new.slot.kind sound at (body_typed was.reserved) (max_written new.slot.kind (stored new) w.attribute.adr_is written) member (as_meant (λ (x : Chain) (xs : List ℕ). Exchanged b mid x xs old by) (of_chain is).chain_is bytes_are exchanged)
+      abbrev j : JoinsEntry b late new.slot.kind own (56 + size) (body_of new was.reserved) by (with_in_place old by chain) (old ∷ []) (counted_in b (entries_chain new.slot.kind own.adr))
+      j = exchanges new.slot.kind sound at (body_made new was.reserved).0 (body_long new was.reserved) (max_written new.slot.kind (stored new) w.attribute.adr_is written) member (as_meant (λ (x : Chain) (xs : List ℕ). Exchanged b mid x xs old by) (of_chain is).chain_is bytes_are exchanged)
 
       late_there : IsEntry b late by new was.reserved
       late_there = joined_there j old_fits
 
       -- the old one may be freed
-      abbrev took : Act
-      took = Took by (8 + length (body_of new was.reserved))
-
-      f : Frees b late (records new.slot.kind sound at j) (list new.slot.kind sound at j) (marks new.slot.kind sound at j) (by ∷ []) new.slot.kind cut.before own cut.after (with_in_place old by chain) (by ∷ []) old (8 + length (body_of new was.reserved)) (took ∷ [])
-      f = frees new.slot.kind sound at j member late_there.fits
-
-      pub late_sound : IsSound late (shape late)
-      late_sound = sound_late sound f
-
-      pub late_stands : In old (shape late).records
-      late_stands = old_stands sound f
-
-      pub late_free : times old (owned_records late (shape late)) ≡ 0
-      late_free = old_free sound f
+      pub freed : Frees b late (records sound (new_record new.slot.kind sound at j)) (list sound (new_record new.slot.kind sound at j)) (marks sound (new_record new.slot.kind sound at j)) (by ∷ []) new.slot.kind cut.before own cut.after (with_in_place old by chain) (by ∷ []) old (56 + size) (Took by (56 + size) ∷ [])
+      freed = frees new.slot.kind sound at j member late_there.fits
 
       module _ {now : List ℕ} (large : was.size < 56 + size) (gives : Gives late now (shape late) (shape now) old) where
-        abbrev moved : Rechains b now (shape b) (records new.slot.kind sound at j) (shape now).unused (all_marks sound f) (by ∷ old ∷ []) new.slot.kind cut.before own cut.after (with_in_place old by chain) (old ∷ []) (by ∷ [])
-        moved = freed_rechains sound f gives
+        abbrev moved : Rechains b now (shape b) (records sound (new_record new.slot.kind sound at j)) (shape now).unused (all_marks sound freed) (by ∷ old ∷ []) new.slot.kind cut.before own cut.after (with_in_place old by chain) (old ∷ []) (by ∷ [])
+        moved = freed_rechains sound freed gives
 
         moved_there : IsEntry b now by new was.reserved
         moved_there =
-            let n = body_long was.reserved in
-            let long = as_long new.slot.kind sound at j in
-            let freed_long = as_long_now sound f gives in
-            let stays = other_kept sound f gives by (place_in new.slot.kind sound at j) (not_old new.slot.kind sound at j member late_there.fits) (new_type new.slot.kind sound at j) in
-            let sized = new_size new.slot.kind sound at j in
-            let wide = stays.long in
-            let inside = j.joined.placed.inside in
-            let kept = j.joined.placed.fills.long in
-            let size_now = size_kept late now by stays.same (omega arith) in
-            entry_written new was.reserved (file_now sound moved).little w.stored j.joined.placed old_fits
-            (same-then j.joined.filled late now (by + 20) (by + (56 + size)) (new_value new.slot.kind sound at j _ (omega arith)) (Same-part late now by (by + size_at late by) (by + 20) (by + (56 + size)) stays.same (omega arith) (omega arith)))
-            (omega arith) (omega arith) (omega arith)
+            let stays = other_kept sound freed gives by (new_in sound (new_record new.slot.kind sound at j)) (not_old new.slot.kind sound at j member late_there.fits) (new_type sound (new_record new.slot.kind sound at j)) in
+            let long = as_long_now sound freed gives in
+            stays_there j old_fits (file_now sound moved).little stays.same (omega arith)
 
         pub put_anew : IsPut b now new known (record known { places = slice_set known.places i by })
         put_anew =
-            let n = body_long was.reserved in
-            let wide : 8 + length (body_of new was.reserved) ≡ entry_end now by = n ∙ ap (λ (n : ℕ). 56 + n) (sym moved_there.bytes_are) in
-            let larger : size_at b old < entry_end now by = (let is = has.size_is in omega arith) in
-            let set = set_in_place known.places i by has.within (once good (of_chain refl) known w.chain w.known) in
-            replaced moved moved_there n (count_same sound f gives (count_is new.slot.kind b own.adr).0 ∙ count_now new.slot.kind sound at j ∙ as_count new.slot.kind b b own.adr)
-            (greatest_integer new.slot.kind late now own.adr (greatest_same sound f gives (max_lies new.slot.kind).1) ∙ greatest_now new.slot.kind sound at j new.greatest signed is_stored) (freed_settled sound f gives (ends new.slot.kind sound at j))
+            let larger : size_at b old < entry_end now by = (let is = has.size_is in let all = moved_there.bytes_are in omega arith) in
+            let set = (at_index known.places i by has.within (once good (of_chain refl) known w.chain w.known)).2 in
+            replaced refl moved moved_there (count_same sound freed gives (count_is new.slot.kind b own.adr).0 ∙ count_now new.slot.kind sound at j ∙ as_count new.slot.kind b b own.adr)
+            (greatest_integer new.slot.kind late now own.adr (greatest_same sound freed gives (max_lies new.slot.kind).1) ∙ greatest_now new.slot.kind sound at j new.greatest signed is_stored) (freed_settled sound freed gives (ends sound (new_record new.slot.kind sound at j)))
             (record {
-              acts_are = rw (lt-leb (entry_end now by) (size_at b old) larger) (ap (λ (n : ℕ). Took by n ∷ Gave old (size_at b old) ∷ []) wide);
-              reserved = reserved_same moved moved_there;
+              acts_are = rw (lt-leb (entry_end now by) (size_at b old) larger) (ap (λ (n : ℕ). Took by (56 + n) ∷ Gave old (size_at b old) ∷ []) (sym moved_there.bytes_are));
+              reserved = reserved_same refl moved moved_there;
               room = λ le. absurd (omega arith);
-            }) (freed_bytes sound f gives (took ∷ Gave old (size_at b old) ∷ []) member_long) (sym (ap (λ (x : ℕ). with_in_place x by known.places) has.place_is ∙ set) ∙ ap (with_in_place old by) places_chain)
+            }) (freed_bytes sound freed gives (Took by (56 + size) ∷ Gave old (size_at b old) ∷ []) in_image.long) (sym (ap (λ (x : ℕ). with_in_place x by known.places) has.place_is ∙ set) ∙ ap (with_in_place old by) places_chain)

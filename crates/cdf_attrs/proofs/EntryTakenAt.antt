@@ -1,6 +1,6 @@
 -- An entry at an index of its chain: what of the chain is before it and without it, and what calls ask for that take it out.
 use Rattle.std.proofs.Common.{◌≡◌, ℕ, zero, suc, ◌+◌, ◌<◌, ◌≤◌, pos, List, [], ◌∷◌, ◌++◌, length, map, take, get_or, slice_index_or, Some, All, eq-eqb, FitsSigned, w32, None, refl, sym, ap, ap₂, subst, ◌∙◌, arith, inl, inr}
-use Rattle.cdf_attrs.proofs.Common.{eqb-true, ne_eqb, same_Some, slice_get_within, shape, Cut, cut, ints, of_z-to_z, cast_signed, cast_unsigned, length-map, position-Some, last_or, position, remove, slice_get, ◌==◌, slice_index, EntryKind, image_limit, record_number_limit, signed_limit, number, aedr_num, AttributeShape, In, Distinct, Good, Chain, entries_chain, before, members_of, IsOfAttribute, KnownEntries, KnowsEntries, IsEntryOf, got-middle}
+use Rattle.cdf_attrs.proofs.Common.{eqb-true, ne_eqb, same_Some, slice_get_within, shape, Cut, cut, ints, of_z-to_z, cast_signed, cast_unsigned, length-map, position-Some, last_or, position, remove, slice_get, ◌==◌, slice_index, EntryKind, image_limit, record_number_limit, signed_limit, number, aedr_num, AttributeShape, In, Distinct, Good, Chain, entries_chain, before, members_of, IsOfAttribute, KnownEntries, KnowsEntries, IsEntryOf, got-middle, with_in_place, slice_set}
 use Rattle.std.proofs.lemmas.List.{get_or-map}
 use Rattle.std.proofs.lemmas.List.Edits.{length-remove}
 use Rattle.cdf_edits.specs.Space.Chains.{without}
@@ -9,19 +9,14 @@ use Rattle.cdf_attrs.proofs.EntryChains.{entry_number, chain_there, few_entries}
 
 -- ---- lists
 
-pub before_at : (xs : List ℕ) (i : ℕ) → i < length xs → Distinct xs → before (slice_index xs i) xs ≡ take i xs
-before_at [] i lt d = absurd (omega arith)
-before_at (x ∷ xs) zero lt d = rw (eq-eqb x x refl) refl
-before_at (x ∷ xs) (suc i) lt d =
+-- what is before the one at an index, what is left without it, and another one in its place
+pub at_index : (xs : List ℕ) (i by : ℕ) → i < length xs → Distinct xs → (before (slice_index xs i) xs ≡ take i xs) × (without (slice_index xs i) xs ≡ remove xs i) × (with_in_place (slice_index xs i) by xs ≡ slice_set xs i by)
+at_index [] i by lt d = absurd (omega arith)
+at_index (x ∷ xs) zero by lt d = rw (eq-eqb x x refl) (refl, refl, refl)
+at_index (x ∷ xs) (suc i) by lt d =
     let j = index_in xs i (omega arith) in
-    rw (ne_eqb x (slice_index xs i) (λ e. d.0 (subst (λ (y : ℕ). In y xs) (sym e) j))) (ap (λ (r : List ℕ). x ∷ r) (before_at xs i (omega arith) d.1))
-
-pub without_at_index : (xs : List ℕ) (i : ℕ) → i < length xs → Distinct xs → without (slice_index xs i) xs ≡ remove xs i
-without_at_index [] i lt d = absurd (omega arith)
-without_at_index (x ∷ xs) zero lt d = rw (eq-eqb x x refl) refl
-without_at_index (x ∷ xs) (suc i) lt d =
-    let j = index_in xs i (omega arith) in
-    rw (ne_eqb x (slice_index xs i) (λ e. d.0 (subst (λ (y : ℕ). In y xs) (sym e) j))) (ap (λ (r : List ℕ). x ∷ r) (without_at_index xs i (omega arith) d.1))
+    let r = at_index xs i by (omega arith) d.1 in
+    rw (ne_eqb x (slice_index xs i) (λ e. d.0 (subst (λ (y : ℕ). In y xs) (sym e) j))) (ap (λ (ys : List ℕ). x ∷ ys) r.0, ap (λ (ys : List ℕ). x ∷ ys) r.1, ap (λ (ys : List ℕ). x ∷ ys) r.2)
 
 pub map-remove : (f : ℕ → ℕ) (xs : List ℕ) (i : ℕ) → i < length xs → remove (map f xs) i ≡ map f (remove xs i)
 map-remove f [] i lt = absurd (omega arith)
@@ -109,7 +104,7 @@ module _ {b : List ℕ} (good : Good b) {chain : Chain} (of : IsOfAttribute b ch
         of_z-to_z w32 n (omega arith)
 
     pub stands_behind : last_or None (take i entries.places) ≡ last_or None (before (slice_index entries.places i) (members_of b chain))
-    stands_behind = ap (last_or None) (sym (before_at entries.places i within once)) ∙ ap (λ (ms : List ℕ). last_or None (before (slice_index entries.places i) ms)) places_are
+    stands_behind = ap (last_or None) (sym (at_index entries.places i 0 within once).0) ∙ ap (λ (ms : List ℕ). last_or None (before (slice_index entries.places i) ms)) places_are
 
 -- an entry of a chain is of one of an attribute
 pub of_entry : {b : List ℕ} {kind : EntryKind} {adr place : ℕ} → IsEntryOf b kind adr place → IsOfAttribute b (entries_chain kind adr)

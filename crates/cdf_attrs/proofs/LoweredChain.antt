@@ -1,9 +1,8 @@
 -- The numbers of a known chain that were written less by one: what the image comes to.
-use Rattle.std.proofs.Common.{◌≡◌, ℕ, ◌-◌, ◌≤◌, List, [], ◌∷◌, length, map, w32, refl, sym, ap, ap₂, subst, ◌∙◌, arith, inl, inr}
-use Rattle.cdf_attrs.proofs.Common.{cases_lt, lt-ltb, le-ltb, cast_unsigned, entries_of, image_limit, signed_limit, closed_up, attribute_of, number, integer4, with_field, aedr_num, adr_type, In, Good, Chain, chain_of, max_field, greatest_number, fallen, Write, with_writes, write, nums, LowersChain, max_lies, LowersNumbers, lower_writes, IsOfAttribute, KnownEntries, KnowsEntries, IsGreatest}
-use Rattle.cdf_edits.proofs.Edits.FallenEntries.{entries_now, later, lowered, nums_now, of_max}
+use Rattle.std.proofs.Common.{◌≡◌, ℕ, ◌-◌, ◌≤◌, List, [], ◌∷◌, length, map, w32, refl, sym, ap, ap₂, subst, ◌∙◌, arith, inl, inr, ◌++◌, Some}
+use Rattle.cdf_attrs.proofs.Common.{cases_lt, lt-ltb, le-ltb, cast_unsigned, entries_of, image_limit, signed_limit, closed_up, attribute_of, number, integer4, with_field, aedr_num, adr_type, In, Good, Chain, chain_of, max_field, greatest_number, fallen, Write, with_writes, write, nums, LowersChain, max_lies, LowersNumbers, lower_writes, IsOfAttribute, KnownEntries, KnowsEntries, IsGreatest, slice_get_within, slice_get, with_attribute, with_entries, content, AttributeShape, shape, Cut, cut, got-middle}
+use Rattle.cdf_edits.proofs.Edits.FallenEntries.{entries_now, later, lowered, nums_now, of_max, content_lowered, good_lowered, greatest_lowered}
 use Rattle.cdf_edits.proofs.Edits.FallenItems.{falls, rests}
-use Rattle.cdf_edits.proofs.Edits.FieldWritten.{written_integer}
 use Rattle.cdf_attrs.proofs.EntryChains.{members}
 use Rattle.cdf_attrs.proofs.EntryTakenAt.{cut_is, from_map, parts, places_are, small}
 use Rattle.cdf_attrs.proofs.GreatestNumber.{greatest_fits, greatest_of_items}
@@ -47,6 +46,6 @@ module _ {b : List ℕ} (good : Good b) {chain : Chain} (of : IsOfAttribute b ch
     greatest_now =
         let numbers = ap (map (fallen num)) numbers_of ∙ sym (nums_now good short q) in
         let fits = greatest_fits (map (fallen num) es.numbers) l.greatest (fallen_small num signed_limit es.numbers (λ n i. let le = small good of es is knows n i in omega arith)) l.greatest_is in
-        written_integer _ now _ of.own.adr adr_type (max_field of.kind) l.greatest (of_max good short q) (max_lies of.kind).2 fits q.written
+        greatest_lowered good short q l.greatest fits refl
         ∙ greatest_of_items now (chain_of of.own of.kind) l.greatest (subst (λ (ns : List ℕ). IsGreatest ns l.greatest) numbers l.greatest_is)
         ∙ ap greatest_number (entries_now good short q)

@@ -1,7 +1,9 @@
 -- A new ADR: what was written of it reads back.
 use Rattle.std.proofs.Common.{◌≡◌, ℕ, ◌+◌, ◌-◌, ◌^◌, ◌<◌, ◌≤◌, List, ◌∷◌, ◌++◌, length, take, replicate, refl, ap, ◌∙◌, arith, lit<}
-use Rattle.cdf_attrs.proofs.Common.{length-append, take_at, Same, word, number, record_type, adr_agr_edr_head, adr_scope, adr_num, adr_ngr_entries, adr_az_edr_head, adr_nz_entries, adr_name, uir_type, piece_kept, Says, IsFilled, IsBody, Placed, placed_says, says_kept, apart}
-use Rattle.std.proofs.lemmas.List.{length-replicate}
+use Rattle.cdf_attrs.proofs.Common.{typed_body, type_of_body, length-append, Same, number, record_type, adr_agr_edr_head, adr_scope, adr_num, adr_ngr_entries, adr_az_edr_head, adr_nz_entries, adr_name, uir_type, Says, IsFilled, IsBody, Placed, placed_says, apart}
+use Rattle.cdf_format.proofs.BytesLemmas.{piece_kept}
+use Rattle.cdf_edits.proofs.Space.LaidOut.{says_kept}
+use Rattle.std.proofs.lemmas.List.{length-replicate, take_at}
 use Rattle.cdf_format.specs.Records.{adr_adr_next}
 use Rattle.cdf_edits.specs.Commands.Attributes.{new_adr}
 use Rattle.cdf_attrs.specs.Creating.{adr_fields, adr_body}
@@ -37,12 +39,9 @@ module _ (scope num : ℕ) (name : List ℕ) (short : length name ≤ 256) where
   unfolding adr_body
   length-body = omega (arith, length-padded)
 
-  pub type_in_body : word (adr_body scope num name) 0 4 ≡ 4
+  pub body_made : (type_of_body (adr_body scope num name) ≡ 4) × IsBody (adr_body scope num name)
   unfolding adr_body
-  type_in_body = refl
-
-  pub adr_is_body : IsBody (adr_body scope num name)
-  adr_is_body = let long = length-body in record { enough = omega arith; real = rw type_in_body refl; in_use = rw type_in_body (apart 4 uir_type refl); fixed = rw type_in_body (omega arith) }
+  body_made = typed_body {type = 4} {least = 324} ((adr_adr_next, 0) ∷ adr_fields scope num) (name ++ replicate (256 - length name) 0) (adr_body scope num name) (record { small = lit< tt; real = refl; in_use = apart 4 uir_type refl; fixed = omega arith; enough = omega arith }) refl (let long = length-body in omega arith)
 
   -- in an image in which it was placed, and after steps that leave what follows its link
   pub adr_written : {b filled now : List ℕ} {place : ℕ} → Placed b filled (adr_body scope num name) place → scope < 2 ^ 32 → num < 2 ^ 32 → Same filled now (place + 20) (place + 324) → place + 324 ≤ length filled → length filled ≤ length now → IsNewAdr now place scope num name

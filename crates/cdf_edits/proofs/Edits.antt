@@ -7,6 +7,7 @@ pub mod ChainEntries
 pub mod ChainFollowed
 pub mod ChainKept
 pub mod ChainKinds
+pub mod ChainMembers
 pub mod ChainOwners
 pub mod ChainSpliced
 pub mod ChainsOfShape
@@ -31,6 +32,7 @@ pub mod FreedVdr
 pub mod PadMoved
 pub mod InRecords
 pub mod MadeRecord
+pub mod JoinedRecord
 pub mod LeftEntry
 pub mod MarkLemmas
 pub mod MovedVdr
@@ -69,6 +71,7 @@ pub mod VariableSplice
 pub mod VariablesLinked
 pub mod VdrEdited
 pub mod VdrWritten
+pub mod WrittenEntries
 pub mod WrittenFields
 pub mod DropsOne
 pub mod StandsBut

@@ -52,9 +52,13 @@ max_leaves entries.G adr = record { start = refl; head = refl; links = refl }
 max_leaves entries.R adr = record { start = refl; head = refl; links = refl }
 max_leaves entries.Z adr = record { start = refl; head = refl; links = refl }
 
+-- one of some records and others of them
+pub with_first : (own : List ℕ) (x : ℕ) (ms : List ℕ) → In x own → ((m : ℕ) → In m ms → In m own) → (m : ℕ) → In m (x ∷ ms) → In m own
+with_first own x ms i sub m (inl q) = subst (λ (y : ℕ). In y own) (sym q) i
+with_first own x ms i sub m (inr j) = sub m j
+
 pub only : (own : List ℕ) (x : ℕ) → In x own → (m : ℕ) → In m (x ∷ []) → In m own
-only own x i m (inl q) = subst (λ (y : ℕ). In y own) (sym q) i
-only own x i m (inr none) = absurd none
+only own x i = with_first own x [] i (λ m none. absurd none)
 
 -- ---- the greatest number is written
 

@@ -1,6 +1,6 @@
 -- A record is taken and written anew, and then it is linked and counted: what every command has that makes a record.
-use Rattle.std.proofs.Common.{◌≡◌, ◌≢◌, ◌⊎◌, ℕ, ◌+◌, ◌-◌, ◌<◌, ◌≤◌, List, [], ◌∷◌, ◌++◌, length, map, true, false, refl, sym, ap, ap₂, subst, ◌∙◌, arith, inl, inr}
-use Rattle.cdf_edits.proofs.Common.{leb-true, ◌==◌, ◌&&◌, nat_le, Took, sized, IsSound, Allowances, is_taken, AllKeep, Same, touch, Changed, is_in, IsChain, content, number, size_at, type_at, eof, Unused, owned_by, unused_records, unused, place_for, taken_from, eof_after, with_space, back_links, Field, record_size, gdr_eof, gdr_uir_head, uir_next_uir, uir_prev_uir, gdr_type, uir_type, is_record_type, fixed_size, Shape, HasShape, shape, In, word_kept, is_a-in, is_a-type, linkable-in, linkable-type, linkable-long, either, true-is_in, false-is_in, both, tile_lies, Fills, Mark, whole, Avoids, Away, Within, avoided, unmarked, taking_marks, making_marks, is_late, Edit}
+use Rattle.std.proofs.Common.{◌≡◌, ◌≢◌, ◌⊎◌, ℕ, ◌+◌, ◌-◌, ◌<◌, ◌≤◌, List, [], ◌∷◌, ◌++◌, length, map, true, false, eq-eqb, refl, sym, ap, ap₂, subst, ◌∙◌, arith, inl, inr}
+use Rattle.cdf_edits.proofs.Common.{leb-true, ◌==◌, ◌&&◌, nat_le, Took, sized, IsSound, Allowances, is_taken, AllKeep, Same, touch, Changed, is_in, IsChain, content, number, size_at, type_at, eof, Unused, owned_by, unused_records, unused, place_for, taken_from, eof_after, with_space, back_links, Field, record_size, gdr_eof, gdr_uir_head, uir_next_uir, uir_prev_uir, gdr_type, uir_type, is_record_type, fixed_size, Shape, HasShape, shape, In, times, word_kept, is_a-in, is_a-type, linkable-in, linkable-type, linkable-long, either, true-is_in, false-is_in, both, tile_lies, Fills, Mark, whole, Avoids, Away, Within, avoided, unmarked, taking_marks, making_marks, is_late, Edit}
 use Rattle.cdf_edits.proofs.Space.RecordFilled.{filled_stays_sound}
 use Rattle.cdf_edits.proofs.Space.TakenLeaves.{KeepsTaken, IsRest, takes_keep, takes_new, takes_longest}
 use Rattle.cdf_edits.proofs.Space.ActsLeave.{no_rest, places-sized}
@@ -8,7 +8,7 @@ use Rattle.cdf_edits.proofs.Space.UsedRecords.{apart}
 use Rattle.cdf_edits.proofs.Edits.Composing.{head_size, head_type, edit_then}
 use Rattle.cdf_edits.proofs.Edits.RecordFrame.{kept, part_clear, field_avoids, field_clear, chain_stays}
 use Rattle.cdf_edits.proofs.Edits.OwnersKept.{keep_unused, taken_is_taken}
-use Rattle.cdf_edits.proofs.Edits.MarkLemmas.{unmarked-away, away-avoids, away-within, Avoids-append, Within-append, Away-append}
+use Rattle.cdf_edits.proofs.Edits.MarkLemmas.{the_one, unmarked-away, away-avoids, away-within, Avoids-append, Within-append, Away-append}
 use Rattle.cdf_edits.proofs.Edits.OwnedOnce.{used_times, fresh_unowned}
 use Rattle.cdf_edits.proofs.Edits.StepEdits.{gdr_in, gdr_typed, gdr_long, takes_edit, fill_edit}
 
@@ -165,6 +165,20 @@ module _ {b taken filled : List ℕ} {s : Shape} {records list : List ℕ} {need
 
     pub made_size : size_at now place ≡ need
     made_size = head_size filled now place made_head ∙ filled_size
+
+    -- it has the fixed part of a record of its type, and is in use
+    pub made_typed : (m : ℕ) → In m (place ∷ []) → (is_record_type (type_at now m) ≡ true) × (fixed_size (type_at now m) ≤ size_at now m)
+    made_typed m i = subst (λ (x : ℕ). (is_record_type (type_at now x) ≡ true) × (fixed_size (type_at now x) ≤ size_at now x)) (sym (the_one place m i)) (rw (made_type, made_size) (fills.real, fills.fixed))
+
+    -- and owned once, if what the image has of it is what it had and it
+    pub made_once : (s' : Shape) (gone : ℕ) → used_times s' place + gone ≡ used_times s place + times place (place ∷ []) → gone ≡ 0 → (m : ℕ) → In m (place ∷ []) → (type_at now m ≢ uir_type) × (used_times s' m ≡ 1)
+    made_once s' gone owners none m i = subst (λ (x : ℕ). (type_at now x ≢ uir_type) × (used_times s' x ≡ 1)) (sym (the_one place m i)) (
+      (λ u. fills.in_use (sym made_type ∙ u)),
+      one (used_times s' place) (used_times s place) gone (times place (place ∷ [])) owners unowned none (rw (eq-eqb place place refl) refl),
+    )
+      where
+        one : (u' u g h : ℕ) → u' + g ≡ u + h → u ≡ 0 → g ≡ 0 → h ≡ 1 → u' ≡ 1
+        one u' u g h x y z w = omega arith
 
     pub shorter : length now ≤ length b + need
     shorter = let l = takes_longest b taken s grown need place sound some fills.takes in let m = fills.long in omega arith

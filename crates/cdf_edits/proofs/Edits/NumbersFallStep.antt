@@ -34,7 +34,7 @@ module _ {b now : List ℕ} {kind : EntryKind} {before : List AttributeShape} {o
   abbrev chain : List ℕ
   chain = chain_of own kind
 
-  r : Rechains b now (shape b) (shape b).records (shape b).unused (falling kind own.adr (those good short q)) [] kind before own after chain chain chain
+  r : Rechains b now (shape b) (shape b).records (shape b).unused (falling kind own.adr (those good short q)) [] kind before own after chain (those good short q) (those good short q)
   r = rechains good short q
 
   same_list : (shape now).unused ≡ (shape b).unused

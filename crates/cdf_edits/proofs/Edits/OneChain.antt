@@ -36,14 +36,14 @@ end_before b good = eof_by_rules b (shape b) (good_is_sound b good) (sealed_kept
 module _ {b now new list : List ℕ} {marks : List Mark} {reborn : List ℕ} {kind : EntryKind} {before : List AttributeShape} {own : AttributeShape} {after : List AttributeShape} {chain' gone come : List ℕ} (sound : IsSound b (shape b)) (r : Rechains b now (shape b) new list marks reborn kind before own after chain' gone come) where
   -- what the chain was
   module _ (good : Good b) where
-    rules_before : Hold (entries_rows b own.adr (count_field kind) (chain_of own kind))
-    rules_before = chain_rules_before sound r (good_by_its_shape b good)
+    own_rules : Hold (entries_rows b own.adr (count_field kind) (chain_of own kind))
+    own_rules = chain_rules_before sound r (good_by_its_shape b good)
 
     parts_before : Hold (flat_map (entry_rows b own.adr) (chain_of own kind)) × Hold (differ_rows 7 (same_number b) [] (chain_of own kind))
-    parts_before = Hold-split (flat_map (entry_rows b own.adr) (chain_of own kind)) (differ_rows 7 (same_number b) [] (chain_of own kind)) rules_before.1
+    parts_before = Hold-split (flat_map (entry_rows b own.adr) (chain_of own kind)) (differ_rows 7 (same_number b) [] (chain_of own kind)) own_rules.1
 
     pub counted_before : number b own.adr (count_field kind) ≡ length (chain_of own kind)
-    counted_before = eq_of _ _ rules_before.0
+    counted_before = eq_of _ _ own_rules.0
 
     pub differ_before : Distinct (nums b (chain_of own kind))
     differ_before = nums_differ b (chain_of own kind) parts_before.1
@@ -51,9 +51,12 @@ module _ {b now new list : List ℕ} {marks : List Mark} {reborn : List ℕ} {ki
     pub once_before : Distinct (chain_of own kind)
     once_before = (chain_has kind own (there sound r).1.0.have.0).once
 
-    -- a member that stays keeps its rules
+    -- a member keeps its rules, and so does one that stays
+    pub rules_before : (m : ℕ) → In m (chain_of own kind) → Hold (entry_rows b own.adr m)
+    rules_before m i = Hold-member (entry_rows b own.adr) (chain_of own kind) m parts_before.0 i
+
     pub rules_live : (m : ℕ) → In m (chain_of own kind) → (In m gone → ⊥) → Hold (entry_rows now own.adr m)
-    rules_live m i out = entry_rules_live b now own.adr m (num_same sound r) (entry_stays sound r m i out) (Hold-member (entry_rows b own.adr) (chain_of own kind) m parts_before.0 i)
+    rules_live m i out = entry_rules_live b now own.adr m (num_same sound r) (entry_stays sound r m i out) (rules_before m i)
 
   -- an image whose chain keeps the rules is good
   pub good_chained : Good b → number now own.adr (count_field kind) ≡ length chain' → Distinct (nums now chain') → ((m : ℕ) → In m chain' → Hold (entry_rows now own.adr m)) → ((m : ℕ) → In m reborn → is_in (type_at now m) read_types ≡ true) → ((m : ℕ) → (In m reborn → ⊥) → times m gone ≡ times m come)

@@ -1,11 +1,11 @@
 -- Fields that are written one behind the other read back.
-use Rattle.std.proofs.Common.{◌≡◌, ℕ, suc, ◌+◌, ◌*◌, ◌^◌, ◌<◌, ◌≤◌, List, [], ◌∷◌, ◌++◌, length, drop, Bool, true, refl, sym, ap, ap₂, ◌∙◌, append_assoc, arith}
-use Rattle.cdf_edits.proofs.Common.{eqb-true, drop-drop, length-append, drop-append_seam, flat_map, ◌==◌, ◌&&◌, big_bytes, length-bytes_high_first, Same, word, words, Field, Each, word_kept, both, drop-put_there}
+use Rattle.std.proofs.Common.{◌≡◌, ℕ, suc, ◌+◌, ◌*◌, ◌^◌, ◌<◌, ◌≤◌, List, [], ◌∷◌, ◌++◌, length, drop, take, Bool, true, ◌≢◌, refl, sym, ap, ap₂, ◌∙◌, append_assoc, arith}
+use Rattle.cdf_edits.proofs.Common.{eqb-true, drop-drop, length-append, drop-append_seam, flat_map, ◌==◌, ◌&&◌, big_bytes, length-bytes_high_first, Same, word, words, Field, Each, word_kept, both, drop-put_there, piece_kept, take_at, is_record_type, fixed_size, uir_type, type_of_body, record_type}
 use Rattle.byteorder.specs.Endian.{big_from}
 use Rattle.byteorder.specs.Numbers.{big_number-reads_back, big_from-take}
 use Rattle.cdf_format.proofs.Pieces.{word_of_piece_lem}
 use Rattle.cdf_edits.specs.Commands.NewRecords.{Says}
-use Rattle.cdf_edits.specs.Space.Placing.{Placed, laid_out}
+use Rattle.cdf_edits.specs.Space.Placing.{IsBody, Placed, laid_out}
 
 -- each stands where the one before it ends
 abbrev pub are_in_order : ℕ → List (Field × ℕ) → Bool
@@ -72,6 +72,26 @@ placed_says {filled = filled} {body = body} {place = place} fields rest placed i
     let r = says_laid_out filled place 8 fields (rest ++ more) there o fit in
     (r.0, (more, r.1))
 
+grows : (at : ℕ) (fields : List (Field × ℕ)) → at ≤ end_of at fields
+grows at [] = omega arith
+grows at ((f, n) ∷ more) = let r = grows (at + f.width) more in omega arith
+
+-- a type of records that are in use, the fixed part of which is no longer than this
+pub record IsType (type least : ℕ) : Type 0 where
+  pub small : type < 256 ^ 4
+  pub real : is_record_type type ≡ true
+  pub in_use : type ≢ uir_type
+  pub fixed : fixed_size type ≤ least
+  pub enough : 28 ≤ least
+
+-- what begins with it makes such a record
+pub typed_body : {type least : ℕ} (fields : List (Field × ℕ)) (rest body : List ℕ) → IsType type least → body ≡ laid_out ((record_type, type) ∷ fields) ++ rest → least ≤ 8 + length body → (type_of_body body ≡ type) × IsBody body
+typed_body {type = type} fields rest body t is long =
+    let typed = word_there body 0 4 type (laid_out fields ++ rest) (is ∙ append_assoc (big_bytes 4 type) (laid_out fields) rest) t.small in
+    let enough = t.enough in
+    let fixed = t.fixed in
+    (typed, record { enough = omega arith; real = rw typed t.real; in_use = rw typed t.in_use; fixed = rw typed (omega arith) })
+
 -- and after steps that leave them
 pub says_kept : (b now : List ℕ) (place lo hi at : ℕ) (fields : List (Field × ℕ)) → Same b now (place + lo) (place + hi) → lo ≤ at → end_of at fields ≤ hi → are_in_order at fields ≡ true → Says b place fields → Says now place fields
 says_kept b now place lo hi at [] same low high o says = tt
@@ -82,7 +102,12 @@ says_kept b now place lo hi at ((f, n) ∷ more) same low high o says =
       word_kept b now (place + lo) (place + hi) same (place + f.place) f.width (omega arith) (omega arith) ∙ says.0,
       says_kept b now place lo hi (at + f.width) more same (omega arith) high p.1 says.1,
     )
-  where
-    grows : (at : ℕ) (fields : List (Field × ℕ)) → at ≤ end_of at fields
-    grows at [] = omega arith
-    grows at ((f, n) ∷ more) = let r = grows (at + f.width) more in omega arith
+
+-- they, and what stands behind them
+pub fields_kept : (b now : List ℕ) (place at hi : ℕ) (fields : List (Field × ℕ)) (value more : List ℕ) → drop (place + at) b ≡ laid_out fields ++ (value ++ more) → are_in_order at fields ≡ true → AllFit fields → Same b now (place + at) (place + hi) → end_of at fields + length value ≡ hi → place + hi ≤ length b → length b ≤ length now → Says now place fields × (take (length value) (drop (place + end_of at fields) now) ≡ value)
+fields_kept b now place at hi fields value more laid o fit same ends inside longer =
+    let w = says_laid_out b place at fields (value ++ more) laid o fit in
+    let up = grows at fields in (
+      says_kept b now place at hi at fields same (omega arith) (omega arith) o w.0,
+      piece_kept b now (place + at) (place + hi) same (place + end_of at fields) (length value) (omega arith) (omega arith) inside longer ∙ ap (take (length value)) w.1 ∙ take_at value more (length value) refl,
+    )

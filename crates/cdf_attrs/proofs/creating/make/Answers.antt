@@ -3,7 +3,7 @@ use Rattle.cdf_attrs.proofs.Common.{last_or, good_is_sound, good_eof, adrs, shap
 use Rattle.cdf_attrs.proofs.AttributeChain.{attribute_members, has_attribute_chain, few_attributes}
 use Rattle.cdf_attrs.proofs.AttributesRead.{counted_is}
 use Rattle.cdf_attrs.proofs.Created.{follows, names_now, places_now}
-use Rattle.cdf_attrs.proofs.NewAdr.{length-body, type_in_body, adr_is_body}
+use Rattle.cdf_attrs.proofs.NewAdr.{body_made, length-body}
 use Rattle.cdf_attrs.proofs.creating.make.Goals as goal
 
 pub overflow_cast-num : goal.overflow_cast-num
@@ -32,14 +32,14 @@ append_record-requires-clause-body g c =
     let b = g.A.Area.image c.args.area.now in
     let count : c.len-num.result ≡ length (adrs (shape b)) = omega (arith, c.len-num.ensures, ap length c.requires.places, c.args.places.now.ok.0) in
     let bytes : c.deref-2.result.now ≡ adr_body (scope_code c.args.scope) (length (adrs (shape b))) c.args.name.now = c.deref-2.ensures.value ∙ c.in_ok-bytes.ensures ∙ ap₂ (λ (x n : ℕ). adr_body x n c.args.name.now) c.code_of.ensures count in
-    subst IsBody (sym bytes) (adr_is_body (scope_code c.args.scope) (length (adrs (shape b))) c.args.name.now (fine_is_short c.args.name.now c.requires.named))
+    subst IsBody (sym bytes) (body_made (scope_code c.args.scope) (length (adrs (shape b))) c.args.name.now (fine_is_short c.args.name.now c.requires.named)).1
 
 pub append_record-requires-clause-kind : goal.append_record-requires-clause-kind
 append_record-requires-clause-kind g c =
     let b = g.A.Area.image c.args.area.now in
     let count : c.len-num.result ≡ length (adrs (shape b)) = omega (arith, c.len-num.ensures, ap length c.requires.places, c.args.places.now.ok.0) in
     let bytes : c.deref-2.result.now ≡ adr_body (scope_code c.args.scope) (length (adrs (shape b))) c.args.name.now = c.deref-2.ensures.value ∙ c.in_ok-bytes.ensures ∙ ap₂ (λ (x n : ℕ). adr_body x n c.args.name.now) c.code_of.ensures count in
-    ap type_of_body bytes ∙ type_in_body (scope_code c.args.scope) (length (adrs (shape b))) c.args.name.now (fine_is_short c.args.name.now c.requires.named)
+    ap type_of_body bytes ∙ (body_made (scope_code c.args.scope) (length (adrs (shape b))) c.args.name.now (fine_is_short c.args.name.now c.requires.named)).0
 
 pub append_record-requires-clause-few : goal.append_record-requires-clause-few
 append_record-requires-clause-few g c =

@@ -1,16 +1,18 @@
 use Rattle.std.proofs.Common.{◌∙◌, List, ℕ, None, take, refl, ap, subst, sym}
-use Rattle.cdf_attrs.proofs.Common.{last_or, edit_done, edit_failed, edit_more, edit_once, good_is_sound, good_eof, last_got, KnownEntries, IsPut}
-use Rattle.cdf_attrs.proofs.EntryPut.{behind_at, body_kind, body_room, chain_at, holder_at, is_body, is_member, late_free, late_sound, late_stands, max_joined, put_anew}
+use Rattle.cdf_attrs.proofs.Common.{last_or, edit_done, edit_failed, edit_more, edit_once, good_is_sound, good_eof, old_free, old_stands, sound_late, last_got, KnownEntries, IsPut}
+use Rattle.cdf_attrs.proofs.EntryChains.{chain_there, holder_stands}
+use Rattle.cdf_attrs.proofs.EntryPut.{behind_at, body_kind, body_room, freed, is_body, is_member, max_joined, of_chain, put_anew}
 use Rattle.cdf_attrs.proofs.putting.put_anew.Goals as goal
 
 pub exchange_record-requires : goal.exchange_record-requires
 exchange_record-requires g c =
     let bytes = c.deref-2.ensures.value ∙ c.in_ok-bytes.ensures in
+    let of = of_chain c.requires.good c.requires.ready c.entries_chain-chain.ensures in
     record {
       sound = good_is_sound _ c.requires.good;
       eof = good_eof _ c.requires.good;
-      holder = holder_at c.requires.good c.requires.ready c.entries_chain-chain.ensures;
-      chain = chain_at c.requires.good c.requires.ready c.entries_chain-chain.ensures;
+      holder = holder_stands _ c.requires.good _ of;
+      chain = chain_there _ c.requires.good _ of;
       member = is_member c.requires.good c.requires.ready c.requires.old c.entries_chain-chain.ensures;
       behind = c.copied-behind.ensures ∙ c.last.ensures.value ∙ last_got (take c.args.i c.deref.result.now) ∙ ap (λ (xs : List ℕ). last_or None (take c.args.i xs)) (c.deref.ensures.value ∙ ap (λ (e : KnownEntries). e.places) c.put.view_is)
           ∙ behind_at c.requires.good c.requires.ready c.requires.old c.entries_chain-chain.ensures;
@@ -25,12 +27,9 @@ set_greatest-requires g c = max_joined c.requires.good c.requires.ready c.in_ok-
 
 pub free_record-requires : goal.free_record-requires
 free_record-requires g c =
-    let bytes = c.deref-2.ensures.value ∙ c.in_ok-bytes.ensures in
-    record {
-      sound = late_sound c.requires.good c.requires.ready c.requires.old c.entries_chain-chain.ensures bytes c.in_ok-place.ensures.exchanged c.in_ok-set_greatest.ensures.written;
-      stands = late_stands c.requires.good c.requires.ready c.requires.old c.entries_chain-chain.ensures bytes c.in_ok-place.ensures.exchanged c.in_ok-set_greatest.ensures.written;
-      free = late_free c.requires.good c.requires.ready c.requires.old c.entries_chain-chain.ensures bytes c.in_ok-place.ensures.exchanged c.in_ok-set_greatest.ensures.written;
-    }
+    let sound = good_is_sound _ c.requires.good in
+    let gone = freed c.requires.good c.requires.ready c.requires.old c.entries_chain-chain.ensures (c.deref-2.ensures.value ∙ c.in_ok-bytes.ensures) c.in_ok-place.ensures.exchanged c.in_ok-set_greatest.ensures.written in
+    record { sound = sound_late sound gone; stands = old_stands sound gone; free = old_free sound gone }
 
 pub returns-clause-put : goal.returns-clause-put
 returns-clause-put g c =

@@ -1,17 +1,19 @@
 use Rattle.std.proofs.Common.{◌∙◌, None, ap, subst, sym}
 use Rattle.cdf_attrs.proofs.Common.{last_or, edit_done, edit_failed, edit_more, edit_once, good_is_sound, good_eof, last_got, KnownEntries, new_reserved, IsPut}
 use Rattle.cdf_area.proofs.Calls.{edit_without_memory}
-use Rattle.cdf_attrs.proofs.EntryPut.{body_kind, body_of, body_room, chain_at, few_at, holder_at, is_body, known_at, max_joined, pushed}
+use Rattle.cdf_attrs.proofs.EntryChains.{chain_there, holder_stands}
+use Rattle.cdf_attrs.proofs.EntryPut.{body_kind, body_of, body_room, few_at, is_body, known_at, max_joined, of_chain, pushed}
 use Rattle.cdf_attrs.proofs.putting.put_last.Goals as goal
 
 pub append_record-requires : goal.append_record-requires
 append_record-requires g c =
     let bytes = c.deref-2.ensures.value ∙ c.in_ok-bytes.ensures ∙ ap (body_of c.args.entry.now) c.new.ensures in
+    let of = of_chain c.requires.good c.requires.ready c.entries_chain.ensures in
     record {
       sound = good_is_sound _ c.requires.good;
       eof = good_eof _ c.requires.good;
-      holder = holder_at c.requires.good c.requires.ready c.entries_chain.ensures;
-      chain = chain_at c.requires.good c.requires.ready c.entries_chain.ensures;
+      holder = holder_stands _ c.requires.good _ of;
+      chain = chain_there _ c.requires.good _ of;
       last = c.copied-last.ensures ∙ c.last.ensures.value ∙ last_got c.deref.result.now ∙ ap (last_or None) (c.deref.ensures.value ∙ ap (λ (k : KnownEntries). k.places) c.put.view_is ∙ known_at c.requires.good c.requires.ready c.entries_chain.ensures);
       body = is_body c.requires.good c.requires.ready c.entries_chain.ensures new_reserved bytes;
       kind = body_kind c.requires.good c.requires.ready c.entries_chain.ensures new_reserved bytes;
