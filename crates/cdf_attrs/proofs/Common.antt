@@ -1,6 +1,6 @@
 -- The names that most proofs of this crate cite, passed on from one place. Declares nothing.
 pub use Rattle.std.proofs.Math.Seq.{take-suc}
-pub use Rattle.std.proofs.lemmas.Bool.{and_from, cases_eq, cases_lt, eqb-true, le-leb, le-ltb, lt-ltb, ne_eqb}
+pub use Rattle.std.proofs.lemmas.Bool.{and_from, cases_lt, eqb-true, le-leb, le-ltb, lt-ltb, ne_eqb}
 pub use Rattle.std.proofs.lemmas.Bool.Decides.{nat_tests}
 pub use Rattle.std.proofs.lemmas.Int.{ints, of_z-to_z, to_z-of_z, to_z_pos}
 pub use Rattle.std.proofs.lemmas.List.{length-append, length-map, map-append, map-set}
@@ -36,7 +36,7 @@ pub use Rattle.cdf_edits.proofs.Edits.AttributeChains.{stands_at}
 pub use Rattle.cdf_edits.proofs.Edits.AttributeFrame.{AreThere}
 pub use Rattle.cdf_edits.proofs.Edits.ChainEntries.{EntryLives, entries_left, nums, nums_live}
 pub use Rattle.cdf_edits.proofs.Edits.ChainFollowed.{chain_now, found_none, found_one, greatest_integer}
-pub use Rattle.cdf_edits.proofs.Edits.ChainKinds.{adr_of, chain_in, other_of}
+pub use Rattle.cdf_edits.proofs.Edits.ChainKinds.{adr_of, chain_in}
 pub use Rattle.cdf_edits.proofs.Edits.ChainSpliced.{Rechains, entry_stays}
 pub use Rattle.cdf_edits.proofs.Edits.ChainsOfShape.{has_chain, members_are}
 pub use Rattle.cdf_edits.proofs.Edits.DeletedAttribute.{own}
@@ -59,13 +59,13 @@ pub use Rattle.cdf_edits.proofs.Space.ChainHeads.{cdr_room}
 pub use Rattle.cdf_edits.proofs.Space.LaidOut.{placed_says, typed_body}
 pub use Rattle.cdf_edits.proofs.Space.UsedRecords.{apart}
 pub use Rattle.cdf_edits.specs.Answers.{Answers}
-pub use Rattle.cdf_edits.specs.Commands.Allowances.{AllKeep, Allowances, Anything, Keeps, Only, only_of}
+pub use Rattle.cdf_edits.specs.Commands.Allowances.{AllKeep, Allowances, Keeps, Only, only_of}
 pub use Rattle.cdf_edits.specs.Commands.Entries.{chain_after}
-pub use Rattle.cdf_edits.specs.Commands.EntryChains.{GreatestIs, chain_of, entry_at, entry_type, greatest_number, kind_of_entries, max_field, share_chain}
+pub use Rattle.cdf_edits.specs.Commands.EntryChains.{GreatestIs, chain_of, entry_at, entry_type, greatest_number, kind_of_entries, max_field}
 pub use Rattle.cdf_edits.specs.Commands.NewRecords.{IsFilled, Says}
 pub use Rattle.cdf_edits.specs.Commands.Room.{room}
-pub use Rattle.cdf_edits.specs.Commands.Variables.{entries_allowance, entries_for, is_global_attribute, is_renumbered}
-pub use Rattle.cdf_edits.specs.Edits.DropsEntries.{AttributeDropped, AttributeKeeps, IsDropped}
+pub use Rattle.cdf_edits.specs.Commands.Variables.{entries_for, is_renumbered}
+pub use Rattle.cdf_edits.specs.Edits.DropsEntries.{IsDropped}
 pub use Rattle.cdf_edits.specs.Edits.Edit.{Edit}
 pub use Rattle.cdf_edits.specs.Edits.EntryMarks.{count_field, entries_chain, with_chain}
 pub use Rattle.cdf_edits.specs.Edits.FallenNumbers.{fallen}

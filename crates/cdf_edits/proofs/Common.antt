@@ -9,7 +9,7 @@ pub use Rattle.std.proofs.lemmas.Option.{same_Some}
 pub use Rattle.std.specs.Int.{cast_signed, cast_unsigned, w32, w64}
 pub use Rattle.std.specs.List.{before_first, enumerate_from, filter, flat_map, fold, list_all, list_any, remove, slice_get, sum}
 pub use Rattle.std.specs.Option.{option_map, unwrap_or}
-pub use Rattle.std.specs.Prelude.{FitsSigned, List, Some, [], find, if◌then◌else◌, is_some, length, nat_le, nat_lt, not, slice_set, take, ℕ, ◌&&◌, ◌++◌, ◌-ℤ◌, ◌==◌, ◌||◌, ◌∷◌, ◌≡◌, ◌⊎◌}
+pub use Rattle.std.specs.Prelude.{FitsSigned, find, if◌then◌else◌, is_some, nat_le, nat_lt, not, slice_set, take, ◌&&◌, ◌-ℤ◌, ◌==◌, ◌||◌}
 pub use Rattle.byteorder.specs.Endian.{big_bytes}
 pub use Rattle.byteorder.specs.Numbers.{length-bytes_high_first}
 pub use Rattle.cdf_base.specs.Bytes.{put}

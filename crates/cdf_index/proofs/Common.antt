@@ -1,11 +1,10 @@
 -- The names that most proofs of this crate cite, passed on from one place. Declares nothing.
-pub use Rattle.std.proofs.Math.IntN.{ -ℤ_one}
 pub use Rattle.std.proofs.lemmas.Bool.{cases_eq, eqb-true}
 pub use Rattle.std.proofs.lemmas.Bool.Decides.{nat_tests}
-pub use Rattle.std.proofs.lemmas.List.{drop-drop, length-append, map-append}
+pub use Rattle.std.proofs.lemmas.List.{length-append, map-append}
 pub use Rattle.std.proofs.lemmas.Result.{IfOk-weaker, on_ok_weaker}
 pub use Rattle.std.specs.List.{filter, flat_map, fold}
-pub use Rattle.std.specs.Prelude.{find, if◌then◌else◌, min, nat_lt, ◌-ℤ◌, ◌==◌}
+pub use Rattle.std.specs.Prelude.{find, if◌then◌else◌, min, nat_lt, ◌==◌}
 pub use Rattle.cdf_area.proofs.Calls.{edit_more, read_more, read_once, read_without_memory}
 pub use Rattle.cdf_area.specs.Calls.{Keeps, Stays}
 pub use Rattle.cdf_edits.proofs.Edits.LeavesOrder.{before_number}
@@ -20,7 +19,6 @@ pub use Rattle.cdf_format.proofs.ChainsLemmas.{is_a-in, linkable-in, linkable-ty
 pub use Rattle.cdf_format.proofs.Members.{Distinct-back, Distinct-front, In-append, In-append_left, In-append_right, either, length-le_from_distinct}
 pub use Rattle.cdf_format.proofs.RowLemmas.{Hold-split}
 pub use Rattle.cdf_format.proofs.ShapeLemmas.{Each-append, Each-split, tiles_are}
-pub use Rattle.cdf_format.proofs.Tests.{le_of}
 pub use Rattle.cdf_format.proofs.TilesLemmas.{tile_lies}
 pub use Rattle.cdf_format.specs.Chains.{is_a, is_in, is_linkable, next_of}
 pub use Rattle.cdf_format.specs.Content.{plain_bytes}
@@ -40,7 +38,7 @@ pub use Rattle.cdf_index.specs.Ahead.{Begun, IsWalk, NamesIn, chain_at, chain_be
 pub use Rattle.cdf_index.specs.Descent.{IsTree, SeesNode, SomeTree, SpotIs, spot_at}
 pub use Rattle.cdf_index.specs.Finding.{Ascends, At, HasIndex, IsBlock, IsOrderly, NodeInside, Onward, SomeNode, Stands, in_column, index_at}
 pub use Rattle.cdf_index.specs.Next.{least_from}
-pub use Rattle.cdf_index.specs.Order.{InOrder, leaf_of, passed, past_entries}
+pub use Rattle.cdf_index.specs.Order.{leaf_of, passed, past_entries}
 pub use Rattle.cdf_index.specs.Reading.{HoldsRecords, record_in}
 pub use Rattle.cdf_index.specs.Sight.{IsHead, seen}
 pub use Rattle.cdf_index.specs.Sizes.{block_counted, node_counted, size_of}

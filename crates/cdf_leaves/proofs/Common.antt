@@ -14,7 +14,6 @@ pub use Rattle.cdf_edits.proofs.Frame.LinksStay.{SameHeads, tiles_same}
 pub use Rattle.cdf_edits.proofs.Frame.Meaning.{Kept}
 pub use Rattle.cdf_edits.proofs.Index.NodeEdited.{redo}
 pub use Rattle.cdf_edits.proofs.Space.UsedRecords.{apart}
-pub use Rattle.cdf_edits.specs.Commands.Allowances.{shapes_of}
 pub use Rattle.cdf_edits.specs.Commands.Room.{widest}
 pub use Rattle.cdf_edits.specs.Frame.Changed.{Changed, Touch, touch}
 pub use Rattle.cdf_edits.specs.Index.Grown.{chain_reaches, leads_down, new_room, past, reaches, room_of_new, with_block, with_entry, with_leaf}

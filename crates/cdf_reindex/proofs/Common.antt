@@ -27,7 +27,7 @@ pub use Rattle.cdf_edits.proofs.Frame.OwnersApart.{all_variable_records, times-a
 pub use Rattle.cdf_edits.proofs.Frame.VdrStays.{VdrStays, stays_alike}
 pub use Rattle.cdf_edits.proofs.Space.UsedRecords.{apart}
 pub use Rattle.cdf_edits.specs.Commands.Allowances.{AllKeep, Allowance, Allowances, Anything, Keeps, Only, is_taken, shapes_of}
-pub use Rattle.cdf_edits.specs.Commands.Reindex.{FullFromLeft, IsPyramid, levels_up, made_acts, reindex_changes}
+pub use Rattle.cdf_edits.specs.Commands.Reindex.{IsPyramid, levels_up, made_acts, reindex_changes}
 pub use Rattle.cdf_edits.specs.Commands.Room.{nodes_above, quotient_up, reindex_room}
 pub use Rattle.cdf_edits.specs.Edits.Edit.{Edit}
 pub use Rattle.cdf_edits.specs.Edits.ManyMarks.{freeing_marks}

@@ -14,7 +14,7 @@ pub use Rattle.cdf_format.proofs.RowLemmas.{Hold-append, IsBroken-after, IsBroke
 pub use Rattle.cdf_format.proofs.TilesLemmas.{tile_lies}
 pub use Rattle.cdf_format.specs.ChainRules.{number_rows}
 pub use Rattle.cdf_format.specs.Chains.{chain, is_a, is_in, is_linkable, next_of}
-pub use Rattle.cdf_format.specs.Fields.{number, size_at, type_at, with_sign, word}
+pub use Rattle.cdf_format.specs.Fields.{number, size_at, type_at, with_sign}
 pub use Rattle.cdf_format.specs.Index.{Entries, Leaf, Nodes, block, first_at, last_at, lower, no_entry, no_node, node, offset_at, room_at, used_count}
 pub use Rattle.cdf_format.specs.IndexRules.{end_of, has_room, is_between, is_block, met_rows}
 pub use Rattle.cdf_format.specs.IndexWalk.{Met, lost, met}

@@ -65,4 +65,4 @@ pub use Rattle.clap.specs.Kinds.{or_else}
 pub use Rattle.clap.specs.Lexer.{has_byte, long_of, short_of}
 pub use Rattle.clap.specs.Simple.{filled}
 pub use Rattle.clap.specs.Walk.{Held, Step, Walk, after_flag, after_step, arg_by_long, has_row, idle, long_met, nothing_held, settled, value, with_default}
-pub use Rattle.clap.specs.Words.{Kinds, Row, Rule, Text, is_simple, is_simple_and_free}
+pub use Rattle.clap.specs.Words.{Kinds, Row, Rule, Text}

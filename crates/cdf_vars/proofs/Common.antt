@@ -70,7 +70,7 @@ pub use Rattle.cdf_format.specs.Fields.{LiesIn, counted, gdr_offset, has_bit, in
 pub use Rattle.cdf_format.specs.Index.{Nodes}
 pub use Rattle.cdf_format.specs.NewFile.{of_4_bytes}
 pub use Rattle.cdf_format.specs.Owners.{owned, owned_records, times}
-pub use Rattle.cdf_format.specs.RecordTypes.{cdr_type, fixed_size, gdr_type, is_record_type, r_vdr_type, uir_type, z_vdr_type}
+pub use Rattle.cdf_format.specs.RecordTypes.{cdr_type, fixed_size, gdr_type, is_record_type, uir_type, z_vdr_type}
 pub use Rattle.cdf_format.specs.Records.{Field, cdr_encoding, cdr_flags, gdr_r_max_rec, gdr_r_num_dims, record_type, vdr_blocking_factor, vdr_flags, vdr_name, vdr_vxr_head}
 pub use Rattle.cdf_format.specs.Rules.{Hold}
 pub use Rattle.cdf_format.specs.Shape.{Each, HasShape, HasVariable, Shape, VariableShape, shape, variables, vdrs}
