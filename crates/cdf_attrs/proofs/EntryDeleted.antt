@@ -12,7 +12,7 @@ use Rattle.cdf_attrs.proofs.EntryChains.{counted, entries_differ, entry_lies, fe
 use Rattle.cdf_attrs.proofs.EntryLeft as left
 use Rattle.cdf_attrs.proofs.EntrySteps.{no_attribute, wrong_scope, no_entry}
 use Rattle.cdf_attrs.proofs.EntryTakenAt.{cut_is, left_count, left_small, map-remove, numbered_at, once, parts, places_are, at_index}
-use Rattle.cdf_attrs.proofs.GettingAnswers.{is_item, of_attribute, found_in, is_entry_at}
+use Rattle.cdf_attrs.proofs.GettingAnswers.{is_item, of_attribute}
 use Rattle.cdf_attrs.proofs.GreatestNumber.{greatest_fits, greatest_of_items}
 
 -- ---- the refusals

@@ -1,5 +1,5 @@
-use Rattle.std.proofs.Common.{◌≡◌, ◌∙◌, ℕ, List, refl, sym, ap, subst, arith}
-use Rattle.cdf_attrs.proofs.Common.{edit_more, Known, adrs, shape, In}
+use Rattle.std.proofs.Common.{◌∙◌, refl, sym, ap, arith}
+use Rattle.cdf_attrs.proofs.Common.{edit_more, Known}
 use Rattle.cdf_edits.proofs.Edits.DroppedSoFar.{start}
 use Rattle.cdf_attrs.proofs.DroppedVar.{all_done, at_index, drops_more, keeps_then}
 use Rattle.cdf_attrs.proofs.DroppingFrom.{keeps_same}
