@@ -1,7 +1,7 @@
 -- What a call leaves that links a record behind a chain, takes a member out of it or puts another in its place: each is an edit.
 use Rattle.std.proofs.Common.{◌≡◌, ◌≢◌, ◌⊎◌, ℕ, ◌+◌, ◌≤◌, List, [], ◌∷◌, length, eq-eqb, refl, sym, ap, subst, ◌∙◌, arith, inl, inr}
-use Rattle.cdf_edits.proofs.Common.{cases_eq, ne_eqb, Same-part, tile_lies, Leads, next_field, next_of, type_at, Field, before, link_behind, IsChain, number, size_at, fixed_size, Shape, HasShape, shape, IsSound, In, tiles, is_a-in, is_a-type, linkable-in, linkable-type, linkable-long, tiles_are, Chain, Edit, append_marks, removing_marks, replacing_marks, holder_of, head_of, holder_type, type_in, members_of, HolderStands, HasChain, MayJoin, Appended, Removed, Replaced}
-use Rattle.cdf_edits.proofs.Edits.StepEdits.{Linked, Joins, append_edit, before_in, link_marked, remove_edit, replace_edit}
+use Rattle.cdf_edits.proofs.Common.{cases_eq, ne_eqb, Same-part, tile_lies, Leads, next_field, next_of, type_at, Field, before, link_behind, IsChain, number, size_at, fixed_size, Shape, HasShape, shape, IsSound, In, tiles, is_a-in, is_a-type, linkable-in, linkable-type, linkable-long, tiles_are, Chain, Edit, removing_marks, replacing_marks, holder_of, head_of, holder_type, type_in, members_of, HolderStands, HasChain, MayJoin, Removed, Replaced}
+use Rattle.cdf_edits.proofs.Edits.StepEdits.{Linked, Joins, before_in, link_marked, remove_edit, replace_edit}
 use Rattle.cdf_edits.proofs.Frame.ChangedBytes.{changed_part}
 use Rattle.cdf_edits.proofs.Frame.Meaning.{Kept}
 use Rattle.cdf_edits.proofs.Space.ChainHeads.{long_of, holder_stands, head_fits, head_width}
@@ -51,9 +51,6 @@ module _ (b : List ℕ) (c : Chain) (sound : IsSound b (shape b)) (stands : Hold
   }
 
   module _ {now : List ℕ} {place : ℕ} where
-    pub appended_edit : MayJoin b c place → Appended b now c place → Edit b now s.records s.records (append_marks (holder_type c) holder (head_of c) (type_in c) place (members_of b c)) []
-    appended_edit may a = append_edit b s (holder_type c) holder (head_of c) (type_in c) _ (members_of b c) now h linked a.length_stays place (joins place may) a.changed
-
     pub removed_edit : Removed b now c place → Edit b now s.records s.records (removing_marks (holder_type c) holder (head_of c) (type_in c) (members_of b c)) []
     removed_edit r = remove_edit b s (holder_type c) holder (head_of c) (type_in c) _ (members_of b c) now h linked r.length_stays place r.changed
 

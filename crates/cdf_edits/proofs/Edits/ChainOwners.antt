@@ -104,13 +104,6 @@ module _ (s : Shape) (records list : List ℕ) (before : List AttributeShape) (o
       sums : (u' u c c' g h : ℕ) → u' + c ≡ u + c' → c' + g ≡ c + h → u' + g ≡ u + h
       sums u' u c c' g h p q = omega arith
 
-  -- what neither comes nor goes
-  pub traded_beside : (m : ℕ) → (In m gone → ⊥) → (In m come → ⊥) → used_times rechained m ≡ used_times s m
-  traded_beside m out out' = same (used_times rechained m) (used_times s m) (times m gone) (times m come) (traded m) (times-none m gone out) (times-none m come out')
-    where
-      same : (u' u g h : ℕ) → u' + g ≡ u + h → g ≡ 0 → h ≡ 0 → u' ≡ u
-      same u' u g h p q r = omega arith
-
 -- one that went is owned by nobody
 module _ (b : List ℕ) (s : Shape) (sound : IsSound b s) (records list : List ℕ) (before : List AttributeShape) (own : AttributeShape) (after : List AttributeShape) (kind : EntryKind) (chain' come : List ℕ) (old : ℕ) (was : s.attributes ≡ before ++ own ∷ after) (trades : Trades (chain_of own kind) chain' (old ∷ []) come) (out : In old come → ⊥) where
   once_before : used_times s old ≤ 1

@@ -74,11 +74,5 @@ module _ {b : List ℕ} {s : Shape} (h : HasShape b s) {c : Chain} {holder : ℕ
 
   -- another took its place
   module _ {now : List ℕ} {place by : ℕ} (replaced : Replaced b now c place by) where
-    pub replace_changed : Changed b now (link_behind holder (head_of c) (before place ms) ∷ touched_field by next_field ∷ [])
-    replace_changed =
-        let g = is.holder_is in
-        let m = members_are in
-        subst (λ (t : Touch). Changed b now (t ∷ touched_field by next_field ∷ [])) (λ i. link_behind (g i) (head_of c) (before place (m i))) replaced.changed
-
     pub replaced_chain : AreTiles now 8 (length now) s.records → holder_of now c ≡ holder → IsChain now s.records (type_in c) (number now holder (head_of c)) (with_in_place place by ms)
     replaced_chain tiled same = chain_of now (with_in_place place by ms) (replaced.members_are ∙ ap (with_in_place place by) members_are) replaced.has_chain tiled same

@@ -1,5 +1,5 @@
 -- An image in which the first attributes dropped their entries for a variable, and the others stand: where the way to `DropsEntries` begins and ends.
-use Rattle.std.proofs.Common.{◌≡◌, ◌⊎◌, ℕ, suc, ◌+◌, ◌-◌, ◌≤◌, ◌<◌, List, [], ◌∷◌, ◌++◌, length, map, Bool, true, false, Option, Some, None, eq-eqb, refl, sym, ap, ap₂, subst, ◌∙◌, arith, inl, inr}
+use Rattle.std.proofs.Common.{◌≡◌, ◌⊎◌, ℕ, suc, ◌+◌, ◌≤◌, ◌<◌, List, [], ◌∷◌, ◌++◌, length, map, Bool, true, false, Option, Some, None, eq-eqb, refl, sym, ap, ap₂, subst, ◌∙◌, arith, inl, inr}
 use Rattle.cdf_edits.proofs.Common.{cases_eq, ne_eqb, same_Some, cast_signed, w32, slice_get, ◌&&◌, ◌==◌, if◌then◌else◌, EntryKind, is_global, Attribute, Found, attribute_without, attribute_of, content, integer4, number, size_at, attribute_records, aedr_num, adr_type, AttributeShape, Each, HasEntries, HasShape, shape, In, Good, linkable-type, good_is_sound, either, In-append, Anything, Keeps, Only, OutsideFields, GreatestIs, chain_fields, chain_of, entry_type, kind_of_entries, max_field, share_chain, entries_allowance, entries_for, fields_beside, is_global_attribute, AttributeDropped, DropsEntries, gave, ActsFollow, fallen}
 use Rattle.cdf_model.specs.declared.kinds.EntryKind.TheVariants as entries
 use Rattle.std.proofs.Math.Seq.{take-length}

@@ -1,10 +1,10 @@
 -- Entries of a chain get numbers less by one, where they are greater than one that none has, and the greatest number of the chain is written.
 use Rattle.std.proofs.Common.{◌≡◌, ℕ, ℤ, ◌+◌, ◌-◌, ◌<◌, ◌≤◌, ◌^◌, List, [], ◌∷◌, ◌++◌, length, map, refl, sym, ap, subst, ◌∙◌, arith, inl, inr}
-use Rattle.cdf_edits.proofs.Common.{w32, cast_unsigned, FitsSigned, integer4, cases_lt, lt-ltb, le-ltb, le-leb, leb-true, filter, ◌==◌, nat_lt, EntryKind, entries_of, with_attribute, with_entries, image_limit, record_number_limit, closed_up, entry_rows, content, attribute_of, number, size_at, type_at, with_field, aedr_num, Hold, AttributeShape, Each, HasShape, Shape, shape, IsSound, AreTiles, In, Distinct, Good, number_kept, good_is_sound, filter-in, tile_lies, length-with_field, chain_of, entry_type, max_field, Edit, fallen, Among, Mark, mark, Write, write, with_writes}
+use Rattle.cdf_edits.proofs.Common.{w32, cast_unsigned, FitsSigned, integer4, cases_lt, lt-ltb, le-ltb, le-leb, leb-true, filter, ◌==◌, nat_lt, EntryKind, entries_of, image_limit, record_number_limit, closed_up, entry_rows, attribute_of, number, size_at, type_at, with_field, aedr_num, Hold, AttributeShape, Each, HasShape, Shape, shape, IsSound, AreTiles, In, Distinct, Good, number_kept, good_is_sound, filter-in, tile_lies, length-with_field, chain_of, entry_type, max_field, Edit, fallen, Among, Mark, mark, Write, write, with_writes}
 use Rattle.cdf_format.specs.Content.{entries_of as chain_items}
 use Rattle.cdf_edits.proofs.Edits.ChainEntries.{nums}
 use Rattle.cdf_edits.proofs.Edits.ChainKinds.{chain_has}
-use Rattle.cdf_edits.proofs.Edits.ChainSpliced.{Rechains, content_rechained, file_now, num_same}
+use Rattle.cdf_edits.proofs.Edits.ChainSpliced.{Rechains, file_now, num_same}
 use Rattle.cdf_edits.proofs.Edits.FallenItems.{EntryFell, entries_closed, fallen_distinct, falls, rests, nums_fell}
 use Rattle.cdf_edits.proofs.Edits.ChainMembers.{IsAmong, member, member_fits, own_there}
 use Rattle.cdf_edits.proofs.Edits.OneChain.{counted_before, differ_before, good_chained, items_of, rules_before}
@@ -204,9 +204,6 @@ module _ {b now : List ℕ} {kind : EntryKind} {before : List AttributeShape} {o
 
   pub entries_now : chain_items now chain ≡ closed_up num num (entries_of (attribute_of b own) kind)
   entries_now = entries_closed b now num chain q.none fell ∙ ap (closed_up num num) (sym (items_of b own kind))
-
-  pub content_lowered : content now ≡ with_attribute (content b) (length before) (with_entries (attribute_of b own) kind (closed_up num num (entries_of (attribute_of b own) kind)))
-  content_lowered = content_rechained sound rechains _ entries_now
 
   pub nums_now : nums now chain ≡ map (fallen num) (nums b chain)
   nums_now = nums_fell b now num chain fell

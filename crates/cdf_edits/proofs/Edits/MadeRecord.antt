@@ -154,9 +154,6 @@ module _ {b taken filled : List ℕ} {s : Shape} {records list : List ℕ} {need
     pub made_part : (lo hi : ℕ) → avoided late type lo hi ≡ true → hi ≤ need → Same filled now (place + lo) (place + hi)
     made_part lo hi a fits = part_clear later place type lo hi place_in fills.typed clear_own.1 a (subst (λ (n : ℕ). hi ≤ n) (sym filled_size) fits)
 
-    pub made_field : (f : Field) → avoided late type f.place (f.place + f.width) ≡ true → f.place + f.width ≤ need → number now place f ≡ number filled place f
-    made_field f a fits = word_kept filled now (place + f.place) (place + (f.place + f.width)) (made_part f.place (f.place + f.width) a fits) (place + f.place) f.width (omega arith) (omega arith)
-
     made_head : Same filled now (place + 0) (place + 12)
     made_head = made_part 0 12 clear_own.1 some
 

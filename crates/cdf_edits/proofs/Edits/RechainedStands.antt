@@ -1,5 +1,5 @@
 -- One chain of entries of an attribute was edited, with marks that leave all else: all beside it stands.
-use Rattle.std.proofs.Common.{◌≡◌, ◌≢◌, ◌⊎◌, ℕ, zero, suc, ◌+◌, List, [], ◌∷◌, ◌++◌, length, true, Some, refl, sym, ap, subst, ◌∙◌, arith, inl, inr}
+use Rattle.std.proofs.Common.{◌≡◌, ◌≢◌, ◌⊎◌, ℕ, zero, suc, List, [], ◌∷◌, ◌++◌, length, true, Some, refl, sym, ap, subst, ◌∙◌, arith, inl, inr}
 use Rattle.cdf_edits.proofs.Common.{length-append, set_at, same_Some, cast_signed, w32, flat_map, slice_get, slice_set, DataSet, EntryKind, Kind, integer4, type_at, attribute_records, Field, aedr_num, gdr_r_max_rec, uir_next_uir, uir_prev_uir, adr_type, cdr_type, gdr_type, uir_type, AttributeShape, HasShape, Shape, shape, IsSound, In, Good, content, number, type_kept, is_a-in, is_a-type, linkable-in, linkable-type, good_is_sound, In-append_left, In-append_right, both, Only, Stays, shapes_of, space_fields, chain_fields, chain_of, with_chain, Away, Mark, all_unmarked, avoided, unmarked, variable_types, within}
 use Rattle.cdf_model.specs.declared.kinds.EntryKind.TheVariants as entries
 use Rattle.cdf_model.specs.declared.kinds.Kind.TheVariants as kinds

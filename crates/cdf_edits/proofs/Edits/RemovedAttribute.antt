@@ -1,6 +1,6 @@
 -- An image from which one attribute went has its shape, its content and its rules.
 use Rattle.std.proofs.Common.{◌≡◌, ℕ, suc, ◌+◌, ◌≤◌, List, [], ◌∷◌, ◌++◌, length, map, true, eq-eqb, refl, sym, ap, subst, ◌∙◌, append-nil, append_assoc, arith, inl, inr}
-use Rattle.cdf_edits.proofs.Common.{length-map, map-append, flat_map, remove, ◌==◌, Attribute, DataSet, image_limit, same_name, adrs_rows, number_rows, r_vdrs_rows, z_vdrs_rows, differ_rows, is_in, IsChain, content, attribute_of, number, name_in, size_at, type_at, gdr_offset, eof, IsGoodByShape, attribute_shape_rows, read_types, OwnedOnce, attribute_records, times, owned_records, unused_records, first_phases, gdr_adr_head, gdr_uir_head, gdr_num_attr, adr_name, adr_num, adr_type, uir_type, is_record_type, fixed_size, Hold, AllHold, sealed, AttributeShape, Shape, adrs, vdrs, Each, HasEntries, HasShape, IsSound, In, Good, In-append, In-append_left, AreNew, names_at, names_differ, differ_by_names, times-none, Hold-split, flat_map-append, content_is, tile_lies, deleting_marks, Mark, AttributeStays}
+use Rattle.cdf_edits.proofs.Common.{length-map, map-append, flat_map, remove, ◌==◌, Attribute, DataSet, image_limit, same_name, adrs_rows, number_rows, r_vdrs_rows, z_vdrs_rows, differ_rows, is_in, IsChain, content, attribute_of, number, name_in, size_at, type_at, gdr_offset, eof, IsGoodByShape, attribute_shape_rows, read_types, OwnedOnce, attribute_records, times, owned_records, unused_records, first_phases, gdr_adr_head, gdr_uir_head, gdr_num_attr, adr_name, adr_num, adr_type, uir_type, is_record_type, fixed_size, Hold, AllHold, sealed, AttributeShape, Shape, adrs, vdrs, Each, HasEntries, IsSound, In, Good, In-append, In-append_left, AreNew, names_at, names_differ, differ_by_names, times-none, Hold-split, flat_map-append, content_is, tile_lies, deleting_marks, Mark, AttributeStays}
 use Rattle.cdf_format.proofs.NameRules.{absent-split, absent-append}
 use Rattle.cdf_edits.proofs.Commands.ListParts.{removed-at}
 use Rattle.cdf_edits.proofs.Edits.AttributeFrame.{AreThere, names_stay, nums_stay}
@@ -8,7 +8,7 @@ use Rattle.cdf_edits.proofs.Edits.OwnedOnce.{used_times, owned_once_if, spliced_
 use Rattle.cdf_edits.proofs.Edits.RecordFrame.{file_same, gdr_place}
 use Rattle.cdf_edits.proofs.Edits.RemovedLives.{entries_in, adrs_in, AreNumbered, Removes, before_lives, after_numbered}
 use Rattle.cdf_edits.proofs.Edits.Renumbered.{AttributeNumbered, all_numbered_stay, all_numbered_fit, all_numbered_rules, numbered_names}
-use Rattle.cdf_edits.proofs.Edits.Splice.{spliced, Splices, OwnRules, parts_there, shape_now, content_now, sound_if, good_image_if}
+use Rattle.cdf_edits.proofs.Edits.Splice.{spliced, Splices, OwnRules, parts_there, content_now, sound_if, good_image_if}
 use Rattle.cdf_edits.proofs.Frame.Meaning.{FileSame}
 use Rattle.cdf_edits.proofs.Frame.OwnersApart.{times-in, owned-times, file_records, all_attribute_records, all_variable_records}
 
@@ -96,9 +96,6 @@ module _ {b now : List ℕ} {s : Shape} {before : List AttributeShape} {own : At
         entries_have : (as_ : List AttributeShape) → Each (AttributeStays b now s.records) as_ → Each (HasEntries now s.records) as_
         entries_have [] e = tt
         entries_have (a ∷ as_) e = (e.0.0, entries_have as_ e.1)
-
-    pub shape_removed : HasShape now (without_one list)
-    shape_removed = subst (λ (as_ : List AttributeShape). HasShape now (spliced s s.records list (before ++ as_))) (append-nil after) (shape_now sound splices)
 
     pub content_removed : content now ≡ record (content b) { attributes = remove (content b).attributes (length before) }
     content_removed =

@@ -1,5 +1,5 @@
 -- An attribute that stands, with the same bytes: what is said of it before holds after, and what is said of it after holds before.
-use Rattle.std.proofs.Common.{◌≡◌, ◌⊎◌, ℕ, ℤ, ◌+◌, ◌-◌, ◌≤◌, List, [], ◌∷◌, ◌++◌, Some, refl, sym, ap, ap₂, subst, ◌∙◌, arith, inl, inr}
+use Rattle.std.proofs.Common.{◌≡◌, ◌⊎◌, ℕ, ℤ, ◌+◌, ◌≤◌, List, [], ◌∷◌, ◌++◌, Some, refl, sym, ap, ap₂, subst, ◌∙◌, arith, inl, inr}
 use Rattle.cdf_edits.proofs.Common.{slice_get, ◌&&◌, ◌==◌, nat_lt, not, if◌then◌else◌, EntryKind, entries_of, is_global, Attribute, Found, attribute_without, cast_signed, w32, word, Leads, next_field, next_of, attribute_of, scope_of, integer4, number, size_at, Field, adr_scope, aedr_num, adr_type, AttributeShape, HasEntries, HasShape, shape, In, Good, linkable-type, good_is_sound, GreatestIs, OutsideFields, chain_fields, chain_of, entry_type, greatest_number, kind_of_entries, max_field, entries_for, fields_beside}
 use Rattle.cdf_edits.specs.Commands.Variables.{is_renumbered}
 use Rattle.cdf_edits.proofs.Edits.ChainEdited.{ChainEdited, chain_then, stays_more, stays_word}

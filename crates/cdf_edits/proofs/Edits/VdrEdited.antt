@@ -1,9 +1,8 @@
 -- An edit that changes a VDR where it stands, behind its link and in what leaves the variable its records: the image has its shape and its rules, and the other variables stay.
-use Rattle.std.proofs.Common.{◌≡◌, ℕ, ◌≤◌, List, [], ◌∷◌, length, true, refl, sym, ap, subst, ◌∙◌, arith, inl, inr, bytes_eq, false, true≢false, Some}
-use Rattle.cdf_edits.proofs.Common.{cases_eq, same_Some, flat_map, slice_get, slice_set, Reply, Command, Kind, Go, image_limit, Found, variables_of, with_variables, ByStep, step, has_name, content, variable_of, number, name_in, size_at, type_at, File, Unused, variable_records, unused_records, owned, Field, gdr_uir_head, vdr_num, vdr_name, gdr_type, uir_type, fixed_size, VariableShape, Shape, vdrs, is_compressed, HasShape, shape, In, vdr_end, Good, number_kept, linkable-in, linkable-type, IsGoodByShape, Only, Keeps, Allowances, AllKeep, shapes_of, Does, allowances, Edit, Mark, Among, Lies, Avoids, Away, Within, avoided, unmarked, all_unmarked, index_types, keeps_file, Follows, only_reads, type_in, variables_chain}
+use Rattle.std.proofs.Common.{◌≡◌, ℕ, ◌≤◌, List, [], ◌∷◌, length, true, refl, sym, ap, subst, ◌∙◌, arith, inl, inr, bytes_eq, false, true≢false}
+use Rattle.cdf_edits.proofs.Common.{cases_eq, flat_map, slice_set, Reply, Command, Kind, Go, image_limit, variables_of, with_variables, ByStep, step, has_name, content, variable_of, number, name_in, size_at, type_at, File, Unused, variable_records, unused_records, owned, Field, gdr_uir_head, vdr_num, vdr_name, gdr_type, uir_type, fixed_size, VariableShape, Shape, vdrs, is_compressed, HasShape, shape, In, vdr_end, Good, number_kept, linkable-in, linkable-type, IsGoodByShape, Only, Keeps, Allowances, AllKeep, shapes_of, Does, allowances, Edit, Mark, Among, Lies, Avoids, Away, Within, avoided, unmarked, all_unmarked, index_types, keeps_file, Follows, only_reads, type_in, variables_chain}
 use Rattle.cdf_edits.specs.Edits.Marks.{Where}
 use Rattle.cdf_edits.proofs.Commands.KeptRecords.{Stood, keep_owned, keep_attributes}
-use Rattle.cdf_edits.proofs.Commands.ListParts.{got-middle}
 use Rattle.cdf_edits.proofs.Edits.Composing.{head_size}
 use Rattle.cdf_edits.proofs.Edits.MarkLemmas.{all_unmarked-away}
 use Rattle.cdf_edits.proofs.Edits.OwnedOnce.{all_attributes_in}
@@ -183,10 +182,3 @@ module _ {b now : List ℕ} {kind : Kind} {before : List VariableShape} {own : V
     keeps = all_keep_but (allowances b (content b) s c) vdr;
     does = does;
   }
-
-  -- the one that is found by a name
-  pub same_own : (found : Found) (own' : VariableShape) → found.kind ≡ kind → found.number ≡ length before → slice_get (shapes_of (shape now) found.kind) found.number ≡ Some own' → own ≡ own'
-  same_own found own' of number_is there =
-      let here : slice_get (shapes_of s kind) (length before) ≡ Some own = ap (λ (vs : List VariableShape). slice_get vs (length before)) at.was ∙ got-middle before own after in
-      let same : slice_get (shapes_of (shape now) found.kind) found.number ≡ slice_get (shapes_of s kind) (length before) = λ i. slice_get (shapes_of (same_shape i) (of i)) (number_is i) in
-      same_Some own own' (sym here ∙ sym same ∙ there)

@@ -1,5 +1,5 @@
 -- A part of some entries of a chain is written, which all stay, and then the greatest number of the chain.
-use Rattle.std.proofs.Common.{◌≡◌, ◌≢◌, ◌⊎◌, ℕ, ℤ, ◌+◌, ◌≤◌, List, [], ◌∷◌, ◌++◌, length, true, eqb, refl, sym, ◌∙◌, arith, inl, inr}
+use Rattle.std.proofs.Common.{◌≡◌, ◌≢◌, ◌⊎◌, ℕ, ℤ, ◌+◌, ◌≤◌, List, [], ◌∷◌, length, true, eqb, refl, sym, ◌∙◌, arith, inl, inr}
 use Rattle.cdf_edits.proofs.Common.{eqb-true, w32, cast_unsigned, FitsSigned, EntryKind, Same, number, integer4, size_at, type_at, Unused, unused_records, attribute_records, Field, gdr_eof, gdr_uir_head, gdr_type, adr_type, uir_type, AttributeShape, shape, IsSound, In, Good, space_fields, chain_fields, chain_of, entry_type, max_field, Edit, head_field, count_field, keeps_but_chain, Among, Mark, Avoids, Away, avoided, field_marks, mark, unmarked, within}
 use Rattle.cdf_model.specs.declared.kinds.EntryKind.TheVariants as entries
 use Rattle.cdf_edits.proofs.Commands.KeptRecords.{keep_owned}

@@ -1,6 +1,6 @@
 -- What records mean stays where their bytes do.
 use Rattle.std.proofs.Common.{◌≡◌, ℕ, ℤ, ◌+◌, ◌*◌, ◌≤◌, List, [], ◌∷◌, length, Bool, true, false, refl, sym, ap, subst, ◌∙◌, arith, inl, inr}
-use Rattle.cdf_edits.proofs.Common.{◌==◌, if◌then◌else◌, w32, w64, cast_signed, before_first, unwrap_or, DataType, Byte, turned, Entry, with_item, size_of, type_of, Field, adr_name, adr_scope, aedr_data_type, aedr_num, aedr_num_elems, aedr_value, vdr_r_dim_vary, vdr_r_pad_value, vdr_z_dim_vary, vdr_z_pad_value, cvvr_c_size, counted, number, name_in, integer4, size_at, type_at, gdr_offset, r_num_dims, r_sizes, Same, In, field_bytes, is_little, data_type_in, AttributeShape, Each, entry_bytes, scope_of, entry_of, attribute_of, EntryFits, AttributeFits, Same-part, word_kept, piece_kept, number_kept, integer_kept, bytes_kept, name_kept, size_kept}
+use Rattle.cdf_edits.proofs.Common.{if◌then◌else◌, w32, w64, cast_signed, unwrap_or, DataType, Byte, turned, Entry, with_item, size_of, type_of, Field, adr_name, adr_scope, aedr_data_type, aedr_num, aedr_num_elems, aedr_value, vdr_r_dim_vary, vdr_r_pad_value, vdr_z_dim_vary, vdr_z_pad_value, cvvr_c_size, counted, number, integer4, size_at, type_at, gdr_offset, r_num_dims, r_sizes, Same, In, field_bytes, is_little, data_type_in, AttributeShape, Each, entry_bytes, scope_of, entry_of, attribute_of, EntryFits, AttributeFits, Same-part, word_kept, piece_kept, number_kept, integer_kept, bytes_kept, name_kept, size_kept}
 use Rattle.cdf_format.specs.Records.{cvvr_packed}
 use Rattle.cdf_format.specs.Stored.{packed_bytes}
 use Rattle.cdf_format.specs.Content.{entries_of}
@@ -50,9 +50,6 @@ module _ (b now : List ℕ) (m : ℕ) (k : KeptButLink b now m) where
 
   pub late_bytes : (f : Field) → 20 ≤ f.place → f.place + f.width ≤ size_at b m → length b ≤ length now → field_bytes now m f ≡ field_bytes b m f
   late_bytes f late fits longer = piece_kept b now (m + 20) (m + size_at b m) k.rest (m + f.place) f.width (omega arith) (omega arith) k.inside longer
-
-  pub late_name : (f : Field) → 20 ≤ f.place → f.place + f.width ≤ size_at b m → length b ≤ length now → name_in now m f ≡ name_in b m f
-  late_name f late fits longer = ap (before_first (λ (x : ℕ). x == 0)) (late_bytes f late fits longer)
 
 less : (a p s : ℕ) → a + p ≤ s → a ≤ s
 less a p s h = omega arith
