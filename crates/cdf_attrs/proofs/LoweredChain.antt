@@ -1,7 +1,7 @@
 -- The numbers of a known chain that were written less by one: what the image comes to.
-use Rattle.std.proofs.Common.{◌≡◌, ℕ, ◌-◌, ◌≤◌, List, [], ◌∷◌, length, map, w32, refl, sym, ap, ap₂, subst, ◌∙◌, arith, inl, inr, ◌++◌, Some}
-use Rattle.cdf_attrs.proofs.Common.{cases_lt, lt-ltb, le-ltb, cast_unsigned, entries_of, image_limit, signed_limit, closed_up, attribute_of, number, integer4, with_field, aedr_num, adr_type, In, Good, Chain, chain_of, max_field, greatest_number, fallen, Write, with_writes, write, nums, LowersChain, max_lies, LowersNumbers, lower_writes, IsOfAttribute, KnownEntries, KnowsEntries, IsGreatest, slice_get_within, slice_get, with_attribute, with_entries, content, AttributeShape, shape, Cut, cut, got-middle}
-use Rattle.cdf_edits.proofs.Edits.FallenEntries.{entries_now, later, lowered, nums_now, of_max, content_lowered, good_lowered, greatest_lowered}
+use Rattle.std.proofs.Common.{◌≡◌, ℕ, ◌-◌, ◌≤◌, List, [], ◌∷◌, length, map, w32, refl, sym, ap, ap₂, subst, ◌∙◌, arith, inl, inr}
+use Rattle.cdf_attrs.proofs.Common.{cases_lt, lt-ltb, le-ltb, cast_unsigned, entries_of, image_limit, signed_limit, closed_up, attribute_of, number, integer4, with_field, aedr_num, In, Good, Chain, chain_of, max_field, greatest_number, fallen, Write, with_writes, write, nums, LowersChain, LowersNumbers, lower_writes, IsOfAttribute, KnownEntries, KnowsEntries, IsGreatest}
+use Rattle.cdf_edits.proofs.Edits.FallenEntries.{entries_now, later, lowered, nums_now, greatest_lowered}
 use Rattle.cdf_edits.proofs.Edits.FallenItems.{falls, rests}
 use Rattle.cdf_attrs.proofs.EntryChains.{members}
 use Rattle.cdf_attrs.proofs.EntryTakenAt.{cut_is, from_map, parts, places_are, small}
