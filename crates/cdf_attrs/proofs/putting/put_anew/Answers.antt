@@ -1,5 +1,5 @@
-use Rattle.std.proofs.Common.{◌∙◌, List, ℕ, None, take, refl, ap, subst, sym}
-use Rattle.cdf_attrs.proofs.Common.{last_or, edit_done, edit_failed, edit_more, edit_once, good_is_sound, good_eof, old_free, old_stands, sound_late, last_got, KnownEntries, IsPut}
+use Rattle.std.proofs.Common.{◌∙◌, List, ℕ, None, take, ap}
+use Rattle.cdf_attrs.proofs.Common.{last_or, edit_done, edit_failed, edit_more, edit_once, good_is_sound, good_eof, old_free, old_stands, sound_late, last_got, KnownEntries}
 use Rattle.cdf_attrs.proofs.EntryChains.{chain_there, holder_stands}
 use Rattle.cdf_attrs.proofs.EntryPut.{behind_at, body_kind, body_room, freed, is_body, is_member, max_joined, of_chain, put_anew}
 use Rattle.cdf_attrs.proofs.putting.put_anew.Goals as goal
@@ -33,11 +33,7 @@ free_record-requires g c =
 
 pub returns-clause-put : goal.returns-clause-put
 returns-clause-put g c =
-    subst (IsPut (g.A.Area.image c.args.area.now) (g.A.Area.image c.free_record.new.area) c.args.entry.now c.args.entries) (sym c.set_place.ensures)
-    (put_anew c.requires.good c.requires.ready c.requires.old c.entries_chain-chain.ensures (c.deref-2.ensures.value ∙ c.in_ok-bytes.ensures) c.in_ok-place.ensures.exchanged c.in_ok-set_greatest.ensures.written c.requires.large c.in_ok-free_record.ensures.gives)
-
-pub returns-in_err-place-clause-area : goal.returns-in_err-place-clause-area
-returns-in_err-place-clause-area g c = edit_failed (record { frame = refl; faults = refl }) c.in_err-place.ensures.area c.from_residual-in_err-place.ensures.1
+    rw c.set_place.ensures (put_anew c.requires.good c.requires.ready c.requires.old c.entries_chain-chain.ensures (c.deref-2.ensures.value ∙ c.in_ok-bytes.ensures) c.in_ok-place.ensures.exchanged c.in_ok-set_greatest.ensures.written c.requires.large c.in_ok-free_record.ensures.gives)
 
 pub returns-in_err-set_greatest-clause-area : goal.returns-in_err-set_greatest-clause-area
 returns-in_err-set_greatest-clause-area g c = edit_failed (edit_once c.in_ok-place.ensures.area) c.in_err-set_greatest.ensures.area c.from_residual-in_err-set_greatest.ensures.1

@@ -1,5 +1,5 @@
-use Rattle.std.proofs.Common.{◌∙◌, None, ap, subst, sym}
-use Rattle.cdf_attrs.proofs.Common.{last_or, edit_done, edit_failed, edit_more, edit_once, good_is_sound, good_eof, last_got, KnownEntries, new_reserved, IsPut}
+use Rattle.std.proofs.Common.{◌∙◌, None, ap}
+use Rattle.cdf_attrs.proofs.Common.{last_or, edit_done, edit_failed, edit_more, edit_once, good_is_sound, good_eof, last_got, KnownEntries, new_reserved}
 use Rattle.cdf_area.proofs.Calls.{edit_without_memory}
 use Rattle.cdf_attrs.proofs.EntryChains.{chain_there, holder_stands}
 use Rattle.cdf_attrs.proofs.EntryPut.{body_kind, body_of, body_room, few_at, is_body, known_at, max_joined, of_chain, pushed}
@@ -28,7 +28,7 @@ set_greatest-requires g c = max_joined c.requires.good c.requires.ready c.in_ok-
 pub returns-clause-put : goal.returns-clause-put
 returns-clause-put g c =
     let bytes = c.deref-2.ensures.value ∙ c.in_ok-bytes.ensures ∙ ap (body_of c.args.entry.now) c.new.ensures in
-    subst (IsPut (g.A.Area.image c.args.area.now) (g.A.Area.image c.set_greatest.new.area) c.args.entry.now c.args.entries) (sym c.in_ok-push.ensures) (pushed c.requires.good c.requires.ready c.requires.absent c.entries_chain.ensures bytes c.in_ok-place.ensures.added c.in_ok-set_greatest.ensures.written)
+    rw c.in_ok-push.ensures (pushed c.requires.good c.requires.ready c.requires.absent c.entries_chain.ensures bytes c.in_ok-place.ensures.added c.in_ok-set_greatest.ensures.written)
 
 pub returns-in_err-set_greatest-clause-area : goal.returns-in_err-set_greatest-clause-area
 returns-in_err-set_greatest-clause-area g c = edit_failed (edit_once c.in_ok-place.ensures.area) c.in_err-set_greatest.ensures.area c.from_residual-in_err-set_greatest.ensures.1
