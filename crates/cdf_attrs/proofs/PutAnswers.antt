@@ -1,6 +1,6 @@
 -- What the command that puts an entry is answered.
 use Rattle.std.proofs.Common.{◌≡◌, ℕ, ◌+◌, ◌<◌, ◌≤◌, max, List, [], ◌∷◌, length, Err, false, refl, sym, ap, ◌∙◌, arith, inl, inr, pos, ℤ, FitsSigned, w32}
-use Rattle.cdf_attrs.proofs.Common.{fold, slice_index, cases_lt, Go, Refuse, entries_of, is_out_of_range, with_attribute, with_entries, DataSet, Entry, record_number_limit, signed_limit, image_limit, ints, IsReady, with_item, ByStep, Done, Refused, Reason, TooLarge, Plain, Command, PutEntry, DataType, EntryKind, size_stays, content, attribute_of, adrs, shape, is_little, In, Good, Answers, room, entries_chain, Chain, gone, FindsChain, KnownEntries, KnowsEntries, Puts, stored_entry, entry_of_words}
+use Rattle.cdf_attrs.proofs.Common.{fold, slice_index, cases_lt, Go, Refuse, entries_of, is_out_of_range, with_attribute, with_entries, DataSet, record_number_limit, signed_limit, image_limit, ints, IsReady, with_item, ByStep, Done, Refused, Reason, TooLarge, Plain, Command, PutEntry, DataType, EntryKind, size_stays, content, attribute_of, adrs, shape, is_little, In, Good, Answers, room, entries_chain, Chain, gone, FindsChain, KnownEntries, KnowsEntries, Puts, stored_entry, entry_of_words}
 use Rattle.cdf_model.specs.AttributeSteps.{put_entry_step}
 use Rattle.cdf_edits.specs.Commands.Room.{entry_length}
 use Rattle.cdf_edits.proofs.Commands.Answered.{too_large}
@@ -59,11 +59,8 @@ module _ {b attr : List ℕ} {kind : EntryKind} {num : ℕ} {t : DataType} {word
     abbrev c : Command
     c = PutEntry attr kind num t words
 
-    abbrev entry : Entry
-    entry = stored_entry b t value.elems value.bytes.items
-
     abbrev made : DataSet
-    made = with_attribute (content b) n (with_entries (attribute_of b m.found.own) kind (with_item num entry (entries_of (attribute_of b m.found.own) kind)))
+    made = with_attribute (content b) n (with_entries (attribute_of b m.found.own) kind (with_item num (stored_entry b t value.elems value.bytes.items) (entries_of (attribute_of b m.found.own) kind)))
 
     goes : put_entry_step (content b) attr kind num t words ≡ Go made Plain
     goes = rw (m.found.named, m.found.in_scope, m.in_range, m.written.means) refl
@@ -76,6 +73,5 @@ module _ {b attr : List ℕ} {kind : EntryKind} {num : ℕ} {t : DataType} {word
 
     pub put_done : {now : List ℕ} {adr : ℕ} → length b + (56 + length value.bytes.items) ≤ limit → Puts b now (record { kind = kind; attribute = n; adr = adr; num = num }) (stored_entry b value.t value.elems value.bytes.items) → Answers limit b c (Done Plain) now
     put_done {now = now} {adr = adr} fits puts =
-        let asks : Asks b attr (record { kind = kind; attribute = n; adr = adr; num = num }) words entry = record { own = m.found.own; stands = m.found.stands; named = m.found.named; goes = goes; takes = ap (λ r. 56 + entry_length r) m.written.means } in
-        let same = rw m.t_is at puts in
-        gone limit b c made Plain now (ap ByStep goes) (omega (arith, fits, takes)) (same.follows attr words asks)
+        let asks : Asks b attr (record { kind = kind; attribute = n; adr = adr; num = num }) words (stored_entry b t value.elems value.bytes.items) = record { own = m.found.own; stands = m.found.stands; named = m.found.named; goes = goes; takes = ap (λ r. 56 + entry_length r) m.written.means } in
+        gone limit b c made Plain now (ap ByStep goes) (omega (arith, fits, takes)) ((rw m.t_is at puts).follows attr words asks)

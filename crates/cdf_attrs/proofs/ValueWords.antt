@@ -17,10 +17,9 @@ numbers_written UChar words bytes n some fit e = absurd cc
 numbers_written t words bytes n some fit e =
     let read : bytes_of_words t 1 words ≡ Ok bytes = sym (counted t 1 (length words) words refl) ∙ e in
     let s : Sizes (size_of t) 0 words bytes = subst (λ (size : ℕ). Sizes size 0 words bytes) (whole_text t 1 refl ∙ omega arith) (words_sized t 1 words bytes read) in
-    let few = fewer words in
     record {
       means = rw (read, number_entry) refl;
-      stored = record { long = omega (arith, s.long); some = some; few = omega (arith, few, fit); short = omega (arith, s.long, s.short, fit) };
+      stored = record { long = omega (arith, s.long); some = some; few = omega (arith, fewer words, fit); short = omega (arith, s.long, s.short, fit) };
     }
 
 -- ---- in the byte order of the file

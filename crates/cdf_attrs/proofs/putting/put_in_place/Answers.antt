@@ -1,10 +1,10 @@
 use Rattle.std.proofs.Common.{◌∙◌, ℕ, List, ap, arith}
 use Rattle.cdf_attrs.proofs.Common.{with_field, max_field}
-use Rattle.cdf_attrs.proofs.EntryPut.{begins, fields_inside, max_inside, put_over, stored}
+use Rattle.cdf_attrs.proofs.EntryPut.{begins_at, fields_inside, max_inside, put_over, stored}
 use Rattle.cdf_attrs.proofs.putting.put_in_place.Goals as goal
 
 pub overflow_add-old : goal.overflow_add-old
-overflow_add-old g c = let inside = begins c.requires.good c.requires.ready c.requires.old in omega arith
+overflow_add-old g c = omega (arith, begins_at c.requires.good c.requires.ready c.args.i c.requires.old.within, c.requires.old.place_is)
 
 pub set-requires : goal.set-requires
 set-requires g c = fields_inside c.requires.good c.requires.ready c.requires.old c.requires.fits (c.deref.ensures.value ∙ c.in_ok-fields.ensures)

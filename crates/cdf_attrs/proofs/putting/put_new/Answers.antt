@@ -1,6 +1,5 @@
 use Rattle.std.proofs.Common.{◌∙◌, ℕ, List, ap, sym}
-use Rattle.cdf_attrs.proofs.Common.{slice_index, number, size_at, aedr_num, KnownEntries}
-use Rattle.cdf_attrs.specs.Putting.{reserved_at}
+use Rattle.cdf_attrs.proofs.Common.{slice_index, KnownEntries}
 use Rattle.cdf_attrs.proofs.EntryPut.{begins_at, numbered}
 use Rattle.cdf_attrs.proofs.putting.put_new.Goals as goal
 
@@ -13,18 +12,16 @@ read_old-requires g c = rw (c.as_slice.ensures.value ∙ ap (λ (e : KnownEntrie
 pub put_over-requires : goal.put_over-requires
 put_over-requires g c =
     let at = numbered c.requires.good c.requires.ready c.in-Some.i (sym c.find.ensures ∙ c.in-Some.is) in
-    let here = c.in_ok-old.ensures.place in
-    let b = g.A.Area.image c.args.area.now in
-    let place = here ∙ ap (λ (xs : List ℕ). slice_index xs c.in-Some.i) (c.as_slice.ensures.value ∙ ap (λ (e : KnownEntries). e.places) c.entries.view_is) in
+    let is = c.in_ok-old.ensures.place ∙ ap (λ (xs : List ℕ). slice_index xs c.in-Some.i) (c.as_slice.ensures.value ∙ ap (λ (e : KnownEntries). e.places) c.entries.view_is) in
     rw (c.in_ok-old.ensures.area.image, c.in_ok-old.ensures.area.frame) (record {
       good = c.requires.good;
       ready = c.requires.ready;
       old = record {
         within = at.0;
-        place_is = place;
-        number_is = ap (λ (x : ℕ). number b x aedr_num) place ∙ at.1;
-        size_is = c.in_ok-old.ensures.size ∙ ap (size_at b) (sym here);
-        reserved_is = c.in_ok-old.ensures.reserved ∙ ap (reserved_at b) (sym here);
-        bytes = rw here c.in_ok-old.ensures.bytes;
+        place_is = is;
+        number_is = rw is at.1;
+        size_is = rw c.in_ok-old.ensures.place c.in_ok-old.ensures.size;
+        reserved_is = rw c.in_ok-old.ensures.place c.in_ok-old.ensures.reserved;
+        bytes = rw c.in_ok-old.ensures.place c.in_ok-old.ensures.bytes;
       };
     })

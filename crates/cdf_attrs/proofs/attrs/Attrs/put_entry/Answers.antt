@@ -9,17 +9,14 @@ returns-in-Refused-clause-answers g c = rw c.read_request.ensures.area.image (re
 
 pub returns-then-limit-size-clause-answers : goal.returns-then-limit-size-clause-answers
 returns-then-limit-size-clause-answers g c =
-    let long = ap (λ (x : List ℕ). length x) c.read_request.ensures.area.image in
-    let most = ap (λ f. f.limit) c.read_request.ensures.area.frame in
-    rw c.read_request.ensures.area.image (put_too_large _ (rw c.in-Put.is at c.in_ok-number.ensures.request) (omega (arith, c.requires.fits, long, most, c.if-limit-size.true, c.limit.ensures, c.size.ensures, c.len.ensures)))
+    rw c.read_request.ensures.area.image (put_too_large _ (rw c.in-Put.is at c.in_ok-number.ensures.request) (grind (arith, c.requires.fits, c.read_request.ensures.area.image, c.read_request.ensures.area.frame, c.if-limit-size.true, c.limit.ensures, c.size.ensures, c.len.ensures)))
 
 pub take_entries-requires-clause-good : goal.take_entries-requires-clause-good
 take_entries-requires-clause-good g c = rw c.read_request.ensures.area.image c.requires.good
 
 pub bounds-places-attribute : goal.bounds-places-attribute
 bounds-places-attribute g c =
-    let may = rw c.in-Put.is at c.in_ok-number.ensures.request in
-    place_within may.found _ (c.as_slice-places.ensures.value ∙ ap (λ (k : Known). k.places) (c.self.view_is ∙ c.in_ok-entries.ensures.given) ∙ c.requires.known.places_are)
+    place_within (rw c.in-Put.is at c.in_ok-number.ensures.request).found _ (c.as_slice-places.ensures.value ∙ ap (λ (k : Known). k.places) (c.self.view_is ∙ c.in_ok-entries.ensures.given) ∙ c.requires.known.places_are)
 
 pub greatest_with-greatest-requires : goal.greatest_with-greatest-requires
 greatest_with-greatest-requires g c =
@@ -32,16 +29,11 @@ put_new-requires g c =
     let knows = rw c.read_request.ensures.area.image at c.in_ok-entries.ensures.entries in
     let is = c.greatest_with-greatest.ensures ∙ ap (λ (xs : List ℕ). pos (fold max c.args.num xs)) (c.deref.ensures.value ∙ ap (λ (k : KnownEntries). k.numbers) c.entries.view_is) in
     let small : length (g.A.Area.image c.args.area.now) ≤ image_limit = omega (arith, c.requires.fits, c.requires.limit) in
-    let long = ap (λ (x : List ℕ). length x) c.read_request.ensures.area.image in
-    let most = ap (λ f. f.limit) c.read_request.ensures.area.frame in
     rw (c.take_entries.ensures.area.image, c.read_request.ensures.area.image, c.take_entries.ensures.area.frame, c.read_request.ensures.area.frame, to_z-of_z w32 c.greatest_with-greatest.result (greatest_signed may c.requires.good small knows c.in_ok-entries.ensures.chain is)) (record {
       good = c.requires.good;
-      ready = put_ready may c.requires.good small knows c.in_ok-entries.ensures.chain is places c.requires.limit (omega (arith, c.requires.fits, long, most, c.if-limit-size.false, c.limit.ensures, c.size.ensures, c.len.ensures));
+      ready = put_ready may c.requires.good small knows c.in_ok-entries.ensures.chain is places c.requires.limit (grind (arith, c.requires.fits, c.read_request.ensures.area.image, c.read_request.ensures.area.frame, c.if-limit-size.false, c.limit.ensures, c.size.ensures, c.len.ensures));
     })
 
 pub returns-clause-answers : goal.returns-clause-answers
 returns-clause-answers g c =
-    let long = ap (λ (x : List ℕ). length x) c.read_request.ensures.area.image in
-    let most = ap (λ f. f.limit) c.read_request.ensures.area.frame in
-    let puts = rw (c.take_entries.ensures.area.image, c.read_request.ensures.area.image) at c.in_ok-put.ensures.put.puts in
-    put_done _ (rw c.in-Put.is at c.in_ok-number.ensures.request) (omega (arith, c.requires.fits, long, most, c.if-limit-size.false, c.limit.ensures, c.size.ensures, c.len.ensures)) puts
+    put_done _ (rw c.in-Put.is at c.in_ok-number.ensures.request) (grind (arith, c.requires.fits, c.read_request.ensures.area.image, c.read_request.ensures.area.frame, c.if-limit-size.false, c.limit.ensures, c.size.ensures, c.len.ensures)) (rw (c.take_entries.ensures.area.image, c.read_request.ensures.area.image) at c.in_ok-put.ensures.put.puts)
