@@ -1,18 +1,16 @@
 -- The command `put-entry`: an entry is put as a last one of its chain, in the record of the one of its number, or in another record in its place.
 use Rattle.std.proofs.Common.{◌≡◌, ℕ, ◌+◌, ◌*◌, ◌^◌, ◌<◌, ◌≤◌, List, [], ◌∷◌, length, take, true, is_some, Some, refl, sym, ap, subst, ◌∙◌, arith, lit<, ◌++◌, find, eq-eqb, inl, inr, ◌≢◌, drop, None, append_assoc, Option, FitsSigned, w32}
-use Rattle.cdf_attrs.proofs.Common.{with_in_place, ends, new_in, new_type, typed_body, w32, cast_signed, cast_unsigned, last_or, position, unwrap_or, nat_le, ◌==◌, slice_index, slice_set, and_from, le-leb, to_z-of_z, length-map, map-append, length-append, slice_get_within, Go, entries_of, with_attribute, with_entries, turned, Entry, signed_limit, image_limit, record_number_limit, attribute_named, with_item, record_limit, ByStep, size_of, Plain, PutEntry, EntryKind, size_stays, entry_bytes, has_value, entry_rows, Same, is_in, entry_of, content, attribute_of, word, number, is_positive, size_at, LiesIn, integer4, with_field, uir_type, record_type, aedr_data_type, aedr_num, aedr_value, Field, Hold, AttributeShape, shape, EntryFits, IsSound, field_bytes, known_type, data_type_in, is_little, In, Distinct, Good, good_is_sound, In-append_right, of_le, tile_lies, word4_fits, chain_after, entry_type, chain_of, max_field, entry_at, greatest_number, Says, room, entries_chain, count_field, with_chain, Mark, Act, Gave, Took, Added, counted_in, members_of, type_in, before, Gives, IsBody, Placed, type_of_body, Chain, nums, EntryLives, nums_live, chain_now, found_one, found_none, greatest_integer, Rechains, entry_stays, max_lies, count_is, max_written, Frees, count_same, freed_bytes, freed_rechains, freed_settled, greatest_same, all_marks, the_one, Chained, chain_follows, follows_chained, items_of, of_named, once_before, rules_live, counted_before, differ_before, placed_says, apart, IsOfAttribute, KnownEntries, HasOld, IsPut, IsReady, IsStored, new_reserved, IsGreatest, NewEntry}
+use Rattle.cdf_attrs.proofs.Common.{with_in_place, ends, new_in, new_type, typed_body, w32, cast_signed, cast_unsigned, last_or, position, nat_le, ◌==◌, slice_index, slice_set, and_from, le-leb, to_z-of_z, length-map, map-append, length-append, slice_get_within, Go, entries_of, with_attribute, with_entries, turned, Entry, signed_limit, record_number_limit, with_item, record_limit, ByStep, size_of, Plain, PutEntry, EntryKind, size_stays, entry_bytes, has_value, entry_rows, Same, entry_of, content, attribute_of, word, number, is_positive, size_at, LiesIn, integer4, with_field, uir_type, record_type, aedr_data_type, aedr_num, aedr_value, Field, Hold, AttributeShape, shape, EntryFits, IsSound, field_bytes, known_type, data_type_in, is_little, In, Distinct, Good, good_is_sound, In-append_right, of_le, tile_lies, word4_fits, chain_after, entry_type, chain_of, max_field, entry_at, greatest_number, Says, room, entries_chain, count_field, with_chain, Mark, Act, Gave, Took, Added, counted_in, members_of, type_in, before, Gives, IsBody, Placed, type_of_body, Chain, nums, EntryLives, nums_live, chain_now, found_one, found_none, greatest_integer, Rechains, entry_stays, max_lies, count_is, max_written, Frees, count_same, freed_bytes, freed_rechains, freed_settled, greatest_same, the_one, Chained, chain_follows, follows_chained, items_of, of_named, once_before, rules_live, counted_before, differ_before, placed_says, apart, IsOfAttribute, KnownEntries, HasOld, IsPut, IsReady, IsStored, new_reserved, IsGreatest, NewEntry}
 use Rattle.std.proofs.lemmas.Bool.{lt-leb}
 use Rattle.cdf_base.specs.Bytes.{put}
-use Rattle.cdf_model.specs.Types.{type_of}
-use Rattle.cdf_model.specs.declared.data_type.DataType.TheVariants.{Byte}
 use Rattle.cdf_model.specs.declared.kinds.EntryKind.TheVariants as entries
 use Rattle.cdf_format.specs.Content.{entries_of as chain_items}
-use Rattle.cdf_format.specs.Records.{field, aedr_aedr_next, aedr_attr_num, aedr_num_strings, aedr_rfu_b, aedr_rfu_c, aedr_rfu_d, aedr_rfu_e}
+use Rattle.cdf_format.specs.Records.{field, aedr_aedr_next, aedr_rfu_b, aedr_rfu_c, aedr_rfu_d, aedr_rfu_e}
 use Rattle.cdf_format.proofs.BytesLemmas.{Same-part, size_kept}
-use Rattle.cdf_format.proofs.Members.{is_in-true}
 use Rattle.cdf_fields.proofs.Writes.{drop-put_there}
 use Rattle.cdf_edits.specs.Commands.Allowances.{FreedStay, no_fields}
-use Rattle.cdf_edits.specs.Commands.Entries.{PutsEntry, EntryFollows, EntryMoves, entry_end}
+use Rattle.cdf_edits.specs.Commands.Entries.{PutsEntry, EntryFollows, entry_end}
+use Rattle.cdf_edits.specs.Commands.NewRecords.{MovesForRoom, moved_for_room}
 use Rattle.cdf_edits.specs.Space.Adding.{Joined, Exchanged}
 use Rattle.cdf_edits.specs.Space.Placing.{laid_out}
 use Rattle.cdf_edits.proofs.Commands.TypeCodes.{type_back, code_small}
@@ -26,10 +24,9 @@ use Rattle.cdf_edits.proofs.Edits.FreedEntry.{as_long_now, other_kept}
 use Rattle.cdf_edits.proofs.Edits.MadeRecord.{filled_edit}
 use Rattle.cdf_edits.proofs.Edits.OneChain.{Settled}
 use Rattle.cdf_edits.proofs.Edits.ChainMembers.{IsAmong, member as stands}
-use Rattle.cdf_edits.proofs.Edits.FieldWritten.{Stands}
 use Rattle.cdf_edits.proofs.Edits.PutEntry.{JoinsEntry, changes, count_now, exchanges, frees, greatest_now, in_its_place, new_record, new_value, not_old, pushes, rechains, settled}
 use Rattle.cdf_edits.proofs.Edits.JoinedRecord.{list, marks, new_size, records}
-use Rattle.cdf_edits.proofs.Edits.WrittenEntries.{WritesChain, as_long as over_long, count_now as over_count, greatest_now as over_greatest, mid_kept, mid_size, part_beside, rechains as over_rechains, settled as over_settled, size_now}
+use Rattle.cdf_edits.proofs.Edits.WrittenEntries.{as_long as over_long, count_now as over_count, greatest_now as over_greatest, mid_kept, mid_size, part_beside, rechains as over_rechains, settled as over_settled, size_now}
 use Rattle.cdf_edits.proofs.Edits.Splice.{adr_stands}
 use Rattle.cdf_edits.proofs.Space.LaidOut.{IsType, fields_kept}
 use Rattle.cdf_attrs.specs.PutValues.{new_entry}
@@ -38,7 +35,7 @@ use Rattle.cdf_attrs.specs.declared.entry_bytes.OldEntry.{OldEntry}
 use Rattle.cdf_attrs.specs.declared.entry_bytes.Reserved.{Reserved}
 use Rattle.cdf_attrs.proofs.AttributeChain.{few_attributes, index_in}
 use Rattle.cdf_attrs.proofs.AttributeParts.{parts, members_at, names_rechained, number_at, places_rechained, Parts}
-use Rattle.cdf_attrs.proofs.EntryChains.{counted, entry_inside, few_entries, members}
+use Rattle.cdf_attrs.proofs.EntryChains.{entry_inside, members}
 use Rattle.cdf_attrs.proofs.EntryTakenAt.{at_index, numbered_at, once, places_are, small, stands_behind}
 use Rattle.cdf_attrs.proofs.GreatestNumber.{greatest_fits, greatest_put}
 use Rattle.cdf_attrs.proofs.NumberGone.{none_in}
@@ -86,49 +83,39 @@ type_of_kind other adr = refl
 abbrev pub stored : NewEntry → ℕ
 stored new = cast_unsigned w32 (cast_signed w32 (cast_unsigned w32 new.greatest))
 
-pub as_meant : (P : Chain → List ℕ → Type 0) {c d : Chain} {xs ys : List ℕ} → c ≡ d → xs ≡ ys → P c xs → P d ys
-as_meant P {d = d} {xs = xs} is are p = subst (P d) are (subst (λ (x : Chain). P x xs) is p)
-
 -- ---- an entry that is written
 
 -- an image has at a place the entry that was put into another one
 record IsEntry (b now : List ℕ) (place : ℕ) (new : NewEntry) (r : Reserved) : Type 0 where
-  attribute : number now place aedr_attr_num ≡ new.slot.attribute
+  says : Says now place (said new r)
   num_is : number now place aedr_num ≡ new.slot.num
   meant : entry_of now place ≡ new_entry b new
   valued : has_value now place ≡ true
   fits : EntryFits now place
-  no_strings : number now place aedr_num_strings ≡ 0
   bytes_are : entry_bytes now place ≡ length new.value.bytes.items
-  reserved : Says now place ((aedr_rfu_b, r.b) ∷ (aedr_rfu_c, r.c) ∷ (aedr_rfu_d, r.d) ∷ (aedr_rfu_e, r.e) ∷ [])
 
-module _ (new : NewEntry) (r : Reserved) {b now : List ℕ} {place : ℕ} (little : is_little now ≡ is_little b) (s : IsStored new.value.t new.value.elems new.value.bytes.items) where
-  is_entry : Says now place (said new r) → field_bytes now place (aedr_value (length new.value.bytes.items)) ≡ new.value.bytes.items → 56 + length new.value.bytes.items ≤ size_at now place → IsEntry b now place new r
-  is_entry (attr_is, (code_is, (num_is, (elems_is, (strings, (rb, (rc, (rd, (re, end))))))))) bytes room =
-      let known : known_type now place aedr_data_type ≡ Some new.value.t = ap (λ (n : ℕ). type_of (cast_signed w32 n)) code_is ∙ type_back new.value.t in
-      let type : data_type_in now place aedr_data_type ≡ new.value.t = ap (λ o. unwrap_or o Byte) known in
-      let long : entry_bytes now place ≡ length new.value.bytes.items = (λ i. size_of (type i) * elems_is i) ∙ s.long in
-      record {
-        attribute = attr_is;
-        num_is = num_is;
-        meant = (λ i. record { type = type i; elems = elems_is i; bytes = turned (type i) (little i) (field_bytes now place (aedr_value (size_of (type i) * elems_is i))) })
-            ∙ ap (λ (n : ℕ). record { type = new.value.t; elems = new.value.elems; bytes = turned new.value.t (is_little b) (field_bytes now place (aedr_value n)) }) s.long
-            ∙ ap (λ (xs : List ℕ). record { type = new.value.t; elems = new.value.elems; bytes = turned new.value.t (is_little b) xs }) bytes;
-        valued = and_from _ _ (and_from _ _ (ap is_some known) (ap is_positive elems_is ∙ and_from _ _ (of_le 1 new.value.elems s.some) (of_le new.value.elems signed_limit s.few)))
-            (and_from _ _ (ap (λ (n : ℕ). nat_le n record_limit) long ∙ of_le (length new.value.bytes.items) record_limit s.short) (ap (λ (n : ℕ). nat_le (56 + n) (size_at now place)) long ∙ of_le (56 + length new.value.bytes.items) (size_at now place) room));
-        fits = subst (λ (n : ℕ). 56 + n ≤ size_at now place) (sym long) room;
-        no_strings = strings;
-        bytes_are = long;
-        reserved = (rb, (rc, (rd, (re, tt))));
-      }
-
+module _ (new : NewEntry) (r : Reserved) {b now mid : List ℕ} {place : ℕ} where
   -- after steps that leave what was written behind the link
-  entry_written : {mid : List ℕ} (more : List ℕ) → drop (place + 20) mid ≡ fields_of new r ++ more → Fits new r → Same mid now (place + 20) (place + (56 + length new.value.bytes.items)) → place + (56 + length new.value.bytes.items) ≤ length mid → length mid ≤ length now → 56 + length new.value.bytes.items ≤ size_at now place → IsEntry b now place new r
-  entry_written {mid = mid} more laid fit same inside longer room =
+  entry_written : is_little now ≡ is_little b → IsStored new.value.t new.value.elems new.value.bytes.items → (more : List ℕ) → drop (place + 20) mid ≡ fields_of new r ++ more → Fits new r → Same mid now (place + 20) (place + (56 + length new.value.bytes.items)) → place + (56 + length new.value.bytes.items) ≤ length mid → length mid ≤ length now → 56 + length new.value.bytes.items ≤ size_at now place → IsEntry b now place new r
+  entry_written little s more laid fit same inside longer room =
       let value = new.value.bytes.items in
       let w = fields_kept mid now place 20 (56 + length value) (said new r) value more (laid ∙ append_assoc (laid_out (said new r)) value more) refl
       (fit.attr_fits, (code_small new.value.t, (fit.num_fits, (fit.elems_fit, (lit< tt, (fit.b_fits, (fit.c_fits, (fit.d_fits, (fit.e_fits, tt))))))))) same refl inside longer in
-      is_entry w.0 w.1 room
+      let (attr_is, (code_is, (num_is, (elems_is, more_are)))) = w.0 in
+      let known : known_type now place aedr_data_type ≡ Some new.value.t = rw code_is (type_back new.value.t) in
+      let type : data_type_in now place aedr_data_type ≡ new.value.t = rw known refl in
+      let long : entry_bytes now place ≡ length value = (λ i. size_of (type i) * elems_is i) ∙ s.long in
+      record {
+        says = w.0;
+        num_is = num_is;
+        meant = (λ i. record { type = type i; elems = elems_is i; bytes = turned (type i) (little i) (field_bytes now place (aedr_value (size_of (type i) * elems_is i))) })
+            ∙ ap (λ (n : ℕ). record { type = new.value.t; elems = new.value.elems; bytes = turned new.value.t (is_little b) (field_bytes now place (aedr_value n)) }) s.long
+            ∙ ap (λ (xs : List ℕ). record { type = new.value.t; elems = new.value.elems; bytes = turned new.value.t (is_little b) xs }) w.1;
+        valued = and_from _ _ (and_from _ _ (ap is_some known) (ap is_positive elems_is ∙ and_from _ _ (of_le 1 new.value.elems s.some) (of_le new.value.elems signed_limit s.few)))
+            (and_from _ _ (ap (λ (n : ℕ). nat_le n record_limit) long ∙ of_le (length value) record_limit s.short) (ap (λ (n : ℕ). nat_le (56 + n) (size_at now place)) long ∙ of_le (56 + length value) (size_at now place) room));
+        fits = rw long room;
+        bytes_are = long;
+      }
 
 -- ---- an entry that may be put
 
@@ -154,30 +141,16 @@ module _ {b : List ℕ} {limit : ℕ} {new : NewEntry} {known : KnownEntries} (g
   abbrev at : IsAmong b cut.before own cut.after
   at = record { was = cut.stands }
 
-  ready_limit : length b + (56 + size) ≤ image_limit
-  ready_limit = omega (arith, w.room, w.within)
-
   -- what calls ask for of the chain
   module _ {c : Chain} (is : c ≡ entries_chain new.slot.kind new.slot.adr) where
     abbrev pub of_chain : IsOfAttribute b c
     of_chain = record { number = new.slot.attribute; own = own; stands = w.attribute.stands; kind = new.slot.kind; chain_is = is ∙ ap (entries_chain new.slot.kind) (sym w.attribute.adr_is) }
 
-    pub few_at : counted_in b c + 1 < 2 ^ 32
-    few_at = omega (arith, few_entries b good c of_chain, counted b good c of_chain, ready_limit)
-
     pub known_at : known.places ≡ members_of b c
     known_at = places_are good of_chain known (w.chain ∙ sym is) w.known
 
-    -- and of the bytes
-    module _ {bytes : List ℕ} (r : Reserved) (body : bytes ≡ body_of new r) where
-      pub is_body : IsBody bytes
-      is_body = subst IsBody (sym body) (body_made new r).1
-
-      pub body_kind : type_of_body bytes ≡ type_in c
-      body_kind = ap type_of_body body ∙ (body_made new r).0 ∙ sym (type_of_kind new.slot.kind new.slot.adr) ∙ ap type_in (sym is)
-
-      pub body_room : length b + (8 + length bytes) ≤ limit
-      body_room = let long = body_long new r in omega (arith, ap (λ (xs : List ℕ). length xs) body, w.room)
+    pub body_kind : {bytes : List ℕ} (r : Reserved) → bytes ≡ body_of new r → type_of_body bytes ≡ type_in c
+    body_kind r body = ap type_of_body body ∙ (body_made new r).0 ∙ sym (type_of_kind new.slot.kind new.slot.adr) ∙ ap type_in (sym is)
 
   -- the greatest number lies in an image that is no shorter
   pub max_inside : (now : List ℕ) → length b ≤ length now → LiesIn now new.slot.adr (max_field new.slot.kind)
@@ -192,13 +165,9 @@ module _ {b : List ℕ} {limit : ℕ} {new : NewEntry} {known : KnownEntries} (g
   -- the numbers fit their fields
   fits_with : {r : Reserved} → r.b < 2 ^ 32 → r.c < 2 ^ 32 → r.d < 2 ^ 32 → r.e < 2 ^ 32 → Fits new r
   fits_with b_fits c_fits d_fits e_fits =
-      let lt = slice_get_within (shape b).attributes new.slot.attribute own w.attribute.stands in
-      let f = few_attributes b (shape b) sound.has_shape in
-      let m = length-map (shape b).attributes (λ (a : AttributeShape). a.adr) in
-      record { attr_fits = omega (arith, lt, f, m, ready_limit); num_fits = let n = w.num in omega arith; elems_fit = let f = w.stored.few in omega arith; b_fits = b_fits; c_fits = c_fits; d_fits = d_fits; e_fits = e_fits }
-
-  new_fits : Fits new new_reserved
-  new_fits = fits_with (lit< tt) (lit< tt) (lit< tt) (lit< tt)
+      let few = few_attributes b (shape b) sound.has_shape in
+      let within : new.slot.attribute < 2 ^ 32 = omega (arith, slice_get_within (shape b).attributes new.slot.attribute own w.attribute.stands, few, length-map (shape b).attributes (λ (a : AttributeShape). a.adr), w.room, w.within) in
+      record { attr_fits = within; num_fits = omega (arith, w.num); elems_fit = omega (arith, w.stored.few); b_fits = b_fits; c_fits = c_fits; d_fits = d_fits; e_fits = e_fits }
 
   places_chain : known.places ≡ chain
   places_chain = known_at refl ∙ members b good (entries_chain new.slot.kind new.slot.adr) (of_chain refl)
@@ -214,12 +183,8 @@ module _ {b : List ℕ} {limit : ℕ} {new : NewEntry} {known : KnownEntries} (g
   begins_at i within = let l = entry_inside b good (entries_chain new.slot.kind new.slot.adr) (of_chain refl) (slice_index known.places i) (subst (In (slice_index known.places i)) (known_at refl) (index_in known.places i within)) in omega arith
 
   -- the greatest number fits its field
-  small_all : (n : ℕ) → In n (new.slot.num ∷ known.numbers) → n ≤ signed_limit
-  small_all n (inl e) = let l = w.num in omega (arith, e)
-  small_all n (inr i) = let l = small good (of_chain refl) known w.chain w.known n i in omega arith
-
   signed : FitsSigned w32 new.greatest
-  signed = greatest_fits (new.slot.num ∷ known.numbers) new.greatest small_all w.greatest
+  signed = greatest_fits (new.slot.num ∷ known.numbers) new.greatest (λ n i. elim i [ inl e ↦ (let l = w.num in omega (arith, e)) | inr j ↦ (let l = small good (of_chain refl) known w.chain w.known n j in omega arith) ]) w.greatest
 
   is_stored : stored new ≡ cast_unsigned w32 new.greatest
   is_stored = ap (cast_unsigned w32) (to_z-of_z w32 new.greatest signed)
@@ -227,52 +192,41 @@ module _ {b : List ℕ} {limit : ℕ} {new : NewEntry} {known : KnownEntries} (g
   -- ---- an image in which the chain has it
 
   module _ {now records list : List ℕ} {marks : List Mark} {reborn chain' gone : List ℕ} {place : ℕ} (r : Rechains b now (shape b) records list marks reborn new.slot.kind cut.before own cut.after chain' gone (place ∷ [])) where
-    -- what is to be shown of the chain
-    record ChainHas : Type 0 where
-      stands : In place chain'
-      items_now : chain_items now chain' ≡ with_item new.slot.num entry (entries_of (attribute_of b own) new.slot.kind)
-      differ : Distinct (nums now chain')
-      chain_is : chain' ≡ chain_after chain (entry_at b own new.slot.kind new.slot.num) (Some place)
-      of_gone : (m : ℕ) → In m gone → number b m aedr_num ≡ new.slot.num
-
-    module _ {reserved : Reserved} (there : IsEntry b now place new reserved) (c : ChainHas) where
+    module _ {reserved : Reserved} (there : IsEntry b now place new reserved) (stands : In place chain') (differ : Distinct (nums now chain')) where
       found_now : entry_at now (with_chain own new.slot.kind chain') new.slot.kind new.slot.num ≡ Some place
-      found_now = ap (find (λ aedr. number now aedr aedr_num == new.slot.num)) (chain_now new.slot.kind own chain') ∙ found_one now new.slot.num place chain' there.num_is c.stands c.differ
+      found_now = ap (find (λ aedr. number now aedr aedr_num == new.slot.num)) (chain_now new.slot.kind own chain') ∙ found_one now new.slot.num place chain' there.num_is stands differ
 
       -- each member keeps the rules, the new one and those that stay
       rules : (m : ℕ) → In m chain' → Hold (entry_rows now own.adr m)
       rules m i = elim (traded_member chain chain' gone (place ∷ []) (once_before sound r good) r.trades m i) [
         | inl j ↦ subst (λ (x : ℕ). Hold (entry_rows now own.adr x)) (sym (the_one place m j)) (
-          eq-eqb _ _ (there.attribute ∙ sym (num_same sound r ∙ number_at good w.attribute)),
+          eq-eqb _ _ (there.says.0 ∙ sym (num_same sound r ∙ number_at good w.attribute)),
           (ap (λ (n : ℕ). nat_le n record_number_limit) there.num_is ∙ of_le new.slot.num record_number_limit w.num, (there.valued, tt)),
         )
         | inr old ↦ rules_live sound r good m old.0 old.1
       ]
 
-      chained : {attr : List ℕ} {acts : List Act} → attribute_named (content b) attr ≡ Some (length cut.before, attribute_of b own) → number now own.adr (count_field new.slot.kind) ≡ length chain' → integer4 now own.adr (max_field new.slot.kind) ≡ new.greatest → Settled sound r (56 + size) acts
-          → Chained sound r attr new.slot.num (56 + size) (with_item new.slot.num entry (entries_of (attribute_of b own) new.slot.kind)) acts
-      chained found counted greatest settled = record {
-        found = found;
-        items_now = c.items_now;
-        counted = counted;
-        differ = c.differ;
-        rules = rules;
-        chain_is = chain_now new.slot.kind own chain' ∙ c.chain_is ∙ ap (chain_after chain (entry_at b own new.slot.kind new.slot.num)) (sym found_now);
-        greatest = greatest ∙ greatest_put b chain new.slot.num entry new.greatest (subst (λ (xs : List ℕ). IsGreatest (new.slot.num ∷ xs) new.greatest) numbers_chain w.greatest) ∙ ap (λ (es : List (ℕ × Entry)). greatest_number (with_item new.slot.num entry es)) (sym (items_of b own new.slot.kind));
-        of_gone = c.of_gone;
-        settled = settled;
-      }
-
-      is_put : {acts : List Act} {numbers places : List ℕ} → number now own.adr (count_field new.slot.kind) ≡ length chain' → integer4 now own.adr (max_field new.slot.kind) ≡ new.greatest → Settled sound r (56 + size) acts → EntryFollows b now (entry_at b own new.slot.kind new.slot.num) place acts → FreedStay b now no_fields acts
+      is_put : {acts : List Act} {numbers places : List ℕ} → chain_items now chain' ≡ with_item new.slot.num entry (entries_of (attribute_of b own) new.slot.kind) → chain' ≡ chain_after chain (entry_at b own new.slot.kind new.slot.num) (Some place) → ((m : ℕ) → In m gone → number b m aedr_num ≡ new.slot.num)
+          → number now own.adr (count_field new.slot.kind) ≡ length chain' → integer4 now own.adr (max_field new.slot.kind) ≡ new.greatest → Settled sound r (56 + size) acts → EntryFollows b now (entry_at b own new.slot.kind new.slot.num) place acts → FreedStay b now no_fields acts
           → numbers ≡ nums now chain' → places ≡ chain' → IsPut b now new known (record { chain = known.chain; numbers = numbers; places = places })
-      is_put {acts = acts} counted greatest settled follows freed say are = record {
+      is_put {acts = acts} items_now chain_is of_gone counted greatest settled follows freed say are = record {
         puts = record {
           follows = λ attr words asks.
               let same : asks.own ≡ own = cc (asks.stands, w.attribute.stands) in
               let goes = asks.goes ∙ (λ i. Go (with_attribute (content b) (sym cut.count i) (with_entries (attribute_of b (same i)) new.slot.kind (with_item new.slot.num entry (entries_of (attribute_of b (same i)) new.slot.kind)))) Plain) in
-              let all = chained (asks.named ∙ (λ i. Some (sym cut.count i, attribute_of b (same i)))) counted greatest settled in
+              let all : Chained sound r attr new.slot.num (56 + size) (with_item new.slot.num entry (entries_of (attribute_of b own) new.slot.kind)) acts = record {
+                found = asks.named ∙ (λ i. Some (sym cut.count i, attribute_of b (same i)));
+                items_now = items_now;
+                counted = counted;
+                differ = differ;
+                rules = rules;
+                chain_is = chain_now new.slot.kind own chain' ∙ chain_is ∙ ap (chain_after chain (entry_at b own new.slot.kind new.slot.num)) (sym found_now);
+                greatest = greatest ∙ greatest_put b chain new.slot.num entry new.greatest (subst (λ (xs : List ℕ). IsGreatest (new.slot.num ∷ xs) new.greatest) numbers_chain w.greatest) ∙ ap (λ (es : List (ℕ × Entry)). greatest_number (with_item new.slot.num entry es)) (sym (items_of b own new.slot.kind));
+                of_gone = of_gone;
+                settled = settled;
+              } in
               follows_chained sound r all good (PutEntry attr new.slot.kind new.slot.num entry.type words) (ap ByStep goes) (asks.takes ∙ ap (λ (n : ℕ). 56 + n) (size_stays new.value.t (is_little b) new.value.bytes.items (whole w.stored))) refl refl
-              (of_named sound r all (λ a a'. PutsEntry b now a a' new.slot.kind new.slot.num acts) (record { aedr = place; stands = found_now; follows = follows; no_strings = there.no_strings; chain = chain_follows sound r all; freed = freed })) (let l = ready_limit in omega arith);
+              (of_named sound r all (λ a a'. PutsEntry b now a a' new.slot.kind new.slot.num acts) (record { aedr = place; stands = found_now; follows = follows; no_strings = there.says.1.1.1.1.0; chain = chain_follows sound r all; freed = freed })) (omega (arith, w.room, w.within));
           names_stay = names_rechained sound r;
           places_stay = places_rechained sound r;
         };
@@ -302,40 +256,22 @@ module _ {b : List ℕ} {limit : ℕ} {new : NewEntry} {known : KnownEntries} (g
   -- ---- a last one
 
   module _ {mid now : List ℕ} {place : ℕ} (absent : position (λ n. n == new.slot.num) known.numbers ≡ None) {c : Chain} {bytes : List ℕ} (is : c ≡ entries_chain new.slot.kind new.slot.adr) (bytes_are : bytes ≡ body_of new new_reserved) (added : Added b mid c bytes place) (written : now ≡ with_field mid new.slot.adr (max_field new.slot.kind) (stored new)) where
-    abbrev p : JoinsEntry b now new.slot.kind own (56 + size) (body_of new new_reserved) place (chain ++ place ∷ []) [] (counted_in b (entries_chain new.slot.kind own.adr) + 1)
-    p = pushes new.slot.kind sound at (body_made new new_reserved).0 (body_long new new_reserved) (max_written new.slot.kind (stored new) w.attribute.adr_is written) (as_meant (λ (x : Chain) (xs : List ℕ). Added b mid x xs place) (of_chain is).chain_is bytes_are added)
-
-    abbrev r : Rechains b now (shape b) (records sound (new_record new.slot.kind sound at p)) (list sound (new_record new.slot.kind sound at p)) (marks sound (new_record new.slot.kind sound at p)) (place ∷ []) new.slot.kind cut.before own cut.after (chain ++ place ∷ []) [] (place ∷ [])
-    r = rechains new.slot.kind sound at p
-
-    there : IsEntry b now place new new_reserved
-    there = joined_there p new_fits
-
-    out : In new.slot.num (nums b chain) → ⊥
-    out i = none_in new.slot.num known.numbers absent (subst (In new.slot.num) (sym numbers_chain) i)
-
-    live : (m : ℕ) → In m chain → EntryLives b now m
-    live m i = entry_stays sound r m i (λ none. none)
-
-    out_now : In (number now place aedr_num) (nums now chain) → ⊥
-    out_now i = out (subst (In new.slot.num) (nums_live b now chain live) (subst (λ (n : ℕ). In n (nums now chain)) there.num_is i))
-
-    found : entry_at b own new.slot.kind new.slot.num ≡ None
-    found = found_none b new.slot.num chain out
-
     pub pushed : IsPut b now new known (record { chain = known.chain; numbers = known.numbers ++ new.slot.num ∷ []; places = known.places ++ place ∷ [] })
-    pushed = is_put r there
-        (record {
-          stands = In-append_right place chain (place ∷ []) (inl refl);
-          items_now = entries_pushed now chain place out_now ∙ (λ i. with_item (there.num_is i) (there.meant i) (entries_live b now chain live i)) ∙ ap (with_item new.slot.num entry) (sym (items_of b own new.slot.kind));
-          differ = nums_pushed now chain place (subst Distinct (sym (nums_live b now chain live)) (differ_before sound r good)) out_now;
-          chain_is = ap (λ (o : Option ℕ). chain_after chain o (Some place)) (sym found);
-          of_gone = λ m i. absurd i;
-        })
+    pushed =
+        let p = pushes new.slot.kind sound at (body_made new new_reserved).0 (body_long new new_reserved) (max_written new.slot.kind (stored new) w.attribute.adr_is written) (rw ((of_chain is).chain_is, bytes_are) at added) in
+        let r = rechains new.slot.kind sound at p in
+        let there = joined_there p (fits_with (lit< tt) (lit< tt) (lit< tt) (lit< tt)) in
+        let out : In new.slot.num (nums b chain) → ⊥ = λ i. none_in new.slot.num known.numbers absent (subst (In new.slot.num) (sym numbers_chain) i) in
+        let live = nums_live b now chain (λ m i. entry_stays sound r m i (λ none. none)) in
+        let out_now : In (number now place aedr_num) (nums now chain) → ⊥ = λ i. out (subst (In new.slot.num) live (subst (λ (n : ℕ). In n (nums now chain)) there.num_is i)) in
+        let found = found_none b new.slot.num chain out in
+        is_put r there (In-append_right place chain (place ∷ []) (inl refl)) (nums_pushed now chain place (subst Distinct (sym live) (differ_before sound r good)) out_now)
+        (entries_pushed now chain place out_now ∙ (λ i. with_item (there.num_is i) (there.meant i) (entries_live b now chain (λ m j. entry_stays sound r m j (λ none. none)) i)) ∙ ap (with_item new.slot.num entry) (sym (items_of b own new.slot.kind)))
+        (ap (λ (o : Option ℕ). chain_after chain o (Some place)) (sym found)) (λ m i. absurd i)
         (count_now new.slot.kind sound at p ∙ ap (λ (n : ℕ). n + 1) (as_count new.slot.kind b b own.adr ∙ counted_before sound r good) ∙ sym (length-append chain (place ∷ [])))
         (greatest_now new.slot.kind sound at p new.greatest signed is_stored) (settled new.slot.kind sound at p (λ m. refl) (λ none. none))
-        (rw found (ap (λ (n : ℕ). Took place (56 + n) ∷ []) (sym there.bytes_are), there.reserved)) tt
-        ((λ i. (numbers_chain ∙ sym (nums_live b now chain live)) i ++ sym there.num_is i ∷ []) ∙ sym (map-append (λ (e : ℕ). number now e aedr_num) chain (place ∷ [])))
+        (rw found (ap (λ (n : ℕ). Took place (56 + n) ∷ []) (sym there.bytes_are), there.says.1.1.1.1.1)) tt
+        ((λ i. (numbers_chain ∙ sym live) i ++ sym there.num_is i ∷ []) ∙ sym (map-append (λ (e : ℕ). number now e aedr_num) chain (place ∷ [])))
         (ap (λ (ms : List ℕ). ms ++ place ∷ []) places_chain)
 
   -- ---- in place of the one of its number
@@ -347,18 +283,6 @@ module _ {b : List ℕ} {limit : ℕ} {new : NewEntry} {known : KnownEntries} (g
     pub member : In old chain
     member = subst (λ (x : ℕ). In x chain) (sym has.place_is) (subst (In (slice_index known.places i)) places_chain (index_in known.places i has.within))
 
-    member_in : {c : Chain} → c ≡ entries_chain new.slot.kind new.slot.adr → In old (members_of b c)
-    member_in {c = c} is = subst (In old) (sym (members b good c (of_chain is))) member
-
-    in_image : Stands b (shape b).records old (entry_type new.slot.kind) 28
-    in_image = stands new.slot.kind sound at old member
-
-    pub begins : old + 56 ≤ length b
-    begins = subst (λ (x : ℕ). x + 56 ≤ length b) (sym has.place_is) (begins_at i has.within)
-
-    pub is_member : {c : Chain} → c ≡ entries_chain new.slot.kind new.slot.adr → is_in old (members_of b c) ≡ true
-    is_member {c = c} is = is_in-true old (members_of b c) (member_in is)
-
     pub behind_at : {c : Chain} → c ≡ entries_chain new.slot.kind new.slot.adr → last_or None (take i known.places) ≡ last_or None (before old (members_of b c))
     behind_at {c = c} is = stands_behind good (of_chain is) known (w.chain ∙ sym is) w.known i has.within ∙ ap (λ (x : ℕ). last_or None (before x (members_of b c))) (sym has.place_is)
 
@@ -369,28 +293,18 @@ module _ {b : List ℕ} {limit : ℕ} {new : NewEntry} {known : KnownEntries} (g
         field at l = word4_fits b old 56 (old + at) has.bytes (omega arith) (omega arith)
 
     module _ {now records list : List ℕ} {marks : List Mark} {reborn chain' : List ℕ} {by : ℕ} (is : chain' ≡ with_in_place old by chain) (r : Rechains b now (shape b) records list marks reborn new.slot.kind cut.before own cut.after chain' (old ∷ []) (by ∷ [])) (there : IsEntry b now by new was.reserved) where
-      others : (m : ℕ) → In m chain → m ≢ old → EntryLives b now m
-      others m i ne = entry_stays sound r m i (λ j. ne (the_one old m j))
-
-      numbers_same : nums now chain' ≡ nums b chain
-      numbers_same = ap (nums now) is ∙ nums_replaced b now old by new.slot.num has.number_is there.num_is chain (differ_before sound r good) member others
-
-      found_old : entry_at b own new.slot.kind new.slot.num ≡ Some old
-      found_old = found_one b new.slot.num old chain has.number_is member (differ_before sound r good)
-
-      replaced : {acts : List Act} {places : List ℕ} → number now own.adr (count_field new.slot.kind) ≡ number b own.adr (count_field new.slot.kind) → integer4 now own.adr (max_field new.slot.kind) ≡ new.greatest → Settled sound r (56 + size) acts → EntryMoves b now old by acts → FreedStay b now no_fields acts
+      replaced : {acts : List Act} {places : List ℕ} → number now own.adr (count_field new.slot.kind) ≡ number b own.adr (count_field new.slot.kind) → integer4 now own.adr (max_field new.slot.kind) ≡ new.greatest → Settled sound r (56 + size) acts → acts ≡ moved_for_room b old by (entry_end now by) → MovesForRoom b now old by (entry_end now by) → FreedStay b now no_fields acts
           → places ≡ chain' → IsPut b now new known (record known { places = places })
-      replaced same greatest settled moves freed are = is_put r there
-          (record {
-            stands = came_in chain _ (old ∷ []) (by ∷ []) r.trades by (inl refl) (one_within old chain member by);
-            items_now = ap (chain_items now) is ∙ entries_replaced b now old by new.slot.num has.number_is there.num_is chain (differ_before sound r good) member others ∙ (λ k. with_item new.slot.num (there.meant k) (sym (items_of b own new.slot.kind) k));
-            differ = subst Distinct (sym numbers_same) (differ_before sound r good);
-            chain_is = is ∙ sym (replaced_after old by chain (once_before sound r good)) ∙ ap (λ (o : Option ℕ). chain_after chain o (Some by)) (sym found_old);
-            of_gone = λ m j. ap (λ (x : ℕ). number b x aedr_num) (the_one old m j) ∙ has.number_is;
-          }) (same ∙ counted_before sound r good ∙ sym (length-map chain (λ (m : ℕ). number b m aedr_num)) ∙ ap (λ (xs : List ℕ). length xs) (sym numbers_same) ∙ length-map chain' (λ (m : ℕ). number now m aedr_num)) greatest settled (rw found_old moves) freed (numbers_chain ∙ sym numbers_same) are
-
-      reserved_same : Says now by ((aedr_rfu_b, number b old aedr_rfu_b) ∷ (aedr_rfu_c, number b old aedr_rfu_c) ∷ (aedr_rfu_d, number b old aedr_rfu_d) ∷ (aedr_rfu_e, number b old aedr_rfu_e) ∷ [])
-      reserved_same = subst (λ (x : Reserved). Says now by ((aedr_rfu_b, x.b) ∷ (aedr_rfu_c, x.c) ∷ (aedr_rfu_d, x.d) ∷ (aedr_rfu_e, x.e) ∷ [])) has.reserved_is there.reserved
+      replaced same greatest settled acts_are room freed are =
+          let differ = differ_before sound r good in
+          let others : (m : ℕ) → In m chain → m ≢ old → EntryLives b now m = λ m i ne. entry_stays sound r m i (λ j. ne (the_one old m j)) in
+          let numbers = ap (nums now) is ∙ nums_replaced b now old by new.slot.num has.number_is there.num_is chain differ member others in
+          let found = found_one b new.slot.num old chain has.number_is member differ in
+          is_put r there (came_in chain _ (old ∷ []) (by ∷ []) r.trades by (inl refl) (one_within old chain member by)) (subst Distinct (sym numbers) differ)
+          (ap (chain_items now) is ∙ entries_replaced b now old by new.slot.num has.number_is there.num_is chain differ member others ∙ (λ k. with_item new.slot.num (there.meant k) (sym (items_of b own new.slot.kind) k)))
+          (is ∙ sym (replaced_after old by chain (once_before sound r good)) ∙ ap (λ (o : Option ℕ). chain_after chain o (Some by)) (sym found)) (λ m j. ap (λ (x : ℕ). number b x aedr_num) (the_one old m j) ∙ has.number_is)
+          (same ∙ counted_before sound r good ∙ sym (length-map chain (λ (m : ℕ). number b m aedr_num)) ∙ ap (λ (xs : List ℕ). length xs) (sym numbers) ∙ length-map chain' (λ (m : ℕ). number now m aedr_num)) greatest settled
+          (rw found (record { acts_are = acts_are; reserved = subst (λ (x : Reserved). Says now by ((aedr_rfu_b, x.b) ∷ (aedr_rfu_c, x.c) ∷ (aedr_rfu_d, x.d) ∷ (aedr_rfu_e, x.e) ∷ [])) has.reserved_is there.says.1.1.1.1.1; room = room })) freed (numbers_chain ∙ sym numbers) are
 
     -- ---- in its record
 
@@ -399,41 +313,30 @@ module _ {b : List ℕ} {limit : ℕ} {new : NewEntry} {known : KnownEntries} (g
       fits = subst (λ (n : ℕ). 56 + size ≤ n) has.size_is room
 
       pub fields_inside : old + 20 + length bytes ≤ length b
-      fields_inside =
-          let same = ap (λ (xs : List ℕ). length xs) bytes_are in
-          let ends = (tile_lies b 8 (length b) (shape b).records old sound.has_shape.tiled in_image.inside).high in
-          let room = fits in
-          omega arith
+      fields_inside = rw bytes_are (omega (arith, fits, (tile_lies b 8 (length b) (shape b).records old sound.has_shape.tiled (stands new.slot.kind sound at old member).inside).high))
 
       module _ {now : List ℕ} (written : now ≡ with_field (put b (old + 20) bytes) new.slot.adr (max_field new.slot.kind) (stored new)) where
-        abbrev q : WritesChain b now new.slot.kind cut.before own cut.after (old ∷ []) (field 20 (length (fields_of new was.reserved)))
-        q = changes new.slot.kind sound at (fields_of new was.reserved) member (let f = fits in omega arith) (max_written new.slot.kind (stored new) w.attribute.adr_is (written ∙ ap (λ (xs : List ℕ). with_field (put b (old + 20) xs) new.slot.adr (max_field new.slot.kind) (stored new)) bytes_are))
-
-        changed_there : IsEntry b now old new was.reserved
-        changed_there =
+        pub put_over : IsPut b now new known known
+        put_over =
+            let q = changes new.slot.kind sound at (fields_of new was.reserved) member (let f = fits in omega arith) (max_written new.slot.kind (stored new) w.attribute.adr_is (written ∙ ap (λ (xs : List ℕ). with_field (put b (old + 20) xs) new.slot.adr (max_field new.slot.kind) (stored new)) bytes_are)) in
             let inside = fits in
-            let ends = (tile_lies b 8 (length b) (shape b).records old sound.has_shape.tiled in_image.inside).high in
+            let ends = (tile_lies b 8 (length b) (shape b).records old sound.has_shape.tiled (stands new.slot.kind sound at old member).inside).high in
             let mid_long = q.long in
             let long = over_long sound q in
             let mid_sized = mid_size sound q old member in
             let sized = size_now sound q old member in
-            entry_written new was.reserved (file_now sound (over_rechains sound q)).little w.stored (drop (old + 20 + length (fields_of new was.reserved)) b) (drop-put_there b (fields_of new was.reserved) (old + 20) (omega arith)) old_fits
+            let there : IsEntry b now old new was.reserved = entry_written new was.reserved (file_now sound (over_rechains sound q)).little w.stored (drop (old + 20 + length (fields_of new was.reserved)) b) (drop-put_there b (fields_of new was.reserved) (old + 20) (omega arith)) old_fits
             (Same-part q.mid now old (old + size_at q.mid old) (old + 20) (old + (56 + size)) (mid_kept sound q old member).same (omega arith) (omega arith))
-            (omega arith) (omega arith) (omega arith)
-
-        pub put_over : IsPut b now new known known
-        put_over = replaced (sym (in_its_place old chain)) (over_rechains sound q) changed_there (over_count sound q) (over_greatest sound q new.greatest signed is_stored) (over_settled sound q good)
-            (record {
-              acts_are = rw (le-leb (entry_end now old) (size_at b old) (let e = changed_there.bytes_are in let f = fits in omega arith)) refl;
-              reserved = reserved_same (sym (in_its_place old chain)) (over_rechains sound q) changed_there;
-              room = λ le. record { place_stays = refl; size_stays = size_now sound q old member; rest_stays = part_beside sound q old (entry_end now old) (size_at b old) member (inr (let e = changed_there.bytes_are in omega arith)) (omega arith) };
-            }) tt places_chain
+            (omega arith) (omega arith) (omega arith) in
+            let bytes = there.bytes_are in
+            replaced (sym (in_its_place old chain)) (over_rechains sound q) there (over_count sound q) (over_greatest sound q new.greatest signed is_stored) (over_settled sound q good) (rw (le-leb (entry_end now old) (size_at b old) (omega arith)) refl)
+            (λ le. record { place_stays = refl; size_stays = sized; rest_stays = part_beside sound q old (entry_end now old) (size_at b old) member (inr (omega arith)) (omega arith) }) tt places_chain
 
     -- ---- in another record
 
     module _ {mid late : List ℕ} {by : ℕ} {c : Chain} {bytes : List ℕ} (is : c ≡ entries_chain new.slot.kind new.slot.adr) (bytes_are : bytes ≡ body_of new was.reserved) (exchanged : Exchanged b mid c bytes old by) (written : late ≡ with_field mid new.slot.adr (max_field new.slot.kind) (stored new)) where
       abbrev j : JoinsEntry b late new.slot.kind own (56 + size) (body_of new was.reserved) by (with_in_place old by chain) (old ∷ []) (counted_in b (entries_chain new.slot.kind own.adr))
-      j = exchanges new.slot.kind sound at (body_made new was.reserved).0 (body_long new was.reserved) (max_written new.slot.kind (stored new) w.attribute.adr_is written) member (as_meant (λ (x : Chain) (xs : List ℕ). Exchanged b mid x xs old by) (of_chain is).chain_is bytes_are exchanged)
+      j = exchanges new.slot.kind sound at (body_made new was.reserved).0 (body_long new was.reserved) (max_written new.slot.kind (stored new) w.attribute.adr_is written) member (rw ((of_chain is).chain_is, bytes_are) at exchanged)
 
       late_there : IsEntry b late by new was.reserved
       late_there = joined_there j old_fits
@@ -443,23 +346,14 @@ module _ {b : List ℕ} {limit : ℕ} {new : NewEntry} {known : KnownEntries} (g
       freed = frees new.slot.kind sound at j member late_there.fits
 
       module _ {now : List ℕ} (large : was.size < 56 + size) (gives : Gives late now (shape late) (shape now) old) where
-        abbrev moved : Rechains b now (shape b) (records sound (new_record new.slot.kind sound at j)) (shape now).unused (all_marks sound freed) (by ∷ old ∷ []) new.slot.kind cut.before own cut.after (with_in_place old by chain) (old ∷ []) (by ∷ [])
-        moved = freed_rechains sound freed gives
-
-        moved_there : IsEntry b now by new was.reserved
-        moved_there =
-            let stays = other_kept sound freed gives by (new_in sound (new_record new.slot.kind sound at j)) (not_old new.slot.kind sound at j member late_there.fits) (new_type sound (new_record new.slot.kind sound at j)) in
-            let long = as_long_now sound freed gives in
-            stays_there j old_fits (file_now sound moved).little stays.same (omega arith)
-
         pub put_anew : IsPut b now new known (record known { places = slice_set known.places i by })
         put_anew =
-            let larger : size_at b old < entry_end now by = (let is = has.size_is in let all = moved_there.bytes_are in omega arith) in
+            let moved = freed_rechains sound freed gives in
+            let stays = other_kept sound freed gives by (new_in sound (new_record new.slot.kind sound at j)) (not_old new.slot.kind sound at j member late_there.fits) (new_type sound (new_record new.slot.kind sound at j)) in
+            let there = stays_there j old_fits (file_now sound moved).little stays.same (omega (arith, as_long_now sound freed gives)) in
+            let larger : size_at b old < entry_end now by = (let is = has.size_is in let all = there.bytes_are in omega arith) in
             let set = (at_index known.places i by has.within (once good (of_chain refl) known w.chain w.known)).2 in
-            replaced refl moved moved_there (count_same sound freed gives (count_is new.slot.kind b own.adr).0 ∙ count_now new.slot.kind sound at j ∙ as_count new.slot.kind b b own.adr)
+            replaced refl moved there (count_same sound freed gives (count_is new.slot.kind b own.adr).0 ∙ count_now new.slot.kind sound at j ∙ as_count new.slot.kind b b own.adr)
             (greatest_integer new.slot.kind late now own.adr (greatest_same sound freed gives (max_lies new.slot.kind).1) ∙ greatest_now new.slot.kind sound at j new.greatest signed is_stored) (freed_settled sound freed gives (ends sound (new_record new.slot.kind sound at j)))
-            (record {
-              acts_are = rw (lt-leb (entry_end now by) (size_at b old) larger) (ap (λ (n : ℕ). Took by (56 + n) ∷ Gave old (size_at b old) ∷ []) (sym moved_there.bytes_are));
-              reserved = reserved_same refl moved moved_there;
-              room = λ le. absurd (omega arith);
-            }) (freed_bytes sound freed gives (Took by (56 + size) ∷ Gave old (size_at b old) ∷ []) in_image.long) (sym (ap (λ (x : ℕ). with_in_place x by known.places) has.place_is ∙ set) ∙ ap (with_in_place old by) places_chain)
+            (rw (lt-leb (entry_end now by) (size_at b old) larger) (ap (λ (n : ℕ). Took by (56 + n) ∷ Gave old (size_at b old) ∷ []) (sym there.bytes_are))) (λ le. absurd (omega arith)) (freed_bytes sound freed gives (Took by (56 + size) ∷ Gave old (size_at b old) ∷ []) (stands new.slot.kind sound at old member).long)
+            (sym (ap (λ (x : ℕ). with_in_place x by known.places) has.place_is ∙ set) ∙ ap (with_in_place old by) places_chain)

@@ -1,6 +1,6 @@
 -- What the command that puts an entry is answered.
-use Rattle.std.proofs.Common.{◌≡◌, ℕ, ◌+◌, ◌<◌, ◌≤◌, max, List, [], ◌∷◌, length, Err, false, refl, sym, ap, subst, ◌∙◌, arith, inl, inr}
-use Rattle.cdf_attrs.proofs.Common.{fold, slice_index, cases_lt, Go, Refuse, entries_of, is_out_of_range, with_attribute, with_entries, DataSet, Entry, record_number_limit, signed_limit, with_item, ByStep, Done, Refused, Reason, TooLarge, Plain, Command, PutEntry, DataType, EntryKind, size_stays, content, attribute_of, adrs, shape, is_little, In, Good, Answers, room, entries_chain, Chain, gone, FindsChain, KnownEntries, KnowsEntries, IsAttributeAt, Puts, stored_entry, entry_of_words, Slot}
+use Rattle.std.proofs.Common.{◌≡◌, ℕ, ◌+◌, ◌<◌, ◌≤◌, max, List, [], ◌∷◌, length, Err, false, refl, sym, ap, ◌∙◌, arith, inl, inr, pos, ℤ, FitsSigned, w32}
+use Rattle.cdf_attrs.proofs.Common.{fold, slice_index, cases_lt, Go, Refuse, entries_of, is_out_of_range, with_attribute, with_entries, DataSet, record_number_limit, signed_limit, image_limit, ints, IsReady, with_item, ByStep, Done, Refused, Reason, TooLarge, Plain, Command, PutEntry, DataType, EntryKind, size_stays, content, attribute_of, adrs, shape, is_little, In, Good, Answers, room, entries_chain, Chain, gone, FindsChain, KnownEntries, KnowsEntries, Puts, stored_entry, entry_of_words}
 use Rattle.cdf_model.specs.AttributeSteps.{put_entry_step}
 use Rattle.cdf_edits.specs.Commands.Room.{entry_length}
 use Rattle.cdf_edits.proofs.Commands.Answered.{too_large}
@@ -9,6 +9,7 @@ use Rattle.cdf_attrs.specs.Requests.{MayPut}
 use Rattle.cdf_attrs.specs.declared.entry_bytes.StoredValue.{StoredValue}
 use Rattle.cdf_attrs.proofs.AttributeFound.{adr_is}
 use Rattle.cdf_attrs.proofs.EntryTakenAt.{small}
+use Rattle.cdf_attrs.proofs.RangeCounts.{in_range_small}
 use Rattle.cdf_attrs.proofs.GettingAnswers.{of_attribute}
 use Rattle.cdf_attrs.proofs.ValueWords.{whole}
 
@@ -23,44 +24,54 @@ greatest_of n (x ∷ xs) =
       λ k i. let top = r.1 (max n x) (inl refl) in elim i [ inl e ↦ omega (arith, e) | inr j ↦ elim j [ inl e ↦ omega (arith, e) | inr l ↦ r.1 k (inr l) ] ],
     )
 
-module _ {b attr : List ℕ} {kind : EntryKind} {n : ℕ} {chain : Chain} (found : FindsChain b attr kind n chain) where
-  -- the greatest of them and of a number fits a field
-  pub greatest_small : Good b → (entries : KnownEntries) → entries.chain ≡ chain → KnowsEntries b entries → (num : ℕ) → num ≤ record_number_limit → fold max num entries.numbers ≤ signed_limit
-  greatest_small good entries of knows num le = elim (greatest_of num entries.numbers).0 [ inl e ↦ omega (arith, e) | inr i ↦ let l = small good (of_attribute found) entries of knows _ i in omega arith ]
+-- ---- the answers
 
-  pub attribute_at : (places : List ℕ) → places ≡ adrs (shape b) → IsAttributeAt b n (slice_index places n)
-  attribute_at places are = record { own = found.own; stands = found.stands; adr_is = sym (adr_is found places are) }
+pub no_value : {b attr : List ℕ} {kind : EntryKind} {n : ℕ} {chain : Chain} (found : FindsChain b attr kind n chain) (num : ℕ) (t : DataType) (words : List (List ℕ)) (reason : Reason) → is_out_of_range (content b) kind num ≡ false → entry_of_words t words ≡ Err reason → put_entry_step (content b) attr kind num t words ≡ Refuse reason
+no_value found num t words reason in_range why = rw (found.named, found.in_scope, in_range, why) refl
 
-  pub chain_at : (places : List ℕ) → places ≡ adrs (shape b) → chain ≡ entries_chain kind (slice_index places n)
-  chain_at places are = found.chain_is ∙ ap (entries_chain kind) (sym (adr_is found places are))
+module _ {b attr : List ℕ} {kind : EntryKind} {num : ℕ} {t : DataType} {words : List (List ℕ)} {n : ℕ} {chain : Chain} {value : StoredValue} where
+  module _ (m : MayPut b attr kind num t words n chain value) (good : Good b) (within : length b ≤ image_limit) {entries : KnownEntries} (knows : KnowsEntries b entries) (of : entries.chain ≡ chain) where
+    num_small : num ≤ record_number_limit
+    num_small = in_range_small b good within kind num m.in_range
 
-  -- ---- the answers
+    -- the greatest of the numbers and of this one fits a field
+    pub greatest_within : fold max num entries.numbers ≤ signed_limit
+    greatest_within = elim (greatest_of num entries.numbers).0 [ inl e ↦ let le = num_small in omega (arith, e) | inr i ↦ let l = small good (of_attribute m.found) entries of knows _ i in omega arith ]
 
-  pub no_value : (num : ℕ) (t : DataType) (words : List (List ℕ)) (reason : Reason) → is_out_of_range (content b) kind num ≡ false → entry_of_words t words ≡ Err reason → put_entry_step (content b) attr kind num t words ≡ Refuse reason
-  no_value num t words reason in_range why = rw (found.named, found.in_scope, in_range, why) refl
+    module _ {greatest : ℤ} (is : greatest ≡ pos (fold max num entries.numbers)) where
+      pub greatest_signed : FitsSigned w32 greatest
+      greatest_signed = let le = greatest_within in rw is (omega (arith, ints))
 
-module _ (limit : ℕ) (b attr : List ℕ) (kind : EntryKind) (num : ℕ) (t : DataType) (words : List (List ℕ)) {n : ℕ} {chain : Chain} {value : StoredValue} (m : MayPut b attr kind num t words n chain value) where
-  abbrev c : Command
-  c = PutEntry attr kind num t words
+      -- the entry may be put
+      pub put_ready : {limit : ℕ} {places : List ℕ} → places ≡ adrs (shape b) → limit ≤ image_limit → length b + (56 + length value.bytes.items) ≤ limit → IsReady b limit (record { slot = record { kind = kind; attribute = n; adr = slice_index places n; num = num }; value = value; greatest = greatest }) entries
+      put_ready {places = places} are limited room = record {
+        attribute = record { own = m.found.own; stands = m.found.stands; adr_is = sym (adr_is m.found places are) };
+        chain = of ∙ m.found.chain_is ∙ ap (entries_chain kind) (sym (adr_is m.found places are));
+        known = knows;
+        stored = rw m.t_is m.written.stored;
+        num = num_small;
+        greatest = (fold max num entries.numbers, is, greatest_of num entries.numbers);
+        room = room;
+        within = limited;
+      }
 
-  abbrev entry : Entry
-  entry = stored_entry b t value.elems value.bytes.items
+  module _ (limit : ℕ) (m : MayPut b attr kind num t words n chain value) where
+    abbrev c : Command
+    c = PutEntry attr kind num t words
 
-  abbrev made : DataSet
-  made = with_attribute (content b) n (with_entries (attribute_of b m.found.own) kind (with_item num entry (entries_of (attribute_of b m.found.own) kind)))
+    abbrev made : DataSet
+    made = with_attribute (content b) n (with_entries (attribute_of b m.found.own) kind (with_item num (stored_entry b t value.elems value.bytes.items) (entries_of (attribute_of b m.found.own) kind)))
 
-  goes : put_entry_step (content b) attr kind num t words ≡ Go made Plain
-  goes = rw (m.found.named, m.found.in_scope, m.in_range, m.written.means) refl
+    goes : put_entry_step (content b) attr kind num t words ≡ Go made Plain
+    goes = rw (m.found.named, m.found.in_scope, m.in_range, m.written.means) refl
 
-  takes : room b c ≡ 56 + length value.bytes.items
-  takes = ap (λ r. 56 + entry_length r) m.written.means ∙ ap (λ (k : ℕ). 56 + k) (size_stays t (is_little b) value.bytes.items (whole m.written.stored))
+    takes : room b c ≡ 56 + length value.bytes.items
+    takes = ap (λ r. 56 + entry_length r) m.written.means ∙ ap (λ (k : ℕ). 56 + k) (size_stays t (is_little b) value.bytes.items (whole m.written.stored))
 
-  pub put_too_large : limit < length b + (56 + length value.bytes.items) → Answers limit b c (Refused TooLarge) b
-  put_too_large over = too_large limit b c made Plain (ap ByStep goes) (omega (arith, over, takes))
+    pub put_too_large : limit < length b + (56 + length value.bytes.items) → Answers limit b c (Refused TooLarge) b
+    put_too_large over = too_large limit b c made Plain (ap ByStep goes) (omega (arith, over, takes))
 
-  pub put_done : (now : List ℕ) (adr : ℕ) → length b + (56 + length value.bytes.items) ≤ limit → Puts b now (record { kind = kind; attribute = n; adr = adr; num = num }) (stored_entry b value.t value.elems value.bytes.items) → Answers limit b c (Done Plain) now
-  put_done now adr fits puts =
-      let slot : Slot = record { kind = kind; attribute = n; adr = adr; num = num } in
-      let asks : Asks b attr slot words entry = record { own = m.found.own; stands = m.found.stands; named = m.found.named; goes = goes; takes = ap (λ r. 56 + entry_length r) m.written.means } in
-      let same = subst (λ (x : DataType). Puts b now slot (stored_entry b x value.elems value.bytes.items)) m.t_is puts in
-      gone limit b c made Plain now (ap ByStep goes) (omega (arith, fits, takes)) (same.follows attr words asks)
+    pub put_done : {now : List ℕ} {adr : ℕ} → length b + (56 + length value.bytes.items) ≤ limit → Puts b now (record { kind = kind; attribute = n; adr = adr; num = num }) (stored_entry b value.t value.elems value.bytes.items) → Answers limit b c (Done Plain) now
+    put_done {now = now} {adr = adr} fits puts =
+        let asks : Asks b attr (record { kind = kind; attribute = n; adr = adr; num = num }) words (stored_entry b t value.elems value.bytes.items) = record { own = m.found.own; stands = m.found.stands; named = m.found.named; goes = goes; takes = ap (λ r. 56 + entry_length r) m.written.means } in
+        gone limit b c made Plain now (ap ByStep goes) (omega (arith, fits, takes)) ((rw m.t_is at puts).follows attr words asks)

@@ -1,6 +1,6 @@
 -- What words come to as the value of an entry.
 use Rattle.std.proofs.Common.{◌≡◌, ℕ, ◌%◌, ◌≤◌, List, ◌++◌, length, take, drop, Bool, false, Ok, refl, sym, ap, subst, ◌∙◌, arith}
-use Rattle.cdf_attrs.proofs.Common.{turned, size_of, values_in, DataType, size_stays, fewer, IsStored, IsWritten, entry_of_words}
+use Rattle.cdf_attrs.proofs.Common.{turned, size_of, values_in, DataType, size_stays, fewer, IsStored, IsWritten}
 use Rattle.cdf_model.specs.AttributeSteps.{number_entry}
 use Rattle.cdf_model.specs.Sayable.{Fit}
 use Rattle.cdf_model.specs.Values.{bytes_of_words}
@@ -10,20 +10,16 @@ use Rattle.cdf_values.proofs.TurnedLemmas.{back, in_place}
 use Rattle.cdf_values.proofs.ValueLengths.{Sizes, whole_elements, whole_text, words_sized}
 use Rattle.cdf_attrs.specs.Valued.{is_text}
 
-numbers : (t : DataType) (words : List (List ℕ)) → is_text t ≡ false → entry_of_words t words ≡ number_entry t words
-numbers Char words n = absurd cc
-numbers UChar words n = absurd cc
-numbers t words n = refl
-
 -- what the numbers of a line write may be stored
 pub numbers_written : (t : DataType) (words : List (List ℕ)) (bytes : List ℕ) → is_text t ≡ false → 1 ≤ length words → Fit words → values_in t 1 (length words) words ≡ Ok bytes → IsWritten false t words (length words) bytes
+numbers_written Char words bytes n some fit e = absurd cc
+numbers_written UChar words bytes n some fit e = absurd cc
 numbers_written t words bytes n some fit e =
     let read : bytes_of_words t 1 words ≡ Ok bytes = sym (counted t 1 (length words) words refl) ∙ e in
     let s : Sizes (size_of t) 0 words bytes = subst (λ (size : ℕ). Sizes size 0 words bytes) (whole_text t 1 refl ∙ omega arith) (words_sized t 1 words bytes read) in
-    let few = fewer words in
     record {
-      means = numbers t words n ∙ rw (read, number_entry) refl;
-      stored = record { long = omega (arith, s.long); some = some; few = omega (arith, few, fit); short = omega (arith, s.long, s.short, fit) };
+      means = rw (read, number_entry) refl;
+      stored = record { long = omega (arith, s.long); some = some; few = omega (arith, fewer words, fit); short = omega (arith, s.long, s.short, fit) };
     }
 
 -- ---- in the byte order of the file

@@ -66,6 +66,7 @@ fn put_last<A: Area>(
 
 /// Puts an entry over the one of its number, at an index of its chain, whose record has room for it. The numbers in its reserved fields
 /// stay. Gives the entries, which are those that they were. After an error a part of this may have been done.
+#[tactic(auto, using(cdf_area::proofs::Calls::edit_done, cdf_area::proofs::Calls::edit_failed, cdf_area::proofs::Calls::edit_more, cdf_area::proofs::Calls::edit_once, cdf_area::proofs::Calls::edits_by_write))]
 fn put_in_place<A: Area>(
     alloc: Global,
     area: &mut A,
@@ -92,6 +93,7 @@ fn put_in_place<A: Area>(
 
 /// Makes a record with an entry for the one of its number, at an index of its chain, whose record has no room for it, and frees that one.
 /// The numbers in its reserved fields stay. Gives the entries as they are then. After an error a part of this may have been done.
+#[tactic(auto, using(cdf_area::proofs::Calls::edit_failed))]
 fn put_anew<A: Area>(
     alloc: Global,
     area: &mut A,

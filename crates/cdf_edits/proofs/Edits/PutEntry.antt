@@ -1,6 +1,6 @@
 -- An entry is put into a chain of an attribute: made and linked, behind the last one or in the place of another one, or changed in its place; then the greatest number is written.
 use Rattle.std.proofs.Common.{◌≡◌, ◌≢◌, ℕ, ℤ, ◌+◌, ◌≤◌, List, [], ◌∷◌, ◌++◌, length, eq-eqb, true, true≢false, refl, sym, ap, subst, ◌∙◌, arith, inl, inr}
-use Rattle.cdf_edits.proofs.Common.{w32, cast_unsigned, FitsSigned, cases_eq, ne_eqb, put, EntryKind, Same, is_in, number, integer4, size_at, type_at, read_types, attribute_records, times, gdr_type, adr_type, uir_type, field, AttributeShape, shape, EntryFits, IsSound, In, length-put, times-none, tile_lies, space_fields, chain_of, chain_fields, entry_type, max_field, entries_chain, count_field, keeps_but_chain, Mark, Confined, attribute_types, avoided, ended, within, making_marks, giving_marks, field_marks, is_late, touched_field, Took, Exchanged, adding_marks, counted_in, members_of, with_in_place, type_of_body}
+use Rattle.cdf_edits.proofs.Common.{w32, cast_unsigned, FitsSigned, cases_eq, ne_eqb, put, EntryKind, Same, is_in, number, integer4, size_at, type_at, read_types, attribute_records, times, gdr_type, adr_type, uir_type, field, AttributeShape, shape, EntryFits, IsSound, In, length-put, times-none, tile_lies, space_fields, chain_of, chain_fields, entry_type, max_field, entries_chain, count_field, keeps_but_chain, Mark, Confined, attribute_types, avoided, ended, within, making_marks, giving_marks, field_marks, is_late, Took, Exchanged, adding_marks, counted_in, members_of, with_in_place, type_of_body}
 use Rattle.cdf_model.specs.declared.kinds.EntryKind.TheVariants as entries
 use Rattle.cdf_edits.specs.Space.Adding.{Added, Joined}
 use Rattle.cdf_edits.proofs.Edits.ChainKept.{records_are, list_is}
@@ -8,7 +8,7 @@ use Rattle.cdf_edits.proofs.Edits.ChainKinds.{chain_in}
 use Rattle.cdf_edits.proofs.Edits.ChainMembers.{IsAmong, member, member_kept, members_chain}
 use Rattle.cdf_edits.proofs.Edits.ChainOwners.{Trades, pushed_trades, replaced_trades, traded}
 use Rattle.cdf_edits.proofs.Edits.ChainSpliced.{Rechains, made}
-use Rattle.cdf_edits.proofs.Edits.Composing.{edit_then, changed_edit}
+use Rattle.cdf_edits.proofs.Edits.Composing.{edit_then}
 use Rattle.cdf_edits.proofs.Edits.EntryFields.{MaxWritten, as_chain, as_count, max_chain, max_count, max_edit, max_integer, max_long, only, with_first}
 use Rattle.cdf_edits.proofs.Edits.WrittenEntries.{WritesChain}
 use Rattle.cdf_edits.proofs.Edits.FieldWritten.{Stands, still_stands}
@@ -19,7 +19,7 @@ use Rattle.cdf_edits.proofs.Edits.MarkLemmas.{avoided-avoids, ended-avoids, the_
 use Rattle.cdf_edits.proofs.Edits.OneChain.{Settled}
 use Rattle.cdf_edits.proofs.Edits.OwnedOnce.{used_times}
 use Rattle.cdf_edits.proofs.Edits.Splice.{adr_stands}
-use Rattle.cdf_edits.proofs.Edits.StepEdits.{some_bytes}
+use Rattle.cdf_edits.proofs.Edits.StepEdits.{field_edit}
 use Rattle.cdf_edits.proofs.Frame.ChangedBytes.{changed_put}
 use Rattle.cdf_edits.proofs.Frame.Meaning.{KeptButLink}
 
@@ -143,29 +143,24 @@ module _ {b : List ℕ} {before : List AttributeShape} {own : AttributeShape} {a
       unused = unused_kept sound new_record (records_are sound rechains);
     }
 
-    -- it was no member
-    place_out : In place (chain_of own kind) → ⊥
-    place_out i = (fills sound new_record).in_use (sym (member kind sound at place i).typed ∙ fresh sound (fills sound new_record) (member kind sound at place i).inside)
-
   -- the one whose place it took may be freed
 
-  module _ {late body : List ℕ} {place old need : ℕ} {chain' : List ℕ} {count : ℕ} (p : JoinsEntry b late kind own need body place chain' (old ∷ []) count) (member : In old (chain_of own kind)) (fits : EntryFits late place) where
+  module _ {late body : List ℕ} {place old need : ℕ} {chain' : List ℕ} {count : ℕ} (p : JoinsEntry b late kind own need body place chain' (old ∷ []) count) (there : In old (chain_of own kind)) (fits : EntryFits late place) where
     pub not_old : place ≢ old
-    not_old q = place_out p (subst (λ (x : ℕ). In x (chain_of own kind)) (sym q) member)
-
-    out : In place (old ∷ []) → ⊥
-    out i = not_old (the_one old place i)
+    not_old q =
+        let was = member kind sound at place (subst (λ (x : ℕ). In x (chain_of own kind)) (sym q) there) in
+        (fills sound (new_record p)).in_use (sym was.typed ∙ fresh sound (fills sound (new_record p)) was.inside)
 
     pub frees : Frees b late (records sound (new_record p)) (list sound (new_record p)) (marks sound (new_record p)) (place ∷ []) kind before own after chain' (place ∷ []) old need (Took place need ∷ [])
     frees = record {
       rechains = rechains p;
-      member = member;
-      lives = stays p old member;
+      member = there;
+      lives = stays p old there;
       out = λ i. not_old (sym (the_one place old i));
       reborn_in = λ m i. subst (λ (x : ℕ). In x (records sound (new_record p))) (sym (the_one place m i)) (new_in sound (new_record p));
       come_in = λ m i. i;
       fit = λ m i. subst (EntryFits late) (sym (the_one place m i)) fits;
-      sorted = sorted p out;
+      sorted = sorted p (λ i. not_old (the_one old place i));
       read = is_read p;
       clear = ((t p).freed (list sound (new_record p)) old (size_at late old)).0;
       gdr_within = ((t p).freed (list sound (new_record p)) old (size_at late old)).1;
@@ -191,9 +186,7 @@ module _ {b : List ℕ} {before : List AttributeShape} {own : AttributeShape} {a
         sub = only (chain_of own kind) place i;
         late = omega arith;
         mid = put b (place + 20) fields;
-        first = changed_edit b (put b (place + 20) fields) (shape b).records (touched_field place f ∷ []) (field_marks (entry_type kind) place f) [] sound.has_shape.tiled long (changed_put b place 20 (length fields) fields refl (omega arith))
-            (record { inside = is.inside; fits = room; behind_size = omega arith; behind_type = inl (omega arith); covered = inl (record { typed = is.typed; lies = inl refl; low = omega arith; high = omega arith }) }, tt)
-            (some_bytes b (shape b) sound.has_shape);
+        first = field_edit b (put b (place + 20) fields) (shape b) sound.has_shape place (entry_type kind) f is.inside is.typed room (omega arith) (changed_put b place 20 (length fields) fields refl (omega arith)) long;
         long = long;
         greatest = greatest;
         written = written;

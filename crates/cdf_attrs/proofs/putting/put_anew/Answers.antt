@@ -1,7 +1,8 @@
-use Rattle.std.proofs.Common.{◌∙◌, List, ℕ, None, take, refl, ap, subst, sym}
-use Rattle.cdf_attrs.proofs.Common.{last_or, edit_done, edit_failed, edit_more, edit_once, good_is_sound, good_eof, old_free, old_stands, sound_late, last_got, KnownEntries, IsPut}
-use Rattle.cdf_attrs.proofs.EntryChains.{chain_there, holder_stands}
-use Rattle.cdf_attrs.proofs.EntryPut.{behind_at, body_kind, body_room, freed, is_body, is_member, max_joined, of_chain, put_anew}
+use Rattle.std.proofs.Common.{◌∙◌, List, ℕ, None, take, ap, subst, sym, arith}
+use Rattle.cdf_attrs.proofs.Common.{last_or, In, edit_done, edit_failed, edit_more, edit_once, good_is_sound, good_eof, old_free, old_stands, sound_late, last_got, KnownEntries}
+use Rattle.cdf_format.proofs.Members.{is_in-true}
+use Rattle.cdf_attrs.proofs.EntryChains.{chain_there, holder_stands, members}
+use Rattle.cdf_attrs.proofs.EntryPut.{behind_at, body_kind, body_long, body_made, freed, max_joined, member, of_chain, put_anew}
 use Rattle.cdf_attrs.proofs.putting.put_anew.Goals as goal
 
 pub exchange_record-requires : goal.exchange_record-requires
@@ -13,12 +14,12 @@ exchange_record-requires g c =
       eof = good_eof _ c.requires.good;
       holder = holder_stands _ c.requires.good _ of;
       chain = chain_there _ c.requires.good _ of;
-      member = is_member c.requires.good c.requires.ready c.requires.old c.entries_chain-chain.ensures;
+      member = is_in-true _ _ (subst (In c.args.old.place) (sym (members _ c.requires.good _ of)) (member c.requires.good c.requires.ready c.requires.old));
       behind = c.copied-behind.ensures ∙ c.last.ensures.value ∙ last_got (take c.args.i c.deref.result.now) ∙ ap (λ (xs : List ℕ). last_or None (take c.args.i xs)) (c.deref.ensures.value ∙ ap (λ (e : KnownEntries). e.places) c.put.view_is)
           ∙ behind_at c.requires.good c.requires.ready c.requires.old c.entries_chain-chain.ensures;
-      body = is_body c.requires.good c.requires.ready c.entries_chain-chain.ensures c.args.old.reserved bytes;
+      body = rw bytes (body_made c.args.entry.now c.args.old.reserved).1;
       kind = body_kind c.requires.good c.requires.ready c.entries_chain-chain.ensures c.args.old.reserved bytes;
-      room = body_room c.requires.good c.requires.ready c.entries_chain-chain.ensures c.args.old.reserved bytes;
+      room = rw bytes (omega (arith, body_long c.args.entry.now c.args.old.reserved, c.requires.ready.room));
       limit = c.requires.ready.within;
     }
 
@@ -32,12 +33,7 @@ free_record-requires g c =
     record { sound = sound_late sound gone; stands = old_stands sound gone; free = old_free sound gone }
 
 pub returns-clause-put : goal.returns-clause-put
-returns-clause-put g c =
-    subst (IsPut (g.A.Area.image c.args.area.now) (g.A.Area.image c.free_record.new.area) c.args.entry.now c.args.entries) (sym c.set_place.ensures)
-    (put_anew c.requires.good c.requires.ready c.requires.old c.entries_chain-chain.ensures (c.deref-2.ensures.value ∙ c.in_ok-bytes.ensures) c.in_ok-place.ensures.exchanged c.in_ok-set_greatest.ensures.written c.requires.large c.in_ok-free_record.ensures.gives)
-
-pub returns-in_err-place-clause-area : goal.returns-in_err-place-clause-area
-returns-in_err-place-clause-area g c = edit_failed (record { frame = refl; faults = refl }) c.in_err-place.ensures.area c.from_residual-in_err-place.ensures.1
+returns-clause-put g c = rw c.set_place.ensures (put_anew c.requires.good c.requires.ready c.requires.old c.entries_chain-chain.ensures (c.deref-2.ensures.value ∙ c.in_ok-bytes.ensures) c.in_ok-place.ensures.exchanged c.in_ok-set_greatest.ensures.written c.requires.large c.in_ok-free_record.ensures.gives)
 
 pub returns-in_err-set_greatest-clause-area : goal.returns-in_err-set_greatest-clause-area
 returns-in_err-set_greatest-clause-area g c = edit_failed (edit_once c.in_ok-place.ensures.area) c.in_err-set_greatest.ensures.area c.from_residual-in_err-set_greatest.ensures.1

@@ -1,10 +1,10 @@
-use Rattle.std.proofs.Common.{◌∙◌, ℕ, List, refl, ap, arith}
-use Rattle.cdf_attrs.proofs.Common.{edit_done, edit_failed, edit_more, edit_once, edits_by_write, with_field, max_field}
-use Rattle.cdf_attrs.proofs.EntryPut.{begins, fields_inside, max_inside, put_over, stored}
+use Rattle.std.proofs.Common.{◌∙◌, ℕ, List, ap, arith}
+use Rattle.cdf_attrs.proofs.Common.{with_field, max_field}
+use Rattle.cdf_attrs.proofs.EntryPut.{begins_at, fields_inside, max_inside, put_over, stored}
 use Rattle.cdf_attrs.proofs.putting.put_in_place.Goals as goal
 
 pub overflow_add-old : goal.overflow_add-old
-overflow_add-old g c = let inside = begins c.requires.good c.requires.ready c.requires.old in omega arith
+overflow_add-old g c = omega (arith, begins_at c.requires.good c.requires.ready c.args.i c.requires.old.within, c.requires.old.place_is)
 
 pub set-requires : goal.set-requires
 set-requires g c = fields_inside c.requires.good c.requires.ready c.requires.old c.requires.fits (c.deref.ensures.value ∙ c.in_ok-fields.ensures)
@@ -14,12 +14,3 @@ set_greatest-requires g c = max_inside c.requires.good c.requires.ready _ (let s
 
 pub returns-clause-put : goal.returns-clause-put
 returns-clause-put g c = put_over c.requires.good c.requires.ready c.requires.old c.requires.fits (c.deref.ensures.value ∙ c.in_ok-fields.ensures) (c.in_ok-set_greatest.ensures.written ∙ ap (λ (x : List ℕ). with_field x c.args.entry.now.slot.adr (max_field c.args.entry.now.slot.kind) (stored c.args.entry.now)) c.in_ok-set.ensures.written)
-
-pub returns-in_err-set-clause-area : goal.returns-in_err-set-clause-area
-returns-in_err-set-clause-area g c = edit_failed (record { frame = refl; faults = refl }) (edits_by_write c.in_err-set.ensures.area) c.from_residual-in_err-set.ensures.1
-
-pub returns-in_err-set_greatest-clause-area : goal.returns-in_err-set_greatest-clause-area
-returns-in_err-set_greatest-clause-area g c = edit_failed (edit_once (edits_by_write c.in_ok-set.ensures.area)) c.in_err-set_greatest.ensures.area c.from_residual-in_err-set_greatest.ensures.1
-
-pub returns-clause-area : goal.returns-clause-area
-returns-clause-area g c = edit_done (edit_more (edit_once (edits_by_write c.in_ok-set.ensures.area)) c.in_ok-set_greatest.ensures.area)

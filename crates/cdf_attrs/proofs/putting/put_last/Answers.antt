@@ -1,8 +1,8 @@
-use Rattle.std.proofs.Common.{◌∙◌, None, ap, subst, sym}
-use Rattle.cdf_attrs.proofs.Common.{last_or, edit_done, edit_failed, edit_more, edit_once, good_is_sound, good_eof, last_got, KnownEntries, new_reserved, IsPut}
+use Rattle.std.proofs.Common.{◌∙◌, None, ap, arith}
+use Rattle.cdf_attrs.proofs.Common.{last_or, edit_done, edit_failed, edit_more, edit_once, good_is_sound, good_eof, last_got, KnownEntries, new_reserved}
 use Rattle.cdf_area.proofs.Calls.{edit_without_memory}
-use Rattle.cdf_attrs.proofs.EntryChains.{chain_there, holder_stands}
-use Rattle.cdf_attrs.proofs.EntryPut.{body_kind, body_of, body_room, few_at, is_body, known_at, max_joined, of_chain, pushed}
+use Rattle.cdf_attrs.proofs.EntryChains.{chain_there, counted, few_entries, holder_stands}
+use Rattle.cdf_attrs.proofs.EntryPut.{body_kind, body_long, body_made, body_of, known_at, max_joined, of_chain, pushed}
 use Rattle.cdf_attrs.proofs.putting.put_last.Goals as goal
 
 pub append_record-requires : goal.append_record-requires
@@ -15,10 +15,10 @@ append_record-requires g c =
       holder = holder_stands _ c.requires.good _ of;
       chain = chain_there _ c.requires.good _ of;
       last = c.copied-last.ensures ∙ c.last.ensures.value ∙ last_got c.deref.result.now ∙ ap (last_or None) (c.deref.ensures.value ∙ ap (λ (k : KnownEntries). k.places) c.put.view_is ∙ known_at c.requires.good c.requires.ready c.entries_chain.ensures);
-      body = is_body c.requires.good c.requires.ready c.entries_chain.ensures new_reserved bytes;
+      body = rw bytes (body_made c.args.entry.now new_reserved).1;
       kind = body_kind c.requires.good c.requires.ready c.entries_chain.ensures new_reserved bytes;
-      few = few_at c.requires.good c.requires.ready c.entries_chain.ensures;
-      room = body_room c.requires.good c.requires.ready c.entries_chain.ensures new_reserved bytes;
+      few = omega (arith, few_entries _ c.requires.good _ of, counted _ c.requires.good _ of, c.requires.ready.room, c.requires.ready.within);
+      room = rw bytes (omega (arith, body_long c.args.entry.now new_reserved, c.requires.ready.room));
       limit = c.requires.ready.within;
     }
 
@@ -26,9 +26,7 @@ pub set_greatest-requires : goal.set_greatest-requires
 set_greatest-requires g c = max_joined c.requires.good c.requires.ready c.in_ok-place.ensures.added
 
 pub returns-clause-put : goal.returns-clause-put
-returns-clause-put g c =
-    let bytes = c.deref-2.ensures.value ∙ c.in_ok-bytes.ensures ∙ ap (body_of c.args.entry.now) c.new.ensures in
-    subst (IsPut (g.A.Area.image c.args.area.now) (g.A.Area.image c.set_greatest.new.area) c.args.entry.now c.args.entries) (sym c.in_ok-push.ensures) (pushed c.requires.good c.requires.ready c.requires.absent c.entries_chain.ensures bytes c.in_ok-place.ensures.added c.in_ok-set_greatest.ensures.written)
+returns-clause-put g c = rw c.in_ok-push.ensures (pushed c.requires.good c.requires.ready c.requires.absent c.entries_chain.ensures (c.deref-2.ensures.value ∙ c.in_ok-bytes.ensures ∙ ap (body_of c.args.entry.now) c.new.ensures) c.in_ok-place.ensures.added c.in_ok-set_greatest.ensures.written)
 
 pub returns-in_err-set_greatest-clause-area : goal.returns-in_err-set_greatest-clause-area
 returns-in_err-set_greatest-clause-area g c = edit_failed (edit_once c.in_ok-place.ensures.area) c.in_err-set_greatest.ensures.area c.from_residual-in_err-set_greatest.ensures.1

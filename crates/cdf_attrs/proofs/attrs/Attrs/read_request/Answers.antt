@@ -1,20 +1,15 @@
-use Rattle.std.proofs.Common.{◌∙◌, ℕ, List, length, sym, ap, subst, arith}
-use Rattle.cdf_attrs.proofs.Common.{cdr_room, content, Good, good_is_sound, is_out_of_range, Finds, entry_of_words}
+use Rattle.std.proofs.Common.{◌∙◌, ℕ, List, sym, ap, arith}
+use Rattle.cdf_attrs.proofs.Common.{cdr_room, content, good_is_sound, is_out_of_range, entry_of_words}
 use Rattle.cdf_attrs.proofs.PutAnswers.{no_value}
 use Rattle.cdf_attrs.proofs.attrs.Attrs.read_request.Goals as goal
 
 pub is_out_of_range-requires : goal.is_out_of_range-requires
-is_out_of_range-requires g c = subst Good (sym c.find_chain.ensures.area.image) c.requires.good
+is_out_of_range-requires g c = rw c.find_chain.ensures.area.image c.requires.good
 
 pub read_encoding-requires : goal.read_encoding-requires
-read_encoding-requires g c =
-    let room = cdr_room (g.A.Area.image c.args.area.now) (good_is_sound (g.A.Area.image c.args.area.now) c.requires.good) in
-    let long = ap (λ (x : List ℕ). length x) (c.is_out_of_range.ensures.area.image ∙ c.find_chain.ensures.area.image) in
-    omega arith
+read_encoding-requires g c = grind (arith, cdr_room (g.A.Area.image c.args.area.now) (good_is_sound (g.A.Area.image c.args.area.now) c.requires.good), c.is_out_of_range.ensures.area.image, c.find_chain.ensures.area.image)
 
 pub returns-in_ok-reason_of-in-Err-clause-request : goal.returns-in_ok-reason_of-in-Err-clause-request
 returns-in_ok-reason_of-in-Err-clause-request g c =
-    let b = g.A.Area.image c.args.area.now in
-    let found = subst (Finds b c.args.attr.now c.args.kind) c.in-Found.is c.in_ok-number.ensures.target in
-    let within = ap (λ (x : List ℕ). is_out_of_range (content x) c.args.kind c.args.num) (sym c.find_chain.ensures.area.image) ∙ sym c.in_ok-is_out_of_range.ensures.range ∙ c.if-branch.false in
-    no_value found c.args.num c.args.t c.args.words.now c.in_ok-reason_of-in-Err.field-0 within (c.in_ok-reason_of-in-Err.ensures.reason (entry_of_words c.args.t c.args.words.now) c.in-Err.ensures.err)
+    no_value (rw c.in-Found.is at c.in_ok-number.ensures.target) c.args.num c.args.t c.args.words.now c.in_ok-reason_of-in-Err.field-0 (ap (λ (x : List ℕ). is_out_of_range (content x) c.args.kind c.args.num) (sym c.find_chain.ensures.area.image) ∙ sym c.in_ok-is_out_of_range.ensures.range ∙ c.if-branch.false)
+    (c.in_ok-reason_of-in-Err.ensures.reason (entry_of_words c.args.t c.args.words.now) c.in-Err.ensures.err)
