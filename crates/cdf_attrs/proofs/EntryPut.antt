@@ -5,7 +5,7 @@ use Rattle.std.proofs.lemmas.Bool.{lt-leb}
 use Rattle.cdf_base.specs.Bytes.{put}
 use Rattle.cdf_model.specs.declared.kinds.EntryKind.TheVariants as entries
 use Rattle.cdf_format.specs.Content.{entries_of as chain_items}
-use Rattle.cdf_format.specs.Records.{field, aedr_aedr_next, aedr_rfu_b, aedr_rfu_c, aedr_rfu_d, aedr_rfu_e}
+use Rattle.cdf_format.specs.Records.{aedr_aedr_next, aedr_rfu_b, aedr_rfu_c, aedr_rfu_d, aedr_rfu_e}
 use Rattle.cdf_format.proofs.BytesLemmas.{Same-part, size_kept}
 use Rattle.cdf_fields.proofs.Writes.{drop-put_there}
 use Rattle.cdf_edits.specs.Commands.Allowances.{FreedStay, no_fields}
