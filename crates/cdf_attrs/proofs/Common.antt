@@ -27,7 +27,6 @@ pub use Rattle.cdf_attrs.specs.Renaming.{Renamed}
 pub use Rattle.cdf_attrs.specs.Valued.{IsWritten, entry_of_words}
 pub use Rattle.cdf_attrs.specs.declared.numbering.Numbered.{Numbered}
 pub use Rattle.cdf_attrs.specs.declared.putting.NewEntry.{NewEntry}
-pub use Rattle.cdf_attrs.specs.declared.putting.Slot.{Slot}
 pub use Rattle.cdf_edits.proofs.Commands.Answered.{gone, refused}
 pub use Rattle.cdf_edits.proofs.Commands.FineNames.{fine_has_no_zeros, fine_is_short, fine_is_some}
 pub use Rattle.cdf_edits.proofs.Commands.KeptRecords.{AllKeep-append}
