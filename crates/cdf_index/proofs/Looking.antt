@@ -5,7 +5,7 @@ use Rattle.cdf_format.specs.Index.{nodes_of, lower_nodes, leaves_of, entry_leave
 use Rattle.cdf_format.specs.IndexOf.{HasNodes, Names}
 use Rattle.cdf_format.specs.RecordTypes.{vvr_type}
 use Rattle.cdf_format.proofs.ChainsLemmas.{is_a-type, some_place}
-use Rattle.cdf_index.specs.Order.{find_in, find_entry, NextsAreZero, LowerAreZero}
+use Rattle.cdf_index.specs.Order.{find_in, find_entry, nodes_passed, passed_from, NextsAreZero, LowerAreZero}
 use Rattle.cdf_edits.proofs.Edits.MarkLemmas.{or_cases}
 use Rattle.cdf_format.proofs.Owning.{block_in as block_stands}
 
@@ -30,25 +30,24 @@ pub record Left (b : List ℕ) (rec levels at i n : ℕ) (entries left : Entries
   pub blocks : Each (IsBlock b) (entry_leaves left)
   pub ends : Ends rec left
   pub many : n + entry_count left ≡ entry_count entries
-  pub fewer : length (lower_nodes left) ≤ length (lower_nodes entries)
-  pub zero : LowerAreZero entries → LowerAreZero left
+  pub met : (other : ℕ) → passed_from rec entries other ≡ passed_from rec left other
 
 left_all : (b : List ℕ) (rec levels at i : ℕ) (entries : Entries) → SayEntries b at i entries → Names b (tiles b) levels entries → Each (IsOrderly b) (lower_nodes entries) → Each (IsBlock b) (entry_leaves entries) → Ends rec entries
     → Left b rec levels at (i + 0) 0 entries entries
 left_all b rec levels at i entries s n f k e =
     let z : i + 0 ≡ i = omega arith in
-    rw z (record { same = λ other. refl; say = s; names = n; orderly = f; blocks = k; ends = e; many = omega arith; fewer = omega arith; zero = λ o. o })
+    rw z (record { same = λ other. refl; say = s; names = n; orderly = f; blocks = k; ends = e; many = omega arith; met = λ other. refl })
 
 left_over : (b : List ℕ) (rec levels at i : ℕ) (entries : Entries) → SayEntries b at i entries → Names b (tiles b) levels entries → Each (IsOrderly b) (lower_nodes entries) → Each (IsBlock b) (entry_leaves entries)
     → Left b rec levels at (i + passed rec entries) (passed rec entries) entries (rest rec entries)
-unfolding Names lower_nodes entry_leaves find_in find_entry LowerAreZero
+unfolding Names lower_nodes entry_leaves find_in find_entry passed_from
 left_over b rec levels at i no_entry s n f k = left_all b rec levels at i no_entry s n f k tt
 left_over b rec levels at i (block first last place packed entries) s n f k = elim (either (ltb last rec)) [
   | inl t ↦
       let r = left_over b rec levels at (suc i) entries s.1 n.2 f k.1 in
       let e : i + suc (passed rec entries) ≡ suc i + passed rec entries = omega arith in
       let m = r.many in
-      rw t (rw e (record { same = λ other. rw t (r.same other); say = r.say; names = r.names; orderly = r.orderly; blocks = r.blocks; ends = r.ends; many = omega arith; fewer = r.fewer; zero = r.zero }))
+      rw t (rw e (record { same = λ other. rw t (r.same other); say = r.say; names = r.names; orderly = r.orderly; blocks = r.blocks; ends = r.ends; many = omega arith; met = λ other. rw t (r.met other) }))
   | inr t ↦ rw t (left_all b rec levels at i (block first last place packed entries) s n f k t)
 ]
 left_over b rec levels at i (lower first last nodes entries) s n f k = elim (either (ltb last rec)) [
@@ -58,8 +57,7 @@ left_over b rec levels at i (lower first last nodes entries) s n f k = elim (eit
       let r = left_over b rec levels at (suc i) entries s.1 n.2 fs.1 ks.1 in
       let e : i + suc (passed rec entries) ≡ suc i + passed rec entries = omega arith in
       let m = r.many in
-      let w = r.fewer in
-      rw t (rw e (record { same = λ other. rw t (r.same other); say = r.say; names = r.names; orderly = r.orderly; blocks = r.blocks; ends = r.ends; many = omega arith; fewer = omega (arith, length-append (nodes_of nodes) (lower_nodes entries)); zero = λ z. r.zero z.1 }))
+      rw t (rw e (record { same = λ other. rw t (r.same other); say = r.say; names = r.names; orderly = r.orderly; blocks = r.blocks; ends = r.ends; many = omega arith; met = λ other. rw t (r.met other) }))
   | inr t ↦ rw t (left_all b rec levels at i (lower first last nodes entries) s n f k t)
 ]
 
@@ -96,35 +94,23 @@ looked b rec levels at i room entries more st s =
       more_stands = record { has = h.2; orderly = fs.1; blocks = ks.1 };
     }
 
-zero_entries : (place room : ℕ) (entries : Entries) (more : Nodes) → NextsAreZero (node place room entries more) → LowerAreZero entries
-unfolding NextsAreZero LowerAreZero
-zero_entries place room entries no_node z = z
-zero_entries place room entries (node place' room' entries' more) z = absurd z
-
 -- ---- the whole node was passed
 
-passed_all : (b : List ℕ) (rec levels at i : ℕ) (entries left : Entries) → Left b rec levels at i i entries left → i ≡ entry_count entries → (other : Option Leaf) → find_entry rec entries other ≡ other
-unfolding find_in find_entry
-passed_all b rec levels at i entries no_entry l e other = l.same other
-passed_all b rec levels at i entries (block first last place packed left) l e other = absurd (omega (arith, l.many))
-passed_all b rec levels at i entries (lower first last nodes left) l e other = absurd (omega (arith, l.many))
-
--- at the end of a chain no level is needed any more
-onward_more : (b : List ℕ) (rec levels at room link : ℕ) (entries : Entries) (more : Nodes) → Stands b (suc levels) more → link ≡ link_to more → find_in rec more ≡ find_in rec (node at room entries more)
-    → Onward b rec (suc levels) (node at room entries more) link
-unfolding HasNodes nodes_of lower_nodes leaves_of NextsAreZero LowerAreZero
-onward_more b rec levels at room link entries no_node st e same =
-    record { down = levels; left = no_node; stands = record { has = tt; orderly = tt; blocks = tt }; link_is = e; same = same; fewer = omega arith; zero = λ z. (tt, omega arith) }
-onward_more b rec levels at room link entries (node place' room' entries' more) st e same =
-    record { down = suc levels; left = node place' room' entries' more; stands = st; link_is = e; same = same; fewer = omega (arith, length-append (lower_nodes entries) (nodes_of (node place' room' entries' more))); zero = λ z. absurd z }
+none_over : (b : List ℕ) (rec levels at i : ℕ) (entries left : Entries) → Left b rec levels at i i entries left → i ≡ entry_count entries → left ≡ no_entry
+none_over b rec levels at i entries no_entry l e = refl
+none_over b rec levels at i entries (block first last place packed left) l e = absurd (omega (arith, l.many))
+none_over b rec levels at i entries (lower first last nodes left) l e = absurd (omega (arith, l.many))
 
 pub look_next : (b : List ℕ) (rec levels i link : ℕ) (nodes : Nodes) → Stands b levels nodes → IsNode nodes → Scanned b rec (link_to nodes) i → i ≡ used_count b (link_to nodes) → link ≡ next_of b (link_to nodes) → Onward b rec levels nodes link
-unfolding HasNodes find_in find_entry
+unfolding HasNodes find_in find_entry nodes_passed passed_from
 look_next b rec levels i link no_node st is s e x = absurd is
 look_next b rec zero i link (node place room entries more) st is s e x = absurd st.has
 look_next b rec (suc levels) i link (node place room entries more) st is s e x =
     let l = looked b rec levels place i room entries more st s in
-    onward_more b rec levels place room link entries more l.more_stands (x ∙ l.says.next_is) (sym (passed_all b rec levels place i entries l.left l.over (e ∙ l.says.used_is) (find_in rec more)))
+    let none = none_over b rec levels place i entries l.left l.over (e ∙ l.says.used_is) in
+    let found : find_entry rec entries (find_in rec more) ≡ find_in rec more = rw none at (l.over.same (find_in rec more)) in
+    let met : passed_from rec entries (nodes_passed rec more) ≡ nodes_passed rec more = rw none at (l.over.met (nodes_passed rec more)) in
+    record { down = suc levels; left = more; stands = l.more_stands; link_is = x ∙ l.says.next_is; same = sym found; one = ap suc (sym met) }
 
 -- ---- an entry tells
 
@@ -172,7 +158,7 @@ node_linkable b (suc levels) (node place room entries more) is h = h.0.linkable
 
 onward_lower : (b : List ℕ) (rec levels at i room first place type : ℕ) (entries left : Entries) (more : Nodes) → Left b rec levels at i i entries left → i < entry_count entries → first ≡ first_at b at i → place ≡ offset_at b at i → type ≡ type_at b place → first ≤ rec → type ≡ 6
     → Onward b rec (suc levels) (node at room entries more) place
-unfolding find_in find_entry Names HasNodes nodes_of lower_nodes leaves_of entry_leaves NextsAreZero LowerAreZero
+unfolding find_in find_entry nodes_passed passed_from Names nodes_of lower_nodes leaves_of entry_leaves
 onward_lower b rec levels at i room first place type entries no_entry more l lt qf qp qt h k = absurd (omega (arith, l.many))
 onward_lower b rec levels at i room first place type entries (block f la p packed left) more l lt qf qp qt h k =
     let e : place ≡ p = qp ∙ l.say.0.offset_is in
@@ -184,14 +170,14 @@ onward_lower b rec levels at i room first place type entries (lower f la nodes l
     let fs = Each-split (IsOrderly b) (nodes_of nodes) (lower_nodes left) l.orderly in
     let ks = Each-split (IsBlock b) (leaves_of nodes) (entry_leaves left) l.blocks in
     let same : find_entry rec entries (find_in rec more) ≡ find_in rec nodes = l.same (find_in rec more) ∙ rw (t, u) refl in
+    let met : passed_from rec entries (nodes_passed rec more) ≡ nodes_passed rec nodes = l.met (nodes_passed rec more) ∙ rw (t, u) refl in
     record {
       down = levels;
       left = nodes;
       stands = record { has = l.names.1; orderly = fs.0; blocks = ks.0 };
       link_is = qp ∙ l.say.0.offset_is;
       same = sym same;
-      fewer = omega (arith, length-append (lower_nodes entries) (nodes_of more), length-append (nodes_of nodes) (lower_nodes left), l.fewer);
-      zero = λ z. ((l.zero (zero_entries at room entries more z)).0, omega arith);
+      one = ap suc (sym met);
     }
 
 pub look_below : (b : List ℕ) (rec levels i first place type : ℕ) (nodes : Nodes) → Stands b levels nodes → IsNode nodes → Scanned b rec (link_to nodes) i → i ≢ used_count b (link_to nodes) → first ≡ first_at b (link_to nodes) i → place ≡ offset_at b (link_to nodes) i → type ≡ type_at b place
@@ -310,6 +296,48 @@ pub one_node : (ns : Nodes) → IsNode ns → 1 ≤ length (nodes_of ns)
 unfolding nodes_of
 one_node no_node is = absurd is
 one_node (node place room entries more) is = omega arith
+
+pub one_passed : (rec : ℕ) (ns : Nodes) → IsNode ns → 1 ≤ nodes_passed rec ns
+unfolding nodes_passed
+one_passed rec no_node is = absurd is
+one_passed rec (node place room entries more) is = omega arith
+
+mutual
+  unfolding nodes_passed passed_from nodes_of lower_nodes
+
+  -- no node is passed twice
+  pub few_passed : (rec : ℕ) (ns : Nodes) → nodes_passed rec ns ≤ length (nodes_of ns)
+  few_passed rec no_node = omega arith
+  few_passed rec (node place room entries more) = omega (arith, few_from rec entries (nodes_passed rec more), few_passed rec more, length-append (lower_nodes entries) (nodes_of more))
+
+  few_from : (rec : ℕ) (entries : Entries) (other : ℕ) → passed_from rec entries other ≤ length (lower_nodes entries) + other
+  few_from rec no_entry other = omega arith
+  few_from rec (block first last place packed entries) other = elim (either (ltb last rec)) [ inl t ↦ rw t (few_from rec entries other) | inr t ↦ rw t (omega arith) ]
+  few_from rec (lower first last nodes entries) other =
+      let many = length-append (nodes_of nodes) (lower_nodes entries) in
+      elim (either (ltb last rec)) [
+        | inl t ↦ rw t (omega (arith, many, few_from rec entries other))
+        | inr t ↦ rw t (elim (either (ltb rec first)) [ inl u ↦ rw u (omega arith) | inr u ↦ rw u (omega (arith, many, few_passed rec nodes)) ])
+      ]
+
+mutual
+  unfolding HasNodes Names NextsAreZero LowerAreZero nodes_passed passed_from
+
+  -- one a level, where no node has one behind it
+  pub passed_levels : (b : List ℕ) (rec levels : ℕ) (ns : Nodes) → HasNodes b (tiles b) levels ns → NextsAreZero ns → nodes_passed rec ns ≤ levels
+  passed_levels b rec levels no_node h z = omega arith
+  passed_levels b rec zero (node place room entries more) h z = absurd h
+  passed_levels b rec (suc levels) (node place room entries no_node) h z = omega (arith, from_levels b rec levels entries h.1 z)
+  passed_levels b rec (suc levels) (node place room entries (node place' room' entries' more)) h z = absurd z
+
+  from_levels : (b : List ℕ) (rec levels : ℕ) (entries : Entries) → Names b (tiles b) levels entries → LowerAreZero entries → passed_from rec entries 0 ≤ levels
+  from_levels b rec levels no_entry n z = omega arith
+  from_levels b rec levels (block first last place packed entries) n z = elim (either (ltb last rec)) [ inl t ↦ rw t (from_levels b rec levels entries n.2 z) | inr t ↦ rw t (omega arith) ]
+  from_levels b rec levels (lower first last nodes entries) n z =
+      elim (either (ltb last rec)) [
+        | inl t ↦ rw t (from_levels b rec levels entries n.2 z.1)
+        | inr t ↦ rw t (elim (either (ltb rec first)) [ inl u ↦ rw u (omega arith) | inr u ↦ rw u (passed_levels b rec levels nodes n.1 z.0) ])
+      ]
 
 -- ---- what code read
 

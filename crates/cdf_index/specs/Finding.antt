@@ -1,5 +1,5 @@
 -- An index that a link leads to, as code walks it: what stands in the bytes, and what a search meets.
-use Rattle.std.specs.Prelude.{◌≡◌, ◌≤◌, ◌<◌, ℕ, ◌+◌, ◌*◌, List, [], length, true}
+use Rattle.std.specs.Prelude.{◌≡◌, ◌≤◌, ◌<◌, ℕ, suc, ◌+◌, ◌*◌, List, [], length, true}
 use Rattle.cdf_model.specs.Limits.{record_number_limit}
 use Rattle.cdf_format.specs.Sound.{NodeFits}
 use Rattle.cdf_format.specs.Fields.{size_at, word}
@@ -10,7 +10,7 @@ use Rattle.cdf_format.specs.IndexWalk.{levels_on, nodes_met}
 use Rattle.cdf_format.specs.Shape.{Each}
 use Rattle.cdf_format.specs.Tiles.{AreTiles, tiles}
 use Rattle.cdf_format.specs.Records.{vxr_first, vxr_bytes}
-use Rattle.cdf_index.specs.Order.{InOrder, NextsAreZero, find_in}
+use Rattle.cdf_index.specs.Order.{InOrder, find_in, nodes_passed}
 
 -- the index that a link leads to
 abbrev pub index_at : List ℕ → ℕ → Nodes
@@ -70,15 +70,14 @@ pub record NodeInside (b : List ℕ) (at : ℕ) : Type 0 where
   pub entries : vxr_bytes (room_at b at) ≤ size_at b at
   pub fits : used_count b at ≤ room_at b at
 
--- from a link on the search goes on as from these nodes, over fewer nodes
+-- from a link on the search goes on as from these nodes, with one node less to pass
 pub record Onward (b : List ℕ) (rec levels : ℕ) (nodes : Nodes) (link : ℕ) : Type 0 where
   pub down : ℕ
   pub left : Nodes
   pub stands : Stands b down left
   pub link_is : link ≡ link_to left
   pub same : find_in rec left ≡ find_in rec nodes
-  pub fewer : length (nodes_of left) < length (nodes_of nodes)
-  pub zero : NextsAreZero nodes → NextsAreZero left × (down < levels)
+  pub one : suc (nodes_passed rec left) ≡ nodes_passed rec nodes
 
 -- after so many turns the search is at a link
 pub record At (b : List ℕ) (rec turn : ℕ) (nodes : Nodes) (link : ℕ) : Type 0 where
@@ -87,5 +86,4 @@ pub record At (b : List ℕ) (rec turn : ℕ) (nodes : Nodes) (link : ℕ) : Typ
   pub stands : Stands b levels left
   pub link_is : link ≡ link_to left
   pub same : find_in rec left ≡ find_in rec nodes
-  pub fewer : length (nodes_of left) + turn ≤ length (nodes_of nodes)
-  pub zero : NextsAreZero nodes → NextsAreZero left × (levels + turn ≤ 8)
+  pub passed : nodes_passed rec left + turn ≡ nodes_passed rec nodes

@@ -36,6 +36,17 @@ unfoldable mutual
   find_entry rec (block first last place packed entries) other = if nat_lt last rec then find_entry rec entries other else (if nat_lt rec first then None else Some (leaf first last place packed))
   find_entry rec (lower first last nodes entries) other = if nat_lt last rec then find_entry rec entries other else (if nat_lt rec first then None else find_in rec nodes)
 
+unfoldable mutual
+  -- how many nodes are passed on that way: on each level those of the chain up to the one that has the entry which decides
+  pub nodes_passed : ℕ → Nodes → ℕ
+  nodes_passed rec no_node = 0
+  nodes_passed rec (node place room entries more) = suc (passed_from rec entries (nodes_passed rec more))
+
+  pub passed_from : ℕ → Entries → ℕ → ℕ
+  passed_from rec no_entry other = other
+  passed_from rec (block first last place packed entries) other = if nat_lt last rec then passed_from rec entries other else 0
+  passed_from rec (lower first last nodes entries) other = if nat_lt last rec then passed_from rec entries other else (if nat_lt rec first then 0 else nodes_passed rec nodes)
+
 -- how many of the first entries end before a record
 abbrev pub passed : ℕ → Entries → ℕ
 passed rec no_entry = 0

@@ -4,9 +4,9 @@ ghost use Rattle.std.specs.Prelude.{◌≡◌, ◌+◌, ◌≤◌, ℕ, length, 
 ghost use Rattle.std.specs.Option.{option_map};
 ghost use Rattle.cdf_area.specs.Calls.{Reads};
 ghost use Rattle.cdf_model.specs.Limits.{image_limit};
-ghost use Rattle.cdf_format.specs.Index.{Nodes, nodes_of, leaves_of, link_to};
+ghost use Rattle.cdf_format.specs.Index.{Nodes, leaves_of, link_to};
 ghost use Rattle.cdf_format.specs.IndexOf.{IsNode};
-ghost use Rattle.cdf_index.specs.Order.{leaf_of, NextsAreZero};
+ghost use Rattle.cdf_index.specs.Order.{leaf_of, nodes_passed, NextsAreZero};
 ghost use Rattle.cdf_index.specs.Finding.{index_at, HasIndex, NodeInside, SomeNode, Stands};
 ghost use Rattle.cdf_index.specs.Sight.{IsHead, SightIs, seen};
 
@@ -57,7 +57,7 @@ fn look<A: Area>(area: &mut A, at: u64, head: &Head, rec: u32) -> Result<Sight, 
     Ok(Sight::Found { leaf })
 }
 
-/// The leaf that has a record, in the index that a link leads to. A node takes a step.
+/// The leaf that has a record, in the index that a link leads to. Each node that is passed takes a step.
 pub fn find<A: Area, L: Ledger>(
     area: &mut A,
     head: u64,
@@ -67,7 +67,7 @@ pub fn find<A: Area, L: Ledger>(
     requires index { HasIndex (A.image area.old) head }
     requires short { length (A.image area.old) ≤ image_limit }
     ensures value { IfOk result (λ found. option_map seen found ≡ leaf_of rec (leaves_of (index_at (A.image area.old) head))) }
-    ensures steps { steps.new ≤ steps.old + length (nodes_of (index_at (A.image area.old) head)) }
+    ensures steps { steps.new ≤ steps.old + nodes_passed rec (index_at (A.image area.old) head) }
     ensures levels { NextsAreZero (index_at (A.image area.old) head) → steps.new ≤ steps.old + 8 }
     ensures area { Reads A.image A.frame A.faults A.edited area.old area.new result }
 {

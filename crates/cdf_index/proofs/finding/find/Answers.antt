@@ -1,6 +1,6 @@
 use Rattle.std.proofs.Common.{rules, arith, ◌∙◌, Some, None}
 use Rattle.cdf_index.proofs.Common.{read_more, seen}
-use Rattle.cdf_index.proofs.Searching.{at_start, some_node, cost, cost_zero, goes_on, answer, none_left, over, inside_now, node_now, told_now, onward_now}
+use Rattle.cdf_index.proofs.Searching.{at_start, some_node, cost, cost_zero, goes_on, answer, none_left, turns_zero, over, inside_now, node_now, told_now, onward_now}
 use Rattle.cdf_index.proofs.finding.find.Goals as goal
 
 pub returns-then-at-eq0-clause-value : goal.returns-then-at-eq0-clause-value
@@ -70,3 +70,9 @@ loop-turn-preserved g c =
 
 pub returns-clause-value : goal.returns-clause-value
 returns-clause-value g c = absurd (over c.requires.index c.loop-turn.invariant.at (omega (arith, c.size-turn-end.ensures, c.loop-turn-test.false)))
+
+pub returns-then-at-eq0-clause-levels : goal.returns-then-at-eq0-clause-levels
+returns-then-at-eq0-clause-levels g c = λ z. omega (arith, turns_zero c.requires.index c.loop-turn.invariant.at z, c.loop-turn.invariant.steps)
+
+pub returns-clause-levels : goal.returns-clause-levels
+returns-clause-levels g c = λ z. omega (arith, turns_zero c.requires.index c.loop-turn.invariant.at z, c.loop-turn.invariant.steps)
