@@ -9,8 +9,10 @@ ghost use Rattle.cdf_index.specs.Finding.{NodeInside};
 ghost use Rattle.cdf_index.specs.Writing.{EntrySet, Inserted, Widened};
 
 use cdf_area::{Area, AreaError};
-use cdf_format::fields::{VXR_FIRST, VXR_N_USED_ENTRIES};
-use cdf_records::{read_unsigned4, read_unsigned8, set_unsigned4, set_unsigned8};
+use cdf_format::fields::VXR_FIRST;
+use cdf_records::{
+    read_unsigned4, read_unsigned8, set_unsigned4, set_unsigned8, set_vxr_n_used_entries,
+};
 
 /// What an entry of a node says: the records from a first to a last, and the place of a block or of a lower node.
 #[derive(Clone, Copy)]
@@ -86,7 +88,7 @@ pub fn insert_entry<A: Area>(
         set_entry(area, at, room, i, before)?;
     }
     set_entry(area, at, room, p, entry)?;
-    set_unsigned4(area, at, VXR_N_USED_ENTRIES, (used + 1) as u32)
+    set_vxr_n_used_entries(area, at, (used + 1) as i32)
 }
 
 /// Lets the entry with number `i` of a node end at a record, if it ends before it.

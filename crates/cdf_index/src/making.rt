@@ -7,8 +7,8 @@ ghost use Rattle.cdf_index.specs.Writing.{HasRoomFor, HeadWritten, NodeWritten, 
 
 use crate::entries::{Entry, UNUSED, set_entry};
 use cdf_area::{Area, AreaError};
-use cdf_format::fields::{RECORD_TYPE, VXR_N_ENTRIES, VXR_N_USED_ENTRIES, VXR_TYPE, VXR_VXR_NEXT};
-use cdf_records::{set_unsigned4, set_unsigned8};
+use cdf_format::fields::{VXR_N_ENTRIES, VXR_TYPE};
+use cdf_records::{set_record_type, set_unsigned4, set_vxr_n_used_entries, set_vxr_vxr_next};
 
 /// The entry with number `i` of a node that has these, -1 throughout behind them.
 fn entry_of(entries: &[Entry], i: u64) -> Entry
@@ -34,10 +34,10 @@ fn write_head<A: Area>(
     ensures written { OnOk result (HeadWritten (A.image area.old) (A.image area.new) at room used next) }
     ensures area { Edits A.frame A.faults area.old area.new result }
 {
-    set_unsigned4(area, at, RECORD_TYPE, VXR_TYPE)?;
-    set_unsigned8(area, at, VXR_VXR_NEXT, next)?;
+    set_record_type(area, at, VXR_TYPE as i32)?;
+    set_vxr_vxr_next(area, at, next)?;
     set_unsigned4(area, at, VXR_N_ENTRIES, room as u32)?;
-    set_unsigned4(area, at, VXR_N_USED_ENTRIES, used as u32)
+    set_vxr_n_used_entries(area, at, used as i32)
 }
 
 /// Makes a node of a record that has room for just so many entries: its fields, these entries, and -1 throughout in the others.

@@ -9,8 +9,7 @@ ghost use Rattle.cdf_index.specs.Writing.{Cleared, EntriesRead, Shortened};
 
 use crate::entries::{Entry, UNUSED, read_entry, set_entry};
 use cdf_area::{Area, AreaError};
-use cdf_format::fields::{VXR_N_USED_ENTRIES, VXR_VXR_NEXT};
-use cdf_records::{set_unsigned4, set_unsigned8};
+use cdf_records::{set_vxr_n_used_entries, set_vxr_vxr_next};
 use std::alloc::Global;
 
 /// The entries of a node from one number to another.
@@ -80,6 +79,6 @@ pub fn shorten_node<A: Area>(
 {
     clear_entries(area, at, room, p + 1, used)?;
     set_entry(area, at, room, p, entry)?;
-    set_unsigned4(area, at, VXR_N_USED_ENTRIES, (p + 1) as u32)?;
-    set_unsigned8(area, at, VXR_VXR_NEXT, next)
+    set_vxr_n_used_entries(area, at, (p + 1) as i32)?;
+    set_vxr_vxr_next(area, at, next)
 }

@@ -1,16 +1,10 @@
-//! Each record that no run reads is read once, and an index entry is read and written, in bytes that are written out.
+//! Each record that no run reads is read once, in bytes that are written out.
 
-ghost use Rattle.std.specs.Prelude.{◌≡◌, ◌+◌, ◌<◌, ◌≤◌, length, IfOk};
-ghost use Rattle.cdf_records.specs.Heads.{vxr_at};
+ghost use Rattle.std.specs.Prelude.{◌≡◌, ◌+◌, ◌≤◌, length, IfOk};
 
-use cdf_area::{Area, AreaError, MemArea};
-use cdf_records::{
-    Steps, Vxr, VxrEntry, read_adr, read_cpr, read_cvvr, read_vdr_z_num_dims, read_vxr,
-    set_vxr_entry, vxr_entry,
-};
+use cdf_area::{Area, MemArea};
+use cdf_records::{read_adr, read_cpr, read_cvvr, read_vdr_z_num_dims};
 use std::alloc::{AllocError, Global};
-use std::marker::Brand;
-use std::sync::ledger::{Blank, Ledger};
 use std::test::Fail;
 
 /// Where the record stands.
@@ -24,28 +18,6 @@ fn area_of(alloc: Global, written: &[u8]) -> Result<MemArea, AllocError>
     let mut bytes = vec![in alloc; 0xee; 5]?;
     bytes.extend_from_slice(written)?;
     Ok(MemArea::new(alloc, bytes, 1024))
-}
-
-/// The head of an index node, counted from a blank.
-fn read_node<A: Area, L: Ledger>(area: &mut A, at: u64, blank: Blank) -> Result<Vxr, AreaError>
-    requires name { blank.name ≡ L.name }
-    requires parts { blank.parts ≡ L.parts }
-    requires some { 0 < L.parts }
-    requires room { at + 28 ≤ length (A.image area.old) }
-    ensures value { IfOk result (λ node. node ≡ vxr_at (A.image area.old) at) }
-    ensures image { A.image area.new ≡ A.image area.old }
-{
-    let mut steps = Steps::<L>::new(blank);
-    read_vxr(area, at, &mut steps)
-}
-
-/// The head of an index node, for a caller that counts nothing.
-fn read_uncounted<A: Area>(area: &mut A, at: u64) -> Result<Vxr, AreaError>
-    requires { at + 28 ≤ length (A.image area.old) }
-    ensures value { IfOk result (λ node. node ≡ vxr_at (A.image area.old) at) }
-    ensures image { A.image area.new ≡ A.image area.old }
-{
-    read_node::<A, Brand>(area, at, Blank::new(1))
 }
 
 /// A record in which each word of 4 bytes is its own place.
@@ -69,56 +41,5 @@ fn each_other_record_is_read(rt: HostRuntime) -> Result<(), Fail> {
         read_cvvr(&mut area, START)?.rfu_a,
     ];
     assert_eq!(rt; last, [64, 340, 20, 12]);
-    Ok(())
-}
-
-#[rattlefmt::skip]
-const VXR: [u8; 60] = [
-    0x00, 0x00, 0x00, 0x00, 0x00, 0x00, 0x00, 0x3c, // RecordSize
-    0x00, 0x00, 0x00, 0x06, // RecordType
-    0x01, 0x02, 0x03, 0x04, 0x05, 0x06, 0x07, 0x47, // VXRnext
-    0x00, 0x00, 0x00, 0x02, // Nentries
-    0xff, 0xff, 0xff, 0xb7, // NusedEntries
-    0x00, 0x00, 0x00, 0x01, // First
-    0x00, 0x00, 0x00, 0x05,
-    0x00, 0x00, 0x00, 0x04, // Last
-    0xff, 0xff, 0xff, 0xfe,
-    0x01, 0x02, 0x03, 0x04, 0x05, 0x06, 0x07, 0x08, // Offset
-    0xf1, 0xf2, 0xf3, 0xf4, 0xf5, 0xf6, 0xf7, 0xf8,
-];
-
-#[rattlefmt::skip]
-const VXR_AFTER: [u8; 60] = [
-    0x00, 0x00, 0x00, 0x00, 0x00, 0x00, 0x00, 0x3c, // RecordSize
-    0x00, 0x00, 0x00, 0x06, // RecordType
-    0x01, 0x02, 0x03, 0x04, 0x05, 0x06, 0x07, 0x47, // VXRnext
-    0x00, 0x00, 0x00, 0x02, // Nentries
-    0xff, 0xff, 0xff, 0xb7, // NusedEntries
-    0x00, 0x00, 0x00, 0x01, // First
-    0xff, 0xff, 0xff, 0xfd,
-    0x00, 0x00, 0x00, 0x04, // Last
-    0x07, 0x08, 0x09, 0x0a,
-    0x01, 0x02, 0x03, 0x04, 0x05, 0x06, 0x07, 0x08, // Offset
-    0xc1, 0xc2, 0xc3, 0xc4, 0xc5, 0xc6, 0xc7, 0xc8,
-];
-
-#[test]
-fn an_index_entry_is_read_and_written(rt: HostRuntime) -> Result<(), Fail> {
-    let mut area = area_of(rt.alloc(), &VXR)?;
-    let node = read_uncounted(&mut area, START)?;
-    assert!(rt; node.n_entries == 2);
-    let want = VxrEntry {
-        first: 5,
-        last: -2,
-        offset: 0xf1f2_f3f4_f5f6_f7f8,
-    };
-    assert_eq!(rt; vxr_entry(&mut area, START, &node, 1)?, want);
-    let to = VxrEntry {
-        first: -3,
-        last: 0x0708_090a,
-        offset: 0xc1c2_c3c4_c5c6_c7c8,
-    };
-    set_vxr_entry(&mut area, START, &node, 1, to)?;
-    assert!(rt; area.into_bytes().ends_with(&VXR_AFTER));
     Ok(())
 }

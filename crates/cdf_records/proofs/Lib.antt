@@ -1,4 +1,2 @@
 pub mod Places
 pub mod NameLengths
-pub mod Errors
-pub mod EntryWrites

@@ -6,7 +6,6 @@ mod aedr;
 mod cdr;
 mod cpr;
 mod cvvr;
-mod entry;
 mod field;
 mod gdr;
 pub mod laws;
@@ -32,7 +31,6 @@ pub use cdf_fields::{
 pub use cdr::{Cdr, read_cdr};
 pub use cpr::{Cpr, read_cpr};
 pub use cvvr::{Cvvr, read_cvvr};
-pub use entry::{VxrEntry, set_vxr_entry, vxr_entry};
 pub use gdr::{Gdr, read_gdr};
 pub use name::read_name;
 pub use numbers::{read_nums, read_signed4, read_unsigned4, read_unsigned8};

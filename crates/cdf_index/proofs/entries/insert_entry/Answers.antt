@@ -1,4 +1,6 @@
-use Rattle.std.proofs.Common.{◌≡◌, ◌-◌, ◌<◌, ℕ, List, subst, ap, sym, refl, ◌∙◌, arith}
+use Rattle.std.proofs.Common.{◌≡◌, ◌-◌, ◌<◌, ℕ, List, subst, ap, sym, refl, ◌∙◌, arith, ◌+◌, add-one}
+use Rattle.std.proofs.lemmas.Int.{of_z-to_z}
+use Rattle.std.specs.Int.{w32}
 use Rattle.cdf_index.proofs.Common.{on_ok_weaker, edit_more, with_field, vxr_n_used_entries, NodeInside, EntrySet}
 use Rattle.cdf_area.proofs.Calls.{edits_by_read}
 use Rattle.cdf_index.proofs.Inserting.{Shifted, shift_start, inside_stays, shift_more, inserted}
@@ -37,5 +39,5 @@ returns-clause-inserted g c =
     let room = c.requires.inside.room in
     let end : c.loop-moved.moved ≡ c.args.used - c.args.p = let far = i.far in let t = c.loop-moved-test.false in omega arith in
     let sh : Shifted b mid c.args.at c.args.used (c.args.used - c.args.p) = subst (λ (k : ℕ). Shifted b mid c.args.at c.args.used k) end i.shifted in
-    on_ok_weaker _ (λ w. inserted b mid (g.A.Area.image c.set_entry-2.new.area) (g.A.Area.image c.set_unsigned4.new.area) c.args.at c.args.used c.args.p c.args.entry.first c.args.entry.last c.args.entry.place
-    sh c.requires.inside c.requires.short (subst (λ (x : ℕ). c.args.used < x) c.requires.room full) c.requires.place c.in_ok-set_entry-2.ensures.set (w ∙ ap (λ (n : ℕ). with_field (g.A.Area.image c.set_entry-2.new.area) c.args.at vxr_n_used_entries n) (omega arith))) c.set_unsigned4.ensures.ok
+    on_ok_weaker _ (λ w. inserted b mid (g.A.Area.image c.set_entry-2.new.area) (g.A.Area.image c.set_vxr_n_used_entries.new.area) c.args.at c.args.used c.args.p c.args.entry.first c.args.entry.last c.args.entry.place
+    sh c.requires.inside c.requires.short (subst (λ (x : ℕ). c.args.used < x) c.requires.room full) c.requires.place c.in_ok-set_entry-2.ensures.set (w ∙ ap (λ (n : ℕ). with_field (g.A.Area.image c.set_entry-2.new.area) c.args.at vxr_n_used_entries n) (of_z-to_z w32 (c.args.used + 1) (omega arith) ∙ add-one c.args.used))) c.set_vxr_n_used_entries.ensures.ok
