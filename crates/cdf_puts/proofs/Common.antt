@@ -94,4 +94,4 @@ pub use Rattle.cdf_puts.specs.Covering.{Covering, block_bytes, new_last, node_by
 pub use Rattle.cdf_puts.specs.Going.{DescriptorStays, GoesOn, found_in}
 pub use Rattle.cdf_puts.specs.Putting.{IsPut, SomePut, last_in_new, records_put}
 pub use Rattle.cdf_puts.specs.SoFar.{BlockRecords, BlocksSoFar, IndexSoFar, IsTaking, MaxRecDone, NewBlock, NodesSoFar, OldBlock, PutStart, PutsBefore, SoFar, put_count, put_from, put_touches, record_of, taken_bytes, was_put}
-pub use Rattle.cdf_puts.specs.Steps.{BlocksGoOn, IsBlockBody, IsVacant, MaxRecRaised, RecordWritten}
+pub use Rattle.cdf_puts.specs.Steps.{BlocksGoOn, IsBlockBody, IsVacant, MaxRecRaised, RecordsWritten}

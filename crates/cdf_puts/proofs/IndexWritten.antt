@@ -1,6 +1,6 @@
 -- A record is written in a block: the record holds its bytes, no other byte changes, and the index stays; of the leaves that were put the one of the record is the last by then.
 use Rattle.std.proofs.Common.{◌≡◌, ◌≢◌, ◌⊎◌, ℕ, suc, ◌+◌, ◌-◌, ◌*◌, ◌<◌, ◌≤◌, List, [], ◌∷◌, ◌++◌, length, take, drop, refl, sym, ap, subst, ◌∙◌, arith, inl, inr}
-use Rattle.cdf_puts.proofs.Common.{cases_eq, cases_lt, same_Some, length-take, take_at, drop_at, extent, record_number_limit, Kind, Outside, range, covers, first_written, Act, IsOneOf, find_covering, covers_within, place_in, record_place, leaves_ascend, leaves_apart, byte, Same, variable_of, size_at, Leaf, leaves_of, VariableShape, max_rec_at, record_bytes, byte-put_before, byte-put_after, SoFar, BlocksSoFar, OldBlock, NewBlock, record_of, put_count, put_from, put_touches, RecordWritten, filter, places_of, fits, tile, long, no_block, Kept, Each-in, number, nodes_of, vdr_vxr_tail, NodeFits, In, word_kept, size_kept, either, IndexSoFar, NodesSoFar, PutsBefore, was_put}
+use Rattle.cdf_puts.proofs.Common.{cases_eq, cases_lt, same_Some, length-take, take_at, drop_at, extent, record_number_limit, Kind, Outside, range, covers, first_written, Act, IsOneOf, find_covering, covers_within, place_in, record_place, leaves_ascend, leaves_apart, byte, Same, variable_of, size_at, Leaf, leaves_of, VariableShape, max_rec_at, record_bytes, byte-put_before, byte-put_after, SoFar, BlocksSoFar, OldBlock, NewBlock, record_of, put_count, put_from, put_touches, RecordsWritten, filter, places_of, fits, tile, long, no_block, Kept, Each-in, number, nodes_of, vdr_vxr_tail, NodeFits, In, word_kept, size_kept, either, IndexSoFar, NodesSoFar, PutsBefore, was_put}
 use Rattle.cdf_base.specs.Bytes.{put}
 use Rattle.cdf_edits.proofs.Edits.LeafPieces.{found_in, one_place, find_first}
 use Rattle.cdf_puts.proofs.PutBytes.{starts_before, ends_behind, grows_by, BlockWritten, old_written, size_now, now_plain, old_plain, inside_now, inside_old, old_goes_on, new_goes_on}
@@ -40,7 +40,7 @@ outside_there first k size (x ∷ more) l place (inl q) from f t o =
     let here : (place < l.place + put_from first size l) ⊎ (l.place + put_from first size l + put_count first (k + 1) l * size ≤ place) = subst (λ (y : Leaf). (place < y.place + put_from first size y) ⊎ (y.place + put_from first size y + put_count first (k + 1) y * size ≤ place)) q o.0 in
     elim here [ inl lt ↦ (let s = starts_before first k l.first size f from in inl (omega arith)) | inr le ↦ (let e = ends_behind first k l.first l.last size f t from in inr (omega arith)) ]
 
-module _ {b now now' : List ℕ} {kind : Kind} {before : List VariableShape} {own own' : VariableShape} {after : List VariableShape} {raw pad : List ℕ} {r k : ℕ} {acts : List Act} {l : Leaf} (so : SoFar b now kind before own own' after raw pad r k acts) (more : k ≤ r) (w : RecordWritten now now' own' l k (record_of raw pad r k)) where
+module _ {b now now' : List ℕ} {kind : Kind} {before : List VariableShape} {own own' : VariableShape} {after : List VariableShape} {raw pad : List ℕ} {r k : ℕ} {acts : List Act} {l : Leaf} (so : SoFar b now kind before own own' after raw pad r k acts) (more : k ≤ r) (w : RecordsWritten now now' own' l k (record_of raw pad r k)) (as_long : length (record_of raw pad r k) ≡ record_bytes b own.vdr) where
   abbrev bytes : List ℕ
   bytes = record_of raw pad r k
 
@@ -69,9 +69,6 @@ module _ {b now now' : List ℕ} {kind : Kind} {before : List VariableShape} {ow
   longer = let e = long_now so.goes.good so.goes.among w in omega arith
 
   -- ---- what is put
-
-  as_long : length bytes ≡ size
-  as_long = w.as_long ∙ size_now so
 
   written : now' ≡ put now (record_place l size k) bytes
   written = w.written ∙ ap (λ (n : ℕ). put now (record_place l n k) bytes) (size_now so)

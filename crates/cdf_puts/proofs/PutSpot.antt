@@ -1,6 +1,6 @@
 -- Where the next record is put: the records of a new block, each step by which records are put, and what an image says of a variable of which some records are put.
 use Rattle.std.proofs.Common.{◌≡◌, ℕ, zero, suc, ◌+◌, ◌-◌, ◌*◌, ◌<◌, ◌≤◌, List, ◌++◌, append_assoc, append-nil, length, take, drop, max, sym, ap, subst, ◌∙◌, arith, inl, inr, [], ◌∷◌, false, refl, Result, Ok, Err, min, Some, None, ltb}
-use Rattle.cdf_puts.proofs.Common.{length-append, take_at, drop_at, drop-drop, ◌==◌, IsBody, uir_type, vvr_type, is_record_type, fixed_size, either, records_put, BlockRecords, record_of, IsBlockBody, ne_eqb, min, max, if◌then◌else◌, image_limit, Kind, vxr_bytes, firsts_of, new_range, first_written, is_sparse, with_leaf, new_room, Act, variable_of, number, with_sign, Nodes, leaf, vdr_max_rec, VariableShape, Each, shape, record_bytes, max_rec_at, LeafAdded, leaf_acts, own_rules, has, fits, Covering, block_bytes, node_bytes, GoesOn, PutStart, SoFar, IsTaking, taken_bytes, RecordWritten, IsVacant, index_order, Frame, edit_done, edit_failed, edit_more, lt-ltb, le-ltb, find, shapes_of, widest, range, covers, next_first, block_count, record_length, times_le, StandsAmong, long, tile, leaves_of, vdr_vxr_head, is_compressed, variables, vdrs, IsSound, In, sparse_at, Good, good_by_its_shape, good_is_sound, tile_lies, NodeTaken, HasIndex, index_at, leaf_of, Variable, extent, record_number_limit, R, Z, new_last, IsPut, SomePut, last_in_new}
+use Rattle.cdf_puts.proofs.Common.{length-append, take_at, drop_at, drop-drop, ◌==◌, IsBody, uir_type, vvr_type, is_record_type, fixed_size, either, records_put, BlockRecords, record_of, IsBlockBody, ne_eqb, min, max, if◌then◌else◌, image_limit, Kind, vxr_bytes, firsts_of, new_range, first_written, is_sparse, with_leaf, new_room, Act, variable_of, number, with_sign, Nodes, leaf, vdr_max_rec, VariableShape, Each, shape, record_bytes, max_rec_at, LeafAdded, leaf_acts, own_rules, has, fits, Covering, block_bytes, node_bytes, GoesOn, PutStart, SoFar, IsTaking, taken_bytes, RecordsWritten, IsVacant, index_order, Frame, edit_done, edit_failed, edit_more, lt-ltb, le-ltb, find, shapes_of, widest, range, covers, next_first, block_count, record_length, times_le, StandsAmong, long, tile, leaves_of, vdr_vxr_head, is_compressed, variables, vdrs, IsSound, In, sparse_at, Good, good_by_its_shape, good_is_sound, tile_lies, NodeTaken, HasIndex, index_at, leaf_of, Variable, extent, record_number_limit, R, Z, new_last, IsPut, SomePut, last_in_new}
 use Rattle.cdf_puts.proofs.LeafGood.{plain_body, leaf_goes_on, leaf_max_rec, size_needed}
 use Rattle.cdf_puts.proofs.CoveringRanges.{covering_starts, covering_has, covering_leaf, covering_room, covering_vacant, full_or_next, one_alone, one_at_least}
 use Rattle.cdf_puts.proofs.GoesThen.{later_size, later_packed, goes_nowhere, goes_then}
@@ -15,6 +15,7 @@ use Rattle.cdf_puts.proofs.WrittenGoes.{written_goes, long_now, max_rec_kept}
 use Rattle.cdf_area.specs.declared.area.AreaError.{AreaError}
 use Rattle.cdf_area.specs.Calls.{Edits, Keeps}
 use Rattle.std.proofs.Math.Nat.{div-le_self}
+use Rattle.std.proofs.Math.Path.{transport}
 use Rattle.std.proofs.lemmas.Bool.{ltb-false, ltb-true}
 use Rattle.cdf_base.specs.Bytes.{put as put_at}
 use Rattle.cdf_edits.proofs.Edits.StandsAmong.{in_middle}
@@ -143,8 +144,8 @@ module _ {b : List ℕ} {kind : Kind} {before : List VariableShape} {own : Varia
     from_now : first_written (variable_of now own') r ≤ k
     from_now = let same = first_goes so.start.good so.start.among so.goes max_rec_same in subst (λ (n : ℕ). n ≤ k) (sym same) so.from
 
-    pub so_far_written : {now' : List ℕ} {l : TreeLeaf} → RecordWritten now now' own' l k (record_of raw pad r k) → SoFar b now' kind before own own' after raw pad r (k + 1) acts
-    so_far_written {now' = now'} {l = l} w =
+    pub so_far_written : {now' : List ℕ} {l : TreeLeaf} → RecordsWritten now now' own' l k (record_of raw pad r k) → length (record_of raw pad r k) ≡ record_bytes b own.vdr → SoFar b now' kind before own own' after raw pad r (k + 1) acts
+    so_far_written {now' = now'} {l = l} w as_long =
         let good = so.goes.good in
         let at = so.goes.among in
         let small = so.start.small in
@@ -164,8 +165,8 @@ module _ {b : List ℕ} {kind : Kind} {before : List VariableShape} {own : Varia
           takes = so.takes;
           short = omega arith;
           max_rec_is = subst (λ (v : ℕ). number now' v vdr_max_rec ≡ number now v vdr_max_rec) so.goes.vdr_is (max_rec_kept good at w) ∙ so.max_rec_is;
-          index = index_written so more w;
-          blocks = blocks_written so more w;
+          index = index_written so more w as_long;
+          blocks = blocks_written so more w as_long;
         }
 
     pub so_far_added : {now' : List ℕ} {last place at : ℕ} {body records : List ℕ} → last ≡ (new_range (variable_of b own) (firsts_of own'.index) k).last → IsVacant own' k last → IsBlockBody body records → BlockRecords raw pad r k last (record_bytes b own.vdr) records
@@ -297,9 +298,6 @@ module _ {b now : List ℕ} {kind : Kind} {before : List VariableShape} {own : V
   size_now : record_bytes now own'.vdr ≡ size
   size_now = later_size so.start.good so.start.among so.goes
 
-  loose_now : is_compressed now own'.vdr ≡ false
-  loose_now = later_packed so.start.good so.start.among so.goes ∙ so.start.loose
-
   pub lies : new.vdr + 340 ≤ length now
   lies =
       let wide = long good so.goes.among in
@@ -366,11 +364,10 @@ module _ {b now : List ℕ} {kind : Kind} {before : List VariableShape} {own : V
             own' = own';
             acts = is.acts;
             so = so_far_written so more (record {
-              loose = loose_now;
               found = here;
-              as_long = record_long new.raw.items new.pad.items new.rec size p.start.raw_long p.pad_long k ∙ sym size_now;
+              within = let s = sym sized in let e = bytes_are in transport (λ i. (k - l.first) * s i + length (e i) ≤ (l.last + 1 - l.first) * s i) held_within;
               written = w ∙ (let s = sym sized in let e = bytes_are in λ i. put_at now (l.at + (12 + (k - l.first) * s i)) (e i));
-            });
+            }) (record_long new.raw.items new.pad.items new.rec size p.start.raw_long p.pad_long k);
           }
 
     -- ---- no block has it

@@ -1,6 +1,6 @@
--- A record is written in its block: one image goes on to another, and no byte changes but those of the record.
+-- Records are written in their block: one image goes on to another, and no byte changes but those of the records.
 use Rattle.std.proofs.Common.{◌≡◌, ◌≢◌, ◌⊎◌, ℕ, suc, ◌+◌, ◌-◌, ◌*◌, ◌<◌, ◌≤◌, List, [], ◌∷◌, length, Bool, true, ◌||◌, Some, w32, refl, sym, ap, subst, ◌∙◌, arith, inl, inr}
-use Rattle.cdf_puts.proofs.Common.{Outside-append, lt-ltb, cast_signed, ◌==◌, nat_lt, find, Kind, Variable, image_limit, record_number_limit, Same, byte, variable_of, number, size_at, type_at, Leaf, nodes_of, leaves_of, vdr_max_rec, gdr_r_max_rec, gdr_type, vvr_type, VariableShape, Shape, HasShape, shape, In, record_bytes, is_max_rec, Good, word_kept, byte-put_before, byte-put_after, tile_lies, r_max_rec, max_rec_touches, is_rewritten, Touch, Changed, range, covers, shared, first_written, places_of, IsOneOf, covers_within, place_in, find_place, times_le, PlainLeaf, own_rules, plain_leaf, leaves_apart, WritesRecords, file, good_now, gdr_in, gdr_typed, gdr_long, block_behind, StandsAmong, sound, tile, long, no_block, behind_in, changed_part, Kept, apart, GoesOn, RecordWritten}
+use Rattle.cdf_puts.proofs.Common.{Outside-append, lt-ltb, cast_signed, ◌==◌, nat_lt, find, Kind, Variable, image_limit, record_number_limit, Same, byte, variable_of, number, size_at, type_at, Leaf, nodes_of, leaves_of, vdr_max_rec, gdr_r_max_rec, gdr_type, vvr_type, VariableShape, Shape, HasShape, shape, In, record_bytes, is_max_rec, Good, word_kept, byte-put_before, byte-put_after, tile_lies, r_max_rec, max_rec_touches, is_rewritten, Touch, Changed, range, covers, shared, first_written, places_of, IsOneOf, covers_within, place_in, find_place, times_le, PlainLeaf, own_rules, plain_leaf, leaves_apart, WritesRecords, file, good_now, gdr_in, gdr_typed, gdr_long, block_behind, StandsAmong, sound, tile, long, no_block, behind_in, changed_part, Kept, apart, GoesOn, RecordsWritten}
 use Rattle.cdf_base.specs.Bytes.{put}
 use Rattle.cdf_format.specs.Fields.{gdr_offset, integer4}
 use Rattle.cdf_format.proofs.BytesLemmas.{length-put}
@@ -8,6 +8,7 @@ use Rattle.cdf_edits.specs.Frame.Changed.{touch}
 use Rattle.cdf_edits.proofs.Edits.LeafPieces.{found_in}
 use Rattle.cdf_edits.proofs.Edits.RecordsWritten.{node_kept, block_kept}
 use Rattle.cdf_puts.proofs.GoesThen.{going, passes_written}
+use Rattle.cdf_puts.proofs.PutRules.{loose}
 
 -- a record of a range of which some are written
 rewritten_by : (first r k f t : ℕ) (x : Bool) → first ≤ k → k ≤ r → f ≤ k → k ≤ t → (nat_lt 0 (shared first r (range f t)) || x) ≡ true
@@ -16,7 +17,7 @@ rewritten_by first r k f t x a c d e = rw (lt-ltb 0 (shared first r (range f t))
 pub record_fits : (k f t size : ℕ) → f ≤ k → k ≤ t → 12 + (k - f) * size + size ≤ 12 + (t + 1 - f) * size
 record_fits k f t size a c = let p = times_le (suc (k - f)) (t + 1 - f) size (omega arith) in omega arith
 
-module _ {b now : List ℕ} {kind : Kind} {before : List VariableShape} {own : VariableShape} {after : List VariableShape} {l : Leaf} {k : ℕ} {raw : List ℕ} (good : Good b) (at : StandsAmong b kind before own after) (w : RecordWritten b now own l k raw) where
+module _ {b now : List ℕ} {kind : Kind} {before : List VariableShape} {own : VariableShape} {after : List VariableShape} {l : Leaf} {k : ℕ} {raw : List ℕ} (good : Good b) (at : StandsAmong b kind before own after) (w : RecordsWritten b now own l k raw) where
   abbrev s : Shape
   s = shape b
 
@@ -36,7 +37,7 @@ module _ {b now : List ℕ} {kind : Kind} {before : List VariableShape} {own : V
   offset = 12 + (k - l.first) * size
 
   abbrev ts : List Touch
-  ts = touch l.place offset size ∷ []
+  ts = touch l.place offset (length raw) ∷ []
 
   h : HasShape b s
   h = (sound good at).has_shape
@@ -48,22 +49,19 @@ module _ {b now : List ℕ} {kind : Kind} {before : List VariableShape} {own : V
   has_it = covers_within k l (found_in (λ (leaf : Leaf). covers k (range leaf.first leaf.last)) leaves l w.found).1
 
   plain : (l : Leaf) → IsOneOf leaves l → PlainLeaf b size l
-  plain = plain_leaf good at w.loose
+  plain = plain_leaf good at (loose good at)
 
   block : In l.place s.records
   block = behind_in good at l.place (block_behind own l.place (place_in leaves l is_leaf))
 
-  fits_in : offset + size ≤ size_at b l.place
-  fits_in = let fit = record_fits k l.first l.last size has_it.0 has_it.1 in let room = (plain l is_leaf).room in omega arith
+  fits_in : offset + length raw ≤ size_at b l.place
+  fits_in = let within = w.within in let room = (plain l is_leaf).room in omega arith
 
-  inside : l.place + offset + size ≤ length b
+  inside : l.place + offset + length raw ≤ length b
   inside = let fit = fits_in in let high = (tile_lies b 8 (length b) s.records l.place h.tiled block).high in omega arith
 
-  small_edge : l.place + offset + length raw ≤ length b
-  small_edge = subst (λ (n : ℕ). l.place + offset + n ≤ length b) (sym w.as_long) inside
-
   pub long_now : length now ≡ length b
-  long_now = ap length w.written ∙ length-put b (l.place + offset) raw small_edge
+  long_now = ap length w.written ∙ length-put b (l.place + offset) raw inside
 
   changed_here : Changed b now ts
   changed_here = record {
@@ -74,9 +72,9 @@ module _ {b now : List ℕ} {kind : Kind} {before : List VariableShape} {own : V
       low : l.place + offset ≤ length b
       low = let e = inside in omega arith
 
-      beside : (place : ℕ) → (place < l.place + offset) ⊎ (l.place + offset + size ≤ place) → byte (put b (l.place + offset) raw) place ≡ byte b place
+      beside : (place : ℕ) → (place < l.place + offset) ⊎ (l.place + offset + length raw ≤ place) → byte (put b (l.place + offset) raw) place ≡ byte b place
       beside place (inl lt) = byte-put_before b (l.place + offset) raw place low lt
-      beside place (inr le) = byte-put_after b (l.place + offset) raw place low (subst (λ (n : ℕ). l.place + offset + n ≤ place) (sym w.as_long) le)
+      beside place (inr le) = byte-put_after b (l.place + offset) raw place low le
 
   -- another record stays
   pub stays : (m lo hi : ℕ) → In m s.records → m ≢ l.place → hi ≤ size_at b m → Same b now (m + lo) (m + hi)
@@ -106,6 +104,9 @@ module _ {b now : List ℕ} {kind : Kind} {before : List VariableShape} {own : V
 
   -- ---- the whole
 
+  pub good_written : length b ≤ image_limit → Good now
+  good_written = good_now good at writes
+
   r_max_rec_stays : r_max_rec now ≡ r_max_rec b
   r_max_rec_stays =
       let g = gdr_in b s h in
@@ -116,7 +117,7 @@ module _ {b now : List ℕ} {kind : Kind} {before : List VariableShape} {own : V
       ap (λ (x : ℕ). integer4 now x gdr_r_max_rec) offset_same ∙ field ∙ sym (ap (λ (x : ℕ). integer4 b x gdr_r_max_rec) h.gdr_is)
 
   pub written_goes : (r : ℕ) → first_written v r ≤ k → k ≤ r → r ≤ record_number_limit → length b ≤ image_limit → GoesOn b now kind before own own after r []
-  written_goes r from upto small short = going (passes_written good at writes (good_now good at writes short) r rewritten) r_max_rec_stays
+  written_goes r from upto small short = going (passes_written good at writes (good_written short) r rewritten) r_max_rec_stays
     where
       rewritten : (m : ℕ) → In m (l.place ∷ []) → (l : Leaf) × ((find (λ (leaf : Leaf). leaf.place == m) leaves ≡ Some l) × (is_rewritten v r (range l.first l.last) ≡ true))
       rewritten m (inl e) = (l, (ap (λ (x : ℕ). find (λ (leaf : Leaf). leaf.place == x) leaves) e ∙ find_place leaves (leaves_apart good at) l is_leaf, rewritten_by (first_written v r) r k l.first l.last _ from upto has_it.0 has_it.1))

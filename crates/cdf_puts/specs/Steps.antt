@@ -1,5 +1,5 @@
 -- The steps by which records are put: a record is written in a block, a leaf is added, and MaxRec is raised (own).
-use Rattle.std.specs.Prelude.{◌≡◌, ◌≤◌, ◌<◌, ℕ, ◌+◌, List, [], ◌∷◌, length, max, take, drop, find, false, Some, None}
+use Rattle.std.specs.Prelude.{◌≡◌, ◌≤◌, ◌<◌, ℕ, ◌+◌, ◌-◌, ◌*◌, List, [], ◌∷◌, length, max, take, drop, find, Some, None}
 use Rattle.cdf_base.specs.Bytes.{put}
 use Rattle.cdf_edits.specs.Commands.Puts.{max_rec_touches}
 use Rattle.cdf_edits.specs.Commands.GreatestRecord.{r_max_rec, greatest_r_max_rec}
@@ -11,18 +11,17 @@ use Rattle.cdf_format.specs.Content.{content}
 use Rattle.cdf_format.specs.Fields.{number, size_at}
 use Rattle.cdf_format.specs.Index.{Leaf, leaves_of}
 use Rattle.cdf_format.specs.Records.{vdr_max_rec, vvr_place, vvr_bytes, linked_size}
-use Rattle.cdf_format.specs.Shape.{VariableShape, Each, is_compressed}
+use Rattle.cdf_format.specs.Shape.{VariableShape, Each}
 use Rattle.cdf_format.specs.VariableFields.{record_bytes}
 use Rattle.cdf_model.specs.declared.kinds.Kind.{Kind}
 use Rattle.cdf_model.specs.declared.kinds.Kind.TheVariants.{R}
 
--- ---- a record is written in its block
+-- ---- records are written in their block
 
--- these bytes are written as record k, which the block of this leaf has, and no other byte changes
-pub record RecordWritten (b now : List ℕ) (own : VariableShape) (l : Leaf) (k : ℕ) (raw : List ℕ) : Type 0 where
-  pub loose : is_compressed b own.vdr ≡ false
+-- these bytes are written from record k on, which the block of this leaf has, among its records, and no other byte changes
+pub record RecordsWritten (b now : List ℕ) (own : VariableShape) (l : Leaf) (k : ℕ) (raw : List ℕ) : Type 0 where
   pub found : find (λ (leaf : Leaf). covers k (range leaf.first leaf.last)) (leaves_of own.index) ≡ Some l
-  pub as_long : length raw ≡ record_bytes b own.vdr
+  pub within : (k - l.first) * record_bytes b own.vdr + length raw ≤ (l.last + 1 - l.first) * record_bytes b own.vdr
   pub written : now ≡ put b (record_place l (record_bytes b own.vdr) k) raw
 
 -- ---- a leaf is added

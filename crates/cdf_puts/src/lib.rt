@@ -1,6 +1,7 @@
 //! Records put into the blocks of a variable, and what becomes of an image on the way: of each step, and of all of them together, as laws.
 #![tactic(auto)]
 
+pub mod laws;
 mod putting;
 
 pub use putting::{NewRecord, find_leaf, find_next, put_records};

@@ -1,6 +1,6 @@
 -- An index made anew leads from one good image to another, with the same content.
 use Rattle.std.proofs.Common.{◌≡◌, ℕ, pos, negsuc, ◌+◌, ◌*◌, ◌≤◌, List, [], ◌∷◌, ◌++◌, length, true, refl, sym, ap, subst, ◌∙◌, arith, inl, inr}
-use Rattle.cdf_reindex.proofs.Common.{word_kept, flat_map, Kind, R, Z, image_limit, record_number_limit, is_in, number, size_at, type_at, eof, leaves_of, nodes_of, room_at, leaf_rows, variable_records, times, gdr_eof, vdr_max_rec, vxr_n_used_entries, gdr_type, vxr_type, uir_type, Hold, VariableShape, Shape, vdrs, HasShape, shape, NodeFits, IsSound, In, Good, linkable-type, good_by_its_shape, good_is_sound, nodes_stand, In-append, times-none, times-once, Hold-split, shapes_of, Edit, freeing_marks, avoided, keeps_file, edit_then, IsOneOf, used_times, fresh_unowned, gdr_field, block_behind, StandsAmong, fits, has, behind_in, long, Each-in, times-append, apart, Counts, IsBare, IsRebuilt, IndexEdit}
+use Rattle.cdf_reindex.proofs.Common.{word_kept, flat_map, Kind, R, Z, image_limit, record_number_limit, is_in, number, size_at, type_at, eof, leaves_of, nodes_of, room_at, leaf_rows, variable_records, times, gdr_eof, vdr_max_rec, vxr_n_used_entries, gdr_type, vxr_type, uir_type, Hold, VariableShape, Shape, vdrs, HasShape, shape, NodeFits, IsSound, In, Good, linkable-type, good_by_its_shape, good_is_sound, nodes_stand, In-append, times-none, times-once, Hold-split, shapes_of, Edit, freeing_marks, avoided, keeps_file, edit_then, IsOneOf, used_times, fresh_unowned, gdr_field, block_behind, StandsAmong, fits, has, behind_in, long, Each-in, times-append, apart, Counts, IsBare, IsRebuilt, Reindexed, IndexEdit, reindex_room}
 use Rattle.cdf_model.specs.Limits.{signed_limit}
 use Rattle.cdf_format.specs.IndexRules.{has_room, nodes_rows, index_rows}
 use Rattle.cdf_format.specs.NotRead.{read_types}
@@ -203,3 +203,8 @@ module _ {b now : List ℕ} {kind : Kind} {before : List VariableShape} {own : V
       as_with : (k : Kind) → shapes_of (with_shapes s kind records' (shape now).unused (before ++ of_own ∷ after)) k ≡ shapes_with s kind (before ++ of_own ∷ after) k
       as_with R = refl
       as_with Z = refl
+
+-- a good image stays good
+pub reindexed_good : {b now : List ℕ} {kind : Kind} {before : List VariableShape} {own : VariableShape} {after : List VariableShape} → Good b → StandsAmong b kind before own after → length b + reindex_room own.index ≤ image_limit → Reindexed b now own → Good now
+reindexed_good good among room (inl same) = subst Good (sym same.1) good
+reindexed_good good among room (inr made) = let longest = made.1.longest in good_now good among made.1 made.1.linked_sound (omega arith)

@@ -6,12 +6,10 @@ use Rattle.cdf_edits.specs.Commands.Reindex.{AreTight, EntriesTight, nodes_at}
 use Rattle.cdf_edits.specs.Commands.Room.{nodes_above}
 use Rattle.cdf_edits.specs.Edits.Writes.{with_writes}
 use Rattle.cdf_format.specs.Index.{nodes_of}
-use Rattle.cdf_index.specs.Order.{InOrder}
-use Rattle.cdf_reindex.proofs.LevelCounts.{fewest, levels_few, levels_up_are}
+use Rattle.cdf_index.specs.Order.{InOrder, NextsAreZero}
 use Rattle.cdf_reindex.proofs.BareNodes.{bare_by}
 use Rattle.cdf_reindex.proofs.FreeingKeeps.{kept_still}
 use Rattle.cdf_reindex.proofs.PyramidBuilt.{leaves_order, NewTree, the_one, built, tree_built, no_tree}
-use Rattle.cdf_reindex.proofs.PyramidIs.{is_pyramid}
 use Rattle.cdf_reindex.proofs.PyramidLaw.{makes_pyramid}
 use Rattle.cdf_reindex.proofs.PyramidLinked.{sound_linked, variables_linked, content_linked, as_long, tail_is, old_free, new_bare, new_in, new_typed, new_fits, new_apart, vdr_stands, vdr_no_gdr, vdr_long}
 use Rattle.cdf_reindex.proofs.WordsOfLevels.{node_words, tree_leaf_words}
@@ -38,9 +36,22 @@ no_order : InOrder 0 record_number_limit no_node
 unfolding InOrder
 no_order = tt
 
+none_behind : NextsAreZero no_node
+unfolding NextsAreZero
+none_behind = tt
+
 none_taken : {b made : List ℕ} → made ≡ b → AllTaken b made (levels_up 7 no_node)
 unfolding nodes_at
 none_taken same = same
+
+-- what is asked of a tree beside
+pub record IsAsked (b made : List ℕ) (v : VariableShape) (index : Nodes) : Type 0 where
+  pub filled : IsPyramid index
+  pub fewest : length (nodes_of index) ≡ nodes_above 8 (length (leaves_of v.index))
+  pub nexts : NextsAreZero index
+  pub order : InOrder 0 record_number_limit v.index → InOrder 0 record_number_limit index
+  pub last : last_node index ≡ link_to index
+  pub taken : AllTaken b made (levels_up 7 index)
 
 -- ---- the image at the end
 
@@ -95,22 +106,22 @@ module _ (b made : List ℕ) (before : List VariableShape) (v : VariableShape) (
   heads_are = two ∙ ap (λ (y : List ℕ). with_field y v.vdr vdr_vxr_tail top) one ∙ ap (λ (n : ℕ). with_field (with_field made v.vdr vdr_vxr_head n) v.vdr vdr_vxr_tail n) x.link_is
 
   -- an index that was made so
-  pub rebuilt : leaves_of index ≡ leaves_of v.index → IsPyramid index → length (nodes_of index) ≡ nodes_above 8 (length (leaves_of v.index)) → (InOrder 0 record_number_limit v.index → InOrder 0 record_number_limit index) → last_node index ≡ link_to index → AllTaken b made (levels_up 7 index) → length made ≤ length b + reindex_room v.index
-      → IsRebuilt b now v
-  rebuilt leaves filled count order last taken longest = record {
+  pub rebuilt : IsAsked b made v index → length made ≤ length b + reindex_room v.index → IsRebuilt b now v
+  rebuilt a longest = record {
     index = index;
-    leaves_stay = leaves;
-    filled = filled;
-    fewest = count;
-    order = order;
+    leaves_stay = x.leaves_are;
+    filled = a.filled;
+    fewest = a.fewest;
+    nexts = a.nexts;
+    order = a.order;
     made = made;
-    taken = taken;
+    taken = a.taken;
     linked = linked;
     heads = heads_are;
     linked_sound = sound_at;
     given = given;
     stands = index_stands;
-    tail = tail_now ∙ x.link_is ∙ sym last;
+    tail = tail_now ∙ x.link_is ∙ sym a.last;
     bare = bare_now;
     fits = nodes_fit;
     counts = Each-map (IsBare now) (Counts now) counted (nodes_of index) bare_now;
@@ -122,15 +133,10 @@ module _ (b made : List ℕ) (before : List VariableShape) (v : VariableShape) (
 -- ---- by what code did
 
 module _ (b made : List ℕ) (sound : IsSound b (shape b)) (before : List VariableShape) (v : VariableShape) (after : List VariableShape) (was : variables (shape b) ≡ before ++ v ∷ after) (few : length (leaves_of v.index) ≤ 2147483648) (top : ℕ) where
-  -- the tree, and what is asked of it beside
   pub record TreeMade : Type 0 where
     pub index : Nodes
     pub tree : NewTree b made v index top
-    pub filled : IsPyramid index
-    pub count : length (nodes_of index) ≡ nodes_above 8 (length (leaves_of v.index))
-    pub order : InOrder 0 record_number_limit v.index → InOrder 0 record_number_limit index
-    pub last : last_node index ≡ link_to index
-    pub taken : AllTaken b made (levels_up 7 index)
+    pub asked : IsAsked b made v index
 
   pub tree_made : IndexMade b made (map tree_leaf_words (leaves_of v.index)) top → TreeMade
   tree_made made_index = go (leaves_of v.index) refl made_index
@@ -139,22 +145,21 @@ module _ (b made : List ℕ) (sound : IsSound b (shape b)) (before : List Variab
       go [] none m = record {
         index = no_node;
         tree = no_tree b made sound v top none m.1 m.0;
-        filled = no_pyramid;
-        order = λ o. no_order;
-        last = refl;
-        count = none_counted ∙ sym (ap (λ (ls : List Leaf). nodes_above 8 (length ls)) none);
-        taken = none_taken m.1;
+        asked = record { filled = no_pyramid; fewest = none_counted ∙ sym (ap (λ (ls : List Leaf). nodes_above 8 (length ls)) none); nexts = none_behind; order = λ o. no_order; last = refl; taken = none_taken m.1 };
       }
       go (leaf ∷ more) some m =
           let p : PyramidMade b made (map tree_leaf_words (leaves_of v.index)) top = subst (λ (ls : List Leaf). PyramidMade b made (map tree_leaf_words ls) top) (sym some) m in
           let x = built b made sound (leaves_of v.index) top p in
-          let levels = levels_few (leaves_of v.index) (x.root ∷ []) x.rest x.are few in
+          let pyramid = makes_pyramid (leaves_of v.index) x.root x.rest x.are in
           record {
             index = alone x.root;
             tree = tree_built b made sound before v after was few top x;
-            filled = is_pyramid (leaves_of v.index) x.root x.rest x.are;
-            count = fewest (leaves_of v.index) x.root x.rest x.are (subst (λ (ls : List Leaf). 1 ≤ length ls) (sym some) (omega arith)) (omega arith);
-            order = λ o. (makes_pyramid (leaves_of v.index) x.root x.rest x.are).order record_number_limit (leaves_order record_number_limit v.index o);
-            last = refl;
-            taken = subst (AllTaken b made) (sym (levels_up_are (leaves_of v.index) x.root x.rest x.are (omega arith))) (all_taken b made (from_below ((x.root ∷ []) ∷ x.rest)) x.steps);
+            asked = record {
+              filled = pyramid.filled;
+              fewest = pyramid.fewest (subst (λ (ls : List Leaf). 1 ≤ length ls) (sym some) (omega arith)) few;
+              nexts = pyramid.nexts;
+              order = λ o. pyramid.order record_number_limit (leaves_order record_number_limit v.index o);
+              last = refl;
+              taken = subst (AllTaken b made) (sym (pyramid.places few)) (all_taken b made (from_below ((x.root ∷ []) ∷ x.rest)) x.steps);
+            };
           }

@@ -43,5 +43,4 @@ module _ {b : List ℕ} {vdr : ℕ} {leaves : List Entry} {nodes : List ℕ} (ol
       pub is_rebuilt : (now : List ℕ) → length made ≤ length b + 1052 * nodes_above 8 (length leaves) → AllGiven linked now nodes → IsRebuilt b now old.variable
       is_rebuilt now longest given =
           rebuilt b made old.before old.variable old.after old.was t.index top t.tree first linked now small own_first own_linked (subst (AllGiven linked now) old.nodes_are given)
-          t.tree.leaves_are t.filled t.count t.order t.last t.taken
-          (subst (λ (n : ℕ). length made ≤ length b + 1052 * nodes_above 8 n) (ap length old.leaves_are ∙ length-map (leaves_of old.variable.index) tree_leaf_words) longest)
+          t.asked (subst (λ (n : ℕ). length made ≤ length b + 1052 * nodes_above 8 n) (ap length old.leaves_are ∙ length-map (leaves_of old.variable.index) tree_leaf_words) longest)

@@ -1,6 +1,6 @@
 -- What a good image gives for the calls by which the index of one of its variables is made anew.
 use Rattle.std.proofs.Common.{◌≡◌, ℕ, ◌+◌, ◌*◌, ◌≤◌, List, [], length, map, refl, sym, ap, subst, ◌∙◌, arith, inl, inr}
-use Rattle.cdf_reindex.proofs.Common.{Kind, StandsAmong, tile, long, nodes_above, reindex_room, good_by_its_shape, good_is_sound, tile_lies, number, eof, gdr_offset, Nodes, no_node, node, leaves_of, IsNode, vdr_vxr_head, VariableShape, shape, variables, vdrs, IsSound, In, Good, Entry, IsRebuilt, Reindexed, HasOld}
+use Rattle.cdf_reindex.proofs.Common.{image_limit, Kind, StandsAmong, tile, long, nodes_above, reindex_room, good_by_its_shape, good_is_sound, tile_lies, number, eof, gdr_offset, Nodes, no_node, node, leaves_of, IsNode, vdr_vxr_head, VariableShape, shape, variables, vdrs, IsSound, In, Good, Entry, IsRebuilt, Reindexed, HasOld}
 use Rattle.std.proofs.lemmas.List.{length-map}
 use Rattle.cdf_format.proofs.GoodImageLemmas.{good_image}
 use Rattle.cdf_format.proofs.GoodSound.{good_eof}
@@ -8,6 +8,7 @@ use Rattle.cdf_format.specs.Index.{nodes_of}
 use Rattle.cdf_index.proofs.GoodIndex.{good_index}
 use Rattle.cdf_index.specs.Finding.{index_at, HasIndex}
 use Rattle.cdf_index.specs.Whole.{leaf_words}
+use Rattle.cdf_reindex.proofs.MadeGood.{reindexed_good}
 use Rattle.cdf_reindex.proofs.PyramidBuilt.{few_leaves}
 use Rattle.cdf_index.proofs.OneVariable.{AmongAll, among_all, one_of}
 
@@ -37,6 +38,15 @@ module _ (b : List ℕ) (good : Good b) where
 
   indexed : {own : VariableShape} → AmongAll (variables (shape b)) own → HasIndex b (number b own.vdr vdr_vxr_head) × (index_at b (number b own.vdr vdr_vxr_head) ≡ own.index)
   indexed {own = own} at = good_index b (shape b) at.front own at.rest (good_image b (shape b) (good_by_its_shape b good)) sound at.all
+
+  -- the image is good again
+  pub good_again : {limit vdr : ℕ} {now : List ℕ} → In vdr (vdrs (variables (shape b))) → length b + reindex_room (index_at b (number b vdr vdr_vxr_head)) ≤ limit → limit ≤ image_limit
+      → ((kind : Kind) (before : List VariableShape) (own : VariableShape) (after : List VariableShape) → StandsAmong b kind before own after → own.vdr ≡ vdr → Reindexed b now own) → Good now
+  good_again {vdr = vdr} i fits most made =
+      let one = one_of b vdr i in
+      let is : index_at b (number b vdr vdr_vxr_head) ≡ one.own.index = subst (λ (m : ℕ). index_at b (number b m vdr_vxr_head) ≡ one.own.index) one.vdr_is (indexed (among_all b one.kind one.before one.own one.after one.among.was)).1 in
+      let room = ap reindex_room is in
+      reindexed_good good one.among (omega arith) (made one.kind one.before one.own one.after one.among one.vdr_is)
 
   -- where VXRhead was read
   module _ (y : List ℕ) (here : y ≡ b) (vdr head : ℕ) (head_is : head ≡ number b vdr vdr_vxr_head) where

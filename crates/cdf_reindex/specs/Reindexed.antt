@@ -17,7 +17,7 @@ use Rattle.cdf_format.specs.RecordTypes.{vxr_type}
 use Rattle.cdf_format.specs.Shape.{VariableShape, Each, shape}
 use Rattle.cdf_format.specs.Sound.{NodeFits, IsSound}
 use Rattle.cdf_index.specs.Adding.{Counts}
-use Rattle.cdf_index.specs.Order.{InOrder}
+use Rattle.cdf_index.specs.Order.{InOrder, NextsAreZero}
 use Rattle.cdf_index.specs.Writing.{SaysUnused}
 
 -- a node of 64 entries, of which it counts no more as used, with none behind it, and with -1 in the entries that are not used
@@ -37,12 +37,13 @@ abbrev pub AllTaken : List ℕ → List ℕ → List ℕ → Type 0
 AllTaken b now [] = now ≡ b
 AllTaken b now (place ∷ more) = (mid : List ℕ) × (NodeTaken b mid place × AllTaken mid now more)
 
--- The nodes of the new index are taken from the lowest level up, each with its words, VXRhead and VXRtail lead to it, and the old nodes are freed. It has the leaves of the old one, in as few nodes as can be.
+-- The nodes of the new index are taken from the lowest level up, each with its words, VXRhead and VXRtail lead to it, and the old nodes are freed. It has the leaves of the old one, in as few nodes as can be, and none of these has one behind it.
 pub record IsRebuilt (b now : List ℕ) (v : VariableShape) : Type 0 where
   pub index : Nodes
   pub leaves_stay : leaves_of index ≡ leaves_of v.index
   pub filled : IsPyramid index
   pub fewest : length (nodes_of index) ≡ nodes_above 8 (length (leaves_of v.index))
+  pub nexts : NextsAreZero index
   pub order : InOrder 0 record_number_limit v.index → InOrder 0 record_number_limit index
   pub made : List ℕ
   pub taken : AllTaken b made (levels_up 7 index)

@@ -78,6 +78,7 @@ pub fn reindex<A: Area>(alloc: Global, area: &mut A, vdr: u64) -> Result<(), Are
     requires room { length (A.image area.old) + reindex_room (index_at (A.image area.old) (number (A.image area.old) vdr vdr_vxr_head)) ≤ (A.frame area.old).limit }
     requires limit { (A.frame area.old).limit ≤ image_limit }
     ensures made { OnOk result ((kind : Kind) (before : List VariableShape) (own : VariableShape) (after : List VariableShape) → StandsAmong (A.image area.old) kind before own after → own.vdr ≡ vdr → Reindexed (A.image area.old) (A.image area.new) own) }
+    ensures good { OnOk result (Good (A.image area.new)) }
     ensures area { Edits A.frame A.faults area.old area.new result }
 {
     // An image has fewer than 2^64 bytes, so no place in it overflows.

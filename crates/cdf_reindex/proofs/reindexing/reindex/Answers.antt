@@ -1,6 +1,6 @@
-use Rattle.std.proofs.Common.{◌≡◌, ◌∙◌, ◌≤◌, ◌+◌, ◌*◌, List, [], length, ap, eq-eqb, true≢false, sym, subst, arith}
-use Rattle.cdf_reindex.proofs.Common.{eqb-true, nil_from_length, StandsAmong, nodes_above, VariableShape, Kind, IsRebuilt, Reindexed, HasOld}
-use Rattle.cdf_reindex.proofs.ReindexCalls.{head_lies, has_index, still_sound, still_ends, some_old, few, room, nothing_done, reindexed}
+use Rattle.std.proofs.Common.{◌≡◌, ◌∙◌, ◌≤◌, ◌+◌, ◌*◌, List, [], length, ap, eq-eqb, true≢false, sym, subst, arith, rules}
+use Rattle.cdf_reindex.proofs.Common.{Good, eqb-true, nil_from_length, StandsAmong, nodes_above, VariableShape, Kind, IsRebuilt, Reindexed, HasOld}
+use Rattle.cdf_reindex.proofs.ReindexCalls.{head_lies, has_index, still_sound, still_ends, some_old, few, room, nothing_done, reindexed, good_again}
 use Rattle.cdf_reindex.proofs.reindexing.reindex.Goals as goal
 use Rattle.std.proofs.lemmas.Result.{on_ok_weaker}
 
@@ -20,6 +20,9 @@ returns-then-is_empty-clause-made g c =
     nothing_done (g.A.Area.image c.args.area.now) c.requires.good (g.A.Area.image c.read_unsigned8.new.area) c.in_ok-head.ensures.area.image c.args.vdr c.in_ok-head.head c.in_ok-head.ensures.value (g.A.Area.image c.index_parts.new.area) c.in_ok-parts.ensures.area.image
     c.in_ok-parts.parts.leaves.items c.in_ok-parts.parts.nodes.items c.in_ok-parts.ensures.leaves c.in_ok-parts.ensures.nodes (nil_from_length nodes.items (omega (arith, nodes.ok, none)))
 
+pub returns-then-is_empty-clause-good : goal.returns-then-is_empty-clause-good
+returns-then-is_empty-clause-good g c = subst Good (sym (c.in_ok-parts.ensures.area.image ∙ c.in_ok-head.ensures.area.image)) c.requires.good
+
 pub rebuild-requires-clause-sound : goal.rebuild-requires-clause-sound
 rebuild-requires-clause-sound g c = still_sound (g.A.Area.image c.args.area.now) c.requires.good (g.A.Area.image c.read_unsigned8.new.area) c.in_ok-head.ensures.area.image c.args.vdr c.in_ok-head.head c.in_ok-head.ensures.value (g.A.Area.image c.index_parts.new.area) c.in_ok-parts.ensures.area.image
 
@@ -37,8 +40,8 @@ rebuild-requires-clause-room g c =
     let fits = room (g.A.Area.image c.args.area.now) c.requires.good (g.A.Area.image c.read_unsigned8.new.area) c.in_ok-head.ensures.area.image c.args.vdr c.in_ok-head.head c.in_ok-head.ensures.value (g.A.Area.image c.index_parts.new.area) c.in_ok-parts.ensures.area.image c.deref.result.now c.deref-2.result.now (c.deref.ensures.value ∙ c.in_ok-parts.ensures.leaves) (c.deref-2.ensures.value ∙ c.in_ok-parts.ensures.nodes) (g.A.Area.frame c.args.area.now).limit c.requires.room in
     subst (λ f. length (g.A.Area.image c.index_parts.new.area) + 1052 * nodes_above 8 (length c.deref.result.now) ≤ f.limit) (sym (c.in_ok-parts.ensures.area.frame ∙ c.in_ok-head.ensures.area.frame)) fits
 
-pub returns-clause-made : goal.returns-clause-made
-returns-clause-made g c =
+pub returns : goal.returns
+returns g c =
     let b = g.A.Area.image c.args.area.now in
     let x = g.A.Area.image c.index_parts.new.area in
     let now = g.A.Area.image c.rebuild.new.area in
@@ -46,4 +49,8 @@ returns-clause-made g c =
     let some : c.deref-2.result.now ≡ [] → ⊥ = λ e. true≢false (sym (eq-eqb nodes.len 0 (omega (arith, nodes.ok, ap length (sym c.deref-2.ensures.value ∙ e)))) ∙ sym c.is_empty.ensures ∙ c.if-is_empty.false) in
     let by : ((old : HasOld x c.args.vdr c.deref.result.now c.deref-2.result.now) → IsRebuilt x now old.variable) → (kind : Kind) (before : List VariableShape) (own : VariableShape) (after : List VariableShape) → StandsAmong b kind before own after → own.vdr ≡ c.args.vdr → Reindexed b now own =
     reindexed (g.A.Area.image c.args.area.now) c.requires.good (g.A.Area.image c.read_unsigned8.new.area) c.in_ok-head.ensures.area.image c.args.vdr c.in_ok-head.head c.in_ok-head.ensures.value (g.A.Area.image c.index_parts.new.area) c.in_ok-parts.ensures.area.image c.deref.result.now c.deref-2.result.now (c.deref.ensures.value ∙ c.in_ok-parts.ensures.leaves) (c.deref-2.ensures.value ∙ c.in_ok-parts.ensures.nodes) some now in
-    on_ok_weaker c.rebuild.result by c.rebuild.ensures.rebuilt
+    record {
+      made = on_ok_weaker c.rebuild.result by c.rebuild.ensures.rebuilt;
+      good = on_ok_weaker c.rebuild.result (λ w. good_again b c.requires.good c.requires.vdr c.requires.room c.requires.limit (by w)) c.rebuild.ensures.rebuilt;
+      area = search rules;
+    }
