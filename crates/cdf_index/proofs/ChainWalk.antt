@@ -5,7 +5,8 @@ use Rattle.cdf_format.specs.Index.{nodes_of, lower_nodes, leaves_of, entry_leave
 use Rattle.cdf_format.specs.IndexOf.{HasNodes, Names}
 use Rattle.cdf_index.specs.Whole.{through, through_entries, EntriesStand, SomeChain}
 use Rattle.cdf_index.proofs.Ascending.{index_stands}
-use Rattle.cdf_index.proofs.Looking.{block_type, block_in, no_node_type, node_linkable, node_there, none_there, a_level, one_node}
+use Rattle.cdf_index.proofs.EntriesLeft.{EntriesLeft, past_first, past_lower_one, node_parts}
+use Rattle.cdf_index.proofs.Looking.{named_at, block_type, no_node_type, node_linkable, node_there, none_there, a_level, one_node}
 use Rattle.cdf_index.proofs.Searching.{few_nodes}
 use Rattle.cdf_index.proofs.Saying.{no_entries}
 
@@ -21,12 +22,6 @@ no_link : (ns : Nodes) → length (nodes_of ns) ≡ 0 → link_to ns ≡ 0
 no_link no_node e = refl
 no_link (node place room entries more) e = absurd (omega (arith, one_node (node place room entries more) tt))
 
-named_there : (b : List ℕ) (levels at i place : ℕ) (es : Entries) → SayEntries b at i es → Names b (tiles b) levels es → Each (IsBlock b) (entry_leaves es) → 1 ≤ entry_count es → place ≡ offset_at b at i → In place (tiles b)
-unfolding Names entry_leaves
-named_there b levels at i place no_entry s n k c q = absurd (omega arith)
-named_there b levels at i place (block f la p packed es) s n k c q = subst (λ (x : ℕ). In x (tiles b)) (sym (q ∙ s.0.offset_is)) (block_in b (leaf f la p packed) k.0)
-named_there b levels at i place (lower f la nodes es) s n k c q = subst (λ (x : ℕ). In x (tiles b)) (sym (q ∙ s.0.offset_is)) (linkable-in b (tiles b) vxr_type (link_to nodes) (node_linkable b levels nodes n.0 n.1))
-
 count_left : (i n k : ℕ) → i + n ≡ k → i < k → 1 ≤ n
 count_left i n k e h = omega arith
 
@@ -40,16 +35,14 @@ record LowerThere (b : List ℕ) (levels place : ℕ) (es : Entries) : Type 0 wh
   link_is : place ≡ link_to nodes
   few : length (nodes_of nodes) ≤ length (lower_nodes es)
 
-lower_there : (b : List ℕ) (levels at i place type : ℕ) (es : Entries) → SayEntries b at i es → Names b (tiles b) levels es → Each (IsOrderly b) (lower_nodes es) → Each (IsBlock b) (entry_leaves es) → 1 ≤ entry_count es → place ≡ offset_at b at i → type ≡ type_at b place → type ≡ 6 → LowerThere b levels place es
-unfolding Names entry_leaves lower_nodes
-lower_there b levels at i place type no_entry s n f k c q qt is = absurd (omega arith)
-lower_there b levels at i place type (block fi la p packed es) s n f k c q qt is =
-    let e : place ≡ p = q ∙ s.0.offset_is in
-    absurd (no_node_type (type_at b p) (block_type b (leaf fi la p packed) k.0) (ap (type_at b) (sym e) ∙ sym qt ∙ is))
-lower_there b levels at i place type (lower fi la nodes es) s n f k c q qt is =
-    let fs = Each-split (IsOrderly b) (nodes_of nodes) (lower_nodes es) f in
-    let ks = Each-split (IsBlock b) (leaves_of nodes) (entry_leaves es) k in
-    record { nodes = nodes; stands = record { has = n.1; orderly = fs.0; blocks = ks.0 }; link_is = q ∙ s.0.offset_is; few = omega (arith, length-append (nodes_of nodes) (lower_nodes es)) }
+lower_there : (b : List ℕ) (levels at i place type : ℕ) (es : Entries) → EntriesLeft b levels at i es → 1 ≤ entry_count es → place ≡ offset_at b at i → type ≡ type_at b place → type ≡ 6 → LowerThere b levels place es
+unfolding lower_nodes entry_leaves
+lower_there b levels at i place type no_entry r c q qt is = absurd (omega arith)
+lower_there b levels at i place type (block fi la p packed es) r c q qt is =
+    let e : place ≡ p = q ∙ r.say.0.offset_is in
+    absurd (no_node_type (type_at b p) (block_type b (leaf fi la p packed) r.blocks.0) (ap (type_at b) (sym e) ∙ sym qt ∙ is))
+lower_there b levels at i place type (lower fi la nodes es) r c q qt is =
+    record { nodes = nodes; stands = (past_lower_one r).0; link_is = q ∙ r.say.0.offset_is; few = omega (arith, length-append (nodes_of nodes) (lower_nodes es)) }
 
 -- ---- a value on its way
 
@@ -77,10 +70,7 @@ module _ {S : Type 0} (at_node : S → ℕ → ℕ → ℕ → S) (at_block : S 
 
   pub record BelowLeft (b : List ℕ) (at levels i : ℕ) (was s : S) (entries : Entries) : Type 0 where
     pub left : Entries
-    pub say : SayEntries b at i left
-    pub names : Names b (tiles b) levels left
-    pub orderly : Each (IsOrderly b) (lower_nodes left)
-    pub blocks : Each (IsBlock b) (entry_leaves left)
+    pub stand : EntriesLeft b levels at i left
     pub many : i + entry_count left ≡ entry_count entries
     pub same : through_entries at_node at_block s left ≡ through_entries at_node at_block was entries
     pub fewer : length (lower_nodes left) ≤ length (lower_nodes entries)
@@ -126,18 +116,16 @@ module _ {S : Type 0} {at_node : S → ℕ → ℕ → ℕ → S} {at_block : S 
   unfolding HasNodes nodes_of leaves_of through
   node_here b levels s no_node st is = absurd is
   node_here b levels s (node place room entries more) st is =
-      let fs = Each-split (IsOrderly b) (lower_nodes entries) (nodes_of more) st.orderly.1 in
-      let ks = Each-split (IsBlock b) (entry_leaves entries) (leaves_of more) st.blocks in
-      let h = st.has in
+      let p = node_parts st in
       record {
         entries = entries;
         more = more;
-        stand = record { used_is = h.0.used_is; say = h.0.say_entries; names = h.1; orderly = fs.0; blocks = ks.0 };
-        more_stands = record { has = h.2; orderly = fs.1; blocks = ks.1 };
-        next_is = h.0.next_is;
+        stand = record { used_is = p.says.used_is; say = p.left.say; names = p.left.names; orderly = p.left.orderly; blocks = p.left.blocks };
+        more_stands = p.more_stands;
+        next_is = p.says.next_is;
         same =
-            ap (λ (x : ℕ). through at_node at_block (through_entries at_node at_block (at_node s place x (entry_count entries)) entries) more) (sym h.0.room_is)
-            ∙ ap (λ (x : ℕ). through at_node at_block (through_entries at_node at_block (at_node s place (room_at b place) x) entries) more) (sym h.0.used_is);
+            ap (λ (x : ℕ). through at_node at_block (through_entries at_node at_block (at_node s place x (entry_count entries)) entries) more) (sym p.says.room_is)
+            ∙ ap (λ (x : ℕ). through at_node at_block (through_entries at_node at_block (at_node s place (room_at b place) x) entries) more) (sym p.says.used_is);
         length_is = ap suc (length-append (lower_nodes entries) (nodes_of more));
       }
 
@@ -186,59 +174,56 @@ module _ {S : Type 0} {at_node : S → ℕ → ℕ → ℕ → S} {at_block : S 
   pub named_lies : {b : List ℕ} {at levels i place : ℕ} {was s : S} → SomeEntries b at levels → Gone at_node at_block b at levels i was s → i < used_count b at → place ≡ offset_at b at i → place + 12 ≤ length b
   named_lies {b = b} {at = at} {levels = levels} {i = i} {place = place} some g lt q =
       let l = g.left some.entries some.stand in
-      let there = named_there b levels at i place l.left l.say l.names l.blocks (count_left i (entry_count l.left) (entry_count some.entries) l.many (subst (λ (x : ℕ). i < x) some.stand.used_is lt)) q in
-      let lies = tile_lies b 8 (length b) (tiles b) place some.tiled there in
+      let z : i + 0 ≡ i = omega arith in
+      let there = rw z at (named_at b levels at i 0 l.left l.stand (count_left i (entry_count l.left) (entry_count some.entries) l.many (subst (λ (x : ℕ). i < x) some.stand.used_is lt))) in
+      let lies = tile_lies b 8 (length b) (tiles b) place some.tiled (subst (λ (x : ℕ). In x (tiles b)) (sym q) there) in
       omega (arith, lies.high, lies.long)
 
   pub lower_chain : {b : List ℕ} {at levels i place type : ℕ} {was s : S} → SomeEntries b at levels → Gone at_node at_block b at levels i was s → i < used_count b at → place ≡ offset_at b at i → type ≡ type_at b place → type ≡ 6 → SomeChain b levels place
   lower_chain {b = b} {at = at} {levels = levels} {i = i} {place = place} {type = type} some g lt q qt is =
       let l = g.left some.entries some.stand in
-      let t = lower_there b levels at i place type l.left l.say l.names l.orderly l.blocks (count_left i (entry_count l.left) (entry_count some.entries) l.many (subst (λ (x : ℕ). i < x) some.stand.used_is lt)) q qt is in
+      let t = lower_there b levels at i place type l.left l.stand (count_left i (entry_count l.left) (entry_count some.entries) l.many (subst (λ (x : ℕ). i < x) some.stand.used_is lt)) q qt is in
       let f1 = t.few in
       let f2 = l.fewer in
       let f3 = some.few in
       record { nodes = t.nodes; tiled = some.tiled; stands = t.stands; link_is = t.link_is; few = omega arith }
 
   -- past a block
-  block_gone : (b : List ℕ) (at levels i first last place type : ℕ) (was s : S) (es left : Entries) → SayEntries b at i left → Names b (tiles b) levels left → Each (IsOrderly b) (lower_nodes left) → Each (IsBlock b) (entry_leaves left) → i + entry_count left ≡ entry_count es → through_entries at_node at_block s left ≡ through_entries at_node at_block was es
+  block_gone : (b : List ℕ) (at levels i first last place type : ℕ) (was s : S) (es left : Entries) → EntriesLeft b levels at i left → i + entry_count left ≡ entry_count es → through_entries at_node at_block s left ≡ through_entries at_node at_block was es
       → length (lower_nodes left) ≤ length (lower_nodes es) → i < entry_count es → SaysEntry b at i first last place → type ≡ type_at b place → type ≢ 6 → BelowLeft at_node at_block b at levels (i + 1) was (at_block s first last place) es
   unfolding Names entry_leaves lower_nodes through_entries
-  block_gone b at levels i first last place type was s es no_entry sa n f k m same few lt q qt is = absurd (omega arith)
-  block_gone b at levels i first last place type was s es (block fi la p packed left) sa n f k m same few lt q qt is =
+  block_gone b at levels i first last place type was s es no_entry r m same few lt q qt is = absurd (omega arith)
+  block_gone b at levels i first last place type was s es (block fi la p packed left) r m same few lt q qt is =
       let z : suc i ≡ i + 1 = omega arith in
-      let ef : first ≡ fi = sym q.first_is ∙ sa.0.first_is in
-      let el : last ≡ la = sym q.last_is ∙ sa.0.last_is in
-      let ep : place ≡ p = sym q.offset_is ∙ sa.0.offset_is in
+      let ef : first ≡ fi = sym q.first_is ∙ r.say.0.first_is in
+      let el : last ≡ la = sym q.last_is ∙ r.say.0.last_is in
+      let ep : place ≡ p = sym q.offset_is ∙ r.say.0.offset_is in
       let here : through_entries at_node at_block (at_block s first last place) left ≡ through_entries at_node at_block (at_block s fi la p) left = λ j. through_entries at_node at_block (at_block s (ef j) (el j) (ep j)) left in
-      record { left = left; say = rw z at sa.1; names = n.2; orderly = f; blocks = k.1; many = omega arith; same = here ∙ same; fewer = few }
-  block_gone b at levels i first last place type was s es (lower fi la nodes left) sa n f k m same few lt q qt is =
-      let ep : place ≡ link_to nodes = sym q.offset_is ∙ sa.0.offset_is in
-      absurd (is (qt ∙ ap (type_at b) ep ∙ linkable-type b (tiles b) vxr_type (link_to nodes) (node_linkable b levels nodes n.0 n.1)))
+      record { left = left; stand = rw z at (past_first r); many = omega arith; same = here ∙ same; fewer = few }
+  block_gone b at levels i first last place type was s es (lower fi la nodes left) r m same few lt q qt is =
+      let ep : place ≡ link_to nodes = sym q.offset_is ∙ r.say.0.offset_is in
+      absurd (is (qt ∙ ap (type_at b) ep ∙ linkable-type b (tiles b) vxr_type (link_to nodes) (node_linkable b levels nodes r.names.0 r.names.1)))
 
   pub past_block : {b : List ℕ} {at levels i first last place type : ℕ} {was s : S} → Gone at_node at_block b at levels i was s → i < used_count b at → SaysEntry b at i first last place → type ≡ type_at b place → type ≢ 6 → Gone at_node at_block b at levels (i + 1) was (at_block s first last place)
   past_block {b = b} {at = at} {levels = levels} {i = i} {first = first} {last = last} {place = place} {type = type} {was = was} {s = s} g lt q qt is = record {
-    left = λ es st. (let l = g.left es st in block_gone b at levels i first last place type was s es l.left l.say l.names l.orderly l.blocks l.many l.same l.fewer (subst (λ (x : ℕ). i < x) st.used_is lt) q qt is);
+    left = λ es st. (let l = g.left es st in block_gone b at levels i first last place type was s es l.left l.stand l.many l.same l.fewer (subst (λ (x : ℕ). i < x) st.used_is lt) q qt is);
   }
 
   -- past a lower chain
-  lower_gone : (b : List ℕ) (at levels i place type : ℕ) (was s now : S) (es left : Entries) → SayEntries b at i left → Names b (tiles b) levels left → Each (IsOrderly b) (lower_nodes left) → Each (IsBlock b) (entry_leaves left) → i + entry_count left ≡ entry_count es → through_entries at_node at_block s left ≡ through_entries at_node at_block was es → length (lower_nodes left) ≤ length (lower_nodes es)
+  lower_gone : (b : List ℕ) (at levels i place type : ℕ) (was s now : S) (es left : Entries) → EntriesLeft b levels at i left → i + entry_count left ≡ entry_count es → through_entries at_node at_block s left ≡ through_entries at_node at_block was es → length (lower_nodes left) ≤ length (lower_nodes es)
       → i < entry_count es → place ≡ offset_at b at i → type ≡ type_at b place → type ≡ 6 → ((ns : Nodes) → Stands b levels ns → place ≡ link_to ns → now ≡ through at_node at_block s ns) → BelowLeft at_node at_block b at levels (i + 1) was now es
   unfolding Names entry_leaves lower_nodes through_entries
-  lower_gone b at levels i place type was s now es no_entry sa n f k m same few lt q qt is told = absurd (omega arith)
-  lower_gone b at levels i place type was s now es (block fi la p packed left) sa n f k m same few lt q qt is told =
-      let e : place ≡ p = q ∙ sa.0.offset_is in
-      absurd (no_node_type (type_at b p) (block_type b (leaf fi la p packed) k.0) (ap (type_at b) (sym e) ∙ sym qt ∙ is))
-  lower_gone b at levels i place type was s now es (lower fi la nodes left) sa n f k m same few lt q qt is told =
+  lower_gone b at levels i place type was s now es no_entry r m same few lt q qt is told = absurd (omega arith)
+  lower_gone b at levels i place type was s now es (block fi la p packed left) r m same few lt q qt is told =
+      let e : place ≡ p = q ∙ r.say.0.offset_is in
+      absurd (no_node_type (type_at b p) (block_type b (leaf fi la p packed) r.blocks.0) (ap (type_at b) (sym e) ∙ sym qt ∙ is))
+  lower_gone b at levels i place type was s now es (lower fi la nodes left) r m same few lt q qt is told =
       let z : suc i ≡ i + 1 = omega arith in
-      let fs = Each-split (IsOrderly b) (nodes_of nodes) (lower_nodes left) f in
-      let ks = Each-split (IsBlock b) (leaves_of nodes) (entry_leaves left) k in
-      let t = told nodes (record { has = n.1; orderly = fs.0; blocks = ks.0 }) (q ∙ sa.0.offset_is) in
+      let p = past_lower_one r in
+      let t = told nodes p.0 (q ∙ r.say.0.offset_is) in
       record {
         left = left;
-        say = rw z at sa.1;
-        names = n.2;
-        orderly = fs.1;
-        blocks = ks.1;
+        stand = rw z at p.1;
         many = omega arith;
         same = ap (λ (x : S). through_entries at_node at_block x left) t ∙ same;
         fewer = omega (arith, length-append (nodes_of nodes) (lower_nodes left));
@@ -246,7 +231,7 @@ module _ {S : Type 0} {at_node : S → ℕ → ℕ → ℕ → S} {at_block : S 
 
   pub past_lower : {b : List ℕ} {at levels i place type : ℕ} {was s now : S} → Gone at_node at_block b at levels i was s → i < used_count b at → place ≡ offset_at b at i → type ≡ type_at b place → type ≡ 6 → ((ns : Nodes) → Stands b levels ns → place ≡ link_to ns → now ≡ through at_node at_block s ns) → Gone at_node at_block b at levels (i + 1) was now
   past_lower {b = b} {at = at} {levels = levels} {i = i} {place = place} {type = type} {was = was} {s = s} {now = now} g lt q qt is told = record {
-    left = λ es st. (let l = g.left es st in lower_gone b at levels i place type was s now es l.left l.say l.names l.orderly l.blocks l.many l.same l.fewer (subst (λ (x : ℕ). i < x) st.used_is lt) q qt is told);
+    left = λ es st. (let l = g.left es st in lower_gone b at levels i place type was s now es l.left l.stand l.many l.same l.fewer (subst (λ (x : ℕ). i < x) st.used_is lt) q qt is told);
   }
 
 pub entries_now : (b now : List ℕ) (at levels : ℕ) → now ≡ b → SomeEntries b at levels → SomeEntries now at levels

@@ -1,12 +1,13 @@
 -- The way down to the place of a new entry, along each chain and from level to level.
 use Rattle.std.proofs.Common.{◌≡◌, ◌≢◌, ◌⊎◌, ℕ, zero, suc, ◌+◌, ◌-◌, ◌<◌, ◌≤◌, List, ◌∷◌, length, Bool, true, false, not, eqb, refl, sym, ap, subst, ◌∙◌, arith, inl, inr}
-use Rattle.cdf_index.proofs.Common.{length-append, reaches, chain_reaches, leads_down, Nodes, no_node, node, Entries, no_entry, block, lower, entry_count, link_to, used_count, first_at, SayEntries, SaysNode, IsNode, AreTiles, In, tiles, either, In-append_right, Distinct-front, Distinct-back, length-le_from_distinct, Each-split, Begun, chain_at, chain_before, IsTree, SeesNode, SpotIs, IsBlock, IsOrderly, SomeNode, past_entries, Spot, linkable-in, vxr_type}
+use Rattle.cdf_index.proofs.Common.{length-append, reaches, chain_reaches, leads_down, Nodes, no_node, node, Entries, no_entry, block, lower, entry_count, link_to, used_count, first_at, SayEntries, SaysNode, IsNode, AreTiles, In, tiles, either, In-append_right, Distinct-front, Distinct-back, length-le_from_distinct, Begun, chain_at, chain_before, IsTree, SeesNode, SpotIs, IsBlock, IsOrderly, SomeNode, past_entries, Spot, linkable-in, vxr_type}
 use Rattle.cdf_format.specs.Index.{nodes_of, lower_nodes, leaves_of, entry_leaves}
 use Rattle.cdf_format.specs.IndexOf.{HasNodes}
 use Rattle.cdf_index.specs.Descent.{way_from, end_from}
 use Rattle.cdf_index.specs.Order.{InOrder, AreInOrder}
 use Rattle.cdf_index.specs.Way.{way, way_below, spot}
 use Rattle.cdf_index.proofs.EntriesCut.{parted_all}
+use Rattle.cdf_index.proofs.EntriesLeft.{node_parts}
 use Rattle.cdf_index.proofs.Leading.{Led, Leads, Passed, led}
 use Rattle.cdf_index.proofs.OrderLemmas.{end_after}
 use Rattle.cdf_index.proofs.WayDown.{no_zero}
@@ -29,15 +30,14 @@ record Parts (b : List ℕ) (levels place room : ℕ) (es : Entries) (more : Nod
 tree_parts : (b : List ℕ) (levels place room : ℕ) (es : Entries) (more : Nodes) → IsTree b (suc levels) (node place room es more) → Parts b levels place room es more
 unfolding HasNodes nodes_of leaves_of InOrder
 tree_parts b levels place room es more t =
-    let fs = Each-split (IsOrderly b) (lower_nodes es) (nodes_of more) t.stands.orderly.1 in
-    let bs = Each-split (IsBlock b) (entry_leaves es) (leaves_of more) t.stands.blocks in
+    let p = node_parts t.stands in
     record {
-      says = t.stands.has.0;
+      says = p.says;
       low = t.from;
       high = t.upto;
       order = t.order.0;
       rest_order = t.order.1;
-      rest = λ is. record { stands = record { has = t.stands.has.2; orderly = fs.1; blocks = bs.1 }; is_node = is; once = Distinct-back (lower_nodes es) (nodes_of more) t.once.1; from = past_entries t.from es; upto = t.upto; order = t.order.1 };
+      rest = λ is. record { stands = p.more_stands; is_node = is; once = Distinct-back (lower_nodes es) (nodes_of more) t.once.1; from = past_entries t.from es; upto = t.upto; order = t.order.1 };
     }
 
 passed_of : (b : List ℕ) (f at n : ℕ) (es : Entries) → used_count b at ≡ entry_count es → Begun b at f n → Passed b f at 0 n (entry_count es)
@@ -46,9 +46,8 @@ passed_of b f at n es u g = let most = g.most in parted_all (λ j. first_at b at
 node_led : (b : List ℕ) (f levels place room n : ℕ) (es : Entries) (more : Nodes) → AreTiles b 8 (length b) (tiles b) → IsTree b (suc levels) (node place room es more) → Begun b place f n → Led b f levels place 0 n es
 unfolding HasNodes nodes_of leaves_of InOrder
 node_led b f levels place room n es more tiled t g =
-    let fs = Each-split (IsOrderly b) (lower_nodes es) (nodes_of more) t.stands.orderly.1 in
-    let bs = Each-split (IsBlock b) (entry_leaves es) (leaves_of more) t.stands.blocks in
-    led b f levels place tiled 0 n t.from t.upto es (record { say = t.stands.has.0.say_entries; names = t.stands.has.1; orderly = fs.0; blocks = bs.0; once = Distinct-front (lower_nodes es) (nodes_of more) t.once.1; order = t.order.0 }) (passed_of b f place n es t.stands.has.0.used_is g)
+    let p = node_parts t.stands in
+    led b f levels place tiled 0 n t.from t.upto es (record { left = p.left; once = Distinct-front (lower_nodes es) (nodes_of more) t.once.1; order = t.order.0 }) (passed_of b f place n es p.says.used_is g)
 
 -- ---- what was seen of the node tells where it leads
 

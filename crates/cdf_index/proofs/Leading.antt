@@ -6,6 +6,7 @@ use Rattle.cdf_format.specs.IndexOf.{Names}
 use Rattle.cdf_index.specs.Order.{AreInOrder}
 use Rattle.cdf_index.specs.Way.{way_below, spot_below}
 use Rattle.cdf_index.proofs.EntriesCut.{Parted, parted_rest}
+use Rattle.cdf_index.proofs.EntriesLeft.{EntriesLeft, past_first, past_lower_one}
 use Rattle.cdf_index.proofs.LeafMore.{not_reached, leads_none}
 use Rattle.cdf_index.proofs.Looking.{block_type, no_node_type, node_linkable}
 use Rattle.cdf_index.proofs.Walking.{chain_is, no_chain}
@@ -28,10 +29,7 @@ pub record Led (b : List ℕ) (f levels at k n : ℕ) (es : Entries) : Type 0 wh
 
 -- what is given of entries from number k on
 pub record Stand (b : List ℕ) (levels at k low high : ℕ) (es : Entries) : Type 0 where
-  pub say : SayEntries b at k es
-  pub names : Names b (tiles b) levels es
-  pub orderly : Each (IsOrderly b) (lower_nodes es)
-  pub blocks : Each (IsBlock b) (entry_leaves es)
+  pub left : EntriesLeft b levels at k es
   pub once : Distinct (lower_nodes es)
   pub order : AreInOrder low high es
 
@@ -121,27 +119,26 @@ module _ (b : List ℕ) (f levels at : ℕ) (tiled : AreTiles b 8 (length b) (ti
   led k zero low high (block first last place packed es) s p =
       let z : k + 0 ≡ k = omega arith in
       let past = rw z at (p.stop (omega arith)) in
-      let gt : f < first = omega (arith, s.say.0.first_is) in
+      let gt : f < first = omega (arith, s.left.say.0.first_is) in
       let o1 = s.order.1 in
       record { none = λ e. rw (lt-leb first f gt) (not_reached f (suc last) high es s.order.3 (omega arith)); some = λ j e. absurd (omega arith) }
   led k (suc m) low high (block first last place packed es) s p =
       let z : k + 0 ≡ k = omega arith in
       let by = rw z at (p.before 0 (omega arith)) in
-      let le : leb first f ≡ true = le-leb first f (omega (arith, s.say.0.first_is)) in
-      let rest = led (suc k) m (suc last) high es (record { say = s.say.1; names = s.names.2; orderly = s.orderly; blocks = s.blocks.1; once = s.once; order = s.order.3 }) (parted_rest (λ j. first_at b at j ≤ f) (λ j. f < first_at b at j) k m (entry_count es) p) in
-      record { none = λ e. absurd (omega arith); some = λ j e. block_leads k m j first last place packed es le (block_chain k first last place packed s.blocks.0 s.say.0.offset_is) rest (omega arith) }
+      let le : leb first f ≡ true = le-leb first f (omega (arith, s.left.say.0.first_is)) in
+      let rest = led (suc k) m (suc last) high es (record { left = past_first s.left; once = s.once; order = s.order.3 }) (parted_rest (λ j. first_at b at j ≤ f) (λ j. f < first_at b at j) k m (entry_count es) p) in
+      record { none = λ e. absurd (omega arith); some = λ j e. block_leads k m j first last place packed es le (block_chain k first last place packed s.left.blocks.0 s.left.say.0.offset_is) rest (omega arith) }
   led k zero low high (lower first last nodes es) s p =
       let z : k + 0 ≡ k = omega arith in
       let past = rw z at (p.stop (omega arith)) in
-      let gt : f < first = omega (arith, s.say.0.first_is) in
+      let gt : f < first = omega (arith, s.left.say.0.first_is) in
       let o1 = s.order.1 in
       record { none = λ e. rw (lt-leb first f gt) (not_reached f (suc last) high es s.order.4 (omega arith)); some = λ j e. absurd (omega arith) }
   led k (suc m) low high (lower first last nodes es) s p =
       let z : k + 0 ≡ k = omega arith in
       let by = rw z at (p.before 0 (omega arith)) in
-      let le : leb first f ≡ true = le-leb first f (omega (arith, s.say.0.first_is)) in
-      let fs = Each-split (IsOrderly b) (nodes_of nodes) (lower_nodes es) s.orderly in
-      let bs = Each-split (IsBlock b) (leaves_of nodes) (entry_leaves es) s.blocks in
-      let rest = led (suc k) m (suc last) high es (record { say = s.say.1; names = s.names.2; orderly = fs.1; blocks = bs.1; once = Distinct-back (nodes_of nodes) (lower_nodes es) s.once; order = s.order.4 }) (parted_rest (λ j. first_at b at j ≤ f) (λ j. f < first_at b at j) k m (entry_count es) p) in
-      let tree : IsTree b levels nodes = record { stands = record { has = s.names.1; orderly = fs.0; blocks = bs.0 }; is_node = s.names.0; once = Distinct-front (nodes_of nodes) (lower_nodes es) s.once; from = first; upto = last; order = s.order.3 } in
-      record { none = λ e. absurd (omega arith); some = λ j e. lower_leads k m j first last nodes es le (node_chain k nodes s.names.0 s.names.1 s.say.0.offset_is) (some_link nodes s.names.0 s.names.1) tree rest (omega arith) }
+      let le : leb first f ≡ true = le-leb first f (omega (arith, s.left.say.0.first_is)) in
+      let parts = past_lower_one s.left in
+      let rest = led (suc k) m (suc last) high es (record { left = parts.1; once = Distinct-back (nodes_of nodes) (lower_nodes es) s.once; order = s.order.4 }) (parted_rest (λ j. first_at b at j ≤ f) (λ j. f < first_at b at j) k m (entry_count es) p) in
+      let tree : IsTree b levels nodes = record { stands = parts.0; is_node = s.left.names.0; once = Distinct-front (nodes_of nodes) (lower_nodes es) s.once; from = first; upto = last; order = s.order.3 } in
+      record { none = λ e. absurd (omega arith); some = λ j e. lower_leads k m j first last nodes es le (node_chain k nodes s.left.names.0 s.left.names.1 s.left.say.0.offset_is) (some_link nodes s.left.names.0 s.left.names.1) tree rest (omega arith) }

@@ -33,3 +33,4 @@ pub mod LeafRules
 pub mod NodeFilled
 pub mod OneNode
 pub mod OneVariable
+pub mod EntriesLeft

@@ -8,6 +8,7 @@ use Rattle.cdf_index.specs.Next.{number_within, least_first_past}
 use Rattle.cdf_index.specs.Order.{InOrder, AreInOrder, NextsAreZero, LowerAreZero}
 use Rattle.cdf_index.specs.declared.next.Walk.{Walk}
 use Rattle.cdf_index.proofs.Ascending.{index_stands}
+use Rattle.cdf_index.proofs.EntriesLeft.{EntriesLeft, past_first, past_lower_one, node_parts}
 use Rattle.cdf_index.proofs.Looking.{block_type, no_node_type, node_linkable, node_there, none_there, a_level, one_node}
 use Rattle.cdf_index.proofs.NextLemmas.{Between, block_passed, lower_passed, block_decides, lower_decides, firsts_between, between_more}
 use Rattle.cdf_index.proofs.OrderLemmas.{end_after}
@@ -77,6 +78,12 @@ module _ (b : List ℕ) (rec best high levels at : ℕ) (zs : List ℕ) (most : 
         zero = λ d z y. (z, d);
       }
 
+  -- for the first one begins past the record
+  met_none : (k middle low_levels from upto first : ℕ) (entries : Entries) (low : Nodes) → Stands b low_levels low → InOrder from upto low → upto ≤ middle → upto ≤ high → 1 ≤ entry_count entries → first_at b at k ≡ first → middle ≤ first → first ≤ high
+      → least_from rec best (firsts_of low ++ (entry_firsts entries ++ zs)) ≡ least_from rec first (firsts_of low) → Met b rec best high at k 0 middle low_levels levels entries low zs
+  met_none k middle low_levels from upto first entries low st o asc lm some e above within decides =
+      met_here k middle low_levels from upto entries low st o asc lm (λ z. absurd (omega arith)) (λ z. absurd (omega arith)) (λ lt. decides ∙ ap (λ (x : ℕ). least_from rec x (firsts_of low)) (sym e)) (λ lt. omega arith) (λ lt. omega arith)
+
   -- the first of these entries is passed
   met_more : (k m middle last low_levels under : ℕ) (entries all : Entries) (named before : Nodes) → Met b rec best high at (suc k) m (suc last) under levels entries named zs → entry_count all ≡ suc (entry_count entries) → chain_at b at k ≡ link_to named
       → past_entries middle all ≡ past_entries (suc last) entries
@@ -106,58 +113,47 @@ module _ (b : List ℕ) (rec best high levels at : ℕ) (zs : List ℕ) (most : 
       }
 
   met : (k n middle low_levels from upto : ℕ) (entries : Entries) (low : Nodes) → Stands b low_levels low → InOrder from upto low → upto ≤ middle → upto ≤ high
-      → SayEntries b at k entries → Names b (tiles b) levels entries → Each (IsOrderly b) (lower_nodes entries) → Each (IsBlock b) (entry_leaves entries) → AreInOrder middle high entries
+      → EntriesLeft b levels at k entries → AreInOrder middle high entries
       → ((first : ℕ) → first ≤ past_entries middle entries → Between first high zs)
       → ((j : ℕ) → j < k + n → first_at b at j ≤ rec) → n ≤ entry_count entries → (n < entry_count entries → rec < first_at b at (k + n))
       → Met b rec best high at k n middle low_levels levels entries low zs
   unfolding Names lower_nodes entry_leaves AreInOrder entry_firsts nodes_of firsts_of NextsAreZero LowerAreZero
-  met k zero middle low_levels from upto no_entry low st o asc lm s nm f q ao zb before le stop =
+  met k zero middle low_levels from upto no_entry low st o asc lm s ao zb before le stop =
       met_here k middle low_levels from upto no_entry low st o asc lm (λ z. refl) (λ z. asc) (λ lt. absurd (omega arith)) (λ lt. absurd (omega arith)) (λ lt. absurd (omega arith))
-  met k (suc m) middle low_levels from upto no_entry low st o asc lm s nm f q ao zb before le stop = absurd (omega arith)
-  met k zero middle low_levels from upto (block fi la p packed entries) low st o asc lm s nm f q ao zb before le stop =
+  met k (suc m) middle low_levels from upto no_entry low st o asc lm s ao zb before le stop = absurd (omega arith)
+  met k zero middle low_levels from upto (block fi la p packed entries) low st o asc lm s ao zb before le stop =
       let z : k + 0 ≡ k = omega arith in
-      let e = s.0.first_is in
-      let o0 = ao.0 in
-      let o1 = ao.1 in
-      let o2 = ao.2 in
+      let e = s.say.0.first_is in
       let h : rec < first_at b at k = rw z at (stop (omega arith)) in
       let t : ltb rec fi ≡ true = grind (arith, nat_tests) in
       let after = end_after (suc la) high entries ao.3 in
-      met_here k middle low_levels from upto (block fi la p packed entries) low st o asc lm (λ z. absurd (omega arith)) (λ z. absurd (omega arith))
-      (λ lt. block_decides rec best low from upto o zs fi la p high packed entries (omega arith, ao.1, ao.2, ao.3) (zb fi (omega arith)) (omega arith) t ∙ ap (λ (x : ℕ). least_from rec x (firsts_of low)) (sym e))
-      (λ lt. omega arith) (λ lt. omega arith)
-  met k zero middle low_levels from upto (lower fi la nodes entries) low st o asc lm s nm f q ao zb before le stop =
+      met_none k middle low_levels from upto fi (block fi la p packed entries) low st o asc lm (omega arith) e ao.0 (omega (arith, ao.1, ao.2)) (block_decides rec best low from upto o zs fi la p high packed entries (omega (arith, ao.0), ao.1, ao.2, ao.3) (zb fi (omega (arith, ao.1))) (omega (arith, ao.0)) t)
+  met k zero middle low_levels from upto (lower fi la nodes entries) low st o asc lm s ao zb before le stop =
       let z : k + 0 ≡ k = omega arith in
-      let e = s.0.first_is in
-      let o0 = ao.0 in
-      let o1 = ao.1 in
-      let o2 = ao.2 in
+      let e = s.say.0.first_is in
       let h : rec < first_at b at k = rw z at (stop (omega arith)) in
       let t : ltb rec fi ≡ true = grind (arith, nat_tests) in
       let after = end_after (suc la) high entries ao.4 in
-      met_here k middle low_levels from upto (lower fi la nodes entries) low st o asc lm (λ z. absurd (omega arith)) (λ z. absurd (omega arith))
-      (λ lt. lower_decides rec best low from upto o zs fi la high nodes entries (omega arith, ao.1, ao.2, ao.3, ao.4) (zb fi (omega arith)) (omega arith) t ∙ ap (λ (x : ℕ). least_from rec x (firsts_of low)) (sym e))
-      (λ lt. omega arith) (λ lt. omega arith)
-  met k (suc m) middle low_levels from upto (block fi la p packed entries) low st o asc lm s nm f q ao zb before le stop =
+      met_none k middle low_levels from upto fi (lower fi la nodes entries) low st o asc lm (omega arith) e ao.0 (omega (arith, ao.1, ao.2)) (lower_decides rec best low from upto o zs fi la high nodes entries (omega (arith, ao.0), ao.1, ao.2, ao.3, ao.4) (zb fi (omega (arith, ao.1))) (omega (arith, ao.0)) t)
+  met k (suc m) middle low_levels from upto (block fi la p packed entries) low st o asc lm s ao zb before le stop =
       let z : k + suc m ≡ suc k + m = omega arith in
-      let e = s.0.first_is in
+      let e = s.say.0.first_is in
       let o0 = ao.0 in
       let h = before k (omega arith) in
       let t : ltb rec fi ≡ false = grind (arith, nat_tests) in
-      let c = no_chain b at k (λ y. no_node_type (type_at b p) (block_type b (leaf fi la p packed) q.0) (ap (type_at b) (sym s.0.offset_is) ∙ y)) in
-      let r = met (suc k) m (suc la) 0 0 0 entries no_node (record { has = tt; orderly = tt; blocks = tt }) tt (omega arith) (omega arith) s.1 nm.2 f q.1 ao.3 zb (rw z at before) (omega arith) (λ lt. rw z at (stop (omega arith))) in
+      let c = no_chain b at k (λ y. no_node_type (type_at b p) (block_type b (leaf fi la p packed) s.blocks.0) (ap (type_at b) (sym s.say.0.offset_is) ∙ y)) in
+      let r = met (suc k) m (suc la) 0 0 0 entries no_node (record { has = tt; orderly = tt; blocks = tt }) tt (omega arith) (omega arith) (past_first s) ao.3 zb (rw z at before) (omega arith) (λ lt. rw z at (stop (omega arith))) in
       met_more k m middle la low_levels 0 entries (block fi la p packed entries) no_node low r refl c refl (block_passed rec best low from upto o zs fi la p packed entries t (omega arith)) (omega arith) (omega arith) (λ y. (tt, y))
-  met k (suc m) middle low_levels from upto (lower fi la nodes entries) low st o asc lm s nm f q ao zb before le stop =
+  met k (suc m) middle low_levels from upto (lower fi la nodes entries) low st o asc lm s ao zb before le stop =
       let z : k + suc m ≡ suc k + m = omega arith in
-      let e = s.0.first_is in
+      let e = s.say.0.first_is in
       let o0 = ao.0 in
       let h = before k (omega arith) in
       let t : ltb rec fi ≡ false = grind (arith, nat_tests) in
-      let fs = Each-split (IsOrderly b) (nodes_of nodes) (lower_nodes entries) f in
-      let qs = Each-split (IsBlock b) (leaves_of nodes) (entry_leaves entries) q in
-      let y : type_at b (offset_at b at k) ≡ 6 = ap (type_at b) s.0.offset_is ∙ linkable-type b (tiles b) vxr_type (link_to nodes) (node_linkable b levels nodes nm.0 nm.1) in
-      let c = chain_is b at k y ∙ s.0.offset_is in
-      let r = met (suc k) m (suc la) levels fi la entries nodes (record { has = nm.1; orderly = fs.0; blocks = qs.0 }) ao.3 (omega arith) ao.2 s.1 nm.2 fs.1 qs.1 ao.4 zb (rw z at before) (omega arith) (λ lt. rw z at (stop (omega arith))) in
+      let p = past_lower_one s in
+      let y : type_at b (offset_at b at k) ≡ 6 = ap (type_at b) s.say.0.offset_is ∙ linkable-type b (tiles b) vxr_type (link_to nodes) (node_linkable b levels nodes s.names.0 s.names.1) in
+      let c = chain_is b at k y ∙ s.say.0.offset_is in
+      let r = met (suc k) m (suc la) levels fi la entries nodes p.0 ao.3 (omega arith) ao.2 p.1 ao.4 zb (rw z at before) (omega arith) (λ lt. rw z at (stop (omega arith))) in
       met_more k m middle la low_levels levels entries (lower fi la nodes entries) nodes low r refl c refl (lower_passed rec best low from upto o zs fi la nodes entries t (omega arith)) (omega (arith, length-append (nodes_of nodes) (lower_nodes entries))) (omega arith) (λ y. y)
 
 -- ---- a node
@@ -220,15 +216,13 @@ module _ (b : List ℕ) (rec : ℕ) (nodes : Nodes) (turn : ℕ) (walk : Walk) (
       → (NextsAreZero nodes → NextsAreZero (node at room entries more) × (w.low_levels ≡ 0) × (suc levels + turn ≤ 8)) → Begun b at rec i → Turned b rec nodes turn w.best at walk.lower i
   unfolding HasNodes nodes_of leaves_of InOrder firsts_of
   turned_at levels at room entries more st o same few zero_left g =
-      let h = st.has in
-      let fs = Each-split (IsOrderly b) (lower_nodes entries) (nodes_of more) st.orderly.1 in
-      let qs = Each-split (IsBlock b) (entry_leaves entries) (leaves_of more) st.blocks in
-      let many = h.0.used_is in
+      let p = node_parts st in
+      let many = p.says.used_is in
       let le = g.most in
       let asc = w.ascends in
       let zb : (first : ℕ) → first ≤ past_entries w.middle entries → Between first w.high (firsts_of more) = λ first l. between_more (past_entries w.middle entries) w.high first w.high (firsts_of more) (firsts_between (past_entries w.middle entries) w.high more o.1) l (omega arith) in
       let z : 0 + i ≡ i = omega arith in
-      let m = met b rec w.best w.high levels at (firsts_of more) w.past 0 i w.middle w.low_levels w.from w.upto entries w.low w.low_stands w.low_order w.ascends w.low_most h.0.say_entries h.1 fs.0 qs.0 o.0 zb (rw z g.before) (omega arith) (λ lt. rw z (g.stop (omega arith))) in
+      let m = met b rec w.best w.high levels at (firsts_of more) w.past 0 i w.middle w.low_levels w.from w.upto entries w.low w.low_stands w.low_order w.ascends w.low_most p.left o.0 zb (rw z g.before) (omega arith) (λ lt. rw z (g.stop (omega arith))) in
       let mf = m.fewer in
       record {
         levels = m.levels;
@@ -240,8 +234,8 @@ module _ (b : List ℕ) (rec : ℕ) (nodes : Nodes) (turn : ℕ) (walk : Walk) (
         low_order = m.order;
         more_levels = suc levels;
         more = more;
-        more_stands = record { has = h.2; orderly = fs.1; blocks = qs.1 };
-        next_is = h.0.next_is;
+        more_stands = p.more_stands;
+        next_is = p.says.next_is;
         middle = past_entries w.middle entries;
         high = w.high;
         order = o.1;

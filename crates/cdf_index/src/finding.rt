@@ -10,11 +10,12 @@ ghost use Rattle.cdf_index.specs.Order.{leaf_of, nodes_passed, NextsAreZero};
 ghost use Rattle.cdf_index.specs.Finding.{index_at, HasIndex, NodeInside, SomeNode, Stands};
 ghost use Rattle.cdf_index.specs.Sight.{IsHead, SightIs, seen};
 
+use crate::entries::read_entry;
 use crate::nodes::{Head, Leaf, read_node};
 use crate::scanning::entries_before;
 use cdf_area::{Area, AreaError};
-use cdf_format::fields::{CVVR_TYPE, RECORD_TYPE, VXR_FIRST, VXR_TYPE};
-use cdf_records::{Steps, read_unsigned4, read_unsigned8};
+use cdf_format::fields::{CVVR_TYPE, RECORD_TYPE, VXR_TYPE};
+use cdf_records::{Steps, read_unsigned4};
 use std::sync::ledger::Ledger;
 
 /// What a search meets at a node: a link on, a leaf, or a gap.
@@ -38,20 +39,18 @@ fn look<A: Area>(area: &mut A, at: u64, head: &Head, rec: u32) -> Result<Sight, 
     if i == head.used {
         return Ok(Sight::On { link: head.next });
     }
-    let first = read_unsigned4(area, at + (VXR_FIRST + 4 * i))?;
-    if rec < first {
+    let entry = read_entry(area, at, head.room, i)?;
+    if rec < entry.first {
         return Ok(Sight::Nothing);
     }
-    let last = read_unsigned4(area, at + (VXR_FIRST + 4 * head.room + 4 * i))?;
-    let place = read_unsigned8(area, at + (VXR_FIRST + 8 * head.room + 8 * i))?;
-    let kind = read_unsigned4(area, place + RECORD_TYPE)?;
+    let kind = read_unsigned4(area, entry.place + RECORD_TYPE)?;
     if kind == VXR_TYPE {
-        return Ok(Sight::On { link: place });
+        return Ok(Sight::On { link: entry.place });
     }
     let leaf = Leaf {
-        first,
-        last,
-        at: place,
+        first: entry.first,
+        last: entry.last,
+        at: entry.place,
         packed: kind == CVVR_TYPE,
     };
     Ok(Sight::Found { leaf })

@@ -1,77 +1,71 @@
-use Rattle.std.proofs.Common.{◌≡◌, ◌≢◌, ℕ, length, arith, ap, sym, subst, ◌∙◌}
-use Rattle.cdf_index.proofs.Common.{next_of, used_count, first_at, offset_at}
-use Rattle.cdf_index.proofs.Looking.{Scanned, ReadEntry, read_first, read_last, read_place, read_type, look_next, look_nothing, look_below, look_found, named_inside}
+use Rattle.std.proofs.Common.{◌≡◌, ◌≢◌, ◌<◌, ◌+◌, ℕ, List, length, Some, eqb, arith, ap, sym, subst, ◌∙◌}
+use Rattle.cdf_index.proofs.Common.{leaf, used_count, room_at, type_at, NodeInside, SaysEntry}
+use Rattle.cdf_index.specs.Order.{find_in}
+use Rattle.cdf_index.proofs.Looking.{Scanned, read_type, look_next, look_tells, below_room, named_inside}
 use Rattle.cdf_index.proofs.finding.look.Goals as goal
 
 pub returns-then-i-head-clause-told : goal.returns-then-i-head-clause-told
 returns-then-i-head-clause-told g c =
-    let b = g.A.Area.image c.args.area.now in
     let h = c.requires.head in
-    let s : Scanned b c.args.rec c.args.at c.in_ok-i.i = record { pass = c.in_ok-i.ensures.passed; most = c.in_ok-i.ensures.most } in
-    λ levels nodes st is link.
-    look_next b c.args.rec levels c.in_ok-i.i c.args.head.now.next nodes st is (subst (λ (x : ℕ). Scanned b c.args.rec x c.in_ok-i.i) link s) (subst (λ (x : ℕ). c.in_ok-i.i ≡ used_count b x) link (c.if-i-head.true ∙ h.used_is)) (subst (λ (x : ℕ). c.args.head.now.next ≡ next_of b x) link h.next_is)
+    let s : Scanned (g.A.Area.image c.args.area.now) c.args.rec c.args.at c.in_ok-i.i = record { pass = c.in_ok-i.ensures.passed; most = c.in_ok-i.ensures.most } in
+    λ levels nodes st is here. look_next _ c.args.rec levels c.args.at c.in_ok-i.i c.args.head.now.next nodes st is here s (c.if-i-head.true ∙ h.used_is) h.next_is
 
-pub returns-then-rec-first-clause-told : goal.returns-then-rec-first-clause-told
-returns-then-rec-first-clause-told g c =
-    let b = g.A.Area.image c.args.area.now in
-    let h = c.requires.head in
-    let s : Scanned b c.args.rec c.args.at c.in_ok-i.i = record { pass = c.in_ok-i.ensures.passed; most = c.in_ok-i.ensures.most } in
-    let ne : c.in_ok-i.i ≢ used_count b c.args.at = λ z. c.if-i-head.false (z ∙ sym h.used_is) in
-    let first = read_first b _ c.args.at c.in_ok-i.i c.in_ok-first.first c.in_ok-i.ensures.area.image c.in_ok-first.ensures.value in
-    λ levels nodes st is link.
-    look_nothing b c.args.rec levels c.in_ok-i.i c.in_ok-first.first nodes st is (subst (λ (x : ℕ). Scanned b c.args.rec x c.in_ok-i.i) link s) (subst (λ (x : ℕ). c.in_ok-i.i ≢ used_count b x) link ne) (subst (λ (x : ℕ). c.in_ok-first.first ≡ first_at b x c.in_ok-i.i) link first) c.if-rec-first.true
+pub read_entry-requires-clause-inside : goal.read_entry-requires-clause-inside
+read_entry-requires-clause-inside g c = subst (λ (x : List ℕ). NodeInside x c.args.at) (sym c.in_ok-i.ensures.area.image) c.requires.inside
 
-pub overflow_add-place : goal.overflow_add-place
-overflow_add-place g c =
+pub read_entry-requires-clause-room : goal.read_entry-requires-clause-room
+read_entry-requires-clause-room g c = c.requires.head.room_is ∙ ap (λ (x : List ℕ). room_at x c.args.at) (sym c.in_ok-i.ensures.area.image)
+
+pub read_entry-requires-clause-below : goal.read_entry-requires-clause-below
+read_entry-requires-clause-below g c =
     let b = g.A.Area.image c.args.area.now in
     let h = c.requires.head in
+    below_room c.in_ok-i.i (used_count b c.args.at) (room_at b c.args.at) c.args.head.now.room (λ z. c.if-i-head.false (z ∙ sym h.used_is)) c.in_ok-i.ensures.most c.requires.inside.fits h.room_is
+
+pub returns-then-rec-entry-clause-told : goal.returns-then-rec-entry-clause-told
+returns-then-rec-entry-clause-told g c =
+    let b = g.A.Area.image c.args.area.now in
+    let e = c.in_ok-entry.entry in
     let s : Scanned b c.args.rec c.args.at c.in_ok-i.i = record { pass = c.in_ok-i.ensures.passed; most = c.in_ok-i.ensures.most } in
-    let ne : c.in_ok-i.i ≢ used_count b c.args.at = λ z. c.if-i-head.false (z ∙ sym h.used_is) in
-    let e = c.in_ok-last.ensures.area.image ∙ c.in_ok-first.ensures.area.image ∙ c.in_ok-i.ensures.area.image in
-    let place = read_place b _ c.args.at c.args.head.now.room c.in_ok-i.i c.in_ok-place.place e h.room_is c.in_ok-place.ensures.value in
-    let room = named_inside b c.args.rec c.args.at c.in_ok-i.i c.in_ok-place.place c.requires.node s ne place in
+    let says = subst (λ (x : List ℕ). SaysEntry x c.args.at c.in_ok-i.i e.first e.last e.place) c.in_ok-i.ensures.area.image c.in_ok-entry.ensures.value in
+    λ levels nodes st is here. (look_tells b c.args.rec levels c.args.at c.in_ok-i.i e.first e.last e.place nodes st is here s (λ z. c.if-i-head.false (z ∙ sym c.requires.head.used_is)) says).nothing c.if-rec-entry.true
+
+pub overflow_add-entry : goal.overflow_add-entry
+overflow_add-entry g c =
+    let b = g.A.Area.image c.args.area.now in
+    let e = c.in_ok-entry.entry in
+    let s : Scanned b c.args.rec c.args.at c.in_ok-i.i = record { pass = c.in_ok-i.ensures.passed; most = c.in_ok-i.ensures.most } in
+    let says = subst (λ (x : List ℕ). SaysEntry x c.args.at c.in_ok-i.i e.first e.last e.place) c.in_ok-i.ensures.area.image c.in_ok-entry.ensures.value in
+    let room = named_inside b c.args.rec c.args.at c.in_ok-i.i e.place c.requires.node s (λ z. c.if-i-head.false (z ∙ sym c.requires.head.used_is)) (sym says.offset_is) in
     let short = c.requires.short in
     omega arith
 
-pub read_unsigned4-requires-3 : goal.read_unsigned4-requires-3
-read_unsigned4-requires-3 g c =
+pub read_unsigned4-requires : goal.read_unsigned4-requires
+read_unsigned4-requires g c =
     let b = g.A.Area.image c.args.area.now in
-    let h = c.requires.head in
+    let e = c.in_ok-entry.entry in
     let s : Scanned b c.args.rec c.args.at c.in_ok-i.i = record { pass = c.in_ok-i.ensures.passed; most = c.in_ok-i.ensures.most } in
-    let ne : c.in_ok-i.i ≢ used_count b c.args.at = λ z. c.if-i-head.false (z ∙ sym h.used_is) in
-    let e = c.in_ok-last.ensures.area.image ∙ c.in_ok-first.ensures.area.image ∙ c.in_ok-i.ensures.area.image in
-    let place = read_place b _ c.args.at c.args.head.now.room c.in_ok-i.i c.in_ok-place.place e h.room_is c.in_ok-place.ensures.value in
-    let room = named_inside b c.args.rec c.args.at c.in_ok-i.i c.in_ok-place.place c.requires.node s ne place in
-    let same = ap length (c.in_ok-place.ensures.area.image ∙ e) in
+    let says = subst (λ (x : List ℕ). SaysEntry x c.args.at c.in_ok-i.i e.first e.last e.place) c.in_ok-i.ensures.area.image c.in_ok-entry.ensures.value in
+    let room = named_inside b c.args.rec c.args.at c.in_ok-i.i e.place c.requires.node s (λ z. c.if-i-head.false (z ∙ sym c.requires.head.used_is)) (sym says.offset_is) in
+    let same = ap length (c.in_ok-entry.ensures.area.image ∙ c.in_ok-i.ensures.area.image) in
     omega arith
 
 pub returns-then-kind-eq-VXR_TYPE-clause-told : goal.returns-then-kind-eq-VXR_TYPE-clause-told
 returns-then-kind-eq-VXR_TYPE-clause-told g c =
     let b = g.A.Area.image c.args.area.now in
-    let h = c.requires.head in
+    let e = c.in_ok-entry.entry in
     let s : Scanned b c.args.rec c.args.at c.in_ok-i.i = record { pass = c.in_ok-i.ensures.passed; most = c.in_ok-i.ensures.most } in
-    let ne : c.in_ok-i.i ≢ used_count b c.args.at = λ z. c.if-i-head.false (z ∙ sym h.used_is) in
-    let e = c.in_ok-last.ensures.area.image ∙ c.in_ok-first.ensures.area.image ∙ c.in_ok-i.ensures.area.image in
-    let first = read_first b _ c.args.at c.in_ok-i.i c.in_ok-first.first c.in_ok-i.ensures.area.image c.in_ok-first.ensures.value in
-    let place = read_place b _ c.args.at c.args.head.now.room c.in_ok-i.i c.in_ok-place.place e h.room_is c.in_ok-place.ensures.value in
-    let type = read_type b _ c.in_ok-place.place c.in_ok-kind.kind (c.in_ok-place.ensures.area.image ∙ e) c.in_ok-kind.ensures.value in
-    λ levels nodes st is link.
-    look_below b c.args.rec levels c.in_ok-i.i c.in_ok-first.first c.in_ok-place.place c.in_ok-kind.kind nodes st is (subst (λ (x : ℕ). Scanned b c.args.rec x c.in_ok-i.i) link s) (subst (λ (x : ℕ). c.in_ok-i.i ≢ used_count b x) link ne)
-    (subst (λ (x : ℕ). c.in_ok-first.first ≡ first_at b x c.in_ok-i.i) link first) (subst (λ (x : ℕ). c.in_ok-place.place ≡ offset_at b x c.in_ok-i.i) link place) type c.if-rec-first.false c.if-kind-eq-VXR_TYPE.true
+    let says = subst (λ (x : List ℕ). SaysEntry x c.args.at c.in_ok-i.i e.first e.last e.place) c.in_ok-i.ensures.area.image c.in_ok-entry.ensures.value in
+    let type = read_type b _ e.place c.in_ok-kind.kind (c.in_ok-entry.ensures.area.image ∙ c.in_ok-i.ensures.area.image) c.in_ok-kind.ensures.value in
+    λ levels nodes st is here. (look_tells b c.args.rec levels c.args.at c.in_ok-i.i e.first e.last e.place nodes st is here s (λ z. c.if-i-head.false (z ∙ sym c.requires.head.used_is)) says).below c.if-rec-entry.false (sym type ∙ c.if-kind-eq-VXR_TYPE.true)
 
 pub returns-clause-told : goal.returns-clause-told
 returns-clause-told g c =
     let b = g.A.Area.image c.args.area.now in
-    let h = c.requires.head in
+    let e = c.in_ok-entry.entry in
     let s : Scanned b c.args.rec c.args.at c.in_ok-i.i = record { pass = c.in_ok-i.ensures.passed; most = c.in_ok-i.ensures.most } in
-    let ne : c.in_ok-i.i ≢ used_count b c.args.at = λ z. c.if-i-head.false (z ∙ sym h.used_is) in
-    let e = c.in_ok-first.ensures.area.image ∙ c.in_ok-i.ensures.area.image in
-    let read : ReadEntry b c.args.at c.in_ok-i.i c.in_ok-first.first c.in_ok-last.last c.in_ok-place.place c.in_ok-kind.kind = record {
-      first_is = read_first b _ c.args.at c.in_ok-i.i c.in_ok-first.first c.in_ok-i.ensures.area.image c.in_ok-first.ensures.value;
-      last_is = read_last b _ c.args.at c.args.head.now.room c.in_ok-i.i c.in_ok-last.last e h.room_is c.in_ok-last.ensures.value;
-      place_is = read_place b _ c.args.at c.args.head.now.room c.in_ok-i.i c.in_ok-place.place (c.in_ok-last.ensures.area.image ∙ e) h.room_is c.in_ok-place.ensures.value;
-      type_is = read_type b _ c.in_ok-place.place c.in_ok-kind.kind (c.in_ok-place.ensures.area.image ∙ c.in_ok-last.ensures.area.image ∙ e) c.in_ok-kind.ensures.value;
-    } in
-    λ levels nodes st is link.
-    look_found b c.args.rec levels c.in_ok-i.i c.in_ok-first.first c.in_ok-last.last c.in_ok-place.place c.in_ok-kind.kind nodes st is (subst (λ (x : ℕ). Scanned b c.args.rec x c.in_ok-i.i) link s) (subst (λ (x : ℕ). c.in_ok-i.i ≢ used_count b x) link ne)
-    (subst (λ (x : ℕ). ReadEntry b x c.in_ok-i.i c.in_ok-first.first c.in_ok-last.last c.in_ok-place.place c.in_ok-kind.kind) link read) c.if-rec-first.false c.if-kind-eq-VXR_TYPE.false
+    let says = subst (λ (x : List ℕ). SaysEntry x c.args.at c.in_ok-i.i e.first e.last e.place) c.in_ok-i.ensures.area.image c.in_ok-entry.ensures.value in
+    let type = read_type b _ e.place c.in_ok-kind.kind (c.in_ok-entry.ensures.area.image ∙ c.in_ok-i.ensures.area.image) c.in_ok-kind.ensures.value in
+    λ levels nodes st is here.
+    subst (λ (k : ℕ). find_in c.args.rec nodes ≡ Some (leaf e.first e.last e.place (eqb k 13))) (sym type)
+    ((look_tells b c.args.rec levels c.args.at c.in_ok-i.i e.first e.last e.place nodes st is here s (λ z. c.if-i-head.false (z ∙ sym c.requires.head.used_is)) says).found c.if-rec-entry.false (λ z. c.if-kind-eq-VXR_TYPE.false (type ∙ z)))
