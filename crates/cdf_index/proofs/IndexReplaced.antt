@@ -12,26 +12,14 @@ use Rattle.cdf_format.specs.Shape.{AttributeShape, HasShape}
 use Rattle.cdf_format.proofs.Owning.{attributes_in}
 use Rattle.cdf_edits.proofs.Frame.Meaning.{FileSame}
 use Rattle.cdf_edits.proofs.Frame.OwnerAlone.{heads, stays}
-use Rattle.cdf_edits.proofs.Frame.OwnersApart.{times-append, times-in, owned-times, file_records, all_attribute_records, all_variable_records, vdrs_stand, file_same_is, gdr_room, variable_alone}
+use Rattle.cdf_edits.proofs.Frame.OwnersApart.{flat-append, times-append, times-in, owned-times, file_records, all_attribute_records, all_variable_records, vdrs_stand, file_same_is, gdr_room, variable_alone}
 use Rattle.cdf_edits.proofs.Frame.SoundStays.{attributes_fit_kept, variables_fit_kept, unused_kept}
 use Rattle.cdf_edits.proofs.Frame.FileSound.{variables_stand}
-use Rattle.cdf_edits.proofs.Frame.SameShape.{has_entries, has_variables, is_a_kept, typed_kept, fixed_kept}
+use Rattle.cdf_edits.proofs.Frame.SameShape.{same_attributes, same_variables, has_entries, has_variables, is_a_kept, typed_kept, fixed_kept}
 use Rattle.cdf_index.specs.Replacing.{with_index, with_variables, NewIndex, HasReplaced, IsReplaced}
-
-flat-append : {A : Type 0} (f : A → List ℕ) (xs ys : List A) → flat_map f (xs ++ ys) ≡ flat_map f xs ++ flat_map f ys
-flat-append f [] ys = refl
-flat-append f (x ∷ xs) ys = ap (λ (r : List ℕ). f x ++ r) (flat-append f xs ys) ∙ sym (append_assoc (f x) (flat_map f xs) (flat_map f ys))
 
 pub times-parts : {A : Type 0} (f : A → List ℕ) (m : ℕ) (xs : List A) (x : A) (ys : List A) → times m (flat_map f (xs ++ x ∷ ys)) ≡ times m (flat_map f xs) + (times m (f x) + times m (flat_map f ys))
 times-parts f m xs x ys = ap (times m) (flat-append f xs (x ∷ ys)) ∙ times-append m (flat_map f xs) (f x ++ flat_map f ys) ∙ ap (λ (n : ℕ). times m (flat_map f xs) + n) (times-append m (f x) (flat_map f ys))
-
-same_attributes : (b now records : List ℕ) (as_ : List AttributeShape) → Each (AttributeStays b now records) as_ → map (attribute_of now) as_ ≡ map (attribute_of b) as_
-same_attributes b now records [] h = refl
-same_attributes b now records (a ∷ more) h = ap₂ (λ (x : Attribute) (xs : List Attribute). x ∷ xs) h.0.1 (same_attributes b now records more h.1)
-
-same_variables : (b now records : List ℕ) (vs : List VariableShape) → Each (VariableStays b now records) vs → map (variable_of now) vs ≡ map (variable_of b) vs
-same_variables b now records [] h = refl
-same_variables b now records (v ∷ more) h = ap₂ (λ (x : Variable) (xs : List Variable). x ∷ xs) h.0.1 (same_variables b now records more h.1)
 
 module _ (b now : List ℕ) (s : Shape) (before : List VariableShape) (v : VariableShape) (after : List VariableShape) (index : Nodes) (rs zs : List VariableShape)
     (sound : IsSound b s) (shaped : HasReplaced s before v after index rs zs) (as_long : length now ≡ length b) (change : ChangedWithin b now (variable_records v)) (new : NewIndex b now s v index) where

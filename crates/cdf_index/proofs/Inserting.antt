@@ -1,16 +1,13 @@
 -- An entry more in a node: those behind it stand one further.
 use Rattle.std.proofs.Common.{◌≡◌, ◌⊎◌, ◌≢◌, ℕ, suc, ◌+◌, ◌-◌, ◌*◌, ◌/◌, ◌^◌, ◌<◌, ◌≤◌, inl, inr, List, [], ◌∷◌, length, slice_index, refl, sym, ap, subst, ◌∙◌, arith}
 use Rattle.cdf_index.proofs.Common.{min, cases_eq, image_limit, Changed, touch, LiesIn, counted, word, number, with_field, size_at, room_at, used_count, SaysEntry, vxr_n_used_entries, field_reads, length-with_field, other_bytes, other_words, NodeInside, StillSays, EntrySet, Inserted}
-use Rattle.std.specs.Int.{w32, cast_signed}
 use Rattle.cdf_format.proofs.BytesLemmas.{word-same}
+use Rattle.cdf_index.proofs.FieldSet.{FieldSet, field_set, changed_again, changed_wider, counts, node_head, node_small, used_by_count, size_beside, room_beside, entries_beside}
 
 -- ---- what stands before a place in a node stays
 
 pub front_stays : (b now : List ℕ) (at from n : ℕ) → Changed b now (touch at from n ∷ []) → at + from ≤ length b → (o m : ℕ) → o + m ≤ from → word now (at + o) m ≡ word b (at + o) m
 front_stays b now at from n c room o m le = word-same b now (at + o) m (record { each = λ i l h. c.same i (omega arith) (inl (omega arith), tt) })
-
-abbrev pub counts : ℕ → ℕ → ℕ → ℕ
-counts u r s = min (counted (cast_signed w32 u)) (min (counted (cast_signed w32 r)) ((s - 28) / 16))
 
 pub used_stays : (b now : List ℕ) (at n : ℕ) → Changed b now (touch at 28 n ∷ []) → at + 28 ≤ length b → used_count now at ≡ used_count b at
 used_stays b now at n c room =
@@ -24,7 +21,7 @@ room_stays b now at n c room = front_stays b now at 28 n c room 20 4 (omega arit
 
 pub inside_stays : (b now : List ℕ) (at n : ℕ) → Changed b now (touch at 28 n ∷ []) → length now ≡ length b → NodeInside b at → NodeInside now at
 inside_stays b now at n c long i =
-    let h : at + 28 ≤ length b = head (room_at b at) (length b) i.room in
+    let h = node_head i in
     let r = room_stays b now at n c h in
     let u = used_stays b now at n c h in
     let s : size_at now at ≡ size_at b at = front_stays b now at 28 n c h 0 8 (omega arith) in
@@ -35,14 +32,8 @@ inside_stays b now at n c long i =
       entries = subst (λ (x : ℕ). 28 + 16 * room_at now at ≤ x) (sym s) (subst (λ (x : ℕ). 28 + 16 * x ≤ size_at b at) (sym r) i.entries);
       fits = subst (λ (x : ℕ). used_count now at ≤ x) (sym r) (subst (λ (x : ℕ). x ≤ room_at b at) (sym u) i.fits);
     }
-  where
-    head : (r l : ℕ) → at + (28 + 16 * r) ≤ l → at + 28 ≤ l
-    head r l h = omega arith
 
 -- ---- entries move on, the last one first
-
-pub changed_again : (b mid now : List ℕ) (at from n : ℕ) → Changed b mid (touch at from n ∷ []) → length mid ≡ length b → Changed mid now (touch at from n ∷ []) → Changed b now (touch at from n ∷ [])
-changed_again b mid now at from n c long d = record { longer = omega (arith, c.longer, d.longer); same = λ i lt o. d.same i (omega arith) o ∙ c.same i lt o }
 
 -- the last so many of the used entries of a node stand one further
 pub record Shifted (b now : List ℕ) (at used moved : ℕ) : Type 0 where
@@ -85,7 +76,7 @@ module _ (b mid now : List ℕ) (at used k first last offset : ℕ) (sh : Shifte
   pub shift_more : Shifted b now at used (k + 1)
   shift_more = record {
     as_long = set.as_long ∙ sh.as_long;
-    changed = changed_again b mid now at 28 (16 * room_at b at) sh.changed sh.as_long (subst (λ (x : ℕ). Changed mid now (touch at 28 (16 * x) ∷ [])) same_room set.changed);
+    changed = changed_again sh.changed sh.as_long (subst (λ (x : ℕ). Changed mid now (touch at 28 (16 * x) ∷ [])) same_room set.changed);
     stay = λ j le f l o s. still j (omega arith) (apart j le) f l o (sh.stay j (omega arith) f l o s);
     moved_on = λ j le lt. elim (cases_eq j (used - k - 1)) [
       | inl e ↦ moved_one j e
@@ -108,97 +99,50 @@ module _ (b mid now : List ℕ) (at used k first last offset : ℕ) (sh : Shifte
 
 -- ---- the new entry, and the count
 
-pub count_is : (u r s : ℕ) → u ≤ r → 28 + 16 * r ≤ s → r < 2 ^ 31 → counts u r s ≡ u
-count_is u r s ur rs small = grind arith
-
 module _ (b mid mid2 now : List ℕ) (at used p first last offset : ℕ) (sh : Shifted b mid at used (used - p)) (inside : NodeInside b at) (short : length b ≤ image_limit) (room : used < room_at b at) (place : p ≤ used) (set : EntrySet mid mid2 at p first last offset)
     (write : now ≡ with_field mid2 at vxr_n_used_entries (suc used)) where
   head : at + 28 ≤ length b
-  head = front (room_at b at) (length b) inside.room
-    where
-      front : (r l : ℕ) → at + (28 + 16 * r) ≤ l → at + 28 ≤ l
-      front r l h = omega arith
+  head = node_head inside
 
   room1 : room_at mid at ≡ room_at b at
   room1 = room_stays b mid at (16 * room_at b at) sh.changed head
 
   changed2 : Changed b mid2 (touch at 28 (16 * room_at b at) ∷ [])
-  changed2 = changed_again b mid mid2 at 28 (16 * room_at b at) sh.changed sh.as_long (subst (λ (x : ℕ). Changed mid mid2 (touch at 28 (16 * x) ∷ [])) room1 set.changed)
+  changed2 = changed_again sh.changed sh.as_long (subst (λ (x : ℕ). Changed mid mid2 (touch at 28 (16 * x) ∷ [])) room1 set.changed)
 
   long2 : length mid2 ≡ length b
   long2 = set.as_long ∙ sh.as_long
 
-  lies : LiesIn mid2 at vxr_n_used_entries
-  lies = let h = head in let l = long2 in omega arith
+  counted_now : FieldSet mid2 now at vxr_n_used_entries (suc used)
+  counted_now = field_set (let h = head in let l = long2 in omega arith) write
 
-  past : (other m : ℕ) → (other + m ≤ at + 24) ⊎ (at + 24 + 4 ≤ other) → word now other m ≡ word mid2 other m
-  past other m apart = ap (λ (x : List ℕ). word x other m) write ∙ other_words mid2 at vxr_n_used_entries (suc used) other m lies apart
+  entries_too : (i : ℕ) → StillSays mid2 now at i i
+  entries_too = entries_beside counted_now (omega arith) (omega arith) (inr (omega arith))
 
   room_is : room_at now at ≡ room_at b at
-  room_is = past (at + 20) 4 (inl (omega arith)) ∙ room_stays b mid2 at (16 * room_at b at) changed2 head
-
-  counted_too : (i : ℕ) → StillSays mid2 now at i i
-  counted_too i f l o s =
-      let r2 : room_at mid2 at ≡ room_at b at = room_stays b mid2 at (16 * room_at b at) changed2 head in
-      let r : room_at now at ≡ room_at mid2 at = room_is ∙ sym r2 in
-      record {
-        first_is = past (at + (28 + 4 * i)) 4 (inr (omega arith)) ∙ s.first_is;
-        last_is = ap (λ (x : ℕ). word now (at + (28 + 4 * x + 4 * i)) 4) r ∙ past (at + (28 + 4 * room_at mid2 at + 4 * i)) 4 (inr (after4 (room_at mid2 at) i)) ∙ s.last_is;
-        offset_is = ap (λ (x : ℕ). word now (at + (28 + 8 * x + 8 * i)) 8) r ∙ past (at + (28 + 8 * room_at mid2 at + 8 * i)) 8 (inr (after8 (room_at mid2 at) i)) ∙ s.offset_is;
-      }
-    where
-      after4 : (r i : ℕ) → at + 24 + 4 ≤ at + (28 + 4 * r + 4 * i)
-      after4 r i = omega arith
-
-      after8 : (r i : ℕ) → at + 24 + 4 ≤ at + (28 + 8 * r + 8 * i)
-      after8 r i = omega arith
+  room_is = room_beside counted_now (omega arith) (omega arith) (inr (omega arith)) ∙ room_stays b mid2 at (16 * room_at b at) changed2 head
 
   kept : (j : ℕ) → j < room_at b at → j ≢ p → StillSays mid now at j j
-  kept j lt ne f l o s = counted_too j f l o (set.others j (subst (λ (x : ℕ). j < x) (sym room1) lt) ne f l o s)
-
-  small : room_at b at < 2 ^ 31
-  small = bound (room_at b at) (length b) inside.room short
-    where
-      bound : (r l : ℕ) → at + (28 + 16 * r) ≤ l → l ≤ image_limit → r < 2 ^ 31
-      bound r l h s = omega arith
+  kept j lt ne f l o s = entries_too j f l o (set.others j (subst (λ (x : ℕ). j < x) (sym room1) lt) ne f l o s)
 
   count_now : number now at vxr_n_used_entries ≡ suc used
-  count_now = let sm = small in ap (λ (x : List ℕ). number x at vxr_n_used_entries) write ∙ field_reads mid2 at vxr_n_used_entries (suc used) lies (bits (room_at b at) sm room)
+  count_now = counted_now.reads (bits (room_at b at) (node_small inside short) room)
     where
       bits : (r : ℕ) → r < 2 ^ 31 → used < r → suc used < 256 ^ 4
       bits r s h = omega arith
 
-  used_now : used_count now at ≡ suc used
-  used_now =
-      let r = room_is in
-      let s : size_at now at ≡ size_at b at = past (at + 0) 8 (inl (omega arith)) ∙ front_stays b mid2 at 28 (16 * room_at b at) changed2 head 0 8 (omega arith) in
-      let sm = small in
-      let u = count_now in
-      (λ i. counts (u i) (r i) (s i)) ∙ count_is (suc used) (room_at b at) (size_at b at) (above (room_at b at) room) inside.entries sm
-    where
-      above : (r : ℕ) → used < r → suc used ≤ r
-      above r h = omega arith
+  size_is : size_at now at ≡ size_at b at
+  size_is = size_beside counted_now (omega arith) (omega arith) (inr (omega arith)) ∙ front_stays b mid2 at 28 (16 * room_at b at) changed2 head 0 8 (omega arith)
 
   pub inserted : Inserted b now at used p first last offset
   inserted = record {
-    as_long = ap length write ∙ length-with_field mid2 at vxr_n_used_entries (suc used) lies ∙ long2;
-    changed = record {
-      longer = omega (arith, long2, ap length write, length-with_field mid2 at vxr_n_used_entries (suc used) lies);
-      same = λ i lt o. ap (λ (x : List ℕ). slice_index x i) write ∙ other_bytes mid2 at vxr_n_used_entries (suc used) i lies (outside_count i (room_at b at) o.0) ∙ changed2.same i lt (outside_entries i (room_at b at) o.0, tt);
-    };
+    as_long = counted_now.as_long ∙ long2;
+    changed = changed_again (changed_wider 24 (4 + 16 * room_at b at) changed2 (omega arith) (omega arith)) long2 (changed_wider 24 (4 + 16 * room_at b at) counted_now.changed (omega arith) (omega arith));
     earlier = λ j lt f l o s. kept j (omega arith) (λ e. absurd (omega arith)) f l o (sh.stay j (omega arith) f l o s);
-    here = counted_too p first last offset set.here;
+    here = entries_too p first last offset set.here;
     later = λ j le lt f l o s. kept (suc j) (omega arith) (λ e. absurd (omega arith)) f l o (sh.moved_on j (omega arith) lt f l o s);
     unused = λ j lt in_room f l o s. kept j in_room (λ e. absurd (omega arith)) f l o (sh.unused j lt in_room f l o s);
     room_stays = room_is;
-    used_is = used_now;
+    used_is = used_by_count now inside short count_now room_is size_is room;
     count_is = count_now;
   }
-    where
-      outside_count : (i r : ℕ) → (i < at + 24) ⊎ (at + 24 + (4 + 16 * r) ≤ i) → (i < at + 24) ⊎ (at + 24 + 4 ≤ i)
-      outside_count i r (inl l) = inl l
-      outside_count i r (inr h) = inr (omega arith)
-
-      outside_entries : (i r : ℕ) → (i < at + 24) ⊎ (at + 24 + (4 + 16 * r) ≤ i) → (i < at + 28) ⊎ (at + 28 + 16 * r ≤ i)
-      outside_entries i r (inl l) = inl (omega arith)
-      outside_entries i r (inr h) = inr (omega arith)

@@ -33,4 +33,7 @@ pub mod LeafRules
 pub mod NodeFilled
 pub mod OneNode
 pub mod OneVariable
+pub mod FieldSet
+pub mod ByLeaf
+pub mod OwnRecords
 pub mod EntriesLeft

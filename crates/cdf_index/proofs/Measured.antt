@@ -65,12 +65,10 @@ mutual
   leaves_below (block first last place packed entries) = let a = leaves_below entries in omega arith
   leaves_below (lower first last nodes entries) = let a = leaves_few nodes in let b = leaves_below entries in omega (arith, length-append (leaves_of nodes) (entry_leaves entries))
 
-mutual
-  unfolding widest widest_below
-
-  wide_enough : (nodes : Nodes) → 7 ≤ widest nodes
-  wide_enough no_node = omega arith
-  wide_enough (node place room entries more) = let a = wide_enough more in omega arith
+pub seven_at_least : (nodes : Nodes) → 7 ≤ widest nodes
+unfolding widest
+seven_at_least no_node = omega arith
+seven_at_least (node place room entries more) = let a = seven_at_least more in omega arith
 
 -- a node has at most so many entries
 abbrev most : ℕ
@@ -118,5 +116,5 @@ measured_is b head has short size e =
     let few = few_in b has.tiled short 8 nodes has.index.has_nodes has.fits in
     let over = few_nodes has in
     let leaves = leaves_few nodes in
-    let wide = wide_enough nodes in
+    let wide = seven_at_least nodes in
     e ∙ all ∙ size_is _ _ _ _ _ _ (omega arith) (omega arith) (omega arith)

@@ -3,7 +3,8 @@ use Rattle.std.proofs.Common.{◌≡◌, ◌⊎◌, ◌≢◌, ℕ, zero, suc, �
 use Rattle.cdf_index.proofs.Common.{cases_eq, image_limit, Changed, touch, LiesIn, word, number, with_field, size_at, room_at, used_count, SaysEntry, vxr_n_used_entries, field_reads, length-with_field, other_bytes, other_words, NodeInside, entry_in, StillSays, EntrySet, EntriesRead, Cleared, Shortened, Widened, Entry}
 use Rattle.cdf_format.specs.Records.{vxr_vxr_next}
 use Rattle.cdf_index.specs.Writing.{SaysUnused}
-use Rattle.cdf_index.proofs.Inserting.{front_stays, room_stays, changed_again, counts, count_is}
+use Rattle.cdf_index.proofs.FieldSet.{FieldSet, field_set, changed_again, changed_wider, node_head, node_small, used_by_count, size_beside, room_beside, entries_beside}
+use Rattle.cdf_index.proofs.Inserting.{front_stays, room_stays}
 
 -- ---- an entry that ends later
 
@@ -76,10 +77,10 @@ clear_start b at from = record {
 
 pub clear_more : (b mid now : List ℕ) (at from i : ℕ) → NodeInside b at → Cleared b mid at from i → from ≤ i → i < room_at b at → EntrySet mid now at i 0xffffffff 0xffffffff 0xffffffffffffffff → Cleared b now at from (i + 1)
 clear_more b mid now at from i inside c le lt set =
-    let room : room_at mid at ≡ room_at b at = room_stays b mid at (16 * room_at b at) c.changed (first (room_at b at) (length b) inside.room) in
+    let room : room_at mid at ≡ room_at b at = room_stays b mid at (16 * room_at b at) c.changed (node_head inside) in
     record {
       as_long = set.as_long ∙ c.as_long;
-      changed = changed_again b mid now at 28 (16 * room_at b at) c.changed c.as_long (subst (λ (x : ℕ). Changed mid now (touch at 28 (16 * x) ∷ [])) room set.changed);
+      changed = changed_again c.changed c.as_long (subst (λ (x : ℕ). Changed mid now (touch at 28 (16 * x) ∷ [])) room set.changed);
       gone = λ j lo hi. elim (cases_eq j i) [
         | inl e ↦ subst (λ (x : ℕ). SaysUnused now at x) (sym e) set.here
         | inr ne ↦ set.others j (subst (λ (x : ℕ). j < x) (sym room) (below j (room_at b at) hi lt)) ne _ _ _ (c.gone j lo (earlier j hi ne))
@@ -87,9 +88,6 @@ clear_more b mid now at from i inside c le lt set =
       others = λ j in_room o f l k s. set.others j (subst (λ (x : ℕ). j < x) (sym room) in_room) (not_it j o) f l k (c.others j in_room (outside j o) f l k s);
     }
   where
-    first : (r l : ℕ) → at + (28 + 16 * r) ≤ l → at + 28 ≤ l
-    first r l h = omega arith
-
     below : (j r : ℕ) → j < i + 1 → i < r → j < r
     below j r a b = omega arith
 
@@ -109,114 +107,60 @@ clear_more b mid now at from i inside c le lt set =
 module _ (b mid mid2 mid3 now : List ℕ) (at used p first last offset next : ℕ) (inside : NodeInside b at) (short : length b ≤ image_limit) (fits : used ≤ room_at b at) (place : p < used) (next_fits : next < 256 ^ 8) (cl : Cleared b mid at (p + 1) used) (set : EntrySet mid mid2 at p first last offset)
     (write : mid3 ≡ with_field mid2 at vxr_n_used_entries (p + 1)) (link : now ≡ with_field mid3 at vxr_vxr_next next) where
   head : at + 28 ≤ length b
-  head = front (room_at b at) (length b) inside.room
-    where
-      front : (r l : ℕ) → at + (28 + 16 * r) ≤ l → at + 28 ≤ l
-      front r l h = omega arith
+  head = node_head inside
 
   room1 : room_at mid at ≡ room_at b at
   room1 = room_stays b mid at (16 * room_at b at) cl.changed head
 
   changed2 : Changed b mid2 (touch at 28 (16 * room_at b at) ∷ [])
-  changed2 = changed_again b mid mid2 at 28 (16 * room_at b at) cl.changed cl.as_long (subst (λ (x : ℕ). Changed mid mid2 (touch at 28 (16 * x) ∷ [])) room1 set.changed)
+  changed2 = changed_again cl.changed cl.as_long (subst (λ (x : ℕ). Changed mid mid2 (touch at 28 (16 * x) ∷ [])) room1 set.changed)
 
   long2 : length mid2 ≡ length b
   long2 = set.as_long ∙ cl.as_long
 
-  lies : LiesIn mid2 at vxr_n_used_entries
-  lies = let h = head in let l = long2 in omega arith
+  counted_now : FieldSet mid2 mid3 at vxr_n_used_entries (p + 1)
+  counted_now = field_set (let h = head in let l = long2 in omega arith) write
 
   long3 : length mid3 ≡ length b
-  long3 = ap length write ∙ length-with_field mid2 at vxr_n_used_entries (p + 1) lies ∙ long2
+  long3 = counted_now.as_long ∙ long2
 
-  lies3 : LiesIn mid3 at vxr_vxr_next
-  lies3 = let h = head in let l = long3 in omega arith
-
-  past3 : (other m : ℕ) → (other + m ≤ at + 24) ⊎ (at + 24 + 4 ≤ other) → word mid3 other m ≡ word mid2 other m
-  past3 other m apart = ap (λ (x : List ℕ). word x other m) write ∙ other_words mid2 at vxr_n_used_entries (p + 1) other m lies apart
-
-  past4 : (other m : ℕ) → (other + m ≤ at + 12) ⊎ (at + 12 + 8 ≤ other) → word now other m ≡ word mid3 other m
-  past4 other m apart = ap (λ (x : List ℕ). word x other m) link ∙ other_words mid3 at vxr_vxr_next next other m lies3 apart
+  linked : FieldSet mid3 now at vxr_vxr_next next
+  linked = field_set (let h = head in let l = long3 in omega arith) link
 
   room_is : room_at now at ≡ room_at b at
-  room_is = past4 (at + 20) 4 (inr (omega arith)) ∙ past3 (at + 20) 4 (inl (omega arith)) ∙ room_stays b mid2 at (16 * room_at b at) changed2 head
+  room_is = room_beside linked (omega arith) (omega arith) (inl (omega arith)) ∙ room_beside counted_now (omega arith) (omega arith) (inr (omega arith)) ∙ room_stays b mid2 at (16 * room_at b at) changed2 head
 
-  written_too : (i : ℕ) → StillSays mid2 now at i i
-  written_too i f l o s =
-      let r2 : room_at mid2 at ≡ room_at b at = room_stays b mid2 at (16 * room_at b at) changed2 head in
-      let r : room_at now at ≡ room_at mid2 at = room_is ∙ sym r2 in
-      record {
-        first_is = past4 (at + (28 + 4 * i)) 4 (inr (omega arith)) ∙ past3 (at + (28 + 4 * i)) 4 (inr (omega arith)) ∙ s.first_is;
-        last_is = ap (λ (x : ℕ). word now (at + (28 + 4 * x + 4 * i)) 4) r ∙ past4 (at + (28 + 4 * room_at mid2 at + 4 * i)) 4 (inr (after4 (room_at mid2 at) i)) ∙ past3 (at + (28 + 4 * room_at mid2 at + 4 * i)) 4 (inr (behind4 (room_at mid2 at) i)) ∙ s.last_is;
-        offset_is = ap (λ (x : ℕ). word now (at + (28 + 8 * x + 8 * i)) 8) r ∙ past4 (at + (28 + 8 * room_at mid2 at + 8 * i)) 8 (inr (after8 (room_at mid2 at) i)) ∙ past3 (at + (28 + 8 * room_at mid2 at + 8 * i)) 8 (inr (behind8 (room_at mid2 at) i)) ∙ s.offset_is;
-      }
-    where
-      after4 : (r i : ℕ) → at + 12 + 8 ≤ at + (28 + 4 * r + 4 * i)
-      after4 r i = omega arith
+  size_is : size_at now at ≡ size_at b at
+  size_is = size_beside linked (omega arith) (omega arith) (inl (omega arith)) ∙ size_beside counted_now (omega arith) (omega arith) (inr (omega arith)) ∙ front_stays b mid2 at 28 (16 * room_at b at) changed2 head 0 8 (omega arith)
 
-      behind4 : (r i : ℕ) → at + 24 + 4 ≤ at + (28 + 4 * r + 4 * i)
-      behind4 r i = omega arith
-
-      after8 : (r i : ℕ) → at + 12 + 8 ≤ at + (28 + 8 * r + 8 * i)
-      after8 r i = omega arith
-
-      behind8 : (r i : ℕ) → at + 24 + 4 ≤ at + (28 + 8 * r + 8 * i)
-      behind8 r i = omega arith
+  entries_too : (i : ℕ) → StillSays mid2 now at i i
+  entries_too i f l o s = entries_beside linked (omega arith) (omega arith) (inl (omega arith)) i f l o (entries_beside counted_now (omega arith) (omega arith) (inr (omega arith)) i f l o s)
 
   kept : (j : ℕ) → j < room_at b at → j ≢ p → StillSays mid now at j j
-  kept j lt ne f l o s = written_too j f l o (set.others j (subst (λ (x : ℕ). j < x) (sym room1) lt) ne f l o s)
-
-  small : room_at b at < 2 ^ 31
-  small = bound (room_at b at) (length b) inside.room short
-    where
-      bound : (r l : ℕ) → at + (28 + 16 * r) ≤ l → l ≤ image_limit → r < 2 ^ 31
-      bound r l h s = omega arith
+  kept j lt ne f l o s = entries_too j f l o (set.others j (subst (λ (x : ℕ). j < x) (sym room1) lt) ne f l o s)
 
   count_now : number now at vxr_n_used_entries ≡ suc p
-  count_now = let sm = small in past4 (at + 24) 4 (inr (omega arith)) ∙ ap (λ (x : List ℕ). number x at vxr_n_used_entries) write ∙ field_reads mid2 at vxr_n_used_entries (p + 1) lies (bits (room_at b at) sm fits) ∙ omega arith
+  count_now = linked.past (at + 24) 4 (inr (omega arith)) ∙ counted_now.reads (bits (room_at b at) (node_small inside short) fits) ∙ omega arith
     where
       bits : (r : ℕ) → r < 2 ^ 31 → used ≤ r → p + 1 < 256 ^ 4
       bits r s h = omega arith
 
-  used_now : used_count now at ≡ suc p
-  used_now =
-      let r = room_is in
-      let s : size_at now at ≡ size_at b at = past4 (at + 0) 8 (inl (omega arith)) ∙ past3 (at + 0) 8 (inl (omega arith)) ∙ front_stays b mid2 at 28 (16 * room_at b at) changed2 head 0 8 (omega arith) in
-      let sm = small in
-      let u = count_now in
-      (λ i. counts (u i) (r i) (s i)) ∙ count_is (suc p) (room_at b at) (size_at b at) (above (room_at b at) fits) inside.entries sm
+  pub shortened : Shortened b now at used p first last offset next
+  shortened = record {
+    as_long = linked.as_long ∙ long3;
+    changed = changed_again (changed_again (wider changed2 (omega arith) (omega arith)) long2 (wider counted_now.changed (omega arith) (omega arith))) long3 (wider linked.changed (omega arith) (omega arith));
+    earlier = λ j lt f l o s. kept j (omega (arith, fits)) (λ e. absurd (omega arith)) f l o (cl.others j (omega (arith, fits)) (inl (omega arith)) f l o s);
+    here = entries_too p first last offset set.here;
+    gone = λ j lo hi. kept j (omega (arith, fits)) (λ e. absurd (omega arith)) _ _ _ (cl.gone j (omega arith) hi);
+    unused = λ j le lt f l o s. kept j lt (λ e. absurd (omega arith)) f l o (cl.others j lt (inr le) f l o s);
+    room_stays = room_is;
+    used_is = used_by_count now inside short count_now room_is size_is (above (room_at b at) fits);
+    count_is = count_now;
+    next_is = linked.reads next_fits;
+  }
     where
       above : (r : ℕ) → used ≤ r → suc p ≤ r
       above r h = omega arith
 
-  pub shortened : Shortened b now at used p first last offset next
-  shortened = record {
-    as_long = ap length link ∙ length-with_field mid3 at vxr_vxr_next next lies3 ∙ long3;
-    changed = record {
-      longer = omega (arith, long3, ap length link, length-with_field mid3 at vxr_vxr_next next lies3);
-      same = λ i lt o.
-          ap (λ (x : List ℕ). slice_index x i) link ∙ other_bytes mid3 at vxr_vxr_next next i lies3 (outside_link i (room_at b at) o.0)
-          ∙ ap (λ (x : List ℕ). slice_index x i) write ∙ other_bytes mid2 at vxr_n_used_entries (p + 1) i lies (outside_count i (room_at b at) o.0)
-          ∙ changed2.same i lt (outside_entries i (room_at b at) o.0, tt);
-    };
-    earlier = λ j lt f l o s. kept j (omega (arith, fits)) (λ e. absurd (omega arith)) f l o (cl.others j (omega (arith, fits)) (inl (omega arith)) f l o s);
-    here = written_too p first last offset set.here;
-    gone = λ j lo hi. kept j (omega (arith, fits)) (λ e. absurd (omega arith)) _ _ _ (cl.gone j (omega arith) hi);
-    unused = λ j le lt f l o s. kept j lt (λ e. absurd (omega arith)) f l o (cl.others j lt (inr le) f l o s);
-    room_stays = room_is;
-    used_is = used_now;
-    count_is = count_now;
-    next_is = ap (λ (x : List ℕ). number x at vxr_vxr_next) link ∙ field_reads mid3 at vxr_vxr_next next lies3 next_fits;
-  }
-    where
-      outside_link : (i r : ℕ) → (i < at + 12) ⊎ (at + 12 + (16 + 16 * r) ≤ i) → (i < at + 12) ⊎ (at + 12 + 8 ≤ i)
-      outside_link i r (inl l) = inl l
-      outside_link i r (inr h) = inr (omega arith)
-
-      outside_count : (i r : ℕ) → (i < at + 12) ⊎ (at + 12 + (16 + 16 * r) ≤ i) → (i < at + 24) ⊎ (at + 24 + 4 ≤ i)
-      outside_count i r (inl l) = inl (omega arith)
-      outside_count i r (inr h) = inr (omega arith)
-
-      outside_entries : (i r : ℕ) → (i < at + 12) ⊎ (at + 12 + (16 + 16 * r) ≤ i) → (i < at + 28) ⊎ (at + 28 + 16 * r ≤ i)
-      outside_entries i r (inl l) = inl (omega arith)
-      outside_entries i r (inr h) = inr (omega arith)
+      wider : {x y : List ℕ} {place width : ℕ} → Changed x y (touch at place width ∷ []) → 12 ≤ place → place + width ≤ 12 + (16 + 16 * room_at b at) → Changed x y (touch at 12 (16 + 16 * room_at b at) ∷ [])
+      wider = changed_wider 12 (16 + 16 * room_at b at)

@@ -12,11 +12,12 @@ use Rattle.cdf_leaves.specs.Added.{IsWay}
 use Rattle.cdf_leaves.proofs.LeafGrown.{EntryStands, entry_stands, wide_state, chain_ready, vdr_lies, tail_stays, tail_written}
 use Rattle.cdf_leaves.proofs.Grown.{was}
 use Rattle.cdf_leaves.proofs.NodesOf.{old_in}
-use Rattle.cdf_leaves.proofs.Linked.{field_long}
+use Rattle.cdf_index.proofs.FieldSet.{field_set}
 use Rattle.cdf_leaves.proofs.LeafStarted.{first_added}
 use Rattle.cdf_leaves.proofs.Own.{searchable, own_node, node_fits, node_kept, node_spares}
 use Rattle.cdf_leaves.proofs.Spares.{fits_still, front_lies, node_inside, node_long}
-use Rattle.cdf_leaves.proofs.SpotNode.{NotAt, nodes_linkable, way_apart, widest_least}
+use Rattle.cdf_index.proofs.Measured.{seven_at_least}
+use Rattle.cdf_leaves.proofs.SpotNode.{NotAt, nodes_linkable, way_apart}
 use Rattle.cdf_leaves.proofs.State.{State}
 use Rattle.cdf_index.proofs.OneVariable.{one_of}
 use Rattle.cdf_edits.proofs.Edits.RecordFrame.{through}
@@ -30,7 +31,7 @@ put_long {filled = filled} {grown = grown} {seen = seen} fits lies (inr q) = eli
   | inr c ↦
       let l = c.1.made.longest in
       let longer = takes_longer c.1.made in
-      let m = field_long c.1.roomy grown seen.place vxr_vxr_next _ (omega arith) c.1.linked in
+      let m = (field_set {b = c.1.roomy} {at = seen.place} {f = vxr_vxr_next} (omega arith) c.1.linked).as_long in
       bound_7 (length filled) (length c.1.roomy) (length grown) seen.room l m
 ]
   where
@@ -49,8 +50,8 @@ started_long {filled = filled} {now = now} {vdr = vdr} lies st =
     let a = st.made.fills.takes.changed.longer in
     let c = st.made.fills.long in
     let l = st.made.longest in
-    let m = field_long st.roomy (with_field st.roomy vdr vdr_vxr_head st.at) vdr vdr_vxr_head st.at (omega arith) refl in
-    let n = field_long (with_field st.roomy vdr vdr_vxr_head st.at) now vdr vdr_vxr_tail st.at (omega arith) st.linked in
+    let m = (field_set {b = st.roomy} {now = with_field st.roomy vdr vdr_vxr_head st.at} {at = vdr} {f = vdr_vxr_head} (omega arith) refl).as_long in
+    let n = (field_set {at = vdr} {f = vdr_vxr_tail} (omega arith) st.linked).as_long in
     omega arith
 
 pub fits_room : (f b n w m lim lim' : ℕ) → f ≤ b + n → m ≤ w → b + n + (28 + 16 * w) ≤ lim → lim' ≡ lim → f + (28 + 16 * m) ≤ lim'
@@ -89,7 +90,7 @@ module _ {b : List ℕ} {kind : Kind} {before : List VariableShape} {own : Varia
     vdr_late = let l = late.longer in let v = vdr_there in omega arith
 
     pub seven_fit : {head : ℕ} → head ≡ number b own.vdr vdr_vxr_head → (lim lim' : ℕ) → length b + (8 + length body) + vxr_bytes (widest (index_at b head)) ≤ lim → lim' ≡ lim → length filled + vxr_bytes 7 ≤ lim'
-    seven_fit {head = head} e lim lim' room same = fits_room (length filled) (length b) (8 + length body) (widest (index_at b head)) 7 lim lim' block.longest (widest_least (index_at b head)) room same
+    seven_fit {head = head} e lim lim' room same = fits_room (length filled) (length b) (8 + length body) (widest (index_at b head)) 7 lim lim' block.longest (seven_at_least (index_at b head)) room same
 
     -- ---- the index had no node
 
@@ -136,7 +137,7 @@ module _ {b : List ℕ} {kind : Kind} {before : List VariableShape} {own : Varia
       pub wide_enough : max 7 found.end.room ≤ widest (index_at b head)
       wide_enough =
           subst (λ (n : Nodes). max 7 found.end.room ≤ widest n) (sym index)
-          (subst (λ (r : ℕ). max 7 r ≤ widest own.index) (sym w.sees.room_is) (both_least (room_at b found.end.place) (widest own.index) (widest_least own.index) (nodes_linkable b (shape b).records 8 found.end.place own.index (has good at_own).indexed.has_nodes last_there).1))
+          (subst (λ (r : ℕ). max 7 r ≤ widest own.index) (sym w.sees.room_is) (both_least (room_at b found.end.place) (widest own.index) (seven_at_least own.index) (nodes_linkable b (shape b).records 8 found.end.place own.index (has good at_own).indexed.has_nodes last_there).1))
         where
           both_least : (r n : ℕ) → 7 ≤ n → r ≤ n → max 7 r ≤ n
           both_least r n p q = grind arith

@@ -83,6 +83,10 @@ new_node b mid roomy was x at room next entries w is = record {
 -- ---- the node that gets the entry
 
 module _ (b roomy now : List ℕ) (was : ℕ → ℕ → Bool) (x : ℕ) (n : NodeNow b roomy roomy was x x) (lies : x + 28 ≤ length roomy) where
+  still : (i : ℕ) (w : Bool) → EntryIs b roomy x i w → StillSays roomy now x i i → EntryIs b now x i w
+  still i true e s = s _ _ _ e
+  still i false e s = s _ _ _ e
+
   pub inserted_node : (used p first last offset : ℕ) → Inserted roomy now x used p first last offset → used ≡ used_count roomy x → used < room_at roomy x → NodeNow b roomy now was x x
   inserted_node used p first last offset ins is room =
       let size : size_at now x ≡ size_at roomy x = front_stays roomy now x 24 (4 + 16 * room_at roomy x) ins.changed (omega arith) 0 8 (omega arith) in
@@ -100,10 +104,6 @@ module _ (b roomy now : List ℕ) (was : ℕ → ℕ → Bool) (x : ℕ) (n : No
             let lt' : i < room_at roomy x = subst (λ (k : ℕ). i < k) ins.room_stays lt in
             still i (was x i) (n.spare i (subst (λ (k : ℕ). k ≤ i) is (omega arith)) lt') (ins.unused i (omega arith) lt'));
       }
-    where
-      still : (i : ℕ) (w : Bool) → EntryIs b roomy x i w → StillSays roomy now x i i → EntryIs b now x i w
-      still i true e s = s _ _ _ e
-      still i false e s = s _ _ _ e
 
   pub shortened_node : (used p first last offset next : ℕ) → Shortened roomy now x used p first last offset next → used ≡ used_count roomy x → p < used → ((i : ℕ) → i < used → was x i ≡ false) → NodeNow b roomy now was x x
   shortened_node used p first last offset next sh is lt_used unused =
@@ -132,10 +132,6 @@ module _ (b roomy now : List ℕ) (was : ℕ → ℕ → Bool) (x : ℕ) (n : No
 
       apart : (i u : ℕ) → (i < u) ⊎ (u ≤ i)
       apart i u = grind arith
-
-      still : (i : ℕ) (w : Bool) → EntryIs b roomy x i w → StillSays roomy now x i i → EntryIs b now x i w
-      still i true e s = s _ _ _ e
-      still i false e s = s _ _ _ e
 
 -- ---- the leaf may be named
 

@@ -21,10 +21,12 @@ use Rattle.cdf_leaves.specs.Putting.{SplitMade, ChainMade}
 use Rattle.cdf_index.specs.Order.{InOrder}
 use Rattle.cdf_edits.proofs.Edits.RecordGrown.{grew_none, kept_then}
 use Rattle.cdf_leaves.proofs.Grown.{below, was, was_old, was_new, old_node, new_node, inserted_node, shortened_node, names_leaf, room_with, room_full}
-use Rattle.cdf_leaves.proofs.Linked.{field_changed, field_long, link_changed, link_long, link_reads, link_room, link_used, link_entries, link_spares}
+use Rattle.cdf_edits.proofs.Edits.ActsThen.{each_in}
+use Rattle.cdf_index.proofs.FieldSet.{field_set}
+use Rattle.cdf_leaves.proofs.Linked.{link_set, link_room, link_used, link_entries, link_spares}
 use Rattle.cdf_leaves.proofs.NodesMore.{places, all_wider}
 use Rattle.cdf_leaves.proofs.NodesOf.{in_new, node_of, old_in, all_once}
-use Rattle.cdf_leaves.proofs.Own.{node_each, searchable, own_node, node_fits, vdr_apart, now_has, now_blocks, node_kept, node_spares, vdr_kept, vdr_in, vdr_used}
+use Rattle.cdf_leaves.proofs.Own.{searchable, own_node, node_fits, vdr_apart, now_has, now_blocks, node_kept, node_spares, vdr_kept, vdr_in, vdr_used}
 use Rattle.cdf_leaves.proofs.Spares.{Spares, spares_kept, all_entries, fits_still, node_inside, front_lies, node_long}
 use Rattle.cdf_leaves.proofs.SpotNode.{SpotNode, NotAt, spot_node, way_apart, begins_by}
 use Rattle.cdf_leaves.proofs.State.{NodeNow, node_then, NodeTouch, State, OnWay, first_step, widened_all}
@@ -375,8 +377,9 @@ module _ {b : List ℕ} {kind : Kind} {before : List VariableShape} {own : Varia
       let seven : new ≡ 7 = full ∙ ap (max 7) (let d : seen.used - seen.begun ≡ 0 = omega arith in d) in
       let some_new : 0 < new = subst (λ (n : ℕ). 0 < n) (sym seven) (omega arith) in
       let inside = inside_x roomy g on in
-      let changed = link_changed roomy grown x at inside ch.linked in
-      let as_long = link_long roomy grown x at inside ch.linked in
+      let set = link_set roomy grown x at inside ch.linked in
+      let changed = set.changed in
+      let as_long = set.as_long in
       let fit : 12 + 8 ≤ 28 + 16 * room_at roomy x = omega arith in
       let heads = heads_now w grown 12 8 (omega arith) fit changed in
       let at_kept = at_stays w grown 12 8 (omega arith) fit changed in
@@ -388,7 +391,7 @@ module _ {b : List ℕ} {kind : Kind} {before : List VariableShape} {own : Varia
         stay = λ j less. link_entries roomy grown x at inside ch.linked j;
         room_stays = link_room roomy grown x at inside ch.linked;
         used_is = link_used roomy grown x at inside ch.linked ∙ sym used;
-        next_is = link_reads roomy grown x at inside ch.linked small;
+        next_is = set.reads small;
         here = all_entries roomy grown at at_kept (at_fits w) 0 (subst (λ (n : ℕ). 0 < n) (sym w.written.room_is) (omega arith)) l.first l.last l.place first;
         new_room = spares.room_is ∙ w.written.room_is;
         new_used = spares.used_is ∙ w.written.used_is;
@@ -532,7 +535,7 @@ module _ {b : List ℕ} {kind : Kind} {before : List VariableShape} {own : Varia
 
         counts_now : Each (Counts b) (nodes_of index) → (m : ℕ) → In m every → Counts now m
         counts_now c m i = (last_node_now m i).count (elim (node_of index l at m i) [
-          | inl j ↦ (let s = node_spares good stood e.grew m j in subst (λ (k : ℕ). k ≤ room_at e.roomy m) (sym s.count_is) (subst (λ (k : ℕ). number b m vxr_n_used_entries ≤ k) (sym s.room_is) (node_each (Counts b) (nodes_of index) m c j)))
+          | inl j ↦ (let s = node_spares good stood e.grew m j in subst (λ (k : ℕ). k ≤ room_at e.roomy m) (sym s.count_is) (subst (λ (k : ℕ). number b m vxr_n_used_entries ≤ k) (sym s.room_is) (each_in (Counts b) (nodes_of index) m c j)))
           | inr p ↦ subst (Counts e.roomy) (sym p.1) (e.counted p.0)
         ])
 
@@ -574,14 +577,13 @@ module _ {b : List ℕ} {kind : Kind} {before : List VariableShape} {own : Varia
         tail_written {now = now} short ne none is =
             let n = chain_end (length wide) wide (number b own.vdr vdr_vxr_head) in
             let lies : LiesIn wide own.vdr vdr_vxr_tail = (let v = vdr_lies in omega arith) in
-            let changed = field_changed wide now own.vdr vdr_vxr_tail n lies is in
+            let set = field_set lies is in
             let v_in : In own.vdr recs = vdr_first in
             let fit : 36 + 8 ≤ size_at wide own.vdr = subst (λ (k : ℕ). 36 + 8 ≤ k) (sym (size_kept b wide own.vdr vdr_wide.same (let s = long good stood in omega arith))) (let s = long good stood in omega arith) in
-            leaf_added block need_is (touch own.vdr 36 8 ∷ []) changed (inl (refl, omega arith, omega arith), tt) (field_long wide now own.vdr vdr_vxr_tail n lies is)
-            (λ m i. others_stay wide now recs st.tiled own.vdr 36 8 v_in (omega arith) fit changed m (stand_every m i) (node_apart m i))
-            (heads_stay wide now recs st.tiled own.vdr 36 8 v_in (omega arith) fit changed)
-            (ap (λ (y : List ℕ). number y own.vdr vdr_vxr_head) is ∙ other_words wide own.vdr vdr_vxr_tail n (own.vdr + 28) 8 lies (inl (omega arith)))
-            (ap (λ (y : List ℕ). number y own.vdr vdr_vxr_tail) is ∙ field_reads wide own.vdr vdr_vxr_tail n lies (small n (let f = chain_found in let w = last_low in let a = st.as_long in let c = e.state.as_long in omega arith)) ∙ chain_found ∙ sym (new_tail (top_grows l at index none (e.top ne))))
+            leaf_added block need_is (touch own.vdr 36 8 ∷ []) set.changed (inl (refl, omega arith, omega arith), tt) set.as_long
+            (λ m i. others_stay wide now recs st.tiled own.vdr 36 8 v_in (omega arith) fit set.changed m (stand_every m i) (node_apart m i))
+            (heads_stay wide now recs st.tiled own.vdr 36 8 v_in (omega arith) fit set.changed) (set.past (own.vdr + 28) 8 (inl (omega arith)))
+            (set.reads (small n (let f = chain_found in let w = last_low in let a = st.as_long in let c = e.state.as_long in omega arith)) ∙ chain_found ∙ sym (new_tail (top_grows l at index none (e.top ne))))
           where
             small : (n : ℕ) → n ≤ image_limit → n < 256 ^ 8
             small n h = omega arith

@@ -5,7 +5,7 @@ use Rattle.cdf_edits.specs.Index.Grown.{with_leaf, new_room}
 use Rattle.cdf_format.specs.Index.{nodes_of, lower_nodes}
 use Rattle.cdf_format.specs.IndexOf.{IsIndex, HasNodes, Names}
 use Rattle.cdf_leaves.proofs.Grown.{was, was_new, new_node, names_leaf}
-use Rattle.cdf_leaves.proofs.Linked.{field_changed, field_long}
+use Rattle.cdf_index.proofs.FieldSet.{FieldSet, field_set}
 use Rattle.cdf_leaves.proofs.Own.{vdr_kept, vdr_in, vdr_used}
 use Rattle.cdf_leaves.proofs.Spares.{Spares, spares_kept, all_entries, node_long}
 use Rattle.cdf_leaves.proofs.State.{NodeNow, node_then}
@@ -95,23 +95,20 @@ module _ {b : List ℕ} {kind : Kind} {before : List VariableShape} {own : Varia
   abbrev mid : List ℕ
   mid = with_field roomy v vdr_vxr_head at
 
-  lies_head : LiesIn roomy v vdr_vxr_head
-  lies_head = let s = v_lies in omega arith
+  head_set : FieldSet roomy mid v vdr_vxr_head at
+  head_set = field_set (let s = v_lies in omega arith) refl
 
-  mid_long : length mid ≡ length roomy
-  mid_long = field_long roomy mid v vdr_vxr_head at lies_head refl
-
-  lies_tail : LiesIn mid v vdr_vxr_tail
-  lies_tail = let s = v_lies in let m = mid_long in omega arith
+  tail_set : FieldSet mid now v vdr_vxr_tail at
+  tail_set = field_set (let s = v_lies in let m = head_set.as_long in omega arith) st.linked
 
   now_long : length now ≡ length roomy
-  now_long = field_long mid now v vdr_vxr_tail at lies_tail st.linked ∙ mid_long
+  now_long = tail_set.as_long ∙ head_set.as_long
 
   abbrev touches : List Touch
   touches = touch v 28 8 ∷ touch v 36 8 ∷ []
 
   changed : Changed roomy now touches
-  changed = changed_then roomy mid now (touch v 28 8 ∷ []) (touch v 36 8 ∷ []) (field_changed roomy mid v vdr_vxr_head at lies_head refl) (field_changed mid now v vdr_vxr_tail at lies_tail st.linked)
+  changed = changed_then roomy mid now (touch v 28 8 ∷ []) (touch v 36 8 ∷ []) head_set.changed tail_set.changed
 
   keeps : (m : ℕ) → In m records → m ≢ v → Kept roomy now m
   keeps m i ne =
@@ -164,10 +161,10 @@ module _ {b : List ℕ} {kind : Kind} {before : List VariableShape} {own : Varia
   }
 
   head_reads : number now v vdr_vxr_head ≡ at
-  head_reads = ap (λ (y : List ℕ). number y v vdr_vxr_head) st.linked ∙ other_words mid v vdr_vxr_tail at (v + 28) 8 lies_tail (inl (omega arith)) ∙ field_reads roomy v vdr_vxr_head at lies_head at_small
+  head_reads = tail_set.past (v + 28) 8 (inl (omega arith)) ∙ head_set.reads at_small
 
   tail_reads : number now v vdr_vxr_tail ≡ at
-  tail_reads = ap (λ (y : List ℕ). number y v vdr_vxr_tail) st.linked ∙ field_reads mid v vdr_vxr_tail at lies_tail at_small
+  tail_reads = tail_set.reads at_small
 
   module _ {body : List ℕ} (block : Placed b filled body l.place) where
     abbrev waz : ℕ → ℕ → Bool

@@ -9,19 +9,15 @@ use Rattle.cdf_format.proofs.GoodImageLemmas.{good_image}
 use Rattle.cdf_format.proofs.GoodSound.{good_by_its_shape}
 use Rattle.cdf_format.proofs.Owning.{block_in}
 use Rattle.cdf_format.proofs.ShapeLemmas.{Each-split}
+use Rattle.cdf_edits.proofs.Edits.ActsThen.{each_in}
 use Rattle.cdf_index.proofs.GoodIndex.{good_index}
 use Rattle.cdf_leaves.proofs.NodesMore.{places}
 use Rattle.cdf_leaves.proofs.Spares.{Spares, spares_kept}
 use Rattle.cdf_leaves.proofs.SpotNode.{nodes_linkable}
 pub use Rattle.cdf_index.proofs.OneVariable.{AmongAll, among_all}
 
-each_in : {A : Type 0} (P : A → Type 0) (vs front : List A) (own : A) (rest : List A) → vs ≡ front ++ own ∷ rest → Each P vs → P own
-each_in P vs front own rest all e = (Each-split P front (own ∷ rest) (subst (Each P) all e)).1.0
-
-pub node_each : (P : ℕ → Type 0) (xs : List ℕ) (m : ℕ) → Each P xs → In m xs → P m
-node_each P [] m e i = absurd i
-node_each P (x ∷ xs) m e (inl q) = subst P (sym q) e.0
-node_each P (x ∷ xs) m e (inr i) = node_each P xs m e.1 i
+the_own : {A : Type 0} (P : A → Type 0) (vs front : List A) (own : A) (rest : List A) → vs ≡ front ++ own ∷ rest → Each P vs → P own
+the_own P vs front own rest all e = (Each-split P front (own ∷ rest) (subst (Each P) all e)).1.0
 
 leaf_each : (b records : List ℕ) (vdr : ℕ) (xs : List Leaf) (m : ℕ) → Each (LeafFits b records vdr) xs → In m (places xs) → In m records
 leaf_each b records vdr [] m e i = absurd i
@@ -54,10 +50,10 @@ module _ {b : List ℕ} {kind : Kind} {before : List VariableShape} {own : Varia
   own_node m i = let l = (nodes_linkable b (shape b).records 8 m own.index (has good at).indexed.has_nodes i).0 in (linkable-in b (shape b).records vxr_type m l, linkable-type b (shape b).records vxr_type m l)
 
   pub own_fits : VariableFits b (shape b).records own
-  own_fits = each_in (VariableFits b (shape b).records) (variables (shape b)) among.front own among.rest among.all (sound good at).variables_fit
+  own_fits = the_own (VariableFits b (shape b).records) (variables (shape b)) among.front own among.rest among.all (sound good at).variables_fit
 
   pub node_fits : (m : ℕ) → In m (nodes_of own.index) → NodeFits b m
-  node_fits m i = node_each (NodeFits b) (nodes_of own.index) m own_fits.1 i
+  node_fits m i = each_in (NodeFits b) (nodes_of own.index) m own_fits.1 i
 
   pub vdr_apart : (m : ℕ) → type_at b m ≡ vxr_type → m ≢ own.vdr
   vdr_apart m t e = no_vxr kind (sym (typed good at) ∙ ap (type_at b) (sym e) ∙ t)
@@ -67,10 +63,10 @@ module _ {b : List ℕ} {kind : Kind} {before : List VariableShape} {own : Varia
     now_all = ap variables g.shape_is ∙ among.all
 
     pub now_has : HasVariable now (shape now).records own
-    now_has = each_in (HasVariable now (shape now).records) (variables (shape now)) among.front own among.rest now_all g.sound.has_shape.have_variables
+    now_has = the_own (HasVariable now (shape now).records) (variables (shape now)) among.front own among.rest now_all g.sound.has_shape.have_variables
 
     pub now_fits : VariableFits now (shape now).records own
-    now_fits = each_in (VariableFits now (shape now).records) (variables (shape now)) among.front own among.rest now_all g.sound.variables_fit
+    now_fits = the_own (VariableFits now (shape now).records) (variables (shape now)) among.front own among.rest now_all g.sound.variables_fit
 
     pub now_blocks : (m : ℕ) → In m (places (leaves_of own.index)) → In m (shape now).records
     now_blocks m i = leaf_each now (shape now).records own.vdr (leaves_of own.index) m now_fits.2 i

@@ -1,5 +1,7 @@
 -- The node at the end of the way.
 use Rattle.std.proofs.Common.{◌≡◌, ◌≢◌, ◌⊎◌, ℕ, zero, suc, ◌+◌, ◌<◌, ◌≤◌, max, List, [], ◌∷◌, true, false, leb, refl, sym, ap, subst, ◌∙◌, arith, inl, inr}
+use Rattle.cdf_index.proofs.EntriesCut.{parted_all, parted_rest}
+use Rattle.cdf_index.proofs.Leading.{Passed}
 use Rattle.cdf_leaves.proofs.Common.{reaches, chain_reaches, leads_down, past, room_of_new, is_linkable, Nodes, no_node, node, Entries, no_entry, block, lower, entry_count, room_at, SaysNode, vxr_type, In, Distinct, either, In-append, In-append_right, Distinct-back, Begun, Begins}
 use Rattle.cdf_edits.specs.Commands.Room.{widest, widest_below}
 use Rattle.cdf_edits.specs.Index.Grown.{new_room, new_room_below}
@@ -103,43 +105,24 @@ mutual
     | inr j ↦ let r = lower_linkable b ts levels m es n.2 j in (r.0, most_right (widest nodes) (widest_below es) (room_at b m) r.1)
   ]
 
-pub widest_least : (nodes : Nodes) → 7 ≤ widest nodes
-unfolding widest widest_below
-widest_least no_node = omega arith
-widest_least (node place room es more) = most_right room (max (widest_below es) (widest more)) 7 (most_right (widest_below es) (widest more) 7 (widest_least more))
-
 -- ---- its entries that begin at a record or before it
 
-shift : (k j : ℕ) → k + suc j ≡ suc k + j
-shift k j = omega arith
+module _ (b : List ℕ) (at f : ℕ) where
+  past_it : (k first : ℕ) → f < first_at b at (k + 0) → first_at b at k ≡ first → leb first f ≡ false
+  past_it k first g is = let z : k + 0 ≡ k = omega arith in lt-leb first f (subst (λ (n : ℕ). f < n) (ap (first_at b at) z ∙ is) g)
 
-past_count : (b : List ℕ) (at f k p : ℕ) (es : Entries) → SayEntries b at k es → p ≤ entry_count es → ((j : ℕ) → j < p → first_at b at (k + j) ≤ f) → (p < entry_count es → f < first_at b at (k + p)) → p + entry_count (past f es) ≡ entry_count es
-past_count b at f k p no_entry s most before stop = omega arith
-past_count b at f k zero (block first last place packed es) s most before stop =
-    let z : k + 0 ≡ k = omega arith in
-    let g : f < first_at b at (k + 0) = stop (omega arith) in
-    let t : leb first f ≡ false = lt-leb first f (subst (λ (n : ℕ). f < n) (ap (first_at b at) z ∙ s.0.first_is) g) in
-    rw t (omega arith)
-past_count b at f k zero (lower first last nodes es) s most before stop =
-    let z : k + 0 ≡ k = omega arith in
-    let g : f < first_at b at (k + 0) = stop (omega arith) in
-    let t : leb first f ≡ false = lt-leb first f (subst (λ (n : ℕ). f < n) (ap (first_at b at) z ∙ s.0.first_is) g) in
-    rw t (omega arith)
-past_count b at f k (suc p) (block first last place packed es) s most before stop =
-    let z : k + 0 ≡ k = omega arith in
-    let g : first_at b at (k + 0) ≤ f = before 0 (omega arith) in
-    let t : leb first f ≡ true = le-leb first f (subst (λ (n : ℕ). n ≤ f) (ap (first_at b at) z ∙ s.0.first_is) g) in
-    let r = past_count b at f (suc k) p es s.1 (omega arith) (λ j lt. subst (λ (n : ℕ). first_at b at n ≤ f) (shift k j) (before (suc j) (omega arith))) (λ lt. subst (λ (n : ℕ). f < first_at b at n) (shift k p) (stop (omega arith))) in
-    rw t (omega arith)
-past_count b at f k (suc p) (lower first last nodes es) s most before stop =
-    let z : k + 0 ≡ k = omega arith in
-    let g : first_at b at (k + 0) ≤ f = before 0 (omega arith) in
-    let t : leb first f ≡ true = le-leb first f (subst (λ (n : ℕ). n ≤ f) (ap (first_at b at) z ∙ s.0.first_is) g) in
-    let r = past_count b at f (suc k) p es s.1 (omega arith) (λ j lt. subst (λ (n : ℕ). first_at b at n ≤ f) (shift k j) (before (suc j) (omega arith))) (λ lt. subst (λ (n : ℕ). f < first_at b at n) (shift k p) (stop (omega arith))) in
-    rw t (omega arith)
+  upto_it : (k first : ℕ) → first_at b at (k + 0) ≤ f → first_at b at k ≡ first → leb first f ≡ true
+  upto_it k first g is = let z : k + 0 ≡ k = omega arith in le-leb first f (subst (λ (n : ℕ). n ≤ f) (ap (first_at b at) z ∙ is) g)
+
+  rest : (k n count : ℕ) → Passed b f at k (suc n) (suc count) → Passed b f at (suc k) n count
+  rest = parted_rest (λ j. first_at b at j ≤ f) (λ j. f < first_at b at j)
+
+  past_count : (k n : ℕ) (es : Entries) → SayEntries b at k es → Passed b f at k n (entry_count es) → n + entry_count (past f es) ≡ entry_count es
+  past_count k n no_entry s p = let m = p.most in omega arith
+  past_count k zero (block first last place packed es) s p = rw (past_it k first (p.stop (omega arith)) s.0.first_is) (omega arith)
+  past_count k zero (lower first last nodes es) s p = rw (past_it k first (p.stop (omega arith)) s.0.first_is) (omega arith)
+  past_count k (suc n) (block first last place packed es) s p = let r = past_count (suc k) n es s.1 (rest k n (entry_count es) p) in rw (upto_it k first (p.before 0 (omega arith)) s.0.first_is) (omega arith)
+  past_count k (suc n) (lower first last nodes es) s p = let r = past_count (suc k) n es s.1 (rest k n (entry_count es) p) in rw (upto_it k first (p.before 0 (omega arith)) s.0.first_is) (omega arith)
 
 pub begins_by : (b : List ℕ) (at f p : ℕ) → Begun b at f p → Begins b at f p
-begins_by b at f p g es u s = past_count b at f 0 p es s (subst (λ (n : ℕ). p ≤ n) u g.most) (λ j lt. subst (λ (n : ℕ). first_at b at n ≤ f) (from_zero j) (g.before j lt)) (λ lt. subst (λ (n : ℕ). f < first_at b at n) (from_zero p) (g.stop (subst (λ (n : ℕ). p < n) (sym u) lt)))
-  where
-    from_zero : (j : ℕ) → j ≡ 0 + j
-    from_zero j = omega arith
+begins_by b at f p g es u s = let most = g.most in past_count b at f 0 p es s (parted_all (λ j. first_at b at j ≤ f) (λ j. f < first_at b at j) p (entry_count es) g.before (λ lt. g.stop (omega arith)) (omega arith))

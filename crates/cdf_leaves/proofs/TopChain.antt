@@ -64,7 +64,7 @@ top_grows l at (node place room es more) w n = elim (either (chain_reaches l.fir
 
 -- ---- in the bytes
 
-chain_in : (nodes : Nodes) (m : ℕ) → In m (top_chain nodes) → In m (nodes_of nodes)
+pub chain_in : (nodes : Nodes) (m : ℕ) → In m (top_chain nodes) → In m (nodes_of nodes)
 unfolding nodes_of lower_nodes
 chain_in no_node m i = i
 chain_in (node place room es more) m (inl e) = inl e

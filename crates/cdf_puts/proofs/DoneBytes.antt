@@ -21,14 +21,8 @@ use Rattle.cdf_edits.specs.Frame.Changed.{touched_field}
 use Rattle.cdf_edits.specs.Index.Blocks.{cut_open, ranges_before_put}
 use Rattle.cdf_edits.proofs.Frame.ChangedBytes.{changed_then}
 use Rattle.cdf_format.proofs.Tests.{eq_of}
+use Rattle.cdf_leaves.proofs.TopChain.{chain_in}
 use Rattle.cdf_puts.proofs.SoFarStarts.{covers_own}
-
--- the nodes of the top chain are nodes
-top_in : (nodes : Nodes) (m : ℕ) → In m (top_chain nodes) → In m (nodes_of nodes)
-unfolding nodes_of lower_nodes
-top_in no_node m i = absurd i
-top_in (node place room es more) m (inl e) = inl e
-top_in (node place room es more) m (inr i) = inr (In-append_right m (lower_nodes es) (nodes_of more) (top_in more m i))
 
 none_taken_in : (acts : List Act) (xs : List ℕ) → ((m : ℕ) → In m xs → is_taken_at acts m ≡ false) → list_any (is_taken_at acts) xs ≡ false
 none_taken_in acts [] f = refl
@@ -121,7 +115,7 @@ module _ {b now last : List ℕ} {kind : Kind} {before : List VariableShape} {ow
   top_test = let here = bytes_eq-same (top_chain own.index) in rw here (elim (either tops) [
     | inl e ↦
         let same = same_of_bytes_eq (top_chain own.index) (top_chain own'.index) e in
-        let none : list_any (is_taken_at acts) (top_chain own'.index) ≡ false = none_taken_in acts (top_chain own'.index) (λ m i. so.index.nodes.apart m (top_in own.index m (subst (In m) (sym same) i))) in
+        let none : list_any (is_taken_at acts) (top_chain own'.index) ≡ false = none_taken_in acts (top_chain own'.index) (λ m i. so.index.nodes.apart m (chain_in own.index m (subst (In m) (sym same) i))) in
         rw (none, e) refl
     | inr e ↦ rw e refl
   ])

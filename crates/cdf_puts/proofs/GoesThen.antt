@@ -1,8 +1,9 @@
 -- One image goes on to another: what a put may change of each record and keeps of each owner, what the descriptor says by then, and that two such steps are one.
 use Rattle.std.proofs.Common.{◌≡◌, ℕ, List, [], ◌∷◌, length, true, false, Option, Some, None, true≢false, eq-eqb, refl, sym, ap, ◌∙◌, inl, inr, suc, ◌+◌, ◌<◌, ◌≤◌, ◌++◌, Bool, subst, append_assoc, arith, map}
 use Rattle.cdf_puts.proofs.Common.{ne_eqb, slice_get, ◌==◌, find, if◌then◌else◌, got-middle, places_of, IsOneOf, find_place, leaves_apart, StandsAmong, fits, has, typed, Each-in, Only, shapes_of, put_changes, is_rewritten, Range, range, is_a-type, linkable-type, nodes_stand, is_a, is_in, variable_of, type_at, Leaf, nodes_of, leaves_of, vdr_max_rec, vdr_vxr_head, vdr_vxr_tail, cpr_type, cvvr_type, vvr_type, vxr_type, VariableShape, shape, In, Good, Found, Kind, R, Z, found_in, eqb-true, other_kind, Allowances, Stays, Keeps, AllKeep, unused_allowance, r_max_rec_field, space_fields, Act, either, In-append, Unused, variable_records, unused_records, owned, AttributeShape, Shape, IsSound, tile, FileSame, record_alike, stays_alike, is_compressed, record_bytes, Same-part, tile_lies, DescriptorStays, GoesOn, eq-eqb, length-map, set_at, w32, cast_signed, list_any, slice_set, ◌&&◌, nat_le, nat_lt, long, OutsideFields, is_taken, ActsFollow, taken, linkable-in, good_is_sound, false-is_in, is_in-false, true-is_in, is_in-true, content_is, content, number, size_at, Field, uir_next_uir, uir_prev_uir, uir_type, DataSet, Variable, variables_of, with_variables, r_max_rec, ListedStay, acts_joined, OnlyTakes, none_of_both, WritesRecords, part, file, same_shape, own_rules, Touch}
-use Rattle.cdf_puts.proofs.RaisedGoes.{block_type, set_is}
-use Rattle.cdf_edits.proofs.Edits.VariableKinds.{kind_type}
+use Rattle.cdf_puts.proofs.RaisedGoes.{set_is}
+use Rattle.cdf_index.proofs.OwnRecords.{by_range}
+use Rattle.cdf_index.proofs.OwnRecords as of_own
 use Rattle.cdf_edits.specs.Commands.Allowances.{range_at, only_of, allowance, Allowance, Anything, anything_if, same_kind, vdr_type}
 use Rattle.cdf_edits.proofs.Commands.KeptRecords.{AllKeep-append}
 use Rattle.cdf_edits.proofs.Edits.OwnersKept.{keep_all, keep_places}
@@ -17,29 +18,6 @@ use Rattle.cdf_format.proofs.SpaceLemmas.{in-filter}
 use Rattle.cdf_edits.proofs.Edits.ActsJoined.{listed_before}
 use Rattle.cdf_edits.proofs.Edits.RecordsWritten.{size_same, type_same, content_replaced, no_acts_follow, all_keep_put}
 
-abbrev block_types : List ℕ
-block_types = vvr_type ∷ cvvr_type ∷ []
-
-find_none : (leaves : List Leaf) (p : ℕ) → (In p (places_of leaves) → ⊥) → find (λ (leaf : Leaf). leaf.place == p) leaves ≡ None
-find_none [] p out = refl
-find_none (leaf ∷ more) p out = rw (ne_eqb leaf.place p (λ e. out (inl (sym e)))) (find_none more p (λ i. out (inr i)))
-
-abbrev in_leaf : Option Leaf → Option Range
-in_leaf None = None
-in_leaf (Some leaf) = Some (range leaf.first leaf.last)
-
-abbrev range_in : ℕ → Option VariableShape → Option Range
-range_in place None = None
-range_in place (Some v) = in_leaf (find (λ (leaf : Leaf). leaf.place == place) (leaves_of v.index))
-
--- of a record that is no block, by its type
-abbrev by_type : Kind → ℕ → Allowance
-by_type kind type = if type == vdr_type kind then Only (vdr_max_rec ∷ vdr_vxr_head ∷ vdr_vxr_tail ∷ []) else (if type == vxr_type then Anything else Only [])
-
-by_types : (kind : Kind) → (by_type kind vxr_type ≡ Anything) × (by_type kind cpr_type ≡ Only []) × (by_type kind (vdr_type kind) ≡ Only (vdr_max_rec ∷ vdr_vxr_head ∷ vdr_vxr_tail ∷ [])) × (is_in (vdr_type kind) block_types ≡ false)
-by_types R = (refl, refl, refl, refl)
-by_types Z = (refl, refl, refl, refl)
-
 module _ {b : List ℕ} {kind : Kind} {before : List VariableShape} {own : VariableShape} {after : List VariableShape} (good : Good b) (at : StandsAmong b kind before own after) (r : ℕ) where
   abbrev found : Found
   found = found_in b kind before own
@@ -47,46 +25,29 @@ module _ {b : List ℕ} {kind : Kind} {before : List VariableShape} {own : Varia
   abbrev pub own_may : ℕ → Allowance
   own_may m = (put_changes b (shape b) found r).variables kind (length before) m
 
-  abbrev by_range : ℕ → Option Range → Allowance
-  by_range m None = by_type kind (type_at b m)
-  by_range m (Some rg) = anything_if (is_rewritten (variable_of b own) r rg)
+  abbrev fields : List Field
+  fields = vdr_max_rec ∷ vdr_vxr_head ∷ vdr_vxr_tail ∷ []
 
-  there : slice_get (shapes_of (shape b) kind) (length before) ≡ Some own
-  there = ap (λ (vs : List VariableShape). slice_get vs (length before)) at.was ∙ got-middle before own after
+  abbrev block : Range → Allowance
+  block rg = anything_if (is_rewritten (variable_of b own) r rg)
 
-  ranged : (m : ℕ) (o : Option Leaf) → find (λ (leaf : Leaf). leaf.place == m) (leaves_of own.index) ≡ o → range_at (shape b) found m ≡ in_leaf o
-  ranged m o e = ap (range_in m) there ∙ ap in_leaf e
-
-  allowed : (m : ℕ) (o : Option Range) → range_at (shape b) found m ≡ o → own_may m ≡ by_range m o
+  allowed : (m : ℕ) (o : Option Range) → range_at (shape b) found m ≡ o → own_may m ≡ by_range b kind fields block m o
   allowed m o e =
       let same : same_kind kind kind ≡ true = same_as_itself kind in
       let number : (length before == length before) ≡ true = eq-eqb (length before) (length before) refl in
-      λ i. if same i then (if number i then by_range m (e i) else only_of b m (vdr_type kind) []) else Only []
+      λ i. if same i then (if number i then by_range b kind fields block m (e i) else only_of b m (vdr_type kind) []) else Only []
 
-  -- a record of another type is no block
-  no_block_of : (m type : ℕ) → type_at b m ≡ type → is_in type block_types ≡ false → In m (places_of (leaves_of own.index)) → ⊥
-  no_block_of m type t none i = elim (block_type b (shape b).records own.vdr (leaves_of own.index) (fits good at).2 m i) [
-    | inl e ↦ true≢false (sym (ap (λ (x : ℕ). is_in x block_types) (sym t ∙ e)) ∙ none)
-    | inr e ↦ true≢false (sym (ap (λ (x : ℕ). is_in x block_types) (sym t ∙ e)) ∙ none)
-  ]
-
-  typed_allowed : (m type : ℕ) → type_at b m ≡ type → is_in type block_types ≡ false → own_may m ≡ by_type kind type
-  typed_allowed m type t none = allowed m None (ranged m None (find_none (leaves_of own.index) m (no_block_of m type t none))) ∙ ap (by_type kind) t
-
-  pub descriptor_allowed : own_may own.vdr ≡ Only (vdr_max_rec ∷ vdr_vxr_head ∷ vdr_vxr_tail ∷ [])
-  descriptor_allowed = typed_allowed own.vdr (vdr_type kind) (typed good at ∙ kind_type kind) (by_types kind).3 ∙ (by_types kind).2
-
-  pub node_typed : (m : ℕ) → In m (nodes_of own.index) → type_at b m ≡ vxr_type
-  node_typed m i = linkable-type b (shape b).records vxr_type m (nodes_stand b (shape b).records 8 own.index (has good at).indexed.has_nodes m i)
+  pub descriptor_allowed : own_may own.vdr ≡ Only fields
+  descriptor_allowed = of_own.descriptor_allowed found good at refl fields block own_may allowed
 
   pub node_allowed : (m : ℕ) → In m (nodes_of own.index) → own_may m ≡ Anything
-  node_allowed m i = typed_allowed m vxr_type (node_typed m i) refl ∙ (by_types kind).0
+  node_allowed = of_own.node_allowed found good at refl fields block own_may allowed
 
   pub parameters_allowed : (m : ℕ) → In m own.cpr → own_may m ≡ Only []
-  parameters_allowed m i = typed_allowed m cpr_type (is_a-type b (shape b).records cpr_type m (Each-in (λ x. is_a b (shape b).records cpr_type x ≡ true) own.cpr (fits good at).3 m i)) refl ∙ (by_types kind).1
+  parameters_allowed = of_own.parameters_allowed found good at refl fields block own_may allowed
 
   pub block_allowed : (l : Leaf) → IsOneOf (leaves_of own.index) l → own_may l.place ≡ anything_if (is_rewritten (variable_of b own) r (range l.first l.last))
-  block_allowed l i = allowed l.place (Some (range l.first l.last)) (ranged l.place (Some l) (find_place (leaves_of own.index) (leaves_apart good at) l i))
+  block_allowed = of_own.block_allowed found good at refl fields block own_may allowed
 
 -- ---- lists of records with one owner
 

@@ -19,8 +19,10 @@ use Rattle.cdf_edits.proofs.Edits.VariableKinds.{keeps_kind}
 use Rattle.cdf_edits.proofs.Edits.VariableSplice.{VariableSplices, keeps_all_attributes}
 use Rattle.cdf_index.specs.Replacing.{with_index}
 use Rattle.cdf_edits.specs.Frame.Changed.{Misses, Placed as TouchesPlaced}
-use Rattle.cdf_puts.proofs.LeafCounts.{in_nodes_with_leaf, node_stays, room_stays}
-use Rattle.cdf_puts.proofs.RaisedGoes.{block_type, behind_no_vdr}
+use Rattle.cdf_index.proofs.ByLeaf.{in_nodes_with_leaf, node_stays}
+use Rattle.cdf_index.proofs.OwnRecords.{block_type}
+use Rattle.cdf_puts.proofs.LeafCounts.{room_stays}
+use Rattle.cdf_puts.proofs.RaisedGoes.{behind_no_vdr}
 use Rattle.cdf_puts.proofs.PutNodes.{NodesStep}
 use Rattle.cdf_edits.proofs.Edits.OwnEdited as of_own
 use Rattle.cdf_edits.proofs.Edits.IndexEdited as of_index

@@ -34,8 +34,10 @@ use Rattle.cdf_format.proofs.Owning.{times-none, times-once}
 use Rattle.cdf_format.proofs.RowLemmas.{Hold-append}
 use Rattle.cdf_index.specs.Adding.{Counts}
 use Rattle.cdf_puts.proofs.RaisedGoes.{own_in_all}
-use Rattle.cdf_puts.proofs.LeafCounts.{in-times, nodes_with_leaf, places_with_leaf, leaf_was_there}
-use Rattle.cdf_puts.proofs.PutNodes.{each_in}
+use Rattle.cdf_index.proofs.ByLeaf.{in-times, nodes_with_leaf}
+use Rattle.cdf_index.proofs.OwnRecords.{parts_times}
+use Rattle.cdf_puts.proofs.LeafCounts.{places_with_leaf, leaf_was_there}
+use Rattle.cdf_edits.proofs.Space.ActsLeave.{each}
 use Rattle.cdf_index.proofs.LeafRules.{index_rules_with_leaf}
 use Rattle.cdf_edits.proofs.Edits.IndexEdited.{vdr_size, vdr_type, good_now as good_if_ruled}
 use Rattle.cdf_puts.proofs.LeafEdit.{node_marks, index_marks, new_nodes, edit, block_placed, node_placed, entries_written, marks, reborn, with_new, tests, file, beside, only, block_kept, block_in, new_apart, new_fresh, part, part_of, vdr_size as vdr_long, type_now, end_now, index_edit, own_edit, splices, placed_kept, placed_size}
@@ -158,11 +160,6 @@ new_times (suc room) at m = rw (ne_eqb (suc room) 0 (λ e. absurd (omega arith))
 new_once : (room at : ℕ) → Distinct (new_nodes room at)
 new_once zero at = tt
 new_once (suc room) at = ((λ none. none), tt)
-
-parts_times : (v : VariableShape) (m : ℕ) → times m (variable_records v) ≡ times m (v.vdr ∷ []) + (times m (nodes_of v.index) + times m (places_of (leaves_of v.index)) + times m v.cpr)
-parts_times v m =
-    times-append m (v.vdr ∷ []) (index_records v)
-    ∙ ap (λ (n : ℕ). times m (v.vdr ∷ []) + n) (times-append m (nodes_of v.index ++ places_of (leaves_of v.index)) v.cpr ∙ ap (λ (n : ℕ). n + times m v.cpr) (times-append m (nodes_of v.index) (places_of (leaves_of v.index))))
 
 module _ {b now : List ℕ} {kind : Kind} {before : List VariableShape} {own : VariableShape} {after : List VariableShape} {new : Leaf} {body : List ℕ} {at : ℕ} (good : Good b) (among : StandsAmong b kind before own after) (w : LeafAdded b now own new body at) where
   abbrev s : Shape
@@ -373,7 +370,7 @@ module _ {b now : List ℕ} {kind : Kind} {before : List VariableShape} {own : V
       counted_before_it : Each (Counts b) (nodes_of own.index)
       counted_before_it =
           let rows = (Hold-split (nodes_rows b s.records (negsuc 0) (pos record_number_limit) own.index) (flat_map (leaf_rows b s.records v) (leaves_of own.index)) (own_rules good among).1).0 in
-          each_in (Counts b) (nodes_of own.index) (λ m i.
+          each (Counts b) (nodes_of own.index) (λ m i.
           let r = rooms_hold b s.records (negsuc 0) (pos record_number_limit) own.index rows m i in
           let p = both (nat_le (number b m vxr_n_used_entries) (room_at b m) && nat_le (room_at b m) signed_limit) (holds b m (vxr_entries (room_at b m))) r in
           le_of (number b m vxr_n_used_entries) (room_at b m) (both (nat_le (number b m vxr_n_used_entries) (room_at b m)) (nat_le (room_at b m) signed_limit) p.0).0)

@@ -9,7 +9,8 @@ use Rattle.cdf_edits.specs.Index.Written.{uses_entry, uses_entry_below, was_unus
 use Rattle.cdf_format.specs.Index.{nodes_of, lower_nodes, first_at, last_at, offset_at}
 use Rattle.cdf_format.specs.IndexOf.{HasNodes, Names, SaysEntry}
 use Rattle.cdf_puts.specs.SoFar.{TopGrows}
-use Rattle.cdf_puts.proofs.LeafCounts.{Grows, by_leaf}
+use Rattle.cdf_edits.proofs.Space.ActsLeave.{each}
+use Rattle.cdf_index.proofs.ByLeaf.{Grows, by_leaf}
 use Rattle.std.proofs.Math.Bool.{or_assoc}
 use Rattle.cdf_edits.proofs.Edits.Composing.{same-then}
 use Rattle.cdf_edits.proofs.Frame.LinksStay.{SameHeads, room_same, used_same, entry_same}
@@ -246,10 +247,6 @@ pub unless_true : {A : Type 0} {p : Bool} → A ⊎ (p ≡ true) → p ≡ false
 unless_true (inl a) e = a
 unless_true {p = p} (inr t) e = absurd (both_ways p e t)
 
-pub each_in : (P : ℕ → Type 0) (xs : List ℕ) → ((m : ℕ) → In m xs → P m) → Each P xs
-each_in P [] f = tt
-each_in P (x ∷ xs) f = (f x (inl refl), each_in P xs (λ m i. f m (inr i)))
-
 -- ---- what was taken first, and then
 
 pub taken_both : (acts acts' : List Act) (m : ℕ) → is_taken_at (acts ++ acts') m ≡ (is_taken_at acts m || is_taken_at acts' m)
@@ -282,7 +279,7 @@ entry_stays b mid now m i false k fit lt e = entry_same mid now [] [] (no_heads 
 pub nodes_same : (b mid now : List ℕ) (through : List Nodes) (before after : List ℕ) (acts : List Act) → ((m : ℕ) → In m after → NodeFits mid m) → ((m : ℕ) → In m after → Kept mid now m) → ((m : ℕ) → In m after → is_taken_at acts m ≡ false → size_at mid m ≡ size_at b m)
     → NodesFollow b mid through before after acts → NodesFollow b now through before after acts
 nodes_same b mid now through before after acts fit kept sizes f = record {
-  unused = each_in (UnusedEntries b now through before acts) after (λ m j i from upto.
+  unused = each (UnusedEntries b now through before acts) after (λ m j i from upto.
       let used = used_same mid now [] [] (no_heads mid now) m (kept m j) (fit m j) in
       let room = room_same mid now [] [] (no_heads mid now) m (kept m j) (fit m j) in
       let lt : i < room_at mid m = omega arith in
@@ -290,7 +287,7 @@ nodes_same b mid now through before after acts fit kept sizes f = record {
         | inl e ↦ inl (entry_stays b mid now m i (was_unused b before acts m i) (kept m j) (fit m j) lt e)
         | inr e ↦ inr (e.0, entry_stays b mid now m i false (kept m j) (fit m j) lt e.1)
       ]);
-  spare = each_in (NodeSpareStays b now acts) after (λ m j e.
+  spare = each (NodeSpareStays b now acts) after (λ m j e.
       let room = room_same mid now [] [] (no_heads mid now) m (kept m j) (fit m j) in
       let size = sizes m j e in
       let was = Each-in (NodeSpareStays b mid acts) after f.spare m j e in
@@ -388,6 +385,6 @@ module _ (b mid now : List ℕ) (through through' : List Nodes) (before after : 
 
     pub nodes_then : NodesFollow b now through' before after (acts ++ acts')
     nodes_then = record {
-      unused = each_in (UnusedEntries b now through' before (acts ++ acts')) after (λ m k i low high. elim (step.come m k) [ inl j ↦ old_entry m i j low high k | inr t ↦ new_entry m i t low high k ]);
-      spare = each_in (NodeSpareStays b now (acts ++ acts')) after spare_then;
+      unused = each (UnusedEntries b now through' before (acts ++ acts')) after (λ m k i low high. elim (step.come m k) [ inl j ↦ old_entry m i j low high k | inr t ↦ new_entry m i t low high k ]);
+      spare = each (NodeSpareStays b now (acts ++ acts')) after spare_then;
     }

@@ -14,6 +14,7 @@ use Rattle.cdf_puts.proofs.SoFarStarts.{starts_upto, index_start, blocks_start}
 use Rattle.cdf_puts.proofs.WrittenGoes.{written_goes, long_now, max_rec_kept}
 use Rattle.cdf_area.specs.declared.area.AreaError.{AreaError}
 use Rattle.cdf_area.specs.Calls.{Edits, Keeps}
+use Rattle.cdf_index.proofs.OneVariable.{AmongAll, among_all}
 use Rattle.std.proofs.Math.Nat.{div-le_self}
 use Rattle.std.proofs.Math.Path.{transport}
 use Rattle.std.proofs.lemmas.Bool.{ltb-false, ltb-true}
@@ -207,29 +208,6 @@ module _ {b : List ℕ} {kind : Kind} {before : List VariableShape} {own : Varia
           blocks = blocks_added so more is vacant holds says w goes.good goes.among;
         }
 
-pub edits_then : {A U T : Type 0} {frame_of : A → Frame U} {faults_of : A → ℕ} {old mid new : A} (r : Result T AreaError) → Keeps frame_of faults_of old mid → Edits frame_of faults_of mid new r → Edits frame_of faults_of old new r
-edits_then (Ok x) before call = edit_done (edit_more before call)
-edits_then (Err e) before call = edit_failed before call refl
-
--- ---- a variable among all of them
-
-pub record AmongAll (b : List ℕ) (v : VariableShape) : Type 0 where
-  pub front : List VariableShape
-  pub rest : List VariableShape
-  pub all : variables (shape b) ≡ front ++ v ∷ rest
-
-among_all : (b : List ℕ) (kind : Kind) (before : List VariableShape) (v : VariableShape) (after : List VariableShape) → shapes_of (shape b) kind ≡ before ++ v ∷ after → AmongAll b v
-among_all b R before v after was = record {
-  front = before;
-  rest = after ++ (shape b).z_variables;
-  all = ap (λ (vs : List VariableShape). vs ++ (shape b).z_variables) was ∙ append_assoc before (v ∷ after) (shape b).z_variables;
-}
-among_all b Z before v after was = record {
-  front = (shape b).r_variables ++ before;
-  rest = after;
-  all = ap (λ (vs : List VariableShape). (shape b).r_variables ++ vs) was ∙ sym (append_assoc (shape b).r_variables before (v ∷ after));
-}
-
 -- ---- how many records a new block has
 
 most_some : (v : Variable) (r : ℕ) → 1 ≤ most_in_block v r
@@ -289,7 +267,7 @@ module _ {b now : List ℕ} {kind : Kind} {before : List VariableShape} {own : V
   sound : IsSound now (shape now)
   sound = good_is_sound now good
 
-  among : AmongAll now own'
+  among : AmongAll (variables (shape now)) own'
   among = among_all now kind before own' after so.goes.among.was
 
   vdr_is : own'.vdr ≡ new.vdr

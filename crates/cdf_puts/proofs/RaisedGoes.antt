@@ -68,16 +68,6 @@ module _ {b : List ℕ} {kind : Kind} {before : List VariableShape} {own : Varia
         by R e = follows e ∙ sym (other_test (r_extents (content now)) (r_extents (content b)) (r_max_rec b) (greatest_r_max_rec (content now)) (λ q. (let same = middle_differs front back (variable_of b own) v (sym (r_was e) ∙ q ∙ r_is e) in absurd (omega arith))))
         by Z e = stays e ∙ sym (same_test (r_extents (content now)) (r_extents (content b)) (r_max_rec b) (greatest_r_max_rec (content now)) (z_same e))
 
--- ---- blocks, by their types
-
-pub block_type : (b records : List ℕ) (vdr : ℕ) (leaves : List Leaf) → Each (LeafFits b records vdr) leaves → (m : ℕ) → In m (places_of leaves) → (type_at b m ≡ vvr_type) ⊎ (type_at b m ≡ cvvr_type)
-block_type b records vdr [] each m i = absurd i
-block_type b records vdr (l ∷ more) each m (inl q) = elim (or_cases (is_a b records vvr_type l.place) (is_a b records cvvr_type l.place) each.0.0) [
-  | inl p ↦ inl (ap (type_at b) q ∙ is_a-type b records vvr_type l.place p)
-  | inr p ↦ inr (ap (type_at b) q ∙ is_a-type b records cvvr_type l.place p)
-]
-block_type b records vdr (l ∷ more) each m (inr i) = block_type b records vdr more each.1 m i
-
 -- ---- whose records are the GDR and the VDR
 
 module _ {b : List ℕ} {kind : Kind} {before : List VariableShape} {own : VariableShape} {after : List VariableShape} (good : Good b) (at : StandsAmong b kind before own after) where

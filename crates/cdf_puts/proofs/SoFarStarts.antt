@@ -4,7 +4,7 @@ use Rattle.cdf_puts.proofs.Common.{in_order, cases_lt, lt-ltb, le-ltb, ne_eqb, f
 use Rattle.cdf_edits.specs.Commands.Puts.{TakesNode}
 use Rattle.cdf_edits.proofs.Edits.LeafPieces.{covers_from}
 use Rattle.cdf_puts.proofs.CoveringRanges.{of_leaves}
-use Rattle.cdf_puts.proofs.PutNodes.{each_in}
+use Rattle.cdf_edits.proofs.Space.ActsLeave.{each}
 use Rattle.std.proofs.lemmas.Bool.{both_ways, eqb-true, or_right}
 
 -- ---- which leaves were put
@@ -133,11 +133,11 @@ none_new before (x ∷ more) has = let here = has x (inl refl) in rw here (none_
 
 nodes_first : (b : List ℕ) (through : List Nodes) (nodes : List ℕ) → NodesFollow b b through nodes nodes []
 nodes_first b through nodes = record {
-  unused = each_in (UnusedEntries b b through nodes []) nodes (λ m i n from upto.
+  unused = each (UnusedEntries b b through nodes []) nodes (λ m i n from upto.
       let there : is_in m nodes ≡ true = is_in-true m nodes i in
       let unused : nat_le (used_count b m) n ≡ true = of_le (used_count b m) n from in
       inl (rw (there, unused) (record { first_is = refl; last_is = refl; offset_is = refl })));
-  spare = each_in (NodeSpareStays b b []) nodes (λ m i e. record { each = λ p low high. refl });
+  spare = each (NodeSpareStays b b []) nodes (λ m i e. record { each = λ p low high. refl });
 }
 
 -- ---- where the writing begins

@@ -3,19 +3,15 @@ use Rattle.std.proofs.Common.{◌≡◌, ℕ, ◌+◌, ◌*◌, ◌≤◌, List,
 use Rattle.cdf_reindex.proofs.Common.{sum, Kind, R, Z, size_at, nodes_of, vxr_type, uir_type, VariableShape, shape, IsSound, In, Good, size_kept, good_is_sound, levels_up, made_acts, reindex_room, vxr_bytes, unmarked, Act, ActsFollow, gave, taken, StandsAmong, IsRebuilt}
 use Rattle.std.specs.List.{fold}
 use Rattle.cdf_edits.proofs.Edits.ActsStill.{acts_still_by}
-use Rattle.cdf_edits.proofs.Edits.ActsThen.{all_gave, gave-same}
-use Rattle.cdf_reindex.proofs.MadeEdit.{heads_edit, heads_marks, linked_long, linked_records, linked_unused, may_free, node_linked, node_made, olds, places, sound_made, t}
+use Rattle.cdf_edits.proofs.Edits.ActsThen.{all_gave, gave-same, taken-gave}
+use Rattle.cdf_reindex.proofs.MadeEdit.{no_vdr_unused, heads_edit, heads_marks, linked_long, linked_records, linked_unused, may_free, node_linked, node_made, olds, places, sound_made, t}
 use Rattle.cdf_reindex.proofs.MadeTaken.{node_takes}
 use Rattle.cdf_reindex.proofs.MadeTree.{level_length}
 
 -- ---- what is taken
 
-pub only_gave : (b places : List ℕ) → taken (gave b places) ≡ []
-only_gave b [] = refl
-only_gave b (place ∷ more) = only_gave b more
-
 pub taken_nodes : (b new old : List ℕ) → taken (node_takes new ++ gave b old) ≡ map (λ place. (place, vxr_bytes 64)) new
-taken_nodes b [] old = only_gave b old
+taken_nodes b [] old = taken-gave b old
 taken_nodes b (place ∷ new) old = ap (λ (xs : List (ℕ × ℕ)). (place, vxr_bytes 64) ∷ xs) (taken_nodes b new old)
 
 abbrev sizes : List ℕ → List ℕ
@@ -24,10 +20,6 @@ sizes new = map (λ (take : ℕ × ℕ). take.1) (map (λ place. (place, vxr_byt
 counted_from : (n : ℕ) (new : List ℕ) → fold (λ x y. x + y) n (sizes new) ≡ n + vxr_bytes 64 * length new
 counted_from n [] = omega arith
 counted_from n (place ∷ new) = let more = counted_from (n + vxr_bytes 64) new in omega arith
-
-no_vdr_unused : (kind : Kind) (v : ℕ) → unmarked (heads_marks kind v) uir_type ≡ true
-no_vdr_unused R v = refl
-no_vdr_unused Z v = refl
 
 module _ {b now : List ℕ} {kind : Kind} {before : List VariableShape} {own : VariableShape} {after : List VariableShape} (good : Good b) (among : StandsAmong b kind before own after) (r : IsRebuilt b now own) where
   abbrev pub acts : List Act

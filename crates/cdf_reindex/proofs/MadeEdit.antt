@@ -29,7 +29,7 @@ own_marks kind v nodes limit = links_mark kind v ∷ mark vxr_type (Among nodes)
 abbrev pub index_made_marks : Kind → ℕ → List ℕ → List ℕ → List ℕ → ℕ → List Mark
 index_made_marks kind v unused new nodes limit = taking_all unused new (vxr_bytes 64) ++ own_marks kind v nodes limit
 
-vdr_untaken : (kind : Kind) (unused places : List ℕ) (need : ℕ) → unmarked (taking_all unused places need) (type_in (variables_chain kind)) ≡ true
+pub vdr_untaken : (kind : Kind) (unused places : List ℕ) (need : ℕ) → unmarked (taking_all unused places need) (type_in (variables_chain kind)) ≡ true
 vdr_untaken R unused places need = refl
 vdr_untaken Z unused places need = refl
 
@@ -41,7 +41,7 @@ no_vdr_node : (kind : Kind) (v : ℕ) → unmarked (heads_marks kind v) vxr_type
 no_vdr_node R v = refl
 no_vdr_node Z v = refl
 
-no_vdr_unused : (kind : Kind) (v : ℕ) → unmarked (heads_marks kind v) uir_type ≡ true
+pub no_vdr_unused : (kind : Kind) (v : ℕ) → unmarked (heads_marks kind v) uir_type ≡ true
 no_vdr_unused R v = refl
 no_vdr_unused Z v = refl
 

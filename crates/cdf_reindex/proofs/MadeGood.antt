@@ -17,6 +17,7 @@ use Rattle.cdf_edits.proofs.Edits.RecordFrame.{index_records}
 use Rattle.cdf_edits.proofs.Edits.VariableFrame.{IsRuled}
 use Rattle.cdf_edits.proofs.Edits.VariableKinds.{by_kind, shapes_with, with_shapes, spliced_times}
 use Rattle.cdf_index.proofs.LeafRules.{index_order, index_rules}
+use Rattle.cdf_index.proofs.OwnRecords.{parts_times}
 use Rattle.cdf_reindex.proofs.MadeBlocks.{StandsOn, leaves_on}
 use Rattle.cdf_reindex.proofs.MadeEdit.{edit, gives_edit, heads_edit, heads_marks, long_now, marks, may_free, node_typed, olds, places, reborn, sound_made, t}
 use Rattle.cdf_edits.proofs.Edits.OwnEdited as of_own_edit
@@ -29,13 +30,6 @@ use Rattle.cdf_reindex.proofs.MadeTree.{level_times, from_levels}
 late_clear : (kind : Kind) (v : ℕ) (unused nodes : List ℕ) (limit : ℕ) → (keeps_file (heads_marks kind v ++ freeing_marks (vxr_type ∷ []) unused nodes limit) ≡ true) × (avoided (heads_marks kind v ++ freeing_marks (vxr_type ∷ []) unused nodes limit) gdr_type 36 44 ≡ true)
 late_clear R v unused nodes limit = (refl, refl)
 late_clear Z v unused nodes limit = (refl, refl)
-
--- ---- how often its records stand in a variable
-
-parts_times : (v : VariableShape) (m : ℕ) → times m (variable_records v) ≡ times m (v.vdr ∷ []) + (times m (nodes_of v.index) + times m (places_of (leaves_of v.index)) + times m v.cpr)
-parts_times v m =
-    times-append m (v.vdr ∷ []) (index_records v)
-    ∙ ap (λ (n : ℕ). times m (v.vdr ∷ []) + n) (times-append m (nodes_of v.index ++ places_of (leaves_of v.index)) v.cpr ∙ ap (λ (n : ℕ). n + times m v.cpr) (times-append m (nodes_of v.index) (places_of (leaves_of v.index))))
 
 module _ {b now : List ℕ} {kind : Kind} {before : List VariableShape} {own : VariableShape} {after : List VariableShape} (good : Good b) (among : StandsAmong b kind before own after) (r : IsRebuilt b now own) (whole : IsSound r.linked (shape r.linked)) (short : length now ≤ image_limit) where
   abbrev s : Shape

@@ -23,10 +23,12 @@ use Rattle.cdf_edits.proofs.Edits.VariableSplice.{attributes_kept}
 use Rattle.cdf_edits.proofs.Edits.StandsAmong.{after_ours, no_block, ours}
 use Rattle.cdf_edits.proofs.Edits.OnlyTaken.{none_of_both}
 use Rattle.cdf_reindex.proofs.MadeActs.{acts}
+use Rattle.cdf_edits.proofs.Edits.LeafPieces.{leaf_at}
 use Rattle.cdf_edits.proofs.Edits.OwnEdited.{splices}
+use Rattle.cdf_index.proofs.OwnRecords.{by_range, block_allowed, descriptor_allowed, node_allowed, parameters_allowed}
 use Rattle.cdf_edits.proofs.Edits.IndexEdited.{vdr_size}
 use Rattle.cdf_reindex.proofs.MadeEdit.{edit, index_made_marks, marks, node_typed, olds, own_marks, places, reborn, t}
-use Rattle.cdf_reindex.proofs.MadeSplices.{beside, block_kept, block_type, index_edit, own_edit, only, part, tests}
+use Rattle.cdf_reindex.proofs.MadeSplices.{beside, block_kept, index_edit, own_edit, only, part, tests}
 use Rattle.cdf_reindex.proofs.MadeTaken.{listed_avoids, listed_within, node_takes, taking_all, unlisted_away, untaken}
 
 abbrev links : List Field
@@ -48,30 +50,6 @@ keep_tests Z v unused new nodes limit = record { heads = refl; inside = refl }
 own_unmarked : (kind : Kind) (v : ℕ) (nodes : List ℕ) (limit : ℕ) → unmarked (own_marks kind v nodes limit) uir_type ≡ true
 own_unmarked R v nodes limit = refl
 own_unmarked Z v nodes limit = refl
-
--- of a record that is no block, by its type
-abbrev by_type : Kind → ℕ → Allowance
-by_type kind type = if type == vdr_type kind then Only head_fields else (if type == vxr_type then Anything else Only [])
-
-of_node : (kind : Kind) → by_type kind vxr_type ≡ Anything
-of_node R = refl
-of_node Z = refl
-
-plain_types : (kind : Kind) → (by_type kind cpr_type ≡ Only []) × (by_type kind vvr_type ≡ Only []) × (by_type kind cvvr_type ≡ Only [])
-plain_types R = (refl, refl, refl)
-plain_types Z = (refl, refl, refl)
-
-find_none : (leaves : List Leaf) (p : ℕ) → (In p (places_of leaves) → ⊥) → find (λ (leaf : Leaf). leaf.place == p) leaves ≡ None
-find_none [] p out = refl
-find_none (leaf ∷ more) p out = rw (ne_eqb leaf.place p (λ e. out (inl (sym e)))) (find_none more p (λ i. out (inr i)))
-
-abbrev in_leaf : Option Leaf → Option Range
-in_leaf None = None
-in_leaf (Some leaf) = Some (range leaf.first leaf.last)
-
-abbrev range_in : ℕ → Option VariableShape → Option Range
-range_in place None = None
-range_in place (Some v) = in_leaf (find (λ (leaf : Leaf). leaf.place == place) (leaves_of v.index))
 
 module _ {b now : List ℕ} (found : Found) {before : List VariableShape} {own : VariableShape} {after : List VariableShape} (good : Good b) (among : StandsAmong b found.kind before own after) (at : found.number ≡ length before) (r : IsRebuilt b now own) (whole : IsSound r.linked (shape r.linked)) where
   abbrev kind : Kind
@@ -112,41 +90,11 @@ module _ {b now : List ℕ} (found : Found) {before : List VariableShape} {own :
   abbrev own_may : ℕ → Allowance
   own_may m = may.variables kind (length before) m
 
-  abbrev by_range : ℕ → Option Range → Allowance
-  by_range m None = by_type kind (type_at b m)
-  by_range m (Some x) = Only []
-
-  there : slice_get (shapes_of (shape b) kind) found.number ≡ Some own
-  there = ap (slice_get (shapes_of (shape b) kind)) at ∙ ap (λ (vs : List VariableShape). slice_get vs (length before)) among.was ∙ got-middle before own after
-
-  allowed : (m : ℕ) (o : Option Range) → range_at (shape b) found m ≡ o → own_may m ≡ by_range m o
+  allowed : (m : ℕ) (o : Option Range) → range_at (shape b) found m ≡ o → own_may m ≡ by_range b kind head_fields (λ rg. Only []) m o
   allowed m o x =
       let same : same_kind kind kind ≡ true = same_as_itself kind in
       let number : (found.number == length before) ≡ true = eq-eqb found.number (length before) at in
-      λ i. if same i then (if number i then by_range m (x i) else only_of b m (vdr_type kind) []) else Only []
-
-  -- of a record of another type than those of a descriptor and of a node, whatever stands there
-  stays_by : (m type : ℕ) → type_at b m ≡ type → by_type kind type ≡ Only [] → own_may m ≡ Only []
-  stays_by m type x only_none = allowed m (range_at (shape b) found m) refl ∙ by (range_at (shape b) found m)
-    where
-      by : (o : Option Range) → by_range m o ≡ Only []
-      by None = ap (by_type kind) x ∙ only_none
-      by (Some y) = refl
-
-  no_block_there : (m : ℕ) → In m (olds good among r) → In m (places_of (leaves_of own.index)) → ⊥
-  no_block_there m i j = elim (block_type b (shape b).records own.vdr (leaves_of own.index) (fits good among).2 m j) [
-    | inl x ↦ clash vvr_type refl (sym (node_typed good among r m i) ∙ x)
-    | inr x ↦ clash cvvr_type refl (sym (node_typed good among r m i) ∙ x)
-  ]
-    where
-      clash : (type : ℕ) → (vxr_type == type) ≡ false → vxr_type ≡ type → ⊥
-      clash type f q = true≢false (sym (eq-eqb vxr_type type q) ∙ f)
-
-  node_allowed : (m : ℕ) → In m (olds good among r) → own_may m ≡ Anything
-  node_allowed m i = allowed m None (ap (range_in m) there ∙ ap in_leaf (find_none (leaves_of own.index) m (no_block_there m i))) ∙ ap (by_type kind) (node_typed good among r m i) ∙ of_node kind
-
-  descriptor_allowed : own_may own.vdr ≡ Only head_fields
-  descriptor_allowed = vdr_allowance b found before own after among.was at (typed good among ∙ kind_type kind) (no_block good among) _ []
+      λ i. if same i then (if number i then by_range b kind head_fields (λ rg. Only []) m (x i) else only_of b m (vdr_type kind) []) else Only []
 
   -- ---- its own records
 
@@ -162,25 +110,24 @@ module _ {b now : List ℕ} (found : Found) {before : List VariableShape} {own :
       aside n (inr x) (inl y) = absurd (omega arith)
       aside n (inr x) (inr y) = inr y
 
-  kept_as : (m type : ℕ) → In m (shape b).records → Kept b now m → type_at b m ≡ type → by_type kind type ≡ Only [] → Keeps b now m (own_may m)
-  kept_as m type inside k x only_none = subst (Keeps b now m) (sym (stays_by m type x only_none)) (keeps_stood b now m (stands m inside k) (Only []))
+  kept_as : (m : ℕ) → In m (shape b).records → Kept b now m → own_may m ≡ Only [] → Keeps b now m (own_may m)
+  kept_as m inside k only_none = subst (Keeps b now m) (sym only_none) (keeps_stood b now m (stands m inside k) (Only []))
 
   block_keeps : (m : ℕ) → In m (places_of (leaves_of own.index)) → Keeps b now m (own_may m)
   block_keeps m i =
-      let inside = behind_in good among m (block_behind own m i) in
-      let k = block_kept good among r whole m i in
-      elim (block_type b (shape b).records own.vdr (leaves_of own.index) (fits good among).2 m i) [ inl x ↦ kept_as m vvr_type inside k x (plain_types kind).1 | inr x ↦ kept_as m cvvr_type inside k x (plain_types kind).2 ]
+      let l = leaf_at (leaves_of own.index) m i in
+      kept_as m (behind_in good among m (block_behind own m i)) (block_kept good among r whole m i) (ap own_may l.1.1 ∙ block_allowed found good among at head_fields (λ rg. Only []) own_may allowed l.0 l.1.0)
 
   cpr_keeps : (m : ℕ) → In m own.cpr → Keeps b now m (own_may m)
   cpr_keeps m c =
       let inside = behind_in good among m (cpr_behind own m c) in
       let x = is_a-type b (shape b).records cpr_type m (Each-in (λ y. is_a b (shape b).records cpr_type y ≡ true) own.cpr (fits good among).3 m c) in
-      kept_as m cpr_type inside (kept e m cpr_type inside x (tests good among r whole).cpr_clear) x (plain_types kind).0
+      kept_as m inside (kept e m cpr_type inside x (tests good among r whole).cpr_clear) (parameters_allowed found good among at head_fields (λ rg. Only []) own_may allowed m c)
 
   mine_keeps : (m : ℕ) → In m (variable_records own) → Keeps b now m (own_may m)
-  mine_keeps m (inl q) = subst (λ (x : ℕ). Keeps b now x (own_may x)) (sym q) (subst (Keeps b now own.vdr) (sym descriptor_allowed) descriptor_stays)
+  mine_keeps m (inl q) = subst (λ (x : ℕ). Keeps b now x (own_may x)) (sym q) (subst (Keeps b now own.vdr) (sym (descriptor_allowed found good among at head_fields (λ rg. Only []) own_may allowed)) descriptor_stays)
   mine_keeps m (inr j) = elim (In-append m (nodes_of own.index ++ places_of (leaves_of own.index)) own.cpr j) [
-    | inl x ↦ elim (In-append m (nodes_of own.index) (places_of (leaves_of own.index)) x) [ inl n ↦ subst (Keeps b now m) (sym (node_allowed m n)) tt | inr n ↦ block_keeps m n ]
+    | inl x ↦ elim (In-append m (nodes_of own.index) (places_of (leaves_of own.index)) x) [ inl n ↦ subst (Keeps b now m) (sym (node_allowed found good among at head_fields (λ rg. Only []) own_may allowed m n)) tt | inr n ↦ block_keeps m n ]
     | inr c ↦ cpr_keeps m c
   ]
 

@@ -12,7 +12,8 @@ use Rattle.cdf_edits.proofs.Edits.VariableKinds.{keeps_kind}
 use Rattle.cdf_edits.proofs.Edits.VariableSplice.{keeps_all_attributes}
 use Rattle.cdf_edits.proofs.Edits.OwnEdited.{OwnEdit}
 use Rattle.cdf_edits.proofs.Edits.IndexEdited as of_index
-use Rattle.cdf_reindex.proofs.MadeEdit.{index_made_marks, own_marks, edit, marks, olds, places, reborn, records_now, t}
+use Rattle.cdf_index.proofs.OwnRecords.{block_type}
+use Rattle.cdf_reindex.proofs.MadeEdit.{vdr_untaken, index_made_marks, own_marks, edit, marks, olds, places, reborn, records_now, t}
 use Rattle.cdf_reindex.proofs.MadeTaken.{taking_all}
 
 -- ---- which records the marks leave by their types alone
@@ -41,22 +42,9 @@ variable_unspaced unused new need type i = rw (ne_eqb type gdr_type no_gdr, ne_e
     no_uir : type ≢ uir_type
     no_uir e = true≢false (sym (ap (λ (x : ℕ). is_in x variable_types) (sym e) ∙ i))
 
-vdr_untaken : (kind : Kind) (unused new : List ℕ) (need : ℕ) → unmarked (taking_all unused new need) (type_in (variables_chain kind)) ≡ true
-vdr_untaken R unused new need = refl
-vdr_untaken Z unused new need = refl
-
 vdr_no_node : (kind : Kind) → type_in (variables_chain kind) ≡ vxr_type → ⊥
 vdr_no_node R = apart r_vdr_type vxr_type refl
 vdr_no_node Z = apart z_vdr_type vxr_type refl
-
--- blocks, by their types
-pub block_type : (b records : List ℕ) (vdr : ℕ) (leaves : List Leaf) → Each (LeafFits b records vdr) leaves → (m : ℕ) → In m (places_of leaves) → (type_at b m ≡ vvr_type) ⊎ (type_at b m ≡ cvvr_type)
-block_type b records vdr [] each m i = absurd i
-block_type b records vdr (l ∷ more) each m (inl q) = elim (or_cases (is_a b records vvr_type l.place) (is_a b records cvvr_type l.place) each.0.0) [
-  | inl p ↦ inl (ap (type_at b) q ∙ is_a-type b records vvr_type l.place p)
-  | inr p ↦ inr (ap (type_at b) q ∙ is_a-type b records cvvr_type l.place p)
-]
-block_type b records vdr (l ∷ more) each m (inr i) = block_type b records vdr more each.1 m i
 
 module _ {b now : List ℕ} {kind : Kind} {before : List VariableShape} {own : VariableShape} {after : List VariableShape} (good : Good b) (among : StandsAmong b kind before own after) (r : IsRebuilt b now own) (whole : IsSound r.linked (shape r.linked)) where
   abbrev s : Shape

@@ -1,6 +1,7 @@
 -- Nodes that are taken one after the other: one edit, and acts that follow.
 use Rattle.std.proofs.Common.{◌≡◌, ℕ, ◌≤◌, List, [], ◌∷◌, length, map, Bool, true, false, ◌||◌, refl, sym, ap, subst, ◌∙◌, arith, inl, inr}
 use Rattle.cdf_reindex.proofs.Common.{is_in, size_at, type_at, eof, Field, field, gdr_eof, gdr_uir_head, uir_next_uir, uir_prev_uir, gdr_type, uir_type, vxr_type, Shape, shape, IsSound, In, Distinct, size_kept, type_kept, linkable-in, linkable-type, either, true-is_in, false-is_in, tile_lies, is_taken, vxr_bytes, Edit, Among, Mark, mark, Avoids, Away, Within, Act, ActsFollow, edit_then, edit_under, place_in, filled_size, fresh, the_one, Avoids-append, kept, Kept, apart, AllTaken}
+use Rattle.std.proofs.lemmas.Bool.{or_parts}
 use Rattle.cdf_edits.specs.Edits.Marks.{Anywhere}
 use Rattle.cdf_edits.specs.Space.Acts.{Took}
 use Rattle.cdf_edits.specs.Space.Placement.{with_space}
@@ -49,15 +50,11 @@ pub only_takes : (places : List ℕ) → OnlyTakes (node_takes places)
 only_takes [] = tt
 only_takes (place ∷ more) = only_takes more
 
-second_false : (p q : Bool) → (p || q) ≡ false → q ≡ false
-second_false true q e = absurd cc
-second_false false q e = e
-
 -- what is not taken stands at none of the places
 pub untaken : (b places : List ℕ) (m : ℕ) → 12 ≤ size_at b m → is_taken b (node_takes places) m ≡ false → In m places → ⊥
 untaken b [] m long e i = i
 untaken b (place ∷ more) m long e (inl q) = taken_is_taken b place (vxr_bytes 64) (node_takes more) (subst (λ (x : ℕ). 12 ≤ size_at b x) q long) (subst (λ (x : ℕ). is_taken b (node_takes (place ∷ more)) x ≡ false) q e)
-untaken b (place ∷ more) m long e (inr i) = untaken b more m long (second_false _ _ e) i
+untaken b (place ∷ more) m long e (inr i) = untaken b more m long (or_parts _ _ e).1 i
 
 -- ---- one node
 
@@ -133,14 +130,11 @@ module _ {b mid now : List ℕ} {place : ℕ} {more : List ℕ} (sound : IsSound
   of_more m (inl q) = inl q
   of_more m (inr none) = absurd none
 
-  was_listed : (m : ℕ) → In m (shape b).records → In m (shape mid).unused → In m (shape b).unused
-  was_listed = one_before sound node
-
   both : Edit b now (shape b).records (shape now).records (taking_all (shape b).unused places (vxr_bytes 64)) places
   both = edit_under (edit_then first.edit rest.grows.edit) (taking_all (shape b).unused places (vxr_bytes 64)) (λ m type lo hi i is a.
       Avoids-append (placing_marks (shape b).unused place (vxr_bytes 64)) (taking_all (shape mid).unused more (vxr_bytes 64)) type m lo hi
       (a.0, (a.1.0, (a.1.1.0, (a.1.1.1.0, ((λ same lies. a.1.1.1.1.0 same (of_more m lies)), ((λ same lies. a.1.1.1.1.0 same (of_more m lies)), tt))))))
-      (a.0, (a.1.0, ((λ same lies. a.1.1.0 same (was_listed m i lies)), ((λ same lies. a.1.1.1.0 same (was_listed m i lies)), ((λ same lies. a.1.1.1.1.0 same (inr lies)), tt))))))
+      (a.0, (a.1.0, ((λ same lies. a.1.1.0 same (one_before sound node m i lies)), ((λ same lies. a.1.1.1.0 same (one_before sound node m i lies)), ((λ same lies. a.1.1.1.1.0 same (inr lies)), tt))))))
 
   grown : Grows b now (taking_all (shape b).unused places (vxr_bytes 64)) places
   grown = record {
@@ -178,11 +172,11 @@ module _ {b mid now : List ℕ} {place : ℕ} {more : List ℕ} (sound : IsSound
     ];
     from_list = λ m i j. elim i [
       | inl q ↦ subst (λ (x : ℕ). In x (shape b).unused) (sym q) (one_was_listed sound node (subst (λ (x : ℕ). In x (shape b).records) q j))
-      | inr k ↦ was_listed m j (rest.from_list m k (first.edit.sub m j))
+      | inr k ↦ one_before sound node m j (rest.from_list m k (first.edit.sub m j))
     ];
     once = ((λ i. node.fills.in_use (sym node.fills.typed ∙ rest.fresh_all place i (place_in sound node.fills))), rest.once);
     stand = λ m i. elim i [ inl q ↦ subst (NodeStands now 64) (sym q) place_stands | inr k ↦ rest.stand m k ];
-    before = λ m i j. was_listed m i (rest.before m (first.edit.sub m i) j);
+    before = λ m i j. one_before sound node m i (rest.before m (first.edit.sub m i) j);
     follow = acts_joined sound.has_shape first.sound.has_shape (one_follows sound node) rest.follow tt (only_takes more) (one_listed sound node) rest.listed;
     listed = listed_stay sound grown;
   }

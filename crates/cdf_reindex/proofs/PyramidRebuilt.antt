@@ -82,11 +82,8 @@ module _ (b made : List ℕ) (before : List VariableShape) (v : VariableShape) (
       kept_still linked now (nodes_of v.index) sound_at stand given m (new_in b made before v after was index top x first linked small one two m i) (λ u. apart vxr_type uir_type refl (sym typed ∙ u)) (λ g. apart vxr_type gdr_type refl (sym typed ∙ g))
       (new_apart b made before v after was index top x first linked small one two m i)
 
-  fits_linked : (m : ℕ) → In m (nodes_of index) → NodeFits linked m
-  fits_linked m i = new_fits b made before v after was index top x first linked small one two m i
-
   bare_now : Each (IsBare now) (nodes_of index)
-  bare_now = each (IsBare now) (nodes_of index) (λ m i. bare_by linked now m (new_kept m i) (fits_linked m i) (new_bare b made before v after was index top x first linked small one two m i))
+  bare_now = each (IsBare now) (nodes_of index) (λ m i. bare_by linked now m (new_kept m i) (new_fits b made before v after was index top x first linked small one two m i) (new_bare b made before v after was index top x first linked small one two m i))
 
   counted : (m : ℕ) → IsBare now m → Counts now m
   counted m bare = subst (λ (n : ℕ). number now m vxr_n_used_entries ≤ n) (sym bare.room_is) bare.few

@@ -2,7 +2,8 @@ use Rattle.std.proofs.Common.{arith, refl, sym, ap}
 use Rattle.cdf_puts.proofs.Common.{Frame, edit_done, edit_failed, edit_more, edits_by_read, keeps_by_read, read_once, HasIndex}
 use Rattle.std.proofs.Math.Path.{transport}
 use Rattle.cdf_area.proofs.Calls.{read_more}
-use Rattle.cdf_puts.proofs.PutSpot.{edits_then, has_index, lies, on_after, short}
+use Rattle.cdf_leaves.proofs.LastCall.{edit_last}
+use Rattle.cdf_puts.proofs.PutSpot.{has_index, lies, on_after, short}
 use Rattle.cdf_puts.proofs.putting.put_next.Goals as goal
 
 pub overflow_add-put : goal.overflow_add-put
@@ -43,4 +44,4 @@ pub returns-in_ok-write_one-in-Some-clause-area : goal.returns-in_ok-write_one-i
 returns-in_ok-write_one-in-Some-clause-area g c = edit_done (edit_more (keeps_by_read (read_more (read_once c.in_ok-head.ensures.area) c.in_ok-found.ensures.area)) c.in_ok-write_one-in-Some.ensures.area)
 
 pub returns-in-None-clause-area : goal.returns-in-None-clause-area
-returns-in-None-clause-area g c = edits_then c.add_block.result (keeps_by_read (read_more (read_once c.in_ok-head.ensures.area) c.in_ok-found.ensures.area)) c.add_block.ensures.area
+returns-in-None-clause-area g c = edit_last (keeps_by_read (read_more (read_once c.in_ok-head.ensures.area) c.in_ok-found.ensures.area)) c.add_block.ensures.area

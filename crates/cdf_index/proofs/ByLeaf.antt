@@ -1,0 +1,140 @@
+-- What a leaf more makes of an index, step by step on the way to it, and how often a node stands in it by then.
+use Rattle.std.proofs.Common.{◌≡◌, ◌⊎◌, ℕ, zero, suc, ◌+◌, ◌≤◌, max, List, [], ◌∷◌, ◌++◌, Bool, false, ltb, eqb, refl, sym, ap, subst, ◌∙◌, arith, inl, inr}
+use Rattle.cdf_index.proofs.Common.{eqb-true, if◌then◌else◌, ◌==◌, In, either, reaches, chain_reaches, leads_down, past, with_both, with_entry, Nodes, no_node, node, Entries, no_entry, block, lower, Leaf, entry_count}
+use Rattle.std.proofs.lemmas.Bool.{eqb-false, ne_eqb}
+use Rattle.cdf_edits.specs.Index.Grown.{with_leaf, with_lower, new_room, new_room_below, room_of_new, with_block}
+use Rattle.cdf_edits.proofs.Frame.OwnersApart.{times-append, times-in}
+use Rattle.cdf_format.specs.Index.{nodes_of, lower_nodes}
+use Rattle.cdf_format.specs.Owners.{times}
+use Rattle.cdf_index.proofs.Saying.{upto_both, front, front_past, upto_is}
+
+-- ---- the steps to a leaf more
+
+-- What holds of chains (P) and of the entries of a node (Q), of both before and after, where each step to the leaf keeps it; the number is how many entries the new node has room for, or 0.
+pub record Grows (new : Leaf) (at : ℕ) (P : ℕ → Nodes → Nodes → Type 0) (Q : ℕ → Entries → Entries → Type 0) : Type 0 where
+  pub along : (n place room : ℕ) (es : Entries) (more more' : Nodes) → P n more more' → P n (node place room es more) (node place room es more')
+  pub down : (n place room : ℕ) (es es' : Entries) (more : Nodes) → Q n es es' → P n (node place room es more) (node place room es' more)
+  pub none : Q 0 no_entry no_entry
+  pub past_block : (n first last place : ℕ) (packed : Bool) (es es' : Entries) → Q n es es' → Q n (block first last place packed es) (block first last place packed es')
+  pub past_lower : (n first last : ℕ) (nodes : Nodes) (es es' : Entries) → Q n es es' → Q n (lower first last nodes es) (lower first last nodes es')
+  pub below : (n first last : ℕ) (nodes nodes' : Nodes) (es : Entries) → P n nodes nodes' → Q n (lower first last nodes es) (lower first (max last new.last) nodes' es)
+  pub alone : P 7 no_node (node at 7 (with_block new no_entry) no_node)
+  pub fits : (place room : ℕ) (es fs : Entries) (more : Nodes) → P 0 (node place room (with_both es fs) more) (node place room (with_both es (with_block new fs)) more)
+  pub behind : (place room : ℕ) (es : Entries) (more : Nodes) → P 7 (node place room es more) (node place room es (node at 7 (with_block new no_entry) more))
+  pub split : (n place room : ℕ) (es fs : Entries) (more : Nodes) → n ≡ max 7 (entry_count fs) → P n (node place room (with_both es fs) more) (node place room (with_both es (with_block new no_entry)) (node at n fs more))
+
+module _ {new : Leaf} {at : ℕ} {P : ℕ → Nodes → Nodes → Type 0} {Q : ℕ → Entries → Entries → Type 0} (g : Grows new at P Q) where
+  by_entry : (place room : ℕ) (es : Entries) (more : Nodes) → P (room_of_new new.first room es) (node place room es more) (with_entry new at place room es more)
+  by_entry place room es more =
+      let f = front new.first es in
+      let p = past new.first es in
+      let whole = front_past new.first es in
+      elim (either (ltb (entry_count es) room)) [
+        | inl t ↦ rw (t, upto_both new es p) (subst (λ (x : Entries). P 0 (node place room x more) (node place room (with_both f (with_block new p)) more)) whole (g.fits place room f p more))
+        | inr t ↦ elim (either (eqb (entry_count p) 0)) [
+          | inl z ↦ let none = eqb-true (entry_count p) 0 z in let seven : max 7 (entry_count p) ≡ 7 = omega arith in rw (t, z, seven) (g.behind place room es more)
+          | inr z ↦
+              let n = max 7 (entry_count p) in
+              rw (t, z, upto_is new es) (subst (λ (x : Entries). P n (node place room x more) (node place room (with_both f (with_block new no_entry)) (node at n p more))) whole (g.split n place room f p more refl))
+        ]
+      ]
+
+  mutual
+    unfolding with_leaf with_lower new_room new_room_below
+
+    pub by_leaf : (index : Nodes) → P (new_room new.first index) index (with_leaf new at index)
+    by_leaf no_node = g.alone
+    by_leaf (node place room es more) = elim (either (chain_reaches new.first more)) [
+      | inl t ↦ rw t (g.along (new_room new.first more) place room es more (with_leaf new at more) (by_leaf more))
+      | inr t ↦ elim (either (leads_down new.first false es)) [
+        | inl d ↦ rw (t, d) (g.down (new_room_below new.first es) place room es (with_lower new at es) more (by_lower es))
+        | inr d ↦ rw (t, d) (by_entry place room es more)
+      ]
+    ]
+
+    pub by_lower : (es : Entries) → Q (new_room_below new.first es) es (with_lower new at es)
+    by_lower no_entry = g.none
+    by_lower (block first last place packed es) = g.past_block (new_room_below new.first es) first last place packed es (with_lower new at es) (by_lower es)
+    by_lower (lower first last nodes es) = elim (either (reaches new.first es)) [
+      | inl t ↦ rw t (g.past_lower (new_room_below new.first es) first last nodes es (with_lower new at es) (by_lower es))
+      | inr t ↦ rw t (g.below (new_room new.first nodes) first last nodes (with_leaf new at nodes) es (by_leaf nodes))
+    ]
+
+-- ---- numbers of the nodes, added up
+
+unfoldable mutual
+  pub weigh : (ℕ → ℕ → ℕ) → Nodes → ℕ
+  weigh w no_node = 0
+  weigh w (node place room es more) = w place room + (weigh_below w es + weigh w more)
+
+  pub weigh_below : (ℕ → ℕ → ℕ) → Entries → ℕ
+  weigh_below w no_entry = 0
+  weigh_below w (block first last place packed es) = weigh_below w es
+  weigh_below w (lower first last nodes es) = weigh w nodes + weigh_below w es
+
+abbrev weight_of : (ℕ → ℕ → ℕ) → ℕ → ℕ → ℕ
+weight_of w at n = if n == 0 then 0 else w at n
+
+weigh_both : (w : ℕ → ℕ → ℕ) (es fs : Entries) → weigh_below w (with_both es fs) ≡ weigh_below w es + weigh_below w fs
+unfolding weigh_below
+weigh_both w no_entry fs = omega arith
+weigh_both w (block first last place packed es) fs = weigh_both w es fs
+weigh_both w (lower first last nodes es) fs = let r = weigh_both w es fs in omega arith
+
+pub weight_grows : (w : ℕ → ℕ → ℕ) (new : Leaf) (at : ℕ) → Grows new at (λ n a a'. weigh w a' ≡ weigh w a + weight_of w at n) (λ n es es'. weigh_below w es' ≡ weigh_below w es + weight_of w at n)
+unfolding weigh weigh_below
+weight_grows w new at = record {
+  along = λ n place room es more more' h. omega arith;
+  down = λ n place room es es' more h. omega arith;
+  none = refl;
+  past_block = λ n first last place packed es es' h. h;
+  past_lower = λ n first last nodes es es' h. omega arith;
+  below = λ n first last nodes nodes' es h. omega arith;
+  alone = omega arith;
+  fits = λ place room es fs more. let b = weigh_both w es fs in let c = weigh_both w es (with_block new fs) in omega arith;
+  behind = λ place room es more. omega arith;
+  split = λ n place room es fs more wide. let b = weigh_both w es fs in let c = weigh_both w es (with_block new no_entry) in let some = ne_eqb n 0 (λ e. absurd (omega arith)) in rw some (omega arith);
+}
+
+-- ---- how often a place stands among the nodes
+
+mutual
+  unfolding weigh weigh_below nodes_of lower_nodes
+
+  nodes_weighed : (m : ℕ) (nodes : Nodes) → times m (nodes_of nodes) ≡ weigh (λ p r. times m (p ∷ [])) nodes
+  nodes_weighed m no_node = refl
+  nodes_weighed m (node place room es more) =
+      times-append m (place ∷ []) (lower_nodes es ++ nodes_of more)
+      ∙ ap (λ (n : ℕ). times m (place ∷ []) + n) (times-append m (lower_nodes es) (nodes_of more) ∙ (let a = entries_weighed m es in let b = nodes_weighed m more in λ i. a i + b i))
+
+  entries_weighed : (m : ℕ) (es : Entries) → times m (lower_nodes es) ≡ weigh_below (λ p r. times m (p ∷ [])) es
+  entries_weighed m no_entry = refl
+  entries_weighed m (block first last place packed es) = entries_weighed m es
+  entries_weighed m (lower first last nodes es) = times-append m (nodes_of nodes) (lower_nodes es) ∙ (let a = nodes_weighed m nodes in let b = entries_weighed m es in λ i. a i + b i)
+
+-- the new node stands once more, where one is needed
+pub nodes_with_leaf : (new : Leaf) (at m : ℕ) (index : Nodes) → times m (nodes_of (with_leaf new at index)) ≡ times m (nodes_of index) + (if new_room new.first index == 0 then 0 else times m (at ∷ []))
+nodes_with_leaf new at m index =
+    nodes_weighed m (with_leaf new at index) ∙ by_leaf (weight_grows (λ p r. times m (p ∷ [])) new at) index
+    ∙ ap (λ (n : ℕ). n + (if new_room new.first index == 0 then 0 else times m (at ∷ []))) (sym (nodes_weighed m index))
+
+pub in-times : (m : ℕ) (xs : List ℕ) → 1 ≤ times m xs → In m xs
+in-times m [] h = absurd (omega arith)
+in-times m (x ∷ xs) h = elim (either (eqb m x)) [ inl t ↦ inl (eqb-true m x t) | inr t ↦ inr (in-times m xs (rw t at h)) ]
+
+-- a node more stands at `at` alone, and only where one is needed
+pub in_nodes_with_leaf : (new : Leaf) (at : ℕ) (index : Nodes) (m : ℕ) → In m (nodes_of (with_leaf new at index)) → In m (nodes_of index) ⊎ ((m ≡ at) × (1 ≤ new_room new.first index))
+in_nodes_with_leaf new at index m i =
+    let some = times-in m (nodes_of (with_leaf new at index)) i in
+    let more = nodes_with_leaf new at m index in
+    elim (either (eqb (new_room new.first index) 0)) [
+      | inl t ↦ let same : times m (nodes_of (with_leaf new at index)) ≡ times m (nodes_of index) + 0 = rw t at more in inl (in-times m (nodes_of index) (omega arith))
+      | inr t ↦ elim (either (eqb m at)) [
+        | inl e ↦ inr (eqb-true m at e, (let out = eqb-false (new_room new.first index) 0 t in omega arith))
+        | inr e ↦ let same : times m (nodes_of (with_leaf new at index)) ≡ times m (nodes_of index) + 0 = rw (t, e) at more in inl (in-times m (nodes_of index) (omega arith))
+      ]
+    ]
+
+-- each node of the index stays
+pub node_stays : (new : Leaf) (at : ℕ) (index : Nodes) (m : ℕ) → In m (nodes_of index) → In m (nodes_of (with_leaf new at index))
+node_stays new at index m i = in-times m (nodes_of (with_leaf new at index)) (let some = times-in m (nodes_of index) i in let more = nodes_with_leaf new at m index in omega arith)

@@ -1,0 +1,78 @@
+-- What a write of one field leaves of a record, and of a node where the field stands before its entries.
+use Rattle.std.proofs.Common.{◌≡◌, ◌⊎◌, ℕ, ◌+◌, ◌*◌, ◌/◌, ◌-◌, ◌^◌, ◌<◌, ◌≤◌, inl, inr, List, [], ◌∷◌, length, slice_index, ap, ◌∙◌, arith}
+use Rattle.cdf_index.proofs.Common.{min, image_limit, Changed, touch, LiesIn, counted, word, number, with_field, size_at, room_at, used_count, vxr_n_used_entries, field_reads, length-with_field, other_bytes, other_words, NodeInside, StillSays}
+use Rattle.std.specs.Int.{w32, cast_signed}
+use Rattle.cdf_format.specs.Records.{Field}
+
+pub record FieldSet (b now : List ℕ) (at : ℕ) (f : Field) (n : ℕ) : Type 0 where
+  pub as_long : length now ≡ length b
+  pub reads : n < 256 ^ f.width → number now at f ≡ n
+  pub past : (other m : ℕ) → (other + m ≤ at + f.place) ⊎ (at + f.place + f.width ≤ other) → word now other m ≡ word b other m
+  pub changed : Changed b now (touch at f.place f.width ∷ [])
+
+pub field_set : {b now : List ℕ} {at : ℕ} {f : Field} {n : ℕ} → LiesIn b at f → now ≡ with_field b at f n → FieldSet b now at f n
+field_set {b = b} {now = now} {at = at} {f = f} {n = n} lies is =
+    let long : length now ≡ length b = ap length is ∙ length-with_field b at f n lies in
+    record {
+      as_long = long;
+      reads = λ fits. ap (λ (x : List ℕ). number x at f) is ∙ field_reads b at f n lies fits;
+      past = λ other m apart. ap (λ (x : List ℕ). word x other m) is ∙ other_words b at f n other m lies apart;
+      changed = record { longer = omega arith; same = λ i lt o. ap (λ (x : List ℕ). slice_index x i) is ∙ other_bytes b at f n i lies o.0 };
+    }
+
+-- ---- changes within one range of bytes of a record
+
+pub changed_again : {b mid now : List ℕ} {at from n : ℕ} → Changed b mid (touch at from n ∷ []) → length mid ≡ length b → Changed mid now (touch at from n ∷ []) → Changed b now (touch at from n ∷ [])
+changed_again c long d = record { longer = omega (arith, c.longer, d.longer); same = λ i lt o. d.same i (omega arith) o ∙ c.same i lt o }
+
+pub changed_wider : {b now : List ℕ} {at place width : ℕ} (from n : ℕ) → Changed b now (touch at place width ∷ []) → from ≤ place → place + width ≤ from + n → Changed b now (touch at from n ∷ [])
+changed_wider {at = at} {place = place} {width = width} from n c low high = record { longer = c.longer; same = λ i lt o. c.same i lt (outside i o.0, tt) }
+  where
+    outside : (i : ℕ) → (i < at + from) ⊎ (at + from + n ≤ i) → (i < at + place) ⊎ (at + place + width ≤ i)
+    outside i (inl l) = inl (omega arith)
+    outside i (inr r) = inr (omega arith)
+
+-- ---- a node
+
+pub node_head : {b : List ℕ} {at : ℕ} → NodeInside b at → at + 28 ≤ length b
+node_head {b = b} {at = at} inside = head (room_at b at) (length b) inside.room
+  where
+    head : (r l : ℕ) → at + (28 + 16 * r) ≤ l → at + 28 ≤ l
+    head r l h = omega arith
+
+pub node_small : {b : List ℕ} {at : ℕ} → NodeInside b at → length b ≤ image_limit → room_at b at < 2 ^ 31
+node_small {b = b} {at = at} inside short = small (room_at b at) (length b) inside.room short
+  where
+    small : (r l : ℕ) → at + (28 + 16 * r) ≤ l → l ≤ image_limit → r < 2 ^ 31
+    small r l h s = omega arith
+
+abbrev pub counts : ℕ → ℕ → ℕ → ℕ
+counts u r s = min (counted (cast_signed w32 u)) (min (counted (cast_signed w32 r)) ((s - 28) / 16))
+
+pub count_is : (u r s : ℕ) → u ≤ r → 28 + 16 * r ≤ s → r < 2 ^ 31 → counts u r s ≡ u
+count_is u r s ur rs small = grind arith
+
+-- it uses as many entries as it counts, where it has room for them
+pub used_by_count : {b : List ℕ} {at n : ℕ} (now : List ℕ) → NodeInside b at → length b ≤ image_limit → number now at vxr_n_used_entries ≡ n → room_at now at ≡ room_at b at → size_at now at ≡ size_at b at → n ≤ room_at b at → used_count now at ≡ n
+used_by_count {b = b} {at = at} {n = n} now inside short u r s few = (λ i. counts (u i) (r i) (s i)) ∙ count_is n (room_at b at) (size_at b at) few inside.entries (node_small inside short)
+
+-- a field before its entries, but for Nentries
+module _ {b now : List ℕ} {at : ℕ} {f : Field} {n : ℕ} (set : FieldSet b now at f n) (low : 8 ≤ f.place) (high : f.place + f.width ≤ 28) (beside : (f.place + f.width ≤ 20) ⊎ (24 ≤ f.place)) where
+  pub size_beside : size_at now at ≡ size_at b at
+  size_beside = set.past (at + 0) 8 (inl (omega arith))
+
+  pub room_beside : room_at now at ≡ room_at b at
+  room_beside = set.past (at + 20) 4 (elim beside [ inl l ↦ inr (omega arith) | inr r ↦ inl (omega arith) ])
+
+  pub entries_beside : (i : ℕ) → StillSays b now at i i
+  entries_beside i first last offset s = record {
+    first_is = set.past (at + (28 + 4 * i)) 4 (inr (omega arith)) ∙ s.first_is;
+    last_is = ap (λ (y : ℕ). word now (at + (28 + 4 * y + 4 * i)) 4) room_beside ∙ set.past (at + (28 + 4 * room_at b at + 4 * i)) 4 (inr (behind4 (room_at b at))) ∙ s.last_is;
+    offset_is = ap (λ (y : ℕ). word now (at + (28 + 8 * y + 8 * i)) 8) room_beside ∙ set.past (at + (28 + 8 * room_at b at + 8 * i)) 8 (inr (behind8 (room_at b at))) ∙ s.offset_is;
+  }
+    where
+      behind4 : (r : ℕ) → at + f.place + f.width ≤ at + (28 + 4 * r + 4 * i)
+      behind4 r = omega arith
+
+      behind8 : (r : ℕ) → at + f.place + f.width ≤ at + (28 + 8 * r + 8 * i)
+      behind8 r = omega arith

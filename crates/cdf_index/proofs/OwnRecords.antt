@@ -1,0 +1,105 @@
+-- The records of one variable: how often each stands in it, of which types they are, and what a command on the variable may do to them.
+use Rattle.std.proofs.Common.{◌≡◌, ◌⊎◌, ℕ, ◌+◌, List, [], ◌∷◌, ◌++◌, length, true, false, Option, Some, None, true≢false, refl, sym, ap, ◌∙◌, inl, inr}
+use Rattle.std.proofs.lemmas.Bool.{ne_eqb}
+use Rattle.std.specs.Prelude.{find, slice_get, ◌==◌, if◌then◌else◌}
+use Rattle.cdf_index.proofs.Common.{range, is_a, is_in, type_at, Leaf, leaves_of, Each, In, VariableShape, LeafFits}
+use Rattle.cdf_model.specs.Names.{Found}
+use Rattle.cdf_model.specs.declared.kinds.Kind.{Kind}
+use Rattle.cdf_model.specs.declared.kinds.Kind.TheVariants.{R, Z}
+use Rattle.cdf_format.specs.Index.{nodes_of}
+use Rattle.cdf_format.specs.Owners.{times, variable_records}
+use Rattle.cdf_format.specs.Records.{Field}
+use Rattle.cdf_format.specs.RecordTypes.{cpr_type, vvr_type, cvvr_type, vxr_type}
+use Rattle.cdf_format.specs.Shape.{shape}
+use Rattle.cdf_format.specs.WellFormed.{Good}
+use Rattle.cdf_format.proofs.ChainsLemmas.{is_a-type, linkable-type}
+use Rattle.cdf_format.proofs.IndexLemmas.{nodes_stand}
+use Rattle.cdf_edits.specs.Commands.Allowances.{Allowance, Anything, Only, range_at, shapes_of, vdr_type}
+use Rattle.cdf_edits.specs.Index.Blocks.{Range}
+use Rattle.cdf_edits.proofs.Commands.ListParts.{got-middle}
+use Rattle.cdf_edits.proofs.Edits.InRecords.{places_of}
+use Rattle.cdf_edits.proofs.Edits.LeafPieces.{IsOneOf, find_place}
+use Rattle.cdf_edits.proofs.Edits.MarkLemmas.{or_cases}
+use Rattle.cdf_edits.proofs.Edits.PlainLeaves.{leaves_apart}
+use Rattle.cdf_edits.proofs.Edits.RecordFrame.{index_records}
+use Rattle.cdf_edits.proofs.Edits.StandsAmong.{StandsAmong}
+use Rattle.cdf_edits.proofs.Edits.VdrEdited.{fits, has, typed}
+use Rattle.cdf_edits.proofs.Edits.VariableKinds.{kind_type}
+use Rattle.cdf_edits.proofs.Frame.OwnerAlone.{Each-in}
+use Rattle.cdf_edits.proofs.Frame.OwnersApart.{times-append}
+
+pub parts_times : (v : VariableShape) (m : ℕ) → times m (variable_records v) ≡ times m (v.vdr ∷ []) + (times m (nodes_of v.index) + times m (places_of (leaves_of v.index)) + times m v.cpr)
+parts_times v m =
+    times-append m (v.vdr ∷ []) (index_records v)
+    ∙ ap (λ (n : ℕ). times m (v.vdr ∷ []) + n) (times-append m (nodes_of v.index ++ places_of (leaves_of v.index)) v.cpr ∙ ap (λ (n : ℕ). n + times m v.cpr) (times-append m (nodes_of v.index) (places_of (leaves_of v.index))))
+
+-- ---- by their types
+
+pub block_type : (b records : List ℕ) (vdr : ℕ) (leaves : List Leaf) → Each (LeafFits b records vdr) leaves → (m : ℕ) → In m (places_of leaves) → (type_at b m ≡ vvr_type) ⊎ (type_at b m ≡ cvvr_type)
+block_type b records vdr [] each m i = absurd i
+block_type b records vdr (l ∷ more) each m (inl q) = elim (or_cases (is_a b records vvr_type l.place) (is_a b records cvvr_type l.place) each.0.0) [
+  | inl p ↦ inl (ap (type_at b) q ∙ is_a-type b records vvr_type l.place p)
+  | inr p ↦ inr (ap (type_at b) q ∙ is_a-type b records cvvr_type l.place p)
+]
+block_type b records vdr (l ∷ more) each m (inr i) = block_type b records vdr more each.1 m i
+
+abbrev block_types : List ℕ
+block_types = vvr_type ∷ cvvr_type ∷ []
+
+find_none : (leaves : List Leaf) (p : ℕ) → (In p (places_of leaves) → ⊥) → find (λ (leaf : Leaf). leaf.place == p) leaves ≡ None
+find_none [] p out = refl
+find_none (leaf ∷ more) p out = rw (ne_eqb leaf.place p (λ e. out (inl (sym e)))) (find_none more p (λ i. out (inr i)))
+
+abbrev in_leaf : Option Leaf → Option Range
+in_leaf None = None
+in_leaf (Some leaf) = Some (range leaf.first leaf.last)
+
+abbrev range_in : ℕ → Option VariableShape → Option Range
+range_in place None = None
+range_in place (Some v) = in_leaf (find (λ (leaf : Leaf). leaf.place == place) (leaves_of v.index))
+
+-- ---- what a command may do, where it may write these fields of the descriptor, all of a node, and of a block what its range says
+
+abbrev by_type : Kind → List Field → ℕ → Allowance
+by_type kind fields type = if type == vdr_type kind then Only fields else (if type == vxr_type then Anything else Only [])
+
+abbrev pub by_range : List ℕ → Kind → List Field → (Range → Allowance) → ℕ → Option Range → Allowance
+by_range b kind fields block m None = by_type kind fields (type_at b m)
+by_range b kind fields block m (Some r) = block r
+
+by_types : (kind : Kind) (fields : List Field) → (by_type kind fields vxr_type ≡ Anything) × (by_type kind fields cpr_type ≡ Only []) × (by_type kind fields (vdr_type kind) ≡ Only fields) × (is_in (vdr_type kind) block_types ≡ false)
+by_types R fields = (refl, refl, refl, refl)
+by_types Z fields = (refl, refl, refl, refl)
+
+module _ {b : List ℕ} (found : Found) {before : List VariableShape} {own : VariableShape} {after : List VariableShape} (good : Good b) (among : StandsAmong b found.kind before own after) (number_is : found.number ≡ length before) (fields : List Field) (block : Range → Allowance) (may : ℕ → Allowance)
+    (allowed : (m : ℕ) (o : Option Range) → range_at (shape b) found m ≡ o → may m ≡ by_range b found.kind fields block m o) where
+  there : slice_get (shapes_of (shape b) found.kind) found.number ≡ Some own
+  there = ap (slice_get (shapes_of (shape b) found.kind)) number_is ∙ ap (λ (vs : List VariableShape). slice_get vs (length before)) among.was ∙ got-middle before own after
+
+  ranged : (m : ℕ) (o : Option Leaf) → find (λ (leaf : Leaf). leaf.place == m) (leaves_of own.index) ≡ o → range_at (shape b) found m ≡ in_leaf o
+  ranged m o e = ap (range_in m) there ∙ ap in_leaf e
+
+  -- a record of another type is no block
+  no_block_of : (m type : ℕ) → type_at b m ≡ type → is_in type block_types ≡ false → In m (places_of (leaves_of own.index)) → ⊥
+  no_block_of m type t none i = elim (block_type b (shape b).records own.vdr (leaves_of own.index) (fits good among).2 m i) [
+    | inl e ↦ true≢false (sym (ap (λ (x : ℕ). is_in x block_types) (sym t ∙ e)) ∙ none)
+    | inr e ↦ true≢false (sym (ap (λ (x : ℕ). is_in x block_types) (sym t ∙ e)) ∙ none)
+  ]
+
+  typed_allowed : (m type : ℕ) → type_at b m ≡ type → is_in type block_types ≡ false → may m ≡ by_type found.kind fields type
+  typed_allowed m type t none = allowed m None (ranged m None (find_none (leaves_of own.index) m (no_block_of m type t none))) ∙ ap (by_type found.kind fields) t
+
+  pub descriptor_allowed : may own.vdr ≡ Only fields
+  descriptor_allowed = typed_allowed own.vdr (vdr_type found.kind) (typed good among ∙ kind_type found.kind) (by_types found.kind fields).3 ∙ (by_types found.kind fields).2
+
+  node_typed : (m : ℕ) → In m (nodes_of own.index) → type_at b m ≡ vxr_type
+  node_typed m i = linkable-type b (shape b).records vxr_type m (nodes_stand b (shape b).records 8 own.index (has good among).indexed.has_nodes m i)
+
+  pub node_allowed : (m : ℕ) → In m (nodes_of own.index) → may m ≡ Anything
+  node_allowed m i = typed_allowed m vxr_type (node_typed m i) refl ∙ (by_types found.kind fields).0
+
+  pub parameters_allowed : (m : ℕ) → In m own.cpr → may m ≡ Only []
+  parameters_allowed m i = typed_allowed m cpr_type (is_a-type b (shape b).records cpr_type m (Each-in (λ x. is_a b (shape b).records cpr_type x ≡ true) own.cpr (fits good among).3 m i)) refl ∙ (by_types found.kind fields).1
+
+  pub block_allowed : (l : Leaf) → IsOneOf (leaves_of own.index) l → may l.place ≡ block (range l.first l.last)
+  block_allowed l i = allowed l.place (Some (range l.first l.last)) (ranged l.place (Some l) (find_place (leaves_of own.index) (leaves_apart good among) l i))
