@@ -7,7 +7,7 @@ use Rattle.cdf_edits.proofs.Edits.ChainKinds.{chain_has}
 use Rattle.cdf_edits.proofs.Edits.ChainSpliced.{Rechains, file_now, num_same}
 use Rattle.cdf_edits.proofs.Edits.FallenItems.{EntryFell, entries_closed, fallen_distinct, fallen_under, falls, rests, nums_fell}
 use Rattle.cdf_edits.proofs.Edits.ChainMembers.{IsAmong, member, member_fits, own_there}
-use Rattle.cdf_edits.proofs.Edits.OneChain.{counted_before, differ_before, good_chained, items_of, rules_before}
+use Rattle.cdf_edits.proofs.Edits.OneChain.{counted_before, differ_before, good_settled, items_of, rules_before}
 use Rattle.cdf_edits.proofs.Edits.WrittenEntries.{WriteTests, WritesChain, as_long as as_long_written, count_now as count_written, edit as edit_written, greatest_now as greatest_written, mid_kept, mid_size, part_beside, size_now, rechains as rechains_written, settled as settled_written, write_tests, writing}
 use Rattle.cdf_edits.proofs.Edits.StepEdits.{some_bytes}
 use Rattle.cdf_edits.proofs.Space.UsedRecords.{filter-distinct, filter-keeps, filter-says}
@@ -185,7 +185,5 @@ module _ {b now : List ℕ} {kind : EntryKind} {before : List AttributeShape} {o
       ((λ j. attribute j == own_same j) ∙ was.0, (le-leb (number now m aedr_num) record_number_limit (omega arith), (x.valued ∙ was.1.1.0, tt)))
 
   pub good_lowered : Good now
-  good_lowered =
-      let st = settled_written sound w {need = 0} good in
-      let long = as_long in
-      good_chained sound rechains good (count_written sound w ∙ counted_before sound rechains good) (subst Distinct (sym nums_now) (fallen_distinct num (nums b chain) q.none (differ_before sound rechains good))) rules_now st.read st.beside st.sorted st.end (subst (λ (n : ℕ). n ≤ image_limit) (sym long) short)
+  unfolding rechains
+  good_lowered = good_settled sound rechains good (count_written sound w ∙ counted_before sound rechains good) (subst Distinct (sym nums_now) (fallen_distinct num (nums b chain) q.none (differ_before sound rechains good))) rules_now (settled_written sound w {need = 0} good) (omega arith)
