@@ -18,7 +18,7 @@ use Rattle.cdf_edits.proofs.Edits.VdrEdited.{fits}
 use Rattle.cdf_edits.proofs.Frame.Meaning.{pad_long, pad_width}
 use Rattle.cdf_vars.proofs.VariableChains.{has_variable_chain, variable_members}
 use Rattle.cdf_base.proofs.Puts.{put-append}
-use Rattle.cdf_edits.proofs.Space.TakenFromList.{leads_rest}
+use Rattle.cdf_edits.proofs.Space.TakenFromList.{leads_rest, same_link}
 use Rattle.cdf_format.proofs.GoodImageLemmas.{vdrs_append}
 use Rattle.cdf_space.proofs.Filling.{word-put_inside}
 use Rattle.cdf_format.proofs.Members.{is_in-true}
@@ -126,10 +126,6 @@ module _ (b value : List ℕ) (v at n : ℕ) (inside : v + at ≤ length b) (lat
         let whole : drop (by + 8) written ≡ front ++ (value ++ more) = drop-put_there taken new (by + 8) (omega arith) ∙ append_assoc front value more in
         let behind : drop (by + at) written ≡ value ++ more = ap (λ (p : ℕ). drop p written) to ∙ sym (drop-drop (at - 8) (by + 8) written) ∙ ap (drop (at - 8)) whole ∙ drop_at front (value ++ more) (at - 8) length-front in
         ap (take (length value)) behind ∙ take_at value more (length value) refl
-
-same_link : (b now : List ℕ) (link link' : ℕ) (xs : List ℕ) → Leads b link xs 0 → Leads now link' xs 0 → link' ≡ link
-same_link b now link link' [] l m = m ∙ sym l
-same_link b now link link' (x ∷ xs) l m = m.0 ∙ sym l.0
 
 -- equal numbers have equal bytes
 digits_same : (P x x' y y' : ℕ) → y < P → y' < P → x * P + y ≡ x' * P + y' → (x ≡ x') × (y ≡ y')
@@ -247,7 +243,7 @@ module _ (value : List ℕ) {b : List ℕ} {kind : Kind} {before : List Variable
           let link = number b s.gdr (head_of c) in
           let was = subst (λ (ms : List ℕ). Leads b link ms 0) (members good at made) (kind_chain kind (sound good at).has_shape).leads in
           let is = subst (λ (ms : List ℕ). Leads late (number late s.gdr (head_of c)) ms 0) (vdrs_append before (record own { vdr = by } ∷ after)) (chain_late good at made).leads in
-          same_link b late (next_of b v) (next_of late by) (vdrs after) (leads_rest b link (vdrs before) v (vdrs after) was) (leads_rest late _ (vdrs before) by (vdrs after) is)
+          sym (same_link b late (next_of b v) (next_of late by) (vdrs after) (leads_rest b link (vdrs before) v (vdrs after) was) (leads_rest late _ (vdrs before) by (vdrs after) is))
 
       alike : (i : ℕ) → 12 ≤ i → i < place → (i < 44) ⊎ (44 + 4 ≤ i) → byte late (by + i) ≡ byte b (v + i)
       alike i low high side = elim (cases_lt i 20) [

@@ -15,7 +15,8 @@ use Rattle.cdf_edits.specs.Space.Placement.{Gives, unused, with_space}
 use Rattle.cdf_edits.proofs.Edits.ActsThen.{acts_gave}
 use Rattle.cdf_edits.proofs.Edits.Composing.{edit_then, changed_edit}
 use Rattle.cdf_edits.proofs.Edits.EditActs.{acts_none}
-use Rattle.cdf_edits.proofs.Edits.EmptySet.{HasNone, has_none, times_with, as_many, no_more, gdr_once, others_none, empty_shape, empty_sound, no_attribute, no_variable, is_empty}
+use Rattle.cdf_edits.proofs.Frame.OwnersApart.{all_attribute_records, all_variable_records}
+use Rattle.cdf_edits.proofs.Edits.EmptySet.{times_with, as_many, no_more, gdr_once, others_none, empty_shape, empty_sound, is_empty}
 use Rattle.cdf_edits.proofs.Edits.ChainOwners.{IsHeld}
 use Rattle.cdf_edits.proofs.Edits.FirstRecords.{read_now}
 use Rattle.cdf_edits.proofs.Edits.OwnedOnce.{IsSorted, none_in_use, owned_once_if}
@@ -31,6 +32,7 @@ use Rattle.cdf_edits.proofs.Edits.StepEdits.{gives_edit, some_bytes, takes_edit}
 use Rattle.cdf_edits.proofs.Frame.ChangedBytes.{changed_put}
 use Rattle.cdf_edits.proofs.Rules.FirstHead.{FirstSays, first_said, first_hold}
 use Rattle.cdf_edits.proofs.Space.ActsLeave.{places-sized}
+use Rattle.cdf_edits.proofs.Space.TakenFromList.{same_link}
 use Rattle.cdf_space.proofs.Filling.{word-put_inside}
 use Rattle.cdf_format.specs.Content.{content_of, majority_of}
 use Rattle.cdf_format.specs.Fields.{Holds, eof, flags, encoding}
@@ -245,15 +247,8 @@ bits_stay n m =
 -- ---- what `setup` leaves, whatever became of the GDR
 
 -- fields of a GDR that stay: not those of the dimensions, and not those of the space
-abbrev pub is_copied : Field → Bool
-is_copied f = is_beside f.place (f.place + f.width) && ((nat_le 44 f.place || nat_le (f.place + f.width) 36) && ((nat_le 72 f.place || nat_le (f.place + f.width) 64) && nat_le 12 f.place))
-
-copied_parts : (f : Field) → is_copied f ≡ true → (is_beside f.place (f.place + f.width) ≡ true) × ((nat_le 44 f.place || nat_le (f.place + f.width) 36) ≡ true) × ((nat_le 72 f.place || nat_le (f.place + f.width) 64) ≡ true) × (nat_le 12 f.place ≡ true)
-copied_parts f e =
-    let p = both (is_beside f.place (f.place + f.width)) ((nat_le 44 f.place || nat_le (f.place + f.width) 36) && ((nat_le 72 f.place || nat_le (f.place + f.width) 64) && nat_le 12 f.place)) e in
-    let q = both (nat_le 44 f.place || nat_le (f.place + f.width) 36) ((nat_le 72 f.place || nat_le (f.place + f.width) 64) && nat_le 12 f.place) p.1 in
-    let r = both (nat_le 72 f.place || nat_le (f.place + f.width) 64) (nat_le 12 f.place) q.1 in
-    (p.0, q.0, r.0, r.1)
+abbrev IsCopied : Field → Type 0
+IsCopied f = (is_beside f.place (f.place + f.width) ≡ true) × ((nat_le 44 f.place || nat_le (f.place + f.width) 36) ≡ true) × ((nat_le 72 f.place || nat_le (f.place + f.width) 64) ≡ true) × (nat_le 12 f.place ≡ true)
 
 -- The CDR and the GDR say what they have to, no other record is in use, and the unused ones and the space are as these acts leave them.
 record IsSetUp (b now records list : List ℕ) (gdr code bits : ℕ) (majority : Majority) (dims : List ℕ) (marks : List Mark) (reborn : List ℕ) (acts : List Act) : Type 0 where
@@ -265,7 +260,7 @@ record IsSetUp (b now records list : List ℕ) (gdr code bits : ℕ) (majority :
   content_now : content now ≡ set_up (content b) code majority dims
   flags_now : flags now ≡ bits
   count_now : number now gdr gdr_r_num_dims ≡ length dims
-  stays : (f : Field) → is_copied f ≡ true → number now gdr f ≡ number b (gdr_offset b) f
+  stays : (f : Field) → IsCopied f → number now gdr f ≡ number b (gdr_offset b) f
   end : eof now gdr ≡ length now
   longest : length now ≤ length b + (84 + 4 * length dims)
   as_owned : (m : ℕ) → (In m reborn → ⊥) → times_with gdr m ≡ times_with (gdr_offset b) m
@@ -277,11 +272,6 @@ record IsSetUp (b now records list : List ℕ) (gdr code bits : ℕ) (majority :
   room : MovesForRoom b now (gdr_offset b) (gdr_offset now) (84 + 4 * length dims)
   freed : FreedStay b now (λ type. space_fields) acts
   emptied : gdr_offset now ≢ gdr_offset b → StaysOrSays b now (gdr_offset b) (space_taken now (gdr_offset b))
-
--- links that lead through the same list are the same
-same_link : (b now : List ℕ) (x y : ℕ) (ms : List ℕ) → Leads b x ms 0 → Leads now y ms 0 → x ≡ y
-same_link b now x y [] p q = p ∙ sym q
-same_link b now x y (k ∷ ms) p q = p.0 ∙ sym q.0
 
 module _ (b dims : List ℕ) (good : Good b) (empty : is_empty_set (content b) ≡ true) (fine : are_bad_sizes dims ≡ false) where
   abbrev s : Shape
@@ -296,9 +286,6 @@ module _ (b dims : List ℕ) (good : Good b) (empty : is_empty_set (content b) �
   sound : IsSound b s
   sound = good_is_sound b good
 
-  has : HasNone s
-  has = has_none b good empty
-
   abbrev before : Shape
   before = empty_shape (shape b).records (gdr_offset b) (shape b).unused
 
@@ -306,7 +293,7 @@ module _ (b dims : List ℕ) (good : Good b) (empty : is_empty_set (content b) �
   at = sym sound.has_shape.gdr_is
 
   before_is : s ≡ before
-  before_is = is_empty s has ∙ ap (λ (g : ℕ). empty_shape s.records g s.unused) at
+  before_is = is_empty b good empty ∙ ap (λ (g : ℕ). empty_shape s.records g s.unused) at
 
   image : IsGoodByShape b before
   image = subst (IsGoodByShape b) before_is (good_by_its_shape b good)
@@ -324,7 +311,7 @@ module _ (b dims : List ℕ) (good : Good b) (empty : is_empty_set (content b) �
     abbrev own : Shape
     own = empty_shape records gdr list
 
-    moved : (f : Field) → is_copied f ≡ true → number now (gdr_offset now) f ≡ number b (gdr_offset b) f
+    moved : (f : Field) → IsCopied f → number now (gdr_offset now) f ≡ number b (gdr_offset b) f
     moved f copied = ap (λ (g : ℕ). number now g f) is.sound.has_shape.gdr_is ∙ is.stays f copied
 
     says : FirstSays now gdr
@@ -348,14 +335,14 @@ module _ (b dims : List ℕ) (good : Good b) (empty : is_empty_set (content b) �
           eof_is = is.end;
         }
 
-    none_counted : (f : Field) → is_copied f ≡ true → (number b (gdr_offset b) f == 0) ≡ true → (number now (gdr_offset now) f == 0) ≡ true
+    none_counted : (f : Field) → IsCopied f → (number b (gdr_offset b) f == 0) ≡ true → (number now (gdr_offset now) f == 0) ≡ true
     none_counted f copied none = ap (λ (n : ℕ). n == 0) (moved f copied) ∙ none
 
     good_now : IsGoodByShape now own
     good_now = record {
       has_shape = is.sound.has_shape;
       read_types = read_now is.edit image.read_types (λ m i. (is.anew m i).1);
-      counting = (none_counted gdr_num_attr refl image.counting.0, (none_counted gdr_nr_vars refl image.counting.1.0, (none_counted gdr_nz_vars refl image.counting.1.1.0, tt)));
+      counting = (none_counted gdr_num_attr (refl, refl, refl, refl) image.counting.0, (none_counted gdr_nr_vars (refl, refl, refl, refl) image.counting.1.0, (none_counted gdr_nz_vars (refl, refl, refl, refl) image.counting.1.1.0, tt)));
       attributes = tt;
       of_variables = tt;
       indexes = tt;
@@ -376,11 +363,11 @@ module _ (b dims : List ℕ) (good : Good b) (empty : is_empty_set (content b) �
           acts = acts;
           takes_within = is.takes_within;
           acts_follow = is.acts_follow;
-          keeps = all_keep b now setup_changes acts (keep_file b now setup_changes acts sound heads tt) (keep_attributes b now setup_changes acts 0 s.attributes (λ m i. absurd (no_attribute s has m i))) (λ m i. absurd (no_variable s has m i)) is.unused_stay;
+          keeps = all_keep b now setup_changes acts (keep_file b now setup_changes acts sound heads tt) (keep_attributes b now setup_changes acts 0 s.attributes (λ m i. absurd (subst (λ (x : Shape). In m (all_attribute_records x)) before_is i))) (λ m i. absurd (subst (λ (x : Shape). In m (all_variable_records x)) before_is i)) is.unused_stay;
           does = record {
             acts_are = is.acts_are;
             flags_are = is.flags_now ∙ bits_are;
-            fields_stay = (moved gdr_r_max_rec refl, (moved gdr_rfu_c refl, (moved gdr_leap_second_last_updated refl, (moved gdr_rfu_e refl, tt))));
+            fields_stay = (moved gdr_r_max_rec (refl, refl, refl, refl), (moved gdr_rfu_c (refl, refl, refl, refl), (moved gdr_leap_second_last_updated (refl, refl, refl, refl), (moved gdr_rfu_e (refl, refl, refl, refl), tt))));
             room = is.room;
             freed = is.freed;
             emptied = is.emptied;
@@ -426,7 +413,7 @@ module _ (b dims : List ℕ) (good : Good b) (empty : is_empty_set (content b) �
       content_now = heads_content bare.has_shape fine gdr here shape_now (ap (λ (n : ℕ). majority_of (has_bit n 0)) bits_are ∙ bit_0 (flags b) majority) (ap (λ (n : ℕ). has_bit n 2) bits_are ∙ (bits_stay (flags b) majority).1);
       flags_now = (heads_say bare.has_shape fine gdr here).flags_are;
       count_now = (heads_say bare.has_shape fine gdr here).count_is;
-      stays = λ f copied. gdr_still bare.has_shape fine gdr here f (copied_parts f copied).0;
+      stays = λ f copied. gdr_still bare.has_shape fine gdr here f copied.0;
       end = gdr_still bare.has_shape fine gdr here gdr_eof refl ∙ good_eof b good ∙ sym same_long;
       longest = omega (arith, same_long);
       as_owned = λ m out. refl;
@@ -570,9 +557,8 @@ module _ (b dims : List ℕ) (good : Good b) (empty : is_empty_set (content b) �
     old_not_8 q = apart gdr_type cdr_type refl (sym gdr_before.typed ∙ ap (type_at b) q ∙ cdr_before.typed)
 
     -- what it has of the old one
-    new_says : (f : Field) → is_copied f ≡ true → number late place f ≡ number b old f
+    new_says : (f : Field) → IsCopied f → number late place f ≡ number b old f
     new_says f copied =
-        let p = copied_parts f copied in
         let high = leb-true (f.place + f.width) 84 (both (nat_le 60 f.place || nat_le (f.place + f.width) 56) (nat_le (f.place + f.width) 84) p.0).1 in
         let low = leb-true 12 f.place p.3 in
         gdr_still copied_shape fine new m.heads f p.0 ∙ copied_field f (omega arith) high ∙ sym (old_says f high) ∙ still_says (filled_edit sound fills) gdr_before refl f (rw (p.1, p.2) refl) high
@@ -694,7 +680,6 @@ module _ (b dims : List ℕ) (good : Good b) (empty : is_empty_set (content b) �
         flags_now = still_says given (stands_fixed late_shape cdr_type 8 late_shape.cdr_stands) refl cdr_flags refl (omega arith) ∙ (heads_say copied_shape fine new m.heads).flags_are;
         count_now = place_now gdr_r_num_dims refl (omega arith) ∙ (heads_say copied_shape fine new m.heads).count_is;
         stays = λ f copied.
-            let p = copied_parts f copied in
             place_now f p.2 (leb-true (f.place + f.width) 84 (both (nat_le 60 f.place || nat_le (f.place + f.width) 56) (nat_le (f.place + f.width) 84) p.0).1) ∙ new_says f copied;
         end = place_now gdr_eof refl (omega arith) ∙ gdr_still copied_shape fine new m.heads gdr_eof refl ∙ copied_field gdr_eof (omega arith) (omega arith) ∙ ap (eof m.taken) (sym at) ∙ is_taken.0.eof_is ∙ sym (gives.length_is ∙ as_long ∙ fills.long);
         longest = let l = shorter sound fills later as_long lately in let a = gives.length_is in omega arith;
