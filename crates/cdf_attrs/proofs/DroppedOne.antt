@@ -3,8 +3,7 @@ use Rattle.std.proofs.Common.{◌≡◌, ℕ, ◌+◌, ◌-◌, ◌≤◌, ◌<�
 use Rattle.cdf_attrs.proofs.Common.{cases_lt, le-leb, nat_tests, filter, list_any, ◌&&◌, nat_le, nat_lt, not, if◌then◌else◌, EntryKind, Kind, entries_of, is_global, with_entries, Attribute, Entry, Found, closed_up, without, attribute_of, integer4, number, Field, aedr_num, AttributeShape, HasShape, shape, In, Good, either, GreatestIs, chain_of, greatest_number, kind_of_entries, max_field, entries_for, is_renumbered, IsDropped, Act, gave, ActsFollow, LowersHalf, TakesHalf, link_field, number_field, numbered, DropsOne, items_of}
 use Rattle.cdf_model.specs.declared.kinds.EntryKind.TheVariants as entries
 use Rattle.cdf_model.specs.declared.kinds.Kind.TheVariants as kinds
-use Rattle.cdf_model.specs.VariableSteps.{attribute_without}
-use Rattle.cdf_edits.specs.Commands.Allowances.{OutsideFields}
+use Rattle.cdf_edits.proofs.Common.{OutsideFields, attribute_without}
 use Rattle.cdf_edits.proofs.Edits.ChainEdited.{chain_then}
 use Rattle.cdf_edits.proofs.Edits.ChainEntries.{num_in}
 use Rattle.cdf_edits.proofs.Edits.StandsThen.{dropped_then, stands_then}

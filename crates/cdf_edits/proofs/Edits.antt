@@ -1,3 +1,4 @@
+pub mod Common
 pub mod AttributeChains
 pub mod ActsStill
 pub mod ActsThen

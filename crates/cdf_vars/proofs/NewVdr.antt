@@ -3,37 +3,24 @@ use Rattle.std.proofs.Common.{◌≡◌, ℕ, ◌*◌, ◌≤◌, List, [], ◌�
 use Rattle.cdf_vars.proofs.Common.{nat_tests, list_any, flat_map, All, before_first, list_all, ◌==◌, ◌&&◌, nat_lt, if◌then◌else◌, nat_le, is_some, Each, HasVariable, VariableShape, DataType, signed_limit, value_count, size_of, are_bad_sizes, is_bad_shape, new_variable, drop-drop, length-append, length-map, take_at, big_bytes, vdr_type, IsFilled, vdr_bytes, IsBody, length-words, words_laid_out, Same, word, words, counted, is_positive, name_in, number, gdr_offset, r_num_dims, r_sizes, size_at, type_at, has_bit, record_type, vdr_name, vdr_flags, z_vdr_type, piece_kept, words_kept, Kind, R, Z, NewVariable, own_dims, vary_code, eqb-true, le-leb, or_parts, w32, cast_signed, variable_of, Hold, VariableFits, dimensions_at, dims_at, elems_at, has_pad, is_z, pad_field, record_bytes, type_of_variable, value_bytes, is_max_rec, vdr_end, NoRule, small_signed}
 use Rattle.std.proofs.lemmas.List.Concat.{flat_map-append}
 use Rattle.std.proofs.Math.Nat.{le-mul_of_pos_right}
-use Rattle.cdf_format.specs.Shape.{is_compressed}
-use Rattle.cdf_model.specs.Limits.{dimension_limit}
+use Rattle.cdf_edits.proofs.Common.{Byte, Pad, Previous, dimension_limit, drop-append_seam, has_dimensions, is_characters, is_compressed, is_no_link, leaves_of, no_node, nodes_of, notation_of, type_of, unwrap_or, variable_rows}
 use Rattle.cdf_model.specs.Place.{record_limit, record_size}
-use Rattle.cdf_model.specs.Types.{type_of}
-use Rattle.cdf_model.specs.Values.{notation_of}
-use Rattle.cdf_model.specs.VariableSteps.{is_characters}
 use Rattle.cdf_values.proofs.ValueLengths.{size_some}
 use Rattle.std.proofs.lemmas.List.{length-replicate}
-use Rattle.std.proofs.Math.Seq.{drop-append_seam}
 use Rattle.cdf_edits.specs.Commands.NewRecords.{Says}
 use Rattle.cdf_edits.specs.Space.Placing.{Placed, laid_out}
-use Rattle.cdf_edits.proofs.Space.LaidOut.{placed_says, says_kept}
+use Rattle.cdf_edits.proofs.Edits.Common.{Each-map, IsRuled, code_small, kind_type, placed_says, says_kept, type_back}
 use Rattle.cdf_format.specs.Records.{vdr_vdr_next, vdr_data_type, vdr_num_elems, vdr_z_num_dims}
 use Rattle.cdf_vars.specs.Creating.{vdr_body, vdr_fields}
-use Rattle.cdf_edits.proofs.Commands.TypeCodes.{code_small, type_back}
 use Rattle.std.proofs.lemmas.Bool.{ltb-false, and_from, not-false, or_right}
-use Rattle.std.specs.Option.{unwrap_or}
 use Rattle.cdf_edits.specs.Commands.Variables.{VarysWritten}
 use Rattle.cdf_edits.proofs.Edits.JoinedVdr.{is_vdr_body}
-use Rattle.cdf_edits.proofs.Edits.VariableFrame.{Each-map, IsRuled}
-use Rattle.cdf_edits.proofs.Edits.VariableKinds.{kind_type}
 use Rattle.cdf_var_records.proofs.VdrParts.{pad_place, words_long}
 use Rattle.cdf_fields.proofs.NamesWritten.{before_zeros}
-use Rattle.cdf_format.specs.Index.{no_node, nodes_of, leaves_of}
 use Rattle.cdf_format.specs.IndexOf.{HasNodes}
 use Rattle.cdf_format.specs.IndexRules.{nodes_rows}
 use Rattle.cdf_format.specs.Stored.{known_type}
 use Rattle.cdf_format.specs.VariableFields.{counted4, pad_at, vary_field, varys_at}
-use Rattle.cdf_format.specs.VariableRules.{has_dimensions, is_no_link, variable_rows}
-use Rattle.cdf_model.specs.declared.data_type.DataType.TheVariants.{Byte}
-use Rattle.cdf_model.specs.declared.kinds.Sparse.TheVariants.{Pad, Previous}
 
 abbrev pub IsSize : ℕ → Type 0
 IsSize size = (1 ≤ size) × (size ≤ signed_limit)

@@ -2,32 +2,21 @@
 use Rattle.std.proofs.Common.{◌≡◌, ◌⊎◌, ℕ, ◌+◌, ◌-◌, ◌^◌, ◌<◌, ◌≤◌, List, [], ◌∷◌, ◌++◌, length, take, drop, refl, sym, ap, ◌∙◌, append_assoc, arith, inl, inr, zero, suc, ◌*◌, true, subst, None, eq-eqb, Option, Some, Ok, true≢false, ap₂}
 use Rattle.cdf_vars.proofs.Common.{take_all, length-append, length-map, length-take, length-drop, take_at, drop-drop, big_bytes, drop-put_there, field_reads, length-with_field, other_bytes, byte, Same, word, number, size_at, LiesIn, with_field, length-put, piece_kept, word_kept, before_first, last_or, slice_get, ◌==◌, slice_set, Kind, Leads, next_of, next_field, is_in, vdr_flags, VariableShape, Shape, vdrs, shape, IsSound, dimensions_at, is_z, pad_field, value_bytes, dims_at, elems_at, type_of_variable, vdr_end, Good, shapes_of, AllKeep, Allowances, stays_own, head_of, members_of, type_in, before, type_of_body, IsBody, variables_chain, Chain, kind_chain, StandsAmong, sound, typed, in_middle, tile, AreBytes, word_fits, owned_records, times, owned, In, Distinct, vdr_bytes, room, IsVdr, IsPlace, MayPad, padded_flags, ne_eqb, good_is_sound, cut, got-middle, PadPlace, Done, Refused, TooLarge, Plain, DataType, Go, turned, DataSet, Variable, image_limit, Found, value_size, ByStep, step, size_of, values_in, with_variable, content, variable_of, is_little, tile_lies, Answers, gone, too_large, VarId, Known, Knows, known_of}
 use Rattle.std.proofs.lemmas.List.{get_or-drop, get_or-take, get_or_append_left, ext_get_or, drop_at}
-use Rattle.byteorder.specs.Numbers.{length-bytes_high_first}
-use Rattle.cdf_base.specs.Bytes.{put}
+use Rattle.cdf_edits.proofs.Common.{Anything, Exchanged, SetsPad, cases_lt, is_in-true, length-bytes_high_first, put, set_pad_changes, vdrs_append}
 use Rattle.cdf_fields.proofs.Writes.{word-put_number, word-put_outside}
 use Rattle.cdf_format.proofs.BytesLemmas.{byte-put_before, byte-put_inside, byte-put_after}
-use Rattle.cdf_edits.proofs.Frame.VdrCopied.{Copied, word_copied, VdrCopied}
+use Rattle.cdf_edits.proofs.Edits.Common.{Copied, Cut, VdrCopied, fits, leads_rest, pad_long, pad_width, same_link, word_copied}
 use Rattle.std.specs.Prelude.{slice_index}
-use Rattle.cdf_edits.specs.Commands.Allowances.{Anything}
-use Rattle.cdf_edits.specs.Space.Adding.{Exchanged}
 use Rattle.cdf_edits.proofs.Edits.JoinedVdr.{behind_link, file, is_vdr_body, joined_type}
 use Rattle.cdf_edits.proofs.Edits.MovedVdr.{CopiesVdr, MovesVdr, chain_late, members, old_free, old_in, sound_late, own'}
 use Rattle.cdf_edits.proofs.Edits.PadMoved.{HoldsPad, moved_sets_pad, pad_means}
 use Rattle.cdf_edits.proofs.Edits.PadWritten.{WritesPad, edits, meaning, packed, padded_end, pads_in_place}
-use Rattle.cdf_edits.proofs.Edits.VdrEdited.{fits}
-use Rattle.cdf_edits.proofs.Frame.Meaning.{pad_long, pad_width}
 use Rattle.cdf_vars.proofs.VariableChains.{has_variable_chain, variable_members}
 use Rattle.cdf_base.proofs.Puts.{put-append}
-use Rattle.cdf_edits.proofs.Space.TakenFromList.{leads_rest, same_link}
-use Rattle.cdf_format.proofs.GoodImageLemmas.{vdrs_append}
 use Rattle.cdf_space.proofs.Filling.{word-put_inside}
-use Rattle.cdf_format.proofs.Members.{is_in-true}
 use Rattle.cdf_vars.specs.Padding.{IsPadded, padded_body, IsRequest, MovedTo, Moves}
 use Rattle.cdf_var_records.proofs.VdrParts.{pad_place, at as vdr_at, inside as vdr_inside, own as vdr_own, dims_long}
-use Rattle.std.proofs.lemmas.Bool.{cases_lt}
-use Rattle.cdf_edits.proofs.Commands.ListParts.{Cut}
 use Rattle.cdf_model.specs.declared.command.Command.TheVariants.{SetPad}
-use Rattle.cdf_edits.specs.Commands.Variables.{SetsPad, set_pad_changes}
 use Rattle.cdf_edits.proofs.Edits.FreedVdr.{acts, acts_now, edit_now, freed_content, freed_good, freed_is, keeps_now, long_now}
 use Rattle.cdf_vars.specs.declared.padding.PadRequest.{PadRequest}
 use Rattle.cdf_vars.specs.declared.padding.PadRequest.TheVariants.{Put}

@@ -1,7 +1,7 @@
 -- `setup` follows its command: the dimensions of a GDR and the CDR are written, what the image has by then, whatever became of the GDR, and the two ways, in its place and moved.
 use Rattle.std.proofs.Common.{◌≡◌, ◌≢◌, ℕ, ◌+◌, ◌-◌, ◌*◌, ◌/◌, ◌%◌, ◌<◌, ◌≤◌, List, [], ◌∷◌, ◌++◌, length, map, sum, drop, Bool, true, false, not, ◌||◌, refl, sym, ap, subst, ◌∙◌, arith, inl, inr, ◌^◌}
 use Rattle.cdf_vars.proofs.Common.{gdr_fits, IsGoodByShape, is_in, le-leb, length-take, length-drop, w32, cast_signed, list_all, ◌==◌, ◌&&◌, is_some, nat_le, if◌then◌else◌, ◌||◌, put, Majority, Row, Column, DataSet, encoding_at, image_limit, are_bad_sizes, is_empty_set, AllKeep, Edit, Mark, avoided, within, is_late, making_marks, Follows, Changed, touched_field, Act, Took, Gave, Fills, keep_attributes, acts_took, end_now, filled_size, filled_sound, list_chain, made_edit, place_in, shorter, the_one, unmarked-away, keep_file, keeps_fields, gdr_in, gdr_long, gdr_typed, apart, length-words, words_laid_out, Same, byte, IsChain, Leads, next_of, content, counted, has_bit, is_positive, number, word, words, size_at, type_at, gdr_offset, r_num_dims, r_sizes, with_field, owned_records, times, Field, cdr_encoding, cdr_flags, gdr_r_max_rec, gdr_r_num_dims, record_type, cdr_type, gdr_type, uir_type, fixed_size, is_record_type, Shape, HasShape, shape, IsSound, In, Good, of_4_bytes, length-put, word_kept, words_kept, is_a-type, good_by_its_shape, good_eof, good_is_sound, rules_of_good, good_long, sealed_kept, content_is, shape_is, WritesHeads, small_signed, drop-put_there}
-use Rattle.std.proofs.lemmas.Bool.{lt-leb, leb-true}
+use Rattle.cdf_edits.proofs.Common.{AreTiles, Gives, Holds, IsGiven, Unused, both, content_of, encoding, eof, flags, is_a-from, leb-true, lt-leb, majority_of, owned_by, read_types, sealed_keeps, unused, unused_records, with_space}
 use Rattle.cdf_model.specs.declared.answer.Reply.TheVariants as replies
 use Rattle.cdf_model.specs.declared.command.Command.TheVariants as commands
 use Rattle.cdf_edits.specs.Commands.Allowances.{FreedStay, Stays, StaysOrSays, space_fields}
@@ -9,41 +9,15 @@ use Rattle.cdf_edits.specs.Commands.NewRecords.{with_bits, MovesForRoom, moved_f
 use Rattle.cdf_edits.specs.Commands.Setup.{majority_bit, setup_changes, space_taken}
 use Rattle.cdf_edits.specs.Edits.Marks.{Avoids, Within, giving_marks, Among, Anywhere, mark, field_marks}
 use Rattle.cdf_edits.specs.Space.Acts.{ActsFollow, links_end, taken as taken_of}
-use Rattle.cdf_edits.specs.Space.Giving.{IsGiven}
 use Rattle.cdf_edits.specs.Space.Taking.{IsTaken}
-use Rattle.cdf_edits.specs.Space.Placement.{Gives, unused, with_space}
-use Rattle.cdf_edits.proofs.Edits.ActsThen.{acts_gave}
-use Rattle.cdf_edits.proofs.Edits.Composing.{edit_then, changed_edit}
-use Rattle.cdf_edits.proofs.Edits.EditActs.{acts_none}
-use Rattle.cdf_edits.proofs.Frame.OwnersApart.{all_attribute_records, all_variable_records}
+use Rattle.cdf_edits.proofs.Edits.Common.{Avoids-append, Away-append, FirstSays, IsHeld, IsSorted, Within-append, acts_gave, acts_none, all_attribute_records, all_keep, all_variable_records, avoided-avoids, chain_clear, changed_edit, changed_put, edit_then, field_avoids, first_hold, first_said, gives_edit, keep_unused, keeps_within, none_in_use, owned_once_if, part_clear, places-sized, placing_marks, read_now, same_link, sizes_by_tiles, some_bytes, takes_edit, within-within}
 use Rattle.cdf_edits.proofs.Edits.EmptySet.{times_with, as_many, no_more, gdr_once, others_none, empty_shape, empty_sound, is_empty}
-use Rattle.cdf_edits.proofs.Edits.ChainOwners.{IsHeld}
-use Rattle.cdf_edits.proofs.Edits.FirstRecords.{read_now}
-use Rattle.cdf_edits.proofs.Edits.OwnedOnce.{IsSorted, none_in_use, owned_once_if}
 use Rattle.cdf_edits.proofs.Edits.FieldWritten.{Stands, stands_fixed, field_in, still_stands, still_says, written_edit, written_long, written_reads}
 use Rattle.cdf_edits.proofs.Edits.FreedBytes.{BytesStay, behind_one, freed_stay_but}
-use Rattle.cdf_edits.proofs.Edits.FreedRecords.{sizes_by_tiles}
 use Rattle.cdf_edits.proofs.Edits.MadeRecord.{filled_content, filled_edit, fresh, listed_before, listed_marks, loose_away, second}
-use Rattle.cdf_edits.proofs.Edits.MarkLemmas.{Avoids-append, Away-append, Within-append, avoided-avoids, within-within}
-use Rattle.cdf_edits.proofs.Edits.OwnersKept.{all_keep, keep_unused, keeps_within}
-use Rattle.cdf_edits.proofs.Edits.RecordFrame.{field_avoids, part_clear, chain_clear}
-use Rattle.cdf_edits.proofs.Edits.RecordPlaced.{placing_marks}
-use Rattle.cdf_edits.proofs.Edits.StepEdits.{gives_edit, some_bytes, takes_edit}
-use Rattle.cdf_edits.proofs.Frame.ChangedBytes.{changed_put}
-use Rattle.cdf_edits.proofs.Rules.FirstHead.{FirstSays, first_said, first_hold}
-use Rattle.cdf_edits.proofs.Space.ActsLeave.{places-sized}
-use Rattle.cdf_edits.proofs.Space.TakenFromList.{same_link}
 use Rattle.cdf_space.proofs.Filling.{word-put_inside}
-use Rattle.cdf_format.specs.Content.{content_of, majority_of}
-use Rattle.cdf_format.specs.Fields.{Holds, eof, flags, encoding}
-use Rattle.cdf_format.specs.Owners.{Unused, owned_by, unused_records}
 use Rattle.cdf_format.specs.Records.{cdr_increment, cdr_release, cdr_version, cdr_gdr_offset, gdr_eof, gdr_leap_second_last_updated, gdr_num_attr, gdr_nr_vars, gdr_nz_vars, gdr_r_dim_sizes, gdr_rfu_c, gdr_rfu_e, gdr_uir_head, uir_next_uir, uir_prev_uir, gdr_adr_head, gdr_r_vdr_head, gdr_z_vdr_head}
-use Rattle.cdf_format.specs.NotRead.{read_types}
-use Rattle.cdf_format.specs.Tiles.{AreTiles}
-use Rattle.cdf_format.proofs.ChainsLemmas.{is_a-from}
 use Rattle.cdf_format.proofs.Pieces.{word-piece}
-use Rattle.cdf_format.proofs.SealedRules.{sealed_keeps}
-use Rattle.cdf_format.proofs.Tests.{both}
 use Rattle.cdf_vars.specs.Setup.{MakesGdr, gdr_fields}
 use Rattle.cdf_vars.proofs.SetUpAnswers.{few_dims, positive_dims, set_up, small_dims, step_goes, taken_lies}
 
@@ -65,6 +39,9 @@ or_true false = refl
 -- bytes of the fixed part of a GDR, but for rNumDims
 abbrev pub is_beside : ℕ → ℕ → Bool
 is_beside lo hi = (nat_le 60 lo || nat_le hi 56) && nat_le hi 84
+
+beside_high : (f : Field) → is_beside f.place (f.place + f.width) ≡ true → f.place + f.width ≤ 84
+beside_high f e = leb-true (f.place + f.width) 84 (both (nat_le 60 f.place || nat_le (f.place + f.width) 56) (nat_le (f.place + f.width) 84) e).1
 
 pub heads_avoided : (gdr n lo hi : ℕ) → is_beside lo hi ≡ true → avoided (heads_marks gdr n) gdr_type lo hi ≡ true
 heads_avoided gdr n lo hi e = let p = both (nat_le 60 lo || nat_le hi 56) (nat_le hi 84) e in rw (p.0, p.1, or_true) refl
@@ -171,7 +148,7 @@ module _ {x y records list : List ℕ} {old g code bits : ℕ} {dims : List ℕ}
   -- another field of the GDR
   pub gdr_still : (f : Field) → is_beside f.place (f.place + f.width) ≡ true → number y g f ≡ number x g f
   gdr_still f beside =
-      let high = leb-true (f.place + f.width) 84 (both (nat_le 60 f.place || nat_le (f.place + f.width) 56) (nat_le (f.place + f.width) 84) beside).1 in
+      let high = beside_high f beside in
       still_says heads_edit is (heads_avoided g n 0 12 refl) f (heads_avoided g n f.place (f.place + f.width) beside) (omega arith)
 
   -- ---- the shape
@@ -559,9 +536,9 @@ module _ (b dims : List ℕ) (good : Good b) (empty : is_empty_set (content b) �
     -- what it has of the old one
     new_says : (f : Field) → IsCopied f → number late place f ≡ number b old f
     new_says f copied =
-        let high = leb-true (f.place + f.width) 84 (both (nat_le 60 f.place || nat_le (f.place + f.width) 56) (nat_le (f.place + f.width) 84) p.0).1 in
-        let low = leb-true 12 f.place p.3 in
-        gdr_still copied_shape fine new m.heads f p.0 ∙ copied_field f (omega arith) high ∙ sym (old_says f high) ∙ still_says (filled_edit sound fills) gdr_before refl f (rw (p.1, p.2) refl) high
+        let high = beside_high f copied.0 in
+        let low = leb-true 12 f.place copied.3 in
+        gdr_still copied_shape fine new m.heads f copied.0 ∙ copied_field f (omega arith) high ∙ sym (old_says f high) ∙ still_says (filled_edit sound fills) gdr_before refl f (rw (copied.1, copied.2) refl) high
 
     -- ---- the old one
 
@@ -680,7 +657,7 @@ module _ (b dims : List ℕ) (good : Good b) (empty : is_empty_set (content b) �
         flags_now = still_says given (stands_fixed late_shape cdr_type 8 late_shape.cdr_stands) refl cdr_flags refl (omega arith) ∙ (heads_say copied_shape fine new m.heads).flags_are;
         count_now = place_now gdr_r_num_dims refl (omega arith) ∙ (heads_say copied_shape fine new m.heads).count_is;
         stays = λ f copied.
-            place_now f p.2 (leb-true (f.place + f.width) 84 (both (nat_le 60 f.place || nat_le (f.place + f.width) 56) (nat_le (f.place + f.width) 84) p.0).1) ∙ new_says f copied;
+            place_now f copied.2 (beside_high f copied.0) ∙ new_says f copied;
         end = place_now gdr_eof refl (omega arith) ∙ gdr_still copied_shape fine new m.heads gdr_eof refl ∙ copied_field gdr_eof (omega arith) (omega arith) ∙ ap (eof m.taken) (sym at) ∙ is_taken.0.eof_is ∙ sym (gives.length_is ∙ as_long ∙ fills.long);
         longest = let l = shorter sound fills later as_long lately in let a = gives.length_is in omega arith;
         as_owned = λ k out. as_many old place k (λ q. out (inr (inl q))) (λ q. out (inl q));

@@ -4,17 +4,15 @@ use Rattle.cdf_edits.proofs.Common.{cases_eq, ne_eqb, same_Some, cast_signed, w3
 use Rattle.cdf_model.specs.declared.kinds.EntryKind.TheVariants as entries
 use Rattle.std.proofs.Math.Seq.{take-length}
 use Rattle.std.proofs.lemmas.Option.{slice_get_within}
-use Rattle.cdf_edits.proofs.Commands.ListParts.{got-map}
+use Rattle.cdf_edits.proofs.Edits.Common.{chain_has, each, got-map, no_acts, other_has, other_of, other_type}
 use Rattle.cdf_edits.proofs.Edits.ChainEdited.{EntryEdited, stays_word}
 use Rattle.cdf_edits.specs.Edits.DropsEntries.{AttributeKeeps}
-use Rattle.cdf_edits.proofs.Edits.ChainKinds.{chain_has, other_has, other_of, other_type}
 use Rattle.cdf_edits.proofs.Edits.DropsOne.{DropsUpTo, Fell}
 use Rattle.cdf_edits.proofs.Edits.FallenItems.{falls}
 use Rattle.cdf_edits.proofs.Edits.SameAttribute.{adr_long, greatest_same}
 use Rattle.cdf_edits.proofs.Edits.StandsBut.{AttributeStands, attributes_of}
 use Rattle.cdf_edits.proofs.Edits.StandsSame.{stands_same}
 use Rattle.cdf_edits.proofs.Edits.VariableDeleted.{adr_at, each_at, greatest_field}
-use Rattle.cdf_edits.proofs.Space.ActsLeave.{each, no_acts}
 
 -- ---- lists
 

@@ -3,27 +3,17 @@ use Rattle.std.proofs.Common.{◌≡◌, ◌≢◌, ℕ, ◌+◌, ◌≤◌, Lis
 use Rattle.cdf_edits.proofs.Common.{cases_eq, ne_eqb, Same, adr_type, field_marks, holder_type, linkable-long, type_in, unmarked, EntryKind, entries_of, image_limit, without, next_field, next_of, attribute_of, integer4, number, size_at, type_at, aedr_num, gdr_type, uir_type, AttributeShape, HasShape, Shape, shape, IsSound, In, Good, size_kept, type_kept, linkable-in, linkable-type, good_is_sound, tile_lies, Stays, chain_of, entry_type, greatest_number, max_field, IsDropped, count_field, entries_chain, with_chain, Away, giving_marks, ActsFollow, Act, Gave, gave, members_of, Gives}
 use Rattle.cdf_model.specs.declared.kinds.EntryKind.TheVariants as entries
 use Rattle.cdf_edits.specs.Space.Chains.{without as left_of}
-use Rattle.cdf_edits.proofs.Edits.ActsStill.{acts_still_by}
+use Rattle.cdf_edits.proofs.Edits.Common.{Away-append, Kept, KeptButLink, acts_still_by, apart, attribute_now, chain_has, differ_before, edit_then, has_chain, kept, late_size, late_type, members_are, of_shape, same-then, the_one, there, unmarked-away}
 use Rattle.cdf_edits.proofs.Edits.ActsThen.{acts_gave, was_listed}
 use Rattle.cdf_edits.proofs.Edits.ChainEdited.{EntryEdited, stays_more}
 use Rattle.cdf_edits.proofs.Edits.ChainEdits.{removed_keeps}
 use Rattle.cdf_edits.proofs.Edits.ChainKept.{link_allowed}
-use Rattle.cdf_edits.proofs.Edits.ChainKinds.{chain_has}
-use Rattle.cdf_edits.proofs.Edits.ChainSpliced.{attribute_now, there}
 use Rattle.cdf_edits.proofs.Edits.DropHalves.{TakesHalf, link_field, numbered}
-use Rattle.cdf_edits.proofs.Edits.ChainsOfShape.{has_chain, members_are}
-use Rattle.cdf_edits.proofs.Edits.Composing.{edit_then, same-then}
-use Rattle.cdf_edits.proofs.Edits.EntryFields.{of_shape}
-use Rattle.cdf_edits.proofs.Edits.RecordFrame.{kept}
 use Rattle.cdf_edits.proofs.Edits.FreedEntry.{all_marks, freed_behind, freed_type, old_stands, other_kept as entry_kept, sound_late}
 use Rattle.cdf_edits.proofs.Edits.LeftEntry.{LeavesChain, as_long, edit, late_is, leaving, left_acts, marks, old_ok, second, tests, third}
-use Rattle.cdf_edits.proofs.Edits.MarkLemmas.{Away-append, the_one, unmarked-away}
 use Rattle.cdf_edits.proofs.Edits.NumberedRecords.{one_numbered, stays_left}
-use Rattle.cdf_edits.proofs.Edits.OneChain.{differ_before}
 use Rattle.cdf_edits.proofs.Edits.RechainedStands.{StandTests, chain_is, edited, kept_stays}
 use Rattle.cdf_edits.proofs.Edits.TakenEntry.{f, good_now, items_left, long_now, members_stay, others, r}
-use Rattle.cdf_edits.proofs.Frame.Meaning.{Kept, KeptButLink, late_size, late_type}
-use Rattle.cdf_edits.proofs.Space.UsedRecords.{apart}
 
 -- ---- the marks, by the kind
 

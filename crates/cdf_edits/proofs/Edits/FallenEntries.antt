@@ -3,14 +3,11 @@ use Rattle.std.proofs.Common.{◌≡◌, ℕ, ℤ, ◌+◌, ◌-◌, ◌<◌, �
 use Rattle.cdf_edits.proofs.Common.{w32, cast_unsigned, FitsSigned, integer4, cases_lt, lt-ltb, le-leb, leb-true, filter, ◌==◌, nat_lt, EntryKind, entries_of, image_limit, record_number_limit, closed_up, entry_rows, attribute_of, number, size_at, type_at, with_field, aedr_num, Hold, AttributeShape, Each, HasShape, Shape, shape, IsSound, In, Distinct, Good, number_kept, good_is_sound, filter-in, tile_lies, chain_of, entry_type, max_field, Edit, fallen, Among, Mark, mark, Write, write, with_writes}
 use Rattle.cdf_format.specs.Content.{entries_of as chain_items}
 use Rattle.cdf_edits.proofs.Edits.ChainEntries.{EntryMeans, entry_means, nums}
-use Rattle.cdf_edits.proofs.Edits.ChainKinds.{chain_has}
-use Rattle.cdf_edits.proofs.Edits.ChainSpliced.{Rechains, file_now, num_same}
+use Rattle.cdf_edits.proofs.Edits.Common.{Rechains, chain_has, file_now, filter-distinct, filter-keeps, filter-says, num_same, some_bytes}
 use Rattle.cdf_edits.proofs.Edits.FallenItems.{EntryFell, entries_closed, fallen_distinct, fallen_under, falls, rests, nums_fell}
 use Rattle.cdf_edits.proofs.Edits.ChainMembers.{IsAmong, member, member_fits, own_there}
 use Rattle.cdf_edits.proofs.Edits.OneChain.{counted_before, differ_before, good_settled, items_of, rules_before}
 use Rattle.cdf_edits.proofs.Edits.WrittenEntries.{WriteTests, WritesChain, as_long as as_long_written, count_now as count_written, edit as edit_written, greatest_now as greatest_written, mid_kept, mid_size, part_beside, size_now, rechains as rechains_written, settled as settled_written, write_tests, writing}
-use Rattle.cdf_edits.proofs.Edits.StepEdits.{some_bytes}
-use Rattle.cdf_edits.proofs.Space.UsedRecords.{filter-distinct, filter-keeps, filter-says}
 use Rattle.std.proofs.lemmas.Bool.{ltb-true}
 use Rattle.cdf_edits.proofs.Edits.WrittenFields.{MayWrite, others_keep, writes_edit, writes_long, writes_say, written_tiles}
 

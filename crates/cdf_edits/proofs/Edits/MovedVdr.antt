@@ -1,20 +1,8 @@
 -- A VDR is placed anew and takes the place of the old one in its chain: the image until the old one is freed.
 use Rattle.std.proofs.Common.{◌≡◌, ◌≢◌, ℕ, ◌+◌, ◌≤◌, List, [], ◌∷◌, ◌++◌, length, eq-eqb, refl, sym, ap, subst, ◌∙◌, arith, inl, inr}
 use Rattle.cdf_edits.proofs.Common.{ne_eqb, Kind, IsChain, number, name_in, size_at, type_at, times, owned_records, vdr_num, vdr_name, VariableShape, Shape, vdrs, is_compressed, HasVariable, HasShape, Each, shape, IsSound, In, Distinct, Distinct-back, Distinct-middle, vdr_end, Good, Each-split, vdrs_append, shapes_of, counted_in, head_of, members_of, type_in, with_in_place, variables_chain}
-use Rattle.cdf_edits.proofs.Edits.ChainOwners.{IsHeld, not_twice_kept}
-use Rattle.cdf_edits.proofs.Edits.ChainsOfShape.{members_are}
+use Rattle.cdf_edits.proofs.Edits.Common.{IsHeld, StandsAmong, VariableLives, VdrCopied, behind_in, fits, fits_copied, fresh, has, index_records, kind_chain, late_type, links_copied, members_are, not_twice_kept, of_kind, owned-times, sound, sound_if, spliced_times, the_one, tile, times-append, typed, unowned, unused_none, used_times, with_shapes}
 use Rattle.cdf_edits.proofs.Edits.JoinedVdr.{JoinsVdr, chain, edit, file, fills, gdr_is, joined_is, joined_size, joined_splices, list, lives, marks, plain_kind, records, used}
-use Rattle.cdf_edits.proofs.Edits.MadeRecord.{fresh, unowned}
-use Rattle.cdf_edits.proofs.Edits.MarkLemmas.{the_one}
-use Rattle.cdf_edits.proofs.Edits.OwnedOnce.{used_times, unused_none}
-use Rattle.cdf_edits.proofs.Edits.RecordFrame.{index_records, VariableLives}
-use Rattle.cdf_edits.proofs.Edits.VariableCopied.{links_copied, fits_copied}
-use Rattle.cdf_edits.proofs.Edits.VariableKinds.{with_shapes, kind_chain, of_kind, spliced_times}
-use Rattle.cdf_edits.proofs.Edits.VariableSplice.{sound_if}
-use Rattle.cdf_edits.proofs.Edits.VdrEdited.{StandsAmong, sound, tile, typed, has, fits, behind_in}
-use Rattle.cdf_edits.proofs.Frame.Meaning.{late_type}
-use Rattle.cdf_edits.proofs.Frame.OwnersApart.{times-append, owned-times}
-use Rattle.cdf_edits.proofs.Frame.VdrCopied.{VdrCopied}
 
 -- a record with these bytes behind its size took the place of the VDR of a variable
 abbrev pub MovesVdr : List ℕ → List ℕ → Kind → VariableShape → List ℕ → ℕ → Type 0

@@ -2,15 +2,11 @@
 use Rattle.std.proofs.Common.{◌≡◌, ℕ, ◌<◌, ◌≤◌, List, [], ◌∷◌, length, true, refl, sym, ap, subst, ◌∙◌, arith, inl, inr}
 use Rattle.cdf_edits.proofs.Common.{cases_lt, lt-ltb, le-ltb, EntryKind, entries_of, closed_up, image_limit, attribute_of, integer4, number, aedr_num, uir_type, AttributeShape, Shape, shape, IsSound, In, Good, good_is_sound, Only, Stays, chain_of, entry_type, greatest_number, max_field, with_chain, avoided, within, fallen}
 use Rattle.cdf_model.specs.declared.kinds.EntryKind.TheVariants as entries
-use Rattle.cdf_edits.proofs.Edits.ActsStill.{acts_still_by}
+use Rattle.cdf_edits.proofs.Edits.Common.{Rechains, acts_still_by, attribute_now, keeps_away, keeps_fields, now_is, type_stays, unmarked-away}
 use Rattle.cdf_edits.proofs.Edits.ChainEdited.{AttributeEdited, EntryEdited}
-use Rattle.cdf_edits.proofs.Edits.ChainSpliced.{Rechains, attribute_now, now_is}
 use Rattle.cdf_edits.proofs.Edits.DropHalves.{LowersHalf, number_field}
 use Rattle.cdf_edits.proofs.Edits.FallenEntries.{LowersChain, as_long, edit, entries_now, entry_in, entry_typed, falling, fell, good_lowered, later_above, long_enough, rechains, t, those}
-use Rattle.cdf_edits.proofs.Edits.MarkLemmas.{unmarked-away}
-use Rattle.cdf_edits.proofs.Edits.OwnersKept.{keeps_away, keeps_fields}
 use Rattle.cdf_edits.proofs.Edits.RechainedStands.{StandTests, chain_is, edited, same_records}
-use Rattle.cdf_edits.proofs.Edits.VariableKeeps.{type_stays}
 
 -- ---- the marks, by the kind
 

@@ -20,7 +20,7 @@ items_of b own entries.G = refl
 items_of b own entries.R = refl
 items_of b own entries.Z = refl
 
-items_with : (a : Attribute) (kind : EntryKind) (items : List (ℕ × Entry)) → entries_of (with_entries a kind items) kind ≡ items
+pub items_with : (a : Attribute) (kind : EntryKind) (items : List (ℕ × Entry)) → entries_of (with_entries a kind items) kind ≡ items
 items_with a entries.G items = refl
 items_with a entries.R items = refl
 items_with a entries.Z items = refl

@@ -5,9 +5,7 @@ use Rattle.cdf_edits.proofs.Edits.FreedVdr.{acts, by_kept, by_long, bytes_left, 
 use Rattle.cdf_edits.proofs.Edits.JoinedVdr.{file, joined_size}
 use Rattle.cdf_edits.proofs.Edits.MovedVdr.{CopiesVdr, MovesVdr, own'}
 use Rattle.cdf_edits.proofs.Edits.PadWritten.{padded_end, padded_means}
-use Rattle.cdf_edits.proofs.Edits.VdrEdited.{StandsAmong, sound}
-use Rattle.cdf_edits.proofs.Frame.Meaning.{pad_long, pad_width}
-use Rattle.cdf_edits.proofs.Frame.VdrCopied.{Copied, word_copied}
+use Rattle.cdf_edits.proofs.Edits.Common.{Copied, StandsAmong, pad_long, pad_width, sound, word_copied}
 
 -- the new VDR is the old one up to the pad value but for its flags, and ends with these bytes, for which the old one had no room
 pub record HoldsPad (b late : List ℕ) (old by need : ℕ) (bytes : List ℕ) : Type 0 where

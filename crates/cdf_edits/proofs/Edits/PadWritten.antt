@@ -1,12 +1,8 @@
 -- A pad value is written in a VDR that has room for it, and the flag that says that there is one.
 use Rattle.std.proofs.Common.{◌≡◌, ◌⊎◌, ℕ, ◌+◌, ◌*◌, ◌/◌, ◌%◌, ◌<◌, ◌≤◌, Bool, List, [], ◌∷◌, length, true, None, Some, refl, sym, ap, subst, ◌∙◌, arith, inl, inr}
 use Rattle.cdf_edits.proofs.Common.{◌==◌, if◌then◌else◌, Kind, R, Z, turned, Same, variable_of, number, name_in, integer4, has_bit, size_at, Field, vdr_flags, vdr_blocking_factor, vdr_name, VariableShape, is_compressed, records_vary, shape, field_bytes, is_little, is_z, dimensions_at, value_bytes, has_pad, pad_field, pad_at, type_of_variable, vdr_end, Good, good_is_sound, of_le, tile_lies, with_bits, SetsPad, Took, Gave, Edit, Mark, mark, Among, touched_field, Each, Changed, type_in, variables_chain}
-use Rattle.cdf_edits.proofs.Edits.Composing.{head_size}
-use Rattle.cdf_edits.proofs.Edits.VdrEdited.{StandsAmong, EditsVdr, MarkTests, through, tile, long, has, fits, behind_in, behind_kept, file}
+use Rattle.cdf_edits.proofs.Edits.Common.{EditsVdr, FileSame, MarkTests, StandsAmong, VdrCopied, behind_in, behind_kept, content_copied, file, fits, has, head_size, long, pad_field_copied, pad_long, pad_width, through, tile, type_copied, value_copied}
 use Rattle.cdf_edits.proofs.Edits.VdrFields.{LeavesVdr, fields_blocking, fields_copied, fields_edit, fields_file, fields_head, fields_name, fields_num}
-use Rattle.cdf_edits.proofs.Edits.VariableCopied.{content_copied}
-use Rattle.cdf_edits.proofs.Frame.Meaning.{FileSame, pad_long, pad_width}
-use Rattle.cdf_edits.proofs.Frame.VdrCopied.{VdrCopied, type_copied, pad_field_copied, value_copied}
 
 -- ---- bit 1 of the flags
 

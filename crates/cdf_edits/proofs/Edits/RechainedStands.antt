@@ -3,23 +3,11 @@ use Rattle.std.proofs.Common.{◌≡◌, ◌≢◌, ◌⊎◌, ℕ, zero, suc, L
 use Rattle.cdf_edits.proofs.Common.{length-append, set_at, same_Some, cast_signed, w32, flat_map, slice_get, slice_set, DataSet, EntryKind, Kind, integer4, type_at, attribute_records, Field, aedr_num, gdr_r_max_rec, uir_next_uir, uir_prev_uir, adr_type, cdr_type, gdr_type, uir_type, AttributeShape, HasShape, Shape, shape, IsSound, In, Good, content, number, type_kept, is_a-in, is_a-type, linkable-in, linkable-type, good_is_sound, In-append_left, In-append_right, both, Only, Stays, shapes_of, space_fields, chain_fields, chain_of, with_chain, Away, Mark, all_unmarked, avoided, unmarked, variable_types, within}
 use Rattle.cdf_model.specs.declared.kinds.EntryKind.TheVariants as entries
 use Rattle.cdf_model.specs.declared.kinds.Kind.TheVariants as kinds
-use Rattle.cdf_edits.proofs.Commands.KeptRecords.{keeps_stood}
+use Rattle.cdf_edits.proofs.Edits.Common.{Kept, Rechains, adr_in, adr_of, adr_start, adr_typed, after_away, after_in, all_unmarked-away, before_away, before_in, clear_file, content_replaced, fixed_long, gdr_field, gdr_in, gdr_place, gdr_start, gdr_typed, head_type, keeps_away, keeps_fields, keeps_stood, keeps_within, kept_away, kind_in, kind_ours, now_is, other_has, other_kept, other_of, other_type, records_are, splices, stood, there, unmarked-away, variable_typed, within-within}
 use Rattle.cdf_edits.proofs.Edits.ChainEdited.{AttributeEdited, EntryEdited}
-use Rattle.cdf_edits.proofs.Edits.ChainKept.{records_are}
-use Rattle.cdf_edits.proofs.Edits.ChainKinds.{adr_of, other_has, other_of, other_type}
-use Rattle.cdf_edits.proofs.Edits.ChainSpliced.{Rechains, adr_in, adr_start, adr_typed, after_away, after_in, before_away, before_in, clear_file, now_is, other_kept, splices, there}
-use Rattle.cdf_edits.proofs.Edits.Composing.{head_type}
-use Rattle.cdf_edits.proofs.Edits.MarkLemmas.{all_unmarked-away, unmarked-away, within-within}
 use Rattle.cdf_edits.proofs.Edits.OneChain.{got_middle}
-use Rattle.cdf_edits.proofs.Edits.OneSpliced.{content_replaced}
-use Rattle.cdf_edits.proofs.Edits.OwnersKept.{keeps_away, keeps_fields, keeps_within, stood}
-use Rattle.cdf_edits.proofs.Edits.RecordFrame.{gdr_field, gdr_place, gdr_start, kept_away}
 use Rattle.cdf_edits.proofs.Edits.StandsBut.{StandsBut}
-use Rattle.cdf_edits.proofs.Edits.StepEdits.{fixed_long, gdr_in, gdr_typed}
-use Rattle.cdf_edits.proofs.Edits.VariableFrame.{variable_typed}
 use Rattle.cdf_edits.proofs.Edits.VariableKeeps.{records_at}
-use Rattle.cdf_edits.proofs.Edits.VariableKinds.{kind_in, kind_ours}
-use Rattle.cdf_edits.proofs.Frame.Meaning.{Kept}
 
 -- ---- lists in which one is another
 

@@ -3,11 +3,10 @@ use Rattle.std.proofs.Common.{◌≡◌, ◌⊎◌, ℕ, ℤ, ◌+◌, ◌≤◌
 use Rattle.cdf_edits.proofs.Common.{slice_get, ◌&&◌, ◌==◌, nat_lt, not, if◌then◌else◌, EntryKind, entries_of, is_global, Attribute, Found, attribute_without, cast_signed, w32, word, Leads, next_field, next_of, attribute_of, scope_of, integer4, number, size_at, Field, adr_scope, aedr_num, adr_type, AttributeShape, HasEntries, HasShape, shape, In, Good, linkable-type, good_is_sound, GreatestIs, OutsideFields, chain_fields, chain_of, entry_type, greatest_number, kind_of_entries, max_field, entries_for, fields_beside}
 use Rattle.cdf_edits.specs.Commands.Variables.{is_renumbered}
 use Rattle.cdf_edits.proofs.Edits.ChainEdited.{ChainEdited, chain_then, stays_more, stays_word}
-use Rattle.cdf_edits.proofs.Edits.ChainKinds.{chain_has, chain_in, other_in}
+use Rattle.cdf_edits.proofs.Edits.Common.{chain_has, chain_in, fixed_long, other_in}
 use Rattle.cdf_edits.proofs.Edits.DropsOne.{Fate}
 use Rattle.cdf_edits.proofs.Edits.StandsBut.{AttributeStands, member_in}
 use Rattle.cdf_edits.proofs.Edits.StandsThen.{attribute_then}
-use Rattle.cdf_edits.proofs.Edits.StepEdits.{fixed_long}
 use Rattle.cdf_edits.proofs.Edits.VariableDeleted.{adr_at, each_at, greatest_field, least_entry}
 use Rattle.cdf_edits.proofs.Frame.SoundStays.{filter_same}
 

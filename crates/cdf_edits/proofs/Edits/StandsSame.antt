@@ -2,8 +2,7 @@
 use Rattle.std.proofs.Common.{◌≡◌, ℕ, List, [], Some, refl}
 use Rattle.cdf_edits.proofs.Common.{slice_get, Field, cdr_type, uir_type, AttributeShape, HasShape, shape, In, Good, is_a-in, linkable-in, good_is_sound, Stays, IsSound}
 use Rattle.cdf_edits.proofs.Edits.StandsBut.{AttributeStands, StandsBut, member_in}
-use Rattle.cdf_edits.proofs.Edits.StepEdits.{gdr_in}
-use Rattle.cdf_edits.proofs.Edits.VariableKinds.{kind_in}
+use Rattle.cdf_edits.proofs.Edits.Common.{gdr_in, kind_in}
 
 module _ {b : List ℕ} (good : Good b) where
   sound : IsSound b (shape b)
