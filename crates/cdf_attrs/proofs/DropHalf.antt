@@ -1,17 +1,16 @@
 -- Both halves of what an attribute of variables drops, from what was written.
 use Rattle.std.proofs.Common.{◌≡◌, ℕ, ◌<◌, ◌≤◌, List, [], ◌++◌, length, Some, false, refl, sym, ap, subst, ◌∙◌, append-nil, arith, inl, inr}
-use Rattle.cdf_attrs.proofs.Common.{position, slice_get, ◌==◌, slice_index, entries_of, is_global, with_entries, Attribute, Entry, image_limit, Found, closed_up, without, EntryKind, attribute_of, number, aedr_num, AttributeShape, shape, In, Good, good_is_sound, chain_of, greatest_number, kind_of_entries, entries_chain, gave, ActsFollow, nums, chain_in, LowersHalf, TakesHalf, numbered, DropsOne, items_of, stands_same, DropsFrom, DropsNumber, IsScoped, Lowers, LowersNumbers, IsOfAttribute, KnownEntries, KnowsEntries, TakenAt, with_chain}
+use Rattle.cdf_attrs.proofs.Common.{position, slice_get, ◌==◌, slice_index, entries_of, is_global, with_entries, Attribute, Entry, image_limit, Found, closed_up, without, EntryKind, attribute_of, number, Field, aedr_num, AttributeShape, shape, In, Good, good_is_sound, chain_of, greatest_number, kind_of_entries, entries_chain, gave, ActsFollow, nums, chain_in, LowersHalf, TakesHalf, numbered, DropsOne, items_of, stands_same, DropsFrom, DropsNumber, IsScoped, Lowers, LowersNumbers, IsOfAttribute, KnownEntries, KnowsEntries, TakenAt, with_chain}
 use Rattle.cdf_model.specs.declared.kinds.EntryKind.TheVariants as entries
 use Rattle.cdf_edits.specs.Space.Chains.{without as left_of}
 use Rattle.cdf_edits.proofs.Edits.ChainEdited.{AttributeEdited}
 use Rattle.cdf_edits.proofs.Edits.ChainEntries.{none_numbered as without_none, num_in}
-use Rattle.cdf_edits.proofs.Edits.ChainKinds.{other_in}
 use Rattle.cdf_edits.proofs.Edits.EntryTakenStep as step
 use Rattle.cdf_edits.proofs.Edits.FallenItems.{entries_closed, rests}
 use Rattle.cdf_edits.proofs.Edits.NumberedRecords.{none_numbered}
 use Rattle.cdf_edits.proofs.Edits.NumbersFallStep.{lowers_half}
-use Rattle.cdf_edits.proofs.Edits.StandsBut.{member_in}
-use Rattle.cdf_edits.proofs.Edits.StandsSame.{stays_same}
+use Rattle.cdf_edits.proofs.Edits.SameAttribute.{chain_same}
+use Rattle.cdf_edits.proofs.Edits.StandsSame.{attribute_same}
 use Rattle.cdf_attrs.proofs.DroppedNumber as removed
 use Rattle.cdf_attrs.proofs.DroppedOne.{drops_one}
 use Rattle.cdf_attrs.proofs.DroppingFrom.{chain_left, keeps_taken}
@@ -48,20 +47,8 @@ module _ {b : List ℕ} (good : Good b) (k : ℕ) (own : AttributeShape) (kind :
   attribute_same items' same = sym (ap (with_entries (attribute_of b own) kind) same ∙ with_own (attribute_of b own) kind)
 
   -- nothing is written
-  edited_none : {gone : ℕ → Type 0} {fields : ℕ → ℕ → List _} {falls : ℕ → ℕ} → ((m : ℕ) → In m chain → falls (number b m aedr_num) ≡ number b m aedr_num) → AttributeEdited b b k own own kind gone fields falls
-  edited_none same =
-      let inside = member_in (good_is_sound b good).has_shape k own in
-      record {
-        stands = stands_same good _;
-        there = at;
-        chain = record {
-          adr_is = refl;
-          other_is = refl;
-          adr_kept = (stays_same good own.adr (inside own.adr at (inl refl)) _, refl);
-          other_kept = λ m i. (stays_same good m (inside m at (other_in kind own m i)) _, refl);
-          entries = λ m i out. record { member = i; kept = stays_same good m (inside m at (inr (chain_in kind own m i))) _; type_is = refl; num_is = sym (same m i) };
-        };
-      }
+  edited_none : {gone : ℕ → Type 0} {fields : ℕ → ℕ → List Field} {falls : ℕ → ℕ} → ((m : ℕ) → In m chain → falls (number b m aedr_num) ≡ number b m aedr_num) → AttributeEdited b b k own own kind gone fields falls
+  edited_none rests = record { stands = stands_same good _; there = at; chain = chain_same good at (attribute_same good k own at) kind rests }
 
   module _ (none : In num es.numbers → ⊥) where
     none_there : In num (nums b chain) → ⊥

@@ -1,6 +1,6 @@
 -- What dropping from one attribute asks of its chain, and what it comes to.
 use Rattle.std.proofs.Common.{◌≡◌, ◌∙◌, ◌+◌, ◌≤◌, ℕ, List, [], ◌∷◌, All, length, Some, false, refl, sym, ap, subst, arith, inl, inr}
-use Rattle.cdf_attrs.proofs.Common.{cases_lt, lt-ltb, le-ltb, slice_get, is_global, image_limit, signed_limit, attribute_names, Kind, Scope, EntryKind, entry_bytes, attribute_of, content, scope_of, LiesIn, number, adr_scope, AttributeShape, adrs, shape, In, Good, Chain, kind_of_entries, max_field, entries_chain, got-middle, stands_at, max_lies, good_is_sound, AllLie, DropsFrom, DropsNumber, IsScoped, KeepsAttributes, Lowers, LowersNumbers, lower_writes, IsOfAttribute, KnownEntries, KnowsEntries}
+use Rattle.cdf_attrs.proofs.Common.{cases_lt, lt-ltb, le-ltb, slice_get, is_global, is_wrong_scope, image_limit, signed_limit, attribute_names, Kind, Scope, EntryKind, entry_bytes, attribute_of, content, scope_of, LiesIn, number, adr_scope, AttributeShape, adrs, shape, In, Good, Chain, kind_of_entries, max_field, entries_chain, got-middle, stands_at, max_lies, good_is_sound, AllLie, DropsFrom, DropsNumber, IsScoped, KeepsAttributes, Lowers, LowersNumbers, lower_writes, IsOfAttribute, KnownEntries, KnowsEntries}
 use Rattle.cdf_model.specs.declared.kinds.Kind.TheVariants.{R, Z}
 use Rattle.cdf_edits.proofs.Edits.AttributeChains.{Stands}
 use Rattle.cdf_edits.proofs.Edits.FallenEntries.{as_long as as_long_lowered, good_lowered, rechains}
@@ -12,6 +12,11 @@ use Rattle.cdf_attrs.proofs.EntryTakenAt.{all_from, as_long, places_are, small}
 use Rattle.cdf_attrs.proofs.LoweredChain.{lowers_chain}
 use Rattle.cdf_attrs.proofs.NumberGone.{number_gone, numbers_differ}
 
+-- entries for variables go with attributes of variables
+pub of_variables : (kind : Kind) {scope : Scope} → is_global scope ≡ false → is_wrong_scope (kind_of_entries kind) scope ≡ false
+of_variables R e = e
+of_variables Z e = e
+
 module _ (b : List ℕ) (adr : ℕ) (there : In adr (adrs (shape b))) where
   abbrev parts : Stands (shape b).attributes adr
   parts = stands_at (shape b).attributes adr there
@@ -22,12 +27,8 @@ module _ (b : List ℕ) (adr : ℕ) (there : In adr (adrs (shape b))) where
   pub of_attribute : (kind : EntryKind) → IsOfAttribute b (entries_chain kind adr)
   of_attribute kind = record { number = length parts.fronts; own = parts.own; stands = stands; kind = kind; chain_is = ap (entries_chain kind) (sym parts.adr_is) }
 
-  own_scope : is_global (scope_of (number b adr adr_scope)) ≡ false → is_global (attribute_of b parts.own).scope ≡ false
-  own_scope e = subst (λ (a : ℕ). is_global (scope_of (number b a adr_scope)) ≡ false) (sym parts.adr_is) e
-
   pub scoped : (kind : Kind) → is_global (scope_of (number b adr adr_scope)) ≡ false → IsScoped b (kind_of_entries kind) adr
-  scoped R e = record { number = length parts.fronts; own = parts.own; stands = stands; adr_is = parts.adr_is; in_scope = own_scope e }
-  scoped Z e = record { number = length parts.fronts; own = parts.own; stands = stands; adr_is = parts.adr_is; in_scope = own_scope e }
+  scoped kind e = record { number = length parts.fronts; own = parts.own; stands = stands; adr_is = parts.adr_is; in_scope = of_variables kind (subst (λ (a : ℕ). is_global (scope_of (number b a adr_scope)) ≡ false) (sym parts.adr_is) e) }
 
 pub chain_left : {b now : List ℕ} {kind : EntryKind} {adr num : ℕ} {entries left : KnownEntries} → entries.chain ≡ entries_chain kind adr → DropsNumber b now kind adr entries num left → left.chain ≡ entries_chain kind adr
 chain_left is drops = elim drops [

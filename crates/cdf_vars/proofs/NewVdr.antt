@@ -11,6 +11,7 @@ use Rattle.cdf_edits.specs.Commands.NewRecords.{Says}
 use Rattle.cdf_edits.specs.Space.Placing.{Placed, laid_out}
 use Rattle.cdf_edits.proofs.Edits.Common.{Each-map, IsRuled, code_small, kind_type, placed_says, says_kept, type_back}
 use Rattle.cdf_format.specs.Records.{vdr_vdr_next, vdr_data_type, vdr_num_elems, vdr_z_num_dims}
+use Rattle.cdf_vars.proofs.Sizes.{IsSize, fine_sizes, not_zero, positive_sizes, signed_small, sizes_small}
 use Rattle.cdf_vars.specs.Creating.{vdr_body, vdr_fields}
 use Rattle.std.proofs.lemmas.Bool.{ltb-false, and_from, not-false, or_right}
 use Rattle.cdf_edits.specs.Commands.Variables.{VarysWritten}
@@ -21,9 +22,6 @@ use Rattle.cdf_format.specs.IndexOf.{HasNodes}
 use Rattle.cdf_format.specs.IndexRules.{nodes_rows}
 use Rattle.cdf_format.specs.Stored.{known_type}
 use Rattle.cdf_format.specs.VariableFields.{counted4, pad_at, vary_field, varys_at}
-
-abbrev pub IsSize : ℕ → Type 0
-IsSize size = (1 ≤ size) × (size ≤ signed_limit)
 
 -- elements, dimensions with sizes, one variance for each, and records that are not too large
 pub record IsShaped (t : DataType) (elems : ℕ) (dims : List ℕ) (varys : List Bool) : Type 0 where
@@ -39,16 +37,6 @@ not_not : (p q : Bool) → (not p && not q) ≡ false → (p || q) ≡ true
 not_not true q e = refl
 not_not false true e = refl
 not_not false false e = cc e
-
-not_zero : (n : ℕ) → (n == 0) ≡ false → 1 ≤ n
-not_zero n e = grind (arith, nat_tests)
-
-each_size : (dims : List ℕ) → list_any (λ size. (size == 0) || nat_lt signed_limit size) dims ≡ false → Each IsSize dims
-each_size [] e = tt
-each_size (size ∷ dims) e =
-    let p = or_parts ((size == 0) || nat_lt signed_limit size) (list_any (λ size. (size == 0) || nat_lt signed_limit size) dims) e in
-    let q = or_parts (size == 0) (nat_lt signed_limit size) p.0 in
-    ((not_zero size q.0, ltb-false signed_limit size q.1), each_size dims p.1)
 
 -- a value has a byte, and a record a value
 through : (x y z : ℕ) → x ≤ y → y ≤ z → x ≤ z
@@ -78,17 +66,16 @@ shaped t elems dims varys e =
     let q = or_parts ((elems == 0) || odd) (are_bad_sizes dims || not (length varys == length dims)) p.0 in
     let r = or_parts (elems == 0) odd q.0 in
     let s = or_parts (are_bad_sizes dims) (not (length varys == length dims)) q.1 in
-    let d = or_parts (nat_lt dimension_limit (length dims)) (list_any (λ size. (size == 0) || nat_lt signed_limit size) dims) s.0 in
-    let sizes = each_size dims d.1 in
+    let sizes = fine_sizes dims s.0 in
     let fits = ltb-false record_limit (record_size t elems dims varys) p.1 in
     record {
       some = not_zero elems r.0;
       single = not_not (elems == 1) (is_characters (notation_of t)) r.1;
-      few = ltb-false dimension_limit (length dims) d.0;
-      sizes = sizes;
+      few = sizes.0;
+      sizes = sizes.1;
       one_each = eqb-true (length varys) (length dims) (not-false _ s.1);
       fits = fits;
-      elems_fit = elems_few t elems dims varys sizes fits;
+      elems_fit = elems_few t elems dims varys sizes.1 fits;
     }
 
 -- what the fields of a new VDR say
@@ -106,12 +93,9 @@ pub tail_size : (kind : Kind) (dims : List ℕ) (n : ℕ) → n ≡ length dims 
 tail_size R dims n e = omega arith
 tail_size Z dims n e = omega arith
 
-signed_small : (n : ℕ) → n ≤ signed_limit → n < 256 ^ 4
-signed_small n l = omega arith
-
 own_small : (kind : Kind) (dims : List ℕ) → length dims ≤ dimension_limit → Each IsSize dims → Each (λ n. n < 256 ^ 4) (own_dims kind dims)
 own_small R dims few sizes = tt
-own_small Z dims few sizes = (signed_small (length dims) (omega arith), Each-map IsSize (λ n. n < 256 ^ 4) (λ n size. signed_small n size.1) dims sizes)
+own_small Z dims few sizes = (signed_small (length dims) (omega arith), sizes_small dims sizes)
 
 codes_small : (varys : List Bool) → Each (λ n. n < 256 ^ 4) (map vary_code varys)
 codes_small [] = tt
@@ -205,10 +189,6 @@ Shares b Z dims = Unit {0}
 counted_sizes : (dims : List ℕ) → Each IsSize dims → map counted4 dims ≡ dims
 counted_sizes [] sizes = refl
 counted_sizes (n ∷ dims) sizes = ap₂ (λ (x : ℕ) (xs : List ℕ). x ∷ xs) (small_signed n sizes.0.1) (counted_sizes dims sizes.1)
-
-positive_sizes : (dims : List ℕ) → Each IsSize dims → list_all is_positive dims ≡ true
-positive_sizes [] sizes = refl
-positive_sizes (n ∷ dims) sizes = and_from _ _ (and_from _ _ (le-leb 1 n sizes.0.0) (le-leb n signed_limit sizes.0.1)) (positive_sizes dims sizes.1)
 
 varys_back : (varys : List Bool) → map (λ n. not (n == 0)) (map vary_code varys) ≡ varys
 varys_back [] = refl

@@ -19,7 +19,8 @@ use Rattle.cdf_space.proofs.Filling.{word-put_inside}
 use Rattle.cdf_format.specs.Records.{cdr_increment, cdr_release, cdr_version, cdr_gdr_offset, gdr_eof, gdr_leap_second_last_updated, gdr_num_attr, gdr_nr_vars, gdr_nz_vars, gdr_r_dim_sizes, gdr_rfu_c, gdr_rfu_e, gdr_uir_head, uir_next_uir, uir_prev_uir, gdr_adr_head, gdr_r_vdr_head, gdr_z_vdr_head}
 use Rattle.cdf_format.proofs.Pieces.{word-piece}
 use Rattle.cdf_vars.specs.Setup.{MakesGdr, gdr_fields}
-use Rattle.cdf_vars.proofs.SetUpAnswers.{few_dims, positive_dims, set_up, small_dims, step_goes, taken_lies}
+use Rattle.cdf_vars.proofs.SetUpAnswers.{set_up, step_goes, taken_lies}
+use Rattle.cdf_vars.proofs.Sizes.{fine_sizes, positive_sizes, sizes_small}
 
 -- ---- the edit
 
@@ -80,7 +81,7 @@ module _ {x y records list : List ℕ} {old g code bits : ℕ} {dims : List ℕ}
   cdr = stands_fixed h cdr_type 8 h.cdr_stands
 
   w1 : Wrote x one records g gdr_type (84 + 4 * n) gdr_r_num_dims n
-  w1 = let few = few_dims dims fine in wrote h.tiled is refl (omega arith) (omega arith) (omega arith) refl
+  w1 = let few = (fine_sizes dims fine).0 in wrote h.tiled is refl (omega arith) (omega arith) (omega arith) refl
 
   lies : g + 84 + 4 * n ≤ length one
   lies = let l = w1.long in let r = w.lies in omega arith
@@ -126,7 +127,7 @@ module _ {x y records list : List ℕ} {old g code bits : ℕ} {dims : List ℕ}
   count_is = still_says cdr_edit gdr_2 refl gdr_r_num_dims refl (omega arith) ∙ still_says e2 w1.stands (rw or_true refl) gdr_r_num_dims (rw or_true refl) (omega arith) ∙ w1.says
 
   dims_counted : r_num_dims y g ≡ n
-  dims_counted = let few = few_dims dims fine in ap (λ (k : ℕ). counted (cast_signed w32 k)) count_is ∙ small_signed n (omega arith)
+  dims_counted = let few = (fine_sizes dims fine).0 in ap (λ (k : ℕ). counted (cast_signed w32 k)) count_is ∙ small_signed n (omega arith)
 
   pub heads_say : HeadsSay y g code bits dims
   heads_say =
@@ -139,7 +140,7 @@ module _ {x y records list : List ℕ} {old g code bits : ℕ} {dims : List ℕ}
         sizes_are =
             ap (words y (g + 84)) dims_counted
             ∙ words_kept w.mid y (g + 84) (g + (84 + 4 * n)) kept (g + 84) n (omega arith) (up g n)
-            ∙ (words_laid_out w.mid (g + 84) dims (drop (g + 84 + length bytes) one) there (small_dims dims fine)).0;
+            ∙ (words_laid_out w.mid (g + 84) dims (drop (g + 84 + length bytes) one) there (sizes_small dims (fine_sizes dims fine).1)).0;
       }
     where
       up : (g n : ℕ) → g + 84 + 4 * n ≤ g + (84 + 4 * n)
@@ -307,8 +308,8 @@ module _ (b dims : List ℕ) (good : Good b) (empty : is_empty_set (content b) �
           encoding_read = ap (λ (d : DataSet). is_some (encoding_at d.encoding)) own_content ∙ read;
           single_file = ap (λ (n : ℕ). has_bit n 1) bits_now ∙ bits.0 ∙ was.single_file;
           md5_used = test ∙ was.md5_used;
-          few = subst (λ (n : ℕ). n ≤ 10) (sym is.count_now) (few_dims dims fine);
-          positive = ap (λ (d : DataSet). list_all is_positive d.rdims) own_content ∙ positive_dims dims fine;
+          few = subst (λ (n : ℕ). n ≤ 10) (sym is.count_now) ((fine_sizes dims fine).0);
+          positive = ap (λ (d : DataSet). list_all is_positive d.rdims) own_content ∙ positive_sizes dims (fine_sizes dims fine).1;
           eof_is = is.end;
         }
 
