@@ -28,13 +28,9 @@ chain_or_other : (kind : EntryKind) (a : AttributeShape) (m : ℕ) → In m (a.g
 chain_or_other entries.Z a m i = elim (In-append m a.gr_entries a.z_entries i) [ inl g ↦ inr g | inr z ↦ inl z ]
 chain_or_other kind a m i = In-append m a.gr_entries a.z_entries i
 
-of_entry : {A : Type 0} (kind : EntryKind) (x y z : A) → (if entry_type kind == adr_type then x else (if entry_type kind == entry_type kind then y else z)) ≡ y
-of_entry entries.Z x y z = refl
-of_entry kind x y z = refl
-
-of_other : {A : Type 0} (kind : EntryKind) (x y z : A) → (if other_type kind == adr_type then x else (if other_type kind == entry_type kind then y else z)) ≡ z
-of_other entries.Z x y z = refl
-of_other kind x y z = refl
+by_type : {A : Type 0} (kind : EntryKind) (x y z : A) → ((if entry_type kind == adr_type then x else (if entry_type kind == entry_type kind then y else z)) ≡ y) × ((if other_type kind == adr_type then x else (if other_type kind == entry_type kind then y else z)) ≡ z)
+by_type entries.Z x y z = (refl, refl)
+by_type kind x y z = (refl, refl)
 
 -- the greatest number of the other chain is no field of this one
 beside_chain : (kind kind' : EntryKind) → share_chain kind kind' ≡ false → (i : ℕ) → (max_field kind').place ≤ i → i < (max_field kind').place + 4 → OutsideFields (chain_fields kind) i
@@ -96,10 +92,10 @@ module _ (b now : List ℕ) (found : Found) (k : ℕ) (own : AttributeShape) (go
     may_adr = rw (global_is false f.of_variables, linkable-type b (shape b).records adr_type own.adr (h.attribute_chain.linkable own.adr (adr_at (shape b).attributes k own at))) refl
 
     may_entry : (m : ℕ) → In m (chain_of own kind) → entries_allowance b (content b) found k m ≡ (if number b m aedr_num == num then Anything else Only (fields_beside b num m))
-    may_entry m i = rw (global_is false f.of_variables, linkable-type b (shape b).records (entry_type kind) m ((chain_has kind own has).linkable m i)) (of_entry kind _ _ _)
+    may_entry m i = rw (global_is false f.of_variables, linkable-type b (shape b).records (entry_type kind) m ((chain_has kind own has).linkable m i)) (by_type kind _ _ _).0
 
     may_other : (m : ℕ) → In m (other_of own kind) → entries_allowance b (content b) found k m ≡ Only []
-    may_other m i = rw (global_is false f.of_variables, linkable-type b (shape b).records (other_type kind) m ((other_has kind own has).linkable m i)) (of_other kind _ _ _)
+    may_other m i = rw (global_is false f.of_variables, linkable-type b (shape b).records (other_type kind) m ((other_has kind own has).linkable m i)) (by_type kind _ _ _).1
 
     keeps : (m : ℕ) → In m (attribute_records own) → AttributeKeeps b now found k m
     keeps m (inl e) = subst (AttributeKeeps b now found k) (sym e) (inr (subst (Keeps b now own.adr) (sym may_adr) f.chain.adr_kept.0, f.chain.adr_kept.1))

@@ -35,9 +35,6 @@ module _ {b late now : List ℕ} {kind : EntryKind} {before : List AttributeShap
   sound : IsSound b (shape b)
   sound = good_is_sound b good
 
-  h : HasShape b (shape b)
-  h = sound.has_shape
-
   -- ---- unused records
 
   late_used : type_at late old ≢ uir_type
@@ -47,7 +44,7 @@ module _ {b late now : List ℕ} {kind : EntryKind} {before : List AttributeShap
   loose m i typed out = (
     Away-append (marks sound q) (giving_marks (shape b).unused (entry_type kind) old (size_at late old)) uir_type m (unmarked-away (marks sound q) uir_type m (tests sound q).unused)
         ((λ e lies. apart uir_type gdr_type refl e), ((λ e lies. out lies), ((λ e lies. (tests sound q).in_use (sym e)), tt))),
-    λ j. elim (was_listed h (left_acts sound q) (sound_late sound (f good q gives)) (old_stands sound (f good q gives)) late_used gives m j) [
+    λ j. elim (was_listed sound.has_shape (left_acts sound q) (sound_late sound (f good q gives)) (old_stands sound (f good q gives)) late_used gives m j) [
       | inl e ↦ (tests sound q).in_use (sym (old_ok sound q).1 ∙ ap (type_at b) (sym e) ∙ typed)
       | inr l ↦ out (subst (In m) (ap (λ (x : Shape). x.unused) (late_is sound q)) l)
     ],
@@ -59,9 +56,9 @@ module _ {b late now : List ℕ} {kind : EntryKind} {before : List AttributeShap
   beside_kept m i out =
       let c = entries_chain kind own.adr in
       let has = (there sound (r good q gives)).1.0.have.0 in
-      let members : chain_of own kind ≡ members_of b c = sym (members_are h (of_shape kind (shape b) own has)) in
+      let members : chain_of own kind ≡ members_of b c = sym (members_are sound.has_shape (of_shape kind (shape b) own has)) in
       let ok = (chain_has kind own has).linkable m i in
-      let one = removed_keeps b c sound q.holder (has_chain h (of_shape kind (shape b) own has)) q.removed (subst (In old) members q.member) (no_holder kind own.adr).0 m (subst (In m) members i) out in
+      let one = removed_keeps b c sound q.holder (has_chain sound.has_shape (of_shape kind (shape b) own has)) q.removed (subst (In old) members q.member) (no_holder kind own.adr).0 m (subst (In m) members i) out in
       let long = linkable-long b (shape b).records (entry_type kind) m ok in
       let two = kept (edit_then (second sound q) (third sound q)) m (entry_type kind) (linkable-in b (shape b).records (entry_type kind) m ok) (type_kept b q.mid m one.same (omega arith) ∙ linkable-type b (shape b).records (entry_type kind) m ok) (no_holder kind own.adr).1 in
       kept_then b q.mid late m one (size_kept b q.mid m one.same (omega arith)) two
@@ -75,7 +72,7 @@ module _ {b late now : List ℕ} {kind : EntryKind} {before : List AttributeShap
     -- only the link to the one that went is another
     links : (m : ℕ) → next_of b m ≡ old → link_field b num m ≡ next_field ∷ []
     links m e =
-        let low = (tile_lies b 8 (length b) (shape b).records old h.tiled (old_ok sound q).0).low in
+        let low = (tile_lies b 8 (length b) (shape b).records old sound.has_shape.tiled (old_ok sound q).0).low in
         rw (e, of_old, ne_eqb old 0 (λ z. absurd (omega arith)), eq-eqb num num refl) refl
 
     entry_left : (m : ℕ) → In m (chain_of own kind) → (number b m aedr_num ≡ num → ⊥) → EntryEdited b now (with_chain own kind (left_of old (chain_of own kind))) kind m (link_field b num m) (number b m aedr_num)

@@ -1,6 +1,6 @@
 -- Entries of a chain get numbers less by one, where they are greater than one that none has, and the greatest number of the chain is written.
-use Rattle.std.proofs.Common.{◌≡◌, ℕ, ℤ, ◌+◌, ◌-◌, ◌<◌, ◌≤◌, ◌^◌, List, [], ◌∷◌, ◌++◌, length, map, refl, sym, ap, subst, ◌∙◌, arith, inl, inr}
-use Rattle.cdf_edits.proofs.Common.{w32, cast_unsigned, FitsSigned, integer4, cases_lt, lt-ltb, le-leb, leb-true, filter, ◌==◌, nat_lt, EntryKind, entries_of, image_limit, record_number_limit, closed_up, entry_rows, attribute_of, number, size_at, type_at, with_field, aedr_num, Hold, AttributeShape, Each, HasShape, Shape, shape, IsSound, In, Distinct, Good, number_kept, good_is_sound, filter-in, tile_lies, chain_of, entry_type, max_field, Edit, fallen, Among, Mark, mark, Write, write, with_writes}
+use Rattle.std.proofs.Common.{◌≡◌, ℕ, ℤ, ◌-◌, ◌<◌, ◌≤◌, ◌^◌, List, [], ◌∷◌, ◌++◌, length, map, refl, sym, ap, subst, ◌∙◌, arith, inl, inr}
+use Rattle.cdf_edits.proofs.Common.{w32, cast_unsigned, FitsSigned, integer4, cases_lt, lt-ltb, le-leb, leb-true, filter, ◌==◌, nat_lt, EntryKind, entries_of, image_limit, record_number_limit, closed_up, entry_rows, attribute_of, number, size_at, type_at, with_field, aedr_num, Hold, AttributeShape, Each, shape, IsSound, In, Distinct, Good, number_kept, good_is_sound, filter-in, tile_lies, chain_of, entry_type, max_field, Edit, fallen, Among, Mark, mark, Write, write, with_writes}
 use Rattle.cdf_format.specs.Content.{entries_of as chain_items}
 use Rattle.cdf_edits.proofs.Edits.ChainEntries.{EntryMeans, entry_means, nums}
 use Rattle.cdf_edits.proofs.Edits.Common.{Rechains, chain_has, file_now, filter-distinct, filter-keeps, filter-says, num_same, some_bytes}
@@ -50,12 +50,6 @@ module _ {b now : List ℕ} {kind : EntryKind} {before : List AttributeShape} {o
   sound : IsSound b (shape b)
   sound = good_is_sound b good
 
-  abbrev s : Shape
-  s = shape b
-
-  h : HasShape b s
-  h = sound.has_shape
-
   abbrev at : IsAmong b before own after
   at = record { was = q.was }
 
@@ -68,7 +62,7 @@ module _ {b now : List ℕ} {kind : EntryKind} {before : List AttributeShape} {o
   pub t : WriteTests kind own.adr those aedr_num
   t = write_tests kind own.adr those aedr_num
 
-  pub entry_in : (m : ℕ) → In m chain → In m s.records
+  pub entry_in : (m : ℕ) → In m chain → In m (shape b).records
   entry_in m i = (member kind sound at m i).inside
 
   pub entry_typed : (m : ℕ) → In m chain → type_at b m ≡ entry_type kind
@@ -89,13 +83,10 @@ module _ {b now : List ℕ} {kind : EntryKind} {before : List AttributeShape} {o
   mid = with_writes b ws
 
   pub long_enough : (m : ℕ) → In m chain → 56 ≤ size_at b m
-  long_enough m i = reach _ (size_at b m) (member_fits kind sound at m i)
-    where
-      reach : (n size : ℕ) → 56 + n ≤ size → 56 ≤ size
-      reach n size f = omega arith
+  long_enough m i = let f = member_fits kind sound at m i in omega arith
 
-  may : Each (MayWrite b s.records first_marks) ws
-  may = each_write b those (MayWrite b s.records first_marks) (λ m i.
+  may : Each (MayWrite b (shape b).records first_marks) ws
+  may = each_write b those (MayWrite b (shape b).records first_marks) (λ m i.
       let j = of_those m i in
       record {
         inside = entry_in m j;
@@ -105,19 +96,19 @@ module _ {b now : List ℕ} {kind : EntryKind} {before : List AttributeShape} {o
         covered = inl (record { typed = entry_typed m j; lies = i; low = omega arith; high = omega arith });
       })
 
-  first : Edit b mid s.records s.records first_marks []
-  first = writes_edit b s.records first_marks ws h.tiled (some_bytes b s h) may
+  first : Edit b mid (shape b).records (shape b).records first_marks []
+  first = writes_edit b (shape b).records first_marks ws sound.has_shape.tiled (some_bytes b (shape b) sound.has_shape) may
 
   abbrev w : WritesChain b now kind before own after those aedr_num
-  w = record { at = at; sub = of_those; late = omega arith; mid = mid; first = first; long = writes_long b s.records first_marks ws h.tiled (some_bytes b s h) may; greatest = q.greatest; written = record { is = q.written } }
+  w = record { at = at; sub = of_those; late = omega arith; mid = mid; first = first; long = writes_long b (shape b).records first_marks ws sound.has_shape.tiled (some_bytes b (shape b) sound.has_shape) may; greatest = q.greatest; written = record { is = q.written } }
 
-  pub edit : Edit b now s.records s.records (falling kind own.adr those) []
+  pub edit : Edit b now (shape b).records (shape b).records (falling kind own.adr those) []
   edit = edit_written sound w
 
   pub as_long : length now ≡ length b
   as_long = as_long_written sound w
 
-  pub rechains : Rechains b now s s.records s.unused (falling kind own.adr those) [] kind before own after chain those those
+  pub rechains : Rechains b now (shape b) (shape b).records (shape b).unused (falling kind own.adr those) [] kind before own after chain those those
   rechains = rechains_written sound w
 
   pub greatest_lowered : (z : ℤ) → FitsSigned w32 z → q.greatest ≡ cast_unsigned w32 z → integer4 now own.adr (max_field kind) ≡ z
@@ -128,7 +119,7 @@ module _ {b now : List ℕ} {kind : EntryKind} {before : List AttributeShape} {o
   means : (m : ℕ) → In m chain → EntryMeans b now m
   means m i =
       let l = long_enough m i in
-      let inside = (tile_lies b 8 (length b) s.records m h.tiled (entry_in m i)).high in
+      let inside = (tile_lies b 8 (length b) (shape b).records m sound.has_shape.tiled (entry_in m i)).high in
       entry_means b now (file_now sound rechains) m (record { sized = size_now sound w m i; head = part_beside sound w m 20 28 i (inl (omega arith)) (omega arith); rest = part_beside sound w m 32 (size_at b m) i (inr (omega arith)) (omega arith); inside = inside }) (member_fits kind sound at m i)
 
   entry_rules : (m : ℕ) → In m chain → Hold (entry_rows b own.adr m)
@@ -138,7 +129,7 @@ module _ {b now : List ℕ} {kind : EntryKind} {before : List AttributeShape} {o
   small m i = leb-true (number b m aedr_num) record_number_limit (entry_rules m i).1.0
 
   says : Each (λ (w : Write). number mid w.tile w.f ≡ w.to) ws
-  says = writes_say b s.records first_marks ws h.tiled (some_bytes b s h) may (subst Distinct (sym (tiles_of b those)) (filter-distinct (λ aedr. nat_lt num (number b aedr aedr_num)) chain (chain_has kind own (own_there kind sound at).have.0).once))
+  says = writes_say b (shape b).records first_marks ws sound.has_shape.tiled (some_bytes b (shape b) sound.has_shape) may (subst Distinct (sym (tiles_of b those)) (filter-distinct (λ aedr. nat_lt num (number b aedr aedr_num)) chain (chain_has kind own (own_there kind sound at).have.0).once))
       (each_write b those (λ (w : Write). w.to < 256 ^ w.f.width) (λ m i. let l = small m (of_those m i) in omega arith))
 
   late_says : (m : ℕ) → In m chain → number now m aedr_num ≡ number mid m aedr_num
@@ -156,7 +147,7 @@ module _ {b now : List ℕ} {kind : EntryKind} {before : List AttributeShape} {o
     | inr le ↦
         let out : In m (written_tiles ws) → ⊥ = λ j. let lt = later_above b num chain m (subst (In m) (tiles_of b those) j) in absurd (omega arith) in
         let l = long_enough m i in
-        late_says m i ∙ others_keep b s.records first_marks ws h.tiled (some_bytes b s h) may m aedr_num (entry_in m i) (λ u. t.in_use (sym (entry_typed m i) ∙ u)) out (omega arith) ∙ sym (rests num (number b m aedr_num) le)
+        late_says m i ∙ others_keep b (shape b).records first_marks ws sound.has_shape.tiled (some_bytes b (shape b) sound.has_shape) may m aedr_num (entry_in m i) (λ u. t.in_use (sym (entry_typed m i) ∙ u)) out (omega arith) ∙ sym (rests num (number b m aedr_num) le)
   ]
 
   pub fell : (m : ℕ) → In m chain → EntryFell b now num m

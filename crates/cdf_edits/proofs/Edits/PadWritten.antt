@@ -1,6 +1,6 @@
 -- A pad value is written in a VDR that has room for it, and the flag that says that there is one.
-use Rattle.std.proofs.Common.{◌≡◌, ◌⊎◌, ℕ, ◌+◌, ◌*◌, ◌/◌, ◌%◌, ◌<◌, ◌≤◌, Bool, List, [], ◌∷◌, length, true, None, Some, refl, sym, ap, subst, ◌∙◌, arith, inl, inr}
-use Rattle.cdf_edits.proofs.Common.{◌==◌, if◌then◌else◌, Kind, R, Z, turned, Same, variable_of, number, name_in, integer4, has_bit, size_at, Field, vdr_flags, vdr_blocking_factor, vdr_name, VariableShape, is_compressed, records_vary, shape, field_bytes, is_little, is_z, dimensions_at, value_bytes, has_pad, pad_field, pad_at, type_of_variable, vdr_end, Good, good_is_sound, of_le, tile_lies, with_bits, SetsPad, Took, Gave, Edit, Mark, mark, Among, touched_field, Each, Changed, type_in, variables_chain}
+use Rattle.std.proofs.Common.{◌≡◌, ℕ, ◌+◌, ◌*◌, ◌/◌, ◌%◌, ◌≤◌, Bool, List, [], ◌∷◌, length, true, None, Some, refl, sym, ap, subst, ◌∙◌, arith, inl, inr}
+use Rattle.cdf_edits.proofs.Common.{◌==◌, if◌then◌else◌, Kind, R, Z, turned, variable_of, number, name_in, integer4, has_bit, size_at, Field, vdr_flags, vdr_blocking_factor, vdr_name, VariableShape, is_compressed, records_vary, shape, field_bytes, is_little, is_z, dimensions_at, value_bytes, has_pad, pad_field, pad_at, type_of_variable, vdr_end, Good, good_is_sound, of_le, tile_lies, with_bits, SetsPad, Took, Gave, Edit, Mark, mark, Among, touched_field, Each, Changed, type_in, variables_chain}
 use Rattle.cdf_edits.proofs.Edits.Common.{EditsVdr, FileSame, MarkTests, StandsAmong, VdrCopied, behind_in, behind_kept, content_copied, file, fits, has, head_size, long, pad_field_copied, pad_long, pad_width, through, tile, type_copied, value_copied}
 use Rattle.cdf_edits.proofs.Edits.VdrFields.{LeavesVdr, fields_blocking, fields_copied, fields_edit, fields_file, fields_head, fields_name, fields_num}
 
@@ -130,31 +130,12 @@ module _ {b now : List ℕ} {kind : Kind} {before : List VariableShape} {own : V
       let fit : vdr_end now v ≤ size_at b v = subst (λ (n : ℕ). n ≤ size_at b v) (sym end_is) w.room in
       record {
         acts_are = sym (ap (λ (p : Bool). if p then [] else Took v (vdr_end now v) ∷ Gave v (size_at b v) ∷ []) (of_le (vdr_end now v) (size_at b v) fit));
-        copied = λ i low up out. w.changed.same (v + i) (inside v i pad.place (value_bytes b v) (size_at b v) (length b) up w.room high) (inl (under v i pad.place up), (moved v i out.0, tt));
+        copied = λ i low up out. w.changed.same (v + i) (let r = w.room in omega arith) (inl (omega arith), (elim out.0 [ inl x ↦ inl (omega arith) | inr x ↦ inr (omega arith) ], tt));
         flags_are = w.flags_are;
-        room = λ within. record { place_stays = refl; size_stays = head_size b now v (fields_head (pad ∷ vdr_flags ∷ []) good at leaves t w.changed w.as_long); rest_stays = rest within high };
+        room = λ within. record {
+          place_stays = refl;
+          size_stays = head_size b now v (fields_head (pad ∷ vdr_flags ∷ []) good at leaves t w.changed w.as_long);
+          rest_stays = record { each = λ i low up. let e = end_is in let k = wide in let late = pad_late in w.changed.same i (omega arith) (inr (omega arith), (inr (omega arith), tt)) };
+        };
         freed = tt;
       }
-    where
-      inside : (v i p w n l : ℕ) → i < p → p + w ≤ n → v + n ≤ l → v + i < l
-      inside v i p w n l a c d = omega arith
-
-      under : (v i p : ℕ) → i < p → v + i < v + p
-      under v i p a = omega arith
-
-      moved : (v i : ℕ) → (i < 44) ⊎ (44 + 4 ≤ i) → (v + i < v + 44) ⊎ (v + 44 + 4 ≤ v + i)
-      moved v i (inl x) = inl (omega arith)
-      moved v i (inr x) = inr (omega arith)
-
-      beyond : (v p k i : ℕ) → v + (p + k) ≤ i → v + p + k ≤ i
-      beyond v p k i l = omega arith
-
-      rest : vdr_end now v ≤ size_at b v → v + size_at b v ≤ length b → Same b now (v + vdr_end now v) (v + size_at b v)
-      rest within high = record {
-        each = λ i low up.
-            let from : v + (pad.place + pad.width) ≤ i = subst (λ (n : ℕ). v + n ≤ i) (end_is ∙ ap (λ (n : ℕ). pad.place + n) (sym wide)) low in
-            w.changed.same i (omega arith) (inr (beyond v pad.place pad.width i from), (inr (late v pad.place pad.width i from pad_late), tt));
-      }
-        where
-          late : (v p k i : ℕ) → v + (p + k) ≤ i → 340 ≤ p → v + 44 + 4 ≤ i
-          late v p k i l q = omega arith

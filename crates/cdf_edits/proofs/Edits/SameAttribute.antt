@@ -51,12 +51,9 @@ module _ {b mid : List ℕ} {k : ℕ} {own : AttributeShape} (good : Good b) (at
   beside_same kind num m i =
       ap₂ (λ (x n : ℕ). beside num x (number mid x aedr_num) n) (entry_same kind m i next_field (omega arith)) (entry_same kind m i aedr_num (omega arith))
       ∙ elim (leads_next b _ (chain_of own kind) (chain_has kind own has).leads m i) [
-        | inl z ↦ ends (next_of b m) (number mid (next_of b m) aedr_num) (number b (next_of b m) aedr_num) z
+        | inl z ↦ rw z refl
         | inr j ↦ ap (λ (n : ℕ). beside num (next_of b m) n (number b m aedr_num)) (entry_same kind (next_of b m) j aedr_num (omega arith))
       ]
-    where
-      ends : (x n n' : ℕ) → x ≡ 0 → beside num x n (number b m aedr_num) ≡ beside num x n' (number b m aedr_num)
-      ends x n n' z = subst (λ (y : ℕ). beside num y n (number b m aedr_num) ≡ beside num y n' (number b m aedr_num)) (sym z) refl
 
   pub chain_same : (kind : EntryKind) {gone : ℕ → Type 0} {fields : ℕ → ℕ → List Field} {falls : ℕ → ℕ} → ((m : ℕ) → In m (chain_of own kind) → falls (number b m aedr_num) ≡ number b m aedr_num) → ChainEdited b mid own own kind gone fields falls
   chain_same kind rests = record {
