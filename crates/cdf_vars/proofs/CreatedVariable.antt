@@ -173,25 +173,15 @@ module _ (b : List ℕ) (kind : Kind) (v : NewVariable) (limit : ℕ) (image : G
 
     -- the new record is owned once more than before
     owners : (m : ℕ) → used_times made m ≡ used_times s m + times m (place ∷ [])
-    owners m = sum _ _ _ (spliced_times s kind records list own [] (bare ∷ []) [] (sym (append-nil own)) m (times m (place ∷ [])) 0 (ap (λ (ms : List ℕ). times m ms + 0) (bare_records place) ∙ swap (times m (place ∷ []))))
-      where
-        sum : (x y n : ℕ) → x + 0 ≡ y + n → x ≡ y + n
-        sum x y n p = omega arith
-
-        swap : (n : ℕ) → n + 0 ≡ 0 + n
-        swap n = omega arith
+    owners m = omega (arith, spliced_times s kind records list own [] (bare ∷ []) [] (sym (append-nil own)) m (times m (place ∷ [])) 0 (ap (λ (ms : List ℕ). times m ms + 0) (bare_records place) ∙ omega arith))
 
     sorted : (m : ℕ) → In m (place ∷ []) → IsSorted now made m
-    sorted m i = subst (IsSorted now made) (sym (the_one place m i)) (inl (used sound w, once _ _ _ (owners place) (unowned sound (fills sound w)) (rw (eq-eqb place place refl) refl)))
-      where
-        once : (x y n : ℕ) → x ≡ y + n → y ≡ 0 → n ≡ 1 → x ≡ 1
-        once x y n p q r = omega arith
+    sorted m i =
+        let one : times place (place ∷ []) ≡ 1 = rw (eq-eqb place place refl) refl in
+        subst (IsSorted now made) (sym (the_one place m i)) (inl (used sound w, omega (arith, owners place, unowned sound (fills sound w))))
 
     beside : (m : ℕ) → (In m (place ∷ []) → ⊥) → used_times made m ≡ used_times s m
-    beside m out = same _ _ _ (owners m) (times-none m (place ∷ []) out)
-      where
-        same : (x y n : ℕ) → x ≡ y + n → n ≡ 0 → x ≡ y
-        same x y n p q = omega arith
+    beside m out = omega (arith, owners m, times-none m (place ∷ []) out)
 
     count_now : number now (gdr_offset now) (count_of (variables_chain kind)) ≡ length (vdrs own) + 1
     count_now =
@@ -255,14 +245,11 @@ module _ (b : List ℕ) (kind : Kind) (v : NewVariable) (limit : ℕ) (image : G
           within = subst (λ (n : ℕ). length now ≤ length b + n) (sym size) longest;
           reads = λ q. absurd (true≢false (sym q ∙ (is_making b kind v dims).makes));
           acts = acts;
-          takes_within = subst (λ (n : ℕ). 0 + (8 + length body) ≤ n) (sym size) (none _ _ long);
+          takes_within = subst (λ (n : ℕ). 0 + (8 + length body) ≤ n) (sym size) (let l = long in omega arith);
           acts_follow = joined_acts sound w _ now_is;
           keeps = subst (λ (a : Allowances). AllKeep b now a acts (owned b s)) (sym (is_making b kind v dims).may_is) keeps;
           does = (is_making b kind v dims).does now acts makes;
         }
-      where
-        none : (n m : ℕ) → n ≡ m → 0 + n ≤ m
-        none n m e = omega arith
 
     -- ---- what is known of the variables
 

@@ -325,28 +325,16 @@ module _ {b : List ℕ} {place : ℕ} {kind : Kind} {v : NewVariable} {num : ℕ
 
     pub ruled : All (λ (byte : ℕ). byte ≢ 0) v.name → (length v.name == 0) ≡ false → IsRuled b records (bare_variable place)
     unfolding nodes_rows leaves_of
-    ruled no_zero some = (rows, tt)
-      where
-        elems_number : number b place vdr_num_elems ≡ v.elems
-        elems_number = new.says.1.1.1.1.1.1.1.1.1.0
-
-        known : is_some (known_type b place vdr_data_type) ≡ true
-        known = ap (λ (n : ℕ). is_some (type_of (cast_signed w32 n))) new.says.0 ∙ ap (λ (o : Option DataType). is_some o) (type_back v.type)
-
-        positive : is_positive (number b place vdr_num_elems) ≡ true
-        positive = subst (λ (n : ℕ). is_positive n ≡ true) (sym elems_number) (and_from _ _ (le-leb 1 v.elems is.some) (le-leb v.elems signed_limit is.elems_fit))
-
-        single : ((number b place vdr_num_elems == 1) || is_characters (notation_of (type_of_variable b place))) ≡ true
-        single = let n = elems_number in let t = type_is in subst (λ (p : Bool). p ≡ true) (λ i. (sym n i == 1) || is_characters (notation_of (sym t i))) is.single
-
-        small : nat_le (record_bytes b place) record_limit ≡ true
-        small = le-leb _ _ (subst (λ (n : ℕ). n ≤ record_limit) (sym bytes_are) is.fits)
-
-        rows : Hold (variable_rows b records [] place)
-        rows =
-            let named = ap (λ (n : List ℕ). not (length n == 0)) (name_is no_zero) ∙ ap not some in
-            let max = ap is_max_rec new.says.1.0 in
-            let rule = ap (λ (n : ℕ). nat_le n 2) new.says.1.1.1.1.1.0 in
-            let link = ap is_no_link new.says.1.1.1.1.1.1.1.1.1.1.1.0 in
-            let none = ap (λ (n : ℕ). n == 0) new.says.1.1.1.1.1.0 in
-            (named, (refl, (known, (and_from _ _ positive single, (own.rule (sym sized), (le-leb _ _ ends, (small, (max, (rule, (rw unpacked link, (rw unpacked refl, rw unpacked (none, tt))))))))))))
+    ruled no_zero some =
+        let elems_number : number b place vdr_num_elems ≡ v.elems = new.says.1.1.1.1.1.1.1.1.1.0 in
+        let type = type_is in
+        let known : is_some (known_type b place vdr_data_type) ≡ true = ap (λ (n : ℕ). is_some (type_of (cast_signed w32 n))) new.says.0 ∙ ap (λ (o : Option DataType). is_some o) (type_back v.type) in
+        let positive : is_positive (number b place vdr_num_elems) ≡ true = subst (λ (n : ℕ). is_positive n ≡ true) (sym elems_number) (and_from _ _ (le-leb 1 v.elems is.some) (le-leb v.elems signed_limit is.elems_fit)) in
+        let single : ((number b place vdr_num_elems == 1) || is_characters (notation_of (type_of_variable b place))) ≡ true = subst (λ (p : Bool). p ≡ true) (λ i. (sym elems_number i == 1) || is_characters (notation_of (sym type i))) is.single in
+        let small : nat_le (record_bytes b place) record_limit ≡ true = le-leb _ _ (subst (λ (n : ℕ). n ≤ record_limit) (sym bytes_are) is.fits) in
+        let named = ap (λ (n : List ℕ). not (length n == 0)) (name_is no_zero) ∙ ap not some in
+        let max = ap is_max_rec new.says.1.0 in
+        let rule = ap (λ (n : ℕ). nat_le n 2) new.says.1.1.1.1.1.0 in
+        let link = ap is_no_link new.says.1.1.1.1.1.1.1.1.1.1.1.0 in
+        let none = ap (λ (n : ℕ). n == 0) new.says.1.1.1.1.1.0 in
+        ((named, (refl, (known, (and_from _ _ positive single, (own.rule (sym sized), (le-leb _ _ ends, (small, (max, (rule, (rw unpacked link, (rw unpacked refl, rw unpacked (none, tt)))))))))))), tt)

@@ -65,10 +65,8 @@ module _ (limit : ℕ) (b mid : List ℕ) (code : ℕ) (majority : Majority) (di
 pub fits_gdr : (b : List ℕ) (g n : ℕ) → Good b → g ≡ gdr_offset b → 84 + 4 * n ≤ size_at b (gdr_offset b) → g + 84 + 4 * n ≤ length b
 fits_gdr b g n good is room =
     let h = (good_is_sound b good).has_shape in
-    reach g (size_at b (gdr_offset b)) (length b) n (subst (λ (x : ℕ). x + size_at b (gdr_offset b) ≤ length b) (sym is) (subst (λ (x : ℕ). x + size_at b x ≤ length b) (sym h.gdr_is) (tile_lies b 8 (length b) (shape b).records (shape b).gdr h.tiled (gdr_in b (shape b) h)).high)) room
-  where
-    reach : (g k l n : ℕ) → g + k ≤ l → 84 + 4 * n ≤ k → g + 84 + 4 * n ≤ l
-    reach g k l n p q = omega arith
+    let lies : gdr_offset b + size_at b (gdr_offset b) ≤ length b = subst (λ (x : ℕ). x + size_at b x ≤ length b) (sym h.gdr_is) (tile_lies b 8 (length b) (shape b).records (shape b).gdr h.tiled (gdr_in b (shape b) h)).high in
+    omega arith
 
 -- a record that was taken lies in the image
 pub taken_lies : {b taken : List ℕ} {need place : ℕ} → Takes b taken (shape b) (shape taken) need place → IsSound taken (shape taken) → place + need ≤ length taken

@@ -139,12 +139,9 @@ module _ {x y records list : List ℕ} {old g code bits : ℕ} {dims : List ℕ}
         count_is = count_is;
         sizes_are =
             ap (words y (g + 84)) dims_counted
-            ∙ words_kept w.mid y (g + 84) (g + (84 + 4 * n)) kept (g + 84) n (omega arith) (up g n)
+            ∙ words_kept w.mid y (g + 84) (g + (84 + 4 * n)) kept (g + 84) n (omega arith) (omega arith)
             ∙ (words_laid_out w.mid (g + 84) dims (drop (g + 84 + length bytes) one) there (sizes_small dims (fine_sizes dims fine).1)).0;
       }
-    where
-      up : (g n : ℕ) → g + 84 + 4 * n ≤ g + (84 + 4 * n)
-      up g n = omega arith
 
   -- another field of the GDR
   pub gdr_still : (f : Field) → is_beside f.place (f.place + f.width) ≡ true → number y g f ≡ number x g f
@@ -446,14 +443,13 @@ module _ (b dims : List ℕ) (good : Good b) (empty : is_empty_set (content b) �
     copied_field f low high =
         let l = place_ends in
         let p = piece_long in
+        let from : place + f.place ≡ place + 8 + (f.place - 8) = omega arith in
+        let to : old + 8 + (f.place - 8) ≡ old + f.place = omega arith in
         ap (λ (x : List ℕ). number x place f) m.copy
-        ∙ ap (λ (p : ℕ). word (put m.taken (place + 8) piece) p f.width) (move place)
+        ∙ ap (λ (p : ℕ). word (put m.taken (place + 8) piece) p f.width) from
         ∙ word-put_inside m.taken piece (place + 8) (f.place - 8) f.width (omega arith) (omega arith)
         ∙ word-piece m.taken (old + 8) (f.place - 8) f.width 76 (omega arith)
-        ∙ ap (λ (p : ℕ). word m.taken p f.width) (sym (move old))
-      where
-        move : (p : ℕ) → p + f.place ≡ p + 8 + (f.place - 8)
-        move p = omega arith
+        ∙ ap (λ (p : ℕ). word m.taken p f.width) to
 
     fills : Fills b m.taken m.copied s records list need place gdr_type
     fills =
@@ -464,7 +460,7 @@ module _ (b dims : List ℕ) (good : Good b) (empty : is_empty_set (content b) �
           takes = is_taken.0;
           sound = is_taken.1;
           content_stays = is_taken.2;
-          fill = record { longer = omega arith; same = λ i lt out. ap (λ (x : List ℕ). byte x i) m.copy ∙ change.same i lt (elim out.0 [ inl low ↦ inl low | inr high ↦ inr (beside i high) ], tt) };
+          fill = record { longer = omega arith; same = λ i lt out. ap (λ (x : List ℕ). byte x i) m.copy ∙ change.same i lt (elim out.0 [ inl low ↦ inl low | inr high ↦ inr (omega arith) ], tt) };
           long = long;
           typed = copied_field record_type (omega arith) (omega arith) ∙ taken_old.typed;
           real = refl;
@@ -472,9 +468,6 @@ module _ (b dims : List ℕ) (good : Good b) (empty : is_empty_set (content b) �
           fixed = omega arith;
           enough = omega arith;
         }
-      where
-        beside : (i : ℕ) → place + 8 + (need - 8) ≤ i → place + 8 + 76 ≤ i
-        beside i h = omega arith
 
     copied_shape : HasShape m.copied (empty_shape records old list)
     copied_shape = subst (λ (x : Shape). HasShape m.copied (with_space x records list)) before_is (filled_sound sound fills).has_shape
