@@ -93,11 +93,6 @@ module _ {b : List ℕ} (good : Good b) (k : ℕ) (own : AttributeShape) (kind :
 
 -- ---- both halves
 
--- what was taken out of the chain of an attribute of variables, by its ADR
-record Taken (b : List ℕ) (k : ℕ) (own : AttributeShape) (kind : EntryKind) (num : ℕ) (mid : List ℕ) : Type 0 where
-  pub own' : AttributeShape
-  pub half : TakesHalf b k own kind num mid own'
-
 module _ {b mid : List ℕ} {kind : EntryKind} {adr num : ℕ} {es : KnownEntries} (good : Good b) (has : IsScoped b kind adr) (is : es.chain ≡ entries_chain kind adr) (knows : KnowsEntries b es) (short : length b ≤ image_limit) where
   taken_some : (i : ℕ) → position (λ n. n == num) es.numbers ≡ Some i → TakenAt b mid kind adr es i → TakesHalf b has.number has.own kind num mid (with_chain has.own kind (left_of (slice_index es.places i) (chain_of has.own kind)))
   taken_some i at taken =
@@ -107,13 +102,10 @@ module _ {b mid : List ℕ} {kind : EntryKind} {adr num : ℕ} {es : KnownEntrie
       (step.taken_half good (deleted.q good of es is knows num i at here short) here.removed.gives num (deleted.of_old good of es is knows num i at) (deleted.counts good of es is knows num i at here short) short (deleted.long good of es is knows num i at here short)
       (deleted.greatest good of es is knows num i at here short ∙ ap (λ (x : List (ℕ × Entry)). greatest_number (without num num x)) (sym (items_of b has.own kind))))
 
-  taken : {left : KnownEntries} → DropsNumber b mid kind adr es num left → Taken b has.number has.own kind num mid
+  taken : {left : KnownEntries} → DropsNumber b mid kind adr es num left → (own' : AttributeShape) × TakesHalf b has.number has.own kind num mid own'
   taken drops = elim drops [
-    | inl none ↦ record {
-      own' = has.own;
-      half = subst (λ (x : List ℕ). TakesHalf b has.number has.own kind num x has.own) (sym none.stays) (takes_none good has.number has.own kind has.stands es (is ∙ ap (entries_chain kind) (sym has.adr_is)) knows num (none_in num es.numbers none.none));
-    }
-    | inr takes ↦ record { own' = _; half = taken_some takes.index takes.at takes.taken }
+    | inl none ↦ (has.own, subst (λ (x : List ℕ). TakesHalf b has.number has.own kind num x has.own) (sym none.stays) (takes_none good has.number has.own kind has.stands es (is ∙ ap (entries_chain kind) (sym has.adr_is)) knows num (none_in num es.numbers none.none)))
+    | inr takes ↦ (_, taken_some takes.index takes.at takes.taken)
   ]
 
 -- an attribute of variables dropped its entry for one
@@ -122,8 +114,8 @@ dropped {b} {now} found {adr} good short has scope from =
     let kind = kind_of_entries found.kind in
     let first = taken good has from.chain_is from.known short from.drops in
     let long = (keeps_taken good has from.chain_is from.known short from.drops).long in
-    let at_adr : adr ≡ first.own'.adr = sym (first.half.edited.chain.adr_is ∙ has.adr_is) in
+    let at_adr : adr ≡ first.0.adr = sym (first.1.edited.chain.adr_is ∙ has.adr_is) in
     let left_is = subst (λ (x : ℕ). from.left.chain ≡ entries_chain kind x) at_adr (chain_left from.chain_is from.drops) in
     let none = number_gone (numbers_differ good (record { number = has.number; own = has.own; stands = has.stands; kind = kind; chain_is = ap (entries_chain kind) (sym has.adr_is) }) from.entries from.chain_is from.known) from.drops in
-    let second = lowers from.good has.number first.own' kind first.half.edited.there from.left left_is from.left_known found.number none (omega arith) (subst (λ (x : ℕ). Lowers from.mid now kind x from.left found.number) at_adr from.lowers) in
-    drops_one found good scope first.half second
+    let second = lowers from.good has.number first.0 kind first.1.edited.there from.left left_is from.left_known found.number none (omega arith) (subst (λ (x : ℕ). Lowers from.mid now kind x from.left found.number) at_adr from.lowers) in
+    drops_one found good scope first.1 second

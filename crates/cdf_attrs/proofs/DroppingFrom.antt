@@ -103,39 +103,23 @@ pub record Dropping (b mid : List ℕ) (kind : Kind) (k : EntryKind) (adr num : 
 module _ {b read loaded mid : List ℕ} (kind : Kind) {k : EntryKind} {adr num : ℕ} {chain : Chain} {scope : Scope} {entries left : KnownEntries} (good : Good b) (there : In adr (adrs (shape b))) (short : length b ≤ image_limit)
     (same : read ≡ b) (scope_is : scope ≡ scope_of (number b adr adr_scope)) (own : is_global scope ≡ false) (k_is : k ≡ kind_of_entries kind) (chain_is : chain ≡ entries_chain k adr)
     (same_loaded : loaded ≡ read) (is : entries.chain ≡ chain) (knows : KnowsEntries read entries) (drops : DropsNumber loaded mid k adr entries num left) (good_mid : Good mid) (left_knows : KnowsEntries mid left) where
-  of_kind : IsScoped b k adr
-  of_kind = subst (λ (x : EntryKind). IsScoped b x adr) (sym k_is) (scoped b adr there kind (subst (λ (s : Scope). is_global s ≡ false) scope_is own))
-
-  of_chain : entries.chain ≡ entries_chain k adr
-  of_chain = is ∙ chain_is
-
-  known : KnowsEntries b entries
-  known = subst (λ (x : List ℕ). KnowsEntries x entries) same knows
-
-  dropped : DropsNumber b mid k adr entries num left
-  dropped = subst (λ (x : List ℕ). DropsNumber x mid k adr entries num left) (same_loaded ∙ same) drops
-
-  taken : KeepsAttributes b mid
-  taken = keeps_taken good of_kind of_chain known short dropped
-
-  there_mid : In adr (adrs (shape mid))
-  there_mid = subst (In adr) (sym taken.places) there
-
-  left_is : left.chain ≡ entries_chain k adr
-  left_is = chain_left of_chain dropped
-
-  none_left : In num left.numbers → ⊥
-  none_left = number_gone (numbers_differ good (of_attribute b adr there k) entries of_chain known) dropped
-
   pub dropping : Dropping b mid kind k adr num left
-  dropping = record {
-    long = as_long good_mid (of_attribute mid adr there_mid k) left left_is left_knows;
-    small = numbers_small good_mid k adr there_mid left left_is left_knows;
-    lie = entries_lie good_mid k adr there_mid left left_is left_knows num;
-    field = greatest_lies good_mid k adr there_mid left left_is left_knows;
-    drops = λ now lowers own. subst (λ (x : EntryKind). DropsFrom b now x adr num) k_is (record { entries = entries; chain_is = of_chain; known = known; mid = mid; left = left; drops = dropped; good = good_mid; left_known = left_knows; lowers = lowers });
-    keeps = λ now lowers.
-        let long = taken.long in
-        let r = lowered good_mid there_mid left left_is left_knows (omega arith) none_left lowers in
-        (r.0, record { names = r.1.names ∙ taken.names; places = r.1.places ∙ taken.places; long = r.1.long ∙ taken.long });
-  }
+  dropping =
+      let of_kind = subst (λ (x : EntryKind). IsScoped b x adr) (sym k_is) (scoped b adr there kind (subst (λ (s : Scope). is_global s ≡ false) scope_is own)) in
+      let of_chain = is ∙ chain_is in
+      let known = subst (λ (x : List ℕ). KnowsEntries x entries) same knows in
+      let dropped = subst (λ (x : List ℕ). DropsNumber x mid k adr entries num left) (same_loaded ∙ same) drops in
+      let taken = keeps_taken good of_kind of_chain known short dropped in
+      let there_mid = subst (In adr) (sym taken.places) there in
+      let left_is = chain_left of_chain dropped in
+      record {
+        long = as_long good_mid (of_attribute mid adr there_mid k) left left_is left_knows;
+        small = numbers_small good_mid k adr there_mid left left_is left_knows;
+        lie = entries_lie good_mid k adr there_mid left left_is left_knows num;
+        field = greatest_lies good_mid k adr there_mid left left_is left_knows;
+        drops = λ now lowers own. subst (λ (x : EntryKind). DropsFrom b now x adr num) k_is (record { entries = entries; chain_is = of_chain; known = known; mid = mid; left = left; drops = dropped; good = good_mid; left_known = left_knows; lowers = lowers });
+        keeps = λ now lowers.
+            let long = taken.long in
+            let r = lowered good_mid there_mid left left_is left_knows (omega arith) (number_gone (numbers_differ good (of_attribute b adr there k) entries of_chain known) dropped) lowers in
+            (r.0, record { names = r.1.names ∙ taken.names; places = r.1.places ∙ taken.places; long = r.1.long ∙ taken.long });
+      }

@@ -38,14 +38,11 @@ or_true true = refl
 or_true false = refl
 
 -- bytes of the fixed part of a GDR, but for rNumDims
-abbrev pub is_beside : ℕ → ℕ → Bool
-is_beside lo hi = (nat_le 60 lo || nat_le hi 56) && nat_le hi 84
+abbrev pub IsBeside : ℕ → ℕ → Type 0
+IsBeside lo hi = ((nat_le 60 lo || nat_le hi 56) ≡ true) × (hi ≤ 84)
 
-beside_high : (f : Field) → is_beside f.place (f.place + f.width) ≡ true → f.place + f.width ≤ 84
-beside_high f e = leb-true (f.place + f.width) 84 (both (nat_le 60 f.place || nat_le (f.place + f.width) 56) (nat_le (f.place + f.width) 84) e).1
-
-pub heads_avoided : (gdr n lo hi : ℕ) → is_beside lo hi ≡ true → avoided (heads_marks gdr n) gdr_type lo hi ≡ true
-heads_avoided gdr n lo hi e = let p = both (nat_le 60 lo || nat_le hi 56) (nat_le hi 84) e in rw (p.0, p.1, or_true) refl
+pub heads_avoided : (gdr n lo hi : ℕ) → IsBeside lo hi → avoided (heads_marks gdr n) gdr_type lo hi ≡ true
+heads_avoided gdr n lo hi e = rw (e.0, le-leb hi 84 e.1, or_true) refl
 
 -- what the CDR and the GDR at a place say then
 pub record HeadsSay (now : List ℕ) (gdr code bits : ℕ) (dims : List ℕ) : Type 0 where
@@ -144,10 +141,10 @@ module _ {x y records list : List ℕ} {old g code bits : ℕ} {dims : List ℕ}
       }
 
   -- another field of the GDR
-  pub gdr_still : (f : Field) → is_beside f.place (f.place + f.width) ≡ true → number y g f ≡ number x g f
+  pub gdr_still : (f : Field) → IsBeside f.place (f.place + f.width) → number y g f ≡ number x g f
   gdr_still f beside =
-      let high = beside_high f beside in
-      still_says heads_edit is (heads_avoided g n 0 12 refl) f (heads_avoided g n f.place (f.place + f.width) beside) (omega arith)
+      let high = beside.1 in
+      still_says heads_edit is (heads_avoided g n 0 12 (refl, omega arith)) f (heads_avoided g n f.place (f.place + f.width) beside) (omega arith)
 
   -- ---- the shape
 
@@ -172,10 +169,10 @@ module _ {x y records list : List ℕ} {old g code bits : ℕ} {dims : List ℕ}
     cdr_stands = is_a-from y records cdr_type 8 cdr.inside (types 8 cdr.inside ∙ cdr.typed);
     gdr_is = still_says (edit_then w4.edit w5.edit) w3.stands refl cdr_gdr_offset refl (omega arith) ∙ w3.says;
     gdr_stands = is_a-from y records gdr_type g is.inside (types g is.inside ∙ is.typed);
-    attribute_chain = no_chain _ _ (gdr_still gdr_adr_head refl ∙ same gdr_adr_head (omega arith) (omega arith) ∙ h.attribute_chain.leads);
-    r_chain = no_chain _ _ (gdr_still gdr_r_vdr_head refl ∙ same gdr_r_vdr_head (omega arith) (omega arith) ∙ h.r_chain.leads);
-    z_chain = no_chain _ _ (gdr_still gdr_z_vdr_head refl ∙ same gdr_z_vdr_head (omega arith) (omega arith) ∙ h.z_chain.leads);
-    unused_chain = chain_clear heads_edit uir_type _ _ list h.unused_chain (gdr_still gdr_uir_head refl ∙ same gdr_uir_head (omega arith) (omega arith)) refl;
+    attribute_chain = no_chain _ _ (gdr_still gdr_adr_head (refl, omega arith) ∙ same gdr_adr_head (omega arith) (omega arith) ∙ h.attribute_chain.leads);
+    r_chain = no_chain _ _ (gdr_still gdr_r_vdr_head (refl, omega arith) ∙ same gdr_r_vdr_head (omega arith) (omega arith) ∙ h.r_chain.leads);
+    z_chain = no_chain _ _ (gdr_still gdr_z_vdr_head (refl, omega arith) ∙ same gdr_z_vdr_head (omega arith) (omega arith) ∙ h.z_chain.leads);
+    unused_chain = chain_clear heads_edit uir_type _ _ list h.unused_chain (gdr_still gdr_uir_head (refl, omega arith) ∙ same gdr_uir_head (omega arith) (omega arith)) refl;
     entry_chains = tt;
     have_variables = tt;
   }
@@ -223,7 +220,7 @@ bits_stay n m =
 
 -- fields of a GDR that stay: not those of the dimensions, and not those of the space
 abbrev IsCopied : Field → Type 0
-IsCopied f = (is_beside f.place (f.place + f.width) ≡ true) × ((nat_le 44 f.place || nat_le (f.place + f.width) 36) ≡ true) × ((nat_le 72 f.place || nat_le (f.place + f.width) 64) ≡ true) × (nat_le 12 f.place ≡ true)
+IsCopied f = IsBeside f.place (f.place + f.width) × ((nat_le 44 f.place || nat_le (f.place + f.width) 36) ≡ true) × ((nat_le 72 f.place || nat_le (f.place + f.width) 64) ≡ true) × (nat_le 12 f.place ≡ true)
 
 -- The CDR and the GDR say what they have to, no other record is in use, and the unused ones and the space are as these acts leave them.
 record IsSetUp (b now records list : List ℕ) (gdr code bits : ℕ) (majority : Majority) (dims : List ℕ) (marks : List Mark) (reborn : List ℕ) (acts : List Act) : Type 0 where
@@ -317,7 +314,7 @@ module _ (b dims : List ℕ) (good : Good b) (empty : is_empty_set (content b) �
     good_now = record {
       has_shape = is.sound.has_shape;
       read_types = read_now is.edit image.read_types (λ m i. (is.anew m i).1);
-      counting = (none_counted gdr_num_attr (refl, refl, refl, refl) image.counting.0, (none_counted gdr_nr_vars (refl, refl, refl, refl) image.counting.1.0, (none_counted gdr_nz_vars (refl, refl, refl, refl) image.counting.1.1.0, tt)));
+      counting = (none_counted gdr_num_attr ((refl, omega arith), refl, refl, refl) image.counting.0, (none_counted gdr_nr_vars ((refl, omega arith), refl, refl, refl) image.counting.1.0, (none_counted gdr_nz_vars ((refl, omega arith), refl, refl, refl) image.counting.1.1.0, tt)));
       attributes = tt;
       of_variables = tt;
       indexes = tt;
@@ -342,7 +339,7 @@ module _ (b dims : List ℕ) (good : Good b) (empty : is_empty_set (content b) �
           does = record {
             acts_are = is.acts_are;
             flags_are = is.flags_now ∙ bits_are;
-            fields_stay = (moved gdr_r_max_rec (refl, refl, refl, refl), (moved gdr_rfu_c (refl, refl, refl, refl), (moved gdr_leap_second_last_updated (refl, refl, refl, refl), (moved gdr_rfu_e (refl, refl, refl, refl), tt))));
+            fields_stay = (moved gdr_r_max_rec ((refl, omega arith), refl, refl, refl), (moved gdr_rfu_c ((refl, omega arith), refl, refl, refl), (moved gdr_leap_second_last_updated ((refl, omega arith), refl, refl, refl), (moved gdr_rfu_e ((refl, omega arith), refl, refl, refl), tt))));
             room = is.room;
             freed = is.freed;
             emptied = is.emptied;
@@ -389,7 +386,7 @@ module _ (b dims : List ℕ) (good : Good b) (empty : is_empty_set (content b) �
       flags_now = (heads_say bare.has_shape fine gdr here).flags_are;
       count_now = (heads_say bare.has_shape fine gdr here).count_is;
       stays = λ f copied. gdr_still bare.has_shape fine gdr here f copied.0;
-      end = gdr_still bare.has_shape fine gdr here gdr_eof refl ∙ good_eof b good ∙ sym same_long;
+      end = gdr_still bare.has_shape fine gdr here gdr_eof (refl, omega arith) ∙ good_eof b good ∙ sym same_long;
       longest = omega (arith, same_long);
       as_owned = λ m out. refl;
       anew = λ m i. absurd i;
@@ -401,7 +398,7 @@ module _ (b dims : List ℕ) (good : Good b) (empty : is_empty_set (content b) �
       room = λ le. record {
         place_stays = shape_now.gdr_is;
         size_stays = heads_sizes bare.has_shape fine gdr here old gdr_before.inside;
-        rest_stays = e.part old gdr_type need (size_at b old) gdr_before.inside gdr_before.typed (avoided-avoids in_place gdr_type old 0 12 (heads_avoided old (length dims) 0 12 refl)) behind_dims (omega arith);
+        rest_stays = e.part old gdr_type need (size_at b old) gdr_before.inside gdr_before.typed (avoided-avoids in_place gdr_type old 0 12 (heads_avoided old (length dims) 0 12 (refl, omega arith))) behind_dims (omega arith);
       };
       freed = tt;
       emptied = λ moves. absurd (moves shape_now.gdr_is);
@@ -530,14 +527,14 @@ module _ (b dims : List ℕ) (good : Good b) (empty : is_empty_set (content b) �
     -- what it has of the old one
     new_says : (f : Field) → IsCopied f → number late place f ≡ number b old f
     new_says f copied =
-        let high = beside_high f copied.0 in
+        let high = copied.0.1 in
         let low = leb-true 12 f.place copied.3 in
         gdr_still copied_shape fine new m.heads f copied.0 ∙ copied_field f (omega arith) high ∙ sym (old_says f high) ∙ still_says (filled_edit sound fills) gdr_before refl f (rw (copied.1, copied.2) refl) high
 
     -- ---- the old one
 
     late_old : Stands late records old gdr_type 84
-    late_old = still_stands later copied_old (heads_avoided place (length dims) 0 12 refl) (omega arith)
+    late_old = still_stands later copied_old (heads_avoided place (length dims) 0 12 (refl, omega arith)) (omega arith)
 
     -- it changed in its fields of the space alone
     old_stays : Stays b late old space_fields
@@ -545,7 +542,7 @@ module _ (b dims : List ℕ) (good : Good b) (empty : is_empty_set (content b) �
         let no = λ (lies : In old (place ∷ [])). place_not_old (the_one place old lies) in
         let other = λ (q : gdr_type ≡ cdr_type). apart gdr_type cdr_type refl q in
         let heads : Within late_marks gdr_type old space_fields = ((λ q lies. absurd (no lies)), ((λ q lies. absurd (no lies)), ((λ q lies. absurd (other q)), ((λ q lies. absurd (other q)), ((λ q lies. absurd (other q)), tt))))) in
-        keeps_within sound made late_records old gdr_type space_fields gdr_before.inside gdr_before.typed (Avoids-append (placing_marks (shape b).unused place need) late_marks gdr_type old 0 12 (avoided-avoids (placing_marks (shape b).unused place need) gdr_type old 0 12 refl) (avoided-avoids late_marks gdr_type old 0 12 (heads_avoided place (length dims) 0 12 refl)))
+        keeps_within sound made late_records old gdr_type space_fields gdr_before.inside gdr_before.typed (Avoids-append (placing_marks (shape b).unused place need) late_marks gdr_type old 0 12 (avoided-avoids (placing_marks (shape b).unused place need) gdr_type old 0 12 refl) (avoided-avoids late_marks gdr_type old 0 12 (heads_avoided place (length dims) 0 12 (refl, omega arith))))
         (Within-append (placing_marks (shape b).unused place need) late_marks gdr_type old space_fields (within-within (placing_marks (shape b).unused place need) gdr_type old space_fields refl) heads)
 
     -- what a call asks for that frees it
@@ -651,8 +648,8 @@ module _ (b dims : List ℕ) (good : Good b) (empty : is_empty_set (content b) �
         flags_now = still_says given (stands_fixed late_shape cdr_type 8 late_shape.cdr_stands) refl cdr_flags refl (omega arith) ∙ (heads_say copied_shape fine new m.heads).flags_are;
         count_now = place_now gdr_r_num_dims refl (omega arith) ∙ (heads_say copied_shape fine new m.heads).count_is;
         stays = λ f copied.
-            place_now f copied.2 (beside_high f copied.0) ∙ new_says f copied;
-        end = place_now gdr_eof refl (omega arith) ∙ gdr_still copied_shape fine new m.heads gdr_eof refl ∙ copied_field gdr_eof (omega arith) (omega arith) ∙ ap (eof m.taken) (sym at) ∙ is_taken.0.eof_is ∙ sym (gives.length_is ∙ as_long ∙ fills.long);
+            place_now f copied.2 copied.0.1 ∙ new_says f copied;
+        end = place_now gdr_eof refl (omega arith) ∙ gdr_still copied_shape fine new m.heads gdr_eof (refl, omega arith) ∙ copied_field gdr_eof (omega arith) (omega arith) ∙ ap (eof m.taken) (sym at) ∙ is_taken.0.eof_is ∙ sym (gives.length_is ∙ as_long ∙ fills.long);
         longest = let l = shorter sound fills later as_long lately in let a = gives.length_is in omega arith;
         as_owned = λ k out. as_many old place k (λ q. out (inr (inl q))) (λ q. out (inl q));
         anew = λ k i. elim i [
