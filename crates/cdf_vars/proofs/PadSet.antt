@@ -5,7 +5,8 @@ use Rattle.std.proofs.lemmas.List.{get_or-drop, get_or-take, get_or_append_left,
 use Rattle.cdf_edits.proofs.Common.{Anything, Exchanged, SetsPad, cases_lt, is_in-true, length-bytes_high_first, put, set_pad_changes, vdrs_append}
 use Rattle.cdf_fields.proofs.Writes.{word-put_number, word-put_outside}
 use Rattle.cdf_format.proofs.BytesLemmas.{byte-put_before, byte-put_inside, byte-put_after}
-use Rattle.cdf_edits.proofs.Edits.Common.{Copied, Cut, VdrCopied, fits, leads_rest, pad_long, pad_width, same_link, word_copied}
+use Rattle.cdf_edits.proofs.Edits.Common.{Copied, VdrCopied, fits, leads_rest, pad_long, pad_width, same_link, word_copied}
+use Rattle.cdf_edits.proofs.Commands.ListParts.{AtNumber, at_number}
 use Rattle.std.specs.Prelude.{slice_index}
 use Rattle.cdf_edits.proofs.Edits.JoinedVdr.{behind_link, file, is_vdr_body, joined_type}
 use Rattle.cdf_edits.proofs.Edits.MovedVdr.{CopiesVdr, MovesVdr, chain_late, members, old_free, old_in, sound_late, own'}
@@ -274,26 +275,16 @@ module _ {b body : List ℕ} {kind : Kind} {old : ℕ} (good : Good b) (vdr : Is
 -- ---- at an index of the places of its kind
 
 -- those before it
-before_own : (vs : List VariableShape) (own : VariableShape) (after : List VariableShape) → Distinct (vdrs (vs ++ own ∷ after)) → take (length vs) (vdrs (vs ++ own ∷ after)) ≡ before own.vdr (vdrs (vs ++ own ∷ after))
+before_own : (vs : List VariableShape) (own : VariableShape) (after : List VariableShape) → Distinct (vdrs (vs ++ own ∷ after)) → vdrs vs ≡ before own.vdr (vdrs (vs ++ own ∷ after))
 before_own [] own after d = rw (eq-eqb own.vdr own.vdr refl) refl
 before_own (v ∷ vs) own after d = rw (ne_eqb v.vdr own.vdr (λ e. d.0 (subst (λ (x : ℕ). In x (vdrs (vs ++ own ∷ after))) (sym e) (in_middle vs own after)))) (ap (λ (r : List ℕ). v.vdr ∷ r) (before_own vs own after d.1))
 
-index_middle : (vs : List VariableShape) (own : VariableShape) (after : List VariableShape) → slice_index (vdrs (vs ++ own ∷ after)) (length vs) ≡ own.vdr
-index_middle [] own after = refl
-index_middle (v ∷ vs) own after = index_middle vs own after
-
 module _ (b : List ℕ) (kind : Kind) {places : List ℕ} {num vdr : ℕ} (good : Good b) (are : places ≡ vdrs (shapes_of (shape b) kind)) (within : num < length places) (is : vdr ≡ slice_index places num) where
-  abbrev vs : List VariableShape
-  vs = shapes_of (shape b) kind
-
-  there : Cut vs num
-  there = cut vs num (subst (λ (k : ℕ). num < k) (ap (λ (xs : List ℕ). length xs) are ∙ length-map vs (λ (v : VariableShape). v.vdr)) within)
-
-  all_are : places ≡ vdrs (there.before ++ there.own ∷ there.after)
-  all_are = are ∙ ap vdrs there.is
+  there : AtNumber (λ (v : VariableShape). v.vdr) (shapes_of (shape b) kind) places num
+  there = at_number (λ (v : VariableShape). v.vdr) (shapes_of (shape b) kind) places are num within
 
   vdr_is : there.own.vdr ≡ vdr
-  vdr_is = sym (index_middle there.before there.own there.after) ∙ (λ i. slice_index (sym all_are i) (there.count i)) ∙ sym is
+  vdr_is = sym there.own_at ∙ sym is
 
   pub is_vdr : IsVdr b kind vdr
   is_vdr = record { before = there.before; own = there.own; after = there.after; was = there.is ∙ ap (λ (k : ℕ). there.before ++ record there.own { vdr = k } ∷ there.after) vdr_is }
@@ -303,7 +294,7 @@ module _ (b : List ℕ) (kind : Kind) {places : List ℕ} {num vdr : ℕ} (good 
       let h = (good_is_sound b good).has_shape in
       let members : members_of b (variables_chain kind) ≡ vdrs (there.before ++ there.own ∷ there.after) = variable_members b (shape b) h kind ∙ ap vdrs there.is in
       let front = before_own there.before there.own there.after (subst Distinct members (has_variable_chain b (shape b) h kind).once) in
-      ap (last_or None) ((λ i. take (sym there.count i) (all_are i)) ∙ front ∙ (λ i. before (vdr_is i) (sym members i)))
+      ap (last_or None) (there.front_at ∙ front ∙ (λ i. before (vdr_is i) (sym members i)))
 
   module _ {p : PadPlace} (place : IsPlace b vdr p) where
     pub place_late : 340 ≤ p.at
