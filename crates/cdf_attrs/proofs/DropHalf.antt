@@ -1,17 +1,16 @@
 -- Both halves of what an attribute of variables drops, from what was written.
 use Rattle.std.proofs.Common.{◌≡◌, ℕ, ◌<◌, ◌≤◌, List, [], ◌++◌, length, Some, false, refl, sym, ap, subst, ◌∙◌, append-nil, arith, inl, inr}
-use Rattle.cdf_attrs.proofs.Common.{position, slice_get, ◌==◌, slice_index, entries_of, is_global, with_entries, Attribute, Entry, image_limit, Found, closed_up, without, EntryKind, attribute_of, number, aedr_num, AttributeShape, shape, In, Good, good_is_sound, chain_of, greatest_number, kind_of_entries, entries_chain, gave, ActsFollow, nums, chain_in, LowersHalf, TakesHalf, numbered, DropsOne, items_of, stands_same, DropsFrom, DropsNumber, IsScoped, Lowers, LowersNumbers, IsOfAttribute, KnownEntries, KnowsEntries, TakenAt, with_chain}
+use Rattle.cdf_attrs.proofs.Common.{position, slice_get, ◌==◌, slice_index, entries_of, is_global, with_entries, Attribute, Entry, image_limit, Found, closed_up, without, EntryKind, attribute_of, number, Field, aedr_num, AttributeShape, shape, In, Good, good_is_sound, chain_of, greatest_number, kind_of_entries, entries_chain, gave, ActsFollow, nums, chain_in, LowersHalf, TakesHalf, numbered, DropsOne, items_of, stands_same, DropsFrom, DropsNumber, IsScoped, Lowers, LowersNumbers, IsOfAttribute, KnownEntries, KnowsEntries, TakenAt, with_chain}
 use Rattle.cdf_model.specs.declared.kinds.EntryKind.TheVariants as entries
 use Rattle.cdf_edits.specs.Space.Chains.{without as left_of}
 use Rattle.cdf_edits.proofs.Edits.ChainEdited.{AttributeEdited}
 use Rattle.cdf_edits.proofs.Edits.ChainEntries.{none_numbered as without_none, num_in}
-use Rattle.cdf_edits.proofs.Edits.ChainKinds.{other_in}
 use Rattle.cdf_edits.proofs.Edits.EntryTakenStep as step
 use Rattle.cdf_edits.proofs.Edits.FallenItems.{entries_closed, rests}
 use Rattle.cdf_edits.proofs.Edits.NumberedRecords.{none_numbered}
 use Rattle.cdf_edits.proofs.Edits.NumbersFallStep.{lowers_half}
-use Rattle.cdf_edits.proofs.Edits.StandsBut.{member_in}
-use Rattle.cdf_edits.proofs.Edits.StandsSame.{stays_same}
+use Rattle.cdf_edits.proofs.Edits.SameAttribute.{chain_same}
+use Rattle.cdf_edits.proofs.Edits.StandsSame.{attribute_same}
 use Rattle.cdf_attrs.proofs.DroppedNumber as removed
 use Rattle.cdf_attrs.proofs.DroppedOne.{drops_one}
 use Rattle.cdf_attrs.proofs.DroppingFrom.{chain_left, keeps_taken}
@@ -48,20 +47,8 @@ module _ {b : List ℕ} (good : Good b) (k : ℕ) (own : AttributeShape) (kind :
   attribute_same items' same = sym (ap (with_entries (attribute_of b own) kind) same ∙ with_own (attribute_of b own) kind)
 
   -- nothing is written
-  edited_none : {gone : ℕ → Type 0} {fields : ℕ → ℕ → List _} {falls : ℕ → ℕ} → ((m : ℕ) → In m chain → falls (number b m aedr_num) ≡ number b m aedr_num) → AttributeEdited b b k own own kind gone fields falls
-  edited_none same =
-      let inside = member_in (good_is_sound b good).has_shape k own in
-      record {
-        stands = stands_same good _;
-        there = at;
-        chain = record {
-          adr_is = refl;
-          other_is = refl;
-          adr_kept = (stays_same good own.adr (inside own.adr at (inl refl)) _, refl);
-          other_kept = λ m i. (stays_same good m (inside m at (other_in kind own m i)) _, refl);
-          entries = λ m i out. record { member = i; kept = stays_same good m (inside m at (inr (chain_in kind own m i))) _; type_is = refl; num_is = sym (same m i) };
-        };
-      }
+  edited_none : {gone : ℕ → Type 0} {fields : ℕ → ℕ → List Field} {falls : ℕ → ℕ} → ((m : ℕ) → In m chain → falls (number b m aedr_num) ≡ number b m aedr_num) → AttributeEdited b b k own own kind gone fields falls
+  edited_none rests = record { stands = stands_same good _; there = at; chain = chain_same good at (attribute_same good k own at) kind rests }
 
   module _ (none : In num es.numbers → ⊥) where
     none_there : In num (nums b chain) → ⊥
@@ -106,11 +93,6 @@ module _ {b : List ℕ} (good : Good b) (k : ℕ) (own : AttributeShape) (kind :
 
 -- ---- both halves
 
--- what was taken out of the chain of an attribute of variables, by its ADR
-record Taken (b : List ℕ) (k : ℕ) (own : AttributeShape) (kind : EntryKind) (num : ℕ) (mid : List ℕ) : Type 0 where
-  pub own' : AttributeShape
-  pub half : TakesHalf b k own kind num mid own'
-
 module _ {b mid : List ℕ} {kind : EntryKind} {adr num : ℕ} {es : KnownEntries} (good : Good b) (has : IsScoped b kind adr) (is : es.chain ≡ entries_chain kind adr) (knows : KnowsEntries b es) (short : length b ≤ image_limit) where
   taken_some : (i : ℕ) → position (λ n. n == num) es.numbers ≡ Some i → TakenAt b mid kind adr es i → TakesHalf b has.number has.own kind num mid (with_chain has.own kind (left_of (slice_index es.places i) (chain_of has.own kind)))
   taken_some i at taken =
@@ -120,13 +102,10 @@ module _ {b mid : List ℕ} {kind : EntryKind} {adr num : ℕ} {es : KnownEntrie
       (step.taken_half good (deleted.q good of es is knows num i at here short) here.removed.gives num (deleted.of_old good of es is knows num i at) (deleted.counts good of es is knows num i at here short) short (deleted.long good of es is knows num i at here short)
       (deleted.greatest good of es is knows num i at here short ∙ ap (λ (x : List (ℕ × Entry)). greatest_number (without num num x)) (sym (items_of b has.own kind))))
 
-  taken : {left : KnownEntries} → DropsNumber b mid kind adr es num left → Taken b has.number has.own kind num mid
+  taken : {left : KnownEntries} → DropsNumber b mid kind adr es num left → (own' : AttributeShape) × TakesHalf b has.number has.own kind num mid own'
   taken drops = elim drops [
-    | inl none ↦ record {
-      own' = has.own;
-      half = subst (λ (x : List ℕ). TakesHalf b has.number has.own kind num x has.own) (sym none.stays) (takes_none good has.number has.own kind has.stands es (is ∙ ap (entries_chain kind) (sym has.adr_is)) knows num (none_in num es.numbers none.none));
-    }
-    | inr takes ↦ record { own' = _; half = taken_some takes.index takes.at takes.taken }
+    | inl none ↦ (has.own, subst (λ (x : List ℕ). TakesHalf b has.number has.own kind num x has.own) (sym none.stays) (takes_none good has.number has.own kind has.stands es (is ∙ ap (entries_chain kind) (sym has.adr_is)) knows num (none_in num es.numbers none.none)))
+    | inr takes ↦ (_, taken_some takes.index takes.at takes.taken)
   ]
 
 -- an attribute of variables dropped its entry for one
@@ -135,8 +114,8 @@ dropped {b} {now} found {adr} good short has scope from =
     let kind = kind_of_entries found.kind in
     let first = taken good has from.chain_is from.known short from.drops in
     let long = (keeps_taken good has from.chain_is from.known short from.drops).long in
-    let at_adr : adr ≡ first.own'.adr = sym (first.half.edited.chain.adr_is ∙ has.adr_is) in
+    let at_adr : adr ≡ first.0.adr = sym (first.1.edited.chain.adr_is ∙ has.adr_is) in
     let left_is = subst (λ (x : ℕ). from.left.chain ≡ entries_chain kind x) at_adr (chain_left from.chain_is from.drops) in
     let none = number_gone (numbers_differ good (record { number = has.number; own = has.own; stands = has.stands; kind = kind; chain_is = ap (entries_chain kind) (sym has.adr_is) }) from.entries from.chain_is from.known) from.drops in
-    let second = lowers from.good has.number first.own' kind first.half.edited.there from.left left_is from.left_known found.number none (omega arith) (subst (λ (x : ℕ). Lowers from.mid now kind x from.left found.number) at_adr from.lowers) in
-    drops_one found good scope first.half second
+    let second = lowers from.good has.number first.0 kind first.1.edited.there from.left left_is from.left_known found.number none (omega arith) (subst (λ (x : ℕ). Lowers from.mid now kind x from.left found.number) at_adr from.lowers) in
+    drops_one found good scope first.1 second

@@ -2,7 +2,7 @@
 use Rattle.std.proofs.Common.{◌≡◌, ◌<◌, ◌≤◌, ℕ, List, length, Result, Ok, Err, Some, sym, ap, subst}
 use Rattle.cdf_attrs.proofs.Common.{position, OnOk, ◌==◌, slice_index, EntryKind, image_limit, Good, entries_chain, IsScoped, KeepsAttributes, IsOfAttribute, KnownEntries, KnowsEntries, IsEntryOf, TakenAt, without_at}
 use Rattle.std.specs.Result.{IfOk}
-use Rattle.cdf_edits.proofs.Edits.EntryTakenStep as step
+use Rattle.cdf_edits.proofs.Edits.TakenEntry as step
 use Rattle.cdf_attrs.proofs.EntryDeleted as deleted
 use Rattle.cdf_attrs.proofs.EntryLeft as left
 

@@ -1,10 +1,9 @@
 -- One attribute of variables dropped its entry for a variable, in two halves.
 use Rattle.std.proofs.Common.{◌≡◌, ℕ, ◌+◌, ◌-◌, ◌≤◌, ◌<◌, List, [], ◌∷◌, ◌++◌, map, Bool, true, false, append-nil, refl, sym, ap, subst, ◌∙◌, arith, inl, inr}
 use Rattle.cdf_attrs.proofs.Common.{cases_lt, le-leb, nat_tests, filter, list_any, ◌&&◌, nat_le, nat_lt, not, if◌then◌else◌, EntryKind, Kind, entries_of, is_global, with_entries, Attribute, Entry, Found, closed_up, without, attribute_of, integer4, number, Field, aedr_num, AttributeShape, HasShape, shape, In, Good, either, GreatestIs, chain_of, greatest_number, kind_of_entries, max_field, entries_for, is_renumbered, IsDropped, Act, gave, ActsFollow, LowersHalf, TakesHalf, link_field, number_field, numbered, DropsOne, items_of}
-use Rattle.cdf_model.specs.declared.kinds.EntryKind.TheVariants as entries
+use Rattle.cdf_edits.proofs.Edits.OneChain.{items_with}
 use Rattle.cdf_model.specs.declared.kinds.Kind.TheVariants as kinds
-use Rattle.cdf_model.specs.VariableSteps.{attribute_without}
-use Rattle.cdf_edits.specs.Commands.Allowances.{OutsideFields}
+use Rattle.cdf_edits.proofs.Common.{OutsideFields, attribute_without}
 use Rattle.cdf_edits.proofs.Edits.ChainEdited.{chain_then}
 use Rattle.cdf_edits.proofs.Edits.ChainEntries.{num_in}
 use Rattle.cdf_edits.proofs.Edits.StandsThen.{dropped_then, stands_then}
@@ -42,10 +41,6 @@ any_none num (p ∷ items) f = let below : nat_le num p.0 ≡ false = not_above 
 with_same : (kind : Kind) (num : ℕ) (a : Attribute) → is_global a.scope ≡ false → with_entries (with_entries a (kind_of_entries kind) (without num num (entries_of a (kind_of_entries kind)))) (kind_of_entries kind) (closed_up num num (entries_of (with_entries a (kind_of_entries kind) (without num num (entries_of a (kind_of_entries kind)))) (kind_of_entries kind))) ≡ attribute_without kind num a
 with_same kinds.R num a e = rw e (ap (λ (es : List (ℕ × Entry)). record a { g = map (λ (pair : ℕ × Entry). (if nat_lt num pair.0 then pair.0 - (num + 1 - num) else pair.0, pair.1)) es }) (filter_twice (λ (pair : ℕ × Entry). not (nat_le num pair.0 && nat_le pair.0 num)) a.g))
 with_same kinds.Z num a e = rw e (ap (λ (es : List (ℕ × Entry)). record a { z = map (λ (pair : ℕ × Entry). (if nat_lt num pair.0 then pair.0 - (num + 1 - num) else pair.0, pair.1)) es }) (filter_twice (λ (pair : ℕ × Entry). not (nat_le num pair.0 && nat_le pair.0 num)) a.z))
-
-items_with : (a : Attribute) (kind : EntryKind) (items : List (ℕ × Entry)) → entries_of (with_entries a kind items) kind ≡ items
-items_with a entries.Z items = refl
-items_with a kind items = refl
 
 -- ---- one attribute of variables
 

@@ -1,7 +1,7 @@
 -- The entries for a variable go from one attribute after the other.
 use Rattle.std.proofs.Common.{◌≡◌, ◌∙◌, ℕ, zero, suc, ◌+◌, ◌<◌, ◌≤◌, List, [], ◌∷◌, ◌++◌, length, map, true, false, Some, append-nil, refl, sym, ap, subst, arith, inl, inr}
 use Rattle.cdf_attrs.proofs.Common.{slice_get, slice_index, slice_index_or, length-map, is_global, is_wrong_scope, image_limit, Found, Kind, attribute_of, scope_of, number, adr_scope, AttributeShape, adrs, shape, In, Good, either, kind_of_entries, entries_for, gave, ActsFollow, DropsUpTo, DropsOne, stands_same, DropsFrom, KeepsAttributes}
-use Rattle.cdf_model.specs.declared.kinds.Kind.TheVariants as kinds
+use Rattle.cdf_attrs.proofs.DroppingFrom.{of_variables}
 use Rattle.cdf_edits.specs.Edits.DropsEntries.{DropsEntries}
 use Rattle.cdf_edits.proofs.Edits.DroppedNext.{step}
 use Rattle.cdf_edits.proofs.Edits.DroppedSoFar.{finish}
@@ -31,13 +31,8 @@ own_at (a ∷ as_) (suc k) lt = own_at as_ k (omega arith)
 
 drops_kind : {before now : List ℕ} (found : Found) (kind : Kind) (num k : ℕ) (own : AttributeShape) (adr : ℕ) → found.kind ≡ kind → found.number ≡ num → Good before → length before ≤ image_limit → slice_get (shape before).attributes k ≡ Some own → own.adr ≡ adr → is_global (attribute_of before own).scope ≡ false → DropsFrom before now (kind_of_entries kind) adr num → DropsOne before found k own now
 drops_kind {before} {now} found kind num k own adr kind_is num_is good short at adr_is scope from =
-    let in_scope = scoped found.kind scope in
     let here = subst (λ (x : Kind). DropsFrom before now (kind_of_entries x) adr found.number) (sym kind_is) (subst (DropsFrom before now (kind_of_entries kind) adr) (sym num_is) from) in
-    dropped found good short (record { number = k; own = own; stands = at; adr_is = adr_is; in_scope = in_scope }) scope here
-  where
-    scoped : (vk : Kind) → is_global (attribute_of before own).scope ≡ false → is_wrong_scope (kind_of_entries vk) (attribute_of before own).scope ≡ false
-    scoped kinds.R e = e
-    scoped kinds.Z e = e
+    dropped found good short (record { number = k; own = own; stands = at; adr_is = adr_is; in_scope = of_variables found.kind scope }) scope here
 
 pub drops_more : {b before now : List ℕ} {kind : Kind} {num : ℕ} {places : List ℕ} {k adr : ℕ} → Good b → length b ≤ image_limit → places ≡ adrs (shape b) → k < length places → adr ≡ slice_index_or places k 0 → Good before → KeepsAttributes b before → ((found : Found) → found.kind ≡ kind → found.number ≡ num → DropsUpTo b found k before)
     → (is_global (scope_of (number before adr adr_scope)) ≡ true → now ≡ before) → (is_global (scope_of (number before adr adr_scope)) ≡ false → DropsFrom before now (kind_of_entries kind) adr num)

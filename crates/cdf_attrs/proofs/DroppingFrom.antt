@@ -1,6 +1,6 @@
 -- What dropping from one attribute asks of its chain, and what it comes to.
 use Rattle.std.proofs.Common.{◌≡◌, ◌∙◌, ◌+◌, ◌≤◌, ℕ, List, [], ◌∷◌, All, length, Some, false, refl, sym, ap, subst, arith, inl, inr}
-use Rattle.cdf_attrs.proofs.Common.{cases_lt, lt-ltb, le-ltb, slice_get, is_global, image_limit, signed_limit, attribute_names, Kind, Scope, EntryKind, entry_bytes, attribute_of, content, scope_of, LiesIn, number, adr_scope, AttributeShape, adrs, shape, In, Good, Chain, kind_of_entries, max_field, entries_chain, got-middle, stands_at, max_lies, good_is_sound, AllLie, DropsFrom, DropsNumber, IsScoped, KeepsAttributes, Lowers, LowersNumbers, lower_writes, IsOfAttribute, KnownEntries, KnowsEntries}
+use Rattle.cdf_attrs.proofs.Common.{cases_lt, lt-ltb, le-ltb, slice_get, is_global, is_wrong_scope, image_limit, signed_limit, attribute_names, Kind, Scope, EntryKind, entry_bytes, attribute_of, content, scope_of, LiesIn, number, adr_scope, AttributeShape, adrs, shape, In, Good, Chain, kind_of_entries, max_field, entries_chain, got-middle, stands_at, max_lies, good_is_sound, AllLie, DropsFrom, DropsNumber, IsScoped, KeepsAttributes, Lowers, LowersNumbers, lower_writes, IsOfAttribute, KnownEntries, KnowsEntries}
 use Rattle.cdf_model.specs.declared.kinds.Kind.TheVariants.{R, Z}
 use Rattle.cdf_edits.proofs.Edits.AttributeChains.{Stands}
 use Rattle.cdf_edits.proofs.Edits.FallenEntries.{as_long as as_long_lowered, good_lowered, rechains}
@@ -12,6 +12,11 @@ use Rattle.cdf_attrs.proofs.EntryTakenAt.{all_from, as_long, places_are, small}
 use Rattle.cdf_attrs.proofs.LoweredChain.{lowers_chain}
 use Rattle.cdf_attrs.proofs.NumberGone.{number_gone, numbers_differ}
 
+-- entries for variables go with attributes of variables
+pub of_variables : (kind : Kind) {scope : Scope} → is_global scope ≡ false → is_wrong_scope (kind_of_entries kind) scope ≡ false
+of_variables R e = e
+of_variables Z e = e
+
 module _ (b : List ℕ) (adr : ℕ) (there : In adr (adrs (shape b))) where
   abbrev parts : Stands (shape b).attributes adr
   parts = stands_at (shape b).attributes adr there
@@ -22,12 +27,8 @@ module _ (b : List ℕ) (adr : ℕ) (there : In adr (adrs (shape b))) where
   pub of_attribute : (kind : EntryKind) → IsOfAttribute b (entries_chain kind adr)
   of_attribute kind = record { number = length parts.fronts; own = parts.own; stands = stands; kind = kind; chain_is = ap (entries_chain kind) (sym parts.adr_is) }
 
-  own_scope : is_global (scope_of (number b adr adr_scope)) ≡ false → is_global (attribute_of b parts.own).scope ≡ false
-  own_scope e = subst (λ (a : ℕ). is_global (scope_of (number b a adr_scope)) ≡ false) (sym parts.adr_is) e
-
   pub scoped : (kind : Kind) → is_global (scope_of (number b adr adr_scope)) ≡ false → IsScoped b (kind_of_entries kind) adr
-  scoped R e = record { number = length parts.fronts; own = parts.own; stands = stands; adr_is = parts.adr_is; in_scope = own_scope e }
-  scoped Z e = record { number = length parts.fronts; own = parts.own; stands = stands; adr_is = parts.adr_is; in_scope = own_scope e }
+  scoped kind e = record { number = length parts.fronts; own = parts.own; stands = stands; adr_is = parts.adr_is; in_scope = of_variables kind (subst (λ (a : ℕ). is_global (scope_of (number b a adr_scope)) ≡ false) (sym parts.adr_is) e) }
 
 pub chain_left : {b now : List ℕ} {kind : EntryKind} {adr num : ℕ} {entries left : KnownEntries} → entries.chain ≡ entries_chain kind adr → DropsNumber b now kind adr entries num left → left.chain ≡ entries_chain kind adr
 chain_left is drops = elim drops [
@@ -102,39 +103,23 @@ pub record Dropping (b mid : List ℕ) (kind : Kind) (k : EntryKind) (adr num : 
 module _ {b read loaded mid : List ℕ} (kind : Kind) {k : EntryKind} {adr num : ℕ} {chain : Chain} {scope : Scope} {entries left : KnownEntries} (good : Good b) (there : In adr (adrs (shape b))) (short : length b ≤ image_limit)
     (same : read ≡ b) (scope_is : scope ≡ scope_of (number b adr adr_scope)) (own : is_global scope ≡ false) (k_is : k ≡ kind_of_entries kind) (chain_is : chain ≡ entries_chain k adr)
     (same_loaded : loaded ≡ read) (is : entries.chain ≡ chain) (knows : KnowsEntries read entries) (drops : DropsNumber loaded mid k adr entries num left) (good_mid : Good mid) (left_knows : KnowsEntries mid left) where
-  of_kind : IsScoped b k adr
-  of_kind = subst (λ (x : EntryKind). IsScoped b x adr) (sym k_is) (scoped b adr there kind (subst (λ (s : Scope). is_global s ≡ false) scope_is own))
-
-  of_chain : entries.chain ≡ entries_chain k adr
-  of_chain = is ∙ chain_is
-
-  known : KnowsEntries b entries
-  known = subst (λ (x : List ℕ). KnowsEntries x entries) same knows
-
-  dropped : DropsNumber b mid k adr entries num left
-  dropped = subst (λ (x : List ℕ). DropsNumber x mid k adr entries num left) (same_loaded ∙ same) drops
-
-  taken : KeepsAttributes b mid
-  taken = keeps_taken good of_kind of_chain known short dropped
-
-  there_mid : In adr (adrs (shape mid))
-  there_mid = subst (In adr) (sym taken.places) there
-
-  left_is : left.chain ≡ entries_chain k adr
-  left_is = chain_left of_chain dropped
-
-  none_left : In num left.numbers → ⊥
-  none_left = number_gone (numbers_differ good (of_attribute b adr there k) entries of_chain known) dropped
-
   pub dropping : Dropping b mid kind k adr num left
-  dropping = record {
-    long = as_long good_mid (of_attribute mid adr there_mid k) left left_is left_knows;
-    small = numbers_small good_mid k adr there_mid left left_is left_knows;
-    lie = entries_lie good_mid k adr there_mid left left_is left_knows num;
-    field = greatest_lies good_mid k adr there_mid left left_is left_knows;
-    drops = λ now lowers own. subst (λ (x : EntryKind). DropsFrom b now x adr num) k_is (record { entries = entries; chain_is = of_chain; known = known; mid = mid; left = left; drops = dropped; good = good_mid; left_known = left_knows; lowers = lowers });
-    keeps = λ now lowers.
-        let long = taken.long in
-        let r = lowered good_mid there_mid left left_is left_knows (omega arith) none_left lowers in
-        (r.0, record { names = r.1.names ∙ taken.names; places = r.1.places ∙ taken.places; long = r.1.long ∙ taken.long });
-  }
+  dropping =
+      let of_kind = subst (λ (x : EntryKind). IsScoped b x adr) (sym k_is) (scoped b adr there kind (subst (λ (s : Scope). is_global s ≡ false) scope_is own)) in
+      let of_chain = is ∙ chain_is in
+      let known = subst (λ (x : List ℕ). KnowsEntries x entries) same knows in
+      let dropped = subst (λ (x : List ℕ). DropsNumber x mid k adr entries num left) (same_loaded ∙ same) drops in
+      let taken = keeps_taken good of_kind of_chain known short dropped in
+      let there_mid = subst (In adr) (sym taken.places) there in
+      let left_is = chain_left of_chain dropped in
+      record {
+        long = as_long good_mid (of_attribute mid adr there_mid k) left left_is left_knows;
+        small = numbers_small good_mid k adr there_mid left left_is left_knows;
+        lie = entries_lie good_mid k adr there_mid left left_is left_knows num;
+        field = greatest_lies good_mid k adr there_mid left left_is left_knows;
+        drops = λ now lowers own. subst (λ (x : EntryKind). DropsFrom b now x adr num) k_is (record { entries = entries; chain_is = of_chain; known = known; mid = mid; left = left; drops = dropped; good = good_mid; left_known = left_knows; lowers = lowers });
+        keeps = λ now lowers.
+            let long = taken.long in
+            let r = lowered good_mid there_mid left left_is left_knows (omega arith) (number_gone (numbers_differ good (of_attribute b adr there k) entries of_chain known) dropped) lowers in
+            (r.0, record { names = r.1.names ∙ taken.names; places = r.1.places ∙ taken.places; long = r.1.long ∙ taken.long });
+      }

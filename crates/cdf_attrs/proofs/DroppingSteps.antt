@@ -1,45 +1,39 @@
 -- The numbers of entries that are less by one, index by index.
-use Rattle.std.proofs.Common.{◌≡◌, ℕ, ℤ, pos, zero, suc, ◌+◌, ◌-◌, ◌<◌, ◌≤◌, List, [], ◌∷◌, ◌++◌, All, Contains, drop, get_or, length, map, refl, sym, ap, ap₂, subst, ◌∙◌, append_assoc, arith, inl, inr}
-use Rattle.cdf_attrs.proofs.Common.{cases_lt, lt-ltb, le-ltb, signed_limit, AllLie, lower_writes, IsGreatest, fallen, length-with_field, LiesIn, with_field, In, Write, with_writes, write, Field, aedr_num}
+use Rattle.std.proofs.Common.{◌≡◌, ℕ, ℤ, pos, zero, suc, ◌+◌, ◌-◌, ◌<◌, ◌≤◌, List, [], ◌∷◌, ◌++◌, Bool, All, Contains, drop, get_or, length, map, refl, sym, ap, subst, ◌∙◌, append_assoc, arith, inl, inr}
+use Rattle.cdf_attrs.proofs.Common.{lt-ltb, le-ltb, nat_tests, nat_lt, if◌then◌else◌, signed_limit, AllLie, lower_writes, IsGreatest, fallen, length-with_field, LiesIn, with_field, In, Write, with_writes, write, Field, aedr_num}
 use Rattle.cdf_attrs.proofs.DeletingSteps.{lie_still}
 use Rattle.cdf_attrs.proofs.EntryTakenAt.{from_map}
 use Rattle.cdf_attrs.proofs.GreatestNumber.{each_of, is_member}
 
-pub lower_falls : (num : ℕ) (ns ps : List ℕ) (i : ℕ) → i < length ns → length ns ≡ length ps → num < get_or ns i 0 → lower_writes num (drop i ns) (drop i ps) ≡ write (get_or ps i 0) aedr_num (get_or ns i 0 - 1) ∷ lower_writes num (drop (suc i) ns) (drop (suc i) ps)
-lower_falls num [] ps i lt long falls = absurd (omega arith)
-lower_falls num (n ∷ ns) [] i lt long falls = absurd (omega arith)
-lower_falls num (n ∷ ns) (p ∷ ps) zero lt long falls = rw (lt-ltb num n falls) refl
-lower_falls num (n ∷ ns) (p ∷ ps) (suc i) lt long falls = lower_falls num ns ps i (omega arith) (omega arith) falls
-
-pub lower_rests : (num : ℕ) (ns ps : List ℕ) (i : ℕ) → i < length ns → length ns ≡ length ps → get_or ns i 0 ≤ num → lower_writes num (drop i ns) (drop i ps) ≡ lower_writes num (drop (suc i) ns) (drop (suc i) ps)
-lower_rests num [] ps i lt long rests = absurd (omega arith)
-lower_rests num (n ∷ ns) [] i lt long rests = absurd (omega arith)
-lower_rests num (n ∷ ns) (p ∷ ps) zero lt long rests = rw (le-ltb num n rests) refl
-lower_rests num (n ∷ ns) (p ∷ ps) (suc i) lt long rests = lower_rests num ns ps i (omega arith) (omega arith) rests
+lower_step : (num : ℕ) (ns ps : List ℕ) (i : ℕ) → i < length ns → length ns ≡ length ps → lower_writes num (drop i ns) (drop i ps) ≡ (if nat_lt num (get_or ns i 0) then write (get_or ps i 0) aedr_num (get_or ns i 0 - 1) ∷ lower_writes num (drop (suc i) ns) (drop (suc i) ps) else lower_writes num (drop (suc i) ns) (drop (suc i) ps))
+lower_step num [] ps i lt long = absurd (omega arith)
+lower_step num (n ∷ ns) [] i lt long = absurd (omega arith)
+lower_step num (n ∷ ns) (p ∷ ps) zero lt long = refl
+lower_step num (n ∷ ns) (p ∷ ps) (suc i) lt long = lower_step num ns ps i (omega arith) (omega arith)
 
 -- what was pushed, and what is still to be, where lists were read
 module _ (num : ℕ) (ns ps ns' ps' : List ℕ) (same-ns : ns' ≡ ns) (same-ps : ps' ≡ ps) (long : length ns ≡ length ps) (i : ℕ) (lt : i < length ns') (done all : List Write) (goes : done ++ lower_writes num (drop i ns) (drop i ps) ≡ all) where
-  one : suc i ≡ i + 1
-  one = omega arith
+  step : lower_writes num (drop i ns) (drop i ps) ≡ (if nat_lt num (get_or ns' i 0) then write (get_or ps' i 0) aedr_num (get_or ns' i 0 - 1) ∷ lower_writes num (drop (i + 1) ns) (drop (i + 1) ps) else lower_writes num (drop (i + 1) ns) (drop (i + 1) ps))
+  step =
+      let one : suc i ≡ i + 1 = omega arith in
+      lower_step num ns ps i (subst (λ (x : List ℕ). i < length x) same-ns lt) long
+      ∙ (λ j. if nat_lt num (get_or (sym same-ns j) i 0) then write (get_or (sym same-ps j) i 0) aedr_num (get_or (sym same-ns j) i 0 - 1) ∷ lower_writes num (drop (one j) ns) (drop (one j) ps) else lower_writes num (drop (one j) ns) (drop (one j) ps))
 
   pub falls_on : num < get_or ns' i 0 → (more : List Write) → more ≡ done ++ write (get_or ps' i 0) aedr_num (get_or ns' i 0 - 1) ∷ [] → more ++ lower_writes num (drop (i + 1) ns) (drop (i + 1) ps) ≡ all
   falls_on falls more is =
       let rest = lower_writes num (drop (i + 1) ns) (drop (i + 1) ps) in
-      let w = write (get_or ps i 0) aedr_num (get_or ns i 0 - 1) in
-      let same : more ≡ done ++ w ∷ [] = is ∙ ap₂ (λ (x y : List ℕ). done ++ write (get_or y i 0) aedr_num (get_or x i 0 - 1) ∷ []) same-ns same-ps in
-      ap (λ (x : List Write). x ++ rest) same ∙ append_assoc done (w ∷ []) rest
-      ∙ ap (λ (x : List Write). done ++ x) (sym (subst (λ (k : ℕ). lower_writes num (drop i ns) (drop i ps) ≡ w ∷ lower_writes num (drop k ns) (drop k ps)) one (lower_falls num ns ps i (subst (λ (x : List ℕ). i < length x) same-ns lt) long (subst (λ (x : List ℕ). num < get_or x i 0) same-ns falls)))) ∙ goes
+      let w = write (get_or ps' i 0) aedr_num (get_or ns' i 0 - 1) in
+      ap (λ (x : List Write). x ++ rest) is ∙ append_assoc done (w ∷ []) rest ∙ ap (λ (x : List Write). done ++ x) (sym (step ∙ ap (λ (p : Bool). if p then w ∷ rest else rest) (lt-ltb num (get_or ns' i 0) falls))) ∙ goes
 
   pub rests_on : get_or ns' i 0 ≤ num → done ++ lower_writes num (drop (i + 1) ns) (drop (i + 1) ps) ≡ all
-  rests_on rests = ap (λ (x : List Write). done ++ x) (sym (subst (λ (k : ℕ). lower_writes num (drop i ns) (drop i ps) ≡ lower_writes num (drop k ns) (drop k ps)) one (lower_rests num ns ps i (subst (λ (x : List ℕ). i < length x) same-ns lt) long (subst (λ (x : List ℕ). get_or x i 0 ≤ num) same-ns rests)))) ∙ goes
+  rests_on rests =
+      let rest = lower_writes num (drop (i + 1) ns) (drop (i + 1) ps) in
+      ap (λ (x : List Write). done ++ x) (sym (step ∙ ap (λ (p : Bool). if p then write (get_or ps' i 0) aedr_num (get_or ns' i 0 - 1) ∷ rest else rest) (le-ltb num (get_or ns' i 0) rests))) ∙ goes
 
 -- ---- the greatest number
 
 fallen_most : (num m n : ℕ) → num < m → n ≤ m → fallen num n ≤ m - 1
-fallen_most num m n lt le = elim (cases_lt num n) [
-  | inl p ↦ rw (lt-ltb num n p) (omega arith)
-  | inr p ↦ rw (le-ltb num n p) (omega arith)
-]
+fallen_most num m n lt le = grind (arith, nat_tests)
 
 fallen_all : (num m : ℕ) (ns : List ℕ) → num < m → ((n : ℕ) → In n ns → n ≤ m) → (k : ℕ) → In k (map (fallen num) ns) → k ≤ m - 1
 fallen_all num m ns lt all k i = let r = from_map (fallen num) ns k i in subst (λ (x : ℕ). x ≤ m - 1) (sym r.1.1) (fallen_most num m r.0 lt (all r.0 r.1.0))

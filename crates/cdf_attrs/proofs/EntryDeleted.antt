@@ -6,6 +6,7 @@ use Rattle.cdf_format.specs.Content.{entries_of as chain_items}
 use Rattle.cdf_edits.specs.Space.Chains.{without as left_of}
 use Rattle.cdf_edits.proofs.Edits.FieldWritten.{written_reads}
 use Rattle.cdf_edits.proofs.Edits.LeftEntry.{count_now, left_greatest, of_count}
+use Rattle.cdf_edits.proofs.Edits.TakenEntry.{members_stay, others}
 use Rattle.cdf_attrs.proofs.AttributeChain.{index_in}
 use Rattle.cdf_attrs.proofs.EntryCalls.{leaves}
 use Rattle.cdf_attrs.proofs.EntryChains.{counted, entries_differ, entry_lies, few_entries, members}
@@ -143,8 +144,8 @@ module _ {b : List ℕ} {chain : Chain} (good : Good b) (of : IsOfAttribute b ch
       where
         live : (m : ℕ) → In m (left_of place (chain_of own kind)) → EntryLives b now m
         live m j =
-            let x = left_members place m (chain_of own kind) (left.once good q taken.removed.gives) j in
-            left.others good q taken.removed.gives m x.0 x.1
+            let x = members_stay good q taken.removed.gives m j in
+            others good q taken.removed.gives m x.0 x.1
 
     pub known_after : (table : List (List ℕ)) (places : List ℕ) (rest : KnownEntries) → table ≡ attribute_names (content b) → places ≡ adrs (shape b) → rest ≡ without_at es i → Knows now (record { names = table; places = places; entries = Some rest })
     known_after table places rest named placed is_rest = record {

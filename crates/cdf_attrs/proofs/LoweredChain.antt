@@ -2,7 +2,7 @@
 use Rattle.std.proofs.Common.{◌≡◌, ℕ, ◌-◌, ◌≤◌, List, [], ◌∷◌, length, map, w32, refl, sym, ap, ap₂, subst, ◌∙◌, arith, inl, inr}
 use Rattle.cdf_attrs.proofs.Common.{cases_lt, lt-ltb, le-ltb, cast_unsigned, entries_of, image_limit, signed_limit, closed_up, attribute_of, number, integer4, with_field, aedr_num, In, Good, Chain, chain_of, max_field, greatest_number, fallen, Write, with_writes, write, nums, LowersChain, LowersNumbers, lower_writes, IsOfAttribute, KnownEntries, KnowsEntries, IsGreatest}
 use Rattle.cdf_edits.proofs.Edits.FallenEntries.{entries_now, greatest_lowered, later, lowered, nums_now}
-use Rattle.cdf_edits.proofs.Edits.FallenItems.{falls, rests}
+use Rattle.cdf_edits.proofs.Edits.FallenItems.{fallen_under}
 use Rattle.cdf_attrs.proofs.EntryChains.{members}
 use Rattle.cdf_attrs.proofs.EntryTakenAt.{cut_is, from_map, parts, places_are, small}
 use Rattle.cdf_attrs.proofs.GreatestNumber.{greatest_fits, greatest_of_items}
@@ -16,11 +16,7 @@ writes_are b num (e ∷ es) = elim (cases_lt num (number b e aedr_num)) [
 ]
 
 fallen_small : (num limit : ℕ) (ns : List ℕ) → ((n : ℕ) → In n ns → n ≤ limit) → (k : ℕ) → In k (map (fallen num) ns) → k ≤ limit
-fallen_small num limit ns all k i =
-    let r = from_map (fallen num) ns k i in
-    let le = all r.0 r.1.0 in
-    let is = r.1.1 in
-    elim (cases_lt num r.0) [ inl p ↦ let d = falls num r.0 p in omega arith | inr p ↦ let d = rests num r.0 p in omega arith ]
+fallen_small num limit ns all k i = let r = from_map (fallen num) ns k i in let le = all r.0 r.1.0 in let under = fallen_under num r.0 in let is = r.1.1 in omega arith
 
 module _ {b : List ℕ} (good : Good b) {chain : Chain} (of : IsOfAttribute b chain) (es : KnownEntries) (is : es.chain ≡ chain) (knows : KnowsEntries b es) where
   places_of : es.places ≡ chain_of of.own of.kind

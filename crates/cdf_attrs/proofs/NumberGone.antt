@@ -26,16 +26,11 @@ gone_at (x ∷ xs) zero lt d j = d.0 j
 gone_at (x ∷ xs) (suc i) lt d (inl e) = d.0 (subst (λ (y : ℕ). In y xs) e (index_in xs i (omega arith)))
 gone_at (x ∷ xs) (suc i) lt d (inr j) = gone_at xs i (omega arith) d.1 j
 
-index_is : (xs : List ℕ) (i : ℕ) → i < length xs → slice_index xs i ≡ get_or xs i 0
-index_is [] i lt = absurd (omega arith)
-index_is (x ∷ xs) zero lt = refl
-index_is (x ∷ xs) (suc i) lt = index_is xs i (omega arith)
-
 -- the entry of the number was taken out of the numbers, which differ
 taken_out : (num : ℕ) (xs : List ℕ) (i : ℕ) → Distinct xs → position (λ n. n == num) xs ≡ Some i → In num (remove xs i) → ⊥
 taken_out num xs i d at j =
     let p = position-Some (λ n. n == num) xs i 0 at in
-    let is : num ≡ slice_index xs i = sym (eqb-true _ _ p.1) ∙ sym (index_is xs i p.0) in
+    let is : num ≡ slice_index xs i = sym (eqb-true _ _ p.1) in
     gone_at xs i p.0 d (subst (λ (n : ℕ). In n (remove xs i)) is j)
 
 pub numbers_differ : {b : List ℕ} (good : Good b) {chain : Chain} (of : IsOfAttribute b chain) (es : KnownEntries) → es.chain ≡ chain → KnowsEntries b es → Distinct es.numbers

@@ -1,3 +1,4 @@
+pub mod Common
 pub mod AttributeChains
 pub mod ActsStill
 pub mod ActsThen
@@ -54,6 +55,7 @@ pub mod RemovedVariable
 pub mod Renumbered
 pub mod Splice
 pub mod StepEdits
+pub mod TakenEntry
 pub mod TakenVariable
 pub mod UnlinkedAttribute
 pub mod UnlinkedVariable
@@ -70,6 +72,7 @@ pub mod VariableNumbered
 pub mod VariableSplice
 pub mod VariablesLinked
 pub mod VdrEdited
+pub mod VdrFields
 pub mod VdrWritten
 pub mod WrittenEntries
 pub mod WrittenFields

@@ -2,25 +2,13 @@
 use Rattle.std.proofs.Common.{◌≡◌, ◌≢◌, ℕ, ◌+◌, ◌^◌, ◌<◌, ◌≤◌, List, [], ◌∷◌, ◌++◌, length, map, true, false, bytes_eq, eq-eqb, Some, refl, sym, ap, subst, true≢false, ◌∙◌, append-nil, arith, inl}
 use Rattle.cdf_vars.proofs.Common.{Same, if◌then◌else◌, map-append, All, flat_map, slice_get, Go, DataSet, Variable, Plain, Kind, R, Z, image_limit, is_bad_name, is_among, variable_names, variables_of, with_variables, ByStep, step, is_bad_shape, new_variable, next_field, is_in, content, variable_of, number, name_in, r_sizes, size_at, type_at, gdr_offset, owned, times, vdr_name, Hold, VariableShape, Shape, vdrs, variables, HasShape, shape, IsSound, In, Good, IsGoodByShape, vdrs_append, good_by_its_shape, good_is_sound, rules_of_good, good_long, sealed_kept, content_is, shape_is, AllKeep, Allowances, Only, shapes_of, vdr_type, Chain, Does, allowances, room, vdr_bytes, Edit, Mark, making_marks, within, Follows, only_reads, Act, Took, type_in, counted_in, IsBody, type_of_body, variables_chain, fine_is_some, fine_has_no_zeros, fine_is_short, got-middle, the_one, other_kind, variables_of_are, counted_before, with_shapes, kind_type, beside_in, apart, NewVariable, making, OthersStay, KnowsKind, Answers, gone, too_large, Done, Refused, TooLarge}
 use Rattle.cdf_model.specs.VariableSteps.{var_step}
-use Rattle.cdf_format.specs.Index.{nodes_of, leaves_of}
-use Rattle.cdf_format.specs.NotRead.{read_types}
-use Rattle.cdf_format.specs.Owners.{variable_records}
-use Rattle.cdf_edits.specs.Commands.Allowances.{Keeps, only_of, same_kind}
+use Rattle.cdf_edits.proofs.Common.{Keeps, count_of, leaves_of, members_of, nodes_of, only_of, read_types, same_kind, times-none, variable_records}
 use Rattle.cdf_edits.specs.Commands.Variables.{MakesVariable, variable_changes}
-use Rattle.cdf_format.proofs.Owning.{times-none}
 use Rattle.cdf_edits.specs.Space.Adding.{Added, adding_marks}
-use Rattle.cdf_edits.specs.Space.Chains.{count_of, members_of}
 use Rattle.cdf_edits.proofs.Edits.JoinedVdr.{JoinsVdr, KindTests, behind_link, edit, ends, file, fills, gdr_is, join_tests, joined_acts, joined_size, joined_splices, joined_type, linked, lives, member_in, used}
-use Rattle.cdf_edits.proofs.Edits.MadeRecord.{made_keeps_unused, unowned}
-use Rattle.cdf_edits.proofs.Edits.OwnedOnce.{used_times, IsSorted, owned_once_if}
-use Rattle.cdf_edits.proofs.Edits.RecordFrame.{VariableLives, gdr_place}
-use Rattle.cdf_edits.proofs.Edits.VariableFrame.{nums_from}
-use Rattle.cdf_edits.proofs.Edits.VariableKept.{same_as_itself}
+use Rattle.cdf_edits.proofs.Edits.Common.{FileSame, IsSorted, OwnRules, VariableLives, VariableSplices, apart_if, attributes_kept, content_now, gdr_place, good_image_if, made_keeps_unused, nums_from, owned_once_if, same_as_itself, shape_now, unowned, used_times}
 use Rattle.cdf_edits.proofs.Edits.VariableKinds.{kind_ours, numbers_kept, of_kind, spliced_times, vdrs_rows, vdrs_rows-push}
-use Rattle.cdf_edits.proofs.Edits.VariableNames.{apart_if}
 use Rattle.cdf_edits.proofs.Edits.VariablesLinked.{keep_numbered, keep_with_kind, next_keeps}
-use Rattle.cdf_edits.proofs.Edits.VariableSplice.{VariableSplices, OwnRules, attributes_kept, content_now, good_image_if, shape_now}
-use Rattle.cdf_edits.proofs.Frame.Meaning.{FileSame}
 use Rattle.cdf_vars.specs.Creating.{HasDims, vdr_body}
 use Rattle.cdf_vars.proofs.VariableChains.{counted_members, variable_members, few_variables}
 use Rattle.cdf_vars.proofs.NewVdr.{IsNewVdr, IsShaped, Shares, bare_variable, end_is, has, length-body, means, name_is, ruled, shaped, type_in_body, varys_written, vdr_is_body, vdr_written}
@@ -185,25 +173,15 @@ module _ (b : List ℕ) (kind : Kind) (v : NewVariable) (limit : ℕ) (image : G
 
     -- the new record is owned once more than before
     owners : (m : ℕ) → used_times made m ≡ used_times s m + times m (place ∷ [])
-    owners m = sum _ _ _ (spliced_times s kind records list own [] (bare ∷ []) [] (sym (append-nil own)) m (times m (place ∷ [])) 0 (ap (λ (ms : List ℕ). times m ms + 0) (bare_records place) ∙ swap (times m (place ∷ []))))
-      where
-        sum : (x y n : ℕ) → x + 0 ≡ y + n → x ≡ y + n
-        sum x y n p = omega arith
-
-        swap : (n : ℕ) → n + 0 ≡ 0 + n
-        swap n = omega arith
+    owners m = omega (arith, spliced_times s kind records list own [] (bare ∷ []) [] (sym (append-nil own)) m (times m (place ∷ [])) 0 (ap (λ (ms : List ℕ). times m ms + 0) (bare_records place) ∙ omega arith))
 
     sorted : (m : ℕ) → In m (place ∷ []) → IsSorted now made m
-    sorted m i = subst (IsSorted now made) (sym (the_one place m i)) (inl (used sound w, once _ _ _ (owners place) (unowned sound (fills sound w)) (rw (eq-eqb place place refl) refl)))
-      where
-        once : (x y n : ℕ) → x ≡ y + n → y ≡ 0 → n ≡ 1 → x ≡ 1
-        once x y n p q r = omega arith
+    sorted m i =
+        let one : times place (place ∷ []) ≡ 1 = rw (eq-eqb place place refl) refl in
+        subst (IsSorted now made) (sym (the_one place m i)) (inl (used sound w, omega (arith, owners place, unowned sound (fills sound w))))
 
     beside : (m : ℕ) → (In m (place ∷ []) → ⊥) → used_times made m ≡ used_times s m
-    beside m out = same _ _ _ (owners m) (times-none m (place ∷ []) out)
-      where
-        same : (x y n : ℕ) → x ≡ y + n → n ≡ 0 → x ≡ y
-        same x y n p q = omega arith
+    beside m out = omega (arith, owners m, times-none m (place ∷ []) out)
 
     count_now : number now (gdr_offset now) (count_of (variables_chain kind)) ≡ length (vdrs own) + 1
     count_now =
@@ -267,14 +245,11 @@ module _ (b : List ℕ) (kind : Kind) (v : NewVariable) (limit : ℕ) (image : G
           within = subst (λ (n : ℕ). length now ≤ length b + n) (sym size) longest;
           reads = λ q. absurd (true≢false (sym q ∙ (is_making b kind v dims).makes));
           acts = acts;
-          takes_within = subst (λ (n : ℕ). 0 + (8 + length body) ≤ n) (sym size) (none _ _ long);
+          takes_within = subst (λ (n : ℕ). 0 + (8 + length body) ≤ n) (sym size) (let l = long in omega arith);
           acts_follow = joined_acts sound w _ now_is;
           keeps = subst (λ (a : Allowances). AllKeep b now a acts (owned b s)) (sym (is_making b kind v dims).may_is) keeps;
           does = (is_making b kind v dims).does now acts makes;
         }
-      where
-        none : (n m : ℕ) → n ≡ m → 0 + n ≤ m
-        none n m e = omega arith
 
     -- ---- what is known of the variables
 

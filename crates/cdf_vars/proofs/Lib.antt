@@ -14,6 +14,7 @@ pub mod RecordPlaces
 pub mod WholeRecords
 pub mod RecordSteps
 pub mod RecordAnswers
+pub mod Sizes
 pub mod SetUpAnswers
 pub mod SetUpFollows
 pub mod ReindexAnswers

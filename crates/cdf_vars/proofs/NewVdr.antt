@@ -3,40 +3,25 @@ use Rattle.std.proofs.Common.{◌≡◌, ℕ, ◌*◌, ◌≤◌, List, [], ◌�
 use Rattle.cdf_vars.proofs.Common.{nat_tests, list_any, flat_map, All, before_first, list_all, ◌==◌, ◌&&◌, nat_lt, if◌then◌else◌, nat_le, is_some, Each, HasVariable, VariableShape, DataType, signed_limit, value_count, size_of, are_bad_sizes, is_bad_shape, new_variable, drop-drop, length-append, length-map, take_at, big_bytes, vdr_type, IsFilled, vdr_bytes, IsBody, length-words, words_laid_out, Same, word, words, counted, is_positive, name_in, number, gdr_offset, r_num_dims, r_sizes, size_at, type_at, has_bit, record_type, vdr_name, vdr_flags, z_vdr_type, piece_kept, words_kept, Kind, R, Z, NewVariable, own_dims, vary_code, eqb-true, le-leb, or_parts, w32, cast_signed, variable_of, Hold, VariableFits, dimensions_at, dims_at, elems_at, has_pad, is_z, pad_field, record_bytes, type_of_variable, value_bytes, is_max_rec, vdr_end, NoRule, small_signed}
 use Rattle.std.proofs.lemmas.List.Concat.{flat_map-append}
 use Rattle.std.proofs.Math.Nat.{le-mul_of_pos_right}
-use Rattle.cdf_format.specs.Shape.{is_compressed}
-use Rattle.cdf_model.specs.Limits.{dimension_limit}
+use Rattle.cdf_edits.proofs.Common.{Byte, Pad, Previous, dimension_limit, drop-append_seam, has_dimensions, is_characters, is_compressed, is_no_link, leaves_of, no_node, nodes_of, notation_of, type_of, unwrap_or, variable_rows}
 use Rattle.cdf_model.specs.Place.{record_limit, record_size}
-use Rattle.cdf_model.specs.Types.{type_of}
-use Rattle.cdf_model.specs.Values.{notation_of}
-use Rattle.cdf_model.specs.VariableSteps.{is_characters}
 use Rattle.cdf_values.proofs.ValueLengths.{size_some}
 use Rattle.std.proofs.lemmas.List.{length-replicate}
-use Rattle.std.proofs.Math.Seq.{drop-append_seam}
 use Rattle.cdf_edits.specs.Commands.NewRecords.{Says}
 use Rattle.cdf_edits.specs.Space.Placing.{Placed, laid_out}
-use Rattle.cdf_edits.proofs.Space.LaidOut.{placed_says, says_kept}
+use Rattle.cdf_edits.proofs.Edits.Common.{Each-map, IsRuled, code_small, kind_type, placed_says, says_kept, type_back}
 use Rattle.cdf_format.specs.Records.{vdr_vdr_next, vdr_data_type, vdr_num_elems, vdr_z_num_dims}
+use Rattle.cdf_vars.proofs.Sizes.{IsSize, fine_sizes, not_zero, positive_sizes, signed_small, sizes_small}
 use Rattle.cdf_vars.specs.Creating.{vdr_body, vdr_fields}
-use Rattle.cdf_edits.proofs.Commands.TypeCodes.{code_small, type_back}
 use Rattle.std.proofs.lemmas.Bool.{ltb-false, and_from, not-false, or_right}
-use Rattle.std.specs.Option.{unwrap_or}
 use Rattle.cdf_edits.specs.Commands.Variables.{VarysWritten}
 use Rattle.cdf_edits.proofs.Edits.JoinedVdr.{is_vdr_body}
-use Rattle.cdf_edits.proofs.Edits.VariableFrame.{Each-map, IsRuled}
-use Rattle.cdf_edits.proofs.Edits.VariableKinds.{kind_type}
 use Rattle.cdf_var_records.proofs.VdrParts.{pad_place, words_long}
 use Rattle.cdf_fields.proofs.NamesWritten.{before_zeros}
-use Rattle.cdf_format.specs.Index.{no_node, nodes_of, leaves_of}
 use Rattle.cdf_format.specs.IndexOf.{HasNodes}
 use Rattle.cdf_format.specs.IndexRules.{nodes_rows}
 use Rattle.cdf_format.specs.Stored.{known_type}
 use Rattle.cdf_format.specs.VariableFields.{counted4, pad_at, vary_field, varys_at}
-use Rattle.cdf_format.specs.VariableRules.{has_dimensions, is_no_link, variable_rows}
-use Rattle.cdf_model.specs.declared.data_type.DataType.TheVariants.{Byte}
-use Rattle.cdf_model.specs.declared.kinds.Sparse.TheVariants.{Pad, Previous}
-
-abbrev pub IsSize : ℕ → Type 0
-IsSize size = (1 ≤ size) × (size ≤ signed_limit)
 
 -- elements, dimensions with sizes, one variance for each, and records that are not too large
 pub record IsShaped (t : DataType) (elems : ℕ) (dims : List ℕ) (varys : List Bool) : Type 0 where
@@ -52,16 +37,6 @@ not_not : (p q : Bool) → (not p && not q) ≡ false → (p || q) ≡ true
 not_not true q e = refl
 not_not false true e = refl
 not_not false false e = cc e
-
-not_zero : (n : ℕ) → (n == 0) ≡ false → 1 ≤ n
-not_zero n e = grind (arith, nat_tests)
-
-each_size : (dims : List ℕ) → list_any (λ size. (size == 0) || nat_lt signed_limit size) dims ≡ false → Each IsSize dims
-each_size [] e = tt
-each_size (size ∷ dims) e =
-    let p = or_parts ((size == 0) || nat_lt signed_limit size) (list_any (λ size. (size == 0) || nat_lt signed_limit size) dims) e in
-    let q = or_parts (size == 0) (nat_lt signed_limit size) p.0 in
-    ((not_zero size q.0, ltb-false signed_limit size q.1), each_size dims p.1)
 
 -- a value has a byte, and a record a value
 through : (x y z : ℕ) → x ≤ y → y ≤ z → x ≤ z
@@ -91,17 +66,16 @@ shaped t elems dims varys e =
     let q = or_parts ((elems == 0) || odd) (are_bad_sizes dims || not (length varys == length dims)) p.0 in
     let r = or_parts (elems == 0) odd q.0 in
     let s = or_parts (are_bad_sizes dims) (not (length varys == length dims)) q.1 in
-    let d = or_parts (nat_lt dimension_limit (length dims)) (list_any (λ size. (size == 0) || nat_lt signed_limit size) dims) s.0 in
-    let sizes = each_size dims d.1 in
+    let sizes = fine_sizes dims s.0 in
     let fits = ltb-false record_limit (record_size t elems dims varys) p.1 in
     record {
       some = not_zero elems r.0;
       single = not_not (elems == 1) (is_characters (notation_of t)) r.1;
-      few = ltb-false dimension_limit (length dims) d.0;
-      sizes = sizes;
+      few = sizes.0;
+      sizes = sizes.1;
       one_each = eqb-true (length varys) (length dims) (not-false _ s.1);
       fits = fits;
-      elems_fit = elems_few t elems dims varys sizes fits;
+      elems_fit = elems_few t elems dims varys sizes.1 fits;
     }
 
 -- what the fields of a new VDR say
@@ -119,12 +93,9 @@ pub tail_size : (kind : Kind) (dims : List ℕ) (n : ℕ) → n ≡ length dims 
 tail_size R dims n e = omega arith
 tail_size Z dims n e = omega arith
 
-signed_small : (n : ℕ) → n ≤ signed_limit → n < 256 ^ 4
-signed_small n l = omega arith
-
 own_small : (kind : Kind) (dims : List ℕ) → length dims ≤ dimension_limit → Each IsSize dims → Each (λ n. n < 256 ^ 4) (own_dims kind dims)
 own_small R dims few sizes = tt
-own_small Z dims few sizes = (signed_small (length dims) (omega arith), Each-map IsSize (λ n. n < 256 ^ 4) (λ n size. signed_small n size.1) dims sizes)
+own_small Z dims few sizes = (signed_small (length dims) (omega arith), sizes_small dims sizes)
 
 codes_small : (varys : List Bool) → Each (λ n. n < 256 ^ 4) (map vary_code varys)
 codes_small [] = tt
@@ -218,10 +189,6 @@ Shares b Z dims = Unit {0}
 counted_sizes : (dims : List ℕ) → Each IsSize dims → map counted4 dims ≡ dims
 counted_sizes [] sizes = refl
 counted_sizes (n ∷ dims) sizes = ap₂ (λ (x : ℕ) (xs : List ℕ). x ∷ xs) (small_signed n sizes.0.1) (counted_sizes dims sizes.1)
-
-positive_sizes : (dims : List ℕ) → Each IsSize dims → list_all is_positive dims ≡ true
-positive_sizes [] sizes = refl
-positive_sizes (n ∷ dims) sizes = and_from _ _ (and_from _ _ (le-leb 1 n sizes.0.0) (le-leb n signed_limit sizes.0.1)) (positive_sizes dims sizes.1)
 
 varys_back : (varys : List Bool) → map (λ n. not (n == 0)) (map vary_code varys) ≡ varys
 varys_back [] = refl
@@ -358,28 +325,16 @@ module _ {b : List ℕ} {place : ℕ} {kind : Kind} {v : NewVariable} {num : ℕ
 
     pub ruled : All (λ (byte : ℕ). byte ≢ 0) v.name → (length v.name == 0) ≡ false → IsRuled b records (bare_variable place)
     unfolding nodes_rows leaves_of
-    ruled no_zero some = (rows, tt)
-      where
-        elems_number : number b place vdr_num_elems ≡ v.elems
-        elems_number = new.says.1.1.1.1.1.1.1.1.1.0
-
-        known : is_some (known_type b place vdr_data_type) ≡ true
-        known = ap (λ (n : ℕ). is_some (type_of (cast_signed w32 n))) new.says.0 ∙ ap (λ (o : Option DataType). is_some o) (type_back v.type)
-
-        positive : is_positive (number b place vdr_num_elems) ≡ true
-        positive = subst (λ (n : ℕ). is_positive n ≡ true) (sym elems_number) (and_from _ _ (le-leb 1 v.elems is.some) (le-leb v.elems signed_limit is.elems_fit))
-
-        single : ((number b place vdr_num_elems == 1) || is_characters (notation_of (type_of_variable b place))) ≡ true
-        single = let n = elems_number in let t = type_is in subst (λ (p : Bool). p ≡ true) (λ i. (sym n i == 1) || is_characters (notation_of (sym t i))) is.single
-
-        small : nat_le (record_bytes b place) record_limit ≡ true
-        small = le-leb _ _ (subst (λ (n : ℕ). n ≤ record_limit) (sym bytes_are) is.fits)
-
-        rows : Hold (variable_rows b records [] place)
-        rows =
-            let named = ap (λ (n : List ℕ). not (length n == 0)) (name_is no_zero) ∙ ap not some in
-            let max = ap is_max_rec new.says.1.0 in
-            let rule = ap (λ (n : ℕ). nat_le n 2) new.says.1.1.1.1.1.0 in
-            let link = ap is_no_link new.says.1.1.1.1.1.1.1.1.1.1.1.0 in
-            let none = ap (λ (n : ℕ). n == 0) new.says.1.1.1.1.1.0 in
-            (named, (refl, (known, (and_from _ _ positive single, (own.rule (sym sized), (le-leb _ _ ends, (small, (max, (rule, (rw unpacked link, (rw unpacked refl, rw unpacked (none, tt))))))))))))
+    ruled no_zero some =
+        let elems_number : number b place vdr_num_elems ≡ v.elems = new.says.1.1.1.1.1.1.1.1.1.0 in
+        let type = type_is in
+        let known : is_some (known_type b place vdr_data_type) ≡ true = ap (λ (n : ℕ). is_some (type_of (cast_signed w32 n))) new.says.0 ∙ ap (λ (o : Option DataType). is_some o) (type_back v.type) in
+        let positive : is_positive (number b place vdr_num_elems) ≡ true = subst (λ (n : ℕ). is_positive n ≡ true) (sym elems_number) (and_from _ _ (le-leb 1 v.elems is.some) (le-leb v.elems signed_limit is.elems_fit)) in
+        let single : ((number b place vdr_num_elems == 1) || is_characters (notation_of (type_of_variable b place))) ≡ true = subst (λ (p : Bool). p ≡ true) (λ i. (sym elems_number i == 1) || is_characters (notation_of (sym type i))) is.single in
+        let small : nat_le (record_bytes b place) record_limit ≡ true = le-leb _ _ (subst (λ (n : ℕ). n ≤ record_limit) (sym bytes_are) is.fits) in
+        let named = ap (λ (n : List ℕ). not (length n == 0)) (name_is no_zero) ∙ ap not some in
+        let max = ap is_max_rec new.says.1.0 in
+        let rule = ap (λ (n : ℕ). nat_le n 2) new.says.1.1.1.1.1.0 in
+        let link = ap is_no_link new.says.1.1.1.1.1.1.1.1.1.1.1.0 in
+        let none = ap (λ (n : ℕ). n == 0) new.says.1.1.1.1.1.0 in
+        ((named, (refl, (known, (and_from _ _ positive single, (own.rule (sym sized), (le-leb _ _ ends, (small, (max, (rule, (rw unpacked link, (rw unpacked refl, rw unpacked (none, tt)))))))))))), tt)

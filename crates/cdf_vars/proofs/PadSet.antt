@@ -2,32 +2,22 @@
 use Rattle.std.proofs.Common.{◌≡◌, ◌⊎◌, ℕ, ◌+◌, ◌-◌, ◌^◌, ◌<◌, ◌≤◌, List, [], ◌∷◌, ◌++◌, length, take, drop, refl, sym, ap, ◌∙◌, append_assoc, arith, inl, inr, zero, suc, ◌*◌, true, subst, None, eq-eqb, Option, Some, Ok, true≢false, ap₂}
 use Rattle.cdf_vars.proofs.Common.{take_all, length-append, length-map, length-take, length-drop, take_at, drop-drop, big_bytes, drop-put_there, field_reads, length-with_field, other_bytes, byte, Same, word, number, size_at, LiesIn, with_field, length-put, piece_kept, word_kept, before_first, last_or, slice_get, ◌==◌, slice_set, Kind, Leads, next_of, next_field, is_in, vdr_flags, VariableShape, Shape, vdrs, shape, IsSound, dimensions_at, is_z, pad_field, value_bytes, dims_at, elems_at, type_of_variable, vdr_end, Good, shapes_of, AllKeep, Allowances, stays_own, head_of, members_of, type_in, before, type_of_body, IsBody, variables_chain, Chain, kind_chain, StandsAmong, sound, typed, in_middle, tile, AreBytes, word_fits, owned_records, times, owned, In, Distinct, vdr_bytes, room, IsVdr, IsPlace, MayPad, padded_flags, ne_eqb, good_is_sound, cut, got-middle, PadPlace, Done, Refused, TooLarge, Plain, DataType, Go, turned, DataSet, Variable, image_limit, Found, value_size, ByStep, step, size_of, values_in, with_variable, content, variable_of, is_little, tile_lies, Answers, gone, too_large, VarId, Known, Knows, known_of}
 use Rattle.std.proofs.lemmas.List.{get_or-drop, get_or-take, get_or_append_left, ext_get_or, drop_at}
-use Rattle.byteorder.specs.Numbers.{length-bytes_high_first}
-use Rattle.cdf_base.specs.Bytes.{put}
+use Rattle.cdf_edits.proofs.Common.{Anything, Exchanged, SetsPad, cases_lt, is_in-true, length-bytes_high_first, put, set_pad_changes, vdrs_append}
 use Rattle.cdf_fields.proofs.Writes.{word-put_number, word-put_outside}
 use Rattle.cdf_format.proofs.BytesLemmas.{byte-put_before, byte-put_inside, byte-put_after}
-use Rattle.cdf_edits.proofs.Frame.VdrCopied.{Copied, word_copied, VdrCopied}
+use Rattle.cdf_edits.proofs.Edits.Common.{Copied, VdrCopied, fits, leads_rest, pad_long, pad_width, same_link, word_copied}
+use Rattle.cdf_edits.proofs.Commands.ListParts.{AtNumber, at_number}
 use Rattle.std.specs.Prelude.{slice_index}
-use Rattle.cdf_edits.specs.Commands.Allowances.{Anything}
-use Rattle.cdf_edits.specs.Space.Adding.{Exchanged}
 use Rattle.cdf_edits.proofs.Edits.JoinedVdr.{behind_link, file, is_vdr_body, joined_type}
 use Rattle.cdf_edits.proofs.Edits.MovedVdr.{CopiesVdr, MovesVdr, chain_late, members, old_free, old_in, sound_late, own'}
 use Rattle.cdf_edits.proofs.Edits.PadMoved.{HoldsPad, moved_sets_pad, pad_means}
 use Rattle.cdf_edits.proofs.Edits.PadWritten.{WritesPad, edits, meaning, packed, padded_end, pads_in_place}
-use Rattle.cdf_edits.proofs.Edits.VdrEdited.{fits}
-use Rattle.cdf_edits.proofs.Frame.Meaning.{pad_long, pad_width}
 use Rattle.cdf_vars.proofs.VariableChains.{has_variable_chain, variable_members}
 use Rattle.cdf_base.proofs.Puts.{put-append}
-use Rattle.cdf_edits.proofs.Space.TakenFromList.{leads_rest}
-use Rattle.cdf_format.proofs.GoodImageLemmas.{vdrs_append}
 use Rattle.cdf_space.proofs.Filling.{word-put_inside}
-use Rattle.cdf_format.proofs.Members.{is_in-true}
 use Rattle.cdf_vars.specs.Padding.{IsPadded, padded_body, IsRequest, MovedTo, Moves}
 use Rattle.cdf_var_records.proofs.VdrParts.{pad_place, at as vdr_at, inside as vdr_inside, own as vdr_own, dims_long}
-use Rattle.std.proofs.lemmas.Bool.{cases_lt}
-use Rattle.cdf_edits.proofs.Commands.ListParts.{Cut}
 use Rattle.cdf_model.specs.declared.command.Command.TheVariants.{SetPad}
-use Rattle.cdf_edits.specs.Commands.Variables.{SetsPad, set_pad_changes}
 use Rattle.cdf_edits.proofs.Edits.FreedVdr.{acts, acts_now, edit_now, freed_content, freed_good, freed_is, keeps_now, long_now}
 use Rattle.cdf_vars.specs.declared.padding.PadRequest.{PadRequest}
 use Rattle.cdf_vars.specs.declared.padding.PadRequest.TheVariants.{Put}
@@ -126,10 +116,6 @@ module _ (b value : List ℕ) (v at n : ℕ) (inside : v + at ≤ length b) (lat
         let whole : drop (by + 8) written ≡ front ++ (value ++ more) = drop-put_there taken new (by + 8) (omega arith) ∙ append_assoc front value more in
         let behind : drop (by + at) written ≡ value ++ more = ap (λ (p : ℕ). drop p written) to ∙ sym (drop-drop (at - 8) (by + 8) written) ∙ ap (drop (at - 8)) whole ∙ drop_at front (value ++ more) (at - 8) length-front in
         ap (take (length value)) behind ∙ take_at value more (length value) refl
-
-same_link : (b now : List ℕ) (link link' : ℕ) (xs : List ℕ) → Leads b link xs 0 → Leads now link' xs 0 → link' ≡ link
-same_link b now link link' [] l m = m ∙ sym l
-same_link b now link link' (x ∷ xs) l m = m.0 ∙ sym l.0
 
 -- equal numbers have equal bytes
 digits_same : (P x x' y y' : ℕ) → y < P → y' < P → x * P + y ≡ x' * P + y' → (x ≡ x') × (y ≡ y')
@@ -247,7 +233,7 @@ module _ (value : List ℕ) {b : List ℕ} {kind : Kind} {before : List Variable
           let link = number b s.gdr (head_of c) in
           let was = subst (λ (ms : List ℕ). Leads b link ms 0) (members good at made) (kind_chain kind (sound good at).has_shape).leads in
           let is = subst (λ (ms : List ℕ). Leads late (number late s.gdr (head_of c)) ms 0) (vdrs_append before (record own { vdr = by } ∷ after)) (chain_late good at made).leads in
-          same_link b late (next_of b v) (next_of late by) (vdrs after) (leads_rest b link (vdrs before) v (vdrs after) was) (leads_rest late _ (vdrs before) by (vdrs after) is)
+          sym (same_link b late (next_of b v) (next_of late by) (vdrs after) (leads_rest b link (vdrs before) v (vdrs after) was) (leads_rest late _ (vdrs before) by (vdrs after) is))
 
       alike : (i : ℕ) → 12 ≤ i → i < place → (i < 44) ⊎ (44 + 4 ≤ i) → byte late (by + i) ≡ byte b (v + i)
       alike i low high side = elim (cases_lt i 20) [
@@ -289,26 +275,16 @@ module _ {b body : List ℕ} {kind : Kind} {old : ℕ} (good : Good b) (vdr : Is
 -- ---- at an index of the places of its kind
 
 -- those before it
-before_own : (vs : List VariableShape) (own : VariableShape) (after : List VariableShape) → Distinct (vdrs (vs ++ own ∷ after)) → take (length vs) (vdrs (vs ++ own ∷ after)) ≡ before own.vdr (vdrs (vs ++ own ∷ after))
+before_own : (vs : List VariableShape) (own : VariableShape) (after : List VariableShape) → Distinct (vdrs (vs ++ own ∷ after)) → vdrs vs ≡ before own.vdr (vdrs (vs ++ own ∷ after))
 before_own [] own after d = rw (eq-eqb own.vdr own.vdr refl) refl
 before_own (v ∷ vs) own after d = rw (ne_eqb v.vdr own.vdr (λ e. d.0 (subst (λ (x : ℕ). In x (vdrs (vs ++ own ∷ after))) (sym e) (in_middle vs own after)))) (ap (λ (r : List ℕ). v.vdr ∷ r) (before_own vs own after d.1))
 
-index_middle : (vs : List VariableShape) (own : VariableShape) (after : List VariableShape) → slice_index (vdrs (vs ++ own ∷ after)) (length vs) ≡ own.vdr
-index_middle [] own after = refl
-index_middle (v ∷ vs) own after = index_middle vs own after
-
 module _ (b : List ℕ) (kind : Kind) {places : List ℕ} {num vdr : ℕ} (good : Good b) (are : places ≡ vdrs (shapes_of (shape b) kind)) (within : num < length places) (is : vdr ≡ slice_index places num) where
-  abbrev vs : List VariableShape
-  vs = shapes_of (shape b) kind
-
-  there : Cut vs num
-  there = cut vs num (subst (λ (k : ℕ). num < k) (ap (λ (xs : List ℕ). length xs) are ∙ length-map vs (λ (v : VariableShape). v.vdr)) within)
-
-  all_are : places ≡ vdrs (there.before ++ there.own ∷ there.after)
-  all_are = are ∙ ap vdrs there.is
+  there : AtNumber (λ (v : VariableShape). v.vdr) (shapes_of (shape b) kind) places num
+  there = at_number (λ (v : VariableShape). v.vdr) (shapes_of (shape b) kind) places are num within
 
   vdr_is : there.own.vdr ≡ vdr
-  vdr_is = sym (index_middle there.before there.own there.after) ∙ (λ i. slice_index (sym all_are i) (there.count i)) ∙ sym is
+  vdr_is = sym there.own_at ∙ sym is
 
   pub is_vdr : IsVdr b kind vdr
   is_vdr = record { before = there.before; own = there.own; after = there.after; was = there.is ∙ ap (λ (k : ℕ). there.before ++ record there.own { vdr = k } ∷ there.after) vdr_is }
@@ -318,7 +294,7 @@ module _ (b : List ℕ) (kind : Kind) {places : List ℕ} {num vdr : ℕ} (good 
       let h = (good_is_sound b good).has_shape in
       let members : members_of b (variables_chain kind) ≡ vdrs (there.before ++ there.own ∷ there.after) = variable_members b (shape b) h kind ∙ ap vdrs there.is in
       let front = before_own there.before there.own there.after (subst Distinct members (has_variable_chain b (shape b) h kind).once) in
-      ap (last_or None) ((λ i. take (sym there.count i) (all_are i)) ∙ front ∙ (λ i. before (vdr_is i) (sym members i)))
+      ap (last_or None) (there.front_at ∙ front ∙ (λ i. before (vdr_is i) (sym members i)))
 
   module _ {p : PadPlace} (place : IsPlace b vdr p) where
     pub place_late : 340 ≤ p.at

@@ -5,10 +5,7 @@ use Rattle.cdf_values.proofs.TurnedLemmas.{in_place}
 
 -- of one word
 pub value_long : (t : DataType) (elems : ℕ) (words : List (List ℕ)) (value : List ℕ) → HasElements t elems → values_in t elems 1 words ≡ Ok value → length value ≡ size_of t * elems
-value_long t elems words value one e = values_long t elems 1 words value one e ∙ once (size_of t * elems)
-  where
-    once : (n : ℕ) → n * 1 ≡ n
-    once n = omega arith
+value_long t elems words value one e = values_long t elems 1 words value one e ∙ omega arith
 
 -- turned into the byte order of a file, in place
 pub is_value : (t : DataType) (little : Bool) (elems n : ℕ) (words : List (List ℕ)) (value now : List ℕ) → HasElements t elems → values_in t elems 1 words ≡ Ok value → n ≡ length value → now ≡ turned t little value → IsValue little t elems words (take n (now ++ drop (length now) value))

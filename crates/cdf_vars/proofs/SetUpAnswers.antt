@@ -59,43 +59,14 @@ module _ (limit : ℕ) (b mid : List ℕ) (code : ℕ) (majority : Majority) (di
         pub is_done : length b + (84 + 4 * length dims) ≤ limit → (now : List ℕ) → Follows mid (Setup code majority dims) now → Answers limit b (Setup code majority dims) (Done Plain) now
         is_done room now follows = gone limit b c (set_up (content b) code majority dims) Plain now goes room (subst (λ (x : List ℕ). Follows x c now) same follows)
 
--- ---- the sizes of dimensions
-
-abbrev is_bad_size : ℕ → Bool
-is_bad_size size = (size == 0) || nat_lt 2147483647 size
-
-fine_sizes : (dims : List ℕ) → list_any is_bad_size dims ≡ false → Each (λ n. n < 256 ^ 4) dims × (list_all is_positive dims ≡ true)
-fine_sizes [] e = (tt, refl)
-fine_sizes (n ∷ more) e =
-    let p = or_parts (is_bad_size n) (list_any is_bad_size more) e in
-    let small : n ≤ 2147483647 = grind (arith, p.0) in
-    let positive : is_positive n ≡ true = grind (arith, p.0) in
-    let rest = fine_sizes more p.1 in
-    ((omega arith, rest.0), rw (positive, rest.1) refl)
-
-module _ (dims : List ℕ) (fine : are_bad_sizes dims ≡ false) where
-  parts : (nat_lt 10 (length dims) ≡ false) × (list_any is_bad_size dims ≡ false)
-  parts = or_parts (nat_lt 10 (length dims)) (list_any is_bad_size dims) fine
-
-  pub few_dims : length dims ≤ 10
-  few_dims = let p = parts.0 in grind (arith, p)
-
-  pub small_dims : Each (λ n. n < 256 ^ 4) dims
-  small_dims = (fine_sizes dims parts.1).0
-
-  pub positive_dims : list_all is_positive dims ≡ true
-  positive_dims = (fine_sizes dims parts.1).1
-
 -- ---- the calls
 
 -- what fits the GDR lies in the image
 pub fits_gdr : (b : List ℕ) (g n : ℕ) → Good b → g ≡ gdr_offset b → 84 + 4 * n ≤ size_at b (gdr_offset b) → g + 84 + 4 * n ≤ length b
 fits_gdr b g n good is room =
     let h = (good_is_sound b good).has_shape in
-    reach g (size_at b (gdr_offset b)) (length b) n (subst (λ (x : ℕ). x + size_at b (gdr_offset b) ≤ length b) (sym is) (subst (λ (x : ℕ). x + size_at b x ≤ length b) (sym h.gdr_is) (tile_lies b 8 (length b) (shape b).records (shape b).gdr h.tiled (gdr_in b (shape b) h)).high)) room
-  where
-    reach : (g k l n : ℕ) → g + k ≤ l → 84 + 4 * n ≤ k → g + 84 + 4 * n ≤ l
-    reach g k l n p q = omega arith
+    let lies : gdr_offset b + size_at b (gdr_offset b) ≤ length b = subst (λ (x : ℕ). x + size_at b x ≤ length b) (sym h.gdr_is) (tile_lies b 8 (length b) (shape b).records (shape b).gdr h.tiled (gdr_in b (shape b) h)).high in
+    omega arith
 
 -- a record that was taken lies in the image
 pub taken_lies : {b taken : List ℕ} {need place : ℕ} → Takes b taken (shape b) (shape taken) need place → IsSound taken (shape taken) → place + need ≤ length taken

@@ -1,7 +1,7 @@
 -- `setup` follows its command: the dimensions of a GDR and the CDR are written, what the image has by then, whatever became of the GDR, and the two ways, in its place and moved.
 use Rattle.std.proofs.Common.{◌≡◌, ◌≢◌, ℕ, ◌+◌, ◌-◌, ◌*◌, ◌/◌, ◌%◌, ◌<◌, ◌≤◌, List, [], ◌∷◌, ◌++◌, length, map, sum, drop, Bool, true, false, not, ◌||◌, refl, sym, ap, subst, ◌∙◌, arith, inl, inr, ◌^◌}
 use Rattle.cdf_vars.proofs.Common.{gdr_fits, IsGoodByShape, is_in, le-leb, length-take, length-drop, w32, cast_signed, list_all, ◌==◌, ◌&&◌, is_some, nat_le, if◌then◌else◌, ◌||◌, put, Majority, Row, Column, DataSet, encoding_at, image_limit, are_bad_sizes, is_empty_set, AllKeep, Edit, Mark, avoided, within, is_late, making_marks, Follows, Changed, touched_field, Act, Took, Gave, Fills, keep_attributes, acts_took, end_now, filled_size, filled_sound, list_chain, made_edit, place_in, shorter, the_one, unmarked-away, keep_file, keeps_fields, gdr_in, gdr_long, gdr_typed, apart, length-words, words_laid_out, Same, byte, IsChain, Leads, next_of, content, counted, has_bit, is_positive, number, word, words, size_at, type_at, gdr_offset, r_num_dims, r_sizes, with_field, owned_records, times, Field, cdr_encoding, cdr_flags, gdr_r_max_rec, gdr_r_num_dims, record_type, cdr_type, gdr_type, uir_type, fixed_size, is_record_type, Shape, HasShape, shape, IsSound, In, Good, of_4_bytes, length-put, word_kept, words_kept, is_a-type, good_by_its_shape, good_eof, good_is_sound, rules_of_good, good_long, sealed_kept, content_is, shape_is, WritesHeads, small_signed, drop-put_there}
-use Rattle.std.proofs.lemmas.Bool.{lt-leb, leb-true}
+use Rattle.cdf_edits.proofs.Common.{AreTiles, Gives, Holds, IsGiven, Unused, both, content_of, encoding, eof, flags, is_a-from, leb-true, lt-leb, majority_of, owned_by, read_types, sealed_keeps, unused, unused_records, with_space}
 use Rattle.cdf_model.specs.declared.answer.Reply.TheVariants as replies
 use Rattle.cdf_model.specs.declared.command.Command.TheVariants as commands
 use Rattle.cdf_edits.specs.Commands.Allowances.{FreedStay, Stays, StaysOrSays, space_fields}
@@ -9,41 +9,18 @@ use Rattle.cdf_edits.specs.Commands.NewRecords.{with_bits, MovesForRoom, moved_f
 use Rattle.cdf_edits.specs.Commands.Setup.{majority_bit, setup_changes, space_taken}
 use Rattle.cdf_edits.specs.Edits.Marks.{Avoids, Within, giving_marks, Among, Anywhere, mark, field_marks}
 use Rattle.cdf_edits.specs.Space.Acts.{ActsFollow, links_end, taken as taken_of}
-use Rattle.cdf_edits.specs.Space.Giving.{IsGiven}
 use Rattle.cdf_edits.specs.Space.Taking.{IsTaken}
-use Rattle.cdf_edits.specs.Space.Placement.{Gives, unused, with_space}
-use Rattle.cdf_edits.proofs.Edits.ActsThen.{acts_gave}
-use Rattle.cdf_edits.proofs.Edits.Composing.{edit_then, changed_edit}
-use Rattle.cdf_edits.proofs.Edits.EditActs.{acts_none}
-use Rattle.cdf_edits.proofs.Edits.EmptySet.{HasNone, has_none, times_with, as_many, no_more, gdr_once, others_none, empty_shape, empty_sound, no_attribute, no_variable, is_empty}
-use Rattle.cdf_edits.proofs.Edits.ChainOwners.{IsHeld}
-use Rattle.cdf_edits.proofs.Edits.FirstRecords.{read_now}
-use Rattle.cdf_edits.proofs.Edits.OwnedOnce.{IsSorted, none_in_use, owned_once_if}
+use Rattle.cdf_edits.proofs.Edits.Common.{Avoids-append, Away-append, FirstSays, IsHeld, IsSorted, Within-append, acts_gave, acts_none, all_attribute_records, all_keep, all_variable_records, avoided-avoids, chain_clear, changed_edit, changed_put, edit_then, field_avoids, first_hold, first_said, gives_edit, keep_unused, keeps_within, none_in_use, owned_once_if, part_clear, places-sized, placing_marks, read_now, same_link, sizes_by_tiles, some_bytes, takes_edit, within-within}
+use Rattle.cdf_edits.proofs.Edits.EmptySet.{times_with, as_many, no_more, gdr_once, others_none, empty_shape, empty_sound, is_empty}
 use Rattle.cdf_edits.proofs.Edits.FieldWritten.{Stands, stands_fixed, field_in, still_stands, still_says, written_edit, written_long, written_reads}
 use Rattle.cdf_edits.proofs.Edits.FreedBytes.{BytesStay, behind_one, freed_stay_but}
-use Rattle.cdf_edits.proofs.Edits.FreedRecords.{sizes_by_tiles}
 use Rattle.cdf_edits.proofs.Edits.MadeRecord.{filled_content, filled_edit, fresh, listed_before, listed_marks, loose_away, second}
-use Rattle.cdf_edits.proofs.Edits.MarkLemmas.{Avoids-append, Away-append, Within-append, avoided-avoids, within-within}
-use Rattle.cdf_edits.proofs.Edits.OwnersKept.{all_keep, keep_unused, keeps_within}
-use Rattle.cdf_edits.proofs.Edits.RecordFrame.{field_avoids, part_clear, chain_clear}
-use Rattle.cdf_edits.proofs.Edits.RecordPlaced.{placing_marks}
-use Rattle.cdf_edits.proofs.Edits.StepEdits.{gives_edit, some_bytes, takes_edit}
-use Rattle.cdf_edits.proofs.Frame.ChangedBytes.{changed_put}
-use Rattle.cdf_edits.proofs.Rules.FirstHead.{FirstSays, first_said, first_hold}
-use Rattle.cdf_edits.proofs.Space.ActsLeave.{places-sized}
 use Rattle.cdf_space.proofs.Filling.{word-put_inside}
-use Rattle.cdf_format.specs.Content.{content_of, majority_of}
-use Rattle.cdf_format.specs.Fields.{Holds, eof, flags, encoding}
-use Rattle.cdf_format.specs.Owners.{Unused, owned_by, unused_records}
 use Rattle.cdf_format.specs.Records.{cdr_increment, cdr_release, cdr_version, cdr_gdr_offset, gdr_eof, gdr_leap_second_last_updated, gdr_num_attr, gdr_nr_vars, gdr_nz_vars, gdr_r_dim_sizes, gdr_rfu_c, gdr_rfu_e, gdr_uir_head, uir_next_uir, uir_prev_uir, gdr_adr_head, gdr_r_vdr_head, gdr_z_vdr_head}
-use Rattle.cdf_format.specs.NotRead.{read_types}
-use Rattle.cdf_format.specs.Tiles.{AreTiles}
-use Rattle.cdf_format.proofs.ChainsLemmas.{is_a-from}
 use Rattle.cdf_format.proofs.Pieces.{word-piece}
-use Rattle.cdf_format.proofs.SealedRules.{sealed_keeps}
-use Rattle.cdf_format.proofs.Tests.{both}
 use Rattle.cdf_vars.specs.Setup.{MakesGdr, gdr_fields}
-use Rattle.cdf_vars.proofs.SetUpAnswers.{few_dims, positive_dims, set_up, small_dims, step_goes, taken_lies}
+use Rattle.cdf_vars.proofs.SetUpAnswers.{set_up, step_goes, taken_lies}
+use Rattle.cdf_vars.proofs.Sizes.{fine_sizes, positive_sizes, sizes_small}
 
 -- ---- the edit
 
@@ -61,11 +38,11 @@ or_true true = refl
 or_true false = refl
 
 -- bytes of the fixed part of a GDR, but for rNumDims
-abbrev pub is_beside : ℕ → ℕ → Bool
-is_beside lo hi = (nat_le 60 lo || nat_le hi 56) && nat_le hi 84
+abbrev pub IsBeside : ℕ → ℕ → Type 0
+IsBeside lo hi = ((nat_le 60 lo || nat_le hi 56) ≡ true) × (hi ≤ 84)
 
-pub heads_avoided : (gdr n lo hi : ℕ) → is_beside lo hi ≡ true → avoided (heads_marks gdr n) gdr_type lo hi ≡ true
-heads_avoided gdr n lo hi e = let p = both (nat_le 60 lo || nat_le hi 56) (nat_le hi 84) e in rw (p.0, p.1, or_true) refl
+pub heads_avoided : (gdr n lo hi : ℕ) → IsBeside lo hi → avoided (heads_marks gdr n) gdr_type lo hi ≡ true
+heads_avoided gdr n lo hi e = rw (e.0, le-leb hi 84 e.1, or_true) refl
 
 -- what the CDR and the GDR at a place say then
 pub record HeadsSay (now : List ℕ) (gdr code bits : ℕ) (dims : List ℕ) : Type 0 where
@@ -101,7 +78,7 @@ module _ {x y records list : List ℕ} {old g code bits : ℕ} {dims : List ℕ}
   cdr = stands_fixed h cdr_type 8 h.cdr_stands
 
   w1 : Wrote x one records g gdr_type (84 + 4 * n) gdr_r_num_dims n
-  w1 = let few = few_dims dims fine in wrote h.tiled is refl (omega arith) (omega arith) (omega arith) refl
+  w1 = let few = (fine_sizes dims fine).0 in wrote h.tiled is refl (omega arith) (omega arith) (omega arith) refl
 
   lies : g + 84 + 4 * n ≤ length one
   lies = let l = w1.long in let r = w.lies in omega arith
@@ -147,7 +124,7 @@ module _ {x y records list : List ℕ} {old g code bits : ℕ} {dims : List ℕ}
   count_is = still_says cdr_edit gdr_2 refl gdr_r_num_dims refl (omega arith) ∙ still_says e2 w1.stands (rw or_true refl) gdr_r_num_dims (rw or_true refl) (omega arith) ∙ w1.says
 
   dims_counted : r_num_dims y g ≡ n
-  dims_counted = let few = few_dims dims fine in ap (λ (k : ℕ). counted (cast_signed w32 k)) count_is ∙ small_signed n (omega arith)
+  dims_counted = let few = (fine_sizes dims fine).0 in ap (λ (k : ℕ). counted (cast_signed w32 k)) count_is ∙ small_signed n (omega arith)
 
   pub heads_say : HeadsSay y g code bits dims
   heads_say =
@@ -159,18 +136,15 @@ module _ {x y records list : List ℕ} {old g code bits : ℕ} {dims : List ℕ}
         count_is = count_is;
         sizes_are =
             ap (words y (g + 84)) dims_counted
-            ∙ words_kept w.mid y (g + 84) (g + (84 + 4 * n)) kept (g + 84) n (omega arith) (up g n)
-            ∙ (words_laid_out w.mid (g + 84) dims (drop (g + 84 + length bytes) one) there (small_dims dims fine)).0;
+            ∙ words_kept w.mid y (g + 84) (g + (84 + 4 * n)) kept (g + 84) n (omega arith) (omega arith)
+            ∙ (words_laid_out w.mid (g + 84) dims (drop (g + 84 + length bytes) one) there (sizes_small dims (fine_sizes dims fine).1)).0;
       }
-    where
-      up : (g n : ℕ) → g + 84 + 4 * n ≤ g + (84 + 4 * n)
-      up g n = omega arith
 
   -- another field of the GDR
-  pub gdr_still : (f : Field) → is_beside f.place (f.place + f.width) ≡ true → number y g f ≡ number x g f
+  pub gdr_still : (f : Field) → IsBeside f.place (f.place + f.width) → number y g f ≡ number x g f
   gdr_still f beside =
-      let high = leb-true (f.place + f.width) 84 (both (nat_le 60 f.place || nat_le (f.place + f.width) 56) (nat_le (f.place + f.width) 84) beside).1 in
-      still_says heads_edit is (heads_avoided g n 0 12 refl) f (heads_avoided g n f.place (f.place + f.width) beside) (omega arith)
+      let high = beside.1 in
+      still_says heads_edit is (heads_avoided g n 0 12 (refl, omega arith)) f (heads_avoided g n f.place (f.place + f.width) beside) (omega arith)
 
   -- ---- the shape
 
@@ -195,10 +169,10 @@ module _ {x y records list : List ℕ} {old g code bits : ℕ} {dims : List ℕ}
     cdr_stands = is_a-from y records cdr_type 8 cdr.inside (types 8 cdr.inside ∙ cdr.typed);
     gdr_is = still_says (edit_then w4.edit w5.edit) w3.stands refl cdr_gdr_offset refl (omega arith) ∙ w3.says;
     gdr_stands = is_a-from y records gdr_type g is.inside (types g is.inside ∙ is.typed);
-    attribute_chain = no_chain _ _ (gdr_still gdr_adr_head refl ∙ same gdr_adr_head (omega arith) (omega arith) ∙ h.attribute_chain.leads);
-    r_chain = no_chain _ _ (gdr_still gdr_r_vdr_head refl ∙ same gdr_r_vdr_head (omega arith) (omega arith) ∙ h.r_chain.leads);
-    z_chain = no_chain _ _ (gdr_still gdr_z_vdr_head refl ∙ same gdr_z_vdr_head (omega arith) (omega arith) ∙ h.z_chain.leads);
-    unused_chain = chain_clear heads_edit uir_type _ _ list h.unused_chain (gdr_still gdr_uir_head refl ∙ same gdr_uir_head (omega arith) (omega arith)) refl;
+    attribute_chain = no_chain _ _ (gdr_still gdr_adr_head (refl, omega arith) ∙ same gdr_adr_head (omega arith) (omega arith) ∙ h.attribute_chain.leads);
+    r_chain = no_chain _ _ (gdr_still gdr_r_vdr_head (refl, omega arith) ∙ same gdr_r_vdr_head (omega arith) (omega arith) ∙ h.r_chain.leads);
+    z_chain = no_chain _ _ (gdr_still gdr_z_vdr_head (refl, omega arith) ∙ same gdr_z_vdr_head (omega arith) (omega arith) ∙ h.z_chain.leads);
+    unused_chain = chain_clear heads_edit uir_type _ _ list h.unused_chain (gdr_still gdr_uir_head (refl, omega arith) ∙ same gdr_uir_head (omega arith) (omega arith)) refl;
     entry_chains = tt;
     have_variables = tt;
   }
@@ -245,15 +219,8 @@ bits_stay n m =
 -- ---- what `setup` leaves, whatever became of the GDR
 
 -- fields of a GDR that stay: not those of the dimensions, and not those of the space
-abbrev pub is_copied : Field → Bool
-is_copied f = is_beside f.place (f.place + f.width) && ((nat_le 44 f.place || nat_le (f.place + f.width) 36) && ((nat_le 72 f.place || nat_le (f.place + f.width) 64) && nat_le 12 f.place))
-
-copied_parts : (f : Field) → is_copied f ≡ true → (is_beside f.place (f.place + f.width) ≡ true) × ((nat_le 44 f.place || nat_le (f.place + f.width) 36) ≡ true) × ((nat_le 72 f.place || nat_le (f.place + f.width) 64) ≡ true) × (nat_le 12 f.place ≡ true)
-copied_parts f e =
-    let p = both (is_beside f.place (f.place + f.width)) ((nat_le 44 f.place || nat_le (f.place + f.width) 36) && ((nat_le 72 f.place || nat_le (f.place + f.width) 64) && nat_le 12 f.place)) e in
-    let q = both (nat_le 44 f.place || nat_le (f.place + f.width) 36) ((nat_le 72 f.place || nat_le (f.place + f.width) 64) && nat_le 12 f.place) p.1 in
-    let r = both (nat_le 72 f.place || nat_le (f.place + f.width) 64) (nat_le 12 f.place) q.1 in
-    (p.0, q.0, r.0, r.1)
+abbrev IsCopied : Field → Type 0
+IsCopied f = IsBeside f.place (f.place + f.width) × ((nat_le 44 f.place || nat_le (f.place + f.width) 36) ≡ true) × ((nat_le 72 f.place || nat_le (f.place + f.width) 64) ≡ true) × (nat_le 12 f.place ≡ true)
 
 -- The CDR and the GDR say what they have to, no other record is in use, and the unused ones and the space are as these acts leave them.
 record IsSetUp (b now records list : List ℕ) (gdr code bits : ℕ) (majority : Majority) (dims : List ℕ) (marks : List Mark) (reborn : List ℕ) (acts : List Act) : Type 0 where
@@ -265,7 +232,7 @@ record IsSetUp (b now records list : List ℕ) (gdr code bits : ℕ) (majority :
   content_now : content now ≡ set_up (content b) code majority dims
   flags_now : flags now ≡ bits
   count_now : number now gdr gdr_r_num_dims ≡ length dims
-  stays : (f : Field) → is_copied f ≡ true → number now gdr f ≡ number b (gdr_offset b) f
+  stays : (f : Field) → IsCopied f → number now gdr f ≡ number b (gdr_offset b) f
   end : eof now gdr ≡ length now
   longest : length now ≤ length b + (84 + 4 * length dims)
   as_owned : (m : ℕ) → (In m reborn → ⊥) → times_with gdr m ≡ times_with (gdr_offset b) m
@@ -277,11 +244,6 @@ record IsSetUp (b now records list : List ℕ) (gdr code bits : ℕ) (majority :
   room : MovesForRoom b now (gdr_offset b) (gdr_offset now) (84 + 4 * length dims)
   freed : FreedStay b now (λ type. space_fields) acts
   emptied : gdr_offset now ≢ gdr_offset b → StaysOrSays b now (gdr_offset b) (space_taken now (gdr_offset b))
-
--- links that lead through the same list are the same
-same_link : (b now : List ℕ) (x y : ℕ) (ms : List ℕ) → Leads b x ms 0 → Leads now y ms 0 → x ≡ y
-same_link b now x y [] p q = p ∙ sym q
-same_link b now x y (k ∷ ms) p q = p.0 ∙ sym q.0
 
 module _ (b dims : List ℕ) (good : Good b) (empty : is_empty_set (content b) ≡ true) (fine : are_bad_sizes dims ≡ false) where
   abbrev s : Shape
@@ -296,9 +258,6 @@ module _ (b dims : List ℕ) (good : Good b) (empty : is_empty_set (content b) �
   sound : IsSound b s
   sound = good_is_sound b good
 
-  has : HasNone s
-  has = has_none b good empty
-
   abbrev before : Shape
   before = empty_shape (shape b).records (gdr_offset b) (shape b).unused
 
@@ -306,7 +265,7 @@ module _ (b dims : List ℕ) (good : Good b) (empty : is_empty_set (content b) �
   at = sym sound.has_shape.gdr_is
 
   before_is : s ≡ before
-  before_is = is_empty s has ∙ ap (λ (g : ℕ). empty_shape s.records g s.unused) at
+  before_is = is_empty b good empty ∙ ap (λ (g : ℕ). empty_shape s.records g s.unused) at
 
   image : IsGoodByShape b before
   image = subst (IsGoodByShape b) before_is (good_by_its_shape b good)
@@ -324,7 +283,7 @@ module _ (b dims : List ℕ) (good : Good b) (empty : is_empty_set (content b) �
     abbrev own : Shape
     own = empty_shape records gdr list
 
-    moved : (f : Field) → is_copied f ≡ true → number now (gdr_offset now) f ≡ number b (gdr_offset b) f
+    moved : (f : Field) → IsCopied f → number now (gdr_offset now) f ≡ number b (gdr_offset b) f
     moved f copied = ap (λ (g : ℕ). number now g f) is.sound.has_shape.gdr_is ∙ is.stays f copied
 
     says : FirstSays now gdr
@@ -343,19 +302,19 @@ module _ (b dims : List ℕ) (good : Good b) (empty : is_empty_set (content b) �
           encoding_read = ap (λ (d : DataSet). is_some (encoding_at d.encoding)) own_content ∙ read;
           single_file = ap (λ (n : ℕ). has_bit n 1) bits_now ∙ bits.0 ∙ was.single_file;
           md5_used = test ∙ was.md5_used;
-          few = subst (λ (n : ℕ). n ≤ 10) (sym is.count_now) (few_dims dims fine);
-          positive = ap (λ (d : DataSet). list_all is_positive d.rdims) own_content ∙ positive_dims dims fine;
+          few = subst (λ (n : ℕ). n ≤ 10) (sym is.count_now) ((fine_sizes dims fine).0);
+          positive = ap (λ (d : DataSet). list_all is_positive d.rdims) own_content ∙ positive_sizes dims (fine_sizes dims fine).1;
           eof_is = is.end;
         }
 
-    none_counted : (f : Field) → is_copied f ≡ true → (number b (gdr_offset b) f == 0) ≡ true → (number now (gdr_offset now) f == 0) ≡ true
+    none_counted : (f : Field) → IsCopied f → (number b (gdr_offset b) f == 0) ≡ true → (number now (gdr_offset now) f == 0) ≡ true
     none_counted f copied none = ap (λ (n : ℕ). n == 0) (moved f copied) ∙ none
 
     good_now : IsGoodByShape now own
     good_now = record {
       has_shape = is.sound.has_shape;
       read_types = read_now is.edit image.read_types (λ m i. (is.anew m i).1);
-      counting = (none_counted gdr_num_attr refl image.counting.0, (none_counted gdr_nr_vars refl image.counting.1.0, (none_counted gdr_nz_vars refl image.counting.1.1.0, tt)));
+      counting = (none_counted gdr_num_attr ((refl, omega arith), refl, refl, refl) image.counting.0, (none_counted gdr_nr_vars ((refl, omega arith), refl, refl, refl) image.counting.1.0, (none_counted gdr_nz_vars ((refl, omega arith), refl, refl, refl) image.counting.1.1.0, tt)));
       attributes = tt;
       of_variables = tt;
       indexes = tt;
@@ -376,11 +335,11 @@ module _ (b dims : List ℕ) (good : Good b) (empty : is_empty_set (content b) �
           acts = acts;
           takes_within = is.takes_within;
           acts_follow = is.acts_follow;
-          keeps = all_keep b now setup_changes acts (keep_file b now setup_changes acts sound heads tt) (keep_attributes b now setup_changes acts 0 s.attributes (λ m i. absurd (no_attribute s has m i))) (λ m i. absurd (no_variable s has m i)) is.unused_stay;
+          keeps = all_keep b now setup_changes acts (keep_file b now setup_changes acts sound heads tt) (keep_attributes b now setup_changes acts 0 s.attributes (λ m i. absurd (subst (λ (x : Shape). In m (all_attribute_records x)) before_is i))) (λ m i. absurd (subst (λ (x : Shape). In m (all_variable_records x)) before_is i)) is.unused_stay;
           does = record {
             acts_are = is.acts_are;
             flags_are = is.flags_now ∙ bits_are;
-            fields_stay = (moved gdr_r_max_rec refl, (moved gdr_rfu_c refl, (moved gdr_leap_second_last_updated refl, (moved gdr_rfu_e refl, tt))));
+            fields_stay = (moved gdr_r_max_rec ((refl, omega arith), refl, refl, refl), (moved gdr_rfu_c ((refl, omega arith), refl, refl, refl), (moved gdr_leap_second_last_updated ((refl, omega arith), refl, refl, refl), (moved gdr_rfu_e ((refl, omega arith), refl, refl, refl), tt))));
             room = is.room;
             freed = is.freed;
             emptied = is.emptied;
@@ -426,8 +385,8 @@ module _ (b dims : List ℕ) (good : Good b) (empty : is_empty_set (content b) �
       content_now = heads_content bare.has_shape fine gdr here shape_now (ap (λ (n : ℕ). majority_of (has_bit n 0)) bits_are ∙ bit_0 (flags b) majority) (ap (λ (n : ℕ). has_bit n 2) bits_are ∙ (bits_stay (flags b) majority).1);
       flags_now = (heads_say bare.has_shape fine gdr here).flags_are;
       count_now = (heads_say bare.has_shape fine gdr here).count_is;
-      stays = λ f copied. gdr_still bare.has_shape fine gdr here f (copied_parts f copied).0;
-      end = gdr_still bare.has_shape fine gdr here gdr_eof refl ∙ good_eof b good ∙ sym same_long;
+      stays = λ f copied. gdr_still bare.has_shape fine gdr here f copied.0;
+      end = gdr_still bare.has_shape fine gdr here gdr_eof (refl, omega arith) ∙ good_eof b good ∙ sym same_long;
       longest = omega (arith, same_long);
       as_owned = λ m out. refl;
       anew = λ m i. absurd i;
@@ -439,7 +398,7 @@ module _ (b dims : List ℕ) (good : Good b) (empty : is_empty_set (content b) �
       room = λ le. record {
         place_stays = shape_now.gdr_is;
         size_stays = heads_sizes bare.has_shape fine gdr here old gdr_before.inside;
-        rest_stays = e.part old gdr_type need (size_at b old) gdr_before.inside gdr_before.typed (avoided-avoids in_place gdr_type old 0 12 (heads_avoided old (length dims) 0 12 refl)) behind_dims (omega arith);
+        rest_stays = e.part old gdr_type need (size_at b old) gdr_before.inside gdr_before.typed (avoided-avoids in_place gdr_type old 0 12 (heads_avoided old (length dims) 0 12 (refl, omega arith))) behind_dims (omega arith);
       };
       freed = tt;
       emptied = λ moves. absurd (moves shape_now.gdr_is);
@@ -481,14 +440,13 @@ module _ (b dims : List ℕ) (good : Good b) (empty : is_empty_set (content b) �
     copied_field f low high =
         let l = place_ends in
         let p = piece_long in
+        let from : place + f.place ≡ place + 8 + (f.place - 8) = omega arith in
+        let to : old + 8 + (f.place - 8) ≡ old + f.place = omega arith in
         ap (λ (x : List ℕ). number x place f) m.copy
-        ∙ ap (λ (p : ℕ). word (put m.taken (place + 8) piece) p f.width) (move place)
+        ∙ ap (λ (p : ℕ). word (put m.taken (place + 8) piece) p f.width) from
         ∙ word-put_inside m.taken piece (place + 8) (f.place - 8) f.width (omega arith) (omega arith)
         ∙ word-piece m.taken (old + 8) (f.place - 8) f.width 76 (omega arith)
-        ∙ ap (λ (p : ℕ). word m.taken p f.width) (sym (move old))
-      where
-        move : (p : ℕ) → p + f.place ≡ p + 8 + (f.place - 8)
-        move p = omega arith
+        ∙ ap (λ (p : ℕ). word m.taken p f.width) to
 
     fills : Fills b m.taken m.copied s records list need place gdr_type
     fills =
@@ -499,7 +457,7 @@ module _ (b dims : List ℕ) (good : Good b) (empty : is_empty_set (content b) �
           takes = is_taken.0;
           sound = is_taken.1;
           content_stays = is_taken.2;
-          fill = record { longer = omega arith; same = λ i lt out. ap (λ (x : List ℕ). byte x i) m.copy ∙ change.same i lt (elim out.0 [ inl low ↦ inl low | inr high ↦ inr (beside i high) ], tt) };
+          fill = record { longer = omega arith; same = λ i lt out. ap (λ (x : List ℕ). byte x i) m.copy ∙ change.same i lt (elim out.0 [ inl low ↦ inl low | inr high ↦ inr (omega arith) ], tt) };
           long = long;
           typed = copied_field record_type (omega arith) (omega arith) ∙ taken_old.typed;
           real = refl;
@@ -507,9 +465,6 @@ module _ (b dims : List ℕ) (good : Good b) (empty : is_empty_set (content b) �
           fixed = omega arith;
           enough = omega arith;
         }
-      where
-        beside : (i : ℕ) → place + 8 + (need - 8) ≤ i → place + 8 + 76 ≤ i
-        beside i h = omega arith
 
     copied_shape : HasShape m.copied (empty_shape records old list)
     copied_shape = subst (λ (x : Shape). HasShape m.copied (with_space x records list)) before_is (filled_sound sound fills).has_shape
@@ -570,17 +525,16 @@ module _ (b dims : List ℕ) (good : Good b) (empty : is_empty_set (content b) �
     old_not_8 q = apart gdr_type cdr_type refl (sym gdr_before.typed ∙ ap (type_at b) q ∙ cdr_before.typed)
 
     -- what it has of the old one
-    new_says : (f : Field) → is_copied f ≡ true → number late place f ≡ number b old f
+    new_says : (f : Field) → IsCopied f → number late place f ≡ number b old f
     new_says f copied =
-        let p = copied_parts f copied in
-        let high = leb-true (f.place + f.width) 84 (both (nat_le 60 f.place || nat_le (f.place + f.width) 56) (nat_le (f.place + f.width) 84) p.0).1 in
-        let low = leb-true 12 f.place p.3 in
-        gdr_still copied_shape fine new m.heads f p.0 ∙ copied_field f (omega arith) high ∙ sym (old_says f high) ∙ still_says (filled_edit sound fills) gdr_before refl f (rw (p.1, p.2) refl) high
+        let high = copied.0.1 in
+        let low = leb-true 12 f.place copied.3 in
+        gdr_still copied_shape fine new m.heads f copied.0 ∙ copied_field f (omega arith) high ∙ sym (old_says f high) ∙ still_says (filled_edit sound fills) gdr_before refl f (rw (copied.1, copied.2) refl) high
 
     -- ---- the old one
 
     late_old : Stands late records old gdr_type 84
-    late_old = still_stands later copied_old (heads_avoided place (length dims) 0 12 refl) (omega arith)
+    late_old = still_stands later copied_old (heads_avoided place (length dims) 0 12 (refl, omega arith)) (omega arith)
 
     -- it changed in its fields of the space alone
     old_stays : Stays b late old space_fields
@@ -588,7 +542,7 @@ module _ (b dims : List ℕ) (good : Good b) (empty : is_empty_set (content b) �
         let no = λ (lies : In old (place ∷ [])). place_not_old (the_one place old lies) in
         let other = λ (q : gdr_type ≡ cdr_type). apart gdr_type cdr_type refl q in
         let heads : Within late_marks gdr_type old space_fields = ((λ q lies. absurd (no lies)), ((λ q lies. absurd (no lies)), ((λ q lies. absurd (other q)), ((λ q lies. absurd (other q)), ((λ q lies. absurd (other q)), tt))))) in
-        keeps_within sound made late_records old gdr_type space_fields gdr_before.inside gdr_before.typed (Avoids-append (placing_marks (shape b).unused place need) late_marks gdr_type old 0 12 (avoided-avoids (placing_marks (shape b).unused place need) gdr_type old 0 12 refl) (avoided-avoids late_marks gdr_type old 0 12 (heads_avoided place (length dims) 0 12 refl)))
+        keeps_within sound made late_records old gdr_type space_fields gdr_before.inside gdr_before.typed (Avoids-append (placing_marks (shape b).unused place need) late_marks gdr_type old 0 12 (avoided-avoids (placing_marks (shape b).unused place need) gdr_type old 0 12 refl) (avoided-avoids late_marks gdr_type old 0 12 (heads_avoided place (length dims) 0 12 (refl, omega arith))))
         (Within-append (placing_marks (shape b).unused place need) late_marks gdr_type old space_fields (within-within (placing_marks (shape b).unused place need) gdr_type old space_fields refl) heads)
 
     -- what a call asks for that frees it
@@ -694,9 +648,8 @@ module _ (b dims : List ℕ) (good : Good b) (empty : is_empty_set (content b) �
         flags_now = still_says given (stands_fixed late_shape cdr_type 8 late_shape.cdr_stands) refl cdr_flags refl (omega arith) ∙ (heads_say copied_shape fine new m.heads).flags_are;
         count_now = place_now gdr_r_num_dims refl (omega arith) ∙ (heads_say copied_shape fine new m.heads).count_is;
         stays = λ f copied.
-            let p = copied_parts f copied in
-            place_now f p.2 (leb-true (f.place + f.width) 84 (both (nat_le 60 f.place || nat_le (f.place + f.width) 56) (nat_le (f.place + f.width) 84) p.0).1) ∙ new_says f copied;
-        end = place_now gdr_eof refl (omega arith) ∙ gdr_still copied_shape fine new m.heads gdr_eof refl ∙ copied_field gdr_eof (omega arith) (omega arith) ∙ ap (eof m.taken) (sym at) ∙ is_taken.0.eof_is ∙ sym (gives.length_is ∙ as_long ∙ fills.long);
+            place_now f copied.2 copied.0.1 ∙ new_says f copied;
+        end = place_now gdr_eof refl (omega arith) ∙ gdr_still copied_shape fine new m.heads gdr_eof (refl, omega arith) ∙ copied_field gdr_eof (omega arith) (omega arith) ∙ ap (eof m.taken) (sym at) ∙ is_taken.0.eof_is ∙ sym (gives.length_is ∙ as_long ∙ fills.long);
         longest = let l = shorter sound fills later as_long lately in let a = gives.length_is in omega arith;
         as_owned = λ k out. as_many old place k (λ q. out (inr (inl q))) (λ q. out (inl q));
         anew = λ k i. elim i [

@@ -1,9 +1,8 @@
 -- One chain of entries of an attribute was edited: what became of its entries, and that all else of the attribute stands.
 use Rattle.std.proofs.Common.{◌≡◌, ℕ, ◌+◌, ◌-◌, ◌≤◌, ◌<◌, List, [], Some, sym, subst, ◌∙◌, arith}
 use Rattle.cdf_edits.proofs.Common.{slice_get, EntryKind, Same, byte, number, size_at, type_at, word, word_kept, Field, aedr_num, AttributeShape, shape, In, OutsideFields, Stays, chain_fields, chain_of}
-use Rattle.cdf_edits.proofs.Edits.ChainKinds.{other_of}
+use Rattle.cdf_edits.proofs.Edits.Common.{other_of, stays_then}
 use Rattle.cdf_edits.proofs.Edits.StandsBut.{StandsBut}
-use Rattle.cdf_edits.proofs.Edits.VariableKeeps.{stays_then}
 
 -- a record that stays as it is does so but for some fields
 pub stays_more : {b now : List ℕ} {m : ℕ} (fields : List Field) → Stays b now m [] → Stays b now m fields

@@ -1,16 +1,22 @@
 -- Entries of a chain: what of them stays where their bytes do, that their numbers differ, and what they mean where one is added to the chain, replaced in it, or goes.
-use Rattle.std.proofs.Common.{◌≡◌, ◌≢◌, ℕ, ℤ, ◌+◌, ◌*◌, ◌≤◌, List, [], ◌∷◌, ◌++◌, map, Bool, true, false, not, is_some, ◌&&◌, ◌||◌, eq-eqb, refl, sym, ap, ap₂, subst, ◌∙◌, append_assoc, append-nil, arith, inl, inr}
-use Rattle.cdf_edits.proofs.Common.{cases_eq, ne_eqb, map-append, list_any, unwrap_or, ◌==◌, nat_le, DataType, Byte, turned, Entry, record_number_limit, with_item, without, record_limit, size_of, type_of, entry_bytes, has_value, entry_rows, same_number, differ_rows, is_in, entry_of, is_positive, number, size_at, adr_num, aedr_attr_num, aedr_data_type, aedr_num, aedr_num_elems, aedr_value, row, Hold, EntryFits, field_bytes, is_little, data_type_in, In, Distinct, Distinct-push, Distinct-middle, is_in-true, is_in-false, not_false, with_in_place}
+use Rattle.std.proofs.Common.{◌≡◌, ◌≢◌, ℕ, ℤ, ◌+◌, ◌*◌, ◌≤◌, List, [], ◌∷◌, ◌++◌, length, map, Bool, true, false, not, is_some, ◌&&◌, ◌||◌, eq-eqb, refl, sym, ap, ap₂, subst, ◌∙◌, append_assoc, append-nil, arith, inl, inr}
+use Rattle.cdf_edits.proofs.Common.{w32, cast_signed, Same, Same-part, word_kept, piece_kept, field_bytes, cases_eq, ne_eqb, map-append, list_any, unwrap_or, ◌==◌, nat_le, DataType, Byte, turned, Entry, record_number_limit, with_item, without, record_limit, size_of, type_of, entry_bytes, has_value, entry_rows, same_number, differ_rows, is_in, entry_of, is_positive, number, size_at, adr_num, aedr_attr_num, aedr_data_type, aedr_num, aedr_num_elems, aedr_value, row, Hold, EntryFits, is_little, data_type_in, In, Distinct, Distinct-push, Distinct-middle, is_in-true, is_in-false, not_false, with_in_place}
 use Rattle.cdf_format.specs.Content.{entries_of}
 use Rattle.cdf_edits.specs.Space.Chains.{without as left_of}
 use Rattle.cdf_edits.proofs.Edits.NumberedItems.{Rising, rising_with, items_swap, item_again, item_gone, item_stays}
-use Rattle.cdf_edits.proofs.Frame.Meaning.{FileSame, KeptButLink, late_size, late_number, late_integer, late_bytes}
+use Rattle.cdf_edits.proofs.Frame.Meaning.{FileSame, KeptButLink, late_size, late_number}
 
--- ---- an entry that stays but for the link to the next one
+-- ---- an entry that stays but for its links and its number
 
-pub record EntryLives (b now : List ℕ) (e : ℕ) : Type 0 where
+pub record KeptEntry (b now : List ℕ) (e : ℕ) : Type 0 where
+  pub sized : size_at now e ≡ size_at b e
+  pub head : Same b now (e + 20) (e + 28)
+  pub rest : Same b now (e + 32) (e + size_at b e)
+  pub inside : e + size_at b e ≤ length b
+
+-- it means what it did
+pub record EntryMeans (b now : List ℕ) (e : ℕ) : Type 0 where
   pub attribute : number now e aedr_attr_num ≡ number b e aedr_attr_num
-  pub num : number now e aedr_num ≡ number b e aedr_num
   pub meant : entry_of now e ≡ entry_of b e
   pub valued : has_value now e ≡ has_value b e
   pub fits : EntryFits now e
@@ -21,25 +27,43 @@ entry_from t n little raw = record { type = t; elems = n; bytes = turned t littl
 long_entry : (n s : ℕ) → 56 + n ≤ s → 56 ≤ s
 long_entry n s h = omega arith
 
-pub entry_lives : (b now : List ℕ) → FileSame b now → (e : ℕ) → KeptButLink b now e → EntryFits b e → EntryLives b now e
+pub entry_means : (b now : List ℕ) → FileSame b now → (e : ℕ) → KeptEntry b now e → EntryFits b e → EntryMeans b now e
 unfolding entry_from
-entry_lives b now file e k fits =
-    let long : 56 ≤ size_at b e = long_entry (entry_bytes b e) (size_at b e) fits in
-    let code = late_integer b now e k aedr_data_type (omega arith) (omega arith) in
+entry_means b now file e k enough =
+    let long : 56 ≤ size_at b e = long_entry (entry_bytes b e) (size_at b e) enough in
+    let code = ap (cast_signed w32) (word_kept b now (e + 20) (e + 28) k.head (e + 24) 4 (omega arith) (omega arith)) in
     let t : data_type_in now e aedr_data_type ≡ data_type_in b e aedr_data_type = ap (λ (z : ℤ). unwrap_or (type_of z) Byte) code in
-    let n : number now e aedr_num_elems ≡ number b e aedr_num_elems = late_number b now e k aedr_num_elems (omega arith) (omega arith) in
-    let raw = late_bytes b now e k (aedr_value (entry_bytes b e)) (omega arith) fits file.longer in
+    let n : number now e aedr_num_elems ≡ number b e aedr_num_elems = word_kept b now (e + 32) (e + size_at b e) k.rest (e + 32) 4 (omega arith) (omega arith) in
+    let raw : field_bytes now e (aedr_value (entry_bytes b e)) ≡ field_bytes b e (aedr_value (entry_bytes b e)) = piece_kept b now (e + 32) (e + size_at b e) k.rest (e + 56) (entry_bytes b e) (omega arith) (room e (entry_bytes b e) (size_at b e) enough) k.inside file.longer in
     let first : entry_of now e ≡ entry_from (data_type_in b e aedr_data_type) (number b e aedr_num_elems) (is_little b) (field_bytes now e (aedr_value (entry_bytes b e))) =
     λ i. entry_from (t i) (n i) (file.little i) (field_bytes now e (aedr_value (size_of (t i) * n i))) in
-    let size = late_size b now e k in
+    let size = k.sized in
     let bytes : entry_bytes now e ≡ entry_bytes b e = λ i. size_of (t i) * n i in
     record {
-      attribute = late_number b now e k aedr_attr_num (omega arith) (omega arith);
-      num = late_number b now e k aedr_num (omega arith) (omega arith);
+      attribute = word_kept b now (e + 20) (e + 28) k.head (e + 20) 4 (omega arith) (omega arith);
       meant = first ∙ ap (entry_from (data_type_in b e aedr_data_type) (number b e aedr_num_elems) (is_little b)) raw;
       valued = λ i. (is_some (type_of (code i)) && is_positive (n i)) && (nat_le (bytes i) record_limit && nat_le (56 + bytes i) (size i));
-      fits = subst (λ (x : ℕ). 56 + entry_bytes now e ≤ x) (sym size) (subst (λ (x : ℕ). 56 + x ≤ size_at b e) (sym bytes) fits);
+      fits = subst (λ (x : ℕ). 56 + entry_bytes now e ≤ x) (sym size) (subst (λ (x : ℕ). 56 + x ≤ size_at b e) (sym bytes) enough);
     }
+  where
+    room : (e n s : ℕ) → 56 + n ≤ s → e + 56 + n ≤ e + s
+    room e n s h = omega arith
+
+-- ---- an entry that stays but for the link to the next one
+
+pub record EntryLives (b now : List ℕ) (e : ℕ) : Type 0 where
+  pub attribute : number now e aedr_attr_num ≡ number b e aedr_attr_num
+  pub num : number now e aedr_num ≡ number b e aedr_num
+  pub meant : entry_of now e ≡ entry_of b e
+  pub valued : has_value now e ≡ has_value b e
+  pub fits : EntryFits now e
+
+pub entry_lives : (b now : List ℕ) → FileSame b now → (e : ℕ) → KeptButLink b now e → EntryFits b e → EntryLives b now e
+entry_lives b now file e k enough =
+    let long : 56 ≤ size_at b e = long_entry (entry_bytes b e) (size_at b e) enough in
+    let part = λ (lo hi : ℕ). Same-part b now (e + 20) (e + size_at b e) (e + lo) (e + hi) k.rest in
+    let means = entry_means b now file e (record { sized = late_size b now e k; head = part 20 28 (omega arith) (omega arith); rest = part 32 (size_at b e) (omega arith) (omega arith); inside = k.inside }) enough in
+    record { attribute = means.attribute; num = late_number b now e k aedr_num (omega arith) (omega arith); meant = means.meant; valued = means.valued; fits = means.fits }
 
 pub entry_rules_live : (b now : List ℕ) (adr e : ℕ) → number now adr adr_num ≡ number b adr adr_num → EntryLives b now e → Hold (entry_rows b adr e) → Hold (entry_rows now adr e)
 entry_rules_live b now adr e own l rules =

@@ -4,9 +4,8 @@ use Rattle.cdf_edits.proofs.Common.{cases_eq, map-append, same_Some, filter, sli
 use Rattle.std.proofs.Math.Seq.{take-suc}
 use Rattle.std.proofs.lemmas.Grind.{flat_map-append}
 use Rattle.std.proofs.lemmas.Option.{get_or_from_slice_get, slice_get_within}
-use Rattle.cdf_edits.proofs.Edits.ActsThen.{gave-same}
+use Rattle.cdf_edits.proofs.Edits.Common.{chain_in, gave-same}
 use Rattle.cdf_edits.proofs.Edits.ChainEdited.{stays_bytes}
-use Rattle.cdf_edits.proofs.Edits.ChainKinds.{chain_in}
 use Rattle.cdf_edits.proofs.Edits.DropsOne.{DropsOne, DropsUpTo, Fate}
 use Rattle.cdf_edits.proofs.Edits.SameAttribute.{entries_same, fate_from, fate_still}
 use Rattle.cdf_edits.proofs.Edits.StandsBut.{AttributeStands, member_in}

@@ -1,26 +1,20 @@
 -- An image in which the first attributes dropped their entries for a variable, and the others stand: where the way to `DropsEntries` begins and ends.
 use Rattle.std.proofs.Common.{◌≡◌, ◌⊎◌, ℕ, suc, ◌+◌, ◌≤◌, ◌<◌, List, [], ◌∷◌, ◌++◌, length, map, Bool, true, false, Option, Some, None, eq-eqb, refl, sym, ap, ap₂, subst, ◌∙◌, arith, inl, inr}
-use Rattle.cdf_edits.proofs.Common.{cases_eq, ne_eqb, same_Some, cast_signed, w32, slice_get, ◌&&◌, ◌==◌, if◌then◌else◌, EntryKind, is_global, Attribute, Found, attribute_without, attribute_of, content, integer4, number, size_at, attribute_records, aedr_num, adr_type, AttributeShape, Each, HasEntries, HasShape, shape, In, Good, linkable-type, good_is_sound, either, In-append, Anything, Keeps, Only, OutsideFields, GreatestIs, chain_fields, chain_of, entry_type, kind_of_entries, max_field, share_chain, entries_allowance, entries_for, fields_beside, is_global_attribute, AttributeDropped, DropsEntries, gave, ActsFollow, fallen}
+use Rattle.cdf_edits.proofs.Common.{cases_eq, ne_eqb, same_Some, cast_signed, w32, slice_get, ◌&&◌, ◌==◌, if◌then◌else◌, EntryKind, is_global, Attribute, Found, attribute_without, attribute_of, content, integer4, number, size_at, attribute_records, aedr_num, adr_type, AttributeShape, HasEntries, HasShape, shape, In, Good, linkable-type, good_is_sound, either, In-append, Anything, Keeps, Only, OutsideFields, GreatestIs, chain_fields, chain_of, entry_type, kind_of_entries, max_field, share_chain, entries_allowance, entries_for, fields_beside, is_global_attribute, AttributeDropped, DropsEntries, gave, ActsFollow, fallen}
 use Rattle.cdf_model.specs.declared.kinds.EntryKind.TheVariants as entries
 use Rattle.std.proofs.Math.Seq.{take-length}
 use Rattle.std.proofs.lemmas.Option.{slice_get_within}
-use Rattle.cdf_edits.proofs.Commands.ListParts.{got-map}
+use Rattle.cdf_edits.proofs.Edits.Common.{chain_has, each, got-map, no_acts, other_has, other_of, other_type}
 use Rattle.cdf_edits.proofs.Edits.ChainEdited.{EntryEdited, stays_word}
 use Rattle.cdf_edits.specs.Edits.DropsEntries.{AttributeKeeps}
-use Rattle.cdf_edits.proofs.Edits.ChainKinds.{chain_has, other_has, other_of, other_type}
 use Rattle.cdf_edits.proofs.Edits.DropsOne.{DropsUpTo, Fell}
 use Rattle.cdf_edits.proofs.Edits.FallenItems.{falls}
 use Rattle.cdf_edits.proofs.Edits.SameAttribute.{adr_long, greatest_same}
 use Rattle.cdf_edits.proofs.Edits.StandsBut.{AttributeStands, attributes_of}
 use Rattle.cdf_edits.proofs.Edits.StandsSame.{stands_same}
 use Rattle.cdf_edits.proofs.Edits.VariableDeleted.{adr_at, each_at, greatest_field}
-use Rattle.cdf_edits.proofs.Space.ActsLeave.{no_acts}
 
 -- ---- lists
-
-each_by : (P : ℕ → Type 0) (es : List ℕ) → ((m : ℕ) → In m es → P m) → Each P es
-each_by P [] f = tt
-each_by P (e ∷ es) f = (f e (inl refl), each_by P es (λ m i. f m (inr i)))
 
 maps_agree : (f g : AttributeShape → Attribute) (w : Attribute → Attribute) (xs ys : List AttributeShape) → length xs ≡ length ys → ((j : ℕ) (y : AttributeShape) → slice_get ys j ≡ Some y → (x : AttributeShape) × ((slice_get xs j ≡ Some x) × (f x ≡ w (g y)))) → map f xs ≡ map w (map g ys)
 maps_agree f g w [] [] long all = refl
@@ -34,13 +28,9 @@ chain_or_other : (kind : EntryKind) (a : AttributeShape) (m : ℕ) → In m (a.g
 chain_or_other entries.Z a m i = elim (In-append m a.gr_entries a.z_entries i) [ inl g ↦ inr g | inr z ↦ inl z ]
 chain_or_other kind a m i = In-append m a.gr_entries a.z_entries i
 
-of_entry : {A : Type 0} (kind : EntryKind) (x y z : A) → (if entry_type kind == adr_type then x else (if entry_type kind == entry_type kind then y else z)) ≡ y
-of_entry entries.Z x y z = refl
-of_entry kind x y z = refl
-
-of_other : {A : Type 0} (kind : EntryKind) (x y z : A) → (if other_type kind == adr_type then x else (if other_type kind == entry_type kind then y else z)) ≡ z
-of_other entries.Z x y z = refl
-of_other kind x y z = refl
+by_type : {A : Type 0} (kind : EntryKind) (x y z : A) → ((if entry_type kind == adr_type then x else (if entry_type kind == entry_type kind then y else z)) ≡ y) × ((if other_type kind == adr_type then x else (if other_type kind == entry_type kind then y else z)) ≡ z)
+by_type entries.Z x y z = (refl, refl)
+by_type kind x y z = (refl, refl)
 
 -- the greatest number of the other chain is no field of this one
 beside_chain : (kind kind' : EntryKind) → share_chain kind kind' ≡ false → (i : ℕ) → (max_field kind').place ≤ i → i < (max_field kind').place + 4 → OutsideFields (chain_fields kind) i
@@ -89,7 +79,7 @@ module _ (b now : List ℕ) (found : Found) (k : ℕ) (own : AttributeShape) (go
     stood : AttributeDropped b now found k own own
     stood = record {
       follows = ((λ variables. absurd (no_variables variables)), λ kind'. rw global (not_written (share_chain kind kind') kind'));
-      later = each_by (λ m. num < number b m aedr_num → In m (chain_of own kind)) (chain_of own kind) (λ m i lt. i);
+      later = each (λ m. num < number b m aedr_num → In m (chain_of own kind)) (chain_of own kind) (λ m i lt. i);
       keeps = λ m i. let s = stands.kept m i in inr (subst (Keeps b now m) (sym (may_nothing m)) s.0, s.1);
     }
 
@@ -102,10 +92,10 @@ module _ (b now : List ℕ) (found : Found) (k : ℕ) (own : AttributeShape) (go
     may_adr = rw (global_is false f.of_variables, linkable-type b (shape b).records adr_type own.adr (h.attribute_chain.linkable own.adr (adr_at (shape b).attributes k own at))) refl
 
     may_entry : (m : ℕ) → In m (chain_of own kind) → entries_allowance b (content b) found k m ≡ (if number b m aedr_num == num then Anything else Only (fields_beside b num m))
-    may_entry m i = rw (global_is false f.of_variables, linkable-type b (shape b).records (entry_type kind) m ((chain_has kind own has).linkable m i)) (of_entry kind _ _ _)
+    may_entry m i = rw (global_is false f.of_variables, linkable-type b (shape b).records (entry_type kind) m ((chain_has kind own has).linkable m i)) (by_type kind _ _ _).0
 
     may_other : (m : ℕ) → In m (other_of own kind) → entries_allowance b (content b) found k m ≡ Only []
-    may_other m i = rw (global_is false f.of_variables, linkable-type b (shape b).records (other_type kind) m ((other_has kind own has).linkable m i)) (of_other kind _ _ _)
+    may_other m i = rw (global_is false f.of_variables, linkable-type b (shape b).records (other_type kind) m ((other_has kind own has).linkable m i)) (by_type kind _ _ _).1
 
     keeps : (m : ℕ) → In m (attribute_records own) → AttributeKeeps b now found k m
     keeps m (inl e) = subst (AttributeKeeps b now found k) (sym e) (inr (subst (Keeps b now own.adr) (sym may_adr) f.chain.adr_kept.0, f.chain.adr_kept.1))
@@ -129,10 +119,10 @@ module _ (b now : List ℕ) (found : Found) (k : ℕ) (own : AttributeShape) (go
     dropped : AttributeDropped b now found k own f.own'
     dropped = record {
       follows = (
-        (λ variables. each_by (λ m. num < number b m aedr_num → number now m aedr_num + 1 ≡ number b m aedr_num) (chain_of own kind) (λ m i lt. let is = (entry_falls m i lt).num_is in let less = falls num (number b m aedr_num) lt in omega arith)),
+        (λ variables. each (λ m. num < number b m aedr_num → number now m aedr_num + 1 ≡ number b m aedr_num) (chain_of own kind) (λ m i lt. let is = (entry_falls m i lt).num_is in let less = falls num (number b m aedr_num) lt in omega arith)),
         λ kind'. elim (either (share_chain kind kind')) [ inl e ↦ rw e (greatest_of b now own f.own' kind kind' _ e f.greatest) | inr e ↦ rw e (beside_kept kind' e) ],
       );
-      later = each_by (λ m. num < number b m aedr_num → In m (chain_of f.own' kind)) (chain_of own kind) (λ m i lt. (entry_falls m i lt).member);
+      later = each (λ m. num < number b m aedr_num → In m (chain_of f.own' kind)) (chain_of own kind) (λ m i lt. (entry_falls m i lt).member);
       keeps = keeps;
     }
 

@@ -1,9 +1,7 @@
 -- An image of a data set without attributes and variables: its CDR, its GDR, and unused records.
-use Rattle.std.proofs.Common.{◌≡◌, ◌≢◌, ℕ, suc, ◌+◌, ◌≤◌, List, [], ◌∷◌, ◌++◌, length, map, Bool, true, false, eq-eqb, refl, sym, ap, subst, ◌∙◌, arith}
-use Rattle.cdf_edits.proofs.Common.{if◌then◌else◌, Edit, Mark, ne_eqb, flat_map, ◌==◌, ◌&&◌, is_empty_set, content, content_of, attribute_of, variable_of, Holds, r_num_dims, attribute_records, variable_records, gdr_r_dim_sizes, AttributeShape, VariableShape, Shape, HasShape, shape, IsSound, In, Good, good_is_sound, content_is, both, eq_of}
-use Rattle.cdf_edits.proofs.Edits.ChainOwners.{IsHeld, not_twice_kept}
-use Rattle.cdf_edits.proofs.Edits.OwnedOnce.{used_times}
-use Rattle.cdf_edits.proofs.Frame.OwnersApart.{all_attribute_records, all_variable_records}
+use Rattle.std.proofs.Common.{◌≡◌, ◌≢◌, ℕ, suc, ◌≤◌, List, [], ◌∷◌, length, map, true, eq-eqb, refl, sym, ap, ◌∙◌, arith}
+use Rattle.cdf_edits.proofs.Common.{Edit, Mark, ne_eqb, nat_tests, ◌==◌, ◌&&◌, is_empty_set, content, content_of, attribute_of, variable_of, Holds, r_num_dims, gdr_r_dim_sizes, Shape, HasShape, shape, IsSound, In, Good, good_is_sound, content_is, both, eq_of}
+use Rattle.cdf_edits.proofs.Edits.Common.{IsHeld, not_twice_kept, used_times}
 
 abbrev pub empty_shape : List ℕ → ℕ → List ℕ → Shape
 empty_shape records gdr list = record { records = records; gdr = gdr; attributes = []; r_variables = []; z_variables = []; unused = list }
@@ -18,11 +16,7 @@ pub as_many : (gdr gdr' m : ℕ) → m ≢ gdr → m ≢ gdr' → times_with gdr
 as_many gdr gdr' m p q = rw (ne_eqb m gdr p, ne_eqb m gdr' q) refl
 
 pub no_more : (gdr gdr' m : ℕ) → m ≢ gdr' → times_with gdr' m ≤ times_with gdr m
-no_more gdr gdr' m q = rw (ne_eqb m gdr' q) (fewer (m == 8) (m == gdr))
-  where
-    fewer : (p q : Bool) → (if p then 1 else 0) + 0 ≤ (if p then suc (if q then 1 else 0) else (if q then 1 else 0)) + 0
-    fewer true q = omega arith
-    fewer false q = omega arith
+no_more gdr gdr' m q = rw (ne_eqb m gdr' q) (grind (arith, nat_tests))
 
 pub gdr_once : (gdr : ℕ) → gdr ≢ 8 → times_with gdr gdr ≡ 1
 gdr_once gdr p = rw (ne_eqb gdr 8 p, eq-eqb gdr gdr refl) refl
@@ -37,32 +31,17 @@ empty_sound b now s {records = records} {list = list} {gdr = gdr} {marks = marks
 
 -- ---- a good image of a data set without attributes and variables is such a one
 
-pub record HasNone (s : Shape) : Type 0 where
-  pub attributes : s.attributes ≡ []
-  pub r_variables : s.r_variables ≡ []
-  pub z_variables : s.z_variables ≡ []
-
 none_mapped : {A B : Type 0} (f : A → B) (xs : List A) → (length (map f xs) == 0) ≡ true → xs ≡ []
 none_mapped f [] e = refl
 none_mapped f (x ∷ xs) e = absurd (let q : suc (length (map f xs)) ≡ 0 = eq_of _ _ e in omega arith)
 
-pub has_none : (b : List ℕ) → Good b → is_empty_set (content b) ≡ true → HasNone (shape b)
-has_none b good empty =
+pub is_empty : (b : List ℕ) → Good b → is_empty_set (content b) ≡ true → shape b ≡ empty_shape (shape b).records (shape b).gdr (shape b).unused
+is_empty b good empty =
     let s = shape b in
     let here : is_empty_set (content_of b s) ≡ true = ap is_empty_set (sym (content_is b s (good_is_sound b good).has_shape)) ∙ empty in
     let p = both ((length (map (attribute_of b) s.attributes) == 0) && (length (map (variable_of b) s.r_variables) == 0)) (length (map (variable_of b) s.z_variables) == 0) here in
     let q = both (length (map (attribute_of b) s.attributes) == 0) (length (map (variable_of b) s.r_variables) == 0) p.0 in
-    record { attributes = none_mapped (attribute_of b) s.attributes q.0; r_variables = none_mapped (variable_of b) s.r_variables q.1; z_variables = none_mapped (variable_of b) s.z_variables p.1 }
-
--- no record is one of an attribute or of a variable
-pub no_attribute : (s : Shape) → HasNone s → (m : ℕ) → In m (all_attribute_records s) → ⊥
-no_attribute s has m i = subst (λ (as_ : List AttributeShape). In m (flat_map attribute_records as_)) has.attributes i
-
-pub no_variable : (s : Shape) → HasNone s → (m : ℕ) → In m (all_variable_records s) → ⊥
-no_variable s has m i = subst (λ (vs : List VariableShape). In m (flat_map variable_records vs)) (none has.r_variables has.z_variables) i
-  where
-    none : {rs zs : List VariableShape} → rs ≡ [] → zs ≡ [] → rs ++ zs ≡ []
-    none p q = rw (p, q) refl
-
-pub is_empty : (s : Shape) → HasNone s → s ≡ empty_shape s.records s.gdr s.unused
-is_empty s has = let as_ = has.attributes in let rs = has.r_variables in let zs = has.z_variables in λ i. record { records = s.records; gdr = s.gdr; attributes = as_ i; r_variables = rs i; z_variables = zs i; unused = s.unused }
+    let as_ = none_mapped (attribute_of b) s.attributes q.0 in
+    let rs = none_mapped (variable_of b) s.r_variables q.1 in
+    let zs = none_mapped (variable_of b) s.z_variables p.1 in
+    λ i. record { records = s.records; gdr = s.gdr; attributes = as_ i; r_variables = rs i; z_variables = zs i; unused = s.unused }

@@ -3,27 +3,17 @@ use Rattle.std.proofs.Common.{◌≡◌, ◌≢◌, ℕ, ◌+◌, ◌≤◌, Lis
 use Rattle.cdf_edits.proofs.Common.{cases_eq, ne_eqb, Same, adr_type, field_marks, holder_type, linkable-long, type_in, unmarked, EntryKind, entries_of, image_limit, without, next_field, next_of, attribute_of, integer4, number, size_at, type_at, aedr_num, gdr_type, uir_type, AttributeShape, HasShape, Shape, shape, IsSound, In, Good, size_kept, type_kept, linkable-in, linkable-type, good_is_sound, tile_lies, Stays, chain_of, entry_type, greatest_number, max_field, IsDropped, count_field, entries_chain, with_chain, Away, giving_marks, ActsFollow, Act, Gave, gave, members_of, Gives}
 use Rattle.cdf_model.specs.declared.kinds.EntryKind.TheVariants as entries
 use Rattle.cdf_edits.specs.Space.Chains.{without as left_of}
-use Rattle.cdf_edits.proofs.Edits.ActsStill.{acts_still_by}
+use Rattle.cdf_edits.proofs.Edits.Common.{Away-append, Kept, KeptButLink, acts_still_by, apart, attribute_now, chain_has, differ_before, edit_then, has_chain, kept, late_size, late_type, members_are, of_shape, same-then, the_one, there, unmarked-away}
 use Rattle.cdf_edits.proofs.Edits.ActsThen.{acts_gave, was_listed}
 use Rattle.cdf_edits.proofs.Edits.ChainEdited.{EntryEdited, stays_more}
 use Rattle.cdf_edits.proofs.Edits.ChainEdits.{removed_keeps}
-use Rattle.cdf_edits.proofs.Edits.ChainEntries.{EntryLives, entries_left, nums_left}
 use Rattle.cdf_edits.proofs.Edits.ChainKept.{link_allowed}
-use Rattle.cdf_edits.proofs.Edits.ChainKinds.{chain_has}
-use Rattle.cdf_edits.proofs.Edits.ChainSpliced.{Rechains, attribute_now, entry_stays, there}
 use Rattle.cdf_edits.proofs.Edits.DropHalves.{TakesHalf, link_field, numbered}
-use Rattle.cdf_edits.proofs.Edits.ChainsOfShape.{has_chain, members_are}
-use Rattle.cdf_edits.proofs.Edits.Composing.{edit_then, same-then}
-use Rattle.cdf_edits.proofs.Edits.EntryFields.{count_is, of_shape}
-use Rattle.cdf_edits.proofs.Edits.RecordFrame.{kept}
-use Rattle.cdf_edits.proofs.Edits.FreedEntry.{Frees, all_marks, as_long_now, count_same, freed_behind, freed_rechains, freed_settled, freed_type, old_stands, other_kept as entry_kept, sound_late}
-use Rattle.cdf_edits.proofs.Edits.LeftEntry.{LeavesChain, as_long, edit, late_is, leaving, left_acts, left_end, left_frees, left_length, left_members, marks, old_ok, second, tests, third}
-use Rattle.cdf_edits.proofs.Edits.MarkLemmas.{Away-append, the_one, unmarked-away}
+use Rattle.cdf_edits.proofs.Edits.FreedEntry.{all_marks, freed_behind, freed_type, old_stands, other_kept as entry_kept, sound_late}
+use Rattle.cdf_edits.proofs.Edits.LeftEntry.{LeavesChain, as_long, edit, late_is, leaving, left_acts, marks, old_ok, second, tests, third}
 use Rattle.cdf_edits.proofs.Edits.NumberedRecords.{one_numbered, stays_left}
-use Rattle.cdf_edits.proofs.Edits.OneChain.{counted_before, differ_before, end_before, good_chained, items_of, once_before, rules_live}
 use Rattle.cdf_edits.proofs.Edits.RechainedStands.{StandTests, chain_is, edited, kept_stays}
-use Rattle.cdf_edits.proofs.Frame.Meaning.{Kept, KeptButLink, late_size, late_type}
-use Rattle.cdf_edits.proofs.Space.UsedRecords.{apart}
+use Rattle.cdf_edits.proofs.Edits.TakenEntry.{f, good_now, items_left, long_now, members_stay, others, r}
 
 -- ---- the marks, by the kind
 
@@ -45,50 +35,16 @@ module _ {b late now : List ℕ} {kind : EntryKind} {before : List AttributeShap
   sound : IsSound b (shape b)
   sound = good_is_sound b good
 
-  h : HasShape b (shape b)
-  h = sound.has_shape
-
-  abbrev chain : List ℕ
-  chain = chain_of own kind
-
-  abbrev chain' : List ℕ
-  chain' = left_of old chain
-
-  f : Frees b late (shape b).records (shape b).unused (marks sound q) [] kind before own after chain' [] old 0 []
-  f = left_frees sound q
-
-  r : Rechains b now (shape b) (shape b).records (shape now).unused (all_marks sound f) (old ∷ []) kind before own after chain' (old ∷ []) []
-  r = freed_rechains sound f gives
-
-  pub long_now : length now ≡ length b
-  long_now = as_long_now sound f gives ∙ as_long sound q
-
-  others : (m : ℕ) → In m chain → m ≢ old → EntryLives b now m
-  others m i ne = entry_stays sound r m i (λ j. ne (the_one old m j))
-
-  pub good_now : number late own.adr (count_field kind) + 1 ≡ number b own.adr (count_field kind) → length b ≤ image_limit → Good now
-  good_now counted limited =
-      let once = once_before sound r good in
-      let st = freed_settled sound f gives (left_end sound q (end_before b good)) in
-      good_chained sound r good
-      (counts (number now own.adr (count_field kind)) (number late own.adr (count_field kind)) (number b own.adr (count_field kind)) (length chain) (length chain') (count_same sound f gives (count_is kind b own.adr).0) counted (counted_before sound r good) (left_length old chain q.member))
-      (nums_left b now old (number b old aedr_num) refl chain (differ_before sound r good) q.member others).0
-      (λ m i. let k = left_members old m chain once i in rules_live sound r good m k.0 (λ j. k.1 (the_one old m j)))
-      st.read st.beside st.sorted st.end (omega (arith, st.longest, limited))
-    where
-      counts : (n l o c c' : ℕ) → n ≡ l → l + 1 ≡ o → o ≡ c → c' + 1 ≡ c → n ≡ c'
-      counts n l o c c' p q r t = omega arith
-
   -- ---- unused records
 
   late_used : type_at late old ≢ uir_type
-  late_used u = (tests sound q).in_use (sym (old_ok sound q).1 ∙ sym (late_type b late old f.lives) ∙ u)
+  late_used u = (tests sound q).in_use (sym (old_ok sound q).1 ∙ sym (late_type b late old (f good q gives).lives) ∙ u)
 
-  loose : (uir : ℕ) → In uir (shape b).records → type_at b uir ≡ uir_type → (In uir (shape b).unused → ⊥) → Away (all_marks sound f) uir_type uir × (In uir (shape now).unused → ⊥)
+  loose : (uir : ℕ) → In uir (shape b).records → type_at b uir ≡ uir_type → (In uir (shape b).unused → ⊥) → Away (all_marks sound (f good q gives)) uir_type uir × (In uir (shape now).unused → ⊥)
   loose m i typed out = (
     Away-append (marks sound q) (giving_marks (shape b).unused (entry_type kind) old (size_at late old)) uir_type m (unmarked-away (marks sound q) uir_type m (tests sound q).unused)
         ((λ e lies. apart uir_type gdr_type refl e), ((λ e lies. out lies), ((λ e lies. (tests sound q).in_use (sym e)), tt))),
-    λ j. elim (was_listed h (left_acts sound q) (sound_late sound f) (old_stands sound f) late_used gives m j) [
+    λ j. elim (was_listed sound.has_shape (left_acts sound q) (sound_late sound (f good q gives)) (old_stands sound (f good q gives)) late_used gives m j) [
       | inl e ↦ (tests sound q).in_use (sym (old_ok sound q).1 ∙ ap (type_at b) (sym e) ∙ typed)
       | inr l ↦ out (subst (In m) (ap (λ (x : Shape). x.unused) (late_is sound q)) l)
     ],
@@ -96,13 +52,13 @@ module _ {b late now : List ℕ} {kind : EntryKind} {before : List AttributeShap
 
   -- ---- an entry that does not lead to the one that went
 
-  beside_kept : (m : ℕ) → In m chain → next_of b m ≢ old → Kept b late m
+  beside_kept : (m : ℕ) → In m (chain_of own kind) → next_of b m ≢ old → Kept b late m
   beside_kept m i out =
       let c = entries_chain kind own.adr in
-      let has = (there sound r).1.0.have.0 in
-      let members : chain ≡ members_of b c = sym (members_are h (of_shape kind (shape b) own has)) in
+      let has = (there sound (r good q gives)).1.0.have.0 in
+      let members : chain_of own kind ≡ members_of b c = sym (members_are sound.has_shape (of_shape kind (shape b) own has)) in
       let ok = (chain_has kind own has).linkable m i in
-      let one = removed_keeps b c sound q.holder (has_chain h (of_shape kind (shape b) own has)) q.removed (subst (In old) members q.member) (no_holder kind own.adr).0 m (subst (In m) members i) out in
+      let one = removed_keeps b c sound q.holder (has_chain sound.has_shape (of_shape kind (shape b) own has)) q.removed (subst (In old) members q.member) (no_holder kind own.adr).0 m (subst (In m) members i) out in
       let long = linkable-long b (shape b).records (entry_type kind) m ok in
       let two = kept (edit_then (second sound q) (third sound q)) m (entry_type kind) (linkable-in b (shape b).records (entry_type kind) m ok) (type_kept b q.mid m one.same (omega arith) ∙ linkable-type b (shape b).records (entry_type kind) m ok) (no_holder kind own.adr).1 in
       kept_then b q.mid late m one (size_kept b q.mid m one.same (omega arith)) two
@@ -110,57 +66,57 @@ module _ {b late now : List ℕ} {kind : EntryKind} {before : List AttributeShap
   -- ---- its number is the one that the items have no more
 
   module _ (num : ℕ) (of_old : number b old aedr_num ≡ num) where
-    gone_is : numbered b num chain ≡ old ∷ []
-    gone_is = one_numbered b num old chain (differ_before sound r good) q.member of_old
+    gone_is : numbered b num (chain_of own kind) ≡ old ∷ []
+    gone_is = one_numbered b num old (chain_of own kind) (differ_before sound (r good q gives) good) q.member of_old
 
     -- only the link to the one that went is another
     links : (m : ℕ) → next_of b m ≡ old → link_field b num m ≡ next_field ∷ []
     links m e =
-        let low = (tile_lies b 8 (length b) (shape b).records old h.tiled (old_ok sound q).0).low in
+        let low = (tile_lies b 8 (length b) (shape b).records old sound.has_shape.tiled (old_ok sound q).0).low in
         rw (e, of_old, ne_eqb old 0 (λ z. absurd (omega arith)), eq-eqb num num refl) refl
 
-    entry_left : (m : ℕ) → In m chain → (number b m aedr_num ≡ num → ⊥) → EntryEdited b now (with_chain own kind chain') kind m (link_field b num m) (number b m aedr_num)
+    entry_left : (m : ℕ) → In m (chain_of own kind) → (number b m aedr_num ≡ num → ⊥) → EntryEdited b now (with_chain own kind (left_of old (chain_of own kind))) kind m (link_field b num m) (number b m aedr_num)
     entry_left m i other =
         let ne : m ≢ old = λ e. other (ap (λ (x : ℕ). number b x aedr_num) e ∙ of_old) in
-        let ok = (chain_has kind own (there sound r).1.0.have.0).linkable m i in
+        let ok = (chain_has kind own (there sound (r good q gives)).1.0.have.0).linkable m i in
         let is = linkable-in b (shape b).records (entry_type kind) m ok in
-        let live : KeptButLink b now m = r.live m i (λ j. ne (the_one old m j)) in
+        let live : KeptButLink b now m = (r good q gives).live m i (λ j. ne (the_one old m j)) in
         record {
-          member = subst (In m) (sym (chain_is kind own chain')) (stays_left old m chain i ne);
+          member = subst (In m) (sym (chain_is kind own (left_of old (chain_of own kind)))) (stays_left old m (chain_of own kind) i ne);
           kept = elim (cases_eq (next_of b m) old) [
-            | inl e ↦ subst (Stays b now m) (sym (links m e)) (link_allowed sound r m is live)
+            | inl e ↦ subst (Stays b now m) (sym (links m e)) (link_allowed sound (r good q gives) m is live)
             | inr apart_ ↦
                 let one = beside_kept m i apart_ in
                 let some = one.long in
-                let two = entry_kept sound f gives m is ne (type_kept b late m one.same one.long ∙ linkable-type b (shape b).records (entry_type kind) m ok) in
-                stays_more (link_field b num m) (kept_stays good r m is (kept_then b late now m one (size_kept b late m one.same (omega arith)) two)).0
+                let two = entry_kept sound (f good q gives) gives m is ne (type_kept b late m one.same one.long ∙ linkable-type b (shape b).records (entry_type kind) m ok) in
+                stays_more (link_field b num m) (kept_stays good (r good q gives) m is (kept_then b late now m one (size_kept b late m one.same (omega arith)) two)).0
           ];
           type_is = late_type b now m live;
-          num_is = (others m i ne).num;
+          num_is = (others good q gives m i ne).num;
         }
 
-    dropped : 28 ≤ size_at b old → (m : ℕ) → In m (numbered b num chain) → IsDropped b now m
+    dropped : 28 ≤ size_at b old → (m : ℕ) → In m (numbered b num (chain_of own kind)) → IsDropped b now m
     dropped long m i = subst (IsDropped b now) (sym (the_one old m (subst (In m) gone_is i))) (record {
       stands = (old_ok sound q).0;
       long = long;
-      freed = freed_type sound f gives;
-      behind = freed_behind sound f gives long;
+      freed = freed_type sound (f good q gives) gives;
+      behind = freed_behind sound (f good q gives) gives long;
     })
 
     -- acts that led to the image lead on
-    acts_on : (first : List ℕ) (acts : List Act) → HasShape first (shape first) → ActsFollow first b acts → ActsFollow first now (acts ++ gave b (numbered b num chain))
+    acts_on : (first : List ℕ) (acts : List Act) → HasShape first (shape first) → ActsFollow first b acts → ActsFollow first now (acts ++ gave b (numbered b num (chain_of own kind)))
     acts_on first acts was so_far =
         let same = late_is sound q in
         let still = acts_still_by sound so_far (edit sound q) (tests sound q).unused (ap (λ (x : Shape). x.records) same) (ap (λ (x : Shape). x.unused) same) (as_long sound q) in
-        subst (λ (es : List ℕ). ActsFollow first now (acts ++ gave b es)) (sym gone_is) (subst (λ (n : ℕ). ActsFollow first now (acts ++ Gave old n ∷ [])) (late_size b late old f.lives) (acts_gave was still (sound_late sound f) (old_stands sound f) late_used gives))
+        subst (λ (es : List ℕ). ActsFollow first now (acts ++ gave b es)) (sym gone_is) (subst (λ (n : ℕ). ActsFollow first now (acts ++ Gave old n ∷ [])) (late_size b late old (f good q gives).lives) (acts_gave was still (sound_late sound (f good q gives)) (old_stands sound (f good q gives)) late_used gives))
 
-    pub taken_half : number late own.adr (count_field kind) + 1 ≡ number b own.adr (count_field kind) → length b ≤ image_limit → 28 ≤ size_at b old → integer4 now own.adr (max_field kind) ≡ greatest_number (without num num (entries_of (attribute_of b own) kind)) → TakesHalf b (length before) own kind num now (with_chain own kind chain')
+    pub taken_half : number late own.adr (count_field kind) + 1 ≡ number b own.adr (count_field kind) → length b ≤ image_limit → 28 ≤ size_at b old → integer4 now own.adr (max_field kind) ≡ greatest_number (without num num (entries_of (attribute_of b own) kind)) → TakesHalf b (length before) own kind num now (with_chain own kind (left_of old (chain_of own kind)))
     taken_half counted limited long greatest = record {
-      edited = edited good r (taken_tests kind own.adr (members_of b (entries_chain kind own.adr)) (shape b).unused old (size_at late old)) (good_now counted limited) long_now loose entry_left;
+      edited = edited good (r good q gives) (taken_tests kind own.adr (members_of b (entries_chain kind own.adr)) (shape b).unused old (size_at late old)) (good_now good q gives counted limited) (long_now good q gives) loose entry_left;
       from = λ m j.
-          let x = left_members old m chain (once_before sound r good) (subst (In m) (chain_is kind own chain') j) in
-          (x.0, (others m x.0 x.1).num);
-      attribute_is = attribute_now sound r _ (entries_left b now old num of_old chain (differ_before sound r good) q.member others ∙ ap (without num num) (sym (items_of b own kind)));
+          let x = members_stay good q gives m (subst (In m) (chain_is kind own (left_of old (chain_of own kind))) j) in
+          (x.0, (others good q gives m x.0 x.1).num);
+      attribute_is = attribute_now sound (r good q gives) _ (items_left good q gives num of_old);
       acts = acts_on;
       dropped = dropped long;
       greatest = inr ((old, (q.member, of_old)), greatest);

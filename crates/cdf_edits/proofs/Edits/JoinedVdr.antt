@@ -4,16 +4,8 @@ use Rattle.cdf_edits.proofs.Common.{Kind, R, Z, IsChain, eof, number, size_at, t
 use Rattle.cdf_edits.specs.Commands.Room.{vdr_bytes}
 use Rattle.cdf_edits.specs.Space.Adding.{Joined}
 use Rattle.cdf_edits.specs.Space.Placing.{IsBody}
-use Rattle.cdf_edits.proofs.Edits.EditActs.{acts_took}
-use Rattle.cdf_edits.proofs.Edits.FreedRecord.{IsPlain}
-use Rattle.cdf_edits.proofs.Edits.MadeRecord.{end_now, list_chain, made_edit, made_part, made_size, made_type}
-use Rattle.cdf_edits.proofs.Edits.MarkLemmas.{avoided-avoids, ended-avoids, the_one}
-use Rattle.cdf_edits.proofs.Edits.RecordFrame.{VariableLives, file_same, kept_but_link}
+use Rattle.cdf_edits.proofs.Edits.Common.{FileSame, IsPlain, KeptButLink, VariableLives, VariableSplices, acts_took, apart, avoided-avoids, end_now, ended-avoids, file_same, keeps_all_attributes, keeps_kind, kept_but_link, kind_chain, kind_ours, list_chain, made_edit, made_part, made_size, made_type, of_kind, other_kind, shape_now, the_one, with_shapes}
 use Rattle.cdf_edits.proofs.Edits.VariableFrame.{AreOurs, clear_live, ours_parts, remain_from}
-use Rattle.cdf_edits.proofs.Edits.VariableKinds.{other_kind, keeps_kind, kind_chain, kind_ours, of_kind, with_shapes}
-use Rattle.cdf_edits.proofs.Edits.VariableSplice.{VariableSplices, keeps_all_attributes, shape_now}
-use Rattle.cdf_edits.proofs.Frame.Meaning.{FileSame, KeptButLink}
-use Rattle.cdf_edits.proofs.Space.UsedRecords.{apart}
 
 -- ---- by the kind
 

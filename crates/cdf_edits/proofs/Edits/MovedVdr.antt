@@ -1,20 +1,8 @@
 -- A VDR is placed anew and takes the place of the old one in its chain: the image until the old one is freed.
 use Rattle.std.proofs.Common.{◌≡◌, ◌≢◌, ℕ, ◌+◌, ◌≤◌, List, [], ◌∷◌, ◌++◌, length, eq-eqb, refl, sym, ap, subst, ◌∙◌, arith, inl, inr}
 use Rattle.cdf_edits.proofs.Common.{ne_eqb, Kind, IsChain, number, name_in, size_at, type_at, times, owned_records, vdr_num, vdr_name, VariableShape, Shape, vdrs, is_compressed, HasVariable, HasShape, Each, shape, IsSound, In, Distinct, Distinct-back, Distinct-middle, vdr_end, Good, Each-split, vdrs_append, shapes_of, counted_in, head_of, members_of, type_in, with_in_place, variables_chain}
-use Rattle.cdf_edits.proofs.Edits.ChainOwners.{IsHeld, not_twice_kept}
-use Rattle.cdf_edits.proofs.Edits.ChainsOfShape.{members_are}
+use Rattle.cdf_edits.proofs.Edits.Common.{IsHeld, StandsAmong, VariableLives, VdrCopied, behind_in, fits, fits_copied, fresh, has, index_records, kind_chain, late_type, links_copied, members_are, not_twice_kept, of_kind, owned-times, sound, sound_if, spliced_times, the_one, tile, times-append, typed, unowned, none_in_use, used_times, with_shapes}
 use Rattle.cdf_edits.proofs.Edits.JoinedVdr.{JoinsVdr, chain, edit, file, fills, gdr_is, joined_is, joined_size, joined_splices, list, lives, marks, plain_kind, records, used}
-use Rattle.cdf_edits.proofs.Edits.MadeRecord.{fresh, unowned}
-use Rattle.cdf_edits.proofs.Edits.MarkLemmas.{the_one}
-use Rattle.cdf_edits.proofs.Edits.OwnedOnce.{used_times, unused_none}
-use Rattle.cdf_edits.proofs.Edits.RecordFrame.{index_records, VariableLives}
-use Rattle.cdf_edits.proofs.Edits.VariableCopied.{links_copied, fits_copied}
-use Rattle.cdf_edits.proofs.Edits.VariableKinds.{with_shapes, kind_chain, of_kind, spliced_times}
-use Rattle.cdf_edits.proofs.Edits.VariableSplice.{sound_if}
-use Rattle.cdf_edits.proofs.Edits.VdrEdited.{StandsAmong, sound, tile, typed, has, fits, behind_in}
-use Rattle.cdf_edits.proofs.Frame.Meaning.{late_type}
-use Rattle.cdf_edits.proofs.Frame.OwnersApart.{times-append, owned-times}
-use Rattle.cdf_edits.proofs.Frame.VdrCopied.{VdrCopied}
 
 -- a record with these bytes behind its size took the place of the VDR of a variable
 abbrev pub MovesVdr : List ℕ → List ℕ → Kind → VariableShape → List ℕ → ℕ → Type 0
@@ -75,10 +63,7 @@ module _ {b late : List ℕ} {kind : Kind} {before : List VariableShape} {own : 
   none_of x y other = rw (ne_eqb x y other) refl
 
   once_before : used_times (shape b) own.vdr ≤ 1
-  once_before = at_most _ _ _ _ _ (owned-times b (shape b) own.vdr) ((sound good at).not_twice own.vdr)
-    where
-      at_most : (o f a v u : ℕ) → o ≡ f + (a + (v + u)) → o ≤ 1 → f + (a + v) ≤ 1
-      at_most o f a v u p q = omega arith
+  once_before = let times = owned-times b (shape b) own.vdr in let once = (sound good at).not_twice own.vdr in omega arith
 
   -- ---- it says the same
 
@@ -98,34 +83,25 @@ module _ {b late : List ℕ} {kind : Kind} {before : List VariableShape} {own : 
     pub traded : (x : ℕ) → used_times late_shape x + times x (own.vdr ∷ []) ≡ used_times (shape b) x + times x (by ∷ [])
     traded x =
         spliced_times (shape b) kind (records (sound good at) m) (list (sound good at) m) before (own ∷ []) (own' ∷ []) after at.was x (times x (by ∷ [])) (times x (own.vdr ∷ []))
-        (sums _ _ _ _ _ (times-append x (by ∷ []) (index_records own ++ [])) (times-append x (own.vdr ∷ []) (index_records own ++ [])))
-      where
-        sums : (f' f r y v : ℕ) → f' ≡ y + r → f ≡ v + r → f' + v ≡ f + y
-        sums f' f r y v p q = omega arith
+        (let new = times-append x (by ∷ []) (index_records own ++ []) in let old = times-append x (own.vdr ∷ []) (index_records own ++ []) in omega arith)
 
     pub old_unowned : used_times late_shape own.vdr ≡ 0
-    old_unowned = gone (used_times late_shape own.vdr) (used_times (shape b) own.vdr) (times own.vdr (own.vdr ∷ [])) (times own.vdr (by ∷ [])) (traded own.vdr) once_before (rw (eq-eqb own.vdr own.vdr refl) refl) (none_of own.vdr by (λ q. by_not_old (sym q)))
-      where
-        gone : (u' u g h : ℕ) → u' + g ≡ u + h → u ≤ 1 → g ≡ 1 → h ≡ 0 → u' ≡ 0
-        gone u' u g h p q r e = omega arith
+    old_unowned =
+        let gone : times own.vdr (own.vdr ∷ []) ≡ 1 = rw (eq-eqb own.vdr own.vdr refl) refl in
+        let none = none_of own.vdr by (λ q. by_not_old (sym q)) in
+        omega (arith, traded own.vdr, once_before)
 
     pub by_once : used_times late_shape by ≡ 1
-    by_once = came (used_times late_shape by) (used_times (shape b) by) (times by (own.vdr ∷ [])) (times by (by ∷ [])) (traded by) (unowned (sound good at) (fills (sound good at) m)) (none_of by own.vdr by_not_old) (rw (eq-eqb by by refl) refl)
-      where
-        came : (u' u g h : ℕ) → u' + g ≡ u + h → u ≡ 0 → g ≡ 0 → h ≡ 1 → u' ≡ 1
-        came u' u g h p q r e = omega arith
+    by_once =
+        let came : times by (by ∷ []) ≡ 1 = rw (eq-eqb by by refl) refl in
+        let none = none_of by own.vdr by_not_old in
+        omega (arith, traded by, unowned (sound good at) (fills (sound good at) m))
 
     fewer : (x : ℕ) → (In x (by ∷ []) → ⊥) → used_times late_shape x ≤ used_times (shape b) x
-    fewer x outside = less (used_times late_shape x) (used_times (shape b) x) (times x (own.vdr ∷ [])) (times x (by ∷ [])) (traded x) (none_of x by (λ q. outside (inl q)))
-      where
-        less : (u' u g h : ℕ) → u' + g ≡ u + h → h ≡ 0 → u' ≤ u
-        less u' u g h p q = omega arith
+    fewer x outside = let none = none_of x by (λ q. outside (inl q)) in omega (arith, traded x)
 
     held : (x : ℕ) → In x (by ∷ []) → IsHeld late late_shape x
-    held x i = subst (IsHeld late late_shape) (sym (the_one by x i)) (inl (used (sound good at) m, most (used_times late_shape by) by_once))
-      where
-        most : (n : ℕ) → n ≡ 1 → n ≤ 1
-        most n e = omega arith
+    held x i = subst (IsHeld late late_shape) (sym (the_one by x i)) (inl (used (sound good at) m, omega (arith, by_once)))
 
     pub sound_late : IsSound late (shape late)
     sound_late = subst (IsSound late) (sym late_is) (sound_if (sound good at) (joined_splices (sound good at) m before (own ∷ []) (own' ∷ []) after at.was members_late (has_late, tt))
@@ -137,8 +113,4 @@ module _ {b late : List ℕ} {kind : Kind} {before : List VariableShape} {own : 
     old_in = subst (In own.vdr) (sym (ap (λ (x : Shape). x.records) late_is)) ((edit (sound good at) m).sub own.vdr (tile good at))
 
     pub old_free : times own.vdr (owned_records late (shape late)) ≡ 0
-    old_free = subst (λ (x : Shape). times own.vdr (owned_records late x) ≡ 0) (sym late_is)
-        (sums _ _ _ _ _ (owned-times late late_shape own.vdr) old_unowned (unused_none late late_shape (edit (sound good at) m).tiled_now own.vdr (λ u. (plain_kind kind).no_uir (sym old_type ∙ u))))
-      where
-        sums : (o f a v u : ℕ) → o ≡ f + (a + (v + u)) → f + (a + v) ≡ 0 → u ≡ 0 → o ≡ 0
-        sums o f a v u p q r = omega arith
+    old_free = subst (λ (x : Shape). times own.vdr (owned_records late x) ≡ 0) (sym late_is) (none_in_use late late_shape (edit (sound good at) m).tiled_now own.vdr (λ u. (plain_kind kind).no_uir (sym old_type ∙ u)) old_unowned)

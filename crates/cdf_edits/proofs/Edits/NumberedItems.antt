@@ -5,13 +5,13 @@ use Rattle.cdf_edits.proofs.Common.{cases_eq, cases_lt, lt-ltb, le-ltb, ne_eqb, 
 -- ---- an item that is put in
 
 module _ {A : Type 0} (n : ℕ) (a : A) where
-  before_first : (m : ℕ) (c : A) (rest : List (ℕ × A)) → n < m → with_item n a ((m, c) ∷ rest) ≡ (n, a) ∷ (m, c) ∷ rest
+  pub before_first : (m : ℕ) (c : A) (rest : List (ℕ × A)) → n < m → with_item n a ((m, c) ∷ rest) ≡ (n, a) ∷ (m, c) ∷ rest
   before_first m c rest lt = rw (lt-ltb n m lt) refl
 
-  at_first : (m : ℕ) (c : A) (rest : List (ℕ × A)) → n ≡ m → with_item n a ((m, c) ∷ rest) ≡ (n, a) ∷ rest
+  pub at_first : (m : ℕ) (c : A) (rest : List (ℕ × A)) → n ≡ m → with_item n a ((m, c) ∷ rest) ≡ (n, a) ∷ rest
   at_first m c rest e = rw (le-ltb n m (omega arith), eq-eqb n m e) refl
 
-  behind_first : (m : ℕ) (c : A) (rest : List (ℕ × A)) → m < n → with_item n a ((m, c) ∷ rest) ≡ (m, c) ∷ with_item n a rest
+  pub behind_first : (m : ℕ) (c : A) (rest : List (ℕ × A)) → m < n → with_item n a ((m, c) ∷ rest) ≡ (m, c) ∷ with_item n a rest
   behind_first m c rest lt = rw (le-ltb n m (omega arith), ne_eqb n m (λ e. absurd (omega arith))) refl
 
 pub data Order : ℕ → ℕ → Type 0 where

@@ -1,26 +1,18 @@
 -- The greater numbers of one chain of an attribute fall: the image is good, all beside the chain stands, and the acts before go on.
-use Rattle.std.proofs.Common.{◌≡◌, ℕ, ◌<◌, ◌≤◌, List, [], ◌∷◌, length, true, refl, sym, ap, subst, ◌∙◌, arith, inl, inr}
-use Rattle.cdf_edits.proofs.Common.{cases_lt, lt-ltb, le-ltb, EntryKind, entries_of, closed_up, image_limit, attribute_of, integer4, number, aedr_num, uir_type, AttributeShape, Shape, shape, IsSound, In, Good, good_is_sound, Only, Stays, chain_of, entry_type, greatest_number, max_field, with_chain, avoided, within, fallen}
+use Rattle.std.proofs.Common.{◌≡◌, ℕ, ◌<◌, ◌≤◌, List, [], ◌∷◌, length, refl, sym, ap, subst, ◌∙◌, arith, inl, inr}
+use Rattle.cdf_edits.proofs.Common.{cases_lt, lt-ltb, le-ltb, EntryKind, entries_of, closed_up, image_limit, attribute_of, integer4, number, aedr_num, uir_type, AttributeShape, Shape, shape, IsSound, In, Good, good_is_sound, Only, Stays, chain_of, entry_type, greatest_number, max_field, with_chain, fallen}
 use Rattle.cdf_model.specs.declared.kinds.EntryKind.TheVariants as entries
-use Rattle.cdf_edits.proofs.Edits.ActsStill.{acts_still_by}
+use Rattle.cdf_edits.proofs.Edits.Common.{Rechains, acts_still_by, attribute_now, keeps_away, keeps_within, now_is, type_stays, unmarked-away}
 use Rattle.cdf_edits.proofs.Edits.ChainEdited.{AttributeEdited, EntryEdited}
-use Rattle.cdf_edits.proofs.Edits.ChainSpliced.{Rechains, attribute_now, now_is}
 use Rattle.cdf_edits.proofs.Edits.DropHalves.{LowersHalf, number_field}
 use Rattle.cdf_edits.proofs.Edits.FallenEntries.{LowersChain, as_long, edit, entries_now, entry_in, entry_typed, falling, fell, good_lowered, later_above, long_enough, rechains, t, those}
-use Rattle.cdf_edits.proofs.Edits.MarkLemmas.{unmarked-away}
-use Rattle.cdf_edits.proofs.Edits.OwnersKept.{keeps_away, keeps_fields}
 use Rattle.cdf_edits.proofs.Edits.RechainedStands.{StandTests, chain_is, edited, same_records}
-use Rattle.cdf_edits.proofs.Edits.VariableKeeps.{type_stays}
 
 -- ---- the marks, by the kind
 
 stand_tests : (kind : EntryKind) (adr : ℕ) (es : List ℕ) → StandTests (falling kind adr es) kind
 stand_tests entries.Z adr es = record { adr_within = refl; gdr_within = refl; uir_start = refl; uir_within = refl; r_max = refl; variables = refl }
 stand_tests kind adr es = record { adr_within = refl; gdr_within = refl; uir_start = refl; uir_within = refl; r_max = refl; variables = refl }
-
-entry_tests : (kind : EntryKind) (adr : ℕ) (es : List ℕ) → (avoided (falling kind adr es) (entry_type kind) 0 12 ≡ true) × (within (falling kind adr es) (entry_type kind) (aedr_num ∷ []) ≡ true)
-entry_tests entries.Z adr es = (refl, refl)
-entry_tests kind adr es = (refl, refl)
 
 -- a chain put in its own place
 same_chain : (kind : EntryKind) (a : AttributeShape) → with_chain a kind (chain_of a kind) ≡ a
@@ -43,10 +35,9 @@ module _ {b now : List ℕ} {kind : EntryKind} {before : List AttributeShape} {o
   -- ---- the entries
 
   num_stays : (m : ℕ) → In m chain → Stays b now m (aedr_num ∷ [])
-  num_stays m i = let tests = entry_tests kind own.adr (those good short q) in keeps_fields sound r.edit (same_records good r) m (entry_type kind) (aedr_num ∷ []) (entry_in good short q m i) (entry_typed good short q m i) tests.0 tests.1
-
-  above : (n : ℕ) → num < n → n ≤ num → ⊥
-  above n lt le = absurd (omega arith)
+  num_stays m i =
+      let other = (t good short q).other in
+      keeps_within sound r.edit (same_records good r) m (entry_type kind) (aedr_num ∷ []) (entry_in good short q m i) (entry_typed good short q m i) ((λ same lies. inl (omega arith)), ((λ same lies. absurd (other same)), tt)) ((λ same lies. refl), ((λ same lies. absurd (other same)), tt))
 
   entry_falls : (m : ℕ) → In m chain → EntryEdited b now (with_chain own kind chain) kind m (number_field num (number b m aedr_num)) (fallen num (number b m aedr_num))
   entry_falls m i = record {
@@ -54,7 +45,7 @@ module _ {b now : List ℕ} {kind : EntryKind} {before : List AttributeShape} {o
     kept = elim (cases_lt num (number b m aedr_num)) [
       | inl lt ↦ rw (lt-ltb num (number b m aedr_num) lt) (num_stays m i)
       | inr le ↦ rw (le-ltb num (number b m aedr_num) le) (keeps_away sound r.edit (same_records good r) m (entry_type kind) (Only []) (entry_in good short q m i) (entry_typed good short q m i)
-          ((λ same lies. above (number b m aedr_num) (later_above b num chain m lies) le), ((λ same lies. (t good short q).other same), tt)))
+          ((λ same lies. let lt = later_above b num chain m lies in absurd (omega arith)), ((λ same lies. (t good short q).other same), tt)))
     ];
     type_is = type_stays b now m (aedr_num ∷ []) (num_stays m i) (let l = long_enough good short q m i in omega arith) (λ n l. (inl (omega arith), tt));
     num_is = (fell good short q m i).num_is;

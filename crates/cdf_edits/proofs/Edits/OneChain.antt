@@ -20,7 +20,7 @@ items_of b own entries.G = refl
 items_of b own entries.R = refl
 items_of b own entries.Z = refl
 
-items_with : (a : Attribute) (kind : EntryKind) (items : List (ℕ × Entry)) → entries_of (with_entries a kind items) kind ≡ items
+pub items_with : (a : Attribute) (kind : EntryKind) (items : List (ℕ × Entry)) → entries_of (with_entries a kind items) kind ≡ items
 items_with a entries.G items = refl
 items_with a entries.R items = refl
 items_with a entries.Z items = refl
@@ -59,7 +59,7 @@ module _ {b now new list : List ℕ} {marks : List Mark} {reborn : List ℕ} {ki
     rules_live m i out = entry_rules_live b now own.adr m (num_same sound r) (entry_stays sound r m i out) (rules_before m i)
 
   -- an image whose chain keeps the rules is good
-  pub good_chained : Good b → number now own.adr (count_field kind) ≡ length chain' → Distinct (nums now chain') → ((m : ℕ) → In m chain' → Hold (entry_rows now own.adr m)) → ((m : ℕ) → In m reborn → is_in (type_at now m) read_types ≡ true) → ((m : ℕ) → (In m reborn → ⊥) → times m gone ≡ times m come)
+  good_chained : Good b → number now own.adr (count_field kind) ≡ length chain' → Distinct (nums now chain') → ((m : ℕ) → In m chain' → Hold (entry_rows now own.adr m)) → ((m : ℕ) → In m reborn → is_in (type_at now m) read_types ≡ true) → ((m : ℕ) → (In m reborn → ⊥) → times m gone ≡ times m come)
       → ((m : ℕ) → In m reborn → IsSorted now (made sound r) m) → eof now (shape b).gdr ≡ length now → length now ≤ image_limit → Good now
   good_chained good counted differ rules read beside sorted end short =
       let image = good_by_its_shape b good in
@@ -78,6 +78,9 @@ module _ {b now new list : List ℕ} {marks : List Mark} {reborn : List ℕ} {ki
     pub gdr_within : within marks gdr_type space_fields ≡ true
     pub adr_within : within marks adr_type (chain_fields kind) ≡ true
     pub unused : (may : Allowances) → AllKeep b now may acts (owned_by Unused (unused_records b (shape b)))
+
+  pub good_settled : {need : ℕ} {acts : List Act} → Good b → number now own.adr (count_field kind) ≡ length chain' → Distinct (nums now chain') → ((m : ℕ) → In m chain' → Hold (entry_rows now own.adr m)) → Settled need acts → length b + need ≤ image_limit → Good now
+  good_settled good counted differ rules s short = good_chained good counted differ rules s.read s.beside s.sorted s.end (omega (arith, s.longest, short))
 
   -- and of the entries
   pub record Chained (attr : List ℕ) (num need : ℕ) (items : List (ℕ × Entry)) (acts : List Act) : Type 0 where
@@ -113,7 +116,7 @@ module _ {b now new list : List ℕ} {marks : List Mark} {reborn : List ℕ} {ki
         record {
           reply = Plain;
           goes = goes ∙ ap (λ (d : DataSet). ByStep (Go d Plain)) (sym content_chained);
-          good = good_chained good c.counted c.differ c.rules c.settled.read c.settled.beside c.settled.sorted c.settled.end (omega (arith, c.settled.longest, limited));
+          good = good_settled good c.counted c.differ c.rules c.settled limited;
           longer = r.edit.longer;
           within = subst (λ (n : ℕ). length now ≤ length b + n) (sym roomy) c.settled.longest;
           reads = λ q. absurd (true≢false (sym q ∙ writes));

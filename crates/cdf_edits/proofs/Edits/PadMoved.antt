@@ -1,13 +1,11 @@
 -- The VDR moved of a variable that got a pad value: what the variable means then, and what `set-pad` says of it.
-use Rattle.std.proofs.Common.{◌≡◌, ℕ, ◌+◌, ◌<◌, ◌≤◌, List, [], ◌∷◌, length, Bool, Some, sym, ap, subst, ◌∙◌, arith, inl, inr}
+use Rattle.std.proofs.Common.{◌≡◌, ℕ, ◌+◌, ◌<◌, ◌≤◌, List, [], ◌∷◌, length, Bool, Some, sym, ap, ◌∙◌, arith, inl, inr}
 use Rattle.cdf_edits.proofs.Common.{cast_signed, w32, nat_le, if◌then◌else◌, turned, Kind, byte, variable_of, number, integer4, size_at, Field, vdr_blocking_factor, vdr_flags, VariableShape, shape, field_bytes, is_little, dimensions_at, is_z, pad_field, type_of_variable, value_bytes, vdr_end, Good, bytes_kept, number_kept, either, le_of, OutsideFields, with_bits, SetsPad, Took, Gave, Gives}
 use Rattle.cdf_edits.proofs.Edits.FreedVdr.{acts, by_kept, by_long, bytes_left, copied_now, file_now, moved_means, name_now, same_end}
 use Rattle.cdf_edits.proofs.Edits.JoinedVdr.{file, joined_size}
 use Rattle.cdf_edits.proofs.Edits.MovedVdr.{CopiesVdr, MovesVdr, own'}
 use Rattle.cdf_edits.proofs.Edits.PadWritten.{padded_end, padded_means}
-use Rattle.cdf_edits.proofs.Edits.VdrEdited.{StandsAmong, sound}
-use Rattle.cdf_edits.proofs.Frame.Meaning.{pad_long, pad_width}
-use Rattle.cdf_edits.proofs.Frame.VdrCopied.{Copied, word_copied}
+use Rattle.cdf_edits.proofs.Edits.Common.{Copied, StandsAmong, pad_long, pad_width, sound, word_copied}
 
 -- the new VDR is the old one up to the pad value but for its flags, and ends with these bytes, for which the old one had no room
 pub record HoldsPad (b late : List ℕ) (old by need : ℕ) (bytes : List ℕ) : Type 0 where
@@ -29,10 +27,7 @@ module _ {b late now : List ℕ} {kind : Kind} {before : List VariableShape} {ow
   pad_late = pad_long (is_z b old) (dimensions_at b old) (value_bytes b old)
 
   fields_alike : Copied b late old by 80 340
-  fields_alike = record { each = λ i l h. p.alike i (omega arith) (under i pad.place h pad_late) (inr (omega arith), tt) }
-    where
-      under : (i n : ℕ) → i < 340 → 340 ≤ n → i < n
-      under i n l k = omega arith
+  fields_alike = record { each = λ i l h. p.alike i (omega arith) (let late = pad_late in omega arith) (inr (omega arith), tt) }
 
   flags_now : number now by vdr_flags ≡ with_bits (number b old vdr_flags) 1 1 1
   flags_now = number_kept late now by (by_kept good at m says gives).same vdr_flags (let l = by_long good at m says gives in omega arith) ∙ p.flags_are
@@ -44,10 +39,7 @@ module _ {b late now : List ℕ} {kind : Kind} {before : List VariableShape} {ow
   end_late = padded_end own (own' good at m) (file (sound good at) m) says.copied p.flags_are
 
   pad_fits : pad.place + pad.width ≤ size_at late by
-  pad_fits = subst (λ (k : ℕ). pad.place + k ≤ size_at late by) (sym (pad_width (is_z b old) (dimensions_at b old) (value_bytes b old))) (same (size_at late by) (joined_size (sound good at) m ∙ sym p.whole ∙ end_late))
-    where
-      same : (n : ℕ) → n ≡ pad.place + value_bytes b old → pad.place + value_bytes b old ≤ n
-      same n e = omega arith
+  pad_fits = let wide = pad_width (is_z b old) (dimensions_at b old) (value_bytes b old) in let size = joined_size (sound good at) m ∙ sym p.whole ∙ end_late in omega arith
 
   bytes_now : field_bytes now by pad ≡ bytes
   bytes_now =
@@ -59,20 +51,15 @@ module _ {b late now : List ℕ} {kind : Kind} {before : List VariableShape} {ow
 
   pub moved_sets_pad : SetsPad b now old by (acts good at m says gives)
   moved_sets_pad =
-      let ends = same_end good at m says gives ∙ p.whole in
+      let ends : vdr_end now by ≡ 8 + length body = same_end good at m says gives ∙ p.whole in
+      let over : vdr_end now by ≤ size_at b old → ⊥ = λ l. let s = p.short in absurd (omega arith) in
       record {
-        acts_are = acts_of (vdr_end now by) ends;
-        copied = λ i low high out. (by_kept good at m says gives).same.each (by + i) (omega arith) (inside i pad.place pad.width (size_at late by) high pad_fits) ∙ p.alike i low high out;
+        acts_are = elim (either (nat_le (vdr_end now by) (size_at b old))) [
+          | inl fit ↦ absurd (over (le_of (vdr_end now by) (size_at b old) fit))
+          | inr more ↦ sym (ap (λ (q : Bool). if q then [] else Took by (vdr_end now by) ∷ Gave old (size_at b old) ∷ []) more ∙ ap (λ (k : ℕ). Took by k ∷ Gave old (size_at b old) ∷ []) ends)
+        ];
+        copied = λ i low high out. (by_kept good at m says gives).same.each (by + i) (omega arith) (let fit = pad_fits in omega arith) ∙ p.alike i low high out;
         flags_are = flags_now;
-        room = λ l. absurd (never (vdr_end now by) ends l);
+        room = λ l. absurd (over l);
         freed = bytes_left good at m says gives;
       }
-    where
-      never : (n : ℕ) → n ≡ 8 + length body → n ≤ size_at b old → ⊥
-      never n e l = let s = p.short in omega arith
-
-      acts_of : (n : ℕ) → n ≡ 8 + length body → (acts good at m says gives) ≡ (if nat_le n (size_at b old) then [] else Took by n ∷ Gave old (size_at b old) ∷ [])
-      acts_of n e = elim (either (nat_le n (size_at b old))) [ inl fit ↦ absurd (never n e (le_of n (size_at b old) fit)) | inr over ↦ sym (ap (λ (q : Bool). if q then [] else Took by n ∷ Gave old (size_at b old) ∷ []) over ∙ ap (λ (k : ℕ). Took by k ∷ Gave old (size_at b old) ∷ []) e) ]
-
-      inside : (i place width n : ℕ) → i < place → place + width ≤ n → by + i < by + n
-      inside i place width n a d = omega arith

@@ -1,25 +1,13 @@
 -- One chain of entries of an attribute was edited, with marks that leave all else: all beside it stands.
 use Rattle.std.proofs.Common.{◌≡◌, ◌≢◌, ◌⊎◌, ℕ, zero, suc, List, [], ◌∷◌, ◌++◌, length, true, Some, refl, sym, ap, subst, ◌∙◌, arith, inl, inr}
-use Rattle.cdf_edits.proofs.Common.{length-append, set_at, same_Some, cast_signed, w32, flat_map, slice_get, slice_set, DataSet, EntryKind, Kind, integer4, type_at, attribute_records, Field, aedr_num, gdr_r_max_rec, uir_next_uir, uir_prev_uir, adr_type, cdr_type, gdr_type, uir_type, AttributeShape, HasShape, Shape, shape, IsSound, In, Good, content, number, type_kept, is_a-in, is_a-type, linkable-in, linkable-type, good_is_sound, In-append_left, In-append_right, both, Only, Stays, shapes_of, space_fields, chain_fields, chain_of, with_chain, Away, Mark, all_unmarked, avoided, unmarked, variable_types, within}
+use Rattle.cdf_edits.proofs.Common.{length-append, set_at, same_Some, cast_signed, w32, flat_map, slice_get, slice_set, DataSet, EntryKind, Kind, integer4, type_at, attribute_records, Field, aedr_num, gdr_r_max_rec, uir_next_uir, uir_prev_uir, adr_type, cdr_type, gdr_type, uir_type, AttributeShape, Shape, shape, IsSound, In, Good, content, number, type_kept, is_a-in, is_a-type, linkable-in, linkable-type, good_is_sound, In-append_left, In-append_right, both, Only, Stays, shapes_of, space_fields, chain_fields, chain_of, with_chain, Away, Mark, all_unmarked, avoided, unmarked, variable_types, within}
 use Rattle.cdf_model.specs.declared.kinds.EntryKind.TheVariants as entries
 use Rattle.cdf_model.specs.declared.kinds.Kind.TheVariants as kinds
-use Rattle.cdf_edits.proofs.Commands.KeptRecords.{keeps_stood}
+use Rattle.cdf_edits.proofs.Edits.Common.{Kept, Rechains, adr_in, adr_of, adr_start, adr_typed, after_away, after_in, all_unmarked-away, before_away, before_in, clear_file, content_replaced, fixed_long, gdr_field, gdr_in, gdr_place, gdr_start, gdr_typed, head_type, keeps_away, keeps_fields, keeps_stood, keeps_within, kept_away, kind_in, kind_ours, now_is, other_has, other_kept, other_of, other_type, records_are, splices, stood, there, unmarked-away, variable_typed, within-within}
 use Rattle.cdf_edits.proofs.Edits.ChainEdited.{AttributeEdited, EntryEdited}
-use Rattle.cdf_edits.proofs.Edits.ChainKept.{records_are}
-use Rattle.cdf_edits.proofs.Edits.ChainKinds.{adr_of, other_has, other_of, other_type}
-use Rattle.cdf_edits.proofs.Edits.ChainSpliced.{Rechains, adr_in, adr_start, adr_typed, after_away, after_in, before_away, before_in, clear_file, now_is, other_kept, splices, there}
-use Rattle.cdf_edits.proofs.Edits.Composing.{head_type}
-use Rattle.cdf_edits.proofs.Edits.MarkLemmas.{all_unmarked-away, unmarked-away, within-within}
 use Rattle.cdf_edits.proofs.Edits.OneChain.{got_middle}
-use Rattle.cdf_edits.proofs.Edits.OneSpliced.{content_replaced}
-use Rattle.cdf_edits.proofs.Edits.OwnersKept.{keeps_away, keeps_fields, keeps_within, stood}
-use Rattle.cdf_edits.proofs.Edits.RecordFrame.{gdr_field, gdr_place, gdr_start, kept_away}
 use Rattle.cdf_edits.proofs.Edits.StandsBut.{StandsBut}
-use Rattle.cdf_edits.proofs.Edits.StepEdits.{fixed_long, gdr_in, gdr_typed}
-use Rattle.cdf_edits.proofs.Edits.VariableFrame.{variable_typed}
 use Rattle.cdf_edits.proofs.Edits.VariableKeeps.{records_at}
-use Rattle.cdf_edits.proofs.Edits.VariableKinds.{kind_in, kind_ours}
-use Rattle.cdf_edits.proofs.Frame.Meaning.{Kept}
 
 -- ---- lists in which one is another
 
@@ -56,17 +44,11 @@ pub record StandTests (marks : List Mark) (kind : EntryKind) : Type 0 where
   pub variables : all_unmarked marks variable_types ≡ true
 
 module _ {b now : List ℕ} {list : List ℕ} {marks : List Mark} {reborn : List ℕ} {kind : EntryKind} {before : List AttributeShape} {own : AttributeShape} {after : List AttributeShape} {chain' gone come : List ℕ} (good : Good b) (r : Rechains b now (shape b) (shape b).records list marks reborn kind before own after chain' gone come) where
-  abbrev s : Shape
-  s = shape b
-
   abbrev own' : AttributeShape
   own' = with_chain own kind chain'
 
   sound : IsSound b (shape b)
   sound = good_is_sound b good
-
-  h : HasShape b (shape b)
-  h = sound.has_shape
 
   pub same_records : (shape now).records ≡ (shape b).records
   same_records = records_are sound r
@@ -110,18 +92,18 @@ module _ {b now : List ℕ} {list : List ℕ} {marks : List Mark} {reborn : List
           others = λ j ne. ap (λ (as_ : List AttributeShape). slice_get as_ j) (attributes_now ∙ sym (set_at before own after own' (length before) refl)) ∙ set_other (before ++ own ∷ after) (length before) j own' ne ∙ ap (λ (as_ : List AttributeShape). slice_get as_ j) (sym r.was);
           contents = λ j ne. ap (λ (d : DataSet). slice_get d.attributes j) replaced ∙ set_other (content b).attributes (length before) j _ ne;
           others_kept = others_stay;
-          cdr_kept = keeps_away sound r.edit same_records 8 cdr_type (Only []) (is_a-in b s.records cdr_type 8 h.cdr_stands) (is_a-type b s.records cdr_type 8 h.cdr_stands) (unmarked-away marks cdr_type 8 (both (unmarked marks cdr_type) _ file).0);
-          gdr_kept = keeps_fields sound r.edit same_records s.gdr gdr_type space_fields (gdr_in b s h) (gdr_typed b s h) (gdr_start sound r.edit file) t.gdr_within;
-          variables_kept = λ vk m i. keeps_away sound r.edit same_records m (type_at b m) (Only []) (kind_in sound vk m i) refl (all_unmarked-away marks variable_types (type_at b m) m t.variables (variable_typed b s sound m ((kind_ours b s sound vk).sub m i)));
+          cdr_kept = keeps_away sound r.edit same_records 8 cdr_type (Only []) (is_a-in b (shape b).records cdr_type 8 sound.has_shape.cdr_stands) (is_a-type b (shape b).records cdr_type 8 sound.has_shape.cdr_stands) (unmarked-away marks cdr_type 8 (both (unmarked marks cdr_type) _ file).0);
+          gdr_kept = keeps_fields sound r.edit same_records (shape b).gdr gdr_type space_fields (gdr_in b (shape b) sound.has_shape) (gdr_typed b (shape b) sound.has_shape) (gdr_start sound r.edit file) t.gdr_within;
+          variables_kept = λ vk m i. keeps_away sound r.edit same_records m (type_at b m) (Only []) (kind_in sound vk m i) refl (all_unmarked-away marks variable_types (type_at b m) m t.variables (variable_typed b (shape b) sound m ((kind_ours b (shape b) sound vk).sub m i)));
           listed_kept = λ m i.
-              let ok = h.unused_chain.linkable m i in
-              keeps_fields sound r.edit same_records m uir_type (uir_next_uir ∷ uir_prev_uir ∷ []) (linkable-in b s.records uir_type m ok) (linkable-type b s.records uir_type m ok) t.uir_start t.uir_within;
+              let ok = sound.has_shape.unused_chain.linkable m i in
+              keeps_fields sound r.edit same_records m uir_type (uir_next_uir ∷ uir_prev_uir ∷ []) (linkable-in b (shape b).records uir_type m ok) (linkable-type b (shape b).records uir_type m ok) t.uir_start t.uir_within;
           loose_kept = λ m i typed out. let l = loose m i typed out in (keeps_away sound r.edit same_records m uir_type (Only []) i typed l.0, l.1);
-          r_max_rec_kept = ap (λ (g : ℕ). integer4 now g gdr_r_max_rec) (gdr_place sound r.edit file) ∙ ap (cast_signed w32) (gdr_field sound r.edit file gdr_r_max_rec t.r_max (omega arith)) ∙ ap (λ (g : ℕ). integer4 b g gdr_r_max_rec) (sym h.gdr_is);
+          r_max_rec_kept = ap (λ (g : ℕ). integer4 now g gdr_r_max_rec) (gdr_place sound r.edit file) ∙ ap (cast_signed w32) (gdr_field sound r.edit file gdr_r_max_rec t.r_max (omega arith)) ∙ ap (λ (g : ℕ). integer4 b g gdr_r_max_rec) (sym sound.has_shape.gdr_is);
         }
 
     pub edited : {went : ℕ → Type 0} {fields : ℕ → ℕ → List Field} {falls : ℕ → ℕ} → ((m : ℕ) → In m (chain_of own kind) → (went (number b m aedr_num) → ⊥) → EntryEdited b now own' kind m (fields m (number b m aedr_num)) (falls (number b m aedr_num))) → AttributeEdited b now (length before) own own' kind went fields falls
-    edited all = let long_adr = fixed_long b s h adr_type own.adr (adr_in sound r) (adr_typed sound r) in record {
+    edited all = let long_adr = fixed_long b (shape b) sound.has_shape adr_type own.adr (adr_in sound r) (adr_typed sound r) in record {
       stands = stands;
       there = ap (λ (as_ : List AttributeShape). slice_get as_ (length before)) attributes_now ∙ got_middle before own' after;
       chain = record {
@@ -131,7 +113,7 @@ module _ {b now : List ℕ} {list : List ℕ} {marks : List Mark} {reborn : List
           keeps_within sound r.edit same_records own.adr adr_type (chain_fields kind) (adr_in sound r) (adr_typed sound r) (adr_start sound r) (within-within marks adr_type own.adr (chain_fields kind) t.adr_within),
           head_type b now own.adr (r.edit.part own.adr adr_type 0 12 (adr_in sound r) (adr_typed sound r) (adr_start sound r) (adr_start sound r) (omega arith)),
         );
-        other_kept = λ m i. kept_stays m (linkable-in b s.records (other_type kind) m ((other_has kind own (there sound r).1.0.have.0).linkable m i)) (other_kept sound r m i);
+        other_kept = λ m i. kept_stays m (linkable-in b (shape b).records (other_type kind) m ((other_has kind own (there sound r).1.0.have.0).linkable m i)) (other_kept sound r m i);
         entries = all;
       };
     }

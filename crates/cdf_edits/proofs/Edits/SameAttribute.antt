@@ -3,11 +3,10 @@ use Rattle.std.proofs.Common.{◌≡◌, ◌⊎◌, ℕ, ℤ, ◌+◌, ◌≤◌
 use Rattle.cdf_edits.proofs.Common.{slice_get, ◌&&◌, ◌==◌, nat_lt, not, if◌then◌else◌, EntryKind, entries_of, is_global, Attribute, Found, attribute_without, cast_signed, w32, word, Leads, next_field, next_of, attribute_of, scope_of, integer4, number, size_at, Field, adr_scope, aedr_num, adr_type, AttributeShape, HasEntries, HasShape, shape, In, Good, linkable-type, good_is_sound, GreatestIs, OutsideFields, chain_fields, chain_of, entry_type, greatest_number, kind_of_entries, max_field, entries_for, fields_beside}
 use Rattle.cdf_edits.specs.Commands.Variables.{is_renumbered}
 use Rattle.cdf_edits.proofs.Edits.ChainEdited.{ChainEdited, chain_then, stays_more, stays_word}
-use Rattle.cdf_edits.proofs.Edits.ChainKinds.{chain_has, chain_in, other_in}
+use Rattle.cdf_edits.proofs.Edits.Common.{chain_has, chain_in, fixed_long, other_in}
 use Rattle.cdf_edits.proofs.Edits.DropsOne.{Fate}
 use Rattle.cdf_edits.proofs.Edits.StandsBut.{AttributeStands, member_in}
 use Rattle.cdf_edits.proofs.Edits.StandsThen.{attribute_then}
-use Rattle.cdf_edits.proofs.Edits.StepEdits.{fixed_long}
 use Rattle.cdf_edits.proofs.Edits.VariableDeleted.{adr_at, each_at, greatest_field, least_entry}
 use Rattle.cdf_edits.proofs.Frame.SoundStays.{filter_same}
 
@@ -52,20 +51,17 @@ module _ {b mid : List ℕ} {k : ℕ} {own : AttributeShape} (good : Good b) (at
   beside_same kind num m i =
       ap₂ (λ (x n : ℕ). beside num x (number mid x aedr_num) n) (entry_same kind m i next_field (omega arith)) (entry_same kind m i aedr_num (omega arith))
       ∙ elim (leads_next b _ (chain_of own kind) (chain_has kind own has).leads m i) [
-        | inl z ↦ ends (next_of b m) (number mid (next_of b m) aedr_num) (number b (next_of b m) aedr_num) z
+        | inl z ↦ rw z refl
         | inr j ↦ ap (λ (n : ℕ). beside num (next_of b m) n (number b m aedr_num)) (entry_same kind (next_of b m) j aedr_num (omega arith))
       ]
-    where
-      ends : (x n n' : ℕ) → x ≡ 0 → beside num x n (number b m aedr_num) ≡ beside num x n' (number b m aedr_num)
-      ends x n n' z = subst (λ (y : ℕ). beside num y n (number b m aedr_num) ≡ beside num y n' (number b m aedr_num)) (sym z) refl
 
-  chain_same : (kind : EntryKind) → ChainEdited b mid own own kind (λ n. ⊥) (λ m n. []) (λ n. n)
-  chain_same kind = record {
+  pub chain_same : (kind : EntryKind) {gone : ℕ → Type 0} {fields : ℕ → ℕ → List Field} {falls : ℕ → ℕ} → ((m : ℕ) → In m (chain_of own kind) → falls (number b m aedr_num) ≡ number b m aedr_num) → ChainEdited b mid own own kind gone fields falls
+  chain_same kind rests = record {
     adr_is = refl;
     other_is = refl;
     adr_kept = let s = stands.kept own.adr (inl refl) in (stays_more (chain_fields kind) s.0, s.1);
     other_kept = λ m i. stands.kept m (other_in kind own m i);
-    entries = λ m i none. let s = stands.kept m (inr (chain_in kind own m i)) in record { member = i; kept = s.0; type_is = s.1; num_is = entry_same kind m i aedr_num (omega arith) };
+    entries = λ m i none. let s = stands.kept m (inr (chain_in kind own m i)) in record { member = i; kept = stays_more _ s.0; type_is = s.1; num_is = entry_same kind m i aedr_num (omega arith) ∙ sym (rests m i) };
   }
 
   -- its entries for a variable
@@ -84,7 +80,7 @@ module _ {b mid : List ℕ} {k : ℕ} {own : AttributeShape} (good : Good b) (at
         there = f.there;
         of_variables = ap (λ (a : Attribute). is_global a.scope) (sym stands.attribute_is) ∙ f.of_variables;
         attribute_is = f.attribute_is ∙ ap (attribute_without found.kind found.number) stands.attribute_is;
-        chain = chain_then (chain_same kind) f.chain (λ x out. ((λ none. none), out)) (λ m i j out. (tt, subst (λ (fs : List Field). OutsideFields fs i) (sym (beside_same kind found.number m j)) out)) (λ x. refl);
+        chain = chain_then (chain_same kind {gone = λ n. ⊥} {fields = λ m n. []} {falls = λ n. n} (λ m i. refl)) f.chain (λ x out. ((λ none. none), out)) (λ m i j out. (tt, subst (λ (fs : List Field). OutsideFields fs i) (sym (beside_same kind found.number m j)) out)) (λ x. refl);
         greatest = subst (λ (a : Attribute). GreatestIs b now own f.own' kind (is_renumbered a kind found.number)) stands.attribute_is
             (f.greatest ∙ ap (λ (i : ℤ). if is_renumbered (attribute_of mid own) kind found.number then greatest_number (entries_of (attribute_of now f.own') kind) else i) (greatest_same kind));
       })
@@ -100,6 +96,6 @@ fate_still {b} {mid} {now} {found} {k} {own} good stands (inl f) =
       there = s.there;
       of_variables = f.of_variables;
       attribute_is = s.attribute_is ∙ f.attribute_is;
-      chain = chain_then f.chain (chain_same good f.there s kind) (λ x out. (out, λ none. none)) (λ m i j out. (out, tt)) (λ x. refl);
+      chain = chain_then f.chain (chain_same good f.there s kind {gone = λ n. ⊥} {fields = λ m n. []} {falls = λ n. n} (λ m i. refl)) (λ x out. (out, λ none. none)) (λ m i j out. (out, tt)) (λ x. refl);
       greatest = greatest_same good f.there s kind ∙ f.greatest ∙ ap (λ (a : Attribute). if is_renumbered (attribute_of b own) kind found.number then greatest_number (entries_of a kind) else integer4 b own.adr (max_field kind)) (sym s.attribute_is);
     })

@@ -1,11 +1,9 @@
 -- Some attributes changed twice, and all else stands.
 use Rattle.std.proofs.Common.{◌≡◌, ℕ, ◌≤◌, List, [], ◌∷◌, length, Some, refl, sym, ap, subst, ◌∙◌, arith, inl, inr}
 use Rattle.cdf_edits.proofs.Common.{same_Some, slice_get, flat_map, Attribute, DataSet, attribute_of, content, is_in, size_at, type_at, Field, uir_next_uir, uir_prev_uir, uir_type, AttributeShape, HasShape, VariableShape, shape, AreTiles, In, Good, linkable-in, linkable-type, good_is_sound, either, true-is_in, false-is_in, tile_lies, space_fields, variable_records, Stays, IsDropped}
-use Rattle.cdf_edits.proofs.Commands.ListParts.{got-map}
+use Rattle.cdf_edits.proofs.Edits.Common.{got-map, sizes_by_tiles, stays_then, type_stays}
 use Rattle.cdf_edits.proofs.Edits.ChainEdited.{stays_bytes, stays_more}
-use Rattle.cdf_edits.proofs.Edits.FreedRecords.{sizes_by_tiles}
 use Rattle.cdf_edits.proofs.Edits.StandsBut.{AttributeStands, StandsBut, attributes_of}
-use Rattle.cdf_edits.proofs.Edits.VariableKeeps.{stays_then, type_stays}
 
 -- an attribute that did not
 pub attribute_stands : {b now : List ℕ} {changed : ℕ → Type 0} (was : Good b) (s : StandsBut b changed now) (k : ℕ) (a : AttributeShape) → (changed k → ⊥) → slice_get (shape b).attributes k ≡ Some a → AttributeStands b now k a

@@ -1,18 +1,9 @@
 -- What a command may change of variables of one kind that stay but for the links from one to the next, where those of the other kind stay.
 use Rattle.std.proofs.Common.{◌≡◌, ℕ, suc, ◌+◌, ◌<◌, ◌≤◌, List, [], ◌∷◌, length, refl, sym, subst, arith, inl, inr}
 use Rattle.cdf_edits.proofs.Common.{flat_map, Kind, next_field, type_at, variable_records, VariableShape, Shape, vdrs, shape, IsSound, In, linkable-in, linkable-type, In-append_left, gdr_type, cdr_type, is_a-in, Each, index_types, HasVariable, VariableFits, AllKeep, Allowance, Allowances, Keeps, Only, shapes_of, stays_all, variables_gdr_fields, OneVariable, Unused, owned, owned_by, owned_by_variables, unused_records, Edit, Mark, Act, type_in, variables_chain}
-use Rattle.cdf_edits.proofs.Commands.KeptRecords.{AllKeep-append, keep_attributes, keeps_stood}
+use Rattle.cdf_edits.proofs.Edits.Common.{AllKeep-append, Kept, KeptButLink, VariableLives, all_attribute_records, all_attributes_in, all_unmarked-away, but_link, cdr_kept, gdr_in, gdr_start, gdr_typed, index_records, keep_all, keep_attributes, keep_file, keep_kinds, keep_own, keeps_fields, keeps_stood, kept, kept_away, kind_chain, kind_ours, late_size, other_kind, stood}
 use Rattle.cdf_edits.proofs.Edits.JoinedVdr.{KindTests}
-use Rattle.cdf_edits.proofs.Edits.MarkLemmas.{all_unmarked-away}
-use Rattle.cdf_edits.proofs.Edits.OwnedOnce.{all_attributes_in}
-use Rattle.cdf_edits.proofs.Edits.OwnersKept.{keep_all, keep_file, keeps_fields, stood}
-use Rattle.cdf_edits.proofs.Edits.RecordFrame.{VariableLives, cdr_kept, gdr_start, index_records, kept, kept_away}
-use Rattle.cdf_edits.proofs.Edits.StepEdits.{gdr_in, gdr_typed}
 use Rattle.cdf_edits.proofs.Edits.VariableFrame.{AreOurs, index_typed, rest_ours, variables_in}
-use Rattle.cdf_edits.proofs.Edits.VariableKept.{keep_kinds, keep_own}
-use Rattle.cdf_edits.proofs.Edits.VariableKinds.{kind_chain, kind_ours, other_kind}
-use Rattle.cdf_edits.proofs.Frame.Meaning.{Kept, KeptButLink, but_link, late_size}
-use Rattle.cdf_edits.proofs.Frame.OwnersApart.{all_attribute_records}
 
 module _ {b now new : List ℕ} {marks : List Mark} {reborn : List ℕ} {kind : Kind} (sound : IsSound b (shape b)) (e : Edit b now (shape b).records new marks reborn) (t : KindTests kind marks) where
   abbrev s : Shape

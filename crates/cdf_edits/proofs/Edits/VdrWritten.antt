@@ -1,13 +1,11 @@
 -- BlockingFactor or Name of a VDR is written where it stands.
 use Rattle.std.proofs.Common.{◌≡◌, ◌⊎◌, ℕ, ◌+◌, ◌≤◌, List, [], ◌∷◌, length, true, refl, sym, ap, subst, ◌∙◌, arith, inl, inr}
-use Rattle.cdf_edits.proofs.Common.{w32, cast_signed, before_first, ◌==◌, if◌then◌else◌, Kind, R, Z, Same, variable_of, number, name_in, integer4, has_bit, size_at, Field, vdr_flags, vdr_blocking_factor, vdr_name, VariableShape, Shape, is_compressed, HasShape, shape, IsSound, field_bytes, In, is_z, dimensions_at, value_bytes, has_pad, pad_field, pad_at, vdr_end, Good, word_kept, piece_kept, good_is_sound, of_le, tile_lies, Edit, Mark, Avoids, Within, field_marks, touched_field, Changed, type_in, variables_chain}
-use Rattle.cdf_edits.proofs.Edits.Composing.{head_type}
-use Rattle.cdf_edits.proofs.Edits.RecordFrame.{file_same}
-use Rattle.cdf_edits.proofs.Edits.VdrEdited.{StandsAmong, EditsVdr, MarkTests, through, tile, typed, long, has, fits, behind_in, behind_kept, file}
-use Rattle.cdf_edits.proofs.Edits.StepEdits.{field_edit}
+use Rattle.cdf_edits.proofs.Common.{if◌then◌else◌, Kind, R, Z, Same, variable_of, number, name_in, integer4, has_bit, size_at, Field, vdr_flags, vdr_blocking_factor, vdr_name, VariableShape, is_compressed, shape, field_bytes, is_z, dimensions_at, value_bytes, has_pad, pad_field, pad_at, vdr_end, Good, word_kept, piece_kept, good_is_sound, of_le, tile_lies, Mark, Within, field_marks, touched_field, Each, Changed, type_in, variables_chain}
+use Rattle.cdf_edits.proofs.Edits.VdrFields.{LeavesVdr, fields_blocking, fields_copied, fields_edit, fields_file, fields_name, fields_num, fields_part}
+use Rattle.cdf_edits.proofs.Edits.VdrEdited.{StandsAmong, EditsVdr, MarkTests, tile, long, has, fits, behind_in, behind_kept, file}
 use Rattle.cdf_edits.proofs.Edits.VariableCopied.{content_copied}
 use Rattle.cdf_edits.proofs.Frame.Meaning.{FileSame, pad_long, pad_width, end_fits}
-use Rattle.cdf_edits.proofs.Frame.VdrCopied.{VdrCopied, copied_in_place, pad_copied, pad_field_copied, value_copied}
+use Rattle.cdf_edits.proofs.Frame.VdrCopied.{VdrCopied, pad_copied, pad_field_copied, value_copied}
 
 -- a field of the record at a place, behind CPRorSPRoffset of a VDR and before its dimensions, is written, and no other byte changes
 pub record WritesVdr (b now : List ℕ) (v : ℕ) (f : Field) : Type 0 where
@@ -20,13 +18,7 @@ field_tests : (kind : Kind) (v : ℕ) (f : Field) → MarkTests kind (field_mark
 field_tests R v f = record { file_clear = refl; attributes_clear = refl; other_clear = refl; index_clear = refl; unused_clear = refl; gdr_clear = λ lo hi. refl }
 field_tests Z v f = record { file_clear = refl; attributes_clear = refl; other_clear = refl; index_clear = refl; unused_clear = refl; gdr_clear = λ lo hi. refl }
 
-less : (a p s : ℕ) → a + p ≤ s → a ≤ s
-less a p s h = omega arith
-
 module _ {b now : List ℕ} {kind : Kind} {before : List VariableShape} {own : VariableShape} {after : List VariableShape} {f : Field} (good : Good b) (at : StandsAmong b kind before own after) (w : WritesVdr b now own.vdr f) where
-  abbrev s : Shape
-  s = shape b
-
   abbrev v : ℕ
   v = own.vdr
 
@@ -36,60 +28,34 @@ module _ {b now : List ℕ} {kind : Kind} {before : List VariableShape} {own : V
   abbrev marks : List Mark
   marks = field_marks type v f
 
-  sound : IsSound b s
-  sound = good_is_sound b good
+  leaves : Each (LeavesVdr b v) (f ∷ [])
+  leaves =
+      let late = w.late in
+      let early = w.early in
+      let wide = long good at in
+      (record { late = omega arith; fits = omega arith; first = inl (omega arith); second = inl (omega arith); num = inl (omega arith); third = inl (omega arith); behind = inr early }, tt)
 
-  h : HasShape b s
-  h = sound.has_shape
-
-  is_in_records : In v s.records
-  is_in_records = tile good at
-
-  wide : 340 ≤ size_at b v
-  wide = long good at
-
-  edit : Edit b now s.records s.records marks []
-  edit = field_edit b now s h v type f is_in_records (typed good at) (through (f.place + f.width) 340 (size_at b v) w.early wide) (let l = w.late in omega arith) w.changed w.as_long
+  t : MarkTests kind marks
+  t = field_tests kind v f
 
   -- the field may change
   pub marks_within : Within marks type v (f ∷ [])
   marks_within = ((λ same lies. rw (of_le f.place f.place (omega arith), of_le (f.place + f.width) (f.place + f.width) (omega arith)) refl), tt)
 
-  beside : (of m lo hi : ℕ) → (hi ≤ f.place) ⊎ (f.place + f.width ≤ lo) → Avoids marks of m lo hi
-  beside of m lo hi side = ((λ same lies. side), tt)
+  same_file : FileSame b now
+  same_file = fields_file (f ∷ []) good at leaves t w.changed w.as_long
 
-  early_side : (of m lo hi : ℕ) → hi ≤ 80 → Avoids marks of m lo hi
-  early_side of m lo hi l = beside of m lo hi (inl (through hi 80 f.place l w.late))
+  copied : VdrCopied b now v v
+  copied = fields_copied (f ∷ []) good at leaves t w.changed w.as_long
 
   part : (lo hi : ℕ) → (hi ≤ f.place) ⊎ (f.place + f.width ≤ lo) → hi ≤ size_at b v → Same b now (v + lo) (v + hi)
-  part lo hi side fits = edit.part v type lo hi is_in_records (typed good at) (early_side type v 0 12 (omega arith)) (beside type v lo hi side) fits
-
-  first_part : (lo hi : ℕ) → hi ≤ 80 → Same b now (v + lo) (v + hi)
-  first_part lo hi l = part lo hi (inl (through hi 80 f.place l w.late)) (let n = wide in omega arith)
-
-  same_file : FileSame b now
-  same_file = file_same sound edit (field_tests kind v f).file_clear
-
-  pad_fits : (pad_field b v).place ≤ size_at b v
-  pad_fits = less (pad_field b v).place _ (size_at b v) (fits good at).0
+  part lo hi side fits = fields_part (f ∷ []) good at leaves t w.changed w.as_long lo hi (side, tt) fits
 
   pad_late : 340 ≤ (pad_field b v).place
   pad_late = pad_long (is_z b v) (dimensions_at b v) (value_bytes b v)
 
-  last_part : (hi : ℕ) → hi ≤ size_at b v → Same b now (v + 340) (v + hi)
-  last_part hi l = part 340 hi (inr w.early) l
-
-  copied : VdrCopied b now v v
-  copied = record {
-    typed = head_type b now v (first_part 0 12 (omega arith));
-    first = copied_in_place b now v 20 44 (first_part 20 44 (omega arith));
-    second = copied_in_place b now v 48 68 (first_part 48 68 (omega arith));
-    third = copied_in_place b now v 72 80 (first_part 72 80 (omega arith));
-    behind = copied_in_place b now v 340 (pad_field b v).place (last_part (pad_field b v).place pad_fits);
-  }
-
   flags_same : number now v vdr_flags ≡ number b v vdr_flags
-  flags_same = word_kept b now (v + 44) (v + 48) (first_part 44 48 (omega arith)) (v + 44) 4 (omega arith) (omega arith)
+  flags_same = word_kept b now (v + 44) (v + 48) (part 44 48 (inl (let l = w.late in omega arith)) (let n = long good at in omega arith)) (v + 44) 4 (omega arith) (omega arith)
 
   packed : is_compressed now v ≡ is_compressed b v
   packed = ap (λ (n : ℕ). has_bit n 2) flags_same
@@ -99,8 +65,8 @@ module _ {b now : List ℕ} {kind : Kind} {before : List VariableShape} {own : V
       let n = size_at b v in
       let ends = end_fits (has_pad b v) (pad_field b v).place (value_bytes b v) n (fits good at).0 e in
       let room : (pad_field b v).place + (pad_field b v).width ≤ n = subst (λ (k : ℕ). (pad_field b v).place + k ≤ n) (sym (pad_width (is_z b v) (dimensions_at b v) (value_bytes b v))) ends in
-      piece_kept b now (v + 340) (v + n) (last_part n (omega arith)) (v + (pad_field b v).place) (pad_field b v).width (from v (pad_field b v).place pad_late) (upto v (pad_field b v).place (pad_field b v).width n room)
-      (tile_lies b 8 (length b) s.records v h.tiled is_in_records).high (let l = w.as_long in omega arith)
+      piece_kept b now (v + 340) (v + n) (part 340 n (inr w.early) (omega arith)) (v + (pad_field b v).place) (pad_field b v).width (from v (pad_field b v).place pad_late) (upto v (pad_field b v).place (pad_field b v).width n room)
+      (tile_lies b 8 (length b) (shape b).records v (good_is_sound b good).has_shape.tiled (tile good at)).high (let l = w.as_long in omega arith)
     where
       from : (v p : ℕ) → 340 ≤ p → v + 340 ≤ v + p
       from v p l = omega arith
@@ -117,12 +83,12 @@ module _ {b now : List ℕ} {kind : Kind} {before : List VariableShape} {own : V
 
   pub edits : EditsVdr b now kind own marks
   edits = record {
-    edit = edit;
+    edit = fields_edit (f ∷ []) good at leaves t w.changed w.as_long;
     as_long = w.as_long;
     own_marks = (refl, (let l = w.late in omega arith), tt);
-    tests = field_tests kind v f;
+    tests = t;
     copied = copied;
-    num_is = word_kept b now (v + 68) (v + 72) (first_part 68 72 (omega arith)) (v + 68) 4 (omega arith) (omega arith);
+    num_is = fields_num (f ∷ []) good at leaves t w.changed w.as_long;
     packed = packed;
     end_fits = subst (λ (n : ℕ). n ≤ size_at b v) (sym end_same) (fits good at).0;
   }
@@ -133,13 +99,11 @@ module _ {b now : List ℕ} {kind : Kind} {before : List VariableShape} {own : V
       let pad = pad_copied (file good at edits) copied flags_same pad_bytes in
       let rest : record (variable_of b own) { name = name_in now v vdr_name; vary = has_bit (number now v vdr_flags) 0; rle = has_bit (number now v vdr_flags) 2; blocking = integer4 now v vdr_blocking_factor; pad = pad_at now v } ≡ record (variable_of b own) { name = name_in now v vdr_name; blocking = integer4 now v vdr_blocking_factor } =
       λ i. record (variable_of b own) { name = name_in now v vdr_name; vary = has_bit (flags i) 0; rle = has_bit (flags i) 2; blocking = integer4 now v vdr_blocking_factor; pad = pad i } in
-      content_copied sound edit (file good at edits) own (has good at) (fits good at) (behind_in good at) (behind_kept good at edits) copied packed ∙ rest
+      content_copied (good_is_sound b good) (fields_edit (f ∷ []) good at leaves t w.changed w.as_long) (file good at edits) own (has good at) (fits good at) (behind_in good at) (behind_kept good at edits) copied packed ∙ rest
 
   -- each of the two fields stays where the other is written
   pub name_same : f.place + f.width ≤ 84 → name_in now v vdr_name ≡ name_in b v vdr_name
-  name_same l =
-      let same = part 84 340 (inr l) wide in
-      ap (before_first (λ (x : ℕ). x == 0)) (piece_kept b now (v + 84) (v + 340) same (v + 84) 256 (omega arith) (omega arith) (let high = (tile_lies b 8 (length b) s.records v h.tiled is_in_records).high in let n = wide in omega arith) (let l = w.as_long in omega arith))
+  name_same l = fields_name (f ∷ []) good at leaves t w.changed w.as_long (inr l, tt)
 
   pub blocking_same : 84 ≤ f.place → integer4 now v vdr_blocking_factor ≡ integer4 b v vdr_blocking_factor
-  blocking_same l = ap (cast_signed w32) (word_kept b now (v + 80) (v + 84) (part 80 84 (inl l) (let n = wide in omega arith)) (v + 80) 4 (omega arith) (omega arith))
+  blocking_same l = fields_blocking (f ∷ []) good at leaves t w.changed w.as_long (inl l, tt)

@@ -73,6 +73,14 @@ writes_edit b records marks (w ∷ ws) tiled some all =
     let rest = writes_edit (with_field b w.tile w.f w.to) records marks ws first.tiled_now (let l = first.longer in omega arith) (may_after first marks ws all.1) in
     edit_under (edit_then first rest) marks (λ m type lo hi i is a. Avoids-append marks marks type m lo hi a a)
 
+-- the image is as long
+pub writes_long : (b records : List ℕ) (marks : List Mark) (ws : List Write) → AreTiles b 8 (length b) records → 8 ≤ length b → Each (MayWrite b records marks) ws → length (with_writes b ws) ≡ length b
+writes_long b records marks [] tiled some all = refl
+writes_long b records marks (w ∷ ws) tiled some all =
+    let first = write_edit b records tiled some marks w all.0 in
+    let long = length-with_field b w.tile w.f w.to (write_lies b records tiled some w.tile w.f all.0.inside all.0.fits) in
+    writes_long (with_field b w.tile w.f w.to) records marks ws first.tiled_now (let l = first.longer in omega arith) (may_after first marks ws all.1) ∙ long
+
 -- a record that none is in keeps its fields
 pub others_keep : (b records : List ℕ) (marks : List Mark) (ws : List Write) → AreTiles b 8 (length b) records → 8 ≤ length b → Each (MayWrite b records marks) ws → (m : ℕ) (f : Field) → In m records → type_at b m ≢ uir_type → (In m (written_tiles ws) → ⊥) → f.place + f.width ≤ size_at b m
     → number (with_writes b ws) m f ≡ number b m f

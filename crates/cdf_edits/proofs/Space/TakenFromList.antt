@@ -31,6 +31,11 @@ distinct_apart [] rest m d i j = i
 distinct_apart (x ∷ front) rest m d (inl e) j = d.0 (subst (λ (y : ℕ). In y (front ++ rest)) e (In-append_right m front rest j))
 distinct_apart (x ∷ front) rest m d (inr i) j = distinct_apart front rest m d.1 i j
 
+-- links that lead through the same list are the same
+pub same_link : (b now : List ℕ) (x y : ℕ) (ms : List ℕ) → Leads b x ms 0 → Leads now y ms 0 → x ≡ y
+same_link b now x y [] p q = p ∙ sym q
+same_link b now x y (k ∷ ms) p q = p.0 ∙ sym q.0
+
 pub leads_rest : (b : List ℕ) (link : ℕ) (front : List ℕ) (a : ℕ) (more : List ℕ) → Leads b link (front ++ a ∷ more) 0 → Leads b (next_of b a) more 0
 leads_rest b link [] a more l = l.1
 leads_rest b link (m ∷ front) a more l = leads_rest b (next_of b m) front a more l.1

@@ -32,14 +32,10 @@ exchange_record-requires-clause-kind g c = of_chain c.requires.good c.requires.v
 pub read_vdr-requires : goal.read_vdr-requires
 read_vdr-requires g c = (then_linked c.requires.good c.requires.vdr c.requires.padded c.chain_of.ensures c.in_ok-place.ensures.exchanged refl).long
 
-pub free_record-requires-clause-sound : goal.free_record-requires-clause-sound
-free_record-requires-clause-sound g c = (then_linked c.requires.good c.requires.vdr c.requires.padded c.chain_of.ensures c.in_ok-place.ensures.exchanged c.read_vdr.ensures.area.image).sound_now
-
-pub free_record-requires-clause-stands : goal.free_record-requires-clause-stands
-free_record-requires-clause-stands g c = (then_linked c.requires.good c.requires.vdr c.requires.padded c.chain_of.ensures c.in_ok-place.ensures.exchanged c.read_vdr.ensures.area.image).stands
-
-pub free_record-requires-clause-free : goal.free_record-requires-clause-free
-free_record-requires-clause-free g c = (then_linked c.requires.good c.requires.vdr c.requires.padded c.chain_of.ensures c.in_ok-place.ensures.exchanged c.read_vdr.ensures.area.image).free
+pub free_record-requires : goal.free_record-requires
+free_record-requires g c =
+    let l = then_linked c.requires.good c.requires.vdr c.requires.padded c.chain_of.ensures c.in_ok-place.ensures.exchanged c.read_vdr.ensures.area.image in
+    record { sound = l.sound_now; stands = l.stands; free = l.free }
 
 pub returns-in_err-_linked-clause-area : goal.returns-in_err-_linked-clause-area
 returns-in_err-_linked-clause-area g c = edit_failed (edit_once c.in_ok-place.ensures.area) (edits_by_read c.in_err-_linked.ensures.area) c.from_residual-in_err-_linked.ensures.1

@@ -1,11 +1,8 @@
 use Rattle.cdf_vars.proofs.SetUpFollows.{late_sound, old_free, old_stands}
 use Rattle.cdf_vars.proofs.setup.move_gdr.Goals as goal
 
-pub free_record-requires-clause-sound : goal.free_record-requires-clause-sound
-free_record-requires-clause-sound g c = late_sound _ _ c.requires.good c.requires.empty c.requires.fine c.in_ok-_place.ensures.made
-
-pub free_record-requires-clause-stands : goal.free_record-requires-clause-stands
-free_record-requires-clause-stands g c = old_stands _ _ c.requires.good c.requires.empty c.requires.fine c.in_ok-_place.ensures.made _ c.requires.gdr
-
-pub free_record-requires-clause-free : goal.free_record-requires-clause-free
-free_record-requires-clause-free g c = old_free _ _ c.requires.good c.requires.empty c.requires.fine c.in_ok-_place.ensures.made _ c.requires.gdr
+pub free_record-requires : goal.free_record-requires
+free_record-requires g c =
+    let r = c.requires in
+    let made = c.in_ok-_place.ensures.made in
+    record { sound = late_sound _ _ r.good r.empty r.fine made; stands = old_stands _ _ r.good r.empty r.fine made _ r.gdr; free = old_free _ _ r.good r.empty r.fine made _ r.gdr }

@@ -1,6 +1,6 @@
 use Rattle.std.proofs.Common.{◌≡◌, ℕ, List, ◌+◌, ◌++◌, length, ap, ◌∙◌, arith, to_z}
 use Rattle.cdf_vars.proofs.Common.{of_z-to_z, on_ok_weaker, cast_unsigned, w32, put, length-words, with_field, of_4_bytes, cdr_encoding, cdr_flags, gdr_r_num_dims}
-use Rattle.cdf_vars.proofs.SetUpAnswers.{few_dims}
+use Rattle.cdf_vars.proofs.Sizes.{fine_sizes}
 use Rattle.cdf_vars.proofs.setup.write_heads.Goals as goal
 
 pub set-requires : goal.set-requires
@@ -12,7 +12,7 @@ pub returns-clause-written : goal.returns-clause-written
 returns-clause-written g c =
     let b = g.A.Area.image c.args.area.now in
     let two = g.A.Area.image c.set_cdr_gdr_offset.new.area in
-    let few = few_dims c.args.dims.now c.requires.fine in
+    let few = (fine_sizes c.args.dims.now c.requires.fine).0 in
     let bytes = c.deref.ensures.value ∙ c.in_ok-push_sizes.ensures ∙ ap (λ (x : List ℕ). x ++ of_4_bytes c.args.dims.now) c.new-bytes.ensures.items in
     let count = c.in_ok-set_gdr_r_num_dims.ensures.ok ∙ ap (with_field b c.args.gdr gdr_r_num_dims) (of_z-to_z w32 (length c.args.dims.now) (omega (arith, few))) in
     let code : cast_unsigned w32 c.cast_signed.result ≡ c.args.encoding = ap (cast_unsigned w32) c.cast_signed.ensures ∙ of_z-to_z w32 c.args.encoding c.ranges.encoding.fits in
