@@ -17,9 +17,6 @@ entry_of b place n i = record {
   offset = number b place (vxr_offset n i);
 }
 
-abbrev pub entry_at : List ℕ → ℕ → ℕ → VxrEntry
-entry_at b place i = entry_of b place (entries_at b place) i
-
 -- the bytes with First, with First and Last, and with all three fields of this entry written
 abbrev pub with_first : List ℕ → ℕ → ℕ → ℕ → VxrEntry → List ℕ
 with_first b place n i to = with_field b place (vxr_first i) (cast_unsigned w32 to.first)

@@ -1,13 +1,12 @@
-//! The entries of index nodes, read and written.
+//! The entries of index nodes, written.
 
-ghost use Rattle.std.specs.Prelude.{◌≡◌, ◌+◌, ◌<◌, length, IfOk, OnErr, OnOk};
-ghost use Rattle.cdf_area.specs.Calls.{Edits, Reads};
+ghost use Rattle.std.specs.Prelude.{◌≡◌, ◌+◌, ◌<◌, length, OnErr, OnOk};
+ghost use Rattle.cdf_area.specs.Calls.{Edits};
 ghost use Rattle.cdf_format.specs.Fields.{LiesIn, counted};
 ghost use Rattle.cdf_format.specs.Records.{vxr_offset};
-ghost use Rattle.cdf_records.specs.Entries.{IsPartOf, entries_at, entry_at, with_entry};
+ghost use Rattle.cdf_records.specs.Entries.{IsPartOf, entries_at, with_entry};
 ghost use Rattle.cdf_records.specs.Heads.{vxr_at};
 
-use crate::numbers::{read_signed4, read_unsigned8};
 use crate::vxr::Vxr;
 use cdf_area::{Area, AreaError};
 use cdf_fields::{set_signed4, set_unsigned8};
@@ -26,27 +25,6 @@ fn count_of(n_entries: i32) -> u64
     ensures { result ≡ counted n_entries }
 {
     if n_entries < 0 { 0 } else { n_entries as u64 }
-}
-
-/// The entry `i`, from 0, of the index node at a place, whose fields are those of `node`.
-pub fn vxr_entry<A: Area>(area: &mut A, at: u64, node: &Vxr, i: u32) -> Result<VxrEntry, AreaError>
-    requires node { node.now ≡ vxr_at (A.image area.old) at }
-    requires below { i < entries_at (A.image area.old) at }
-    requires entry { LiesIn (A.image area.old) at (vxr_offset (entries_at (A.image area.old) at) i) }
-    ensures value { IfOk result (λ entry. entry ≡ entry_at (A.image area.old) at i) }
-    ensures area { Reads A.image A.frame A.faults A.edited area.old area.new result }
-{
-    let _size = area.size();
-    let n = count_of(node.n_entries);
-    let i = u64::from(i);
-    let first = read_signed4(area, at + (VXR_FIRST + 4 * i))?;
-    let last = read_signed4(area, at + (VXR_FIRST + 4 * n + 4 * i))?;
-    let offset = read_unsigned8(area, at + (VXR_FIRST + 8 * n + 8 * i))?;
-    Ok(VxrEntry {
-        first,
-        last,
-        offset,
-    })
 }
 
 /// Writes the entry `i`, from 0, of the index node at a place, whose fields are those of `node`.
