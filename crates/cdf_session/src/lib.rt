@@ -6,6 +6,7 @@ mod checksum;
 mod deleting;
 mod loading;
 mod new_file;
+mod on_attributes;
 mod on_records;
 mod on_variables;
 mod reading;
