@@ -13,7 +13,10 @@ ghost use Rattle.cdf_structure.specs.Findings.{Finds};
 
 use crate::fields::{is_record, unsigned};
 use cdf_area::{Area, AreaError};
-use cdf_format::fields::{CDR_CHECKSUM_BIT, CDR_MD5_BIT, CDR_PLACE, CDR_SINGLE_FILE_BIT, CDR_SIZE, CDR_TYPE, CDR_VERSION, RECORD_TYPE};
+use cdf_format::fields::{
+    CDR_CHECKSUM_BIT, CDR_MD5_BIT, CDR_PLACE, CDR_SINGLE_FILE_BIT, CDR_SIZE, CDR_TYPE, CDR_VERSION,
+    RECORD_TYPE,
+};
 use cdf_format::flags::has_bit;
 use cdf_model::Encoding;
 use cdf_records::{Cdr, read_cdr};

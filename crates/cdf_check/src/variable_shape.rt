@@ -16,7 +16,8 @@ use crate::gdr_rules::are_sizes;
 use crate::variable_fields::Fields;
 use cdf_area::{Area, AreaError};
 use cdf_format::fields::{
-    GDR_R_DIM_SIZE, GDR_R_NUM_DIMS, VDR_PAD_BIT, VDR_R_DIM_VARY, VDR_Z_DIM_SIZE, VDR_Z_NUM_DIMS, Z_VDR_TYPE,
+    GDR_R_DIM_SIZE, GDR_R_NUM_DIMS, VDR_PAD_BIT, VDR_R_DIM_VARY, VDR_Z_DIM_SIZE, VDR_Z_NUM_DIMS,
+    Z_VDR_TYPE,
 };
 use cdf_format::flags::has_bit;
 use cdf_model::limits::DIMENSION_LIMIT;

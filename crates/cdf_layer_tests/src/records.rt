@@ -4,9 +4,7 @@ ghost use Rattle.std.specs.Prelude.{◌≡◌, ◌+◌, ◌<◌, ◌≤◌, leng
 ghost use Rattle.cdf_records.specs.Heads.{vxr_at};
 
 use cdf_area::{Area, AreaError, MemArea};
-use cdf_records::{
-    Steps, Vxr, VxrEntry, read_cpr, read_cvvr, read_vxr, set_vxr_entry,
-};
+use cdf_records::{Steps, Vxr, VxrEntry, read_cpr, read_cvvr, read_vxr, set_vxr_entry};
 use std::alloc::{AllocError, Global};
 use std::marker::Brand;
 use std::sync::ledger::{Blank, Ledger};

@@ -17,6 +17,7 @@ use cdf_seal::digest_of;
 
 /// What the bit of Flags counts that says that a checksum is in use, and what the one above it does, which says that it is MD5.
 const IN_USE: u32 = 1 << CDR_CHECKSUM_BIT;
+
 const IS_MD5: u32 = 1 << CDR_MD5_BIT;
 
 /// Flags with a checksum in use, or with none.
@@ -24,7 +25,11 @@ fn checksum_flags(flags: u32, md5: bool) -> u32
     ensures { result ≡ with_bits flags cdr_checksum_bit 2 (if md5 then 3 else 0) }
 {
     let others = flags % IN_USE + flags / (2 * IS_MD5) * (2 * IS_MD5);
-    if md5 { others + IN_USE + IS_MD5 } else { others }
+    if md5 {
+        others + IN_USE + IS_MD5
+    } else {
+        others
+    }
 }
 
 /// Puts a checksum in use, or takes it out of use.
