@@ -45,7 +45,12 @@ impl<A: Area> Session<A> {
     }
 
     /// The command `get-entry`.
-    pub(crate) fn get_entry(&mut self, attr: &[u8], kind: EntryKind, num: u32) -> Result<Outcome, AreaError>
+    pub(crate) fn get_entry(
+        &mut self,
+        attr: &[u8],
+        kind: EntryKind,
+        num: u32,
+    ) -> Result<Outcome, AreaError>
         ensures answers { IfOk result (λ o. Answers (A.frame self.old).limit (A.image self.old) (Command.GetEntry attr.now kind num) o (A.image self.new)) }
         ensures area { Reads A.image A.frame A.faults A.edited self.old self.new result }
     {
@@ -53,7 +58,12 @@ impl<A: Area> Session<A> {
     }
 
     /// The command `del-entry`.
-    pub(crate) fn del_entry(&mut self, attr: &[u8], kind: EntryKind, num: u32) -> Result<Outcome, AreaError>
+    pub(crate) fn del_entry(
+        &mut self,
+        attr: &[u8],
+        kind: EntryKind,
+        num: u32,
+    ) -> Result<Outcome, AreaError>
         ensures answers { IfOk result (λ o. Answers (A.frame self.old).limit (A.image self.old) (Command.DelEntry attr.now kind num) o (A.image self.new)) }
         ensures stays { OnErr result (A.image self.new ≡ A.image self.old) }
         ensures area { Edits A.frame A.faults self.old self.new result }

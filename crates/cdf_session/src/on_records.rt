@@ -22,7 +22,12 @@ impl<A: Area> Session<A> {
     }
 
     /// The command `put-rec`.
-    pub(crate) fn put_rec(&mut self, var: &[u8], rec: u32, words: &Words) -> Result<Outcome, AreaError>
+    pub(crate) fn put_rec(
+        &mut self,
+        var: &[u8],
+        rec: u32,
+        words: &Words,
+    ) -> Result<Outcome, AreaError>
         ensures answers { IfOk result (λ o. Answers (A.frame self.old).limit (A.image self.old) (Command.PutRec var.now rec words.now) o (A.image self.new)) }
         ensures stays { OnErr result (A.image self.new ≡ A.image self.old) }
         ensures area { Edits A.frame A.faults self.old self.new result }
@@ -60,7 +65,12 @@ impl<A: Area> Session<A> {
     }
 
     /// The command `get-val`.
-    pub(crate) fn get_val(&mut self, var: &[u8], rec: u32, index: &Nums) -> Result<Outcome, AreaError>
+    pub(crate) fn get_val(
+        &mut self,
+        var: &[u8],
+        rec: u32,
+        index: &Nums,
+    ) -> Result<Outcome, AreaError>
         ensures answers { IfOk result (λ o. Answers (A.frame self.old).limit (A.image self.old) (Command.GetVal var.now rec index.now) o (A.image self.new)) }
         ensures area { Reads A.image A.frame A.faults A.edited self.old self.new result }
     {
