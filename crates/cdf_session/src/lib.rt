@@ -13,5 +13,6 @@ mod reading;
 mod refusal;
 mod session;
 
+pub use new_file::NEW_SIZE;
 pub use refusal::{AdoptError, Refusal};
 pub use session::Session;
