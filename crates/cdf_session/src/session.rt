@@ -16,7 +16,7 @@ ghost use Rattle.cdf_model.specs.declared.answer.Outcome.TheVariants.{Refused};
 ghost use Rattle.cdf_model.specs.declared.answer.Reason.TheVariants.{BadLine};
 ghost use Rattle.cdf_session.specs.Built.{built};
 ghost use Rattle.cdf_session.specs.Seals.{seal_of};
-ghost use Rattle.cdf_session.specs.Sessions.{Adopts, AnswersBuilt, Explains, IsOpen, IsNoVerdict, Rejects};
+ghost use Rattle.cdf_session.specs.Sessions.{Adopts, AnswersBuilt, Begins, IsOpen, IsNoVerdict, Rejects};
 
 use crate::adopting::take_up;
 use crate::checksum::{read_seal, set_checksum};
@@ -85,13 +85,9 @@ impl<A: Area> Session<A> {
         requires unmarked { (A.frame area).base ≡ None }
         requires limit { (A.frame area).limit ≡ image_limit }
         ensures adopted { IfOk result (λ session. Adopts (A.image area) (A.image session)) }
-        ensures frame { IfOk result (λ session. A.frame session ≡ A.frame area) }
-        ensures counted { IfOk result (λ session. A.faults session ≡ A.faults area) }
         ensures unedited { IfOk result (λ session. A.edited session ≡ A.edited area) }
         ensures rejected { IfErr result (λ r. Rejects (A.image area) r.why) }
-        ensures image { IfErr result (λ r. A.image r.area ≡ A.image area) }
-        ensures frame_back { IfErr result (λ r. A.frame r.area ≡ A.frame area) }
-        ensures cause { IfErr result (λ r. Explains r.why (A.faults area) (A.faults r.area)) }
+        ensures area { Begins A.image A.frame A.faults area result }
     {
         let mut area = area;
         match check(alloc, &mut area) {
@@ -113,13 +109,9 @@ impl<A: Area> Session<A> {
         requires unmarked { (A.frame area).base ≡ None }
         requires limit { (A.frame area).limit ≡ image_limit }
         ensures adopted { IfOk result (λ session. Adopts (A.image area) (A.image session)) }
-        ensures frame { IfOk result (λ session. A.frame session ≡ A.frame area) }
-        ensures counted { IfOk result (λ session. A.faults session ≡ A.faults area) }
         ensures unedited { IfOk result (λ session. A.edited session ≡ A.edited area) }
         ensures not_rejected { IfErr result (λ r. IsNoVerdict r.why) }
-        ensures image { IfErr result (λ r. A.image r.area ≡ A.image area) }
-        ensures frame_back { IfErr result (λ r. A.frame r.area ≡ A.frame area) }
-        ensures cause { IfErr result (λ r. Explains r.why (A.faults area) (A.faults r.area)) }
+        ensures area { Begins A.image A.frame A.faults area result }
     {
         let mut area = area;
         match take_up(alloc, &mut area) {
@@ -143,12 +135,8 @@ impl<A: Area> Session<A> {
         requires room { new_size ≤ (A.frame area).limit }
         requires limit { (A.frame area).limit ≤ image_limit }
         ensures created { IfOk result (λ session. A.image session ≡ new_image) }
-        ensures frame { IfOk result (λ session. A.frame session ≡ A.frame area) }
-        ensures counted { IfOk result (λ session. A.faults session ≡ A.faults area) }
         ensures not_rejected { IfErr result (λ r. IsNoVerdict r.why) }
-        ensures image { IfErr result (λ r. A.image r.area ≡ A.image area) }
-        ensures frame_back { IfErr result (λ r. A.frame r.area ≡ A.frame area) }
-        ensures cause { IfErr result (λ r. Explains r.why (A.faults area) (A.faults r.area)) }
+        ensures area { Begins A.image A.frame A.faults area result }
     {
         let mut area = area;
         area.mark();
