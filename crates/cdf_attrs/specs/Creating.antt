@@ -3,6 +3,7 @@ use Rattle.std.specs.Prelude.{ℕ, ◌-◌, List, [], ◌∷◌, ◌++◌, lengt
 use Rattle.cdf_model.specs.declared.kinds.Scope.{Scope}
 use Rattle.cdf_model.specs.declared.kinds.Scope.TheVariants.{Global, Variable, GlobalAssumed, VariableAssumed}
 use Rattle.cdf_format.specs.Records.{Field, record_type, adr_adr_next, adr_agr_edr_head, adr_scope, adr_num, adr_ngr_entries, adr_max_gr_entry, adr_rfu_a, adr_az_edr_head, adr_nz_entries, adr_max_z_entry, adr_rfu_e, adr_name}
+use Rattle.cdf_format.specs.RecordTypes.{adr_type}
 use Rattle.cdf_edits.specs.Space.Placing.{laid_out}
 
 -- Scope, as it is stored
@@ -29,4 +30,4 @@ adr_fields scope num =
 
 -- what follows the size of a new ADR, which is the last one; the Name is filled with bytes 0
 unfoldable pub adr_body : ℕ → ℕ → List ℕ → List ℕ
-adr_body scope num name = laid_out ((record_type, 4) ∷ (adr_adr_next, 0) ∷ adr_fields scope num) ++ (name ++ replicate (adr_name.width - length name) 0)
+adr_body scope num name = laid_out ((record_type, adr_type) ∷ (adr_adr_next, 0) ∷ adr_fields scope num) ++ (name ++ replicate (adr_name.width - length name) 0)

@@ -11,9 +11,13 @@ ghost use Rattle.cdf_records.specs.Heads.{cdr_at};
 ghost use Rattle.cdf_records.specs.Pieces.{AreBytes};
 ghost use Rattle.cdf_structure.specs.Findings.{Finds};
 
-use crate::fields::{CHECKSUM, MD5, SINGLE_FILE, has_bit, is_record, unsigned};
+use crate::fields::{is_record, unsigned};
 use cdf_area::{Area, AreaError};
-use cdf_format::fields::{CDR_PLACE, CDR_SIZE, CDR_TYPE, CDR_VERSION, RECORD_TYPE};
+use cdf_format::fields::{
+    CDR_CHECKSUM_BIT, CDR_MD5_BIT, CDR_PLACE, CDR_SINGLE_FILE_BIT, CDR_SIZE, CDR_TYPE, CDR_VERSION,
+    RECORD_TYPE,
+};
+use cdf_format::flags::has_bit;
 use cdf_model::Encoding;
 use cdf_records::{Cdr, read_cdr};
 use cdf_structure::Finding;
@@ -77,11 +81,11 @@ fn check_fields<A: Area>(area: &A, cdr: &Cdr) -> Option<Finding>
         // 2.4
         return Some(Finding { rule: 4, place });
     }
-    if !has_bit(cdr.flags, SINGLE_FILE) {
+    if !has_bit(cdr.flags, CDR_SINGLE_FILE_BIT) {
         // 2.5
         return Some(Finding { rule: 5, place });
     }
-    if has_bit(cdr.flags, CHECKSUM) && !has_bit(cdr.flags, MD5) {
+    if has_bit(cdr.flags, CDR_CHECKSUM_BIT) && !has_bit(cdr.flags, CDR_MD5_BIT) {
         // 2.6
         return Some(Finding { rule: 6, place });
     }

@@ -3,31 +3,18 @@
 ghost use Rattle.std.specs.Prelude.{◌≡◌, ◌^◌, ◌<◌, ◌≤◌, length, if◌then◌else◌};
 ghost use Rattle.cdf_format.specs.Fields.{has_bit, signed4, size_at, type_at, word};
 ghost use Rattle.cdf_format.specs.FileRules.{is_record};
+ghost use Rattle.cdf_format.specs.Records.{cdr_checksum_bit};
 ghost use Rattle.cdf_format.specs.Sealed.{trailer_size};
 
 use cdf_area::Area;
-use cdf_format::fields::TRAILER_SIZE;
-
-/// The bit of the Flags that says that the file is a whole data set.
-pub const SINGLE_FILE: u32 = 1;
-/// The bit that says that there is a checksum.
-pub const CHECKSUM: u32 = 2;
-/// The bit that says that the checksum is MD5.
-pub const MD5: u32 = 3;
-
-/// Whether a bit is set, counted from the least one.
-pub fn has_bit(flags: u32, bit: u32) -> bool
-    requires { bit < 32 }
-    ensures { result ≡ has_bit flags bit }
-{
-    (flags >> bit) % 2 == 1
-}
+use cdf_format::fields::{CDR_CHECKSUM_BIT, TRAILER_SIZE};
+use cdf_format::flags::has_bit;
 
 /// How many bytes stand after the image of a file with these Flags.
 pub fn trailer_length(flags: u32) -> u64
-    ensures { result ≡ (if has_bit flags 2 then trailer_size else 0) }
+    ensures { result ≡ (if has_bit flags cdr_checksum_bit then trailer_size else 0) }
 {
-    if has_bit(flags, CHECKSUM) {
+    if has_bit(flags, CDR_CHECKSUM_BIT) {
         TRAILER_SIZE
     } else {
         0

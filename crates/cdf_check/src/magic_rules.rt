@@ -8,25 +8,19 @@ ghost use Rattle.cdf_format.specs.Records.{cdr_place};
 ghost use Rattle.cdf_structure.specs.Findings.{Finds};
 
 use cdf_area::{Area, AreaError};
-use cdf_format::fields::TRAILER_SIZE;
+use cdf_format::fields::{CDR_PLACE, MAGIC_UNCOMPRESSED, MAGIC_VERSION_3, TRAILER_SIZE};
 use cdf_model::limits::IMAGE_LIMIT;
 use cdf_structure::Finding;
 
-/// The bytes of both magic numbers.
-const MAGIC_LENGTH: u64 = 8;
 /// The longest image, and the trailer after it.
 const LONGEST_FILE: u64 = IMAGE_LIMIT + TRAILER_SIZE;
-/// The first magic number of version 3.
-const VERSION_3: u32 = 0xcdf3_0001;
-/// The second magic number of a file that is not compressed as a whole.
-const UNCOMPRESSED: u32 = 0x0000_ffff;
 
 /// The rules on the length of a file.
 pub fn check_length<A: Area>(area: &A) -> Option<Finding>
     ensures { Finds (phase0 (A.image area.now)) result }
 {
     let size = area.size();
-    if size < MAGIC_LENGTH {
+    if size < CDR_PLACE {
         // 0.1
         return Some(Finding { rule: 1, place: 0 });
     }
@@ -56,11 +50,11 @@ pub fn check_magic<A: Area>(area: &mut A) -> Result<Option<Finding>, AreaError>
 {
     let first = read_magic(area, 0)?;
     let second = read_magic(area, 4)?;
-    if first != VERSION_3 {
+    if first != MAGIC_VERSION_3 {
         // 1.1
         return Ok(Some(Finding { rule: 1, place: 0 }));
     }
-    if second != UNCOMPRESSED {
+    if second != MAGIC_UNCOMPRESSED {
         // 1.2
         return Ok(Some(Finding { rule: 2, place: 4 }));
     }

@@ -11,18 +11,17 @@ ghost use Rattle.cdf_structure.specs.Records.{AreRead};
 ghost use Rattle.cdf_check.specs.Variables.{AreFields, AreValues, HasSizes, IsVariable, IsVariableOf, packing_rows, records_rows, value_rows};
 ghost use Rattle.cdf_structure.specs.Findings.{Finds, Yields};
 
-use crate::fields::has_bit;
 use crate::variable_fields::{Fields, read_fields};
 use crate::variable_shape::{Value, check_shape};
 use cdf_area::{Area, AreaError};
+use cdf_format::fields::VDR_COMPRESSION_BIT;
+use cdf_format::flags::has_bit;
 use cdf_model::limits::{RECORD_NUMBER_LIMIT, SIGNED_LIMIT};
 use cdf_model::{Bytes, DataType};
 use cdf_records::read_name;
 use cdf_structure::Finding;
 use std::alloc::Global;
 
-/// The bit of the Flags that says that the variable is compressed.
-const COMPRESSED: u32 = 2;
 /// SRecords: the greatest number that stands for a rule on records that are not there.
 const LAST_SPARSE: u32 = 2;
 /// MaxRec of a variable without records.
@@ -110,7 +109,7 @@ fn check_packing(_tiles: &[u64], vdr: u64, fields: &Fields) -> Option<Finding>
 {
     let place = vdr;
     let link = fields.cpr_or_spr_offset;
-    if has_bit(fields.flags, COMPRESSED) {
+    if has_bit(fields.flags, VDR_COMPRESSION_BIT) {
         // 7.11
         return Some(Finding { rule: 11, place });
     }

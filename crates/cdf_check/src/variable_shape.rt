@@ -12,22 +12,20 @@ ghost use Rattle.cdf_format.specs.VariableRules.{vdr_end};
 ghost use Rattle.cdf_check.specs.Variables.{AreDimensions, AreFields, AreShared, AreValues, HasSizes, IsVariable, Measures, shape_rows};
 ghost use Rattle.cdf_structure.specs.Findings.{Yields};
 
-use crate::fields::has_bit;
 use crate::gdr_rules::are_sizes;
 use crate::variable_fields::Fields;
 use cdf_area::{Area, AreaError};
 use cdf_format::fields::{
-    GDR_R_DIM_SIZE, GDR_R_NUM_DIMS, VDR_R_DIM_VARY, VDR_Z_DIM_SIZE, VDR_Z_NUM_DIMS, Z_VDR_TYPE,
+    GDR_R_DIM_SIZE, GDR_R_NUM_DIMS, VDR_PAD_BIT, VDR_R_DIM_VARY, VDR_Z_DIM_SIZE, VDR_Z_NUM_DIMS,
+    Z_VDR_TYPE,
 };
+use cdf_format::flags::has_bit;
 use cdf_model::limits::DIMENSION_LIMIT;
 use cdf_model::{DataType, Nums, Varys};
 use cdf_records::{read_nums, read_signed4, read_unsigned4};
 use cdf_shape::{Shape, record_bytes};
 use cdf_structure::Finding;
 use std::alloc::{AllocError, Global};
-
-/// The bit of the Flags that says that there is a pad value.
-const HAS_PAD: u32 = 1;
 
 /// What a value of a variable is made of: elements of a type.
 #[derive(Clone, Copy)]
@@ -157,7 +155,7 @@ fn end_of<A: Area>(
     ensures { result ≡ vdr_end (A.image _area.now) vdr }
 {
     let pad = dimensions.varys + 4 * u64::from(dimensions.count);
-    if !has_bit(fields.flags, HAS_PAD) {
+    if !has_bit(fields.flags, VDR_PAD_BIT) {
         return pad;
     }
     let bytes = u64::from(value.data_type.size()) * u64::from(value.elements);

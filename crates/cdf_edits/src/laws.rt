@@ -23,6 +23,7 @@ ghost use Rattle.cdf_edits.specs.Space.Taking.{NoneFit, last_of, FirstBack, Take
 ghost use Rattle.cdf_format.specs.Tiles.{In, Distinct, AreTiles, tiling};
 ghost use Rattle.cdf_format.specs.Walks.{whole};
 ghost use Rattle.cdf_format.specs.WellFormed.{Good};
+ghost use Rattle.cdf_format.specs.Records.{past, record_type, linked_size};
 ghost use Rattle.cdf_edits.specs.Edits.Edit.{Edit};
 ghost use Rattle.cdf_edits.specs.Edits.Marks.{Mark};
 
@@ -85,14 +86,14 @@ pub fn filled_stays_sound()
 /// Where a record of the unused list is taken whole, or split, or a record is placed at the end, the image stays sound, with its content, and the list is as first fit says.
 pub fn taken_stays_sound()
     ensures whole { (b now : List ℕ) (s : Shape) (front : List ℕ) (a : ℕ) (more : List ℕ) (need : ℕ) → IsSound b s → s.unused ≡ front ++ a ∷ more → NoneFit b need front → eof b s.gdr ≡ length b → size_at b a ≡ need → TakenBytes b now s.gdr front a more need need (next_of b a) → FirstBack now (last_of 0 front) more → IsTaken b now s (with_space s s.records (front ++ more)) need a }
-    ensures split { (b now : List ℕ) (s : Shape) (front : List ℕ) (a : ℕ) (more : List ℕ) (need : ℕ) → IsSound b s → s.unused ≡ front ++ a ∷ more → NoneFit b need front → eof b s.gdr ≡ length b → 12 ≤ need → need + 28 ≤ size_at b a → TakenBytes b now s.gdr front a more need (need + 28) (a + need) → RestBytes b now a need (last_of 0 front) → FirstBack now (a + need) more → (before after : List ℕ) → s.records ≡ before ++ a ∷ after → IsTaken b now s (with_space s (before ++ a ∷ (a + need) ∷ after) (front ++ (a + need) ∷ more)) need a }
-    ensures at_end { (b now : List ℕ) (s : Shape) (need : ℕ) → IsSound b s → NoneFit b need s.unused → 12 ≤ need → EndBytes b now s.gdr need → IsTaken b now s (with_space s (s.records ++ length b ∷ []) s.unused) need (length b) }
+    ensures split { (b now : List ℕ) (s : Shape) (front : List ℕ) (a : ℕ) (more : List ℕ) (need : ℕ) → IsSound b s → s.unused ≡ front ++ a ∷ more → NoneFit b need front → eof b s.gdr ≡ length b → past record_type ≤ need → need + linked_size ≤ size_at b a → TakenBytes b now s.gdr front a more need (need + linked_size) (a + need) → RestBytes b now a need (last_of 0 front) → FirstBack now (a + need) more → (before after : List ℕ) → s.records ≡ before ++ a ∷ after → IsTaken b now s (with_space s (before ++ a ∷ (a + need) ∷ after) (front ++ (a + need) ∷ more)) need a }
+    ensures at_end { (b now : List ℕ) (s : Shape) (need : ℕ) → IsSound b s → NoneFit b need s.unused → past record_type ≤ need → EndBytes b now s.gdr need → IsTaken b now s (with_space s (s.records ++ length b ∷ []) s.unused) need (length b) }
 {}
 
-/// Where a record of no owner is freed, the image stays sound, with its content, and the record is the first of the unused list or, with less than 28 bytes, on no list.
+/// Where a record of no owner is freed, the image stays sound, with its content, and the record is the first of the unused list or, where it has no room for the links, on no list.
 pub fn given_stays_sound()
-    ensures unlisted { (b now : List ℕ) (s : Shape) (place : ℕ) → IsSound b s → In place s.records → times place (owned_records b s) ≡ 0 → size_at b place < 28 → UnlistedBytes b now place → IsGiven b now s (with_space s s.records s.unused) place }
-    ensures first { (b now : List ℕ) (s : Shape) (place : ℕ) → IsSound b s → In place s.records → times place (owned_records b s) ≡ 0 → 28 ≤ size_at b place → FirstBytes b now s.gdr s.unused place → IsGiven b now s (with_space s s.records (place ∷ s.unused)) place }
+    ensures unlisted { (b now : List ℕ) (s : Shape) (place : ℕ) → IsSound b s → In place s.records → times place (owned_records b s) ≡ 0 → size_at b place < linked_size → UnlistedBytes b now place → IsGiven b now s (with_space s s.records s.unused) place }
+    ensures first { (b now : List ℕ) (s : Shape) (place : ℕ) → IsSound b s → In place s.records → times place (owned_records b s) ≡ 0 → linked_size ≤ size_at b place → FirstBytes b now s.gdr s.unused place → IsGiven b now s (with_space s s.records (place ∷ s.unused)) place }
 {}
 
 /// A command that only reads follows by leaving the image as it is.

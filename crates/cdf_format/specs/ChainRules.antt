@@ -2,7 +2,7 @@
 use Rattle.std.specs.Prelude.{ℕ, suc, List, [], ◌∷◌, ◌++◌, length, Bool, false, not, ◌==◌}
 use Rattle.std.specs.List.{list_any}
 use Rattle.cdf_format.specs.Fields.{number, gdr_offset}
-use Rattle.cdf_format.specs.Records.{Field, gdr_nr_vars, gdr_num_attr, gdr_nz_vars, adr_num, vdr_num}
+use Rattle.cdf_format.specs.Records.{Field, cdr_place, gdr_nr_vars, gdr_num_attr, gdr_nz_vars, adr_num, vdr_num}
 use Rattle.cdf_format.specs.RecordTypes.{gdr_type}
 use Rattle.cdf_format.specs.Rules.{Row, row}
 use Rattle.cdf_format.specs.Chains.{is_a}
@@ -47,4 +47,4 @@ link_rows b records =
     ++ chain_rows 11 (uir_chain b records) (λ members. [])
 
 abbrev pub phase5 : List ℕ → List ℕ → List Row
-phase5 b records = row 1 8 (is_a b records gdr_type (gdr_offset b)) ∷ link_rows b records
+phase5 b records = row 1 cdr_place (is_a b records gdr_type (gdr_offset b)) ∷ link_rows b records

@@ -1,7 +1,7 @@
 -- Records that are linked by their next fields (CDF Internal Format Description: ADRnext, VDRnext, AEDRnext, VXRnext, NextUIR). A link of 0 ends a chain.
 use Rattle.std.specs.Prelude.{◌≡◌, ℕ, zero, suc, List, [], ◌∷◌, ◌++◌, length, Bool, true, false, not, ◌&&◌, ◌||◌, ◌==◌, nat_le, if◌then◌else◌}
 use Rattle.cdf_format.specs.Fields.{number, size_at, type_at}
-use Rattle.cdf_format.specs.Records.{Field, uir_next_uir}
+use Rattle.cdf_format.specs.Records.{Field, uir_next_uir, linked_size}
 use Rattle.cdf_format.specs.RecordTypes.{adr_type, agr_edr_type, az_edr_type, r_vdr_type, z_vdr_type, uir_type}
 use Rattle.cdf_format.specs.Tiles.{In, Distinct}
 use Rattle.cdf_format.specs.Walks.{Walk, whole, stuck}
@@ -23,7 +23,7 @@ is_a b tiles type place = is_in place tiles && (type_at b place == type)
 
 -- a chain of records of this type may lead to it; no record with a next field has fewer bytes
 abbrev pub is_linkable : List ℕ → List ℕ → ℕ → ℕ → Bool
-is_linkable b tiles type place = is_a b tiles type place && nat_le 28 (size_at b place)
+is_linkable b tiles type place = is_a b tiles type place && nat_le linked_size (size_at b place)
 
 -- from a link the next fields lead through these records to another link
 abbrev pub Leads : List ℕ → ℕ → List ℕ → ℕ → Type 0

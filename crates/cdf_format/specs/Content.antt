@@ -11,7 +11,7 @@ use Rattle.cdf_model.specs.Numbered.{with_item}
 use Rattle.cdf_model.specs.RunLengths.{plain_of}
 use Rattle.cdf_model.specs.Types.{size_of}
 use Rattle.cdf_format.specs.Fields.{number, integer4, has_bit, name_in, release, encoding, flags, increment, r_sizes, num_attr, nr_vars, nz_vars, gdr_offset}
-use Rattle.cdf_format.specs.Records.{adr_name, adr_scope, aedr_data_type, aedr_num, aedr_num_elems, aedr_value, vdr_blocking_factor, vdr_name, vvr_records}
+use Rattle.cdf_format.specs.Records.{cdr_majority_bit, adr_name, adr_scope, aedr_data_type, aedr_num, aedr_num_elems, aedr_value, vdr_blocking_factor, vdr_name, vvr_records}
 use Rattle.cdf_format.specs.Sealed.{has_checksum}
 use Rattle.cdf_format.specs.Stored.{field_bytes, packed_bytes, is_little, data_type_in, network_bytes}
 use Rattle.cdf_format.specs.Index.{Leaf, leaves_of}
@@ -87,7 +87,7 @@ content_of b s = record {
   release = release b;
   increment = increment b;
   encoding = encoding b;
-  majority = majority_of (has_bit (flags b) 0);
+  majority = majority_of (has_bit (flags b) cdr_majority_bit);
   md5 = has_checksum b;
   rdims = r_sizes b s.gdr;
   attributes = map (attribute_of b) s.attributes;
@@ -105,7 +105,7 @@ head_by_fields b = record {
   release = release b;
   increment = increment b;
   encoding = encoding b;
-  majority = majority_of (has_bit (flags b) 0);
+  majority = majority_of (has_bit (flags b) cdr_majority_bit);
   md5 = has_checksum b;
   rdims = r_sizes b (gdr_offset b);
   attrs = num_attr b (gdr_offset b);

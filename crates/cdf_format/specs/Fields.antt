@@ -5,7 +5,7 @@ use Rattle.std.specs.Int.{w32, w64, cast_signed}
 use Rattle.byteorder.specs.Endian.{big_bytes, big_from}
 use Rattle.cdf_base.specs.Bytes.{put}
 use Rattle.cdf_model.specs.Limits.{signed_limit}
-use Rattle.cdf_format.specs.Records.{Field, past, record_size, record_type, cdr_gdr_offset, cdr_version, cdr_release, cdr_encoding, cdr_flags, cdr_increment, gdr_eof, gdr_nr_vars, gdr_num_attr, gdr_r_num_dims, gdr_nz_vars, gdr_r_dim_size, adr_name, vdr_name}
+use Rattle.cdf_format.specs.Records.{Field, past, cdr_place, record_size, record_type, cdr_gdr_offset, cdr_version, cdr_release, cdr_encoding, cdr_flags, cdr_increment, gdr_eof, gdr_nr_vars, gdr_num_attr, gdr_r_num_dims, gdr_nz_vars, gdr_r_dim_size, adr_name, vdr_name}
 
 -- The n bytes from a place as a number without a sign. A byte outside the list counts as 0.
 abbrev pub word : List ℕ → ℕ → ℕ → ℕ
@@ -87,24 +87,24 @@ name_field type = if type == 4 then adr_name else vdr_name
 abbrev pub name_at : List ℕ → ℕ → List ℕ
 name_at b place = name_in b place (name_field (type_at b place))
 
--- The CDF Descriptor Record stands at 8.
+-- The CDF Descriptor Record stands at one place in each file.
 abbrev pub gdr_offset : List ℕ → ℕ
-gdr_offset b = number b 8 cdr_gdr_offset
+gdr_offset b = number b cdr_place cdr_gdr_offset
 
 abbrev pub version : List ℕ → ℕ
-version b = number b 8 cdr_version
+version b = number b cdr_place cdr_version
 
 abbrev pub release : List ℕ → ℤ
-release b = integer4 b 8 cdr_release
+release b = integer4 b cdr_place cdr_release
 
 abbrev pub encoding : List ℕ → ℕ
-encoding b = number b 8 cdr_encoding
+encoding b = number b cdr_place cdr_encoding
 
 abbrev pub flags : List ℕ → ℕ
-flags b = number b 8 cdr_flags
+flags b = number b cdr_place cdr_flags
 
 abbrev pub increment : List ℕ → ℤ
-increment b = integer4 b 8 cdr_increment
+increment b = integer4 b cdr_place cdr_increment
 
 -- The Global Descriptor Record stands at a place g.
 abbrev pub eof : List ℕ → ℕ → ℕ

@@ -1,7 +1,7 @@
 -- The index of a variable, a tree of VXRs (CDF Internal Format Description, "Variable Index Record").
 use Rattle.std.specs.Prelude.{ℕ, suc, ◌-◌, ◌/◌, min, List, [], ◌∷◌, ◌++◌, Bool}
 use Rattle.cdf_format.specs.Fields.{counted, number, integer4, size_at}
-use Rattle.cdf_format.specs.Records.{vxr_n_entries, vxr_n_used_entries, vxr_first, vxr_last, vxr_offset}
+use Rattle.cdf_format.specs.Records.{vxr_n_entries, vxr_n_used_entries, vxr_first, vxr_last, vxr_offset, vxr_entries, vxr_entry_size}
 
 mutual
   -- a chain of VXRs: where the first stands, how many entries it has room for, its used entries, and the rest of the chain
@@ -64,7 +64,7 @@ room_at b place = number b place vxr_n_entries
 
 -- an entry is used where its number is below NusedEntries, below Nentries, and below what the record has room for
 abbrev pub used_count : List ℕ → ℕ → ℕ
-used_count b place = min (counted (integer4 b place vxr_n_used_entries)) (min (counted (integer4 b place vxr_n_entries)) ((size_at b place - 28) / 16))
+used_count b place = min (counted (integer4 b place vxr_n_used_entries)) (min (counted (integer4 b place vxr_n_entries)) ((size_at b place - (vxr_entries 0).place) / vxr_entry_size))
 
 -- First, Last and Offset of the entry with number i, as numbers without a sign
 abbrev pub first_at : List ℕ → ℕ → ℕ → ℕ

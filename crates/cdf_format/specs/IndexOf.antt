@@ -1,5 +1,6 @@
--- The index that an image has, as a relation: each link of it leads to a VXR, none is met twice (CDF Internal Format Description, "Variable Index Record": VXRnext, Offset; own: at most 8 levels).
+-- The index that an image has, as a relation: each link of it leads to a VXR, none is met twice (CDF Internal Format Description, "Variable Index Record": VXRnext, Offset; own: how many levels at most).
 use Rattle.std.specs.Prelude.{◌≡◌, ℕ, zero, suc, List, true, false, ◌==◌}
+use Rattle.cdf_model.specs.Limits.{level_limit}
 use Rattle.cdf_format.specs.Fields.{type_at}
 use Rattle.cdf_format.specs.RecordTypes.{vxr_type, cvvr_type}
 use Rattle.cdf_format.specs.Tiles.{Distinct}
@@ -46,5 +47,5 @@ unfoldable mutual
 -- the index that a link leads to
 pub record IsIndex (b tiles : List ℕ) (link : ℕ) (nodes : Nodes) : Type 0 where
   pub link_is : link ≡ link_to nodes
-  pub has_nodes : HasNodes b tiles 8 nodes
+  pub has_nodes : HasNodes b tiles level_limit nodes
   pub once : Distinct (nodes_of nodes)

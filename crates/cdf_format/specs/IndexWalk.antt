@@ -1,5 +1,6 @@
 -- The index of an image, computed: a walk along its links (CDF Internal Format Description, "Variable Index Record").
 use Rattle.std.specs.Prelude.{ℕ, zero, suc, List, [], ◌∷◌, ◌++◌, length, not, ◌&&◌, ◌==◌, if◌then◌else◌}
+use Rattle.cdf_model.specs.Limits.{level_limit}
 use Rattle.cdf_format.specs.Fields.{number, type_at}
 use Rattle.cdf_format.specs.Records.{Field}
 use Rattle.cdf_format.specs.RecordTypes.{vxr_type, cvvr_type}
@@ -40,7 +41,7 @@ levels_on (suc levels) b tiles seen holder link = nodes_on (levels_on levels b t
 
 -- the index from the link in a field of a record
 abbrev pub index_walk : List ℕ → List ℕ → ℕ → Field → Met Nodes
-index_walk b tiles holder head = levels_on 8 b tiles [] holder (number b holder head)
+index_walk b tiles holder head = levels_on level_limit b tiles [] holder (number b holder head)
 
 -- the index of a walk that does not lead wrong
 abbrev pub nodes_met : Met Nodes → Nodes

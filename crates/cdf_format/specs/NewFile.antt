@@ -2,7 +2,7 @@
 use Rattle.std.specs.Prelude.{ℕ, ◌+◌, List, [], ◌∷◌, ◌++◌, replicate, codes}
 use Rattle.std.specs.List.{flat_map}
 use Rattle.byteorder.specs.Endian.{big_bytes}
-use Rattle.cdf_format.specs.Records.{cdr_place}
+use Rattle.cdf_format.specs.Records.{cdr_place, magic_version_3, magic_uncompressed}
 use Rattle.cdf_format.specs.RecordTypes.{fixed_size, cdr_type, gdr_type}
 
 -- numbers of so many bytes each
@@ -17,7 +17,7 @@ abbrev pub minus_one : ℕ
 minus_one = 0xffffffff
 
 abbrev pub magic : List ℕ
-magic = of_4_bytes (0xcdf30001 ∷ 0x0000ffff ∷ [])
+magic = of_4_bytes (magic_version_3 ∷ magic_uncompressed ∷ [])
 
 -- 256 bytes: a short text between newlines, then bytes 0
 abbrev pub copyright : List ℕ

@@ -5,6 +5,7 @@ use Rattle.cdf_model.specs.declared.kinds.Kind.{Kind}
 use Rattle.cdf_model.specs.declared.kinds.Kind.TheVariants.{R, Z}
 use Rattle.cdf_model.specs.declared.space.Space.{Space}
 use Rattle.cdf_format.specs.Fields.{size_at, type_at}
+use Rattle.cdf_format.specs.Records.{cdr_place}
 use Rattle.cdf_format.specs.RecordTypes.{uir_type}
 use Rattle.cdf_format.specs.Tiles.{In}
 use Rattle.cdf_format.specs.Chains.{is_in}
@@ -44,7 +45,7 @@ owned_by_variables kind n (v ∷ more) = owned_by (OneVariable kind n) (variable
 -- each owned record, with its owner
 abbrev pub owned : List ℕ → Shape → List (ℕ × Owner)
 owned b s =
-    owned_by File (8 ∷ s.gdr ∷ [])
+    owned_by File (cdr_place ∷ s.gdr ∷ [])
     ++ owned_by_attributes 0 s.attributes
     ++ owned_by_variables R 0 s.r_variables
     ++ owned_by_variables Z 0 s.z_variables

@@ -16,6 +16,13 @@ places fields = map (λ f. f.place) fields
 abbrev pub past : Field → ℕ
 past f = f.place + f.width
 
+-- the two numbers of 4 bytes with which a file begins: version 3, and not compressed as a whole
+abbrev pub magic_version_3 : ℕ
+magic_version_3 = 0xcdf30001
+
+abbrev pub magic_uncompressed : ℕ
+magic_uncompressed = 0x0000ffff
+
 -- each record
 abbrev pub record_size : Field
 record_size = field 0 8
@@ -41,6 +48,19 @@ cdr_encoding = field 28 4
 
 abbrev pub cdr_flags : Field
 cdr_flags = field 32 4
+
+-- the bits of its Flags, from the lowest one: row majority, a single file, a checksum, and that it is MD5
+abbrev pub cdr_majority_bit : ℕ
+cdr_majority_bit = 0
+
+abbrev pub cdr_single_file_bit : ℕ
+cdr_single_file_bit = 1
+
+abbrev pub cdr_checksum_bit : ℕ
+cdr_checksum_bit = 2
+
+abbrev pub cdr_md5_bit : ℕ
+cdr_md5_bit = 3
 
 abbrev pub cdr_rfu_a : Field
 cdr_rfu_a = field 36 4
@@ -106,6 +126,10 @@ gdr_r_dim_size i = field (84 + 4 * i) 4
 
 abbrev pub gdr_r_dim_sizes : ℕ → Field
 gdr_r_dim_sizes n = field 84 (4 * n)
+
+-- how many bytes a GDR has with n dimensions
+abbrev pub gdr_bytes : ℕ → ℕ
+gdr_bytes n = past (gdr_r_dim_sizes n)
 
 -- "Attribute Descriptor Record"
 abbrev pub adr_adr_next : Field
@@ -179,6 +203,10 @@ aedr_rfu_e = field 52 4
 abbrev pub aedr_value : ℕ → Field
 aedr_value n = field 56 n
 
+-- how many bytes an AEDR has with them
+abbrev pub aedr_bytes : ℕ → ℕ
+aedr_bytes n = past (aedr_value n)
+
 -- "Variable Descriptor Record", of an r or a z variable
 abbrev pub vdr_vdr_next : Field
 vdr_vdr_next = field 12 8
@@ -197,6 +225,16 @@ vdr_vxr_tail = field 36 8
 
 abbrev pub vdr_flags : Field
 vdr_flags = field 44 4
+
+-- the bits of its Flags, from the lowest one: records vary, there is a pad value, and the values are compressed
+abbrev pub vdr_variance_bit : ℕ
+vdr_variance_bit = 0
+
+abbrev pub vdr_pad_bit : ℕ
+vdr_pad_bit = 1
+
+abbrev pub vdr_compression_bit : ℕ
+vdr_compression_bit = 2
 
 abbrev pub vdr_s_records : Field
 vdr_s_records = field 48 4
@@ -268,9 +306,12 @@ vxr_last n i = field (28 + 4 * n + 4 * i) 4
 abbrev pub vxr_offset : ℕ → ℕ → Field
 vxr_offset n i = field (28 + 8 * n + 8 * i) 8
 
--- all n entries
+-- all n entries, and the bytes of one
 abbrev pub vxr_entries : ℕ → Field
 vxr_entries n = field 28 (16 * n)
+
+abbrev pub vxr_entry_size : ℕ
+vxr_entry_size = (vxr_entries 1).width
 
 -- how many bytes a VXR has with room for n entries
 abbrev pub vxr_bytes : ℕ → ℕ
@@ -318,6 +359,10 @@ cpr_parameter i = field (24 + 4 * i) 4
 
 abbrev pub cpr_parameters : ℕ → Field
 cpr_parameters n = field 24 (4 * n)
+
+-- how many bytes a CPR has with them
+abbrev pub cpr_bytes : ℕ → ℕ
+cpr_bytes n = past (cpr_parameters n)
 
 -- "Unused Internal Record", where it is listed
 abbrev pub uir_next_uir : Field

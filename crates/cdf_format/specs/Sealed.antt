@@ -2,10 +2,11 @@
 use Rattle.std.specs.Prelude.{ℕ, ◌-◌, List, [], ◌++◌, length, take, Bool, if◌then◌else◌}
 use Rattle.md5.specs.Md5.{md5}
 use Rattle.cdf_format.specs.Fields.{flags, has_bit}
+use Rattle.cdf_format.specs.Records.{cdr_checksum_bit}
 
 -- a checksum is in use
 abbrev pub has_checksum : List ℕ → Bool
-has_checksum b = has_bit (flags b) 2
+has_checksum b = has_bit (flags b) cdr_checksum_bit
 
 -- the bytes that stand after an image
 abbrev pub trailer : List ℕ → List ℕ

@@ -1,7 +1,7 @@
 -- The shape of an image: which records it has and how they are linked, as lists of offsets, apart from the bytes (CDF Internal Format Description, "Internal Records"). All following of links stands here.
 use Rattle.std.specs.Prelude.{◌≡◌, ◌≤◌, ℕ, List, [], ◌∷◌, ◌++◌, length, map, Bool, true, if◌then◌else◌}
 use Rattle.cdf_format.specs.Fields.{number, has_bit, size_at, type_at, gdr_offset}
-use Rattle.cdf_format.specs.Records.{gdr_r_vdr_head, gdr_z_vdr_head, gdr_adr_head, gdr_uir_head, adr_agr_edr_head, adr_az_edr_head, vdr_vxr_head, vdr_flags, vdr_cpr_or_spr_offset}
+use Rattle.cdf_format.specs.Records.{cdr_place, gdr_r_vdr_head, gdr_z_vdr_head, gdr_adr_head, gdr_uir_head, adr_agr_edr_head, adr_az_edr_head, vdr_vxr_head, vdr_flags, vdr_compression_bit, vdr_cpr_or_spr_offset}
 use Rattle.cdf_format.specs.RecordTypes.{cdr_type, gdr_type, adr_type, agr_edr_type, az_edr_type, r_vdr_type, z_vdr_type, uir_type, is_record_type, fixed_size}
 use Rattle.cdf_format.specs.Walks.{Walk, records_of}
 use Rattle.cdf_format.specs.Tiles.{In, AreTiles, tiles}
@@ -43,9 +43,9 @@ variables s = s.r_variables ++ s.z_variables
 abbrev pub with_records : Shape → List ℕ → Shape
 with_records s records = record s { records = records }
 
--- Flags bit 2 of a VDR
+-- what Flags of a VDR say of its values
 abbrev pub is_compressed : List ℕ → ℕ → Bool
-is_compressed b vdr = has_bit (number b vdr vdr_flags) 2
+is_compressed b vdr = has_bit (number b vdr vdr_flags) vdr_compression_bit
 
 abbrev pub cpr_of : List ℕ → ℕ → List ℕ
 cpr_of b vdr = if is_compressed b vdr then number b vdr vdr_cpr_or_spr_offset ∷ [] else []
@@ -67,10 +67,10 @@ pub record HasVariable (b records : List ℕ) (v : VariableShape) : Type 0 where
 
 -- the records of this image, and their links
 pub record HasShape (b : List ℕ) (s : Shape) : Type 0 where
-  pub tiled : AreTiles b 8 (length b) s.records
+  pub tiled : AreTiles b cdr_place (length b) s.records
   pub typed : (place : ℕ) → In place s.records → is_record_type (type_at b place) ≡ true
   pub fixed : (place : ℕ) → In place s.records → fixed_size (type_at b place) ≤ size_at b place
-  pub cdr_stands : is_a b s.records cdr_type 8 ≡ true
+  pub cdr_stands : is_a b s.records cdr_type cdr_place ≡ true
   pub gdr_is : gdr_offset b ≡ s.gdr
   pub gdr_stands : is_a b s.records gdr_type s.gdr ≡ true
   pub attribute_chain : IsChain b s.records adr_type (number b s.gdr gdr_adr_head) (adrs s)

@@ -7,7 +7,7 @@ use Rattle.cdf_model.specs.declared.kinds.Sparse.TheVariants.{NoRule, Pad, Previ
 use Rattle.cdf_model.specs.Place.{record_size}
 use Rattle.cdf_model.specs.Types.{size_of}
 use Rattle.cdf_format.specs.Fields.{words, counted, with_sign, number, integer4, has_bit, type_at, gdr_offset, r_num_dims, r_sizes}
-use Rattle.cdf_format.specs.Records.{Field, vdr_data_type, vdr_max_rec, vdr_flags, vdr_s_records, vdr_num_elems, vdr_r_dim_vary, vdr_r_pad_value, vdr_z_num_dims, vdr_z_dim_size, vdr_z_dim_vary, vdr_z_pad_value}
+use Rattle.cdf_format.specs.Records.{Field, vdr_data_type, vdr_max_rec, vdr_flags, vdr_variance_bit, vdr_pad_bit, vdr_s_records, vdr_num_elems, vdr_r_dim_vary, vdr_r_pad_value, vdr_z_num_dims, vdr_z_dim_size, vdr_z_dim_vary, vdr_z_pad_value}
 use Rattle.cdf_format.specs.RecordTypes.{z_vdr_type}
 use Rattle.cdf_format.specs.Index.{Leaf}
 use Rattle.cdf_format.specs.Stored.{data_type_in, network_bytes}
@@ -48,12 +48,12 @@ value_bytes b vdr = size_of (type_of_variable b vdr) * elems_at b vdr
 abbrev pub record_bytes : List ℕ → ℕ → ℕ
 record_bytes b vdr = record_size (type_of_variable b vdr) (elems_at b vdr) (dims_at b vdr) (varys_at b vdr)
 
--- Flags bit 0: records vary; bit 1: there is a pad value
+-- what its Flags say: records vary; there is a pad value
 abbrev pub records_vary : List ℕ → ℕ → Bool
-records_vary b vdr = has_bit (number b vdr vdr_flags) 0
+records_vary b vdr = has_bit (number b vdr vdr_flags) vdr_variance_bit
 
 abbrev pub has_pad : List ℕ → ℕ → Bool
-has_pad b vdr = has_bit (number b vdr vdr_flags) 1
+has_pad b vdr = has_bit (number b vdr vdr_flags) vdr_pad_bit
 
 abbrev pub pad_field : List ℕ → ℕ → Field
 pad_field b vdr = if is_z b vdr then vdr_z_pad_value (dimensions_at b vdr) (value_bytes b vdr) else vdr_r_pad_value (dimensions_at b vdr) (value_bytes b vdr)

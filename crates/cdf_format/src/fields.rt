@@ -1,10 +1,18 @@
 //! Where the fields of internal records stand, in bytes from the beginning of the record, and the types and sizes of records.
 
 ghost use Rattle.std.specs.Prelude.{◌≡◌, ◌∷◌, [], map};
-ghost use Rattle.cdf_format.specs.Records.{places, past, cdr_place, linked_size, record_size, record_type, cdr_gdr_offset, cdr_version, cdr_release, cdr_encoding, cdr_flags, cdr_rfu_a, cdr_rfu_b, cdr_increment, cdr_identifier, cdr_rfu_e, cdr_copyright, gdr_r_vdr_head, gdr_z_vdr_head, gdr_adr_head, gdr_eof, gdr_nr_vars, gdr_num_attr, gdr_r_max_rec, gdr_r_num_dims, gdr_nz_vars, gdr_uir_head, gdr_rfu_c, gdr_leap_second_last_updated, gdr_rfu_e, gdr_r_dim_size, adr_adr_next, adr_agr_edr_head, adr_scope, adr_num, adr_ngr_entries, adr_max_gr_entry, adr_rfu_a, adr_az_edr_head, adr_nz_entries, adr_max_z_entry, adr_rfu_e, adr_name, aedr_aedr_next, aedr_attr_num, aedr_data_type, aedr_num, aedr_num_elems, aedr_num_strings, aedr_rfu_b, aedr_rfu_c, aedr_rfu_d, aedr_rfu_e, aedr_value, vdr_vdr_next, vdr_data_type, vdr_max_rec, vdr_vxr_head, vdr_vxr_tail, vdr_flags, vdr_s_records, vdr_rfu_b, vdr_rfu_c, vdr_rfu_f, vdr_num_elems, vdr_num, vdr_cpr_or_spr_offset, vdr_blocking_factor, vdr_name, vdr_r_dim_vary, vdr_z_num_dims, vdr_z_dim_size, vxr_vxr_next, vxr_n_entries, vxr_n_used_entries, vxr_first, vxr_entries, vvr_records, cvvr_rfu_a, cvvr_c_size, cvvr_packed, cpr_c_type, cpr_rfu_a, cpr_p_count, cpr_parameter, uir_next_uir, uir_prev_uir};
+ghost use Rattle.cdf_format.specs.Records.{places, past, magic_version_3, magic_uncompressed, cdr_place, linked_size, record_size, record_type, cdr_gdr_offset, cdr_version, cdr_release, cdr_encoding, cdr_flags, cdr_majority_bit, cdr_single_file_bit, cdr_checksum_bit, cdr_md5_bit, cdr_rfu_a, cdr_rfu_b, cdr_increment, cdr_identifier, cdr_rfu_e, cdr_copyright, gdr_r_vdr_head, gdr_z_vdr_head, gdr_adr_head, gdr_eof, gdr_nr_vars, gdr_num_attr, gdr_r_max_rec, gdr_r_num_dims, gdr_nz_vars, gdr_uir_head, gdr_rfu_c, gdr_leap_second_last_updated, gdr_rfu_e, gdr_r_dim_size, adr_adr_next, adr_agr_edr_head, adr_scope, adr_num, adr_ngr_entries, adr_max_gr_entry, adr_rfu_a, adr_az_edr_head, adr_nz_entries, adr_max_z_entry, adr_rfu_e, adr_name, aedr_aedr_next, aedr_attr_num, aedr_data_type, aedr_num, aedr_num_elems, aedr_num_strings, aedr_rfu_b, aedr_rfu_c, aedr_rfu_d, aedr_rfu_e, aedr_value, vdr_vdr_next, vdr_data_type, vdr_max_rec, vdr_vxr_head, vdr_vxr_tail, vdr_flags, vdr_variance_bit, vdr_pad_bit, vdr_compression_bit, vdr_s_records, vdr_rfu_b, vdr_rfu_c, vdr_rfu_f, vdr_num_elems, vdr_num, vdr_cpr_or_spr_offset, vdr_blocking_factor, vdr_name, vdr_r_dim_vary, vdr_z_num_dims, vdr_z_dim_size, vxr_vxr_next, vxr_n_entries, vxr_n_used_entries, vxr_first, vxr_entry_size, vvr_records, cvvr_rfu_a, cvvr_c_size, cvvr_packed, cpr_c_type, cpr_rfu_a, cpr_p_count, cpr_parameter, uir_next_uir, uir_prev_uir};
 ghost use Rattle.cdf_format.specs.RecordTypes.{fixed_size, cdr_type, gdr_type, r_vdr_type, adr_type, agr_edr_type, vxr_type, vvr_type, z_vdr_type, az_edr_type, ccr_type, cpr_type, spr_type, cvvr_type, uir_type};
 ghost use Rattle.cdf_format.specs.Sealed.{trailer_size};
 ghost use Rattle.cdf_model.specs.Names.{name_limit};
+
+use cdf_model::limits::NAME_LIMIT;
+
+/// The first number of a file of version 3.
+pub const MAGIC_VERSION_3: u32 = 0xcdf3_0001;
+
+/// The second number of a file that is not compressed as a whole.
+pub const MAGIC_UNCOMPRESSED: u32 = 0x0000_ffff;
 
 /// RecordSize: the bytes of the record.
 pub const RECORD_SIZE: u64 = 0;
@@ -26,6 +34,18 @@ pub const CDR_ENCODING: u64 = 28;
 
 /// Flags.
 pub const CDR_FLAGS: u64 = 32;
+
+/// The bit of Flags that says that values stand row by row.
+pub const CDR_MAJORITY_BIT: u32 = 0;
+
+/// The bit that says that the file is a whole data set.
+pub const CDR_SINGLE_FILE_BIT: u32 = 1;
+
+/// The bit that says that there is a checksum.
+pub const CDR_CHECKSUM_BIT: u32 = 2;
+
+/// The bit that says that the checksum is MD5.
+pub const CDR_MD5_BIT: u32 = 3;
 
 /// rfuA.
 pub const CDR_RFU_A: u64 = 36;
@@ -173,6 +193,15 @@ pub const VDR_VXR_TAIL: u64 = 36;
 
 /// Flags.
 pub const VDR_FLAGS: u64 = 44;
+
+/// The bit of Flags that says that records vary.
+pub const VDR_VARIANCE_BIT: u32 = 0;
+
+/// The bit that says that there is a pad value.
+pub const VDR_PAD_BIT: u32 = 1;
+
+/// The bit that says that the variable is compressed.
+pub const VDR_COMPRESSION_BIT: u32 = 2;
 
 /// SRecords.
 pub const VDR_S_RECORDS: u64 = 48;
@@ -346,13 +375,14 @@ pub const LEAST_SIZE: u64 = 12;
 pub const LINKED_SIZE: u64 = 28;
 
 /// The bytes of a Name, which may be as long.
-pub const NAME_SIZE: usize = 256;
+pub const NAME_SIZE: usize = NAME_LIMIT;
 
 /// The bytes of a trailer: the checksum that may stand after the image.
 pub const TRAILER_SIZE: u64 = 16;
 
 /// The places, types and sizes are those of the definitions.
 pub fn table_is_defined()
+    ensures magic { magic_version_3 ∷ magic_uncompressed ∷ [] ≡ MAGIC_VERSION_3 ∷ MAGIC_UNCOMPRESSED ∷ [] }
     ensures any { places (record_size ∷ record_type ∷ []) ≡ RECORD_SIZE ∷ RECORD_TYPE ∷ [] }
     ensures cdr { places (cdr_gdr_offset ∷ cdr_version ∷ cdr_release ∷ cdr_encoding ∷ cdr_flags ∷ cdr_rfu_a ∷ cdr_rfu_b ∷ cdr_increment ∷ cdr_identifier ∷ cdr_rfu_e ∷ cdr_copyright ∷ []) ≡ CDR_GDR_OFFSET ∷ CDR_VERSION ∷ CDR_RELEASE ∷ CDR_ENCODING ∷ CDR_FLAGS ∷ CDR_RFU_A ∷ CDR_RFU_B ∷ CDR_INCREMENT ∷ CDR_IDENTIFIER ∷ CDR_RFU_E ∷ CDR_COPYRIGHT ∷ [] }
     ensures gdr { places (gdr_r_vdr_head ∷ gdr_z_vdr_head ∷ gdr_adr_head ∷ gdr_eof ∷ gdr_nr_vars ∷ gdr_num_attr ∷ gdr_r_max_rec ∷ gdr_r_num_dims ∷ gdr_nz_vars ∷ gdr_uir_head ∷ gdr_rfu_c ∷ gdr_leap_second_last_updated ∷ gdr_rfu_e ∷ gdr_r_dim_size 0 ∷ []) ≡ GDR_R_VDR_HEAD ∷ GDR_Z_VDR_HEAD ∷ GDR_ADR_HEAD ∷ GDR_EOF ∷ GDR_NR_VARS ∷ GDR_NUM_ATTR ∷ GDR_R_MAX_REC ∷ GDR_R_NUM_DIMS ∷ GDR_NZ_VARS ∷ GDR_UIR_HEAD ∷ GDR_RFU_C ∷ GDR_LEAP_SECOND_LAST_UPDATED ∷ GDR_RFU_E ∷ GDR_R_DIM_SIZE ∷ [] }
@@ -364,9 +394,11 @@ pub fn table_is_defined()
     ensures cvvr { places (cvvr_rfu_a ∷ cvvr_c_size ∷ cvvr_packed 0 ∷ []) ≡ CVVR_RFU_A ∷ CVVR_C_SIZE ∷ CVVR_PACKED ∷ [] }
     ensures cpr { places (cpr_c_type ∷ cpr_rfu_a ∷ cpr_p_count ∷ cpr_parameter 0 ∷ []) ≡ CPR_C_TYPE ∷ CPR_RFU_A ∷ CPR_P_COUNT ∷ CPR_PARAMETER ∷ [] }
     ensures uir { places (uir_next_uir ∷ uir_prev_uir ∷ []) ≡ UIR_NEXT_UIR ∷ UIR_PREV_UIR ∷ [] }
+    ensures cdr_bits { cdr_majority_bit ∷ cdr_single_file_bit ∷ cdr_checksum_bit ∷ cdr_md5_bit ∷ [] ≡ CDR_MAJORITY_BIT ∷ CDR_SINGLE_FILE_BIT ∷ CDR_CHECKSUM_BIT ∷ CDR_MD5_BIT ∷ [] }
+    ensures vdr_bits { vdr_variance_bit ∷ vdr_pad_bit ∷ vdr_compression_bit ∷ [] ≡ VDR_VARIANCE_BIT ∷ VDR_PAD_BIT ∷ VDR_COMPRESSION_BIT ∷ [] }
     ensures types { cdr_type ∷ gdr_type ∷ r_vdr_type ∷ adr_type ∷ agr_edr_type ∷ vxr_type ∷ vvr_type ∷ z_vdr_type ∷ az_edr_type ∷ ccr_type ∷ cpr_type ∷ spr_type ∷ cvvr_type ∷ uir_type ∷ [] ≡ CDR_TYPE ∷ GDR_TYPE ∷ R_VDR_TYPE ∷ ADR_TYPE ∷ AGR_EDR_TYPE ∷ VXR_TYPE ∷ VVR_TYPE ∷ Z_VDR_TYPE ∷ AZ_EDR_TYPE ∷ CCR_TYPE ∷ CPR_TYPE ∷ SPR_TYPE ∷ CVVR_TYPE ∷ UIR_TYPE ∷ [] }
     ensures sizes { map fixed_size (cdr_type ∷ gdr_type ∷ r_vdr_type ∷ adr_type ∷ agr_edr_type ∷ vxr_type ∷ vvr_type ∷ z_vdr_type ∷ az_edr_type ∷ ccr_type ∷ cpr_type ∷ spr_type ∷ cvvr_type ∷ uir_type ∷ []) ≡ CDR_SIZE ∷ GDR_SIZE ∷ R_VDR_SIZE ∷ ADR_SIZE ∷ AEDR_SIZE ∷ VXR_SIZE ∷ VVR_SIZE ∷ Z_VDR_SIZE ∷ AEDR_SIZE ∷ CCR_SIZE ∷ CPR_SIZE ∷ SPR_SIZE ∷ CVVR_SIZE ∷ UIR_SIZE ∷ [] }
-    ensures widths { (vxr_entries 1).width ≡ VXR_ENTRY_SIZE }
+    ensures widths { vxr_entry_size ≡ VXR_ENTRY_SIZE }
     ensures least { cdr_place ∷ past record_type ∷ linked_size ∷ [] ≡ CDR_PLACE ∷ LEAST_SIZE ∷ LINKED_SIZE ∷ [] }
     ensures names { name_limit ∷ map (λ f. f.width) (adr_name ∷ vdr_name ∷ []) ≡ NAME_SIZE ∷ NAME_SIZE ∷ NAME_SIZE ∷ [] }
     ensures trailer { trailer_size ≡ TRAILER_SIZE }

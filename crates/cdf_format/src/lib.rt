@@ -2,4 +2,5 @@
 #![tactic(auto)]
 
 pub mod fields;
+pub mod flags;
 pub mod laws;

@@ -8,7 +8,7 @@ use Rattle.cdf_index.specs.Finding.{Stands}
 use Rattle.cdf_index.specs.Next.{least_from, number_within}
 use Rattle.cdf_index.specs.Order.{InOrder, NextsAreZero}
 use Rattle.cdf_index.specs.declared.next.Walk.{Walk}
-use Rattle.cdf_model.specs.Limits.{record_number_limit}
+use Rattle.cdf_model.specs.Limits.{level_limit, record_number_limit}
 
 -- the first i entries of a node begin at a record or before it, and the one behind them does not
 pub record Begun (b : List ℕ) (at rec i : ℕ) : Type 0 where
@@ -54,4 +54,4 @@ pub record IsWalk (b : List ℕ) (rec : ℕ) (nodes : Nodes) (turn : ℕ) (walk 
   pub past : high ≤ best
   pub same : least_from rec best (firsts_of low ++ firsts_of left) ≡ next_first rec (firsts_of nodes)
   pub fewer : length (nodes_of low) + length (nodes_of left) + turn ≤ length (nodes_of nodes)
-  pub zero : NextsAreZero nodes → NextsAreZero left × (low_levels ≡ 0) × (levels + turn ≤ 8)
+  pub zero : NextsAreZero nodes → NextsAreZero left × (low_levels ≡ 0) × (levels + turn ≤ level_limit)

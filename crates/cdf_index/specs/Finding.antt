@@ -1,6 +1,6 @@
 -- An index that a link leads to, as code walks it: what stands in the bytes, and what a search meets.
 use Rattle.std.specs.Prelude.{◌≡◌, ◌≤◌, ◌<◌, ℕ, suc, ◌+◌, ◌*◌, List, [], length, true}
-use Rattle.cdf_model.specs.Limits.{record_number_limit}
+use Rattle.cdf_model.specs.Limits.{level_limit, record_number_limit}
 use Rattle.cdf_format.specs.Sound.{NodeFits}
 use Rattle.cdf_format.specs.Fields.{size_at, word}
 use Rattle.cdf_format.specs.Index.{Nodes, Leaf, nodes_of, leaves_of, link_to, room_at, used_count}
@@ -14,7 +14,7 @@ use Rattle.cdf_index.specs.Order.{InOrder, find_in, nodes_passed}
 
 -- the index that a link leads to
 abbrev pub index_at : List ℕ → ℕ → Nodes
-index_at b head = nodes_met (levels_on 8 b (tiles b) [] 0 head)
+index_at b head = nodes_met (levels_on level_limit b (tiles b) [] 0 head)
 
 abbrev pub IsBlock : List ℕ → Leaf → Type 0
 IsBlock b l = is_block b (tiles b) l.place ≡ true

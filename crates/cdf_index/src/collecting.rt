@@ -3,15 +3,16 @@
 ghost use Rattle.std.specs.Prelude.{◌≡◌, ◌++◌, ◌≤◌, ℕ, List, length, map, IfOk, OnOk};
 ghost use Rattle.cdf_area.specs.Calls.{Reads};
 ghost use Rattle.cdf_format.specs.Index.{Nodes, Entries, nodes_of, leaves_of, link_to};
-ghost use Rattle.cdf_model.specs.Limits.{image_limit};
+ghost use Rattle.cdf_model.specs.Limits.{image_limit, level_limit};
 ghost use Rattle.cdf_index.specs.Finding.{index_at, HasIndex, NodeInside, Stands};
 ghost use Rattle.cdf_index.specs.Sight.{IsHead};
 ghost use Rattle.cdf_index.specs.Whole.{EntriesStand, SomeChain, SomeEntries, through, through_entries, leaf_words, places_in, with_block, with_node};
 
 use crate::entries::{Entry, read_entry};
-use crate::nodes::{Head, LEVELS, read_head};
+use crate::nodes::{Head, read_head};
 use cdf_area::{Area, AreaError};
 use cdf_format::fields::{RECORD_TYPE, VXR_TYPE};
+use cdf_model::limits::LEVEL_LIMIT;
 use cdf_records::read_unsigned4;
 use std::alloc::{AllocError, Global};
 
@@ -25,7 +26,7 @@ fn collect<A: Area>(
     nodes: &mut Vec<u64>,
 ) -> Result<(), AreaError>
     requires chain { SomeChain (A.image area.old) levels link }
-    requires few { levels ≤ 8 }
+    requires few { levels ≤ level_limit }
     requires short { length (A.image area.old) ≤ image_limit }
     ensures places { OnOk result ((chain : Nodes) → Stands (A.image area.old) levels chain → link ≡ link_to chain → (blocks.new.items, nodes.new.items) ≡ through with_node with_block (blocks.old.items, nodes.old.items) chain) }
     ensures area { Reads A.image A.frame A.faults A.edited area.old area.new result }
@@ -56,7 +57,7 @@ fn collect_below<A: Area>(
     requires head { IsHead (A.image area.old) at head.now }
     requires inside { NodeInside (A.image area.old) at }
     requires entries { SomeEntries (A.image area.old) at levels }
-    requires few { levels ≤ 8 }
+    requires few { levels ≤ level_limit }
     requires short { length (A.image area.old) ≤ image_limit }
     ensures places { OnOk result ((entries : Entries) → EntriesStand (A.image area.old) at levels entries → (blocks.new.items, nodes.new.items) ≡ through_entries with_node with_block (blocks.old.items, nodes.old.items) entries) }
     ensures area { Reads A.image A.frame A.faults A.edited area.old area.new result }
@@ -90,7 +91,7 @@ pub fn index_parts<A: Area>(alloc: Global, area: &mut A, head: u64) -> Result<In
 {
     let mut leaves = Vec::new(alloc);
     let mut nodes = Vec::new(alloc);
-    collect(area, head, LEVELS, &mut leaves, &mut nodes)?;
+    collect(area, head, LEVEL_LIMIT, &mut leaves, &mut nodes)?;
     Ok(IndexParts { leaves, nodes })
 }
 

@@ -11,9 +11,10 @@ ghost use Rattle.cdf_index.specs.Finding.{index_at, HasIndex, SomeNode};
 ghost use Rattle.cdf_index.specs.Way.{way, spot};
 
 use crate::next::lower_before;
-use crate::nodes::{Head, LEVELS, read_node};
+use crate::nodes::{Head, read_node};
 use crate::scanning::entries_begun;
 use cdf_area::{Area, AreaError};
+use cdf_model::limits::LEVEL_LIMIT;
 use cdf_records::Steps;
 use std::alloc::Global;
 use std::sync::ledger::Ledger;
@@ -160,7 +161,7 @@ pub fn way_down<A: Area, L: Ledger>(
 {
     let mut passed = Vec::new(alloc);
     let mut end = spot_of_chain(area, head, first, steps)?;
-    for turn in 0..LEVELS {
+    for turn in 0..LEVEL_LIMIT {
         if end.lower == 0 {
             return Ok(Way { steps: passed, end });
         }

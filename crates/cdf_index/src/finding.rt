@@ -3,7 +3,7 @@
 ghost use Rattle.std.specs.Prelude.{◌≡◌, ◌+◌, ◌≤◌, ℕ, length, IfOk};
 ghost use Rattle.std.specs.Option.{option_map};
 ghost use Rattle.cdf_area.specs.Calls.{Reads};
-ghost use Rattle.cdf_model.specs.Limits.{image_limit};
+ghost use Rattle.cdf_model.specs.Limits.{image_limit, level_limit};
 ghost use Rattle.cdf_format.specs.Index.{Nodes, leaves_of, link_to};
 ghost use Rattle.cdf_format.specs.IndexOf.{IsNode};
 ghost use Rattle.cdf_index.specs.Order.{leaf_of, nodes_passed, NextsAreZero};
@@ -67,7 +67,7 @@ pub fn find<A: Area, L: Ledger>(
     requires short { length (A.image area.old) ≤ image_limit }
     ensures value { IfOk result (λ found. option_map seen found ≡ leaf_of rec (leaves_of (index_at (A.image area.old) head))) }
     ensures steps { steps.new ≤ steps.old + nodes_passed rec (index_at (A.image area.old) head) }
-    ensures levels { NextsAreZero (index_at (A.image area.old) head) → steps.new ≤ steps.old + 8 }
+    ensures levels { NextsAreZero (index_at (A.image area.old) head) → steps.new ≤ steps.old + level_limit }
     ensures area { Reads A.image A.frame A.faults A.edited area.old area.new result }
 {
     let mut at = head;

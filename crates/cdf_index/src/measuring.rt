@@ -3,15 +3,16 @@
 ghost use Rattle.std.specs.Prelude.{◌≡◌, ◌≤◌, ℕ, length, IfOk};
 ghost use Rattle.cdf_area.specs.Calls.{Reads};
 ghost use Rattle.cdf_format.specs.Index.{Nodes, Entries, link_to};
-ghost use Rattle.cdf_model.specs.Limits.{image_limit};
+ghost use Rattle.cdf_model.specs.Limits.{image_limit, level_limit};
 ghost use Rattle.cdf_index.specs.Finding.{index_at, HasIndex, NodeInside, Stands};
 ghost use Rattle.cdf_index.specs.Sight.{IsHead};
 ghost use Rattle.cdf_index.specs.Sizes.{block_counted, node_counted, size_of};
 ghost use Rattle.cdf_index.specs.Whole.{EntriesStand, SomeChain, SomeEntries, through, through_entries};
 
-use crate::nodes::{Head, LEVELS, read_head};
+use crate::nodes::{Head, read_head};
 use cdf_area::{Area, AreaError};
 use cdf_format::fields::{RECORD_TYPE, VXR_FIRST, VXR_TYPE};
+use cdf_model::limits::LEVEL_LIMIT;
 use cdf_records::{read_unsigned4, read_unsigned8};
 
 /// The size of an index: its leaves, the used entries of all nodes, and Nentries of the widest node, 7 at least.
@@ -61,7 +62,7 @@ fn measure<A: Area>(
     size: IndexSize,
 ) -> Result<IndexSize, AreaError>
     requires chain { SomeChain (A.image area.old) levels link }
-    requires few { levels ≤ 8 }
+    requires few { levels ≤ level_limit }
     requires short { length (A.image area.old) ≤ image_limit }
     ensures size { IfOk result (λ measured. (chain : Nodes) → Stands (A.image area.old) levels chain → link ≡ link_to chain → measured ≡ through node_counted block_counted size chain) }
     ensures area { Reads A.image A.frame A.faults A.edited area.old area.new result }
@@ -91,7 +92,7 @@ fn measure_below<A: Area>(
     requires head { IsHead (A.image area.old) at head.now }
     requires inside { NodeInside (A.image area.old) at }
     requires entries { SomeEntries (A.image area.old) at levels }
-    requires few { levels ≤ 8 }
+    requires few { levels ≤ level_limit }
     requires short { length (A.image area.old) ≤ image_limit }
     ensures size { IfOk result (λ measured. (entries : Entries) → EntriesStand (A.image area.old) at levels entries → measured ≡ through_entries node_counted block_counted size entries) }
     ensures area { Reads A.image A.frame A.faults A.edited area.old area.new result }
@@ -116,5 +117,5 @@ pub fn index_size<A: Area>(area: &mut A, head: u64) -> Result<IndexSize, AreaErr
     ensures value { IfOk result (λ size. size ≡ size_of (index_at (A.image area.old) head)) }
     ensures area { Reads A.image A.frame A.faults A.edited area.old area.new result }
 {
-    measure(area, head, LEVELS, EMPTY)
+    measure(area, head, LEVEL_LIMIT, EMPTY)
 }

@@ -3,7 +3,7 @@
 ghost use Rattle.std.specs.Prelude.{◌≡◌, ◌+◌, ◌≤◌, ℕ, length, IfOk};
 ghost use Rattle.cdf_area.specs.Calls.{Reads};
 ghost use Rattle.cdf_format.specs.Index.{Nodes, nodes_of, used_count};
-ghost use Rattle.cdf_model.specs.Limits.{image_limit};
+ghost use Rattle.cdf_model.specs.Limits.{image_limit, level_limit};
 ghost use Rattle.cdf_index.specs.Finding.{index_at, HasIndex, NodeInside, SomeNode};
 ghost use Rattle.cdf_index.specs.Ahead.{NamesIn, chain_before, IsWalk};
 ghost use Rattle.cdf_index.specs.Next.{least_first_past};
@@ -93,7 +93,7 @@ pub fn next_first<A: Area, L: Ledger>(
     requires short { length (A.image area.old) ≤ image_limit }
     ensures value { IfOk result (λ next. next ≡ least_first_past rec (index_at (A.image area.old) head)) }
     ensures steps { steps.new ≤ steps.old + length (nodes_of (index_at (A.image area.old) head)) }
-    ensures levels { NextsAreZero (index_at (A.image area.old) head) → steps.new ≤ steps.old + 8 }
+    ensures levels { NextsAreZero (index_at (A.image area.old) head) → steps.new ≤ steps.old + level_limit }
     ensures area { Reads A.image A.frame A.faults A.edited area.old area.new result }
 {
     let mut walk = Walk {

@@ -4,6 +4,7 @@ ghost use Rattle.std.specs.Prelude.{◌≡◌, ◌+◌, ◌-◌, ◌/◌, ◌≤
 ghost use Rattle.cdf_area.specs.Calls.{Reads};
 ghost use Rattle.cdf_model.specs.Limits.{image_limit};
 ghost use Rattle.cdf_format.specs.Fields.{counted};
+ghost use Rattle.cdf_format.specs.Records.{linked_size, vxr_entries, vxr_entry_size};
 ghost use Rattle.cdf_index.specs.Finding.{NodeInside};
 ghost use Rattle.cdf_index.specs.Sight.{IsHead};
 
@@ -12,9 +13,6 @@ use cdf_format::fields::{VXR_ENTRY_SIZE, VXR_FIRST};
 use cdf_records::{Steps, read_vxr};
 use std::marker::Brand;
 use std::sync::ledger::{Blank, Ledger};
-
-/// How many levels an index has at most.
-pub const LEVELS: u64 = 8;
 
 /// A leaf of an index: the records from a first to a last, and where their block stands.
 #[derive(Clone, Copy, Debug, PartialEq, Eq)]
@@ -42,8 +40,8 @@ fn count_of(number: i32) -> u64
 
 /// How many entries are used, of those that the record has room for.
 fn used_of(used: u64, room: u64, size: u64) -> u64
-    requires { 28 ≤ size }
-    ensures { result ≡ min used (min room ((size - 28) / 16)) }
+    requires { linked_size ≤ size }
+    ensures { result ≡ min used (min room ((size - (vxr_entries 0).place) / vxr_entry_size)) }
 {
     used.min(room.min((size - VXR_FIRST) / VXR_ENTRY_SIZE))
 }

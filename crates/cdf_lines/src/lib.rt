@@ -8,5 +8,5 @@ mod lines;
 mod split;
 mod text;
 
-pub use line::{LINE_LIMIT, Line};
+pub use line::Line;
 pub use lines::Lines;

@@ -4,7 +4,7 @@ ghost use Rattle.std.specs.Prelude.{◌≡◌, ◌==◌, ◌≤◌, [], length, 
 ghost use Rattle.cdf_model.specs.Lines.{split};
 ghost use Rattle.cdf_lines.specs.Parts.{FirstLine, LeadingLines};
 
-use crate::line::LINE_LIMIT;
+use cdf_model::limits::LINE_LIMIT;
 
 /// The first line that a newline ends, and the bytes after that newline.
 pub fn first_line(text: &[u8]) -> Option<(&[u8], &[u8])>

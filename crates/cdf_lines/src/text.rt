@@ -1,6 +1,7 @@
 //! The bytes of a line that has not ended, as long as it is not too long.
 
-use crate::line::{LINE_LIMIT, Line};
+use crate::line::Line;
+use cdf_model::limits::LINE_LIMIT;
 use std::alloc::{AllocError, Global};
 use std::marker::Model;
 

@@ -24,3 +24,7 @@ signed_limit = 2147483647
 -- the most dimensions
 abbrev pub dimension_limit : ℕ
 dimension_limit = 10
+
+-- the most levels of nodes of an index
+abbrev pub level_limit : ℕ
+level_limit = 8

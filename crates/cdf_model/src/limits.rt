@@ -1,7 +1,8 @@
 //! The limits of what is read and written.
 
 ghost use Rattle.std.specs.Prelude.{◌≡◌};
-ghost use Rattle.cdf_model.specs.Limits.{image_limit, script_limit, line_limit, record_number_limit, signed_limit, dimension_limit};
+ghost use Rattle.cdf_model.specs.Limits.{image_limit, script_limit, line_limit, record_number_limit, signed_limit, dimension_limit, level_limit};
+ghost use Rattle.cdf_model.specs.Names.{name_limit};
 ghost use Rattle.cdf_model.specs.Place.{record_limit};
 
 /// The most bytes of an image.
@@ -11,7 +12,7 @@ pub const IMAGE_LIMIT: u64 = 1_073_741_824;
 pub const SCRIPT_LIMIT: u64 = 1_073_741_824;
 
 /// The most bytes of a line of it.
-pub const LINE_LIMIT: u64 = 16_777_216;
+pub const LINE_LIMIT: usize = 16_777_216;
 
 /// The most bytes of a record of a variable, of a block and of an entry.
 pub const RECORD_LIMIT: u64 = 67_108_864;
@@ -25,6 +26,12 @@ pub const SIGNED_LIMIT: u32 = 2_147_483_647;
 /// The most dimensions.
 pub const DIMENSION_LIMIT: u32 = 10;
 
+/// The most levels of nodes of an index.
+pub const LEVEL_LIMIT: u64 = 8;
+
+/// The most bytes of a name.
+pub const NAME_LIMIT: usize = 256;
+
 /// The limits are those of the definitions.
 pub fn limits_are_defined()
     ensures image { image_limit ≡ IMAGE_LIMIT }
@@ -34,4 +41,6 @@ pub fn limits_are_defined()
     ensures record_number { record_number_limit ≡ RECORD_NUMBER_LIMIT }
     ensures signed { signed_limit ≡ SIGNED_LIMIT }
     ensures dimension { dimension_limit ≡ DIMENSION_LIMIT }
+    ensures level { level_limit ≡ LEVEL_LIMIT }
+    ensures name { name_limit ≡ NAME_LIMIT }
 {}

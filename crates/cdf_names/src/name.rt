@@ -4,8 +4,7 @@ ghost use Rattle.std.specs.Prelude.{◌≡◌, ◌==◌};
 ghost use Rattle.std.specs.List.{list_any};
 ghost use Rattle.cdf_model.specs.Names.{is_bad_name};
 
-/// The most bytes of a name.
-const NAME_LIMIT: usize = 256;
+use cdf_model::limits::NAME_LIMIT;
 
 /// Whether a name has a byte 0.
 fn has_zero(name: &[u8]) -> bool

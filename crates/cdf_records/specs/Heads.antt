@@ -2,10 +2,9 @@
 use Rattle.std.specs.Prelude.{ℕ, ℤ, ◌+◌, List}
 use Rattle.std.specs.Int.{w32, w64, cast_signed}
 use Rattle.cdf_format.specs.Fields.{word}
-use Rattle.cdf_format.specs.Records.{Field, record_size, record_type, cdr_gdr_offset, cdr_version, cdr_release, cdr_encoding, cdr_flags, cdr_rfu_a, cdr_rfu_b, cdr_increment, cdr_identifier, cdr_rfu_e, gdr_r_vdr_head, gdr_z_vdr_head, gdr_adr_head, gdr_eof, gdr_nr_vars, gdr_num_attr, gdr_r_max_rec, gdr_r_num_dims, gdr_nz_vars, gdr_uir_head, gdr_rfu_c, gdr_leap_second_last_updated, gdr_rfu_e, adr_adr_next, adr_agr_edr_head, adr_scope, adr_num, adr_ngr_entries, adr_max_gr_entry, adr_rfu_a, adr_az_edr_head, adr_nz_entries, adr_max_z_entry, adr_rfu_e, aedr_aedr_next, aedr_attr_num, aedr_data_type, aedr_num, aedr_num_elems, aedr_num_strings, aedr_rfu_b, aedr_rfu_c, aedr_rfu_d, aedr_rfu_e, vdr_vdr_next, vdr_data_type, vdr_max_rec, vdr_vxr_head, vdr_vxr_tail, vdr_flags, vdr_s_records, vdr_rfu_b, vdr_rfu_c, vdr_rfu_f, vdr_num_elems, vdr_num, vdr_cpr_or_spr_offset, vdr_blocking_factor, vxr_vxr_next, vxr_n_entries, vxr_n_used_entries, cpr_c_type, cpr_rfu_a, cpr_p_count, cvvr_rfu_a, cvvr_c_size, uir_next_uir, uir_prev_uir}
+use Rattle.cdf_format.specs.Records.{Field, record_size, record_type, cdr_gdr_offset, cdr_version, cdr_release, cdr_encoding, cdr_flags, cdr_rfu_a, cdr_rfu_b, cdr_increment, cdr_identifier, cdr_rfu_e, gdr_r_vdr_head, gdr_z_vdr_head, gdr_adr_head, gdr_eof, gdr_nr_vars, gdr_num_attr, gdr_r_max_rec, gdr_r_num_dims, gdr_nz_vars, gdr_uir_head, gdr_rfu_c, gdr_leap_second_last_updated, gdr_rfu_e, aedr_aedr_next, aedr_attr_num, aedr_data_type, aedr_num, aedr_num_elems, aedr_num_strings, aedr_rfu_b, aedr_rfu_c, aedr_rfu_d, aedr_rfu_e, vdr_vdr_next, vdr_data_type, vdr_max_rec, vdr_vxr_head, vdr_vxr_tail, vdr_flags, vdr_s_records, vdr_rfu_b, vdr_rfu_c, vdr_rfu_f, vdr_num_elems, vdr_num, vdr_cpr_or_spr_offset, vdr_blocking_factor, vxr_vxr_next, vxr_n_entries, vxr_n_used_entries, cpr_c_type, cpr_rfu_a, cpr_p_count, cvvr_rfu_a, cvvr_c_size, uir_next_uir, uir_prev_uir}
 use Rattle.cdf_records.specs.declared.cdr.Cdr.{Cdr}
 use Rattle.cdf_records.specs.declared.gdr.Gdr.{Gdr}
-use Rattle.cdf_records.specs.declared.adr.Adr.{Adr}
 use Rattle.cdf_records.specs.declared.aedr.Aedr.{Aedr}
 use Rattle.cdf_records.specs.declared.vdr.Vdr.{Vdr}
 use Rattle.cdf_records.specs.declared.vxr.Vxr.{Vxr}
@@ -65,27 +64,6 @@ gdr_by read place = record {
 
 abbrev pub gdr_at : List ℕ → ℕ → Gdr
 gdr_at b place = gdr_by (word b) place
-
--- "Attribute Descriptor Record", up to its Name
-abbrev pub adr_by : (ℕ → ℕ → ℕ) → ℕ → Adr
-adr_by read place = record {
-  record_size = plain read place record_size;
-  record_type = signed4 read place record_type;
-  adr_next = plain read place adr_adr_next;
-  agr_edr_head = plain read place adr_agr_edr_head;
-  scope = signed4 read place adr_scope;
-  num = signed4 read place adr_num;
-  ngr_entries = signed4 read place adr_ngr_entries;
-  max_gr_entry = signed4 read place adr_max_gr_entry;
-  rfu_a = signed4 read place adr_rfu_a;
-  az_edr_head = plain read place adr_az_edr_head;
-  nz_entries = signed4 read place adr_nz_entries;
-  max_z_entry = signed4 read place adr_max_z_entry;
-  rfu_e = signed4 read place adr_rfu_e;
-}
-
-abbrev pub adr_at : List ℕ → ℕ → Adr
-adr_at b place = adr_by (word b) place
 
 -- "Attribute Entry Descriptor Record", up to its value
 abbrev pub aedr_by : (ℕ → ℕ → ℕ) → ℕ → Aedr

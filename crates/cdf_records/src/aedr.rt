@@ -2,6 +2,7 @@
 
 ghost use Rattle.std.specs.Prelude.{◌≡◌, ◌+◌, ◌≤◌, ℕ, length, IfOk, OnOk};
 ghost use Rattle.cdf_area.specs.Calls.{Reads};
+ghost use Rattle.cdf_format.specs.Records.{aedr_value};
 ghost use Rattle.cdf_records.specs.Heads.{aedr_at, aedr_by};
 ghost use Rattle.cdf_records.specs.Pieces.{AreBytes, Shows};
 
@@ -34,7 +35,7 @@ pub struct Aedr {
 
 /// The fields in the bytes of a record.
 fn aedr_in(bytes: &[u8]) -> Aedr
-    requires { 56 ≤ length bytes.now }
+    requires { (aedr_value 0).place ≤ length bytes.now }
     ensures { (field : ℕ → ℕ → ℕ) (start : ℕ) → Shows bytes.now field start → result ≡ aedr_by field start }
 {
     Aedr {
@@ -55,9 +56,9 @@ fn aedr_in(bytes: &[u8]) -> Aedr
 
 /// The fields of an Attribute Entry Descriptor Record at a place.
 pub fn read_aedr<A: Area>(area: &mut A, at: u64) -> Result<Aedr, AreaError>
-    requires { at + 56 ≤ length (A.image area.old) }
+    requires { at + (aedr_value 0).place ≤ length (A.image area.old) }
     ensures value { IfOk result (λ head. head ≡ aedr_at (A.image area.old) at) }
-    ensures bytes { OnOk result (AreBytes (A.image area.old) at 56) }
+    ensures bytes { OnOk result (AreBytes (A.image area.old) at (aedr_value 0).place) }
     ensures area { Reads A.image A.frame A.faults A.edited area.old area.new result }
 {
     let mut bytes = [0u8; HEAD_SIZE];

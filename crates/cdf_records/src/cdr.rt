@@ -2,6 +2,7 @@
 
 ghost use Rattle.std.specs.Prelude.{◌≡◌, ◌+◌, ◌≤◌, ℕ, length, IfOk, OnOk};
 ghost use Rattle.cdf_area.specs.Calls.{Reads};
+ghost use Rattle.cdf_format.specs.Records.{cdr_copyright};
 ghost use Rattle.cdf_records.specs.Heads.{cdr_at, cdr_by};
 ghost use Rattle.cdf_records.specs.Pieces.{AreBytes, Shows};
 
@@ -34,7 +35,7 @@ pub struct Cdr {
 
 /// The fields in the bytes of a record.
 fn cdr_in(bytes: &[u8]) -> Cdr
-    requires { 56 ≤ length bytes.now }
+    requires { cdr_copyright.place ≤ length bytes.now }
     ensures { (field : ℕ → ℕ → ℕ) (start : ℕ) → Shows bytes.now field start → result ≡ cdr_by field start }
 {
     Cdr {
@@ -55,9 +56,9 @@ fn cdr_in(bytes: &[u8]) -> Cdr
 
 /// The fields of the CDF Descriptor Record at a place.
 pub fn read_cdr<A: Area>(area: &mut A, at: u64) -> Result<Cdr, AreaError>
-    requires { at + 56 ≤ length (A.image area.old) }
+    requires { at + cdr_copyright.place ≤ length (A.image area.old) }
     ensures value { IfOk result (λ head. head ≡ cdr_at (A.image area.old) at) }
-    ensures bytes { OnOk result (AreBytes (A.image area.old) at 56) }
+    ensures bytes { OnOk result (AreBytes (A.image area.old) at cdr_copyright.place) }
     ensures area { Reads A.image A.frame A.faults A.edited area.old area.new result }
 {
     let mut bytes = [0u8; HEAD_SIZE];

@@ -2,6 +2,7 @@
 
 ghost use Rattle.std.specs.Prelude.{◌≡◌, ◌+◌, ◌≤◌, ℕ, length, IfOk, OnOk};
 ghost use Rattle.cdf_area.specs.Calls.{Reads};
+ghost use Rattle.cdf_format.specs.Records.{cpr_parameter};
 ghost use Rattle.cdf_records.specs.Heads.{cpr_at, cpr_by};
 ghost use Rattle.cdf_records.specs.Pieces.{AreBytes, Shows};
 
@@ -26,7 +27,7 @@ pub struct Cpr {
 
 /// The fields in the bytes of a record.
 fn cpr_in(bytes: &[u8]) -> Cpr
-    requires { 24 ≤ length bytes.now }
+    requires { (cpr_parameter 0).place ≤ length bytes.now }
     ensures { (field : ℕ → ℕ → ℕ) (start : ℕ) → Shows bytes.now field start → result ≡ cpr_by field start }
 {
     Cpr {
@@ -40,9 +41,9 @@ fn cpr_in(bytes: &[u8]) -> Cpr
 
 /// The fields of a Compressed Parameters Record at a place.
 pub fn read_cpr<A: Area>(area: &mut A, at: u64) -> Result<Cpr, AreaError>
-    requires { at + 24 ≤ length (A.image area.old) }
+    requires { at + (cpr_parameter 0).place ≤ length (A.image area.old) }
     ensures value { IfOk result (λ head. head ≡ cpr_at (A.image area.old) at) }
-    ensures bytes { OnOk result (AreBytes (A.image area.old) at 24) }
+    ensures bytes { OnOk result (AreBytes (A.image area.old) at (cpr_parameter 0).place) }
     ensures area { Reads A.image A.frame A.faults A.edited area.old area.new result }
 {
     let mut bytes = [0u8; HEAD_SIZE];

@@ -2,6 +2,7 @@
 
 ghost use Rattle.std.specs.Prelude.{◌≡◌, ◌+◌, ◌≤◌, ℕ, length, IfOk, OnOk};
 ghost use Rattle.cdf_area.specs.Calls.{Reads};
+ghost use Rattle.cdf_format.specs.Records.{cvvr_packed};
 ghost use Rattle.cdf_records.specs.Heads.{cvvr_at, cvvr_by};
 ghost use Rattle.cdf_records.specs.Pieces.{AreBytes, Shows};
 
@@ -23,7 +24,7 @@ pub struct Cvvr {
 
 /// The fields in the bytes of a record.
 fn cvvr_in(bytes: &[u8]) -> Cvvr
-    requires { 24 ≤ length bytes.now }
+    requires { (cvvr_packed 0).place ≤ length bytes.now }
     ensures { (field : ℕ → ℕ → ℕ) (start : ℕ) → Shows bytes.now field start → result ≡ cvvr_by field start }
 {
     Cvvr {
@@ -36,9 +37,9 @@ fn cvvr_in(bytes: &[u8]) -> Cvvr
 
 /// The fields of a Compressed Variable Values Record at a place.
 pub fn read_cvvr<A: Area>(area: &mut A, at: u64) -> Result<Cvvr, AreaError>
-    requires { at + 24 ≤ length (A.image area.old) }
+    requires { at + (cvvr_packed 0).place ≤ length (A.image area.old) }
     ensures value { IfOk result (λ head. head ≡ cvvr_at (A.image area.old) at) }
-    ensures bytes { OnOk result (AreBytes (A.image area.old) at 24) }
+    ensures bytes { OnOk result (AreBytes (A.image area.old) at (cvvr_packed 0).place) }
     ensures area { Reads A.image A.frame A.faults A.edited area.old area.new result }
 {
     let mut bytes = [0u8; HEAD_SIZE];

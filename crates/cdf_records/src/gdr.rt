@@ -2,6 +2,7 @@
 
 ghost use Rattle.std.specs.Prelude.{◌≡◌, ◌+◌, ◌≤◌, ℕ, length, IfOk, OnOk};
 ghost use Rattle.cdf_area.specs.Calls.{Reads};
+ghost use Rattle.cdf_format.specs.Records.{gdr_r_dim_size};
 ghost use Rattle.cdf_records.specs.Heads.{gdr_at, gdr_by};
 ghost use Rattle.cdf_records.specs.Pieces.{AreBytes, Shows};
 
@@ -38,7 +39,7 @@ pub struct Gdr {
 
 /// The fields in the bytes of a record.
 fn gdr_in(bytes: &[u8]) -> Gdr
-    requires { 84 ≤ length bytes.now }
+    requires { (gdr_r_dim_size 0).place ≤ length bytes.now }
     ensures { (field : ℕ → ℕ → ℕ) (start : ℕ) → Shows bytes.now field start → result ≡ gdr_by field start }
 {
     Gdr {
@@ -62,9 +63,9 @@ fn gdr_in(bytes: &[u8]) -> Gdr
 
 /// The fields of the Global Descriptor Record at a place.
 pub fn read_gdr<A: Area>(area: &mut A, at: u64) -> Result<Gdr, AreaError>
-    requires { at + 84 ≤ length (A.image area.old) }
+    requires { at + (gdr_r_dim_size 0).place ≤ length (A.image area.old) }
     ensures value { IfOk result (λ head. head ≡ gdr_at (A.image area.old) at) }
-    ensures bytes { OnOk result (AreBytes (A.image area.old) at 84) }
+    ensures bytes { OnOk result (AreBytes (A.image area.old) at (gdr_r_dim_size 0).place) }
     ensures area { Reads A.image A.frame A.faults A.edited area.old area.new result }
 {
     let mut bytes = [0u8; HEAD_SIZE];

@@ -1,7 +1,6 @@
 //! The internal records of a file, read through an area.
 #![tactic(auto)]
 
-mod adr;
 mod aedr;
 mod cdr;
 mod cpr;
@@ -17,7 +16,6 @@ mod uir;
 mod vdr;
 mod vxr;
 
-pub use adr::{Adr, read_adr};
 pub use aedr::{Aedr, read_aedr};
 pub use cdf_fields::{
     set_adr_max_gr_entry, set_adr_max_z_entry, set_adr_name, set_cdr_encoding, set_cdr_flags,
@@ -37,5 +35,5 @@ pub use numbers::{read_nums, read_signed4, read_unsigned4, read_unsigned8};
 pub use steps::Steps;
 pub use stored::{read_bytes, read_encoding};
 pub use uir::{Uir, read_uir};
-pub use vdr::{Vdr, read_vdr, read_vdr_z_num_dims};
+pub use vdr::{Vdr, read_vdr};
 pub use vxr::{Vxr, read_vxr};

@@ -4,6 +4,8 @@ ghost use Rattle.std.specs.Prelude.{◌≡◌, ◌+◌, ◌≤◌, length, take,
 ghost use Rattle.cdf_area.specs.Calls.{Reads};
 ghost use Rattle.cdf_format.specs.Fields.{encoding};
 ghost use Rattle.cdf_format.specs.Stored.{is_little};
+ghost use Rattle.cdf_format.specs.Records.{cdr_place};
+ghost use Rattle.cdf_format.specs.RecordTypes.{fixed_size, cdr_type};
 ghost use Rattle.cdf_model.specs.Encodings.{encoding_at};
 
 use crate::numbers::read_signed4;
@@ -37,7 +39,7 @@ const NETWORK: Encoding = Encoding {
 
 /// The encoding of the values of a file.
 pub fn read_encoding<A: Area>(area: &mut A) -> Result<Encoding, AreaError>
-    requires { 320 ≤ length (A.image area.old) }
+    requires { cdr_place + fixed_size cdr_type ≤ length (A.image area.old) }
     ensures known { IfOk result (λ read. IfSome (encoding_at (encoding (A.image area.old))) (λ known. read ≡ known)) }
     ensures order { IfOk result (λ encoding. encoding.little ≡ is_little (A.image area.old)) }
     ensures area { Reads A.image A.frame A.faults A.edited area.old area.new result }

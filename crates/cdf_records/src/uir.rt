@@ -2,6 +2,7 @@
 
 ghost use Rattle.std.specs.Prelude.{◌≡◌, ◌+◌, ◌≤◌, ℕ, length, IfOk, OnOk};
 ghost use Rattle.cdf_area.specs.Calls.{Reads};
+ghost use Rattle.cdf_format.specs.Records.{linked_size};
 ghost use Rattle.cdf_records.specs.Heads.{uir_at, uir_by};
 ghost use Rattle.cdf_records.specs.Pieces.{AreBytes, Shows};
 
@@ -23,7 +24,7 @@ pub struct Uir {
 
 /// The fields in the bytes of a record.
 fn uir_in(bytes: &[u8]) -> Uir
-    requires { 28 ≤ length bytes.now }
+    requires { linked_size ≤ length bytes.now }
     ensures { (field : ℕ → ℕ → ℕ) (start : ℕ) → Shows bytes.now field start → result ≡ uir_by field start }
 {
     Uir {
@@ -36,9 +37,9 @@ fn uir_in(bytes: &[u8]) -> Uir
 
 /// The fields of an Unused Internal Record at a place.
 pub fn read_uir<A: Area>(area: &mut A, at: u64) -> Result<Uir, AreaError>
-    requires { at + 28 ≤ length (A.image area.old) }
+    requires { at + linked_size ≤ length (A.image area.old) }
     ensures value { IfOk result (λ head. head ≡ uir_at (A.image area.old) at) }
-    ensures bytes { OnOk result (AreBytes (A.image area.old) at 28) }
+    ensures bytes { OnOk result (AreBytes (A.image area.old) at linked_size) }
     ensures area { Reads A.image A.frame A.faults A.edited area.old area.new result }
 {
     let mut bytes = [0u8; HEAD_SIZE];

@@ -2,18 +2,16 @@
 
 ghost use Rattle.std.specs.Prelude.{◌≡◌, ◌+◌, ◌≤◌, ℕ, length, IfOk, OnOk};
 ghost use Rattle.cdf_area.specs.Calls.{Reads};
-ghost use Rattle.cdf_format.specs.Fields.{LiesIn, integer4};
-ghost use Rattle.cdf_format.specs.Records.{vdr_z_num_dims};
+ghost use Rattle.cdf_format.specs.Records.{vdr_name};
 ghost use Rattle.cdf_records.specs.Heads.{vdr_at, vdr_by};
 ghost use Rattle.cdf_records.specs.Pieces.{AreBytes, Shows};
 
 use crate::field::{read_piece, signed4, signed8, unsigned4, unsigned8};
-use crate::numbers::read_signed4;
 use cdf_area::{Area, AreaError};
 use cdf_format::fields::{
     RECORD_SIZE, RECORD_TYPE, VDR_BLOCKING_FACTOR, VDR_CPR_OR_SPR_OFFSET, VDR_DATA_TYPE, VDR_FLAGS,
     VDR_MAX_REC, VDR_NAME, VDR_NUM, VDR_NUM_ELEMS, VDR_RFU_B, VDR_RFU_C, VDR_RFU_F, VDR_S_RECORDS,
-    VDR_VDR_NEXT, VDR_VXR_HEAD, VDR_VXR_TAIL, VDR_Z_NUM_DIMS,
+    VDR_VDR_NEXT, VDR_VXR_HEAD, VDR_VXR_TAIL,
 };
 
 /// The bytes of the fields that are read.
@@ -42,7 +40,7 @@ pub struct Vdr {
 
 /// The fields in the bytes of a record.
 fn vdr_in(bytes: &[u8]) -> Vdr
-    requires { 84 ≤ length bytes.now }
+    requires { vdr_name.place ≤ length bytes.now }
     ensures { (field : ℕ → ℕ → ℕ) (start : ℕ) → Shows bytes.now field start → result ≡ vdr_by field start }
 {
     Vdr {
@@ -67,22 +65,12 @@ fn vdr_in(bytes: &[u8]) -> Vdr
 
 /// The fields of a Variable Descriptor Record at a place.
 pub fn read_vdr<A: Area>(area: &mut A, at: u64) -> Result<Vdr, AreaError>
-    requires { at + 84 ≤ length (A.image area.old) }
+    requires { at + vdr_name.place ≤ length (A.image area.old) }
     ensures value { IfOk result (λ head. head ≡ vdr_at (A.image area.old) at) }
-    ensures bytes { OnOk result (AreBytes (A.image area.old) at 84) }
+    ensures bytes { OnOk result (AreBytes (A.image area.old) at vdr_name.place) }
     ensures area { Reads A.image A.frame A.faults A.edited area.old area.new result }
 {
     let mut bytes = [0u8; HEAD_SIZE];
     read_piece(area, at, &mut bytes)?;
     Ok(vdr_in(&bytes))
-}
-
-/// zNumDims of the VDR of a z variable at a place.
-pub fn read_vdr_z_num_dims<A: Area>(area: &mut A, at: u64) -> Result<i32, AreaError>
-    requires { LiesIn (A.image area.old) at vdr_z_num_dims }
-    ensures value { IfOk result (λ number. number ≡ integer4 (A.image area.old) at vdr_z_num_dims) }
-    ensures area { Reads A.image A.frame A.faults A.edited area.old area.new result }
-{
-    let _size = area.size();
-    read_signed4(area, at + VDR_Z_NUM_DIMS)
 }

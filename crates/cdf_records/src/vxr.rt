@@ -2,6 +2,7 @@
 
 ghost use Rattle.std.specs.Prelude.{◌≡◌, ◌+◌, ◌≤◌, ℕ, length, IfOk, OnOk};
 ghost use Rattle.cdf_area.specs.Calls.{Reads};
+ghost use Rattle.cdf_format.specs.Records.{vxr_first};
 ghost use Rattle.cdf_records.specs.Heads.{vxr_at, vxr_by};
 ghost use Rattle.cdf_records.specs.Pieces.{AreBytes, Shows};
 
@@ -28,7 +29,7 @@ pub struct Vxr {
 
 /// The fields in the bytes of a record.
 fn vxr_in(bytes: &[u8]) -> Vxr
-    requires { 28 ≤ length bytes.now }
+    requires { (vxr_first 0).place ≤ length bytes.now }
     ensures { (field : ℕ → ℕ → ℕ) (start : ℕ) → Shows bytes.now field start → result ≡ vxr_by field start }
 {
     Vxr {
@@ -46,9 +47,9 @@ pub fn read_vxr<A: Area, L: Ledger>(
     at: u64,
     steps: &mut Steps<L>,
 ) -> Result<Vxr, AreaError>
-    requires { at + 28 ≤ length (A.image area.old) }
+    requires { at + (vxr_first 0).place ≤ length (A.image area.old) }
     ensures value { IfOk result (λ head. head ≡ vxr_at (A.image area.old) at) }
-    ensures bytes { OnOk result (AreBytes (A.image area.old) at 28) }
+    ensures bytes { OnOk result (AreBytes (A.image area.old) at (vxr_first 0).place) }
     ensures step { steps.new ≡ steps.old + 1 }
     ensures area { Reads A.image A.frame A.faults A.edited area.old area.new result }
 {

@@ -1,7 +1,8 @@
 -- An index built anew from its leaves, level by level.
-use Rattle.std.specs.Prelude.{◌≡◌, ◌≤◌, ◌==◌, ℕ, List, [], ◌∷◌, ◌++◌, length, map, if◌then◌else◌}
+use Rattle.std.specs.Prelude.{◌≡◌, ◌≤◌, ◌==◌, ℕ, ◌-◌, List, [], ◌∷◌, ◌++◌, length, map, if◌then◌else◌}
+use Rattle.cdf_model.specs.Limits.{level_limit}
 use Rattle.cdf_edits.specs.Commands.Reindex.{IsPyramid, levels_up}
-use Rattle.cdf_edits.specs.Commands.Room.{nodes_above}
+use Rattle.cdf_edits.specs.Commands.Room.{node_entries, nodes_above}
 use Rattle.cdf_index.specs.Order.{InOrder, AreInOrder, NextsAreZero}
 use Rattle.cdf_format.specs.Index.{Nodes, no_node, node, Entries, no_entry, block, lower, Leaf, nodes_of, leaves_of, entry_count}
 
@@ -32,9 +33,9 @@ last_of n no_entry = n
 last_of n (block first last place packed entries) = last_of last entries
 last_of n (lower first last nodes entries) = last_of last entries
 
--- a node of 64 entries with none behind it
+-- a new node with none behind it
 abbrev pub alone : NewNode → Nodes
-alone new = node new.place 64 new.entries no_node
+alone new = node new.place node_entries new.entries no_node
 
 -- the entries of all nodes of a level
 abbrev pub entries_of : List NewNode → Entries
@@ -46,11 +47,11 @@ abbrev pub uppers : List NewNode → Entries
 uppers [] = no_entry
 uppers (new ∷ more) = lower (first_of new.entries) (last_of 0 new.entries) (alone new) (uppers more)
 
--- filled from the left: each has 64 entries, but the last, which has at least one
+-- filled from the left: each has as many entries as there is room for, but the last, which has at least one
 abbrev pub Filled : List NewNode → Type 0
 Filled [] = Unit {0}
-Filled (new ∷ []) = (1 ≤ entry_count new.entries) × (entry_count new.entries ≤ 64)
-Filled (new ∷ next ∷ more) = (entry_count new.entries ≡ 64) × Filled (next ∷ more)
+Filled (new ∷ []) = (1 ≤ entry_count new.entries) × (entry_count new.entries ≤ node_entries)
+Filled (new ∷ next ∷ more) = (entry_count new.entries ≡ node_entries) × Filled (next ∷ more)
 
 -- Levels of nodes over these leaves, from the top one down: the lowest names the leaves, each other one the nodes below it, of which there are at least two.
 abbrev pub AreLevels : List Leaf → List (List NewNode) → Type 0
@@ -77,8 +78,8 @@ pub record MakesPyramid (leaves : List Leaf) (top : NewNode) (more : List (List 
   pub order : (high : ℕ) → AreInOrder 0 high (entries_for leaves) → InOrder 0 high (alone top)
   pub nexts : NextsAreZero (alone top)
   pub few : length leaves ≤ 2147483648 → length ((top ∷ []) ∷ more) ≤ 6
-  pub fewest : 1 ≤ length leaves → length leaves ≤ 2147483648 → length (nodes_of (alone top)) ≡ nodes_above 8 (length leaves)
-  pub places : length leaves ≤ 2147483648 → levels_up 7 (alone top) ≡ places_of (from_below ((top ∷ []) ∷ more))
+  pub fewest : 1 ≤ length leaves → length leaves ≤ 2147483648 → length (nodes_of (alone top)) ≡ nodes_above level_limit (length leaves)
+  pub places : length leaves ≤ 2147483648 → levels_up (level_limit - 1) (alone top) ≡ places_of (from_below ((top ∷ []) ∷ more))
 
 abbrev pub LevelsMakePyramid : Type 0
 LevelsMakePyramid = (leaves : List Leaf) (top : NewNode) (more : List (List NewNode)) → AreLevels leaves ((top ∷ []) ∷ more) → MakesPyramid leaves top more

@@ -1,5 +1,6 @@
 -- The nodes of an index built anew, as code makes them: what their entries say, level by level.
 use Rattle.std.specs.Prelude.{◌≡◌, ◌≤◌, ℕ, ◌-◌, List, [], ◌∷◌, ◌++◌, length, map, get_or}
+use Rattle.cdf_edits.specs.Commands.Room.{node_entries, node_size}
 use Rattle.cdf_edits.specs.Space.Placing.{Fills}
 use Rattle.cdf_format.specs.Chains.{next_of}
 use Rattle.cdf_format.specs.Fields.{number}
@@ -9,10 +10,6 @@ use Rattle.cdf_format.specs.RecordTypes.{vxr_type}
 use Rattle.cdf_format.specs.Shape.{shape}
 use Rattle.cdf_index.specs.Writing.{SaysFirst}
 use Rattle.cdf_index.specs.declared.entries.Entry.{Entry}
-
--- a node of 64 entries has so many bytes
-abbrev pub node_size : ℕ
-node_size = 1052
 
 -- where a new node stands, and what its entries say
 pub record NodeWords : Type 0 where
@@ -34,11 +31,11 @@ abbrev pub level_entries : List NodeWords → List Entry
 level_entries [] = []
 level_entries (node ∷ more) = node.entries ++ level_entries more
 
--- filled from the left: each has 64 entries, but the last, which has at least one
+-- filled from the left: each has as many entries as there is room for, but the last, which has at least one
 abbrev pub AreFilled : List NodeWords → Type 0
 AreFilled [] = Unit {0}
-AreFilled (node ∷ []) = (1 ≤ length node.entries) × (length node.entries ≤ 64)
-AreFilled (node ∷ next ∷ more) = (length node.entries ≡ 64) × AreFilled (next ∷ more)
+AreFilled (node ∷ []) = (1 ≤ length node.entries) × (length node.entries ≤ node_entries)
+AreFilled (node ∷ next ∷ more) = (length node.entries ≡ node_entries) × AreFilled (next ∷ more)
 
 -- levels of nodes over these entries, from the top one down
 abbrev pub AreStacked : List Entry → List (List NodeWords) → Type 0
@@ -56,10 +53,10 @@ pub record NodeMade (b now : List ℕ) (entries : List Entry) (place : ℕ) : Ty
   pub taken : List ℕ
   pub fills : Fills b taken now (shape b) (shape now).records (shape now).unused node_size place vxr_type
   pub next_is : next_of now place ≡ 0
-  pub room_is : room_at now place ≡ 64
+  pub room_is : room_at now place ≡ node_entries
   pub counts_is : number now place vxr_n_used_entries ≡ length entries
   pub used_is : used_count now place ≡ length entries
-  pub says : SaysFirst now place entries 64
+  pub says : SaysFirst now place entries node_entries
 
 -- from one image to another in which these nodes were made, in this order
 abbrev pub AllMade : List ℕ → List ℕ → List NodeWords → Type 0

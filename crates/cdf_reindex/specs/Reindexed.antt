@@ -1,8 +1,8 @@
 -- What an index built anew leaves of an image: its nodes are taken and written, VXRhead and VXRtail lead to it, and the old nodes are freed (CDF Internal Format Description, "Variable Index Record"; own: the order).
-use Rattle.std.specs.Prelude.{◌≡◌, ◌⊎◌, ◌≤◌, ◌<◌, ℕ, ◌+◌, List, [], ◌∷◌, length}
-use Rattle.cdf_model.specs.Limits.{record_number_limit}
+use Rattle.std.specs.Prelude.{◌≡◌, ◌⊎◌, ◌≤◌, ◌<◌, ℕ, ◌+◌, ◌-◌, List, [], ◌∷◌, length}
+use Rattle.cdf_model.specs.Limits.{level_limit, record_number_limit}
 use Rattle.cdf_edits.specs.Commands.Reindex.{IsPyramid, levels_up}
-use Rattle.cdf_edits.specs.Commands.Room.{nodes_above, reindex_room}
+use Rattle.cdf_edits.specs.Commands.Room.{node_entries, node_size, nodes_above, reindex_room}
 use Rattle.cdf_edits.specs.Edits.Writes.{write, with_writes}
 use Rattle.cdf_edits.specs.Index.Written.{last_node}
 use Rattle.cdf_edits.specs.Space.Freeing.{AllGiven}
@@ -12,7 +12,7 @@ use Rattle.cdf_format.specs.Content.{content}
 use Rattle.cdf_format.specs.Fields.{number}
 use Rattle.cdf_format.specs.Index.{Nodes, no_node, nodes_of, leaves_of, link_to, room_at, used_count}
 use Rattle.cdf_format.specs.IndexOf.{IsIndex, IsNode}
-use Rattle.cdf_format.specs.Records.{vdr_vxr_head, vdr_vxr_tail, vxr_n_used_entries, vxr_bytes}
+use Rattle.cdf_format.specs.Records.{vdr_vxr_head, vdr_vxr_tail, vxr_n_used_entries}
 use Rattle.cdf_format.specs.RecordTypes.{vxr_type}
 use Rattle.cdf_format.specs.Shape.{VariableShape, Each, shape}
 use Rattle.cdf_format.specs.Sound.{NodeFits, IsSound}
@@ -20,17 +20,17 @@ use Rattle.cdf_index.specs.Adding.{Counts}
 use Rattle.cdf_index.specs.Order.{InOrder, NextsAreZero}
 use Rattle.cdf_index.specs.Writing.{SaysUnused}
 
--- a node of 64 entries, of which it counts no more as used, with none behind it, and with -1 in the entries that are not used
+-- a new node, of whose entries it counts no more as used, with none behind it, and with -1 in the entries that are not used
 pub record IsBare (b : List ℕ) (vxr : ℕ) : Type 0 where
-  pub room_is : room_at b vxr ≡ 64
-  pub few : number b vxr vxr_n_used_entries ≤ 64
+  pub room_is : room_at b vxr ≡ node_entries
+  pub few : number b vxr vxr_n_used_entries ≤ node_entries
   pub next_is : next_of b vxr ≡ 0
-  pub unused : (i : ℕ) → used_count b vxr ≤ i → i < 64 → SaysUnused b vxr i
+  pub unused : (i : ℕ) → used_count b vxr ≤ i → i < node_entries → SaysUnused b vxr i
 
 -- a record was taken at a place and became a node
 pub record NodeTaken (b now : List ℕ) (place : ℕ) : Type 0 where
   pub taken : List ℕ
-  pub fills : Fills b taken now (shape b) (shape now).records (shape now).unused (vxr_bytes 64) place vxr_type
+  pub fills : Fills b taken now (shape b) (shape now).records (shape now).unused node_size place vxr_type
 
 -- one after the other
 abbrev pub AllTaken : List ℕ → List ℕ → List ℕ → Type 0
@@ -42,11 +42,11 @@ pub record IsRebuilt (b now : List ℕ) (v : VariableShape) : Type 0 where
   pub index : Nodes
   pub leaves_stay : leaves_of index ≡ leaves_of v.index
   pub filled : IsPyramid index
-  pub fewest : length (nodes_of index) ≡ nodes_above 8 (length (leaves_of v.index))
+  pub fewest : length (nodes_of index) ≡ nodes_above level_limit (length (leaves_of v.index))
   pub nexts : NextsAreZero index
   pub order : InOrder 0 record_number_limit v.index → InOrder 0 record_number_limit index
   pub made : List ℕ
-  pub taken : AllTaken b made (levels_up 7 index)
+  pub taken : AllTaken b made (levels_up (level_limit - 1) index)
   pub linked : List ℕ
   pub heads : linked ≡ with_writes made (write v.vdr vdr_vxr_head (link_to index) ∷ write v.vdr vdr_vxr_tail (link_to index) ∷ [])
   pub linked_sound : IsSound linked (shape linked)

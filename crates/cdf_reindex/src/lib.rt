@@ -5,4 +5,5 @@ pub mod laws;
 mod pyramid;
 mod reindexing;
 
+pub use pyramid::{NODE_ENTRIES, NODE_SIZE};
 pub use reindexing::reindex;

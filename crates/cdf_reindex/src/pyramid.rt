@@ -2,31 +2,32 @@
 
 ghost use Rattle.std.specs.Prelude.{◌≡◌, ◌+◌, ◌*◌, ◌≤◌, length, IfOk, OnOk};
 ghost use Rattle.cdf_area.specs.Calls.{Edits};
-ghost use Rattle.cdf_edits.specs.Commands.Room.{nodes_above, quotient_up};
+ghost use Rattle.cdf_edits.specs.Commands.Room.{node_entries, node_size, nodes_above, quotient_up};
 ghost use Rattle.cdf_format.specs.Content.{content};
 ghost use Rattle.cdf_format.specs.Fields.{eof, gdr_offset};
 ghost use Rattle.cdf_format.specs.Shape.{shape};
 ghost use Rattle.cdf_format.specs.Sound.{IsSound};
-ghost use Rattle.cdf_model.specs.Limits.{image_limit};
-ghost use Rattle.cdf_reindex.specs.Rebuilding.{LevelMade, NodeMade, PyramidMade, naming, node_size};
+ghost use Rattle.cdf_model.specs.Limits.{image_limit, level_limit};
+ghost use Rattle.cdf_reindex.specs.Rebuilding.{LevelMade, NodeMade, PyramidMade, naming};
 
 use cdf_area::{Area, AreaError};
+use cdf_format::fields::{VXR_ENTRY_SIZE, VXR_FIRST};
 use cdf_index::{Entry, write_node};
 use cdf_space::alloc_record;
 use std::alloc::Global;
 
 /// How many entries a new node has.
-const NODE_ENTRIES: usize = 64;
+pub const NODE_ENTRIES: u64 = 64;
 
 /// The bytes of a node with as many entries.
-const NODE_SIZE: u64 = 1052;
+pub const NODE_SIZE: u64 = VXR_FIRST + VXR_ENTRY_SIZE * NODE_ENTRIES;
 
 /// Takes a record and makes a node of it, with these entries and none behind it. Gives its place.
 /// After an error a part of this may have been done.
 fn place_node<A: Area>(area: &mut A, entries: &[Entry]) -> Result<u64, AreaError>
     requires sound { IsSound (A.image area.old) (shape (A.image area.old)) }
     requires eof { eof (A.image area.old) (gdr_offset (A.image area.old)) ≡ length (A.image area.old) }
-    requires few { length entries.now ≤ 64 }
+    requires few { length entries.now ≤ node_entries }
     requires room { length (A.image area.old) + node_size ≤ (A.frame area.old).limit }
     requires limit { (A.frame area.old).limit ≤ image_limit }
     ensures made { IfOk result (NodeMade (A.image area.old) (A.image area.new) entries.now) }
@@ -37,7 +38,7 @@ fn place_node<A: Area>(area: &mut A, entries: &[Entry]) -> Result<u64, AreaError
     ensures area { Edits A.frame A.faults area.old area.new result }
 {
     let place = alloc_record(area, NODE_SIZE)?;
-    write_node(area, place, NODE_ENTRIES as u64, 0, entries)?;
+    write_node(area, place, NODE_ENTRIES, 0, entries)?;
     Ok(place)
 }
 
@@ -62,17 +63,17 @@ fn write_level<A: Area>(
 ) -> Result<Vec<Entry>, AreaError>
     requires sound { IsSound (A.image area.old) (shape (A.image area.old)) }
     requires eof { eof (A.image area.old) (gdr_offset (A.image area.old)) ≡ length (A.image area.old) }
-    requires room { length (A.image area.old) + node_size * quotient_up (length entries.now) 64 ≤ (A.frame area.old).limit }
+    requires room { length (A.image area.old) + node_size * quotient_up (length entries.now) node_entries ≤ (A.frame area.old).limit }
     requires limit { (A.frame area.old).limit ≤ image_limit }
     ensures made { IfOk result (λ uppers. LevelMade (A.image area.old) (A.image area.new) entries.now uppers.items) }
     ensures sound { OnOk result (IsSound (A.image area.new) (shape (A.image area.new))) }
     ensures content { OnOk result (content (A.image area.new) ≡ content (A.image area.old)) }
     ensures eof { OnOk result (eof (A.image area.new) (gdr_offset (A.image area.new)) ≡ length (A.image area.new)) }
-    ensures longest { OnOk result (length (A.image area.new) ≤ length (A.image area.old) + node_size * quotient_up (length entries.now) 64) }
+    ensures longest { OnOk result (length (A.image area.new) ≤ length (A.image area.old) + node_size * quotient_up (length entries.now) node_entries) }
     ensures area { Edits A.frame A.faults area.old area.new result }
 {
     let mut uppers = Vec::new(alloc);
-    for node in entries.chunks(NODE_ENTRIES) {
+    for node in entries.chunks(NODE_ENTRIES as usize) {
         let place = place_node(area, node)?;
         uppers.push(naming(place, node))?;
     }
@@ -90,13 +91,13 @@ pub fn write_levels<A: Area>(
     requires eof { eof (A.image area.old) (gdr_offset (A.image area.old)) ≡ length (A.image area.old) }
     requires some { 1 ≤ length entries.now }
     requires few { length entries.now ≤ 2147483648 }
-    requires room { length (A.image area.old) + node_size * nodes_above 8 (length entries.now) ≤ (A.frame area.old).limit }
+    requires room { length (A.image area.old) + node_size * nodes_above level_limit (length entries.now) ≤ (A.frame area.old).limit }
     requires limit { (A.frame area.old).limit ≤ image_limit }
     ensures made { IfOk result (λ top. PyramidMade (A.image area.old) (A.image area.new) entries.now top) }
     ensures sound { OnOk result (IsSound (A.image area.new) (shape (A.image area.new))) }
     ensures content { OnOk result (content (A.image area.new) ≡ content (A.image area.old)) }
     ensures eof { OnOk result (eof (A.image area.new) (gdr_offset (A.image area.new)) ≡ length (A.image area.new)) }
-    ensures longest { OnOk result (length (A.image area.new) ≤ length (A.image area.old) + node_size * nodes_above 8 (length entries.now)) }
+    ensures longest { OnOk result (length (A.image area.new) ≤ length (A.image area.old) + node_size * nodes_above level_limit (length entries.now)) }
     ensures area { Edits A.frame A.faults area.old area.new result }
 {
     let mut level = write_level(alloc, area, entries)?;

@@ -3,7 +3,7 @@
 ghost use Rattle.std.specs.Prelude.{◌≡◌, ◌+◌, ◌*◌, ◌≤◌, List, length, IfOk, OnOk};
 ghost use Rattle.cdf_area.specs.Calls.{Edits};
 ghost use Rattle.cdf_edits.proofs.Edits.VdrEdited.{StandsAmong};
-ghost use Rattle.cdf_edits.specs.Commands.Room.{nodes_above, reindex_room};
+ghost use Rattle.cdf_edits.specs.Commands.Room.{node_size, nodes_above, reindex_room};
 ghost use Rattle.cdf_format.specs.Content.{content};
 ghost use Rattle.cdf_format.specs.Fields.{eof, gdr_offset, number};
 ghost use Rattle.cdf_format.specs.Records.{vdr_vxr_head};
@@ -12,9 +12,8 @@ ghost use Rattle.cdf_format.specs.Sound.{IsSound};
 ghost use Rattle.cdf_format.specs.Tiles.{In};
 ghost use Rattle.cdf_format.specs.WellFormed.{Good};
 ghost use Rattle.cdf_index.specs.Finding.{index_at};
-ghost use Rattle.cdf_model.specs.Limits.{image_limit};
+ghost use Rattle.cdf_model.specs.Limits.{image_limit, level_limit};
 ghost use Rattle.cdf_model.specs.declared.kinds.Kind.{Kind};
-ghost use Rattle.cdf_reindex.specs.Rebuilding.{node_size};
 ghost use Rattle.cdf_reindex.specs.Reindexed.{IsRebuilt, Reindexed};
 ghost use Rattle.cdf_reindex.specs.Reindexing.{HasOld, IndexMade};
 
@@ -32,10 +31,10 @@ fn write_index<A: Area>(alloc: Global, area: &mut A, entries: &[Entry]) -> Resul
     requires sound { IsSound (A.image area.old) (shape (A.image area.old)) }
     requires eof { eof (A.image area.old) (gdr_offset (A.image area.old)) ≡ length (A.image area.old) }
     requires few { length entries.now ≤ 2147483648 }
-    requires room { length (A.image area.old) + node_size * nodes_above 8 (length entries.now) ≤ (A.frame area.old).limit }
+    requires room { length (A.image area.old) + node_size * nodes_above level_limit (length entries.now) ≤ (A.frame area.old).limit }
     requires limit { (A.frame area.old).limit ≤ image_limit }
     ensures made { IfOk result (λ top. IndexMade (A.image area.old) (A.image area.new) entries.now top) }
-    ensures longest { OnOk result (length (A.image area.new) ≤ length (A.image area.old) + node_size * nodes_above 8 (length entries.now)) }
+    ensures longest { OnOk result (length (A.image area.new) ≤ length (A.image area.old) + node_size * nodes_above level_limit (length entries.now)) }
     ensures area { Edits A.frame A.faults area.old area.new result }
 {
     if entries.is_empty() {
@@ -57,7 +56,7 @@ fn rebuild<A: Area>(
     requires eof { eof (A.image area.old) (gdr_offset (A.image area.old)) ≡ length (A.image area.old) }
     requires old { HasOld (A.image area.old) vdr leaves.now nodes.now }
     requires few { length leaves.now ≤ 2147483648 }
-    requires room { length (A.image area.old) + node_size * nodes_above 8 (length leaves.now) ≤ (A.frame area.old).limit }
+    requires room { length (A.image area.old) + node_size * nodes_above level_limit (length leaves.now) ≤ (A.frame area.old).limit }
     requires limit { (A.frame area.old).limit ≤ image_limit }
     ensures rebuilt { OnOk result ((old : HasOld (A.image area.old) vdr leaves.now nodes.now) → IsRebuilt (A.image area.old) (A.image area.new) old.variable) }
     ensures sound { OnOk result (IsSound (A.image area.new) (shape (A.image area.new))) }

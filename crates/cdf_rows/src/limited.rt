@@ -10,11 +10,8 @@ use cdf_model::limits::IMAGE_LIMIT;
 use cdf_model::{Command, Outcome};
 use cdf_reply::reply_text;
 use cdf_script::{Parsed, parse_line};
-use cdf_session::Session;
+use cdf_session::{NEW_SIZE, Session};
 use std::alloc::Global;
-
-/// The bytes of a new file.
-const NEW_BYTES: u64 = 404;
 
 /// What is answered to a line.
 #[derive(Drop)]
@@ -26,7 +23,7 @@ struct Answer {
 /// A session over a new file that may grow to so many bytes.
 fn new_within(alloc: Global, limit: u64) -> Result<Session<MemArea>> {
     ensure!(
-        (NEW_BYTES..=IMAGE_LIMIT).contains(&limit),
+        (NEW_SIZE..=IMAGE_LIMIT).contains(&limit),
         "no image has the limit {limit}"
     );
     let area = MemArea::new(alloc, Vec::new(alloc), limit);

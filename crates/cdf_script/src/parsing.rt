@@ -9,7 +9,8 @@ ghost use Rattle.cdf_script.specs.Asking.{Parses};
 use crate::arguments::Arguments;
 use crate::command::read_command;
 pub use crate::fault::ParseError;
-use cdf_lines::{LINE_LIMIT, Line};
+use cdf_lines::Line;
+use cdf_model::limits::LINE_LIMIT;
 use cdf_model::{Command, LineError};
 use std::alloc::Global;
 

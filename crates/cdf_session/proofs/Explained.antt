@@ -1,12 +1,12 @@
 -- Why no session began, by the count of the area's faults.
-use Rattle.std.proofs.Common.{◌≡◌, ◌<◌, ◌≤◌, ℕ, Result, Ok, Err, refl, subst, arith}
-use Rattle.std.specs.Prelude.{IfErr}
+use Rattle.std.proofs.Common.{◌≡◌, ◌<◌, ◌≤◌, ℕ, List, Result, Ok, Err, ◌∙◌, refl, subst, arith}
+use Rattle.cdf_area.specs.Frame.{Frame}
 use Rattle.cdf_area.specs.declared.area.AreaError.{AreaError}
 use Rattle.cdf_area.specs.declared.area.AreaError.TheVariants as areas
 use Rattle.cdf_base.specs.Causes.{HasCauseOf}
 use Rattle.cdf_session.specs.declared.refusal.AdoptError.TheVariants as errors
 use Rattle.cdf_session.specs.declared.refusal.Refusal.{Refusal}
-use Rattle.cdf_session.specs.Sessions.{Explains}
+use Rattle.cdf_session.specs.Sessions.{Begins, Explains}
 
 -- by the error of a call over the area
 pub explained : {T : Type 0} (error : AreaError) (before now : ℕ) → HasCauseOf {T = T} areas.Fault before now (Err error) → Explains (errors.Failed error) before now
@@ -16,7 +16,8 @@ explained areas.NoMemory before now cause =
     let not_less : before < now → ⊥ = λ less. cc (cause.counted less) in
     omega (arith, later, not_less)
 
--- after a call that saw no fault
-pub explained_after : {A T : Type 0} (faults_of : A → ℕ) (before mid : ℕ) → mid ≡ before → (r : Result T (Refusal A)) → IfErr r (λ e. Explains e.why mid (faults_of e.area)) → IfErr r (λ e. Explains e.why before (faults_of e.area))
-explained_after faults_of before mid same (Ok session) why = tt
-explained_after faults_of before mid same (Err e) why = subst (λ (n : ℕ). Explains e.why n (faults_of e.area)) same why
+-- after a call that read the area and saw no fault
+pub begins_after : {A U : Type 0} (image_of : A → List ℕ) (frame_of : A → Frame U) (faults_of : A → ℕ) (area mid : A) → image_of mid ≡ image_of area → frame_of mid ≡ frame_of area → faults_of mid ≡ faults_of area
+    → (r : Result A (Refusal A)) → Begins image_of frame_of faults_of mid r → Begins image_of frame_of faults_of area r
+begins_after image_of frame_of faults_of area mid same frame faults (Ok session) b = record { frame = b.frame ∙ frame; counted = b.counted ∙ faults; image = tt; frame_back = tt; cause = tt }
+begins_after image_of frame_of faults_of area mid same frame faults (Err e) b = record { frame = tt; counted = tt; image = b.image ∙ same; frame_back = b.frame_back ∙ frame; cause = subst (λ (n : ℕ). Explains e.why n (faults_of e.area)) faults b.cause }

@@ -7,9 +7,9 @@ ghost use Rattle.cdf_format.specs.WellFormed.{Good, WellFormed};
 ghost use Rattle.cdf_session.specs.Loading.{AreOf};
 
 use crate::loading::{Loaded, load};
-use crate::reading::has_checksum;
 use cdf_area::{Area, AreaError};
-use cdf_format::fields::{CDR_PLACE, TRAILER_SIZE};
+use cdf_format::fields::{CDR_CHECKSUM_BIT, CDR_PLACE, TRAILER_SIZE};
+use cdf_format::flags::has_bit;
 use cdf_records::read_cdr;
 use cdf_seal::Front;
 use std::alloc::Global;
@@ -21,7 +21,7 @@ fn trailer_size<A: Area>(area: &mut A) -> Result<u64, AreaError>
     ensures area { Reads A.image A.frame A.faults A.edited area.old area.new result }
 {
     let cdr = read_cdr(area, CDR_PLACE)?;
-    if has_checksum(cdr.flags) {
+    if has_bit(cdr.flags, CDR_CHECKSUM_BIT) {
         Ok(TRAILER_SIZE)
     } else {
         Ok(0)

@@ -6,11 +6,13 @@ mod checksum;
 mod deleting;
 mod loading;
 mod new_file;
+mod on_attributes;
 mod on_records;
 mod on_variables;
 mod reading;
 mod refusal;
 mod session;
 
+pub use new_file::NEW_SIZE;
 pub use refusal::{AdoptError, Refusal};
 pub use session::Session;

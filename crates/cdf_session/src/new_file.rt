@@ -7,14 +7,16 @@ ghost use Rattle.cdf_session.specs.Loading.{AreOf};
 
 use crate::loading::{Loaded, load};
 use cdf_area::{Area, AreaError};
-use cdf_format::fields::{CDR_PLACE, CDR_SIZE, CDR_TYPE, GDR_SIZE, GDR_TYPE};
+use cdf_format::fields::{
+    CDR_PLACE, CDR_SIZE, CDR_TYPE, GDR_SIZE, GDR_TYPE, MAGIC_UNCOMPRESSED, MAGIC_VERSION_3,
+};
 use std::alloc::{AllocError, Global};
 
 /// Where the Global Descriptor Record of the new file stands, behind the CDF Descriptor Record.
 const GDR_PLACE: u64 = CDR_PLACE + CDR_SIZE;
 
 /// The bytes of the new file.
-const NEW_SIZE: u64 = GDR_PLACE + GDR_SIZE;
+pub const NEW_SIZE: u64 = GDR_PLACE + GDR_SIZE;
 
 /// The number -1 in 4 bytes.
 const MINUS_ONE: u32 = 0xffff_ffff;
@@ -53,7 +55,7 @@ fn new_bytes(alloc: Global) -> Result<Vec<u8>, AllocError>
     ensures { IfOk result (λ bytes. bytes.items ≡ new_image) }
 {
     let mut bytes = Vec::new(alloc);
-    push_4_bytes(&mut bytes, &[0xcdf3_0001, 0x0000_ffff])?;
+    push_4_bytes(&mut bytes, &[MAGIC_VERSION_3, MAGIC_UNCOMPRESSED])?;
     push_8_bytes(&mut bytes, &[CDR_SIZE])?;
     push_4_bytes(&mut bytes, &[CDR_TYPE])?;
     push_8_bytes(&mut bytes, &[GDR_PLACE])?;

@@ -1,12 +1,9 @@
 //! The commands on variables as such, and `setup`, as a session carries them out.
 
-ghost use Rattle.std.specs.Prelude.{◌≡◌, true, length, IfOk, OnErr};
+ghost use Rattle.std.specs.Prelude.{◌≡◌, length, IfOk, OnErr};
 ghost use Rattle.cdf_area.specs.Calls.{Edits};
 ghost use Rattle.cdf_edits.specs.Answers.{Answers};
-ghost use Rattle.cdf_edits.specs.Follows.{only_reads};
-ghost use Rattle.cdf_model.specs.Sayable.{Fit, Sayable};
-ghost use Rattle.cdf_session.specs.Built.{built_on_variables};
-ghost use Rattle.cdf_session.specs.Sessions.{AnswersBuilt};
+ghost use Rattle.cdf_model.specs.Sayable.{Fit};
 
 use crate::deleting::delete_variable;
 use crate::session::{Session, settle};
@@ -15,45 +12,8 @@ use cdf_model::{Command, DataType, Majority, Nums, Outcome, Varys, Words};
 use cdf_vars::set_up;
 
 impl<A: Area> Session<A> {
-    /// Carries out a command on variables or on their records, or `setup`. One that there is not yet is a word that is not known. After a refusal and after an error the image is as before.
-    pub(crate) fn apply_to_variables(&mut self, command: &Command) -> Result<Outcome, AreaError>
-        requires { Sayable command.now }
-        ensures answers { IfOk result (λ o. AnswersBuilt (built_on_variables command.now) (A.frame self.old).limit (A.image self.old) command.now o (A.image self.new)) }
-        ensures stays { OnErr result (A.image self.new ≡ A.image self.old) }
-        ensures unedited { only_reads command.now ≡ true → A.edited self.new ≡ A.edited self.old }
-        ensures area { Edits A.frame A.faults self.old self.new result }
-    {
-        match command {
-            Command::Setup {
-                encoding,
-                majority,
-                dims,
-            } => self.setup(*encoding, *majority, dims),
-            Command::RVar {
-                name,
-                t,
-                elems,
-                vary,
-                varys,
-            } => self.rvar(name.as_slice(), *t, *elems, *vary, varys),
-            Command::ZVar {
-                name,
-                t,
-                elems,
-                vary,
-                dims,
-                varys,
-            } => self.zvar(name.as_slice(), *t, *elems, *vary, dims, varys),
-            Command::RenameVar { from, to } => self.rename_var(from.as_slice(), to.as_slice()),
-            Command::DelVar { name } => self.del_var(name.as_slice()),
-            Command::SetPad { var, words } => self.set_pad(var.as_slice(), words),
-            Command::SetBlocking { var, n } => self.set_blocking(var.as_slice(), *n),
-            _ => self.apply_to_records(command),
-        }
-    }
-
     /// The command `setup`.
-    fn setup(
+    pub(crate) fn setup(
         &mut self,
         encoding: u32,
         majority: Majority,
@@ -70,7 +30,7 @@ impl<A: Area> Session<A> {
     }
 
     /// The command `rvar`.
-    fn rvar(
+    pub(crate) fn rvar(
         &mut self,
         name: &[u8],
         t: DataType,
@@ -91,7 +51,7 @@ impl<A: Area> Session<A> {
     }
 
     /// The command `zvar`.
-    fn zvar(
+    pub(crate) fn zvar(
         &mut self,
         name: &[u8],
         t: DataType,
@@ -113,7 +73,7 @@ impl<A: Area> Session<A> {
     }
 
     /// The command `rename-var`.
-    fn rename_var(&mut self, from: &[u8], to: &[u8]) -> Result<Outcome, AreaError>
+    pub(crate) fn rename_var(&mut self, from: &[u8], to: &[u8]) -> Result<Outcome, AreaError>
         ensures answers { IfOk result (λ o. Answers (A.frame self.old).limit (A.image self.old) (Command.RenameVar from.now to.now) o (A.image self.new)) }
         ensures stays { OnErr result (A.image self.new ≡ A.image self.old) }
         ensures area { Edits A.frame A.faults self.old self.new result }
@@ -125,7 +85,7 @@ impl<A: Area> Session<A> {
     }
 
     /// The command `del-var`.
-    fn del_var(&mut self, name: &[u8]) -> Result<Outcome, AreaError>
+    pub(crate) fn del_var(&mut self, name: &[u8]) -> Result<Outcome, AreaError>
         ensures answers { IfOk result (λ o. Answers (A.frame self.old).limit (A.image self.old) (Command.DelVar name.now) o (A.image self.new)) }
         ensures stays { OnErr result (A.image self.new ≡ A.image self.old) }
         ensures area { Edits A.frame A.faults self.old self.new result }
@@ -136,7 +96,7 @@ impl<A: Area> Session<A> {
     }
 
     /// The command `set-pad`.
-    fn set_pad(&mut self, var: &[u8], words: &Words) -> Result<Outcome, AreaError>
+    pub(crate) fn set_pad(&mut self, var: &[u8], words: &Words) -> Result<Outcome, AreaError>
         requires one { length words.now ≡ 1 }
         requires fit { Fit words.now }
         ensures answers { IfOk result (λ o. Answers (A.frame self.old).limit (A.image self.old) (Command.SetPad var.now words.now) o (A.image self.new)) }
@@ -150,7 +110,7 @@ impl<A: Area> Session<A> {
     }
 
     /// The command `set-blocking`.
-    fn set_blocking(&mut self, var: &[u8], n: u32) -> Result<Outcome, AreaError>
+    pub(crate) fn set_blocking(&mut self, var: &[u8], n: u32) -> Result<Outcome, AreaError>
         ensures answers { IfOk result (λ o. Answers (A.frame self.old).limit (A.image self.old) (Command.SetBlocking var.now n) o (A.image self.new)) }
         ensures stays { OnErr result (A.image self.new ≡ A.image self.old) }
         ensures area { Edits A.frame A.faults self.old self.new result }

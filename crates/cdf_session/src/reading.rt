@@ -2,8 +2,8 @@
 
 ghost use Rattle.std.specs.Prelude.{◌≡◌, ◌+◌, ◌≤◌, IfOk};
 ghost use Rattle.cdf_area.specs.Calls.{Reads};
-ghost use Rattle.cdf_format.specs.Content.{content, majority_of};
-ghost use Rattle.cdf_format.specs.Fields.{has_bit, r_num_dims, r_sizes, LiesIn, number};
+ghost use Rattle.cdf_format.specs.Content.{content};
+ghost use Rattle.cdf_format.specs.Fields.{r_num_dims, r_sizes, LiesIn, number};
 ghost use Rattle.cdf_format.specs.WellFormed.{Good};
 ghost use Rattle.cdf_format.specs.Records.{gdr_r_num_dims, gdr_r_dim_sizes};
 ghost use Rattle.cdf_model.specs.Limits.{dimension_limit};
@@ -12,27 +12,11 @@ ghost use Rattle.cdf_records.specs.Heads.{gdr_at};
 ghost use Rattle.cdf_session.specs.Heads.{head_with};
 
 use cdf_area::{Area, AreaError};
-use cdf_format::fields::{CDR_PLACE, GDR_R_DIM_SIZE};
-use cdf_model::{Head, Majority, Nums};
+use cdf_format::fields::{CDR_CHECKSUM_BIT, CDR_PLACE, GDR_R_DIM_SIZE};
+use cdf_format::flags::{has_bit, majority_in};
+use cdf_model::{Head, Nums};
 use cdf_records::{Cdr, Gdr, read_cdr, read_gdr, read_nums};
 use std::alloc::Global;
-
-fn majority_in(flags: u32) -> Majority
-    ensures { result ≡ majority_of (has_bit flags 0) }
-{
-    if flags % 2 == 1 {
-        Majority::Row
-    } else {
-        Majority::Column
-    }
-}
-
-/// Whether a checksum is in use.
-pub fn has_checksum(flags: u32) -> bool
-    ensures { result ≡ has_bit flags 2 }
-{
-    flags / 4 % 2 == 1
-}
 
 /// The head that the two records and the sizes of the dimensions give.
 fn head_from(cdr: &Cdr, gdr: &Gdr, rdims: Nums) -> Head
@@ -44,7 +28,7 @@ fn head_from(cdr: &Cdr, gdr: &Gdr, rdims: Nums) -> Head
         increment: cdr.increment,
         encoding: cdr.encoding.cast_unsigned(),
         majority: majority_in(cdr.flags),
-        md5: has_checksum(cdr.flags),
+        md5: has_bit(cdr.flags, CDR_CHECKSUM_BIT),
         rdims,
         attrs: gdr.num_attr.cast_unsigned(),
         rvars: gdr.nr_vars.cast_unsigned(),

@@ -10,10 +10,13 @@ ghost use Rattle.cdf_format.specs.Owners.{space_of as taken_by};
 ghost use Rattle.cdf_format.specs.Shape.{shape};
 ghost use Rattle.cdf_format.specs.WellFormed.{Good, WellFormed};
 ghost use Rattle.cdf_model.specs.Limits.{image_limit};
-ghost use Rattle.cdf_model.specs.Sayable.{CanBeGiven, Fit, Sayable};
+ghost use Rattle.cdf_model.specs.Sayable.{Sayable};
+ghost use Rattle.cdf_model.specs.declared.answer.LineError.TheVariants.{UnknownWord};
+ghost use Rattle.cdf_model.specs.declared.answer.Outcome.TheVariants.{Refused};
+ghost use Rattle.cdf_model.specs.declared.answer.Reason.TheVariants.{BadLine};
 ghost use Rattle.cdf_session.specs.Built.{built};
 ghost use Rattle.cdf_session.specs.Seals.{seal_of};
-ghost use Rattle.cdf_session.specs.Sessions.{Adopts, AnswersBuilt, Explains, IsOpen, IsNoVerdict, Rejects};
+ghost use Rattle.cdf_session.specs.Sessions.{Adopts, AnswersBuilt, Begins, IsOpen, IsNoVerdict, Rejects};
 
 use crate::adopting::take_up;
 use crate::checksum::{read_seal, set_checksum};
@@ -23,7 +26,7 @@ use crate::refusal::{AdoptError, Refusal};
 use cdf_area::{Area, AreaError};
 use cdf_attrs::Attrs;
 use cdf_check::check;
-use cdf_model::{Command, DataType, EntryKind, Items, Outcome, Reply, Scope, Space, Words};
+use cdf_model::{Command, Items, LineError, Outcome, Reason, Reply, Space};
 use cdf_space::space_of;
 use cdf_vars::Vars;
 use std::alloc::Global;
@@ -65,19 +68,26 @@ pub(crate) fn settle<A: Area>(
     done
 }
 
+/// What is answered to a command that there is not yet.
+fn unknown_word() -> Outcome
+    ensures { result ≡ Refused (BadLine (UnknownWord 0)) }
+{
+    Outcome::Refused {
+        reason: Reason::BadLine {
+            fault: LineError::UnknownWord { at: 0 },
+        },
+    }
+}
+
 impl<A: Area> Session<A> {
     /// Takes up the file that an area holds, with its trailer, which is dropped.
     pub fn adopt(alloc: Global, area: A) -> Result<Session<A>, Refusal<A>>
         requires unmarked { (A.frame area).base ≡ None }
         requires limit { (A.frame area).limit ≡ image_limit }
         ensures adopted { IfOk result (λ session. Adopts (A.image area) (A.image session)) }
-        ensures frame { IfOk result (λ session. A.frame session ≡ A.frame area) }
-        ensures counted { IfOk result (λ session. A.faults session ≡ A.faults area) }
         ensures unedited { IfOk result (λ session. A.edited session ≡ A.edited area) }
         ensures rejected { IfErr result (λ r. Rejects (A.image area) r.why) }
-        ensures image { IfErr result (λ r. A.image r.area ≡ A.image area) }
-        ensures frame_back { IfErr result (λ r. A.frame r.area ≡ A.frame area) }
-        ensures cause { IfErr result (λ r. Explains r.why (A.faults area) (A.faults r.area)) }
+        ensures area { Begins A.image A.frame A.faults area result }
     {
         let mut area = area;
         match check(alloc, &mut area) {
@@ -99,13 +109,9 @@ impl<A: Area> Session<A> {
         requires unmarked { (A.frame area).base ≡ None }
         requires limit { (A.frame area).limit ≡ image_limit }
         ensures adopted { IfOk result (λ session. Adopts (A.image area) (A.image session)) }
-        ensures frame { IfOk result (λ session. A.frame session ≡ A.frame area) }
-        ensures counted { IfOk result (λ session. A.faults session ≡ A.faults area) }
         ensures unedited { IfOk result (λ session. A.edited session ≡ A.edited area) }
         ensures not_rejected { IfErr result (λ r. IsNoVerdict r.why) }
-        ensures image { IfErr result (λ r. A.image r.area ≡ A.image area) }
-        ensures frame_back { IfErr result (λ r. A.frame r.area ≡ A.frame area) }
-        ensures cause { IfErr result (λ r. Explains r.why (A.faults area) (A.faults r.area)) }
+        ensures area { Begins A.image A.frame A.faults area result }
     {
         let mut area = area;
         match take_up(alloc, &mut area) {
@@ -129,12 +135,8 @@ impl<A: Area> Session<A> {
         requires room { new_size ≤ (A.frame area).limit }
         requires limit { (A.frame area).limit ≤ image_limit }
         ensures created { IfOk result (λ session. A.image session ≡ new_image) }
-        ensures frame { IfOk result (λ session. A.frame session ≡ A.frame area) }
-        ensures counted { IfOk result (λ session. A.faults session ≡ A.faults area) }
         ensures not_rejected { IfErr result (λ r. IsNoVerdict r.why) }
-        ensures image { IfErr result (λ r. A.image r.area ≡ A.image area) }
-        ensures frame_back { IfErr result (λ r. A.frame r.area ≡ A.frame area) }
-        ensures cause { IfErr result (λ r. Explains r.why (A.faults area) (A.faults r.area)) }
+        ensures area { Begins A.image A.frame A.faults area result }
     {
         let mut area = area;
         area.mark();
@@ -169,6 +171,7 @@ impl<A: Area> Session<A> {
         match command {
             Command::Info => self.info(),
             Command::List => self.list(),
+            Command::Checksum { md5 } => self.checksum(*md5),
             Command::Attr { name, scope } => self.attr(name.as_slice(), *scope),
             Command::RenameAttr { from, to } => self.rename_attr(from.as_slice(), to.as_slice()),
             Command::DelAttr { name } => self.del_attr(name.as_slice()),
@@ -181,8 +184,41 @@ impl<A: Area> Session<A> {
                 t,
                 words,
             } => self.put_entry(attr.as_slice(), *kind, *num, *t, words),
-            Command::Checksum { md5 } => self.checksum(*md5),
-            _ => self.apply_to_variables(command),
+            Command::Setup {
+                encoding,
+                majority,
+                dims,
+            } => self.setup(*encoding, *majority, dims),
+            Command::RVar {
+                name,
+                t,
+                elems,
+                vary,
+                varys,
+            } => self.rvar(name.as_slice(), *t, *elems, *vary, varys),
+            Command::ZVar {
+                name,
+                t,
+                elems,
+                vary,
+                dims,
+                varys,
+            } => self.zvar(name.as_slice(), *t, *elems, *vary, dims, varys),
+            Command::RenameVar { from, to } => self.rename_var(from.as_slice(), to.as_slice()),
+            Command::DelVar { name } => self.del_var(name.as_slice()),
+            Command::SetPad { var, words } => self.set_pad(var.as_slice(), words),
+            Command::SetBlocking { var, n } => self.set_blocking(var.as_slice(), *n),
+            Command::Reindex { var } => self.reindex(var.as_slice()),
+            Command::PutRec { var, rec, words } => self.put_rec(var.as_slice(), *rec, words),
+            Command::GetRec { var, rec } => self.get_rec(var.as_slice(), *rec),
+            Command::PutVal {
+                var,
+                rec,
+                index,
+                words,
+            } => self.put_val(var.as_slice(), *rec, index, words),
+            Command::GetVal { var, rec, index } => self.get_val(var.as_slice(), *rec, index),
+            _ => Ok(unknown_word()),
         }
     }
 
@@ -211,87 +247,12 @@ impl<A: Area> Session<A> {
         })
     }
 
-    /// The command `attr`.
-    fn attr(&mut self, name: &[u8], scope: Scope) -> Result<Outcome, AreaError>
-        requires scope { CanBeGiven scope }
-        ensures answers { IfOk result (λ o. Answers (A.frame self.old).limit (A.image self.old) (Command.Attr name.now scope) o (A.image self.new)) }
-        ensures stays { OnErr result (A.image self.new ≡ A.image self.old) }
-        ensures area { Edits A.frame A.faults self.old self.new result }
-    {
-        self.area.mark();
-        let done = self.attrs.create(&mut self.area, name, scope);
-        settle(&mut self.area, done)
-    }
-
-    /// The command `rename-attr`.
-    fn rename_attr(&mut self, from: &[u8], to: &[u8]) -> Result<Outcome, AreaError>
-        ensures answers { IfOk result (λ o. Answers (A.frame self.old).limit (A.image self.old) (Command.RenameAttr from.now to.now) o (A.image self.new)) }
-        ensures stays { OnErr result (A.image self.new ≡ A.image self.old) }
-        ensures area { Edits A.frame A.faults self.old self.new result }
-    {
-        self.area.mark();
-        let done = self.attrs.rename(&mut self.area, from, to);
-        settle(&mut self.area, done)
-    }
-
-    /// The command `del-attr`.
-    fn del_attr(&mut self, name: &[u8]) -> Result<Outcome, AreaError>
-        ensures answers { IfOk result (λ o. Answers (A.frame self.old).limit (A.image self.old) (Command.DelAttr name.now) o (A.image self.new)) }
-        ensures stays { OnErr result (A.image self.new ≡ A.image self.old) }
-        ensures area { Edits A.frame A.faults self.old self.new result }
-    {
-        self.area.mark();
-        let done = self.attrs.remove(&mut self.area, name);
-        settle(&mut self.area, done)
-    }
-
     /// What the records of the image take.
     pub fn space(&mut self) -> Result<Space, AreaError>
         ensures value { IfOk result (λ space. space ≡ taken_by (A.image self.old) (shape (A.image self.old))) }
         ensures area { Reads A.image A.frame A.faults A.edited self.old self.new result }
     {
         space_of(&mut self.area)
-    }
-
-    /// The command `get-entry`.
-    fn get_entry(&mut self, attr: &[u8], kind: EntryKind, num: u32) -> Result<Outcome, AreaError>
-        ensures answers { IfOk result (λ o. Answers (A.frame self.old).limit (A.image self.old) (Command.GetEntry attr.now kind num) o (A.image self.new)) }
-        ensures area { Reads A.image A.frame A.faults A.edited self.old self.new result }
-    {
-        self.attrs.get_entry(&mut self.area, attr, kind, num)
-    }
-
-    /// The command `del-entry`.
-    fn del_entry(&mut self, attr: &[u8], kind: EntryKind, num: u32) -> Result<Outcome, AreaError>
-        ensures answers { IfOk result (λ o. Answers (A.frame self.old).limit (A.image self.old) (Command.DelEntry attr.now kind num) o (A.image self.new)) }
-        ensures stays { OnErr result (A.image self.new ≡ A.image self.old) }
-        ensures area { Edits A.frame A.faults self.old self.new result }
-    {
-        self.area.mark();
-        let done = self.attrs.del_entry(&mut self.area, attr, kind, num);
-        settle(&mut self.area, done)
-    }
-
-    /// The command `put-entry`.
-    fn put_entry(
-        &mut self,
-        attr: &[u8],
-        kind: EntryKind,
-        num: u32,
-        t: DataType,
-        words: &Words,
-    ) -> Result<Outcome, AreaError>
-        requires some { 1 ≤ length words.now }
-        requires fit { Fit words.now }
-        ensures answers { IfOk result (λ o. Answers (A.frame self.old).limit (A.image self.old) (Command.PutEntry attr.now kind num t words.now) o (A.image self.new)) }
-        ensures stays { OnErr result (A.image self.new ≡ A.image self.old) }
-        ensures area { Edits A.frame A.faults self.old self.new result }
-    {
-        self.area.mark();
-        let done = self
-            .attrs
-            .put_entry(&mut self.area, attr, kind, num, t, words);
-        settle(&mut self.area, done)
     }
 
     /// The command `checksum`.

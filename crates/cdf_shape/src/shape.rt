@@ -4,10 +4,8 @@ ghost use Rattle.std.specs.Prelude.{◌≡◌, ◌≤◌, ◌*◌, ◌-◌, ◌^
 ghost use Rattle.std.specs.Option.{SomeIff};
 ghost use Rattle.cdf_model.specs.Place.{record_limit, record_size, value_count};
 
+use cdf_model::limits::RECORD_LIMIT;
 use cdf_model::{DataType, Nums, Varys};
-
-/// The most bytes of a record.
-const RECORD_LIMIT: u64 = 67_108_864;
 
 /// What a record of a variable holds: a value for each combination of indices of the dimensions that vary.
 #[derive(Drop)]

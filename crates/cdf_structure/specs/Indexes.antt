@@ -8,7 +8,7 @@ use Rattle.cdf_format.specs.Fields.{holds, size_at, counted, with_sign}
 use Rattle.cdf_format.specs.Index.{Nodes, Entries, Leaf, leaves_of, entry_leaves, room_at, used_count, first_at, last_at, offset_at}
 use Rattle.cdf_format.specs.IndexRules.{has_room, nodes_rows, used_rows, end_of}
 use Rattle.cdf_format.specs.IndexWalk.{met, lost, entries_on, levels_on}
-use Rattle.cdf_format.specs.Records.{vvr_records}
+use Rattle.cdf_format.specs.Records.{linked_size, vvr_records}
 use Rattle.cdf_format.specs.RecordTypes.{vvr_type}
 use Rattle.cdf_format.specs.Rules.{Row, row, asked}
 use Rattle.cdf_format.specs.Shape.{index_of}
@@ -32,7 +32,7 @@ pub record IsNodeAt (b : List ℕ) (place : ℕ) (node : Node) : Type 0 where
   pub used_is : node.used ≡ used_count b place
   pub has_room_is : node.has_room ≡ has_room b place
   pub next_is : node.next ≡ next_of b place
-  pub long : 28 ≤ size_at b place
+  pub long : linked_size ≤ size_at b place
   pub fits : place + size_at b place ≤ length b
 
 -- its entry with a number

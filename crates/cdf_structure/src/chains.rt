@@ -3,7 +3,7 @@
 ghost use Rattle.std.specs.Prelude.{◌≡◌, ◌+◌, ◌≤◌, ◌<◌, ℕ, length, IfOk};
 ghost use Rattle.cdf_area.specs.Calls.{Reads};
 ghost use Rattle.cdf_format.specs.ChainRules.{count_rows, number_rows};
-ghost use Rattle.cdf_format.specs.Records.{field};
+ghost use Rattle.cdf_format.specs.Records.{field, cdr_place};
 ghost use Rattle.cdf_format.specs.RecordTypes.{fixed_size};
 ghost use Rattle.cdf_format.specs.Tiles.{In, AreTiles};
 ghost use Rattle.cdf_format.specs.Walks.{whole};
@@ -77,7 +77,7 @@ pub fn check_numbered<A: Area>(
     kind: Numbered,
     holder: u64,
 ) -> Result<Result<Vec<u64>, Finding>, AreaError>
-    requires tiled { AreTiles (A.image area.old) 8 (length (A.image area.old)) tiles.now }
+    requires tiled { AreTiles (A.image area.old) cdr_place (length (A.image area.old)) tiles.now }
     requires long { AreLong (A.image area.old) tiles.now }
     requires head { holder + kind.head + 8 ≤ length (A.image area.old) }
     requires count { holder + kind.count + 4 ≤ length (A.image area.old) }

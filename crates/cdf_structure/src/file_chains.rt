@@ -5,6 +5,8 @@ ghost use Rattle.cdf_area.specs.Calls.{Reads};
 ghost use Rattle.cdf_format.specs.ChainRules.{phase5};
 ghost use Rattle.cdf_format.specs.Fields.{gdr_offset};
 ghost use Rattle.cdf_format.specs.Tiles.{AreTiles};
+ghost use Rattle.cdf_format.specs.Records.{cdr_place};
+ghost use Rattle.cdf_format.specs.RecordTypes.{fixed_size, gdr_type};
 ghost use Rattle.cdf_structure.specs.FileChains.{AreLong, AreChains, member_rows, unused_rows};
 ghost use Rattle.cdf_structure.specs.Findings.{Finds, Yields};
 
@@ -60,10 +62,10 @@ fn check_members<A: Area>(
     tiles: &[u64],
     gdr: u64,
 ) -> Result<Result<Chains, Finding>, AreaError>
-    requires tiled { AreTiles (A.image area.old) 8 (length (A.image area.old)) tiles.now }
+    requires tiled { AreTiles (A.image area.old) cdr_place (length (A.image area.old)) tiles.now }
     requires long { AreLong (A.image area.old) tiles.now }
     requires gdr { gdr ≡ gdr_offset (A.image area.old) }
-    requires room { gdr + 84 ≤ length (A.image area.old) }
+    requires room { gdr + fixed_size gdr_type ≤ length (A.image area.old) }
     ensures found { IfOk result (Yields (member_rows (A.image area.old) tiles.now) (AreChains (A.image area.old) tiles.now)) }
     ensures area { Reads A.image A.frame A.faults A.edited area.old area.new result }
 {
@@ -93,9 +95,9 @@ fn check_unused<A: Area>(
     tiles: &[u64],
     gdr: u64,
 ) -> Result<Option<Finding>, AreaError>
-    requires tiled { AreTiles (A.image area.old) 8 (length (A.image area.old)) tiles.now }
+    requires tiled { AreTiles (A.image area.old) cdr_place (length (A.image area.old)) tiles.now }
     requires gdr { gdr ≡ gdr_offset (A.image area.old) }
-    requires room { gdr + 84 ≤ length (A.image area.old) }
+    requires room { gdr + fixed_size gdr_type ≤ length (A.image area.old) }
     ensures found { IfOk result (Finds (unused_rows (A.image area.old) tiles.now)) }
     ensures area { Reads A.image A.frame A.faults A.edited area.old area.new result }
 {
@@ -114,7 +116,7 @@ pub fn check_chains<A: Area>(
     tiles: &[u64],
     gdr: u64,
 ) -> Result<Result<Chains, Finding>, AreaError>
-    requires tiled { AreTiles (A.image area.old) 8 (length (A.image area.old)) tiles.now }
+    requires tiled { AreTiles (A.image area.old) cdr_place (length (A.image area.old)) tiles.now }
     requires long { AreLong (A.image area.old) tiles.now }
     requires gdr { gdr ≡ gdr_offset (A.image area.old) }
     ensures found { IfOk result (Yields (phase5 (A.image area.old) tiles.now) (AreChains (A.image area.old) tiles.now)) }

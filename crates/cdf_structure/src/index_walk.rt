@@ -2,11 +2,13 @@
 
 ghost use Rattle.std.specs.Prelude.{◌≡◌, ◌+◌, ◌++◌, ◌∷◌, [], ◌≤◌, ◌<◌, ◌^◌, length, true, false, IfOk, OnOk, None};
 ghost use Rattle.cdf_area.specs.Calls.{Reads};
+ghost use Rattle.cdf_model.specs.Limits.{level_limit};
 ghost use Rattle.cdf_format.specs.Chains.{is_linkable};
 ghost use Rattle.cdf_format.specs.IndexRules.{is_between, is_block};
 ghost use Rattle.cdf_format.specs.Rules.{row};
 ghost use Rattle.cdf_format.specs.Tiles.{AreTiles};
 ghost use Rattle.cdf_format.specs.Fields.{size_at};
+ghost use Rattle.cdf_format.specs.Records.{cdr_place};
 ghost use Rattle.cdf_structure.specs.Met.{Agrees};
 ghost use Rattle.cdf_structure.specs.Indexes.{IsNodeAt, WalksNodes, WalksEntries, FindsMore, Enters, EndsAt, block_in};
 
@@ -85,7 +87,7 @@ fn is_between(between: Between, entry: Entry) -> bool
 
 /// Whether the block of records stands at a place.
 fn is_block<A: Area>(area: &mut A, tiles: &[u64], place: u64) -> Result<bool, AreaError>
-    requires tiled { AreTiles (A.image area.old) 8 (length (A.image area.old)) tiles.now }
+    requires tiled { AreTiles (A.image area.old) cdr_place (length (A.image area.old)) tiles.now }
     ensures value { IfOk result (λ is. is ≡ is_block (A.image area.old) tiles.now place) }
     ensures area { Reads A.image A.frame A.faults A.edited area.old area.new result }
 {
@@ -102,7 +104,7 @@ fn enter<A: Area>(
     index: &mut Index,
     place: u64,
 ) -> Result<Node, AreaError>
-    requires tiled { AreTiles (A.image area.old) 8 (length (A.image area.old)) _tiles.now }
+    requires tiled { AreTiles (A.image area.old) cdr_place (length (A.image area.old)) _tiles.now }
     requires linkable { is_linkable (A.image area.old) _tiles.now 6 place ≡ true }
     requires agrees { Agrees index.old.nodes }
     ensures node { IfOk result (Enters (A.image area.old) index.old index.new place) }
@@ -124,7 +126,7 @@ fn add_block<A: Area>(
     entry: Entry,
     is_ordered: bool,
 ) -> Result<(), AreaError>
-    requires tiled { AreTiles (A.image area.old) 8 (length (A.image area.old)) tiles.now }
+    requires tiled { AreTiles (A.image area.old) cdr_place (length (A.image area.old)) tiles.now }
     ensures nodes { index.new.nodes ≡ index.old.nodes }
     ensures blocks { OnOk result (index.new.blocks.items ≡ index.old.blocks.items ++ block_in entry ∷ []) }
     ensures found { OnOk result (FindsMore index.old.broken index.new.broken (row 3 node (is_block (A.image area.old) tiles.now entry.offset) ∷ row 4 node is_ordered ∷ [])) }
@@ -154,9 +156,9 @@ fn walk_entry<A: Area>(
     between: Between,
     index: &mut Index,
 ) -> Result<Result<i64, u64>, AreaError>
-    requires tiled { AreTiles (A.image area.old) 8 (length (A.image area.old)) tiles.now }
+    requires tiled { AreTiles (A.image area.old) cdr_place (length (A.image area.old)) tiles.now }
     requires small { length (A.image area.old) < 2 ^ 31 }
-    requires few { levels ≤ 8 }
+    requires few { levels ≤ level_limit }
     requires node { IsNodeAt (A.image area.old) node.now.place node.now }
     requires fits { node.now.place + size_at (A.image area.old) node.now.place ≤ length (A.image area.old) }
     requires used { i < node.now.used }
@@ -198,9 +200,9 @@ fn walk_entries<A: Area>(
     between: Between,
     index: &mut Index,
 ) -> Result<Result<i64, u64>, AreaError>
-    requires tiled { AreTiles (A.image area.old) 8 (length (A.image area.old)) tiles.now }
+    requires tiled { AreTiles (A.image area.old) cdr_place (length (A.image area.old)) tiles.now }
     requires small { length (A.image area.old) < 2 ^ 31 }
-    requires few { levels ≤ 8 }
+    requires few { levels ≤ level_limit }
     requires node { IsNodeAt (A.image area.old) node.now.place node.now }
     requires fits { node.now.place + size_at (A.image area.old) node.now.place ≤ length (A.image area.old) }
     requires agrees { Agrees index.old.nodes }
@@ -242,9 +244,9 @@ pub fn walk_nodes<A: Area>(
     between: Between,
     index: &mut Index,
 ) -> Result<Result<(), u64>, AreaError>
-    requires tiled { AreTiles (A.image area.old) 8 (length (A.image area.old)) tiles.now }
+    requires tiled { AreTiles (A.image area.old) cdr_place (length (A.image area.old)) tiles.now }
     requires small { length (A.image area.old) < 2 ^ 31 }
-    requires few { levels ≤ 8 }
+    requires few { levels ≤ level_limit }
     requires agrees { Agrees index.old.nodes }
     ensures walk { IfOk result (WalksNodes (A.image area.old) tiles.now levels chain between index.old index.new) }
     ensures area { Reads A.image A.frame A.faults A.edited area.old area.new result }

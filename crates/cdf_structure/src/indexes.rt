@@ -7,7 +7,7 @@ ghost use Rattle.cdf_model.specs.Place.{record_limit};
 ghost use Rattle.cdf_format.specs.Fields.{number};
 ghost use Rattle.cdf_format.specs.IndexRules.{met_rows, phase8};
 ghost use Rattle.cdf_format.specs.Owners.{variable_records};
-ghost use Rattle.cdf_format.specs.Records.{vdr_vxr_head};
+ghost use Rattle.cdf_format.specs.Records.{vdr_vxr_head, cdr_place};
 ghost use Rattle.cdf_format.specs.Rules.{Hold};
 ghost use Rattle.cdf_format.specs.Shape.{index_of, is_compressed, variable_shape};
 ghost use Rattle.cdf_format.specs.Tiles.{AreTiles};
@@ -24,11 +24,8 @@ use crate::links::is_a;
 use crate::nodes::with_sign;
 use cdf_area::{Area, AreaError};
 use cdf_format::fields::{VVR_RECORDS, VVR_TYPE};
-use cdf_model::limits::RECORD_NUMBER_LIMIT;
+use cdf_model::limits::{LEVEL_LIMIT, RECORD_NUMBER_LIMIT};
 use std::alloc::Global;
-
-/// The most levels of nodes.
-const LEVELS: u64 = 8;
 
 /// How many records a block has.
 fn count_records(block: &Block) -> u64
@@ -45,7 +42,7 @@ fn check_block<A: Area>(
     rec_bytes: u64,
     block: &Block,
 ) -> Result<Option<Finding>, AreaError>
-    requires tiled { AreTiles (A.image area.old) 8 (length (A.image area.old)) tiles.now }
+    requires tiled { AreTiles (A.image area.old) cdr_place (length (A.image area.old)) tiles.now }
     requires small { rec_bytes ≤ record_limit }
     ensures found { IfOk result (Finds (block_rows (A.image area.old) tiles.now rec_bytes block.now)) }
     ensures area { Reads A.image A.frame A.faults A.edited area.old area.new result }
@@ -70,7 +67,7 @@ fn check_blocks<A: Area>(
     rec_bytes: u64,
     blocks: &[Block],
 ) -> Result<Option<Finding>, AreaError>
-    requires tiled { AreTiles (A.image area.old) 8 (length (A.image area.old)) tiles.now }
+    requires tiled { AreTiles (A.image area.old) cdr_place (length (A.image area.old)) tiles.now }
     requires small { rec_bytes ≤ record_limit }
     ensures found { IfOk result (Finds (flat_map (block_rows (A.image area.old) tiles.now rec_bytes) blocks.now)) }
     ensures area { Reads A.image A.frame A.faults A.edited area.old area.new result }
@@ -91,7 +88,7 @@ fn walk_index<A: Area>(
     vdr: u64,
     head: u64,
 ) -> Result<Result<Index, u64>, AreaError>
-    requires tiled { AreTiles (A.image area.old) 8 (length (A.image area.old)) tiles.now }
+    requires tiled { AreTiles (A.image area.old) cdr_place (length (A.image area.old)) tiles.now }
     requires small { length (A.image area.old) < 2 ^ 31 }
     requires head { head ≡ number (A.image area.old) vdr vdr_vxr_head }
     ensures walk { IfOk result (WalksIndex (A.image area.old) tiles.now vdr) }
@@ -106,7 +103,7 @@ fn walk_index<A: Area>(
         high: i64::from(RECORD_NUMBER_LIMIT),
     };
     let mut index = Index::new(alloc);
-    match walk_nodes(area, tiles, LEVELS, chain, between, &mut index)? {
+    match walk_nodes(area, tiles, LEVEL_LIMIT, chain, between, &mut index)? {
         Ok(()) => Ok(Ok(index)),
         Err(place) => Ok(Err(place)),
     }
@@ -121,7 +118,7 @@ fn check_index<A: Area>(
     rec_bytes: u64,
     head: u64,
 ) -> Result<Result<Index, Finding>, AreaError>
-    requires tiled { AreTiles (A.image area.old) 8 (length (A.image area.old)) tiles.now }
+    requires tiled { AreTiles (A.image area.old) cdr_place (length (A.image area.old)) tiles.now }
     requires small { length (A.image area.old) < 2 ^ 31 }
     requires read { AreRead (A.image area.old) tiles.now }
     requires head { head ≡ number (A.image area.old) vdr vdr_vxr_head }
@@ -168,7 +165,7 @@ pub fn check_indexes<A: Area>(
     record_sizes: &[u64],
     vxr_heads: &[u64],
 ) -> Result<Result<Vec<u64>, Finding>, AreaError>
-    requires tiled { AreTiles (A.image area.old) 8 (length (A.image area.old)) tiles.now }
+    requires tiled { AreTiles (A.image area.old) cdr_place (length (A.image area.old)) tiles.now }
     requires small { length (A.image area.old) < 2 ^ 31 }
     requires read { AreRead (A.image area.old) tiles.now }
     requires described { Hold (phase7 (A.image area.old) tiles.now vdrs.now) }

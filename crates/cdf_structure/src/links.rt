@@ -3,7 +3,7 @@
 ghost use Rattle.std.specs.Prelude.{◌≡◌, ◌+◌, ◌≤◌, ◌&&◌, not, length, IfOk};
 ghost use Rattle.cdf_area.specs.Calls.{Reads};
 ghost use Rattle.cdf_format.specs.Chains.{is_in, is_a, is_linkable, chain};
-ghost use Rattle.cdf_format.specs.Records.{field};
+ghost use Rattle.cdf_format.specs.Records.{field, cdr_place};
 ghost use Rattle.cdf_format.specs.Tiles.{AreTiles};
 ghost use Rattle.cdf_structure.specs.Met.{Agrees};
 ghost use Rattle.cdf_structure.specs.Walked.{Meets, Walks};
@@ -23,7 +23,7 @@ pub fn is_a<A: Area>(
     record_type: u32,
     place: u64,
 ) -> Result<bool, AreaError>
-    requires tiled { AreTiles (A.image area.old) 8 (length (A.image area.old)) tiles.now }
+    requires tiled { AreTiles (A.image area.old) cdr_place (length (A.image area.old)) tiles.now }
     ensures value { IfOk result (λ is. is ≡ is_a (A.image area.old) tiles.now record_type place) }
     ensures area { Reads A.image A.frame A.faults A.edited area.old area.new result }
 {
@@ -41,7 +41,7 @@ pub fn is_linkable<A: Area>(
     record_type: u32,
     place: u64,
 ) -> Result<bool, AreaError>
-    requires tiled { AreTiles (A.image area.old) 8 (length (A.image area.old)) tiles.now }
+    requires tiled { AreTiles (A.image area.old) cdr_place (length (A.image area.old)) tiles.now }
     ensures value { IfOk result (λ is. is ≡ is_linkable (A.image area.old) tiles.now record_type place) }
     ensures area { Reads A.image A.frame A.faults A.edited area.old area.new result }
 {
@@ -60,7 +60,7 @@ pub fn goes_on<A: Area>(
     met: &Met,
     place: u64,
 ) -> Result<bool, AreaError>
-    requires tiled { AreTiles (A.image area.old) 8 (length (A.image area.old)) tiles.now }
+    requires tiled { AreTiles (A.image area.old) cdr_place (length (A.image area.old)) tiles.now }
     requires agrees { Agrees met.now }
     ensures value { IfOk result (λ goes. goes ≡ (is_linkable (A.image area.old) tiles.now record_type place && not (is_in place met.now.list.items))) }
     ensures area { Reads A.image A.frame A.faults A.edited area.old area.new result }
@@ -79,7 +79,7 @@ fn meet<A: Area>(
     met: &mut Met,
     place: u64,
 ) -> Result<Option<u64>, AreaError>
-    requires tiled { AreTiles (A.image area.old) 8 (length (A.image area.old)) tiles.now }
+    requires tiled { AreTiles (A.image area.old) cdr_place (length (A.image area.old)) tiles.now }
     requires agrees { Agrees met.old }
     ensures meets { IfOk result (Meets (A.image area.old) tiles.now record_type met.old met.new place) }
     ensures area { Reads A.image A.frame A.faults A.edited area.old area.new result }
@@ -102,7 +102,7 @@ pub fn walk_chain<A: Area>(
     holder: u64,
     head: u64,
 ) -> Result<Result<Vec<u64>, u64>, AreaError>
-    requires tiled { AreTiles (A.image area.old) 8 (length (A.image area.old)) tiles.now }
+    requires tiled { AreTiles (A.image area.old) cdr_place (length (A.image area.old)) tiles.now }
     requires head { holder + head + 8 ≤ length (A.image area.old) }
     ensures walk { IfOk result (Walks (chain (A.image area.old) tiles.now record_type holder (field head 8))) }
     ensures area { Reads A.image A.frame A.faults A.edited area.old area.new result }

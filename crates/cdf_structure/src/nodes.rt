@@ -4,7 +4,7 @@ ghost use Rattle.std.specs.Prelude.{◌≡◌, ◌+◌, ◌-◌, ◌/◌, ◌≤
 ghost use Rattle.cdf_area.specs.Calls.{Reads};
 ghost use Rattle.cdf_format.specs.Fields.{size_at, with_sign, word};
 ghost use Rattle.cdf_format.specs.VariableFields.{counted4};
-ghost use Rattle.cdf_format.specs.Records.{vxr_bytes};
+ghost use Rattle.cdf_format.specs.Records.{linked_size, vxr_bytes, vxr_entries, vxr_entry_size};
 ghost use Rattle.cdf_model.specs.Limits.{signed_limit};
 ghost use Rattle.cdf_structure.specs.Indexes.{IsNodeAt, IsEntryAt};
 
@@ -98,8 +98,8 @@ fn counted(number: u32) -> u64
 
 /// How many entries are used, of those that a record of this size has room for.
 fn used_of(used: u64, room: u64, size: u64) -> u64
-    requires { 28 ≤ size }
-    ensures { result ≡ min used (min room ((size - 28) / 16)) }
+    requires { linked_size ≤ size }
+    ensures { result ≡ min used (min room ((size - (vxr_entries 0).place) / vxr_entry_size)) }
 {
     used.min(room.min((size - VXR_FIRST) / VXR_ENTRY_SIZE))
 }
@@ -113,7 +113,7 @@ fn has_room(used: u32, room: u32, size: u64) -> bool
 
 /// What the node at a place says before its entries.
 pub fn read_node<A: Area>(area: &mut A, place: u64) -> Result<Node, AreaError>
-    requires long { 28 ≤ size_at (A.image area.old) place }
+    requires long { linked_size ≤ size_at (A.image area.old) place }
     requires fits { place + size_at (A.image area.old) place ≤ length (A.image area.old) }
     ensures node { IfOk result (IsNodeAt (A.image area.old) place) }
     ensures area { Reads A.image A.frame A.faults A.edited area.old area.new result }

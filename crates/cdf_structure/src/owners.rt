@@ -2,6 +2,7 @@
 
 ghost use Rattle.std.specs.Prelude.{◌≡◌, ℕ, List, ◌++◌, ◌∷◌, length, IfOk};
 ghost use Rattle.cdf_format.specs.Phases.{phase9};
+ghost use Rattle.cdf_format.specs.Records.{cdr_place};
 ghost use Rattle.cdf_structure.specs.Findings.{Finds};
 ghost use Rattle.cdf_structure.specs.Walked.{Climbs, StandsAt, Counts};
 
@@ -74,7 +75,7 @@ pub fn check_owners(
     unused: &[u64],
 ) -> Result<Option<Finding>, AllocError>
     requires climbs { Climbs tiles.now }
-    ensures found { IfOk result (Finds (phase9 tiles.now ((8 ∷ gdr ∷ members.now) ++ unused.now))) }
+    ensures found { IfOk result (Finds (phase9 tiles.now ((cdr_place ∷ gdr ∷ members.now) ++ unused.now))) }
 {
     let mut made = vec![in alloc; 0u8; tiles.len()]?;
     let counts = made.as_mut_slice();

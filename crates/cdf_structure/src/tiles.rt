@@ -5,6 +5,7 @@ ghost use Rattle.cdf_area.specs.Calls.{Reads};
 ghost use Rattle.cdf_format.specs.Fields.{size_at};
 ghost use Rattle.cdf_format.specs.RecordRules.{phase4};
 ghost use Rattle.cdf_format.specs.Tiles.{tiling};
+ghost use Rattle.cdf_format.specs.Records.{past, cdr_place, record_type};
 ghost use Rattle.cdf_structure.specs.Records.{AreRecords, AreSorted, WalksTiles, head_rows};
 ghost use Rattle.cdf_structure.specs.Findings.{Finds, Yields};
 ghost use Rattle.cdf_structure.specs.Walked.{SizesTile};
@@ -73,7 +74,7 @@ fn put_record<A: Area>(
     place: u64,
     size: u64,
 ) -> Result<(), AreaError>
-    requires room { place + 12 ≤ length (A.image area.old) }
+    requires room { place + past record_type ≤ length (A.image area.old) }
     requires size { size ≡ size_at (A.image area.old) place }
     ensures met { OnOk result (walked.new.records.all.items ≡ walked.old.records.all.items ++ place ∷ []) }
     ensures sorted { OnOk result (AreSorted (A.image area.old) walked.old → AreSorted (A.image area.old) walked.new) }
@@ -91,7 +92,7 @@ fn put_record<A: Area>(
 
 /// The records of an image, or the place where they do not go on.
 fn walk_tiles<A: Area>(alloc: Global, area: &mut A) -> Result<Result<Walked, u64>, AreaError>
-    requires { 8 ≤ length (A.image area.old) }
+    requires { cdr_place ≤ length (A.image area.old) }
     ensures walk { IfOk result (WalksTiles (A.image area.old)) }
     ensures area { Reads A.image A.frame A.faults A.edited area.old area.new result }
 {
@@ -129,7 +130,7 @@ pub fn check_tiles<A: Area>(
     alloc: Global,
     area: &mut A,
 ) -> Result<Result<Records, Finding>, AreaError>
-    requires { 8 ≤ length (A.image area.old) }
+    requires { cdr_place ≤ length (A.image area.old) }
     ensures found { IfOk result (Yields (phase4 (A.image area.old)) (AreRecords (A.image area.old))) }
     ensures area { Reads A.image A.frame A.faults A.edited area.old area.new result }
 {

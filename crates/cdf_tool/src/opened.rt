@@ -4,7 +4,7 @@ ghost use Rattle.std.specs.Prelude.{◌≡◌, ◌≢◌, ◌≤◌, ℕ, List, 
 ghost use Rattle.cdf_format.specs.WellFormed.{Good};
 ghost use Rattle.cdf_model.specs.Limits.{image_limit};
 ghost use Rattle.cdf_session.specs.Seals.{seal_of};
-ghost use Rattle.cdf_session.specs.Sessions.{Explains};
+ghost use Rattle.cdf_session.specs.Sessions.{Begins, Explains};
 ghost use Rattle.cdf_tool.specs.Areas.{EndsOver, Refuses, status_from};
 ghost use Rattle.cdf_tool.specs.Counts.{Counted, CountedIn, counts};
 ghost use Rattle.cdf_tool.specs.Ends.{EndsUnread, Opens};
@@ -38,12 +38,9 @@ fn open<A: Area>(alloc: Global, new: bool, area: A) -> Result<Session<A>, Refusa
     requires unmarked { (A.frame area).base ≡ None }
     requires limit { (A.frame area).limit ≡ image_limit }
     ensures opens { IfOk result (λ session. Opens new (A.image area) (A.image session)) }
-    ensures frame { IfOk result (λ session. A.frame session ≡ A.frame area) }
-    ensures counted { IfOk result (λ session. A.faults session ≡ A.faults area) }
     ensures unedited { new ≡ false → IfOk result (λ session. A.edited session ≡ A.edited area) }
     ensures refused { IfErr result (λ r. Refuses new (A.image area) r.why) }
-    ensures frame_back { IfErr result (λ r. A.frame r.area ≡ A.frame area) }
-    ensures cause { IfErr result (λ r. Explains r.why (A.faults area) (A.faults r.area)) }
+    ensures area { Begins A.image A.frame A.faults area result }
 {
     if new {
         Session::create(alloc, area)

@@ -2,7 +2,7 @@
 use Rattle.std.specs.Prelude.{◌≡◌, ℕ, List, ◌∷◌, ◌++◌, true, ◌||◌, ◌==◌}
 use Rattle.cdf_edits.specs.Commands.Allowances.{shapes_of}
 use Rattle.cdf_format.specs.Fields.{number, size_at}
-use Rattle.cdf_format.specs.Records.{vdr_flags}
+use Rattle.cdf_format.specs.Records.{vdr_flags, vdr_name}
 use Rattle.cdf_format.specs.Shape.{VariableShape, shape}
 use Rattle.cdf_format.specs.VariableFields.{elems_at, pad_field, type_of_variable}
 use Rattle.cdf_model.specs.declared.data_type.DataType.{DataType}
@@ -27,7 +27,7 @@ pub record IsPlace (b : List ℕ) (vdr : ℕ) (p : PadPlace) : Type 0 where
   pub at_is : p.at ≡ (pad_field b vdr).place
   pub size_is : p.size ≡ size_at b vdr
   pub flags_are : p.flags ≡ number b vdr vdr_flags
-  pub bytes : AreBytes b vdr 84
+  pub bytes : AreBytes b vdr vdr_name.place
 
 -- a value has one element, unless they are the letters of a text
 abbrev pub HasElements : DataType → ℕ → Type 0

@@ -2,8 +2,8 @@
 
 ghost use Rattle.std.specs.Prelude.{◌≡◌, ◌==◌, ◌+◌, ◌*◌, ◌≤◌, length, map, not, IfOk};
 ghost use Rattle.cdf_area.specs.Calls.{Reads};
-ghost use Rattle.cdf_format.specs.Content.{content, majority_of};
-ghost use Rattle.cdf_format.specs.Fields.{has_bit, flags, words};
+ghost use Rattle.cdf_format.specs.Content.{content};
+ghost use Rattle.cdf_format.specs.Fields.{flags, words};
 ghost use Rattle.cdf_format.specs.VariableFields.{dims_at, varys_at};
 ghost use Rattle.cdf_format.specs.WellFormed.{Good};
 ghost use Rattle.cdf_model.specs.declared.kinds.Kind.TheVariants.{Z};
@@ -15,6 +15,7 @@ use cdf_area::{Area, AreaError};
 use cdf_format::fields::{
     CDR_FLAGS, CDR_GDR_OFFSET, CDR_PLACE, GDR_R_DIM_SIZE, GDR_R_NUM_DIMS, VDR_Z_DIM_SIZE,
 };
+use cdf_format::flags::majority_in;
 use cdf_model::{Encoding, Kind, Majority, Nums, Varys};
 use cdf_records::{read_encoding, read_nums, read_unsigned4, read_unsigned8};
 use cdf_shape::Shape;
@@ -29,17 +30,6 @@ pub struct Form {
     pub shape: Shape,
     /// The encoding of the values of the file.
     pub encoding: Encoding,
-}
-
-/// The majority of a file with these Flags.
-fn majority_in(flags: u32) -> Majority
-    ensures { result ≡ majority_of (has_bit flags 0) }
-{
-    if flags % 2 == 1 {
-        Majority::Row
-    } else {
-        Majority::Column
-    }
 }
 
 /// The majority of a file.

@@ -5,7 +5,7 @@ ghost use Rattle.std.specs.List.{repeat};
 ghost use Rattle.std.specs.Option.{option_map};
 ghost use Rattle.cdf_area.specs.Calls.{Reads};
 ghost use Rattle.cdf_format.specs.Fields.{has_bit, number};
-ghost use Rattle.cdf_format.specs.Records.{vdr_vxr_head};
+ghost use Rattle.cdf_format.specs.Records.{vdr_pad_bit, vdr_variance_bit, vdr_vxr_head};
 ghost use Rattle.cdf_format.specs.WellFormed.{Good};
 ghost use Rattle.cdf_index.specs.Finding.{HasIndex};
 ghost use Rattle.cdf_index.specs.Sight.{seen};
@@ -22,7 +22,8 @@ ghost use Rattle.cdf_var_records.specs.Records.{IsForm, IsRecordShape, leaf_in, 
 use crate::extent::read_extent;
 use crate::form::Form;
 use cdf_area::{Area, AreaError};
-use cdf_format::fields::VDR_VXR_HEAD;
+use cdf_format::fields::{VDR_PAD_BIT, VDR_VARIANCE_BIT, VDR_VXR_HEAD};
+use cdf_format::flags::has_bit;
 use cdf_index::{Leaf, read_rec};
 use cdf_model::limits::RECORD_NUMBER_LIMIT;
 use cdf_model::{DataType, Encoding, default_pad};
@@ -67,16 +68,16 @@ fn in_network_order(t: DataType, encoding: Encoding, mut bytes: Vec<u8>) -> Vec<
 
 /// Whether there is a pad value, by the Flags of a descriptor.
 fn says_pad(flags: u32) -> bool
-    ensures { result ≡ has_bit flags 1 }
+    ensures { result ≡ has_bit flags vdr_pad_bit }
 {
-    flags / 2 % 2 == 1
+    has_bit(flags, VDR_PAD_BIT)
 }
 
 /// Whether records vary, by the Flags of a descriptor.
 pub fn says_vary(flags: u32) -> bool
-    ensures { result ≡ has_bit flags 0 }
+    ensures { result ≡ has_bit flags vdr_variance_bit }
 {
-    flags % 2 == 1
+    has_bit(flags, VDR_VARIANCE_BIT)
 }
 
 /// Whether a variable has no record of a number: it is past the greatest one, or records do not vary and it is not 0.
@@ -88,9 +89,9 @@ pub fn is_out_of_range(form: &Form, rec: u32) -> bool
 
 /// The number of the record that is read, by the Flags of a descriptor: 0 where records do not vary.
 fn number_of(flags: u32, rec: u32) -> u32
-    ensures { result ≡ (if has_bit flags 0 then rec else 0) }
+    ensures { result ≡ (if has_bit flags vdr_variance_bit then rec else 0) }
 {
-    if flags % 2 == 1 { rec } else { 0 }
+    if says_vary(flags) { rec } else { 0 }
 }
 
 /// The value that stands where none was written, of a variable without a pad value.

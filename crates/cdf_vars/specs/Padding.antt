@@ -8,7 +8,7 @@ use Rattle.cdf_edits.specs.Space.Adding.{Exchanged}
 use Rattle.cdf_edits.specs.Space.Placement.{Gives}
 use Rattle.cdf_edits.specs.Space.VariableChains.{variables_chain}
 use Rattle.cdf_format.specs.Fields.{number, size_at}
-use Rattle.cdf_format.specs.Records.{vdr_flags}
+use Rattle.cdf_format.specs.Records.{past, record_size, vdr_flags, vdr_pad_bit, vdr_name}
 use Rattle.cdf_format.specs.Shape.{shape}
 use Rattle.cdf_format.specs.Stored.{is_little}
 use Rattle.cdf_format.specs.VariableFields.{pad_field, value_bytes}
@@ -48,11 +48,11 @@ IsRequest b known name words (Refused reason) = (limit : ℕ) → Answers limit 
 
 -- bit 1 of Flags says that there is a pad value
 abbrev pub padded_flags : ℕ → ℕ
-padded_flags n = with_bits n 1 1 1
+padded_flags n = with_bits n vdr_pad_bit 1 1
 
 -- what follows the size of a VDR with these bytes as its pad value, which has all before that of one at a place but bit 1 of Flags
 abbrev pub padded_body : List ℕ → ℕ → List ℕ → List ℕ
-padded_body b vdr bytes = put (take ((pad_field b vdr).place - 8) (drop (vdr + 8) b)) 36 (big_bytes 4 (padded_flags (number b vdr vdr_flags))) ++ bytes
+padded_body b vdr bytes = put (take ((pad_field b vdr).place - past record_size) (drop (vdr + past record_size) b)) (vdr_flags.place - past record_size) (big_bytes vdr_flags.width (padded_flags (number b vdr vdr_flags))) ++ bytes
 
 -- it has the bytes of a value, for which the VDR had no room
 pub record IsPadded (b : List ℕ) (vdr : ℕ) (body : List ℕ) : Type 0 where
@@ -60,13 +60,13 @@ pub record IsPadded (b : List ℕ) (vdr : ℕ) (body : List ℕ) : Type 0 where
   pub is : body ≡ padded_body b vdr bytes
   pub long : length bytes ≡ value_bytes b vdr
   pub short : size_at b vdr < (pad_field b vdr).place + length bytes
-  pub read : AreBytes b vdr 84
+  pub read : AreBytes b vdr vdr_name.place
 
 -- A record with these bytes behind its size took the place of the VDR, which was freed.
 pub record MovedTo (b now : List ℕ) (kind : Kind) (vdr : ℕ) (body : List ℕ) (by : ℕ) : Type 0 where
   pub late : List ℕ
   pub exchanged : Exchanged b late (variables_chain kind) body vdr by
-  pub read : AreBytes late by 84
+  pub read : AreBytes late by vdr_name.place
   pub gives : Gives late now (shape late) (shape now) vdr
 
 -- the VDR at an index of these places moved

@@ -1,6 +1,6 @@
 //! A pad value is written where a descriptor has room for it, and else in a descriptor that takes the place of the old one.
 
-ghost use Rattle.std.specs.Prelude.{◌≡◌, ◌+◌, ◌++◌, ◌<◌, ◌≤◌, length, slice_index, None, IfOk, OnOk, OnErr};
+ghost use Rattle.std.specs.Prelude.{◌≡◌, ◌+◌, ◌-◌, ◌++◌, ◌<◌, ◌≤◌, length, slice_index, None, IfOk, OnOk, OnErr};
 ghost use Rattle.std.specs.List.{last_or};
 ghost use Rattle.byteorder.specs.Endian.{big_bytes};
 ghost use Rattle.cdf_area.specs.Calls.{Edits};
@@ -9,7 +9,7 @@ ghost use Rattle.cdf_edits.specs.Commands.Allowances.{shapes_of};
 ghost use Rattle.cdf_edits.specs.Space.Chains.{before, members_of};
 ghost use Rattle.cdf_edits.specs.Space.VariableChains.{variables_chain};
 ghost use Rattle.cdf_format.specs.Fields.{with_field};
-ghost use Rattle.cdf_format.specs.Records.{vdr_flags};
+ghost use Rattle.cdf_format.specs.Records.{vdr_flags, past, record_size};
 ghost use Rattle.cdf_format.specs.Shape.{shape, vdrs};
 ghost use Rattle.cdf_format.specs.VariableFields.{value_bytes};
 ghost use Rattle.cdf_format.specs.WellFormed.{Good};
@@ -19,19 +19,22 @@ ghost use Rattle.cdf_vars.specs.Padding.{IsPadded, MovedTo, Moves, padded_flags}
 
 use crate::chain::chain_of;
 use cdf_area::{Area, AreaError};
-use cdf_format::fields::{RECORD_TYPE, VDR_FLAGS};
+use cdf_format::fields::{RECORD_TYPE, VDR_FLAGS, VDR_PAD_BIT};
 use cdf_model::Kind;
 use cdf_records::{read_bytes, read_vdr, set_vdr_flags};
 use cdf_space::{exchange_record, free_record};
 use cdf_var_records::PadPlace;
 use std::alloc::{AllocError, Global};
 
-/// Flags of a variable that has a pad value, which bit 1 says.
+/// What the bit of Flags counts that says that there is a pad value.
+const HAS_PAD: u32 = 1 << VDR_PAD_BIT;
+
+/// Flags of a variable that has a pad value.
 fn padded(flags: u32) -> u32
     ensures { result ≡ padded_flags flags }
 {
-    let others = flags % 2 + flags / 4 * 4;
-    others + 2
+    let others = flags % HAS_PAD + flags / (2 * HAS_PAD) * (2 * HAS_PAD);
+    others + HAS_PAD
 }
 
 /// Writes a pad value where it belongs, and that there is one. After an error a part of this may have been done.
@@ -50,7 +53,7 @@ pub fn write_pad<A: Area>(area: &mut A, place: PadPlace, value: &[u8]) -> Result
 /// What follows the size of a descriptor with a pad value, from what does so in the old one up to there.
 fn padded_bytes(alloc: Global, old: &[u8], flags: u32, value: &[u8]) -> Result<Vec<u8>, AllocError>
     requires { 40 ≤ length old.now }
-    ensures { IfOk result (λ bytes. bytes.items ≡ put old.now 36 (big_bytes 4 (padded_flags flags)) ++ value.now) }
+    ensures { IfOk result (λ bytes. bytes.items ≡ put old.now (vdr_flags.place - past record_size) (big_bytes vdr_flags.width (padded_flags flags)) ++ value.now) }
 {
     let flags_at = (VDR_FLAGS - RECORD_TYPE) as usize;
     let mut bytes = Vec::new(alloc);

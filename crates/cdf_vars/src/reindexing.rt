@@ -18,17 +18,10 @@ use crate::vars::Vars;
 use cdf_area::{Area, AreaError};
 use cdf_format::fields::VDR_VXR_HEAD;
 use cdf_index::index_size;
+use cdf_model::limits::LEVEL_LIMIT;
 use cdf_model::{Outcome, Reason, Reply};
 use cdf_records::read_unsigned8;
-use cdf_reindex::reindex;
-
-/// How many levels an index has at most.
-const LEVELS: u64 = 8;
-
-/// How many entries a new node has, and its bytes.
-const NODE_ENTRIES: u64 = 64;
-
-const NODE_BYTES: u64 = 1052;
+use cdf_reindex::{NODE_ENTRIES, NODE_SIZE, reindex};
 
 /// How many new nodes there are above so many entries, level by level until one is left, in as many levels at most.
 fn nodes_above(levels: u64, entries: u64) -> u64
@@ -60,7 +53,7 @@ fn read_room<A: Area>(area: &mut A, vdr: u64) -> Result<u64, AreaError>
     let _size = area.size();
     let head = read_unsigned8(area, vdr + VDR_VXR_HEAD)?;
     let size = index_size(area, head)?;
-    Ok(NODE_BYTES * nodes_above(LEVELS, size.leaves))
+    Ok(NODE_SIZE * nodes_above(LEVEL_LIMIT, size.leaves))
 }
 
 impl Vars {

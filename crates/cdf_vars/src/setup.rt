@@ -11,6 +11,7 @@ ghost use Rattle.cdf_edits.specs.Follows.{Follows};
 ghost use Rattle.cdf_format.specs.Content.{content};
 ghost use Rattle.cdf_format.specs.Fields.{flags, gdr_offset, size_at};
 ghost use Rattle.cdf_format.specs.NewFile.{of_4_bytes};
+ghost use Rattle.cdf_format.specs.Records.{cdr_majority_bit};
 ghost use Rattle.cdf_format.specs.WellFormed.{Good};
 ghost use Rattle.cdf_model.specs.Encodings.{encoding_at};
 ghost use Rattle.cdf_model.specs.Limits.{image_limit};
@@ -19,7 +20,7 @@ ghost use Rattle.cdf_model.specs.declared.command.Command.TheVariants.{Setup};
 ghost use Rattle.cdf_vars.specs.Setup.{MakesGdr, MovesGdr, WritesHeads, gdr_fields};
 
 use cdf_area::{Area, AreaError};
-use cdf_format::fields::{CDR_PLACE, GDR_R_DIM_SIZE, GDR_SIZE, RECORD_TYPE};
+use cdf_format::fields::{CDR_MAJORITY_BIT, CDR_PLACE, GDR_R_DIM_SIZE, GDR_SIZE, RECORD_TYPE};
 use cdf_model::{Encoding, Majority, Nums, Outcome, Reason, Reply};
 use cdf_records::{
     Gdr, read_cdr, read_gdr, set_cdr_encoding, set_cdr_flags, set_cdr_gdr_offset,
@@ -39,13 +40,16 @@ struct NewCdr {
     flags: u32,
 }
 
+/// What the bit of Flags counts that says that values stand row by row.
+const BY_ROW: u32 = 1 << CDR_MAJORITY_BIT;
+
 /// Flags with another majority.
 fn majority_flags(flags: u32, majority: Majority) -> u32
-    ensures { result ≡ with_bits flags 0 1 (majority_bit majority) }
+    ensures { result ≡ with_bits flags cdr_majority_bit 1 (majority_bit majority) }
 {
-    let others = flags / 2 * 2;
+    let others = flags % BY_ROW + flags / (2 * BY_ROW) * (2 * BY_ROW);
     match majority {
-        Majority::Row => others + 1,
+        Majority::Row => others + BY_ROW,
         Majority::Column => others,
     }
 }

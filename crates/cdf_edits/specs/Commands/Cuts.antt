@@ -15,7 +15,7 @@ use Rattle.cdf_edits.specs.Index.Written.{is_taken_at, block_need, stays_put, We
 use Rattle.cdf_edits.specs.Space.Acts.{Act, Took, gave, taken}
 use Rattle.cdf_format.specs.Fields.{number, size_at}
 use Rattle.cdf_format.specs.Index.{Nodes, no_node, Leaf, leaves_of, nodes_of, room_at}
-use Rattle.cdf_format.specs.Records.{Field, vdr_max_rec, vdr_vxr_head, vdr_vxr_tail, vdr_flags, vdr_s_records, vdr_cpr_or_spr_offset, cpr_rfu_a, cpr_p_count, vxr_bytes}
+use Rattle.cdf_format.specs.Records.{Field, vdr_max_rec, vdr_vxr_head, vdr_vxr_tail, vdr_flags, vdr_compression_bit, vdr_s_records, vdr_cpr_or_spr_offset, cpr_rfu_a, cpr_p_count, cpr_bytes, vxr_bytes}
 use Rattle.cdf_format.specs.Shape.{Shape, VariableShape, Each}
 
 -- ---- `del-recs`
@@ -136,19 +136,19 @@ pub record SetsSparse (b now : List ℕ) (before after : VariableShape) (acts : 
 
 -- then a CPR is taken where there is none, or the one that there is is freed
 abbrev pub cpr_acts : List ℕ → Bool → List ℕ → List ℕ → List Act
-cpr_acts b true [] new = map (λ cpr. Took cpr 28) new
+cpr_acts b true [] new = map (λ cpr. Took cpr (cpr_bytes 1)) new
 cpr_acts b true old new = []
 cpr_acts b false old new = gave b old
 
 abbrev pub new_cpr : List (Field × ℕ)
 new_cpr = (cpr_rfu_a, 0) ∷ (cpr_p_count, 1) ∷ []
 
--- Flags: bit 2 says that records are packed; CPRorSPRoffset is -1 once nothing is packed, also where it was 0
+-- Flags say that records are packed; CPRorSPRoffset is -1 once nothing is packed, also where it was 0
 pub record SetsCompress (b now : List ℕ) (rle : Bool) (before after : VariableShape) (acts : List Act) : Type 0 where
   pub cut : List Act
   pub cuts : CutsAll b now before after cut
   pub acts_are : acts ≡ cut ++ cpr_acts b rle before.cpr after.cpr
-  pub flags_are : number now after.vdr vdr_flags ≡ with_bits (number b before.vdr vdr_flags) 2 1 (if rle then 1 else 0)
+  pub flags_are : number now after.vdr vdr_flags ≡ with_bits (number b before.vdr vdr_flags) vdr_compression_bit 1 (if rle then 1 else 0)
   pub cpr_says : before.cpr ≡ [] → Each (λ cpr. Says now cpr new_cpr) after.cpr
   pub link_is : rle ≡ false → number now after.vdr vdr_cpr_or_spr_offset ≡ 0xffffffffffffffff
   pub freed : BlocksFreedStay b now none_written acts acts

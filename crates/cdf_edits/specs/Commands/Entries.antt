@@ -1,5 +1,5 @@
 -- What `put-entry` and `del-entry` do (CDF Internal Format Description, "Attribute Entry Descriptor Record"; own: a new entry stands last in its chain, and a replaced one where the old one stood).
-use Rattle.std.specs.Prelude.{◌≡◌, ℕ, ◌+◌, List, [], ◌∷◌, ◌++◌, ◌==◌, if◌then◌else◌, Some, None}
+use Rattle.std.specs.Prelude.{◌≡◌, ℕ, List, [], ◌∷◌, ◌++◌, ◌==◌, if◌then◌else◌, Some, None}
 use Rattle.std.specs.declared.option.Option.{Option}
 use Rattle.std.specs.List.{flat_map}
 use Rattle.std.specs.Option.{option_to_list}
@@ -13,7 +13,7 @@ use Rattle.cdf_edits.specs.Space.Acts.{Act, Took, gave}
 use Rattle.cdf_format.specs.AttributeRules.{entry_bytes}
 use Rattle.cdf_format.specs.Chains.{next_field}
 use Rattle.cdf_format.specs.Fields.{number}
-use Rattle.cdf_format.specs.Records.{Field, aedr_num_strings, aedr_rfu_b, aedr_rfu_c, aedr_rfu_d, aedr_rfu_e}
+use Rattle.cdf_format.specs.Records.{Field, aedr_bytes, aedr_num_strings, aedr_rfu_b, aedr_rfu_c, aedr_rfu_d, aedr_rfu_e}
 use Rattle.cdf_format.specs.Shape.{AttributeShape}
 
 -- both may change the chain that the entry is of
@@ -37,7 +37,7 @@ abbrev pub new_aedr : List (Field × ℕ)
 new_aedr = (aedr_rfu_b, 0) ∷ (aedr_rfu_c, 0) ∷ (aedr_rfu_d, 0xffffffff) ∷ (aedr_rfu_e, 0xffffffff) ∷ []
 
 abbrev pub entry_end : List ℕ → ℕ → ℕ
-entry_end now aedr = 56 + entry_bytes now aedr
+entry_end now aedr = aedr_bytes (entry_bytes now aedr)
 
 -- an entry that is replaced
 pub record EntryMoves (b now : List ℕ) (aedr aedr' : ℕ) (acts : List Act) : Type 0 where

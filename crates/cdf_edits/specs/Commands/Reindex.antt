@@ -1,15 +1,16 @@
--- What `reindex` does (CDF Internal Format Description, "Variable Index Record"; own: nodes of 64 entries, filled from the left, level by level, and placed from the leaves up).
-use Rattle.std.specs.Prelude.{◌≡◌, ◌⊎◌, ℕ, zero, suc, List, [], ◌∷◌, ◌++◌, length, map, Some, None}
+-- What `reindex` does (CDF Internal Format Description, "Variable Index Record"; own: nodes of so many entries each, filled from the left, level by level, and placed from the leaves up).
+use Rattle.std.specs.Prelude.{◌≡◌, ◌⊎◌, ℕ, zero, suc, ◌-◌, List, [], ◌∷◌, ◌++◌, length, map, Some, None}
 use Rattle.std.specs.List.{last_or, slice_get, sum}
 use Rattle.std.specs.Option.{option_map}
+use Rattle.cdf_model.specs.Limits.{level_limit}
 use Rattle.cdf_model.specs.Names.{Found}
 use Rattle.cdf_edits.specs.Commands.Allowances.{FreedStay, no_fields, Allowances, Anything, Only, stays_all, stays_own, space_fields, of_variable}
-use Rattle.cdf_edits.specs.Commands.Room.{nodes_above}
+use Rattle.cdf_edits.specs.Commands.Room.{node_entries, node_size, nodes_above}
 use Rattle.cdf_edits.specs.Index.Written.{NodesFollow, TailFollows}
 use Rattle.cdf_edits.specs.Space.Acts.{Act, Took, gave}
 use Rattle.cdf_format.specs.Chains.{next_of}
 use Rattle.cdf_format.specs.Index.{Nodes, no_node, node, Entries, no_entry, block, lower, Leaf, leaves_of, nodes_of, entry_count, room_at}
-use Rattle.cdf_format.specs.Records.{vdr_vxr_head, vdr_vxr_tail, vxr_bytes}
+use Rattle.cdf_format.specs.Records.{vdr_vxr_head, vdr_vxr_tail}
 use Rattle.cdf_format.specs.Shape.{Shape, VariableShape, Each}
 
 abbrev pub reindex_changes : List ℕ → Shape → Found → Allowances
@@ -30,11 +31,11 @@ unfoldable mutual
   nodes_below levels (block first last place packed entries) = nodes_below levels entries
   nodes_below levels (lower first last nodes entries) = nodes_at levels nodes ++ nodes_below levels entries
 
--- each but the last has 64
+-- each but the last has as many as there is room for
 abbrev pub FullFromLeft : List (ℕ × ℕ) → Type 0
 FullFromLeft [] = Unit {0}
 FullFromLeft (n ∷ []) = Unit {0}
-FullFromLeft (n ∷ m ∷ more) = (n.1 ≡ 64) × FullFromLeft (m ∷ more)
+FullFromLeft (n ∷ m ∷ more) = (n.1 ≡ node_entries) × FullFromLeft (m ∷ more)
 
 -- the records from the first to the last of these leaves
 abbrev pub Spans : ℕ → ℕ → List Leaf → Type 0
@@ -62,16 +63,16 @@ abbrev pub levels_up : ℕ → Nodes → List ℕ
 levels_up zero nodes = map (λ pair. pair.0) (nodes_at 0 nodes)
 levels_up (suc levels) nodes = map (λ pair. pair.0) (nodes_at (suc levels) nodes) ++ levels_up levels nodes
 
--- the nodes are taken, and then the old ones are freed; an index has at most 8 levels
+-- the nodes are taken, and then the old ones are freed
 abbrev pub made_acts : List ℕ → Nodes → Nodes → List Act
-made_acts b before after = map (λ vxr. Took vxr (vxr_bytes 64)) (levels_up 7 after) ++ gave b (nodes_of before)
+made_acts b before after = map (λ vxr. Took vxr node_size) (levels_up (level_limit - 1) after) ++ gave b (nodes_of before)
 
 pub record MakesIndex (b now : List ℕ) (before after : VariableShape) (acts : List Act) : Type 0 where
   pub acts_are : acts ≡ made_acts b before.index after.index
   pub leaves_stay : leaves_of after.index ≡ leaves_of before.index
-  pub fewest : length (nodes_of after.index) ≡ nodes_above 8 (length (leaves_of after.index))
+  pub fewest : length (nodes_of after.index) ≡ nodes_above level_limit (length (leaves_of after.index))
   pub filled : IsPyramid after.index
-  pub wide : Each (λ vxr. room_at now vxr ≡ 64) (nodes_of after.index)
+  pub wide : Each (λ vxr. room_at now vxr ≡ node_entries) (nodes_of after.index)
   pub alone : Each (λ vxr. next_of now vxr ≡ 0) (nodes_of after.index)
   pub nodes : NodesFollow b now [] [] (nodes_of after.index) acts
   pub tail : TailFollows b now acts before.index before after

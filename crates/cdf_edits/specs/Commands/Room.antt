@@ -9,7 +9,7 @@ use Rattle.cdf_model.specs.declared.kinds.Kind.{Kind}
 use Rattle.cdf_model.specs.declared.kinds.Kind.TheVariants.{R, Z}
 use Rattle.cdf_model.specs.AttributeSteps.{entry_by}
 use Rattle.cdf_model.specs.DataSet.{DataSet, Entry, Variable, extent}
-use Rattle.cdf_model.specs.Limits.{record_number_limit}
+use Rattle.cdf_model.specs.Limits.{level_limit, record_number_limit}
 use Rattle.cdf_model.specs.Names.{Found, variable_named}
 use Rattle.cdf_model.specs.RecordSteps.{value_size}
 use Rattle.cdf_model.specs.Values.{notation_of}
@@ -19,7 +19,7 @@ use Rattle.cdf_format.specs.Content.{content}
 use Rattle.cdf_format.specs.Index.{Nodes, no_node, node, Entries, no_entry, block, lower, leaves_of, entry_count}
 use Rattle.cdf_format.specs.RecordTypes.{adr_type, fixed_size}
 use Rattle.cdf_format.specs.Shape.{Shape, shape}
-use Rattle.cdf_format.specs.Records.{past, gdr_r_dim_sizes, aedr_value, vdr_r_pad_value, vdr_z_pad_value, vxr_bytes, cpr_parameters, linked_size}
+use Rattle.cdf_format.specs.Records.{gdr_bytes, aedr_bytes, vdr_r_pad_value, vdr_z_pad_value, vxr_bytes, cpr_bytes, linked_size}
 
 unfoldable mutual
   -- the used entries of all nodes
@@ -86,14 +86,21 @@ del_recs_cuts_in_part v first last r = cuts_in_part first last r || (is_sparse v
 abbrev pub cut_room : Variable → Nodes → ℕ → ℕ → ℕ
 cut_room v nodes first last = vxr_bytes (widest nodes) + sum (map (λ r. 3 * linked_size + 2 * range_bytes v r) (filter (del_recs_cuts_in_part v first last) (ranges_of nodes)))
 
--- the nodes of 64 entries above so many entries, level by level until one is left
+-- a node of an index that is made anew has room for so many entries, and so many bytes
+abbrev pub node_entries : ℕ
+node_entries = 64
+
+abbrev pub node_size : ℕ
+node_size = vxr_bytes node_entries
+
+-- the nodes above so many entries, level by level until one is left
 unfoldable pub nodes_above : ℕ → ℕ → ℕ
 nodes_above zero entries = 0
 nodes_above (suc levels) zero = 0
-nodes_above (suc levels) (suc entries) = if quotient_up (suc entries) 64 == 1 then 1 else quotient_up (suc entries) 64 + nodes_above levels (quotient_up (suc entries) 64)
+nodes_above (suc levels) (suc entries) = if quotient_up (suc entries) node_entries == 1 then 1 else quotient_up (suc entries) node_entries + nodes_above levels (quotient_up (suc entries) node_entries)
 
 abbrev pub reindex_room : Nodes → ℕ
-reindex_room nodes = vxr_bytes 64 * nodes_above 8 (length (leaves_of nodes))
+reindex_room nodes = node_size * nodes_above level_limit (length (leaves_of nodes))
 
 -- ---- of each command
 
@@ -110,12 +117,12 @@ room_of_variable d s name room = elim (variable_named d name) [
 
 abbrev pub room_in : DataSet → Shape → Command → ℕ
 room_in d s (commands.Attr name scope) = fixed_size adr_type
-room_in d s (commands.PutEntry attr kind num t words) = past (aedr_value (entry_length (entry_by (notation_of t) t words)))
-room_in d s (commands.Setup encoding majority dims) = past (gdr_r_dim_sizes (length dims))
+room_in d s (commands.PutEntry attr kind num t words) = aedr_bytes (entry_length (entry_by (notation_of t) t words))
+room_in d s (commands.Setup encoding majority dims) = gdr_bytes (length dims)
 room_in d s (commands.RVar name t elems vary varys) = vdr_bytes R (length d.rdims)
 room_in d s (commands.ZVar name t elems vary dims varys) = vdr_bytes Z (length dims)
 room_in d s (commands.SetPad var words) = room_of_variable d s var (λ found nodes. vdr_bytes found.kind (length found.variable.dims) + value_size found.variable)
-room_in d s (commands.SetCompress var rle) = if rle then past (cpr_parameters 1) else 0
+room_in d s (commands.SetCompress var rle) = if rle then cpr_bytes 1 else 0
 room_in d s (commands.PutRec var rec words) = room_of_variable d s var (λ found nodes. put_room found.variable nodes rec)
 room_in d s (commands.PutVal var rec index words) = room_of_variable d s var (λ found nodes. put_room found.variable nodes rec)
 room_in d s (commands.DelRecs var first last) = room_of_variable d s var (λ found nodes. cut_room found.variable nodes first last)

@@ -1,10 +1,10 @@
 -- A change within the records of one owner: what the laws on separation speak of.
-use Rattle.std.specs.Prelude.{◌≡◌, ◌≤◌, ℕ, ◌+◌, ◌*◌, List, length, if◌then◌else◌}
+use Rattle.std.specs.Prelude.{◌≡◌, ◌≤◌, ℕ, ◌+◌, List, length, if◌then◌else◌}
 use Rattle.cdf_edits.specs.Frame.Changed.{Touch, Changed, Misses}
-use Rattle.cdf_format.specs.Chains.{is_in, IsChain, linked_types}
+use Rattle.cdf_format.specs.Chains.{is_in, IsChain, linked_types, next_field}
 use Rattle.cdf_format.specs.Content.{attribute_of, variable_of}
 use Rattle.cdf_format.specs.Fields.{number, size_at, type_at, gdr_offset, release, encoding, flags, increment, r_num_dims, r_sizes}
-use Rattle.cdf_format.specs.Records.{Field, cdr_gdr_offset, cdr_encoding, gdr_r_vdr_head, gdr_z_vdr_head, gdr_adr_head, gdr_r_num_dims, gdr_uir_head}
+use Rattle.cdf_format.specs.Records.{Field, past, record_type, cdr_place, cdr_gdr_offset, cdr_encoding, gdr_r_vdr_head, gdr_z_vdr_head, gdr_adr_head, gdr_r_num_dims, gdr_r_dim_sizes, gdr_uir_head}
 use Rattle.cdf_format.specs.RecordTypes.{adr_type, r_vdr_type, z_vdr_type, uir_type}
 use Rattle.cdf_format.specs.Shape.{AttributeShape, VariableShape, Shape, adrs, vdrs, Each, HasEntries, HasVariable}
 use Rattle.cdf_format.specs.Tiles.{In, AreTiles}
@@ -13,7 +13,7 @@ use Rattle.cdf_format.specs.Tiles.{In, AreTiles}
 
 -- what follows RecordSize, RecordType and, in a chain of the file, the next field of a record
 abbrev pub after_links : List ℕ → ℕ → ℕ
-after_links b place = if is_in (type_at b place) linked_types then 20 else 12
+after_links b place = if is_in (type_at b place) linked_types then past next_field else past record_type
 
 -- a touch within one of these records that leaves its size, its type and its next field
 pub record LeavesLinks (b own : List ℕ) (t : Touch) : Type 0 where
@@ -57,18 +57,18 @@ MissesField touches place f = Misses touches place f.place (f.place + f.width)
 
 -- touches of the CDR and the GDR that leave what others are found and read by
 pub record LeavesFinding (b : List ℕ) (s : Shape) (touches : List Touch) : Type 0 where
-  pub gdr_offset_stays : MissesField touches 8 cdr_gdr_offset
-  pub encoding_stays : MissesField touches 8 cdr_encoding
+  pub gdr_offset_stays : MissesField touches cdr_place cdr_gdr_offset
+  pub encoding_stays : MissesField touches cdr_place cdr_encoding
   pub attribute_head : MissesField touches s.gdr gdr_adr_head
   pub r_head : MissesField touches s.gdr gdr_r_vdr_head
   pub z_head : MissesField touches s.gdr gdr_z_vdr_head
   pub unused_head : MissesField touches s.gdr gdr_uir_head
   pub dimensions_stay : MissesField touches s.gdr gdr_r_num_dims
-  pub sizes_stay : Misses touches s.gdr 84 (84 + 4 * r_num_dims b s.gdr)
+  pub sizes_stay : MissesField touches s.gdr (gdr_r_dim_sizes (r_num_dims b s.gdr))
 
 -- the tiling up to the old end, the chains, and these attributes and variables stay
 pub record Leaves (b now : List ℕ) (s : Shape) (records : List ℕ) (attributes : List AttributeShape) (others : List VariableShape) : Type 0 where
-  pub tiled : AreTiles now 8 (length b) s.records
+  pub tiled : AreTiles now cdr_place (length b) s.records
   pub chains_stay : ChainsStay now records s
   pub attributes_stay : Each (AttributeStays b now records) attributes
   pub variables_stay : Each (VariableStays b now records) others

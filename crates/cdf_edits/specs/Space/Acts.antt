@@ -6,7 +6,7 @@ use Rattle.cdf_format.specs.Chains.{is_in}
 use Rattle.cdf_format.specs.Fields.{number, size_at, type_at}
 use Rattle.cdf_format.specs.Owners.{unused_records}
 use Rattle.cdf_edits.specs.Space.Placement.{unused, place_for, taken_from, given_to, eof_after, stands_behind}
-use Rattle.cdf_format.specs.Records.{uir_prev_uir}
+use Rattle.cdf_format.specs.Records.{past, linked_size, record_type, uir_prev_uir}
 use Rattle.cdf_format.specs.RecordTypes.{uir_type}
 use Rattle.cdf_format.specs.Shape.{Each, shape}
 
@@ -81,11 +81,11 @@ without place list = filter (λ pair. not (pair.0 == place)) list
 
 abbrev pub after_act : SpaceLeft → Act → SpaceLeft
 after_act left (Took place need) = record (with_listed left (taken_from left.listed need)) { used = (place, need) ∷ left.used; end = eof_after left.listed left.end need }
-after_act left (Gave place size) = record (with_listed left (given_to left.listed place size)) { used = without place left.used; loose = if nat_le 28 size then left.loose else (place, size) ∷ left.loose }
+after_act left (Gave place size) = record (with_listed left (given_to left.listed place size)) { used = without place left.used; loose = if nat_le linked_size size then left.loose else (place, size) ∷ left.loose }
 
--- each is taken where it fits first, 28 bytes at least, and what is freed is in use
+-- each is taken where it fits first, with room for the links of an unused record, and what is freed is in use
 abbrev pub Happens : SpaceLeft → Act → Type 0
-Happens left (Took place need) = (28 ≤ need) × (place ≡ place_for left.listed left.end need)
+Happens left (Took place need) = (linked_size ≤ need) × (place ≡ place_for left.listed left.end need)
 Happens left (Gave place size) = Among (place, size) left.used
 
 abbrev pub AreActs : SpaceLeft → List Act → Type 0
@@ -98,9 +98,9 @@ none_twice places [] = true
 none_twice places (Took place need ∷ more) = none_twice (place ∷ places) more
 none_twice places (Gave place size ∷ more) = not (is_in place places) && none_twice places more
 
--- the links of a record of the unused list end here; one of less than 28 bytes has none
+-- the links of a record of the unused list end here; one that has no room for them has none
 abbrev pub links_end : ℕ → ℕ
-links_end size = if nat_le 28 size then 28 else 12
+links_end size = if nat_le linked_size size then linked_size else past record_type
 
 -- a byte lies in a record that acts took
 abbrev pub lies_in_taken : List Act → ℕ → Bool
@@ -109,7 +109,7 @@ lies_in_taken acts i = list_any (λ take. nat_le take.0 i && nat_lt i (take.0 + 
 -- Behind the links of the rest of a split everything stays, but for what lay in records that were taken and then freed.
 abbrev pub RestStays : List ℕ → List ℕ → List Act → ℕ → ℕ → Type 0
 RestStays b now acts split rest = split < rest → rest < split + size_at b split
-    → (i : ℕ) → rest + 28 ≤ i → i < rest + size_at now rest → lies_in_taken acts i ≡ false → byte now i ≡ byte b i
+    → (i : ℕ) → rest + linked_size ≤ i → i < rest + size_at now rest → lies_in_taken acts i ≡ false → byte now i ≡ byte b i
 
 -- these acts lead from the space of one image to that of another
 pub record ActsFollow (b now : List ℕ) (acts : List Act) : Type 0 where

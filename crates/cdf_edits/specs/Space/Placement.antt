@@ -4,7 +4,7 @@ use Rattle.cdf_format.specs.Bytes.{byte}
 use Rattle.cdf_edits.specs.Frame.Changed.{Touch, touch, touched_field, Changed}
 use Rattle.cdf_format.specs.Chains.{is_a, is_in, IsChain}
 use Rattle.cdf_format.specs.Fields.{number, eof, size_at}
-use Rattle.cdf_format.specs.Records.{Field, record_type, gdr_eof, gdr_uir_head, uir_next_uir, uir_prev_uir}
+use Rattle.cdf_format.specs.Records.{Field, past, cdr_place, linked_size, record_type, gdr_eof, gdr_uir_head, uir_next_uir, uir_prev_uir}
 use Rattle.cdf_format.specs.RecordTypes.{uir_type}
 use Rattle.cdf_format.specs.Shape.{Shape}
 use Rattle.cdf_format.specs.Tiles.{AreTiles}
@@ -15,7 +15,7 @@ unused b s = map (λ place. (place, size_at b place)) s.unused
 
 -- a record is taken whole, or so that the rest is a record of the unused list
 abbrev pub fits : ℕ → ℕ → Bool
-fits need size = (size == need) || nat_le (need + 28) size
+fits need size = (size == need) || nat_le (need + linked_size) size
 
 -- the first record of the list that fits, else eof
 abbrev pub place_for : List (ℕ × ℕ) → ℕ → ℕ → ℕ
@@ -25,7 +25,7 @@ place_for ((place, size) ∷ more) end need = if fits need size then place else 
 -- the list after that: the rest of a larger record stays at its higher end
 abbrev pub taken_from : List (ℕ × ℕ) → ℕ → List (ℕ × ℕ)
 taken_from [] need = []
-taken_from ((place, size) ∷ more) need = if size == need then more else (if nat_le (need + 28) size then (place + need, size - need) ∷ more else (place, size) ∷ taken_from more need)
+taken_from ((place, size) ∷ more) need = if size == need then more else (if nat_le (need + linked_size) size then (place + need, size - need) ∷ more else (place, size) ∷ taken_from more need)
 
 abbrev pub eof_after : List (ℕ × ℕ) → ℕ → ℕ → ℕ
 eof_after list end need = if place_for list end need == end then end + need else end
@@ -39,7 +39,7 @@ with_space s records unused = record s { records = records; unused = unused }
 -- A shape differs from another in its records and its unused list alone, and these are those of the image.
 pub record HasSpace (now : List ℕ) (s s' : Shape) : Type 0 where
   pub rest_stays : s' ≡ with_space s s'.records s'.unused
-  pub tiled : AreTiles now 8 (length now) s'.records
+  pub tiled : AreTiles now cdr_place (length now) s'.records
   pub unused_chain : IsChain now s'.records uir_type (number now s'.gdr gdr_uir_head) s'.unused
 
 -- in a list `uir` stands directly behind `other`; `before` is the record before the list, 0 where there is none
@@ -62,9 +62,9 @@ first_back_link (uir ∷ more) = touched_field uir uir_prev_uir ∷ []
 
 -- ---- a record is taken
 
--- Of a record that is split: what is taken, and size, type and links of the rest, which are its first 28 bytes.
+-- Of a record that is split: what is taken, and size, type and links of the rest, which are its first bytes.
 abbrev pub split_width : ℕ → ℕ → ℕ
-split_width need size = if size == need then need else need + 28
+split_width need size = if size == need then need else need + linked_size
 
 -- What is touched where a record of the list is taken that a link in a field of `holder` leads to: this link, the record, and the back link of the next one. If none fits, the end of the image rises.
 abbrev pub taking : ℕ → ℕ → Field → List (ℕ × ℕ) → ℕ → List Touch
@@ -82,22 +82,22 @@ pub record Takes (b now : List ℕ) (s s' : Shape) (need place : ℕ) : Type 0 w
   pub space : HasSpace now s s'
   pub stands : is_a now s'.records uir_type place ≡ true
   pub size_is : size_at now place ≡ need
-  pub empty : (i : ℕ) → 12 ≤ i → i < need → byte now (place + i) ≡ 0
+  pub empty : (i : ℕ) → past record_type ≤ i → i < need → byte now (place + i) ≡ 0
   pub unlisted : is_in place s'.unused ≡ false
   pub back : BackLinksFollow b now s s'
   pub changed : Changed b now (taking s.gdr s.gdr gdr_uir_head (unused b s) need)
 
 -- ---- a record is freed
 
--- a record of at least 28 bytes becomes the head of the list
+-- a record with room for the links becomes the head of the list
 abbrev pub given_to : List (ℕ × ℕ) → ℕ → ℕ → List (ℕ × ℕ)
-given_to list place size = if nat_le 28 size then (place, size) ∷ list else list
+given_to list place size = if nat_le linked_size size then (place, size) ∷ list else list
 
 -- What is touched: the type; of a record that joins the list its links and UIRhead too, and PrevUIR of the old head.
 abbrev pub giving : ℕ → List ℕ → ℕ → ℕ → List Touch
 giving gdr list place size =
     touched_field place record_type
-    ∷ (if nat_le 28 size then touched_field gdr gdr_uir_head ∷ touched_field place uir_next_uir ∷ touched_field place uir_prev_uir ∷ first_back_link list else [])
+    ∷ (if nat_le linked_size size then touched_field gdr gdr_uir_head ∷ touched_field place uir_next_uir ∷ touched_field place uir_prev_uir ∷ first_back_link list else [])
 
 -- An image of a shape in which a record was freed.
 pub record Gives (b now : List ℕ) (s s' : Shape) (place : ℕ) : Type 0 where

@@ -9,7 +9,7 @@ use Rattle.cdf_edits.specs.Space.Placement.{fits, first_back_link, Takes}
 use Rattle.cdf_format.specs.Shape.{Shape}
 use Rattle.cdf_format.specs.Sound.{IsSound}
 use Rattle.cdf_format.specs.Content.{content}
-use Rattle.cdf_format.specs.Records.{Field, gdr_eof, gdr_uir_head, uir_next_uir, uir_prev_uir}
+use Rattle.cdf_format.specs.Records.{Field, past, record_type, gdr_eof, gdr_uir_head, uir_next_uir, uir_prev_uir}
 use Rattle.cdf_format.specs.RecordTypes.{uir_type}
 
 -- none of these records fits
@@ -49,8 +49,8 @@ pub record TakenBytes (b now : List ℕ) (gdr : ℕ) (front : List ℕ) (a : ℕ
   pub changed : Changed b now (touched_by gdr front a more w)
   pub size_is : size_at now a ≡ need
   pub type_is : type_at now a ≡ uir_type
-  pub empty : (i : ℕ) → 12 ≤ i → i < need → byte now (a + i) ≡ 0
-  pub link_is : word now (end_place (gdr + 64) front) 8 ≡ next
+  pub empty : (i : ℕ) → past record_type ≤ i → i < need → byte now (a + i) ≡ 0
+  pub link_is : word now (end_place (gdr + gdr_uir_head.place) front) gdr_uir_head.width ≡ next
 
 -- It was split: size, type and links of the rest.
 pub record RestBytes (b now : List ℕ) (a need before : ℕ) : Type 0 where
@@ -65,7 +65,7 @@ pub record EndBytes (b now : List ℕ) (gdr need : ℕ) : Type 0 where
   pub changed : Changed b now (touched_field gdr gdr_eof ∷ [])
   pub size_is : size_at now (length b) ≡ need
   pub type_is : type_at now (length b) ≡ uir_type
-  pub empty : (i : ℕ) → 12 ≤ i → i < need → byte now (length b + i) ≡ 0
+  pub empty : (i : ℕ) → past record_type ≤ i → i < need → byte now (length b + i) ≡ 0
   pub eof_is : eof now gdr ≡ length now
 
 -- A record was taken by first fit, and the image is sound as before, with its content.

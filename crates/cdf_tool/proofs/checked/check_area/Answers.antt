@@ -9,7 +9,7 @@ returns-in-Ok-clause-ends g c =
 
 pub returns-in-Ok-clause-counted : goal.returns-in-Ok-clause-counted
 returns-in-Ok-clause-counted g c = λ source.
-    transport (λ i. Counted (counts (c.in-Ok.ensures.counted i) 0 (g.O.Sink.faults c.args.out.now) source) (counts (g.A.Area.faults (sym c.into_area-area.ensures.area i)) 0 (g.O.Sink.faults c.confirm-status.new.out) source) c.confirm-status.result)
+    transport (λ i. Counted (counts (c.in-Ok.ensures.area.counted i) 0 (g.O.Sink.faults c.args.out.now) source) (counts (g.A.Area.faults (sym c.into_area-area.ensures.area i)) 0 (g.O.Sink.faults c.confirm-status.new.out) source) c.confirm-status.result)
     (c.confirm-status.ensures.counted source)
 
 pub returns-in-Ok-clause-told : goal.returns-in-Ok-clause-told
@@ -22,4 +22,4 @@ pub returns-in-Err-clause-ends : goal.returns-in-Err-clause-ends
 returns-in-Err-clause-ends g c = inl (c.refuse-status.ensures.ends false (g.A.Area.image c.args.area) c.in-Err.ensures.rejected)
 
 pub returns-in-Err-clause-counted : goal.returns-in-Err-clause-counted
-returns-in-Err-clause-counted g c = λ source. c.refuse-status.ensures.counted _ _ source c.in-Err.ensures.cause
+returns-in-Err-clause-counted g c = λ source. c.refuse-status.ensures.counted _ _ source c.in-Err.ensures.area.cause

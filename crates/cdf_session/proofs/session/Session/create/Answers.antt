@@ -1,4 +1,7 @@
+use Rattle.std.proofs.Common.{ap, sym, ◌∙◌}
+use Rattle.cdf_area.specs.Frame.{Frame}
 use Rattle.cdf_session.proofs.NewFileLemmas.{new_open}
+use Rattle.cdf_session.proofs.OpenLemmas.{frame_back, some_same}
 use Rattle.cdf_session.proofs.Explained.{explained}
 use Rattle.cdf_session.proofs.session.Session.create.Goals as goal
 
@@ -9,7 +12,14 @@ invariant_of-result g c =
     c.requires.unmarked c.requires.room c.requires.limit c.mark.ensures.frame c.write_new.ensures.area.frame c.keep.ensures.frame
     c.in-Ok.ensures.image c.keep.ensures.image c.in-Ok.ensures.known.attributes c.in-Ok.ensures.known.variables
 
-pub returns-in-Err-clause-cause : goal.returns-in-Err-clause-cause
-returns-in-Err-clause-cause g c =
+pub returns-in-Err-clause-area : goal.returns-in-Err-clause-area
+returns-in-Err-clause-area g c =
     let why = explained c.in-Err.error _ _ c.in-Err.ensures.area.cause in
-    rw (c.undo.ensures.faults, ← c.mark.ensures.faults) why
+    let marked = c.write_new.ensures.area.frame ∙ c.mark.ensures.frame in
+    record {
+      frame = tt;
+      counted = tt;
+      image = some_same _ _ (sym (ap (λ (m : Frame _). m.base) marked) ∙ c.undo.ensures.image);
+      frame_back = frame_back _ _ _ _ c.requires.unmarked marked c.undo.ensures.frame;
+      cause = rw (c.undo.ensures.faults, ← c.mark.ensures.faults) why;
+    }

@@ -10,5 +10,6 @@ invariant_of-result g c =
 pub returns-in-Ok-clause-adopted : goal.returns-in-Ok-clause-adopted
 returns-in-Ok-clause-adopted g c = adopted (g.A.Area.image c.args.area) (g.A.Area.image c.take_up.new.area) c.requires.well_formed c.in-Ok.ensures.image
 
-pub returns-in-Err-clause-cause : goal.returns-in-Err-clause-cause
-returns-in-Err-clause-cause g c = explained c.in-Err.error _ _ c.in-Err.ensures.area.cause
+pub returns-in-Err-clause-area : goal.returns-in-Err-clause-area
+returns-in-Err-clause-area g c =
+    record { frame = tt; counted = tt; image = c.in-Err.ensures.stays; frame_back = c.take_up.ensures.area.frame; cause = explained c.in-Err.error _ _ c.in-Err.ensures.area.cause }
