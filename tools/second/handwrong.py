@@ -173,6 +173,7 @@ CASES = [
     ('entries become -1 that no index used', 'UnusedCleared', unused_filled(), put(4, 1)),
     ('a field of a freed ADR holds another number', 'FreedFieldChanged', ENTRIES, C('del-attr', name=b'A')),
     ('a field of a freed VDR holds another number', 'FreedFieldChanged', FOUR + [put(0, 7)], C('del-var', name=b'T')),
+    ('a freed VDR leads to its node', 'IndexNotEmptied', FOUR + [put(0, 7)], C('del-var', name=b'T')),
     ('a field of the old GDR holds another number', 'FreedFieldChanged', [], C('setup', encoding=1, row=True, dims=[2])),
     ('a new index has a root too many', 'ReindexTooHigh', FOUR + [put(0, 7)], C('reindex', name=b'T')),
 ]

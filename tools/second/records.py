@@ -333,3 +333,5 @@ class Records(Space):
             self.give(leaf.at)
         for node in nodes:
             self.give(node)
+        self[vdr, Vdr.VXRhead] = 0
+        self[vdr, Vdr.VXRtail] = 0

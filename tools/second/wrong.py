@@ -244,6 +244,17 @@ class FreedFieldChanged(Wrong):
             self[at, field] = 77
 
 
+class IndexNotEmptied(Wrong):
+    """VXRhead or VXRtail of a freed VDR stays."""
+    commands = ('del-var',)
+
+    def free_index(self, vdr):
+        link = (Vdr.VXRhead, Vdr.VXRtail)[len(self.data) // 4 % 2]
+        before = self[vdr, link]
+        super().free_index(vdr)
+        self[vdr, link] = before
+
+
 # ---- blocks
 
 class FirstCutFreesLate(Wrong):

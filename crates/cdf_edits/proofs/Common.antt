@@ -21,18 +21,18 @@ pub use Rattle.cdf_edits.specs.Commands.EntryChains.{GreatestIs, chain_fields, c
 pub use Rattle.cdf_edits.specs.Commands.GreatestRecord.{r_max_rec}
 pub use Rattle.cdf_edits.specs.Commands.Keeps.{allowances}
 pub use Rattle.cdf_edits.specs.Commands.Named.{OfAttribute, is_attribute}
-pub use Rattle.cdf_edits.specs.Commands.NewRecords.{with_bits}
+pub use Rattle.cdf_edits.specs.Commands.NewRecords.{Says, with_bits}
 pub use Rattle.cdf_edits.specs.Commands.Others.{is_on_attributes, is_on_variables}
 pub use Rattle.cdf_edits.specs.Commands.Puts.{put_changes}
 pub use Rattle.cdf_edits.specs.Commands.Room.{room}
-pub use Rattle.cdf_edits.specs.Commands.Variables.{AttributeFollows, RMaxRecOf, SetsPad, del_var_changes, entries_allowance, entries_for, fields_beside, freed_with_variable, is_global_attribute, set_pad_changes, variables_gdr_fields}
+pub use Rattle.cdf_edits.specs.Commands.Variables.{AttributeFollows, RMaxRecOf, SetsPad, del_var_changes, emptied_fields, entries_allowance, entries_for, fields_beside, freed_with_variable, is_global_attribute, no_index, set_pad_changes, variables_gdr_fields}
 pub use Rattle.cdf_edits.specs.Edits.DropsEntries.{AttributeDropped, DropsEntries, IsDropped}
 pub use Rattle.cdf_edits.specs.Edits.Edit.{Edit}
 pub use Rattle.cdf_edits.specs.Edits.EntryMarks.{count_field, entries_chain, head_field, keeps_but_chain, keeps_other, with_chain}
 pub use Rattle.cdf_edits.specs.Edits.FallenNumbers.{fallen}
 pub use Rattle.cdf_edits.specs.Edits.ManyMarks.{deleting_marks, freeing_marks, unlinking_marks, wholes}
 pub use Rattle.cdf_edits.specs.Edits.Marks.{Among, Avoids, Away, Confined, Covered, Lies, Mark, Marked, Within, all_unmarked, append_marks, attribute_types, avoided, ended, field_marks, giving_marks, index_types, is_late, keeps_file, keeps_index_records, keeps_variables, making_marks, mark, removing_marks, replacing_marks, taking_marks, unmarked, variable_types, whole, within}
-pub use Rattle.cdf_edits.specs.Edits.RemovesVariable.{RemovesVariable, UnlinksVariable, greatest_at, numbers_on, r_max_writes, variable_removing_marks, variable_unlinking_marks}
+pub use Rattle.cdf_edits.specs.Edits.RemovesVariable.{RemovesVariable, UnlinksVariable, empty_writes, greatest_at, numbers_on, r_max_writes, variable_removing_marks, variable_unlinking_marks}
 pub use Rattle.cdf_edits.specs.Edits.Unlinks.{Unlinks}
 pub use Rattle.cdf_edits.specs.Edits.Writes.{Write, numbers_from, with_writes, write}
 pub use Rattle.cdf_edits.specs.Follows.{Follows, only_reads}
@@ -83,7 +83,7 @@ pub use Rattle.cdf_format.specs.NotRead.{read_types, unread_type}
 pub use Rattle.cdf_format.specs.Owners.{File, OneAttribute, OneVariable, OwnedOnce, Owner, Unused, attribute_records, owned, owned_by, owned_by_attributes, owned_by_variables, owned_records, times, unused_records, variable_records}
 pub use Rattle.cdf_format.specs.Phases.{first_phases}
 pub use Rattle.cdf_format.specs.RecordTypes.{adr_type, agr_edr_type, az_edr_type, cdr_type, cpr_type, cvvr_type, fixed_size, gdr_type, is_record_type, r_vdr_type, uir_type, vvr_type, vxr_type, z_vdr_type}
-pub use Rattle.cdf_format.specs.Records.{Field, adr_agr_edr_head, adr_az_edr_head, adr_name, adr_ngr_entries, adr_num, adr_nz_entries, adr_scope, aedr_attr_num, aedr_data_type, aedr_num, aedr_num_elems, aedr_value, cdr_encoding, cdr_flags, cdr_gdr_offset, cdr_increment, cdr_release, cpr_c_type, cpr_p_count, cpr_parameter, cvvr_c_size, field, gdr_adr_head, gdr_eof, gdr_nr_vars, gdr_num_attr, gdr_nz_vars, gdr_r_dim_sizes, gdr_r_max_rec, gdr_r_num_dims, gdr_r_vdr_head, gdr_uir_head, gdr_z_vdr_head, record_size, record_type, uir_next_uir, uir_prev_uir, vdr_blocking_factor, vdr_cpr_or_spr_offset, vdr_data_type, vdr_flags, vdr_max_rec, vdr_name, vdr_num, vdr_num_elems, vdr_r_dim_vary, vdr_r_pad_value, vdr_s_records, vdr_vxr_head, vdr_z_dim_vary, vdr_z_num_dims, vdr_z_pad_value, vxr_n_entries, vxr_n_used_entries}
+pub use Rattle.cdf_format.specs.Records.{Field, adr_agr_edr_head, adr_az_edr_head, adr_name, adr_ngr_entries, adr_num, adr_nz_entries, adr_scope, aedr_attr_num, aedr_data_type, aedr_num, aedr_num_elems, aedr_value, cdr_encoding, cdr_flags, cdr_gdr_offset, cdr_increment, cdr_release, cpr_c_type, cpr_p_count, cpr_parameter, cvvr_c_size, field, gdr_adr_head, gdr_eof, gdr_nr_vars, gdr_num_attr, gdr_nz_vars, gdr_r_dim_sizes, gdr_r_max_rec, gdr_r_num_dims, gdr_r_vdr_head, gdr_uir_head, gdr_z_vdr_head, record_size, record_type, uir_next_uir, uir_prev_uir, vdr_blocking_factor, vdr_cpr_or_spr_offset, vdr_data_type, vdr_flags, vdr_max_rec, vdr_name, vdr_num, vdr_num_elems, vdr_r_dim_vary, vdr_r_pad_value, vdr_s_records, vdr_vxr_head, vdr_vxr_tail, vdr_z_dim_vary, vdr_z_num_dims, vdr_z_pad_value, vxr_n_entries, vxr_n_used_entries}
 pub use Rattle.cdf_format.specs.Rules.{AllHold, Hold, Row, asked, row}
 pub use Rattle.cdf_format.specs.Sealed.{has_checksum, sealed, trailer, trailer_length}
 pub use Rattle.cdf_format.specs.Shape.{AttributeShape, Each, HasEntries, HasShape, HasVariable, Shape, VariableShape, adrs, cpr_of, is_compressed, shape, variables, vdrs, with_records}

@@ -127,16 +127,20 @@ small_block_file = heads 912 0 ⧺ z_vdr (t_with 2 772) ⧺ vvr (low_first 1 ⧺
 abbrev pub delete_var_t : Command
 delete_var_t = commands.DelVar (codes "T")
 
--- without variables, with the VDR and the node on the unused list, and these bytes between them
-abbrev pub without_t : List ℕ → List ℕ
-without_t between = magic ⧺ cdr new_cdr ⧺ gdr (record new_gdr { eof = 912; unused = 404 }) ⧺ uir 772 0 (drop 28 (z_vdr (t_with 2 772))) ⧺ between ⧺ uir 0 404 (drop 28 (vxr (covering 0 2 748 ∷ [])))
+-- without variables, with the VDR and the node on the unused list, and these bytes between them; behind its links the VDR has what is behind those of this one
+abbrev pub without_t : VdrFields → List ℕ → List ℕ
+without_t left between = magic ⧺ cdr new_cdr ⧺ gdr (record new_gdr { eof = 912; unused = 404 }) ⧺ uir 772 0 (drop 28 (z_vdr left)) ⧺ between ⧺ uir 0 404 (drop 28 (vxr (covering 0 2 748 ∷ [])))
 
 unfoldable pub var_deleted_file : List ℕ
-var_deleted_file = without_t (sized minus4 (low_first 1 ⧺ low_first 2 ⧺ low_first 3))
+var_deleted_file = without_t (t_with 2 0) (sized minus4 (low_first 1 ⧺ low_first 2 ⧺ low_first 3))
 
 -- the block is freed in two pieces
 unfoldable pub two_pieces_file : List ℕ
-two_pieces_file = without_t (sized minus4 [] ⧺ sized minus4 [])
+two_pieces_file = without_t (t_with 2 0) (sized minus4 [] ⧺ sized minus4 [])
+
+-- VXRhead stays
+unfoldable pub head_left_file : List ℕ
+head_left_file = without_t (t_up_to 2 772 0) (sized minus4 (low_first 1 ⧺ low_first 2 ⧺ low_first 3))
 
 -- ---- a compressed variable with a packed leaf of one record and one of two; the first two records go
 

@@ -5,7 +5,7 @@ ghost use Rattle.cdf_format.specs.Content.{content};
 ghost use Rattle.cdf_examples.specs.Asked.{KeepsRules};
 ghost use Rattle.cdf_examples.specs.Claimed.{Refused};
 ghost use Rattle.cdf_examples.specs.RecordFiles.{records_file};
-ghost use Rattle.cdf_examples.specs.WrongCuts.{delete_t, all_deleted_file, block_unlisted_file, last_deleted_file, dead_bytes_file, longer_node_file, fewer_entries_file, block_moved_file, spare_behind_file, spare_stays_file, spare_overwritten_file, two_stored_file, first_cut_file, past_cut_file, two_nodes_file, node_freed_file, bare_node_file, none_stored_file, set_sparse_t, made_sparse_file, cut_unlisted_file, uncompressed_file, compress_t, cpr_placed_file, cpr_at_end_file, small_block_file, delete_var_t, var_deleted_file, two_pieces_file, delete_r, two_packed_file, packed_stays_file, packed_elsewhere_file, delete_u, two_of_forty_file, one_of_forty_file, taken_again_file};
+ghost use Rattle.cdf_examples.specs.WrongCuts.{delete_t, all_deleted_file, block_unlisted_file, last_deleted_file, dead_bytes_file, longer_node_file, fewer_entries_file, block_moved_file, spare_behind_file, spare_stays_file, spare_overwritten_file, two_stored_file, first_cut_file, past_cut_file, two_nodes_file, node_freed_file, bare_node_file, none_stored_file, set_sparse_t, made_sparse_file, cut_unlisted_file, uncompressed_file, compress_t, cpr_placed_file, cpr_at_end_file, small_block_file, delete_var_t, var_deleted_file, two_pieces_file, head_left_file, delete_r, two_packed_file, packed_stays_file, packed_elsewhere_file, delete_u, two_of_forty_file, one_of_forty_file, taken_again_file};
 
 /// A block that is freed is not on the unused list.
 pub fn block_off_list()
@@ -82,6 +82,13 @@ pub fn freed_in_pieces()
     ensures rules { KeepsRules two_pieces_file }
     ensures content { content two_pieces_file ≡ content var_deleted_file }
     ensures refused { Refused small_block_file delete_var_t two_pieces_file }
+{}
+
+/// Under `del-var` the VDR that is freed still leads to its node.
+pub fn vdr_leads_on()
+    ensures rules { KeepsRules head_left_file }
+    ensures content { content head_left_file ≡ content var_deleted_file }
+    ensures refused { Refused small_block_file delete_var_t head_left_file }
 {}
 
 /// What a cut leaves of a packed leaf stands in the record of another, which it frees, though its own has room.

@@ -1,10 +1,11 @@
-//! A variable that goes: it leaves the chain of its kind, those behind it get numbers less by one, and its records are freed.
+//! A variable that goes: it leaves the chain of its kind, those behind it get numbers less by one, its descriptor leads to no index any
+//! more, and its records are freed.
 
 ghost use Rattle.std.specs.Prelude.{◌≡◌, ◌≤◌, ◌<◌, ◌+◌, ◌^◌, length, max, map, IfOk, OnOk, OnErr};
 ghost use Rattle.std.specs.List.{fold, remove};
 ghost use Rattle.cdf_area.specs.Calls.{Edits, Reads};
 ghost use Rattle.cdf_edits.specs.Commands.Allowances.{shapes_of};
-ghost use Rattle.cdf_edits.specs.Edits.RemovesVariable.{RemovesVariable, greatest_at, numbers_on, r_max_writes};
+ghost use Rattle.cdf_edits.specs.Edits.RemovesVariable.{RemovesVariable, empty_writes, greatest_at, numbers_on, r_max_writes};
 ghost use Rattle.cdf_edits.specs.Edits.Writes.{with_writes};
 ghost use Rattle.cdf_format.specs.Fields.{LiesIn, gdr_offset};
 ghost use Rattle.cdf_format.specs.Records.{gdr_r_max_rec, vdr_name};
@@ -22,10 +23,12 @@ ghost use Rattle.cdf_vars.specs.Removing.{AreRecordsAt, VdrsLie};
 use crate::chain::chain_of;
 use crate::vars::{VarId, VarTable, Vars};
 use cdf_area::{Area, AreaError};
-use cdf_format::fields::{CDR_GDR_OFFSET, CDR_PLACE, VDR_NUM, VDR_VXR_HEAD};
+use cdf_format::fields::{CDR_GDR_OFFSET, CDR_PLACE, VDR_VXR_HEAD};
 use cdf_index::index_records;
 use cdf_model::Kind;
-use cdf_records::{read_unsigned8, set_gdr_r_max_rec, set_unsigned4};
+use cdf_records::{
+    read_unsigned8, set_gdr_r_max_rec, set_vdr_num, set_vdr_vxr_head, set_vdr_vxr_tail,
+};
 use cdf_space::{free_records, take_out};
 use cdf_var_records::read_extent;
 use std::alloc::Global;
@@ -80,12 +83,12 @@ fn greatest_left<A: Area>(
 /// After an error a part of them may have been written.
 fn set_numbers<A: Area>(area: &mut A, first: u32, places: &[u64]) -> Result<(), AreaError>
     requires lie { VdrsLie (A.image area.old) places.now }
-    requires few { first + length places.now ≤ u32.MAX }
+    requires few { first + length places.now ≤ 2 ^ 31 }
     ensures written { OnOk result (A.image area.new ≡ with_writes (A.image area.old) (numbers_on first places.now)) }
     ensures area { Edits A.frame A.faults area.old area.new result }
 {
     for (i, place) in places.iter().enumerate() {
-        set_unsigned4(area, *place, VDR_NUM, first + i as u32)?;
+        set_vdr_num(area, *place, (first + i as u32) as i32)?;
     }
     Ok(())
 }
@@ -104,6 +107,16 @@ pub fn set_greatest<A: Area>(area: &mut A, kind: Kind, greatest: i32) -> Result<
         }
         Kind::Z => Ok(()),
     }
+}
+
+/// Empties the links of the descriptor at a place to the index. After an error a part of this may have been done.
+fn unlink_index<A: Area>(area: &mut A, vdr: u64) -> Result<(), AreaError>
+    requires lies { LiesIn (A.image area.old) vdr vdr_name }
+    ensures emptied { OnOk result (A.image area.new ≡ with_writes (A.image area.old) (empty_writes vdr)) }
+    ensures area { Edits A.frame A.faults area.old area.new result }
+{
+    set_vdr_vxr_head(area, vdr, 0)?;
+    set_vdr_vxr_tail(area, vdr, 0)
 }
 
 /// The records that go with the variable whose descriptor stands at a place, in the order in which they are freed: the blocks by record
@@ -144,6 +157,7 @@ fn remove_at<A: Area>(
     take_out(area, chain_of(kind), places, number)?;
     set_numbers(area, number as u32, &places[number + 1..])?;
     set_greatest(area, kind, greatest)?;
+    unlink_index(area, places[number])?;
     free_records(area, &records)
 }
 

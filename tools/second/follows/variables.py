@@ -101,6 +101,13 @@ def freed_with_variable(v):
     return [leaf.place for leaf in leaves_of(v.index)] + nodes_of(v.index) + [*v.cpr, v.vdr]
 
 
+NO_INDEX = [(Vdr.VXRhead, 0), (Vdr.VXRtail, 0)]
+
+
+def emptied_fields(kind):
+    return lambda type_code: [f for f, _ in NO_INDEX] if type_code == VDR_TYPE[kind] else []
+
+
 def is_renumbered(attribute, kind, n):
     return not attribute.is_global() and any(n <= num for num in entries_of(attribute, kind))
 
@@ -125,4 +132,5 @@ def deletes_named(m, name, acts):
             written = share_chain(kind, other) and is_renumbered(m.before.attributes[i], kind, n)
             yield 'greatest_is', greatest_is(m, i, a, a2, other, written)
     yield 'r_max_rec_is', r_max_rec(m.now) == (greatest_r_max_rec(m.after) if kind == 'r' else r_max_rec(m.b))
-    yield 'freed', freed_stay(m.b, m.now, no_fields, acts)
+    yield 'freed', freed_stay(m.b, m.now, emptied_fields(kind), acts)
+    yield 'emptied', says(m.now, v.vdr, NO_INDEX)

@@ -33,7 +33,7 @@ module _ {b : List ℕ} {s : Shape} (h : HasShape b s) {c : Chain} {holder : ℕ
   is_member place i = subst (λ (x : List ℕ). is_in place x ≡ true) (sym members_are) (is_in-true place ms i)
 
   -- it has few members, and is as a call asks for it that reads or changes it
-  pub few_members : length b ≤ image_limit → length ms < 256 ^ 4
+  pub few_members : length b ≤ image_limit → length ms ≤ image_limit
   few_members short =
       let l = length-le_from_distinct ms s.records is.chain.once (λ m i. linkable-in b s.records (type_in c) m (is.chain.linkable m i)) in
       let t = length_tiles b 8 (length b) s.records h.tiled in

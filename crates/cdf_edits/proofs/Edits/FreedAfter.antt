@@ -2,7 +2,7 @@
 use Rattle.std.proofs.Common.{arith, ◌≡◌, ◌≢◌, ℕ, ◌+◌, ◌≤◌, List, [], ◌∷◌, ◌++◌, length, Bool, true, false, ◌||◌, eq-eqb, refl, sym, ap, subst, ◌∙◌, inl, inr}
 use Rattle.cdf_edits.proofs.Common.{◌==◌, Same, is_in, number, size_at, type_at, Field, gdr_type, uir_type, Shape, Each, shape, IsSound, In, AreTiles, number_kept, FreedStay, no_fields, Edit, freeing_marks, wholes, Mark, Avoids, Away, unmarked, Write, gave, links_end, ActsFollow, AllGiven, AreFree, with_space}
 use Rattle.cdf_edits.proofs.Edits.ActsThen.{gave-same, all_gave}
-use Rattle.cdf_edits.proofs.Edits.Composing.{head_size, edit_then}
+use Rattle.cdf_edits.proofs.Edits.Composing.{head_size, edit_then, same-then}
 use Rattle.cdf_edits.proofs.Edits.EditActs.{acts_none}
 use Rattle.cdf_edits.proofs.Edits.FreedBytes.{IsLeft, all_left, all_unused, freed_stay, free_used}
 use Rattle.cdf_edits.proofs.Edits.FreedRecords.{MayFree, sizes_by_tiles, all_given_edit}
@@ -132,12 +132,10 @@ module _ {b mid now : List ℕ} {marks : List Mark} {types places : List ℕ} (f
   not_gdr m i e = typed_apart m (may_free.typed m i) (ap (type_at mid) e ∙ gdr_typed mid (shape mid) frees.mid_sound.has_shape)
 
   -- their bytes behind the links
-  pub behind_links : (m : ℕ) → In m places → Same b mid (m + links_end (size_at b m)) (m + size_at b m) → Same b now (m + links_end (size_at b m)) (m + size_at b m)
-  behind_links m i one =
-      let two = subst (λ (k : ℕ). Same mid now (m + links_end k) (m + k)) (sizes_before m i) (left.behind m (frees.free.stand m i) (not_gdr m i)) in
-      record { each = λ k l u. two.each k l u ∙ one.each k l u }
+  pub freeing_behind : (m : ℕ) → In m places → Same mid now (m + links_end (size_at b m)) (m + size_at b m)
+  freeing_behind m i = subst (λ (k : ℕ). Same mid now (m + links_end k) (m + k)) (sizes_before m i) (left.behind m (frees.free.stand m i) (not_gdr m i))
 
   pub freed_after : ((m : ℕ) → In m places → Same b mid (m + links_end (size_at b m)) (m + size_at b m)) → FreedStay b now no_fields (gave b places)
   freed_after same =
       let sizes = sizes_by_tiles b now 8 8 (length b) s.records refl frees.sound.has_shape.tiled (subst (λ (k : ℕ). AreTiles now 8 k s.records) long_now freed_edit.tiled_now) in
-      freed_stay b now (gave b places) places no_fields left.sound.has_shape.tiled (λ m i. subst (In m) (sym records_are) (places_in m i)) (λ m i. sizes m (places_in m i)) (λ m i. behind_links m i (same m i))
+      freed_stay b now (gave b places) places no_fields left.sound.has_shape.tiled (λ m i. subst (In m) (sym records_are) (places_in m i)) (λ m i. sizes m (places_in m i)) (λ m i. same-then b mid now (m + links_end (size_at b m)) (m + size_at b m) (same m i) (freeing_behind m i))

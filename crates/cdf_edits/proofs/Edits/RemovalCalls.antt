@@ -1,12 +1,13 @@
 -- What the calls of the removal of a variable come to, by the places of the VDRs of its kind and its number.
 use Rattle.std.proofs.Common.{◌≡◌, ℕ, ℤ, ◌+◌, ◌-◌, ◌^◌, ◌<◌, ◌≤◌, List, ◌∷◌, ◌++◌, length, drop, get_or, refl, sym, ap, subst, ◌∙◌, arith}
-use Rattle.cdf_edits.proofs.Common.{remove, Kind, R, Z, image_limit, number, gdr_offset, with_field, LiesIn, gdr_r_max_rec, VariableShape, vdrs, shape, IsSound, In, Good, linkable-in, linkable-type, good_by_its_shape, good_is_sound, eq_of, tile_lies, shapes_of, freed_with_variable, UnlinksVariable, RemovesVariable, numbers_on, r_max_writes, greatest_at, write, with_writes, count_of, counted_in, type_in, HolderStands, AllGiven, AreFree, variables_chain, Hold, Lists, TakenOut, Chain}
-use Rattle.cdf_edits.proofs.Commands.ListParts.{AtNumber, at_number}
+use Rattle.cdf_edits.proofs.Common.{remove, Kind, R, Z, image_limit, number, gdr_offset, with_field, LiesIn, gdr_r_max_rec, vdr_name, empty_writes, VariableShape, vdrs, shape, IsSound, In, Good, linkable-in, linkable-type, good_by_its_shape, good_is_sound, eq_of, tile_lies, shapes_of, freed_with_variable, UnlinksVariable, RemovesVariable, numbers_on, r_max_writes, greatest_at, write, with_writes, count_of, counted_in, type_in, HolderStands, AllGiven, AreFree, variables_chain, Hold, Lists, TakenOut, Chain}
+use Rattle.cdf_edits.proofs.Commands.ListParts.{AtNumber, at_number, got_in}
 use Rattle.cdf_edits.proofs.Edits.ChainsOfShape.{IsOf, few_members, lists}
+use Rattle.cdf_edits.proofs.Edits.EmptiedVdr.{emptied_free, emptied_sound}
 use Rattle.cdf_edits.proofs.Edits.RecordFrame.{gdr_place}
 use Rattle.cdf_edits.proofs.Edits.StepEdits.{gdr_in, gdr_long, fixed_long}
 use Rattle.cdf_edits.proofs.Edits.TakenVariable.{least_size}
-use Rattle.cdf_edits.proofs.Edits.UnlinkedVariable.{in_holder, unlinking_tests, e_early, mid_sound, own_free}
+use Rattle.cdf_edits.proofs.Edits.UnlinkedVariable.{in_holder, unlinking_tests, as_long, e_early}
 use Rattle.cdf_edits.proofs.Edits.VariableKinds.{counted_before, kind_chain, vdrs_rows}
 use Rattle.cdf_edits.proofs.Space.ChainHeads.{cdr_room}
 
@@ -45,7 +46,7 @@ module _ (b : List ℕ) (good : Good b) (kind : Kind) (places : List ℕ) (are :
       subst (λ (pair : List ℕ × Chain). Lists pair.0 pair.1 places) (λ i. (sym same i, sym is i)) here
 
   -- there are few
-  pub few : length b ≤ image_limit → length places < 256 ^ 4
+  pub few : length b ≤ image_limit → length places ≤ image_limit
   few short = let f = few_members sound.has_shape of_kind short in let l = ap length are in omega arith
 
   module _ (n : ℕ) (lt : n < length places) where
@@ -115,11 +116,27 @@ module _ (b : List ℕ) (good : Good b) (kind : Kind) (places : List ℕ) (are :
             few = few_others;
           }
 
-          pub sound_mid : IsSound mid (shape mid)
-          sound_mid = mid_sound good unlinks
+          -- its VDR lies there as before
+          pub lies_mid : LiesIn mid (get_or places n 0) vdr_name
+          lies_mid = let l = inside (get_or places n 0) (got_in places n lt) in let e = as_long good unlinks in omega arith
 
-          pub free_mid : {records : List ℕ} → records ≡ freed_with_variable this.own → AreFree mid records
-          free_mid are = subst (AreFree mid) (sym are) (own_free good unlinks)
+          module _ {left : List ℕ} (emptied : left ≡ with_writes mid (empty_writes (get_or places n 0))) where
+            left_is : left ≡ with_writes mid (empty_writes this.own.vdr)
+            left_is = emptied ∙ ap (λ (vdr : ℕ). with_writes mid (empty_writes vdr)) this.own_at
 
-          pub removes_by : {records : List ℕ} → records ≡ freed_with_variable this.own → (now : List ℕ) → AllGiven mid now records → RemovesVariable b now kind n
-          removes_by are now given = record { before = this.before; own = this.own; after = this.after; count = this.count; mid = mid; unlinks = unlinks; given = subst (AllGiven mid now) are given }
+            pub sound_left : IsSound left (shape left)
+            sound_left = subst (λ (x : List ℕ). IsSound x (shape x)) (sym left_is) (emptied_sound good unlinks)
+
+            pub free_left : {records : List ℕ} → records ≡ freed_with_variable this.own → AreFree left records
+            free_left are = subst (λ (pair : List ℕ × List ℕ). AreFree pair.0 pair.1) (λ i. (sym left_is i, sym are i)) (emptied_free good unlinks)
+
+            pub removes_by : {records : List ℕ} → records ≡ freed_with_variable this.own → (now : List ℕ) → AllGiven left now records → RemovesVariable b now kind n
+            removes_by are now given = record {
+              before = this.before;
+              own = this.own;
+              after = this.after;
+              count = this.count;
+              mid = mid;
+              unlinks = unlinks;
+              given = subst (λ (pair : List ℕ × List ℕ). AllGiven pair.0 now pair.1) (λ i. (left_is i, are i)) given;
+            }

@@ -1,6 +1,6 @@
 -- The image after a variable went: its shape, its content, its rules and its space.
-use Rattle.std.proofs.Common.{◌≡◌, ℕ, zero, suc, ◌+◌, ◌≤◌, List, [], ◌∷◌, ◌++◌, length, map, max, refl, sym, ap, subst, ◌∙◌, arith, inl, inr, false}
-use Rattle.cdf_edits.proofs.Common.{length-append, length-map, w32, cast_signed, fold, remove, Kind, R, Z, extent, image_limit, variables_of, with_variables, last_number, Same, IsChain, is_in, content, variable_of, number, integer4, size_at, gdr_offset, variable_records, gdr_eof, gdr_uir_head, gdr_r_max_rec, vdr_num, gdr_type, uir_type, VariableShape, Shape, vdrs, shape, IsSound, In, max_rec_at, Good, good_by_its_shape, good_is_sound, rules_of_good, good_long, sealed_kept, shapes_of, RMaxRecOf, freed_with_variable, index_types, RemovesVariable, greatest_at, variable_unlinking_marks, links_end, head_of, count_of, type_in, variables_chain, field_reads4, number_kept}
+use Rattle.std.proofs.Common.{◌≡◌, ◌≢◌, ℕ, zero, suc, ◌+◌, ◌<◌, ◌≤◌, List, [], ◌∷◌, ◌++◌, length, map, max, refl, sym, ap, subst, ◌∙◌, arith, inl, inr, false}
+use Rattle.cdf_edits.proofs.Common.{Avoids, Field, Says, emptied_fields, empty_writes, freeing_marks, no_index, le-leb, tile_lies, type_at, variable_removing_marks, with_writes, word_kept, length-append, length-map, w32, cast_signed, fold, remove, Kind, R, Z, extent, image_limit, variables_of, with_variables, last_number, Same, IsChain, is_in, content, variable_of, number, integer4, size_at, gdr_offset, variable_records, gdr_eof, gdr_uir_head, gdr_r_max_rec, vdr_num, gdr_type, uir_type, VariableShape, Shape, vdrs, shape, IsSound, In, max_rec_at, Good, good_by_its_shape, good_is_sound, rules_of_good, good_long, sealed_kept, shapes_of, RMaxRecOf, freed_with_variable, index_types, RemovesVariable, greatest_at, variable_unlinking_marks, links_end, head_of, count_of, type_in, variables_chain, field_reads4, number_kept}
 use Rattle.std.specs.Int.RustNames.{FitsSigned}
 use Rattle.cdf_edits.specs.Commands.GreatestRecord.{r_extents}
 use Rattle.cdf_edits.proofs.Edits.Composing.{head_size}
@@ -8,13 +8,17 @@ use Rattle.cdf_edits.proofs.Edits.OwnVariable.{freed_mine, mine_freed, own_typed
 use Rattle.cdf_edits.proofs.Edits.RecordFrame.{field_clear, gdr_field, gdr_place}
 use Rattle.cdf_edits.proofs.Edits.StepEdits.{gdr_in, gdr_typed, gdr_long}
 use Rattle.cdf_edits.proofs.Edits.TakenVariable.{TakesVariable, SaysTaken, tests, without_variable, content_taken, taken_good, splices, vdr_there, back_in, back_out}
-use Rattle.cdf_edits.proofs.Edits.UnlinkedVariable.{e_second, e_early, some_second, may_last, unlinked_edit, as_long, counted_now, numbered_now, numbered_still, unlinked_shape, mid_sound, own_free, unlinked_behind, unlinking_tests}
+use Rattle.cdf_edits.proofs.Edits.UnlinkedVariable.{e_second, e_early, some_second, may_last, unlinked_edit, counted_now, numbered_now, numbered_still, own_free, own_there, types_stay, unlinked_behind, unlinking_tests}
 use Rattle.cdf_edits.proofs.Edits.VariableKinds.{kind_chain, with_shapes}
 use Rattle.cdf_edits.proofs.Edits.VariableSplice.{content_now}
 use Rattle.cdf_edits.proofs.Edits.WrittenFields.{write_lies}
 use Rattle.std.proofs.lemmas.Int.{ints}
 use Rattle.cdf_edits.proofs.Rules.WithoutLinks.{eof_by_rules}
-use Rattle.cdf_edits.proofs.Edits.FreedAfter.{Frees, freed_edit, shape_now, sound_now, records_are as freed_records, long_now as freed_long, types_stay as freed_types, others_kept, all_freed, gdr_still, behind_links}
+use Rattle.cdf_edits.proofs.Edits.FreedAfter.{Frees, freed_edit, shape_now, sound_now, records_are as freed_records, long_now as freed_long, types_stay as freed_types, places_in as freed_places, others_kept, all_freed, gdr_still, freeing_behind}
+use Rattle.cdf_edits.proofs.Edits.FreedBytes.{BytesStay, free_used}
+use Rattle.cdf_edits.proofs.Edits.FreedRecords.{edit_under}
+use Rattle.cdf_edits.proofs.Edits.EmptiedVdr.{emptying_marks, within_freed, emptied_edit, emptied_long, emptied_shape, emptied_sound, emptied_free, rest_kept, bytes_kept, leads_nowhere}
+use Rattle.cdf_edits.proofs.Edits.MarkLemmas.{Avoids-append, Avoids-split}
 
 no_gdr : (kind : Kind) → is_in gdr_type (type_in (variables_chain kind) ∷ index_types) ≡ false
 no_gdr R = refl
@@ -30,8 +34,9 @@ module _ {b now : List ℕ} {kind : Kind} {n : ℕ} (good : Good b) (d : Removes
   abbrev type : ℕ
   type = type_in (variables_chain kind)
 
-  abbrev mid : List ℕ
-  mid = d.mid
+  -- the image in which its VDR leads to no node
+  abbrev pub emptied : List ℕ
+  emptied = with_writes d.mid (empty_writes d.own.vdr)
 
   -- its records, as they are freed
   abbrev pub places : List ℕ
@@ -40,27 +45,44 @@ module _ {b now : List ℕ} {kind : Kind} {n : ℕ} (good : Good b) (d : Removes
   mine : (m : ℕ) → In m places → In m (variable_records d.own)
   mine = freed_mine d.own
 
-  pub frees : Frees b mid now (variable_unlinking_marks kind s.gdr (vdrs (shapes_of s kind)) (vdrs d.after)) (type_in (variables_chain kind) ∷ index_types) places
+  pub frees : Frees b emptied now (variable_unlinking_marks kind s.gdr (vdrs (shapes_of s kind)) (vdrs d.after) ++ emptying_marks kind d.own.vdr) (type_in (variables_chain kind) ∷ index_types) places
   frees = record {
     sound = sound;
-    edit = unlinked_edit good d.unlinks;
-    long = as_long good d.unlinks;
-    mid_sound = mid_sound good d.unlinks;
-    records = ap (λ (x : Shape). x.records) (unlinked_shape good d.unlinks);
-    unused = ap (λ (x : Shape). x.unused) (unlinked_shape good d.unlinks);
-    free = own_free good d.unlinks;
+    edit = emptied_edit good d.unlinks;
+    long = emptied_long good d.unlinks;
+    mid_sound = emptied_sound good d.unlinks;
+    records = ap (λ (x : Shape). x.records) (emptied_shape good d.unlinks);
+    unused = ap (λ (x : Shape). x.unused) (emptied_shape good d.unlinks);
+    free = emptied_free good d.unlinks;
     typed = λ m i. own_typed sound kind d.before d.own d.after d.unlinks.was m (mine m i);
     no_gdr = no_gdr kind;
     given = d.given;
   }
 
-  pub takes : TakesVariable b now s kind d.before d.own d.after places (length mid)
-  takes = record { edit = freed_edit frees; was = d.unlinks.was; mine = mine }
+  -- what is written in the VDR lies in what is freed
+  covered : (m t lo hi : ℕ) → Avoids (variable_removing_marks kind s.gdr (vdrs (shapes_of s kind)) (vdrs d.after) s.unused places (length emptied)) t m lo hi
+      → Avoids ((variable_unlinking_marks kind s.gdr (vdrs (shapes_of s kind)) (vdrs d.after) ++ emptying_marks kind d.own.vdr) ++ freeing_marks (type_in (variables_chain kind) ∷ index_types) s.unused places (length emptied)) t m lo hi
+  covered m t lo hi a =
+      let unlinking = variable_unlinking_marks kind s.gdr (vdrs (shapes_of s kind)) (vdrs d.after) in
+      let freeing = freeing_marks (type_in (variables_chain kind) ∷ index_types) s.unused places (length emptied) in
+      let parts = Avoids-split unlinking freeing t m lo hi a in
+      let long = gdr_long b s sound.has_shape in
+      let inside = (tile_lies b 8 (length b) s.records s.gdr sound.has_shape.tiled (gdr_in b s sound.has_shape)).high in
+      let same = emptied_long good d.unlinks in
+      let own = within_freed index_types s.unused places (length emptied) (type_in (variables_chain kind)) d.own.vdr t m lo hi (mine_freed d.own d.own.vdr (inl refl)) (omega arith) parts.1 in
+      Avoids-append (unlinking ++ emptying_marks kind d.own.vdr) freeing t m lo hi (Avoids-append unlinking (emptying_marks kind d.own.vdr) t m lo hi parts.0 own) parts.1
+
+  pub takes : TakesVariable b now s kind d.before d.own d.after places (length emptied)
+  takes = record {
+    edit = edit_under (freed_edit frees) (variable_removing_marks kind s.gdr (vdrs (shapes_of s kind)) (vdrs d.after) s.unused places (length emptied)) (λ m t lo hi i is a. covered m t lo hi a);
+    was = d.unlinks.was;
+    mine = mine;
+  }
 
   -- ---- the shape
 
   pub shape_after : shape now ≡ without_variable sound takes (shape now).unused
-  shape_after = shape_now frees (unlinked_shape good d.unlinks)
+  shape_after = shape_now frees (emptied_shape good d.unlinks)
 
   pub records_are : (shape now).records ≡ s.records
   records_are = freed_records frees
@@ -70,17 +92,20 @@ module _ {b now : List ℕ} {kind : Kind} {n : ℕ} (good : Good b) (d : Removes
 
   -- ---- what the records behind say
 
-  numbered : (m : ℕ) → In m (vdrs d.after) → number now m vdr_num ≡ number mid m vdr_num
+  numbered : (m : ℕ) → In m (vdrs d.after) → number now m vdr_num ≡ number d.mid m vdr_num
   numbered m i =
       let v = vdr_there sound takes m (back_in sound takes m i) in
       let t = unlinking_tests kind s.gdr [] [] in
       let typed = freed_types frees m v.0 ∙ v.1.0 in
-      let size = head_size b mid m (frees.edit.head m v.0 (λ x. t.no_uir (sym v.1.0 ∙ x)) (λ r. r)) in
-      number_kept mid now m (others_kept frees m v.0 (λ x. t.no_gdr (sym typed ∙ x)) (λ x. t.no_uir (sym typed ∙ x)) (back_out sound takes m i)).same vdr_num (let l = v.1.1 in omega arith)
+      let later = head_size b emptied m (frees.edit.head m v.0 (λ x. t.no_uir (sym v.1.0 ∙ x)) (λ r. r)) in
+      let size = head_size b d.mid m ((unlinked_edit good d.unlinks).head m v.0 (λ x. t.no_uir (sym v.1.0 ∙ x)) (λ r. r)) in
+      let other : m ≢ d.own.vdr = λ e. back_out sound takes m i (subst (λ (x : ℕ). In x places) (sym e) (mine_freed d.own d.own.vdr (inl refl))) in
+      number_kept emptied now m (others_kept frees m v.0 (λ x. t.no_gdr (sym typed ∙ x)) (λ x. t.no_uir (sym typed ∙ x)) (back_out sound takes m i)).same vdr_num (let l = v.1.1 in omega arith)
+      ∙ number_kept d.mid emptied m (rest_kept good d.unlinks m v.0 other).same vdr_num (let l = v.1.1 in omega arith)
 
   pub says : SaysTaken sound takes (shape now).unused
   says = record {
-    numbered = numbered_still mid now (length d.before) (vdrs d.after) numbered (numbered_now good d.unlinks);
+    numbered = numbered_still d.mid now (length d.before) (vdrs d.after) numbered (numbered_now good d.unlinks);
     variable_chain = chain_after;
     unused_chain = subst (λ (x : Shape). IsChain now x.records uir_type (number now x.gdr gdr_uir_head) x.unused) shape_after (sound_now frees).has_shape.unused_chain;
     freed = all_freed frees;
@@ -100,8 +125,18 @@ module _ {b now : List ℕ} {kind : Kind} {n : ℕ} (good : Good b) (d : Removes
   pub content_after : content now ≡ with_variables (content b) kind (remove (variables_of (content b) kind) n)
   content_after = content_taken sound takes says ∙ ap (λ (k : ℕ). with_variables (content b) kind (remove (variables_of (content b) kind) k)) d.count
 
+  -- what the GDR says but for the head of the unused list is not written any more
+  gdr_after : (f : Field) → f.place + f.width ≤ 64 → number now s.gdr f ≡ number d.mid s.gdr f
+  gdr_after f low =
+      let h = sound.has_shape in
+      let is = gdr_typed b s h in
+      let used : type_at b s.gdr ≢ uir_type = λ x. (let e : gdr_type ≡ uir_type = sym is ∙ x in absurd cc) in
+      let size = head_size b d.mid s.gdr ((unlinked_edit good d.unlinks).head s.gdr (gdr_in b s h) used (λ r. r)) in
+      let other : s.gdr ≢ d.own.vdr = λ e. (unlinking_tests kind s.gdr [] []).no_gdr (sym (own_there good d.unlinks).1.0 ∙ ap (type_at b) (sym e) ∙ is) in
+      gdr_still frees f low ∙ number_kept d.mid emptied s.gdr (rest_kept good d.unlinks s.gdr (gdr_in b s h) other).same f (let l = gdr_long b s h in omega arith)
+
   pub count_now : number now s.gdr (count_of (variables_chain kind)) ≡ length (vdrs (d.before ++ d.after))
-  count_now = gdr_still frees (count_of (variables_chain kind)) (count_low kind) ∙ counted_now good d.unlinks ∙ sym (length-map (d.before ++ d.after) (λ (v : VariableShape). v.vdr) ∙ length-append d.before d.after)
+  count_now = gdr_after (count_of (variables_chain kind)) (count_low kind) ∙ counted_now good d.unlinks ∙ sym (length-map (d.before ++ d.after) (λ (v : VariableShape). v.vdr) ∙ length-append d.before d.after)
     where
       count_low : (kind : Kind) → (count_of (variables_chain kind)).place + (count_of (variables_chain kind)).width ≤ 64
       count_low R = omega arith
@@ -116,12 +151,30 @@ module _ {b now : List ℕ} {kind : Kind} {n : ℕ} (good : Good b) (d : Removes
       taken_good sound takes says first image (mine_freed d.own) count_now end (let l = long_now in omega arith)
 
   -- rMaxRec is not written by freeing
-  pub r_max_mid : number now s.gdr gdr_r_max_rec ≡ number mid s.gdr gdr_r_max_rec
-  r_max_mid = gdr_still frees gdr_r_max_rec (omega arith)
+  pub r_max_mid : number now s.gdr gdr_r_max_rec ≡ number d.mid s.gdr gdr_r_max_rec
+  r_max_mid = gdr_after gdr_r_max_rec (omega arith)
 
-  -- its bytes behind the links
-  pub behind : (m : ℕ) → In m places → Same b now (m + links_end (size_at b m)) (m + size_at b m)
-  behind m i = behind_links frees m i (unlinked_behind good d.unlinks m (mine m i))
+  -- its bytes behind the links, but for the links of the VDR to its index
+  pub behind : (m : ℕ) → In m places → BytesStay b now m (links_end (size_at b m)) (emptied_fields kind (type_at b m))
+  behind m i k lt low out =
+      let there = freed_places frees m i in
+      let used = λ (x : type_at b m ≡ uir_type). free_used d.mid places (own_free good d.unlinks) m i (types_stay good d.unlinks m there ∙ x) in
+      let size = head_size b d.mid m ((unlinked_edit good d.unlinks).head m there used (λ r. r)) in
+      (freeing_behind frees m i).each (m + k) (omega arith) (omega arith) ∙ bytes_kept good d.unlinks m k there (subst (λ (n : ℕ). k < n) (sym size) lt) out ∙ (unlinked_behind good d.unlinks m (mine m i)).each (m + k) (omega arith) (omega arith)
+
+  -- and these are 0
+  pub left_empty : Says now d.own.vdr no_index
+  left_empty =
+      let same = freeing_behind frees d.own.vdr (mine_freed d.own d.own.vdr (inl refl)) in
+      let long = (own_there good d.unlinks).1.1 in
+      let end = links_of_long (size_at b d.own.vdr) long in
+      let zero = leads_nowhere good d.unlinks in (
+        word_kept emptied now (d.own.vdr + links_end (size_at b d.own.vdr)) (d.own.vdr + size_at b d.own.vdr) same (d.own.vdr + 28) 8 (omega arith) (omega arith) ∙ zero.0,
+        (word_kept emptied now (d.own.vdr + links_end (size_at b d.own.vdr)) (d.own.vdr + size_at b d.own.vdr) same (d.own.vdr + 36) 8 (omega arith) (omega arith) ∙ zero.1, tt),
+      )
+    where
+      links_of_long : (n : ℕ) → 340 ≤ n → links_end n ≡ 28
+      links_of_long n l = rw (le-leb 28 n (omega arith)) refl
 
 -- ---- rMaxRec
 

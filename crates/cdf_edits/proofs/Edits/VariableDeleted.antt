@@ -1,14 +1,14 @@
 -- What the deletion of a variable leaves of the attributes, and of the records that it frees.
 use Rattle.std.proofs.Common.{◌≡◌, ◌⊎◌, ℕ, zero, suc, ◌+◌, ◌-◌, ◌<◌, ◌≤◌, List, [], ◌∷◌, ◌++◌, length, map, Bool, true, Some, refl, sym, ap, subst, ◌∙◌, arith, inl, inr}
-use Rattle.cdf_edits.proofs.Common.{le-leb, same_Some, flat_map, slice_get, if◌then◌else◌, EntryKind, Kind, R, Z, entries_of, Attribute, Found, Same, byte, attribute_of, number, integer4, size_at, attribute_records, variable_records, aedr_num, adr_type, fixed_size, uir_type, AttributeShape, VariableShape, Shape, Each, HasEntries, shape, vdrs, In, AreTiles, Good, integer_kept, number_kept, linkable-in, linkable-type, good_is_sound, In-append, In-append_left, In-append_right, FreedStay, no_fields, shapes_of, GreatestIs, chain_of, entry_type, greatest_number, kind_of_entries, max_field, AttributeFollows, entries_for, freed_with_variable, DropsEntries, AttributeDropped, avoided, ended, RemovesVariable, variable_removing_marks, AttributeStays, gave, links_end}
+use Rattle.cdf_edits.proofs.Common.{le-leb, same_Some, flat_map, slice_get, if◌then◌else◌, EntryKind, Kind, R, Z, entries_of, Attribute, Found, Same, byte, tile_lies, type_kept, attribute_of, number, integer4, size_at, type_at, attribute_records, variable_records, aedr_num, adr_type, fixed_size, uir_type, AttributeShape, VariableShape, Shape, Each, HasEntries, shape, vdrs, In, AreTiles, Good, integer_kept, number_kept, linkable-in, linkable-type, good_is_sound, In-append, In-append_left, In-append_right, FreedStay, OutsideFields, shapes_of, GreatestIs, chain_of, entry_type, greatest_number, kind_of_entries, max_field, AttributeFollows, emptied_fields, entries_for, freed_with_variable, DropsEntries, AttributeDropped, avoided, ended, RemovesVariable, variable_removing_marks, AttributeStays, gave, links_end}
 use Rattle.cdf_model.specs.declared.kinds.EntryKind.TheVariants as entries
 use Rattle.cdf_edits.specs.Commands.Variables.{NumbersFall}
 use Rattle.cdf_edits.proofs.Edits.ChainKinds.{chain_has, chain_in}
-use Rattle.cdf_edits.proofs.Edits.FreedBytes.{freed_stay}
+use Rattle.cdf_edits.proofs.Edits.FreedBytes.{BytesStay, freed_stay_but}
 use Rattle.cdf_edits.proofs.Edits.FreedRecords.{sizes_by_tiles}
 use Rattle.cdf_edits.proofs.Edits.MarkLemmas.{avoided-avoids, ended-avoids}
 use Rattle.cdf_edits.proofs.Edits.OwnVariable.{freed_mine}
-use Rattle.cdf_edits.proofs.Edits.RemovedVariable.{sound, takes, says, behind, shape_after}
+use Rattle.cdf_edits.proofs.Edits.RemovedVariable.{sound, emptied, takes, says, behind, shape_after}
 use Rattle.cdf_edits.proofs.Edits.StepEdits.{fixed_long}
 use Rattle.cdf_edits.proofs.Edits.TakenVariable.{splices}
 use Rattle.cdf_edits.proofs.Edits.VariableDeletion.{long_deleted, own_in, records_deleted, sizes_mid}
@@ -134,29 +134,34 @@ module _ {b mid now : List ℕ} {found : Found} (good : Good b) (drops : DropsEn
   entry_behind : (m : ℕ) → In m (entries_for b (shape b).attributes found) → Same b now (m + links_end (size_at b m)) (m + size_at b m)
   entry_behind m i =
       let x = drops.dropped m i in
-      let t = unused_tests found.kind (shape mid).gdr (vdrs (shapes_of (shape mid) found.kind)) (vdrs d.after) (shape mid).unused (freed_with_variable d.own) (length d.mid) in
+      let t = unused_tests found.kind (shape mid).gdr (vdrs (shapes_of (shape mid) found.kind)) (vdrs d.after) (shape mid).unused (freed_with_variable d.own) (length (emptied drops.good d)) in
       let e = (takes drops.good d).edit in
       let size = sizes_mid good drops d m x.stands in
       let inside : In m (shape mid).records = subst (In m) (sym drops.records_are) x.stands in
-      let marks = variable_removing_marks found.kind (shape mid).gdr (vdrs (shapes_of (shape mid) found.kind)) (vdrs d.after) (shape mid).unused (freed_with_variable d.own) (length d.mid) in
+      let marks = variable_removing_marks found.kind (shape mid).gdr (vdrs (shapes_of (shape mid) found.kind)) (vdrs d.after) (shape mid).unused (freed_with_variable d.own) (length (emptied drops.good d)) in
       let later : Same mid now (m + 28) (m + size_at b m) = e.part m uir_type 28 (size_at b m) inside x.freed (avoided-avoids marks uir_type m 0 12 t.start) (ended-avoids marks uir_type m 28 (size_at b m) t.end) (omega arith) in
       subst (λ (k : ℕ). Same b now (m + k) (m + size_at b m)) (sym (long_enough (size_at b m) x.long)) (record { each = λ k l u. later.each k l u ∙ x.behind.each k l u })
 
-  own_behind : (m : ℕ) → In m (freed_with_variable d.own) → Same b now (m + links_end (size_at b m)) (m + size_at b m)
-  own_behind m i =
-      let size = sizes_mid good drops d m (own_in good drops d m i) in
-      let later = subst (λ (k : ℕ). Same mid now (m + links_end k) (m + k)) size (behind drops.good d m i) in
-      let first = drops.variables_kept found.kind m (own_among m i) in
-      record { each = λ k l u. later.each k l u ∙ here m k (size_at b m) (links_end (size_at b m)) first.same l u }
+  own_type : (m : ℕ) → In m (freed_with_variable d.own) → type_at mid m ≡ type_at b m
+  own_type m i =
+      let same = (drops.variables_kept found.kind m (own_among m i)).same in
+      let long = (tile_lies b 8 (length b) (shape b).records m (good_is_sound b good).has_shape.tiled (own_in good drops d m i)).long in
+      type_kept b mid m (record { each = λ k l u. here m k (size_at b m) same l u }) long
     where
-      here : (v k s p : ℕ) → ((i : ℕ) → i < s → Unit {0} → byte mid (v + i) ≡ byte b (v + i)) → v + p ≤ k → k < v + s → byte mid k ≡ byte b k
-      here v k s p same l u =
+      here : (v k s : ℕ) → ((i : ℕ) → i < s → Unit {0} → byte mid (v + i) ≡ byte b (v + i)) → v ≤ k → k < v + s → byte mid k ≡ byte b k
+      here v k s same l u =
           let at : k ≡ v + (k - v) = omega arith in
           subst (λ (x : ℕ). byte mid x ≡ byte b x) (sym at) (same (k - v) (omega arith) tt)
 
-  pub freed_deleted : FreedStay b now no_fields (gave b (entries_for b (shape b).attributes found ++ freed_with_variable d.own))
-  freed_deleted = freed_stay b now (gave b (entries_for b (shape b).attributes found ++ freed_with_variable d.own)) (entries_for b (shape b).attributes found ++ freed_with_variable d.own) no_fields
+  own_behind : (m : ℕ) → In m (freed_with_variable d.own) → BytesStay b now m (links_end (size_at b m)) (emptied_fields found.kind (type_at b m))
+  own_behind m i k lt low out =
+      let size = sizes_mid good drops d m (own_in good drops d m i) in
+      let first = drops.variables_kept found.kind m (own_among m i) in
+      behind drops.good d m i k (subst (λ (n : ℕ). k < n) (sym size) lt) (subst (λ (n : ℕ). links_end n ≤ k) (sym size) low) (subst (λ (t : ℕ). OutsideFields (emptied_fields found.kind t) k) (sym (own_type m i)) out) ∙ first.same k lt tt
+
+  pub freed_deleted : FreedStay b now (emptied_fields found.kind) (gave b (entries_for b (shape b).attributes found ++ freed_with_variable d.own))
+  freed_deleted = freed_stay_but b now (gave b (entries_for b (shape b).attributes found ++ freed_with_variable d.own)) (entries_for b (shape b).attributes found ++ freed_with_variable d.own) (emptied_fields found.kind)
       (subst (AreTiles now 8 (length now)) (sym (records_deleted good drops d)) (subst (AreTiles now 8 (length now)) drops.records_are (takes drops.good d).edit.tiled_now))
       (λ m i. subst (In m) (sym (records_deleted good drops d)) (places_in m i))
       (λ m i. sizes_now m (places_in m i))
-      (λ m i. elim (one_of m i) [ inl j ↦ entry_behind m j | inr j ↦ own_behind m j ])
+      (λ m i. elim (one_of m i) [ inl j ↦ (λ k lt low out. (entry_behind m j).each (m + k) (omega arith) (omega arith)) | inr j ↦ own_behind m j ])

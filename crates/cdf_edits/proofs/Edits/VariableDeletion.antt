@@ -7,8 +7,8 @@ use Rattle.cdf_edits.proofs.Edits.ActsStill.{acts_still_by}
 use Rattle.cdf_edits.proofs.Edits.ActsThen.{all_gave, gave-same}
 use Rattle.cdf_edits.proofs.Edits.FreedAfter.{may_free, places_in, sizes_before}
 use Rattle.cdf_edits.proofs.Edits.FreedRecords.{sizes_by_tiles}
-use Rattle.cdf_edits.proofs.Edits.RemovedVariable.{frees, content_after, good_after, long_now, records_are, r_max_after}
-use Rattle.cdf_edits.proofs.Edits.UnlinkedVariable.{as_long, mid_sound, unlinked_edit, unlinked_shape}
+use Rattle.cdf_edits.proofs.Edits.EmptiedVdr.{emptying_marks, emptied_edit, emptied_long, emptied_shape, emptied_sound}
+use Rattle.cdf_edits.proofs.Edits.RemovedVariable.{emptied, frees, content_after, good_after, long_now, records_are, r_max_after}
 
 -- ---- the step
 
@@ -19,9 +19,9 @@ attributes_apart : (d : DataSet) (as_ : List Attribute) (kind : Kind) → variab
 attributes_apart d as_ R = refl
 attributes_apart d as_ Z = refl
 
-free_of_unused : (kind : Kind) (gdr : ℕ) (members later : List ℕ) → unmarked (variable_unlinking_marks kind gdr members later) uir_type ≡ true
-free_of_unused R gdr members later = refl
-free_of_unused Z gdr members later = refl
+free_of_unused : (kind : Kind) (gdr : ℕ) (members later : List ℕ) (vdr : ℕ) → unmarked (variable_unlinking_marks kind gdr members later ++ emptying_marks kind vdr) uir_type ≡ true
+free_of_unused R gdr members later vdr = refl
+free_of_unused Z gdr members later vdr = refl
 
 module _ {b mid now : List ℕ} {found : Found} (good : Good b) (drops : DropsEntries b found mid) (d : RemovesVariable mid now found.kind found.number) where
   h : HasShape b (shape b)
@@ -58,15 +58,15 @@ module _ {b mid now : List ℕ} {found : Found} (good : Good b) (drops : DropsEn
   pub own_in : (m : ℕ) → In m (freed_with_variable d.own) → In m (shape b).records
   own_in m i = subst (In m) drops.records_are (places_in (frees drops.good d) m i)
 
-  unlinked_acts : ActsFollow b d.mid (gave b (entries_for b (shape b).attributes found))
-  unlinked_acts =
-      let same = unlinked_shape drops.good d.unlinks in
-      acts_still_by (good_is_sound mid drops.good) drops.acts (unlinked_edit drops.good d.unlinks) (free_of_unused found.kind (shape mid).gdr (vdrs (shapes_of (shape mid) found.kind)) (vdrs d.after)) (ap (λ (x : Shape). x.records) same) (ap (λ (x : Shape). x.unused) same) (as_long drops.good d.unlinks)
+  emptied_acts : ActsFollow b (emptied drops.good d) (gave b (entries_for b (shape b).attributes found))
+  emptied_acts =
+      let same = emptied_shape drops.good d.unlinks in
+      acts_still_by (good_is_sound mid drops.good) drops.acts (emptied_edit drops.good d.unlinks) (free_of_unused found.kind (shape mid).gdr (vdrs (shapes_of (shape mid) found.kind)) (vdrs d.after) d.own.vdr) (ap (λ (x : Shape). x.records) same) (ap (λ (x : Shape). x.unused) same) (emptied_long drops.good d.unlinks)
 
   pub acts_deleted : ActsFollow b now (gave b (entries_for b (shape b).attributes found ++ freed_with_variable d.own))
   acts_deleted =
-      let all = all_gave b d.mid now (gave b (entries_for b (shape b).attributes found)) (type_in (variables_chain found.kind) ∷ index_types) (freed_with_variable d.own) h unlinked_acts (mid_sound drops.good d.unlinks) (may_free (frees drops.good d)) d.given in
-      let sizes = gave-same b d.mid (freed_with_variable d.own) (λ m i. sizes_before (frees drops.good d) m i ∙ sizes_mid m (own_in m i)) in
+      let all = all_gave b (emptied drops.good d) now (gave b (entries_for b (shape b).attributes found)) (type_in (variables_chain found.kind) ∷ index_types) (freed_with_variable d.own) h emptied_acts (emptied_sound drops.good d.unlinks) (may_free (frees drops.good d)) d.given in
+      let sizes = gave-same b (emptied drops.good d) (freed_with_variable d.own) (λ m i. sizes_before (frees drops.good d) m i ∙ sizes_mid m (own_in m i)) in
       subst (ActsFollow b now) (ap (λ (xs : List Act). gave b (entries_for b (shape b).attributes found) ++ xs) sizes ∙ sym acts_are) all
 
   -- ---- rMaxRec

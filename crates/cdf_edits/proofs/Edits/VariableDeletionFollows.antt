@@ -1,6 +1,6 @@
 -- The two calls of a deletion together follow the command.
 use Rattle.std.proofs.Common.{◌≡◌, ℕ, ◌≤◌, List, ◌++◌, length, Option, Some, None, refl, sym, ap, subst, ◌∙◌}
-use Rattle.cdf_edits.proofs.Common.{same_Some, slice_get, Done, Refused, Refuse, DataSet, image_limit, Found, variable_named, ByStep, del_var_step, content, owned, VariableShape, shape, Good, Answers, AllKeep, Allowances, shapes_of, stays_all, del_var_changes, entries_for, freed_with_variable, DropsEntries, RemovesVariable, gave}
+use Rattle.cdf_edits.proofs.Common.{same_Some, slice_get, Done, Refused, Refuse, DataSet, image_limit, Found, variable_named, ByStep, del_var_step, content, owned, VariableShape, shape, Good, Answers, AllKeep, Allowances, shapes_of, stays_all, Says, del_var_changes, entries_for, freed_with_variable, no_index, DropsEntries, RemovesVariable, gave}
 use Rattle.cdf_model.specs.declared.answer.Reason.TheVariants as reasons
 use Rattle.cdf_model.specs.declared.answer.Reply.TheVariants as replies
 use Rattle.cdf_model.specs.declared.command.Command.TheVariants as commands
@@ -9,7 +9,7 @@ use Rattle.cdf_edits.proofs.Commands.Answered.{gone_by_giving, refused}
 use Rattle.cdf_edits.proofs.Commands.ListParts.{got-middle}
 use Rattle.cdf_edits.proofs.Edits.VariableDeleted.{attribute_follows, freed_deleted}
 use Rattle.cdf_edits.proofs.Edits.VariableDeletion.{acts_deleted, good_deleted, goes_deleted, long_deleted, r_max_deleted}
-use Rattle.cdf_edits.proofs.Edits.RemovedVariable.{takes, records_are}
+use Rattle.cdf_edits.proofs.Edits.RemovedVariable.{takes, records_are, left_empty}
 use Rattle.cdf_edits.proofs.Edits.VariableKeeps.{all_kept}
 
 module _ {b mid now : List ℕ} {found : Found} (good : Good b) (drops : DropsEntries b found mid) (d : RemovesVariable mid now found.kind found.number) (name : List ℕ) (named : variable_named (content b) name ≡ Some found) where
@@ -19,6 +19,7 @@ module _ {b mid now : List ℕ} {found : Found} (good : Good b) (drops : DropsEn
     attributes = λ k a a' here there. attribute_follows good drops d k a a' here there;
     r_max_rec_is = r_max_deleted good drops d;
     freed = freed_deleted good drops d;
+    emptied = subst (λ (x : VariableShape). Says now x.vdr no_index) (own_is v at) (left_empty drops.good d);
   }
     where
       own_is : (v : VariableShape) → slice_get (shapes_of (shape b) found.kind) found.number ≡ Some v → d.own ≡ v

@@ -144,7 +144,7 @@ records_at [] k a e m i = absurd cc
 records_at (x ∷ xs) zero a e m i = In-append_left m (attribute_records x) (flat_map attribute_records xs) (subst (λ (y : AttributeShape). In m (attribute_records y)) (sym (same_Some x a e)) i)
 records_at (x ∷ xs) (suc k) a e m i = In-append_right m (attribute_records x) (flat_map attribute_records xs) (records_at xs k a e m i)
 
-module _ {b mid now : List ℕ} {found : Found} (good : Good b) (drops : DropsEntries b found mid) (d : RemovesVariable mid now found.kind found.number) (takes : TakesVariable mid now (shape mid) found.kind d.before d.own d.after (freed_with_variable d.own) (length d.mid)) (same : (shape now).records ≡ (shape mid).records) where
+module _ {b mid now : List ℕ} {found : Found} (good : Good b) (drops : DropsEntries b found mid) (d : RemovesVariable mid now found.kind found.number) {limit : ℕ} (takes : TakesVariable mid now (shape mid) found.kind d.before d.own d.after (freed_with_variable d.own) limit) (same : (shape now).records ≡ (shape mid).records) where
   abbrev may : Allowances
   may = del_var_changes b (content b) (shape b) found
 
@@ -165,16 +165,16 @@ module _ {b mid now : List ℕ} {found : Found} (good : Good b) (drops : DropsEn
   places = freed_with_variable d.own
 
   abbrev marks : List Mark
-  marks = variable_removing_marks found.kind (shape mid).gdr (vdrs (shapes_of (shape mid) found.kind)) (vdrs d.after) (shape mid).unused (freed_with_variable d.own) (length d.mid)
+  marks = variable_removing_marks found.kind (shape mid).gdr (vdrs (shapes_of (shape mid) found.kind)) (vdrs d.after) (shape mid).unused (freed_with_variable d.own) limit
 
   e : Edit mid now (shape mid).records (shape mid).records marks places
   e = takes.edit
 
-  t : KeepTests found.kind (shape mid).gdr (vdrs (shapes_of (shape mid) found.kind)) (vdrs d.after) (shape mid).unused (freed_with_variable d.own) (length d.mid)
-  t = keep_tests found.kind (shape mid).gdr (vdrs (shapes_of (shape mid) found.kind)) (vdrs d.after) (shape mid).unused (freed_with_variable d.own) (length d.mid)
+  t : KeepTests found.kind (shape mid).gdr (vdrs (shapes_of (shape mid) found.kind)) (vdrs d.after) (shape mid).unused (freed_with_variable d.own) limit
+  t = keep_tests found.kind (shape mid).gdr (vdrs (shapes_of (shape mid) found.kind)) (vdrs d.after) (shape mid).unused (freed_with_variable d.own) limit
 
   u : TakingTests found.kind marks
-  u = taking_tests found.kind (shape mid).gdr (vdrs (shapes_of (shape mid) found.kind)) (vdrs d.after) (shape mid).unused (freed_with_variable d.own) (length d.mid)
+  u = taking_tests found.kind (shape mid).gdr (vdrs (shapes_of (shape mid) found.kind)) (vdrs d.after) (shape mid).unused (freed_with_variable d.own) limit
 
   -- ---- the file
 
@@ -226,7 +226,7 @@ module _ {b mid now : List ℕ} {found : Found} (good : Good b) (drops : DropsEn
   behind_keeps : (k : Kind) (i : ℕ) (v : VariableShape) → slice_get (shapes_of (shape b) k) i ≡ Some v → (m : ℕ) → In m (index_records v) → (In m places → ⊥) → Keeps b now m (Only [])
   behind_keeps k i v at m j out =
       let typed = index_type_at mid (shape mid) (shapes_of (shape mid) k) (kind_ours mid (shape mid) sound_mid k) i v (ap (λ (vs : List VariableShape). slice_get vs i) (drops.variables_are k) ∙ at) m j in
-      let away = confined-away marks index_types places (type_at mid m) m (index_confined found.kind (shape mid).gdr (vdrs (shapes_of (shape mid) found.kind)) (vdrs d.after) (shape mid).unused (freed_with_variable d.own) (length d.mid)) typed out in
+      let away = confined-away marks index_types places (type_at mid m) m (index_confined found.kind (shape mid).gdr (vdrs (shapes_of (shape mid) found.kind)) (vdrs d.after) (shape mid).unused (freed_with_variable d.own) limit) typed out in
       stays_then b mid now m [] [] [] (drops.variables_kept k m (in_kind k i v at m (inr j))) (keeps_away sound_mid e same m (type_at mid m) (Only []) (in_mid k i v at m (inr j)) refl away) (λ n o. (tt, tt))
 
   -- of the kind, with another number
@@ -242,7 +242,7 @@ module _ {b mid now : List ℕ} {found : Found} (good : Good b) (drops : DropsEn
   vdr_keeps : (i : ℕ) (v : VariableShape) → slice_get (shapes_of (shape b) found.kind) i ≡ Some v → (In v.vdr places → ⊥) → Keeps b now v.vdr (Only (next_field ∷ vdr_num ∷ []))
   vdr_keeps i v at out =
       let typed = linkable-type mid (shape mid).records (type_in (variables_chain found.kind)) v.vdr (linked_mid found.kind i v at) in
-      let avoids = vdr_avoids found.kind (shape mid).gdr (vdrs (shapes_of (shape mid) found.kind)) (vdrs d.after) (shape mid).unused (freed_with_variable d.own) (length d.mid) v.vdr 0 12 out (inl (omega arith)) (λ l. inl (omega arith)) in
+      let avoids = vdr_avoids found.kind (shape mid).gdr (vdrs (shapes_of (shape mid) found.kind)) (vdrs d.after) (shape mid).unused (freed_with_variable d.own) limit v.vdr 0 12 out (inl (omega arith)) (λ l. inl (omega arith)) in
       stays_then b mid now v.vdr [] (next_field ∷ vdr_num ∷ []) (next_field ∷ vdr_num ∷ []) (drops.variables_kept found.kind v.vdr (in_kind found.kind i v at v.vdr (inl refl)))
       (keeps_within sound_mid e same v.vdr (type_in (variables_chain found.kind)) (next_field ∷ vdr_num ∷ []) (in_mid found.kind i v at v.vdr (inl refl)) typed avoids (t.vdr_within v.vdr out)) (λ k o. (tt, o))
 

@@ -1,10 +1,9 @@
 -- Fields that are written one behind the other read back.
 use Rattle.std.proofs.Common.{◌≡◌, ℕ, suc, ◌+◌, ◌*◌, ◌^◌, ◌<◌, ◌≤◌, List, [], ◌∷◌, ◌++◌, length, drop, take, Bool, true, ◌≢◌, refl, sym, ap, ap₂, ◌∙◌, append_assoc, arith}
-use Rattle.cdf_edits.proofs.Common.{eqb-true, drop-drop, length-append, drop-append_seam, flat_map, ◌==◌, ◌&&◌, big_bytes, length-bytes_high_first, Same, word, words, Field, Each, word_kept, both, drop-put_there, piece_kept, take_at, is_record_type, fixed_size, uir_type, type_of_body, record_type}
+use Rattle.cdf_edits.proofs.Common.{Says, eqb-true, drop-drop, length-append, drop-append_seam, flat_map, ◌==◌, ◌&&◌, big_bytes, length-bytes_high_first, Same, word, words, Field, Each, word_kept, both, drop-put_there, piece_kept, take_at, is_record_type, fixed_size, uir_type, type_of_body, record_type}
 use Rattle.byteorder.specs.Endian.{big_from}
 use Rattle.byteorder.specs.Numbers.{big_number-reads_back, big_from-take}
 use Rattle.cdf_format.proofs.Pieces.{word_of_piece_lem}
-use Rattle.cdf_edits.specs.Commands.NewRecords.{Says}
 use Rattle.cdf_edits.specs.Space.Placing.{IsBody, Placed, laid_out}
 
 -- each stands where the one before it ends

@@ -30,13 +30,13 @@ module _ (b now : List ℕ) (s : Shape) (place : ℕ) (sound : IsSound b s) (ins
   no_fourth : (f a v u : ℕ) → f + (a + (v + u)) ≡ 0 → 1 ≤ u → ⊥
   no_fourth f a v u e o = absurd (omega arith)
 
-  no_file : (m : ℕ) → In m (file_records s) → In m (place ∷ []) → ⊥
+  pub no_file : (m : ℕ) → In m (file_records s) → In m (place ∷ []) → ⊥
   no_file m i j = elim j [ inl e ↦ no_first _ _ _ _ none (times-in place (file_records s) (subst (λ (x : ℕ). In x (file_records s)) e i)) | inr never ↦ never ]
 
-  no_attribute : (m : ℕ) → In m (all_attribute_records s) → In m (place ∷ []) → ⊥
+  pub no_attribute : (m : ℕ) → In m (all_attribute_records s) → In m (place ∷ []) → ⊥
   no_attribute m i j = elim j [ inl e ↦ no_second (times place (file_records s)) _ _ _ none (times-in place (all_attribute_records s) (subst (λ (x : ℕ). In x (all_attribute_records s)) e i)) | inr never ↦ never ]
 
-  no_variable : (m : ℕ) → In m (all_variable_records s) → In m (place ∷ []) → ⊥
+  pub no_variable : (m : ℕ) → In m (all_variable_records s) → In m (place ∷ []) → ⊥
   no_variable m i j = elim j [ inl e ↦ no_third (times place (file_records s)) (times place (all_attribute_records s)) _ _ none (times-in place (all_variable_records s) (subst (λ (x : ℕ). In x (all_variable_records s)) e i)) | inr never ↦ never ]
 
   pub place_used : type_at b place ≢ uir_type

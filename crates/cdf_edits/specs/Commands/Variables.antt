@@ -17,7 +17,7 @@ use Rattle.cdf_format.specs.Chains.{next_field, next_of}
 use Rattle.cdf_format.specs.Content.{content, attribute_of, scope_of}
 use Rattle.cdf_format.specs.Fields.{number, words}
 use Rattle.cdf_format.specs.Index.{leaves_of, nodes_of}
-use Rattle.cdf_format.specs.Records.{Field, gdr_r_vdr_head, gdr_z_vdr_head, gdr_nr_vars, gdr_nz_vars, adr_scope, aedr_num, vdr_vxr_tail, vdr_flags, vdr_pad_bit, vdr_num, vdr_rfu_b, vdr_rfu_c, vdr_rfu_f, vdr_cpr_or_spr_offset, vdr_blocking_factor, vdr_name}
+use Rattle.cdf_format.specs.Records.{Field, gdr_r_vdr_head, gdr_z_vdr_head, gdr_nr_vars, gdr_nz_vars, adr_scope, aedr_num, vdr_vxr_head, vdr_vxr_tail, vdr_flags, vdr_pad_bit, vdr_num, vdr_rfu_b, vdr_rfu_c, vdr_rfu_f, vdr_cpr_or_spr_offset, vdr_blocking_factor, vdr_name}
 use Rattle.cdf_format.specs.Shape.{AttributeShape, Shape, VariableShape, Each, shape}
 use Rattle.cdf_format.specs.VariableFields.{vary_field, pad_field}
 use Rattle.cdf_format.specs.VariableRules.{vdr_end}
@@ -106,6 +106,14 @@ entries_for b attributes found =
 abbrev pub freed_with_variable : VariableShape → List ℕ
 freed_with_variable v = map (λ leaf. leaf.place) (leaves_of v.index) ++ nodes_of v.index ++ v.cpr ++ v.vdr ∷ []
 
+-- the VDR leads to no node any more
+abbrev pub no_index : List (Field × ℕ)
+no_index = (vdr_vxr_head, 0) ∷ (vdr_vxr_tail, 0) ∷ []
+
+-- and no other field of what is freed is written
+abbrev pub emptied_fields : Kind → ℕ → List Field
+emptied_fields kind type = if type == vdr_type kind then map (λ pair. pair.0) no_index else []
+
 -- an attribute of variables has an entry of this kind whose number goes or falls
 abbrev pub is_renumbered : Attribute → EntryKind → ℕ → Bool
 is_renumbered a kind num = not (is_global a.scope) && list_any (λ pair. nat_le num pair.0) (entries_of a kind)
@@ -129,7 +137,8 @@ pub record DeletesVariable (b now : List ℕ) (found : Found) (v : VariableShape
   pub acts_are : acts ≡ gave b (entries_for b (shape b).attributes found ++ freed_with_variable v)
   pub attributes : (n : ℕ) (a a' : AttributeShape) → slice_get (shape b).attributes n ≡ Some a → slice_get (shape now).attributes n ≡ Some a' → AttributeFollows b now found a a'
   pub r_max_rec_is : RMaxRecOf b now found.kind
-  pub freed : FreedStay b now no_fields acts
+  pub freed : FreedStay b now (emptied_fields found.kind) acts
+  pub emptied : Says now v.vdr no_index
 
 abbrev pub DeletesNamed : List ℕ → List ℕ → List ℕ → List Act → Type 0
 DeletesNamed b now name acts = (found : Found) (v : VariableShape) → variable_named (content b) name ≡ Some found → slice_get (shapes_of (shape b) found.kind) found.number ≡ Some v → DeletesVariable b now found v acts

@@ -1,4 +1,4 @@
--- The steps by which a variable goes: the link, the count, the numbers of those behind, of an r variable rMaxRec, and then its records (own).
+-- The steps by which a variable goes: the link, the count, the numbers of those behind, of an r variable rMaxRec, the links to its index, and then its records (own).
 use Rattle.std.specs.Prelude.{◌≡◌, ℕ, ℤ, suc, max, ◌+◌, ◌^◌, ◌<◌, List, [], ◌∷◌, ◌++◌, length, map}
 use Rattle.std.specs.Int.{w32, cast_unsigned}
 use Rattle.std.specs.List.{fold}
@@ -14,7 +14,7 @@ use Rattle.cdf_edits.specs.Edits.Writes.{Write, write, with_writes}
 use Rattle.cdf_edits.specs.Space.Chains.{head_of, count_of, type_in, Removed}
 use Rattle.cdf_edits.specs.Space.Freeing.{AllGiven}
 use Rattle.cdf_edits.specs.Space.VariableChains.{variables_chain}
-use Rattle.cdf_format.specs.Records.{gdr_r_max_rec, vdr_num}
+use Rattle.cdf_format.specs.Records.{gdr_r_max_rec, vdr_vxr_head, vdr_vxr_tail, vdr_num}
 use Rattle.cdf_format.specs.RecordTypes.{gdr_type}
 use Rattle.cdf_format.specs.Shape.{VariableShape, vdrs, shape}
 use Rattle.cdf_format.specs.VariableFields.{max_rec_at}
@@ -35,6 +35,10 @@ abbrev pub r_max_writes : Kind → ℕ → ℤ → List Write
 r_max_writes R gdr greatest = write gdr gdr_r_max_rec (cast_unsigned w32 greatest) ∷ []
 r_max_writes Z gdr greatest = []
 
+-- a VDR leads to no node any more
+abbrev pub empty_writes : ℕ → List Write
+empty_writes vdr = write vdr vdr_vxr_head 0 ∷ write vdr vdr_vxr_tail 0 ∷ []
+
 -- ---- the steps
 
 -- from an image to one in which no chain leads to one of its variables
@@ -47,7 +51,7 @@ pub record UnlinksVariable (b mid : List ℕ) (kind : Kind) (before : List Varia
   pub written : mid ≡ with_writes second (r_max_writes kind (shape b).gdr (greatest_at b (vdrs (before ++ after))))
   pub few : length before + length after < 256 ^ 4
 
--- The variable of a number was taken out of the chain, and then its records were freed.
+-- The variable of a number was taken out of the chain, its VDR leads to no node any more, and then its records were freed.
 pub record RemovesVariable (b now : List ℕ) (kind : Kind) (number : ℕ) : Type 0 where
   pub before : List VariableShape
   pub own : VariableShape
@@ -55,7 +59,7 @@ pub record RemovesVariable (b now : List ℕ) (kind : Kind) (number : ℕ) : Typ
   pub count : length before ≡ number
   pub mid : List ℕ
   pub unlinks : UnlinksVariable b mid kind before own after
-  pub given : AllGiven mid now (freed_with_variable own)
+  pub given : AllGiven (with_writes mid (empty_writes own.vdr)) now (freed_with_variable own)
 
 -- ---- the marks
 

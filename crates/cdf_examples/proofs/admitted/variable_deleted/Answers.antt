@@ -1,5 +1,6 @@
 use Rattle.std.proofs.Common.{refl, [], ◌∷◌, codes, pos, false, inl, arith}
-use Rattle.cdf_examples.proofs.Common.{Gave, block, no_entry, one_node, t_data, t_shape, high_first, found_z, delete_var_t, allowances, owned, Does, ActsFollow, AllKeep, no_fields}
+use Rattle.cdf_examples.proofs.Common.{Gave, block, no_entry, one_node, t_data, t_shape, high_first, found_z, delete_var_t, allowances, owned, Does, ActsFollow, AllKeep}
+use Rattle.cdf_edits.specs.Commands.Variables.{emptied_fields}
 use Rattle.cdf_edits.specs.Index.Blocks.{firsts_of, entry_firsts, cover}
 use Rattle.cdf_edits.specs.Index.Grown.{new_room, with_leaf, new_room_below, with_lower, cut_nodes, cut_entries, outline, entries_outline}
 use Rattle.cdf_edits.specs.Index.Cut.{sized_nodes, sized_nodes_below}
@@ -34,7 +35,8 @@ does = deleted_named small_block_file var_deleted_file (codes "T") (Gave 748 24 
   acts_are = refl;
   attributes = λ n a a' was is. absurd cc;
   r_max_rec_is = refl;
-  freed = freed_if small_block_file var_deleted_file no_fields (Gave 748 24 ∷ Gave 772 140 ∷ Gave 404 344 ∷ []) refl;
+  freed = freed_if small_block_file var_deleted_file (emptied_fields kinds.Z) (Gave 748 24 ∷ Gave 772 140 ∷ Gave 404 344 ∷ []) refl;
+  emptied = (refl, (refl, tt));
 })
 
 pub returns : goal.returns
