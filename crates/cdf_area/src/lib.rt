@@ -7,3 +7,4 @@ mod undo_log;
 
 pub use area::{Area, AreaError};
 pub use mem_area::MemArea;
+pub use undo_log::UndoLog;

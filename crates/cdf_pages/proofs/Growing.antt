@@ -7,13 +7,15 @@ use Rattle.std.specs.Cmp.{nat_eq_equiv}
 use Rattle.std.proofs.lemmas.Map.{lookup-remove_entry}
 use Rattle.std.proofs.lemmas.Map.Views.{lookup-from_Contains, Contains-from_lookup}
 use Rattle.lru.proofs.CallerLemmas.{Contains-promoted, Contains-put_entries}
+use Rattle.cdf_area.specs.OldBytes.{Old}
 use Rattle.cdf_pages.specs.Grown.{removed}
+use Rattle.cdf_pages.specs.Pages.{Covers, part_from, part_upto}
 use Rattle.cdf_pages.proofs.Filling.{false_not_true}
 
-pub grown_refl : (file : List ℕ) (n : ℕ) (m : Option ℕ) (p : ℕ → Option (List ℕ)) (k : ℕ → Option (Option (List ℕ))) → Grown file n m p k p k
+pub grown_refl : (file : List ℕ) (n : ℕ) (m : Option ℕ) (p : ℕ → Option (List ℕ)) (k : ℕ → Option (Option (List Old))) → Grown file n m p k p k
 grown_refl file n m p k = record { same = λ i lt. refl; less = λ q e. e; was = λ s q. refl; readys = λ q s. s }
 
-pub grown_trans : (file : List ℕ) (n : ℕ) (m : Option ℕ) (p p' p'' : ℕ → Option (List ℕ)) (k k' k'' : ℕ → Option (Option (List ℕ))) → Grown file n m p k p' k' → Grown file n m p' k' p'' k'' → Grown file n m p k p'' k''
+pub grown_trans : (file : List ℕ) (n : ℕ) (m : Option ℕ) (p p' p'' : ℕ → Option (List ℕ)) (k k' k'' : ℕ → Option (Option (List Old))) → Grown file n m p k p' k' → Grown file n m p' k' p'' k'' → Grown file n m p k p'' k''
 grown_trans file n m p p' p'' k k' k'' g h =
     record { same = λ i lt. h.same i lt ∙ g.same i lt; less = λ q e. g.less q (h.less q e); was = λ s q. h.was s q ∙ g.was s q; readys = λ q s. h.readys q (g.readys q s) }
 
@@ -28,11 +30,14 @@ removed_next from k es es' es'' low e h =
     h ∙ ap (remove_entry (nat_eq k)) e ∙ ap (λ q. remove_entry (nat_eq q) (removed from (k - from) es)) (omega arith)
     ∙ sym (removed_more from (k - from) es) ∙ ap (λ n. removed from n es) (omega arith)
 
-pub owned_more : (m : Option ℕ) (p p' : ℕ → Option (List ℕ)) (k k' : ℕ → Option (Option (List ℕ))) (from at : ℕ) → Owned m p k from at → ((q : ℕ) → p' q ≡ None → p q ≡ None) → ((q : ℕ) → IsSome (k q) → IsSome (k' q))
-    → (p' at ≡ None → ⊥) → (IsSome m → IsSome (k' at)) → Owned m p' k' from (at + 1)
-owned_more m p p' k k' from at h less more there ready = record {
+pub owned_more : (m : Option ℕ) (p p' : ℕ → Option (List ℕ)) (k k' : ℕ → Option (Option (List Old))) (place end from at : ℕ) → Owned m p k place end from at → ((q : ℕ) → p' q ≡ None → p q ≡ None) → ((q : ℕ) → (q ≡ at → ⊥) → k' q ≡ k q)
+    → (p' at ≡ None → ⊥) → (IsSome m → Covers (k' at) (part_from place at) (part_upto end at)) → Owned m p' k' place end from (at + 1)
+owned_more m p p' k k' place end from at h less others there ready = record {
   there = λ q lo hi e. elim (cases_lt q at) [ inl before ↦ h.there q lo before (less q e) | inr after ↦ (let same : q ≡ at = omega arith in there (subst (λ x. p' x ≡ None) same e)) ];
-  ready = λ q lo hi s. elim (cases_lt q at) [ inl before ↦ more q (h.ready q lo before s) | inr after ↦ (let same : q ≡ at = omega arith in subst (λ x. IsSome (k' x)) (sym same) (ready s)) ];
+  ready = λ q lo hi s. elim (cases_lt q at) [
+    | inl before ↦ subst (λ o. Covers o (part_from place q) (part_upto end q)) (sym (others q (λ e. omega (arith, before, e)))) (h.ready q lo before s)
+    | inr after ↦ (let same : q ≡ at = omega arith in subst (λ x. Covers (k' x) (part_from place x) (part_upto end x)) (sym same) (ready s))
+  ];
 }
 
 pub some_not_none : {X : Type 0} (o : Option X) → IsSome o → o ≡ None → ⊥
@@ -41,7 +46,7 @@ some_not_none o s e = false_not_true (sym (ap is_some e) ∙ s)
 pub backed_grown : (p p' : ℕ → Option (List ℕ)) (long n : ℕ) → Backed p long n → ((q : ℕ) → p' q ≡ None → p q ≡ None) → Backed p' long n
 backed_grown p p' long n b less i lt e = b i lt (less (i / 65536) e)
 
-pub grown_next : (file file' : List ℕ) (n n' : ℕ) (m m' : Option ℕ) (p p' p'' : ℕ → Option (List ℕ)) (k k' k'' : ℕ → Option (Option (List ℕ))) → file' ≡ file → n' ≡ n → m' ≡ m
+pub grown_next : (file file' : List ℕ) (n n' : ℕ) (m m' : Option ℕ) (p p' p'' : ℕ → Option (List ℕ)) (k k' k'' : ℕ → Option (Option (List Old))) → file' ≡ file → n' ≡ n → m' ≡ m
     → Grown file n m p k p' k' → Grown file' n' m' p' k' p'' k'' → Grown file n m p k p'' k''
 grown_next file file' n n' m m' p p' p'' k k' k'' ef en em g h = record {
   same = λ i lt. subst (λ f. byte_of p'' f i ≡ byte_of p' f i) ef (h.same i (omega (arith, lt, en))) ∙ g.same i lt;

@@ -1,6 +1,7 @@
 pub mod Common
 pub mod Between
 pub mod Costs
+pub mod Covered
 pub mod Disks
 pub mod Filling
 pub mod Growing

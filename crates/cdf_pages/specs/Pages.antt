@@ -1,7 +1,9 @@
 -- An image in pages of 65,536 bytes: some pages are changed ones, and all other bytes are those of a file.
-use Rattle.std.specs.Prelude.{◌≡◌, ℕ, Bool, is_some, zero, suc, ◌+◌, ◌*◌, ◌/◌, ◌%◌, ◌<◌, ◌≤◌, List, [], ◌∷◌, nat_eq, slice_index, Some, None}
+use Rattle.std.specs.Prelude.{◌≡◌, ◌⊎◌, ℕ, Bool, is_some, zero, suc, min, ◌+◌, ◌-◌, ◌*◌, ◌/◌, ◌%◌, ◌<◌, ◌≤◌, List, [], ◌∷◌, length, nat_eq, slice_index, Some, None}
 use Rattle.std.specs.Map.{lookup}
 use Rattle.std.specs.declared.option.Option.{Option}
+use Rattle.std.specs.Option.{option_map}
+use Rattle.cdf_area.specs.OldBytes.{Old, back}
 
 -- a byte, of a page that is changed or of the file
 abbrev pub byte_from : Option (List ℕ) → List ℕ → ℕ → ℕ
@@ -24,10 +26,23 @@ listed f i (suc n) = f i ∷ listed f (suc i) n
 unfoldable pub image_of : (ℕ → Option (List ℕ)) → List ℕ → ℕ → List ℕ
 image_of pages file n = listed (byte_of pages file) 0 n
 
--- what a page was at the mark: as it is kept, else as it is now; none where it was not a changed page
-abbrev pub was : Option (Option (List ℕ)) → Option (List ℕ) → Option (List ℕ)
+-- what a page was at the mark: as it is now, with what is kept of it put back; none where it was not a changed page
+abbrev pub was : Option (Option (List Old)) → Option (List ℕ) → Option (List ℕ)
 was None now = now
-was (Some old) now = old
+was (Some None) now = None
+was (Some (Some olds)) now = option_map (back olds) now
+
+-- What is kept of a page covers a range: whatever stands there, the page was the same at the mark.
+abbrev pub Covers : Option (Option (List Old)) → ℕ → ℕ → Type 0
+Covers kept from upto =
+    (page page' : List ℕ) → length page ≡ 65536 → length page' ≡ 65536 → ((i : ℕ) → (i < from) ⊎ (upto ≤ i) → slice_index page i ≡ slice_index page' i) → was kept (Some page) ≡ was kept (Some page')
+
+-- the part of a range of the image that lies in a page
+abbrev pub part_from : ℕ → ℕ → ℕ
+part_from place number = place - number * 65536
+
+abbrev pub part_upto : ℕ → ℕ → ℕ
+part_upto end number = min (end - number * 65536) 65536
 
 -- each of the first n bytes that lies in no changed page stands in the file, which has so many bytes
 abbrev pub Backed : (ℕ → Option (List ℕ)) → ℕ → ℕ → Type 0

@@ -8,11 +8,11 @@ ghost use Rattle.std.specs.BTreeMap.{get};
 ghost use Rattle.cdf_base.specs.Causes.{HasCauseOf};
 ghost use Rattle.cdf_store.specs.Disk.{file_of};
 ghost use Rattle.cdf_pages.specs.Grown.{Grown, Owned, RemovesSome, removed};
-ghost use Rattle.cdf_pages.specs.Pages.{Backed, Shows, TakesAtMost, is_in};
+ghost use Rattle.cdf_pages.specs.Pages.{Backed, Covers, Shows, TakesAtMost, is_in};
 ghost use Rattle.cdf_pages.specs.Standing.{cost_of_writing};
 
 use crate::cache::Cache;
-use crate::page::Page;
+use crate::page::{PAGE, Page};
 use crate::reading::{live_bytes, load_page};
 use crate::sheets::Sheets;
 use cdf_area::AreaError;
@@ -45,20 +45,24 @@ fn take_page<S: Store>(
     load_page(alloc, store, clean, number, live)
 }
 
-/// Makes a page a changed one with the same bytes, and keeps it where there is a mark.
+/// Makes a page a changed one with the same bytes. Where there is a mark, what stands in a part of it is kept.
 fn own_page<S: Store>(
     alloc: Global,
     store: &mut S,
     sheets: &mut Sheets,
     clean: &mut Cache,
     number: u64,
+    from: usize,
+    upto: usize,
 ) -> Result<(), AreaError>
+    requires room { upto ≤ 65536 }
     requires fits { number * 65536 < 2 ^ 64 }
     requires shows { (page : List ℕ) → lookup (nat_eq number) clean.old.entries ≡ Some page → Shows (file_of (S.disk store.old)) sheets.old.length number page }
     requires backed { Backed (get nat_cmp sheets.old.changed) (length (file_of (S.disk store.old))) sheets.old.length }
     ensures grown { Grown (file_of (S.disk store.old)) sheets.old.length sheets.old.marked (get nat_cmp sheets.old.changed) (get nat_cmp sheets.old.kept) (get nat_cmp sheets.new.changed) (get nat_cmp sheets.new.kept) }
     ensures there { OnOk result (IsSome (get nat_cmp sheets.new.changed number)) }
-    ensures ready { OnOk result (IsSome sheets.old.marked → IsSome (get nat_cmp sheets.new.kept number)) }
+    ensures ready { OnOk result (IsSome sheets.old.marked → Covers (get nat_cmp sheets.new.kept number) from upto) }
+    ensures kept { (other : ℕ) → (other ≡ number → ⊥) → get nat_cmp sheets.new.kept other ≡ get nat_cmp sheets.old.kept other }
     ensures others { (other : ℕ) → (other ≡ number → ⊥) → get nat_cmp sheets.new.changed other ≡ get nat_cmp sheets.old.changed other }
     ensures clean { (clean.new.entries ≡ clean.old.entries) ⊎ (clean.new.entries ≡ remove_entry (nat_eq number) clean.old.entries) }
     ensures gone { OnOk result (clean.new.entries ≡ remove_entry (nat_eq number) clean.old.entries) }
@@ -74,7 +78,7 @@ fn own_page<S: Store>(
     ensures write { S.write_faults store.new ≡ S.write_faults store.old }
 {
     let _count = clean.len();
-    sheets.keep_page(number)?;
+    sheets.keep_page(number, from, upto)?;
     if sheets.has(number) {
         let _ = clean.pop(&number);
         return Ok(());
@@ -84,12 +88,15 @@ fn own_page<S: Store>(
     Ok(())
 }
 
-/// Makes the pages from one up to another changed ones with the same bytes.
+/// Makes the pages from one up to another changed ones with the same bytes. Where there is a mark, what stands in them from a
+/// place to an end is kept.
 pub fn own_pages<S: Store>(
     alloc: Global,
     store: &mut S,
     sheets: &mut Sheets,
     clean: &mut Cache,
+    place: u64,
+    end: u64,
     from: u64,
     upto: u64,
 ) -> Result<(), AreaError>
@@ -97,7 +104,7 @@ pub fn own_pages<S: Store>(
     requires shows { (other : ℕ) → (page : List ℕ) → lookup (nat_eq other) clean.old.entries ≡ Some page → Shows (file_of (S.disk store.old)) sheets.old.length other page }
     requires backed { Backed (get nat_cmp sheets.old.changed) (length (file_of (S.disk store.old))) sheets.old.length }
     ensures grown { Grown (file_of (S.disk store.old)) sheets.old.length sheets.old.marked (get nat_cmp sheets.old.changed) (get nat_cmp sheets.old.kept) (get nat_cmp sheets.new.changed) (get nat_cmp sheets.new.kept) }
-    ensures owned { OnOk result (Owned sheets.new.marked (get nat_cmp sheets.new.changed) (get nat_cmp sheets.new.kept) from upto) }
+    ensures owned { OnOk result (Owned sheets.new.marked (get nat_cmp sheets.new.changed) (get nat_cmp sheets.new.kept) place end from upto) }
     ensures others { (other : ℕ) → (other < from) ⊎ (upto ≤ other) → get nat_cmp sheets.new.changed other ≡ get nat_cmp sheets.old.changed other }
     ensures clean { RemovesSome from (upto - from) clean.old.entries clean.new.entries }
     ensures gone { OnOk result (clean.new.entries ≡ removed from (upto - from) clean.old.entries) }
@@ -114,7 +121,10 @@ pub fn own_pages<S: Store>(
 {
     let mut number = from;
     while number < upto {
-        own_page(alloc, store, sheets, clean, number)?;
+        let start = number * PAGE;
+        let within = place.saturating_sub(start) as usize;
+        let behind = end.saturating_sub(start).min(PAGE) as usize;
+        own_page(alloc, store, sheets, clean, number, within, behind)?;
         number += 1;
     }
     Ok(())

@@ -1,9 +1,10 @@
 //! The bytes of one page.
 
-ghost use Rattle.std.specs.Prelude.{◌≡◌, ◌+◌, ◌≤◌, IfOk, length, take, drop};
+ghost use Rattle.std.specs.Prelude.{◌≡◌, ◌+◌, ◌-◌, ◌≤◌, length, take, drop};
+ghost use Rattle.cdf_area.specs.OldBytes.{AllLieBelow, back};
 ghost use Rattle.cdf_base.specs.Bytes.{put};
 
-use std::alloc::{AllocError, Global};
+use cdf_area::UndoLog;
 use std::marker::Model;
 
 /// How many bytes a page has.
@@ -42,19 +43,13 @@ impl Page {
         self.bytes
     }
 
-    /// The same bytes once more.
-    pub fn copied(&self, alloc: Global) -> Result<Page, AllocError>
-        ensures { IfOk result (λ page. page ≡ self.now) }
+    /// Puts old bytes back, the last first.
+    #[tactic(auto, using(crate::proofs::Covered::length_back))]
+    pub fn put_back(&mut self, log: UndoLog)
+        requires { AllLieBelow 65536 log }
+        ensures { self.new ≡ back log self.old }
     {
-        let bytes = Vec::from_slice(alloc, &self.bytes)?;
-        Ok(Page { bytes })
-    }
-
-    /// Makes the bytes those of another page.
-    pub fn assign(&mut self, other: &Page)
-        ensures { self.new ≡ other.now }
-    {
-        self.bytes.copy_from_slice(&other.bytes);
+        log.put_back(&mut self.bytes);
     }
 
     /// Writes bytes over those from a place on.
@@ -76,6 +71,17 @@ impl Page {
         ensures whole { length self.now ≡ 65536 }
     {
         out.copy_from_slice(&self.bytes[place..place + out.len()]);
+    }
+
+    /// The bytes from a place up to another.
+    pub fn piece(&self, from: usize, upto: usize) -> &[u8]
+        requires order { from ≤ upto }
+        requires room { upto ≤ 65536 }
+        ensures bytes { result.now ≡ take (upto - from) (drop from self.now) }
+        ensures size { length result.now ≡ upto - from }
+        ensures whole { length self.now ≡ 65536 }
+    {
+        &self.bytes[from..upto]
     }
 
     /// The first bytes.

@@ -295,6 +295,8 @@ impl<S: Store> Area for PagedArea<S> {
             &mut self.store,
             &mut self.sheets,
             &mut self.clean,
+            place,
+            place + bytes.len() as u64,
             from,
             upto,
         );
@@ -328,6 +330,8 @@ impl<S: Store> Area for PagedArea<S> {
             &mut self.store,
             &mut self.sheets,
             &mut self.clean,
+            place,
+            place + n,
             from,
             upto,
         );

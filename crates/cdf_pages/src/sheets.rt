@@ -1,21 +1,23 @@
 //! The changed pages of an image.
 
-ghost use Rattle.std.specs.Prelude.{◌≡◌, ◌+◌, ◌≤◌, ◌<◌, ◌^◌, ℕ, List, length, OnOk, OnErr, Some, None, IsSome, IfOk, IfSome, IfNone, option_copied};
+ghost use Rattle.std.specs.Prelude.{◌≡◌, ◌+◌, ◌≤◌, ◌<◌, ◌^◌, ℕ, List, [], if◌then◌else◌, length, OnOk, OnErr, Some, None, IsSome, IfSome, IfNone, option_copied};
 ghost use Rattle.std.specs.Option.{is_some};
 ghost use Rattle.std.specs.Ordering.{nat_cmp};
 ghost use Rattle.std.specs.BTreeMap.{btree_map_len, get};
+ghost use Rattle.cdf_area.specs.OldBytes.{AllLieBelow, Old};
 ghost use Rattle.cdf_base.specs.Bytes.{put};
-ghost use Rattle.cdf_pages.specs.Pages.{was};
+ghost use Rattle.cdf_pages.specs.Pages.{Covers, was};
 
 use crate::page::Page;
+use cdf_area::UndoLog;
 use std::alloc::{AllocError, Global};
 use std::collections::BTreeMap;
 use std::ops::Bound;
 
 /// The changed pages of an image by their numbers, and what they were at the mark.
 ///
-/// While there is a mark, a page is kept as it was before it is first written. So going back takes no memory, and costs in
-/// proportion to what was written.
+/// While there is a mark, the old bytes of each write are kept before it. So going back takes no memory, and a mark costs in
+/// proportion to what is written.
 #[derive(Drop)]
 pub struct Sheets {
     pub alloc: Global,
@@ -24,12 +26,11 @@ pub struct Sheets {
     pub changed: BTreeMap<u64, Page>,
     /// How many bytes it had at the mark.
     pub marked: Option<u64>,
-    /// Pages as they were at the mark: `None` for one that was not a changed page.
-    pub kept: BTreeMap<u64, Option<Page>>,
-    /// Pages that are needed no more, whose memory serves the next ones that are kept.
-    pub spares: Vec<Page>,
+    /// What was written over in a page since the mark: `None` for one that was not a changed page.
+    pub kept: BTreeMap<u64, Option<UndoLog>>,
     ghost unmarked: { marked ≡ None → (number : ℕ) → get nat_cmp kept number ≡ None },
-    ghost stay: { (number : ℕ) → (page : List ℕ) → get nat_cmp kept number ≡ Some (Some page) → IsSome (get nat_cmp changed number) },
+    ghost stay: { (number : ℕ) → (olds : List Old) → get nat_cmp kept number ≡ Some (Some olds) → IsSome (get nat_cmp changed number) },
+    ghost below: { (number : ℕ) → (olds : List Old) → get nat_cmp kept number ≡ Some (Some olds) → AllLieBelow 65536 olds },
 }
 
 impl Sheets {
@@ -45,7 +46,6 @@ impl Sheets {
             changed: BTreeMap::new(alloc),
             marked: None,
             kept: BTreeMap::new(alloc),
-            spares: Vec::new(alloc),
         }
     }
 
@@ -63,21 +63,61 @@ impl Sheets {
         self.changed.get(&number)
     }
 
-    /// Keeps what a page is, where there is a mark and it is not kept yet.
-    pub fn keep_page(&mut self, number: u64) -> Result<(), AllocError>
+    /// Keeps whether a page is a changed one and what stands in a part of it, where there is a mark.
+    pub fn keep_page(&mut self, number: u64, from: usize, upto: usize) -> Result<(), AllocError>
+        requires room { upto ≤ 65536 }
+        ensures changed { self.new.changed ≡ self.old.changed }
+        ensures length { self.new.length ≡ self.old.length }
+        ensures marked { self.new.marked ≡ self.old.marked }
+        ensures kept { OnOk result (IsSome self.old.marked → IsSome (get nat_cmp self.new.kept number)) }
+        ensures covers { OnOk result (IsSome self.old.marked → Covers (get nat_cmp self.new.kept number) from upto) }
+        ensures more { (other : ℕ) → IsSome (get nat_cmp self.old.kept other) → IsSome (get nat_cmp self.new.kept other) }
+        ensures others { (other : ℕ) → (other ≡ number → ⊥) → get nat_cmp self.new.kept other ≡ get nat_cmp self.old.kept other }
+        ensures was { (other : ℕ) → was (get nat_cmp self.new.kept other) (get nat_cmp self.old.changed other) ≡ was (get nat_cmp self.old.kept other) (get nat_cmp self.old.changed other) }
+    {
+        self.begin_page(number)?;
+        self.keep_part(number, from, upto)
+    }
+
+    /// Keeps whether a page is a changed one, where there is a mark and it is not kept yet.
+    fn begin_page(&mut self, number: u64) -> Result<(), AllocError>
         ensures changed { self.new.changed ≡ self.old.changed }
         ensures length { self.new.length ≡ self.old.length }
         ensures marked { self.new.marked ≡ self.old.marked }
         ensures kept { OnOk result (IsSome self.old.marked → IsSome (get nat_cmp self.new.kept number)) }
         ensures more { (other : ℕ) → IsSome (get nat_cmp self.old.kept other) → IsSome (get nat_cmp self.new.kept other) }
+        ensures others { (other : ℕ) → (other ≡ number → ⊥) → get nat_cmp self.new.kept other ≡ get nat_cmp self.old.kept other }
         ensures was { (other : ℕ) → was (get nat_cmp self.new.kept other) (get nat_cmp self.old.changed other) ≡ was (get nat_cmp self.old.kept other) (get nat_cmp self.old.changed other) }
     {
         if self.marked.is_none() || self.kept.contains_key(&number) {
             return Ok(());
         }
-        let old = copy_of(self.alloc, &mut self.spares, self.changed.get(&number))?;
+        let old = log_of(self.alloc, self.changed.contains_key(&number));
         self.kept.insert(number, old)?;
         Ok(())
+    }
+
+    /// Keeps what stands in a part of a page that is kept, where it was a changed one.
+    fn keep_part(&mut self, number: u64, from: usize, upto: usize) -> Result<(), AllocError>
+        requires room { upto ≤ 65536 }
+        ensures changed { self.new.changed ≡ self.old.changed }
+        ensures length { self.new.length ≡ self.old.length }
+        ensures marked { self.new.marked ≡ self.old.marked }
+        ensures covers { OnOk result (IsSome (get nat_cmp self.old.kept number) → Covers (get nat_cmp self.new.kept number) from upto) }
+        ensures more { (other : ℕ) → IsSome (get nat_cmp self.old.kept other) → IsSome (get nat_cmp self.new.kept other) }
+        ensures others { (other : ℕ) → (other ≡ number → ⊥) → get nat_cmp self.new.kept other ≡ get nat_cmp self.old.kept other }
+        ensures was { (other : ℕ) → was (get nat_cmp self.new.kept other) (get nat_cmp self.old.changed other) ≡ was (get nat_cmp self.old.kept other) (get nat_cmp self.old.changed other) }
+    {
+        if from >= upto {
+            return Ok(());
+        }
+        let Some(page) = self.changed.get(&number) else {
+            return Ok(());
+        };
+        match self.kept.get_mut(&number) {
+            Some(kept) => push_part(kept, page, from, upto),
+            None => Ok(()),
+        }
     }
 
     /// Adds a page that was not a changed one, once it is kept.
@@ -153,9 +193,7 @@ impl Sheets {
         ensures length { self.new.length ≡ self.old.length }
         ensures marked { self.new.marked ≡ self.old.marked }
     {
-        if let Some(page) = self.changed.remove(&number) {
-            add_spare(&mut self.spares, page);
-        }
+        let _ = self.changed.remove(&number);
     }
 
     /// Marks the pages as they are.
@@ -165,7 +203,7 @@ impl Sheets {
         ensures length { self.new.length ≡ self.old.length }
         ensures marked { self.new.marked ≡ Some self.old.length }
     {
-        retire(&mut self.kept, &mut self.spares);
+        self.kept = BTreeMap::new(self.alloc);
         self.marked = Some(self.length);
     }
 
@@ -176,7 +214,7 @@ impl Sheets {
         ensures length { self.new.length ≡ self.old.length }
         ensures marked { self.new.marked ≡ None }
     {
-        retire(&mut self.kept, &mut self.spares);
+        self.kept = BTreeMap::new(self.alloc);
         self.marked = None;
     }
 
@@ -196,67 +234,47 @@ impl Sheets {
     }
 }
 
-/// How many pages that are needed no more stand in memory.
-const SPARES: usize = 16;
-
-/// A copy of a page, in the memory of one that is needed no more, where there is such a one.
-fn copy_in(alloc: Global, spare: Option<Page>, page: &Page) -> Result<Page, AllocError>
-    ensures { IfOk result (λ copy. copy ≡ page.now) }
+/// Nothing that was written over as yet, of a page that is a changed one.
+fn log_of(alloc: Global, is_changed: bool) -> Option<UndoLog>
+    ensures { result ≡ (if is_changed then Some [] else None) }
 {
-    match spare {
-        Some(spare) => {
-            let mut copy = spare;
-            copy.assign(page);
-            Ok(copy)
-        }
-        None => page.copied(alloc),
+    if is_changed {
+        Some(UndoLog::new(alloc))
+    } else {
+        None
     }
 }
 
-/// A copy of a page, where there is one.
-fn copy_of(
-    alloc: Global,
-    spares: &mut Vec<Page>,
-    page: Option<&Page>,
-) -> Result<Option<Page>, AllocError>
-    ensures { IfOk result (λ copy. copy ≡ option_copied page.entry) }
+/// Keeps what stands in a part of a page, if it was a changed one.
+fn push_part(
+    kept: &mut Option<UndoLog>,
+    page: &Page,
+    from: usize,
+    upto: usize,
+) -> Result<(), AllocError>
+    requires order { from ≤ upto }
+    requires room { upto ≤ 65536 }
+    ensures covers { OnOk result (Covers (Some kept.new) from upto) }
+    ensures was { was (Some kept.new) (Some page.now) ≡ was (Some kept.old) (Some page.now) }
+    ensures below { ((olds : List Old) → kept.old ≡ Some olds → AllLieBelow 65536 olds) → (olds : List Old) → kept.new ≡ Some olds → AllLieBelow 65536 olds }
 {
-    match page {
-        Some(page) => {
-            let copy = copy_in(alloc, spares.pop(), page)?;
-            Ok(Some(copy))
-        }
-        None => Ok(None),
+    match kept {
+        Some(log) => log.push(from, page.piece(from, upto)),
+        None => Ok(()),
     }
 }
 
-/// Keeps the memory of a page that is needed no more, where little is kept yet.
-fn add_spare(spares: &mut Vec<Page>, page: Page) {
-    if spares.len() < SPARES {
-        let _ = spares.push(page);
-    }
-}
-
-/// Forgets all pages that are kept. Some of them stay in memory, to be used again.
-fn retire(kept: &mut BTreeMap<u64, Option<Page>>, spares: &mut Vec<Page>)
-    ensures none { (number : ℕ) → get nat_cmp kept.new number ≡ None }
-{
-    while let Some((_, old)) = kept.pop_first() {
-        if let Some(page) = old {
-            add_spare(spares, page);
-        }
-    }
-}
-
-/// Makes a page what it was. Where it was a changed page it is one now, so no memory is taken.
-fn restore(changed: &mut BTreeMap<u64, Page>, number: u64, old: Option<Page>)
-    requires { (page : List ℕ) → old ≡ Some page → IsSome (get nat_cmp changed.old number) }
-    ensures was { get nat_cmp changed.new number ≡ old }
+/// Makes a page what it was.
+fn restore(changed: &mut BTreeMap<u64, Page>, number: u64, old: Option<UndoLog>)
+    requires { (olds : List Old) → old ≡ Some olds → AllLieBelow 65536 olds }
+    ensures was { get nat_cmp changed.new number ≡ was (Some old) (get nat_cmp changed.old number) }
     ensures others { (other : ℕ) → (other ≡ number → ⊥) → get nat_cmp changed.new other ≡ get nat_cmp changed.old other }
 {
     match old {
-        Some(page) => {
-            let _ = changed.insert(number, page);
+        Some(log) => {
+            if let Some(page) = changed.get_mut(&number) {
+                page.put_back(log);
+            }
         }
         None => {
             let _ = changed.remove(&number);
@@ -265,8 +283,8 @@ fn restore(changed: &mut BTreeMap<u64, Page>, number: u64, old: Option<Page>)
 }
 
 /// Makes each page what it was.
-fn restore_all(changed: &mut BTreeMap<u64, Page>, kept: &mut BTreeMap<u64, Option<Page>>)
-    requires { (number : ℕ) → (page : List ℕ) → get nat_cmp kept.old number ≡ Some (Some page) → IsSome (get nat_cmp changed.old number) }
+fn restore_all(changed: &mut BTreeMap<u64, Page>, kept: &mut BTreeMap<u64, Option<UndoLog>>)
+    requires { (number : ℕ) → (olds : List Old) → get nat_cmp kept.old number ≡ Some (Some olds) → AllLieBelow 65536 olds }
     ensures was { (number : ℕ) → get nat_cmp changed.new number ≡ was (get nat_cmp kept.old number) (get nat_cmp changed.old number) }
     ensures none { (number : ℕ) → get nat_cmp kept.new number ≡ None }
 {

@@ -1,5 +1,5 @@
-use Rattle.std.proofs.Common.{◌≡◌, ◌∙◌, ◌+◌, ◌*◌, ◌/◌, ◌≤◌, ◌<◌, sym, ap, arith, length, None, false}
-use Rattle.cdf_pages.proofs.Common.{nat_cmp, get, is_some}
+use Rattle.std.proofs.Common.{◌≡◌, ◌∙◌, ◌+◌, ◌*◌, ◌/◌, sym, ap, arith, None}
+use Rattle.cdf_pages.proofs.Common.{nat_cmp, get}
 use Rattle.cdf_pages.proofs.Filling.{none_is}
 use Rattle.cdf_pages.proofs.Growing.{out_by, fewer_by, apart_by}
 use Rattle.cdf_pages.proofs.owning.own_page.Goals as goal

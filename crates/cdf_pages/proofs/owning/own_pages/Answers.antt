@@ -1,10 +1,11 @@
-use Rattle.std.proofs.Common.{rules, ◌≡◌, ◌∙◌, ◌+◌, ◌-◌, ◌≤◌, ◌<◌, ◌⊎◌, ◌*◌, ℕ, List, Option, length, min, refl, sym, ap, subst, arith, nat_eq, inl, inr}
-use Rattle.cdf_pages.proofs.Common.{nat_cmp, get, keys_of, lookup, remove_entry, is_some, if◌then◌else◌, file_of, Grown, Owned, RemovesSome, is_in, cost_of_writing, page_cost, list_any, cases_lt}
+use Rattle.std.proofs.Common.{◌≡◌, ◌∙◌, ◌+◌, ◌-◌, ◌≤◌, ◌*◌, ℕ, List, Option, length, min, refl, sym, ap, subst, arith, nat_eq, inl, inr}
+use Rattle.cdf_pages.proofs.Common.{nat_cmp, get, keys_of, lookup, is_some, if◌then◌else◌, file_of, Owned, is_in, cost_of_writing, page_cost, list_any, cases_lt}
 use Rattle.cdf_pages.specs.Grown.{removed}
 use Rattle.cdf_pages.proofs.Costs.{takes_same, takes_then, write_cost_grows, write_cost_next}
+use Rattle.cdf_pages.proofs.Covered.{covers_less}
 use Rattle.cdf_pages.proofs.Filling.{takes_less}
 use Rattle.cdf_pages.proofs.Keys.{is_there, lookup-removed}
-use Rattle.cdf_pages.proofs.Growing.{grown_refl, grown_trans, removed_next, owned_more, some_not_none, grown_next, others_next, some_removed, out_next}
+use Rattle.cdf_pages.proofs.Growing.{grown_refl, removed_next, owned_more, some_not_none, grown_next, others_next, some_removed, out_next}
 use Rattle.cdf_pages.proofs.owning.own_pages.Goals as goal
 
 pub loop-number-init : goal.loop-number-init
@@ -72,8 +73,8 @@ loop-number-preserved g c =
       low = omega (arith, inv.low);
       high = λ lt. omega (arith, c.loop-number-test.true);
       grown = grown_next _ _ _ _ _ _ _ _ _ _ _ _ (ap (λ d. file_of d) inv.disk) inv.length inv.marked inv.grown c.own_page.ensures.grown;
-      owned = subst (λ m. Owned m (get nat_cmp c.own_page.new.sheets.changed) (get nat_cmp c.own_page.new.sheets.kept) c.args.from (c.loop-number.number + 1)) (sym c.own_page.ensures.marked)
-          (owned_more c.loop-number.sheets.marked _ _ _ _ c.args.from c.loop-number.number inv.owned c.own_page.ensures.grown.less c.own_page.ensures.grown.readys (some_not_none _ c.in_ok-own_page.ensures.there) c.in_ok-own_page.ensures.ready);
+      owned = subst (λ m. Owned m (get nat_cmp c.own_page.new.sheets.changed) (get nat_cmp c.own_page.new.sheets.kept) c.args.place c.args.end c.args.from (c.loop-number.number + 1)) (sym c.own_page.ensures.marked)
+          (owned_more c.loop-number.sheets.marked _ _ _ _ c.args.place c.args.end c.args.from c.loop-number.number inv.owned c.own_page.ensures.grown.less c.own_page.ensures.kept (some_not_none _ c.in_ok-own_page.ensures.there) (λ s. covers_less _ _ _ _ _ (omega arith) (omega arith) (c.in_ok-own_page.ensures.ready s)));
       others = others_next _ _ _ c.args.from c.loop-number.number inv.low inv.others c.own_page.ensures.others;
       gone = removed_next c.args.from c.loop-number.number _ _ _ inv.low inv.gone c.in_ok-own_page.ensures.gone;
       out = out_next c.args.from c.loop-number.number c.loop-number.clean.entries c.own_page.new.clean.entries inv.out c.in_ok-own_page.ensures.out c.own_page.ensures.fewer;
@@ -89,3 +90,8 @@ loop-number-preserved g c =
 
 pub returns-in_err-own_page-clause-apart : goal.returns-in_err-own_page-clause-apart
 returns-in_err-own_page-clause-apart g c q p e = c.own_page.ensures.apart q p e ∙ c.loop-number.invariant.apart q p (c.own_page.ensures.fewer q p e)
+
+pub returns-clause-owned : goal.returns-clause-owned
+returns-clause-owned g c =
+    let owned = c.loop-number.invariant.owned in
+    record { there = λ q lo hi. owned.there q lo (omega arith); ready = λ q lo hi s. owned.ready q lo (omega arith) s }

@@ -1,5 +1,5 @@
-use Rattle.std.proofs.Common.{◌≡◌, ◌+◌, ◌-◌, ◌≤◌, ◌<◌, ◌⊎◌, ℕ, List, length, Some, None, nat_eq}
-use Rattle.cdf_pages.proofs.Common.{nat_cmp, get, keys_of, lookup, file_of, Grown, Owned, RemovesSome, removed, TakesAtMost, is_in, cost_of_writing}
+use Rattle.std.proofs.Common.{◌≡◌, ◌-◌, ◌≤◌, ◌<◌, ◌⊎◌, ℕ, List, length, Some, None, nat_eq}
+use Rattle.cdf_pages.proofs.Common.{nat_cmp, get, keys_of, lookup, file_of, Grown, Owned, removed, TakesAtMost, is_in, cost_of_writing}
 use Rattle.cdf_pages.proofs.owning.own_pages.Given as goal
 
 abbrev pub invariant-loop-number : goal.invariant-loop-number
@@ -7,7 +7,7 @@ invariant-loop-number g l = record {
   low : l.fn.from ≤ l.number;
   high : l.fn.from < l.number → l.number ≤ l.fn.upto;
   grown : Grown (file_of (g.S.Store.disk l.fn.store)) l.fn.sheets.length l.fn.sheets.marked (get nat_cmp l.fn.sheets.changed) (get nat_cmp l.fn.sheets.kept) (get nat_cmp l.sheets.changed) (get nat_cmp l.sheets.kept);
-  owned : Owned l.sheets.marked (get nat_cmp l.sheets.changed) (get nat_cmp l.sheets.kept) l.fn.from l.number;
+  owned : Owned l.sheets.marked (get nat_cmp l.sheets.changed) (get nat_cmp l.sheets.kept) l.fn.place l.fn.end l.fn.from l.number;
   others : (q : ℕ) → (q < l.fn.from) ⊎ (l.number ≤ q) → get nat_cmp l.sheets.changed q ≡ get nat_cmp l.fn.sheets.changed q;
   gone : l.clean.entries ≡ removed l.fn.from (l.number - l.fn.from) l.fn.clean.entries;
   out : (q : ℕ) → l.fn.from ≤ q → q < l.number → lookup (nat_eq q) l.clean.entries ≡ None;

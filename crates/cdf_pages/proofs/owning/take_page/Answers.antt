@@ -1,5 +1,5 @@
-use Rattle.std.proofs.Common.{◌≡◌, ◌∙◌, ◌+◌, ◌*◌, ◌≤◌, ◌<◌, sym, ap, length, None, nat_eq}
-use Rattle.cdf_pages.proofs.Common.{lookup, file_of, Shows, TakesAtMost}
+use Rattle.std.proofs.Common.{◌≡◌, ◌∙◌, sym, None, nat_eq}
+use Rattle.cdf_pages.proofs.Common.{lookup}
 use Rattle.cdf_pages.proofs.Filling.{backed_live, takes_live}
 use Rattle.cdf_pages.proofs.owning.take_page.Goals as goal
 

@@ -1,7 +1,6 @@
-use Rattle.std.proofs.Common.{rules, ◌≡◌, ◌∙◌, ◌+◌, ◌-◌, ◌≤◌, ◌<◌, length, take, drop, arith, ap, sym, subst}
-use Rattle.cdf_pages.proofs.Common.{file_of, TakesAtMost}
+use Rattle.std.proofs.Common.{rules, ◌≡◌, ◌∙◌, ◌+◌, ◌-◌, ◌≤◌, ◌<◌, length, take, drop, arith, ap, sym}
+use Rattle.cdf_pages.proofs.Common.{file_of}
 use lib.Seq.{drop-drop}
-use borrow.Rule.Slice.PartMut.{put_mid}
 use Rattle.cdf_pages.proofs.Filling.{filled, takes_more, reads_piece}
 use Rattle.cdf_pages.proofs.reading.fill.Goals as goal
 

@@ -1,4 +1,4 @@
-use Rattle.std.proofs.Common.{◌≡◌, ◌+◌, ◌-◌, ◌≤◌, ℕ, List, length, take, drop}
+use Rattle.std.proofs.Common.{◌≡◌, ◌-◌, ◌≤◌, length, take, drop}
 use Rattle.cdf_pages.proofs.Common.{file_of, TakesAtMost}
 use Rattle.cdf_pages.proofs.reading.fill.Given as goal
 

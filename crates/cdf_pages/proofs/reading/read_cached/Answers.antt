@@ -1,5 +1,5 @@
-use Rattle.std.proofs.Common.{◌≡◌, ◌∙◌, ◌*◌, ◌+◌, ◌≤◌, sym, ap, subst, take, drop, length, Some, None, nat_eq, ℕ, List, IsTrue, slice_get}
-use Rattle.cdf_pages.proofs.Common.{option_map, lookup, promoted}
+use Rattle.std.proofs.Common.{◌≡◌, ◌∙◌, sym, ap, subst, take, drop, length, Some, nat_eq, slice_get}
+use Rattle.cdf_pages.proofs.Common.{option_map, promoted}
 use Rattle.std.proofs.lemmas.Option.{none-some}
 use Rattle.lru.specs.LruCache.{lru_cache}
 use Rattle.lru.proofs.Pairs.{promoted_absent}

@@ -1,4 +1,4 @@
-use Rattle.std.proofs.Common.{◌≡◌, ◌∙◌, ◌+◌, ◌-◌, ◌*◌, ◌≤◌, ◌<◌, sym, ap, arith, length, Some, nat_eq, true, ℕ, inl}
+use Rattle.std.proofs.Common.{◌≡◌, ◌∙◌, sym, ap, arith, length, nat_eq, true, inl}
 use Rattle.cdf_pages.proofs.Common.{keys_of, lookup, is_some, file_of}
 use Rattle.lru.proofs.Pairs.{promoted_put}
 use Rattle.cdf_pages.proofs.Growing.{promoted_old}

@@ -1,5 +1,5 @@
-use Rattle.std.proofs.Common.{rules, ◌≡◌, ◌∙◌, refl, true, false, ◌+◌, ◌-◌, ◌*◌, ◌/◌, ◌≤◌, ◌<◌, sym, ap, arith, take, drop, length, None, Some, nat_eq, ℕ, List, option_copied, inl, inr, subst}
-use Rattle.cdf_pages.proofs.Common.{is_some, nat_cmp, get, file_of, Shows, image_of}
+use Rattle.std.proofs.Common.{◌≡◌, ◌∙◌, refl, true, false, ◌+◌, ◌*◌, ◌/◌, sym, ap, arith, length, None, option_copied, inl, inr, subst}
+use Rattle.cdf_pages.proofs.Common.{is_some, nat_cmp, get, file_of, Shows}
 use Rattle.cdf_pages.proofs.Images.{image_part, file_part}
 use Rattle.cdf_pages.proofs.Costs.{takes_same}
 use Rattle.cdf_pages.proofs.Filling.{on_ok_map}

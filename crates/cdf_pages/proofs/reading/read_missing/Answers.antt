@@ -1,8 +1,8 @@
-use Rattle.std.proofs.Common.{rules, ◌≡◌, ◌∙◌, ◌+◌, ◌-◌, ◌*◌, ◌≤◌, ◌<◌, sym, ap, arith, take, drop, length, None, Some, IsSome, false, nat_eq, ℕ, List, option_copied, inl, inr, subst}
-use Rattle.cdf_pages.proofs.Common.{keys_of, lookup, list_any, is_some, put_entries, file_of, Shows, TakesAtMost}
-use Rattle.cdf_pages.proofs.Keys.{is_there, used_missing, used_there}
+use Rattle.std.proofs.Common.{◌≡◌, ◌∙◌, sym, ap, length, None, false, nat_eq, ℕ, List, inl, inr, subst}
+use Rattle.cdf_pages.proofs.Common.{keys_of, lookup, list_any, is_some, put_entries, file_of, Shows}
+use Rattle.cdf_pages.proofs.Keys.{is_there, used_missing}
 use Rattle.cdf_pages.proofs.Images.{shown_part, load_shows}
-use Rattle.cdf_pages.proofs.Growing.{promoted_old, put_old}
+use Rattle.cdf_pages.proofs.Growing.{put_old}
 use Rattle.cdf_pages.proofs.Filling.{backed_live, takes_live}
 use Rattle.cdf_pages.proofs.reading.read_missing.Goals as goal
 

@@ -1,4 +1,4 @@
-use Rattle.std.proofs.Common.{rules, ◌≡◌, ◌∙◌, ◌+◌, ◌-◌, ◌*◌, ◌/◌, ◌%◌, ◌≤◌, ◌<◌, sym, ap, arith, take, drop, length, min, slice_index, ℕ, suc, Bool, List, refl, nat_eq, subst}
+use Rattle.std.proofs.Common.{rules, ◌≡◌, ◌∙◌, ◌+◌, ◌-◌, ◌*◌, ◌/◌, ◌%◌, ◌<◌, sym, ap, arith, take, drop, length, min, slice_index, ℕ, suc, Bool, List, refl, nat_eq, subst}
 use Rattle.cdf_pages.proofs.Common.{nat_cmp, get, file_of, keys_of, IsValid, LruCache, image_of, is_in, page_cost, pages_in, used}
 use Rattle.std.proofs.lemmas.List.{take-take, drop-drop}
 use borrow.Rule.Slice.PartMut.{put_mid}

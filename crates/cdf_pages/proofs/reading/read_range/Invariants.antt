@@ -1,4 +1,4 @@
-use Rattle.std.proofs.Common.{◌-◌, ◌≡◌, ◌+◌, ◌/◌, ◌%◌, ◌<◌, ◌≤◌, ℕ, List, length, take, drop, Some, None, nat_eq}
+use Rattle.std.proofs.Common.{◌-◌, ◌≡◌, ◌+◌, ◌/◌, ◌%◌, ◌<◌, ◌≤◌, length, take, drop, nat_eq}
 use Rattle.cdf_pages.proofs.Common.{keys_of, IsValid, nat_cmp, get, file_of, AllShow, TakesAtMost, image_of, is_in, pages_in}
 use Rattle.cdf_pages.specs.Standing.{cost_of_reading, used_from}
 use Rattle.cdf_pages.proofs.reading.read_range.Given as goal

@@ -1,5 +1,5 @@
-use Rattle.std.proofs.Common.{◌≡◌, ◌∙◌, false, ◌+◌, ◌*◌, ◌/◌, ◌≤◌, ◌<◌, sym, ap, arith, length, None, Some, nat_eq, ℕ, option_copied, slice_get}
-use Rattle.cdf_pages.proofs.Common.{keys_of, lookup, is_some, nat_cmp, get, file_of}
+use Rattle.std.proofs.Common.{◌≡◌, ◌∙◌, false, ◌+◌, ◌*◌, ◌/◌, ◌<◌, sym, ap, arith, length, ℕ}
+use Rattle.cdf_pages.proofs.Common.{is_some, nat_cmp, get, file_of}
 use Rattle.cdf_pages.proofs.Images.{file_part, shown_part}
 use Rattle.cdf_pages.proofs.Keys.{first_stays, first_there}
 use Rattle.cdf_pages.proofs.reading.read_within.Goals as goal

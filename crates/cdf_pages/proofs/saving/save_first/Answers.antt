@@ -1,4 +1,4 @@
-use Rattle.std.proofs.Common.{rules, ◌≡◌, ◌*◌, ◌≤◌, ◌<◌, ◌∙◌, arith, refl, sym, length, inl, inr}
+use Rattle.std.proofs.Common.{rules, ◌*◌, ◌≤◌, ◌<◌, ◌∙◌, refl, sym, length, inl, inr}
 use Rattle.cdf_pages.proofs.Common.{cases_lt, nat_cmp, get, file_of, LiesIn}
 use Rattle.cdf_pages.proofs.Filling.{true_not_false}
 use Rattle.cdf_pages.proofs.SavedPage.{forgotten_backed, forgotten_same, less_saved, place_in_file}

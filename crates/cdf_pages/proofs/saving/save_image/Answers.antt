@@ -1,4 +1,4 @@
-use Rattle.std.proofs.Common.{◌≡◌, ◌+◌, ◌≤◌, ◌++◌, max, ℕ, List, ap, arith, length, length-append}
+use Rattle.std.proofs.Common.{◌++◌, ℕ, List, ap, arith, length, length-append}
 use Rattle.cdf_pages.proofs.Common.{nat_cmp, get, file_of, image_of}
 use Rattle.cdf_pages.proofs.Between.{between_bound}
 use Rattle.cdf_pages.proofs.Disks.{file_held}

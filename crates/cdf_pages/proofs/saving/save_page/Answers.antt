@@ -1,7 +1,6 @@
-use Rattle.std.proofs.Common.{rules, ◌≡◌, ◌∙◌, ◌+◌, ◌-◌, ◌*◌, ◌/◌, ◌%◌, ◌≤◌, ◌<◌, ◌++◌, refl, sym, ap, arith, take, length, min, option_copied, inl, inr, Some, IsSome, ℕ, slice_index}
-use Rattle.cdf_pages.proofs.Common.{length-take-le, get_or-take, get_or_append_left, is_some, nat_cmp, get, file_of, image_of, LiesIn}
-use Rattle.cdf_pages.proofs.Between.{length-written, part_between, written_between}
-use Rattle.cdf_pages.proofs.Images.{at_page, byte-image, length-image}
+use Rattle.std.proofs.Common.{rules, ◌≡◌, ◌∙◌, ◌-◌, ◌*◌, ◌≤◌, refl, sym, ap, arith, take, length, min, option_copied, inl, inr}
+use Rattle.cdf_pages.proofs.Common.{length-take-le, nat_cmp, get, file_of, image_of, LiesIn}
+use Rattle.cdf_pages.proofs.Between.{part_between, written_between}
 use Rattle.cdf_pages.proofs.SavedPage.{backed_part, backed_saved, less_saved, part_same, saved_same, page_in_image}
 use Rattle.cdf_pages.proofs.Touched.{touches_part, touches_write}
 use Rattle.cdf_pages.proofs.saving.save_page.Goals as goal

@@ -1,4 +1,4 @@
-use Rattle.std.proofs.Common.{rules, ◌≡◌, ◌∙◌, ◌+◌, ◌≤◌, ◌++◌, List, refl, sym, ap, arith, length}
+use Rattle.std.proofs.Common.{◌∙◌, ◌++◌, refl, sym, ap, arith, length}
 use Rattle.cdf_pages.proofs.Common.{eqb-true, file_of}
 use Rattle.cdf_pages.proofs.Between.{front_part, front_written, longer_part, longer_written, part_between, tail_in, written_between}
 use Rattle.cdf_pages.proofs.Images.{put_empty}

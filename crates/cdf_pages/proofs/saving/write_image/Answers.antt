@@ -1,5 +1,5 @@
-use Rattle.std.proofs.Common.{rules, ◌≡◌, ◌∙◌, ◌⊎◌, ◌+◌, ◌≤◌, ◌<◌, ◌++◌, max, ℕ, List, Bool, Option, None, refl, sym, ap, subst, arith, inl, inr, take, length, length-append}
-use Rattle.cdf_pages.proofs.Common.{IsTrue, nat_cmp, get, put, Disk, file_of, Backed, image_of, is_in, Holds, HoldsBetween, IsChangedRange, LiesIn, Touches}
+use Rattle.std.proofs.Common.{◌≡◌, ◌∙◌, ◌+◌, ◌≤◌, ◌++◌, ℕ, List, Bool, Option, None, sym, ap, subst, arith, inl, inr, take, length, length-append}
+use Rattle.cdf_pages.proofs.Common.{IsTrue, nat_cmp, get, put, Disk, file_of, Backed, image_of, is_in, HoldsBetween, IsChangedRange, LiesIn, Touches}
 use Rattle.cdf_pages.proofs.Between.{between_bound, cut_new, holds_between_first, holds_new, length-written, tail_cut, tail_last}
 use Rattle.cdf_pages.proofs.Disks.{file_held}
 use Rattle.cdf_pages.proofs.Filling.{on_err}

@@ -1,10 +1,11 @@
-use Rattle.std.proofs.Common.{rules, ◌≡◌, ◌∙◌, ◌+◌, ◌-◌, ◌*◌, ◌/◌, ◌%◌, ◌≤◌, ◌<◌, ◌⊎◌, ℕ, List, refl, sym, ap, subst, arith, None, Some, take, drop, min, length, inl, inr}
-use Rattle.cdf_pages.proofs.Common.{nat_cmp, get, put, image_of}
+use Rattle.std.proofs.Common.{◌≡◌, ◌∙◌, ◌+◌, ◌-◌, ◌/◌, ◌%◌, ◌≤◌, ◌<◌, refl, sym, ap, arith, take, drop, min, length, inl, inr}
+use Rattle.cdf_pages.proofs.Common.{nat_cmp, get, length-take-le, length-drop}
+use Rattle.cdf_pages.proofs.Covered.{was_step}
 use Rattle.cdf_pages.proofs.Images.{some_of, put_none, write_step, less_step, length-image}
 use Rattle.cdf_pages.proofs.writing.write_range.Goals as goal
 
 pub loop-done-init : goal.loop-done-init
-loop-done-init c = record { within = omega arith; image = λ file. sym (put_none _ c.args.place); less = λ q e. e; others = λ q o. refl; kept = refl; length = refl; marked = refl }
+loop-done-init c = record { within = omega arith; image = λ file. sym (put_none _ c.args.place); less = λ q e. e; others = λ q o. refl; kept = refl; was = λ s q. refl; length = refl; marked = refl }
 
 pub loop-done-preserved : goal.loop-done-preserved
 loop-done-preserved c =
@@ -28,6 +29,7 @@ loop-done-preserved c =
       less = λ q e. inv.less q (less_step old _ k _ now c.write.ensures.others q e);
       others = λ q o. c.write.ensures.others q (λ e. elim o [ inl below ↦ omega arith | inr above ↦ omega arith ]) ∙ inv.others q o;
       kept = c.write.ensures.kept ∙ inv.kept;
+      was = λ s q. was_step old _ (get nat_cmp c.args.sheets.now.kept) k off _ _ page.0 _ page.1 long now c.write.ensures.others (c.requires.ready k (omega arith) (omega arith) s) (omega arith) (let count = length-take-le m (drop c.loop-done.done bs) (omega (arith, length-drop c.loop-done.done bs)) in omega (arith, count)) (omega arith) q ∙ inv.was s q;
       length = c.write.ensures.length ∙ inv.length;
       marked = c.write.ensures.marked ∙ inv.marked;
     }

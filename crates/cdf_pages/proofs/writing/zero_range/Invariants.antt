@@ -1,5 +1,5 @@
 use Rattle.std.proofs.Common.{◌-◌, ◌≡◌, ◌+◌, ◌*◌, ◌/◌, ◌≤◌, ◌<◌, ◌++◌, ℕ, List, length, take, drop, replicate, Some, None, ◌⊎◌}
-use Rattle.cdf_pages.proofs.Common.{nat_cmp, get, put, image_of}
+use Rattle.cdf_pages.proofs.Common.{nat_cmp, get, put, image_of, IsSome, was}
 use Rattle.cdf_pages.proofs.writing.zero_range.Given as goal
 
 abbrev pub invariant-loop-done : goal.invariant-loop-done
@@ -9,6 +9,7 @@ invariant-loop-done l = record {
   less : (q : ℕ) → get nat_cmp l.sheets.changed q ≡ None → get nat_cmp l.fn.sheets.changed q ≡ None;
   others : (q : ℕ) → (q < l.fn.sheets.length / 65536) ⊎ (l.fn.sheets.length + l.n ≤ q * 65536) → get nat_cmp l.sheets.changed q ≡ get nat_cmp l.fn.sheets.changed q;
   kept : l.sheets.kept ≡ l.fn.sheets.kept;
+  was : IsSome l.fn.sheets.marked → (q : ℕ) → was (get nat_cmp l.fn.sheets.kept q) (get nat_cmp l.sheets.changed q) ≡ was (get nat_cmp l.fn.sheets.kept q) (get nat_cmp l.fn.sheets.changed q);
   length : l.sheets.length ≡ l.fn.sheets.length + l.n;
   marked : l.sheets.marked ≡ l.fn.sheets.marked;
 }

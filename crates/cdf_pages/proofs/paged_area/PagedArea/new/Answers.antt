@@ -1,4 +1,4 @@
-use Rattle.std.proofs.Common.{◌≡◌, ◌∙◌, ◌≤◌, ap, arith, length, take}
+use Rattle.std.proofs.Common.{◌∙◌, ap, arith}
 use Rattle.cdf_pages.proofs.Common.{nat_cmp, get, file_of, image_of}
 use Rattle.cdf_pages.proofs.Images.{image_file}
 use Rattle.cdf_pages.proofs.paged_area.PagedArea.new.Goals as goal

@@ -1,5 +1,5 @@
-use Rattle.std.proofs.Common.{rules, ◌≡◌, ◌∙◌, ◌+◌, ◌≤◌, ◌++◌, ℕ, List, [], Option, Some, None, Ok, OnOk, refl, sym, ap, subst, arith, length, true, false}
-use Rattle.cdf_pages.proofs.Common.{IsErrOf, IsTrue, is_some, nat_cmp, get, Fault, NoMemory, Disk, file_of, image_of, is_in, was, HasNothingToSave, Holds, HoldsBetween, IsChangedRange, IsSavedAlready, Touches}
+use Rattle.std.proofs.Common.{◌∙◌, ◌+◌, ◌≤◌, ◌++◌, ℕ, List, None, OnOk, refl, sym, ap, subst, arith, length}
+use Rattle.cdf_pages.proofs.Common.{is_some, nat_cmp, get, file_of, image_of, is_in, Holds, HoldsBetween, IsChangedRange, Touches}
 use Rattle.cdf_pages.specs.Saving.{tail_bytes}
 use Rattle.cdf_pages.proofs.Filling.{on_ok_map, true_not_false}
 use Rattle.cdf_pages.proofs.Images.{image_size}

@@ -1,5 +1,6 @@
 use Rattle.std.proofs.Common.{rules, ◌≡◌, ◌∙◌, ◌+◌, ◌-◌, ◌*◌, ◌/◌, ◌%◌, ◌≤◌, ◌<◌, ◌⊎◌, ℕ, List, refl, sym, ap, ap₂, subst, arith, None, Some, length, replicate, ◌++◌}
 use Rattle.cdf_pages.proofs.Common.{nat_cmp, get, put, file_of, image_of, was, eqb-true, keys_of, TakesAtMost, is_in, Changes, ChangesSome, cost_of_writing, pages_in}
+use Rattle.cdf_pages.specs.Pages.{Covers, part_from, part_upto}
 use Rattle.cdf_pages.proofs.Filling.{on_err, true_not_false}
 use Rattle.cdf_pages.proofs.Images.{image_same, image_size, put_empty}
 use Rattle.cdf_pages.proofs.Growing.{kept_backed, was_backed, kept_shows}
@@ -61,3 +62,8 @@ pub returns-clause-taken : goal.returns-clause-taken
 returns-clause-taken g c =
     let some : 0 < c.args.n = omega arith in
     subst (λ (m : ℕ). TakesAtMost (g.S.Store.taken c.args.self.now.store) (g.S.Store.taken c.own_pages-owned.new.store) (cost_of_writing (is_in (get nat_cmp c.args.self.now.sheets.changed)) (keys_of c.args.self.now.clean.entries) (length (file_of (g.S.Store.disk c.args.self.now.store))) (m / 65536) (pages_in m c.args.n))) (sym (image_size (get nat_cmp c.args.self.now.sheets.changed) (file_of (g.S.Store.disk c.args.self.now.store)) c.args.self.now.sheets.length)) (subst (λ (count : ℕ). TakesAtMost (g.S.Store.taken c.args.self.now.store) (g.S.Store.taken c.own_pages-owned.new.store) (cost_of_writing (is_in (get nat_cmp c.args.self.now.sheets.changed)) (keys_of c.args.self.now.clean.entries) (length (file_of (g.S.Store.disk c.args.self.now.store))) (c.args.self.now.sheets.length / 65536) count)) (pages_between c.args.self.now.sheets.length c.args.n some) c.own_pages-owned.ensures.taken)
+
+pub zero_range-requires-clause-ready : goal.zero_range-requires-clause-ready
+zero_range-requires-clause-ready g c q low high s =
+    let size = c.own_pages-owned.ensures.length in
+    subst (λ m. Covers (get nat_cmp c.own_pages-owned.new.sheets.kept q) (part_from m q) (part_upto (m + c.args.n) q)) (sym size) (c.in_ok-owned.ensures.owned.ready q (omega (arith, low, size)) (omega (arith, high, size)) s)

@@ -1,4 +1,4 @@
-use Rattle.std.proofs.Common.{rules, ◌≡◌, ◌∙◌, ◌+◌, ◌*◌, ◌≤◌, sym, ap, arith, length, slice_index}
+use Rattle.std.proofs.Common.{◌∙◌, ◌+◌, ◌*◌, sym, ap, arith, length, slice_index}
 use Rattle.cdf_store.specs.Disk.{file_of}
 use Rattle.cdf_pages.proofs.paged_area.PagedAreaArea.get.Goals as goal
 

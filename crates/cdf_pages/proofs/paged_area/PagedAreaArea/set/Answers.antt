@@ -1,5 +1,5 @@
-use Rattle.std.proofs.Common.{rules, ◌≡◌, ◌∙◌, ◌+◌, ◌-◌, ◌*◌, ◌/◌, ◌%◌, ◌≤◌, ◌<◌, ◌⊎◌, ℕ, List, refl, sym, ap, ap₂, subst, arith, None, Some, length}
-use Rattle.cdf_pages.proofs.Common.{nat_cmp, get, put, file_of, image_of, was, eqb-true, keys_of, TakesAtMost, is_in, Changes, ChangesSome, cost_of_writing, pages_in}
+use Rattle.std.proofs.Common.{rules, ◌≡◌, ◌∙◌, ◌/◌, ◌<◌, ℕ, refl, sym, ap, ap₂, subst, arith, length}
+use Rattle.cdf_pages.proofs.Common.{nat_cmp, get, put, file_of, image_of, was, eqb-true, keys_of, TakesAtMost, is_in, cost_of_writing}
 use Rattle.cdf_pages.proofs.Filling.{on_err, true_not_false}
 use Rattle.cdf_pages.proofs.Images.{image_same, image_size, put_empty}
 use Rattle.cdf_pages.proofs.Growing.{kept_backed, was_backed, kept_shows}
@@ -69,3 +69,6 @@ pub returns-clause-taken : goal.returns-clause-taken
 returns-clause-taken g c =
     let some : 0 < (length c.args.bytes.now) = some_length (length c.args.bytes.now) (sym c.is_empty.ensures ∙ c.if-is_empty.false) in
     subst (λ (count : ℕ). TakesAtMost (g.S.Store.taken c.args.self.now.store) (g.S.Store.taken c.own_pages-owned.new.store) (cost_of_writing (is_in (get nat_cmp c.args.self.now.sheets.changed)) (keys_of c.args.self.now.clean.entries) (length (file_of (g.S.Store.disk c.args.self.now.store))) (c.args.place / 65536) count)) (pages_between c.args.place (length c.args.bytes.now) some) c.own_pages-owned.ensures.taken
+
+pub write_range-requires-clause-ready : goal.write_range-requires-clause-ready
+write_range-requires-clause-ready g c q low high s = c.in_ok-owned.ensures.owned.ready q low (omega arith) s
