@@ -99,3 +99,6 @@ pub mod IndexEdited
 pub mod ChainEdited
 pub mod RechainedStands
 pub mod NumberedRecords
+pub mod LeftOwners
+pub mod RowsOneLess
+pub mod LeftChain

@@ -8,7 +8,9 @@ use Rattle.cdf_edits.proofs.Edits.OwnVariable.{freed_mine, mine_freed, own_typed
 use Rattle.cdf_edits.proofs.Edits.RecordFrame.{field_clear, gdr_field, gdr_place}
 use Rattle.cdf_edits.proofs.Edits.StepEdits.{gdr_in, gdr_typed, gdr_long}
 use Rattle.cdf_edits.proofs.Edits.TakenVariable.{TakesVariable, SaysTaken, tests, without_variable, content_taken, taken_good, splices, vdr_there, back_in, back_out}
-use Rattle.cdf_edits.proofs.Edits.UnlinkedVariable.{e_second, e_early, some_second, may_last, unlinked_edit, as_long, counted_now, numbered_now, numbered_still, unlinked_shape, mid_sound, own_free, unlinked_behind, unlinking_tests}
+use Rattle.cdf_edits.proofs.Edits.UnlinkedVariable.{leaves, leaving_tests, unlinked_edit, numbered_now, unlinked_shape, mid_sound, own_free, unlinked_behind}
+use Rattle.cdf_edits.proofs.Edits.LeftChain.{e_second, e_early, some_second, lasts_second, as_long, counted_now}
+use Rattle.cdf_edits.proofs.Edits.RowsOneLess.{numbered_still}
 use Rattle.cdf_edits.proofs.Edits.VariableKinds.{kind_chain, with_shapes}
 use Rattle.cdf_edits.proofs.Edits.VariableSplice.{content_now}
 use Rattle.cdf_edits.proofs.Edits.WrittenFields.{write_lies}
@@ -44,7 +46,7 @@ module _ {b now : List ℕ} {kind : Kind} {n : ℕ} (good : Good b) (d : Removes
   frees = record {
     sound = sound;
     edit = unlinked_edit good d.unlinks;
-    long = as_long good d.unlinks;
+    long = as_long (leaves good d.unlinks);
     mid_sound = mid_sound good d.unlinks;
     records = ap (λ (x : Shape). x.records) (unlinked_shape good d.unlinks);
     unused = ap (λ (x : Shape). x.unused) (unlinked_shape good d.unlinks);
@@ -55,7 +57,7 @@ module _ {b now : List ℕ} {kind : Kind} {n : ℕ} (good : Good b) (d : Removes
   }
 
   pub takes : TakesVariable b now s kind d.before d.own d.after places (length mid)
-  takes = record { edit = freed_edit frees; was = d.unlinks.was; mine = mine }
+  takes = record { edit = freed_edit frees; at = record { was = d.unlinks.was }; mine = mine }
 
   -- ---- the shape
 
@@ -72,15 +74,15 @@ module _ {b now : List ℕ} {kind : Kind} {n : ℕ} (good : Good b) (d : Removes
 
   numbered : (m : ℕ) → In m (vdrs d.after) → number now m vdr_num ≡ number mid m vdr_num
   numbered m i =
-      let v = vdr_there sound takes m (back_in sound takes m i) in
-      let t = unlinking_tests kind s.gdr [] [] in
+      let v = vdr_there sound takes.at m (back_in sound takes.at m i) in
+      let t = leaving_tests kind s.gdr [] [] in
       let typed = freed_types frees m v.0 ∙ v.1.0 in
       let size = head_size b mid m (frees.edit.head m v.0 (λ x. t.no_uir (sym v.1.0 ∙ x)) (λ r. r)) in
       number_kept mid now m (others_kept frees m v.0 (λ x. t.no_gdr (sym typed ∙ x)) (λ x. t.no_uir (sym typed ∙ x)) (back_out sound takes m i)).same vdr_num (let l = v.1.1 in omega arith)
 
   pub says : SaysTaken sound takes (shape now).unused
   says = record {
-    numbered = numbered_still mid now (length d.before) (vdrs d.after) numbered (numbered_now good d.unlinks);
+    numbered = numbered_still mid now vdr_num (length d.before) (vdrs d.after) numbered (numbered_now good d.unlinks);
     variable_chain = chain_after;
     unused_chain = subst (λ (x : Shape). IsChain now x.records uir_type (number now x.gdr gdr_uir_head) x.unused) shape_after (sound_now frees).has_shape.unused_chain;
     freed = all_freed frees;
@@ -101,7 +103,7 @@ module _ {b now : List ℕ} {kind : Kind} {n : ℕ} (good : Good b) (d : Removes
   content_after = content_taken sound takes says ∙ ap (λ (k : ℕ). with_variables (content b) kind (remove (variables_of (content b) kind) k)) d.count
 
   pub count_now : number now s.gdr (count_of (variables_chain kind)) ≡ length (vdrs (d.before ++ d.after))
-  count_now = gdr_still frees (count_of (variables_chain kind)) (count_low kind) ∙ counted_now good d.unlinks ∙ sym (length-map (d.before ++ d.after) (λ (v : VariableShape). v.vdr) ∙ length-append d.before d.after)
+  count_now = gdr_still frees (count_of (variables_chain kind)) (count_low kind) ∙ counted_now (leaves good d.unlinks) ∙ sym (length-map (d.before ++ d.after) (λ (v : VariableShape). v.vdr) ∙ length-append d.before d.after)
     where
       count_low : (kind : Kind) → (count_of (variables_chain kind)).place + (count_of (variables_chain kind)).width ≤ 64
       count_low R = omega arith
@@ -159,9 +161,9 @@ r_max_after {b = b} {now = now} R good d =
     let places = vdrs (d.before ++ d.after) in
     let greatest = greatest_at b places in
     let t = takes good d in
-    let may = (may_last good d.unlinks).0 in
-    let second = e_second good d.unlinks in
-    let lies = write_lies d.unlinks.second s.records second.tiled_now (some_second good d.unlinks) s.gdr gdr_r_max_rec may.inside may.fits in
+    let may = (lasts_second (leaves good d.unlinks)).0 in
+    let second = e_second (leaves good d.unlinks) in
+    let lies = write_lies d.unlinks.second s.records second.tiled_now (some_second (leaves good d.unlinks)) s.gdr gdr_r_max_rec may.inside may.fits in
     let written : integer4 d.mid s.gdr gdr_r_max_rec ≡ greatest = ap (λ (x : List ℕ). integer4 x s.gdr gdr_r_max_rec) d.unlinks.written ∙ field_reads4 d.unlinks.second s.gdr gdr_r_max_rec greatest refl lies (greatest_fits b places) in
     let kept : integer4 now s.gdr gdr_r_max_rec ≡ integer4 d.mid s.gdr gdr_r_max_rec = ap (cast_signed w32) (r_max_mid good d) in
     let place : gdr_offset now ≡ s.gdr = gdr_place (sound good d) t.edit (tests (sound good d) t).file_clear in
@@ -172,7 +174,7 @@ r_max_after {b = b} {now = now} Z good d =
     let t = takes good d in
     let h = (sound good d).has_shape in
     let place : gdr_offset now ≡ s.gdr = gdr_place (sound good d) t.edit (tests (sound good d) t).file_clear in
-    let early = e_early good d.unlinks in
+    let early = e_early (leaves good d.unlinks) in
     let first = field_clear early s.gdr gdr_type gdr_r_max_rec (gdr_in b s h) (gdr_typed b s h) refl refl (let l = gdr_long b s h in omega arith) in
     let kept : integer4 now s.gdr gdr_r_max_rec ≡ integer4 b s.gdr gdr_r_max_rec = ap (cast_signed w32) (r_max_mid good d ∙ ap (λ (x : List ℕ). number x s.gdr gdr_r_max_rec) d.unlinks.written ∙ first) in
     ap (λ (g : ℕ). integer4 now g gdr_r_max_rec) place ∙ kept ∙ ap (λ (g : ℕ). integer4 b g gdr_r_max_rec) (sym h.gdr_is)

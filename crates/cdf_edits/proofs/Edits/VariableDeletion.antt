@@ -8,7 +8,8 @@ use Rattle.cdf_edits.proofs.Edits.ActsThen.{all_gave, gave-same}
 use Rattle.cdf_edits.proofs.Edits.FreedAfter.{may_free, places_in, sizes_before}
 use Rattle.cdf_edits.proofs.Edits.FreedRecords.{sizes_by_tiles}
 use Rattle.cdf_edits.proofs.Edits.RemovedVariable.{frees, content_after, good_after, long_now, records_are, r_max_after}
-use Rattle.cdf_edits.proofs.Edits.UnlinkedVariable.{as_long, mid_sound, unlinked_edit, unlinked_shape}
+use Rattle.cdf_edits.proofs.Edits.LeftChain.{as_long}
+use Rattle.cdf_edits.proofs.Edits.UnlinkedVariable.{leaves, mid_sound, unlinked_edit, unlinked_shape}
 
 -- ---- the step
 
@@ -61,7 +62,7 @@ module _ {b mid now : List ℕ} {found : Found} (good : Good b) (drops : DropsEn
   unlinked_acts : ActsFollow b d.mid (gave b (entries_for b (shape b).attributes found))
   unlinked_acts =
       let same = unlinked_shape drops.good d.unlinks in
-      acts_still_by (good_is_sound mid drops.good) drops.acts (unlinked_edit drops.good d.unlinks) (free_of_unused found.kind (shape mid).gdr (vdrs (shapes_of (shape mid) found.kind)) (vdrs d.after)) (ap (λ (x : Shape). x.records) same) (ap (λ (x : Shape). x.unused) same) (as_long drops.good d.unlinks)
+      acts_still_by (good_is_sound mid drops.good) drops.acts (unlinked_edit drops.good d.unlinks) (free_of_unused found.kind (shape mid).gdr (vdrs (shapes_of (shape mid) found.kind)) (vdrs d.after)) (ap (λ (x : Shape). x.records) same) (ap (λ (x : Shape). x.unused) same) (as_long (leaves drops.good d.unlinks))
 
   pub acts_deleted : ActsFollow b now (gave b (entries_for b (shape b).attributes found ++ freed_with_variable d.own))
   acts_deleted =
