@@ -52,14 +52,12 @@ pub mod PutEntry
 pub mod RecordFrame
 pub mod RemovalCalls
 pub mod RemovedAttribute
-pub mod RemovedLives
 pub mod RemovedVariable
-pub mod Renumbered
+pub mod AttributeRemains
 pub mod Splice
 pub mod StepEdits
 pub mod TakenEntry
 pub mod TakenVariable
-pub mod UnlinkedAttribute
 pub mod UnlinkedVariable
 pub mod VariableCopied
 pub mod VariableDeleted
@@ -104,3 +102,7 @@ pub mod IndexEdited
 pub mod ChainEdited
 pub mod RechainedStands
 pub mod NumberedRecords
+pub mod LeftOwners
+pub mod RowsOneLess
+pub mod LeftChain
+pub mod NumbersBehind

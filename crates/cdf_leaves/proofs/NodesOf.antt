@@ -1,7 +1,7 @@
 -- The nodes and the blocks of an index with a leaf more.
 use Rattle.std.proofs.Common.{◌≡◌, ◌≢◌, ◌⊎◌, ℕ, zero, suc, ◌+◌, ◌<◌, ◌≤◌, List, [], ◌∷◌, Bool, true, false, ltb, refl, subst, arith, inl, inr}
 use Rattle.cdf_leaves.proofs.Common.{cases_eq, with_leaf, new_room, Nodes, Leaf, nodes_of, times, Distinct, In, with_new}
-use Rattle.cdf_edits.proofs.Edits.UnlinkedAttribute.{distinct_if}
+use Rattle.cdf_edits.proofs.Edits.LeftOwners.{distinct_if}
 use Rattle.cdf_edits.proofs.Frame.OwnersApart.{times-in}
 use Rattle.cdf_format.proofs.Owning.{times-none, times-once}
 use Rattle.cdf_leaves.proofs.NodesMore.{places, taken_at, nodes_more, cons_times}

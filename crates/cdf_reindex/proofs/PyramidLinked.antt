@@ -28,7 +28,7 @@ use Rattle.cdf_edits.proofs.Frame.VdrAlike.{block_fits_alike, records_alike}
 use Rattle.cdf_edits.proofs.Frame.VdrStays.{end_stays, cpr_stays, variable_stays}
 use Rattle.cdf_index.proofs.IndexReplaced.{times-parts, index_replaced}
 use Rattle.cdf_reindex.proofs.PyramidBuilt.{NewTree, the_one}
-use Rattle.cdf_edits.proofs.Edits.UnlinkedAttribute.{distinct_if}
+use Rattle.cdf_edits.proofs.Edits.LeftOwners.{distinct_if}
 use Rattle.cdf_reindex.proofs.LevelLemmas.{same_head, same_tail}
 use Rattle.cdf_edits.proofs.Space.ActsLeave.{each}
 

@@ -1,53 +1,11 @@
 -- Entries of a chain: what of them stays where their bytes do, that their numbers differ, and what they mean where one is added to the chain, replaced in it, or goes.
-use Rattle.std.proofs.Common.{◌≡◌, ◌≢◌, ℕ, ℤ, ◌+◌, ◌*◌, ◌≤◌, List, [], ◌∷◌, ◌++◌, length, map, Bool, true, false, not, is_some, ◌&&◌, ◌||◌, eq-eqb, refl, sym, ap, ap₂, subst, ◌∙◌, append_assoc, append-nil, arith, inl, inr}
-use Rattle.cdf_edits.proofs.Common.{w32, cast_signed, Same, Same-part, word_kept, piece_kept, field_bytes, cases_eq, ne_eqb, map-append, list_any, unwrap_or, ◌==◌, nat_le, DataType, Byte, turned, Entry, record_number_limit, with_item, without, record_limit, size_of, type_of, entry_bytes, has_value, entry_rows, same_number, differ_rows, is_in, entry_of, is_positive, number, size_at, adr_num, aedr_attr_num, aedr_data_type, aedr_num, aedr_num_elems, aedr_value, row, Hold, EntryFits, is_little, data_type_in, In, Distinct, Distinct-push, Distinct-middle, is_in-true, is_in-false, not_false, with_in_place}
+use Rattle.std.proofs.Common.{◌≡◌, ◌≢◌, ℕ, List, [], ◌∷◌, ◌++◌, map, Bool, true, false, not, ◌||◌, eq-eqb, refl, sym, ap, ap₂, subst, ◌∙◌, append_assoc, append-nil, arith, inl, inr}
+use Rattle.cdf_edits.proofs.Common.{cases_eq, ne_eqb, map-append, list_any, ◌==◌, nat_le, record_number_limit, with_item, without, entry_bytes, has_value, entry_rows, same_number, differ_rows, is_in, entry_of, number, size_at, adr_num, aedr_attr_num, aedr_num, row, Hold, EntryFits, In, Distinct, Distinct-push, Distinct-middle, is_in-true, is_in-false, not_false, with_in_place}
 use Rattle.cdf_format.specs.Content.{entries_of}
 use Rattle.cdf_edits.specs.Space.Chains.{without as left_of}
-use Rattle.cdf_edits.proofs.Edits.NumberedItems.{Rising, rising_with, items_swap, item_again, item_gone, item_stays}
-use Rattle.cdf_edits.proofs.Frame.Meaning.{FileSame, KeptButLink, late_size, late_number}
-
--- ---- an entry that stays but for its links and its number
-
-pub record KeptEntry (b now : List ℕ) (e : ℕ) : Type 0 where
-  pub sized : size_at now e ≡ size_at b e
-  pub head : Same b now (e + 20) (e + 28)
-  pub rest : Same b now (e + 32) (e + size_at b e)
-  pub inside : e + size_at b e ≤ length b
-
--- it means what it did
-pub record EntryMeans (b now : List ℕ) (e : ℕ) : Type 0 where
-  pub attribute : number now e aedr_attr_num ≡ number b e aedr_attr_num
-  pub meant : entry_of now e ≡ entry_of b e
-  pub valued : has_value now e ≡ has_value b e
-  pub fits : EntryFits now e
-
-entry_from : DataType → ℕ → Bool → List ℕ → Entry
-entry_from t n little raw = record { type = t; elems = n; bytes = turned t little raw }
-
-long_entry : (n s : ℕ) → 56 + n ≤ s → 56 ≤ s
-long_entry n s h = omega arith
-
-pub entry_means : (b now : List ℕ) → FileSame b now → (e : ℕ) → KeptEntry b now e → EntryFits b e → EntryMeans b now e
-unfolding entry_from
-entry_means b now file e k enough =
-    let long : 56 ≤ size_at b e = long_entry (entry_bytes b e) (size_at b e) enough in
-    let code = ap (cast_signed w32) (word_kept b now (e + 20) (e + 28) k.head (e + 24) 4 (omega arith) (omega arith)) in
-    let t : data_type_in now e aedr_data_type ≡ data_type_in b e aedr_data_type = ap (λ (z : ℤ). unwrap_or (type_of z) Byte) code in
-    let n : number now e aedr_num_elems ≡ number b e aedr_num_elems = word_kept b now (e + 32) (e + size_at b e) k.rest (e + 32) 4 (omega arith) (omega arith) in
-    let raw : field_bytes now e (aedr_value (entry_bytes b e)) ≡ field_bytes b e (aedr_value (entry_bytes b e)) = piece_kept b now (e + 32) (e + size_at b e) k.rest (e + 56) (entry_bytes b e) (omega arith) (room e (entry_bytes b e) (size_at b e) enough) k.inside file.longer in
-    let first : entry_of now e ≡ entry_from (data_type_in b e aedr_data_type) (number b e aedr_num_elems) (is_little b) (field_bytes now e (aedr_value (entry_bytes b e))) =
-    λ i. entry_from (t i) (n i) (file.little i) (field_bytes now e (aedr_value (size_of (t i) * n i))) in
-    let size = k.sized in
-    let bytes : entry_bytes now e ≡ entry_bytes b e = λ i. size_of (t i) * n i in
-    record {
-      attribute = word_kept b now (e + 20) (e + 28) k.head (e + 20) 4 (omega arith) (omega arith);
-      meant = first ∙ ap (entry_from (data_type_in b e aedr_data_type) (number b e aedr_num_elems) (is_little b)) raw;
-      valued = λ i. (is_some (type_of (code i)) && is_positive (n i)) && (nat_le (bytes i) record_limit && nat_le (56 + bytes i) (size i));
-      fits = subst (λ (x : ℕ). 56 + entry_bytes now e ≤ x) (sym size) (subst (λ (x : ℕ). 56 + x ≤ size_at b e) (sym bytes) enough);
-    }
-  where
-    room : (e n s : ℕ) → 56 + n ≤ s → e + 56 + n ≤ e + s
-    room e n s h = omega arith
+use Rattle.cdf_edits.proofs.Edits.NumberedItems.{Rising, rising_with}
+use Rattle.cdf_edits.proofs.Edits.NumberedLookup.{items_swap, item_again, item_gone, item_stays}
+use Rattle.cdf_edits.proofs.Frame.Meaning.{FileSame, KeptButLink, long_entry, link_bytes, entry_means, late_number}
 
 -- ---- an entry that stays but for the link to the next one
 
@@ -59,11 +17,10 @@ pub record EntryLives (b now : List ℕ) (e : ℕ) : Type 0 where
   pub fits : EntryFits now e
 
 pub entry_lives : (b now : List ℕ) → FileSame b now → (e : ℕ) → KeptButLink b now e → EntryFits b e → EntryLives b now e
-entry_lives b now file e k enough =
-    let long : 56 ≤ size_at b e = long_entry (entry_bytes b e) (size_at b e) enough in
-    let part = λ (lo hi : ℕ). Same-part b now (e + 20) (e + size_at b e) (e + lo) (e + hi) k.rest in
-    let means = entry_means b now file e (record { sized = late_size b now e k; head = part 20 28 (omega arith) (omega arith); rest = part 32 (size_at b e) (omega arith) (omega arith); inside = k.inside }) enough in
-    record { attribute = means.attribute; num = late_number b now e k aedr_num (omega arith) (omega arith); meant = means.meant; valued = means.valued; fits = means.fits }
+entry_lives b now file e k fits =
+    let long = long_entry (entry_bytes b e) (size_at b e) fits in
+    let means = entry_means b now file e (link_bytes b now e k fits) fits in
+    record { attribute = late_number b now e k aedr_attr_num (omega arith) (omega arith); num = late_number b now e k aedr_num (omega arith) (omega arith); meant = means.meant; valued = means.valued; fits = means.fits }
 
 pub entry_rules_live : (b now : List ℕ) (adr e : ℕ) → number now adr adr_num ≡ number b adr adr_num → EntryLives b now e → Hold (entry_rows b adr e) → Hold (entry_rows now adr e)
 entry_rules_live b now adr e own l rules =
@@ -141,12 +98,16 @@ pub nums_live : (b now es : List ℕ) → ((m : ℕ) → In m es → EntryLives 
 nums_live b now [] live = refl
 nums_live b now (e ∷ es) live = ap₂ (λ (n : ℕ) (rest : List ℕ). n ∷ rest) (live e (inl refl)).num (nums_live b now es (λ m i. live m (inr i)))
 
+rising_entries : (b es : List ℕ) → Rising 0 (entries_of b es)
+rising_entries b [] = Rising.none
+rising_entries b (e ∷ es) = rising_with 0 (number b e aedr_num) (entry_of b e) (entries_of b es) (omega arith) (rising_entries b es)
+
 -- one more of another number
 pub entries_pushed : (b es : List ℕ) (e : ℕ) → (In (number b e aedr_num) (nums b es) → ⊥) → entries_of b (es ++ e ∷ []) ≡ with_item (number b e aedr_num) (entry_of b e) (entries_of b es)
 entries_pushed b [] e out = refl
 entries_pushed b (x ∷ es) e out =
     ap (with_item (number b x aedr_num) (entry_of b x)) (entries_pushed b es e (λ i. out (inr i)))
-    ∙ items_swap (number b x aedr_num) (number b e aedr_num) (entry_of b x) (entry_of b e) (entries_of b es) (λ q. out (inl (sym q)))
+    ∙ items_swap (number b x aedr_num) (number b e aedr_num) (entry_of b x) (entry_of b e) (entries_of b es) (λ q. out (inl (sym q))) (rising_entries b es)
 
 pub nums_pushed : (b es : List ℕ) (e : ℕ) → Distinct (nums b es) → (In (number b e aedr_num) (nums b es) → ⊥) → Distinct (nums b (es ++ e ∷ []))
 nums_pushed b es e d out = subst Distinct (sym (nums_push b es e)) (Distinct-push (nums b es) (number b e aedr_num) d out)
@@ -160,14 +121,14 @@ module _ (b now : List ℕ) (old by n : ℕ) (of_old : number b old aedr_num ≡
         let out : In (number b old aedr_num) (nums b es) → ⊥ = subst (λ (x : ℕ). In (number b x aedr_num) (nums b es) → ⊥) q d.0 in
         let same = entries_live b now es (λ m j. live m (inr j) (not_behind b es old m out j)) in
         let first : entries_of b (e ∷ es) ≡ with_item n (entry_of b e) (entries_of b es) = ap (λ (k : ℕ). with_item k (entry_of b e) (entries_of b es)) (ap (λ (x : ℕ). number b x aedr_num) q ∙ of_old) in
-        rw (eq-eqb e old q) ((λ k. with_item (of_new k) (entry_of now by) (same k)) ∙ sym (item_again n (entry_of now by) (entry_of b e) (entries_of b es)) ∙ ap (with_item n (entry_of now by)) (sym first))
+        rw (eq-eqb e old q) ((λ k. with_item (of_new k) (entry_of now by) (same k)) ∙ sym (item_again n (entry_of now by) (entry_of b e) (entries_of b es) (rising_entries b es)) ∙ ap (with_item n (entry_of now by)) (sym first))
     | inr ne ↦
         let there : In old es = elim i [ inl q ↦ absurd (ne (sym q)) | inr j ↦ j ] in
         let here = live e (inl refl) ne in
         let num = here.num in
         let meant = here.meant in
         let rest = entries_replaced es d.1 there (λ m j. live m (inr j)) in
-        rw (ne_eqb e old ne) ((λ k. with_item (num k) (meant k) (rest k)) ∙ items_swap (number b e aedr_num) n (entry_of b e) (entry_of now by) (entries_of b es) (no_other b es e old n of_old there d.0))
+        rw (ne_eqb e old ne) ((λ k. with_item (num k) (meant k) (rest k)) ∙ items_swap (number b e aedr_num) n (entry_of b e) (entry_of now by) (entries_of b es) (no_other b es e old n of_old there d.0) (rising_entries b es))
   ]
 
   pub nums_replaced : (es : List ℕ) → Distinct (nums b es) → In old es → Others b now es old → nums now (with_in_place old by es) ≡ nums b es
@@ -182,14 +143,10 @@ module _ (b now : List ℕ) (old by n : ℕ) (of_old : number b old aedr_num ≡
   ]
 
 -- without the one of a number
-rising_entries : (b es : List ℕ) → Rising 0 (entries_of b es)
-rising_entries b [] = Rising.none
-rising_entries b (e ∷ es) = rising_with 0 (number b e aedr_num) (entry_of b e) (entries_of b es) (omega arith) (rising_entries b es)
-
 pub none_numbered : (b es : List ℕ) (n : ℕ) → (In n (nums b es) → ⊥) → without n n (entries_of b es) ≡ entries_of b es
 none_numbered b [] n out = refl
 none_numbered b (e ∷ es) n out =
-    item_stays (number b e aedr_num) n 0 (entry_of b e) (entries_of b es) (λ q. out (inl (sym q))) (rising_entries b es) ∙ ap (with_item (number b e aedr_num) (entry_of b e)) (none_numbered b es n (λ i. out (inr i)))
+    item_stays (number b e aedr_num) n (entry_of b e) (entries_of b es) (λ q. out (inl (sym q))) (rising_entries b es) ∙ ap (with_item (number b e aedr_num) (entry_of b e)) (none_numbered b es n (λ i. out (inr i)))
 
 module _ (b now : List ℕ) (old n : ℕ) (of_old : number b old aedr_num ≡ n) where
   pub entries_left : (es : List ℕ) → Distinct (nums b es) → In old es → Others b now es old → entries_of now (left_of old es) ≡ without n n (entries_of b es)
@@ -199,14 +156,14 @@ module _ (b now : List ℕ) (old n : ℕ) (of_old : number b old aedr_num ≡ n)
         let out : In (number b old aedr_num) (nums b es) → ⊥ = subst (λ (x : ℕ). In (number b x aedr_num) (nums b es) → ⊥) q d.0 in
         let same = entries_live b now es (λ m j. live m (inr j) (not_behind b es old m out j)) in
         let first : entries_of b (e ∷ es) ≡ with_item n (entry_of b e) (entries_of b es) = ap (λ (k : ℕ). with_item k (entry_of b e) (entries_of b es)) (ap (λ (x : ℕ). number b x aedr_num) q ∙ of_old) in
-        rw (eq-eqb e old q) (same ∙ sym (none_numbered b es n (subst (λ (x : ℕ). In x (nums b es) → ⊥) of_old out)) ∙ sym (item_gone n (entry_of b e) (entries_of b es)) ∙ ap (without n n) (sym first))
+        rw (eq-eqb e old q) (same ∙ sym (none_numbered b es n (subst (λ (x : ℕ). In x (nums b es) → ⊥) of_old out)) ∙ sym (item_gone n (entry_of b e) (entries_of b es) (rising_entries b es)) ∙ ap (without n n) (sym first))
     | inr ne ↦
         let there : In old es = elim i [ inl q ↦ absurd (ne (sym q)) | inr j ↦ j ] in
         let here = live e (inl refl) ne in
         let num = here.num in
         let meant = here.meant in
         let rest = entries_left es d.1 there (λ m j. live m (inr j)) in
-        rw (ne_eqb e old ne) ((λ k. with_item (num k) (meant k) (rest k)) ∙ sym (item_stays (number b e aedr_num) n 0 (entry_of b e) (entries_of b es) (no_other b es e old n of_old there d.0) (rising_entries b es)))
+        rw (ne_eqb e old ne) ((λ k. with_item (num k) (meant k) (rest k)) ∙ sym (item_stays (number b e aedr_num) n (entry_of b e) (entries_of b es) (no_other b es e old n of_old there d.0) (rising_entries b es)))
   ]
 
   pub nums_left : (es : List ℕ) → Distinct (nums b es) → In old es → Others b now es old → Distinct (nums now (left_of old es)) × ((k : ℕ) → In k (nums now (left_of old es)) → In k (nums b es))

@@ -7,7 +7,8 @@ use Rattle.cdf_edits.proofs.Edits.FreedBytes.{free_used}
 use Rattle.cdf_edits.proofs.Edits.LooseWritten.{loose_edit, loose_long, loose_shape, loose_sound, loose_free, others_kept}
 use Rattle.cdf_edits.proofs.Edits.MarkLemmas.{the_one, Avoids-append, Avoids-split}
 use Rattle.cdf_edits.proofs.Edits.OwnVariable.{mine_freed}
-use Rattle.cdf_edits.proofs.Edits.UnlinkedVariable.{unlinked_edit, unlinked_shape, left_shape, as_long, mid_sound, own_free, own_there, types_stay}
+use Rattle.cdf_edits.proofs.Edits.LeftChain.{as_long}
+use Rattle.cdf_edits.proofs.Edits.UnlinkedVariable.{leaves, unlinked_edit, unlinked_shape, left_shape, mid_sound, own_free, own_there, types_stay}
 use Rattle.cdf_edits.proofs.Edits.VariableKinds.{kind_type}
 use Rattle.cdf_edits.proofs.Edits.WrittenFields.{MayWrite}
 use Rattle.cdf_edits.proofs.Frame.Meaning.{Kept}
@@ -87,7 +88,7 @@ module _ {b mid : List ℕ} {kind : Kind} {before : List VariableShape} {own : V
   emptied_edit = edit_then (unlinked_edit good u) (subst (λ (r : List ℕ). Edit mid emptied r r marks []) records_same own_edit)
 
   pub emptied_long : length emptied ≡ length b
-  emptied_long = loose_long sound vdr inside (free.unowned vdr own_freed) marks away (empty_writes vdr) may ∙ as_long good u
+  emptied_long = loose_long sound vdr inside (free.unowned vdr own_freed) marks away (empty_writes vdr) may ∙ as_long (leaves good u)
 
   same_shape : shape emptied ≡ shape mid
   same_shape = loose_shape sound vdr inside (free.unowned vdr own_freed) marks away (empty_writes vdr) may

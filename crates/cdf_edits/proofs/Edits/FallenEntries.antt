@@ -1,8 +1,8 @@
 -- Entries of a chain get numbers less by one, where they are greater than one that none has, and the greatest number of the chain is written.
-use Rattle.std.proofs.Common.{◌≡◌, ℕ, ℤ, ◌-◌, ◌<◌, ◌≤◌, ◌^◌, List, [], ◌∷◌, ◌++◌, length, map, refl, sym, ap, subst, ◌∙◌, arith, inl, inr}
-use Rattle.cdf_edits.proofs.Common.{w32, cast_unsigned, FitsSigned, integer4, cases_lt, lt-ltb, le-leb, leb-true, filter, ◌==◌, nat_lt, EntryKind, entries_of, image_limit, record_number_limit, closed_up, entry_rows, attribute_of, number, size_at, type_at, with_field, aedr_num, Hold, AttributeShape, Each, shape, IsSound, In, Distinct, Good, number_kept, good_is_sound, filter-in, tile_lies, chain_of, entry_type, max_field, Edit, fallen, Among, Mark, mark, Write, write, with_writes}
+use Rattle.std.proofs.Common.{◌≡◌, ℕ, ℤ, ◌-◌, ◌<◌, ◌≤◌, ◌^◌, List, [], ◌∷◌, ◌++◌, length, map, refl, sym, ap, subst, ◌∙◌, arith, inl, inr, ◌+◌}
+use Rattle.cdf_edits.proofs.Common.{w32, cast_unsigned, FitsSigned, integer4, cases_lt, lt-ltb, le-leb, leb-true, filter, ◌==◌, nat_lt, EntryKind, entries_of, image_limit, record_number_limit, closed_up, entry_rows, attribute_of, number, size_at, type_at, with_field, aedr_num, Hold, AttributeShape, Each, shape, IsSound, In, Distinct, Good, number_kept, good_is_sound, filter-in, tile_lies, chain_of, entry_type, max_field, Edit, fallen, Among, Mark, mark, Write, write, with_writes, word_kept, aedr_attr_num}
 use Rattle.cdf_format.specs.Content.{entries_of as chain_items}
-use Rattle.cdf_edits.proofs.Edits.ChainEntries.{EntryMeans, entry_means, nums}
+use Rattle.cdf_edits.proofs.Edits.ChainEntries.{nums}
 use Rattle.cdf_edits.proofs.Edits.Common.{Rechains, chain_has, file_now, filter-distinct, filter-keeps, filter-says, num_same, some_bytes}
 use Rattle.cdf_edits.proofs.Edits.FallenItems.{EntryFell, entries_closed, fallen_distinct, fallen_under, falls, rests, nums_fell}
 use Rattle.cdf_edits.proofs.Edits.ChainMembers.{IsAmong, member, member_fits, own_there}
@@ -10,6 +10,7 @@ use Rattle.cdf_edits.proofs.Edits.OneChain.{counted_before, differ_before, good_
 use Rattle.cdf_edits.proofs.Edits.WrittenEntries.{WriteTests, WritesChain, as_long as as_long_written, count_now as count_written, edit as edit_written, greatest_now as greatest_written, mid_kept, mid_size, part_beside, size_now, rechains as rechains_written, settled as settled_written, write_tests, writing}
 use Rattle.std.proofs.lemmas.Bool.{ltb-true}
 use Rattle.cdf_edits.proofs.Edits.WrittenFields.{MayWrite, others_keep, writes_edit, writes_long, writes_say, written_tiles}
+use Rattle.cdf_edits.proofs.Frame.Meaning.{EntryMeans, entry_means}
 
 abbrev pub falling : EntryKind → ℕ → List ℕ → List Mark
 falling kind adr es = writing kind adr es aedr_num
@@ -120,7 +121,7 @@ module _ {b now : List ℕ} {kind : EntryKind} {before : List AttributeShape} {o
   means m i =
       let l = long_enough m i in
       let inside = (tile_lies b 8 (length b) (shape b).records m sound.has_shape.tiled (entry_in m i)).high in
-      entry_means b now (file_now sound rechains) m (record { sized = size_now sound w m i; head = part_beside sound w m 20 28 i (inl (omega arith)) (omega arith); rest = part_beside sound w m 32 (size_at b m) i (inr (omega arith)) (omega arith); inside = inside }) (member_fits kind sound at m i)
+      entry_means b now (file_now sound rechains) m (record { size = size_now sound w m i; code = part_beside sound w m 24 28 i (inl (omega arith)) (omega arith); rest = part_beside sound w m 32 (size_at b m) i (inr (omega arith)) (omega arith); inside = inside }) (member_fits kind sound at m i)
 
   entry_rules : (m : ℕ) → In m chain → Hold (entry_rows b own.adr m)
   entry_rules m i = rules_before sound rechains good m i
@@ -164,13 +165,13 @@ module _ {b now : List ℕ} {kind : EntryKind} {before : List AttributeShape} {o
   rules_now : (m : ℕ) → In m chain → Hold (entry_rows now own.adr m)
   rules_now m i =
       let was = entry_rules m i in
-      let x = means m i in
-      let attribute = x.attribute in
+      let enough = long_enough m i in
+      let attribute : number now m aedr_attr_num ≡ number b m aedr_attr_num = word_kept b now (m + 20) (m + 24) (part_beside sound w m 20 24 i (inl (omega arith)) (omega arith)) (m + 20) 4 (omega arith) (omega arith) in
       let own_same = num_same sound rechains in
       let is = fell_number m i in
       let under = fallen_under num (number b m aedr_num) in
       let l = small m i in
-      ((λ j. attribute j == own_same j) ∙ was.0, (le-leb (number now m aedr_num) record_number_limit (omega arith), (x.valued ∙ was.1.1.0, tt)))
+      ((λ j. attribute j == own_same j) ∙ was.0, (le-leb (number now m aedr_num) record_number_limit (omega arith), ((means m i).valued ∙ was.1.1.0, tt)))
 
   pub good_lowered : Good now
   unfolding rechains

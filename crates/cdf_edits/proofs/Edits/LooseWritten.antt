@@ -6,8 +6,7 @@ use Rattle.cdf_edits.proofs.Edits.FreedBytes.{free_used, unowned_used}
 use Rattle.cdf_edits.proofs.Edits.OwnedOnce.{used_times, none_in_use}
 use Rattle.cdf_edits.proofs.Edits.RecordFrame.{chain_kept, kept_away}
 use Rattle.cdf_edits.proofs.Edits.StepEdits.{gdr_in, gdr_long, some_bytes}
-use Rattle.cdf_edits.proofs.Edits.UnlinkedVariable.{long_writes}
-use Rattle.cdf_edits.proofs.Edits.WrittenFields.{MayWrite, writes_edit}
+use Rattle.cdf_edits.proofs.Edits.WrittenFields.{MayWrite, writes_edit, writes_long}
 use Rattle.cdf_edits.proofs.Frame.Meaning.{Kept}
 use Rattle.cdf_edits.proofs.Frame.OwnersApart.{file_records, all_attribute_records, all_variable_records, owned-times}
 use Rattle.cdf_edits.proofs.Space.RecordFreed.{not_gdr, no_file, no_attribute, no_variable}
@@ -28,7 +27,7 @@ module _ {b : List ℕ} (sound : IsSound b (shape b)) (place : ℕ) (inside : In
   loose_edit = writes_edit b s.records marks ws h.tiled (some_bytes b s h) may
 
   pub loose_long : length now ≡ length b
-  loose_long = long_writes s.records marks ws b may h.tiled (some_bytes b s h)
+  loose_long = writes_long b s.records marks ws h.tiled (some_bytes b s h) may
 
   used : type_at b place ≢ uir_type
   used = unowned_used b s place inside unowned

@@ -1,9 +1,8 @@
 -- What an edit leaves: decided by the types of its marks.
-use Rattle.std.proofs.Common.{◌≡◌, ℕ, ◌+◌, ◌*◌, ◌≤◌, List, [], ◌∷◌, ◌++◌, length, true, not, sym, ap, subst, ◌∙◌, arith, inl, inr}
-use Rattle.cdf_edits.proofs.Common.{w32, cast_signed, before_first, ◌==◌, ◌&&◌, if◌then◌else◌, AttributeFits, NodeFits, VariableFits, IsSound, FileStays, AttributeStays, VariableStays, Same, is_linkable, next_field, Leads, IsChain, scope_of, words, counted, number, name_in, size_at, type_at, gdr_offset, encoding, r_num_dims, r_sizes, nodes_of, leaves_of, Field, cdr_gdr_offset, cdr_encoding, cdr_flags, cdr_release, cdr_increment, adr_agr_edr_head, adr_scope, adr_az_edr_head, adr_name, vdr_vxr_head, cdr_type, gdr_type, adr_type, agr_edr_type, az_edr_type, Hold, AttributeShape, VariableShape, Shape, cpr_of, HasEntries, HasVariable, HasShape, attribute_shape_rows, variable_records, In, Same-part, word_kept, words_kept, piece_kept, number_kept, integer_kept, next_kept, size_kept, type_kept, is_a-in, is_a-type, linkable-from, linkable-in, linkable-type, linkable-long, In-append_left, In-append_right, both, tile_lies, Mark, Avoids, Away, avoided, ended, unmarked, keeps_file, Edit}
+use Rattle.std.proofs.Common.{◌≡◌, ℕ, ◌+◌, ◌*◌, ◌≤◌, List, [], ◌∷◌, ◌++◌, length, true, sym, ap, subst, ◌∙◌, arith, inl, inr}
+use Rattle.cdf_edits.proofs.Common.{w32, cast_signed, ◌&&◌, if◌then◌else◌, NodeFits, VariableFits, IsSound, FileStays, VariableStays, Same, next_field, Leads, IsChain, words, counted, number, size_at, type_at, gdr_offset, encoding, r_num_dims, r_sizes, nodes_of, leaves_of, Field, cdr_gdr_offset, cdr_encoding, cdr_flags, cdr_release, cdr_increment, vdr_vxr_head, cdr_type, gdr_type, AttributeShape, VariableShape, Shape, cpr_of, HasVariable, HasShape, variable_records, In, Same-part, word_kept, words_kept, number_kept, integer_kept, next_kept, size_kept, type_kept, is_a-in, is_a-type, linkable-from, linkable-in, linkable-type, linkable-long, In-append_left, In-append_right, both, tile_lies, Mark, Avoids, Away, avoided, ended, unmarked, keeps_file, Edit}
 use Rattle.cdf_edits.proofs.Frame.OwnerAlone.{Each-in, little_code}
-use Rattle.cdf_edits.proofs.Rules.OfAttributes.{attribute_rules_kept}
-use Rattle.cdf_edits.proofs.Frame.Meaning.{FileSame, Kept, KeptButLink, late_size, late_type, late_number, entries_kept}
+use Rattle.cdf_edits.proofs.Frame.Meaning.{FileSame, Kept, KeptButLink, late_size, late_type}
 use Rattle.cdf_edits.proofs.Frame.VdrCopied.{cpr_link_copied, index_link_copied}
 use Rattle.cdf_edits.proofs.Frame.VdrKept.{vdr_kept, variable_kept, compressed_same}
 use Rattle.cdf_edits.proofs.Frame.LinksStay.{SameHeads, leads_same, index_kept}
@@ -162,42 +161,6 @@ module _ {b now : List ℕ} {s : Shape} {new : List ℕ} {marks : List Mark} {re
       flags_are = number_kept b now 8 cdr_kept.same cdr_flags (let l = cdr_long in omega arith);
       sizes_are = sizes_same;
     }
-
-  -- ---- an attribute
-
-  module _ (a : AttributeShape) (file : FileSame b now) (ok : is_linkable b s.records adr_type a.adr ≡ true) (has : HasEntries b s.records a) (fits : AttributeFits b a) (lives : AttributeLives b now a) where
-    adr_long : 324 ≤ size_at b a.adr
-    adr_long = fixed_long b s h adr_type a.adr (linkable-in b s.records adr_type a.adr ok) (linkable-type b s.records adr_type a.adr ok)
-
-    pub adr_field : (f : Field) → 20 ≤ f.place → f.place + f.width ≤ 324 → number now a.adr f ≡ number b a.adr f
-    adr_field f late inside = late_number b now a.adr lives.adr f late (through (f.place + f.width) 324 (size_at b a.adr) inside adr_long)
-
-    pub adr_named : name_in now a.adr adr_name ≡ name_in b a.adr adr_name
-    adr_named =
-        let k = lives.adr in
-        ap (before_first (λ (x : ℕ). x == 0)) (piece_kept b now (a.adr + 20) (a.adr + size_at b a.adr) k.rest (a.adr + 68) 256 (omega arith) (let l = adr_long in omega arith) k.inside e.longer)
-
-    gr_kept : (m : ℕ) → In m a.gr_entries → Kept b now m
-    gr_kept m i = lives.entries m (In-append_left m a.gr_entries a.z_entries i)
-
-    z_kept : (m : ℕ) → In m a.z_entries → Kept b now m
-    z_kept m i = lives.entries m (In-append_right m a.gr_entries a.z_entries i)
-
-    pub attribute_stays : AttributeStays b now new a
-    attribute_stays =
-        let name = adr_named in
-        let scope = adr_field adr_scope (omega arith) (omega arith) in
-        let gs = entries_kept b now file a.gr_entries gr_kept fits.0 in
-        let zs = entries_kept b now file a.z_entries z_kept fits.1 in (
-          record {
-            gr_chain = chain_kept e agr_edr_type _ _ a.gr_entries has.gr_chain (adr_field adr_agr_edr_head (omega arith) (omega arith)) gr_kept;
-            z_chain = chain_kept e az_edr_type _ _ a.z_entries has.z_chain (adr_field adr_az_edr_head (omega arith) (omega arith)) z_kept;
-          },
-          λ i. record { name = name i; scope = scope_of (scope i); g = gs i; z = zs i },
-        )
-
-    pub attribute_rules : Hold (attribute_shape_rows b a) → Hold (attribute_shape_rows now a)
-    attribute_rules rules = attribute_rules_kept b now a (record { fields = λ f late inside. adr_field f late (through (f.place + f.width) 68 324 inside (omega arith)); entries = lives.entries }) fits (ap (λ (n : List ℕ). not (length n == 0)) adr_named ∙ rules.0) rules
 
   -- ---- a variable
 

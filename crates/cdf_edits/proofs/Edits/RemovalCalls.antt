@@ -7,7 +7,8 @@ use Rattle.cdf_edits.proofs.Edits.EmptiedVdr.{emptied_free, emptied_sound}
 use Rattle.cdf_edits.proofs.Edits.RecordFrame.{gdr_place}
 use Rattle.cdf_edits.proofs.Edits.StepEdits.{gdr_in, gdr_long, fixed_long}
 use Rattle.cdf_edits.proofs.Edits.TakenVariable.{least_size}
-use Rattle.cdf_edits.proofs.Edits.UnlinkedVariable.{in_holder, unlinking_tests, as_long, e_early}
+use Rattle.cdf_edits.proofs.Edits.UnlinkedVariable.{in_holder, leaves, leaving_tests}
+use Rattle.cdf_edits.proofs.Edits.LeftChain.{as_long, e_early}
 use Rattle.cdf_edits.proofs.Edits.VariableKinds.{counted_before, kind_chain, vdrs_rows}
 use Rattle.cdf_edits.proofs.Space.ChainHeads.{cdr_room}
 
@@ -89,10 +90,10 @@ module _ (b : List ℕ) (good : Good b) (kind : Kind) (places : List ℕ) (are :
             numbered ∙ (λ i. with_writes (less_are i) (numbers_on (sym this.count i) (this.later_at i)))
 
         place_second : gdr_offset second ≡ (shape b).gdr
-        place_second = ap gdr_offset second_are ∙ gdr_place sound (e_early good u) (unlinking_tests kind (shape b).gdr (vdrs (shapes_of (shape b) kind)) (vdrs this.after)).early_file
+        place_second = ap gdr_offset second_are ∙ gdr_place sound (e_early (leaves good u)) (leaving_tests kind (shape b).gdr (vdrs (shapes_of (shape b) kind)) (vdrs this.after)).early_file
 
         long_second : length b ≤ length second
-        long_second = let l = (e_early good u).longer in let e = ap length second_are in omega arith
+        long_second = let l = (e_early (leaves good u)).longer in let e = ap length second_are in omega arith
 
         pub cdr_second : 28 ≤ length second
         cdr_second = let i = cdr_room b sound in let l = long_second in omega arith
@@ -118,7 +119,7 @@ module _ (b : List ℕ) (good : Good b) (kind : Kind) (places : List ℕ) (are :
 
           -- its VDR lies there as before
           pub lies_mid : LiesIn mid (get_or places n 0) vdr_name
-          lies_mid = let l = inside (get_or places n 0) (got_in places n lt) in let e = as_long good unlinks in omega arith
+          lies_mid = let l = inside (get_or places n 0) (got_in places n lt) in let e = as_long (leaves good unlinks) in omega arith
 
           module _ {left : List ℕ} (emptied : left ≡ with_writes mid (empty_writes (get_or places n 0))) where
             left_is : left ≡ with_writes mid (empty_writes this.own.vdr)

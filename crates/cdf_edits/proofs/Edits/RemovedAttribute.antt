@@ -1,16 +1,46 @@
--- An image from which one attribute went has its shape, its content and its rules.
-use Rattle.std.proofs.Common.{◌≡◌, ℕ, suc, ◌+◌, ◌≤◌, List, [], ◌∷◌, ◌++◌, length, map, true, eq-eqb, refl, sym, ap, subst, ◌∙◌, append-nil, append_assoc, arith, inl, inr}
-use Rattle.cdf_edits.proofs.Common.{length-map, map-append, flat_map, remove, ◌==◌, Attribute, DataSet, image_limit, same_name, adrs_rows, number_rows, r_vdrs_rows, z_vdrs_rows, differ_rows, is_in, IsChain, content, attribute_of, number, name_in, size_at, type_at, gdr_offset, eof, IsGoodByShape, attribute_shape_rows, read_types, OwnedOnce, attribute_records, times, owned_records, unused_records, first_phases, gdr_adr_head, gdr_uir_head, gdr_num_attr, adr_name, adr_num, adr_type, uir_type, is_record_type, fixed_size, Hold, AllHold, sealed, AttributeShape, Shape, adrs, vdrs, Each, HasEntries, IsSound, In, Good, In-append, In-append_left, AreNew, names_at, names_differ, differ_by_names, times-none, Hold-split, flat_map-append, content_is, tile_lies, deleting_marks, Mark, AttributeStays}
+-- An image from which one attribute went has its shape, its content and its rules: each other one stays but for its number, which its entries say.
+use Rattle.std.proofs.Common.{◌≡◌, ◌⊎◌, ℕ, suc, ◌+◌, ◌≤◌, List, [], ◌∷◌, ◌++◌, length, map, refl, sym, ap, subst, ◌∙◌, arith, inl, inr, true, eq-eqb, append-nil, append_assoc}
+use Rattle.cdf_edits.proofs.Common.{map-append, Write, write, numbers_from, flat_map, number, size_at, type_at, attribute_records, times, adr_num, aedr_attr_num, adr_type, agr_edr_type, az_edr_type, AttributeShape, Shape, Each, IsSound, In, linkable-in, linkable-type, In-append, In-append_left, In-append_right, tile_lies, Edit, deleting_marks, Mark, Avoids, length-map, flat_map, remove, Attribute, DataSet, image_limit, same_name, adrs_rows, number_rows, r_vdrs_rows, z_vdrs_rows, differ_rows, is_in, IsChain, content, attribute_of, name_in, gdr_offset, eof, IsGoodByShape, attribute_shape_rows, read_types, owned_records, first_phases, gdr_adr_head, gdr_uir_head, gdr_num_attr, adr_name, uir_type, is_record_type, fixed_size, Hold, AllHold, sealed, adrs, vdrs, Good, AreNew, names_at, names_differ, differ_by_names, Hold-split, content_is}
+use Rattle.cdf_edits.proofs.Edits.AttributeFrame.{AreThere, each_there, entry, entry_long, all_last as attributes_last, remaining_names}
+use Rattle.cdf_edits.proofs.Edits.OwnedOnce.{only_owns, parts_once, spliced_times, own_in}
+use Rattle.cdf_edits.proofs.Edits.RecordFrame.{field_avoids, file_same, gdr_place}
+use Rattle.cdf_edits.proofs.Edits.AttributeRemains.{AttributeLasts}
+use Rattle.cdf_edits.proofs.Edits.NumbersBehind.{place_in, other_in, Says, numbering, others_say, are_numbered}
+use Rattle.cdf_edits.proofs.Edits.VariableKinds.{attributes_counted}
+use Rattle.cdf_edits.proofs.Edits.VariableFrame.{Each-apply, Each-map}
+use Rattle.cdf_edits.proofs.Edits.Splice.{parts_there, spliced, Splices, content_now, sound_if, good_image_if}
+use Rattle.cdf_edits.proofs.Edits.StepEdits.{fixed_long}
+use Rattle.cdf_edits.proofs.Frame.OwnersApart.{times-in, times-append}
+use Rattle.cdf_edits.proofs.Edits.MarkLemmas.{avoids-of_type}
 use Rattle.cdf_format.proofs.NameRules.{absent-split, absent-append}
-use Rattle.cdf_edits.proofs.Commands.ListParts.{removed-at}
-use Rattle.cdf_edits.proofs.Edits.AttributeFrame.{AreThere, names_stay, nums_stay}
-use Rattle.cdf_edits.proofs.Edits.OwnedOnce.{used_times, owned_once_if, spliced_times, own_in}
-use Rattle.cdf_edits.proofs.Edits.RecordFrame.{file_same, gdr_place}
-use Rattle.cdf_edits.proofs.Edits.RemovedLives.{entries_in, adrs_in, AreNumbered, Removes, before_lives, after_numbered}
-use Rattle.cdf_edits.proofs.Edits.Renumbered.{AttributeNumbered, all_numbered_stay, all_numbered_fit, all_numbered_rules, numbered_names}
-use Rattle.cdf_edits.proofs.Edits.Splice.{spliced, Splices, OwnRules, parts_there, content_now, sound_if, good_image_if}
-use Rattle.cdf_edits.proofs.Frame.Meaning.{FileSame}
-use Rattle.cdf_edits.proofs.Frame.OwnersApart.{times-in, owned-times, file_records, all_attribute_records, all_variable_records}
+use Rattle.cdf_edits.proofs.Commands.ListParts.{map-without}
+use Rattle.cdf_edits.proofs.Edits.LeftOwners.{Left, owned_left}
+use Rattle.cdf_edits.proofs.Edits.RowsOneLess.{AreNumbered, one_less}
+
+-- where the entries of attributes stand
+abbrev pub entries_in : List AttributeShape → List ℕ
+entries_in as_ = flat_map (λ (a : AttributeShape). a.gr_entries ++ a.z_entries) as_
+
+abbrev pub adrs_in : List AttributeShape → List ℕ
+adrs_in as_ = map (λ (a : AttributeShape). a.adr) as_
+
+pub adrs_owned : (as_ : List AttributeShape) (m : ℕ) → In m (adrs_in as_) → In m (flat_map attribute_records as_)
+adrs_owned = place_in (λ (a : AttributeShape). a.adr) (λ (a : AttributeShape). a.gr_entries ++ a.z_entries)
+
+pub entries_owned : (as_ : List AttributeShape) (m : ℕ) → In m (entries_in as_) → In m (flat_map attribute_records as_)
+entries_owned = other_in (λ (a : AttributeShape). a.adr) (λ (a : AttributeShape). a.gr_entries ++ a.z_entries)
+
+-- the numbers of attributes, which their entries say
+abbrev pub numbers : ℕ → List AttributeShape → List Write
+numbers n as_ = numbering (λ (a : AttributeShape). a.adr) adr_num (λ (a : AttributeShape). a.gr_entries ++ a.z_entries) aedr_attr_num n as_
+
+pub numbers_are : (n : ℕ) (as_ : List AttributeShape) → numbers_from n as_ ≡ numbers n as_
+numbers_are n [] = refl
+numbers_are n (a ∷ more) = ap (λ (ws : List Write). write a.adr adr_num n ∷ map (λ entry. write entry aedr_attr_num n) (a.gr_entries ++ a.z_entries) ++ ws) (numbers_are (suc n) more)
+
+-- an entry says the number of its attribute, if it did
+abbrev pub SayNumber : List ℕ → List ℕ → AttributeShape → Type 0
+SayNumber b now a = (m : ℕ) → In m (a.gr_entries ++ a.z_entries) → number b m aedr_attr_num ≡ number b a.adr adr_num → number now m aedr_attr_num ≡ number now a.adr adr_num
 
 -- ---- lists of which one member goes
 
@@ -27,28 +57,100 @@ pub new_removed : (before front : List (List ℕ)) (old : List ℕ) (back : List
 new_removed before [] old back h = subst (λ (z : List (List ℕ)). AreNew z back) (append-nil before) (seen_less before old [] back h.1)
 new_removed before (x ∷ front) old back h = (h.0, new_removed (before ++ x ∷ []) front old back h.1)
 
--- numbers in order, in parts
-rows_front : (b : List ℕ) (n : ℕ) (xs ys : List ℕ) → Hold (number_rows 4 b adr_num n (xs ++ ys)) → Hold (number_rows 4 b adr_num n xs)
-rows_front b n [] ys h = tt
-rows_front b n (x ∷ xs) ys h = (h.0, rows_front b (suc n) xs ys h.1)
+-- no record is of an attribute before one and of an attribute behind it
+pub sides_apart : (b : List ℕ) (s : Shape) → IsSound b s → (before : List AttributeShape) (own : AttributeShape) (after : List AttributeShape) → s.attributes ≡ before ++ own ∷ after → (m : ℕ) → In m (flat_map attribute_records before) → In m (flat_map attribute_records after) → ⊥
+sides_apart b s sound before own after was m i j =
+    let xs = flat_map attribute_records before in
+    let ys = flat_map attribute_records after in
+    twice (times m xs) (times m (attribute_records own)) (times m ys) (parts_once b s sound before own after was m) (times-in m xs i) (times-in m ys j)
+  where
+    twice : (x o y : ℕ) → x + (o + y) ≤ 1 → 1 ≤ x → 1 ≤ y → ⊥
+    twice x o y l p q = omega arith
 
-rows_joined : (b : List ℕ) (n k : ℕ) (xs ys : List ℕ) → n + length xs ≡ k → Hold (number_rows 4 b adr_num n xs) → Hold (number_rows 4 b adr_num k ys) → Hold (number_rows 4 b adr_num n (xs ++ ys))
-rows_joined b n k [] ys e h g = subst (λ (m : ℕ). Hold (number_rows 4 b adr_num m ys)) (omega arith) g
-rows_joined b n k (x ∷ xs) ys e h g = (h.0, rows_joined b (suc n) k xs ys (omega arith) h.1 g)
-
-numbered_rows : (now : List ℕ) (n : ℕ) (as_ : List AttributeShape) → AreNumbered now n as_ → Hold (number_rows 4 now adr_num n (adrs_in as_))
-numbered_rows now n [] says = tt
-numbered_rows now n (a ∷ more) says = (eq-eqb (number now a.adr adr_num) n says.0.0, numbered_rows now (suc n) more says.1)
-
-rows_kept : (b now : List ℕ) (n : ℕ) (xs : List ℕ) → ((m : ℕ) → In m xs → number now m adr_num ≡ number b m adr_num) → Hold (number_rows 4 b adr_num n xs) → Hold (number_rows 4 now adr_num n xs)
-rows_kept b now n [] same h = tt
-rows_kept b now n (x ∷ xs) same h = (ap (λ (m : ℕ). m == n) (same x (inl refl)) ∙ h.0, rows_kept b now (suc n) xs (λ m i. same m (inr i)) h.1)
-
--- ---- the image
+-- an edit that takes one attribute away, numbers those behind it and frees records of it
+pub record Removes (b now : List ℕ) (s : Shape) (before : List AttributeShape) (own : AttributeShape) (after : List AttributeShape) (places : List ℕ) (limit : ℕ) : Type 0 where
+  pub edit : Edit b now s.records s.records (deleting_marks s.gdr (adrs_in s.attributes) (adrs_in after) (entries_in after) s.unused places limit) places
+  pub was : s.attributes ≡ before ++ own ∷ after
+  pub mine : (m : ℕ) → In m places → In m (attribute_records own)
 
 module _ {b now : List ℕ} {s : Shape} {before : List AttributeShape} {own : AttributeShape} {after : List AttributeShape} {places : List ℕ} {limit : ℕ} (sound : IsSound b s) (r : Removes b now s before own after places limit) where
   abbrev marks : List Mark
   marks = deleting_marks s.gdr (adrs_in s.attributes) (adrs_in after) (entries_in after) s.unused places limit
+
+  e : Edit b now s.records s.records marks places
+  e = r.edit
+
+  -- ---- what avoids the marks, by its type
+
+  pub adr_avoids : (m lo hi : ℕ) → (In m places → ⊥) → (hi ≤ 12) ⊎ (20 ≤ lo) → (In m (adrs_in after) → (hi ≤ 32) ⊎ (36 ≤ lo)) → Avoids marks adr_type m lo hi
+  adr_avoids m lo hi out link num = avoids-of_type marks adr_type m lo hi ((λ same lies. link), ((λ same lies. num lies), ((λ same lies. absurd (out lies)), tt)))
+
+  -- an entry has one of two types
+  pub entry_typed : (P : ℕ → Type 0) (a : AttributeShape) → AreThere b s.records (a ∷ []) → (m : ℕ) → In m (a.gr_entries ++ a.z_entries) → P agr_edr_type → P az_edr_type → P (type_at b m)
+  entry_typed P a there m i gr z = elim (In-append m a.gr_entries a.z_entries i) [
+    | inl j ↦ subst P (sym (linkable-type b s.records agr_edr_type m (there.have.0.gr_chain.linkable m j))) gr
+    | inr j ↦ subst P (sym (linkable-type b s.records az_edr_type m (there.have.0.z_chain.linkable m j))) z
+  ]
+
+  pub entry_avoids : (a : AttributeShape) → AreThere b s.records (a ∷ []) → (m lo hi : ℕ) → In m (a.gr_entries ++ a.z_entries) → (In m places → ⊥) → (In m (entries_in after) → (hi ≤ 20) ⊎ (24 ≤ lo)) → Avoids marks (type_at b m) m lo hi
+  entry_avoids a there m lo hi i out num = entry_typed (λ (t : ℕ). Avoids marks t m lo hi) a there m i
+      (avoids-of_type marks agr_edr_type m lo hi ((λ same lies. num lies), ((λ same lies. absurd (out lies)), tt))) (avoids-of_type marks az_edr_type m lo hi ((λ same lies. num lies), ((λ same lies. absurd (out lies)), tt)))
+
+  -- ---- the others
+
+  one_lasts : (a : AttributeShape) → AreThere b s.records (a ∷ []) → ((m : ℕ) → In m (attribute_records a) → In m places → ⊥) → SayNumber b now a → AttributeLasts b now a
+  one_lasts a there out says =
+      let inside = linkable-in b s.records adr_type a.adr there.linked.0 in
+      let typed = linkable-type b s.records adr_type a.adr there.linked.0 in
+      let l = tile_lies b 8 (length b) s.records a.adr sound.has_shape.tiled inside in
+      let long = fixed_long b s sound.has_shape adr_type a.adr inside typed in
+      let away = out a.adr (inl refl) in
+      let heads = adr_avoids a.adr 0 12 away (inl (omega arith)) (λ i. inl (omega arith)) in
+      record {
+        start = e.part a.adr adr_type 0 12 inside typed heads heads l.long;
+        links = e.part a.adr adr_type 20 32 inside typed heads (adr_avoids a.adr 20 32 away (inr (omega arith)) (λ i. inl (omega arith))) (omega arith);
+        rest = e.part a.adr adr_type 36 (size_at b a.adr) inside typed heads (adr_avoids a.adr 36 (size_at b a.adr) away (inr (omega arith)) (λ i. inr (omega arith))) (omega arith);
+        inside = l.high;
+        entries = λ m i.
+            let there_in = (entry sound e a there.have.0 m i).0 in
+            let away = out m (inr i) in
+            let heads = entry_avoids a there m 0 12 i away (λ j. inl (omega arith)) in
+            let long = entry_long sound e a there.have.0 m i in
+            record {
+              start = e.part m (type_at b m) 0 20 there_in refl heads (entry_avoids a there m 0 20 i away (λ j. inl (omega arith))) (omega arith);
+              rest = e.part m (type_at b m) 24 (size_at b m) there_in refl heads (entry_avoids a there m 24 (size_at b m) i away (λ j. inr (omega arith))) (omega arith);
+              inside = (tile_lies b 8 (length b) s.records m sound.has_shape.tiled there_in).high;
+            };
+        numbered = says;
+      }
+
+  all_last : (as_ : List AttributeShape) → AreThere b s.records as_ → ((m : ℕ) → In m (flat_map attribute_records as_) → In m places → ⊥) → Each (SayNumber b now) as_ → Each (AttributeLasts b now) as_
+  all_last as_ there out says = Each-apply (SayNumber b now) (AttributeLasts b now) as_ (each_there b s.records (λ a. SayNumber b now a → AttributeLasts b now a) as_ there (λ a t at sub. one_lasts a t (λ m i. out m (sub m i)))) says
+
+  there : AreThere b s.records before × (AreThere b s.records (own ∷ []) × AreThere b s.records after)
+  there = parts_there b s sound before (own ∷ []) after r.was
+
+  -- those before it have their numbers
+  pub nums_before : (m : ℕ) → In m (adrs_in before) → number now m adr_num ≡ number b m adr_num
+  nums_before m i =
+      let mine = adrs_owned before m i in
+      let ok = sound.has_shape.attribute_chain.linkable m (subst (λ (as_ : List AttributeShape). In m (adrs_in as_)) (sym r.was) (subst (In m) (sym (map-append (λ (a : AttributeShape). a.adr) before (own ∷ after))) (In-append_left m (adrs_in before) (own.adr ∷ adrs_in after) i))) in
+      let out : In m places → ⊥ = λ j. (only_owns b s sound before own after r.was m (r.mine m j)).in_before mine in
+      let long = fixed_long b s sound.has_shape adr_type m (linkable-in b s.records adr_type m ok) (linkable-type b s.records adr_type m ok) in
+      field_avoids e m adr_type adr_num (linkable-in b s.records adr_type m ok) (linkable-type b s.records adr_type m ok) (adr_avoids m 0 12 out (inl (omega arith)) (λ j. inl (omega arith))) (adr_avoids m 32 36 out (inr (omega arith)) (λ j. absurd (sides_apart b s sound before own after r.was m mine (adrs_owned after m j)))) (omega arith)
+
+  pub before_last : Each (AttributeLasts b now) before
+  before_last = all_last before there.0 (λ m i j. (only_owns b s sound before own after r.was m (r.mine m j)).in_before i) (each_there b s.records (SayNumber b now) before there.0 (λ a t at sub m i was.
+      let mine = sub m (inr i) in
+      let out : In m places → ⊥ = λ j. (only_owns b s sound before own after r.was m (r.mine m j)).in_before mine in
+      let long = entry_long sound e a t.have.0 m i in
+      let same = field_avoids e m (type_at b m) aedr_attr_num (entry sound e a t.have.0 m i).0 refl (entry_avoids a t m 0 12 i out (λ j. inl (omega arith))) (entry_avoids a t m 20 24 i out (λ j. absurd (sides_apart b s sound before own after r.was m mine (entries_owned after m j)))) (omega arith) in
+      same ∙ was ∙ sym (nums_before a.adr at)))
+
+  pub after_last : (n : ℕ) → Each (Says now) (numbers n after) → Each (AttributeLasts b now) after
+  after_last n says = all_last after there.1.1 (λ m i j. (only_owns b s sound before own after r.was m (r.mine m j)).in_after i) (Each-map _ (SayNumber b now) (λ a h m i was. h m i) after (others_say (λ (a : AttributeShape). a.adr) adr_num (λ (a : AttributeShape). a.gr_entries ++ a.z_entries) aedr_attr_num now n after says))
+
+  -- ---- the image
 
   -- the shape without the attribute
   abbrev pub without_one : List ℕ → Shape
@@ -56,76 +158,56 @@ module _ {b now : List ℕ} {s : Shape} {before : List AttributeShape} {own : At
 
   -- what the image says of it
   pub record SaysRemoved (list : List ℕ) : Type 0 where
-    pub numbered : AreNumbered now (length before) after
+    pub numbered : Each (Says now) (numbers (length before) after)
     pub attribute_chain : IsChain now s.records adr_type (number now s.gdr gdr_adr_head) (adrs_in (before ++ after))
     pub unused_chain : IsChain now s.records uir_type (number now s.gdr gdr_uir_head) list
     pub freed : (m : ℕ) → In m places → type_at now m ≡ uir_type
 
-  file : FileSame b now
-  file = file_same sound r.edit refl
-
-  there : AreThere b s.records before × (AreThere b s.records (own ∷ []) × AreThere b s.records after)
-  there = parts_there b s sound before (own ∷ []) after r.was
-
-  -- behind is all that follows
-  end : (P : List AttributeShape → Type 0) → P after → P (after ++ [])
-  end P p = subst P (sym (append-nil after)) p
+  -- without it, nobody has its records
+  pub left_by : (list : List ℕ) → Left b s (without_one list) (attribute_records own)
+  left_by list = record {
+    sound = sound;
+    fewer = λ m. no_more _ _ _ _ (times-append m (attribute_records own) []) (spliced_times s s.records list before (own ∷ []) [] after r.was m 0 (times m (flat_map attribute_records (own ∷ []))) (omega arith));
+  }
+    where
+      no_more : (n' o n o' : ℕ) → o' ≡ o + 0 → n' + o' ≡ n + 0 → n' + o ≡ n
+      no_more n' o n o' p q = omega arith
 
   module _ {list : List ℕ} (says : SaysRemoved list) where
-    behind : Each (AttributeNumbered b now) after
-    behind = after_numbered sound r (length before) says.numbered
-
-    pub splices : Splices b now s s.records list marks places before (own ∷ after) after []
-    splices = record {
-      edit = r.edit;
-      was = r.was ∙ ap (λ (x : List AttributeShape). before ++ x) (sym (append-nil (own ∷ after)));
-      file_clear = refl;
-      variables_clear = refl;
-      before_live = before_lives sound r;
-      after_live = tt;
-      typed = λ m i.
-          let t = says.freed m i in
-          let inside = r.edit.sub m (own_in b s sound before own after r.was m (r.mine m i)) in
-          let long = (tile_lies now 8 (length now) s.records m r.edit.tiled_now inside).long in
-          (subst (λ (x : ℕ). is_record_type x ≡ true) (sym t) refl, subst (λ (x : ℕ). fixed_size x ≤ size_at now m) (sym t) long);
-      attribute_chain = subst (λ (as_ : List AttributeShape). IsChain now s.records adr_type (number now s.gdr gdr_adr_head) (adrs_in (before ++ as_))) (sym (append-nil after)) says.attribute_chain;
-      unused_chain = says.unused_chain;
-      own_entries = entries_have after (all_numbered_stay sound r.edit file after there.1.1 behind);
-    }
-      where
-        entries_have : (as_ : List AttributeShape) → Each (AttributeStays b now s.records) as_ → Each (HasEntries now s.records) as_
-        entries_have [] e = tt
-        entries_have (a ∷ as_) e = (e.0.0, entries_have as_ e.1)
+    pub splices : Splices b now s s.records list marks places before (own ∷ []) [] after
+    splices =
+        let file = file_same sound r.edit refl in
+        record {
+          edit = r.edit;
+          was = r.was;
+          file_clear = refl;
+          variables_clear = refl;
+          before_remain = attributes_last sound r.edit file before there.0 before_last;
+          after_remain = attributes_last sound r.edit file after there.1.1 (after_last (length before) says.numbered);
+          typed = λ m i.
+              let t = says.freed m i in
+              let inside = r.edit.sub m (own_in b s sound before own after r.was m (r.mine m i)) in
+              let long = (tile_lies now 8 (length now) s.records m r.edit.tiled_now inside).long in
+              (subst (λ (x : ℕ). is_record_type x ≡ true) (sym t) refl, subst (λ (x : ℕ). fixed_size x ≤ size_at now m) (sym t) long);
+          attribute_chain = says.attribute_chain;
+          unused_chain = says.unused_chain;
+          own_entries = tt;
+        }
 
     pub content_removed : content now ≡ record (content b) { attributes = remove (content b).attributes (length before) }
     content_removed =
-        let split : (content b).attributes ≡ map (attribute_of b) before ++ attribute_of b own ∷ map (attribute_of b) after =
-        ap (λ (d : DataSet). d.attributes) (content_is b s sound.has_shape) ∙ ap (map (attribute_of b)) r.was ∙ map-append (attribute_of b) before (own ∷ after) in
-        let gone : remove (content b).attributes (length before) ≡ map (attribute_of b) before ++ map (attribute_of b) after =
-        ap (λ (as_ : List Attribute). remove as_ (length before)) split
-        ∙ ap (λ (n : ℕ). remove (map (attribute_of b) before ++ attribute_of b own ∷ map (attribute_of b) after) n) (sym (length-map before (attribute_of b)))
-        ∙ removed-at (map (attribute_of b) before) (attribute_of b own) (map (attribute_of b) after) in
-        let same : map (attribute_of now) after ++ [] ≡ map (attribute_of b) after = append-nil (map (attribute_of now) after) ∙ each_same after (all_numbered_stay sound r.edit file after there.1.1 behind) in
-        content_now sound splices ∙ ap (λ (as_ : List Attribute). record (content b) { attributes = map (attribute_of b) before ++ as_ }) same ∙ ap (λ (as_ : List Attribute). record (content b) { attributes = as_ }) (sym gone)
-      where
-        each_same : (as_ : List AttributeShape) → Each (AttributeStays b now s.records) as_ → map (attribute_of now) as_ ≡ map (attribute_of b) as_
-        each_same [] e = refl
-        each_same (a ∷ as_) e = let here = e.0.1 in let rest = each_same as_ e.1 in λ i. here i ∷ rest i
+        let split = ap (λ (d : DataSet). remove d.attributes (length before)) (content_is b s sound.has_shape) in
+        content_now sound splices ∙ ap (λ (as_ : List Attribute). record (content b) { attributes = as_ }) (sym (split ∙ map-without (attribute_of b) s.attributes before own after r.was))
 
     -- ---- the rules
 
     counted : IsGoodByShape b s → number now s.gdr gdr_num_attr ≡ length (adrs_in (before ++ after)) → Hold (adrs_rows now (adrs_in (before ++ after)))
     counted good count =
-        let c = Hold-split (adrs_rows b (adrs s) ++ r_vdrs_rows b (vdrs s.r_variables)) (z_vdrs_rows b (vdrs s.z_variables)) good.counting in
-        let d = (Hold-split (adrs_rows b (adrs s)) (r_vdrs_rows b (vdrs s.r_variables)) c.0).0 in
         let f = λ (a : AttributeShape). a.adr in
-        let old : Hold (number_rows 4 b adr_num 0 (adrs_in before)) = rows_front b 0 (adrs_in before) (own.adr ∷ adrs_in after) (subst (λ (ms : List ℕ). Hold (number_rows 4 b adr_num 0 ms)) (ap adrs_in r.was ∙ map-append f before (own ∷ after)) d.1) in
-        let front = rows_kept b now 0 (adrs_in before) (nums_stay sound r.edit file before there.0 (before_lives sound r)) old in
-        let numbers = rows_joined now 0 (length before) (adrs_in before) (adrs_in after) (let l = length-map before f in omega arith) front (numbered_rows now (length before) after says.numbered) in
-        let place : gdr_offset now ≡ s.gdr = gdr_place sound r.edit refl in (
-          subst (λ (g : ℕ). (number now g gdr_num_attr == length (adrs_in (before ++ after))) ≡ true) (sym place) (eq-eqb (number now s.gdr gdr_num_attr) (length (adrs_in (before ++ after))) count),
-          subst (λ (ms : List ℕ). Hold (number_rows 4 now adr_num 0 ms)) (sym (map-append f before after)) numbers,
-        )
+        let numbered = subst (λ (n : ℕ). AreNumbered now adr_num n (adrs_in after)) (sym (length-map before f)) (are_numbered (λ (a : AttributeShape). a.adr) adr_num (λ (a : AttributeShape). a.gr_entries ++ a.z_entries) aedr_attr_num now (length before) after says.numbered) in
+        let numbers = one_less 4 adr_num b now (adrs_in before) own.adr (adrs_in after) nums_before numbered (subst (λ (ms : List ℕ). Hold (number_rows 4 b adr_num 0 ms)) (ap adrs_in r.was ∙ map-append f before (own ∷ after)) (attributes_counted good).1) in
+        let place : gdr_offset now ≡ s.gdr = gdr_place sound r.edit refl in
+        (eq-eqb _ _ (ap (λ (g : ℕ). number now g gdr_num_attr) place ∙ count), subst (λ (ms : List ℕ). Hold (number_rows 4 now adr_num 0 ms)) (sym (map-append f before after)) numbers)
 
     differ : IsGoodByShape b s → Hold (differ_rows 2 (same_name now adr_name) [] (adrs_in (before ++ after)))
     differ good =
@@ -134,58 +216,19 @@ module _ {b now : List ℕ} {s : Shape} {before : List AttributeShape} {own : At
         let n = λ (m : ℕ). name_in now m adr_name in
         let o = λ (m : ℕ). name_in b m adr_name in
         let old : names_at b adr_name (adrs s) ≡ names_at b adr_name (adrs_in before) ++ o own.adr ∷ names_at b adr_name (adrs_in after) = ap (λ (as_ : List AttributeShape). map o (adrs_in as_)) r.was ∙ ap (map o) (map-append f before (own ∷ after)) ∙ map-append o (adrs_in before) (own.adr ∷ adrs_in after) in
-        let x = names_stay sound r.edit file before there.0 (before_lives sound r) in
-        let y = numbered_names sound r.edit file after there.1.1 behind in
+        let x = remaining_names b now s.records before splices.before_remain in
+        let y = remaining_names b now s.records after splices.after_remain in
         let new : names_at now adr_name (adrs_in (before ++ after)) ≡ names_at b adr_name (adrs_in before) ++ names_at b adr_name (adrs_in after) = ap (map n) (map-append f before after) ∙ map-append n (adrs_in before) (adrs_in after) ∙ (λ i. x i ++ y i) in
         differ_by_names 2 now adr_name _ (subst (AreNew []) (sym new) (new_removed [] (names_at b adr_name (adrs_in before)) (o own.adr) (names_at b adr_name (adrs_in after)) (subst (AreNew []) old (names_differ 2 b adr_name (adrs s) p))))
 
-    own_rules : IsGoodByShape b s → Hold (flat_map (attribute_shape_rows now) after)
-    own_rules good =
-        let rows = attribute_shape_rows b in
-        let p = (Hold-split (flat_map rows s.attributes) (differ_rows 2 (same_name b adr_name) [] (adrs s)) good.attributes).0 in
-        let q = (Hold-split (flat_map rows before) (flat_map rows (own ∷ after)) (subst Hold (flat_map-append rows before (own ∷ after)) (subst (λ (as_ : List AttributeShape). Hold (flat_map rows as_)) r.was p))).1 in
-        all_numbered_rules sound r.edit file after there.1.1 behind (Hold-split (rows own) (flat_map rows after) q).1
-
-    -- ---- a sound image
-
     pub removed_sound : ((m : ℕ) → times m (owned_records now (without_one list)) ≤ 1) → IsSound now (without_one list)
-    removed_sound once = subst (λ (as_ : List AttributeShape). IsSound now (spliced s s.records list (before ++ as_))) (append-nil after)
-        (sound_if sound splices (all_numbered_fit sound r.edit file after there.1.1 behind) (end (λ (as_ : List AttributeShape). (m : ℕ) → times m (owned_records now (spliced s s.records list (before ++ as_))) ≤ 1) once))
-
-    -- ---- the owners
-
-    -- counts without its records
-    pub fewer : (m : ℕ) → used_times (without_one list) m + times m (attribute_records own ++ []) ≡ used_times s m + 0
-    fewer m = spliced_times s s.records list before (own ∷ []) [] after r.was m 0 (times m (attribute_records own ++ [])) (omega arith)
-
-    pub used_once : (m : ℕ) → used_times s m + times m (unused_records b s) ≤ 1
-    used_once m = subst (λ (n : ℕ). n ≤ 1) (owned-times b s m ∙ regrouped (times m (file_records s)) (times m (all_attribute_records s)) (times m (all_variable_records s)) (times m (unused_records b s))) (sound.not_twice m)
-      where
-        regrouped : (f a v u : ℕ) → f + (a + (v + u)) ≡ f + (a + v) + u
-        regrouped f a v u = omega arith
-
-    pub none_left : (m : ℕ) → In m (attribute_records own) → used_times (without_one list) m ≡ 0
-    none_left m i = no_more (used_times s m) (used_times (without_one list) m) (times m (attribute_records own ++ [])) (times m (unused_records b s)) (used_once m) (fewer m) (times-in m (attribute_records own ++ []) (In-append_left m (attribute_records own) [] i))
-      where
-        no_more : (n n' o u : ℕ) → n + u ≤ 1 → n' + o ≡ n + 0 → 1 ≤ o → n' ≡ 0
-        no_more n n' o u l p q = omega arith
-
-    owned : OwnedOnce b s → ((m : ℕ) → In m (attribute_records own) → In m places) → OwnedOnce now (without_one list)
-    owned once all_mine = owned_once_if b now s (without_one list) marks places sound once r.edit
-        (λ m out. as_before (used_times (without_one list) m) (times m (attribute_records own ++ [])) (used_times s m) (fewer m) (times-none m (attribute_records own ++ []) (λ i. elim (In-append m (attribute_records own) [] i) [ inl j ↦ out (all_mine m j) | inr none ↦ absurd none ])))
-        (λ m i. inr (says.freed m i, none_left m (r.mine m i)))
-      where
-        as_before : (n' o n : ℕ) → n' + o ≡ n + 0 → o ≡ 0 → n' ≡ n
-        as_before n' o n p q = omega arith
-
-    removed_rules : IsGoodByShape b s → ((m : ℕ) → In m (attribute_records own) → In m places) → number now s.gdr gdr_num_attr ≡ length (adrs_in (before ++ after)) → OwnRules sound splices
-    removed_rules good all_mine count = record {
-      counted = end (λ (as_ : List AttributeShape). Hold (adrs_rows now (adrs_in (before ++ as_)))) (counted good count);
-      own_rules = own_rules good;
-      differ = end (λ (as_ : List AttributeShape). Hold (differ_rows 2 (same_name now adr_name) [] (adrs_in (before ++ as_)))) (differ good);
-      read = λ m i. subst (λ (t : ℕ). is_in t read_types ≡ true) (sym (says.freed m i)) refl;
-      owned = end (λ (as_ : List AttributeShape). OwnedOnce now (spliced s s.records list (before ++ as_))) (owned good.owned_once all_mine);
-    }
+    removed_sound once = sound_if sound splices tt once
 
     pub removed_good : AllHold (first_phases (sealed b)) → IsGoodByShape b s → ((m : ℕ) → In m (attribute_records own) → In m places) → number now s.gdr gdr_num_attr ≡ length (adrs_in (before ++ after)) → eof now s.gdr ≡ length now → length now ≤ image_limit → Good now
-    removed_good first good all_mine count eof_is short = good_image_if sound splices first good (removed_rules good all_mine count) eof_is short
+    removed_good first good all_mine count eof_is short = good_image_if sound splices first good (record {
+      counted = counted good count;
+      own_rules = tt;
+      differ = differ good;
+      read = λ m i. subst (λ (t : ℕ). is_in t read_types ≡ true) (sym (says.freed m i)) refl;
+      owned = owned_left (left_by list) good.owned_once r.edit r.mine all_mine says.freed;
+    }) eof_is short

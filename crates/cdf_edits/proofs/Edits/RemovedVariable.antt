@@ -8,7 +8,9 @@ use Rattle.cdf_edits.proofs.Edits.OwnVariable.{freed_mine, mine_freed, own_typed
 use Rattle.cdf_edits.proofs.Edits.RecordFrame.{field_clear, gdr_field, gdr_place}
 use Rattle.cdf_edits.proofs.Edits.StepEdits.{gdr_in, gdr_typed, gdr_long}
 use Rattle.cdf_edits.proofs.Edits.TakenVariable.{TakesVariable, SaysTaken, tests, without_variable, content_taken, taken_good, splices, vdr_there, back_in, back_out}
-use Rattle.cdf_edits.proofs.Edits.UnlinkedVariable.{e_second, e_early, some_second, may_last, unlinked_edit, counted_now, numbered_now, numbered_still, own_free, own_there, types_stay, unlinked_behind, unlinking_tests}
+use Rattle.cdf_edits.proofs.Edits.UnlinkedVariable.{leaves, leaving_tests, unlinked_edit, numbered_now, own_free, own_there, types_stay, unlinked_behind}
+use Rattle.cdf_edits.proofs.Edits.LeftChain.{e_second, e_early, some_second, lasts_second, counted_now}
+use Rattle.cdf_edits.proofs.Edits.RowsOneLess.{numbered_still}
 use Rattle.cdf_edits.proofs.Edits.VariableKinds.{kind_chain, with_shapes}
 use Rattle.cdf_edits.proofs.Edits.VariableSplice.{content_now}
 use Rattle.cdf_edits.proofs.Edits.WrittenFields.{write_lies}
@@ -75,7 +77,7 @@ module _ {b now : List ℕ} {kind : Kind} {n : ℕ} (good : Good b) (d : Removes
   pub takes : TakesVariable b now s kind d.before d.own d.after places (length emptied)
   takes = record {
     edit = edit_under (freed_edit frees) (variable_removing_marks kind s.gdr (vdrs (shapes_of s kind)) (vdrs d.after) s.unused places (length emptied)) (λ m t lo hi i is a. covered m t lo hi a);
-    was = d.unlinks.was;
+    at = record { was = d.unlinks.was };
     mine = mine;
   }
 
@@ -94,8 +96,8 @@ module _ {b now : List ℕ} {kind : Kind} {n : ℕ} (good : Good b) (d : Removes
 
   numbered : (m : ℕ) → In m (vdrs d.after) → number now m vdr_num ≡ number d.mid m vdr_num
   numbered m i =
-      let v = vdr_there sound takes m (back_in sound takes m i) in
-      let t = unlinking_tests kind s.gdr [] [] in
+      let v = vdr_there sound takes.at m (back_in sound takes.at m i) in
+      let t = leaving_tests kind s.gdr [] [] in
       let typed = freed_types frees m v.0 ∙ v.1.0 in
       let later = head_size b emptied m (frees.edit.head m v.0 (λ x. t.no_uir (sym v.1.0 ∙ x)) (λ r. r)) in
       let size = head_size b d.mid m ((unlinked_edit good d.unlinks).head m v.0 (λ x. t.no_uir (sym v.1.0 ∙ x)) (λ r. r)) in
@@ -105,7 +107,7 @@ module _ {b now : List ℕ} {kind : Kind} {n : ℕ} (good : Good b) (d : Removes
 
   pub says : SaysTaken sound takes (shape now).unused
   says = record {
-    numbered = numbered_still d.mid now (length d.before) (vdrs d.after) numbered (numbered_now good d.unlinks);
+    numbered = numbered_still d.mid now vdr_num (length d.before) (vdrs d.after) numbered (numbered_now good d.unlinks);
     variable_chain = chain_after;
     unused_chain = subst (λ (x : Shape). IsChain now x.records uir_type (number now x.gdr gdr_uir_head) x.unused) shape_after (sound_now frees).has_shape.unused_chain;
     freed = all_freed frees;
@@ -132,11 +134,11 @@ module _ {b now : List ℕ} {kind : Kind} {n : ℕ} (good : Good b) (d : Removes
       let is = gdr_typed b s h in
       let used : type_at b s.gdr ≢ uir_type = λ x. (let e : gdr_type ≡ uir_type = sym is ∙ x in absurd cc) in
       let size = head_size b d.mid s.gdr ((unlinked_edit good d.unlinks).head s.gdr (gdr_in b s h) used (λ r. r)) in
-      let other : s.gdr ≢ d.own.vdr = λ e. (unlinking_tests kind s.gdr [] []).no_gdr (sym (own_there good d.unlinks).1.0 ∙ ap (type_at b) (sym e) ∙ is) in
+      let other : s.gdr ≢ d.own.vdr = λ e. (leaving_tests kind s.gdr [] []).no_gdr (sym (own_there good d.unlinks).1.0 ∙ ap (type_at b) (sym e) ∙ is) in
       gdr_still frees f low ∙ number_kept d.mid emptied s.gdr (rest_kept good d.unlinks s.gdr (gdr_in b s h) other).same f (let l = gdr_long b s h in omega arith)
 
   pub count_now : number now s.gdr (count_of (variables_chain kind)) ≡ length (vdrs (d.before ++ d.after))
-  count_now = gdr_after (count_of (variables_chain kind)) (count_low kind) ∙ counted_now good d.unlinks ∙ sym (length-map (d.before ++ d.after) (λ (v : VariableShape). v.vdr) ∙ length-append d.before d.after)
+  count_now = gdr_after (count_of (variables_chain kind)) (count_low kind) ∙ counted_now (leaves good d.unlinks) ∙ sym (length-map (d.before ++ d.after) (λ (v : VariableShape). v.vdr) ∙ length-append d.before d.after)
     where
       count_low : (kind : Kind) → (count_of (variables_chain kind)).place + (count_of (variables_chain kind)).width ≤ 64
       count_low R = omega arith
@@ -212,9 +214,9 @@ r_max_after {b = b} {now = now} R good d =
     let places = vdrs (d.before ++ d.after) in
     let greatest = greatest_at b places in
     let t = takes good d in
-    let may = (may_last good d.unlinks).0 in
-    let second = e_second good d.unlinks in
-    let lies = write_lies d.unlinks.second s.records second.tiled_now (some_second good d.unlinks) s.gdr gdr_r_max_rec may.inside may.fits in
+    let may = (lasts_second (leaves good d.unlinks)).0 in
+    let second = e_second (leaves good d.unlinks) in
+    let lies = write_lies d.unlinks.second s.records second.tiled_now (some_second (leaves good d.unlinks)) s.gdr gdr_r_max_rec may.inside may.fits in
     let written : integer4 d.mid s.gdr gdr_r_max_rec ≡ greatest = ap (λ (x : List ℕ). integer4 x s.gdr gdr_r_max_rec) d.unlinks.written ∙ field_reads4 d.unlinks.second s.gdr gdr_r_max_rec greatest refl lies (greatest_fits b places) in
     let kept : integer4 now s.gdr gdr_r_max_rec ≡ integer4 d.mid s.gdr gdr_r_max_rec = ap (cast_signed w32) (r_max_mid good d) in
     let place : gdr_offset now ≡ s.gdr = gdr_place (sound good d) t.edit (tests (sound good d) t).file_clear in
@@ -225,7 +227,7 @@ r_max_after {b = b} {now = now} Z good d =
     let t = takes good d in
     let h = (sound good d).has_shape in
     let place : gdr_offset now ≡ s.gdr = gdr_place (sound good d) t.edit (tests (sound good d) t).file_clear in
-    let early = e_early good d.unlinks in
+    let early = e_early (leaves good d.unlinks) in
     let first = field_clear early s.gdr gdr_type gdr_r_max_rec (gdr_in b s h) (gdr_typed b s h) refl refl (let l = gdr_long b s h in omega arith) in
     let kept : integer4 now s.gdr gdr_r_max_rec ≡ integer4 b s.gdr gdr_r_max_rec = ap (cast_signed w32) (r_max_mid good d ∙ ap (λ (x : List ℕ). number x s.gdr gdr_r_max_rec) d.unlinks.written ∙ first) in
     ap (λ (g : ℕ). integer4 now g gdr_r_max_rec) place ∙ kept ∙ ap (λ (g : ℕ). integer4 b g gdr_r_max_rec) (sym h.gdr_is)

@@ -1,9 +1,11 @@
 -- An image from which one variable went has its shape, its content and its rules.
-use Rattle.std.proofs.Common.{◌≡◌, ◌⊎◌, ℕ, suc, ◌+◌, ◌≤◌, List, [], ◌∷◌, ◌++◌, length, map, true, eq-eqb, refl, sym, ap, subst, ◌∙◌, arith, inl, inr}
-use Rattle.cdf_edits.proofs.Common.{length-map, map-append, flat_map, remove, ◌==◌, DataSet, Variable, image_limit, variables_of, with_variables, Kind, R, Z, number_rows, is_in, IsChain, content, variable_of, number, size_at, type_at, gdr_offset, eof, read_types, OwnedOnce, variable_records, times, owned_records, unused_records, first_phases, gdr_uir_head, vdr_num, gdr_type, r_vdr_type, z_vdr_type, uir_type, is_record_type, fixed_size, Hold, AllHold, sealed, VariableShape, Shape, vdrs, Each, HasShape, IsSound, In, Distinct, Good, linkable-in, linkable-type, IsGoodByShape, vdrs_append, In-append, In-append_left, In-append_right, times-none, content_is, tile_lies, shapes_of, Edit, wholes, Mark, Avoids, Confined, avoided, unmarked, index_types, keeps_file, variable_removing_marks, head_of, count_of, type_in, variables_chain}
-use Rattle.cdf_edits.proofs.Commands.ListParts.{removed-at}
+use Rattle.std.proofs.Common.{◌≡◌, ◌⊎◌, ℕ, ◌+◌, ◌≤◌, List, [], ◌∷◌, ◌++◌, length, true, eq-eqb, refl, sym, ap, subst, ◌∙◌, arith, inl, inr}
+use Rattle.cdf_edits.proofs.Common.{length-map, flat_map, remove, DataSet, Variable, image_limit, variables_of, with_variables, Kind, R, Z, is_in, IsChain, content, variable_of, number, size_at, type_at, gdr_offset, eof, read_types, variable_records, times, owned_records, first_phases, gdr_uir_head, vdr_num, gdr_type, r_vdr_type, z_vdr_type, uir_type, is_record_type, fixed_size, Hold, AllHold, sealed, VariableShape, Shape, vdrs, Each, HasShape, IsSound, In, Distinct, Good, linkable-in, linkable-type, IsGoodByShape, vdrs_append, In-append_left, In-append_right, content_is, tile_lies, shapes_of, Edit, wholes, Mark, Avoids, Confined, avoided, unmarked, index_types, keeps_file, variable_removing_marks, head_of, count_of, type_in, variables_chain}
+use Rattle.cdf_edits.proofs.Commands.ListParts.{map-without}
 use Rattle.cdf_edits.proofs.Edits.MarkLemmas.{avoids-of_type, confined-away, unmarked-away}
-use Rattle.cdf_edits.proofs.Edits.OwnedOnce.{used_times, owned_once_if}
+use Rattle.cdf_edits.proofs.Edits.LeftOwners.{Left, owned_left}
+use Rattle.cdf_edits.proofs.Edits.NumbersBehind.{place_in}
+use Rattle.cdf_edits.proofs.Edits.RowsOneLess.{AreNumbered, one_less}
 use Rattle.cdf_edits.proofs.Edits.RecordFrame.{VariableLives, file_same, gdr_place, index_records, kept_away, kept_but_link, through}
 use Rattle.cdf_edits.proofs.Edits.StepEdits.{fixed_long}
 use Rattle.cdf_edits.proofs.Edits.VariableFrame.{AreOurs, VariableRemains, ours_parts, remain_from, nums_from, index_typed, variables_in}
@@ -13,40 +15,12 @@ use Rattle.cdf_edits.proofs.Edits.VariableNames.{apart_if}
 use Rattle.cdf_edits.proofs.Edits.VariableNumbered.{KeptButNum, numbered_remains}
 use Rattle.cdf_edits.proofs.Edits.VariableSplice.{VariableSplices, keeps_all_attributes, content_now, sound_if, good_image_if}
 use Rattle.cdf_edits.proofs.Frame.Meaning.{FileSame, Kept, KeptButLink, but_link}
-use Rattle.cdf_edits.proofs.Frame.OwnersApart.{times-in, owned-times, file_records, all_attribute_records, all_variable_records}
+use Rattle.cdf_edits.proofs.Frame.OwnersApart.{times-append}
 use Rattle.cdf_edits.proofs.Space.TakenFromList.{distinct_apart}
-
--- ---- lists
-
--- VDRs have the numbers from one on
-abbrev pub AreNumberedOn : List ℕ → ℕ → List ℕ → Type 0
-AreNumberedOn now n [] = Unit {0}
-AreNumberedOn now n (vdr ∷ more) = (number now vdr vdr_num ≡ n) × AreNumberedOn now (suc n) more
-
-rows_front : (rule : ℕ) (b : List ℕ) (n : ℕ) (xs ys : List ℕ) → Hold (number_rows rule b vdr_num n (xs ++ ys)) → Hold (number_rows rule b vdr_num n xs)
-rows_front rule b n [] ys h = tt
-rows_front rule b n (x ∷ xs) ys h = (h.0, rows_front rule b (suc n) xs ys h.1)
-
-rows_joined : (rule : ℕ) (b : List ℕ) (n k : ℕ) (xs ys : List ℕ) → n + length xs ≡ k → Hold (number_rows rule b vdr_num n xs) → Hold (number_rows rule b vdr_num k ys) → Hold (number_rows rule b vdr_num n (xs ++ ys))
-rows_joined rule b n k [] ys e h g = subst (λ (m : ℕ). Hold (number_rows rule b vdr_num m ys)) (omega arith) g
-rows_joined rule b n k (x ∷ xs) ys e h g = (h.0, rows_joined rule b (suc n) k xs ys (omega arith) h.1 g)
-
-rows_numbered : (rule : ℕ) (now : List ℕ) (n : ℕ) (xs : List ℕ) → AreNumberedOn now n xs → Hold (number_rows rule now vdr_num n xs)
-rows_numbered rule now n [] says = tt
-rows_numbered rule now n (x ∷ more) says = (eq-eqb (number now x vdr_num) n says.0, rows_numbered rule now (suc n) more says.1)
-
-rows_kept : (rule : ℕ) (b now : List ℕ) (n : ℕ) (xs : List ℕ) → ((m : ℕ) → In m xs → number now m vdr_num ≡ number b m vdr_num) → Hold (number_rows rule b vdr_num n xs) → Hold (number_rows rule now vdr_num n xs)
-rows_kept rule b now n [] same h = tt
-rows_kept rule b now n (x ∷ xs) same h = (ap (λ (m : ℕ). m == n) (same x (inl refl)) ∙ h.0, rows_kept rule b now (suc n) xs (λ m i. same m (inr i)) h.1)
-
-one_less : (rule : ℕ) (b now : List ℕ) (front : List ℕ) (own : ℕ) (back : List ℕ) → ((m : ℕ) → In m front → number now m vdr_num ≡ number b m vdr_num) → AreNumberedOn now (length front) back → Hold (number_rows rule b vdr_num 0 (front ++ own ∷ back)) → Hold (number_rows rule now vdr_num 0 (front ++ back))
-one_less rule b now front own back same says h = rows_joined rule now 0 (length front) front back (omega arith) (rows_kept rule b now 0 front same (rows_front rule b 0 front (own ∷ back) h)) (rows_numbered rule now (length front) back says)
 
 -- a VDR is a record of its variable
 pub vdr_record : (vs : List VariableShape) (m : ℕ) → In m (vdrs vs) → In m (flat_map variable_records vs)
-vdr_record [] m i = absurd i
-vdr_record (v ∷ vs) m (inl q) = inl q
-vdr_record (v ∷ vs) m (inr i) = In-append_right m (variable_records v) (flat_map variable_records vs) (vdr_record vs m i)
+vdr_record = place_in (λ (v : VariableShape). v.vdr) index_records
 
 -- ---- the marks, by the kind
 
@@ -83,15 +57,64 @@ pub counting_by : (kind : Kind) (now ms : List ℕ) → number now (gdr_offset n
 counting_by R now ms count numbers = (eq-eqb _ _ count, numbers)
 counting_by Z now ms count numbers = (eq-eqb _ _ count, numbers)
 
-numbers_by : (kind : Kind) (b now : List ℕ) (front : List ℕ) (own : ℕ) (back : List ℕ) → ((m : ℕ) → In m front → number now m vdr_num ≡ number b m vdr_num) → AreNumberedOn now (length front) back → Hold (vdrs_rows kind b (front ++ own ∷ back)) → Hold (number_part kind now (front ++ back))
-numbers_by R b now front own back same says h = one_less 7 b now front own back same says h.1
-numbers_by Z b now front own back same says h = one_less 10 b now front own back same says h.1
+numbers_by : (kind : Kind) (b now : List ℕ) (front : List ℕ) (own : ℕ) (back : List ℕ) → ((m : ℕ) → In m front → number now m vdr_num ≡ number b m vdr_num) → AreNumbered now vdr_num (length front) back → Hold (vdrs_rows kind b (front ++ own ∷ back)) → Hold (number_part kind now (front ++ back))
+numbers_by R b now front own back same says h = one_less 7 vdr_num b now front own back same says h.1
+numbers_by Z b now front own back same says h = one_less 10 vdr_num b now front own back same says h.1
+
+-- ---- where it stands, and those beside it
+
+pub record Stands (s : Shape) (kind : Kind) (before : List VariableShape) (own : VariableShape) (after : List VariableShape) : Type 0 where
+  pub was : shapes_of s kind ≡ before ++ own ∷ after
+
+module _ {b : List ℕ} {s : Shape} {kind : Kind} {before : List VariableShape} {own : VariableShape} {after : List VariableShape} (sound : IsSound b s) (at : Stands s kind before own after) where
+  pub ours : AreOurs b s before × AreOurs b s (own ∷ after)
+  ours = ours_parts b s before (own ∷ after) (subst (AreOurs b s) at.was (kind_ours b s sound kind))
+
+  pub ours_after : AreOurs b s after
+  ours_after = (ours_parts b s (own ∷ []) after ours.1).1
+
+  pub vdrs_were : vdrs (shapes_of s kind) ≡ vdrs before ++ own.vdr ∷ vdrs after
+  vdrs_were = ap vdrs at.was ∙ vdrs_append before (own ∷ after)
+
+  pub once : Distinct (vdrs before ++ own.vdr ∷ vdrs after)
+  once = subst Distinct vdrs_were (kind_chain kind sound.has_shape).once
+
+  pub front_in : (m : ℕ) → In m (vdrs before) → In m (vdrs (shapes_of s kind))
+  front_in m i = subst (In m) (sym vdrs_were) (In-append_left m (vdrs before) (own.vdr ∷ vdrs after) i)
+
+  pub own_in : In own.vdr (vdrs (shapes_of s kind))
+  own_in = subst (In own.vdr) (sym vdrs_were) (In-append_right own.vdr (vdrs before) (own.vdr ∷ vdrs after) (inl refl))
+
+  pub back_in : (m : ℕ) → In m (vdrs after) → In m (vdrs (shapes_of s kind))
+  back_in m i = subst (In m) (sym vdrs_were) (In-append_right m (vdrs before) (own.vdr ∷ vdrs after) (inr i))
+
+  pub own_stand : (m : ℕ) → In m (variable_records own) → In m s.records
+  own_stand m i = variables_in b s sound m (ours.1.sub m (In-append_left m (variable_records own) (flat_map variable_records after) i))
+
+  -- a VDR of the kind
+  pub vdr_there : (m : ℕ) → In m (vdrs (shapes_of s kind)) → In m s.records × ((type_at b m ≡ type_in (variables_chain kind)) × (340 ≤ size_at b m))
+  vdr_there m i =
+      let type = type_in (variables_chain kind) in
+      let ok = (kind_chain kind sound.has_shape).linkable m i in
+      let inside = linkable-in b s.records type m ok in
+      let typed = linkable-type b s.records type m ok in
+      (inside, (typed, through 340 (fixed_size type) (size_at b m) (least_size kind) (fixed_long b s sound.has_shape type m inside typed)))
+
+  -- without it, nobody has its records
+  pub left_by : (list : List ℕ) → Left b s (with_shapes s kind s.records list (before ++ after)) (variable_records own)
+  left_by list = record {
+    sound = sound;
+    fewer = λ m. let mine = times-append m (variable_records own) [] in let all = spliced_times s kind s.records list before (own ∷ []) [] after at.was m 0 (times m (flat_map variable_records (own ∷ []))) (omega arith) in no_more _ _ _ _ mine all;
+  }
+    where
+      no_more : (n' o n o' : ℕ) → o' ≡ o + 0 → n' + o' ≡ n + 0 → n' + o ≡ n
+      no_more n' o n o' p q = omega arith
 
 -- ---- an edit that takes one variable away, numbers those behind it, and may free records of it
 
 pub record TakesVariable (b now : List ℕ) (s : Shape) (kind : Kind) (before : List VariableShape) (own : VariableShape) (after : List VariableShape) (places : List ℕ) (limit : ℕ) : Type 0 where
   pub edit : Edit b now s.records s.records (variable_removing_marks kind s.gdr (vdrs (shapes_of s kind)) (vdrs after) s.unused places limit) places
-  pub was : shapes_of s kind ≡ before ++ own ∷ after
+  pub at : Stands s kind before own after
   pub mine : (m : ℕ) → In m places → In m (variable_records own)
 
 module _ {b now : List ℕ} {s : Shape} {kind : Kind} {before : List VariableShape} {own : VariableShape} {after : List VariableShape} {places : List ℕ} {limit : ℕ} (sound : IsSound b s) (r : TakesVariable b now s kind before own after places limit) where
@@ -110,47 +133,12 @@ module _ {b now : List ℕ} {s : Shape} {kind : Kind} {before : List VariableSha
   pub file : FileSame b now
   file = file_same sound r.edit tests.file_clear
 
-  pub ours : AreOurs b s before × AreOurs b s (own ∷ after)
-  ours = ours_parts b s before (own ∷ after) (subst (AreOurs b s) r.was (kind_ours b s sound kind))
-
-  pub ours_after : AreOurs b s after
-  ours_after = (ours_parts b s (own ∷ []) after ours.1).1
-
-  pub vdrs_were : vdrs (shapes_of s kind) ≡ vdrs before ++ own.vdr ∷ vdrs after
-  vdrs_were = ap vdrs r.was ∙ vdrs_append before (own ∷ after)
-
-  once : Distinct (vdrs before ++ own.vdr ∷ vdrs after)
-  once = subst Distinct vdrs_were (kind_chain kind h).once
-
-  pub front_in : (m : ℕ) → In m (vdrs before) → In m (vdrs (shapes_of s kind))
-  front_in m i = subst (In m) (sym vdrs_were) (In-append_left m (vdrs before) (own.vdr ∷ vdrs after) i)
-
-  pub own_in : In own.vdr (vdrs (shapes_of s kind))
-  own_in = subst (In own.vdr) (sym vdrs_were) (In-append_right own.vdr (vdrs before) (own.vdr ∷ vdrs after) (inl refl))
-
-  pub back_in : (m : ℕ) → In m (vdrs after) → In m (vdrs (shapes_of s kind))
-  back_in m i = subst (In m) (sym vdrs_were) (In-append_right m (vdrs before) (own.vdr ∷ vdrs after) (inr i))
-
-  pub front_out : (m : ℕ) → In m (vdrs before) → In m (own.vdr ∷ vdrs after) → ⊥
-  front_out m i j = distinct_apart (vdrs before) (own.vdr ∷ vdrs after) m once i j
-
   -- no other has a record that is freed
   pub only : (m : ℕ) → In m places → OnlyVariable b s kind before after m
-  only m i = only_variable sound kind before own after r.was m (r.mine m i)
+  only m i = only_variable sound kind before own after r.at.was m (r.mine m i)
 
   pub back_out : (m : ℕ) → In m (vdrs after) → In m places → ⊥
   back_out m i j = (only m j).in_after (vdr_record after m i)
-
-  pub own_stand : (m : ℕ) → In m (variable_records own) → In m s.records
-  own_stand m i = variables_in b s sound m (ours.1.sub m (In-append_left m (variable_records own) (flat_map variable_records after) i))
-
-  -- a VDR of the kind
-  pub vdr_there : (m : ℕ) → In m (vdrs (shapes_of s kind)) → In m s.records × ((type_at b m ≡ type) × (340 ≤ size_at b m))
-  vdr_there m i =
-      let ok = (kind_chain kind h).linkable m i in
-      let inside = linkable-in b s.records type m ok in
-      let typed = linkable-type b s.records type m ok in
-      (inside, (typed, through 340 (fixed_size type) (size_at b m) (least_size kind) (fixed_long b s h type m inside typed)))
 
   avoids : (m lo hi : ℕ) → (In m places → ⊥) → (hi ≤ 12) ⊎ (20 ≤ lo) → (In m (vdrs after) → (hi ≤ 68) ⊎ (72 ≤ lo)) → Avoids marks type m lo hi
   avoids = vdr_avoids kind s.gdr (vdrs (shapes_of s kind)) (vdrs after) s.unused places limit
@@ -172,10 +160,10 @@ module _ {b now : List ℕ} {s : Shape} {kind : Kind} {before : List VariableSha
   )
 
   pub before_live : Each (VariableLives b now) before
-  before_live = lives before ours.0 (λ m i j. (only m j).in_before i) (λ m i.
-      let x = vdr_there m (front_in m i) in
+  before_live = lives before (ours sound r.at).0 (λ m i j. (only m j).in_before i) (λ m i.
+      let x = vdr_there sound r.at m (front_in sound r.at m i) in
       let out : In m places → ⊥ = λ j. (only m j).in_before (vdr_record before m i) in
-      let front : In m (vdrs after) → ⊥ = λ j. front_out m i (inr j) in
+      let front : In m (vdrs after) → ⊥ = λ j. distinct_apart (vdrs before) (own.vdr ∷ vdrs after) m (once sound r.at) i (inr j) in
       kept_but_link r.edit m type x.0 x.1.0 (avoids m 0 12 out (inl (omega arith)) (λ j. inl (omega arith))) (avoids m 20 (size_at b m) out (inr (omega arith)) (λ j. absurd (front j))))
 
   abbrev others : List VariableShape
@@ -191,7 +179,7 @@ module _ {b now : List ℕ} {s : Shape} {kind : Kind} {before : List VariableSha
 
   numbered_vdr : (m : ℕ) → In m (vdrs after) → KeptButNum b now m
   numbered_vdr m i =
-      let x = vdr_there m (back_in m i) in
+      let x = vdr_there sound r.at m (back_in sound r.at m i) in
       let long = x.1.1 in
       let out = back_out m i in
       let l = tile_lies b 8 (length b) s.records m h.tiled x.0 in
@@ -204,7 +192,7 @@ module _ {b now : List ℕ} {s : Shape} {kind : Kind} {before : List VariableSha
       }
 
   pub after_remain : Each (VariableRemains b now s.records s.records) after
-  after_remain = all after ours_after (λ m i j. (only m j).in_after i) (λ m i. i)
+  after_remain = all after (ours_after sound r.at) (λ m i j. (only m j).in_after i) (λ m i. i)
     where
       all : (vs : List VariableShape) → AreOurs b s vs → ((m : ℕ) → In m (flat_map variable_records vs) → In m places → ⊥) → ((m : ℕ) → In m (vdrs vs) → In m (vdrs after)) → Each (VariableRemains b now s.records s.records) vs
       all [] of out sub = tt
@@ -217,7 +205,7 @@ module _ {b now : List ℕ} {s : Shape} {kind : Kind} {before : List VariableSha
 
   -- what the image says of it
   pub record SaysTaken (list : List ℕ) : Type 0 where
-    pub numbered : AreNumberedOn now (length before) (vdrs after)
+    pub numbered : AreNumbered now vdr_num (length before) (vdrs after)
     pub variable_chain : IsChain now s.records type (number now s.gdr (head_of (variables_chain kind))) (vdrs (before ++ after))
     pub unused_chain : IsChain now s.records uir_type (number now s.gdr gdr_uir_head) list
     pub freed : (m : ℕ) → In m places → type_at now m ≡ uir_type
@@ -230,16 +218,16 @@ module _ {b now : List ℕ} {s : Shape} {kind : Kind} {before : List VariableSha
     pub splices : VariableSplices b now s kind s.records list marks places before (own ∷ []) [] after
     splices = record {
       edit = r.edit;
-      was = r.was;
+      was = r.at.was;
       file_clear = tests.file_clear;
       attributes_clear = tests.attributes_clear;
       other_clear = tests.other_clear;
-      before_remain = remain_from sound r.edit file before ours.0 before_live;
+      before_remain = remain_from sound r.edit file before (ours sound r.at).0 before_live;
       after_remain = after_remain;
       others_live = others_live;
       typed = λ m i.
           let t = says.freed m i in
-          let inside = r.edit.sub m (own_stand m (r.mine m i)) in
+          let inside = r.edit.sub m (own_stand sound r.at m (r.mine m i)) in
           let long = (tile_lies now 8 (length now) s.records m r.edit.tiled_now inside).long in
           (subst (λ (x : ℕ). is_record_type x ≡ true) (sym t) refl, subst (λ (x : ℕ). fixed_size x ≤ size_at now m) (sym t) long);
       variable_chain = says.variable_chain;
@@ -249,63 +237,20 @@ module _ {b now : List ℕ} {s : Shape} {kind : Kind} {before : List VariableSha
 
     pub content_taken : content now ≡ with_variables (content b) kind (remove (variables_of (content b) kind) (length before))
     content_taken =
-        let split : variables_of (content b) kind ≡ map (variable_of b) before ++ variable_of b own ∷ map (variable_of b) after =
-        ap (λ (d : DataSet). variables_of d kind) (content_is b s h) ∙ variables_of_are b s kind ∙ ap (map (variable_of b)) r.was ∙ map-append (variable_of b) before (own ∷ after) in
-        let gone : remove (variables_of (content b) kind) (length before) ≡ map (variable_of b) before ++ map (variable_of b) after =
-        ap (λ (vs : List Variable). remove vs (length before)) split
-        ∙ ap (λ (n : ℕ). remove (map (variable_of b) before ++ variable_of b own ∷ map (variable_of b) after) n) (sym (length-map before (variable_of b)))
-        ∙ removed-at (map (variable_of b) before) (variable_of b own) (map (variable_of b) after) in
-        content_now sound splices ∙ ap (with_variables (content b) kind) (sym gone)
-
-    -- ---- the owners
-
-    -- counts without its records
-    fewer : (m : ℕ) → used_times (without_variable list) m + times m (flat_map variable_records (own ∷ [])) ≡ used_times s m + 0
-    fewer m = spliced_times s kind s.records list before (own ∷ []) [] after r.was m 0 (times m (flat_map variable_records (own ∷ []))) (omega arith)
-
-    used_once : (m : ℕ) → used_times s m + times m (unused_records b s) ≤ 1
-    used_once m = subst (λ (n : ℕ). n ≤ 1) (owned-times b s m ∙ regrouped (times m (file_records s)) (times m (all_attribute_records s)) (times m (all_variable_records s)) (times m (unused_records b s))) (sound.not_twice m)
-      where
-        regrouped : (f a v u : ℕ) → f + (a + (v + u)) ≡ f + (a + v) + u
-        regrouped f a v u = omega arith
-
-    pub none_left : (m : ℕ) → In m (variable_records own) → used_times (without_variable list) m ≡ 0
-    none_left m i = no_more (used_times s m) (used_times (without_variable list) m) (times m (flat_map variable_records (own ∷ []))) (times m (unused_records b s)) (used_once m) (fewer m) (times-in m (flat_map variable_records (own ∷ [])) (In-append_left m (variable_records own) [] i))
-      where
-        no_more : (n n' o u : ℕ) → n + u ≤ 1 → n' + o ≡ n + 0 → 1 ≤ o → n' ≡ 0
-        no_more n n' o u l p q = omega arith
-
-    pub less_twice : (m : ℕ) → times m (unused_records now (without_variable list)) ≡ times m (unused_records b s) → times m (owned_records now (without_variable list)) ≤ 1
-    less_twice m same =
-        let t = without_variable list in
-        less (times m (owned_records now t)) (times m (file_records t)) (times m (all_attribute_records t)) (times m (all_variable_records t)) (times m (unused_records now t)) (times m (unused_records b s)) (used_times s m) (times m (flat_map variable_records (own ∷ [])))
-        (owned-times now t m) same (fewer m) (used_once m)
-      where
-        less : (n f a v r r' k o : ℕ) → n ≡ f + (a + (v + r)) → r ≡ r' → f + (a + v) + o ≡ k + 0 → k + r' ≤ 1 → n ≤ 1
-        less n f a v r r' k o p q t l = omega arith
+        let split = ap (λ (d : DataSet). remove (variables_of d kind) (length before)) (content_is b s h) ∙ ap (λ (vs : List Variable). remove vs (length before)) (variables_of_are b s kind) in
+        content_now sound splices ∙ ap (with_variables (content b) kind) (sym (split ∙ map-without (variable_of b) (shapes_of s kind) before own after r.at.was))
 
     pub sound_taken : ((m : ℕ) → times m (owned_records now (without_variable list)) ≤ 1) → IsSound now (without_variable list)
     sound_taken once = sound_if sound splices tt once
-
-    owned : OwnedOnce b s → ((m : ℕ) → In m (variable_records own) → In m places) → OwnedOnce now (without_variable list)
-    owned once all = owned_once_if b now s (without_variable list) marks places sound once r.edit
-        (λ m out. as_before (used_times (without_variable list) m) (times m (flat_map variable_records (own ∷ []))) (used_times s m) (fewer m) (times-none m (flat_map variable_records (own ∷ [])) (λ i. out (all m (own_record m i)))))
-        (λ m i. inr (says.freed m i, none_left m (r.mine m i)))
-      where
-        as_before : (n' o n : ℕ) → n' + o ≡ n + 0 → o ≡ 0 → n' ≡ n
-        as_before n' o n p q = omega arith
-
-        own_record : (m : ℕ) → In m (flat_map variable_records (own ∷ [])) → In m (variable_records own)
-        own_record m i = elim (In-append m (variable_records own) [] i) [ inl j ↦ j | inr none ↦ absurd none ]
 
     -- ---- the rules
 
     counted : IsGoodByShape b s → number now s.gdr (count_of (variables_chain kind)) ≡ length (vdrs (before ++ after)) → Hold (vdrs_rows kind now (vdrs (before ++ after)))
     counted good count =
         let place : gdr_offset now ≡ s.gdr = gdr_place sound r.edit tests.file_clear in
-        let same = nums_from sound r.edit file before ours.0 before_live in
+        let same = nums_from sound r.edit file before (ours sound r.at).0 before_live in
         let long : length (vdrs before) ≡ length before = length-map before (λ (v : VariableShape). v.vdr) in
-        let numbers = numbers_by kind b now (vdrs before) own.vdr (vdrs after) same (subst (λ (n : ℕ). AreNumberedOn now n (vdrs after)) (sym long) says.numbered) (subst (λ (ms : List ℕ). Hold (vdrs_rows kind b ms)) vdrs_were (counted_before good kind)) in
+        let numbers = numbers_by kind b now (vdrs before) own.vdr (vdrs after) same (subst (λ (n : ℕ). AreNumbered now vdr_num n (vdrs after)) (sym long) says.numbered) (subst (λ (ms : List ℕ). Hold (vdrs_rows kind b ms)) (vdrs_were sound r.at) (counted_before good kind)) in
         counting_by kind now (vdrs (before ++ after)) (ap (λ (g : ℕ). number now g (count_of (variables_chain kind))) place ∙ count) (subst (λ (ms : List ℕ). Hold (number_part kind now ms)) (sym (vdrs_append before after)) numbers)
 
     pub taken_good : AllHold (first_phases (sealed b)) → IsGoodByShape b s → ((m : ℕ) → In m (variable_records own) → In m places) → number now s.gdr (count_of (variables_chain kind)) ≡ length (vdrs (before ++ after)) → eof now s.gdr ≡ length now → length now ≤ image_limit → Good now
@@ -314,5 +259,5 @@ module _ {b now : List ℕ} {s : Shape} {kind : Kind} {before : List VariableSha
       apart = apart_if sound splices good (λ x y i j differ. absurd i) (λ x y i beside. absurd i);
       own_ruled = tt;
       read = λ m i. subst (λ (t : ℕ). is_in t read_types ≡ true) (sym (says.freed m i)) refl;
-      owned = owned good.owned_once all;
+      owned = owned_left (left_by sound r.at list) good.owned_once r.edit r.mine all says.freed;
     }) eof_is short
