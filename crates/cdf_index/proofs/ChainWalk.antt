@@ -1,6 +1,6 @@
 -- The walk over a whole chain, with what is below it.
 use Rattle.std.proofs.Common.{◌≡◌, ◌≢◌, ℕ, suc, ◌+◌, ◌-◌, ◌<◌, ◌≤◌, List, length, refl, sym, ap, subst, ◌∙◌, arith}
-use Rattle.cdf_index.proofs.Common.{length-append, next_of, type_at, Nodes, no_node, node, Entries, no_entry, block, lower, leaf, entry_count, link_to, room_at, used_count, offset_at, SaysEntry, SayEntries, IsNode, vxr_type, Each, In, tiles, linkable-in, linkable-type, Each-split, tile_lies, index_at, HasIndex, IsBlock, IsOrderly, Stands, SomeNode, SomeEntries}
+use Rattle.cdf_index.proofs.Common.{length-append, next_of, type_at, Nodes, no_node, node, Entries, no_entry, block, lower, leaf, entry_count, link_to, room_at, used_count, offset_at, SaysEntry, IsNode, vxr_type, In, tiles, linkable-type, tile_lies, index_at, HasIndex, Stands, SomeNode, SomeEntries}
 use Rattle.cdf_format.specs.Index.{nodes_of, lower_nodes, leaves_of, entry_leaves}
 use Rattle.cdf_format.specs.IndexOf.{HasNodes, Names}
 use Rattle.cdf_index.specs.Whole.{through, through_entries, EntriesStand, SomeChain}

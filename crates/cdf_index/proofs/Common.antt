@@ -14,7 +14,6 @@ pub use Rattle.cdf_edits.proofs.Index.NodeEdited.{Edit, Owed, redone}
 pub use Rattle.cdf_edits.specs.Frame.Changed.{Changed, touch}
 pub use Rattle.cdf_edits.specs.Index.Blocks.{covers, next_first, range}
 pub use Rattle.cdf_edits.specs.Index.Grown.{chain_reaches, leads_down, past, reaches, upto, with_both, with_entry}
-pub use Rattle.cdf_fields.proofs.Writes.{field_reads, length-with_field, other_bytes, other_words}
 pub use Rattle.cdf_format.proofs.ChainsLemmas.{is_a-in, linkable-in, linkable-type}
 pub use Rattle.cdf_format.proofs.Members.{Distinct-back, Distinct-front, In-append, In-append_left, In-append_right, either, length-le_from_distinct}
 pub use Rattle.cdf_format.proofs.RowLemmas.{Hold-split}
@@ -22,7 +21,7 @@ pub use Rattle.cdf_format.proofs.ShapeLemmas.{Each-append, Each-split, tiles_are
 pub use Rattle.cdf_format.proofs.TilesLemmas.{tile_lies}
 pub use Rattle.cdf_format.specs.Chains.{is_a, is_in, is_linkable, next_of}
 pub use Rattle.cdf_format.specs.Content.{plain_bytes}
-pub use Rattle.cdf_format.specs.Fields.{LiesIn, counted, number, size_at, type_at, with_field, with_sign, word}
+pub use Rattle.cdf_format.specs.Fields.{counted, number, size_at, type_at, with_field, with_sign, word}
 pub use Rattle.cdf_format.specs.GoodImage.{IsGoodImage}
 pub use Rattle.cdf_format.specs.Index.{Entries, Leaf, Nodes, block, entry_count, first_at, last_at, leaf, leaves_of, link_to, lower, no_entry, no_node, node, nodes_of, offset_at, room_at, used_count}
 pub use Rattle.cdf_format.specs.IndexOf.{HasNodes, IsNode, SayEntries, SaysEntry, SaysNode}

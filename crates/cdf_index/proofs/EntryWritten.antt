@@ -1,6 +1,6 @@
 -- What a write of an entry leaves of a node.
-use Rattle.std.proofs.Common.{◌≡◌, ◌⊎◌, ◌≢◌, ℕ, ◌+◌, ◌*◌, ◌^◌, ◌<◌, ◌≤◌, inl, inr, List, [], ◌∷◌, length, slice_index, sym, ap, subst, ◌∙◌, arith}
-use Rattle.cdf_index.proofs.Common.{Changed, touch, LiesIn, word, number, with_field, room_at, SaysEntry, vxr_first, vxr_last, vxr_offset, field_reads, length-with_field, other_bytes, other_words, StillSays, EntrySet}
+use Rattle.std.proofs.Common.{◌≡◌, ◌⊎◌, ◌≢◌, ℕ, ◌+◌, ◌*◌, ◌^◌, ◌<◌, ◌≤◌, inl, inr, List, [], ◌∷◌, length, sym, ap, subst, ◌∙◌, arith}
+use Rattle.cdf_index.proofs.Common.{Changed, touch, word, with_field, room_at, SaysEntry, vxr_first, vxr_last, vxr_offset, StillSays, EntrySet}
 use Rattle.std.proofs.lemmas.Bool.{cases_lt}
 use Rattle.cdf_index.proofs.FieldSet.{FieldSet, field_set, changed_again, changed_wider}
 

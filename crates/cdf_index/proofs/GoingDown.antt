@@ -1,7 +1,7 @@
 -- The way down to the place of a new entry, along each chain and from level to level.
 use Rattle.std.proofs.Common.{◌≡◌, ◌≢◌, ◌⊎◌, ℕ, zero, suc, ◌+◌, ◌-◌, ◌<◌, ◌≤◌, List, ◌∷◌, length, Bool, true, false, not, eqb, refl, sym, ap, subst, ◌∙◌, arith, inl, inr}
-use Rattle.cdf_index.proofs.Common.{length-append, reaches, chain_reaches, leads_down, Nodes, no_node, node, Entries, no_entry, block, lower, entry_count, link_to, used_count, first_at, SayEntries, SaysNode, IsNode, AreTiles, In, tiles, either, In-append_right, Distinct-front, Distinct-back, length-le_from_distinct, Begun, chain_at, chain_before, IsTree, SeesNode, SpotIs, IsBlock, IsOrderly, SomeNode, past_entries, Spot, linkable-in, vxr_type}
-use Rattle.cdf_format.specs.Index.{nodes_of, lower_nodes, leaves_of, entry_leaves}
+use Rattle.cdf_index.proofs.Common.{length-append, reaches, chain_reaches, leads_down, Nodes, no_node, node, Entries, no_entry, block, lower, entry_count, link_to, used_count, first_at, SayEntries, SaysNode, IsNode, AreTiles, In, tiles, either, In-append_right, Distinct-front, Distinct-back, length-le_from_distinct, Begun, chain_at, chain_before, IsTree, SeesNode, SpotIs, SomeNode, past_entries, Spot, linkable-in, vxr_type}
+use Rattle.cdf_format.specs.Index.{nodes_of, lower_nodes, leaves_of}
 use Rattle.cdf_format.specs.IndexOf.{HasNodes}
 use Rattle.cdf_index.specs.Descent.{way_from, end_from}
 use Rattle.cdf_index.specs.Order.{InOrder, AreInOrder}

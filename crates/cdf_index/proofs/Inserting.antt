@@ -1,6 +1,6 @@
 -- An entry more in a node: those behind it stand one further.
-use Rattle.std.proofs.Common.{◌≡◌, ◌⊎◌, ◌≢◌, ℕ, suc, ◌+◌, ◌-◌, ◌*◌, ◌/◌, ◌^◌, ◌<◌, ◌≤◌, inl, inr, List, [], ◌∷◌, length, slice_index, refl, sym, ap, subst, ◌∙◌, arith}
-use Rattle.cdf_index.proofs.Common.{min, cases_eq, image_limit, Changed, touch, LiesIn, counted, word, number, with_field, size_at, room_at, used_count, SaysEntry, vxr_n_used_entries, field_reads, length-with_field, other_bytes, other_words, NodeInside, StillSays, EntrySet, Inserted}
+use Rattle.std.proofs.Common.{◌≡◌, ◌≢◌, ℕ, suc, ◌+◌, ◌-◌, ◌*◌, ◌^◌, ◌<◌, ◌≤◌, inl, inr, List, [], ◌∷◌, length, refl, sym, subst, ◌∙◌, arith}
+use Rattle.cdf_index.proofs.Common.{cases_eq, image_limit, Changed, touch, word, number, with_field, size_at, room_at, used_count, SaysEntry, vxr_n_used_entries, NodeInside, StillSays, EntrySet, Inserted}
 use Rattle.cdf_format.proofs.BytesLemmas.{word-same}
 use Rattle.cdf_index.proofs.FieldSet.{FieldSet, field_set, changed_again, changed_wider, counts, node_head, node_small, used_by_count, size_beside, room_beside, entries_beside}
 

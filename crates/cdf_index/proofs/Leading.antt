@@ -1,6 +1,6 @@
 -- The entries of a node, of which so many begin at a record or before it: where they lead to.
 use Rattle.std.proofs.Common.{◌≡◌, ◌≢◌, ℕ, zero, suc, ◌+◌, ◌<◌, ◌≤◌, List, length, Bool, true, false, not, leb, eqb, refl, sym, ap, subst, ◌∙◌, arith}
-use Rattle.cdf_index.proofs.Common.{reaches, leads_down, type_at, Nodes, no_node, Entries, no_entry, block, lower, leaf, entry_count, link_to, first_at, offset_at, SayEntries, IsNode, HasNodes, vxr_type, Each, AreTiles, Distinct, tiles, linkable-in, linkable-type, Distinct-front, Distinct-back, Each-split, tile_lies, chain_at, IsTree, IsBlock, IsOrderly, down_at, way, spot}
+use Rattle.cdf_index.proofs.Common.{reaches, leads_down, type_at, Nodes, no_node, Entries, no_entry, block, lower, leaf, entry_count, link_to, first_at, offset_at, IsNode, HasNodes, vxr_type, AreTiles, Distinct, tiles, linkable-in, linkable-type, Distinct-front, Distinct-back, tile_lies, chain_at, IsTree, IsBlock, down_at, way, spot}
 use Rattle.cdf_format.specs.Index.{nodes_of, lower_nodes, leaves_of, entry_leaves}
 use Rattle.cdf_format.specs.IndexOf.{Names}
 use Rattle.cdf_index.specs.Order.{AreInOrder}

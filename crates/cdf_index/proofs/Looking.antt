@@ -1,7 +1,7 @@
 -- What is read at one node leads the search on.
 use Rattle.std.proofs.Common.{◌≡◌, ◌≢◌, ◌⊎◌, ℕ, zero, suc, ◌+◌, ◌*◌, ◌<◌, ◌≤◌, List, length, true, false, ltb, eqb, refl, sym, ap, subst, ◌∙◌, arith, inl, inr, Option, Some, None, if◌then◌else◌}
-use Rattle.cdf_index.proofs.Common.{nat_tests, length-append, is_a, is_linkable, next_of, word, type_at, Nodes, no_node, node, Entries, no_entry, block, lower, Leaf, leaf, entry_count, link_to, room_at, used_count, first_at, last_at, offset_at, SayEntries, SaysEntry, SaysNode, IsNode, vxr_type, cvvr_type, Each, In, AreTiles, tiles, linkable-in, linkable-type, either, Each-split, tile_lies, NamesIn, passed, IsBlock, IsOrderly, Stands, SomeNode, NodeInside, Onward}
-use Rattle.cdf_format.specs.Index.{nodes_of, lower_nodes, leaves_of, entry_leaves}
+use Rattle.cdf_index.proofs.Common.{nat_tests, length-append, is_a, is_linkable, next_of, word, type_at, Nodes, no_node, node, Entries, no_entry, block, lower, Leaf, leaf, entry_count, link_to, room_at, used_count, first_at, offset_at, SayEntries, SaysEntry, SaysNode, IsNode, vxr_type, cvvr_type, In, AreTiles, tiles, linkable-in, linkable-type, either, tile_lies, NamesIn, passed, IsBlock, IsOrderly, Stands, SomeNode, NodeInside, Onward}
+use Rattle.cdf_format.specs.Index.{nodes_of, lower_nodes, entry_leaves}
 use Rattle.cdf_format.specs.IndexOf.{HasNodes, Names}
 use Rattle.cdf_format.specs.RecordTypes.{vvr_type}
 use Rattle.cdf_format.proofs.ChainsLemmas.{is_a-type, some_place}

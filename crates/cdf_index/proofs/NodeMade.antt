@@ -1,6 +1,6 @@
 -- A record becomes a node.
-use Rattle.std.proofs.Common.{◌≡◌, ◌⊎◌, ◌≢◌, ℕ, ◌+◌, ◌*◌, ◌^◌, ◌<◌, ◌≤◌, inl, inr, List, [], ◌∷◌, length, slice_index, refl, sym, ap, subst, ◌∙◌, arith}
-use Rattle.cdf_index.proofs.Common.{cases_eq, image_limit, Changed, touch, LiesIn, word, number, with_field, size_at, room_at, used_count, SaysEntry, field_reads, length-with_field, other_bytes, other_words, NodeInside, EntrySet, HasRoomFor, entry_in, NodeWritten, Entry}
+use Rattle.std.proofs.Common.{◌≡◌, ◌≢◌, ℕ, ◌+◌, ◌*◌, ◌^◌, ◌<◌, ◌≤◌, inl, inr, List, [], ◌∷◌, length, refl, sym, subst, ◌∙◌, arith}
+use Rattle.cdf_index.proofs.Common.{cases_eq, image_limit, Changed, touch, number, with_field, size_at, room_at, used_count, SaysEntry, NodeInside, EntrySet, HasRoomFor, entry_in, NodeWritten, Entry}
 use Rattle.cdf_format.specs.Records.{field}
 use Rattle.cdf_index.specs.Writing.{HeadWritten, SaysFirst}
 use Rattle.cdf_index.proofs.FieldSet.{FieldSet, field_set, changed_again, changed_wider, counts, count_is, node_head}

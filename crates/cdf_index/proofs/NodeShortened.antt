@@ -1,6 +1,6 @@
 -- A full node that gives up entries.
-use Rattle.std.proofs.Common.{◌≡◌, ◌⊎◌, ◌≢◌, ℕ, zero, suc, ◌+◌, ◌*◌, ◌^◌, ◌<◌, ◌≤◌, max, inl, inr, List, [], ◌∷◌, ◌++◌, length, slice_index, refl, sym, ap, subst, ◌∙◌, arith}
-use Rattle.cdf_index.proofs.Common.{cases_eq, image_limit, Changed, touch, LiesIn, word, number, with_field, size_at, room_at, used_count, SaysEntry, vxr_n_used_entries, field_reads, length-with_field, other_bytes, other_words, NodeInside, entry_in, StillSays, EntrySet, EntriesRead, Cleared, Shortened, Widened, Entry}
+use Rattle.std.proofs.Common.{◌≡◌, ◌⊎◌, ◌≢◌, ℕ, zero, suc, ◌+◌, ◌*◌, ◌^◌, ◌<◌, ◌≤◌, max, inl, inr, List, [], ◌∷◌, ◌++◌, length, refl, sym, ap, subst, ◌∙◌, arith}
+use Rattle.cdf_index.proofs.Common.{cases_eq, image_limit, Changed, touch, number, with_field, size_at, room_at, SaysEntry, vxr_n_used_entries, NodeInside, entry_in, StillSays, EntrySet, EntriesRead, Cleared, Shortened, Widened, Entry}
 use Rattle.cdf_format.specs.Records.{vxr_vxr_next}
 use Rattle.cdf_index.specs.Writing.{SaysUnused}
 use Rattle.cdf_index.proofs.FieldSet.{FieldSet, field_set, changed_again, changed_wider, node_head, node_small, used_by_count, size_beside, room_beside, entries_beside}

@@ -1,6 +1,6 @@
 -- The search for the next First, from node to node.
 use Rattle.std.proofs.Common.{◌≡◌, ◌≢◌, ℕ, zero, suc, ◌+◌, ◌<◌, ◌≤◌, List, ◌++◌, length, true, false, ltb, eqb, leb, append-nil, refl, sym, ap, subst, ◌∙◌, arith, Option, Some, None}
-use Rattle.cdf_index.proofs.Common.{nat_tests, length-append, next_first, next_of, type_at, Nodes, no_node, node, Entries, no_entry, block, lower, leaf, entry_count, link_to, used_count, first_at, offset_at, SayEntries, IsNode, vxr_type, Each, AreTiles, tiles, linkable-type, Each-split, record_number_limit, Begun, chain_at, chain_before, IsWalk, index_at, HasIndex, IsBlock, IsOrderly, Stands, SomeNode, least_from, past_entries}
+use Rattle.cdf_index.proofs.Common.{nat_tests, length-append, next_first, next_of, type_at, Nodes, no_node, node, Entries, no_entry, block, lower, leaf, entry_count, link_to, used_count, first_at, offset_at, IsNode, vxr_type, AreTiles, tiles, linkable-type, record_number_limit, Begun, chain_at, chain_before, IsWalk, index_at, HasIndex, Stands, SomeNode, least_from, past_entries}
 use Rattle.cdf_edits.specs.Index.Blocks.{firsts_of, entry_firsts}
 use Rattle.cdf_format.specs.Index.{nodes_of, lower_nodes, leaves_of, entry_leaves}
 use Rattle.cdf_format.specs.IndexOf.{HasNodes, Names}

@@ -16,12 +16,11 @@ pub use Rattle.cdf_edits.proofs.Index.NodeEdited.{redo}
 pub use Rattle.cdf_edits.proofs.Space.UsedRecords.{apart}
 pub use Rattle.cdf_edits.specs.Commands.Room.{widest}
 pub use Rattle.cdf_edits.specs.Frame.Changed.{Changed, Touch, touch}
-pub use Rattle.cdf_edits.specs.Index.Grown.{chain_reaches, leads_down, new_room, past, reaches, room_of_new, with_block, with_entry, with_leaf}
+pub use Rattle.cdf_edits.specs.Index.Grown.{chain_reaches, leads_down, new_room, past, room_of_new, with_leaf}
 pub use Rattle.cdf_edits.specs.Index.Written.{EntryIs, UnusedEntries, last_node, top_chain, was_unused}
 pub use Rattle.cdf_edits.specs.Space.Chains.{type_in}
 pub use Rattle.cdf_edits.specs.Space.Placing.{Placed}
 pub use Rattle.cdf_edits.specs.Space.VariableChains.{variables_chain}
-pub use Rattle.cdf_fields.proofs.Writes.{field_reads, other_words}
 pub use Rattle.cdf_format.proofs.BytesLemmas.{next_kept, number_kept, size_kept, type_kept}
 pub use Rattle.cdf_format.proofs.ChainsLemmas.{linkable-from, linkable-in, some_place}
 pub use Rattle.cdf_format.proofs.GoodSound.{good_eof, good_is_sound}
@@ -29,7 +28,7 @@ pub use Rattle.cdf_format.proofs.Members.{Distinct-back, In-append, In-append_ri
 pub use Rattle.cdf_format.proofs.ShapeLemmas.{Each-append}
 pub use Rattle.cdf_format.proofs.TilesLemmas.{tile_lies}
 pub use Rattle.cdf_format.specs.Chains.{is_linkable, next_of}
-pub use Rattle.cdf_format.specs.Fields.{LiesIn, number, size_at, type_at, with_field}
+pub use Rattle.cdf_format.specs.Fields.{number, size_at, type_at, with_field}
 pub use Rattle.cdf_format.specs.Index.{Entries, Leaf, Nodes, block, entry_count, leaves_of, link_to, lower, no_entry, no_node, node, nodes_of, room_at, used_count}
 pub use Rattle.cdf_format.specs.IndexOf.{HasNodes, IsNode, SaysEntry, SaysNode}
 pub use Rattle.cdf_format.specs.Owners.{times}

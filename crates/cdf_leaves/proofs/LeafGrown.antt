@@ -1,6 +1,7 @@
 -- A leaf more in an index that has a node: what was done step by step is what a leaf more makes of the image.
 use Rattle.std.proofs.Common.{◌≡◌, ◌≢◌, ◌⊎◌, ℕ, zero, suc, ◌+◌, ◌-◌, ◌*◌, ◌^◌, ◌<◌, ◌≤◌, max, List, [], ◌∷◌, ◌++◌, length, Bool, true, false, leb, refl, sym, ap, subst, ◌∙◌, arith, inl, inr}
-use Rattle.cdf_leaves.proofs.Common.{if◌then◌else◌, bytes_eq, Kind, image_limit, touch, Touch, Changed, new_room, chain_reaches, leads_down, UnusedEntries, EntryIs, was_unused, top_chain, last_node, Placed, StandsAmong, sound, tile, has, long, changed_then, changed_whole, SameHeads, Kept, redo, apart, is_linkable, next_of, LiesIn, number, size_at, type_at, with_field, Nodes, no_node, node, Leaf, nodes_of, leaves_of, link_to, room_at, used_count, SaysEntry, IsNode, HasNodes, vdr_vxr_head, vdr_vxr_tail, vxr_n_used_entries, gdr_type, uir_type, vxr_type, vvr_type, VariableShape, Each, shape, NodeFits, AreTiles, Distinct, In, Good, number_kept, type_kept, next_kept, size_kept, field_reads, other_words, linkable-from, either, Each-append, tile_lies, Counts, NodeTaken, LeafAdded, leaf_acts, Begun, with_new, Begins, MayName, way, spot, widen_all, NodeWritten, Inserted, Spot, Entry, heads_stay, others_stay, no_zero, IsStep, entry, ChainInside, chain_end, WidenedAlong, NodeMade, EntryPut, Grew, grew, grew_then, stands, unlike, linkable-in}
+use Rattle.cdf_leaves.proofs.Common.{if◌then◌else◌, bytes_eq, Kind, image_limit, touch, Touch, Changed, new_room, chain_reaches, leads_down, UnusedEntries, EntryIs, was_unused, top_chain, last_node, Placed, StandsAmong, sound, tile, has, long, changed_then, changed_whole, SameHeads, Kept, redo, apart, is_linkable, next_of, number, size_at, type_at, with_field, Nodes, no_node, node, Leaf, nodes_of, leaves_of, link_to, room_at, used_count, SaysEntry, IsNode, HasNodes, vdr_vxr_head, vdr_vxr_tail, vxr_n_used_entries, gdr_type, uir_type, vxr_type, vvr_type, VariableShape, Each, shape, NodeFits, AreTiles, Distinct, In, Good, number_kept, type_kept, next_kept, size_kept, linkable-from, either, Each-append, tile_lies, Counts, NodeTaken, LeafAdded, leaf_acts, Begun, with_new, Begins, MayName, way, spot, widen_all, NodeWritten, Inserted, Spot, Entry, heads_stay, others_stay, no_zero, IsStep, entry, ChainInside, chain_end, WidenedAlong, NodeMade, EntryPut, Grew, grew, grew_then, stands, unlike, linkable-in}
+use Rattle.cdf_format.specs.Fields.{LiesIn}
 use Rattle.cdf_model.specs.Limits.{record_number_limit}
 use Rattle.cdf_edits.specs.Frame.Changed.{TouchesNone}
 use Rattle.cdf_edits.specs.Frame.Changed.{Placed as ChangedPlaced}

@@ -2,9 +2,9 @@
 use Rattle.std.proofs.Common.{◌≡◌, ◌≢◌, ◌⊎◌, ℕ, zero, suc, ◌+◌, ◌<◌, ◌≤◌, max, List, [], ◌∷◌, true, false, leb, refl, sym, ap, subst, ◌∙◌, arith, inl, inr}
 use Rattle.cdf_index.proofs.EntriesCut.{parted_all, parted_rest}
 use Rattle.cdf_index.proofs.Leading.{Passed}
-use Rattle.cdf_leaves.proofs.Common.{reaches, chain_reaches, leads_down, past, room_of_new, is_linkable, Nodes, no_node, node, Entries, no_entry, block, lower, entry_count, room_at, SaysNode, vxr_type, In, Distinct, either, In-append, In-append_right, Distinct-back, Begun, Begins}
+use Rattle.cdf_leaves.proofs.Common.{chain_reaches, leads_down, past, room_of_new, is_linkable, Nodes, no_node, node, Entries, no_entry, block, lower, entry_count, room_at, SaysNode, vxr_type, In, Distinct, either, In-append, In-append_right, Distinct-back, Begun, Begins}
 use Rattle.cdf_edits.specs.Commands.Room.{widest, widest_below}
-use Rattle.cdf_edits.specs.Index.Grown.{new_room, new_room_below}
+use Rattle.cdf_edits.specs.Index.Grown.{new_room, new_room_below, reaches}
 use Rattle.cdf_format.specs.Index.{nodes_of, lower_nodes, first_at}
 use Rattle.cdf_format.specs.IndexOf.{SayEntries, HasNodes, Names}
 use Rattle.cdf_format.proofs.Members.{In-append_left, Distinct-front}

@@ -1,9 +1,9 @@
 -- The top chain of an index that gets a leaf, and its end in the bytes.
 use Rattle.std.proofs.Common.{◌≡◌, ◌≢◌, ◌⊎◌, ℕ, zero, suc, ◌+◌, ◌≤◌, max, List, [], ◌∷◌, length, false, ltb, eqb, refl, sym, ap, subst, ◌∙◌, arith, inl, inr, Some}
-use Rattle.cdf_leaves.proofs.Common.{chain_reaches, leads_down, past, with_entry, room_of_new, top_chain, last_node, next_of, size_at, Nodes, no_node, node, Entries, Leaf, entry_count, link_to, IsNode, vxr_type, AreTiles, In, Distinct, linkable-in, some_place, either, In-append_right, Distinct-back, tile_lies, chain_end, ChainInside}
+use Rattle.cdf_leaves.proofs.Common.{chain_reaches, leads_down, past, room_of_new, top_chain, last_node, next_of, size_at, Nodes, no_node, node, Entries, Leaf, entry_count, link_to, IsNode, vxr_type, AreTiles, In, Distinct, linkable-in, some_place, either, In-append_right, Distinct-back, tile_lies, chain_end, ChainInside}
 use Rattle.std.specs.List.{last_or}
 use Rattle.std.specs.Option.{unwrap_or}
-use Rattle.cdf_edits.specs.Index.Grown.{with_leaf, new_room}
+use Rattle.cdf_edits.specs.Index.Grown.{with_leaf, new_room, with_entry}
 use Rattle.cdf_format.specs.Index.{nodes_of, lower_nodes}
 use Rattle.cdf_format.specs.IndexOf.{HasNodes}
 use Rattle.cdf_format.proofs.ChainsLemmas.{linkable-long}

@@ -1,6 +1,6 @@
 -- One image goes on to another: what a put may change of each record and keeps of each owner, what the descriptor says by then, and that two such steps are one.
-use Rattle.std.proofs.Common.{◌≡◌, ℕ, List, [], ◌∷◌, length, true, false, Option, Some, None, true≢false, eq-eqb, refl, sym, ap, ◌∙◌, inl, inr, suc, ◌+◌, ◌<◌, ◌≤◌, ◌++◌, Bool, subst, append_assoc, arith, map}
-use Rattle.cdf_puts.proofs.Common.{ne_eqb, slice_get, ◌==◌, find, if◌then◌else◌, got-middle, places_of, IsOneOf, find_place, leaves_apart, StandsAmong, fits, has, typed, Each-in, Only, shapes_of, put_changes, is_rewritten, Range, range, is_a-type, linkable-type, nodes_stand, is_a, is_in, variable_of, type_at, Leaf, nodes_of, leaves_of, vdr_max_rec, vdr_vxr_head, vdr_vxr_tail, cpr_type, cvvr_type, vvr_type, vxr_type, VariableShape, shape, In, Good, Found, Kind, R, Z, found_in, eqb-true, other_kind, Allowances, Stays, Keeps, AllKeep, unused_allowance, r_max_rec_field, space_fields, Act, either, In-append, Unused, variable_records, unused_records, owned, AttributeShape, Shape, IsSound, tile, FileSame, record_alike, stays_alike, is_compressed, record_bytes, Same-part, tile_lies, DescriptorStays, GoesOn, eq-eqb, length-map, set_at, w32, cast_signed, list_any, slice_set, ◌&&◌, nat_le, nat_lt, long, OutsideFields, is_taken, ActsFollow, taken, linkable-in, good_is_sound, false-is_in, is_in-false, true-is_in, is_in-true, content_is, content, number, size_at, Field, uir_next_uir, uir_prev_uir, uir_type, DataSet, Variable, variables_of, with_variables, r_max_rec, ListedStay, acts_joined, OnlyTakes, none_of_both, WritesRecords, part, file, same_shape, own_rules, Touch}
+use Rattle.std.proofs.Common.{◌≡◌, ℕ, List, [], ◌∷◌, length, true, false, Option, Some, eq-eqb, refl, sym, ap, ◌∙◌, inl, inr, suc, ◌+◌, ◌<◌, ◌≤◌, ◌++◌, Bool, subst, append_assoc, arith, map}
+use Rattle.cdf_puts.proofs.Common.{ne_eqb, ◌==◌, find, if◌then◌else◌, places_of, IsOneOf, StandsAmong, fits, Only, shapes_of, put_changes, is_rewritten, Range, range, linkable-type, is_in, variable_of, type_at, Leaf, nodes_of, leaves_of, vdr_max_rec, vdr_vxr_head, vdr_vxr_tail, VariableShape, shape, In, Good, Found, Kind, R, Z, found_in, eqb-true, other_kind, Allowances, Stays, Keeps, AllKeep, unused_allowance, r_max_rec_field, space_fields, Act, either, In-append, Unused, variable_records, unused_records, owned, AttributeShape, Shape, IsSound, tile, FileSame, record_alike, stays_alike, is_compressed, record_bytes, Same-part, tile_lies, DescriptorStays, GoesOn, eq-eqb, length-map, set_at, w32, cast_signed, list_any, slice_set, ◌&&◌, nat_le, nat_lt, long, OutsideFields, is_taken, ActsFollow, taken, linkable-in, good_is_sound, false-is_in, is_in-false, true-is_in, is_in-true, content, number, size_at, Field, uir_next_uir, uir_prev_uir, uir_type, DataSet, Variable, variables_of, with_variables, r_max_rec, ListedStay, acts_joined, OnlyTakes, none_of_both, WritesRecords, part, file, same_shape, own_rules, Touch}
 use Rattle.cdf_puts.proofs.RaisedGoes.{set_is}
 use Rattle.cdf_index.proofs.OwnRecords.{by_range}
 use Rattle.cdf_index.proofs.OwnRecords as of_own

@@ -1,15 +1,14 @@
 -- What a leaf more makes of the nodes, the Firsts and the leaves of an index, and of how wide its nodes are and which room they have.
 use Rattle.std.proofs.Common.{◌≡◌, ◌⊎◌, ℕ, zero, suc, ◌+◌, ◌≤◌, max, List, [], ◌∷◌, ◌++◌, Bool, true, false, ltb, eqb, append_assoc, refl, sym, ap, subst, ◌∙◌, arith, inl, inr}
-use Rattle.cdf_puts.proofs.Common.{eqb-true, eq-eqb, ne_eqb, le-ltb, ◌==◌, if◌then◌else◌, filter, fold, min, nat_lt, record_number_limit, next_first, reaches, chain_reaches, leads_down, past, with_both, with_entry, places_of, IsOneOf, times-append, times-in, Nodes, no_node, node, Entries, no_entry, block, lower, Leaf, leaf, leaves_of, entry_count, room_at, times, Each, NodeFits, In, In-append, either, with_new, InOrder, leaves_more}
-use Rattle.std.proofs.lemmas.Bool.{eqb-false}
+use Rattle.cdf_puts.proofs.Common.{eqb-true, eq-eqb, le-ltb, ◌==◌, filter, fold, min, nat_lt, record_number_limit, next_first, with_both, places_of, IsOneOf, times-append, Nodes, no_node, node, Entries, no_entry, block, lower, Leaf, leaf, leaves_of, entry_count, room_at, times, Each, NodeFits, In, In-append, either, with_new, InOrder, leaves_more}
 use Rattle.std.proofs.lemmas.List.Elements.{filter-append}
 use Rattle.cdf_edits.specs.Commands.Room.{widest, widest_below}
 use Rattle.cdf_edits.specs.Index.Blocks.{firsts_of, entry_firsts}
-use Rattle.cdf_edits.specs.Index.Grown.{with_leaf, with_lower, new_room, new_room_below, room_of_new, with_block}
+use Rattle.cdf_edits.specs.Index.Grown.{with_leaf, new_room, with_block}
 use Rattle.cdf_format.specs.Index.{nodes_of, lower_nodes}
 use Rattle.cdf_format.specs.IndexOf.{HasNodes, Names}
 use Rattle.cdf_format.proofs.ShapeLemmas.{Each-split}
-use Rattle.cdf_index.proofs.ByLeaf.{Grows, by_leaf, weigh, weigh_below, weight_grows, in-times}
+use Rattle.cdf_index.proofs.ByLeaf.{Grows, by_leaf, weigh, weigh_below, weight_grows}
 use Rattle.cdf_index.proofs.Measured.{seven_at_least}
 use Rattle.cdf_index.proofs.Saying.{count_both}
 

@@ -1,6 +1,8 @@
 -- Once all records up to r are put, and MaxRec is raised where r is past it, the image follows the command.
 use Rattle.std.proofs.Common.{◌≡◌, ℕ, ◌+◌, ◌<◌, ◌≤◌, List, length, false, Option, Some, None, true≢false, refl, sym, ap, subst, ◌∙◌, arith}
-use Rattle.cdf_puts.proofs.Common.{same_Some, slice_get, Kind, turned, DataSet, Variable, extent, Found, pad_record, with_record, with_variable, Allowances, AllKeep, shapes_of, put_changes, put_room, Act, got-middle, content, variable_of, Nodes, owned, VariableShape, shape, is_little, max_rec_at, type_of_variable, is_sparse, found_in, MaxRecDone, SoFar, taken_bytes}
+use Rattle.cdf_puts.proofs.Common.{same_Some, Kind, turned, DataSet, Variable, extent, Found, pad_record, with_record, with_variable, Allowances, AllKeep, shapes_of, put_changes, put_room, Act, content, variable_of, Nodes, owned, VariableShape, shape, is_little, max_rec_at, type_of_variable, is_sparse, found_in, MaxRecDone, SoFar, taken_bytes}
+use Rattle.cdf_edits.proofs.Commands.ListParts.{got-middle}
+use Rattle.std.specs.List.{slice_get}
 use Rattle.cdf_model.specs.declared.answer.Reply.TheVariants as replies
 use Rattle.cdf_model.specs.declared.command.Command.{Command}
 use Rattle.cdf_model.specs.declared.command.Command.TheVariants as commands

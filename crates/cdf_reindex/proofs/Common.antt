@@ -1,11 +1,10 @@
 -- The names that most proofs of this crate cite, passed on from one place. Declares nothing.
-pub use Rattle.std.proofs.lemmas.Bool.{eqb-true, ne_eqb}
+pub use Rattle.std.proofs.lemmas.Bool.{eqb-true}
 pub use Rattle.std.proofs.lemmas.List.{length-append, map-append, nil_from_length}
-pub use Rattle.std.specs.List.{flat_map, slice_get, sum}
+pub use Rattle.std.specs.List.{flat_map, sum}
 pub use Rattle.std.specs.Prelude.{if◌then◌else◌, nat_le, ◌&&◌, ◌==◌}
 pub use Rattle.std.specs.Slice.Iter.{chunks_rest}
 pub use Rattle.cdf_area.proofs.Calls.{edit_more}
-pub use Rattle.cdf_edits.proofs.Commands.ListParts.{got-middle}
 pub use Rattle.cdf_edits.proofs.Edits.Composing.{edit_then}
 pub use Rattle.cdf_edits.proofs.Edits.FreedBytes.{IsLeft, all_left}
 pub use Rattle.cdf_edits.proofs.Edits.FreedRecords.{edit_under}
@@ -26,7 +25,7 @@ pub use Rattle.cdf_edits.proofs.Frame.OwnerAlone.{Each-in}
 pub use Rattle.cdf_edits.proofs.Frame.OwnersApart.{all_variable_records, times-append, times-in}
 pub use Rattle.cdf_edits.proofs.Frame.VdrStays.{VdrStays, stays_alike}
 pub use Rattle.cdf_edits.proofs.Space.UsedRecords.{apart}
-pub use Rattle.cdf_edits.specs.Commands.Allowances.{AllKeep, Allowance, Allowances, Anything, Keeps, Only, is_taken, shapes_of}
+pub use Rattle.cdf_edits.specs.Commands.Allowances.{AllKeep, Allowance, Allowances, Keeps, Only, is_taken, shapes_of}
 pub use Rattle.cdf_edits.specs.Commands.Reindex.{IsPyramid, levels_up, made_acts, reindex_changes}
 pub use Rattle.cdf_edits.specs.Commands.Room.{nodes_above, quotient_up, reindex_room}
 pub use Rattle.cdf_edits.specs.Edits.Edit.{Edit}

@@ -1,10 +1,10 @@
 -- The acts by which an index is made anew: the nodes are taken, and then the old ones are freed.
-use Rattle.std.proofs.Common.{◌≡◌, ℕ, ◌+◌, ◌*◌, ◌≤◌, List, [], ◌∷◌, ◌++◌, length, map, true, refl, sym, ap, subst, ◌∙◌, arith}
-use Rattle.cdf_reindex.proofs.Common.{sum, Kind, R, Z, size_at, nodes_of, vxr_type, uir_type, VariableShape, shape, IsSound, In, Good, size_kept, good_is_sound, levels_up, made_acts, reindex_room, vxr_bytes, unmarked, Act, ActsFollow, gave, taken, StandsAmong, IsRebuilt}
+use Rattle.std.proofs.Common.{◌≡◌, ℕ, ◌+◌, ◌*◌, ◌≤◌, List, [], ◌∷◌, ◌++◌, length, map, sym, ap, subst, ◌∙◌, arith}
+use Rattle.cdf_reindex.proofs.Common.{sum, Kind, size_at, nodes_of, vxr_type, VariableShape, shape, IsSound, In, Good, size_kept, good_is_sound, levels_up, made_acts, reindex_room, vxr_bytes, Act, ActsFollow, gave, taken, StandsAmong, IsRebuilt}
 use Rattle.std.specs.List.{fold}
 use Rattle.cdf_edits.proofs.Edits.ActsStill.{acts_still_by}
 use Rattle.cdf_edits.proofs.Edits.ActsThen.{all_gave, gave-same, taken-gave}
-use Rattle.cdf_reindex.proofs.MadeEdit.{no_vdr_unused, heads_edit, heads_marks, linked_long, linked_records, linked_unused, may_free, node_linked, node_made, olds, places, sound_made, t}
+use Rattle.cdf_reindex.proofs.MadeEdit.{no_vdr_unused, heads_edit, linked_long, linked_records, linked_unused, may_free, node_linked, node_made, olds, places, sound_made, t}
 use Rattle.cdf_reindex.proofs.MadeTaken.{node_takes}
 use Rattle.cdf_reindex.proofs.MadeTree.{level_length}
 

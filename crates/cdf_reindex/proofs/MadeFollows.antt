@@ -1,8 +1,9 @@
 -- An index made anew follows `reindex`.
 use Rattle.std.proofs.Common.{◌≡◌, ◌≢◌, ℕ, ◌+◌, ◌<◌, ◌≤◌, List, [], ◌∷◌, ◌++◌, length, map, Bool, true, false, not, ◌&&◌, Option, Some, None, bytes_eq, true≢false, refl, sym, ap, subst, ◌∙◌, arith, inl, inr}
-use Rattle.cdf_reindex.proofs.Common.{slice_get, sum, if◌then◌else◌, Kind, image_limit, Found, Same, content, number, size_at, type_at, Nodes, no_node, node, room_at, IsNode, owned, vdr_vxr_tail, gdr_type, vxr_type, VariableShape, shape, vdrs, IsSound, In, AreTiles, Good, size_kept, good_by_its_shape, good_is_sound, is_in-true, Allowance, Allowances, AllKeep, Anything, Keeps, Only, shapes_of, levels_up, made_acts, reindex_changes, reindex_room, vxr_bytes, last_node, Act, gave, links_end, taken, got-middle, gdr_typed, StandsAmong, apart, IsBare, IsRebuilt, Reindexed}
+use Rattle.cdf_reindex.proofs.Common.{sum, if◌then◌else◌, Kind, image_limit, Found, Same, content, number, size_at, type_at, Nodes, no_node, node, room_at, IsNode, owned, vdr_vxr_tail, gdr_type, vxr_type, VariableShape, shape, vdrs, IsSound, In, AreTiles, Good, size_kept, good_by_its_shape, good_is_sound, is_in-true, Allowance, Allowances, AllKeep, Keeps, Only, shapes_of, levels_up, made_acts, reindex_changes, reindex_room, vxr_bytes, last_node, Act, gave, links_end, taken, gdr_typed, StandsAmong, apart, IsBare, IsRebuilt, Reindexed}
+use Rattle.cdf_edits.proofs.Commands.ListParts.{got-middle}
 use Rattle.std.proofs.lemmas.Option.{same_Some}
-use Rattle.std.specs.List.{list_any}
+use Rattle.std.specs.List.{list_any, slice_get}
 use Rattle.cdf_model.specs.declared.answer.Reply.TheVariants as replies
 use Rattle.cdf_model.specs.declared.command.Command.TheVariants as commands
 use Rattle.cdf_model.specs.Answers.{Go}
@@ -14,7 +15,7 @@ use Rattle.cdf_format.specs.Chains.{next_of}
 use Rattle.cdf_format.specs.Index.{leaves_of, nodes_of}
 use Rattle.cdf_format.specs.Owners.{Owner}
 use Rattle.cdf_format.proofs.Owning.{owned_stand}
-use Rattle.cdf_edits.specs.Commands.Allowances.{FreedStay, GivenStay, allowance, no_fields, stays_all}
+use Rattle.cdf_edits.specs.Commands.Allowances.{FreedStay, GivenStay, allowance, no_fields, stays_all, Anything}
 use Rattle.cdf_edits.specs.Commands.Keeps.{allowances}
 use Rattle.cdf_edits.specs.Commands.Named.{OfVariable}
 use Rattle.cdf_edits.specs.Commands.Reindex.{MakesIndex, nodes_at}

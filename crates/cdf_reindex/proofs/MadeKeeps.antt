@@ -1,13 +1,13 @@
 -- An index made anew: what it keeps of the records of each owner.
-use Rattle.std.proofs.Common.{◌≡◌, ◌⊎◌, ℕ, suc, ◌+◌, ◌<◌, ◌≤◌, List, [], ◌∷◌, ◌++◌, length, false, true, Option, Some, None, true≢false, eq-eqb, refl, sym, ap, subst, ◌∙◌, arith, inl, inr}
-use Rattle.cdf_reindex.proofs.Common.{ne_eqb, slice_get, ◌==◌, ◌&&◌, nat_le, if◌then◌else◌, Found, Kind, R, Z, is_a, size_at, type_at, Leaf, leaves_of, nodes_of, owned, variable_records, Field, uir_next_uir, uir_prev_uir, vdr_vxr_head, vdr_vxr_tail, cpr_type, gdr_type, uir_type, vxr_type, vvr_type, cvvr_type, VariableShape, HasShape, shape, IsSound, In, Good, is_a-type, linkable-in, good_is_sound, In-append, tile_lies, Allowance, Allowances, AllKeep, Anything, Keeps, Only, is_taken, shapes_of, reindex_changes, vxr_bytes, Edit, Mark, Avoids, Away, Within, avoided, unmarked, Act, gave, got-middle, Avoids-append, Away-append, away-avoids, unmarked-away, kept, kept_away, gdr_typed, block_behind, other_kind, StandsAmong, behind_in, fits, tile, typed, Kept, Each-in, all_variable_records, IsRebuilt}
-use Rattle.std.specs.Prelude.{find, nat_lt}
+use Rattle.std.proofs.Common.{◌≡◌, ◌⊎◌, ℕ, suc, ◌+◌, ◌<◌, ◌≤◌, List, [], ◌∷◌, ◌++◌, length, false, true, Option, eq-eqb, refl, sym, ap, subst, ◌∙◌, arith, inl, inr}
+use Rattle.cdf_reindex.proofs.Common.{◌==◌, ◌&&◌, nat_le, if◌then◌else◌, Found, Kind, R, Z, is_a, size_at, type_at, leaves_of, nodes_of, owned, variable_records, Field, uir_next_uir, uir_prev_uir, vdr_vxr_head, vdr_vxr_tail, cpr_type, gdr_type, uir_type, VariableShape, HasShape, shape, IsSound, In, Good, is_a-type, linkable-in, good_is_sound, In-append, tile_lies, Allowance, Allowances, AllKeep, Keeps, Only, is_taken, shapes_of, reindex_changes, vxr_bytes, Edit, Mark, Avoids, Away, Within, avoided, unmarked, Act, gave, Avoids-append, Away-append, away-avoids, unmarked-away, kept, kept_away, gdr_typed, block_behind, other_kind, StandsAmong, behind_in, fits, tile, Kept, Each-in, all_variable_records, IsRebuilt}
+use Rattle.std.specs.Prelude.{nat_lt}
 use Rattle.cdf_format.specs.Owners.{OneVariable}
 use Rattle.cdf_format.specs.RecordTypes.{cdr_type}
 use Rattle.cdf_format.proofs.ChainsLemmas.{is_a-in}
 use Rattle.cdf_edits.specs.Commands.Allowances.{Stays, only_of, range_at, same_kind, space_fields, vdr_type}
 use Rattle.cdf_edits.specs.Edits.Marks.{within}
-use Rattle.cdf_edits.specs.Index.Blocks.{Range, range}
+use Rattle.cdf_edits.specs.Index.Blocks.{Range}
 use Rattle.cdf_edits.proofs.Commands.KeptRecords.{Stood, keep_attributes, keep_variables, keeps_stood}
 use Rattle.cdf_edits.proofs.Edits.InRecords.{places_of}
 use Rattle.cdf_edits.proofs.Edits.MarkLemmas.{Within-append, away-within}
@@ -17,17 +17,17 @@ use Rattle.cdf_edits.proofs.Edits.RecordFrame.{cdr_kept}
 use Rattle.cdf_edits.proofs.Edits.StepEdits.{gdr_in}
 use Rattle.cdf_edits.proofs.Edits.VariableCopied.{cpr_behind}
 use Rattle.cdf_edits.proofs.Edits.VariableFrame.{variables_in}
-use Rattle.cdf_edits.proofs.Edits.VariableKept.{keep_kinds, keep_variable_parts, same_as_itself, vdr_allowance}
-use Rattle.cdf_edits.proofs.Edits.VariableKinds.{kind_ours, kind_type}
+use Rattle.cdf_edits.proofs.Edits.VariableKept.{keep_kinds, keep_variable_parts, same_as_itself}
+use Rattle.cdf_edits.proofs.Edits.VariableKinds.{kind_ours}
 use Rattle.cdf_edits.proofs.Edits.VariableSplice.{attributes_kept}
-use Rattle.cdf_edits.proofs.Edits.StandsAmong.{after_ours, no_block, ours}
+use Rattle.cdf_edits.proofs.Edits.StandsAmong.{after_ours, ours}
 use Rattle.cdf_edits.proofs.Edits.OnlyTaken.{none_of_both}
 use Rattle.cdf_reindex.proofs.MadeActs.{acts}
 use Rattle.cdf_edits.proofs.Edits.LeafPieces.{leaf_at}
 use Rattle.cdf_edits.proofs.Edits.OwnEdited.{splices}
 use Rattle.cdf_index.proofs.OwnRecords.{by_range, block_allowed, descriptor_allowed, node_allowed, parameters_allowed}
 use Rattle.cdf_edits.proofs.Edits.IndexEdited.{vdr_size}
-use Rattle.cdf_reindex.proofs.MadeEdit.{edit, index_made_marks, marks, node_typed, olds, own_marks, places, reborn, t}
+use Rattle.cdf_reindex.proofs.MadeEdit.{edit, index_made_marks, marks, olds, own_marks, places, reborn, t}
 use Rattle.cdf_reindex.proofs.MadeSplices.{beside, block_kept, index_edit, own_edit, only, part, tests}
 use Rattle.cdf_reindex.proofs.MadeTaken.{listed_avoids, listed_within, node_takes, taking_all, unlisted_away, untaken}
 

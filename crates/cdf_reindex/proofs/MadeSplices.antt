@@ -1,10 +1,10 @@
 -- An index made anew leaves the file, all attributes and the other variables, and the variable is linked with it.
-use Rattle.std.proofs.Common.{◌≡◌, ◌≢◌, ◌⊎◌, ℕ, ◌+◌, ◌≤◌, List, [], ◌∷◌, length, true, true≢false, refl, sym, ap, subst, ◌∙◌, arith, inl, inr}
-use Rattle.cdf_reindex.proofs.Common.{ne_eqb, Kind, R, Z, Same, is_a, is_in, IsChain, number, size_at, type_at, Leaf, leaves_of, variable_records, gdr_uir_head, gdr_type, r_vdr_type, z_vdr_type, vxr_type, vvr_type, cvvr_type, cpr_type, uir_type, VariableShape, Shape, Each, HasShape, shape, LeafFits, IsSound, In, Good, is_a-type, good_is_sound, In-append, vxr_bytes, Edit, Mark, Avoids, Away, avoided, unmarked, keeps_file, type_in, variables_chain, the_one, away-avoids, unmarked-away, Avoids-append, Away-append, kept, gdr_place, node_behind, block_behind, other_kind, StandsAmong, tile, typed, fits, behind_in, FileSame, Kept, all_variable_records, apart, with_index, IsRebuilt, IndexEdit}
+use Rattle.std.proofs.Common.{◌≡◌, ◌≢◌, ◌⊎◌, ℕ, ◌+◌, ◌≤◌, List, length, true, true≢false, refl, sym, ap, subst, ◌∙◌, arith, inl, inr}
+use Rattle.cdf_reindex.proofs.Common.{Kind, R, Z, Same, is_in, IsChain, number, size_at, type_at, leaves_of, variable_records, gdr_uir_head, gdr_type, r_vdr_type, z_vdr_type, vxr_type, vvr_type, cvvr_type, cpr_type, uir_type, VariableShape, Shape, HasShape, shape, IsSound, In, Good, good_is_sound, In-append, vxr_bytes, Edit, Mark, Avoids, Away, avoided, unmarked, keeps_file, type_in, variables_chain, the_one, away-avoids, unmarked-away, Avoids-append, Away-append, kept, gdr_place, node_behind, block_behind, other_kind, StandsAmong, tile, typed, fits, behind_in, FileSame, Kept, all_variable_records, apart, with_index, IsRebuilt, IndexEdit}
+use Rattle.std.proofs.lemmas.Bool.{ne_eqb}
 use Rattle.cdf_edits.specs.Edits.Marks.{variable_types}
 use Rattle.cdf_edits.specs.Space.Chains.{head_of, count_of}
 use Rattle.cdf_edits.proofs.Edits.InRecords.{places_of}
-use Rattle.cdf_edits.proofs.Edits.MarkLemmas.{or_cases}
 use Rattle.cdf_edits.proofs.Edits.RecordFrame.{file_same}
 use Rattle.cdf_edits.proofs.Edits.VariableFrame.{variable_typed}
 use Rattle.cdf_edits.proofs.Edits.VariableKept.{OnlyVariable, only_variable}

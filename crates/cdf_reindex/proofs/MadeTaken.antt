@@ -1,5 +1,5 @@
 -- Nodes that are taken one after the other: one edit, and acts that follow.
-use Rattle.std.proofs.Common.{◌≡◌, ℕ, ◌≤◌, List, [], ◌∷◌, length, map, Bool, true, false, ◌||◌, refl, sym, ap, subst, ◌∙◌, arith, inl, inr}
+use Rattle.std.proofs.Common.{◌≡◌, ℕ, ◌≤◌, List, [], ◌∷◌, length, map, false, refl, sym, ap, subst, ◌∙◌, arith, inl, inr}
 use Rattle.cdf_reindex.proofs.Common.{is_in, size_at, type_at, eof, Field, field, gdr_eof, gdr_uir_head, uir_next_uir, uir_prev_uir, gdr_type, uir_type, vxr_type, Shape, shape, IsSound, In, Distinct, size_kept, type_kept, linkable-in, linkable-type, either, true-is_in, false-is_in, tile_lies, is_taken, vxr_bytes, Edit, Among, Mark, mark, Avoids, Away, Within, Act, ActsFollow, edit_then, edit_under, place_in, filled_size, fresh, the_one, Avoids-append, kept, Kept, apart, AllTaken}
 use Rattle.std.proofs.lemmas.Bool.{or_parts}
 use Rattle.cdf_edits.specs.Edits.Marks.{Anywhere}

@@ -1,5 +1,5 @@
-use Rattle.std.proofs.Common.{◌≡◌, ◌≢◌, ◌<◌, ◌+◌, ℕ, List, length, Some, eqb, arith, ap, sym, subst, ◌∙◌}
-use Rattle.cdf_index.proofs.Common.{leaf, used_count, room_at, type_at, NodeInside, SaysEntry}
+use Rattle.std.proofs.Common.{◌≡◌, ℕ, List, length, Some, eqb, arith, ap, sym, subst, ◌∙◌}
+use Rattle.cdf_index.proofs.Common.{leaf, used_count, room_at, NodeInside, SaysEntry}
 use Rattle.cdf_index.specs.Order.{find_in}
 use Rattle.cdf_index.proofs.Looking.{Scanned, read_type, look_next, look_tells, below_room, named_inside}
 use Rattle.cdf_index.proofs.finding.look.Goals as goal
