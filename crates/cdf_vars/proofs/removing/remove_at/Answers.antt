@@ -35,9 +35,10 @@ pub set_greatest-requires-clause-field : goal.set_greatest-requires-clause-field
 set_greatest-requires-clause-field g c = field_second _ c.requires.good c.args.kind c.args.places.now c.requires.places c.args.number c.requires.within c.requires.short (c.in_ok-greatest.ensures.area.image ∙ c.in_ok-records.ensures.area.image) c.chain_of.ensures c.in_ok-take_out.ensures.taken (numbers_written _ c.args.places.now c.args.number c.in_ok-set_numbers.ensures.written)
 
 pub unlink_index-requires : goal.unlink_index-requires
-unlink_index-requires g c =
-    lies_mid _ c.requires.good c.args.kind c.args.places.now c.requires.places c.args.number c.requires.within c.requires.short (c.in_ok-greatest.ensures.area.image ∙ c.in_ok-records.ensures.area.image) c.chain_of.ensures c.in_ok-take_out.ensures.taken (numbers_written _ c.args.places.now c.args.number c.in_ok-set_numbers.ensures.written)
-    (handed_on (g.A.Area.image c.args.area.now) (remove c.args.places.now c.args.number) c.args.kind c.in_ok-greatest.greatest c.in_ok-records.ensures.area.image c.in_ok-greatest.ensures.greatest) c.in_ok-set_greatest.ensures.written
+unlink_index-requires g c = record {
+  lies = lies_mid _ c.requires.good c.args.kind c.args.places.now c.requires.places c.args.number c.requires.within c.requires.short (c.in_ok-greatest.ensures.area.image ∙ c.in_ok-records.ensures.area.image) c.chain_of.ensures c.in_ok-take_out.ensures.taken (numbers_written _ c.args.places.now c.args.number c.in_ok-set_numbers.ensures.written)
+      (handed_on (g.A.Area.image c.args.area.now) (remove c.args.places.now c.args.number) c.args.kind c.in_ok-greatest.greatest c.in_ok-records.ensures.area.image c.in_ok-greatest.ensures.greatest) c.in_ok-set_greatest.ensures.written;
+}
 
 pub free_records-requires-clause-sound : goal.free_records-requires-clause-sound
 free_records-requires-clause-sound g c =

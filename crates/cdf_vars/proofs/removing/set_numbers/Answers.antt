@@ -1,4 +1,4 @@
-use Rattle.std.proofs.Common.{◌+◌, ◌^◌, ◌∙◌, get_or, ap, arith}
+use Rattle.std.proofs.Common.{◌+◌, ◌∙◌, get_or, ap, arith}
 use Rattle.cdf_area.proofs.Calls.{edit_more, edits_by_write}
 use Rattle.cdf_edits.proofs.Commands.ListParts.{got_in}
 use Rattle.cdf_format.specs.Records.{vdr_num}
